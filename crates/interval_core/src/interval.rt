@@ -1,0 +1,100 @@
+// An interval is kept by its ends.
+ghost use Rattle.std.specs.Prelude.{◌≡◌, ◌↔◌, ℕ, ◌+◌, ℤ, pos, ◌+ℤ◌, ◌≤ℤ◌, ◌<ℤ◌, IsNone, IfSome, IsTrue};
+
+use point_core::{PointType, Steps};
+use std::marker::Model;
+use std::sync::ledger::Ledger;
+
+/// A nonempty run of points of one type, without a gap.
+#[derive(Drop)]
+#[derive_where(PartialEq, Eq, PartialOrd, Ord; T::Point)]
+pub struct Interval<T: PointType> {
+    begin: T::Point,
+    end: T::Point,
+}
+
+impl<T: PointType> Model for Interval<T> {
+    ghost use Rattle.std.specs.Prelude.{◌≤ℤ◌};
+
+    ghost Value = { T.Point × T.Point };
+
+    ghost view = { λ i. (i.begin, i.end) };
+
+    ghost inverse = { λ ends. record { begin = ends.0; end = ends.1 } };
+
+    ghost invariant = { λ i. T.number_of i.begin ≤ℤ T.number_of i.end };
+}
+
+impl<T: PointType> Interval<T> {
+    /// The interval from one point to another that is not before it.
+    pub fn of(begin: T::Point, end: T::Point) -> Interval<T>
+        requires { T.number_of begin ≤ℤ T.number_of end }
+        ensures { result ≡ (begin, end) }
+    {
+        Interval { begin, end }
+    }
+
+    /// The interval, or none where the end is before the begin.
+    pub fn make<L: Ledger>(
+        t: &T,
+        begin: T::Point,
+        end: T::Point,
+        steps: &mut Steps<L>,
+    ) -> Option<Interval<T>>
+        requires begin { T.IsPoint t.now begin }
+        requires end { T.IsPoint t.now end }
+        ensures none { IsNone result ↔ (T.number_of end <ℤ T.number_of begin) }
+        ensures ends { IfSome result (λ i. i ≡ (begin, end)) }
+        ensures cost { steps.new ≡ steps.old + 1 }
+    {
+        if t.compare(end, begin, steps).is_lt() {
+            return None;
+        }
+        Some(Interval { begin, end })
+    }
+
+    /// The interval from `begin` up to the point before `cut`.
+    pub fn until<L: Ledger>(
+        t: &T,
+        begin: T::Point,
+        cut: T::Point,
+        steps: &mut Steps<L>,
+    ) -> Interval<T>
+        requires begin { T.IsPoint t.now begin }
+        requires cut { T.IsPoint t.now cut }
+        requires before { T.number_of begin <ℤ T.number_of cut }
+        ensures begin { result.0 ≡ begin }
+        ensures point { T.IsPoint t.now result.1 }
+        ensures end { T.number_of result.1 +ℤ pos 1 ≡ T.number_of cut }
+        ensures cost { steps.new ≡ steps.old + 1 }
+    {
+        let end = t.prior(cut, steps).unwrap();
+        Interval { begin, end }
+    }
+
+    /// The same interval.
+    pub fn copy(&self) -> Interval<T>
+        ensures { result ≡ self.now }
+    {
+        Interval {
+            begin: self.begin,
+            end: self.end,
+        }
+    }
+
+    /// The first of its points.
+    pub fn begin(&self) -> T::Point
+        ensures point { result ≡ self.now.0 }
+        ensures ordered { T.number_of self.now.0 ≤ℤ T.number_of self.now.1 }
+    {
+        self.begin
+    }
+
+    /// The last of its points.
+    pub fn end(&self) -> T::Point
+        ensures point { result ≡ self.now.1 }
+        ensures ordered { T.number_of self.now.0 ≤ℤ T.number_of self.now.1 }
+    {
+        self.end
+    }
+}

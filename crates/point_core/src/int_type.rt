@@ -1,0 +1,87 @@
+// The whole numbers of 64 bits.
+ghost use Rattle.std.specs.Prelude.{◌≡◌, ℤ, pos, ◌≤ℤ◌, refl};
+ghost use Rattle.std.proofs.Common.{rules};
+ghost use Rattle.point_core.specs.Whole.{least_whole, greatest_whole, IsWhole};
+
+use crate::memory::Memory;
+use crate::point_type::{PointNumber, PointType};
+use crate::steps::Steps;
+use std::alloc::Global;
+use std::cmp::Ordering;
+use std::sync::ledger::Ledger;
+
+#[derive(Clone, Copy, Debug, PartialEq, Eq)]
+pub struct IntType;
+
+impl PointType for IntType {
+    type Point = i64;
+
+    ghost number_of = { λ p. p };
+
+    ghost first_number = { λ _. least_whole };
+
+    ghost last_number = { λ _. greatest_whole };
+
+    ghost IsPoint = { λ _ p. IsWhole p };
+
+    ghost nonempty = { λ _. Prim.search rules };
+
+    ghost within = { λ _ p h. h };
+
+    ghost each = { λ _ n l h. (n, (l, h), refl) };
+
+    ghost same = { λ _ p q hp hq e. e };
+
+    fn first(&self) -> i64 {
+        i64::MIN
+    }
+
+    fn last(&self) -> i64 {
+        i64::MAX
+    }
+
+    fn is_point(&self, _p: i64) -> bool {
+        true
+    }
+
+    fn next<L: Ledger>(&self, p: i64, steps: &mut Steps<L>) -> Option<i64> {
+        steps.tick();
+        p.checked_add(1)
+    }
+
+    fn prior<L: Ledger>(&self, p: i64, steps: &mut Steps<L>) -> Option<i64> {
+        steps.tick();
+        p.checked_sub(1)
+    }
+
+    fn compare<L: Ledger>(&self, a: i64, b: i64, steps: &mut Steps<L>) -> Ordering {
+        steps.tick();
+        a.cmp(&b)
+    }
+
+    #[tactic(auto, using(crate::proofs::DigitsLemmas::halving))]
+    fn sort<L: Ledger>(
+        &self,
+        _alloc: Global,
+        list: &mut Vec<(i64, usize)>,
+        steps: &mut Steps<L>,
+    ) -> Result<(), Memory> {
+        let mut rest = list.len();
+        while rest > 0 {
+            steps.charge(list.len());
+            rest /= 2;
+        }
+        list.sort()?;
+        Ok(())
+    }
+}
+
+impl PointNumber for IntType {
+    fn number(&self, p: i64) -> i64 {
+        p
+    }
+
+    fn point(&self, n: i64) -> Option<i64> {
+        Some(n)
+    }
+}

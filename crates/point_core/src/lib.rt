@@ -1,0 +1,19 @@
+//! Point types: ordered, finite, and each point with a neighbour on either side but at the ends. With them stand the
+//! counter of steps, want of memory, places, codes and faults, and what a label is.
+#![tactic(auto)]
+
+mod any_type;
+mod fault;
+mod int_type;
+mod label;
+mod memory;
+mod point_type;
+mod steps;
+
+pub use any_type::{AnyPoint, AnyType};
+pub use fault::{Code, Fault, Place, Stop};
+pub use int_type::IntType;
+pub use label::Label;
+pub use memory::Memory;
+pub use point_type::{PointNumber, PointType};
+pub use steps::Steps;
