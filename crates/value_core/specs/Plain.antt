@@ -1,5 +1,5 @@
 -- Values as plain data.
-use Rattle.std.specs.Prelude.{ℤ, pos, if◌then◌else◌}
+use Rattle.std.specs.Prelude.{pos, if◌then◌else◌}
 use Rattle.point_core.specs.Points.{line, number}
 use Rattle.point_core.specs.declared.any_type.AnyPoint.{AnyPoint}
 use Rattle.interval_core.specs.Members.{Span}

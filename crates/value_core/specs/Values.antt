@@ -3,11 +3,11 @@
 --     rows_of      the rows of a list, as a set
 --     fits, fits_heading      which values are of a kind, and which rows of a heading
 --     is_heading, IsRelation      what headings and relations are
-use Rattle.std.specs.Prelude.{pos, map, ◌++◌, ℕ, ◌≤◌, ℤ, Bool, true, false, ◌&&◌, List, [], ◌∷◌, length, nat_eq, nat_le, int_le, IsTrue}
+use Rattle.std.specs.Prelude.{pos, map, ◌++◌, ℕ, ◌≤◌, ℤ, Bool, true, false, ◌&&◌, List, [], ◌∷◌, length, nat_le, int_le, IsTrue}
 use Rattle.std.specs.List.{list_all}
 use Rattle.std.specs.List.Sorted.{IsStrictlySortedBy}
 use Rattle.std.specs.declared.cmp.Ordering.{Ordering}
-use Rattle.std.specs.Ordering.{nat_cmp, int_cmp, eq_by_cmp, on}
+use Rattle.std.specs.Ordering.{nat_cmp, int_cmp, ordering_then, eq_by_cmp, on}
 use Rattle.std.specs.Cmp.Lexicographic.{slice_cmp}
 use Rattle.point_core.specs.declared.any_type.AnyType.{AnyType}
 use Rattle.point_core.specs.Points.{Line, integers, days, values_of, line_of, is_number}
@@ -63,6 +63,14 @@ value_key (interval l i) = pos 3 ∷ line_key l ++ i.0 ∷ i.1 ∷ []
 abbrev pub value_cmp : Value → Value → Ordering
 value_cmp = on value_key (slice_cmp int_cmp)
 
+-- integers before days before ordinal values, these by the number of their type
+abbrev pub line_cmp : Line → Line → Ordering
+line_cmp = on line_key (slice_cmp int_cmp)
+
+-- intervals of one line, by BEGIN and then END
+abbrev pub span_cmp : Span → Span → Ordering
+span_cmp i j = ordering_then (int_cmp i.0 j.0) (int_cmp i.1 j.1)
+
 -- rows by their values, left to right
 abbrev pub row_cmp : Row → Row → Ordering
 row_cmp = slice_cmp value_cmp
@@ -83,12 +91,9 @@ same_rows = are_same row_cmp
 
 -- ---- what fits
 
--- whether two points stand on one line
+-- whether two lines are one
 abbrev pub same_line : Line → Line → Bool
-same_line integers integers = true
-same_line days days = true
-same_line (values_of m) (values_of n) = nat_eq m n
-same_line _ _ = false
+same_line = eq_by_cmp line_cmp
 
 -- whether the ends are points of the type, in order
 abbrev pub is_interval : AnyType → Span → Bool
