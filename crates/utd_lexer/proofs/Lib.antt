@@ -1,2 +1,6 @@
 pub mod BlankLemmas
 pub mod CutLemmas
+pub mod GapLemmas
+pub mod ListLemmas
+pub mod TextLemmas
+pub mod WordLemmas

@@ -1,2 +1,4 @@
 pub mod Cutting
+pub mod Fronts
 pub mod Parts
+pub mod Tokens

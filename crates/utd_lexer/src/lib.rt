@@ -2,5 +2,8 @@
 #![tactic(auto)]
 
 mod cutter;
+mod front;
+mod token;
 
 pub use cutter::{Cut, Cutter};
+pub use token::{Token, TokenBytes, TokenKind, TokenList};
