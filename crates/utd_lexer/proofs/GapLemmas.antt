@@ -1,6 +1,6 @@
 -- White space and comments at the front of characters.
 use Rattle.std.proofs.Common.{◌≡◌, ◌≢◌, ℕ, suc, ◌+◌, ◌<◌, ◌≤◌, List, [], ◌∷◌, ◌++◌, length, drop, get_or, Bool, true, false, Option, Some, None, refl, sym, ◌∙◌, ap, subst, arith, length-append, length-drop, append_assoc, append-nil}
-use Rattle.std.proofs.lemmas.List.{drop_all}
+use Rattle.std.proofs.lemmas.List.{drop_all, get_or_default}
 use Rattle.utd_lexer.specs.Parts.{is_space, Lacks, LacksEnd}
 use Rattle.utd_lexer.specs.Tokens.{Gap, blank, block, line, last, spelling_of_gap, IsGap}
 use Rattle.utd_lexer.specs.Fronts.{GapFront}
@@ -32,9 +32,10 @@ no-end-more x y xs never h [] rest is = never (same-head x 42 _ _ is) (same-head
 no-end-more x y xs never h (b ∷ bs) rest is = h bs rest (same-tail x b _ _ is)
 
 pub block-more : (x y : ℕ) (xs all : List ℕ) → (x ≡ 42 → y ≡ 47 → ⊥) → BlockGoesOn (x ∷ (y ∷ xs)) all → BlockGoesOn (y ∷ xs) all
-block-more x y xs all never on =
-    (λ bs rest lacks is. on.0 (x ∷ bs) rest (lacks-more x y xs bs rest never is lacks) (ap (λ z. x ∷ z) is),
-     λ h. on.1 (no-end-more x y xs never h))
+block-more x y xs all never on = (
+  λ bs rest lacks is. on.0 (x ∷ bs) rest (lacks-more x y xs bs rest never is lacks) (ap (λ z. x ∷ z) is),
+  λ h. on.1 (no-end-more x y xs never h),
+)
 
 pub block-step : (all : List ℕ) (n x y : ℕ) → n + 1 < length all → x ≡ get_or all n x → y ≡ get_or all (n + 1) y → (x ≡ 42 → y ≡ 47 → ⊥) → BlockGoesOn (drop n all) all → BlockGoesOn (drop (n + 1) all) all
 block-step all n x y lt a b never on =
@@ -42,6 +43,9 @@ block-step all n x y lt a b never on =
     let d : drop n all ≡ x ∷ drop (n + 1) all = drop-at all n x first a in
     let e : drop (n + 1) all ≡ y ∷ drop (n + 1 + 1) all = drop-at all (n + 1) y lt b in
     subst (λ z. BlockGoesOn z all) (sym e) (block-more x y (drop (n + 1 + 1) all) all never (subst (λ z. BlockGoesOn z all) (d ∙ ap (λ z. x ∷ z) e) on))
+
+pub block-step-other : (all : List ℕ) (n x : ℕ) → n + 1 < length all → x ≡ get_or all n x → x ≢ 42 → BlockGoesOn (drop n all) all → BlockGoesOn (drop (n + 1) all) all
+block-step-other all n x lt a h on = block-step all n x (get_or all (n + 1) 0) lt a (get_or_default all (n + 1) 0 (get_or all (n + 1) 0) lt) (λ e f. h e) on
 
 pub block-found : (all : List ℕ) (n x y : ℕ) → n + 1 < length all → x ≡ get_or all n x → y ≡ get_or all (n + 1) y → x ≡ 42 → y ≡ 47 → BlockGoesOn (drop n all) all → GapFront (47 ∷ (42 ∷ all)) (Some (n + 4))
 block-found all n x y lt a b p q on =

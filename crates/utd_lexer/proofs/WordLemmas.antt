@@ -41,8 +41,9 @@ underscore = is_xid_continue-ascii 95 (lit< tt)
 
 starts-continues : (c : ℕ) → starts c ≡ true → continues c ≡ true
 starts-continues c h = elim (or-cases (is_xid_start c) (eqb c 95) h) [
-  inl s ↦ is_xid_start-is_xid_continue c s
-  | inr e ↦ ap is_xid_continue (eqb-true c 95 e) ∙ underscore ]
+  | inl s ↦ is_xid_start-is_xid_continue c s
+  | inr e ↦ ap is_xid_continue (eqb-true c 95 e) ∙ underscore
+]
 
 word-kind : (front behind : List ℕ) (c : ℕ) (rest : List ℕ) → c ∷ rest ≡ front ++ behind → starts c ≡ true → AllOf continues front → Stops continues behind → IsOfKind Word front
 word-kind [] behind c rest is s all stop =

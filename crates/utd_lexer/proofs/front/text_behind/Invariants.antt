@@ -6,7 +6,7 @@ abbrev pub invariant-body : goal.invariant-body
 invariant-body l = record {
   within : l.n ≤ length l.body;
   taken : TextTaken l.list.items l.n l.body;
-  on : NoText (drop l.n l.body) → NoText l.body
+  on : NoText (drop l.n l.body) → NoText l.body;
 }
 
 abbrev pub decreases-body : goal.decreases-body
