@@ -1,0 +1,3 @@
+pub mod HeadingLemmas
+pub mod OrderLemmas
+pub mod RelationLemmas
