@@ -1,0 +1,2 @@
+pub mod MembersLemmas
+pub mod ComparisonLemmas

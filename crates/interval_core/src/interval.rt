@@ -1,7 +1,7 @@
 // An interval is kept by its ends.
 ghost use Rattle.std.specs.Prelude.{◌≡◌, ◌↔◌, ℕ, ◌+◌, ℤ, pos, ◌+ℤ◌, ◌≤ℤ◌, ◌<ℤ◌, IsNone, IfSome, IsTrue};
 
-use point_core::{PointType, Steps};
+use point_core::{PointNumber, PointType, Steps};
 use std::marker::Model;
 use std::sync::ledger::Ledger;
 
@@ -96,5 +96,19 @@ impl<T: PointType> Interval<T> {
         ensures ordered { T.number_of self.now.0 ≤ℤ T.number_of self.now.1 }
     {
         self.end
+    }
+}
+
+impl<T: PointNumber> Interval<T> {
+    ghost use Rattle.std.specs.Prelude.{◌≡◌, ◌≤ℤ◌};
+    ghost use Rattle.interval_core.specs.Members.{span, HasEndsIn};
+
+    // The numbers of the first and of the last of its points.
+    pub(crate) fn numbers(&self, t: &T) -> (i64, i64)
+        requires { HasEndsIn T.IsPoint t.now self.now }
+        ensures numbers { result ≡ span T.number_of self.now }
+        ensures ordered { T.number_of self.now.0 ≤ℤ T.number_of self.now.1 }
+    {
+        (t.number(self.begin), t.number(self.end))
     }
 }
