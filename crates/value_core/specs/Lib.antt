@@ -1,0 +1,4 @@
+pub mod Lengths
+pub mod Order
+pub mod Plain
+pub mod Values
