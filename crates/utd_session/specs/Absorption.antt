@@ -1,4 +1,5 @@
--- What one more row makes of rows of which no two merge: it takes the place of those that it merges with.
+-- What one more row makes of rows of which no two merge: it takes the place of those that it
+-- merges with.
 use Rattle.std.specs.Prelude.{pos, ◌+ℤ◌, Bool, not, ◌&&◌, List, [], ◌∷◌, ◌++◌, if◌then◌else◌, filter, fold}
 use Rattle.std.specs.Int.{int_min, int_max}
 use Rattle.std.specs.Int.RustNames.{int_le}
@@ -8,7 +9,8 @@ use Rattle.utd_session.specs.Rows.{row}
 
 -- one label, and no gap between
 unfoldable pub joins : Row → Row → Bool
-joins r other = int_eq r.label other.label && (int_le r.begin (other.end +ℤ pos 1) && int_le other.begin (r.end +ℤ pos 1))
+joins r other =
+    int_eq r.label other.label && (int_le r.begin (other.end +ℤ pos 1) && int_le other.begin (r.end +ℤ pos 1))
 
 -- the least row that has both
 abbrev pub hull : Row → Row → Row

@@ -50,7 +50,8 @@ abbrev pub with_row : Row → List Row × Tokens → Option (List Row × Tokens)
 with_row r t = Some (r ∷ t.0, t.1)
 
 -- after a row, the others where a comma stands next
-abbrev pub other_tuples : (Tokens → Option (List Row × Tokens)) → Row × Tokens → Option Tokens → Option (List Row × Tokens)
+abbrev pub other_tuples : (Tokens → Option (List Row × Tokens)) → Row × Tokens → Option Tokens
+    → Option (List Row × Tokens)
 other_tuples more t None = Some (t.0 ∷ [], t.1)
 other_tuples more t (Some rest) = more rest >>= with_row t.0
 
@@ -81,9 +82,6 @@ ending t = do
   t ← expect (codes "D") t
   t ← expect (codes ")") t
   nothing_left t
-
-abbrev pub most_tuples : ℕ
-most_tuples = 1000
 
 -- the rows of a statement of the form
 unfoldable pub rows_of : Tokens → Option (List Row)

@@ -8,7 +8,8 @@ use Rattle.utd_session.specs.declared.row.Row.{Row}
 
 -- rows are printed by D and then by S
 abbrev pub row_cmp : Row → Row → Ordering
-row_cmp a b = ordering_then (int_cmp a.begin b.begin) (ordering_then (int_cmp a.end b.end) (int_cmp a.label b.label))
+row_cmp a b =
+    ordering_then (int_cmp a.begin b.begin) (ordering_then (int_cmp a.end b.end) (int_cmp a.label b.label))
 
 abbrev pub row : ℤ → ℤ → ℤ → Row
 row begin end label = record { begin = begin; end = end; label = label }

@@ -1,4 +1,5 @@
--- The tokens of a text, by the longest match: words, integers and single bytes, with white space between.
+-- The tokens of a text, by the longest match: words, integers and single bytes, with white space
+-- between.
 use Rattle.std.specs.Prelude.{◌≡◌, ℕ, zero, suc, Bool, false, ◌&&◌, ◌||◌, List, [], ◌∷◌, length, take, drop, nat_le, nat_eq, if◌then◌else◌}
 
 abbrev pub is_white : ℕ → Bool
@@ -11,10 +12,11 @@ is_digit b = nat_le 48 b && nat_le b 57
 abbrev pub is_word_start : ℕ → Bool
 is_word_start b = (nat_le 65 b && nat_le b 90) || ((nat_le 97 b && nat_le b 122) || nat_eq b 95)
 
--- whether b goes on in the token that begins with the byte first: a word goes on with letters, `_` and digits, an
--- integer with digits, and any other byte is alone
+-- whether b goes on in the token that begins with the byte first: a word goes on with letters, `_`
+-- and digits, an integer with digits, and any other byte is alone
 abbrev pub goes_on : ℕ → ℕ → Bool
-goes_on first b = if is_word_start first then is_word_start b || is_digit b else is_digit first && is_digit b
+goes_on first b =
+    if is_word_start first then is_word_start b || is_digit b else is_digit first && is_digit b
 
 -- how many bytes from the front on are such
 abbrev pub run_length : (ℕ → Bool) → List ℕ → ℕ
