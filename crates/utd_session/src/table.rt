@@ -1,6 +1,6 @@
 // The table of rows. Each text is made once, then the widths are known, then the lines are written.
 ghost use Rattle.std.specs.Prelude.{◌≡◌, ◌∷◌, ◌++◌, map, IfOk, OnOk};
-ghost use Rattle.utd_session.specs.Table.{cells_of, padded, line, table, heading_cells};
+ghost use Rattle.utd_session.specs.Table.{cells_of, with_padding, line, table, heading_cells};
 ghost use Rattle.utd_session.specs.Texts.{texts_of, width_of, lines_of};
 
 use crate::row::Row;
@@ -70,7 +70,7 @@ fn column_widths(all: &[Cells]) -> Widths
 }
 
 fn put_padded(out: &mut Vec<u8>, width: usize, text: &[u8]) -> Result<(), AllocError>
-    ensures { OnOk result (out.new.items ≡ out.old.items ++ padded width text.now) }
+    ensures { OnOk result (out.new.items ≡ out.old.items ++ with_padding width text.now) }
 {
     out.extend_from_slice(text)?;
     for _i in 0..width.saturating_sub(text.len()) {
