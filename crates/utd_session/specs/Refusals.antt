@@ -8,7 +8,7 @@ abbrev pub code_text : Code → List ℕ
 code_text E01 = codes "E01 not a statement"
 code_text E02 = codes "E02 not UTF-8"
 code_text E03 = codes "E03 statement too long"
-code_text E04 = codes "E04 statement not complete_statements"
+code_text E04 = codes "E04 statement not ended"
 code_text E05 = codes "E05 nested too deep"
 code_text E06 = codes "E06 literal out of range"
 code_text E10 = codes "E10 unknown name"

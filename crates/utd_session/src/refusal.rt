@@ -13,7 +13,7 @@ fn code_text(code: Code) -> &'static [u8]
         Code::E01 => b"E01 not a statement",
         Code::E02 => b"E02 not UTF-8",
         Code::E03 => b"E03 statement too long",
-        Code::E04 => b"E04 statement not complete_statements",
+        Code::E04 => b"E04 statement not ended",
         Code::E05 => b"E05 nested too deep",
         Code::E06 => b"E06 literal out of range",
         Code::E10 => b"E10 unknown name",
