@@ -1,6 +1,6 @@
 -- The text of a date, byte by byte.
-use Rattle.std.proofs.Common.{◌≡◌, ℕ, ◌+◌, ◌*◌, ◌/◌, ◌%◌, ◌≤◌, List, [], ◌∷◌, length, slice_index_or, refl, ◌∙◌, arith}
-use Rattle.point_core.specs.Dates.{date_text}
+use Rattle.std.proofs.Common.{◌≡◌, ℕ, ◌+◌, ◌*◌, ◌/◌, ◌%◌, ◌≤◌, ℤ, List, [], ◌∷◌, length, slice_index_or, refl, sym, ap, ◌∙◌, arith}
+use Rattle.point_core.specs.Dates.{IsCalendarDate, IsDateText, date_text}
 
 -- a list of ten is that of its elements
 ten : (xs : List ℕ) → length xs ≡ 10
@@ -32,3 +32,24 @@ text_from_bytes text hundreds years month day long small h y p m q d =
     let front : (100 * hundreds + years) / 100 ≡ hundreds = omega arith in
     let back : (100 * hundreds + years) % 100 ≡ years = omega arith in
     rw (front, back) (ten text long ∙ rw (h.0, h.1, y.0, y.1, p, m.0, m.1, q, d.0, d.1) refl)
+
+-- a text is that of one date
+pub parts_from_text : (year month day year' month' day' : ℕ) → IsCalendarDate year month day → IsCalendarDate year' month' day'
+    → date_text year month day ≡ date_text year' month' day' → (year ≡ year') × (month ≡ month') × (day ≡ day')
+parts_from_text y m d y' m' d' here there e =
+    let at : ℕ → List ℕ → ℕ = λ i xs. slice_index_or xs i 0 in
+    let e0 : 48 + y / 100 / 10 ≡ 48 + y' / 100 / 10 = ap (at 0) e in
+    let e1 : 48 + y / 100 % 10 ≡ 48 + y' / 100 % 10 = ap (at 1) e in
+    let e2 : 48 + y % 100 / 10 ≡ 48 + y' % 100 / 10 = ap (at 2) e in
+    let e3 : 48 + y % 100 % 10 ≡ 48 + y' % 100 % 10 = ap (at 3) e in
+    let e5 : 48 + m / 10 ≡ 48 + m' / 10 = ap (at 5) e in
+    let e6 : 48 + m % 10 ≡ 48 + m' % 10 = ap (at 6) e in
+    let e8 : 48 + d / 10 ≡ 48 + d' / 10 = ap (at 8) e in
+    let e9 : 48 + d % 10 ≡ 48 + d' % 10 = ap (at 9) e in
+    (omega (arith, e0, e1, e2, e3), omega (arith, e5, e6), omega (arith, e8, e9))
+
+-- and so has one number
+pub number_from_text : (text : List ℕ) (n n' : ℤ) → IsDateText text n → IsDateText text n' → n ≡ n'
+number_from_text text n n' (y, m, d, here, is, number) (y', m', d', there, is', number') =
+    let same = parts_from_text y m d y' m' d' here there (sym is ∙ is') in
+    rw (number, number', same.0, same.1, same.2) refl

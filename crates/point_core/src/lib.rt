@@ -24,3 +24,6 @@ pub use memory::Memory;
 pub use ordinal_type::OrdinalType;
 pub use point_type::{PointNumber, PointType};
 pub use steps::Steps;
+
+#[cfg(test)]
+mod tests;
