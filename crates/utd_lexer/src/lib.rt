@@ -2,5 +2,10 @@
 #![tactic(auto)]
 
 mod cutter;
+mod front;
+mod reading;
+mod token;
 
 pub use cutter::{Cut, Cutter};
+pub use reading::tokens;
+pub use token::{Token, TokenBytes, TokenKind, TokenList};

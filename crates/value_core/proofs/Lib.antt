@@ -1,1 +1,3 @@
+pub mod HeadingLemmas
 pub mod OrderLemmas
+pub mod RelationLemmas
