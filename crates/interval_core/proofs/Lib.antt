@@ -1,2 +1,3 @@
 pub mod MembersLemmas
 pub mod ComparisonLemmas
+pub mod OperatorLemmas
