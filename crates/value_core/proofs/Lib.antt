@@ -1,1 +1,2 @@
+pub mod HeadingLemmas
 pub mod OrderLemmas

@@ -1,4 +1,6 @@
+pub mod Headings
 pub mod Lengths
 pub mod Order
 pub mod Plain
+pub mod Refusals
 pub mod Values
