@@ -240,3 +240,40 @@ minus-over i j a b =
         let w = (In-minus i j k.0).0 ((h k.0).1 (omega (arith, ints), o)) in
         let x = w.0 in let x0 = x.0 in let x1 = x.1 in
         w.1 (omega (arith, ints), omega (arith, ints)))
+
+-- ---- what the code answers, by the ends, is what the members tell
+
+some_pair : (p q : ℤ) (i : Span) (r : Option Span) → r ≡ Some i → p ≡ i.0 → q ≡ i.1 → Some (p, q) ≡ r
+some_pair p q i r e a b =
+    let k : (p, q) ≡ i = ap₂ (λ (x y : ℤ). (x, y)) a b in
+    ap (λ s. Some s) k ∙ sym e
+
+pub union_some : (i j : Span) (p q : ℤ) → i.0 ≤ℤ i.1 → j.0 ≤ℤ j.1 → i.0 ≤ℤ (j.1 +ℤ pos 1) → j.0 ≤ℤ (i.1 +ℤ pos 1) → p ≡ int_min i.0 j.0 → q ≡ int_max i.1 j.1 → Some (p, q) ≡ union i j
+union_some i j p q l m a b x y = some_pair p q (over i j) (union i j) (union-merging i j l m a b) x y
+
+pub union_none : (i j : Span) → i.0 ≤ℤ i.1 → j.0 ≤ℤ j.1 → (i.0 ≤ℤ (j.1 +ℤ pos 1) → j.0 ≤ℤ (i.1 +ℤ pos 1) → ⊥) → None ≡ union i j
+union_none i j l m h = sym (union-apart i j l m (by_lt_z (j.1 +ℤ pos 1) i.0 (λ u. inl u) (λ u. by_lt_z (i.1 +ℤ pos 1) j.0 (λ v. inr v) (λ v. absurd (h u v)))))
+
+pub intersect_some : (i j : Span) (p q : ℤ) → i.0 ≤ℤ i.1 → j.0 ≤ℤ j.1 → i.0 ≤ℤ j.1 → j.0 ≤ℤ i.1 → p ≡ int_max i.0 j.0 → q ≡ int_min i.1 j.1 → Some (p, q) ≡ intersect i j
+intersect_some i j p q l m a b x y = some_pair p q (within i j) (intersect i j) (intersect-overlapping i j l m a b) x y
+
+apart_from : (i j : Span) → (i.0 ≤ℤ j.1 → j.0 ≤ℤ i.1 → ⊥) → (j.1 <ℤ i.0) ⊎ (i.1 <ℤ j.0)
+apart_from i j h = by_lt_z j.1 i.0 (λ u. inl u) (λ u. by_lt_z i.1 j.0 (λ v. inr v) (λ v. absurd (h u v)))
+
+pub intersect_none : (i j : Span) → (i.0 ≤ℤ j.1 → j.0 ≤ℤ i.1 → ⊥) → None ≡ intersect i j
+intersect_none i j h = sym (intersect-disjoint i j (apart_from i j h))
+
+pub minus_whole : (i j : Span) → i.0 ≤ℤ i.1 → (i.0 ≤ℤ j.1 → j.0 ≤ℤ i.1 → ⊥) → Some i ≡ minus i j
+minus_whole i j l h = sym (minus-disjoint i j l (apart_from i j h))
+
+pub minus_first_part : (i j : Span) (p q : ℤ) → i.0 <ℤ j.0 → j.0 ≤ℤ i.1 → i.1 ≤ℤ j.1 → p ≡ i.0 → q ≡ j.0 -ℤ pos 1 → Some (p, q) ≡ minus i j
+minus_first_part i j p q a b c x y = some_pair p q (i.0, j.0 -ℤ pos 1) (minus i j) (minus-before i j a b c) x y
+
+pub minus_last_part : (i j : Span) (p q : ℤ) → j.0 ≤ℤ i.0 → i.0 ≤ℤ j.1 → j.1 <ℤ i.1 → p ≡ j.1 +ℤ pos 1 → q ≡ i.1 → Some (p, q) ≡ minus i j
+minus_last_part i j p q a b c x y = some_pair p q (j.1 +ℤ pos 1, i.1) (minus i j) (minus-after i j a b c) x y
+
+pub minus_none_inside : (i j : Span) → j.0 ≤ℤ j.1 → i.0 <ℤ j.0 → j.1 <ℤ i.1 → None ≡ minus i j
+minus_none_inside i j m a b = sym (minus-inside i j m a b)
+
+pub minus_none_over : (i j : Span) → j.0 ≤ℤ i.0 → i.1 ≤ℤ j.1 → None ≡ minus i j
+minus_none_over i j a b = sym (minus-over i j a b)

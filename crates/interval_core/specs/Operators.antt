@@ -2,7 +2,7 @@
 --     count      how many members
 --     union, intersect, minus      the interval of the members of either, of both, or of the first alone
 --     prior_number, next_number      the number before or after, within the type
-use Rattle.std.specs.Prelude.{ℕ, ℤ, pos, ◌+ℤ◌, ◌-ℤ◌, not, List, [], ◌∷◌, ◌++◌, length, filter, fold, Option, Some, None, int_lt, if◌then◌else◌}
+use Rattle.std.specs.Prelude.{ℕ, ℤ, pos, ◌+ℤ◌, ◌-ℤ◌, ◌≤ℤ◌, not, List, [], ◌∷◌, ◌++◌, length, filter, fold, Option, Some, None, int_lt, if◌then◌else◌}
 use Rattle.std.specs.Int.{int_min, int_max}
 use Rattle.std.specs.Ordering.{int_cmp}
 use Rattle.base_core.specs.Sets.{are_same}
@@ -40,3 +40,7 @@ intersect i j = interval_of (filter (has_member j) (members i))
 
 abbrev pub minus : Span → Span → Option Span
 minus i j = interval_of (filter (λ p. not (has_member j p)) (members i))
+
+-- k begins and ends within the interval over i and j, and not after it ends
+abbrev pub IsInHull : Span → Span → Span → Type 0
+IsInHull i j k = (int_min i.0 j.0 ≤ℤ k.0) × (k.0 ≤ℤ k.1) × (k.1 ≤ℤ int_max i.1 j.1)

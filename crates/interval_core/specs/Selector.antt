@@ -1,5 +1,5 @@
 -- What a selector gives: the points from one to another, each end with it or without.
-use Rattle.std.specs.Prelude.{ℤ, Bool, true, false, Option, Some, None, Result, Ok, Err, int_le, if◌then◌else◌}
+use Rattle.std.specs.Prelude.{ℤ, ◌≤ℤ◌, Bool, true, false, Option, Some, None, Result, Ok, Err, int_le, if◌then◌else◌}
 use Rattle.interval_core.specs.declared.selector.Ends.{Ends}
 use Rattle.interval_core.specs.declared.selector.Ends.TheVariants.{Closed, ClosedOpen, OpenClosed, Open}
 use Rattle.interval_core.specs.declared.selector.SelectFault.{SelectFault}
@@ -36,3 +36,7 @@ between (Some b) (Some e) = if int_le b e then Ok (b, e) else Err Empty
 -- the selector's interval in a type with these first and last numbers, or why there is none
 abbrev pub selected : ℤ → ℤ → Ends → ℤ → ℤ → Result Span SelectFault
 selected first last ends b e = between (first_member last ends b) (last_member first ends e)
+
+-- an interval whose ends are points of the type
+abbrev pub IsRunIn : ℤ → ℤ → Span → Type 0
+IsRunIn first last i = (first ≤ℤ i.0) × (i.0 ≤ℤ i.1) × (i.1 ≤ℤ last)

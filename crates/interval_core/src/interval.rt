@@ -111,4 +111,17 @@ impl<T: PointNumber> Interval<T> {
     {
         (t.number(self.begin), t.number(self.end))
     }
+
+    // The interval whose first and last points have these numbers.
+    pub(crate) fn of_numbers(t: &T, ends: (i64, i64)) -> Interval<T>
+        requires first { T.first_number t.now ≤ℤ ends.0 }
+        requires ordered { ends.0 ≤ℤ ends.1 }
+        requires last { ends.1 ≤ℤ T.last_number t.now }
+        ensures points { HasEndsIn T.IsPoint t.now result }
+        ensures numbers { span T.number_of result ≡ ends }
+    {
+        let begin = t.point(ends.0).unwrap();
+        let end = t.point(ends.1).unwrap();
+        Interval { begin, end }
+    }
 }

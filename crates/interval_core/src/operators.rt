@@ -1,6 +1,8 @@
 // Operators on intervals: what is said of their points, the code does by the numbers of their ends.
 ghost use Rattle.std.specs.Prelude.{◌≡◌, ◌↔◌, ℤ, pos, ◌+ℤ◌, ◌-ℤ◌, ◌≤ℤ◌, ◌<ℤ◌, IsTrue, IsNone, IfSome};
+ghost use Rattle.interval_core.specs.Operators.{union, intersect, minus, IsInHull};
 
+use crate::comparisons::{do_merge, do_overlap};
 use crate::interval::Interval;
 use point_core::PointNumber;
 
@@ -58,9 +60,91 @@ impl<T: PointNumber> Interval<T> {
     {
         is_between(self.numbers(t), t.number(p))
     }
+
+    /// The interval of the points of either, or none where these are not one interval.
+    pub fn union(&self, t: &T, other: &Interval<T>) -> Option<Interval<T>>
+        requires points { HasEndsIn T.IsPoint t.now self.now }
+        requires other_points { HasEndsIn T.IsPoint t.now other.now }
+        ensures members { option_map (span T.number_of) result ≡ union (span T.number_of self.now) (span T.number_of other.now) }
+        ensures points { IfSome result (HasEndsIn T.IsPoint t.now) }
+    {
+        let ends = ends_of_union(self.numbers(t), other.numbers(t))?;
+        Some(Interval::of_numbers(t, ends))
+    }
+
+    /// The interval of the common points, or none where there is no common point.
+    pub fn intersect(&self, t: &T, other: &Interval<T>) -> Option<Interval<T>>
+        requires points { HasEndsIn T.IsPoint t.now self.now }
+        requires other_points { HasEndsIn T.IsPoint t.now other.now }
+        ensures members { option_map (span T.number_of) result ≡ intersect (span T.number_of self.now) (span T.number_of other.now) }
+        ensures points { IfSome result (HasEndsIn T.IsPoint t.now) }
+    {
+        let ends = ends_of_common(self.numbers(t), other.numbers(t))?;
+        Some(Interval::of_numbers(t, ends))
+    }
+
+    /// The interval of the points that the other does not have, or none where there is no such point or where
+    /// the other stands between two of them.
+    pub fn minus(&self, t: &T, other: &Interval<T>) -> Option<Interval<T>>
+        requires points { HasEndsIn T.IsPoint t.now self.now }
+        requires other_points { HasEndsIn T.IsPoint t.now other.now }
+        ensures members { option_map (span T.number_of) result ≡ minus (span T.number_of self.now) (span T.number_of other.now) }
+        ensures points { IfSome result (HasEndsIn T.IsPoint t.now) }
+    {
+        let ends = ends_of_rest(self.numbers(t), other.numbers(t))?;
+        Some(Interval::of_numbers(t, ends))
+    }
 }
 
 // Below, i and j are the numbers of the first and the last points of two intervals.
+
+fn ends_of_union(i: (i64, i64), j: (i64, i64)) -> Option<(i64, i64)>
+    requires i { i.0 ≤ℤ i.1 }
+    requires j { j.0 ≤ℤ j.1 }
+    ensures members { result ≡ union i j }
+    ensures ends { IfSome result (IsInHull i j) }
+{
+    if do_merge(i, j) {
+        Some((i.0.min(j.0), i.1.max(j.1)))
+    } else {
+        None
+    }
+}
+
+fn ends_of_common(i: (i64, i64), j: (i64, i64)) -> Option<(i64, i64)>
+    requires i { i.0 ≤ℤ i.1 }
+    requires j { j.0 ≤ℤ j.1 }
+    ensures members { result ≡ intersect i j }
+    ensures ends { IfSome result (IsInHull i j) }
+{
+    if do_overlap(i, j) {
+        Some((i.0.max(j.0), i.1.min(j.1)))
+    } else {
+        None
+    }
+}
+
+fn ends_of_rest(i: (i64, i64), j: (i64, i64)) -> Option<(i64, i64)>
+    requires i { i.0 ≤ℤ i.1 }
+    requires j { j.0 ≤ℤ j.1 }
+    ensures members { result ≡ minus i j }
+    ensures ends { IfSome result (IsInHull i j) }
+{
+    if !do_overlap(i, j) {
+        return Some(i);
+    }
+    if i.0 < j.0 {
+        if i.1 <= j.1 {
+            Some((i.0, j.0 - 1))
+        } else {
+            None
+        }
+    } else if j.1 < i.1 {
+        Some((j.1 + 1, i.1))
+    } else {
+        None
+    }
+}
 
 fn is_between(i: (i64, i64), p: i64) -> bool
     ensures { IsTrue result ↔ ((i.0 ≤ℤ p) × (p ≤ℤ i.1)) }
