@@ -119,9 +119,9 @@ fn or(alloc: Global, place: Place, p: &Parts, row: &Row) -> Result<Value, Stop>
     requires { IsTypedOver row.now (or_expr place (read_left p.now) (read_right p.now)) }
     ensures { Gives plain result (value (or_expr place (read_left p.now) (read_right p.now)) row.now) }
 {
-    let first = answer(alloc, &p.left, row)?;
-    if truth_of(&first) {
-        Ok(first)
+    let left = answer(alloc, &p.left, row)?;
+    if truth_of(&left) {
+        Ok(left)
     } else {
         answer(alloc, &p.right, row)
     }

@@ -8,6 +8,8 @@ mod evaluation;
 mod interval;
 mod operand;
 mod operators;
+#[cfg(test)]
+mod tests;
 mod text;
 mod tree;
 

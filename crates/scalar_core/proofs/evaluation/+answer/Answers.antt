@@ -14,8 +14,8 @@ and-truth_of-requires t c =
 
 pub or-truth_of-requires : goal.or-truth_of-requires
 or-truth_of-requires t c =
-    let told = c.in_ok-first.ensures in
-    over-or_truth c.args.row.now c.args.place (read_left c.args.p.now) (read_right c.args.p.now) (plain c.in_ok-first.first) c.requires
+    let told = c.in_ok-left.ensures in
+    over-or_truth c.args.row.now c.args.place (read_left c.args.p.now) (read_right c.args.p.now) (plain c.in_ok-left.left) c.requires
     (ap (λ (e : Expr). value e c.args.row.now) (read_left-read c.args.p.now c.deref.result.now c.deref.ensures) ∙ told)
 
 pub single-apply_one-requires : goal.single-apply_one-requires
