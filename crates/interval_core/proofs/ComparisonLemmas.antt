@@ -64,8 +64,7 @@ merges-ends i j l m =
 
 pub includes-ends : (i j : Span) → i.0 ≤ℤ i.1 → j.0 ≤ℤ j.1 → IsTrue (includes i j) ↔ ((i.0 ≤ℤ j.0) × (j.1 ≤ℤ i.1))
 includes-ends i j l m =
-    let w = list_all-In (has_member i) (members j) in
-    (
+    let w = list_all-In (has_member i) (members j) in (
       λ h.
           let a = (has_member-between i j.0).0 (w.0 h j.0 ((In-members j j.0).1 (omega (arith, ints), m))) in
           let b = (has_member-between i j.1).0 (w.0 h j.1 ((In-members j j.1).1 (m, omega (arith, ints)))) in
@@ -80,8 +79,7 @@ included_in-ends i j l m = includes-ends j i m l
 
 pub equals-ends : (i j : Span) → i.0 ≤ℤ i.1 → j.0 ≤ℤ j.1 → IsTrue (equals i j) ↔ ((i.0 ≡ j.0) × (i.1 ≡ j.1))
 equals-ends i j l m =
-    let w = are_same-In int_cmp int_cmp_total int_cmp-IsAntisymmetric (members i) (members j) in
-    (
+    let w = are_same-In int_cmp int_cmp_total int_cmp-IsAntisymmetric (members i) (members j) in (
       λ h.
           let at = w.0 h in
           let a = (In-members j i.0).0 ((at i.0).0 ((In-members i i.0).1 (omega (arith, ints), l))) in
@@ -104,8 +102,7 @@ true_lt a b h = omega (arith, ints)
 pub before-ends : (i j : Span) → i.0 ≤ℤ i.1 → j.0 ≤ℤ j.1 → IsTrue (before i j) ↔ (i.1 <ℤ j.0)
 before-ends i j l m =
     let outer = list_all-In (λ p. list_all (λ q. int_lt p q) (members j)) (members i) in
-    let inner = λ (p : ℤ). list_all-In (λ q. int_lt p q) (members j) in
-    (
+    let inner = λ (p : ℤ). list_all-In (λ q. int_lt p q) (members j) in (
       λ h. true_lt i.1 j.0 ((inner i.1).0 (outer.0 h i.1 ((In-members i i.1).1 (l, omega (arith, ints)))) j.0 ((In-members j j.0).1 (omega (arith, ints), m))),
       λ h. outer.1 (λ p k. (inner p).1 (λ q n.
           let a = (In-members i p).0 k in let b = (In-members j q).0 n in let a1 = a.1 in let b0 = b.0 in
@@ -118,8 +115,7 @@ after-ends i j l m = before-ends j i m l
 pub begins-ends : (i j : Span) → i.0 ≤ℤ i.1 → j.0 ≤ℤ j.1 → IsTrue (begins i j) ↔ ((i.0 ≡ j.0) × (i.1 ≤ℤ j.1))
 begins-ends i j l m =
     let x = Decides-int_eq i.0 j.0 in
-    let y = included_in-ends i j l m in
-    (
+    let y = included_in-ends i j l m in (
       λ h. let w = and_parts (int_eq i.0 j.0) (included_in i j) h in (x.0 w.0, (y.0 w.1).1),
       λ h. let e = h.0 in let k = h.1 in and_from (int_eq i.0 j.0) (included_in i j) (x.1 e) (y.1 (omega (arith, ints), k)),
     )
@@ -127,8 +123,7 @@ begins-ends i j l m =
 pub ends-ends : (i j : Span) → i.0 ≤ℤ i.1 → j.0 ≤ℤ j.1 → IsTrue (ends i j) ↔ ((i.1 ≡ j.1) × (j.0 ≤ℤ i.0))
 ends-ends i j l m =
     let x = Decides-int_eq i.1 j.1 in
-    let y = included_in-ends i j l m in
-    (
+    let y = included_in-ends i j l m in (
       λ h. let w = and_parts (int_eq i.1 j.1) (included_in i j) h in (x.0 w.0, (y.0 w.1).0),
       λ h. let e = h.0 in let k = h.1 in and_from (int_eq i.1 j.1) (included_in i j) (x.1 e) (y.1 (k, omega (arith, ints))),
     )

@@ -7,7 +7,7 @@ use Rattle.std.proofs.lemmas.Int.{ints, by_lt_z}
 use Rattle.base_core.proofs.SetLemmas.{In}
 use Rattle.interval_core.specs.declared.selector.Ends.{Ends}
 use Rattle.interval_core.specs.declared.selector.SelectFault.{SelectFault}
-use Rattle.interval_core.specs.declared.selector.SelectFault.TheVariants.{NoPoint, Empty}
+use Rattle.interval_core.specs.declared.selector.SelectFault.TheVariants.{Empty}
 use Rattle.interval_core.specs.Members.{Span, members}
 use Rattle.interval_core.specs.Operators.{prior_number, next_number}
 use Rattle.interval_core.specs.Selector.{opens_after, stops_before, first_member, last_member, between, selected}
@@ -26,8 +26,7 @@ from_first true last b n p is = tested (int_lt b last) is
     tested : (r : Bool) → cond r (Some (b +ℤ pos 1)) None ≡ Some n → (n ≤ℤ p) ↔ ((b ≤ℤ p) × (IsTrue true → p ≡ b → ⊥))
     tested false k = absurd (cc)
     tested true k =
-        let e : b +ℤ pos 1 ≡ n = cc in
-        (
+        let e : b +ℤ pos 1 ≡ n = cc in (
           λ h. (omega (arith, ints), λ t m. omega (arith, ints)),
           λ h. let u = h.0 in by_lt_z b p (λ v. omega (arith, ints)) (λ v. absurd (h.1 refl (omega (arith, ints)))),
         )
@@ -41,8 +40,7 @@ to_last true first e n p is = tested (int_lt first e) is
     tested : (r : Bool) → cond r (Some (e -ℤ pos 1)) None ≡ Some n → (p ≤ℤ n) ↔ ((p ≤ℤ e) × (IsTrue true → p ≡ e → ⊥))
     tested false k = absurd (cc)
     tested true k =
-        let l : e -ℤ pos 1 ≡ n = cc in
-        (
+        let l : e -ℤ pos 1 ≡ n = cc in (
           λ h. (omega (arith, ints), λ t m. omega (arith, ints)),
           λ h. let u = h.0 in by_lt_z p e (λ v. omega (arith, ints)) (λ v. absurd (h.1 refl (omega (arith, ints)))),
         )
@@ -64,8 +62,7 @@ selected-members first last ends b e i is p =
     let at = between-Ok (first_member last ends b) (last_member first ends e) i is in
     let x = from_first (opens_after ends) last b i.0 p at.0 in
     let y = to_last (stops_before ends) first e i.1 p at.1 in
-    let m = In-members i p in
-    (
+    let m = In-members i p in (
       λ h. let k = m.0 h in (x.0 k.0, y.0 k.1),
       λ h. m.1 (x.1 h.0, y.1 h.1),
     )

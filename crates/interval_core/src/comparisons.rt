@@ -14,7 +14,8 @@ impl<T: PointNumber> Interval<T> {
         requires points { HasEndsIn T.IsPoint t.now self.now }
         requires other_points { HasEndsIn T.IsPoint t.now other.now }
         ensures members { result ≡ equals (span T.number_of self.now) (span T.number_of other.now) }
-        ensures ends { IsTrue result ↔ ((T.number_of self.now.0 ≡ T.number_of other.now.0) × (T.number_of self.now.1 ≡ T.number_of other.now.1)) }
+        ensures ends { IsTrue result ↔ ((T.number_of self.now.0 ≡ T.number_of other.now.0)
+            × (T.number_of self.now.1 ≡ T.number_of other.now.1)) }
     {
         are_equal(self.numbers(t), other.numbers(t))
     }
@@ -23,8 +24,10 @@ impl<T: PointNumber> Interval<T> {
     pub fn includes(&self, t: &T, other: &Interval<T>) -> bool
         requires points { HasEndsIn T.IsPoint t.now self.now }
         requires other_points { HasEndsIn T.IsPoint t.now other.now }
-        ensures members { result ≡ includes (span T.number_of self.now) (span T.number_of other.now) }
-        ensures ends { IsTrue result ↔ ((T.number_of self.now.0 ≤ℤ T.number_of other.now.0) × (T.number_of other.now.1 ≤ℤ T.number_of self.now.1)) }
+        ensures members { result ≡
+            includes (span T.number_of self.now) (span T.number_of other.now) }
+        ensures ends { IsTrue result ↔ ((T.number_of self.now.0 ≤ℤ T.number_of other.now.0)
+            × (T.number_of other.now.1 ≤ℤ T.number_of self.now.1)) }
     {
         is_over(self.numbers(t), other.numbers(t))
     }
@@ -33,8 +36,10 @@ impl<T: PointNumber> Interval<T> {
     pub fn included_in(&self, t: &T, other: &Interval<T>) -> bool
         requires points { HasEndsIn T.IsPoint t.now self.now }
         requires other_points { HasEndsIn T.IsPoint t.now other.now }
-        ensures members { result ≡ included_in (span T.number_of self.now) (span T.number_of other.now) }
-        ensures ends { IsTrue result ↔ ((T.number_of other.now.0 ≤ℤ T.number_of self.now.0) × (T.number_of self.now.1 ≤ℤ T.number_of other.now.1)) }
+        ensures members { result ≡
+            included_in (span T.number_of self.now) (span T.number_of other.now) }
+        ensures ends { IsTrue result ↔ ((T.number_of other.now.0 ≤ℤ T.number_of self.now.0)
+            × (T.number_of self.now.1 ≤ℤ T.number_of other.now.1)) }
     {
         other.includes(t, self)
     }
@@ -64,7 +69,8 @@ impl<T: PointNumber> Interval<T> {
         requires points { HasEndsIn T.IsPoint t.now self.now }
         requires other_points { HasEndsIn T.IsPoint t.now other.now }
         ensures members { result ≡ meets (span T.number_of self.now) (span T.number_of other.now) }
-        ensures ends { IsTrue result ↔ (((T.number_of self.now.1 +ℤ pos 1) ≡ T.number_of other.now.0) ⊎ ((T.number_of other.now.1 +ℤ pos 1) ≡ T.number_of self.now.0)) }
+        ensures ends { IsTrue result ↔ (((T.number_of self.now.1 +ℤ pos 1) ≡ T.number_of other.now.0)
+            ⊎ ((T.number_of other.now.1 +ℤ pos 1) ≡ T.number_of self.now.0)) }
     {
         do_meet(self.numbers(t), other.numbers(t))
     }
@@ -73,8 +79,10 @@ impl<T: PointNumber> Interval<T> {
     pub fn overlaps(&self, t: &T, other: &Interval<T>) -> bool
         requires points { HasEndsIn T.IsPoint t.now self.now }
         requires other_points { HasEndsIn T.IsPoint t.now other.now }
-        ensures members { result ≡ overlaps (span T.number_of self.now) (span T.number_of other.now) }
-        ensures ends { IsTrue result ↔ ((T.number_of self.now.0 ≤ℤ T.number_of other.now.1) × (T.number_of other.now.0 ≤ℤ T.number_of self.now.1)) }
+        ensures members { result ≡
+            overlaps (span T.number_of self.now) (span T.number_of other.now) }
+        ensures ends { IsTrue result ↔ ((T.number_of self.now.0 ≤ℤ T.number_of other.now.1)
+            × (T.number_of other.now.0 ≤ℤ T.number_of self.now.1)) }
     {
         do_overlap(self.numbers(t), other.numbers(t))
     }
@@ -95,7 +103,8 @@ impl<T: PointNumber> Interval<T> {
         requires points { HasEndsIn T.IsPoint t.now self.now }
         requires other_points { HasEndsIn T.IsPoint t.now other.now }
         ensures members { result ≡ begins (span T.number_of self.now) (span T.number_of other.now) }
-        ensures ends { IsTrue result ↔ ((T.number_of self.now.0 ≡ T.number_of other.now.0) × (T.number_of self.now.1 ≤ℤ T.number_of other.now.1)) }
+        ensures ends { IsTrue result ↔ ((T.number_of self.now.0 ≡ T.number_of other.now.0)
+            × (T.number_of self.now.1 ≤ℤ T.number_of other.now.1)) }
     {
         do_begin(self.numbers(t), other.numbers(t))
     }
@@ -105,7 +114,8 @@ impl<T: PointNumber> Interval<T> {
         requires points { HasEndsIn T.IsPoint t.now self.now }
         requires other_points { HasEndsIn T.IsPoint t.now other.now }
         ensures members { result ≡ ends (span T.number_of self.now) (span T.number_of other.now) }
-        ensures ends { IsTrue result ↔ ((T.number_of self.now.1 ≡ T.number_of other.now.1) × (T.number_of other.now.0 ≤ℤ T.number_of self.now.0)) }
+        ensures ends { IsTrue result ↔ ((T.number_of self.now.1 ≡ T.number_of other.now.1)
+            × (T.number_of other.now.0 ≤ℤ T.number_of self.now.0)) }
     {
         do_end(self.numbers(t), other.numbers(t))
     }

@@ -68,8 +68,8 @@ impl<T: PointType> Interval<T> {
         ensures end { T.number_of result.1 +ℤ pos 1 ≡ T.number_of cut }
         ensures cost { steps.new ≡ steps.old + 1 }
     {
-        let end = t.prior(cut, steps).unwrap();
-        Interval { begin, end }
+        let last = t.prior(cut, steps).unwrap();
+        Interval { begin, end: last }
     }
 
     /// The same interval.
@@ -120,8 +120,9 @@ impl<T: PointNumber> Interval<T> {
         ensures points { HasEndsIn T.IsPoint t.now result }
         ensures numbers { span T.number_of result ≡ ends }
     {
-        let begin = t.point(ends.0).unwrap();
-        let end = t.point(ends.1).unwrap();
-        Interval { begin, end }
+        Interval {
+            begin: t.point(ends.0).unwrap(),
+            end: t.point(ends.1).unwrap(),
+        }
     }
 }

@@ -14,7 +14,8 @@ impl<T: PointNumber> Interval<T> {
     /// The point before its first, or none where that is the first of the type.
     pub fn pre(&self, t: &T) -> Option<T::Point>
         requires { HasEndsIn T.IsPoint t.now self.now }
-        ensures number { option_map T.number_of result ≡ prior_number (T.first_number t.now) (T.number_of self.now.0) }
+        ensures number { option_map T.number_of result ≡
+            prior_number (T.first_number t.now) (T.number_of self.now.0) }
         ensures none { IsNone result ↔ (T.number_of self.now.0 ≡ T.first_number t.now) }
         ensures point { IfSome result (T.IsPoint t.now) }
     {
@@ -29,7 +30,8 @@ impl<T: PointNumber> Interval<T> {
     /// The point after its last, or none where that is the last of the type.
     pub fn post(&self, t: &T) -> Option<T::Point>
         requires { HasEndsIn T.IsPoint t.now self.now }
-        ensures number { option_map T.number_of result ≡ next_number (T.last_number t.now) (T.number_of self.now.1) }
+        ensures number { option_map T.number_of result ≡
+            next_number (T.last_number t.now) (T.number_of self.now.1) }
         ensures none { IsNone result ↔ (T.number_of self.now.1 ≡ T.last_number t.now) }
         ensures point { IfSome result (T.IsPoint t.now) }
     {
@@ -46,7 +48,8 @@ impl<T: PointNumber> Interval<T> {
         requires { HasEndsIn T.IsPoint t.now self.now }
         ensures none { IsNone result ↔ (2 ^ 63 ≤ count (span T.number_of self.now)) }
         ensures count { IfSome result (λ n. n ≡ pos (count (span T.number_of self.now))) }
-        ensures ends { IfSome result (λ n. n ≡ (T.number_of self.now.1 +ℤ pos 1) -ℤ T.number_of self.now.0) }
+        ensures ends { IfSome result (λ n. n ≡
+            (T.number_of self.now.1 +ℤ pos 1) -ℤ T.number_of self.now.0) }
     {
         how_many(self.numbers(t))
     }
@@ -56,7 +59,8 @@ impl<T: PointNumber> Interval<T> {
         requires points { HasEndsIn T.IsPoint t.now self.now }
         requires point { T.IsPoint t.now p }
         ensures members { result ≡ has_member (span T.number_of self.now) (T.number_of p) }
-        ensures ends { IsTrue result ↔ ((T.number_of self.now.0 ≤ℤ T.number_of p) × (T.number_of p ≤ℤ T.number_of self.now.1)) }
+        ensures ends { IsTrue result ↔ ((T.number_of self.now.0 ≤ℤ T.number_of p)
+            × (T.number_of p ≤ℤ T.number_of self.now.1)) }
     {
         is_between(self.numbers(t), t.number(p))
     }
@@ -65,7 +69,8 @@ impl<T: PointNumber> Interval<T> {
     pub fn union(&self, t: &T, other: &Interval<T>) -> Option<Interval<T>>
         requires points { HasEndsIn T.IsPoint t.now self.now }
         requires other_points { HasEndsIn T.IsPoint t.now other.now }
-        ensures members { option_map (span T.number_of) result ≡ union (span T.number_of self.now) (span T.number_of other.now) }
+        ensures members { option_map (span T.number_of) result ≡
+            union (span T.number_of self.now) (span T.number_of other.now) }
         ensures points { IfSome result (HasEndsIn T.IsPoint t.now) }
     {
         let ends = ends_of_union(self.numbers(t), other.numbers(t))?;
@@ -76,7 +81,8 @@ impl<T: PointNumber> Interval<T> {
     pub fn intersect(&self, t: &T, other: &Interval<T>) -> Option<Interval<T>>
         requires points { HasEndsIn T.IsPoint t.now self.now }
         requires other_points { HasEndsIn T.IsPoint t.now other.now }
-        ensures members { option_map (span T.number_of) result ≡ intersect (span T.number_of self.now) (span T.number_of other.now) }
+        ensures members { option_map (span T.number_of) result ≡
+            intersect (span T.number_of self.now) (span T.number_of other.now) }
         ensures points { IfSome result (HasEndsIn T.IsPoint t.now) }
     {
         let ends = ends_of_common(self.numbers(t), other.numbers(t))?;
@@ -88,7 +94,8 @@ impl<T: PointNumber> Interval<T> {
     pub fn minus(&self, t: &T, other: &Interval<T>) -> Option<Interval<T>>
         requires points { HasEndsIn T.IsPoint t.now self.now }
         requires other_points { HasEndsIn T.IsPoint t.now other.now }
-        ensures members { option_map (span T.number_of) result ≡ minus (span T.number_of self.now) (span T.number_of other.now) }
+        ensures members { option_map (span T.number_of) result ≡
+            minus (span T.number_of self.now) (span T.number_of other.now) }
         ensures points { IfSome result (HasEndsIn T.IsPoint t.now) }
     {
         let ends = ends_of_rest(self.numbers(t), other.numbers(t))?;

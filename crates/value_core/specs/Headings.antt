@@ -1,6 +1,6 @@
 -- Headings made from lists of attributes.
 --     has_name, first_repeat      which names stand in a list, and the first that stands twice
---     IsHeadingOf, IsRefused      what a list of attributes gives
+--     IsHeadingOf, IsHeadingRefusal      what a list of attributes gives
 use Rattle.std.specs.Prelude.{◌≡◌, ℕ, ◌+◌, ◌<◌, Bool, [], ◌∷◌, ◌++◌, length, Option, Some, None, IsTrue, if◌then◌else◌}
 use Rattle.std.specs.List.{list_any}
 use Rattle.std.specs.List.Sorted.{IsPermutation}
@@ -32,7 +32,7 @@ pub record IsHeadingOf (list heading : Heading) : Type 0 where
   pub ordered : IsTrue (is_heading heading)
 
 -- why a list of attributes is refused
-abbrev pub IsRefused : Heading → HeadingRefuse → Type 0
-IsRefused list (Repeated i) = first_repeat list ≡ Some i
-IsRefused list TooMany = (first_repeat list ≡ None) × (most_attributes < length list)
-IsRefused list Memory = Unit {0}
+abbrev pub IsHeadingRefusal : Heading → HeadingRefuse → Type 0
+IsHeadingRefusal list (Repeated i) = first_repeat list ≡ Some i
+IsHeadingRefusal list TooMany = (first_repeat list ≡ None) × (most_attributes < length list)
+IsHeadingRefusal list Memory = Unit {0}

@@ -1,7 +1,7 @@
 // Headings of relations.
 ghost use Rattle.std.specs.Prelude.{◌≡◌, IfOk, IsTrue, MatchResult};
 ghost use Rattle.value_core.specs.Values.{is_heading};
-ghost use Rattle.value_core.specs.Headings.{has_name, first_repeat, IsHeadingOf, IsRefused};
+ghost use Rattle.value_core.specs.Headings.{has_name, first_repeat, IsHeadingOf, IsHeadingRefusal};
 
 use crate::kind::Kind;
 use crate::name::Name;
@@ -33,7 +33,7 @@ impl Model for Heading {
 impl Heading {
     /// The heading of these attributes.
     pub fn make(_alloc: Global, mut list: Vec<(Name, Kind)>) -> Result<Heading, HeadingRefuse>
-        ensures { MatchResult result (IsHeadingOf list.items) (IsRefused list.items) }
+        ensures { MatchResult result (IsHeadingOf list.items) (IsHeadingRefusal list.items) }
     {
         if let Some(at) = first_repeat(list.as_slice()) {
             return Err(HeadingRefuse::Repeated(at));

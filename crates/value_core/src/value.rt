@@ -3,13 +3,14 @@ ghost use Rattle.std.specs.Prelude.{◌≡◌, IfOk, Some, refl};
 ghost use Rattle.std.specs.Ordering.{eq_by_cmp, on};
 ghost use Rattle.std.specs.Cmp.{on_total, partial_order_from_total, eq_by_cmp_equiv, partial_equiv_from_equiv};
 ghost use Rattle.point_core.specs.Points.{line};
-ghost use Rattle.value_core.specs.Values.{value_cmp, line_cmp};
+ghost use Rattle.value_core.specs.Values.{value_cmp, line_cmp, fits};
 ghost use Rattle.value_core.specs.Order.{value_total};
 ghost use Rattle.value_core.specs.Plain.{plain, ends};
 
+use crate::kind::Kind;
 use crate::text::Text;
 use interval_core::Interval;
-use point_core::{AnyPoint, AnyType, Memory};
+use point_core::{AnyPoint, AnyType, Memory, PointType};
 use std::alloc::Global;
 use std::cmp::Ordering;
 
@@ -37,6 +38,33 @@ impl Value {
             Value::Span(i) => Ok(Value::Span(i.copy())),
         }
     }
+
+    /// Whether the value is of the kind, with its points in their type.
+    pub(crate) fn fits(&self, kind: Kind) -> bool
+        ensures { result ≡ fits kind (plain self.now) }
+    {
+        match (self, kind) {
+            (Value::Truth(_), Kind::Truth) => true,
+            (Value::Char(text), Kind::Char) => text.as_str().len() <= 255,
+            (Value::Point(p), Kind::Point(t)) => fits_point(t, *p),
+            (Value::Span(i), Kind::Span(t)) => fits_span(t, i),
+            _ => false,
+        }
+    }
+}
+
+/// Whether the point is one of the type.
+fn fits_point(t: AnyType, p: AnyPoint) -> bool
+    ensures { result ≡ fits (Kind.Point t) (plain (Value.Point p)) }
+{
+    t.is_point(p)
+}
+
+/// Whether the interval's ends are points of the type.
+fn fits_span(t: AnyType, i: &Interval<AnyType>) -> bool
+    ensures { result ≡ fits (Kind.Span t) (plain (Value.Span i.now)) }
+{
+    t.is_point(i.begin()) && t.is_point(i.end())
 }
 
 /// The order of the types of two points: integers, dates, and then the ordinal types as they were declared.

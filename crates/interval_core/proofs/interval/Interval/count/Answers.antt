@@ -1,9 +1,6 @@
 -- The length of the list of members, by the ends.
-use Rattle.std.proofs.Common.{◌≡◌, ◌↔◌, ℤ, pos, ◌+ℤ◌, ◌-ℤ◌, ◌<ℤ◌, IsNone, IfSome, arith, ap, sym, subst}
-use Rattle.std.proofs.lemmas.Int.{ints}
-use Rattle.interval_core.specs.Members.{Span, span}
-use Rattle.interval_core.specs.Operators.{count}
-use Rattle.interval_core.proofs.OperatorLemmas.{count-ends, count_none, count_some}
+use Rattle.interval_core.specs.Members.{span}
+use Rattle.interval_core.proofs.OperatorLemmas.{count_none, count_some}
 use Rattle.interval_core.proofs.interval.Interval.count.Goals as goal
 
 pub returns-clause-none : goal.returns-clause-none
