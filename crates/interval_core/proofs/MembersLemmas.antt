@@ -1,9 +1,10 @@
 -- The members of an interval are the numbers from its first to its last.
-use Rattle.std.proofs.Common.{◌≡◌, ◌↔◌, inl, inr, ℕ, zero, suc, ℤ, pos, negsuc, ◌+ℤ◌, ◌-ℤ◌, ◌≤ℤ◌, ◌<ℤ◌, refl, arith}
+use Rattle.std.proofs.Common.{◌≡◌, ◌↔◌, inl, inr, ℕ, zero, suc, ℤ, pos, negsuc, ◌+ℤ◌, ◌-ℤ◌, ◌≤ℤ◌, ◌<ℤ◌, Bool, refl, arith}
 use Rattle.std.specs.Bool.{IsTrue}
 use Rattle.std.specs.Ordering.{int_cmp}
 use Rattle.std.specs.FinMap.{int_cmp-IsAntisymmetric}
 use Rattle.std.proofs.lemmas.Cmp.{int_cmp_total}
+use Rattle.std.proofs.lemmas.Bool.Decides.{same_from_decides}
 use Rattle.std.proofs.lemmas.Int.{ints, by_lt_z}
 use Rattle.base_core.proofs.SetLemmas.{In}
 use Rattle.base_core.proofs.MemberLemmas.{has-In}
@@ -36,3 +37,7 @@ has_member-between i p =
     let w = has_member-In i p in
     let v = In-members i p in
     (λ h. v.0 (w.0 h), λ h. w.1 (v.1 h))
+
+-- a test of the ends is the test of the members
+pub same_as_has_member : (i : Span) (p : ℤ) (r : Bool) → IsTrue r ↔ ((i.0 ≤ℤ p) × (p ≤ℤ i.1)) → r ≡ has_member i p
+same_as_has_member i p r h = same_from_decides r (has_member i p) h (has_member-between i p)

@@ -4,6 +4,7 @@
 
 mod any_type;
 mod date_type;
+mod dates;
 mod fault;
 mod int_type;
 mod label;
@@ -15,6 +16,7 @@ mod steps;
 
 pub use any_type::{AnyPoint, AnyType};
 pub use date_type::{DateType, Day};
+pub use dates::{date_parts, read_date};
 pub use fault::{Code, Fault, Place, Stop};
 pub use int_type::IntType;
 pub use label::Label;
@@ -22,3 +24,6 @@ pub use memory::Memory;
 pub use ordinal_type::OrdinalType;
 pub use point_type::{PointNumber, PointType};
 pub use steps::Steps;
+
+#[cfg(test)]
+mod tests;

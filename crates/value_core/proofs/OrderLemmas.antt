@@ -9,7 +9,7 @@ use Rattle.interval_core.specs.Members.{Span}
 use Rattle.point_core.specs.Points.{Line, integers, days, values_of}
 use Rattle.value_core.specs.Values.{interval, value_cmp, line_cmp, span_cmp}
 
-then_equal : (r : Ordering) → ordering_then r Equal ≡ r
+pub then_equal : (r : Ordering) → ordering_then r Equal ≡ r
 then_equal Less = refl
 then_equal Equal = refl
 then_equal Greater = refl

@@ -62,3 +62,16 @@ impl ListOf<Name> {
         Ok(Names { list })
     }
 }
+
+impl ListOf<Constraint> {
+    /// Equal constraints.
+    pub fn copy(&self, alloc: Global) -> Result<Constraints, Memory>
+        ensures { IfOk result (λ constraints. constraints ≡ self.now) }
+    {
+        let mut list = Vec::with_capacity(alloc, self.list.len())?;
+        for constraint in &self.list {
+            list.push(constraint.copy(alloc)?)?;
+        }
+        Ok(Constraints { list })
+    }
+}

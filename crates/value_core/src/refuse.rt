@@ -61,6 +61,17 @@ impl From<AllocError> for HeadingRefuse {
     }
 }
 
+impl<T: Drop> From<AllocFailed<T>> for HeadingRefuse {
+    ghost use Rattle.std.specs.Prelude.{◌≡◌};
+    ghost use Rattle.value_core.specs.declared.refuse.HeadingRefuse.TheVariants.{Memory};
+
+    ghost from_gives = { λ _ r. r ≡ Memory };
+
+    fn from(_: AllocFailed<T>) -> HeadingRefuse {
+        HeadingRefuse::Memory
+    }
+}
+
 impl From<Memory> for RowsRefuse {
     ghost use Rattle.std.specs.Prelude.{◌≡◌};
     ghost use Rattle.value_core.specs.declared.refuse.RowsRefuse.TheVariants.{Memory};

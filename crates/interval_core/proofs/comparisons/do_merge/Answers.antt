@@ -3,8 +3,8 @@ use Rattle.std.proofs.Common.{arith}
 use Rattle.std.proofs.lemmas.Int.{ints}
 use Rattle.interval_core.proofs.comparisons.do_merge.Goals as goal
 
-pub returns-then-is_by : goal.returns-then-is_by
-returns-then-is_by c = (
-  λ h. let a = c.is_by.ensures.0 c.if-is_by.true in let b = c.is_by-then-is_by.ensures.0 h in (omega (arith, ints), omega (arith, ints)),
-  λ h. let b = h.1 in c.is_by-then-is_by.ensures.1 (omega (arith, ints)),
+pub returns-then-is_at_most_next : goal.returns-then-is_at_most_next
+returns-then-is_at_most_next c = (
+  λ h. let a = c.is_at_most_next.ensures.0 c.if-is_at_most_next.true in let b = c.is_at_most_next-then-is_at_most_next.ensures.0 h in (omega (arith, ints), omega (arith, ints)),
+  λ h. let b = h.1 in c.is_at_most_next-then-is_at_most_next.ensures.1 (omega (arith, ints)),
 )
