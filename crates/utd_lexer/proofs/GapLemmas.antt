@@ -1,10 +1,10 @@
 -- White space and comments at the front of characters.
-use Rattle.std.proofs.Common.{◌≡◌, ◌≢◌, ℕ, suc, ◌+◌, ◌<◌, ◌≤◌, List, [], ◌∷◌, ◌++◌, length, drop, get_or, Bool, true, false, Option, Some, None, refl, sym, ◌∙◌, ap, subst, arith, length-append, length-drop, append_assoc, append-nil}
+use Rattle.std.proofs.Common.{◌≡◌, ◌≢◌, ℕ, ◌+◌, ◌<◌, ◌≤◌, List, [], ◌∷◌, ◌++◌, length, drop, get_or, true, false, Option, Some, None, refl, sym, ◌∙◌, ap, subst, arith, length-append, length-drop, append_assoc, append-nil}
 use Rattle.std.proofs.lemmas.List.{drop_all, get_or_default}
 use Rattle.utd_lexer.specs.Parts.{is_space, Lacks, LacksEnd}
-use Rattle.utd_lexer.specs.Tokens.{Gap, blank, block, line, last, spelling_of_gap, IsGap}
+use Rattle.utd_lexer.specs.Tokens.{Gap, blank, block, line, last, spelling_of_gap}
 use Rattle.utd_lexer.specs.Fronts.{GapFront}
-use Rattle.utd_lexer.proofs.ListLemmas.{same-head, same-tail, nil-cons, nil-append, drop-at, front-length}
+use Rattle.utd_lexer.proofs.ListLemmas.{same-head, same-tail, nil-cons, drop-at, front-length}
 
 no_space : (c : ℕ) → c ≡ 47 → is_space c ≡ true → ⊥
 no_space c e h = let f : is_space 47 ≡ true = ap is_space (sym e) ∙ h in cc

@@ -1,6 +1,5 @@
 -- The first elements of lists.
-use Rattle.std.proofs.Common.{◌≡◌, ℕ, suc, ◌+◌, ◌<◌, ◌≤◌, List, [], ◌∷◌, ◌++◌, length, drop, take, get_or, refl, sym, ◌∙◌, ap, subst, arith, length-append, length-drop, drop-cons, append_assoc}
-use Rattle.std.proofs.lemmas.List.{drop-drop, append_cancel_left}
+use Rattle.std.proofs.Common.{◌≡◌, ℕ, suc, ◌+◌, ◌<◌, ◌≤◌, List, [], ◌∷◌, ◌++◌, length, drop, get_or, sym, ◌∙◌, ap, arith, length-append, length-drop, drop-cons}
 
 head : ℕ → List ℕ → ℕ
 head d [] = d

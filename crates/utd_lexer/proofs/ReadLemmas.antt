@@ -1,16 +1,16 @@
 -- One gap or token further in a text.
-use Rattle.std.proofs.Common.{◌≡◌, ℕ, suc, ◌+◌, ◌<◌, ◌≤◌, List, [], ◌∷◌, ◌++◌, length, drop, take, get_or, Option, Some, None, Result, Ok, Err, IfOk, IfErr, ◌-◌, ◌^◌, inr, refl, sym, ◌∙◌, ap, subst, arith, length-append, length-drop, append_assoc, append-nil, encode_utf8_all}
+use Rattle.std.proofs.Common.{◌≡◌, ℕ, ◌+◌, ◌<◌, ◌≤◌, List, [], ◌∷◌, ◌++◌, length, drop, take, get_or, Some, Result, Ok, Err, IfOk, IfErr, ◌-◌, ◌^◌, inr, sym, ◌∙◌, ap, subst, arith, length-append, length-drop, append_assoc, append-nil, encode_utf8_all}
 use Rattle.std.proofs.lemmas.List.{take_at, drop_at, drop-drop, drop_all, drop_more}
 use Rattle.std.proofs.lemmas.Str.{encodes-append, encodes-chars}
 use Rattle.point_core.specs.declared.fault.Place.{Place}
 use Rattle.utd_lexer.specs.declared.token.Token.{Token}
 use Rattle.utd_lexer.specs.declared.token.TokenKind.{TokenKind}
 use Rattle.utd_lexer.specs.declared.token.TokenKind.TheVariants.{Word, Integer, Text, Symbol}
-use Rattle.utd_lexer.specs.declared.front.Front.TheVariants.{Gap as OfGap, Token as OfToken, Nothing}
+use Rattle.utd_lexer.specs.declared.front.Front.TheVariants.{Token as OfToken}
 use Rattle.value_core.specs.declared.refuse.Refuse.{Refuse}
 use Rattle.value_core.specs.declared.refuse.Refuse.TheVariants.{Plain, At, Broken, Memory}
 use Rattle.std.specs.Str.{IsUtf8, chars}
-use Rattle.utd_lexer.specs.Tokens.{Fits, past, Gap, blank, block, line, last, spelling_of_gap, IsGap, IsToken, spelling, token_at, NoFront, Lexed, done, gap, token, Stuck, here, past_gap, past_token}
+use Rattle.utd_lexer.specs.Tokens.{Fits, past, Gap, blank, block, line, last, spelling_of_gap, IsToken, spelling, token_at, NoFront, Lexed, done, gap, token, Stuck, here, past_gap, past_token}
 use Rattle.utd_lexer.specs.Fronts.{GapFront, FrontIs}
 use Rattle.utd_lexer.specs.declared.front.Front.{Front}
 use Rattle.utd_lexer.specs.Reading.{Stops, Reads, Refuses}

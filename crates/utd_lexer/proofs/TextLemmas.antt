@@ -1,5 +1,5 @@
 -- Texts at the front of characters.
-use Rattle.std.proofs.Common.{◌≡◌, ◌≢◌, ℕ, suc, ◌+◌, ◌<◌, ◌≤◌, List, [], ◌∷◌, ◌++◌, length, drop, get_or, Bool, true, false, cond, eqb, Option, Some, None, refl, sym, ◌∙◌, ap, subst, arith, length-append, length-drop, append_assoc, append-nil, encode_utf8, encode_utf8_all, ◌⊎◌, inl, inr}
+use Rattle.std.proofs.Common.{◌≡◌, ◌≢◌, ℕ, suc, ◌+◌, ◌≤◌, List, [], ◌∷◌, ◌++◌, length, drop, cond, Some, None, refl, sym, ◌∙◌, ap, subst, arith, length-append, length-drop, append_assoc, append-nil, encode_utf8, encode_utf8_all, inl, inr}
 use Rattle.std.proofs.lemmas.List.{drop_all, drop-drop}
 use Rattle.std.proofs.lemmas.Bool.{ne_eqb}
 use Rattle.std.proofs.lemmas.Bool.Decides.{eqb_tells}
@@ -7,8 +7,8 @@ use Rattle.std.proofs.lemmas.Str.{encodes-append}
 use Rattle.utd_lexer.specs.declared.token.TokenKind.TheVariants.{Text}
 use Rattle.utd_lexer.specs.declared.front.Front.TheVariants.{Token as OfToken}
 use Rattle.utd_lexer.specs.Tokens.{doubled, EndsAt}
-use Rattle.utd_lexer.specs.Fronts.{TextFront, TokenFront}
-use Rattle.utd_lexer.proofs.ListLemmas.{same-head, same-tail, nil-cons, nil-append, front-length}
+use Rattle.utd_lexer.specs.Fronts.{TextFront}
+use Rattle.utd_lexer.proofs.ListLemmas.{same-head, same-tail, nil-append, front-length}
 
 -- no text ends in these characters
 abbrev pub NoText : List ℕ → Type 0

@@ -3,7 +3,6 @@ use Rattle.std.specs.Prelude.{◌≡◌, ◌⊎◌, ℕ, List, take}
 use Rattle.std.specs.Str.{IsUtf8, chars}
 use Rattle.std.specs.Str.Lossy.{utf8_valid_len}
 use Rattle.point_core.specs.declared.fault.Place.{Place}
-use Rattle.point_core.specs.declared.fault.Fault.{Fault}
 use Rattle.point_core.specs.declared.fault.Code.TheVariants.{E01, E02}
 use Rattle.point_core.specs.Faults.{fault}
 use Rattle.value_core.specs.declared.refuse.Refuse.{Refuse}

@@ -58,56 +58,34 @@ impl Mode {
         ensures { result ≡ next self byte }
     {
         match self {
-            Mode::Between => {
-                if byte == b'\'' {
-                    Mode::Text
-                } else if byte == b'/' {
-                    Mode::Slash
-                } else {
-                    Mode::Between
-                }
-            }
-            Mode::Slash => {
-                if byte == b'*' {
-                    Mode::Block
-                } else if byte == b'/' {
-                    Mode::Line
-                } else if byte == b'\'' {
-                    Mode::Text
-                } else {
-                    Mode::Between
-                }
-            }
-            Mode::Text => {
-                if byte == b'\'' {
-                    Mode::Between
-                } else {
-                    Mode::Text
-                }
-            }
-            Mode::Block => {
-                if byte == b'*' {
-                    Mode::Star
-                } else {
-                    Mode::Block
-                }
-            }
-            Mode::Star => {
-                if byte == b'/' {
-                    Mode::Between
-                } else if byte == b'*' {
-                    Mode::Star
-                } else {
-                    Mode::Block
-                }
-            }
-            Mode::Line => {
-                if byte == b'\n' {
-                    Mode::Between
-                } else {
-                    Mode::Line
-                }
-            }
+            Mode::Between => match byte {
+                b'\'' => Mode::Text,
+                b'/' => Mode::Slash,
+                _ => Mode::Between,
+            },
+            Mode::Slash => match byte {
+                b'*' => Mode::Block,
+                b'/' => Mode::Line,
+                b'\'' => Mode::Text,
+                _ => Mode::Between,
+            },
+            Mode::Text => match byte {
+                b'\'' => Mode::Between,
+                _ => Mode::Text,
+            },
+            Mode::Block => match byte {
+                b'*' => Mode::Star,
+                _ => Mode::Block,
+            },
+            Mode::Star => match byte {
+                b'/' => Mode::Between,
+                b'*' => Mode::Star,
+                _ => Mode::Block,
+            },
+            Mode::Line => match byte {
+                b'\n' => Mode::Between,
+                _ => Mode::Line,
+            },
         }
     }
 }

@@ -9,3 +9,6 @@ mod token;
 pub use cutter::{Cut, Cutter};
 pub use reading::tokens;
 pub use token::{Token, TokenBytes, TokenKind, TokenList};
+
+#[cfg(test)]
+mod tests;

@@ -1,5 +1,5 @@
-use Rattle.std.proofs.Common.{◌≡◌, sym, ◌∙◌, drop}
-use Rattle.utd_lexer.proofs.TextLemmas.{plain-step, quote-step, text-found, text-none}
+use Rattle.std.proofs.Common.{sym, ◌∙◌}
+use Rattle.utd_lexer.proofs.TextLemmas.{plain-step, quote-step}
 use Rattle.utd_lexer.proofs.front.text_behind.Goals as goal
 
 pub body-preserved-in-Quote : goal.body-preserved-in-Quote

@@ -1,4 +1,4 @@
-use Rattle.std.proofs.Common.{◌≡◌, ◌+◌, ap, sym, ◌∙◌, subst, length, take, drop, refl, encode_utf8_all}
+use Rattle.std.proofs.Common.{◌+◌, ap, sym, ◌∙◌, subst, length, take, refl, encode_utf8_all}
 use Rattle.utd_lexer.specs.Tokens.{Fits, past}
 use Rattle.utd_lexer.proofs.ReadLemmas.{SoFar, front-here, gap-fits, gap-step, token-fits, token-step, stuck-here, all-read}
 use Rattle.utd_lexer.proofs.reading.read_all.Goals as goal

@@ -1,6 +1,6 @@
-use Rattle.std.proofs.Common.{◌≡◌, ap, ◌∙◌}
+use Rattle.std.proofs.Common.{ap, ◌∙◌}
 use Rattle.std.specs.Str.{chars}
-use Rattle.utd_lexer.proofs.ReadLemmas.{text-fits, read-text, refused-text}
+use Rattle.utd_lexer.proofs.ReadLemmas.{text-fits}
 use Rattle.utd_lexer.proofs.reading.tokens.Goals as goal
 
 pub read_all-requires : goal.read_all-requires
