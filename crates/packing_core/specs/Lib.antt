@@ -1,0 +1,4 @@
+pub mod Packed
+pub mod Covering
+pub mod Pieces
+pub mod Live
