@@ -1,11 +1,10 @@
 -- From the numbering of all sides to the packed form of the cells of a function over points.
-use Rattle.std.proofs.Common.{◌≡◌, ℕ, zero, suc, ◌+◌, ◌-◌, ◌<◌, ◌≤◌, ℤ, pos, ◌+ℤ◌, ◌-ℤ◌, List, [], ◌∷◌, ◌++◌, map, length, get_or, ◌↔◌, ◌⊎◌, inl, inr, arith, sym, ap, subst, refl, ◌∙◌, Ordering, Option, Some, None}
+use Rattle.std.proofs.Common.{◌≡◌, ℕ, zero, suc, ◌+◌, ◌<◌, ◌≤◌, ℤ, pos, ◌+ℤ◌, List, [], ◌∷◌, ◌++◌, map, length, get_or, ◌↔◌, ◌⊎◌, inl, inr, arith, sym, ap, subst, refl, ◌∙◌, Ordering, Option, Some, None}
 use Rattle.std.specs.List.{All, AllByRecursion}
 use Rattle.std.specs.List.Sorted.{IsStrictlySortedBy}
-use Rattle.std.proofs.lemmas.List.{length-map, length-append, get_or_default}
+use Rattle.std.proofs.lemmas.List.{length-map, length-append}
 use Rattle.std.proofs.lemmas.List.Elements.{recursion_from_All}
 use Rattle.std.proofs.lemmas.Int.{ints}
-use Rattle.interval_core.specs.Members.{Span}
 use Rattle.packing_core.specs.Packed.{no_cells, nowhere}
 use Rattle.packing_core.specs.Covering.{Among, CellFunction}
 use Rattle.packing_core.specs.Live.{box, IsSliceRow, IsSomewhere}
@@ -16,7 +15,7 @@ use Rattle.point_core.specs.declared.fault.Fault.{Fault}
 use Rattle.slice_core.specs.LeastFault.{IsLeast}
 use Rattle.slice_core.specs.Rows.{GivesLabel, GivesFault, key_cmp}
 use Rattle.cell_core.specs.Numbering.{cut_at, Rises, span_at, numbers_of, IsSide}
-use Rattle.cell_core.specs.Cells.{box_numbers, boxes_of, IsPackedRow, IsPackedForm, HasFault, row_cmp, rows_from, cells_at, side_of, grids_of, grid_box, grid_row}
+use Rattle.cell_core.specs.Cells.{box_numbers, boxes_of, IsPackedForm, HasFault, rows_from, cells_at, side_of, grids_of, grid_box, grid_row}
 use Rattle.cell_core.proofs.Numbers.{rises_next}
 use Rattle.cell_core.proofs.Theorem.{row_of, rows_in_order, members, faults}
 

@@ -1,13 +1,12 @@
 -- The way back from cells to intervals.
-use Rattle.std.proofs.Common.{◌≡◌, ℕ, zero, suc, ◌+◌, ◌-◌, ◌<◌, ◌≤◌, Bool, true, false, cond, ◌&&◌, ◌≢◌, ℤ, pos, ◌+ℤ◌, ◌-ℤ◌, ◌≤ℤ◌, ◌<ℤ◌, List, [], ◌∷◌, ◌++◌, map, length, get_or, ◌⊎◌, inl, inr, arith, sym, ap, subst, refl, ◌∙◌, leb, ltb}
+use Rattle.std.proofs.Common.{◌≡◌, ℕ, zero, suc, ◌-◌, ◌<◌, ◌≤◌, Bool, true, cond, ◌&&◌, ◌≢◌, ℤ, pos, ◌+ℤ◌, ◌-ℤ◌, ◌≤ℤ◌, ◌<ℤ◌, List, [], ◌∷◌, ◌++◌, map, length, get_or, inl, inr, arith, sym, ap, subst, refl, ◌∙◌, leb, ltb}
 use Rattle.std.proofs.lemmas.Int.{ints}
-use Rattle.std.specs.List.{All, AllByRecursion, filter}
+use Rattle.std.specs.List.{AllByRecursion, filter}
 use Rattle.std.proofs.lemmas.Bool.{cases_lt, cases_Bool, and_parts}
 use Rattle.std.proofs.lemmas.Bool.Decides.{nat_tests}
-use Rattle.std.proofs.lemmas.List.{get_or_default}
 use Rattle.packing_core.specs.Packed.{no_cells, IsIndexPackedTo}
 use Rattle.packing_core.specs.Live.{span_has, box, has_place, InLive}
-use Rattle.cell_core.specs.Numbering.{cut_at, Rises, span_at, numbers_of, IsGrid}
+use Rattle.cell_core.specs.Numbering.{cut_at, Rises, span_at, IsGrid}
 use Rattle.cell_core.proofs.Numbers.{rises_next, read_cut}
 
 rises_far : (ns : List ℤ) (top : ℤ) → Rises ns top → (a z : ℕ) → a < z → cut_at ns top a <ℤ cut_at ns top z

@@ -1,18 +1,18 @@
 -- The numbering of cuts.
-use Rattle.std.proofs.Common.{◌≡◌, ℕ, zero, suc, ◌+◌, ◌-◌, ◌*◌, ◌<◌, ◌≤◌, Bool, true, false, ℤ, pos, ◌+ℤ◌, ◌-ℤ◌, ◌≤ℤ◌, ◌<ℤ◌, List, [], ◌∷◌, ◌++◌, map, length, get_or, set, take, ◌↔◌, ◌⊎◌, inl, inr, arith, sym, ap, subst, refl, ◌∙◌, ◌≢◌, Option, Some, None}
+use Rattle.std.proofs.Common.{◌≡◌, ℕ, zero, suc, ◌+◌, ◌*◌, ◌<◌, ◌≤◌, Bool, true, false, ℤ, pos, ◌+ℤ◌, ◌≤ℤ◌, ◌<ℤ◌, List, [], ◌∷◌, ◌++◌, map, length, get_or, set, take, ◌↔◌, ◌⊎◌, inl, inr, arith, sym, ap, subst, refl, ◌∙◌, Option, Some, None}
 use Rattle.std.proofs.lemmas.Int.{ints, by_lt_z}
 use Rattle.std.proofs.lemmas.Bool.{cases_lt, cases_eq}
-use Rattle.std.proofs.lemmas.List.{map-append, take_more, get_or-set_same, get_or-set_other, get_or_default, length-map, length_push, length-set}
-use Rattle.std.proofs.lemmas.List.Elements.{All-same, All-push, All-from_recursion, recursion_from_All, All-get_or}
+use Rattle.std.proofs.lemmas.List.{take_more, get_or-set_same, get_or-set_other, get_or_default, length-map, length_push}
+use Rattle.std.proofs.lemmas.List.Elements.{All-same, All-push, recursion_from_All}
 use Rattle.std.specs.List.{All, AllByRecursion}
 use Rattle.std.specs.Option.{IsSome, IsNone}
 use Rattle.std.specs.Ordering.{int_cmp, is_eq}
 use Rattle.std.specs.FinMap.{int_cmp-IsAntisymmetric}
 use Rattle.std.proofs.lemmas.Cmp.{int_cmp_total, tied_itself}
 use Rattle.std.specs.declared.cmp.Ordering.TheVariants.{Less, Equal, Greater}
-use Rattle.point_core.specs.Pairs.{NotAfter, InOrder}
+use Rattle.point_core.specs.Pairs.{InOrder}
 use Rattle.packing_core.specs.Covering.{Among}
-use Rattle.cell_core.specs.Numbering.{cut_at, Rises, span_at, numbers_of, ends, IsLastOf, HasTag, IsPlaced, IsPut, IsAdded, IsAtTag, of_cell, of_point}
+use Rattle.cell_core.specs.Numbering.{cut_at, Rises, ends, IsLastOf, HasTag, IsPlaced, IsPut, IsAdded, IsAtTag, of_cell, of_point}
 
 pub cut_get : (ns : List ℤ) (top : ℤ) (i : ℕ) (d : ℤ) → i < length ns → cut_at ns top i ≡ get_or ns i d
 cut_get [] top i d h = absurd (omega arith)

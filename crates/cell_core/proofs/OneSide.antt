@@ -1,5 +1,5 @@
 -- The numbering of a side, from its steps.
-use Rattle.std.proofs.Common.{◌≡◌, ℕ, zero, suc, ◌+◌, ◌-◌, ◌*◌, ◌<◌, ◌≤◌, ℤ, pos, ◌+ℤ◌, ◌-ℤ◌, ◌≤ℤ◌, ◌<ℤ◌, List, [], ◌∷◌, ◌++◌, map, length, get_or, ◌↔◌, ◌⊎◌, inl, inr, arith, sym, ap, subst, refl, ◌∙◌}
+use Rattle.std.proofs.Common.{◌≡◌, ℕ, ◌+◌, ◌*◌, ◌<◌, ◌≤◌, ℤ, pos, ◌+ℤ◌, ◌-ℤ◌, List, [], ◌∷◌, map, length, get_or, ◌⊎◌, inl, inr, arith, sym, ap, subst, refl, ◌∙◌}
 use Rattle.std.proofs.lemmas.Int.{ints}
 use Rattle.std.specs.List.{All, AllByRecursion, Contains}
 use Rattle.std.specs.List.Sorted.{IsPermutation}
@@ -9,7 +9,7 @@ use Rattle.std.proofs.lemmas.List.Sorted.{Contains-permutation, IsPermutation-sy
 use Rattle.packing_core.specs.Packed.{no_cells}
 use Rattle.packing_core.specs.Covering.{Among}
 use Rattle.packing_core.proofs.Order.{among_contains, contains_among}
-use Rattle.cell_core.specs.Numbering.{cut_at, Rises, span_at, numbers_of, ends, HasTag, IsPlaced, IsAtTag, of_cell, of_point, IsSide}
+use Rattle.cell_core.specs.Numbering.{cut_at, span_at, numbers_of, ends, HasTag, IsPlaced, IsAtTag, of_cell, of_point}
 use Rattle.cell_core.proofs.Numbers.{cut_end, length_ends, ends_even, ends_odd}
 
 pub all_among : {X : Type 0} (P : X → Type 0) (xs : List X) → ((x : X) → Among x xs → P x) → All P xs

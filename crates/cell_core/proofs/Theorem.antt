@@ -1,5 +1,5 @@
 -- From the slices over live rows to the cells of the function over points.
-use Rattle.std.proofs.Common.{◌≡◌, ℕ, zero, suc, ◌+◌, ◌-◌, ◌*◌, ◌<◌, ◌≤◌, Bool, true, false, cond, ◌&&◌, ◌≢◌, ℤ, pos, ◌+ℤ◌, ◌-ℤ◌, ◌≤ℤ◌, ◌<ℤ◌, List, [], ◌∷◌, ◌++◌, map, length, get_or, ◌↔◌, ◌⊎◌, inl, inr, arith, sym, ap, subst, refl, ◌∙◌, Result, Ok, Err}
+use Rattle.std.proofs.Common.{◌≡◌, ℕ, zero, suc, ◌+◌, ◌-◌, ◌<◌, ◌≤◌, Bool, true, false, cond, ◌≢◌, ℤ, pos, ◌-ℤ◌, ◌≤ℤ◌, ◌<ℤ◌, List, [], ◌∷◌, ◌++◌, map, length, get_or, ◌↔◌, ◌⊎◌, inl, inr, arith, sym, ap, subst, refl, ◌∙◌, Err}
 use Rattle.std.specs.List.{filter, AllByRecursion}
 use Rattle.std.specs.List.Sorted.{IsStrictlySortedBy}
 use Rattle.std.specs.declared.cmp.Ordering.TheVariants.{Less, Equal, Greater}
@@ -11,18 +11,18 @@ use Rattle.std.proofs.lemmas.Bool.{cases_lt}
 use Rattle.std.proofs.lemmas.Bool.Decides.{nat_tests}
 use Rattle.std.proofs.lemmas.Int.{ints}
 use Rattle.interval_core.specs.Members.{Span, at_point}
-use Rattle.packing_core.specs.Packed.{packs, points_of, ArePoints, firsts, nowhere, no_cells, onto}
+use Rattle.packing_core.specs.Packed.{packs, points_of, firsts, nowhere, onto}
 use Rattle.std.proofs.Common.{set}
 use Rattle.packing_core.specs.Covering.{Among, Gives, has, passing, covering, InCells, CellFunction}
-use Rattle.packing_core.specs.Live.{box, has_place, InLive, IsSliceRow, IsSomewhere}
+use Rattle.packing_core.specs.Live.{box, InLive, IsSliceRow, IsSomewhere}
 use Rattle.packing_core.proofs.Runs.{IsRun-iff}
 use Rattle.packing_core.proofs.AmongLemmas.{among_map}
 use Rattle.packing_core.proofs.Covered.{IsInGrid}
 use Rattle.packing_core.proofs.Whole.{onto_cells, cells_back, cuts_back, length_back, length_box}
-use Rattle.packing_core.proofs.Cells.{Cuts, OnCells, OnGrid, place_of, box_of, span_of, cell_of, rises_far, order_of_cells}
+use Rattle.packing_core.proofs.Cells.{Cuts, OnGrid, place_of, box_of, span_of, cell_of, rises_far}
 use Rattle.packing_core.proofs.Chain.{Fits, InPlaces, on, same, slices_are_packed, packed_some}
 use Rattle.slice_core.specs.Rows.{own_numbers, GivesLabel, GivesFault, key_cmp, pair_cmp}
-use Rattle.cell_core.specs.Cells.{IsPackedRow, HasFault, rows_from, IsPackedForm, row_cmp, span_cmp}
+use Rattle.cell_core.specs.Cells.{IsPackedRow, HasFault, rows_from, row_cmp, span_cmp}
 
 -- ---- numbers of rows
 

@@ -1,11 +1,9 @@
 -- What the combination of boxes is: the cells of a function, packed on one side after the other.
-use Rattle.std.specs.Prelude.{◌≡◌, ℕ, zero, suc, ◌+◌, ◌<◌, ◌≤◌, ◌≢◌, ◌⊎◌, ℤ, pos, ◌≤ℤ◌, ◌+ℤ◌, List, [], ◌∷◌, map, length, get_or, Result, Ok, Err, Option, Some, None}
+use Rattle.std.specs.Prelude.{◌≡◌, ℕ, zero, suc, ◌<◌, ◌≤◌, ◌≢◌, ◌⊎◌, ℤ, pos, ◌+ℤ◌, List, [], ◌∷◌, map, length, get_or, Err}
 use Rattle.std.specs.declared.cmp.Ordering.{Ordering}
 use Rattle.std.specs.Ordering.{int_cmp, ordering_then}
 use Rattle.std.specs.Cmp.Lexicographic.{slice_cmp}
 use Rattle.std.specs.List.Sorted.{IsStrictlySortedBy}
-use Rattle.point_core.specs.declared.fault.Fault.{Fault}
-use Rattle.slice_core.specs.LeastFault.{IsLeast}
 use Rattle.interval_core.specs.Members.{Span}
 use Rattle.packing_core.specs.Packed.{packs, points_of}
 use Rattle.packing_core.specs.Covering.{Among, covering, InCells, CellFunction}

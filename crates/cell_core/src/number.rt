@@ -4,6 +4,7 @@ ghost use Rattle.std.specs.List.{All};
 ghost use Rattle.point_core.specs.Pairs.{InOrder};
 ghost use Rattle.packing_core.specs.Covering.{Among};
 ghost use Rattle.cell_core.specs.Numbering.{cut_at, Rises, span_at, numbers_of, ends, IsLastOf, HasTag, IsPlaced, IsPut, IsAdded, IsAtTag, of_cell, of_point, IsSide};
+ghost use Rattle.cell_core.specs.Costs.{side_cost};
 
 use point_core::{Memory, PointType, Steps};
 use std::alloc::Global;
@@ -221,7 +222,8 @@ pub fn numbering<T: PointType, L: Ledger>(
     requires few { length spans.now < 2 ^ 61 }
     requires begins { All (λ x. T.IsPoint t.now x.0) spans.now }
     requires ends { All (λ x. T.IsPoint t.now x.1) spans.now }
-    ensures { IfOk result (λ s. IsSide T.number_of (T.IsPoint t.now) (T.last_number t.now) spans.now s) }
+    ensures side { IfOk result (λ s. IsSide T.number_of (T.IsPoint t.now) (T.last_number t.now) spans.now s) }
+    ensures cost { steps.new ≤ steps.old + side_cost (length spans.now) }
 {
     let mut list = ends_list(alloc, t, spans, steps)?;
     t.sort(alloc, &mut list, steps)?;

@@ -1,11 +1,10 @@
 -- Points between two neighbouring cuts are alike, so runs of points are runs of cells, and packed boxes of points are packed boxes of cells.
-use Rattle.std.proofs.Common.{◌≡◌, ℕ, zero, suc, ◌+◌, ◌<◌, ◌≤◌, ℤ, pos, ◌+ℤ◌, ◌-ℤ◌, ◌≤ℤ◌, ◌<ℤ◌, List, [], ◌∷◌, length, ◌↔◌, ◌⊎◌, inl, inr, arith, sym, ap, subst, refl, ◌∙◌}
+use Rattle.std.proofs.Common.{◌≡◌, ℕ, zero, suc, ◌<◌, ◌≤◌, ℤ, pos, ◌+ℤ◌, ◌-ℤ◌, ◌≤ℤ◌, ◌<ℤ◌, List, [], ◌∷◌, length, ◌↔◌, inl, inr, arith, sym, ap, subst, refl}
 use Rattle.std.proofs.lemmas.Int.{ints, by_lt_z}
 use Rattle.std.proofs.lemmas.Bool.{cases_lt}
-use Rattle.std.specs.List.{AllByRecursion}
 use Rattle.interval_core.specs.Members.{Span}
-use Rattle.packing_core.specs.Packed.{IsRun, IsPacked, Has, IsIndexRun, IsIndexPacked}
-use Rattle.packing_core.proofs.Runs.{IsRun-iff, IsPacked-iff}
+use Rattle.packing_core.specs.Packed.{IsRun, IsPacked, IsIndexRun, IsIndexPacked}
+use Rattle.packing_core.proofs.Runs.{IsPacked-iff}
 use Rattle.packing_core.proofs.Joined.{IsIndexRun-iff}
 
 -- the cell i goes from `at i` up to before `at (i + 1)`; from `count` on no row covers a cell

@@ -1,12 +1,12 @@
 -- What the recursion over slices gives is the packed form, one side after the other, of the cells of the function.
-use Rattle.std.proofs.Common.{◌≡◌, ℕ, zero, suc, ◌+◌, ◌<◌, ◌≤◌, Bool, true, false, cond, ◌&&◌, ◌≢◌, ℤ, pos, ◌-ℤ◌, List, [], ◌∷◌, ◌++◌, length, get_or, take, map, ◌↔◌, ◌⊎◌, inl, inr, arith, sym, ap, subst, refl, ◌∙◌, leb, ltb}
+use Rattle.std.proofs.Common.{◌≡◌, ℕ, zero, suc, ◌+◌, ◌<◌, ◌≤◌, Bool, true, false, cond, ◌&&◌, ◌≢◌, ℤ, List, [], ◌∷◌, ◌++◌, length, get_or, take, map, ◌↔◌, ◌⊎◌, inl, inr, arith, sym, ap, subst, refl, ◌∙◌, leb, ltb}
 use Rattle.std.specs.Int.RustNames.{int_le}
 use Rattle.std.specs.List.{filter, AllByRecursion}
 use Rattle.interval_core.specs.Members.{Span}
-use Rattle.packing_core.specs.Packed.{packs, points_of, nowhere, no_cells, onto, sides_back, IsIndexPackedTo}
-use Rattle.packing_core.specs.Covering.{Among, has, passing, has_cell}
+use Rattle.packing_core.specs.Packed.{packs, points_of, nowhere, no_cells, onto, sides_back}
+use Rattle.packing_core.specs.Covering.{has, passing, has_cell}
 use Rattle.packing_core.specs.Live.{span_has, box, has_place, InLive, IsSliceRow}
-use Rattle.packing_core.proofs.Cells.{Cuts, OnGrid, place_of, box_of, span_of}
+use Rattle.packing_core.proofs.Cells.{Cuts, OnGrid, place_of, box_of}
 use Rattle.packing_core.proofs.Covered.{on_grid, at_place, IsInGrid}
 use Rattle.packing_core.proofs.Slices.{has_cells}
 use Rattle.packing_core.proofs.Inward.{has_last, filter_where}

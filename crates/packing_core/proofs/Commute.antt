@@ -1,9 +1,9 @@
 -- To pack one side after the other is to pack slices of the last side.
-use Rattle.std.proofs.Common.{◌≡◌, ℕ, zero, suc, ◌+◌, ◌<◌, ◌≤◌, ◌≢◌, ℤ, pos, ◌≤ℤ◌, List, [], ◌∷◌, length, get_or, set, drop, ◌↔◌, arith, sym, ap, subst, refl, ◌∙◌, get_or-set_other, get_or-set_same}
+use Rattle.std.proofs.Common.{◌≡◌, ℕ, zero, suc, ◌<◌, ◌≤◌, ◌≢◌, ℤ, List, [], ◌∷◌, length, get_or, set, drop, ◌↔◌, arith, sym, subst, refl, get_or-set_other}
 use Rattle.std.proofs.Math.ListN.{length-set}
 use Rattle.std.proofs.lemmas.Int.{ints}
 use Rattle.interval_core.specs.Members.{Span, at_point}
-use Rattle.packing_core.specs.Packed.{IsRun, IsPacked, IsPackedTo, pack1, packs, points_of, ArePoints, firsts, nowhere, onto, sides_back}
+use Rattle.packing_core.specs.Packed.{IsRun, IsPacked, IsPackedTo, packs, points_of, ArePoints, firsts, nowhere, onto, sides_back}
 use Rattle.packing_core.proofs.Runs.{IsRun-iff}
 
 -- only the sides before j count

@@ -1,14 +1,12 @@
 -- Points between two neighbouring cuts have the same covering rows, so the cells of a function are on the grid of the cuts.
-use Rattle.std.proofs.Common.{◌≡◌, ℕ, zero, suc, ◌+◌, ◌<◌, ◌≤◌, Bool, true, false, cond, ◌&&◌, ◌≢◌, ℤ, pos, ◌+ℤ◌, ◌-ℤ◌, ◌≤ℤ◌, ◌<ℤ◌, List, [], ◌∷◌, length, map, ◌↔◌, ◌⊎◌, inl, inr, arith, sym, ap, subst, refl, ◌∙◌, leb, ltb}
+use Rattle.std.proofs.Common.{◌≡◌, ℕ, suc, ◌<◌, ◌≤◌, Bool, true, false, cond, ◌&&◌, ◌≢◌, ℤ, pos, ◌-ℤ◌, ◌≤ℤ◌, ◌<ℤ◌, List, [], ◌∷◌, ◌⊎◌, inl, inr, arith, sym, subst, refl, ◌∙◌, leb, ltb}
 use Rattle.std.specs.Int.RustNames.{int_le}
 use Rattle.std.specs.List.{AllByRecursion}
-use Rattle.std.proofs.lemmas.Int.{ints, by_lt_z}
-use Rattle.std.proofs.lemmas.Bool.{cases_lt, and_parts, cases_Bool}
+use Rattle.std.proofs.lemmas.Int.{ints}
+use Rattle.std.proofs.lemmas.Bool.{and_parts, cases_Bool}
 use Rattle.std.proofs.lemmas.Bool.Decides.{nat_tests}
-use Rattle.interval_core.specs.Members.{Span}
-use Rattle.packing_core.specs.Packed.{IsRun, IsPacked, IsIndexPacked}
-use Rattle.packing_core.specs.Covering.{has, passing, covering, CellFunction, InCells, has_cell, InIndexCells, Gives}
-use Rattle.packing_core.proofs.Cells.{Cuts, OnCells, OnGrid, place_of, box_of, span_of, rises_far, order_of_cells, same_cell, cells_iff, cells_some}
+use Rattle.packing_core.specs.Covering.{has, passing}
+use Rattle.packing_core.proofs.Cells.{Cuts, OnGrid, box_of, rises_far, order_of_cells}
 
 -- each side is of cells below the count
 abbrev pub IsInGrid : List Cuts → List (ℕ × ℕ) → Type 0

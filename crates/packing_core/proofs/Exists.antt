@@ -1,9 +1,9 @@
 -- Each place of a bounded set that can be tested lies in a packed box, so to unpack the packed form gives the set back.
-use Rattle.std.proofs.Common.{◌≡◌, ℕ, zero, suc, ◌+◌, ◌<◌, ◌≤◌, ℤ, pos, negsuc, ◌+ℤ◌, ◌-ℤ◌, ◌≤ℤ◌, ◌<ℤ◌, List, [], ◌∷◌, length, ◌↔◌, ◌⊎◌, inl, inr, arith, sym, ap, subst, refl, ◌∙◌}
+use Rattle.std.proofs.Common.{◌≡◌, ℕ, zero, suc, ℤ, pos, negsuc, ◌+ℤ◌, ◌-ℤ◌, ◌≤ℤ◌, List, [], ◌∷◌, ◌↔◌, arith, subst, refl}
 use Rattle.std.proofs.lemmas.Int.{ints, by_lt_z}
 use Rattle.interval_core.specs.Members.{Span}
 use Rattle.packing_core.specs.Packed.{IsRun, IsPacked, Has}
-use Rattle.packing_core.proofs.Runs.{IsPacked-iff, IsPacked-points, IsPacked-one}
+use Rattle.packing_core.proofs.Runs.{IsPacked-points}
 
 -- how far b is above a
 gap : (a b : ℤ) → a ≤ℤ b → (n : ℕ) × (b ≡ a +ℤ pos n)

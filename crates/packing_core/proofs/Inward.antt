@@ -1,15 +1,11 @@
 -- A slice of the live rows is what the live rows give at its cell.
-use Rattle.std.proofs.Common.{◌≡◌, ℕ, zero, suc, ◌+◌, ◌<◌, ◌≤◌, Bool, true, false, cond, ◌&&◌, ◌≢◌, List, [], ◌∷◌, ◌++◌, length, get_or, ◌↔◌, ◌⊎◌, inl, inr, arith, sym, ap, subst, refl, ◌∙◌, leb, ltb, Ordering}
+use Rattle.std.proofs.Common.{◌≡◌, ℕ, zero, suc, ◌+◌, ◌<◌, Bool, true, false, cond, ◌&&◌, ◌≢◌, List, [], ◌∷◌, ◌++◌, length, get_or, ◌↔◌, ◌⊎◌, inl, inr, arith, sym, ap, subst, refl, ◌∙◌, Ordering}
 use Rattle.std.specs.Cmp.{IsTotalOrder}
 use Rattle.std.specs.List.{filter, AllByRecursion}
-use Rattle.std.proofs.lemmas.Bool.{cases_Bool, and_parts, cases_lt}
-use Rattle.std.proofs.lemmas.Bool.Decides.{nat_tests}
-use Rattle.packing_core.specs.Covering.{Among}
 use Rattle.packing_core.specs.Packed.{IsIndexRun, IsIndexPackedTo, no_cells}
 use Rattle.packing_core.specs.Pieces.{Covers, AreApart, HasPiece}
 use Rattle.packing_core.specs.declared.Piece.{Piece}
 use Rattle.packing_core.specs.Live.{span_has, box, side_has, has_place, InLive, IsSliceRow}
-use Rattle.packing_core.proofs.Joined.{IsIndexRun-iff}
 use Rattle.packing_core.proofs.Slices.{slices_join}
 
 -- ---- places

@@ -1,10 +1,10 @@
 -- Pieces in order and apart are the longest runs of what they cover.
-use Rattle.std.proofs.Common.{◌≡◌, ℕ, zero, suc, ◌+◌, ◌-◌, ◌<◌, ◌≤◌, List, [], ◌∷◌, ◌++◌, length, take, set, get_or, ◌↔◌, ◌⊎◌, inl, inr, arith, sym, ap, subst, refl, ◌∙◌, Ordering, max}
-use Rattle.std.specs.declared.cmp.Ordering.TheVariants.{Less, Equal, Greater}
+use Rattle.std.proofs.Common.{◌≡◌, ℕ, zero, suc, ◌<◌, ◌≤◌, List, [], ◌∷◌, ◌++◌, length, take, set, get_or, ◌↔◌, ◌⊎◌, inl, inr, arith, sym, ap, subst, refl, ◌∙◌, Ordering, max}
+use Rattle.std.specs.declared.cmp.Ordering.TheVariants.{Less, Equal}
 use Rattle.std.specs.Cmp.{IsTotalOrder}
 use Rattle.std.specs.List.{AllByRecursion}
 use Rattle.std.proofs.lemmas.Bool.{cases_lt}
-use Rattle.std.proofs.lemmas.Cmp.{tied_itself, tied_back, alike_right}
+use Rattle.std.proofs.lemmas.Cmp.{tied_back, alike_right}
 use Rattle.packing_core.specs.Packed.{IsIndexRun}
 use Rattle.packing_core.specs.declared.Piece.{Piece}
 use Rattle.packing_core.specs.Pieces.{CoversOne, Covers, HasPiece, Apart, AreApart, NotAfter, AllNotAfter, Meets}

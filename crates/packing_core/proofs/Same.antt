@@ -1,6 +1,6 @@
 -- Strictly sorted lists with the same members are one.
 use Rattle.std.proofs.Common.{◌≡◌, List, [], ◌∷◌, ◌↔◌, ◌⊎◌, inl, inr, sym, subst, refl, ◌∙◌, Ordering}
-use Rattle.std.specs.declared.cmp.Ordering.TheVariants.{Less, Equal, Greater}
+use Rattle.std.specs.declared.cmp.Ordering.TheVariants.{Less}
 use Rattle.std.specs.Cmp.{IsTotalOrder}
 use Rattle.std.specs.List.{AllByRecursion}
 use Rattle.std.specs.List.Sorted.{IsStrictlySortedBy}

@@ -1,17 +1,16 @@
 -- To join the slices of a side gives the packed form on it.
-use Rattle.std.proofs.Common.{◌≡◌, ℕ, zero, suc, ◌+◌, ◌<◌, ◌≤◌, Bool, true, false, cond, ◌&&◌, ◌≢◌, ℤ, pos, ◌+ℤ◌, ◌-ℤ◌, ◌≤ℤ◌, ◌<ℤ◌, List, [], ◌∷◌, ◌++◌, length, get_or, map, ◌↔◌, ◌⊎◌, inl, inr, arith, sym, ap, subst, refl, ◌∙◌, leb, ltb, Ordering, length-append}
+use Rattle.std.proofs.Common.{◌≡◌, ℕ, zero, suc, ◌<◌, ◌≤◌, Bool, true, cond, ◌&&◌, ◌≢◌, ℤ, ◌≤ℤ◌, List, [], ◌∷◌, ◌++◌, length, get_or, ◌↔◌, ◌⊎◌, arith, sym, ap, subst, refl, ◌∙◌, Ordering}
 use Rattle.std.proofs.lemmas.Int.{ints}
 use Rattle.std.specs.Cmp.{IsTotalOrder}
 use Rattle.std.specs.List.{AllByRecursion}
 use Rattle.interval_core.specs.Members.{Span}
-use Rattle.packing_core.specs.Packed.{IsRun, IsPacked, IsIndexRun, IsIndexPacked, IsIndexPackedTo, no_cells}
-use Rattle.packing_core.specs.Covering.{has, passing, covering, CellFunction, has_cell, InIndexCells, Gives}
+use Rattle.packing_core.specs.Packed.{IsPacked, IsIndexRun, IsIndexPacked, IsIndexPackedTo, no_cells}
+use Rattle.packing_core.specs.Covering.{has, passing, CellFunction, has_cell, InIndexCells, Gives}
 use Rattle.packing_core.specs.Pieces.{Covers, AreApart, HasPiece}
 use Rattle.packing_core.specs.declared.Piece.{Piece}
 use Rattle.packing_core.proofs.Joined.{IsIndexRun-iff, run_from_apart, apart_from_run}
-use Rattle.packing_core.specs.Covering.{Among}
-use Rattle.packing_core.proofs.Cells.{Cuts, OnGrid, place_of, box_of, span_of, cells_iff, cells_some}
-use Rattle.packing_core.proofs.Covered.{on_grid, at_place, passing_alike, first_test, last_test, IsInGrid}
+use Rattle.packing_core.proofs.Cells.{Cuts, OnGrid, place_of, box_of, cells_iff, cells_some}
+use Rattle.packing_core.proofs.Covered.{on_grid, first_test, last_test, IsInGrid}
 
 -- only the sides before j count
 front : (j : ℕ) (S : List ℕ → Type 0) (y z : List (ℕ × ℕ)) (rest : List ℕ) → j ≤ length y → IsIndexPackedTo j S (y ++ z) rest ≡ IsIndexPackedTo j S y rest

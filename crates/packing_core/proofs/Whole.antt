@@ -1,18 +1,10 @@
 -- From the numbered cells to the points, for places and boxes from the first side to the last.
-use Rattle.std.proofs.Common.{◌≡◌, ℕ, zero, suc, ◌+◌, ◌<◌, ◌≤◌, Bool, true, false, cond, ◌&&◌, ◌≢◌, ℤ, pos, ◌-ℤ◌, List, [], ◌∷◌, ◌++◌, length, get_or, map, drop, ◌↔◌, ◌⊎◌, inl, inr, arith, sym, ap, subst, refl, ◌∙◌, leb, ltb}
-use Rattle.std.specs.Int.RustNames.{int_le}
-use Rattle.std.specs.List.{filter, AllByRecursion}
-use Rattle.std.proofs.lemmas.Bool.Decides.{nat_tests}
+use Rattle.std.proofs.Common.{◌≡◌, ℕ, zero, suc, ◌+◌, ◌<◌, ◌≤◌, ℤ, List, [], ◌∷◌, ◌++◌, length, get_or, drop, ◌↔◌, inl, inr, arith, sym, ap, subst, refl, ◌∙◌}
 use Rattle.std.proofs.lemmas.Bool.{cases_lt}
 use Rattle.std.proofs.lemmas.List.{length_push}
 use Rattle.interval_core.specs.Members.{Span}
-use Rattle.packing_core.specs.Packed.{IsRun, IsPacked, IsIndexRun, IsIndexPacked, IsIndexPackedTo, packs, points_of, nowhere, no_cells, onto, sides_back}
-use Rattle.packing_core.specs.Covering.{Among, has}
-use Rattle.packing_core.specs.Live.{span_has, box, has_place, InLive, IsSliceRow}
-use Rattle.packing_core.proofs.Runs.{IsRun-iff}
-use Rattle.packing_core.proofs.Joined.{IsIndexRun-iff}
+use Rattle.packing_core.specs.Packed.{IsPacked, IsIndexRun, IsIndexPacked, IsIndexPackedTo, packs, points_of, nowhere, no_cells, onto, sides_back}
 use Rattle.packing_core.proofs.Cells.{Cuts, OnGrid, place_of, box_of, span_of, cells_iff, cells_some}
-use Rattle.packing_core.proofs.Covered.{first_test, last_test, IsInGrid}
 use Rattle.packing_core.proofs.Commute.{packs_is}
 
 -- ---- over cells, by the side's number and from the last side inward

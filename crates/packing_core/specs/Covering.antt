@@ -1,5 +1,5 @@
 -- The cells of a function of the covering rows.
-use Rattle.std.specs.Prelude.{◌≡◌, ℕ, suc, ◌+◌, Bool, true, false, cond, ◌&&◌, List, [], ◌∷◌, ℤ, ◌⊎◌, Result, Ok, Err, int_le, nat_le, nat_lt, ◌≢◌}
+use Rattle.std.specs.Prelude.{◌≡◌, ℕ, suc, Bool, true, false, cond, ◌&&◌, List, [], ◌∷◌, ℤ, ◌⊎◌, Result, Ok, Err, int_le, nat_le, nat_lt, ◌≢◌}
 use Rattle.interval_core.specs.Members.{Span}
 
 -- x is one of the list

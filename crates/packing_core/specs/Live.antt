@@ -1,7 +1,6 @@
 -- Slices from the last side inward: what the live rows give at a place, and the rows that are packed.
-use Rattle.std.specs.Prelude.{◌≡◌, ℕ, zero, suc, ◌<◌, ◌≤◌, Bool, true, false, cond, ◌&&◌, ◌≢◌, ◌⊎◌, List, [], ◌∷◌, get_or, length, nat_le, nat_lt}
+use Rattle.std.specs.Prelude.{◌≡◌, ℕ, Bool, true, false, ◌&&◌, ◌≢◌, ◌⊎◌, List, [], ◌∷◌, get_or, length, nat_le, nat_lt}
 use Rattle.std.specs.List.{filter}
-use Rattle.packing_core.specs.Covering.{Among}
 use Rattle.packing_core.specs.Packed.{IsIndexPackedTo, no_cells}
 
 -- whether the cells have the cell i

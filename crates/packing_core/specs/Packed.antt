@@ -1,6 +1,6 @@
 -- Sets of places, and their packed form.
 --     A place is a list of numbers, one for each side. A box is a list of spans, one for each side; a span is its first and its last number.
-use Rattle.std.specs.Prelude.{◌≡◌, ℕ, zero, suc, ◌<◌, ◌≤◌, ℤ, pos, ◌+ℤ◌, ◌-ℤ◌, ◌≤ℤ◌, List, [], ◌∷◌, length, set, get_or}
+use Rattle.std.specs.Prelude.{◌≡◌, ℕ, zero, suc, ◌<◌, ◌≤◌, ℤ, pos, ◌+ℤ◌, ◌-ℤ◌, ◌≤ℤ◌, List, [], ◌∷◌, set, get_or}
 use Rattle.interval_core.specs.Members.{Span, at_point}
 
 -- a longest run of numbers that P holds of

@@ -1,5 +1,5 @@
 -- The steps of the recursion over slices.
-use Rattle.std.proofs.Common.{◌≡◌, ℕ, zero, suc, ◌+◌, ◌-◌, ◌*◌, ◌<◌, ◌≤◌, Bool, true, false, cond, ◌&&◌, ◌≢◌, leb, ltb, eqb, List, [], ◌∷◌, ◌++◌, map, length, get_or, take, ◌↔◌, ◌⊎◌, inl, inr, arith, sym, ap, subst, refl, ◌∙◌, Ordering, Option, Some, None, Result, Ok, Err}
+use Rattle.std.proofs.Common.{◌≡◌, ℕ, zero, suc, ◌+◌, ◌<◌, ◌≤◌, List, [], ◌∷◌, ◌++◌, map, length, ◌↔◌, ◌⊎◌, inl, inr, arith, sym, ap, subst, refl, ◌∙◌, Ordering, Result, Ok, Err}
 use Rattle.std.specs.declared.cmp.Ordering.TheVariants.{Less, Equal, Greater}
 use Rattle.std.specs.Cmp.{IsTotalOrder}
 use Rattle.std.specs.Cmp.Lexicographic.{slice_cmp}
@@ -8,20 +8,15 @@ use Rattle.std.specs.FinMap.{IsAntisymmetric, nat_cmp-IsAntisymmetric, slice_cmp
 use Rattle.std.specs.List.{AllByRecursion, filter}
 use Rattle.std.specs.List.Sorted.{IsStrictlySortedBy}
 use Rattle.std.proofs.lemmas.Cmp.{tied_itself}
-use Rattle.std.proofs.lemmas.Bool.{cases_lt, cases_Bool}
+use Rattle.std.proofs.lemmas.Bool.{cases_lt}
 use Rattle.std.proofs.lemmas.Bool.Decides.{nat_tests}
-use Rattle.packing_core.specs.Packed.{no_cells, IsIndexPackedTo}
-use Rattle.packing_core.specs.Pieces.{CoversOne, Covers, HasPiece, AreApart, Apart}
+use Rattle.packing_core.specs.Pieces.{Covers, HasPiece, AreApart, Apart}
 use Rattle.packing_core.specs.declared.Piece.{Piece}
-use Rattle.packing_core.specs.Covering.{Among, Gives}
-use Rattle.packing_core.specs.Live.{span_has, box, side_has, has_place, IsSliceRow, IsSomewhere, InLive}
-use Rattle.packing_core.proofs.Inward.{HasSides, slice_at, no_slice, slices_give, live_last, in_live_last}
-use Rattle.packing_core.proofs.Slices.{one_more_side}
+use Rattle.packing_core.specs.Covering.{Among}
+use Rattle.packing_core.specs.Live.{side_has, IsSliceRow}
+use Rattle.packing_core.proofs.Inward.{HasSides, slice_at, no_slice, slices_give}
 use Rattle.packing_core.proofs.AmongLemmas.{among_map}
-use Rattle.point_core.specs.declared.fault.Fault.{Fault}
-use Rattle.slice_core.specs.LeastFault.{fault_order, fault_total, IsAtMost, IsLeast}
-use Rattle.slice_core.specs.declared.inward.IndexBox.{IndexBox}
-use Rattle.slice_core.specs.Rows.{sides_of, pair_cmp, pair_total, key_cmp, key_total, tag, with_last, no_sides, own_numbers, AreRows, labels_of, GivesLabel, GivesFault, volume}
+use Rattle.slice_core.specs.Rows.{pair_cmp, key_cmp, key_total, tag, with_last, no_sides, labels_of}
 
 -- ---- the order of keys
 

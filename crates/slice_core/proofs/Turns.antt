@@ -1,7 +1,6 @@
 -- Live rows, the least fault, the count of steps, and the labels at a place of no sides.
 use Rattle.std.proofs.Common.{◌≡◌, ℕ, zero, suc, ◌+◌, ◌-◌, ◌*◌, ◌<◌, ◌≤◌, Bool, true, false, cond, ◌&&◌, ◌≢◌, leb, ltb, List, [], ◌∷◌, ◌++◌, map, length, get_or, ◌↔◌, ◌⊎◌, inl, inr, arith, sym, ap, subst, refl, ◌∙◌, Option, Some, None, Result, Ok, Err, mul-add}
 use Rattle.std.proofs.Math.Nat.{mul_comm}
-use Rattle.std.specs.declared.cmp.Ordering.TheVariants.{Less, Equal, Greater}
 use Rattle.std.specs.List.{All, AllByRecursion, filter}
 use Rattle.std.proofs.lemmas.List.Elements.{recursion_from_All}
 use Rattle.std.proofs.lemmas.Bool.{cases_lt}
@@ -9,7 +8,7 @@ use Rattle.std.proofs.lemmas.Nat.{mul-le}
 use Rattle.std.proofs.lemmas.Bool.Decides.{nat_tests}
 use Rattle.packing_core.specs.Packed.{no_cells}
 use Rattle.packing_core.specs.Covering.{Among, Gives}
-use Rattle.packing_core.specs.Live.{span_has, box, side_has, has_place, IsSliceRow, IsSomewhere, InLive}
+use Rattle.packing_core.specs.Live.{span_has, box, side_has, IsSliceRow, IsSomewhere, InLive}
 use Rattle.packing_core.proofs.Inward.{HasSides, in_live_last, some_place}
 use Rattle.packing_core.proofs.AmongLemmas.{among_map}
 use Rattle.point_core.specs.declared.fault.Fault.{Fault}

@@ -185,6 +185,7 @@ pub fn slices<O: CellOp, L: Ledger>(
     ensures sorted { IfOk result (λ v. IsStrictlySortedBy (key_cmp O.Out.order) v.items) }
     ensures least { OnOk result (IsLeast (λ e. (least.old ≡ Some e) ⊎ IsSomewhere sides (GivesFault (O.means op.now) split) (sides_of boxes.now) left.now right.now e) least.new) }
     ensures cost { steps.new ≤ steps.old + volume sides counts.now }
+    ensures idle { length left.now ≡ 0 → length right.now ≡ 0 → steps.new ≤ steps.old }
 {
     if are_none(left, right) {
         return Ok(Vec::new(alloc));

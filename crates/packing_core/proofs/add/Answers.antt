@@ -1,6 +1,6 @@
-use Rattle.std.proofs.Common.{rules, ◌≡◌, ℕ, ◌<◌, ◌≤◌, ◌↔◌, ◌⊎◌, length, OnOk, IfOk, ◌+◌, ◌-◌, suc, arith, refl, subst, sym, ap, ◌∙◌, List, [], ◌∷◌, ◌++◌, set, true}
+use Rattle.std.proofs.Common.{◌≡◌, ℕ, ◌↔◌, ◌⊎◌, length, ◌-◌, suc, arith, subst, sym, set}
 use Rattle.std.proofs.lemmas.Bool.{iff_false}
-use Rattle.packing_core.specs.Pieces.{AreApart, Covers, CoversOne, NotAfter, AllNotAfter, Apart, Meets}
+use Rattle.packing_core.specs.Pieces.{AreApart, Covers, CoversOne, Meets}
 use Rattle.packing_core.proofs.Joined.{apart_set, covers_set, apart_push_last, last_not_after, apart_first, apart_where_not_meets, begin_where_meets, covers_pushed, same_read}
 use Rattle.packing_core.proofs.add.Goals as goal
 use Rattle.packing_core.proofs.add.Goals.{else-n-gt0-via-then-n-gt0+else-meets, else-n-gt0-via-else-n-gt0}

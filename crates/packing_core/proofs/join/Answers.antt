@@ -1,7 +1,5 @@
-use Rattle.std.proofs.Common.{rules, ◌≡◌, ℕ, ◌<◌, ◌≤◌, ◌↔◌, ◌⊎◌, length}
-use Rattle.std.specs.List.{All}
+use Rattle.std.proofs.Common.{◌<◌}
 use Rattle.std.proofs.lemmas.List.Sorted.{All-permutation}
-use Rattle.packing_core.specs.Pieces.{AreApart, Covers}
 use Rattle.packing_core.specs.declared.Piece.{Piece}
 use Rattle.packing_core.proofs.Order.{order_from_sorted, covers_permuted}
 use Rattle.packing_core.proofs.join.Goals as goal

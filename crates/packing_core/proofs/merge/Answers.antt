@@ -1,9 +1,8 @@
-use Rattle.std.proofs.Common.{rules, ◌≡◌, ℕ, ◌<◌, ◌≤◌, ◌↔◌, ◌⊎◌, inl, inr, length, get_or, take, arith, refl, subst, sym, ap, ◌∙◌, ◌+◌, ◌++◌, ◌∷◌, [], map, List}
+use Rattle.std.proofs.Common.{rules, length, get_or, arith, subst, sym}
 use Rattle.std.proofs.lemmas.Iterator.Adapters.{YieldsList-from_vec}
-use Rattle.std.proofs.lemmas.Iterator.Consumers.{YieldsList-turn, YieldsList-end}
+use Rattle.std.proofs.lemmas.Iterator.Consumers.{YieldsList-turn}
 use Rattle.std.proofs.lemmas.List.{length_push}
-use Rattle.packing_core.specs.Pieces.{AreApart, Covers, CoversOne, NotAfter, AllNotAfter}
-use Rattle.packing_core.specs.declared.Piece.{Piece}
+use Rattle.packing_core.specs.Pieces.{NotAfter, AllNotAfter}
 use Rattle.packing_core.proofs.Joined.{covers_more}
 use Rattle.packing_core.proofs.merge.Goals as goal
 

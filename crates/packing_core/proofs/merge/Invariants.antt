@@ -1,5 +1,5 @@
-use Rattle.std.proofs.Common.{◌≡◌, ℕ, ◌<◌, ◌≤◌, ◌↔◌, ◌⊎◌, length, slice_index_or, ◌++◌}
-use Rattle.packing_core.specs.Pieces.{AreApart, Covers, CoversOne, NotAfter, AllNotAfter}
+use Rattle.std.proofs.Common.{ℕ, ◌<◌, ◌≤◌, ◌↔◌, length, slice_index_or}
+use Rattle.packing_core.specs.Pieces.{AreApart, Covers, AllNotAfter}
 use Rattle.packing_core.proofs.merge.Given as goal
 
 abbrev pub invariant-loop-x : goal.invariant-loop-x

@@ -1,4 +1,4 @@
-use Rattle.std.proofs.Common.{◌≡◌, ℕ, ◌*◌, ◌<◌, ◌+◌, length, get_or, arith, subst, sym}
+use Rattle.std.proofs.Common.{◌<◌, length, arith, subst, sym}
 use Rattle.std.proofs.lemmas.List.Elements.{All-get_or}
 use Rattle.cell_core.proofs.Numbers.{placed_step, found_step, count_step, length_ends}
 use Rattle.cell_core.proofs.number.ends_list.Goals as goal

@@ -1,4 +1,4 @@
-use Rattle.std.proofs.Common.{◌≡◌, ℕ, suc, ◌<◌, ◌≤◌, ◌+◌, pos, ◌+ℤ◌, get_or, length, map, slice_index_or}
+use Rattle.std.proofs.Common.{◌≡◌, ℕ, suc, ◌<◌, ◌≤◌, ◌+◌, pos, ◌+ℤ◌, length, map, slice_index_or}
 use Rattle.std.specs.List.{All}
 use Rattle.cell_core.specs.Numbering.{cut_at}
 use Rattle.cell_core.proofs.number.lasts.Given as goal

@@ -1,9 +1,10 @@
-use Rattle.std.proofs.Common.{◌≡◌, ℕ, suc, pos, ◌+ℤ◌, ◌*◌, ◌<◌, map, length, get_or, arith, subst, sym, ap, refl}
+use Rattle.std.proofs.Common.{◌≡◌, ◌+◌, ℕ, suc, pos, ◌+ℤ◌, ◌*◌, ◌<◌, ◌≤◌, map, length, get_or, arith, subst, sym, refl}
 use Rattle.std.proofs.lemmas.List.Elements.{All-same}
-use Rattle.std.specs.List.{All}
 use Rattle.std.proofs.lemmas.List.Sorted.{IsPermutation-refl, length_permutation}
 use Rattle.std.specs.List.Sorted.{IsPermutation}
-use Rattle.cell_core.specs.Numbering.{cut_at, Rises, IsAtTag, IsSide}
+use Rattle.cell_core.specs.Numbering.{cut_at, IsAtTag}
+use Rattle.point_core.specs.Digits.{binary_digits}
+use Rattle.cell_core.proofs.StepLemmas.{sort_within, side_within}
 use Rattle.cell_core.proofs.OneSide.{has_listed, has_sorted, tags_fit, cells_of, cells_within}
 use Rattle.cell_core.proofs.number.numbering.Goals as goal
 
@@ -24,8 +25,8 @@ table-requires g c =
           c.ranks_of.new.cuts.items c.in_ok-ranks.ranks.items c.in_ok-ranks.ensures.cells (2 * length c.args.spans.now) refl);
     }
 
-pub returns : goal.returns
-returns g c =
+pub returns-clause-side : goal.returns-clause-side
+returns-clause-side g c =
     let n = g.T.PointType.number_of in
     let has = g.T.PointType.IsPoint c.args.t.now in
     let high = g.T.PointType.last_number c.args.t.now in
@@ -56,3 +57,61 @@ returns g c =
       within = cells_within n has high spans list sorted moved c.in_ok-list.ensures.placed cuts ranks c.in_ok-ranks.ensures.cells c.in_ok-list.ensures.found c.in_ok-ranks.ensures.within tags last (2 * length spans) is_last refl at c.in_ok-cells.cells.items c.in_ok-cells.ensures.pairs;
       few = omega arith;
     }
+
+pub returns-in_err-sort-clause-cost : goal.returns-in_err-sort-clause-cost
+returns-in_err-sort-clause-cost g c =
+    let n : ℕ = length c.args.spans.now in
+    let m : ℕ = length c.in_ok-list.list.items in
+    let w : m * binary_digits m ≤ 2 * n * binary_digits (2 * n) = sort_within m n c.in_ok-list.ensures.count in
+    omega arith
+
+pub returns-in_err-ranks-clause-cost : goal.returns-in_err-ranks-clause-cost
+returns-in_err-ranks-clause-cost g c =
+    let n : ℕ = length c.args.spans.now in
+    let m : ℕ = length c.in_ok-list.list.items in
+    let moved = subst (IsPermutation c.in_ok-list.list.items) (sym c.as_slice.ensures.value) c.in_ok-sort.ensures.same in
+    let l : length c.as_slice.result.now ≡ m = length_permutation c.in_ok-list.list.items c.as_slice.result.now moved in
+    let x : c.ranks_of.new.steps ≤ c.sort.new.steps + m = subst (λ z. c.ranks_of.new.steps ≤ c.sort.new.steps + z) l c.in_err-ranks.ensures.cost in
+    side_within n m 0 c.args.steps.now c.ends_list.new.steps c.sort.new.steps c.ranks_of.new.steps c.ranks_of.new.steps c.in_ok-list.ensures.count (omega arith) c.in_ok-list.ensures.cost c.in_ok-sort.ensures.cost x (omega arith)
+
+pub returns-in_err-tags-clause-cost : goal.returns-in_err-tags-clause-cost
+returns-in_err-tags-clause-cost g c =
+    let n : ℕ = length c.args.spans.now in
+    let m : ℕ = length c.in_ok-list.list.items in
+    let moved = subst (IsPermutation c.in_ok-list.list.items) (sym c.as_slice.ensures.value) c.in_ok-sort.ensures.same in
+    let l : length c.as_slice.result.now ≡ m = length_permutation c.in_ok-list.list.items c.as_slice.result.now moved in
+    let x : c.ranks_of.new.steps ≤ c.sort.new.steps + m = subst (λ z. c.ranks_of.new.steps ≤ c.sort.new.steps + z) l c.in_ok-ranks.ensures.cost in
+    side_within n m 0 c.args.steps.now c.ends_list.new.steps c.sort.new.steps c.ranks_of.new.steps c.ranks_of.new.steps c.in_ok-list.ensures.count (omega arith) c.in_ok-list.ensures.cost c.in_ok-sort.ensures.cost x (omega arith)
+
+pub returns-in_err-cells-clause-cost : goal.returns-in_err-cells-clause-cost
+returns-in_err-cells-clause-cost g c =
+    let n : ℕ = length c.args.spans.now in
+    let m : ℕ = length c.in_ok-list.list.items in
+    let moved = subst (IsPermutation c.in_ok-list.list.items) (sym c.as_slice.ensures.value) c.in_ok-sort.ensures.same in
+    let l : length c.as_slice.result.now ≡ m = length_permutation c.in_ok-list.list.items c.as_slice.result.now moved in
+    let x : c.ranks_of.new.steps ≤ c.sort.new.steps + m = subst (λ z. c.ranks_of.new.steps ≤ c.sort.new.steps + z) l c.in_ok-ranks.ensures.cost in
+    side_within n m 0 c.args.steps.now c.ends_list.new.steps c.sort.new.steps c.ranks_of.new.steps c.ranks_of.new.steps c.in_ok-list.ensures.count (omega arith) c.in_ok-list.ensures.cost c.in_ok-sort.ensures.cost x (omega arith)
+
+pub returns-in_err-ends-clause-cost : goal.returns-in_err-ends-clause-cost
+returns-in_err-ends-clause-cost g c =
+    let n : ℕ = length c.args.spans.now in
+    let m : ℕ = length c.in_ok-list.list.items in
+    let moved = subst (IsPermutation c.in_ok-list.list.items) (sym c.as_slice.ensures.value) c.in_ok-sort.ensures.same in
+    let l : length c.as_slice.result.now ≡ m = length_permutation c.in_ok-list.list.items c.as_slice.result.now moved in
+    let x : c.ranks_of.new.steps ≤ c.sort.new.steps + m = subst (λ z. c.ranks_of.new.steps ≤ c.sort.new.steps + z) l c.in_ok-ranks.ensures.cost in
+    let k : ℕ = length c.ranks_of.new.cuts.items in
+    let y : k ≤ m = subst (λ z. k ≤ z) l c.in_ok-ranks.ensures.count in
+    let z : c.lasts.new.steps ≤ c.ranks_of.new.steps + k = subst (λ xs. c.lasts.new.steps ≤ c.ranks_of.new.steps + length xs) c.as_slice-4.ensures.value c.in_err-ends.ensures.cost in
+    side_within n m k c.args.steps.now c.ends_list.new.steps c.sort.new.steps c.ranks_of.new.steps c.lasts.new.steps c.in_ok-list.ensures.count y c.in_ok-list.ensures.cost c.in_ok-sort.ensures.cost x z
+
+pub returns-clause-cost : goal.returns-clause-cost
+returns-clause-cost g c =
+    let n : ℕ = length c.args.spans.now in
+    let m : ℕ = length c.in_ok-list.list.items in
+    let moved = subst (IsPermutation c.in_ok-list.list.items) (sym c.as_slice.ensures.value) c.in_ok-sort.ensures.same in
+    let l : length c.as_slice.result.now ≡ m = length_permutation c.in_ok-list.list.items c.as_slice.result.now moved in
+    let x : c.ranks_of.new.steps ≤ c.sort.new.steps + m = subst (λ z. c.ranks_of.new.steps ≤ c.sort.new.steps + z) l c.in_ok-ranks.ensures.cost in
+    let k : ℕ = length c.ranks_of.new.cuts.items in
+    let y : k ≤ m = subst (λ z. k ≤ z) l c.in_ok-ranks.ensures.count in
+    let z : c.lasts.new.steps ≤ c.ranks_of.new.steps + k = subst (λ xs. c.lasts.new.steps ≤ c.ranks_of.new.steps + length xs) c.as_slice-4.ensures.value c.in_ok-ends.ensures.cost in
+    side_within n m k c.args.steps.now c.ends_list.new.steps c.sort.new.steps c.ranks_of.new.steps c.lasts.new.steps c.in_ok-list.ensures.count y c.in_ok-list.ensures.cost c.in_ok-sort.ensures.cost x z

@@ -1,4 +1,4 @@
-use Rattle.std.proofs.Common.{◌≡◌, ℕ, suc, pos, ◌+ℤ◌, ◌≤ℤ◌, ◌-◌, ◌<◌, ◌+◌, [], ◌∷◌, ◌++◌, map, length, get_or, arith, subst, sym, ap, refl}
+use Rattle.std.proofs.Common.{◌≡◌, ℕ, suc, pos, ◌+ℤ◌, ◌≤ℤ◌, ◌-◌, ◌<◌, [], ◌∷◌, ◌++◌, map, length, get_or, arith, subst, sym, ap}
 use Rattle.std.proofs.lemmas.Int.{ints}
 use Rattle.std.proofs.lemmas.List.Elements.{All-get_or, All-same, All-nil, All-push}
 use Rattle.cell_core.specs.Numbering.{Rises, of_cell}

@@ -1,4 +1,4 @@
-use Rattle.std.proofs.Common.{◌≡◌, ℕ, ◌<◌, ◌≤◌, ◌+◌, pos, ◌+ℤ◌, get_or, length, map, take}
+use Rattle.std.proofs.Common.{◌≡◌, ◌<◌, ◌≤◌, ◌+◌, pos, ◌+ℤ◌, get_or, length, map, take}
 use Rattle.std.specs.List.{All}
 use Rattle.cell_core.specs.Numbering.{of_cell, of_point, Rises}
 use Rattle.cell_core.proofs.number.ranks_of.Given as goal

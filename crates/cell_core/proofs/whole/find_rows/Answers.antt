@@ -1,14 +1,14 @@
-use Rattle.std.proofs.Common.{◌≡◌, ℕ, ◌+◌, ◌*◌, ◌<◌, ◌≤◌, ◌↔◌, ◌⊎◌, List, [], map, length, get_or, arith, subst, sym, ap, ◌∙◌, Some, None}
+use Rattle.std.proofs.Common.{◌≡◌, ℕ, suc, ◌+◌, ◌*◌, ◌<◌, ◌≤◌, ◌↔◌, ◌⊎◌, List, [], map, length, get_or, arith, subst, sym, ap, ◌∙◌, Some, None}
 use Rattle.std.proofs.lemmas.Int.{ints}
 use Rattle.std.specs.List.{All}
-use Rattle.std.proofs.lemmas.List.{length-map}
 use Rattle.std.proofs.lemmas.List.Elements.{All-same, All-map}
 use Rattle.packing_core.specs.Covering.{Among}
 use Rattle.packing_core.specs.Live.{IsSliceRow, IsSomewhere}
 use Rattle.slice_core.specs.LeastFault.{IsLeast}
-use Rattle.slice_core.specs.declared.inward.IndexBox.{IndexBox}
-use Rattle.slice_core.specs.Rows.{sides_of, AreRows, GivesLabel, GivesFault, own_numbers}
+use Rattle.slice_core.specs.Rows.{sides_of, AreRows, GivesLabel, GivesFault}
 use Rattle.cell_core.specs.Cells.{rows_from, cells_at}
+use Rattle.slice_core.specs.Rows.{volume}
+use Rattle.cell_core.proofs.StepLemmas.{sides_bound, whole_bound, volume_within, counts_within, length_rows_from}
 use Rattle.cell_core.proofs.Assembly.{form, least}
 use Rattle.cell_core.proofs.Calls.{are_rows, full_cells, few_cells, box_length, box_cells, row_cells, side_grid}
 use Rattle.cell_core.proofs.whole.find_rows.Goals as goal
@@ -90,3 +90,55 @@ pub returns-clause-grids : goal.returns-clause-grids
 returns-clause-grids g c = λ j t e h.
     let p = (g.met.T.PointType.each t (g.T.PointType.first_number t) (omega (arith, ints)) (g.met.T.PointType.nonempty t)).0 in
     side_grid g.T.PointType.number_of (g.T.PointType.IsPoint (get_or c.args.types.now j t)) (g.T.PointType.last_number (get_or c.args.types.now j t)) _ (get_or c.in_ok-sides.sides.items j e) (c.in_ok-sides.ensures.sides j t (p, p) e h)
+
+pub returns-clause-lengths : goal.returns-clause-lengths
+returns-clause-lengths g c = λ x m.
+    let f = GivesLabel (g.O.CellOp.means c.args.op.now) (length c.args.left.now) in
+    let b = sides_of c.as_slice-4.result.now in
+    let el = c.as_slice-5.ensures.value ∙ c.in_ok-l.ensures in
+    let er = c.as_slice-6.ensures.value ∙ c.in_ok-r.ensures in
+    let rows : (x : g.row.O-Out.Denot × List (ℕ × ℕ)) → Among x c.in_ok-rows.rows.items ↔ (length x.1 ≡ length c.args.types.now) × IsSliceRow (length c.args.types.now) f b (rows_from 0 (length c.args.left.now)) (rows_from (length c.args.left.now) (length c.args.right.now)) x.0 x.1 = λ x.
+    subst (λ l. Among x c.in_ok-rows.rows.items ↔ (length x.1 ≡ length c.args.types.now) × IsSliceRow (length c.args.types.now) f b l (rows_from (length c.args.left.now) (length c.args.right.now)) x.0 x.1) el
+    (subst (λ r. Among x c.in_ok-rows.rows.items ↔ (length x.1 ≡ length c.args.types.now) × IsSliceRow (length c.args.types.now) f b c.as_slice-5.result.now r x.0 x.1) er (c.in_ok-rows.ensures.rows x)) in
+    ((rows x).0 m).0
+
+pub returns-in_err-sides-clause-cost : goal.returns-in_err-sides-clause-cost
+returns-in_err-sides-clause-cost g c = sides_bound (length c.args.left.now + length c.args.right.now) (length c.args.types.now) c.args.steps.now c.all_sides.new.steps c.in_err-sides.ensures.cost
+
+pub returns-in_err-counts-clause-cost : goal.returns-in_err-counts-clause-cost
+returns-in_err-counts-clause-cost g c = sides_bound (length c.args.left.now + length c.args.right.now) (length c.args.types.now) c.args.steps.now c.all_sides.new.steps c.in_ok-sides.ensures.cost
+
+pub returns-in_err-boxes-clause-cost : goal.returns-in_err-boxes-clause-cost
+returns-in_err-boxes-clause-cost g c = sides_bound (length c.args.left.now + length c.args.right.now) (length c.args.types.now) c.args.steps.now c.all_sides.new.steps c.in_ok-sides.ensures.cost
+
+pub returns-in_err-l-clause-cost : goal.returns-in_err-l-clause-cost
+returns-in_err-l-clause-cost g c = sides_bound (length c.args.left.now + length c.args.right.now) (length c.args.types.now) c.args.steps.now c.all_sides.new.steps c.in_ok-sides.ensures.cost
+
+pub returns-in_err-r-clause-cost : goal.returns-in_err-r-clause-cost
+returns-in_err-r-clause-cost g c = sides_bound (length c.args.left.now + length c.args.right.now) (length c.args.types.now) c.args.steps.now c.all_sides.new.steps c.in_ok-sides.ensures.cost
+
+pub returns-in_err-rows-clause-cost : goal.returns-in_err-rows-clause-cost
+returns-in_err-rows-clause-cost g c =
+    let n : ℕ = length c.args.left.now + length c.args.right.now in
+    let counts = c.as_slice-3.result.now in
+    let e = c.as_slice-3.ensures.value ∙ c.in_ok-counts.ensures ∙ ap (map (λ s. length s.0)) c.as_slice.ensures.value in
+    let few : All (λ m. m < suc (2 * n)) counts =
+    All-same (λ m. m < suc (2 * n)) counts (map (λ s. length s.0) c.in_ok-sides.sides.items) e
+    (All-map (λ m. m < suc (2 * n)) (λ s. length s.0) c.in_ok-sides.sides.items (few_cells g.T.PointType.number_of g.T.PointType.IsPoint g.T.PointType.last_number (λ t. (g.met.T.PointType.each t (g.T.PointType.first_number t) (omega (arith, ints)) (g.met.T.PointType.nonempty t)).0) c.args.types.now c.in_ok-sides.sides.items c.args.left.now c.args.right.now c.in_ok-sides.ensures.length c.in_ok-sides.ensures.sides (suc (2 * n)) (omega arith))) in
+    let left : length c.as_slice-5.result.now ≡ length c.args.left.now = ap length (c.as_slice-5.ensures.value ∙ c.in_ok-l.ensures) ∙ length_rows_from 0 (length c.args.left.now) in
+    let right : length c.as_slice-6.result.now ≡ length c.args.right.now = ap length (c.as_slice-6.ensures.value ∙ c.in_ok-r.ensures) ∙ length_rows_from (length c.args.left.now) (length c.args.right.now) in
+    whole_bound n (length c.args.types.now) c.args.steps.now c.all_sides.new.steps c.slices.new.steps (volume (length c.args.types.now) counts) c.in_ok-sides.ensures.cost c.in_err-rows.ensures.cost
+    (λ z. c.in_err-rows.ensures.idle (omega arith) (omega arith)) (volume_within (2 * n) (length c.args.types.now) counts (counts_within (2 * n) counts few))
+
+pub returns-clause-cost : goal.returns-clause-cost
+returns-clause-cost g c =
+    let n : ℕ = length c.args.left.now + length c.args.right.now in
+    let counts = c.as_slice-3.result.now in
+    let e = c.as_slice-3.ensures.value ∙ c.in_ok-counts.ensures ∙ ap (map (λ s. length s.0)) c.as_slice.ensures.value in
+    let few : All (λ m. m < suc (2 * n)) counts =
+    All-same (λ m. m < suc (2 * n)) counts (map (λ s. length s.0) c.in_ok-sides.sides.items) e
+    (All-map (λ m. m < suc (2 * n)) (λ s. length s.0) c.in_ok-sides.sides.items (few_cells g.T.PointType.number_of g.T.PointType.IsPoint g.T.PointType.last_number (λ t. (g.met.T.PointType.each t (g.T.PointType.first_number t) (omega (arith, ints)) (g.met.T.PointType.nonempty t)).0) c.args.types.now c.in_ok-sides.sides.items c.args.left.now c.args.right.now c.in_ok-sides.ensures.length c.in_ok-sides.ensures.sides (suc (2 * n)) (omega arith))) in
+    let left : length c.as_slice-5.result.now ≡ length c.args.left.now = ap length (c.as_slice-5.ensures.value ∙ c.in_ok-l.ensures) ∙ length_rows_from 0 (length c.args.left.now) in
+    let right : length c.as_slice-6.result.now ≡ length c.args.right.now = ap length (c.as_slice-6.ensures.value ∙ c.in_ok-r.ensures) ∙ length_rows_from (length c.args.left.now) (length c.args.right.now) in
+    whole_bound n (length c.args.types.now) c.args.steps.now c.all_sides.new.steps c.slices.new.steps (volume (length c.args.types.now) counts) c.in_ok-sides.ensures.cost c.in_ok-rows.ensures.cost
+    (λ z. c.in_ok-rows.ensures.idle (omega arith) (omega arith)) (volume_within (2 * n) (length c.args.types.now) counts (counts_within (2 * n) counts few))

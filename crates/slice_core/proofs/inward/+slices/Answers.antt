@@ -1,16 +1,14 @@
-use Rattle.std.proofs.Common.{rules, arith, ◌≡◌, ℕ, suc, ◌<◌, ◌≤◌, ◌-◌, ◌+◌, ◌↔◌, ◌⊎◌, refl, sym, subst, ap, ◌∙◌, List, [], ◌∷◌, ◌++◌, map, length, get_or, Some, Ok}
-use Rattle.std.specs.List.{All, AllByRecursion, filter}
-use Rattle.std.specs.List.Sorted.{IsStrictlySortedBy}
+use Rattle.std.proofs.Common.{arith, ◌≡◌, ℕ, suc, ◌<◌, ◌≤◌, ◌-◌, ◌+◌, ◌↔◌, ◌⊎◌, inl, inr, refl, sym, subst, ◌∙◌, List, [], map, length, get_or, Some}
+use Rattle.std.specs.List.{filter}
 use Rattle.std.proofs.lemmas.List.Elements.{All-same, All-nil, All-append, All-map, All-from_recursion}
 use Rattle.packing_core.specs.Covering.{Among}
 use Rattle.packing_core.specs.Pieces.{Covers}
 use Rattle.packing_core.specs.Live.{side_has, IsSliceRow, IsSomewhere}
 use Rattle.packing_core.specs.declared.Piece.{Piece}
-use Rattle.point_core.specs.declared.fault.Fault.{Fault}
 use Rattle.slice_core.specs.LeastFault.{IsLeast}
 use Rattle.slice_core.specs.Rows.{sides_of, key_cmp, tag, AreRows, GivesLabel, GivesFault, volume, own_numbers}
 use Rattle.slice_core.proofs.Steps.{rows_answer, rows_sorted, covers_step, sorted_nil, leaf_sorted}
-use Rattle.slice_core.proofs.Turns.{nil_from, none_row, none_live, least_kept, rows_above, rows_below, leaf_rows, leaf_fault, least_more, least_step, cost_none, cost_within, cost_step, cost_leaf, AreRows-filter, has_sides, none_from, not_below_zero, some_live, somewhere_more}
+use Rattle.slice_core.proofs.Turns.{nil_from, none_row, none_live, least_kept, rows_above, rows_below, leaf_rows, leaf_fault, least_more, least_step, cost_none, cost_within, cost_step, AreRows-filter, has_sides, none_from, not_below_zero, some_live, somewhere_more}
 use Rattle.slice_core.proofs.inward.+slices.Goals as goal
 
 pub returns-then-are_none-clause-rows : goal.returns-then-are_none-clause-rows
@@ -216,3 +214,6 @@ returns-clause-least g t c =
 
 pub returns-clause-cost : goal.returns-clause-cost
 returns-clause-cost g t c = cost_within c.args.counts.now c.args.sides c.loop-cell.cell c.args.steps.now c.loop-cell.steps (omega arith) (omega arith) c.loop-cell.invariant.cost
+
+pub returns-clause-idle : goal.returns-clause-idle
+returns-clause-idle g t c = λ a b. elim (c.if-are_none.ensures.no refl) [ inl h ↦ absurd (omega arith) | inr h ↦ absurd (omega arith) ]

@@ -1,4 +1,4 @@
-use Rattle.std.proofs.Common.{◌≡◌, ◌++◌, map}
+use Rattle.std.proofs.Common.{◌≡◌, map}
 use Rattle.slice_core.specs.Rows.{no_sides}
 use Rattle.slice_core.proofs.inward.bare_keys.Given as goal
 

@@ -1,4 +1,4 @@
-use Rattle.std.proofs.Common.{◌≡◌, ◌++◌, map}
+use Rattle.std.proofs.Common.{◌≡◌, map}
 use Rattle.slice_core.specs.Rows.{with_last}
 use Rattle.slice_core.proofs.inward.with_sides.Given as goal
 

@@ -1,7 +1,7 @@
 use Rattle.std.proofs.Common.{◌≡◌, ℕ, ◌<◌, length, [], map, get_or}
 use Rattle.slice_core.specs.Rows.{sides_of}
 use Rattle.cell_core.specs.Cells.{cells_at}
-use Rattle.cell_core.proofs.whole.cell_boxes.Given as goal
+use Rattle.cell_core.proofs.grids.cell_boxes.Given as goal
 
 abbrev pub invariant-loop-r : goal.invariant-loop-r
 invariant-loop-r g l = record {

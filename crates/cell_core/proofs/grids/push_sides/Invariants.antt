@@ -1,6 +1,6 @@
 use Rattle.std.proofs.Common.{◌≡◌, ◌++◌, ◌+◌, map, take, length}
 use Rattle.cell_core.specs.Cells.{side_of}
-use Rattle.cell_core.proofs.whole.push_sides.Given as goal
+use Rattle.cell_core.proofs.grids.push_sides.Given as goal
 
 abbrev pub invariant-loop-s : goal.invariant-loop-s
 invariant-loop-s g l = record {

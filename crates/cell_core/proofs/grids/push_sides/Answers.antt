@@ -1,7 +1,7 @@
-use Rattle.std.proofs.Common.{◌≡◌, ◌+◌, ℕ, length, arith, ap, ◌∙◌}
+use Rattle.std.proofs.Common.{length, arith, ap, ◌∙◌}
 use Rattle.std.proofs.lemmas.List.{length_push}
 use Rattle.cell_core.proofs.Gather.{gather_step, gather_all}
-use Rattle.cell_core.proofs.whole.push_sides.Goals as goal
+use Rattle.cell_core.proofs.grids.push_sides.Goals as goal
 
 pub loop-s-preserved : goal.loop-s-preserved
 loop-s-preserved g c = record {
