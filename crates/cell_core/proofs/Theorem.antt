@@ -22,7 +22,8 @@ use Rattle.packing_core.proofs.Whole.{onto_cells, cells_back, cuts_back, length_
 use Rattle.packing_core.proofs.Cells.{Cuts, OnGrid, place_of, box_of, span_of, cell_of, rises_far}
 use Rattle.packing_core.proofs.Chain.{Fits, InPlaces, on, same, slices_are_packed, packed_some}
 use Rattle.slice_core.specs.Rows.{own_numbers, GivesLabel, GivesFault, key_cmp, pair_cmp}
-use Rattle.cell_core.specs.Cells.{IsPackedRow, HasFault, rows_from, row_cmp, span_cmp}
+use Rattle.cell_core.specs.Cells.{IsPackedRow, HasFault, rows_from}
+use Rattle.packing_core.specs.Boxed.{boxed_cmp, span_cmp}
 
 -- ---- numbers of rows
 
@@ -67,14 +68,14 @@ lowered_some n (x ∷ xs) = (λ h e. cc, λ h e. cc)
 
 -- ---- sets that are the same have the same packed form
 
-packs-iff : (k : ℕ) (S S' : List Span → Type 0) → ((y : List Span) → S y ↔ S' y) → (y : List Span) → packs k S y ↔ packs k S' y
+pub packs-iff : (k : ℕ) (S S' : List Span → Type 0) → ((y : List Span) → S y ↔ S' y) → (y : List Span) → packs k S y ↔ packs k S' y
 packs-iff zero S S' h y = h y
 packs-iff (suc k) S S' h y = (
   IsRun-iff _ _ (λ p. packs-iff k S S' h (set y k (at_point p))) (get_or y k nowhere),
   IsRun-iff _ _ (λ p. let w = packs-iff k S S' h (set y k (at_point p)) in (w.1, w.0)) (get_or y k nowhere),
 )
 
-points-iff : (S S' : List ℤ → Type 0) → ((ps : List ℤ) → S ps ↔ S' ps) → (y : List Span) → points_of S y ↔ points_of S' y
+pub points-iff : (S S' : List ℤ → Type 0) → ((ps : List ℤ) → S ps ↔ S' ps) → (y : List Span) → points_of S y ↔ points_of S' y
 points-iff S S' h y = (λ w. (w.0, (h (firsts y)).0 w.1), λ w. (w.0, (h (firsts y)).1 w.1))
 
 -- ---- places
@@ -182,11 +183,11 @@ abbrev pub row_of : {L : Type 0} → List Cuts → L × List (ℕ × ℕ) → L 
 row_of gs x = (x.0, box_of gs x.1)
 
 module _ {L : Type 0} (order : L → L → Ordering) (gs : List Cuts) where
-  all_after : (x : L × List (ℕ × ℕ)) (xs : List (L × List (ℕ × ℕ))) → length x.1 ≡ length gs → AllByRecursion (λ y. length y.1 ≡ length gs) xs → AllByRecursion (λ y. key_cmp order x y ≡ Less) xs → AllByRecursion (λ y. row_cmp order (row_of gs x) y ≡ Less) (map (row_of gs) xs)
+  all_after : (x : L × List (ℕ × ℕ)) (xs : List (L × List (ℕ × ℕ))) → length x.1 ≡ length gs → AllByRecursion (λ y. length y.1 ≡ length gs) xs → AllByRecursion (λ y. key_cmp order x y ≡ Less) xs → AllByRecursion (λ y. boxed_cmp order (row_of gs x) y ≡ Less) (map (row_of gs) xs)
   all_after x [] e n h = tt
   all_after x (y ∷ ys) e n h = (ap (ordering_then (order x.0 y.0)) (box_order gs x.1 y.1 e n.0) ∙ h.0, all_after x ys e n.1 h.1)
 
-  pub rows_in_order : (xs : List (L × List (ℕ × ℕ))) → AllByRecursion (λ y. length y.1 ≡ length gs) xs → IsStrictlySortedBy (key_cmp order) xs → IsStrictlySortedBy (row_cmp order) (map (row_of gs) xs)
+  pub rows_in_order : (xs : List (L × List (ℕ × ℕ))) → AllByRecursion (λ y. length y.1 ≡ length gs) xs → IsStrictlySortedBy (key_cmp order) xs → IsStrictlySortedBy (boxed_cmp order) (map (row_of gs) xs)
   unfolding IsStrictlySortedBy
   rows_in_order [] n h = tt
   rows_in_order (x ∷ xs) n h = (all_after x xs n.0 n.1 h.0, rows_in_order xs n.1 h.1)

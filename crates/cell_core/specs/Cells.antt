@@ -6,6 +6,7 @@ use Rattle.std.specs.Cmp.Lexicographic.{slice_cmp}
 use Rattle.std.specs.List.Sorted.{IsStrictlySortedBy}
 use Rattle.interval_core.specs.Members.{Span}
 use Rattle.packing_core.specs.Packed.{packs, points_of}
+use Rattle.packing_core.specs.Boxed.{boxed_cmp}
 use Rattle.packing_core.specs.Covering.{Among, covering, InCells, CellFunction}
 use Rattle.cell_core.specs.Numbering.{numbers_of, span_at}
 
@@ -26,17 +27,9 @@ abbrev pub HasFault : {L F : Type 0} → ℕ → CellFunction L F → List (List
 HasFault k f left right e =
     (place : List ℤ) × (length place ≡ k) × ((covering left place ≢ []) ⊎ (covering right place ≢ [])) × (f (covering left place) (covering right place) ≡ Err e)
 
--- by the first number, and then by the last
-abbrev pub span_cmp : Span → Span → Ordering
-span_cmp a b = ordering_then (int_cmp a.0 b.0) (int_cmp a.1 b.1)
-
--- by label, and then by sides
-abbrev pub row_cmp : {L : Type 0} → (L → L → Ordering) → L × List Span → L × List Span → Ordering
-row_cmp order a b = ordering_then (order a.0 b.0) (slice_cmp span_cmp a.1 b.1)
-
 -- the list has just the packed rows, each once and in order; so there is one such list
 pub record IsPackedForm {L F : Type 0} (order : L → L → Ordering) (k : ℕ) (f : CellFunction L F) (left right : List (List Span)) (rows : List (L × List Span)) : Type 0 where
-  pub sorted : IsStrictlySortedBy (row_cmp order) rows
+  pub sorted : IsStrictlySortedBy (boxed_cmp order) rows
   pub members : (x : L × List Span) → (Among x rows → IsPackedRow k f left right x) × (IsPackedRow k f left right x → Among x rows)
 
 -- numbers from a on, n of them

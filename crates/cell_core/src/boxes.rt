@@ -1,10 +1,10 @@
 // Boxes of intervals, with labels.
-ghost use Rattle.std.specs.Prelude.{◌≡◌};
+ghost use Rattle.std.specs.Prelude.{◌≡◌, IfOk};
 ghost use Rattle.cell_core.specs.declared.boxes.CellRefuse.TheVariants.{Memory as OfMemory};
 
 use interval_core::Interval;
 use point_core::{Fault, Memory, PointType};
-use std::alloc::{AllocError, AllocFailed};
+use std::alloc::{AllocError, AllocFailed, Global};
 use std::marker::Model;
 
 /// One interval for each type; it is seen as the list of their ends.
@@ -19,6 +19,20 @@ impl<T: PointType> Model for Sides<T> {
     ghost Value = { List (T.Point × T.Point) };
 
     ghost view = { λ s. s.list.items };
+}
+
+impl<T: PointType> Sides<T> {
+    /// The same intervals.
+    pub fn copy(&self, alloc: Global) -> Result<Sides<T>, Memory>
+        ensures { IfOk result (λ v. v ≡ self.now) }
+    {
+        let mut list = Vec::new(alloc);
+        for side in &self.list {
+            let interval = side.copy();
+            list.push(interval)?;
+        }
+        Ok(Sides { list })
+    }
 }
 
 /// A label over a box; it is seen as this pair.

@@ -65,7 +65,7 @@ among_members i p = go ((i.1 +ℤ pos 1) -ℤ i.0) refl
     )
     go (negsuc n) e = (λ h. absurd h, λ h. let k = h.0 in let l = h.1 in absurd (omega (arith, ints)))
 
-all_among : {X : Type 0} (t : X → Bool) (xs : List X) → (list_all t xs ≡ true) ↔ ((x : X) → Among x xs → t x ≡ true)
+pub all_among : {X : Type 0} (t : X → Bool) (xs : List X) → (list_all t xs ≡ true) ↔ ((x : X) → Among x xs → t x ≡ true)
 all_among t [] = (λ e x h. absurd h, λ h. refl)
 all_among t (x ∷ xs) =
     let ih = all_among t xs in (

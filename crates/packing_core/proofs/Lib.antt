@@ -12,3 +12,4 @@ pub mod Whole
 pub mod Same
 pub mod Chain
 pub mod AmongLemmas
+pub mod PackedBoxes
