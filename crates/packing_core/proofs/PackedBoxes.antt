@@ -105,20 +105,19 @@ packs-iff : (n k : ℕ) (r r' : List Span → Type 0) → ((y : List Span) → l
 packs-iff n zero r r' e y l h = (e y l).0 h
 packs-iff n (suc k) r r' e y l h =
     IsRun-iff _ _ (λ p.
-      let l' : length (set y k (at_point p)) ≡ n = length-set y k (at_point p) ∙ l in
-      (packs-iff n k r r' e _ l', packs-iff n k r' r (λ z m. ((e z m).1, (e z m).0)) _ l')) _ h
+    let l' : length (set y k (at_point p)) ≡ n = length-set y k (at_point p) ∙ l in
+    (packs-iff n k r r' e _ l', packs-iff n k r' r (λ z m. ((e z m).1, (e z m).0)) _ l')) _ h
 
 module _ {P : Type 0} (R : Boxed P → Boxed P → Ordering) (o : IsTotalOrder R) (same : Separates R) where
   any_among : (q : Boxed P) (ks : List (Boxed P)) → (has R ks q ≡ true) ↔ Among q ks
   any_among q [] = (λ e. absurd (true≢false (sym e)), λ h. absurd h)
   any_among q (k ∷ ks) =
-      let ih = any_among q ks in
-      (
+      let ih = any_among q ks in (
         λ e. elim (or_cases (is_eq (R q k)) (list_any (eq_by_cmp R q) ks) e) [ inl w ↦ inl (sym (same q k (equal (R q k) w))) | inr w ↦ inr (ih.0 w) ],
         λ h. elim h [
           | inl w ↦ or_left (is_eq (R q k)) _ (subst (λ z. is_eq (R q z) ≡ true) (sym w) (ap is_eq (tied_itself o q)))
           | inr w ↦ or_right (is_eq (R q k)) _ (ih.1 w)
-        ]
+        ],
       )
     where
       equal : (r : Ordering) → is_eq r ≡ true → r ≡ Equal
@@ -144,7 +143,7 @@ module _ {P : Type 0} (R : Boxed P → Boxed P → Ordering) (o : IsTotalOrder R
       let sx : get_or x.1 j nowhere ≡ at_point i.0 = get_set y.1 j (at_point i.0) h in
       let sz : get_or z.1 j nowhere ≡ at_point i.1 = get_set y.1 j (at_point i.1) h in
       let e : set (set y.1 j (at_point i.0)) j ((get_or x.1 j nowhere).0, (get_or z.1 j nowhere).1) ≡ y.1 =
-        set_set y.1 j (at_point i.0) ((get_or x.1 j nowhere).0, (get_or z.1 j nowhere).1) ∙ (λ t. set y.1 j ((sx t).0, (sz t).1)) ∙ set_itself y.1 j in
+      set_set y.1 j (at_point i.0) ((get_or x.1 j nowhere).0, (get_or z.1 j nowhere).1) ∙ (λ t. set y.1 j ((sx t).0, (sz t).1)) ∙ set_itself y.1 j in
       (among_flat _ y r).1 (x, a, (among_map _ y r).1 (z, b, λ t. (y.0, e t)))
 
   -- a row is in the packed list exactly where its side is a longest run of the list
@@ -157,37 +156,35 @@ module _ {P : Type 0} (R : Boxed P → Boxed P → Ordering) (o : IsTotalOrder R
       let f = among_filter (is_longest R (side j) r) y (spanned R (side j) r) in
       let a = all_among holds (members i) in
       let none_before : Bool = not (holds (i.0 -ℤ pos 1)) in
-      let none_after : Bool = not (holds (i.1 +ℤ pos 1)) in
-      (
+      let none_after : Bool = not (holds (i.1 +ℤ pos 1)) in (
         λ w. let v = f.0 (l.0 w) in
-          let s = and_parts (int_le i.0 i.1) (list_all holds (members i) && (none_before && none_after)) v.1 in
-          let t = and_parts (list_all holds (members i)) (none_before && none_after) s.1 in
-          let u = and_parts none_before none_after t.1 in
-          record {
-            some = true_le i.0 i.1 s.0;
-            each = λ p g k. (at p).0 ((a.0 t.0) p ((among_members i p).1 (g, k)));
-            before = λ q. not_both _ u.0 ((at _).1 q);
-            after = λ q. not_both _ u.1 ((at _).1 q);
-          },
+            let s = and_parts (int_le i.0 i.1) (list_all holds (members i) && (none_before && none_after)) v.1 in
+            let t = and_parts (list_all holds (members i)) (none_before && none_after) s.1 in
+            let u = and_parts none_before none_after t.1 in
+            record {
+              some = true_le i.0 i.1 s.0;
+              each = λ p g k. (at p).0 ((a.0 t.0) p ((among_members i p).1 (g, k)));
+              before = λ q. not_both _ u.0 ((at _).1 q);
+              after = λ q. not_both _ u.1 ((at _).1 q);
+            },
         λ g. l.1 (f.1 (
           candidate j r y h g,
           and_from (int_le i.0 i.1) _ (le_true i.0 i.1 g.some)
-          (and_from (list_all holds (members i)) (none_before && none_after) (a.1 (λ p m. let c = (among_members i p).0 m in (at p).1 (g.each p c.0 c.1)))
-            (and_from none_before none_after (neither _ (λ q. g.before ((at _).0 q))) (neither _ (λ q. g.after ((at _).0 q)))))
-        ))
+              (and_from (list_all holds (members i)) (none_before && none_after) (a.1 (λ p m. let c = (among_members i p).0 m in (at p).1 (g.each p c.0 c.1)))
+              (and_from none_before none_after (neither _ (λ q. g.before ((at _).0 q))) (neither _ (λ q. g.after ((at _).0 q))))),
+        )),
       )
 
   in_unpack1 : (j : ℕ) (r : List (Boxed P)) (y : Boxed P) → Among y (unpack1 R (side j) r) ↔ ((x : Boxed P) × (p : ℤ) × Among x r × ((get_or x.1 j nowhere).0 ≤ℤ p) × (p ≤ℤ (get_or x.1 j nowhere).1) × ((x.0, set x.1 j (at_point p)) ≡ y))
   in_unpack1 j r y =
       let f : Boxed P → List (Boxed P) = λ x. map (λ p. (x.0, set x.1 j (at_point p))) (members (get_or x.1 j nowhere)) in
       let l = among_in_order (flat_map f r) y in
-      let a = among_flat f y r in
-      (
+      let a = among_flat f y r in (
         λ h. let w = a.0 (l.0 h) in
-          let v = (among_map (λ p. ((w.0).0, set (w.0).1 j (at_point p))) y (members (get_or (w.0).1 j nowhere))).0 w.2 in
-          let n = (among_members (get_or (w.0).1 j nowhere) v.0).0 v.1 in
-          (w.0, v.0, w.1, n.0, n.1, v.2),
-        λ h. l.1 (a.1 (h.0, h.2, (among_map (λ p. ((h.0).0, set (h.0).1 j (at_point p))) y (members (get_or (h.0).1 j nowhere))).1 (h.1, (among_members (get_or (h.0).1 j nowhere) h.1).1 (h.3, h.4), h.5)))
+            let v = (among_map (λ p. ((w.0).0, set (w.0).1 j (at_point p))) y (members (get_or (w.0).1 j nowhere))).0 w.2 in
+            let n = (among_members (get_or (w.0).1 j nowhere) v.0).0 v.1 in
+            (w.0, v.0, w.1, n.0, n.1, v.2),
+        λ h. l.1 (a.1 (h.0, h.2, (among_map (λ p. ((h.0).0, set (h.0).1 j (at_point p))) y (members (get_or (h.0).1 j nowhere))).1 (h.1, (among_members (get_or (h.0).1 j nowhere) h.1).1 (h.3, h.4), h.5))),
       )
 
   -- ---- side after side, the last of them apart
@@ -222,12 +219,11 @@ module _ {P : Type 0} (R : Boxed P → Boxed P → Ordering) (o : IsTotalOrder R
   in_packs (suc k) r l y h =
       let w = in_pack1 k (pack_each R (sides_from 0 k) r) (l, y) h in
       let e : (p : ℤ) → Among (l, set y k (at_point p)) (pack_each R (sides_from 0 k) r) ↔ packs k (λ z. Among (l, z) r) (set y k (at_point p)) =
-        λ p. in_packs k r l (set y k (at_point p)) (omega (arith, length-set y k (at_point p))) in
+      λ p. in_packs k r l (set y k (at_point p)) (omega (arith, length-set y k (at_point p))) in
       let i : Span = get_or y k nowhere in
-      let m = pack_more k r in
-      (
+      let m = pack_more k r in (
         λ g. IsRun-iff _ _ e i (w.0 (subst (Among (l, y)) m g)),
-        λ g. subst (Among (l, y)) (sym m) (w.1 (IsRun-iff _ _ (λ p. ((e p).1, (e p).0)) i g))
+        λ g. subst (Among (l, y)) (sym m) (w.1 (IsRun-iff _ _ (λ p. ((e p).1, (e p).0)) i g)),
       )
 
   -- the rows of r, at a point of each of the first j sides
@@ -235,16 +231,15 @@ module _ {P : Type 0} (R : Boxed P → Boxed P → Ordering) (o : IsTotalOrder R
   in_unpack k zero r sides h y = (λ w. (y.1, w, refl), λ w. subst (λ x. Among (y.0, x) r) w.2 w.1)
   in_unpack k (suc j) r sides h y =
       let a = in_unpack1 j (unpack R (sides_from 0 j) r) y in
-      let m = unpack_more j r in
-      (
+      let m = unpack_more j r in (
         λ w. let v = a.0 (subst (Among y) m w) in
-          let u = (in_unpack k j r sides (omega arith) v.0).0 v.2 in
-          let q : (v.0).0 ≡ y.0 = ap (λ (x : Boxed P). x.0) v.5 in
-          let s : set (v.0).1 j (at_point v.1) ≡ y.1 = ap (λ (x : Boxed P). x.1) v.5 in
-          let l : length (u.0) ≡ k = sides _ u.1 in
-          (u.0, subst (λ n. Among (n, u.0) r) q u.1, from_step j u.0 y.1 (v.0).1 v.1 u.2 (long j u.0 (v.0).1 u.2 (omega arith)) v.3 v.4 s),
+            let u = (in_unpack k j r sides (omega arith) v.0).0 v.2 in
+            let q : (v.0).0 ≡ y.0 = ap (λ (x : Boxed P). x.0) v.5 in
+            let s : set (v.0).1 j (at_point v.1) ≡ y.1 = ap (λ (x : Boxed P). x.1) v.5 in
+            let l : length (u.0) ≡ k = sides _ u.1 in
+            (u.0, subst (λ n. Among (n, u.0) r) q u.1, from_step j u.0 y.1 (v.0).1 v.1 u.2 (long j u.0 (v.0).1 u.2 (omega arith)) v.3 v.4 s),
         λ w. let v = to_step j w.0 y.1 w.2 in
-          subst (Among y) (sym m) (a.1 ((y.0, v.0), v.1, (in_unpack k j r sides (omega arith) (y.0, v.0)).1 (w.0, w.1, v.2), v.4, v.5, λ t. (y.0, v.6 t)))
+            subst (Among y) (sym m) (a.1 ((y.0, v.0), v.1, (in_unpack k j r sides (omega arith) (y.0, v.0)).1 (w.0, w.1, v.2), v.4, v.5, λ t. (y.0, v.6 t))),
       )
     where
       long : (j : ℕ) (x z : List Span) → UnpacksTo j x z → j < length x → j < length z
@@ -256,20 +251,18 @@ module _ {P : Type 0} (R : Boxed P → Boxed P → Ordering) (o : IsTotalOrder R
   -- unpacked rows are the rows of single points at the places of the label
   pub in_unpacked : (k : ℕ) (r : List (Boxed P)) → ((x : Boxed P) → Among x r → length x.1 ≡ k) → (l : P) (z : List Span) → length z ≡ k → Among (l, z) (unpack R (sides_from 0 k) r) ↔ points_of (InBoxes r l) z
   in_unpacked k r sides l z m =
-      let w = in_unpack k k r sides (omega arith) (l, z) in
-      (
+      let w = in_unpack k k r sides (omega arith) (l, z) in (
         λ h. let v = w.0 h in let t = all_to v.0 z (subst (λ n. UnpacksTo n v.0 z) (sym m) v.2) in (t.0, (v.0, v.1, t.1)),
-        λ h. w.1 (h.1.0, h.1.1, subst (λ n. UnpacksTo n h.1.0 z) m (all_from h.1.0 z h.0 h.1.2))
+        λ h. w.1 (h.1.0, h.1.1, subst (λ n. UnpacksTo n h.1.0 z) m (all_from h.1.0 z h.0 h.1.2)),
       )
 
   -- the packed list has the rows that packing the set side after side gives
   pub in_pack : (k : ℕ) (r : List (Boxed P)) → ((x : Boxed P) → Among x r → length x.1 ≡ k) → (l : P) (y : List Span) → length y ≡ k → Among (l, y) (pack R (sides_from 0 k) r) ↔ packs k (points_of (InBoxes r l)) y
   in_pack k r sides l y e =
       let u : (z : List Span) → length z ≡ k → Among (l, z) (unpack R (sides_from 0 k) r) ↔ points_of (InBoxes r l) z = λ z m. in_unpacked k r sides l z m in
-      let a = in_packs k (unpack R (sides_from 0 k) r) l y (omega arith) in
-      (
+      let a = in_packs k (unpack R (sides_from 0 k) r) l y (omega arith) in (
         λ h. packs-iff k k _ _ u y e (a.0 h),
-        λ h. a.1 (packs-iff k k _ _ (λ z m. ((u z m).1, (u z m).0)) y e h)
+        λ h. a.1 (packs-iff k k _ _ (λ z m. ((u z m).1, (u z m).0)) y e h),
       )
 
   -- ---- each row keeps its number of sides
@@ -322,16 +315,15 @@ module _ {P : Type 0} (R : Boxed P → Boxed P → Ordering) (o : IsTotalOrder R
       let r' : List (Boxed P) = in_order R r in
       let h' : AllHave k r' = λ z m. h z ((among_in_order r z).0 m) in
       let s : (ps : List ℤ) → InBoxes r' x.0 ps ↔ InBoxes r x.0 ps = λ ps. (
-          λ w. (w.0, (among_in_order r (x.0, w.0)).0 w.1, w.2),
-          λ w. (w.0, (among_in_order r (x.0, w.0)).1 w.1, w.2)
-        ) in
+        λ w. (w.0, (among_in_order r (x.0, w.0)).0 w.1, w.2),
+        λ w. (w.0, (among_in_order r (x.0, w.0)).1 w.1, w.2),
+      ) in
       let u : (z : List Span) → length z ≡ k → points_of (InBoxes r' x.0) z ↔ points_of (InBoxes r x.0) z = λ z m. (
-          λ w. (w.0, (s (firsts z)).0 w.1),
-          λ w. (w.0, (s (firsts z)).1 w.1)
-        ) in
-      (
+        λ w. (w.0, (s (firsts z)).0 w.1),
+        λ w. (w.0, (s (firsts z)).1 w.1),
+      ) in (
         λ m. let l = have_pack k r' h' x m in (l, packs-iff k k _ _ u x.1 l ((in_pack k r' h' x.0 x.1 l).0 m)),
-        λ w. (in_pack k r' h' x.0 x.1 w.0).1 (packs-iff k k _ _ (λ z m. ((u z m).1, (u z m).0)) x.1 w.0 w.1)
+        λ w. (in_pack k r' h' x.0 x.1 w.0).1 (packs-iff k k _ _ (λ z m. ((u z m).1, (u z m).0)) x.1 w.0 w.1),
       )
 
   pub packed_ascends : (k : ℕ) (r : List (Boxed P)) → Ascends R (pack R (sides_from 0 k) (in_order R r))
@@ -344,7 +336,7 @@ module _ {P : Type 0} (R : Boxed P → Boxed P → Ordering) (o : IsTotalOrder R
   packed_form_is k r rows h a e =
       let p : List (Boxed P) = pack R (sides_from 0 k) (in_order R r) in
       same_by_members R o same rows p a (packed_ascends k r) (λ x.
-        let i = among_in x rows in
-        let j = among_in x p in
-        let q = in_packed_form k r h x in
-        (λ m. j.0 (q.1 ((e x).0 (i.1 m))), λ m. i.0 ((e x).1 (q.0 (j.1 m)))))
+      let i = among_in x rows in
+      let j = among_in x p in
+      let q = in_packed_form k r h x in
+      (λ m. j.0 (q.1 ((e x).0 (i.1 m))), λ m. i.0 ((e x).1 (q.0 (j.1 m)))))
