@@ -1,0 +1,306 @@
+-- The numbering of cuts.
+use Rattle.std.proofs.Common.{◌≡◌, ℕ, zero, suc, ◌+◌, ◌*◌, ◌<◌, ◌≤◌, Bool, true, false, ℤ, pos, ◌+ℤ◌, ◌≤ℤ◌, ◌<ℤ◌, List, [], ◌∷◌, ◌++◌, map, length, get_or, set, take, ◌↔◌, ◌⊎◌, inl, inr, arith, sym, ap, subst, refl, ◌∙◌, Option, Some, None}
+use Rattle.std.proofs.lemmas.Int.{ints, by_lt_z}
+use Rattle.std.proofs.lemmas.Bool.{cases_lt, cases_eq}
+use Rattle.std.proofs.lemmas.List.{take_more, get_or-set_same, get_or-set_other, get_or_default, length-map, length_push}
+use Rattle.std.proofs.lemmas.List.Elements.{All-same, All-push, recursion_from_All}
+use Rattle.std.specs.List.{All, AllByRecursion}
+use Rattle.std.specs.Option.{IsSome, IsNone}
+use Rattle.std.specs.Ordering.{int_cmp, is_eq}
+use Rattle.std.specs.FinMap.{int_cmp-IsAntisymmetric}
+use Rattle.std.proofs.lemmas.Cmp.{int_cmp_total, tied_itself}
+use Rattle.std.specs.declared.cmp.Ordering.TheVariants.{Less, Equal, Greater}
+use Rattle.point_core.specs.Pairs.{InOrder}
+use Rattle.packing_core.specs.Covering.{Among}
+use Rattle.cell_core.specs.Numbering.{cut_at, Rises, ends, IsLastOf, HasTag, IsPlaced, IsPut, IsAdded, IsAtTag, of_cell, of_point}
+
+pub cut_get : (ns : List ℤ) (top : ℤ) (i : ℕ) (d : ℤ) → i < length ns → cut_at ns top i ≡ get_or ns i d
+cut_get [] top i d h = absurd (omega arith)
+cut_get (c ∷ cs) top zero d h = refl
+cut_get (c ∷ cs) top (suc i) d h = cut_get cs top i d (omega arith)
+
+pub cut_end : (ns : List ℤ) (top : ℤ) → cut_at ns top (length ns) ≡ top
+cut_end [] top = omega (arith, ints)
+cut_end (c ∷ cs) top = cut_end cs top
+
+pub rises_next : (ns : List ℤ) (top : ℤ) → Rises ns top → (i : ℕ) → cut_at ns top i <ℤ cut_at ns top (suc i)
+rises_next [] top r i = omega (arith, ints)
+rises_next (c ∷ cs) top r zero = r.0
+rises_next (c ∷ cs) top r (suc i) = rises_next cs top r.1 i
+
+first_mono : (cs : List ℤ) (a b : ℤ) → a ≤ℤ b → cut_at cs a 0 ≤ℤ cut_at cs b 0
+first_mono [] a b h = omega (arith, ints)
+first_mono (c ∷ cs) a b h = omega (arith, ints)
+
+pub rises_mono : (ns : List ℤ) (a b : ℤ) → a ≤ℤ b → Rises ns a → Rises ns b
+rises_mono [] a b h r = tt
+rises_mono (c ∷ cs) a b h r =
+    let f = first_mono cs a b h in
+    let l = r.0 in
+    (omega (arith, ints), rises_mono cs a b h r.1)
+
+pub rises_strict : (ns : List ℤ) (p : ℤ) → Rises ns (p +ℤ pos 1) → (IsLastOf ns p → ⊥) → Rises ns p
+rises_strict [] p r n = tt
+rises_strict (c ∷ []) p r n =
+    let l = r.0 in
+    by_lt_z c p (λ h. (omega (arith, ints), tt)) (λ h. let e : c ≡ p = omega (arith, ints) in absurd (n e))
+rises_strict (c ∷ y ∷ ys) p r n = (r.0, rises_strict (y ∷ ys) p r.1 n)
+
+pub rises_push : (ns : List ℤ) (p : ℤ) → Rises ns p → Rises (ns ++ p ∷ []) (p +ℤ pos 1)
+rises_push [] p r = (omega (arith, ints), tt)
+rises_push (c ∷ []) p r = let l = r.0 in (omega (arith, ints), (omega (arith, ints), tt))
+rises_push (c ∷ y ∷ ys) p r = (r.0, rises_push (y ∷ ys) p r.1)
+
+last_push : (ns : List ℤ) (p : ℤ) → IsLastOf (ns ++ p ∷ []) p
+last_push [] p = refl
+last_push (c ∷ []) p = refl
+last_push (c ∷ y ∷ ys) p = last_push (y ∷ ys) p
+
+cut_last : (ns : List ℤ) (top p : ℤ) (m : ℕ) → IsLastOf ns p → suc m ≡ length ns → cut_at ns top m ≡ p
+cut_last [] top p m h e = absurd h
+cut_last (x ∷ []) top p zero h e = h
+cut_last (x ∷ []) top p (suc m) h e = absurd (omega arith)
+cut_last (x ∷ y ∷ ys) top p zero h e = absurd (omega arith)
+cut_last (x ∷ y ∷ ys) top p (suc m) h e = cut_last (y ∷ ys) top p m h (omega arith)
+
+last_some : (ns : List ℤ) (p : ℤ) → IsLastOf ns p → 0 < length ns
+last_some [] p h = absurd h
+last_some (x ∷ xs) p h = omega arith
+
+cut_push : (ns : List ℤ) (p top : ℤ) (i : ℕ) → i < length ns → cut_at (ns ++ p ∷ []) top i ≡ cut_at ns top i
+cut_push [] p top i h = absurd (omega arith)
+cut_push (c ∷ cs) p top zero h = refl
+cut_push (c ∷ cs) p top (suc i) h = cut_push cs p top i (omega arith)
+
+pub last_get : {P : Type 0} (n : P → ℤ) (xs : List P) (m : ℕ) (x : P) (p : ℤ) → suc m ≡ length xs → x ≡ get_or xs m x → IsLastOf (map n xs) p ↔ (n x ≡ p)
+last_get n [] m x p e q = absurd (omega arith)
+last_get n (a ∷ []) zero x p e q = (λ h. ap n q ∙ h, λ h. ap n (sym q) ∙ h)
+last_get n (a ∷ []) (suc m) x p e q = absurd (omega arith)
+last_get n (a ∷ b ∷ xs) zero x p e q = absurd (omega arith)
+last_get n (a ∷ b ∷ xs) (suc m) x p e q = last_get n (b ∷ xs) m x p (omega arith) q
+
+pub last_none : {P : Type 0} (n : P → ℤ) (xs : List P) (p : ℤ) → length xs ≡ 0 → IsLastOf (map n xs) p → ⊥
+last_none n [] p e h = h
+last_none n (x ∷ xs) p e h = omega arith
+
+-- ---- cuts in order
+
+module _ {P : Type 0} (n : P → ℤ) where
+  map_push : (xs : List P) (x : P) → map n (xs ++ x ∷ []) ≡ map n xs ++ n x ∷ []
+  map_push [] x = refl
+  map_push (y ∷ ys) x = ap (λ zs. n y ∷ zs) (map_push ys x)
+
+  pub added_rises : (p : P) (old new : List P) → IsAdded n p old new → Rises (map n old) (n p +ℤ pos 1) → Rises (map n new) (n p +ℤ pos 1)
+  added_rises p old new h r = elim h [
+    | inl w ↦ subst (λ xs. Rises (map n xs) (n p +ℤ pos 1)) (sym w.0) r
+    | inr w ↦ subst (λ xs. Rises xs (n p +ℤ pos 1)) (sym (ap (map n) w.0 ∙ map_push old p)) (rises_push (map n old) (n p) (rises_strict (map n old) (n p) r w.1))
+  ]
+
+  pub added_points : (has : P → Type 0) (p : P) (old new : List P) → IsAdded n p old new → has p → All has old → All has new
+  added_points has p old new h k a = elim h [
+    | inl w ↦ All-same has new old w.0 a
+    | inr w ↦ All-same has new _ w.0 (All-push has old p a k)
+  ]
+
+  pub added_length : (p : P) (old new : List P) → IsAdded n p old new → (length old ≤ length new) × (length new ≤ length old + 1)
+  added_length p old new h = elim h [
+    | inl w ↦ let e : length new ≡ length old = ap length w.0 in (omega arith, omega arith)
+    | inr w ↦ let e : length new ≡ length old + 1 = ap length w.0 ∙ length_push old p in (omega arith, omega arith)
+  ]
+
+  pub added_some : (p : P) (old new : List P) → IsAdded n p old new → 0 < length new
+  added_some p old new h = elim h [
+    | inl w ↦ let l = last_some (map n old) (n p) w.1 in let m = length-map old n in let e : length new ≡ length old = ap length w.0 in omega arith
+    | inr w ↦ let e : length new ≡ length old + 1 = ap length w.0 ∙ length_push old p in omega arith
+  ]
+
+  added_last : (p : P) (old new : List P) → IsAdded n p old new → IsLastOf (map n new) (n p)
+  added_last p old new h = elim h [
+    | inl w ↦ subst (λ xs. IsLastOf (map n xs) (n p)) (sym w.0) w.1
+    | inr w ↦ subst (λ xs. IsLastOf xs (n p)) (sym (ap (map n) w.0 ∙ map_push old p)) (last_push (map n old) (n p))
+  ]
+
+  added_cut : (p : P) (old new : List P) (top : ℤ) (i : ℕ) → IsAdded n p old new → i < length old → cut_at (map n new) top i ≡ cut_at (map n old) top i
+  added_cut p old new top i h l = elim h [
+    | inl w ↦ ap (λ xs. cut_at (map n xs) top i) w.0
+    | inr w ↦ ap (λ xs. cut_at xs top i) (ap (map n) w.0 ∙ map_push old p) ∙ cut_push (map n old) (n p) top i (let m = length-map old n in omega arith)
+  ]
+
+  added_cells : (p : P) (old new : List P) (top : ℤ) → IsAdded n p old new → (cells : List (ℕ × ℕ)) → AllByRecursion (λ x. x.0 < length old) cells → map (of_cell (map n new) top) cells ≡ map (of_cell (map n old) top) cells
+  added_cells p old new top h [] a = refl
+  added_cells p old new top h (x ∷ xs) a = λ t. (added_cut p old new top x.0 h a.0 t, x.1) ∷ added_cells p old new top h xs a.1 t
+
+  cells_push : (ns : List ℤ) (top : ℤ) (cells : List (ℕ × ℕ)) (x : ℕ × ℕ) → map (of_cell ns top) (cells ++ x ∷ []) ≡ map (of_cell ns top) cells ++ of_cell ns top x ∷ []
+  cells_push ns top [] x = refl
+  cells_push ns top (y ∷ ys) x = ap (λ zs. of_cell ns top y ∷ zs) (cells_push ns top ys x)
+
+  points_push : (xs : List (P × ℕ)) (x : P × ℕ) → map (of_point n) (xs ++ x ∷ []) ≡ map (of_point n) xs ++ of_point n x ∷ []
+  points_push [] x = refl
+  points_push (y ∷ ys) x = ap (λ zs. of_point n y ∷ zs) (points_push ys x)
+
+  -- one pair more
+  pub cells_step : (x : P × ℕ) (old new : List P) (top : ℤ) (cells more : List (ℕ × ℕ)) (c : ℕ) (list : List (P × ℕ)) (i : ℕ) → IsAdded n x.0 old new → All (λ y. y.0 < length old) cells
+      → suc c ≡ length new → more ≡ cells ++ (c, x.1) ∷ [] → i < length list → x ≡ get_or list i x
+      → map (of_cell (map n old) top) cells ≡ map (of_point n) (take i list) → map (of_cell (map n new) top) more ≡ map (of_point n) (take (i + 1) list)
+  cells_step x old new top cells more c list i h a e m l q k =
+      let last : cut_at (map n new) top c ≡ n x.0 = cut_last (map n new) top (n x.0) c (added_last x.0 old new h) (e ∙ sym (length-map new n)) in
+      ap (map (of_cell (map n new) top)) m
+      ∙ cells_push (map n new) top cells (c, x.1)
+      ∙ (λ t. (added_cells x.0 old new top h cells (recursion_from_All (λ (y : ℕ × ℕ). y.0 < length old) cells a) ∙ k) t ++ (last t, x.1) ∷ [])
+      ∙ ap (λ y. map (of_point n) (take i list) ++ of_point n y ∷ []) q
+      ∙ sym (points_push (take i list) (get_or list i x))
+      ∙ ap (map (of_point n)) (sym (take_more list i x l))
+
+  pub next_rises : (list : List (P × ℕ)) (i : ℕ) (x d : P × ℕ) (ns : List ℤ) → InOrder n list → i + 1 < length list → x ≡ get_or list i x → Rises ns (n x.0 +ℤ pos 1) → Rises ns (n (get_or list (i + 1) d).0 +ℤ pos 1)
+  next_rises list i x d ns o l q r =
+      let e : n x.0 ≡ n (get_or list i d).0 = ap (λ (y : P × ℕ). n y.0) (q ∙ get_or_default list i x d (omega arith)) in
+      let w : n (get_or list i d).0 ≤ℤ n (get_or list (i + 1) d).0 = elim (o i d l) [ inl v ↦ omega (arith, ints) | inr v ↦ let u = v.0 in omega (arith, ints) ] in
+      rises_mono ns (n x.0 +ℤ pos 1) (n (get_or list (i + 1) d).0 +ℤ pos 1) (omega (arith, ints)) r
+
+  -- ---- the ends_list ends
+
+  pub length_ends : (spans : List (P × P)) → length (ends n spans) ≡ 2 * length spans
+  length_ends [] = refl
+  length_ends (x ∷ xs) = let w = length_ends xs in omega arith
+
+  pub ends_even : (spans : List (P × P)) (r : ℕ) (d : P × P) → r < length spans → get_or (ends n spans) (2 * r) (pos 0) ≡ n (get_or spans r d).0
+  ends_even [] r d h = absurd (omega arith)
+  ends_even (x ∷ xs) zero d h = refl
+  ends_even (x ∷ xs) (suc r) d h =
+      let e : 2 * suc r ≡ suc (suc (2 * r)) = omega arith in
+      ap (λ m. get_or (ends n (x ∷ xs)) m (pos 0)) e ∙ ends_even xs r d (omega arith)
+
+  pub ends_odd : (spans : List (P × P)) (r : ℕ) (d : P × P) → r < length spans → get_or (ends n spans) (2 * r + 1) (pos 0) ≡ n (get_or spans r d).1 +ℤ pos 1
+  ends_odd [] r d h = absurd (omega arith)
+  ends_odd (x ∷ xs) zero d h = refl
+  ends_odd (x ∷ xs) (suc r) d h =
+      let e : 2 * suc r + 1 ≡ suc (suc (2 * r + 1)) = omega arith in
+      ap (λ m. get_or (ends n (x ∷ xs)) m (pos 0)) e ∙ ends_odd xs r d (omega arith)
+
+pub among_push : {X : Type 0} (xs : List X) (x y : X) → Among y (xs ++ x ∷ []) → Among y xs ⊎ (x ≡ y)
+among_push [] x y h = elim h [ inl w ↦ inr w | inr w ↦ inl w ]
+among_push (z ∷ zs) x y h = elim h [ inl w ↦ inl (inl w) | inr w ↦ elim (among_push zs x y w) [ inl v ↦ inl (inr v) | inr v ↦ inr v ] ]
+
+pub among_front : {X : Type 0} (xs ys : List X) (y : X) → Among y xs → Among y (xs ++ ys)
+among_front [] ys y h = absurd h
+among_front (x ∷ xs) ys y h = elim h [ inl e ↦ inl e | inr w ↦ inr (among_front xs ys y w) ]
+
+pub among_end : {X : Type 0} (xs : List X) (y : X) → Among y (xs ++ y ∷ [])
+among_end [] y = inl refl
+among_end (x ∷ xs) y = inr (among_end xs y)
+
+pub tag_front : {X : Type 0} (xs ys : List (X × ℕ)) (tag : ℕ) → HasTag xs tag → HasTag (xs ++ ys) tag
+tag_front [] ys tag h = absurd h
+tag_front (x ∷ xs) ys tag h = elim h [ inl e ↦ inl e | inr w ↦ inr (tag_front xs ys tag w) ]
+
+pub tag_end : {X : Type 0} (xs : List (X × ℕ)) (x : X × ℕ) → HasTag (xs ++ x ∷ []) x.1
+tag_end [] x = inl refl
+tag_end (y ∷ ys) x = inr (tag_end ys x)
+
+tag_push : {X : Type 0} (xs : List (X × ℕ)) (x : X × ℕ) (tag : ℕ) → HasTag (xs ++ x ∷ []) tag → HasTag xs tag ⊎ (x.1 ≡ tag)
+tag_push [] x tag h = elim h [ inl w ↦ inr w | inr w ↦ inl w ]
+tag_push (z ∷ zs) x tag h = elim h [ inl w ↦ inl (inl w) | inr w ↦ elim (tag_push zs x tag w) [ inl v ↦ inl (inr v) | inr v ↦ inr v ] ]
+
+-- one span more
+module _ {P : Type 0} (n : P → ℤ) (has : P → Type 0) (high : ℤ) (spans : List (P × P)) (r : ℕ) (x : P × P) (old mid new : List (P × ℕ))
+    (l : r < length spans) (q : x ≡ get_or spans r x) (e : mid ≡ old ++ (x.0, 2 * r) ∷ []) (put : IsPut n has high x.1 (2 * r + 1) mid new) where
+  pub placed_step : has x.0 → ((y : P × ℕ) → Among y old → IsPlaced n has spans y) → (y : P × ℕ) → Among y new → IsPlaced n has spans y
+  placed_step h old_placed y m =
+      let len = length_ends n spans in
+      let first : (z : P × ℕ) → Among z mid → IsPlaced n has spans z = λ z w. elim (among_push old (x.0, 2 * r) z (subst (Among z) e w)) [
+        | inl v ↦ old_placed z v
+        | inr v ↦ subst (IsPlaced n has spans) v (omega arith, ends_even n spans r x l ∙ ap (λ (s : P × P). n s.0) (sym q), h)
+      ] in
+      elim put [
+        | inl w ↦ elim (among_push mid (w.0, 2 * r + 1) y (subst (Among y) w.1 m)) [
+          | inl v ↦ first y v
+          | inr v ↦ subst (IsPlaced n has spans) v (omega arith, ends_odd n spans r x l ∙ ap (λ (s : P × P). n s.1 +ℤ pos 1) (sym q) ∙ sym w.2, w.3)
+        ]
+        | inr w ↦ first y (subst (Among y) w.0 m)
+      ]
+
+  pub found_step : ((tag : ℕ) → tag < 2 * r → HasTag old tag ⊎ (get_or (ends n spans) tag (pos 0) ≡ high +ℤ pos 1)) → (tag : ℕ) → tag < 2 * (r + 1) → HasTag new tag ⊎ (get_or (ends n spans) tag (pos 0) ≡ high +ℤ pos 1)
+  found_step old_found tag b =
+      let keep : (t : ℕ) → HasTag mid t → HasTag new t = λ t h. elim put [
+        | inl w ↦ subst (λ ys. HasTag ys t) (sym w.1) (tag_front mid _ t h)
+        | inr w ↦ subst (λ ys. HasTag ys t) (sym w.0) h
+      ] in
+      elim (cases_lt tag (2 * r)) [
+        | inl w ↦ elim (old_found tag w) [
+          | inl v ↦ inl (keep tag (subst (λ ys. HasTag ys tag) (sym e) (tag_front old _ tag v)))
+          | inr v ↦ inr v
+        ]
+        | inr w ↦ elim (cases_lt tag (2 * r + 1)) [
+          | inl v ↦ let s : tag ≡ 2 * r = omega arith in inl (keep tag (subst (λ t. HasTag mid t) (sym s) (subst (λ ys. HasTag ys (2 * r)) (sym e) (tag_end old (x.0, 2 * r)))))
+          | inr v ↦ let s : tag ≡ 2 * r + 1 = omega arith in elim put [
+            | inl u ↦ inl (subst (λ t. HasTag new t) (sym s) (subst (λ ys. HasTag ys (2 * r + 1)) (sym u.1) (tag_end mid (u.0, 2 * r + 1))))
+            | inr u ↦ inr (ap (λ m. get_or (ends n spans) m (pos 0)) s ∙ ends_odd n spans r x l ∙ ap (λ (w : P × P). n w.1 +ℤ pos 1) (sym q) ∙ ap (λ m. m +ℤ pos 1) u.1)
+          ]
+        ]
+      ]
+
+  pub count_step : length old ≤ 2 * r → length new ≤ 2 * (r + 1)
+  count_step b =
+      let m : length mid ≡ length old + 1 = ap length e ∙ length_push old (x.0, 2 * r) in
+      elim put [
+        | inl w ↦ let k : length new ≡ length mid + 1 = ap length w.1 ∙ length_push mid (w.0, 2 * r + 1) in omega arith
+        | inr w ↦ let k : length new ≡ length mid = ap length w.0 in omega arith
+      ]
+
+-- one cell more in the table
+pub table_step : (cells : List (ℕ × ℕ)) (i last count : ℕ) (x : ℕ × ℕ) (old new : List ℕ) → i < length cells → x ≡ get_or cells i x → length old ≡ count → new ≡ set old x.1 x.0
+    → ((tag : ℕ) → tag < count → IsAtTag (take i cells) last tag (get_or old tag 0)) → (tag : ℕ) → tag < count → IsAtTag (take (i + 1) cells) last tag (get_or new tag 0)
+table_step cells i last count x old new l q len e h tag b =
+    let more : take (i + 1) cells ≡ take i cells ++ x ∷ [] = take_more cells i x l ∙ ap (λ y. take i cells ++ y ∷ []) (sym q) in
+    subst (λ ys. IsAtTag ys last tag (get_or new tag 0)) (sym more)
+    (elim (cases_eq x.1 tag) [
+      | inl s ↦
+          let v : get_or new tag 0 ≡ x.0 = ap (λ ys. get_or ys tag 0) e ∙ ap (λ m. get_or (set old m x.0) tag 0) s ∙ get_or-set_same old tag x.0 0 (omega arith) in
+          inl (subst (λ c. Among (c, tag) (take i cells ++ x ∷ [])) (sym v) (subst (λ m. Among (x.0, m) (take i cells ++ x ∷ [])) s (among_end (take i cells) x)))
+      | inr s ↦
+          let v : get_or new tag 0 ≡ get_or old tag 0 = ap (λ ys. get_or ys tag 0) e ∙ get_or-set_other old x.1 tag x.0 0 (λ w. s (sym w)) in
+          subst (IsAtTag (take i cells ++ x ∷ []) last tag) (sym v) (elim (h tag b) [
+            | inl w ↦ inl (among_front (take i cells) _ _ w)
+            | inr w ↦ inr (w.0, λ k. elim (tag_push (take i cells) x tag k) [ inl u ↦ w.1 u | inr u ↦ s u ])
+          ])
+    ])
+
+-- ---- reads
+
+is_equal : (o : _) → is_eq o ≡ true → o ≡ Equal
+is_equal Less e = cc
+is_equal Equal e = refl
+is_equal Greater e = cc
+
+pub cmp_equal : (a b : ℤ) (r : Bool) → r ≡ is_eq (int_cmp a b) → r ≡ true → a ≡ b
+cmp_equal a b r e h = int_cmp-IsAntisymmetric a b (is_equal (int_cmp a b) (sym e ∙ h))
+
+pub cmp_other : (a b : ℤ) (r : Bool) → r ≡ is_eq (int_cmp a b) → r ≡ false → a ≡ b → ⊥
+cmp_other a b r e h q =
+    let s : int_cmp a b ≡ Equal = subst (λ z. int_cmp a z ≡ Equal) q (tied_itself int_cmp_total a) in
+    let f : is_eq (int_cmp a b) ≡ true = ap is_eq s in
+    cc
+
+pub some_from : {X : Type 0} (o : Option X) → (IsNone o → ⊥) → IsSome o
+some_from None h = absurd (h refl)
+some_from (Some x) h = refl
+
+pub read_cut : {P : Type 0} (n : P → ℤ) (cuts : List P) (top : ℤ) (i : ℕ) (x : P) → i < length cuts → x ≡ get_or cuts i x → cut_at (map n cuts) top i ≡ n x
+read_cut n [] top i x h q = absurd (omega arith)
+read_cut n (c ∷ cs) top zero x h q = ap n (sym q)
+read_cut n (c ∷ cs) top (suc i) x h q = read_cut n cs top i x (omega arith) q
+
+pub read_next : {P : Type 0} (n : P → ℤ) (cuts : List P) (top : ℤ) (i : ℕ) (x : P) → i + 1 < length cuts → x ≡ get_or cuts (i + 1) x → cut_at (map n cuts) top (suc i) ≡ n x
+read_next n cuts top i x h q =
+    let e : i + 1 ≡ suc i = omega arith in
+    read_cut n cuts top (suc i) x (omega arith) (q ∙ ap (λ m. get_or cuts m x) e)
+
+pub read_before : {P : Type 0} (n : P → ℤ) (cuts : List P) (top : ℤ) (i : ℕ) (x : P) → Rises (map n cuts) top → i + 1 < length cuts → x ≡ get_or cuts (i + 1) x → n (get_or cuts i x) <ℤ n x
+read_before n cuts top i x r h q =
+    let a : cut_at (map n cuts) top i ≡ n (get_or cuts i x) = read_cut n cuts top i (get_or cuts i x) (omega arith) (get_or_default cuts i x (get_or cuts i x) (omega arith)) in
+    let b = read_next n cuts top i x h q in
+    let l = rises_next (map n cuts) top r i in
+    omega (arith, ints)
+
+pub read_end : {P : Type 0} (n : P → ℤ) (cuts : List P) (top : ℤ) (i : ℕ) → suc i ≡ length cuts → cut_at (map n cuts) top (suc i) ≡ top
+read_end n cuts top i e = ap (cut_at (map n cuts) top) (e ∙ sym (length-map cuts n)) ∙ cut_end (map n cuts) top

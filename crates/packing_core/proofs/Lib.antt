@@ -1,0 +1,15 @@
+pub mod Runs
+pub mod Joined
+pub mod Cells
+pub mod Commute
+pub mod Exists
+pub mod Covered
+pub mod Slices
+pub mod Inward
+pub mod Numbered
+pub mod Order
+pub mod Whole
+pub mod Same
+pub mod Chain
+pub mod AmongLemmas
+pub mod PackedBoxes

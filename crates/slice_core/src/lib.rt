@@ -1,0 +1,10 @@
+//! Packed rows over numbered cells, from the last side inward.
+#![tactic(auto)]
+
+mod cell_op;
+mod inward;
+mod key;
+
+pub use cell_op::CellOp;
+pub use inward::{IndexBox, slices};
+pub use key::Key;
