@@ -1,0 +1,7 @@
+pub mod Pieces
+pub mod Plain
+pub mod Written
+pub mod Continues
+pub mod Table
+pub mod Limits
+pub mod Verdict
