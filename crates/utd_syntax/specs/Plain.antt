@@ -101,6 +101,10 @@ pub data HeadingP : Type 0 where
 pub data NamesP : Type 0 where
   Names : Place → List Word → NamesP
 
+-- "(" [ name { "," name } ] ")"
+pub data NameListP : Type 0 where
+  NameList : Place → List Word → NameListP
+
 -- "{" name { "," name } "}"
 pub data SomeNamesP : Type 0 where
   SomeNames : Place → Word → List Word → SomeNamesP
@@ -204,7 +208,7 @@ mutual
     Relvar : Word → OperandP
     OfLiteral : LiteralP → OperandP
     ParenRel : Place → RelP → OperandP
-    PackOn : Place → PackWord → RelP → ListP → OperandP
+    PackOn : Place → PackWord → RelP → NameListP → OperandP
 
   -- "EXTEND" rel ":" sets
   pub data ExtendP : Type 0 where
@@ -216,7 +220,7 @@ mutual
 
   -- "USING" list ":" using_part
   pub data UsingP : Type 0 where
-    Using : Place → ListP → UsingPartP → UsingP
+    Using : Place → NameListP → UsingPartP → UsingP
 
   -- extend | summarize | operand infix operand | operand projection | operand "WHERE" scalar
   pub data UsingPartP : Type 0 where
@@ -244,9 +248,9 @@ pub data UsedConstraintP : Type 0 where
 pub data ConstraintP : Type 0 where
   KeyOf : KeyP → ConstraintP
   ForeignOf : ForeignP → ConstraintP
-  PackedOn : Place → ListP → ConstraintP
-  WhenUnpacked : Place → ListP → KeyP → ConstraintP
-  UsingConstraint : Place → ListP → UsedConstraintP → ConstraintP
+  PackedOn : Place → NameListP → ConstraintP
+  WhenUnpacked : Place → NameListP → KeyP → ConstraintP
+  UsingConstraint : Place → NameListP → UsedConstraintP → ConstraintP
 
 -- "RELATION" heading { constraint } | "VIRTUAL" "(" rel ")"
 pub data VarFormP : Type 0 where
@@ -259,7 +263,7 @@ pub data ComparisonP : Type 0 where
 
 -- "USING" list ":" comparison | ( "IS_EMPTY" | "IS_NOT_EMPTY" ) "(" rel ")" | comparison
 pub data TestP : Type 0 where
-  UsingTest : Place → ListP → ComparisonP → TestP
+  UsingTest : Place → NameListP → ComparisonP → TestP
   Emptiness : Place → EmptinessWord → RelP → TestP
   OfComparison : ComparisonP → TestP
 
@@ -287,7 +291,7 @@ pub data ItemP : Type 0 where
   Delete : Place → Word → DeletionP → ItemP
   Update : Place → Word → MaybePortionP → ConditionP → SetsP → ItemP
   Terminate : Place → Word → Place → ScalarP → ConditionP → ItemP
-  UsingItem : Place → ListP → UsedItemP → ItemP
+  UsingItem : Place → NameListP → UsedItemP → ItemP
 
 -- item { "," item }
 pub data AssignP : Type 0 where

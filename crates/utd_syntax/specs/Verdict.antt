@@ -32,8 +32,8 @@ at_form (Takes how more) stack load beyond = Reaches how (more ++ stack) load
 
 -- the forms that end before the token are passed
 unfoldable pub reach : List Symbol → Load → Terminal → List ℕ → Terminal → Reach
-reach [] load x b next = Over
-reach (s ∷ stack) load x b next = at_form (turn s x b next) stack load (reach stack (outside s load) x b next)
+reach [] load x b behind = Over
+reach (s ∷ stack) load x b behind = at_form (turn s x b behind) stack load (reach stack (outside s load) x b behind)
 
 abbrev pub counted : Load → Load
 counted load = record load { operators = load.operators + 1 }

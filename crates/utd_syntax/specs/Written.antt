@@ -30,7 +30,7 @@ use Rattle.utd_syntax.specs.declared.words.RelationComparison.TheVariants as rel
 use Rattle.utd_syntax.specs.declared.words.EmptinessWord.{EmptinessWord}
 use Rattle.utd_syntax.specs.declared.words.EmptinessWord.TheVariants as emptinesses
 use Rattle.utd_syntax.specs.Pieces.{Piece, first}
-use Rattle.utd_syntax.specs.Plain.{Word, word, PointP, ScalarP, ConjP, NegP, CmpP, SumP, ProdP, SignP, PrimaryP, KindP, AttributeP, HeadingP, NamesP, SomeNamesP, ElementP, ElementsP, SomeElementsP, TupleP, LiteralP, SetItemP, SetsP, AggregateFormP, AggregateP, AggregatesP, RenamingP, RenamingsP, PortionP, MaybePortionP, ConditionP, ProjectionP, RelP, TermsP, TermP, RelPrimaryP, OperandP, ExtendP, SummarizeP, UsingP, UsingPartP, KeyP, ForeignP, UsedConstraintP, ConstraintP, VarFormP, ComparisonP, TestP, UsedDeletionP, UsedItemP, DeletionP, ItemP, AssignP, StatementP, IntegerType, DateType, NamedType, OneConj, Or, OneNeg, And, Not, OneCmp, OneSum, Compare, OneProd, Add, OneSign, Multiply, NegativeInteger, Negate, OnePrimary, IntegerLiteral, TextLiteral, DateLiteral, TrueLiteral, FalseLiteral, AttributeName, Dotted, Paren, Selector, Extreme, Function, PairFunction, BooleanKind, CharKind, PointKind, IntervalKind, Attribute, Heading, Names, NameList, SomeNames, Element, Elements, SomeElements, Tuple, Tuples, Headed, SetItem, Sets, CountRows, AggregateOf, Aggregate, Aggregates, Renaming, Renamings, Portion, NoPortion, OfPortion, NoCondition, Where, Onto, AllBut, OfUsing, OfTerms, OneTerm, Infix, NotMatching, OneRelPrimary, Project, Filter, Rename, OfExtend, OfSummarize, OfOperand, Relvar, OfLiteral, ParenRel, PackOn, Extend, Summarize, Using, UsingExtend, UsingSummarize, UsingInfix, UsingNotMatching, UsingProject, UsingFilter, Key, Foreign, UsedKey, UsedForeign, KeyOf, ForeignOf, PackedOn, WhenUnpacked, UsingConstraint, BaseRelvar, View, Comparison, UsingTest, Emptiness, OfComparison, UsedDeleteWhere, UsedDeleteRows, UsedInsert, UsedDelete, UsedUpdate, DeleteWhere, DeletePortion, DeleteRows, SetRelvar, Insert, Delete, Update, Terminate, UsingItem, Assign, Nothing, DeclareOrdinal, DeclareRelvar, DeclareHistory, Drop, Print, Ask, Assignment}
+use Rattle.utd_syntax.specs.Plain.{Word, word, PointP, ScalarP, ConjP, NegP, CmpP, SumP, ProdP, SignP, PrimaryP, KindP, AttributeP, HeadingP, NamesP, NameListP, SomeNamesP, ElementP, ElementsP, SomeElementsP, TupleP, LiteralP, SetItemP, SetsP, AggregateFormP, AggregateP, AggregatesP, RenamingP, RenamingsP, PortionP, MaybePortionP, ConditionP, ProjectionP, RelP, TermsP, TermP, RelPrimaryP, OperandP, ExtendP, SummarizeP, UsingP, UsingPartP, KeyP, ForeignP, UsedConstraintP, ConstraintP, VarFormP, ComparisonP, TestP, UsedDeletionP, UsedItemP, DeletionP, ItemP, AssignP, StatementP, IntegerType, DateType, NamedType, OneConj, Or, OneNeg, And, Not, OneCmp, OneSum, Compare, OneProd, Add, OneSign, Multiply, NegativeInteger, Negate, OnePrimary, IntegerLiteral, TextLiteral, DateLiteral, TrueLiteral, FalseLiteral, AttributeName, Dotted, Paren, Selector, Extreme, Function, PairFunction, BooleanKind, CharKind, PointKind, IntervalKind, Attribute, Heading, Names, NameList, SomeNames, Element, Elements, SomeElements, Tuple, Tuples, Headed, SetItem, Sets, CountRows, AggregateOf, Aggregate, Aggregates, Renaming, Renamings, Portion, NoPortion, OfPortion, NoCondition, Where, Onto, AllBut, OfUsing, OfTerms, OneTerm, Infix, NotMatching, OneRelPrimary, Project, Filter, Rename, OfExtend, OfSummarize, OfOperand, Relvar, OfLiteral, ParenRel, PackOn, Extend, Summarize, Using, UsingExtend, UsingSummarize, UsingInfix, UsingNotMatching, UsingProject, UsingFilter, Key, Foreign, UsedKey, UsedForeign, KeyOf, ForeignOf, PackedOn, WhenUnpacked, UsingConstraint, BaseRelvar, View, Comparison, UsingTest, Emptiness, OfComparison, UsedDeleteWhere, UsedDeleteRows, UsedInsert, UsedDelete, UsedUpdate, DeleteWhere, DeletePortion, DeleteRows, SetRelvar, Insert, Delete, Update, Terminate, UsingItem, Assign, Nothing, DeclareOrdinal, DeclareRelvar, DeclareHistory, Drop, Print, Ask, Assignment}
 
 -- What a tree says of one token: what it is, and where the tree keeps them its place and its bytes.
 pub data Mark : Type 0 where
@@ -44,11 +44,11 @@ pub data Mark : Type 0 where
 
 -- the token, given the one behind it
 abbrev pub IsMark : Mark → Piece → Terminal → Type 0
-IsMark (fixed s) t next = t.terminal ≡ s
-IsMark (at s p) t next = (t.terminal ≡ s) × (t.place ≡ p)
-IsMark (spelled s p bytes) t next = (t.terminal ≡ s) × (t.place ≡ p) × (t.bytes ≡ bytes)
-IsMark (worded bytes) x next = (x.terminal ≡ t.Name) × (x.bytes ≡ bytes)
-IsMark (apart s p barred) t next = (t.terminal ≡ s) × (t.place ≡ p) × (next ≡ barred → ⊥)
+IsMark (fixed s) t behind = t.terminal ≡ s
+IsMark (at s p) t behind = (t.terminal ≡ s) × (t.place ≡ p)
+IsMark (spelled s p bytes) t behind = (t.terminal ≡ s) × (t.place ≡ p) × (t.bytes ≡ bytes)
+IsMark (worded bytes) x behind = (x.terminal ≡ t.Name) × (x.bytes ≡ bytes)
+IsMark (apart s p barred) t behind = (t.terminal ≡ s) × (t.place ≡ p) × (behind ≡ barred → ⊥)
 
 -- the tokens begin with these, and these are the tokens after them
 unfoldable pub Spells : List Mark → List Piece → List Piece → Type 0
@@ -145,12 +145,12 @@ pair_function pair_functions.Union = t.Union
 pair_function pair_functions.Intersect = t.Intersect
 pair_function pair_functions.Minus = t.Minus
 
-abbrev pub infix : InfixWord → Terminal
-infix infixes.Union = t.Union
-infix infixes.Intersect = t.Intersect
-infix infixes.Minus = t.Minus
-infix infixes.Join = t.Join
-infix infixes.Matching = t.Matching
+abbrev pub infix_word : InfixWord → Terminal
+infix_word infixes.Union = t.Union
+infix_word infixes.Intersect = t.Intersect
+infix_word infixes.Minus = t.Minus
+infix_word infixes.Join = t.Join
+infix_word infixes.Matching = t.Matching
 
 abbrev pub pack_word : PackWord → Terminal
 pack_word pack_words.Pack = t.Pack
@@ -221,15 +221,15 @@ abbrev mutual
   of_primary (Dotted n v) = word_of n ++ token t.Dot ++ word_of v
   of_primary (Paren p s) = placed t.Open p ++ of_scalar s ++ token t.Close
   of_primary (Selector p b s r e) = placed (begin_bracket b) p ++ of_scalar s ++ token t.Colon ++ of_scalar r ++ token (end_bracket e)
-  of_primary (Extreme p o t) = placed (extreme o) p ++ token t.Open ++ of_point t ++ token t.Close
+  of_primary (Extreme p o y) = placed (extreme o) p ++ token t.Open ++ of_point y ++ token t.Close
   of_primary (Function p o s) = placed (function o) p ++ token t.Open ++ of_scalar s ++ token t.Close
   of_primary (PairFunction p o s r) = placed (pair_function o) p ++ token t.Open ++ of_scalar s ++ token t.Comma ++ of_scalar r ++ token t.Close
 
 abbrev pub of_kind : KindP → List Mark
 of_kind (BooleanKind p) = placed t.Boolean p
 of_kind (CharKind p) = placed t.Char p
-of_kind (PointKind t) = of_point t
-of_kind (IntervalKind p t) = placed t.Interval p ++ token t.Open ++ of_point t ++ token t.Close
+of_kind (PointKind y) = of_point y
+of_kind (IntervalKind p y) = placed t.Interval p ++ token t.Open ++ of_point y ++ token t.Close
 
 abbrev pub of_attribute : AttributeP → List Mark
 of_attribute (Attribute n k) = word_of n ++ of_kind k
@@ -256,7 +256,7 @@ of_words (x ∷ xs) = word_of x ++ of_more_words xs
 abbrev pub of_names : NamesP → List Mark
 of_names (Names p ns) = placed t.OpenBrace p ++ of_words ns ++ token t.CloseBrace
 
-abbrev pub of_list : ListP → List Mark
+abbrev pub of_list : NameListP → List Mark
 of_list (NameList p ns) = placed t.Open p ++ of_words ns ++ token t.Close
 
 abbrev pub of_some_names : SomeNamesP → List Mark
@@ -298,7 +298,7 @@ of_tuples xs = token t.OpenBrace ++ of_tuple_list xs ++ token t.CloseBrace
 
 abbrev pub of_literal : LiteralP → List Mark
 of_literal (Tuples p x xs) = placed t.Relation p ++ token t.OpenBrace ++ of_tuple x ++ of_more_tuples xs ++ token t.CloseBrace
-of_literal (Headed p h ts) = placed t.Relation p ++ of_heading h ++ of_tuples ts
+of_literal (Headed p h us) = placed t.Relation p ++ of_heading h ++ of_tuples us
 
 abbrev pub of_set_item : SetItemP → List Mark
 of_set_item (SetItem n s) = word_of n ++ token t.Assign ++ of_scalar s
@@ -352,12 +352,12 @@ of_projection (AllBut p n ns) = placed t.OpenBrace p ++ token t.All ++ token t.B
 abbrev mutual
   pub of_rel : RelP → List Mark
   of_rel (OfUsing u) = of_using u
-  of_rel (OfTerms t) = of_terms t
+  of_rel (OfTerms y) = of_terms y
 
   pub of_terms : TermsP → List Mark
-  of_terms (OneTerm t) = of_term t
-  of_terms (Infix s p o t) = of_terms s ++ placed (infix o) p ++ of_term t
-  of_terms (NotMatching s p t) = of_terms s ++ placed t.Not p ++ token t.Matching ++ of_term t
+  of_terms (OneTerm y) = of_term y
+  of_terms (Infix s p o y) = of_terms s ++ placed (infix_word o) p ++ of_term y
+  of_terms (NotMatching s p y) = of_terms s ++ placed t.Not p ++ token t.Matching ++ of_term y
 
   pub of_term : TermP → List Mark
   of_term (OneRelPrimary x) = of_rel_primary x
@@ -388,7 +388,7 @@ abbrev mutual
   pub of_using_part : UsingPartP → List Mark
   of_using_part (UsingExtend e) = of_extend e
   of_using_part (UsingSummarize e) = of_summarize e
-  of_using_part (UsingInfix l p o r) = of_operand l ++ placed (infix o) p ++ of_operand r
+  of_using_part (UsingInfix l p o r) = of_operand l ++ placed (infix_word o) p ++ of_operand r
   of_using_part (UsingNotMatching l p r) = of_operand l ++ placed t.Not p ++ token t.Matching ++ of_operand r
   of_using_part (UsingProject l q) = of_operand l ++ of_projection q
   of_using_part (UsingFilter l p c) = of_operand l ++ placed t.Where p ++ of_scalar c
@@ -459,8 +459,8 @@ abbrev pub of_statement : StatementP → List Mark
 of_statement Nothing = token t.Semicolon
 of_statement (DeclareOrdinal p n v) = placed t.TypeWord p ++ word_of n ++ contextual ordinal_word ++ of_some_names v ++ token t.Semicolon
 of_statement (DeclareRelvar p n f) = placed t.Var p ++ word_of n ++ of_var_form f ++ token t.Semicolon
-of_statement (DeclareHistory p n h k s b d i t) = placed t.History p ++ word_of n ++ of_heading h ++ of_key k ++ contextual since_word ++ word_of s ++ of_paren_name b ++ contextual during_word ++ word_of d ++ of_paren_name i ++ contextual over_word ++ of_point t ++ token t.Semicolon
+of_statement (DeclareHistory p n h k s b d i y) = placed t.History p ++ word_of n ++ of_heading h ++ of_key k ++ contextual since_word ++ word_of s ++ of_paren_name b ++ contextual during_word ++ word_of d ++ of_paren_name i ++ contextual over_word ++ of_point y ++ token t.Semicolon
 of_statement (Drop p n) = placed t.Drop p ++ token t.Var ++ word_of n ++ token t.Semicolon
 of_statement (Print p r) = placed t.Print p ++ of_rel r ++ token t.Semicolon
-of_statement (Ask p t) = placed t.Ask p ++ of_test t ++ token t.Semicolon
+of_statement (Ask p y) = placed t.Ask p ++ of_test y ++ token t.Semicolon
 of_statement (Assignment a) = of_assign a ++ token t.Semicolon
