@@ -446,15 +446,15 @@ point-first (NamedType n) ts rest h = begins Starts_point _ ts rest tt h
 
 mutual
   conj-first : (x : ConjP) (ts rest : List Piece) → Spells (of_conj x) ts rest → Starts_conj (first ts)
-  conj-first (OneNeg c) ts rest h =  neg-first c ts rest h
+  conj-first (OneNeg c) ts rest h = neg-first c ts rest h
   conj-first (And s p c) ts rest h = let x0 = two (of_conj s ++ placed t.And p) (of_neg c) ts rest h in let x1 = two (of_conj s) (placed t.And p) ts x0.mid x0.before in conj-first s ts x1.mid x1.before
 
   neg-first : (x : NegP) (ts rest : List Piece) → Spells (of_neg x) ts rest → Starts_conj (first ts)
   neg-first (Not p n) ts rest h = begins Starts_conj _ ts rest tt h
-  neg-first (OneCmp c) ts rest h =  Starts_cmp-Starts_conj (first ts) (cmp-first c ts rest h)
+  neg-first (OneCmp c) ts rest h = Starts_cmp-Starts_conj (first ts) (cmp-first c ts rest h)
 
   cmp-first : (x : CmpP) (ts rest : List Piece) → Spells (of_cmp x) ts rest → Starts_cmp (first ts)
-  cmp-first (OneSum s) ts rest h =  sum-first s ts rest h
+  cmp-first (OneSum s) ts rest h = sum-first s ts rest h
   cmp-first (Compare s p comparisons.Equal r) ts rest h = let x0 = two (of_sum s ++ placed t.Equal p) (of_sum r) ts rest h in let x1 = two (of_sum s) (placed t.Equal p) ts x0.mid x0.before in sum-first s ts x1.mid x1.before
   cmp-first (Compare s p comparisons.NotEqual r) ts rest h = let x0 = two (of_sum s ++ placed t.NotEqual p) (of_sum r) ts rest h in let x1 = two (of_sum s) (placed t.NotEqual p) ts x0.mid x0.before in sum-first s ts x1.mid x1.before
   cmp-first (Compare s p comparisons.Less r) ts rest h = let x0 = two (of_sum s ++ placed t.Less p) (of_sum r) ts rest h in let x1 = two (of_sum s) (placed t.Less p) ts x0.mid x0.before in sum-first s ts x1.mid x1.before
@@ -473,20 +473,20 @@ mutual
   cmp-first (Compare s p comparisons.Ends r) ts rest h = let x0 = two (of_sum s ++ placed t.Ends p) (of_sum r) ts rest h in let x1 = two (of_sum s) (placed t.Ends p) ts x0.mid x0.before in sum-first s ts x1.mid x1.before
 
   sum-first : (x : SumP) (ts rest : List Piece) → Spells (of_sum x) ts rest → Starts_cmp (first ts)
-  sum-first (OneProd f) ts rest h =  prod-first f ts rest h
+  sum-first (OneProd f) ts rest h = prod-first f ts rest h
   sum-first (Add s p sum_words.Plus f) ts rest h = let x0 = two (of_sum s ++ placed t.Plus p) (of_prod f) ts rest h in let x1 = two (of_sum s) (placed t.Plus p) ts x0.mid x0.before in sum-first s ts x1.mid x1.before
   sum-first (Add s p sum_words.Minus f) ts rest h = let x0 = two (of_sum s ++ placed t.Dash p) (of_prod f) ts rest h in let x1 = two (of_sum s) (placed t.Dash p) ts x0.mid x0.before in sum-first s ts x1.mid x1.before
   sum-first (Add s p sum_words.Concat f) ts rest h = let x0 = two (of_sum s ++ placed t.Bars p) (of_prod f) ts rest h in let x1 = two (of_sum s) (placed t.Bars p) ts x0.mid x0.before in sum-first s ts x1.mid x1.before
 
   prod-first : (x : ProdP) (ts rest : List Piece) → Spells (of_prod x) ts rest → Starts_cmp (first ts)
-  prod-first (OneSign f) ts rest h =  sign-first f ts rest h
+  prod-first (OneSign f) ts rest h = sign-first f ts rest h
   prod-first (Multiply s p product_words.Times f) ts rest h = let x0 = two (of_prod s ++ placed t.Star p) (of_sign f) ts rest h in let x1 = two (of_prod s) (placed t.Star p) ts x0.mid x0.before in prod-first s ts x1.mid x1.before
   prod-first (Multiply s p product_words.Divide f) ts rest h = let x0 = two (of_prod s ++ placed t.Slash p) (of_sign f) ts rest h in let x1 = two (of_prod s) (placed t.Slash p) ts x0.mid x0.before in prod-first s ts x1.mid x1.before
 
   sign-first : (x : SignP) (ts rest : List Piece) → Spells (of_sign x) ts rest → Starts_cmp (first ts)
   sign-first (NegativeInteger p q c) ts rest h = begins Starts_cmp _ ts rest tt h
   sign-first (Negate p s) ts rest h = begins Starts_cmp _ ts rest tt h
-  sign-first (OnePrimary a) ts rest h =  Starts_primary-Starts_cmp (first ts) (primary-first a ts rest h)
+  sign-first (OnePrimary a) ts rest h = Starts_primary-Starts_cmp (first ts) (primary-first a ts rest h)
 
   primary-first : (x : PrimaryP) (ts rest : List Piece) → Spells (of_primary x) ts rest → Starts_primary (first ts)
   primary-first (IntegerLiteral p c) ts rest h = begins Starts_primary _ ts rest tt h
@@ -524,11 +524,11 @@ portion-first (Portion p e) ts rest h = begins Starts_portion _ ts rest tt h
 
 mutual
   rel-first : (x : RelP) (ts rest : List Piece) → Spells (of_rel x) ts rest → Starts_rel (first ts)
-  rel-first (OfUsing u) ts rest h =  Starts_using-Starts_rel (first ts) (using-first u ts rest h)
-  rel-first (OfTerms y) ts rest h =  Starts_terms-Starts_rel (first ts) (terms-first y ts rest h)
+  rel-first (OfUsing u) ts rest h = Starts_using-Starts_rel (first ts) (using-first u ts rest h)
+  rel-first (OfTerms y) ts rest h = Starts_terms-Starts_rel (first ts) (terms-first y ts rest h)
 
   terms-first : (x : TermsP) (ts rest : List Piece) → Spells (of_terms x) ts rest → Starts_terms (first ts)
-  terms-first (OneTerm y) ts rest h =  term-first y ts rest h
+  terms-first (OneTerm y) ts rest h = term-first y ts rest h
   terms-first (Infix s p infixes.Union y) ts rest h = let x0 = two (of_terms s ++ placed t.Union p) (of_term y) ts rest h in let x1 = two (of_terms s) (placed t.Union p) ts x0.mid x0.before in terms-first s ts x1.mid x1.before
   terms-first (Infix s p infixes.Intersect y) ts rest h = let x0 = two (of_terms s ++ placed t.Intersect p) (of_term y) ts rest h in let x1 = two (of_terms s) (placed t.Intersect p) ts x0.mid x0.before in terms-first s ts x1.mid x1.before
   terms-first (Infix s p infixes.Minus y) ts rest h = let x0 = two (of_terms s ++ placed t.Minus p) (of_term y) ts rest h in let x1 = two (of_terms s) (placed t.Minus p) ts x0.mid x0.before in terms-first s ts x1.mid x1.before
@@ -537,7 +537,7 @@ mutual
   terms-first (NotMatching s p y) ts rest h = let x0 = two (of_terms s ++ placed t.Not p ++ token t.Matching) (of_term y) ts rest h in let x1 = two (of_terms s ++ placed t.Not p) (token t.Matching) ts x0.mid x0.before in let x2 = two (of_terms s) (placed t.Not p) ts x1.mid x1.before in terms-first s ts x2.mid x2.before
 
   term-first : (x : TermP) (ts rest : List Piece) → Spells (of_term x) ts rest → Starts_terms (first ts)
-  term-first (OneRelPrimary x) ts rest h =  rel_primary-first x ts rest h
+  term-first (OneRelPrimary x) ts rest h = rel_primary-first x ts rest h
   term-first (Project s (Onto p1 [])) ts rest h = let x0 = two (of_term s) (of_projection (Onto p1 [])) ts rest h in term-first s ts x0.mid x0.before
   term-first (Project s (Onto p1 (n3 ∷ xs4))) ts rest h = let x0 = two (of_term s) (of_projection (Onto p1 (n3 ∷ xs4))) ts rest h in term-first s ts x0.mid x0.before
   term-first (Project s (AllBut p5 n6 ns7)) ts rest h = let x0 = two (of_term s) (of_projection (AllBut p5 n6 ns7)) ts rest h in term-first s ts x0.mid x0.before
@@ -545,13 +545,13 @@ mutual
   term-first (Rename s p q) ts rest h = let x0 = two (of_term s ++ placed t.Rename p) (of_renamings q) ts rest h in let x1 = two (of_term s) (placed t.Rename p) ts x0.mid x0.before in term-first s ts x1.mid x1.before
 
   rel_primary-first : (x : RelPrimaryP) (ts rest : List Piece) → Spells (of_rel_primary x) ts rest → Starts_terms (first ts)
-  rel_primary-first (OfExtend e) ts rest h =  Starts_extend-Starts_terms (first ts) (extend-first e ts rest h)
-  rel_primary-first (OfSummarize e) ts rest h =  Starts_summarize-Starts_terms (first ts) (summarize-first e ts rest h)
-  rel_primary-first (OfOperand o) ts rest h =  Starts_operand-Starts_terms (first ts) (operand-first o ts rest h)
+  rel_primary-first (OfExtend e) ts rest h = Starts_extend-Starts_terms (first ts) (extend-first e ts rest h)
+  rel_primary-first (OfSummarize e) ts rest h = Starts_summarize-Starts_terms (first ts) (summarize-first e ts rest h)
+  rel_primary-first (OfOperand o) ts rest h = Starts_operand-Starts_terms (first ts) (operand-first o ts rest h)
 
   operand-first : (x : OperandP) (ts rest : List Piece) → Spells (of_operand x) ts rest → Starts_operand (first ts)
   operand-first (Relvar n) ts rest h = begins Starts_operand _ ts rest tt h
-  operand-first (OfLiteral l) ts rest h =  Starts_literal-Starts_operand (first ts) (literal-first l ts rest h)
+  operand-first (OfLiteral l) ts rest h = Starts_literal-Starts_operand (first ts) (literal-first l ts rest h)
   operand-first (ParenRel p r) ts rest h = begins Starts_operand _ ts rest tt h
   operand-first (PackOn p pack_words.Pack r a) ts rest h = begins Starts_operand _ ts rest tt h
   operand-first (PackOn p pack_words.Unpack r a) ts rest h = begins Starts_operand _ ts rest tt h
@@ -572,8 +572,8 @@ foreign-first : (x : ForeignP) (ts rest : List Piece) → Spells (of_foreign x) 
 foreign-first (Foreign p n r) ts rest h = begins Starts_foreign _ ts rest tt h
 
 constraint-first : (x : ConstraintP) (ts rest : List Piece) → Spells (of_constraint x) ts rest → Starts_constraint (first ts)
-constraint-first (KeyOf k) ts rest h =  Starts_key-Starts_constraint (first ts) (key-first k ts rest h)
-constraint-first (ForeignOf f) ts rest h =  Starts_foreign-Starts_constraint (first ts) (foreign-first f ts rest h)
+constraint-first (KeyOf k) ts rest h = Starts_key-Starts_constraint (first ts) (key-first k ts rest h)
+constraint-first (ForeignOf f) ts rest h = Starts_foreign-Starts_constraint (first ts) (foreign-first f ts rest h)
 constraint-first (PackedOn p a) ts rest h = begins Starts_constraint _ ts rest tt h
 constraint-first (WhenUnpacked p a k) ts rest h = begins Starts_constraint _ ts rest tt h
 constraint-first (UsingConstraint p a u) ts rest h = begins Starts_constraint _ ts rest tt h

@@ -3,3 +3,5 @@ pub mod Reader
 pub mod Complete
 pub mod Accepted
 pub mod Sound
+pub mod Refused
+pub mod Laws

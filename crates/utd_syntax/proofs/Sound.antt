@@ -1,5 +1,5 @@
 -- What the table reads writes the tokens.
-use Rattle.std.proofs.Common.{◌≡◌, ◌≢◌, ◌↔◌, ℕ, List, [], ◌∷◌, ◌++◌, Bool, true, false, cond, get_or, ◌==◌, ◌&&◌, eqb, ◌⊎◌, inl, inr, Option, Some, None, refl, sym, ◌∙◌, ap, subst, append_assoc, if◌then◌else◌}
+use Rattle.std.proofs.Common.{◌≡◌, ◌≢◌, ◌↔◌, ℕ, List, [], ◌∷◌, ◌++◌, Bool, true, false, cond, get_or, rules, ◌==◌, ◌&&◌, eqb, ◌⊎◌, inl, inr, Option, Some, None, refl, sym, ◌∙◌, ap, subst, append_assoc, if◌then◌else◌}
 use Rattle.utd_syntax.specs.declared.terminal.Terminal.{Terminal}
 use Rattle.utd_syntax.specs.declared.terminal.Terminal.TheVariants as t
 use Rattle.point_core.specs.declared.fault.Place.{Place}
@@ -242,43 +242,88 @@ negative_digits-sound : SoundRows NegativeDigits negative_digits_rows make_negat
 negative_digits-sound = ((λ p b ts vs rest h. (cons (spelled t.Digits p b) [] (piece_at t.Digits p b) ts _ (refl, refl, refl) (nil h))), tt)
 
 primary-sound : SoundRows ThePrimary primary_rows make_primary
-primary-sound =
-    ((λ p b ts vs rest h. (cons (spelled t.Digits p b) [] (piece_at t.Digits p b) ts _ (refl, refl, refl) (nil h))),
-    ((λ p b ts vs rest h. (cons (spelled t.Quoted p b) [] (piece_at t.Quoted p b) ts _ (refl, refl, refl) (nil h))),
-    ((λ p b ts vs rest h. (join _ _ _ _ _ (cons (at t.Date p) [] (piece_at t.Date p b) ts _ (refl, refl) (nil refl)) h)),
-    ((λ p b ts vs rest h. (cons (at t.True p) [] (piece_at t.True p b) ts _ (refl, refl) (nil h))),
-    ((λ p b ts vs rest h. (cons (at t.False p) [] (piece_at t.False p b) ts _ (refl, refl) (nil h))),
-    ((λ p b ts vs rest h. (h (word p b) (piece_at t.Name p b ∷ ts) (cons (spelled t.Name p b) [] (piece_at t.Name p b) ts _ (refl, refl, refl) (nil refl)))),
-    ((λ p b ts vs rest h. (h.2 p vs.0 (piece_at t.Open p b ∷ ts) (join _ _ _ _ _ (cons (at t.Open p) [] (piece_at t.Open p b) ts _ (refl, refl) (nil refl)) h.1))),
-    ((λ p b ts vs rest h. (join _ _ _ _ _ (join _ _ _ _ _ (join _ _ _ _ _ (join _ _ _ _ _ (cons (at t.OpenBracket p) [] (piece_at t.OpenBracket p b) ts _ (refl, refl) (nil refl)) h.1) h.2.1) h.2.2.1) h.2.2.2)),
-    ((λ p b ts vs rest h. (join _ _ _ _ _ (cons (at t.First p) [] (piece_at t.First p b) ts _ (refl, refl) (nil refl)) h)),
-    ((λ p b ts vs rest h. (join _ _ _ _ _ (cons (at t.Last p) [] (piece_at t.Last p b) ts _ (refl, refl) (nil refl)) h)),
-    ((λ p b ts vs rest h. (join _ _ _ _ _ (cons (at t.Begin p) [] (piece_at t.Begin p b) ts _ (refl, refl) (nil refl)) h)),
-    ((λ p b ts vs rest h. (join _ _ _ _ _ (cons (at t.End p) [] (piece_at t.End p b) ts _ (refl, refl) (nil refl)) h)),
-    ((λ p b ts vs rest h. (join _ _ _ _ _ (cons (at t.Pre p) [] (piece_at t.Pre p b) ts _ (refl, refl) (nil refl)) h)),
-    ((λ p b ts vs rest h. (join _ _ _ _ _ (cons (at t.Post p) [] (piece_at t.Post p b) ts _ (refl, refl) (nil refl)) h)),
-    ((λ p b ts vs rest h. (join _ _ _ _ _ (cons (at t.Count p) [] (piece_at t.Count p b) ts _ (refl, refl) (nil refl)) h)),
-    ((λ p b ts vs rest h. (join _ _ _ _ _ (cons (at t.Next p) [] (piece_at t.Next p b) ts _ (refl, refl) (nil refl)) h)),
-    ((λ p b ts vs rest h. (join _ _ _ _ _ (cons (at t.Prior p) [] (piece_at t.Prior p b) ts _ (refl, refl) (nil refl)) h)),
-    ((λ p b ts vs rest h. (join _ _ _ _ _ (cons (at t.Union p) [] (piece_at t.Union p b) ts _ (refl, refl) (nil refl)) h)),
-    ((λ p b ts vs rest h. (join _ _ _ _ _ (cons (at t.Intersect p) [] (piece_at t.Intersect p b) ts _ (refl, refl) (nil refl)) h)),
-    ((λ p b ts vs rest h. (join _ _ _ _ _ (cons (at t.Minus p) [] (piece_at t.Minus p b) ts _ (refl, refl) (nil refl)) h)),
-    tt))))))))))))))))))))
+primary-sound = (
+  (λ p b ts vs rest h. (cons (spelled t.Digits p b) [] (piece_at t.Digits p b) ts _ (refl, refl, refl) (nil h))),
+  (
+    (λ p b ts vs rest h. (cons (spelled t.Quoted p b) [] (piece_at t.Quoted p b) ts _ (refl, refl, refl) (nil h))),
+    (
+      (λ p b ts vs rest h. (join _ _ _ _ _ (cons (at t.Date p) [] (piece_at t.Date p b) ts _ (refl, refl) (nil refl)) h)),
+      (
+        (λ p b ts vs rest h. (cons (at t.True p) [] (piece_at t.True p b) ts _ (refl, refl) (nil h))),
+        (
+          (λ p b ts vs rest h. (cons (at t.False p) [] (piece_at t.False p b) ts _ (refl, refl) (nil h))),
+          (
+            (λ p b ts vs rest h. (h (word p b) (piece_at t.Name p b ∷ ts) (cons (spelled t.Name p b) [] (piece_at t.Name p b) ts _ (refl, refl, refl) (nil refl)))),
+            (
+              (λ p b ts vs rest h. (h.2 p vs.0 (piece_at t.Open p b ∷ ts) (join _ _ _ _ _ (cons (at t.Open p) [] (piece_at t.Open p b) ts _ (refl, refl) (nil refl)) h.1))),
+              (
+                (λ p b ts vs rest h. (join _ _ _ _ _ (join _ _ _ _ _ (join _ _ _ _ _ (join _ _ _ _ _ (cons (at t.OpenBracket p) [] (piece_at t.OpenBracket p b) ts _ (refl, refl) (nil refl)) h.1) h.2.1) h.2.2.1) h.2.2.2)),
+                (
+                  (λ p b ts vs rest h. (join _ _ _ _ _ (cons (at t.First p) [] (piece_at t.First p b) ts _ (refl, refl) (nil refl)) h)),
+                  (
+                    (λ p b ts vs rest h. (join _ _ _ _ _ (cons (at t.Last p) [] (piece_at t.Last p b) ts _ (refl, refl) (nil refl)) h)),
+                    (
+                      (λ p b ts vs rest h. (join _ _ _ _ _ (cons (at t.Begin p) [] (piece_at t.Begin p b) ts _ (refl, refl) (nil refl)) h)),
+                      (
+                        (λ p b ts vs rest h. (join _ _ _ _ _ (cons (at t.End p) [] (piece_at t.End p b) ts _ (refl, refl) (nil refl)) h)),
+                        (
+                          (λ p b ts vs rest h. (join _ _ _ _ _ (cons (at t.Pre p) [] (piece_at t.Pre p b) ts _ (refl, refl) (nil refl)) h)),
+                          (
+                            (λ p b ts vs rest h. (join _ _ _ _ _ (cons (at t.Post p) [] (piece_at t.Post p b) ts _ (refl, refl) (nil refl)) h)),
+                            (
+                              (λ p b ts vs rest h. (join _ _ _ _ _ (cons (at t.Count p) [] (piece_at t.Count p b) ts _ (refl, refl) (nil refl)) h)),
+                              (
+                                (λ p b ts vs rest h. (join _ _ _ _ _ (cons (at t.Next p) [] (piece_at t.Next p b) ts _ (refl, refl) (nil refl)) h)),
+                                (
+                                  (λ p b ts vs rest h. (join _ _ _ _ _ (cons (at t.Prior p) [] (piece_at t.Prior p b) ts _ (refl, refl) (nil refl)) h)),
+                                  (
+                                    (λ p b ts vs rest h. (join _ _ _ _ _ (cons (at t.Union p) [] (piece_at t.Union p b) ts _ (refl, refl) (nil refl)) h)),
+                                    (
+                                      (λ p b ts vs rest h. (join _ _ _ _ _ (cons (at t.Intersect p) [] (piece_at t.Intersect p b) ts _ (refl, refl) (nil refl)) h)),
+                                      (
+                                        (λ p b ts vs rest h. (join _ _ _ _ _ (cons (at t.Minus p) [] (piece_at t.Minus p b) ts _ (refl, refl) (nil refl)) h)),
+                                        tt,
+                                      ),
+                                    ),
+                                  ),
+                                ),
+                              ),
+                            ),
+                          ),
+                        ),
+                      ),
+                    ),
+                  ),
+                ),
+              ),
+            ),
+          ),
+        ),
+      ),
+    ),
+  ),
+)
 
 after_name-sound : SoundRows AfterName after_name_rows make_after_name
 after_name-sound = ((λ p b ts vs rest h w from g. (join _ _ _ _ _ (join _ _ _ _ _ g (cons (fixed t.Dot) [] (piece_at t.Dot p b) ts _ refl (nil refl))) h)), tt)
 
 after_scalar-sound : SoundRows AfterScalar after_scalar_rows make_after_scalar
-after_scalar-sound =
-    ((λ p b ts vs rest h q s from g. (join _ _ _ _ _ g (cons (fixed t.Close) [] (piece_at t.Close p b) ts _ refl (nil h)))),
-    ((λ p b ts vs rest h q s from g. (join _ _ _ _ _ (join _ _ _ _ _ (join _ _ _ _ _ g (cons (fixed t.Colon) [] (piece_at t.Colon p b) ts _ refl (nil refl))) h.1) h.2)),
-    tt))
+after_scalar-sound = (
+  (λ p b ts vs rest h q s from g. (join _ _ _ _ _ g (cons (fixed t.Close) [] (piece_at t.Close p b) ts _ refl (nil h)))),
+  (
+    (λ p b ts vs rest h q s from g. (join _ _ _ _ _ (join _ _ _ _ _ (join _ _ _ _ _ g (cons (fixed t.Colon) [] (piece_at t.Colon p b) ts _ refl (nil refl))) h.1) h.2)),
+    tt,
+  ),
+)
 
 end_of_selector-sound : SoundRows EndOfSelector end_of_selector_rows make_end_of_selector
-end_of_selector-sound =
-    ((λ p b ts vs rest h. (cons (fixed t.CloseBracket) [] (piece_at t.CloseBracket p b) ts _ refl (nil h))),
-    ((λ p b ts vs rest h. (cons (fixed t.Close) [] (piece_at t.Close p b) ts _ refl (nil h))),
-    tt))
+end_of_selector-sound = (
+  (λ p b ts vs rest h. (cons (fixed t.CloseBracket) [] (piece_at t.CloseBracket p b) ts _ refl (nil h))),
+  (
+    (λ p b ts vs rest h. (cons (fixed t.Close) [] (piece_at t.Close p b) ts _ refl (nil h))),
+    tt,
+  ),
+)
 
 in_parens-sound : SoundRows InParens in_parens_rows make_in_parens
 in_parens-sound = ((λ p b ts vs rest h. (join _ _ _ _ _ (join _ _ _ _ _ (cons (fixed t.Open) [] (piece_at t.Open p b) ts _ refl (nil refl)) h.1) h.2)), tt)
@@ -296,43 +341,82 @@ prod-sound : SoundRows TheProd prod_rows make_prod
 prod-sound = then-sounds TheSign TheProd MoreProd (λ u w. w (OneSign u)) (λ u w from mid rest h g. g (OneSign u) from h) sign_rows make_sign sign-sound
 
 more_prod-sound : SoundRows MoreProd more_prod_rows make_more_prod
-more_prod-sound =
-    ((λ p b ts vs rest h x from g. (h.2 (Multiply x p product_words.Times vs.0) from (join _ _ _ _ _ (join _ _ _ _ _ g (cons (at t.Star p) [] (piece_at t.Star p b) ts _ (refl, refl) (nil refl))) h.1))),
-    ((λ p b ts vs rest h x from g. (h.2 (Multiply x p product_words.Divide vs.0) from (join _ _ _ _ _ (join _ _ _ _ _ g (cons (at t.Slash p) [] (piece_at t.Slash p b) ts _ (refl, refl) (nil refl))) h.1))),
-    tt))
+more_prod-sound = (
+  (λ p b ts vs rest h x from g. (h.2 (Multiply x p product_words.Times vs.0) from (join _ _ _ _ _ (join _ _ _ _ _ g (cons (at t.Star p) [] (piece_at t.Star p b) ts _ (refl, refl) (nil refl))) h.1))),
+  (
+    (λ p b ts vs rest h x from g. (h.2 (Multiply x p product_words.Divide vs.0) from (join _ _ _ _ _ (join _ _ _ _ _ g (cons (at t.Slash p) [] (piece_at t.Slash p b) ts _ (refl, refl) (nil refl))) h.1))),
+    tt,
+  ),
+)
 
 sum-sound : SoundRows TheSum sum_rows make_sum
 sum-sound = then-sounds TheProd TheSum MoreSum (λ u w. w (OneProd u)) (λ u w from mid rest h g. g (OneProd u) from h) prod_rows make_prod prod-sound
 
 more_sum-sound : SoundRows MoreSum more_sum_rows make_more_sum
-more_sum-sound =
-    ((λ p b ts vs rest h x from g. (h.2 (Add x p sum_words.Plus vs.0) from (join _ _ _ _ _ (join _ _ _ _ _ g (cons (at t.Plus p) [] (piece_at t.Plus p b) ts _ (refl, refl) (nil refl))) h.1))),
-    ((λ p b ts vs rest h x from g. (h.2 (Add x p sum_words.Minus vs.0) from (join _ _ _ _ _ (join _ _ _ _ _ g (cons (at t.Dash p) [] (piece_at t.Dash p b) ts _ (refl, refl) (nil refl))) h.1))),
-    ((λ p b ts vs rest h x from g. (h.2 (Add x p sum_words.Concat vs.0) from (join _ _ _ _ _ (join _ _ _ _ _ g (cons (at t.Bars p) [] (piece_at t.Bars p b) ts _ (refl, refl) (nil refl))) h.1))),
-    tt)))
+more_sum-sound = (
+  (λ p b ts vs rest h x from g. (h.2 (Add x p sum_words.Plus vs.0) from (join _ _ _ _ _ (join _ _ _ _ _ g (cons (at t.Plus p) [] (piece_at t.Plus p b) ts _ (refl, refl) (nil refl))) h.1))),
+  (
+    (λ p b ts vs rest h x from g. (h.2 (Add x p sum_words.Minus vs.0) from (join _ _ _ _ _ (join _ _ _ _ _ g (cons (at t.Dash p) [] (piece_at t.Dash p b) ts _ (refl, refl) (nil refl))) h.1))),
+    (
+      (λ p b ts vs rest h x from g. (h.2 (Add x p sum_words.Concat vs.0) from (join _ _ _ _ _ (join _ _ _ _ _ g (cons (at t.Bars p) [] (piece_at t.Bars p b) ts _ (refl, refl) (nil refl))) h.1))),
+      tt,
+    ),
+  ),
+)
 
 cmp-sound : SoundRows TheCmp cmp_rows make_cmp
 cmp-sound = then-sounds TheSum TheCmp MoreCmp (λ u w. w u) (λ u w from mid rest h g. g u from h) sum_rows make_sum sum-sound
 
 more_cmp-sound : SoundRows MoreCmp more_cmp_rows make_more_cmp
-more_cmp-sound =
-    ((λ p b ts vs rest h x from g. (join _ _ _ _ _ (join _ _ _ _ _ g (cons (at t.Equal p) [] (piece_at t.Equal p b) ts _ (refl, refl) (nil refl))) h)),
-    ((λ p b ts vs rest h x from g. (join _ _ _ _ _ (join _ _ _ _ _ g (cons (at t.NotEqual p) [] (piece_at t.NotEqual p b) ts _ (refl, refl) (nil refl))) h)),
-    ((λ p b ts vs rest h x from g. (join _ _ _ _ _ (join _ _ _ _ _ g (cons (at t.Less p) [] (piece_at t.Less p b) ts _ (refl, refl) (nil refl))) h)),
-    ((λ p b ts vs rest h x from g. (join _ _ _ _ _ (join _ _ _ _ _ g (cons (at t.LessEqual p) [] (piece_at t.LessEqual p b) ts _ (refl, refl) (nil refl))) h)),
-    ((λ p b ts vs rest h x from g. (join _ _ _ _ _ (join _ _ _ _ _ g (cons (at t.Greater p) [] (piece_at t.Greater p b) ts _ (refl, refl) (nil refl))) h)),
-    ((λ p b ts vs rest h x from g. (join _ _ _ _ _ (join _ _ _ _ _ g (cons (at t.GreaterEqual p) [] (piece_at t.GreaterEqual p b) ts _ (refl, refl) (nil refl))) h)),
-    ((λ p b ts vs rest h x from g. (join _ _ _ _ _ (join _ _ _ _ _ g (cons (at t.In p) [] (piece_at t.In p b) ts _ (refl, refl) (nil refl))) h)),
-    ((λ p b ts vs rest h x from g. (join _ _ _ _ _ (join _ _ _ _ _ g (cons (at t.Includes p) [] (piece_at t.Includes p b) ts _ (refl, refl) (nil refl))) h)),
-    ((λ p b ts vs rest h x from g. (join _ _ _ _ _ (join _ _ _ _ _ g (cons (at t.IncludedIn p) [] (piece_at t.IncludedIn p b) ts _ (refl, refl) (nil refl))) h)),
-    ((λ p b ts vs rest h x from g. (join _ _ _ _ _ (join _ _ _ _ _ g (cons (at t.Before p) [] (piece_at t.Before p b) ts _ (refl, refl) (nil refl))) h)),
-    ((λ p b ts vs rest h x from g. (join _ _ _ _ _ (join _ _ _ _ _ g (cons (at t.After p) [] (piece_at t.After p b) ts _ (refl, refl) (nil refl))) h)),
-    ((λ p b ts vs rest h x from g. (join _ _ _ _ _ (join _ _ _ _ _ g (cons (at t.Meets p) [] (piece_at t.Meets p b) ts _ (refl, refl) (nil refl))) h)),
-    ((λ p b ts vs rest h x from g. (join _ _ _ _ _ (join _ _ _ _ _ g (cons (at t.Overlaps p) [] (piece_at t.Overlaps p b) ts _ (refl, refl) (nil refl))) h)),
-    ((λ p b ts vs rest h x from g. (join _ _ _ _ _ (join _ _ _ _ _ g (cons (at t.Merges p) [] (piece_at t.Merges p b) ts _ (refl, refl) (nil refl))) h)),
-    ((λ p b ts vs rest h x from g. (join _ _ _ _ _ (join _ _ _ _ _ g (cons (at t.Begins p) [] (piece_at t.Begins p b) ts _ (refl, refl) (nil refl))) h)),
-    ((λ p b ts vs rest h x from g. (join _ _ _ _ _ (join _ _ _ _ _ g (cons (at t.Ends p) [] (piece_at t.Ends p b) ts _ (refl, refl) (nil refl))) h)),
-    tt))))))))))))))))
+more_cmp-sound = (
+  (λ p b ts vs rest h x from g. (join _ _ _ _ _ (join _ _ _ _ _ g (cons (at t.Equal p) [] (piece_at t.Equal p b) ts _ (refl, refl) (nil refl))) h)),
+  (
+    (λ p b ts vs rest h x from g. (join _ _ _ _ _ (join _ _ _ _ _ g (cons (at t.NotEqual p) [] (piece_at t.NotEqual p b) ts _ (refl, refl) (nil refl))) h)),
+    (
+      (λ p b ts vs rest h x from g. (join _ _ _ _ _ (join _ _ _ _ _ g (cons (at t.Less p) [] (piece_at t.Less p b) ts _ (refl, refl) (nil refl))) h)),
+      (
+        (λ p b ts vs rest h x from g. (join _ _ _ _ _ (join _ _ _ _ _ g (cons (at t.LessEqual p) [] (piece_at t.LessEqual p b) ts _ (refl, refl) (nil refl))) h)),
+        (
+          (λ p b ts vs rest h x from g. (join _ _ _ _ _ (join _ _ _ _ _ g (cons (at t.Greater p) [] (piece_at t.Greater p b) ts _ (refl, refl) (nil refl))) h)),
+          (
+            (λ p b ts vs rest h x from g. (join _ _ _ _ _ (join _ _ _ _ _ g (cons (at t.GreaterEqual p) [] (piece_at t.GreaterEqual p b) ts _ (refl, refl) (nil refl))) h)),
+            (
+              (λ p b ts vs rest h x from g. (join _ _ _ _ _ (join _ _ _ _ _ g (cons (at t.In p) [] (piece_at t.In p b) ts _ (refl, refl) (nil refl))) h)),
+              (
+                (λ p b ts vs rest h x from g. (join _ _ _ _ _ (join _ _ _ _ _ g (cons (at t.Includes p) [] (piece_at t.Includes p b) ts _ (refl, refl) (nil refl))) h)),
+                (
+                  (λ p b ts vs rest h x from g. (join _ _ _ _ _ (join _ _ _ _ _ g (cons (at t.IncludedIn p) [] (piece_at t.IncludedIn p b) ts _ (refl, refl) (nil refl))) h)),
+                  (
+                    (λ p b ts vs rest h x from g. (join _ _ _ _ _ (join _ _ _ _ _ g (cons (at t.Before p) [] (piece_at t.Before p b) ts _ (refl, refl) (nil refl))) h)),
+                    (
+                      (λ p b ts vs rest h x from g. (join _ _ _ _ _ (join _ _ _ _ _ g (cons (at t.After p) [] (piece_at t.After p b) ts _ (refl, refl) (nil refl))) h)),
+                      (
+                        (λ p b ts vs rest h x from g. (join _ _ _ _ _ (join _ _ _ _ _ g (cons (at t.Meets p) [] (piece_at t.Meets p b) ts _ (refl, refl) (nil refl))) h)),
+                        (
+                          (λ p b ts vs rest h x from g. (join _ _ _ _ _ (join _ _ _ _ _ g (cons (at t.Overlaps p) [] (piece_at t.Overlaps p b) ts _ (refl, refl) (nil refl))) h)),
+                          (
+                            (λ p b ts vs rest h x from g. (join _ _ _ _ _ (join _ _ _ _ _ g (cons (at t.Merges p) [] (piece_at t.Merges p b) ts _ (refl, refl) (nil refl))) h)),
+                            (
+                              (λ p b ts vs rest h x from g. (join _ _ _ _ _ (join _ _ _ _ _ g (cons (at t.Begins p) [] (piece_at t.Begins p b) ts _ (refl, refl) (nil refl))) h)),
+                              (
+                                (λ p b ts vs rest h x from g. (join _ _ _ _ _ (join _ _ _ _ _ g (cons (at t.Ends p) [] (piece_at t.Ends p b) ts _ (refl, refl) (nil refl))) h)),
+                                tt,
+                              ),
+                            ),
+                          ),
+                        ),
+                      ),
+                    ),
+                  ),
+                ),
+              ),
+            ),
+          ),
+        ),
+      ),
+    ),
+  ),
+)
 
 neg-sound : SoundRows TheNeg neg_rows make_neg
 neg-sound = (append-sounds TheNeg (on t.Not (Opens (TheNeg ∷ [])) [] ∷ []) cmp_rows ((λ p b v. Not p v.0), tt) (over_makes TheCmp TheNeg (λ u. OneCmp u) cmp_rows make_cmp) ((λ p b ts vs rest h. (join _ _ _ _ _ (cons (at t.Not p) [] (piece_at t.Not p b) ts _ (refl, refl) (nil refl)) h)), tt) (over-sounds TheCmp TheNeg (λ u. OneCmp u) (λ u from rest h. h) cmp_rows make_cmp cmp-sound))
@@ -350,11 +434,16 @@ more_or-sound : SoundRows MoreOr more_or_rows make_more_or
 more_or-sound = ((λ p b ts vs rest h x from g. (h.2 (Or x p vs.0) from (join _ _ _ _ _ (join _ _ _ _ _ g (cons (at t.Or p) [] (piece_at t.Or p b) ts _ (refl, refl) (nil refl))) h.1))), tt)
 
 point-sound : SoundRows ThePoint point_rows make_point
-point-sound =
-    ((λ p b ts vs rest h. (cons (at t.Integer p) [] (piece_at t.Integer p b) ts _ (refl, refl) (nil h))),
-    ((λ p b ts vs rest h. (cons (at t.Date p) [] (piece_at t.Date p b) ts _ (refl, refl) (nil h))),
-    ((λ p b ts vs rest h. (cons (spelled t.Name p b) [] (piece_at t.Name p b) ts _ (refl, refl, refl) (nil h))),
-    tt)))
+point-sound = (
+  (λ p b ts vs rest h. (cons (at t.Integer p) [] (piece_at t.Integer p b) ts _ (refl, refl) (nil h))),
+  (
+    (λ p b ts vs rest h. (cons (at t.Date p) [] (piece_at t.Date p b) ts _ (refl, refl) (nil h))),
+    (
+      (λ p b ts vs rest h. (cons (spelled t.Name p b) [] (piece_at t.Name p b) ts _ (refl, refl, refl) (nil h))),
+      tt,
+    ),
+  ),
+)
 
 kind-sound : SoundRows TheKind kind_rows make_kind
 kind-sound = (append-sounds TheKind (on t.Boolean Plain [] ∷ on t.Char Plain [] ∷ on t.Interval Plain (InPoint ∷ []) ∷ []) point_rows ((λ p b v. BooleanKind p), ((λ p b v. CharKind p), ((λ p b v. IntervalKind p v.0), tt))) (over_makes ThePoint TheKind (λ u. PointKind u) point_rows make_point) ((λ p b ts vs rest h. (cons (at t.Boolean p) [] (piece_at t.Boolean p b) ts _ (refl, refl) (nil h))), ((λ p b ts vs rest h. (cons (at t.Char p) [] (piece_at t.Char p b) ts _ (refl, refl) (nil h))), ((λ p b ts vs rest h. (join _ _ _ _ _ (cons (at t.Interval p) [] (piece_at t.Interval p b) ts _ (refl, refl) (nil refl)) h)), tt))) (over-sounds ThePoint TheKind (λ u. PointKind u) (λ u from rest h. h) point_rows make_point point-sound))
@@ -366,10 +455,13 @@ more_attributes-sound : SoundRows MoreAttributes more_attributes_rows make_more_
 more_attributes-sound = ((λ p b ts vs rest h. (join _ _ _ _ _ (join _ _ _ _ _ (cons (fixed t.Comma) [] (piece_at t.Comma p b) ts _ refl (nil refl)) h.1) h.2)), tt)
 
 in_heading-sound : SoundRows InHeading in_heading_rows make_in_heading
-in_heading-sound =
-    ((λ p b ts vs rest h. (cons (fixed t.CloseBrace) [] (piece_at t.CloseBrace p b) ts _ refl (nil h))),
-    ((λ p b ts vs rest h. (join _ _ _ _ _ (join _ _ _ _ _ (join _ _ _ _ _ (cons (spelled t.Name p b) [] (piece_at t.Name p b) ts _ (refl, refl, refl) (nil refl)) h.1) h.2.1) h.2.2)),
-    tt))
+in_heading-sound = (
+  (λ p b ts vs rest h. (cons (fixed t.CloseBrace) [] (piece_at t.CloseBrace p b) ts _ refl (nil h))),
+  (
+    (λ p b ts vs rest h. (join _ _ _ _ _ (join _ _ _ _ _ (join _ _ _ _ _ (cons (spelled t.Name p b) [] (piece_at t.Name p b) ts _ (refl, refl, refl) (nil refl)) h.1) h.2.1) h.2.2)),
+    tt,
+  ),
+)
 
 heading-sound : SoundRows TheHeading heading_rows make_heading
 heading-sound = ((λ p b ts vs rest h. (join _ _ _ _ _ (cons (at t.OpenBrace p) [] (piece_at t.OpenBrace p b) ts _ (refl, refl) (nil refl)) h)), tt)
@@ -378,16 +470,22 @@ more_names-sound : SoundRows MoreNames more_names_rows make_more_names
 more_names-sound = ((λ p b ts vs rest h. (join _ _ _ _ _ (join _ _ _ _ _ (cons (fixed t.Comma) [] (piece_at t.Comma p b) ts _ refl (nil refl)) h.1) h.2)), tt)
 
 in_names-sound : SoundRows InNames in_names_rows make_in_names
-in_names-sound =
-    ((λ p b ts vs rest h. (cons (fixed t.CloseBrace) [] (piece_at t.CloseBrace p b) ts _ refl (nil h))),
-    ((λ p b ts vs rest h. (join _ _ _ _ _ (join _ _ _ _ _ (cons (spelled t.Name p b) [] (piece_at t.Name p b) ts _ (refl, refl, refl) (nil refl)) h.1) h.2)),
-    tt))
+in_names-sound = (
+  (λ p b ts vs rest h. (cons (fixed t.CloseBrace) [] (piece_at t.CloseBrace p b) ts _ refl (nil h))),
+  (
+    (λ p b ts vs rest h. (join _ _ _ _ _ (join _ _ _ _ _ (cons (spelled t.Name p b) [] (piece_at t.Name p b) ts _ (refl, refl, refl) (nil refl)) h.1) h.2)),
+    tt,
+  ),
+)
 
 in_list-sound : SoundRows InList in_list_rows make_in_list
-in_list-sound =
-    ((λ p b ts vs rest h. (cons (fixed t.Close) [] (piece_at t.Close p b) ts _ refl (nil h))),
-    ((λ p b ts vs rest h. (join _ _ _ _ _ (join _ _ _ _ _ (cons (spelled t.Name p b) [] (piece_at t.Name p b) ts _ (refl, refl, refl) (nil refl)) h.1) h.2)),
-    tt))
+in_list-sound = (
+  (λ p b ts vs rest h. (cons (fixed t.Close) [] (piece_at t.Close p b) ts _ refl (nil h))),
+  (
+    (λ p b ts vs rest h. (join _ _ _ _ _ (join _ _ _ _ _ (cons (spelled t.Name p b) [] (piece_at t.Name p b) ts _ (refl, refl, refl) (nil refl)) h.1) h.2)),
+    tt,
+  ),
+)
 
 names-sound : SoundRows TheNames names_rows make_names
 names-sound = ((λ p b ts vs rest h. (join _ _ _ _ _ (cons (at t.OpenBrace p) [] (piece_at t.OpenBrace p b) ts _ (refl, refl) (nil refl)) h)), tt)
@@ -408,10 +506,13 @@ more_elements-sound : SoundRows MoreElements more_elements_rows make_more_elemen
 more_elements-sound = ((λ p b ts vs rest h. (join _ _ _ _ _ (join _ _ _ _ _ (cons (fixed t.Comma) [] (piece_at t.Comma p b) ts _ refl (nil refl)) h.1) h.2)), tt)
 
 in_elements-sound : SoundRows InElements in_elements_rows make_in_elements
-in_elements-sound =
-    ((λ p b ts vs rest h. (cons (fixed t.CloseBrace) [] (piece_at t.CloseBrace p b) ts _ refl (nil h))),
-    ((λ p b ts vs rest h. (join _ _ _ _ _ (join _ _ _ _ _ (join _ _ _ _ _ (cons (spelled t.Name p b) [] (piece_at t.Name p b) ts _ (refl, refl, refl) (nil refl)) h.1) h.2.1) h.2.2)),
-    tt))
+in_elements-sound = (
+  (λ p b ts vs rest h. (cons (fixed t.CloseBrace) [] (piece_at t.CloseBrace p b) ts _ refl (nil h))),
+  (
+    (λ p b ts vs rest h. (join _ _ _ _ _ (join _ _ _ _ _ (join _ _ _ _ _ (cons (spelled t.Name p b) [] (piece_at t.Name p b) ts _ (refl, refl, refl) (nil refl)) h.1) h.2.1) h.2.2)),
+    tt,
+  ),
+)
 
 elements-sound : SoundRows TheElements elements_rows make_elements
 elements-sound = ((λ p b ts vs rest h. (join _ _ _ _ _ (cons (at t.OpenBrace p) [] (piece_at t.OpenBrace p b) ts _ (refl, refl) (nil refl)) h)), tt)
@@ -426,10 +527,13 @@ more_tuples-sound : SoundRows MoreTuples more_tuples_rows make_more_tuples
 more_tuples-sound = ((λ p b ts vs rest h. (join _ _ _ _ _ (join _ _ _ _ _ (cons (fixed t.Comma) [] (piece_at t.Comma p b) ts _ refl (nil refl)) h.1) h.2)), tt)
 
 in_tuples-sound : SoundRows InTuples in_tuples_rows make_in_tuples
-in_tuples-sound =
-    ((λ p b ts vs rest h. (cons (fixed t.CloseBrace) [] (piece_at t.CloseBrace p b) ts _ refl (nil h))),
-    ((λ p b ts vs rest h. (join _ _ _ _ _ (join _ _ _ _ _ (join _ _ _ _ _ (cons (at t.Tuple p) [] (piece_at t.Tuple p b) ts _ (refl, refl) (nil refl)) h.1) h.2.1) h.2.2)),
-    tt))
+in_tuples-sound = (
+  (λ p b ts vs rest h. (cons (fixed t.CloseBrace) [] (piece_at t.CloseBrace p b) ts _ refl (nil h))),
+  (
+    (λ p b ts vs rest h. (join _ _ _ _ _ (join _ _ _ _ _ (join _ _ _ _ _ (cons (at t.Tuple p) [] (piece_at t.Tuple p b) ts _ (refl, refl) (nil refl)) h.1) h.2.1) h.2.2)),
+    tt,
+  ),
+)
 
 tuples-sound : SoundRows TheTuples tuples_rows make_tuples
 tuples-sound = ((λ p b ts vs rest h. (join _ _ _ _ _ (cons (fixed t.OpenBrace) [] (piece_at t.OpenBrace p b) ts _ refl (nil refl)) h)), tt)
@@ -453,12 +557,19 @@ empty_parens-sound : SoundRows EmptyParens empty_parens_rows make_empty_parens
 empty_parens-sound = ((λ p b ts vs rest h. (join _ _ _ _ _ (cons (fixed t.Open) [] (piece_at t.Open p b) ts _ refl (nil refl)) h)), tt)
 
 aggregate_form-sound : SoundRows TheAggregateForm aggregate_form_rows make_aggregate_form
-aggregate_form-sound =
-    ((λ p b ts vs rest h. (join _ _ _ _ _ (cons (at t.Count p) [] (piece_at t.Count p b) ts _ (refl, refl) (nil refl)) h)),
-    ((λ p b ts vs rest h. (join _ _ _ _ _ (cons (at t.Sum p) [] (piece_at t.Sum p b) ts _ (refl, refl) (nil refl)) h)),
-    ((λ p b ts vs rest h. (join _ _ _ _ _ (cons (at t.Min p) [] (piece_at t.Min p b) ts _ (refl, refl) (nil refl)) h)),
-    ((λ p b ts vs rest h. (join _ _ _ _ _ (cons (at t.Max p) [] (piece_at t.Max p b) ts _ (refl, refl) (nil refl)) h)),
-    tt))))
+aggregate_form-sound = (
+  (λ p b ts vs rest h. (join _ _ _ _ _ (cons (at t.Count p) [] (piece_at t.Count p b) ts _ (refl, refl) (nil refl)) h)),
+  (
+    (λ p b ts vs rest h. (join _ _ _ _ _ (cons (at t.Sum p) [] (piece_at t.Sum p b) ts _ (refl, refl) (nil refl)) h)),
+    (
+      (λ p b ts vs rest h. (join _ _ _ _ _ (cons (at t.Min p) [] (piece_at t.Min p b) ts _ (refl, refl) (nil refl)) h)),
+      (
+        (λ p b ts vs rest h. (join _ _ _ _ _ (cons (at t.Max p) [] (piece_at t.Max p b) ts _ (refl, refl) (nil refl)) h)),
+        tt,
+      ),
+    ),
+  ),
+)
 
 aggregate-sound : SoundRows TheAggregate aggregate_rows make_aggregate
 aggregate-sound = ((λ p b ts vs rest h. (join _ _ _ _ _ (join _ _ _ _ _ (cons (spelled t.Name p b) [] (piece_at t.Name p b) ts _ (refl, refl, refl) (nil refl)) h.1) h.2)), tt)
@@ -488,11 +599,16 @@ maybe_where-sound : SoundRows MaybeWhere maybe_where_rows make_maybe_where
 maybe_where-sound = ((λ p b ts vs rest h. (join _ _ _ _ _ (cons (at t.Where p) [] (piece_at t.Where p b) ts _ (refl, refl) (nil refl)) h)), tt)
 
 in_projection-sound : SoundRows InProjection in_projection_rows make_in_projection
-in_projection-sound =
-    ((λ p b ts vs rest h q from g. (join _ _ _ _ _ g (cons (fixed t.CloseBrace) [] (piece_at t.CloseBrace p b) ts _ refl (nil h)))),
-    ((λ p b ts vs rest h q from g. (join _ _ _ _ _ (join _ _ _ _ _ (join _ _ _ _ _ g (cons (spelled t.Name p b) [] (piece_at t.Name p b) ts _ (refl, refl, refl) (nil refl))) h.1) h.2)),
-    ((λ p b ts vs rest h q from g. (join _ _ _ _ _ (join _ _ _ _ _ (join _ _ _ _ _ (join _ _ _ _ _ (join _ _ _ _ _ g (cons (fixed t.All) [] (piece_at t.All p b) ts _ refl (nil refl))) h.1) h.2.1) h.2.2.1) h.2.2.2)),
-    tt)))
+in_projection-sound = (
+  (λ p b ts vs rest h q from g. (join _ _ _ _ _ g (cons (fixed t.CloseBrace) [] (piece_at t.CloseBrace p b) ts _ refl (nil h)))),
+  (
+    (λ p b ts vs rest h q from g. (join _ _ _ _ _ (join _ _ _ _ _ (join _ _ _ _ _ g (cons (spelled t.Name p b) [] (piece_at t.Name p b) ts _ (refl, refl, refl) (nil refl))) h.1) h.2)),
+    (
+      (λ p b ts vs rest h q from g. (join _ _ _ _ _ (join _ _ _ _ _ (join _ _ _ _ _ (join _ _ _ _ _ (join _ _ _ _ _ g (cons (fixed t.All) [] (piece_at t.All p b) ts _ refl (nil refl))) h.1) h.2.1) h.2.2.1) h.2.2.2)),
+      tt,
+    ),
+  ),
+)
 
 operand-sound : SoundRows TheOperand operand_rows make_operand
 operand-sound = (append-sounds TheOperand (on t.Name Plain [] ∷ []) (literal_rows ++ (on t.Open (Opens (TheRel ∷ Just t.Close ∷ [])) [] ∷ on t.Pack (Opens (TheRel ∷ Just t.On ∷ TheList ∷ [])) [] ∷ on t.Unpack (Opens (TheRel ∷ Just t.On ∷ TheList ∷ [])) [] ∷ [])) ((λ p b v. Relvar (word p b)), tt) (append_makes TheOperand literal_rows (on t.Open (Opens (TheRel ∷ Just t.Close ∷ [])) [] ∷ on t.Pack (Opens (TheRel ∷ Just t.On ∷ TheList ∷ [])) [] ∷ on t.Unpack (Opens (TheRel ∷ Just t.On ∷ TheList ∷ [])) [] ∷ []) (over_makes TheLiteral TheOperand (λ u. OfLiteral u) literal_rows make_literal) ((λ p b v. ParenRel p v.0), ((λ p b v. PackOn p pack_words.Pack v.0 v.1.1.0), ((λ p b v. PackOn p pack_words.Unpack v.0 v.1.1.0), tt)))) ((λ p b ts vs rest h. (cons (spelled t.Name p b) [] (piece_at t.Name p b) ts _ (refl, refl, refl) (nil h))), tt) (append-sounds TheOperand literal_rows (on t.Open (Opens (TheRel ∷ Just t.Close ∷ [])) [] ∷ on t.Pack (Opens (TheRel ∷ Just t.On ∷ TheList ∷ [])) [] ∷ on t.Unpack (Opens (TheRel ∷ Just t.On ∷ TheList ∷ [])) [] ∷ []) (over_makes TheLiteral TheOperand (λ u. OfLiteral u) literal_rows make_literal) ((λ p b v. ParenRel p v.0), ((λ p b v. PackOn p pack_words.Pack v.0 v.1.1.0), ((λ p b v. PackOn p pack_words.Unpack v.0 v.1.1.0), tt))) (over-sounds TheLiteral TheOperand (λ u. OfLiteral u) (λ u from rest h. h) literal_rows make_literal literal-sound) ((λ p b ts vs rest h. (join _ _ _ _ _ (join _ _ _ _ _ (cons (at t.Open p) [] (piece_at t.Open p b) ts _ (refl, refl) (nil refl)) h.1) h.2)), ((λ p b ts vs rest h. (join _ _ _ _ _ (join _ _ _ _ _ (join _ _ _ _ _ (cons (at t.Pack p) [] (piece_at t.Pack p b) ts _ (refl, refl) (nil refl)) h.1) h.2.1) h.2.2)), ((λ p b ts vs rest h. (join _ _ _ _ _ (join _ _ _ _ _ (join _ _ _ _ _ (cons (at t.Unpack p) [] (piece_at t.Unpack p b) ts _ (refl, refl) (nil refl)) h.1) h.2.1) h.2.2)), tt)))))
@@ -510,24 +626,40 @@ term-sound : SoundRows TheTerm term_rows make_term
 term-sound = then-sounds TheRelPrimary TheTerm MorePostfix (λ u w. w (OneRelPrimary u)) (λ u w from mid rest h g. g (OneRelPrimary u) from h) rel_primary_rows make_rel_primary rel_primary-sound
 
 more_postfix-sound : SoundRows MorePostfix more_postfix_rows make_more_postfix
-more_postfix-sound =
-    ((λ p b ts vs rest h x from g. (h.2 (Project x (vs.0 p)) from (join _ _ _ _ _ g (h.1 p (piece_at t.OpenBrace p b ∷ ts) (cons (at t.OpenBrace p) [] (piece_at t.OpenBrace p b) ts _ (refl, refl) (nil refl)))))),
-    ((λ p b ts vs rest h x from g. (h.2 (Filter x p vs.0) from (join _ _ _ _ _ (join _ _ _ _ _ g (cons (at t.Where p) [] (piece_at t.Where p b) ts _ (refl, refl) (nil refl))) h.1))),
-    ((λ p b ts vs rest h x from g. (h.2 (Rename x p vs.0) from (join _ _ _ _ _ (join _ _ _ _ _ g (cons (at t.Rename p) [] (piece_at t.Rename p b) ts _ (refl, refl) (nil refl))) h.1))),
-    tt)))
+more_postfix-sound = (
+  (λ p b ts vs rest h x from g. (h.2 (Project x (vs.0 p)) from (join _ _ _ _ _ g (h.1 p (piece_at t.OpenBrace p b ∷ ts) (cons (at t.OpenBrace p) [] (piece_at t.OpenBrace p b) ts _ (refl, refl) (nil refl)))))),
+  (
+    (λ p b ts vs rest h x from g. (h.2 (Filter x p vs.0) from (join _ _ _ _ _ (join _ _ _ _ _ g (cons (at t.Where p) [] (piece_at t.Where p b) ts _ (refl, refl) (nil refl))) h.1))),
+    (
+      (λ p b ts vs rest h x from g. (h.2 (Rename x p vs.0) from (join _ _ _ _ _ (join _ _ _ _ _ g (cons (at t.Rename p) [] (piece_at t.Rename p b) ts _ (refl, refl) (nil refl))) h.1))),
+      tt,
+    ),
+  ),
+)
 
 terms-sound : SoundRows TheTerms terms_rows make_terms
 terms-sound = then-sounds TheTerm TheTerms MoreInfix (λ u w. w (OneTerm u)) (λ u w from mid rest h g. g (OneTerm u) from h) term_rows make_term term-sound
 
 more_infix-sound : SoundRows MoreInfix more_infix_rows make_more_infix
-more_infix-sound =
-    ((λ p b ts vs rest h x from g. (h.2 (Infix x p infixes.Union vs.0) from (join _ _ _ _ _ (join _ _ _ _ _ g (cons (at t.Union p) [] (piece_at t.Union p b) ts _ (refl, refl) (nil refl))) h.1))),
-    ((λ p b ts vs rest h x from g. (h.2 (Infix x p infixes.Intersect vs.0) from (join _ _ _ _ _ (join _ _ _ _ _ g (cons (at t.Intersect p) [] (piece_at t.Intersect p b) ts _ (refl, refl) (nil refl))) h.1))),
-    ((λ p b ts vs rest h x from g. (h.2 (Infix x p infixes.Minus vs.0) from (join _ _ _ _ _ (join _ _ _ _ _ g (cons (at t.Minus p) [] (piece_at t.Minus p b) ts _ (refl, refl) (nil refl))) h.1))),
-    ((λ p b ts vs rest h x from g. (h.2 (Infix x p infixes.Join vs.0) from (join _ _ _ _ _ (join _ _ _ _ _ g (cons (at t.Join p) [] (piece_at t.Join p b) ts _ (refl, refl) (nil refl))) h.1))),
-    ((λ p b ts vs rest h x from g. (h.2 (Infix x p infixes.Matching vs.0) from (join _ _ _ _ _ (join _ _ _ _ _ g (cons (at t.Matching p) [] (piece_at t.Matching p b) ts _ (refl, refl) (nil refl))) h.1))),
-    ((λ p b ts vs rest h x from g. (h.2.2 (NotMatching x p vs.1.0) from (join _ _ _ _ _ (join _ _ _ _ _ (join _ _ _ _ _ g (cons (at t.Not p) [] (piece_at t.Not p b) ts _ (refl, refl) (nil refl))) h.1) h.2.1))),
-    tt))))))
+more_infix-sound = (
+  (λ p b ts vs rest h x from g. (h.2 (Infix x p infixes.Union vs.0) from (join _ _ _ _ _ (join _ _ _ _ _ g (cons (at t.Union p) [] (piece_at t.Union p b) ts _ (refl, refl) (nil refl))) h.1))),
+  (
+    (λ p b ts vs rest h x from g. (h.2 (Infix x p infixes.Intersect vs.0) from (join _ _ _ _ _ (join _ _ _ _ _ g (cons (at t.Intersect p) [] (piece_at t.Intersect p b) ts _ (refl, refl) (nil refl))) h.1))),
+    (
+      (λ p b ts vs rest h x from g. (h.2 (Infix x p infixes.Minus vs.0) from (join _ _ _ _ _ (join _ _ _ _ _ g (cons (at t.Minus p) [] (piece_at t.Minus p b) ts _ (refl, refl) (nil refl))) h.1))),
+      (
+        (λ p b ts vs rest h x from g. (h.2 (Infix x p infixes.Join vs.0) from (join _ _ _ _ _ (join _ _ _ _ _ g (cons (at t.Join p) [] (piece_at t.Join p b) ts _ (refl, refl) (nil refl))) h.1))),
+        (
+          (λ p b ts vs rest h x from g. (h.2 (Infix x p infixes.Matching vs.0) from (join _ _ _ _ _ (join _ _ _ _ _ g (cons (at t.Matching p) [] (piece_at t.Matching p b) ts _ (refl, refl) (nil refl))) h.1))),
+          (
+            (λ p b ts vs rest h x from g. (h.2.2 (NotMatching x p vs.1.0) from (join _ _ _ _ _ (join _ _ _ _ _ (join _ _ _ _ _ g (cons (at t.Not p) [] (piece_at t.Not p b) ts _ (refl, refl) (nil refl))) h.1) h.2.1))),
+            tt,
+          ),
+        ),
+      ),
+    ),
+  ),
+)
 
 using-sound : SoundRows TheUsing using_rows make_using
 using-sound = ((λ p b ts vs rest h. (join _ _ _ _ _ (join _ _ _ _ _ (join _ _ _ _ _ (cons (at t.Using p) [] (piece_at t.Using p b) ts _ (refl, refl) (nil refl)) h.1) h.2.1) h.2.2)), tt)
@@ -539,16 +671,31 @@ using_part-sound : SoundRows TheUsingPart using_part_rows make_using_part
 using_part-sound = (append-sounds TheUsingPart extend_rows (summarize_rows ++ (operand_rows ▹ (AfterOperand ∷ []))) (over_makes TheExtend TheUsingPart (λ u. UsingExtend u) extend_rows make_extend) (append_makes TheUsingPart summarize_rows (operand_rows ▹ (AfterOperand ∷ [])) (over_makes TheSummarize TheUsingPart (λ u. UsingSummarize u) summarize_rows make_summarize) (then_makes TheOperand TheUsingPart AfterOperand (λ u w. w u) operand_rows make_operand)) (over-sounds TheExtend TheUsingPart (λ u. UsingExtend u) (λ u from rest h. h) extend_rows make_extend extend-sound) (append-sounds TheUsingPart summarize_rows (operand_rows ▹ (AfterOperand ∷ [])) (over_makes TheSummarize TheUsingPart (λ u. UsingSummarize u) summarize_rows make_summarize) (then_makes TheOperand TheUsingPart AfterOperand (λ u w. w u) operand_rows make_operand) (over-sounds TheSummarize TheUsingPart (λ u. UsingSummarize u) (λ u from rest h. h) summarize_rows make_summarize summarize-sound) (then-sounds TheOperand TheUsingPart AfterOperand (λ u w. w u) (λ u w from mid rest h g. g u from h) operand_rows make_operand operand-sound)))
 
 after_operand-sound : SoundRows AfterOperand after_operand_rows make_after_operand
-after_operand-sound =
-    ((λ p b ts vs rest h x from g. (join _ _ _ _ _ (join _ _ _ _ _ g (cons (at t.Union p) [] (piece_at t.Union p b) ts _ (refl, refl) (nil refl))) h)),
-    ((λ p b ts vs rest h x from g. (join _ _ _ _ _ (join _ _ _ _ _ g (cons (at t.Intersect p) [] (piece_at t.Intersect p b) ts _ (refl, refl) (nil refl))) h)),
-    ((λ p b ts vs rest h x from g. (join _ _ _ _ _ (join _ _ _ _ _ g (cons (at t.Minus p) [] (piece_at t.Minus p b) ts _ (refl, refl) (nil refl))) h)),
-    ((λ p b ts vs rest h x from g. (join _ _ _ _ _ (join _ _ _ _ _ g (cons (at t.Join p) [] (piece_at t.Join p b) ts _ (refl, refl) (nil refl))) h)),
-    ((λ p b ts vs rest h x from g. (join _ _ _ _ _ (join _ _ _ _ _ g (cons (at t.Matching p) [] (piece_at t.Matching p b) ts _ (refl, refl) (nil refl))) h)),
-    ((λ p b ts vs rest h x from g. (join _ _ _ _ _ (join _ _ _ _ _ (join _ _ _ _ _ g (cons (at t.Not p) [] (piece_at t.Not p b) ts _ (refl, refl) (nil refl))) h.1) h.2)),
-    ((λ p b ts vs rest h x from g. (join _ _ _ _ _ g (h p (piece_at t.OpenBrace p b ∷ ts) (cons (at t.OpenBrace p) [] (piece_at t.OpenBrace p b) ts _ (refl, refl) (nil refl))))),
-    ((λ p b ts vs rest h x from g. (join _ _ _ _ _ (join _ _ _ _ _ g (cons (at t.Where p) [] (piece_at t.Where p b) ts _ (refl, refl) (nil refl))) h)),
-    tt))))))))
+after_operand-sound = (
+  (λ p b ts vs rest h x from g. (join _ _ _ _ _ (join _ _ _ _ _ g (cons (at t.Union p) [] (piece_at t.Union p b) ts _ (refl, refl) (nil refl))) h)),
+  (
+    (λ p b ts vs rest h x from g. (join _ _ _ _ _ (join _ _ _ _ _ g (cons (at t.Intersect p) [] (piece_at t.Intersect p b) ts _ (refl, refl) (nil refl))) h)),
+    (
+      (λ p b ts vs rest h x from g. (join _ _ _ _ _ (join _ _ _ _ _ g (cons (at t.Minus p) [] (piece_at t.Minus p b) ts _ (refl, refl) (nil refl))) h)),
+      (
+        (λ p b ts vs rest h x from g. (join _ _ _ _ _ (join _ _ _ _ _ g (cons (at t.Join p) [] (piece_at t.Join p b) ts _ (refl, refl) (nil refl))) h)),
+        (
+          (λ p b ts vs rest h x from g. (join _ _ _ _ _ (join _ _ _ _ _ g (cons (at t.Matching p) [] (piece_at t.Matching p b) ts _ (refl, refl) (nil refl))) h)),
+          (
+            (λ p b ts vs rest h x from g. (join _ _ _ _ _ (join _ _ _ _ _ (join _ _ _ _ _ g (cons (at t.Not p) [] (piece_at t.Not p b) ts _ (refl, refl) (nil refl))) h.1) h.2)),
+            (
+              (λ p b ts vs rest h x from g. (join _ _ _ _ _ g (h p (piece_at t.OpenBrace p b ∷ ts) (cons (at t.OpenBrace p) [] (piece_at t.OpenBrace p b) ts _ (refl, refl) (nil refl))))),
+              (
+                (λ p b ts vs rest h x from g. (join _ _ _ _ _ (join _ _ _ _ _ g (cons (at t.Where p) [] (piece_at t.Where p b) ts _ (refl, refl) (nil refl))) h)),
+                tt,
+              ),
+            ),
+          ),
+        ),
+      ),
+    ),
+  ),
+)
 
 key-sound : SoundRows TheKey key_rows make_key
 key-sound = ((λ p b ts vs rest h. (join _ _ _ _ _ (cons (at t.Key p) [] (piece_at t.Key p b) ts _ (refl, refl) (nil refl)) h)), tt)
@@ -569,23 +716,37 @@ in_rel-sound : SoundRows InRel in_rel_rows make_in_rel
 in_rel-sound = ((λ p b ts vs rest h. (join _ _ _ _ _ (join _ _ _ _ _ (cons (fixed t.Open) [] (piece_at t.Open p b) ts _ refl (nil refl)) h.1) h.2)), tt)
 
 var_form-sound : SoundRows TheVarForm var_form_rows make_var_form
-var_form-sound =
-    ((λ p b ts vs rest h. (join _ _ _ _ _ (join _ _ _ _ _ (cons (at t.Relation p) [] (piece_at t.Relation p b) ts _ (refl, refl) (nil refl)) h.1) h.2)),
-    ((λ p b ts vs rest h. (join _ _ _ _ _ (cons (at t.Virtual p) [] (piece_at t.Virtual p b) ts _ (refl, refl) (nil refl)) h)),
-    tt))
+var_form-sound = (
+  (λ p b ts vs rest h. (join _ _ _ _ _ (join _ _ _ _ _ (cons (at t.Relation p) [] (piece_at t.Relation p b) ts _ (refl, refl) (nil refl)) h.1) h.2)),
+  (
+    (λ p b ts vs rest h. (join _ _ _ _ _ (cons (at t.Virtual p) [] (piece_at t.Virtual p b) ts _ (refl, refl) (nil refl)) h)),
+    tt,
+  ),
+)
 
 comparison-sound : SoundRows TheComparison comparison_rows make_comparison
 comparison-sound = then-sounds TheOperand TheComparison AfterLeft (λ u w. w u) (λ u w from mid rest h g. g u from h) operand_rows make_operand operand-sound
 
 after_left-sound : SoundRows AfterLeft after_left_rows make_after_left
-after_left-sound =
-    ((λ p b ts vs rest h x from g. (join _ _ _ _ _ (join _ _ _ _ _ g (cons (at t.Equal p) [] (piece_at t.Equal p b) ts _ (refl, refl) (nil refl))) h)),
-    ((λ p b ts vs rest h x from g. (join _ _ _ _ _ (join _ _ _ _ _ g (cons (at t.NotEqual p) [] (piece_at t.NotEqual p b) ts _ (refl, refl) (nil refl))) h)),
-    ((λ p b ts vs rest h x from g. (join _ _ _ _ _ (join _ _ _ _ _ g (cons (at t.Less p) [] (piece_at t.Less p b) ts _ (refl, refl) (nil refl))) h)),
-    ((λ p b ts vs rest h x from g. (join _ _ _ _ _ (join _ _ _ _ _ g (cons (at t.LessEqual p) [] (piece_at t.LessEqual p b) ts _ (refl, refl) (nil refl))) h)),
-    ((λ p b ts vs rest h x from g. (join _ _ _ _ _ (join _ _ _ _ _ g (cons (at t.Greater p) [] (piece_at t.Greater p b) ts _ (refl, refl) (nil refl))) h)),
-    ((λ p b ts vs rest h x from g. (join _ _ _ _ _ (join _ _ _ _ _ g (cons (at t.GreaterEqual p) [] (piece_at t.GreaterEqual p b) ts _ (refl, refl) (nil refl))) h)),
-    tt))))))
+after_left-sound = (
+  (λ p b ts vs rest h x from g. (join _ _ _ _ _ (join _ _ _ _ _ g (cons (at t.Equal p) [] (piece_at t.Equal p b) ts _ (refl, refl) (nil refl))) h)),
+  (
+    (λ p b ts vs rest h x from g. (join _ _ _ _ _ (join _ _ _ _ _ g (cons (at t.NotEqual p) [] (piece_at t.NotEqual p b) ts _ (refl, refl) (nil refl))) h)),
+    (
+      (λ p b ts vs rest h x from g. (join _ _ _ _ _ (join _ _ _ _ _ g (cons (at t.Less p) [] (piece_at t.Less p b) ts _ (refl, refl) (nil refl))) h)),
+      (
+        (λ p b ts vs rest h x from g. (join _ _ _ _ _ (join _ _ _ _ _ g (cons (at t.LessEqual p) [] (piece_at t.LessEqual p b) ts _ (refl, refl) (nil refl))) h)),
+        (
+          (λ p b ts vs rest h x from g. (join _ _ _ _ _ (join _ _ _ _ _ g (cons (at t.Greater p) [] (piece_at t.Greater p b) ts _ (refl, refl) (nil refl))) h)),
+          (
+            (λ p b ts vs rest h x from g. (join _ _ _ _ _ (join _ _ _ _ _ g (cons (at t.GreaterEqual p) [] (piece_at t.GreaterEqual p b) ts _ (refl, refl) (nil refl))) h)),
+            tt,
+          ),
+        ),
+      ),
+    ),
+  ),
+)
 
 test-sound : SoundRows TheTest test_rows make_test
 test-sound = (append-sounds TheTest (on t.Using (Opens (TheList ∷ Just t.Colon ∷ TheComparison ∷ [])) [] ∷ on t.IsEmpty Plain (InRel ∷ []) ∷ on t.IsNotEmpty Plain (InRel ∷ []) ∷ []) comparison_rows ((λ p b v. UsingTest p v.0 v.1.1.0), ((λ p b v. Emptiness p emptinesses.IsEmpty v.0), ((λ p b v. Emptiness p emptinesses.IsNotEmpty v.0), tt))) (over_makes TheComparison TheTest (λ u. OfComparison u) comparison_rows make_comparison) ((λ p b ts vs rest h. (join _ _ _ _ _ (join _ _ _ _ _ (join _ _ _ _ _ (cons (at t.Using p) [] (piece_at t.Using p b) ts _ (refl, refl) (nil refl)) h.1) h.2.1) h.2.2)), ((λ p b ts vs rest h. (join _ _ _ _ _ (cons (at t.IsEmpty p) [] (piece_at t.IsEmpty p b) ts _ (refl, refl) (nil refl)) h)), ((λ p b ts vs rest h. (join _ _ _ _ _ (cons (at t.IsNotEmpty p) [] (piece_at t.IsNotEmpty p b) ts _ (refl, refl) (nil refl)) h)), tt))) (over-sounds TheComparison TheTest (λ u. OfComparison u) (λ u from rest h. h) comparison_rows make_comparison comparison-sound))
@@ -594,24 +755,40 @@ used_deletion-sound : SoundRows TheUsedDeletion used_deletion_rows make_used_del
 used_deletion-sound = (append-sounds TheUsedDeletion (on t.Where Plain (TheScalar ∷ []) ∷ []) rel_rows ((λ p b v. UsedDeleteWhere p v.0), tt) (over_makes TheRel TheUsedDeletion (λ u. UsedDeleteRows u) rel_rows make_rel) ((λ p b ts vs rest h. (join _ _ _ _ _ (cons (at t.Where p) [] (piece_at t.Where p b) ts _ (refl, refl) (nil refl)) h)), tt) (over-sounds TheRel TheUsedDeletion (λ u. UsedDeleteRows u) (λ u from rest h. h) rel_rows make_rel rel-sound))
 
 used_item-sound : SoundRows TheUsedItem used_item_rows make_used_item
-used_item-sound =
-    ((λ p b ts vs rest h. (join _ _ _ _ _ (join _ _ _ _ _ (cons (at t.Insert p) [] (piece_at t.Insert p b) ts _ (refl, refl) (nil refl)) h.1) h.2)),
-    ((λ p b ts vs rest h. (join _ _ _ _ _ (join _ _ _ _ _ (cons (at t.Delete p) [] (piece_at t.Delete p b) ts _ (refl, refl) (nil refl)) h.1) h.2)),
-    ((λ p b ts vs rest h. (join _ _ _ _ _ (join _ _ _ _ _ (join _ _ _ _ _ (join _ _ _ _ _ (cons (at t.Update p) [] (piece_at t.Update p b) ts _ (refl, refl) (nil refl)) h.1) h.2.1) h.2.2.1) h.2.2.2)),
-    tt)))
+used_item-sound = (
+  (λ p b ts vs rest h. (join _ _ _ _ _ (join _ _ _ _ _ (cons (at t.Insert p) [] (piece_at t.Insert p b) ts _ (refl, refl) (nil refl)) h.1) h.2)),
+  (
+    (λ p b ts vs rest h. (join _ _ _ _ _ (join _ _ _ _ _ (cons (at t.Delete p) [] (piece_at t.Delete p b) ts _ (refl, refl) (nil refl)) h.1) h.2)),
+    (
+      (λ p b ts vs rest h. (join _ _ _ _ _ (join _ _ _ _ _ (join _ _ _ _ _ (join _ _ _ _ _ (cons (at t.Update p) [] (piece_at t.Update p b) ts _ (refl, refl) (nil refl)) h.1) h.2.1) h.2.2.1) h.2.2.2)),
+      tt,
+    ),
+  ),
+)
 
 deletion-sound : SoundRows TheDeletion deletion_rows make_deletion
 deletion-sound = (append-sounds TheDeletion (on t.Where Plain (TheScalar ∷ []) ∷ []) ((portion_rows ▹ (MaybeWhere ∷ [])) ++ rel_rows) ((λ p b v. DeleteWhere p v.0), tt) (append_makes TheDeletion (portion_rows ▹ (MaybeWhere ∷ [])) rel_rows (then_makes ThePortion TheDeletion MaybeWhere (λ u w. DeletePortion u w) portion_rows make_portion) (over_makes TheRel TheDeletion (λ u. DeleteRows u) rel_rows make_rel)) ((λ p b ts vs rest h. (join _ _ _ _ _ (cons (at t.Where p) [] (piece_at t.Where p b) ts _ (refl, refl) (nil refl)) h)), tt) (append-sounds TheDeletion (portion_rows ▹ (MaybeWhere ∷ [])) rel_rows (then_makes ThePortion TheDeletion MaybeWhere (λ u w. DeletePortion u w) portion_rows make_portion) (over_makes TheRel TheDeletion (λ u. DeleteRows u) rel_rows make_rel) (then-sounds ThePortion TheDeletion MaybeWhere (λ u w. DeletePortion u w) (λ u w from mid rest h g. join _ _ _ _ _ h g) portion_rows make_portion portion-sound) (over-sounds TheRel TheDeletion (λ u. DeleteRows u) (λ u from rest h. h) rel_rows make_rel rel-sound)))
 
 item-sound : SoundRows TheItem item_rows make_item
-item-sound =
-    ((λ p b ts vs rest h. (join _ _ _ _ _ (join _ _ _ _ _ (cons (spelled t.Name p b) [] (piece_at t.Name p b) ts _ (refl, refl, refl) (nil refl)) h.1) h.2)),
-    ((λ p b ts vs rest h. (join _ _ _ _ _ (join _ _ _ _ _ (cons (at t.Insert p) [] (piece_at t.Insert p b) ts _ (refl, refl) (nil refl)) h.1) h.2)),
-    ((λ p b ts vs rest h. (join _ _ _ _ _ (join _ _ _ _ _ (cons (at t.Delete p) [] (piece_at t.Delete p b) ts _ (refl, refl) (nil refl)) h.1) h.2)),
-    ((λ p b ts vs rest h. (join _ _ _ _ _ (join _ _ _ _ _ (join _ _ _ _ _ (join _ _ _ _ _ (join _ _ _ _ _ (cons (at t.Update p) [] (piece_at t.Update p b) ts _ (refl, refl) (nil refl)) h.1) h.2.1) h.2.2.1) h.2.2.2.1) h.2.2.2.2)),
-    ((λ p b ts vs rest h. (join _ _ _ _ _ (join _ _ _ _ _ (join _ _ _ _ _ (join _ _ _ _ _ (cons (at t.Terminate p) [] (piece_at t.Terminate p b) ts _ (refl, refl) (nil refl)) h.1) h.2.1) h.2.2.1) h.2.2.2)),
-    ((λ p b ts vs rest h. (join _ _ _ _ _ (join _ _ _ _ _ (join _ _ _ _ _ (cons (at t.Using p) [] (piece_at t.Using p b) ts _ (refl, refl) (nil refl)) h.1) h.2.1) h.2.2)),
-    tt))))))
+item-sound = (
+  (λ p b ts vs rest h. (join _ _ _ _ _ (join _ _ _ _ _ (cons (spelled t.Name p b) [] (piece_at t.Name p b) ts _ (refl, refl, refl) (nil refl)) h.1) h.2)),
+  (
+    (λ p b ts vs rest h. (join _ _ _ _ _ (join _ _ _ _ _ (cons (at t.Insert p) [] (piece_at t.Insert p b) ts _ (refl, refl) (nil refl)) h.1) h.2)),
+    (
+      (λ p b ts vs rest h. (join _ _ _ _ _ (join _ _ _ _ _ (cons (at t.Delete p) [] (piece_at t.Delete p b) ts _ (refl, refl) (nil refl)) h.1) h.2)),
+      (
+        (λ p b ts vs rest h. (join _ _ _ _ _ (join _ _ _ _ _ (join _ _ _ _ _ (join _ _ _ _ _ (join _ _ _ _ _ (cons (at t.Update p) [] (piece_at t.Update p b) ts _ (refl, refl) (nil refl)) h.1) h.2.1) h.2.2.1) h.2.2.2.1) h.2.2.2.2)),
+        (
+          (λ p b ts vs rest h. (join _ _ _ _ _ (join _ _ _ _ _ (join _ _ _ _ _ (join _ _ _ _ _ (cons (at t.Terminate p) [] (piece_at t.Terminate p b) ts _ (refl, refl) (nil refl)) h.1) h.2.1) h.2.2.1) h.2.2.2)),
+          (
+            (λ p b ts vs rest h. (join _ _ _ _ _ (join _ _ _ _ _ (join _ _ _ _ _ (cons (at t.Using p) [] (piece_at t.Using p b) ts _ (refl, refl) (nil refl)) h.1) h.2.1) h.2.2)),
+            tt,
+          ),
+        ),
+      ),
+    ),
+  ),
+)
 
 more_items-sound : SoundRows MoreItems more_items_rows make_more_items
 more_items-sound = ((λ p b ts vs rest h. (join _ _ _ _ _ (join _ _ _ _ _ (cons (fixed t.Comma) [] (piece_at t.Comma p b) ts _ refl (nil refl)) h.1) h.2)), tt)
@@ -764,6 +941,17 @@ pub same-self : (a : Terminal) → same a a ≡ true
 same-self t.All = refl
 same-self _ = refl
 
+number-eq : (n : ℕ) → (n == n) ≡ true
+number-eq n = search rules
+
+pub bytes-self : (b : List ℕ) → same_bytes b b ≡ true
+bytes-self [] = refl
+bytes-self (x ∷ xs) = both (x == x) (same_bytes xs xs) (number-eq x) (bytes-self xs)
+  where
+    both : (a b : Bool) → a ≡ true → b ≡ true → (a && b) ≡ true
+    both true b h g = g
+    both false b h g = h
+
 both-left : (a b : Bool) → (a && b) ≡ true → a ≡ true
 both-left true b e = refl
 both-left false b e = cc
@@ -802,8 +990,8 @@ made-sound s (spelt c more) m h x p b ts e =
     subst (λ z. SoundCase s Plain more m (piece_at z p b) ts) a (subst (λ z. SoundCase s Plain more m (piece_at t.Name p z) ts) d (h p ts))
 made-sound s (before y z how more how' more') m h x p b ts e =
     by_case-sound s how more how' more' (same z (first ts)) m.0 m.1 (piece_at x p b) ts
-      (λ c. subst (λ w. SoundCase s how more m.0 (piece_at w p b) ts) (number-same y x e) (h.0 p b ts (sym (number-same z (first ts) c))))
-      (λ c. subst (λ w. SoundCase s how' more' m.1 (piece_at w p b) ts) (number-same y x e) (h.1 p b ts (λ q. true-false (same z (first ts)) (ap (same z) q ∙ same-self z) c)))
+    (λ c. subst (λ w. SoundCase s how more m.0 (piece_at w p b) ts) (number-same y x e) (h.0 p b ts (sym (number-same z (first ts) c))))
+    (λ c. subst (λ w. SoundCase s how' more' m.1 (piece_at w p b) ts) (number-same y x e) (h.1 p b ts (λ q. true-false (same z (first ts)) (ap (same z) q ∙ same-self z) c)))
 
 pick-sound : (s : Symbol) (c : Bool) (r r' : Turn) (v : Built s r) (w : Built s r') (x : Piece) (ts : List Piece) → (c ≡ true → SoundTurn s r v x ts) → SoundTurn s r' w x ts → SoundTurn s (cond c r r') (pick s c r r' v w) x ts
 pick-sound s true r r' v w x ts h k = h refl
