@@ -5,3 +5,4 @@ pub mod Accepted
 pub mod Sound
 pub mod Refused
 pub mod Laws
+pub mod Trees

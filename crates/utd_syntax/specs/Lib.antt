@@ -1,5 +1,6 @@
 pub mod Pieces
 pub mod Plain
+pub mod Read
 pub mod Written
 pub mod Continues
 pub mod Table
