@@ -1,16 +1,16 @@
 -- What the table is: the laws that make it trustworthy.
-use Rattle.std.proofs.Common.{◌≡◌, ◌≢◌, ◌↔◌, ℕ, List, [], ◌∷◌, ◌++◌, Bool, true, false, cond, Option, Some, None, Result, Err, refl, sym, ◌∙◌, ap, subst, append_assoc}
+use Rattle.std.proofs.Common.{◌≡◌, ◌↔◌, ℕ, List, [], ◌∷◌, ◌++◌, Bool, true, false, cond, Option, Some, None, refl, sym, ◌∙◌, ap, subst, append_assoc}
 use Rattle.utd_syntax.specs.declared.terminal.Terminal.{Terminal}
 use Rattle.utd_syntax.specs.declared.terminal.Terminal.TheVariants as t
 use Rattle.point_core.specs.declared.fault.Place.{Place}
 use Rattle.point_core.specs.declared.fault.Code.{Code}
 use Rattle.point_core.specs.declared.fault.Code.TheVariants.{E01, E05, E06}
-use Rattle.utd_syntax.specs.Pieces.{Piece, first, place_of}
+use Rattle.utd_syntax.specs.Pieces.{Piece, first}
 use Rattle.utd_syntax.specs.Plain.{StatementP, Nothing}
 use Rattle.utd_syntax.specs.Written.{Spells, of_statement}
 use Rattle.utd_syntax.specs.Continues.{Starts, Continues, NoStatement}
 use Rattle.utd_syntax.specs.Table.{Load, Symbol, TheStatement, Taking}
-use Rattle.utd_syntax.specs.Verdict.{Verdict, Whole, Refused, Limits, limits, no_limits, verdict, reach, taken, ended, Reach, Over, Stuck, Reaches, stack_after, load_after}
+use Rattle.utd_syntax.specs.Verdict.{Verdict, Whole, Refused, Limits, no_limits, verdict, reach, taken, ended, Reach, Over, Stuck, Reaches, stack_after, load_after}
 use Rattle.utd_syntax.proofs.Reader.{Go, read}
 use Rattle.utd_syntax.proofs.Complete.{written-once}
 use Rattle.utd_syntax.proofs.Accepted.{bare, Agree, agrees, written-accepted}

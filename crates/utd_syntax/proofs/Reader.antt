@@ -1,38 +1,26 @@
 -- What the table reads: a value for each form.
-use Rattle.std.proofs.Common.{◌≡◌, ◌≢◌, ◌↔◌, ℕ, List, [], ◌∷◌, ◌++◌, Bool, true, false, cond, ◌==◌, ◌&&◌, eqb, ◌⊎◌, inl, inr, Option, Some, None, refl, sym, ◌∙◌, ap, subst, append_assoc, if◌then◌else◌}
+use Rattle.std.proofs.Common.{ℕ, List, [], ◌∷◌, ◌++◌, Bool, true, false, Option, Some, None, if◌then◌else◌}
 use Rattle.utd_syntax.specs.declared.terminal.Terminal.{Terminal}
 use Rattle.utd_syntax.specs.declared.terminal.Terminal.TheVariants as t
 use Rattle.point_core.specs.declared.fault.Place.{Place}
-use Rattle.utd_syntax.specs.declared.words.ComparisonWord.{ComparisonWord}
 use Rattle.utd_syntax.specs.declared.words.ComparisonWord.TheVariants as comparisons
-use Rattle.utd_syntax.specs.declared.words.SumWord.{SumWord}
 use Rattle.utd_syntax.specs.declared.words.SumWord.TheVariants as sum_words
-use Rattle.utd_syntax.specs.declared.words.ProductWord.{ProductWord}
 use Rattle.utd_syntax.specs.declared.words.ProductWord.TheVariants as product_words
-use Rattle.utd_syntax.specs.declared.words.BeginBracket.{BeginBracket}
 use Rattle.utd_syntax.specs.declared.words.BeginBracket.TheVariants as begin_brackets
 use Rattle.utd_syntax.specs.declared.words.EndBracket.{EndBracket}
 use Rattle.utd_syntax.specs.declared.words.EndBracket.TheVariants as end_brackets
-use Rattle.utd_syntax.specs.declared.words.ExtremeWord.{ExtremeWord}
 use Rattle.utd_syntax.specs.declared.words.ExtremeWord.TheVariants as extremes
-use Rattle.utd_syntax.specs.declared.words.FunctionWord.{FunctionWord}
 use Rattle.utd_syntax.specs.declared.words.FunctionWord.TheVariants as functions
-use Rattle.utd_syntax.specs.declared.words.PairWord.{PairWord}
 use Rattle.utd_syntax.specs.declared.words.PairWord.TheVariants as pair_functions
-use Rattle.utd_syntax.specs.declared.words.InfixWord.{InfixWord}
 use Rattle.utd_syntax.specs.declared.words.InfixWord.TheVariants as infixes
-use Rattle.utd_syntax.specs.declared.words.PackWord.{PackWord}
 use Rattle.utd_syntax.specs.declared.words.PackWord.TheVariants as pack_words
-use Rattle.utd_syntax.specs.declared.words.AggregateWord.{AggregateWord}
 use Rattle.utd_syntax.specs.declared.words.AggregateWord.TheVariants as aggregate_words
-use Rattle.utd_syntax.specs.declared.words.RelationComparison.{RelationComparison}
 use Rattle.utd_syntax.specs.declared.words.RelationComparison.TheVariants as relation_comparisons
-use Rattle.utd_syntax.specs.declared.words.EmptinessWord.{EmptinessWord}
 use Rattle.utd_syntax.specs.declared.words.EmptinessWord.TheVariants as emptinesses
 use Rattle.utd_syntax.specs.Pieces.{Piece, first, place_of}
 use Rattle.utd_syntax.specs.Plain.{Word, word, PointP, ScalarP, ConjP, NegP, CmpP, SumP, ProdP, SignP, PrimaryP, KindP, AttributeP, HeadingP, NamesP, NameListP, SomeNamesP, ElementP, ElementsP, SomeElementsP, TupleP, LiteralP, SetItemP, SetsP, AggregateFormP, AggregateP, AggregatesP, RenamingP, RenamingsP, PortionP, MaybePortionP, ConditionP, ProjectionP, RelP, TermsP, TermP, RelPrimaryP, OperandP, ExtendP, SummarizeP, UsingP, UsingPartP, KeyP, ForeignP, UsedConstraintP, ConstraintP, VarFormP, ComparisonP, TestP, UsedDeletionP, UsedItemP, DeletionP, ItemP, AssignP, StatementP, IntegerType, DateType, NamedType, OneConj, Or, OneNeg, And, Not, OneCmp, OneSum, Compare, OneProd, Add, OneSign, Multiply, NegativeInteger, Negate, OnePrimary, IntegerLiteral, TextLiteral, DateLiteral, TrueLiteral, FalseLiteral, AttributeName, Dotted, Paren, Selector, Extreme, Function, PairFunction, BooleanKind, CharKind, PointKind, IntervalKind, Attribute, Heading, Names, NameList, SomeNames, Element, Elements, SomeElements, Tuple, Tuples, Headed, SetItem, Sets, CountRows, AggregateOf, Aggregate, Aggregates, Renaming, Renamings, Portion, NoPortion, OfPortion, NoCondition, Where, Onto, AllBut, OfUsing, OfTerms, OneTerm, Infix, NotMatching, OneRelPrimary, Project, Filter, Rename, OfExtend, OfSummarize, OfOperand, Relvar, OfLiteral, ParenRel, PackOn, Extend, Summarize, Using, UsingExtend, UsingSummarize, UsingInfix, UsingNotMatching, UsingProject, UsingFilter, Key, Foreign, UsedKey, UsedForeign, KeyOf, ForeignOf, PackedOn, WhenUnpacked, UsingConstraint, BaseRelvar, View, Comparison, UsingTest, Emptiness, OfComparison, UsedDeleteWhere, UsedDeleteRows, UsedInsert, UsedDelete, UsedUpdate, DeleteWhere, DeletePortion, DeleteRows, SetRelvar, Insert, Delete, Update, Terminate, UsingItem, Assign, Nothing, DeclareOrdinal, DeclareRelvar, DeclareHistory, Drop, Print, Ask, Assignment}
-use Rattle.utd_syntax.specs.Table.{Load, Symbol, TheName, Comma, DateText, NegativeDigits, ThePrimary, AfterName, AfterScalar, EndOfSelector, InParens, InPair, InPoint, TheSign, TheProd, MoreProd, TheSum, MoreSum, TheCmp, MoreCmp, TheNeg, TheConj, MoreAnd, TheScalar, MoreOr, ThePoint, TheKind, TheAttribute, MoreAttributes, InHeading, TheHeading, MoreNames, InNames, InList, TheNames, TheList, TheSomeNames, TheParenName, TheElement, MoreElements, InElements, TheElements, TheSomeElements, TheTuple, MoreTuples, InTuples, TheTuples, TheLiteral, AfterRelation, TheSetItem, MoreSetItems, TheSets, EmptyParens, TheAggregateForm, TheAggregate, MoreAggregates, TheAggregates, TheRenaming, MoreRenamings, TheRenamings, ThePortion, MaybePortion, MaybeWhere, InProjection, TheOperand, TheExtend, TheSummarize, TheRelPrimary, TheTerm, MorePostfix, TheTerms, MoreInfix, TheUsing, TheRel, TheUsingPart, AfterOperand, TheKey, TheForeign, TheUsedConstraint, TheConstraint, MoreConstraints, InRel, TheVarForm, TheComparison, AfterLeft, TheTest, TheUsedDeletion, TheUsedItem, TheDeletion, TheItem, MoreItems, TheAssign, TheStatement, Just, Worded, Shut, Taking, Plain, Operator, Separator, Negated, Dated, Opens, OperatorOpens, Turn, Never, Ends, Takes, Row, on, spelt, before, then_row, ◌▹◌, rows, may_end, number, same, same_bytes, fits, chosen, find, turn, name_rows, comma_rows, date_text_rows, negative_digits_rows, primary_rows, after_name_rows, after_scalar_rows, end_of_selector_rows, in_parens_rows, in_pair_rows, in_point_rows, sign_rows, prod_rows, more_prod_rows, sum_rows, more_sum_rows, cmp_rows, more_cmp_rows, neg_rows, conj_rows, more_and_rows, scalar_rows, more_or_rows, point_rows, kind_rows, attribute_rows, more_attributes_rows, in_heading_rows, heading_rows, more_names_rows, in_names_rows, in_list_rows, names_rows, list_rows, some_names_rows, paren_name_rows, element_rows, more_elements_rows, in_elements_rows, elements_rows, some_elements_rows, tuple_rows, more_tuples_rows, in_tuples_rows, tuples_rows, literal_rows, after_relation_rows, set_item_rows, more_set_items_rows, sets_rows, empty_parens_rows, aggregate_form_rows, aggregate_rows, more_aggregates_rows, aggregates_rows, renaming_rows, more_renamings_rows, renamings_rows, portion_rows, maybe_portion_rows, maybe_where_rows, in_projection_rows, operand_rows, extend_rows, summarize_rows, rel_primary_rows, term_rows, more_postfix_rows, terms_rows, more_infix_rows, using_rows, rel_rows, using_part_rows, after_operand_rows, key_rows, foreign_rows, used_constraint_rows, constraint_rows, more_constraints_rows, in_rel_rows, var_form_rows, comparison_rows, after_left_rows, test_rows, used_deletion_rows, used_item_rows, deletion_rows, item_rows, more_items_rows, assign_rows, statement_rows}
-use Rattle.utd_syntax.specs.Written.{ordinal_word, since_word, during_word, over_word, at_word}
+use Rattle.utd_syntax.specs.Table.{Symbol, TheName, Comma, DateText, NegativeDigits, ThePrimary, AfterName, AfterScalar, EndOfSelector, InParens, InPair, InPoint, TheSign, TheProd, MoreProd, TheSum, MoreSum, TheCmp, MoreCmp, TheNeg, TheConj, MoreAnd, TheScalar, MoreOr, ThePoint, TheKind, TheAttribute, MoreAttributes, InHeading, TheHeading, MoreNames, InNames, InList, TheNames, TheList, TheSomeNames, TheParenName, TheElement, MoreElements, InElements, TheElements, TheSomeElements, TheTuple, MoreTuples, InTuples, TheTuples, TheLiteral, AfterRelation, TheSetItem, MoreSetItems, TheSets, EmptyParens, TheAggregateForm, TheAggregate, MoreAggregates, TheAggregates, TheRenaming, MoreRenamings, TheRenamings, ThePortion, MaybePortion, MaybeWhere, InProjection, TheOperand, TheExtend, TheSummarize, TheRelPrimary, TheTerm, MorePostfix, TheTerms, MoreInfix, TheUsing, TheRel, TheUsingPart, AfterOperand, TheKey, TheForeign, TheUsedConstraint, TheConstraint, MoreConstraints, InRel, TheVarForm, TheComparison, AfterLeft, TheTest, TheUsedDeletion, TheUsedItem, TheDeletion, TheItem, MoreItems, TheAssign, TheStatement, Just, Worded, Shut, Taking, Plain, Opens, OperatorOpens, Turn, Never, Ends, Takes, Row, on, spelt, before, then_row, ◌▹◌, rows, may_end, same, fits, chosen, find, turn, name_rows, comma_rows, date_text_rows, negative_digits_rows, primary_rows, after_name_rows, after_scalar_rows, end_of_selector_rows, in_parens_rows, in_pair_rows, in_point_rows, sign_rows, prod_rows, more_prod_rows, sum_rows, more_sum_rows, cmp_rows, more_cmp_rows, neg_rows, conj_rows, more_and_rows, scalar_rows, more_or_rows, point_rows, kind_rows, attribute_rows, more_attributes_rows, in_heading_rows, heading_rows, more_names_rows, in_names_rows, in_list_rows, names_rows, list_rows, some_names_rows, paren_name_rows, element_rows, more_elements_rows, in_elements_rows, elements_rows, some_elements_rows, tuple_rows, more_tuples_rows, in_tuples_rows, tuples_rows, literal_rows, after_relation_rows, set_item_rows, more_set_items_rows, sets_rows, empty_parens_rows, aggregate_form_rows, aggregate_rows, more_aggregates_rows, aggregates_rows, renaming_rows, more_renamings_rows, renamings_rows, portion_rows, maybe_portion_rows, maybe_where_rows, in_projection_rows, operand_rows, extend_rows, summarize_rows, rel_primary_rows, term_rows, more_postfix_rows, terms_rows, more_infix_rows, using_rows, rel_rows, using_part_rows, after_operand_rows, key_rows, foreign_rows, used_constraint_rows, constraint_rows, more_constraints_rows, in_rel_rows, var_form_rows, comparison_rows, after_left_rows, test_rows, used_deletion_rows, used_item_rows, deletion_rows, item_rows, more_items_rows, assign_rows, statement_rows}
+use Rattle.utd_syntax.specs.Written.{ordinal_word, since_word, during_word, over_word}
 
 -- what a form gives; the rest of one gives what it makes of the part before it
 abbrev pub Val : Symbol → Type 0

@@ -1,8 +1,8 @@
 -- What a token may be at most, and how deep a text may nest.
-use Rattle.std.specs.Prelude.{ℕ, ◌+◌, ◌-◌, ◌*◌, ◌/◌, ◌%◌, List, [], ◌∷◌, Bool, true, false, ◌&&◌, ◌||◌, not, ◌==◌, nat_lt, nat_le, length, if◌then◌else◌}
+use Rattle.std.specs.Prelude.{ℕ, ◌+◌, ◌-◌, ◌*◌, ◌%◌, List, [], ◌∷◌, Bool, true, false, ◌&&◌, ◌||◌, not, ◌==◌, nat_lt, nat_le, length, if◌then◌else◌}
 use Rattle.utd_syntax.specs.declared.terminal.Terminal.{Terminal}
 use Rattle.utd_syntax.specs.declared.terminal.Terminal.TheVariants.{Name, Digits, Quoted}
-use Rattle.utd_syntax.specs.Table.{Load, Taking, Plain, Operator, Separator, Negated, Dated, Opens, OperatorOpens}
+use Rattle.utd_syntax.specs.Table.{Load, Taking, Operator, Negated, Dated, Opens, OperatorOpens}
 
 -- the number that decimal digits write
 abbrev pub value_after : ℕ → List ℕ → ℕ

@@ -1,12 +1,12 @@
 -- The first refusal of a text.
-use Rattle.std.specs.Prelude.{◌≡◌, ℕ, ◌+◌, List, [], ◌∷◌, ◌++◌, Bool, true, false, if◌then◌else◌}
+use Rattle.std.specs.Prelude.{ℕ, ◌+◌, List, [], ◌∷◌, ◌++◌, Bool, false, if◌then◌else◌}
 use Rattle.point_core.specs.declared.fault.Place.{Place}
 use Rattle.point_core.specs.declared.fault.Code.{Code}
 use Rattle.point_core.specs.declared.fault.Code.TheVariants.{E01, E05, E06}
 use Rattle.utd_syntax.specs.declared.terminal.Terminal.{Terminal}
 use Rattle.utd_syntax.specs.declared.terminal.Terminal.TheVariants.{Finish}
 use Rattle.utd_syntax.specs.Pieces.{Piece, first, place_of}
-use Rattle.utd_syntax.specs.Table.{Load, Symbol, Shut, TheStatement, Taking, Plain, Operator, Separator, Negated, Dated, Opens, OperatorOpens, Turn, Never, Ends, Takes, turn}
+use Rattle.utd_syntax.specs.Table.{Load, Symbol, Shut, TheStatement, Taking, Operator, Separator, Opens, OperatorOpens, Turn, Never, Ends, Takes, turn}
 use Rattle.utd_syntax.specs.Limits.{is_too_deep, is_out_of_range}
 
 -- the tokens are a whole text, or are refused at this place
