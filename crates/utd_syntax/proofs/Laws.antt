@@ -1,21 +1,22 @@
 -- What the table is: the laws that make it trustworthy.
-use Rattle.std.proofs.Common.{◌≡◌, ◌↔◌, ℕ, List, [], ◌∷◌, ◌++◌, Bool, true, false, cond, Option, Some, None, refl, sym, ◌∙◌, ap, subst, append_assoc}
+use Rattle.std.proofs.Common.{◌≡◌, ◌≢◌, ◌↔◌, ℕ, List, [], ◌∷◌, ◌++◌, Bool, true, false, cond, Option, Some, None, Result, Err, refl, sym, ◌∙◌, ap, subst, append_assoc}
 use Rattle.utd_syntax.specs.declared.terminal.Terminal.{Terminal}
 use Rattle.utd_syntax.specs.declared.terminal.Terminal.TheVariants as t
 use Rattle.point_core.specs.declared.fault.Place.{Place}
 use Rattle.point_core.specs.declared.fault.Code.{Code}
 use Rattle.point_core.specs.declared.fault.Code.TheVariants.{E01, E05, E06}
-use Rattle.utd_syntax.specs.Pieces.{Piece, first}
+use Rattle.utd_syntax.specs.Pieces.{Piece, first, place_of}
 use Rattle.utd_syntax.specs.Plain.{StatementP, Nothing}
 use Rattle.utd_syntax.specs.Written.{Spells, of_statement}
 use Rattle.utd_syntax.specs.Continues.{Starts, Continues, NoStatement}
+use Rattle.utd_syntax.specs.Terminals.{AreTokens}
 use Rattle.utd_syntax.specs.Table.{Load, Symbol, TheStatement, Taking}
-use Rattle.utd_syntax.specs.Verdict.{Verdict, Whole, Refused, Limits, no_limits, verdict, reach, taken, ended, Reach, Over, Stuck, Reaches, stack_after, load_after}
+use Rattle.utd_syntax.specs.Verdict.{Verdict, Whole, Refused, Limits, limits, no_limits, verdict, reach, taken, ended, Reach, Over, Stuck, Reaches, stack_after, load_after}
 use Rattle.utd_syntax.proofs.Reader.{Go, read}
 use Rattle.utd_syntax.proofs.Complete.{written-once}
 use Rattle.utd_syntax.proofs.Accepted.{bare, Agree, agrees, written-accepted}
 use Rattle.utd_syntax.proofs.Sound.{sound, accepted-written}
-use Rattle.utd_syntax.proofs.Refused.{Good, Reads, by, complete, complete-reads, lead, step, step-stable, step-good, step-read, ReachIs, reach-step, refused-place, starts_from, refused-no_statement}
+use Rattle.utd_syntax.proofs.Refused.{Good, Reads, by, complete, complete-reads, complete-tokens, lead, step, step-stable, step-good, step-read, ReachIs, reach-step, refused-place, starts_from, refused-no_statement}
 
 -- A: the table accepts what a tree writes, and nothing else
 pub law_a : (ts : List Piece) (load : Load) → ((x : StatementP) × Spells (of_statement x) ts []) ↔ (verdict no_limits ts (TheStatement ∷ []) load ≡ Whole)
@@ -35,10 +36,10 @@ agree-whole None v r a = cc r.1
 agree-whole (Some x) v r a = a
 
 -- B: each of them can be completed
-pub law_b : (stack : List Symbol) (load : Load) → Reached stack load → (ts : List Piece) × (verdict no_limits ts stack load ≡ Whole)
+pub law_b : (stack : List Symbol) (load : Load) → Reached stack load → (ts : List Piece) × AreTokens ts × (verdict no_limits ts stack load ≡ Whole)
 law_b stack load h =
     let k : Go (bare stack) = λ v. Nothing in
-    (complete (bare stack), agree-whole _ _ (complete-reads (bare stack) (reached-good stack load h) k) (agrees (complete (bare stack)) stack load k))
+    (complete (bare stack), complete-tokens (bare stack) (reached-good stack load h), agree-whole _ _ (complete-reads (bare stack) (reached-good stack load h) k) (agrees (complete (bare stack)) stack load k))
 
 -- C: a token list is written by at most one tree
 pub law_c : (x y : StatementP) (ts : List Piece) → Spells (of_statement x) ts [] → Spells (of_statement y) ts [] → x ≡ y
@@ -72,6 +73,7 @@ record Met (st : List Symbol) (ts : List Piece) (place : Place) : Type 0 where
   parts : ts ≡ before ++ (token ∷ after)
   there : token.place ≡ place
   more : List Piece
+  real : AreTokens more
   can : (k : Go st) → Reads (read (before ++ (token ∷ more)) st k)
 
 first-same : (before : List Piece) (x : Piece) (a b : List Piece) → first (before ++ (x ∷ a)) ≡ first (before ++ (x ∷ b))
@@ -88,6 +90,7 @@ met-further st st' x ts place h r =
       parts = ap (λ z. x ∷ z) r.parts;
       there = r.there;
       more = r.more;
+      real = r.real;
       can = λ k. let g = step-read st x.terminal x.bytes (first (r.before ++ (r.token ∷ r.more))) x.place (read (r.before ++ (r.token ∷ r.more))) st' same k in by _ _ g.1 (r.can g.0);
     }
 
@@ -99,6 +102,7 @@ met-here st st' x ts place g h e = record {
   parts = refl;
   there = e;
   more = complete st';
+  real = complete-tokens st' (step-good st x.terminal x.bytes (first ts) st' g h);
   can = λ k. let r = step-read st x.terminal x.bytes (lead st') x.place (read (complete st')) st' (step-stable st x.terminal x.bytes (first ts) st' h) k in by _ _ r.1 (complete-reads st' (step-good st x.terminal x.bytes (first ts) st' g h) r.0);
 }
 
@@ -134,7 +138,6 @@ met lim code place not (x ∷ ts) stack load g e = met-reached lim (reach stack 
 pub limit : (lim : Limits) (ts : List Piece) (load : Load) (code : Code) (place : Place) → (E01 ≡ code → ⊥) → verdict lim ts (TheStatement ∷ []) load ≡ Refused code place → Continues ts place
 limit lim ts load code place not e =
     let r : Met (TheStatement ∷ []) ts place = met lim code place not ts (TheStatement ∷ []) load (tt, tt) e in
-    let s : Starts r.before = starts_from r.before (r.token ∷ r.more) _ (r.can (λ v. v.0)) (sound (r.before ++ (r.token ∷ r.more)) (TheStatement ∷ []) (λ v. v.0)) in
     let w : (x : StatementP) × Spells (of_statement x) (r.before ++ (r.token ∷ r.more)) [] = accepted-written (r.before ++ (r.token ∷ r.more)) load (agree-whole _ _ (r.can (λ v. v.0)) (agrees (r.before ++ (r.token ∷ r.more)) (TheStatement ∷ []) load (λ v. v.0))) in
     record {
       before = r.before;
@@ -142,5 +145,6 @@ limit lim ts load code place not e =
       after = r.after;
       parts = r.parts;
       there = r.there;
-      starts = (r.more, w.0, subst (λ z. Spells (of_statement w.0) z []) (sym (append_assoc r.before (r.token ∷ []) r.more)) w.1);
+      starts = (r.more, r.real, w.0, subst (λ z. Spells (of_statement w.0) z []) (sym (append_assoc r.before (r.token ∷ []) r.more)) w.1);
     }
+

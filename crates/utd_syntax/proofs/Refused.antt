@@ -1,5 +1,5 @@
 -- Each stack that the table reaches can be completed; so E01 is that no statement continues so.
-use Rattle.std.proofs.Common.{◌≡◌, ℕ, List, [], ◌∷◌, ◌++◌, Bool, true, false, cond, ◌&&◌, ◌⊎◌, inl, inr, Option, Some, None, refl, sym, ◌∙◌, ap, subst}
+use Rattle.std.proofs.Common.{◌≡◌, ◌≢◌, ◌↔◌, ℕ, List, [], ◌∷◌, ◌++◌, Bool, true, false, cond, ◌==◌, ◌&&◌, eqb, ◌⊎◌, inl, inr, Option, Some, None, refl, sym, ◌∙◌, ap, subst, append_assoc, if◌then◌else◌}
 use Rattle.utd_syntax.specs.declared.terminal.Terminal.{Terminal}
 use Rattle.utd_syntax.specs.declared.terminal.Terminal.TheVariants as t
 use Rattle.point_core.specs.declared.fault.Place.{Place}
@@ -7,109 +7,110 @@ use Rattle.point_core.specs.declared.fault.Code.{Code}
 use Rattle.point_core.specs.declared.fault.Code.TheVariants.{E01, E05, E06}
 use Rattle.utd_syntax.specs.Pieces.{Piece, first, place_of}
 use Rattle.utd_syntax.specs.Plain.{StatementP}
-use Rattle.utd_syntax.specs.Written.{Spells, of_statement}
+use Rattle.utd_syntax.specs.Written.{Spells, of_statement, ordinal_word, since_word, during_word, over_word, at_word}
 use Rattle.utd_syntax.specs.Continues.{Starts, again, NoStatement}
-use Rattle.utd_syntax.specs.Table.{Load, Symbol, TheName, Comma, DateText, NegativeDigits, ThePrimary, AfterName, AfterScalar, EndOfSelector, InParens, InPair, InPoint, TheSign, TheProd, MoreProd, TheSum, MoreSum, TheCmp, MoreCmp, TheNeg, TheConj, MoreAnd, TheScalar, MoreOr, ThePoint, TheKind, TheAttribute, MoreAttributes, InHeading, TheHeading, MoreNames, InNames, InList, TheNames, TheList, TheSomeNames, TheParenName, TheElement, MoreElements, InElements, TheElements, TheSomeElements, TheTuple, MoreTuples, InTuples, TheTuples, TheLiteral, AfterRelation, TheSetItem, MoreSetItems, TheSets, EmptyParens, TheAggregateForm, TheAggregate, MoreAggregates, TheAggregates, TheRenaming, MoreRenamings, TheRenamings, ThePortion, MaybePortion, MaybeWhere, InProjection, TheOperand, TheExtend, TheSummarize, TheRelPrimary, TheTerm, MorePostfix, TheTerms, MoreInfix, TheUsing, TheRel, TheUsingPart, AfterOperand, TheKey, TheForeign, TheUsedConstraint, TheConstraint, MoreConstraints, InRel, TheVarForm, TheComparison, AfterLeft, TheTest, TheUsedDeletion, TheUsedItem, TheDeletion, TheItem, MoreItems, TheAssign, TheStatement, Just, Worded, Shut, Taking, Plain, Turn, Never, Ends, Takes, Row, on, spelt, before, rows, may_end, same, same_bytes, fits, chosen, find, turn, name_rows, comma_rows, date_text_rows, negative_digits_rows, primary_rows, after_name_rows, after_scalar_rows, end_of_selector_rows, in_parens_rows, in_pair_rows, in_point_rows, sign_rows, prod_rows, more_prod_rows, sum_rows, more_sum_rows, cmp_rows, more_cmp_rows, neg_rows, conj_rows, more_and_rows, scalar_rows, more_or_rows, point_rows, kind_rows, attribute_rows, more_attributes_rows, in_heading_rows, heading_rows, more_names_rows, in_names_rows, in_list_rows, names_rows, list_rows, some_names_rows, paren_name_rows, element_rows, more_elements_rows, in_elements_rows, elements_rows, some_elements_rows, tuple_rows, more_tuples_rows, in_tuples_rows, tuples_rows, literal_rows, after_relation_rows, set_item_rows, more_set_items_rows, sets_rows, empty_parens_rows, aggregate_form_rows, aggregate_rows, more_aggregates_rows, aggregates_rows, renaming_rows, more_renamings_rows, renamings_rows, portion_rows, maybe_portion_rows, maybe_where_rows, in_projection_rows, operand_rows, extend_rows, summarize_rows, rel_primary_rows, term_rows, more_postfix_rows, terms_rows, more_infix_rows, using_rows, rel_rows, using_part_rows, after_operand_rows, key_rows, foreign_rows, used_constraint_rows, constraint_rows, more_constraints_rows, in_rel_rows, var_form_rows, comparison_rows, after_left_rows, test_rows, used_deletion_rows, used_item_rows, deletion_rows, item_rows, more_items_rows, assign_rows, statement_rows}
-use Rattle.utd_syntax.specs.Verdict.{Verdict, Whole, Refused, Limits, verdict, reach, taken, ended, at_form, Reach, Over, Stuck, Reaches, stack_after, load_after}
-use Rattle.utd_syntax.proofs.Reader.{Val, Vals, Built, Go, inner, pick, build, split, on_turn, read_at, read}
-use Rattle.utd_syntax.proofs.Complete.{statement-reads, Halts, Calm2, Calm3, Calm4, Calm5, Calm6, Calm9, Calm11, Calm15, Calm16, Calm17, Calm19, Calm20, AfterName-end, MoreProd-end, MoreSum-end, MoreCmp-end, MoreAnd-end, MoreOr-end, MoreAttributes-end, MoreNames-end, MoreElements-end, MoreTuples-end, MoreSetItems-end, MoreAggregates-end, MoreRenamings-end, MaybePortion-end, MaybeWhere-end, MorePostfix-end, MoreInfix-end, MoreConstraints-end, MoreItems-end}
+use Rattle.utd_syntax.specs.Terminals.{spelling, is_token, AreTokens}
+use Rattle.utd_syntax.specs.Table.{Load, Symbol, TheName, Comma, DateText, NegativeDigits, ThePrimary, AfterName, AfterScalar, EndOfSelector, InParens, InPair, InPoint, TheSign, TheProd, MoreProd, TheSum, MoreSum, TheCmp, MoreCmp, TheNeg, TheConj, MoreAnd, TheScalar, MoreOr, ThePoint, TheKind, TheAttribute, MoreAttributes, InHeading, TheHeading, MoreNames, InNames, InList, TheNames, TheList, TheSomeNames, TheParenName, TheElement, MoreElements, InElements, TheElements, TheSomeElements, TheTuple, MoreTuples, InTuples, TheTuples, TheLiteral, AfterRelation, TheSetItem, MoreSetItems, TheSets, EmptyParens, TheAggregateForm, TheAggregate, MoreAggregates, TheAggregates, TheRenaming, MoreRenamings, TheRenamings, ThePortion, MaybePortion, MaybeWhere, InProjection, TheOperand, TheExtend, TheSummarize, TheRelPrimary, TheTerm, MorePostfix, TheTerms, MoreInfix, TheUsing, TheRel, TheUsingPart, AfterOperand, TheKey, TheForeign, TheUsedConstraint, TheConstraint, MoreConstraints, InRel, TheVarForm, TheComparison, AfterLeft, TheTest, TheUsedDeletion, TheUsedItem, TheDeletion, TheItem, MoreItems, TheAssign, TheStatement, Just, Worded, Shut, Taking, Plain, Operator, Separator, Negated, Dated, Opens, OperatorOpens, Turn, Never, Ends, Takes, Row, on, spelt, before, then_row, ◌▹◌, rows, may_end, number, same, same_bytes, fits, chosen, find, turn, name_rows, comma_rows, date_text_rows, negative_digits_rows, primary_rows, after_name_rows, after_scalar_rows, end_of_selector_rows, in_parens_rows, in_pair_rows, in_point_rows, sign_rows, prod_rows, more_prod_rows, sum_rows, more_sum_rows, cmp_rows, more_cmp_rows, neg_rows, conj_rows, more_and_rows, scalar_rows, more_or_rows, point_rows, kind_rows, attribute_rows, more_attributes_rows, in_heading_rows, heading_rows, more_names_rows, in_names_rows, in_list_rows, names_rows, list_rows, some_names_rows, paren_name_rows, element_rows, more_elements_rows, in_elements_rows, elements_rows, some_elements_rows, tuple_rows, more_tuples_rows, in_tuples_rows, tuples_rows, literal_rows, after_relation_rows, set_item_rows, more_set_items_rows, sets_rows, empty_parens_rows, aggregate_form_rows, aggregate_rows, more_aggregates_rows, aggregates_rows, renaming_rows, more_renamings_rows, renamings_rows, portion_rows, maybe_portion_rows, maybe_where_rows, in_projection_rows, operand_rows, extend_rows, summarize_rows, rel_primary_rows, term_rows, more_postfix_rows, terms_rows, more_infix_rows, using_rows, rel_rows, using_part_rows, after_operand_rows, key_rows, foreign_rows, used_constraint_rows, constraint_rows, more_constraints_rows, in_rel_rows, var_form_rows, comparison_rows, after_left_rows, test_rows, used_deletion_rows, used_item_rows, deletion_rows, item_rows, more_items_rows, assign_rows, statement_rows}
+use Rattle.utd_syntax.specs.Verdict.{Verdict, Whole, Refused, Limits, no_limits, verdict, reach, taken, ended, at_form, Reach, Over, Stuck, Reaches, outside, stack_after, load_after}
+use Rattle.utd_syntax.proofs.Reader.{Val, Vals, Case, Make, Makes, Ended, Built, Go, inner, over_make, over_makes, last_of, last_behind, then_case, then_make, then_makes, append_makes, makes, end_value, by_case, made, pick, found_end, found, build, split, on_turn, read_at, on_end, read_end, read, make_name, make_comma, make_date_text, make_negative_digits, make_primary, make_after_name, make_after_scalar, make_end_of_selector, make_in_parens, make_in_pair, make_in_point, make_sign, make_prod, make_more_prod, make_sum, make_more_sum, make_cmp, make_more_cmp, make_neg, make_conj, make_more_and, make_scalar, make_more_or, make_point, make_kind, make_attribute, make_more_attributes, make_in_heading, make_heading, make_more_names, make_in_names, make_in_list, make_names, make_list, make_some_names, make_paren_name, make_element, make_more_elements, make_in_elements, make_elements, make_some_elements, make_tuple, make_more_tuples, make_in_tuples, make_tuples, make_literal, make_after_relation, make_set_item, make_more_set_items, make_sets, make_empty_parens, make_aggregate_form, make_aggregate, make_more_aggregates, make_aggregates, make_renaming, make_more_renamings, make_renamings, make_portion, make_maybe_portion, make_maybe_where, make_in_projection, make_operand, make_extend, make_summarize, make_rel_primary, make_term, make_more_postfix, make_terms, make_more_infix, make_using, make_rel, make_using_part, make_after_operand, make_key, make_foreign, make_used_constraint, make_constraint, make_more_constraints, make_in_rel, make_var_form, make_comparison, make_after_left, make_test, make_used_deletion, make_used_item, make_deletion, make_item, make_more_items, make_assign, make_statement}
+use Rattle.utd_syntax.proofs.Complete.{statement-reads, Halts, Calm1, Calm2, Calm3, Calm4, Calm5, Calm6, Calm7, Calm8, Calm9, Calm10, Calm11, Calm12, Calm13, Calm14, Calm15, Calm16, Calm17, Calm18, Calm19, Calm20, AfterName-end, MoreProd-end, MoreSum-end, MoreCmp-end, MoreAnd-end, MoreOr-end, MoreAttributes-end, MoreNames-end, MoreElements-end, MoreTuples-end, MoreSetItems-end, MoreAggregates-end, MoreRenamings-end, MaybePortion-end, MaybeWhere-end, MorePostfix-end, MoreInfix-end, MoreConstraints-end, MoreItems-end}
 use Rattle.utd_syntax.proofs.Accepted.{bare, row, plain, bare-after, Agree, agrees-end}
 use Rattle.utd_syntax.proofs.Sound.{SoundAt, sound, same-self, bytes-self}
 
 -- the tokens that complete a form
 abbrev pub ending : Symbol → List (Terminal × List ℕ)
-ending TheName = (t.Name, []) ∷ []
-ending Comma = (t.Comma, []) ∷ []
-ending DateText = (t.Quoted, []) ∷ []
-ending NegativeDigits = (t.Digits, []) ∷ []
-ending ThePrimary = (t.True, []) ∷ []
+ending TheName = (t.Name, spelling t.Name) ∷ []
+ending Comma = (t.Comma, spelling t.Comma) ∷ []
+ending DateText = (t.Quoted, spelling t.Quoted) ∷ []
+ending NegativeDigits = (t.Digits, spelling t.Digits) ∷ []
+ending ThePrimary = (t.True, spelling t.True) ∷ []
 ending AfterName = []
-ending AfterScalar = (t.Close, []) ∷ []
-ending EndOfSelector = (t.CloseBracket, []) ∷ []
-ending InParens = (t.Open, []) ∷ (t.True, []) ∷ (t.Close, []) ∷ []
-ending InPair = (t.Open, []) ∷ (t.True, []) ∷ (t.Comma, []) ∷ (t.True, []) ∷ (t.Close, []) ∷ []
-ending InPoint = (t.Open, []) ∷ (t.Integer, []) ∷ (t.Close, []) ∷ []
-ending TheSign = (t.True, []) ∷ []
-ending TheProd = (t.True, []) ∷ []
+ending AfterScalar = (t.Close, spelling t.Close) ∷ []
+ending EndOfSelector = (t.CloseBracket, spelling t.CloseBracket) ∷ []
+ending InParens = (t.Open, spelling t.Open) ∷ (t.True, spelling t.True) ∷ (t.Close, spelling t.Close) ∷ []
+ending InPair = (t.Open, spelling t.Open) ∷ (t.True, spelling t.True) ∷ (t.Comma, spelling t.Comma) ∷ (t.True, spelling t.True) ∷ (t.Close, spelling t.Close) ∷ []
+ending InPoint = (t.Open, spelling t.Open) ∷ (t.Integer, spelling t.Integer) ∷ (t.Close, spelling t.Close) ∷ []
+ending TheSign = (t.True, spelling t.True) ∷ []
+ending TheProd = (t.True, spelling t.True) ∷ []
 ending MoreProd = []
-ending TheSum = (t.True, []) ∷ []
+ending TheSum = (t.True, spelling t.True) ∷ []
 ending MoreSum = []
-ending TheCmp = (t.True, []) ∷ []
+ending TheCmp = (t.True, spelling t.True) ∷ []
 ending MoreCmp = []
-ending TheNeg = (t.True, []) ∷ []
-ending TheConj = (t.True, []) ∷ []
+ending TheNeg = (t.True, spelling t.True) ∷ []
+ending TheConj = (t.True, spelling t.True) ∷ []
 ending MoreAnd = []
-ending TheScalar = (t.True, []) ∷ []
+ending TheScalar = (t.True, spelling t.True) ∷ []
 ending MoreOr = []
-ending ThePoint = (t.Integer, []) ∷ []
-ending TheKind = (t.Boolean, []) ∷ []
-ending TheAttribute = (t.Name, []) ∷ (t.Boolean, []) ∷ []
+ending ThePoint = (t.Integer, spelling t.Integer) ∷ []
+ending TheKind = (t.Boolean, spelling t.Boolean) ∷ []
+ending TheAttribute = (t.Name, spelling t.Name) ∷ (t.Boolean, spelling t.Boolean) ∷ []
 ending MoreAttributes = []
-ending InHeading = (t.CloseBrace, []) ∷ []
-ending TheHeading = (t.OpenBrace, []) ∷ (t.CloseBrace, []) ∷ []
+ending InHeading = (t.CloseBrace, spelling t.CloseBrace) ∷ []
+ending TheHeading = (t.OpenBrace, spelling t.OpenBrace) ∷ (t.CloseBrace, spelling t.CloseBrace) ∷ []
 ending MoreNames = []
-ending InNames = (t.CloseBrace, []) ∷ []
-ending InList = (t.Close, []) ∷ []
-ending TheNames = (t.OpenBrace, []) ∷ (t.CloseBrace, []) ∷ []
-ending TheList = (t.Open, []) ∷ (t.Close, []) ∷ []
-ending TheSomeNames = (t.OpenBrace, []) ∷ (t.Name, []) ∷ (t.CloseBrace, []) ∷ []
-ending TheParenName = (t.Open, []) ∷ (t.Name, []) ∷ (t.Close, []) ∷ []
-ending TheElement = (t.Name, []) ∷ (t.True, []) ∷ []
+ending InNames = (t.CloseBrace, spelling t.CloseBrace) ∷ []
+ending InList = (t.Close, spelling t.Close) ∷ []
+ending TheNames = (t.OpenBrace, spelling t.OpenBrace) ∷ (t.CloseBrace, spelling t.CloseBrace) ∷ []
+ending TheList = (t.Open, spelling t.Open) ∷ (t.Close, spelling t.Close) ∷ []
+ending TheSomeNames = (t.OpenBrace, spelling t.OpenBrace) ∷ (t.Name, spelling t.Name) ∷ (t.CloseBrace, spelling t.CloseBrace) ∷ []
+ending TheParenName = (t.Open, spelling t.Open) ∷ (t.Name, spelling t.Name) ∷ (t.Close, spelling t.Close) ∷ []
+ending TheElement = (t.Name, spelling t.Name) ∷ (t.True, spelling t.True) ∷ []
 ending MoreElements = []
-ending InElements = (t.CloseBrace, []) ∷ []
-ending TheElements = (t.OpenBrace, []) ∷ (t.CloseBrace, []) ∷ []
-ending TheSomeElements = (t.OpenBrace, []) ∷ (t.Name, []) ∷ (t.True, []) ∷ (t.CloseBrace, []) ∷ []
-ending TheTuple = (t.Tuple, []) ∷ (t.OpenBrace, []) ∷ (t.CloseBrace, []) ∷ []
+ending InElements = (t.CloseBrace, spelling t.CloseBrace) ∷ []
+ending TheElements = (t.OpenBrace, spelling t.OpenBrace) ∷ (t.CloseBrace, spelling t.CloseBrace) ∷ []
+ending TheSomeElements = (t.OpenBrace, spelling t.OpenBrace) ∷ (t.Name, spelling t.Name) ∷ (t.True, spelling t.True) ∷ (t.CloseBrace, spelling t.CloseBrace) ∷ []
+ending TheTuple = (t.Tuple, spelling t.Tuple) ∷ (t.OpenBrace, spelling t.OpenBrace) ∷ (t.CloseBrace, spelling t.CloseBrace) ∷ []
 ending MoreTuples = []
-ending InTuples = (t.CloseBrace, []) ∷ []
-ending TheTuples = (t.OpenBrace, []) ∷ (t.CloseBrace, []) ∷ []
-ending TheLiteral = (t.Relation, []) ∷ (t.OpenBrace, []) ∷ (t.CloseBrace, []) ∷ (t.OpenBrace, []) ∷ (t.CloseBrace, []) ∷ []
-ending AfterRelation = (t.OpenBrace, []) ∷ (t.CloseBrace, []) ∷ (t.OpenBrace, []) ∷ (t.CloseBrace, []) ∷ []
-ending TheSetItem = (t.Name, []) ∷ (t.Assign, []) ∷ (t.True, []) ∷ []
+ending InTuples = (t.CloseBrace, spelling t.CloseBrace) ∷ []
+ending TheTuples = (t.OpenBrace, spelling t.OpenBrace) ∷ (t.CloseBrace, spelling t.CloseBrace) ∷ []
+ending TheLiteral = (t.Relation, spelling t.Relation) ∷ (t.OpenBrace, spelling t.OpenBrace) ∷ (t.CloseBrace, spelling t.CloseBrace) ∷ (t.OpenBrace, spelling t.OpenBrace) ∷ (t.CloseBrace, spelling t.CloseBrace) ∷ []
+ending AfterRelation = (t.OpenBrace, spelling t.OpenBrace) ∷ (t.CloseBrace, spelling t.CloseBrace) ∷ (t.OpenBrace, spelling t.OpenBrace) ∷ (t.CloseBrace, spelling t.CloseBrace) ∷ []
+ending TheSetItem = (t.Name, spelling t.Name) ∷ (t.Assign, spelling t.Assign) ∷ (t.True, spelling t.True) ∷ []
 ending MoreSetItems = []
-ending TheSets = (t.OpenBrace, []) ∷ (t.Name, []) ∷ (t.Assign, []) ∷ (t.True, []) ∷ (t.CloseBrace, []) ∷ []
-ending EmptyParens = (t.Open, []) ∷ (t.Close, []) ∷ []
-ending TheAggregateForm = (t.Count, []) ∷ (t.Open, []) ∷ (t.Close, []) ∷ []
-ending TheAggregate = (t.Name, []) ∷ (t.Assign, []) ∷ (t.Count, []) ∷ (t.Open, []) ∷ (t.Close, []) ∷ []
+ending TheSets = (t.OpenBrace, spelling t.OpenBrace) ∷ (t.Name, spelling t.Name) ∷ (t.Assign, spelling t.Assign) ∷ (t.True, spelling t.True) ∷ (t.CloseBrace, spelling t.CloseBrace) ∷ []
+ending EmptyParens = (t.Open, spelling t.Open) ∷ (t.Close, spelling t.Close) ∷ []
+ending TheAggregateForm = (t.Count, spelling t.Count) ∷ (t.Open, spelling t.Open) ∷ (t.Close, spelling t.Close) ∷ []
+ending TheAggregate = (t.Name, spelling t.Name) ∷ (t.Assign, spelling t.Assign) ∷ (t.Count, spelling t.Count) ∷ (t.Open, spelling t.Open) ∷ (t.Close, spelling t.Close) ∷ []
 ending MoreAggregates = []
-ending TheAggregates = (t.OpenBrace, []) ∷ (t.Name, []) ∷ (t.Assign, []) ∷ (t.Count, []) ∷ (t.Open, []) ∷ (t.Close, []) ∷ (t.CloseBrace, []) ∷ []
-ending TheRenaming = (t.Name, []) ∷ (t.As, []) ∷ (t.Name, []) ∷ []
+ending TheAggregates = (t.OpenBrace, spelling t.OpenBrace) ∷ (t.Name, spelling t.Name) ∷ (t.Assign, spelling t.Assign) ∷ (t.Count, spelling t.Count) ∷ (t.Open, spelling t.Open) ∷ (t.Close, spelling t.Close) ∷ (t.CloseBrace, spelling t.CloseBrace) ∷ []
+ending TheRenaming = (t.Name, spelling t.Name) ∷ (t.As, spelling t.As) ∷ (t.Name, spelling t.Name) ∷ []
 ending MoreRenamings = []
-ending TheRenamings = (t.OpenBrace, []) ∷ (t.Name, []) ∷ (t.As, []) ∷ (t.Name, []) ∷ (t.CloseBrace, []) ∷ []
-ending ThePortion = (t.Portion, []) ∷ (t.OpenBrace, []) ∷ (t.Name, []) ∷ (t.True, []) ∷ (t.CloseBrace, []) ∷ []
+ending TheRenamings = (t.OpenBrace, spelling t.OpenBrace) ∷ (t.Name, spelling t.Name) ∷ (t.As, spelling t.As) ∷ (t.Name, spelling t.Name) ∷ (t.CloseBrace, spelling t.CloseBrace) ∷ []
+ending ThePortion = (t.Portion, spelling t.Portion) ∷ (t.OpenBrace, spelling t.OpenBrace) ∷ (t.Name, spelling t.Name) ∷ (t.True, spelling t.True) ∷ (t.CloseBrace, spelling t.CloseBrace) ∷ []
 ending MaybePortion = []
 ending MaybeWhere = []
-ending InProjection = (t.CloseBrace, []) ∷ []
-ending TheOperand = (t.Name, []) ∷ []
-ending TheExtend = (t.Extend, []) ∷ (t.Name, []) ∷ (t.Colon, []) ∷ (t.OpenBrace, []) ∷ (t.Name, []) ∷ (t.Assign, []) ∷ (t.True, []) ∷ (t.CloseBrace, []) ∷ []
-ending TheSummarize = (t.Summarize, []) ∷ (t.Name, []) ∷ (t.By, []) ∷ (t.OpenBrace, []) ∷ (t.CloseBrace, []) ∷ (t.Colon, []) ∷ (t.OpenBrace, []) ∷ (t.Name, []) ∷ (t.Assign, []) ∷ (t.Count, []) ∷ (t.Open, []) ∷ (t.Close, []) ∷ (t.CloseBrace, []) ∷ []
-ending TheRelPrimary = (t.Name, []) ∷ []
-ending TheTerm = (t.Name, []) ∷ []
+ending InProjection = (t.CloseBrace, spelling t.CloseBrace) ∷ []
+ending TheOperand = (t.Name, spelling t.Name) ∷ []
+ending TheExtend = (t.Extend, spelling t.Extend) ∷ (t.Name, spelling t.Name) ∷ (t.Colon, spelling t.Colon) ∷ (t.OpenBrace, spelling t.OpenBrace) ∷ (t.Name, spelling t.Name) ∷ (t.Assign, spelling t.Assign) ∷ (t.True, spelling t.True) ∷ (t.CloseBrace, spelling t.CloseBrace) ∷ []
+ending TheSummarize = (t.Summarize, spelling t.Summarize) ∷ (t.Name, spelling t.Name) ∷ (t.By, spelling t.By) ∷ (t.OpenBrace, spelling t.OpenBrace) ∷ (t.CloseBrace, spelling t.CloseBrace) ∷ (t.Colon, spelling t.Colon) ∷ (t.OpenBrace, spelling t.OpenBrace) ∷ (t.Name, spelling t.Name) ∷ (t.Assign, spelling t.Assign) ∷ (t.Count, spelling t.Count) ∷ (t.Open, spelling t.Open) ∷ (t.Close, spelling t.Close) ∷ (t.CloseBrace, spelling t.CloseBrace) ∷ []
+ending TheRelPrimary = (t.Name, spelling t.Name) ∷ []
+ending TheTerm = (t.Name, spelling t.Name) ∷ []
 ending MorePostfix = []
-ending TheTerms = (t.Name, []) ∷ []
+ending TheTerms = (t.Name, spelling t.Name) ∷ []
 ending MoreInfix = []
-ending TheUsing = (t.Using, []) ∷ (t.Open, []) ∷ (t.Close, []) ∷ (t.Colon, []) ∷ (t.Name, []) ∷ (t.Union, []) ∷ (t.Name, []) ∷ []
-ending TheRel = (t.Name, []) ∷ []
-ending TheUsingPart = (t.Name, []) ∷ (t.Union, []) ∷ (t.Name, []) ∷ []
-ending AfterOperand = (t.Union, []) ∷ (t.Name, []) ∷ []
-ending TheKey = (t.Key, []) ∷ (t.OpenBrace, []) ∷ (t.CloseBrace, []) ∷ []
-ending TheForeign = (t.Foreign, []) ∷ (t.Key, []) ∷ (t.OpenBrace, []) ∷ (t.CloseBrace, []) ∷ (t.References, []) ∷ (t.Name, []) ∷ []
-ending TheUsedConstraint = (t.Key, []) ∷ (t.OpenBrace, []) ∷ (t.CloseBrace, []) ∷ []
-ending TheConstraint = (t.Key, []) ∷ (t.OpenBrace, []) ∷ (t.CloseBrace, []) ∷ []
+ending TheUsing = (t.Using, spelling t.Using) ∷ (t.Open, spelling t.Open) ∷ (t.Close, spelling t.Close) ∷ (t.Colon, spelling t.Colon) ∷ (t.Name, spelling t.Name) ∷ (t.Union, spelling t.Union) ∷ (t.Name, spelling t.Name) ∷ []
+ending TheRel = (t.Name, spelling t.Name) ∷ []
+ending TheUsingPart = (t.Name, spelling t.Name) ∷ (t.Union, spelling t.Union) ∷ (t.Name, spelling t.Name) ∷ []
+ending AfterOperand = (t.Union, spelling t.Union) ∷ (t.Name, spelling t.Name) ∷ []
+ending TheKey = (t.Key, spelling t.Key) ∷ (t.OpenBrace, spelling t.OpenBrace) ∷ (t.CloseBrace, spelling t.CloseBrace) ∷ []
+ending TheForeign = (t.Foreign, spelling t.Foreign) ∷ (t.Key, spelling t.Key) ∷ (t.OpenBrace, spelling t.OpenBrace) ∷ (t.CloseBrace, spelling t.CloseBrace) ∷ (t.References, spelling t.References) ∷ (t.Name, spelling t.Name) ∷ []
+ending TheUsedConstraint = (t.Key, spelling t.Key) ∷ (t.OpenBrace, spelling t.OpenBrace) ∷ (t.CloseBrace, spelling t.CloseBrace) ∷ []
+ending TheConstraint = (t.Key, spelling t.Key) ∷ (t.OpenBrace, spelling t.OpenBrace) ∷ (t.CloseBrace, spelling t.CloseBrace) ∷ []
 ending MoreConstraints = []
-ending InRel = (t.Open, []) ∷ (t.Name, []) ∷ (t.Close, []) ∷ []
-ending TheVarForm = (t.Relation, []) ∷ (t.OpenBrace, []) ∷ (t.CloseBrace, []) ∷ []
-ending TheComparison = (t.Name, []) ∷ (t.Equal, []) ∷ (t.Name, []) ∷ []
-ending AfterLeft = (t.Equal, []) ∷ (t.Name, []) ∷ []
-ending TheTest = (t.Name, []) ∷ (t.Equal, []) ∷ (t.Name, []) ∷ []
-ending TheUsedDeletion = (t.Name, []) ∷ []
-ending TheUsedItem = (t.Insert, []) ∷ (t.Name, []) ∷ (t.Name, []) ∷ []
-ending TheDeletion = (t.Name, []) ∷ []
-ending TheItem = (t.Name, []) ∷ (t.Assign, []) ∷ (t.Name, []) ∷ []
+ending InRel = (t.Open, spelling t.Open) ∷ (t.Name, spelling t.Name) ∷ (t.Close, spelling t.Close) ∷ []
+ending TheVarForm = (t.Relation, spelling t.Relation) ∷ (t.OpenBrace, spelling t.OpenBrace) ∷ (t.CloseBrace, spelling t.CloseBrace) ∷ []
+ending TheComparison = (t.Name, spelling t.Name) ∷ (t.Equal, spelling t.Equal) ∷ (t.Name, spelling t.Name) ∷ []
+ending AfterLeft = (t.Equal, spelling t.Equal) ∷ (t.Name, spelling t.Name) ∷ []
+ending TheTest = (t.Name, spelling t.Name) ∷ (t.Equal, spelling t.Equal) ∷ (t.Name, spelling t.Name) ∷ []
+ending TheUsedDeletion = (t.Name, spelling t.Name) ∷ []
+ending TheUsedItem = (t.Insert, spelling t.Insert) ∷ (t.Name, spelling t.Name) ∷ (t.Name, spelling t.Name) ∷ []
+ending TheDeletion = (t.Name, spelling t.Name) ∷ []
+ending TheItem = (t.Name, spelling t.Name) ∷ (t.Assign, spelling t.Assign) ∷ (t.Name, spelling t.Name) ∷ []
 ending MoreItems = []
-ending TheAssign = (t.Name, []) ∷ (t.Assign, []) ∷ (t.Name, []) ∷ []
-ending TheStatement = (t.Semicolon, []) ∷ []
-ending (Just x) = (x, []) ∷ []
+ending TheAssign = (t.Name, spelling t.Name) ∷ (t.Assign, spelling t.Assign) ∷ (t.Name, spelling t.Name) ∷ []
+ending TheStatement = (t.Semicolon, spelling t.Semicolon) ∷ []
+ending (Just x) = (x, spelling x) ∷ []
 ending (Worded w) = (t.Name, w) ∷ []
 ending (Shut outer) = []
 
@@ -167,6 +168,8 @@ Calm TheDeletion x = Calm19 x
 Calm TheItem x = Calm19 x
 Calm MoreItems x = Calm20 x
 Calm TheAssign x = Calm20 x
+Calm (Just y) x = is_token y (spelling y) ≡ true
+Calm (Worded w) x = is_token t.Name w ≡ true
 Calm _ x = Unit {0}
 
 abbrev pub Good : List Symbol → Type 0
@@ -292,9 +295,107 @@ complete-reads (TheItem ∷ st) g k = by _ _ (MorePostfix-end (complete st) _ _ 
 complete-reads (MoreItems ∷ st) g k = by _ _ (MoreItems-end (complete st) _ _ g.0.0) (complete-reads st g.1 _)
 complete-reads (TheAssign ∷ st) g k = by _ _ (MorePostfix-end (complete st) _ _ g.0.1.1.1.0 ∙ MoreInfix-end (complete st) _ _ g.0.1.1.0 ∙ MoreItems-end (complete st) _ _ g.0.0) (complete-reads st g.1 _)
 complete-reads (TheStatement ∷ st) g k = complete-reads st g.1 _
-complete-reads (Just wanted ∷ st) g k = by _ _ (just-self wanted (first (complete st)) (place_of []) [] (read (complete st)) st k) (complete-reads st g.1 _)
+complete-reads (Just wanted ∷ st) g k = by _ _ (just-self wanted (first (complete st)) (place_of []) (spelling wanted) (read (complete st)) st k) (complete-reads st g.1 _)
 complete-reads (Worded w ∷ st) g k = by _ _ (worded-self w (first (complete st)) (place_of []) (read (complete st)) st k) (complete-reads st g.1 _)
 complete-reads (Shut outer ∷ st) g k = by _ _ (shut-end (complete st) outer st k) (complete-reads st g.1 _)
+
+-- and that with tokens
+pub complete-tokens : (stack : List Symbol) → Good stack → AreTokens (complete stack)
+complete-tokens [] g = tt
+complete-tokens (TheName ∷ st) g = (refl, complete-tokens st g.1)
+complete-tokens (Comma ∷ st) g = (refl, complete-tokens st g.1)
+complete-tokens (DateText ∷ st) g = (refl, complete-tokens st g.1)
+complete-tokens (NegativeDigits ∷ st) g = (refl, complete-tokens st g.1)
+complete-tokens (ThePrimary ∷ st) g = (refl, complete-tokens st g.1)
+complete-tokens (AfterName ∷ st) g = complete-tokens st g.1
+complete-tokens (AfterScalar ∷ st) g = (refl, complete-tokens st g.1)
+complete-tokens (EndOfSelector ∷ st) g = (refl, complete-tokens st g.1)
+complete-tokens (InParens ∷ st) g = (refl, (refl, (refl, complete-tokens st g.1)))
+complete-tokens (InPair ∷ st) g = (refl, (refl, (refl, (refl, (refl, complete-tokens st g.1)))))
+complete-tokens (InPoint ∷ st) g = (refl, (refl, (refl, complete-tokens st g.1)))
+complete-tokens (TheSign ∷ st) g = (refl, complete-tokens st g.1)
+complete-tokens (TheProd ∷ st) g = (refl, complete-tokens st g.1)
+complete-tokens (MoreProd ∷ st) g = complete-tokens st g.1
+complete-tokens (TheSum ∷ st) g = (refl, complete-tokens st g.1)
+complete-tokens (MoreSum ∷ st) g = complete-tokens st g.1
+complete-tokens (TheCmp ∷ st) g = (refl, complete-tokens st g.1)
+complete-tokens (MoreCmp ∷ st) g = complete-tokens st g.1
+complete-tokens (TheNeg ∷ st) g = (refl, complete-tokens st g.1)
+complete-tokens (TheConj ∷ st) g = (refl, complete-tokens st g.1)
+complete-tokens (MoreAnd ∷ st) g = complete-tokens st g.1
+complete-tokens (TheScalar ∷ st) g = (refl, complete-tokens st g.1)
+complete-tokens (MoreOr ∷ st) g = complete-tokens st g.1
+complete-tokens (ThePoint ∷ st) g = (refl, complete-tokens st g.1)
+complete-tokens (TheKind ∷ st) g = (refl, complete-tokens st g.1)
+complete-tokens (TheAttribute ∷ st) g = (refl, (refl, complete-tokens st g.1))
+complete-tokens (MoreAttributes ∷ st) g = complete-tokens st g.1
+complete-tokens (InHeading ∷ st) g = (refl, complete-tokens st g.1)
+complete-tokens (TheHeading ∷ st) g = (refl, (refl, complete-tokens st g.1))
+complete-tokens (MoreNames ∷ st) g = complete-tokens st g.1
+complete-tokens (InNames ∷ st) g = (refl, complete-tokens st g.1)
+complete-tokens (InList ∷ st) g = (refl, complete-tokens st g.1)
+complete-tokens (TheNames ∷ st) g = (refl, (refl, complete-tokens st g.1))
+complete-tokens (TheList ∷ st) g = (refl, (refl, complete-tokens st g.1))
+complete-tokens (TheSomeNames ∷ st) g = (refl, (refl, (refl, complete-tokens st g.1)))
+complete-tokens (TheParenName ∷ st) g = (refl, (refl, (refl, complete-tokens st g.1)))
+complete-tokens (TheElement ∷ st) g = (refl, (refl, complete-tokens st g.1))
+complete-tokens (MoreElements ∷ st) g = complete-tokens st g.1
+complete-tokens (InElements ∷ st) g = (refl, complete-tokens st g.1)
+complete-tokens (TheElements ∷ st) g = (refl, (refl, complete-tokens st g.1))
+complete-tokens (TheSomeElements ∷ st) g = (refl, (refl, (refl, (refl, complete-tokens st g.1))))
+complete-tokens (TheTuple ∷ st) g = (refl, (refl, (refl, complete-tokens st g.1)))
+complete-tokens (MoreTuples ∷ st) g = complete-tokens st g.1
+complete-tokens (InTuples ∷ st) g = (refl, complete-tokens st g.1)
+complete-tokens (TheTuples ∷ st) g = (refl, (refl, complete-tokens st g.1))
+complete-tokens (TheLiteral ∷ st) g = (refl, (refl, (refl, (refl, (refl, complete-tokens st g.1)))))
+complete-tokens (AfterRelation ∷ st) g = (refl, (refl, (refl, (refl, complete-tokens st g.1))))
+complete-tokens (TheSetItem ∷ st) g = (refl, (refl, (refl, complete-tokens st g.1)))
+complete-tokens (MoreSetItems ∷ st) g = complete-tokens st g.1
+complete-tokens (TheSets ∷ st) g = (refl, (refl, (refl, (refl, (refl, complete-tokens st g.1)))))
+complete-tokens (EmptyParens ∷ st) g = (refl, (refl, complete-tokens st g.1))
+complete-tokens (TheAggregateForm ∷ st) g = (refl, (refl, (refl, complete-tokens st g.1)))
+complete-tokens (TheAggregate ∷ st) g = (refl, (refl, (refl, (refl, (refl, complete-tokens st g.1)))))
+complete-tokens (MoreAggregates ∷ st) g = complete-tokens st g.1
+complete-tokens (TheAggregates ∷ st) g = (refl, (refl, (refl, (refl, (refl, (refl, (refl, complete-tokens st g.1)))))))
+complete-tokens (TheRenaming ∷ st) g = (refl, (refl, (refl, complete-tokens st g.1)))
+complete-tokens (MoreRenamings ∷ st) g = complete-tokens st g.1
+complete-tokens (TheRenamings ∷ st) g = (refl, (refl, (refl, (refl, (refl, complete-tokens st g.1)))))
+complete-tokens (ThePortion ∷ st) g = (refl, (refl, (refl, (refl, (refl, complete-tokens st g.1)))))
+complete-tokens (MaybePortion ∷ st) g = complete-tokens st g.1
+complete-tokens (MaybeWhere ∷ st) g = complete-tokens st g.1
+complete-tokens (InProjection ∷ st) g = (refl, complete-tokens st g.1)
+complete-tokens (TheOperand ∷ st) g = (refl, complete-tokens st g.1)
+complete-tokens (TheExtend ∷ st) g = (refl, (refl, (refl, (refl, (refl, (refl, (refl, (refl, complete-tokens st g.1))))))))
+complete-tokens (TheSummarize ∷ st) g = (refl, (refl, (refl, (refl, (refl, (refl, (refl, (refl, (refl, (refl, (refl, (refl, (refl, complete-tokens st g.1)))))))))))))
+complete-tokens (TheRelPrimary ∷ st) g = (refl, complete-tokens st g.1)
+complete-tokens (TheTerm ∷ st) g = (refl, complete-tokens st g.1)
+complete-tokens (MorePostfix ∷ st) g = complete-tokens st g.1
+complete-tokens (TheTerms ∷ st) g = (refl, complete-tokens st g.1)
+complete-tokens (MoreInfix ∷ st) g = complete-tokens st g.1
+complete-tokens (TheUsing ∷ st) g = (refl, (refl, (refl, (refl, (refl, (refl, (refl, complete-tokens st g.1)))))))
+complete-tokens (TheRel ∷ st) g = (refl, complete-tokens st g.1)
+complete-tokens (TheUsingPart ∷ st) g = (refl, (refl, (refl, complete-tokens st g.1)))
+complete-tokens (AfterOperand ∷ st) g = (refl, (refl, complete-tokens st g.1))
+complete-tokens (TheKey ∷ st) g = (refl, (refl, (refl, complete-tokens st g.1)))
+complete-tokens (TheForeign ∷ st) g = (refl, (refl, (refl, (refl, (refl, (refl, complete-tokens st g.1))))))
+complete-tokens (TheUsedConstraint ∷ st) g = (refl, (refl, (refl, complete-tokens st g.1)))
+complete-tokens (TheConstraint ∷ st) g = (refl, (refl, (refl, complete-tokens st g.1)))
+complete-tokens (MoreConstraints ∷ st) g = complete-tokens st g.1
+complete-tokens (InRel ∷ st) g = (refl, (refl, (refl, complete-tokens st g.1)))
+complete-tokens (TheVarForm ∷ st) g = (refl, (refl, (refl, complete-tokens st g.1)))
+complete-tokens (TheComparison ∷ st) g = (refl, (refl, (refl, complete-tokens st g.1)))
+complete-tokens (AfterLeft ∷ st) g = (refl, (refl, complete-tokens st g.1))
+complete-tokens (TheTest ∷ st) g = (refl, (refl, (refl, complete-tokens st g.1)))
+complete-tokens (TheUsedDeletion ∷ st) g = (refl, complete-tokens st g.1)
+complete-tokens (TheUsedItem ∷ st) g = (refl, (refl, (refl, complete-tokens st g.1)))
+complete-tokens (TheDeletion ∷ st) g = (refl, complete-tokens st g.1)
+complete-tokens (TheItem ∷ st) g = (refl, (refl, (refl, complete-tokens st g.1)))
+complete-tokens (MoreItems ∷ st) g = complete-tokens st g.1
+complete-tokens (TheAssign ∷ st) g = (refl, (refl, (refl, complete-tokens st g.1)))
+complete-tokens (TheStatement ∷ st) g = (refl, complete-tokens st g.1)
+complete-tokens (Just wanted ∷ st) g = (g.0, complete-tokens st g.1)
+complete-tokens (Worded w ∷ st) g = (g.0, complete-tokens st g.1)
+complete-tokens (Shut outer ∷ st) g = complete-tokens st g.1
 
 -- the rows keep stacks good
 abbrev GoodForms : Symbol → List Symbol → Type 0
@@ -322,679 +423,286 @@ good-negative_digits : GoodRows NegativeDigits negative_digits_rows
 good-negative_digits = ((λ st g. g.1), tt)
 
 good-the_primary : GoodRows ThePrimary primary_rows
-good-the_primary = (
-  (λ st g. g.1),
-  (
-    (λ st g. g.1),
-    (
-      (λ st g. (tt, g.1)),
-      (
-        (λ st g. g.1),
-        (
-          (λ st g. g.1),
-          (
-            (λ st g. (g.0, g.1)),
-            (
-              (λ st g. ((refl, (refl, (refl, (refl, (refl, refl))))), (tt, g.1))),
-              (
-                (λ st g. ((refl, (refl, (refl, (refl, (refl, refl))))), (tt, ((refl, (refl, (refl, (refl, (refl, refl))))), (tt, g.1))))),
-                (
-                  (λ st g. (tt, g.1)),
-                  (
-                    (λ st g. (tt, g.1)),
-                    (
-                      (λ st g. (tt, g.1)),
-                      (
-                        (λ st g. (tt, g.1)),
-                        (
-                          (λ st g. (tt, g.1)),
-                          (
-                            (λ st g. (tt, g.1)),
-                            (
-                              (λ st g. (tt, g.1)),
-                              (
-                                (λ st g. (tt, g.1)),
-                                (
-                                  (λ st g. (tt, g.1)),
-                                  (
-                                    (λ st g. (tt, g.1)),
-                                    (
-                                      (λ st g. (tt, g.1)),
-                                      (
-                                        (λ st g. (tt, g.1)),
-                                        tt,
-                                      ),
-                                    ),
-                                  ),
-                                ),
-                              ),
-                            ),
-                          ),
-                        ),
-                      ),
-                    ),
-                  ),
-                ),
-              ),
-            ),
-          ),
-        ),
-      ),
-    ),
-  ),
-)
+good-the_primary =
+    ((λ st g. g.1),
+    ((λ st g. g.1),
+    ((λ st g. (tt, g.1)),
+    ((λ st g. g.1),
+    ((λ st g. g.1),
+    ((λ st g. (g.0, g.1)),
+    ((λ st g. ((refl, (refl, (refl, (refl, (refl, refl))))), (tt, g.1))),
+    ((λ st g. ((refl, (refl, (refl, (refl, (refl, refl))))), (refl, ((refl, (refl, (refl, (refl, (refl, refl))))), (tt, g.1))))),
+    ((λ st g. (tt, g.1)),
+    ((λ st g. (tt, g.1)),
+    ((λ st g. (tt, g.1)),
+    ((λ st g. (tt, g.1)),
+    ((λ st g. (tt, g.1)),
+    ((λ st g. (tt, g.1)),
+    ((λ st g. (tt, g.1)),
+    ((λ st g. (tt, g.1)),
+    ((λ st g. (tt, g.1)),
+    ((λ st g. (tt, g.1)),
+    ((λ st g. (tt, g.1)),
+    ((λ st g. (tt, g.1)),
+    tt))))))))))))))))))))
 
 good-after_name : GoodRows AfterName after_name_rows
 good-after_name = ((λ st g. (tt, g.1)), tt)
 
 good-after_scalar : GoodRows AfterScalar after_scalar_rows
-good-after_scalar = (
-  (λ st g. g.1),
-  (
-    (λ st g. ((refl, (refl, (refl, (refl, (refl, refl))))), (tt, g.1))),
-    tt,
-  ),
-)
+good-after_scalar =
+    ((λ st g. g.1),
+    ((λ st g. ((refl, (refl, (refl, (refl, (refl, refl))))), (tt, g.1))),
+    tt))
 
 good-end_of_selector : GoodRows EndOfSelector end_of_selector_rows
-good-end_of_selector = (
-  (λ st g. g.1),
-  (
-    (λ st g. g.1),
-    tt,
-  ),
-)
+good-end_of_selector =
+    ((λ st g. g.1),
+    ((λ st g. g.1),
+    tt))
 
 good-in_parens : GoodRows InParens in_parens_rows
-good-in_parens = ((λ st g. ((refl, (refl, (refl, (refl, (refl, refl))))), (tt, g.1))), tt)
+good-in_parens = ((λ st g. ((refl, (refl, (refl, (refl, (refl, refl))))), (refl, g.1))), tt)
 
 good-in_pair : GoodRows InPair in_pair_rows
-good-in_pair = ((λ st g. ((refl, (refl, (refl, (refl, (refl, refl))))), (tt, ((refl, (refl, (refl, (refl, (refl, refl))))), (tt, g.1))))), tt)
+good-in_pair = ((λ st g. ((refl, (refl, (refl, (refl, (refl, refl))))), (tt, ((refl, (refl, (refl, (refl, (refl, refl))))), (refl, g.1))))), tt)
 
 good-in_point : GoodRows InPoint in_point_rows
-good-in_point = ((λ st g. (tt, (tt, g.1))), tt)
+good-in_point = ((λ st g. (tt, (refl, g.1))), tt)
 
 good-the_sign : GoodRows TheSign sign_rows
-good-the_sign = (
-  ((λ st g. (tt, g.1)), (λ st g. (g.0, g.1))),
-  (
-    (λ st g. g.1),
-    (
-      (λ st g. g.1),
-      (
-        (λ st g. (tt, g.1)),
-        (
-          (λ st g. g.1),
-          (
-            (λ st g. g.1),
-            (
-              (λ st g. (g.0, g.1)),
-              (
-                (λ st g. ((refl, (refl, (refl, (refl, (refl, refl))))), (tt, g.1))),
-                (
-                  (λ st g. ((refl, (refl, (refl, (refl, (refl, refl))))), (tt, ((refl, (refl, (refl, (refl, (refl, refl))))), (tt, g.1))))),
-                  (
-                    (λ st g. (tt, g.1)),
-                    (
-                      (λ st g. (tt, g.1)),
-                      (
-                        (λ st g. (tt, g.1)),
-                        (
-                          (λ st g. (tt, g.1)),
-                          (
-                            (λ st g. (tt, g.1)),
-                            (
-                              (λ st g. (tt, g.1)),
-                              (
-                                (λ st g. (tt, g.1)),
-                                (
-                                  (λ st g. (tt, g.1)),
-                                  (
-                                    (λ st g. (tt, g.1)),
-                                    (
-                                      (λ st g. (tt, g.1)),
-                                      (
-                                        (λ st g. (tt, g.1)),
-                                        (
-                                          (λ st g. (tt, g.1)),
-                                          tt,
-                                        ),
-                                      ),
-                                    ),
-                                  ),
-                                ),
-                              ),
-                            ),
-                          ),
-                        ),
-                      ),
-                    ),
-                  ),
-                ),
-              ),
-            ),
-          ),
-        ),
-      ),
-    ),
-  ),
-)
+good-the_sign =
+    (((λ st g. (tt, g.1)), (λ st g. (g.0, g.1))),
+    ((λ st g. g.1),
+    ((λ st g. g.1),
+    ((λ st g. (tt, g.1)),
+    ((λ st g. g.1),
+    ((λ st g. g.1),
+    ((λ st g. (g.0, g.1)),
+    ((λ st g. ((refl, (refl, (refl, (refl, (refl, refl))))), (tt, g.1))),
+    ((λ st g. ((refl, (refl, (refl, (refl, (refl, refl))))), (refl, ((refl, (refl, (refl, (refl, (refl, refl))))), (tt, g.1))))),
+    ((λ st g. (tt, g.1)),
+    ((λ st g. (tt, g.1)),
+    ((λ st g. (tt, g.1)),
+    ((λ st g. (tt, g.1)),
+    ((λ st g. (tt, g.1)),
+    ((λ st g. (tt, g.1)),
+    ((λ st g. (tt, g.1)),
+    ((λ st g. (tt, g.1)),
+    ((λ st g. (tt, g.1)),
+    ((λ st g. (tt, g.1)),
+    ((λ st g. (tt, g.1)),
+    ((λ st g. (tt, g.1)),
+    tt)))))))))))))))))))))
 
 good-the_prod : GoodRows TheProd prod_rows
-good-the_prod = (
-  ((λ st g. (tt, (g.0, g.1))), (λ st g. (g.0.1, (g.0, g.1)))),
-  (
-    (λ st g. (g.0, g.1)),
-    (
-      (λ st g. (g.0, g.1)),
-      (
-        (λ st g. (tt, (g.0, g.1))),
-        (
-          (λ st g. (g.0, g.1)),
-          (
-            (λ st g. (g.0, g.1)),
-            (
-              (λ st g. (g.0.1, (g.0, g.1))),
-              (
-                (λ st g. ((refl, (refl, (refl, (refl, (refl, refl))))), (tt, (g.0, g.1)))),
-                (
-                  (λ st g. ((refl, (refl, (refl, (refl, (refl, refl))))), (tt, ((refl, (refl, (refl, (refl, (refl, refl))))), (tt, (g.0, g.1)))))),
-                  (
-                    (λ st g. (tt, (g.0, g.1))),
-                    (
-                      (λ st g. (tt, (g.0, g.1))),
-                      (
-                        (λ st g. (tt, (g.0, g.1))),
-                        (
-                          (λ st g. (tt, (g.0, g.1))),
-                          (
-                            (λ st g. (tt, (g.0, g.1))),
-                            (
-                              (λ st g. (tt, (g.0, g.1))),
-                              (
-                                (λ st g. (tt, (g.0, g.1))),
-                                (
-                                  (λ st g. (tt, (g.0, g.1))),
-                                  (
-                                    (λ st g. (tt, (g.0, g.1))),
-                                    (
-                                      (λ st g. (tt, (g.0, g.1))),
-                                      (
-                                        (λ st g. (tt, (g.0, g.1))),
-                                        (
-                                          (λ st g. (tt, (g.0, g.1))),
-                                          tt,
-                                        ),
-                                      ),
-                                    ),
-                                  ),
-                                ),
-                              ),
-                            ),
-                          ),
-                        ),
-                      ),
-                    ),
-                  ),
-                ),
-              ),
-            ),
-          ),
-        ),
-      ),
-    ),
-  ),
-)
+good-the_prod =
+    (((λ st g. (tt, (g.0, g.1))), (λ st g. (g.0.1, (g.0, g.1)))),
+    ((λ st g. (g.0, g.1)),
+    ((λ st g. (g.0, g.1)),
+    ((λ st g. (tt, (g.0, g.1))),
+    ((λ st g. (g.0, g.1)),
+    ((λ st g. (g.0, g.1)),
+    ((λ st g. (g.0.1, (g.0, g.1))),
+    ((λ st g. ((refl, (refl, (refl, (refl, (refl, refl))))), (tt, (g.0, g.1)))),
+    ((λ st g. ((refl, (refl, (refl, (refl, (refl, refl))))), (refl, ((refl, (refl, (refl, (refl, (refl, refl))))), (tt, (g.0, g.1)))))),
+    ((λ st g. (tt, (g.0, g.1))),
+    ((λ st g. (tt, (g.0, g.1))),
+    ((λ st g. (tt, (g.0, g.1))),
+    ((λ st g. (tt, (g.0, g.1))),
+    ((λ st g. (tt, (g.0, g.1))),
+    ((λ st g. (tt, (g.0, g.1))),
+    ((λ st g. (tt, (g.0, g.1))),
+    ((λ st g. (tt, (g.0, g.1))),
+    ((λ st g. (tt, (g.0, g.1))),
+    ((λ st g. (tt, (g.0, g.1))),
+    ((λ st g. (tt, (g.0, g.1))),
+    ((λ st g. (tt, (g.0, g.1))),
+    tt)))))))))))))))))))))
 
 good-more_prod : GoodRows MoreProd more_prod_rows
-good-more_prod = (
-  (λ st g. (g.0.1, (g.0, g.1))),
-  (
-    (λ st g. (g.0.1, (g.0, g.1))),
-    tt,
-  ),
-)
+good-more_prod =
+    ((λ st g. (g.0.1, (g.0, g.1))),
+    ((λ st g. (g.0.1, (g.0, g.1))),
+    tt))
 
 good-the_sum : GoodRows TheSum sum_rows
-good-the_sum = (
-  ((λ st g. (tt, (g.0.1, (g.0, g.1)))), (λ st g. (g.0.1.1, (g.0.1, (g.0, g.1))))),
-  (
-    (λ st g. (g.0.1, (g.0, g.1))),
-    (
-      (λ st g. (g.0.1, (g.0, g.1))),
-      (
-        (λ st g. (tt, (g.0.1, (g.0, g.1)))),
-        (
-          (λ st g. (g.0.1, (g.0, g.1))),
-          (
-            (λ st g. (g.0.1, (g.0, g.1))),
-            (
-              (λ st g. (g.0.1.1, (g.0.1, (g.0, g.1)))),
-              (
-                (λ st g. ((refl, (refl, (refl, (refl, (refl, refl))))), (tt, (g.0.1, (g.0, g.1))))),
-                (
-                  (λ st g. ((refl, (refl, (refl, (refl, (refl, refl))))), (tt, ((refl, (refl, (refl, (refl, (refl, refl))))), (tt, (g.0.1, (g.0, g.1))))))),
-                  (
-                    (λ st g. (tt, (g.0.1, (g.0, g.1)))),
-                    (
-                      (λ st g. (tt, (g.0.1, (g.0, g.1)))),
-                      (
-                        (λ st g. (tt, (g.0.1, (g.0, g.1)))),
-                        (
-                          (λ st g. (tt, (g.0.1, (g.0, g.1)))),
-                          (
-                            (λ st g. (tt, (g.0.1, (g.0, g.1)))),
-                            (
-                              (λ st g. (tt, (g.0.1, (g.0, g.1)))),
-                              (
-                                (λ st g. (tt, (g.0.1, (g.0, g.1)))),
-                                (
-                                  (λ st g. (tt, (g.0.1, (g.0, g.1)))),
-                                  (
-                                    (λ st g. (tt, (g.0.1, (g.0, g.1)))),
-                                    (
-                                      (λ st g. (tt, (g.0.1, (g.0, g.1)))),
-                                      (
-                                        (λ st g. (tt, (g.0.1, (g.0, g.1)))),
-                                        (
-                                          (λ st g. (tt, (g.0.1, (g.0, g.1)))),
-                                          tt,
-                                        ),
-                                      ),
-                                    ),
-                                  ),
-                                ),
-                              ),
-                            ),
-                          ),
-                        ),
-                      ),
-                    ),
-                  ),
-                ),
-              ),
-            ),
-          ),
-        ),
-      ),
-    ),
-  ),
-)
+good-the_sum =
+    (((λ st g. (tt, (g.0.1, (g.0, g.1)))), (λ st g. (g.0.1.1, (g.0.1, (g.0, g.1))))),
+    ((λ st g. (g.0.1, (g.0, g.1))),
+    ((λ st g. (g.0.1, (g.0, g.1))),
+    ((λ st g. (tt, (g.0.1, (g.0, g.1)))),
+    ((λ st g. (g.0.1, (g.0, g.1))),
+    ((λ st g. (g.0.1, (g.0, g.1))),
+    ((λ st g. (g.0.1.1, (g.0.1, (g.0, g.1)))),
+    ((λ st g. ((refl, (refl, (refl, (refl, (refl, refl))))), (tt, (g.0.1, (g.0, g.1))))),
+    ((λ st g. ((refl, (refl, (refl, (refl, (refl, refl))))), (refl, ((refl, (refl, (refl, (refl, (refl, refl))))), (tt, (g.0.1, (g.0, g.1))))))),
+    ((λ st g. (tt, (g.0.1, (g.0, g.1)))),
+    ((λ st g. (tt, (g.0.1, (g.0, g.1)))),
+    ((λ st g. (tt, (g.0.1, (g.0, g.1)))),
+    ((λ st g. (tt, (g.0.1, (g.0, g.1)))),
+    ((λ st g. (tt, (g.0.1, (g.0, g.1)))),
+    ((λ st g. (tt, (g.0.1, (g.0, g.1)))),
+    ((λ st g. (tt, (g.0.1, (g.0, g.1)))),
+    ((λ st g. (tt, (g.0.1, (g.0, g.1)))),
+    ((λ st g. (tt, (g.0.1, (g.0, g.1)))),
+    ((λ st g. (tt, (g.0.1, (g.0, g.1)))),
+    ((λ st g. (tt, (g.0.1, (g.0, g.1)))),
+    ((λ st g. (tt, (g.0.1, (g.0, g.1)))),
+    tt)))))))))))))))))))))
 
 good-more_sum : GoodRows MoreSum more_sum_rows
-good-more_sum = (
-  (λ st g. (g.0.1, (g.0, g.1))),
-  (
-    (λ st g. (g.0.1, (g.0, g.1))),
-    (
-      (λ st g. (g.0.1, (g.0, g.1))),
-      tt,
-    ),
-  ),
-)
+good-more_sum =
+    ((λ st g. (g.0.1, (g.0, g.1))),
+    ((λ st g. (g.0.1, (g.0, g.1))),
+    ((λ st g. (g.0.1, (g.0, g.1))),
+    tt)))
 
 good-the_cmp : GoodRows TheCmp cmp_rows
-good-the_cmp = (
-  ((λ st g. (tt, (g.0.1.1, (g.0.1, (g.0, g.1))))), (λ st g. (g.0.1.1.1, (g.0.1.1, (g.0.1, (g.0, g.1)))))),
-  (
-    (λ st g. (g.0.1.1, (g.0.1, (g.0, g.1)))),
-    (
-      (λ st g. (g.0.1.1, (g.0.1, (g.0, g.1)))),
-      (
-        (λ st g. (tt, (g.0.1.1, (g.0.1, (g.0, g.1))))),
-        (
-          (λ st g. (g.0.1.1, (g.0.1, (g.0, g.1)))),
-          (
-            (λ st g. (g.0.1.1, (g.0.1, (g.0, g.1)))),
-            (
-              (λ st g. (g.0.1.1.1, (g.0.1.1, (g.0.1, (g.0, g.1))))),
-              (
-                (λ st g. ((refl, (refl, (refl, (refl, (refl, refl))))), (tt, (g.0.1.1, (g.0.1, (g.0, g.1)))))),
-                (
-                  (λ st g. ((refl, (refl, (refl, (refl, (refl, refl))))), (tt, ((refl, (refl, (refl, (refl, (refl, refl))))), (tt, (g.0.1.1, (g.0.1, (g.0, g.1)))))))),
-                  (
-                    (λ st g. (tt, (g.0.1.1, (g.0.1, (g.0, g.1))))),
-                    (
-                      (λ st g. (tt, (g.0.1.1, (g.0.1, (g.0, g.1))))),
-                      (
-                        (λ st g. (tt, (g.0.1.1, (g.0.1, (g.0, g.1))))),
-                        (
-                          (λ st g. (tt, (g.0.1.1, (g.0.1, (g.0, g.1))))),
-                          (
-                            (λ st g. (tt, (g.0.1.1, (g.0.1, (g.0, g.1))))),
-                            (
-                              (λ st g. (tt, (g.0.1.1, (g.0.1, (g.0, g.1))))),
-                              (
-                                (λ st g. (tt, (g.0.1.1, (g.0.1, (g.0, g.1))))),
-                                (
-                                  (λ st g. (tt, (g.0.1.1, (g.0.1, (g.0, g.1))))),
-                                  (
-                                    (λ st g. (tt, (g.0.1.1, (g.0.1, (g.0, g.1))))),
-                                    (
-                                      (λ st g. (tt, (g.0.1.1, (g.0.1, (g.0, g.1))))),
-                                      (
-                                        (λ st g. (tt, (g.0.1.1, (g.0.1, (g.0, g.1))))),
-                                        (
-                                          (λ st g. (tt, (g.0.1.1, (g.0.1, (g.0, g.1))))),
-                                          tt,
-                                        ),
-                                      ),
-                                    ),
-                                  ),
-                                ),
-                              ),
-                            ),
-                          ),
-                        ),
-                      ),
-                    ),
-                  ),
-                ),
-              ),
-            ),
-          ),
-        ),
-      ),
-    ),
-  ),
-)
+good-the_cmp =
+    (((λ st g. (tt, (g.0.1.1, (g.0.1, (g.0, g.1))))), (λ st g. (g.0.1.1.1, (g.0.1.1, (g.0.1, (g.0, g.1)))))),
+    ((λ st g. (g.0.1.1, (g.0.1, (g.0, g.1)))),
+    ((λ st g. (g.0.1.1, (g.0.1, (g.0, g.1)))),
+    ((λ st g. (tt, (g.0.1.1, (g.0.1, (g.0, g.1))))),
+    ((λ st g. (g.0.1.1, (g.0.1, (g.0, g.1)))),
+    ((λ st g. (g.0.1.1, (g.0.1, (g.0, g.1)))),
+    ((λ st g. (g.0.1.1.1, (g.0.1.1, (g.0.1, (g.0, g.1))))),
+    ((λ st g. ((refl, (refl, (refl, (refl, (refl, refl))))), (tt, (g.0.1.1, (g.0.1, (g.0, g.1)))))),
+    ((λ st g. ((refl, (refl, (refl, (refl, (refl, refl))))), (refl, ((refl, (refl, (refl, (refl, (refl, refl))))), (tt, (g.0.1.1, (g.0.1, (g.0, g.1)))))))),
+    ((λ st g. (tt, (g.0.1.1, (g.0.1, (g.0, g.1))))),
+    ((λ st g. (tt, (g.0.1.1, (g.0.1, (g.0, g.1))))),
+    ((λ st g. (tt, (g.0.1.1, (g.0.1, (g.0, g.1))))),
+    ((λ st g. (tt, (g.0.1.1, (g.0.1, (g.0, g.1))))),
+    ((λ st g. (tt, (g.0.1.1, (g.0.1, (g.0, g.1))))),
+    ((λ st g. (tt, (g.0.1.1, (g.0.1, (g.0, g.1))))),
+    ((λ st g. (tt, (g.0.1.1, (g.0.1, (g.0, g.1))))),
+    ((λ st g. (tt, (g.0.1.1, (g.0.1, (g.0, g.1))))),
+    ((λ st g. (tt, (g.0.1.1, (g.0.1, (g.0, g.1))))),
+    ((λ st g. (tt, (g.0.1.1, (g.0.1, (g.0, g.1))))),
+    ((λ st g. (tt, (g.0.1.1, (g.0.1, (g.0, g.1))))),
+    ((λ st g. (tt, (g.0.1.1, (g.0.1, (g.0, g.1))))),
+    tt)))))))))))))))))))))
 
 good-more_cmp : GoodRows MoreCmp more_cmp_rows
-good-more_cmp = (
-  (λ st g. (g.0.1, g.1)),
-  (
-    (λ st g. (g.0.1, g.1)),
-    (
-      (λ st g. (g.0.1, g.1)),
-      (
-        (λ st g. (g.0.1, g.1)),
-        (
-          (λ st g. (g.0.1, g.1)),
-          (
-            (λ st g. (g.0.1, g.1)),
-            (
-              (λ st g. (g.0.1, g.1)),
-              (
-                (λ st g. (g.0.1, g.1)),
-                (
-                  (λ st g. (g.0.1, g.1)),
-                  (
-                    (λ st g. (g.0.1, g.1)),
-                    (
-                      (λ st g. (g.0.1, g.1)),
-                      (
-                        (λ st g. (g.0.1, g.1)),
-                        (
-                          (λ st g. (g.0.1, g.1)),
-                          (
-                            (λ st g. (g.0.1, g.1)),
-                            (
-                              (λ st g. (g.0.1, g.1)),
-                              (
-                                (λ st g. (g.0.1, g.1)),
-                                tt,
-                              ),
-                            ),
-                          ),
-                        ),
-                      ),
-                    ),
-                  ),
-                ),
-              ),
-            ),
-          ),
-        ),
-      ),
-    ),
-  ),
-)
+good-more_cmp =
+    ((λ st g. (g.0.1, g.1)),
+    ((λ st g. (g.0.1, g.1)),
+    ((λ st g. (g.0.1, g.1)),
+    ((λ st g. (g.0.1, g.1)),
+    ((λ st g. (g.0.1, g.1)),
+    ((λ st g. (g.0.1, g.1)),
+    ((λ st g. (g.0.1, g.1)),
+    ((λ st g. (g.0.1, g.1)),
+    ((λ st g. (g.0.1, g.1)),
+    ((λ st g. (g.0.1, g.1)),
+    ((λ st g. (g.0.1, g.1)),
+    ((λ st g. (g.0.1, g.1)),
+    ((λ st g. (g.0.1, g.1)),
+    ((λ st g. (g.0.1, g.1)),
+    ((λ st g. (g.0.1, g.1)),
+    ((λ st g. (g.0.1, g.1)),
+    tt))))))))))))))))
 
 good-the_neg : GoodRows TheNeg neg_rows
-good-the_neg = (
-  (λ st g. (g.0, g.1)),
-  (
-    ((λ st g. (tt, (g.0.1.1, (g.0.1, (g.0, g.1))))), (λ st g. (g.0.1.1.1, (g.0.1.1, (g.0.1, (g.0, g.1)))))),
-    (
-      (λ st g. (g.0.1.1, (g.0.1, (g.0, g.1)))),
-      (
-        (λ st g. (g.0.1.1, (g.0.1, (g.0, g.1)))),
-        (
-          (λ st g. (tt, (g.0.1.1, (g.0.1, (g.0, g.1))))),
-          (
-            (λ st g. (g.0.1.1, (g.0.1, (g.0, g.1)))),
-            (
-              (λ st g. (g.0.1.1, (g.0.1, (g.0, g.1)))),
-              (
-                (λ st g. (g.0.1.1.1, (g.0.1.1, (g.0.1, (g.0, g.1))))),
-                (
-                  (λ st g. ((refl, (refl, (refl, (refl, (refl, refl))))), (tt, (g.0.1.1, (g.0.1, (g.0, g.1)))))),
-                  (
-                    (λ st g. ((refl, (refl, (refl, (refl, (refl, refl))))), (tt, ((refl, (refl, (refl, (refl, (refl, refl))))), (tt, (g.0.1.1, (g.0.1, (g.0, g.1)))))))),
-                    (
-                      (λ st g. (tt, (g.0.1.1, (g.0.1, (g.0, g.1))))),
-                      (
-                        (λ st g. (tt, (g.0.1.1, (g.0.1, (g.0, g.1))))),
-                        (
-                          (λ st g. (tt, (g.0.1.1, (g.0.1, (g.0, g.1))))),
-                          (
-                            (λ st g. (tt, (g.0.1.1, (g.0.1, (g.0, g.1))))),
-                            (
-                              (λ st g. (tt, (g.0.1.1, (g.0.1, (g.0, g.1))))),
-                              (
-                                (λ st g. (tt, (g.0.1.1, (g.0.1, (g.0, g.1))))),
-                                (
-                                  (λ st g. (tt, (g.0.1.1, (g.0.1, (g.0, g.1))))),
-                                  (
-                                    (λ st g. (tt, (g.0.1.1, (g.0.1, (g.0, g.1))))),
-                                    (
-                                      (λ st g. (tt, (g.0.1.1, (g.0.1, (g.0, g.1))))),
-                                      (
-                                        (λ st g. (tt, (g.0.1.1, (g.0.1, (g.0, g.1))))),
-                                        (
-                                          (λ st g. (tt, (g.0.1.1, (g.0.1, (g.0, g.1))))),
-                                          (
-                                            (λ st g. (tt, (g.0.1.1, (g.0.1, (g.0, g.1))))),
-                                            tt,
-                                          ),
-                                        ),
-                                      ),
-                                    ),
-                                  ),
-                                ),
-                              ),
-                            ),
-                          ),
-                        ),
-                      ),
-                    ),
-                  ),
-                ),
-              ),
-            ),
-          ),
-        ),
-      ),
-    ),
-  ),
-)
+good-the_neg =
+    ((λ st g. (g.0, g.1)),
+    (((λ st g. (tt, (g.0.1.1, (g.0.1, (g.0, g.1))))), (λ st g. (g.0.1.1.1, (g.0.1.1, (g.0.1, (g.0, g.1)))))),
+    ((λ st g. (g.0.1.1, (g.0.1, (g.0, g.1)))),
+    ((λ st g. (g.0.1.1, (g.0.1, (g.0, g.1)))),
+    ((λ st g. (tt, (g.0.1.1, (g.0.1, (g.0, g.1))))),
+    ((λ st g. (g.0.1.1, (g.0.1, (g.0, g.1)))),
+    ((λ st g. (g.0.1.1, (g.0.1, (g.0, g.1)))),
+    ((λ st g. (g.0.1.1.1, (g.0.1.1, (g.0.1, (g.0, g.1))))),
+    ((λ st g. ((refl, (refl, (refl, (refl, (refl, refl))))), (tt, (g.0.1.1, (g.0.1, (g.0, g.1)))))),
+    ((λ st g. ((refl, (refl, (refl, (refl, (refl, refl))))), (refl, ((refl, (refl, (refl, (refl, (refl, refl))))), (tt, (g.0.1.1, (g.0.1, (g.0, g.1)))))))),
+    ((λ st g. (tt, (g.0.1.1, (g.0.1, (g.0, g.1))))),
+    ((λ st g. (tt, (g.0.1.1, (g.0.1, (g.0, g.1))))),
+    ((λ st g. (tt, (g.0.1.1, (g.0.1, (g.0, g.1))))),
+    ((λ st g. (tt, (g.0.1.1, (g.0.1, (g.0, g.1))))),
+    ((λ st g. (tt, (g.0.1.1, (g.0.1, (g.0, g.1))))),
+    ((λ st g. (tt, (g.0.1.1, (g.0.1, (g.0, g.1))))),
+    ((λ st g. (tt, (g.0.1.1, (g.0.1, (g.0, g.1))))),
+    ((λ st g. (tt, (g.0.1.1, (g.0.1, (g.0, g.1))))),
+    ((λ st g. (tt, (g.0.1.1, (g.0.1, (g.0, g.1))))),
+    ((λ st g. (tt, (g.0.1.1, (g.0.1, (g.0, g.1))))),
+    ((λ st g. (tt, (g.0.1.1, (g.0.1, (g.0, g.1))))),
+    ((λ st g. (tt, (g.0.1.1, (g.0.1, (g.0, g.1))))),
+    tt))))))))))))))))))))))
 
 good-the_conj : GoodRows TheConj conj_rows
-good-the_conj = (
-  (λ st g. (g.0.1, (g.0, g.1))),
-  (
-    ((λ st g. (tt, (g.0.1.1.1, (g.0.1.1, (g.0.1, (g.0, g.1)))))), (λ st g. (g.0.1.1.1.1, (g.0.1.1.1, (g.0.1.1, (g.0.1, (g.0, g.1))))))),
-    (
-      (λ st g. (g.0.1.1.1, (g.0.1.1, (g.0.1, (g.0, g.1))))),
-      (
-        (λ st g. (g.0.1.1.1, (g.0.1.1, (g.0.1, (g.0, g.1))))),
-        (
-          (λ st g. (tt, (g.0.1.1.1, (g.0.1.1, (g.0.1, (g.0, g.1)))))),
-          (
-            (λ st g. (g.0.1.1.1, (g.0.1.1, (g.0.1, (g.0, g.1))))),
-            (
-              (λ st g. (g.0.1.1.1, (g.0.1.1, (g.0.1, (g.0, g.1))))),
-              (
-                (λ st g. (g.0.1.1.1.1, (g.0.1.1.1, (g.0.1.1, (g.0.1, (g.0, g.1)))))),
-                (
-                  (λ st g. ((refl, (refl, (refl, (refl, (refl, refl))))), (tt, (g.0.1.1.1, (g.0.1.1, (g.0.1, (g.0, g.1))))))),
-                  (
-                    (λ st g. ((refl, (refl, (refl, (refl, (refl, refl))))), (tt, ((refl, (refl, (refl, (refl, (refl, refl))))), (tt, (g.0.1.1.1, (g.0.1.1, (g.0.1, (g.0, g.1))))))))),
-                    (
-                      (λ st g. (tt, (g.0.1.1.1, (g.0.1.1, (g.0.1, (g.0, g.1)))))),
-                      (
-                        (λ st g. (tt, (g.0.1.1.1, (g.0.1.1, (g.0.1, (g.0, g.1)))))),
-                        (
-                          (λ st g. (tt, (g.0.1.1.1, (g.0.1.1, (g.0.1, (g.0, g.1)))))),
-                          (
-                            (λ st g. (tt, (g.0.1.1.1, (g.0.1.1, (g.0.1, (g.0, g.1)))))),
-                            (
-                              (λ st g. (tt, (g.0.1.1.1, (g.0.1.1, (g.0.1, (g.0, g.1)))))),
-                              (
-                                (λ st g. (tt, (g.0.1.1.1, (g.0.1.1, (g.0.1, (g.0, g.1)))))),
-                                (
-                                  (λ st g. (tt, (g.0.1.1.1, (g.0.1.1, (g.0.1, (g.0, g.1)))))),
-                                  (
-                                    (λ st g. (tt, (g.0.1.1.1, (g.0.1.1, (g.0.1, (g.0, g.1)))))),
-                                    (
-                                      (λ st g. (tt, (g.0.1.1.1, (g.0.1.1, (g.0.1, (g.0, g.1)))))),
-                                      (
-                                        (λ st g. (tt, (g.0.1.1.1, (g.0.1.1, (g.0.1, (g.0, g.1)))))),
-                                        (
-                                          (λ st g. (tt, (g.0.1.1.1, (g.0.1.1, (g.0.1, (g.0, g.1)))))),
-                                          (
-                                            (λ st g. (tt, (g.0.1.1.1, (g.0.1.1, (g.0.1, (g.0, g.1)))))),
-                                            tt,
-                                          ),
-                                        ),
-                                      ),
-                                    ),
-                                  ),
-                                ),
-                              ),
-                            ),
-                          ),
-                        ),
-                      ),
-                    ),
-                  ),
-                ),
-              ),
-            ),
-          ),
-        ),
-      ),
-    ),
-  ),
-)
+good-the_conj =
+    ((λ st g. (g.0.1, (g.0, g.1))),
+    (((λ st g. (tt, (g.0.1.1.1, (g.0.1.1, (g.0.1, (g.0, g.1)))))), (λ st g. (g.0.1.1.1.1, (g.0.1.1.1, (g.0.1.1, (g.0.1, (g.0, g.1))))))),
+    ((λ st g. (g.0.1.1.1, (g.0.1.1, (g.0.1, (g.0, g.1))))),
+    ((λ st g. (g.0.1.1.1, (g.0.1.1, (g.0.1, (g.0, g.1))))),
+    ((λ st g. (tt, (g.0.1.1.1, (g.0.1.1, (g.0.1, (g.0, g.1)))))),
+    ((λ st g. (g.0.1.1.1, (g.0.1.1, (g.0.1, (g.0, g.1))))),
+    ((λ st g. (g.0.1.1.1, (g.0.1.1, (g.0.1, (g.0, g.1))))),
+    ((λ st g. (g.0.1.1.1.1, (g.0.1.1.1, (g.0.1.1, (g.0.1, (g.0, g.1)))))),
+    ((λ st g. ((refl, (refl, (refl, (refl, (refl, refl))))), (tt, (g.0.1.1.1, (g.0.1.1, (g.0.1, (g.0, g.1))))))),
+    ((λ st g. ((refl, (refl, (refl, (refl, (refl, refl))))), (refl, ((refl, (refl, (refl, (refl, (refl, refl))))), (tt, (g.0.1.1.1, (g.0.1.1, (g.0.1, (g.0, g.1))))))))),
+    ((λ st g. (tt, (g.0.1.1.1, (g.0.1.1, (g.0.1, (g.0, g.1)))))),
+    ((λ st g. (tt, (g.0.1.1.1, (g.0.1.1, (g.0.1, (g.0, g.1)))))),
+    ((λ st g. (tt, (g.0.1.1.1, (g.0.1.1, (g.0.1, (g.0, g.1)))))),
+    ((λ st g. (tt, (g.0.1.1.1, (g.0.1.1, (g.0.1, (g.0, g.1)))))),
+    ((λ st g. (tt, (g.0.1.1.1, (g.0.1.1, (g.0.1, (g.0, g.1)))))),
+    ((λ st g. (tt, (g.0.1.1.1, (g.0.1.1, (g.0.1, (g.0, g.1)))))),
+    ((λ st g. (tt, (g.0.1.1.1, (g.0.1.1, (g.0.1, (g.0, g.1)))))),
+    ((λ st g. (tt, (g.0.1.1.1, (g.0.1.1, (g.0.1, (g.0, g.1)))))),
+    ((λ st g. (tt, (g.0.1.1.1, (g.0.1.1, (g.0.1, (g.0, g.1)))))),
+    ((λ st g. (tt, (g.0.1.1.1, (g.0.1.1, (g.0.1, (g.0, g.1)))))),
+    ((λ st g. (tt, (g.0.1.1.1, (g.0.1.1, (g.0.1, (g.0, g.1)))))),
+    ((λ st g. (tt, (g.0.1.1.1, (g.0.1.1, (g.0.1, (g.0, g.1)))))),
+    tt))))))))))))))))))))))
 
 good-more_and : GoodRows MoreAnd more_and_rows
 good-more_and = ((λ st g. (g.0.1, (g.0, g.1))), tt)
 
 good-the_scalar : GoodRows TheScalar scalar_rows
-good-the_scalar = (
-  (λ st g. (g.0.1.1, (g.0.1, (g.0, g.1)))),
-  (
-    ((λ st g. (tt, (g.0.1.1.1.1, (g.0.1.1.1, (g.0.1.1, (g.0.1, (g.0, g.1))))))), (λ st g. (g.0.1.1.1.1.1, (g.0.1.1.1.1, (g.0.1.1.1, (g.0.1.1, (g.0.1, (g.0, g.1)))))))),
-    (
-      (λ st g. (g.0.1.1.1.1, (g.0.1.1.1, (g.0.1.1, (g.0.1, (g.0, g.1)))))),
-      (
-        (λ st g. (g.0.1.1.1.1, (g.0.1.1.1, (g.0.1.1, (g.0.1, (g.0, g.1)))))),
-        (
-          (λ st g. (tt, (g.0.1.1.1.1, (g.0.1.1.1, (g.0.1.1, (g.0.1, (g.0, g.1))))))),
-          (
-            (λ st g. (g.0.1.1.1.1, (g.0.1.1.1, (g.0.1.1, (g.0.1, (g.0, g.1)))))),
-            (
-              (λ st g. (g.0.1.1.1.1, (g.0.1.1.1, (g.0.1.1, (g.0.1, (g.0, g.1)))))),
-              (
-                (λ st g. (g.0.1.1.1.1.1, (g.0.1.1.1.1, (g.0.1.1.1, (g.0.1.1, (g.0.1, (g.0, g.1))))))),
-                (
-                  (λ st g. ((refl, (refl, (refl, (refl, (refl, refl))))), (tt, (g.0.1.1.1.1, (g.0.1.1.1, (g.0.1.1, (g.0.1, (g.0, g.1)))))))),
-                  (
-                    (λ st g. ((refl, (refl, (refl, (refl, (refl, refl))))), (tt, ((refl, (refl, (refl, (refl, (refl, refl))))), (tt, (g.0.1.1.1.1, (g.0.1.1.1, (g.0.1.1, (g.0.1, (g.0, g.1)))))))))),
-                    (
-                      (λ st g. (tt, (g.0.1.1.1.1, (g.0.1.1.1, (g.0.1.1, (g.0.1, (g.0, g.1))))))),
-                      (
-                        (λ st g. (tt, (g.0.1.1.1.1, (g.0.1.1.1, (g.0.1.1, (g.0.1, (g.0, g.1))))))),
-                        (
-                          (λ st g. (tt, (g.0.1.1.1.1, (g.0.1.1.1, (g.0.1.1, (g.0.1, (g.0, g.1))))))),
-                          (
-                            (λ st g. (tt, (g.0.1.1.1.1, (g.0.1.1.1, (g.0.1.1, (g.0.1, (g.0, g.1))))))),
-                            (
-                              (λ st g. (tt, (g.0.1.1.1.1, (g.0.1.1.1, (g.0.1.1, (g.0.1, (g.0, g.1))))))),
-                              (
-                                (λ st g. (tt, (g.0.1.1.1.1, (g.0.1.1.1, (g.0.1.1, (g.0.1, (g.0, g.1))))))),
-                                (
-                                  (λ st g. (tt, (g.0.1.1.1.1, (g.0.1.1.1, (g.0.1.1, (g.0.1, (g.0, g.1))))))),
-                                  (
-                                    (λ st g. (tt, (g.0.1.1.1.1, (g.0.1.1.1, (g.0.1.1, (g.0.1, (g.0, g.1))))))),
-                                    (
-                                      (λ st g. (tt, (g.0.1.1.1.1, (g.0.1.1.1, (g.0.1.1, (g.0.1, (g.0, g.1))))))),
-                                      (
-                                        (λ st g. (tt, (g.0.1.1.1.1, (g.0.1.1.1, (g.0.1.1, (g.0.1, (g.0, g.1))))))),
-                                        (
-                                          (λ st g. (tt, (g.0.1.1.1.1, (g.0.1.1.1, (g.0.1.1, (g.0.1, (g.0, g.1))))))),
-                                          (
-                                            (λ st g. (tt, (g.0.1.1.1.1, (g.0.1.1.1, (g.0.1.1, (g.0.1, (g.0, g.1))))))),
-                                            tt,
-                                          ),
-                                        ),
-                                      ),
-                                    ),
-                                  ),
-                                ),
-                              ),
-                            ),
-                          ),
-                        ),
-                      ),
-                    ),
-                  ),
-                ),
-              ),
-            ),
-          ),
-        ),
-      ),
-    ),
-  ),
-)
+good-the_scalar =
+    ((λ st g. (g.0.1.1, (g.0.1, (g.0, g.1)))),
+    (((λ st g. (tt, (g.0.1.1.1.1, (g.0.1.1.1, (g.0.1.1, (g.0.1, (g.0, g.1))))))), (λ st g. (g.0.1.1.1.1.1, (g.0.1.1.1.1, (g.0.1.1.1, (g.0.1.1, (g.0.1, (g.0, g.1)))))))),
+    ((λ st g. (g.0.1.1.1.1, (g.0.1.1.1, (g.0.1.1, (g.0.1, (g.0, g.1)))))),
+    ((λ st g. (g.0.1.1.1.1, (g.0.1.1.1, (g.0.1.1, (g.0.1, (g.0, g.1)))))),
+    ((λ st g. (tt, (g.0.1.1.1.1, (g.0.1.1.1, (g.0.1.1, (g.0.1, (g.0, g.1))))))),
+    ((λ st g. (g.0.1.1.1.1, (g.0.1.1.1, (g.0.1.1, (g.0.1, (g.0, g.1)))))),
+    ((λ st g. (g.0.1.1.1.1, (g.0.1.1.1, (g.0.1.1, (g.0.1, (g.0, g.1)))))),
+    ((λ st g. (g.0.1.1.1.1.1, (g.0.1.1.1.1, (g.0.1.1.1, (g.0.1.1, (g.0.1, (g.0, g.1))))))),
+    ((λ st g. ((refl, (refl, (refl, (refl, (refl, refl))))), (tt, (g.0.1.1.1.1, (g.0.1.1.1, (g.0.1.1, (g.0.1, (g.0, g.1)))))))),
+    ((λ st g. ((refl, (refl, (refl, (refl, (refl, refl))))), (refl, ((refl, (refl, (refl, (refl, (refl, refl))))), (tt, (g.0.1.1.1.1, (g.0.1.1.1, (g.0.1.1, (g.0.1, (g.0, g.1)))))))))),
+    ((λ st g. (tt, (g.0.1.1.1.1, (g.0.1.1.1, (g.0.1.1, (g.0.1, (g.0, g.1))))))),
+    ((λ st g. (tt, (g.0.1.1.1.1, (g.0.1.1.1, (g.0.1.1, (g.0.1, (g.0, g.1))))))),
+    ((λ st g. (tt, (g.0.1.1.1.1, (g.0.1.1.1, (g.0.1.1, (g.0.1, (g.0, g.1))))))),
+    ((λ st g. (tt, (g.0.1.1.1.1, (g.0.1.1.1, (g.0.1.1, (g.0.1, (g.0, g.1))))))),
+    ((λ st g. (tt, (g.0.1.1.1.1, (g.0.1.1.1, (g.0.1.1, (g.0.1, (g.0, g.1))))))),
+    ((λ st g. (tt, (g.0.1.1.1.1, (g.0.1.1.1, (g.0.1.1, (g.0.1, (g.0, g.1))))))),
+    ((λ st g. (tt, (g.0.1.1.1.1, (g.0.1.1.1, (g.0.1.1, (g.0.1, (g.0, g.1))))))),
+    ((λ st g. (tt, (g.0.1.1.1.1, (g.0.1.1.1, (g.0.1.1, (g.0.1, (g.0, g.1))))))),
+    ((λ st g. (tt, (g.0.1.1.1.1, (g.0.1.1.1, (g.0.1.1, (g.0.1, (g.0, g.1))))))),
+    ((λ st g. (tt, (g.0.1.1.1.1, (g.0.1.1.1, (g.0.1.1, (g.0.1, (g.0, g.1))))))),
+    ((λ st g. (tt, (g.0.1.1.1.1, (g.0.1.1.1, (g.0.1.1, (g.0.1, (g.0, g.1))))))),
+    ((λ st g. (tt, (g.0.1.1.1.1, (g.0.1.1.1, (g.0.1.1, (g.0.1, (g.0, g.1))))))),
+    tt))))))))))))))))))))))
 
 good-more_or : GoodRows MoreOr more_or_rows
 good-more_or = ((λ st g. (g.0.1, (g.0, g.1))), tt)
 
 good-the_point : GoodRows ThePoint point_rows
-good-the_point = (
-  (λ st g. g.1),
-  (
-    (λ st g. g.1),
-    (
-      (λ st g. g.1),
-      tt,
-    ),
-  ),
-)
+good-the_point =
+    ((λ st g. g.1),
+    ((λ st g. g.1),
+    ((λ st g. g.1),
+    tt)))
 
 good-the_kind : GoodRows TheKind kind_rows
-good-the_kind = (
-  (λ st g. g.1),
-  (
-    (λ st g. g.1),
-    (
-      (λ st g. (tt, g.1)),
-      (
-        (λ st g. g.1),
-        (
-          (λ st g. g.1),
-          (
-            (λ st g. g.1),
-            tt,
-          ),
-        ),
-      ),
-    ),
-  ),
-)
+good-the_kind =
+    ((λ st g. g.1),
+    ((λ st g. g.1),
+    ((λ st g. (tt, g.1)),
+    ((λ st g. g.1),
+    ((λ st g. g.1),
+    ((λ st g. g.1),
+    tt))))))
 
 good-the_attribute : GoodRows TheAttribute attribute_rows
 good-the_attribute = ((λ st g. (tt, g.1)), tt)
@@ -1003,13 +711,10 @@ good-more_attributes : GoodRows MoreAttributes more_attributes_rows
 good-more_attributes = ((λ st g. (tt, (g.0, g.1))), tt)
 
 good-in_heading : GoodRows InHeading in_heading_rows
-good-in_heading = (
-  (λ st g. g.1),
-  (
-    (λ st g. (tt, (refl, (tt, g.1)))),
-    tt,
-  ),
-)
+good-in_heading =
+    ((λ st g. g.1),
+    ((λ st g. (tt, (refl, (refl, g.1)))),
+    tt))
 
 good-the_heading : GoodRows TheHeading heading_rows
 good-the_heading = ((λ st g. (tt, g.1)), tt)
@@ -1018,22 +723,16 @@ good-more_names : GoodRows MoreNames more_names_rows
 good-more_names = ((λ st g. (tt, (g.0, g.1))), tt)
 
 good-in_names : GoodRows InNames in_names_rows
-good-in_names = (
-  (λ st g. g.1),
-  (
-    (λ st g. (refl, (tt, g.1))),
-    tt,
-  ),
-)
+good-in_names =
+    ((λ st g. g.1),
+    ((λ st g. (refl, (refl, g.1))),
+    tt))
 
 good-in_list : GoodRows InList in_list_rows
-good-in_list = (
-  (λ st g. g.1),
-  (
-    (λ st g. (refl, (tt, g.1))),
-    tt,
-  ),
-)
+good-in_list =
+    ((λ st g. g.1),
+    ((λ st g. (refl, (refl, g.1))),
+    tt))
 
 good-the_names : GoodRows TheNames names_rows
 good-the_names = ((λ st g. (tt, g.1)), tt)
@@ -1042,10 +741,10 @@ good-the_list : GoodRows TheList list_rows
 good-the_list = ((λ st g. (tt, g.1)), tt)
 
 good-the_some_names : GoodRows TheSomeNames some_names_rows
-good-the_some_names = ((λ st g. (tt, (refl, (tt, g.1)))), tt)
+good-the_some_names = ((λ st g. (tt, (refl, (refl, g.1)))), tt)
 
 good-the_paren_name : GoodRows TheParenName paren_name_rows
-good-the_paren_name = ((λ st g. (tt, (tt, g.1))), tt)
+good-the_paren_name = ((λ st g. (tt, (refl, g.1))), tt)
 
 good-the_element : GoodRows TheElement element_rows
 good-the_element = ((λ st g. (g.0, g.1)), tt)
@@ -1054,19 +753,16 @@ good-more_elements : GoodRows MoreElements more_elements_rows
 good-more_elements = ((λ st g. (g.0.1, (g.0, g.1))), tt)
 
 good-in_elements : GoodRows InElements in_elements_rows
-good-in_elements = (
-  (λ st g. g.1),
-  (
-    (λ st g. ((refl, (refl, (refl, (refl, (refl, refl))))), ((refl, (refl, (refl, (refl, (refl, (refl, refl)))))), (tt, g.1)))),
-    tt,
-  ),
-)
+good-in_elements =
+    ((λ st g. g.1),
+    ((λ st g. ((refl, (refl, (refl, (refl, (refl, refl))))), ((refl, (refl, (refl, (refl, (refl, (refl, refl)))))), (refl, g.1)))),
+    tt))
 
 good-the_elements : GoodRows TheElements elements_rows
 good-the_elements = ((λ st g. (tt, g.1)), tt)
 
 good-the_some_elements : GoodRows TheSomeElements some_elements_rows
-good-the_some_elements = ((λ st g. ((refl, (refl, (refl, (refl, (refl, refl))))), ((refl, (refl, (refl, (refl, (refl, (refl, refl)))))), (tt, g.1)))), tt)
+good-the_some_elements = ((λ st g. ((refl, (refl, (refl, (refl, (refl, refl))))), ((refl, (refl, (refl, (refl, (refl, (refl, refl)))))), (refl, g.1)))), tt)
 
 good-the_tuple : GoodRows TheTuple tuple_rows
 good-the_tuple = ((λ st g. (tt, g.1)), tt)
@@ -1075,13 +771,10 @@ good-more_tuples : GoodRows MoreTuples more_tuples_rows
 good-more_tuples = ((λ st g. (tt, (g.0, g.1))), tt)
 
 good-in_tuples : GoodRows InTuples in_tuples_rows
-good-in_tuples = (
-  (λ st g. g.1),
-  (
-    (λ st g. (tt, (refl, (tt, g.1)))),
-    tt,
-  ),
-)
+good-in_tuples =
+    ((λ st g. g.1),
+    ((λ st g. (tt, (refl, (refl, g.1)))),
+    tt))
 
 good-the_tuples : GoodRows TheTuples tuples_rows
 good-the_tuples = ((λ st g. (tt, g.1)), tt)
@@ -1090,52 +783,45 @@ good-the_literal : GoodRows TheLiteral literal_rows
 good-the_literal = ((λ st g. (tt, g.1)), tt)
 
 good-after_relation : GoodRows AfterRelation after_relation_rows
-good-after_relation = (((λ st g. (tt, (refl, (tt, g.1)))), (λ st g. (tt, (tt, g.1)))), tt)
+good-after_relation = (((λ st g. (tt, (refl, (refl, g.1)))), (λ st g. (tt, (tt, g.1)))), tt)
 
 good-the_set_item : GoodRows TheSetItem set_item_rows
-good-the_set_item = ((λ st g. (tt, (g.0, g.1))), tt)
+good-the_set_item = ((λ st g. (refl, (g.0, g.1))), tt)
 
 good-more_set_items : GoodRows MoreSetItems more_set_items_rows
 good-more_set_items = ((λ st g. (g.0.1, (g.0, g.1))), tt)
 
 good-the_sets : GoodRows TheSets sets_rows
-good-the_sets = ((λ st g. ((refl, (refl, (refl, (refl, (refl, refl))))), ((refl, (refl, (refl, (refl, (refl, (refl, refl)))))), (tt, g.1)))), tt)
+good-the_sets = ((λ st g. ((refl, (refl, (refl, (refl, (refl, refl))))), ((refl, (refl, (refl, (refl, (refl, (refl, refl)))))), (refl, g.1)))), tt)
 
 good-empty_parens : GoodRows EmptyParens empty_parens_rows
-good-empty_parens = ((λ st g. (tt, g.1)), tt)
+good-empty_parens = ((λ st g. (refl, g.1)), tt)
 
 good-the_aggregate_form : GoodRows TheAggregateForm aggregate_form_rows
-good-the_aggregate_form = (
-  (λ st g. (tt, g.1)),
-  (
-    (λ st g. (tt, g.1)),
-    (
-      (λ st g. (tt, g.1)),
-      (
-        (λ st g. (tt, g.1)),
-        tt,
-      ),
-    ),
-  ),
-)
+good-the_aggregate_form =
+    ((λ st g. (tt, g.1)),
+    ((λ st g. (tt, g.1)),
+    ((λ st g. (tt, g.1)),
+    ((λ st g. (tt, g.1)),
+    tt))))
 
 good-the_aggregate : GoodRows TheAggregate aggregate_rows
-good-the_aggregate = ((λ st g. (tt, (tt, g.1))), tt)
+good-the_aggregate = ((λ st g. (refl, (tt, g.1))), tt)
 
 good-more_aggregates : GoodRows MoreAggregates more_aggregates_rows
 good-more_aggregates = ((λ st g. (tt, (g.0, g.1))), tt)
 
 good-the_aggregates : GoodRows TheAggregates aggregates_rows
-good-the_aggregates = ((λ st g. (tt, (refl, (tt, g.1)))), tt)
+good-the_aggregates = ((λ st g. (tt, (refl, (refl, g.1)))), tt)
 
 good-the_renaming : GoodRows TheRenaming renaming_rows
-good-the_renaming = ((λ st g. (tt, (tt, g.1))), tt)
+good-the_renaming = ((λ st g. (refl, (tt, g.1))), tt)
 
 good-more_renamings : GoodRows MoreRenamings more_renamings_rows
 good-more_renamings = ((λ st g. (tt, (g.0, g.1))), tt)
 
 good-the_renamings : GoodRows TheRenamings renamings_rows
-good-the_renamings = ((λ st g. (tt, (refl, (tt, g.1)))), tt)
+good-the_renamings = ((λ st g. (tt, (refl, (refl, g.1)))), tt)
 
 good-the_portion : GoodRows ThePortion portion_rows
 good-the_portion = ((λ st g. (tt, g.1)), tt)
@@ -1147,517 +833,258 @@ good-maybe_where : GoodRows MaybeWhere maybe_where_rows
 good-maybe_where = ((λ st g. (g.0.1, g.1)), tt)
 
 good-in_projection : GoodRows InProjection in_projection_rows
-good-in_projection = (
-  (λ st g. g.1),
-  (
-    (λ st g. (refl, (tt, g.1))),
-    (
-      (λ st g. (tt, (tt, (refl, (tt, g.1))))),
-      tt,
-    ),
-  ),
-)
+good-in_projection =
+    ((λ st g. g.1),
+    ((λ st g. (refl, (refl, g.1))),
+    ((λ st g. (refl, (tt, (refl, (refl, g.1))))),
+    tt)))
 
 good-the_operand : GoodRows TheOperand operand_rows
-good-the_operand = (
-  (λ st g. g.1),
-  (
-    (λ st g. (tt, g.1)),
-    (
-      (λ st g. ((refl, (refl, (refl, (refl, (refl, (refl, (refl, refl))))))), (tt, g.1))),
-      (
-        (λ st g. ((refl, (refl, (refl, (refl, (refl, (refl, (refl, refl))))))), (tt, (tt, g.1)))),
-        (
-          (λ st g. ((refl, (refl, (refl, (refl, (refl, (refl, (refl, refl))))))), (tt, (tt, g.1)))),
-          tt,
-        ),
-      ),
-    ),
-  ),
-)
+good-the_operand =
+    ((λ st g. g.1),
+    ((λ st g. (tt, g.1)),
+    ((λ st g. ((refl, (refl, (refl, (refl, (refl, (refl, (refl, refl))))))), (refl, g.1))),
+    ((λ st g. ((refl, (refl, (refl, (refl, (refl, (refl, (refl, refl))))))), (refl, (tt, g.1)))),
+    ((λ st g. ((refl, (refl, (refl, (refl, (refl, (refl, (refl, refl))))))), (refl, (tt, g.1)))),
+    tt)))))
 
 good-the_extend : GoodRows TheExtend extend_rows
-good-the_extend = ((λ st g. ((refl, (refl, (refl, (refl, (refl, (refl, (refl, refl))))))), (tt, (tt, g.1)))), tt)
+good-the_extend = ((λ st g. ((refl, (refl, (refl, (refl, (refl, (refl, (refl, refl))))))), (refl, (tt, g.1)))), tt)
 
 good-the_summarize : GoodRows TheSummarize summarize_rows
-good-the_summarize = ((λ st g. ((refl, (refl, (refl, (refl, (refl, (refl, (refl, refl))))))), (tt, (tt, (tt, (tt, g.1)))))), tt)
+good-the_summarize = ((λ st g. ((refl, (refl, (refl, (refl, (refl, (refl, (refl, refl))))))), (refl, (tt, (refl, (tt, g.1)))))), tt)
 
 good-the_rel_primary : GoodRows TheRelPrimary rel_primary_rows
-good-the_rel_primary = (
-  (λ st g. ((refl, (refl, (refl, (refl, (refl, (refl, (refl, refl))))))), (tt, (tt, g.1)))),
-  (
-    (λ st g. ((refl, (refl, (refl, (refl, (refl, (refl, (refl, refl))))))), (tt, (tt, (tt, (tt, g.1)))))),
-    (
-      (λ st g. g.1),
-      (
-        (λ st g. (tt, g.1)),
-        (
-          (λ st g. ((refl, (refl, (refl, (refl, (refl, (refl, (refl, refl))))))), (tt, g.1))),
-          (
-            (λ st g. ((refl, (refl, (refl, (refl, (refl, (refl, (refl, refl))))))), (tt, (tt, g.1)))),
-            (
-              (λ st g. ((refl, (refl, (refl, (refl, (refl, (refl, (refl, refl))))))), (tt, (tt, g.1)))),
-              tt,
-            ),
-          ),
-        ),
-      ),
-    ),
-  ),
-)
+good-the_rel_primary =
+    ((λ st g. ((refl, (refl, (refl, (refl, (refl, (refl, (refl, refl))))))), (refl, (tt, g.1)))),
+    ((λ st g. ((refl, (refl, (refl, (refl, (refl, (refl, (refl, refl))))))), (refl, (tt, (refl, (tt, g.1)))))),
+    ((λ st g. g.1),
+    ((λ st g. (tt, g.1)),
+    ((λ st g. ((refl, (refl, (refl, (refl, (refl, (refl, (refl, refl))))))), (refl, g.1))),
+    ((λ st g. ((refl, (refl, (refl, (refl, (refl, (refl, (refl, refl))))))), (refl, (tt, g.1)))),
+    ((λ st g. ((refl, (refl, (refl, (refl, (refl, (refl, (refl, refl))))))), (refl, (tt, g.1)))),
+    tt)))))))
 
 good-the_term : GoodRows TheTerm term_rows
-good-the_term = (
-  (λ st g. ((refl, (refl, (refl, (refl, (refl, (refl, (refl, refl))))))), (tt, (tt, (g.0, g.1))))),
-  (
-    (λ st g. ((refl, (refl, (refl, (refl, (refl, (refl, (refl, refl))))))), (tt, (tt, (tt, (tt, (g.0, g.1))))))),
-    (
-      (λ st g. (g.0, g.1)),
-      (
-        (λ st g. (tt, (g.0, g.1))),
-        (
-          (λ st g. ((refl, (refl, (refl, (refl, (refl, (refl, (refl, refl))))))), (tt, (g.0, g.1)))),
-          (
-            (λ st g. ((refl, (refl, (refl, (refl, (refl, (refl, (refl, refl))))))), (tt, (tt, (g.0, g.1))))),
-            (
-              (λ st g. ((refl, (refl, (refl, (refl, (refl, (refl, (refl, refl))))))), (tt, (tt, (g.0, g.1))))),
-              tt,
-            ),
-          ),
-        ),
-      ),
-    ),
-  ),
-)
+good-the_term =
+    ((λ st g. ((refl, (refl, (refl, (refl, (refl, (refl, (refl, refl))))))), (refl, (tt, (g.0, g.1))))),
+    ((λ st g. ((refl, (refl, (refl, (refl, (refl, (refl, (refl, refl))))))), (refl, (tt, (refl, (tt, (g.0, g.1))))))),
+    ((λ st g. (g.0, g.1)),
+    ((λ st g. (tt, (g.0, g.1))),
+    ((λ st g. ((refl, (refl, (refl, (refl, (refl, (refl, (refl, refl))))))), (refl, (g.0, g.1)))),
+    ((λ st g. ((refl, (refl, (refl, (refl, (refl, (refl, (refl, refl))))))), (refl, (tt, (g.0, g.1))))),
+    ((λ st g. ((refl, (refl, (refl, (refl, (refl, (refl, (refl, refl))))))), (refl, (tt, (g.0, g.1))))),
+    tt)))))))
 
 good-more_postfix : GoodRows MorePostfix more_postfix_rows
-good-more_postfix = (
-  (λ st g. (tt, (g.0, g.1))),
-  (
-    (λ st g. (g.0.1, (g.0, g.1))),
-    (
-      (λ st g. (tt, (g.0, g.1))),
-      tt,
-    ),
-  ),
-)
+good-more_postfix =
+    ((λ st g. (tt, (g.0, g.1))),
+    ((λ st g. (g.0.1, (g.0, g.1))),
+    ((λ st g. (tt, (g.0, g.1))),
+    tt)))
 
 good-the_terms : GoodRows TheTerms terms_rows
-good-the_terms = (
-  (λ st g. ((refl, (refl, (refl, (refl, (refl, (refl, (refl, refl))))))), (tt, (tt, (g.0.1, (g.0, g.1)))))),
-  (
-    (λ st g. ((refl, (refl, (refl, (refl, (refl, (refl, (refl, refl))))))), (tt, (tt, (tt, (tt, (g.0.1, (g.0, g.1)))))))),
-    (
-      (λ st g. (g.0.1, (g.0, g.1))),
-      (
-        (λ st g. (tt, (g.0.1, (g.0, g.1)))),
-        (
-          (λ st g. ((refl, (refl, (refl, (refl, (refl, (refl, (refl, refl))))))), (tt, (g.0.1, (g.0, g.1))))),
-          (
-            (λ st g. ((refl, (refl, (refl, (refl, (refl, (refl, (refl, refl))))))), (tt, (tt, (g.0.1, (g.0, g.1)))))),
-            (
-              (λ st g. ((refl, (refl, (refl, (refl, (refl, (refl, (refl, refl))))))), (tt, (tt, (g.0.1, (g.0, g.1)))))),
-              tt,
-            ),
-          ),
-        ),
-      ),
-    ),
-  ),
-)
+good-the_terms =
+    ((λ st g. ((refl, (refl, (refl, (refl, (refl, (refl, (refl, refl))))))), (refl, (tt, (g.0.1, (g.0, g.1)))))),
+    ((λ st g. ((refl, (refl, (refl, (refl, (refl, (refl, (refl, refl))))))), (refl, (tt, (refl, (tt, (g.0.1, (g.0, g.1)))))))),
+    ((λ st g. (g.0.1, (g.0, g.1))),
+    ((λ st g. (tt, (g.0.1, (g.0, g.1)))),
+    ((λ st g. ((refl, (refl, (refl, (refl, (refl, (refl, (refl, refl))))))), (refl, (g.0.1, (g.0, g.1))))),
+    ((λ st g. ((refl, (refl, (refl, (refl, (refl, (refl, (refl, refl))))))), (refl, (tt, (g.0.1, (g.0, g.1)))))),
+    ((λ st g. ((refl, (refl, (refl, (refl, (refl, (refl, (refl, refl))))))), (refl, (tt, (g.0.1, (g.0, g.1)))))),
+    tt)))))))
 
 good-more_infix : GoodRows MoreInfix more_infix_rows
-good-more_infix = (
-  (λ st g. (g.0.1, (g.0, g.1))),
-  (
-    (λ st g. (g.0.1, (g.0, g.1))),
-    (
-      (λ st g. (g.0.1, (g.0, g.1))),
-      (
-        (λ st g. (g.0.1, (g.0, g.1))),
-        (
-          (λ st g. (g.0.1, (g.0, g.1))),
-          (
-            (λ st g. (tt, (g.0.1, (g.0, g.1)))),
-            tt,
-          ),
-        ),
-      ),
-    ),
-  ),
-)
+good-more_infix =
+    ((λ st g. (g.0.1, (g.0, g.1))),
+    ((λ st g. (g.0.1, (g.0, g.1))),
+    ((λ st g. (g.0.1, (g.0, g.1))),
+    ((λ st g. (g.0.1, (g.0, g.1))),
+    ((λ st g. (g.0.1, (g.0, g.1))),
+    ((λ st g. (refl, (g.0.1, (g.0, g.1)))),
+    tt))))))
 
 good-the_using : GoodRows TheUsing using_rows
-good-the_using = ((λ st g. (tt, (tt, (g.0, g.1)))), tt)
+good-the_using = ((λ st g. (tt, (refl, (g.0, g.1)))), tt)
 
 good-the_rel : GoodRows TheRel rel_rows
-good-the_rel = (
-  (λ st g. (tt, (tt, (g.0.1.1, g.1)))),
-  (
-    (λ st g. ((refl, (refl, (refl, (refl, (refl, (refl, (refl, refl))))))), (tt, (tt, (g.0.1, (g.0, g.1)))))),
-    (
-      (λ st g. ((refl, (refl, (refl, (refl, (refl, (refl, (refl, refl))))))), (tt, (tt, (tt, (tt, (g.0.1, (g.0, g.1)))))))),
-      (
-        (λ st g. (g.0.1, (g.0, g.1))),
-        (
-          (λ st g. (tt, (g.0.1, (g.0, g.1)))),
-          (
-            (λ st g. ((refl, (refl, (refl, (refl, (refl, (refl, (refl, refl))))))), (tt, (g.0.1, (g.0, g.1))))),
-            (
-              (λ st g. ((refl, (refl, (refl, (refl, (refl, (refl, (refl, refl))))))), (tt, (tt, (g.0.1, (g.0, g.1)))))),
-              (
-                (λ st g. ((refl, (refl, (refl, (refl, (refl, (refl, (refl, refl))))))), (tt, (tt, (g.0.1, (g.0, g.1)))))),
-                tt,
-              ),
-            ),
-          ),
-        ),
-      ),
-    ),
-  ),
-)
+good-the_rel =
+    ((λ st g. (tt, (refl, (g.0.1.1, g.1)))),
+    ((λ st g. ((refl, (refl, (refl, (refl, (refl, (refl, (refl, refl))))))), (refl, (tt, (g.0.1, (g.0, g.1)))))),
+    ((λ st g. ((refl, (refl, (refl, (refl, (refl, (refl, (refl, refl))))))), (refl, (tt, (refl, (tt, (g.0.1, (g.0, g.1)))))))),
+    ((λ st g. (g.0.1, (g.0, g.1))),
+    ((λ st g. (tt, (g.0.1, (g.0, g.1)))),
+    ((λ st g. ((refl, (refl, (refl, (refl, (refl, (refl, (refl, refl))))))), (refl, (g.0.1, (g.0, g.1))))),
+    ((λ st g. ((refl, (refl, (refl, (refl, (refl, (refl, (refl, refl))))))), (refl, (tt, (g.0.1, (g.0, g.1)))))),
+    ((λ st g. ((refl, (refl, (refl, (refl, (refl, (refl, (refl, refl))))))), (refl, (tt, (g.0.1, (g.0, g.1)))))),
+    tt))))))))
 
 good-the_using_part : GoodRows TheUsingPart using_part_rows
-good-the_using_part = (
-  (λ st g. ((refl, (refl, (refl, (refl, (refl, (refl, (refl, refl))))))), (tt, (tt, g.1)))),
-  (
-    (λ st g. ((refl, (refl, (refl, (refl, (refl, (refl, (refl, refl))))))), (tt, (tt, (tt, (tt, g.1)))))),
-    (
-      (λ st g. (g.0, g.1)),
-      (
-        (λ st g. (tt, (g.0, g.1))),
-        (
-          (λ st g. ((refl, (refl, (refl, (refl, (refl, (refl, (refl, refl))))))), (tt, (g.0, g.1)))),
-          (
-            (λ st g. ((refl, (refl, (refl, (refl, (refl, (refl, (refl, refl))))))), (tt, (tt, (g.0, g.1))))),
-            (
-              (λ st g. ((refl, (refl, (refl, (refl, (refl, (refl, (refl, refl))))))), (tt, (tt, (g.0, g.1))))),
-              tt,
-            ),
-          ),
-        ),
-      ),
-    ),
-  ),
-)
+good-the_using_part =
+    ((λ st g. ((refl, (refl, (refl, (refl, (refl, (refl, (refl, refl))))))), (refl, (tt, g.1)))),
+    ((λ st g. ((refl, (refl, (refl, (refl, (refl, (refl, (refl, refl))))))), (refl, (tt, (refl, (tt, g.1)))))),
+    ((λ st g. (g.0, g.1)),
+    ((λ st g. (tt, (g.0, g.1))),
+    ((λ st g. ((refl, (refl, (refl, (refl, (refl, (refl, (refl, refl))))))), (refl, (g.0, g.1)))),
+    ((λ st g. ((refl, (refl, (refl, (refl, (refl, (refl, (refl, refl))))))), (refl, (tt, (g.0, g.1))))),
+    ((λ st g. ((refl, (refl, (refl, (refl, (refl, (refl, (refl, refl))))))), (refl, (tt, (g.0, g.1))))),
+    tt)))))))
 
 good-after_operand : GoodRows AfterOperand after_operand_rows
-good-after_operand = (
-  (λ st g. (tt, g.1)),
-  (
-    (λ st g. (tt, g.1)),
-    (
-      (λ st g. (tt, g.1)),
-      (
-        (λ st g. (tt, g.1)),
-        (
-          (λ st g. (tt, g.1)),
-          (
-            (λ st g. (tt, (tt, g.1))),
-            (
-              (λ st g. (tt, g.1)),
-              (
-                (λ st g. (g.0, g.1)),
-                tt,
-              ),
-            ),
-          ),
-        ),
-      ),
-    ),
-  ),
-)
+good-after_operand =
+    ((λ st g. (tt, g.1)),
+    ((λ st g. (tt, g.1)),
+    ((λ st g. (tt, g.1)),
+    ((λ st g. (tt, g.1)),
+    ((λ st g. (tt, g.1)),
+    ((λ st g. (refl, (tt, g.1))),
+    ((λ st g. (tt, g.1)),
+    ((λ st g. (g.0, g.1)),
+    tt))))))))
 
 good-the_key : GoodRows TheKey key_rows
 good-the_key = ((λ st g. (tt, g.1)), tt)
 
 good-the_foreign : GoodRows TheForeign foreign_rows
-good-the_foreign = ((λ st g. (tt, (tt, (tt, (tt, g.1))))), tt)
+good-the_foreign = ((λ st g. (refl, (tt, (refl, (tt, g.1))))), tt)
 
 good-the_used_constraint : GoodRows TheUsedConstraint used_constraint_rows
-good-the_used_constraint = (
-  (λ st g. (tt, g.1)),
-  (
-    (λ st g. (tt, (tt, (tt, (tt, g.1))))),
-    tt,
-  ),
-)
+good-the_used_constraint =
+    ((λ st g. (tt, g.1)),
+    ((λ st g. (refl, (tt, (refl, (tt, g.1))))),
+    tt))
 
 good-the_constraint : GoodRows TheConstraint constraint_rows
-good-the_constraint = (
-  (λ st g. (tt, g.1)),
-  (
-    (λ st g. (tt, (tt, (tt, (tt, g.1))))),
-    (
-      (λ st g. (tt, (tt, g.1))),
-      (
-        (λ st g. (tt, (tt, (tt, (tt, (tt, g.1)))))),
-        (
-          (λ st g. (tt, (tt, (tt, g.1)))),
-          tt,
-        ),
-      ),
-    ),
-  ),
-)
+good-the_constraint =
+    ((λ st g. (tt, g.1)),
+    ((λ st g. (refl, (tt, (refl, (tt, g.1))))),
+    ((λ st g. (refl, (tt, g.1))),
+    ((λ st g. (refl, (refl, (tt, (refl, (tt, g.1)))))),
+    ((λ st g. (tt, (refl, (tt, g.1)))),
+    tt)))))
 
 good-more_constraints : GoodRows MoreConstraints more_constraints_rows
-good-more_constraints = (
-  (λ st g. (tt, (g.0, g.1))),
-  (
-    (λ st g. (tt, (tt, (tt, (tt, (g.0, g.1)))))),
-    (
-      (λ st g. (tt, (tt, (g.0, g.1)))),
-      (
-        (λ st g. (tt, (tt, (tt, (tt, (tt, (g.0, g.1))))))),
-        (
-          (λ st g. (tt, (tt, (tt, (g.0, g.1))))),
-          tt,
-        ),
-      ),
-    ),
-  ),
-)
+good-more_constraints =
+    ((λ st g. (tt, (g.0, g.1))),
+    ((λ st g. (refl, (tt, (refl, (tt, (g.0, g.1)))))),
+    ((λ st g. (refl, (tt, (g.0, g.1)))),
+    ((λ st g. (refl, (refl, (tt, (refl, (tt, (g.0, g.1))))))),
+    ((λ st g. (tt, (refl, (tt, (g.0, g.1))))),
+    tt)))))
 
 good-in_rel : GoodRows InRel in_rel_rows
-good-in_rel = ((λ st g. ((refl, (refl, (refl, (refl, (refl, (refl, (refl, refl))))))), (tt, g.1))), tt)
+good-in_rel = ((λ st g. ((refl, (refl, (refl, (refl, (refl, (refl, (refl, refl))))))), (refl, g.1))), tt)
 
 good-the_var_form : GoodRows TheVarForm var_form_rows
-good-the_var_form = (
-  (λ st g. (tt, (g.0, g.1))),
-  (
-    (λ st g. (tt, g.1)),
-    tt,
-  ),
-)
+good-the_var_form =
+    ((λ st g. (tt, (g.0, g.1))),
+    ((λ st g. (tt, g.1)),
+    tt))
 
 good-the_comparison : GoodRows TheComparison comparison_rows
-good-the_comparison = (
-  (λ st g. (tt, g.1)),
-  (
-    (λ st g. (tt, (tt, g.1))),
-    (
-      (λ st g. ((refl, (refl, (refl, (refl, (refl, (refl, (refl, refl))))))), (tt, (tt, g.1)))),
-      (
-        (λ st g. ((refl, (refl, (refl, (refl, (refl, (refl, (refl, refl))))))), (tt, (tt, (tt, g.1))))),
-        (
-          (λ st g. ((refl, (refl, (refl, (refl, (refl, (refl, (refl, refl))))))), (tt, (tt, (tt, g.1))))),
-          tt,
-        ),
-      ),
-    ),
-  ),
-)
+good-the_comparison =
+    ((λ st g. (tt, g.1)),
+    ((λ st g. (tt, (tt, g.1))),
+    ((λ st g. ((refl, (refl, (refl, (refl, (refl, (refl, (refl, refl))))))), (refl, (tt, g.1)))),
+    ((λ st g. ((refl, (refl, (refl, (refl, (refl, (refl, (refl, refl))))))), (refl, (tt, (tt, g.1))))),
+    ((λ st g. ((refl, (refl, (refl, (refl, (refl, (refl, (refl, refl))))))), (refl, (tt, (tt, g.1))))),
+    tt)))))
 
 good-after_left : GoodRows AfterLeft after_left_rows
-good-after_left = (
-  (λ st g. (tt, g.1)),
-  (
-    (λ st g. (tt, g.1)),
-    (
-      (λ st g. (tt, g.1)),
-      (
-        (λ st g. (tt, g.1)),
-        (
-          (λ st g. (tt, g.1)),
-          (
-            (λ st g. (tt, g.1)),
-            tt,
-          ),
-        ),
-      ),
-    ),
-  ),
-)
+good-after_left =
+    ((λ st g. (tt, g.1)),
+    ((λ st g. (tt, g.1)),
+    ((λ st g. (tt, g.1)),
+    ((λ st g. (tt, g.1)),
+    ((λ st g. (tt, g.1)),
+    ((λ st g. (tt, g.1)),
+    tt))))))
 
 good-the_test : GoodRows TheTest test_rows
-good-the_test = (
-  (λ st g. (tt, (tt, (tt, g.1)))),
-  (
-    (λ st g. (tt, g.1)),
-    (
-      (λ st g. (tt, g.1)),
-      (
-        (λ st g. (tt, g.1)),
-        (
-          (λ st g. (tt, (tt, g.1))),
-          (
-            (λ st g. ((refl, (refl, (refl, (refl, (refl, (refl, (refl, refl))))))), (tt, (tt, g.1)))),
-            (
-              (λ st g. ((refl, (refl, (refl, (refl, (refl, (refl, (refl, refl))))))), (tt, (tt, (tt, g.1))))),
-              (
-                (λ st g. ((refl, (refl, (refl, (refl, (refl, (refl, (refl, refl))))))), (tt, (tt, (tt, g.1))))),
-                tt,
-              ),
-            ),
-          ),
-        ),
-      ),
-    ),
-  ),
-)
+good-the_test =
+    ((λ st g. (tt, (refl, (tt, g.1)))),
+    ((λ st g. (tt, g.1)),
+    ((λ st g. (tt, g.1)),
+    ((λ st g. (tt, g.1)),
+    ((λ st g. (tt, (tt, g.1))),
+    ((λ st g. ((refl, (refl, (refl, (refl, (refl, (refl, (refl, refl))))))), (refl, (tt, g.1)))),
+    ((λ st g. ((refl, (refl, (refl, (refl, (refl, (refl, (refl, refl))))))), (refl, (tt, (tt, g.1))))),
+    ((λ st g. ((refl, (refl, (refl, (refl, (refl, (refl, (refl, refl))))))), (refl, (tt, (tt, g.1))))),
+    tt))))))))
 
 good-the_used_deletion : GoodRows TheUsedDeletion used_deletion_rows
-good-the_used_deletion = (
-  (λ st g. (g.0.1.1, g.1)),
-  (
-    (λ st g. (tt, (tt, (g.0.1.1, g.1)))),
-    (
-      (λ st g. ((refl, (refl, (refl, (refl, (refl, (refl, (refl, refl))))))), (tt, (tt, (g.0.1, (g.0, g.1)))))),
-      (
-        (λ st g. ((refl, (refl, (refl, (refl, (refl, (refl, (refl, refl))))))), (tt, (tt, (tt, (tt, (g.0.1, (g.0, g.1)))))))),
-        (
-          (λ st g. (g.0.1, (g.0, g.1))),
-          (
-            (λ st g. (tt, (g.0.1, (g.0, g.1)))),
-            (
-              (λ st g. ((refl, (refl, (refl, (refl, (refl, (refl, (refl, refl))))))), (tt, (g.0.1, (g.0, g.1))))),
-              (
-                (λ st g. ((refl, (refl, (refl, (refl, (refl, (refl, (refl, refl))))))), (tt, (tt, (g.0.1, (g.0, g.1)))))),
-                (
-                  (λ st g. ((refl, (refl, (refl, (refl, (refl, (refl, (refl, refl))))))), (tt, (tt, (g.0.1, (g.0, g.1)))))),
-                  tt,
-                ),
-              ),
-            ),
-          ),
-        ),
-      ),
-    ),
-  ),
-)
+good-the_used_deletion =
+    ((λ st g. (g.0.1.1, g.1)),
+    ((λ st g. (tt, (refl, (g.0.1.1, g.1)))),
+    ((λ st g. ((refl, (refl, (refl, (refl, (refl, (refl, (refl, refl))))))), (refl, (tt, (g.0.1, (g.0, g.1)))))),
+    ((λ st g. ((refl, (refl, (refl, (refl, (refl, (refl, (refl, refl))))))), (refl, (tt, (refl, (tt, (g.0.1, (g.0, g.1)))))))),
+    ((λ st g. (g.0.1, (g.0, g.1))),
+    ((λ st g. (tt, (g.0.1, (g.0, g.1)))),
+    ((λ st g. ((refl, (refl, (refl, (refl, (refl, (refl, (refl, refl))))))), (refl, (g.0.1, (g.0, g.1))))),
+    ((λ st g. ((refl, (refl, (refl, (refl, (refl, (refl, (refl, refl))))))), (refl, (tt, (g.0.1, (g.0, g.1)))))),
+    ((λ st g. ((refl, (refl, (refl, (refl, (refl, (refl, (refl, refl))))))), (refl, (tt, (g.0.1, (g.0, g.1)))))),
+    tt)))))))))
 
 good-the_used_item : GoodRows TheUsedItem used_item_rows
-good-the_used_item = (
-  (λ st g. (tt, (g.0, g.1))),
-  (
-    (λ st g. (tt, (g.0, g.1))),
-    (
-      (λ st g. (tt, ((refl, (refl, (refl, (refl, (refl, (refl, refl)))))), (tt, (tt, g.1))))),
-      tt,
-    ),
-  ),
-)
+good-the_used_item =
+    ((λ st g. (tt, (g.0, g.1))),
+    ((λ st g. (tt, (g.0, g.1))),
+    ((λ st g. (tt, ((refl, (refl, (refl, (refl, (refl, (refl, refl)))))), (refl, (tt, g.1))))),
+    tt)))
 
 good-the_deletion : GoodRows TheDeletion deletion_rows
-good-the_deletion = (
-  (λ st g. (g.0.1.1.1, g.1)),
-  (
-    (λ st g. (tt, ((g.0.0, g.0.1.1.1), g.1))),
-    (
-      (λ st g. (tt, (tt, (g.0.1.1.1, g.1)))),
-      (
-        (λ st g. ((refl, (refl, (refl, (refl, (refl, (refl, (refl, refl))))))), (tt, (tt, (g.0.1.1, (g.0.1, g.1)))))),
-        (
-          (λ st g. ((refl, (refl, (refl, (refl, (refl, (refl, (refl, refl))))))), (tt, (tt, (tt, (tt, (g.0.1.1, (g.0.1, g.1)))))))),
-          (
-            (λ st g. (g.0.1.1, (g.0.1, g.1))),
-            (
-              (λ st g. (tt, (g.0.1.1, (g.0.1, g.1)))),
-              (
-                (λ st g. ((refl, (refl, (refl, (refl, (refl, (refl, (refl, refl))))))), (tt, (g.0.1.1, (g.0.1, g.1))))),
-                (
-                  (λ st g. ((refl, (refl, (refl, (refl, (refl, (refl, (refl, refl))))))), (tt, (tt, (g.0.1.1, (g.0.1, g.1)))))),
-                  (
-                    (λ st g. ((refl, (refl, (refl, (refl, (refl, (refl, (refl, refl))))))), (tt, (tt, (g.0.1.1, (g.0.1, g.1)))))),
-                    tt,
-                  ),
-                ),
-              ),
-            ),
-          ),
-        ),
-      ),
-    ),
-  ),
-)
+good-the_deletion =
+    ((λ st g. (g.0.1.1.1, g.1)),
+    ((λ st g. (tt, ((g.0.0, g.0.1.1.1), g.1))),
+    ((λ st g. (tt, (refl, (g.0.1.1.1, g.1)))),
+    ((λ st g. ((refl, (refl, (refl, (refl, (refl, (refl, (refl, refl))))))), (refl, (tt, (g.0.1.1, (g.0.1, g.1)))))),
+    ((λ st g. ((refl, (refl, (refl, (refl, (refl, (refl, (refl, refl))))))), (refl, (tt, (refl, (tt, (g.0.1.1, (g.0.1, g.1)))))))),
+    ((λ st g. (g.0.1.1, (g.0.1, g.1))),
+    ((λ st g. (tt, (g.0.1.1, (g.0.1, g.1)))),
+    ((λ st g. ((refl, (refl, (refl, (refl, (refl, (refl, (refl, refl))))))), (refl, (g.0.1.1, (g.0.1, g.1))))),
+    ((λ st g. ((refl, (refl, (refl, (refl, (refl, (refl, (refl, refl))))))), (refl, (tt, (g.0.1.1, (g.0.1, g.1)))))),
+    ((λ st g. ((refl, (refl, (refl, (refl, (refl, (refl, (refl, refl))))))), (refl, (tt, (g.0.1.1, (g.0.1, g.1)))))),
+    tt))))))))))
 
 good-the_item : GoodRows TheItem item_rows
-good-the_item = (
-  (λ st g. (tt, (g.0.1, g.1))),
-  (
-    (λ st g. (tt, (g.0.1, g.1))),
-    (
-      (λ st g. (tt, (g.0, g.1))),
-      (
-        (λ st g. (tt, (refl, ((refl, (refl, (refl, (refl, (refl, (refl, refl)))))), (tt, (tt, g.1)))))),
-        (
-          (λ st g. (tt, (tt, (g.0.1.1.1, ((g.0.0, g.0.1.1.1), g.1))))),
-          (
-            (λ st g. (tt, (tt, (g.0.1, g.1)))),
-            tt,
-          ),
-        ),
-      ),
-    ),
-  ),
-)
+good-the_item =
+    ((λ st g. (refl, (g.0.1, g.1))),
+    ((λ st g. (tt, (g.0.1, g.1))),
+    ((λ st g. (tt, (g.0, g.1))),
+    ((λ st g. (tt, (refl, ((refl, (refl, (refl, (refl, (refl, (refl, refl)))))), (refl, (tt, g.1)))))),
+    ((λ st g. (tt, (refl, (g.0.1.1.1, ((g.0.0, g.0.1.1.1), g.1))))),
+    ((λ st g. (tt, (refl, (g.0.1, g.1)))),
+    tt))))))
 
 good-more_items : GoodRows MoreItems more_items_rows
 good-more_items = ((λ st g. (g.0.1, (g.0, g.1))), tt)
 
 good-the_assign : GoodRows TheAssign assign_rows
-good-the_assign = (
-  (λ st g. (tt, (g.0.1.1, (g.0, g.1)))),
-  (
-    (λ st g. (tt, (g.0.1.1, (g.0, g.1)))),
-    (
-      (λ st g. (tt, (g.0.1, (g.0, g.1)))),
-      (
-        (λ st g. (tt, (refl, ((refl, (refl, (refl, (refl, (refl, (refl, refl)))))), (tt, (tt, (g.0, g.1))))))),
-        (
-          (λ st g. (tt, (tt, (g.0.1.1.1.1, ((g.0.1.0, g.0.1.1.1.1), (g.0, g.1)))))),
-          (
-            (λ st g. (tt, (tt, (g.0.1.1, (g.0, g.1))))),
-            tt,
-          ),
-        ),
-      ),
-    ),
-  ),
-)
+good-the_assign =
+    ((λ st g. (refl, (g.0.1.1, (g.0, g.1)))),
+    ((λ st g. (tt, (g.0.1.1, (g.0, g.1)))),
+    ((λ st g. (tt, (g.0.1, (g.0, g.1)))),
+    ((λ st g. (tt, (refl, ((refl, (refl, (refl, (refl, (refl, (refl, refl)))))), (refl, (tt, (g.0, g.1))))))),
+    ((λ st g. (tt, (refl, (g.0.1.1.1.1, ((g.0.1.0, g.0.1.1.1.1), (g.0, g.1)))))),
+    ((λ st g. (tt, (refl, (g.0.1.1, (g.0, g.1))))),
+    tt))))))
 
 good-the_statement : GoodRows TheStatement statement_rows
-good-the_statement = (
-  (λ st g. g.1),
-  (
-    (λ st g. (tt, (tt, (tt, (tt, g.1))))),
-    (
-      (λ st g. (tt, (refl, (tt, g.1)))),
-      (
-        (λ st g. (tt, (tt, (tt, (tt, (tt, (tt, (tt, (tt, (tt, (tt, (tt, (tt, g.1))))))))))))),
-        (
-          (λ st g. (tt, (tt, (tt, g.1)))),
-          (
-            (λ st g. ((refl, (refl, (refl, (refl, (refl, (refl, (refl, refl))))))), (tt, g.1))),
-            (
-              (λ st g. (tt, (tt, g.1))),
-              (
-                (λ st g. (tt, ((refl, (refl, (refl, (refl, (refl, (refl, (refl, refl))))))), ((refl, (refl, (refl, (refl, (refl, (refl, (refl, (refl, (refl, refl))))))))), (tt, g.1))))),
-                (
-                  (λ st g. (tt, ((refl, (refl, (refl, (refl, (refl, (refl, (refl, refl))))))), ((refl, (refl, (refl, (refl, (refl, (refl, (refl, (refl, (refl, refl))))))))), (tt, g.1))))),
-                  (
-                    (λ st g. (tt, ((refl, (refl, (refl, (refl, (refl, (refl, (refl, (refl, refl)))))))), ((refl, (refl, (refl, (refl, (refl, (refl, (refl, (refl, (refl, refl))))))))), (tt, g.1))))),
-                    (
-                      (λ st g. (tt, (refl, ((refl, (refl, (refl, (refl, (refl, (refl, refl)))))), (tt, (tt, ((refl, (refl, (refl, (refl, (refl, (refl, (refl, (refl, (refl, refl))))))))), (tt, g.1)))))))),
-                      (
-                        (λ st g. (tt, (tt, ((refl, (refl, (refl, (refl, (refl, refl))))), ((refl, (refl, (refl, (refl, (refl, (refl, refl)))))), ((refl, (refl, (refl, (refl, (refl, (refl, (refl, (refl, (refl, refl))))))))), (tt, g.1))))))),
-                        (
-                          (λ st g. (tt, (tt, ((refl, (refl, (refl, (refl, (refl, (refl, (refl, refl))))))), ((refl, (refl, (refl, (refl, (refl, (refl, (refl, (refl, (refl, refl))))))))), (tt, g.1)))))),
-                          tt,
-                        ),
-                      ),
-                    ),
-                  ),
-                ),
-              ),
-            ),
-          ),
-        ),
-      ),
-    ),
-  ),
-)
+good-the_statement =
+    ((λ st g. g.1),
+    ((λ st g. (tt, (refl, (tt, (refl, g.1))))),
+    ((λ st g. (tt, (refl, (refl, g.1)))),
+    ((λ st g. (tt, (tt, (tt, (refl, (tt, (tt, (refl, (tt, (tt, (refl, (tt, (refl, g.1))))))))))))),
+    ((λ st g. (refl, (tt, (refl, g.1)))),
+    ((λ st g. ((refl, (refl, (refl, (refl, (refl, (refl, (refl, refl))))))), (refl, g.1))),
+    ((λ st g. (tt, (refl, g.1))),
+    ((λ st g. (refl, ((refl, (refl, (refl, (refl, (refl, (refl, (refl, refl))))))), ((refl, (refl, (refl, (refl, (refl, (refl, (refl, (refl, (refl, refl))))))))), (refl, g.1))))),
+    ((λ st g. (tt, ((refl, (refl, (refl, (refl, (refl, (refl, (refl, refl))))))), ((refl, (refl, (refl, (refl, (refl, (refl, (refl, (refl, (refl, refl))))))))), (refl, g.1))))),
+    ((λ st g. (tt, ((refl, (refl, (refl, (refl, (refl, (refl, (refl, (refl, refl)))))))), ((refl, (refl, (refl, (refl, (refl, (refl, (refl, (refl, (refl, refl))))))))), (refl, g.1))))),
+    ((λ st g. (tt, (refl, ((refl, (refl, (refl, (refl, (refl, (refl, refl)))))), (refl, (tt, ((refl, (refl, (refl, (refl, (refl, (refl, (refl, (refl, (refl, refl))))))))), (refl, g.1)))))))),
+    ((λ st g. (tt, (refl, ((refl, (refl, (refl, (refl, (refl, refl))))), ((refl, (refl, (refl, (refl, (refl, (refl, refl)))))), ((refl, (refl, (refl, (refl, (refl, (refl, (refl, (refl, (refl, refl))))))))), (refl, g.1))))))),
+    ((λ st g. (tt, (refl, ((refl, (refl, (refl, (refl, (refl, (refl, (refl, refl))))))), ((refl, (refl, (refl, (refl, (refl, (refl, (refl, (refl, (refl, refl))))))))), (refl, g.1)))))),
+    tt)))))))))))))
 
 good-rows : (s : Symbol) → GoodRows s (rows s)
 good-rows TheName = good-the_name
@@ -2036,6 +1463,7 @@ record Refusal (st : List Symbol) (ts : List Piece) (place : Place) : Type 0 whe
   parts : ts ≡ before ++ after
   there : place_of after ≡ place
   more : List Piece
+  real : AreTokens more
   can : (k : Go st) → Reads (read (before ++ more) st k)
   leads : (first (before ++ more) ≡ first ts) ⊎ (first (before ++ more) ≡ lead st)
   cannot : (others : List Piece) (k : Go st) → read (before ++ again after others) st k ≡ None
@@ -2072,12 +1500,13 @@ further st st' x ts place h r =
       parts = ap (λ z. x ∷ z) r.parts;
       there = r.there;
       more = r.more;
+      real = r.real;
       can = λ k. let g = step-read st x.terminal x.bytes (first (r.before ++ r.more)) x.place (read (r.before ++ r.more)) st' leads k in by _ _ g.1 (r.can g.0);
       leads = inl refl;
       cannot = λ others k.
-          let same : step st x.terminal x.bytes (first (r.before ++ again r.after others)) ≡ Some st' = ap (step st x.terminal x.bytes) (again-first r.before r.after others ∙ ap first (sym r.parts)) ∙ h in
-          let g = step-read st x.terminal x.bytes (first (r.before ++ again r.after others)) x.place (read (r.before ++ again r.after others)) st' same k in
-          g.1 ∙ r.cannot others g.0;
+        let same : step st x.terminal x.bytes (first (r.before ++ again r.after others)) ≡ Some st' = ap (step st x.terminal x.bytes) (again-first r.before r.after others ∙ ap first (sym r.parts)) ∙ h in
+        let g = step-read st x.terminal x.bytes (first (r.before ++ again r.after others)) x.place (read (r.before ++ again r.after others)) st' same k in
+        g.1 ∙ r.cannot others g.0;
     }
 
 -- a refusal here
@@ -2088,6 +1517,7 @@ here st x ts place g h e = record {
   parts = refl;
   there = e;
   more = complete st;
+  real = complete-tokens st g;
   can = complete-reads st g;
   leads = inr refl;
   cannot = λ others k. step-unread st x.terminal x.bytes (first others) x.place (read others) (step-none st x.terminal x.bytes (first ts) (first others) h) k;
@@ -2111,6 +1541,7 @@ refusal limits place [] stack load g e = record {
   parts = refl;
   there = ended-place (reach stack load t.Finish [] t.Finish) place e;
   more = complete (bare stack);
+  real = complete-tokens (bare stack) g;
   can = complete-reads (bare stack) g;
   leads = inr refl;
   cannot = λ others k. unread _ _ place (agrees-end stack load k) e;
@@ -2120,9 +1551,9 @@ refusal limits place (x ∷ ts) stack load g e = reached limits (reach stack loa
 some-not-none : (x : StatementP) (o : Option StatementP) → o ≡ Some x → o ≡ None → ⊥
 some-not-none x o a b = cc
 
-pub starts_from : (ts more : List Piece) (o : Option StatementP) → Reads o → SoundAt (TheStatement ∷ []) (λ v. v.0) (ts ++ more) o → Starts ts
-starts_from ts more None r h = cc r.1
-starts_from ts more (Some x) r h = (more, h.0.0, subst (λ z. Spells (of_statement h.0.0) (ts ++ more) z) h.2.2 h.2.1)
+pub starts_from : (ts more : List Piece) (o : Option StatementP) → AreTokens more → Reads o → SoundAt (TheStatement ∷ []) (λ v. v.0) (ts ++ more) o → Starts ts
+starts_from ts more None real r h = cc r.1
+starts_from ts more (Some x) real r h = (more, real, h.0.0, subst (λ z. Spells (of_statement h.0.0) (ts ++ more) z) h.2.2 h.2.1)
 
 -- E01, under any limits, is that no statement continues so
 pub refused-no_statement : (limits : Limits) (ts : List Piece) (load : Load) (place : Place) → verdict limits ts (TheStatement ∷ []) load ≡ Refused E01 place → NoStatement ts place
@@ -2133,6 +1564,7 @@ refused-no_statement limits ts load place e =
       after = r.after;
       parts = r.parts;
       there = r.there;
-      starts = starts_from r.before r.more _ (r.can (λ v. v.0)) (sound (r.before ++ r.more) (TheStatement ∷ []) (λ v. v.0));
+      starts = starts_from r.before r.more _ r.real (r.can (λ v. v.0)) (sound (r.before ++ r.more) (TheStatement ∷ []) (λ v. v.0));
       stuck = λ others x h. some-not-none x _ (statement-reads x (r.before ++ again r.after others) [] h [] (λ v. v.0)) (r.cannot others (λ v. v.0));
     }
+

@@ -3,11 +3,12 @@ use Rattle.std.specs.Prelude.{◌≡◌, List, [], ◌∷◌, ◌++◌}
 use Rattle.point_core.specs.declared.fault.Place.{Place}
 use Rattle.utd_syntax.specs.Pieces.{Piece, place_of}
 use Rattle.utd_syntax.specs.Plain.{StatementP}
+use Rattle.utd_syntax.specs.Terminals.{AreTokens}
 use Rattle.utd_syntax.specs.Written.{Spells, of_statement}
 
--- some statement's tokens begin with these
+-- some statement's tokens begin with these, and the others are tokens that can be written
 abbrev pub Starts : List Piece → Type 0
-Starts ts = (more : List Piece) × (x : StatementP) × Spells (of_statement x) (ts ++ more) []
+Starts ts = (more : List Piece) × AreTokens more × (x : StatementP) × Spells (of_statement x) (ts ++ more) []
 
 -- the first of these tokens and then others; or the end of the text
 abbrev pub again : List Piece → List Piece → List Piece

@@ -5,4 +5,5 @@ pub mod Written
 pub mod Continues
 pub mod Table
 pub mod Limits
+pub mod Terminals
 pub mod Verdict
