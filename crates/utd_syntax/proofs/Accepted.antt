@@ -1,14 +1,13 @@
 -- The verdict without limits, and what the table reads.
-use Rattle.std.proofs.Common.{◌≡◌, ◌≢◌, ◌↔◌, ℕ, List, [], ◌∷◌, ◌++◌, Bool, true, false, cond, ◌==◌, ◌&&◌, eqb, ◌⊎◌, inl, inr, Option, Some, None, refl, sym, ◌∙◌, ap, subst, append_assoc, if◌then◌else◌}
+use Rattle.std.proofs.Common.{◌≡◌, ℕ, List, [], ◌∷◌, ◌++◌, Bool, true, false, cond, Option, Some, None, refl, sym, ◌∙◌, ap, subst, append_assoc}
 use Rattle.utd_syntax.specs.declared.terminal.Terminal.{Terminal}
 use Rattle.utd_syntax.specs.declared.terminal.Terminal.TheVariants as t
-use Rattle.point_core.specs.declared.fault.Place.{Place}
 use Rattle.utd_syntax.specs.Pieces.{Piece, first, place_of}
 use Rattle.utd_syntax.specs.Plain.{StatementP}
 use Rattle.utd_syntax.specs.Written.{Spells, of_statement}
-use Rattle.utd_syntax.specs.Table.{Load, Symbol, TheName, Comma, DateText, NegativeDigits, ThePrimary, AfterName, AfterScalar, EndOfSelector, InParens, InPair, InPoint, TheSign, TheProd, MoreProd, TheSum, MoreSum, TheCmp, MoreCmp, TheNeg, TheConj, MoreAnd, TheScalar, MoreOr, ThePoint, TheKind, TheAttribute, MoreAttributes, InHeading, TheHeading, MoreNames, InNames, InList, TheNames, TheList, TheSomeNames, TheParenName, TheElement, MoreElements, InElements, TheElements, TheSomeElements, TheTuple, MoreTuples, InTuples, TheTuples, TheLiteral, AfterRelation, TheSetItem, MoreSetItems, TheSets, EmptyParens, TheAggregateForm, TheAggregate, MoreAggregates, TheAggregates, TheRenaming, MoreRenamings, TheRenamings, ThePortion, MaybePortion, MaybeWhere, InProjection, TheOperand, TheExtend, TheSummarize, TheRelPrimary, TheTerm, MorePostfix, TheTerms, MoreInfix, TheUsing, TheRel, TheUsingPart, AfterOperand, TheKey, TheForeign, TheUsedConstraint, TheConstraint, MoreConstraints, InRel, TheVarForm, TheComparison, AfterLeft, TheTest, TheUsedDeletion, TheUsedItem, TheDeletion, TheItem, MoreItems, TheAssign, TheStatement, Just, Worded, Shut, Taking, Plain, Operator, Separator, Negated, Dated, Opens, OperatorOpens, Turn, Never, Ends, Takes, Row, on, spelt, before, then_row, ◌▹◌, rows, may_end, number, same, same_bytes, fits, chosen, find, turn, name_rows, comma_rows, date_text_rows, negative_digits_rows, primary_rows, after_name_rows, after_scalar_rows, end_of_selector_rows, in_parens_rows, in_pair_rows, in_point_rows, sign_rows, prod_rows, more_prod_rows, sum_rows, more_sum_rows, cmp_rows, more_cmp_rows, neg_rows, conj_rows, more_and_rows, scalar_rows, more_or_rows, point_rows, kind_rows, attribute_rows, more_attributes_rows, in_heading_rows, heading_rows, more_names_rows, in_names_rows, in_list_rows, names_rows, list_rows, some_names_rows, paren_name_rows, element_rows, more_elements_rows, in_elements_rows, elements_rows, some_elements_rows, tuple_rows, more_tuples_rows, in_tuples_rows, tuples_rows, literal_rows, after_relation_rows, set_item_rows, more_set_items_rows, sets_rows, empty_parens_rows, aggregate_form_rows, aggregate_rows, more_aggregates_rows, aggregates_rows, renaming_rows, more_renamings_rows, renamings_rows, portion_rows, maybe_portion_rows, maybe_where_rows, in_projection_rows, operand_rows, extend_rows, summarize_rows, rel_primary_rows, term_rows, more_postfix_rows, terms_rows, more_infix_rows, using_rows, rel_rows, using_part_rows, after_operand_rows, key_rows, foreign_rows, used_constraint_rows, constraint_rows, more_constraints_rows, in_rel_rows, var_form_rows, comparison_rows, after_left_rows, test_rows, used_deletion_rows, used_item_rows, deletion_rows, item_rows, more_items_rows, assign_rows, statement_rows}
-use Rattle.utd_syntax.proofs.Reader.{Val, Vals, Case, Make, Makes, Ended, Built, Go, inner, over_make, over_makes, last_of, last_behind, then_case, then_make, then_makes, append_makes, makes, end_value, by_case, made, pick, found_end, found, build, split, on_turn, read_at, on_end, read_end, read, make_name, make_comma, make_date_text, make_negative_digits, make_primary, make_after_name, make_after_scalar, make_end_of_selector, make_in_parens, make_in_pair, make_in_point, make_sign, make_prod, make_more_prod, make_sum, make_more_sum, make_cmp, make_more_cmp, make_neg, make_conj, make_more_and, make_scalar, make_more_or, make_point, make_kind, make_attribute, make_more_attributes, make_in_heading, make_heading, make_more_names, make_in_names, make_in_list, make_names, make_list, make_some_names, make_paren_name, make_element, make_more_elements, make_in_elements, make_elements, make_some_elements, make_tuple, make_more_tuples, make_in_tuples, make_tuples, make_literal, make_after_relation, make_set_item, make_more_set_items, make_sets, make_empty_parens, make_aggregate_form, make_aggregate, make_more_aggregates, make_aggregates, make_renaming, make_more_renamings, make_renamings, make_portion, make_maybe_portion, make_maybe_where, make_in_projection, make_operand, make_extend, make_summarize, make_rel_primary, make_term, make_more_postfix, make_terms, make_more_infix, make_using, make_rel, make_using_part, make_after_operand, make_key, make_foreign, make_used_constraint, make_constraint, make_more_constraints, make_in_rel, make_var_form, make_comparison, make_after_left, make_test, make_used_deletion, make_used_item, make_deletion, make_item, make_more_items, make_assign, make_statement}
-use Rattle.utd_syntax.specs.Verdict.{Verdict, Whole, Refused, no_limits, verdict, reach, taken, ended, at_form, Reach, Over, Stuck, Reaches, outside, counted, stack_after, load_after}
+use Rattle.utd_syntax.specs.Table.{Load, Symbol, TheName, Comma, DateText, NegativeDigits, ThePrimary, AfterName, AfterScalar, EndOfSelector, InParens, InPair, InPoint, TheSign, TheProd, MoreProd, TheSum, MoreSum, TheCmp, MoreCmp, TheNeg, TheConj, MoreAnd, TheScalar, MoreOr, ThePoint, TheKind, TheAttribute, MoreAttributes, InHeading, TheHeading, MoreNames, InNames, InList, TheNames, TheList, TheSomeNames, TheParenName, TheElement, MoreElements, InElements, TheElements, TheSomeElements, TheTuple, MoreTuples, InTuples, TheTuples, TheLiteral, AfterRelation, TheSetItem, MoreSetItems, TheSets, EmptyParens, TheAggregateForm, TheAggregate, MoreAggregates, TheAggregates, TheRenaming, MoreRenamings, TheRenamings, ThePortion, MaybePortion, MaybeWhere, InProjection, TheOperand, TheExtend, TheSummarize, TheRelPrimary, TheTerm, MorePostfix, TheTerms, MoreInfix, TheUsing, TheRel, TheUsingPart, AfterOperand, TheKey, TheForeign, TheUsedConstraint, TheConstraint, MoreConstraints, InRel, TheVarForm, TheComparison, AfterLeft, TheTest, TheUsedDeletion, TheUsedItem, TheDeletion, TheItem, MoreItems, TheAssign, TheStatement, Just, Worded, Shut, Taking, Plain, Operator, Separator, Negated, Dated, Opens, OperatorOpens, Turn, Never, Ends, Takes, Row, on, spelt, before, rows, may_end, same, fits, chosen, find, turn}
+use Rattle.utd_syntax.proofs.Reader.{Built, Go, inner, build, on_turn, read_at, on_end, read_end, read}
+use Rattle.utd_syntax.specs.Verdict.{Verdict, Whole, no_limits, verdict, reach, taken, ended, at_form, Reach, counted, stack_after, load_after}
 use Rattle.utd_syntax.proofs.Complete.{statement-reads}
 
 -- the stack without the ends of levels

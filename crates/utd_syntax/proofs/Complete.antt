@@ -1,40 +1,27 @@
 -- The table reads what a tree writes as that tree.
-use Rattle.std.proofs.Common.{◌≡◌, ◌≢◌, ◌↔◌, ℕ, List, [], ◌∷◌, ◌++◌, Bool, true, false, cond, ◌==◌, ◌&&◌, eqb, ◌⊎◌, inl, inr, Option, Some, None, refl, sym, ◌∙◌, ap, subst, append_assoc, if◌then◌else◌}
+use Rattle.std.proofs.Common.{◌≡◌, ℕ, List, [], ◌∷◌, ◌++◌, Bool, true, false, cond, Option, Some, None, refl, sym, ◌∙◌, ap}
 use Rattle.utd_syntax.specs.declared.terminal.Terminal.{Terminal}
 use Rattle.utd_syntax.specs.declared.terminal.Terminal.TheVariants as t
 use Rattle.point_core.specs.declared.fault.Place.{Place}
-use Rattle.utd_syntax.specs.declared.words.ComparisonWord.{ComparisonWord}
 use Rattle.utd_syntax.specs.declared.words.ComparisonWord.TheVariants as comparisons
-use Rattle.utd_syntax.specs.declared.words.SumWord.{SumWord}
 use Rattle.utd_syntax.specs.declared.words.SumWord.TheVariants as sum_words
-use Rattle.utd_syntax.specs.declared.words.ProductWord.{ProductWord}
 use Rattle.utd_syntax.specs.declared.words.ProductWord.TheVariants as product_words
-use Rattle.utd_syntax.specs.declared.words.BeginBracket.{BeginBracket}
 use Rattle.utd_syntax.specs.declared.words.BeginBracket.TheVariants as begin_brackets
-use Rattle.utd_syntax.specs.declared.words.EndBracket.{EndBracket}
 use Rattle.utd_syntax.specs.declared.words.EndBracket.TheVariants as end_brackets
-use Rattle.utd_syntax.specs.declared.words.ExtremeWord.{ExtremeWord}
 use Rattle.utd_syntax.specs.declared.words.ExtremeWord.TheVariants as extremes
-use Rattle.utd_syntax.specs.declared.words.FunctionWord.{FunctionWord}
 use Rattle.utd_syntax.specs.declared.words.FunctionWord.TheVariants as functions
-use Rattle.utd_syntax.specs.declared.words.PairWord.{PairWord}
 use Rattle.utd_syntax.specs.declared.words.PairWord.TheVariants as pair_functions
-use Rattle.utd_syntax.specs.declared.words.InfixWord.{InfixWord}
 use Rattle.utd_syntax.specs.declared.words.InfixWord.TheVariants as infixes
-use Rattle.utd_syntax.specs.declared.words.PackWord.{PackWord}
 use Rattle.utd_syntax.specs.declared.words.PackWord.TheVariants as pack_words
-use Rattle.utd_syntax.specs.declared.words.AggregateWord.{AggregateWord}
 use Rattle.utd_syntax.specs.declared.words.AggregateWord.TheVariants as aggregate_words
-use Rattle.utd_syntax.specs.declared.words.RelationComparison.{RelationComparison}
 use Rattle.utd_syntax.specs.declared.words.RelationComparison.TheVariants as relation_comparisons
-use Rattle.utd_syntax.specs.declared.words.EmptinessWord.{EmptinessWord}
 use Rattle.utd_syntax.specs.declared.words.EmptinessWord.TheVariants as emptinesses
-use Rattle.utd_syntax.specs.Pieces.{Piece, first, place_of}
-use Rattle.utd_syntax.specs.Plain.{Word, word, PointP, ScalarP, ConjP, NegP, CmpP, SumP, ProdP, SignP, PrimaryP, KindP, AttributeP, HeadingP, NamesP, NameListP, SomeNamesP, ElementP, ElementsP, SomeElementsP, TupleP, LiteralP, SetItemP, SetsP, AggregateFormP, AggregateP, AggregatesP, RenamingP, RenamingsP, PortionP, MaybePortionP, ConditionP, ProjectionP, RelP, TermsP, TermP, RelPrimaryP, OperandP, ExtendP, SummarizeP, UsingP, UsingPartP, KeyP, ForeignP, UsedConstraintP, ConstraintP, VarFormP, ComparisonP, TestP, UsedDeletionP, UsedItemP, DeletionP, ItemP, AssignP, StatementP, IntegerType, DateType, NamedType, OneConj, Or, OneNeg, And, Not, OneCmp, OneSum, Compare, OneProd, Add, OneSign, Multiply, NegativeInteger, Negate, OnePrimary, IntegerLiteral, TextLiteral, DateLiteral, TrueLiteral, FalseLiteral, AttributeName, Dotted, Paren, Selector, Extreme, Function, PairFunction, BooleanKind, CharKind, PointKind, IntervalKind, Attribute, Heading, Names, NameList, SomeNames, Element, Elements, SomeElements, Tuple, Tuples, Headed, SetItem, Sets, CountRows, AggregateOf, Aggregate, Aggregates, Renaming, Renamings, Portion, NoPortion, OfPortion, NoCondition, Where, Onto, AllBut, OfUsing, OfTerms, OneTerm, Infix, NotMatching, OneRelPrimary, Project, Filter, Rename, OfExtend, OfSummarize, OfOperand, Relvar, OfLiteral, ParenRel, PackOn, Extend, Summarize, Using, UsingExtend, UsingSummarize, UsingInfix, UsingNotMatching, UsingProject, UsingFilter, Key, Foreign, UsedKey, UsedForeign, KeyOf, ForeignOf, PackedOn, WhenUnpacked, UsingConstraint, BaseRelvar, View, Comparison, UsingTest, Emptiness, OfComparison, UsedDeleteWhere, UsedDeleteRows, UsedInsert, UsedDelete, UsedUpdate, DeleteWhere, DeletePortion, DeleteRows, SetRelvar, Insert, Delete, Update, Terminate, UsingItem, Assign, Nothing, DeclareOrdinal, DeclareRelvar, DeclareHistory, Drop, Print, Ask, Assignment}
-use Rattle.utd_syntax.specs.Written.{Mark, fixed, at, spelled, worded, apart, IsMark, Spells, token, placed, lexeme, word_of, contextual, negation, ordinal_word, since_word, during_word, over_word, at_word, comparison, sum_word, product_word, begin_bracket, end_bracket, extreme, function, pair_function, infix_word, pack_word, aggregate_word, relation_comparison, emptiness, of_name, of_point, of_scalar, of_conj, of_neg, of_cmp, of_sum, of_prod, of_sign, of_primary, of_kind, of_attribute, of_more_attributes, of_heading, of_more_words, of_names, of_list, of_some_names, of_paren_name, of_element, of_more_elements, of_elements, of_some_elements, of_tuple, of_more_tuples, of_tuples, of_literal, of_set_item, of_more_set_items, of_sets, of_aggregate_form, of_aggregate, of_more_aggregates, of_aggregates, of_renaming, of_more_renamings, of_renamings, of_portion, of_maybe_portion, of_condition, of_projection, of_rel, of_terms, of_term, of_rel_primary, of_operand, of_extend, of_summarize, of_using, of_using_part, of_key, of_foreign, of_used_constraint, of_constraint, of_constraints, of_var_form, of_comparison, of_test, of_used_deletion, of_used_item, of_deletion, of_item, of_more_items, of_assign, of_statement, of_attributes, of_words, of_element_list, of_tuple_list}
-use Rattle.utd_syntax.specs.Table.{Load, Symbol, TheName, Comma, DateText, NegativeDigits, ThePrimary, AfterName, AfterScalar, EndOfSelector, InParens, InPair, InPoint, TheSign, TheProd, MoreProd, TheSum, MoreSum, TheCmp, MoreCmp, TheNeg, TheConj, MoreAnd, TheScalar, MoreOr, ThePoint, TheKind, TheAttribute, MoreAttributes, InHeading, TheHeading, MoreNames, InNames, InList, TheNames, TheList, TheSomeNames, TheParenName, TheElement, MoreElements, InElements, TheElements, TheSomeElements, TheTuple, MoreTuples, InTuples, TheTuples, TheLiteral, AfterRelation, TheSetItem, MoreSetItems, TheSets, EmptyParens, TheAggregateForm, TheAggregate, MoreAggregates, TheAggregates, TheRenaming, MoreRenamings, TheRenamings, ThePortion, MaybePortion, MaybeWhere, InProjection, TheOperand, TheExtend, TheSummarize, TheRelPrimary, TheTerm, MorePostfix, TheTerms, MoreInfix, TheUsing, TheRel, TheUsingPart, AfterOperand, TheKey, TheForeign, TheUsedConstraint, TheConstraint, MoreConstraints, InRel, TheVarForm, TheComparison, AfterLeft, TheTest, TheUsedDeletion, TheUsedItem, TheDeletion, TheItem, MoreItems, TheAssign, TheStatement, Just, Worded, Shut, Taking, Plain, Operator, Separator, Negated, Dated, Opens, OperatorOpens, Turn, Never, Ends, Takes, Row, on, spelt, before, then_row, ◌▹◌, rows, may_end, number, same, same_bytes, fits, chosen, find, turn, name_rows, comma_rows, date_text_rows, negative_digits_rows, primary_rows, after_name_rows, after_scalar_rows, end_of_selector_rows, in_parens_rows, in_pair_rows, in_point_rows, sign_rows, prod_rows, more_prod_rows, sum_rows, more_sum_rows, cmp_rows, more_cmp_rows, neg_rows, conj_rows, more_and_rows, scalar_rows, more_or_rows, point_rows, kind_rows, attribute_rows, more_attributes_rows, in_heading_rows, heading_rows, more_names_rows, in_names_rows, in_list_rows, names_rows, list_rows, some_names_rows, paren_name_rows, element_rows, more_elements_rows, in_elements_rows, elements_rows, some_elements_rows, tuple_rows, more_tuples_rows, in_tuples_rows, tuples_rows, literal_rows, after_relation_rows, set_item_rows, more_set_items_rows, sets_rows, empty_parens_rows, aggregate_form_rows, aggregate_rows, more_aggregates_rows, aggregates_rows, renaming_rows, more_renamings_rows, renamings_rows, portion_rows, maybe_portion_rows, maybe_where_rows, in_projection_rows, operand_rows, extend_rows, summarize_rows, rel_primary_rows, term_rows, more_postfix_rows, terms_rows, more_infix_rows, using_rows, rel_rows, using_part_rows, after_operand_rows, key_rows, foreign_rows, used_constraint_rows, constraint_rows, more_constraints_rows, in_rel_rows, var_form_rows, comparison_rows, after_left_rows, test_rows, used_deletion_rows, used_item_rows, deletion_rows, item_rows, more_items_rows, assign_rows, statement_rows}
-use Rattle.utd_syntax.proofs.Reader.{Val, Vals, Case, Make, Makes, Ended, Built, Go, inner, over_make, over_makes, last_of, last_behind, then_case, then_make, then_makes, append_makes, makes, end_value, by_case, made, pick, found_end, found, build, split, on_turn, read_at, on_end, read_end, read, make_name, make_comma, make_date_text, make_negative_digits, make_primary, make_after_name, make_after_scalar, make_end_of_selector, make_in_parens, make_in_pair, make_in_point, make_sign, make_prod, make_more_prod, make_sum, make_more_sum, make_cmp, make_more_cmp, make_neg, make_conj, make_more_and, make_scalar, make_more_or, make_point, make_kind, make_attribute, make_more_attributes, make_in_heading, make_heading, make_more_names, make_in_names, make_in_list, make_names, make_list, make_some_names, make_paren_name, make_element, make_more_elements, make_in_elements, make_elements, make_some_elements, make_tuple, make_more_tuples, make_in_tuples, make_tuples, make_literal, make_after_relation, make_set_item, make_more_set_items, make_sets, make_empty_parens, make_aggregate_form, make_aggregate, make_more_aggregates, make_aggregates, make_renaming, make_more_renamings, make_renamings, make_portion, make_maybe_portion, make_maybe_where, make_in_projection, make_operand, make_extend, make_summarize, make_rel_primary, make_term, make_more_postfix, make_terms, make_more_infix, make_using, make_rel, make_using_part, make_after_operand, make_key, make_foreign, make_used_constraint, make_constraint, make_more_constraints, make_in_rel, make_var_form, make_comparison, make_after_left, make_test, make_used_deletion, make_used_item, make_deletion, make_item, make_more_items, make_assign, make_statement}
-use Rattle.utd_syntax.proofs.Marks.{One, one, Last, last, Two, two, done, seen, Begins, begins, none}
+use Rattle.utd_syntax.specs.Pieces.{Piece, first}
+use Rattle.utd_syntax.specs.Plain.{Word, PointP, ScalarP, ConjP, NegP, CmpP, SumP, ProdP, SignP, PrimaryP, KindP, AttributeP, HeadingP, NamesP, NameListP, SomeNamesP, ElementP, ElementsP, SomeElementsP, TupleP, LiteralP, SetItemP, SetsP, AggregateFormP, AggregateP, AggregatesP, RenamingP, RenamingsP, PortionP, MaybePortionP, ConditionP, RelP, TermsP, TermP, RelPrimaryP, OperandP, ExtendP, SummarizeP, UsingP, UsingPartP, KeyP, ForeignP, UsedConstraintP, ConstraintP, VarFormP, ComparisonP, TestP, UsedDeletionP, UsedItemP, DeletionP, ItemP, AssignP, StatementP, IntegerType, DateType, NamedType, OneConj, Or, OneNeg, And, Not, OneCmp, OneSum, Compare, OneProd, Add, OneSign, Multiply, NegativeInteger, Negate, OnePrimary, IntegerLiteral, TextLiteral, DateLiteral, TrueLiteral, FalseLiteral, AttributeName, Dotted, Paren, Selector, Extreme, Function, PairFunction, BooleanKind, CharKind, PointKind, IntervalKind, Attribute, Heading, Names, NameList, SomeNames, Element, Elements, SomeElements, Tuple, Tuples, Headed, SetItem, Sets, CountRows, AggregateOf, Aggregate, Aggregates, Renaming, Renamings, Portion, NoPortion, OfPortion, NoCondition, Where, Onto, AllBut, OfUsing, OfTerms, OneTerm, Infix, NotMatching, OneRelPrimary, Project, Filter, Rename, OfExtend, OfSummarize, OfOperand, Relvar, OfLiteral, ParenRel, PackOn, Extend, Summarize, Using, UsingExtend, UsingSummarize, UsingInfix, UsingNotMatching, UsingProject, UsingFilter, Key, Foreign, UsedKey, UsedForeign, KeyOf, ForeignOf, PackedOn, WhenUnpacked, UsingConstraint, BaseRelvar, View, Comparison, UsingTest, Emptiness, OfComparison, UsedDeleteWhere, UsedDeleteRows, UsedInsert, UsedDelete, UsedUpdate, DeleteWhere, DeletePortion, DeleteRows, SetRelvar, Insert, Delete, Update, Terminate, UsingItem, Assign, Nothing, DeclareOrdinal, DeclareRelvar, DeclareHistory, Drop, Print, Ask, Assignment}
+use Rattle.utd_syntax.specs.Written.{fixed, at, spelled, worded, apart, Spells, token, placed, lexeme, word_of, contextual, ordinal_word, since_word, during_word, over_word, at_word, of_name, of_point, of_scalar, of_conj, of_neg, of_cmp, of_sum, of_prod, of_sign, of_primary, of_kind, of_attribute, of_more_attributes, of_heading, of_more_words, of_names, of_list, of_some_names, of_paren_name, of_element, of_more_elements, of_elements, of_some_elements, of_tuple, of_more_tuples, of_tuples, of_literal, of_set_item, of_more_set_items, of_sets, of_aggregate_form, of_aggregate, of_more_aggregates, of_aggregates, of_renaming, of_more_renamings, of_renamings, of_portion, of_maybe_portion, of_condition, of_projection, of_rel, of_terms, of_term, of_rel_primary, of_operand, of_extend, of_summarize, of_using, of_using_part, of_key, of_foreign, of_used_constraint, of_constraint, of_constraints, of_var_form, of_comparison, of_test, of_used_deletion, of_used_item, of_deletion, of_item, of_more_items, of_assign, of_statement}
+use Rattle.utd_syntax.specs.Table.{Symbol, TheName, ThePrimary, AfterName, TheSign, TheProd, MoreProd, TheSum, MoreSum, TheCmp, MoreCmp, TheNeg, TheConj, MoreAnd, TheScalar, MoreOr, ThePoint, TheKind, TheAttribute, MoreAttributes, TheHeading, MoreNames, TheNames, TheList, TheSomeNames, TheParenName, TheElement, MoreElements, TheElements, TheSomeElements, TheTuple, MoreTuples, TheTuples, TheLiteral, TheSetItem, MoreSetItems, TheSets, TheAggregateForm, TheAggregate, MoreAggregates, TheAggregates, TheRenaming, MoreRenamings, TheRenamings, ThePortion, MaybePortion, MaybeWhere, TheOperand, TheExtend, TheSummarize, TheRelPrimary, TheTerm, MorePostfix, TheTerms, MoreInfix, TheUsing, TheRel, TheUsingPart, AfterOperand, TheKey, TheForeign, TheUsedConstraint, TheConstraint, MoreConstraints, TheVarForm, TheComparison, AfterLeft, TheTest, TheUsedDeletion, TheUsedItem, TheDeletion, TheItem, MoreItems, TheAssign, TheStatement, Just, Taking, Turn, Ends, Takes, Row, on, spelt, before, same, fits, chosen, find, turn, after_name_rows, more_prod_rows, more_sum_rows, more_cmp_rows, more_and_rows, more_or_rows, more_attributes_rows, more_names_rows, more_elements_rows, more_tuples_rows, more_set_items_rows, more_aggregates_rows, more_renamings_rows, maybe_portion_rows, maybe_where_rows, more_postfix_rows, more_infix_rows, more_constraints_rows, more_items_rows}
+use Rattle.utd_syntax.proofs.Reader.{Val, Makes, Built, Go, made, pick, found, on_turn, read_at, read, make_after_name, make_more_prod, make_more_sum, make_more_cmp, make_more_and, make_more_or, make_more_attributes, make_more_names, make_more_elements, make_more_tuples, make_more_set_items, make_more_aggregates, make_more_renamings, make_maybe_portion, make_maybe_where, make_more_postfix, make_more_infix, make_more_constraints, make_more_items}
+use Rattle.utd_syntax.proofs.Marks.{one, last, two, done, seen, begins, none}
 
 along : (ts ts' : List Piece) (stack : List Symbol) (k : Go stack) → ts ≡ ts' → read ts stack k ≡ read ts' stack k
 along ts ts' stack k e = ap (λ x. read x stack k) e
@@ -446,15 +433,15 @@ point-first (NamedType n) ts rest h = begins Starts_point _ ts rest tt h
 
 mutual
   conj-first : (x : ConjP) (ts rest : List Piece) → Spells (of_conj x) ts rest → Starts_conj (first ts)
-  conj-first (OneNeg c) ts rest h =  neg-first c ts rest h
+  conj-first (OneNeg c) ts rest h = neg-first c ts rest h
   conj-first (And s p c) ts rest h = let x0 = two (of_conj s ++ placed t.And p) (of_neg c) ts rest h in let x1 = two (of_conj s) (placed t.And p) ts x0.mid x0.before in conj-first s ts x1.mid x1.before
 
   neg-first : (x : NegP) (ts rest : List Piece) → Spells (of_neg x) ts rest → Starts_conj (first ts)
   neg-first (Not p n) ts rest h = begins Starts_conj _ ts rest tt h
-  neg-first (OneCmp c) ts rest h =  Starts_cmp-Starts_conj (first ts) (cmp-first c ts rest h)
+  neg-first (OneCmp c) ts rest h = Starts_cmp-Starts_conj (first ts) (cmp-first c ts rest h)
 
   cmp-first : (x : CmpP) (ts rest : List Piece) → Spells (of_cmp x) ts rest → Starts_cmp (first ts)
-  cmp-first (OneSum s) ts rest h =  sum-first s ts rest h
+  cmp-first (OneSum s) ts rest h = sum-first s ts rest h
   cmp-first (Compare s p comparisons.Equal r) ts rest h = let x0 = two (of_sum s ++ placed t.Equal p) (of_sum r) ts rest h in let x1 = two (of_sum s) (placed t.Equal p) ts x0.mid x0.before in sum-first s ts x1.mid x1.before
   cmp-first (Compare s p comparisons.NotEqual r) ts rest h = let x0 = two (of_sum s ++ placed t.NotEqual p) (of_sum r) ts rest h in let x1 = two (of_sum s) (placed t.NotEqual p) ts x0.mid x0.before in sum-first s ts x1.mid x1.before
   cmp-first (Compare s p comparisons.Less r) ts rest h = let x0 = two (of_sum s ++ placed t.Less p) (of_sum r) ts rest h in let x1 = two (of_sum s) (placed t.Less p) ts x0.mid x0.before in sum-first s ts x1.mid x1.before
@@ -473,20 +460,20 @@ mutual
   cmp-first (Compare s p comparisons.Ends r) ts rest h = let x0 = two (of_sum s ++ placed t.Ends p) (of_sum r) ts rest h in let x1 = two (of_sum s) (placed t.Ends p) ts x0.mid x0.before in sum-first s ts x1.mid x1.before
 
   sum-first : (x : SumP) (ts rest : List Piece) → Spells (of_sum x) ts rest → Starts_cmp (first ts)
-  sum-first (OneProd f) ts rest h =  prod-first f ts rest h
+  sum-first (OneProd f) ts rest h = prod-first f ts rest h
   sum-first (Add s p sum_words.Plus f) ts rest h = let x0 = two (of_sum s ++ placed t.Plus p) (of_prod f) ts rest h in let x1 = two (of_sum s) (placed t.Plus p) ts x0.mid x0.before in sum-first s ts x1.mid x1.before
   sum-first (Add s p sum_words.Minus f) ts rest h = let x0 = two (of_sum s ++ placed t.Dash p) (of_prod f) ts rest h in let x1 = two (of_sum s) (placed t.Dash p) ts x0.mid x0.before in sum-first s ts x1.mid x1.before
   sum-first (Add s p sum_words.Concat f) ts rest h = let x0 = two (of_sum s ++ placed t.Bars p) (of_prod f) ts rest h in let x1 = two (of_sum s) (placed t.Bars p) ts x0.mid x0.before in sum-first s ts x1.mid x1.before
 
   prod-first : (x : ProdP) (ts rest : List Piece) → Spells (of_prod x) ts rest → Starts_cmp (first ts)
-  prod-first (OneSign f) ts rest h =  sign-first f ts rest h
+  prod-first (OneSign f) ts rest h = sign-first f ts rest h
   prod-first (Multiply s p product_words.Times f) ts rest h = let x0 = two (of_prod s ++ placed t.Star p) (of_sign f) ts rest h in let x1 = two (of_prod s) (placed t.Star p) ts x0.mid x0.before in prod-first s ts x1.mid x1.before
   prod-first (Multiply s p product_words.Divide f) ts rest h = let x0 = two (of_prod s ++ placed t.Slash p) (of_sign f) ts rest h in let x1 = two (of_prod s) (placed t.Slash p) ts x0.mid x0.before in prod-first s ts x1.mid x1.before
 
   sign-first : (x : SignP) (ts rest : List Piece) → Spells (of_sign x) ts rest → Starts_cmp (first ts)
   sign-first (NegativeInteger p q c) ts rest h = begins Starts_cmp _ ts rest tt h
   sign-first (Negate p s) ts rest h = begins Starts_cmp _ ts rest tt h
-  sign-first (OnePrimary a) ts rest h =  Starts_primary-Starts_cmp (first ts) (primary-first a ts rest h)
+  sign-first (OnePrimary a) ts rest h = Starts_primary-Starts_cmp (first ts) (primary-first a ts rest h)
 
   primary-first : (x : PrimaryP) (ts rest : List Piece) → Spells (of_primary x) ts rest → Starts_primary (first ts)
   primary-first (IntegerLiteral p c) ts rest h = begins Starts_primary _ ts rest tt h
@@ -524,11 +511,11 @@ portion-first (Portion p e) ts rest h = begins Starts_portion _ ts rest tt h
 
 mutual
   rel-first : (x : RelP) (ts rest : List Piece) → Spells (of_rel x) ts rest → Starts_rel (first ts)
-  rel-first (OfUsing u) ts rest h =  Starts_using-Starts_rel (first ts) (using-first u ts rest h)
-  rel-first (OfTerms y) ts rest h =  Starts_terms-Starts_rel (first ts) (terms-first y ts rest h)
+  rel-first (OfUsing u) ts rest h = Starts_using-Starts_rel (first ts) (using-first u ts rest h)
+  rel-first (OfTerms y) ts rest h = Starts_terms-Starts_rel (first ts) (terms-first y ts rest h)
 
   terms-first : (x : TermsP) (ts rest : List Piece) → Spells (of_terms x) ts rest → Starts_terms (first ts)
-  terms-first (OneTerm y) ts rest h =  term-first y ts rest h
+  terms-first (OneTerm y) ts rest h = term-first y ts rest h
   terms-first (Infix s p infixes.Union y) ts rest h = let x0 = two (of_terms s ++ placed t.Union p) (of_term y) ts rest h in let x1 = two (of_terms s) (placed t.Union p) ts x0.mid x0.before in terms-first s ts x1.mid x1.before
   terms-first (Infix s p infixes.Intersect y) ts rest h = let x0 = two (of_terms s ++ placed t.Intersect p) (of_term y) ts rest h in let x1 = two (of_terms s) (placed t.Intersect p) ts x0.mid x0.before in terms-first s ts x1.mid x1.before
   terms-first (Infix s p infixes.Minus y) ts rest h = let x0 = two (of_terms s ++ placed t.Minus p) (of_term y) ts rest h in let x1 = two (of_terms s) (placed t.Minus p) ts x0.mid x0.before in terms-first s ts x1.mid x1.before
@@ -537,7 +524,7 @@ mutual
   terms-first (NotMatching s p y) ts rest h = let x0 = two (of_terms s ++ placed t.Not p ++ token t.Matching) (of_term y) ts rest h in let x1 = two (of_terms s ++ placed t.Not p) (token t.Matching) ts x0.mid x0.before in let x2 = two (of_terms s) (placed t.Not p) ts x1.mid x1.before in terms-first s ts x2.mid x2.before
 
   term-first : (x : TermP) (ts rest : List Piece) → Spells (of_term x) ts rest → Starts_terms (first ts)
-  term-first (OneRelPrimary x) ts rest h =  rel_primary-first x ts rest h
+  term-first (OneRelPrimary x) ts rest h = rel_primary-first x ts rest h
   term-first (Project s (Onto p1 [])) ts rest h = let x0 = two (of_term s) (of_projection (Onto p1 [])) ts rest h in term-first s ts x0.mid x0.before
   term-first (Project s (Onto p1 (n3 ∷ xs4))) ts rest h = let x0 = two (of_term s) (of_projection (Onto p1 (n3 ∷ xs4))) ts rest h in term-first s ts x0.mid x0.before
   term-first (Project s (AllBut p5 n6 ns7)) ts rest h = let x0 = two (of_term s) (of_projection (AllBut p5 n6 ns7)) ts rest h in term-first s ts x0.mid x0.before
@@ -545,13 +532,13 @@ mutual
   term-first (Rename s p q) ts rest h = let x0 = two (of_term s ++ placed t.Rename p) (of_renamings q) ts rest h in let x1 = two (of_term s) (placed t.Rename p) ts x0.mid x0.before in term-first s ts x1.mid x1.before
 
   rel_primary-first : (x : RelPrimaryP) (ts rest : List Piece) → Spells (of_rel_primary x) ts rest → Starts_terms (first ts)
-  rel_primary-first (OfExtend e) ts rest h =  Starts_extend-Starts_terms (first ts) (extend-first e ts rest h)
-  rel_primary-first (OfSummarize e) ts rest h =  Starts_summarize-Starts_terms (first ts) (summarize-first e ts rest h)
-  rel_primary-first (OfOperand o) ts rest h =  Starts_operand-Starts_terms (first ts) (operand-first o ts rest h)
+  rel_primary-first (OfExtend e) ts rest h = Starts_extend-Starts_terms (first ts) (extend-first e ts rest h)
+  rel_primary-first (OfSummarize e) ts rest h = Starts_summarize-Starts_terms (first ts) (summarize-first e ts rest h)
+  rel_primary-first (OfOperand o) ts rest h = Starts_operand-Starts_terms (first ts) (operand-first o ts rest h)
 
   operand-first : (x : OperandP) (ts rest : List Piece) → Spells (of_operand x) ts rest → Starts_operand (first ts)
   operand-first (Relvar n) ts rest h = begins Starts_operand _ ts rest tt h
-  operand-first (OfLiteral l) ts rest h =  Starts_literal-Starts_operand (first ts) (literal-first l ts rest h)
+  operand-first (OfLiteral l) ts rest h = Starts_literal-Starts_operand (first ts) (literal-first l ts rest h)
   operand-first (ParenRel p r) ts rest h = begins Starts_operand _ ts rest tt h
   operand-first (PackOn p pack_words.Pack r a) ts rest h = begins Starts_operand _ ts rest tt h
   operand-first (PackOn p pack_words.Unpack r a) ts rest h = begins Starts_operand _ ts rest tt h
@@ -572,8 +559,8 @@ foreign-first : (x : ForeignP) (ts rest : List Piece) → Spells (of_foreign x) 
 foreign-first (Foreign p n r) ts rest h = begins Starts_foreign _ ts rest tt h
 
 constraint-first : (x : ConstraintP) (ts rest : List Piece) → Spells (of_constraint x) ts rest → Starts_constraint (first ts)
-constraint-first (KeyOf k) ts rest h =  Starts_key-Starts_constraint (first ts) (key-first k ts rest h)
-constraint-first (ForeignOf f) ts rest h =  Starts_foreign-Starts_constraint (first ts) (foreign-first f ts rest h)
+constraint-first (KeyOf k) ts rest h = Starts_key-Starts_constraint (first ts) (key-first k ts rest h)
+constraint-first (ForeignOf f) ts rest h = Starts_foreign-Starts_constraint (first ts) (foreign-first f ts rest h)
 constraint-first (PackedOn p a) ts rest h = begins Starts_constraint _ ts rest tt h
 constraint-first (WhenUnpacked p a k) ts rest h = begins Starts_constraint _ ts rest tt h
 constraint-first (UsingConstraint p a u) ts rest h = begins Starts_constraint _ ts rest tt h

@@ -1,22 +1,22 @@
 -- What the table is: the laws that make it trustworthy.
-use Rattle.std.proofs.Common.{◌≡◌, ◌≢◌, ◌↔◌, ℕ, List, [], ◌∷◌, ◌++◌, Bool, true, false, cond, Option, Some, None, Result, Err, refl, sym, ◌∙◌, ap, subst, append_assoc}
+use Rattle.std.proofs.Common.{◌≡◌, ◌↔◌, ℕ, List, [], ◌∷◌, ◌++◌, Bool, true, false, cond, Option, Some, None, refl, sym, ◌∙◌, ap, subst, append_assoc}
 use Rattle.utd_syntax.specs.declared.terminal.Terminal.{Terminal}
 use Rattle.utd_syntax.specs.declared.terminal.Terminal.TheVariants as t
 use Rattle.point_core.specs.declared.fault.Place.{Place}
 use Rattle.point_core.specs.declared.fault.Code.{Code}
 use Rattle.point_core.specs.declared.fault.Code.TheVariants.{E01, E05, E06}
-use Rattle.utd_syntax.specs.Pieces.{Piece, first, place_of}
+use Rattle.utd_syntax.specs.Pieces.{Piece, first}
 use Rattle.utd_syntax.specs.Plain.{StatementP, Nothing}
 use Rattle.utd_syntax.specs.Written.{Spells, of_statement}
-use Rattle.utd_syntax.specs.Continues.{Starts, Continues, NoStatement}
+use Rattle.utd_syntax.specs.Continues.{Continues, NoStatement}
 use Rattle.utd_syntax.specs.Terminals.{AreTokens}
 use Rattle.utd_syntax.specs.Table.{Load, Symbol, TheStatement, Taking}
-use Rattle.utd_syntax.specs.Verdict.{Verdict, Whole, Refused, Limits, limits, no_limits, verdict, reach, taken, ended, Reach, Over, Stuck, Reaches, stack_after, load_after}
+use Rattle.utd_syntax.specs.Verdict.{Verdict, Whole, Refused, Limits, no_limits, verdict, reach, taken, ended, Reach, Over, Stuck, Reaches, stack_after, load_after}
 use Rattle.utd_syntax.proofs.Reader.{Go, read}
 use Rattle.utd_syntax.proofs.Complete.{written-once}
 use Rattle.utd_syntax.proofs.Accepted.{bare, Agree, agrees, written-accepted}
-use Rattle.utd_syntax.proofs.Sound.{sound, accepted-written}
-use Rattle.utd_syntax.proofs.Refused.{Good, Reads, by, complete, complete-reads, complete-tokens, lead, step, step-stable, step-good, step-read, ReachIs, reach-step, refused-place, starts_from, refused-no_statement}
+use Rattle.utd_syntax.proofs.Sound.{accepted-written}
+use Rattle.utd_syntax.proofs.Refused.{Good, Reads, by, complete, complete-reads, complete-tokens, lead, step, step-stable, step-good, step-read, ReachIs, reach-step, refused-place, refused-no_statement}
 
 -- A: the table accepts what a tree writes, and nothing else
 pub law_a : (ts : List Piece) (load : Load) → ((x : StatementP) × Spells (of_statement x) ts []) ↔ (verdict no_limits ts (TheStatement ∷ []) load ≡ Whole)
@@ -147,4 +147,3 @@ limit lim ts load code place not e =
       there = r.there;
       starts = (r.more, r.real, w.0, subst (λ z. Spells (of_statement w.0) z []) (sym (append_assoc r.before (r.token ∷ []) r.more)) w.1);
     }
-

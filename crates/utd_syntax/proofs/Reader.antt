@@ -1,38 +1,26 @@
 -- What the table reads: a value for each form.
-use Rattle.std.proofs.Common.{◌≡◌, ◌≢◌, ◌↔◌, ℕ, List, [], ◌∷◌, ◌++◌, Bool, true, false, cond, ◌==◌, ◌&&◌, eqb, ◌⊎◌, inl, inr, Option, Some, None, refl, sym, ◌∙◌, ap, subst, append_assoc, if◌then◌else◌}
+use Rattle.std.proofs.Common.{ℕ, List, [], ◌∷◌, ◌++◌, Bool, true, false, Option, Some, None, if◌then◌else◌}
 use Rattle.utd_syntax.specs.declared.terminal.Terminal.{Terminal}
 use Rattle.utd_syntax.specs.declared.terminal.Terminal.TheVariants as t
 use Rattle.point_core.specs.declared.fault.Place.{Place}
-use Rattle.utd_syntax.specs.declared.words.ComparisonWord.{ComparisonWord}
 use Rattle.utd_syntax.specs.declared.words.ComparisonWord.TheVariants as comparisons
-use Rattle.utd_syntax.specs.declared.words.SumWord.{SumWord}
 use Rattle.utd_syntax.specs.declared.words.SumWord.TheVariants as sum_words
-use Rattle.utd_syntax.specs.declared.words.ProductWord.{ProductWord}
 use Rattle.utd_syntax.specs.declared.words.ProductWord.TheVariants as product_words
-use Rattle.utd_syntax.specs.declared.words.BeginBracket.{BeginBracket}
 use Rattle.utd_syntax.specs.declared.words.BeginBracket.TheVariants as begin_brackets
 use Rattle.utd_syntax.specs.declared.words.EndBracket.{EndBracket}
 use Rattle.utd_syntax.specs.declared.words.EndBracket.TheVariants as end_brackets
-use Rattle.utd_syntax.specs.declared.words.ExtremeWord.{ExtremeWord}
 use Rattle.utd_syntax.specs.declared.words.ExtremeWord.TheVariants as extremes
-use Rattle.utd_syntax.specs.declared.words.FunctionWord.{FunctionWord}
 use Rattle.utd_syntax.specs.declared.words.FunctionWord.TheVariants as functions
-use Rattle.utd_syntax.specs.declared.words.PairWord.{PairWord}
 use Rattle.utd_syntax.specs.declared.words.PairWord.TheVariants as pair_functions
-use Rattle.utd_syntax.specs.declared.words.InfixWord.{InfixWord}
 use Rattle.utd_syntax.specs.declared.words.InfixWord.TheVariants as infixes
-use Rattle.utd_syntax.specs.declared.words.PackWord.{PackWord}
 use Rattle.utd_syntax.specs.declared.words.PackWord.TheVariants as pack_words
-use Rattle.utd_syntax.specs.declared.words.AggregateWord.{AggregateWord}
 use Rattle.utd_syntax.specs.declared.words.AggregateWord.TheVariants as aggregate_words
-use Rattle.utd_syntax.specs.declared.words.RelationComparison.{RelationComparison}
 use Rattle.utd_syntax.specs.declared.words.RelationComparison.TheVariants as relation_comparisons
-use Rattle.utd_syntax.specs.declared.words.EmptinessWord.{EmptinessWord}
 use Rattle.utd_syntax.specs.declared.words.EmptinessWord.TheVariants as emptinesses
 use Rattle.utd_syntax.specs.Pieces.{Piece, first, place_of}
 use Rattle.utd_syntax.specs.Plain.{Word, word, PointP, ScalarP, ConjP, NegP, CmpP, SumP, ProdP, SignP, PrimaryP, KindP, AttributeP, HeadingP, NamesP, NameListP, SomeNamesP, ElementP, ElementsP, SomeElementsP, TupleP, LiteralP, SetItemP, SetsP, AggregateFormP, AggregateP, AggregatesP, RenamingP, RenamingsP, PortionP, MaybePortionP, ConditionP, ProjectionP, RelP, TermsP, TermP, RelPrimaryP, OperandP, ExtendP, SummarizeP, UsingP, UsingPartP, KeyP, ForeignP, UsedConstraintP, ConstraintP, VarFormP, ComparisonP, TestP, UsedDeletionP, UsedItemP, DeletionP, ItemP, AssignP, StatementP, IntegerType, DateType, NamedType, OneConj, Or, OneNeg, And, Not, OneCmp, OneSum, Compare, OneProd, Add, OneSign, Multiply, NegativeInteger, Negate, OnePrimary, IntegerLiteral, TextLiteral, DateLiteral, TrueLiteral, FalseLiteral, AttributeName, Dotted, Paren, Selector, Extreme, Function, PairFunction, BooleanKind, CharKind, PointKind, IntervalKind, Attribute, Heading, Names, NameList, SomeNames, Element, Elements, SomeElements, Tuple, Tuples, Headed, SetItem, Sets, CountRows, AggregateOf, Aggregate, Aggregates, Renaming, Renamings, Portion, NoPortion, OfPortion, NoCondition, Where, Onto, AllBut, OfUsing, OfTerms, OneTerm, Infix, NotMatching, OneRelPrimary, Project, Filter, Rename, OfExtend, OfSummarize, OfOperand, Relvar, OfLiteral, ParenRel, PackOn, Extend, Summarize, Using, UsingExtend, UsingSummarize, UsingInfix, UsingNotMatching, UsingProject, UsingFilter, Key, Foreign, UsedKey, UsedForeign, KeyOf, ForeignOf, PackedOn, WhenUnpacked, UsingConstraint, BaseRelvar, View, Comparison, UsingTest, Emptiness, OfComparison, UsedDeleteWhere, UsedDeleteRows, UsedInsert, UsedDelete, UsedUpdate, DeleteWhere, DeletePortion, DeleteRows, SetRelvar, Insert, Delete, Update, Terminate, UsingItem, Assign, Nothing, DeclareOrdinal, DeclareRelvar, DeclareHistory, Drop, Print, Ask, Assignment}
-use Rattle.utd_syntax.specs.Table.{Load, Symbol, TheName, Comma, DateText, NegativeDigits, ThePrimary, AfterName, AfterScalar, EndOfSelector, InParens, InPair, InPoint, TheSign, TheProd, MoreProd, TheSum, MoreSum, TheCmp, MoreCmp, TheNeg, TheConj, MoreAnd, TheScalar, MoreOr, ThePoint, TheKind, TheAttribute, MoreAttributes, InHeading, TheHeading, MoreNames, InNames, InList, TheNames, TheList, TheSomeNames, TheParenName, TheElement, MoreElements, InElements, TheElements, TheSomeElements, TheTuple, MoreTuples, InTuples, TheTuples, TheLiteral, AfterRelation, TheSetItem, MoreSetItems, TheSets, EmptyParens, TheAggregateForm, TheAggregate, MoreAggregates, TheAggregates, TheRenaming, MoreRenamings, TheRenamings, ThePortion, MaybePortion, MaybeWhere, InProjection, TheOperand, TheExtend, TheSummarize, TheRelPrimary, TheTerm, MorePostfix, TheTerms, MoreInfix, TheUsing, TheRel, TheUsingPart, AfterOperand, TheKey, TheForeign, TheUsedConstraint, TheConstraint, MoreConstraints, InRel, TheVarForm, TheComparison, AfterLeft, TheTest, TheUsedDeletion, TheUsedItem, TheDeletion, TheItem, MoreItems, TheAssign, TheStatement, Just, Worded, Shut, Taking, Plain, Operator, Separator, Negated, Dated, Opens, OperatorOpens, Turn, Never, Ends, Takes, Row, on, spelt, before, then_row, ◌▹◌, rows, may_end, number, same, same_bytes, fits, chosen, find, turn, name_rows, comma_rows, date_text_rows, negative_digits_rows, primary_rows, after_name_rows, after_scalar_rows, end_of_selector_rows, in_parens_rows, in_pair_rows, in_point_rows, sign_rows, prod_rows, more_prod_rows, sum_rows, more_sum_rows, cmp_rows, more_cmp_rows, neg_rows, conj_rows, more_and_rows, scalar_rows, more_or_rows, point_rows, kind_rows, attribute_rows, more_attributes_rows, in_heading_rows, heading_rows, more_names_rows, in_names_rows, in_list_rows, names_rows, list_rows, some_names_rows, paren_name_rows, element_rows, more_elements_rows, in_elements_rows, elements_rows, some_elements_rows, tuple_rows, more_tuples_rows, in_tuples_rows, tuples_rows, literal_rows, after_relation_rows, set_item_rows, more_set_items_rows, sets_rows, empty_parens_rows, aggregate_form_rows, aggregate_rows, more_aggregates_rows, aggregates_rows, renaming_rows, more_renamings_rows, renamings_rows, portion_rows, maybe_portion_rows, maybe_where_rows, in_projection_rows, operand_rows, extend_rows, summarize_rows, rel_primary_rows, term_rows, more_postfix_rows, terms_rows, more_infix_rows, using_rows, rel_rows, using_part_rows, after_operand_rows, key_rows, foreign_rows, used_constraint_rows, constraint_rows, more_constraints_rows, in_rel_rows, var_form_rows, comparison_rows, after_left_rows, test_rows, used_deletion_rows, used_item_rows, deletion_rows, item_rows, more_items_rows, assign_rows, statement_rows}
-use Rattle.utd_syntax.specs.Written.{ordinal_word, since_word, during_word, over_word, at_word}
+use Rattle.utd_syntax.specs.Table.{Symbol, TheName, Comma, DateText, NegativeDigits, ThePrimary, AfterName, AfterScalar, EndOfSelector, InParens, InPair, InPoint, TheSign, TheProd, MoreProd, TheSum, MoreSum, TheCmp, MoreCmp, TheNeg, TheConj, MoreAnd, TheScalar, MoreOr, ThePoint, TheKind, TheAttribute, MoreAttributes, InHeading, TheHeading, MoreNames, InNames, InList, TheNames, TheList, TheSomeNames, TheParenName, TheElement, MoreElements, InElements, TheElements, TheSomeElements, TheTuple, MoreTuples, InTuples, TheTuples, TheLiteral, AfterRelation, TheSetItem, MoreSetItems, TheSets, EmptyParens, TheAggregateForm, TheAggregate, MoreAggregates, TheAggregates, TheRenaming, MoreRenamings, TheRenamings, ThePortion, MaybePortion, MaybeWhere, InProjection, TheOperand, TheExtend, TheSummarize, TheRelPrimary, TheTerm, MorePostfix, TheTerms, MoreInfix, TheUsing, TheRel, TheUsingPart, AfterOperand, TheKey, TheForeign, TheUsedConstraint, TheConstraint, MoreConstraints, InRel, TheVarForm, TheComparison, AfterLeft, TheTest, TheUsedDeletion, TheUsedItem, TheDeletion, TheItem, MoreItems, TheAssign, TheStatement, Just, Worded, Shut, Taking, Plain, Opens, OperatorOpens, Turn, Never, Ends, Takes, Row, on, spelt, before, then_row, ◌▹◌, rows, may_end, same, fits, chosen, find, turn, name_rows, comma_rows, date_text_rows, negative_digits_rows, primary_rows, after_name_rows, after_scalar_rows, end_of_selector_rows, in_parens_rows, in_pair_rows, in_point_rows, sign_rows, prod_rows, more_prod_rows, sum_rows, more_sum_rows, cmp_rows, more_cmp_rows, neg_rows, conj_rows, more_and_rows, scalar_rows, more_or_rows, point_rows, kind_rows, attribute_rows, more_attributes_rows, in_heading_rows, heading_rows, more_names_rows, in_names_rows, in_list_rows, names_rows, list_rows, some_names_rows, paren_name_rows, element_rows, more_elements_rows, in_elements_rows, elements_rows, some_elements_rows, tuple_rows, more_tuples_rows, in_tuples_rows, tuples_rows, literal_rows, after_relation_rows, set_item_rows, more_set_items_rows, sets_rows, empty_parens_rows, aggregate_form_rows, aggregate_rows, more_aggregates_rows, aggregates_rows, renaming_rows, more_renamings_rows, renamings_rows, portion_rows, maybe_portion_rows, maybe_where_rows, in_projection_rows, operand_rows, extend_rows, summarize_rows, rel_primary_rows, term_rows, more_postfix_rows, terms_rows, more_infix_rows, using_rows, rel_rows, using_part_rows, after_operand_rows, key_rows, foreign_rows, used_constraint_rows, constraint_rows, more_constraints_rows, in_rel_rows, var_form_rows, comparison_rows, after_left_rows, test_rows, used_deletion_rows, used_item_rows, deletion_rows, item_rows, more_items_rows, assign_rows, statement_rows}
+use Rattle.utd_syntax.specs.Written.{ordinal_word, since_word, during_word, over_word}
 
 -- what a form gives; the rest of one gives what it makes of the part before it
 abbrev pub Val : Symbol → Type 0
@@ -200,43 +188,88 @@ abbrev pub make_negative_digits : Makes NegativeDigits negative_digits_rows
 make_negative_digits = ((λ p b v. word p b), tt)
 
 abbrev pub make_primary : Makes ThePrimary primary_rows
-make_primary =
-    ((λ p b v. IntegerLiteral p b),
-    ((λ p b v. TextLiteral p b),
-    ((λ p b v. DateLiteral p v.0.place v.0.bytes),
-    ((λ p b v. TrueLiteral p),
-    ((λ p b v. FalseLiteral p),
-    ((λ p b v. v.0 (word p b)),
-    ((λ p b v. v.1.0 p v.0),
-    ((λ p b v. Selector p begin_brackets.Closed v.0 v.1.1.0 v.1.1.1.0),
-    ((λ p b v. Extreme p extremes.First v.0),
-    ((λ p b v. Extreme p extremes.Last v.0),
-    ((λ p b v. Function p functions.Begin v.0),
-    ((λ p b v. Function p functions.End v.0),
-    ((λ p b v. Function p functions.Pre v.0),
-    ((λ p b v. Function p functions.Post v.0),
-    ((λ p b v. Function p functions.Count v.0),
-    ((λ p b v. Function p functions.Next v.0),
-    ((λ p b v. Function p functions.Prior v.0),
-    ((λ p b v. PairFunction p pair_functions.Union v.0.0 v.0.1),
-    ((λ p b v. PairFunction p pair_functions.Intersect v.0.0 v.0.1),
-    ((λ p b v. PairFunction p pair_functions.Minus v.0.0 v.0.1),
-    tt))))))))))))))))))))
+make_primary = (
+  (λ p b v. IntegerLiteral p b),
+  (
+    (λ p b v. TextLiteral p b),
+    (
+      (λ p b v. DateLiteral p v.0.place v.0.bytes),
+      (
+        (λ p b v. TrueLiteral p),
+        (
+          (λ p b v. FalseLiteral p),
+          (
+            (λ p b v. v.0 (word p b)),
+            (
+              (λ p b v. v.1.0 p v.0),
+              (
+                (λ p b v. Selector p begin_brackets.Closed v.0 v.1.1.0 v.1.1.1.0),
+                (
+                  (λ p b v. Extreme p extremes.First v.0),
+                  (
+                    (λ p b v. Extreme p extremes.Last v.0),
+                    (
+                      (λ p b v. Function p functions.Begin v.0),
+                      (
+                        (λ p b v. Function p functions.End v.0),
+                        (
+                          (λ p b v. Function p functions.Pre v.0),
+                          (
+                            (λ p b v. Function p functions.Post v.0),
+                            (
+                              (λ p b v. Function p functions.Count v.0),
+                              (
+                                (λ p b v. Function p functions.Next v.0),
+                                (
+                                  (λ p b v. Function p functions.Prior v.0),
+                                  (
+                                    (λ p b v. PairFunction p pair_functions.Union v.0.0 v.0.1),
+                                    (
+                                      (λ p b v. PairFunction p pair_functions.Intersect v.0.0 v.0.1),
+                                      (
+                                        (λ p b v. PairFunction p pair_functions.Minus v.0.0 v.0.1),
+                                        tt,
+                                      ),
+                                    ),
+                                  ),
+                                ),
+                              ),
+                            ),
+                          ),
+                        ),
+                      ),
+                    ),
+                  ),
+                ),
+              ),
+            ),
+          ),
+        ),
+      ),
+    ),
+  ),
+)
 
 abbrev pub make_after_name : Makes AfterName after_name_rows
 make_after_name = ((λ p b v w. Dotted w v.0), tt)
 
 abbrev pub make_after_scalar : Makes AfterScalar after_scalar_rows
-make_after_scalar =
-    ((λ p b v q s. Paren q s),
-    ((λ p b v q s. Selector q begin_brackets.Open s v.0 v.1.0),
-    tt))
+make_after_scalar = (
+  (λ p b v q s. Paren q s),
+  (
+    (λ p b v q s. Selector q begin_brackets.Open s v.0 v.1.0),
+    tt,
+  ),
+)
 
 abbrev pub make_end_of_selector : Makes EndOfSelector end_of_selector_rows
-make_end_of_selector =
-    ((λ p b v. end_brackets.Closed),
-    ((λ p b v. end_brackets.Open),
-    tt))
+make_end_of_selector = (
+  (λ p b v. end_brackets.Closed),
+  (
+    (λ p b v. end_brackets.Open),
+    tt,
+  ),
+)
 
 abbrev pub make_in_parens : Makes InParens in_parens_rows
 make_in_parens = ((λ p b v. v.0), tt)
@@ -254,43 +287,82 @@ abbrev pub make_prod : Makes TheProd prod_rows
 make_prod = then_makes TheSign TheProd MoreProd (λ u w. w (OneSign u)) sign_rows make_sign
 
 abbrev pub make_more_prod : Makes MoreProd more_prod_rows
-make_more_prod =
-    ((λ p b v x. v.1.0 (Multiply x p product_words.Times v.0)),
-    ((λ p b v x. v.1.0 (Multiply x p product_words.Divide v.0)),
-    tt))
+make_more_prod = (
+  (λ p b v x. v.1.0 (Multiply x p product_words.Times v.0)),
+  (
+    (λ p b v x. v.1.0 (Multiply x p product_words.Divide v.0)),
+    tt,
+  ),
+)
 
 abbrev pub make_sum : Makes TheSum sum_rows
 make_sum = then_makes TheProd TheSum MoreSum (λ u w. w (OneProd u)) prod_rows make_prod
 
 abbrev pub make_more_sum : Makes MoreSum more_sum_rows
-make_more_sum =
-    ((λ p b v x. v.1.0 (Add x p sum_words.Plus v.0)),
-    ((λ p b v x. v.1.0 (Add x p sum_words.Minus v.0)),
-    ((λ p b v x. v.1.0 (Add x p sum_words.Concat v.0)),
-    tt)))
+make_more_sum = (
+  (λ p b v x. v.1.0 (Add x p sum_words.Plus v.0)),
+  (
+    (λ p b v x. v.1.0 (Add x p sum_words.Minus v.0)),
+    (
+      (λ p b v x. v.1.0 (Add x p sum_words.Concat v.0)),
+      tt,
+    ),
+  ),
+)
 
 abbrev pub make_cmp : Makes TheCmp cmp_rows
 make_cmp = then_makes TheSum TheCmp MoreCmp (λ u w. w u) sum_rows make_sum
 
 abbrev pub make_more_cmp : Makes MoreCmp more_cmp_rows
-make_more_cmp =
-    ((λ p b v x. Compare x p comparisons.Equal v.0),
-    ((λ p b v x. Compare x p comparisons.NotEqual v.0),
-    ((λ p b v x. Compare x p comparisons.Less v.0),
-    ((λ p b v x. Compare x p comparisons.LessEqual v.0),
-    ((λ p b v x. Compare x p comparisons.Greater v.0),
-    ((λ p b v x. Compare x p comparisons.GreaterEqual v.0),
-    ((λ p b v x. Compare x p comparisons.In v.0),
-    ((λ p b v x. Compare x p comparisons.Includes v.0),
-    ((λ p b v x. Compare x p comparisons.IncludedIn v.0),
-    ((λ p b v x. Compare x p comparisons.Before v.0),
-    ((λ p b v x. Compare x p comparisons.After v.0),
-    ((λ p b v x. Compare x p comparisons.Meets v.0),
-    ((λ p b v x. Compare x p comparisons.Overlaps v.0),
-    ((λ p b v x. Compare x p comparisons.Merges v.0),
-    ((λ p b v x. Compare x p comparisons.Begins v.0),
-    ((λ p b v x. Compare x p comparisons.Ends v.0),
-    tt))))))))))))))))
+make_more_cmp = (
+  (λ p b v x. Compare x p comparisons.Equal v.0),
+  (
+    (λ p b v x. Compare x p comparisons.NotEqual v.0),
+    (
+      (λ p b v x. Compare x p comparisons.Less v.0),
+      (
+        (λ p b v x. Compare x p comparisons.LessEqual v.0),
+        (
+          (λ p b v x. Compare x p comparisons.Greater v.0),
+          (
+            (λ p b v x. Compare x p comparisons.GreaterEqual v.0),
+            (
+              (λ p b v x. Compare x p comparisons.In v.0),
+              (
+                (λ p b v x. Compare x p comparisons.Includes v.0),
+                (
+                  (λ p b v x. Compare x p comparisons.IncludedIn v.0),
+                  (
+                    (λ p b v x. Compare x p comparisons.Before v.0),
+                    (
+                      (λ p b v x. Compare x p comparisons.After v.0),
+                      (
+                        (λ p b v x. Compare x p comparisons.Meets v.0),
+                        (
+                          (λ p b v x. Compare x p comparisons.Overlaps v.0),
+                          (
+                            (λ p b v x. Compare x p comparisons.Merges v.0),
+                            (
+                              (λ p b v x. Compare x p comparisons.Begins v.0),
+                              (
+                                (λ p b v x. Compare x p comparisons.Ends v.0),
+                                tt,
+                              ),
+                            ),
+                          ),
+                        ),
+                      ),
+                    ),
+                  ),
+                ),
+              ),
+            ),
+          ),
+        ),
+      ),
+    ),
+  ),
+)
 
 abbrev pub make_neg : Makes TheNeg neg_rows
 make_neg = (append_makes TheNeg (on t.Not (Opens (TheNeg ∷ [])) [] ∷ []) cmp_rows ((λ p b v. Not p v.0), tt) (over_makes TheCmp TheNeg (λ u. OneCmp u) cmp_rows make_cmp))
@@ -308,11 +380,16 @@ abbrev pub make_more_or : Makes MoreOr more_or_rows
 make_more_or = ((λ p b v x. v.1.0 (Or x p v.0)), tt)
 
 abbrev pub make_point : Makes ThePoint point_rows
-make_point =
-    ((λ p b v. IntegerType p),
-    ((λ p b v. DateType p),
-    ((λ p b v. NamedType (word p b)),
-    tt)))
+make_point = (
+  (λ p b v. IntegerType p),
+  (
+    (λ p b v. DateType p),
+    (
+      (λ p b v. NamedType (word p b)),
+      tt,
+    ),
+  ),
+)
 
 abbrev pub make_kind : Makes TheKind kind_rows
 make_kind = (append_makes TheKind (on t.Boolean Plain [] ∷ on t.Char Plain [] ∷ on t.Interval Plain (InPoint ∷ []) ∷ []) point_rows ((λ p b v. BooleanKind p), ((λ p b v. CharKind p), ((λ p b v. IntervalKind p v.0), tt))) (over_makes ThePoint TheKind (λ u. PointKind u) point_rows make_point))
@@ -324,10 +401,13 @@ abbrev pub make_more_attributes : Makes MoreAttributes more_attributes_rows
 make_more_attributes = ((λ p b v. v.0 ∷ v.1.0), tt)
 
 abbrev pub make_in_heading : Makes InHeading in_heading_rows
-make_in_heading =
-    ((λ p b v. []),
-    ((λ p b v. Attribute (word p b) v.0 ∷ v.1.0),
-    tt))
+make_in_heading = (
+  (λ p b v. []),
+  (
+    (λ p b v. Attribute (word p b) v.0 ∷ v.1.0),
+    tt,
+  ),
+)
 
 abbrev pub make_heading : Makes TheHeading heading_rows
 make_heading = ((λ p b v. Heading p v.0), tt)
@@ -336,16 +416,22 @@ abbrev pub make_more_names : Makes MoreNames more_names_rows
 make_more_names = ((λ p b v. v.0 ∷ v.1.0), tt)
 
 abbrev pub make_in_names : Makes InNames in_names_rows
-make_in_names =
-    ((λ p b v. []),
-    ((λ p b v. word p b ∷ v.0),
-    tt))
+make_in_names = (
+  (λ p b v. []),
+  (
+    (λ p b v. word p b ∷ v.0),
+    tt,
+  ),
+)
 
 abbrev pub make_in_list : Makes InList in_list_rows
-make_in_list =
-    ((λ p b v. []),
-    ((λ p b v. word p b ∷ v.0),
-    tt))
+make_in_list = (
+  (λ p b v. []),
+  (
+    (λ p b v. word p b ∷ v.0),
+    tt,
+  ),
+)
 
 abbrev pub make_names : Makes TheNames names_rows
 make_names = ((λ p b v. Names p v.0), tt)
@@ -366,10 +452,13 @@ abbrev pub make_more_elements : Makes MoreElements more_elements_rows
 make_more_elements = ((λ p b v. v.0 ∷ v.1.0), tt)
 
 abbrev pub make_in_elements : Makes InElements in_elements_rows
-make_in_elements =
-    ((λ p b v. []),
-    ((λ p b v. Element (word p b) v.0 ∷ v.1.0),
-    tt))
+make_in_elements = (
+  (λ p b v. []),
+  (
+    (λ p b v. Element (word p b) v.0 ∷ v.1.0),
+    tt,
+  ),
+)
 
 abbrev pub make_elements : Makes TheElements elements_rows
 make_elements = ((λ p b v. Elements p v.0), tt)
@@ -384,10 +473,13 @@ abbrev pub make_more_tuples : Makes MoreTuples more_tuples_rows
 make_more_tuples = ((λ p b v. v.0 ∷ v.1.0), tt)
 
 abbrev pub make_in_tuples : Makes InTuples in_tuples_rows
-make_in_tuples =
-    ((λ p b v. []),
-    ((λ p b v. Tuple p v.0 ∷ v.1.0),
-    tt))
+make_in_tuples = (
+  (λ p b v. []),
+  (
+    (λ p b v. Tuple p v.0 ∷ v.1.0),
+    tt,
+  ),
+)
 
 abbrev pub make_tuples : Makes TheTuples tuples_rows
 make_tuples = ((λ p b v. v.0), tt)
@@ -411,12 +503,19 @@ abbrev pub make_empty_parens : Makes EmptyParens empty_parens_rows
 make_empty_parens = ((λ p b v. tt), tt)
 
 abbrev pub make_aggregate_form : Makes TheAggregateForm aggregate_form_rows
-make_aggregate_form =
-    ((λ p b v. CountRows p),
-    ((λ p b v. AggregateOf p aggregate_words.Sum v.0),
-    ((λ p b v. AggregateOf p aggregate_words.Min v.0),
-    ((λ p b v. AggregateOf p aggregate_words.Max v.0),
-    tt))))
+make_aggregate_form = (
+  (λ p b v. CountRows p),
+  (
+    (λ p b v. AggregateOf p aggregate_words.Sum v.0),
+    (
+      (λ p b v. AggregateOf p aggregate_words.Min v.0),
+      (
+        (λ p b v. AggregateOf p aggregate_words.Max v.0),
+        tt,
+      ),
+    ),
+  ),
+)
 
 abbrev pub make_aggregate : Makes TheAggregate aggregate_rows
 make_aggregate = ((λ p b v. Aggregate (word p b) v.1.0), tt)
@@ -446,11 +545,16 @@ abbrev pub make_maybe_where : Makes MaybeWhere maybe_where_rows
 make_maybe_where = ((λ p b v. Where p v.0), tt)
 
 abbrev pub make_in_projection : Makes InProjection in_projection_rows
-make_in_projection =
-    ((λ p b v q. Onto q []),
-    ((λ p b v q. Onto q (word p b ∷ v.0)),
-    ((λ p b v q. AllBut q v.1.0 v.1.1.0),
-    tt)))
+make_in_projection = (
+  (λ p b v q. Onto q []),
+  (
+    (λ p b v q. Onto q (word p b ∷ v.0)),
+    (
+      (λ p b v q. AllBut q v.1.0 v.1.1.0),
+      tt,
+    ),
+  ),
+)
 
 abbrev pub make_operand : Makes TheOperand operand_rows
 make_operand = (append_makes TheOperand (on t.Name Plain [] ∷ []) (literal_rows ++ (on t.Open (Opens (TheRel ∷ Just t.Close ∷ [])) [] ∷ on t.Pack (Opens (TheRel ∷ Just t.On ∷ TheList ∷ [])) [] ∷ on t.Unpack (Opens (TheRel ∷ Just t.On ∷ TheList ∷ [])) [] ∷ [])) ((λ p b v. Relvar (word p b)), tt) (append_makes TheOperand literal_rows (on t.Open (Opens (TheRel ∷ Just t.Close ∷ [])) [] ∷ on t.Pack (Opens (TheRel ∷ Just t.On ∷ TheList ∷ [])) [] ∷ on t.Unpack (Opens (TheRel ∷ Just t.On ∷ TheList ∷ [])) [] ∷ []) (over_makes TheLiteral TheOperand (λ u. OfLiteral u) literal_rows make_literal) ((λ p b v. ParenRel p v.0), ((λ p b v. PackOn p pack_words.Pack v.0 v.1.1.0), ((λ p b v. PackOn p pack_words.Unpack v.0 v.1.1.0), tt)))))
@@ -468,24 +572,40 @@ abbrev pub make_term : Makes TheTerm term_rows
 make_term = then_makes TheRelPrimary TheTerm MorePostfix (λ u w. w (OneRelPrimary u)) rel_primary_rows make_rel_primary
 
 abbrev pub make_more_postfix : Makes MorePostfix more_postfix_rows
-make_more_postfix =
-    ((λ p b v x. v.1.0 (Project x (v.0 p))),
-    ((λ p b v x. v.1.0 (Filter x p v.0)),
-    ((λ p b v x. v.1.0 (Rename x p v.0)),
-    tt)))
+make_more_postfix = (
+  (λ p b v x. v.1.0 (Project x (v.0 p))),
+  (
+    (λ p b v x. v.1.0 (Filter x p v.0)),
+    (
+      (λ p b v x. v.1.0 (Rename x p v.0)),
+      tt,
+    ),
+  ),
+)
 
 abbrev pub make_terms : Makes TheTerms terms_rows
 make_terms = then_makes TheTerm TheTerms MoreInfix (λ u w. w (OneTerm u)) term_rows make_term
 
 abbrev pub make_more_infix : Makes MoreInfix more_infix_rows
-make_more_infix =
-    ((λ p b v x. v.1.0 (Infix x p infixes.Union v.0)),
-    ((λ p b v x. v.1.0 (Infix x p infixes.Intersect v.0)),
-    ((λ p b v x. v.1.0 (Infix x p infixes.Minus v.0)),
-    ((λ p b v x. v.1.0 (Infix x p infixes.Join v.0)),
-    ((λ p b v x. v.1.0 (Infix x p infixes.Matching v.0)),
-    ((λ p b v x. v.1.1.0 (NotMatching x p v.1.0)),
-    tt))))))
+make_more_infix = (
+  (λ p b v x. v.1.0 (Infix x p infixes.Union v.0)),
+  (
+    (λ p b v x. v.1.0 (Infix x p infixes.Intersect v.0)),
+    (
+      (λ p b v x. v.1.0 (Infix x p infixes.Minus v.0)),
+      (
+        (λ p b v x. v.1.0 (Infix x p infixes.Join v.0)),
+        (
+          (λ p b v x. v.1.0 (Infix x p infixes.Matching v.0)),
+          (
+            (λ p b v x. v.1.1.0 (NotMatching x p v.1.0)),
+            tt,
+          ),
+        ),
+      ),
+    ),
+  ),
+)
 
 abbrev pub make_using : Makes TheUsing using_rows
 make_using = ((λ p b v. Using p v.0 v.1.1.0), tt)
@@ -497,16 +617,31 @@ abbrev pub make_using_part : Makes TheUsingPart using_part_rows
 make_using_part = (append_makes TheUsingPart extend_rows (summarize_rows ++ (operand_rows ▹ (AfterOperand ∷ []))) (over_makes TheExtend TheUsingPart (λ u. UsingExtend u) extend_rows make_extend) (append_makes TheUsingPart summarize_rows (operand_rows ▹ (AfterOperand ∷ [])) (over_makes TheSummarize TheUsingPart (λ u. UsingSummarize u) summarize_rows make_summarize) (then_makes TheOperand TheUsingPart AfterOperand (λ u w. w u) operand_rows make_operand)))
 
 abbrev pub make_after_operand : Makes AfterOperand after_operand_rows
-make_after_operand =
-    ((λ p b v x. UsingInfix x p infixes.Union v.0),
-    ((λ p b v x. UsingInfix x p infixes.Intersect v.0),
-    ((λ p b v x. UsingInfix x p infixes.Minus v.0),
-    ((λ p b v x. UsingInfix x p infixes.Join v.0),
-    ((λ p b v x. UsingInfix x p infixes.Matching v.0),
-    ((λ p b v x. UsingNotMatching x p v.1.0),
-    ((λ p b v x. UsingProject x (v.0 p)),
-    ((λ p b v x. UsingFilter x p v.0),
-    tt))))))))
+make_after_operand = (
+  (λ p b v x. UsingInfix x p infixes.Union v.0),
+  (
+    (λ p b v x. UsingInfix x p infixes.Intersect v.0),
+    (
+      (λ p b v x. UsingInfix x p infixes.Minus v.0),
+      (
+        (λ p b v x. UsingInfix x p infixes.Join v.0),
+        (
+          (λ p b v x. UsingInfix x p infixes.Matching v.0),
+          (
+            (λ p b v x. UsingNotMatching x p v.1.0),
+            (
+              (λ p b v x. UsingProject x (v.0 p)),
+              (
+                (λ p b v x. UsingFilter x p v.0),
+                tt,
+              ),
+            ),
+          ),
+        ),
+      ),
+    ),
+  ),
+)
 
 abbrev pub make_key : Makes TheKey key_rows
 make_key = ((λ p b v. Key p v.0), tt)
@@ -527,23 +662,37 @@ abbrev pub make_in_rel : Makes InRel in_rel_rows
 make_in_rel = ((λ p b v. v.0), tt)
 
 abbrev pub make_var_form : Makes TheVarForm var_form_rows
-make_var_form =
-    ((λ p b v. BaseRelvar p v.0 v.1.0),
-    ((λ p b v. View p v.0),
-    tt))
+make_var_form = (
+  (λ p b v. BaseRelvar p v.0 v.1.0),
+  (
+    (λ p b v. View p v.0),
+    tt,
+  ),
+)
 
 abbrev pub make_comparison : Makes TheComparison comparison_rows
 make_comparison = then_makes TheOperand TheComparison AfterLeft (λ u w. w u) operand_rows make_operand
 
 abbrev pub make_after_left : Makes AfterLeft after_left_rows
-make_after_left =
-    ((λ p b v x. Comparison x p relation_comparisons.Equal v.0),
-    ((λ p b v x. Comparison x p relation_comparisons.NotEqual v.0),
-    ((λ p b v x. Comparison x p relation_comparisons.Less v.0),
-    ((λ p b v x. Comparison x p relation_comparisons.LessEqual v.0),
-    ((λ p b v x. Comparison x p relation_comparisons.Greater v.0),
-    ((λ p b v x. Comparison x p relation_comparisons.GreaterEqual v.0),
-    tt))))))
+make_after_left = (
+  (λ p b v x. Comparison x p relation_comparisons.Equal v.0),
+  (
+    (λ p b v x. Comparison x p relation_comparisons.NotEqual v.0),
+    (
+      (λ p b v x. Comparison x p relation_comparisons.Less v.0),
+      (
+        (λ p b v x. Comparison x p relation_comparisons.LessEqual v.0),
+        (
+          (λ p b v x. Comparison x p relation_comparisons.Greater v.0),
+          (
+            (λ p b v x. Comparison x p relation_comparisons.GreaterEqual v.0),
+            tt,
+          ),
+        ),
+      ),
+    ),
+  ),
+)
 
 abbrev pub make_test : Makes TheTest test_rows
 make_test = (append_makes TheTest (on t.Using (Opens (TheList ∷ Just t.Colon ∷ TheComparison ∷ [])) [] ∷ on t.IsEmpty Plain (InRel ∷ []) ∷ on t.IsNotEmpty Plain (InRel ∷ []) ∷ []) comparison_rows ((λ p b v. UsingTest p v.0 v.1.1.0), ((λ p b v. Emptiness p emptinesses.IsEmpty v.0), ((λ p b v. Emptiness p emptinesses.IsNotEmpty v.0), tt))) (over_makes TheComparison TheTest (λ u. OfComparison u) comparison_rows make_comparison))
@@ -552,24 +701,40 @@ abbrev pub make_used_deletion : Makes TheUsedDeletion used_deletion_rows
 make_used_deletion = (append_makes TheUsedDeletion (on t.Where Plain (TheScalar ∷ []) ∷ []) rel_rows ((λ p b v. UsedDeleteWhere p v.0), tt) (over_makes TheRel TheUsedDeletion (λ u. UsedDeleteRows u) rel_rows make_rel))
 
 abbrev pub make_used_item : Makes TheUsedItem used_item_rows
-make_used_item =
-    ((λ p b v. UsedInsert p v.0 v.1.0),
-    ((λ p b v. UsedDelete p v.0 v.1.0),
-    ((λ p b v. UsedUpdate p v.0 v.1.0 v.1.1.1.0),
-    tt)))
+make_used_item = (
+  (λ p b v. UsedInsert p v.0 v.1.0),
+  (
+    (λ p b v. UsedDelete p v.0 v.1.0),
+    (
+      (λ p b v. UsedUpdate p v.0 v.1.0 v.1.1.1.0),
+      tt,
+    ),
+  ),
+)
 
 abbrev pub make_deletion : Makes TheDeletion deletion_rows
 make_deletion = (append_makes TheDeletion (on t.Where Plain (TheScalar ∷ []) ∷ []) ((portion_rows ▹ (MaybeWhere ∷ [])) ++ rel_rows) ((λ p b v. DeleteWhere p v.0), tt) (append_makes TheDeletion (portion_rows ▹ (MaybeWhere ∷ [])) rel_rows (then_makes ThePortion TheDeletion MaybeWhere (λ u w. DeletePortion u w) portion_rows make_portion) (over_makes TheRel TheDeletion (λ u. DeleteRows u) rel_rows make_rel)))
 
 abbrev pub make_item : Makes TheItem item_rows
-make_item =
-    ((λ p b v. SetRelvar (word p b) v.1.0),
-    ((λ p b v. Insert p v.0 v.1.0),
-    ((λ p b v. Delete p v.0 v.1.0),
-    ((λ p b v. Update p v.0 v.1.0 v.1.1.0 v.1.1.1.1.0),
-    ((λ p b v. Terminate p v.0 v.1.0 v.1.1.0 v.1.1.1.0),
-    ((λ p b v. UsingItem p v.0 v.1.1.0),
-    tt))))))
+make_item = (
+  (λ p b v. SetRelvar (word p b) v.1.0),
+  (
+    (λ p b v. Insert p v.0 v.1.0),
+    (
+      (λ p b v. Delete p v.0 v.1.0),
+      (
+        (λ p b v. Update p v.0 v.1.0 v.1.1.0 v.1.1.1.1.0),
+        (
+          (λ p b v. Terminate p v.0 v.1.0 v.1.1.0 v.1.1.1.0),
+          (
+            (λ p b v. UsingItem p v.0 v.1.1.0),
+            tt,
+          ),
+        ),
+      ),
+    ),
+  ),
+)
 
 abbrev pub make_more_items : Makes MoreItems more_items_rows
 make_more_items = ((λ p b v. v.0 ∷ v.1.0), tt)

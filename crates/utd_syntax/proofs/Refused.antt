@@ -1,5 +1,5 @@
 -- Each stack that the table reaches can be completed; so E01 is that no statement continues so.
-use Rattle.std.proofs.Common.{◌≡◌, ◌≢◌, ◌↔◌, ℕ, List, [], ◌∷◌, ◌++◌, Bool, true, false, cond, ◌==◌, ◌&&◌, eqb, ◌⊎◌, inl, inr, Option, Some, None, refl, sym, ◌∙◌, ap, subst, append_assoc, if◌then◌else◌}
+use Rattle.std.proofs.Common.{◌≡◌, ℕ, List, [], ◌∷◌, ◌++◌, Bool, true, false, cond, ◌&&◌, ◌⊎◌, inl, inr, Option, Some, None, refl, sym, ◌∙◌, ap, subst}
 use Rattle.utd_syntax.specs.declared.terminal.Terminal.{Terminal}
 use Rattle.utd_syntax.specs.declared.terminal.Terminal.TheVariants as t
 use Rattle.point_core.specs.declared.fault.Place.{Place}
@@ -7,13 +7,13 @@ use Rattle.point_core.specs.declared.fault.Code.{Code}
 use Rattle.point_core.specs.declared.fault.Code.TheVariants.{E01, E05, E06}
 use Rattle.utd_syntax.specs.Pieces.{Piece, first, place_of}
 use Rattle.utd_syntax.specs.Plain.{StatementP}
-use Rattle.utd_syntax.specs.Written.{Spells, of_statement, ordinal_word, since_word, during_word, over_word, at_word}
+use Rattle.utd_syntax.specs.Written.{Spells, of_statement}
 use Rattle.utd_syntax.specs.Continues.{Starts, again, NoStatement}
 use Rattle.utd_syntax.specs.Terminals.{spelling, is_token, AreTokens}
-use Rattle.utd_syntax.specs.Table.{Load, Symbol, TheName, Comma, DateText, NegativeDigits, ThePrimary, AfterName, AfterScalar, EndOfSelector, InParens, InPair, InPoint, TheSign, TheProd, MoreProd, TheSum, MoreSum, TheCmp, MoreCmp, TheNeg, TheConj, MoreAnd, TheScalar, MoreOr, ThePoint, TheKind, TheAttribute, MoreAttributes, InHeading, TheHeading, MoreNames, InNames, InList, TheNames, TheList, TheSomeNames, TheParenName, TheElement, MoreElements, InElements, TheElements, TheSomeElements, TheTuple, MoreTuples, InTuples, TheTuples, TheLiteral, AfterRelation, TheSetItem, MoreSetItems, TheSets, EmptyParens, TheAggregateForm, TheAggregate, MoreAggregates, TheAggregates, TheRenaming, MoreRenamings, TheRenamings, ThePortion, MaybePortion, MaybeWhere, InProjection, TheOperand, TheExtend, TheSummarize, TheRelPrimary, TheTerm, MorePostfix, TheTerms, MoreInfix, TheUsing, TheRel, TheUsingPart, AfterOperand, TheKey, TheForeign, TheUsedConstraint, TheConstraint, MoreConstraints, InRel, TheVarForm, TheComparison, AfterLeft, TheTest, TheUsedDeletion, TheUsedItem, TheDeletion, TheItem, MoreItems, TheAssign, TheStatement, Just, Worded, Shut, Taking, Plain, Operator, Separator, Negated, Dated, Opens, OperatorOpens, Turn, Never, Ends, Takes, Row, on, spelt, before, then_row, ◌▹◌, rows, may_end, number, same, same_bytes, fits, chosen, find, turn, name_rows, comma_rows, date_text_rows, negative_digits_rows, primary_rows, after_name_rows, after_scalar_rows, end_of_selector_rows, in_parens_rows, in_pair_rows, in_point_rows, sign_rows, prod_rows, more_prod_rows, sum_rows, more_sum_rows, cmp_rows, more_cmp_rows, neg_rows, conj_rows, more_and_rows, scalar_rows, more_or_rows, point_rows, kind_rows, attribute_rows, more_attributes_rows, in_heading_rows, heading_rows, more_names_rows, in_names_rows, in_list_rows, names_rows, list_rows, some_names_rows, paren_name_rows, element_rows, more_elements_rows, in_elements_rows, elements_rows, some_elements_rows, tuple_rows, more_tuples_rows, in_tuples_rows, tuples_rows, literal_rows, after_relation_rows, set_item_rows, more_set_items_rows, sets_rows, empty_parens_rows, aggregate_form_rows, aggregate_rows, more_aggregates_rows, aggregates_rows, renaming_rows, more_renamings_rows, renamings_rows, portion_rows, maybe_portion_rows, maybe_where_rows, in_projection_rows, operand_rows, extend_rows, summarize_rows, rel_primary_rows, term_rows, more_postfix_rows, terms_rows, more_infix_rows, using_rows, rel_rows, using_part_rows, after_operand_rows, key_rows, foreign_rows, used_constraint_rows, constraint_rows, more_constraints_rows, in_rel_rows, var_form_rows, comparison_rows, after_left_rows, test_rows, used_deletion_rows, used_item_rows, deletion_rows, item_rows, more_items_rows, assign_rows, statement_rows}
-use Rattle.utd_syntax.specs.Verdict.{Verdict, Whole, Refused, Limits, no_limits, verdict, reach, taken, ended, at_form, Reach, Over, Stuck, Reaches, outside, stack_after, load_after}
-use Rattle.utd_syntax.proofs.Reader.{Val, Vals, Case, Make, Makes, Ended, Built, Go, inner, over_make, over_makes, last_of, last_behind, then_case, then_make, then_makes, append_makes, makes, end_value, by_case, made, pick, found_end, found, build, split, on_turn, read_at, on_end, read_end, read, make_name, make_comma, make_date_text, make_negative_digits, make_primary, make_after_name, make_after_scalar, make_end_of_selector, make_in_parens, make_in_pair, make_in_point, make_sign, make_prod, make_more_prod, make_sum, make_more_sum, make_cmp, make_more_cmp, make_neg, make_conj, make_more_and, make_scalar, make_more_or, make_point, make_kind, make_attribute, make_more_attributes, make_in_heading, make_heading, make_more_names, make_in_names, make_in_list, make_names, make_list, make_some_names, make_paren_name, make_element, make_more_elements, make_in_elements, make_elements, make_some_elements, make_tuple, make_more_tuples, make_in_tuples, make_tuples, make_literal, make_after_relation, make_set_item, make_more_set_items, make_sets, make_empty_parens, make_aggregate_form, make_aggregate, make_more_aggregates, make_aggregates, make_renaming, make_more_renamings, make_renamings, make_portion, make_maybe_portion, make_maybe_where, make_in_projection, make_operand, make_extend, make_summarize, make_rel_primary, make_term, make_more_postfix, make_terms, make_more_infix, make_using, make_rel, make_using_part, make_after_operand, make_key, make_foreign, make_used_constraint, make_constraint, make_more_constraints, make_in_rel, make_var_form, make_comparison, make_after_left, make_test, make_used_deletion, make_used_item, make_deletion, make_item, make_more_items, make_assign, make_statement}
-use Rattle.utd_syntax.proofs.Complete.{statement-reads, Halts, Calm1, Calm2, Calm3, Calm4, Calm5, Calm6, Calm7, Calm8, Calm9, Calm10, Calm11, Calm12, Calm13, Calm14, Calm15, Calm16, Calm17, Calm18, Calm19, Calm20, AfterName-end, MoreProd-end, MoreSum-end, MoreCmp-end, MoreAnd-end, MoreOr-end, MoreAttributes-end, MoreNames-end, MoreElements-end, MoreTuples-end, MoreSetItems-end, MoreAggregates-end, MoreRenamings-end, MaybePortion-end, MaybeWhere-end, MorePostfix-end, MoreInfix-end, MoreConstraints-end, MoreItems-end}
+use Rattle.utd_syntax.specs.Table.{Load, Symbol, TheName, Comma, DateText, NegativeDigits, ThePrimary, AfterName, AfterScalar, EndOfSelector, InParens, InPair, InPoint, TheSign, TheProd, MoreProd, TheSum, MoreSum, TheCmp, MoreCmp, TheNeg, TheConj, MoreAnd, TheScalar, MoreOr, ThePoint, TheKind, TheAttribute, MoreAttributes, InHeading, TheHeading, MoreNames, InNames, InList, TheNames, TheList, TheSomeNames, TheParenName, TheElement, MoreElements, InElements, TheElements, TheSomeElements, TheTuple, MoreTuples, InTuples, TheTuples, TheLiteral, AfterRelation, TheSetItem, MoreSetItems, TheSets, EmptyParens, TheAggregateForm, TheAggregate, MoreAggregates, TheAggregates, TheRenaming, MoreRenamings, TheRenamings, ThePortion, MaybePortion, MaybeWhere, InProjection, TheOperand, TheExtend, TheSummarize, TheRelPrimary, TheTerm, MorePostfix, TheTerms, MoreInfix, TheUsing, TheRel, TheUsingPart, AfterOperand, TheKey, TheForeign, TheUsedConstraint, TheConstraint, MoreConstraints, InRel, TheVarForm, TheComparison, AfterLeft, TheTest, TheUsedDeletion, TheUsedItem, TheDeletion, TheItem, MoreItems, TheAssign, TheStatement, Just, Worded, Shut, Taking, Plain, Turn, Never, Ends, Takes, Row, on, spelt, before, rows, may_end, same, same_bytes, fits, chosen, find, turn, name_rows, comma_rows, date_text_rows, negative_digits_rows, primary_rows, after_name_rows, after_scalar_rows, end_of_selector_rows, in_parens_rows, in_pair_rows, in_point_rows, sign_rows, prod_rows, more_prod_rows, sum_rows, more_sum_rows, cmp_rows, more_cmp_rows, neg_rows, conj_rows, more_and_rows, scalar_rows, more_or_rows, point_rows, kind_rows, attribute_rows, more_attributes_rows, in_heading_rows, heading_rows, more_names_rows, in_names_rows, in_list_rows, names_rows, list_rows, some_names_rows, paren_name_rows, element_rows, more_elements_rows, in_elements_rows, elements_rows, some_elements_rows, tuple_rows, more_tuples_rows, in_tuples_rows, tuples_rows, literal_rows, after_relation_rows, set_item_rows, more_set_items_rows, sets_rows, empty_parens_rows, aggregate_form_rows, aggregate_rows, more_aggregates_rows, aggregates_rows, renaming_rows, more_renamings_rows, renamings_rows, portion_rows, maybe_portion_rows, maybe_where_rows, in_projection_rows, operand_rows, extend_rows, summarize_rows, rel_primary_rows, term_rows, more_postfix_rows, terms_rows, more_infix_rows, using_rows, rel_rows, using_part_rows, after_operand_rows, key_rows, foreign_rows, used_constraint_rows, constraint_rows, more_constraints_rows, in_rel_rows, var_form_rows, comparison_rows, after_left_rows, test_rows, used_deletion_rows, used_item_rows, deletion_rows, item_rows, more_items_rows, assign_rows, statement_rows}
+use Rattle.utd_syntax.specs.Verdict.{Verdict, Whole, Refused, Limits, verdict, reach, taken, ended, at_form, Reach, Over, Stuck, Reaches, stack_after, load_after}
+use Rattle.utd_syntax.proofs.Reader.{Val, Vals, Built, Go, inner, pick, build, split, on_turn, read_at, read}
+use Rattle.utd_syntax.proofs.Complete.{statement-reads, Halts, Calm2, Calm3, Calm4, Calm5, Calm6, Calm9, Calm11, Calm15, Calm16, Calm17, Calm19, Calm20, AfterName-end, MoreProd-end, MoreSum-end, MoreCmp-end, MoreAnd-end, MoreOr-end, MoreAttributes-end, MoreNames-end, MoreElements-end, MoreTuples-end, MoreSetItems-end, MoreAggregates-end, MoreRenamings-end, MaybePortion-end, MaybeWhere-end, MorePostfix-end, MoreInfix-end, MoreConstraints-end, MoreItems-end}
 use Rattle.utd_syntax.proofs.Accepted.{bare, row, plain, bare-after, Agree, agrees-end}
 use Rattle.utd_syntax.proofs.Sound.{SoundAt, sound, same-self, bytes-self}
 
@@ -423,43 +423,88 @@ good-negative_digits : GoodRows NegativeDigits negative_digits_rows
 good-negative_digits = ((λ st g. g.1), tt)
 
 good-the_primary : GoodRows ThePrimary primary_rows
-good-the_primary =
-    ((λ st g. g.1),
-    ((λ st g. g.1),
-    ((λ st g. (tt, g.1)),
-    ((λ st g. g.1),
-    ((λ st g. g.1),
-    ((λ st g. (g.0, g.1)),
-    ((λ st g. ((refl, (refl, (refl, (refl, (refl, refl))))), (tt, g.1))),
-    ((λ st g. ((refl, (refl, (refl, (refl, (refl, refl))))), (refl, ((refl, (refl, (refl, (refl, (refl, refl))))), (tt, g.1))))),
-    ((λ st g. (tt, g.1)),
-    ((λ st g. (tt, g.1)),
-    ((λ st g. (tt, g.1)),
-    ((λ st g. (tt, g.1)),
-    ((λ st g. (tt, g.1)),
-    ((λ st g. (tt, g.1)),
-    ((λ st g. (tt, g.1)),
-    ((λ st g. (tt, g.1)),
-    ((λ st g. (tt, g.1)),
-    ((λ st g. (tt, g.1)),
-    ((λ st g. (tt, g.1)),
-    ((λ st g. (tt, g.1)),
-    tt))))))))))))))))))))
+good-the_primary = (
+  (λ st g. g.1),
+  (
+    (λ st g. g.1),
+    (
+      (λ st g. (tt, g.1)),
+      (
+        (λ st g. g.1),
+        (
+          (λ st g. g.1),
+          (
+            (λ st g. (g.0, g.1)),
+            (
+              (λ st g. ((refl, (refl, (refl, (refl, (refl, refl))))), (tt, g.1))),
+              (
+                (λ st g. ((refl, (refl, (refl, (refl, (refl, refl))))), (refl, ((refl, (refl, (refl, (refl, (refl, refl))))), (tt, g.1))))),
+                (
+                  (λ st g. (tt, g.1)),
+                  (
+                    (λ st g. (tt, g.1)),
+                    (
+                      (λ st g. (tt, g.1)),
+                      (
+                        (λ st g. (tt, g.1)),
+                        (
+                          (λ st g. (tt, g.1)),
+                          (
+                            (λ st g. (tt, g.1)),
+                            (
+                              (λ st g. (tt, g.1)),
+                              (
+                                (λ st g. (tt, g.1)),
+                                (
+                                  (λ st g. (tt, g.1)),
+                                  (
+                                    (λ st g. (tt, g.1)),
+                                    (
+                                      (λ st g. (tt, g.1)),
+                                      (
+                                        (λ st g. (tt, g.1)),
+                                        tt,
+                                      ),
+                                    ),
+                                  ),
+                                ),
+                              ),
+                            ),
+                          ),
+                        ),
+                      ),
+                    ),
+                  ),
+                ),
+              ),
+            ),
+          ),
+        ),
+      ),
+    ),
+  ),
+)
 
 good-after_name : GoodRows AfterName after_name_rows
 good-after_name = ((λ st g. (tt, g.1)), tt)
 
 good-after_scalar : GoodRows AfterScalar after_scalar_rows
-good-after_scalar =
-    ((λ st g. g.1),
-    ((λ st g. ((refl, (refl, (refl, (refl, (refl, refl))))), (tt, g.1))),
-    tt))
+good-after_scalar = (
+  (λ st g. g.1),
+  (
+    (λ st g. ((refl, (refl, (refl, (refl, (refl, refl))))), (tt, g.1))),
+    tt,
+  ),
+)
 
 good-end_of_selector : GoodRows EndOfSelector end_of_selector_rows
-good-end_of_selector =
-    ((λ st g. g.1),
-    ((λ st g. g.1),
-    tt))
+good-end_of_selector = (
+  (λ st g. g.1),
+  (
+    (λ st g. g.1),
+    tt,
+  ),
+)
 
 good-in_parens : GoodRows InParens in_parens_rows
 good-in_parens = ((λ st g. ((refl, (refl, (refl, (refl, (refl, refl))))), (refl, g.1))), tt)
@@ -471,238 +516,586 @@ good-in_point : GoodRows InPoint in_point_rows
 good-in_point = ((λ st g. (tt, (refl, g.1))), tt)
 
 good-the_sign : GoodRows TheSign sign_rows
-good-the_sign =
-    (((λ st g. (tt, g.1)), (λ st g. (g.0, g.1))),
-    ((λ st g. g.1),
-    ((λ st g. g.1),
-    ((λ st g. (tt, g.1)),
-    ((λ st g. g.1),
-    ((λ st g. g.1),
-    ((λ st g. (g.0, g.1)),
-    ((λ st g. ((refl, (refl, (refl, (refl, (refl, refl))))), (tt, g.1))),
-    ((λ st g. ((refl, (refl, (refl, (refl, (refl, refl))))), (refl, ((refl, (refl, (refl, (refl, (refl, refl))))), (tt, g.1))))),
-    ((λ st g. (tt, g.1)),
-    ((λ st g. (tt, g.1)),
-    ((λ st g. (tt, g.1)),
-    ((λ st g. (tt, g.1)),
-    ((λ st g. (tt, g.1)),
-    ((λ st g. (tt, g.1)),
-    ((λ st g. (tt, g.1)),
-    ((λ st g. (tt, g.1)),
-    ((λ st g. (tt, g.1)),
-    ((λ st g. (tt, g.1)),
-    ((λ st g. (tt, g.1)),
-    ((λ st g. (tt, g.1)),
-    tt)))))))))))))))))))))
+good-the_sign = (
+  ((λ st g. (tt, g.1)), (λ st g. (g.0, g.1))),
+  (
+    (λ st g. g.1),
+    (
+      (λ st g. g.1),
+      (
+        (λ st g. (tt, g.1)),
+        (
+          (λ st g. g.1),
+          (
+            (λ st g. g.1),
+            (
+              (λ st g. (g.0, g.1)),
+              (
+                (λ st g. ((refl, (refl, (refl, (refl, (refl, refl))))), (tt, g.1))),
+                (
+                  (λ st g. ((refl, (refl, (refl, (refl, (refl, refl))))), (refl, ((refl, (refl, (refl, (refl, (refl, refl))))), (tt, g.1))))),
+                  (
+                    (λ st g. (tt, g.1)),
+                    (
+                      (λ st g. (tt, g.1)),
+                      (
+                        (λ st g. (tt, g.1)),
+                        (
+                          (λ st g. (tt, g.1)),
+                          (
+                            (λ st g. (tt, g.1)),
+                            (
+                              (λ st g. (tt, g.1)),
+                              (
+                                (λ st g. (tt, g.1)),
+                                (
+                                  (λ st g. (tt, g.1)),
+                                  (
+                                    (λ st g. (tt, g.1)),
+                                    (
+                                      (λ st g. (tt, g.1)),
+                                      (
+                                        (λ st g. (tt, g.1)),
+                                        (
+                                          (λ st g. (tt, g.1)),
+                                          tt,
+                                        ),
+                                      ),
+                                    ),
+                                  ),
+                                ),
+                              ),
+                            ),
+                          ),
+                        ),
+                      ),
+                    ),
+                  ),
+                ),
+              ),
+            ),
+          ),
+        ),
+      ),
+    ),
+  ),
+)
 
 good-the_prod : GoodRows TheProd prod_rows
-good-the_prod =
-    (((λ st g. (tt, (g.0, g.1))), (λ st g. (g.0.1, (g.0, g.1)))),
-    ((λ st g. (g.0, g.1)),
-    ((λ st g. (g.0, g.1)),
-    ((λ st g. (tt, (g.0, g.1))),
-    ((λ st g. (g.0, g.1)),
-    ((λ st g. (g.0, g.1)),
-    ((λ st g. (g.0.1, (g.0, g.1))),
-    ((λ st g. ((refl, (refl, (refl, (refl, (refl, refl))))), (tt, (g.0, g.1)))),
-    ((λ st g. ((refl, (refl, (refl, (refl, (refl, refl))))), (refl, ((refl, (refl, (refl, (refl, (refl, refl))))), (tt, (g.0, g.1)))))),
-    ((λ st g. (tt, (g.0, g.1))),
-    ((λ st g. (tt, (g.0, g.1))),
-    ((λ st g. (tt, (g.0, g.1))),
-    ((λ st g. (tt, (g.0, g.1))),
-    ((λ st g. (tt, (g.0, g.1))),
-    ((λ st g. (tt, (g.0, g.1))),
-    ((λ st g. (tt, (g.0, g.1))),
-    ((λ st g. (tt, (g.0, g.1))),
-    ((λ st g. (tt, (g.0, g.1))),
-    ((λ st g. (tt, (g.0, g.1))),
-    ((λ st g. (tt, (g.0, g.1))),
-    ((λ st g. (tt, (g.0, g.1))),
-    tt)))))))))))))))))))))
+good-the_prod = (
+  ((λ st g. (tt, (g.0, g.1))), (λ st g. (g.0.1, (g.0, g.1)))),
+  (
+    (λ st g. (g.0, g.1)),
+    (
+      (λ st g. (g.0, g.1)),
+      (
+        (λ st g. (tt, (g.0, g.1))),
+        (
+          (λ st g. (g.0, g.1)),
+          (
+            (λ st g. (g.0, g.1)),
+            (
+              (λ st g. (g.0.1, (g.0, g.1))),
+              (
+                (λ st g. ((refl, (refl, (refl, (refl, (refl, refl))))), (tt, (g.0, g.1)))),
+                (
+                  (λ st g. ((refl, (refl, (refl, (refl, (refl, refl))))), (refl, ((refl, (refl, (refl, (refl, (refl, refl))))), (tt, (g.0, g.1)))))),
+                  (
+                    (λ st g. (tt, (g.0, g.1))),
+                    (
+                      (λ st g. (tt, (g.0, g.1))),
+                      (
+                        (λ st g. (tt, (g.0, g.1))),
+                        (
+                          (λ st g. (tt, (g.0, g.1))),
+                          (
+                            (λ st g. (tt, (g.0, g.1))),
+                            (
+                              (λ st g. (tt, (g.0, g.1))),
+                              (
+                                (λ st g. (tt, (g.0, g.1))),
+                                (
+                                  (λ st g. (tt, (g.0, g.1))),
+                                  (
+                                    (λ st g. (tt, (g.0, g.1))),
+                                    (
+                                      (λ st g. (tt, (g.0, g.1))),
+                                      (
+                                        (λ st g. (tt, (g.0, g.1))),
+                                        (
+                                          (λ st g. (tt, (g.0, g.1))),
+                                          tt,
+                                        ),
+                                      ),
+                                    ),
+                                  ),
+                                ),
+                              ),
+                            ),
+                          ),
+                        ),
+                      ),
+                    ),
+                  ),
+                ),
+              ),
+            ),
+          ),
+        ),
+      ),
+    ),
+  ),
+)
 
 good-more_prod : GoodRows MoreProd more_prod_rows
-good-more_prod =
-    ((λ st g. (g.0.1, (g.0, g.1))),
-    ((λ st g. (g.0.1, (g.0, g.1))),
-    tt))
+good-more_prod = (
+  (λ st g. (g.0.1, (g.0, g.1))),
+  (
+    (λ st g. (g.0.1, (g.0, g.1))),
+    tt,
+  ),
+)
 
 good-the_sum : GoodRows TheSum sum_rows
-good-the_sum =
-    (((λ st g. (tt, (g.0.1, (g.0, g.1)))), (λ st g. (g.0.1.1, (g.0.1, (g.0, g.1))))),
-    ((λ st g. (g.0.1, (g.0, g.1))),
-    ((λ st g. (g.0.1, (g.0, g.1))),
-    ((λ st g. (tt, (g.0.1, (g.0, g.1)))),
-    ((λ st g. (g.0.1, (g.0, g.1))),
-    ((λ st g. (g.0.1, (g.0, g.1))),
-    ((λ st g. (g.0.1.1, (g.0.1, (g.0, g.1)))),
-    ((λ st g. ((refl, (refl, (refl, (refl, (refl, refl))))), (tt, (g.0.1, (g.0, g.1))))),
-    ((λ st g. ((refl, (refl, (refl, (refl, (refl, refl))))), (refl, ((refl, (refl, (refl, (refl, (refl, refl))))), (tt, (g.0.1, (g.0, g.1))))))),
-    ((λ st g. (tt, (g.0.1, (g.0, g.1)))),
-    ((λ st g. (tt, (g.0.1, (g.0, g.1)))),
-    ((λ st g. (tt, (g.0.1, (g.0, g.1)))),
-    ((λ st g. (tt, (g.0.1, (g.0, g.1)))),
-    ((λ st g. (tt, (g.0.1, (g.0, g.1)))),
-    ((λ st g. (tt, (g.0.1, (g.0, g.1)))),
-    ((λ st g. (tt, (g.0.1, (g.0, g.1)))),
-    ((λ st g. (tt, (g.0.1, (g.0, g.1)))),
-    ((λ st g. (tt, (g.0.1, (g.0, g.1)))),
-    ((λ st g. (tt, (g.0.1, (g.0, g.1)))),
-    ((λ st g. (tt, (g.0.1, (g.0, g.1)))),
-    ((λ st g. (tt, (g.0.1, (g.0, g.1)))),
-    tt)))))))))))))))))))))
+good-the_sum = (
+  ((λ st g. (tt, (g.0.1, (g.0, g.1)))), (λ st g. (g.0.1.1, (g.0.1, (g.0, g.1))))),
+  (
+    (λ st g. (g.0.1, (g.0, g.1))),
+    (
+      (λ st g. (g.0.1, (g.0, g.1))),
+      (
+        (λ st g. (tt, (g.0.1, (g.0, g.1)))),
+        (
+          (λ st g. (g.0.1, (g.0, g.1))),
+          (
+            (λ st g. (g.0.1, (g.0, g.1))),
+            (
+              (λ st g. (g.0.1.1, (g.0.1, (g.0, g.1)))),
+              (
+                (λ st g. ((refl, (refl, (refl, (refl, (refl, refl))))), (tt, (g.0.1, (g.0, g.1))))),
+                (
+                  (λ st g. ((refl, (refl, (refl, (refl, (refl, refl))))), (refl, ((refl, (refl, (refl, (refl, (refl, refl))))), (tt, (g.0.1, (g.0, g.1))))))),
+                  (
+                    (λ st g. (tt, (g.0.1, (g.0, g.1)))),
+                    (
+                      (λ st g. (tt, (g.0.1, (g.0, g.1)))),
+                      (
+                        (λ st g. (tt, (g.0.1, (g.0, g.1)))),
+                        (
+                          (λ st g. (tt, (g.0.1, (g.0, g.1)))),
+                          (
+                            (λ st g. (tt, (g.0.1, (g.0, g.1)))),
+                            (
+                              (λ st g. (tt, (g.0.1, (g.0, g.1)))),
+                              (
+                                (λ st g. (tt, (g.0.1, (g.0, g.1)))),
+                                (
+                                  (λ st g. (tt, (g.0.1, (g.0, g.1)))),
+                                  (
+                                    (λ st g. (tt, (g.0.1, (g.0, g.1)))),
+                                    (
+                                      (λ st g. (tt, (g.0.1, (g.0, g.1)))),
+                                      (
+                                        (λ st g. (tt, (g.0.1, (g.0, g.1)))),
+                                        (
+                                          (λ st g. (tt, (g.0.1, (g.0, g.1)))),
+                                          tt,
+                                        ),
+                                      ),
+                                    ),
+                                  ),
+                                ),
+                              ),
+                            ),
+                          ),
+                        ),
+                      ),
+                    ),
+                  ),
+                ),
+              ),
+            ),
+          ),
+        ),
+      ),
+    ),
+  ),
+)
 
 good-more_sum : GoodRows MoreSum more_sum_rows
-good-more_sum =
-    ((λ st g. (g.0.1, (g.0, g.1))),
-    ((λ st g. (g.0.1, (g.0, g.1))),
-    ((λ st g. (g.0.1, (g.0, g.1))),
-    tt)))
+good-more_sum = (
+  (λ st g. (g.0.1, (g.0, g.1))),
+  (
+    (λ st g. (g.0.1, (g.0, g.1))),
+    (
+      (λ st g. (g.0.1, (g.0, g.1))),
+      tt,
+    ),
+  ),
+)
 
 good-the_cmp : GoodRows TheCmp cmp_rows
-good-the_cmp =
-    (((λ st g. (tt, (g.0.1.1, (g.0.1, (g.0, g.1))))), (λ st g. (g.0.1.1.1, (g.0.1.1, (g.0.1, (g.0, g.1)))))),
-    ((λ st g. (g.0.1.1, (g.0.1, (g.0, g.1)))),
-    ((λ st g. (g.0.1.1, (g.0.1, (g.0, g.1)))),
-    ((λ st g. (tt, (g.0.1.1, (g.0.1, (g.0, g.1))))),
-    ((λ st g. (g.0.1.1, (g.0.1, (g.0, g.1)))),
-    ((λ st g. (g.0.1.1, (g.0.1, (g.0, g.1)))),
-    ((λ st g. (g.0.1.1.1, (g.0.1.1, (g.0.1, (g.0, g.1))))),
-    ((λ st g. ((refl, (refl, (refl, (refl, (refl, refl))))), (tt, (g.0.1.1, (g.0.1, (g.0, g.1)))))),
-    ((λ st g. ((refl, (refl, (refl, (refl, (refl, refl))))), (refl, ((refl, (refl, (refl, (refl, (refl, refl))))), (tt, (g.0.1.1, (g.0.1, (g.0, g.1)))))))),
-    ((λ st g. (tt, (g.0.1.1, (g.0.1, (g.0, g.1))))),
-    ((λ st g. (tt, (g.0.1.1, (g.0.1, (g.0, g.1))))),
-    ((λ st g. (tt, (g.0.1.1, (g.0.1, (g.0, g.1))))),
-    ((λ st g. (tt, (g.0.1.1, (g.0.1, (g.0, g.1))))),
-    ((λ st g. (tt, (g.0.1.1, (g.0.1, (g.0, g.1))))),
-    ((λ st g. (tt, (g.0.1.1, (g.0.1, (g.0, g.1))))),
-    ((λ st g. (tt, (g.0.1.1, (g.0.1, (g.0, g.1))))),
-    ((λ st g. (tt, (g.0.1.1, (g.0.1, (g.0, g.1))))),
-    ((λ st g. (tt, (g.0.1.1, (g.0.1, (g.0, g.1))))),
-    ((λ st g. (tt, (g.0.1.1, (g.0.1, (g.0, g.1))))),
-    ((λ st g. (tt, (g.0.1.1, (g.0.1, (g.0, g.1))))),
-    ((λ st g. (tt, (g.0.1.1, (g.0.1, (g.0, g.1))))),
-    tt)))))))))))))))))))))
+good-the_cmp = (
+  ((λ st g. (tt, (g.0.1.1, (g.0.1, (g.0, g.1))))), (λ st g. (g.0.1.1.1, (g.0.1.1, (g.0.1, (g.0, g.1)))))),
+  (
+    (λ st g. (g.0.1.1, (g.0.1, (g.0, g.1)))),
+    (
+      (λ st g. (g.0.1.1, (g.0.1, (g.0, g.1)))),
+      (
+        (λ st g. (tt, (g.0.1.1, (g.0.1, (g.0, g.1))))),
+        (
+          (λ st g. (g.0.1.1, (g.0.1, (g.0, g.1)))),
+          (
+            (λ st g. (g.0.1.1, (g.0.1, (g.0, g.1)))),
+            (
+              (λ st g. (g.0.1.1.1, (g.0.1.1, (g.0.1, (g.0, g.1))))),
+              (
+                (λ st g. ((refl, (refl, (refl, (refl, (refl, refl))))), (tt, (g.0.1.1, (g.0.1, (g.0, g.1)))))),
+                (
+                  (λ st g. ((refl, (refl, (refl, (refl, (refl, refl))))), (refl, ((refl, (refl, (refl, (refl, (refl, refl))))), (tt, (g.0.1.1, (g.0.1, (g.0, g.1)))))))),
+                  (
+                    (λ st g. (tt, (g.0.1.1, (g.0.1, (g.0, g.1))))),
+                    (
+                      (λ st g. (tt, (g.0.1.1, (g.0.1, (g.0, g.1))))),
+                      (
+                        (λ st g. (tt, (g.0.1.1, (g.0.1, (g.0, g.1))))),
+                        (
+                          (λ st g. (tt, (g.0.1.1, (g.0.1, (g.0, g.1))))),
+                          (
+                            (λ st g. (tt, (g.0.1.1, (g.0.1, (g.0, g.1))))),
+                            (
+                              (λ st g. (tt, (g.0.1.1, (g.0.1, (g.0, g.1))))),
+                              (
+                                (λ st g. (tt, (g.0.1.1, (g.0.1, (g.0, g.1))))),
+                                (
+                                  (λ st g. (tt, (g.0.1.1, (g.0.1, (g.0, g.1))))),
+                                  (
+                                    (λ st g. (tt, (g.0.1.1, (g.0.1, (g.0, g.1))))),
+                                    (
+                                      (λ st g. (tt, (g.0.1.1, (g.0.1, (g.0, g.1))))),
+                                      (
+                                        (λ st g. (tt, (g.0.1.1, (g.0.1, (g.0, g.1))))),
+                                        (
+                                          (λ st g. (tt, (g.0.1.1, (g.0.1, (g.0, g.1))))),
+                                          tt,
+                                        ),
+                                      ),
+                                    ),
+                                  ),
+                                ),
+                              ),
+                            ),
+                          ),
+                        ),
+                      ),
+                    ),
+                  ),
+                ),
+              ),
+            ),
+          ),
+        ),
+      ),
+    ),
+  ),
+)
 
 good-more_cmp : GoodRows MoreCmp more_cmp_rows
-good-more_cmp =
-    ((λ st g. (g.0.1, g.1)),
-    ((λ st g. (g.0.1, g.1)),
-    ((λ st g. (g.0.1, g.1)),
-    ((λ st g. (g.0.1, g.1)),
-    ((λ st g. (g.0.1, g.1)),
-    ((λ st g. (g.0.1, g.1)),
-    ((λ st g. (g.0.1, g.1)),
-    ((λ st g. (g.0.1, g.1)),
-    ((λ st g. (g.0.1, g.1)),
-    ((λ st g. (g.0.1, g.1)),
-    ((λ st g. (g.0.1, g.1)),
-    ((λ st g. (g.0.1, g.1)),
-    ((λ st g. (g.0.1, g.1)),
-    ((λ st g. (g.0.1, g.1)),
-    ((λ st g. (g.0.1, g.1)),
-    ((λ st g. (g.0.1, g.1)),
-    tt))))))))))))))))
+good-more_cmp = (
+  (λ st g. (g.0.1, g.1)),
+  (
+    (λ st g. (g.0.1, g.1)),
+    (
+      (λ st g. (g.0.1, g.1)),
+      (
+        (λ st g. (g.0.1, g.1)),
+        (
+          (λ st g. (g.0.1, g.1)),
+          (
+            (λ st g. (g.0.1, g.1)),
+            (
+              (λ st g. (g.0.1, g.1)),
+              (
+                (λ st g. (g.0.1, g.1)),
+                (
+                  (λ st g. (g.0.1, g.1)),
+                  (
+                    (λ st g. (g.0.1, g.1)),
+                    (
+                      (λ st g. (g.0.1, g.1)),
+                      (
+                        (λ st g. (g.0.1, g.1)),
+                        (
+                          (λ st g. (g.0.1, g.1)),
+                          (
+                            (λ st g. (g.0.1, g.1)),
+                            (
+                              (λ st g. (g.0.1, g.1)),
+                              (
+                                (λ st g. (g.0.1, g.1)),
+                                tt,
+                              ),
+                            ),
+                          ),
+                        ),
+                      ),
+                    ),
+                  ),
+                ),
+              ),
+            ),
+          ),
+        ),
+      ),
+    ),
+  ),
+)
 
 good-the_neg : GoodRows TheNeg neg_rows
-good-the_neg =
-    ((λ st g. (g.0, g.1)),
-    (((λ st g. (tt, (g.0.1.1, (g.0.1, (g.0, g.1))))), (λ st g. (g.0.1.1.1, (g.0.1.1, (g.0.1, (g.0, g.1)))))),
-    ((λ st g. (g.0.1.1, (g.0.1, (g.0, g.1)))),
-    ((λ st g. (g.0.1.1, (g.0.1, (g.0, g.1)))),
-    ((λ st g. (tt, (g.0.1.1, (g.0.1, (g.0, g.1))))),
-    ((λ st g. (g.0.1.1, (g.0.1, (g.0, g.1)))),
-    ((λ st g. (g.0.1.1, (g.0.1, (g.0, g.1)))),
-    ((λ st g. (g.0.1.1.1, (g.0.1.1, (g.0.1, (g.0, g.1))))),
-    ((λ st g. ((refl, (refl, (refl, (refl, (refl, refl))))), (tt, (g.0.1.1, (g.0.1, (g.0, g.1)))))),
-    ((λ st g. ((refl, (refl, (refl, (refl, (refl, refl))))), (refl, ((refl, (refl, (refl, (refl, (refl, refl))))), (tt, (g.0.1.1, (g.0.1, (g.0, g.1)))))))),
-    ((λ st g. (tt, (g.0.1.1, (g.0.1, (g.0, g.1))))),
-    ((λ st g. (tt, (g.0.1.1, (g.0.1, (g.0, g.1))))),
-    ((λ st g. (tt, (g.0.1.1, (g.0.1, (g.0, g.1))))),
-    ((λ st g. (tt, (g.0.1.1, (g.0.1, (g.0, g.1))))),
-    ((λ st g. (tt, (g.0.1.1, (g.0.1, (g.0, g.1))))),
-    ((λ st g. (tt, (g.0.1.1, (g.0.1, (g.0, g.1))))),
-    ((λ st g. (tt, (g.0.1.1, (g.0.1, (g.0, g.1))))),
-    ((λ st g. (tt, (g.0.1.1, (g.0.1, (g.0, g.1))))),
-    ((λ st g. (tt, (g.0.1.1, (g.0.1, (g.0, g.1))))),
-    ((λ st g. (tt, (g.0.1.1, (g.0.1, (g.0, g.1))))),
-    ((λ st g. (tt, (g.0.1.1, (g.0.1, (g.0, g.1))))),
-    ((λ st g. (tt, (g.0.1.1, (g.0.1, (g.0, g.1))))),
-    tt))))))))))))))))))))))
+good-the_neg = (
+  (λ st g. (g.0, g.1)),
+  (
+    ((λ st g. (tt, (g.0.1.1, (g.0.1, (g.0, g.1))))), (λ st g. (g.0.1.1.1, (g.0.1.1, (g.0.1, (g.0, g.1)))))),
+    (
+      (λ st g. (g.0.1.1, (g.0.1, (g.0, g.1)))),
+      (
+        (λ st g. (g.0.1.1, (g.0.1, (g.0, g.1)))),
+        (
+          (λ st g. (tt, (g.0.1.1, (g.0.1, (g.0, g.1))))),
+          (
+            (λ st g. (g.0.1.1, (g.0.1, (g.0, g.1)))),
+            (
+              (λ st g. (g.0.1.1, (g.0.1, (g.0, g.1)))),
+              (
+                (λ st g. (g.0.1.1.1, (g.0.1.1, (g.0.1, (g.0, g.1))))),
+                (
+                  (λ st g. ((refl, (refl, (refl, (refl, (refl, refl))))), (tt, (g.0.1.1, (g.0.1, (g.0, g.1)))))),
+                  (
+                    (λ st g. ((refl, (refl, (refl, (refl, (refl, refl))))), (refl, ((refl, (refl, (refl, (refl, (refl, refl))))), (tt, (g.0.1.1, (g.0.1, (g.0, g.1)))))))),
+                    (
+                      (λ st g. (tt, (g.0.1.1, (g.0.1, (g.0, g.1))))),
+                      (
+                        (λ st g. (tt, (g.0.1.1, (g.0.1, (g.0, g.1))))),
+                        (
+                          (λ st g. (tt, (g.0.1.1, (g.0.1, (g.0, g.1))))),
+                          (
+                            (λ st g. (tt, (g.0.1.1, (g.0.1, (g.0, g.1))))),
+                            (
+                              (λ st g. (tt, (g.0.1.1, (g.0.1, (g.0, g.1))))),
+                              (
+                                (λ st g. (tt, (g.0.1.1, (g.0.1, (g.0, g.1))))),
+                                (
+                                  (λ st g. (tt, (g.0.1.1, (g.0.1, (g.0, g.1))))),
+                                  (
+                                    (λ st g. (tt, (g.0.1.1, (g.0.1, (g.0, g.1))))),
+                                    (
+                                      (λ st g. (tt, (g.0.1.1, (g.0.1, (g.0, g.1))))),
+                                      (
+                                        (λ st g. (tt, (g.0.1.1, (g.0.1, (g.0, g.1))))),
+                                        (
+                                          (λ st g. (tt, (g.0.1.1, (g.0.1, (g.0, g.1))))),
+                                          (
+                                            (λ st g. (tt, (g.0.1.1, (g.0.1, (g.0, g.1))))),
+                                            tt,
+                                          ),
+                                        ),
+                                      ),
+                                    ),
+                                  ),
+                                ),
+                              ),
+                            ),
+                          ),
+                        ),
+                      ),
+                    ),
+                  ),
+                ),
+              ),
+            ),
+          ),
+        ),
+      ),
+    ),
+  ),
+)
 
 good-the_conj : GoodRows TheConj conj_rows
-good-the_conj =
-    ((λ st g. (g.0.1, (g.0, g.1))),
-    (((λ st g. (tt, (g.0.1.1.1, (g.0.1.1, (g.0.1, (g.0, g.1)))))), (λ st g. (g.0.1.1.1.1, (g.0.1.1.1, (g.0.1.1, (g.0.1, (g.0, g.1))))))),
-    ((λ st g. (g.0.1.1.1, (g.0.1.1, (g.0.1, (g.0, g.1))))),
-    ((λ st g. (g.0.1.1.1, (g.0.1.1, (g.0.1, (g.0, g.1))))),
-    ((λ st g. (tt, (g.0.1.1.1, (g.0.1.1, (g.0.1, (g.0, g.1)))))),
-    ((λ st g. (g.0.1.1.1, (g.0.1.1, (g.0.1, (g.0, g.1))))),
-    ((λ st g. (g.0.1.1.1, (g.0.1.1, (g.0.1, (g.0, g.1))))),
-    ((λ st g. (g.0.1.1.1.1, (g.0.1.1.1, (g.0.1.1, (g.0.1, (g.0, g.1)))))),
-    ((λ st g. ((refl, (refl, (refl, (refl, (refl, refl))))), (tt, (g.0.1.1.1, (g.0.1.1, (g.0.1, (g.0, g.1))))))),
-    ((λ st g. ((refl, (refl, (refl, (refl, (refl, refl))))), (refl, ((refl, (refl, (refl, (refl, (refl, refl))))), (tt, (g.0.1.1.1, (g.0.1.1, (g.0.1, (g.0, g.1))))))))),
-    ((λ st g. (tt, (g.0.1.1.1, (g.0.1.1, (g.0.1, (g.0, g.1)))))),
-    ((λ st g. (tt, (g.0.1.1.1, (g.0.1.1, (g.0.1, (g.0, g.1)))))),
-    ((λ st g. (tt, (g.0.1.1.1, (g.0.1.1, (g.0.1, (g.0, g.1)))))),
-    ((λ st g. (tt, (g.0.1.1.1, (g.0.1.1, (g.0.1, (g.0, g.1)))))),
-    ((λ st g. (tt, (g.0.1.1.1, (g.0.1.1, (g.0.1, (g.0, g.1)))))),
-    ((λ st g. (tt, (g.0.1.1.1, (g.0.1.1, (g.0.1, (g.0, g.1)))))),
-    ((λ st g. (tt, (g.0.1.1.1, (g.0.1.1, (g.0.1, (g.0, g.1)))))),
-    ((λ st g. (tt, (g.0.1.1.1, (g.0.1.1, (g.0.1, (g.0, g.1)))))),
-    ((λ st g. (tt, (g.0.1.1.1, (g.0.1.1, (g.0.1, (g.0, g.1)))))),
-    ((λ st g. (tt, (g.0.1.1.1, (g.0.1.1, (g.0.1, (g.0, g.1)))))),
-    ((λ st g. (tt, (g.0.1.1.1, (g.0.1.1, (g.0.1, (g.0, g.1)))))),
-    ((λ st g. (tt, (g.0.1.1.1, (g.0.1.1, (g.0.1, (g.0, g.1)))))),
-    tt))))))))))))))))))))))
+good-the_conj = (
+  (λ st g. (g.0.1, (g.0, g.1))),
+  (
+    ((λ st g. (tt, (g.0.1.1.1, (g.0.1.1, (g.0.1, (g.0, g.1)))))), (λ st g. (g.0.1.1.1.1, (g.0.1.1.1, (g.0.1.1, (g.0.1, (g.0, g.1))))))),
+    (
+      (λ st g. (g.0.1.1.1, (g.0.1.1, (g.0.1, (g.0, g.1))))),
+      (
+        (λ st g. (g.0.1.1.1, (g.0.1.1, (g.0.1, (g.0, g.1))))),
+        (
+          (λ st g. (tt, (g.0.1.1.1, (g.0.1.1, (g.0.1, (g.0, g.1)))))),
+          (
+            (λ st g. (g.0.1.1.1, (g.0.1.1, (g.0.1, (g.0, g.1))))),
+            (
+              (λ st g. (g.0.1.1.1, (g.0.1.1, (g.0.1, (g.0, g.1))))),
+              (
+                (λ st g. (g.0.1.1.1.1, (g.0.1.1.1, (g.0.1.1, (g.0.1, (g.0, g.1)))))),
+                (
+                  (λ st g. ((refl, (refl, (refl, (refl, (refl, refl))))), (tt, (g.0.1.1.1, (g.0.1.1, (g.0.1, (g.0, g.1))))))),
+                  (
+                    (λ st g. ((refl, (refl, (refl, (refl, (refl, refl))))), (refl, ((refl, (refl, (refl, (refl, (refl, refl))))), (tt, (g.0.1.1.1, (g.0.1.1, (g.0.1, (g.0, g.1))))))))),
+                    (
+                      (λ st g. (tt, (g.0.1.1.1, (g.0.1.1, (g.0.1, (g.0, g.1)))))),
+                      (
+                        (λ st g. (tt, (g.0.1.1.1, (g.0.1.1, (g.0.1, (g.0, g.1)))))),
+                        (
+                          (λ st g. (tt, (g.0.1.1.1, (g.0.1.1, (g.0.1, (g.0, g.1)))))),
+                          (
+                            (λ st g. (tt, (g.0.1.1.1, (g.0.1.1, (g.0.1, (g.0, g.1)))))),
+                            (
+                              (λ st g. (tt, (g.0.1.1.1, (g.0.1.1, (g.0.1, (g.0, g.1)))))),
+                              (
+                                (λ st g. (tt, (g.0.1.1.1, (g.0.1.1, (g.0.1, (g.0, g.1)))))),
+                                (
+                                  (λ st g. (tt, (g.0.1.1.1, (g.0.1.1, (g.0.1, (g.0, g.1)))))),
+                                  (
+                                    (λ st g. (tt, (g.0.1.1.1, (g.0.1.1, (g.0.1, (g.0, g.1)))))),
+                                    (
+                                      (λ st g. (tt, (g.0.1.1.1, (g.0.1.1, (g.0.1, (g.0, g.1)))))),
+                                      (
+                                        (λ st g. (tt, (g.0.1.1.1, (g.0.1.1, (g.0.1, (g.0, g.1)))))),
+                                        (
+                                          (λ st g. (tt, (g.0.1.1.1, (g.0.1.1, (g.0.1, (g.0, g.1)))))),
+                                          (
+                                            (λ st g. (tt, (g.0.1.1.1, (g.0.1.1, (g.0.1, (g.0, g.1)))))),
+                                            tt,
+                                          ),
+                                        ),
+                                      ),
+                                    ),
+                                  ),
+                                ),
+                              ),
+                            ),
+                          ),
+                        ),
+                      ),
+                    ),
+                  ),
+                ),
+              ),
+            ),
+          ),
+        ),
+      ),
+    ),
+  ),
+)
 
 good-more_and : GoodRows MoreAnd more_and_rows
 good-more_and = ((λ st g. (g.0.1, (g.0, g.1))), tt)
 
 good-the_scalar : GoodRows TheScalar scalar_rows
-good-the_scalar =
-    ((λ st g. (g.0.1.1, (g.0.1, (g.0, g.1)))),
-    (((λ st g. (tt, (g.0.1.1.1.1, (g.0.1.1.1, (g.0.1.1, (g.0.1, (g.0, g.1))))))), (λ st g. (g.0.1.1.1.1.1, (g.0.1.1.1.1, (g.0.1.1.1, (g.0.1.1, (g.0.1, (g.0, g.1)))))))),
-    ((λ st g. (g.0.1.1.1.1, (g.0.1.1.1, (g.0.1.1, (g.0.1, (g.0, g.1)))))),
-    ((λ st g. (g.0.1.1.1.1, (g.0.1.1.1, (g.0.1.1, (g.0.1, (g.0, g.1)))))),
-    ((λ st g. (tt, (g.0.1.1.1.1, (g.0.1.1.1, (g.0.1.1, (g.0.1, (g.0, g.1))))))),
-    ((λ st g. (g.0.1.1.1.1, (g.0.1.1.1, (g.0.1.1, (g.0.1, (g.0, g.1)))))),
-    ((λ st g. (g.0.1.1.1.1, (g.0.1.1.1, (g.0.1.1, (g.0.1, (g.0, g.1)))))),
-    ((λ st g. (g.0.1.1.1.1.1, (g.0.1.1.1.1, (g.0.1.1.1, (g.0.1.1, (g.0.1, (g.0, g.1))))))),
-    ((λ st g. ((refl, (refl, (refl, (refl, (refl, refl))))), (tt, (g.0.1.1.1.1, (g.0.1.1.1, (g.0.1.1, (g.0.1, (g.0, g.1)))))))),
-    ((λ st g. ((refl, (refl, (refl, (refl, (refl, refl))))), (refl, ((refl, (refl, (refl, (refl, (refl, refl))))), (tt, (g.0.1.1.1.1, (g.0.1.1.1, (g.0.1.1, (g.0.1, (g.0, g.1)))))))))),
-    ((λ st g. (tt, (g.0.1.1.1.1, (g.0.1.1.1, (g.0.1.1, (g.0.1, (g.0, g.1))))))),
-    ((λ st g. (tt, (g.0.1.1.1.1, (g.0.1.1.1, (g.0.1.1, (g.0.1, (g.0, g.1))))))),
-    ((λ st g. (tt, (g.0.1.1.1.1, (g.0.1.1.1, (g.0.1.1, (g.0.1, (g.0, g.1))))))),
-    ((λ st g. (tt, (g.0.1.1.1.1, (g.0.1.1.1, (g.0.1.1, (g.0.1, (g.0, g.1))))))),
-    ((λ st g. (tt, (g.0.1.1.1.1, (g.0.1.1.1, (g.0.1.1, (g.0.1, (g.0, g.1))))))),
-    ((λ st g. (tt, (g.0.1.1.1.1, (g.0.1.1.1, (g.0.1.1, (g.0.1, (g.0, g.1))))))),
-    ((λ st g. (tt, (g.0.1.1.1.1, (g.0.1.1.1, (g.0.1.1, (g.0.1, (g.0, g.1))))))),
-    ((λ st g. (tt, (g.0.1.1.1.1, (g.0.1.1.1, (g.0.1.1, (g.0.1, (g.0, g.1))))))),
-    ((λ st g. (tt, (g.0.1.1.1.1, (g.0.1.1.1, (g.0.1.1, (g.0.1, (g.0, g.1))))))),
-    ((λ st g. (tt, (g.0.1.1.1.1, (g.0.1.1.1, (g.0.1.1, (g.0.1, (g.0, g.1))))))),
-    ((λ st g. (tt, (g.0.1.1.1.1, (g.0.1.1.1, (g.0.1.1, (g.0.1, (g.0, g.1))))))),
-    ((λ st g. (tt, (g.0.1.1.1.1, (g.0.1.1.1, (g.0.1.1, (g.0.1, (g.0, g.1))))))),
-    tt))))))))))))))))))))))
+good-the_scalar = (
+  (λ st g. (g.0.1.1, (g.0.1, (g.0, g.1)))),
+  (
+    ((λ st g. (tt, (g.0.1.1.1.1, (g.0.1.1.1, (g.0.1.1, (g.0.1, (g.0, g.1))))))), (λ st g. (g.0.1.1.1.1.1, (g.0.1.1.1.1, (g.0.1.1.1, (g.0.1.1, (g.0.1, (g.0, g.1)))))))),
+    (
+      (λ st g. (g.0.1.1.1.1, (g.0.1.1.1, (g.0.1.1, (g.0.1, (g.0, g.1)))))),
+      (
+        (λ st g. (g.0.1.1.1.1, (g.0.1.1.1, (g.0.1.1, (g.0.1, (g.0, g.1)))))),
+        (
+          (λ st g. (tt, (g.0.1.1.1.1, (g.0.1.1.1, (g.0.1.1, (g.0.1, (g.0, g.1))))))),
+          (
+            (λ st g. (g.0.1.1.1.1, (g.0.1.1.1, (g.0.1.1, (g.0.1, (g.0, g.1)))))),
+            (
+              (λ st g. (g.0.1.1.1.1, (g.0.1.1.1, (g.0.1.1, (g.0.1, (g.0, g.1)))))),
+              (
+                (λ st g. (g.0.1.1.1.1.1, (g.0.1.1.1.1, (g.0.1.1.1, (g.0.1.1, (g.0.1, (g.0, g.1))))))),
+                (
+                  (λ st g. ((refl, (refl, (refl, (refl, (refl, refl))))), (tt, (g.0.1.1.1.1, (g.0.1.1.1, (g.0.1.1, (g.0.1, (g.0, g.1)))))))),
+                  (
+                    (λ st g. ((refl, (refl, (refl, (refl, (refl, refl))))), (refl, ((refl, (refl, (refl, (refl, (refl, refl))))), (tt, (g.0.1.1.1.1, (g.0.1.1.1, (g.0.1.1, (g.0.1, (g.0, g.1)))))))))),
+                    (
+                      (λ st g. (tt, (g.0.1.1.1.1, (g.0.1.1.1, (g.0.1.1, (g.0.1, (g.0, g.1))))))),
+                      (
+                        (λ st g. (tt, (g.0.1.1.1.1, (g.0.1.1.1, (g.0.1.1, (g.0.1, (g.0, g.1))))))),
+                        (
+                          (λ st g. (tt, (g.0.1.1.1.1, (g.0.1.1.1, (g.0.1.1, (g.0.1, (g.0, g.1))))))),
+                          (
+                            (λ st g. (tt, (g.0.1.1.1.1, (g.0.1.1.1, (g.0.1.1, (g.0.1, (g.0, g.1))))))),
+                            (
+                              (λ st g. (tt, (g.0.1.1.1.1, (g.0.1.1.1, (g.0.1.1, (g.0.1, (g.0, g.1))))))),
+                              (
+                                (λ st g. (tt, (g.0.1.1.1.1, (g.0.1.1.1, (g.0.1.1, (g.0.1, (g.0, g.1))))))),
+                                (
+                                  (λ st g. (tt, (g.0.1.1.1.1, (g.0.1.1.1, (g.0.1.1, (g.0.1, (g.0, g.1))))))),
+                                  (
+                                    (λ st g. (tt, (g.0.1.1.1.1, (g.0.1.1.1, (g.0.1.1, (g.0.1, (g.0, g.1))))))),
+                                    (
+                                      (λ st g. (tt, (g.0.1.1.1.1, (g.0.1.1.1, (g.0.1.1, (g.0.1, (g.0, g.1))))))),
+                                      (
+                                        (λ st g. (tt, (g.0.1.1.1.1, (g.0.1.1.1, (g.0.1.1, (g.0.1, (g.0, g.1))))))),
+                                        (
+                                          (λ st g. (tt, (g.0.1.1.1.1, (g.0.1.1.1, (g.0.1.1, (g.0.1, (g.0, g.1))))))),
+                                          (
+                                            (λ st g. (tt, (g.0.1.1.1.1, (g.0.1.1.1, (g.0.1.1, (g.0.1, (g.0, g.1))))))),
+                                            tt,
+                                          ),
+                                        ),
+                                      ),
+                                    ),
+                                  ),
+                                ),
+                              ),
+                            ),
+                          ),
+                        ),
+                      ),
+                    ),
+                  ),
+                ),
+              ),
+            ),
+          ),
+        ),
+      ),
+    ),
+  ),
+)
 
 good-more_or : GoodRows MoreOr more_or_rows
 good-more_or = ((λ st g. (g.0.1, (g.0, g.1))), tt)
 
 good-the_point : GoodRows ThePoint point_rows
-good-the_point =
-    ((λ st g. g.1),
-    ((λ st g. g.1),
-    ((λ st g. g.1),
-    tt)))
+good-the_point = (
+  (λ st g. g.1),
+  (
+    (λ st g. g.1),
+    (
+      (λ st g. g.1),
+      tt,
+    ),
+  ),
+)
 
 good-the_kind : GoodRows TheKind kind_rows
-good-the_kind =
-    ((λ st g. g.1),
-    ((λ st g. g.1),
-    ((λ st g. (tt, g.1)),
-    ((λ st g. g.1),
-    ((λ st g. g.1),
-    ((λ st g. g.1),
-    tt))))))
+good-the_kind = (
+  (λ st g. g.1),
+  (
+    (λ st g. g.1),
+    (
+      (λ st g. (tt, g.1)),
+      (
+        (λ st g. g.1),
+        (
+          (λ st g. g.1),
+          (
+            (λ st g. g.1),
+            tt,
+          ),
+        ),
+      ),
+    ),
+  ),
+)
 
 good-the_attribute : GoodRows TheAttribute attribute_rows
 good-the_attribute = ((λ st g. (tt, g.1)), tt)
@@ -711,10 +1104,13 @@ good-more_attributes : GoodRows MoreAttributes more_attributes_rows
 good-more_attributes = ((λ st g. (tt, (g.0, g.1))), tt)
 
 good-in_heading : GoodRows InHeading in_heading_rows
-good-in_heading =
-    ((λ st g. g.1),
-    ((λ st g. (tt, (refl, (refl, g.1)))),
-    tt))
+good-in_heading = (
+  (λ st g. g.1),
+  (
+    (λ st g. (tt, (refl, (refl, g.1)))),
+    tt,
+  ),
+)
 
 good-the_heading : GoodRows TheHeading heading_rows
 good-the_heading = ((λ st g. (tt, g.1)), tt)
@@ -723,16 +1119,22 @@ good-more_names : GoodRows MoreNames more_names_rows
 good-more_names = ((λ st g. (tt, (g.0, g.1))), tt)
 
 good-in_names : GoodRows InNames in_names_rows
-good-in_names =
-    ((λ st g. g.1),
-    ((λ st g. (refl, (refl, g.1))),
-    tt))
+good-in_names = (
+  (λ st g. g.1),
+  (
+    (λ st g. (refl, (refl, g.1))),
+    tt,
+  ),
+)
 
 good-in_list : GoodRows InList in_list_rows
-good-in_list =
-    ((λ st g. g.1),
-    ((λ st g. (refl, (refl, g.1))),
-    tt))
+good-in_list = (
+  (λ st g. g.1),
+  (
+    (λ st g. (refl, (refl, g.1))),
+    tt,
+  ),
+)
 
 good-the_names : GoodRows TheNames names_rows
 good-the_names = ((λ st g. (tt, g.1)), tt)
@@ -753,10 +1155,13 @@ good-more_elements : GoodRows MoreElements more_elements_rows
 good-more_elements = ((λ st g. (g.0.1, (g.0, g.1))), tt)
 
 good-in_elements : GoodRows InElements in_elements_rows
-good-in_elements =
-    ((λ st g. g.1),
-    ((λ st g. ((refl, (refl, (refl, (refl, (refl, refl))))), ((refl, (refl, (refl, (refl, (refl, (refl, refl)))))), (refl, g.1)))),
-    tt))
+good-in_elements = (
+  (λ st g. g.1),
+  (
+    (λ st g. ((refl, (refl, (refl, (refl, (refl, refl))))), ((refl, (refl, (refl, (refl, (refl, (refl, refl)))))), (refl, g.1)))),
+    tt,
+  ),
+)
 
 good-the_elements : GoodRows TheElements elements_rows
 good-the_elements = ((λ st g. (tt, g.1)), tt)
@@ -771,10 +1176,13 @@ good-more_tuples : GoodRows MoreTuples more_tuples_rows
 good-more_tuples = ((λ st g. (tt, (g.0, g.1))), tt)
 
 good-in_tuples : GoodRows InTuples in_tuples_rows
-good-in_tuples =
-    ((λ st g. g.1),
-    ((λ st g. (tt, (refl, (refl, g.1)))),
-    tt))
+good-in_tuples = (
+  (λ st g. g.1),
+  (
+    (λ st g. (tt, (refl, (refl, g.1)))),
+    tt,
+  ),
+)
 
 good-the_tuples : GoodRows TheTuples tuples_rows
 good-the_tuples = ((λ st g. (tt, g.1)), tt)
@@ -798,12 +1206,19 @@ good-empty_parens : GoodRows EmptyParens empty_parens_rows
 good-empty_parens = ((λ st g. (refl, g.1)), tt)
 
 good-the_aggregate_form : GoodRows TheAggregateForm aggregate_form_rows
-good-the_aggregate_form =
-    ((λ st g. (tt, g.1)),
-    ((λ st g. (tt, g.1)),
-    ((λ st g. (tt, g.1)),
-    ((λ st g. (tt, g.1)),
-    tt))))
+good-the_aggregate_form = (
+  (λ st g. (tt, g.1)),
+  (
+    (λ st g. (tt, g.1)),
+    (
+      (λ st g. (tt, g.1)),
+      (
+        (λ st g. (tt, g.1)),
+        tt,
+      ),
+    ),
+  ),
+)
 
 good-the_aggregate : GoodRows TheAggregate aggregate_rows
 good-the_aggregate = ((λ st g. (refl, (tt, g.1))), tt)
@@ -833,20 +1248,34 @@ good-maybe_where : GoodRows MaybeWhere maybe_where_rows
 good-maybe_where = ((λ st g. (g.0.1, g.1)), tt)
 
 good-in_projection : GoodRows InProjection in_projection_rows
-good-in_projection =
-    ((λ st g. g.1),
-    ((λ st g. (refl, (refl, g.1))),
-    ((λ st g. (refl, (tt, (refl, (refl, g.1))))),
-    tt)))
+good-in_projection = (
+  (λ st g. g.1),
+  (
+    (λ st g. (refl, (refl, g.1))),
+    (
+      (λ st g. (refl, (tt, (refl, (refl, g.1))))),
+      tt,
+    ),
+  ),
+)
 
 good-the_operand : GoodRows TheOperand operand_rows
-good-the_operand =
-    ((λ st g. g.1),
-    ((λ st g. (tt, g.1)),
-    ((λ st g. ((refl, (refl, (refl, (refl, (refl, (refl, (refl, refl))))))), (refl, g.1))),
-    ((λ st g. ((refl, (refl, (refl, (refl, (refl, (refl, (refl, refl))))))), (refl, (tt, g.1)))),
-    ((λ st g. ((refl, (refl, (refl, (refl, (refl, (refl, (refl, refl))))))), (refl, (tt, g.1)))),
-    tt)))))
+good-the_operand = (
+  (λ st g. g.1),
+  (
+    (λ st g. (tt, g.1)),
+    (
+      (λ st g. ((refl, (refl, (refl, (refl, (refl, (refl, (refl, refl))))))), (refl, g.1))),
+      (
+        (λ st g. ((refl, (refl, (refl, (refl, (refl, (refl, (refl, refl))))))), (refl, (tt, g.1)))),
+        (
+          (λ st g. ((refl, (refl, (refl, (refl, (refl, (refl, (refl, refl))))))), (refl, (tt, g.1)))),
+          tt,
+        ),
+      ),
+    ),
+  ),
+)
 
 good-the_extend : GoodRows TheExtend extend_rows
 good-the_extend = ((λ st g. ((refl, (refl, (refl, (refl, (refl, (refl, (refl, refl))))))), (refl, (tt, g.1)))), tt)
@@ -855,92 +1284,190 @@ good-the_summarize : GoodRows TheSummarize summarize_rows
 good-the_summarize = ((λ st g. ((refl, (refl, (refl, (refl, (refl, (refl, (refl, refl))))))), (refl, (tt, (refl, (tt, g.1)))))), tt)
 
 good-the_rel_primary : GoodRows TheRelPrimary rel_primary_rows
-good-the_rel_primary =
-    ((λ st g. ((refl, (refl, (refl, (refl, (refl, (refl, (refl, refl))))))), (refl, (tt, g.1)))),
-    ((λ st g. ((refl, (refl, (refl, (refl, (refl, (refl, (refl, refl))))))), (refl, (tt, (refl, (tt, g.1)))))),
-    ((λ st g. g.1),
-    ((λ st g. (tt, g.1)),
-    ((λ st g. ((refl, (refl, (refl, (refl, (refl, (refl, (refl, refl))))))), (refl, g.1))),
-    ((λ st g. ((refl, (refl, (refl, (refl, (refl, (refl, (refl, refl))))))), (refl, (tt, g.1)))),
-    ((λ st g. ((refl, (refl, (refl, (refl, (refl, (refl, (refl, refl))))))), (refl, (tt, g.1)))),
-    tt)))))))
+good-the_rel_primary = (
+  (λ st g. ((refl, (refl, (refl, (refl, (refl, (refl, (refl, refl))))))), (refl, (tt, g.1)))),
+  (
+    (λ st g. ((refl, (refl, (refl, (refl, (refl, (refl, (refl, refl))))))), (refl, (tt, (refl, (tt, g.1)))))),
+    (
+      (λ st g. g.1),
+      (
+        (λ st g. (tt, g.1)),
+        (
+          (λ st g. ((refl, (refl, (refl, (refl, (refl, (refl, (refl, refl))))))), (refl, g.1))),
+          (
+            (λ st g. ((refl, (refl, (refl, (refl, (refl, (refl, (refl, refl))))))), (refl, (tt, g.1)))),
+            (
+              (λ st g. ((refl, (refl, (refl, (refl, (refl, (refl, (refl, refl))))))), (refl, (tt, g.1)))),
+              tt,
+            ),
+          ),
+        ),
+      ),
+    ),
+  ),
+)
 
 good-the_term : GoodRows TheTerm term_rows
-good-the_term =
-    ((λ st g. ((refl, (refl, (refl, (refl, (refl, (refl, (refl, refl))))))), (refl, (tt, (g.0, g.1))))),
-    ((λ st g. ((refl, (refl, (refl, (refl, (refl, (refl, (refl, refl))))))), (refl, (tt, (refl, (tt, (g.0, g.1))))))),
-    ((λ st g. (g.0, g.1)),
-    ((λ st g. (tt, (g.0, g.1))),
-    ((λ st g. ((refl, (refl, (refl, (refl, (refl, (refl, (refl, refl))))))), (refl, (g.0, g.1)))),
-    ((λ st g. ((refl, (refl, (refl, (refl, (refl, (refl, (refl, refl))))))), (refl, (tt, (g.0, g.1))))),
-    ((λ st g. ((refl, (refl, (refl, (refl, (refl, (refl, (refl, refl))))))), (refl, (tt, (g.0, g.1))))),
-    tt)))))))
+good-the_term = (
+  (λ st g. ((refl, (refl, (refl, (refl, (refl, (refl, (refl, refl))))))), (refl, (tt, (g.0, g.1))))),
+  (
+    (λ st g. ((refl, (refl, (refl, (refl, (refl, (refl, (refl, refl))))))), (refl, (tt, (refl, (tt, (g.0, g.1))))))),
+    (
+      (λ st g. (g.0, g.1)),
+      (
+        (λ st g. (tt, (g.0, g.1))),
+        (
+          (λ st g. ((refl, (refl, (refl, (refl, (refl, (refl, (refl, refl))))))), (refl, (g.0, g.1)))),
+          (
+            (λ st g. ((refl, (refl, (refl, (refl, (refl, (refl, (refl, refl))))))), (refl, (tt, (g.0, g.1))))),
+            (
+              (λ st g. ((refl, (refl, (refl, (refl, (refl, (refl, (refl, refl))))))), (refl, (tt, (g.0, g.1))))),
+              tt,
+            ),
+          ),
+        ),
+      ),
+    ),
+  ),
+)
 
 good-more_postfix : GoodRows MorePostfix more_postfix_rows
-good-more_postfix =
-    ((λ st g. (tt, (g.0, g.1))),
-    ((λ st g. (g.0.1, (g.0, g.1))),
-    ((λ st g. (tt, (g.0, g.1))),
-    tt)))
+good-more_postfix = (
+  (λ st g. (tt, (g.0, g.1))),
+  (
+    (λ st g. (g.0.1, (g.0, g.1))),
+    (
+      (λ st g. (tt, (g.0, g.1))),
+      tt,
+    ),
+  ),
+)
 
 good-the_terms : GoodRows TheTerms terms_rows
-good-the_terms =
-    ((λ st g. ((refl, (refl, (refl, (refl, (refl, (refl, (refl, refl))))))), (refl, (tt, (g.0.1, (g.0, g.1)))))),
-    ((λ st g. ((refl, (refl, (refl, (refl, (refl, (refl, (refl, refl))))))), (refl, (tt, (refl, (tt, (g.0.1, (g.0, g.1)))))))),
-    ((λ st g. (g.0.1, (g.0, g.1))),
-    ((λ st g. (tt, (g.0.1, (g.0, g.1)))),
-    ((λ st g. ((refl, (refl, (refl, (refl, (refl, (refl, (refl, refl))))))), (refl, (g.0.1, (g.0, g.1))))),
-    ((λ st g. ((refl, (refl, (refl, (refl, (refl, (refl, (refl, refl))))))), (refl, (tt, (g.0.1, (g.0, g.1)))))),
-    ((λ st g. ((refl, (refl, (refl, (refl, (refl, (refl, (refl, refl))))))), (refl, (tt, (g.0.1, (g.0, g.1)))))),
-    tt)))))))
+good-the_terms = (
+  (λ st g. ((refl, (refl, (refl, (refl, (refl, (refl, (refl, refl))))))), (refl, (tt, (g.0.1, (g.0, g.1)))))),
+  (
+    (λ st g. ((refl, (refl, (refl, (refl, (refl, (refl, (refl, refl))))))), (refl, (tt, (refl, (tt, (g.0.1, (g.0, g.1)))))))),
+    (
+      (λ st g. (g.0.1, (g.0, g.1))),
+      (
+        (λ st g. (tt, (g.0.1, (g.0, g.1)))),
+        (
+          (λ st g. ((refl, (refl, (refl, (refl, (refl, (refl, (refl, refl))))))), (refl, (g.0.1, (g.0, g.1))))),
+          (
+            (λ st g. ((refl, (refl, (refl, (refl, (refl, (refl, (refl, refl))))))), (refl, (tt, (g.0.1, (g.0, g.1)))))),
+            (
+              (λ st g. ((refl, (refl, (refl, (refl, (refl, (refl, (refl, refl))))))), (refl, (tt, (g.0.1, (g.0, g.1)))))),
+              tt,
+            ),
+          ),
+        ),
+      ),
+    ),
+  ),
+)
 
 good-more_infix : GoodRows MoreInfix more_infix_rows
-good-more_infix =
-    ((λ st g. (g.0.1, (g.0, g.1))),
-    ((λ st g. (g.0.1, (g.0, g.1))),
-    ((λ st g. (g.0.1, (g.0, g.1))),
-    ((λ st g. (g.0.1, (g.0, g.1))),
-    ((λ st g. (g.0.1, (g.0, g.1))),
-    ((λ st g. (refl, (g.0.1, (g.0, g.1)))),
-    tt))))))
+good-more_infix = (
+  (λ st g. (g.0.1, (g.0, g.1))),
+  (
+    (λ st g. (g.0.1, (g.0, g.1))),
+    (
+      (λ st g. (g.0.1, (g.0, g.1))),
+      (
+        (λ st g. (g.0.1, (g.0, g.1))),
+        (
+          (λ st g. (g.0.1, (g.0, g.1))),
+          (
+            (λ st g. (refl, (g.0.1, (g.0, g.1)))),
+            tt,
+          ),
+        ),
+      ),
+    ),
+  ),
+)
 
 good-the_using : GoodRows TheUsing using_rows
 good-the_using = ((λ st g. (tt, (refl, (g.0, g.1)))), tt)
 
 good-the_rel : GoodRows TheRel rel_rows
-good-the_rel =
-    ((λ st g. (tt, (refl, (g.0.1.1, g.1)))),
-    ((λ st g. ((refl, (refl, (refl, (refl, (refl, (refl, (refl, refl))))))), (refl, (tt, (g.0.1, (g.0, g.1)))))),
-    ((λ st g. ((refl, (refl, (refl, (refl, (refl, (refl, (refl, refl))))))), (refl, (tt, (refl, (tt, (g.0.1, (g.0, g.1)))))))),
-    ((λ st g. (g.0.1, (g.0, g.1))),
-    ((λ st g. (tt, (g.0.1, (g.0, g.1)))),
-    ((λ st g. ((refl, (refl, (refl, (refl, (refl, (refl, (refl, refl))))))), (refl, (g.0.1, (g.0, g.1))))),
-    ((λ st g. ((refl, (refl, (refl, (refl, (refl, (refl, (refl, refl))))))), (refl, (tt, (g.0.1, (g.0, g.1)))))),
-    ((λ st g. ((refl, (refl, (refl, (refl, (refl, (refl, (refl, refl))))))), (refl, (tt, (g.0.1, (g.0, g.1)))))),
-    tt))))))))
+good-the_rel = (
+  (λ st g. (tt, (refl, (g.0.1.1, g.1)))),
+  (
+    (λ st g. ((refl, (refl, (refl, (refl, (refl, (refl, (refl, refl))))))), (refl, (tt, (g.0.1, (g.0, g.1)))))),
+    (
+      (λ st g. ((refl, (refl, (refl, (refl, (refl, (refl, (refl, refl))))))), (refl, (tt, (refl, (tt, (g.0.1, (g.0, g.1)))))))),
+      (
+        (λ st g. (g.0.1, (g.0, g.1))),
+        (
+          (λ st g. (tt, (g.0.1, (g.0, g.1)))),
+          (
+            (λ st g. ((refl, (refl, (refl, (refl, (refl, (refl, (refl, refl))))))), (refl, (g.0.1, (g.0, g.1))))),
+            (
+              (λ st g. ((refl, (refl, (refl, (refl, (refl, (refl, (refl, refl))))))), (refl, (tt, (g.0.1, (g.0, g.1)))))),
+              (
+                (λ st g. ((refl, (refl, (refl, (refl, (refl, (refl, (refl, refl))))))), (refl, (tt, (g.0.1, (g.0, g.1)))))),
+                tt,
+              ),
+            ),
+          ),
+        ),
+      ),
+    ),
+  ),
+)
 
 good-the_using_part : GoodRows TheUsingPart using_part_rows
-good-the_using_part =
-    ((λ st g. ((refl, (refl, (refl, (refl, (refl, (refl, (refl, refl))))))), (refl, (tt, g.1)))),
-    ((λ st g. ((refl, (refl, (refl, (refl, (refl, (refl, (refl, refl))))))), (refl, (tt, (refl, (tt, g.1)))))),
-    ((λ st g. (g.0, g.1)),
-    ((λ st g. (tt, (g.0, g.1))),
-    ((λ st g. ((refl, (refl, (refl, (refl, (refl, (refl, (refl, refl))))))), (refl, (g.0, g.1)))),
-    ((λ st g. ((refl, (refl, (refl, (refl, (refl, (refl, (refl, refl))))))), (refl, (tt, (g.0, g.1))))),
-    ((λ st g. ((refl, (refl, (refl, (refl, (refl, (refl, (refl, refl))))))), (refl, (tt, (g.0, g.1))))),
-    tt)))))))
+good-the_using_part = (
+  (λ st g. ((refl, (refl, (refl, (refl, (refl, (refl, (refl, refl))))))), (refl, (tt, g.1)))),
+  (
+    (λ st g. ((refl, (refl, (refl, (refl, (refl, (refl, (refl, refl))))))), (refl, (tt, (refl, (tt, g.1)))))),
+    (
+      (λ st g. (g.0, g.1)),
+      (
+        (λ st g. (tt, (g.0, g.1))),
+        (
+          (λ st g. ((refl, (refl, (refl, (refl, (refl, (refl, (refl, refl))))))), (refl, (g.0, g.1)))),
+          (
+            (λ st g. ((refl, (refl, (refl, (refl, (refl, (refl, (refl, refl))))))), (refl, (tt, (g.0, g.1))))),
+            (
+              (λ st g. ((refl, (refl, (refl, (refl, (refl, (refl, (refl, refl))))))), (refl, (tt, (g.0, g.1))))),
+              tt,
+            ),
+          ),
+        ),
+      ),
+    ),
+  ),
+)
 
 good-after_operand : GoodRows AfterOperand after_operand_rows
-good-after_operand =
-    ((λ st g. (tt, g.1)),
-    ((λ st g. (tt, g.1)),
-    ((λ st g. (tt, g.1)),
-    ((λ st g. (tt, g.1)),
-    ((λ st g. (tt, g.1)),
-    ((λ st g. (refl, (tt, g.1))),
-    ((λ st g. (tt, g.1)),
-    ((λ st g. (g.0, g.1)),
-    tt))))))))
+good-after_operand = (
+  (λ st g. (tt, g.1)),
+  (
+    (λ st g. (tt, g.1)),
+    (
+      (λ st g. (tt, g.1)),
+      (
+        (λ st g. (tt, g.1)),
+        (
+          (λ st g. (tt, g.1)),
+          (
+            (λ st g. (refl, (tt, g.1))),
+            (
+              (λ st g. (tt, g.1)),
+              (
+                (λ st g. (g.0, g.1)),
+                tt,
+              ),
+            ),
+          ),
+        ),
+      ),
+    ),
+  ),
+)
 
 good-the_key : GoodRows TheKey key_rows
 good-the_key = ((λ st g. (tt, g.1)), tt)
@@ -949,142 +1476,289 @@ good-the_foreign : GoodRows TheForeign foreign_rows
 good-the_foreign = ((λ st g. (refl, (tt, (refl, (tt, g.1))))), tt)
 
 good-the_used_constraint : GoodRows TheUsedConstraint used_constraint_rows
-good-the_used_constraint =
-    ((λ st g. (tt, g.1)),
-    ((λ st g. (refl, (tt, (refl, (tt, g.1))))),
-    tt))
+good-the_used_constraint = (
+  (λ st g. (tt, g.1)),
+  (
+    (λ st g. (refl, (tt, (refl, (tt, g.1))))),
+    tt,
+  ),
+)
 
 good-the_constraint : GoodRows TheConstraint constraint_rows
-good-the_constraint =
-    ((λ st g. (tt, g.1)),
-    ((λ st g. (refl, (tt, (refl, (tt, g.1))))),
-    ((λ st g. (refl, (tt, g.1))),
-    ((λ st g. (refl, (refl, (tt, (refl, (tt, g.1)))))),
-    ((λ st g. (tt, (refl, (tt, g.1)))),
-    tt)))))
+good-the_constraint = (
+  (λ st g. (tt, g.1)),
+  (
+    (λ st g. (refl, (tt, (refl, (tt, g.1))))),
+    (
+      (λ st g. (refl, (tt, g.1))),
+      (
+        (λ st g. (refl, (refl, (tt, (refl, (tt, g.1)))))),
+        (
+          (λ st g. (tt, (refl, (tt, g.1)))),
+          tt,
+        ),
+      ),
+    ),
+  ),
+)
 
 good-more_constraints : GoodRows MoreConstraints more_constraints_rows
-good-more_constraints =
-    ((λ st g. (tt, (g.0, g.1))),
-    ((λ st g. (refl, (tt, (refl, (tt, (g.0, g.1)))))),
-    ((λ st g. (refl, (tt, (g.0, g.1)))),
-    ((λ st g. (refl, (refl, (tt, (refl, (tt, (g.0, g.1))))))),
-    ((λ st g. (tt, (refl, (tt, (g.0, g.1))))),
-    tt)))))
+good-more_constraints = (
+  (λ st g. (tt, (g.0, g.1))),
+  (
+    (λ st g. (refl, (tt, (refl, (tt, (g.0, g.1)))))),
+    (
+      (λ st g. (refl, (tt, (g.0, g.1)))),
+      (
+        (λ st g. (refl, (refl, (tt, (refl, (tt, (g.0, g.1))))))),
+        (
+          (λ st g. (tt, (refl, (tt, (g.0, g.1))))),
+          tt,
+        ),
+      ),
+    ),
+  ),
+)
 
 good-in_rel : GoodRows InRel in_rel_rows
 good-in_rel = ((λ st g. ((refl, (refl, (refl, (refl, (refl, (refl, (refl, refl))))))), (refl, g.1))), tt)
 
 good-the_var_form : GoodRows TheVarForm var_form_rows
-good-the_var_form =
-    ((λ st g. (tt, (g.0, g.1))),
-    ((λ st g. (tt, g.1)),
-    tt))
+good-the_var_form = (
+  (λ st g. (tt, (g.0, g.1))),
+  (
+    (λ st g. (tt, g.1)),
+    tt,
+  ),
+)
 
 good-the_comparison : GoodRows TheComparison comparison_rows
-good-the_comparison =
-    ((λ st g. (tt, g.1)),
-    ((λ st g. (tt, (tt, g.1))),
-    ((λ st g. ((refl, (refl, (refl, (refl, (refl, (refl, (refl, refl))))))), (refl, (tt, g.1)))),
-    ((λ st g. ((refl, (refl, (refl, (refl, (refl, (refl, (refl, refl))))))), (refl, (tt, (tt, g.1))))),
-    ((λ st g. ((refl, (refl, (refl, (refl, (refl, (refl, (refl, refl))))))), (refl, (tt, (tt, g.1))))),
-    tt)))))
+good-the_comparison = (
+  (λ st g. (tt, g.1)),
+  (
+    (λ st g. (tt, (tt, g.1))),
+    (
+      (λ st g. ((refl, (refl, (refl, (refl, (refl, (refl, (refl, refl))))))), (refl, (tt, g.1)))),
+      (
+        (λ st g. ((refl, (refl, (refl, (refl, (refl, (refl, (refl, refl))))))), (refl, (tt, (tt, g.1))))),
+        (
+          (λ st g. ((refl, (refl, (refl, (refl, (refl, (refl, (refl, refl))))))), (refl, (tt, (tt, g.1))))),
+          tt,
+        ),
+      ),
+    ),
+  ),
+)
 
 good-after_left : GoodRows AfterLeft after_left_rows
-good-after_left =
-    ((λ st g. (tt, g.1)),
-    ((λ st g. (tt, g.1)),
-    ((λ st g. (tt, g.1)),
-    ((λ st g. (tt, g.1)),
-    ((λ st g. (tt, g.1)),
-    ((λ st g. (tt, g.1)),
-    tt))))))
+good-after_left = (
+  (λ st g. (tt, g.1)),
+  (
+    (λ st g. (tt, g.1)),
+    (
+      (λ st g. (tt, g.1)),
+      (
+        (λ st g. (tt, g.1)),
+        (
+          (λ st g. (tt, g.1)),
+          (
+            (λ st g. (tt, g.1)),
+            tt,
+          ),
+        ),
+      ),
+    ),
+  ),
+)
 
 good-the_test : GoodRows TheTest test_rows
-good-the_test =
-    ((λ st g. (tt, (refl, (tt, g.1)))),
-    ((λ st g. (tt, g.1)),
-    ((λ st g. (tt, g.1)),
-    ((λ st g. (tt, g.1)),
-    ((λ st g. (tt, (tt, g.1))),
-    ((λ st g. ((refl, (refl, (refl, (refl, (refl, (refl, (refl, refl))))))), (refl, (tt, g.1)))),
-    ((λ st g. ((refl, (refl, (refl, (refl, (refl, (refl, (refl, refl))))))), (refl, (tt, (tt, g.1))))),
-    ((λ st g. ((refl, (refl, (refl, (refl, (refl, (refl, (refl, refl))))))), (refl, (tt, (tt, g.1))))),
-    tt))))))))
+good-the_test = (
+  (λ st g. (tt, (refl, (tt, g.1)))),
+  (
+    (λ st g. (tt, g.1)),
+    (
+      (λ st g. (tt, g.1)),
+      (
+        (λ st g. (tt, g.1)),
+        (
+          (λ st g. (tt, (tt, g.1))),
+          (
+            (λ st g. ((refl, (refl, (refl, (refl, (refl, (refl, (refl, refl))))))), (refl, (tt, g.1)))),
+            (
+              (λ st g. ((refl, (refl, (refl, (refl, (refl, (refl, (refl, refl))))))), (refl, (tt, (tt, g.1))))),
+              (
+                (λ st g. ((refl, (refl, (refl, (refl, (refl, (refl, (refl, refl))))))), (refl, (tt, (tt, g.1))))),
+                tt,
+              ),
+            ),
+          ),
+        ),
+      ),
+    ),
+  ),
+)
 
 good-the_used_deletion : GoodRows TheUsedDeletion used_deletion_rows
-good-the_used_deletion =
-    ((λ st g. (g.0.1.1, g.1)),
-    ((λ st g. (tt, (refl, (g.0.1.1, g.1)))),
-    ((λ st g. ((refl, (refl, (refl, (refl, (refl, (refl, (refl, refl))))))), (refl, (tt, (g.0.1, (g.0, g.1)))))),
-    ((λ st g. ((refl, (refl, (refl, (refl, (refl, (refl, (refl, refl))))))), (refl, (tt, (refl, (tt, (g.0.1, (g.0, g.1)))))))),
-    ((λ st g. (g.0.1, (g.0, g.1))),
-    ((λ st g. (tt, (g.0.1, (g.0, g.1)))),
-    ((λ st g. ((refl, (refl, (refl, (refl, (refl, (refl, (refl, refl))))))), (refl, (g.0.1, (g.0, g.1))))),
-    ((λ st g. ((refl, (refl, (refl, (refl, (refl, (refl, (refl, refl))))))), (refl, (tt, (g.0.1, (g.0, g.1)))))),
-    ((λ st g. ((refl, (refl, (refl, (refl, (refl, (refl, (refl, refl))))))), (refl, (tt, (g.0.1, (g.0, g.1)))))),
-    tt)))))))))
+good-the_used_deletion = (
+  (λ st g. (g.0.1.1, g.1)),
+  (
+    (λ st g. (tt, (refl, (g.0.1.1, g.1)))),
+    (
+      (λ st g. ((refl, (refl, (refl, (refl, (refl, (refl, (refl, refl))))))), (refl, (tt, (g.0.1, (g.0, g.1)))))),
+      (
+        (λ st g. ((refl, (refl, (refl, (refl, (refl, (refl, (refl, refl))))))), (refl, (tt, (refl, (tt, (g.0.1, (g.0, g.1)))))))),
+        (
+          (λ st g. (g.0.1, (g.0, g.1))),
+          (
+            (λ st g. (tt, (g.0.1, (g.0, g.1)))),
+            (
+              (λ st g. ((refl, (refl, (refl, (refl, (refl, (refl, (refl, refl))))))), (refl, (g.0.1, (g.0, g.1))))),
+              (
+                (λ st g. ((refl, (refl, (refl, (refl, (refl, (refl, (refl, refl))))))), (refl, (tt, (g.0.1, (g.0, g.1)))))),
+                (
+                  (λ st g. ((refl, (refl, (refl, (refl, (refl, (refl, (refl, refl))))))), (refl, (tt, (g.0.1, (g.0, g.1)))))),
+                  tt,
+                ),
+              ),
+            ),
+          ),
+        ),
+      ),
+    ),
+  ),
+)
 
 good-the_used_item : GoodRows TheUsedItem used_item_rows
-good-the_used_item =
-    ((λ st g. (tt, (g.0, g.1))),
-    ((λ st g. (tt, (g.0, g.1))),
-    ((λ st g. (tt, ((refl, (refl, (refl, (refl, (refl, (refl, refl)))))), (refl, (tt, g.1))))),
-    tt)))
+good-the_used_item = (
+  (λ st g. (tt, (g.0, g.1))),
+  (
+    (λ st g. (tt, (g.0, g.1))),
+    (
+      (λ st g. (tt, ((refl, (refl, (refl, (refl, (refl, (refl, refl)))))), (refl, (tt, g.1))))),
+      tt,
+    ),
+  ),
+)
 
 good-the_deletion : GoodRows TheDeletion deletion_rows
-good-the_deletion =
-    ((λ st g. (g.0.1.1.1, g.1)),
-    ((λ st g. (tt, ((g.0.0, g.0.1.1.1), g.1))),
-    ((λ st g. (tt, (refl, (g.0.1.1.1, g.1)))),
-    ((λ st g. ((refl, (refl, (refl, (refl, (refl, (refl, (refl, refl))))))), (refl, (tt, (g.0.1.1, (g.0.1, g.1)))))),
-    ((λ st g. ((refl, (refl, (refl, (refl, (refl, (refl, (refl, refl))))))), (refl, (tt, (refl, (tt, (g.0.1.1, (g.0.1, g.1)))))))),
-    ((λ st g. (g.0.1.1, (g.0.1, g.1))),
-    ((λ st g. (tt, (g.0.1.1, (g.0.1, g.1)))),
-    ((λ st g. ((refl, (refl, (refl, (refl, (refl, (refl, (refl, refl))))))), (refl, (g.0.1.1, (g.0.1, g.1))))),
-    ((λ st g. ((refl, (refl, (refl, (refl, (refl, (refl, (refl, refl))))))), (refl, (tt, (g.0.1.1, (g.0.1, g.1)))))),
-    ((λ st g. ((refl, (refl, (refl, (refl, (refl, (refl, (refl, refl))))))), (refl, (tt, (g.0.1.1, (g.0.1, g.1)))))),
-    tt))))))))))
+good-the_deletion = (
+  (λ st g. (g.0.1.1.1, g.1)),
+  (
+    (λ st g. (tt, ((g.0.0, g.0.1.1.1), g.1))),
+    (
+      (λ st g. (tt, (refl, (g.0.1.1.1, g.1)))),
+      (
+        (λ st g. ((refl, (refl, (refl, (refl, (refl, (refl, (refl, refl))))))), (refl, (tt, (g.0.1.1, (g.0.1, g.1)))))),
+        (
+          (λ st g. ((refl, (refl, (refl, (refl, (refl, (refl, (refl, refl))))))), (refl, (tt, (refl, (tt, (g.0.1.1, (g.0.1, g.1)))))))),
+          (
+            (λ st g. (g.0.1.1, (g.0.1, g.1))),
+            (
+              (λ st g. (tt, (g.0.1.1, (g.0.1, g.1)))),
+              (
+                (λ st g. ((refl, (refl, (refl, (refl, (refl, (refl, (refl, refl))))))), (refl, (g.0.1.1, (g.0.1, g.1))))),
+                (
+                  (λ st g. ((refl, (refl, (refl, (refl, (refl, (refl, (refl, refl))))))), (refl, (tt, (g.0.1.1, (g.0.1, g.1)))))),
+                  (
+                    (λ st g. ((refl, (refl, (refl, (refl, (refl, (refl, (refl, refl))))))), (refl, (tt, (g.0.1.1, (g.0.1, g.1)))))),
+                    tt,
+                  ),
+                ),
+              ),
+            ),
+          ),
+        ),
+      ),
+    ),
+  ),
+)
 
 good-the_item : GoodRows TheItem item_rows
-good-the_item =
-    ((λ st g. (refl, (g.0.1, g.1))),
-    ((λ st g. (tt, (g.0.1, g.1))),
-    ((λ st g. (tt, (g.0, g.1))),
-    ((λ st g. (tt, (refl, ((refl, (refl, (refl, (refl, (refl, (refl, refl)))))), (refl, (tt, g.1)))))),
-    ((λ st g. (tt, (refl, (g.0.1.1.1, ((g.0.0, g.0.1.1.1), g.1))))),
-    ((λ st g. (tt, (refl, (g.0.1, g.1)))),
-    tt))))))
+good-the_item = (
+  (λ st g. (refl, (g.0.1, g.1))),
+  (
+    (λ st g. (tt, (g.0.1, g.1))),
+    (
+      (λ st g. (tt, (g.0, g.1))),
+      (
+        (λ st g. (tt, (refl, ((refl, (refl, (refl, (refl, (refl, (refl, refl)))))), (refl, (tt, g.1)))))),
+        (
+          (λ st g. (tt, (refl, (g.0.1.1.1, ((g.0.0, g.0.1.1.1), g.1))))),
+          (
+            (λ st g. (tt, (refl, (g.0.1, g.1)))),
+            tt,
+          ),
+        ),
+      ),
+    ),
+  ),
+)
 
 good-more_items : GoodRows MoreItems more_items_rows
 good-more_items = ((λ st g. (g.0.1, (g.0, g.1))), tt)
 
 good-the_assign : GoodRows TheAssign assign_rows
-good-the_assign =
-    ((λ st g. (refl, (g.0.1.1, (g.0, g.1)))),
-    ((λ st g. (tt, (g.0.1.1, (g.0, g.1)))),
-    ((λ st g. (tt, (g.0.1, (g.0, g.1)))),
-    ((λ st g. (tt, (refl, ((refl, (refl, (refl, (refl, (refl, (refl, refl)))))), (refl, (tt, (g.0, g.1))))))),
-    ((λ st g. (tt, (refl, (g.0.1.1.1.1, ((g.0.1.0, g.0.1.1.1.1), (g.0, g.1)))))),
-    ((λ st g. (tt, (refl, (g.0.1.1, (g.0, g.1))))),
-    tt))))))
+good-the_assign = (
+  (λ st g. (refl, (g.0.1.1, (g.0, g.1)))),
+  (
+    (λ st g. (tt, (g.0.1.1, (g.0, g.1)))),
+    (
+      (λ st g. (tt, (g.0.1, (g.0, g.1)))),
+      (
+        (λ st g. (tt, (refl, ((refl, (refl, (refl, (refl, (refl, (refl, refl)))))), (refl, (tt, (g.0, g.1))))))),
+        (
+          (λ st g. (tt, (refl, (g.0.1.1.1.1, ((g.0.1.0, g.0.1.1.1.1), (g.0, g.1)))))),
+          (
+            (λ st g. (tt, (refl, (g.0.1.1, (g.0, g.1))))),
+            tt,
+          ),
+        ),
+      ),
+    ),
+  ),
+)
 
 good-the_statement : GoodRows TheStatement statement_rows
-good-the_statement =
-    ((λ st g. g.1),
-    ((λ st g. (tt, (refl, (tt, (refl, g.1))))),
-    ((λ st g. (tt, (refl, (refl, g.1)))),
-    ((λ st g. (tt, (tt, (tt, (refl, (tt, (tt, (refl, (tt, (tt, (refl, (tt, (refl, g.1))))))))))))),
-    ((λ st g. (refl, (tt, (refl, g.1)))),
-    ((λ st g. ((refl, (refl, (refl, (refl, (refl, (refl, (refl, refl))))))), (refl, g.1))),
-    ((λ st g. (tt, (refl, g.1))),
-    ((λ st g. (refl, ((refl, (refl, (refl, (refl, (refl, (refl, (refl, refl))))))), ((refl, (refl, (refl, (refl, (refl, (refl, (refl, (refl, (refl, refl))))))))), (refl, g.1))))),
-    ((λ st g. (tt, ((refl, (refl, (refl, (refl, (refl, (refl, (refl, refl))))))), ((refl, (refl, (refl, (refl, (refl, (refl, (refl, (refl, (refl, refl))))))))), (refl, g.1))))),
-    ((λ st g. (tt, ((refl, (refl, (refl, (refl, (refl, (refl, (refl, (refl, refl)))))))), ((refl, (refl, (refl, (refl, (refl, (refl, (refl, (refl, (refl, refl))))))))), (refl, g.1))))),
-    ((λ st g. (tt, (refl, ((refl, (refl, (refl, (refl, (refl, (refl, refl)))))), (refl, (tt, ((refl, (refl, (refl, (refl, (refl, (refl, (refl, (refl, (refl, refl))))))))), (refl, g.1)))))))),
-    ((λ st g. (tt, (refl, ((refl, (refl, (refl, (refl, (refl, refl))))), ((refl, (refl, (refl, (refl, (refl, (refl, refl)))))), ((refl, (refl, (refl, (refl, (refl, (refl, (refl, (refl, (refl, refl))))))))), (refl, g.1))))))),
-    ((λ st g. (tt, (refl, ((refl, (refl, (refl, (refl, (refl, (refl, (refl, refl))))))), ((refl, (refl, (refl, (refl, (refl, (refl, (refl, (refl, (refl, refl))))))))), (refl, g.1)))))),
-    tt)))))))))))))
+good-the_statement = (
+  (λ st g. g.1),
+  (
+    (λ st g. (tt, (refl, (tt, (refl, g.1))))),
+    (
+      (λ st g. (tt, (refl, (refl, g.1)))),
+      (
+        (λ st g. (tt, (tt, (tt, (refl, (tt, (tt, (refl, (tt, (tt, (refl, (tt, (refl, g.1))))))))))))),
+        (
+          (λ st g. (refl, (tt, (refl, g.1)))),
+          (
+            (λ st g. ((refl, (refl, (refl, (refl, (refl, (refl, (refl, refl))))))), (refl, g.1))),
+            (
+              (λ st g. (tt, (refl, g.1))),
+              (
+                (λ st g. (refl, ((refl, (refl, (refl, (refl, (refl, (refl, (refl, refl))))))), ((refl, (refl, (refl, (refl, (refl, (refl, (refl, (refl, (refl, refl))))))))), (refl, g.1))))),
+                (
+                  (λ st g. (tt, ((refl, (refl, (refl, (refl, (refl, (refl, (refl, refl))))))), ((refl, (refl, (refl, (refl, (refl, (refl, (refl, (refl, (refl, refl))))))))), (refl, g.1))))),
+                  (
+                    (λ st g. (tt, ((refl, (refl, (refl, (refl, (refl, (refl, (refl, (refl, refl)))))))), ((refl, (refl, (refl, (refl, (refl, (refl, (refl, (refl, (refl, refl))))))))), (refl, g.1))))),
+                    (
+                      (λ st g. (tt, (refl, ((refl, (refl, (refl, (refl, (refl, (refl, refl)))))), (refl, (tt, ((refl, (refl, (refl, (refl, (refl, (refl, (refl, (refl, (refl, refl))))))))), (refl, g.1)))))))),
+                      (
+                        (λ st g. (tt, (refl, ((refl, (refl, (refl, (refl, (refl, refl))))), ((refl, (refl, (refl, (refl, (refl, (refl, refl)))))), ((refl, (refl, (refl, (refl, (refl, (refl, (refl, (refl, (refl, refl))))))))), (refl, g.1))))))),
+                        (
+                          (λ st g. (tt, (refl, ((refl, (refl, (refl, (refl, (refl, (refl, (refl, refl))))))), ((refl, (refl, (refl, (refl, (refl, (refl, (refl, (refl, (refl, refl))))))))), (refl, g.1)))))),
+                          tt,
+                        ),
+                      ),
+                    ),
+                  ),
+                ),
+              ),
+            ),
+          ),
+        ),
+      ),
+    ),
+  ),
+)
 
 good-rows : (s : Symbol) → GoodRows s (rows s)
 good-rows TheName = good-the_name
@@ -1504,9 +2178,9 @@ further st st' x ts place h r =
       can = λ k. let g = step-read st x.terminal x.bytes (first (r.before ++ r.more)) x.place (read (r.before ++ r.more)) st' leads k in by _ _ g.1 (r.can g.0);
       leads = inl refl;
       cannot = λ others k.
-        let same : step st x.terminal x.bytes (first (r.before ++ again r.after others)) ≡ Some st' = ap (step st x.terminal x.bytes) (again-first r.before r.after others ∙ ap first (sym r.parts)) ∙ h in
-        let g = step-read st x.terminal x.bytes (first (r.before ++ again r.after others)) x.place (read (r.before ++ again r.after others)) st' same k in
-        g.1 ∙ r.cannot others g.0;
+          let same : step st x.terminal x.bytes (first (r.before ++ again r.after others)) ≡ Some st' = ap (step st x.terminal x.bytes) (again-first r.before r.after others ∙ ap first (sym r.parts)) ∙ h in
+          let g = step-read st x.terminal x.bytes (first (r.before ++ again r.after others)) x.place (read (r.before ++ again r.after others)) st' same k in
+          g.1 ∙ r.cannot others g.0;
     }
 
 -- a refusal here
@@ -1567,4 +2241,3 @@ refused-no_statement limits ts load place e =
       starts = starts_from r.before r.more _ r.real (r.can (λ v. v.0)) (sound (r.before ++ r.more) (TheStatement ∷ []) (λ v. v.0));
       stuck = λ others x h. some-not-none x _ (statement-reads x (r.before ++ again r.after others) [] h [] (λ v. v.0)) (r.cannot others (λ v. v.0));
     }
-

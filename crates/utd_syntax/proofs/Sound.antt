@@ -1,38 +1,17 @@
 -- What the table reads writes the tokens.
-use Rattle.std.proofs.Common.{◌≡◌, ◌≢◌, ◌↔◌, ℕ, List, [], ◌∷◌, ◌++◌, Bool, true, false, cond, get_or, rules, ◌==◌, ◌&&◌, eqb, ◌⊎◌, inl, inr, Option, Some, None, refl, sym, ◌∙◌, ap, subst, append_assoc, if◌then◌else◌}
+use Rattle.std.proofs.Common.{◌≡◌, ℕ, List, [], ◌∷◌, ◌++◌, Bool, true, false, cond, get_or, rules, ◌==◌, ◌&&◌, Option, Some, None, refl, sym, ◌∙◌, ap, subst}
 use Rattle.utd_syntax.specs.declared.terminal.Terminal.{Terminal}
 use Rattle.utd_syntax.specs.declared.terminal.Terminal.TheVariants as t
 use Rattle.point_core.specs.declared.fault.Place.{Place}
-use Rattle.utd_syntax.specs.declared.words.ComparisonWord.{ComparisonWord}
-use Rattle.utd_syntax.specs.declared.words.ComparisonWord.TheVariants as comparisons
-use Rattle.utd_syntax.specs.declared.words.SumWord.{SumWord}
 use Rattle.utd_syntax.specs.declared.words.SumWord.TheVariants as sum_words
-use Rattle.utd_syntax.specs.declared.words.ProductWord.{ProductWord}
 use Rattle.utd_syntax.specs.declared.words.ProductWord.TheVariants as product_words
-use Rattle.utd_syntax.specs.declared.words.BeginBracket.{BeginBracket}
-use Rattle.utd_syntax.specs.declared.words.BeginBracket.TheVariants as begin_brackets
-use Rattle.utd_syntax.specs.declared.words.EndBracket.{EndBracket}
-use Rattle.utd_syntax.specs.declared.words.EndBracket.TheVariants as end_brackets
-use Rattle.utd_syntax.specs.declared.words.ExtremeWord.{ExtremeWord}
-use Rattle.utd_syntax.specs.declared.words.ExtremeWord.TheVariants as extremes
-use Rattle.utd_syntax.specs.declared.words.FunctionWord.{FunctionWord}
-use Rattle.utd_syntax.specs.declared.words.FunctionWord.TheVariants as functions
-use Rattle.utd_syntax.specs.declared.words.PairWord.{PairWord}
-use Rattle.utd_syntax.specs.declared.words.PairWord.TheVariants as pair_functions
-use Rattle.utd_syntax.specs.declared.words.InfixWord.{InfixWord}
 use Rattle.utd_syntax.specs.declared.words.InfixWord.TheVariants as infixes
-use Rattle.utd_syntax.specs.declared.words.PackWord.{PackWord}
 use Rattle.utd_syntax.specs.declared.words.PackWord.TheVariants as pack_words
-use Rattle.utd_syntax.specs.declared.words.AggregateWord.{AggregateWord}
-use Rattle.utd_syntax.specs.declared.words.AggregateWord.TheVariants as aggregate_words
-use Rattle.utd_syntax.specs.declared.words.RelationComparison.{RelationComparison}
-use Rattle.utd_syntax.specs.declared.words.RelationComparison.TheVariants as relation_comparisons
-use Rattle.utd_syntax.specs.declared.words.EmptinessWord.{EmptinessWord}
 use Rattle.utd_syntax.specs.declared.words.EmptinessWord.TheVariants as emptinesses
 use Rattle.utd_syntax.specs.Pieces.{Piece, first, place_of}
-use Rattle.utd_syntax.specs.Plain.{Word, word, PointP, ScalarP, ConjP, NegP, CmpP, SumP, ProdP, SignP, PrimaryP, KindP, AttributeP, HeadingP, NamesP, NameListP, SomeNamesP, ElementP, ElementsP, SomeElementsP, TupleP, LiteralP, SetItemP, SetsP, AggregateFormP, AggregateP, AggregatesP, RenamingP, RenamingsP, PortionP, MaybePortionP, ConditionP, ProjectionP, RelP, TermsP, TermP, RelPrimaryP, OperandP, ExtendP, SummarizeP, UsingP, UsingPartP, KeyP, ForeignP, UsedConstraintP, ConstraintP, VarFormP, ComparisonP, TestP, UsedDeletionP, UsedItemP, DeletionP, ItemP, AssignP, StatementP, IntegerType, DateType, NamedType, OneConj, Or, OneNeg, And, Not, OneCmp, OneSum, Compare, OneProd, Add, OneSign, Multiply, NegativeInteger, Negate, OnePrimary, IntegerLiteral, TextLiteral, DateLiteral, TrueLiteral, FalseLiteral, AttributeName, Dotted, Paren, Selector, Extreme, Function, PairFunction, BooleanKind, CharKind, PointKind, IntervalKind, Attribute, Heading, Names, NameList, SomeNames, Element, Elements, SomeElements, Tuple, Tuples, Headed, SetItem, Sets, CountRows, AggregateOf, Aggregate, Aggregates, Renaming, Renamings, Portion, NoPortion, OfPortion, NoCondition, Where, Onto, AllBut, OfUsing, OfTerms, OneTerm, Infix, NotMatching, OneRelPrimary, Project, Filter, Rename, OfExtend, OfSummarize, OfOperand, Relvar, OfLiteral, ParenRel, PackOn, Extend, Summarize, Using, UsingExtend, UsingSummarize, UsingInfix, UsingNotMatching, UsingProject, UsingFilter, Key, Foreign, UsedKey, UsedForeign, KeyOf, ForeignOf, PackedOn, WhenUnpacked, UsingConstraint, BaseRelvar, View, Comparison, UsingTest, Emptiness, OfComparison, UsedDeleteWhere, UsedDeleteRows, UsedInsert, UsedDelete, UsedUpdate, DeleteWhere, DeletePortion, DeleteRows, SetRelvar, Insert, Delete, Update, Terminate, UsingItem, Assign, Nothing, DeclareOrdinal, DeclareRelvar, DeclareHistory, Drop, Print, Ask, Assignment}
-use Rattle.utd_syntax.specs.Written.{Mark, fixed, at, spelled, worded, apart, IsMark, Spells, token, placed, lexeme, word_of, contextual, negation, ordinal_word, since_word, during_word, over_word, at_word, comparison, sum_word, product_word, begin_bracket, end_bracket, extreme, function, pair_function, infix_word, pack_word, aggregate_word, relation_comparison, emptiness, of_name, of_point, of_scalar, of_conj, of_neg, of_cmp, of_sum, of_prod, of_sign, of_primary, of_kind, of_attribute, of_more_attributes, of_heading, of_more_words, of_names, of_list, of_some_names, of_paren_name, of_element, of_more_elements, of_elements, of_some_elements, of_tuple, of_more_tuples, of_tuples, of_literal, of_set_item, of_more_set_items, of_sets, of_aggregate_form, of_aggregate, of_more_aggregates, of_aggregates, of_renaming, of_more_renamings, of_renamings, of_portion, of_maybe_portion, of_condition, of_projection, of_rel, of_terms, of_term, of_rel_primary, of_operand, of_extend, of_summarize, of_using, of_using_part, of_key, of_foreign, of_used_constraint, of_constraint, of_constraints, of_var_form, of_comparison, of_test, of_used_deletion, of_used_item, of_deletion, of_item, of_more_items, of_assign, of_statement, of_attributes, of_words, of_element_list, of_tuple_list}
-use Rattle.utd_syntax.specs.Table.{Load, Symbol, TheName, Comma, DateText, NegativeDigits, ThePrimary, AfterName, AfterScalar, EndOfSelector, InParens, InPair, InPoint, TheSign, TheProd, MoreProd, TheSum, MoreSum, TheCmp, MoreCmp, TheNeg, TheConj, MoreAnd, TheScalar, MoreOr, ThePoint, TheKind, TheAttribute, MoreAttributes, InHeading, TheHeading, MoreNames, InNames, InList, TheNames, TheList, TheSomeNames, TheParenName, TheElement, MoreElements, InElements, TheElements, TheSomeElements, TheTuple, MoreTuples, InTuples, TheTuples, TheLiteral, AfterRelation, TheSetItem, MoreSetItems, TheSets, EmptyParens, TheAggregateForm, TheAggregate, MoreAggregates, TheAggregates, TheRenaming, MoreRenamings, TheRenamings, ThePortion, MaybePortion, MaybeWhere, InProjection, TheOperand, TheExtend, TheSummarize, TheRelPrimary, TheTerm, MorePostfix, TheTerms, MoreInfix, TheUsing, TheRel, TheUsingPart, AfterOperand, TheKey, TheForeign, TheUsedConstraint, TheConstraint, MoreConstraints, InRel, TheVarForm, TheComparison, AfterLeft, TheTest, TheUsedDeletion, TheUsedItem, TheDeletion, TheItem, MoreItems, TheAssign, TheStatement, Just, Worded, Shut, Taking, Plain, Operator, Separator, Negated, Dated, Opens, OperatorOpens, Turn, Never, Ends, Takes, Row, on, spelt, before, then_row, ◌▹◌, rows, may_end, number, same, same_bytes, fits, chosen, find, turn, name_rows, comma_rows, date_text_rows, negative_digits_rows, primary_rows, after_name_rows, after_scalar_rows, end_of_selector_rows, in_parens_rows, in_pair_rows, in_point_rows, sign_rows, prod_rows, more_prod_rows, sum_rows, more_sum_rows, cmp_rows, more_cmp_rows, neg_rows, conj_rows, more_and_rows, scalar_rows, more_or_rows, point_rows, kind_rows, attribute_rows, more_attributes_rows, in_heading_rows, heading_rows, more_names_rows, in_names_rows, in_list_rows, names_rows, list_rows, some_names_rows, paren_name_rows, element_rows, more_elements_rows, in_elements_rows, elements_rows, some_elements_rows, tuple_rows, more_tuples_rows, in_tuples_rows, tuples_rows, literal_rows, after_relation_rows, set_item_rows, more_set_items_rows, sets_rows, empty_parens_rows, aggregate_form_rows, aggregate_rows, more_aggregates_rows, aggregates_rows, renaming_rows, more_renamings_rows, renamings_rows, portion_rows, maybe_portion_rows, maybe_where_rows, in_projection_rows, operand_rows, extend_rows, summarize_rows, rel_primary_rows, term_rows, more_postfix_rows, terms_rows, more_infix_rows, using_rows, rel_rows, using_part_rows, after_operand_rows, key_rows, foreign_rows, used_constraint_rows, constraint_rows, more_constraints_rows, in_rel_rows, var_form_rows, comparison_rows, after_left_rows, test_rows, used_deletion_rows, used_item_rows, deletion_rows, item_rows, more_items_rows, assign_rows, statement_rows}
+use Rattle.utd_syntax.specs.Plain.{Word, word, ScalarP, ConjP, SumP, ProdP, TermsP, TermP, OperandP, StatementP, OneConj, Or, OneNeg, And, Not, OneCmp, OneProd, Add, OneSign, Multiply, NegativeInteger, Negate, OnePrimary, BooleanKind, CharKind, PointKind, IntervalKind, OfUsing, OfTerms, OneTerm, Infix, NotMatching, OneRelPrimary, Project, Filter, Rename, OfExtend, OfSummarize, OfOperand, Relvar, OfLiteral, ParenRel, PackOn, UsingExtend, UsingSummarize, UsedKey, UsedForeign, KeyOf, ForeignOf, PackedOn, WhenUnpacked, UsingConstraint, UsingTest, Emptiness, OfComparison, UsedDeleteWhere, UsedDeleteRows, DeleteWhere, DeletePortion, DeleteRows, Assign, Nothing, DeclareOrdinal, DeclareRelvar, DeclareHistory, Drop, Print, Ask, Assignment}
+use Rattle.utd_syntax.specs.Written.{Mark, fixed, at, spelled, worded, apart, IsMark, Spells, token, placed, lexeme, word_of, ordinal_word, since_word, during_word, over_word, end_bracket, of_name, of_point, of_scalar, of_conj, of_neg, of_cmp, of_sum, of_prod, of_sign, of_primary, of_kind, of_attribute, of_more_attributes, of_heading, of_more_words, of_names, of_list, of_some_names, of_paren_name, of_element, of_more_elements, of_elements, of_some_elements, of_tuple, of_more_tuples, of_tuples, of_literal, of_set_item, of_more_set_items, of_sets, of_aggregate_form, of_aggregate, of_more_aggregates, of_aggregates, of_renaming, of_more_renamings, of_renamings, of_portion, of_maybe_portion, of_condition, of_projection, of_rel, of_terms, of_term, of_rel_primary, of_operand, of_extend, of_summarize, of_using, of_using_part, of_key, of_foreign, of_used_constraint, of_constraint, of_constraints, of_var_form, of_comparison, of_test, of_used_deletion, of_used_item, of_deletion, of_item, of_more_items, of_assign, of_statement, of_attributes, of_words, of_element_list, of_tuple_list}
+use Rattle.utd_syntax.specs.Table.{Load, Symbol, TheName, Comma, DateText, NegativeDigits, ThePrimary, AfterName, AfterScalar, EndOfSelector, InParens, InPair, InPoint, TheSign, TheProd, MoreProd, TheSum, MoreSum, TheCmp, MoreCmp, TheNeg, TheConj, MoreAnd, TheScalar, MoreOr, ThePoint, TheKind, TheAttribute, MoreAttributes, InHeading, TheHeading, MoreNames, InNames, InList, TheNames, TheList, TheSomeNames, TheParenName, TheElement, MoreElements, InElements, TheElements, TheSomeElements, TheTuple, MoreTuples, InTuples, TheTuples, TheLiteral, AfterRelation, TheSetItem, MoreSetItems, TheSets, EmptyParens, TheAggregateForm, TheAggregate, MoreAggregates, TheAggregates, TheRenaming, MoreRenamings, TheRenamings, ThePortion, MaybePortion, MaybeWhere, InProjection, TheOperand, TheExtend, TheSummarize, TheRelPrimary, TheTerm, MorePostfix, TheTerms, MoreInfix, TheUsing, TheRel, TheUsingPart, AfterOperand, TheKey, TheForeign, TheUsedConstraint, TheConstraint, MoreConstraints, InRel, TheVarForm, TheComparison, AfterLeft, TheTest, TheUsedDeletion, TheUsedItem, TheDeletion, TheItem, MoreItems, TheAssign, TheStatement, Just, Worded, Shut, Taking, Plain, Opens, Turn, Never, Ends, Takes, Row, on, spelt, before, then_row, ◌▹◌, rows, may_end, number, same, same_bytes, fits, chosen, find, turn, name_rows, comma_rows, date_text_rows, negative_digits_rows, primary_rows, after_name_rows, after_scalar_rows, end_of_selector_rows, in_parens_rows, in_pair_rows, in_point_rows, sign_rows, prod_rows, more_prod_rows, sum_rows, more_sum_rows, cmp_rows, more_cmp_rows, neg_rows, conj_rows, more_and_rows, scalar_rows, more_or_rows, point_rows, kind_rows, attribute_rows, more_attributes_rows, in_heading_rows, heading_rows, more_names_rows, in_names_rows, in_list_rows, names_rows, list_rows, some_names_rows, paren_name_rows, element_rows, more_elements_rows, in_elements_rows, elements_rows, some_elements_rows, tuple_rows, more_tuples_rows, in_tuples_rows, tuples_rows, literal_rows, after_relation_rows, set_item_rows, more_set_items_rows, sets_rows, empty_parens_rows, aggregate_form_rows, aggregate_rows, more_aggregates_rows, aggregates_rows, renaming_rows, more_renamings_rows, renamings_rows, portion_rows, maybe_portion_rows, maybe_where_rows, in_projection_rows, operand_rows, extend_rows, summarize_rows, rel_primary_rows, term_rows, more_postfix_rows, terms_rows, more_infix_rows, using_rows, rel_rows, using_part_rows, after_operand_rows, key_rows, foreign_rows, used_constraint_rows, constraint_rows, more_constraints_rows, in_rel_rows, var_form_rows, comparison_rows, after_left_rows, test_rows, used_deletion_rows, used_item_rows, deletion_rows, item_rows, more_items_rows, assign_rows, statement_rows}
 use Rattle.utd_syntax.proofs.Reader.{Val, Vals, Case, Make, Makes, Ended, Built, Go, inner, over_make, over_makes, last_of, last_behind, then_case, then_make, then_makes, append_makes, makes, end_value, by_case, made, pick, found_end, found, build, split, on_turn, read_at, on_end, read_end, read, make_name, make_comma, make_date_text, make_negative_digits, make_primary, make_after_name, make_after_scalar, make_end_of_selector, make_in_parens, make_in_pair, make_in_point, make_sign, make_prod, make_more_prod, make_sum, make_more_sum, make_cmp, make_more_cmp, make_neg, make_conj, make_more_and, make_scalar, make_more_or, make_point, make_kind, make_attribute, make_more_attributes, make_in_heading, make_heading, make_more_names, make_in_names, make_in_list, make_names, make_list, make_some_names, make_paren_name, make_element, make_more_elements, make_in_elements, make_elements, make_some_elements, make_tuple, make_more_tuples, make_in_tuples, make_tuples, make_literal, make_after_relation, make_set_item, make_more_set_items, make_sets, make_empty_parens, make_aggregate_form, make_aggregate, make_more_aggregates, make_aggregates, make_renaming, make_more_renamings, make_renamings, make_portion, make_maybe_portion, make_maybe_where, make_in_projection, make_operand, make_extend, make_summarize, make_rel_primary, make_term, make_more_postfix, make_terms, make_more_infix, make_using, make_rel, make_using_part, make_after_operand, make_key, make_foreign, make_used_constraint, make_constraint, make_more_constraints, make_in_rel, make_var_form, make_comparison, make_after_left, make_test, make_used_deletion, make_used_item, make_deletion, make_item, make_more_items, make_assign, make_statement}
 use Rattle.utd_syntax.specs.Verdict.{Whole, no_limits, verdict}
 use Rattle.utd_syntax.proofs.Marks.{Spells-append}
@@ -242,43 +221,88 @@ negative_digits-sound : SoundRows NegativeDigits negative_digits_rows make_negat
 negative_digits-sound = ((λ p b ts vs rest h. (cons (spelled t.Digits p b) [] (piece_at t.Digits p b) ts _ (refl, refl, refl) (nil h))), tt)
 
 primary-sound : SoundRows ThePrimary primary_rows make_primary
-primary-sound =
-    ((λ p b ts vs rest h. (cons (spelled t.Digits p b) [] (piece_at t.Digits p b) ts _ (refl, refl, refl) (nil h))),
-    ((λ p b ts vs rest h. (cons (spelled t.Quoted p b) [] (piece_at t.Quoted p b) ts _ (refl, refl, refl) (nil h))),
-    ((λ p b ts vs rest h. (join _ _ _ _ _ (cons (at t.Date p) [] (piece_at t.Date p b) ts _ (refl, refl) (nil refl)) h)),
-    ((λ p b ts vs rest h. (cons (at t.True p) [] (piece_at t.True p b) ts _ (refl, refl) (nil h))),
-    ((λ p b ts vs rest h. (cons (at t.False p) [] (piece_at t.False p b) ts _ (refl, refl) (nil h))),
-    ((λ p b ts vs rest h. (h (word p b) (piece_at t.Name p b ∷ ts) (cons (spelled t.Name p b) [] (piece_at t.Name p b) ts _ (refl, refl, refl) (nil refl)))),
-    ((λ p b ts vs rest h. (h.2 p vs.0 (piece_at t.Open p b ∷ ts) (join _ _ _ _ _ (cons (at t.Open p) [] (piece_at t.Open p b) ts _ (refl, refl) (nil refl)) h.1))),
-    ((λ p b ts vs rest h. (join _ _ _ _ _ (join _ _ _ _ _ (join _ _ _ _ _ (join _ _ _ _ _ (cons (at t.OpenBracket p) [] (piece_at t.OpenBracket p b) ts _ (refl, refl) (nil refl)) h.1) h.2.1) h.2.2.1) h.2.2.2)),
-    ((λ p b ts vs rest h. (join _ _ _ _ _ (cons (at t.First p) [] (piece_at t.First p b) ts _ (refl, refl) (nil refl)) h)),
-    ((λ p b ts vs rest h. (join _ _ _ _ _ (cons (at t.Last p) [] (piece_at t.Last p b) ts _ (refl, refl) (nil refl)) h)),
-    ((λ p b ts vs rest h. (join _ _ _ _ _ (cons (at t.Begin p) [] (piece_at t.Begin p b) ts _ (refl, refl) (nil refl)) h)),
-    ((λ p b ts vs rest h. (join _ _ _ _ _ (cons (at t.End p) [] (piece_at t.End p b) ts _ (refl, refl) (nil refl)) h)),
-    ((λ p b ts vs rest h. (join _ _ _ _ _ (cons (at t.Pre p) [] (piece_at t.Pre p b) ts _ (refl, refl) (nil refl)) h)),
-    ((λ p b ts vs rest h. (join _ _ _ _ _ (cons (at t.Post p) [] (piece_at t.Post p b) ts _ (refl, refl) (nil refl)) h)),
-    ((λ p b ts vs rest h. (join _ _ _ _ _ (cons (at t.Count p) [] (piece_at t.Count p b) ts _ (refl, refl) (nil refl)) h)),
-    ((λ p b ts vs rest h. (join _ _ _ _ _ (cons (at t.Next p) [] (piece_at t.Next p b) ts _ (refl, refl) (nil refl)) h)),
-    ((λ p b ts vs rest h. (join _ _ _ _ _ (cons (at t.Prior p) [] (piece_at t.Prior p b) ts _ (refl, refl) (nil refl)) h)),
-    ((λ p b ts vs rest h. (join _ _ _ _ _ (cons (at t.Union p) [] (piece_at t.Union p b) ts _ (refl, refl) (nil refl)) h)),
-    ((λ p b ts vs rest h. (join _ _ _ _ _ (cons (at t.Intersect p) [] (piece_at t.Intersect p b) ts _ (refl, refl) (nil refl)) h)),
-    ((λ p b ts vs rest h. (join _ _ _ _ _ (cons (at t.Minus p) [] (piece_at t.Minus p b) ts _ (refl, refl) (nil refl)) h)),
-    tt))))))))))))))))))))
+primary-sound = (
+  (λ p b ts vs rest h. (cons (spelled t.Digits p b) [] (piece_at t.Digits p b) ts _ (refl, refl, refl) (nil h))),
+  (
+    (λ p b ts vs rest h. (cons (spelled t.Quoted p b) [] (piece_at t.Quoted p b) ts _ (refl, refl, refl) (nil h))),
+    (
+      (λ p b ts vs rest h. (join _ _ _ _ _ (cons (at t.Date p) [] (piece_at t.Date p b) ts _ (refl, refl) (nil refl)) h)),
+      (
+        (λ p b ts vs rest h. (cons (at t.True p) [] (piece_at t.True p b) ts _ (refl, refl) (nil h))),
+        (
+          (λ p b ts vs rest h. (cons (at t.False p) [] (piece_at t.False p b) ts _ (refl, refl) (nil h))),
+          (
+            (λ p b ts vs rest h. (h (word p b) (piece_at t.Name p b ∷ ts) (cons (spelled t.Name p b) [] (piece_at t.Name p b) ts _ (refl, refl, refl) (nil refl)))),
+            (
+              (λ p b ts vs rest h. (h.2 p vs.0 (piece_at t.Open p b ∷ ts) (join _ _ _ _ _ (cons (at t.Open p) [] (piece_at t.Open p b) ts _ (refl, refl) (nil refl)) h.1))),
+              (
+                (λ p b ts vs rest h. (join _ _ _ _ _ (join _ _ _ _ _ (join _ _ _ _ _ (join _ _ _ _ _ (cons (at t.OpenBracket p) [] (piece_at t.OpenBracket p b) ts _ (refl, refl) (nil refl)) h.1) h.2.1) h.2.2.1) h.2.2.2)),
+                (
+                  (λ p b ts vs rest h. (join _ _ _ _ _ (cons (at t.First p) [] (piece_at t.First p b) ts _ (refl, refl) (nil refl)) h)),
+                  (
+                    (λ p b ts vs rest h. (join _ _ _ _ _ (cons (at t.Last p) [] (piece_at t.Last p b) ts _ (refl, refl) (nil refl)) h)),
+                    (
+                      (λ p b ts vs rest h. (join _ _ _ _ _ (cons (at t.Begin p) [] (piece_at t.Begin p b) ts _ (refl, refl) (nil refl)) h)),
+                      (
+                        (λ p b ts vs rest h. (join _ _ _ _ _ (cons (at t.End p) [] (piece_at t.End p b) ts _ (refl, refl) (nil refl)) h)),
+                        (
+                          (λ p b ts vs rest h. (join _ _ _ _ _ (cons (at t.Pre p) [] (piece_at t.Pre p b) ts _ (refl, refl) (nil refl)) h)),
+                          (
+                            (λ p b ts vs rest h. (join _ _ _ _ _ (cons (at t.Post p) [] (piece_at t.Post p b) ts _ (refl, refl) (nil refl)) h)),
+                            (
+                              (λ p b ts vs rest h. (join _ _ _ _ _ (cons (at t.Count p) [] (piece_at t.Count p b) ts _ (refl, refl) (nil refl)) h)),
+                              (
+                                (λ p b ts vs rest h. (join _ _ _ _ _ (cons (at t.Next p) [] (piece_at t.Next p b) ts _ (refl, refl) (nil refl)) h)),
+                                (
+                                  (λ p b ts vs rest h. (join _ _ _ _ _ (cons (at t.Prior p) [] (piece_at t.Prior p b) ts _ (refl, refl) (nil refl)) h)),
+                                  (
+                                    (λ p b ts vs rest h. (join _ _ _ _ _ (cons (at t.Union p) [] (piece_at t.Union p b) ts _ (refl, refl) (nil refl)) h)),
+                                    (
+                                      (λ p b ts vs rest h. (join _ _ _ _ _ (cons (at t.Intersect p) [] (piece_at t.Intersect p b) ts _ (refl, refl) (nil refl)) h)),
+                                      (
+                                        (λ p b ts vs rest h. (join _ _ _ _ _ (cons (at t.Minus p) [] (piece_at t.Minus p b) ts _ (refl, refl) (nil refl)) h)),
+                                        tt,
+                                      ),
+                                    ),
+                                  ),
+                                ),
+                              ),
+                            ),
+                          ),
+                        ),
+                      ),
+                    ),
+                  ),
+                ),
+              ),
+            ),
+          ),
+        ),
+      ),
+    ),
+  ),
+)
 
 after_name-sound : SoundRows AfterName after_name_rows make_after_name
 after_name-sound = ((λ p b ts vs rest h w from g. (join _ _ _ _ _ (join _ _ _ _ _ g (cons (fixed t.Dot) [] (piece_at t.Dot p b) ts _ refl (nil refl))) h)), tt)
 
 after_scalar-sound : SoundRows AfterScalar after_scalar_rows make_after_scalar
-after_scalar-sound =
-    ((λ p b ts vs rest h q s from g. (join _ _ _ _ _ g (cons (fixed t.Close) [] (piece_at t.Close p b) ts _ refl (nil h)))),
-    ((λ p b ts vs rest h q s from g. (join _ _ _ _ _ (join _ _ _ _ _ (join _ _ _ _ _ g (cons (fixed t.Colon) [] (piece_at t.Colon p b) ts _ refl (nil refl))) h.1) h.2)),
-    tt))
+after_scalar-sound = (
+  (λ p b ts vs rest h q s from g. (join _ _ _ _ _ g (cons (fixed t.Close) [] (piece_at t.Close p b) ts _ refl (nil h)))),
+  (
+    (λ p b ts vs rest h q s from g. (join _ _ _ _ _ (join _ _ _ _ _ (join _ _ _ _ _ g (cons (fixed t.Colon) [] (piece_at t.Colon p b) ts _ refl (nil refl))) h.1) h.2)),
+    tt,
+  ),
+)
 
 end_of_selector-sound : SoundRows EndOfSelector end_of_selector_rows make_end_of_selector
-end_of_selector-sound =
-    ((λ p b ts vs rest h. (cons (fixed t.CloseBracket) [] (piece_at t.CloseBracket p b) ts _ refl (nil h))),
-    ((λ p b ts vs rest h. (cons (fixed t.Close) [] (piece_at t.Close p b) ts _ refl (nil h))),
-    tt))
+end_of_selector-sound = (
+  (λ p b ts vs rest h. (cons (fixed t.CloseBracket) [] (piece_at t.CloseBracket p b) ts _ refl (nil h))),
+  (
+    (λ p b ts vs rest h. (cons (fixed t.Close) [] (piece_at t.Close p b) ts _ refl (nil h))),
+    tt,
+  ),
+)
 
 in_parens-sound : SoundRows InParens in_parens_rows make_in_parens
 in_parens-sound = ((λ p b ts vs rest h. (join _ _ _ _ _ (join _ _ _ _ _ (cons (fixed t.Open) [] (piece_at t.Open p b) ts _ refl (nil refl)) h.1) h.2)), tt)
@@ -296,43 +320,82 @@ prod-sound : SoundRows TheProd prod_rows make_prod
 prod-sound = then-sounds TheSign TheProd MoreProd (λ u w. w (OneSign u)) (λ u w from mid rest h g. g (OneSign u) from h) sign_rows make_sign sign-sound
 
 more_prod-sound : SoundRows MoreProd more_prod_rows make_more_prod
-more_prod-sound =
-    ((λ p b ts vs rest h x from g. (h.2 (Multiply x p product_words.Times vs.0) from (join _ _ _ _ _ (join _ _ _ _ _ g (cons (at t.Star p) [] (piece_at t.Star p b) ts _ (refl, refl) (nil refl))) h.1))),
-    ((λ p b ts vs rest h x from g. (h.2 (Multiply x p product_words.Divide vs.0) from (join _ _ _ _ _ (join _ _ _ _ _ g (cons (at t.Slash p) [] (piece_at t.Slash p b) ts _ (refl, refl) (nil refl))) h.1))),
-    tt))
+more_prod-sound = (
+  (λ p b ts vs rest h x from g. (h.2 (Multiply x p product_words.Times vs.0) from (join _ _ _ _ _ (join _ _ _ _ _ g (cons (at t.Star p) [] (piece_at t.Star p b) ts _ (refl, refl) (nil refl))) h.1))),
+  (
+    (λ p b ts vs rest h x from g. (h.2 (Multiply x p product_words.Divide vs.0) from (join _ _ _ _ _ (join _ _ _ _ _ g (cons (at t.Slash p) [] (piece_at t.Slash p b) ts _ (refl, refl) (nil refl))) h.1))),
+    tt,
+  ),
+)
 
 sum-sound : SoundRows TheSum sum_rows make_sum
 sum-sound = then-sounds TheProd TheSum MoreSum (λ u w. w (OneProd u)) (λ u w from mid rest h g. g (OneProd u) from h) prod_rows make_prod prod-sound
 
 more_sum-sound : SoundRows MoreSum more_sum_rows make_more_sum
-more_sum-sound =
-    ((λ p b ts vs rest h x from g. (h.2 (Add x p sum_words.Plus vs.0) from (join _ _ _ _ _ (join _ _ _ _ _ g (cons (at t.Plus p) [] (piece_at t.Plus p b) ts _ (refl, refl) (nil refl))) h.1))),
-    ((λ p b ts vs rest h x from g. (h.2 (Add x p sum_words.Minus vs.0) from (join _ _ _ _ _ (join _ _ _ _ _ g (cons (at t.Dash p) [] (piece_at t.Dash p b) ts _ (refl, refl) (nil refl))) h.1))),
-    ((λ p b ts vs rest h x from g. (h.2 (Add x p sum_words.Concat vs.0) from (join _ _ _ _ _ (join _ _ _ _ _ g (cons (at t.Bars p) [] (piece_at t.Bars p b) ts _ (refl, refl) (nil refl))) h.1))),
-    tt)))
+more_sum-sound = (
+  (λ p b ts vs rest h x from g. (h.2 (Add x p sum_words.Plus vs.0) from (join _ _ _ _ _ (join _ _ _ _ _ g (cons (at t.Plus p) [] (piece_at t.Plus p b) ts _ (refl, refl) (nil refl))) h.1))),
+  (
+    (λ p b ts vs rest h x from g. (h.2 (Add x p sum_words.Minus vs.0) from (join _ _ _ _ _ (join _ _ _ _ _ g (cons (at t.Dash p) [] (piece_at t.Dash p b) ts _ (refl, refl) (nil refl))) h.1))),
+    (
+      (λ p b ts vs rest h x from g. (h.2 (Add x p sum_words.Concat vs.0) from (join _ _ _ _ _ (join _ _ _ _ _ g (cons (at t.Bars p) [] (piece_at t.Bars p b) ts _ (refl, refl) (nil refl))) h.1))),
+      tt,
+    ),
+  ),
+)
 
 cmp-sound : SoundRows TheCmp cmp_rows make_cmp
 cmp-sound = then-sounds TheSum TheCmp MoreCmp (λ u w. w u) (λ u w from mid rest h g. g u from h) sum_rows make_sum sum-sound
 
 more_cmp-sound : SoundRows MoreCmp more_cmp_rows make_more_cmp
-more_cmp-sound =
-    ((λ p b ts vs rest h x from g. (join _ _ _ _ _ (join _ _ _ _ _ g (cons (at t.Equal p) [] (piece_at t.Equal p b) ts _ (refl, refl) (nil refl))) h)),
-    ((λ p b ts vs rest h x from g. (join _ _ _ _ _ (join _ _ _ _ _ g (cons (at t.NotEqual p) [] (piece_at t.NotEqual p b) ts _ (refl, refl) (nil refl))) h)),
-    ((λ p b ts vs rest h x from g. (join _ _ _ _ _ (join _ _ _ _ _ g (cons (at t.Less p) [] (piece_at t.Less p b) ts _ (refl, refl) (nil refl))) h)),
-    ((λ p b ts vs rest h x from g. (join _ _ _ _ _ (join _ _ _ _ _ g (cons (at t.LessEqual p) [] (piece_at t.LessEqual p b) ts _ (refl, refl) (nil refl))) h)),
-    ((λ p b ts vs rest h x from g. (join _ _ _ _ _ (join _ _ _ _ _ g (cons (at t.Greater p) [] (piece_at t.Greater p b) ts _ (refl, refl) (nil refl))) h)),
-    ((λ p b ts vs rest h x from g. (join _ _ _ _ _ (join _ _ _ _ _ g (cons (at t.GreaterEqual p) [] (piece_at t.GreaterEqual p b) ts _ (refl, refl) (nil refl))) h)),
-    ((λ p b ts vs rest h x from g. (join _ _ _ _ _ (join _ _ _ _ _ g (cons (at t.In p) [] (piece_at t.In p b) ts _ (refl, refl) (nil refl))) h)),
-    ((λ p b ts vs rest h x from g. (join _ _ _ _ _ (join _ _ _ _ _ g (cons (at t.Includes p) [] (piece_at t.Includes p b) ts _ (refl, refl) (nil refl))) h)),
-    ((λ p b ts vs rest h x from g. (join _ _ _ _ _ (join _ _ _ _ _ g (cons (at t.IncludedIn p) [] (piece_at t.IncludedIn p b) ts _ (refl, refl) (nil refl))) h)),
-    ((λ p b ts vs rest h x from g. (join _ _ _ _ _ (join _ _ _ _ _ g (cons (at t.Before p) [] (piece_at t.Before p b) ts _ (refl, refl) (nil refl))) h)),
-    ((λ p b ts vs rest h x from g. (join _ _ _ _ _ (join _ _ _ _ _ g (cons (at t.After p) [] (piece_at t.After p b) ts _ (refl, refl) (nil refl))) h)),
-    ((λ p b ts vs rest h x from g. (join _ _ _ _ _ (join _ _ _ _ _ g (cons (at t.Meets p) [] (piece_at t.Meets p b) ts _ (refl, refl) (nil refl))) h)),
-    ((λ p b ts vs rest h x from g. (join _ _ _ _ _ (join _ _ _ _ _ g (cons (at t.Overlaps p) [] (piece_at t.Overlaps p b) ts _ (refl, refl) (nil refl))) h)),
-    ((λ p b ts vs rest h x from g. (join _ _ _ _ _ (join _ _ _ _ _ g (cons (at t.Merges p) [] (piece_at t.Merges p b) ts _ (refl, refl) (nil refl))) h)),
-    ((λ p b ts vs rest h x from g. (join _ _ _ _ _ (join _ _ _ _ _ g (cons (at t.Begins p) [] (piece_at t.Begins p b) ts _ (refl, refl) (nil refl))) h)),
-    ((λ p b ts vs rest h x from g. (join _ _ _ _ _ (join _ _ _ _ _ g (cons (at t.Ends p) [] (piece_at t.Ends p b) ts _ (refl, refl) (nil refl))) h)),
-    tt))))))))))))))))
+more_cmp-sound = (
+  (λ p b ts vs rest h x from g. (join _ _ _ _ _ (join _ _ _ _ _ g (cons (at t.Equal p) [] (piece_at t.Equal p b) ts _ (refl, refl) (nil refl))) h)),
+  (
+    (λ p b ts vs rest h x from g. (join _ _ _ _ _ (join _ _ _ _ _ g (cons (at t.NotEqual p) [] (piece_at t.NotEqual p b) ts _ (refl, refl) (nil refl))) h)),
+    (
+      (λ p b ts vs rest h x from g. (join _ _ _ _ _ (join _ _ _ _ _ g (cons (at t.Less p) [] (piece_at t.Less p b) ts _ (refl, refl) (nil refl))) h)),
+      (
+        (λ p b ts vs rest h x from g. (join _ _ _ _ _ (join _ _ _ _ _ g (cons (at t.LessEqual p) [] (piece_at t.LessEqual p b) ts _ (refl, refl) (nil refl))) h)),
+        (
+          (λ p b ts vs rest h x from g. (join _ _ _ _ _ (join _ _ _ _ _ g (cons (at t.Greater p) [] (piece_at t.Greater p b) ts _ (refl, refl) (nil refl))) h)),
+          (
+            (λ p b ts vs rest h x from g. (join _ _ _ _ _ (join _ _ _ _ _ g (cons (at t.GreaterEqual p) [] (piece_at t.GreaterEqual p b) ts _ (refl, refl) (nil refl))) h)),
+            (
+              (λ p b ts vs rest h x from g. (join _ _ _ _ _ (join _ _ _ _ _ g (cons (at t.In p) [] (piece_at t.In p b) ts _ (refl, refl) (nil refl))) h)),
+              (
+                (λ p b ts vs rest h x from g. (join _ _ _ _ _ (join _ _ _ _ _ g (cons (at t.Includes p) [] (piece_at t.Includes p b) ts _ (refl, refl) (nil refl))) h)),
+                (
+                  (λ p b ts vs rest h x from g. (join _ _ _ _ _ (join _ _ _ _ _ g (cons (at t.IncludedIn p) [] (piece_at t.IncludedIn p b) ts _ (refl, refl) (nil refl))) h)),
+                  (
+                    (λ p b ts vs rest h x from g. (join _ _ _ _ _ (join _ _ _ _ _ g (cons (at t.Before p) [] (piece_at t.Before p b) ts _ (refl, refl) (nil refl))) h)),
+                    (
+                      (λ p b ts vs rest h x from g. (join _ _ _ _ _ (join _ _ _ _ _ g (cons (at t.After p) [] (piece_at t.After p b) ts _ (refl, refl) (nil refl))) h)),
+                      (
+                        (λ p b ts vs rest h x from g. (join _ _ _ _ _ (join _ _ _ _ _ g (cons (at t.Meets p) [] (piece_at t.Meets p b) ts _ (refl, refl) (nil refl))) h)),
+                        (
+                          (λ p b ts vs rest h x from g. (join _ _ _ _ _ (join _ _ _ _ _ g (cons (at t.Overlaps p) [] (piece_at t.Overlaps p b) ts _ (refl, refl) (nil refl))) h)),
+                          (
+                            (λ p b ts vs rest h x from g. (join _ _ _ _ _ (join _ _ _ _ _ g (cons (at t.Merges p) [] (piece_at t.Merges p b) ts _ (refl, refl) (nil refl))) h)),
+                            (
+                              (λ p b ts vs rest h x from g. (join _ _ _ _ _ (join _ _ _ _ _ g (cons (at t.Begins p) [] (piece_at t.Begins p b) ts _ (refl, refl) (nil refl))) h)),
+                              (
+                                (λ p b ts vs rest h x from g. (join _ _ _ _ _ (join _ _ _ _ _ g (cons (at t.Ends p) [] (piece_at t.Ends p b) ts _ (refl, refl) (nil refl))) h)),
+                                tt,
+                              ),
+                            ),
+                          ),
+                        ),
+                      ),
+                    ),
+                  ),
+                ),
+              ),
+            ),
+          ),
+        ),
+      ),
+    ),
+  ),
+)
 
 neg-sound : SoundRows TheNeg neg_rows make_neg
 neg-sound = (append-sounds TheNeg (on t.Not (Opens (TheNeg ∷ [])) [] ∷ []) cmp_rows ((λ p b v. Not p v.0), tt) (over_makes TheCmp TheNeg (λ u. OneCmp u) cmp_rows make_cmp) ((λ p b ts vs rest h. (join _ _ _ _ _ (cons (at t.Not p) [] (piece_at t.Not p b) ts _ (refl, refl) (nil refl)) h)), tt) (over-sounds TheCmp TheNeg (λ u. OneCmp u) (λ u from rest h. h) cmp_rows make_cmp cmp-sound))
@@ -350,11 +413,16 @@ more_or-sound : SoundRows MoreOr more_or_rows make_more_or
 more_or-sound = ((λ p b ts vs rest h x from g. (h.2 (Or x p vs.0) from (join _ _ _ _ _ (join _ _ _ _ _ g (cons (at t.Or p) [] (piece_at t.Or p b) ts _ (refl, refl) (nil refl))) h.1))), tt)
 
 point-sound : SoundRows ThePoint point_rows make_point
-point-sound =
-    ((λ p b ts vs rest h. (cons (at t.Integer p) [] (piece_at t.Integer p b) ts _ (refl, refl) (nil h))),
-    ((λ p b ts vs rest h. (cons (at t.Date p) [] (piece_at t.Date p b) ts _ (refl, refl) (nil h))),
-    ((λ p b ts vs rest h. (cons (spelled t.Name p b) [] (piece_at t.Name p b) ts _ (refl, refl, refl) (nil h))),
-    tt)))
+point-sound = (
+  (λ p b ts vs rest h. (cons (at t.Integer p) [] (piece_at t.Integer p b) ts _ (refl, refl) (nil h))),
+  (
+    (λ p b ts vs rest h. (cons (at t.Date p) [] (piece_at t.Date p b) ts _ (refl, refl) (nil h))),
+    (
+      (λ p b ts vs rest h. (cons (spelled t.Name p b) [] (piece_at t.Name p b) ts _ (refl, refl, refl) (nil h))),
+      tt,
+    ),
+  ),
+)
 
 kind-sound : SoundRows TheKind kind_rows make_kind
 kind-sound = (append-sounds TheKind (on t.Boolean Plain [] ∷ on t.Char Plain [] ∷ on t.Interval Plain (InPoint ∷ []) ∷ []) point_rows ((λ p b v. BooleanKind p), ((λ p b v. CharKind p), ((λ p b v. IntervalKind p v.0), tt))) (over_makes ThePoint TheKind (λ u. PointKind u) point_rows make_point) ((λ p b ts vs rest h. (cons (at t.Boolean p) [] (piece_at t.Boolean p b) ts _ (refl, refl) (nil h))), ((λ p b ts vs rest h. (cons (at t.Char p) [] (piece_at t.Char p b) ts _ (refl, refl) (nil h))), ((λ p b ts vs rest h. (join _ _ _ _ _ (cons (at t.Interval p) [] (piece_at t.Interval p b) ts _ (refl, refl) (nil refl)) h)), tt))) (over-sounds ThePoint TheKind (λ u. PointKind u) (λ u from rest h. h) point_rows make_point point-sound))
@@ -366,10 +434,13 @@ more_attributes-sound : SoundRows MoreAttributes more_attributes_rows make_more_
 more_attributes-sound = ((λ p b ts vs rest h. (join _ _ _ _ _ (join _ _ _ _ _ (cons (fixed t.Comma) [] (piece_at t.Comma p b) ts _ refl (nil refl)) h.1) h.2)), tt)
 
 in_heading-sound : SoundRows InHeading in_heading_rows make_in_heading
-in_heading-sound =
-    ((λ p b ts vs rest h. (cons (fixed t.CloseBrace) [] (piece_at t.CloseBrace p b) ts _ refl (nil h))),
-    ((λ p b ts vs rest h. (join _ _ _ _ _ (join _ _ _ _ _ (join _ _ _ _ _ (cons (spelled t.Name p b) [] (piece_at t.Name p b) ts _ (refl, refl, refl) (nil refl)) h.1) h.2.1) h.2.2)),
-    tt))
+in_heading-sound = (
+  (λ p b ts vs rest h. (cons (fixed t.CloseBrace) [] (piece_at t.CloseBrace p b) ts _ refl (nil h))),
+  (
+    (λ p b ts vs rest h. (join _ _ _ _ _ (join _ _ _ _ _ (join _ _ _ _ _ (cons (spelled t.Name p b) [] (piece_at t.Name p b) ts _ (refl, refl, refl) (nil refl)) h.1) h.2.1) h.2.2)),
+    tt,
+  ),
+)
 
 heading-sound : SoundRows TheHeading heading_rows make_heading
 heading-sound = ((λ p b ts vs rest h. (join _ _ _ _ _ (cons (at t.OpenBrace p) [] (piece_at t.OpenBrace p b) ts _ (refl, refl) (nil refl)) h)), tt)
@@ -378,16 +449,22 @@ more_names-sound : SoundRows MoreNames more_names_rows make_more_names
 more_names-sound = ((λ p b ts vs rest h. (join _ _ _ _ _ (join _ _ _ _ _ (cons (fixed t.Comma) [] (piece_at t.Comma p b) ts _ refl (nil refl)) h.1) h.2)), tt)
 
 in_names-sound : SoundRows InNames in_names_rows make_in_names
-in_names-sound =
-    ((λ p b ts vs rest h. (cons (fixed t.CloseBrace) [] (piece_at t.CloseBrace p b) ts _ refl (nil h))),
-    ((λ p b ts vs rest h. (join _ _ _ _ _ (join _ _ _ _ _ (cons (spelled t.Name p b) [] (piece_at t.Name p b) ts _ (refl, refl, refl) (nil refl)) h.1) h.2)),
-    tt))
+in_names-sound = (
+  (λ p b ts vs rest h. (cons (fixed t.CloseBrace) [] (piece_at t.CloseBrace p b) ts _ refl (nil h))),
+  (
+    (λ p b ts vs rest h. (join _ _ _ _ _ (join _ _ _ _ _ (cons (spelled t.Name p b) [] (piece_at t.Name p b) ts _ (refl, refl, refl) (nil refl)) h.1) h.2)),
+    tt,
+  ),
+)
 
 in_list-sound : SoundRows InList in_list_rows make_in_list
-in_list-sound =
-    ((λ p b ts vs rest h. (cons (fixed t.Close) [] (piece_at t.Close p b) ts _ refl (nil h))),
-    ((λ p b ts vs rest h. (join _ _ _ _ _ (join _ _ _ _ _ (cons (spelled t.Name p b) [] (piece_at t.Name p b) ts _ (refl, refl, refl) (nil refl)) h.1) h.2)),
-    tt))
+in_list-sound = (
+  (λ p b ts vs rest h. (cons (fixed t.Close) [] (piece_at t.Close p b) ts _ refl (nil h))),
+  (
+    (λ p b ts vs rest h. (join _ _ _ _ _ (join _ _ _ _ _ (cons (spelled t.Name p b) [] (piece_at t.Name p b) ts _ (refl, refl, refl) (nil refl)) h.1) h.2)),
+    tt,
+  ),
+)
 
 names-sound : SoundRows TheNames names_rows make_names
 names-sound = ((λ p b ts vs rest h. (join _ _ _ _ _ (cons (at t.OpenBrace p) [] (piece_at t.OpenBrace p b) ts _ (refl, refl) (nil refl)) h)), tt)
@@ -408,10 +485,13 @@ more_elements-sound : SoundRows MoreElements more_elements_rows make_more_elemen
 more_elements-sound = ((λ p b ts vs rest h. (join _ _ _ _ _ (join _ _ _ _ _ (cons (fixed t.Comma) [] (piece_at t.Comma p b) ts _ refl (nil refl)) h.1) h.2)), tt)
 
 in_elements-sound : SoundRows InElements in_elements_rows make_in_elements
-in_elements-sound =
-    ((λ p b ts vs rest h. (cons (fixed t.CloseBrace) [] (piece_at t.CloseBrace p b) ts _ refl (nil h))),
-    ((λ p b ts vs rest h. (join _ _ _ _ _ (join _ _ _ _ _ (join _ _ _ _ _ (cons (spelled t.Name p b) [] (piece_at t.Name p b) ts _ (refl, refl, refl) (nil refl)) h.1) h.2.1) h.2.2)),
-    tt))
+in_elements-sound = (
+  (λ p b ts vs rest h. (cons (fixed t.CloseBrace) [] (piece_at t.CloseBrace p b) ts _ refl (nil h))),
+  (
+    (λ p b ts vs rest h. (join _ _ _ _ _ (join _ _ _ _ _ (join _ _ _ _ _ (cons (spelled t.Name p b) [] (piece_at t.Name p b) ts _ (refl, refl, refl) (nil refl)) h.1) h.2.1) h.2.2)),
+    tt,
+  ),
+)
 
 elements-sound : SoundRows TheElements elements_rows make_elements
 elements-sound = ((λ p b ts vs rest h. (join _ _ _ _ _ (cons (at t.OpenBrace p) [] (piece_at t.OpenBrace p b) ts _ (refl, refl) (nil refl)) h)), tt)
@@ -426,10 +506,13 @@ more_tuples-sound : SoundRows MoreTuples more_tuples_rows make_more_tuples
 more_tuples-sound = ((λ p b ts vs rest h. (join _ _ _ _ _ (join _ _ _ _ _ (cons (fixed t.Comma) [] (piece_at t.Comma p b) ts _ refl (nil refl)) h.1) h.2)), tt)
 
 in_tuples-sound : SoundRows InTuples in_tuples_rows make_in_tuples
-in_tuples-sound =
-    ((λ p b ts vs rest h. (cons (fixed t.CloseBrace) [] (piece_at t.CloseBrace p b) ts _ refl (nil h))),
-    ((λ p b ts vs rest h. (join _ _ _ _ _ (join _ _ _ _ _ (join _ _ _ _ _ (cons (at t.Tuple p) [] (piece_at t.Tuple p b) ts _ (refl, refl) (nil refl)) h.1) h.2.1) h.2.2)),
-    tt))
+in_tuples-sound = (
+  (λ p b ts vs rest h. (cons (fixed t.CloseBrace) [] (piece_at t.CloseBrace p b) ts _ refl (nil h))),
+  (
+    (λ p b ts vs rest h. (join _ _ _ _ _ (join _ _ _ _ _ (join _ _ _ _ _ (cons (at t.Tuple p) [] (piece_at t.Tuple p b) ts _ (refl, refl) (nil refl)) h.1) h.2.1) h.2.2)),
+    tt,
+  ),
+)
 
 tuples-sound : SoundRows TheTuples tuples_rows make_tuples
 tuples-sound = ((λ p b ts vs rest h. (join _ _ _ _ _ (cons (fixed t.OpenBrace) [] (piece_at t.OpenBrace p b) ts _ refl (nil refl)) h)), tt)
@@ -453,12 +536,19 @@ empty_parens-sound : SoundRows EmptyParens empty_parens_rows make_empty_parens
 empty_parens-sound = ((λ p b ts vs rest h. (join _ _ _ _ _ (cons (fixed t.Open) [] (piece_at t.Open p b) ts _ refl (nil refl)) h)), tt)
 
 aggregate_form-sound : SoundRows TheAggregateForm aggregate_form_rows make_aggregate_form
-aggregate_form-sound =
-    ((λ p b ts vs rest h. (join _ _ _ _ _ (cons (at t.Count p) [] (piece_at t.Count p b) ts _ (refl, refl) (nil refl)) h)),
-    ((λ p b ts vs rest h. (join _ _ _ _ _ (cons (at t.Sum p) [] (piece_at t.Sum p b) ts _ (refl, refl) (nil refl)) h)),
-    ((λ p b ts vs rest h. (join _ _ _ _ _ (cons (at t.Min p) [] (piece_at t.Min p b) ts _ (refl, refl) (nil refl)) h)),
-    ((λ p b ts vs rest h. (join _ _ _ _ _ (cons (at t.Max p) [] (piece_at t.Max p b) ts _ (refl, refl) (nil refl)) h)),
-    tt))))
+aggregate_form-sound = (
+  (λ p b ts vs rest h. (join _ _ _ _ _ (cons (at t.Count p) [] (piece_at t.Count p b) ts _ (refl, refl) (nil refl)) h)),
+  (
+    (λ p b ts vs rest h. (join _ _ _ _ _ (cons (at t.Sum p) [] (piece_at t.Sum p b) ts _ (refl, refl) (nil refl)) h)),
+    (
+      (λ p b ts vs rest h. (join _ _ _ _ _ (cons (at t.Min p) [] (piece_at t.Min p b) ts _ (refl, refl) (nil refl)) h)),
+      (
+        (λ p b ts vs rest h. (join _ _ _ _ _ (cons (at t.Max p) [] (piece_at t.Max p b) ts _ (refl, refl) (nil refl)) h)),
+        tt,
+      ),
+    ),
+  ),
+)
 
 aggregate-sound : SoundRows TheAggregate aggregate_rows make_aggregate
 aggregate-sound = ((λ p b ts vs rest h. (join _ _ _ _ _ (join _ _ _ _ _ (cons (spelled t.Name p b) [] (piece_at t.Name p b) ts _ (refl, refl, refl) (nil refl)) h.1) h.2)), tt)
@@ -488,11 +578,16 @@ maybe_where-sound : SoundRows MaybeWhere maybe_where_rows make_maybe_where
 maybe_where-sound = ((λ p b ts vs rest h. (join _ _ _ _ _ (cons (at t.Where p) [] (piece_at t.Where p b) ts _ (refl, refl) (nil refl)) h)), tt)
 
 in_projection-sound : SoundRows InProjection in_projection_rows make_in_projection
-in_projection-sound =
-    ((λ p b ts vs rest h q from g. (join _ _ _ _ _ g (cons (fixed t.CloseBrace) [] (piece_at t.CloseBrace p b) ts _ refl (nil h)))),
-    ((λ p b ts vs rest h q from g. (join _ _ _ _ _ (join _ _ _ _ _ (join _ _ _ _ _ g (cons (spelled t.Name p b) [] (piece_at t.Name p b) ts _ (refl, refl, refl) (nil refl))) h.1) h.2)),
-    ((λ p b ts vs rest h q from g. (join _ _ _ _ _ (join _ _ _ _ _ (join _ _ _ _ _ (join _ _ _ _ _ (join _ _ _ _ _ g (cons (fixed t.All) [] (piece_at t.All p b) ts _ refl (nil refl))) h.1) h.2.1) h.2.2.1) h.2.2.2)),
-    tt)))
+in_projection-sound = (
+  (λ p b ts vs rest h q from g. (join _ _ _ _ _ g (cons (fixed t.CloseBrace) [] (piece_at t.CloseBrace p b) ts _ refl (nil h)))),
+  (
+    (λ p b ts vs rest h q from g. (join _ _ _ _ _ (join _ _ _ _ _ (join _ _ _ _ _ g (cons (spelled t.Name p b) [] (piece_at t.Name p b) ts _ (refl, refl, refl) (nil refl))) h.1) h.2)),
+    (
+      (λ p b ts vs rest h q from g. (join _ _ _ _ _ (join _ _ _ _ _ (join _ _ _ _ _ (join _ _ _ _ _ (join _ _ _ _ _ g (cons (fixed t.All) [] (piece_at t.All p b) ts _ refl (nil refl))) h.1) h.2.1) h.2.2.1) h.2.2.2)),
+      tt,
+    ),
+  ),
+)
 
 operand-sound : SoundRows TheOperand operand_rows make_operand
 operand-sound = (append-sounds TheOperand (on t.Name Plain [] ∷ []) (literal_rows ++ (on t.Open (Opens (TheRel ∷ Just t.Close ∷ [])) [] ∷ on t.Pack (Opens (TheRel ∷ Just t.On ∷ TheList ∷ [])) [] ∷ on t.Unpack (Opens (TheRel ∷ Just t.On ∷ TheList ∷ [])) [] ∷ [])) ((λ p b v. Relvar (word p b)), tt) (append_makes TheOperand literal_rows (on t.Open (Opens (TheRel ∷ Just t.Close ∷ [])) [] ∷ on t.Pack (Opens (TheRel ∷ Just t.On ∷ TheList ∷ [])) [] ∷ on t.Unpack (Opens (TheRel ∷ Just t.On ∷ TheList ∷ [])) [] ∷ []) (over_makes TheLiteral TheOperand (λ u. OfLiteral u) literal_rows make_literal) ((λ p b v. ParenRel p v.0), ((λ p b v. PackOn p pack_words.Pack v.0 v.1.1.0), ((λ p b v. PackOn p pack_words.Unpack v.0 v.1.1.0), tt)))) ((λ p b ts vs rest h. (cons (spelled t.Name p b) [] (piece_at t.Name p b) ts _ (refl, refl, refl) (nil h))), tt) (append-sounds TheOperand literal_rows (on t.Open (Opens (TheRel ∷ Just t.Close ∷ [])) [] ∷ on t.Pack (Opens (TheRel ∷ Just t.On ∷ TheList ∷ [])) [] ∷ on t.Unpack (Opens (TheRel ∷ Just t.On ∷ TheList ∷ [])) [] ∷ []) (over_makes TheLiteral TheOperand (λ u. OfLiteral u) literal_rows make_literal) ((λ p b v. ParenRel p v.0), ((λ p b v. PackOn p pack_words.Pack v.0 v.1.1.0), ((λ p b v. PackOn p pack_words.Unpack v.0 v.1.1.0), tt))) (over-sounds TheLiteral TheOperand (λ u. OfLiteral u) (λ u from rest h. h) literal_rows make_literal literal-sound) ((λ p b ts vs rest h. (join _ _ _ _ _ (join _ _ _ _ _ (cons (at t.Open p) [] (piece_at t.Open p b) ts _ (refl, refl) (nil refl)) h.1) h.2)), ((λ p b ts vs rest h. (join _ _ _ _ _ (join _ _ _ _ _ (join _ _ _ _ _ (cons (at t.Pack p) [] (piece_at t.Pack p b) ts _ (refl, refl) (nil refl)) h.1) h.2.1) h.2.2)), ((λ p b ts vs rest h. (join _ _ _ _ _ (join _ _ _ _ _ (join _ _ _ _ _ (cons (at t.Unpack p) [] (piece_at t.Unpack p b) ts _ (refl, refl) (nil refl)) h.1) h.2.1) h.2.2)), tt)))))
@@ -510,24 +605,40 @@ term-sound : SoundRows TheTerm term_rows make_term
 term-sound = then-sounds TheRelPrimary TheTerm MorePostfix (λ u w. w (OneRelPrimary u)) (λ u w from mid rest h g. g (OneRelPrimary u) from h) rel_primary_rows make_rel_primary rel_primary-sound
 
 more_postfix-sound : SoundRows MorePostfix more_postfix_rows make_more_postfix
-more_postfix-sound =
-    ((λ p b ts vs rest h x from g. (h.2 (Project x (vs.0 p)) from (join _ _ _ _ _ g (h.1 p (piece_at t.OpenBrace p b ∷ ts) (cons (at t.OpenBrace p) [] (piece_at t.OpenBrace p b) ts _ (refl, refl) (nil refl)))))),
-    ((λ p b ts vs rest h x from g. (h.2 (Filter x p vs.0) from (join _ _ _ _ _ (join _ _ _ _ _ g (cons (at t.Where p) [] (piece_at t.Where p b) ts _ (refl, refl) (nil refl))) h.1))),
-    ((λ p b ts vs rest h x from g. (h.2 (Rename x p vs.0) from (join _ _ _ _ _ (join _ _ _ _ _ g (cons (at t.Rename p) [] (piece_at t.Rename p b) ts _ (refl, refl) (nil refl))) h.1))),
-    tt)))
+more_postfix-sound = (
+  (λ p b ts vs rest h x from g. (h.2 (Project x (vs.0 p)) from (join _ _ _ _ _ g (h.1 p (piece_at t.OpenBrace p b ∷ ts) (cons (at t.OpenBrace p) [] (piece_at t.OpenBrace p b) ts _ (refl, refl) (nil refl)))))),
+  (
+    (λ p b ts vs rest h x from g. (h.2 (Filter x p vs.0) from (join _ _ _ _ _ (join _ _ _ _ _ g (cons (at t.Where p) [] (piece_at t.Where p b) ts _ (refl, refl) (nil refl))) h.1))),
+    (
+      (λ p b ts vs rest h x from g. (h.2 (Rename x p vs.0) from (join _ _ _ _ _ (join _ _ _ _ _ g (cons (at t.Rename p) [] (piece_at t.Rename p b) ts _ (refl, refl) (nil refl))) h.1))),
+      tt,
+    ),
+  ),
+)
 
 terms-sound : SoundRows TheTerms terms_rows make_terms
 terms-sound = then-sounds TheTerm TheTerms MoreInfix (λ u w. w (OneTerm u)) (λ u w from mid rest h g. g (OneTerm u) from h) term_rows make_term term-sound
 
 more_infix-sound : SoundRows MoreInfix more_infix_rows make_more_infix
-more_infix-sound =
-    ((λ p b ts vs rest h x from g. (h.2 (Infix x p infixes.Union vs.0) from (join _ _ _ _ _ (join _ _ _ _ _ g (cons (at t.Union p) [] (piece_at t.Union p b) ts _ (refl, refl) (nil refl))) h.1))),
-    ((λ p b ts vs rest h x from g. (h.2 (Infix x p infixes.Intersect vs.0) from (join _ _ _ _ _ (join _ _ _ _ _ g (cons (at t.Intersect p) [] (piece_at t.Intersect p b) ts _ (refl, refl) (nil refl))) h.1))),
-    ((λ p b ts vs rest h x from g. (h.2 (Infix x p infixes.Minus vs.0) from (join _ _ _ _ _ (join _ _ _ _ _ g (cons (at t.Minus p) [] (piece_at t.Minus p b) ts _ (refl, refl) (nil refl))) h.1))),
-    ((λ p b ts vs rest h x from g. (h.2 (Infix x p infixes.Join vs.0) from (join _ _ _ _ _ (join _ _ _ _ _ g (cons (at t.Join p) [] (piece_at t.Join p b) ts _ (refl, refl) (nil refl))) h.1))),
-    ((λ p b ts vs rest h x from g. (h.2 (Infix x p infixes.Matching vs.0) from (join _ _ _ _ _ (join _ _ _ _ _ g (cons (at t.Matching p) [] (piece_at t.Matching p b) ts _ (refl, refl) (nil refl))) h.1))),
-    ((λ p b ts vs rest h x from g. (h.2.2 (NotMatching x p vs.1.0) from (join _ _ _ _ _ (join _ _ _ _ _ (join _ _ _ _ _ g (cons (at t.Not p) [] (piece_at t.Not p b) ts _ (refl, refl) (nil refl))) h.1) h.2.1))),
-    tt))))))
+more_infix-sound = (
+  (λ p b ts vs rest h x from g. (h.2 (Infix x p infixes.Union vs.0) from (join _ _ _ _ _ (join _ _ _ _ _ g (cons (at t.Union p) [] (piece_at t.Union p b) ts _ (refl, refl) (nil refl))) h.1))),
+  (
+    (λ p b ts vs rest h x from g. (h.2 (Infix x p infixes.Intersect vs.0) from (join _ _ _ _ _ (join _ _ _ _ _ g (cons (at t.Intersect p) [] (piece_at t.Intersect p b) ts _ (refl, refl) (nil refl))) h.1))),
+    (
+      (λ p b ts vs rest h x from g. (h.2 (Infix x p infixes.Minus vs.0) from (join _ _ _ _ _ (join _ _ _ _ _ g (cons (at t.Minus p) [] (piece_at t.Minus p b) ts _ (refl, refl) (nil refl))) h.1))),
+      (
+        (λ p b ts vs rest h x from g. (h.2 (Infix x p infixes.Join vs.0) from (join _ _ _ _ _ (join _ _ _ _ _ g (cons (at t.Join p) [] (piece_at t.Join p b) ts _ (refl, refl) (nil refl))) h.1))),
+        (
+          (λ p b ts vs rest h x from g. (h.2 (Infix x p infixes.Matching vs.0) from (join _ _ _ _ _ (join _ _ _ _ _ g (cons (at t.Matching p) [] (piece_at t.Matching p b) ts _ (refl, refl) (nil refl))) h.1))),
+          (
+            (λ p b ts vs rest h x from g. (h.2.2 (NotMatching x p vs.1.0) from (join _ _ _ _ _ (join _ _ _ _ _ (join _ _ _ _ _ g (cons (at t.Not p) [] (piece_at t.Not p b) ts _ (refl, refl) (nil refl))) h.1) h.2.1))),
+            tt,
+          ),
+        ),
+      ),
+    ),
+  ),
+)
 
 using-sound : SoundRows TheUsing using_rows make_using
 using-sound = ((λ p b ts vs rest h. (join _ _ _ _ _ (join _ _ _ _ _ (join _ _ _ _ _ (cons (at t.Using p) [] (piece_at t.Using p b) ts _ (refl, refl) (nil refl)) h.1) h.2.1) h.2.2)), tt)
@@ -539,16 +650,31 @@ using_part-sound : SoundRows TheUsingPart using_part_rows make_using_part
 using_part-sound = (append-sounds TheUsingPart extend_rows (summarize_rows ++ (operand_rows ▹ (AfterOperand ∷ []))) (over_makes TheExtend TheUsingPart (λ u. UsingExtend u) extend_rows make_extend) (append_makes TheUsingPart summarize_rows (operand_rows ▹ (AfterOperand ∷ [])) (over_makes TheSummarize TheUsingPart (λ u. UsingSummarize u) summarize_rows make_summarize) (then_makes TheOperand TheUsingPart AfterOperand (λ u w. w u) operand_rows make_operand)) (over-sounds TheExtend TheUsingPart (λ u. UsingExtend u) (λ u from rest h. h) extend_rows make_extend extend-sound) (append-sounds TheUsingPart summarize_rows (operand_rows ▹ (AfterOperand ∷ [])) (over_makes TheSummarize TheUsingPart (λ u. UsingSummarize u) summarize_rows make_summarize) (then_makes TheOperand TheUsingPart AfterOperand (λ u w. w u) operand_rows make_operand) (over-sounds TheSummarize TheUsingPart (λ u. UsingSummarize u) (λ u from rest h. h) summarize_rows make_summarize summarize-sound) (then-sounds TheOperand TheUsingPart AfterOperand (λ u w. w u) (λ u w from mid rest h g. g u from h) operand_rows make_operand operand-sound)))
 
 after_operand-sound : SoundRows AfterOperand after_operand_rows make_after_operand
-after_operand-sound =
-    ((λ p b ts vs rest h x from g. (join _ _ _ _ _ (join _ _ _ _ _ g (cons (at t.Union p) [] (piece_at t.Union p b) ts _ (refl, refl) (nil refl))) h)),
-    ((λ p b ts vs rest h x from g. (join _ _ _ _ _ (join _ _ _ _ _ g (cons (at t.Intersect p) [] (piece_at t.Intersect p b) ts _ (refl, refl) (nil refl))) h)),
-    ((λ p b ts vs rest h x from g. (join _ _ _ _ _ (join _ _ _ _ _ g (cons (at t.Minus p) [] (piece_at t.Minus p b) ts _ (refl, refl) (nil refl))) h)),
-    ((λ p b ts vs rest h x from g. (join _ _ _ _ _ (join _ _ _ _ _ g (cons (at t.Join p) [] (piece_at t.Join p b) ts _ (refl, refl) (nil refl))) h)),
-    ((λ p b ts vs rest h x from g. (join _ _ _ _ _ (join _ _ _ _ _ g (cons (at t.Matching p) [] (piece_at t.Matching p b) ts _ (refl, refl) (nil refl))) h)),
-    ((λ p b ts vs rest h x from g. (join _ _ _ _ _ (join _ _ _ _ _ (join _ _ _ _ _ g (cons (at t.Not p) [] (piece_at t.Not p b) ts _ (refl, refl) (nil refl))) h.1) h.2)),
-    ((λ p b ts vs rest h x from g. (join _ _ _ _ _ g (h p (piece_at t.OpenBrace p b ∷ ts) (cons (at t.OpenBrace p) [] (piece_at t.OpenBrace p b) ts _ (refl, refl) (nil refl))))),
-    ((λ p b ts vs rest h x from g. (join _ _ _ _ _ (join _ _ _ _ _ g (cons (at t.Where p) [] (piece_at t.Where p b) ts _ (refl, refl) (nil refl))) h)),
-    tt))))))))
+after_operand-sound = (
+  (λ p b ts vs rest h x from g. (join _ _ _ _ _ (join _ _ _ _ _ g (cons (at t.Union p) [] (piece_at t.Union p b) ts _ (refl, refl) (nil refl))) h)),
+  (
+    (λ p b ts vs rest h x from g. (join _ _ _ _ _ (join _ _ _ _ _ g (cons (at t.Intersect p) [] (piece_at t.Intersect p b) ts _ (refl, refl) (nil refl))) h)),
+    (
+      (λ p b ts vs rest h x from g. (join _ _ _ _ _ (join _ _ _ _ _ g (cons (at t.Minus p) [] (piece_at t.Minus p b) ts _ (refl, refl) (nil refl))) h)),
+      (
+        (λ p b ts vs rest h x from g. (join _ _ _ _ _ (join _ _ _ _ _ g (cons (at t.Join p) [] (piece_at t.Join p b) ts _ (refl, refl) (nil refl))) h)),
+        (
+          (λ p b ts vs rest h x from g. (join _ _ _ _ _ (join _ _ _ _ _ g (cons (at t.Matching p) [] (piece_at t.Matching p b) ts _ (refl, refl) (nil refl))) h)),
+          (
+            (λ p b ts vs rest h x from g. (join _ _ _ _ _ (join _ _ _ _ _ (join _ _ _ _ _ g (cons (at t.Not p) [] (piece_at t.Not p b) ts _ (refl, refl) (nil refl))) h.1) h.2)),
+            (
+              (λ p b ts vs rest h x from g. (join _ _ _ _ _ g (h p (piece_at t.OpenBrace p b ∷ ts) (cons (at t.OpenBrace p) [] (piece_at t.OpenBrace p b) ts _ (refl, refl) (nil refl))))),
+              (
+                (λ p b ts vs rest h x from g. (join _ _ _ _ _ (join _ _ _ _ _ g (cons (at t.Where p) [] (piece_at t.Where p b) ts _ (refl, refl) (nil refl))) h)),
+                tt,
+              ),
+            ),
+          ),
+        ),
+      ),
+    ),
+  ),
+)
 
 key-sound : SoundRows TheKey key_rows make_key
 key-sound = ((λ p b ts vs rest h. (join _ _ _ _ _ (cons (at t.Key p) [] (piece_at t.Key p b) ts _ (refl, refl) (nil refl)) h)), tt)
@@ -569,23 +695,37 @@ in_rel-sound : SoundRows InRel in_rel_rows make_in_rel
 in_rel-sound = ((λ p b ts vs rest h. (join _ _ _ _ _ (join _ _ _ _ _ (cons (fixed t.Open) [] (piece_at t.Open p b) ts _ refl (nil refl)) h.1) h.2)), tt)
 
 var_form-sound : SoundRows TheVarForm var_form_rows make_var_form
-var_form-sound =
-    ((λ p b ts vs rest h. (join _ _ _ _ _ (join _ _ _ _ _ (cons (at t.Relation p) [] (piece_at t.Relation p b) ts _ (refl, refl) (nil refl)) h.1) h.2)),
-    ((λ p b ts vs rest h. (join _ _ _ _ _ (cons (at t.Virtual p) [] (piece_at t.Virtual p b) ts _ (refl, refl) (nil refl)) h)),
-    tt))
+var_form-sound = (
+  (λ p b ts vs rest h. (join _ _ _ _ _ (join _ _ _ _ _ (cons (at t.Relation p) [] (piece_at t.Relation p b) ts _ (refl, refl) (nil refl)) h.1) h.2)),
+  (
+    (λ p b ts vs rest h. (join _ _ _ _ _ (cons (at t.Virtual p) [] (piece_at t.Virtual p b) ts _ (refl, refl) (nil refl)) h)),
+    tt,
+  ),
+)
 
 comparison-sound : SoundRows TheComparison comparison_rows make_comparison
 comparison-sound = then-sounds TheOperand TheComparison AfterLeft (λ u w. w u) (λ u w from mid rest h g. g u from h) operand_rows make_operand operand-sound
 
 after_left-sound : SoundRows AfterLeft after_left_rows make_after_left
-after_left-sound =
-    ((λ p b ts vs rest h x from g. (join _ _ _ _ _ (join _ _ _ _ _ g (cons (at t.Equal p) [] (piece_at t.Equal p b) ts _ (refl, refl) (nil refl))) h)),
-    ((λ p b ts vs rest h x from g. (join _ _ _ _ _ (join _ _ _ _ _ g (cons (at t.NotEqual p) [] (piece_at t.NotEqual p b) ts _ (refl, refl) (nil refl))) h)),
-    ((λ p b ts vs rest h x from g. (join _ _ _ _ _ (join _ _ _ _ _ g (cons (at t.Less p) [] (piece_at t.Less p b) ts _ (refl, refl) (nil refl))) h)),
-    ((λ p b ts vs rest h x from g. (join _ _ _ _ _ (join _ _ _ _ _ g (cons (at t.LessEqual p) [] (piece_at t.LessEqual p b) ts _ (refl, refl) (nil refl))) h)),
-    ((λ p b ts vs rest h x from g. (join _ _ _ _ _ (join _ _ _ _ _ g (cons (at t.Greater p) [] (piece_at t.Greater p b) ts _ (refl, refl) (nil refl))) h)),
-    ((λ p b ts vs rest h x from g. (join _ _ _ _ _ (join _ _ _ _ _ g (cons (at t.GreaterEqual p) [] (piece_at t.GreaterEqual p b) ts _ (refl, refl) (nil refl))) h)),
-    tt))))))
+after_left-sound = (
+  (λ p b ts vs rest h x from g. (join _ _ _ _ _ (join _ _ _ _ _ g (cons (at t.Equal p) [] (piece_at t.Equal p b) ts _ (refl, refl) (nil refl))) h)),
+  (
+    (λ p b ts vs rest h x from g. (join _ _ _ _ _ (join _ _ _ _ _ g (cons (at t.NotEqual p) [] (piece_at t.NotEqual p b) ts _ (refl, refl) (nil refl))) h)),
+    (
+      (λ p b ts vs rest h x from g. (join _ _ _ _ _ (join _ _ _ _ _ g (cons (at t.Less p) [] (piece_at t.Less p b) ts _ (refl, refl) (nil refl))) h)),
+      (
+        (λ p b ts vs rest h x from g. (join _ _ _ _ _ (join _ _ _ _ _ g (cons (at t.LessEqual p) [] (piece_at t.LessEqual p b) ts _ (refl, refl) (nil refl))) h)),
+        (
+          (λ p b ts vs rest h x from g. (join _ _ _ _ _ (join _ _ _ _ _ g (cons (at t.Greater p) [] (piece_at t.Greater p b) ts _ (refl, refl) (nil refl))) h)),
+          (
+            (λ p b ts vs rest h x from g. (join _ _ _ _ _ (join _ _ _ _ _ g (cons (at t.GreaterEqual p) [] (piece_at t.GreaterEqual p b) ts _ (refl, refl) (nil refl))) h)),
+            tt,
+          ),
+        ),
+      ),
+    ),
+  ),
+)
 
 test-sound : SoundRows TheTest test_rows make_test
 test-sound = (append-sounds TheTest (on t.Using (Opens (TheList ∷ Just t.Colon ∷ TheComparison ∷ [])) [] ∷ on t.IsEmpty Plain (InRel ∷ []) ∷ on t.IsNotEmpty Plain (InRel ∷ []) ∷ []) comparison_rows ((λ p b v. UsingTest p v.0 v.1.1.0), ((λ p b v. Emptiness p emptinesses.IsEmpty v.0), ((λ p b v. Emptiness p emptinesses.IsNotEmpty v.0), tt))) (over_makes TheComparison TheTest (λ u. OfComparison u) comparison_rows make_comparison) ((λ p b ts vs rest h. (join _ _ _ _ _ (join _ _ _ _ _ (join _ _ _ _ _ (cons (at t.Using p) [] (piece_at t.Using p b) ts _ (refl, refl) (nil refl)) h.1) h.2.1) h.2.2)), ((λ p b ts vs rest h. (join _ _ _ _ _ (cons (at t.IsEmpty p) [] (piece_at t.IsEmpty p b) ts _ (refl, refl) (nil refl)) h)), ((λ p b ts vs rest h. (join _ _ _ _ _ (cons (at t.IsNotEmpty p) [] (piece_at t.IsNotEmpty p b) ts _ (refl, refl) (nil refl)) h)), tt))) (over-sounds TheComparison TheTest (λ u. OfComparison u) (λ u from rest h. h) comparison_rows make_comparison comparison-sound))
@@ -594,24 +734,40 @@ used_deletion-sound : SoundRows TheUsedDeletion used_deletion_rows make_used_del
 used_deletion-sound = (append-sounds TheUsedDeletion (on t.Where Plain (TheScalar ∷ []) ∷ []) rel_rows ((λ p b v. UsedDeleteWhere p v.0), tt) (over_makes TheRel TheUsedDeletion (λ u. UsedDeleteRows u) rel_rows make_rel) ((λ p b ts vs rest h. (join _ _ _ _ _ (cons (at t.Where p) [] (piece_at t.Where p b) ts _ (refl, refl) (nil refl)) h)), tt) (over-sounds TheRel TheUsedDeletion (λ u. UsedDeleteRows u) (λ u from rest h. h) rel_rows make_rel rel-sound))
 
 used_item-sound : SoundRows TheUsedItem used_item_rows make_used_item
-used_item-sound =
-    ((λ p b ts vs rest h. (join _ _ _ _ _ (join _ _ _ _ _ (cons (at t.Insert p) [] (piece_at t.Insert p b) ts _ (refl, refl) (nil refl)) h.1) h.2)),
-    ((λ p b ts vs rest h. (join _ _ _ _ _ (join _ _ _ _ _ (cons (at t.Delete p) [] (piece_at t.Delete p b) ts _ (refl, refl) (nil refl)) h.1) h.2)),
-    ((λ p b ts vs rest h. (join _ _ _ _ _ (join _ _ _ _ _ (join _ _ _ _ _ (join _ _ _ _ _ (cons (at t.Update p) [] (piece_at t.Update p b) ts _ (refl, refl) (nil refl)) h.1) h.2.1) h.2.2.1) h.2.2.2)),
-    tt)))
+used_item-sound = (
+  (λ p b ts vs rest h. (join _ _ _ _ _ (join _ _ _ _ _ (cons (at t.Insert p) [] (piece_at t.Insert p b) ts _ (refl, refl) (nil refl)) h.1) h.2)),
+  (
+    (λ p b ts vs rest h. (join _ _ _ _ _ (join _ _ _ _ _ (cons (at t.Delete p) [] (piece_at t.Delete p b) ts _ (refl, refl) (nil refl)) h.1) h.2)),
+    (
+      (λ p b ts vs rest h. (join _ _ _ _ _ (join _ _ _ _ _ (join _ _ _ _ _ (join _ _ _ _ _ (cons (at t.Update p) [] (piece_at t.Update p b) ts _ (refl, refl) (nil refl)) h.1) h.2.1) h.2.2.1) h.2.2.2)),
+      tt,
+    ),
+  ),
+)
 
 deletion-sound : SoundRows TheDeletion deletion_rows make_deletion
 deletion-sound = (append-sounds TheDeletion (on t.Where Plain (TheScalar ∷ []) ∷ []) ((portion_rows ▹ (MaybeWhere ∷ [])) ++ rel_rows) ((λ p b v. DeleteWhere p v.0), tt) (append_makes TheDeletion (portion_rows ▹ (MaybeWhere ∷ [])) rel_rows (then_makes ThePortion TheDeletion MaybeWhere (λ u w. DeletePortion u w) portion_rows make_portion) (over_makes TheRel TheDeletion (λ u. DeleteRows u) rel_rows make_rel)) ((λ p b ts vs rest h. (join _ _ _ _ _ (cons (at t.Where p) [] (piece_at t.Where p b) ts _ (refl, refl) (nil refl)) h)), tt) (append-sounds TheDeletion (portion_rows ▹ (MaybeWhere ∷ [])) rel_rows (then_makes ThePortion TheDeletion MaybeWhere (λ u w. DeletePortion u w) portion_rows make_portion) (over_makes TheRel TheDeletion (λ u. DeleteRows u) rel_rows make_rel) (then-sounds ThePortion TheDeletion MaybeWhere (λ u w. DeletePortion u w) (λ u w from mid rest h g. join _ _ _ _ _ h g) portion_rows make_portion portion-sound) (over-sounds TheRel TheDeletion (λ u. DeleteRows u) (λ u from rest h. h) rel_rows make_rel rel-sound)))
 
 item-sound : SoundRows TheItem item_rows make_item
-item-sound =
-    ((λ p b ts vs rest h. (join _ _ _ _ _ (join _ _ _ _ _ (cons (spelled t.Name p b) [] (piece_at t.Name p b) ts _ (refl, refl, refl) (nil refl)) h.1) h.2)),
-    ((λ p b ts vs rest h. (join _ _ _ _ _ (join _ _ _ _ _ (cons (at t.Insert p) [] (piece_at t.Insert p b) ts _ (refl, refl) (nil refl)) h.1) h.2)),
-    ((λ p b ts vs rest h. (join _ _ _ _ _ (join _ _ _ _ _ (cons (at t.Delete p) [] (piece_at t.Delete p b) ts _ (refl, refl) (nil refl)) h.1) h.2)),
-    ((λ p b ts vs rest h. (join _ _ _ _ _ (join _ _ _ _ _ (join _ _ _ _ _ (join _ _ _ _ _ (join _ _ _ _ _ (cons (at t.Update p) [] (piece_at t.Update p b) ts _ (refl, refl) (nil refl)) h.1) h.2.1) h.2.2.1) h.2.2.2.1) h.2.2.2.2)),
-    ((λ p b ts vs rest h. (join _ _ _ _ _ (join _ _ _ _ _ (join _ _ _ _ _ (join _ _ _ _ _ (cons (at t.Terminate p) [] (piece_at t.Terminate p b) ts _ (refl, refl) (nil refl)) h.1) h.2.1) h.2.2.1) h.2.2.2)),
-    ((λ p b ts vs rest h. (join _ _ _ _ _ (join _ _ _ _ _ (join _ _ _ _ _ (cons (at t.Using p) [] (piece_at t.Using p b) ts _ (refl, refl) (nil refl)) h.1) h.2.1) h.2.2)),
-    tt))))))
+item-sound = (
+  (λ p b ts vs rest h. (join _ _ _ _ _ (join _ _ _ _ _ (cons (spelled t.Name p b) [] (piece_at t.Name p b) ts _ (refl, refl, refl) (nil refl)) h.1) h.2)),
+  (
+    (λ p b ts vs rest h. (join _ _ _ _ _ (join _ _ _ _ _ (cons (at t.Insert p) [] (piece_at t.Insert p b) ts _ (refl, refl) (nil refl)) h.1) h.2)),
+    (
+      (λ p b ts vs rest h. (join _ _ _ _ _ (join _ _ _ _ _ (cons (at t.Delete p) [] (piece_at t.Delete p b) ts _ (refl, refl) (nil refl)) h.1) h.2)),
+      (
+        (λ p b ts vs rest h. (join _ _ _ _ _ (join _ _ _ _ _ (join _ _ _ _ _ (join _ _ _ _ _ (join _ _ _ _ _ (cons (at t.Update p) [] (piece_at t.Update p b) ts _ (refl, refl) (nil refl)) h.1) h.2.1) h.2.2.1) h.2.2.2.1) h.2.2.2.2)),
+        (
+          (λ p b ts vs rest h. (join _ _ _ _ _ (join _ _ _ _ _ (join _ _ _ _ _ (join _ _ _ _ _ (cons (at t.Terminate p) [] (piece_at t.Terminate p b) ts _ (refl, refl) (nil refl)) h.1) h.2.1) h.2.2.1) h.2.2.2)),
+          (
+            (λ p b ts vs rest h. (join _ _ _ _ _ (join _ _ _ _ _ (join _ _ _ _ _ (cons (at t.Using p) [] (piece_at t.Using p b) ts _ (refl, refl) (nil refl)) h.1) h.2.1) h.2.2)),
+            tt,
+          ),
+        ),
+      ),
+    ),
+  ),
+)
 
 more_items-sound : SoundRows MoreItems more_items_rows make_more_items
 more_items-sound = ((λ p b ts vs rest h. (join _ _ _ _ _ (join _ _ _ _ _ (cons (fixed t.Comma) [] (piece_at t.Comma p b) ts _ refl (nil refl)) h.1) h.2)), tt)
@@ -813,8 +969,8 @@ made-sound s (spelt c more) m h x p b ts e =
     subst (λ z. SoundCase s Plain more m (piece_at z p b) ts) a (subst (λ z. SoundCase s Plain more m (piece_at t.Name p z) ts) d (h p ts))
 made-sound s (before y z how more how' more') m h x p b ts e =
     by_case-sound s how more how' more' (same z (first ts)) m.0 m.1 (piece_at x p b) ts
-      (λ c. subst (λ w. SoundCase s how more m.0 (piece_at w p b) ts) (number-same y x e) (h.0 p b ts (sym (number-same z (first ts) c))))
-      (λ c. subst (λ w. SoundCase s how' more' m.1 (piece_at w p b) ts) (number-same y x e) (h.1 p b ts (λ q. true-false (same z (first ts)) (ap (same z) q ∙ same-self z) c)))
+    (λ c. subst (λ w. SoundCase s how more m.0 (piece_at w p b) ts) (number-same y x e) (h.0 p b ts (sym (number-same z (first ts) c))))
+    (λ c. subst (λ w. SoundCase s how' more' m.1 (piece_at w p b) ts) (number-same y x e) (h.1 p b ts (λ q. true-false (same z (first ts)) (ap (same z) q ∙ same-self z) c)))
 
 pick-sound : (s : Symbol) (c : Bool) (r r' : Turn) (v : Built s r) (w : Built s r') (x : Piece) (ts : List Piece) → (c ≡ true → SoundTurn s r v x ts) → SoundTurn s r' w x ts → SoundTurn s (cond c r r') (pick s c r r' v w) x ts
 pick-sound s true r r' v w x ts h k = h refl

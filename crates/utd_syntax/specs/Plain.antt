@@ -1,6 +1,6 @@
 -- The syntax tree as plain data: without where its parts lie in memory. Each rule of the grammar is one type. A tree
 -- keeps the place of its first token, of each name, and of each token at which a refusal or a fault may stand.
-use Rattle.std.specs.Prelude.{ℕ, List, [], ◌∷◌}
+use Rattle.std.specs.Prelude.{ℕ, List}
 use Rattle.point_core.specs.declared.fault.Place.{Place}
 use Rattle.utd_syntax.specs.declared.words.ComparisonWord.{ComparisonWord}
 use Rattle.utd_syntax.specs.declared.words.SumWord.{SumWord}

@@ -1,19 +1,5 @@
 -- The plain tree of a tree: without where its parts lie in memory.
-use Rattle.std.specs.Prelude.{ℕ, List, [], ◌∷◌}
-use Rattle.point_core.specs.declared.fault.Place.{Place}
-use Rattle.utd_syntax.specs.declared.words.ComparisonWord.{ComparisonWord}
-use Rattle.utd_syntax.specs.declared.words.SumWord.{SumWord}
-use Rattle.utd_syntax.specs.declared.words.ProductWord.{ProductWord}
-use Rattle.utd_syntax.specs.declared.words.BeginBracket.{BeginBracket}
-use Rattle.utd_syntax.specs.declared.words.EndBracket.{EndBracket}
-use Rattle.utd_syntax.specs.declared.words.ExtremeWord.{ExtremeWord}
-use Rattle.utd_syntax.specs.declared.words.FunctionWord.{FunctionWord}
-use Rattle.utd_syntax.specs.declared.words.PairWord.{PairWord}
-use Rattle.utd_syntax.specs.declared.words.InfixWord.{InfixWord}
-use Rattle.utd_syntax.specs.declared.words.PackWord.{PackWord}
-use Rattle.utd_syntax.specs.declared.words.AggregateWord.{AggregateWord}
-use Rattle.utd_syntax.specs.declared.words.RelationComparison.{RelationComparison}
-use Rattle.utd_syntax.specs.declared.words.EmptinessWord.{EmptinessWord}
+use Rattle.std.specs.Prelude.{List, [], ◌∷◌}
 use Rattle.utd_syntax.specs.declared.word.Word.{Word as WordTree}
 use Rattle.utd_syntax.specs.declared.scalar.PointName.{PointName as PointNameTree}
 use Rattle.utd_syntax.specs.declared.scalar.PointName.TheVariants as rust_point
@@ -101,16 +87,6 @@ use Rattle.utd_syntax.specs.declared.statement.Item.TheVariants as rust_item
 use Rattle.utd_syntax.specs.declared.statement.Assignment.{Assignment as AssignmentTree}
 use Rattle.utd_syntax.specs.declared.statement.Statement.{Statement as StatementTree}
 use Rattle.utd_syntax.specs.declared.statement.Statement.TheVariants as rust_statement
-use Rattle.utd_syntax.specs.declared.word.Words.{Words as WordsTree}
-use Rattle.utd_syntax.specs.declared.parts.Attributes.{Attributes as AttributesTree}
-use Rattle.utd_syntax.specs.declared.parts.ElementList.{ElementList as ElementListTree}
-use Rattle.utd_syntax.specs.declared.parts.Tuples.{Tuples as TuplesTree}
-use Rattle.utd_syntax.specs.declared.parts.SetItems.{SetItems as SetItemsTree}
-use Rattle.utd_syntax.specs.declared.parts.AggregateList.{AggregateList as AggregateListTree}
-use Rattle.utd_syntax.specs.declared.parts.RenamingList.{RenamingList as RenamingListTree}
-use Rattle.utd_syntax.specs.declared.statement.Constraints.{Constraints as ConstraintsTree}
-use Rattle.utd_syntax.specs.declared.statement.Items.{Items as ItemsTree}
-use Rattle.utd_syntax.specs.declared.statement.History.{History as HistoryTree}
 use Rattle.utd_syntax.specs.Plain.{Word, PointP, ScalarP, ConjP, NegP, CmpP, SumP, ProdP, SignP, PrimaryP, KindP, AttributeP, HeadingP, NamesP, NameListP, SomeNamesP, ElementP, ElementsP, SomeElementsP, TupleP, LiteralP, SetItemP, SetsP, AggregateFormP, AggregateP, AggregatesP, RenamingP, RenamingsP, PortionP, MaybePortionP, ConditionP, ProjectionP, RelP, TermsP, TermP, RelPrimaryP, OperandP, ExtendP, SummarizeP, UsingP, UsingPartP, KeyP, ForeignP, UsedConstraintP, ConstraintP, VarFormP, ComparisonP, TestP, UsedDeletionP, UsedItemP, DeletionP, ItemP, AssignP, StatementP}
 use Rattle.utd_syntax.specs.Plain as plain
 
