@@ -1,1 +1,4 @@
 pub mod SetLemmas
+pub mod MemberLemmas
+pub mod SetOperatorLemmas
+pub mod OutcomeLemmas

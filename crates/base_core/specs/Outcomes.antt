@@ -1,6 +1,6 @@
 -- Words for what a call answers that may find a fault or want memory.
 --     OrFault, then_give, both, first_of_all, least_of_all      values or faults, and which of several counts
-use Rattle.std.specs.Prelude.{◌≡◌, Bool, List, [], ◌∷◌, Result, Ok, Err, if◌then◌else◌}
+use Rattle.std.specs.Prelude.{List, [], ◌∷◌, Result, Ok, Err, if◌then◌else◌}
 use Rattle.std.specs.Ordering.{is_lt}
 use Rattle.std.specs.declared.cmp.Ordering.{Ordering}
 

@@ -1,0 +1,4 @@
+pub mod MembersLemmas
+pub mod ComparisonLemmas
+pub mod OperatorLemmas
+pub mod SelectorLemmas

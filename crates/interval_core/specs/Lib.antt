@@ -1,2 +1,5 @@
 pub mod Members
+pub mod Comparisons
+pub mod Operators
+pub mod Selector
 pub mod Packing

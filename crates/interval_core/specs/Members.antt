@@ -1,5 +1,7 @@
 -- The numbers of an interval's points.
-use Rattle.std.specs.Prelude.{◌+◌, ℕ, zero, suc, ℤ, pos, negsuc, ◌+ℤ◌, ◌-ℤ◌, ◌≤ℤ◌, List, [], ◌∷◌}
+use Rattle.std.specs.Prelude.{ℕ, zero, suc, ℤ, pos, negsuc, ◌+ℤ◌, ◌-ℤ◌, Bool, List, [], ◌∷◌}
+use Rattle.std.specs.Ordering.{int_cmp}
+use Rattle.base_core.specs.Sets.{has}
 
 -- an interval: the numbers of its first and of its last member
 abbrev pub Span : Type 0
@@ -18,6 +20,10 @@ count_of (negsuc n) = zero
 -- the members of an interval. It unfolds only where asked, since an interval of a literal may have very many
 unfoldable pub members : Span → List ℤ
 members i = numbers_from (count_of ((i.1 +ℤ pos 1) -ℤ i.0)) i.0
+
+-- whether p is a member
+abbrev pub has_member : Span → ℤ → Bool
+has_member i p = has int_cmp (members i) p
 
 -- the interval of one point
 abbrev pub at_point : ℤ → Span

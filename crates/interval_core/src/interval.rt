@@ -1,7 +1,7 @@
 // An interval is kept by its ends.
 ghost use Rattle.std.specs.Prelude.{◌≡◌, ◌↔◌, ℕ, ◌+◌, ℤ, pos, ◌+ℤ◌, ◌≤ℤ◌, ◌<ℤ◌, IsNone, IfSome, IsTrue};
 
-use point_core::{PointType, Steps};
+use point_core::{PointNumber, PointType, Steps};
 use std::marker::Model;
 use std::sync::ledger::Ledger;
 
@@ -68,8 +68,8 @@ impl<T: PointType> Interval<T> {
         ensures end { T.number_of result.1 +ℤ pos 1 ≡ T.number_of cut }
         ensures cost { steps.new ≡ steps.old + 1 }
     {
-        let end = t.prior(cut, steps).unwrap();
-        Interval { begin, end }
+        let last = t.prior(cut, steps).unwrap();
+        Interval { begin, end: last }
     }
 
     /// The same interval.
@@ -96,5 +96,33 @@ impl<T: PointType> Interval<T> {
         ensures ordered { T.number_of self.now.0 ≤ℤ T.number_of self.now.1 }
     {
         self.end
+    }
+}
+
+impl<T: PointNumber> Interval<T> {
+    ghost use Rattle.std.specs.Prelude.{◌≡◌, ◌≤ℤ◌};
+    ghost use Rattle.interval_core.specs.Members.{span, HasEndsIn};
+
+    // The numbers of the first and of the last of its points.
+    pub(crate) fn numbers(&self, t: &T) -> (i64, i64)
+        requires { HasEndsIn T.IsPoint t.now self.now }
+        ensures numbers { result ≡ span T.number_of self.now }
+        ensures ordered { T.number_of self.now.0 ≤ℤ T.number_of self.now.1 }
+    {
+        (t.number(self.begin), t.number(self.end))
+    }
+
+    // The interval whose first and last points have these numbers.
+    pub(crate) fn of_numbers(t: &T, ends: (i64, i64)) -> Interval<T>
+        requires first { T.first_number t.now ≤ℤ ends.0 }
+        requires ordered { ends.0 ≤ℤ ends.1 }
+        requires last { ends.1 ≤ℤ T.last_number t.now }
+        ensures points { HasEndsIn T.IsPoint t.now result }
+        ensures numbers { span T.number_of result ≡ ends }
+    {
+        Interval {
+            begin: t.point(ends.0).unwrap(),
+            end: t.point(ends.1).unwrap(),
+        }
     }
 }

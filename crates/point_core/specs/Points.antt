@@ -1,7 +1,9 @@
 -- Point types as runs of numbers.
 --     first_of, last_of      the numbers of FIRST and LAST
 --     next_of, prior_of      NEXT and PRIOR, which the last and the first point do not have
-use Rattle.std.specs.Prelude.{◌≡◌, ℕ, ℤ, pos, negsuc, ◌+ℤ◌, ◌-ℤ◌, ◌≤ℤ◌, Bool, ◌&&◌, Option, Some, None, int_le, int_lt, if◌then◌else◌}
+use Rattle.std.specs.Prelude.{◌≡◌, ℕ, ℤ, pos, ◌+ℤ◌, ◌-ℤ◌, ◌≤ℤ◌, Bool, ◌&&◌, Option, Some, None, int_le, int_lt, unsigned_abs, if◌then◌else◌}
+use Rattle.point_core.specs.Dates.{first_day, last_day}
+use Rattle.point_core.specs.Whole.{least_whole, greatest_whole}
 use Rattle.point_core.specs.declared.any_type.AnyType.{AnyType}
 use Rattle.point_core.specs.declared.any_type.AnyType.TheVariants.{Integer, Date, Ordinal}
 use Rattle.point_core.specs.declared.any_type.AnyPoint.{AnyPoint}
@@ -19,15 +21,15 @@ line_of Integer = integers
 line_of Date = days
 line_of (Ordinal of last) = values_of of
 
--- the number of the first point, and of the last. Days are counted from 1970-01-01, which has the number 0; they go from 0001-01-01 to 9999-12-31
+-- the number of the first point, and of the last
 abbrev pub first_of : AnyType → ℤ
-first_of Integer = negsuc 9223372036854775807
-first_of Date = negsuc 719161
+first_of Integer = least_whole
+first_of Date = first_day
 first_of (Ordinal of last) = pos 0
 
 abbrev pub last_of : AnyType → ℤ
-last_of Integer = pos 9223372036854775807
-last_of Date = pos 2932896
+last_of Integer = greatest_whole
+last_of Date = last_day
 last_of (Ordinal of last) = pos last
 
 -- the number is that of a point of the type
@@ -56,6 +58,12 @@ abbrev pub line : AnyPoint → Line
 line (IntegerPoint n) = integers
 line (DatePoint n) = days
 line (OrdinalPoint of at) = values_of of
+
+-- the point of a line that has the number
+abbrev pub point_on : Line → ℤ → AnyPoint
+point_on integers n = IntegerPoint n
+point_on days n = DatePoint n
+point_on (values_of of) n = OrdinalPoint of (unsigned_abs n)
 
 -- the point is one of the type
 abbrev pub IsPointOf : AnyType → AnyPoint → Type 0

@@ -1,17 +1,26 @@
 // The whole numbers of 64 bits.
 ghost use Rattle.std.specs.Prelude.{◌≡◌, ℤ, pos, ◌≤ℤ◌, refl};
-ghost use Rattle.std.proofs.Common.{rules};
 ghost use Rattle.point_core.specs.Whole.{least_whole, greatest_whole, IsWhole};
 
 use crate::memory::Memory;
+use crate::numbered::{Numbered, compare_numbers, sort_pairs};
 use crate::point_type::{PointNumber, PointType};
 use crate::steps::Steps;
 use std::alloc::Global;
 use std::cmp::Ordering;
 use std::sync::ledger::Ledger;
 
+/// The type of the integers of 64 bits. The number of an integer is the integer itself.
 #[derive(Clone, Copy, Debug, PartialEq, Eq)]
 pub struct IntType;
+
+impl Numbered for i64 {
+    ghost number_of = { λ p. p };
+
+    fn to_number(self) -> i64 {
+        self
+    }
+}
 
 impl PointType for IntType {
     type Point = i64;
@@ -24,7 +33,7 @@ impl PointType for IntType {
 
     ghost IsPoint = { λ _ p. IsWhole p };
 
-    ghost nonempty = { λ _. Prim.search rules };
+    ghost nonempty = { λ _. record { le = tt } };
 
     ghost within = { λ _ p h. h };
 
@@ -55,24 +64,16 @@ impl PointType for IntType {
     }
 
     fn compare<L: Ledger>(&self, a: i64, b: i64, steps: &mut Steps<L>) -> Ordering {
-        steps.tick();
-        a.cmp(&b)
+        compare_numbers(a, b, steps)
     }
 
-    #[tactic(auto, using(crate::proofs::DigitsLemmas::halving))]
     fn sort<L: Ledger>(
         &self,
         _alloc: Global,
         list: &mut Vec<(i64, usize)>,
         steps: &mut Steps<L>,
     ) -> Result<(), Memory> {
-        let mut rest = list.len();
-        while rest > 0 {
-            steps.charge(list.len());
-            rest /= 2;
-        }
-        list.sort()?;
-        Ok(())
+        sort_pairs(list, steps)
     }
 }
 

@@ -13,6 +13,7 @@ pub trait Label: Sized + Drop {
     /// The order of two labels.
     ghost order: { Self → Self → Ordering };
 
+    /// The place of this label against another in the order.
     fn compare(&self, other: &Self) -> Ordering
         ensures { result ≡ order self.now other.now };
 

@@ -3,17 +3,27 @@
 #![tactic(auto)]
 
 mod any_type;
+mod date_type;
+mod dates;
 mod fault;
 mod int_type;
 mod label;
 mod memory;
+mod numbered;
+mod ordinal_type;
 mod point_type;
 mod steps;
 
 pub use any_type::{AnyPoint, AnyType};
+pub use date_type::{DateType, Day};
+pub use dates::{date_parts, read_date};
 pub use fault::{Code, Fault, Place, Stop};
 pub use int_type::IntType;
 pub use label::Label;
 pub use memory::Memory;
+pub use ordinal_type::OrdinalType;
 pub use point_type::{PointNumber, PointType};
 pub use steps::Steps;
+
+#[cfg(test)]
+mod tests;

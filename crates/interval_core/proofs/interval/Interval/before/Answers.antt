@@ -1,0 +1,9 @@
+-- The ends tell what the members tell.
+use Rattle.interval_core.specs.Members.{span}
+use Rattle.interval_core.proofs.ComparisonLemmas.{same_as_before}
+use Rattle.interval_core.proofs.interval.Interval.before.Goals as goal
+
+pub returns-clause-members : goal.returns-clause-members
+returns-clause-members g c =
+    same_as_before (span g.T.PointType.number_of c.args.self.now) (span g.T.PointType.number_of c.args.other.now) c.is_before.result
+    c.numbers.ensures.ordered c.numbers-2.ensures.ordered (rw (c.numbers.ensures.numbers, c.numbers-2.ensures.numbers) at c.is_before.ensures)

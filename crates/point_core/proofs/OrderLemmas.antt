@@ -1,0 +1,114 @@
+-- The derived tests and orders of points, types and faults.
+use Rattle.std.proofs.Common.{◌≡◌, ◌↔◌, ℕ, ℤ, pos, IsTrue, arith, ap, refl}
+use Rattle.std.specs.declared.cmp.Ordering.{Ordering}
+use Rattle.std.specs.declared.cmp.Ordering.TheVariants.{Less, Equal, Greater}
+use Rattle.std.specs.Ordering.{nat_cmp, int_cmp, ordering_then}
+use Rattle.std.specs.Cmp.{IsTotalOrder}
+use Rattle.std.proofs.lemmas.Cmp.{ranked, int_ranked}
+use Rattle.std.proofs.lemmas.Int.{ints}
+use Rattle.point_core.specs.declared.any_type.AnyPoint.{AnyPoint}
+use Rattle.point_core.specs.declared.any_type.AnyPoint.TheVariants.{Integer, Date, Ordinal}
+use Rattle.point_core.specs.declared.any_type.AnyType.{AnyType}
+use Rattle.point_core.specs.declared.fault.Fault.{Fault}
+use Rattle.point_core.specs.declared.fault.Code.{Code}
+use Rattle.point_core.specs.declared.fault.Code.TheVariants.{E01, E02, E03, E04, E05, E06, E10, E11, E12, E13, E14, E15, E16, E17, E18, E19, E20, E21, E22, E30, E31, E32, E33, E34, E35, E36, E40, E41, E42, E43, E44, E46}
+use Rattle.point_core.specs.Faults.{code_number, place_cmp, fault_cmp}
+use Rattle.point_core.specs.Points.{number, line}
+use Rattle.point_core.specs.Orders.{point_cmp, point_eq, type_eq, code_order, fault_order}
+use Rattle.point_core.specs.contracts.any_type.AnyPointOrd.TheImpl.Laws.{total-law}
+
+-- ---- what ties is equal
+
+pub nat_same : (a b : ℕ) → nat_cmp a b ≡ Equal → a ≡ b
+nat_same a b e = rw e at (ranked a b (nat_cmp a b) refl)
+
+pub int_same : (a b : ℤ) → int_cmp a b ≡ Equal → a ≡ b
+int_same a b e = rw e at (int_ranked a b (int_cmp a b) refl)
+
+pub then_same : (o p : Ordering) → ordering_then o p ≡ Equal → (o ≡ Equal) × (p ≡ Equal)
+then_same Less p e = cc
+then_same Equal p e = (refl, e)
+then_same Greater p e = cc
+
+-- points that tie in the derived order are equal
+pub point_same : (a b : AnyPoint) → point_cmp a b ≡ Equal → a ≡ b
+point_same (Integer a) (Integer b) e = let h : int_cmp a b ≡ Equal = e in ap Integer (int_same a b h)
+point_same (Date a) (Date b) e = let h : int_cmp a b ≡ Equal = e in ap Date (int_same a b h)
+point_same (Ordinal p a) (Ordinal q b) e =
+    let h : ordering_then (nat_cmp p q) (nat_cmp a b) ≡ Equal = e in
+    let k = then_same (nat_cmp p q) (nat_cmp a b) h in
+    let x = nat_same p q k.0 in
+    let y = nat_same a b k.1 in
+    cc
+point_same (Integer a) (Date b) e = cc
+point_same (Integer a) (Ordinal q b) e = cc
+point_same (Date a) (Integer b) e = cc
+point_same (Date a) (Ordinal q b) e = cc
+point_same (Ordinal p a) (Integer b) e = cc
+point_same (Ordinal p a) (Date b) e = cc
+
+pub point_total : IsTotalOrder point_cmp
+point_total = total-law
+
+-- `==` decides equality
+pub point_eq_decides : (a b : AnyPoint) → IsTrue (point_eq a b) ↔ (a ≡ b)
+point_eq_decides a b = grind arith
+
+pub type_eq_decides : (a b : AnyType) → IsTrue (type_eq a b) ↔ (a ≡ b)
+type_eq_decides a b = grind arith
+
+-- ---- the derived orders in other words
+
+-- points of one line are in the order of their numbers
+pub point_cmp_line : (a b : AnyPoint) → line a ≡ line b → point_cmp a b ≡ int_cmp (number a) (number b)
+point_cmp_line (Integer a) (Integer b) e = refl
+point_cmp_line (Date a) (Date b) e = refl
+point_cmp_line (Ordinal p a) (Ordinal q b) e =
+    let same : p ≡ q = cc in
+    grind (arith, ints, same, ranked p q (nat_cmp p q) refl, ranked a b (nat_cmp a b) refl, int_ranked (pos a) (pos b) (int_cmp (pos a) (pos b)) refl)
+point_cmp_line (Integer a) (Date b) e = cc
+point_cmp_line (Integer a) (Ordinal q b) e = cc
+point_cmp_line (Date a) (Integer b) e = cc
+point_cmp_line (Date a) (Ordinal q b) e = cc
+point_cmp_line (Ordinal p a) (Integer b) e = cc
+point_cmp_line (Ordinal p a) (Date b) e = cc
+
+-- codes are in the order of their numbers
+pub code_cmp : (a b : Code) → code_order a b ≡ nat_cmp (code_number a) (code_number b)
+code_cmp E01 E01 = refl
+code_cmp E02 E01 = refl
+code_cmp E03 E01 = refl
+code_cmp E04 E01 = refl
+code_cmp E05 E01 = refl
+code_cmp E06 E01 = refl
+code_cmp E10 E01 = refl
+code_cmp E11 E01 = refl
+code_cmp E12 E01 = refl
+code_cmp E13 E01 = refl
+code_cmp E14 E01 = refl
+code_cmp E15 E01 = refl
+code_cmp E16 E01 = refl
+code_cmp E17 E01 = refl
+code_cmp E18 E01 = refl
+code_cmp E19 E01 = refl
+code_cmp E20 E01 = refl
+code_cmp E21 E01 = refl
+code_cmp E22 E01 = refl
+code_cmp E30 E01 = refl
+code_cmp E31 E01 = refl
+code_cmp E32 E01 = refl
+code_cmp E33 E01 = refl
+code_cmp E34 E01 = refl
+code_cmp E35 E01 = refl
+code_cmp E36 E01 = refl
+code_cmp E40 E01 = refl
+code_cmp E41 E01 = refl
+code_cmp E42 E01 = refl
+code_cmp E43 E01 = refl
+code_cmp E44 E01 = refl
+code_cmp E46 E01 = refl
+code_cmp a b = refl
+
+-- faults are in the order of their places, and then of their codes
+pub fault_cmp_derived : (a b : Fault) → fault_order a b ≡ fault_cmp a b
+fault_cmp_derived a b = ap (λ o. ordering_then (place_cmp a.place b.place) o) (code_cmp a.code b.code)

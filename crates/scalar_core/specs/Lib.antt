@@ -1,0 +1,5 @@
+pub mod Answers
+pub mod Expressions
+pub mod Kinds
+pub mod Operations
+pub mod ScalarValues

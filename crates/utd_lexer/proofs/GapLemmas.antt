@@ -1,0 +1,148 @@
+-- White space and comments at the front of characters.
+use Rattle.std.proofs.Common.{◌≡◌, ◌≢◌, ℕ, suc, ◌+◌, ◌<◌, ◌≤◌, List, [], ◌∷◌, ◌++◌, length, drop, get_or, Bool, true, false, Option, Some, None, refl, sym, ◌∙◌, ap, subst, arith, length-append, length-drop, append_assoc, append-nil}
+use Rattle.std.proofs.lemmas.List.{drop_all, get_or_default}
+use Rattle.utd_lexer.specs.Parts.{is_space, Lacks, LacksEnd}
+use Rattle.utd_lexer.specs.Tokens.{Gap, blank, block, line, last, spelling_of_gap, IsGap}
+use Rattle.utd_lexer.specs.Fronts.{GapFront}
+use Rattle.utd_lexer.proofs.ListLemmas.{same-head, same-tail, nil-cons, nil-append, drop-at, front-length}
+
+no_space : (c : ℕ) → c ≡ 47 → is_space c ≡ true → ⊥
+no_space c e h = let f : is_space 47 ≡ true = ap is_space (sym e) ∙ h in cc
+
+-- a comment /* .. */
+
+-- the comment does not end in these characters
+abbrev pub NoEnd : List ℕ → Type 0
+NoEnd cs = (bs rest : List ℕ) → cs ≡ bs ++ 42 ∷ (47 ∷ rest) → ⊥
+
+-- an end that lies in what is left is one of the whole, and where there is none in it, the whole has none
+abbrev pub BlockGoesOn : List ℕ → List ℕ → Type 0
+BlockGoesOn left all = ((bs rest : List ℕ) → LacksEnd bs → left ≡ bs ++ 42 ∷ (47 ∷ rest) → (cs : List ℕ) × LacksEnd cs × (all ≡ cs ++ 42 ∷ (47 ∷ rest)))
+    × (NoEnd left → NoEnd all)
+
+pub block-init : (all : List ℕ) → BlockGoesOn all all
+block-init all = (λ bs rest lacks is. (bs, lacks, is), λ h. h)
+
+lacks-more : (x y : ℕ) (xs bs rest : List ℕ) → (x ≡ 42 → y ≡ 47 → ⊥) → y ∷ xs ≡ bs ++ 42 ∷ (47 ∷ rest) → LacksEnd bs → LacksEnd (x ∷ bs)
+lacks-more x y xs [] rest never is h = tt
+lacks-more x y xs (b ∷ bs) rest never is h = (λ e f. never e (same-head y b xs _ is ∙ f), h)
+
+no-end-more : (x y : ℕ) (xs : List ℕ) → (x ≡ 42 → y ≡ 47 → ⊥) → NoEnd (y ∷ xs) → NoEnd (x ∷ (y ∷ xs))
+no-end-more x y xs never h [] rest is = never (same-head x 42 _ _ is) (same-head y 47 xs rest (same-tail x 42 _ _ is))
+no-end-more x y xs never h (b ∷ bs) rest is = h bs rest (same-tail x b _ _ is)
+
+pub block-more : (x y : ℕ) (xs all : List ℕ) → (x ≡ 42 → y ≡ 47 → ⊥) → BlockGoesOn (x ∷ (y ∷ xs)) all → BlockGoesOn (y ∷ xs) all
+block-more x y xs all never on = (
+  λ bs rest lacks is. on.0 (x ∷ bs) rest (lacks-more x y xs bs rest never is lacks) (ap (λ z. x ∷ z) is),
+  λ h. on.1 (no-end-more x y xs never h),
+)
+
+pub block-step : (all : List ℕ) (n x y : ℕ) → n + 1 < length all → x ≡ get_or all n x → y ≡ get_or all (n + 1) y → (x ≡ 42 → y ≡ 47 → ⊥) → BlockGoesOn (drop n all) all → BlockGoesOn (drop (n + 1) all) all
+block-step all n x y lt a b never on =
+    let first : n < length all = omega arith in
+    let d : drop n all ≡ x ∷ drop (n + 1) all = drop-at all n x first a in
+    let e : drop (n + 1) all ≡ y ∷ drop (n + 1 + 1) all = drop-at all (n + 1) y lt b in
+    subst (λ z. BlockGoesOn z all) (sym e) (block-more x y (drop (n + 1 + 1) all) all never (subst (λ z. BlockGoesOn z all) (d ∙ ap (λ z. x ∷ z) e) on))
+
+pub block-step-other : (all : List ℕ) (n x : ℕ) → n + 1 < length all → x ≡ get_or all n x → x ≢ 42 → BlockGoesOn (drop n all) all → BlockGoesOn (drop (n + 1) all) all
+block-step-other all n x lt a h on = block-step all n x (get_or all (n + 1) 0) lt a (get_or_default all (n + 1) 0 (get_or all (n + 1) 0) lt) (λ e f. h e) on
+
+pub block-found : (all : List ℕ) (n x y : ℕ) → n + 1 < length all → x ≡ get_or all n x → y ≡ get_or all (n + 1) y → x ≡ 42 → y ≡ 47 → BlockGoesOn (drop n all) all → GapFront (47 ∷ (42 ∷ all)) (Some (n + 4))
+block-found all n x y lt a b p q on =
+    let first : n < length all = omega arith in
+    let rest : List ℕ = drop (n + 1 + 1) all in
+    let d : drop n all ≡ x ∷ drop (n + 1) all = drop-at all n x first a in
+    let e : drop (n + 1) all ≡ y ∷ rest = drop-at all (n + 1) y lt b in
+    let is : drop n all ≡ [] ++ 42 ∷ (47 ∷ rest) = d ∙ ap (λ z. x ∷ z) e ∙ ap (λ z. z ∷ (y ∷ rest)) p ∙ ap (λ z. 42 ∷ (z ∷ rest)) q in
+    let r = on.0 [] rest tt is in
+    let whole : all ≡ (r.0 ++ 42 ∷ (47 ∷ [])) ++ rest = r.2 ∙ sym (append_assoc r.0 (42 ∷ (47 ∷ [])) rest) in
+    let two : n + 1 + 1 ≤ length all = omega arith in
+    let len : length (r.0 ++ 42 ∷ (47 ∷ [])) ≡ n + 1 + 1 = front-length all (r.0 ++ 42 ∷ (47 ∷ [])) rest (n + 1 + 1) whole two refl in
+    (block r.0, rest, ap (λ z. 47 ∷ (42 ∷ z)) whole, r.1, omega (arith, len))
+
+no-end-short : (cs : List ℕ) → length cs ≤ 1 → NoEnd cs
+no-end-short cs le bs rest is =
+    let n : length cs ≡ length bs + length (42 ∷ (47 ∷ rest)) = ap length is ∙ length-append bs (42 ∷ (47 ∷ rest)) in
+    omega (arith, n)
+
+no-block : (all : List ℕ) → NoEnd all → GapFront (47 ∷ (42 ∷ all)) None
+no-block all never (blank c) rest is h = no_space c (sym (same-head 47 c (42 ∷ all) rest is)) h
+no-block all never (block bs) rest is h =
+    never bs rest (same-tail 42 42 all _ (same-tail 47 47 (42 ∷ all) _ is) ∙ append_assoc bs (42 ∷ (47 ∷ [])) rest)
+no-block all never (line bs) rest is h = let e : 42 ≡ 47 = same-head 42 47 all _ (same-tail 47 47 (42 ∷ all) _ is) in omega (arith, e)
+no-block all never (last bs) rest is h = let e : 42 ≡ 47 = same-head 42 47 all _ (same-tail 47 47 (42 ∷ all) _ is) in omega (arith, e)
+
+pub block-none : (all : List ℕ) (n : ℕ) → length all ≤ n + 1 → BlockGoesOn (drop n all) all → GapFront (47 ∷ (42 ∷ all)) None
+block-none all n le on =
+    let short : length (drop n all) ≤ 1 = omega (arith, length-drop n all) in
+    no-block all (on.1 (no-end-short (drop n all) short))
+
+-- a comment // ..
+
+abbrev pub LineGoesOn : List ℕ → List ℕ → Type 0
+LineGoesOn left all = ((bs rest : List ℕ) → Lacks 10 bs → left ≡ bs ++ 10 ∷ rest → (cs : List ℕ) × Lacks 10 cs × (all ≡ cs ++ 10 ∷ rest))
+    × (Lacks 10 left → Lacks 10 all)
+
+pub line-init : (all : List ℕ) → LineGoesOn all all
+line-init all = (λ bs rest lacks is. (bs, lacks, is), λ h. h)
+
+pub line-step : (all : List ℕ) (n x : ℕ) → n < length all → x ≡ get_or all n x → x ≢ 10 → LineGoesOn (drop n all) all → LineGoesOn (drop (n + 1) all) all
+line-step all n x lt a never on =
+    let d : drop n all ≡ x ∷ drop (n + 1) all = drop-at all n x lt a in
+    let h : LineGoesOn (x ∷ drop (n + 1) all) all = subst (λ z. LineGoesOn z all) d on in
+    (λ bs rest lacks is. h.0 (x ∷ bs) rest (never, lacks) (ap (λ z. x ∷ z) is), λ lacks. h.1 (never, lacks))
+
+pub line-found : (all : List ℕ) (n x : ℕ) → n < length all → x ≡ get_or all n x → x ≡ 10 → LineGoesOn (drop n all) all → GapFront (47 ∷ (47 ∷ all)) (Some (n + 3))
+line-found all n x lt a p on =
+    let rest : List ℕ = drop (n + 1) all in
+    let is : drop n all ≡ [] ++ 10 ∷ rest = drop-at all n x lt a ∙ ap (λ z. z ∷ rest) p in
+    let r = on.0 [] rest tt is in
+    let whole : all ≡ (r.0 ++ 10 ∷ []) ++ rest = r.2 ∙ sym (append_assoc r.0 (10 ∷ []) rest) in
+    let one : n + 1 ≤ length all = omega arith in
+    let len : length (r.0 ++ 10 ∷ []) ≡ n + 1 = front-length all (r.0 ++ 10 ∷ []) rest (n + 1) whole one refl in
+    (line r.0, rest, ap (λ z. 47 ∷ (47 ∷ z)) whole, r.1, omega (arith, len))
+
+pub line-open : (all : List ℕ) (n : ℕ) → n ≤ length all → length all ≤ n → LineGoesOn (drop n all) all → GapFront (47 ∷ (47 ∷ all)) (Some (n + 2))
+line-open all n within le on =
+    let none : drop n all ≡ [] = drop_all n all le in
+    let lacks : Lacks 10 (drop n all) = subst (Lacks 10) (sym none) tt in
+    (last all, [], sym (append-nil (47 ∷ (47 ∷ all))), (on.1 lacks, refl), omega arith)
+
+-- what begins with another character is neither
+
+pub space-found : (cs : List ℕ) (c : ℕ) (rest : List ℕ) → cs ≡ c ∷ rest → is_space c ≡ true → GapFront cs (Some 1)
+space-found cs c rest is h = (blank c, rest, is, h, refl)
+
+pub gap-one : (cs : List ℕ) (c : ℕ) (rest : List ℕ) → cs ≡ c ∷ rest → is_space c ≡ false → rest ≡ [] → GapFront cs None
+gap-one cs c rest is never none (blank d) r e h =
+    let same : c ≡ d = same-head c d rest r (sym is ∙ e) in
+    let t : is_space c ≡ true = ap is_space same ∙ h in cc
+gap-one cs c rest is never none (block bs) r e h = nil-cons 42 _ (sym none ∙ same-tail c 47 rest _ (sym is ∙ e))
+gap-one cs c rest is never none (line bs) r e h = nil-cons 47 _ (sym none ∙ same-tail c 47 rest _ (sym is ∙ e))
+gap-one cs c rest is never none (last bs) r e h = nil-cons 47 _ (sym none ∙ same-tail c 47 rest _ (sym is ∙ e))
+
+pub gap-two : (cs : List ℕ) (c d : ℕ) (rest body : List ℕ) → cs ≡ c ∷ rest → rest ≡ d ∷ body → is_space c ≡ false → (c ≡ 47 → d ≡ 42 → ⊥) → (c ≡ 47 → d ≡ 47 → ⊥) → GapFront cs None
+gap-two cs c d rest body is on never a b (blank x) r e h =
+    let same : c ≡ x = same-head c x rest r (sym is ∙ e) in
+    let t : is_space c ≡ true = ap is_space same ∙ h in cc
+gap-two cs c d rest body is on never a b (block bs) r e h =
+    a (same-head c 47 rest _ (sym is ∙ e)) (same-head d 42 body _ (sym on ∙ same-tail c 47 rest _ (sym is ∙ e)))
+gap-two cs c d rest body is on never a b (line bs) r e h =
+    b (same-head c 47 rest _ (sym is ∙ e)) (same-head d 47 body _ (sym on ∙ same-tail c 47 rest _ (sym is ∙ e)))
+gap-two cs c d rest body is on never a b (last bs) r e h =
+    b (same-head c 47 rest _ (sym is ∙ e)) (same-head d 47 body _ (sym on ∙ same-tail c 47 rest _ (sym is ∙ e)))
+
+pub gap-empty : (cs : List ℕ) → length cs ≡ 0 → GapFront cs None
+gap-empty cs none g rest is h =
+    let n : length cs ≡ length (spelling_of_gap g) + length rest = ap length is ∙ length-append (spelling_of_gap g) rest in
+    some g (omega (arith, n))
+  where
+    some : (g : Gap) → length (spelling_of_gap g) ≡ 0 → ⊥
+    some (blank c) z = omega (arith, z)
+    some (block bs) z = omega (arith, z)
+    some (line bs) z = omega (arith, z)
+    some (last bs) z = omega (arith, z)
+
+pub gap-comment : (cs : List ℕ) (c d : ℕ) (rest body : List ℕ) (o : Option ℕ) → cs ≡ c ∷ rest → rest ≡ d ∷ body → (e : ℕ) → c ≡ 47 → d ≡ e → GapFront (47 ∷ (e ∷ body)) o → GapFront cs o
+gap-comment cs c d rest body o is on e p q h =
+    subst (λ z. GapFront z o) (sym (is ∙ ap (λ z. c ∷ z) on ∙ ap (λ z. z ∷ (d ∷ body)) p ∙ ap (λ z. 47 ∷ (z ∷ body)) q)) h

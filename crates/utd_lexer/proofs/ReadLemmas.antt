@@ -1,0 +1,131 @@
+-- One gap or token further in a text.
+use Rattle.std.proofs.Common.{◌≡◌, ℕ, suc, ◌+◌, ◌<◌, ◌≤◌, List, [], ◌∷◌, ◌++◌, length, drop, take, get_or, Option, Some, None, Result, Ok, Err, IfOk, IfErr, ◌-◌, ◌^◌, inr, refl, sym, ◌∙◌, ap, subst, arith, length-append, length-drop, append_assoc, append-nil, encode_utf8_all}
+use Rattle.std.proofs.lemmas.List.{take_at, drop_at, drop-drop, drop_all, drop_more}
+use Rattle.std.proofs.lemmas.Str.{encodes-append, encodes-chars}
+use Rattle.point_core.specs.declared.fault.Place.{Place}
+use Rattle.utd_lexer.specs.declared.token.Token.{Token}
+use Rattle.utd_lexer.specs.declared.token.TokenKind.{TokenKind}
+use Rattle.utd_lexer.specs.declared.token.TokenKind.TheVariants.{Word, Integer, Text, Symbol}
+use Rattle.utd_lexer.specs.declared.front.Front.TheVariants.{Gap as OfGap, Token as OfToken, Nothing}
+use Rattle.value_core.specs.declared.refuse.Refuse.{Refuse}
+use Rattle.value_core.specs.declared.refuse.Refuse.TheVariants.{Plain, At, Broken, Memory}
+use Rattle.std.specs.Str.{IsUtf8, chars}
+use Rattle.utd_lexer.specs.Tokens.{Fits, past, Gap, blank, block, line, last, spelling_of_gap, IsGap, IsToken, spelling, token_at, NoFront, Lexed, done, gap, token, Stuck, here, past_gap, past_token}
+use Rattle.utd_lexer.specs.Fronts.{GapFront, FrontIs}
+use Rattle.utd_lexer.specs.declared.front.Front.{Front}
+use Rattle.utd_lexer.specs.Reading.{Stops, Reads, Refuses}
+use Rattle.utd_lexer.proofs.PlaceLemmas.{chars-step}
+
+-- what is known of the text up to a place: what is read from there on, and where that stops, is so of the whole
+pub record SoFar (start : Place) (cs : List ℕ) (at : ℕ) (place : Place) (out : List Token) : Type 0 where
+  pub within : at ≤ length cs
+  pub fits : Fits place (length (encode_utf8_all (drop at cs)))
+  pub read : (ts : List Token) → Lexed place (drop at cs) ts → Lexed start cs (out ++ ts)
+  pub stuck : (q : Place) → Stuck place (drop at cs) q → Stuck start cs q
+
+pub so-far-init : (start : Place) (cs : List ℕ) → Fits start (length (encode_utf8_all cs)) → SoFar start cs 0 start []
+so-far-init start cs fits = record { within = omega arith; fits = fits; read = λ ts h. h; stuck = λ q h. h }
+
+-- the front of what is left, cut off
+record Cut (cs : List ℕ) (at : ℕ) (place : Place) (front rest : List ℕ) (n : ℕ) : Type 0 where
+  front_is : take n (drop at cs) ≡ front
+  rest_is : drop (at + n) cs ≡ rest
+  within : at + n ≤ length cs
+  front_fits : Fits place (length (encode_utf8_all front))
+  rest_fits : Fits (past place front) (length (encode_utf8_all rest))
+
+cut-off : (cs : List ℕ) (at : ℕ) (place : Place) (front rest : List ℕ) (n : ℕ) → at ≤ length cs → Fits place (length (encode_utf8_all (drop at cs))) → drop at cs ≡ front ++ rest → length front ≡ n → Cut cs at place front rest n
+cut-off cs at place front rest n le fits is len =
+    let total : length (drop at cs) ≡ length front + length rest = ap length is ∙ length-append front rest in
+    let both = chars-step place (drop at cs) front rest is (ap encode_utf8_all is ∙ encodes-append front rest) fits in
+    record {
+      front_is = ap (take n) is ∙ take_at front rest n len;
+      rest_is = sym (drop-drop n at cs) ∙ ap (drop n) is ∙ drop_at front rest n len;
+      within = omega (arith, total, length-drop at cs, len);
+      front_fits = both.0;
+      rest_fits = both.1;
+    }
+
+some-gap : (g : Gap) → 0 < length (spelling_of_gap g)
+some-gap (blank c) = omega arith
+some-gap (block cs) = omega arith
+some-gap (line cs) = omega arith
+some-gap (last cs) = omega arith
+
+some-token : (k : TokenKind) (cs rest : List ℕ) → IsToken k cs rest → 0 < length (spelling k cs)
+some-token Word [] rest h = absurd h.0
+some-token Word (c ∷ cs) rest h = omega arith
+some-token Integer [] rest h = absurd h.0
+some-token Integer (c ∷ cs) rest h = omega arith
+some-token Text cs rest h = omega arith
+some-token Symbol [] rest h = absurd h.0
+some-token Symbol (c ∷ cs) rest h = omega arith
+
+-- what a call of the place behind the front needs, and what is known after it
+pub gap-fits : (start : Place) (cs : List ℕ) (at n : ℕ) (place : Place) (out : List Token) → SoFar start cs at place out → GapFront (drop at cs) (Some n) → (n ≤ length (drop at cs)) × Fits place (length (encode_utf8_all (take n (drop at cs)))) × (0 < n)
+gap-fits start cs at n place out s (g, rest, is, h, len) =
+    let c = cut-off cs at place (spelling_of_gap g) rest n s.within s.fits is len in
+    (omega (arith, ap length is, length-append (spelling_of_gap g) rest, len), subst (λ z. Fits place (length (encode_utf8_all z))) (sym c.front_is) c.front_fits, omega (arith, some-gap g, len))
+
+pub gap-step : (start : Place) (cs : List ℕ) (at n : ℕ) (place : Place) (out : List Token) → SoFar start cs at place out → GapFront (drop at cs) (Some n) → SoFar start cs (at + n) (past place (take n (drop at cs))) out
+gap-step start cs at n place out s (g, rest, is, h, len) =
+    let c = cut-off cs at place (spelling_of_gap g) rest n s.within s.fits is len in
+    let now : Place = past place (spelling_of_gap g) in
+    let next : SoFar start cs (at + n) now out = record {
+      within = c.within;
+      fits = subst (λ z. Fits now (length (encode_utf8_all z))) (sym c.rest_is) c.rest_fits;
+      read = λ ts l. s.read ts (subst (λ z. Lexed place z ts) (sym is) (gap place g rest ts h (subst (λ z. Lexed now z ts) c.rest_is l)));
+      stuck = λ q l. s.stuck q (subst (λ z. Stuck place z q) (sym is) (past_gap place q g rest h (subst (λ z. Stuck now z q) c.rest_is l)));
+    } in
+    subst (λ z. SoFar start cs (at + n) (past place z) out) (sym c.front_is) next
+
+pub token-fits : (start : Place) (cs : List ℕ) (at n : ℕ) (place : Place) (out : List Token) (k : TokenKind) (bytes : List ℕ) → SoFar start cs at place out → FrontIs (drop at cs) (OfToken k bytes n) → (n ≤ length (drop at cs)) × Fits place (length (encode_utf8_all (take n (drop at cs)))) × (0 < n)
+token-fits start cs at n place out k bytes s (v, rest, is, h, len, e) =
+    let c = cut-off cs at place (spelling k v) rest n s.within s.fits is len in
+    (omega (arith, ap length is, length-append (spelling k v) rest, len), subst (λ z. Fits place (length (encode_utf8_all z))) (sym c.front_is) c.front_fits, omega (arith, some-token k v rest h, len))
+
+pub token-step : (start : Place) (cs : List ℕ) (at n : ℕ) (place : Place) (out now_out : List Token) (k : TokenKind) (bytes : List ℕ) → SoFar start cs at place out → FrontIs (drop at cs) (OfToken k bytes n) → now_out ≡ out ++ record { kind = k; place = place; bytes = bytes } ∷ [] → SoFar start cs (at + n) (past place (take n (drop at cs))) now_out
+token-step start cs at n place out now_out k bytes s (v, rest, is, h, len, e) grows =
+    let c = cut-off cs at place (spelling k v) rest n s.within s.fits is len in
+    let now : Place = past place (spelling k v) in
+    let x : Token = token_at place k v in
+    let more : now_out ≡ out ++ x ∷ [] = grows ∙ ap (λ z. out ++ record { kind = k; place = place; bytes = z } ∷ []) e in
+    let next : SoFar start cs (at + n) now now_out = record {
+      within = c.within;
+      fits = subst (λ z. Fits now (length (encode_utf8_all z))) (sym c.rest_is) c.rest_fits;
+      read = λ ts l. subst (Lexed start cs) (sym (ap (λ z. z ++ ts) more ∙ append_assoc out (x ∷ []) ts)) (s.read (x ∷ ts) (subst (λ z. Lexed place z (x ∷ ts)) (sym is) (token place k v rest ts h (subst (λ z. Lexed now z ts) c.rest_is l))));
+      stuck = λ q l. s.stuck q (subst (λ z. Stuck place z q) (sym is) (past_token place q k v rest h (subst (λ z. Stuck now z q) c.rest_is l)));
+    } in
+    subst (λ z. SoFar start cs (at + n) (past place z) now_out) (sym c.front_is) next
+
+pub stuck-here : (start : Place) (cs : List ℕ) (at : ℕ) (place : Place) (out : List Token) → SoFar start cs at place out → at < length cs → NoFront (drop at cs) → Stuck start cs place
+stuck-here start cs at place out s lt none =
+    let d : drop at cs ≡ get_or cs at 0 ∷ drop (at + 1) cs = drop_more cs at 0 lt in
+    s.stuck place (subst (λ z. Stuck place z place) (sym d) (here place (get_or cs at 0) (drop (at + 1) cs) (subst NoFront d none)))
+
+pub all-read : (start : Place) (cs : List ℕ) (at : ℕ) (place : Place) (out : List Token) → SoFar start cs at place out → length cs ≤ at → Lexed start cs out
+all-read start cs at place out s le = subst (Lexed start cs) (append-nil out) (s.read [] (subst (λ z. Lexed place z []) (sym (drop_all at cs le)) (done place)))
+
+-- what was found, of what is left of the text
+pub front-here : (rest all : List ℕ) (at : ℕ) (f g : Front) → rest ≡ drop at all → FrontIs rest f → f ≡ g → FrontIs (drop at all) g
+front-here rest all at f g is h e = subst (FrontIs (drop at all)) e (subst (λ z. FrontIs z f) is h)
+
+pub text-fits : (start : Place) (cs bytes : List ℕ) → cs ≡ chars bytes → IsUtf8 bytes → start.line + start.column + length bytes ≤ 2 ^ 32 - 1 → Fits start (length (encode_utf8_all cs))
+text-fits start cs bytes is utf h =
+    let e : length (encode_utf8_all cs) ≡ length bytes = ap length (ap encode_utf8_all is ∙ encodes-chars bytes utf) in
+    (omega (arith, e, h), omega (arith, e, h))
+
+-- the characters' answer is the text's
+pub read-text : (start : Place) (cs bytes : List ℕ) (r : Result (List Token) Refuse) → cs ≡ chars bytes → IsUtf8 bytes → IfOk r (λ list. Lexed start cs list) → IfOk r (λ list. Reads start bytes list)
+read-text start cs bytes (Ok list) is utf h = (utf, subst (λ z. Lexed start z list) is h)
+read-text start cs bytes (Err e) is utf h = tt
+
+refused-chars : (start : Place) (cs bytes : List ℕ) (e : Refuse) → cs ≡ chars bytes → IsUtf8 bytes → Stops start cs e → Refuses start bytes e
+refused-chars start cs bytes Memory is utf h = tt
+refused-chars start cs bytes (At f) is utf h = inr (utf, subst (λ z. Stops start z (At f)) is h)
+refused-chars start cs bytes (Plain code) is utf h = h
+refused-chars start cs bytes (Broken code relvar number) is utf h = h
+
+pub refused-text : (start : Place) (cs bytes : List ℕ) (r : Result (List Token) Refuse) → cs ≡ chars bytes → IsUtf8 bytes → IfErr r (λ e. Stops start cs e) → IfErr r (λ e. Refuses start bytes e)
+refused-text start cs bytes (Ok list) is utf h = tt
+refused-text start cs bytes (Err e) is utf h = refused-chars start cs bytes e is utf h

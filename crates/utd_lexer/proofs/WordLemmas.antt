@@ -1,0 +1,116 @@
+-- Words, integers and symbols at the front of characters, and the bytes of characters.
+use Rattle.std.proofs.Common.{◌≡◌, ℕ, suc, ◌+◌, ◌<◌, ◌≤◌, List, [], ◌∷◌, ◌++◌, length, drop, take, get_or, Bool, true, false, cond, eqb, ◌||◌, Option, Some, None, refl, sym, ◌∙◌, ap, subst, arith, length-append, ◌⊎◌, inl, inr, lit<, encode_utf8, encode_utf8_all}
+use Rattle.std.proofs.lemmas.List.{take_at, take_more}
+use Rattle.std.proofs.lemmas.Bool.{eqb-true}
+use Rattle.std.specs.List.{prefix_len}
+use Rattle.std.specs.Char.{is_ascii_digit}
+use Rattle.unicode_ident.specs.Ident.{is_xid_start, is_xid_continue}
+use Rattle.unicode_ident.proofs.IdentLemmas.{is_xid_continue-ascii, is_xid_start-is_xid_continue}
+use Rattle.utd_lexer.specs.declared.token.TokenKind.{TokenKind}
+use Rattle.utd_lexer.specs.declared.token.TokenKind.TheVariants.{Word, Integer, Text, Symbol}
+use Rattle.utd_lexer.specs.declared.front.Front.TheVariants.{Token as OfToken}
+use Rattle.utd_lexer.specs.Tokens.{starts, continues, among, singles, seconds, opens_comment, AllOf, IsOfKind, EndsAt, NoFront, IsToken, spelling}
+use Rattle.utd_lexer.specs.Fronts.{TokenFront, GapFront, PlainFront, FrontIs, TextFront}
+use Rattle.utd_lexer.proofs.ListLemmas.{same-head}
+use Rattle.utd_lexer.proofs.TextLemmas.{encode-snoc}
+
+-- the first of these does not pass
+abbrev pub Stops : (ℕ → Bool) → List ℕ → Type 0
+Stops p [] = Unit {0}
+Stops p (x ∷ xs) = p x ≡ false
+
+-- the longest front all of which pass
+abbrev Taken : (ℕ → Bool) → List ℕ → ℕ → Type 0
+Taken p xs n = (front : List ℕ) × (rest : List ℕ) × (xs ≡ front ++ rest) × AllOf p front × Stops p rest × (length front ≡ n)
+
+taken-go : (p : ℕ → Bool) (x : ℕ) (xs : List ℕ) (n : ℕ) (b : Bool) → p x ≡ b → n ≡ cond b (1 + prefix_len p xs) 0 → Taken p xs (prefix_len p xs) → Taken p (x ∷ xs) n
+taken-go p x xs n true is e (front, rest, split, all, stop, len) =
+    (x ∷ front, rest, ap (λ z. x ∷ z) split, (is, all), stop, omega (arith, len, e))
+taken-go p x xs n false is e r = ([], x ∷ xs, refl, tt, is, sym e)
+
+taken : (p : ℕ → Bool) (xs : List ℕ) (n : ℕ) → n ≡ prefix_len p xs → Taken p xs n
+taken p [] n e = ([], [], refl, tt, tt, sym e)
+taken p (x ∷ xs) n e = taken-go p x xs n (p x) refl e (taken p xs (prefix_len p xs) refl)
+
+or-cases : (a b : Bool) → (a || b) ≡ true → (a ≡ true) ⊎ (b ≡ true)
+or-cases true b h = inl refl
+or-cases false b h = inr h
+
+underscore : continues 95 ≡ true
+underscore = is_xid_continue-ascii 95 (lit< tt)
+
+starts-continues : (c : ℕ) → starts c ≡ true → continues c ≡ true
+starts-continues c h = elim (or-cases (is_xid_start c) (eqb c 95) h) [
+  | inl s ↦ is_xid_start-is_xid_continue c s
+  | inr e ↦ ap is_xid_continue (eqb-true c 95 e) ∙ underscore
+]
+
+word-kind : (front behind : List ℕ) (c : ℕ) (rest : List ℕ) → c ∷ rest ≡ front ++ behind → starts c ≡ true → AllOf continues front → Stops continues behind → IsOfKind Word front
+word-kind [] behind c rest is s all stop =
+    let f : continues c ≡ false = subst (Stops continues) (sym is) stop in
+    let t : continues c ≡ true = starts-continues c s in cc
+word-kind (d ∷ front) behind c rest is s all stop = (ap starts (sym (same-head c d rest _ is)) ∙ s, all.1)
+
+word-ends : (cs rest : List ℕ) → Stops continues rest → EndsAt Word cs rest
+word-ends cs [] h = tt
+word-ends cs (d ∷ rest) h = h
+
+pub word-found : (cs : List ℕ) (c : ℕ) (rest : List ℕ) (n : ℕ) → cs ≡ c ∷ rest → starts c ≡ true → n ≡ prefix_len continues cs → TokenFront Word cs (Some n)
+word-found cs c rest n e s h =
+    let (front, behind, split, all, stop, len) = taken continues cs n h in
+    (front, behind, split, (word-kind front behind c rest (sym e ∙ split) s all stop, word-ends front behind stop), len)
+
+integer-kind : (front : List ℕ) → 0 < length front → AllOf is_ascii_digit front → IsOfKind Integer front
+integer-kind [] lt all = absurd (omega (arith, lt))
+integer-kind (d ∷ front) lt all = all
+
+integer-ends : (cs rest : List ℕ) → Stops is_ascii_digit rest → EndsAt Integer cs rest
+integer-ends cs [] h = tt
+integer-ends cs (d ∷ rest) h = h
+
+pub integer-found : (cs : List ℕ) (n : ℕ) → n ≡ prefix_len is_ascii_digit cs → 0 < n → TokenFront Integer cs (Some n)
+integer-found cs n h lt =
+    let (front, behind, split, all, stop, len) = taken is_ascii_digit cs n h in
+    (front, behind, split, (integer-kind front (omega (arith, len)) all, integer-ends front behind stop), len)
+
+pair-ends : (a b : ℕ) (rest : List ℕ) → EndsAt Symbol (a ∷ (b ∷ [])) rest
+pair-ends a b [] = tt
+pair-ends a b (d ∷ rest) = refl
+
+pub pair-found : (cs : List ℕ) (c d : ℕ) (rest body : List ℕ) → cs ≡ c ∷ rest → rest ≡ d ∷ body → among d (seconds c) ≡ true → TokenFront Symbol cs (Some 2)
+pair-found cs c d rest body is on h = (c ∷ (d ∷ []), body, is ∙ ap (λ z. c ∷ z) on, (h, pair-ends c d body), refl)
+
+pub single-found : (cs : List ℕ) (c d : ℕ) (rest body : List ℕ) → cs ≡ c ∷ rest → rest ≡ d ∷ body → among c singles ≡ true → among d (seconds c) ≡ false → opens_comment c d ≡ false → TokenFront Symbol cs (Some 1)
+single-found cs c d rest body is on h p o =
+    let ends : (among d (seconds c) || opens_comment c d) ≡ false = ap (λ b. b || opens_comment c d) p ∙ o in
+    (c ∷ [], d ∷ body, is ∙ ap (λ z. c ∷ z) on, (h, ends), refl)
+
+-- the bytes of one more character
+pub encoded-more : (items now xs : List ℕ) (i x : ℕ) → i < length xs → x ≡ get_or xs i x → items ≡ encode_utf8_all (take i xs) → now ≡ items ++ encode_utf8 x → now ≡ encode_utf8_all (take (i + 1) xs)
+encoded-more items now xs i x lt is h grows =
+    let last : take (i + 1) xs ≡ take i xs ++ x ∷ [] = take_more xs i x lt ∙ ap (λ z. take i xs ++ z ∷ []) (sym is) in
+    grows ∙ ap (λ z. z ++ encode_utf8 x) h ∙ sym (encode-snoc (take i xs) x) ∙ ap encode_utf8_all (sym last)
+
+same-front : (cs v rest bytes : List ℕ) (n : ℕ) → cs ≡ v ++ rest → length v ≡ n → bytes ≡ encode_utf8_all (take n cs) → bytes ≡ encode_utf8_all v
+same-front cs v rest bytes n is len h = h ∙ ap (λ z. encode_utf8_all (take n z)) is ∙ ap encode_utf8_all (take_at v rest n len)
+
+pub plain-token : (cs : List ℕ) (k : TokenKind) (n : ℕ) (bytes : List ℕ) → PlainFront cs (Some (k, n)) → bytes ≡ encode_utf8_all (take n cs) → FrontIs cs (OfToken k bytes n)
+plain-token cs Text n bytes h e = absurd h
+plain-token cs Word n bytes (v, rest, is, tok, len) e = (v, rest, is, tok, len, same-front cs v rest bytes n is len e)
+plain-token cs Integer n bytes (v, rest, is, tok, len) e = (v, rest, is, tok, len, same-front cs v rest bytes n is len e)
+plain-token cs Symbol n bytes (v, rest, is, tok, len) e = (v, rest, is, tok, len, same-front cs v rest bytes n is len e)
+
+pub plain-fits : (cs : List ℕ) (k : TokenKind) (n : ℕ) → PlainFront cs (Some (k, n)) → n ≤ length cs
+plain-fits cs Text n h = absurd h
+plain-fits cs Word n (v, rest, is, tok, len) = omega (arith, ap length is, length-append v rest, len)
+plain-fits cs Integer n (v, rest, is, tok, len) = omega (arith, ap length is, length-append v rest, len)
+plain-fits cs Symbol n (v, rest, is, tok, len) = omega (arith, ap length is, length-append v rest, len)
+
+no-token : (cs : List ℕ) → TextFront cs None → PlainFront cs None → (k : TokenKind) (v rest : List ℕ) → cs ≡ spelling k v ++ rest → IsToken k v rest → ⊥
+no-token cs t p Text = t
+no-token cs t p Word = p.0
+no-token cs t p Integer = p.1
+no-token cs t p Symbol = p.2
+
+pub nothing-found : (cs : List ℕ) → GapFront cs None → TextFront cs None → PlainFront cs None → NoFront cs
+nothing-found cs g t p = (g, no-token cs t p)

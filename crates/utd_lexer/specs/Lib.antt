@@ -1,0 +1,5 @@
+pub mod Cutting
+pub mod Fronts
+pub mod Parts
+pub mod Reading
+pub mod Tokens

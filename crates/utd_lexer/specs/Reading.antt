@@ -1,0 +1,32 @@
+-- What the bytes of a statement are read as, and when they are refused.
+use Rattle.std.specs.Prelude.{◌≡◌, ◌⊎◌, ℕ, List, take}
+use Rattle.std.specs.Str.{IsUtf8, chars}
+use Rattle.std.specs.Str.Lossy.{utf8_valid_len}
+use Rattle.point_core.specs.declared.fault.Place.{Place}
+use Rattle.point_core.specs.declared.fault.Fault.{Fault}
+use Rattle.point_core.specs.declared.fault.Code.TheVariants.{E01, E02}
+use Rattle.point_core.specs.Faults.{fault}
+use Rattle.value_core.specs.declared.refuse.Refuse.{Refuse}
+use Rattle.value_core.specs.declared.refuse.Refuse.TheVariants.{Plain, At, Broken, Memory}
+use Rattle.utd_lexer.specs.declared.token.Token.{Token}
+use Rattle.utd_lexer.specs.Tokens.{Lexed, Stuck, place_after}
+
+-- characters are refused at the first place at which no token begins
+abbrev pub Stops : Place → List ℕ → Refuse → Type 0
+Stops start cs Memory = Unit {0}
+Stops start cs (At f) = Stuck start cs f.place × (f.code ≡ E01)
+Stops start cs (Plain code) = ⊥
+Stops start cs (Broken code relvar number) = ⊥
+
+-- the bytes are UTF-8, and their characters are these tokens with gaps between them
+abbrev pub Reads : Place → List ℕ → List Token → Type 0
+Reads start bytes tokens = IsUtf8 bytes × Lexed start (chars bytes) tokens
+
+-- Bytes that are not UTF-8 are refused behind their longest front that is; others by their characters.
+abbrev pub Refuses : Place → List ℕ → Refuse → Type 0
+Refuses start bytes Memory = Unit {0}
+Refuses start bytes (At f) =
+    ((IsUtf8 bytes → ⊥) × (f ≡ fault (place_after start (take (utf8_valid_len bytes) bytes)) E02))
+    ⊎ (IsUtf8 bytes × Stops start (chars bytes) (At f))
+Refuses start bytes (Plain code) = ⊥
+Refuses start bytes (Broken code relvar number) = ⊥

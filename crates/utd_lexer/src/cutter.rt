@@ -1,0 +1,160 @@
+// The cut of a script's bytes into statements.
+ghost use Rattle.std.specs.Prelude.{◌≡◌, ◌↔◌, ℕ, List, [], ◌∷◌, ◌++◌, true};
+ghost use Rattle.utd_lexer.specs.Parts.{IsWhole, is_space, IsBlank};
+ghost use Rattle.utd_lexer.specs.Cutting.{next, is_outside, blank_next, is_resting, Since, since_then};
+
+/// What a byte does to the statement that it stands in.
+#[derive(Clone, Copy, Debug, PartialEq, Eq)]
+pub enum Cut {
+    /// The statement goes on.
+    Inside,
+    /// The byte is the `;` that ends the statement.
+    Ends,
+}
+
+// Where the bytes so far end: between parts, behind a `/`, in a text, in a `/*` comment, there behind a
+// `*`, or in a `//` comment.
+#[derive(Clone, Copy, Debug, PartialEq, Eq)]
+enum Mode {
+    Between,
+    Slash,
+    Text,
+    Block,
+    Star,
+    Line,
+}
+
+fn is_space_byte(byte: u8) -> bool
+    ensures { result ≡ is_space byte }
+{
+    byte == 9 || byte == 10 || byte == 13 || byte == 32
+}
+
+impl Mode {
+    fn is_resting(self) -> bool
+        ensures { result ≡ is_resting self }
+    {
+        matches!(self, Mode::Between | Mode::Line)
+    }
+
+    // Whether the bytes can still be blank with this one.
+    fn blank_next(self, blank: bool, byte: u8) -> bool
+        ensures { result ≡ blank_next self blank byte }
+    {
+        match self {
+            Mode::Between => blank && (is_space_byte(byte) || byte == b'/'),
+            Mode::Slash => blank && (byte == b'*' || byte == b'/'),
+            _ => blank,
+        }
+    }
+
+    fn is_outside(self) -> bool
+        ensures { result ≡ is_outside self }
+    {
+        matches!(self, Mode::Between | Mode::Slash)
+    }
+
+    fn next(self, byte: u8) -> Mode
+        ensures { result ≡ next self byte }
+    {
+        match self {
+            Mode::Between => {
+                if byte == b'\'' {
+                    Mode::Text
+                } else if byte == b'/' {
+                    Mode::Slash
+                } else {
+                    Mode::Between
+                }
+            }
+            Mode::Slash => {
+                if byte == b'*' {
+                    Mode::Block
+                } else if byte == b'/' {
+                    Mode::Line
+                } else if byte == b'\'' {
+                    Mode::Text
+                } else {
+                    Mode::Between
+                }
+            }
+            Mode::Text => {
+                if byte == b'\'' {
+                    Mode::Between
+                } else {
+                    Mode::Text
+                }
+            }
+            Mode::Block => {
+                if byte == b'*' {
+                    Mode::Star
+                } else {
+                    Mode::Block
+                }
+            }
+            Mode::Star => {
+                if byte == b'/' {
+                    Mode::Between
+                } else if byte == b'*' {
+                    Mode::Star
+                } else {
+                    Mode::Block
+                }
+            }
+            Mode::Line => {
+                if byte == b'\n' {
+                    Mode::Between
+                } else {
+                    Mode::Line
+                }
+            }
+        }
+    }
+}
+
+/// Cuts a script into statements, byte by byte. `Since c bytes` says that the cutter `c` was given these
+/// bytes since the last end of a statement.
+#[derive(Clone, Copy, Debug)]
+pub struct Cutter {
+    mode: Mode,
+    blank: bool,
+}
+
+impl Cutter {
+    /// A cutter at the start of a script.
+    pub fn new() -> Cutter
+        ensures { Since result [] }
+    {
+        Cutter {
+            mode: Mode::Between,
+            blank: true,
+        }
+    }
+
+    /// Takes the next byte. It ends a statement exactly where it is a `;` outside texts and comments.
+    pub fn step(&mut self, byte: u8) -> Cut
+        ensures since { (bytes : List ℕ) → Since self.old bytes →
+            Since self.new (since_then result bytes byte) }
+        ensures ends { (bytes : List ℕ) → Since self.old bytes →
+            ((result ≡ Cut.Ends) ↔ ((byte ≡ 59) × IsWhole bytes)) }
+    {
+        let outside = self.mode.is_outside();
+        let blank = self.mode.blank_next(self.blank, byte);
+        self.mode = self.mode.next(byte);
+        if outside && byte == b';' {
+            self.blank = true;
+            Cut::Ends
+        } else {
+            self.blank = blank;
+            Cut::Inside
+        }
+    }
+
+    /// Whether the bytes since the last end of a statement are only white space and comments, the last
+    /// of which may be an unfinished `//` comment.
+    pub fn is_blank(&self) -> bool
+        ensures { (bytes : List ℕ) → Since self.now bytes → ((result ≡ true) ↔ IsBlank bytes) }
+    {
+        self.blank && self.mode.is_resting()
+    }
+}

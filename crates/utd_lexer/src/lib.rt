@@ -1,0 +1,11 @@
+//! A script's bytes into statements, and a statement's bytes into tokens.
+#![tactic(auto)]
+
+mod cutter;
+mod front;
+mod reading;
+mod token;
+
+pub use cutter::{Cut, Cutter};
+pub use reading::tokens;
+pub use token::{Token, TokenBytes, TokenKind, TokenList};

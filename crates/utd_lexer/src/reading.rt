@@ -1,0 +1,111 @@
+// The tokens of a statement, and their places.
+ghost use Rattle.std.specs.Prelude.{◌≡◌, ◌+◌, ◌-◌, ◌^◌, ◌≤◌, length, IfOk, IfErr, encode_utf8_all};
+ghost use Rattle.std.specs.Str.{chars};
+ghost use Rattle.utd_lexer.specs.Tokens.{Fits, next_place, place_after, past, Lexed};
+ghost use Rattle.utd_lexer.specs.Reading.{Stops, Reads, Refuses};
+
+use crate::front::{Front, front_of};
+use crate::token::{Token, TokenList};
+use point_core::{Code, Fault, Place};
+use std::alloc::{AllocError, Global};
+use std::str;
+use value_core::Refuse;
+
+fn next_place(place: Place, byte: u8) -> Place
+    requires { Fits place 1 }
+    ensures { result ≡ next_place place byte }
+{
+    if byte == b'\n' {
+        Place {
+            line: place.line + 1,
+            column: 1,
+        }
+    } else {
+        Place {
+            line: place.line,
+            column: place.column + 1,
+        }
+    }
+}
+
+/// The place of the byte behind these.
+fn place_behind(start: Place, bytes: &[u8]) -> Place
+    requires { Fits start (length bytes.now) }
+    ensures { result ≡ place_after start bytes.now }
+{
+    let mut place = start;
+    for byte in bytes {
+        place = next_place(place, *byte);
+    }
+    place
+}
+
+/// The place of the byte behind these characters.
+fn place_past(start: Place, chars: &[char]) -> Place
+    requires { Fits start (length (encode_utf8_all chars.now)) }
+    ensures { result ≡ past start chars.now }
+{
+    let mut place = start;
+    for c in chars {
+        let mut space = [0u8; 4];
+        place = place_behind(place, c.encode_utf8(&mut space).as_bytes());
+    }
+    place
+}
+
+fn chars_of(alloc: Global, text: &str) -> Result<Vec<char>, AllocError>
+    ensures { IfOk result (λ v. v.items ≡ chars text.now) }
+{
+    text.chars().collect(alloc)
+}
+
+fn read_all(alloc: Global, chars: &[char], start: Place) -> Result<TokenList, Refuse>
+    requires { Fits start (length (encode_utf8_all chars.now)) }
+    ensures read { IfOk result (λ list. Lexed start chars.now list) }
+    ensures refused { IfErr result (λ refuse. Stops start chars.now refuse) }
+{
+    let mut list = Vec::new(alloc);
+    let mut at = 0;
+    let mut place = start;
+    'text: while at < chars.len() {
+        let rest = chars.split_at(at).1;
+        match front_of(alloc, rest)? {
+            Front::Gap(n) => {
+                place = place_past(place, rest.split_at(n).0);
+                at += n;
+            }
+            Front::Token(kind, bytes, n) => {
+                list.push(Token { kind, place, bytes })?;
+                place = place_past(place, rest.split_at(n).0);
+                at += n;
+            }
+            Front::Nothing => {
+                let code = Code::E01;
+                return Err(Refuse::At(Fault { place, code }));
+            }
+        }
+    }
+    Ok(TokenList { list })
+}
+
+/// The tokens of a statement, the first byte of which has the place `start`. They are the longest that
+/// there are, with white space and comments between them. Where the bytes are not UTF-8, that is
+/// refused with E02 behind the longest front that is; else, where at some character neither a token nor
+/// white space nor a comment begins, with E01 there.
+pub fn tokens(alloc: Global, text: &[u8], start: Place) -> Result<TokenList, Refuse>
+    requires { start.line + start.column + length text.now ≤ 2 ^ 32 - 1 }
+    ensures read { IfOk result (λ list. Reads start text.now list) }
+    ensures refused { IfErr result (λ refuse. Refuses start text.now refuse) }
+{
+    match str::from_utf8(text) {
+        Ok(text) => {
+            let characters = chars_of(alloc, text)?;
+            read_all(alloc, &characters, start)
+        }
+        Err(error) => {
+            let place = place_behind(start, text.split_at(error.valid_up_to()).0);
+            let code = Code::E02;
+            Err(Refuse::At(Fault { place, code }))
+        }
+    }
+}

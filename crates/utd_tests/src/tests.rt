@@ -1,0 +1,250 @@
+use super::*;
+use std::marker::Brand;
+use std::test::Fail;
+
+const PACK: &[u8] =
+    b"PRINT PACK RELATION {TUPLE {S 1, D [4:6]}, TUPLE {S 1, D [1:3]}, TUPLE {S 1, D [8:9]}} ON (D);";
+
+const PACKED: &[u8] = b"| D     | S |\n| [1:6] | 1 |\n| [8:9] | 1 |\nrows: 2\n";
+
+const MOST_BYTES: usize = 16_777_216;
+
+/// A script, how its streams behave, and what comes of it. A failing call 0 is none.
+#[derive(Clone, Copy)]
+struct Example {
+    script: &'static [u8],
+    word_count: usize,
+    read_piece: usize,
+    failing_read: u64,
+    write_piece: usize,
+    failing_write: u64,
+    failing_line: u64,
+    output: &'static [u8],
+    line: &'static [u8],
+    status: u8,
+}
+
+const PLAIN: Example = Example {
+    script: b"",
+    word_count: 0,
+    read_piece: 4096,
+    failing_read: 0,
+    write_piece: 4096,
+    failing_write: 0,
+    failing_line: 0,
+    output: b"",
+    line: b"",
+    status: 0,
+};
+
+fn examples() -> [Example; 14] {
+    [
+        Example {
+            // an empty script
+            ..PLAIN
+        },
+        Example {
+            // packing
+            script: PACK,
+            output: PACKED,
+            ..PLAIN
+        },
+        Example {
+            // pieces of one byte
+            script: PACK,
+            read_piece: 1,
+            write_piece: 1,
+            output: PACKED,
+            ..PLAIN
+        },
+        Example {
+            // refusals
+            script: b"PRINT PACK RELATION {TUPLE {S 1, D [3:2]}} ON (D); ; PRINT X;",
+            output: b"statement 1 refused: E33 empty interval\nstatement 3 refused: E01 not a statement\n",
+            status: 1,
+            ..PLAIN
+        },
+        Example {
+            // a rest, and a statement after a refused one
+            script: b"#;PRINT PACK RELATION {TUPLE {S 7, D [0:0]}} ON (D);\n x",
+            output: b"statement 1 refused: E01 not a statement\n| D     | S |\n| [0:0] | 7 |\nrows: 1\nstatement 3 refused: E04 statement not ended\n",
+            status: 1,
+            ..PLAIN
+        },
+        Example {
+            // words are longest
+            script: b"PRINT PACK RELATION {TUPLE {S1, D [0:0]}} ON (D);PRINT PACK RELATION {TUPLE {S 1, D [0:0]}} ON (D_);",
+            output: b"statement 1 refused: E01 not a statement\nstatement 2 refused: E01 not a statement\n",
+            status: 1,
+            ..PLAIN
+        },
+        Example {
+            // eighteen digits and nineteen, columns as wide as their widest text
+            script: b"PRINT PACK RELATION {TUPLE {S 999999999999999999,D[0:1]},TUPLE{S 3,D[2:2]},TUPLE{S 3,D[3:3]}}ON(D);\tPRINT PACK RELATION {TUPLE {S 1, D [0:1000000000000000000]}} ON (D);",
+            output: b"| D     | S                  |\n| [0:1] | 999999999999999999 |\n| [2:3] | 3                  |\nrows: 2\nstatement 2 refused: E01 not a statement\n",
+            status: 1,
+            ..PLAIN
+        },
+        Example {
+            // a write that fails
+            script: PACK,
+            write_piece: 2,
+            failing_write: 2,
+            output: b"| ",
+            line: b"utd: write failed\n",
+            status: 4,
+            ..PLAIN
+        },
+        Example {
+            // a read that fails in mid-stream, after a whole statement
+            script: b"PRINT X;PRINT X;PRINT",
+            read_piece: 9,
+            failing_read: 2,
+            output: b"statement 1 refused: E01 not a statement\n",
+            line: b"utd: read failed\n",
+            status: 3,
+            ..PLAIN
+        },
+        Example {
+            // a word
+            script: PACK,
+            word_count: 1,
+            line: b"usage: utd [--generate N]\n",
+            status: 2,
+            ..PLAIN
+        },
+        Example {
+            // a line that fails
+            script: PACK,
+            word_count: 1,
+            failing_line: 1,
+            status: 2,
+            ..PLAIN
+        },
+        Example {
+            // only white space
+            script: b" \t\r\n;\n",
+            ..PLAIN
+        },
+        Example {
+            // the least rest
+            script: b"_",
+            output: b"statement 1 refused: E04 statement not ended\n",
+            status: 1,
+            ..PLAIN
+        },
+        Example {
+            // rows with one D by S
+            script: b"PRINT PACK RELATION {TUPLE {S 20, D [1:2]}, TUPLE {S 3, D [1:2]}, TUPLE {S 3, D [2:2]}} ON (D);",
+            output: b"| D     | S  |\n| [1:2] | 3  |\n| [1:2] | 20 |\nrows: 2\n",
+            ..PLAIN
+        },
+    ]
+}
+
+// In a function of its own, for the lifetimes of the two.
+fn are_same(bytes: &[u8], others: &[u8]) -> bool {
+    bytes == others
+}
+
+#[test]
+fn examples_come_out(rt: HostRuntime) -> Result<(), Fail> {
+    let alloc = rt.alloc();
+    for (index, example) in examples().iter().enumerate() {
+        let mut words: Vec<String> = Vec::new(alloc);
+        for _word in 0..example.word_count {
+            words.push(format!(in alloc; "--help")?)?;
+        }
+        let mut input = MemorySource::new(
+            example.script.to_vec(alloc)?,
+            example.read_piece.max(1),
+            [example.failing_read].to_vec(alloc)?,
+        );
+        let mut out = MemorySink::new(
+            vec![in alloc; 0u8; 400]?,
+            example.write_piece.max(1),
+            [example.failing_write].to_vec(alloc)?,
+        );
+        let mut err = MemorySink::new(
+            vec![in alloc; 0u8; 100]?,
+            100,
+            [example.failing_line].to_vec(alloc)?,
+        );
+        let outcome = outcome::<Brand>(
+            alloc,
+            &words,
+            &mut input,
+            &mut out,
+            &mut err,
+            Blank::new(1),
+        );
+        assert_eq!(rt; outcome.status, example.status, "example {index}");
+        assert!(rt; are_same(out.bytes(), example.output), "example {index}");
+        assert!(rt; are_same(err.bytes(), example.line), "example {index}");
+        assert_eq!(rt;
+            outcome.database.is_none(),
+            example.status == 2,
+            "example {index}"
+        );
+    }
+    Ok(())
+}
+
+/// A script of one statement with so many equal tuples.
+fn equal_tuples(alloc: Global, count: usize) -> Result<Vec<u8>, Fail> {
+    let mut script = b"PRINT PACK RELATION {TUPLE {S 1, D [1:1]}".to_vec(alloc)?;
+    for _more in 1..count {
+        script.extend_from_slice(b", TUPLE {S 1, D [1:1]}")?;
+    }
+    script.extend_from_slice(b"} ON (D);")?;
+    Ok(script)
+}
+
+#[test]
+fn long_scripts_come_out(rt: HostRuntime) -> Result<(), Fail> {
+    let alloc = rt.alloc();
+    let words: Vec<String> = Vec::new(alloc);
+    let scripts = [
+        (
+            vec![in alloc; b' '; MOST_BYTES]?,
+            0,
+            b"" as &[u8],
+            b"" as &[u8],
+        ),
+        (
+            vec![in alloc; b' '; MOST_BYTES + 1]?,
+            6,
+            b"",
+            b"utd: more than 16777216 bytes\n",
+        ),
+        (
+            equal_tuples(alloc, 1000)?,
+            0,
+            b"| D     | S |\n| [1:1] | 1 |\nrows: 1\n",
+            b"",
+        ),
+        (
+            equal_tuples(alloc, 1001)?,
+            1,
+            b"statement 1 refused: E01 not a statement\n",
+            b"",
+        ),
+    ];
+    for (script, status, output, line) in scripts {
+        let mut input = MemorySource::new(script, 65_536, Vec::new(alloc));
+        let mut out = MemorySink::new(vec![in alloc; 0u8; 100]?, 100, Vec::new(alloc));
+        let mut err = MemorySink::new(vec![in alloc; 0u8; 100]?, 100, Vec::new(alloc));
+        let outcome = outcome::<Brand>(
+            alloc,
+            &words,
+            &mut input,
+            &mut out,
+            &mut err,
+            Blank::new(1),
+        );
+        assert_eq!(rt; outcome.status, status);
+        assert_eq!(rt; out.bytes(), output);
+        assert_eq!(rt; err.bytes(), line);
+    }
+    Ok(())
+}

@@ -1,0 +1,4 @@
+pub mod FitLemmas
+pub mod HeadingLemmas
+pub mod OrderLemmas
+pub mod RelationLemmas

@@ -1,0 +1,10 @@
+-- How long names and texts are.
+use Rattle.std.specs.Prelude.{ℕ, ◌≤◌, List, length}
+
+-- a name has 1 to 64 bytes
+abbrev pub IsNameLength : List ℕ → Type 0
+IsNameLength bytes = (1 ≤ length bytes) × (length bytes ≤ 64)
+
+-- a text has at most 255 bytes
+abbrev pub IsTextLength : List ℕ → Type 0
+IsTextLength bytes = length bytes ≤ 255

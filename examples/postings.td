@@ -1,0 +1,5 @@
+PRINT PACK RELATION {
+  TUPLE {S 4711, D [1:1]}, TUPLE {S 4711, D [2:2]}, TUPLE {S 4711, D [3:3]},
+  TUPLE {S 4711, D [5:5]}, TUPLE {S 4711, D [6:9]},
+  TUPLE {S 12, D [2:2]}, TUPLE {S 12, D [2:2]}
+} ON (D);
