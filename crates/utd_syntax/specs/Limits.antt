@@ -1,5 +1,6 @@
 -- What a token may be at most, and how deep a text may nest.
-use Rattle.std.specs.Prelude.{ℕ, ◌+◌, ◌-◌, ◌*◌, ◌%◌, List, [], ◌∷◌, Bool, true, false, ◌&&◌, ◌||◌, not, ◌==◌, nat_lt, nat_le, length, if◌then◌else◌}
+use Rattle.std.specs.Prelude.{ℕ, ◌+◌, ◌-◌, ◌*◌, List, [], ◌∷◌, Bool, true, false, ◌&&◌, ◌||◌, not, ◌==◌, nat_lt, nat_le, length}
+use Rattle.point_core.specs.Dates.{days_of_month}
 use Rattle.utd_syntax.specs.declared.terminal.Terminal.{Terminal}
 use Rattle.utd_syntax.specs.declared.terminal.Terminal.TheVariants.{Name, Digits, Quoted}
 use Rattle.utd_syntax.specs.Table.{Load, Taking, Operator, Negated, Dated, Opens, OperatorOpens}
@@ -19,17 +20,9 @@ abbrev pub are_digits : List ℕ → Bool
 are_digits [] = true
 are_digits (c ∷ cs) = is_digit c && are_digits cs
 
--- the days of the months of the Gregorian calendar
-abbrev pub is_leap : ℕ → Bool
-is_leap year = (year % 4 == 0) && (not (year % 100 == 0) || (year % 400 == 0))
-
-abbrev pub days_of : ℕ → ℕ → ℕ
-days_of year month =
-    if month == 2 then (if is_leap year then 29 else 28) else
-    if (month == 4) || (month == 6) || (month == 9) || (month == 11) then 30 else 31
-
+-- the calendar has the day
 abbrev pub is_day : ℕ → ℕ → ℕ → Bool
-is_day year month day = nat_le 1 year && nat_le 1 month && nat_le month 12 && nat_le 1 day && nat_le day (days_of year month)
+is_day year month day = nat_le 1 year && nat_le 1 month && nat_le month 12 && nat_le 1 day && nat_le day (days_of_month year month)
 
 -- YYYY-MM-DD of a day that exists, from 0001-01-01 to 9999-12-31
 abbrev pub is_date : List ℕ → Bool
@@ -47,7 +40,8 @@ has_control (c ∷ cs) = nat_lt c 32 || has_control cs
 abbrev pub is_bad_text : List ℕ → Bool
 is_bad_text bytes = nat_lt 255 (length bytes) || has_control bytes
 
--- an integer that leaves 64 bits: behind its "-", and without one
+-- a name of more than 64 bytes; an integer that leaves 64 bits, behind its "-" and without one; the text of a date that
+-- does not exist; a bad text
 abbrev pub is_out_of_range : Taking → Terminal → List ℕ → Bool
 is_out_of_range how Name bytes = nat_lt 64 (length bytes)
 is_out_of_range Negated Digits bytes = nat_lt 9223372036854775808 (value_of bytes)
