@@ -1,0 +1,12 @@
+-- Which terminal is spelled so.
+use Rattle.std.proofs.Common.{◌≡◌, ℕ, List, ◌∷◌, Bool, true, false, cond, refl, sym, ◌∙◌, ap, subst}
+use Rattle.utd_syntax.specs.declared.terminal.Terminal.{Terminal}
+use Rattle.utd_syntax.specs.Table.{same_bytes}
+use Rattle.utd_syntax.specs.Terminals.{spelling, spelled_among}
+
+-- the first of them, and one behind it
+pub among-first : (list : List Terminal) (x : Terminal) (xs : List Terminal) (other : Terminal) (b : List ℕ) → list ≡ x ∷ xs → same_bytes (spelling x) b ≡ true → x ≡ spelled_among list other b
+among-first list x xs other b is e = subst (λ l. x ≡ spelled_among l other b) (sym is) (ap (λ c. cond c x (spelled_among xs other b)) (sym e))
+
+pub among-later : (list : List Terminal) (x : Terminal) (xs : List Terminal) (other : Terminal) (b : List ℕ) → list ≡ x ∷ xs → same_bytes (spelling x) b ≡ false → spelled_among xs other b ≡ spelled_among list other b
+among-later list x xs other b is e = subst (λ l. spelled_among xs other b ≡ spelled_among l other b) (sym is) (ap (λ c. cond c x (spelled_among xs other b)) (sym e))

@@ -1,0 +1,38 @@
+// What a token may be at most.
+ghost use Rattle.std.specs.Prelude.{◌≡◌, nat_lt};
+ghost use Rattle.utd_syntax.specs.Limits as limits;
+ghost use Rattle.utd_syntax.specs.Limits.{value_of};
+
+
+// A character below the space. It calls itself once for each byte, so give it no more than a few hundred.
+fn has_control(bytes: &[u8]) -> bool
+    ensures { result ≡ limits.has_control bytes.now }
+{
+    match bytes.split_first() {
+        None => false,
+        Some((first, rest)) => *first < 32 || has_control(rest),
+    }
+}
+
+/// A text of more than 255 bytes, or with a character below the space.
+pub fn is_bad_text(bytes: &[u8]) -> bool
+    ensures { result ≡ limits.is_bad_text bytes.now }
+{
+    bytes.len() > 255 || has_control(bytes)
+}
+
+/// The digits write a number above the most.
+pub fn exceeds(digits: &[u8], most: u64) -> bool
+    ensures { result ≡ nat_lt most (value_of digits.now) }
+{
+    let mut value: u128 = 0;
+    let mut rest = digits;
+    while let Some((digit, more)) = rest.split_first() {
+        value = 10 * value + u128::from(digit.saturating_sub(48));
+        if value > u128::from(most) {
+            return true;
+        }
+        rest = more;
+    }
+    false
+}

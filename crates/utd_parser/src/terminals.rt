@@ -1,0 +1,266 @@
+// What a token is to the grammar.
+ghost use Rattle.std.specs.Prelude.{◌≡◌};
+ghost use Rattle.utd_syntax.specs.Table.{same_bytes};
+ghost use Rattle.utd_syntax.specs.Terminals as terminals;
+ghost use Rattle.utd_syntax.specs.Terminals.{spelled_among, word_terminal, symbol_terminal};
+ghost use Rattle.utd_parser.specs.Tokens as tokens;
+
+use utd_lexer::{Token, TokenKind};
+use utd_syntax::Terminal;
+
+const RESERVED: [Terminal; 74] = [
+    Terminal::All,
+    Terminal::After,
+    Terminal::And,
+    Terminal::As,
+    Terminal::Ask,
+    Terminal::Before,
+    Terminal::Begin,
+    Terminal::Begins,
+    Terminal::Boolean,
+    Terminal::But,
+    Terminal::By,
+    Terminal::Char,
+    Terminal::Constraint,
+    Terminal::Count,
+    Terminal::Date,
+    Terminal::Delete,
+    Terminal::Drop,
+    Terminal::End,
+    Terminal::Ends,
+    Terminal::Extend,
+    Terminal::False,
+    Terminal::First,
+    Terminal::Foreign,
+    Terminal::History,
+    Terminal::In,
+    Terminal::IncludedIn,
+    Terminal::Includes,
+    Terminal::Insert,
+    Terminal::Integer,
+    Terminal::Intersect,
+    Terminal::Interval,
+    Terminal::IsEmpty,
+    Terminal::IsNotEmpty,
+    Terminal::Join,
+    Terminal::Key,
+    Terminal::Last,
+    Terminal::Matching,
+    Terminal::Max,
+    Terminal::Meets,
+    Terminal::Merges,
+    Terminal::Min,
+    Terminal::Minus,
+    Terminal::Moment,
+    Terminal::Next,
+    Terminal::Not,
+    Terminal::On,
+    Terminal::Or,
+    Terminal::Overlaps,
+    Terminal::Pack,
+    Terminal::Packed,
+    Terminal::Portion,
+    Terminal::Post,
+    Terminal::Pre,
+    Terminal::Print,
+    Terminal::Prior,
+    Terminal::References,
+    Terminal::Relation,
+    Terminal::Rename,
+    Terminal::Sum,
+    Terminal::Summarize,
+    Terminal::Terminate,
+    Terminal::Then,
+    Terminal::True,
+    Terminal::Tuple,
+    Terminal::TypeWord,
+    Terminal::Union,
+    Terminal::Unpack,
+    Terminal::Unpacked,
+    Terminal::Update,
+    Terminal::Using,
+    Terminal::Var,
+    Terminal::Virtual,
+    Terminal::When,
+    Terminal::Where,
+];
+
+const SYMBOLS: [Terminal; 22] = [
+    Terminal::Open,
+    Terminal::Close,
+    Terminal::OpenBracket,
+    Terminal::CloseBracket,
+    Terminal::OpenBrace,
+    Terminal::CloseBrace,
+    Terminal::Comma,
+    Terminal::Semicolon,
+    Terminal::Colon,
+    Terminal::Assign,
+    Terminal::Equal,
+    Terminal::NotEqual,
+    Terminal::Less,
+    Terminal::LessEqual,
+    Terminal::Greater,
+    Terminal::GreaterEqual,
+    Terminal::Plus,
+    Terminal::Dash,
+    Terminal::Star,
+    Terminal::Slash,
+    Terminal::Bars,
+    Terminal::Dot,
+];
+
+// How a reserved word or a symbol is spelled; of the other kinds one spelling.
+fn spelling(terminal: Terminal) -> &'static [u8]
+    ensures { result.now ≡ terminals.spelling terminal }
+{
+    match terminal {
+        Terminal::All => b"ALL",
+        Terminal::After => b"AFTER",
+        Terminal::And => b"AND",
+        Terminal::As => b"AS",
+        Terminal::Ask => b"ASK",
+        Terminal::Before => b"BEFORE",
+        Terminal::Begin => b"BEGIN",
+        Terminal::Begins => b"BEGINS",
+        Terminal::Boolean => b"BOOLEAN",
+        Terminal::But => b"BUT",
+        Terminal::By => b"BY",
+        Terminal::Char => b"CHAR",
+        Terminal::Constraint => b"CONSTRAINT",
+        Terminal::Count => b"COUNT",
+        Terminal::Date => b"DATE",
+        Terminal::Delete => b"DELETE",
+        Terminal::Drop => b"DROP",
+        Terminal::End => b"END",
+        Terminal::Ends => b"ENDS",
+        Terminal::Extend => b"EXTEND",
+        Terminal::False => b"FALSE",
+        Terminal::First => b"FIRST",
+        Terminal::Foreign => b"FOREIGN",
+        Terminal::History => b"HISTORY",
+        Terminal::In => b"IN",
+        Terminal::IncludedIn => b"INCLUDED_IN",
+        Terminal::Includes => b"INCLUDES",
+        Terminal::Insert => b"INSERT",
+        Terminal::Integer => b"INTEGER",
+        Terminal::Intersect => b"INTERSECT",
+        Terminal::Interval => b"INTERVAL",
+        Terminal::IsEmpty => b"IS_EMPTY",
+        Terminal::IsNotEmpty => b"IS_NOT_EMPTY",
+        Terminal::Join => b"JOIN",
+        Terminal::Key => b"KEY",
+        Terminal::Last => b"LAST",
+        Terminal::Matching => b"MATCHING",
+        Terminal::Max => b"MAX",
+        Terminal::Meets => b"MEETS",
+        Terminal::Merges => b"MERGES",
+        Terminal::Min => b"MIN",
+        Terminal::Minus => b"MINUS",
+        Terminal::Moment => b"MOMENT",
+        Terminal::Next => b"NEXT",
+        Terminal::Not => b"NOT",
+        Terminal::On => b"ON",
+        Terminal::Or => b"OR",
+        Terminal::Overlaps => b"OVERLAPS",
+        Terminal::Pack => b"PACK",
+        Terminal::Packed => b"PACKED",
+        Terminal::Portion => b"PORTION",
+        Terminal::Post => b"POST",
+        Terminal::Pre => b"PRE",
+        Terminal::Print => b"PRINT",
+        Terminal::Prior => b"PRIOR",
+        Terminal::References => b"REFERENCES",
+        Terminal::Relation => b"RELATION",
+        Terminal::Rename => b"RENAME",
+        Terminal::Sum => b"SUM",
+        Terminal::Summarize => b"SUMMARIZE",
+        Terminal::Terminate => b"TERMINATE",
+        Terminal::Then => b"THEN",
+        Terminal::True => b"TRUE",
+        Terminal::Tuple => b"TUPLE",
+        Terminal::TypeWord => b"TYPE",
+        Terminal::Union => b"UNION",
+        Terminal::Unpack => b"UNPACK",
+        Terminal::Unpacked => b"UNPACKED",
+        Terminal::Update => b"UPDATE",
+        Terminal::Using => b"USING",
+        Terminal::Var => b"VAR",
+        Terminal::Virtual => b"VIRTUAL",
+        Terminal::When => b"WHEN",
+        Terminal::Where => b"WHERE",
+        Terminal::Open => b"(",
+        Terminal::Close => b")",
+        Terminal::OpenBracket => b"[",
+        Terminal::CloseBracket => b"]",
+        Terminal::OpenBrace => b"{",
+        Terminal::CloseBrace => b"}",
+        Terminal::Comma => b",",
+        Terminal::Semicolon => b";",
+        Terminal::Colon => b":",
+        Terminal::Assign => b":=",
+        Terminal::Equal => b"=",
+        Terminal::NotEqual => b"<>",
+        Terminal::Less => b"<",
+        Terminal::LessEqual => b"<=",
+        Terminal::Greater => b">",
+        Terminal::GreaterEqual => b">=",
+        Terminal::Plus => b"+",
+        Terminal::Dash => b"-",
+        Terminal::Star => b"*",
+        Terminal::Slash => b"/",
+        Terminal::Bars => b"||",
+        Terminal::Dot => b".",
+        Terminal::Name => b"X",
+        Terminal::Digits => b"0",
+        Terminal::Quoted => b"",
+        Terminal::Finish => b"",
+    }
+}
+
+fn is_same(left: &[u8], right: &[u8]) -> bool
+    ensures { result ≡ same_bytes left.now right.now }
+{
+    match left.split_first() {
+        None => right.is_empty(),
+        Some((first, more)) => match right.split_first() {
+            None => false,
+            Some((other, rest)) => *first == *other && is_same(more, rest),
+        },
+    }
+}
+
+// The one of these that is spelled so, or the other.
+fn spelled_among(list: &[Terminal], other: Terminal, bytes: &[u8]) -> Terminal
+    ensures { result ≡ spelled_among list.now other bytes.now }
+{
+    match list.split_first() {
+        None => other,
+        Some((first, rest)) => {
+            if is_same(spelling(*first), bytes) {
+                *first
+            } else {
+                spelled_among(rest, other, bytes)
+            }
+        }
+    }
+}
+
+// What a token of this kind with these bytes is.
+fn terminal_by(kind: TokenKind, bytes: &[u8]) -> Terminal
+    ensures { result ≡ tokens.terminal_of kind bytes.now }
+{
+    match kind {
+        TokenKind::Word => spelled_among(&RESERVED, Terminal::Name, bytes),
+        TokenKind::Symbol => spelled_among(&SYMBOLS, Terminal::Finish, bytes),
+        TokenKind::Integer => Terminal::Digits,
+        TokenKind::Text => Terminal::Quoted,
+    }
+}
+
+/// What a token is to the grammar.
+pub fn terminal_of(token: &Token) -> Terminal
+    ensures { result ≡ tokens.terminal_of token.now.kind token.now.bytes }
+{
+    terminal_by(token.kind, token.bytes.list.as_slice())
+}
