@@ -1,5 +1,5 @@
 -- An expression that has a kind is typed for the heading, and gives values of that kind.
-use Rattle.std.specs.Prelude.{◌≡◌, ℕ, Bool, true, false, ◌&&◌, nat_eq, IsTrue, Option, Some, None, slice_get, option_map, refl, if◌then◌else◌}
+use Rattle.std.specs.Prelude.{◌≡◌, Bool, true, false, ◌&&◌, nat_eq, IsTrue, Option, Some, None, slice_get, option_map, refl}
 use Rattle.std.proofs.Common.{sym, ◌∙◌, ap, subst, eq-eqb}
 use Rattle.std.proofs.lemmas.Bool.{eqb-true}
 use Rattle.point_core.specs.declared.any_type.AnyType.{AnyType}

@@ -1,5 +1,5 @@
 -- The kind of an expression's values, where it is typed for a heading.
-use Rattle.std.specs.Prelude.{ℕ, Bool, true, false, ◌&&◌, nat_eq, Option, Some, None, slice_get, option_map, option_and_then, if◌then◌else◌}
+use Rattle.std.specs.Prelude.{Bool, true, false, ◌&&◌, nat_eq, Option, Some, None, slice_get, option_map, if◌then◌else◌}
 use Rattle.point_core.specs.declared.any_type.AnyType.{AnyType}
 use Rattle.point_core.specs.declared.any_type.AnyType.TheVariants.{Integer, Date, Ordinal}
 use Rattle.value_core.specs.declared.kind.Kind.{Kind}
