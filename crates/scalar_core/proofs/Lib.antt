@@ -1,3 +1,4 @@
 pub mod KindLemmas
+pub mod KindOfLemmas
 pub mod PointLemmas
 pub mod TreeLemmas

@@ -8,6 +8,8 @@ use Rattle.scalar_core.proofs.PointLemmas.{number-is_number}
 use Rattle.scalar_core.proofs.tests.number.Goals as goal
 
 pub returns : goal.returns
-returns c =
-    (refl, subst (λ (z : ℤ). is_number Integer z ≡ true) (sym (to_z-of_z w64 c.args.n c.ranges.n))
-        (number-is_number Integer c.args.n (omega (arith, ints), omega (arith, ints))))
+returns c = (
+  refl,
+  subst (λ (z : ℤ). is_number Integer z ≡ true) (sym (to_z-of_z w64 c.args.n c.ranges.n))
+      (number-is_number Integer c.args.n (omega (arith, ints), omega (arith, ints))),
+)
