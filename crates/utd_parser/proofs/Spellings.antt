@@ -1,5 +1,5 @@
 -- Which terminal is spelled so.
-use Rattle.std.proofs.Common.{◌≡◌, ℕ, List, ◌∷◌, Bool, true, false, cond, refl, sym, ◌∙◌, ap, subst}
+use Rattle.std.proofs.Common.{◌≡◌, ℕ, List, ◌∷◌, true, false, cond, sym, ap, subst}
 use Rattle.utd_syntax.specs.declared.terminal.Terminal.{Terminal}
 use Rattle.utd_syntax.specs.Table.{same_bytes}
 use Rattle.utd_syntax.specs.Terminals.{spelling, spelled_among}

@@ -3,7 +3,6 @@ ghost use Rattle.std.specs.Prelude.{◌≡◌, nat_lt};
 ghost use Rattle.utd_syntax.specs.Limits as limits;
 ghost use Rattle.utd_syntax.specs.Limits.{value_of};
 
-
 // A character below the space. It calls itself once for each byte, so give it no more than a few hundred.
 fn has_control(bytes: &[u8]) -> bool
     ensures { result ≡ limits.has_control bytes.now }

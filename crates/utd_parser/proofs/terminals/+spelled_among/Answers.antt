@@ -1,4 +1,4 @@
-use Rattle.std.proofs.Common.{sym, ◌∙◌, ap, refl}
+use Rattle.std.proofs.Common.{sym, ◌∙◌, ap}
 use Rattle.utd_syntax.specs.Table.{same_bytes}
 use Rattle.utd_parser.proofs.Spellings.{among-first, among-later}
 use Rattle.utd_parser.proofs.terminals.+spelled_among.Goals as goal
