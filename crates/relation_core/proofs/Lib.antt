@@ -1,0 +1,4 @@
+pub mod AgreementLemmas
+pub mod FaultLemmas
+pub mod FilterLemmas
+pub mod MergeLemmas

@@ -1,0 +1,5 @@
+pub mod Agreement
+pub mod Answers
+pub mod Faults
+pub mod Merged
+pub mod Operators
