@@ -1,4 +1,5 @@
 pub mod AgreementLemmas
 pub mod FaultLemmas
 pub mod FilterLemmas
+pub mod HeadingLemmas
 pub mod MergeLemmas

@@ -3,3 +3,4 @@ pub mod Answers
 pub mod Faults
 pub mod Merged
 pub mod Operators
+pub mod Parts

@@ -4,13 +4,16 @@
 mod agreement;
 mod answers;
 mod extension;
+mod headings;
 mod merging;
 mod names;
 mod parts;
+mod projection;
 mod restriction;
 mod sets;
 
 pub use agreement::{matching, not_matching};
 pub use extension::extend;
+pub use projection::project;
 pub use restriction::restrict;
 pub use sets::{intersect, minus, union};
