@@ -38,7 +38,7 @@ position_within : (heading : Heading) (name : Name) → IsTrue (has_name heading
 position_within [] name e = absurd (true≢false (sym e))
 position_within (a ∷ rest) name e = position_after (bytes_eq a.0 name) rest name (position_within rest name) e
 
-positions_within : (heading : Heading) (names : List Name) → IsTrue (list_all (has_name heading) names) → (k d : ℕ) → k < length (map (position_of heading) names) → get_or (map (position_of heading) names) k d < length heading
+pub positions_within : (heading : Heading) (names : List Name) → IsTrue (list_all (has_name heading) names) → (k d : ℕ) → k < length (map (position_of heading) names) → get_or (map (position_of heading) names) k d < length heading
 positions_within heading [] e k d l = absurd (omega arith)
 positions_within heading (n ∷ names) e zero d l = position_within heading n (and_parts (has_name heading n) (list_all (has_name heading) names) e).0
 positions_within heading (n ∷ names) e (suc k) d l = positions_within heading names (and_parts (has_name heading n) (list_all (has_name heading) names) e).1 k d (omega arith)

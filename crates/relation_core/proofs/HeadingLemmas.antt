@@ -62,7 +62,7 @@ heading_in_order list heading a moved ordered =
 
 -- ---- attributes in order have different names
 
-neither : (a b : Bool) → a ≡ false → b ≡ false → (a || (b || false)) ≡ false
+pub neither : (a b : Bool) → a ≡ false → b ≡ false → (a || (b || false)) ≡ false
 neither true b e f = cc
 neither false true e f = cc
 neither false false e f = refl
@@ -72,8 +72,8 @@ none_new front [] n h up = refl
 none_new front (a ∷ rest) n h up =
     let here : has_name front a.0 ≡ false = h a (inl refl) in
     let more = none_new (front ++ a ∷ []) rest (n + 1) (λ b i.
-      let apart : bytes_eq a.0 b.0 ≡ false = texts_ties a.0 b.0 ∙ ap is_eq ((AllAfter-In attribute_cmp a rest).0 up.0 b i) in
-      list_any-append (λ (c : Name × Kind). bytes_eq c.0 b.0) front (a ∷ []) ∙ neither (has_name front b.0) (bytes_eq a.0 b.0) (h b (inr i)) apart) up.1 in
+    let apart : bytes_eq a.0 b.0 ≡ false = texts_ties a.0 b.0 ∙ ap is_eq ((AllAfter-In attribute_cmp a rest).0 up.0 b i) in
+    list_any-append (λ (c : Name × Kind). bytes_eq c.0 b.0) front (a ∷ []) ∙ neither (has_name front b.0) (bytes_eq a.0 b.0) (h b (inr i)) apart) up.1 in
     ap (λ t. if t then Some n else repeat_after (front ++ a ∷ []) (n + 1) rest) here ∙ more
 
 pub no_repeat : (list : Heading) → Ascends attribute_cmp list → first_repeat list ≡ None
@@ -99,8 +99,8 @@ pub attributes_ascend : (heading : Heading) (kept : List ℕ) → Ascends attrib
 attributes_ascend heading [] a b h = tt
 attributes_ascend heading (i ∷ kept) a b h = (
   (AllAfter-In attribute_cmp (get_or heading i no_attribute) (attributes_at kept heading)).1 (λ y m.
-  let w = (In-map (λ j. get_or heading j no_attribute) y kept).0 m in
-  ap (attribute_cmp (get_or heading i no_attribute)) w.2 ∙ before attribute_cmp heading i w.0 no_attribute a (less_than i w.0 ((AllAfter-In nat_cmp i kept).0 b.0 w.0 w.1)) (h w.0 (inr w.1))),
+      let w = (In-map (λ j. get_or heading j no_attribute) y kept).0 m in
+      ap (attribute_cmp (get_or heading i no_attribute)) w.2 ∙ before attribute_cmp heading i w.0 no_attribute a (less_than i w.0 ((AllAfter-In nat_cmp i kept).0 b.0 w.0 w.1)) (h w.0 (inr w.1))),
   attributes_ascend heading kept a b.1 (λ j m. h j (inr m)),
 )
 
@@ -148,7 +148,7 @@ attributes_more list positions i d items now a l within is so_far more =
     let p = get_or positions i d in
     let f : ℕ → Name × Kind = λ k. get_or list k no_attribute in
     let whole : attributes_at (take (i + 1) positions) list ≡ attributes_at (take i positions) list ++ get_or list (get_or positions i d) no_attribute ∷ [] =
-      ap (λ ps. map f ps) (take_more positions i d l) ∙ map-append f (take i positions) (p ∷ []) in
+    ap (λ ps. map f ps) (take_more positions i d l) ∙ map-append f (take i positions) (p ∷ []) in
     let same : a ≡ get_or list (get_or positions i d) no_attribute = is ∙ sym (get_or-attribute list p a within) in
     more ∙ (ap (λ (r : Heading). r ++ a ∷ []) so_far ∙ (ap (λ z. attributes_at (take i positions) list ++ z ∷ []) same ∙ sym whole))
 

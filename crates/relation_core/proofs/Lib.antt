@@ -3,3 +3,4 @@ pub mod FaultLemmas
 pub mod FilterLemmas
 pub mod HeadingLemmas
 pub mod MergeLemmas
+pub mod RenamingLemmas

@@ -9,11 +9,13 @@ mod merging;
 mod names;
 mod parts;
 mod projection;
+mod renaming;
 mod restriction;
 mod sets;
 
 pub use agreement::{matching, not_matching};
 pub use extension::extend;
 pub use projection::project;
+pub use renaming::rename;
 pub use restriction::restrict;
 pub use sets::{intersect, minus, union};

@@ -22,7 +22,7 @@ pub heading_of-requires : goal.heading_of-requires
 heading_of-requires c =
     let r = c.args.r.now in
     let list : c.in_ok-list.list.items ≡ attributes_at c.args.kept.now c.args.r.now.heading =
-      c.in_ok-list.ensures ∙ ap (λ (h : Heading). attributes_at c.args.kept.now h) (c.attributes.ensures.list ∙ c.heading.ensures.heading) in
+    c.in_ok-list.ensures ∙ ap (λ (h : Heading). attributes_at c.args.kept.now h) (c.attributes.ensures.list ∙ c.heading.ensures.heading) in
     record {
       different = subst (λ (h : Heading). first_repeat h ≡ None) (sym list) (no_repeat (attributes_at c.args.kept.now r.heading) (part_ascends r.heading c.args.kept.now c.in_ok-rows.ensures.relation.headed c.requires.ascending c.requires.within));
       few = subst (λ (h : Heading). length h ≤ 16) (sym list) (part_is_few r.heading c.args.kept.now c.in_ok-rows.ensures.relation.headed c.requires.ascending c.requires.within);
@@ -33,14 +33,14 @@ small_relation-requires c =
     let r = c.args.r.now in
     let kept = c.args.kept.now in
     let list : c.in_ok-list.list.items ≡ attributes_at c.args.kept.now c.args.r.now.heading =
-      c.in_ok-list.ensures ∙ ap (λ (h : Heading). attributes_at c.args.kept.now h) (c.attributes.ensures.list ∙ c.heading.ensures.heading) in
+    c.in_ok-list.ensures ∙ ap (λ (h : Heading). attributes_at c.args.kept.now h) (c.attributes.ensures.list ∙ c.heading.ensures.heading) in
     let moved : IsPermutation (attributes_at c.args.kept.now c.args.r.now.heading) c.in_ok-heading.heading = subst (λ (l : Heading). IsPermutation l c.in_ok-heading.heading) list c.in_ok-heading.ensures.same in
     let head : c.in_ok-heading.heading ≡ attributes_at c.args.kept.now c.args.r.now.heading =
-      heading_in_order (attributes_at kept r.heading) c.in_ok-heading.heading (part_ascends r.heading kept c.in_ok-rows.ensures.relation.headed c.requires.ascending c.requires.within) moved c.in_ok-heading.ensures.ordered in
+    heading_in_order (attributes_at kept r.heading) c.in_ok-heading.heading (part_ascends r.heading kept c.in_ok-rows.ensures.relation.headed c.requires.ascending c.requires.within) moved c.in_ok-heading.ensures.ordered in
     record {
       fitting = subst (λ (h : Heading). IsTrue (all_fit h c.in_ok-rows.rows.items)) (sym head)
-        (subst (λ (l : List Row). IsTrue (all_fit (attributes_at c.args.kept.now c.args.r.now.heading) l)) (sym c.in_ok-rows.ensures.parts)
-        (projected_fits r.heading kept c.in_ok-rows.ensures.relation.headed c.requires.ascending c.requires.within r.rows c.in_ok-rows.ensures.relation.fitting));
+          (subst (λ (l : List Row). IsTrue (all_fit (attributes_at c.args.kept.now c.args.r.now.heading) l)) (sym c.in_ok-rows.ensures.parts)
+          (projected_fits r.heading kept c.in_ok-rows.ensures.relation.headed c.requires.ascending c.requires.within r.rows c.in_ok-rows.ensures.relation.fitting));
       few = subst (λ (l : List Row). length l ≤ most_rows) (sym c.in_ok-rows.ensures.parts) (projected_few kept r.rows c.in_ok-rows.ensures.relation.few);
     }
 
@@ -49,12 +49,12 @@ returns c =
     let r = c.args.r.now in
     let kept = c.args.kept.now in
     let list : c.in_ok-list.list.items ≡ attributes_at c.args.kept.now c.args.r.now.heading =
-      c.in_ok-list.ensures ∙ ap (λ (h : Heading). attributes_at c.args.kept.now h) (c.attributes.ensures.list ∙ c.heading.ensures.heading) in
+    c.in_ok-list.ensures ∙ ap (λ (h : Heading). attributes_at c.args.kept.now h) (c.attributes.ensures.list ∙ c.heading.ensures.heading) in
     let moved : IsPermutation (attributes_at c.args.kept.now c.args.r.now.heading) c.in_ok-heading.heading = subst (λ (l : Heading). IsPermutation l c.in_ok-heading.heading) list c.in_ok-heading.ensures.same in
     let head : c.in_ok-heading.heading ≡ attributes_at c.args.kept.now c.args.r.now.heading =
-      heading_in_order (attributes_at kept r.heading) c.in_ok-heading.heading (part_ascends r.heading kept c.in_ok-rows.ensures.relation.headed c.requires.ascending c.requires.within) moved c.in_ok-heading.ensures.ordered in
+    heading_in_order (attributes_at kept r.heading) c.in_ok-heading.heading (part_ascends r.heading kept c.in_ok-rows.ensures.relation.headed c.requires.ascending c.requires.within) moved c.in_ok-heading.ensures.ordered in
     let set : rows_of c.in_ok-rows.rows.items ≡ projected c.args.kept.now c.args.r.now.rows =
-      ap (λ (l : List Row). rows_of l) c.in_ok-rows.ensures.parts ∙ in_order-in_order row_cmp row_total row_separates (map (part_of kept) r.rows) in
+    ap (λ (l : List Row). rows_of l) c.in_ok-rows.ensures.parts ∙ in_order-in_order row_cmp row_total row_separates (map (part_of kept) r.rows) in
     record {
       few = projected_few kept r.rows c.in_ok-rows.ensures.relation.few;
       is = c.in_ok-relation.ensures ∙ ap₂ relation_with head set;
