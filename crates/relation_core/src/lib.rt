@@ -19,3 +19,6 @@ pub use projection::project;
 pub use renaming::rename;
 pub use restriction::restrict;
 pub use sets::{intersect, minus, union};
+
+#[cfg(test)]
+mod tests;
