@@ -1,0 +1,13 @@
+use Rattle.std.proofs.Common.{◌≡◌, ◌+◌, ◌<◌, ◌∷◌, ◌++◌, [], List, length, get_or, take, ap, ap₂, sym, ◌∙◌, arith}
+use Rattle.value_core.specs.Values.{Name, Heading}
+use Rattle.value_core.specs.declared.kind.Kind.{Kind}
+use Rattle.relation_core.specs.Parts.{renamed}
+use Rattle.relation_core.proofs.RenamingLemmas.{renamed_more}
+use Rattle.relation_core.proofs.renaming.renamed.Goals as goal
+
+pub loop-at-preserved : goal.loop-at-preserved
+loop-at-preserved c =
+    let l : c.loop-at.at < length c.args.names.now = omega arith in
+    let m : c.loop-at.at < length c.args.attributes.now = omega arith in
+    let whole = renamed_more c.args.names.now c.args.attributes.now c.loop-at.at c.index-names-at.result c.index-attributes-at.result l m in
+    cc (whole, c.in_ok-push.ensures.items, c.in_ok-copy.ensures, c.index-names-at.is, c.index-attributes-at.is, c.loop-at.invariant)

@@ -1,0 +1,10 @@
+use Rattle.std.proofs.Common.{List, subst, MatchResult}
+use Rattle.value_core.specs.Values.{Row}
+use Rattle.relation_core.specs.Answers.{IsAnswer, IsRefusal}
+use Rattle.relation_core.proofs.MergeLemmas.{merged_union}
+use Rattle.relation_core.proofs.sets.union.Goals as goal
+
+pub returns : goal.returns
+returns c =
+    subst (λ (u : List Row). MatchResult c.merge_relations.result (IsAnswer c.args.left.now.heading u) (IsRefusal u))
+    (merged_union c.args.left.now.rows c.args.right.now.rows) c.merge_relations.ensures.rows

@@ -1,0 +1,24 @@
+//! The plain operators of the relational algebra on relations.
+#![tactic(auto)]
+
+mod agreement;
+mod answers;
+mod extension;
+mod headings;
+mod merging;
+mod names;
+mod parts;
+mod projection;
+mod renaming;
+mod restriction;
+mod sets;
+
+pub use agreement::{matching, not_matching};
+pub use extension::extend;
+pub use projection::project;
+pub use renaming::rename;
+pub use restriction::restrict;
+pub use sets::{intersect, minus, union};
+
+#[cfg(test)]
+mod tests;
