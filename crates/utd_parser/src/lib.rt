@@ -19,3 +19,6 @@ mod whole;
 pub use limits::{exceeds, is_bad_text};
 pub use terminals::terminal_of;
 pub use whole::accept;
+
+#[cfg(test)]
+mod tests;
