@@ -16,7 +16,8 @@ use Rattle.utd_syntax.proofs.Reader.{Go, read}
 use Rattle.utd_syntax.proofs.Complete.{written-once}
 use Rattle.utd_syntax.proofs.Accepted.{bare, Agree, agrees, written-accepted}
 use Rattle.utd_syntax.proofs.Sound.{accepted-written}
-use Rattle.utd_syntax.proofs.Refused.{Good, Reads, by, complete, complete-reads, complete-tokens, lead, step, step-stable, step-good, step-read, ReachIs, reach-step, refused-place, refused-no_statement}
+use Rattle.utd_syntax.proofs.Completions.{Good, Reads, by, complete, complete-reads, complete-tokens, lead}
+use Rattle.utd_syntax.proofs.Refused.{step, step-stable, step-good, step-read, ReachIs, reach-step, refused-place, refused-no_statement}
 
 -- A: the table accepts what a tree writes, and nothing else
 pub law_a : (ts : List Piece) (load : Load) → ((x : StatementP) × Spells (of_statement x) ts []) ↔ (verdict no_limits ts (TheStatement ∷ []) load ≡ Whole)

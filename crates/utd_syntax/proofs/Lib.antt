@@ -1,8 +1,16 @@
 pub mod Marks
+pub mod FormValues
 pub mod Reader
+pub mod FormEnds
+pub mod FirstTokens
+pub mod ReadScalars
 pub mod Complete
 pub mod Accepted
+pub mod SoundForms
 pub mod Sound
+pub mod Completions
+pub mod GoodScalars
+pub mod GoodStatements
 pub mod Refused
 pub mod Laws
 pub mod Trees

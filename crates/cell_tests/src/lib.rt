@@ -1,0 +1,153 @@
+//! Packing and combination at a concrete point type, label and operator.
+#![tactic(auto)]
+
+ghost use Rattle.std.specs.Prelude.{◌≡◌, ℕ, ◌<◌, ◌^◌, List, [], ◌∷◌, length, IfOk};
+ghost use Rattle.std.specs.List.{All};
+ghost use Rattle.cell_core.specs.Boxes.{IsBox};
+ghost use Rattle.point_core.specs.Whole.{IsWhole};
+ghost use Rattle.point_core.specs.declared.int_type.IntType.{IntType as AnyIntType};
+
+mod tag;
+
+use cell_core::{BoxRow, CellRefuse, Sides, pack};
+use interval_core::Interval;
+use point_core::{IntType, Memory, Steps};
+use std::alloc::Global;
+use std::sync::ledger::{Blank, Ledger};
+use tag::Tag;
+
+/// A label and two intervals of integers.
+#[derive(Clone, Copy, Debug, PartialEq, Eq)]
+pub struct Plain {
+    pub label: u64,
+    pub first: (i64, i64),
+    pub second: (i64, i64),
+}
+
+// From one end to the other, whichever is less.
+fn interval(ends: (i64, i64)) -> Interval<IntType>
+    ensures begin { IsWhole result.0 }
+    ensures end { IsWhole result.1 }
+{
+    if ends.0 <= ends.1 {
+        return Interval::of(ends.0, ends.1);
+    }
+    Interval::of(ends.1, ends.0)
+}
+
+// The row as a box of two sides.
+fn box_of(alloc: Global, row: Plain) -> Result<BoxRow<IntType, Tag>, Memory>
+    ensures { IfOk result (λ r. (t : AnyIntType) → IsBox (λ _ p. IsWhole p) (t ∷ t ∷ []) r.1) }
+{
+    let mut list = Vec::new(alloc);
+    list.push(interval(row.first))?;
+    list.push(interval(row.second))?;
+    Ok(BoxRow {
+        label: Tag { value: row.label },
+        sides: Sides { list },
+    })
+}
+
+// The rows as boxes.
+fn boxes_of(alloc: Global, rows: &[Plain]) -> Result<Vec<BoxRow<IntType, Tag>>, Memory>
+    ensures boxes { IfOk result (λ v. (t : AnyIntType) → All (λ r. IsBox (λ _ p. IsWhole p) (t ∷ t ∷ []) r.1) v.items) }
+    ensures length { IfOk result (λ v. length v.items ≡ length rows.now) }
+{
+    let mut out = Vec::new(alloc);
+    for row in rows {
+        let x = box_of(alloc, *row)?;
+        out.push(x)?;
+    }
+    Ok(out)
+}
+
+fn ends_of(sides: &Sides<IntType>, side: usize) -> (i64, i64) {
+    match sides.list.get(side) {
+        Some(interval) => (interval.begin(), interval.end()),
+        None => (1, 0),
+    }
+}
+
+// The boxes as rows.
+fn plain_rows(alloc: Global, rows: &[BoxRow<IntType, Tag>]) -> Result<Vec<Plain>, Memory> {
+    let mut out = Vec::new(alloc);
+    for row in rows {
+        out.push(Plain {
+            label: row.label.value,
+            first: ends_of(&row.sides, 0),
+            second: ends_of(&row.sides, 1),
+        })?;
+    }
+    Ok(out)
+}
+
+/// The rows packed on the first side and then on the second.
+pub fn packed<L: Ledger>(
+    alloc: Global,
+    rows: &[Plain],
+    limit: usize,
+    blank: Blank,
+) -> Result<Vec<Plain>, CellRefuse>
+    requires few { length rows.now < 2 ^ 61 }
+    requires name { blank.name ≡ L.name }
+    requires parts { blank.parts ≡ L.parts }
+    requires one { blank.parts ≡ 1 }
+{
+    let mut steps = Steps::<L>::new(blank);
+    let types = [IntType, IntType];
+    let boxes = boxes_of(alloc, rows)?;
+    let answer = pack(alloc, &types, boxes.as_slice(), limit, &mut steps)?;
+    let rows = plain_rows(alloc, answer.as_slice())?;
+    Ok(rows)
+}
+
+#[cfg(test)]
+mod tests {
+    use super::*;
+    use std::marker::Brand;
+    use std::test::Fail;
+
+    fn plain(label: u64, first: (i64, i64), second: (i64, i64)) -> Plain {
+        Plain {
+            label,
+            first,
+            second,
+        }
+    }
+
+    #[test]
+    fn packs_on_two_sides(rt: HostRuntime) -> Result<(), Fail> {
+        let alloc = rt.alloc();
+        let one = (1, 1);
+        let meeting = [
+            plain(1, (4, 6), one),
+            plain(1, (1, 3), one),
+            plain(1, (8, 9), one),
+        ];
+        let rows = packed::<Brand>(alloc, &meeting, 9, Blank::new(1));
+        match rows {
+            Ok(rows) => {
+                assert_eq!(rt; rows.len(), 2);
+                assert!(rt; rows[0] == plain(1, (1, 6), one));
+                assert!(rt; rows[1] == plain(1, (8, 9), one));
+            }
+            Err(_) => assert!(rt; false),
+        }
+        let cut = [plain(1, (1, 3), one), plain(1, (2, 2), (1, 2))];
+        match packed::<Brand>(alloc, &cut, 2, Blank::new(1)) {
+            Ok(rows) => {
+                assert_eq!(rt; rows.len(), 2);
+                assert!(rt; rows[0] == plain(1, (1, 3), one));
+                assert!(rt; rows[1] == plain(1, (2, 2), (2, 2)));
+            }
+            Err(_) => assert!(rt; false),
+        }
+        match packed::<Brand>(alloc, &cut, 1, Blank::new(1)) {
+            Err(CellRefuse::Limit) => Ok(()),
+            _ => {
+                assert!(rt; false);
+                Ok(())
+            }
+        }
+    }
+}
