@@ -1,4 +1,4 @@
-//! The reading of a statement's tokens: what each is to the grammar, and what refuses it by itself.
+//! Whether a statement's tokens are a statement of the grammar, and else the first that refuses them.
 #![tactic(auto)]
 
 mod dates;
