@@ -1,2 +1,7 @@
 pub mod Values
 pub mod Spellings
+pub mod Rows
+pub mod Stacks
+pub mod Days
+pub mod Verdicts
+pub mod Statements

@@ -1,5 +1,6 @@
 -- The tokens of a text as the grammar sees them.
 use Rattle.std.specs.Prelude.{ℕ, List, [], ◌∷◌}
+use Rattle.point_core.specs.declared.fault.Place.{Place}
 use Rattle.utd_lexer.specs.declared.token.TokenKind.{TokenKind}
 use Rattle.utd_lexer.specs.declared.token.TokenKind.TheVariants.{Word, Integer, Text, Symbol}
 use Rattle.utd_lexer.specs.declared.token.Token.{Token}
@@ -15,8 +16,11 @@ terminal_of Symbol bytes = symbol_terminal bytes
 terminal_of Integer bytes = Digits
 terminal_of Text bytes = Quoted
 
+abbrev pub seen : Terminal → Place → List ℕ → Piece
+seen terminal place bytes = record { terminal = terminal; place = place; bytes = bytes }
+
 abbrev pub piece : Token → Piece
-piece t = record { terminal = terminal_of t.kind t.bytes; place = t.place; bytes = t.bytes }
+piece t = seen (terminal_of t.kind t.bytes) t.place t.bytes
 
 abbrev pub pieces : List Token → List Piece
 pieces [] = []

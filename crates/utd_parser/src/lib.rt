@@ -1,8 +1,24 @@
-//! The reading of a statement's tokens: what each is to the grammar, and what refuses it by itself.
+//! Whether a statement's tokens are a statement of the grammar, and else the first that refuses them.
 #![tactic(auto)]
 
+mod dates;
+mod excess;
+mod form;
 mod limits;
+mod listed;
+mod operator_rows;
+mod primary_rows;
+mod relation_rows;
+mod scalar_rows;
+mod stack;
+mod statement_rows;
+mod table;
 mod terminals;
+mod whole;
 
 pub use limits::{exceeds, is_bad_text};
 pub use terminals::terminal_of;
+pub use whole::accept;
+
+#[cfg(test)]
+mod tests;

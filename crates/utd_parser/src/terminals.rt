@@ -218,7 +218,8 @@ fn spelling(terminal: Terminal) -> &'static [u8]
     }
 }
 
-fn is_same(left: &[u8], right: &[u8]) -> bool
+/// The bytes are the same.
+pub fn is_same(left: &[u8], right: &[u8]) -> bool
     ensures { result ≡ same_bytes left.now right.now }
 {
     match left.split_first() {
@@ -263,4 +264,11 @@ pub fn terminal_of(token: &Token) -> Terminal
     ensures { result ≡ tokens.terminal_of token.now.kind token.now.bytes }
 {
     terminal_by(token.kind, token.bytes.list.as_slice())
+}
+
+/// The bytes of a token.
+pub fn bytes_of(token: &Token) -> &[u8]
+    ensures { result.now ≡ token.now.bytes }
+{
+    token.bytes.list.as_slice()
 }

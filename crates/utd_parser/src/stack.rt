@@ -1,0 +1,165 @@
+// The forms to come, and how a token is taken over them.
+ghost use Rattle.std.specs.Prelude.{◌≡◌, ◌+◌, ◌<◌, List, ◌∷◌, [], ◌++◌, false, IfOk, IfSome, IsNone, length};
+ghost use Rattle.utd_syntax.specs.Table as table;
+ghost use Rattle.utd_syntax.specs.Limits.{is_too_deep};
+ghost use Rattle.utd_syntax.specs.Verdict as verdict;
+ghost use Rattle.utd_parser.specs.Forms.{forms_of, taking_of};
+ghost use Rattle.utd_parser.specs.Frames.{load_of, symbols_in, stack_of, passed, reach_of};
+
+use crate::form::{Form, Taking, Turn};
+use crate::table::turn;
+use std::alloc::AllocError;
+use utd_syntax::Terminal;
+
+/// The levels that are open, the operators in force, and those of them that stand outside the innermost level.
+#[derive(Clone, Copy)]
+pub struct Load {
+    pub levels: u32,
+    pub outside: u32,
+    pub operators: u32,
+}
+
+/// Forms to come, or the end of a level with the load outside it.
+#[derive(Clone, Copy)]
+pub enum Frame {
+    Forms(&'static [Form]),
+    Shut(Load),
+}
+
+/// What the forms of a frame do with a token: all end before it; it cannot stand there; or it is taken, and the next
+/// forms and the rest of the frame follow.
+#[derive(Clone, Copy)]
+pub enum Passing {
+    Passed,
+    Stuck,
+    Takes(Taking, &'static [Form], &'static [Form]),
+}
+
+/// Where the next token stands: behind the end of the text; where it cannot stand; or it is taken, with the load so far.
+#[derive(Clone, Copy)]
+pub enum Reach {
+    Over,
+    Stuck,
+    Reaches(Taking, Load),
+}
+
+fn push_forms(frames: &mut Vec<Frame>, forms: &'static [Form]) -> Result<(), AllocError>
+    ensures { IfOk result (λ _. stack_of frames.new.items ≡ forms_of forms.now ++ stack_of frames.old.items) }
+{
+    if forms.is_empty() {
+        return Ok(());
+    }
+    frames.push(Frame::Forms(forms))?;
+    Ok(())
+}
+
+fn push_end(frames: &mut Vec<Frame>, outer: Load) -> Result<(), AllocError>
+    ensures { IfOk result (λ _. stack_of frames.new.items ≡ table.Shut (load_of outer) ∷ stack_of frames.old.items) }
+{
+    frames.push(Frame::Shut(outer))?;
+    Ok(())
+}
+
+fn pop(frames: &mut Vec<Frame>) -> Option<Frame>
+    ensures some { IfSome result (λ f. stack_of frames.old.items ≡ symbols_in f ++ stack_of frames.new.items) }
+    ensures shorter { IfSome result (λ f. length frames.old.items ≡ length frames.new.items + 1) }
+    ensures none { IsNone result → stack_of frames.old.items ≡ [] }
+{
+    frames.pop()
+}
+
+// The forms of a frame that end before the token are passed.
+fn pass(forms: &'static [Form], terminal: Terminal, bytes: &[u8], behind: Terminal) -> Passing
+    ensures { (base : List table.Symbol) (load : table.Load) → verdict.reach (forms_of forms.now ++ base) load terminal bytes.now behind ≡ passed result base load terminal bytes.now behind }
+{
+    match forms.split_first() {
+        None => Passing::Passed,
+        Some((form, rest)) => match turn(*form, terminal, bytes, behind) {
+            Turn::Never => Passing::Stuck,
+            Turn::Ends => pass(rest, terminal, bytes, behind),
+            Turn::Takes(how, next) => Passing::Takes(how, next, rest),
+        },
+    }
+}
+
+/// The forms that end before the token are passed, and the others are what is left.
+pub fn advance(
+    frames: &mut Vec<Frame>,
+    load: Load,
+    terminal: Terminal,
+    bytes: &[u8],
+    behind: Terminal,
+) -> Result<Reach, AllocError>
+    ensures { IfOk result (λ r. verdict.reach (stack_of frames.old.items) (load_of load) terminal bytes.now behind ≡ reach_of r (stack_of frames.new.items)) }
+{
+    let mut load = load;
+    while let Some(frame) = pop(frames) {
+        match frame {
+            Frame::Shut(outer) => load = outer,
+            Frame::Forms(forms) => match pass(forms, terminal, bytes, behind) {
+                Passing::Passed => {}
+                Passing::Stuck => return Ok(Reach::Stuck),
+                Passing::Takes(how, next, rest) => {
+                    push_forms(frames, rest)?;
+                    push_forms(frames, next)?;
+                    return Ok(Reach::Reaches(how, load));
+                }
+            },
+        }
+    }
+    Ok(Reach::Over)
+}
+
+/// The load behind the token, and the forms of the level that it opens.
+pub fn enter(frames: &mut Vec<Frame>, how: Taking, load: Load) -> Result<Load, AllocError>
+    requires { is_too_deep (taking_of how) (load_of load) ≡ false }
+    ensures load { IfOk result (λ after. load_of after ≡ verdict.load_after (taking_of how) (load_of load)) }
+    ensures forms { IfOk result (λ after. stack_of frames.new.items ≡ verdict.stack_after (taking_of how) (load_of load) (stack_of frames.old.items)) }
+{
+    match how {
+        Taking::Operator => Ok(counted(load)),
+        Taking::Separator => Ok(Load {
+            levels: load.levels,
+            outside: load.outside,
+            operators: load.outside,
+        }),
+        Taking::Opens(inner) => {
+            push_end(frames, load)?;
+            push_forms(frames, inner)?;
+            Ok(opened(load))
+        }
+        Taking::OperatorOpens(inner) => {
+            let outer = counted(load);
+            push_end(frames, outer)?;
+            push_forms(frames, inner)?;
+            Ok(opened(outer))
+        }
+        Taking::Plain => Ok(load),
+        Taking::Negated => Ok(load),
+        Taking::Dated => Ok(load),
+    }
+}
+
+// With one more operator in force.
+fn counted(load: Load) -> Load
+    requires { load.operators < 256 }
+    ensures { load_of result ≡ verdict.counted (load_of load) }
+{
+    Load {
+        levels: load.levels,
+        outside: load.outside,
+        operators: load.operators + 1,
+    }
+}
+
+// In one more level.
+fn opened(load: Load) -> Load
+    requires { load.levels < 64 }
+    ensures { load_of result ≡ verdict.opened (load_of load) }
+{
+    Load {
+        levels: load.levels + 1,
+        outside: load.operators,
+        operators: load.operators,
+    }
+}

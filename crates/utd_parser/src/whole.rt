@@ -1,0 +1,139 @@
+// The verdict on the tokens of a statement.
+ghost use Rattle.std.specs.Prelude.{◌≡◌, List, [], ◌∷◌, IfOk, IfErr};
+ghost use Rattle.point_core.specs.declared.fault.Place.{Place};
+ghost use Rattle.point_core.specs.declared.fault.Code.{Code};
+ghost use Rattle.point_core.specs.declared.fault.Code.TheVariants.{E01};
+ghost use Rattle.value_core.specs.declared.refuse.Refuse.TheVariants as refuses;
+ghost use Rattle.utd_syntax.specs.Pieces.{Piece, first};
+ghost use Rattle.utd_syntax.specs.Continues.{Continues, NoStatement};
+ghost use Rattle.utd_syntax.specs.Table.{TheStatement};
+ghost use Rattle.utd_syntax.specs.Verdict.{Verdict, Whole, Refused, at_start, limits, verdict, verdict_on};
+ghost use Rattle.utd_parser.specs.Tokens.{pieces, seen};
+ghost use Rattle.utd_parser.specs.Frames.{load_of, stack_of, Comes, Fails, IsStatement, RefusedAt};
+
+use crate::excess::excess;
+use crate::form::Form;
+use crate::stack::{Frame, Load, Reach, advance, enter};
+use crate::terminals::{bytes_of, terminal_of};
+use point_core::{Code, Fault, Place};
+use std::alloc::Global;
+use utd_lexer::{Token, TokenList};
+use utd_syntax::Terminal;
+use value_core::Refuse;
+
+// The forms to come, and the load.
+#[derive(Drop)]
+struct Reading {
+    frames: Vec<Frame>,
+    load: Load,
+}
+
+// What the first of these tokens is to the grammar.
+fn first_of(tokens: &[Token]) -> Terminal
+    ensures { result ≡ first (pieces tokens.now) }
+{
+    match tokens.split_first() {
+        None => Terminal::Finish,
+        Some((token, _)) => terminal_of(token),
+    }
+}
+
+fn refusal(code: Code, place: Place) -> Refuse
+    ensures { (v : Verdict) → v ≡ Refused code place → Fails result v }
+{
+    Refuse::At(Fault { place, code })
+}
+
+impl Reading {
+    // Past the token, given what the one behind it is.
+    fn take(
+        &mut self,
+        terminal: Terminal,
+        place: Place,
+        bytes: &[u8],
+        behind: Terminal,
+    ) -> Result<(), Refuse>
+        ensures { (ts : List Piece) → behind ≡ first ts → Comes result (verdict limits (seen terminal place bytes.now ∷ ts) (stack_of self.old.frames.items) (load_of self.old.load)) (verdict limits ts (stack_of self.new.frames.items) (load_of self.new.load)) }
+    {
+        match advance(&mut self.frames, self.load, terminal, bytes, behind)? {
+            Reach::Reaches(how, load) => {
+                if let Some(code) = excess(how, load, terminal, bytes) {
+                    return Err(refusal(code, place));
+                }
+                self.load = enter(&mut self.frames, how, load)?;
+                Ok(())
+            }
+            Reach::Over => Err(refusal(Code::E01, place)),
+            Reach::Stuck => Err(refusal(Code::E01, place)),
+        }
+    }
+
+    // At the end of the text.
+    fn end(&mut self) -> Result<(), Refuse>
+        ensures { Comes result (verdict limits [] (stack_of self.old.frames.items) (load_of self.old.load)) Whole }
+    {
+        match advance(
+            &mut self.frames,
+            self.load,
+            Terminal::Finish,
+            &[],
+            Terminal::Finish,
+        )? {
+            Reach::Over => Ok(()),
+            Reach::Stuck => Err(refusal(Code::E01, Place { line: 0, column: 0 })),
+            Reach::Reaches(_, _) => Err(refusal(Code::E01, Place { line: 0, column: 0 })),
+        }
+    }
+}
+
+// Past all of these tokens, and to the end of the text.
+fn read(reading: Reading, tokens: &[Token]) -> Result<(), Refuse>
+    ensures { Comes result (verdict limits (pieces tokens.now) (stack_of reading.frames.items) (load_of reading.load)) Whole }
+{
+    let mut reading = reading;
+    let mut rest = tokens;
+    let mut terminal = first_of(tokens);
+    while let Some((token, more)) = rest.split_first() {
+        let behind = first_of(more);
+        reading.take(terminal, token.place, bytes_of(token), behind)?;
+        rest = more;
+        terminal = behind;
+    }
+    reading.end()
+}
+
+fn at_start(alloc: Global) -> Result<Reading, Refuse>
+    ensures start { IfOk result (λ r. (stack_of r.frames.items ≡ TheStatement ∷ []) × (load_of r.load ≡ at_start)) }
+    ensures memory { IfErr result (λ e. e ≡ refuses.Memory) }
+{
+    let mut frames = Vec::new(alloc);
+    frames.push(Frame::Forms(&[Form::TheStatement]))?;
+    Ok(Reading {
+        frames,
+        load: Load {
+            levels: 0,
+            outside: 0,
+            operators: 0,
+        },
+    })
+}
+
+// The verdict on the tokens.
+fn judge(alloc: Global, list: &TokenList) -> Result<(), Refuse>
+    ensures { Comes result (verdict_on (pieces list.now)) Whole }
+{
+    let reading = at_start(alloc)?;
+    read(reading, list.list.as_slice())
+}
+
+/// Whether the tokens are a statement, and else the first refusal. It is E01 at the first token with which no statement
+/// goes on, or at the end of the text; E05 at a token that opens a 65th level or is a 257th operator in force; E06 at a
+/// token out of its range.
+pub fn accept(alloc: Global, list: &TokenList) -> Result<(), Refuse>
+    ensures verdict { Comes result (verdict_on (pieces list.now)) Whole }
+    ensures read { IfOk result (λ _. IsStatement (pieces list.now)) }
+    ensures no_statement { (place : Place) → RefusedAt result E01 place → NoStatement (pieces list.now) place }
+    ensures limit { (code : Code) (place : Place) → RefusedAt result code place → (E01 ≡ code → ⊥) → Continues (pieces list.now) place }
+{
+    judge(alloc, list)
+}
