@@ -80,11 +80,11 @@ points-iff S S' h y = (λ w. (w.0, (h (firsts y)).0 w.1), λ w. (w.0, (h (firsts
 
 -- ---- places
 
-onto_twice : (ps rs : List ℤ) → onto (onto ps rs) [] ≡ onto rs ps
+pub onto_twice : (ps rs : List ℤ) → onto (onto ps rs) [] ≡ onto rs ps
 onto_twice [] rs = refl
 onto_twice (p ∷ ps) rs = onto_twice ps (p ∷ rs)
 
-length_onto : (ps rs : List ℤ) → length (onto ps rs) ≡ length ps + length rs
+pub length_onto : (ps rs : List ℤ) → length (onto ps rs) ≡ length ps + length rs
 length_onto [] rs = omega arith
 length_onto (p ∷ ps) rs = let w = length_onto ps (p ∷ rs) in omega arith
 
