@@ -25,13 +25,13 @@ use std::sync::ledger::Ledger;
 // What the cells give: each side's numbering, the packed rows over cells, and the least fault.
 #[derive(Drop)]
 pub struct Found<T: PointType, P> {
-    sides: Vec<Side<T>>,
-    rows: Vec<Key<P>>,
-    least: Option<Fault>,
+    pub sides: Vec<Side<T>>,
+    pub rows: Vec<Key<P>>,
+    pub least: Option<Fault>,
 }
 
 // The packed rows of all places, over numbered cells, and the least fault.
-fn find_rows<T: PointType, O: CellOp, L: Ledger>(
+pub fn find_rows<T: PointType, O: CellOp, L: Ledger>(
     alloc: Global,
     types: &[T],
     left: &[Sides<T>],
@@ -47,6 +47,7 @@ fn find_rows<T: PointType, O: CellOp, L: Ledger>(
     requires can { (a b : List ℕ) → AreRows 0 (length left.now) a → AreRows (length left.now) (length left.now + length right.now) b → O.CanApply op.now a (own_numbers (length left.now) b) }
     ensures length { IfOk result (λ v. length v.sides.items ≡ length types.now) }
     ensures grids { IfOk result (λ v. (j : ℕ) (t : T) (e : List T.Point × List T.Point × List (ℕ × ℕ)) → j < length types.now → IsGrid T.number_of (T.IsPoint (slice_index_or types.now j t)) (T.last_number (slice_index_or types.now j t)) (get_or v.sides.items j e)) }
+    ensures tables { IfOk result (λ v. (j : ℕ) (t : T) (d : T.Point × T.Point) (e : List T.Point × List T.Point × List (ℕ × ℕ)) → j < length types.now → IsSide T.number_of (T.IsPoint (slice_index_or types.now j t)) (T.last_number (slice_index_or types.now j t)) (map (side_of j d) (left.now ++ right.now)) (get_or v.sides.items j e)) }
     ensures lengths { IfOk result (λ v. (x : O.Out × List (ℕ × ℕ)) → Among x v.rows.items → length x.1 ≡ length types.now) }
     ensures cells { IfOk result (λ v. (x : O.Out × List (ℕ × ℕ)) → Among x v.rows.items → (s : ℕ) (e : List T.Point × List T.Point × List (ℕ × ℕ)) → s < length types.now → ((get_or x.1 s (0, 0)).0 < (get_or x.1 s (0, 0)).1) × ((get_or x.1 s (0, 0)).1 ≤ length (get_or v.sides.items s e).0)) }
     ensures form { IfOk result (λ v. IsPackedForm O.Out.order (length types.now) (O.means op.now) (boxes_of T.number_of left.now) (boxes_of T.number_of right.now) (map (grid_row (grids_of T.number_of T.last_number types.now v.sides.items)) v.rows.items)) }
