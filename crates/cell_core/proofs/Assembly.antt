@@ -29,7 +29,7 @@ box_same [] a xs = refl
 box_same (g ∷ ns) a [] = refl
 box_same (g ∷ ns) a (x ∷ xs) = ap (λ ys. span_at g.0 g.1 x ∷ ys) (box_same ns a.1 xs)
 
-length_cuts : (ns : List (List ℤ × ℤ)) (a : AllByRecursion (λ g. Rises g.0 g.1) ns) → length (cuts_list ns a) ≡ length ns
+pub length_cuts : (ns : List (List ℤ × ℤ)) (a : AllByRecursion (λ g. Rises g.0 g.1) ns) → length (cuts_list ns a) ≡ length ns
 length_cuts [] a = refl
 length_cuts (g ∷ ns) a = ap suc (length_cuts ns a.1)
 
@@ -56,7 +56,7 @@ module _ {T P : Type 0} (n : P → ℤ) (has : T → P → Type 0) (high : T →
   abbrev S : Type 0
   S = List P × List P × List (ℕ × ℕ)
 
-  length_grids : (ts : List T) (ss : List S) → length ss ≡ length ts → length (grids_of n high ts ss) ≡ length ts
+  pub length_grids : (ts : List T) (ss : List S) → length ss ≡ length ts → length (grids_of n high ts ss) ≡ length ts
   length_grids [] ss e = refl
   length_grids (t ∷ ts) [] e = absurd (omega arith)
   length_grids (t ∷ ts) (s ∷ ss) e = ap suc (length_grids ts ss (omega arith))
@@ -67,7 +67,7 @@ module _ {T P : Type 0} (n : P → ℤ) (has : T → P → Type 0) (high : T →
   grid_at (u ∷ ts) (v ∷ ss) zero t s e l h = refl
   grid_at (u ∷ ts) (v ∷ ss) (suc j) t s e l h = grid_at ts ss j t s e (omega arith) (omega arith)
 
-  all_rise : (ts : List T) (ss : List S) → length ss ≡ length ts → ((j : ℕ) (t : T) (s : S) → j < length ts → Rises (map n (get_or ss j s).0) (high (get_or ts j t) +ℤ pos 1)) → AllByRecursion (λ g. Rises g.0 g.1) (grids_of n high ts ss)
+  pub all_rise : (ts : List T) (ss : List S) → length ss ≡ length ts → ((j : ℕ) (t : T) (s : S) → j < length ts → Rises (map n (get_or ss j s).0) (high (get_or ts j t) +ℤ pos 1)) → AllByRecursion (λ g. Rises g.0 g.1) (grids_of n high ts ss)
   all_rise [] ss e h = tt
   all_rise (t ∷ ts) [] e h = absurd (omega arith)
   all_rise (t ∷ ts) (s ∷ ss) e h = (h 0 t s (omega arith), all_rise ts ss (omega arith) (λ j u v l. h (suc j) u v (omega arith)))

@@ -1,20 +1,19 @@
 -- The labels of the covering rows are those of the boxes that have the place.
-use Rattle.std.proofs.Common.{◌≡◌, ◌≢◌, ℕ, zero, suc, ◌+◌, ◌-◌, ◌*◌, ◌<◌, ◌≤◌, Bool, true, false, cond, ◌&&◌, ℤ, ◌≤ℤ◌, List, [], ◌∷◌, ◌++◌, map, take, drop, length, ◌↔◌, ◌⊎◌, inl, inr, arith, sym, ap, subst, refl, ◌∙◌, Ordering, Result, Ok, Err, get_or}
+use Rattle.std.proofs.Common.{◌≡◌, ℕ, zero, suc, ◌+◌, ◌-◌, ◌*◌, ◌<◌, ◌≤◌, true, false, cond, ◌&&◌, ℤ, ◌≤ℤ◌, List, [], ◌∷◌, map, take, drop, length, ◌↔◌, ◌⊎◌, inl, inr, arith, sym, ap, subst, refl, ◌∙◌, Ordering, Result, Ok, Err}
 use Rattle.std.specs.declared.cmp.Ordering.TheVariants.{Less, Equal, Greater}
 use Rattle.std.specs.Ordering.{int_cmp, ordering_then}
 use Rattle.std.specs.Cmp.{IsTotalOrder}
 use Rattle.std.specs.Cmp.Lexicographic.{slice_cmp}
 use Rattle.std.specs.List.{flat_map, AllByRecursion, All}
-use Rattle.std.specs.List.Sorted.{IsStrictlySortedBy}
 use Rattle.std.specs.Int.RustNames.{int_le}
 use Rattle.std.proofs.lemmas.Bool.{and_parts, and_from, true≢false}
 use Rattle.std.proofs.lemmas.Cmp.{then_total, on_total, lists_total, int_cmp_total, int_ranked}
 use Rattle.std.proofs.lemmas.Int.{ints}
 use Rattle.base_core.specs.Sets.{in_order}
-use Rattle.base_core.proofs.SetLemmas.{AllAfter, Ascends, Separates, In-in_order, Ascends-from_sorted}
+use Rattle.base_core.proofs.SetLemmas.{Separates, In-in_order, Ascends-from_sorted}
 use Rattle.interval_core.specs.Members.{Span}
-use Rattle.packing_core.specs.Packed.{Has, packs, points_of}
-use Rattle.packing_core.specs.Covering.{Among, Gives, has, passing, covering, InCells}
+use Rattle.packing_core.specs.Packed.{Has, points_of}
+use Rattle.packing_core.specs.Covering.{Among, has, passing, covering, InCells}
 use Rattle.packing_core.specs.Boxed.{Boxed, span_cmp, boxed_cmp, InBoxes, packed_boxes}
 use Rattle.packing_core.proofs.AmongLemmas.{among_append}
 use Rattle.packing_core.proofs.PackedBoxes.{among_in, packed_form_is}
@@ -68,7 +67,7 @@ boxed_separates {order = order} same x y e =
     let q = box_same x.1 y.1 h.1 in
     λ i. (p i, q i)
 
-among_in_set : {X : Type 0} (cmp : X → X → Ordering) (o : IsTotalOrder cmp) (same : Separates cmp) (xs : List X) (x : X) → Among x (in_order cmp xs) ↔ Among x xs
+pub among_in_set : {X : Type 0} (cmp : X → X → Ordering) (o : IsTotalOrder cmp) (same : Separates cmp) (xs : List X) (x : X) → Among x (in_order cmp xs) ↔ Among x xs
 among_in_set cmp o same xs x =
     let a = among_in x (in_order cmp xs) in
     let b = among_in x xs in
@@ -83,7 +82,7 @@ le_true a b h = grind (arith, ints)
 true_le : (a b : ℤ) → int_le a b ≡ true → a ≤ℤ b
 true_le a b h = omega (arith, ints)
 
-has_is : (x : List Span) (ps : List ℤ) → (has x ps ≡ true) ↔ Has x ps
+pub has_is : (x : List Span) (ps : List ℤ) → (has x ps ≡ true) ↔ Has x ps
 has_is [] [] = (λ h. tt, λ h. refl)
 has_is [] (p ∷ ps) = (λ h. absurd (true≢false (sym h)), λ h. absurd h)
 has_is (i ∷ is) [] = (λ h. absurd (true≢false (sym h)), λ h. absurd h)
@@ -100,10 +99,10 @@ drop_more zero (x ∷ xs) y ys e = cc
 drop_more (suc n) (x ∷ xs) y ys e = drop_more n xs y ys e
 
 module _ {P : Type 0} (labels : List P) (l : P) (place : List ℤ) where
-  abbrev picked : ℕ → List (List Span) → List P
+  abbrev pub picked : ℕ → List (List Span) → List P
   picked n xs = flat_map (label_at labels) (passing (λ x. has x place) n xs)
 
-  in_picked : (r : List (Boxed P)) (n : ℕ) → drop n labels ≡ map (λ x. x.0) r → Among l (picked n (map (λ x. x.1) r)) ↔ InBoxes r l place
+  pub in_picked : (r : List (Boxed P)) (n : ℕ) → drop n labels ≡ map (λ x. x.0) r → Among l (picked n (map (λ x. x.1) r)) ↔ InBoxes r l place
   in_picked [] n e = (λ h. absurd h, λ h. absurd h.1)
   in_picked (x ∷ r) n e =
       let ih = in_picked r (suc n) (drop_more n labels x.0 (map (λ y. y.0) r) e) in
@@ -164,15 +163,15 @@ module _ {P : Type 0} (order : P → P → Ordering) (o : IsTotalOrder order) (s
       ))
 
 module _ {P Q : Type 0} (order : P → P → Ordering) (o : IsTotalOrder order) (same : Separates order) (n : Q → ℤ) (rows : List (P × List (Q × Q))) where
-  first_parts : (xs : List (P × List (Q × Q))) → map (λ x. x.0) xs ≡ map (λ x. x.0) (map (row_numbers n) xs)
+  pub first_parts : (xs : List (P × List (Q × Q))) → map (λ x. x.0) xs ≡ map (λ x. x.0) (map (row_numbers n) xs)
   first_parts [] = refl
   first_parts (x ∷ xs) = ap (λ zs. x.0 ∷ zs) (first_parts xs)
 
-  second_parts : (xs : List (P × List (Q × Q))) → boxes_of n (map (λ x. x.1) xs) ≡ map (λ x. x.1) (map (row_numbers n) xs)
+  pub second_parts : (xs : List (P × List (Q × Q))) → boxes_of n (map (λ x. x.1) xs) ≡ map (λ x. x.1) (map (row_numbers n) xs)
   second_parts [] = refl
   second_parts (x ∷ xs) = ap (λ zs. box_numbers n x.1 ∷ zs) (second_parts xs)
 
-  lengths : (k : ℕ) (xs : List (P × List (Q × Q))) → AllByRecursion (λ x. length x.1 ≡ k) xs → (x : Boxed P) → Among x (map (row_numbers n) xs) → length x.1 ≡ k
+  pub lengths : (k : ℕ) (xs : List (P × List (Q × Q))) → AllByRecursion (λ x. length x.1 ≡ k) xs → (x : Boxed P) → Among x (map (row_numbers n) xs) → length x.1 ≡ k
   lengths k [] h x m = absurd m
   lengths k (y ∷ ys) h x m = elim m [
     | inl e ↦ let p : length (box_numbers n y.1) ≡ length x.1 = ap (λ (z : Boxed P). length z.1) e in sym p ∙ length-map y.1 (numbers_of n) ∙ h.0

@@ -80,11 +80,11 @@ points-iff S S' h y = (λ w. (w.0, (h (firsts y)).0 w.1), λ w. (w.0, (h (firsts
 
 -- ---- places
 
-onto_twice : (ps rs : List ℤ) → onto (onto ps rs) [] ≡ onto rs ps
+pub onto_twice : (ps rs : List ℤ) → onto (onto ps rs) [] ≡ onto rs ps
 onto_twice [] rs = refl
 onto_twice (p ∷ ps) rs = onto_twice ps (p ∷ rs)
 
-length_onto : (ps rs : List ℤ) → length (onto ps rs) ≡ length ps + length rs
+pub length_onto : (ps rs : List ℤ) → length (onto ps rs) ≡ length ps + length rs
 length_onto [] rs = omega arith
 length_onto (p ∷ ps) rs = let w = length_onto ps (p ∷ rs) in omega arith
 
@@ -170,7 +170,7 @@ at_cmp_first g a b =
 span_order : (g : Cuts) (x y : ℕ × ℕ) → span_cmp (span_of g x) (span_of g y) ≡ pair_cmp x y
 span_order g x y = λ t. ordering_then (at_cmp_first g x.0 y.0 t) (at_cmp g x.1 y.1 (pos 1) t)
 
-box_order : (gs : List Cuts) (xs ys : List (ℕ × ℕ)) → length xs ≡ length gs → length ys ≡ length gs → slice_cmp span_cmp (box_of gs xs) (box_of gs ys) ≡ slice_cmp pair_cmp xs ys
+pub box_order : (gs : List Cuts) (xs ys : List (ℕ × ℕ)) → length xs ≡ length gs → length ys ≡ length gs → slice_cmp span_cmp (box_of gs xs) (box_of gs ys) ≡ slice_cmp pair_cmp xs ys
 box_order [] [] [] e f = refl
 box_order [] [] (y ∷ ys) e f = absurd (omega arith)
 box_order [] (x ∷ xs) ys e f = absurd (omega arith)

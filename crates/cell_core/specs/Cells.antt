@@ -1,8 +1,6 @@
 -- What the combination of boxes is: the cells of a function, packed on one side after the other.
 use Rattle.std.specs.Prelude.{◌≡◌, ℕ, zero, suc, ◌<◌, ◌≤◌, ◌≢◌, ◌⊎◌, ℤ, pos, ◌+ℤ◌, List, [], ◌∷◌, map, length, get_or, Err}
 use Rattle.std.specs.declared.cmp.Ordering.{Ordering}
-use Rattle.std.specs.Ordering.{int_cmp, ordering_then}
-use Rattle.std.specs.Cmp.Lexicographic.{slice_cmp}
 use Rattle.std.specs.List.Sorted.{IsStrictlySortedBy}
 use Rattle.interval_core.specs.Members.{Span}
 use Rattle.packing_core.specs.Packed.{packs, points_of}
@@ -26,6 +24,10 @@ IsPackedRow k f left right x = (length x.1 ≡ k) × packs k (points_of (InCells
 abbrev pub HasFault : {L F : Type 0} → ℕ → CellFunction L F → List (List Span) → List (List Span) → F → Type 0
 HasFault k f left right e =
     (place : List ℤ) × (length place ≡ k) × ((covering left place ≢ []) ⊎ (covering right place ≢ [])) × (f (covering left place) (covering right place) ≡ Err e)
+
+-- at some place some row covers it, and the function gives a label
+abbrev pub GivesSome : {L F : Type 0} → CellFunction L F → List (List Span) → List (List Span) → Type 0
+GivesSome {L = L} f left right = (l : L) × (place : List ℤ) × InCells f left right l place
 
 -- the list has just the packed rows, each once and in order; so there is one such list
 pub record IsPackedForm {L F : Type 0} (order : L → L → Ordering) (k : ℕ) (f : CellFunction L F) (left right : List (List Span)) (rows : List (L × List Span)) : Type 0 where

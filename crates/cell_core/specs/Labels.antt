@@ -21,7 +21,7 @@ labels_at order labels rows = in_order order (flat_map (label_at labels) rows)
 abbrev pub labels_given : {P F : Type 0} → (P → P → Ordering) → List P → List ℕ → Result (List P) F
 labels_given order labels rows = Ok (labels_at order labels rows)
 
-sorted_from_ascends : {X : Type 0} (cmp : X → X → Ordering) (xs : List X) → Ascends cmp xs → IsStrictlySortedBy cmp xs
+pub sorted_from_ascends : {X : Type 0} (cmp : X → X → Ordering) (xs : List X) → Ascends cmp xs → IsStrictlySortedBy cmp xs
 unfolding IsStrictlySortedBy
 sorted_from_ascends cmp [] h = tt
 sorted_from_ascends cmp (x ∷ xs) h = (each xs h.0, sorted_from_ascends cmp xs h.1)
@@ -30,7 +30,8 @@ sorted_from_ascends cmp (x ∷ xs) h = (each xs h.0, sorted_from_ascends cmp xs 
     each [] h = tt
     each (y ∷ ys) h = (h.0, each ys h.1)
 
-abbrev value_or : {X F : Type 0} → X → Result X F → X
+-- what an answer has, or d
+abbrev pub value_or : {X F : Type 0} → X → Result X F → X
 value_or d (Ok x) = x
 value_or d (Err e) = d
 

@@ -52,7 +52,11 @@ fn push_sides<T: PointType>(
 }
 
 // The cells of one row, side by side.
-fn one_box<T: PointType>(alloc: Global, sides: &[Side<T>], row: usize) -> Result<IndexBox, Memory>
+pub fn one_box<T: PointType>(
+    alloc: Global,
+    sides: &[Side<T>],
+    row: usize,
+) -> Result<IndexBox, Memory>
     requires { All (λ s. row < length s.2) sides.now }
     ensures { IfOk result (λ b. b.sides.items ≡ map (cells_at row) sides.now) }
 {

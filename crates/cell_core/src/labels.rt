@@ -16,7 +16,7 @@ pub struct Labels<P> {
 }
 
 // The labels of the rows.
-fn copies<P: Label>(alloc: Global, labels: &[P], rows: &[usize]) -> Result<Vec<P>, Memory>
+pub fn copies<P: Label>(alloc: Global, labels: &[P], rows: &[usize]) -> Result<Vec<P>, Memory>
     requires { All (λ r. r < length labels.now) rows.now }
     ensures { IfOk result (λ v. v.items ≡ flat_map (label_at labels.now) rows.now) }
 {
@@ -29,7 +29,7 @@ fn copies<P: Label>(alloc: Global, labels: &[P], rows: &[usize]) -> Result<Vec<P
 }
 
 // The labels in order, each once.
-fn distinct<P: Label>(list: Vec<P>) -> Result<Vec<P>, Memory>
+pub fn distinct<P: Label>(list: Vec<P>) -> Result<Vec<P>, Memory>
     ensures { IfOk result (λ v. v.items ≡ in_order P.order list.items) }
 {
     let mut set = list;

@@ -18,7 +18,10 @@ use std::alloc::Global;
 use std::sync::ledger::Ledger;
 
 // The labels of the rows.
-fn labels<T: PointType, P: Label>(alloc: Global, rows: &[BoxRow<T, P>]) -> Result<Vec<P>, Memory>
+pub fn labels<T: PointType, P: Label>(
+    alloc: Global,
+    rows: &[BoxRow<T, P>],
+) -> Result<Vec<P>, Memory>
     ensures { IfOk result (λ v. v.items ≡ map (λ r. r.0) rows.now) }
 {
     let mut out = Vec::new(alloc);
@@ -30,7 +33,7 @@ fn labels<T: PointType, P: Label>(alloc: Global, rows: &[BoxRow<T, P>]) -> Resul
 }
 
 // The boxes of the rows.
-fn boxes<T: PointType, P>(alloc: Global, rows: &[BoxRow<T, P>]) -> Result<Vec<Sides<T>>, Memory>
+pub fn boxes<T: PointType, P>(alloc: Global, rows: &[BoxRow<T, P>]) -> Result<Vec<Sides<T>>, Memory>
     ensures { IfOk result (λ v. v.items ≡ map (λ r. r.1) rows.now) }
 {
     let mut out = Vec::new(alloc);

@@ -1,5 +1,5 @@
 // The combination of boxes, from points to points.
-ghost use Rattle.std.specs.Prelude.{◌≡◌, ℕ, ℤ, pos, ◌+ℤ◌, ◌≤ℤ◌, ◌<◌, ◌≤◌, ◌⊎◌, ◌+◌, ◌*◌, ◌^◌, map, [], ◌∷◌, ◌++◌, List, Some, None, Err, get_or, ◌-◌, length, slice_index_or, OnOk, IfOk};
+ghost use Rattle.std.specs.Prelude.{◌≡◌, ℕ, ℤ, pos, ◌+ℤ◌, ◌≤ℤ◌, ◌<◌, ◌≤◌, ◌⊎◌, ◌+◌, ◌*◌, ◌^◌, map, [], ◌∷◌, ◌++◌, List, Some, None, Err, get_or, ◌-◌, length, slice_index_or, OnOk, IfOk, ◌↔◌, IsTrue};
 ghost use Rattle.std.specs.List.{All};
 ghost use Rattle.packing_core.specs.Covering.{Among};
 ghost use Rattle.interval_core.specs.Members.{Span, HasEndsIn};
@@ -8,7 +8,7 @@ ghost use Rattle.slice_core.specs.Rows.{sides_of, AreRows, own_numbers};
 ghost use Rattle.slice_core.specs.LeastFault.{IsLeast};
 ghost use Rattle.point_core.specs.declared.fault.Fault.{Fault as AnyFault};
 ghost use Rattle.cell_core.specs.Numbering.{IsSide, IsGrid, numbers_of, span_at};
-ghost use Rattle.cell_core.specs.Cells.{rows_from, cells_at, side_of, boxes_of, IsPackedForm, HasFault, grids_of, grid_row, row_numbers};
+ghost use Rattle.cell_core.specs.Cells.{rows_from, cells_at, side_of, boxes_of, IsPackedForm, HasFault, GivesSome, grids_of, grid_row, row_numbers};
 ghost use Rattle.cell_core.specs.Boxes.{IsBox};
 ghost use Rattle.cell_core.specs.Costs.{bound, side_cost};
 ghost use Rattle.cell_core.specs.declared.boxes.CellRefuse.TheVariants.{Op as OfOp, Limit as OfLimit};
@@ -25,13 +25,13 @@ use std::sync::ledger::Ledger;
 // What the cells give: each side's numbering, the packed rows over cells, and the least fault.
 #[derive(Drop)]
 pub struct Found<T: PointType, P> {
-    sides: Vec<Side<T>>,
-    rows: Vec<Key<P>>,
-    least: Option<Fault>,
+    pub sides: Vec<Side<T>>,
+    pub rows: Vec<Key<P>>,
+    pub least: Option<Fault>,
 }
 
 // The packed rows of all places, over numbered cells, and the least fault.
-fn find_rows<T: PointType, O: CellOp, L: Ledger>(
+pub fn find_rows<T: PointType, O: CellOp, L: Ledger>(
     alloc: Global,
     types: &[T],
     left: &[Sides<T>],
@@ -47,6 +47,7 @@ fn find_rows<T: PointType, O: CellOp, L: Ledger>(
     requires can { (a b : List ℕ) → AreRows 0 (length left.now) a → AreRows (length left.now) (length left.now + length right.now) b → O.CanApply op.now a (own_numbers (length left.now) b) }
     ensures length { IfOk result (λ v. length v.sides.items ≡ length types.now) }
     ensures grids { IfOk result (λ v. (j : ℕ) (t : T) (e : List T.Point × List T.Point × List (ℕ × ℕ)) → j < length types.now → IsGrid T.number_of (T.IsPoint (slice_index_or types.now j t)) (T.last_number (slice_index_or types.now j t)) (get_or v.sides.items j e)) }
+    ensures tables { IfOk result (λ v. (j : ℕ) (t : T) (d : T.Point × T.Point) (e : List T.Point × List T.Point × List (ℕ × ℕ)) → j < length types.now → IsSide T.number_of (T.IsPoint (slice_index_or types.now j t)) (T.last_number (slice_index_or types.now j t)) (map (side_of j d) (left.now ++ right.now)) (get_or v.sides.items j e)) }
     ensures lengths { IfOk result (λ v. (x : O.Out × List (ℕ × ℕ)) → Among x v.rows.items → length x.1 ≡ length types.now) }
     ensures cells { IfOk result (λ v. (x : O.Out × List (ℕ × ℕ)) → Among x v.rows.items → (s : ℕ) (e : List T.Point × List T.Point × List (ℕ × ℕ)) → s < length types.now → ((get_or x.1 s (0, 0)).0 < (get_or x.1 s (0, 0)).1) × ((get_or x.1 s (0, 0)).1 ≤ length (get_or v.sides.items s e).0)) }
     ensures form { IfOk result (λ v. IsPackedForm O.Out.order (length types.now) (O.means op.now) (boxes_of T.number_of left.now) (boxes_of T.number_of right.now) (map (grid_row (grids_of T.number_of T.last_number types.now v.sides.items)) v.rows.items)) }
@@ -191,4 +192,24 @@ pub fn combine<T: PointType, O: CellOp, L: Ledger>(
     }
     let answer = back(alloc, types, sides.as_slice(), rows)?;
     Ok(answer)
+}
+
+/// Whether the operator gives a label at some point that a row covers; a fault gives none.
+pub fn gives_some<T: PointType, O: CellOp, L: Ledger>(
+    alloc: Global,
+    types: &[T],
+    left: &[Sides<T>],
+    right: &[Sides<T>],
+    op: &O,
+    steps: &mut Steps<L>,
+) -> Result<bool, Memory>
+    requires few { length left.now + length right.now < 2 ^ 61 }
+    requires left { All (IsBox T.IsPoint types.now) left.now }
+    requires right { All (IsBox T.IsPoint types.now) right.now }
+    requires can { (a b : List ℕ) → AreRows 0 (length left.now) a → AreRows 0 (length right.now) b → O.CanApply op.now a b }
+    ensures answer { IfOk result (λ b. IsTrue b ↔ GivesSome (O.means op.now) (boxes_of T.number_of left.now) (boxes_of T.number_of right.now)) }
+    ensures cost { steps.new ≤ steps.old + (bound (length left.now + length right.now) (length types.now) - length types.now * (length left.now + length right.now)) }
+{
+    let found = find_rows(alloc, types, left, right, op, steps)?;
+    Ok(!found.rows.is_empty())
 }

@@ -7,11 +7,15 @@ ghost use Rattle.cell_core.specs.Boxes.{IsBox};
 ghost use Rattle.point_core.specs.Whole.{IsWhole};
 ghost use Rattle.point_core.specs.declared.int_type.IntType.{IntType as AnyIntType};
 
+mod count;
+mod points;
 mod tag;
 
 use cell_core::{BoxRow, CellRefuse, Sides, pack};
+pub use count::counted;
 use interval_core::Interval;
 use point_core::{IntType, Memory, Steps};
+pub use points::{is_packed_form, same, within};
 use std::alloc::Global;
 use std::sync::ledger::{Blank, Ledger};
 use tag::Tag;
@@ -35,21 +39,29 @@ fn interval(ends: (i64, i64)) -> Interval<IntType>
     Interval::of(ends.1, ends.0)
 }
 
-// The row as a box of two sides.
-fn box_of(alloc: Global, row: Plain) -> Result<BoxRow<IntType, Tag>, Memory>
-    ensures { IfOk result (λ r. (t : AnyIntType) → IsBox (λ _ p. IsWhole p) (t ∷ t ∷ []) r.1) }
+// The two intervals of a row.
+pub fn sides_of(alloc: Global, row: Plain) -> Result<Sides<IntType>, Memory>
+    ensures { IfOk result (λ s. (t : AnyIntType) → IsBox (λ _ p. IsWhole p) (t ∷ t ∷ []) s) }
 {
     let mut list = Vec::new(alloc);
     list.push(interval(row.first))?;
     list.push(interval(row.second))?;
+    Ok(Sides { list })
+}
+
+// The row as a box of two sides.
+fn box_of(alloc: Global, row: Plain) -> Result<BoxRow<IntType, Tag>, Memory>
+    ensures { IfOk result (λ r. (t : AnyIntType) → IsBox (λ _ p. IsWhole p) (t ∷ t ∷ []) r.1) }
+{
+    let sides = sides_of(alloc, row)?;
     Ok(BoxRow {
         label: Tag { value: row.label },
-        sides: Sides { list },
+        sides,
     })
 }
 
 // The rows as boxes.
-fn boxes_of(alloc: Global, rows: &[Plain]) -> Result<Vec<BoxRow<IntType, Tag>>, Memory>
+pub fn boxes_of(alloc: Global, rows: &[Plain]) -> Result<Vec<BoxRow<IntType, Tag>>, Memory>
     ensures boxes { IfOk result (λ v. (t : AnyIntType) → All (λ r. IsBox (λ _ p. IsWhole p) (t ∷ t ∷ []) r.1) v.items) }
     ensures length { IfOk result (λ v. length v.items ≡ length rows.now) }
 {
@@ -69,7 +81,7 @@ fn ends_of(sides: &Sides<IntType>, side: usize) -> (i64, i64) {
 }
 
 // The boxes as rows.
-fn plain_rows(alloc: Global, rows: &[BoxRow<IntType, Tag>]) -> Result<Vec<Plain>, Memory> {
+pub fn plain_rows(alloc: Global, rows: &[BoxRow<IntType, Tag>]) -> Result<Vec<Plain>, Memory> {
     let mut out = Vec::new(alloc);
     for row in rows {
         out.push(Plain {
@@ -149,5 +161,38 @@ mod tests {
                 Ok(())
             }
         }
+    }
+
+    #[test]
+    fn compares_points(rt: HostRuntime) -> Result<(), Fail> {
+        let alloc = rt.alloc();
+        let one = (1, 1);
+        let whole = [plain(1, (1, 6), one)];
+        let parts = [plain(1, (4, 6), one), plain(1, (1, 3), one)];
+        let other = [plain(2, (1, 6), one)];
+        assert!(rt; same::<Brand>(alloc, &whole, &parts, Blank::new(1))?);
+        assert!(rt; !same::<Brand>(alloc, &whole, &other, Blank::new(1))?);
+        let more = [plain(1, (1, 6), (1, 2))];
+        assert!(rt; within::<Brand>(alloc, &whole, &more, Blank::new(1))?);
+        assert!(rt; !within::<Brand>(alloc, &more, &whole, Blank::new(1))?);
+        assert!(rt; is_packed_form::<Brand>(alloc, &whole, Blank::new(1))?);
+        assert!(rt; !is_packed_form::<Brand>(alloc, &parts, Blank::new(1))?);
+        Ok(())
+    }
+
+    #[test]
+    fn counts_covering_rows(rt: HostRuntime) -> Result<(), Fail> {
+        let one = (1, 1);
+        let rows = [plain(7, (1, 3), one), plain(8, (2, 2), one)];
+        match counted::<Brand>(rt.alloc(), &rows, 9, Blank::new(1)) {
+            Ok(rows) => {
+                assert_eq!(rt; rows.len(), 3);
+                assert!(rt; rows[0] == plain(1, one, one));
+                assert!(rt; rows[1] == plain(1, (3, 3), one));
+                assert!(rt; rows[2] == plain(2, (2, 2), one));
+            }
+            Err(_) => assert!(rt; false),
+        }
+        Ok(())
     }
 }

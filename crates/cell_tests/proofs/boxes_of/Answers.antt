@@ -1,4 +1,4 @@
-use Rattle.std.proofs.Common.{◌≡◌, ◌++◌, ◌+◌, List, [], ◌∷◌, length, ap, ◌∙◌}
+use Rattle.std.proofs.Common.{◌++◌, ◌+◌, [], ◌∷◌, length, ap, ◌∙◌}
 use Rattle.std.proofs.lemmas.List.{length_push}
 use Rattle.std.proofs.lemmas.List.Elements.{All-same, All-push}
 use Rattle.point_core.specs.Whole.{IsWhole}

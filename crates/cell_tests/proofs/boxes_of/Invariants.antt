@@ -1,4 +1,4 @@
-use Rattle.std.proofs.Common.{◌≡◌, List, [], ◌∷◌, length}
+use Rattle.std.proofs.Common.{◌≡◌, [], ◌∷◌, length}
 use Rattle.std.specs.List.{All}
 use Rattle.point_core.specs.Whole.{IsWhole}
 use Rattle.point_core.specs.declared.int_type.IntType.{IntType}

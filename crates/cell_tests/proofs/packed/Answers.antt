@@ -1,4 +1,4 @@
-use Rattle.std.proofs.Common.{List, [], ◌∷◌}
+use Rattle.std.proofs.Common.{[], ◌∷◌}
 use Rattle.std.proofs.lemmas.List.Elements.{All-same}
 use Rattle.point_core.specs.Whole.{IsWhole}
 use Rattle.point_core.specs.declared.int_type.IntType.{IntType}
