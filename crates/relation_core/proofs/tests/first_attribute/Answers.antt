@@ -1,4 +1,4 @@
-use Rattle.std.proofs.Common.{◌≡◌, ℕ, zero, suc, ◌<◌, [], ◌∷◌, length, get_or, refl, ap, sym, subst, ◌∙◌, arith}
+use Rattle.std.proofs.Common.{ℕ, zero, suc, ◌<◌, [], ◌∷◌, length, get_or, refl, ap, ◌∙◌, arith}
 use Rattle.value_core.specs.Values.{Heading}
 use Rattle.relation_core.proofs.tests.first_attribute.Goals as goal
 

@@ -1,4 +1,4 @@
-use Rattle.std.proofs.Common.{◌≡◌, length, ap, sym, ◌∙◌}
+use Rattle.std.proofs.Common.{length, ap, sym, ◌∙◌}
 use Rattle.std.specs.List.{IsDistinct}
 use Rattle.value_core.specs.Values.{Heading}
 use Rattle.relation_core.proofs.tests.renamed_alone.Goals as goal
