@@ -1,7 +1,7 @@
 -- Attributes with new names, and rows whose values stand beside them.
-use Rattle.std.proofs.Common.{◌≡◌, ℕ, zero, suc, ◌+◌, ◌<◌, ◌≤◌, List, [], ◌∷◌, ◌++◌, length, get_or, take, map, refl, sym, ap, ◌∙◌, subst, arith, inl, inr, Bool, true, false, if◌then◌else◌, Some, None}
+use Rattle.std.proofs.Common.{◌≡◌, ℕ, zero, suc, ◌+◌, ◌<◌, List, [], ◌∷◌, ◌++◌, length, get_or, take, map, refl, sym, ap, ◌∙◌, subst, arith, inl, inr, true, false, if◌then◌else◌, Some, None}
 use Rattle.std.specs.Bool.{IsTrue}
-use Rattle.std.specs.List.{All, AllByRecursion, IsDistinct, list_any, list_all}
+use Rattle.std.specs.List.{All, AllByRecursion, IsDistinct, list_all}
 use Rattle.std.specs.List.Sorted.{IsPermutation}
 use Rattle.std.specs.Str.{bytes_eq}
 use Rattle.std.specs.Cmp.Lexicographic.{nat_list_eq_equiv}
@@ -17,7 +17,7 @@ use Rattle.value_core.specs.Relations.{all_fit}
 use Rattle.value_core.specs.Values.{Name, Row, Heading, truth, fits, fits_heading, row_cmp}
 use Rattle.value_core.specs.declared.kind.Kind.{Kind}
 use Rattle.relation_core.specs.Agreement.{names_of, position_of, part_of}
-use Rattle.relation_core.specs.Parts.{no_attribute, renamed, positions_in, projected}
+use Rattle.relation_core.specs.Parts.{renamed, positions_in, projected}
 use Rattle.relation_core.proofs.AgreementLemmas.{positions_within}
 use Rattle.relation_core.proofs.HeadingLemmas.{neither}
 

@@ -1,8 +1,9 @@
 // Small relations through each operator.
-ghost use Rattle.std.specs.Prelude.{◌≡◌, IfOk};
+ghost use Rattle.std.specs.Prelude.{◌≡◌, IfOk, Ok, nat_lt, length};
+ghost use Rattle.relation_core.specs.Answers.{Answers};
 
-use crate::{intersect, matching, minus, not_matching, union};
-use point_core::{AnyPoint, AnyType, Memory};
+use crate::{extend, intersect, matching, minus, not_matching, project, rename, restrict, union};
+use point_core::{AnyPoint, AnyType, Label, Memory, Stop};
 use std::alloc::Global;
 use std::test::Fail;
 use value_core::{Heading, HeadingRefuse, Kind, Name, Relation, Row, RowsRefuse, Value};
@@ -98,5 +99,70 @@ fn rows_of_two_relations(rt: HostRuntime) -> Result<(), Fail> {
     assert!(rt; gives(alloc, Operator::Intersect, &heading, &[(2, 1), (3, 7)])?);
     assert!(rt; gives(alloc, Operator::Matching, &heading, &[(2, 1), (3, 7)])?);
     assert!(rt; gives(alloc, Operator::NotMatching, &heading, &[(1, 1)])?);
+    Ok(())
+}
+
+fn is_longer(row: &Row, limit: usize) -> Result<bool, Stop>
+    ensures { Answers result (Ok (nat_lt limit (length row.now))) }
+{
+    Ok(row.values().len() > limit)
+}
+
+/// The rows with more values than told.
+fn longer(alloc: Global, r: &Relation, limit: usize) -> Result<Relation, Stop> {
+    let test = |row: &Row| is_longer(row, limit);
+    restrict(alloc, r, &test)
+}
+
+fn itself(alloc: Global, row: &Row) -> Result<Row, Stop>
+    ensures { Answers result (Ok row.now) }
+{
+    let copy = row.copy(alloc)?;
+    Ok(copy)
+}
+
+/// Each row, under the same heading.
+fn each(alloc: Global, r: &Relation) -> Result<Relation, Stop> {
+    let f = |row: &Row| itself(alloc, row);
+    let heading = r.heading().copy(alloc)?;
+    extend(alloc, r, heading, &f)
+}
+
+/// The relation's first attribute alone, or the relation, if it has none.
+fn first_attribute(alloc: Global, r: &Relation) -> Result<Relation, Memory> {
+    if r.heading().attributes().len() < 1 {
+        r.copy(alloc)
+    } else {
+        project(alloc, r, &[0])
+    }
+}
+
+/// The relation with another name of its one attribute, or the relation, if it has others.
+fn renamed_alone(alloc: Global, r: &Relation, name: Name) -> Result<Relation, Memory> {
+    if r.heading().attributes().len() == 1 {
+        rename(alloc, r, &[name])
+    } else {
+        r.copy(alloc)
+    }
+}
+
+/// Whether each operator on one relation gives what it is to give.
+fn one_relation(alloc: Global, r: &Relation, name: Name) -> Result<bool, Stop> {
+    let part = first_attribute(alloc, r)?;
+    let renamed = renamed_alone(alloc, &part, name)?;
+    let all = longer(alloc, r, 1)?;
+    let none = longer(alloc, r, 2)?;
+    let each = each(alloc, r)?;
+    let counts = (part.rows().len(), renamed.rows().len(), none.rows().len());
+    Ok(same(&all, r) && same(&each, r) && counts == (2, 2, 0))
+}
+
+#[test]
+fn rows_of_one_relation(rt: HostRuntime) -> Result<(), Fail> {
+    let alloc = rt.alloc();
+    let heading = heading(alloc, ["a", "b"])?;
+    let r = relation(alloc, &heading, &[(1, 1), (1, 2), (2, 1)])?;
+    let name = Name::make(alloc, "c")?.expect(&rt, "a name");
+    assert!(rt; one_relation(alloc, &r, name)?);
     Ok(())
 }

@@ -1,4 +1,4 @@
-use Rattle.std.proofs.Common.{◌≡◌, ℕ, ◌<◌, List, length, get_or, ap, sym, subst, arith}
+use Rattle.std.proofs.Common.{◌≡◌, ◌<◌, length, get_or, ap, sym, subst, arith}
 use Rattle.value_core.specs.Values.{Name}
 use Rattle.value_core.specs.declared.kind.Kind.{Kind}
 use Rattle.relation_core.proofs.HeadingLemmas.{attributes_more}

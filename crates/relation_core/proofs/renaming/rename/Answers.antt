@@ -1,6 +1,5 @@
-use Rattle.std.proofs.Common.{◌≡◌, ◌<◌, ◌≤◌, ℕ, List, length, get_or, map, None, ap, ap₂, sym, subst, ◌∙◌, IsTrue}
+use Rattle.std.proofs.Common.{◌≡◌, ◌<◌, ◌≤◌, ℕ, List, length, map, None, ap, ap₂, sym, subst, ◌∙◌, IsTrue}
 use Rattle.std.specs.List.{All}
-use Rattle.std.specs.List.Sorted.{IsPermutation}
 use Rattle.base_core.proofs.SetOperatorLemmas.{in_order-in_order}
 use Rattle.value_core.specs.Headings.{first_repeat, IsHeadingOf}
 use Rattle.value_core.specs.Order.{row_total, row_separates}

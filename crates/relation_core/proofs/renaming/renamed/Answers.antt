@@ -1,7 +1,4 @@
-use Rattle.std.proofs.Common.{◌≡◌, ◌+◌, ◌<◌, ◌∷◌, ◌++◌, [], List, length, get_or, take, ap, ap₂, sym, ◌∙◌, arith}
-use Rattle.value_core.specs.Values.{Name, Heading}
-use Rattle.value_core.specs.declared.kind.Kind.{Kind}
-use Rattle.relation_core.specs.Parts.{renamed}
+use Rattle.std.proofs.Common.{◌<◌, length, arith}
 use Rattle.relation_core.proofs.RenamingLemmas.{renamed_more}
 use Rattle.relation_core.proofs.renaming.renamed.Goals as goal
 
