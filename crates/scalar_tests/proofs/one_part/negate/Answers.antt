@@ -1,0 +1,10 @@
+use Rattle.std.specs.Prelude.{refl}
+use Rattle.point_core.specs.declared.any_type.AnyType.TheVariants.{Integer}
+use Rattle.value_core.specs.declared.kind.Kind.TheVariants.{Point}
+use Rattle.scalar_core.specs.declared.operators.OneOp.TheVariants.{Negate}
+use Rattle.scalar_core.specs.Expressions.{read}
+use Rattle.scalar_tests.proofs.TypedLemmas.{one_typed}
+use Rattle.scalar_tests.proofs.one_part.negate.Goals as goal
+
+pub answer-requires : goal.answer-requires
+answer-requires c = one_typed Negate (Point Integer) (Point Integer) (read c.in_ok-part.part.value) c.in_ok-part.ensures (refl, refl)

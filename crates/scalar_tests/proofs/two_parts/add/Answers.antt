@@ -1,0 +1,11 @@
+use Rattle.std.specs.Prelude.{refl}
+use Rattle.point_core.specs.declared.any_type.AnyType.TheVariants.{Integer}
+use Rattle.value_core.specs.declared.kind.Kind.TheVariants.{Point}
+use Rattle.scalar_core.specs.declared.operators.PairOp.TheVariants.{Add}
+use Rattle.scalar_tests.proofs.TypedLemmas.{pair_typed}
+use Rattle.scalar_tests.proofs.two_parts.add.Goals as goal
+
+pub answer-requires : goal.answer-requires
+answer-requires c =
+    pair_typed Add (Point Integer) (Point Integer) (Point Integer) c.parts.result c.in_ok-left.left.value c.in_ok-right.right.value c.parts.ensures.left c.parts.ensures.right
+    c.in_ok-left.ensures c.in_ok-right.ensures (refl, refl, refl)

@@ -1,0 +1,11 @@
+use Rattle.std.specs.Prelude.{refl}
+use Rattle.value_core.specs.declared.kind.Kind.TheVariants.{Truth}
+use Rattle.scalar_core.specs.declared.operators.PairOp.TheVariants.{Compare}
+use Rattle.scalar_core.specs.declared.tree.CompareWord.TheVariants.{NotEqual}
+use Rattle.scalar_tests.proofs.TypedLemmas.{pair_typed}
+use Rattle.scalar_tests.proofs.two_parts.unequal_truths.Goals as goal
+
+pub answer-requires : goal.answer-requires
+answer-requires c =
+    pair_typed (Compare NotEqual) Truth Truth Truth c.parts.result c.in_ok-left.left.value c.in_ok-right.right.value c.parts.ensures.left c.parts.ensures.right
+    c.in_ok-left.ensures c.in_ok-right.ensures (refl, tt, refl)
