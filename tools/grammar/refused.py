@@ -212,7 +212,7 @@ stable-row : (s : Symbol) (x : Terminal) (b : List ℕ) (n : Terminal) (st : Lis
 stable-row s x b n st = steady-find (rows s) (may_end s) x b n st (steady-rows s)
 ''']
 # what speaks of stacks alone, and so of no form by name
-o.append(text('refused.antt'))
+o.append(text('refused.txt'))
 write('proofs/Refused.antt', '\n'.join(o))
 # ---------------------------------------------------------------- Laws
-write('proofs/Laws.antt', text('laws.antt'))
+write('proofs/Laws.antt', text('laws.txt'))
