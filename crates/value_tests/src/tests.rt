@@ -7,8 +7,8 @@ use std::alloc::Global;
 use std::cmp::Ordering;
 use std::test::Fail;
 use value_core::{
-    Constraint, Heading, HeadingRefuse, Kind, Name, Positions, Refuse, Relation, Row, RowsRefuse,
-    Text, Value,
+    Constraint, Constraints, Heading, HeadingRefuse, HistoryRule, Kind, Name, Names, Positions,
+    Refuse, Relation, Row, RowsRefuse, Text, Value,
 };
 
 /// A text of so many bytes.
@@ -286,6 +286,59 @@ fn copy_of_a_constraint(rt: HostRuntime) -> Result<(), Fail> {
         Constraint::Key(key) => assert_eq!(rt; key.list.len(), 2),
         _ => assert!(rt; false),
     }
+    Ok(())
+}
+
+fn positions(alloc: Global, list: &[usize]) -> Result<Positions, Memory> {
+    Ok(Positions {
+        list: list.to_vec(alloc)?,
+    })
+}
+
+/// A rule of a history, between a relvar of two attributes and one of three.
+fn rule(alloc: Global) -> Result<HistoryRule, Memory> {
+    let since = attribute(alloc, "S", Kind::Truth)?.0;
+    let key_here = positions(alloc, &[1])?;
+    let key_there = positions(alloc, &[0])?;
+    let all_here = positions(alloc, &[1, 2])?;
+    let all_there = positions(alloc, &[0, 1])?;
+    Ok(HistoryRule {
+        since,
+        key_here,
+        key_there,
+        all_here,
+        all_there,
+        point_there: 1,
+        span_here: 0,
+    })
+}
+
+#[test]
+fn copy_of_a_rule(rt: HostRuntime) -> Result<(), Fail> {
+    let alloc = rt.alloc();
+    let mut list = Vec::new(alloc);
+    list.push(Constraint::History(rule(alloc)?))?;
+    let copy = Constraints { list }.copy(alloc)?;
+    for constraint in copy.list.iter() {
+        match constraint {
+            Constraint::History(rule) => assert_eq!(rt; rule.all_there.list.len(), 2),
+            _ => assert!(rt; false),
+        }
+    }
+    assert_eq!(rt; copy.list.len(), 1);
+    Ok(())
+}
+
+#[test]
+fn copy_of_names(rt: HostRuntime) -> Result<(), Fail> {
+    let alloc = rt.alloc();
+    let mut list = Vec::new(alloc);
+    list.push(attribute(alloc, "S", Kind::Truth)?.0)?;
+    let copy = Names { list }.copy(alloc)?;
+    for name in copy.list.iter() {
+        assert_eq!(rt; name.as_str(), "S");
+    }
+    assert_eq!(rt; copy.list.len(), 1);
     Ok(())
 }
 
