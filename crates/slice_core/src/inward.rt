@@ -27,7 +27,7 @@ fn has(span: (usize, usize), cell: usize) -> bool
 }
 
 // The live rows whose side has the cell.
-fn live_at(
+pub fn live_at(
     alloc: Global,
     boxes: &[IndexBox],
     live: &[usize],
@@ -67,20 +67,20 @@ fn are_none(left: &[usize], right: &[usize]) -> bool
     left.len() == 0 && right.len() == 0
 }
 
-// The rows of a slice, as pieces of one cell.
-fn push_pieces<P: Drop>(
+// The rows of a slice, as pieces of its cells: the first, and the one after the last.
+pub fn push_pieces<P: Drop>(
     out: &mut Vec<Piece<Key<P>>>,
     rows: Vec<Key<P>>,
-    cell: usize,
+    begin: usize,
+    end: usize,
 ) -> Result<(), Memory>
-    requires fits { cell < 2 ^ 63 }
-    ensures { OnOk result (out.new.items ≡ out.old.items ++ map (tag cell) rows.items) }
+    ensures { OnOk result (out.new.items ≡ out.old.items ++ map (tag begin end) rows.items) }
 {
     for row in rows {
         out.push(Piece {
             key: row,
-            begin: cell,
-            end: cell + 1,
+            begin,
+            end,
         })?;
     }
     Ok(())
@@ -95,7 +95,7 @@ fn with_side<P: Drop>(p: Piece<Key<P>>) -> Result<Key<P>, Memory>
 }
 
 // Each piece's row, with the piece's cells as one more side.
-fn with_sides<P: Drop>(alloc: Global, pieces: Vec<Piece<Key<P>>>) -> Result<Vec<Key<P>>, Memory>
+pub fn with_sides<P: Drop>(alloc: Global, pieces: Vec<Piece<Key<P>>>) -> Result<Vec<Key<P>>, Memory>
     ensures { IfOk result (λ v. v.items ≡ map with_last pieces.items) }
 {
     let mut out = Vec::new(alloc);
@@ -200,7 +200,7 @@ pub fn slices<O: CellOp, L: Ledger>(
         let l = live_at(alloc, boxes, left, side, cell)?;
         let r = live_at(alloc, boxes, right, side, cell)?;
         let rows = slices(alloc, side, counts, boxes, &l, &r, split, op, least, steps)?;
-        push_pieces(&mut pieces, rows, cell)?;
+        push_pieces(&mut pieces, rows, cell, cell + 1)?;
     }
     let runs = join(alloc, pieces)?;
     let rows = with_sides(alloc, runs)?;

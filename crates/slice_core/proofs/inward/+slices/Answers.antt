@@ -7,7 +7,7 @@ use Rattle.packing_core.specs.Live.{side_has, IsSliceRow, IsSomewhere}
 use Rattle.packing_core.specs.declared.Piece.{Piece}
 use Rattle.slice_core.specs.LeastFault.{IsLeast}
 use Rattle.slice_core.specs.Rows.{sides_of, key_cmp, tag, AreRows, GivesLabel, GivesFault, volume, own_numbers}
-use Rattle.slice_core.proofs.Steps.{rows_answer, rows_sorted, covers_step, sorted_nil, leaf_sorted}
+use Rattle.slice_core.proofs.Steps.{rows_answer, rows_sorted, covers_all, covers_step, sorted_nil, leaf_sorted}
 use Rattle.slice_core.proofs.Turns.{nil_from, none_row, none_live, least_kept, rows_above, rows_below, leaf_rows, leaf_fault, least_more, least_step, cost_none, cost_within, cost_step, AreRows-filter, has_sides, none_from, not_below_zero, some_live, somewhere_more}
 use Rattle.slice_core.proofs.inward.+slices.Goals as goal
 
@@ -132,15 +132,19 @@ loop-cell-preserved g t c =
     let el = c.deref.ensures.value ∙ c.in_ok-l.ensures in
     let er = c.deref-in-loop-cell.ensures.value ∙ c.in_ok-r.ensures in
     let P : Piece (g.row.O-Out.Denot × List (ℕ × ℕ)) → Type 0 = λ x. x.begin < x.end in
-    let rows : (k : g.row.O-Out.Denot × List (ℕ × ℕ)) → Among k c.in_ok-rows-2.rows.items ↔ (length k.1 ≡ side) × IsSliceRow side f b (filter p c.args.left.now) (filter p c.args.right.now) k.0 k.1 = λ k.
+    let T : ℕ → g.row.O-Out.Denot × List (ℕ × ℕ) → Type 0 = λ i k. IsSliceRow side f b (filter (side_has b side i) c.args.left.now) (filter (side_has b side i) c.args.right.now) k.0 k.1 in
+    let here : (k : g.row.O-Out.Denot × List (ℕ × ℕ)) → Among k c.in_ok-rows-2.rows.items ↔ (length k.1 ≡ side) × T c.loop-cell.cell k = λ k.
     subst (λ w. Among k c.in_ok-rows-2.rows.items ↔ (length k.1 ≡ side) × IsSliceRow side f b w (filter p c.args.right.now) k.0 k.1) el
     (subst (λ w. Among k c.in_ok-rows-2.rows.items ↔ (length k.1 ≡ side) × IsSliceRow side f b c.deref.result.now w k.0 k.1) er (c.in_ok-rows-2.ensures.rows k)) in
+    let rows : (i : ℕ) → c.loop-cell.cell ≤ i → i < c.loop-cell.cell + 1 → (k : g.row.O-Out.Denot × List (ℕ × ℕ)) → Among k c.in_ok-rows-2.rows.items ↔ (length k.1 ≡ side) × T i k = λ i l m k.
+    let e : c.loop-cell.cell ≡ i = omega arith in
+    subst (λ j. Among k c.in_ok-rows-2.rows.items ↔ (length k.1 ≡ side) × T j k) e (here k) in
     let least : IsLeast (λ e. (c.loop-cell.least ≡ Some e) ⊎ IsSomewhere side h b (filter p c.args.left.now) (filter p c.args.right.now) e) c.slices.new.least =
     subst (λ w. IsLeast (λ e. (c.loop-cell.least ≡ Some e) ⊎ IsSomewhere side h b w (filter p c.args.right.now) e) c.slices.new.least) el
     (subst (λ w. IsLeast (λ e. (c.loop-cell.least ≡ Some e) ⊎ IsSomewhere side h b c.deref.result.now w e) c.slices.new.least) er c.in_ok-rows-2.ensures.least) in
     record {
-      some = All-same P c.push_pieces.new.out.items _ c.in_ok-push_pieces.ensures (All-append P c.loop-cell.pieces.items (map (tag c.loop-cell.cell) c.in_ok-rows-2.rows.items) c.loop-cell.invariant.some (All-map P (tag c.loop-cell.cell) c.in_ok-rows-2.rows.items (λ k d l. omega arith)));
-      covers = covers_step g.O.Out.Label.order g.met.O.Out.Label.total g.met.O.Out.Label.separates (λ i k. IsSliceRow side f b (filter (side_has b side i) c.args.left.now) (filter (side_has b side i) c.args.right.now) k.0 k.1) side c.loop-cell.cell c.loop-cell.pieces.items c.push_pieces.new.out.items c.in_ok-rows-2.rows.items c.in_ok-push_pieces.ensures rows c.loop-cell.invariant.covers;
+      some = All-same P c.push_pieces.new.out.items _ c.in_ok-push_pieces.ensures (All-append P c.loop-cell.pieces.items (map (tag c.loop-cell.cell (c.loop-cell.cell + 1)) c.in_ok-rows-2.rows.items) c.loop-cell.invariant.some (All-map P (tag c.loop-cell.cell (c.loop-cell.cell + 1)) c.in_ok-rows-2.rows.items (λ k d l. omega arith)));
+      covers = covers_step g.O.Out.Label.order g.met.O.Out.Label.total g.met.O.Out.Label.separates T side c.loop-cell.cell (c.loop-cell.cell + 1) (omega arith) c.loop-cell.pieces.items c.push_pieces.new.out.items c.in_ok-rows-2.rows.items c.in_ok-push_pieces.ensures rows c.loop-cell.invariant.covers;
       least = least_step (λ i e. IsSomewhere side h b (filter (side_has b side i) c.args.left.now) (filter (side_has b side i) c.args.right.now) e) c.loop-cell.cell c.args.least.now c.loop-cell.least c.slices.new.least c.loop-cell.invariant.least least;
       cost = cost_step c.loop-cell.cell c.args.steps.now c.loop-cell.steps c.slices.new.steps (volume side c.args.counts.now) c.loop-cell.invariant.cost c.slices.ensures.cost;
     }
@@ -166,13 +170,18 @@ returns-clause-rows g t c =
     let bound : get_or c.args.counts.now side 0 ≤ c.loop-cell.cell = omega arith in
     let last : r ≤ r = omega arith in
     subst (λ s. (x : g.row.O-Out.Denot × List (ℕ × ℕ)) → Among x c.in_ok-rows-3.rows.items ↔ (length x.1 ≡ s) × IsSliceRow s f b c.args.left.now c.args.right.now x.0 x.1) e
-    (rows_answer g.O.Out.Label.order g.met.O.Out.Label.total g.met.O.Out.Label.separates f b n side c.loop-cell.cell below c.args.left.now c.args.right.now
+    (rows_answer g.O.Out.Label.order g.met.O.Out.Label.total g.met.O.Out.Label.separates f b n side below c.args.left.now c.args.right.now
     (has_sides f c.args.boxes.now n c.requires.boxes 0 c.args.split c.args.left.now c.requires.left c.requires.split)
     (has_sides f c.args.boxes.now n c.requires.boxes c.args.split r c.args.right.now c.requires.right last)
+    c.loop-cell.pieces.items c.in_ok-runs.runs.items c.in_ok-rows-3.rows.items
+    (covers_all g.O.Out.Label.order g.met.O.Out.Label.total g.met.O.Out.Label.separates f b n side below c.args.left.now c.args.right.now
+    (has_sides f c.args.boxes.now n c.requires.boxes 0 c.args.split c.args.left.now c.requires.left c.requires.split)
+    (has_sides f c.args.boxes.now n c.requires.boxes c.args.split r c.args.right.now c.requires.right last)
+    c.loop-cell.cell
     (none_from c.args.boxes.now c.args.counts.now c.requires.cells side c.loop-cell.cell below bound 0 c.args.split c.args.left.now c.requires.left c.requires.split)
     (none_from c.args.boxes.now c.args.counts.now c.requires.cells side c.loop-cell.cell below bound c.args.split r c.args.right.now c.requires.right last)
-    c.loop-cell.pieces.items c.in_ok-runs.runs.items c.in_ok-rows-3.rows.items
-    c.loop-cell.invariant.covers c.in_ok-runs.ensures.apart c.in_ok-runs.ensures.covers c.in_ok-rows-3.ensures)
+    c.loop-cell.pieces.items c.loop-cell.invariant.covers)
+    c.in_ok-runs.ensures.apart c.in_ok-runs.ensures.covers c.in_ok-rows-3.ensures)
 
 pub returns-clause-sorted : goal.returns-clause-sorted
 returns-clause-sorted g t c =
@@ -184,13 +193,18 @@ returns-clause-sorted g t c =
     let below : side < n = omega arith in
     let bound : get_or c.args.counts.now side 0 ≤ c.loop-cell.cell = omega arith in
     let last : r ≤ r = omega arith in
-    rows_sorted g.O.Out.Label.order g.met.O.Out.Label.total g.met.O.Out.Label.separates f b n side c.loop-cell.cell below c.args.left.now c.args.right.now
+    rows_sorted g.O.Out.Label.order g.met.O.Out.Label.total g.met.O.Out.Label.separates f b n side below c.args.left.now c.args.right.now
     (has_sides f c.args.boxes.now n c.requires.boxes 0 c.args.split c.args.left.now c.requires.left c.requires.split)
     (has_sides f c.args.boxes.now n c.requires.boxes c.args.split r c.args.right.now c.requires.right last)
+    c.loop-cell.pieces.items c.in_ok-runs.runs.items c.in_ok-rows-3.rows.items
+    (covers_all g.O.Out.Label.order g.met.O.Out.Label.total g.met.O.Out.Label.separates f b n side below c.args.left.now c.args.right.now
+    (has_sides f c.args.boxes.now n c.requires.boxes 0 c.args.split c.args.left.now c.requires.left c.requires.split)
+    (has_sides f c.args.boxes.now n c.requires.boxes c.args.split r c.args.right.now c.requires.right last)
+    c.loop-cell.cell
     (none_from c.args.boxes.now c.args.counts.now c.requires.cells side c.loop-cell.cell below bound 0 c.args.split c.args.left.now c.requires.left c.requires.split)
     (none_from c.args.boxes.now c.args.counts.now c.requires.cells side c.loop-cell.cell below bound c.args.split r c.args.right.now c.requires.right last)
-    c.loop-cell.pieces.items c.in_ok-runs.runs.items c.in_ok-rows-3.rows.items
-    c.loop-cell.invariant.covers c.in_ok-runs.ensures.apart c.in_ok-runs.ensures.covers c.in_ok-rows-3.ensures
+    c.loop-cell.pieces.items c.loop-cell.invariant.covers)
+    c.in_ok-runs.ensures.apart c.in_ok-runs.ensures.covers c.in_ok-rows-3.ensures
 
 pub returns-clause-least : goal.returns-clause-least
 returns-clause-least g t c =
