@@ -1,21 +1,19 @@
 -- Cuts of live boxes, and the packed form of boxes without labels.
-use Rattle.std.proofs.Common.{◌≡◌, ℕ, zero, suc, ◌+◌, ◌-◌, ◌<◌, ◌≤◌, Bool, true, false, cond, ◌&&◌, ◌≢◌, leb, ltb, List, [], ◌∷◌, ◌++◌, map, length, get_or, ◌↔◌, ◌⊎◌, inl, inr, arith, sym, ap, subst, refl, ◌∙◌, Ordering}
+use Rattle.std.proofs.Common.{◌≡◌, ℕ, suc, ◌<◌, ◌≤◌, Bool, true, false, cond, ◌&&◌, ◌≢◌, leb, ltb, List, [], ◌∷◌, ◌++◌, map, length, get_or, ◌↔◌, ◌⊎◌, inl, inr, arith, sym, ap, subst, refl, ◌∙◌, Ordering}
 use Rattle.std.specs.declared.cmp.Ordering.TheVariants.{Equal}
 use Rattle.std.specs.List.{All, AllByRecursion, filter, flat_map}
-use Rattle.std.specs.Prelude.{nat_le, nat_lt, ◌==◌}
-use Rattle.std.proofs.lemmas.Bool.{cases_lt, cases_Bool, and_parts, and_from, true≢false}
+use Rattle.std.specs.Prelude.{◌==◌}
+use Rattle.std.proofs.lemmas.Bool.{cases_lt, and_parts, true≢false}
 use Rattle.std.proofs.lemmas.Bool.Decides.{nat_tests}
-use Rattle.std.proofs.lemmas.Cmp.{tied_itself}
 use Rattle.std.proofs.lemmas.List.Elements.{recursion_from_All, All-from_recursion}
-use Rattle.packing_core.specs.Packed.{no_cells}
 use Rattle.packing_core.specs.Pieces.{Covers, AreApart}
 use Rattle.std.specs.Cmp.{IsTotalOrder}
 use Rattle.std.specs.List.Sorted.{IsStrictlySortedBy}
 use Rattle.packing_core.specs.Covering.{Among}
-use Rattle.packing_core.specs.Live.{span_has, box, side_has, has_place, IsSliceRow}
+use Rattle.packing_core.specs.Live.{span_has, side_has}
 use Rattle.packing_core.specs.declared.Piece.{Piece}
 use Rattle.packing_core.proofs.Inward.{HasSides, filter_where}
-use Rattle.packing_core.proofs.AmongLemmas.{among_filter, among_append}
+use Rattle.packing_core.proofs.AmongLemmas.{among_filter}
 use Rattle.packing_core.proofs.Order.{among_contains}
 use Rattle.packing_core.proofs.Numbered.{other_default}
 use Rattle.slice_core.specs.declared.bare.Bare.{Bare}

@@ -37,3 +37,7 @@ cuts_of boxes side r = (span_of boxes side r).0 ∷ (span_of boxes side r).1 ∷
 -- cells of a key that stands for itself, as a piece; none where there are no cells
 abbrev pub alone : {K : Type 0} → K → ℕ × ℕ → List (Piece K)
 alone k s = cond (nat_lt s.0 s.1) (record { key = k; begin = s.0; end = s.1 } ∷ []) []
+
+-- a row with the label
+abbrev pub labelled : {P Q : Type 0} → P → Q × List (ℕ × ℕ) → P × List (ℕ × ℕ)
+labelled l x = (l, x.1)

@@ -1,7 +1,5 @@
-use Rattle.std.proofs.Common.{◌≡◌, ◌≢◌, ◌<◌, ◌≤◌, ◌↔◌, ◌+◌, ◌-◌, ℕ, List, [], ◌∷◌, suc, arith, ap, sym, subst, refl, length, get_or, ◌∙◌, map, ◌++◌, Vec, Global}
+use Rattle.std.proofs.Common.{◌≡◌, ◌<◌, ◌≤◌, ◌↔◌, ◌-◌, ℕ, List, [], suc, arith, ap, sym, subst, length, get_or, ◌∙◌, map, ◌++◌, Vec, Global}
 use Rattle.std.specs.List.{All, filter, flat_map}
-use Rattle.std.specs.Prelude.{slice_index}
-use Rattle.std.specs.List.Sorted.{IsStrictlySortedBy}
 use Rattle.std.proofs.lemmas.List.Elements.{All-same, All-nil, All-append, All-map}
 use Rattle.packing_core.specs.Covering.{Among}
 use Rattle.packing_core.specs.Pieces.{Covers}
@@ -10,8 +8,8 @@ use Rattle.packing_core.specs.declared.Piece.{Piece}
 use Rattle.packing_core.proofs.Numbered.{other_default}
 use Rattle.slice_core.specs.declared.bare.Bare.{Bare}
 use Rattle.slice_core.specs.declared.key.Key.{Key}
-use Rattle.slice_core.specs.PackedRows.{IsUnitedRow, bare, cuts_of}
-use Rattle.slice_core.specs.Rows.{sides_of, tag, no_sides}
+use Rattle.slice_core.specs.PackedRows.{IsUnitedRow, cuts_of}
+use Rattle.slice_core.specs.Rows.{sides_of, tag}
 use Rattle.slice_core.proofs.Steps.{sorted_nil}
 use Rattle.slice_core.proofs.Turns.{not_below_zero}
 use Rattle.slice_core.proofs.UnitedLemmas.{Row, R, order, total, separates, none_united, is_nil, is_not_nil, one_sorted, one_row_united, united_rows, united_sorted, covers_below, united_turn, IsBeside, beside, all_passed, filter_below}

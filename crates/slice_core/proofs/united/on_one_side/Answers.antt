@@ -1,4 +1,4 @@
-use Rattle.std.proofs.Common.{◌≡◌, ◌<◌, ◌↔◌, ℕ, List, suc, arith, subst, sym, length}
+use Rattle.std.proofs.Common.{◌≡◌, ◌<◌, ◌↔◌, ℕ, List, arith, subst, sym, length}
 use Rattle.std.specs.List.{All, filter}
 use Rattle.packing_core.specs.Pieces.{Covers}
 use Rattle.packing_core.specs.Live.{side_has}
