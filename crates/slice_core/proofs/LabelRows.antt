@@ -57,7 +57,7 @@ map_at f [] i d e h = absurd (omega arith)
 map_at f (x ∷ xs) zero d e h = refl
 map_at f (x ∷ xs) (suc i) d e h = map_at f xs i d e (omega arith)
 
-map_length : {X Y : Type 0} (f : X → Y) (xs : List X) → length (map f xs) ≡ length xs
+pub map_length : {X Y : Type 0} (f : X → Y) (xs : List X) → length (map f xs) ≡ length xs
 map_length f [] = refl
 map_length f (x ∷ xs) = ap suc (map_length f xs)
 
@@ -260,23 +260,27 @@ module _ {P : Type 0} (order : P → P → Ordering) (total : IsTotalOrder order
         let less : order y.0 x.0 ≡ Less = subst (λ z. order z x.0 ≡ Less) (sym ym) (subst (λ z. order m z ≡ Less) (sym xl) back) in
         true≢false (sym (ap (λ o. is_lt (ordering_then o (slice_cmp pair_cmp y.1 x.1))) less) ∙ q)
 
-    has_row : (l : P) (place : List ℕ) → HasAt l place ↔ HasRow rows l place
+    -- rows by their numbers
+    pub row_at : (r : ℕ) (l : P) → IsAt r l → Among (l, box boxes r) rows
+    row_at r l a =
+        let n : r < length sorted = omega (arith, a.0, count) in
+        let d : Key = (l, []) in
+        let x : Key = get_or sorted r d in
+        let e : x ≡ (l, box boxes r) = λ t. ((sym (label_at r d l n) ∙ a.1) t, sym (box_at r d n) t) in
+        let m : Among (l, box boxes r) sorted = contains_among sorted (l, box boxes r) (r, n, other_default sorted r (l, box boxes r) d n ∙ e) in
+        contains_among rows (l, box boxes r) (Contains-permutation sorted rows (l, box boxes r) (IsPermutation-sym rows sorted moved) (among_contains sorted (l, box boxes r) m))
+
+    pub at_row : (x : Key) → Among x rows → (r : ℕ) × IsAt r x.0 × (box boxes r ≡ x.1)
+    at_row x h =
+        let w = Contains-permutation rows sorted x moved (among_contains rows x h) in
+        let r : ℕ = w.0 in
+        let n : r < length sorted = w.1 in
+        (r, (omega (arith, count), label_at r x x.0 n ∙ ap (λ (k : Key). k.0) w.2), box_at r x n ∙ ap (λ (k : Key). k.1) w.2)
+
+    pub has_row : (l : P) (place : List ℕ) → HasAt l place ↔ HasRow rows l place
     has_row l place = (
-      λ h.
-          let r : ℕ = h.0 in
-          let n : r < length sorted = omega (arith, h.1.0, count) in
-          let d : Key = (l, []) in
-          let x : Key = get_or sorted r d in
-          let e : x ≡ (l, box boxes r) = λ t. ((sym (label_at r d l n) ∙ h.1.1) t, sym (box_at r d n) t) in
-          let m : Among (l, box boxes r) sorted = contains_among sorted (l, box boxes r) (r, n, other_default sorted r (l, box boxes r) d n ∙ e) in
-          (box boxes r, contains_among rows (l, box boxes r) (Contains-permutation sorted rows (l, box boxes r) (IsPermutation-sym rows sorted moved) (among_contains sorted (l, box boxes r) m)), h.2),
-      λ h.
-          let x : Key = (l, h.0) in
-          let w = Contains-permutation rows sorted x moved (among_contains rows x h.1) in
-          let r : ℕ = w.0 in
-          let n : r < length sorted = w.1 in
-          let e : box boxes r ≡ h.0 = box_at r x n ∙ ap (λ (k : Key). k.1) w.2 in
-          (r, (omega (arith, count), label_at r x l n ∙ ap (λ (k : Key). k.0) w.2), subst (λ y. has_place y place ≡ true) (sym e) h.2),
+      λ h. (box boxes h.0, row_at h.0 l h.1, h.2),
+      λ h. let w = at_row (l, h.0) h.1 in (w.0, w.1, subst (λ y. has_place y place ≡ true) (sym w.2) h.2),
     )
 
     pub all_done : (sides n : ℕ) → length labels ≤ n → (out : List Key)

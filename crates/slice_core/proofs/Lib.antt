@@ -3,3 +3,4 @@ pub mod Turns
 pub mod LeastFaultLemmas
 pub mod UnitedLemmas
 pub mod LabelRows
+pub mod PackedOnGrid
