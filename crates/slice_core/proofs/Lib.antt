@@ -3,4 +3,5 @@ pub mod Turns
 pub mod LeastFaultLemmas
 pub mod UnitedLemmas
 pub mod LabelRows
+pub mod Sweeping
 pub mod PackedOnGrid

@@ -6,6 +6,7 @@ mod by_label;
 mod cell_op;
 mod inward;
 mod key;
+mod live;
 mod united;
 
 pub use by_label::pack_rows;
