@@ -20,7 +20,8 @@ use Rattle.packing_core.proofs.Numbered.{other_default}
 use Rattle.packing_core.proofs.Same.{same_sorted}
 use Rattle.slice_core.specs.PackedRows.{span_of}
 use Rattle.slice_core.specs.Rows.{AreRows, pair_cmp, pair_total}
-use Rattle.slice_core.specs.Sweeps.{AreStarts, AreOpen}
+use Rattle.slice_core.specs.Sweeps.{AreStarts, AreOpen, IsSweep}
+use Rattle.slice_core.specs.declared.live.Sweep.{Sweep}
 use Rattle.slice_core.proofs.Turns.{AreRows-filter}
 
 -- ---- the rows by their first cells
@@ -192,3 +193,31 @@ begun_below starts m first n live begun within low live_low is = All-from_recurs
       | inl w ↦ let c = among_contains live r w in subst (λ q. q < m) c.2 (live_low c.0 r c.1)
       | inr w ↦ let l = w.2 in subst (λ q. q < m) w.3 (low w.0 (0, 0) (omega arith))
     ]
+
+-- ---- what holds of all rows holds of those of a sweep
+
+module _ (boxes : List (List (ℕ × ℕ))) (side : ℕ) (rows : List ℕ) (cell : ℕ) (s : Sweep) (is : IsSweep boxes side rows cell s) where
+  pub sweep_later : (next : ℕ) → cell ≤ next → IsSweep boxes side rows next s
+  sweep_later next l =
+      let o = is.1 in (
+        is.0,
+        record {
+          within = o.within;
+          passed = λ j h. let p = o.passed j h in omega arith;
+          from = o.from;
+          to = λ j h k. o.to j h (omega arith);
+        },
+      )
+
+  each_from : {X : Type 0} (P : X → Type 0) (xs : List X) → ((x : X) → Among x xs → P x) → AllByRecursion P xs
+  each_from P [] h = tt
+  each_from P (x ∷ xs) h = (h x (inl refl), each_from P xs (λ y m. h y (inr m)))
+
+  below : (m r : ℕ) → All (λ q. q < m) rows → Among r rows → r < m
+  below m r a h = let c = among_contains rows r h in subst (λ q. q < m) c.2 (a c.0 r c.1)
+
+  pub starts_below : (m : ℕ) → All (λ r. r < m) rows → All (λ (x : ℕ × ℕ). x.1 < m) s.starts.items
+  starts_below m a = let f = is.0.from in All-from_recursion (λ (x : ℕ × ℕ). x.1 < m) s.starts.items (each_from (λ (x : ℕ × ℕ). x.1 < m) s.starts.items (λ x h. below m x.1 a (f x h).0))
+
+  pub live_below : (m : ℕ) → All (λ r. r < m) rows → All (λ r. r < m) s.live.items
+  live_below m a = let f = is.1.from in All-from_recursion (λ r. r < m) s.live.items (each_from (λ r. r < m) s.live.items (λ r h. below m r a (f r h)))

@@ -9,6 +9,7 @@ ghost use Rattle.slice_core.specs.Rows.{sides_of, key_cmp, tag, with_last, no_si
 
 use crate::cell_op::CellOp;
 use crate::key::Key;
+use crate::live::{advance, sweep_of};
 use packing_core::{Piece, join};
 use point_core::{Fault, Memory, Steps, Stop};
 use std::alloc::Global;
@@ -196,10 +197,14 @@ pub fn slices<O: CellOp, L: Ledger>(
     }
     let side = sides - 1;
     let mut pieces: Vec<Piece<Key<O::Out>>> = Vec::new(alloc);
+    let mut lefts = sweep_of(alloc, boxes, left, side)?;
+    let mut rights = sweep_of(alloc, boxes, right, side)?;
     for cell in 0..counts[side] {
-        let l = live_at(alloc, boxes, left, side, cell)?;
-        let r = live_at(alloc, boxes, right, side, cell)?;
-        let rows = slices(alloc, side, counts, boxes, &l, &r, split, op, least, steps)?;
+        lefts = advance(alloc, lefts, boxes, side, cell)?;
+        rights = advance(alloc, rights, boxes, side, cell)?;
+        let l = lefts.live.as_slice();
+        let r = rights.live.as_slice();
+        let rows = slices(alloc, side, counts, boxes, l, r, split, op, least, steps)?;
         push_pieces(&mut pieces, rows, cell, cell + 1)?;
     }
     let runs = join(alloc, pieces)?;
