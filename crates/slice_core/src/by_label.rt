@@ -15,10 +15,7 @@ use point_core::{Label, Memory};
 use std::alloc::Global;
 
 // The labels of the rows, and their boxes.
-fn apart<P: Drop>(
-    alloc: Global,
-    rows: Vec<Key<P>>,
-) -> Result<(Vec<P>, Vec<IndexBox>), Memory>
+fn apart<P: Drop>(alloc: Global, rows: Vec<Key<P>>) -> Result<(Vec<P>, Vec<IndexBox>), Memory>
     ensures labels { IfOk result (λ v. v.0.items ≡ map (λ x. x.0) rows.items) }
     ensures boxes { IfOk result (λ v. sides_of v.1.items ≡ map (λ x. x.1) rows.items) }
 {

@@ -102,11 +102,7 @@ fn cuts_at(
 }
 
 // The packed form on one side.
-fn on_one_side(
-    alloc: Global,
-    boxes: &[IndexBox],
-    live: &[usize],
-) -> Result<Vec<Key<Bare>>, Memory>
+fn on_one_side(alloc: Global, boxes: &[IndexBox], live: &[usize]) -> Result<Vec<Key<Bare>>, Memory>
     requires rows { All (λ r. r < length boxes.now) live.now }
     requires sides { All (λ x. 0 < length x.sides.items) boxes.now }
     ensures rows { IfOk result (λ v. (x : Any × List (ℕ × ℕ)) → Among x v.items ↔ (length x.1 ≡ 1) × IsUnitedRow 1 (sides_of boxes.now) live.now x) }

@@ -1,4 +1,4 @@
-use Rattle.std.proofs.Common.{◌≡◌, ℕ, ◌<◌, ◌≤◌, ◌↔◌, List, length, sym, subst}
+use Rattle.std.proofs.Common.{ℕ, ◌<◌, ◌↔◌, List, length, sym, subst}
 use Rattle.std.specs.List.{All}
 use Rattle.packing_core.specs.Covering.{Among}
 use Rattle.slice_core.specs.Rows.{sides_of}
@@ -38,6 +38,6 @@ returns-clause-sweep c = λ a z b rows are up is.
     let w = subst (λ (xs : List (ℕ × ℕ)). AreOpen boxes side rows b xs c.args.sweep.next c.args.sweep.live.items) (sym e) is.1 in (
       is.0,
       subst (λ (xs : List (ℕ × ℕ)). AreOpen boxes side rows c.args.cell xs c.in_ok-next.next c.in_ok-live.live.items) e
-      (open_now boxes side rows starts b c.args.cell c.args.sweep.next c.in_ok-next.next c.args.sweep.live.items c.in_ok-next.rows.items up s w n.from n.within n.passed n.ahead n.rows
-      c.in_ok-live.live.items (returns-clause-live c a z b rows are up is)),
+          (open_now boxes side rows starts b c.args.cell c.args.sweep.next c.in_ok-next.next c.args.sweep.live.items c.in_ok-next.rows.items up s w n.from n.within n.passed n.ahead n.rows
+          c.in_ok-live.live.items (returns-clause-live c a z b rows are up is)),
     )
