@@ -1,0 +1,10 @@
+// The line of a truth value.
+ghost use Rattle.std.specs.Prelude.{◌≡◌};
+ghost use Rattle.utd_print.specs.Lines.{truth_line};
+
+/// The line of a truth value.
+pub fn truth_line(b: bool) -> &'static [u8]
+    ensures { result.now ≡ truth_line b }
+{
+    if b { b"TRUE\n" } else { b"FALSE\n" }
+}
