@@ -1,9 +1,16 @@
 // Where the least and the greatest value stand.
 ghost use Rattle.std.specs.Prelude.{◌≡◌, ◌↔◌, [], map, IsNone, IfSome};
 ghost use Rattle.value_core.specs.Plain.{plain};
-ghost use Rattle.u_summary.specs.Summaries.{IsFirstLeast, IsFirstGreatest};
+ghost use Rattle.u_summary.specs.Summaries.{is_before, IsFirstLeast, IsFirstGreatest};
 
 use value_core::Value;
+
+/// Whether the first value comes before the second in the printing order.
+fn is_before(a: &Value, b: &Value) -> bool
+    ensures { result ≡ is_before (plain a.now) (plain b.now) }
+{
+    a < b
+}
 
 /// The index at which the least value in the printing order stands first, or none for no values.
 pub fn least(values: &[Value]) -> Option<usize>
@@ -15,7 +22,7 @@ pub fn least(values: &[Value]) -> Option<usize>
     }
     let mut best = 0;
     for at in 1..values.len() {
-        if values[at] < values[best] {
+        if is_before(&values[at], &values[best]) {
             best = at;
         }
     }
@@ -32,7 +39,7 @@ pub fn greatest(values: &[Value]) -> Option<usize>
     }
     let mut best = 0;
     for at in 1..values.len() {
-        if values[best] < values[at] {
+        if is_before(&values[best], &values[at]) {
             best = at;
         }
     }
