@@ -3,8 +3,8 @@ use Rattle.std.proofs.Common.{◌≡◌, ℕ, zero, suc, ◌+◌, ◌-◌, ◌<�
 use Rattle.std.proofs.lemmas.Bool.{cases_lt}
 use Rattle.std.proofs.lemmas.Int.{ints}
 use Rattle.std.proofs.lemmas.Bool.Decides.{nat_tests}
-use Rattle.point_core.specs.Dates.{is_leap, days_of_year, month_days, days_of_month, days_of_years, days_of_months, day_place, date_number, IsCalendarDate, first_day}
-use Rattle.utd_print.specs.Dates.{Date, date_in_year, date_after, date_of}
+use Rattle.point_core.specs.Dates.{is_leap, days_of_year, month_days, days_of_month, days_of_years, days_of_months, day_place, date_number, IsCalendarDate, first_day, date_text}
+use Rattle.utd_print.specs.Dates.{Date, date_in_year, date_after, date_of, day_text}
 
 -- ---- months
 
@@ -90,25 +90,25 @@ years-rise p (suc q) h = elim (cases_lt q p) [
 in-years : (years p q k i day : ℕ) → p ≤ q → q ≤ p + years → 1 ≤ day → day ≤ get_or (month_days (suc q)) i 0
     → k + days_of_years p + 1 ≡ days_of_years q + before (month_days (suc q)) i + day → date_after years (suc p) k ≡ the_date (suc q) (1 + i) day
 unfolding date_after days_of_years
-in-years zero p q k i day low high first last e = 
+in-years zero p q k i day low high first last e =
     let same : p ≡ q = omega arith in
     let here : date_in_year (suc q) 1 k (month_days (suc q)) ≡ the_date (suc q) (1 + i) day =
     in-year (suc q) 1 k (month_days (suc q)) i day first last (omega (arith, ap days_of_years same)) in
     ap (λ y. date_in_year (suc y) 1 k (month_days (suc y))) same ∙ here
 in-years (suc years) p q k i day low high first last e = elim (cases_lt p q) [
   | inl lt ↦ (
-    let rise : days_of_years (suc p) ≤ days_of_years q = years-rise (suc p) q (omega arith) in
-    let later : ltb k (days_of_year (suc p)) ≡ false = not-less k (days_of_year (suc p)) (omega (arith, rise)) in
-    rw later (in-years years (suc p) q (k - days_of_year (suc p)) i day (omega arith) (omega arith) first last (omega (arith, rise)))
-  )
+      let rise : days_of_years (suc p) ≤ days_of_years q = years-rise (suc p) q (omega arith) in
+      let later : ltb k (days_of_year (suc p)) ≡ false = not-less k (days_of_year (suc p)) (omega (arith, rise)) in
+      rw later (in-years years (suc p) q (k - days_of_year (suc p)) i day (omega arith) (omega arith) first last (omega (arith, rise)))
+      )
   | inr le ↦ (
-    let same : q ≡ p = omega arith in
-    let number : k + 1 ≡ before (month_days (suc q)) i + day = omega (arith, ap days_of_years same) in
-    let inside : k < days_of_year (suc q) = omega (arith, within-year (suc q) i, number) in
-    let here : date_in_year (suc q) 1 k (month_days (suc q)) ≡ the_date (suc q) (1 + i) day = in-year (suc q) 1 k (month_days (suc q)) i day first last number in
-    let now : ltb k (days_of_year (suc p)) ≡ true = subst (λ y. ltb k (days_of_year (suc y)) ≡ true) same (less k (days_of_year (suc q)) inside) in
-    rw now (subst (λ y. date_in_year (suc y) 1 k (month_days (suc y)) ≡ the_date (suc q) (1 + i) day) same here)
-  )
+      let same : q ≡ p = omega arith in
+      let number : k + 1 ≡ before (month_days (suc q)) i + day = omega (arith, ap days_of_years same) in
+      let inside : k < days_of_year (suc q) = omega (arith, within-year (suc q) i, number) in
+      let here : date_in_year (suc q) 1 k (month_days (suc q)) ≡ the_date (suc q) (1 + i) day = in-year (suc q) 1 k (month_days (suc q)) i day first last number in
+      let now : ltb k (days_of_year (suc p)) ≡ true = subst (λ y. ltb k (days_of_year (suc y)) ≡ true) same (less k (days_of_year (suc q)) inside) in
+      rw now (subst (λ y. date_in_year (suc y) 1 k (month_days (suc y)) ≡ the_date (suc q) (1 + i) day) same here)
+      )
 ]
 
 epoch_place : day_place 1970 1 1 ≡ 719163
@@ -137,3 +137,8 @@ date_of-known n (suc q) (suc i) day date is =
     let h = counted n (days_of_years q + before (month_days (suc q)) i + day) (omega (arith, date.4)) one in omega (arith, h) in
     let found : date_after 9998 1 k ≡ the_date (suc q) (1 + i) day = in-years 9998 0 q k i day (omega arith) (omega (arith, date.1)) date.4 last number in
     found ∙ same-date (suc q) (1 + i) (suc i) day day (omega arith) refl
+
+-- the text of the date that has the number
+pub day_text-known : (n : ℤ) (year month day : ℕ) → IsCalendarDate year month day → date_number year month day ≡ n → date_text year month day ≡ day_text n
+unfolding day_text
+day_text-known n year month day date is = sym (ap (λ (d : Date). date_text d.year d.month d.day) (date_of-known n year month day date is))

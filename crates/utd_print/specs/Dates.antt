@@ -26,5 +26,5 @@ unfoldable pub date_of : ℤ → Date
 date_of n = date_after 9998 1 (unsigned_abs (n -ℤ first_day))
 
 -- the date of a day as YYYY-MM-DD
-abbrev pub day_text : ℤ → List ℕ
+unfoldable pub day_text : ℤ → List ℕ
 day_text n = let d = date_of n in date_text d.year d.month d.day

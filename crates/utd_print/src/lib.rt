@@ -1,8 +1,10 @@
 //! What is printed: refusal lines, truth values and tables.
 #![tactic(auto)]
 
+mod numbers;
 mod refusal;
 mod truth;
+mod values;
 
 pub use refusal::refusal_line;
 pub use truth::truth_line;

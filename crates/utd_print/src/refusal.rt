@@ -1,8 +1,8 @@
 // The line of a refused statement.
-ghost use Rattle.std.specs.Prelude.{◌≡◌, ◌++◌, IfOk, OnOk, decimal};
+ghost use Rattle.std.specs.Prelude.{◌≡◌, ◌++◌, IfOk, OnOk};
 ghost use Rattle.utd_print.specs.Lines.{code_text, place_text, cause_text, HasLine, refusal_line};
 
-use itoa::Buffer;
+use crate::numbers::put_number;
 use point_core::{Code, Memory, Place};
 use std::alloc::Global;
 use value_core::Refuse;
@@ -45,15 +45,6 @@ fn code_text(code: Code) -> &'static [u8]
         Code::E44 => b"E44 HISTORY broken",
         Code::E46 => b"E46 database full",
     }
-}
-
-/// Writes a number in decimal.
-fn put_number(out: &mut Vec<u8>, number: u32) -> Result<(), Memory>
-    ensures { OnOk result (out.new.items ≡ out.old.items ++ decimal number) }
-{
-    let mut buffer = Buffer::new();
-    out.extend_from_slice(buffer.format(number).as_bytes())?;
-    Ok(())
 }
 
 /// Writes a place as `LINE:COLUMN`.
