@@ -1,5 +1,5 @@
 -- What is known of values that are of a kind.
-use Rattle.std.proofs.Common.{◌≡◌, ℤ, true, false, List, ◌++◌, sym, ◌∙◌, ap, subst, refl}
+use Rattle.std.proofs.Common.{◌≡◌, ℤ, List, sym, ◌∙◌, ap}
 use Rattle.point_core.specs.Dates.{IsDay}
 use Rattle.point_core.specs.Points.{days, line, line_of, number, IsNumber}
 use Rattle.point_core.specs.declared.any_type.AnyType.{AnyType}
@@ -8,8 +8,7 @@ use Rattle.point_core.specs.declared.any_type.AnyPoint.{AnyPoint}
 use Rattle.value_core.specs.declared.kind.Kind.TheVariants.{Truth, Char, Point, Span}
 use Rattle.value_core.specs.declared.list.OrdinalNames.{OrdinalNames}
 use Rattle.value_core.specs.declared.value.Value.TheVariants.{Point as PointValue, Span as SpanValue}
-use Rattle.value_core.specs.Values.{point, interval}
-use Rattle.value_core.specs.Plain.{plain, ends}
+use Rattle.value_core.specs.Plain.{plain}
 use Rattle.value_core.proofs.FitLemmas.{point_from_fit, span_from_fit}
 use Rattle.utd_print.specs.Tables.{point_text, interval_text, value_text, HasType, HasKind}
 

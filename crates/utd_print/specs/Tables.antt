@@ -2,7 +2,7 @@
 --     value_text      the text of a value
 --     widths      the widths of columns
 --     table      a relation's table
-use Rattle.std.specs.Prelude.{◌≡◌, ℕ, ◌+◌, ◌-◌, max, nat_lt, nat_le, ℤ, unsigned_abs, Bool, true, false, ◌||◌, List, [], ◌∷◌, ◌++◌, map, fold, length, replicate, count_by, slice_index_or, codes, decimal, if◌then◌else◌, ◌==◌}
+use Rattle.std.specs.Prelude.{◌≡◌, ℕ, ◌-◌, ◌<◌, max, nat_lt, nat_le, ℤ, unsigned_abs, Bool, true, false, ◌||◌, List, [], ◌∷◌, ◌++◌, map, fold, length, replicate, count_by, slice_index_or, codes, decimal, if◌then◌else◌, ◌==◌}
 use Rattle.std.specs.Fmt.{signed_decimal}
 use Rattle.std.specs.List.{flat_map, range_with_len}
 use Rattle.point_core.specs.declared.any_type.AnyType.{AnyType}
@@ -106,6 +106,6 @@ abbrev pub HaveKinds : Row → Type 0
 HaveKinds [] = Unit {0}
 HaveKinds (v ∷ vs) = HasKind v × HaveKinds vs
 
-abbrev pub RowsHaveKinds : List Row → Type 0
-RowsHaveKinds [] = Unit {0}
-RowsHaveKinds (row ∷ rows) = HaveKinds row × RowsHaveKinds rows
+-- each row has n values, each of some kind
+abbrev pub AreRows : ℕ → List Row → Type 0
+AreRows n rows = (k : ℕ) (d : Row) → k < length rows → (length (slice_index_or rows k d) ≡ n) × HaveKinds (slice_index_or rows k d)

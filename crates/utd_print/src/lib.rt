@@ -3,8 +3,10 @@
 
 mod numbers;
 mod refusal;
+mod tables;
 mod truth;
 mod values;
 
 pub use refusal::refusal_line;
+pub use tables::table;
 pub use truth::truth_line;

@@ -1,4 +1,4 @@
-use Rattle.std.proofs.Common.{◌≡◌, ◌++◌, OnOk, subst, arith}
+use Rattle.std.proofs.Common.{◌≡◌, ◌++◌, OnOk, subst}
 use Rattle.utd_print.proofs.DateLemmas.{day_text-known}
 use Rattle.utd_print.proofs.numbers.put_day.Goals as goal
 
