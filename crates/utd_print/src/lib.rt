@@ -10,3 +10,6 @@ mod values;
 pub use refusal::refusal_line;
 pub use tables::table;
 pub use truth::truth_line;
+
+#[cfg(test)]
+mod tests;
