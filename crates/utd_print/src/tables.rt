@@ -1,6 +1,7 @@
 // Tables: the widths of the columns in one pass over the rows, and the lines in another.
 ghost use Rattle.std.specs.Prelude.{◌≡◌, ◌∷◌, ◌++◌, map, length, replicate, IfOk, OnOk};
 ghost use Rattle.std.specs.List.{flat_map};
+ghost use Rattle.std.specs.Str.{IsUtf8, chars};
 ghost use Rattle.value_core.specs.Plain.{plain};
 ghost use Rattle.utd_print.specs.Tables.{row_texts, character_count, widths, cell, table_line, names_of, table, HaveKinds, AreRows};
 ghost use Rattle.utd_print.specs.Widths.{Widens};
@@ -11,11 +12,19 @@ use point_core::Memory;
 use std::alloc::Global;
 use value_core::{Kind, Name, OrdinalTypes, Relation, Row, Value};
 
-/// How many characters a text has.
-fn character_count(text: &[u8]) -> usize
+/// How many bytes of a text begin a character.
+fn first_bytes(text: &[u8]) -> usize
     ensures { result ≡ character_count text.now }
 {
     text.iter().filter(|b| **b < 128 || **b >= 192).count()
+}
+
+/// How many characters a text has, that is, Unicode scalar values.
+fn character_count(text: &[u8]) -> usize
+    ensures count { result ≡ character_count text.now }
+    ensures characters { IsUtf8 text.now → result ≡ length (chars text.now) }
+{
+    first_bytes(text)
 }
 
 /// The widths of the names alone.

@@ -107,24 +107,36 @@ fn sizes(alloc: Global) -> Result<OrdinalTypes, Memory> {
     Ok(OrdinalTypes { list })
 }
 
+/// The table of a relation with these attributes and rows.
+fn printed(
+    alloc: Global,
+    attributes: &[(&str, Kind)],
+    rows: &[&[Part]],
+) -> Result<Vec<u8>, RowsRefuse> {
+    let types = sizes(alloc)?;
+    let all = relation(alloc, attributes, rows)?;
+    Ok(table(alloc, &all, &types)?)
+}
+
 #[test]
 fn columns_are_as_wide_as_their_widest_text(rt: HostRuntime) -> Result<(), Fail> {
-    let alloc = rt.alloc();
-    let types = sizes(alloc)?;
     let rows: [&[Part]; 2] = [
         &[Part::Integers(8, 9), Part::Integer(-1)],
         &[Part::Integers(1, 6), Part::Integer(100)],
     ];
-    let wide = relation(alloc, &[("D", INTEGERS), ("STATUS", INTEGER)], &rows)?;
-    let text = table(alloc, &wide, &types)?;
+    let text = printed(rt.alloc(), &[("D", INTEGERS), ("STATUS", INTEGER)], &rows)?;
     let want: &[u8] = b"| D     | STATUS |\n| [1:6] | 100    |\n| [8:9] | -1     |\nrows: 2\n";
     assert_eq!(rt; text.as_slice(), want);
+    Ok(())
+}
+
+#[test]
+fn widths_count_characters_and_quotes_are_doubled(rt: HostRuntime) -> Result<(), Fail> {
     let rows: [&[Part]; 2] = [
         &[Part::Char("a;'b"), Part::Truth(true)],
         &[Part::Char("é"), Part::Truth(false)],
     ];
-    let texts = relation(alloc, &[("T", Kind::Char), ("W", Kind::Truth)], &rows)?;
-    let text = table(alloc, &texts, &types)?;
+    let text = printed(rt.alloc(), &[("T", Kind::Char), ("W", Kind::Truth)], &rows)?;
     let want: &[u8] =
         b"| T       | W     |\n| 'a;''b' | TRUE  |\n| '\xc3\xa9'     | FALSE |\nrows: 2\n";
     assert_eq!(rt; text.as_slice(), want);
@@ -132,22 +144,21 @@ fn columns_are_as_wide_as_their_widest_text(rt: HostRuntime) -> Result<(), Fail>
 }
 
 #[test]
-fn points_are_written_by_their_names_and_dates(rt: HostRuntime) -> Result<(), Fail> {
-    let alloc = rt.alloc();
-    let types = sizes(alloc)?;
+fn ordinal_values_are_written_by_their_names(rt: HostRuntime) -> Result<(), Fail> {
     let rows: [&[Part]; 1] = [&[Part::Size(2), Part::Sizes(0, 1)]];
-    let named = relation(alloc, &[("N", SIZE), ("R", SIZES)], &rows)?;
-    let text = table(alloc, &named, &types)?;
-    assert_eq!(rt;
-        text.as_slice(),
-        b"| N | R     |\n| L | [S:M] |\nrows: 1\n".as_slice()
-    );
+    let text = printed(rt.alloc(), &[("N", SIZE), ("R", SIZES)], &rows)?;
+    let want: &[u8] = b"| N | R     |\n| L | [S:M] |\nrows: 1\n";
+    assert_eq!(rt; text.as_slice(), want);
+    Ok(())
+}
+
+#[test]
+fn days_are_written_as_dates(rt: HostRuntime) -> Result<(), Fail> {
     let rows: [&[Part]; 2] = [
         &[Part::Dates(15341, 15399)],
         &[Part::Dates(-719162, 2932896)],
     ];
-    let dated = relation(alloc, &[("DURING", DATES)], &rows)?;
-    let text = table(alloc, &dated, &types)?;
+    let text = printed(rt.alloc(), &[("DURING", DATES)], &rows)?;
     let want: &[u8] =
         b"| DURING                  |\n| [0001-01-01:9999-12-31] |\n| [2012-01-02:2012-02-29] |\nrows: 2\n";
     assert_eq!(rt; text.as_slice(), want);
@@ -156,39 +167,37 @@ fn points_are_written_by_their_names_and_dates(rt: HostRuntime) -> Result<(), Fa
 
 #[test]
 fn relations_without_attributes_or_rows_have_tables(rt: HostRuntime) -> Result<(), Fail> {
-    let alloc = rt.alloc();
-    let types = OrdinalTypes {
-        list: Vec::new(alloc),
-    };
     let none: [&[Part]; 0] = [];
     let one: [&[Part]; 1] = [&[]];
-    let text = table(alloc, &relation(alloc, &[], &none)?, &types)?;
+    let text = printed(rt.alloc(), &[], &none)?;
     assert_eq!(rt; text.as_slice(), b"|\nrows: 0\n".as_slice());
-    let text = table(alloc, &relation(alloc, &[], &one)?, &types)?;
+    let text = printed(rt.alloc(), &[], &one)?;
     assert_eq!(rt; text.as_slice(), b"|\n|\nrows: 1\n".as_slice());
-    let text = table(alloc, &relation(alloc, &[("N", INTEGER)], &none)?, &types)?;
+    let text = printed(rt.alloc(), &[("N", INTEGER)], &none)?;
     assert_eq!(rt; text.as_slice(), b"| N |\nrows: 0\n".as_slice());
     Ok(())
 }
 
 #[test]
-fn refusals_and_truth_values_have_lines(rt: HostRuntime) -> Result<(), Fail> {
+fn refusals_have_lines(rt: HostRuntime) -> Result<(), Fail> {
     let alloc = rt.alloc();
     let line = refusal_line(alloc, 2, &Refuse::Plain(Code::E04))?;
-    assert_eq!(rt;
-        line.as_slice(),
-        b"statement 2 refused: E04 statement not ended\n".as_slice()
-    );
+    let want: &[u8] = b"statement 2 refused: E04 statement not ended\n";
+    assert_eq!(rt; line.as_slice(), want);
     let place = Place {
         line: 2,
         column: 17,
     };
     let code = Code::E02;
     let line = refusal_line(alloc, 30, &Refuse::At(Fault { place, code }))?;
-    assert_eq!(rt;
-        line.as_slice(),
-        b"statement 30 refused: E02 not UTF-8 at 2:17\n".as_slice()
-    );
+    let want: &[u8] = b"statement 30 refused: E02 not UTF-8 at 2:17\n";
+    assert_eq!(rt; line.as_slice(), want);
+    Ok(())
+}
+
+#[test]
+fn broken_constraints_have_lines(rt: HostRuntime) -> Result<(), Fail> {
+    let alloc = rt.alloc();
     let broken = Refuse::Broken {
         code: Code::E42,
         relvar: name(alloc, "SS")?,
@@ -197,7 +206,11 @@ fn refusals_and_truth_values_have_lines(rt: HostRuntime) -> Result<(), Fail> {
     let line = refusal_line(alloc, 3, &broken)?;
     let want: &[u8] = b"statement 3 refused: E42 WHEN UNPACKED ON broken in SS constraint 1\n";
     assert_eq!(rt; line.as_slice(), want);
+    Ok(())
+}
+
+#[test]
+fn truth_values_have_lines(rt: HostRuntime) {
     assert_eq!(rt; truth_line(true), b"TRUE\n".as_slice());
     assert_eq!(rt; truth_line(false), b"FALSE\n".as_slice());
-    Ok(())
 }

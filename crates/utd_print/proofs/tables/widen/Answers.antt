@@ -9,6 +9,6 @@ text_of-requires c = kind-at c.args.values.now c.loop-at.at c.index-values-at.re
 pub loop-at-preserved : goal.loop-at-preserved
 loop-at-preserved c =
     let text = text-at c.args.types.now c.args.values.now c.loop-at.at c.index-values-at.result c.loop-at-test.true c.index-values-at.is in
-    let count = c.character_count.ensures ∙ ap character_count (c.as_slice.ensures.value ∙ c.in_ok-text.ensures ∙ sym text) in
+    let count = c.character_count.ensures.count ∙ ap character_count (c.as_slice.ensures.value ∙ c.in_ok-text.ensures ∙ sym text) in
     widened-turn _ _ _ c.loop-at.at c.max.result c.loop-at.invariant (omega (arith, c.loop-at-test.true, c.requires.length, c.loop-at.auto.widths))
     (c.max.ensures ∙ ap (max (get_or c.loop-at.widths c.loop-at.at 0)) count)
