@@ -1,4 +1,3 @@
 pub mod CharacterLemmas
 pub mod DateLemmas
-pub mod KindLemmas
 pub mod TableLemmas

@@ -108,4 +108,5 @@ HaveKinds (v ∷ vs) = HasKind v × HaveKinds vs
 
 -- each row has n values, each of some kind
 abbrev pub AreRows : ℕ → List Row → Type 0
-AreRows n rows = (k : ℕ) (d : Row) → k < length rows → (length (slice_index_or rows k d) ≡ n) × HaveKinds (slice_index_or rows k d)
+AreRows n rows = (k : ℕ) (d : Row) → k < length rows
+    → (length (slice_index_or rows k d) ≡ n) × HaveKinds (slice_index_or rows k d)

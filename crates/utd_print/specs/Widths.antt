@@ -4,4 +4,5 @@ use Rattle.utd_print.specs.Tables.{character_count}
 
 -- the new widths are the old ones, or the characters of the texts where these are more
 abbrev pub Widens : List ℕ → List (List ℕ) → List ℕ → Type 0
-Widens old texts new = (k : ℕ) → k < length old → slice_index new k ≡ max (slice_index old k) (character_count (slice_index_or texts k []))
+Widens old texts new = (k : ℕ) → k < length old
+    → slice_index new k ≡ max (slice_index old k) (character_count (slice_index_or texts k []))

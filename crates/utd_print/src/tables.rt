@@ -3,7 +3,8 @@ ghost use Rattle.std.specs.Prelude.{◌≡◌, ◌∷◌, ◌++◌, map, length,
 ghost use Rattle.std.specs.List.{flat_map};
 ghost use Rattle.std.specs.Str.{IsUtf8, chars};
 ghost use Rattle.value_core.specs.Plain.{plain};
-ghost use Rattle.utd_print.specs.Tables.{row_texts, character_count, widths, cell, table_line, names_of, table, HaveKinds, AreRows};
+ghost use Rattle.utd_print.specs.Tables.{row_texts, character_count, widths, cell, table_line, names_of, table};
+ghost use Rattle.utd_print.specs.Tables.{HaveKinds, AreRows};
 ghost use Rattle.utd_print.specs.Widths.{Widens};
 
 use crate::numbers::put_count;
@@ -117,7 +118,8 @@ fn put_row(
 ) -> Result<(), Memory>
     requires length { length widths.now ≡ length values.now }
     requires kinds { HaveKinds (map plain values.now) }
-    ensures { OnOk result (out.new.items ≡ out.old.items ++ table_line widths.now (row_texts types.now (map plain values.now))) }
+    ensures { OnOk result (out.new.items ≡
+        out.old.items ++ table_line widths.now (row_texts types.now (map plain values.now))) }
 {
     out.push(b'|')?;
     for (at, value) in values.iter().enumerate() {
@@ -137,7 +139,8 @@ fn put_rows(
     rows: &[Row],
 ) -> Result<(), Memory>
     requires { AreRows (length widths.now) rows.now }
-    ensures { OnOk result (out.new.items ≡ out.old.items ++ flat_map (table_line widths.now) (map (row_texts types.now) rows.now)) }
+    ensures { OnOk result (out.new.items ≡
+        out.old.items ++ flat_map (table_line widths.now) (map (row_texts types.now) rows.now)) }
 {
     for row in rows {
         put_row(alloc, out, widths, types, row.values())?;
@@ -145,9 +148,9 @@ fn put_rows(
     Ok(())
 }
 
-/// The table of a relation: a line of the attributes' names, a line for each row in the printing order, and the number of rows.
-/// Columns are as wide as their widest name or text in characters. The values of an ordinal type are written by its names in
-/// `types`, where it stands at the place that the heading tells.
+/// The table of a relation: a line of the attributes' names, a line for each row in the printing order, and the
+/// number of rows. Columns are as wide as their widest name or text in characters. The values of an ordinal type are
+/// written by its names in `types`, where it stands at the place that the heading tells.
 pub fn table(alloc: Global, r: &Relation, types: &OrdinalTypes) -> Result<Vec<u8>, Memory>
     ensures { IfOk result (λ text. text.items ≡ table types.now r.now) }
 {

@@ -3,7 +3,8 @@ ghost use Rattle.std.specs.Prelude.{◌≡◌, ◌++◌, ◌∷◌, [], IfOk, On
 ghost use Rattle.point_core.specs.Points.{line, number};
 ghost use Rattle.value_core.specs.declared.value.Value.TheVariants.{Span};
 ghost use Rattle.value_core.specs.Plain.{plain};
-ghost use Rattle.utd_print.specs.Tables.{value_name, point_text, quoted, quotes_doubled, interval_text, value_text, HasType, HasKind};
+ghost use Rattle.utd_print.specs.Tables.{value_name, point_text, quoted, quotes_doubled, interval_text, value_text};
+ghost use Rattle.utd_print.specs.Tables.{HasType, HasKind};
 
 use crate::numbers::{put_day, put_integer};
 use crate::truth::truth_text;
