@@ -1,0 +1,3 @@
+pub mod CharacterLemmas
+pub mod DateLemmas
+pub mod TableLemmas
