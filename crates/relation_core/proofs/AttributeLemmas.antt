@@ -8,12 +8,13 @@ use Rattle.std.specs.List.Sorted.{IsPermutation}
 use Rattle.std.specs.Ordering.{is_eq}
 use Rattle.std.specs.Str.{bytes_eq}
 use Rattle.std.proofs.lemmas.Bool.{true≢false, false_from_ne_true, not-true, not_from_false}
+use Rattle.std.proofs.lemmas.List.{length-append}
 use Rattle.std.proofs.lemmas.List.Folds.{list_any-append}
 use Rattle.std.proofs.lemmas.List.Sorted.{IsPermutation-sym}
 use Rattle.std.proofs.lemmas.Slice.Eq.{bytes_eq-Decides}
 use Rattle.base_core.proofs.SetLemmas.{In, Ascends}
 use Rattle.base_core.proofs.MemberLemmas.{In-append, In-map, In-filter, list_any-In, list_all-In}
-use Rattle.base_core.proofs.SetOperatorLemmas.{In-permutation}
+use Rattle.base_core.proofs.SetOperatorLemmas.{In-permutation, length-in_order}
 use Rattle.value_core.proofs.HeadingLemmas.{attribute_total}
 use Rattle.value_core.specs.Headings.{has_name, repeat_after, first_repeat}
 use Rattle.value_core.specs.Values.{Name, Heading, attribute_cmp, is_heading}
@@ -168,3 +169,21 @@ places_within left right =
     positions_within (left ++ right) (names_of (joined_heading left right)) ((list_all-In (has_name (left ++ right)) (names_of (joined_heading left right))).1 (λ n i.
     let a = (In-map (λ b. b.0) n (joined_heading left right)).0 i in
     subst (λ m. IsTrue (has_name (left ++ right) m)) (sym a.2) (named_In (left ++ right) a.0 (from_in_order attribute_cmp a.0 (left ++ right) a.1))))
+
+-- ---- where headings may be joined
+
+kind_from : (a : Name × Kind) (right : Heading) → ((b : Name × Kind) → In b right → IsTrue (bytes_eq a.0 b.0) → a.1 ≡ b.1) → KindAgrees a right
+kind_from a [] h = tt
+kind_from a (b ∷ rest) h = (h b (inl refl), kind_from a rest (λ c i. h c (inr i)))
+
+-- attributes with one name have one kind
+pub kinds_from : (left right : Heading) → ((a b : Name × Kind) → In a left → In b right → IsTrue (bytes_eq a.0 b.0) → a.1 ≡ b.1) → HaveEqualKinds left right
+kinds_from [] right h = tt
+kinds_from (a ∷ rest) right h = (kind_from a right (λ b i. h a b (inl refl) i), kinds_from rest right (λ c b i. h c b (inr i)))
+
+-- there are at most as many attributes as in both
+pub few_joined : (left right : Heading) → length (joined_heading left right) ≤ length left + length right
+few_joined left right =
+    let h = length-in_order attribute_cmp (left ++ right) in
+    let k = length-append left right in
+    omega (arith, h, k)
