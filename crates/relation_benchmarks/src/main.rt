@@ -5,7 +5,7 @@ mod jobs;
 mod samples;
 
 use crate::jobs::{Job, perform};
-use crate::samples::{left_rows, sample};
+use crate::samples::{left_rows, two_relations};
 use std::alloc::Global;
 use std::time::Instant;
 use std::{env, io};
@@ -35,7 +35,7 @@ fn main(rt: HostRuntime) -> io::Result<()> {
     let Some((job, count)) = request(words.as_slice()) else {
         return println!(rt; "usage: relation_benchmarks join|matching|project|summarize ROWS");
     };
-    let (Ok(mut rows), Ok(sample)) = (left_rows(alloc, count), sample(alloc, count)) else {
+    let (Ok(mut rows), Ok(sample)) = (left_rows(alloc, count), two_relations(alloc, count)) else {
         return println!(rt; "too many rows");
     };
     let start = Instant::now(&rt)?;

@@ -56,7 +56,7 @@ fn relation(alloc: Global, names: &[&str], rows: Vec<Row>) -> Result<Relation, R
 }
 
 /// Two relations with a common attribute, in which each row agrees with one.
-pub(crate) fn sample(alloc: Global, count: u32) -> Result<Sample, RowsRefuse>
+pub(crate) fn two_relations(alloc: Global, count: u32) -> Result<Sample, RowsRefuse>
     ensures left { IfOk result (λ s. AreIntegers s.left.heading) }
     ensures right { IfOk result (λ s. AreIntegers s.right.heading) }
 {
