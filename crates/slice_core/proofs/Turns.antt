@@ -2,7 +2,7 @@
 use Rattle.std.proofs.Common.{◌≡◌, ℕ, zero, suc, ◌+◌, ◌-◌, ◌*◌, ◌<◌, ◌≤◌, Bool, true, false, cond, ◌&&◌, ◌≢◌, leb, ltb, List, [], ◌∷◌, ◌++◌, map, length, get_or, ◌↔◌, ◌⊎◌, inl, inr, arith, sym, ap, subst, refl, ◌∙◌, Option, Some, None, Result, Ok, Err, mul-add}
 use Rattle.std.proofs.Math.Nat.{mul_comm}
 use Rattle.std.specs.List.{All, AllByRecursion, filter}
-use Rattle.std.proofs.lemmas.List.Elements.{recursion_from_All}
+use Rattle.std.proofs.lemmas.List.Elements.{recursion_from_All, All-from_recursion}
 use Rattle.std.proofs.lemmas.Bool.{cases_lt}
 use Rattle.std.proofs.lemmas.Nat.{mul-le}
 use Rattle.std.proofs.lemmas.Bool.Decides.{nat_tests}
@@ -53,6 +53,14 @@ AreRows-filter t a z (x ∷ xs) r =
       | false ↦ let l = r.0 in from_lower a (suc x) z (filter t xs) (omega arith) ih
     ]
 
+pub AreRows-push : (a z : ℕ) (xs : List ℕ) → a ≤ z → AreRows a z xs → AreRows a (z + 1) (xs ++ z ∷ [])
+AreRows-push a z [] h r = (h, omega arith, tt)
+AreRows-push a z (x ∷ xs) h r = let l = r.1 in (r.0, omega arith, AreRows-push (suc x) z xs (omega arith) r.2)
+
+pub AreRows-wider : (a b z y : ℕ) (xs : List ℕ) → a ≤ b → z ≤ y → AreRows b z xs → AreRows a y xs
+AreRows-wider a b z y [] h k r = tt
+AreRows-wider a b z y (x ∷ xs) h k r = let l = r.0 in let m = r.1 in (omega arith, omega arith, AreRows-wider (suc x) (suc x) z y xs (omega arith) k r.2)
+
 pub rows_below : (a z n : ℕ) (xs : List ℕ) → AreRows a z xs → z ≤ n → AllByRecursion (λ r. r < n) xs
 rows_below a z n [] r h = tt
 rows_below a z n (x ∷ xs) r h = let l = r.1 in (omega arith, rows_below (suc x) z n xs r.2 h)
@@ -60,6 +68,9 @@ rows_below a z n (x ∷ xs) r h = let l = r.1 in (omega arith, rows_below (suc x
 pub rows_above : (a z n : ℕ) (xs : List ℕ) → AreRows a z xs → n ≤ a → AllByRecursion (λ r. n ≤ r) xs
 rows_above a z n [] r h = tt
 rows_above a z n (x ∷ xs) r h = let l = r.0 in (omega arith, rows_above (suc x) z n xs r.2 (omega arith))
+
+pub all_below : (n : ℕ) (xs : List ℕ) → AreRows 0 n xs → All (λ r. r < n) xs
+all_below n xs r = All-from_recursion (λ q. q < n) xs (rows_below 0 n n xs r (omega arith))
 
 pub nil_from : {X : Type 0} (xs : List X) → length xs ≡ 0 → xs ≡ []
 nil_from [] e = refl

@@ -5,7 +5,7 @@ ghost use Rattle.std.specs.List.Sorted.{IsStrictlySortedBy};
 ghost use Rattle.std.specs.declared.cmp.Ordering.TheVariants.{Equal};
 ghost use Rattle.packing_core.specs.Covering.{Among};
 ghost use Rattle.slice_core.specs.PackedRows.{IsPackedOf, labelled};
-ghost use Rattle.slice_core.specs.Rows.{key_cmp, sides_of};
+ghost use Rattle.slice_core.specs.Rows.{key_cmp, sides_of, AreRows};
 
 use crate::bare::Bare;
 use crate::inward::IndexBox;
@@ -46,7 +46,8 @@ fn label_end<P: Label>(labels: &[P], first: usize) -> usize
 // The numbers from `first` up to before `end`.
 fn numbers(alloc: Global, first: usize, end: usize) -> Result<Vec<usize>, Memory>
     requires { first ≤ end }
-    ensures { IfOk result (λ v. (r : ℕ) → Among r v.items ↔ (first ≤ r) × (r < end)) }
+    ensures members { IfOk result (λ v. (r : ℕ) → Among r v.items ↔ (first ≤ r) × (r < end)) }
+    ensures order { IfOk result (λ v. AreRows first end v.items) }
 {
     let mut out = Vec::new(alloc);
     for r in first..end {

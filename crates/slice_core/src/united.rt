@@ -4,12 +4,13 @@ ghost use Rattle.std.specs.List.{All};
 ghost use Rattle.std.specs.List.Sorted.{IsStrictlySortedBy};
 ghost use Rattle.packing_core.specs.Covering.{Among};
 ghost use Rattle.slice_core.specs.PackedRows.{IsUnitedRow, bare, span_of, cuts_of, alone};
-ghost use Rattle.slice_core.specs.Rows.{sides_of, key_cmp, no_sides};
+ghost use Rattle.slice_core.specs.Rows.{sides_of, key_cmp, no_sides, AreRows};
 ghost use Rattle.slice_core.specs.declared.bare.Bare.{Bare as Any};
 
 use crate::bare::Bare;
-use crate::inward::{IndexBox, live_at, push_pieces, with_sides};
+use crate::inward::{IndexBox, push_pieces, with_sides};
 use crate::key::Key;
+use crate::live::{advance, sweep_of};
 use packing_core::{Piece, join};
 use point_core::{Label, Memory};
 use std::alloc::Global;
@@ -121,7 +122,7 @@ pub fn united(
     boxes: &[IndexBox],
     live: &[usize],
 ) -> Result<Vec<Key<Bare>>, Memory>
-    requires rows { All (λ r. r < length boxes.now) live.now }
+    requires rows { AreRows 0 (length boxes.now) live.now }
     requires sides { All (λ x. sides ≤ length x.sides.items) boxes.now }
     ensures rows { IfOk result (λ v. (x : Any × List (ℕ × ℕ)) → Among x v.items ↔ (length x.1 ≡ sides) × IsUnitedRow sides (sides_of boxes.now) live.now x) }
     ensures sorted { IfOk result (λ v. IsStrictlySortedBy (key_cmp ⟦<Bare as Label>⟧.order) v.items) }
@@ -140,12 +141,13 @@ pub fn united(
     let side = sides - 1;
     let cuts = cuts_at(alloc, boxes, live, side)?;
     let mut pieces: Vec<Piece<Key<Bare>>> = Vec::new(alloc);
+    let mut sweep = sweep_of(alloc, boxes, live, side)?;
     let mut begin = 0;
     for i in 0..cuts.len() {
         let end = cuts[i];
         if begin < end {
-            let here = live_at(alloc, boxes, live, side, begin)?;
-            let rows = united(alloc, side, boxes, &here)?;
+            sweep = advance(alloc, sweep, boxes, side, begin)?;
+            let rows = united(alloc, side, boxes, sweep.live.as_slice())?;
             push_pieces(&mut pieces, rows, begin, end)?;
         }
         begin = end;

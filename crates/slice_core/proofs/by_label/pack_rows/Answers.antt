@@ -4,10 +4,11 @@ use Rattle.std.specs.declared.cmp.Ordering.TheVariants.{Equal}
 use Rattle.packing_core.specs.Covering.{Among}
 use Rattle.slice_core.specs.declared.inward.IndexBox.{IndexBox}
 use Rattle.slice_core.specs.PackedRows.{IsUnitedRow}
-use Rattle.slice_core.specs.Rows.{sides_of}
+use Rattle.slice_core.specs.Rows.{sides_of, AreRows}
+use Rattle.slice_core.proofs.Turns.{AreRows-wider}
 use Rattle.slice_core.proofs.Steps.{sorted_nil}
 use Rattle.slice_core.proofs.UnitedLemmas.{Row}
-use Rattle.slice_core.proofs.LabelRows.{IsAt, no_cut, none_done, group_cut, rows_turn, sorted_turn, sorted_ascends, all_done, live_below, boxes_length, boxes_sides}
+use Rattle.slice_core.proofs.LabelRows.{IsAt, no_cut, none_done, group_cut, rows_turn, sorted_turn, sorted_ascends, all_done, boxes_length, boxes_sides}
 use Rattle.slice_core.proofs.by_label.pack_rows.Goals as goal
 
 pub loop-first-init : goal.loop-first-init
@@ -28,11 +29,9 @@ pub united-requires-clause-rows : goal.united-requires-clause-rows
 united-requires-clause-rows g c =
     let n : length c.in_ok-labels.boxes.items ≡ length c.in_ok-labels.labels.items = boxes_length c.in_ok-labels.labels.items c.in_ok-labels.boxes.items c.sort.new.self.items c.in_ok-labels.ensures.labels c.in_ok-labels.ensures.boxes in
     let w : c.label_end-end.result ≤ length c.in_ok-labels.labels.items = subst (λ xs. c.label_end-end.result ≤ length xs) c.as_slice.ensures.value c.label_end-end.ensures.within in
-    let b = c.as_slice-in-loop-first.result.now in
-    let live = c.as_slice-in-loop-first-2.result.now in
-    live_below (length b) live (λ r m.
-    let l = ((c.in_ok-live.ensures r).0 (subst (Among r) c.as_slice-in-loop-first-2.ensures.value m)).1 in
-    subst (λ (xs : List IndexBox). r < length xs) (sym c.as_slice-in-loop-first.ensures.value) (omega arith))
+    subst (λ (xs : List IndexBox). AreRows 0 (length xs) c.as_slice-in-loop-first-2.result.now) (sym c.as_slice-in-loop-first.ensures.value)
+    (subst (AreRows 0 (length c.in_ok-labels.boxes.items)) (sym c.as_slice-in-loop-first-2.ensures.value)
+    (AreRows-wider 0 c.loop-first.first c.label_end-end.result (length c.in_ok-labels.boxes.items) c.in_ok-live.live.items (omega arith) (omega arith) c.in_ok-live.ensures.order))
 
 pub united-requires-clause-sides : goal.united-requires-clause-sides
 united-requires-clause-sides g c =
@@ -68,8 +67,8 @@ loop-first-preserved g c =
     record {
       within = within;
       cut = group_cut o t s labels boxes first end within after l0 at0 cut ascends same other;
-      rows = rows_turn o t s labels boxes first end within after l0 at0 cut ascends same other live c.in_ok-live.ensures n c.loop-first.out.items c.push_labelled.new.out.items packed c.in_ok-push_labelled.ensures is c.loop-first.invariant.rows;
-      sorted = sorted_turn o t s labels boxes first end within after l0 at0 cut ascends same other live c.in_ok-live.ensures n c.loop-first.out.items c.push_labelled.new.out.items packed c.in_ok-push_labelled.ensures is c.loop-first.invariant.rows c.loop-first.invariant.sorted c.in_ok-packed.ensures.sorted;
+      rows = rows_turn o t s labels boxes first end within after l0 at0 cut ascends same other live c.in_ok-live.ensures.members n c.loop-first.out.items c.push_labelled.new.out.items packed c.in_ok-push_labelled.ensures is c.loop-first.invariant.rows;
+      sorted = sorted_turn o t s labels boxes first end within after l0 at0 cut ascends same other live c.in_ok-live.ensures.members n c.loop-first.out.items c.push_labelled.new.out.items packed c.in_ok-push_labelled.ensures is c.loop-first.invariant.rows c.loop-first.invariant.sorted c.in_ok-packed.ensures.sorted;
     }
 
 pub returns-clause-rows : goal.returns-clause-rows
