@@ -11,8 +11,9 @@ use Rattle.std.specs.List.Retain.{IsFiltered, DiffersFromLast}
 use Rattle.std.specs.List.Sorted.{IsPermutation, IsSorted, IsStrictlySortedBy, IsNonDecreasingBy, IsBinarySearchResult, IsSearchInRange}
 use Rattle.std.specs.Ordering.{is_eq, eq_by_cmp, ordering_reverse, ordering_index}
 use Rattle.std.specs.Cmp.{IsTotalOrder, tied_back}
-use Rattle.base_core.specs.Sets.{has}
-use Rattle.base_core.proofs.SetLemmas.{In, In-in_order, in_order_of_sorted}
+use Rattle.base_core.specs.Sets.{has, is_set}
+use Rattle.base_core.proofs.SetLemmas.{In, In-in_order, in_order_of_sorted, in_order_of_ascending, AllAfter, Ascends}
+use Rattle.base_core.proofs.SetOperatorLemmas.{is_set-Ascends}
 use Rattle.value_core.specs.Values.{Row, Heading, row_cmp, rows_of, fits_heading}
 use Rattle.value_core.specs.Order.{row_total, row_separates}
 
@@ -99,3 +100,19 @@ rows_from_sort given sorted kept moved up filtered =
       is ∙ in_order_of_sorted row_cmp row_total row_separates (eq_by_cmp row_cmp) (λ x y. refl) given sorted moved up,
       subst (IsStrictlySortedBy row_cmp) (sym is) (IsStrictlySortedBy-dedup row_total (λ x y. refl) sorted up),
     )
+
+-- ---- rows that ascend already
+
+each_after : (x : Row) (ys : List Row) → AllAfter row_cmp x ys → AllByRecursion (λ y. row_cmp x y ≡ Less) ys
+each_after x [] h = tt
+each_after x (y ∷ ys) h = (h.0, each_after x ys h.1)
+
+sorted_from_ascending : (xs : List Row) → Ascends row_cmp xs → IsStrictlySortedBy row_cmp xs
+unfolding IsStrictlySortedBy
+sorted_from_ascending [] h = tt
+sorted_from_ascending (x ∷ xs) h = (each_after x xs h.0, sorted_from_ascending xs h.1)
+
+pub rows_from_set : (rows : List Row) → is_set row_cmp rows ≡ true → (rows ≡ rows_of rows) × IsStrictlySortedBy row_cmp rows
+rows_from_set rows h =
+    let up : Ascends row_cmp rows = (is_set-Ascends row_cmp row_total rows).0 h in
+    (sym (in_order_of_ascending row_cmp row_total row_separates rows up), sorted_from_ascending rows up)

@@ -1,0 +1,22 @@
+-- What the tests' relations and functions are.
+--     AreIntegers      all attributes are of integers
+--     last_of, fault_by_size      what the tests' functions give of a group
+use Rattle.std.specs.Prelude.{◌≡◌, ℕ, ◌-◌, List, length, slice_index_or, [], Ok, Err}
+use Rattle.std.specs.List.{All}
+use Rattle.point_core.specs.Faults.{OrFault}
+use Rattle.point_core.specs.declared.any_type.AnyType.TheVariants.{Integer}
+use Rattle.point_core.specs.declared.fault.Code.TheVariants.{E30}
+use Rattle.value_core.specs.Values.{Name, Heading, Row}
+use Rattle.value_core.specs.declared.kind.Kind.{Kind}
+use Rattle.value_core.specs.declared.kind.Kind.TheVariants.{Point}
+
+abbrev pub AreIntegers : Heading → Type 0
+AreIntegers heading = All (λ (a : Name × Kind). a.1 ≡ Point Integer) heading
+
+-- the group's last row
+abbrev pub last_of : List Row → List ℕ → OrFault Row
+last_of rows g = Ok (slice_index_or rows (slice_index_or g (length g - 1) 0) [])
+
+-- a fault in a line that is the less, the more rows the group has
+abbrev pub fault_by_size : List ℕ → OrFault Row
+fault_by_size g = Err (record { place = record { line = 9 - length g; column = 1 }; code = E30 })
