@@ -10,7 +10,15 @@ pub loop-at-init : goal.loop-at-init
 loop-at-init c = IsFirstBest-none after_ranks (map plain c.args.values.now)
 
 pub loop-at-preserved : goal.loop-at-preserved
-loop-at-preserved c = elim c.if-is_before.branch [
-  | then-is_before w ↦ first_taken (λ v w. is_before w v) after_ranks c.args.values.now c.loop-at.at c.loop-at.best c.if-is_before.best c.index-values-at.result c.index-values-best.result c.loop-at.invariant c.loop-at-test.true c.index-values-at.is c.index-values-best.is w.best-is (sym c.is_before.ensures ∙ w.if-is_before.true)
-  | else-is_before w ↦ first_kept (λ v w. is_before w v) after_ranks c.args.values.now c.loop-at.at c.loop-at.best c.if-is_before.best c.index-values-at.result c.index-values-best.result c.loop-at.invariant c.loop-at-test.true c.index-values-at.is c.index-values-best.is w.best-is (sym c.is_before.ensures ∙ w.if-is_before.false)
-]
+loop-at-preserved c =
+    let values = c.args.values.now in
+    let here = c.index-values-at in
+    let best = c.index-values-best in
+    elim c.if-is_before.branch [
+      | then-is_before w ↦
+          first_taken (λ v w. is_before w v) after_ranks values c.loop-at.at c.loop-at.best c.if-is_before.best here.result best.result
+          c.loop-at.invariant c.loop-at-test.true here.is best.is w.best-is (sym c.is_before.ensures ∙ w.if-is_before.true)
+      | else-is_before w ↦
+          first_kept (λ v w. is_before w v) after_ranks values c.loop-at.at c.loop-at.best c.if-is_before.best here.result best.result
+          c.loop-at.invariant c.loop-at-test.true here.is best.is w.best-is (sym c.is_before.ensures ∙ w.if-is_before.false)
+    ]
