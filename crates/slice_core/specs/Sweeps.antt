@@ -1,7 +1,10 @@
 -- The rows that are live, from cell to cell of a side.
-use Rattle.std.specs.Prelude.{◌≡◌, ℕ, ◌<◌, ◌≤◌, List, length, get_or}
+use Rattle.std.specs.Prelude.{◌≡◌, ℕ, ◌<◌, ◌≤◌, ◌↔◌, true, List, length, get_or}
+use Rattle.std.specs.List.{filter}
 use Rattle.packing_core.specs.Covering.{Among}
+use Rattle.packing_core.specs.Live.{side_has}
 use Rattle.slice_core.specs.PackedRows.{span_of}
+use Rattle.slice_core.specs.Rows.{AreRows}
 use Rattle.slice_core.specs.declared.live.Sweep.{Sweep}
 
 -- the rows with their first cells, by the cell
@@ -20,3 +23,14 @@ pub record AreOpen (boxes : List (List (ℕ × ℕ))) (side : ℕ) (rows : List 
 -- the sweep over the rows has come to the cell, or not so far
 abbrev pub IsSweep : List (List (ℕ × ℕ)) → ℕ → List ℕ → ℕ → Sweep → Type 0
 IsSweep boxes side rows cell s = AreStarts boxes side rows s.starts.items × AreOpen boxes side rows cell s.starts.items s.next s.live.items
+
+-- of any rows in order that have with `rows` those of the cell in common, `live` are those of the cell
+abbrev pub AreLive : List (List (ℕ × ℕ)) → ℕ → ℕ → List ℕ → List ℕ → Type 0
+AreLive boxes side cell rows live =
+    (a z : ℕ) (all : List ℕ) → AreRows a z all
+    → ((r : ℕ) → side_has boxes side cell r ≡ true → Among r rows ↔ Among r all)
+    → live ≡ filter (side_has boxes side cell) all
+
+-- what holds of a sweep come to the cell, for any rows in order that it sweeps over from a cell not after it
+abbrev pub ComesTo : List (List (ℕ × ℕ)) → ℕ → ℕ → Sweep → (List ℕ → Type 0) → Type 0
+ComesTo boxes side cell old P = (a z b : ℕ) (rows : List ℕ) → AreRows a z rows → b ≤ cell → IsSweep boxes side rows b old → P rows

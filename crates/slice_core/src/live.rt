@@ -1,11 +1,11 @@
 // The rows that are live, kept up to date from cell to cell of a side.
-ghost use Rattle.std.specs.Prelude.{◌≡◌, ℕ, ◌<◌, ◌≤◌, ◌↔◌, ◌⊎◌, List, length, slice_index_or, map, true, IfOk};
+ghost use Rattle.std.specs.Prelude.{◌≡◌, ℕ, ◌<◌, ◌≤◌, ◌↔◌, ◌⊎◌, List, length, slice_index_or, map, IfOk};
 ghost use Rattle.std.specs.List.{All, filter};
 ghost use Rattle.packing_core.specs.Covering.{Among};
 ghost use Rattle.packing_core.specs.Live.{side_has};
 ghost use Rattle.slice_core.specs.PackedRows.{span_of};
-ghost use Rattle.slice_core.specs.Rows.{sides_of, AreRows};
-ghost use Rattle.slice_core.specs.Sweeps.{AreStarts, IsSweep};
+ghost use Rattle.slice_core.specs.Rows.{sides_of};
+ghost use Rattle.slice_core.specs.Sweeps.{AreStarts, AreLive, ComesTo, IsSweep};
 
 use crate::inward::{IndexBox, live_at};
 use point_core::Memory;
@@ -107,7 +107,7 @@ fn in_order_at(
 ) -> Result<Vec<usize>, Memory>
     requires rows { All (λ r. r < length boxes.now) rows.now }
     requires sides { All (λ x. side < length x.sides.items) boxes.now }
-    ensures { IfOk result (λ v. (a z : ℕ) (all : List ℕ) → AreRows a z all → ((r : ℕ) → side_has (sides_of boxes.now) side cell r ≡ true → Among r rows.now ↔ Among r all) → v.items ≡ filter (side_has (sides_of boxes.now) side cell) all) }
+    ensures { IfOk result (λ v. AreLive (sides_of boxes.now) side cell rows.now v.items) }
 {
     let mut here = live_at(alloc, boxes, rows, side, cell)?;
     here.sort()?;
@@ -127,8 +127,8 @@ pub fn advance(
     requires within { sweep.next ≤ length sweep.starts.items }
     requires live { All (λ r. r < length boxes.now) sweep.live.items }
     requires sides { All (λ x. side < length x.sides.items) boxes.now }
-    ensures live { IfOk result (λ s. (a z b : ℕ) (rows : List ℕ) → AreRows a z rows → b ≤ cell → IsSweep (sides_of boxes.now) side rows b sweep → s.live.items ≡ filter (side_has (sides_of boxes.now) side cell) rows) }
-    ensures sweep { IfOk result (λ s. (a z b : ℕ) (rows : List ℕ) → AreRows a z rows → b ≤ cell → IsSweep (sides_of boxes.now) side rows b sweep → IsSweep (sides_of boxes.now) side rows cell s) }
+    ensures live { IfOk result (λ s. ComesTo (sides_of boxes.now) side cell sweep (λ rows. s.live.items ≡ filter (side_has (sides_of boxes.now) side cell) rows)) }
+    ensures sweep { IfOk result (λ s. ComesTo (sides_of boxes.now) side cell sweep (λ rows. IsSweep (sides_of boxes.now) side rows cell s)) }
 {
     let Sweep { starts, next, live } = sweep;
     let (next, rows) = begun(starts.as_slice(), next, live, cell)?;
