@@ -46,8 +46,10 @@ joined left right r s = rows_of (joined_pairs left right r s)
 abbrev pub is_joined : Heading → Heading → List Row → List Row → Row → Bool
 is_joined left right r s z =
     fits_heading (joined_heading left right) z
-    && (has row_cmp r (part_of (positions_in (joined_heading left right) left) z) && has row_cmp s (part_of (positions_in (joined_heading left right) right) z))
+    && (has row_cmp r (part_of (positions_in (joined_heading left right) left) z)
+    && has row_cmp s (part_of (positions_in (joined_heading left right) right) z))
 
 -- each row of the one with each row of the other whose part is the same, by the values at places among those of both
 abbrev pub paired : List ℕ → List ℕ → List ℕ → List Row → List Row → List Row
-paired here there places r s = flat_map (λ x. map (λ y. part_of places (x ++ y)) (filter (λ y. eq_by_cmp row_cmp (part_of here x) (part_of there y)) s)) r
+paired here there places r s =
+    flat_map (λ x. map (λ y. part_of places (x ++ y)) (filter (λ y. eq_by_cmp row_cmp (part_of here x) (part_of there y)) s)) r

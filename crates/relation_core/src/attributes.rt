@@ -39,7 +39,8 @@ fn append_new(
     more: &[(Name, Kind)],
     known: &[(Name, Kind)],
 ) -> Result<(), Memory>
-    ensures { OnOk result (list.new.items ≡ list.old.items ++ filter (λ (a : PlainName × PlainKind). not (has_name known.now a.0)) more.now) }
+    ensures { OnOk result
+        (list.new.items ≡ list.old.items ++ filter (λ (a : PlainName × PlainKind). not (has_name known.now a.0)) more.now) }
 {
     for attribute in more {
         if !has_name(known, &attribute.0) {

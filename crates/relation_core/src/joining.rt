@@ -17,9 +17,11 @@ pub fn join(alloc: Global, left: &Relation, right: &Relation) -> Result<Relation
     requires kinds { HaveEqualKinds left.now.heading right.now.heading }
     requires few { length (joined_heading left.now.heading right.now.heading) ≤ 16 }
     ensures rows { MatchResult result
-        (IsAnswer (joined_heading left.now.heading right.now.heading) (joined left.now.heading right.now.heading left.now.rows right.now.rows))
+        (IsAnswer (joined_heading left.now.heading right.now.heading)
+        (joined left.now.heading right.now.heading left.now.rows right.now.rows))
         (IsRefusal (joined left.now.heading right.now.heading left.now.rows right.now.rows)) }
-    ensures members { (z : PlainRow) → has row_cmp (joined left.now.heading right.now.heading left.now.rows right.now.rows) z
+    ensures members { (z : PlainRow) →
+        has row_cmp (joined left.now.heading right.now.heading left.now.rows right.now.rows) z
         ≡ is_joined left.now.heading right.now.heading left.now.rows right.now.rows z }
 {
     let heading = joined_heading(alloc, left.heading(), right.heading())?;

@@ -57,7 +57,8 @@ pub(crate) fn numbers_with(
     key: &Row,
 ) -> Result<Vec<usize>, Memory>
     requires { IsSortedByKey (λ (entry : PlainRow × ℕ). entry.0) row_cmp index.now }
-    ensures { IfOk result (λ numbers. numbers.items ≡ map (λ (entry : PlainRow × ℕ). entry.1) (filter (has_key key.now) index.now)) }
+    ensures { IfOk result
+        (λ numbers. numbers.items ≡ map (λ (entry : PlainRow × ℕ). entry.1) (filter (has_key key.now) index.now)) }
 {
     let entries = run(index, key);
     let mut numbers = Vec::with_capacity(alloc, entries.len())?;

@@ -91,7 +91,8 @@ fn add_pairs(
 ) -> Result<(), Memory>
     requires numbers { All (λ (i : ℕ). i < length others.now) numbers.now }
     requires places { All (λ (y : PlainRow). All (λ (i : ℕ). i < length x.now + length y) places.now) others.now }
-    ensures { OnOk result (rows.new.items ≡ rows.old.items ++ map (λ i. part_of places.now (x.now ++ slice_index_or others.now i [])) numbers.now) }
+    ensures { OnOk result (rows.new.items ≡ rows.old.items
+        ++ map (λ i. part_of places.now (x.now ++ slice_index_or others.now i [])) numbers.now) }
 {
     for number in numbers {
         rows.push(pair(alloc, x, &others[*number], places)?)?;

@@ -27,8 +27,10 @@ pub fn summarize<F: Fn(&[usize]) -> Result<Row, Stop>>(
     ghost means: { List ℕ → OrFault PlainRow }
     requires within { All (λ (i : ℕ). i < length r.now.heading) by.now }
     requires callable { (g : _) → Contains (groups by.now r.now.rows) g.now → F.pre f.now g }
-    requires answers { (g : List ℕ) (y : Result PlainRow _) → Contains (groups by.now r.now.rows) g → FnReturnsAt F.Fn f.now g y → Answers y (means g) }
-    requires fitting { (g : List ℕ) (y : PlainRow) → Contains (groups by.now r.now.rows) g → means g ≡ Ok y → IsTrue (fits_heading heading y) }
+    requires answers { (g : List ℕ) (y : Result PlainRow _) → Contains (groups by.now r.now.rows) g
+        → FnReturnsAt F.Fn f.now g y → Answers y (means g) }
+    requires fitting { (g : List ℕ) (y : PlainRow) → Contains (groups by.now r.now.rows) g
+        → means g ≡ Ok y → IsTrue (fits_heading heading y) }
     ensures { Answers result (under heading (summarized by.now means r.now.rows)) }
 {
     let keys = sorted_parts(alloc, r, by)?;
