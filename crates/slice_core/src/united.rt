@@ -5,7 +5,7 @@ ghost use Rattle.std.specs.List.Sorted.{IsStrictlySortedBy};
 ghost use Rattle.packing_core.specs.Covering.{Among};
 ghost use Rattle.slice_core.specs.PackedRows.{IsUnitedRow, bare, span_of, cuts_of, alone};
 ghost use Rattle.slice_core.specs.Rows.{sides_of, key_cmp, no_sides, AreRows};
-ghost use Rattle.slice_core.specs.declared.bare.Bare.{Bare as Any};
+ghost use Rattle.slice_core.specs.declared.bare.Bare.{Bare as AnyBare};
 
 use crate::bare::Bare;
 use crate::inward::{IndexBox, push_pieces, with_sides};
@@ -106,7 +106,7 @@ fn cuts_at(
 fn on_one_side(alloc: Global, boxes: &[IndexBox], live: &[usize]) -> Result<Vec<Key<Bare>>, Memory>
     requires rows { All (λ r. r < length boxes.now) live.now }
     requires sides { All (λ x. 0 < length x.sides.items) boxes.now }
-    ensures rows { IfOk result (λ v. (x : Any × List (ℕ × ℕ)) → Among x v.items ↔ (length x.1 ≡ 1) × IsUnitedRow 1 (sides_of boxes.now) live.now x) }
+    ensures rows { IfOk result (λ v. (x : AnyBare × List (ℕ × ℕ)) → Among x v.items ↔ (length x.1 ≡ 1) × IsUnitedRow 1 (sides_of boxes.now) live.now x) }
     ensures sorted { IfOk result (λ v. IsStrictlySortedBy (key_cmp ⟦<Bare as Label>⟧.order) v.items) }
 {
     let pieces = first_spans(alloc, boxes, live)?;
@@ -124,7 +124,7 @@ pub fn united(
 ) -> Result<Vec<Key<Bare>>, Memory>
     requires rows { AreRows 0 (length boxes.now) live.now }
     requires sides { All (λ x. sides ≤ length x.sides.items) boxes.now }
-    ensures rows { IfOk result (λ v. (x : Any × List (ℕ × ℕ)) → Among x v.items ↔ (length x.1 ≡ sides) × IsUnitedRow sides (sides_of boxes.now) live.now x) }
+    ensures rows { IfOk result (λ v. (x : AnyBare × List (ℕ × ℕ)) → Among x v.items ↔ (length x.1 ≡ sides) × IsUnitedRow sides (sides_of boxes.now) live.now x) }
     ensures sorted { IfOk result (λ v. IsStrictlySortedBy (key_cmp ⟦<Bare as Label>⟧.order) v.items) }
 {
     if live.is_empty() {
