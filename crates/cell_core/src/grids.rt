@@ -105,7 +105,6 @@ fn one_side<T: PointType, L: Ledger>(
     side: usize,
     steps: &mut Steps<L>,
 ) -> Result<Side<T>, Memory>
-    requires few { length left.now + length right.now < 2 ^ 61 }
     requires left { All (λ s. side < length s) left.now }
     requires right { All (λ s. side < length s) right.now }
     requires left_begins { All (λ s. (d : T.Point × T.Point) → T.IsPoint t.now (get_or s side d).0) left.now }
@@ -130,7 +129,6 @@ pub fn all_sides<T: PointType, L: Ledger>(
     right: &[Sides<T>],
     steps: &mut Steps<L>,
 ) -> Result<Vec<Side<T>>, Memory>
-    requires few { length left.now + length right.now < 2 ^ 61 }
     requires left { All (λ s. length s ≡ length types.now) left.now }
     requires right { All (λ s. length s ≡ length types.now) right.now }
     requires left_points { All (λ s. (j : ℕ) (t : T) (d : T.Point × T.Point) → j < length types.now → T.IsPoint (slice_index_or types.now j t) (get_or s j d).0 × T.IsPoint (slice_index_or types.now j t) (get_or s j d).1) left.now }

@@ -28,7 +28,6 @@ fn packed_keys<T: PointType, P: Label, L: Ledger>(
     rows: &[BoxRow<T, P>],
     steps: &mut Steps<L>,
 ) -> Result<Found<T, P>, Memory>
-    requires few { length rows.now < 2 ^ 61 }
     requires rows { All (λ r. IsBox T.IsPoint types.now r.1) rows.now }
     ensures length { IfOk result (λ v. length v.sides.items ≡ length types.now) }
     ensures tables { IfOk result (λ v. (j : ℕ) (t : T) (d : T.Point × T.Point) (e : List T.Point × List T.Point × List (ℕ × ℕ)) → j < length types.now → IsSide T.number_of (T.IsPoint (slice_index_or types.now j t)) (T.last_number (slice_index_or types.now j t)) (map (side_of j d) (map (λ r. r.1) rows.now)) (get_or v.sides.items j e)) }
@@ -91,7 +90,6 @@ pub fn is_packed<T: PointType, P: Label, L: Ledger>(
     rows: &[BoxRow<T, P>],
     steps: &mut Steps<L>,
 ) -> Result<bool, Memory>
-    requires few { length rows.now < 2 ^ 61 }
     requires rows { All (λ r. IsBox T.IsPoint types.now r.1) rows.now }
     ensures answer { IfOk result (λ b. IsTrue b ↔ (in_order (boxed_cmp P.order) (map (row_numbers T.number_of) rows.now) ≡ packed_boxes P.order (length types.now) (map (row_numbers T.number_of) rows.now))) }
     ensures cost { steps.new ≤ steps.old + bound (length rows.now) (length types.now) }

@@ -55,7 +55,6 @@ pub fn pack<T: PointType, P: Label, L: Ledger>(
     limit: usize,
     steps: &mut Steps<L>,
 ) -> Result<Vec<BoxRow<T, P>>, CellRefuse>
-    requires few { length rows.now < 2 ^ 61 }
     requires rows { All (λ r. IsBox T.IsPoint types.now r.1) rows.now }
     ensures rows { IfOk result (λ v. map (row_numbers T.number_of) v.items ≡ packed_boxes P.order (length types.now) (map (row_numbers T.number_of) rows.now)) }
     ensures boxes { IfOk result (λ v. All (λ r. IsBox T.IsPoint types.now r.1) v.items) }

@@ -24,7 +24,6 @@ pub fn within_points<T: PointType, P: Label, L: Ledger>(
     right: &[BoxRow<T, P>],
     steps: &mut Steps<L>,
 ) -> Result<bool, Memory>
-    requires few { length left.now + length right.now < 2 ^ 61 }
     requires left { All (λ r. IsBox T.IsPoint types.now r.1) left.now }
     requires right { All (λ r. IsBox T.IsPoint types.now r.1) right.now }
     ensures answer { IfOk result (λ b. b ≡ is_within (boxed_cmp P.order) (unpacked_boxes P.order (length types.now) (map (row_numbers T.number_of) left.now)) (unpacked_boxes P.order (length types.now) (map (row_numbers T.number_of) right.now))) }
@@ -51,7 +50,6 @@ pub fn same_points<T: PointType, P: Label, L: Ledger>(
     right: &[BoxRow<T, P>],
     steps: &mut Steps<L>,
 ) -> Result<bool, Memory>
-    requires few { length left.now + length right.now < 2 ^ 61 }
     requires left { All (λ r. IsBox T.IsPoint types.now r.1) left.now }
     requires right { All (λ r. IsBox T.IsPoint types.now r.1) right.now }
     ensures answer { IfOk result (λ b. b ≡ are_same (boxed_cmp P.order) (unpacked_boxes P.order (length types.now) (map (row_numbers T.number_of) left.now)) (unpacked_boxes P.order (length types.now) (map (row_numbers T.number_of) right.now))) }

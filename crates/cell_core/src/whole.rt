@@ -39,7 +39,6 @@ pub fn find_rows<T: PointType, O: CellOp, L: Ledger>(
     op: &O,
     steps: &mut Steps<L>,
 ) -> Result<Found<T, O::Out>, Memory>
-    requires few { length left.now + length right.now < 2 ^ 61 }
     requires left { All (λ s. length s ≡ length types.now) left.now }
     requires right { All (λ s. length s ≡ length types.now) right.now }
     requires left_points { All (λ s. (j : ℕ) (t : T) (d : T.Point × T.Point) → j < length types.now → T.IsPoint (slice_index_or types.now j t) (get_or s j d).0 × T.IsPoint (slice_index_or types.now j t) (get_or s j d).1) left.now }
@@ -171,7 +170,6 @@ pub fn combine<T: PointType, O: CellOp, L: Ledger>(
     limit: usize,
     steps: &mut Steps<L>,
 ) -> Result<Vec<BoxRow<T, O::Out>>, CellRefuse>
-    requires few { length left.now + length right.now < 2 ^ 61 }
     requires left { All (IsBox T.IsPoint types.now) left.now }
     requires right { All (IsBox T.IsPoint types.now) right.now }
     requires can { (a b : List ℕ) → AreRows 0 (length left.now) a → AreRows 0 (length right.now) b → O.CanApply op.now a b }
@@ -203,7 +201,6 @@ pub fn gives_some<T: PointType, O: CellOp, L: Ledger>(
     op: &O,
     steps: &mut Steps<L>,
 ) -> Result<bool, Memory>
-    requires few { length left.now + length right.now < 2 ^ 61 }
     requires left { All (IsBox T.IsPoint types.now) left.now }
     requires right { All (IsBox T.IsPoint types.now) right.now }
     requires can { (a b : List ℕ) → AreRows 0 (length left.now) a → AreRows 0 (length right.now) b → O.CanApply op.now a b }
