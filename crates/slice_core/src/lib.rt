@@ -1,10 +1,12 @@
 //! Packed rows over numbered cells, from the last side inward.
 #![tactic(auto)]
 
+mod by_label;
 mod cell_op;
 mod inward;
 mod key;
 
+pub use by_label::pack_rows;
 pub use cell_op::CellOp;
 pub use inward::{IndexBox, slices};
 pub use key::Key;
