@@ -25,10 +25,6 @@ abbrev pub HasFault : {L F : Type 0} → ℕ → CellFunction L F → List (List
 HasFault k f left right e =
     (place : List ℤ) × (length place ≡ k) × ((covering left place ≢ []) ⊎ (covering right place ≢ [])) × (f (covering left place) (covering right place) ≡ Err e)
 
--- at some place some row covers it, and the function gives a label
-abbrev pub GivesSome : {L F : Type 0} → CellFunction L F → List (List Span) → List (List Span) → Type 0
-GivesSome {L = L} f left right = (l : L) × (place : List ℤ) × InCells f left right l place
-
 -- the list has just the packed rows, each once and in order; so there is one such list
 pub record IsPackedForm {L F : Type 0} (order : L → L → Ordering) (k : ℕ) (f : CellFunction L F) (left right : List (List Span)) (rows : List (L × List Span)) : Type 0 where
   pub sorted : IsStrictlySortedBy (boxed_cmp order) rows
@@ -42,6 +38,11 @@ rows_from a (suc n) = a ∷ rows_from (suc a) n
 -- a row's cells on each side
 abbrev pub cells_at : {P : Type 0} → ℕ → P × P × List (ℕ × ℕ) → ℕ × ℕ
 cells_at r s = get_or s.2 r (0, 0)
+
+-- the rows over the cells that stand from the place r on in the tables of all sides
+abbrev pub keys_from : {L X P : Type 0} → ℕ → List (L × X) → List (P × P × List (ℕ × ℕ)) → List (L × List (ℕ × ℕ))
+keys_from r [] sides = []
+keys_from r (x ∷ xs) sides = (x.0, map (cells_at r) sides) ∷ keys_from (suc r) xs sides
 
 -- the ascending numbers of a list of n rows
 abbrev pub AreNumbers : ℕ → ℕ → List ℕ → Type 0

@@ -8,7 +8,7 @@ ghost use Rattle.slice_core.specs.Rows.{sides_of, AreRows, own_numbers};
 ghost use Rattle.slice_core.specs.LeastFault.{IsLeast};
 ghost use Rattle.point_core.specs.declared.fault.Fault.{Fault as AnyFault};
 ghost use Rattle.cell_core.specs.Numbering.{IsSide, IsGrid, numbers_of, span_at};
-ghost use Rattle.cell_core.specs.Cells.{rows_from, cells_at, side_of, boxes_of, IsPackedForm, HasFault, GivesSome, grids_of, grid_row, row_numbers};
+ghost use Rattle.cell_core.specs.Cells.{rows_from, cells_at, side_of, boxes_of, IsPackedForm, HasFault, grids_of, grid_row, row_numbers};
 ghost use Rattle.cell_core.specs.Boxes.{IsBox};
 ghost use Rattle.cell_core.specs.Costs.{bound, side_cost};
 ghost use Rattle.cell_core.specs.declared.boxes.CellRefuse.TheVariants.{Op as OfOp, Limit as OfLimit};
@@ -135,7 +135,7 @@ fn row_of_cells<T: PointType, P: Drop>(
 }
 
 // The rows of intervals of rows over cells.
-fn back<T: PointType, P: Drop>(
+pub fn back<T: PointType, P: Drop>(
     alloc: Global,
     types: &[T],
     sides: &[Side<T>],
@@ -190,23 +190,4 @@ pub fn combine<T: PointType, O: CellOp, L: Ledger>(
     }
     let answer = back(alloc, types, sides.as_slice(), rows)?;
     Ok(answer)
-}
-
-/// Whether the operator gives a label at some point that a row covers; a fault gives none.
-pub fn gives_some<T: PointType, O: CellOp, L: Ledger>(
-    alloc: Global,
-    types: &[T],
-    left: &[Sides<T>],
-    right: &[Sides<T>],
-    op: &O,
-    steps: &mut Steps<L>,
-) -> Result<bool, Memory>
-    requires left { All (IsBox T.IsPoint types.now) left.now }
-    requires right { All (IsBox T.IsPoint types.now) right.now }
-    requires can { (a b : List ℕ) → AreRows 0 (length left.now) a → AreRows 0 (length right.now) b → O.CanApply op.now a b }
-    ensures answer { IfOk result (λ b. IsTrue b ↔ GivesSome (O.means op.now) (boxes_of T.number_of left.now) (boxes_of T.number_of right.now)) }
-    ensures cost { steps.new ≤ steps.old + (bound (length left.now + length right.now) (length types.now) - length types.now * (length left.now + length right.now)) }
-{
-    let found = find_rows(alloc, types, left, right, op, steps)?;
-    Ok(!found.rows.is_empty())
 }
