@@ -1,5 +1,5 @@
 -- A slice of the live rows is what the live rows give at its cell.
-use Rattle.std.proofs.Common.{◌≡◌, ℕ, zero, suc, ◌+◌, ◌<◌, Bool, true, false, cond, ◌&&◌, ◌≢◌, List, [], ◌∷◌, ◌++◌, length, get_or, ◌↔◌, ◌⊎◌, inl, inr, arith, sym, ap, subst, refl, ◌∙◌, Ordering}
+use Rattle.std.proofs.Common.{◌≡◌, ℕ, zero, suc, ◌+◌, ◌<◌, ◌≤◌, Bool, true, false, cond, ◌&&◌, ◌≢◌, List, [], ◌∷◌, ◌++◌, length, get_or, ◌↔◌, ◌⊎◌, inl, inr, arith, sym, ap, subst, refl, ◌∙◌, Ordering}
 use Rattle.std.specs.Cmp.{IsTotalOrder}
 use Rattle.std.specs.List.{filter, AllByRecursion}
 use Rattle.packing_core.specs.Packed.{IsIndexRun, IsIndexPackedTo, no_cells}
@@ -41,9 +41,9 @@ filter_twice t u (x ∷ xs) =
     no_both false = refl
 
 module _ {P : Type 0} (f : P → List ℕ → List ℕ → Type 0) (boxes : List (List (ℕ × ℕ))) (k : ℕ) where
-  -- the row has k sides
+  -- the row has k sides at least
   abbrev pub HasSides : ℕ → Type 0
-  HasSides r = length (box boxes r) ≡ k
+  HasSides r = k ≤ length (box boxes r)
 
   pub live_last : (live : List ℕ) (place : List ℕ) (i : ℕ) → AllByRecursion HasSides live → length place < k → filter (λ r. has_place (box boxes r) (place ++ i ∷ [])) live ≡ filter (λ r. has_place (box boxes r) place) (filter (side_has boxes (length place) i) live)
   live_last live place i a h =

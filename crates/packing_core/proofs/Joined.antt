@@ -5,6 +5,7 @@ use Rattle.std.specs.Cmp.{IsTotalOrder}
 use Rattle.std.specs.List.{AllByRecursion}
 use Rattle.std.proofs.lemmas.Bool.{cases_lt}
 use Rattle.std.proofs.lemmas.Cmp.{tied_back, alike_right}
+use Rattle.packing_core.specs.Covering.{Among}
 use Rattle.packing_core.specs.Packed.{IsIndexRun}
 use Rattle.packing_core.specs.declared.Piece.{Piece}
 use Rattle.packing_core.specs.Pieces.{CoversOne, Covers, HasPiece, Apart, AreApart, NotAfter, AllNotAfter, Meets}
@@ -41,12 +42,6 @@ IsIndexRun-one P a z b w p r s f g h k =
     let y' = last_of_runs P b w a z p s r k f in
     (omega arith, omega arith)
 
--- x is one of the list
-abbrev pub Among : {X : Type 0} → X → List X → Type 0
-Among x [] = ⊥
-Among x (y ∷ ys) = (y ≡ x) ⊎ Among x ys
-
--- a key, the first cell, and the one after the last
 -- l, with x gone into it
 abbrev pub joined : {K : Type 0} → Piece K → Piece K → Piece K
 joined l x = record { key = l.key; begin = l.begin; end = max l.end x.end }

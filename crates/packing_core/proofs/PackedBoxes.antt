@@ -1,7 +1,7 @@
 -- What is in unpacked and in packed lists of labelled boxes.
-use Rattle.std.proofs.Common.{◌≡◌, ℕ, zero, suc, ◌+◌, ◌-◌, ◌<◌, ◌≤◌, Bool, true, false, cond, not, ◌&&◌, ℤ, pos, ◌+ℤ◌, ◌-ℤ◌, ◌≤ℤ◌, List, [], ◌∷◌, ◌++◌, length, get_or, set, map, ◌↔◌, ◌⊎◌, inl, inr, arith, sym, ap, subst, refl, ◌∙◌, Ordering}
+use Rattle.std.proofs.Common.{◌≡◌, ℕ, zero, suc, ◌+◌, ◌<◌, ◌≤◌, Bool, true, false, not, ◌&&◌, ℤ, pos, ◌+ℤ◌, ◌-ℤ◌, ◌≤ℤ◌, List, [], ◌∷◌, ◌++◌, length, get_or, set, map, ◌↔◌, inl, inr, arith, sym, ap, subst, refl, ◌∙◌, Ordering}
 use Rattle.std.specs.declared.cmp.Ordering.TheVariants.{Less, Equal, Greater}
-use Rattle.std.proofs.lemmas.Int.{ints, by_lt_z}
+use Rattle.std.proofs.lemmas.Int.{ints}
 use Rattle.std.specs.Int.RustNames.{int_le}
 use Rattle.std.proofs.Math.ListN.{length-set}
 use Rattle.std.proofs.lemmas.Bool.{and_parts, and_from, or_cases, or_left, or_right, true≢false}
@@ -15,7 +15,7 @@ use Rattle.interval_core.specs.Members.{Span, at_point, members}
 use Rattle.interval_core.specs.Packing.{Side, unpack1, unpack, pack1, pack_each, pack, is_longest, has_at, spanned}
 use Rattle.packing_core.specs.Packed.{IsRun, nowhere, ArePoints, firsts, points_of, Has, packs}
 use Rattle.packing_core.specs.Covering.{Among}
-use Rattle.packing_core.specs.Boxed.{Boxed, side, sides_from, boxed_cmp, unpacked_boxes, packed_boxes, InBoxes}
+use Rattle.packing_core.specs.Boxed.{Boxed, side, sides_from, InBoxes}
 use Rattle.packing_core.proofs.Runs.{IsRun-iff}
 use Rattle.packing_core.proofs.AmongLemmas.{among_map, among_flat, among_filter, among_members, all_among}
 
@@ -101,7 +101,7 @@ all_from (i ∷ is) [] a h = absurd h
 all_from [] (k ∷ ks) a h = absurd h
 all_from (i ∷ is) (k ∷ ks) a h = ((a.0, h.0, h.1), all_from is ks a.1 h.2)
 
-packs-iff : (n k : ℕ) (r r' : List Span → Type 0) → ((y : List Span) → length y ≡ n → r y ↔ r' y) → (y : List Span) → length y ≡ n → packs k r y → packs k r' y
+pub packs-iff : (n k : ℕ) (r r' : List Span → Type 0) → ((y : List Span) → length y ≡ n → r y ↔ r' y) → (y : List Span) → length y ≡ n → packs k r y → packs k r' y
 packs-iff n zero r r' e y l h = (e y l).0 h
 packs-iff n (suc k) r r' e y l h =
     IsRun-iff _ _ (λ p.

@@ -1,5 +1,5 @@
 -- Labelled boxes as rows, unpacked and packed on their sides. A box is one interval for each side.
-use Rattle.std.specs.Prelude.{◌≡◌, ℕ, zero, suc, List, [], ◌∷◌, get_or, set, ℤ}
+use Rattle.std.specs.Prelude.{ℕ, zero, suc, List, [], ◌∷◌, get_or, set, ℤ}
 use Rattle.std.specs.declared.cmp.Ordering.{Ordering}
 use Rattle.std.specs.Ordering.{int_cmp, ordering_then}
 use Rattle.std.specs.Cmp.Lexicographic.{slice_cmp}

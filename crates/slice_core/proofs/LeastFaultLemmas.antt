@@ -6,7 +6,8 @@ use Rattle.std.proofs.lemmas.Cmp.{tied_itself, alike_right}
 use Rattle.std.specs.Prelude.{if◌then◌else◌}
 use Rattle.std.specs.Ordering.{ordering_reverse, is_lt, ord_min}
 use Rattle.point_core.specs.declared.fault.Fault.{Fault}
-use Rattle.slice_core.specs.LeastFault.{fault_order, fault_total, IsLeast}
+use Rattle.point_core.specs.Orders.{fault_order}
+use Rattle.slice_core.specs.LeastFault.{fault_total, IsLeast}
 
 module _ {X : Type 0} (R : X → X → Ordering) (o : IsTotalOrder R) where
   pub not_after_itself : (x : X) → R x x ≢ Greater

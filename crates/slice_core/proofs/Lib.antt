@@ -1,3 +1,7 @@
 pub mod Steps
 pub mod Turns
 pub mod LeastFaultLemmas
+pub mod UnitedLemmas
+pub mod LabelRows
+pub mod Sweeping
+pub mod PackedOnGrid

@@ -1,5 +1,5 @@
 -- The steps of the recursion over slices.
-use Rattle.std.proofs.Common.{◌≡◌, ℕ, zero, suc, ◌+◌, ◌<◌, ◌≤◌, List, [], ◌∷◌, ◌++◌, map, length, ◌↔◌, ◌⊎◌, inl, inr, arith, sym, ap, subst, refl, ◌∙◌, Ordering, Result, Ok, Err}
+use Rattle.std.proofs.Common.{◌≡◌, ℕ, zero, suc, ◌<◌, ◌≤◌, List, [], ◌∷◌, ◌++◌, map, length, ◌↔◌, ◌⊎◌, inl, inr, arith, sym, ap, subst, refl, ◌∙◌, Ordering, Result, Ok, Err}
 use Rattle.std.specs.declared.cmp.Ordering.TheVariants.{Less, Equal, Greater}
 use Rattle.std.specs.Cmp.{IsTotalOrder}
 use Rattle.std.specs.Cmp.Lexicographic.{slice_cmp}
@@ -66,7 +66,7 @@ length_more (x ∷ xs) v = ap suc (length_more xs v)
 -- ---- pieces
 
 module _ {K : Type 0} (R : K → K → Ordering) (o : IsTotalOrder R) (one : (a b : K) → R a b ≡ Equal → a ≡ b) where
-  covers_append : (xs ys : List (Piece K)) (k : K) (i : ℕ) → Covers R (xs ++ ys) k i ↔ Covers R xs k i ⊎ Covers R ys k i
+  pub covers_append : (xs ys : List (Piece K)) (k : K) (i : ℕ) → Covers R (xs ++ ys) k i ↔ Covers R xs k i ⊎ Covers R ys k i
   covers_append [] ys k i = (λ h. inr h, λ h. elim h [ inl w ↦ absurd w | inr w ↦ w ])
   covers_append (x ∷ xs) ys k i =
       let ih = covers_append xs ys k i in (
@@ -74,20 +74,20 @@ module _ {K : Type 0} (R : K → K → Ordering) (o : IsTotalOrder R) (one : (a 
         λ h. elim h [ inl w ↦ elim w [ inl v ↦ inl v | inr v ↦ inr (ih.1 (inl v)) ] | inr w ↦ inr (ih.1 (inr w)) ],
       )
 
-  covers_tags : (cell : ℕ) (rows : List K) (k : K) (i : ℕ) → Covers R (map (tag cell) rows) k i ↔ (i ≡ cell) × Among k rows
-  covers_tags cell [] k i = (λ h. absurd h, λ h. absurd h.1)
-  covers_tags cell (r ∷ rs) k i =
-      let ih = covers_tags cell rs k i in (
-        λ h. elim h [ inl w ↦ (omega (arith, w.1, w.2), inl (one r k w.0)) | inr w ↦ let v = ih.0 w in (v.0, inr v.1) ],
-        λ h. elim h.1 [ inl w ↦ inl (subst (λ q. R r q ≡ Equal) w (tied_itself o r), omega (arith, h.0), omega (arith, h.0)) | inr w ↦ inr (ih.1 (h.0, w)) ],
+  covers_tags : (a z : ℕ) (rows : List K) (k : K) (i : ℕ) → Covers R (map (tag a z) rows) k i ↔ ((a ≤ i) × (i < z)) × Among k rows
+  covers_tags a z [] k i = (λ h. absurd h, λ h. absurd h.1)
+  covers_tags a z (r ∷ rs) k i =
+      let ih = covers_tags a z rs k i in (
+        λ h. elim h [ inl w ↦ ((w.1, w.2), inl (one r k w.0)) | inr w ↦ let v = ih.0 w in (v.0, inr v.1) ],
+        λ h. elim h.1 [ inl w ↦ inl (subst (λ q. R r q ≡ Equal) w (tied_itself o r), h.0.0, h.0.1) | inr w ↦ inr (ih.1 (h.0, w)) ],
       )
 
-  pub covers_tagged : (old new : List (Piece K)) (cell : ℕ) (rows : List K) → new ≡ old ++ map (tag cell) rows → (k : K) (i : ℕ) → Covers R new k i ↔ Covers R old k i ⊎ ((i ≡ cell) × Among k rows)
-  covers_tagged old new cell rows e k i =
-      let a : Covers R new k i ↔ Covers R old k i ⊎ Covers R (map (tag cell) rows) k i = subst (λ ps. Covers R ps k i ↔ Covers R old k i ⊎ Covers R (map (tag cell) rows) k i) (sym e) (covers_append old (map (tag cell) rows) k i) in
-      let b = covers_tags cell rows k i in (
-        λ h. elim (a.0 h) [ inl w ↦ inl w | inr w ↦ inr (b.0 w) ],
-        λ h. elim h [ inl w ↦ a.1 (inl w) | inr w ↦ a.1 (inr (b.1 w)) ],
+  pub covers_tagged : (old new : List (Piece K)) (a z : ℕ) (rows : List K) → new ≡ old ++ map (tag a z) rows → (k : K) (i : ℕ) → Covers R new k i ↔ Covers R old k i ⊎ (((a ≤ i) × (i < z)) × Among k rows)
+  covers_tagged old new a z rows e k i =
+      let c : Covers R new k i ↔ Covers R old k i ⊎ Covers R (map (tag a z) rows) k i = subst (λ ps. Covers R ps k i ↔ Covers R old k i ⊎ Covers R (map (tag a z) rows) k i) (sym e) (covers_append old (map (tag a z) rows) k i) in
+      let b = covers_tags a z rows k i in (
+        λ h. elim (c.0 h) [ inl w ↦ inl w | inr w ↦ inr (b.0 w) ],
+        λ h. elim h [ inl w ↦ c.1 (inl w) | inr w ↦ c.1 (inr (b.1 w)) ],
       )
 
   piece_by : (ps : List (Piece K)) (k : K) (a z : ℕ) → HasPiece R ps k a z → (p : Piece K) × Among p ps × (p.key ≡ k) × (p.begin ≡ a) × (p.end ≡ z)
@@ -158,19 +158,24 @@ module _ {P : Type 0} (order : P → P → Ordering) (total : IsTotalOrder order
   sorted_alone [] h = tt
   sorted_alone (l ∷ ls) h = (less_alone l ls h.0, sorted_alone ls h.1)
 
-  module _ (f : P → List ℕ → List ℕ → Type 0) (boxes : List (List (ℕ × ℕ))) (n side count : ℕ) (below : side < n) (left right : List ℕ) (all_left : AllByRecursion (HasSides f boxes n) left) (all_right : AllByRecursion (HasSides f boxes n) right) (none_left : (i : ℕ) → count ≤ i → filter (side_has boxes side i) left ≡ []) (none_right : (i : ℕ) → count ≤ i → filter (side_has boxes side i) right ≡ []) where
+  module _ (f : P → List ℕ → List ℕ → Type 0) (boxes : List (List (ℕ × ℕ))) (n side : ℕ) (below : side < n) (left right : List ℕ) (all_left : AllByRecursion (HasSides f boxes n) left) (all_right : AllByRecursion (HasSides f boxes n) right) where
     abbrev T : ℕ → Key → Type 0
     T i k = IsSliceRow side f boxes (filter (side_has boxes side i) left) (filter (side_has boxes side i) right) k.0 k.1
 
-    outside : (i : ℕ) (k : Key) → T i k → i < count
-    outside i k t =
-        elim (cases_lt i count) [
-          | inl w ↦ w
-          | inr w ↦ absurd (no_slice f boxes n side below left right all_left all_right k.0 i k.1 (none_left i w) (none_right i w) (subst (λ U. U) (sym (slice_at f boxes n side below left right all_left all_right k.0 i k.1)) t))
-        ]
+    module _ (count : ℕ) (none_left : (i : ℕ) → count ≤ i → filter (side_has boxes side i) left ≡ []) (none_right : (i : ℕ) → count ≤ i → filter (side_has boxes side i) right ≡ []) where
+      outside : (i : ℕ) (k : Key) → T i k → i < count
+      outside i k t =
+          elim (cases_lt i count) [
+            | inl w ↦ w
+            | inr w ↦ absurd (no_slice f boxes n side below left right all_left all_right k.0 i k.1 (none_left i w) (none_right i w) (subst (λ U. U) (sym (slice_at f boxes n side below left right all_left all_right k.0 i k.1)) t))
+          ]
+
+      -- what is covered below the last cell is all that is covered
+      pub covers_all : (pieces : List (Piece Key)) → ((k : Key) (i : ℕ) → Covers R pieces k i ↔ (i < count) × (length k.1 ≡ side) × T i k) → (k : Key) (i : ℕ) → Covers R pieces k i ↔ (length k.1 ≡ side) × T i k
+      covers_all pieces covers k i = let c = covers k i in (λ h. let v = c.0 h in (v.1, v.2), λ h. c.1 (outside i k h.1, h.0, h.1))
 
     module _ (pieces runs : List (Piece Key)) (out : List Key)
-        (covers : (k : Key) (i : ℕ) → Covers R pieces k i ↔ (i < count) × (length k.1 ≡ side) × T i k)
+        (covers : (k : Key) (i : ℕ) → Covers R pieces k i ↔ (length k.1 ≡ side) × T i k)
         (apart : AreApart R runs)
         (same : (k : Key) (i : ℕ) → Covers R runs k i ↔ Covers R pieces k i)
         (made : out ≡ map with_last runs) where
@@ -178,15 +183,15 @@ module _ {P : Type 0} (order : P → P → Ordering) (total : IsTotalOrder order
       slice i m z key is q =
           let a = same key i in
           let b = covers key i in (
-            λ h. subst (T i) is (b.0 (a.0 h)).2,
-            λ t. let t' : T i key = subst (T i) (sym is) t in a.1 (b.1 (outside i key t', ap (λ (k : Key). length k.1) is ∙ q, t')),
+            λ h. subst (T i) is (b.0 (a.0 h)).1,
+            λ t. let t' : T i key = subst (T i) (sym is) t in a.1 (b.1 (ap (λ (k : Key). length k.1) is ∙ q, t')),
           )
 
       give : (l : P) (y : List (ℕ × ℕ)) (v : ℕ × ℕ) → length y ≡ side → HasPiece R runs (l, y) v.0 v.1 ↔ IsSliceRow (suc side) f boxes left right l (y ++ v ∷ [])
       give l y v e = slices_give f boxes n side below left right all_left all_right R (key_total total) (λ m z key. key ≡ (m, z)) runs slice apart l y (l, y) v refl e
 
       own_length : (p : Piece Key) → Among p runs → length p.key.1 ≡ side
-      own_length p h = ((covers p.key p.begin).0 ((same p.key p.begin).0 (covers_own R (key_total total) one_key runs p apart h))).1
+      own_length p h = ((covers p.key p.begin).0 ((same p.key p.begin).0 (covers_own R (key_total total) one_key runs p apart h))).0
 
       lengths : (ps : List (Piece Key)) → ((p : Piece Key) → Among p ps → length p.key.1 ≡ side) → AllByRecursion (λ q. length q.key.1 ≡ side) ps
       lengths [] h = tt
@@ -227,21 +232,20 @@ module _ {P : Type 0} (order : P → P → Ordering) (total : IsTotalOrder order
   pub leaf_sorted : {F : Type 0} (r : Result (List P) F) (rows : List Key) → rows ≡ map no_sides (labels_of r) → ((v : List P) → r ≡ Ok v → IsStrictlySortedBy order v) → IsStrictlySortedBy R rows
   leaf_sorted r rows e h = subst (IsStrictlySortedBy R) (sym e) (sorted_alone (labels_of r) (labels_sorted r h))
 
-  -- a turn of the loop over the cells of a side
-  pub covers_step : (T : ℕ → Key → Type 0) (side cell : ℕ) (old new : List (Piece Key)) (rows : List Key) → new ≡ old ++ map (tag cell) rows
-      → ((k : Key) → Among k rows ↔ (length k.1 ≡ side) × T cell k)
-      → ((k : Key) (i : ℕ) → Covers R old k i ↔ (i < cell) × (length k.1 ≡ side) × T i k)
-      → (k : Key) (i : ℕ) → Covers R new k i ↔ (i < cell + 1) × (length k.1 ≡ side) × T i k
-  covers_step T side cell old new rows e r c k i =
-      let a = covers_tagged R (key_total total) one_key old new cell rows e k i in
-      let b = c k i in
-      let d = r k in (
-        λ h. elim (a.0 h) [
+  -- a turn of the loop over the cells of a side: the rows of the cells from a up to before z
+  pub covers_step : (T : ℕ → Key → Type 0) (side a z : ℕ) → a ≤ z → (old new : List (Piece Key)) (rows : List Key) → new ≡ old ++ map (tag a z) rows
+      → ((i : ℕ) → a ≤ i → i < z → (k : Key) → Among k rows ↔ (length k.1 ≡ side) × T i k)
+      → ((k : Key) (i : ℕ) → Covers R old k i ↔ (i < a) × (length k.1 ≡ side) × T i k)
+      → (k : Key) (i : ℕ) → Covers R new k i ↔ (i < z) × (length k.1 ≡ side) × T i k
+  covers_step T side a z az old new rows e r c k i =
+      let d = covers_tagged R (key_total total) one_key old new a z rows e k i in
+      let b = c k i in (
+        λ h. elim (d.0 h) [
           | inl w ↦ let v = b.0 w in let l = v.0 in (omega arith, v.1, v.2)
-          | inr w ↦ let v = d.0 w.1 in let q = w.0 in (omega arith, v.0, subst (λ j. T j k) (sym w.0) v.1)
+          | inr w ↦ let v = (r i w.0.0 w.0.1 k).0 w.1 in (w.0.1, v.0, v.1)
         ],
-        λ h. elim (cases_lt i cell) [
-          | inl l ↦ a.1 (inl (b.1 (l, h.1, h.2)))
-          | inr l ↦ let m = h.0 in let q : i ≡ cell = omega arith in a.1 (inr (q, d.1 (h.1, subst (λ j. T j k) q h.2)))
+        λ h. elim (cases_lt i a) [
+          | inl l ↦ d.1 (inl (b.1 (l, h.1, h.2)))
+          | inr l ↦ d.1 (inr ((l, h.0), (r i l h.0 k).1 (h.1, h.2)))
         ],
       )

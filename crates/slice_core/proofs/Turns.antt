@@ -13,7 +13,8 @@ use Rattle.packing_core.proofs.Inward.{HasSides, in_live_last, some_place}
 use Rattle.packing_core.proofs.AmongLemmas.{among_map}
 use Rattle.point_core.specs.declared.fault.Fault.{Fault}
 use Rattle.slice_core.proofs.LeastFaultLemmas.{not_after_itself, not_after_both}
-use Rattle.slice_core.specs.LeastFault.{fault_order, fault_total, IsAtMost, IsLeast}
+use Rattle.point_core.specs.Orders.{fault_order}
+use Rattle.slice_core.specs.LeastFault.{fault_total, IsAtMost, IsLeast}
 use Rattle.slice_core.specs.declared.inward.IndexBox.{IndexBox}
 use Rattle.slice_core.specs.Rows.{sides_of, no_sides, own_numbers, AreRows, labels_of, GivesLabel, GivesFault, volume}
 use Rattle.slice_core.proofs.Steps.{split_at}
@@ -78,7 +79,11 @@ none_row j f boxes left right l y a b h = let w = some_place j (InLive f boxes l
 -- ---- what the function requires, of live rows
 
 pub has_sides : {P : Type 0} (f : P → List ℕ → List ℕ → Type 0) (bs : List IndexBox) (n : ℕ) → All (λ x. length x.sides.items ≡ n) bs → (a z : ℕ) (live : List ℕ) → AreRows a z live → z ≤ length bs → AllByRecursion (HasSides f (sides_of bs) n) live
-has_sides f bs n h a z live r l = rows_all (λ y. length y ≡ n) bs (recursion_from_All (λ (x : IndexBox). length x.sides.items ≡ n) bs h) live (rows_below a z (length bs) live r l)
+has_sides f bs n h a z live r l = at_least live (rows_all (λ y. length y ≡ n) bs (recursion_from_All (λ (x : IndexBox). length x.sides.items ≡ n) bs h) live (rows_below a z (length bs) live r l))
+  where
+    at_least : (xs : List ℕ) → AllByRecursion (λ r. length (box (sides_of bs) r) ≡ n) xs → AllByRecursion (HasSides f (sides_of bs) n) xs
+    at_least [] w = tt
+    at_least (x ∷ xs) w = (omega (arith, w.0), at_least xs w.1)
 
 pub none_from : (bs : List IndexBox) (counts : List ℕ) → All (λ x. (s : ℕ) → s < length counts → (get_or x.sides.items s no_cells).1 ≤ get_or counts s 0) bs
     → (side count : ℕ) → side < length counts → get_or counts side 0 ≤ count → (a z : ℕ) (live : List ℕ) → AreRows a z live → z ≤ length bs
@@ -209,7 +214,7 @@ filter_all : {X : Type 0} (xs : List X) → filter (λ x. true) xs ≡ xs
 filter_all [] = refl
 filter_all (x ∷ xs) = ap (λ ys. x ∷ ys) (filter_all xs)
 
-live_alone : {P : Type 0} (f : P → List ℕ → List ℕ → Type 0) (boxes : List (List (ℕ × ℕ))) (left right : List ℕ) (l : P) → InLive f boxes left right l [] ≡ (((left ≢ []) ⊎ (right ≢ [])) × f l left right)
+pub live_alone : {P : Type 0} (f : P → List ℕ → List ℕ → Type 0) (boxes : List (List (ℕ × ℕ))) (left right : List ℕ) (l : P) → InLive f boxes left right l [] ≡ (((left ≢ []) ⊎ (right ≢ [])) × f l left right)
 live_alone f boxes left right l = λ t.
     let a : List ℕ = filter_all left t in
     let b : List ℕ = filter_all right t in

@@ -1,15 +1,10 @@
 -- The least of some faults.
 use Rattle.std.specs.Prelude.{◌≡◌, ◌≢◌, Option, Some, None}
-use Rattle.std.specs.declared.cmp.Ordering.{Ordering}
 use Rattle.std.specs.declared.cmp.Ordering.TheVariants.{Greater}
 use Rattle.std.specs.Cmp.{IsTotalOrder}
 use Rattle.point_core.specs.declared.fault.Fault.{Fault}
-use Rattle.point_core.specs.contracts.fault.FaultOrd.TheImpl.{cmp-value}
+use Rattle.point_core.specs.Orders.{fault_order}
 use Rattle.point_core.specs.contracts.fault.FaultOrd.TheImpl.Laws.{total-law}
-
--- by place, and then by code
-abbrev pub fault_order : Fault → Fault → Ordering
-fault_order = cmp-value.it
 
 pub fault_total : IsTotalOrder fault_order
 fault_total = total-law

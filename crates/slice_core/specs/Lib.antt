@@ -1,3 +1,4 @@
 pub mod Rows
 pub mod LeastFault
 pub mod PackedRows
+pub mod Sweeps

@@ -1,5 +1,5 @@
 -- Rows over numbered cells, and what an operator means for live rows.
-use Rattle.std.specs.Prelude.{◌≡◌, ℕ, zero, suc, ◌+◌, ◌-◌, ◌*◌, ◌<◌, ◌≤◌, List, [], ◌∷◌, ◌++◌, map, get_or, Result, Ok, Err}
+use Rattle.std.specs.Prelude.{◌≡◌, ℕ, zero, suc, ◌-◌, ◌*◌, ◌<◌, ◌≤◌, List, [], ◌∷◌, ◌++◌, map, get_or, Result, Ok, Err}
 use Rattle.std.specs.declared.cmp.Ordering.{Ordering}
 use Rattle.std.specs.Ordering.{nat_cmp, ordering_then}
 use Rattle.std.specs.Cmp.{IsTotalOrder}
@@ -26,9 +26,9 @@ pair_total = then_total (on_total (λ (p : ℕ × ℕ). p.0) nat_cmp_total) (on_
 pub key_total : {P : Type 0} {order : P → P → Ordering} → IsTotalOrder order → IsTotalOrder (key_cmp order)
 key_total {P} o = then_total (on_total (λ (k : P × List (ℕ × ℕ)). k.0) o) (on_total (λ (k : P × List (ℕ × ℕ)). k.1) (lists_total pair_total))
 
--- the key at one cell
-abbrev pub tag : {K : Type 0} → ℕ → K → Piece K
-tag i k = record { key = k; begin = i; end = i + 1 }
+-- the key at the cells from a up to before z
+abbrev pub tag : {K : Type 0} → ℕ → ℕ → K → Piece K
+tag a z k = record { key = k; begin = a; end = z }
 
 -- the piece's row, with the piece's cells as one more side
 abbrev pub with_last : {P : Type 0} → Piece (P × List (ℕ × ℕ)) → P × List (ℕ × ℕ)

@@ -1,14 +1,78 @@
 // Rows over numbered cells, packed label by label.
-ghost use Rattle.std.specs.Prelude.{◌≡◌, ℕ, ◌↔◌, length, IfOk, List};
+ghost use Rattle.std.specs.Prelude.{◌≡◌, ◌≢◌, ℕ, ◌<◌, ◌≤◌, ◌↔◌, ◌++◌, length, map, slice_index_or, IfOk, OnOk, List};
 ghost use Rattle.std.specs.List.{All};
 ghost use Rattle.std.specs.List.Sorted.{IsStrictlySortedBy};
+ghost use Rattle.std.specs.declared.cmp.Ordering.TheVariants.{Equal};
 ghost use Rattle.packing_core.specs.Covering.{Among};
-ghost use Rattle.slice_core.specs.PackedRows.{IsPackedOf};
-ghost use Rattle.slice_core.specs.Rows.{key_cmp};
+ghost use Rattle.slice_core.specs.PackedRows.{IsPackedOf, labelled};
+ghost use Rattle.slice_core.specs.Rows.{key_cmp, sides_of};
 
+use crate::bare::Bare;
+use crate::inward::IndexBox;
 use crate::key::Key;
+use crate::united::united;
 use point_core::{Label, Memory};
 use std::alloc::Global;
+
+// The labels of the rows, and their boxes.
+fn apart<P: Drop>(alloc: Global, rows: Vec<Key<P>>) -> Result<(Vec<P>, Vec<IndexBox>), Memory>
+    ensures labels { IfOk result (λ v. v.0.items ≡ map (λ x. x.0) rows.items) }
+    ensures boxes { IfOk result (λ v. sides_of v.1.items ≡ map (λ x. x.1) rows.items) }
+{
+    let mut labels = Vec::new(alloc);
+    let mut boxes = Vec::new(alloc);
+    for row in rows {
+        labels.push(row.label)?;
+        boxes.push(IndexBox { sides: row.sides })?;
+    }
+    Ok((labels, boxes))
+}
+
+// The number of the first row after `first` that has another label.
+fn label_end<P: Label>(labels: &[P], first: usize) -> usize
+    requires { first < length labels.now }
+    ensures after { first < result }
+    ensures within { result ≤ length labels.now }
+    ensures same { (j : ℕ) (d e : P) → first ≤ j → j < result → P.order (slice_index_or labels.now first d) (slice_index_or labels.now j e) ≡ Equal }
+    ensures other { (d e : P) → result < length labels.now → P.order (slice_index_or labels.now first d) (slice_index_or labels.now result e) ≢ Equal }
+{
+    let mut end = first + 1;
+    while end < labels.len() && labels[first].compare(&labels[end]).is_eq() {
+        end += 1;
+    }
+    end
+}
+
+// The numbers from `first` up to before `end`.
+fn numbers(alloc: Global, first: usize, end: usize) -> Result<Vec<usize>, Memory>
+    requires { first ≤ end }
+    ensures { IfOk result (λ v. (r : ℕ) → Among r v.items ↔ (first ≤ r) × (r < end)) }
+{
+    let mut out = Vec::new(alloc);
+    for r in first..end {
+        out.push(r)?;
+    }
+    Ok(out)
+}
+
+// The rows, each with the label.
+fn push_labelled<P: Label>(
+    alloc: Global,
+    out: &mut Vec<Key<P>>,
+    label: &P,
+    rows: Vec<Key<Bare>>,
+) -> Result<(), Memory>
+    ensures { OnOk result (out.new.items ≡ out.old.items ++ map (labelled label.now) rows.items) }
+{
+    for row in rows {
+        let own = label.copy(alloc)?;
+        out.push(Key {
+            label: own,
+            sides: row.sides,
+        })?;
+    }
+    Ok(())
+}
 
 /// The packed form of the rows as a set: on the first side, on the second, and so on; in the order of labels and then
 /// of sides.
@@ -21,6 +85,17 @@ pub fn pack_rows<P: Label>(
     ensures rows { IfOk result (λ v. (x : P × List (ℕ × ℕ)) → Among x v.items ↔ (length x.1 ≡ sides) × IsPackedOf sides rows.items x) }
     ensures sorted { IfOk result (λ v. IsStrictlySortedBy (key_cmp P.order) v.items) }
 {
-    // A stub, in whose place the body comes.
-    Err(Memory)
+    let mut sorted = rows;
+    sorted.sort()?;
+    let (labels, boxes) = apart(alloc, sorted)?;
+    let mut out = Vec::new(alloc);
+    let mut first = 0;
+    while first < labels.len() {
+        let end = label_end(labels.as_slice(), first);
+        let live = numbers(alloc, first, end)?;
+        let packed = united(alloc, sides, boxes.as_slice(), live.as_slice())?;
+        push_labelled(alloc, &mut out, &labels[first], packed)?;
+        first = end;
+    }
+    Ok(out)
 }

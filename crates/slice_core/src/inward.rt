@@ -9,6 +9,7 @@ ghost use Rattle.slice_core.specs.Rows.{sides_of, key_cmp, tag, with_last, no_si
 
 use crate::cell_op::CellOp;
 use crate::key::Key;
+use crate::live::{advance, sweep_of};
 use packing_core::{Piece, join};
 use point_core::{Fault, Memory, Steps, Stop};
 use std::alloc::Global;
@@ -27,7 +28,7 @@ fn has(span: (usize, usize), cell: usize) -> bool
 }
 
 // The live rows whose side has the cell.
-fn live_at(
+pub fn live_at(
     alloc: Global,
     boxes: &[IndexBox],
     live: &[usize],
@@ -67,20 +68,20 @@ fn are_none(left: &[usize], right: &[usize]) -> bool
     left.len() == 0 && right.len() == 0
 }
 
-// The rows of a slice, as pieces of one cell.
-fn push_pieces<P: Drop>(
+// The rows of a slice, as pieces of its cells: the first, and the one after the last.
+pub fn push_pieces<P: Drop>(
     out: &mut Vec<Piece<Key<P>>>,
     rows: Vec<Key<P>>,
-    cell: usize,
+    begin: usize,
+    end: usize,
 ) -> Result<(), Memory>
-    requires fits { cell < 2 ^ 63 }
-    ensures { OnOk result (out.new.items ≡ out.old.items ++ map (tag cell) rows.items) }
+    ensures { OnOk result (out.new.items ≡ out.old.items ++ map (tag begin end) rows.items) }
 {
     for row in rows {
         out.push(Piece {
             key: row,
-            begin: cell,
-            end: cell + 1,
+            begin,
+            end,
         })?;
     }
     Ok(())
@@ -95,7 +96,7 @@ fn with_side<P: Drop>(p: Piece<Key<P>>) -> Result<Key<P>, Memory>
 }
 
 // Each piece's row, with the piece's cells as one more side.
-fn with_sides<P: Drop>(alloc: Global, pieces: Vec<Piece<Key<P>>>) -> Result<Vec<Key<P>>, Memory>
+pub fn with_sides<P: Drop>(alloc: Global, pieces: Vec<Piece<Key<P>>>) -> Result<Vec<Key<P>>, Memory>
     ensures { IfOk result (λ v. v.items ≡ map with_last pieces.items) }
 {
     let mut out = Vec::new(alloc);
@@ -196,11 +197,15 @@ pub fn slices<O: CellOp, L: Ledger>(
     }
     let side = sides - 1;
     let mut pieces: Vec<Piece<Key<O::Out>>> = Vec::new(alloc);
+    let mut lefts = sweep_of(alloc, boxes, left, side)?;
+    let mut rights = sweep_of(alloc, boxes, right, side)?;
     for cell in 0..counts[side] {
-        let l = live_at(alloc, boxes, left, side, cell)?;
-        let r = live_at(alloc, boxes, right, side, cell)?;
-        let rows = slices(alloc, side, counts, boxes, &l, &r, split, op, least, steps)?;
-        push_pieces(&mut pieces, rows, cell)?;
+        lefts = advance(alloc, lefts, boxes, side, cell)?;
+        rights = advance(alloc, rights, boxes, side, cell)?;
+        let l = lefts.live.as_slice();
+        let r = rights.live.as_slice();
+        let rows = slices(alloc, side, counts, boxes, l, r, split, op, least, steps)?;
+        push_pieces(&mut pieces, rows, cell, cell + 1)?;
     }
     let runs = join(alloc, pieces)?;
     let rows = with_sides(alloc, runs)?;

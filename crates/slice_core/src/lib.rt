@@ -1,10 +1,13 @@
 //! Packed rows over numbered cells, from the last side inward.
 #![tactic(auto)]
 
+mod bare;
 mod by_label;
 mod cell_op;
 mod inward;
 mod key;
+mod live;
+mod united;
 
 pub use by_label::pack_rows;
 pub use cell_op::CellOp;

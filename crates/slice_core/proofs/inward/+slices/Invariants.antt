@@ -4,6 +4,7 @@ use Rattle.packing_core.specs.Pieces.{Covers}
 use Rattle.packing_core.specs.Live.{side_has, IsSliceRow, IsSomewhere}
 use Rattle.slice_core.specs.LeastFault.{IsLeast}
 use Rattle.slice_core.specs.Rows.{sides_of, key_cmp, GivesLabel, GivesFault, volume}
+use Rattle.slice_core.specs.Sweeps.{IsSweep}
 use Rattle.slice_core.proofs.inward.+slices.Given as goal
 
 abbrev pub decreases-slices : goal.decreases-slices
@@ -17,5 +18,7 @@ invariant-loop-cell g l =
       some : All (λ x. x.begin < x.end) l.pieces.items;
       covers : (k : _) (i : ℕ) → Covers (key_cmp g.O.Out.Label.order) l.pieces.items k i ↔ (i < l.cell) × (length k.1 ≡ l.side) × IsSliceRow l.side (GivesLabel m l.split) b (filter (side_has b l.side i) l.left) (filter (side_has b l.side i) l.right) k.0 k.1;
       least : IsLeast (λ e. (l.fn.least ≡ Some e) ⊎ ((i : ℕ) × (i < l.cell) × IsSomewhere l.side (GivesFault m l.split) b (filter (side_has b l.side i) l.left) (filter (side_has b l.side i) l.right) e)) l.least;
+      lefts : IsSweep b l.side l.left l.cell l.lefts;
+      rights : IsSweep b l.side l.right l.cell l.rights;
       cost : l.steps ≤ l.fn.steps + l.cell * volume l.side l.counts;
     }

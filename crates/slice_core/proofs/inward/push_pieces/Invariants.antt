@@ -6,5 +6,5 @@ abbrev pub invariant-loop-row : goal.invariant-loop-row
 invariant-loop-row g l = record {
   can : (goal.iterator-loop-row g).can_next l.row-iterator;
   ends : (goal.iterator-loop-row g).is_finite l.row-iterator;
-  items : l.out.items ≡ l.fn.out.items ++ map (tag l.cell) l.yielded;
+  items : l.out.items ≡ l.fn.out.items ++ map (tag l.begin l.end) l.yielded;
 }

@@ -1,0 +1,27 @@
+// The label of rows that have none.
+ghost use Rattle.std.proofs.Common.{refl};
+ghost use Rattle.std.specs.declared.cmp.Ordering.TheVariants.{Equal};
+
+use point_core::{Label, Memory};
+use std::alloc::Global;
+use std::cmp::Ordering;
+
+// The one label of rows that have none.
+#[derive(Drop)]
+pub struct Bare;
+
+impl Label for Bare {
+    ghost order = { λ a b. Equal };
+
+    fn compare(&self, _other: &Bare) -> Ordering {
+        Ordering::Equal
+    }
+
+    fn copy(&self, _alloc: Global) -> Result<Bare, Memory> {
+        Ok(Bare)
+    }
+
+    ghost total = { record { antisymm = λ a b. refl; trans = λ a b c h g. h; congr = λ a b c h. refl } };
+
+    ghost separates = { λ a b h. refl };
+}

@@ -1,0 +1,137 @@
+// The rows that are live, kept up to date from cell to cell of a side.
+ghost use Rattle.std.specs.Prelude.{◌≡◌, ℕ, ◌<◌, ◌≤◌, ◌↔◌, ◌⊎◌, List, length, slice_index_or, map, true, IfOk};
+ghost use Rattle.std.specs.List.{All, filter};
+ghost use Rattle.packing_core.specs.Covering.{Among};
+ghost use Rattle.packing_core.specs.Live.{side_has};
+ghost use Rattle.slice_core.specs.PackedRows.{span_of};
+ghost use Rattle.slice_core.specs.Rows.{sides_of, AreRows};
+ghost use Rattle.slice_core.specs.Sweeps.{AreStarts, IsSweep};
+
+use crate::inward::{IndexBox, live_at};
+use point_core::Memory;
+use std::alloc::Global;
+
+// A sweep over the cells of a side: the first cells of the rows with the rows, by the cell; how many of them have
+// begun; and the rows that are live.
+#[derive(Drop)]
+pub struct Sweep {
+    pub starts: Vec<(usize, usize)>,
+    pub next: usize,
+    pub live: Vec<usize>,
+}
+
+// The first cell of each row, with the row.
+fn first_cells(
+    alloc: Global,
+    boxes: &[IndexBox],
+    rows: &[usize],
+    side: usize,
+) -> Result<Vec<(usize, usize)>, Memory>
+    requires rows { All (λ r. r < length boxes.now) rows.now }
+    requires sides { All (λ x. side < length x.sides.items) boxes.now }
+    ensures { IfOk result (λ v. v.items ≡ map (λ r. ((span_of (sides_of boxes.now) side r).0, r)) rows.now) }
+{
+    let mut out = Vec::new(alloc);
+    for r in rows {
+        let span = boxes[*r].sides[side];
+        out.push((span.0, *r))?;
+    }
+    Ok(out)
+}
+
+// The same by the cell.
+fn starts_of(
+    alloc: Global,
+    boxes: &[IndexBox],
+    rows: &[usize],
+    side: usize,
+) -> Result<Vec<(usize, usize)>, Memory>
+    requires rows { All (λ r. r < length boxes.now) rows.now }
+    requires sides { All (λ x. side < length x.sides.items) boxes.now }
+    ensures { IfOk result (λ v. AreStarts (sides_of boxes.now) side rows.now v.items) }
+{
+    let mut starts = first_cells(alloc, boxes, rows, side)?;
+    starts.sort()?;
+    Ok(starts)
+}
+
+// A sweep before the first cell.
+pub fn sweep_of(
+    alloc: Global,
+    boxes: &[IndexBox],
+    rows: &[usize],
+    side: usize,
+) -> Result<Sweep, Memory>
+    requires rows { All (λ r. r < length boxes.now) rows.now }
+    requires sides { All (λ x. side < length x.sides.items) boxes.now }
+    ensures { IfOk result (λ s. IsSweep (sides_of boxes.now) side rows.now 0 s) }
+{
+    let starts = starts_of(alloc, boxes, rows, side)?;
+    Ok(Sweep {
+        starts,
+        next: 0,
+        live: Vec::new(alloc),
+    })
+}
+
+// The live rows, with those that begin by the cell, from `first` on; and how many have begun.
+fn begun(
+    starts: &[(usize, usize)],
+    first: usize,
+    live: Vec<usize>,
+    cell: usize,
+) -> Result<(usize, Vec<usize>), Memory>
+    requires { first ≤ length starts.now }
+    ensures from { IfOk result (λ v. first ≤ v.0) }
+    ensures within { IfOk result (λ v. v.0 ≤ length starts.now) }
+    ensures passed { IfOk result (λ v. (j : ℕ) → first ≤ j → j < v.0 → (slice_index_or {A = ℕ × ℕ} starts.now j (0, 0)).0 ≤ cell) }
+    ensures ahead { IfOk result (λ v. v.0 < length starts.now → cell < (slice_index_or {A = ℕ × ℕ} starts.now v.0 (0, 0)).0) }
+    ensures rows { IfOk result (λ v. (r : ℕ) → Among r v.1.items ↔ Among r live.items ⊎ ((j : ℕ) × (first ≤ j) × (j < v.0) × ((slice_index_or {A = ℕ × ℕ} starts.now j (0, 0)).1 ≡ r))) }
+{
+    let mut rows = live;
+    let mut next = first;
+    while next < starts.len() && starts[next].0 <= cell {
+        rows.push(starts[next].1)?;
+        next += 1;
+    }
+    Ok((next, rows))
+}
+
+// The rows that have the cell, in order, each once.
+fn in_order_at(
+    alloc: Global,
+    boxes: &[IndexBox],
+    rows: &[usize],
+    side: usize,
+    cell: usize,
+) -> Result<Vec<usize>, Memory>
+    requires rows { All (λ r. r < length boxes.now) rows.now }
+    requires sides { All (λ x. side < length x.sides.items) boxes.now }
+    ensures { IfOk result (λ v. (a z : ℕ) (all : List ℕ) → AreRows a z all → ((r : ℕ) → side_has (sides_of boxes.now) side cell r ≡ true → Among r rows.now ↔ Among r all) → v.items ≡ filter (side_has (sides_of boxes.now) side cell) all) }
+{
+    let mut here = live_at(alloc, boxes, rows, side, cell)?;
+    here.sort()?;
+    here.dedup();
+    Ok(here)
+}
+
+// The sweep, come to the cell.
+pub fn advance(
+    alloc: Global,
+    sweep: Sweep,
+    boxes: &[IndexBox],
+    side: usize,
+    cell: usize,
+) -> Result<Sweep, Memory>
+    requires starts { All (λ x. x.1 < length boxes.now) sweep.starts.items }
+    requires within { sweep.next ≤ length sweep.starts.items }
+    requires live { All (λ r. r < length boxes.now) sweep.live.items }
+    requires sides { All (λ x. side < length x.sides.items) boxes.now }
+    ensures live { IfOk result (λ s. (a z b : ℕ) (rows : List ℕ) → AreRows a z rows → b ≤ cell → IsSweep (sides_of boxes.now) side rows b sweep → s.live.items ≡ filter (side_has (sides_of boxes.now) side cell) rows) }
+    ensures sweep { IfOk result (λ s. (a z b : ℕ) (rows : List ℕ) → AreRows a z rows → b ≤ cell → IsSweep (sides_of boxes.now) side rows b sweep → IsSweep (sides_of boxes.now) side rows cell s) }
+{
+    let Sweep { starts, next, live } = sweep;
+    let (next, rows) = begun(starts.as_slice(), next, live, cell)?;
+    let live = in_order_at(alloc, boxes, rows.as_slice(), side, cell)?;
+    Ok(Sweep { starts, next, live })
+}
