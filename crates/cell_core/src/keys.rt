@@ -1,5 +1,6 @@
 // Rows over the numbered cells of all sides.
-ghost use Rattle.std.specs.Prelude.{◌≡◌, ℕ, ◌<◌, ◌≤◌, ◌+◌, ◌^◌, ◌++◌, List, map, length, get_or, slice_index_or, OnOk, IfOk};
+ghost use Rattle.std.specs.Prelude.{◌≡◌, ℕ, ◌<◌, ◌≤◌, ◌+◌, ◌^◌, ◌++◌, List, map, length, get_or, slice_index_or, OnOk};
+ghost use Rattle.std.specs.Prelude.{IfOk};
 ghost use Rattle.std.specs.List.{All};
 ghost use Rattle.cell_core.specs.Boxes.{IsBox};
 ghost use Rattle.cell_core.specs.Cells.{side_of, keys_from};
@@ -37,7 +38,10 @@ pub fn numbered<T: PointType, P, L: Ledger>(
     requires left { All (λ r. IsBox T.IsPoint types.now r.1) left.now }
     requires right { All (λ r. IsBox T.IsPoint types.now r.1) right.now }
     ensures length { IfOk result (λ v. length v.items ≡ length types.now) }
-    ensures sides { IfOk result (λ v. (j : ℕ) (t : T) (d : T.Point × T.Point) (e : List T.Point × List T.Point × List (ℕ × ℕ)) → j < length types.now → IsSide T.number_of (T.IsPoint (slice_index_or types.now j t)) (T.last_number (slice_index_or types.now j t)) (map (side_of j d) (map (λ r. r.1) left.now ++ map (λ r. r.1) right.now)) (get_or v.items j e)) }
+    ensures sides { IfOk result (λ v. (j : ℕ) (t : T) (d : T.Point × T.Point) (e : List T.Point × List T.Point ×
+        List (ℕ × ℕ)) → j < length types.now → IsSide T.number_of (T.IsPoint (slice_index_or types.now j t))
+        (T.last_number (slice_index_or types.now j t)) (map (side_of j d) (map (λ r. r.1) left.now ++ map (λ r. r.1)
+        right.now)) (get_or v.items j e)) }
     ensures cost { steps.new ≤ steps.old + bound (length left.now + length right.now) (length types.now) }
 {
     let l = boxes(alloc, left)?;

@@ -40,7 +40,8 @@ pub fn is_packed<T: PointType, P: Label, L: Ledger>(
     steps: &mut Steps<L>,
 ) -> Result<bool, Memory>
     requires rows { All (λ r. IsBox T.IsPoint types.now r.1) rows.now }
-    ensures answer { IfOk result (λ b. IsTrue b ↔ (in_order (boxed_cmp P.order) (map (row_numbers T.number_of) rows.now) ≡ packed_boxes P.order (length types.now) (map (row_numbers T.number_of) rows.now))) }
+    ensures answer { IfOk result (λ b. IsTrue b ↔ (in_order (boxed_cmp P.order) (map (row_numbers T.number_of)
+        rows.now) ≡ packed_boxes P.order (length types.now) (map (row_numbers T.number_of) rows.now))) }
     ensures cost { steps.new ≤ steps.old + bound (length rows.now) (length types.now) }
 {
     let none: Vec<BoxRow<T, P>> = Vec::new(alloc);

@@ -24,7 +24,8 @@ pub fn packed_rows<T: PointType, P: Label, L: Ledger>(
     steps: &mut Steps<L>,
 ) -> Result<Vec<BoxRow<T, P>>, Memory>
     requires { All (λ r. IsBox T.IsPoint types.now r.1) rows.now }
-    ensures rows { IfOk result (λ v. map (row_numbers T.number_of) v.items ≡ packed_boxes P.order (length types.now) (map (row_numbers T.number_of) rows.now)) }
+    ensures rows { IfOk result (λ v. map (row_numbers T.number_of) v.items ≡
+        packed_boxes P.order (length types.now) (map (row_numbers T.number_of) rows.now)) }
     ensures boxes { IfOk result (λ v. All (λ r. IsBox T.IsPoint types.now r.1) v.items) }
     ensures cost { steps.new ≤ steps.old + bound (length rows.now) (length types.now) }
 {
@@ -49,11 +50,13 @@ pub fn pack<T: PointType, P: Label, L: Ledger>(
     steps: &mut Steps<L>,
 ) -> Result<Vec<BoxRow<T, P>>, CellRefuse>
     requires rows { All (λ r. IsBox T.IsPoint types.now r.1) rows.now }
-    ensures rows { IfOk result (λ v. map (row_numbers T.number_of) v.items ≡ packed_boxes P.order (length types.now) (map (row_numbers T.number_of) rows.now)) }
+    ensures rows { IfOk result (λ v. map (row_numbers T.number_of) v.items ≡
+        packed_boxes P.order (length types.now) (map (row_numbers T.number_of) rows.now)) }
     ensures boxes { IfOk result (λ v. All (λ r. IsBox T.IsPoint types.now r.1) v.items) }
     ensures few { IfOk result (λ v. length v.items ≤ limit) }
     ensures no_fault { (e : AnyFault) → result ≡ Err (OfOp e) → ⊥ }
-    ensures limit { result ≡ Err OfLimit → limit < length (packed_boxes P.order (length types.now) (map (row_numbers T.number_of) rows.now)) }
+    ensures limit { result ≡ Err OfLimit → limit < length (packed_boxes P.order (length types.now) (map (row_numbers
+        T.number_of) rows.now)) }
     ensures cost { steps.new ≤ steps.old + bound (length rows.now) (length types.now) }
 {
     let answer = packed_rows(alloc, types, rows, steps)?;

@@ -1,5 +1,6 @@
 // Places of boxes by their numbers, listed and counted.
-ghost use Rattle.std.specs.Prelude.{◌≡◌, pos, ◌+ℤ◌, ◌-ℤ◌, ◌≤ℤ◌, ◌-◌, ◌^◌, ◌∷◌, ◌++◌, map, flat_map, min, length, OnOk, IfOk};
+ghost use Rattle.std.specs.Prelude.{◌≡◌, pos, ◌+ℤ◌, ◌-ℤ◌, ◌≤ℤ◌, ◌-◌, ◌^◌, ◌∷◌, ◌++◌, map, flat_map, min, length, OnOk};
+ghost use Rattle.std.specs.Prelude.{IfOk};
 ghost use Rattle.std.specs.List.{All};
 ghost use Rattle.base_core.specs.Sets.{in_order as in_order_of};
 ghost use Rattle.interval_core.specs.Members.{members};
@@ -70,12 +71,7 @@ fn with_first(alloc: Global, n: i64, rest: &Numbers) -> Result<Numbers, Memory>
 }
 
 // Adds the places with n before them.
-fn push_with(
-    alloc: Global,
-    out: &mut Vec<Numbers>,
-    n: i64,
-    rest: &[Numbers],
-) -> Result<(), Memory>
+fn push_with(alloc: Global, out: &mut Vec<Numbers>, n: i64, rest: &[Numbers]) -> Result<(), Memory>
     ensures { OnOk result (out.new.items ≡ out.old.items ++ map (λ ps. n ∷ ps) rest.now) }
 {
     for ps in rest {
@@ -86,11 +82,7 @@ fn push_with(
 }
 
 // The places with each number of the span before them.
-fn with_each(
-    alloc: Global,
-    span: (i64, i64),
-    rest: &[Numbers],
-) -> Result<Vec<Numbers>, Memory>
+fn with_each(alloc: Global, span: (i64, i64), rest: &[Numbers]) -> Result<Vec<Numbers>, Memory>
     requires { span.0 ≤ℤ span.1 }
     ensures { IfOk result (λ v. v.items ≡ flat_map (λ p. map (λ ps. p ∷ ps) rest.now) (members span)) }
 {

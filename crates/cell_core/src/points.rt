@@ -26,7 +26,9 @@ pub fn within_points<T: PointType, P: Label, L: Ledger>(
 ) -> Result<bool, Memory>
     requires left { All (λ r. IsBox T.IsPoint types.now r.1) left.now }
     requires right { All (λ r. IsBox T.IsPoint types.now r.1) right.now }
-    ensures answer { IfOk result (λ b. b ≡ is_within (boxed_cmp P.order) (unpacked_boxes P.order (length types.now) (map (row_numbers T.number_of) left.now)) (unpacked_boxes P.order (length types.now) (map (row_numbers T.number_of) right.now))) }
+    ensures answer { IfOk result (λ b. b ≡ is_within (boxed_cmp P.order) (unpacked_boxes P.order (length types.now)
+        (map (row_numbers T.number_of) left.now)) (unpacked_boxes P.order (length types.now) (map (row_numbers
+        T.number_of) right.now))) }
     ensures cost { steps.new ≤ steps.old + bound (length left.now + length right.now) (length types.now) }
 {
     let sides = numbered(alloc, types, left, right, steps)?;
@@ -51,7 +53,9 @@ pub fn same_points<T: PointType, P: Label, L: Ledger>(
 ) -> Result<bool, Memory>
     requires left { All (λ r. IsBox T.IsPoint types.now r.1) left.now }
     requires right { All (λ r. IsBox T.IsPoint types.now r.1) right.now }
-    ensures answer { IfOk result (λ b. b ≡ are_same (boxed_cmp P.order) (unpacked_boxes P.order (length types.now) (map (row_numbers T.number_of) left.now)) (unpacked_boxes P.order (length types.now) (map (row_numbers T.number_of) right.now))) }
+    ensures answer { IfOk result (λ b. b ≡ are_same (boxed_cmp P.order) (unpacked_boxes P.order (length types.now)
+        (map (row_numbers T.number_of) left.now)) (unpacked_boxes P.order (length types.now) (map (row_numbers
+        T.number_of) right.now))) }
     ensures cost { steps.new ≤ steps.old + bound (length left.now + length right.now) (length types.now) }
 {
     let sides = numbered(alloc, types, left, right, steps)?;

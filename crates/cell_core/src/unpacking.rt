@@ -1,5 +1,6 @@
 // Labelled boxes unpacked: the points of their packed form, by numbers.
-ghost use Rattle.std.specs.Prelude.{◌≡◌, ℕ, ◌+◌, ◌-◌, ◌^◌, ◌<◌, ◌≤◌, ◌≤ℤ◌, List, ℤ, map, min, length, Ok, None, Err, IfOk, IfSome};
+ghost use Rattle.std.specs.Prelude.{◌≡◌, ℕ, ◌+◌, ◌-◌, ◌^◌, ◌<◌, ◌≤◌, ◌≤ℤ◌, List, ℤ, map, min, length, Ok, None, Err};
+ghost use Rattle.std.specs.Prelude.{IfOk, IfSome};
 ghost use Rattle.std.specs.List.{All};
 ghost use Rattle.interval_core.specs.Members.{HasEndsIn, at_point};
 ghost use Rattle.packing_core.specs.Boxed.{unpacked_boxes};
@@ -93,11 +94,7 @@ fn at_number<T: PointNumber>(t: &T, n: &i64) -> Interval<T>
 }
 
 // The box of one place.
-fn box_at<T: PointNumber>(
-    alloc: Global,
-    types: &[T],
-    numbers: &Numbers,
-) -> Result<Sides<T>, Memory>
+fn box_at<T: PointNumber>(alloc: Global, types: &[T], numbers: &Numbers) -> Result<Sides<T>, Memory>
     requires { IsPlaceOf T.first_number T.last_number types.now numbers.now }
     ensures numbers { IfOk result (λ v. box_numbers T.number_of v ≡ map at_point numbers.now) }
     ensures points { IfOk result (λ v. IsBox T.IsPoint types.now v) }
@@ -140,9 +137,11 @@ pub fn unpack_count<T: PointNumber, P: Label, L: Ledger>(
     steps: &mut Steps<L>,
 ) -> Result<Option<usize>, Memory>
     requires { All (λ r. IsBox T.IsPoint types.now r.1) rows.now }
-    ensures count { IfOk result (λ o. IfSome o (λ n. n ≡ length (unpacked_boxes P.order (length types.now) (map (row_numbers T.number_of) rows.now)))) }
+    ensures count { IfOk result (λ o. IfSome o (λ n. n ≡
+        length (unpacked_boxes P.order (length types.now) (map (row_numbers T.number_of) rows.now)))) }
     ensures few { IfOk result (λ o. IfSome o (λ n. n ≤ limit)) }
-    ensures many { result ≡ Ok None → limit < length (unpacked_boxes P.order (length types.now) (map (row_numbers T.number_of) rows.now)) }
+    ensures many { result ≡ Ok None → limit < length (unpacked_boxes P.order (length types.now) (map (row_numbers
+        T.number_of) rows.now)) }
     ensures cost { steps.new ≤ steps.old + bound (length rows.now) (length types.now) }
 {
     let packed = packed_rows(alloc, types, rows, steps)?;
@@ -165,11 +164,13 @@ pub fn unpack<T: PointNumber, P: Label, L: Ledger>(
     steps: &mut Steps<L>,
 ) -> Result<Vec<BoxRow<T, P>>, CellRefuse>
     requires { All (λ r. IsBox T.IsPoint types.now r.1) rows.now }
-    ensures rows { IfOk result (λ v. map (row_numbers T.number_of) v.items ≡ unpacked_boxes P.order (length types.now) (map (row_numbers T.number_of) rows.now)) }
+    ensures rows { IfOk result (λ v. map (row_numbers T.number_of) v.items ≡
+        unpacked_boxes P.order (length types.now) (map (row_numbers T.number_of) rows.now)) }
     ensures boxes { IfOk result (λ v. All (λ r. IsBox T.IsPoint types.now r.1) v.items) }
     ensures few { IfOk result (λ v. length v.items ≤ limit) }
     ensures no_fault { (e : AnyFault) → result ≡ Err (OfOp e) → ⊥ }
-    ensures limit { result ≡ Err OfLimit → limit < length (unpacked_boxes P.order (length types.now) (map (row_numbers T.number_of) rows.now)) }
+    ensures limit { result ≡ Err OfLimit → limit < length (unpacked_boxes P.order (length types.now) (map (row_numbers
+        T.number_of) rows.now)) }
     ensures cost { steps.new ≤ steps.old + bound (length rows.now) (length types.now) }
 {
     let packed = packed_rows(alloc, types, rows, steps)?;

@@ -7,11 +7,15 @@ ghost use Rattle.cell_core.specs.Boxes.{IsBox};
 ghost use Rattle.point_core.specs.Whole.{IsWhole};
 ghost use Rattle.point_core.specs.declared.int_type.IntType.{IntType as AnyIntType};
 
+mod compared;
 mod count;
+mod definition;
 mod points;
+mod small;
 mod tag;
 
 use cell_core::{BoxRow, CellRefuse, Sides, pack};
+pub use compared::{agrees, count_points};
 pub use count::counted;
 use interval_core::Interval;
 use point_core::{IntType, Memory, Steps};
@@ -115,6 +119,8 @@ pub fn packed<L: Ledger>(
 #[cfg(test)]
 mod tests {
     use super::*;
+    use point_core::OrdinalType;
+    use small::{bare, with_side};
     use std::marker::Brand;
     use std::test::Fail;
 
@@ -191,6 +197,93 @@ mod tests {
                 assert!(rt; rows[2] == plain(2, (2, 2), one));
             }
             Err(_) => assert!(rt; false),
+        }
+        Ok(())
+    }
+
+    #[test]
+    fn packs_in_the_order_of_the_sides(rt: HostRuntime) -> Result<(), Fail> {
+        let alloc = rt.alloc();
+        let corner = [
+            plain(1, (1, 1), (1, 1)),
+            plain(1, (2, 2), (1, 1)),
+            plain(1, (1, 1), (2, 2)),
+        ];
+        match packed::<Brand>(alloc, &corner, 9, Blank::new(1)) {
+            Ok(rows) => {
+                assert_eq!(rt; rows.len(), 2);
+                assert!(rt; rows[0] == plain(1, (1, 1), (2, 2)));
+                assert!(rt; rows[1] == plain(1, (1, 2), (1, 1)));
+            }
+            Err(_) => assert!(rt; false),
+        }
+        Ok(())
+    }
+
+    #[test]
+    fn counts_points_up_to_the_limit(rt: HostRuntime) -> Result<(), Fail> {
+        let alloc = rt.alloc();
+        let t = [IntType];
+        let row = bare(1);
+        let most = [with_side(row, 0, (1, 100_000))];
+        let more = [with_side(row, 0, (1, 100_001))];
+        let all = [with_side(row, 0, (i64::MIN, i64::MAX))];
+        let counted = count_points::<IntType, Brand>(alloc, &t, &most, 100_000, Blank::new(1))?;
+        assert!(rt; counted == Some(100_000));
+        let counted = count_points::<IntType, Brand>(alloc, &t, &more, 100_000, Blank::new(1))?;
+        assert!(rt; counted == None);
+        let counted = count_points::<IntType, Brand>(alloc, &t, &all, usize::MAX, Blank::new(1))?;
+        assert!(rt; counted == None);
+        Ok(())
+    }
+
+    #[test]
+    fn agrees_on_integers(rt: HostRuntime) -> Result<(), Fail> {
+        let alloc = rt.alloc();
+        let types = [IntType, IntType, IntType];
+        for seed in 0..120u64 {
+            let sides = 1 + (seed % 3) as usize;
+            let range = (-3, 9);
+            match agrees::<IntType, Brand>(alloc, &types[..sides], range, seed, Blank::new(1)) {
+                Ok(agreed) => assert!(rt; agreed),
+                Err(_) => assert!(rt; false),
+            }
+        }
+        Ok(())
+    }
+
+    #[test]
+    fn agrees_at_both_ends(rt: HostRuntime) -> Result<(), Fail> {
+        let alloc = rt.alloc();
+        let types = [IntType, IntType, IntType];
+        for seed in 0..120u64 {
+            let sides = 1 + (seed % 3) as usize;
+            let range = if seed % 4 < 2 {
+                (i64::MIN, i64::MAX)
+            } else {
+                (i64::MAX - 4, i64::MAX)
+            };
+            match agrees::<IntType, Brand>(alloc, &types[..sides], range, seed, Blank::new(1)) {
+                Ok(agreed) => assert!(rt; agreed),
+                Err(_) => assert!(rt; false),
+            }
+        }
+        Ok(())
+    }
+
+    #[test]
+    fn agrees_on_ordinals(rt: HostRuntime) -> Result<(), Fail> {
+        let alloc = rt.alloc();
+        for seed in 0..90u64 {
+            let last: u16 = if seed % 2 == 0 { 0 } else { 3 };
+            let t = OrdinalType { of: 0, last };
+            let types = [t, t, t];
+            let sides = 1 + (seed % 3) as usize;
+            let range = (0, i64::from(last));
+            match agrees::<OrdinalType, Brand>(alloc, &types[..sides], range, seed, Blank::new(1)) {
+                Ok(agreed) => assert!(rt; agreed),
+                Err(_) => assert!(rt; false),
+            }
         }
         Ok(())
     }

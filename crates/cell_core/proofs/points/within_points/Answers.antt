@@ -24,7 +24,7 @@ pub pack_rows-requires : goal.pack_rows-requires
 pack_rows-requires g c = record {
   sides = both_lengths g.row.P.Denot g.T.PointType.number_of g.T.PointType.IsPoint g.T.PointType.last_number (λ t. (g.met.T.PointType.each t (g.T.PointType.first_number t) (omega (arith, ints)) (g.met.T.PointType.nonempty t)).0) c.args.types.now c.in_ok-sides.sides.items c.args.left.now c.args.right.now c.in_ok-sides.ensures.length c.in_ok-sides.ensures.sides c.requires.left c.requires.right
       c.push_keys-2.new.out.items (c.in_ok-push_keys-2.ensures ∙ (λ i. c.in_ok-push_keys.ensures i ++ keys_from (length c.args.left.now) c.args.right.now (c.as_slice-2.ensures.value i))
-    ∙ (λ i. (c.new-all.ensures.items i ++ keys_from 0 c.args.left.now (c.as_slice.ensures.value i)) ++ keys_from (length c.args.left.now) c.args.right.now c.in_ok-sides.sides.items));
+      ∙ (λ i. (c.new-all.ensures.items i ++ keys_from 0 c.args.left.now (c.as_slice.ensures.value i)) ++ keys_from (length c.args.left.now) c.args.right.now c.in_ok-sides.sides.items));
 }
 
 pub pack_rows-requires-2 : goal.pack_rows-requires-2

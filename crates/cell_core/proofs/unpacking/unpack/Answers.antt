@@ -36,6 +36,6 @@ returns-clause-few g c =
     (unpacked_length g.P.Label.order g.met.P.Label.total g.met.P.Label.separates (length c.args.types.now) (map (row_numbers g.T.PointType.number_of) c.args.rows.now) (rows_have g.T.PointType.number_of (length c.args.types.now) c.args.rows.now (recursion_from_All (λ r. length r.1 ≡ length c.args.types.now) c.args.rows.now (λ j d l. box_length g.T.PointType.IsPoint c.args.types.now _ (c.requires j d l))))
     ∙ ap total (sym c.in_ok-packed.ensures.rows) ∙ ap (λ xs. total (map (row_numbers g.T.PointType.number_of) xs)) (sym c.as_slice.ensures.value)) c.if-sum-limit.false (let r = c.ranges.limit in omega arith) in
     let rows = c.in_ok-answer.ensures.rows ∙ ap (map point_row) (c.in_ok-set.ensures ∙ ap (in_order (placed_cmp g.P.Label.order)) (c.in_ok-list.ensures ∙ ap listing (ap (map (row_numbers g.T.PointType.number_of)) c.as_slice-2.ensures.value ∙ c.in_ok-packed.ensures.rows)))
-        ∙ unpacked_is g.P.Label.order g.met.P.Label.total g.met.P.Label.separates (length c.args.types.now) (map (row_numbers g.T.PointType.number_of) c.args.rows.now) (rows_have g.T.PointType.number_of (length c.args.types.now) c.args.rows.now (recursion_from_All (λ r. length r.1 ≡ length c.args.types.now) c.args.rows.now (λ j d l. box_length g.T.PointType.IsPoint c.args.types.now _ (c.requires j d l)))) in
+    ∙ unpacked_is g.P.Label.order g.met.P.Label.total g.met.P.Label.separates (length c.args.types.now) (map (row_numbers g.T.PointType.number_of) c.args.rows.now) (rows_have g.T.PointType.number_of (length c.args.types.now) c.args.rows.now (recursion_from_All (λ r. length r.1 ≡ length c.args.types.now) c.args.rows.now (λ j d l. box_length g.T.PointType.IsPoint c.args.types.now _ (c.requires j d l)))) in
     let l = sym (length-map c.in_ok-answer.answer.items (row_numbers g.T.PointType.number_of)) ∙ ap length rows in
     subst (λ m. m ≤ c.args.limit) (sym l) w.1
