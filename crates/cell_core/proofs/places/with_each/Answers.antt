@@ -1,4 +1,4 @@
-use Rattle.std.proofs.Common.{◌≡◌, ◌≤ℤ◌, ◌+ℤ◌, ◌-ℤ◌, pos, ◌∷◌, ◌++◌, map, w64, to_z, of_z, arith, ap, sym, ◌∙◌, to_z-of_z}
+use Rattle.std.proofs.Common.{◌≡◌, ◌+ℤ◌, ◌-ℤ◌, pos, ◌∷◌, ◌++◌, map, w64, to_z, of_z, arith, ap, sym, ◌∙◌, to_z-of_z}
 use Rattle.std.specs.List.{flat_map}
 use Rattle.std.proofs.lemmas.Int.{ints}
 use Rattle.interval_core.specs.Members.{members}

@@ -1,4 +1,4 @@
-use Rattle.std.proofs.Common.{◌≡◌, ◌<◌, ◌≤◌, ◌≤ℤ◌, ℤ, pos, ◌+◌, ◌∷◌, ◌++◌, [], suc, length, get_or, map, take, arith, subst, sym, ap, ◌∙◌, inl, inr}
+use Rattle.std.proofs.Common.{◌≡◌, ◌≤ℤ◌, pos, ◌+◌, ◌∷◌, ◌++◌, [], suc, length, get_or, map, take, arith, subst, sym, ap, ◌∙◌, inl, inr}
 use Rattle.std.proofs.lemmas.Bool.{cases_lt}
 use Rattle.std.proofs.lemmas.List.{get_or_append_left, get_or_push, length_push, get_or_read}
 use Rattle.interval_core.specs.Members.{HasEndsIn, at_point}

@@ -1,4 +1,4 @@
-use Rattle.std.proofs.Common.{◌≡◌, ◌<◌, ◌≤◌, ◌≤ℤ◌, ◌+◌, ◌∷◌, ◌++◌, [], suc, length, get_or, take, arith, subst, sym, ap, ◌∙◌}
+use Rattle.std.proofs.Common.{◌≡◌, ◌≤ℤ◌, ◌+◌, ◌∷◌, ◌++◌, [], suc, length, get_or, take, arith, subst, sym, ap, ◌∙◌}
 use Rattle.std.proofs.lemmas.List.Elements.{All-same, All-push}
 use Rattle.interval_core.specs.Members.{HasEndsIn}
 use Rattle.cell_core.specs.Cells.{box_numbers}
