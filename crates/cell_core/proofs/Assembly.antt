@@ -38,12 +38,12 @@ cut_span d [] a j e x h = absurd (omega arith)
 cut_span d (g ∷ ns) a zero e x h = refl
 cut_span d (g ∷ ns) a (suc j) e x h = cut_span d ns a.1 j e x (omega arith)
 
-cut_count : (d : Cuts) (ns : List (List ℤ × ℤ)) (a : AllByRecursion (λ g. Rises g.0 g.1) ns) (j : ℕ) (e : List ℤ × ℤ) → j < length ns → (get_or (cuts_list ns a) j d).count ≡ length (get_or ns j e).0
+pub cut_count : (d : Cuts) (ns : List (List ℤ × ℤ)) (a : AllByRecursion (λ g. Rises g.0 g.1) ns) (j : ℕ) (e : List ℤ × ℤ) → j < length ns → (get_or (cuts_list ns a) j d).count ≡ length (get_or ns j e).0
 cut_count d [] a j e h = absurd (omega arith)
 cut_count d (g ∷ ns) a zero e h = refl
 cut_count d (g ∷ ns) a (suc j) e h = cut_count d ns a.1 j e (omega arith)
 
-in_grid : (d : Cuts) (gs : List Cuts) (y : List (ℕ × ℕ)) (j : ℕ) → ((i : ℕ) → i < j → (get_or y i no_cells).1 ≤ (get_or gs i d).count) → IsInGrid (cuts_back d j gs) (cells_back j y)
+pub in_grid : (d : Cuts) (gs : List Cuts) (y : List (ℕ × ℕ)) (j : ℕ) → ((i : ℕ) → i < j → (get_or y i no_cells).1 ≤ (get_or gs i d).count) → IsInGrid (cuts_back d j gs) (cells_back j y)
 in_grid d gs y zero h = tt
 in_grid d gs y (suc j) h = (h j (omega arith), in_grid d gs y j (λ i l. h i (omega arith)))
 
@@ -61,7 +61,7 @@ module _ {T P : Type 0} (n : P → ℤ) (has : T → P → Type 0) (high : T →
   length_grids (t ∷ ts) [] e = absurd (omega arith)
   length_grids (t ∷ ts) (s ∷ ss) e = ap suc (length_grids ts ss (omega arith))
 
-  grid_at : (ts : List T) (ss : List S) (j : ℕ) (t : T) (s : S) (e : List ℤ × ℤ) → length ss ≡ length ts → j < length ts → get_or (grids_of n high ts ss) j e ≡ (map n (get_or ss j s).0, high (get_or ts j t) +ℤ pos 1)
+  pub grid_at : (ts : List T) (ss : List S) (j : ℕ) (t : T) (s : S) (e : List ℤ × ℤ) → length ss ≡ length ts → j < length ts → get_or (grids_of n high ts ss) j e ≡ (map n (get_or ss j s).0, high (get_or ts j t) +ℤ pos 1)
   grid_at [] ss j t s e l h = absurd (omega arith)
   grid_at (u ∷ ts) [] j t s e l h = absurd (omega arith)
   grid_at (u ∷ ts) (v ∷ ss) zero t s e l h = refl
@@ -184,7 +184,7 @@ pub pick_from : {T P : Type 0} (ts : List T) → ((t : T) → P) → 0 < length 
 pick_from [] p h = absurd (omega arith)
 pick_from (t ∷ ts) p h = (t, (p t, p t))
 
-start : Cuts
+pub start : Cuts
 start = record { at = λ i. pos i; count = 0; rises = λ i. omega (arith, ints) }
 
 -- the same in the words of the contract

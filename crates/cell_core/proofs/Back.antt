@@ -94,7 +94,7 @@ filter_some t P (x ∷ xs) a h =
 below_end : (a b i : ℕ) → (leb a i && ltb i b) ≡ true → i < b
 below_end a b i e = let w = (and_parts (leb a i) (ltb i b) e).1 in grind (arith, nat_tests)
 
-place_in : (y : List (ℕ × ℕ)) (place : List ℕ) (s : ℕ) → has_place y place ≡ true → s < length place → get_or place s 0 < (get_or y s no_cells).1
+pub place_in : (y : List (ℕ × ℕ)) (place : List ℕ) (s : ℕ) → has_place y place ≡ true → s < length place → get_or place s 0 < (get_or y s no_cells).1
 place_in y [] s e h = absurd (omega arith)
 place_in [] (i ∷ is) s e h = cc
 place_in (x ∷ xs) (i ∷ is) zero e h = below_end x.0 x.1 i (and_parts (span_has x i) (has_place xs is) e).0

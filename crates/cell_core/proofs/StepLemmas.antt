@@ -1,5 +1,5 @@
 -- The bound on steps, from its parts.
-use Rattle.std.proofs.Common.{◌≡◌, ℕ, zero, suc, ◌+◌, ◌-◌, ◌*◌, ◌/◌, ◌^◌, ◌<◌, ◌≤◌, List, [], ◌∷◌, length, get_or, inl, inr, arith, ap, refl, ◌∙◌}
+use Rattle.std.proofs.Common.{◌≡◌, ℕ, zero, suc, ◌+◌, ◌-◌, ◌*◌, ◌/◌, ◌^◌, ◌<◌, ◌≤◌, List, [], ◌∷◌, length, get_or, inl, inr, arith, ap, subst, refl, ◌∙◌}
 use Rattle.std.proofs.Math.Nat.{mul-le-mul_left, mul-le-mul_right, pow-succ', pow-zero}
 use Rattle.std.proofs.lemmas.Bool.{cases_lt}
 use Rattle.std.proofs.lemmas.Bool.Decides.{nat_tests}
@@ -66,6 +66,13 @@ sides_bound (suc m) k old a h =
     let n : ℕ = suc m in
     let e : bound n k ≡ 2 * k * n * (binary_digits (2 * n) + 3) + (2 * n) ^ k = bound_of n k (omega arith) in
     let s : k * side_cost n + k * n ≡ 2 * k * n * (binary_digits (2 * n) + 3) = omega arith in
+    omega arith
+
+-- the numbering alone is within the whole bound
+pub numbering_bound : (a b m n k old new : ℕ) → a ≡ m → b ≡ n → new ≤ old + k * side_cost (a + b) → new ≤ old + bound (m + n) k
+numbering_bound a b m n k old new e f h =
+    let l : new ≤ old + k * side_cost (m + n) = subst (λ z. new ≤ old + k * side_cost z) (λ t. e t + f t) h in
+    let w : new ≤ old + (bound (m + n) k - k * (m + n)) = sides_bound (m + n) k old new l in
     omega arith
 
 -- both together, of some rows; without rows the cells take no step

@@ -66,19 +66,22 @@ abbrev pub of_point : {P : Type 0} → (P → ℤ) → P × ℕ → ℤ × ℕ
 of_point n x = (n x.0, x.1)
 
 -- what the numbering of a side gives: the cuts, the last point of each cell, and the cells of each span
-pub record IsSide {P : Type 0} (n : P → ℤ) (has : P → Type 0) (high : ℤ) (spans : List (P × P)) (s : List P × List P × List (ℕ × ℕ)) : Type 0 where
+pub record IsSide {P : Type 0} (n : P → ℤ) (has : P → Type 0) (high : ℤ) (spans : List (P × P))
+    (s : List P × List P × List (ℕ × ℕ)) : Type 0 where
   pub rises : Rises (map n s.0) (high +ℤ pos 1)
   pub points : All has s.0
   pub last_points : All has s.1
   pub last_length : length s.1 ≡ length s.0
   pub lasts : (i : ℕ) (d : P) → i < length s.0 → n (get_or s.1 i d) +ℤ pos 1 ≡ cut_at (map n s.0) (high +ℤ pos 1) (suc i)
   pub cells_length : length s.2 ≡ length spans
-  pub cells : (r : ℕ) (d : P × P) → r < length spans → span_at (map n s.0) (high +ℤ pos 1) (get_or s.2 r no_cells) ≡ numbers_of n (get_or spans r d)
+  pub cells : (r : ℕ) (d : P × P) → r < length spans
+      → span_at (map n s.0) (high +ℤ pos 1) (get_or s.2 r no_cells) ≡ numbers_of n (get_or spans r d)
   pub within : (r : ℕ) → r < length spans → (get_or s.2 r no_cells).1 ≤ length s.0
   pub few : length s.0 ≤ 2 * length spans
 
 -- the part of it that the way back needs
-pub record IsGrid {P : Type 0} (n : P → ℤ) (has : P → Type 0) (high : ℤ) (s : List P × List P × List (ℕ × ℕ)) : Type 0 where
+pub record IsGrid {P : Type 0} (n : P → ℤ) (has : P → Type 0) (high : ℤ)
+    (s : List P × List P × List (ℕ × ℕ)) : Type 0 where
   pub rises : Rises (map n s.0) (high +ℤ pos 1)
   pub points : All has s.0
   pub last_points : All has s.1

@@ -1,5 +1,6 @@
 // The numbering of the cuts of all sides, and the rows as boxes of cells.
-ghost use Rattle.std.specs.Prelude.{◌≡◌, ℕ, ◌<◌, ◌≤◌, ◌+◌, ◌*◌, ◌^◌, map, [], ◌++◌, List, get_or, length, slice_index_or, OnOk, IfOk};
+ghost use Rattle.std.specs.Prelude.{◌≡◌, ℕ, ◌<◌, ◌≤◌, ◌+◌, ◌*◌, ◌^◌, map, [], ◌++◌, List, get_or, length};
+ghost use Rattle.std.specs.Prelude.{slice_index_or, OnOk, IfOk};
 ghost use Rattle.std.specs.List.{All};
 ghost use Rattle.slice_core.specs.Rows.{sides_of};
 ghost use Rattle.cell_core.specs.Costs.{side_cost};
@@ -41,7 +42,8 @@ fn push_sides<T: PointType>(
     out: &mut Vec<(T::Point, T::Point)>,
 ) -> Result<(), Memory>
     requires { All (λ s. side < length s) rows.now }
-    ensures items { OnOk result ((d : T.Point × T.Point) → out.new.items ≡ out.old.items ++ map (side_of side d) rows.now) }
+    ensures items { OnOk result ((d : T.Point × T.Point) → out.new.items ≡
+        out.old.items ++ map (side_of side d) rows.now) }
     ensures length { OnOk result (length out.new.items ≡ length out.old.items + length rows.now) }
 {
     for s in rows {
@@ -75,7 +77,8 @@ pub fn cell_boxes<T: PointType>(
 ) -> Result<Vec<IndexBox>, Memory>
     requires { All (λ s. count ≤ length s.2) sides.now }
     ensures length { IfOk result (λ v. length v.items ≡ count) }
-    ensures boxes { IfOk result (λ v. (r : ℕ) → r < count → get_or (sides_of v.items) r [] ≡ map (cells_at r) sides.now) }
+    ensures boxes { IfOk result (λ v. (r : ℕ) → r < count → get_or (sides_of v.items) r [] ≡
+        map (cells_at r) sides.now) }
 {
     let mut out = Vec::new(alloc);
     for r in 0..count {
@@ -105,14 +108,14 @@ fn one_side<T: PointType, L: Ledger>(
     side: usize,
     steps: &mut Steps<L>,
 ) -> Result<Side<T>, Memory>
-    requires few { length left.now + length right.now < 2 ^ 61 }
     requires left { All (λ s. side < length s) left.now }
     requires right { All (λ s. side < length s) right.now }
     requires left_begins { All (λ s. (d : T.Point × T.Point) → T.IsPoint t.now (get_or s side d).0) left.now }
     requires left_ends { All (λ s. (d : T.Point × T.Point) → T.IsPoint t.now (get_or s side d).1) left.now }
     requires right_begins { All (λ s. (d : T.Point × T.Point) → T.IsPoint t.now (get_or s side d).0) right.now }
     requires right_ends { All (λ s. (d : T.Point × T.Point) → T.IsPoint t.now (get_or s side d).1) right.now }
-    ensures side { IfOk result (λ v. (d : T.Point × T.Point) → IsSide T.number_of (T.IsPoint t.now) (T.last_number t.now) (map (side_of side d) (left.now ++ right.now)) v) }
+    ensures side { IfOk result (λ v. (d : T.Point × T.Point) →
+        IsSide T.number_of (T.IsPoint t.now) (T.last_number t.now) (map (side_of side d) (left.now ++ right.now)) v) }
     ensures cost { steps.new ≤ steps.old + side_cost (length left.now + length right.now) }
 {
     let mut spans = Vec::new(alloc);
@@ -130,13 +133,19 @@ pub fn all_sides<T: PointType, L: Ledger>(
     right: &[Sides<T>],
     steps: &mut Steps<L>,
 ) -> Result<Vec<Side<T>>, Memory>
-    requires few { length left.now + length right.now < 2 ^ 61 }
     requires left { All (λ s. length s ≡ length types.now) left.now }
     requires right { All (λ s. length s ≡ length types.now) right.now }
-    requires left_points { All (λ s. (j : ℕ) (t : T) (d : T.Point × T.Point) → j < length types.now → T.IsPoint (slice_index_or types.now j t) (get_or s j d).0 × T.IsPoint (slice_index_or types.now j t) (get_or s j d).1) left.now }
-    requires right_points { All (λ s. (j : ℕ) (t : T) (d : T.Point × T.Point) → j < length types.now → T.IsPoint (slice_index_or types.now j t) (get_or s j d).0 × T.IsPoint (slice_index_or types.now j t) (get_or s j d).1) right.now }
+    requires left_points { All (λ s. (j : ℕ) (t : T) (d : T.Point × T.Point) → j < length types.now →
+        T.IsPoint (slice_index_or types.now j t) (get_or s j d).0 ×
+        T.IsPoint (slice_index_or types.now j t) (get_or s j d).1) left.now }
+    requires right_points { All (λ s. (j : ℕ) (t : T) (d : T.Point × T.Point) → j < length types.now →
+        T.IsPoint (slice_index_or types.now j t) (get_or s j d).0 ×
+        T.IsPoint (slice_index_or types.now j t) (get_or s j d).1) right.now }
     ensures length { IfOk result (λ v. length v.items ≡ length types.now) }
-    ensures sides { IfOk result (λ v. (j : ℕ) (t : T) (d : T.Point × T.Point) (e : List T.Point × List T.Point × List (ℕ × ℕ)) → j < length types.now → IsSide T.number_of (T.IsPoint (slice_index_or types.now j t)) (T.last_number (slice_index_or types.now j t)) (map (side_of j d) (left.now ++ right.now)) (get_or v.items j e)) }
+    ensures sides { IfOk result (λ v. (j : ℕ) (t : T) (d : T.Point × T.Point) (e : List T.Point × List T.Point ×
+        List (ℕ × ℕ)) → j < length types.now → IsSide T.number_of (T.IsPoint (slice_index_or types.now j t))
+        (T.last_number (slice_index_or types.now j t)) (map (side_of j d) (left.now ++ right.now)) (get_or v.items j
+        e)) }
     ensures cost { steps.new ≤ steps.old + length types.now * side_cost (length left.now + length right.now) }
 {
     let mut out = Vec::new(alloc);

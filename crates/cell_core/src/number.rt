@@ -1,9 +1,11 @@
 // The numbering of the cuts of one side, and the way back.
-ghost use Rattle.std.specs.Prelude.{◌≡◌, ℕ, ℤ, pos, ◌+ℤ◌, ◌-ℤ◌, ◌≤ℤ◌, ◌<ℤ◌, ◌<◌, ◌≤◌, ◌⊎◌, ◌*◌, ◌+◌, ◌^◌, suc, true, false, map, [], get_or, length, slice_index_or, OnOk, IfOk};
+ghost use Rattle.std.specs.Prelude.{◌≡◌, ℕ, ℤ, pos, ◌+ℤ◌, ◌-ℤ◌, ◌≤ℤ◌, ◌<ℤ◌, ◌<◌, ◌≤◌, ◌⊎◌, ◌*◌, ◌+◌, ◌^◌, suc, true};
+ghost use Rattle.std.specs.Prelude.{false, map, [], get_or, length, slice_index_or, OnOk, IfOk};
 ghost use Rattle.std.specs.List.{All};
 ghost use Rattle.point_core.specs.Pairs.{InOrder};
 ghost use Rattle.packing_core.specs.Covering.{Among};
-ghost use Rattle.cell_core.specs.Numbering.{cut_at, Rises, span_at, numbers_of, ends, IsLastOf, HasTag, IsPlaced, IsPut, IsAdded, IsAtTag, of_cell, of_point, IsSide};
+ghost use Rattle.cell_core.specs.Numbering.{cut_at, Rises, span_at, numbers_of, ends, IsLastOf, HasTag, IsPlaced};
+ghost use Rattle.cell_core.specs.Numbering.{IsPut, IsAdded, IsAtTag, of_cell, of_point, IsSide};
 ghost use Rattle.cell_core.specs.Costs.{side_cost};
 
 use point_core::{Memory, PointType, Steps};
@@ -20,7 +22,8 @@ fn put_after<T: PointType, L: Ledger>(
     steps: &mut Steps<L>,
 ) -> Result<(), Memory>
     requires { T.IsPoint t.now end }
-    ensures put { OnOk result (IsPut T.number_of (T.IsPoint t.now) (T.last_number t.now) end tag list.old.items list.new.items) }
+    ensures put { OnOk result (IsPut T.number_of (T.IsPoint t.now) (T.last_number t.now) end tag list.old.items
+        list.new.items) }
     ensures cost { steps.new ≡ steps.old + 1 }
 {
     match t.next(end, steps) {
@@ -43,7 +46,8 @@ fn ends_list<T: PointType, L: Ledger>(
     requires begins { All (λ x. T.IsPoint t.now x.0) spans.now }
     requires ends { All (λ x. T.IsPoint t.now x.1) spans.now }
     ensures placed { IfOk result (λ v. (x : _) → Among x v.items → IsPlaced T.number_of (T.IsPoint t.now) spans.now x) }
-    ensures found { IfOk result (λ v. (tag : ℕ) → tag < length (ends T.number_of spans.now) → HasTag v.items tag ⊎ (get_or (ends T.number_of spans.now) tag (pos 0) ≡ T.last_number t.now +ℤ pos 1)) }
+    ensures found { IfOk result (λ v. (tag : ℕ) → tag < length (ends T.number_of spans.now) → HasTag v.items tag ⊎
+        (get_or (ends T.number_of spans.now) tag (pos 0) ≡ T.last_number t.now +ℤ pos 1)) }
     ensures count { IfOk result (λ v. length v.items ≤ 2 * length spans.now) }
     ensures cost { steps.new ≤ steps.old + length spans.now }
 {
@@ -108,7 +112,8 @@ fn ranks_of<T: PointType, L: Ledger>(
     requires none { cuts.old.items ≡ [] }
     ensures points { OnOk result (All (T.IsPoint t.now) cuts.new.items) }
     ensures rises { OnOk result (Rises (map T.number_of cuts.new.items) (T.last_number t.now +ℤ pos 1)) }
-    ensures cells { IfOk result (λ v. map (of_cell (map T.number_of cuts.new.items) (T.last_number t.now +ℤ pos 1)) v.items ≡ map (of_point T.number_of) list.now) }
+    ensures cells { IfOk result (λ v. map (of_cell (map T.number_of cuts.new.items) (T.last_number t.now +ℤ pos 1))
+        v.items ≡ map (of_point T.number_of) list.now) }
     ensures within { IfOk result (λ v. All (λ x. x.0 < length cuts.new.items) v.items) }
     ensures count { OnOk result (length cuts.new.items ≤ length list.now) }
     ensures cost { steps.new ≤ steps.old + length list.now }
@@ -144,7 +149,8 @@ fn cell_pairs(alloc: Global, count: usize, table: &[usize]) -> Result<Vec<(usize
     requires few { count < 2 ^ 61 }
     requires length { length table.now ≡ 2 * count }
     ensures length { IfOk result (λ v. length v.items ≡ count) }
-    ensures pairs { IfOk result (λ v. (r : ℕ) (d : ℕ × ℕ) → r < count → get_or v.items r d ≡ (get_or table.now (2 * r) 0, get_or table.now (2 * r + 1) 0)) }
+    ensures pairs { IfOk result (λ v. (r : ℕ) (d : ℕ × ℕ) → r < count → get_or v.items r d ≡
+        (get_or table.now (2 * r) 0, get_or table.now (2 * r + 1) 0)) }
 {
     let mut out = Vec::new(alloc);
     for r in 0..count {
@@ -164,7 +170,8 @@ fn last_before<T: PointType, L: Ledger>(
     requires rises { Rises (map T.number_of cuts.now) (T.last_number t.now +ℤ pos 1) }
     requires within { i < length cuts.now }
     ensures point { T.IsPoint t.now result }
-    ensures number { T.number_of result +ℤ pos 1 ≡ cut_at (map T.number_of cuts.now) (T.last_number t.now +ℤ pos 1) (suc i) }
+    ensures number { T.number_of result +ℤ pos 1 ≡ cut_at (map T.number_of cuts.now) (T.last_number t.now +ℤ pos 1)
+        (suc i) }
     ensures cost { steps.new ≤ steps.old + 1 }
 {
     if i + 1 < cuts.len() {
@@ -185,7 +192,9 @@ fn lasts<T: PointType, L: Ledger>(
     requires rises { Rises (map T.number_of cuts.now) (T.last_number t.now +ℤ pos 1) }
     ensures length { IfOk result (λ v. length v.items ≡ length cuts.now) }
     ensures points { IfOk result (λ v. All (T.IsPoint t.now) v.items) }
-    ensures numbers { IfOk result (λ v. (i : ℕ) (d : _) → i < length cuts.now → T.number_of (slice_index_or v.items i d) +ℤ pos 1 ≡ cut_at (map T.number_of cuts.now) (T.last_number t.now +ℤ pos 1) (suc i)) }
+    ensures numbers { IfOk result (λ v. (i : ℕ) (d : _) → i < length cuts.now →
+        T.number_of (slice_index_or v.items i d) +ℤ pos 1 ≡
+        cut_at (map T.number_of cuts.now) (T.last_number t.now +ℤ pos 1) (suc i)) }
     ensures cost { steps.new ≤ steps.old + length cuts.now }
 {
     let mut out = Vec::new(alloc);

@@ -1,5 +1,5 @@
 // Labelled boxes compared by their points.
-ghost use Rattle.std.specs.Prelude.{◌≡◌, ◌+◌, ◌<◌, ◌≤◌, ◌^◌, map, length, IfOk};
+ghost use Rattle.std.specs.Prelude.{◌≡◌, ◌+◌, ◌≤◌, map, length, IfOk};
 ghost use Rattle.std.specs.List.{All};
 ghost use Rattle.base_core.specs.Sets.{is_within, are_same};
 ghost use Rattle.packing_core.specs.Boxed.{boxed_cmp, unpacked_boxes};
@@ -7,11 +7,11 @@ ghost use Rattle.cell_core.specs.Boxes.{IsBox};
 ghost use Rattle.cell_core.specs.Cells.{row_numbers};
 ghost use Rattle.cell_core.specs.Costs.{bound};
 
-use crate::alone::{LeftAlone, OneSided};
 use crate::boxes::BoxRow;
-use crate::packing::{boxes, labels};
-use crate::whole::gives_some;
+use crate::keys::{numbered, push_keys};
+use crate::packed::same_keys;
 use point_core::{Label, Memory, PointType, Steps};
+use slice_core::pack_rows;
 use std::alloc::Global;
 use std::sync::ledger::Ledger;
 
@@ -24,22 +24,22 @@ pub fn within_points<T: PointType, P: Label, L: Ledger>(
     right: &[BoxRow<T, P>],
     steps: &mut Steps<L>,
 ) -> Result<bool, Memory>
-    requires few { length left.now + length right.now < 2 ^ 61 }
     requires left { All (λ r. IsBox T.IsPoint types.now r.1) left.now }
     requires right { All (λ r. IsBox T.IsPoint types.now r.1) right.now }
-    ensures answer { IfOk result (λ b. b ≡ is_within (boxed_cmp P.order) (unpacked_boxes P.order (length types.now) (map (row_numbers T.number_of) left.now)) (unpacked_boxes P.order (length types.now) (map (row_numbers T.number_of) right.now))) }
+    ensures answer { IfOk result (λ b. b ≡ is_within (boxed_cmp P.order) (unpacked_boxes P.order (length types.now)
+        (map (row_numbers T.number_of) left.now)) (unpacked_boxes P.order (length types.now) (map (row_numbers
+        T.number_of) right.now))) }
     ensures cost { steps.new ≤ steps.old + bound (length left.now + length right.now) (length types.now) }
 {
-    let left_labels = labels(alloc, left)?;
-    let right_labels = labels(alloc, right)?;
-    let op = LeftAlone {
-        left: left_labels,
-        right: right_labels,
-    };
-    let l = boxes(alloc, left)?;
-    let r = boxes(alloc, right)?;
-    let more = gives_some(alloc, types, l.as_slice(), r.as_slice(), &op, steps)?;
-    Ok(!more)
+    let sides = numbered(alloc, types, left, right, steps)?;
+    let mut all = Vec::new(alloc);
+    push_keys(alloc, &mut all, left, 0, sides.as_slice())?;
+    push_keys(alloc, &mut all, right, left.len(), sides.as_slice())?;
+    let mut own = Vec::new(alloc);
+    push_keys(alloc, &mut own, right, left.len(), sides.as_slice())?;
+    let all_form = pack_rows(alloc, types.len(), all)?;
+    let right_form = pack_rows(alloc, types.len(), own)?;
+    Ok(same_keys(all_form.as_slice(), right_form.as_slice()))
 }
 
 /// Whether the left and the right rows have the same points with the same labels: whether they are equal, unpacked on
@@ -51,20 +51,19 @@ pub fn same_points<T: PointType, P: Label, L: Ledger>(
     right: &[BoxRow<T, P>],
     steps: &mut Steps<L>,
 ) -> Result<bool, Memory>
-    requires few { length left.now + length right.now < 2 ^ 61 }
     requires left { All (λ r. IsBox T.IsPoint types.now r.1) left.now }
     requires right { All (λ r. IsBox T.IsPoint types.now r.1) right.now }
-    ensures answer { IfOk result (λ b. b ≡ are_same (boxed_cmp P.order) (unpacked_boxes P.order (length types.now) (map (row_numbers T.number_of) left.now)) (unpacked_boxes P.order (length types.now) (map (row_numbers T.number_of) right.now))) }
+    ensures answer { IfOk result (λ b. b ≡ are_same (boxed_cmp P.order) (unpacked_boxes P.order (length types.now)
+        (map (row_numbers T.number_of) left.now)) (unpacked_boxes P.order (length types.now) (map (row_numbers
+        T.number_of) right.now))) }
     ensures cost { steps.new ≤ steps.old + bound (length left.now + length right.now) (length types.now) }
 {
-    let left_labels = labels(alloc, left)?;
-    let right_labels = labels(alloc, right)?;
-    let op = OneSided {
-        left: left_labels,
-        right: right_labels,
-    };
-    let l = boxes(alloc, left)?;
-    let r = boxes(alloc, right)?;
-    let differ = gives_some(alloc, types, l.as_slice(), r.as_slice(), &op, steps)?;
-    Ok(!differ)
+    let sides = numbered(alloc, types, left, right, steps)?;
+    let mut l = Vec::new(alloc);
+    push_keys(alloc, &mut l, left, 0, sides.as_slice())?;
+    let mut r = Vec::new(alloc);
+    push_keys(alloc, &mut r, right, left.len(), sides.as_slice())?;
+    let left_form = pack_rows(alloc, types.len(), l)?;
+    let right_form = pack_rows(alloc, types.len(), r)?;
+    Ok(same_keys(left_form.as_slice(), right_form.as_slice()))
 }

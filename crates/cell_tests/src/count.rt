@@ -63,7 +63,6 @@ pub fn counted<L: Ledger>(
     limit: usize,
     blank: Blank,
 ) -> Result<Vec<Plain>, CellRefuse>
-    requires few { length rows.now < 2 ^ 61 }
     requires name { blank.name ≡ L.name }
     requires parts { blank.parts ≡ L.parts }
     requires one { blank.parts ≡ 1 }

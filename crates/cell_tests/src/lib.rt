@@ -7,18 +7,23 @@ ghost use Rattle.cell_core.specs.Boxes.{IsBox};
 ghost use Rattle.point_core.specs.Whole.{IsWhole};
 ghost use Rattle.point_core.specs.declared.int_type.IntType.{IntType as AnyIntType};
 
+mod compared;
 mod count;
+mod definition;
 mod points;
+mod small;
 mod tag;
 
 use cell_core::{BoxRow, CellRefuse, Sides, pack};
+pub use compared::{agrees, boxes_of as small_boxes, count_points};
 pub use count::counted;
 use interval_core::Interval;
 use point_core::{IntType, Memory, Steps};
 pub use points::{is_packed_form, same, within};
+pub use small::{Small, bare, with_side};
 use std::alloc::Global;
 use std::sync::ledger::{Blank, Ledger};
-use tag::Tag;
+pub use tag::Tag;
 
 /// A label and two intervals of integers.
 #[derive(Clone, Copy, Debug, PartialEq, Eq)]
@@ -100,7 +105,6 @@ pub fn packed<L: Ledger>(
     limit: usize,
     blank: Blank,
 ) -> Result<Vec<Plain>, CellRefuse>
-    requires few { length rows.now < 2 ^ 61 }
     requires name { blank.name ≡ L.name }
     requires parts { blank.parts ≡ L.parts }
     requires one { blank.parts ≡ 1 }
@@ -116,6 +120,7 @@ pub fn packed<L: Ledger>(
 #[cfg(test)]
 mod tests {
     use super::*;
+    use point_core::OrdinalType;
     use std::marker::Brand;
     use std::test::Fail;
 
@@ -191,6 +196,85 @@ mod tests {
                 assert!(rt; rows[1] == plain(1, (3, 3), one));
                 assert!(rt; rows[2] == plain(2, (2, 2), one));
             }
+            Err(_) => assert!(rt; false),
+        }
+        Ok(())
+    }
+
+    #[test]
+    fn packs_in_the_order_of_the_sides(rt: HostRuntime) -> Result<(), Fail> {
+        let alloc = rt.alloc();
+        let corner = [
+            plain(1, (1, 1), (1, 1)),
+            plain(1, (2, 2), (1, 1)),
+            plain(1, (1, 1), (2, 2)),
+        ];
+        match packed::<Brand>(alloc, &corner, 9, Blank::new(1)) {
+            Ok(rows) => {
+                assert_eq!(rt; rows.len(), 2);
+                assert!(rt; rows[0] == plain(1, (1, 1), (2, 2)));
+                assert!(rt; rows[1] == plain(1, (1, 2), (1, 1)));
+            }
+            Err(_) => assert!(rt; false),
+        }
+        Ok(())
+    }
+
+    #[test]
+    fn counts_points_up_to_the_limit(rt: HostRuntime) -> Result<(), Fail> {
+        let alloc = rt.alloc();
+        let t = [IntType];
+        let row = bare(1);
+        let most = [with_side(row, 0, (1, 100_000))];
+        let more = [with_side(row, 0, (1, 100_001))];
+        let all = [with_side(row, 0, (i64::MIN, i64::MAX))];
+        let counted = count_points::<IntType, Brand>(alloc, &t, &most, 100_000, Blank::new(1))?;
+        assert!(rt; counted == Some(100_000));
+        let counted = count_points::<IntType, Brand>(alloc, &t, &more, 100_000, Blank::new(1))?;
+        assert!(rt; counted == None);
+        let counted = count_points::<IntType, Brand>(alloc, &t, &all, usize::MAX, Blank::new(1))?;
+        assert!(rt; counted == None);
+        Ok(())
+    }
+
+    #[test]
+    fn agrees_on_integers(rt: HostRuntime) -> Result<(), Fail> {
+        let types = [IntType, IntType, IntType];
+        match agrees::<IntType, Brand>(rt.alloc(), &types, (-3, 9), 120, Blank::new(1)) {
+            Ok(agreed) => assert!(rt; agreed),
+            Err(_) => assert!(rt; false),
+        }
+        Ok(())
+    }
+
+    #[test]
+    fn agrees_at_the_first_integers(rt: HostRuntime) -> Result<(), Fail> {
+        let types = [IntType, IntType, IntType];
+        let range = (i64::MIN, i64::MAX);
+        match agrees::<IntType, Brand>(rt.alloc(), &types, range, 90, Blank::new(1)) {
+            Ok(agreed) => assert!(rt; agreed),
+            Err(_) => assert!(rt; false),
+        }
+        Ok(())
+    }
+
+    #[test]
+    fn agrees_at_the_last_integers(rt: HostRuntime) -> Result<(), Fail> {
+        let types = [IntType, IntType, IntType];
+        let range = (i64::MAX - 4, i64::MAX);
+        match agrees::<IntType, Brand>(rt.alloc(), &types, range, 90, Blank::new(1)) {
+            Ok(agreed) => assert!(rt; agreed),
+            Err(_) => assert!(rt; false),
+        }
+        Ok(())
+    }
+
+    #[test]
+    fn agrees_on_ordinals_of_one_point(rt: HostRuntime) -> Result<(), Fail> {
+        let t = OrdinalType { of: 0, last: 0 };
+        let types = [t, t, t];
+        match agrees::<OrdinalType, Brand>(rt.alloc(), &types, (0, 0), 60, Blank::new(1)) {
+            Ok(agreed) => assert!(rt; agreed),
             Err(_) => assert!(rt; false),
         }
         Ok(())

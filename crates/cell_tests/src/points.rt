@@ -14,7 +14,6 @@ pub fn same<L: Ledger>(
     right: &[Plain],
     blank: Blank,
 ) -> Result<bool, Memory>
-    requires few { length left.now + length right.now < 2 ^ 61 }
     requires name { blank.name ≡ L.name }
     requires parts { blank.parts ≡ L.parts }
     requires one { blank.parts ≡ 1 }
@@ -34,7 +33,6 @@ pub fn within<L: Ledger>(
     right: &[Plain],
     blank: Blank,
 ) -> Result<bool, Memory>
-    requires few { length left.now + length right.now < 2 ^ 61 }
     requires name { blank.name ≡ L.name }
     requires parts { blank.parts ≡ L.parts }
     requires one { blank.parts ≡ 1 }
@@ -53,7 +51,6 @@ pub fn is_packed_form<L: Ledger>(
     rows: &[Plain],
     blank: Blank,
 ) -> Result<bool, Memory>
-    requires few { length rows.now < 2 ^ 61 }
     requires name { blank.name ≡ L.name }
     requires parts { blank.parts ≡ L.parts }
     requires one { blank.parts ≡ 1 }

@@ -1,48 +1,40 @@
-use Rattle.std.proofs.Common.{◌≡◌, ◌<◌, ◌+◌, map, length, arith, subst, sym, ap, ◌∙◌}
-use Rattle.std.specs.List.{All}
-use Rattle.std.proofs.lemmas.List.{length-map}
-use Rattle.std.proofs.lemmas.List.Elements.{All-same, All-map}
-use Rattle.cell_core.specs.Boxes.{IsBox}
-use Rattle.cell_core.proofs.BackLemmas.{box_length}
-use Rattle.cell_core.proofs.LabelLemmas.{rows_under, cost_of_rows}
-use Rattle.cell_core.proofs.AloneLemmas.{same_rows}
+use Rattle.std.proofs.Common.{◌+◌, ◌≤◌, ◌++◌, length, arith, refl, sym, ◌∙◌}
+use Rattle.std.proofs.lemmas.Int.{ints}
+use Rattle.std.proofs.lemmas.List.Elements.{All-same}
+use Rattle.cell_core.specs.Cells.{keys_from}
+use Rattle.cell_core.proofs.FormLemmas.{left_full, right_full, left_lengths, right_lengths, right_form, same_rows}
 use Rattle.cell_core.proofs.points.same_points.Goals as goal
 
-pub gives_some-requires-clause-left : goal.gives_some-requires-clause-left
-gives_some-requires-clause-left g c =
-    let box = IsBox g.T.PointType.IsPoint c.args.types.now in
-    All-same box c.as_slice.result.now (map (λ r. r.1) c.args.left.now) (c.as_slice.ensures.value ∙ c.in_ok-l.ensures) (All-map box (λ r. r.1) c.args.left.now c.requires.left)
+pub push_keys-requires-clause-full : goal.push_keys-requires-clause-full
+push_keys-requires-clause-full g c =
+    All-same (λ s. 0 + length c.args.left.now ≤ length s.2) c.as_slice.result.now c.in_ok-sides.sides.items c.as_slice.ensures.value
+    (left_full g.row.P.Denot g.T.PointType.number_of g.T.PointType.IsPoint g.T.PointType.last_number (λ t. (g.met.T.PointType.each t (g.T.PointType.first_number t) (omega (arith, ints)) (g.met.T.PointType.nonempty t)).0) c.args.types.now c.in_ok-sides.sides.items c.args.left.now c.args.right.now c.in_ok-sides.ensures.length c.in_ok-sides.ensures.sides c.requires.left c.requires.right)
 
-pub gives_some-requires-clause-right : goal.gives_some-requires-clause-right
-gives_some-requires-clause-right g c =
-    let box = IsBox g.T.PointType.IsPoint c.args.types.now in
-    All-same box c.as_slice-2.result.now (map (λ r. r.1) c.args.right.now) (c.as_slice-2.ensures.value ∙ c.in_ok-r.ensures) (All-map box (λ r. r.1) c.args.right.now c.requires.right)
+pub push_keys-requires-2-clause-full : goal.push_keys-requires-2-clause-full
+push_keys-requires-2-clause-full g c =
+    All-same (λ s. length c.args.left.now + length c.args.right.now ≤ length s.2) c.as_slice-2.result.now c.in_ok-sides.sides.items c.as_slice-2.ensures.value
+    (right_full g.row.P.Denot g.T.PointType.number_of g.T.PointType.IsPoint g.T.PointType.last_number (λ t. (g.met.T.PointType.each t (g.T.PointType.first_number t) (omega (arith, ints)) (g.met.T.PointType.nonempty t)).0) c.args.types.now c.in_ok-sides.sides.items c.args.left.now c.args.right.now c.in_ok-sides.ensures.length c.in_ok-sides.ensures.sides c.requires.left c.requires.right (length c.args.left.now) refl)
 
-pub gives_some-requires-clause-can : goal.gives_some-requires-clause-can
-gives_some-requires-clause-can g c = λ a b h k.
-    let l : length c.as_slice.result.now ≡ length c.args.left.now = ap length (c.as_slice.ensures.value ∙ c.in_ok-l.ensures) ∙ length-map c.args.left.now (λ r. r.1) in
-    let r : length c.as_slice-2.result.now ≡ length c.args.right.now = ap length (c.as_slice-2.ensures.value ∙ c.in_ok-r.ensures) ∙ length-map c.args.right.now (λ r. r.1) in
-    let m : length c.in_ok-left_labels.left_labels.items ≡ length c.args.left.now = ap length c.in_ok-left_labels.ensures ∙ length-map c.args.left.now (λ r. r.0) in
-    let n : length c.in_ok-right_labels.right_labels.items ≡ length c.args.right.now = ap length c.in_ok-right_labels.ensures ∙ length-map c.args.right.now (λ r. r.0) in
-    (subst (λ z. All (λ r. r < z) a) (l ∙ sym m) (rows_under 0 (length c.as_slice.result.now) a h), subst (λ z. All (λ r. r < z) b) (r ∙ sym n) (rows_under 0 (length c.as_slice-2.result.now) b k))
+pub pack_rows-requires : goal.pack_rows-requires
+pack_rows-requires g c = record {
+  sides = left_lengths g.row.P.Denot g.T.PointType.number_of g.T.PointType.IsPoint g.T.PointType.last_number (λ t. (g.met.T.PointType.each t (g.T.PointType.first_number t) (omega (arith, ints)) (g.met.T.PointType.nonempty t)).0) c.args.types.now c.in_ok-sides.sides.items c.args.left.now c.args.right.now c.in_ok-sides.ensures.length c.in_ok-sides.ensures.sides c.requires.left c.requires.right
+      c.push_keys.new.out.items (c.in_ok-push_keys.ensures ∙ (λ i. c.new-l.ensures.items i ++ keys_from 0 c.args.left.now (c.as_slice.ensures.value i)));
+}
+
+pub pack_rows-requires-2 : goal.pack_rows-requires-2
+pack_rows-requires-2 g c = record {
+  sides = right_lengths g.row.P.Denot g.T.PointType.number_of g.T.PointType.IsPoint g.T.PointType.last_number (λ t. (g.met.T.PointType.each t (g.T.PointType.first_number t) (omega (arith, ints)) (g.met.T.PointType.nonempty t)).0) c.args.types.now c.in_ok-sides.sides.items c.args.left.now c.args.right.now c.in_ok-sides.ensures.length c.in_ok-sides.ensures.sides c.requires.left c.requires.right
+      c.push_keys-2.new.out.items (c.in_ok-push_keys-2.ensures ∙ (λ i. c.new-r.ensures.items i ++ keys_from (length c.args.left.now) c.args.right.now (c.as_slice-2.ensures.value i)));
+}
 
 pub returns-clause-answer : goal.returns-clause-answer
 returns-clause-answer g c =
-    let has = g.T.PointType.IsPoint in
-    let types = c.args.types.now in
-    same_rows g.P.Label.order g.met.P.Label.total g.met.P.Label.separates g.T.PointType.number_of (length types) c.args.left.now c.args.right.now
-    (λ k d l. box_length has types _ (c.requires.left k d l)) (λ k d l. box_length has types _ (c.requires.right k d l))
-    c.in_ok-left_labels.left_labels.items c.in_ok-right_labels.right_labels.items c.as_slice.result.now c.as_slice-2.result.now
-    c.in_ok-left_labels.ensures c.in_ok-right_labels.ensures (c.as_slice.ensures.value ∙ c.in_ok-l.ensures) (c.as_slice-2.ensures.value ∙ c.in_ok-r.ensures) c.in_ok-differ.differ c.in_ok-differ.ensures.answer
-
-pub returns-clause-cost : goal.returns-clause-cost
-returns-clause-cost g c =
-    let l : length c.as_slice.result.now ≡ length c.args.left.now = ap length (c.as_slice.ensures.value ∙ c.in_ok-l.ensures) ∙ length-map c.args.left.now (λ r. r.1) in
-    let r : length c.as_slice-2.result.now ≡ length c.args.right.now = ap length (c.as_slice-2.ensures.value ∙ c.in_ok-r.ensures) ∙ length-map c.args.right.now (λ r. r.1) in
-    cost_of_rows (length c.as_slice.result.now) (length c.as_slice-2.result.now) (length c.args.types.now) c.args.steps.now c.gives_some.new.steps (length c.args.left.now + length c.args.right.now) (omega arith) c.gives_some.ensures.cost
-
-pub returns-in_err-differ-clause-cost : goal.returns-in_err-differ-clause-cost
-returns-in_err-differ-clause-cost g c =
-    let l : length c.as_slice.result.now ≡ length c.args.left.now = ap length (c.as_slice.ensures.value ∙ c.in_ok-l.ensures) ∙ length-map c.args.left.now (λ r. r.1) in
-    let r : length c.as_slice-2.result.now ≡ length c.args.right.now = ap length (c.as_slice-2.ensures.value ∙ c.in_ok-r.ensures) ∙ length-map c.args.right.now (λ r. r.1) in
-    cost_of_rows (length c.as_slice.result.now) (length c.as_slice-2.result.now) (length c.args.types.now) c.args.steps.now c.gives_some.new.steps (length c.args.left.now + length c.args.right.now) (omega arith) c.gives_some.ensures.cost
+    let a = c.as_slice-3.ensures.value in
+    let b = c.as_slice-4.ensures.value in
+    same_rows g.row.P.Denot g.T.PointType.number_of g.T.PointType.IsPoint g.T.PointType.last_number (λ t. (g.met.T.PointType.each t (g.T.PointType.first_number t) (omega (arith, ints)) (g.met.T.PointType.nonempty t)).0) c.args.types.now c.in_ok-sides.sides.items c.args.left.now c.args.right.now c.in_ok-sides.ensures.length c.in_ok-sides.ensures.sides c.requires.left c.requires.right
+    g.P.Label.order g.met.P.Label.total g.met.P.Label.separates c.push_keys.new.out.items c.in_ok-left_form.left_form.items c.in_ok-left_form.ensures.rows c.in_ok-left_form.ensures.sorted
+    c.push_keys-2.new.out.items c.in_ok-right_form.right_form.items c.in_ok-right_form.ensures.rows (c.in_ok-push_keys.ensures ∙ (λ i. c.new-l.ensures.items i ++ keys_from 0 c.args.left.now (c.as_slice.ensures.value i)))
+    (right_form g.row.P.Denot g.T.PointType.number_of g.T.PointType.IsPoint g.T.PointType.last_number (λ t. (g.met.T.PointType.each t (g.T.PointType.first_number t) (omega (arith, ints)) (g.met.T.PointType.nonempty t)).0) c.args.types.now c.in_ok-sides.sides.items c.args.left.now c.args.right.now c.in_ok-sides.ensures.length c.in_ok-sides.ensures.sides c.requires.left c.requires.right
+    g.P.Label.order g.met.P.Label.total g.met.P.Label.separates c.push_keys-2.new.out.items c.in_ok-right_form.right_form.items c.in_ok-right_form.ensures.rows c.in_ok-right_form.ensures.sorted
+    (c.in_ok-push_keys-2.ensures ∙ (λ i. c.new-r.ensures.items i ++ keys_from (length c.args.left.now) c.args.right.now (c.as_slice-2.ensures.value i)))) c.same_keys.result
+    (λ t. sym a ∙ c.same_keys.ensures.0 t ∙ b, λ q. c.same_keys.ensures.1 (a ∙ q ∙ sym b))
