@@ -2,7 +2,7 @@
 use Rattle.std.proofs.Common.{◌≡◌, ◌⊎◌, inl, inr, ℕ, zero, suc, ◌+◌, ◌<◌, Bool, true, false, List, [], ◌∷◌, ◌++◌, length, map, get_or, refl, sym, ap, ap₂, ◌∙◌, subst, arith, cond, IsTrue, Ordering, Less, Equal, Decides, Result, Ok, Err, not}
 use Rattle.std.specs.Str.{bytes_eq}
 use Rattle.std.specs.List.{list_any}
-use Rattle.std.proofs.lemmas.List.{map-append}
+use Rattle.std.proofs.lemmas.List.{map-append, append-nil}
 use Rattle.std.proofs.lemmas.List.Sorted.{IsPermutation-sym}
 use Rattle.std.proofs.lemmas.Bool.{true≢false, and_parts, and_from}
 use Rattle.std.proofs.lemmas.Slice.Eq.{bytes_eq-Decides}
@@ -21,11 +21,10 @@ use Rattle.relation_core.proofs.HeadingLemmas.{heading_ascends}
 use Rattle.scalar_core.specs.ScalarValues.{value}
 use Rattle.scalar_core.proofs.KindLemmas.{value-fits}
 use Rattle.tree_core.specs.Trees.{PlainSets}
-use Rattle.algebra_core.specs.Extensions.{Gives, Extends}
 use Rattle.algebra_core.specs.Places.{place_among, places}
 use Rattle.algebra_core.specs.Rows.{set_names, values_on, extended_at}
 use Rattle.algebra_core.specs.Scalars.{AreTypedOver}
-use Rattle.algebra_core.specs.Typing.{not_named}
+use Rattle.algebra_core.specs.Typing.{IsScalar, Makes, IsTuple, IsExtension, not_named}
 
 abbrev Attribute : Type 0
 Attribute = Name × Kind
@@ -143,16 +142,16 @@ picked_fits (a ∷ to) heading row f h =
 
 -- ---- items
 
-pub given_names : (from : Heading) (sets : PlainSets) (made : Heading) → Gives from sets made → set_names sets ≡ names_of made
-given_names from [] [] h = refl
-given_names from [] (a ∷ made) h = absurd h
-given_names from (s ∷ sets) [] h = absurd h
-given_names from (s ∷ sets) (a ∷ made) h = ap₂ (λ (n : Name) (ns : List Name). n ∷ ns) h.0 (given_names from sets made h.2)
+pub given_names : (sizes : List ℕ) (from : Heading) (sets : PlainSets) (made : Heading) → Makes sizes from sets made → set_names sets ≡ names_of made
+given_names sizes from [] [] h = refl
+given_names sizes from [] (a ∷ made) h = absurd h
+given_names sizes from (s ∷ sets) [] h = absurd h
+given_names sizes from (s ∷ sets) (a ∷ made) h = ap₂ (λ (n : Name) (ns : List Name). n ∷ ns) h.0 (given_names sizes from sets made h.2)
 
-pub given_typed : (from : Heading) (sets : PlainSets) (made : Heading) (row : Row) → Gives from sets made → IsTrue (fits_heading from row) → AreTypedOver row sets
-given_typed from [] made row h fit = tt
-given_typed from (s ∷ sets) [] row h fit = absurd h
-given_typed from (s ∷ sets) (a ∷ made) row h fit = ((from, a.1, fit, h.1), given_typed from sets made row h.2 fit)
+pub given_typed : (sizes : List ℕ) (from : Heading) (sets : PlainSets) (made : Heading) (row : Row) → Makes sizes from sets made → IsTrue (fits_heading from row) → AreTypedOver row sets
+given_typed sizes from [] made row h fit = tt
+given_typed sizes from (s ∷ sets) [] row h fit = absurd h
+given_typed sizes from (s ∷ sets) (a ∷ made) row h fit = ((from, a.1, fit, h.1.typed), given_typed sizes from sets made row h.2 fit)
 
 one_more : (v : OrFault Value) (rest : OrFault (List Value)) (all : List Value) → both v rest (λ w ws. Ok (w ∷ ws)) ≡ Ok all
     → (w : Value) × (ws : List Value) × (v ≡ Ok w) × (rest ≡ Ok ws) × (w ∷ ws ≡ all)
@@ -160,16 +159,16 @@ one_more (Ok w) (Ok ws) all e = (w, ws, refl, refl, let same : w ∷ ws ≡ all 
 one_more (Ok w) (Err d) all e = absurd (cc)
 one_more (Err d) rest all e = absurd (cc)
 
-pub given_fits : (from : Heading) (sets : PlainSets) (made : Heading) (row values : Row) → Gives from sets made → IsTrue (fits_heading from row)
+pub given_fits : (sizes : List ℕ) (from : Heading) (sets : PlainSets) (made : Heading) (row values : Row) → Makes sizes from sets made → IsTrue (fits_heading from row)
     → values_on row sets ≡ Ok values → IsTrue (fits_heading made values)
-given_fits from [] [] row values h fit e = subst (λ (vs : Row). IsTrue (fits_heading [] vs)) (let same : [] ≡ values = cc in same) refl
-given_fits from [] (a ∷ made) row values h fit e = absurd h
-given_fits from (s ∷ sets) [] row values h fit e = absurd h
-given_fits from (s ∷ sets) (a ∷ made) row values h fit e =
+given_fits sizes from [] [] row values h fit e = subst (λ (vs : Row). IsTrue (fits_heading [] vs)) (let same : [] ≡ values = cc in same) refl
+given_fits sizes from [] (a ∷ made) row values h fit e = absurd h
+given_fits sizes from (s ∷ sets) [] row values h fit e = absurd h
+given_fits sizes from (s ∷ sets) (a ∷ made) row values h fit e =
     let parts = one_more (value s.1 row) (values_on row sets) values e in
     subst (λ (vs : Row). IsTrue (fits_heading (a ∷ made) vs)) parts.4
-    (and_from (fits a.1 parts.0) (fits_heading made parts.1) (value-fits from row s.1 a.1 parts.0 fit h.1 parts.2)
-    (given_fits from sets made row parts.1 h.2 fit parts.3))
+    (and_from (fits a.1 parts.0) (fits_heading made parts.1) (value-fits from row s.1 a.1 parts.0 fit h.1.typed parts.2)
+    (given_fits sizes from sets made row parts.1 h.2 fit parts.3))
 
 -- each attribute of the new heading is the first of its name
 pub first_of_extension : (from to made : Heading) (a : Attribute) → IsTrue (is_heading from) → IsHeadingOf (made ++ not_named (names_of made) from) to → In a to
@@ -193,12 +192,22 @@ split_ok : {X Y : Type 0} (r : OrFault X) (f : X → Y) (y : Y) → then_give r 
 split_ok (Ok x) f y e = (x, refl, let same : f x ≡ y = cc in same)
 split_ok (Err d) f y e = absurd (cc)
 
-pub extended_fits : (from to : Heading) (sets : PlainSets) (at : List ℕ) (x y : Row) → IsTrue (is_heading from) → Extends from to sets
+pub extended_fits : (sizes : List ℕ) (from to : Heading) (sets : PlainSets) (at : List ℕ) (x y : Row) → IsTrue (is_heading from) → IsExtension sizes from to sets
     → at ≡ places (set_names sets ++ names_of from) to → IsTrue (fits_heading from x) → extended_at at sets x ≡ Ok y → IsTrue (fits_heading to y)
-extended_fits from to sets at x y headed h is fit e =
+extended_fits sizes from to sets at x y headed h is fit e =
     let parts = split_ok (values_on x sets) (λ (made : Row). part_of at (made ++ x)) y e in
-    let names : set_names sets ++ names_of from ≡ names_of (h.made ++ from) = ap (λ (ns : List Name). ns ++ names_of from) (given_names from sets h.made h.gives) ∙ sym (map-append (λ (a : Attribute). a.0) h.made from) in
-    let made = given_fits from sets h.made x parts.0 h.gives fit parts.1 in
+    let names : set_names sets ++ names_of from ≡ names_of (h.made ++ from) = ap (λ (ns : List Name). ns ++ names_of from) (given_names sizes from sets h.made h.makes) ∙ sym (map-append (λ (a : Attribute). a.0) h.made from) in
+    let made = given_fits sizes from sets h.made x parts.0 h.makes fit parts.1 in
     let all : IsTrue (fits_heading to (part_of (places (names_of (h.made ++ from)) to) (parts.0 ++ x))) =
     picked_fits to (h.made ++ from) (parts.0 ++ x) (λ a i. first_of_extension from to h.made a headed h.headed i) (fits_append h.made from parts.0 x made fit) in
     subst (λ (z : Row). IsTrue (fits_heading to z)) (ap (λ (ns : List Name). part_of (places ns to) (parts.0 ++ x)) (sym names) ∙ ap (λ (ps : List ℕ). part_of ps (parts.0 ++ x)) (sym is) ∙ parts.2) all
+
+-- ---- tuples
+
+-- a tuple extends the row without attributes
+pub tuple_extends : (sizes : List ℕ) (heading : Heading) (tuple : PlainSets) → IsTuple sizes heading tuple → IsExtension sizes [] heading tuple
+tuple_extends sizes heading tuple h = record {
+  made = h.made;
+  makes = h.makes;
+  headed = subst (λ (l : Heading). IsHeadingOf l heading) (sym (append-nil h.made)) h.headed;
+}

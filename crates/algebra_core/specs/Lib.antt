@@ -1,4 +1,3 @@
-pub mod Extensions
 pub mod Histories
 pub mod Meanings
 pub mod Names

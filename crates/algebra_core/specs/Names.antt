@@ -28,11 +28,15 @@ abbrev pub with_value : Relation → PlainRelvar → PlainRelvar
 with_value value (base old constraints) = base value constraints
 with_value value (view t history) = view t history
 
-abbrev pub given_entry : Name → Relation → Name × PlainRelvar → Name × PlainRelvar
-given_entry name value r = if bytes_eq r.0 name then (r.0, with_value value r.1) else r
+-- what an entry is, where the named relvar has the value, if both are given
+abbrev pub given_relvar : Option Name → Option Relation → Name → PlainRelvar → PlainRelvar
+given_relvar (Some with) (Some value) name r = if bytes_eq name with then with_value value r else r
+given_relvar (Some with) None name r = r
+given_relvar None value name r = r
+
+abbrev pub given_entry : Option Name → Option Relation → Name × PlainRelvar → Name × PlainRelvar
+given_entry with value e = (e.0, given_relvar with value e.0 e.1)
 
 -- the state in which the named relvar has the value, where both are given
 abbrev pub given : Option Name → Option Relation → Entries → Entries
-given (Some name) (Some value) entries = map (given_entry name value) entries
-given (Some name) None entries = entries
-given None value entries = entries
+given with value entries = map (given_entry with value) entries

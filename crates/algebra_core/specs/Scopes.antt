@@ -1,16 +1,17 @@
 -- The first entries of a state as the scope of names.
 --     nodes, weight      the size of an expression, and of all views
 --     CanEvaluate      what an expression in a scope keeps
+--     CanLookUp      what an entry of a scope keeps
 --     known_at      what the names of a scope mean
-use Rattle.std.specs.Prelude.{◌≡◌, ℕ, ◌+◌, ◌<◌, List, [], ◌∷◌, take, Option, Some, option_map, slice_get, Ok, Err}
-use Rattle.point_core.specs.declared.fault.Place.{Place}
-use Rattle.value_core.specs.Values.{Name, Heading, Relation}
+use Rattle.std.specs.Prelude.{◌≡◌, ℕ, zero, suc, ◌+◌, Bool, true, false, List, [], ◌∷◌, take, Option, option_map, IsTrue}
+use Rattle.std.specs.Str.{bytes_eq}
+use Rattle.value_core.specs.Values.{Name, Relation}
 use Rattle.tree_core.specs.Relvars.{PlainRelvar, base, view, Entries, State, read_relvars}
 use Rattle.tree_core.specs.Trees.{Tree, named, literal, infix_of, project, rename, restrict, extend, summarize, pack, unpack, using}
 use Rattle.algebra_core.specs.declared.scope.Scope.{Scope}
 use Rattle.algebra_core.specs.Meanings.{Known, RowsMeant, known_in, relvar_meaning}
-use Rattle.algebra_core.specs.Names.{given}
-use Rattle.algebra_core.specs.Plainness.{IsPlain}
+use Rattle.algebra_core.specs.Names.{given, given_relvar}
+use Rattle.algebra_core.specs.Plainness.{IsPlain, relvar_is_plain, plain_in}
 use Rattle.algebra_core.specs.Typing.{IsTypedTree}
 use Rattle.algebra_core.specs.WellMade.{sizes_of, headings_of, AreRelvars, IsGiven}
 
@@ -67,6 +68,30 @@ pub record CanEvaluate (s : Scope) (t : Tree) : Type 0 where
   pub typed : IsTypedTree (sizes_of (state_of s).ordinals) (headings_of (first_of s)) t
   pub plain : IsPlain (first_of s) t
 
--- what work is left for an expression in a scope
+-- the first entry of a name, at a place
+abbrev pub IsFirstAt : {A : Type 0} → List (Name × A) → Name → ℕ → A → Type 0
+IsFirstAt [] name i x = ⊥
+IsFirstAt (k ∷ ks) name zero x = (bytes_eq k.0 name ≡ true) × (k.1 ≡ x)
+IsFirstAt (k ∷ ks) name (suc i) x = (bytes_eq k.0 name ≡ false) × IsFirstAt ks name i x
+
+-- the scope of the entries before a place
+abbrev pub up_to : Scope → ℕ → Scope
+up_to s at = record s { before = at }
+
+-- the name stands for the relvar or view at a place, which is plain
+pub record CanLookUp (s : Scope) (name : Name) (at : ℕ) (r : PlainRelvar) : Type 0 where
+  pub relvars : AreRelvars (sizes_of (state_of s).ordinals) [] (all_of s)
+  pub given : IsGiven (all_of s) (with_of s) (value_of s)
+  pub first : IsFirstAt (all_of s) name at r
+  pub plain : IsTrue (relvar_is_plain (plain_in (take at (all_of s))) r)
+
+-- what a relvar or view at a place means
+abbrev pub stored_meaning : Scope → Name → ℕ → PlainRelvar → RowsMeant
+stored_meaning s name at r = relvar_meaning (known_at (up_to s at)) (given_relvar (with_of s) (value_of s) name r)
+
+-- what work is left for an expression in a scope, and for an entry
 abbrev pub work : Scope → Tree → ℕ
 work s t = nodes t + weight (first_of s)
+
+abbrev pub stored_work : Scope → ℕ → PlainRelvar → ℕ
+stored_work s at r = relvar_nodes r + weight (take at (all_of s))

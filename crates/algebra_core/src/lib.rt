@@ -2,6 +2,7 @@
 #![tactic(auto)]
 
 mod items;
+mod literal;
 mod operators;
 mod places;
 mod scope;

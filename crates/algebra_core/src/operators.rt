@@ -1,5 +1,5 @@
 // The plain operators of nodes, with the limit of rows told at their places.
-ghost use Rattle.std.specs.Prelude.{◌≡◌, List, MatchResult, Ok, IsTrue};
+ghost use Rattle.std.specs.Prelude.{◌≡◌, ℕ, List, MatchResult, Ok, IsTrue};
 ghost use Rattle.base_core.specs.Outcomes.{then_give};
 ghost use Rattle.value_core.specs.Values.{Heading as PlainHeading, Row as PlainRow, fits_heading};
 ghost use Rattle.scalar_core.specs.Expressions.{read};
@@ -12,8 +12,7 @@ ghost use Rattle.algebra_core.specs.Rows.{extended_at, extended_row};
 ghost use Rattle.algebra_core.specs.Scalars.{AreTypedOver};
 ghost use Rattle.value_core.specs.declared.kind.Kind.TheVariants.{Truth};
 ghost use Rattle.scalar_core.specs.Kinds.{IsTyped};
-ghost use Rattle.algebra_core.specs.Extensions.{Extends};
-ghost use Rattle.algebra_core.specs.Typing.{IsInfix, IsProjection, IsRenaming};
+ghost use Rattle.algebra_core.specs.Typing.{IsInfix, IsProjection, IsRenaming, IsExtension};
 
 use crate::items::{extended_row, holds, set_places};
 use point_core::{Code, Fault, Memory, Place, Stop};
@@ -24,7 +23,7 @@ use tree_core::{InfixWord, Sets};
 use value_core::{Heading, Name, Names, Positions, Relation, Row, RowsRefuse};
 
 /// The most rows of a relation.
-const MOST_ROWS: usize = 100_000;
+pub(crate) const MOST_ROWS: usize = 100_000;
 
 /// The relation, or the fault of too many rows at the place.
 pub(crate) fn told(place: Place, answer: Result<Relation, RowsRefuse>) -> Result<Relation, Stop>
@@ -104,7 +103,7 @@ pub(crate) fn extended(
     heading: &Heading,
     sets: &Sets,
 ) -> Result<Relation, Stop>
-    requires { Extends r.now.heading heading.now (read_sets sets.now) }
+    requires { (sizes : List ℕ) × IsExtension sizes r.now.heading heading.now (read_sets sets.now) }
     ensures { (place : _) → Answers result (under heading.now
         (then_give (extended (extended_row r.now.heading heading.now (read_sets sets.now)) r.now.rows) (limited place))) }
 {

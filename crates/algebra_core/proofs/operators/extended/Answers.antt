@@ -8,7 +8,6 @@ use Rattle.relation_core.specs.Answers.{Answers, under}
 use Rattle.relation_core.specs.Operators.{extended}
 use Rattle.scalar_core.specs.declared.tree.Scalar.{Scalar}
 use Rattle.tree_core.specs.Trees.{PlainSets, read_sets}
-use Rattle.algebra_core.specs.Extensions.{Extends}
 use Rattle.algebra_core.specs.Meanings.{limited}
 use Rattle.algebra_core.specs.Places.{places}
 use Rattle.algebra_core.specs.Rows.{set_names, extended_at, extended_row}
@@ -19,7 +18,7 @@ use Rattle.algebra_core.proofs.operators.extended.Goals as goal
 pub extended_at-requires-clause-typed : goal.extended_at-requires-clause-typed
 extended_at-requires-clause-typed c = λ x fit.
     let items : c.as_slice-items.result.now ≡ c.args.sets.now = search rules in
-    rw items (given_typed c.args.r.now.heading (read_sets c.args.sets.now) c.requires.made x c.requires.gives fit)
+    rw items (given_typed c.requires.0 c.args.r.now.heading (read_sets c.args.sets.now) c.requires.1.made x c.requires.1.makes fit)
 
 pub extended_at-requires-clause-fitting : goal.extended_at-requires-clause-fitting
 extended_at-requires-clause-fitting c = λ x y fit e.
@@ -31,7 +30,7 @@ extended_at-requires-clause-fitting c = λ x y fit e.
     c.as_slice.ensures.value ∙ (c.in_ok-at.ensures ∙ (ap (λ (l : List (Name × Scalar)). places (set_names (read_sets l) ++ names_of c.attributes.result.now) c.attributes-2.result.now) items
     ∙ (ap (λ (h : Heading). places (set_names (read_sets c.args.sets.now) ++ names_of h) c.attributes-2.result.now) (c.attributes.ensures.list ∙ c.heading.ensures.heading)
     ∙ ap (λ (h : Heading). places (set_names (read_sets c.args.sets.now) ++ names_of c.args.r.now.heading) h) c.attributes-2.ensures.list))) in
-    rw head (extended_fits c.args.r.now.heading c.args.heading.now (read_sets c.args.sets.now) c.as_slice.result.now x y c.heading.ensures.relation.headed c.requires at fit made)
+    rw head (extended_fits c.requires.0 c.args.r.now.heading c.args.heading.now (read_sets c.args.sets.now) c.as_slice.result.now x y c.heading.ensures.relation.headed c.requires.1 at fit made)
 
 pub returns : goal.returns
 returns c = λ place.
