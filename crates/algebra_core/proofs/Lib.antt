@@ -1,4 +1,5 @@
 pub mod EntryLemmas
+pub mod EvalLemmas
 pub mod ItemLemmas
 pub mod LimitLemmas
 pub mod LiteralLemmas

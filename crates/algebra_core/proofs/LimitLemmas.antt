@@ -51,7 +51,7 @@ pub one_heading : (list a b : Heading) → IsHeadingOf list a → IsHeadingOf li
 one_heading list a b p q =
     sym (heading_in_order a b (heading_ascends a p.ordered) (IsPermutation-trans a list b (IsPermutation-sym list a p.same) q.same) q.ordered)
 
-abbrev with_rows : Heading → List Row → Relation
+abbrev pub with_rows : Heading → List Row → Relation
 with_rows h rows = record { heading = h; rows = rows }
 
 -- what a renaming gives is the meaning of one

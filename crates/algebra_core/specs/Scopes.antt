@@ -3,7 +3,7 @@
 --     CanEvaluate      what an expression in a scope keeps
 --     CanLookUp      what an entry of a scope keeps
 --     known_at      what the names of a scope mean
-use Rattle.std.specs.Prelude.{◌≡◌, ℕ, zero, suc, ◌+◌, Bool, true, false, List, [], ◌∷◌, take, Option, option_map, IsTrue}
+use Rattle.std.specs.Prelude.{◌≡◌, ℕ, zero, suc, ◌+◌, Bool, true, false, List, [], ◌∷◌, take, Option, Some, None, option_map, IsTrue, if◌then◌else◌}
 use Rattle.std.specs.Str.{bytes_eq}
 use Rattle.value_core.specs.Values.{Name, Relation}
 use Rattle.tree_core.specs.Relvars.{PlainRelvar, base, view, Entries, State, read_relvars}
@@ -84,6 +84,12 @@ pub record CanLookUp (s : Scope) (name : Name) (at : ℕ) (r : PlainRelvar) : Ty
   pub given : IsGiven (all_of s) (with_of s) (value_of s)
   pub first : IsFirstAt (all_of s) name at r
   pub plain : IsTrue (relvar_is_plain (plain_in (take at (all_of s))) r)
+
+-- the value of a base relvar of this name, or the one that stands for it
+abbrev pub current : Option Name → Option Relation → Name → Relation → Relation
+current (Some with) (Some value) name old = if bytes_eq name with then value else old
+current (Some with) None name old = old
+current None value name old = old
 
 -- what a relvar or view at a place means
 abbrev pub stored_meaning : Scope → Name → ℕ → PlainRelvar → RowsMeant

@@ -1,8 +1,10 @@
 //! What typed relational expressions and tests mean in a state of relvars and views, and their evaluation.
 #![tactic(auto)]
 
+mod evaluation;
 mod items;
 mod literal;
 mod operators;
 mod places;
 mod scope;
+mod summary;
