@@ -1,7 +1,9 @@
 -- What nodes mean, from what their parts mean.
 use Rattle.std.proofs.Common.{◌≡◌, ℕ, zero, suc, ◌+◌, ◌<◌, ◌≤◌, Bool, true, false, List, [], ◌∷◌, length, map, take, get_or, refl, sym, ap, ap₂, ◌∙◌, subst, arith, cond, IsTrue, Option, Some, None, Result, Ok, Err, nat_lt, ◌⊎◌, inl, inr}
 use Rattle.std.specs.List.{position, position_or_len}
+use Rattle.std.proofs.lemmas.List.{length-map}
 use Rattle.std.proofs.lemmas.List.Sums.{fails_before_first}
+use Rattle.relation_core.proofs.FilterLemmas.{take_all}
 use Rattle.std.proofs.lemmas.Bool.Decides.{nat_tests}
 use Rattle.std.specs.Prelude.{slice_get}
 use Rattle.std.specs.Str.{bytes_eq}
@@ -18,12 +20,12 @@ use Rattle.tree_core.specs.Trees.{Tree, named, heading_of, read_tree, read_form}
 use Rattle.tree_core.specs.declared.relvar.Relvar.{Relvar}
 use Rattle.tree_core.specs.declared.tree.RelTree.{RelTree}
 use Rattle.tree_core.specs.declared.tree.RelForm.{RelForm, Named, Literal, Infix', Project', Rename', Restrict', Extend', Summarize', Pack', Unpack', Using'}
-use Rattle.algebra_core.specs.Meanings.{RowsMeant, Known, at_name, limited, relvar_meaning}
-use Rattle.algebra_core.specs.Names.{found, each_in, given, given_relvar}
-use Rattle.algebra_core.specs.Plainness.{relvar_is_plain, plain_in}
+use Rattle.algebra_core.specs.Meanings.{RowsMeant, Known, at_name, limited, relvar_meaning, known_in}
+use Rattle.algebra_core.specs.Names.{found, each_in, given, given_relvar, given_entry}
+use Rattle.algebra_core.specs.Plainness.{IsPlain, relvar_is_plain, plain_in}
 use Rattle.algebra_core.specs.Scopes.{CanEvaluate, CanLookUp, IsFirstAt, state_of, all_of, first_of, with_of, value_of, known_at, stored_meaning, stored_work, work, up_to, current}
-use Rattle.algebra_core.specs.Typing.{heading_named}
-use Rattle.algebra_core.specs.WellMade.{sizes_of, headings_of, IsGiven, IsRelvar}
+use Rattle.algebra_core.specs.Typing.{heading_named, IsTypedTree}
+use Rattle.algebra_core.specs.WellMade.{sizes_of, headings_of, IsGiven, IsRelvar, IsWellMade, IsTypedFor}
 use Rattle.algebra_core.specs.declared.scope.Scope.{Scope}
 use Rattle.algebra_core.proofs.EntryLemmas.{found_first, named_first, heading_first, weight_first, relvar_first, given_first}
 use Rattle.algebra_core.proofs.LimitLemmas.{with_rows}
@@ -168,3 +170,25 @@ none_named (d ∷ es) name (suc b) h none e =
       | inl q ↦ true≢false (sym (own_name name) ∙ (ap (λ (n : Name). bytes_eq name n) (sym (same_name d.0 name q)) ∙ none 0 (omega arith)))
       | inr f ↦ none_named es name b h (λ k l. none (suc k) (omega arith)) f
     ]
+
+-- ---- the scope of a whole state
+
+module _ (s : Scope) (whole : length (all_of s) ≤ s.before) where
+  all_first : take s.before (all_of s) ≡ all_of s
+  all_first = take_all s.before (all_of s) whole
+
+  pub whole_can : (t : Tree) → IsWellMade (state_of s) → IsTypedFor (state_of s) t → IsGiven (all_of s) (with_of s) (value_of s) → IsPlain (all_of s) t → CanEvaluate s t
+  whole_can t made typed given plain = record {
+    relvars = made.relvars;
+    given = given;
+    typed = subst (λ (es : Entries). IsTypedTree (sizes_of (state_of s).ordinals) (headings_of es) t) (sym all_first) typed;
+    plain = subst (λ (es : Entries). IsPlain es t) (sym all_first) plain;
+  }
+
+  pub whole_known : known_at s ≡ known_in (given (with_of s) (value_of s) (all_of s))
+  whole_known =
+      ap known_in (take_all s.before (given (with_of s) (value_of s) (all_of s)) (omega (arith, length-map (all_of s) (given_entry (with_of s) (value_of s)))))
+
+pub given_none : (value : Option Relation) (entries : Entries) → given None value entries ≡ entries
+given_none value [] = refl
+given_none value (e ∷ rest) = ap (λ (es : Entries). e ∷ es) (given_none value rest)

@@ -1,6 +1,7 @@
 //! What typed relational expressions and tests mean in a state of relvars and views, and their evaluation.
 #![tactic(auto)]
 
+mod calls;
 mod evaluation;
 mod items;
 mod literal;
@@ -8,3 +9,5 @@ mod operators;
 mod places;
 mod scope;
 mod summary;
+
+pub use calls::{eval, test};
