@@ -4,3 +4,4 @@ pub mod ItemLemmas
 pub mod LimitLemmas
 pub mod LiteralLemmas
 pub mod MadeLemmas
+pub mod TruthLemmas

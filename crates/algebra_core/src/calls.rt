@@ -1,5 +1,5 @@
 // The calls of this crate.
-ghost use Rattle.std.specs.Prelude.{◌≡◌, Ok, option_map};
+ghost use Rattle.std.specs.Prelude.{◌≡◌, Ok, not, option_map};
 ghost use Rattle.base_core.specs.Outcomes.{both, then_give};
 ghost use Rattle.relation_core.specs.Answers.{Answers, under};
 ghost use Rattle.value_core.specs.Values.{same_rows};
@@ -73,10 +73,7 @@ pub fn test<L: Ledger>(
     match &test.form {
         TestForm::Relate(word, _, l, r) => related(alloc, *word, l, r, &scope),
         TestForm::IsEmpty(t) => is_empty(alloc, t, &scope),
-        TestForm::IsNotEmpty(t) => {
-            let empty = is_empty(alloc, t, &scope)?;
-            Ok(!empty)
-        }
+        TestForm::IsNotEmpty(t) => is_not_empty(alloc, t, &scope),
     }
 }
 
@@ -105,6 +102,15 @@ fn is_empty(alloc: Global, t: &RelTree, scope: &Scope<'_>) -> Result<bool, Stop>
 {
     let relation = answer(alloc, t, scope)?;
     Ok(relation.rows().is_empty())
+}
+
+// Whether the relation of the expression has rows.
+fn is_not_empty(alloc: Global, t: &RelTree, scope: &Scope<'_>) -> Result<bool, Stop>
+    requires { CanEvaluate scope.now (read_tree t.now) }
+    ensures { Answers result (then_give (meaning (known_at scope.now) plainly (read_tree t.now)) (λ a. Ok (not (no_rows a)))) }
+{
+    let relation = answer(alloc, t, scope)?;
+    Ok(!relation.rows().is_empty())
 }
 
 // Whether two relations stand as the word says.
