@@ -1,5 +1,5 @@
 -- The least fault so far, row by row.
-use Rattle.std.proofs.Common.{◌≡◌, ℕ, ◌+◌, ◌<◌, List, [], ◌∷◌, ◌++◌, length, get_or, take, map, refl, ap, ◌∙◌, Some, None, Ok, Err, ◌≤◌, inl, inr, Bool, arith}
+use Rattle.std.proofs.Common.{◌≡◌, ℕ, ◌+◌, ◌<◌, List, [], ◌∷◌, ◌++◌, length, get_or, take, map, refl, sym, ap, ◌∙◌, Option, Some, None, Ok, Err, ◌≤◌, inl, inr, Bool, arith}
 use Rattle.std.proofs.lemmas.List.{take_more, map-append}
 use Rattle.std.specs.Bool.{IsTrue}
 use Rattle.std.specs.List.{list_all}
@@ -78,3 +78,19 @@ one_passes q (Err d) rs h k = k
 pub values_pass : {A X : Type 0} (q : X → Bool) (m : A → OrFault X) (xs : List A) → ((x : A) → In x xs → (y : X) → m x ≡ Ok y → IsTrue (q y)) → IsTrue (list_all q (values_of (map m xs)))
 values_pass q m [] h = refl
 values_pass q m (x ∷ xs) h = one_passes q (m x) (map m xs) (h x (inl refl)) (values_pass q m xs (λ z i. h z (inr i)))
+
+-- ---- a step of a loop
+
+pub least_step : {A X : Type 0} (m : A → OrFault X) (xs : List A) (i : ℕ) (x : A) (before now : Option Fault) → i < length xs → x ≡ get_or xs i x
+    → before ≡ fault_of (least_of_all fault_order (map m (take i xs))) → now ≡ lesser_of before (fault_of (m x)) → now ≡ fault_of (least_of_all fault_order (map m (take (i + 1) xs)))
+least_step m xs i x before now l is so_far more =
+    more
+    ∙ (ap (λ z. lesser_of z (fault_of (m x))) so_far
+    ∙ (ap (λ z. lesser_of (fault_of (least_of_all fault_order (map m (take i xs)))) (fault_of (m z))) is ∙ sym (least_more m xs i x l)))
+
+pub values_step : {A X : Type 0} (m : A → OrFault X) (xs : List A) (i : ℕ) (x : A) (before now : List X) → i < length xs → x ≡ get_or xs i x
+    → before ≡ values_of (map m (take i xs)) → now ≡ before ++ values_of (m x ∷ []) → now ≡ values_of (map m (take (i + 1) xs))
+values_step m xs i x before now l is so_far more =
+    more
+    ∙ (ap (λ z. z ++ values_of (m x ∷ [])) so_far
+    ∙ (ap (λ z. values_of (map m (take i xs)) ++ values_of (m z ∷ [])) is ∙ sym (values_more m xs i x l)))

@@ -1,6 +1,12 @@
 pub mod AgreementLemmas
+pub mod ApartLemmas
+pub mod AttributeLemmas
 pub mod FaultLemmas
 pub mod FilterLemmas
+pub mod GroupLemmas
 pub mod HeadingLemmas
+pub mod JoinLemmas
 pub mod MergeLemmas
+pub mod PairLemmas
 pub mod RenamingLemmas
+pub mod RunLemmas

@@ -4,6 +4,7 @@
 --     joined      each row of the one with each row of the other that agrees with it
 --     is_joined      whether a row has its parts in both
 use Rattle.std.specs.Prelude.{◌≡◌, ℕ, Bool, ◌&&◌, List, [], ◌∷◌, ◌++◌, map, filter, flat_map, IsTrue}
+use Rattle.std.specs.Ordering.{eq_by_cmp}
 use Rattle.std.specs.Str.{bytes_eq}
 use Rattle.base_core.specs.Sets.{in_order, has}
 use Rattle.value_core.specs.Values.{Name, Row, Heading, fits_heading, attribute_cmp, row_cmp, rows_of}
@@ -46,3 +47,7 @@ abbrev pub is_joined : Heading → Heading → List Row → List Row → Row →
 is_joined left right r s z =
     fits_heading (joined_heading left right) z
     && (has row_cmp r (part_of (positions_in (joined_heading left right) left) z) && has row_cmp s (part_of (positions_in (joined_heading left right) right) z))
+
+-- each row of the one with each row of the other whose part is the same, by the values at places among those of both
+abbrev pub paired : List ℕ → List ℕ → List ℕ → List Row → List Row → List Row
+paired here there places r s = flat_map (λ x. map (λ y. part_of places (x ++ y)) (filter (λ y. eq_by_cmp row_cmp (part_of here x) (part_of there y)) s)) r

@@ -3,6 +3,7 @@ pub mod Answers
 pub mod Faults
 pub mod Groups
 pub mod Joins
+pub mod Keys
 pub mod Merged
 pub mod Operators
 pub mod Parts

@@ -3,11 +3,14 @@
 
 mod agreement;
 mod answers;
+mod attributes;
 mod extension;
 mod headings;
 mod joining;
+mod keys;
 mod merging;
 mod names;
+mod pairs;
 mod parts;
 mod projection;
 mod renaming;

@@ -44,7 +44,7 @@ fn renamed(
 }
 
 /// Where the attributes of a heading stand in the list.
-fn positions_in(
+pub(crate) fn positions_in(
     alloc: Global,
     list: &[(Name, Kind)],
     heading: &[(Name, Kind)],
