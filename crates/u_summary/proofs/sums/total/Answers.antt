@@ -1,0 +1,11 @@
+use Rattle.std.proofs.Common.{arith}
+use Rattle.std.proofs.lemmas.Int.{ints, to_z-of_z}
+use Rattle.std.proofs.lemmas.List.Sums.{fold_more}
+use Rattle.u_summary.proofs.sums.total.Goals as goal
+
+pub loop-value-preserved : goal.loop-value-preserved
+loop-value-preserved c = record {
+  exact = grind (arith, ints, to_z-of_z, fold_more);
+  low = omega (arith, ints);
+  high = omega (arith, ints);
+}

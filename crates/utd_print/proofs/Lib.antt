@@ -1,0 +1,4 @@
+pub mod CharacterLemmas
+pub mod DateLemmas
+pub mod KindLemmas
+pub mod TableLemmas

@@ -1,0 +1,4 @@
+pub mod Dates
+pub mod Lines
+pub mod Tables
+pub mod Widths
