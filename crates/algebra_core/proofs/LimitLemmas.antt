@@ -27,7 +27,7 @@ use Rattle.algebra_core.specs.Typing.{IsRenaming}
 pub limited_few : (place : Place) (rows : List Row) → length rows ≤ most_rows → limited place rows ≡ Ok rows
 limited_few place rows h = grind (arith, nat_tests)
 
-unlimited : {X : Type 0} (r : OrFault X) (f : X → List Row) (place : Place) → ((x : X) → r ≡ Ok x → length (f x) ≤ most_rows)
+pub unlimited : {X : Type 0} (r : OrFault X) (f : X → List Row) (place : Place) → ((x : X) → r ≡ Ok x → length (f x) ≤ most_rows)
     → then_give (then_give r (λ x. Ok (f x))) (limited place) ≡ then_give r (λ x. Ok (f x))
 unlimited (Ok x) f place h = limited_few place (f x) (h x refl)
 unlimited (Err e) f place h = refl

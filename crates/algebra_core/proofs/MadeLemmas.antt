@@ -26,7 +26,7 @@ use Rattle.algebra_core.specs.Rows.{set_names, values_on, extended_at}
 use Rattle.algebra_core.specs.Scalars.{AreTypedOver}
 use Rattle.algebra_core.specs.Typing.{IsScalar, Makes, IsTuple, IsExtension, not_named}
 
-abbrev Attribute : Type 0
+abbrev pub Attribute : Type 0
 Attribute = Name × Kind
 
 -- ---- names
@@ -76,7 +76,7 @@ first_in a (b ∷ rest) alone i =
 
 -- ---- attributes in order
 
-one_in_order : (xs : Heading) (a b : Attribute) → Ascends attribute_cmp xs → In a xs → In b xs → bytes_eq b.0 a.0 ≡ true → b ≡ a
+pub one_in_order : (xs : Heading) (a b : Attribute) → Ascends attribute_cmp xs → In a xs → In b xs → bytes_eq b.0 a.0 ≡ true → b ≡ a
 one_in_order [] a b up i j e = absurd i
 one_in_order (x ∷ xs) a b up i j e =
     elim i [
@@ -153,7 +153,7 @@ given_typed sizes from [] made row h fit = tt
 given_typed sizes from (s ∷ sets) [] row h fit = absurd h
 given_typed sizes from (s ∷ sets) (a ∷ made) row h fit = ((from, a.1, fit, h.1.typed), given_typed sizes from sets made row h.2 fit)
 
-one_more : (v : OrFault Value) (rest : OrFault (List Value)) (all : List Value) → both v rest (λ w ws. Ok (w ∷ ws)) ≡ Ok all
+pub one_more : (v : OrFault Value) (rest : OrFault (List Value)) (all : List Value) → both v rest (λ w ws. Ok (w ∷ ws)) ≡ Ok all
     → (w : Value) × (ws : List Value) × (v ≡ Ok w) × (rest ≡ Ok ws) × (w ∷ ws ≡ all)
 one_more (Ok w) (Ok ws) all e = (w, ws, refl, refl, let same : w ∷ ws ≡ all = cc in same)
 one_more (Ok w) (Err d) all e = absurd (cc)
@@ -188,7 +188,7 @@ first_of_extension from to made a headed h i =
       ]
     )
 
-split_ok : {X Y : Type 0} (r : OrFault X) (f : X → Y) (y : Y) → then_give r (λ x. Ok (f x)) ≡ Ok y → (x : X) × (r ≡ Ok x) × (f x ≡ y)
+pub split_ok : {X Y : Type 0} (r : OrFault X) (f : X → Y) (y : Y) → then_give r (λ x. Ok (f x)) ≡ Ok y → (x : X) × (r ≡ Ok x) × (f x ≡ y)
 split_ok (Ok x) f y e = (x, refl, let same : f x ≡ y = cc in same)
 split_ok (Err d) f y e = absurd (cc)
 

@@ -1,16 +1,18 @@
 -- Rows that nodes make.
 --     extended_row, literal_row, group_row      of the rows that nodes make, each with its first fault
-use Rattle.std.specs.Prelude.{ℕ, ℤ, pos, ◌+ℤ◌, false, List, [], ◌∷◌, ◌++◌, map, length, fold, Ok}
-use Rattle.std.specs.Ordering.{ord_max, ord_min}
+use Rattle.std.specs.Prelude.{ℕ, pos, Bool, false, List, [], ◌∷◌, ◌++◌, map, length, slice_index_or, Option, Some, None, Ok}
+use Rattle.std.specs.List.{best_of}
 use Rattle.base_core.specs.Outcomes.{then_give, first_of_all, least_of_all}
 use Rattle.point_core.specs.Faults.{OrFault}
 use Rattle.point_core.specs.Points.{integers}
 use Rattle.point_core.specs.declared.fault.Place.{Place}
-use Rattle.value_core.specs.Values.{Name, Value, truth, point, Row, Heading, value_cmp}
+use Rattle.value_core.specs.Values.{Name, Value, truth, point, Row, Heading}
 use Rattle.scalar_core.specs.Operations.{integer, number_of}
 use Rattle.scalar_core.specs.ScalarValues.{value}
 use Rattle.relation_core.specs.Agreement.{names_of, part_of}
 use Rattle.relation_core.specs.Operators.{fault_order}
+use Rattle.u_summary.specs.Summaries.{total, is_before}
+use Rattle.scalar_core.specs.Expressions.{Expr}
 use Rattle.algebra_core.specs.Places.{places}
 use Rattle.tree_core.specs.Trees.{PlainSets, PlainAggregateForm, count_rows, sum_of, min_of, max_of, PlainAggregate}
 
@@ -37,20 +39,26 @@ literal_row heading tuple = extended_row [] heading tuple []
 
 -- ---- the row of a group
 
-abbrev pub sum_of_all : List Value → ℤ
-sum_of_all values = fold (λ s v. s +ℤ number_of v) (pos 0) values
+-- the value that no other one beats; a group has some
+abbrev pub extreme : (Value → Value → Bool) → List Value → Value
+extreme beats [] = truth false
+extreme beats (v ∷ vs) = best_of beats v vs
 
--- the extreme value by an order's choice; a group has some
-abbrev pub extreme : (Value → Value → Value) → List Value → Value
-extreme choose [] = truth false
-extreme choose (v ∷ vs) = fold choose v vs
+-- the value at an index; FALSE without one
+abbrev pub picked : Option ℕ → List Value → Value
+picked None vs = truth false
+picked (Some i) vs = slice_index_or vs i (truth false)
+
+-- the values of an expression on the rows, or their least fault
+abbrev pub values_over : Expr → List Row → OrFault (List Value)
+values_over e rows = least_of_all fault_order (map (value e) rows)
 
 -- an aggregate over the rows of a group: the least fault of its expression over them, or its value
 abbrev pub aggregate_value : Place → PlainAggregateForm → List Row → OrFault Value
 aggregate_value place count_rows group = Ok (point integers (pos (length group)))
-aggregate_value place (sum_of e) group = then_give (least_of_all fault_order (map (value e) group)) (λ vs. integer place (sum_of_all vs))
-aggregate_value place (min_of e) group = then_give (least_of_all fault_order (map (value e) group)) (λ vs. Ok (extreme (ord_min value_cmp) vs))
-aggregate_value place (max_of e) group = then_give (least_of_all fault_order (map (value e) group)) (λ vs. Ok (extreme (ord_max value_cmp) vs))
+aggregate_value place (sum_of e) group = then_give (values_over e group) (λ vs. integer place (total (map number_of vs)))
+aggregate_value place (min_of e) group = then_give (values_over e group) (λ vs. Ok (extreme is_before vs))
+aggregate_value place (max_of e) group = then_give (values_over e group) (λ vs. Ok (extreme (λ v w. is_before w v) vs))
 
 abbrev pub first_row : List Row → Row
 first_row [] = []

@@ -1,6 +1,7 @@
 //! What typed relational expressions and tests mean in a state of relvars and views, and their evaluation.
 #![tactic(auto)]
 
+mod aggregates;
 mod calls;
 mod evaluation;
 mod items;
