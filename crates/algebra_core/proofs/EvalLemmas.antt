@@ -104,11 +104,11 @@ first_from (d ∷ es) name key zero r before here e =
     (ap (λ (n : Name). bytes_eq n name) (sym (same_name name d.0 here)) ∙ own_name name, ap (λ (z : Name × Relvar). read_relvar z.1) same)
 first_from (d ∷ es) name key (suc i) r before here e =
     (differ (bytes_eq d.0 name) refl, first_from es name key i r (λ k l. before (suc k) (omega arith)) here e)
-    where
-      differ : (b : Bool) → bytes_eq d.0 name ≡ b → bytes_eq d.0 name ≡ false
-      differ false q = q
-      differ true q =
-          absurd (true≢false (sym (own_name name) ∙ (ap (λ (n : Name). bytes_eq name n) (sym (same_name d.0 name q)) ∙ before 0 (omega arith))))
+  where
+    differ : (b : Bool) → bytes_eq d.0 name ≡ b → bytes_eq d.0 name ≡ false
+    differ false q = q
+    differ true q =
+        absurd (true≢false (sym (own_name name) ∙ (ap (λ (n : Name). bytes_eq name n) (sym (same_name d.0 name q)) ∙ before 0 (omega arith))))
 
 pub found_at : (es : List (Name × Relvar)) (name key : Name) (i : ℕ) (r : Relvar) → position (bytes_eq name) (map (λ (e : Name × Relvar). e.0) es) ≡ Some i → slice_get es i ≡ Some (key, r)
     → IsFirstAt (map read_entry es) name i (read_relvar r)
@@ -132,12 +132,12 @@ base_by : (entries : Entries) (known : Known) (with : Option Name) (value : Opti
 base_by entries known None value name old constraints h e = refl
 base_by entries known (Some with) None name old constraints h e = refl
 base_by entries known (Some with) (Some value) name old constraints h e = by_test (bytes_eq name with) refl
-    where
-      by_test : (b : Bool) → bytes_eq name with ≡ b → under old.heading (relvar_meaning known (given_relvar (Some with) (Some value) name (base old constraints))) ≡ Ok (current (Some with) (Some value) name old)
-      by_test false q = rw q refl
-      by_test true q =
-          let same : value.heading ≡ old.heading = h.1 ∙ (ap (λ (n : Name). heading_if (relvar_named entries n)) (sym (same_name name with q)) ∙ ap heading_if e) in
-          rw q (ap (λ (g : Heading). Ok (with_rows g value.rows)) (sym same))
+  where
+    by_test : (b : Bool) → bytes_eq name with ≡ b → under old.heading (relvar_meaning known (given_relvar (Some with) (Some value) name (base old constraints))) ≡ Ok (current (Some with) (Some value) name old)
+    by_test false q = rw q refl
+    by_test true q =
+        let same : value.heading ≡ old.heading = h.1 ∙ (ap (λ (n : Name). heading_if (relvar_named entries n)) (sym (same_name name with q)) ∙ ap heading_if e) in
+        rw q (ap (λ (g : Heading). Ok (with_rows g value.rows)) (sym same))
 
 pub base_meant : (s : Scope) (name : Name) (at : ℕ) (old : Relation) (constraints : List Constraint) → CanLookUp s name at (base old constraints)
     → under old.heading (stored_meaning s name at (base old constraints)) ≡ Ok (current (with_of s) (value_of s) name old)

@@ -130,14 +130,14 @@ first_of_summary from to made by a headed within h i =
     let j : In a list = In-permutation to list a (IsPermutation-sym list to h.same) i in
     let alone : IsAlone a list = alone_in list to a h j in
     first_append a made from (λ b k. alone b ((In-append b made kept).1 (inl k))) (
-      elim ((In-append a made kept).0 j) [
-        | inl k ↦ inl k
-        | inr k ↦ inr (
+    elim ((In-append a made kept).0 j) [
+      | inl k ↦ inl k
+      | inr k ↦ inr (
           let m = (In-map (λ (p : ℕ). get_or from p no_attribute) a by).0 k in
           let l : In a from = subst (λ (z : Attribute). In z from) (sym m.2) (In-get from m.0 (within_by_members (length from) by within m.0 m.1)) in
           first_in a from (λ b n. one_in_order from a b (heading_ascends from headed) l n) l
-        )
-      ]
+          )
+    ]
     )
 
 first_fits : (from : Heading) (group : List Row) → IsTrue (list_all (fits_heading from) group) → 0 < length group → IsTrue (fits_heading from (first_row group))
@@ -200,7 +200,7 @@ summary_meant from to by aggregates at rows place is few =
     unlimited (least_of_all fault_order (map f (groups by rows))) rows_of place
     (λ given e. small f given (length-first_of_all (map f (groups by rows)) given ((least_of_all-Ok fault_order total-law (map f (groups by rows)) given).0 e)))
     ∙ ap (λ (ps : List ℕ). summarized by (λ g. group_at ps aggregates (rows_at rows g)) rows) (sym is)
-    where
-      small : (f : List ℕ → OrFault Row) (given : List Row) → length given ≡ length (map f (groups by rows)) → length (rows_of given) ≤ most_rows
-      small f given e =
-          omega (arith, length-in_order row_cmp given, length-map (groups by rows) f, length-map (projected by rows) (group by rows), projected_few by rows few)
+  where
+    small : (f : List ℕ → OrFault Row) (given : List Row) → length given ≡ length (map f (groups by rows)) → length (rows_of given) ≤ most_rows
+    small f given e =
+        omega (arith, length-in_order row_cmp given, length-map (groups by rows) f, length-map (projected by rows) (group by rows), projected_few by rows few)

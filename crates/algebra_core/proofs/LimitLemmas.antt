@@ -43,9 +43,9 @@ pub extended_few : (f : Row → OrFault Row) (rows : List Row) (place : Place) �
 extended_few f rows place h =
     unlimited (least_of_all fault_order (map f rows)) rows_of place
     (λ given e. few given (length-first_of_all (map f rows) given ((least_of_all-Ok fault_order total-law (map f rows) given).0 e)))
-    where
-      few : (given : List Row) → length given ≡ length (map f rows) → length (rows_of given) ≤ most_rows
-      few given e = omega (arith, length-in_order row_cmp given, length-map rows f)
+  where
+    few : (given : List Row) → length given ≡ length (map f rows) → length (rows_of given) ≤ most_rows
+    few given e = omega (arith, length-in_order row_cmp given, length-map rows f)
 
 pub one_heading : (list a b : Heading) → IsHeadingOf list a → IsHeadingOf list b → a ≡ b
 one_heading list a b p q =

@@ -61,18 +61,18 @@ first_append a [] more alone h = elim h [ inl i ↦ absurd i | inr f ↦ f ]
 first_append a (b ∷ rest) more alone h =
     first_by (bytes_eq b.0 a.0) a b (rest ++ more) refl (alone b (inl refl))
     (λ e. first_append a rest more (λ c i. alone c (inr i)) (elim h [ inl i ↦ elim i [ inl s ↦ absurd (apart e s) | inr j ↦ inl j ] | inr f ↦ inr f ]))
-    where
-      apart : bytes_eq b.0 a.0 ≡ false → a ≡ b → ⊥
-      apart e s = true≢false (sym (own_name b.0) ∙ ap (λ (z : Attribute). bytes_eq b.0 z.0) (sym s) ∙ e)
+  where
+    apart : bytes_eq b.0 a.0 ≡ false → a ≡ b → ⊥
+    apart e s = true≢false (sym (own_name b.0) ∙ ap (λ (z : Attribute). bytes_eq b.0 z.0) (sym s) ∙ e)
 
 pub first_in : (a : Attribute) (heading : Heading) → IsAlone a heading → In a heading → IsFirst a heading
 first_in a [] alone i = absurd i
 first_in a (b ∷ rest) alone i =
     first_by (bytes_eq b.0 a.0) a b rest refl (alone b (inl refl))
     (λ e. elim i [ inl s ↦ absurd (apart e s) | inr j ↦ first_in a rest (λ c k. alone c (inr k)) j ])
-    where
-      apart : bytes_eq b.0 a.0 ≡ false → a ≡ b → ⊥
-      apart e s = true≢false (sym (own_name b.0) ∙ ap (λ (z : Attribute). bytes_eq b.0 z.0) (sym s) ∙ e)
+  where
+    apart : bytes_eq b.0 a.0 ≡ false → a ≡ b → ⊥
+    apart e s = true≢false (sym (own_name b.0) ∙ ap (λ (z : Attribute). bytes_eq b.0 z.0) (sym s) ∙ e)
 
 -- ---- attributes in order
 
@@ -89,18 +89,18 @@ one_in_order (x ∷ xs) a b up i j e =
         | inr t ↦ one_in_order xs a b up.1 s t e
       ]
     ]
-    where
-      tied : (a b : Attribute) → bytes_eq b.0 a.0 ≡ true → attribute_cmp a b ≡ Equal
-      tied a b e = ap (λ (n : Name). attribute_cmp a (n, b.1)) (same_name b.0 a.0 e) ∙ tied_itself attribute_total a
+  where
+    tied : (a b : Attribute) → bytes_eq b.0 a.0 ≡ true → attribute_cmp a b ≡ Equal
+    tied a b e = ap (λ (n : Name). attribute_cmp a (n, b.1)) (same_name b.0 a.0 e) ∙ tied_itself attribute_total a
 
-      back : (a b : Attribute) → bytes_eq b.0 a.0 ≡ true → attribute_cmp b a ≡ Equal
-      back a b e = ap (λ (n : Name). attribute_cmp (n, b.1) a) (same_name b.0 a.0 e) ∙ tied_itself attribute_total a
+    back : (a b : Attribute) → bytes_eq b.0 a.0 ≡ true → attribute_cmp b a ≡ Equal
+    back a b e = ap (λ (n : Name). attribute_cmp (n, b.1) a) (same_name b.0 a.0 e) ∙ tied_itself attribute_total a
 
-      before : (a b : Attribute) → bytes_eq b.0 a.0 ≡ true → attribute_cmp a b ≡ Less → ⊥
-      before a b e l = let k = tied a b e in cc
+    before : (a b : Attribute) → bytes_eq b.0 a.0 ≡ true → attribute_cmp a b ≡ Less → ⊥
+    before a b e l = let k = tied a b e in cc
 
-      after : (a b : Attribute) → bytes_eq b.0 a.0 ≡ true → attribute_cmp b a ≡ Less → ⊥
-      after a b e l = let k = back a b e in cc
+    after : (a b : Attribute) → bytes_eq b.0 a.0 ≡ true → attribute_cmp b a ≡ Less → ⊥
+    after a b e l = let k = back a b e in cc
 
 -- in a list of which a heading is made, each attribute is the only one of its name
 pub alone_in : (list heading : Heading) (a : Attribute) → IsHeadingOf list heading → In a list → IsAlone a list
@@ -117,9 +117,9 @@ value_of_first a (b ∷ rest) (v ∷ vs) f h =
     let both = and_parts (fits b.1 v) (fits_heading rest vs) h in
     elim f [
       | inl e ↦ subst (λ (r : Bool). IsTrue (fits a.1 (get_or (v ∷ vs) (cond r 0 (suc (position_of rest a.0))) (truth false)))) (sym e.0)
-      (subst (λ (z : Attribute). IsTrue (fits z.1 v)) e.1 both.0)
+          (subst (λ (z : Attribute). IsTrue (fits z.1 v)) e.1 both.0)
       | inr e ↦ subst (λ (r : Bool). IsTrue (fits a.1 (get_or (v ∷ vs) (cond r 0 (suc (position_of rest a.0))) (truth false)))) (sym e.0)
-      (value_of_first a rest vs e.1 both.1)
+          (value_of_first a rest vs e.1 both.1)
     ]
 
 pub fits_append : (left right : Heading) (x y : Row) → IsTrue (fits_heading left x) → IsTrue (fits_heading right y) → IsTrue (fits_heading (left ++ right) (x ++ y))
@@ -179,13 +179,13 @@ first_of_extension from to made a headed h i =
     let j : In a list = In-permutation to list a (IsPermutation-sym list to h.same) i in
     let alone : IsAlone a list = alone_in list to a h j in
     first_append a made from (λ b k. alone b ((In-append b made kept).1 (inl k))) (
-      elim ((In-append a made kept).0 j) [
-        | inl k ↦ inl k
-        | inr k ↦ inr (
+    elim ((In-append a made kept).0 j) [
+      | inl k ↦ inl k
+      | inr k ↦ inr (
           let l = ((In-filter (λ (b : Attribute). not (list_any (bytes_eq b.0) (names_of made))) a from).0 k).0 in
           first_in a from (λ b m. one_in_order from a b (heading_ascends from headed) l m) l
-        )
-      ]
+          )
+    ]
     )
 
 pub split_ok : {X Y : Type 0} (r : OrFault X) (f : X → Y) (y : Y) → then_give r (λ x. Ok (f x)) ≡ Ok y → (x : X) × (r ≡ Ok x) × (f x ≡ y)

@@ -9,7 +9,7 @@ use Rattle.value_core.specs.declared.constraint.HistoryRule.{HistoryRule}
 use Rattle.value_core.specs.declared.kind.Kind.{Kind}
 use Rattle.value_core.specs.declared.kind.Kind.TheVariants.{Truth, Char, Point, Span}
 use Rattle.value_core.specs.declared.list.OrdinalNames.{OrdinalNames}
-use Rattle.value_core.specs.Values.{Name, Heading, Relation, IsRelation}
+use Rattle.value_core.specs.Values.{Name, Heading, Relation}
 use Rattle.tree_core.specs.Relvars.{PlainRelvar, base, view, Entries, State, relvar_named, relvar_heading, heading_if, constraints_if}
 use Rattle.tree_core.specs.Trees.{Tree, Test, named}
 use Rattle.algebra_core.specs.Histories.{joined_history, last_point, type_at, name_at}
@@ -115,7 +115,7 @@ IsHistory before t (Some names) =
 -- a relvar or view is well made behind those that were declared before it
 abbrev pub IsRelvar : List ℕ → Entries → Name → PlainRelvar → Type 0
 IsRelvar sizes before own (base value constraints) =
-    IsTrue (is_declared sizes value.heading) × IsRelation value × All (IsConstraint before own (base value constraints)) constraints
+    IsTrue (is_declared sizes value.heading) × All (IsConstraint before own (base value constraints)) constraints
 IsRelvar sizes before own (view t history) = IsTypedTree sizes (headings_of before) t × IsHistory before t history
 
 abbrev pub AreRelvars : List ℕ → Entries → Entries → Type 0

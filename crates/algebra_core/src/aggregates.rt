@@ -99,12 +99,7 @@ fn summed(place: Place, integers: &[i64]) -> Result<Value, Stop>
 }
 
 /// The least of the expression's values. There is a row.
-fn least_of(
-    alloc: Global,
-    e: &Scalar,
-    rows: &[Row],
-    numbers: &[usize],
-) -> Result<Value, Stop>
+fn least_of(alloc: Global, e: &Scalar, rows: &[Row], numbers: &[usize]) -> Result<Value, Stop>
     requires within { All (λ (i : ℕ). i < length rows.now) numbers.now }
     requires typed { AllOver rows.now (read e.now) }
     ensures { Gives plain result (then_give (values_over (read e.now) (rows_at rows.now numbers.now)) (λ vs. Ok (extreme is_before vs))) }
@@ -116,12 +111,7 @@ fn least_of(
 }
 
 /// The greatest of the expression's values. There is a row.
-fn greatest_of(
-    alloc: Global,
-    e: &Scalar,
-    rows: &[Row],
-    numbers: &[usize],
-) -> Result<Value, Stop>
+fn greatest_of(alloc: Global, e: &Scalar, rows: &[Row], numbers: &[usize]) -> Result<Value, Stop>
     requires within { All (λ (i : ℕ). i < length rows.now) numbers.now }
     requires typed { AllOver rows.now (read e.now) }
     ensures { Gives plain result (then_give (values_over (read e.now) (rows_at rows.now numbers.now)) (λ vs. Ok (extreme (λ v w. is_before w v) vs))) }

@@ -21,17 +21,18 @@ use value_core::{Heading, Name, Names, Positions, Relation};
 
 /// The relation of an expression, or its fault.
 #[cycle(answer)]
-pub(crate) fn answer(
-    alloc: Global,
-    tree: &RelTree,
-    scope: &Scope<'_>,
-) -> Result<Relation, Stop>
+pub(crate) fn answer(alloc: Global, tree: &RelTree, scope: &Scope<'_>) -> Result<Relation, Stop>
     requires { CanEvaluate scope.now (read_tree tree.now) }
     ensures { Answers result (under tree.now.heading (meaning (known_at scope.now) plainly (read_tree tree.now))) }
 {
     match &tree.form {
         RelForm::Named(name) => named(alloc, tree.place, &tree.heading, name, scope),
-        RelForm::Literal(tuples) => literal(alloc, tree.place, &tree.heading, tuples.list.as_slice()),
+        RelForm::Literal(tuples) => literal(
+            alloc,
+            tree.place,
+            &tree.heading,
+            tuples.list.as_slice(),
+        ),
         RelForm::Infix(word, l, r) => infix(alloc, tree, *word, l, r, scope),
         RelForm::Project(kept, t) => project(alloc, tree, kept, t, scope),
         RelForm::Rename(names, t) => rename(alloc, tree, names, t, scope),
@@ -73,7 +74,10 @@ fn stored(
     ensures { Answers result (under (relvar_heading (read_relvar relvar.now)) (stored_meaning scope.now name.now at (read_relvar relvar.now))) }
 {
     match relvar {
-        Relvar::Base { value, constraints: _ } => base_value(alloc, name, value, scope),
+        Relvar::Base {
+            value,
+            constraints: _,
+        } => base_value(alloc, name, value, scope),
         Relvar::View { tree, history: _ } => {
             let before = earlier(scope, at);
             answer(alloc, tree, &before)
@@ -224,10 +228,10 @@ fn told_at_name(place: Place, answer: Result<Relation, Stop>) -> Result<Relation
             prove!(relation.rows().len() <= MOST_ROWS);
             Ok(relation)
         }
-        Err(Stop::Fault(fault)) => Err(Stop::Fault(Fault {
-            place,
-            code: fault.code,
-        })),
+        Err(Stop::Fault(fault)) => {
+            let code = fault.code;
+            Err(Stop::Fault(Fault { place, code }))
+        }
         Err(Stop::Memory) => Err(Stop::Memory),
     }
 }

@@ -43,11 +43,7 @@ fn relation(alloc: Global, heading: &Heading, rows: Vec<Row>) -> Result<Relation
 }
 
 /// The rows of the tuples, or their first fault.
-fn tuple_rows(
-    alloc: Global,
-    heading: &[(Name, Kind)],
-    tuples: &[Sets],
-) -> Result<Vec<Row>, Stop>
+fn tuple_rows(alloc: Global, heading: &[(Name, Kind)], tuples: &[Sets]) -> Result<Vec<Row>, Stop>
     requires { (sizes : List ℕ) × All (IsTuple sizes heading.now) (map read_sets tuples.now) }
     ensures { Gives (λ rows. rows.items) result (first_of_all (map (literal_row heading.now) (map read_sets tuples.now))) }
 {

@@ -16,7 +16,9 @@ ghost use Rattle.algebra_core.specs.Typing.{IsInfix, IsProjection, IsRenaming, I
 
 use crate::items::{extended_row, holds, set_places};
 use point_core::{Code, Fault, Memory, Place, Stop};
-use relation_core::{extend, intersect, join, matching, minus, not_matching, project, rename, restrict, union};
+use relation_core::{
+    extend, intersect, join, matching, minus, not_matching, project, rename, restrict, union,
+};
 use scalar_core::Scalar;
 use std::alloc::Global;
 use tree_core::{InfixWord, Sets};

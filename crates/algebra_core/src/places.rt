@@ -67,12 +67,7 @@ pub(crate) fn pick(
 }
 
 /// The value at the place; FALSE past the end.
-fn value_at(
-    alloc: Global,
-    made: &[Value],
-    row: &[Value],
-    place: usize,
-) -> Result<Value, Memory>
+fn value_at(alloc: Global, made: &[Value], row: &[Value], place: usize) -> Result<Value, Memory>
     ensures { IfOk result (λ v. plain v ≡ slice_index_or (map plain made.now ++ map plain row.now) place (truth false)) }
 {
     if place < made.len() {

@@ -11,6 +11,4 @@ pub use declaration::{Assignment, Declaration, HistoryData};
 pub use item::{Change, Item, ItemForm, Items, Portion};
 pub use relvar::{Relvar, Relvars};
 pub use test::{RelTest, RelateWord, TestForm};
-pub use tree::{
-    Aggregate, AggregateForm, Aggregates, InfixWord, RelForm, RelTree, Sets, Tuples,
-};
+pub use tree::{Aggregate, AggregateForm, Aggregates, InfixWord, RelForm, RelTree, Sets, Tuples};

@@ -50,9 +50,11 @@ extend-returns t c =
 pub infix-infix-requires : goal.infix-infix-requires
 infix-infix-requires t c =
     let left = operand_heading c.args.l.now (meaning (known_at c.args.scope.now) plainly (read_tree c.args.l.now)) c.in_ok-left.left c.in_ok-left.ensures in
-    let right = operand_heading c.args.r.now (meaning (known_at c.args.scope.now) plainly (read_tree c.args.r.now)) c.in_ok-right.right c.in_ok-right.ensures in
-    (c.args.tree.now.heading, subst (λ (h : Heading). IsInfix c.args.word h c.in_ok-right.right.heading c.args.tree.now.heading) (sym left)
-    (subst (λ (h : Heading). IsInfix c.args.word (heading_of (read_tree c.args.l.now)) h c.args.tree.now.heading) (sym right) c.requires.typed.2))
+    let right = operand_heading c.args.r.now (meaning (known_at c.args.scope.now) plainly (read_tree c.args.r.now)) c.in_ok-right.right c.in_ok-right.ensures in (
+      c.args.tree.now.heading,
+      subst (λ (h : Heading). IsInfix c.args.word h c.in_ok-right.right.heading c.args.tree.now.heading) (sym left)
+          (subst (λ (h : Heading). IsInfix c.args.word (heading_of (read_tree c.args.l.now)) h c.args.tree.now.heading) (sym right) c.requires.typed.2),
+    )
 
 pub infix-returns : goal.infix-returns
 infix-returns t c =
@@ -138,9 +140,11 @@ pub stored-answer-requires : goal.stored-answer-requires
 stored-answer-requires t c =
     let can = subst (λ (r : Relvar). CanLookUp c.args.scope.now c.args.name.now c.args.at (read_relvar r)) c.in-View.is c.requires in
     let here = ap (λ (s : Scope). work s (read_tree c.in-View.tree)) c.earlier-before.ensures in
-    let there = ap (λ (r : Relvar). stored_work c.args.scope.now c.args.at (read_relvar r)) c.in-View.is in
-    (omega (arith, here, there), subst (λ (s : Scope). CanEvaluate s (read_tree c.in-View.tree)) (sym c.earlier-before.ensures)
-    (view_can c.args.scope.now c.args.name.now c.args.at (read_tree c.in-View.tree) c.in-View.history can))
+    let there = ap (λ (r : Relvar). stored_work c.args.scope.now c.args.at (read_relvar r)) c.in-View.is in (
+      omega (arith, here, there),
+      subst (λ (s : Scope). CanEvaluate s (read_tree c.in-View.tree)) (sym c.earlier-before.ensures)
+          (view_can c.args.scope.now c.args.name.now c.args.at (read_tree c.in-View.tree) c.in-View.history can),
+    )
 
 pub stored-returns-in-Base : goal.stored-returns-in-Base
 stored-returns-in-Base t c =

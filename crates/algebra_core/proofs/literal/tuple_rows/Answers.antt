@@ -13,9 +13,11 @@ use Rattle.algebra_core.proofs.literal.tuple_rows.Goals as goal
 pub tuple_row-requires : goal.tuple_row-requires
 tuple_row-requires c =
     let l : c.loop-tuple.tuple-index < length c.args.tuples.now = omega arith in
-    let e : c.as_slice.result.now ≡ c.tuple-item.result = c.as_slice.ensures.value ∙ c.tuple.view_is in
-    (c.requires.0, subst (λ (sets : List (Name × Scalar)). IsTuple c.requires.0 c.args.heading.now (read_sets sets)) (sym e)
-    (all_at (IsTuple c.requires.0 c.args.heading.now) read_sets c.args.tuples.now c.loop-tuple.tuple-index c.tuple-item.result c.requires.1 l c.tuple-item.is))
+    let e : c.as_slice.result.now ≡ c.tuple-item.result = c.as_slice.ensures.value ∙ c.tuple.view_is in (
+      c.requires.0,
+      subst (λ (sets : List (Name × Scalar)). IsTuple c.requires.0 c.args.heading.now (read_sets sets)) (sym e)
+          (all_at (IsTuple c.requires.0 c.args.heading.now) read_sets c.args.tuples.now c.loop-tuple.tuple-index c.tuple-item.result c.requires.1 l c.tuple-item.is),
+    )
 
 pub returns-in_err-tuple_row : goal.returns-in_err-tuple_row
 returns-in_err-tuple_row c =
