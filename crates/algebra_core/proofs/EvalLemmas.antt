@@ -1,0 +1,194 @@
+-- What nodes mean, from what their parts mean.
+use Rattle.std.proofs.Common.{◌≡◌, ℕ, zero, suc, ◌+◌, ◌<◌, ◌≤◌, Bool, true, false, List, [], ◌∷◌, length, map, take, get_or, refl, sym, ap, ap₂, ◌∙◌, subst, arith, cond, IsTrue, Option, Some, None, Result, Ok, Err, nat_lt, ◌⊎◌, inl, inr}
+use Rattle.std.specs.List.{position, position_or_len}
+use Rattle.std.proofs.lemmas.List.{length-map}
+use Rattle.std.proofs.lemmas.List.Sums.{fails_before_first}
+use Rattle.relation_core.proofs.FilterLemmas.{take_all}
+use Rattle.std.proofs.lemmas.Bool.Decides.{nat_tests}
+use Rattle.std.specs.Prelude.{slice_get}
+use Rattle.std.specs.Str.{bytes_eq}
+use Rattle.std.proofs.lemmas.Bool.{true≢false, and_parts}
+use Rattle.std.proofs.lemmas.List.Quantifiers.{position-Some}
+use Rattle.base_core.specs.Outcomes.{then_give, both}
+use Rattle.point_core.specs.declared.fault.Place.{Place}
+use Rattle.point_core.specs.declared.fault.Stop.{Stop}
+use Rattle.value_core.specs.declared.constraint.Constraint.{Constraint}
+use Rattle.value_core.specs.Values.{Name, Row, Heading, Relation}
+use Rattle.relation_core.specs.Answers.{Answers, under}
+use Rattle.tree_core.specs.Relvars.{PlainRelvar, base, view, Entries, relvar_named, relvar_heading, heading_if, read_relvar, read_entry}
+use Rattle.tree_core.specs.Trees.{Tree, named, heading_of, read_tree, read_form}
+use Rattle.tree_core.specs.declared.relvar.Relvar.{Relvar}
+use Rattle.tree_core.specs.declared.tree.RelTree.{RelTree}
+use Rattle.tree_core.specs.declared.tree.RelForm.{RelForm, Named, Literal, Infix', Project', Rename', Restrict', Extend', Summarize', Pack', Unpack', Using'}
+use Rattle.algebra_core.specs.Meanings.{RowsMeant, Known, at_name, limited, relvar_meaning, known_in}
+use Rattle.algebra_core.specs.Names.{found, each_in, given, given_relvar, given_entry}
+use Rattle.algebra_core.specs.Plainness.{IsPlain, relvar_is_plain, plain_in}
+use Rattle.algebra_core.specs.Scopes.{CanEvaluate, CanLookUp, IsFirstAt, state_of, all_of, first_of, with_of, value_of, known_at, stored_meaning, stored_work, work, up_to, current}
+use Rattle.algebra_core.specs.Typing.{heading_named, IsTypedTree}
+use Rattle.algebra_core.specs.WellMade.{sizes_of, headings_of, IsGiven, IsRelvar, IsWellMade, IsTypedFor}
+use Rattle.algebra_core.specs.declared.scope.Scope.{Scope}
+use Rattle.algebra_core.proofs.EntryLemmas.{found_first, named_first, heading_first, weight_first, relvar_first, given_first}
+use Rattle.algebra_core.proofs.LimitLemmas.{with_rows}
+use Rattle.algebra_core.proofs.MadeLemmas.{same_name, own_name}
+
+-- ---- headings
+
+heading_of_form : (place : Place) (h : Heading) (form : RelForm) → heading_of (read_form place h form) ≡ h
+heading_of_form place h (Named name) = refl
+heading_of_form place h (Literal tuples) = refl
+heading_of_form place h (Infix' word p at g form q other_at other_g other_form) = refl
+heading_of_form place h (Project' kept p at g form) = refl
+heading_of_form place h (Rename' names p at g form) = refl
+heading_of_form place h (Restrict' c p at g form) = refl
+heading_of_form place h (Extend' sets p at g form) = refl
+heading_of_form place h (Summarize' by aggregates p at g form) = refl
+heading_of_form place h (Pack' acl p at g form) = refl
+heading_of_form place h (Unpack' acl p at g form) = refl
+heading_of_form place h (Using' acl p at g form) = refl
+
+pub under_ok : (h : Heading) (m : RowsMeant) (a : Relation) → under h m ≡ Ok a → (m ≡ Ok a.rows) × (h ≡ a.heading)
+under_ok h (Ok rows) a e =
+    let same : with_rows h rows ≡ a = cc in
+    (ap (λ (r : Relation). Ok r.rows) same, ap (λ (r : Relation). r.heading) same)
+under_ok h (Err d) a e = absurd (cc)
+
+-- the heading of an operand's relation is that of its expression
+pub operand_heading : (t : RelTree) (m : RowsMeant) (a : Relation) → under t.heading m ≡ Ok a → a.heading ≡ heading_of (read_tree t)
+operand_heading t m a e = sym (under_ok t.heading m a e).1 ∙ sym (heading_of_form t.place t.heading t.form)
+
+-- ---- one operand, and two
+
+pub unary_meant : (result : Result Relation Stop) (h from : Heading) (m : RowsMeant) (a : Relation) (f : List Row → RowsMeant)
+    → under from m ≡ Ok a → Answers result (under h (f a.rows)) → Answers result (under h (then_give m f))
+unary_meant result h from m a f e told = subst (λ (z : RowsMeant). Answers result (under h (then_give z f))) (sym (under_ok from m a e).0) told
+
+pub binary_meant : (result : Result Relation Stop) (h left right : Heading) (m n : RowsMeant) (a b : Relation) (f : List Row → List Row → RowsMeant)
+    → under left m ≡ Ok a → under right n ≡ Ok b → Answers result (under h (f a.rows b.rows)) → Answers result (under h (both m n f))
+binary_meant result h left right m n a b f d e told =
+    unary_meant result h left m a (λ x. then_give n (f x)) d (unary_meant result h right n b (f a.rows) e told)
+
+-- ---- names
+
+module _ (s : Scope) (place : Place) (h : Heading) (name : Name) (at : ℕ) (x : PlainRelvar) (can : CanEvaluate s (named place h name)) (first : IsFirstAt (all_of s) name at x) where
+  pub stands_before : (at < s.before) × (relvar_heading x ≡ h)
+  stands_before = heading_first (all_of s) name at s.before x h first can.typed
+
+  pub can_look_up : CanLookUp s name at x
+  can_look_up = record {
+    relvars = can.relvars;
+    given = can.given;
+    first = first;
+    plain = subst (λ (b : Bool). IsTrue b) (found_first relvar_is_plain true (all_of s) name at s.before x first stands_before.0) can.plain;
+  }
+
+  pub work_falls : stored_work s at x < work s (named place h name)
+  work_falls = let w = weight_first (all_of s) name at s.before x first stands_before.0 in omega (arith, w)
+
+  meant : found (Ok []) (known_at s) name ≡ stored_meaning s name at x
+  meant =
+      found_first relvar_meaning (Ok []) (given (with_of s) (value_of s) (all_of s)) name at s.before (given_relvar (with_of s) (value_of s) name x)
+      (given_first (with_of s) (value_of s) (all_of s) name at x first) stands_before.0
+
+  pub named_meant : (result : Result Relation Stop) → Answers result (under (relvar_heading x) (then_give (at_name place (stored_meaning s name at x)) (limited place)))
+      → Answers result (under h (then_give (at_name place (found (Ok []) (known_at s) name)) (limited place)))
+  named_meant result told =
+      subst (λ (z : RowsMeant). Answers result (under h (then_give (at_name place z) (limited place)))) (sym meant)
+      (subst (λ (z : Heading). Answers result (under z (then_give (at_name place (stored_meaning s name at x)) (limited place)))) stands_before.1 told)
+
+-- where a map finds a name, it stands first
+pub first_from : (es : List (Name × Relvar)) (name key : Name) (i : ℕ) (r : Relvar) → ((k : ℕ) → k < i → bytes_eq name (get_or (map (λ (e : Name × Relvar). e.0) es) k []) ≡ false)
+    → bytes_eq name (get_or (map (λ (e : Name × Relvar). e.0) es) i []) ≡ true → slice_get es i ≡ Some (key, r) → IsFirstAt (map read_entry es) name i (read_relvar r)
+first_from [] name key i r before here e = absurd (cc)
+first_from (d ∷ es) name key zero r before here e =
+    let same : d ≡ (key, r) = cc in
+    (ap (λ (n : Name). bytes_eq n name) (sym (same_name name d.0 here)) ∙ own_name name, ap (λ (z : Name × Relvar). read_relvar z.1) same)
+first_from (d ∷ es) name key (suc i) r before here e =
+    (differ (bytes_eq d.0 name) refl, first_from es name key i r (λ k l. before (suc k) (omega arith)) here e)
+  where
+    differ : (b : Bool) → bytes_eq d.0 name ≡ b → bytes_eq d.0 name ≡ false
+    differ false q = q
+    differ true q =
+        absurd (true≢false (sym (own_name name) ∙ (ap (λ (n : Name). bytes_eq name n) (sym (same_name d.0 name q)) ∙ before 0 (omega arith))))
+
+pub found_at : (es : List (Name × Relvar)) (name key : Name) (i : ℕ) (r : Relvar) → position (bytes_eq name) (map (λ (e : Name × Relvar). e.0) es) ≡ Some i → slice_get es i ≡ Some (key, r)
+    → IsFirstAt (map read_entry es) name i (read_relvar r)
+found_at es name key i r p e =
+    let all = position-Some (bytes_eq name) (map (λ (e : Name × Relvar). e.0) es) i [] p in
+    first_from es name key i r all.2 all.1 e
+
+-- ---- what an entry is
+
+pub view_can : (s : Scope) (name : Name) (at : ℕ) (t : Tree) (history : Option (Name × Name)) → CanLookUp s name at (view t history) → CanEvaluate (up_to s at) t
+view_can s name at t history can = record {
+  relvars = can.relvars;
+  given = can.given;
+  typed = (relvar_first (sizes_of (state_of s).ordinals) (all_of s) name at (view t history) can.relvars can.first).1.0;
+  plain = can.plain;
+}
+
+base_by : (entries : Entries) (known : Known) (with : Option Name) (value : Option Relation) (name : Name) (old : Relation) (constraints : List Constraint)
+    → IsGiven entries with value → relvar_named entries name ≡ Some (base old constraints)
+    → under old.heading (relvar_meaning known (given_relvar with value name (base old constraints))) ≡ Ok (current with value name old)
+base_by entries known None value name old constraints h e = refl
+base_by entries known (Some with) None name old constraints h e = refl
+base_by entries known (Some with) (Some value) name old constraints h e = by_test (bytes_eq name with) refl
+  where
+    by_test : (b : Bool) → bytes_eq name with ≡ b → under old.heading (relvar_meaning known (given_relvar (Some with) (Some value) name (base old constraints))) ≡ Ok (current (Some with) (Some value) name old)
+    by_test false q = rw q refl
+    by_test true q =
+        let same : value.heading ≡ old.heading = h.1 ∙ (ap (λ (n : Name). heading_if (relvar_named entries n)) (sym (same_name name with q)) ∙ ap heading_if e) in
+        rw q (ap (λ (g : Heading). Ok (with_rows g value.rows)) (sym same))
+
+pub base_meant : (s : Scope) (name : Name) (at : ℕ) (old : Relation) (constraints : List Constraint) → CanLookUp s name at (base old constraints)
+    → under old.heading (stored_meaning s name at (base old constraints)) ≡ Ok (current (with_of s) (value_of s) name old)
+base_meant s name at old constraints can =
+    base_by (all_of s) (known_at (up_to s at)) (with_of s) (value_of s) name old constraints can.given (named_first (all_of s) name at (base old constraints) can.first)
+
+-- ---- where a map finds no name
+
+none_before : (p : Name → Bool) (xs : List Name) (b : Bool) → nat_lt (position_or_len p xs) (length xs) ≡ b → cond b (Some (position_or_len p xs)) None ≡ None
+    → (k : ℕ) → k < length xs → p (get_or xs k []) ≡ false
+none_before p xs true q e k l = absurd (cc)
+none_before p xs false q e k l = fails_before_first p xs k [] (let m : length xs ≤ position_or_len p xs = grind (arith, nat_tests) in omega (arith, m))
+
+pub none_passes : (p : Name → Bool) (xs : List Name) → position p xs ≡ None → (k : ℕ) → k < length xs → p (get_or xs k []) ≡ false
+none_passes p xs e k l = none_before p xs (nat_lt (position_or_len p xs) (length xs)) refl e k l
+
+named_more : (t : Bool) (d : Name × Heading) (rest : List (Name × Heading)) (name : Name) (h : Heading) → bytes_eq d.0 name ≡ t → heading_named (d ∷ rest) name ≡ Some h
+    → (bytes_eq d.0 name ≡ true) ⊎ (heading_named rest name ≡ Some h)
+named_more true d rest name h q e = inl q
+named_more false d rest name h q e = inr (ap (λ (b : Bool). cond b (Some d.1) (heading_named rest name)) (sym q) ∙ e)
+
+pub none_named : (es : List (Name × Relvar)) (name : Name) (b : ℕ) (h : Heading)
+    → ((k : ℕ) → k < length (map (λ (e : Name × Relvar). e.0) es) → bytes_eq name (get_or (map (λ (e : Name × Relvar). e.0) es) k []) ≡ false)
+    → heading_named (headings_of (take b (map read_entry es))) name ≡ Some h → ⊥
+none_named [] name zero h none e = cc
+none_named [] name (suc b) h none e = cc
+none_named (d ∷ es) name zero h none e = cc
+none_named (d ∷ es) name (suc b) h none e =
+    elim (named_more (bytes_eq d.0 name) (d.0, relvar_heading (read_relvar d.1)) (headings_of (take b (map read_entry es))) name h refl e) [
+      | inl q ↦ true≢false (sym (own_name name) ∙ (ap (λ (n : Name). bytes_eq name n) (sym (same_name d.0 name q)) ∙ none 0 (omega arith)))
+      | inr f ↦ none_named es name b h (λ k l. none (suc k) (omega arith)) f
+    ]
+
+-- ---- the scope of a whole state
+
+module _ (s : Scope) (whole : length (all_of s) ≤ s.before) where
+  all_first : take s.before (all_of s) ≡ all_of s
+  all_first = take_all s.before (all_of s) whole
+
+  pub whole_can : (t : Tree) → IsWellMade (state_of s) → IsTypedFor (state_of s) t → IsGiven (all_of s) (with_of s) (value_of s) → IsPlain (all_of s) t → CanEvaluate s t
+  whole_can t made typed given plain = record {
+    relvars = made.relvars;
+    given = given;
+    typed = subst (λ (es : Entries). IsTypedTree (sizes_of (state_of s).ordinals) (headings_of es) t) (sym all_first) typed;
+    plain = subst (λ (es : Entries). IsPlain es t) (sym all_first) plain;
+  }
+
+  pub whole_known : known_at s ≡ known_in (given (with_of s) (value_of s) (all_of s))
+  whole_known =
+      ap known_in (take_all s.before (given (with_of s) (value_of s) (all_of s)) (omega (arith, length-map (all_of s) (given_entry (with_of s) (value_of s)))))
+
+pub given_none : (value : Option Relation) (entries : Entries) → given None value entries ≡ entries
+given_none value [] = refl
+given_none value (e ∷ rest) = ap (λ (es : Entries). e ∷ es) (given_none value rest)

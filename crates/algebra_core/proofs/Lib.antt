@@ -1,0 +1,9 @@
+pub mod EntryLemmas
+pub mod EvalLemmas
+pub mod GroupFits
+pub mod ItemLemmas
+pub mod LimitLemmas
+pub mod LiteralLemmas
+pub mod MadeLemmas
+pub mod SummaryLemmas
+pub mod TruthLemmas

@@ -1,0 +1,13 @@
+pub mod Histories
+pub mod Meanings
+pub mod Names
+pub mod Places
+pub mod Plainness
+pub mod RowPacking
+pub mod Rows
+pub mod Scalars
+pub mod Scopes
+pub mod Sweeping
+pub mod Truths
+pub mod Typing
+pub mod WellMade

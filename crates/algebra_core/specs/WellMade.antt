@@ -1,0 +1,146 @@
+-- Well made states: what declarations keep. And what is typed for a state.
+use Rattle.std.specs.Prelude.{◌≡◌, ℕ, suc, ◌<◌, ◌≤◌, Bool, true, false, ◌&&◌, List, [], ◌∷◌, ◌++◌, map, length, nat_eq, Option, Some, None, IsTrue}
+use Rattle.std.specs.List.{list_all, list_any, All, IsDistinct}
+use Rattle.std.specs.Str.{bytes_eq}
+use Rattle.point_core.specs.declared.fault.Place.{Place}
+use Rattle.value_core.specs.declared.constraint.Constraint.{Constraint}
+use Rattle.value_core.specs.declared.constraint.Constraint.TheVariants.{Key, Packed, WhenUnpacked, UKey, Foreign, History}
+use Rattle.value_core.specs.declared.constraint.HistoryRule.{HistoryRule}
+use Rattle.value_core.specs.declared.kind.Kind.{Kind}
+use Rattle.value_core.specs.declared.kind.Kind.TheVariants.{Truth, Char, Point, Span}
+use Rattle.value_core.specs.declared.list.OrdinalNames.{OrdinalNames}
+use Rattle.value_core.specs.Values.{Name, Heading, Relation}
+use Rattle.tree_core.specs.Relvars.{PlainRelvar, base, view, Entries, State, relvar_named, relvar_heading, heading_if, constraints_if}
+use Rattle.tree_core.specs.Trees.{Tree, Test, named}
+use Rattle.algebra_core.specs.Histories.{joined_history, last_point, type_at, name_at}
+use Rattle.algebra_core.specs.Sweeping.{among}
+use Rattle.algebra_core.specs.Typing.{Headings, IsList, kind_at, is_declared, IsTypedTree, IsTypedTest}
+
+-- how many values each ordinal type has
+abbrev pub sizes_of : List OrdinalNames → List ℕ
+sizes_of ordinals = map (λ o. length o.values) ordinals
+
+-- 1 to 1,000 different names
+pub record IsOrdinalType (o : OrdinalNames) : Type 0 where
+  pub some : 1 ≤ length o.values
+  pub few : length o.values ≤ 1000
+  pub different : IsDistinct bytes_eq o.values
+
+-- the headings of the relvars and views
+abbrev pub headings_of : Entries → Headings
+headings_of entries = map (λ r. (r.0, relvar_heading r.1)) entries
+
+abbrev pub all_names : State → List Name
+all_names s = map (λ o. o.name) s.ordinals ++ map (λ r. r.0) s.relvars
+
+-- ---- constraints
+
+-- different positions in a heading
+pub record AreDifferent (heading : Heading) (positions : List ℕ) : Type 0 where
+  pub within : All (λ (i : ℕ). i < length heading) positions
+  pub different : IsDistinct nat_eq positions
+
+-- positions of the same kinds, here and there
+abbrev pub AreAlike : Heading → List ℕ → Heading → List ℕ → Type 0
+AreAlike h [] g [] = Unit {0}
+AreAlike h [] g (j ∷ js) = ⊥
+AreAlike h (i ∷ is) g [] = ⊥
+AreAlike h (i ∷ is) g (j ∷ js) = (kind_at h i ≡ kind_at g j) × AreAlike h is g js
+
+-- an interval here, and a point of its type there
+abbrev pub IsOver : Kind → Kind → Type 0
+IsOver Truth k = ⊥
+IsOver Char k = ⊥
+IsOver (Point t) k = ⊥
+IsOver (Span t) k = k ≡ Point t
+
+-- the attributes that are unpacked are among those of the key
+abbrev pub AreAmong : List ℕ → List ℕ → Type 0
+AreAmong key acl = IsTrue (list_all (among key) acl)
+
+-- the constraint fits the heading of its relvar, and that of the relvar that it names
+abbrev pub FitsHeadings : Heading → Heading → Constraint → Type 0
+FitsHeadings h g (Key k) = AreDifferent h k
+FitsHeadings h g (Packed acl) = IsList h acl
+FitsHeadings h g (WhenUnpacked acl k) = IsList h acl × AreDifferent h k × AreAmong k acl
+FitsHeadings h g (UKey acl k) = IsList h acl × AreDifferent h k × AreAmong k acl
+FitsHeadings h g (Foreign acl k name there) = IsList h acl × AreDifferent h k × AreAmong k acl × AreDifferent g there × AreAlike h k g there
+FitsHeadings h g (History r) =
+    AreDifferent h r.key_here × AreDifferent g r.key_there × AreAlike h r.key_here g r.key_there
+    × AreDifferent h r.all_here × AreDifferent g r.all_there × AreAlike h r.all_here g r.all_there
+    × (r.span_here < length h) × (r.point_there < length g) × IsOver (kind_at h r.span_here) (kind_at g r.point_there)
+
+-- the name is that of a base relvar
+abbrev pub IsBase : Option PlainRelvar → Type 0
+IsBase None = ⊥
+IsBase (Some (base value constraints)) = Unit {0}
+IsBase (Some (view t history)) = ⊥
+
+-- the named relvar is a base relvar, whose heading the constraint fits too
+abbrev pub FitsNamed : Entries → Heading → Name → Constraint → Type 0
+FitsNamed entries h name c = IsBase (relvar_named entries name) × FitsHeadings h (heading_if (relvar_named entries name)) c
+
+-- a foreign key names its own relvar or a base relvar before it, and a history's constraint a base relvar before its own
+abbrev pub IsConstraint : Entries → Name → PlainRelvar → Constraint → Type 0
+IsConstraint before own r (Foreign acl k name there) =
+    FitsNamed (before ++ (own, r) ∷ []) (relvar_heading r) name (Foreign acl k name there)
+IsConstraint before own r (History rule) = FitsNamed before (relvar_heading r) rule.since (History rule)
+IsConstraint before own r c = FitsHeadings (relvar_heading r) [] c
+
+-- ---- views of histories
+
+abbrev pub rule_among : List Constraint → Option HistoryRule
+rule_among [] = None
+rule_among (History rule ∷ rest) = Some rule
+rule_among (c ∷ rest) = rule_among rest
+
+-- the view of a history is what its relvars and their rule make it
+abbrev pub IsOfRule : Entries → Name → Name → Tree → Option HistoryRule → Type 0
+IsOfRule before s d t None = ⊥
+IsOfRule before s d t (Some rule) =
+    let since = heading_if (relvar_named before s) in
+    let during = heading_if (relvar_named before d) in
+    let over = type_at during rule.span_here in
+    (place : Place) × (rule.since ≡ s)
+    × (t ≡ joined_history place place over (name_at since rule.point_there) (name_at during rule.span_here) d since during (last_point place over) (named place since s))
+
+abbrev pub IsHistory : Entries → Tree → Option (Name × Name) → Type 0
+IsHistory before t None = Unit {0}
+IsHistory before t (Some names) =
+    IsBase (relvar_named before names.0) × IsBase (relvar_named before names.1)
+    × IsOfRule before names.0 names.1 t (rule_among (constraints_if (relvar_named before names.1)))
+
+-- ---- relvars
+
+-- a relvar or view is well made behind those that were declared before it
+abbrev pub IsRelvar : List ℕ → Entries → Name → PlainRelvar → Type 0
+IsRelvar sizes before own (base value constraints) =
+    IsTrue (is_declared sizes value.heading) × All (IsConstraint before own (base value constraints)) constraints
+IsRelvar sizes before own (view t history) = IsTypedTree sizes (headings_of before) t × IsHistory before t history
+
+abbrev pub AreRelvars : List ℕ → Entries → Entries → Type 0
+AreRelvars sizes before [] = Unit {0}
+AreRelvars sizes before (r ∷ rest) = IsRelvar sizes before r.0 r.1 × AreRelvars sizes (before ++ r ∷ []) rest
+
+-- a well made state
+pub record IsWellMade (s : State) : Type 0 where
+  pub few : length s.ordinals ≤ 16
+  pub ordinals : All IsOrdinalType s.ordinals
+  pub different : IsDistinct bytes_eq (all_names s)
+  pub relvars : AreRelvars (sizes_of s.ordinals) [] s.relvars
+
+-- ---- what is typed for a state
+
+abbrev pub IsTypedFor : State → Tree → Type 0
+IsTypedFor s t = IsTypedTree (sizes_of s.ordinals) (headings_of s.relvars) t
+
+abbrev pub IsTypedTestFor : State → Test → Type 0
+IsTypedTestFor s t = IsTypedTest (sizes_of s.ordinals) (headings_of s.relvars) t
+
+-- a name of a base relvar and a relation of its heading, both or neither
+abbrev pub IsGiven : Entries → Option Name → Option Relation → Type 0
+IsGiven entries None None = Unit {0}
+IsGiven entries None (Some value) = ⊥
+IsGiven entries (Some name) None = ⊥
+IsGiven entries (Some name) (Some value) =
+    IsBase (relvar_named entries name) × (value.heading ≡ heading_if (relvar_named entries name))

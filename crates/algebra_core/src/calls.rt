@@ -1,0 +1,142 @@
+// The calls of this crate.
+ghost use Rattle.std.specs.Prelude.{◌≡◌, Ok, not, option_map};
+ghost use Rattle.base_core.specs.Outcomes.{both, then_give};
+ghost use Rattle.relation_core.specs.Answers.{Answers, under};
+ghost use Rattle.value_core.specs.Values.{same_rows};
+ghost use Rattle.tree_core.specs.Relvars.{read_relvars};
+ghost use Rattle.tree_core.specs.Trees.{read_tree, read_test, heading_of};
+ghost use Rattle.algebra_core.specs.Meanings.{meaning, meaning_in, plainly};
+ghost use Rattle.algebra_core.specs.Names.{given};
+ghost use Rattle.algebra_core.specs.Plainness.{IsPlain, IsPlainTest};
+ghost use Rattle.algebra_core.specs.Scopes.{CanEvaluate, known_at};
+ghost use Rattle.algebra_core.specs.Truths.{truth_in, related_rows, no_rows, within};
+ghost use Rattle.algebra_core.specs.WellMade.{IsWellMade, IsTypedFor, IsTypedTestFor, IsGiven};
+
+use crate::evaluation::answer;
+use crate::scope::Scope;
+use point_core::{Steps, Stop};
+use std::alloc::Global;
+use std::sync::ledger::Ledger;
+use tree_core::{RelTest, RelTree, RelateWord, Relvars, TestForm};
+use value_core::{Name, Relation};
+
+/// The relation of an expression where these are the relvars and views, or its first fault. Where a base relvar and a value are
+/// given, this value stands for the relvar's, in views too.
+///
+/// For now the expression and the views that it names do without PACK, UNPACK and USING.
+pub fn eval<L: Ledger>(
+    alloc: Global,
+    tree: &RelTree,
+    relvars: &Relvars,
+    with: Option<&Name>,
+    value: Option<&Relation>,
+    _steps: &mut Steps<L>,
+) -> Result<Relation, Stop>
+    requires well_made { IsWellMade (read_relvars relvars.now) }
+    requires typed { IsTypedFor (read_relvars relvars.now) (read_tree tree.now) }
+    requires given { IsGiven (read_relvars relvars.now).relvars (option_map (λ n. n.now) with) (option_map (λ v. v.now) value) }
+    requires plain { IsPlain (read_relvars relvars.now).relvars (read_tree tree.now) }
+    ensures value { Answers result (under tree.now.heading
+        (meaning_in (given (option_map (λ n. n.now) with.entry) (option_map (λ v. v.now) value.entry) (read_relvars relvars.now).relvars) (read_tree tree.now))) }
+    ensures steps { _steps.new ≡ _steps.old }
+{
+    let scope = Scope {
+        relvars,
+        with,
+        value,
+        before: relvars.list.len(),
+    };
+    answer(alloc, tree, &scope)
+}
+
+/// Whether a test holds where these are the relvars and views, or its first fault.
+///
+/// For now its expressions and the views that these name do without PACK, UNPACK and USING, and so does the test.
+pub fn test<L: Ledger>(
+    alloc: Global,
+    test: &RelTest,
+    relvars: &Relvars,
+    _steps: &mut Steps<L>,
+) -> Result<bool, Stop>
+    requires well_made { IsWellMade (read_relvars relvars.now) }
+    requires typed { IsTypedTestFor (read_relvars relvars.now) (read_test test.now) }
+    requires plain { IsPlainTest (read_relvars relvars.now).relvars (read_test test.now) }
+    ensures value { Answers result (truth_in (read_relvars relvars.now).relvars (read_test test.now)) }
+    ensures steps { _steps.new ≡ _steps.old }
+{
+    let scope = Scope {
+        relvars,
+        with: None,
+        value: None,
+        before: relvars.list.len(),
+    };
+    match &test.form {
+        TestForm::Relate(word, _, l, r) => related(alloc, *word, l, r, &scope),
+        TestForm::IsEmpty(t) => is_empty(alloc, t, &scope),
+        TestForm::IsNotEmpty(t) => is_not_empty(alloc, t, &scope),
+    }
+}
+
+// Whether the relations of two expressions stand as the word says.
+fn related(
+    alloc: Global,
+    word: RelateWord,
+    l: &RelTree,
+    r: &RelTree,
+    scope: &Scope<'_>,
+) -> Result<bool, Stop>
+    requires left { CanEvaluate scope.now (read_tree l.now) }
+    requires right { CanEvaluate scope.now (read_tree r.now) }
+    ensures { Answers result (both (meaning (known_at scope.now) plainly (read_tree l.now)) (meaning (known_at scope.now) plainly (read_tree r.now))
+        (λ a b. Ok (related_rows word a b))) }
+{
+    let left = answer(alloc, l, scope)?;
+    let right = answer(alloc, r, scope)?;
+    Ok(compare(word, &left, &right))
+}
+
+// Whether the relation of the expression has no rows.
+fn is_empty(alloc: Global, t: &RelTree, scope: &Scope<'_>) -> Result<bool, Stop>
+    requires { CanEvaluate scope.now (read_tree t.now) }
+    ensures { Answers result (then_give (meaning (known_at scope.now) plainly (read_tree t.now)) (λ a. Ok (no_rows a))) }
+{
+    let relation = answer(alloc, t, scope)?;
+    Ok(relation.rows().is_empty())
+}
+
+// Whether the relation of the expression has rows.
+fn is_not_empty(alloc: Global, t: &RelTree, scope: &Scope<'_>) -> Result<bool, Stop>
+    requires { CanEvaluate scope.now (read_tree t.now) }
+    ensures { Answers result (then_give (meaning (known_at scope.now) plainly (read_tree t.now)) (λ a. Ok (not (no_rows a)))) }
+{
+    let relation = answer(alloc, t, scope)?;
+    Ok(!relation.rows().is_empty())
+}
+
+// Whether two relations stand as the word says.
+fn compare(word: RelateWord, left: &Relation, right: &Relation) -> bool
+    ensures { result ≡ related_rows word left.now.rows right.now.rows }
+{
+    match word {
+        RelateWord::Equal => same(left, right),
+        RelateWord::NotEqual => !same(left, right),
+        RelateWord::Less => within(left, right) && !same(left, right),
+        RelateWord::LessEqual => within(left, right),
+        RelateWord::Greater => within(right, left) && !same(left, right),
+        RelateWord::GreaterEqual => within(right, left),
+    }
+}
+
+// Whether two relations have the same rows.
+fn same(left: &Relation, right: &Relation) -> bool
+    ensures { result ≡ same_rows left.now.rows right.now.rows }
+{
+    within(left, right) && within(right, left)
+}
+
+// Whether each row of the one relation is one of the other's.
+fn within(left: &Relation, right: &Relation) -> bool
+    ensures { result ≡ within left.now.rows right.now.rows }
+{
+    left.rows().iter().all(|row| right.contains(row))
+}
