@@ -1,1 +1,3 @@
 pub mod LiteralLemmas
+pub mod NameLemmas
+pub mod DayLemmas

@@ -22,15 +22,15 @@ first_from p n (x ∷ xs) = if p x then Some (n, x) else first_from p (n + 1) xs
 
 -- ---- attributes
 
--- the attribute of the name, and its position
-abbrev pub attribute_of : Heading → Name → Option (ℕ × Name × Kind)
-attribute_of heading name = option_map (λ (found : ℕ × (Name × Kind)). (found.0, found.1.0, found.1.1)) (first_from (λ a. bytes_eq a.0 name) 0 heading)
+-- the position of the attribute of the name, and its kind
+abbrev pub attribute_of : Heading → Name → Option (ℕ × Kind)
+attribute_of heading name = option_map (λ (found : ℕ × (Name × Kind)). (found.0, found.1.1)) (first_from (λ a. bytes_eq a.0 name) 0 heading)
 
 -- E14 at a name that is no attribute
 abbrev pub attribute_typed : Heading → Word → OrFault Typed
 attribute_typed heading w = do
   found ← value_or w.place E14 (attribute_of heading w.bytes)
-  Ok (attribute w.place found.0, found.2)
+  Ok (attribute w.place found.0, found.1)
 
 -- ---- ordinal types
 

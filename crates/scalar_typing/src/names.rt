@@ -1,5 +1,5 @@
 // What names stand for.
-ghost use Rattle.std.specs.Prelude.{◌≡◌, ◌≤◌, length, option_map};
+ghost use Rattle.std.specs.Prelude.{◌≡◌, ◌<◌, ◌≤◌, length, option_map, IfSome};
 ghost use Rattle.std.specs.Str.{bytes_eq};
 ghost use Rattle.utd_syntax.specs.Read.{read_name, read_point};
 ghost use Rattle.point_core.specs.Faults.{fault};
@@ -56,7 +56,9 @@ pub fn attribute_typed(heading: &Heading, word: &Word) -> Result<Typed, Stop>
 
 /// The ordinal type of the name, and its place among the types.
 fn ordinal_of<'a>(types: &'a OrdinalTypes, name: &[u8]) -> Option<(usize, &'a OrdinalNames)>
-    ensures { option_map (λ found. (found.0, found.1.now)) result ≡ names.ordinal_of types.now name.now }
+    requires { AreOrdinals types.now }
+    ensures found { option_map (λ found. (found.0, found.1.now)) result ≡ names.ordinal_of types.now name.now }
+    ensures few { IfSome result (λ found. (found.0 < 16) × (length found.1.now.values ≤ 1000)) }
 {
     for (at, ordinal) in types.list.iter().enumerate() {
         if is_called(&ordinal.name, name) {
@@ -68,7 +70,8 @@ fn ordinal_of<'a>(types: &'a OrdinalTypes, name: &[u8]) -> Option<(usize, &'a Or
 
 /// The number of the value of the name.
 fn value_of(values: &Names, name: &[u8]) -> Option<usize>
-    ensures { result ≡ names.value_of values.now name.now }
+    ensures found { result ≡ names.value_of values.now name.now }
+    ensures within { IfSome result (λ at. at < length values.now) }
 {
     for (at, value) in values.list.iter().enumerate() {
         if is_called(value, name) {
