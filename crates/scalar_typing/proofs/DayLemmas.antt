@@ -1,19 +1,23 @@
 -- A date of the calendar has the number of a day.
-use Rattle.std.specs.Prelude.{◌≡◌, ℕ, zero, suc, ◌+◌, ◌-◌, ◌≤◌, Bool, true, false, nat_le, if◌then◌else◌, refl}
-use Rattle.std.proofs.Common.{arith}
-use Rattle.std.proofs.lemmas.Bool.{leb-true}
+use Rattle.std.specs.Prelude.{◌≡◌, ℕ, zero, suc, ◌+◌, ◌-◌, ◌≤◌, Bool, true, false, if◌then◌else◌, refl}
+use Rattle.std.proofs.Common.{arith, ap, inl, inr}
+use Rattle.std.proofs.lemmas.Bool.Decides.{leb_tells}
 use Rattle.std.proofs.lemmas.Int.{ints}
 use Rattle.point_core.specs.Dates.{is_leap, days_of_year, days_of_month, days_of_years, days_of_months, day_place, date_number, IsCalendarDate, IsDay}
 
-not-least : (b : Bool) (m n : ℕ) → nat_le m n ≡ b → m ≤ suc n → (b ≡ true → m ≤ n) × (b ≡ false → m ≡ suc n)
-not-least true m n e h = (λ _. leb-true m n e, λ f. absurd cc)
-not-least false m n e h = (λ f. absurd cc, λ _. ?)
-
-mutual
-  years-below : (n m : ℕ) → n ≤ m → days_of_years n ≤ days_of_years m
-  unfolding days_of_years
-  years-below n zero h = ?
-  years-below n (suc m) h = ?
+-- more years have no fewer days
+years-below : (n m : ℕ) → n ≤ m → days_of_years n ≤ days_of_years m
+unfolding days_of_years
+years-below n zero h =
+    let none : n ≡ zero = omega arith in
+    omega (arith, ap days_of_years none)
+years-below n (suc m) h =
+    elim (leb_tells n m) [
+      inl t ↦ omega (arith, years-below n m t.1)
+      | inr f ↦
+          let same : n ≡ suc m = omega (arith, f.1) in
+          omega (arith, ap days_of_years same)
+    ]
 
 leap-year : (b : Bool) → (if b then 29 else 28) + 337 ≡ (if b then 366 else 365)
 leap-year true = refl
@@ -40,7 +44,9 @@ months-within year (suc (suc (suc (suc (suc (suc (suc (suc (suc (suc (suc (suc (
 whole-year : (year : ℕ) → 1 ≤ year → days_of_years (year - 1) + days_of_year year ≡ days_of_years year
 unfolding days_of_years
 whole-year zero low = absurd (omega arith)
-whole-year (suc year) low = refl
+whole-year (suc year) low =
+    let before : suc year - 1 ≡ year = omega arith in
+    rw before
 
 epoch : day_place 1970 1 1 ≡ 719163
 unfolding day_place days_of_years days_of_months

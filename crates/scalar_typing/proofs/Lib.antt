@@ -1,3 +1,5 @@
 pub mod LiteralLemmas
 pub mod NameLemmas
 pub mod DayLemmas
+pub mod TypedLemmas
+pub mod SoundLemmas

@@ -138,7 +138,7 @@ written a b c d p e f q g h year month date t is_year is_month is_date =
     ((leb-true 1 year five.0, y.0, leb-true 1 month five.1, leb-true month 12 five.2, leb-true 1 date five.3, leb-true date (days_of_month year month) five.4), cc)
 
 -- ten elements, or another number of them
-undated : (bytes : List ℕ) → is_date bytes ≡ true → IsDateText bytes (number_of_date bytes)
+pub undated : (bytes : List ℕ) → is_date bytes ≡ true → IsDateText bytes (number_of_date bytes)
 undated [] t = absurd cc
 undated (a ∷ []) t = absurd cc
 undated (a ∷ b ∷ []) t = absurd cc

@@ -1,5 +1,8 @@
 // Row expressions, over a heading. The parts of a node are typed before it, left to right.
+ghost use Rattle.std.specs.Prelude.{IfOk};
 ghost use Rattle.scalar_core.specs.Answers.{Gives};
+ghost use Rattle.scalar_core.specs.Expressions.{read};
+ghost use Rattle.scalar_core.specs.Kinds.{IsTyped};
 ghost use Rattle.utd_syntax.specs.Read.{read_scalar, read_conj, read_neg, read_cmp, read_sum, read_prod, read_sign, read_primary};
 ghost use Rattle.scalar_typing.specs.Typings.{typed};
 ghost use Rattle.scalar_typing.specs.Names.{AreOrdinals};
@@ -22,6 +25,7 @@ pub fn type_scalar(
 ) -> Result<Typed, Stop>
     requires { AreOrdinals types.now }
     ensures typing { Gives typed result (typed_scalar types.now heading.now (read_scalar s.now)) }
+    ensures kind { IfOk result (λ t. IsTyped heading.now (read t.scalar) t.kind) }
 {
     scalar(alloc, types, heading, s)
 }
