@@ -5,6 +5,7 @@ mod agreement;
 mod answers;
 mod extension;
 mod headings;
+mod joining;
 mod merging;
 mod names;
 mod parts;
@@ -12,13 +13,16 @@ mod projection;
 mod renaming;
 mod restriction;
 mod sets;
+mod summary;
 
 pub use agreement::{matching, not_matching};
 pub use extension::extend;
+pub use joining::join;
 pub use projection::project;
 pub use renaming::rename;
 pub use restriction::restrict;
 pub use sets::{intersect, minus, union};
+pub use summary::summarize;
 
 #[cfg(test)]
 mod tests;

@@ -1,0 +1,62 @@
+-- The state that expressions are evaluated in, as plain data: relvars, views and ordinal types, in order of declaration.
+--     State, read_relvars      what relvars are read as, and how
+--     relvar_named, heading_if ..      what is looked up in a state
+use Rattle.std.specs.Prelude.{List, [], ◌∷◌, map, Option, Some, None, if◌then◌else◌}
+use Rattle.std.specs.Str.{bytes_eq}
+use Rattle.value_core.specs.Values.{Name, Heading, Relation}
+use Rattle.value_core.specs.declared.list.OrdinalNames.{OrdinalNames}
+use Rattle.value_core.specs.declared.constraint.Constraint.{Constraint}
+use Rattle.tree_core.specs.Trees.{Tree, heading_of, read_tree}
+use Rattle.tree_core.specs.declared.relvar.Relvar.{Relvar}
+use Rattle.tree_core.specs.declared.relvar.Relvar.TheVariants.{Base, View}
+use Rattle.tree_core.specs.declared.relvar.Relvars.{Relvars}
+
+-- a base relvar, or a view; a history's view with its since relvar and its during relvar
+pub data PlainRelvar : Type 0 where
+  base : Relation → List Constraint → PlainRelvar
+  view : Tree → Option (Name × Name) → PlainRelvar
+
+-- the entries of a state, in order of declaration
+abbrev pub Entries : Type 0
+Entries = List (Name × PlainRelvar)
+
+pub record State : Type 0 where
+  pub ordinals : List OrdinalNames
+  pub relvars : Entries
+
+-- ---- reading
+
+abbrev pub read_relvar : Relvar → PlainRelvar
+read_relvar (Base value constraints) = base value constraints
+read_relvar (View tree history) = view (read_tree tree) history
+
+abbrev pub read_entry : Name × Relvar → Name × PlainRelvar
+read_entry e = (e.0, read_relvar e.1)
+
+abbrev pub read_relvars : Relvars → State
+read_relvars relvars = record { ordinals = relvars.ordinals; relvars = map read_entry relvars.list.entries }
+
+-- ---- what is looked up
+
+abbrev pub relvar_named : Entries → Name → Option PlainRelvar
+relvar_named [] name = None
+relvar_named (r ∷ rest) name = if bytes_eq r.0 name then Some r.1 else relvar_named rest name
+
+abbrev pub relvar_heading : PlainRelvar → Heading
+relvar_heading (base value constraints) = value.heading
+relvar_heading (view t history) = heading_of t
+
+abbrev pub heading_if : Option PlainRelvar → Heading
+heading_if None = []
+heading_if (Some r) = relvar_heading r
+
+abbrev pub constraints_if : Option PlainRelvar → List Constraint
+constraints_if None = []
+constraints_if (Some (base value constraints)) = constraints
+constraints_if (Some (view t history)) = []
+
+-- the since relvar and the during relvar of a history's view
+abbrev pub history_names : Option PlainRelvar → Option (Name × Name)
+history_names None = None
+history_names (Some (base value constraints)) = None
+history_names (Some (view t history)) = history
