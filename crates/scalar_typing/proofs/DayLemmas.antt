@@ -13,7 +13,7 @@ years-below n zero h =
     omega (arith, ap days_of_years none)
 years-below n (suc m) h =
     elim (leb_tells n m) [
-      inl t ↦ omega (arith, years-below n m t.1)
+      | inl t ↦ omega (arith, years-below n m t.1)
       | inr f ↦
           let same : n ≡ suc m = omega (arith, f.1) in
           omega (arith, ap days_of_years same)

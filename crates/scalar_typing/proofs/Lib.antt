@@ -3,3 +3,4 @@ pub mod NameLemmas
 pub mod DayLemmas
 pub mod TypedLemmas
 pub mod SoundLemmas
+mod Checks

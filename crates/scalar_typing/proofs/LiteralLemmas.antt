@@ -1,12 +1,12 @@
 -- The numbers of digits and of dates.
-use Rattle.std.specs.Prelude.{◌≡◌, ◌≢◌, ◌≤◌, ◌<◌, ℕ, ◌+◌, ◌-◌, ◌*◌, ◌/◌, ◌%◌, ℤ, pos, Bool, true, false, ◌&&◌, ◌==◌, nat_le, nat_eq, List, [], ◌∷◌, Option, Some, None, slice_index_or, if◌then◌else◌, zero, suc, IsSome, IsNone, IfSome, IfOk, MatchOption, Result, Ok, Err, length, option_map, refl}
+use Rattle.std.specs.Prelude.{◌≡◌, ◌≤◌, ◌<◌, ℕ, ◌+◌, ◌-◌, ◌*◌, ◌/◌, ◌%◌, ℤ, Bool, true, false, ◌&&◌, ◌==◌, nat_le, nat_eq, List, [], ◌∷◌, Option, Some, None, slice_index_or, if◌then◌else◌, zero, suc, IsNone, IfSome, IfOk, MatchOption, Result, Ok, Err, length, option_map, refl}
 use Rattle.std.proofs.Common.{arith, ◌⊎◌, inl, inr, drop, get_or, sym, ◌∙◌, ap, subst, eq-eqb}
 use Rattle.std.proofs.lemmas.Bool.{le-leb, leb-true, eqb-true}
-use Rattle.point_core.specs.Dates.{IsCalendarDate, IsDateText, date_text, date_number, four_digits, two_digits, days_of_month, month_days, is_leap, IsDay}
+use Rattle.point_core.specs.Dates.{IsCalendarDate, IsDateText, date_text, date_number, four_digits, two_digits, days_of_month, month_days, is_leap}
 use Rattle.utd_syntax.specs.Limits.{value_after, value_of, is_digit, are_digits, is_day, is_date}
 use Rattle.std.specs.Str.{IsUtf8, IsValidUpTo}
 use Rattle.std.specs.Str.Lossy.{utf8_valid_len}
-use Rattle.std.proofs.lemmas.Str.{utf8_valid_len-IsUtf8, utf8_valid_len-IsValidUpTo}
+use Rattle.std.proofs.lemmas.Str.{utf8_valid_len-IsUtf8}
 use Rattle.std.proofs.lemmas.List.{at_drop_more}
 use Rattle.point_core.specs.declared.date_type.Day.{Day}
 use Rattle.value_core.specs.Lengths.{IsTextLength}
@@ -90,7 +90,7 @@ dated year month date h =
     let m = two-value month (omega (arith, h.3)) in
     let d = two-value date small in
     let ds = are-digits (year / 100 / 10) (year / 100 % 10) (year % 100 / 10) (year % 100 % 10) (month / 10) (month % 10) (date / 10) (date % 10)
-      (omega (arith, h.1)) (omega (arith, h.1)) (omega (arith, h.1)) (omega (arith, h.1)) (omega (arith, h.3)) (omega (arith, h.3)) (omega arith) (omega arith) in
+    (omega (arith, h.1)) (omega (arith, h.1)) (omega (arith, h.1)) (omega (arith, h.1)) (omega (arith, h.3)) (omega (arith, h.3)) (omega arith) (omega arith) in
     let e : is_day (value_of (four_digits year)) (value_of (two_digits month)) (value_of (two_digits date)) ≡ true = rw (y, m, d) (day year month date h) in
     let t : is_date (date_text year month date) ≡ true = search (all) in
     let n : number_of_date (date_text year month date) ≡ date_number year month date = rw (y, m, d) in
@@ -223,5 +223,5 @@ made-text bytes text (Ok None) same valid h =
     left-if (is_utf8 bytes) (nat_le (length bytes) 255) bytes (inr (long-text bytes (λ short. h (subst IsTextLength (sym same) short))))
 made-text bytes text (Ok (Some t)) same valid h =
     ap Some (h.0 ∙ same) ∙ taken-if (is_utf8 bytes) (nat_le (length bytes) 255) bytes (valid-utf8 bytes valid)
-      (le-leb (length bytes) 255 (subst IsTextLength same h.1))
+    (le-leb (length bytes) 255 (subst IsTextLength same h.1))
 made-text bytes text (Err e) same valid h = tt

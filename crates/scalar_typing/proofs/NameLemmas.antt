@@ -1,6 +1,6 @@
 -- The first of a list that passes stands at its place, and passes.
-use Rattle.std.specs.Prelude.{◌≡◌, ◌<◌, ℕ, zero, suc, ◌+◌, Bool, true, false, List, [], ◌∷◌, length, Option, Some, None, slice_get, All, if◌then◌else◌, refl}
-use Rattle.std.proofs.Common.{arith, sym, ◌∙◌, ap, subst}
+use Rattle.std.specs.Prelude.{◌≡◌, ◌<◌, ℕ, zero, suc, ◌+◌, Bool, true, false, List, [], ◌∷◌, length, Option, Some, slice_get, if◌then◌else◌, refl}
+use Rattle.std.proofs.Common.{arith, ap, subst}
 use Rattle.scalar_typing.specs.Names.{first_from}
 
 module _ {X : Type 0} (p : X → Bool) where

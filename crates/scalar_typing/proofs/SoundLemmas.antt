@@ -1,15 +1,14 @@
 -- What typing gives is typed for the heading: literals, names, and the expressions made of them.
-use Rattle.std.specs.Prelude.{◌≡◌, ◌<◌, ◌≤◌, ℕ, zero, ◌+◌, ◌-◌, ℤ, pos, neg_ℤ, Bool, true, false, ◌&&◌, nat_le, List, length, Option, Some, None, Result, Ok, Err, IfOk, IfSome, IsTrue, option_map, slice_get, if◌then◌else◌, refl}
-use Rattle.std.proofs.Common.{arith, sym, ◌∙◌, ap, subst}
+use Rattle.std.specs.Prelude.{◌≡◌, ◌<◌, ℕ, ℤ, pos, Bool, true, false, ◌&&◌, nat_le, List, length, Option, Some, None, Result, Ok, Err, IfOk, IfSome, slice_get, if◌then◌else◌, refl}
+use Rattle.std.proofs.Common.{arith, sym, subst}
 use Rattle.std.specs.Str.{bytes_eq}
-use Rattle.std.proofs.lemmas.Bool.{leb-true, eqb-true}
+use Rattle.std.proofs.lemmas.Bool.{leb-true}
 use Rattle.std.proofs.lemmas.Int.{ints}
 use Rattle.point_core.specs.declared.fault.Place.{Place}
-use Rattle.point_core.specs.declared.fault.Code.{Code}
 use Rattle.point_core.specs.declared.fault.Stop.{Stop}
 use Rattle.point_core.specs.declared.any_type.AnyType.{AnyType}
 use Rattle.point_core.specs.declared.any_type.AnyType.TheVariants.{Integer, Date, Ordinal}
-use Rattle.point_core.specs.Dates.{IsDay, IsDateText}
+use Rattle.point_core.specs.Dates.{IsDay}
 use Rattle.point_core.specs.Faults.{OrFault}
 use Rattle.point_core.specs.Points.{IsNumber, is_number, line_of, first_of, last_of}
 use Rattle.utd_syntax.specs.declared.words.ExtremeWord.{ExtremeWord}
@@ -18,13 +17,13 @@ use Rattle.utd_syntax.specs.Plain as syntax
 use Rattle.utd_syntax.specs.Plain.{Word, PointP, ScalarP, ConjP, NegP, CmpP, SumP, ProdP, SignP, PrimaryP}
 use Rattle.utd_syntax.specs.Limits.{is_date}
 use Rattle.value_core.specs.declared.kind.Kind.{Kind}
-use Rattle.value_core.specs.declared.kind.Kind.TheVariants.{Truth, Char, Point, Span}
+use Rattle.value_core.specs.declared.kind.Kind.TheVariants.{Truth}
 use Rattle.value_core.specs.declared.list.OrdinalNames.{OrdinalNames}
 use Rattle.value_core.specs.Values.{Name, Heading}
 use Rattle.scalar_core.specs.Answers.{Gives}
 use Rattle.scalar_core.specs.Expressions.{and_expr, or_expr, read}
 use Rattle.scalar_core.specs.Kinds.{IsTyped}
-use Rattle.scalar_core.proofs.PointLemmas.{and_left, and_right, same_line-self, number-is_number, both_true}
+use Rattle.scalar_core.proofs.PointLemmas.{and_right, same_line-self, number-is_number, both_true}
 use Rattle.scalar_typing.specs.declared.typed.Typed.{Typed as TypedTree}
 use Rattle.scalar_typing.specs.Typings.{Typed, ◌>>=◌, value_or, typed}
 use Rattle.scalar_typing.specs.Literals.{integer_of, negative_of, is_utf8, text_of, number_of_date, date_of, point_constant, integer_literal, text_literal, date_literal, extreme_constant}
@@ -76,14 +75,14 @@ date-number bytes h =
 date-sound : (heading : Heading) (at quoted : Place) (bytes : List ℕ) → Sound heading (date_literal at quoted bytes)
 date-sound heading at quoted bytes =
     then-sound (IsNumber Date) (IsTypedPart heading) (value_or quoted _ (date_of bytes)) _
-      (or-refused (IsNumber Date) quoted _ (date_of bytes) (if-some (IsNumber Date) (is_date bytes) (number_of_date bytes) (date-number bytes)))
-      (λ n h. point-sound heading at Date n h)
+    (or-refused (IsNumber Date) quoted _ (date_of bytes) (if-some (IsNumber Date) (is_date bytes) (number_of_date bytes) (date-number bytes)))
+    (λ n h. point-sound heading at Date n h)
 
 text-sound : (heading : Heading) (at : Place) (bytes : List ℕ) → Sound heading (text_literal at bytes)
 text-sound heading at bytes =
     then-sound (λ (b : List ℕ). nat_le (length b) 255 ≡ true) (IsTypedPart heading) (value_or at _ (text_of bytes)) _
-      (or-refused (λ (b : List ℕ). nat_le (length b) 255 ≡ true) at _ (text_of bytes) (if-some _ (is_utf8 bytes && nat_le (length bytes) 255) bytes (and_right (is_utf8 bytes) (nat_le (length bytes) 255))))
-      (λ b h. (refl, h))
+    (or-refused (λ (b : List ℕ). nat_le (length b) 255 ≡ true) at _ (text_of bytes) (if-some _ (is_utf8 bytes && nat_le (length bytes) 255) bytes (and_right (is_utf8 bytes) (nat_le (length bytes) 255))))
+    (λ b h. (refl, h))
 
 first-number : (t : AnyType) → IsNumber t (first_of t)
 first-number Integer = (omega (arith, ints), omega (arith, ints))
@@ -111,10 +110,10 @@ found-at p xs i x e =
 attribute-sound : (heading : Heading) (w : Word) → Sound heading (attribute_typed heading w)
 attribute-sound heading w =
     then-sound (λ (found : ℕ × Kind). (name : Name) × (slice_get heading found.0 ≡ Some (name, found.1))) (IsTypedPart heading) (value_or w.place _ (attribute_of heading w.bytes)) _
-      (or-refused _ w.place _ (attribute_of heading w.bytes)
-        (mapped _ (first_from (λ a. bytes_eq a.0 w.bytes) 0 heading) _
-          (λ found e. (found.1.0, (found-at (λ a. bytes_eq a.0 w.bytes) heading found.0 found.1 e).1))))
-      (λ found h. h)
+    (or-refused _ w.place _ (attribute_of heading w.bytes)
+    (mapped _ (first_from (λ a. bytes_eq a.0 w.bytes) 0 heading) _
+    (λ found e. (found.1.0, (found-at (λ a. bytes_eq a.0 w.bytes) heading found.0 found.1 e).1))))
+    (λ found h. h)
 
 value-sound : (values : List Name) (v : Word) → IfSome (value_of values v.bytes) (λ number. number < length values)
 value-sound values v = mapped (λ number. number < length values) (first_from (λ n. bytes_eq n v.bytes) 0 values) _
@@ -123,10 +122,10 @@ value-sound values v = mapped (λ number. number < length values) (first_from (�
 ordinal-sound : (types : List OrdinalNames) (heading : Heading) (n v : Word) → Sound heading (ordinal_value types n v)
 ordinal-sound types heading n v =
     then-sound (λ _. Unit {0}) (IsTypedPart heading) (value_or n.place _ (ordinal_of types n.bytes)) _
-      (or-refused (λ _. Unit {0}) n.place _ (ordinal_of types n.bytes) (anything (ordinal_of types n.bytes)))
-      (λ found _. then-sound (λ number. number < length found.1.values) (IsTypedPart heading) (value_or v.place _ (value_of found.1.values v.bytes)) _
-        (or-refused (λ number. number < length found.1.values) v.place _ (value_of found.1.values v.bytes) (value-sound found.1.values v))
-        (λ number h. point-sound heading n.place (ordinal_type found) (pos number) (omega (arith, ints), omega (arith, ints))))
+    (or-refused (λ _. Unit {0}) n.place _ (ordinal_of types n.bytes) (anything (ordinal_of types n.bytes)))
+    (λ found _. then-sound (λ number. number < length found.1.values) (IsTypedPart heading) (value_or v.place _ (value_of found.1.values v.bytes)) _
+    (or-refused (λ number. number < length found.1.values) v.place _ (value_of found.1.values v.bytes) (value-sound found.1.values v))
+    (λ number h. point-sound heading n.place (ordinal_type found) (pos number) (omega (arith, ints), omega (arith, ints))))
 
 extreme-typed-sound : (types : List OrdinalNames) (heading : Heading) (at : Place) (w : ExtremeWord) (p : PointP) → Sound heading (extreme_typed types at w p)
 extreme-typed-sound types heading at w p =
@@ -137,12 +136,12 @@ extreme-typed-sound types heading at w p =
 logic-and : (heading : Heading) (at : Place) (l r : Typed) → IsTypedPart heading l → IsTypedPart heading r → Sound heading (logic_typed at and_expr l r)
 logic-and heading at l r left right = or-refused (IsTypedPart heading) at _ (when (both_are Truth l.1 r.1) (and_expr at l.0 r.0) Truth)
     (when-holds (IsTypedPart heading) (both_are Truth l.1 r.1) (and_expr at l.0 r.0) Truth
-      (λ h. let kinds = both-are Truth l.1 r.1 h in (subst (IsTyped heading l.0) kinds.0 left, subst (IsTyped heading r.0) kinds.1 right, refl)))
+    (λ h. let kinds = both-are Truth l.1 r.1 h in (subst (IsTyped heading l.0) kinds.0 left, subst (IsTyped heading r.0) kinds.1 right, refl)))
 
 logic-or : (heading : Heading) (at : Place) (l r : Typed) → IsTypedPart heading l → IsTypedPart heading r → Sound heading (logic_typed at or_expr l r)
 logic-or heading at l r left right = or-refused (IsTypedPart heading) at _ (when (both_are Truth l.1 r.1) (or_expr at l.0 r.0) Truth)
     (when-holds (IsTypedPart heading) (both_are Truth l.1 r.1) (or_expr at l.0 r.0) Truth
-      (λ h. let kinds = both-are Truth l.1 r.1 h in (subst (IsTyped heading l.0) kinds.0 left, subst (IsTyped heading r.0) kinds.1 right, refl)))
+    (λ h. let kinds = both-are Truth l.1 r.1 h in (subst (IsTyped heading l.0) kinds.0 left, subst (IsTyped heading r.0) kinds.1 right, refl)))
 
 both-sound : (heading : Heading) (x y : OrFault Typed) (f : Typed → Typed → OrFault Typed) → Sound heading x → Sound heading y →
     ((l r : Typed) → IsTypedPart heading l → IsTypedPart heading r → Sound heading (f l r)) → Sound heading (x >>= (λ l. y >>= (λ r. f l r)))
@@ -173,19 +172,19 @@ mutual
   cmp-sound types heading (syntax.OneSum s) = sums-sound types heading s
   cmp-sound types heading (syntax.Compare l at w r) =
       both-sound heading (typed_sum types heading l) (typed_sum types heading r) _ (sums-sound types heading l) (sums-sound types heading r)
-        (λ a b left right. two-parts heading at (comparison_rule w) a b (comparison-sound w a.1 b.1) left right)
+      (λ a b left right. two-parts heading at (comparison_rule w) a b (comparison-sound w a.1 b.1) left right)
 
   pub sums-sound : (types : List OrdinalNames) (heading : Heading) (s : SumP) → Sound heading (typed_sum types heading s)
   sums-sound types heading (syntax.OneProd p) = prod-sound types heading p
   sums-sound types heading (syntax.Add l at w r) =
       both-sound heading (typed_sum types heading l) (typed_prod types heading r) _ (sums-sound types heading l) (prod-sound types heading r)
-        (λ a b left right. two-parts heading at (sum_rule w) a b (sum-sound w a.1 b.1) left right)
+      (λ a b left right. two-parts heading at (sum_rule w) a b (sum-sound w a.1 b.1) left right)
 
   pub prod-sound : (types : List OrdinalNames) (heading : Heading) (p : ProdP) → Sound heading (typed_prod types heading p)
   prod-sound types heading (syntax.OneSign s) = sign-sound types heading s
   prod-sound types heading (syntax.Multiply l at w r) =
       both-sound heading (typed_prod types heading l) (typed_sign types heading r) _ (prod-sound types heading l) (sign-sound types heading r)
-        (λ a b left right. two-parts heading at (product_rule w) a b (product-sound w a.1 b.1) left right)
+      (λ a b left right. two-parts heading at (product_rule w) a b (product-sound w a.1 b.1) left right)
 
   pub sign-sound : (types : List OrdinalNames) (heading : Heading) (s : SignP) → Sound heading (typed_sign types heading s)
   sign-sound types heading (syntax.NegativeInteger at digits bytes) = integer-sound heading at digits (negative_of bytes) (negative-some bytes)
@@ -204,13 +203,13 @@ mutual
   primary-sound types heading (syntax.Paren at s) = scalar-sound types heading s
   primary-sound types heading (syntax.Selector at b l r e) =
       both-sound heading (typed_scalar types heading l) (typed_scalar types heading r) _ (scalar-sound types heading l) (scalar-sound types heading r)
-        (λ x y left right. two-parts heading at (selector_rule (ends_of b e)) x y (selector-sound (ends_of b e) x.1 y.1) left right)
+      (λ x y left right. two-parts heading at (selector_rule (ends_of b e)) x y (selector-sound (ends_of b e) x.1 y.1) left right)
   primary-sound types heading (syntax.Extreme at w p) = extreme-typed-sound types heading at w p
   primary-sound types heading (syntax.Function at w s) =
       part-sound heading (typed_scalar types heading s) _ (scalar-sound types heading s) (λ part h. one-part heading at (function_rule w) part (function-sound w part.1) h)
   primary-sound types heading (syntax.PairFunction at w l r) =
       both-sound heading (typed_scalar types heading l) (typed_scalar types heading r) _ (scalar-sound types heading l) (scalar-sound types heading r)
-        (λ x y left right. two-parts heading at (pairing_rule w) x y (pairing-sound w x.1 y.1) left right)
+      (λ x y left right. two-parts heading at (pairing_rule w) x y (pairing-sound w x.1 y.1) left right)
 
 -- an answer that is meant is typed for the heading
 pub given-typed : (heading : Heading) (r : Result TypedTree Stop) (m : OrFault Typed) → Gives typed r m → Sound heading m → IfOk r (λ t. IsTyped heading (read t.scalar) t.kind)

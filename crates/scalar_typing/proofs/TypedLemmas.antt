@@ -21,7 +21,6 @@ use Rattle.interval_core.specs.declared.selector.Ends.{Ends}
 use Rattle.value_core.specs.declared.kind.Kind.{Kind}
 use Rattle.value_core.specs.declared.kind.Kind.TheVariants.{Truth, Char, Point, Span}
 use Rattle.value_core.specs.Values.{Heading}
-use Rattle.scalar_core.specs.declared.operators.OneOp.{OneOp}
 use Rattle.scalar_core.specs.declared.operators.PairOp.{PairOp}
 use Rattle.scalar_core.specs.declared.operators.OneOp.TheVariants as one_op
 use Rattle.scalar_core.specs.declared.operators.PairOp.TheVariants as pair_op
@@ -29,12 +28,11 @@ use Rattle.scalar_core.specs.declared.tree.CompareWord.{CompareWord}
 use Rattle.scalar_core.specs.declared.tree.CompareWord.TheVariants as compare
 use Rattle.scalar_core.specs.declared.tree.AllenWord.{AllenWord}
 use Rattle.scalar_core.specs.declared.tree.AllenWord.TheVariants as allen
-use Rattle.scalar_core.specs.Expressions.{Expr, and_expr, or_expr}
 use Rattle.scalar_core.specs.KindOf.{same_type, same_kind, compares, is_ordered}
 use Rattle.scalar_core.specs.Kinds.{IsOrdered, Compares, OneKinds, PairKinds, IsTyped}
 use Rattle.scalar_core.proofs.PointLemmas.{and_left, and_right}
-use Rattle.scalar_typing.specs.Typings.{Typed, ◌>>=◌, value_or}
-use Rattle.scalar_typing.specs.Operators.{OneRule, PairRule, when, both_are, span_type, point_type, common, two_spans, two_points, point_and_span, not_rule, negate_rule, argument_type, function_on, function_rule, sum_rule, product_rule, compare_rule, allen_rule, member_rule, comparison_rule, pairing_on, pairing_rule, selector_rule, one_on, one_typed, pair_on, pair_typed, logic_typed}
+use Rattle.scalar_typing.specs.Typings.{Typed, value_or}
+use Rattle.scalar_typing.specs.Operators.{OneRule, PairRule, when, both_are, span_type, point_type, common, two_spans, two_points, point_and_span, not_rule, negate_rule, argument_type, function_on, function_rule, sum_rule, product_rule, compare_rule, allen_rule, member_rule, comparison_rule, pairing_on, pairing_rule, selector_rule, one_on, one_typed, pair_on, pair_typed}
 
 -- ---- kinds that are one
 

@@ -1,5 +1,5 @@
 -- What literals stand for. A literal out of its range stands for nothing and is E06; the reading of a text lets none through.
-use Rattle.std.specs.Prelude.{ℕ, ◌-◌, ℤ, pos, neg_ℤ, Bool, true, false, ◌&&◌, List, [], ◌∷◌, length, nat_eq, nat_le, Option, Some, None, Ok, if◌then◌else◌}
+use Rattle.std.specs.Prelude.{ℕ, ℤ, pos, neg_ℤ, Bool, ◌&&◌, List, [], ◌∷◌, length, nat_eq, nat_le, Option, Some, None, Ok, if◌then◌else◌}
 use Rattle.std.specs.Str.Lossy.{utf8_valid_len}
 use Rattle.point_core.specs.declared.fault.Place.{Place}
 use Rattle.point_core.specs.declared.fault.Code.TheVariants.{E06}
@@ -7,7 +7,7 @@ use Rattle.point_core.specs.declared.any_type.AnyType.{AnyType}
 use Rattle.point_core.specs.declared.any_type.AnyType.TheVariants.{Integer, Date}
 use Rattle.point_core.specs.Dates.{date_number}
 use Rattle.point_core.specs.Faults.{OrFault}
-use Rattle.point_core.specs.Points.{integers, days, line_of, first_of, last_of}
+use Rattle.point_core.specs.Points.{line_of, first_of, last_of}
 use Rattle.utd_syntax.specs.declared.words.ExtremeWord.{ExtremeWord}
 use Rattle.utd_syntax.specs.declared.words.ExtremeWord.TheVariants.{First, Last}
 use Rattle.utd_syntax.specs.Limits.{value_of, is_date}

@@ -1,6 +1,6 @@
 -- Which kinds the operators of row expressions take, and which they give. Where the parts are not of such kinds there is
 -- no operator, and the expression is E12 at the operator, the function word or the opening bracket.
-use Rattle.std.specs.Prelude.{Bool, ◌&&◌, Option, Some, None, option_map, Ok, if◌then◌else◌}
+use Rattle.std.specs.Prelude.{Bool, ◌&&◌, Option, Some, None, option_map, if◌then◌else◌}
 use Rattle.point_core.specs.declared.fault.Place.{Place}
 use Rattle.point_core.specs.declared.fault.Code.TheVariants.{E12}
 use Rattle.point_core.specs.declared.any_type.AnyType.{AnyType}
@@ -32,9 +32,9 @@ use Rattle.scalar_core.specs.declared.tree.CompareWord.{CompareWord}
 use Rattle.scalar_core.specs.declared.tree.CompareWord.TheVariants as compare
 use Rattle.scalar_core.specs.declared.tree.AllenWord.{AllenWord}
 use Rattle.scalar_core.specs.declared.tree.AllenWord.TheVariants as allen
-use Rattle.scalar_core.specs.Expressions.{Expr, one, pair, and_expr, or_expr}
+use Rattle.scalar_core.specs.Expressions.{Expr, one, pair}
 use Rattle.scalar_core.specs.KindOf.{same_type, same_kind, compares}
-use Rattle.scalar_typing.specs.Typings.{Typed, ◌>>=◌, value_or}
+use Rattle.scalar_typing.specs.Typings.{Typed, value_or}
 
 -- ---- kinds of parts
 

@@ -86,12 +86,7 @@ fn function_on(place: Place, word: FunctionWord, t: AnyType, e: Box<Scalar>) -> 
 }
 
 /// A function of a part.
-pub fn function(
-    alloc: Global,
-    place: Place,
-    word: FunctionWord,
-    part: Typed,
-) -> Result<Typed, Stop>
+pub fn function(alloc: Global, place: Place, word: FunctionWord, part: Typed) -> Result<Typed, Stop>
     ensures { Gives typed result (one_typed place (rules.function_rule word) (typed part)) }
 {
     let kind = part.kind;
@@ -175,13 +170,7 @@ fn member(place: Place, left: Kind, right: Kind, p: Parts) -> Option<Typed>
     Some(at_place(place, ScalarForm::Member(t, p), Kind::Truth))
 }
 
-fn comparison_on(
-    place: Place,
-    word: ComparisonWord,
-    l: Kind,
-    r: Kind,
-    p: Parts,
-) -> Option<Typed>
+fn comparison_on(place: Place, word: ComparisonWord, l: Kind, r: Kind, p: Parts) -> Option<Typed>
     ensures { option_map typed result ≡ option_map (pair_on place (read_left p) (read_right p)) (rules.comparison_rule word l r) }
 {
     match word {
@@ -272,11 +261,7 @@ pub fn selector(
     let found = two_points(left.kind, right.kind);
     let p = parts(alloc, left.scalar, right.scalar)?;
     match found {
-        Some(t) => Ok(at_place(
-            place,
-            ScalarForm::Select(ends, t, p),
-            Kind::Span(t),
-        )),
+        Some(t) => Ok(at_place(place, ScalarForm::Select(ends, t, p), Kind::Span(t))),
         None => or_wrong(place, None),
     }
 }

@@ -31,12 +31,7 @@ pub fn type_scalar(
 }
 
 #[cycle(scalar)]
-fn scalar(
-    alloc: Global,
-    types: &OrdinalTypes,
-    heading: &Heading,
-    s: &Scalar,
-) -> Result<Typed, Stop>
+fn scalar(alloc: Global, types: &OrdinalTypes, heading: &Heading, s: &Scalar) -> Result<Typed, Stop>
     requires { AreOrdinals types.now }
     ensures { Gives typed result (typed_scalar types.now heading.now (read_scalar s.now)) }
 {
@@ -191,13 +186,7 @@ fn primary(
         Primary::Selector(place, begin, l, r, end) => {
             let left = scalar(alloc, types, heading, l)?;
             let right = scalar(alloc, types, heading, r)?;
-            operators::selector(
-                alloc,
-                *place,
-                operators::ends_of(*begin, *end),
-                left,
-                right,
-            )
+            operators::selector(alloc, *place, operators::ends_of(*begin, *end), left, right)
         }
         Primary::Extreme(place, word, name) => names::extreme(types, *place, *word, name),
         Primary::Function(place, word, s) => {

@@ -7,4 +7,4 @@ pub returns-clause-kind : goal.returns-clause-kind
 returns-clause-kind c =
     let s = read_scalar c.args.s.now in
     given-typed c.args.heading.now c.scalar.result (typed_scalar c.args.types.now c.args.heading.now s) c.scalar.ensures
-      (scalar-sound c.args.types.now c.args.heading.now s)
+    (scalar-sound c.args.types.now c.args.heading.now s)
