@@ -1,0 +1,4 @@
+//! The typing of headings, tuples, literals and relational expressions.
+#![tactic(auto)]
+
+mod attributes;
