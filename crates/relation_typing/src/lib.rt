@@ -2,3 +2,8 @@
 #![tactic(auto)]
 
 mod attributes;
+mod headings;
+mod items;
+mod literals;
+
+pub use literals::type_literal;

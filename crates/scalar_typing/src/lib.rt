@@ -8,6 +8,7 @@ mod operators;
 mod scalars;
 mod typed;
 
-pub use kinds::same_kind;
+pub use kinds::{INTEGER, same_kind};
+pub use names::point_type;
 pub use scalars::type_scalar;
 pub use typed::Typed;
