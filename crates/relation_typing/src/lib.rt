@@ -2,8 +2,12 @@
 #![tactic(auto)]
 
 mod attributes;
+mod combining;
 mod headings;
 mod items;
+mod lists;
 mod literals;
+mod positions;
+mod restriction;
 
 pub use literals::type_literal;
