@@ -1,2 +1,1 @@
 pub mod AttributeLemmas
-mod Checks

@@ -1,9 +1,4 @@
-pub mod HeadedTrees
 pub mod Attributes
 pub mod Headings
 pub mod Items
 pub mod Literals
-pub mod Combining
-pub mod Positions
-pub mod Lists
-pub mod Restriction

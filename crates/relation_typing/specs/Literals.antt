@@ -8,11 +8,10 @@ use Rattle.utd_syntax.specs.Plain.{HeadingP, ElementsP, TupleP, LiteralP}
 use Rattle.value_core.specs.declared.list.OrdinalNames.{OrdinalNames}
 use Rattle.value_core.specs.Values.{Heading}
 use Rattle.scalar_typing.specs.Typings.{◌>>=◌, refused}
-use Rattle.tree_core.specs.Trees.{PlainSets, literal, read_sets}
+use Rattle.tree_core.specs.Trees.{PlainSets, Tree, literal, read_sets}
 use Rattle.relation_typing.specs.declared.literals.HeadedTuple.{HeadedTuple}
 use Rattle.relation_typing.specs.Attributes.{few_attributes}
 use Rattle.relation_typing.specs.Headings.{heading_typed, same_heading}
-use Rattle.relation_typing.specs.HeadedTrees.{HeadedTree}
 use Rattle.relation_typing.specs.Items.{Made, none_made, elements_typed}
 
 abbrev pub headed : HeadedTuple → Made
@@ -45,18 +44,18 @@ tuples_typed types heading before (t ∷ rest) = do
   tuples_typed types heading (before ++ sets ∷ []) rest
 
 -- the heading of a literal is the written one, or that of its first tuple
-abbrev pub headed_typed : List OrdinalNames → Place → HeadingP → List TupleP → OrFault HeadedTree
+abbrev pub headed_typed : List OrdinalNames → Place → HeadingP → List TupleP → OrFault Tree
 headed_typed types at h tuples = do
   heading ← heading_typed types h
   list ← tuples_typed types heading [] tuples
-  Ok (heading, literal at heading list)
+  Ok (literal at heading list)
 
-abbrev pub first_typed : List OrdinalNames → Place → TupleP → List TupleP → OrFault HeadedTree
+abbrev pub first_typed : List OrdinalNames → Place → TupleP → List TupleP → OrFault Tree
 first_typed types at first more = do
   made ← tuple_typed types first
   list ← tuples_typed types made.1 (made.0 ∷ []) more
-  Ok (made.1, literal at made.1 list)
+  Ok (literal at made.1 list)
 
-abbrev pub literal_typed : List OrdinalNames → LiteralP → OrFault HeadedTree
+abbrev pub literal_typed : List OrdinalNames → LiteralP → OrFault Tree
 literal_typed types (syntax.Headed at h tuples) = headed_typed types at h tuples
 literal_typed types (syntax.Tuples at first more) = first_typed types at first more

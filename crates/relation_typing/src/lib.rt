@@ -2,12 +2,8 @@
 #![tactic(auto)]
 
 mod attributes;
-mod combining;
 mod headings;
 mod items;
-mod lists;
 mod literals;
-mod positions;
-mod restriction;
 
 pub use literals::type_literal;

@@ -4,8 +4,7 @@ ghost use Rattle.utd_syntax.specs.Read.{read_elements, read_tuple, read_tuple_li
 ghost use Rattle.scalar_core.specs.Answers.{Gives};
 ghost use Rattle.scalar_typing.specs.Names.{AreOrdinals};
 ghost use Rattle.tree_core.specs.Trees as trees;
-ghost use Rattle.tree_core.specs.Trees.{read_sets};
-ghost use Rattle.relation_typing.specs.HeadedTrees.{headed_tree};
+ghost use Rattle.tree_core.specs.Trees.{read_sets, read_tree};
 ghost use Rattle.relation_typing.specs.Literals as rules;
 ghost use Rattle.relation_typing.specs.Literals.{headed};
 
@@ -109,7 +108,7 @@ fn headed_typed(
     tuples: &[Tuple],
 ) -> Result<RelTree, Stop>
     requires { AreOrdinals types.now }
-    ensures { Gives headed_tree result (rules.headed_typed types.now place (read_heading heading.now) (read_tuple_list tuples.now)) }
+    ensures { Gives read_tree result (rules.headed_typed types.now place (read_heading heading.now) (read_tuple_list tuples.now)) }
 {
     let heading = heading_typed(alloc, types, heading)?;
     let list = tuples_typed(alloc, types, &heading, Vec::new(alloc), tuples)?;
@@ -125,7 +124,7 @@ fn first_typed(
     more: &[Tuple],
 ) -> Result<RelTree, Stop>
     requires { AreOrdinals types.now }
-    ensures { Gives headed_tree result (rules.first_typed types.now place (read_tuple first.now) (read_tuple_list more.now)) }
+    ensures { Gives read_tree result (rules.first_typed types.now place (read_tuple first.now) (read_tuple_list more.now)) }
 {
     let made = elements_made(alloc, types, &first.elements)?;
     let heading = made.heading;
@@ -136,7 +135,7 @@ fn first_typed(
 }
 
 fn literal(place: Place, heading: Heading, list: Vec<Sets>) -> RelTree
-    ensures { headed_tree result ≡ (heading, trees.literal place heading (map read_sets list.items)) }
+    ensures { read_tree result ≡ trees.literal place heading (map read_sets list.items) }
 {
     RelTree {
         place,
@@ -152,7 +151,7 @@ pub fn type_literal(
     literal: &Literal,
 ) -> Result<RelTree, Stop>
     requires { AreOrdinals types.now }
-    ensures { Gives headed_tree result (rules.literal_typed types.now (read_literal literal.now)) }
+    ensures { Gives read_tree result (rules.literal_typed types.now (read_literal literal.now)) }
 {
     match literal {
         Literal::Headed(place, heading, tuples) => headed_typed(
