@@ -1,0 +1,4 @@
+pub mod Attributes
+pub mod Headings
+pub mod Items
+pub mod Literals

@@ -1,0 +1,5 @@
+pub mod Typings
+pub mod Literals
+pub mod Names
+pub mod Operators
+pub mod Scalars

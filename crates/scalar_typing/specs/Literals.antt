@@ -1,0 +1,74 @@
+-- What literals stand for. A literal out of its range stands for nothing and is E06; the reading of a text lets none through.
+use Rattle.std.specs.Prelude.{ℕ, ℤ, pos, neg_ℤ, Bool, ◌&&◌, List, [], ◌∷◌, length, nat_eq, nat_le, Option, Some, None, Ok, if◌then◌else◌}
+use Rattle.std.specs.Str.Lossy.{utf8_valid_len}
+use Rattle.point_core.specs.declared.fault.Place.{Place}
+use Rattle.point_core.specs.declared.fault.Code.TheVariants.{E06}
+use Rattle.point_core.specs.declared.any_type.AnyType.{AnyType}
+use Rattle.point_core.specs.declared.any_type.AnyType.TheVariants.{Integer, Date}
+use Rattle.point_core.specs.Dates.{date_number}
+use Rattle.point_core.specs.Faults.{OrFault}
+use Rattle.point_core.specs.Points.{line_of, first_of, last_of}
+use Rattle.utd_syntax.specs.declared.words.ExtremeWord.{ExtremeWord}
+use Rattle.utd_syntax.specs.declared.words.ExtremeWord.TheVariants.{First, Last}
+use Rattle.utd_syntax.specs.Limits.{value_of, is_date}
+use Rattle.value_core.specs.declared.kind.Kind.TheVariants.{Truth, Char, Point}
+use Rattle.value_core.specs.Values.{truth, text, point}
+use Rattle.scalar_core.specs.Expressions.{constant}
+use Rattle.scalar_typing.specs.Typings.{Typed, ◌>>=◌, value_or}
+
+-- ---- the values that are written
+
+-- the integer of these digits, and the one with a `-` before them, where it has 64 bits
+abbrev pub integer_of : List ℕ → Option ℤ
+integer_of digits = if nat_le (value_of digits) 9223372036854775807 then Some (pos (value_of digits)) else None
+
+abbrev pub negative_of : List ℕ → Option ℤ
+negative_of digits = if nat_le (value_of digits) 9223372036854775808 then Some (neg_ℤ (pos (value_of digits))) else None
+
+-- bytes that are UTF-8
+abbrev pub is_utf8 : List ℕ → Bool
+is_utf8 bytes = nat_eq (utf8_valid_len bytes) (length bytes)
+
+-- a text of at most 255 bytes
+abbrev pub text_of : List ℕ → Option (List ℕ)
+text_of bytes = if is_utf8 bytes && nat_le (length bytes) 255 then Some bytes else None
+
+-- the number of the date that is written as YYYY-MM-DD
+abbrev pub number_of_date : List ℕ → ℤ
+number_of_date (a ∷ b ∷ c ∷ d ∷ dash ∷ e ∷ f ∷ dash' ∷ g ∷ h ∷ []) =
+    date_number (value_of (a ∷ b ∷ c ∷ d ∷ [])) (value_of (e ∷ f ∷ [])) (value_of (g ∷ h ∷ []))
+number_of_date _ = pos 0
+
+abbrev pub date_of : List ℕ → Option ℤ
+date_of bytes = if is_date bytes then Some (number_of_date bytes) else None
+
+-- ---- the constants that stand for them
+
+-- a point of a type, by its number
+abbrev pub point_constant : Place → AnyType → ℤ → Typed
+point_constant at t n = (constant at (Point t) (point (line_of t) n), Point t)
+
+abbrev pub truth_constant : Place → Bool → Typed
+truth_constant at b = (constant at Truth (truth b), Truth)
+
+-- an integer stands at its first token, and is refused at its digits
+abbrev pub integer_literal : Place → Place → Option ℤ → OrFault Typed
+integer_literal at digits n = do
+  number ← value_or digits E06 n
+  Ok (point_constant at Integer number)
+
+abbrev pub text_literal : Place → List ℕ → OrFault Typed
+text_literal at bytes = do
+  written ← value_or at E06 (text_of bytes)
+  Ok (constant at Char (text written), Char)
+
+-- a date stands at DATE, and is refused at its text
+abbrev pub date_literal : Place → Place → List ℕ → OrFault Typed
+date_literal at quoted bytes = do
+  number ← value_or quoted E06 (date_of bytes)
+  Ok (point_constant at Date number)
+
+-- FIRST and LAST of a type
+abbrev pub extreme_constant : Place → ExtremeWord → AnyType → Typed
+extreme_constant at First t = point_constant at t (first_of t)
+extreme_constant at Last t = point_constant at t (last_of t)
