@@ -37,11 +37,11 @@ pub made-name : {E : Type 0} (bytes text : List ℕ) (r : Result (Option (List �
     IfOk r (λ o. MatchOption o (IsNameLength text → ⊥) (λ n. (n ≡ text) × IsNameLength text)) → IfOk r (λ n. n ≡ (if is_name bytes then Some bytes else None))
 made-name bytes text (Ok None) same valid h =
     not-three (is_utf8 bytes) (nat_le 1 (length bytes)) (nat_le (length bytes) 64) bytes
-      (λ least most. h (subst IsNameLength (sym same) (leb-true 1 (length bytes) least, leb-true (length bytes) 64 most)))
+    (λ least most. h (subst IsNameLength (sym same) (leb-true 1 (length bytes) least, leb-true (length bytes) 64 most)))
 made-name bytes text (Ok (Some n)) same valid h =
     let long : IsNameLength bytes = subst IsNameLength same h.1 in
     ap Some (h.0 ∙ same) ∙ three (is_utf8 bytes) (nat_le 1 (length bytes)) (nat_le (length bytes) 64) bytes
-      (eq-eqb (utf8_valid_len bytes) (length bytes) (utf8_valid_len-IsUtf8 bytes valid)) (le-leb 1 (length bytes) long.0) (le-leb (length bytes) 64 long.1)
+    (eq-eqb (utf8_valid_len bytes) (length bytes) (utf8_valid_len-IsUtf8 bytes valid)) (le-leb 1 (length bytes) long.0) (le-leb (length bytes) 64 long.1)
 made-name bytes text (Err e) same valid h = tt
 
 -- ---- the attributes of a map

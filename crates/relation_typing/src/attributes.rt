@@ -76,11 +76,7 @@ fn listed(alloc: Global, attributes: Attributes) -> Result<Vec<(Name, Kind)>, Me
 }
 
 /// The heading of the attributes, where they are few enough.
-pub fn few_attributes(
-    alloc: Global,
-    place: Place,
-    attributes: Attributes,
-) -> Result<Heading, Stop>
+pub fn few_attributes(alloc: Global, place: Place, attributes: Attributes) -> Result<Heading, Stop>
     ensures { Gives (λ h. h) result (rules.few_attributes place attributes.entries) }
 {
     if attributes.len() > 16 {

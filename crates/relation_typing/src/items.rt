@@ -8,10 +8,10 @@ ghost use Rattle.relation_typing.specs.Items.{made, none_made};
 
 use crate::attributes::{Attributes, new_name, put};
 use point_core::Stop;
+use scalar_core::Scalar;
 use scalar_typing::type_scalar;
 use std::alloc::Global;
 use std::collections::BTreeMap;
-use scalar_core::Scalar;
 use utd_syntax as syntax;
 use utd_syntax::{Element, Word};
 use value_core::{Heading, Name, OrdinalTypes};

@@ -145,11 +145,7 @@ fn literal(place: Place, heading: Heading, list: Vec<Sets>) -> RelTree
 }
 
 /// The typed tree of a literal, or its first refusal.
-pub fn type_literal(
-    alloc: Global,
-    types: &OrdinalTypes,
-    literal: &Literal,
-) -> Result<RelTree, Stop>
+pub fn type_literal(alloc: Global, types: &OrdinalTypes, literal: &Literal) -> Result<RelTree, Stop>
     requires { AreOrdinals types.now }
     ensures { Gives read_tree result (rules.literal_typed types.now (read_literal literal.now)) }
 {
