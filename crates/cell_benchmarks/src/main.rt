@@ -18,6 +18,7 @@ use std::{env, io};
 const USAGE: &str = "usage: cell_benchmarks tenth|one|each|two NUMBER_OF_ROWS";
 
 // Nanoseconds of each call.
+#[derive(Clone, Copy)]
 struct Times {
     sort: u128,
     pack: u128,
@@ -123,13 +124,7 @@ fn main(rt: HostRuntime) -> io::Result<()> {
     let types = [IntType, IntType];
     let rows = or_error(drawn(alloc, kind, count))?;
     let sides = kind.sides();
-    let times = measured::<_, Brand>(
-        &rt,
-        alloc,
-        &types[..sides],
-        rows.as_slice(),
-        Blank::new(1),
-    )?;
+    let times = measured::<_, Brand>(&rt, alloc, &types[..sides], rows.as_slice(), Blank::new(1))?;
     println!(rt; "rows: {count}")?;
     tell(&rt, "sort", times.sort, times.sort)?;
     tell(&rt, "pack", times.pack, times.sort)?;
