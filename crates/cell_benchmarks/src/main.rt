@@ -18,6 +18,7 @@ use std::{env, io};
 const USAGE: &str = "usage: cell_benchmarks tenth|one|each|two NUMBER_OF_ROWS";
 
 // Nanoseconds of each call.
+#[derive(Clone, Copy)]
 struct Times {
     sort: u128,
     pack: u128,
