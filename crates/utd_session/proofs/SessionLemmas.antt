@@ -1,21 +1,25 @@
 -- How a session goes on, statement by statement.
-use Rattle.std.proofs.Common.{◌≡◌, ◌↔◌, ℕ, suc, ◌+◌, ◌≤◌, ◌<◌, Bool, true, false, ◌&&◌, List, [], ◌∷◌, ◌++◌, length, take, drop, Option, Some, None, refl, sym, ap, ◌∙◌, subst, arith, append_assoc, append-nil, length-append, take-append-drop}
+use Rattle.std.proofs.Common.{◌≡◌, ◌↔◌, ℕ, suc, ◌+◌, ◌≤◌, ◌<◌, Bool, true, false, cond, ◌&&◌, List, [], ◌∷◌, ◌++◌, length, take, drop, Option, Some, None, Result, Ok, Err, IfOk, IfErr, refl, sym, ap, ◌∙◌, subst, arith, append_assoc, append-nil, length-append, take-append-drop}
 use Rattle.utd_io.specs.Io.{Gains, GainsPrefix}
 use Rattle.utd_io.proofs.Gained.{Gains-none, Gains-more}
 use Rattle.utd_lexer.specs.declared.cutter.Cutter.{Cutter}
 use Rattle.utd_lexer.specs.declared.cutter.Cut.{Cut as Cuts}
 use Rattle.utd_lexer.specs.declared.cutter.Cut.TheVariants.{Inside, Ends}
-use Rattle.utd_lexer.specs.Parts.{IsWhole}
+use Rattle.utd_lexer.specs.Parts.{IsWhole, IsBlank}
 use Rattle.utd_lexer.specs.Cutting.{Since, since_then}
 use Rattle.utd_lexer.specs.Tokens.{place_after}
 use Rattle.utd_session.specs.declared.outcome.Database.{Database}
 use Rattle.utd_session.specs.declared.feeding.Session.{Session}
-use Rattle.utd_session.specs.Statements.{Statement, Complete, ends, Cut, cut, complete_statements, NoEnd, EndsOne}
-use Rattle.utd_session.specs.Readings.{Reading, IsReading, AreReadings}
+use Rattle.utd_session.specs.declared.feeding.Ended.{Ended}
+use Rattle.utd_session.specs.declared.fault.SessionFault.TheVariants.{Memory}
+use Rattle.point_core.specs.declared.fault.Code.TheVariants.{E04}
+use Rattle.value_core.specs.declared.refuse.Refuse.TheVariants.{Plain}
+use Rattle.utd_session.specs.Statements.{Statement, Complete, Incomplete, ends, Cut, cut, complete_statements, is_blank, incomplete_rest, statements, NoEnd, EndsOne}
+use Rattle.utd_session.specs.Readings.{Reading, Refused, IsReading, AreReadings}
 use Rattle.utd_session.specs.Machine.{State, Step, no_relvars, state_of, answer, text_of, is_accepted, performed, performed_after}
 use Rattle.utd_session.specs.Run.{IsPrefixOf}
 use Rattle.utd_session.specs.Sessions.{StandsFor, GoesOn, IsCutOff, IsFinished}
-use Rattle.utd_session.proofs.StatementLemmas.{ends_is, cut-append, cut-end, cut-keep, cut-more, none-more, one-ends}
+use Rattle.utd_session.proofs.StatementLemmas.{ends_is, is_blank_is, cut-append, cut-end, cut-keep, cut-more, none-more, one-ends}
 use Rattle.utd_session.proofs.MachineLemmas.{state_stays, performed-more, output-push, output-one, accepted-push, readings-length, readings-append, readings-push, readings-front}
 
 -- what a step of the cutter says
@@ -179,3 +183,79 @@ is_kept s bytes piece rs h none =
       rest_is = ap (λ (x : Cut). x.rest) c;
       fed = omega (arith, h.fed, length-append bytes piece);
     }
+
+-- the piece is at its end
+pub fed-end : (session : Session) (cutter : Cutter) (piece rest bytes : List ℕ) (rs : List Reading) (before now : Option (List ℕ)) (r : Result Session Ended) (i : IsFed session cutter piece rest bytes rs before now)
+    → IfOk r (λ s. StandsFor s ((bytes ++ i.done) ++ rest) (rs ++ i.more))
+    → IfOk r (λ s. (more : List Reading) × StandsFor s (bytes ++ piece) (rs ++ more) × Gains before (performed_after rs more).output now)
+fed-end session cutter piece rest bytes rs before now (Ok s) i h =
+    let same : (bytes ++ i.done) ++ rest ≡ bytes ++ piece = append_assoc bytes i.done rest ∙ ap (λ x. bytes ++ x) (sym i.split) in
+    (i.more, subst (λ b. StandsFor s b (rs ++ i.more)) same h, i.gained)
+fed-end session cutter piece rest bytes rs before now (Err e) i h = tt
+
+pub fed-stop-at-end : (session : Session) (cutter : Cutter) (piece rest bytes : List ℕ) (rs : List Reading) (before now : Option (List ℕ)) (r : Result Session Ended) → IsFed session cutter piece rest bytes rs before now
+    → IfErr r (λ e. e.why ≡ Memory → (more : List Reading) × GoesOn (complete_statements (bytes ++ piece)) rs more before now (state_of e.database))
+fed-stop-at-end session cutter piece rest bytes rs before now (Ok s) i = tt
+fed-stop-at-end session cutter piece rest bytes rs before now (Err e) i = λ why. fed-stop session cutter piece rest bytes rs before now now e.database i refl
+
+-- ---- the end of a script
+
+same_tests : (a b : Bool) → (a ≡ true → b ≡ true) → (b ≡ true → a ≡ true) → a ≡ b
+same_tests true b f g = sym (f refl)
+same_tests false true f g = let e : false ≡ true = g refl in cc
+same_tests false false f g = refl
+
+-- the cutter tells whether the rest is blank
+pub blank_is : (bytes : List ℕ) (answer : Bool) → ((answer ≡ true) ↔ IsBlank bytes) → answer ≡ is_blank bytes
+blank_is bytes answer h = same_tests answer (is_blank bytes) (λ e. (is_blank_is bytes).1 (h.0 e)) (λ e. h.1 ((is_blank_is bytes).0 e))
+
+blank_statements : (bytes : List ℕ) → is_blank (cut bytes).rest ≡ true → statements bytes ≡ complete_statements bytes
+blank_statements bytes e = ap (λ t. complete_statements bytes ++ cond t [] (Incomplete ∷ [])) e ∙ append-nil (complete_statements bytes)
+
+open_statements : (bytes : List ℕ) → is_blank (cut bytes).rest ≡ false → statements bytes ≡ complete_statements bytes ++ Incomplete ∷ []
+open_statements bytes e = ap (λ t. complete_statements bytes ++ cond t [] (Incomplete ∷ [])) e
+
+pub finish-blank : (s : Session) (bytes : List ℕ) (rs : List Reading) (before : Option (List ℕ)) (database : Database) → StandsFor s bytes rs → is_blank (cut bytes).rest ≡ true
+    → (more : List Reading) × IsFinished (statements bytes) rs more before before (state_of database) s.all_accepted
+finish-blank s bytes rs before database h e = ([], record {
+  read = subst (λ ss. AreReadings ss (rs ++ [])) (sym (blank_statements bytes e)) (subst (AreReadings (complete_statements bytes)) (sym (append-nil rs)) h.read);
+  gained = Gains-none before;
+  left = sym (state_stays no_relvars 1 (rs ++ []));
+  accepted = h.accepted ∙ ap (λ q. (performed q).accepted) (sym (append-nil rs));
+})
+
+abbrev pub not_ended : Reading
+not_ended = Refused (Plain E04)
+
+pub finish-open : (s : Session) (bytes : List ℕ) (rs : List Reading) (before now : Option (List ℕ)) (database : Database) (one both : Bool) → StandsFor s bytes rs → is_blank (cut bytes).rest ≡ false
+    → one ≡ is_accepted (answer no_relvars not_ended) → both ≡ (one && s.all_accepted) → Gains before (text_of s.number (answer no_relvars not_ended)) now
+    → (more : List Reading) × IsFinished (statements bytes) rs more before now (state_of database) both
+finish-open s bytes rs before now database one both h e accepts b gains =
+    let all : List Reading = rs ++ not_ended ∷ [] in
+    let text : text_of s.number (answer no_relvars not_ended) ≡ (performed_after rs (not_ended ∷ [])).output =
+    ap (λ n. text_of n (answer no_relvars not_ended)) h.number ∙ text_is (length rs + 1) rs not_ended ∙ sym (output-one rs not_ended) in
+    (not_ended ∷ [], record {
+      read = subst (λ ss. AreReadings ss all) (sym (open_statements bytes e)) (readings-push (complete_statements bytes) Incomplete rs not_ended h.read refl);
+      gained = subst (λ t. Gains before t now) text gains;
+      left = sym (state_stays no_relvars 1 all);
+      accepted = b ∙ (λ i. accepts i && h.accepted i) ∙ ap (λ st. is_accepted (answer st not_ended) && (performed rs).accepted) (sym (state_stays no_relvars 1 rs)) ∙ sym (accepted-push rs not_ended);
+    })
+
+pub finish-stop : (s : Session) (bytes : List ℕ) (rs : List Reading) (before now : Option (List ℕ)) (database : Database) → StandsFor s bytes rs → now ≡ before
+    → (more : List Reading) × GoesOn (statements bytes) rs more before now (state_of database)
+finish-stop s bytes rs before now database h e = ([], record {
+  read = readings-front (statements bytes) (complete_statements bytes) (incomplete_rest (cut bytes).rest) (rs ++ []) refl (subst (AreReadings (complete_statements bytes)) (sym (append-nil rs)) h.read);
+  gained = subst (Gains before []) (sym e) (Gains-none before);
+  left = sym (state_stays no_relvars 1 (rs ++ []));
+})
+
+pub finish-cut-off : (s : Session) (bytes : List ℕ) (rs : List Reading) (before now : Option (List ℕ)) (database : Database) → StandsFor s bytes rs → is_blank (cut bytes).rest ≡ false
+    → GainsPrefix before (text_of s.number (answer no_relvars not_ended)) now
+    → (more : List Reading) × (r : Reading) × (text : List ℕ) × IsCutOff (statements bytes) rs more r text before now (state_of database)
+finish-cut-off s bytes rs before now database h e prefix =
+    let whole : statements bytes ≡ (complete_statements bytes ++ Incomplete ∷ []) ++ [] = open_statements bytes e ∙ sym (append-nil _) in
+    let text : text_of s.number (answer no_relvars not_ended) ≡ text_of (length (rs ++ []) + 1) (answer (performed (rs ++ [])).state not_ended) =
+    ap (λ n. text_of n (answer no_relvars not_ended)) h.number ∙ text_is (length rs + 1) rs not_ended ∙ ap (λ q. text_of (length q + 1) (answer (performed q).state not_ended)) (sym (append-nil rs)) in
+    let k = cut-off (statements bytes) (complete_statements bytes) [] Incomplete rs [] not_ended before before now database whole
+    (subst (AreReadings (complete_statements bytes)) (sym (append-nil rs)) h.read) refl (Gains-none before) (subst (λ t. GainsPrefix before t now) text prefix) in
+    ([], not_ended, k.0, k.1)

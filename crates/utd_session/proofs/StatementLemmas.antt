@@ -7,10 +7,10 @@ use Rattle.point_core.specs.declared.fault.Place.{Place}
 use Rattle.utd_lexer.specs.declared.cutter.Mode.TheVariants.{Between}
 use Rattle.utd_lexer.specs.Parts.{IsWhole, IsBlank}
 use Rattle.utd_lexer.specs.Cutting.{run}
-use Rattle.utd_lexer.specs.Tokens.{place_after}
+use Rattle.utd_lexer.specs.Tokens.{next_place, place_after}
 use Rattle.utd_lexer.proofs.CutLemmas.{whole-of, outside-of}
 use Rattle.utd_lexer.proofs.BlankLemmas.{answers}
-use Rattle.utd_session.specs.Statements.{Statement, Complete, ends, Cut, before_others, cut_from, cut, complete_statements, is_blank, incomplete_rest, statements, most_bytes, statements_within, NoEnd, EndsOne}
+use Rattle.utd_session.specs.Statements.{Statement, Complete, ends, Cut, before_others, cut_from, first_place, cut, complete_statements, is_blank, incomplete_rest, statements, most_bytes, statements_within, NoEnd, EndsOne}
 
 -- the byte ends the statement exactly where it is a `;` outside texts and comments
 pub ends_is : (front : List ℕ) (b : ℕ) → (ends front b ≡ true) ↔ ((b ≡ 59) × IsWhole front)
@@ -123,3 +123,24 @@ within_front all n short fits =
     parts all n m l =
         let e : m ≡ n + (m - n) = omega arith in
         (take (m - n) (drop n all), ap (λ i. take i all) e ∙ take-add n (m - n) all)
+
+pub cut-nil : cut [] ≡ record { ended = []; place = first_place; rest = [] }
+unfolding cut_from
+cut-nil = refl
+
+-- each byte adds at most one to a line and to a column
+next_bound : (p : Place) (b : ℕ) → ((next_place p b).line ≤ p.line + 1) × ((next_place p b).column ≤ p.column + 1)
+next_bound p b =
+    let below : Place = record { line = p.line + 1; column = 1 } in
+    let behind : Place = record { line = p.line; column = p.column + 1 } in
+    elim (eqb b 10) as (λ t. ((cond t below behind).line ≤ p.line + 1) × ((cond t below behind).column ≤ p.column + 1)) [
+      | true ↦ (omega arith, omega arith)
+      | false ↦ (omega arith, omega arith)
+    ]
+
+pub place_bound : (p : Place) (bs : List ℕ) → ((place_after p bs).line ≤ p.line + length bs) × ((place_after p bs).column ≤ p.column + length bs)
+place_bound p [] = (omega arith, omega arith)
+place_bound p (b ∷ bs) =
+    let h = place_bound (next_place p b) bs in
+    let n = next_bound p b in
+    (omega (arith, h.0, n.0), omega (arith, h.1, n.1))

@@ -152,10 +152,10 @@ impl Session {
             cutter: _,
         } = self;
         let mut unfinished = unfinished;
-        if unfinished.extend(piece).is_err() {
+        let Ok(()) = unfinished.extend(piece) else {
             let why = SessionFault::Memory;
             return Err(Ended { why, database });
-        }
+        };
         Ok(Session {
             alloc,
             database,
@@ -198,10 +198,10 @@ impl Session {
             let why = SessionFault::Memory;
             return Err(Ended { why, database });
         };
-        if write_all(out, &reply.text).is_err() {
+        let Ok(()) = write_all(out, &reply.text) else {
             let why = SessionFault::Write;
             return Err(Ended { why, database });
-        }
+        };
         unfinished.restart();
         Ok(Session {
             alloc,
@@ -293,10 +293,10 @@ impl Session {
             let why = SessionFault::Memory;
             return Err(Ended { why, database });
         };
-        if write_all(out, &reply.text).is_err() {
+        let Ok(()) = write_all(out, &reply.text) else {
             let why = SessionFault::Write;
             return Err(Ended { why, database });
-        }
+        };
         Ok(Finished {
             database,
             all_accepted: both(reply.accepted, all_accepted),

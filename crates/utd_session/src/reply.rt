@@ -1,9 +1,11 @@
 // What is answered to one statement.
-ghost use Rattle.std.specs.Prelude.{◌≡◌, ℕ, map, true, IfOk, None, option_map};
+ghost use Rattle.std.specs.Prelude.{◌≡◌, map, true, IfOk, None, option_map};
 ghost use Rattle.utd_syntax.specs.Read.{read_statement};
 ghost use Rattle.utd_print.specs.Lines.{HasLine};
+ghost use Rattle.utd_session.specs.Rows.{packed_form};
+ghost use Rattle.utd_session.specs.Table.{table};
 ghost use Rattle.utd_session.specs.Parsed.{reading_of, HasAnswer};
-ghost use Rattle.utd_session.specs.Machine.{Refusal, of_form, of_tree, answer, unless_empty, text_of, is_accepted, first_empty, state_of};
+ghost use Rattle.utd_session.specs.Machine.{Refusal, of_form, of_tree, answer, text_of, is_accepted, first_empty, state_of};
 
 use crate::form::rows_of;
 use crate::outcome::Database;
@@ -57,7 +59,7 @@ fn refusal(alloc: Global, number: u32, refuse: &Refuse) -> Result<Reply, Memory>
 // The table of the packed form.
 fn packed_table(alloc: Global, rows: &[PlacedRow]) -> Result<Reply, Memory>
     requires { first_empty rows.now ≡ None }
-    ensures text { (n : ℕ) → IfOk result (λ r. r.text.items ≡ text_of n (unless_empty rows.now None)) }
+    ensures text { IfOk result (λ r. r.text.items ≡ table (packed_form (map (λ p. p.row) rows.now))) }
     ensures accepted { IfOk result (λ r. r.accepted ≡ true) }
 {
     let rows = without_places(alloc, rows)?;
