@@ -95,12 +95,14 @@ more_statements bytes done rest piece e =
 pub fed-stop : (session : Session) (cutter : Cutter) (piece rest bytes : List ℕ) (rs : List Reading) (before mid now : Option (List ℕ)) (database : Database) → IsFed session cutter piece rest bytes rs before mid → now ≡ mid
     → (more : List Reading) × GoesOn (complete_statements (bytes ++ piece)) rs more before now (state_of database)
 fed-stop session cutter piece rest bytes rs before mid now database i e =
-    let m = more_statements bytes i.done rest piece i.split in
-    (i.more, record {
-      read = readings-front _ _ m.0 (rs ++ i.more) m.1 i.stands.read;
-      gained = subst (Gains before (performed_after rs i.more).output) (sym e) i.gained;
-      left = sym (state_stays no_relvars 1 (rs ++ i.more));
-    })
+    let m = more_statements bytes i.done rest piece i.split in (
+      i.more,
+      record {
+        read = readings-front _ _ m.0 (rs ++ i.more) m.1 i.stands.read;
+        gained = subst (Gains before (performed_after rs i.more).output) (sym e) i.gained;
+        left = sym (state_stays no_relvars 1 (rs ++ i.more));
+      },
+    )
 
 -- some of a text was gained
 gained_front : (before mid now : Option (List ℕ)) (xs ys : List ℕ) → Gains before xs mid → GainsPrefix mid ys now → (text : List ℕ) × IsPrefixOf text ys × Gains before (xs ++ text) now
@@ -116,13 +118,15 @@ pub cut-off : (ss front more : List Statement) (s : Statement) (rs new : List Re
 cut-off ss front more s rs new r before mid now database e read is gained prefix =
     let g = gained_front before mid now _ _ gained prefix in
     let all : List Reading = (rs ++ new) ++ r ∷ [] in
-    let len : length all ≡ length (rs ++ new) + 1 = length-append (rs ++ new) (r ∷ []) in
-    (g.0, record {
-      read = subst (λ n. AreReadings (take n ss) all) len (readings-front ss (front ++ s ∷ []) more all e (readings-push front s (rs ++ new) r read is));
-      front = g.1;
-      gained = g.2;
-      left = sym (state_stays no_relvars 1 all);
-    })
+    let len : length all ≡ length (rs ++ new) + 1 = length-append (rs ++ new) (r ∷ []) in (
+      g.0,
+      record {
+        read = subst (λ n. AreReadings (take n ss) all) len (readings-front ss (front ++ s ∷ []) more all e (readings-push front s (rs ++ new) r read is));
+        front = g.1;
+        gained = g.2;
+        left = sym (state_stays no_relvars 1 all);
+      },
+    )
 
 pub fed-cut-off : (session : Session) (cutter : Cutter) (piece rest front behind bytes : List ℕ) (rs : List Reading) (before mid now : Option (List ℕ)) (database : Database) (i : IsFed session cutter piece rest bytes rs before mid)
     → rest ≡ front ++ behind
@@ -217,12 +221,15 @@ open_statements bytes e = ap (λ t. complete_statements bytes ++ cond t [] (Inco
 
 pub finish-blank : (s : Session) (bytes : List ℕ) (rs : List Reading) (before : Option (List ℕ)) (database : Database) → StandsFor s bytes rs → is_blank (cut bytes).rest ≡ true
     → (more : List Reading) × IsFinished (statements bytes) rs more before before (state_of database) s.all_accepted
-finish-blank s bytes rs before database h e = ([], record {
-  read = subst (λ ss. AreReadings ss (rs ++ [])) (sym (blank_statements bytes e)) (subst (AreReadings (complete_statements bytes)) (sym (append-nil rs)) h.read);
-  gained = Gains-none before;
-  left = sym (state_stays no_relvars 1 (rs ++ []));
-  accepted = h.accepted ∙ ap (λ q. (performed q).accepted) (sym (append-nil rs));
-})
+finish-blank s bytes rs before database h e = (
+  [],
+  record {
+    read = subst (λ ss. AreReadings ss (rs ++ [])) (sym (blank_statements bytes e)) (subst (AreReadings (complete_statements bytes)) (sym (append-nil rs)) h.read);
+    gained = Gains-none before;
+    left = sym (state_stays no_relvars 1 (rs ++ []));
+    accepted = h.accepted ∙ ap (λ q. (performed q).accepted) (sym (append-nil rs));
+  },
+)
 
 abbrev pub not_ended : Reading
 not_ended = Refused (Plain E04)
@@ -233,21 +240,26 @@ pub finish-open : (s : Session) (bytes : List ℕ) (rs : List Reading) (before n
 finish-open s bytes rs before now database one both h e accepts b gains =
     let all : List Reading = rs ++ not_ended ∷ [] in
     let text : text_of s.number (answer no_relvars not_ended) ≡ (performed_after rs (not_ended ∷ [])).output =
-    ap (λ n. text_of n (answer no_relvars not_ended)) h.number ∙ text_is (length rs + 1) rs not_ended ∙ sym (output-one rs not_ended) in
-    (not_ended ∷ [], record {
-      read = subst (λ ss. AreReadings ss all) (sym (open_statements bytes e)) (readings-push (complete_statements bytes) Incomplete rs not_ended h.read refl);
-      gained = subst (λ t. Gains before t now) text gains;
-      left = sym (state_stays no_relvars 1 all);
-      accepted = b ∙ (λ i. accepts i && h.accepted i) ∙ ap (λ st. is_accepted (answer st not_ended) && (performed rs).accepted) (sym (state_stays no_relvars 1 rs)) ∙ sym (accepted-push rs not_ended);
-    })
+    ap (λ n. text_of n (answer no_relvars not_ended)) h.number ∙ text_is (length rs + 1) rs not_ended ∙ sym (output-one rs not_ended) in (
+      not_ended ∷ [],
+      record {
+        read = subst (λ ss. AreReadings ss all) (sym (open_statements bytes e)) (readings-push (complete_statements bytes) Incomplete rs not_ended h.read refl);
+        gained = subst (λ t. Gains before t now) text gains;
+        left = sym (state_stays no_relvars 1 all);
+        accepted = b ∙ (λ i. accepts i && h.accepted i) ∙ ap (λ st. is_accepted (answer st not_ended) && (performed rs).accepted) (sym (state_stays no_relvars 1 rs)) ∙ sym (accepted-push rs not_ended);
+      },
+    )
 
 pub finish-stop : (s : Session) (bytes : List ℕ) (rs : List Reading) (before now : Option (List ℕ)) (database : Database) → StandsFor s bytes rs → now ≡ before
     → (more : List Reading) × GoesOn (statements bytes) rs more before now (state_of database)
-finish-stop s bytes rs before now database h e = ([], record {
-  read = readings-front (statements bytes) (complete_statements bytes) (incomplete_rest (cut bytes).rest) (rs ++ []) refl (subst (AreReadings (complete_statements bytes)) (sym (append-nil rs)) h.read);
-  gained = subst (Gains before []) (sym e) (Gains-none before);
-  left = sym (state_stays no_relvars 1 (rs ++ []));
-})
+finish-stop s bytes rs before now database h e = (
+  [],
+  record {
+    read = readings-front (statements bytes) (complete_statements bytes) (incomplete_rest (cut bytes).rest) (rs ++ []) refl (subst (AreReadings (complete_statements bytes)) (sym (append-nil rs)) h.read);
+    gained = subst (Gains before []) (sym e) (Gains-none before);
+    left = sym (state_stays no_relvars 1 (rs ++ []));
+  },
+)
 
 pub finish-cut-off : (s : Session) (bytes : List ℕ) (rs : List Reading) (before now : Option (List ℕ)) (database : Database) → StandsFor s bytes rs → is_blank (cut bytes).rest ≡ false
     → GainsPrefix before (text_of s.number (answer no_relvars not_ended)) now

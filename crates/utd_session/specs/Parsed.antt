@@ -11,7 +11,7 @@ use Rattle.utd_session.specs.Readings.{Reading, Tree, Refused, IsText}
 
 -- the tree without where its parts lie in memory
 abbrev pub reading_of : Parsed → Reading
-reading_of (parsed.Tree first tree) = Tree first (read_statement tree)
+reading_of (parsed.Tree tree) = Tree tree.first (read_statement tree.statement)
 reading_of (parsed.Refused refuse) = Refused refuse
 
 -- the text is refused so, or memory ran out

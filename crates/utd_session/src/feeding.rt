@@ -11,8 +11,7 @@ ghost use Rattle.utd_session.specs.Feeding.{IsReplyTo};
 
 use crate::fault::SessionFault;
 use crate::outcome::Database;
-use crate::reading::Parsed;
-use crate::reply::{Reply, answer_to};
+use crate::reply::{Reply, answer_to, refusal};
 use crate::unfinished::Unfinished;
 use point_core::{Code, Memory, Steps};
 use std::alloc::Global;
@@ -288,8 +287,7 @@ impl Session {
                 all_accepted,
             });
         }
-        let parsed = Parsed::Refused(Refuse::Plain(Code::E04));
-        let Ok(reply) = answer_to(alloc, &database, number, &parsed) else {
+        let Ok(reply) = refusal(alloc, number, &Refuse::Plain(Code::E04)) else {
             let why = SessionFault::Memory;
             return Err(Ended { why, database });
         };

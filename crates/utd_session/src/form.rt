@@ -153,7 +153,11 @@ fn tuple(parts: &Tuple) -> Option<PlacedRow>
 }
 
 // The rows of the tuples, behind a first row.
-fn tuples(alloc: Global, first: PlacedRow, more: &[Tuple]) -> Result<Option<Vec<PlacedRow>>, AllocError>
+fn tuples(
+    alloc: Global,
+    first: PlacedRow,
+    more: &[Tuple],
+) -> Result<Option<Vec<PlacedRow>>, AllocError>
     ensures { IfOk result (λ o. option_map (λ v. v.items) o ≡ option_map (λ rows. first ∷ rows) (tuples (read_tuple_list more.now))) }
 {
     let mut rows = Vec::new(alloc);

@@ -10,7 +10,7 @@ ghost use Rattle.utd_session.specs.Machine.{Refusal, of_form, of_tree, answer, t
 use crate::form::rows_of;
 use crate::outcome::Database;
 use crate::packing::packed_form;
-use crate::reading::Parsed;
+use crate::reading::{Parsed, Tree};
 use crate::row::{PlacedRow, Row};
 use crate::table::table;
 use point_core::{Code, Fault, Memory, Place};
@@ -41,10 +41,13 @@ fn first_empty(rows: &[PlacedRow]) -> Option<Place>
 fn without_places(alloc: Global, rows: &[PlacedRow]) -> Result<Vec<Row>, AllocError>
     ensures { IfOk result (λ v. v.items ≡ map (λ r. r.row) rows.now) }
 {
-    rows.iter().map(|placed: &PlacedRow| placed.row).collect(alloc)
+    rows.iter()
+        .map(|placed: &PlacedRow| placed.row)
+        .collect(alloc)
 }
 
-fn refusal(alloc: Global, number: u32, refuse: &Refuse) -> Result<Reply, Memory>
+/// The answer to a refused statement.
+pub fn refusal(alloc: Global, number: u32, refuse: &Refuse) -> Result<Reply, Memory>
     requires { HasLine refuse.now }
     ensures text { IfOk result (λ r. r.text.items ≡ text_of number (Refusal refuse.now)) }
     ensures accepted { IfOk result (λ r. r.accepted ≡ is_accepted (Refusal refuse.now)) }
@@ -98,22 +101,21 @@ fn answer_to_tree(
     alloc: Global,
     database: &Database,
     number: u32,
-    first: Place,
-    tree: &Statement,
+    tree: &Tree,
 ) -> Result<Reply, Memory>
     ensures text { IfOk result (λ r. r.text.items
-        ≡ text_of number (of_tree (state_of database.now) first (read_statement tree.now))) }
+        ≡ text_of number (of_tree (state_of database.now) tree.now.first (read_statement tree.now.statement))) }
     ensures accepted { IfOk result (λ r. r.accepted
-        ≡ is_accepted (of_tree (state_of database.now) first (read_statement tree.now))) }
+        ≡ is_accepted (of_tree (state_of database.now) tree.now.first (read_statement tree.now.statement))) }
 {
-    if let Statement::Nothing = tree {
+    if let Statement::Nothing = &tree.statement {
         return Ok(Reply {
             text: Vec::new(alloc),
             accepted: true,
         });
     }
-    let rows = rows_of(alloc, tree)?;
-    answer_to_form(alloc, number, first, rows)
+    let rows = rows_of(alloc, &tree.statement)?;
+    answer_to_form(alloc, number, tree.first, rows)
 }
 
 /// The answer to what a statement is read as, in the state that the database holds.
@@ -130,7 +132,7 @@ pub fn answer_to(
         ≡ is_accepted (answer (state_of database.now) (reading_of parsed.now))) }
 {
     match parsed {
-        Parsed::Tree(first, tree) => answer_to_tree(alloc, database, number, *first, tree),
+        Parsed::Tree(tree) => answer_to_tree(alloc, database, number, tree),
         Parsed::Refused(refuse) => refusal(alloc, number, refuse),
     }
 }

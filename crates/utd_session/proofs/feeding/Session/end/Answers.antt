@@ -37,13 +37,16 @@ returns-clause-performed g c bytes rs h ends =
     let r : Reading = q.0 in
     let e = is_end old bytes front rs r c.in-Ok.reply.accepted h ends q.1 q.3 in
     let text = q.2 ∙ ap (λ n. text_of n (answer no_relvars r)) h.number ∙ text_is (length rs + 1) rs r in
-    let w = c.restart.ensures.next (cut bytes).place ((cut bytes).rest ++ front) u in
-    (r, record {
-      read = e.read;
-      state_is = e.left;
-      accepted = c.both.ensures ∙ e.accepted;
-      number = e.number;
-      unfinished = subst (λ p. IsUnfinished new p (cut (bytes ++ front)).rest) (sym e.place_is) (subst (IsUnfinished new _) (sym e.rest_is) w);
-      since = subst (Since c.new.result) (sym e.rest_is) c.new.ensures;
-      fed = e.fed;
-    }, subst (λ t. Gains (g.K.Sink.written c.args.out.now) t (g.K.Sink.written c.write_all.new.sink)) (c.deref.ensures.value ∙ text) c.in-Ok-write_all.ensures.bytes)
+    let w = c.restart.ensures.next (cut bytes).place ((cut bytes).rest ++ front) u in (
+      r,
+      record {
+        read = e.read;
+        state_is = e.left;
+        accepted = c.both.ensures ∙ e.accepted;
+        number = e.number;
+        unfinished = subst (λ p. IsUnfinished new p (cut (bytes ++ front)).rest) (sym e.place_is) (subst (IsUnfinished new _) (sym e.rest_is) w);
+        since = subst (Since c.new.result) (sym e.rest_is) c.new.ensures;
+        fed = e.fed;
+      },
+      subst (λ t. Gains (g.K.Sink.written c.args.out.now) t (g.K.Sink.written c.write_all.new.sink)) (c.deref.ensures.value ∙ text) c.in-Ok-write_all.ensures.bytes,
+    )
