@@ -2,6 +2,8 @@ pub mod BlankLemmas
 pub mod CutLemmas
 pub mod GapLemmas
 pub mod ListLemmas
+pub mod OneFrontLemmas
+pub mod OneReadingLemmas
 pub mod PlaceLemmas
 pub mod ReadLemmas
 pub mod TextLemmas

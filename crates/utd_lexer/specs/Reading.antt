@@ -2,6 +2,7 @@
 use Rattle.std.specs.Prelude.{◌≡◌, ◌⊎◌, ℕ, List, take}
 use Rattle.std.specs.Str.{IsUtf8, chars}
 use Rattle.std.specs.Str.Lossy.{utf8_valid_len}
+use Rattle.point_core.specs.declared.fault.Fault.{Fault}
 use Rattle.point_core.specs.declared.fault.Place.{Place}
 use Rattle.point_core.specs.declared.fault.Code.TheVariants.{E01, E02}
 use Rattle.point_core.specs.Faults.{fault}
@@ -29,3 +30,19 @@ Refuses start bytes (At f) =
     ⊎ (IsUtf8 bytes × Stops start (chars bytes) (At f))
 Refuses start bytes (Plain code) = ⊥
 Refuses start bytes (Broken code relvar number) = ⊥
+
+-- The bytes have one reading: these tokens and no others, and they are not refused.
+pub record IsOnlyReading (start : Place) (bytes : List ℕ) (tokens : List Token) : Type 0 where
+  pub others : (list : List Token) → Reads start bytes list → list ≡ tokens
+  pub refused : (fault : Fault) → Refuses start bytes (At fault) → ⊥
+
+-- The bytes have one refusal: this code at this place, and they are not read.
+pub record IsOnlyRefusal (start : Place) (bytes : List ℕ) (fault : Fault) : Type 0 where
+  pub others : (other : Fault) → Refuses start bytes (At other) → other ≡ fault
+  pub read : (list : List Token) → Reads start bytes list → ⊥
+
+abbrev pub RefusesOnly : Place → List ℕ → Refuse → Type 0
+RefusesOnly start bytes Memory = Unit {0}
+RefusesOnly start bytes (At fault) = IsOnlyRefusal start bytes fault
+RefusesOnly start bytes (Plain code) = ⊥
+RefusesOnly start bytes (Broken code relvar number) = ⊥

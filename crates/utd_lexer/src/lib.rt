@@ -7,7 +7,7 @@ mod reading;
 mod token;
 
 pub use cutter::{Cut, Cutter};
-pub use reading::tokens;
+pub use reading::{place_behind, tokens};
 pub use token::{Token, TokenBytes, TokenKind, TokenList};
 
 #[cfg(test)]

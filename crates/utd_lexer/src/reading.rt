@@ -2,7 +2,7 @@
 ghost use Rattle.std.specs.Prelude.{◌≡◌, ◌+◌, ◌-◌, ◌^◌, ◌≤◌, length, IfOk, IfErr, encode_utf8_all};
 ghost use Rattle.std.specs.Str.{chars};
 ghost use Rattle.utd_lexer.specs.Tokens.{Fits, next_place, place_after, past, Lexed};
-ghost use Rattle.utd_lexer.specs.Reading.{Stops, Reads, Refuses};
+ghost use Rattle.utd_lexer.specs.Reading.{Stops, Reads, Refuses, IsOnlyReading, RefusesOnly};
 
 use crate::front::{Front, front_of};
 use crate::token::{Token, TokenList};
@@ -28,8 +28,8 @@ fn next_place(place: Place, byte: u8) -> Place
     }
 }
 
-/// The place of the byte behind these.
-fn place_behind(start: Place, bytes: &[u8]) -> Place
+/// The place of the byte behind these, the first of which has the place `start`. A byte 10 ends a line.
+pub fn place_behind(start: Place, bytes: &[u8]) -> Place
     requires { Fits start (length bytes.now) }
     ensures { result ≡ place_after start bytes.now }
 {
@@ -91,11 +91,14 @@ fn read_all(alloc: Global, chars: &[char], start: Place) -> Result<TokenList, Re
 /// The tokens of a statement, the first byte of which has the place `start`. They are the longest that
 /// there are, with white space and comments between them. Where the bytes are not UTF-8, that is
 /// refused with E02 behind the longest front that is; else, where at some character neither a token nor
-/// white space nor a comment begins, with E01 there.
+/// white space nor a comment begins, with E01 there. Bytes have one reading: no other tokens, no other
+/// refusal, and never both.
 pub fn tokens(alloc: Global, text: &[u8], start: Place) -> Result<TokenList, Refuse>
     requires { start.line + start.column + length text.now ≤ 2 ^ 32 - 1 }
     ensures read { IfOk result (λ list. Reads start text.now list) }
+    ensures only { IfOk result (λ list. IsOnlyReading start text.now list) }
     ensures refused { IfErr result (λ refuse. Refuses start text.now refuse) }
+    ensures refused_only { IfErr result (λ refuse. RefusesOnly start text.now refuse) }
 {
     match str::from_utf8(text) {
         Ok(text) => {

@@ -2,10 +2,10 @@
 ghost use Rattle.std.specs.Prelude.{◌≡◌, ℕ, ◌+◌, ◌-◌, ◌^◌, ◌<◌, ◌≤◌, List, [], ◌++◌, length, IfOk, OnOk, OnErr};
 ghost use Rattle.utd_lexer.specs.Tokens.{Fits, place_after};
 
-use crate::places::place_behind;
 use crate::reading::{Parsed, read_text};
 use point_core::{Code, Memory, Place};
 use std::alloc::{AllocError, Global};
+use utd_lexer::place_behind;
 use value_core::Refuse;
 
 const MOST_BYTES: usize = 1_048_576;
