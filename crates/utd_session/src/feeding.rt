@@ -101,7 +101,8 @@ fn both(a: bool, b: bool) -> bool
 }
 
 impl Session {
-    ghost use Rattle.utd_session.specs.Statements.{cut, complete_statements, statements, is_blank};
+    ghost use Rattle.utd_lexer.specs.Parts.{IsBlank};
+    ghost use Rattle.utd_session.specs.Statements.{cut, complete_statements, statements};
     ghost use Rattle.utd_session.specs.Readings.{Reading};
     ghost use Rattle.utd_session.specs.Machine.{answer, text_of, performed, performed_after};
     ghost use Rattle.utd_session.specs.Feeding.{HasReading};
@@ -259,7 +260,7 @@ impl Session {
         ensures finished { (bytes : List ℕ) (rs : List Reading) → StandsFor self bytes rs
             → IfOk result (λ f. (more : List Reading) × IsFinished (statements bytes) rs more
             (K.written out.old) (K.written out.new) (state_of f.database) f.all_accepted) }
-        ensures blank { (bytes : List ℕ) (rs : List Reading) → StandsFor self bytes rs → is_blank (cut bytes).rest ≡ true
+        ensures blank { (bytes : List ℕ) (rs : List Reading) → StandsFor self bytes rs → IsBlank (cut bytes).rest
             → IsOk result × (out.new ≡ out.old) }
         ensures memory { (bytes : List ℕ) (rs : List Reading) → StandsFor self bytes rs
             → IfErr result (λ e. e.why ≡ SessionFault.Memory → (more : List Reading)

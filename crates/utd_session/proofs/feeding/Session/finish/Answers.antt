@@ -1,6 +1,7 @@
 use Rattle.std.proofs.Common.{◌≡◌, ◌∙◌, true, false, sym, ap, subst, refl}
 use Rattle.utd_io.specs.Io.{Gains, GainsPrefix}
 use Rattle.utd_session.specs.Statements.{cut, is_blank}
+use Rattle.utd_session.proofs.StatementLemmas.{is_blank_is}
 use Rattle.utd_session.proofs.SessionLemmas.{blank_is, finish-blank, finish-open, finish-stop, finish-cut-off}
 use Rattle.utd_session.proofs.feeding.Session.finish.Goals as goal
 
@@ -13,7 +14,7 @@ returns-then-is_blank-clause-finished g c bytes rs h =
 pub returns-in_default-clause-blank : goal.returns-in_default-clause-blank
 returns-in_default-clause-blank g c bytes rs h blank =
     let rest = (cut bytes).rest in
-    let f : true ≡ false = sym blank ∙ sym (blank_is rest c.is_blank.result (c.is_blank.ensures rest h.since)) ∙ c.if-is_blank.false in cc
+    let f : true ≡ false = sym ((is_blank_is rest).1 blank) ∙ sym (blank_is rest c.is_blank.result (c.is_blank.ensures rest h.since)) ∙ c.if-is_blank.false in cc
 
 pub returns-in_default-clause-memory : goal.returns-in_default-clause-memory
 returns-in_default-clause-memory g c bytes rs h e =
@@ -22,7 +23,7 @@ returns-in_default-clause-memory g c bytes rs h e =
 pub returns-in_default-write_all-clause-blank : goal.returns-in_default-write_all-clause-blank
 returns-in_default-write_all-clause-blank g c bytes rs h blank =
     let rest = (cut bytes).rest in
-    let f : true ≡ false = sym blank ∙ sym (blank_is rest c.is_blank.result (c.is_blank.ensures rest h.since)) ∙ c.if-is_blank.false in cc
+    let f : true ≡ false = sym ((is_blank_is rest).1 blank) ∙ sym (blank_is rest c.is_blank.result (c.is_blank.ensures rest h.since)) ∙ c.if-is_blank.false in cc
 
 pub returns-in_default-write_all-clause-write : goal.returns-in_default-write_all-clause-write
 returns-in_default-write_all-clause-write g c bytes rs h e =
@@ -41,4 +42,4 @@ returns-clause-finished g c bytes rs h =
 pub returns-clause-blank : goal.returns-clause-blank
 returns-clause-blank g c bytes rs h blank =
     let rest = (cut bytes).rest in
-    let f : true ≡ false = sym blank ∙ sym (blank_is rest c.is_blank.result (c.is_blank.ensures rest h.since)) ∙ c.if-is_blank.false in cc
+    let f : true ≡ false = sym ((is_blank_is rest).1 blank) ∙ sym (blank_is rest c.is_blank.result (c.is_blank.ensures rest h.since)) ∙ c.if-is_blank.false in cc
