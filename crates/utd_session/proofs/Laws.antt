@@ -1,15 +1,12 @@
 -- A statement has one reading, and the machine one step after each number of statements.
-use Rattle.std.proofs.Common.{◌≡◌, ◌⊎◌, inl, inr, ℕ, Bool, true, false, nat_le, List, [], ◌∷◌, length, take, refl, sym, ap, ◌∙◌, subst}
+use Rattle.std.proofs.Common.{◌≡◌, inl, inr, ℕ, Bool, true, false, nat_le, List, [], ◌∷◌, length, take, refl, sym, ap, ◌∙◌, subst}
 use Rattle.point_core.specs.declared.fault.Place.{Place}
 use Rattle.point_core.specs.declared.fault.Fault.{Fault}
 use Rattle.point_core.specs.declared.fault.Code.{Code}
-use Rattle.value_core.specs.declared.refuse.Refuse.{Refuse}
 use Rattle.value_core.specs.declared.refuse.Refuse.TheVariants as refuses
 use Rattle.utd_lexer.specs.declared.token.Token.{Token}
-use Rattle.utd_lexer.specs.Reading.{Reads, Refuses}
 use Rattle.utd_lexer.proofs.OneReadingLemmas.{reads-one, refuses-one, reads-refuses}
 use Rattle.utd_syntax.specs.Pieces.{place_of}
-use Rattle.utd_syntax.specs.Plain.{StatementP}
 use Rattle.utd_syntax.specs.Written.{Spells, of_statement}
 use Rattle.utd_syntax.specs.Verdict as verdict
 use Rattle.utd_syntax.specs.Verdict.{Verdict, verdict_on, Whole}

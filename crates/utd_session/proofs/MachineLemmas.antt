@@ -1,9 +1,9 @@
 -- Statements, one after the other.
-use Rattle.std.proofs.Common.{◌≡◌, ℕ, zero, suc, ◌+◌, ◌≤◌, ◌<◌, Bool, true, false, ◌&&◌, List, [], ◌∷◌, ◌++◌, length, take, refl, sym, ap, ◌∙◌, subst, arith, append_assoc, append-nil, length-append, length-take, take_all}
-use Rattle.std.proofs.lemmas.List.{take-append-le, take_at}
+use Rattle.std.proofs.Common.{◌≡◌, ℕ, suc, ◌+◌, ◌≤◌, Bool, true, false, ◌&&◌, List, [], ◌∷◌, ◌++◌, length, take, refl, sym, ap, ◌∙◌, subst, arith, append_assoc, append-nil, length-append, length-take}
+use Rattle.std.proofs.lemmas.List.{take_at}
 use Rattle.utd_session.specs.Statements.{Statement}
 use Rattle.utd_session.specs.Readings.{Reading, IsReading, AreReadings}
-use Rattle.utd_session.specs.Machine.{State, Step, no_relvars, answer, text_of, is_accepted, step, no_step, in_turn, all_steps, performed, performed_after}
+use Rattle.utd_session.specs.Machine.{State, Step, no_relvars, answer, text_of, is_accepted, step, in_turn, all_steps, performed, performed_after}
 
 -- no statement changes the state
 pub state_stays : (state : State) (n : ℕ) (rs : List Reading) → (all_steps state n rs).state ≡ state

@@ -1,5 +1,5 @@
 -- How a session goes on, statement by statement.
-use Rattle.std.proofs.Common.{◌≡◌, ◌↔◌, ℕ, suc, ◌+◌, ◌≤◌, ◌<◌, Bool, true, false, cond, ◌&&◌, List, [], ◌∷◌, ◌++◌, length, take, drop, Option, Some, None, Result, Ok, Err, IfOk, IfErr, refl, sym, ap, ◌∙◌, subst, arith, append_assoc, append-nil, length-append, take-append-drop}
+use Rattle.std.proofs.Common.{◌≡◌, ◌↔◌, ℕ, ◌+◌, Bool, true, false, cond, ◌&&◌, List, [], ◌∷◌, ◌++◌, length, take, drop, Option, Some, None, Result, Ok, Err, IfOk, IfErr, refl, sym, ap, ◌∙◌, subst, arith, append_assoc, append-nil, length-append, take-append-drop}
 use Rattle.utd_io.specs.Io.{Gains, GainsPrefix}
 use Rattle.utd_io.proofs.Gained.{Gains-none, Gains-more}
 use Rattle.utd_lexer.specs.declared.cutter.Cutter.{Cutter}
@@ -16,11 +16,11 @@ use Rattle.point_core.specs.declared.fault.Code.TheVariants.{E04}
 use Rattle.value_core.specs.declared.refuse.Refuse.TheVariants.{Plain}
 use Rattle.utd_session.specs.Statements.{Statement, Complete, Incomplete, ends, Cut, cut, complete_statements, is_blank, incomplete_rest, statements, NoEnd, EndsOne}
 use Rattle.utd_session.specs.Readings.{Reading, Refused, IsReading, AreReadings}
-use Rattle.utd_session.specs.Machine.{State, Step, no_relvars, state_of, answer, text_of, is_accepted, performed, performed_after}
+use Rattle.utd_session.specs.Machine.{no_relvars, state_of, answer, text_of, is_accepted, performed, performed_after}
 use Rattle.utd_session.specs.Run.{IsPrefixOf}
 use Rattle.utd_session.specs.Sessions.{StandsFor, GoesOn, IsCutOff, IsFinished}
-use Rattle.utd_session.proofs.StatementLemmas.{ends_is, is_blank_is, cut-append, cut-end, cut-keep, cut-more, none-more, one-ends}
-use Rattle.utd_session.proofs.MachineLemmas.{state_stays, performed-more, output-push, output-one, accepted-push, readings-length, readings-append, readings-push, readings-front}
+use Rattle.utd_session.proofs.StatementLemmas.{ends_is, is_blank_is, cut-end, cut-keep, cut-more}
+use Rattle.utd_session.proofs.MachineLemmas.{state_stays, output-push, output-one, accepted-push, readings-push, readings-front}
 
 -- what a step of the cutter says
 abbrev pub SinceThen : Cutter → Cuts → ℕ → Cutter → Type 0

@@ -1,4 +1,4 @@
-use Rattle.std.proofs.Common.{sym, ◌∙◌, map}
+use Rattle.std.proofs.Common.{◌∙◌}
 use Rattle.utd_session.proofs.ReplyLemmas.{none_empty}
 use Rattle.utd_session.proofs.reply.packed_table.Goals as goal
 

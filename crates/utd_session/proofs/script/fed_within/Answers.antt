@@ -1,4 +1,4 @@
-use Rattle.std.proofs.Common.{◌≡◌, ◌∙◌, sym, ap, arith, length, refl}
+use Rattle.std.proofs.Common.{arith, refl}
 use Rattle.utd_session.proofs.RunLemmas.{fed_piece, fed_too_long, ended_in_piece}
 use Rattle.utd_session.proofs.script.fed_within.Goals as goal
 

@@ -1,6 +1,6 @@
-use Rattle.std.proofs.Common.{◌≡◌, ◌++◌, ◌∷◌, [], ◌+◌, ◌∙◌, length, sym, ap, subst, arith}
+use Rattle.std.proofs.Common.{◌++◌, ◌+◌, ◌∙◌, length, sym, ap, subst, arith}
 use Rattle.point_core.specs.declared.fault.Place.{Place}
-use Rattle.utd_io.specs.Io.{Gains, GainsPrefix}
+use Rattle.utd_io.specs.Io.{Gains}
 use Rattle.utd_lexer.specs.Cutting.{Since}
 use Rattle.utd_session.specs.Unfinished.{IsUnfinished}
 use Rattle.utd_session.specs.Statements.{cut}

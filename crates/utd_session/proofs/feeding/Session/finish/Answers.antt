@@ -1,4 +1,4 @@
-use Rattle.std.proofs.Common.{◌≡◌, ◌∙◌, true, false, sym, ap, subst, refl}
+use Rattle.std.proofs.Common.{◌≡◌, ◌∙◌, true, false, sym, subst, refl}
 use Rattle.utd_io.specs.Io.{Gains, GainsPrefix}
 use Rattle.utd_session.specs.Statements.{cut, is_blank}
 use Rattle.utd_session.proofs.StatementLemmas.{is_blank_is}

@@ -1,4 +1,4 @@
-use Rattle.std.proofs.Common.{◌≡◌, ◌++◌, ◌∙◌, sym, ap, subst, arith}
+use Rattle.std.proofs.Common.{◌++◌, sym, ap, subst, arith}
 use Rattle.point_core.specs.declared.fault.Place.{Place}
 use Rattle.utd_lexer.specs.Cutting.{Since}
 use Rattle.utd_session.specs.Unfinished.{IsUnfinished}

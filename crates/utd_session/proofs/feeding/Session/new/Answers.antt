@@ -1,4 +1,4 @@
-use Rattle.std.proofs.Common.{[], refl, sym, ap, subst}
+use Rattle.std.proofs.Common.{[], refl, sym, subst}
 use Rattle.utd_lexer.specs.Cutting.{Since}
 use Rattle.utd_session.specs.Unfinished.{IsUnfinished}
 use Rattle.utd_session.specs.Statements.{Cut}
