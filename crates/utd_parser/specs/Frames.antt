@@ -60,13 +60,13 @@ Fails (Plain code) v = ⊥
 Fails (Broken code relvar number) v = ⊥
 
 -- a step from one verdict to the next, or the refusal of the first
-abbrev pub Comes : Result (Unit {0}) Refuse → Verdict → Verdict → Type 0
-Comes (Ok u) old new = old ≡ new
+abbrev pub Comes : {A : Type 0} → Result A Refuse → Verdict → Verdict → Type 0
+Comes (Ok x) old new = old ≡ new
 Comes (Err e) old new = Fails e old
 
 -- the refusal has this code and this place
-abbrev pub RefusedAt : Result (Unit {0}) Refuse → Code → Place → Type 0
-RefusedAt (Ok u) code place = ⊥
+abbrev pub RefusedAt : {A : Type 0} → Result A Refuse → Code → Place → Type 0
+RefusedAt (Ok x) code place = ⊥
 RefusedAt (Err (At fault)) code place = (fault.code ≡ code) × (fault.place ≡ place)
 RefusedAt (Err e) code place = ⊥
 

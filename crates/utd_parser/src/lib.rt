@@ -18,7 +18,7 @@ mod whole;
 
 pub use limits::{exceeds, is_bad_text};
 pub use terminals::terminal_of;
-pub use whole::accept;
+pub use whole::{accept, parse};
 
 #[cfg(test)]
 mod tests;

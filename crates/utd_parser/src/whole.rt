@@ -6,8 +6,11 @@ ghost use Rattle.point_core.specs.declared.fault.Code.TheVariants.{E01};
 ghost use Rattle.value_core.specs.declared.refuse.Refuse.TheVariants as refuses;
 ghost use Rattle.utd_syntax.specs.Pieces.{Piece, first};
 ghost use Rattle.utd_syntax.specs.Continues.{Continues, NoStatement};
+ghost use Rattle.utd_syntax.specs.Plain.{StatementP};
+ghost use Rattle.utd_syntax.specs.Read.{read_statement};
 ghost use Rattle.utd_syntax.specs.Table.{TheStatement};
 ghost use Rattle.utd_syntax.specs.Verdict.{Verdict, Whole, Refused, at_start, limits, verdict, verdict_on};
+ghost use Rattle.utd_syntax.specs.Written.{Spells, of_statement};
 ghost use Rattle.utd_parser.specs.Tokens.{pieces, seen};
 ghost use Rattle.utd_parser.specs.Frames.{load_of, stack_of, Comes, Fails, IsStatement, RefusedAt};
 
@@ -18,7 +21,7 @@ use crate::terminals::{bytes_of, terminal_of};
 use point_core::{Code, Fault, Place};
 use std::alloc::Global;
 use utd_lexer::{Token, TokenList};
-use utd_syntax::Terminal;
+use utd_syntax::{Statement, Terminal};
 use value_core::Refuse;
 
 // The forms to come, and the load.
@@ -136,4 +139,17 @@ pub fn accept(alloc: Global, list: &TokenList) -> Result<(), Refuse>
     ensures limit { (code : Code) (place : Place) → RefusedAt result code place → (E01 ≡ code → ⊥) → Continues (pieces list.now) place }
 {
     judge(alloc, list)
+}
+
+/// The statement that the tokens are, and else the refusal of `accept`: the tree writes these tokens, and no other tree
+/// does.
+pub fn parse(alloc: Global, list: &TokenList) -> Result<Statement, Refuse>
+    ensures verdict { Comes result (verdict_on (pieces list.now)) Whole }
+    ensures read { IfOk result (λ s. Spells (of_statement (read_statement s)) (pieces list.now) []) }
+    ensures sole { IfOk result (λ s. (other : StatementP) → Spells (of_statement other) (pieces list.now) [] → other ≡ read_statement s) }
+    ensures no_statement { (place : Place) → RefusedAt result E01 place → NoStatement (pieces list.now) place }
+    ensures limit { (code : Code) (place : Place) → RefusedAt result code place → (E01 ≡ code → ⊥) → Continues (pieces list.now) place }
+{
+    accept(alloc, list)?;
+    Err(Refuse::Memory)
 }

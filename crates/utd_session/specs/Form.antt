@@ -1,92 +1,114 @@
--- The one form of a statement: `PRINT PACK RELATION { tuples } ON ( D )`.
-use Rattle.std.specs.Prelude.{ℕ, zero, suc, ℤ, pos, Bool, ◌&&◌, List, [], ◌∷◌, length, nat_le, if◌then◌else◌, codes, Option, Some, None, option_and_then, bytes_eq}
+-- The one form of a statement that runs, on the syntax tree: `PRINT PACK RELATION { tuples } ON ( D )`, where each tuple
+-- is `TUPLE { S int , D [ int : int ] }`.
+use Rattle.std.specs.Prelude.{ℕ, ◌+◌, ℤ, pos, Bool, false, ◌&&◌, List, [], ◌∷◌, length, nat_le, if◌then◌else◌, codes, Option, Some, None, option_and_then, bytes_eq}
 use Rattle.std.specs.List.{list_all}
 use Rattle.std.specs.Str.Parse.{digits_value}
-use Rattle.utd_session.specs.declared.row.Row.{Row}
+use Rattle.point_core.specs.declared.fault.Place.{Place}
+use Rattle.utd_syntax.specs.declared.words.BeginBracket.TheVariants as begin_brackets
+use Rattle.utd_syntax.specs.declared.words.EndBracket.TheVariants as end_brackets
+use Rattle.utd_syntax.specs.declared.words.PackWord.TheVariants as pack_words
+use Rattle.utd_syntax.specs.Plain.{Word, ScalarP, OneConj, OneNeg, OneCmp, OneSum, OneProd, OneSign, OnePrimary, PrimaryP, IntegerLiteral, Selector, NameListP, NameList, ElementP, Element, Elements, TupleP, Tuple, LiteralP, Tuples, RelP, OfTerms, OneTerm, OneRelPrimary, OfOperand, OperandP, OfLiteral, PackOn, StatementP, Print}
+use Rattle.utd_session.specs.declared.row.PlacedRow.{PlacedRow}
 use Rattle.utd_session.specs.Rows.{row}
-use Rattle.utd_session.specs.Tokens.{is_digit}
-
--- the tokens that are left
-abbrev pub Tokens : Type 0
-Tokens = List (List ℕ)
 
 infixl 10 ◌>>=◌
 abbrev pub ◌>>=◌ : {A B : Type 0} → Option A → (A → Option B) → Option B
 o >>= f = option_and_then f o
 
--- what follows a word or a symbol, where it stands next
-unfoldable pub expect : List ℕ → Tokens → Option Tokens
-expect word [] = None
-expect word (token ∷ tokens) = if bytes_eq token word then Some tokens else None
+abbrev pub is_digit : ℕ → Bool
+is_digit b = nat_le 48 b && nat_le b 57
 
 -- 1 to 18 digits
 abbrev pub is_number : List ℕ → Bool
-is_number token = list_all is_digit token && nat_le (length token) 18
+is_number digits = list_all is_digit digits && nat_le (length digits) 18
 
--- a number, and what follows
-unfoldable pub number : Tokens → Option (ℤ × Tokens)
-number [] = None
-number (token ∷ tokens) = if is_number token then Some (pos (digits_value 10 token), tokens) else None
+-- an integer of at most 18 digits without a sign
+unfoldable pub integer : PrimaryP → Option ℤ
+integer (IntegerLiteral place digits) = if is_number digits then Some (pos (digits_value 10 digits)) else None
+integer _ = None
+
+-- the primary that the scalar is, without an operator
+unfoldable pub primary : ScalarP → Option PrimaryP
+primary (OneConj (OneNeg (OneCmp (OneSum (OneProd (OneSign (OnePrimary p))))))) = Some p
+primary _ = None
+
+-- the integer that the scalar is
+unfoldable pub number : ScalarP → Option ℤ
+number scalar = primary scalar >>= integer
+
+-- `S int`
+unfoldable pub label : ElementP → Option ℤ
+label (Element name scalar) = if bytes_eq name.bytes (codes "S") then number scalar else None
+
+abbrev pub with_place : Place → ℤ → ℤ → Option (Place × ℤ × ℤ)
+with_place place begin end = Some (place, begin, end)
+
+-- `[ int : int ]`, with the place of its `[`
+unfoldable pub span : PrimaryP → Option (Place × ℤ × ℤ)
+span (Selector place begin_brackets.Closed begin end end_brackets.Closed) = do
+  b ← number begin
+  e ← number end
+  with_place place b e
+span _ = None
+
+-- `D [ int : int ]`
+unfoldable pub interval : ElementP → Option (Place × ℤ × ℤ)
+interval (Element name scalar) = if bytes_eq name.bytes (codes "D") then primary scalar >>= span else None
+
+-- the row of two elements, and the place of its interval
+unfoldable pub placed_row : ElementP → ElementP → Option PlacedRow
+placed_row first second = do
+  s ← label first
+  d ← interval second
+  Some (record { row = row d.1 d.2 s; place = d.0 })
+
+abbrev pub of_elements : List ElementP → Option PlacedRow
+of_elements (first ∷ (second ∷ [])) = placed_row first second
+of_elements _ = None
 
 -- `TUPLE { S int , D [ int : int ] }`
-unfoldable pub tuple : Tokens → Option (Row × Tokens)
-tuple t = do
-  t ← expect (codes "TUPLE") t
-  t ← expect (codes "{") t
-  t ← expect (codes "S") t
-  s ← number t
-  t ← expect (codes ",") s.1
-  t ← expect (codes "D") t
-  t ← expect (codes "[") t
-  b ← number t
-  t ← expect (codes ":") b.1
-  e ← number t
-  t ← expect (codes "]") e.1
-  t ← expect (codes "}") t
-  Some (row b.0 e.0 s.0, t)
+abbrev pub tuple : TupleP → Option PlacedRow
+tuple (Tuple place (Elements brace elements)) = of_elements elements
 
 -- a row before others
-abbrev pub with_row : Row → List Row × Tokens → Option (List Row × Tokens)
-with_row r t = Some (r ∷ t.0, t.1)
+abbrev pub with_row : Option (List PlacedRow) → PlacedRow → Option (List PlacedRow)
+with_row rows r = option_and_then (λ rs. Some (r ∷ rs)) rows
 
--- after a row, the others where a comma stands next
-abbrev pub other_tuples : (Tokens → Option (List Row × Tokens)) → Row × Tokens → Option Tokens
-    → Option (List Row × Tokens)
-other_tuples more t None = Some (t.0 ∷ [], t.1)
-other_tuples more t (Some rest) = more rest >>= with_row t.0
+unfoldable pub tuples : List TupleP → Option (List PlacedRow)
+tuples [] = Some []
+tuples (t ∷ ts) = tuple t >>= with_row (tuples ts)
 
--- tuples with a comma between, at most so many
-unfoldable pub tuples : ℕ → Tokens → Option (List Row × Tokens)
-tuples zero t = None
-tuples (suc n) t = tuple t >>= (λ t. other_tuples (tuples n) t (expect (codes ",") t.1))
+abbrev pub most_tuples : ℕ
+most_tuples = 1000
 
--- the end of the text
-abbrev pub nothing_left : Tokens → Option (Unit {0})
-nothing_left [] = Some tt
-nothing_left (token ∷ tokens) = None
+-- `RELATION { tuples }`
+unfoldable pub literal : LiteralP → Option (List PlacedRow)
+literal (Tuples place first more) = if nat_le (length more + 1) most_tuples then tuples (first ∷ more) else None
+literal _ = None
 
--- `PRINT PACK RELATION {`
-unfoldable pub heading : Tokens → Option Tokens
-heading t = do
-  t ← expect (codes "PRINT") t
-  t ← expect (codes "PACK") t
-  t ← expect (codes "RELATION") t
-  expect (codes "{") t
+-- the operand that the relation is, without an operator
+unfoldable pub operand : RelP → Option OperandP
+operand (OfTerms (OneTerm (OneRelPrimary (OfOperand o)))) = Some o
+operand _ = None
 
--- `} ON ( D )`, and nothing more
-unfoldable pub ending : Tokens → Option (Unit {0})
-ending t = do
-  t ← expect (codes "}") t
-  t ← expect (codes "ON") t
-  t ← expect (codes "(") t
-  t ← expect (codes "D") t
-  t ← expect (codes ")") t
-  nothing_left t
+unfoldable pub of_literal : OperandP → Option (List PlacedRow)
+of_literal (OfLiteral l) = literal l
+of_literal _ = None
 
--- the rows of a statement of the form
-unfoldable pub rows_of : Tokens → Option (List Row)
-rows_of t = do
-  t ← heading t
-  rows ← tuples 1000 t
-  e ← ending rows.1
-  Some rows.0
+abbrev pub are_d : List Word → Bool
+are_d (name ∷ []) = bytes_eq name.bytes (codes "D")
+are_d _ = false
+
+-- `( D )`
+abbrev pub is_d : NameListP → Bool
+is_d (NameList place names) = are_d names
+
+-- `PACK RELATION { tuples } ON ( D )`
+unfoldable pub packed : OperandP → Option (List PlacedRow)
+packed (PackOn place pack_words.Pack rel list) = if is_d list then operand rel >>= of_literal else None
+packed _ = None
+
+-- the rows of a statement of the form, in the order of the text
+unfoldable pub rows_of : StatementP → Option (List PlacedRow)
+rows_of (Print place rel) = operand rel >>= packed
+rows_of _ = None

@@ -1,8 +1,11 @@
-// Why statements stop before the last.
+// Why a session ends before the last statement.
+use thiserror::Error;
 
-/// Why the statements of a script stop before the last one.
-#[derive(Clone, Copy, Debug, PartialEq, Eq)]
+/// Why a session ends before the last statement.
+#[derive(Clone, Copy, Debug, PartialEq, Eq, Error)]
 pub enum SessionFault {
+    #[error("write failed")]
     Write,
+    #[error("out of memory")]
     Memory,
 }

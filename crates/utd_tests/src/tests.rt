@@ -37,7 +37,7 @@ const PLAIN: Example = Example {
     status: 0,
 };
 
-fn examples() -> [Example; 14] {
+fn examples() -> [Example; 19] {
     [
         Example {
             // an empty script
@@ -60,28 +60,28 @@ fn examples() -> [Example; 14] {
         Example {
             // refusals
             script: b"PRINT PACK RELATION {TUPLE {S 1, D [3:2]}} ON (D); ; PRINT X;",
-            output: b"statement 1 refused: E33 empty interval\nstatement 3 refused: E01 not a statement\n",
+            output: b"statement 1 refused: E33 empty interval at 1:36\nstatement 3 refused: E01 not a statement at 1:54\n",
             status: 1,
             ..PLAIN
         },
         Example {
             // a rest, and a statement after a refused one
             script: b"#;PRINT PACK RELATION {TUPLE {S 7, D [0:0]}} ON (D);\n x",
-            output: b"statement 1 refused: E01 not a statement\n| D     | S |\n| [0:0] | 7 |\nrows: 1\nstatement 3 refused: E04 statement not ended\n",
+            output: b"statement 1 refused: E01 not a statement at 1:1\n| D     | S |\n| [0:0] | 7 |\nrows: 1\nstatement 3 refused: E04 statement not ended\n",
             status: 1,
             ..PLAIN
         },
         Example {
             // words are longest
             script: b"PRINT PACK RELATION {TUPLE {S1, D [0:0]}} ON (D);PRINT PACK RELATION {TUPLE {S 1, D [0:0]}} ON (D_);",
-            output: b"statement 1 refused: E01 not a statement\nstatement 2 refused: E01 not a statement\n",
+            output: b"statement 1 refused: E01 not a statement at 1:31\nstatement 2 refused: E01 not a statement at 1:50\n",
             status: 1,
             ..PLAIN
         },
         Example {
             // eighteen digits and nineteen, columns as wide as their widest text
             script: b"PRINT PACK RELATION {TUPLE {S 999999999999999999,D[0:1]},TUPLE{S 3,D[2:2]},TUPLE{S 3,D[3:3]}}ON(D);\tPRINT PACK RELATION {TUPLE {S 1, D [0:1000000000000000000]}} ON (D);",
-            output: b"| D     | S                  |\n| [0:1] | 999999999999999999 |\n| [2:3] | 3                  |\nrows: 2\nstatement 2 refused: E01 not a statement\n",
+            output: b"| D     | S                  |\n| [0:1] | 999999999999999999 |\n| [2:3] | 3                  |\nrows: 2\nstatement 2 refused: E01 not a statement at 1:101\n",
             status: 1,
             ..PLAIN
         },
@@ -100,7 +100,7 @@ fn examples() -> [Example; 14] {
             script: b"PRINT X;PRINT X;PRINT",
             read_piece: 9,
             failing_read: 2,
-            output: b"statement 1 refused: E01 not a statement\n",
+            output: b"statement 1 refused: E01 not a statement at 1:1\n",
             line: b"utd: read failed\n",
             status: 3,
             ..PLAIN
@@ -130,6 +130,44 @@ fn examples() -> [Example; 14] {
             // the least rest
             script: b"_",
             output: b"statement 1 refused: E04 statement not ended\n",
+            status: 1,
+            ..PLAIN
+        },
+        Example {
+            // a `;` in a text and in comments ends nothing
+            script: b"PRINT RELATION {TUPLE {T 'a;''b'}} /* ; */ ; // ;\nPRINT\n",
+            read_piece: 7,
+            output: b"statement 1 refused: E01 not a statement at 1:1\nstatement 2 refused: E04 statement not ended\n",
+            status: 1,
+            ..PLAIN
+        },
+        Example {
+            // bytes that are not UTF-8, on a second line and cut between two reads
+            script: b"PRINT\nPRINT \xc3\xff;;\nPRINT 5;",
+            read_piece: 13,
+            output: b"statement 1 refused: E02 not UTF-8 at 2:7\nstatement 3 refused: E01 not a statement at 3:7\n",
+            status: 1,
+            ..PLAIN
+        },
+        Example {
+            // an integer that is out of range
+            script: b"PRINT RELATION {TUPLE {N 9223372036854775808}};",
+            read_piece: 1,
+            output: b"statement 1 refused: E06 literal out of range at 1:26\n",
+            status: 1,
+            ..PLAIN
+        },
+        Example {
+            // a 65th level
+            script: b"PRINT (((((((((((((((((((((((((((((((((((((((((((((((((((((((((((((((((X)))))))))))))))))))))))))))))))))))))))))))))))))))))))))))))))));",
+            output: b"statement 1 refused: E05 nested too deep at 1:71\n",
+            status: 1,
+            ..PLAIN
+        },
+        Example {
+            // the first empty interval of two, and a sign
+            script: b"PRINT PACK RELATION {TUPLE {S 1, D [1:2]},\nTUPLE {S 1, D [4:3]}, TUPLE {S 1, D [6:5]}} ON (D);PRINT PACK RELATION {TUPLE {S -1, D [1:2]}} ON (D);",
+            output: b"statement 1 refused: E33 empty interval at 2:15\nstatement 2 refused: E01 not a statement at 2:52\n",
             status: 1,
             ..PLAIN
         },
@@ -200,6 +238,16 @@ fn equal_tuples(alloc: Global, count: usize) -> Result<Vec<u8>, Fail> {
     Ok(script)
 }
 
+/// A script of one statement with so many spaces before its `;`.
+fn spaced(alloc: Global, count: usize) -> Result<Vec<u8>, Fail> {
+    let mut script = b"PRINT RELATION {} {}".to_vec(alloc)?;
+    for _space in 0..count {
+        script.push(b' ')?;
+    }
+    script.push(b';')?;
+    Ok(script)
+}
+
 #[test]
 fn long_scripts_come_out(rt: HostRuntime) -> Result<(), Fail> {
     let alloc = rt.alloc();
@@ -226,7 +274,19 @@ fn long_scripts_come_out(rt: HostRuntime) -> Result<(), Fail> {
         (
             equal_tuples(alloc, 1001)?,
             1,
-            b"statement 1 refused: E01 not a statement\n",
+            b"statement 1 refused: E01 not a statement at 1:1\n",
+            b"",
+        ),
+        (
+            spaced(alloc, 1_048_556)?,
+            1,
+            b"statement 1 refused: E03 statement too long\n",
+            b"",
+        ),
+        (
+            spaced(alloc, 1_048_555)?,
+            1,
+            b"statement 1 refused: E01 not a statement at 1:1\n",
             b"",
         ),
     ];

@@ -1,7 +1,8 @@
-use Rattle.std.proofs.Common.{◌≡◌, ◌-◌, ◌++◌, option_map}
-use Rattle.utd_session.specs.Tokens.{tokens}
+use Rattle.std.proofs.Common.{◌≡◌, ◌∷◌, drop, option_map}
+use Rattle.utd_syntax.specs.Read.{read_tuple_list}
 use Rattle.utd_session.specs.Form.{tuples}
+use Rattle.utd_session.proofs.FormLemmas.{behind}
 use Rattle.utd_session.proofs.form.tuples.Given as goal
 
-abbrev pub invariant-loop-turn : goal.invariant-loop-turn
-invariant-loop-turn l = option_map (λ t. (l.rows.items ++ t.0, t.1)) (tuples (1000 - l._turn) (tokens l.rest)) ≡ tuples 1000 (tokens l.text)
+abbrev pub invariant-loop-next : goal.invariant-loop-next
+invariant-loop-next l = behind l.rows.items (tuples (read_tuple_list (drop l.next-index l.more))) ≡ option_map (λ rows. l.fn.first ∷ rows) (tuples (read_tuple_list l.more))

@@ -1,0 +1,273 @@
+-- How a session goes on, statement by statement.
+use Rattle.std.proofs.Common.{◌≡◌, ◌↔◌, ℕ, ◌+◌, Bool, true, false, cond, ◌&&◌, List, [], ◌∷◌, ◌++◌, length, take, drop, Option, Some, None, Result, Ok, Err, IfOk, IfErr, refl, sym, ap, ◌∙◌, subst, arith, append_assoc, append-nil, length-append, take-append-drop}
+use Rattle.utd_io.specs.Io.{Gains, GainsPrefix}
+use Rattle.utd_io.proofs.Gained.{Gains-none, Gains-more}
+use Rattle.utd_lexer.specs.declared.cutter.Cutter.{Cutter}
+use Rattle.utd_lexer.specs.declared.cutter.Cut.{Cut as Cuts}
+use Rattle.utd_lexer.specs.declared.cutter.Cut.TheVariants.{Inside, Ends}
+use Rattle.utd_lexer.specs.Parts.{IsWhole, IsBlank}
+use Rattle.utd_lexer.specs.Cutting.{Since, since_then}
+use Rattle.utd_lexer.specs.Tokens.{place_after}
+use Rattle.utd_session.specs.declared.outcome.Database.{Database}
+use Rattle.utd_session.specs.declared.feeding.Session.{Session}
+use Rattle.utd_session.specs.declared.feeding.Ended.{Ended}
+use Rattle.utd_session.specs.declared.fault.SessionFault.TheVariants.{Memory}
+use Rattle.point_core.specs.declared.fault.Code.TheVariants.{E04}
+use Rattle.value_core.specs.declared.refuse.Refuse.TheVariants.{Plain}
+use Rattle.utd_session.specs.Statements.{Statement, Complete, Incomplete, ends, Cut, cut, complete_statements, is_blank, incomplete_rest, statements, NoEnd, EndsOne}
+use Rattle.utd_session.specs.Readings.{Reading, Refused, IsReading, AreReadings}
+use Rattle.utd_session.specs.Machine.{no_relvars, state_of, answer, text_of, is_accepted, performed, performed_after}
+use Rattle.utd_session.specs.Run.{IsPrefixOf}
+use Rattle.utd_session.specs.Sessions.{StandsFor, GoesOn, IsCutOff, IsFinished}
+use Rattle.utd_session.proofs.StatementLemmas.{ends_is, is_blank_is, cut-end, cut-keep, cut-more}
+use Rattle.utd_session.proofs.MachineLemmas.{state_stays, output-push, output-one, accepted-push, readings-push, readings-front}
+
+-- what a step of the cutter says
+abbrev pub SinceThen : Cutter → Cuts → ℕ → Cutter → Type 0
+SinceThen old r b new = (bytes : List ℕ) → Since old bytes → Since new (since_then r bytes b)
+
+abbrev pub EndsThen : Cutter → Cuts → ℕ → Type 0
+EndsThen old r b = (bytes : List ℕ) → Since old bytes → ((r ≡ Ends) ↔ ((b ≡ 59) × IsWhole bytes))
+
+not_true : (t : Bool) → (t ≡ true → ⊥) → t ≡ false
+not_true true n = absurd (n refl)
+not_true false n = refl
+
+pub step-inside : (old new : Cutter) (r : Cuts) (b : ℕ) (bytes piece : List ℕ) → SinceThen old r b new → EndsThen old r b → (r ≡ Ends → ⊥) → Since old (bytes ++ piece)
+    → (ends (bytes ++ piece) b ≡ false) × Since new (bytes ++ (piece ++ b ∷ []))
+step-inside old new Ends b bytes piece s e not_end h = absurd (not_end refl)
+step-inside old new Inside b bytes piece s e not_end h = (
+  not_true (ends (bytes ++ piece) b) (λ t. not_end ((e (bytes ++ piece) h).1 ((ends_is (bytes ++ piece) b).0 t))),
+  subst (Since new) (append_assoc bytes piece (b ∷ [])) (s (bytes ++ piece) h),
+)
+
+pub step-ends : (old new : Cutter) (r : Cuts) (b : ℕ) (bytes piece : List ℕ) → SinceThen old r b new → EndsThen old r b → r ≡ Ends → Since old (bytes ++ piece)
+    → (ends (bytes ++ piece) b ≡ true) × Since new []
+step-ends old new Ends b bytes piece s e is h = ((ends_is (bytes ++ piece) b).1 ((e (bytes ++ piece) h).0 is), s (bytes ++ piece) h)
+step-ends old new Inside b bytes piece s e is h = absurd (let f : Inside ≡ Ends = is in cc)
+
+-- a session that was fed a front of the piece
+pub record IsFed (session : Session) (cutter : Cutter) (piece rest bytes : List ℕ) (rs : List Reading) (before now : Option (List ℕ)) : Type 0 where
+  pub done : List ℕ
+  pub split : piece ≡ done ++ rest
+  pub more : List Reading
+  pub stands : StandsFor session (bytes ++ done) (rs ++ more)
+  pub gained : Gains before (performed_after rs more).output now
+  pub since : Since cutter (cut (bytes ++ done)).rest
+
+pub fed-nothing : (session : Session) (cutter : Cutter) (piece bytes : List ℕ) (rs : List Reading) (before : Option (List ℕ)) → cutter ≡ session.cutter → StandsFor session bytes rs → IsFed session cutter piece piece bytes rs before before
+fed-nothing session cutter piece bytes rs before e h = record {
+  done = [];
+  split = refl;
+  more = [];
+  stands = subst (λ b. StandsFor session b (rs ++ [])) (sym (append-nil bytes)) (subst (λ q. StandsFor session bytes q) (sym (append-nil rs)) h);
+  gained = Gains-none before;
+  since = subst (λ b. Since cutter (cut b).rest) (sym (append-nil bytes)) (subst (λ k. Since k (cut bytes).rest) (sym e) h.since);
+}
+
+-- one statement more
+pub fed-more : (session next : Session) (cutter cutter' : Cutter) (piece rest front behind bytes : List ℕ) (rs : List Reading) (before mid now : Option (List ℕ)) (i : IsFed session cutter piece rest bytes rs before mid)
+    → rest ≡ front ++ behind
+    → EndsOne (cut (bytes ++ i.done)).place (cut (bytes ++ i.done)).rest front
+    → ((r : Reading) × StandsFor next ((bytes ++ i.done) ++ front) ((rs ++ i.more) ++ r ∷ []) × Gains mid (text_of (length (rs ++ i.more) + 1) (answer (performed (rs ++ i.more)).state r)) now)
+    → Since cutter' []
+    → IsFed next cutter' piece behind bytes rs before now
+fed-more session next cutter cutter' piece rest front behind bytes rs before mid now i e one (r, stands, gained) since =
+    let same : (bytes ++ i.done) ++ front ≡ bytes ++ (i.done ++ front) = append_assoc bytes i.done front in
+    let out : (performed_after rs (i.more ++ r ∷ [])).output ≡ (performed_after rs i.more).output ++ text_of (length (rs ++ i.more) + 1) (answer (performed (rs ++ i.more)).state r) = output-push rs i.more r in
+    let rest_is : (cut (bytes ++ (i.done ++ front))).rest ≡ [] = ap (λ b. (cut b).rest) (sym same) ∙ ap (λ (c : Cut). c.rest) (cut-end (bytes ++ i.done) front one) in
+    record {
+      done = i.done ++ front;
+      split = i.split ∙ ap (λ x. i.done ++ x) e ∙ sym (append_assoc i.done front behind);
+      more = i.more ++ r ∷ [];
+      stands = subst (λ b. StandsFor next b (rs ++ (i.more ++ r ∷ []))) same (subst (λ q. StandsFor next ((bytes ++ i.done) ++ front) q) (append_assoc rs i.more (r ∷ [])) stands);
+      gained = subst (λ t. Gains before t now) (sym out) (Gains-more before mid now _ _ i.gained gained);
+      since = subst (Since cutter') (sym rest_is) since;
+    }
+
+-- what the statements that end in more bytes begin with
+more_statements : (bytes done rest : List ℕ) (piece : List ℕ) → piece ≡ done ++ rest → (more : List Statement) × (complete_statements (bytes ++ piece) ≡ complete_statements (bytes ++ done) ++ more)
+more_statements bytes done rest piece e =
+    let m = cut-more (bytes ++ done) rest in
+    (m.0, ap (λ x. complete_statements (bytes ++ x)) e ∙ ap complete_statements (sym (append_assoc bytes done rest)) ∙ m.1)
+
+-- memory ran out behind some of them
+pub fed-stop : (session : Session) (cutter : Cutter) (piece rest bytes : List ℕ) (rs : List Reading) (before mid now : Option (List ℕ)) (database : Database) → IsFed session cutter piece rest bytes rs before mid → now ≡ mid
+    → (more : List Reading) × GoesOn (complete_statements (bytes ++ piece)) rs more before now (state_of database)
+fed-stop session cutter piece rest bytes rs before mid now database i e =
+    let m = more_statements bytes i.done rest piece i.split in (
+      i.more,
+      record {
+        read = readings-front _ _ m.0 (rs ++ i.more) m.1 i.stands.read;
+        gained = subst (Gains before (performed_after rs i.more).output) (sym e) i.gained;
+        left = sym (state_stays no_relvars 1 (rs ++ i.more));
+      },
+    )
+
+-- some of a text was gained
+gained_front : (before mid now : Option (List ℕ)) (xs ys : List ℕ) → Gains before xs mid → GainsPrefix mid ys now → (text : List ℕ) × IsPrefixOf text ys × Gains before (xs ++ text) now
+gained_front None mid now xs ys g h = ([], (ys, refl), tt)
+gained_front (Some old) mid now xs ys g h =
+    let k : GainsPrefix (Some (old ++ xs)) ys now = subst (λ o. GainsPrefix o ys now) g h in
+    (take k.0 ys, (drop k.0 ys, sym (take-append-drop k.0 ys)), k.2 ∙ ap Some (append_assoc old xs (take k.0 ys)))
+
+-- a write failed within the next statement
+pub cut-off : (ss front more : List Statement) (s : Statement) (rs new : List Reading) (r : Reading) (before mid now : Option (List ℕ)) (database : Database) → ss ≡ (front ++ s ∷ []) ++ more
+    → AreReadings front (rs ++ new) → IsReading s r → Gains before (performed_after rs new).output mid → GainsPrefix mid (text_of (length (rs ++ new) + 1) (answer (performed (rs ++ new)).state r)) now
+    → (text : List ℕ) × IsCutOff ss rs new r text before now (state_of database)
+cut-off ss front more s rs new r before mid now database e read is gained prefix =
+    let g = gained_front before mid now _ _ gained prefix in
+    let all : List Reading = (rs ++ new) ++ r ∷ [] in
+    let len : length all ≡ length (rs ++ new) + 1 = length-append (rs ++ new) (r ∷ []) in (
+      g.0,
+      record {
+        read = subst (λ n. AreReadings (take n ss) all) len (readings-front ss (front ++ s ∷ []) more all e (readings-push front s (rs ++ new) r read is));
+        front = g.1;
+        gained = g.2;
+        left = sym (state_stays no_relvars 1 all);
+      },
+    )
+
+pub fed-cut-off : (session : Session) (cutter : Cutter) (piece rest front behind bytes : List ℕ) (rs : List Reading) (before mid now : Option (List ℕ)) (database : Database) (i : IsFed session cutter piece rest bytes rs before mid)
+    → rest ≡ front ++ behind
+    → EndsOne (cut (bytes ++ i.done)).place (cut (bytes ++ i.done)).rest front
+    → ((r : Reading) × IsReading (Complete (cut (bytes ++ i.done)).place ((cut (bytes ++ i.done)).rest ++ front)) r × GainsPrefix mid (text_of (length (rs ++ i.more) + 1) (answer (performed (rs ++ i.more)).state r)) now)
+    → (more : List Reading) × (r : Reading) × (text : List ℕ) × IsCutOff (complete_statements (bytes ++ piece)) rs more r text before now (state_of database)
+fed-cut-off session cutter piece rest front behind bytes rs before mid now database i e one (r, is, prefix) =
+    let split : piece ≡ (i.done ++ front) ++ behind = i.split ∙ ap (λ x. i.done ++ x) e ∙ sym (append_assoc i.done front behind) in
+    let m = more_statements bytes (i.done ++ front) behind piece split in
+    let done : complete_statements (bytes ++ (i.done ++ front)) ≡ complete_statements (bytes ++ i.done) ++ Complete (cut (bytes ++ i.done)).place ((cut (bytes ++ i.done)).rest ++ front) ∷ [] =
+    ap complete_statements (sym (append_assoc bytes i.done front)) ∙ ap (λ (c : Cut). c.ended) (cut-end (bytes ++ i.done) front one) in
+    let k = cut-off (complete_statements (bytes ++ piece)) (complete_statements (bytes ++ i.done)) m.0 (Complete (cut (bytes ++ i.done)).place ((cut (bytes ++ i.done)).rest ++ front)) rs i.more r before mid now database (m.1 ∙ ap (λ x. x ++ m.0) done) i.stands.read is i.gained prefix in
+    (i.more, r, k.0, k.1)
+
+-- what a session stands for after one statement more
+pub record IsEnd (s : Session) (bytes front : List ℕ) (rs : List Reading) (r : Reading) (one : Bool) : Type 0 where
+  pub read : AreReadings (complete_statements (bytes ++ front)) (rs ++ r ∷ [])
+  pub accepted : (one && s.all_accepted) ≡ (performed (rs ++ r ∷ [])).accepted
+  pub number : s.number + 1 ≡ length (rs ++ r ∷ []) + 1
+  pub place_is : (cut (bytes ++ front)).place ≡ place_after (cut bytes).place ((cut bytes).rest ++ front)
+  pub rest_is : (cut (bytes ++ front)).rest ≡ []
+  pub fed : s.fed + length front ≡ length (bytes ++ front)
+  pub left : no_relvars ≡ (performed (rs ++ r ∷ [])).state
+
+pub is_end : (s : Session) (bytes front : List ℕ) (rs : List Reading) (r : Reading) (one : Bool) → StandsFor s bytes rs → EndsOne (cut bytes).place (cut bytes).rest front
+    → IsReading (Complete (cut bytes).place ((cut bytes).rest ++ front)) r → one ≡ is_accepted (answer no_relvars r) → IsEnd s bytes front rs r one
+is_end s bytes front rs r one h ends is accepts =
+    let c = cut-end bytes front ends in
+    let state : no_relvars ≡ (performed rs).state = sym (state_stays no_relvars 1 rs) in
+    let len : length (rs ++ r ∷ []) ≡ length rs + 1 = length-append rs (r ∷ []) in
+    record {
+      read = subst (λ ss. AreReadings ss (rs ++ r ∷ [])) (sym (ap (λ (x : Cut). x.ended) c)) (readings-push (complete_statements bytes) _ rs r h.read is);
+      accepted = (λ i. accepts i && h.accepted i) ∙ ap (λ st. is_accepted (answer st r) && (performed rs).accepted) state ∙ sym (accepted-push rs r);
+      number = omega (arith, h.number, len);
+      place_is = ap (λ (x : Cut). x.place) c;
+      rest_is = ap (λ (x : Cut). x.rest) c;
+      fed = omega (arith, h.fed, length-append bytes front);
+      left = sym (state_stays no_relvars 1 (rs ++ r ∷ []));
+    }
+
+-- the state that a database holds is the one after any statements
+pub text_is : (n : ℕ) (rs : List Reading) (r : Reading) → text_of n (answer no_relvars r) ≡ text_of n (answer (performed rs).state r)
+text_is n rs r = ap (λ st. text_of n (answer st r)) (sym (state_stays no_relvars 1 rs))
+
+-- what a session stands for after bytes that end nothing
+pub record IsKept (s : Session) (bytes piece : List ℕ) (rs : List Reading) : Type 0 where
+  pub read : AreReadings (complete_statements (bytes ++ piece)) rs
+  pub place_is : (cut (bytes ++ piece)).place ≡ (cut bytes).place
+  pub rest_is : (cut (bytes ++ piece)).rest ≡ (cut bytes).rest ++ piece
+  pub fed : s.fed + length piece ≡ length (bytes ++ piece)
+
+pub is_kept : (s : Session) (bytes piece : List ℕ) (rs : List Reading) → StandsFor s bytes rs → NoEnd (cut bytes).place (cut bytes).rest piece → IsKept s bytes piece rs
+is_kept s bytes piece rs h none =
+    let c = cut-keep bytes piece none in
+    record {
+      read = subst (λ ss. AreReadings ss rs) (sym (ap (λ (x : Cut). x.ended) c)) h.read;
+      place_is = ap (λ (x : Cut). x.place) c;
+      rest_is = ap (λ (x : Cut). x.rest) c;
+      fed = omega (arith, h.fed, length-append bytes piece);
+    }
+
+-- the piece is at its end
+pub fed-end : (session : Session) (cutter : Cutter) (piece rest bytes : List ℕ) (rs : List Reading) (before now : Option (List ℕ)) (r : Result Session Ended) (i : IsFed session cutter piece rest bytes rs before now)
+    → IfOk r (λ s. StandsFor s ((bytes ++ i.done) ++ rest) (rs ++ i.more))
+    → IfOk r (λ s. (more : List Reading) × StandsFor s (bytes ++ piece) (rs ++ more) × Gains before (performed_after rs more).output now)
+fed-end session cutter piece rest bytes rs before now (Ok s) i h =
+    let same : (bytes ++ i.done) ++ rest ≡ bytes ++ piece = append_assoc bytes i.done rest ∙ ap (λ x. bytes ++ x) (sym i.split) in
+    (i.more, subst (λ b. StandsFor s b (rs ++ i.more)) same h, i.gained)
+fed-end session cutter piece rest bytes rs before now (Err e) i h = tt
+
+pub fed-stop-at-end : (session : Session) (cutter : Cutter) (piece rest bytes : List ℕ) (rs : List Reading) (before now : Option (List ℕ)) (r : Result Session Ended) → IsFed session cutter piece rest bytes rs before now
+    → IfErr r (λ e. e.why ≡ Memory → (more : List Reading) × GoesOn (complete_statements (bytes ++ piece)) rs more before now (state_of e.database))
+fed-stop-at-end session cutter piece rest bytes rs before now (Ok s) i = tt
+fed-stop-at-end session cutter piece rest bytes rs before now (Err e) i = λ why. fed-stop session cutter piece rest bytes rs before now now e.database i refl
+
+-- ---- the end of a script
+
+same_tests : (a b : Bool) → (a ≡ true → b ≡ true) → (b ≡ true → a ≡ true) → a ≡ b
+same_tests true b f g = sym (f refl)
+same_tests false true f g = let e : false ≡ true = g refl in cc
+same_tests false false f g = refl
+
+-- the cutter tells whether the rest is blank
+pub blank_is : (bytes : List ℕ) (answer : Bool) → ((answer ≡ true) ↔ IsBlank bytes) → answer ≡ is_blank bytes
+blank_is bytes answer h = same_tests answer (is_blank bytes) (λ e. (is_blank_is bytes).1 (h.0 e)) (λ e. h.1 ((is_blank_is bytes).0 e))
+
+blank_statements : (bytes : List ℕ) → is_blank (cut bytes).rest ≡ true → statements bytes ≡ complete_statements bytes
+blank_statements bytes e = ap (λ t. complete_statements bytes ++ cond t [] (Incomplete ∷ [])) e ∙ append-nil (complete_statements bytes)
+
+open_statements : (bytes : List ℕ) → is_blank (cut bytes).rest ≡ false → statements bytes ≡ complete_statements bytes ++ Incomplete ∷ []
+open_statements bytes e = ap (λ t. complete_statements bytes ++ cond t [] (Incomplete ∷ [])) e
+
+pub finish-blank : (s : Session) (bytes : List ℕ) (rs : List Reading) (before : Option (List ℕ)) (database : Database) → StandsFor s bytes rs → is_blank (cut bytes).rest ≡ true
+    → (more : List Reading) × IsFinished (statements bytes) rs more before before (state_of database) s.all_accepted
+finish-blank s bytes rs before database h e = (
+  [],
+  record {
+    read = subst (λ ss. AreReadings ss (rs ++ [])) (sym (blank_statements bytes e)) (subst (AreReadings (complete_statements bytes)) (sym (append-nil rs)) h.read);
+    gained = Gains-none before;
+    left = sym (state_stays no_relvars 1 (rs ++ []));
+    accepted = h.accepted ∙ ap (λ q. (performed q).accepted) (sym (append-nil rs));
+  },
+)
+
+abbrev pub not_ended : Reading
+not_ended = Refused (Plain E04)
+
+pub finish-open : (s : Session) (bytes : List ℕ) (rs : List Reading) (before now : Option (List ℕ)) (database : Database) (one both : Bool) → StandsFor s bytes rs → is_blank (cut bytes).rest ≡ false
+    → one ≡ is_accepted (answer no_relvars not_ended) → both ≡ (one && s.all_accepted) → Gains before (text_of s.number (answer no_relvars not_ended)) now
+    → (more : List Reading) × IsFinished (statements bytes) rs more before now (state_of database) both
+finish-open s bytes rs before now database one both h e accepts b gains =
+    let all : List Reading = rs ++ not_ended ∷ [] in
+    let text : text_of s.number (answer no_relvars not_ended) ≡ (performed_after rs (not_ended ∷ [])).output =
+    ap (λ n. text_of n (answer no_relvars not_ended)) h.number ∙ text_is (length rs + 1) rs not_ended ∙ sym (output-one rs not_ended) in (
+      not_ended ∷ [],
+      record {
+        read = subst (λ ss. AreReadings ss all) (sym (open_statements bytes e)) (readings-push (complete_statements bytes) Incomplete rs not_ended h.read refl);
+        gained = subst (λ t. Gains before t now) text gains;
+        left = sym (state_stays no_relvars 1 all);
+        accepted = b ∙ (λ i. accepts i && h.accepted i) ∙ ap (λ st. is_accepted (answer st not_ended) && (performed rs).accepted) (sym (state_stays no_relvars 1 rs)) ∙ sym (accepted-push rs not_ended);
+      },
+    )
+
+pub finish-stop : (s : Session) (bytes : List ℕ) (rs : List Reading) (before now : Option (List ℕ)) (database : Database) → StandsFor s bytes rs → now ≡ before
+    → (more : List Reading) × GoesOn (statements bytes) rs more before now (state_of database)
+finish-stop s bytes rs before now database h e = (
+  [],
+  record {
+    read = readings-front (statements bytes) (complete_statements bytes) (incomplete_rest (cut bytes).rest) (rs ++ []) refl (subst (AreReadings (complete_statements bytes)) (sym (append-nil rs)) h.read);
+    gained = subst (Gains before []) (sym e) (Gains-none before);
+    left = sym (state_stays no_relvars 1 (rs ++ []));
+  },
+)
+
+pub finish-cut-off : (s : Session) (bytes : List ℕ) (rs : List Reading) (before now : Option (List ℕ)) (database : Database) → StandsFor s bytes rs → is_blank (cut bytes).rest ≡ false
+    → GainsPrefix before (text_of s.number (answer no_relvars not_ended)) now
+    → (more : List Reading) × (r : Reading) × (text : List ℕ) × IsCutOff (statements bytes) rs more r text before now (state_of database)
+finish-cut-off s bytes rs before now database h e prefix =
+    let whole : statements bytes ≡ (complete_statements bytes ++ Incomplete ∷ []) ++ [] = open_statements bytes e ∙ sym (append-nil _) in
+    let text : text_of s.number (answer no_relvars not_ended) ≡ text_of (length (rs ++ []) + 1) (answer (performed (rs ++ [])).state not_ended) =
+    ap (λ n. text_of n (answer no_relvars not_ended)) h.number ∙ text_is (length rs + 1) rs not_ended ∙ ap (λ q. text_of (length q + 1) (answer (performed q).state not_ended)) (sym (append-nil rs)) in
+    let k = cut-off (statements bytes) (complete_statements bytes) [] Incomplete rs [] not_ended before before now database whole
+    (subst (AreReadings (complete_statements bytes)) (sym (append-nil rs)) h.read) refl (Gains-none before) (subst (λ t. GainsPrefix before t now) text prefix) in
+    ([], not_ended, k.0, k.1)

@@ -1,0 +1,46 @@
+use Rattle.std.proofs.Common.{◌++◌, refl, le_refl, ap, arith, length, length-append}
+use Rattle.utd_session.specs.Statements.{cut}
+use Rattle.utd_session.proofs.SessionLemmas.{fed-nothing, fed-more, fed-stop, fed-cut-off, fed-end, fed-stop-at-end}
+use Rattle.utd_session.proofs.feeding.Session.feed.Goals as goal
+
+pub loop-front-init : goal.loop-front-init
+loop-front-init g c = record {
+  fed = λ bytes rs h. fed-nothing c.args.self c.args.self.cutter c.args.piece.now bytes rs (g.K.Sink.written c.args.out.now) refl h;
+  room = refl;
+  count = le_refl (g.K.Sink.faults c.args.out.now);
+}
+
+pub loop-front-preserved : goal.loop-front-preserved
+loop-front-preserved g c = record {
+  fed = λ bytes rs h.
+      let i = c.loop-front.invariant.fed bytes rs h in
+      let done = bytes ++ i.done in
+      let ends = c.in-Some.ensures.end (cut done).place (cut done).rest i.since in
+      fed-more c.loop-front.session c.in-Ok.next c.loop-front.cutter c.next_end.new.cutter c.args.piece.now c.loop-front.rest.now c.in-Some.front.now c.in-Some.behind.now bytes rs _ _ _ i
+      c.in-Some.ensures.parts ends (c.in-Ok.ensures.performed done (rs ++ i.more) i.stands ends) (c.in-Some.ensures.since (cut done).rest i.since);
+  room = omega (arith, c.in-Ok.ensures.fed, c.loop-front.invariant.room, ap length c.in-Some.ensures.parts, length-append c.in-Some.front.now c.in-Some.behind.now);
+  count = omega (arith, c.loop-front.invariant.count, c.end.ensures.count);
+}
+
+pub returns-in-Err-clause-memory : goal.returns-in-Err-clause-memory
+returns-in-Err-clause-memory g c bytes rs h e =
+    fed-stop c.loop-front.session c.loop-front.cutter c.args.piece.now c.loop-front.rest.now bytes rs _ _ _ c.in-Err.ended.database (c.loop-front.invariant.fed bytes rs h) (c.in-Err.ensures.memory e)
+
+pub returns-in-Err-clause-write : goal.returns-in-Err-clause-write
+returns-in-Err-clause-write g c bytes rs h e =
+    let i = c.loop-front.invariant.fed bytes rs h in
+    let done = bytes ++ i.done in
+    let ends = c.in-Some.ensures.end (cut done).place (cut done).rest i.since in
+    fed-cut-off c.loop-front.session c.loop-front.cutter c.args.piece.now c.loop-front.rest.now c.in-Some.front.now c.in-Some.behind.now bytes rs _ _ _ c.in-Err.ended.database i
+    c.in-Some.ensures.parts ends (c.in-Err.ensures.write done (rs ++ i.more) i.stands e)
+
+pub returns-clause-stands : goal.returns-clause-stands
+returns-clause-stands g c bytes rs h =
+    let i = c.loop-front.invariant.fed bytes rs h in
+    let done = bytes ++ i.done in
+    fed-end c.loop-front.session c.loop-front.cutter c.args.piece.now c.loop-front.rest.now bytes rs _ _ c.keep.result i
+    (c.keep.ensures.kept done (rs ++ i.more) i.stands (c.in_default.ensures.end (cut done).place (cut done).rest i.since) (c.in_default.ensures.since (cut done).rest i.since))
+
+pub returns-clause-memory : goal.returns-clause-memory
+returns-clause-memory g c bytes rs h =
+    fed-stop-at-end c.loop-front.session c.loop-front.cutter c.args.piece.now c.loop-front.rest.now bytes rs _ _ c.keep.result (c.loop-front.invariant.fed bytes rs h)

@@ -1,0 +1,18 @@
+use Rattle.std.proofs.Common.{[], refl, sym, subst}
+use Rattle.utd_lexer.specs.Cutting.{Since}
+use Rattle.utd_session.specs.Unfinished.{IsUnfinished}
+use Rattle.utd_session.specs.Statements.{Cut}
+use Rattle.utd_session.specs.Readings.{AreReadings}
+use Rattle.utd_session.proofs.StatementLemmas.{cut-nil}
+use Rattle.utd_session.proofs.feeding.Session.new.Goals as goal
+
+pub returns-clause-nothing : goal.returns-clause-nothing
+returns-clause-nothing c = record {
+  read = subst (λ (x : Cut). AreReadings x.ended []) (sym cut-nil) tt;
+  state_is = refl;
+  accepted = refl;
+  number = refl;
+  unfinished = subst (λ (x : Cut). IsUnfinished c.new.result x.place x.rest) (sym cut-nil) c.new.ensures.nothing;
+  since = subst (λ (x : Cut). Since c.new-2.result x.rest) (sym cut-nil) c.new-2.ensures;
+  fed = refl;
+}

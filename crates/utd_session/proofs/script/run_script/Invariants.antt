@@ -1,0 +1,15 @@
+use Rattle.std.proofs.Common.{◌≡◌, ◌-◌, ◌≤◌, length}
+use Rattle.utd_session.specs.Sessions.{fed_of}
+use Rattle.utd_session.specs.Progress.{MayHaveFed}
+use Rattle.utd_session.proofs.script.run_script.Given as goal
+
+abbrev pub invariant-script : goal.invariant-script
+invariant-script g l = record {
+  fed : MayHaveFed (g.S.Source.left l.initial.input) (g.S.Source.left l.input) l.session (g.K.Sink.written l.initial.out) (g.K.Sink.written l.out);
+  full : length l.buffer ≡ 65536;
+  reads : g.S.Source.faults l.initial.input ≤ g.S.Source.faults l.input;
+  writes : g.K.Sink.faults l.initial.out ≤ g.K.Sink.faults l.out;
+}
+
+abbrev pub decreases-script : goal.decreases-script
+decreases-script g l = 16777216 - fed_of l.session

@@ -1,0 +1,16 @@
+-- What is answered to a statement that ends.
+use Rattle.std.specs.Prelude.{◌≡◌, ℕ, List, ◌++◌}
+use Rattle.utd_session.specs.declared.reply.Reply.{Reply}
+use Rattle.utd_session.specs.Statements.{Statement, Complete, cut}
+use Rattle.utd_session.specs.Readings.{Reading, IsReading}
+use Rattle.utd_session.specs.Machine.{State, answer, text_of, is_accepted}
+
+-- something holds of what the statement that the piece ends is read as
+abbrev pub HasReading : List ℕ → List ℕ → (Reading → Type 0) → Type 0
+HasReading bytes piece P = (r : Reading) × IsReading (Complete (cut bytes).place ((cut bytes).rest ++ piece)) r × P r
+
+-- the answer to what the n-th statement is read as
+abbrev pub IsReplyTo : Statement → State → ℕ → Reply → Type 0
+IsReplyTo s state n reply =
+    (r : Reading) × IsReading s r × (reply.text.items ≡ text_of n (answer state r))
+    × (reply.accepted ≡ is_accepted (answer state r))

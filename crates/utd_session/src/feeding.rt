@@ -1,0 +1,312 @@
+// A session: a script that comes in pieces.
+ghost use Rattle.std.specs.Prelude.{◌≡◌, ℕ, ◌+◌, ◌-◌, ◌^◌, ◌<◌, ◌≤◌, true, ◌&&◌, List, [], ◌∷◌, ◌++◌, length, IfOk, OnOk, IfErr, IsOk, MatchOption, IfSome};
+ghost use Rattle.utd_io.specs.Io.{Rose, Gains, GainsPrefix};
+ghost use Rattle.point_core.specs.declared.fault.Place.{Place};
+ghost use Rattle.utd_lexer.specs.Cutting.{Since};
+ghost use Rattle.utd_lexer.specs.Tokens.{Fits, place_after};
+ghost use Rattle.utd_session.specs.Unfinished.{IsUnfinished};
+ghost use Rattle.utd_session.specs.Statements.{Complete, NoEnd, EndsOne};
+ghost use Rattle.utd_session.specs.Machine.{state_of};
+ghost use Rattle.utd_session.specs.Feeding.{IsReplyTo};
+
+use crate::fault::SessionFault;
+use crate::outcome::Database;
+use crate::reply::{Reply, answer_to, refusal};
+use crate::unfinished::Unfinished;
+use point_core::{Code, Memory, Steps};
+use std::alloc::Global;
+use std::sync::ledger::Ledger;
+use utd_io::{Sink, write_all};
+use utd_lexer::{Cut, Cutter};
+use value_core::Refuse;
+
+/// Why a session ended, and the relvars after the last statement that was performed.
+#[derive(Debug, Drop)]
+pub struct Ended {
+    pub why: SessionFault,
+    pub database: Database,
+}
+
+/// The relvars after all statements, and whether all were accepted.
+#[derive(Debug, Drop)]
+pub struct Finished {
+    pub database: Database,
+    pub all_accepted: bool,
+}
+
+/// A script that comes in pieces. Each statement is performed as soon as its `;` has come; of the bytes that came only
+/// those of the statement that is not ended are kept, and where they are too many only their number.
+#[derive(Drop)]
+pub struct Session {
+    alloc: Global,
+    database: Database,
+    all_accepted: bool,
+    fed: u64,
+    number: u32,
+    unfinished: Unfinished,
+    cutter: Cutter,
+    ghost few: { fed ≤ 16777216 },
+    ghost numbered: { number + unfinished.size ≤ fed + 1 },
+    ghost begun: { (unfinished.start.line ≤ fed + 1) × (unfinished.start.column ≤ fed + 1) },
+    ghost placed: { (unfinished.next.line ≤ fed + 1) × (unfinished.next.column ≤ fed + 1) },
+}
+
+// What a `;` makes of the statement before it: its answer, with its bytes kept.
+fn reply_to_end(
+    alloc: Global,
+    database: &Database,
+    number: u32,
+    unfinished: &mut Unfinished,
+    front: &[u8],
+) -> Result<Reply, Memory>
+    requires places { Fits unfinished.old.next (length front.now) }
+    requires start { unfinished.old.start.line + unfinished.old.start.column ≤ 2 ^ 31 }
+    requires few { unfinished.old.size + length front.now ≤ 2 ^ 32 - 1 }
+    ensures reply { (place : Place) (bytes : List ℕ) → IsUnfinished unfinished.old place bytes
+        → IfOk result (λ r. IsReplyTo (Complete place (bytes ++ front.now)) (state_of database.now) number r) }
+    ensures more { (place : Place) (bytes : List ℕ) → IsUnfinished unfinished.old place bytes
+        → OnOk result (IsUnfinished unfinished.new place (bytes ++ front.now)) }
+    ensures size { OnOk result (unfinished.new.size ≡ unfinished.old.size + length front.now) }
+    ensures next { OnOk result (unfinished.new.next ≡ place_after unfinished.old.next front.now) }
+{
+    unfinished.extend(front)?;
+    let parsed = unfinished.read(alloc)?;
+    let reply = answer_to(alloc, database, number, &parsed)?;
+    Ok(reply)
+}
+
+// Up to where the next statement ends in the piece, and what is behind that.
+fn next_end<'a>(cutter: &mut Cutter, piece: &'a [u8]) -> Option<(&'a [u8], &'a [u8])>
+    ensures parts { IfSome result (λ p. piece.now ≡ p.0.now ++ p.1.now) }
+    ensures some { IfSome result (λ p. 0 < length p.0.now) }
+    ensures end { (place : Place) (bytes : List ℕ) → Since cutter.old bytes
+        → MatchOption result (NoEnd place bytes piece.now) (λ p. EndsOne place bytes p.0.now) }
+    ensures since { (bytes : List ℕ) → Since cutter.old bytes
+        → MatchOption result (Since cutter.new (bytes ++ piece.now)) (λ p. Since cutter.new []) }
+{
+    for (i, byte) in piece.iter().enumerate() {
+        match cutter.step(*byte) {
+            Cut::Inside => {}
+            Cut::Ends => return Some(piece.split_at(i + 1)),
+        }
+    }
+    None
+}
+
+// In a function of its own, since a branch on the first would join two states.
+fn both(a: bool, b: bool) -> bool
+    ensures { result ≡ (a && b) }
+{
+    a && b
+}
+
+impl Session {
+    ghost use Rattle.utd_lexer.specs.Parts.{IsBlank};
+    ghost use Rattle.utd_session.specs.Statements.{cut, complete_statements, statements};
+    ghost use Rattle.utd_session.specs.Readings.{Reading};
+    ghost use Rattle.utd_session.specs.Machine.{answer, text_of, performed, performed_after};
+    ghost use Rattle.utd_session.specs.Feeding.{HasReading};
+    ghost use Rattle.utd_session.specs.Sessions.{StandsFor, GoesOn, IsCutOff, IsFinished, fed_of};
+
+    /// A session that stands for nothing yet. It takes no memory.
+    pub fn new(alloc: Global) -> Session
+        ensures nothing { StandsFor result [] [] }
+        ensures fed { fed_of result ≡ 0 }
+    {
+        Session {
+            alloc,
+            database: Database,
+            all_accepted: true,
+            fed: 0,
+            number: 1,
+            unfinished: Unfinished::new(alloc),
+            cutter: Cutter::new(),
+        }
+    }
+
+    /// How many bytes were fed.
+    pub fn fed(&self) -> u64
+        ensures fed { result ≡ fed_of self.now }
+        ensures few { result ≤ 16777216 }
+        ensures length { (bytes : List ℕ) (rs : List Reading) → StandsFor self.now bytes rs → result ≡ length bytes }
+    {
+        self.fed
+    }
+
+    // Keeps bytes that end no statement.
+    fn keep(self, piece: &[u8], cutter: Cutter) -> Result<Session, Ended>
+        requires { self.fed + length piece.now ≤ 16777216 }
+        ensures fed { IfOk result (λ s. s.fed ≡ self.fed + length piece.now) }
+        ensures kept { (bytes : List ℕ) (rs : List Reading) → StandsFor self bytes rs
+            → NoEnd (cut bytes).place (cut bytes).rest piece.now → Since cutter ((cut bytes).rest ++ piece.now)
+            → IfOk result (λ s. StandsFor s (bytes ++ piece.now) rs) }
+        ensures why { IfErr result (λ e. e.why ≡ SessionFault.Memory) }
+    {
+        let Session {
+            alloc,
+            database,
+            all_accepted,
+            fed,
+            number,
+            unfinished,
+            cutter: _,
+        } = self;
+        let mut unfinished = unfinished;
+        let Ok(()) = unfinished.extend(piece) else {
+            let why = SessionFault::Memory;
+            return Err(Ended { why, database });
+        };
+        Ok(Session {
+            alloc,
+            database,
+            all_accepted,
+            fed: fed + piece.len() as u64,
+            number,
+            unfinished,
+            cutter,
+        })
+    }
+
+    // Performs the statement that these bytes end. Its whole output is made before its first byte is written.
+    fn end<K: Sink>(self, front: &[u8], out: &mut K) -> Result<Session, Ended>
+        requires some { 0 < length front.now }
+        requires few { self.fed + length front.now ≤ 16777216 }
+        ensures fed { IfOk result (λ s. s.fed ≡ self.fed + length front.now) }
+        ensures since { IfOk result (λ s. Since s.cutter []) }
+        ensures performed { (bytes : List ℕ) (rs : List Reading) → StandsFor self bytes rs
+            → EndsOne (cut bytes).place (cut bytes).rest front.now
+            → IfOk result (λ s. (r : Reading) × StandsFor s (bytes ++ front.now) (rs ++ r ∷ [])
+            × Gains (K.written out.old) (text_of (length rs + 1) (answer (performed rs).state r)) (K.written out.new)) }
+        ensures memory { IfErr result (λ e. e.why ≡ SessionFault.Memory → K.written out.new ≡ K.written out.old) }
+        ensures write { (bytes : List ℕ) (rs : List Reading) → StandsFor self bytes rs
+            → IfErr result (λ e. e.why ≡ SessionFault.Write → HasReading bytes front.now (λ r. GainsPrefix
+            (K.written out.old) (text_of (length rs + 1) (answer (performed rs).state r)) (K.written out.new))) }
+        ensures count { K.faults out.old ≤ K.faults out.new }
+        ensures cause { IfErr result (λ e. e.why ≡ SessionFault.Write → Rose (K.faults out.old) (K.faults out.new)) }
+    {
+        let Session {
+            alloc,
+            database,
+            all_accepted,
+            fed,
+            number,
+            unfinished,
+            cutter: _,
+        } = self;
+        let mut unfinished = unfinished;
+        let Ok(reply) = reply_to_end(alloc, &database, number, &mut unfinished, front) else {
+            let why = SessionFault::Memory;
+            return Err(Ended { why, database });
+        };
+        let Ok(()) = write_all(out, &reply.text) else {
+            let why = SessionFault::Write;
+            return Err(Ended { why, database });
+        };
+        unfinished.restart();
+        Ok(Session {
+            alloc,
+            database,
+            all_accepted: both(reply.accepted, all_accepted),
+            fed: fed + front.len() as u64,
+            number: number + 1,
+            unfinished,
+            cutter: Cutter::new(),
+        })
+    }
+
+    /// Takes more of the script, and performs the statements that end in it.
+    pub fn feed<K: Sink, L: Ledger>(
+        self,
+        piece: &[u8],
+        out: &mut K,
+        _steps: &mut Steps<L>,
+    ) -> Result<Session, Ended>
+        requires { fed_of self + length piece.now ≤ 16777216 }
+        ensures fed { IfOk result (λ s. fed_of s ≡ fed_of self + length piece.now) }
+        ensures stands { (bytes : List ℕ) (rs : List Reading) → StandsFor self bytes rs
+            → IfOk result (λ s. (more : List Reading) × StandsFor s (bytes ++ piece.now) (rs ++ more)
+            × Gains (K.written out.old) (performed_after rs more).output (K.written out.new)) }
+        ensures memory { (bytes : List ℕ) (rs : List Reading) → StandsFor self bytes rs
+            → IfErr result (λ e. e.why ≡ SessionFault.Memory → (more : List Reading)
+            × GoesOn (complete_statements (bytes ++ piece.now)) rs more
+            (K.written out.old) (K.written out.new) (state_of e.database)) }
+        ensures write { (bytes : List ℕ) (rs : List Reading) → StandsFor self bytes rs
+            → IfErr result (λ e. e.why ≡ SessionFault.Write
+            → (more : List Reading) × (r : Reading) × (text : List ℕ)
+            × IsCutOff (complete_statements (bytes ++ piece.now)) rs more r text
+            (K.written out.old) (K.written out.new) (state_of e.database)) }
+        ensures count { K.faults out.old ≤ K.faults out.new }
+        ensures cause { IfErr result (λ e. e.why ≡ SessionFault.Write → Rose (K.faults out.old) (K.faults out.new)) }
+    {
+        let mut cutter = self.cutter;
+        let mut session = self;
+        let mut rest = piece;
+        while let Some((front, behind)) = next_end(&mut cutter, rest) {
+            match session.end(front, out) {
+                Ok(next) => session = next,
+                Err(ended) => return Err(ended),
+            }
+            rest = behind;
+        }
+        session.keep(rest, cutter)
+    }
+
+    /// Performs what no `;` has ended, if that is not blank.
+    pub fn finish<K: Sink, L: Ledger>(
+        self,
+        out: &mut K,
+        _steps: &mut Steps<L>,
+    ) -> Result<Finished, Ended>
+        ensures finished { (bytes : List ℕ) (rs : List Reading) → StandsFor self bytes rs
+            → IfOk result (λ f. (more : List Reading) × IsFinished (statements bytes) rs more
+            (K.written out.old) (K.written out.new) (state_of f.database) f.all_accepted) }
+        ensures blank { (bytes : List ℕ) (rs : List Reading) → StandsFor self bytes rs → IsBlank (cut bytes).rest
+            → IsOk result × (out.new ≡ out.old) }
+        ensures memory { (bytes : List ℕ) (rs : List Reading) → StandsFor self bytes rs
+            → IfErr result (λ e. e.why ≡ SessionFault.Memory → (more : List Reading)
+            × GoesOn (statements bytes) rs more (K.written out.old) (K.written out.new) (state_of e.database)) }
+        ensures write { (bytes : List ℕ) (rs : List Reading) → StandsFor self bytes rs
+            → IfErr result (λ e. e.why ≡ SessionFault.Write
+            → (more : List Reading) × (r : Reading) × (text : List ℕ)
+            × IsCutOff (statements bytes) rs more r text
+            (K.written out.old) (K.written out.new) (state_of e.database)) }
+        ensures count { K.faults out.old ≤ K.faults out.new }
+        ensures cause { IfErr result (λ e. e.why ≡ SessionFault.Write → Rose (K.faults out.old) (K.faults out.new)) }
+    {
+        let Session {
+            alloc,
+            database,
+            all_accepted,
+            fed: _,
+            number,
+            unfinished: _,
+            cutter,
+        } = self;
+        if cutter.is_blank() {
+            return Ok(Finished {
+                database,
+                all_accepted,
+            });
+        }
+        let Ok(reply) = refusal(alloc, number, &Refuse::Plain(Code::E04)) else {
+            let why = SessionFault::Memory;
+            return Err(Ended { why, database });
+        };
+        let Ok(()) = write_all(out, &reply.text) else {
+            let why = SessionFault::Write;
+            return Err(Ended { why, database });
+        };
+        Ok(Finished {
+            database,
+            all_accepted: both(reply.accepted, all_accepted),
+        })
+    }
+
+    /// Performs nothing more, and hands the relvars back.
+    pub fn stop(self) -> Database
+        ensures { (bytes : List ℕ) (rs : List Reading) → StandsFor self bytes rs
+            → state_of result ≡ (performed rs).state }
+    {
+        self.database
+    }
+}

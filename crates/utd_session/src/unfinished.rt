@@ -1,0 +1,97 @@
+// The statement that no `;` has ended yet.
+ghost use Rattle.std.specs.Prelude.{◌≡◌, ℕ, ◌+◌, ◌-◌, ◌^◌, ◌<◌, ◌≤◌, List, [], ◌++◌, length, IfOk, OnOk, OnErr};
+ghost use Rattle.utd_lexer.specs.Tokens.{Fits, place_after};
+
+use crate::reading::{Parsed, read_text};
+use point_core::{Code, Memory, Place};
+use std::alloc::{AllocError, Global};
+use utd_lexer::place_behind;
+use value_core::Refuse;
+
+const MOST_BYTES: usize = 1_048_576;
+
+/// The statement that is not ended: where it begins, the place of the next byte, its length, and its bytes, or none where
+/// there are too many.
+#[derive(Drop)]
+pub struct Unfinished {
+    start: Place,
+    next: Place,
+    size: usize,
+    bytes: Vec<u8>,
+    ghost kept: { (length bytes.items ≤ size) × (length bytes.items ≤ 1048576) },
+}
+
+// Keeps the piece behind what is kept, or nothing where all together are too many.
+fn keep(kept: &mut Vec<u8>, size: usize, piece: &[u8]) -> Result<(), AllocError>
+    ensures short { OnOk result (size ≤ 1048576 → kept.new.items ≡ kept.old.items ++ piece.now) }
+    ensures long { OnOk result (1048576 < size → kept.new.items ≡ []) }
+    ensures failed { OnErr result (kept.new.items ≡ kept.old.items) }
+{
+    if size > MOST_BYTES {
+        kept.clear();
+        return Ok(());
+    }
+    kept.extend_from_slice(piece)
+}
+
+impl Unfinished {
+    ghost use Rattle.utd_session.specs.Unfinished.{IsUnfinished};
+    ghost use Rattle.utd_session.specs.Statements.{Complete, first_place};
+    ghost use Rattle.utd_session.specs.Readings.{IsReading};
+    ghost use Rattle.utd_session.specs.Parsed.{reading_of, HasAnswer};
+
+    /// Nothing, at the start of a script.
+    pub fn new(alloc: Global) -> Unfinished
+        ensures nothing { IsUnfinished result first_place [] }
+    {
+        let place = Place { line: 1, column: 1 };
+        Unfinished {
+            start: place,
+            next: place,
+            size: 0,
+            bytes: Vec::new(alloc),
+        }
+    }
+
+    /// Takes more bytes.
+    pub fn extend(&mut self, piece: &[u8]) -> Result<(), AllocError>
+        requires places { Fits self.old.next (length piece.now) }
+        requires few { self.old.size + length piece.now ≤ 2 ^ 32 - 1 }
+        ensures more { (place : Place) (bytes : List ℕ) → IsUnfinished self.old place bytes
+            → OnOk result (IsUnfinished self.new place (bytes ++ piece.now)) }
+        ensures size { OnOk result (self.new.size ≡ self.old.size + length piece.now) }
+        ensures start { self.new.start ≡ self.old.start }
+        ensures next { OnOk result (self.new.next ≡ place_after self.old.next piece.now) }
+    {
+        keep(&mut self.bytes, self.size + piece.len(), piece)?;
+        self.size += piece.len();
+        self.next = place_behind(self.next, piece);
+        Ok(())
+    }
+
+    /// Begins the next one behind this one.
+    pub fn restart(&mut self)
+        ensures next { (place : Place) (bytes : List ℕ) → IsUnfinished self.old place bytes
+            → IsUnfinished self.new (place_after place bytes) [] }
+        ensures start { self.new.start ≡ self.old.next }
+        ensures place { self.new.next ≡ self.old.next }
+        ensures size { self.new.size ≡ 0 }
+    {
+        self.start = self.next;
+        self.size = 0;
+        self.bytes.clear();
+    }
+
+    /// What its bytes are read as, where they end with its `;`.
+    pub fn read(&self, alloc: Global) -> Result<Parsed, Memory>
+        requires { self.now.start.line + self.now.start.column ≤ 2 ^ 31 }
+        ensures read { (place : Place) (bytes : List ℕ) → IsUnfinished self.now place bytes
+            → IfOk result (λ p. IsReading (Complete place bytes) (reading_of p)) }
+        ensures told { IfOk result (λ p. HasAnswer (reading_of p)) }
+    {
+        if self.size > MOST_BYTES {
+            return Ok(Parsed::Refused(Refuse::Plain(Code::E03)));
+        }
+        read_text(alloc, &self.bytes, self.start)
+    }
+}
