@@ -4,4 +4,3 @@ pub mod LeastFaultLemmas
 pub mod UnitedLemmas
 pub mod LabelRows
 pub mod Sweeping
-pub mod PackedOnGrid
