@@ -1,0 +1,9 @@
+//! The tree of a statement, from tokens that are known to be one.
+#![tactic(auto)]
+
+mod choices;
+mod cursor;
+mod scalars;
+
+pub use cursor::{Cursor, Lexeme};
+pub use scalars::scalar;
