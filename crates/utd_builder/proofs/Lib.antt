@@ -1,3 +1,4 @@
 pub mod Steps
 pub mod ScalarRows
+pub mod PartRows
 pub mod Paths

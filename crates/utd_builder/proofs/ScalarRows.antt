@@ -15,6 +15,7 @@ use Rattle.utd_syntax.specs.declared.words.PairWord.{PairWord}
 use Rattle.utd_syntax.specs.declared.words.PairWord.TheVariants as pair_functions
 use Rattle.utd_syntax.specs.declared.words.ExtremeWord.{ExtremeWord}
 use Rattle.utd_syntax.specs.declared.words.ExtremeWord.TheVariants as extremes
+use Rattle.utd_syntax.specs.declared.words.EndBracket.{EndBracket}
 use Rattle.utd_syntax.specs.Pieces.{Piece, first, place_of, bytes_of}
 use Rattle.utd_builder.specs.Building.{behind}
 use Rattle.utd_syntax.specs.Plain.{StatementP, Add, And, AttributeName, Compare, Extreme, Function, Multiply, Not, OneCmp, OneConj, OneNeg, OnePrimary, OneProd, OneSign, OneSum, Or, PairFunction}
@@ -23,7 +24,7 @@ use Rattle.utd_syntax.specs.Written.{comparison, sum_word, product_word, functio
 use Rattle.utd_syntax.proofs.Reader.{Go, read, read_at}
 use Rattle.utd_syntax.proofs.FormEnds.{Halts, Starts_cmp, Starts_conj, Starts_primary, AfterName-end, MoreProd-end, MoreSum-end, MoreCmp-end, MoreAnd-end, MoreOr-end}
 use Rattle.utd_syntax.proofs.FirstTokens.{cmp-as-sum, conj-as-neg, neg-as-cmp, prod-as-sign, scalar-as-conj, sign-as-primary, sum-as-prod}
-use Rattle.utd_builder.specs.Choices.{comparison_at, sum_word_at, product_word_at, function_at, pair_function_at}
+use Rattle.utd_builder.specs.Choices.{comparison_at, sum_word_at, product_word_at, function_at, pair_function_at, end_bracket_at}
 use Rattle.utd_builder.proofs.Steps.{at, differs, differs-back}
 
 halts-MoreOr : (x : Terminal) → (x ≡ t.Or → ⊥) → Halts MoreOr x
@@ -340,18 +341,6 @@ must-AfterScalar (x ∷ ts) stack k s n0 h = is-AfterScalar x.terminal (first ts
 pub step-AfterScalar : (p : Place) (b : List ℕ) (old new : List Piece) (stack : List Symbol) (k : Go (AfterScalar ∷ stack)) (s : StatementP) → ((first old) ≡ t.Colon → ⊥) → p ≡ place_of old → b ≡ bytes_of old → new ≡ behind old → read old (AfterScalar ∷ stack) k ≡ Some s → read_at t.Close (first new) p b (read new) (AfterScalar ∷ stack) k ≡ Some s
 step-AfterScalar p b old new stack k s n0 hp hb hn h = at t.Close p b old new (AfterScalar ∷ stack) k s (must-AfterScalar old stack k s n0 h) refl hp hb hn h
 
-is-EndOfSelector : (x n : Terminal) (p : Place) (b : List ℕ) (next : (st : List Symbol) → Go st → Option StatementP) (stack : List Symbol) (k : Go (EndOfSelector ∷ stack)) (s : StatementP) → (x ≡ t.CloseBracket → ⊥) → read_at x n p b next (EndOfSelector ∷ stack) k ≡ Some s → x ≡ t.Close
-is-EndOfSelector t.CloseBracket n p b next stack k s n0 h = absurd (n0 refl)
-is-EndOfSelector t.Close n p b next stack k s n0 h = refl
-is-EndOfSelector _ n p b next stack k s n0 h = differs h
-
-must-EndOfSelector : (ts : List Piece) (stack : List Symbol) (k : Go (EndOfSelector ∷ stack)) (s : StatementP) → ((first ts) ≡ t.CloseBracket → ⊥) → read ts (EndOfSelector ∷ stack) k ≡ Some s → first ts ≡ t.Close
-must-EndOfSelector [] stack k s n0 h = differs h
-must-EndOfSelector (x ∷ ts) stack k s n0 h = is-EndOfSelector x.terminal (first ts) x.place x.bytes (read ts) stack k s n0 h
-
-pub step-EndOfSelector : (p : Place) (b : List ℕ) (old new : List Piece) (stack : List Symbol) (k : Go (EndOfSelector ∷ stack)) (s : StatementP) → ((first old) ≡ t.CloseBracket → ⊥) → p ≡ place_of old → b ≡ bytes_of old → new ≡ behind old → read old (EndOfSelector ∷ stack) k ≡ Some s → read_at t.Close (first new) p b (read new) (EndOfSelector ∷ stack) k ≡ Some s
-step-EndOfSelector p b old new stack k s n0 hp hb hn h = at t.Close p b old new (EndOfSelector ∷ stack) k s (must-EndOfSelector old stack k s n0 h) refl hp hb hn h
-
 is-InParens : (x n : Terminal) (p : Place) (b : List ℕ) (next : (st : List Symbol) → Go st → Option StatementP) (stack : List Symbol) (k : Go (InParens ∷ stack)) (s : StatementP) → read_at x n p b next (InParens ∷ stack) k ≡ Some s → x ≡ t.Open
 is-InParens t.Open n p b next stack k s  h = refl
 is-InParens _ n p b next stack k s  h = differs h
@@ -589,3 +578,12 @@ row-ThePrimary-pair_function pair_functions.Minus n p b next stack k s h = h
 pub row-ThePrimary-extreme : (w : ExtremeWord) (n : Terminal) (p : Place) (b : List ℕ) (next : (st : List Symbol) → Go st → Option StatementP) (stack : List Symbol) (k : Go (ThePrimary ∷ stack)) (s : StatementP) → read_at (extreme w) n p b next (ThePrimary ∷ stack) k ≡ Some s → next (InPoint ∷ stack) (λ v. k (Extreme p w v.0, v.1)) ≡ Some s
 row-ThePrimary-extreme extremes.First n p b next stack k s h = h
 row-ThePrimary-extreme extremes.Last n p b next stack k s h = h
+
+is-EndOfSelector : (x n : Terminal) (p : Place) (b : List ℕ) (next : (st : List Symbol) → Go st → Option StatementP) (stack : List Symbol) (k : Go (EndOfSelector ∷ stack)) (s : StatementP) → read_at x n p b next (EndOfSelector ∷ stack) k ≡ Some s → next stack (λ v. k (end_bracket_at x, v)) ≡ Some s
+is-EndOfSelector t.CloseBracket n p b next stack k s h = h
+is-EndOfSelector t.Close n p b next stack k s h = h
+is-EndOfSelector _ n p b next stack k s h = differs h
+
+pub end-bracket : (w : EndBracket) (old new : List Piece) (stack : List Symbol) (k : Go (EndOfSelector ∷ stack)) (s : StatementP) → w ≡ end_bracket_at (first old) → new ≡ behind old → read old (EndOfSelector ∷ stack) k ≡ Some s → read new stack (λ v. k (w, v)) ≡ Some s
+end-bracket w [] new stack k s e hn h = differs h
+end-bracket w (o ∷ old) new stack k s e hn h = ap (λ z. read new stack (λ v. k (z, v))) e ∙ ap (λ z. read z stack (λ v. k (end_bracket_at o.terminal, v))) hn ∙ is-EndOfSelector o.terminal (first old) o.place o.bytes (read old) stack k s h

@@ -4,7 +4,7 @@ use Rattle.utd_syntax.specs.declared.word.Word.{Word}
 use Rattle.utd_syntax.specs.Pieces.{Piece, place_of, bytes_of}
 use Rattle.utd_syntax.specs.Plain.{StatementP}
 use Rattle.utd_syntax.specs.Table.{Symbol}
-use Rattle.utd_syntax.proofs.FormValues.{Val}
+use Rattle.utd_syntax.proofs.FormValues.{Val, Vals}
 use Rattle.utd_syntax.proofs.Reader.{Go, read}
 use Rattle.utd_builder.specs.declared.cursor.Lexeme.{Lexeme}
 use Rattle.utd_builder.specs.declared.cursor.Cursor.{Cursor}
@@ -40,3 +40,12 @@ pub record Read (form : Symbol) (old new : List Piece) (v : Val form) : Type 0 w
 abbrev pub Builds : {T : Type 0} → {E : Type 0} → (form : Symbol) → (T → Val form) → List Piece → Result (T × Cursor) E → Type 0
 Builds form value old (Ok x) = Read form old (left x.1) (value x.0)
 Builds form value old (Err e) = Unit {0}
+
+-- A form was read and used up: where a statement goes on with what is given for the form's value, it goes on with this.
+pub record Given (form : Symbol) (R : Type 0) (give : Val form → R) (old new : List Piece) (v : R) : Type 0 where
+  pub shorter : length new ≤ length old
+  pub goes_on : (stack : List Symbol) (k : R × Vals stack → StatementP) (x : StatementP) → read old (form ∷ stack) (λ vs. k (give vs.0, vs.1)) ≡ Some x → read new stack (λ vs. k (v, vs)) ≡ Some x
+
+abbrev pub Gives : {T : Type 0} → {E : Type 0} → {R : Type 0} → (form : Symbol) → (Val form → R) → (T → R) → List Piece → Result (T × Cursor) E → Type 0
+Gives {R = R} form give value old (Ok x) = Given form R give old (left x.1) (value x.0)
+Gives form give value old (Err e) = Unit {0}

@@ -16,6 +16,35 @@ use Rattle.utd_syntax.specs.declared.words.InfixWord.{InfixWord}
 use Rattle.utd_syntax.specs.declared.words.InfixWord.TheVariants as infixes
 use Rattle.utd_syntax.specs.declared.words.RelationComparison.{RelationComparison}
 use Rattle.utd_syntax.specs.declared.words.RelationComparison.TheVariants as relation_comparisons
+use Rattle.utd_syntax.specs.declared.words.EndBracket.{EndBracket}
+use Rattle.utd_syntax.specs.declared.words.EndBracket.TheVariants as end_brackets
+use Rattle.utd_syntax.specs.declared.words.AggregateWord.{AggregateWord}
+use Rattle.utd_syntax.specs.declared.words.AggregateWord.TheVariants as aggregate_words
+use Rattle.utd_syntax.specs.declared.words.PackWord.{PackWord}
+use Rattle.utd_syntax.specs.declared.words.PackWord.TheVariants as pack_words
+use Rattle.utd_syntax.specs.declared.words.EmptinessWord.{EmptinessWord}
+use Rattle.utd_syntax.specs.declared.words.EmptinessWord.TheVariants as emptinesses
+
+-- the word of an aggregate of a scalar
+abbrev pub aggregate_word_at : Terminal → AggregateWord
+aggregate_word_at t.Sum = aggregate_words.Sum
+aggregate_word_at t.Min = aggregate_words.Min
+aggregate_word_at _ = aggregate_words.Max
+
+-- PACK and UNPACK
+abbrev pub pack_word_at : Terminal → PackWord
+pack_word_at t.Pack = pack_words.Pack
+pack_word_at _ = pack_words.Unpack
+
+-- the words that ask whether a relation has rows
+abbrev pub emptiness_at : Terminal → EmptinessWord
+emptiness_at t.IsEmpty = emptinesses.IsEmpty
+emptiness_at _ = emptinesses.IsNotEmpty
+
+-- the bracket that ends an interval
+abbrev pub end_bracket_at : Terminal → EndBracket
+end_bracket_at t.CloseBracket = end_brackets.Closed
+end_bracket_at _ = end_brackets.Open
 
 -- the comparison of scalars that the token is
 abbrev pub comparison_at : Terminal → Option ComparisonWord

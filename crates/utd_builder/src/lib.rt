@@ -3,6 +3,7 @@
 
 mod choices;
 mod cursor;
+mod parts;
 mod scalars;
 
 pub use cursor::{Cursor, Lexeme};

@@ -5,6 +5,7 @@ ghost use Rattle.utd_syntax.specs.Read.{read_cmp, read_conj, read_neg, read_poin
 ghost use Rattle.utd_syntax.specs.Table.{TheCmp, TheConj, TheNeg, ThePoint, ThePrimary, TheProd, TheScalar, TheSign, TheSum};
 ghost use Rattle.utd_syntax.specs.Written as written;
 ghost use Rattle.utd_builder.specs.Building.{Builds, left};
+ghost use Rattle.utd_builder.specs.Choices.{end_bracket_at};
 
 use crate::choices::{comparison_word, function_word, pair_word, product_word, sum_word};
 use crate::cursor::Cursor;
@@ -274,17 +275,17 @@ fn parenthesized<'a>(
     ensures { Builds ThePrimary read_primary (left cursor.entry) result }
 {
     let place = cursor.place();
-    let (begin, next) = scalar(alloc, cursor.skip())?;
+    let (first, next) = scalar(alloc, cursor.skip())?;
+    let begin = Box::new(alloc, first)?;
     match next.terminal() {
         Terminal::Colon => {
-            let (end, last) = scalar(alloc, next.skip())?;
-            let begin = Box::new(alloc, begin)?;
-            let end = Box::new(alloc, end)?;
+            let (second, last) = scalar(alloc, next.skip())?;
+            let end = Box::new(alloc, second)?;
             let bracket = end_bracket(last.terminal());
             let tree = Primary::Selector(place, BeginBracket::Open, begin, end, bracket);
             Ok((tree, last.skip()))
         }
-        _ => Ok((Primary::Paren(place, Box::new(alloc, begin)?), next.skip())),
+        _ => Ok((Primary::Paren(place, begin), next.skip())),
     }
 }
 
@@ -297,10 +298,10 @@ fn bracketed<'a>(
     ensures { Builds ThePrimary read_primary (left cursor.entry) result }
 {
     let place = cursor.place();
-    let (begin, next) = scalar(alloc, cursor.skip())?;
-    let (end, last) = scalar(alloc, next.skip())?;
-    let begin = Box::new(alloc, begin)?;
-    let end = Box::new(alloc, end)?;
+    let (first, next) = scalar(alloc, cursor.skip())?;
+    let (second, last) = scalar(alloc, next.skip())?;
+    let begin = Box::new(alloc, first)?;
+    let end = Box::new(alloc, second)?;
     let bracket = end_bracket(last.terminal());
     let tree = Primary::Selector(place, BeginBracket::Closed, begin, end, bracket);
     Ok((tree, last.skip()))
@@ -317,8 +318,8 @@ fn function<'a>(
 {
     let place = cursor.place();
     let (part, next) = scalar(alloc, cursor.skip().skip())?;
-    let part = Box::new(alloc, part)?;
-    Ok((Primary::Function(place, word, part), next.skip()))
+    let inner = Box::new(alloc, part)?;
+    Ok((Primary::Function(place, word, inner), next.skip()))
 }
 
 #[cycle(scalars)]
@@ -333,12 +334,14 @@ fn pair<'a>(
     let place = cursor.place();
     let (first, next) = scalar(alloc, cursor.skip().skip())?;
     let (second, end) = scalar(alloc, next.skip())?;
-    let first = Box::new(alloc, first)?;
-    let second = Box::new(alloc, second)?;
-    Ok((Primary::PairFunction(place, word, first, second), end.skip()))
+    let left = Box::new(alloc, first)?;
+    let right = Box::new(alloc, second)?;
+    Ok((Primary::PairFunction(place, word, left, right), end.skip()))
 }
 
-fn end_bracket(terminal: Terminal) -> EndBracket {
+fn end_bracket(terminal: Terminal) -> EndBracket
+    ensures { result ≡ end_bracket_at terminal }
+{
     match terminal {
         Terminal::CloseBracket => EndBracket::Closed,
         _ => EndBracket::Open,
