@@ -15,12 +15,16 @@ for c in WORDFN:
     ty, vs_ = CHOICES[c]
     o += [f'/// The {DOC[c]} that the token is.', f'pub fn {WORDFN[c]}(terminal: Terminal) -> Option<{ty}>', f'    ensures {{ result ≡ choices.{c}_at terminal }}', '{', '    match terminal {']
     o += [f'        Terminal::{t} => Some({ty}::{v}),' for v, t in vs_] + ['        _ => None,', '    }', '}', '']
+for fn, doc, ts in [('is_infix','the token stands between two relations','Union Intersect Minus Join Matching Not'),('is_postfix','the token stands behind a relation, and what it does with it follows','OpenBrace Where Rename'),('is_constraint','the token begins a constraint','Key Foreign Packed When Using')]:
+    o += [f'/// Whether {doc}.', f'pub fn {fn}(terminal: Terminal) -> bool', f'    ensures {{ result ≡ choices.{fn} terminal }}', '{', '    match terminal {'] + [f'        Terminal::{t} => true,' for t in ts.split()] + ['        _ => false,', '    }', '}', '']
 write('src/choices.rt', o)
 def choice_use(cs): return [x for c in cs for x in (f'use {CR}.specs.declared.words.{CTYPE[c]}.{{{CTYPE[c]}}}', f'use {CR}.specs.declared.words.{CTYPE[c]}.TheVariants as {PLURAL[c]}')]
-o = ['-- Which of some words a token is.', 'use Rattle.std.specs.Prelude.{Option, Some, None}', f'use {CR}.specs.declared.terminal.Terminal.{{Terminal}}', f'use {CR}.specs.declared.terminal.Terminal.TheVariants as t'] + choice_use(list(WORDFN) + ['end_bracket', 'aggregate_word', 'pack_word', 'emptiness']) + ['', '-- the word of an aggregate of a scalar', 'abbrev pub aggregate_word_at : Terminal → AggregateWord', 'aggregate_word_at t.Sum = aggregate_words.Sum', 'aggregate_word_at t.Min = aggregate_words.Min', 'aggregate_word_at _ = aggregate_words.Max', '', '-- PACK and UNPACK', 'abbrev pub pack_word_at : Terminal → PackWord', 'pack_word_at t.Pack = pack_words.Pack', 'pack_word_at _ = pack_words.Unpack', '', '-- the words that ask whether a relation has rows', 'abbrev pub emptiness_at : Terminal → EmptinessWord', 'emptiness_at t.IsEmpty = emptinesses.IsEmpty', 'emptiness_at _ = emptinesses.IsNotEmpty', '', '-- the bracket that ends an interval', 'abbrev pub end_bracket_at : Terminal → EndBracket', 'end_bracket_at t.CloseBracket = end_brackets.Closed', 'end_bracket_at _ = end_brackets.Open', '']
+o = ['-- Which of some words a token is.', 'use Rattle.std.specs.Prelude.{Option, Some, None, Bool, true, false}', f'use {CR}.specs.declared.terminal.Terminal.{{Terminal}}', f'use {CR}.specs.declared.terminal.Terminal.TheVariants as t'] + choice_use(list(WORDFN) + ['end_bracket', 'aggregate_word', 'pack_word', 'emptiness']) + ['', '-- the word of an aggregate of a scalar', 'abbrev pub aggregate_word_at : Terminal → AggregateWord', 'aggregate_word_at t.Sum = aggregate_words.Sum', 'aggregate_word_at t.Min = aggregate_words.Min', 'aggregate_word_at _ = aggregate_words.Max', '', '-- PACK and UNPACK', 'abbrev pub pack_word_at : Terminal → PackWord', 'pack_word_at t.Pack = pack_words.Pack', 'pack_word_at _ = pack_words.Unpack', '', '-- the words that ask whether a relation has rows', 'abbrev pub emptiness_at : Terminal → EmptinessWord', 'emptiness_at t.IsEmpty = emptinesses.IsEmpty', 'emptiness_at _ = emptinesses.IsNotEmpty', '', '-- the comparison of relations', 'abbrev pub relation_comparison_of : Terminal → RelationComparison', *[f'relation_comparison_of t.{x} = relation_comparisons.{x}' for x in 'Equal NotEqual Less LessEqual Greater'.split()], 'relation_comparison_of _ = relation_comparisons.GreaterEqual', '', '-- the bracket that ends an interval', 'abbrev pub end_bracket_at : Terminal → EndBracket', 'end_bracket_at t.CloseBracket = end_brackets.Closed', 'end_bracket_at _ = end_brackets.Open', '']
 for c in WORDFN:
     ty, vs_ = CHOICES[c]
     o += [f'-- the {DOC[c]} that the token is', f'abbrev pub {c}_at : Terminal → Option {ty}'] + [f'{c}_at t.{t} = Some {PLURAL[c]}.{v}' for v, t in vs_] + [f'{c}_at _ = None', '']
+for fn, doc, ts in [('is_infix','the token stands between two relations','Union Intersect Minus Join Matching Not'),('is_postfix','the token stands behind a relation, and what it does with it follows','OpenBrace Where Rename'),('is_constraint','the token begins a constraint','Key Foreign Packed When Using')]:
+    o += [f'-- {doc}', f'abbrev pub {fn} : Terminal → Bool'] + [f'{fn} t.{t} = true' for t in ts.split()] + [f'{fn} _ = false', '']
 write('specs/Choices.antt', o)
 # ---------------------------------------------------------------- lemmas
 CON = {'comparison':'comparison','sum_word':'sum_word','product_word':'product_word','function':'function','pair_function':'pair_function','infix_word':'infix_word','relation_comparison':'relation_comparison','pack_word':'pack_word','aggregate_word':'aggregate_word','emptiness':'emptiness','extreme':'extreme','end_bracket':'end_bracket'}
@@ -33,7 +37,7 @@ def head(title, body, extra=[]):
      f'use {CR}.specs.Pieces.{{Piece, first, place_of, bytes_of}}', 'use Rattle.utd_builder.specs.Building.{behind}', 'use Rattle.utd_syntax.specs.Plain.{StatementP, Word, ' + ', '.join(sorted(set(f["type"] for f in FORMS.values() if f["type"].endswith("P") and not f["type"].startswith("List")) - {"StatementP"})) + ', ' + ', '.join(sorted(set(CONS_ALL))) + '}',
      f'use {CR}.specs.Table.{{Symbol, Just, same, ' + ', '.join(T) + '}', f'use {CR}.specs.Written.{{' + ', '.join(CON) + '}', f'use {CR}.proofs.Reader.{{Go, read, read_at}}',
      f'use {CR}.proofs.FormEnds.{{Halts, ' + ', '.join(sorted(STARTSETS)) + ', ' + ', '.join(f'{s}-end' for s in T if may_end(s)) + '}', f'use {CR}.proofs.FirstTokens.{{' + ', '.join(sorted(STARTS | set(LINK_NAMES))) + '}',
-     'use Rattle.utd_builder.specs.Choices.{' + ', '.join(f'{c}_at' for c in WORDFN) + ', end_bracket_at, aggregate_word_at, pack_word_at, emptiness_at}', 'use Rattle.utd_syntax.specs.Read.{' + ', '.join(READS) + '}', *[f'use Rattle.utd_syntax.specs.declared.{m}.{t_}.{{{t_} as {t_}Tree}}' for m, t_ in TREES]] + extra
+     'use Rattle.utd_builder.specs.Choices.{' + ', '.join(f'{c}_at' for c in WORDFN) + ', is_infix, is_postfix, is_constraint, relation_comparison_of, end_bracket_at, aggregate_word_at, pack_word_at, emptiness_at}', 'use Rattle.utd_syntax.specs.Read.{' + ', '.join(READS) + '}', *[f'use Rattle.utd_syntax.specs.declared.{m}.{t_}.{{{t_} as {t_}Tree}}' for m, t_ in TREES]] + extra
     text = '\n'.join(body)
     words = set(re.findall(r"[^\s(){},;.]+", re.sub(r'--.*', '', text))); mods = set(re.findall(r"([A-Za-z_]+)\.", text))
     out = []
@@ -174,3 +178,38 @@ b += [f'is-onto : {PAR} (k : Go (InProjection ∷ stack)) (s : StatementP) → (
  f'pub onto : (ts : List Piece) (stack : List Symbol) (k : Go (InProjection ∷ stack)) (s : StatementP) → (first ts ≡ t.All → ⊥) → read ts (InProjection ∷ stack) k ≡ Some s → read ts (InNames ∷ stack) {OK_} ≡ Some s',
  'onto [] stack k s n0 h = differs h', 'onto (o ∷ ts) stack k s n0 h = is-onto o.terminal (first ts) o.place o.bytes (read ts) stack k s n0 h', '']
 write('proofs/PartRows.antt', head('What the parts of relations and statements say of the next token, where a statement goes on.', fix(b), ['use Rattle.utd_builder.proofs.Steps.{at, differs, differs-back}']))
+
+# ---------------------------------------------------------------- relations
+b = []
+def flag_ends(S, flag, ts):
+    return [f'halts-{S} : (x : Terminal) → {flag} x ≡ false → Halts {S} x'] + [f'halts-{S} t.{x} e = absurd (yes e)' for x in ts] + [f'halts-{S} _ e = refl', '',
+      f'pub done-{S} : (ts : List Piece) (stack : List Symbol) (k : Go ({S} ∷ stack)) (s : StatementP) → {flag} (first ts) ≡ false → read ts ({S} ∷ stack) k ≡ Some s → read ts stack {ENDV[S]} ≡ Some s',
+      f'done-{S} ts stack k s e h = sym ({S}-end ts stack k (halts-{S} (first ts) e)) ∙ h', '']
+YES = ['yes : true ≡ false → ⊥', 'yes e = cc', '']
+b += YES + flag_ends('MoreInfix','is_infix',terminals('MoreInfix')) + flag_ends('MorePostfix','is_postfix',terminals('MorePostfix'))
+b += ['pub not-infix : (x : Terminal) → is_infix x ≡ true → infix_word_at x ≡ None → x ≡ t.Not'] + [f'not-infix t.{x} e f = differs-back f' for x in ('Union','Intersect','Minus','Join','Matching')] + ['not-infix t.Not e f = refl', 'not-infix _ e f = absurd (yes (sym e))', '',
+ 'pub not-postfix : (x : Terminal) → is_postfix x ≡ true → (x ≡ t.OpenBrace → ⊥) → (x ≡ t.Where → ⊥) → x ≡ t.Rename', 'not-postfix t.OpenBrace e n0 n1 = absurd (n0 refl)', 'not-postfix t.Where e n0 n1 = absurd (n1 refl)', 'not-postfix t.Rename e n0 n1 = refl', 'not-postfix _ e n0 n1 = absurd (yes (sym e))', '']
+for f, g, ex in [('rel','terms',['Using']),('terms','term',[]),('term','rel_primary',[]),('rel_primary','operand',['Extend','Summarize']),('using_part','operand',['Extend','Summarize'])]: b += to_lemma(f, g, ex)
+for S, last, ex, ch in [('TheOperand','Name',['Open','Relation','Pack','Unpack'],[]),('AfterOperand','Where',['Not','OpenBrace'],['infix_word'])]: b += must_lemma(S, last, ex, ch)
+for c in ['infix_word','pack_word']: b += choice_lemmas(c)
+b += row_lemma('infix_word','MoreInfix',('TheTerm ∷ MoreInfix','(λ v. k ((λ x. v.1.0 (Infix x p w v.0)), v.1.1))'))
+b += row_lemma('infix_word','AfterOperand',('TheOperand','(λ v. k ((λ x. UsingInfix x p w v.0), v.1))'))
+b += row_lemma('pack_word','TheOperand',('TheRel ∷ Just t.On ∷ TheList','(λ v. k (PackOn p w v.0 v.1.1.0, v.1.1.1))'))
+write('proofs/RelationRows.antt', head('What relational expressions say of the next token, where a statement goes on.', fix(b), ['use Rattle.utd_builder.proofs.Steps.{at, differs, differs-back}']))
+
+# ---------------------------------------------------------------- statements
+b = []
+b += YES + flag_ends('MoreConstraints','is_constraint',terminals('MoreConstraints')) + ends_lemma('MoreItems',['Comma'])
+CT5 = 'Key Foreign Packed When Using'.split()
+b += ['pub starts-constraint : (x : Terminal) → is_constraint x ≡ true → Starts_constraint x'] + [f'starts-constraint t.{x} e = tt' for x in CT5] + ['starts-constraint _ e = absurd (yes (sym e))', '',
+ 'pub not-constraint : (x : Terminal) → is_constraint x ≡ true → ' + ''.join(f'(x ≡ t.{x} → ⊥) → ' for x in CT5[:4]) + 'x ≡ t.Using'] + [f'not-constraint t.{x} e n0 n1 n2 n3 = absurd (n{i} refl)' for i, x in enumerate(CT5[:4])] + ['not-constraint t.Using e n0 n1 n2 n3 = refl', 'not-constraint _ e n0 n1 n2 n3 = absurd (yes (sym e))', '']
+for f, g, ex in [('used_constraint','key',['Foreign']),('comparison','operand',[]),('test','comparison',['Using','IsEmpty','IsNotEmpty']),('used_deletion','rel',['Where']),('deletion','rel',['Where','Portion']),('assign','item',[]),('statement','assign',NOTS('Semicolon TypeWord Var History Drop Print Ask'))]: b += to_lemma(f, g, ex)
+for S, last, ex in [('TheKey','Key',[]),('TheForeign','Foreign',[]),('TheConstraint','Using',CT5[:4]),('InRel','Open',[]),('TheVarForm','Relation',['Virtual']),('TheUsedItem','Update',['Insert','Delete']),('TheItem','Name',NOTS('Insert Delete Update Terminate Using'))]: b += must_lemma(S, last, ex)
+b += choice_lemmas('emptiness') + row_lemma('emptiness','TheTest',('InRel','(λ v. k (Emptiness p w v.0, v.1))'))
+b += push_lemma('constraints','Constraint','read_constraint') + push_lemma('items','Item','read_item')
+AL = lambda w, p: f'(λ v. k ((λ x. Comparison x {p} {w} v.0), v.1))'
+b += [f'is-after_left : {PAR} (k : Go (AfterLeft ∷ stack)) (s : StatementP) → read_at x n p b next (AfterLeft ∷ stack) k ≡ Some s → next (TheOperand ∷ stack) {AL("(relation_comparison_of x)","p").replace("λ x. Comparison x","λ z. Comparison z")} ≡ Some s'] + [f'is-after_left t.{x} n p b next stack k s h = h' for x in 'Equal NotEqual Less LessEqual Greater GreaterEqual'.split()] + ['is-after_left _ n p b next stack k s h = differs h', '',
+ f'pub after-left : (w : RelationComparison) (p : Place) (old new : List Piece) (stack : List Symbol) (k : Go (AfterLeft ∷ stack)) (s : StatementP) → w ≡ relation_comparison_of (first old) → p ≡ place_of old → new ≡ behind old → read old (AfterLeft ∷ stack) k ≡ Some s → read new (TheOperand ∷ stack) {AL("w","p")} ≡ Some s',
+ 'after-left w p [] new stack k s e hp hn h = differs h',
+ f'after-left w p (o ∷ ts) new stack k s e hp hn h = ap (λ z. read new (TheOperand ∷ stack) {AL("z","p")}) e ∙ ap (λ z. read new (TheOperand ∷ stack) {AL("(relation_comparison_of o.terminal)","z")}) hp ∙ ap (λ z. read z (TheOperand ∷ stack) {AL("(relation_comparison_of o.terminal)","o.place")}) hn ∙ is-after_left o.terminal (first ts) o.place o.bytes (read ts) stack k s h', '']
+write('proofs/StatementRows.antt', head('What statements say of the next token, where a statement goes on.', fix(b), ['use Rattle.utd_builder.proofs.Steps.{at, differs, differs-back}']))

@@ -2,8 +2,9 @@
 import sys
 from chains import *
 setup(sys.argv[1], 'parts', 'PartRows', lower=['ScalarRows'])
+CLAUSE = {'MaybePortion':'MaybePortionForm'}
 def fun(fn, ty, form, read_, body, *answers, doc=None, extra='', pub='pub '):
-    code((f'/// {doc}\n' if doc else '') + f'{rust_sig(pub, fn, ty, extra)}\n    ensures {{ Builds {form} {read_} (left cursor.entry) result }}\n{{\n' + '\n'.join('    ' + l if l.strip() else l for l in body.strip('\n').split('\n')) + '\n}')
+    code((f'/// {doc}\n' if doc else '') + f'{rust_sig(pub, fn, ty, extra)}\n    ensures {{ Builds {CLAUSE.get(form, form)} {read_} (left cursor.entry) result }}\n{{\n' + '\n'.join('    ' + l if l.strip() else l for l in body.strip('\n').split('\n')) + '\n}')
     leaf(fn, *answers)
 fun('kind', 'Kind', 'TheKind', 'read_kind', '''
 match cursor.terminal() {
@@ -143,7 +144,7 @@ let place = cursor.place();
 let (first, next) = {call};
 let list = Vec::new(alloc);
 let (more, end) = more_{name}(alloc, {lty} {{ list }}, next)?;
-Ok(({ty} {{ place, first, more }}, end.skip()))''', ('returns', (lambda ch: (ch.name('first') if item == 'name' else ch.part('first')).empty(more, f'{read_item}_list').given('more','_','end').just('CloseBrace', 'skip-2').rec())(Chain(form).sure(form,'skip','place-place'))), doc=doc)
+Ok(({ty} {{ place, first, more }}, end.skip()))''', ('returns', (lambda ch: (ch.name('first') if item == 'name' else ch.part('first')).empty(more, f'{read_item}_list').given('more', f'(λ w. k (plain.{ty} c.place-place.result ({read_item} c.in_ok-first.first) w.0, w.1.1))','end').just('CloseBrace', 'skip-2').rec())(Chain(form).sure(form,'skip','place-place'))), doc=doc)
 some('some_names','SomeNames','TheSomeNames','read_some_names','name','Words','words','MoreNames','read_name','Names in braces, at least one.')
 some('some_elements','SomeElements','TheSomeElements','read_some_elements','element','ElementList','elements','MoreElements','read_element','Elements in braces, at least one.')
 some('sets','Sets','TheSets','read_sets','set_item','SetItems','set_items','MoreSetItems','read_set_item','Assignments of attributes in braces.')
@@ -165,7 +166,7 @@ match inner.terminal() {
         let (tuples, end) = tuple_list(alloc, next.skip())?;
         Ok((Literal::Headed(place, head, tuples), end))
     }
-}''', ('returns-in_ok-more-in-Tuple', Chain('TheLiteral').sure('TheLiteral','skip-body','place-place').sure('AfterRelation','skip-inner').lemma(f'at-both t.OpenBrace t.Tuple _ _ {RS("skip-body")} {RS("skip-inner")} (AfterRelation ∷ stack) _ x {isx("terminal","in-Tuple")} HERE').part('first-in-Tuple').empty('MoreTuples','read_tuple_list').given('more-in-Tuple','_','end').just('CloseBrace','skip').rec()),
+}''', ('returns-in_ok-more-in-Tuple', Chain('TheLiteral').sure('TheLiteral','skip-body','place-place').sure('AfterRelation','skip-inner').lemma(f'at-both t.OpenBrace t.Tuple _ _ {RS("skip-body")} {RS("skip-inner")} (AfterRelation ∷ stack) _ x {isx("terminal","in-Tuple")} HERE').part('first-in-Tuple').empty('MoreTuples','read_tuple_list').given('more-in-Tuple','(λ w. k (plain.Tuples c.place-place.result (read_tuple c.in_ok-first-in-Tuple.first) w.0, w.1.1))','end').just('CloseBrace','skip').rec()),
  ('returns-in_ok-tuples-in_default', Chain('TheLiteral').sure('TheLiteral','skip-body','place-place').lemma(f'headed CUR {RS("skip-inner")} stack _ x {isnt("terminal","in_default","Tuple")} {SK("skip-inner")} HERE').part('head-in_default').sure('TheTuples','skip-in_default').part('tuples-in_default','end').rec()), doc='A relation that is written out.')
 fun('portion', 'Portion', 'ThePortion', 'read_portion', '''
 let place = cursor.place();
@@ -206,7 +207,7 @@ code(f'''
 }}
 ''')
 KP = '(λ vs. k (vs.0 c.args.place, vs.1))'
-leaf('projection', ('returns-in_ok-more-in-All', Chain('InProjection', k=KP).tok('t.All', isx('terminal','in-All'), 'skip').just('But','skip-2').name('first-in-All').empty('MoreNames','read_name_list').given('more-in-All','_','end').just('CloseBrace','skip-in-All-3').rec()),
+leaf('projection', ('returns-in_ok-more-in-All', Chain('InProjection', k=KP).tok('t.All', isx('terminal','in-All'), 'skip').just('But','skip-in-All').name('first-in-All').empty('MoreNames','read_name_list').given('more-in-All','(λ w. k (plain.AllBut c.args.place (read_name c.in_ok-first-in-All.first) w.0, w.1.1))','end').just('CloseBrace','skip-in-All-2').rec()),
  ('returns-in_ok-names-in_default', Chain('InProjection', k=KP).lemma(f'onto CUR stack {KP} x {isnt("terminal","in_default","All")} h').part('names-in_default','end','ensures.names').rec()))
 finish('''// The parts of relations and statements that hold names and scalars alone.
 ghost use Rattle.std.specs.Prelude.{◌≡◌, ◌++◌};

@@ -179,7 +179,7 @@ for arm, fn_, cyc in [('Open','parenthesized',1),('OpenBracket','bracketed',1),(
     ans(f'primary-returns-in-{arm}', f'c.{fn_}{sfx}.ensures')
 ans('primary-returns-in-True', Chain(P).known('t.True', f'(sym {T0} ∙ c.in-True.is)', SK('place'), 'refl', SK('skip'), RS('skip')).rec())
 nots = ' '.join(f'(λ e. c.in_default-terminal.not-{x} ({T0} ∙ e))' for x in 'Open OpenBracket First Last Name Digits Quoted Date True'.split())
-ans('primary-returns-in_default-terminal', Chain(P).step(P, f'(ap function_at (sym {T0}) ∙ sym c.function_word.ensures ∙ c.in_default.is) (ap pair_function_at (sym {T0}) ∙ sym c.pair_word.ensures ∙ c.in_default-pair_word.is) {nots}', SK('place-in_default'), 'refl', SK('skip-in_default'), RS('skip-in_default')).rec())
+ans('primary-returns-in_default-terminal', Chain(P).step(P, f'(ap function_at (sym {T0}) ∙ sym c.function_word.ensures ∙ c.in_default.is) (ap pair_function_at (sym {T0}) ∙ sym c.pair_word.ensures ∙ c.in_default-pair_word.is) {nots}', SK('place-in_default-terminal'), 'refl', SK('skip-in_default-terminal'), RS('skip-in_default-terminal')).rec())
 USES[-1] = USES[-1]
 USES = [u.replace('{comparison_at}', '{comparison_at, sum_word_at, product_word_at, function_at, pair_function_at, end_bracket_at}').replace('Pieces.{Piece, first}', 'Pieces.{Piece, first, place_of, bytes_of}') for u in USES]
 save(ROOT, 'proofs/scalars/+scalars/Answers.antt', USES + ['use Rattle.utd_builder.proofs.scalars.+scalars.Goals as goal'], '\n'.join(A))

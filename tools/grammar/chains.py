@@ -9,7 +9,7 @@ def setup(root, mod, rows, crate='utd_builder', lower=()):
      'use Rattle.utd_syntax.specs.declared.terminal.Terminal.TheVariants as t', 'use Rattle.utd_syntax.specs.Pieces.{Piece, first, place_of, bytes_of}', 'use Rattle.utd_syntax.specs.Plain.{StatementP, Word}', 'use Rattle.utd_syntax.specs.Plain as plain',
      'use Rattle.utd_syntax.specs.Read.{' + ', '.join(sorted(set(re.findall(r'pub (read_\w+) :', open(os.path.abspath(root) + '/../utd_syntax/specs/Read.antt').read())))) + '}',
      'use Rattle.utd_syntax.specs.Table.{Just, ' + ', '.join(T) + '}', 'use Rattle.utd_syntax.specs.Written as written', 'use Rattle.utd_syntax.specs.Written.{ordinal_word, since_word, during_word, over_word, at_word}', 'use Rattle.utd_syntax.proofs.Reader.{Go, read}', 'use Rattle.utd_syntax.proofs.FormValues.{Val, Vals}',
-     'use Rattle.utd_builder.specs.Building.{left, behind}', 'use Rattle.utd_builder.specs.Choices.{comparison_at, infix_word_at, relation_comparison_at}',
+     'use Rattle.utd_builder.specs.Building.{left, behind}', 'use Rattle.utd_builder.specs.Choices.{comparison_at, infix_word_at, relation_comparison_of, aggregate_word_at}',
      'use Rattle.utd_builder.proofs.Steps.{at, at-both, less, no-more, just, worded, over, differs, differs-back}', 'use Rattle.utd_builder.proofs.Paths.{Path, Onwards, relist, none-yet}']
     for r in [rows] + list(lower):
         crate_, r_ = r.split(':') if ':' in r else (crate, r)
@@ -102,16 +102,16 @@ def more_list(name, lty, item, ity, form, more, read_item, param, link=None, com
 }}
 ''')
     fn = 'more_' + name
-    N, S = '(left c.loop-list.next)', RS('skip')
+    N, S = '(left c.loop-next.next)', RS('skip')
     TY = f'(Val {more})'
-    invariants(fn, f'''abbrev pub invariant-loop-list : goal.invariant-loop-list
-invariant-loop-list l = Onwards {more} {TY} (λ v. {L} l.fn.{param}.list.items ++ v) (λ v. {L} l.list.items ++ v) (left l.fn.cursor) (left l.next) × (length (left l.next) ≤ length (left l.fn.cursor))
+    invariants(fn, f'''abbrev pub invariant-loop-next : goal.invariant-loop-next
+invariant-loop-next l = Onwards {more} {TY} (λ v. {L} l.fn.{param}.list.items ++ v) (λ v. {L} l.list.items ++ v) (left l.fn.cursor) (left l.next) × (length (left l.next) ≤ length (left l.fn.cursor))
 
-abbrev pub decreases-loop-list : goal.decreases-loop-list
-decreases-loop-list l = length (left l.next)''')
-    known = isx('terminal', 'in-Comma'); xs = 'c.loop-list.list.items'; it = 'c.in_ok-item.item'
+abbrev pub decreases-loop-next : goal.decreases-loop-next
+decreases-loop-next l = length (left l.next)''')
+    known = isx('terminal', 'in-Comma'); xs = 'c.loop-next.list.items'; it = 'c.in_ok-item.item'
     K = f'(λ vs. k ({L} {xs} ++ vs.0, vs.1))'
-    ch = Chain(more, cur=N, h='(c.loop-list.invariant.0 stack k x h)', stack=f'({more} ∷ stack)', k=K)
+    ch = Chain(more, cur=N, h='(c.loop-next.invariant.0 stack k x h)', stack=f'({more} ∷ stack)', k=K)
     ch.known('t.Comma', known, 'refl', 'refl', SK('skip'), S)
     if item == 'name': ch.name('item', 'after')
     else: ch.part('item', 'after')
@@ -119,9 +119,9 @@ decreases-loop-list l = length (left l.next)''')
     ch.push(f'relist {more} {TY} {A} stack (λ v. {L} {xs} ++ ({read_item} {it} ∷ v)) (λ v. {L} ({xs} ++ {it} ∷ []) ++ v) k x (push-{name} {xs} {it}) {ch.h}')
     l0 = less('t.Comma', N, S, known, SK('skip'))
     sh = 'no-more ' + f'{S} {A} c.in_ok-item.ensures.2' if item == 'name' else 'c.in_ok-item.ensures.shorter'
-    end = Chain(more, cur=N, h='(c.loop-list.invariant.0 stack k x h)', k=K).push(f'done-{more} {N} stack {K} x {isnt("terminal", "in_default", "Comma")} (c.loop-list.invariant.0 stack k x h)')
+    end = Chain(more, cur=N, h='(c.loop-next.invariant.0 stack k x h)', k=K).push(f'done-{more} {N} stack {K} x {isnt("terminal", "in_default", "Comma")} (c.loop-next.invariant.0 stack k x h)')
     end.push(f'(ap (λ z. read {N} stack (λ v. k (z, v))) (sym (append-nil ({L} {xs}))) ∙ {end.h})')
-    leaf(fn, ('loop-list-init', '((λ stack k x h. h), omega arith)'), ('loop-list-smaller', om(l0, sh)),
-      ('loop-list-preserved', f'rw c.in_ok-push.ensures.items ((λ stack k x h. {ch.term()}), {om("c.loop-list.invariant.1", l0, sh)})'),
-      ('returns', rec('c.loop-list.invariant.1', end.term())))
+    leaf(fn, ('loop-next-init', '((λ stack k x h. h), omega arith)'), ('loop-next-smaller', om(l0, sh)),
+      ('loop-next-preserved', f'rw c.in_ok-push.ensures.items ((λ stack k x h. {ch.term()}), {om("c.loop-next.invariant.1", l0, sh)})'),
+      ('returns', rec('c.loop-next.invariant.1', end.term())))
 def finish(header): open(f'{G["root"]}/src/{G["mod"]}.rt', 'w').write(header.strip('\n') + '\n\n' + '\n'.join(G['code']))

@@ -1,5 +1,5 @@
 -- What the parts of a statement are built from.
-use Rattle.std.specs.Prelude.{◌≡◌, ◌≤◌, ℕ, List, [], ◌∷◌, Result, Ok, Err, Some, length}
+use Rattle.std.specs.Prelude.{◌≡◌, ◌≤◌, ◌<◌, ℕ, List, [], ◌∷◌, Result, Ok, Err, Some, length}
 use Rattle.utd_syntax.specs.declared.word.Word.{Word}
 use Rattle.utd_syntax.specs.Pieces.{Piece, place_of, bytes_of}
 use Rattle.utd_syntax.specs.Plain.{StatementP}
@@ -49,3 +49,12 @@ pub record Given (form : Symbol) (R : Type 0) (give : Val form → R) (old new :
 abbrev pub Gives : {T : Type 0} → {E : Type 0} → {R : Type 0} → (form : Symbol) → (Val form → R) → (T → R) → List Piece → Result (T × Cursor) E → Type 0
 Gives {R = R} form give value old (Ok x) = Given form R give old (left x.1) (value x.0)
 Gives form give value old (Err e) = Unit {0}
+
+-- A part was built onto what stands before it: where a statement goes on with the one, it goes on with the other.
+pub record Turned (form : Symbol) (R : Type 0) (old new : List Piece) (before after : Val form → R) : Type 0 where
+  pub shorter : length new < length old
+  pub goes_on : (stack : List Symbol) (k : R × Vals stack → StatementP) (x : StatementP) → read old (form ∷ stack) (λ vs. k (before vs.0, vs.1)) ≡ Some x → read new (form ∷ stack) (λ vs. k (after vs.0, vs.1)) ≡ Some x
+
+abbrev pub Turns : {T : Type 0} → {E : Type 0} → {R : Type 0} → (form : Symbol) → (Val form → R) → (T → Val form → R) → List Piece → Result (T × Cursor) E → Type 0
+Turns {R = R} form before after old (Ok x) = Turned form R old (left x.1) before (after x.0)
+Turns form before after old (Err e) = Unit {0}

@@ -1,5 +1,5 @@
 -- Which of some words a token is.
-use Rattle.std.specs.Prelude.{Option, Some, None}
+use Rattle.std.specs.Prelude.{Option, Some, None, Bool, true, false}
 use Rattle.utd_syntax.specs.declared.terminal.Terminal.{Terminal}
 use Rattle.utd_syntax.specs.declared.terminal.Terminal.TheVariants as t
 use Rattle.utd_syntax.specs.declared.words.ComparisonWord.{ComparisonWord}
@@ -40,6 +40,15 @@ pack_word_at _ = pack_words.Unpack
 abbrev pub emptiness_at : Terminal → EmptinessWord
 emptiness_at t.IsEmpty = emptinesses.IsEmpty
 emptiness_at _ = emptinesses.IsNotEmpty
+
+-- the comparison of relations
+abbrev pub relation_comparison_of : Terminal → RelationComparison
+relation_comparison_of t.Equal = relation_comparisons.Equal
+relation_comparison_of t.NotEqual = relation_comparisons.NotEqual
+relation_comparison_of t.Less = relation_comparisons.Less
+relation_comparison_of t.LessEqual = relation_comparisons.LessEqual
+relation_comparison_of t.Greater = relation_comparisons.Greater
+relation_comparison_of _ = relation_comparisons.GreaterEqual
 
 -- the bracket that ends an interval
 abbrev pub end_bracket_at : Terminal → EndBracket
@@ -115,3 +124,29 @@ relation_comparison_at t.LessEqual = Some relation_comparisons.LessEqual
 relation_comparison_at t.Greater = Some relation_comparisons.Greater
 relation_comparison_at t.GreaterEqual = Some relation_comparisons.GreaterEqual
 relation_comparison_at _ = None
+
+-- the token stands between two relations
+abbrev pub is_infix : Terminal → Bool
+is_infix t.Union = true
+is_infix t.Intersect = true
+is_infix t.Minus = true
+is_infix t.Join = true
+is_infix t.Matching = true
+is_infix t.Not = true
+is_infix _ = false
+
+-- the token stands behind a relation, and what it does with it follows
+abbrev pub is_postfix : Terminal → Bool
+is_postfix t.OpenBrace = true
+is_postfix t.Where = true
+is_postfix t.Rename = true
+is_postfix _ = false
+
+-- the token begins a constraint
+abbrev pub is_constraint : Terminal → Bool
+is_constraint t.Key = true
+is_constraint t.Foreign = true
+is_constraint t.Packed = true
+is_constraint t.When = true
+is_constraint t.Using = true
+is_constraint _ = false

@@ -108,3 +108,44 @@ pub fn relation_comparison(terminal: Terminal) -> Option<RelationComparison>
         _ => None,
     }
 }
+
+/// Whether the token stands between two relations.
+pub fn is_infix(terminal: Terminal) -> bool
+    ensures { result ≡ choices.is_infix terminal }
+{
+    match terminal {
+        Terminal::Union => true,
+        Terminal::Intersect => true,
+        Terminal::Minus => true,
+        Terminal::Join => true,
+        Terminal::Matching => true,
+        Terminal::Not => true,
+        _ => false,
+    }
+}
+
+/// Whether the token stands behind a relation, and what it does with it follows.
+pub fn is_postfix(terminal: Terminal) -> bool
+    ensures { result ≡ choices.is_postfix terminal }
+{
+    match terminal {
+        Terminal::OpenBrace => true,
+        Terminal::Where => true,
+        Terminal::Rename => true,
+        _ => false,
+    }
+}
+
+/// Whether the token begins a constraint.
+pub fn is_constraint(terminal: Terminal) -> bool
+    ensures { result ≡ choices.is_constraint terminal }
+{
+    match terminal {
+        Terminal::Key => true,
+        Terminal::Foreign => true,
+        Terminal::Packed => true,
+        Terminal::When => true,
+        Terminal::Using => true,
+        _ => false,
+    }
+}

@@ -498,7 +498,7 @@ pub fn maybe_portion<'a>(
     alloc: Global,
     cursor: Cursor<'a>,
 ) -> Result<(MaybePortion, Cursor<'a>), AllocError>
-    ensures { Builds MaybePortion read_maybe_portion (left cursor.entry) result }
+    ensures { Builds MaybePortionForm read_maybe_portion (left cursor.entry) result }
 {
     let Terminal::Portion = cursor.terminal() else {
         return Ok((MaybePortion::None, cursor));

@@ -2,6 +2,7 @@ use Rattle.std.proofs.Common.{◌∷◌, refl, sym, ◌∙◌, ap, arith}
 use Rattle.utd_syntax.specs.declared.terminal.Terminal.TheVariants as t
 use Rattle.utd_syntax.specs.Table.{TheAggregateForm}
 use Rattle.utd_builder.specs.Building.{left}
+use Rattle.utd_builder.specs.Choices.{aggregate_word_at}
 use Rattle.utd_builder.proofs.Steps.{at, no-more, just}
 use Rattle.utd_builder.proofs.PartRows.{step-EmptyParens, aggregate-of}
 use Rattle.utd_builder.proofs.ScalarRows.{step-InParens}
