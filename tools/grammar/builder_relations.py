@@ -35,17 +35,17 @@ let mut left = Terms::One(first);
     next = after;
 }
 Ok((left, next))''')
-inv('abbrev pub invariant-terms-loop-chain : goal.invariant-terms-loop-chain\ninvariant-terms-loop-chain l = Path TheTerms MoreInfix (λ f. f (read_terms l.left)) (left l.fn.cursor) (left l.next) × (length (left l.next) ≤ length (left l.fn.cursor))')
-inv('abbrev pub decreases-terms-loop-chain : goal.decreases-terms-loop-chain\ndecreases-terms-loop-chain l = length (left l.next)')
-N = '(left c.loop-chain.next)'
+inv('abbrev pub invariant-terms-chain : goal.invariant-terms-chain\ninvariant-terms-chain l = Path TheTerms MoreInfix (λ f. f (read_terms l.left)) (left l.fn.cursor) (left l.next) × (length (left l.next) ≤ length (left l.fn.cursor))')
+inv('abbrev pub decreases-terms-chain : goal.decreases-terms-chain\ndecreases-terms-chain l = length (left l.next)')
+N = '(left c.chain.next)'
 ans('terms-term-requires', '(omega arith, tt)')
-ans('terms-loop-chain-init', f"((λ stack k x h. {Chain('TheTerms').to('terms','term').part('first').term()}), c.in_ok-first.ensures.shorter)")
-is_true = '(ap is_infix (sym c.terminal.ensures) ∙ sym c.is_infix.ensures ∙ c.if-is_infix.true)'
-is_false = '(ap is_infix (sym c.terminal.ensures) ∙ sym c.is_infix.ensures ∙ c.if-is_infix.false)'
-ans('terms-joined-requires', f'(omega (arith, c.loop-chain.invariant.1), {is_true})')
-ans('terms-loop-chain-smaller', 'omega (arith, c.in_ok-tree.ensures.shorter)')
-ans('terms-loop-chain-preserved', '((λ stack k x h. c.in_ok-tree.ensures.goes_on stack (λ w. k (w.0, w.1)) x (c.loop-chain.invariant.0 stack k x h)), omega (arith, c.loop-chain.invariant.1, c.in_ok-tree.ensures.shorter))')
-ans('terms-returns', rec('c.loop-chain.invariant.1', f'done-MoreInfix {N} _ _ x {is_false} (c.loop-chain.invariant.0 stack k x h)'))
+ans('terms-chain-init', f"((λ stack k x h. {Chain('TheTerms').to('terms','term').part('first').term()}), c.in_ok-first.ensures.shorter)")
+is_true = '(ap is_infix (sym c.terminal.ensures) ∙ sym c.is_infix.ensures ∙ c.chain-test.true)'
+is_false = '(ap is_infix (sym c.terminal.ensures) ∙ sym c.is_infix.ensures ∙ c.chain-test.false)'
+ans('terms-joined-requires', f'(omega (arith, c.chain.invariant.1), {is_true})')
+ans('terms-chain-smaller', 'omega (arith, c.in_ok-tree.ensures.shorter)')
+ans('terms-chain-preserved', '((λ stack k x h. c.in_ok-tree.ensures.goes_on stack (λ w. k (w.0, w.1)) x (c.chain.invariant.0 stack k x h)), omega (arith, c.chain.invariant.1, c.in_ok-tree.ensures.shorter))')
+ans('terms-returns', rec('c.chain.invariant.1', f'done-MoreInfix {N} _ _ x {is_false} (c.chain.invariant.0 stack k x h)'))
 fun('joined','Terms',None,None,'''
 let place = cursor.place();
 match infix_word(cursor.terminal()) {
@@ -84,14 +84,14 @@ let mut left = Term::One(first);
     next = after;
 }
 Ok((left, next))''')
-inv('abbrev pub invariant-term-loop-chain : goal.invariant-term-loop-chain\ninvariant-term-loop-chain l = Path TheTerm MorePostfix (λ f. f (read_term l.left)) (left l.fn.cursor) (left l.next) × (length (left l.next) ≤ length (left l.fn.cursor))')
-inv('abbrev pub decreases-term-loop-chain : goal.decreases-term-loop-chain\ndecreases-term-loop-chain l = length (left l.next)')
+inv('abbrev pub invariant-term-chain : goal.invariant-term-chain\ninvariant-term-chain l = Path TheTerm MorePostfix (λ f. f (read_term l.left)) (left l.fn.cursor) (left l.next) × (length (left l.next) ≤ length (left l.fn.cursor))')
+inv('abbrev pub decreases-term-chain : goal.decreases-term-chain\ndecreases-term-chain l = length (left l.next)')
 ans('term-rel_primary-requires', '(omega arith, tt)')
-ans('term-loop-chain-init', f"((λ stack k x h. {Chain('TheTerm').to('term','rel_primary').part('first').term()}), c.in_ok-first.ensures.shorter)")
+ans('term-chain-init', f"((λ stack k x h. {Chain('TheTerm').to('term','rel_primary').part('first').term()}), c.in_ok-first.ensures.shorter)")
 ans('term-postfixed-requires', is_true.replace('is_infix','is_postfix'))
-ans('term-loop-chain-smaller', 'omega (arith, c.in_ok-tree.ensures.shorter)')
-ans('term-loop-chain-preserved', '((λ stack k x h. c.in_ok-tree.ensures.goes_on stack (λ w. k (w.0, w.1)) x (c.loop-chain.invariant.0 stack k x h)), omega (arith, c.loop-chain.invariant.1, c.in_ok-tree.ensures.shorter))')
-ans('term-returns', rec('c.loop-chain.invariant.1', f'done-MorePostfix {N} _ _ x {is_false.replace("is_infix","is_postfix")} (c.loop-chain.invariant.0 stack k x h)'))
+ans('term-chain-smaller', 'omega (arith, c.in_ok-tree.ensures.shorter)')
+ans('term-chain-preserved', '((λ stack k x h. c.in_ok-tree.ensures.goes_on stack (λ w. k (w.0, w.1)) x (c.chain.invariant.0 stack k x h)), omega (arith, c.chain.invariant.1, c.in_ok-tree.ensures.shorter))')
+ans('term-returns', rec('c.chain.invariant.1', f'done-MorePostfix {N} _ _ x {is_false.replace("is_infix","is_postfix")} (c.chain.invariant.0 stack k x h)'))
 fun('postfixed','Term',None,None,'''
 let inner = Box::new(alloc, so_far)?;
 let place = cursor.place();

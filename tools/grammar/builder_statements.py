@@ -90,7 +90,7 @@ code(f'''
 {{
     let mut list = Vec::new(alloc);
     let mut next = cursor;
-    'list: while is_constraint(next.terminal()) {{
+    'rules: while is_constraint(next.terminal()) {{
         let (item, after) = constraint(alloc, next)?;
         list.push(item)?;
         next = after;
@@ -98,26 +98,26 @@ code(f'''
     Ok((Constraints {{ list }}, next))
 }}''')
 L = 'read_constraint_list'; VT = '(Val MoreConstraints)'
-invariants('constraints', f'''abbrev pub invariant-loop-list : goal.invariant-loop-list
-invariant-loop-list l = Onwards MoreConstraints {VT} (λ v. v) (λ v. {L} l.list.items ++ v) (left l.fn.cursor) (left l.next) × (length (left l.next) ≤ length (left l.fn.cursor))
+invariants('constraints', f'''abbrev pub invariant-rules : goal.invariant-rules
+invariant-rules l = Onwards MoreConstraints {VT} (λ v. v) (λ v. {L} l.list.items ++ v) (left l.fn.cursor) (left l.next) × (length (left l.next) ≤ length (left l.fn.cursor))
 
-abbrev pub decreases-loop-list : goal.decreases-loop-list
-decreases-loop-list l = length (left l.next)''')
-N = '(left c.loop-list.next)'; xs = 'c.loop-list.list.items'; it = 'c.in_ok-item.item'
-is_t = '(ap is_constraint (sym c.terminal.ensures) ∙ sym c.is_constraint.ensures ∙ c.if-is_constraint.true)'
-is_f = '(ap is_constraint (sym c.terminal.ensures) ∙ sym c.is_constraint.ensures ∙ c.if-is_constraint.false)'
+abbrev pub decreases-rules : goal.decreases-rules
+decreases-rules l = length (left l.next)''')
+N = '(left c.rules.next)'; xs = 'c.rules.list.items'; it = 'c.in_ok-item.item'
+is_t = '(ap is_constraint (sym c.terminal.ensures) ∙ sym c.is_constraint.ensures ∙ c.rules-test.true)'
+is_f = '(ap is_constraint (sym c.terminal.ensures) ∙ sym c.is_constraint.ensures ∙ c.rules-test.false)'
 K = f'(λ vs. k ({L} {xs} ++ vs.0, vs.1))'
-ch = Chain('MoreConstraints', cur=N, h='(c.loop-list.invariant.0 stack k x h)')
-ch.push(f'(sym (constraints-as-constraint {N} stack {K} (starts-constraint (first {N}) {is_t})) ∙ c.loop-list.invariant.0 stack k x h)')
+ch = Chain('MoreConstraints', cur=N, h='(c.rules.invariant.0 stack k x h)')
+ch.push(f'(sym (constraints-as-constraint {N} stack {K} (starts-constraint (first {N}) {is_t})) ∙ c.rules.invariant.0 stack k x h)')
 ch.part('item','after','ensures.built')
 ch.push(f'relist MoreConstraints {VT} (left c.in_ok-item.after) stack (λ v. {L} {xs} ++ (read_constraint {it} ∷ v)) (λ v. {L} ({xs} ++ {it} ∷ []) ++ v) k x (push-constraints {xs} {it}) {ch.h}')
 sh = f'c.in_ok-item.ensures.shorter {is_t}'
-leaf('constraints', ('loop-list-init', f'((λ stack k x h. none-yet MoreConstraints {CUR} stack (λ v. {L} c.new-list.result.items ++ v) (λ vs. k (vs.0, vs.1)) x (λ v. ap (λ xs. {L} xs ++ v) (sym c.new-list.ensures.items)) h), omega arith)'),
- ('loop-list-smaller', om(sh)), ('loop-list-preserved', f'rw c.in_ok-push.ensures.items ((λ stack k x h. {ch.term()}), {om("c.loop-list.invariant.1", sh)})'),
- ('returns', rec('c.loop-list.invariant.1', f'ap (λ z. read {N} stack (λ v. k (z, v))) (sym (append-nil ({L} {xs}))) ∙ done-MoreConstraints {N} stack {K} x {is_f} (c.loop-list.invariant.0 stack (λ w. k (w.0, w.1)) x h)')))
+leaf('constraints', ('rules-init', f'((λ stack k x h. none-yet MoreConstraints {CUR} stack (λ v. {L} c.new-list.result.items ++ v) (λ vs. k (vs.0, vs.1)) x (λ v. ap (λ xs. {L} xs ++ v) (sym c.new-list.ensures.items)) h), omega arith)'),
+ ('rules-smaller', om(sh)), ('rules-preserved', f'rw c.in_ok-push.ensures.items ((λ stack k x h. {ch.term()}), {om("c.rules.invariant.1", sh)})'),
+ ('returns', rec('c.rules.invariant.1', f'ap (λ z. read {N} stack (λ v. k (z, v))) (sym (append-nil ({L} {xs}))) ∙ done-MoreConstraints {N} stack {K} x {is_f} (c.rules.invariant.0 stack (λ w. k (w.0, w.1)) x h)')))
 # from here on the first clause of a constraint has a name
 G['code'][-2] = G['code'][-2].replace('    ensures { Builds TheConstraint', '    ensures built { Builds TheConstraint')
-p_ = f'{G["root"]}/proofs/statements/constraint/Answers.antt'; t_ = open(p_).read(); open(p_, 'w').write(re.sub(r'-clause(?=[ :])(?!-)', '-clause-built', t_))
+p_ = f'{G["root"]}/proofs/statements/constraint/Answers.antt'; t_ = open(p_).read(); open(p_, 'w').write(re.sub(r'-clause(?=[ :\n])(?!-)', '-clause-built', t_))
 fun('var_form','VarForm','TheVarForm','read_var_form','''
 let place = cursor.place();
 let behind = cursor.skip();

@@ -99,81 +99,81 @@ kind-to-point [] stack k s n0 n1 n2 h = differs h
 kind-to-point (x ∷ ts) stack k s n0 n1 n2 h = sym (kind-as-point (x ∷ ts) stack k (starts-kind-point x.terminal (first ts) x.place x.bytes (read ts) stack k s n0 n1 n2 h)) ∙ h
 
 is-TheAttribute : (x n : Terminal) (p : Place) (b : List ℕ) (next : (st : List Symbol) → Go st → Option StatementP) (stack : List Symbol) (k : Go (TheAttribute ∷ stack)) (s : StatementP) → read_at x n p b next (TheAttribute ∷ stack) k ≡ Some s → x ≡ t.Name
-is-TheAttribute t.Name n p b next stack k s  h = refl
-is-TheAttribute _ n p b next stack k s  h = differs h
+is-TheAttribute t.Name n p b next stack k s h = refl
+is-TheAttribute _ n p b next stack k s h = differs h
 
 must-TheAttribute : (ts : List Piece) (stack : List Symbol) (k : Go (TheAttribute ∷ stack)) (s : StatementP) → read ts (TheAttribute ∷ stack) k ≡ Some s → first ts ≡ t.Name
-must-TheAttribute [] stack k s  h = differs h
-must-TheAttribute (x ∷ ts) stack k s  h = is-TheAttribute x.terminal (first ts) x.place x.bytes (read ts) stack k s  h
+must-TheAttribute [] stack k s h = differs h
+must-TheAttribute (x ∷ ts) stack k s h = is-TheAttribute x.terminal (first ts) x.place x.bytes (read ts) stack k s h
 
 pub step-TheAttribute : (p : Place) (b : List ℕ) (old new : List Piece) (stack : List Symbol) (k : Go (TheAttribute ∷ stack)) (s : StatementP) → p ≡ place_of old → b ≡ bytes_of old → new ≡ behind old → read old (TheAttribute ∷ stack) k ≡ Some s → read_at t.Name (first new) p b (read new) (TheAttribute ∷ stack) k ≡ Some s
-step-TheAttribute p b old new stack k s  hp hb hn h = at t.Name p b old new (TheAttribute ∷ stack) k s (must-TheAttribute old stack k s  h) refl hp hb hn h
+step-TheAttribute p b old new stack k s hp hb hn h = at t.Name p b old new (TheAttribute ∷ stack) k s (must-TheAttribute old stack k s h) refl hp hb hn h
 
 is-TheElement : (x n : Terminal) (p : Place) (b : List ℕ) (next : (st : List Symbol) → Go st → Option StatementP) (stack : List Symbol) (k : Go (TheElement ∷ stack)) (s : StatementP) → read_at x n p b next (TheElement ∷ stack) k ≡ Some s → x ≡ t.Name
-is-TheElement t.Name n p b next stack k s  h = refl
-is-TheElement _ n p b next stack k s  h = differs h
+is-TheElement t.Name n p b next stack k s h = refl
+is-TheElement _ n p b next stack k s h = differs h
 
 must-TheElement : (ts : List Piece) (stack : List Symbol) (k : Go (TheElement ∷ stack)) (s : StatementP) → read ts (TheElement ∷ stack) k ≡ Some s → first ts ≡ t.Name
-must-TheElement [] stack k s  h = differs h
-must-TheElement (x ∷ ts) stack k s  h = is-TheElement x.terminal (first ts) x.place x.bytes (read ts) stack k s  h
+must-TheElement [] stack k s h = differs h
+must-TheElement (x ∷ ts) stack k s h = is-TheElement x.terminal (first ts) x.place x.bytes (read ts) stack k s h
 
 pub step-TheElement : (p : Place) (b : List ℕ) (old new : List Piece) (stack : List Symbol) (k : Go (TheElement ∷ stack)) (s : StatementP) → p ≡ place_of old → b ≡ bytes_of old → new ≡ behind old → read old (TheElement ∷ stack) k ≡ Some s → read_at t.Name (first new) p b (read new) (TheElement ∷ stack) k ≡ Some s
-step-TheElement p b old new stack k s  hp hb hn h = at t.Name p b old new (TheElement ∷ stack) k s (must-TheElement old stack k s  h) refl hp hb hn h
+step-TheElement p b old new stack k s hp hb hn h = at t.Name p b old new (TheElement ∷ stack) k s (must-TheElement old stack k s h) refl hp hb hn h
 
 is-TheTuple : (x n : Terminal) (p : Place) (b : List ℕ) (next : (st : List Symbol) → Go st → Option StatementP) (stack : List Symbol) (k : Go (TheTuple ∷ stack)) (s : StatementP) → read_at x n p b next (TheTuple ∷ stack) k ≡ Some s → x ≡ t.Tuple
-is-TheTuple t.Tuple n p b next stack k s  h = refl
-is-TheTuple _ n p b next stack k s  h = differs h
+is-TheTuple t.Tuple n p b next stack k s h = refl
+is-TheTuple _ n p b next stack k s h = differs h
 
 must-TheTuple : (ts : List Piece) (stack : List Symbol) (k : Go (TheTuple ∷ stack)) (s : StatementP) → read ts (TheTuple ∷ stack) k ≡ Some s → first ts ≡ t.Tuple
-must-TheTuple [] stack k s  h = differs h
-must-TheTuple (x ∷ ts) stack k s  h = is-TheTuple x.terminal (first ts) x.place x.bytes (read ts) stack k s  h
+must-TheTuple [] stack k s h = differs h
+must-TheTuple (x ∷ ts) stack k s h = is-TheTuple x.terminal (first ts) x.place x.bytes (read ts) stack k s h
 
 pub step-TheTuple : (p : Place) (b : List ℕ) (old new : List Piece) (stack : List Symbol) (k : Go (TheTuple ∷ stack)) (s : StatementP) → p ≡ place_of old → b ≡ bytes_of old → new ≡ behind old → read old (TheTuple ∷ stack) k ≡ Some s → read_at t.Tuple (first new) p b (read new) (TheTuple ∷ stack) k ≡ Some s
-step-TheTuple p b old new stack k s  hp hb hn h = at t.Tuple p b old new (TheTuple ∷ stack) k s (must-TheTuple old stack k s  h) refl hp hb hn h
+step-TheTuple p b old new stack k s hp hb hn h = at t.Tuple p b old new (TheTuple ∷ stack) k s (must-TheTuple old stack k s h) refl hp hb hn h
 
 is-TheSetItem : (x n : Terminal) (p : Place) (b : List ℕ) (next : (st : List Symbol) → Go st → Option StatementP) (stack : List Symbol) (k : Go (TheSetItem ∷ stack)) (s : StatementP) → read_at x n p b next (TheSetItem ∷ stack) k ≡ Some s → x ≡ t.Name
-is-TheSetItem t.Name n p b next stack k s  h = refl
-is-TheSetItem _ n p b next stack k s  h = differs h
+is-TheSetItem t.Name n p b next stack k s h = refl
+is-TheSetItem _ n p b next stack k s h = differs h
 
 must-TheSetItem : (ts : List Piece) (stack : List Symbol) (k : Go (TheSetItem ∷ stack)) (s : StatementP) → read ts (TheSetItem ∷ stack) k ≡ Some s → first ts ≡ t.Name
-must-TheSetItem [] stack k s  h = differs h
-must-TheSetItem (x ∷ ts) stack k s  h = is-TheSetItem x.terminal (first ts) x.place x.bytes (read ts) stack k s  h
+must-TheSetItem [] stack k s h = differs h
+must-TheSetItem (x ∷ ts) stack k s h = is-TheSetItem x.terminal (first ts) x.place x.bytes (read ts) stack k s h
 
 pub step-TheSetItem : (p : Place) (b : List ℕ) (old new : List Piece) (stack : List Symbol) (k : Go (TheSetItem ∷ stack)) (s : StatementP) → p ≡ place_of old → b ≡ bytes_of old → new ≡ behind old → read old (TheSetItem ∷ stack) k ≡ Some s → read_at t.Name (first new) p b (read new) (TheSetItem ∷ stack) k ≡ Some s
-step-TheSetItem p b old new stack k s  hp hb hn h = at t.Name p b old new (TheSetItem ∷ stack) k s (must-TheSetItem old stack k s  h) refl hp hb hn h
+step-TheSetItem p b old new stack k s hp hb hn h = at t.Name p b old new (TheSetItem ∷ stack) k s (must-TheSetItem old stack k s h) refl hp hb hn h
 
 is-TheAggregate : (x n : Terminal) (p : Place) (b : List ℕ) (next : (st : List Symbol) → Go st → Option StatementP) (stack : List Symbol) (k : Go (TheAggregate ∷ stack)) (s : StatementP) → read_at x n p b next (TheAggregate ∷ stack) k ≡ Some s → x ≡ t.Name
-is-TheAggregate t.Name n p b next stack k s  h = refl
-is-TheAggregate _ n p b next stack k s  h = differs h
+is-TheAggregate t.Name n p b next stack k s h = refl
+is-TheAggregate _ n p b next stack k s h = differs h
 
 must-TheAggregate : (ts : List Piece) (stack : List Symbol) (k : Go (TheAggregate ∷ stack)) (s : StatementP) → read ts (TheAggregate ∷ stack) k ≡ Some s → first ts ≡ t.Name
-must-TheAggregate [] stack k s  h = differs h
-must-TheAggregate (x ∷ ts) stack k s  h = is-TheAggregate x.terminal (first ts) x.place x.bytes (read ts) stack k s  h
+must-TheAggregate [] stack k s h = differs h
+must-TheAggregate (x ∷ ts) stack k s h = is-TheAggregate x.terminal (first ts) x.place x.bytes (read ts) stack k s h
 
 pub step-TheAggregate : (p : Place) (b : List ℕ) (old new : List Piece) (stack : List Symbol) (k : Go (TheAggregate ∷ stack)) (s : StatementP) → p ≡ place_of old → b ≡ bytes_of old → new ≡ behind old → read old (TheAggregate ∷ stack) k ≡ Some s → read_at t.Name (first new) p b (read new) (TheAggregate ∷ stack) k ≡ Some s
-step-TheAggregate p b old new stack k s  hp hb hn h = at t.Name p b old new (TheAggregate ∷ stack) k s (must-TheAggregate old stack k s  h) refl hp hb hn h
+step-TheAggregate p b old new stack k s hp hb hn h = at t.Name p b old new (TheAggregate ∷ stack) k s (must-TheAggregate old stack k s h) refl hp hb hn h
 
 is-TheRenaming : (x n : Terminal) (p : Place) (b : List ℕ) (next : (st : List Symbol) → Go st → Option StatementP) (stack : List Symbol) (k : Go (TheRenaming ∷ stack)) (s : StatementP) → read_at x n p b next (TheRenaming ∷ stack) k ≡ Some s → x ≡ t.Name
-is-TheRenaming t.Name n p b next stack k s  h = refl
-is-TheRenaming _ n p b next stack k s  h = differs h
+is-TheRenaming t.Name n p b next stack k s h = refl
+is-TheRenaming _ n p b next stack k s h = differs h
 
 must-TheRenaming : (ts : List Piece) (stack : List Symbol) (k : Go (TheRenaming ∷ stack)) (s : StatementP) → read ts (TheRenaming ∷ stack) k ≡ Some s → first ts ≡ t.Name
-must-TheRenaming [] stack k s  h = differs h
-must-TheRenaming (x ∷ ts) stack k s  h = is-TheRenaming x.terminal (first ts) x.place x.bytes (read ts) stack k s  h
+must-TheRenaming [] stack k s h = differs h
+must-TheRenaming (x ∷ ts) stack k s h = is-TheRenaming x.terminal (first ts) x.place x.bytes (read ts) stack k s h
 
 pub step-TheRenaming : (p : Place) (b : List ℕ) (old new : List Piece) (stack : List Symbol) (k : Go (TheRenaming ∷ stack)) (s : StatementP) → p ≡ place_of old → b ≡ bytes_of old → new ≡ behind old → read old (TheRenaming ∷ stack) k ≡ Some s → read_at t.Name (first new) p b (read new) (TheRenaming ∷ stack) k ≡ Some s
-step-TheRenaming p b old new stack k s  hp hb hn h = at t.Name p b old new (TheRenaming ∷ stack) k s (must-TheRenaming old stack k s  h) refl hp hb hn h
+step-TheRenaming p b old new stack k s hp hb hn h = at t.Name p b old new (TheRenaming ∷ stack) k s (must-TheRenaming old stack k s h) refl hp hb hn h
 
 is-EmptyParens : (x n : Terminal) (p : Place) (b : List ℕ) (next : (st : List Symbol) → Go st → Option StatementP) (stack : List Symbol) (k : Go (EmptyParens ∷ stack)) (s : StatementP) → read_at x n p b next (EmptyParens ∷ stack) k ≡ Some s → x ≡ t.Open
-is-EmptyParens t.Open n p b next stack k s  h = refl
-is-EmptyParens _ n p b next stack k s  h = differs h
+is-EmptyParens t.Open n p b next stack k s h = refl
+is-EmptyParens _ n p b next stack k s h = differs h
 
 must-EmptyParens : (ts : List Piece) (stack : List Symbol) (k : Go (EmptyParens ∷ stack)) (s : StatementP) → read ts (EmptyParens ∷ stack) k ≡ Some s → first ts ≡ t.Open
-must-EmptyParens [] stack k s  h = differs h
-must-EmptyParens (x ∷ ts) stack k s  h = is-EmptyParens x.terminal (first ts) x.place x.bytes (read ts) stack k s  h
+must-EmptyParens [] stack k s h = differs h
+must-EmptyParens (x ∷ ts) stack k s h = is-EmptyParens x.terminal (first ts) x.place x.bytes (read ts) stack k s h
 
 pub step-EmptyParens : (p : Place) (b : List ℕ) (old new : List Piece) (stack : List Symbol) (k : Go (EmptyParens ∷ stack)) (s : StatementP) → p ≡ place_of old → b ≡ bytes_of old → new ≡ behind old → read old (EmptyParens ∷ stack) k ≡ Some s → read_at t.Open (first new) p b (read new) (EmptyParens ∷ stack) k ≡ Some s
-step-EmptyParens p b old new stack k s  hp hb hn h = at t.Open p b old new (EmptyParens ∷ stack) k s (must-EmptyParens old stack k s  h) refl hp hb hn h
+step-EmptyParens p b old new stack k s hp hb hn h = at t.Open p b old new (EmptyParens ∷ stack) k s (must-EmptyParens old stack k s h) refl hp hb hn h
 
 is-InHeading : (x n : Terminal) (p : Place) (b : List ℕ) (next : (st : List Symbol) → Go st → Option StatementP) (stack : List Symbol) (k : Go (InHeading ∷ stack)) (s : StatementP) → (x ≡ t.Name → ⊥) → read_at x n p b next (InHeading ∷ stack) k ≡ Some s → x ≡ t.CloseBrace
 is-InHeading t.CloseBrace n p b next stack k s n0 h = refl
@@ -236,158 +236,158 @@ pub step-InTuples : (p : Place) (b : List ℕ) (old new : List Piece) (stack : L
 step-InTuples p b old new stack k s n0 hp hb hn h = at t.CloseBrace p b old new (InTuples ∷ stack) k s (must-InTuples old stack k s n0 h) refl hp hb hn h
 
 is-TheHeading : (x n : Terminal) (p : Place) (b : List ℕ) (next : (st : List Symbol) → Go st → Option StatementP) (stack : List Symbol) (k : Go (TheHeading ∷ stack)) (s : StatementP) → read_at x n p b next (TheHeading ∷ stack) k ≡ Some s → x ≡ t.OpenBrace
-is-TheHeading t.OpenBrace n p b next stack k s  h = refl
-is-TheHeading _ n p b next stack k s  h = differs h
+is-TheHeading t.OpenBrace n p b next stack k s h = refl
+is-TheHeading _ n p b next stack k s h = differs h
 
 must-TheHeading : (ts : List Piece) (stack : List Symbol) (k : Go (TheHeading ∷ stack)) (s : StatementP) → read ts (TheHeading ∷ stack) k ≡ Some s → first ts ≡ t.OpenBrace
-must-TheHeading [] stack k s  h = differs h
-must-TheHeading (x ∷ ts) stack k s  h = is-TheHeading x.terminal (first ts) x.place x.bytes (read ts) stack k s  h
+must-TheHeading [] stack k s h = differs h
+must-TheHeading (x ∷ ts) stack k s h = is-TheHeading x.terminal (first ts) x.place x.bytes (read ts) stack k s h
 
 pub step-TheHeading : (p : Place) (b : List ℕ) (old new : List Piece) (stack : List Symbol) (k : Go (TheHeading ∷ stack)) (s : StatementP) → p ≡ place_of old → b ≡ bytes_of old → new ≡ behind old → read old (TheHeading ∷ stack) k ≡ Some s → read_at t.OpenBrace (first new) p b (read new) (TheHeading ∷ stack) k ≡ Some s
-step-TheHeading p b old new stack k s  hp hb hn h = at t.OpenBrace p b old new (TheHeading ∷ stack) k s (must-TheHeading old stack k s  h) refl hp hb hn h
+step-TheHeading p b old new stack k s hp hb hn h = at t.OpenBrace p b old new (TheHeading ∷ stack) k s (must-TheHeading old stack k s h) refl hp hb hn h
 
 is-TheNames : (x n : Terminal) (p : Place) (b : List ℕ) (next : (st : List Symbol) → Go st → Option StatementP) (stack : List Symbol) (k : Go (TheNames ∷ stack)) (s : StatementP) → read_at x n p b next (TheNames ∷ stack) k ≡ Some s → x ≡ t.OpenBrace
-is-TheNames t.OpenBrace n p b next stack k s  h = refl
-is-TheNames _ n p b next stack k s  h = differs h
+is-TheNames t.OpenBrace n p b next stack k s h = refl
+is-TheNames _ n p b next stack k s h = differs h
 
 must-TheNames : (ts : List Piece) (stack : List Symbol) (k : Go (TheNames ∷ stack)) (s : StatementP) → read ts (TheNames ∷ stack) k ≡ Some s → first ts ≡ t.OpenBrace
-must-TheNames [] stack k s  h = differs h
-must-TheNames (x ∷ ts) stack k s  h = is-TheNames x.terminal (first ts) x.place x.bytes (read ts) stack k s  h
+must-TheNames [] stack k s h = differs h
+must-TheNames (x ∷ ts) stack k s h = is-TheNames x.terminal (first ts) x.place x.bytes (read ts) stack k s h
 
 pub step-TheNames : (p : Place) (b : List ℕ) (old new : List Piece) (stack : List Symbol) (k : Go (TheNames ∷ stack)) (s : StatementP) → p ≡ place_of old → b ≡ bytes_of old → new ≡ behind old → read old (TheNames ∷ stack) k ≡ Some s → read_at t.OpenBrace (first new) p b (read new) (TheNames ∷ stack) k ≡ Some s
-step-TheNames p b old new stack k s  hp hb hn h = at t.OpenBrace p b old new (TheNames ∷ stack) k s (must-TheNames old stack k s  h) refl hp hb hn h
+step-TheNames p b old new stack k s hp hb hn h = at t.OpenBrace p b old new (TheNames ∷ stack) k s (must-TheNames old stack k s h) refl hp hb hn h
 
 is-TheList : (x n : Terminal) (p : Place) (b : List ℕ) (next : (st : List Symbol) → Go st → Option StatementP) (stack : List Symbol) (k : Go (TheList ∷ stack)) (s : StatementP) → read_at x n p b next (TheList ∷ stack) k ≡ Some s → x ≡ t.Open
-is-TheList t.Open n p b next stack k s  h = refl
-is-TheList _ n p b next stack k s  h = differs h
+is-TheList t.Open n p b next stack k s h = refl
+is-TheList _ n p b next stack k s h = differs h
 
 must-TheList : (ts : List Piece) (stack : List Symbol) (k : Go (TheList ∷ stack)) (s : StatementP) → read ts (TheList ∷ stack) k ≡ Some s → first ts ≡ t.Open
-must-TheList [] stack k s  h = differs h
-must-TheList (x ∷ ts) stack k s  h = is-TheList x.terminal (first ts) x.place x.bytes (read ts) stack k s  h
+must-TheList [] stack k s h = differs h
+must-TheList (x ∷ ts) stack k s h = is-TheList x.terminal (first ts) x.place x.bytes (read ts) stack k s h
 
 pub step-TheList : (p : Place) (b : List ℕ) (old new : List Piece) (stack : List Symbol) (k : Go (TheList ∷ stack)) (s : StatementP) → p ≡ place_of old → b ≡ bytes_of old → new ≡ behind old → read old (TheList ∷ stack) k ≡ Some s → read_at t.Open (first new) p b (read new) (TheList ∷ stack) k ≡ Some s
-step-TheList p b old new stack k s  hp hb hn h = at t.Open p b old new (TheList ∷ stack) k s (must-TheList old stack k s  h) refl hp hb hn h
+step-TheList p b old new stack k s hp hb hn h = at t.Open p b old new (TheList ∷ stack) k s (must-TheList old stack k s h) refl hp hb hn h
 
 is-TheElements : (x n : Terminal) (p : Place) (b : List ℕ) (next : (st : List Symbol) → Go st → Option StatementP) (stack : List Symbol) (k : Go (TheElements ∷ stack)) (s : StatementP) → read_at x n p b next (TheElements ∷ stack) k ≡ Some s → x ≡ t.OpenBrace
-is-TheElements t.OpenBrace n p b next stack k s  h = refl
-is-TheElements _ n p b next stack k s  h = differs h
+is-TheElements t.OpenBrace n p b next stack k s h = refl
+is-TheElements _ n p b next stack k s h = differs h
 
 must-TheElements : (ts : List Piece) (stack : List Symbol) (k : Go (TheElements ∷ stack)) (s : StatementP) → read ts (TheElements ∷ stack) k ≡ Some s → first ts ≡ t.OpenBrace
-must-TheElements [] stack k s  h = differs h
-must-TheElements (x ∷ ts) stack k s  h = is-TheElements x.terminal (first ts) x.place x.bytes (read ts) stack k s  h
+must-TheElements [] stack k s h = differs h
+must-TheElements (x ∷ ts) stack k s h = is-TheElements x.terminal (first ts) x.place x.bytes (read ts) stack k s h
 
 pub step-TheElements : (p : Place) (b : List ℕ) (old new : List Piece) (stack : List Symbol) (k : Go (TheElements ∷ stack)) (s : StatementP) → p ≡ place_of old → b ≡ bytes_of old → new ≡ behind old → read old (TheElements ∷ stack) k ≡ Some s → read_at t.OpenBrace (first new) p b (read new) (TheElements ∷ stack) k ≡ Some s
-step-TheElements p b old new stack k s  hp hb hn h = at t.OpenBrace p b old new (TheElements ∷ stack) k s (must-TheElements old stack k s  h) refl hp hb hn h
+step-TheElements p b old new stack k s hp hb hn h = at t.OpenBrace p b old new (TheElements ∷ stack) k s (must-TheElements old stack k s h) refl hp hb hn h
 
 is-TheSomeNames : (x n : Terminal) (p : Place) (b : List ℕ) (next : (st : List Symbol) → Go st → Option StatementP) (stack : List Symbol) (k : Go (TheSomeNames ∷ stack)) (s : StatementP) → read_at x n p b next (TheSomeNames ∷ stack) k ≡ Some s → x ≡ t.OpenBrace
-is-TheSomeNames t.OpenBrace n p b next stack k s  h = refl
-is-TheSomeNames _ n p b next stack k s  h = differs h
+is-TheSomeNames t.OpenBrace n p b next stack k s h = refl
+is-TheSomeNames _ n p b next stack k s h = differs h
 
 must-TheSomeNames : (ts : List Piece) (stack : List Symbol) (k : Go (TheSomeNames ∷ stack)) (s : StatementP) → read ts (TheSomeNames ∷ stack) k ≡ Some s → first ts ≡ t.OpenBrace
-must-TheSomeNames [] stack k s  h = differs h
-must-TheSomeNames (x ∷ ts) stack k s  h = is-TheSomeNames x.terminal (first ts) x.place x.bytes (read ts) stack k s  h
+must-TheSomeNames [] stack k s h = differs h
+must-TheSomeNames (x ∷ ts) stack k s h = is-TheSomeNames x.terminal (first ts) x.place x.bytes (read ts) stack k s h
 
 pub step-TheSomeNames : (p : Place) (b : List ℕ) (old new : List Piece) (stack : List Symbol) (k : Go (TheSomeNames ∷ stack)) (s : StatementP) → p ≡ place_of old → b ≡ bytes_of old → new ≡ behind old → read old (TheSomeNames ∷ stack) k ≡ Some s → read_at t.OpenBrace (first new) p b (read new) (TheSomeNames ∷ stack) k ≡ Some s
-step-TheSomeNames p b old new stack k s  hp hb hn h = at t.OpenBrace p b old new (TheSomeNames ∷ stack) k s (must-TheSomeNames old stack k s  h) refl hp hb hn h
+step-TheSomeNames p b old new stack k s hp hb hn h = at t.OpenBrace p b old new (TheSomeNames ∷ stack) k s (must-TheSomeNames old stack k s h) refl hp hb hn h
 
 is-TheSomeElements : (x n : Terminal) (p : Place) (b : List ℕ) (next : (st : List Symbol) → Go st → Option StatementP) (stack : List Symbol) (k : Go (TheSomeElements ∷ stack)) (s : StatementP) → read_at x n p b next (TheSomeElements ∷ stack) k ≡ Some s → x ≡ t.OpenBrace
-is-TheSomeElements t.OpenBrace n p b next stack k s  h = refl
-is-TheSomeElements _ n p b next stack k s  h = differs h
+is-TheSomeElements t.OpenBrace n p b next stack k s h = refl
+is-TheSomeElements _ n p b next stack k s h = differs h
 
 must-TheSomeElements : (ts : List Piece) (stack : List Symbol) (k : Go (TheSomeElements ∷ stack)) (s : StatementP) → read ts (TheSomeElements ∷ stack) k ≡ Some s → first ts ≡ t.OpenBrace
-must-TheSomeElements [] stack k s  h = differs h
-must-TheSomeElements (x ∷ ts) stack k s  h = is-TheSomeElements x.terminal (first ts) x.place x.bytes (read ts) stack k s  h
+must-TheSomeElements [] stack k s h = differs h
+must-TheSomeElements (x ∷ ts) stack k s h = is-TheSomeElements x.terminal (first ts) x.place x.bytes (read ts) stack k s h
 
 pub step-TheSomeElements : (p : Place) (b : List ℕ) (old new : List Piece) (stack : List Symbol) (k : Go (TheSomeElements ∷ stack)) (s : StatementP) → p ≡ place_of old → b ≡ bytes_of old → new ≡ behind old → read old (TheSomeElements ∷ stack) k ≡ Some s → read_at t.OpenBrace (first new) p b (read new) (TheSomeElements ∷ stack) k ≡ Some s
-step-TheSomeElements p b old new stack k s  hp hb hn h = at t.OpenBrace p b old new (TheSomeElements ∷ stack) k s (must-TheSomeElements old stack k s  h) refl hp hb hn h
+step-TheSomeElements p b old new stack k s hp hb hn h = at t.OpenBrace p b old new (TheSomeElements ∷ stack) k s (must-TheSomeElements old stack k s h) refl hp hb hn h
 
 is-TheSets : (x n : Terminal) (p : Place) (b : List ℕ) (next : (st : List Symbol) → Go st → Option StatementP) (stack : List Symbol) (k : Go (TheSets ∷ stack)) (s : StatementP) → read_at x n p b next (TheSets ∷ stack) k ≡ Some s → x ≡ t.OpenBrace
-is-TheSets t.OpenBrace n p b next stack k s  h = refl
-is-TheSets _ n p b next stack k s  h = differs h
+is-TheSets t.OpenBrace n p b next stack k s h = refl
+is-TheSets _ n p b next stack k s h = differs h
 
 must-TheSets : (ts : List Piece) (stack : List Symbol) (k : Go (TheSets ∷ stack)) (s : StatementP) → read ts (TheSets ∷ stack) k ≡ Some s → first ts ≡ t.OpenBrace
-must-TheSets [] stack k s  h = differs h
-must-TheSets (x ∷ ts) stack k s  h = is-TheSets x.terminal (first ts) x.place x.bytes (read ts) stack k s  h
+must-TheSets [] stack k s h = differs h
+must-TheSets (x ∷ ts) stack k s h = is-TheSets x.terminal (first ts) x.place x.bytes (read ts) stack k s h
 
 pub step-TheSets : (p : Place) (b : List ℕ) (old new : List Piece) (stack : List Symbol) (k : Go (TheSets ∷ stack)) (s : StatementP) → p ≡ place_of old → b ≡ bytes_of old → new ≡ behind old → read old (TheSets ∷ stack) k ≡ Some s → read_at t.OpenBrace (first new) p b (read new) (TheSets ∷ stack) k ≡ Some s
-step-TheSets p b old new stack k s  hp hb hn h = at t.OpenBrace p b old new (TheSets ∷ stack) k s (must-TheSets old stack k s  h) refl hp hb hn h
+step-TheSets p b old new stack k s hp hb hn h = at t.OpenBrace p b old new (TheSets ∷ stack) k s (must-TheSets old stack k s h) refl hp hb hn h
 
 is-TheAggregates : (x n : Terminal) (p : Place) (b : List ℕ) (next : (st : List Symbol) → Go st → Option StatementP) (stack : List Symbol) (k : Go (TheAggregates ∷ stack)) (s : StatementP) → read_at x n p b next (TheAggregates ∷ stack) k ≡ Some s → x ≡ t.OpenBrace
-is-TheAggregates t.OpenBrace n p b next stack k s  h = refl
-is-TheAggregates _ n p b next stack k s  h = differs h
+is-TheAggregates t.OpenBrace n p b next stack k s h = refl
+is-TheAggregates _ n p b next stack k s h = differs h
 
 must-TheAggregates : (ts : List Piece) (stack : List Symbol) (k : Go (TheAggregates ∷ stack)) (s : StatementP) → read ts (TheAggregates ∷ stack) k ≡ Some s → first ts ≡ t.OpenBrace
-must-TheAggregates [] stack k s  h = differs h
-must-TheAggregates (x ∷ ts) stack k s  h = is-TheAggregates x.terminal (first ts) x.place x.bytes (read ts) stack k s  h
+must-TheAggregates [] stack k s h = differs h
+must-TheAggregates (x ∷ ts) stack k s h = is-TheAggregates x.terminal (first ts) x.place x.bytes (read ts) stack k s h
 
 pub step-TheAggregates : (p : Place) (b : List ℕ) (old new : List Piece) (stack : List Symbol) (k : Go (TheAggregates ∷ stack)) (s : StatementP) → p ≡ place_of old → b ≡ bytes_of old → new ≡ behind old → read old (TheAggregates ∷ stack) k ≡ Some s → read_at t.OpenBrace (first new) p b (read new) (TheAggregates ∷ stack) k ≡ Some s
-step-TheAggregates p b old new stack k s  hp hb hn h = at t.OpenBrace p b old new (TheAggregates ∷ stack) k s (must-TheAggregates old stack k s  h) refl hp hb hn h
+step-TheAggregates p b old new stack k s hp hb hn h = at t.OpenBrace p b old new (TheAggregates ∷ stack) k s (must-TheAggregates old stack k s h) refl hp hb hn h
 
 is-TheRenamings : (x n : Terminal) (p : Place) (b : List ℕ) (next : (st : List Symbol) → Go st → Option StatementP) (stack : List Symbol) (k : Go (TheRenamings ∷ stack)) (s : StatementP) → read_at x n p b next (TheRenamings ∷ stack) k ≡ Some s → x ≡ t.OpenBrace
-is-TheRenamings t.OpenBrace n p b next stack k s  h = refl
-is-TheRenamings _ n p b next stack k s  h = differs h
+is-TheRenamings t.OpenBrace n p b next stack k s h = refl
+is-TheRenamings _ n p b next stack k s h = differs h
 
 must-TheRenamings : (ts : List Piece) (stack : List Symbol) (k : Go (TheRenamings ∷ stack)) (s : StatementP) → read ts (TheRenamings ∷ stack) k ≡ Some s → first ts ≡ t.OpenBrace
-must-TheRenamings [] stack k s  h = differs h
-must-TheRenamings (x ∷ ts) stack k s  h = is-TheRenamings x.terminal (first ts) x.place x.bytes (read ts) stack k s  h
+must-TheRenamings [] stack k s h = differs h
+must-TheRenamings (x ∷ ts) stack k s h = is-TheRenamings x.terminal (first ts) x.place x.bytes (read ts) stack k s h
 
 pub step-TheRenamings : (p : Place) (b : List ℕ) (old new : List Piece) (stack : List Symbol) (k : Go (TheRenamings ∷ stack)) (s : StatementP) → p ≡ place_of old → b ≡ bytes_of old → new ≡ behind old → read old (TheRenamings ∷ stack) k ≡ Some s → read_at t.OpenBrace (first new) p b (read new) (TheRenamings ∷ stack) k ≡ Some s
-step-TheRenamings p b old new stack k s  hp hb hn h = at t.OpenBrace p b old new (TheRenamings ∷ stack) k s (must-TheRenamings old stack k s  h) refl hp hb hn h
+step-TheRenamings p b old new stack k s hp hb hn h = at t.OpenBrace p b old new (TheRenamings ∷ stack) k s (must-TheRenamings old stack k s h) refl hp hb hn h
 
 is-TheLiteral : (x n : Terminal) (p : Place) (b : List ℕ) (next : (st : List Symbol) → Go st → Option StatementP) (stack : List Symbol) (k : Go (TheLiteral ∷ stack)) (s : StatementP) → read_at x n p b next (TheLiteral ∷ stack) k ≡ Some s → x ≡ t.Relation
-is-TheLiteral t.Relation n p b next stack k s  h = refl
-is-TheLiteral _ n p b next stack k s  h = differs h
+is-TheLiteral t.Relation n p b next stack k s h = refl
+is-TheLiteral _ n p b next stack k s h = differs h
 
 must-TheLiteral : (ts : List Piece) (stack : List Symbol) (k : Go (TheLiteral ∷ stack)) (s : StatementP) → read ts (TheLiteral ∷ stack) k ≡ Some s → first ts ≡ t.Relation
-must-TheLiteral [] stack k s  h = differs h
-must-TheLiteral (x ∷ ts) stack k s  h = is-TheLiteral x.terminal (first ts) x.place x.bytes (read ts) stack k s  h
+must-TheLiteral [] stack k s h = differs h
+must-TheLiteral (x ∷ ts) stack k s h = is-TheLiteral x.terminal (first ts) x.place x.bytes (read ts) stack k s h
 
 pub step-TheLiteral : (p : Place) (b : List ℕ) (old new : List Piece) (stack : List Symbol) (k : Go (TheLiteral ∷ stack)) (s : StatementP) → p ≡ place_of old → b ≡ bytes_of old → new ≡ behind old → read old (TheLiteral ∷ stack) k ≡ Some s → read_at t.Relation (first new) p b (read new) (TheLiteral ∷ stack) k ≡ Some s
-step-TheLiteral p b old new stack k s  hp hb hn h = at t.Relation p b old new (TheLiteral ∷ stack) k s (must-TheLiteral old stack k s  h) refl hp hb hn h
+step-TheLiteral p b old new stack k s hp hb hn h = at t.Relation p b old new (TheLiteral ∷ stack) k s (must-TheLiteral old stack k s h) refl hp hb hn h
 
 is-AfterRelation : (x n : Terminal) (p : Place) (b : List ℕ) (next : (st : List Symbol) → Go st → Option StatementP) (stack : List Symbol) (k : Go (AfterRelation ∷ stack)) (s : StatementP) → read_at x n p b next (AfterRelation ∷ stack) k ≡ Some s → x ≡ t.OpenBrace
-is-AfterRelation t.OpenBrace n p b next stack k s  h = refl
-is-AfterRelation _ n p b next stack k s  h = differs h
+is-AfterRelation t.OpenBrace n p b next stack k s h = refl
+is-AfterRelation _ n p b next stack k s h = differs h
 
 must-AfterRelation : (ts : List Piece) (stack : List Symbol) (k : Go (AfterRelation ∷ stack)) (s : StatementP) → read ts (AfterRelation ∷ stack) k ≡ Some s → first ts ≡ t.OpenBrace
-must-AfterRelation [] stack k s  h = differs h
-must-AfterRelation (x ∷ ts) stack k s  h = is-AfterRelation x.terminal (first ts) x.place x.bytes (read ts) stack k s  h
+must-AfterRelation [] stack k s h = differs h
+must-AfterRelation (x ∷ ts) stack k s h = is-AfterRelation x.terminal (first ts) x.place x.bytes (read ts) stack k s h
 
 pub step-AfterRelation : (p : Place) (b : List ℕ) (old new : List Piece) (stack : List Symbol) (k : Go (AfterRelation ∷ stack)) (s : StatementP) → p ≡ place_of old → b ≡ bytes_of old → new ≡ behind old → read old (AfterRelation ∷ stack) k ≡ Some s → read_at t.OpenBrace (first new) p b (read new) (AfterRelation ∷ stack) k ≡ Some s
-step-AfterRelation p b old new stack k s  hp hb hn h = at t.OpenBrace p b old new (AfterRelation ∷ stack) k s (must-AfterRelation old stack k s  h) refl hp hb hn h
+step-AfterRelation p b old new stack k s hp hb hn h = at t.OpenBrace p b old new (AfterRelation ∷ stack) k s (must-AfterRelation old stack k s h) refl hp hb hn h
 
 is-TheTuples : (x n : Terminal) (p : Place) (b : List ℕ) (next : (st : List Symbol) → Go st → Option StatementP) (stack : List Symbol) (k : Go (TheTuples ∷ stack)) (s : StatementP) → read_at x n p b next (TheTuples ∷ stack) k ≡ Some s → x ≡ t.OpenBrace
-is-TheTuples t.OpenBrace n p b next stack k s  h = refl
-is-TheTuples _ n p b next stack k s  h = differs h
+is-TheTuples t.OpenBrace n p b next stack k s h = refl
+is-TheTuples _ n p b next stack k s h = differs h
 
 must-TheTuples : (ts : List Piece) (stack : List Symbol) (k : Go (TheTuples ∷ stack)) (s : StatementP) → read ts (TheTuples ∷ stack) k ≡ Some s → first ts ≡ t.OpenBrace
-must-TheTuples [] stack k s  h = differs h
-must-TheTuples (x ∷ ts) stack k s  h = is-TheTuples x.terminal (first ts) x.place x.bytes (read ts) stack k s  h
+must-TheTuples [] stack k s h = differs h
+must-TheTuples (x ∷ ts) stack k s h = is-TheTuples x.terminal (first ts) x.place x.bytes (read ts) stack k s h
 
 pub step-TheTuples : (p : Place) (b : List ℕ) (old new : List Piece) (stack : List Symbol) (k : Go (TheTuples ∷ stack)) (s : StatementP) → p ≡ place_of old → b ≡ bytes_of old → new ≡ behind old → read old (TheTuples ∷ stack) k ≡ Some s → read_at t.OpenBrace (first new) p b (read new) (TheTuples ∷ stack) k ≡ Some s
-step-TheTuples p b old new stack k s  hp hb hn h = at t.OpenBrace p b old new (TheTuples ∷ stack) k s (must-TheTuples old stack k s  h) refl hp hb hn h
+step-TheTuples p b old new stack k s hp hb hn h = at t.OpenBrace p b old new (TheTuples ∷ stack) k s (must-TheTuples old stack k s h) refl hp hb hn h
 
 is-ThePortion : (x n : Terminal) (p : Place) (b : List ℕ) (next : (st : List Symbol) → Go st → Option StatementP) (stack : List Symbol) (k : Go (ThePortion ∷ stack)) (s : StatementP) → read_at x n p b next (ThePortion ∷ stack) k ≡ Some s → x ≡ t.Portion
-is-ThePortion t.Portion n p b next stack k s  h = refl
-is-ThePortion _ n p b next stack k s  h = differs h
+is-ThePortion t.Portion n p b next stack k s h = refl
+is-ThePortion _ n p b next stack k s h = differs h
 
 must-ThePortion : (ts : List Piece) (stack : List Symbol) (k : Go (ThePortion ∷ stack)) (s : StatementP) → read ts (ThePortion ∷ stack) k ≡ Some s → first ts ≡ t.Portion
-must-ThePortion [] stack k s  h = differs h
-must-ThePortion (x ∷ ts) stack k s  h = is-ThePortion x.terminal (first ts) x.place x.bytes (read ts) stack k s  h
+must-ThePortion [] stack k s h = differs h
+must-ThePortion (x ∷ ts) stack k s h = is-ThePortion x.terminal (first ts) x.place x.bytes (read ts) stack k s h
 
 pub step-ThePortion : (p : Place) (b : List ℕ) (old new : List Piece) (stack : List Symbol) (k : Go (ThePortion ∷ stack)) (s : StatementP) → p ≡ place_of old → b ≡ bytes_of old → new ≡ behind old → read old (ThePortion ∷ stack) k ≡ Some s → read_at t.Portion (first new) p b (read new) (ThePortion ∷ stack) k ≡ Some s
-step-ThePortion p b old new stack k s  hp hb hn h = at t.Portion p b old new (ThePortion ∷ stack) k s (must-ThePortion old stack k s  h) refl hp hb hn h
+step-ThePortion p b old new stack k s hp hb hn h = at t.Portion p b old new (ThePortion ∷ stack) k s (must-ThePortion old stack k s h) refl hp hb hn h
 
 is-TheParenName : (x n : Terminal) (p : Place) (b : List ℕ) (next : (st : List Symbol) → Go st → Option StatementP) (stack : List Symbol) (k : Go (TheParenName ∷ stack)) (s : StatementP) → read_at x n p b next (TheParenName ∷ stack) k ≡ Some s → x ≡ t.Open
-is-TheParenName t.Open n p b next stack k s  h = refl
-is-TheParenName _ n p b next stack k s  h = differs h
+is-TheParenName t.Open n p b next stack k s h = refl
+is-TheParenName _ n p b next stack k s h = differs h
 
 must-TheParenName : (ts : List Piece) (stack : List Symbol) (k : Go (TheParenName ∷ stack)) (s : StatementP) → read ts (TheParenName ∷ stack) k ≡ Some s → first ts ≡ t.Open
-must-TheParenName [] stack k s  h = differs h
-must-TheParenName (x ∷ ts) stack k s  h = is-TheParenName x.terminal (first ts) x.place x.bytes (read ts) stack k s  h
+must-TheParenName [] stack k s h = differs h
+must-TheParenName (x ∷ ts) stack k s h = is-TheParenName x.terminal (first ts) x.place x.bytes (read ts) stack k s h
 
 pub step-TheParenName : (p : Place) (b : List ℕ) (old new : List Piece) (stack : List Symbol) (k : Go (TheParenName ∷ stack)) (s : StatementP) → p ≡ place_of old → b ≡ bytes_of old → new ≡ behind old → read old (TheParenName ∷ stack) k ≡ Some s → read_at t.Open (first new) p b (read new) (TheParenName ∷ stack) k ≡ Some s
-step-TheParenName p b old new stack k s  hp hb hn h = at t.Open p b old new (TheParenName ∷ stack) k s (must-TheParenName old stack k s  h) refl hp hb hn h
+step-TheParenName p b old new stack k s hp hb hn h = at t.Open p b old new (TheParenName ∷ stack) k s (must-TheParenName old stack k s h) refl hp hb hn h
 
 pub push-words : (xs : List WordTree) (x : WordTree) (v : List Word) → read_name_list xs ++ (read_name x ∷ v) ≡ read_name_list (xs ++ x ∷ []) ++ v
 push-words [] x v = refl

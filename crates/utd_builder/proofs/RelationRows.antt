@@ -73,32 +73,32 @@ rel-to-terms [] stack k s n0 h = differs h
 rel-to-terms (x ∷ ts) stack k s n0 h = sym (rel-as-terms (x ∷ ts) stack k (starts-rel-terms x.terminal (first ts) x.place x.bytes (read ts) stack k s n0 h)) ∙ h
 
 starts-terms-term : (x n : Terminal) (p : Place) (b : List ℕ) (next : (st : List Symbol) → Go st → Option StatementP) (stack : List Symbol) (k : Go (TheTerms ∷ stack)) (s : StatementP) → read_at x n p b next (TheTerms ∷ stack) k ≡ Some s → Starts_terms x
-starts-terms-term t.Extend n p b next stack k s  h = tt
-starts-terms-term t.Summarize n p b next stack k s  h = tt
-starts-terms-term t.Name n p b next stack k s  h = tt
-starts-terms-term t.Relation n p b next stack k s  h = tt
-starts-terms-term t.Open n p b next stack k s  h = tt
-starts-terms-term t.Pack n p b next stack k s  h = tt
-starts-terms-term t.Unpack n p b next stack k s  h = tt
-starts-terms-term _ n p b next stack k s  h = differs h
+starts-terms-term t.Extend n p b next stack k s h = tt
+starts-terms-term t.Summarize n p b next stack k s h = tt
+starts-terms-term t.Name n p b next stack k s h = tt
+starts-terms-term t.Relation n p b next stack k s h = tt
+starts-terms-term t.Open n p b next stack k s h = tt
+starts-terms-term t.Pack n p b next stack k s h = tt
+starts-terms-term t.Unpack n p b next stack k s h = tt
+starts-terms-term _ n p b next stack k s h = differs h
 
 pub terms-to-term : (ts : List Piece) (stack : List Symbol) (k : Go (TheTerms ∷ stack)) (s : StatementP) → read ts (TheTerms ∷ stack) k ≡ Some s → read ts (TheTerm ∷ MoreInfix ∷ stack) (λ v. k (v.1.0 (OneTerm v.0), v.1.1)) ≡ Some s
-terms-to-term [] stack k s  h = differs h
-terms-to-term (x ∷ ts) stack k s  h = sym (terms-as-term (x ∷ ts) stack k (starts-terms-term x.terminal (first ts) x.place x.bytes (read ts) stack k s  h)) ∙ h
+terms-to-term [] stack k s h = differs h
+terms-to-term (x ∷ ts) stack k s h = sym (terms-as-term (x ∷ ts) stack k (starts-terms-term x.terminal (first ts) x.place x.bytes (read ts) stack k s h)) ∙ h
 
 starts-term-rel_primary : (x n : Terminal) (p : Place) (b : List ℕ) (next : (st : List Symbol) → Go st → Option StatementP) (stack : List Symbol) (k : Go (TheTerm ∷ stack)) (s : StatementP) → read_at x n p b next (TheTerm ∷ stack) k ≡ Some s → Starts_terms x
-starts-term-rel_primary t.Extend n p b next stack k s  h = tt
-starts-term-rel_primary t.Summarize n p b next stack k s  h = tt
-starts-term-rel_primary t.Name n p b next stack k s  h = tt
-starts-term-rel_primary t.Relation n p b next stack k s  h = tt
-starts-term-rel_primary t.Open n p b next stack k s  h = tt
-starts-term-rel_primary t.Pack n p b next stack k s  h = tt
-starts-term-rel_primary t.Unpack n p b next stack k s  h = tt
-starts-term-rel_primary _ n p b next stack k s  h = differs h
+starts-term-rel_primary t.Extend n p b next stack k s h = tt
+starts-term-rel_primary t.Summarize n p b next stack k s h = tt
+starts-term-rel_primary t.Name n p b next stack k s h = tt
+starts-term-rel_primary t.Relation n p b next stack k s h = tt
+starts-term-rel_primary t.Open n p b next stack k s h = tt
+starts-term-rel_primary t.Pack n p b next stack k s h = tt
+starts-term-rel_primary t.Unpack n p b next stack k s h = tt
+starts-term-rel_primary _ n p b next stack k s h = differs h
 
 pub term-to-rel_primary : (ts : List Piece) (stack : List Symbol) (k : Go (TheTerm ∷ stack)) (s : StatementP) → read ts (TheTerm ∷ stack) k ≡ Some s → read ts (TheRelPrimary ∷ MorePostfix ∷ stack) (λ v. k (v.1.0 (OneRelPrimary v.0), v.1.1)) ≡ Some s
-term-to-rel_primary [] stack k s  h = differs h
-term-to-rel_primary (x ∷ ts) stack k s  h = sym (term-as-rel_primary (x ∷ ts) stack k (starts-term-rel_primary x.terminal (first ts) x.place x.bytes (read ts) stack k s  h)) ∙ h
+term-to-rel_primary [] stack k s h = differs h
+term-to-rel_primary (x ∷ ts) stack k s h = sym (term-as-rel_primary (x ∷ ts) stack k (starts-term-rel_primary x.terminal (first ts) x.place x.bytes (read ts) stack k s h)) ∙ h
 
 starts-rel_primary-operand : (x n : Terminal) (p : Place) (b : List ℕ) (next : (st : List Symbol) → Go st → Option StatementP) (stack : List Symbol) (k : Go (TheRelPrimary ∷ stack)) (s : StatementP) → (x ≡ t.Extend → ⊥) → (x ≡ t.Summarize → ⊥) → read_at x n p b next (TheRelPrimary ∷ stack) k ≡ Some s → Starts_operand x
 starts-rel_primary-operand t.Extend n p b next stack k s n0 n1 h = absurd (n0 refl)

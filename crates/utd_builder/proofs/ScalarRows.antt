@@ -88,62 +88,62 @@ pub done-AfterName : (ts : List Piece) (stack : List Symbol) (k : Go (AfterName 
 done-AfterName ts stack k s n0 h = sym (AfterName-end ts stack k (halts-AfterName (first ts) n0)) ∙ h
 
 starts-scalar-conj : (x n : Terminal) (p : Place) (b : List ℕ) (next : (st : List Symbol) → Go st → Option StatementP) (stack : List Symbol) (k : Go (TheScalar ∷ stack)) (s : StatementP) → read_at x n p b next (TheScalar ∷ stack) k ≡ Some s → Starts_conj x
-starts-scalar-conj t.Not n p b next stack k s  h = tt
-starts-scalar-conj t.Dash n p b next stack k s  h = tt
-starts-scalar-conj t.Digits n p b next stack k s  h = tt
-starts-scalar-conj t.Quoted n p b next stack k s  h = tt
-starts-scalar-conj t.Date n p b next stack k s  h = tt
-starts-scalar-conj t.True n p b next stack k s  h = tt
-starts-scalar-conj t.False n p b next stack k s  h = tt
-starts-scalar-conj t.Name n p b next stack k s  h = tt
-starts-scalar-conj t.Open n p b next stack k s  h = tt
-starts-scalar-conj t.OpenBracket n p b next stack k s  h = tt
-starts-scalar-conj t.First n p b next stack k s  h = tt
-starts-scalar-conj t.Last n p b next stack k s  h = tt
-starts-scalar-conj t.Begin n p b next stack k s  h = tt
-starts-scalar-conj t.End n p b next stack k s  h = tt
-starts-scalar-conj t.Pre n p b next stack k s  h = tt
-starts-scalar-conj t.Post n p b next stack k s  h = tt
-starts-scalar-conj t.Count n p b next stack k s  h = tt
-starts-scalar-conj t.Next n p b next stack k s  h = tt
-starts-scalar-conj t.Prior n p b next stack k s  h = tt
-starts-scalar-conj t.Union n p b next stack k s  h = tt
-starts-scalar-conj t.Intersect n p b next stack k s  h = tt
-starts-scalar-conj t.Minus n p b next stack k s  h = tt
-starts-scalar-conj _ n p b next stack k s  h = differs h
+starts-scalar-conj t.Not n p b next stack k s h = tt
+starts-scalar-conj t.Dash n p b next stack k s h = tt
+starts-scalar-conj t.Digits n p b next stack k s h = tt
+starts-scalar-conj t.Quoted n p b next stack k s h = tt
+starts-scalar-conj t.Date n p b next stack k s h = tt
+starts-scalar-conj t.True n p b next stack k s h = tt
+starts-scalar-conj t.False n p b next stack k s h = tt
+starts-scalar-conj t.Name n p b next stack k s h = tt
+starts-scalar-conj t.Open n p b next stack k s h = tt
+starts-scalar-conj t.OpenBracket n p b next stack k s h = tt
+starts-scalar-conj t.First n p b next stack k s h = tt
+starts-scalar-conj t.Last n p b next stack k s h = tt
+starts-scalar-conj t.Begin n p b next stack k s h = tt
+starts-scalar-conj t.End n p b next stack k s h = tt
+starts-scalar-conj t.Pre n p b next stack k s h = tt
+starts-scalar-conj t.Post n p b next stack k s h = tt
+starts-scalar-conj t.Count n p b next stack k s h = tt
+starts-scalar-conj t.Next n p b next stack k s h = tt
+starts-scalar-conj t.Prior n p b next stack k s h = tt
+starts-scalar-conj t.Union n p b next stack k s h = tt
+starts-scalar-conj t.Intersect n p b next stack k s h = tt
+starts-scalar-conj t.Minus n p b next stack k s h = tt
+starts-scalar-conj _ n p b next stack k s h = differs h
 
 pub scalar-to-conj : (ts : List Piece) (stack : List Symbol) (k : Go (TheScalar ∷ stack)) (s : StatementP) → read ts (TheScalar ∷ stack) k ≡ Some s → read ts (TheConj ∷ MoreOr ∷ stack) (λ v. k (v.1.0 (OneConj v.0), v.1.1)) ≡ Some s
-scalar-to-conj [] stack k s  h = differs h
-scalar-to-conj (x ∷ ts) stack k s  h = sym (scalar-as-conj (x ∷ ts) stack k (starts-scalar-conj x.terminal (first ts) x.place x.bytes (read ts) stack k s  h)) ∙ h
+scalar-to-conj [] stack k s h = differs h
+scalar-to-conj (x ∷ ts) stack k s h = sym (scalar-as-conj (x ∷ ts) stack k (starts-scalar-conj x.terminal (first ts) x.place x.bytes (read ts) stack k s h)) ∙ h
 
 starts-conj-neg : (x n : Terminal) (p : Place) (b : List ℕ) (next : (st : List Symbol) → Go st → Option StatementP) (stack : List Symbol) (k : Go (TheConj ∷ stack)) (s : StatementP) → read_at x n p b next (TheConj ∷ stack) k ≡ Some s → Starts_conj x
-starts-conj-neg t.Not n p b next stack k s  h = tt
-starts-conj-neg t.Dash n p b next stack k s  h = tt
-starts-conj-neg t.Digits n p b next stack k s  h = tt
-starts-conj-neg t.Quoted n p b next stack k s  h = tt
-starts-conj-neg t.Date n p b next stack k s  h = tt
-starts-conj-neg t.True n p b next stack k s  h = tt
-starts-conj-neg t.False n p b next stack k s  h = tt
-starts-conj-neg t.Name n p b next stack k s  h = tt
-starts-conj-neg t.Open n p b next stack k s  h = tt
-starts-conj-neg t.OpenBracket n p b next stack k s  h = tt
-starts-conj-neg t.First n p b next stack k s  h = tt
-starts-conj-neg t.Last n p b next stack k s  h = tt
-starts-conj-neg t.Begin n p b next stack k s  h = tt
-starts-conj-neg t.End n p b next stack k s  h = tt
-starts-conj-neg t.Pre n p b next stack k s  h = tt
-starts-conj-neg t.Post n p b next stack k s  h = tt
-starts-conj-neg t.Count n p b next stack k s  h = tt
-starts-conj-neg t.Next n p b next stack k s  h = tt
-starts-conj-neg t.Prior n p b next stack k s  h = tt
-starts-conj-neg t.Union n p b next stack k s  h = tt
-starts-conj-neg t.Intersect n p b next stack k s  h = tt
-starts-conj-neg t.Minus n p b next stack k s  h = tt
-starts-conj-neg _ n p b next stack k s  h = differs h
+starts-conj-neg t.Not n p b next stack k s h = tt
+starts-conj-neg t.Dash n p b next stack k s h = tt
+starts-conj-neg t.Digits n p b next stack k s h = tt
+starts-conj-neg t.Quoted n p b next stack k s h = tt
+starts-conj-neg t.Date n p b next stack k s h = tt
+starts-conj-neg t.True n p b next stack k s h = tt
+starts-conj-neg t.False n p b next stack k s h = tt
+starts-conj-neg t.Name n p b next stack k s h = tt
+starts-conj-neg t.Open n p b next stack k s h = tt
+starts-conj-neg t.OpenBracket n p b next stack k s h = tt
+starts-conj-neg t.First n p b next stack k s h = tt
+starts-conj-neg t.Last n p b next stack k s h = tt
+starts-conj-neg t.Begin n p b next stack k s h = tt
+starts-conj-neg t.End n p b next stack k s h = tt
+starts-conj-neg t.Pre n p b next stack k s h = tt
+starts-conj-neg t.Post n p b next stack k s h = tt
+starts-conj-neg t.Count n p b next stack k s h = tt
+starts-conj-neg t.Next n p b next stack k s h = tt
+starts-conj-neg t.Prior n p b next stack k s h = tt
+starts-conj-neg t.Union n p b next stack k s h = tt
+starts-conj-neg t.Intersect n p b next stack k s h = tt
+starts-conj-neg t.Minus n p b next stack k s h = tt
+starts-conj-neg _ n p b next stack k s h = differs h
 
 pub conj-to-neg : (ts : List Piece) (stack : List Symbol) (k : Go (TheConj ∷ stack)) (s : StatementP) → read ts (TheConj ∷ stack) k ≡ Some s → read ts (TheNeg ∷ MoreAnd ∷ stack) (λ v. k (v.1.0 (OneNeg v.0), v.1.1)) ≡ Some s
-conj-to-neg [] stack k s  h = differs h
-conj-to-neg (x ∷ ts) stack k s  h = sym (conj-as-neg (x ∷ ts) stack k (starts-conj-neg x.terminal (first ts) x.place x.bytes (read ts) stack k s  h)) ∙ h
+conj-to-neg [] stack k s h = differs h
+conj-to-neg (x ∷ ts) stack k s h = sym (conj-as-neg (x ∷ ts) stack k (starts-conj-neg x.terminal (first ts) x.place x.bytes (read ts) stack k s h)) ∙ h
 
 starts-neg-cmp : (x n : Terminal) (p : Place) (b : List ℕ) (next : (st : List Symbol) → Go st → Option StatementP) (stack : List Symbol) (k : Go (TheNeg ∷ stack)) (s : StatementP) → (x ≡ t.Not → ⊥) → read_at x n p b next (TheNeg ∷ stack) k ≡ Some s → Starts_cmp x
 starts-neg-cmp t.Not n p b next stack k s n0 h = absurd (n0 refl)
@@ -175,88 +175,88 @@ neg-to-cmp [] stack k s n0 h = differs h
 neg-to-cmp (x ∷ ts) stack k s n0 h = sym (neg-as-cmp (x ∷ ts) stack k (starts-neg-cmp x.terminal (first ts) x.place x.bytes (read ts) stack k s n0 h)) ∙ h
 
 starts-cmp-sum : (x n : Terminal) (p : Place) (b : List ℕ) (next : (st : List Symbol) → Go st → Option StatementP) (stack : List Symbol) (k : Go (TheCmp ∷ stack)) (s : StatementP) → read_at x n p b next (TheCmp ∷ stack) k ≡ Some s → Starts_cmp x
-starts-cmp-sum t.Dash n p b next stack k s  h = tt
-starts-cmp-sum t.Digits n p b next stack k s  h = tt
-starts-cmp-sum t.Quoted n p b next stack k s  h = tt
-starts-cmp-sum t.Date n p b next stack k s  h = tt
-starts-cmp-sum t.True n p b next stack k s  h = tt
-starts-cmp-sum t.False n p b next stack k s  h = tt
-starts-cmp-sum t.Name n p b next stack k s  h = tt
-starts-cmp-sum t.Open n p b next stack k s  h = tt
-starts-cmp-sum t.OpenBracket n p b next stack k s  h = tt
-starts-cmp-sum t.First n p b next stack k s  h = tt
-starts-cmp-sum t.Last n p b next stack k s  h = tt
-starts-cmp-sum t.Begin n p b next stack k s  h = tt
-starts-cmp-sum t.End n p b next stack k s  h = tt
-starts-cmp-sum t.Pre n p b next stack k s  h = tt
-starts-cmp-sum t.Post n p b next stack k s  h = tt
-starts-cmp-sum t.Count n p b next stack k s  h = tt
-starts-cmp-sum t.Next n p b next stack k s  h = tt
-starts-cmp-sum t.Prior n p b next stack k s  h = tt
-starts-cmp-sum t.Union n p b next stack k s  h = tt
-starts-cmp-sum t.Intersect n p b next stack k s  h = tt
-starts-cmp-sum t.Minus n p b next stack k s  h = tt
-starts-cmp-sum _ n p b next stack k s  h = differs h
+starts-cmp-sum t.Dash n p b next stack k s h = tt
+starts-cmp-sum t.Digits n p b next stack k s h = tt
+starts-cmp-sum t.Quoted n p b next stack k s h = tt
+starts-cmp-sum t.Date n p b next stack k s h = tt
+starts-cmp-sum t.True n p b next stack k s h = tt
+starts-cmp-sum t.False n p b next stack k s h = tt
+starts-cmp-sum t.Name n p b next stack k s h = tt
+starts-cmp-sum t.Open n p b next stack k s h = tt
+starts-cmp-sum t.OpenBracket n p b next stack k s h = tt
+starts-cmp-sum t.First n p b next stack k s h = tt
+starts-cmp-sum t.Last n p b next stack k s h = tt
+starts-cmp-sum t.Begin n p b next stack k s h = tt
+starts-cmp-sum t.End n p b next stack k s h = tt
+starts-cmp-sum t.Pre n p b next stack k s h = tt
+starts-cmp-sum t.Post n p b next stack k s h = tt
+starts-cmp-sum t.Count n p b next stack k s h = tt
+starts-cmp-sum t.Next n p b next stack k s h = tt
+starts-cmp-sum t.Prior n p b next stack k s h = tt
+starts-cmp-sum t.Union n p b next stack k s h = tt
+starts-cmp-sum t.Intersect n p b next stack k s h = tt
+starts-cmp-sum t.Minus n p b next stack k s h = tt
+starts-cmp-sum _ n p b next stack k s h = differs h
 
 pub cmp-to-sum : (ts : List Piece) (stack : List Symbol) (k : Go (TheCmp ∷ stack)) (s : StatementP) → read ts (TheCmp ∷ stack) k ≡ Some s → read ts (TheSum ∷ MoreCmp ∷ stack) (λ v. k (v.1.0 v.0, v.1.1)) ≡ Some s
-cmp-to-sum [] stack k s  h = differs h
-cmp-to-sum (x ∷ ts) stack k s  h = sym (cmp-as-sum (x ∷ ts) stack k (starts-cmp-sum x.terminal (first ts) x.place x.bytes (read ts) stack k s  h)) ∙ h
+cmp-to-sum [] stack k s h = differs h
+cmp-to-sum (x ∷ ts) stack k s h = sym (cmp-as-sum (x ∷ ts) stack k (starts-cmp-sum x.terminal (first ts) x.place x.bytes (read ts) stack k s h)) ∙ h
 
 starts-sum-prod : (x n : Terminal) (p : Place) (b : List ℕ) (next : (st : List Symbol) → Go st → Option StatementP) (stack : List Symbol) (k : Go (TheSum ∷ stack)) (s : StatementP) → read_at x n p b next (TheSum ∷ stack) k ≡ Some s → Starts_cmp x
-starts-sum-prod t.Dash n p b next stack k s  h = tt
-starts-sum-prod t.Digits n p b next stack k s  h = tt
-starts-sum-prod t.Quoted n p b next stack k s  h = tt
-starts-sum-prod t.Date n p b next stack k s  h = tt
-starts-sum-prod t.True n p b next stack k s  h = tt
-starts-sum-prod t.False n p b next stack k s  h = tt
-starts-sum-prod t.Name n p b next stack k s  h = tt
-starts-sum-prod t.Open n p b next stack k s  h = tt
-starts-sum-prod t.OpenBracket n p b next stack k s  h = tt
-starts-sum-prod t.First n p b next stack k s  h = tt
-starts-sum-prod t.Last n p b next stack k s  h = tt
-starts-sum-prod t.Begin n p b next stack k s  h = tt
-starts-sum-prod t.End n p b next stack k s  h = tt
-starts-sum-prod t.Pre n p b next stack k s  h = tt
-starts-sum-prod t.Post n p b next stack k s  h = tt
-starts-sum-prod t.Count n p b next stack k s  h = tt
-starts-sum-prod t.Next n p b next stack k s  h = tt
-starts-sum-prod t.Prior n p b next stack k s  h = tt
-starts-sum-prod t.Union n p b next stack k s  h = tt
-starts-sum-prod t.Intersect n p b next stack k s  h = tt
-starts-sum-prod t.Minus n p b next stack k s  h = tt
-starts-sum-prod _ n p b next stack k s  h = differs h
+starts-sum-prod t.Dash n p b next stack k s h = tt
+starts-sum-prod t.Digits n p b next stack k s h = tt
+starts-sum-prod t.Quoted n p b next stack k s h = tt
+starts-sum-prod t.Date n p b next stack k s h = tt
+starts-sum-prod t.True n p b next stack k s h = tt
+starts-sum-prod t.False n p b next stack k s h = tt
+starts-sum-prod t.Name n p b next stack k s h = tt
+starts-sum-prod t.Open n p b next stack k s h = tt
+starts-sum-prod t.OpenBracket n p b next stack k s h = tt
+starts-sum-prod t.First n p b next stack k s h = tt
+starts-sum-prod t.Last n p b next stack k s h = tt
+starts-sum-prod t.Begin n p b next stack k s h = tt
+starts-sum-prod t.End n p b next stack k s h = tt
+starts-sum-prod t.Pre n p b next stack k s h = tt
+starts-sum-prod t.Post n p b next stack k s h = tt
+starts-sum-prod t.Count n p b next stack k s h = tt
+starts-sum-prod t.Next n p b next stack k s h = tt
+starts-sum-prod t.Prior n p b next stack k s h = tt
+starts-sum-prod t.Union n p b next stack k s h = tt
+starts-sum-prod t.Intersect n p b next stack k s h = tt
+starts-sum-prod t.Minus n p b next stack k s h = tt
+starts-sum-prod _ n p b next stack k s h = differs h
 
 pub sum-to-prod : (ts : List Piece) (stack : List Symbol) (k : Go (TheSum ∷ stack)) (s : StatementP) → read ts (TheSum ∷ stack) k ≡ Some s → read ts (TheProd ∷ MoreSum ∷ stack) (λ v. k (v.1.0 (OneProd v.0), v.1.1)) ≡ Some s
-sum-to-prod [] stack k s  h = differs h
-sum-to-prod (x ∷ ts) stack k s  h = sym (sum-as-prod (x ∷ ts) stack k (starts-sum-prod x.terminal (first ts) x.place x.bytes (read ts) stack k s  h)) ∙ h
+sum-to-prod [] stack k s h = differs h
+sum-to-prod (x ∷ ts) stack k s h = sym (sum-as-prod (x ∷ ts) stack k (starts-sum-prod x.terminal (first ts) x.place x.bytes (read ts) stack k s h)) ∙ h
 
 starts-prod-sign : (x n : Terminal) (p : Place) (b : List ℕ) (next : (st : List Symbol) → Go st → Option StatementP) (stack : List Symbol) (k : Go (TheProd ∷ stack)) (s : StatementP) → read_at x n p b next (TheProd ∷ stack) k ≡ Some s → Starts_cmp x
-starts-prod-sign t.Dash n p b next stack k s  h = tt
-starts-prod-sign t.Digits n p b next stack k s  h = tt
-starts-prod-sign t.Quoted n p b next stack k s  h = tt
-starts-prod-sign t.Date n p b next stack k s  h = tt
-starts-prod-sign t.True n p b next stack k s  h = tt
-starts-prod-sign t.False n p b next stack k s  h = tt
-starts-prod-sign t.Name n p b next stack k s  h = tt
-starts-prod-sign t.Open n p b next stack k s  h = tt
-starts-prod-sign t.OpenBracket n p b next stack k s  h = tt
-starts-prod-sign t.First n p b next stack k s  h = tt
-starts-prod-sign t.Last n p b next stack k s  h = tt
-starts-prod-sign t.Begin n p b next stack k s  h = tt
-starts-prod-sign t.End n p b next stack k s  h = tt
-starts-prod-sign t.Pre n p b next stack k s  h = tt
-starts-prod-sign t.Post n p b next stack k s  h = tt
-starts-prod-sign t.Count n p b next stack k s  h = tt
-starts-prod-sign t.Next n p b next stack k s  h = tt
-starts-prod-sign t.Prior n p b next stack k s  h = tt
-starts-prod-sign t.Union n p b next stack k s  h = tt
-starts-prod-sign t.Intersect n p b next stack k s  h = tt
-starts-prod-sign t.Minus n p b next stack k s  h = tt
-starts-prod-sign _ n p b next stack k s  h = differs h
+starts-prod-sign t.Dash n p b next stack k s h = tt
+starts-prod-sign t.Digits n p b next stack k s h = tt
+starts-prod-sign t.Quoted n p b next stack k s h = tt
+starts-prod-sign t.Date n p b next stack k s h = tt
+starts-prod-sign t.True n p b next stack k s h = tt
+starts-prod-sign t.False n p b next stack k s h = tt
+starts-prod-sign t.Name n p b next stack k s h = tt
+starts-prod-sign t.Open n p b next stack k s h = tt
+starts-prod-sign t.OpenBracket n p b next stack k s h = tt
+starts-prod-sign t.First n p b next stack k s h = tt
+starts-prod-sign t.Last n p b next stack k s h = tt
+starts-prod-sign t.Begin n p b next stack k s h = tt
+starts-prod-sign t.End n p b next stack k s h = tt
+starts-prod-sign t.Pre n p b next stack k s h = tt
+starts-prod-sign t.Post n p b next stack k s h = tt
+starts-prod-sign t.Count n p b next stack k s h = tt
+starts-prod-sign t.Next n p b next stack k s h = tt
+starts-prod-sign t.Prior n p b next stack k s h = tt
+starts-prod-sign t.Union n p b next stack k s h = tt
+starts-prod-sign t.Intersect n p b next stack k s h = tt
+starts-prod-sign t.Minus n p b next stack k s h = tt
+starts-prod-sign _ n p b next stack k s h = differs h
 
 pub prod-to-sign : (ts : List Piece) (stack : List Symbol) (k : Go (TheProd ∷ stack)) (s : StatementP) → read ts (TheProd ∷ stack) k ≡ Some s → read ts (TheSign ∷ MoreProd ∷ stack) (λ v. k (v.1.0 (OneSign v.0), v.1.1)) ≡ Some s
-prod-to-sign [] stack k s  h = differs h
-prod-to-sign (x ∷ ts) stack k s  h = sym (prod-as-sign (x ∷ ts) stack k (starts-prod-sign x.terminal (first ts) x.place x.bytes (read ts) stack k s  h)) ∙ h
+prod-to-sign [] stack k s h = differs h
+prod-to-sign (x ∷ ts) stack k s h = sym (prod-as-sign (x ∷ ts) stack k (starts-prod-sign x.terminal (first ts) x.place x.bytes (read ts) stack k s h)) ∙ h
 
 starts-sign-primary : (x n : Terminal) (p : Place) (b : List ℕ) (next : (st : List Symbol) → Go st → Option StatementP) (stack : List Symbol) (k : Go (TheSign ∷ stack)) (s : StatementP) → (x ≡ t.Dash → ⊥) → read_at x n p b next (TheSign ∷ stack) k ≡ Some s → Starts_primary x
 starts-sign-primary t.Dash n p b next stack k s n0 h = absurd (n0 refl)
@@ -342,81 +342,81 @@ pub step-AfterScalar : (p : Place) (b : List ℕ) (old new : List Piece) (stack 
 step-AfterScalar p b old new stack k s n0 hp hb hn h = at t.Close p b old new (AfterScalar ∷ stack) k s (must-AfterScalar old stack k s n0 h) refl hp hb hn h
 
 is-InParens : (x n : Terminal) (p : Place) (b : List ℕ) (next : (st : List Symbol) → Go st → Option StatementP) (stack : List Symbol) (k : Go (InParens ∷ stack)) (s : StatementP) → read_at x n p b next (InParens ∷ stack) k ≡ Some s → x ≡ t.Open
-is-InParens t.Open n p b next stack k s  h = refl
-is-InParens _ n p b next stack k s  h = differs h
+is-InParens t.Open n p b next stack k s h = refl
+is-InParens _ n p b next stack k s h = differs h
 
 must-InParens : (ts : List Piece) (stack : List Symbol) (k : Go (InParens ∷ stack)) (s : StatementP) → read ts (InParens ∷ stack) k ≡ Some s → first ts ≡ t.Open
-must-InParens [] stack k s  h = differs h
-must-InParens (x ∷ ts) stack k s  h = is-InParens x.terminal (first ts) x.place x.bytes (read ts) stack k s  h
+must-InParens [] stack k s h = differs h
+must-InParens (x ∷ ts) stack k s h = is-InParens x.terminal (first ts) x.place x.bytes (read ts) stack k s h
 
 pub step-InParens : (p : Place) (b : List ℕ) (old new : List Piece) (stack : List Symbol) (k : Go (InParens ∷ stack)) (s : StatementP) → p ≡ place_of old → b ≡ bytes_of old → new ≡ behind old → read old (InParens ∷ stack) k ≡ Some s → read_at t.Open (first new) p b (read new) (InParens ∷ stack) k ≡ Some s
-step-InParens p b old new stack k s  hp hb hn h = at t.Open p b old new (InParens ∷ stack) k s (must-InParens old stack k s  h) refl hp hb hn h
+step-InParens p b old new stack k s hp hb hn h = at t.Open p b old new (InParens ∷ stack) k s (must-InParens old stack k s h) refl hp hb hn h
 
 is-InPair : (x n : Terminal) (p : Place) (b : List ℕ) (next : (st : List Symbol) → Go st → Option StatementP) (stack : List Symbol) (k : Go (InPair ∷ stack)) (s : StatementP) → read_at x n p b next (InPair ∷ stack) k ≡ Some s → x ≡ t.Open
-is-InPair t.Open n p b next stack k s  h = refl
-is-InPair _ n p b next stack k s  h = differs h
+is-InPair t.Open n p b next stack k s h = refl
+is-InPair _ n p b next stack k s h = differs h
 
 must-InPair : (ts : List Piece) (stack : List Symbol) (k : Go (InPair ∷ stack)) (s : StatementP) → read ts (InPair ∷ stack) k ≡ Some s → first ts ≡ t.Open
-must-InPair [] stack k s  h = differs h
-must-InPair (x ∷ ts) stack k s  h = is-InPair x.terminal (first ts) x.place x.bytes (read ts) stack k s  h
+must-InPair [] stack k s h = differs h
+must-InPair (x ∷ ts) stack k s h = is-InPair x.terminal (first ts) x.place x.bytes (read ts) stack k s h
 
 pub step-InPair : (p : Place) (b : List ℕ) (old new : List Piece) (stack : List Symbol) (k : Go (InPair ∷ stack)) (s : StatementP) → p ≡ place_of old → b ≡ bytes_of old → new ≡ behind old → read old (InPair ∷ stack) k ≡ Some s → read_at t.Open (first new) p b (read new) (InPair ∷ stack) k ≡ Some s
-step-InPair p b old new stack k s  hp hb hn h = at t.Open p b old new (InPair ∷ stack) k s (must-InPair old stack k s  h) refl hp hb hn h
+step-InPair p b old new stack k s hp hb hn h = at t.Open p b old new (InPair ∷ stack) k s (must-InPair old stack k s h) refl hp hb hn h
 
 is-InPoint : (x n : Terminal) (p : Place) (b : List ℕ) (next : (st : List Symbol) → Go st → Option StatementP) (stack : List Symbol) (k : Go (InPoint ∷ stack)) (s : StatementP) → read_at x n p b next (InPoint ∷ stack) k ≡ Some s → x ≡ t.Open
-is-InPoint t.Open n p b next stack k s  h = refl
-is-InPoint _ n p b next stack k s  h = differs h
+is-InPoint t.Open n p b next stack k s h = refl
+is-InPoint _ n p b next stack k s h = differs h
 
 must-InPoint : (ts : List Piece) (stack : List Symbol) (k : Go (InPoint ∷ stack)) (s : StatementP) → read ts (InPoint ∷ stack) k ≡ Some s → first ts ≡ t.Open
-must-InPoint [] stack k s  h = differs h
-must-InPoint (x ∷ ts) stack k s  h = is-InPoint x.terminal (first ts) x.place x.bytes (read ts) stack k s  h
+must-InPoint [] stack k s h = differs h
+must-InPoint (x ∷ ts) stack k s h = is-InPoint x.terminal (first ts) x.place x.bytes (read ts) stack k s h
 
 pub step-InPoint : (p : Place) (b : List ℕ) (old new : List Piece) (stack : List Symbol) (k : Go (InPoint ∷ stack)) (s : StatementP) → p ≡ place_of old → b ≡ bytes_of old → new ≡ behind old → read old (InPoint ∷ stack) k ≡ Some s → read_at t.Open (first new) p b (read new) (InPoint ∷ stack) k ≡ Some s
-step-InPoint p b old new stack k s  hp hb hn h = at t.Open p b old new (InPoint ∷ stack) k s (must-InPoint old stack k s  h) refl hp hb hn h
+step-InPoint p b old new stack k s hp hb hn h = at t.Open p b old new (InPoint ∷ stack) k s (must-InPoint old stack k s h) refl hp hb hn h
 
 is-Comma : (x n : Terminal) (p : Place) (b : List ℕ) (next : (st : List Symbol) → Go st → Option StatementP) (stack : List Symbol) (k : Go (Comma ∷ stack)) (s : StatementP) → read_at x n p b next (Comma ∷ stack) k ≡ Some s → x ≡ t.Comma
-is-Comma t.Comma n p b next stack k s  h = refl
-is-Comma _ n p b next stack k s  h = differs h
+is-Comma t.Comma n p b next stack k s h = refl
+is-Comma _ n p b next stack k s h = differs h
 
 must-Comma : (ts : List Piece) (stack : List Symbol) (k : Go (Comma ∷ stack)) (s : StatementP) → read ts (Comma ∷ stack) k ≡ Some s → first ts ≡ t.Comma
-must-Comma [] stack k s  h = differs h
-must-Comma (x ∷ ts) stack k s  h = is-Comma x.terminal (first ts) x.place x.bytes (read ts) stack k s  h
+must-Comma [] stack k s h = differs h
+must-Comma (x ∷ ts) stack k s h = is-Comma x.terminal (first ts) x.place x.bytes (read ts) stack k s h
 
 pub step-Comma : (p : Place) (b : List ℕ) (old new : List Piece) (stack : List Symbol) (k : Go (Comma ∷ stack)) (s : StatementP) → p ≡ place_of old → b ≡ bytes_of old → new ≡ behind old → read old (Comma ∷ stack) k ≡ Some s → read_at t.Comma (first new) p b (read new) (Comma ∷ stack) k ≡ Some s
-step-Comma p b old new stack k s  hp hb hn h = at t.Comma p b old new (Comma ∷ stack) k s (must-Comma old stack k s  h) refl hp hb hn h
+step-Comma p b old new stack k s hp hb hn h = at t.Comma p b old new (Comma ∷ stack) k s (must-Comma old stack k s h) refl hp hb hn h
 
 is-DateText : (x n : Terminal) (p : Place) (b : List ℕ) (next : (st : List Symbol) → Go st → Option StatementP) (stack : List Symbol) (k : Go (DateText ∷ stack)) (s : StatementP) → read_at x n p b next (DateText ∷ stack) k ≡ Some s → x ≡ t.Quoted
-is-DateText t.Quoted n p b next stack k s  h = refl
-is-DateText _ n p b next stack k s  h = differs h
+is-DateText t.Quoted n p b next stack k s h = refl
+is-DateText _ n p b next stack k s h = differs h
 
 must-DateText : (ts : List Piece) (stack : List Symbol) (k : Go (DateText ∷ stack)) (s : StatementP) → read ts (DateText ∷ stack) k ≡ Some s → first ts ≡ t.Quoted
-must-DateText [] stack k s  h = differs h
-must-DateText (x ∷ ts) stack k s  h = is-DateText x.terminal (first ts) x.place x.bytes (read ts) stack k s  h
+must-DateText [] stack k s h = differs h
+must-DateText (x ∷ ts) stack k s h = is-DateText x.terminal (first ts) x.place x.bytes (read ts) stack k s h
 
 pub step-DateText : (p : Place) (b : List ℕ) (old new : List Piece) (stack : List Symbol) (k : Go (DateText ∷ stack)) (s : StatementP) → p ≡ place_of old → b ≡ bytes_of old → new ≡ behind old → read old (DateText ∷ stack) k ≡ Some s → read_at t.Quoted (first new) p b (read new) (DateText ∷ stack) k ≡ Some s
-step-DateText p b old new stack k s  hp hb hn h = at t.Quoted p b old new (DateText ∷ stack) k s (must-DateText old stack k s  h) refl hp hb hn h
+step-DateText p b old new stack k s hp hb hn h = at t.Quoted p b old new (DateText ∷ stack) k s (must-DateText old stack k s h) refl hp hb hn h
 
 is-NegativeDigits : (x n : Terminal) (p : Place) (b : List ℕ) (next : (st : List Symbol) → Go st → Option StatementP) (stack : List Symbol) (k : Go (NegativeDigits ∷ stack)) (s : StatementP) → read_at x n p b next (NegativeDigits ∷ stack) k ≡ Some s → x ≡ t.Digits
-is-NegativeDigits t.Digits n p b next stack k s  h = refl
-is-NegativeDigits _ n p b next stack k s  h = differs h
+is-NegativeDigits t.Digits n p b next stack k s h = refl
+is-NegativeDigits _ n p b next stack k s h = differs h
 
 must-NegativeDigits : (ts : List Piece) (stack : List Symbol) (k : Go (NegativeDigits ∷ stack)) (s : StatementP) → read ts (NegativeDigits ∷ stack) k ≡ Some s → first ts ≡ t.Digits
-must-NegativeDigits [] stack k s  h = differs h
-must-NegativeDigits (x ∷ ts) stack k s  h = is-NegativeDigits x.terminal (first ts) x.place x.bytes (read ts) stack k s  h
+must-NegativeDigits [] stack k s h = differs h
+must-NegativeDigits (x ∷ ts) stack k s h = is-NegativeDigits x.terminal (first ts) x.place x.bytes (read ts) stack k s h
 
 pub step-NegativeDigits : (p : Place) (b : List ℕ) (old new : List Piece) (stack : List Symbol) (k : Go (NegativeDigits ∷ stack)) (s : StatementP) → p ≡ place_of old → b ≡ bytes_of old → new ≡ behind old → read old (NegativeDigits ∷ stack) k ≡ Some s → read_at t.Digits (first new) p b (read new) (NegativeDigits ∷ stack) k ≡ Some s
-step-NegativeDigits p b old new stack k s  hp hb hn h = at t.Digits p b old new (NegativeDigits ∷ stack) k s (must-NegativeDigits old stack k s  h) refl hp hb hn h
+step-NegativeDigits p b old new stack k s hp hb hn h = at t.Digits p b old new (NegativeDigits ∷ stack) k s (must-NegativeDigits old stack k s h) refl hp hb hn h
 
 is-TheName : (x n : Terminal) (p : Place) (b : List ℕ) (next : (st : List Symbol) → Go st → Option StatementP) (stack : List Symbol) (k : Go (TheName ∷ stack)) (s : StatementP) → read_at x n p b next (TheName ∷ stack) k ≡ Some s → x ≡ t.Name
-is-TheName t.Name n p b next stack k s  h = refl
-is-TheName _ n p b next stack k s  h = differs h
+is-TheName t.Name n p b next stack k s h = refl
+is-TheName _ n p b next stack k s h = differs h
 
 must-TheName : (ts : List Piece) (stack : List Symbol) (k : Go (TheName ∷ stack)) (s : StatementP) → read ts (TheName ∷ stack) k ≡ Some s → first ts ≡ t.Name
-must-TheName [] stack k s  h = differs h
-must-TheName (x ∷ ts) stack k s  h = is-TheName x.terminal (first ts) x.place x.bytes (read ts) stack k s  h
+must-TheName [] stack k s h = differs h
+must-TheName (x ∷ ts) stack k s h = is-TheName x.terminal (first ts) x.place x.bytes (read ts) stack k s h
 
 pub step-TheName : (p : Place) (b : List ℕ) (old new : List Piece) (stack : List Symbol) (k : Go (TheName ∷ stack)) (s : StatementP) → p ≡ place_of old → b ≡ bytes_of old → new ≡ behind old → read old (TheName ∷ stack) k ≡ Some s → read_at t.Name (first new) p b (read new) (TheName ∷ stack) k ≡ Some s
-step-TheName p b old new stack k s  hp hb hn h = at t.Name p b old new (TheName ∷ stack) k s (must-TheName old stack k s  h) refl hp hb hn h
+step-TheName p b old new stack k s hp hb hn h = at t.Name p b old new (TheName ∷ stack) k s (must-TheName old stack k s h) refl hp hb hn h
 
 word-comparison : Option ComparisonWord → Terminal
 word-comparison None = t.Finish

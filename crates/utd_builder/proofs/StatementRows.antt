@@ -67,16 +67,16 @@ used_constraint-to-key [] stack k s n0 h = differs h
 used_constraint-to-key (x ∷ ts) stack k s n0 h = sym (used_constraint-as-key (x ∷ ts) stack k (starts-used_constraint-key x.terminal (first ts) x.place x.bytes (read ts) stack k s n0 h)) ∙ h
 
 starts-comparison-operand : (x n : Terminal) (p : Place) (b : List ℕ) (next : (st : List Symbol) → Go st → Option StatementP) (stack : List Symbol) (k : Go (TheComparison ∷ stack)) (s : StatementP) → read_at x n p b next (TheComparison ∷ stack) k ≡ Some s → Starts_operand x
-starts-comparison-operand t.Name n p b next stack k s  h = tt
-starts-comparison-operand t.Relation n p b next stack k s  h = tt
-starts-comparison-operand t.Open n p b next stack k s  h = tt
-starts-comparison-operand t.Pack n p b next stack k s  h = tt
-starts-comparison-operand t.Unpack n p b next stack k s  h = tt
-starts-comparison-operand _ n p b next stack k s  h = differs h
+starts-comparison-operand t.Name n p b next stack k s h = tt
+starts-comparison-operand t.Relation n p b next stack k s h = tt
+starts-comparison-operand t.Open n p b next stack k s h = tt
+starts-comparison-operand t.Pack n p b next stack k s h = tt
+starts-comparison-operand t.Unpack n p b next stack k s h = tt
+starts-comparison-operand _ n p b next stack k s h = differs h
 
 pub comparison-to-operand : (ts : List Piece) (stack : List Symbol) (k : Go (TheComparison ∷ stack)) (s : StatementP) → read ts (TheComparison ∷ stack) k ≡ Some s → read ts (TheOperand ∷ AfterLeft ∷ stack) (λ v. k (v.1.0 v.0, v.1.1)) ≡ Some s
-comparison-to-operand [] stack k s  h = differs h
-comparison-to-operand (x ∷ ts) stack k s  h = sym (comparison-as-operand (x ∷ ts) stack k (starts-comparison-operand x.terminal (first ts) x.place x.bytes (read ts) stack k s  h)) ∙ h
+comparison-to-operand [] stack k s h = differs h
+comparison-to-operand (x ∷ ts) stack k s h = sym (comparison-as-operand (x ∷ ts) stack k (starts-comparison-operand x.terminal (first ts) x.place x.bytes (read ts) stack k s h)) ∙ h
 
 starts-test-comparison : (x n : Terminal) (p : Place) (b : List ℕ) (next : (st : List Symbol) → Go st → Option StatementP) (stack : List Symbol) (k : Go (TheTest ∷ stack)) (s : StatementP) → (x ≡ t.Using → ⊥) → (x ≡ t.IsEmpty → ⊥) → (x ≡ t.IsNotEmpty → ⊥) → read_at x n p b next (TheTest ∷ stack) k ≡ Some s → Starts_operand x
 starts-test-comparison t.Using n p b next stack k s n0 n1 n2 h = absurd (n0 refl)
@@ -127,17 +127,17 @@ deletion-to-rel [] stack k s n0 n1 h = differs h
 deletion-to-rel (x ∷ ts) stack k s n0 n1 h = sym (deletion-as-rel (x ∷ ts) stack k (starts-deletion-rel x.terminal (first ts) x.place x.bytes (read ts) stack k s n0 n1 h)) ∙ h
 
 starts-assign-item : (x n : Terminal) (p : Place) (b : List ℕ) (next : (st : List Symbol) → Go st → Option StatementP) (stack : List Symbol) (k : Go (TheAssign ∷ stack)) (s : StatementP) → read_at x n p b next (TheAssign ∷ stack) k ≡ Some s → Starts_item x
-starts-assign-item t.Name n p b next stack k s  h = tt
-starts-assign-item t.Insert n p b next stack k s  h = tt
-starts-assign-item t.Delete n p b next stack k s  h = tt
-starts-assign-item t.Update n p b next stack k s  h = tt
-starts-assign-item t.Terminate n p b next stack k s  h = tt
-starts-assign-item t.Using n p b next stack k s  h = tt
-starts-assign-item _ n p b next stack k s  h = differs h
+starts-assign-item t.Name n p b next stack k s h = tt
+starts-assign-item t.Insert n p b next stack k s h = tt
+starts-assign-item t.Delete n p b next stack k s h = tt
+starts-assign-item t.Update n p b next stack k s h = tt
+starts-assign-item t.Terminate n p b next stack k s h = tt
+starts-assign-item t.Using n p b next stack k s h = tt
+starts-assign-item _ n p b next stack k s h = differs h
 
 pub assign-to-item : (ts : List Piece) (stack : List Symbol) (k : Go (TheAssign ∷ stack)) (s : StatementP) → read ts (TheAssign ∷ stack) k ≡ Some s → read ts (TheItem ∷ MoreItems ∷ stack) (λ v. k (Assign v.0 v.1.0, v.1.1)) ≡ Some s
-assign-to-item [] stack k s  h = differs h
-assign-to-item (x ∷ ts) stack k s  h = sym (assign-as-item (x ∷ ts) stack k (starts-assign-item x.terminal (first ts) x.place x.bytes (read ts) stack k s  h)) ∙ h
+assign-to-item [] stack k s h = differs h
+assign-to-item (x ∷ ts) stack k s h = sym (assign-as-item (x ∷ ts) stack k (starts-assign-item x.terminal (first ts) x.place x.bytes (read ts) stack k s h)) ∙ h
 
 starts-statement-assign : (x n : Terminal) (p : Place) (b : List ℕ) (next : (st : List Symbol) → Go st → Option StatementP) (stack : List Symbol) (k : Go (TheStatement ∷ stack)) (s : StatementP) → (x ≡ t.Semicolon → ⊥) → (x ≡ t.TypeWord → ⊥) → (x ≡ t.Var → ⊥) → (x ≡ t.History → ⊥) → (x ≡ t.Drop → ⊥) → (x ≡ t.Print → ⊥) → (x ≡ t.Ask → ⊥) → read_at x n p b next (TheStatement ∷ stack) k ≡ Some s → Starts_item x
 starts-statement-assign t.Semicolon n p b next stack k s n0 n1 n2 n3 n4 n5 n6 h = absurd (n0 refl)
@@ -160,26 +160,26 @@ statement-to-assign [] stack k s n0 n1 n2 n3 n4 n5 n6 h = differs h
 statement-to-assign (x ∷ ts) stack k s n0 n1 n2 n3 n4 n5 n6 h = sym (statement-as-assign (x ∷ ts) stack k (starts-statement-assign x.terminal (first ts) x.place x.bytes (read ts) stack k s n0 n1 n2 n3 n4 n5 n6 h)) ∙ h
 
 is-TheKey : (x n : Terminal) (p : Place) (b : List ℕ) (next : (st : List Symbol) → Go st → Option StatementP) (stack : List Symbol) (k : Go (TheKey ∷ stack)) (s : StatementP) → read_at x n p b next (TheKey ∷ stack) k ≡ Some s → x ≡ t.Key
-is-TheKey t.Key n p b next stack k s  h = refl
-is-TheKey _ n p b next stack k s  h = differs h
+is-TheKey t.Key n p b next stack k s h = refl
+is-TheKey _ n p b next stack k s h = differs h
 
 must-TheKey : (ts : List Piece) (stack : List Symbol) (k : Go (TheKey ∷ stack)) (s : StatementP) → read ts (TheKey ∷ stack) k ≡ Some s → first ts ≡ t.Key
-must-TheKey [] stack k s  h = differs h
-must-TheKey (x ∷ ts) stack k s  h = is-TheKey x.terminal (first ts) x.place x.bytes (read ts) stack k s  h
+must-TheKey [] stack k s h = differs h
+must-TheKey (x ∷ ts) stack k s h = is-TheKey x.terminal (first ts) x.place x.bytes (read ts) stack k s h
 
 pub step-TheKey : (p : Place) (b : List ℕ) (old new : List Piece) (stack : List Symbol) (k : Go (TheKey ∷ stack)) (s : StatementP) → p ≡ place_of old → b ≡ bytes_of old → new ≡ behind old → read old (TheKey ∷ stack) k ≡ Some s → read_at t.Key (first new) p b (read new) (TheKey ∷ stack) k ≡ Some s
-step-TheKey p b old new stack k s  hp hb hn h = at t.Key p b old new (TheKey ∷ stack) k s (must-TheKey old stack k s  h) refl hp hb hn h
+step-TheKey p b old new stack k s hp hb hn h = at t.Key p b old new (TheKey ∷ stack) k s (must-TheKey old stack k s h) refl hp hb hn h
 
 is-TheForeign : (x n : Terminal) (p : Place) (b : List ℕ) (next : (st : List Symbol) → Go st → Option StatementP) (stack : List Symbol) (k : Go (TheForeign ∷ stack)) (s : StatementP) → read_at x n p b next (TheForeign ∷ stack) k ≡ Some s → x ≡ t.Foreign
-is-TheForeign t.Foreign n p b next stack k s  h = refl
-is-TheForeign _ n p b next stack k s  h = differs h
+is-TheForeign t.Foreign n p b next stack k s h = refl
+is-TheForeign _ n p b next stack k s h = differs h
 
 must-TheForeign : (ts : List Piece) (stack : List Symbol) (k : Go (TheForeign ∷ stack)) (s : StatementP) → read ts (TheForeign ∷ stack) k ≡ Some s → first ts ≡ t.Foreign
-must-TheForeign [] stack k s  h = differs h
-must-TheForeign (x ∷ ts) stack k s  h = is-TheForeign x.terminal (first ts) x.place x.bytes (read ts) stack k s  h
+must-TheForeign [] stack k s h = differs h
+must-TheForeign (x ∷ ts) stack k s h = is-TheForeign x.terminal (first ts) x.place x.bytes (read ts) stack k s h
 
 pub step-TheForeign : (p : Place) (b : List ℕ) (old new : List Piece) (stack : List Symbol) (k : Go (TheForeign ∷ stack)) (s : StatementP) → p ≡ place_of old → b ≡ bytes_of old → new ≡ behind old → read old (TheForeign ∷ stack) k ≡ Some s → read_at t.Foreign (first new) p b (read new) (TheForeign ∷ stack) k ≡ Some s
-step-TheForeign p b old new stack k s  hp hb hn h = at t.Foreign p b old new (TheForeign ∷ stack) k s (must-TheForeign old stack k s  h) refl hp hb hn h
+step-TheForeign p b old new stack k s hp hb hn h = at t.Foreign p b old new (TheForeign ∷ stack) k s (must-TheForeign old stack k s h) refl hp hb hn h
 
 is-TheConstraint : (x n : Terminal) (p : Place) (b : List ℕ) (next : (st : List Symbol) → Go st → Option StatementP) (stack : List Symbol) (k : Go (TheConstraint ∷ stack)) (s : StatementP) → (x ≡ t.Key → ⊥) → (x ≡ t.Foreign → ⊥) → (x ≡ t.Packed → ⊥) → (x ≡ t.When → ⊥) → read_at x n p b next (TheConstraint ∷ stack) k ≡ Some s → x ≡ t.Using
 is-TheConstraint t.Key n p b next stack k s n0 n1 n2 n3 h = absurd (n0 refl)
@@ -197,15 +197,15 @@ pub step-TheConstraint : (p : Place) (b : List ℕ) (old new : List Piece) (stac
 step-TheConstraint p b old new stack k s n0 n1 n2 n3 hp hb hn h = at t.Using p b old new (TheConstraint ∷ stack) k s (must-TheConstraint old stack k s n0 n1 n2 n3 h) refl hp hb hn h
 
 is-InRel : (x n : Terminal) (p : Place) (b : List ℕ) (next : (st : List Symbol) → Go st → Option StatementP) (stack : List Symbol) (k : Go (InRel ∷ stack)) (s : StatementP) → read_at x n p b next (InRel ∷ stack) k ≡ Some s → x ≡ t.Open
-is-InRel t.Open n p b next stack k s  h = refl
-is-InRel _ n p b next stack k s  h = differs h
+is-InRel t.Open n p b next stack k s h = refl
+is-InRel _ n p b next stack k s h = differs h
 
 must-InRel : (ts : List Piece) (stack : List Symbol) (k : Go (InRel ∷ stack)) (s : StatementP) → read ts (InRel ∷ stack) k ≡ Some s → first ts ≡ t.Open
-must-InRel [] stack k s  h = differs h
-must-InRel (x ∷ ts) stack k s  h = is-InRel x.terminal (first ts) x.place x.bytes (read ts) stack k s  h
+must-InRel [] stack k s h = differs h
+must-InRel (x ∷ ts) stack k s h = is-InRel x.terminal (first ts) x.place x.bytes (read ts) stack k s h
 
 pub step-InRel : (p : Place) (b : List ℕ) (old new : List Piece) (stack : List Symbol) (k : Go (InRel ∷ stack)) (s : StatementP) → p ≡ place_of old → b ≡ bytes_of old → new ≡ behind old → read old (InRel ∷ stack) k ≡ Some s → read_at t.Open (first new) p b (read new) (InRel ∷ stack) k ≡ Some s
-step-InRel p b old new stack k s  hp hb hn h = at t.Open p b old new (InRel ∷ stack) k s (must-InRel old stack k s  h) refl hp hb hn h
+step-InRel p b old new stack k s hp hb hn h = at t.Open p b old new (InRel ∷ stack) k s (must-InRel old stack k s h) refl hp hb hn h
 
 is-TheVarForm : (x n : Terminal) (p : Place) (b : List ℕ) (next : (st : List Symbol) → Go st → Option StatementP) (stack : List Symbol) (k : Go (TheVarForm ∷ stack)) (s : StatementP) → (x ≡ t.Virtual → ⊥) → read_at x n p b next (TheVarForm ∷ stack) k ≡ Some s → x ≡ t.Relation
 is-TheVarForm t.Relation n p b next stack k s n0 h = refl

@@ -2,7 +2,10 @@
 ghost use Rattle.std.specs.Prelude.{◌≡◌};
 ghost use Rattle.utd_builder.specs.Choices as choices;
 
-use utd_syntax::{ComparisonWord, FunctionWord, InfixWord, PairWord, ProductWord, RelationComparison, SumWord, Terminal};
+use utd_syntax::{
+    ComparisonWord, FunctionWord, InfixWord, PairWord, ProductWord, RelationComparison, SumWord,
+    Terminal,
+};
 
 /// The comparison of scalars that the token is.
 pub fn comparison_word(terminal: Terminal) -> Option<ComparisonWord>

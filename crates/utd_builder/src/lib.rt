@@ -4,7 +4,9 @@
 mod choices;
 mod cursor;
 mod parts;
+mod relations;
 mod scalars;
+mod statements;
 
 pub use cursor::{Cursor, Lexeme};
-pub use scalars::scalar;
+pub use statements::statement;

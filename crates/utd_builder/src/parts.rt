@@ -16,10 +16,7 @@ use utd_syntax::{
     SomeElements, SomeNames, Terminal, Tuple, Tuples, Words,
 };
 
-pub fn kind<'a>(
-    alloc: Global,
-    cursor: Cursor<'a>,
-) -> Result<(Kind, Cursor<'a>), AllocError>
+pub fn kind<'a>(alloc: Global, cursor: Cursor<'a>) -> Result<(Kind, Cursor<'a>), AllocError>
     ensures { Builds TheKind read_kind (left cursor.entry) result }
 {
     match cursor.terminal() {
@@ -37,10 +34,7 @@ pub fn kind<'a>(
     }
 }
 
-fn attribute<'a>(
-    alloc: Global,
-    cursor: Cursor<'a>,
-) -> Result<(Attribute, Cursor<'a>), AllocError>
+fn attribute<'a>(alloc: Global, cursor: Cursor<'a>) -> Result<(Attribute, Cursor<'a>), AllocError>
     ensures { Builds TheAttribute read_attribute (left cursor.entry) result }
 {
     let (name, next) = cursor.name(alloc)?;
@@ -48,10 +42,7 @@ fn attribute<'a>(
     Ok((Attribute { name, kind }, end))
 }
 
-fn element<'a>(
-    alloc: Global,
-    cursor: Cursor<'a>,
-) -> Result<(Element, Cursor<'a>), AllocError>
+fn element<'a>(alloc: Global, cursor: Cursor<'a>) -> Result<(Element, Cursor<'a>), AllocError>
     ensures { Builds TheElement read_element (left cursor.entry) result }
 {
     let (name, next) = cursor.name(alloc)?;
@@ -60,10 +51,7 @@ fn element<'a>(
     Ok((Element { name, scalar }, end))
 }
 
-fn tuple<'a>(
-    alloc: Global,
-    cursor: Cursor<'a>,
-) -> Result<(Tuple, Cursor<'a>), AllocError>
+fn tuple<'a>(alloc: Global, cursor: Cursor<'a>) -> Result<(Tuple, Cursor<'a>), AllocError>
     ensures { Builds TheTuple read_tuple (left cursor.entry) result }
 {
     let place = cursor.place();
@@ -71,10 +59,7 @@ fn tuple<'a>(
     Ok((Tuple { place, elements }, next))
 }
 
-fn set_item<'a>(
-    alloc: Global,
-    cursor: Cursor<'a>,
-) -> Result<(SetItem, Cursor<'a>), AllocError>
+fn set_item<'a>(alloc: Global, cursor: Cursor<'a>) -> Result<(SetItem, Cursor<'a>), AllocError>
     ensures { Builds TheSetItem read_set_item (left cursor.entry) result }
 {
     let (name, next) = cursor.name(alloc)?;
@@ -113,10 +98,7 @@ fn aggregate_form<'a>(
     }
 }
 
-fn aggregate<'a>(
-    alloc: Global,
-    cursor: Cursor<'a>,
-) -> Result<(Aggregate, Cursor<'a>), AllocError>
+fn aggregate<'a>(alloc: Global, cursor: Cursor<'a>) -> Result<(Aggregate, Cursor<'a>), AllocError>
     ensures { Builds TheAggregate read_aggregate (left cursor.entry) result }
 {
     let (name, next) = cursor.name(alloc)?;
@@ -124,10 +106,7 @@ fn aggregate<'a>(
     Ok((Aggregate { name, form }, end))
 }
 
-fn renaming<'a>(
-    alloc: Global,
-    cursor: Cursor<'a>,
-) -> Result<(Renaming, Cursor<'a>), AllocError>
+fn renaming<'a>(alloc: Global, cursor: Cursor<'a>) -> Result<(Renaming, Cursor<'a>), AllocError>
     ensures { Builds TheRenaming read_renaming (left cursor.entry) result }
 {
     let (old, next) = cursor.name(alloc)?;
@@ -262,10 +241,7 @@ pub fn more_renamings<'a>(
 }
 
 // Words, if there are any, and the bracket that closes them.
-pub fn words<'a>(
-    alloc: Global,
-    cursor: Cursor<'a>,
-) -> Result<(Words, Cursor<'a>), AllocError>
+pub fn words<'a>(alloc: Global, cursor: Cursor<'a>) -> Result<(Words, Cursor<'a>), AllocError>
     ensures names { Builds InNames (λ l. read_name_list l.list.items) (left cursor.entry) result }
     ensures list { Builds InList (λ l. read_name_list l.list.items) (left cursor.entry) result }
 {
@@ -320,10 +296,7 @@ pub fn element_list<'a>(
 }
 
 // Tuples, if there are any, and the bracket that closes them.
-pub fn tuple_list<'a>(
-    alloc: Global,
-    cursor: Cursor<'a>,
-) -> Result<(Tuples, Cursor<'a>), AllocError>
+pub fn tuple_list<'a>(alloc: Global, cursor: Cursor<'a>) -> Result<(Tuples, Cursor<'a>), AllocError>
     ensures { Builds InTuples (λ l. read_tuple_list l.list.items) (left cursor.entry) result }
 {
     let mut list = Vec::new(alloc);
@@ -339,10 +312,7 @@ pub fn tuple_list<'a>(
 }
 
 /// A heading.
-pub fn heading<'a>(
-    alloc: Global,
-    cursor: Cursor<'a>,
-) -> Result<(Heading, Cursor<'a>), AllocError>
+pub fn heading<'a>(alloc: Global, cursor: Cursor<'a>) -> Result<(Heading, Cursor<'a>), AllocError>
     ensures { Builds TheHeading read_heading (left cursor.entry) result }
 {
     let place = cursor.place();
@@ -351,10 +321,7 @@ pub fn heading<'a>(
 }
 
 /// Names in braces.
-pub fn names<'a>(
-    alloc: Global,
-    cursor: Cursor<'a>,
-) -> Result<(Names, Cursor<'a>), AllocError>
+pub fn names<'a>(alloc: Global, cursor: Cursor<'a>) -> Result<(Names, Cursor<'a>), AllocError>
     ensures { Builds TheNames read_names (left cursor.entry) result }
 {
     let place = cursor.place();
@@ -375,10 +342,7 @@ pub fn name_list<'a>(
 }
 
 /// Elements in braces.
-pub fn elements<'a>(
-    alloc: Global,
-    cursor: Cursor<'a>,
-) -> Result<(Elements, Cursor<'a>), AllocError>
+pub fn elements<'a>(alloc: Global, cursor: Cursor<'a>) -> Result<(Elements, Cursor<'a>), AllocError>
     ensures { Builds TheElements read_elements (left cursor.entry) result }
 {
     let place = cursor.place();
@@ -415,10 +379,7 @@ pub fn some_elements<'a>(
 }
 
 /// Assignments of attributes in braces.
-pub fn sets<'a>(
-    alloc: Global,
-    cursor: Cursor<'a>,
-) -> Result<(Sets, Cursor<'a>), AllocError>
+pub fn sets<'a>(alloc: Global, cursor: Cursor<'a>) -> Result<(Sets, Cursor<'a>), AllocError>
     ensures { Builds TheSets read_sets (left cursor.entry) result }
 {
     let place = cursor.place();
@@ -457,10 +418,7 @@ pub fn renamings<'a>(
 }
 
 /// A relation that is written out.
-pub fn literal<'a>(
-    alloc: Global,
-    cursor: Cursor<'a>,
-) -> Result<(Literal, Cursor<'a>), AllocError>
+pub fn literal<'a>(alloc: Global, cursor: Cursor<'a>) -> Result<(Literal, Cursor<'a>), AllocError>
     ensures { Builds TheLiteral read_literal (left cursor.entry) result }
 {
     let place = cursor.place();
@@ -482,10 +440,7 @@ pub fn literal<'a>(
 }
 
 /// PORTION and its elements.
-pub fn portion<'a>(
-    alloc: Global,
-    cursor: Cursor<'a>,
-) -> Result<(Portion, Cursor<'a>), AllocError>
+pub fn portion<'a>(alloc: Global, cursor: Cursor<'a>) -> Result<(Portion, Cursor<'a>), AllocError>
     ensures { Builds ThePortion read_portion (left cursor.entry) result }
 {
     let place = cursor.place();

@@ -17,10 +17,7 @@ use utd_syntax::{
 
 /// A scalar.
 #[cycle(scalars)]
-pub fn scalar<'a>(
-    alloc: Global,
-    cursor: Cursor<'a>,
-) -> Result<(Scalar, Cursor<'a>), AllocError>
+pub fn scalar<'a>(alloc: Global, cursor: Cursor<'a>) -> Result<(Scalar, Cursor<'a>), AllocError>
     ensures { Builds TheScalar read_scalar (left cursor.entry) result }
 {
     let (first, mut next) = conjunction(alloc, cursor)?;
@@ -53,10 +50,7 @@ fn conjunction<'a>(
 }
 
 #[cycle(scalars)]
-fn negation<'a>(
-    alloc: Global,
-    cursor: Cursor<'a>,
-) -> Result<(Negation, Cursor<'a>), AllocError>
+fn negation<'a>(alloc: Global, cursor: Cursor<'a>) -> Result<(Negation, Cursor<'a>), AllocError>
     ensures { Builds TheNeg read_neg (left cursor.entry) result }
 {
     match cursor.terminal() {
@@ -73,10 +67,7 @@ fn negation<'a>(
 }
 
 #[cycle(scalars)]
-fn comparison<'a>(
-    alloc: Global,
-    cursor: Cursor<'a>,
-) -> Result<(Comparison, Cursor<'a>), AllocError>
+fn comparison<'a>(alloc: Global, cursor: Cursor<'a>) -> Result<(Comparison, Cursor<'a>), AllocError>
     ensures { Builds TheCmp read_cmp (left cursor.entry) result }
 {
     let (left, next) = sum(alloc, cursor)?;
@@ -106,10 +97,7 @@ fn sum<'a>(alloc: Global, cursor: Cursor<'a>) -> Result<(Sum, Cursor<'a>), Alloc
 }
 
 #[cycle(scalars)]
-fn product<'a>(
-    alloc: Global,
-    cursor: Cursor<'a>,
-) -> Result<(Product, Cursor<'a>), AllocError>
+fn product<'a>(alloc: Global, cursor: Cursor<'a>) -> Result<(Product, Cursor<'a>), AllocError>
     ensures { Builds TheProd read_prod (left cursor.entry) result }
 {
     let (first, mut next) = sign(alloc, cursor)?;
@@ -158,10 +146,7 @@ fn minus<'a>(alloc: Global, cursor: Cursor<'a>) -> Result<(Sign, Cursor<'a>), Al
 }
 
 #[cycle(scalars)]
-fn primary<'a>(
-    alloc: Global,
-    cursor: Cursor<'a>,
-) -> Result<(Primary, Cursor<'a>), AllocError>
+fn primary<'a>(alloc: Global, cursor: Cursor<'a>) -> Result<(Primary, Cursor<'a>), AllocError>
     ensures { Builds ThePrimary read_primary (left cursor.entry) result }
 {
     let terminal = cursor.terminal();
@@ -185,10 +170,7 @@ fn primary<'a>(
     }
 }
 
-fn integer<'a>(
-    alloc: Global,
-    cursor: Cursor<'a>,
-) -> Result<(Primary, Cursor<'a>), AllocError>
+fn integer<'a>(alloc: Global, cursor: Cursor<'a>) -> Result<(Primary, Cursor<'a>), AllocError>
     requires { first (left cursor) ≡ Terminal.Digits }
     ensures { Builds ThePrimary read_primary (left cursor.entry) result }
 {
@@ -218,10 +200,7 @@ fn date<'a>(alloc: Global, cursor: Cursor<'a>) -> Result<(Primary, Cursor<'a>), 
 }
 
 // An attribute, or a value of an ordinal type.
-fn attribute<'a>(
-    alloc: Global,
-    cursor: Cursor<'a>,
-) -> Result<(Primary, Cursor<'a>), AllocError>
+fn attribute<'a>(alloc: Global, cursor: Cursor<'a>) -> Result<(Primary, Cursor<'a>), AllocError>
     requires { first (left cursor) ≡ Terminal.Name }
     ensures { Builds ThePrimary read_primary (left cursor.entry) result }
 {
@@ -236,10 +215,7 @@ fn attribute<'a>(
 }
 
 /// The name of a point type.
-pub fn point<'a>(
-    alloc: Global,
-    cursor: Cursor<'a>,
-) -> Result<(PointName, Cursor<'a>), AllocError>
+pub fn point<'a>(alloc: Global, cursor: Cursor<'a>) -> Result<(PointName, Cursor<'a>), AllocError>
     ensures { Builds ThePoint read_point (left cursor.entry) result }
 {
     match cursor.terminal() {
@@ -267,10 +243,7 @@ fn extreme<'a>(
 
 // "(" and a scalar: in parentheses, or the first bound of an interval that does not hold it.
 #[cycle(scalars)]
-fn parenthesized<'a>(
-    alloc: Global,
-    cursor: Cursor<'a>,
-) -> Result<(Primary, Cursor<'a>), AllocError>
+fn parenthesized<'a>(alloc: Global, cursor: Cursor<'a>) -> Result<(Primary, Cursor<'a>), AllocError>
     requires { first (left cursor) ≡ Terminal.Open }
     ensures { Builds ThePrimary read_primary (left cursor.entry) result }
 {
@@ -290,10 +263,7 @@ fn parenthesized<'a>(
 }
 
 #[cycle(scalars)]
-fn bracketed<'a>(
-    alloc: Global,
-    cursor: Cursor<'a>,
-) -> Result<(Primary, Cursor<'a>), AllocError>
+fn bracketed<'a>(alloc: Global, cursor: Cursor<'a>) -> Result<(Primary, Cursor<'a>), AllocError>
     requires { first (left cursor) ≡ Terminal.OpenBracket }
     ensures { Builds ThePrimary read_primary (left cursor.entry) result }
 {

@@ -7,7 +7,7 @@ use Rattle.utd_builder.proofs.PartRows.{done-MaybePortion}
 use Rattle.utd_builder.proofs.parts.maybe_portion.Goals as goal
 
 pub returns-in_default : goal.returns-in_default
-returns-in_default c = record { shorter = omega arith; goes_on = λ stack k x h. done-MaybePortion (left c.args.cursor) _ _ x (λ e. c.in_default.not-Portion (c.terminal.ensures ∙ e)) h; }
+returns-in_default c = record { shorter = omega arith; goes_on = λ stack k x h. done-MaybePortion (left c.args.cursor) _ _ x (λ e. c.in_default.not-Portion (c.terminal.ensures ∙ e)) h }
 
 pub returns : goal.returns
-returns c = record { shorter = omega (arith, no-more (left c.args.cursor) (left c.skip.result) c.skip.ensures, c.in_ok-elements.ensures.shorter); goes_on = λ stack k x h. let h1 = at t.Portion _ _ (left c.args.cursor) (left c.skip.result) (MaybePortion ∷ stack) k x (sym c.terminal.ensures ∙ c.in-Portion.is) refl c.place-place.ensures refl c.skip.ensures h in c.in_ok-elements.ensures.goes_on _ _ x h1; }
+returns c = record { shorter = omega (arith, no-more (left c.args.cursor) (left c.skip.result) c.skip.ensures, c.in_ok-elements.ensures.shorter); goes_on = λ stack k x h. let h1 = at t.Portion _ _ (left c.args.cursor) (left c.skip.result) (MaybePortion ∷ stack) k x (sym c.terminal.ensures ∙ c.in-Portion.is) refl c.place-place.ensures refl c.skip.ensures h in c.in_ok-elements.ensures.goes_on _ _ x h1 }

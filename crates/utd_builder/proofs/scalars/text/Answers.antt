@@ -6,4 +6,4 @@ use Rattle.utd_builder.proofs.Steps.{at, no-more}
 use Rattle.utd_builder.proofs.scalars.text.Goals as goal
 
 pub returns : goal.returns
-returns c = record { shorter = omega (arith, no-more (left c.args.cursor) (left c.skip.result) c.skip.ensures); goes_on = λ stack k x h. at t.Quoted _ _ (left c.args.cursor) (left c.skip.result) (ThePrimary ∷ stack) k x c.requires refl c.place-place.ensures c.in_ok-bytes.ensures c.skip.ensures h; }
+returns c = record { shorter = omega (arith, no-more (left c.args.cursor) (left c.skip.result) c.skip.ensures); goes_on = λ stack k x h. at t.Quoted _ _ (left c.args.cursor) (left c.skip.result) (ThePrimary ∷ stack) k x c.requires refl c.place-place.ensures c.in_ok-bytes.ensures c.skip.ensures h }
