@@ -1,0 +1,6 @@
+pub mod Steps
+pub mod ScalarRows
+pub mod PartRows
+pub mod RelationRows
+pub mod StatementRows
+pub mod Paths

@@ -1,0 +1,319 @@
+// Scalars: each part is built from the tokens that stand first.
+ghost use Rattle.std.specs.Prelude.{◌≡◌};
+ghost use Rattle.utd_syntax.specs.Pieces.{first};
+ghost use Rattle.utd_syntax.specs.Read.{read_cmp, read_conj, read_neg, read_point, read_primary, read_prod, read_scalar, read_sign, read_sum};
+ghost use Rattle.utd_syntax.specs.Table.{TheCmp, TheConj, TheNeg, ThePoint, ThePrimary, TheProd, TheScalar, TheSign, TheSum};
+ghost use Rattle.utd_syntax.specs.Written as written;
+ghost use Rattle.utd_builder.specs.Building.{Builds, left};
+ghost use Rattle.utd_builder.specs.Choices.{end_bracket_at};
+
+use crate::choices::{comparison_word, function_word, pair_word, product_word, sum_word};
+use crate::cursor::Cursor;
+use std::alloc::{AllocError, Global};
+use utd_syntax::{
+    BeginBracket, Comparison, Conjunction, EndBracket, ExtremeWord, FunctionWord, Negation,
+    PairWord, PointName, Primary, Product, Scalar, Sign, Sum, Terminal,
+};
+
+/// A scalar.
+#[cycle(scalars)]
+pub fn scalar<'a>(alloc: Global, cursor: Cursor<'a>) -> Result<(Scalar, Cursor<'a>), AllocError>
+    ensures { Builds TheScalar read_scalar (left cursor.entry) result }
+{
+    let (first, mut next) = conjunction(alloc, cursor)?;
+    let mut left = Scalar::One(first);
+    while let Terminal::Or = next.terminal() {
+        let place = next.place();
+        let (right, after) = conjunction(alloc, next.skip())?;
+        left = Scalar::Or(Box::new(alloc, left)?, place, right);
+        next = after;
+    }
+    Ok((left, next))
+}
+
+#[cycle(scalars)]
+fn conjunction<'a>(
+    alloc: Global,
+    cursor: Cursor<'a>,
+) -> Result<(Conjunction, Cursor<'a>), AllocError>
+    ensures { Builds TheConj read_conj (left cursor.entry) result }
+{
+    let (first, mut next) = negation(alloc, cursor)?;
+    let mut left = Conjunction::One(first);
+    while let Terminal::And = next.terminal() {
+        let place = next.place();
+        let (right, after) = negation(alloc, next.skip())?;
+        left = Conjunction::And(Box::new(alloc, left)?, place, right);
+        next = after;
+    }
+    Ok((left, next))
+}
+
+#[cycle(scalars)]
+fn negation<'a>(alloc: Global, cursor: Cursor<'a>) -> Result<(Negation, Cursor<'a>), AllocError>
+    ensures { Builds TheNeg read_neg (left cursor.entry) result }
+{
+    match cursor.terminal() {
+        Terminal::Not => {
+            let place = cursor.place();
+            let (inner, next) = negation(alloc, cursor.skip())?;
+            Ok((Negation::Not(place, Box::new(alloc, inner)?), next))
+        }
+        _ => {
+            let (only, next) = comparison(alloc, cursor)?;
+            Ok((Negation::One(only), next))
+        }
+    }
+}
+
+#[cycle(scalars)]
+fn comparison<'a>(alloc: Global, cursor: Cursor<'a>) -> Result<(Comparison, Cursor<'a>), AllocError>
+    ensures { Builds TheCmp read_cmp (left cursor.entry) result }
+{
+    let (left, next) = sum(alloc, cursor)?;
+    match comparison_word(next.terminal()) {
+        None => Ok((Comparison::One(left), next)),
+        Some(word) => {
+            let place = next.place();
+            let (right, end) = sum(alloc, next.skip())?;
+            Ok((Comparison::Compare(left, place, word, right), end))
+        }
+    }
+}
+
+#[cycle(scalars)]
+fn sum<'a>(alloc: Global, cursor: Cursor<'a>) -> Result<(Sum, Cursor<'a>), AllocError>
+    ensures { Builds TheSum read_sum (left cursor.entry) result }
+{
+    let (first, mut next) = product(alloc, cursor)?;
+    let mut left = Sum::One(first);
+    while let Some(word) = sum_word(next.terminal()) {
+        let place = next.place();
+        let (right, after) = product(alloc, next.skip())?;
+        left = Sum::Add(Box::new(alloc, left)?, place, word, right);
+        next = after;
+    }
+    Ok((left, next))
+}
+
+#[cycle(scalars)]
+fn product<'a>(alloc: Global, cursor: Cursor<'a>) -> Result<(Product, Cursor<'a>), AllocError>
+    ensures { Builds TheProd read_prod (left cursor.entry) result }
+{
+    let (first, mut next) = sign(alloc, cursor)?;
+    let mut left = Product::One(first);
+    while let Some(word) = product_word(next.terminal()) {
+        let place = next.place();
+        let (right, after) = sign(alloc, next.skip())?;
+        left = Product::Multiply(Box::new(alloc, left)?, place, word, right);
+        next = after;
+    }
+    Ok((left, next))
+}
+
+#[cycle(scalars)]
+fn sign<'a>(alloc: Global, cursor: Cursor<'a>) -> Result<(Sign, Cursor<'a>), AllocError>
+    ensures { Builds TheSign read_sign (left cursor.entry) result }
+{
+    match cursor.terminal() {
+        Terminal::Dash => minus(alloc, cursor),
+        _ => {
+            let (only, next) = primary(alloc, cursor)?;
+            Ok((Sign::One(only), next))
+        }
+    }
+}
+
+// A "-" before an integer is one literal with it.
+#[cycle(scalars)]
+fn minus<'a>(alloc: Global, cursor: Cursor<'a>) -> Result<(Sign, Cursor<'a>), AllocError>
+    requires { first (left cursor) ≡ Terminal.Dash }
+    ensures { Builds TheSign read_sign (left cursor.entry) result }
+{
+    let place = cursor.place();
+    let behind = cursor.skip();
+    match behind.terminal() {
+        Terminal::Digits => {
+            let digits = behind.bytes(alloc)?;
+            let at = behind.place();
+            Ok((Sign::NegativeInteger(place, at, digits), behind.skip()))
+        }
+        _ => {
+            let (inner, next) = sign(alloc, behind)?;
+            Ok((Sign::Negate(place, Box::new(alloc, inner)?), next))
+        }
+    }
+}
+
+#[cycle(scalars)]
+fn primary<'a>(alloc: Global, cursor: Cursor<'a>) -> Result<(Primary, Cursor<'a>), AllocError>
+    ensures { Builds ThePrimary read_primary (left cursor.entry) result }
+{
+    let terminal = cursor.terminal();
+    if let Some(word) = function_word(terminal) {
+        return function(alloc, cursor, word);
+    }
+    if let Some(word) = pair_word(terminal) {
+        return pair(alloc, cursor, word);
+    }
+    match terminal {
+        Terminal::Open => parenthesized(alloc, cursor),
+        Terminal::OpenBracket => bracketed(alloc, cursor),
+        Terminal::First => extreme(alloc, cursor, ExtremeWord::First),
+        Terminal::Last => extreme(alloc, cursor, ExtremeWord::Last),
+        Terminal::Name => attribute(alloc, cursor),
+        Terminal::Digits => integer(alloc, cursor),
+        Terminal::Quoted => text(alloc, cursor),
+        Terminal::Date => date(alloc, cursor),
+        Terminal::True => Ok((Primary::True(cursor.place()), cursor.skip())),
+        _ => Ok((Primary::False(cursor.place()), cursor.skip())),
+    }
+}
+
+fn integer<'a>(alloc: Global, cursor: Cursor<'a>) -> Result<(Primary, Cursor<'a>), AllocError>
+    requires { first (left cursor) ≡ Terminal.Digits }
+    ensures { Builds ThePrimary read_primary (left cursor.entry) result }
+{
+    let digits = cursor.bytes(alloc)?;
+    let place = cursor.place();
+    Ok((Primary::Integer(place, digits), cursor.skip()))
+}
+
+fn text<'a>(alloc: Global, cursor: Cursor<'a>) -> Result<(Primary, Cursor<'a>), AllocError>
+    requires { first (left cursor) ≡ Terminal.Quoted }
+    ensures { Builds ThePrimary read_primary (left cursor.entry) result }
+{
+    let bytes = cursor.bytes(alloc)?;
+    let place = cursor.place();
+    Ok((Primary::Text(place, bytes), cursor.skip()))
+}
+
+fn date<'a>(alloc: Global, cursor: Cursor<'a>) -> Result<(Primary, Cursor<'a>), AllocError>
+    requires { first (left cursor) ≡ Terminal.Date }
+    ensures { Builds ThePrimary read_primary (left cursor.entry) result }
+{
+    let place = cursor.place();
+    let text = cursor.skip();
+    let bytes = text.bytes(alloc)?;
+    let at = text.place();
+    Ok((Primary::Date(place, at, bytes), text.skip()))
+}
+
+// An attribute, or a value of an ordinal type.
+fn attribute<'a>(alloc: Global, cursor: Cursor<'a>) -> Result<(Primary, Cursor<'a>), AllocError>
+    requires { first (left cursor) ≡ Terminal.Name }
+    ensures { Builds ThePrimary read_primary (left cursor.entry) result }
+{
+    let (name, next) = cursor.name(alloc)?;
+    match next.terminal() {
+        Terminal::Dot => {
+            let (value, end) = next.skip().name(alloc)?;
+            Ok((Primary::Dotted(name, value), end))
+        }
+        _ => Ok((Primary::Attribute(name), next)),
+    }
+}
+
+/// The name of a point type.
+pub fn point<'a>(alloc: Global, cursor: Cursor<'a>) -> Result<(PointName, Cursor<'a>), AllocError>
+    ensures { Builds ThePoint read_point (left cursor.entry) result }
+{
+    match cursor.terminal() {
+        Terminal::Integer => Ok((PointName::Integer(cursor.place()), cursor.skip())),
+        Terminal::Date => Ok((PointName::Date(cursor.place()), cursor.skip())),
+        _ => {
+            let (name, next) = cursor.name(alloc)?;
+            Ok((PointName::Named(name), next))
+        }
+    }
+}
+
+fn extreme<'a>(
+    alloc: Global,
+    cursor: Cursor<'a>,
+    word: ExtremeWord,
+) -> Result<(Primary, Cursor<'a>), AllocError>
+    requires { first (left cursor) ≡ written.extreme word }
+    ensures { Builds ThePrimary read_primary (left cursor.entry) result }
+{
+    let place = cursor.place();
+    let (name, next) = point(alloc, cursor.skip().skip())?;
+    Ok((Primary::Extreme(place, word, name), next.skip()))
+}
+
+// "(" and a scalar: in parentheses, or the first bound of an interval that does not hold it.
+#[cycle(scalars)]
+fn parenthesized<'a>(alloc: Global, cursor: Cursor<'a>) -> Result<(Primary, Cursor<'a>), AllocError>
+    requires { first (left cursor) ≡ Terminal.Open }
+    ensures { Builds ThePrimary read_primary (left cursor.entry) result }
+{
+    let place = cursor.place();
+    let (first, next) = scalar(alloc, cursor.skip())?;
+    let begin = Box::new(alloc, first)?;
+    match next.terminal() {
+        Terminal::Colon => {
+            let (second, last) = scalar(alloc, next.skip())?;
+            let end = Box::new(alloc, second)?;
+            let bracket = end_bracket(last.terminal());
+            let tree = Primary::Selector(place, BeginBracket::Open, begin, end, bracket);
+            Ok((tree, last.skip()))
+        }
+        _ => Ok((Primary::Paren(place, begin), next.skip())),
+    }
+}
+
+#[cycle(scalars)]
+fn bracketed<'a>(alloc: Global, cursor: Cursor<'a>) -> Result<(Primary, Cursor<'a>), AllocError>
+    requires { first (left cursor) ≡ Terminal.OpenBracket }
+    ensures { Builds ThePrimary read_primary (left cursor.entry) result }
+{
+    let place = cursor.place();
+    let (first, next) = scalar(alloc, cursor.skip())?;
+    let (second, last) = scalar(alloc, next.skip())?;
+    let begin = Box::new(alloc, first)?;
+    let end = Box::new(alloc, second)?;
+    let bracket = end_bracket(last.terminal());
+    let tree = Primary::Selector(place, BeginBracket::Closed, begin, end, bracket);
+    Ok((tree, last.skip()))
+}
+
+#[cycle(scalars)]
+fn function<'a>(
+    alloc: Global,
+    cursor: Cursor<'a>,
+    word: FunctionWord,
+) -> Result<(Primary, Cursor<'a>), AllocError>
+    requires { first (left cursor) ≡ written.function word }
+    ensures { Builds ThePrimary read_primary (left cursor.entry) result }
+{
+    let place = cursor.place();
+    let (part, next) = scalar(alloc, cursor.skip().skip())?;
+    let inner = Box::new(alloc, part)?;
+    Ok((Primary::Function(place, word, inner), next.skip()))
+}
+
+#[cycle(scalars)]
+fn pair<'a>(
+    alloc: Global,
+    cursor: Cursor<'a>,
+    word: PairWord,
+) -> Result<(Primary, Cursor<'a>), AllocError>
+    requires { first (left cursor) ≡ written.pair_function word }
+    ensures { Builds ThePrimary read_primary (left cursor.entry) result }
+{
+    let place = cursor.place();
+    let (first, next) = scalar(alloc, cursor.skip().skip())?;
+    let (second, end) = scalar(alloc, next.skip())?;
+    let left = Box::new(alloc, first)?;
+    let right = Box::new(alloc, second)?;
+    Ok((Primary::PairFunction(place, word, left, right), end.skip()))
+}
+
+fn end_bracket(terminal: Terminal) -> EndBracket
+    ensures { result ≡ end_bracket_at terminal }
+{
+    match terminal {
+        Terminal::CloseBracket => EndBracket::Closed,
+        _ => EndBracket::Open,
+    }
+}
