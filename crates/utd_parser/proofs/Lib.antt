@@ -5,3 +5,4 @@ pub mod Stacks
 pub mod Days
 pub mod Verdicts
 pub mod Statements
+pub mod Trees

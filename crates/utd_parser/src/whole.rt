@@ -11,6 +11,7 @@ ghost use Rattle.utd_syntax.specs.Read.{read_statement};
 ghost use Rattle.utd_syntax.specs.Table.{TheStatement};
 ghost use Rattle.utd_syntax.specs.Verdict.{Verdict, Whole, Refused, at_start, limits, verdict, verdict_on};
 ghost use Rattle.utd_syntax.specs.Written.{Spells, of_statement};
+ghost use Rattle.utd_builder.specs.Building as building;
 ghost use Rattle.utd_parser.specs.Tokens.{pieces, seen};
 ghost use Rattle.utd_parser.specs.Frames.{load_of, stack_of, Comes, Fails, IsStatement, RefusedAt};
 
@@ -19,7 +20,8 @@ use crate::form::Form;
 use crate::stack::{Frame, Load, Reach, advance, enter};
 use crate::terminals::{bytes_of, terminal_of};
 use point_core::{Code, Fault, Place};
-use std::alloc::Global;
+use std::alloc::{AllocError, Global};
+use utd_builder::{Cursor, Lexeme, statement};
 use utd_lexer::{Token, TokenList};
 use utd_syntax::{Statement, Terminal};
 use value_core::Refuse;
@@ -141,6 +143,29 @@ pub fn accept(alloc: Global, list: &TokenList) -> Result<(), Refuse>
     judge(alloc, list)
 }
 
+// The tokens as the grammar sees them.
+fn lexemes<'a>(alloc: Global, tokens: &'a [Token]) -> Result<Vec<Lexeme<'a>>, AllocError>
+    ensures { IfOk result (λ l. building.pieces l.items ≡ pieces tokens.now) }
+{
+    let mut list = Vec::new(alloc);
+    let mut rest = tokens;
+    while let Some((token, more)) = rest.split_first() {
+        list.push(Lexeme {
+            terminal: terminal_of(token),
+            place: token.place,
+            bytes: bytes_of(token),
+        })?;
+        rest = more;
+    }
+    Ok(list)
+}
+
+fn lexemes_of<'a>(alloc: Global, list: &'a TokenList) -> Result<Vec<Lexeme<'a>>, AllocError>
+    ensures { IfOk result (λ l. building.pieces l.items ≡ pieces list.now) }
+{
+    lexemes(alloc, list.list.as_slice())
+}
+
 /// The statement that the tokens are, and else the refusal of `accept`: the tree writes these tokens, and no other tree
 /// does.
 pub fn parse(alloc: Global, list: &TokenList) -> Result<Statement, Refuse>
@@ -151,5 +176,10 @@ pub fn parse(alloc: Global, list: &TokenList) -> Result<Statement, Refuse>
     ensures limit { (code : Code) (place : Place) → RefusedAt result code place → (E01 ≡ code → ⊥) → Continues (pieces list.now) place }
 {
     accept(alloc, list)?;
-    Err(Refuse::Memory)
+    let seen = lexemes_of(alloc, list)?;
+    let cursor = Cursor {
+        rest: seen.as_slice(),
+    };
+    let (tree, _) = statement(alloc, cursor)?;
+    Ok(tree)
 }

@@ -1,0 +1,50 @@
+-- What the tree that was built says of the statement.
+use Rattle.std.proofs.Common.{◌≡◌, List, [], ◌∷◌, ◌++◌, Option, Some, None, refl, sym, ◌∙◌, ap, subst, append_assoc, append-nil, length, arith}
+use Rattle.utd_syntax.specs.Pieces.{Piece}
+use Rattle.utd_syntax.specs.Plain.{StatementP}
+use Rattle.utd_syntax.specs.Table.{TheStatement}
+use Rattle.utd_syntax.specs.Written.{Spells, of_statement}
+use Rattle.utd_syntax.proofs.Reader.{read}
+use Rattle.utd_syntax.proofs.Complete.{statement-reads}
+use Rattle.utd_builder.specs.declared.cursor.Lexeme.{Lexeme}
+use Rattle.utd_builder.specs.Building as building
+use Rattle.utd_lexer.specs.declared.token.Token.{Token}
+use Rattle.utd_parser.specs.Frames.{IsStatement}
+use Rattle.utd_parser.specs.Tokens.{piece, pieces}
+
+or_else : StatementP → Option StatementP → StatementP
+or_else x None = x
+or_else x (Some y) = y
+
+-- what is read where no form is to come
+last : (ts : List Piece) (v x : StatementP) → read ts [] (λ vs. v) ≡ Some x → v ≡ x
+unfolding or_else
+last [] v x e = ap (or_else v) e
+last (t ∷ ts) v x e = cc
+
+-- the tree is the statement
+pub is-tree : (ts new : List Piece) (v : StatementP) → (h : IsStatement ts) → building.Read TheStatement ts new v → v ≡ h.0
+is-tree ts new v h b = last new v h.0 (b.goes_on [] (λ vs. vs.0) h.0 (statement-reads h.0 ts [] h.1 [] (λ vs. vs.0)))
+
+pub tree-spells : (ts : List Piece) (v : StatementP) → (h : IsStatement ts) → v ≡ h.0 → Spells (of_statement v) ts []
+tree-spells ts v h e = subst (λ z. Spells (of_statement z) ts []) (sym e) h.1
+
+pub tree-sole : (ts : List Piece) (v : StatementP) → (h : IsStatement ts) → v ≡ h.0 → (y : StatementP) → Spells (of_statement y) ts [] → y ≡ v
+tree-sole ts v h e y g = h.2 y g ∙ sym e
+
+-- the pieces of two lists of tokens
+pub pieces-push : (xs : List Lexeme) (x : Lexeme) → building.pieces (xs ++ x ∷ []) ≡ building.pieces xs ++ building.piece x ∷ []
+pieces-push [] x = refl
+pieces-push (y ∷ xs) x = ap (λ z. building.piece y ∷ z) (pieces-push xs x)
+
+-- one more token is seen, and all of them are
+pub pieces-next : (xs ys : List Lexeme) (x : Lexeme) (rest ts : List Token) (t : Token) (all : List Piece) → rest ≡ t ∷ ts → all ≡ building.pieces xs ++ pieces rest → building.piece x ≡ piece t → ys ≡ xs ++ x ∷ [] → all ≡ building.pieces ys ++ pieces ts
+pieces-next xs ys x rest ts t all is h e more =
+    h ∙ ap (λ z. building.pieces xs ++ pieces z) is ∙ ap (λ z. building.pieces xs ++ z ∷ pieces ts) (sym e) ∙ sym (append_assoc (building.pieces xs) (building.piece x ∷ []) (pieces ts)) ∙ ap (λ z. z ++ pieces ts) (sym (pieces-push xs x)) ∙ ap (λ z. building.pieces z ++ pieces ts) (sym more)
+
+pub pieces-end : (xs : List Lexeme) (rest : List Token) (all : List Piece) → length rest ≡ 0 → all ≡ building.pieces xs ++ pieces rest → building.pieces xs ≡ all
+pieces-end xs [] all none h = sym (h ∙ append-nil (building.pieces xs))
+pieces-end xs (t ∷ ts) all none h = absurd (omega (arith, none))
+
+pub read-from : (ts old new : List Piece) (v : StatementP) → old ≡ ts → building.Read TheStatement old new v → building.Read TheStatement ts new v
+read-from ts old new v e r = subst (λ z. building.Read TheStatement z new v) e r
