@@ -6,8 +6,8 @@ use Rattle.point_core.specs.declared.fault.Place.{Place}
 use Rattle.utd_syntax.specs.declared.words.AggregateWord.{AggregateWord}
 use Rattle.utd_syntax.specs.Pieces.{Piece, first, place_of, bytes_of}
 use Rattle.utd_builder.specs.Building.{behind}
-use Rattle.utd_syntax.specs.Plain.{StatementP, Word, AggregateP, AttributeP, ElementP, RenamingP, SetItemP, TupleP, AggregateOf, Headed, NoCondition, NoPortion, Onto, PointKind, Portion, Tuple, Where}
-use Rattle.utd_syntax.specs.Table.{Symbol, Just, TheName, Comma, InParens, ThePoint, TheKind, TheAttribute, MoreAttributes, InHeading, TheHeading, MoreNames, InNames, InList, TheNames, TheList, TheSomeNames, TheParenName, TheElement, MoreElements, InElements, TheElements, TheSomeElements, TheTuple, MoreTuples, InTuples, TheTuples, TheLiteral, AfterRelation, TheSetItem, MoreSetItems, TheSets, EmptyParens, TheAggregateForm, TheAggregate, MoreAggregates, TheAggregates, TheRenaming, MoreRenamings, TheRenamings, ThePortion, MaybePortion, MaybeWhere, InProjection}
+use Rattle.utd_syntax.specs.Plain.{StatementP, Word, AggregateP, AttributeP, ElementP, RenamingP, SetItemP, TupleP, AggregateOf, Headed, NoCondition, NoPortion, Onto, PointKind}
+use Rattle.utd_syntax.specs.Table.{Symbol, Just, TheName, InParens, ThePoint, TheKind, TheAttribute, MoreAttributes, InHeading, TheHeading, MoreNames, InNames, InList, TheNames, TheList, TheSomeNames, TheParenName, TheElement, MoreElements, InElements, TheElements, TheSomeElements, TheTuple, MoreTuples, InTuples, TheTuples, TheLiteral, AfterRelation, TheSetItem, MoreSetItems, TheSets, EmptyParens, TheAggregateForm, TheAggregate, MoreAggregates, TheAggregates, TheRenaming, MoreRenamings, TheRenamings, ThePortion, MaybePortion, MaybeWhere, InProjection}
 use Rattle.utd_syntax.proofs.Reader.{Go, read, read_at}
 use Rattle.utd_syntax.proofs.FormEnds.{Halts, Starts_point, MoreAttributes-end, MoreNames-end, MoreElements-end, MoreTuples-end, MoreSetItems-end, MoreAggregates-end, MoreRenamings-end, MaybePortion-end, MaybeWhere-end}
 use Rattle.utd_syntax.proofs.FirstTokens.{kind-as-point}

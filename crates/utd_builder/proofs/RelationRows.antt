@@ -9,7 +9,7 @@ use Rattle.utd_syntax.specs.declared.words.PackWord.{PackWord}
 use Rattle.utd_syntax.specs.declared.words.PackWord.TheVariants as pack_words
 use Rattle.utd_syntax.specs.Pieces.{Piece, first, place_of, bytes_of}
 use Rattle.utd_builder.specs.Building.{behind}
-use Rattle.utd_syntax.specs.Plain.{StatementP, Extend, Infix, Not, OfOperand, OfTerms, OneRelPrimary, OneTerm, PackOn, Rename, Summarize, Using, UsingInfix, Where}
+use Rattle.utd_syntax.specs.Plain.{StatementP, Infix, OfOperand, OfTerms, OneRelPrimary, OneTerm, PackOn, UsingInfix}
 use Rattle.utd_syntax.specs.Table.{Symbol, Just, same, TheList, TheOperand, TheRelPrimary, TheTerm, MorePostfix, TheTerms, MoreInfix, TheRel, TheUsingPart, AfterOperand}
 use Rattle.utd_syntax.specs.Written.{infix_word, pack_word}
 use Rattle.utd_syntax.proofs.Reader.{Go, read, read_at}

@@ -18,7 +18,7 @@ use Rattle.utd_syntax.specs.declared.words.ExtremeWord.TheVariants as extremes
 use Rattle.utd_syntax.specs.declared.words.EndBracket.{EndBracket}
 use Rattle.utd_syntax.specs.Pieces.{Piece, first, place_of, bytes_of}
 use Rattle.utd_builder.specs.Building.{behind}
-use Rattle.utd_syntax.specs.Plain.{StatementP, Add, And, AttributeName, Compare, Extreme, Function, Multiply, Not, OneCmp, OneConj, OneNeg, OnePrimary, OneProd, OneSign, OneSum, Or, PairFunction}
+use Rattle.utd_syntax.specs.Plain.{StatementP, Add, AttributeName, Compare, Extreme, Function, Multiply, OneCmp, OneConj, OneNeg, OnePrimary, OneProd, OneSign, OneSum, PairFunction}
 use Rattle.utd_syntax.specs.Table.{Symbol, same, TheName, Comma, DateText, NegativeDigits, ThePrimary, AfterName, AfterScalar, EndOfSelector, InParens, InPair, InPoint, TheSign, TheProd, MoreProd, TheSum, MoreSum, TheCmp, MoreCmp, TheNeg, TheConj, MoreAnd, TheScalar, MoreOr, ThePoint}
 use Rattle.utd_syntax.specs.Written.{comparison, sum_word, product_word, function, pair_function, extreme}
 use Rattle.utd_syntax.proofs.Reader.{Go, read, read_at}

@@ -8,8 +8,8 @@ use Rattle.utd_syntax.specs.declared.words.EmptinessWord.{EmptinessWord}
 use Rattle.utd_syntax.specs.declared.words.EmptinessWord.TheVariants as emptinesses
 use Rattle.utd_syntax.specs.Pieces.{Piece, first, place_of, bytes_of}
 use Rattle.utd_builder.specs.Building.{behind}
-use Rattle.utd_syntax.specs.Plain.{StatementP, ConstraintP, ItemP, Ask, Assign, Assignment, Comparison, Delete, DeleteRows, Drop, Emptiness, Extend, Foreign, Insert, Key, OfComparison, Portion, Print, Summarize, Terminate, Update, UsedDeleteRows, UsedKey, Using, Where}
-use Rattle.utd_syntax.specs.Table.{Symbol, Just, same, Comma, TheOperand, TheRel, TheKey, TheForeign, TheUsedConstraint, TheConstraint, MoreConstraints, InRel, TheVarForm, TheComparison, AfterLeft, TheTest, TheUsedDeletion, TheUsedItem, TheDeletion, TheItem, MoreItems, TheAssign, TheStatement}
+use Rattle.utd_syntax.specs.Plain.{StatementP, ConstraintP, ItemP, Assign, Assignment, Comparison, DeleteRows, Emptiness, OfComparison, UsedDeleteRows, UsedKey}
+use Rattle.utd_syntax.specs.Table.{Symbol, Just, same, TheOperand, TheRel, TheKey, TheForeign, TheUsedConstraint, TheConstraint, MoreConstraints, InRel, TheVarForm, TheComparison, AfterLeft, TheTest, TheUsedDeletion, TheUsedItem, TheDeletion, TheItem, MoreItems, TheAssign, TheStatement}
 use Rattle.utd_syntax.specs.Written.{emptiness}
 use Rattle.utd_syntax.proofs.Reader.{Go, read, read_at}
 use Rattle.utd_syntax.proofs.FormEnds.{Halts, Starts_constraint, Starts_item, Starts_key, Starts_operand, Starts_rel, MoreConstraints-end, MoreItems-end}

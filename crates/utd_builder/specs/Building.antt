@@ -1,5 +1,5 @@
 -- What the parts of a statement are built from.
-use Rattle.std.specs.Prelude.{◌≡◌, ◌≤◌, ◌<◌, ℕ, List, [], ◌∷◌, Result, Ok, Err, Some, length}
+use Rattle.std.specs.Prelude.{◌≡◌, ◌≤◌, ◌<◌, List, [], ◌∷◌, Result, Ok, Err, Some, length}
 use Rattle.utd_syntax.specs.declared.word.Word.{Word}
 use Rattle.utd_syntax.specs.Pieces.{Piece, place_of, bytes_of}
 use Rattle.utd_syntax.specs.Plain.{StatementP}

@@ -44,9 +44,20 @@ fn tree(alloc: Global, text: &[u8]) -> Result<Statement, Refuse>
 fn statements_are_built(rt: HostRuntime) {
     let nothing = tree(rt.alloc(), b";");
     assert!(rt; matches!(&nothing, Ok(Statement::Nothing)));
-    let print = tree(rt.alloc(), b"PRINT USING (D): (A JOIN B) WHERE NOT X = 1 OR B IN [1:- 2);");
-    assert!(rt; matches!(&print, Ok(Statement::Print(Place { line: 1, column: 1 }, _))));
-    let ask = tree(rt.alloc(), b"  ASK IS_EMPTY (A {ALL BUT B} RENAME {X AS Y});");
+    let print = tree(
+        rt.alloc(),
+        b"PRINT USING (D): (A JOIN B) WHERE NOT X = 1 OR B IN [1:- 2);",
+    );
+    assert!(rt;
+        matches!(
+            &print,
+            Ok(Statement::Print(Place { line: 1, column: 1 }, _))
+        )
+    );
+    let ask = tree(
+        rt.alloc(),
+        b"  ASK IS_EMPTY (A {ALL BUT B} RENAME {X AS Y});",
+    );
     assert!(rt; matches!(&ask, Ok(Statement::Ask(Place { line: 1, column: 3 }, _))));
     let history = tree(
         rt.alloc(),

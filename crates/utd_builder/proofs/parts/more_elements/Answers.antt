@@ -1,7 +1,7 @@
 use Rattle.std.proofs.Common.{◌++◌, [], ◌∷◌, refl, sym, ◌∙◌, ap, append-nil, arith}
 use Rattle.utd_syntax.specs.declared.terminal.Terminal.TheVariants as t
 use Rattle.utd_syntax.specs.Read.{read_element, read_element_list}
-use Rattle.utd_syntax.specs.Table.{Comma, MoreElements}
+use Rattle.utd_syntax.specs.Table.{MoreElements}
 use Rattle.utd_syntax.proofs.Reader.{read}
 use Rattle.utd_syntax.proofs.FormValues.{Val}
 use Rattle.utd_builder.specs.Building.{left}

@@ -1,7 +1,7 @@
 use Rattle.std.proofs.Common.{◌++◌, [], ◌∷◌, refl, sym, ◌∙◌, ap, append-nil, arith}
 use Rattle.utd_syntax.specs.declared.terminal.Terminal.TheVariants as t
 use Rattle.utd_syntax.specs.Read.{read_tuple, read_tuple_list}
-use Rattle.utd_syntax.specs.Table.{Comma, MoreTuples}
+use Rattle.utd_syntax.specs.Table.{MoreTuples}
 use Rattle.utd_syntax.proofs.Reader.{read}
 use Rattle.utd_syntax.proofs.FormValues.{Val}
 use Rattle.utd_builder.specs.Building.{left}

@@ -1,6 +1,5 @@
 use Rattle.std.proofs.Common.{◌++◌, ◌∷◌, refl, sym, ◌∙◌, ap, arith}
 use Rattle.utd_syntax.specs.declared.terminal.Terminal.TheVariants as t
-use Rattle.utd_syntax.specs.Pieces.{first}
 use Rattle.utd_syntax.specs.Plain as plain
 use Rattle.utd_syntax.specs.Read.{read_name, read_name_list}
 use Rattle.utd_syntax.specs.Table.{MoreNames, InProjection}

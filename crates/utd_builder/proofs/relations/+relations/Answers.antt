@@ -5,7 +5,7 @@ use Rattle.utd_syntax.specs.Plain as plain
 use Rattle.utd_syntax.specs.Read.{read_operand, read_terms}
 use Rattle.utd_syntax.specs.Table.{TheOperand, TheExtend, TheSummarize, MoreInfix, TheUsing, AfterOperand}
 use Rattle.utd_syntax.specs.Written as written
-use Rattle.utd_builder.specs.Building.{left, behind}
+use Rattle.utd_builder.specs.Building.{left}
 use Rattle.utd_builder.specs.Choices.{infix_word_at}
 use Rattle.utd_builder.proofs.Steps.{at, less, no-more, just}
 use Rattle.utd_builder.proofs.RelationRows.{done-MoreInfix, done-MorePostfix, not-infix, rel-to-terms, terms-to-term, term-to-rel_primary, rel_primary-to-operand, using_part-to-operand, step-TheOperand, step-AfterOperand, is-infix_word, more-infix_word, more-pack_word, row-MoreInfix-infix_word, row-AfterOperand-infix_word, row-TheOperand-pack_word}

@@ -1,5 +1,4 @@
 use Rattle.std.proofs.Common.{◌++◌, sym, ap, arith}
-use Rattle.utd_syntax.specs.Pieces.{first}
 use Rattle.utd_syntax.specs.Plain as plain
 use Rattle.utd_syntax.specs.Read.{read_item, read_item_list}
 use Rattle.utd_syntax.specs.Table.{MoreItems}

@@ -1,7 +1,7 @@
 use Rattle.std.proofs.Common.{◌++◌, [], ◌∷◌, refl, sym, ◌∙◌, ap, append-nil, arith}
 use Rattle.utd_syntax.specs.declared.terminal.Terminal.TheVariants as t
 use Rattle.utd_syntax.specs.Read.{read_item, read_item_list}
-use Rattle.utd_syntax.specs.Table.{Comma, MoreItems}
+use Rattle.utd_syntax.specs.Table.{MoreItems}
 use Rattle.utd_syntax.proofs.Reader.{read}
 use Rattle.utd_syntax.proofs.FormValues.{Val}
 use Rattle.utd_builder.specs.Building.{left}

@@ -1,7 +1,7 @@
 use Rattle.std.proofs.Common.{◌∷◌, refl, sym, ◌∙◌, arith}
 use Rattle.utd_syntax.specs.declared.terminal.Terminal.TheVariants as t
 use Rattle.utd_syntax.specs.Table.{TheUsedItem}
-use Rattle.utd_builder.specs.Building.{left, behind}
+use Rattle.utd_builder.specs.Building.{left}
 use Rattle.utd_builder.proofs.Steps.{at, no-more, just}
 use Rattle.utd_builder.proofs.StatementRows.{step-TheUsedItem}
 use Rattle.utd_builder.proofs.ScalarRows.{step-TheName}
