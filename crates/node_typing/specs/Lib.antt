@@ -1,0 +1,10 @@
+pub mod Positions
+pub mod Headings
+pub mod Lists
+pub mod Infixes
+pub mod Projections
+pub mod Rows
+pub mod Summaries
+pub mod Sweeps
+pub mod Nodes
+pub mod Usings

@@ -1,0 +1,75 @@
+-- What USING asks of an operator behind the operator's own checks: first that the listed attributes are kept (E19), then that
+-- expressions are sweepable for them (E18). Positions are those of the listed attributes in the operand's heading.
+use Rattle.std.specs.Prelude.{ℕ, not, cond, List, [], ◌∷◌, ◌++◌, Ok, Option, Some, None}
+use Rattle.point_core.specs.declared.fault.Place.{Place}
+use Rattle.point_core.specs.declared.fault.Code.{Code}
+use Rattle.point_core.specs.declared.fault.Code.TheVariants.{E18, E19}
+use Rattle.point_core.specs.Faults.{OrFault}
+use Rattle.utd_syntax.specs.Plain.{Word, SetItemP, SetItem}
+use Rattle.value_core.specs.Headings.{has_name}
+use Rattle.value_core.specs.Values.{Name, Heading}
+use Rattle.scalar_core.specs.Expressions.{Expr, constant, attribute, one, pair, and_expr, or_expr}
+use Rattle.tree_core.specs.Trees.{PlainSets, PlainAggregateForm, count_rows, sum_of, min_of, max_of, PlainAggregate}
+use Rattle.scalar_typing.specs.Typings.{◌>>=◌, refused}
+use Rattle.algebra_core.specs.Sweeping.{among, first_place, sweep_fault}
+use Rattle.node_typing.specs.Lists.{named_in}
+use Rattle.node_typing.specs.Positions.{check}
+
+-- ---- attributes that are kept
+
+-- E19 at the first listed name that is no attribute of the heading
+abbrev pub all_kept : Heading → List Word → OrFault (Unit {0})
+all_kept heading [] = Ok tt
+all_kept heading (w ∷ rest) = do
+  kept ← check w.place E19 (has_name heading w.bytes)
+  all_kept heading rest
+
+-- E19 at the first item that assigns a listed attribute
+abbrev pub none_assigned : List Name → List SetItemP → OrFault (Unit {0})
+none_assigned names [] = Ok tt
+none_assigned names (SetItem w s ∷ rest) = do
+  kept ← check w.place E19 (not (named_in names w.bytes))
+  none_assigned names rest
+
+-- ---- sweepable expressions
+
+-- the refusal with this code at the place, where there is one
+abbrev pub refused_if : Code → Option Place → OrFault (Unit {0})
+refused_if code None = Ok tt
+refused_if code (Some place) = refused place code
+
+-- E18 at the first name that is in no atom
+abbrev pub swept : List ℕ → Expr → OrFault (Unit {0})
+swept acl e = refused_if E18 (sweep_fault acl e)
+
+-- of items in their order
+abbrev pub sets_swept : List ℕ → PlainSets → OrFault (Unit {0})
+sets_swept acl [] = Ok tt
+sets_swept acl (s ∷ rest) = do
+  item ← swept acl s.1
+  sets_swept acl rest
+
+-- the places of the names of listed attributes, in the order of the text
+abbrev pub named_places : List ℕ → Expr → List Place
+named_places acl (constant place kind v) = []
+named_places acl (attribute place i) = cond (among acl i) (place ∷ []) []
+named_places acl (one op place e) = named_places acl e
+named_places acl (pair op place l r) = named_places acl l ++ named_places acl r
+named_places acl (and_expr place l r) = named_places acl l ++ named_places acl r
+named_places acl (or_expr place l r) = named_places acl l ++ named_places acl r
+
+-- E18 at the first name of a listed attribute
+abbrev pub names_no : List ℕ → Expr → OrFault (Unit {0})
+names_no acl e = refused_if E18 (first_place (named_places acl e))
+
+abbrev pub form_names_no : List ℕ → PlainAggregateForm → OrFault (Unit {0})
+form_names_no acl count_rows = Ok tt
+form_names_no acl (sum_of e) = names_no acl e
+form_names_no acl (min_of e) = names_no acl e
+form_names_no acl (max_of e) = names_no acl e
+
+abbrev pub aggregates_name_no : List ℕ → List PlainAggregate → OrFault (Unit {0})
+aggregates_name_no acl [] = Ok tt
+aggregates_name_no acl (g ∷ rest) = do
+  item ← form_names_no acl g.form
+  aggregates_name_no acl rest

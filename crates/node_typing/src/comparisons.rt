@@ -1,0 +1,67 @@
+// Tests over typed operands.
+ghost use Rattle.std.specs.Prelude.{◌≡◌};
+ghost use Rattle.scalar_core.specs.Answers.{Gives};
+ghost use Rattle.tree_core.specs.Trees.{read_test, read_tree};
+ghost use Rattle.utd_syntax.specs.Read.{read_list};
+ghost use Rattle.node_typing.specs.Nodes as rules;
+
+use point_core::{Place, Stop};
+use std::alloc::Global;
+use tree_core::{RelTest, RelTree, RelateWord, TestForm};
+use utd_syntax::{EmptinessWord, NameList, RelationComparison};
+
+/// The comparison that a symbol names.
+pub fn relation_named(word: RelationComparison) -> RelateWord
+    ensures { result ≡ rules.relation_named word }
+{
+    match word {
+        RelationComparison::Equal => RelateWord::Equal,
+        RelationComparison::NotEqual => RelateWord::NotEqual,
+        RelationComparison::Less => RelateWord::Less,
+        RelationComparison::LessEqual => RelateWord::LessEqual,
+        RelationComparison::Greater => RelateWord::Greater,
+        RelationComparison::GreaterEqual => RelateWord::GreaterEqual,
+    }
+}
+
+/// A comparison of two relations: E13 at the place where their headings differ.
+pub fn type_comparison(
+    place: Place,
+    word: RelateWord,
+    left: RelTree,
+    right: RelTree,
+) -> Result<RelTest, Stop>
+    ensures { Gives read_test result (rules.comparison_rule place word (read_tree left) (read_tree right)) }
+{
+    Err(Stop::Memory)
+}
+
+/// A comparison under USING: the refusals of the list, then E13 at the place where the headings differ.
+pub fn type_using_comparison(
+    alloc: Global,
+    list: &NameList,
+    place: Place,
+    word: RelateWord,
+    left: RelTree,
+    right: RelTree,
+) -> Result<RelTest, Stop>
+    ensures { Gives read_test result (rules.using_comparison_rule (read_list list.now) place word (read_tree left) (read_tree right)) }
+{
+    Err(Stop::Memory)
+}
+
+/// A test whether a relation has rows.
+pub fn emptiness_test(place: Place, word: EmptinessWord, t: RelTree) -> RelTest
+    ensures { read_test result ≡ rules.emptiness_test place word (read_tree t) }
+{
+    match word {
+        EmptinessWord::IsEmpty => RelTest {
+            place,
+            form: TestForm::IsEmpty(t),
+        },
+        EmptinessWord::IsNotEmpty => RelTest {
+            place,
+            form: TestForm::IsNotEmpty(t),
+        },
+    }
+}
