@@ -1,0 +1,220 @@
+-- What USING asks of the attributes and the expressions of an operator, told by what is checked.
+use Rattle.std.specs.Prelude.{◌≡◌, ℕ, Bool, true, false, not, cond, ◌&&◌, ◌||◌, List, [], ◌∷◌, ◌++◌, map, nat_eq, Option, Some, None, is_none, Ok, Err, IfOk, IsTrue, refl}
+use Rattle.std.proofs.Common.{sym, ◌∙◌, ap, subst, inl, inr, ◌⊎◌, eq-eqb}
+use Rattle.std.specs.List.{list_all, list_any}
+use Rattle.std.specs.Str.{bytes_eq}
+use Rattle.std.proofs.lemmas.Bool.{true≢false, and_from, false_from_ne_true, not_from_false, not-true}
+use Rattle.base_core.proofs.SetLemmas.{In}
+use Rattle.base_core.proofs.MemberLemmas.{list_all-In, list_any-In, In-append}
+use Rattle.point_core.specs.declared.any_type.AnyType.{AnyType}
+use Rattle.point_core.specs.declared.any_type.AnyType.TheVariants.{Integer, Date, Ordinal}
+use Rattle.point_core.specs.declared.fault.Place.{Place}
+use Rattle.point_core.specs.declared.fault.Code.{Code}
+use Rattle.point_core.specs.Faults.{OrFault}
+use Rattle.utd_syntax.specs.Plain.{Word, ScalarP, SetItemP, SetItem}
+use Rattle.value_core.specs.declared.kind.Kind.{Kind}
+use Rattle.value_core.specs.declared.kind.Kind.TheVariants.{Truth, Char, Point, Span}
+use Rattle.value_core.specs.declared.list.OrdinalNames.{OrdinalNames}
+use Rattle.value_core.specs.Headings.{has_name}
+use Rattle.value_core.specs.Values.{Name, Heading}
+use Rattle.scalar_core.specs.Expressions.{Expr, constant, attribute, one, pair, and_expr, or_expr}
+use Rattle.scalar_core.specs.KindOf.{same_type, same_kind}
+use Rattle.relation_core.specs.Agreement.{position_of}
+use Rattle.relation_typing.specs.Attributes.{with_attribute, new_name}
+use Rattle.relation_typing.specs.Items.{Made, item_typed}
+use Rattle.scalar_typing.specs.Scalars.{typed_scalar}
+use Rattle.scalar_typing.specs.Typings.{Typed, ◌>>=◌, refused}
+use Rattle.scalar_typing.proofs.SoundLemmas.{then-sound}
+use Rattle.tree_core.specs.Trees.{PlainSets, PlainAggregateForm, count_rows, sum_of, min_of, max_of, PlainAggregate}
+use Rattle.algebra_core.specs.Sweeping.{among, first_place, names_any, sweep_fault}
+use Rattle.algebra_core.specs.Typing.{kind_at, is_alike_at, are_in, is_swept, names_none}
+use Rattle.node_typing.specs.Lists.{names_of_words, named_in, kind_named}
+use Rattle.node_typing.specs.Positions.{check}
+use Rattle.node_typing.specs.Rows.{items_typed}
+use Rattle.node_typing.specs.Sweeps.{all_kept, none_assigned, refused_if, swept, sets_swept, named_places, names_no, form_names_no, aggregates_name_no}
+use Rattle.type_check.proofs.ItemLemmas.{any-given}
+use Rattle.type_check.proofs.PositionLemmas.{held, own, name-is}
+use Rattle.type_check.proofs.RenamingLemmas.{word-typed}
+use Rattle.relation_typing.specs.Attributes.{name_typed}
+use Rattle.point_core.specs.declared.fault.Code.TheVariants.{E15, E18}
+use Rattle.std.specs.Prelude.{if◌then◌else◌}
+
+-- two things that hold of what is given
+pub both-hold : {X : Type 0} (P Q : X → Type 0) (r : OrFault X) → IfOk r P → IfOk r Q → IfOk r (λ x. P x × Q x)
+both-hold P Q (Ok x) h k = (h, k)
+both-hold P Q (Err e) h k = tt
+
+-- ---- attributes of one kind
+
+same_type-self : (t : AnyType) → same_type t t ≡ true
+same_type-self Integer = refl
+same_type-self Date = refl
+same_type-self (Ordinal of last) = and_from (nat_eq of of) (nat_eq last last) (eq-eqb of of refl) (eq-eqb last last refl)
+
+pub same_kind-self : (k : Kind) → same_kind k k ≡ true
+same_kind-self Truth = refl
+same_kind-self Char = refl
+same_kind-self (Point t) = same_type-self t
+same_kind-self (Span t) = same_type-self t
+
+alike : (h g : Heading) (name : Name) → IsTrue (has_name h name) → IsTrue (has_name g name) → kind_named h name ≡ kind_named g name → IsTrue (is_alike_at h g name)
+alike h g name here there same =
+    let kinds : IsTrue (same_kind (kind_named h name) (kind_named g name)) = subst (λ (k : Kind). IsTrue (same_kind (kind_named h name) k)) same (same_kind-self (kind_named h name)) in
+    and_from (has_name h name) (has_name g name && same_kind (kind_named h name) (kind_named g name)) here
+    (and_from (has_name g name) (same_kind (kind_named h name) (kind_named g name)) there kinds)
+
+-- the attributes of the names stand in both headings, with the same kinds
+pub all-alike : (h g : Heading) (names : List Name)
+    → ((name : Name) → In name names → IsTrue (has_name h name) × IsTrue (has_name g name) × (kind_named h name ≡ kind_named g name)) → IsTrue (are_in h names g)
+all-alike h g names known =
+    (list_all-In (is_alike_at h g) names).1 (λ name i. alike h g name (known name i).0 (known name i).1 (known name i).2)
+
+-- ---- attributes that are kept
+
+pub all-kept : (h : Heading) (words : List Word) → IfOk (all_kept h words) (λ _. (name : Name) → In name (names_of_words words) → IsTrue (has_name h name))
+all-kept h [] = λ name i. absurd i
+all-kept h (w ∷ rest) =
+    then-sound (λ _. IsTrue (has_name h w.bytes)) _ (check w.place _ (has_name h w.bytes)) _ (held w.place _ (has_name h w.bytes)) (λ _ here. onward (all_kept h rest) here (all-kept h rest))
+  where
+    onward : (r : OrFault (Unit {0})) → IsTrue (has_name h w.bytes) → IfOk r (λ _. (name : Name) → In name (names_of_words rest) → IsTrue (has_name h name))
+        → IfOk r (λ _. (name : Name) → In name (names_of_words (w ∷ rest)) → IsTrue (has_name h name))
+    onward (Ok u) here k = λ name i. elim i [ inl e ↦ subst (λ (n : Name). IsTrue (has_name h n)) (sym e) here | inr j ↦ k name j ]
+    onward (Err e) here k = tt
+
+-- ---- names that are assigned
+
+-- an item has the name
+abbrev pub Assigns : List SetItemP → Name → Type 0
+Assigns [] name = ⊥
+Assigns (SetItem w s ∷ rest) name = (name ≡ w.bytes) ⊎ Assigns rest name
+
+abbrev pub AreAssigned : List SetItemP → PlainSets → Type 0
+AreAssigned list sets = (s : Name × Expr) → In s sets → Assigns list s.0
+
+none-assigned : (names : List Name) (list : List SetItemP) → IfOk (none_assigned names list) (λ _. (name : Name) → Assigns list name → named_in names name ≡ false)
+none-assigned names [] = λ name i. absurd i
+none-assigned names (SetItem w s ∷ rest) =
+    then-sound (λ _. IsTrue (not (named_in names w.bytes))) _ (check w.place _ (not (named_in names w.bytes))) _ (held w.place _ (not (named_in names w.bytes)))
+    (λ _ here. onward (none_assigned names rest) (not-true (named_in names w.bytes) here) (none-assigned names rest))
+  where
+    onward : (r : OrFault (Unit {0})) → named_in names w.bytes ≡ false → IfOk r (λ _. (name : Name) → Assigns rest name → named_in names name ≡ false)
+        → IfOk r (λ _. (name : Name) → Assigns (SetItem w s ∷ rest) name → named_in names name ≡ false)
+    onward (Ok u) here k = λ name i. elim i [ inl e ↦ subst (λ (n : Name). named_in names n ≡ false) (sym e) here | inr j ↦ k name j ]
+    onward (Err e) here k = tt
+
+-- no item has a name of the list
+abbrev pub AreOthers : List Name → PlainSets → Type 0
+AreOthers names sets = (name : Name) (s : Name × Expr) → In name names → In s sets → bytes_eq name s.0 ≡ true → ⊥
+
+pub others-assigned : (names : List Name) (list : List SetItemP) (sets : PlainSets) → AreAssigned list sets → IfOk (none_assigned names list) (λ _. AreOthers names sets)
+others-assigned names list sets assigned = onward (none_assigned names list) (none-assigned names list)
+  where
+    onward : (r : OrFault (Unit {0})) → IfOk r (λ _. (name : Name) → Assigns list name → named_in names name ≡ false) → IfOk r (λ _. AreOthers names sets)
+    onward (Ok u) k = λ name s i j e.
+        let one : name ≡ s.0 = name-is name s.0 e in
+        let named : IsTrue (named_in names s.0) = (list_any-In (bytes_eq s.0) names).1 (name, i, subst (λ (n : Name). bytes_eq s.0 n ≡ true) (sym one) (own s.0)) in
+        true≢false (sym named ∙ k s.0 (assigned s j))
+    onward (Err e) k = tt
+
+pub others-none : (names : List Name) (sets : PlainSets) → AreOthers names sets → IsTrue (not (list_any (λ n. list_any (λ (s : Name × Expr). bytes_eq n s.0) sets) names))
+others-none names sets h =
+    not_from_false (list_any (λ n. list_any (λ (s : Name × Expr). bytes_eq n s.0) sets) names)
+    (false_from_ne_true (list_any (λ n. list_any (λ (s : Name × Expr). bytes_eq n s.0) sets) names) (λ e.
+    let n = (list_any-In (λ n. list_any (λ (s : Name × Expr). bytes_eq n s.0) sets) names).0 e in
+    let s = (list_any-In (λ (s : Name × Expr). bytes_eq n.0 s.0) sets).0 n.2 in
+    h n.0 s.0 n.1 s.1 s.2))
+
+new-word : (h : Heading) (w : Word) → IfOk (new_name h w) (λ (name : Name). name ≡ w.bytes)
+new-word h w =
+    then-sound (λ (name : Name). name ≡ w.bytes) (λ (name : Name). name ≡ w.bytes) (name_typed w) _ (word-typed w) (λ name is. by-test name is (has_name h name))
+  where
+    by-test : (name : Name) → name ≡ w.bytes → (b : Bool) → IfOk (if b then refused w.place E15 else Ok name) (λ (n : Name). n ≡ w.bytes)
+    by-test name is true = tt
+    by-test name is false = is
+
+item-assigned : (types : List OrdinalNames) (from : Heading) (list : List SetItemP) (before : Made) (w : Word) (s : ScalarP) → Assigns list w.bytes → AreAssigned list before.0
+    → IfOk (item_typed types from before w s) (λ (m : Made). AreAssigned list m.0)
+item-assigned types from list before w s here h =
+    then-sound (λ (name : Name). name ≡ w.bytes) (λ (m : Made). AreAssigned list m.0) (new_name before.1 w) _ (new-word before.1 w) (λ name is.
+    then-sound (λ _. Unit {0}) (λ (m : Made). AreAssigned list m.0) (typed_scalar types from s) _ (any-given (typed_scalar types from s)) (λ e _ t i.
+    elim ((In-append t before.0 ((name, e.0) ∷ [])).0 i) [
+      | inl j ↦ h t j
+      | inr j ↦ elim j [ inl k ↦ subst (Assigns list) (sym (ap (λ (z : Name × Expr). z.0) k ∙ is)) here | inr k ↦ absurd k ]
+    ]))
+
+pub items-assigned : (types : List OrdinalNames) (from : Heading) (list : List SetItemP) (before : Made) (rest : List SetItemP) → ((name : Name) → Assigns rest name → Assigns list name) → AreAssigned list before.0
+    → IfOk (items_typed types from before rest) (λ (m : Made). AreAssigned list m.0)
+items-assigned types from list before [] within h = h
+items-assigned types from list before (SetItem w s ∷ rest) within h =
+    then-sound (λ (m : Made). AreAssigned list m.0) (λ (m : Made). AreAssigned list m.0) (item_typed types from before w s) _
+    (item-assigned types from list before w s (within w.bytes (inl refl)) h) (λ next is. items-assigned types from list next rest (λ name g. within name (inr g)) is)
+
+-- ---- sweepable expressions
+
+pub swept-is : (acl : List ℕ) (e : Expr) → IfOk (swept acl e) (λ _. IsTrue (is_swept acl e))
+swept-is acl e = by-place (sweep_fault acl e) refl
+  where
+    by-place : (o : Option Place) → sweep_fault acl e ≡ o → IfOk (refused_if E18 o) (λ _. IsTrue (is_swept acl e))
+    by-place None h = ap is_none h
+    by-place (Some place) h = tt
+
+pub sets-swept : (acl : List ℕ) (sets : PlainSets) → IfOk (sets_swept acl sets) (λ _. IsTrue (list_all (λ (s : Name × Expr). is_swept acl s.1) sets))
+sets-swept acl [] = refl
+sets-swept acl (s ∷ rest) =
+    then-sound (λ _. IsTrue (is_swept acl s.1)) _ (swept acl s.1) _ (swept-is acl s.1) (λ _ here. onward (sets_swept acl rest) here (sets-swept acl rest))
+  where
+    onward : (r : OrFault (Unit {0})) → IsTrue (is_swept acl s.1) → IfOk r (λ _. IsTrue (list_all (λ (s : Name × Expr). is_swept acl s.1) rest))
+        → IfOk r (λ _. IsTrue (list_all (λ (s : Name × Expr). is_swept acl s.1) (s ∷ rest)))
+    onward (Ok u) here k = and_from (is_swept acl s.1) (list_all (λ (t : Name × Expr). is_swept acl t.1) rest) here k
+    onward (Err e) here k = tt
+
+-- ---- expressions without listed attributes
+
+first-none : (xs ys : List Place) → first_place (xs ++ ys) ≡ None → (first_place xs ≡ None) × (first_place ys ≡ None)
+first-none [] ys h = (refl, h)
+first-none (p ∷ xs) ys h = absurd cc
+
+or-false : (a b : Bool) → a ≡ false → b ≡ false → (a || b) ≡ false
+or-false true b h k = h
+or-false false b h k = k
+
+unnamed : (acl : List ℕ) (e : Expr) → first_place (named_places acl e) ≡ None → names_any acl e ≡ false
+unnamed acl (constant place kind v) h = refl
+unnamed acl (attribute place i) h = by-test (among acl i) h
+  where
+    by-test : (b : Bool) → first_place (cond b (place ∷ []) []) ≡ None → b ≡ false
+    by-test true h = absurd cc
+    by-test false h = refl
+unnamed acl (one op place e) h = unnamed acl e h
+unnamed acl (pair op place l r) h =
+    let parts = first-none (named_places acl l) (named_places acl r) h in
+    or-false (names_any acl l) (names_any acl r) (unnamed acl l parts.0) (unnamed acl r parts.1)
+unnamed acl (and_expr place l r) h =
+    let parts = first-none (named_places acl l) (named_places acl r) h in
+    or-false (names_any acl l) (names_any acl r) (unnamed acl l parts.0) (unnamed acl r parts.1)
+unnamed acl (or_expr place l r) h =
+    let parts = first-none (named_places acl l) (named_places acl r) h in
+    or-false (names_any acl l) (names_any acl r) (unnamed acl l parts.0) (unnamed acl r parts.1)
+
+names-none : (acl : List ℕ) (e : Expr) → IfOk (names_no acl e) (λ _. IsTrue (not (names_any acl e)))
+names-none acl e = by-place (first_place (named_places acl e)) refl
+  where
+    by-place : (o : Option Place) → first_place (named_places acl e) ≡ o → IfOk (refused_if E18 o) (λ _. IsTrue (not (names_any acl e)))
+    by-place None h = not_from_false (names_any acl e) (unnamed acl e h)
+    by-place (Some place) h = tt
+
+form-none : (acl : List ℕ) (form : PlainAggregateForm) → IfOk (form_names_no acl form) (λ _. IsTrue (names_none acl form))
+form-none acl count_rows = refl
+form-none acl (sum_of e) = names-none acl e
+form-none acl (min_of e) = names-none acl e
+form-none acl (max_of e) = names-none acl e
+
+pub aggregates-none : (acl : List ℕ) (aggregates : List PlainAggregate) → IfOk (aggregates_name_no acl aggregates) (λ _. IsTrue (list_all (λ (a : PlainAggregate). names_none acl a.form) aggregates))
+aggregates-none acl [] = refl
+aggregates-none acl (g ∷ rest) =
+    then-sound (λ _. IsTrue (names_none acl g.form)) _ (form_names_no acl g.form) _ (form-none acl g.form) (λ _ here. onward (aggregates_name_no acl rest) here (aggregates-none acl rest))
+  where
+    onward : (r : OrFault (Unit {0})) → IsTrue (names_none acl g.form) → IfOk r (λ _. IsTrue (list_all (λ (a : PlainAggregate). names_none acl a.form) rest))
+        → IfOk r (λ _. IsTrue (list_all (λ (a : PlainAggregate). names_none acl a.form) (g ∷ rest)))
+    onward (Ok u) here k = and_from (names_none acl g.form) (list_all (λ (a : PlainAggregate). names_none acl a.form) rest) here k
+    onward (Err e) here k = tt

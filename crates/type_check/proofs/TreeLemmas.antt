@@ -1,0 +1,172 @@
+-- Typed expressions and tests are typed for evaluation.
+use Rattle.std.specs.Prelude.{◌≡◌, ◌≤◌, ℕ, Bool, true, false, List, [], ◌∷◌, map, length, Option, Some, None, option_map, Ok, Err, IfOk, IsTrue, refl, if◌then◌else◌}
+use Rattle.std.proofs.Common.{sym, ◌∙◌, ap, subst}
+use Rattle.std.specs.List.{All}
+use Rattle.std.specs.Str.{bytes_eq}
+use Rattle.point_core.specs.declared.fault.Place.{Place}
+use Rattle.point_core.specs.declared.fault.Code.{Code}
+use Rattle.point_core.specs.declared.fault.Code.TheVariants.{E10}
+use Rattle.point_core.specs.Faults.{OrFault}
+use Rattle.utd_syntax.specs.Plain as syntax
+use Rattle.utd_syntax.specs.Plain.{Word, NameListP, RelP, TermsP, TermP, RelPrimaryP, OperandP, ExtendP, SummarizeP, UsingP, UsingPartP, ComparisonP, TestP}
+use Rattle.value_core.specs.declared.list.OrdinalNames.{OrdinalNames}
+use Rattle.value_core.specs.Values.{Name, Heading, is_heading}
+use Rattle.relation_core.proofs.HeadingLemmas.{heading_ascends}
+use Rattle.relation_typing.specs.Attributes.{name_typed}
+use Rattle.scalar_typing.specs.Names.{AreOrdinals}
+use Rattle.scalar_typing.specs.Typings.{◌>>=◌, value_or}
+use Rattle.scalar_typing.proofs.SoundLemmas.{then-sound}
+use Rattle.tree_core.specs.Relvars.{PlainRelvar, Entries, State, relvar_named, relvar_heading}
+use Rattle.tree_core.specs.Trees.{Tree, named, Test, heading_of}
+use Rattle.tree_core.specs.declared.tree.InfixWord.{InfixWord}
+use Rattle.tree_core.specs.declared.tree.InfixWord.TheVariants.{NotMatching}
+use Rattle.algebra_core.specs.Typing.{heading_named, Headings, IsTypedTree, IsTypedTest}
+use Rattle.algebra_core.specs.WellMade.{sizes_of, headings_of, IsOrdinalType, IsWellMade, IsTypedFor, IsTypedTestFor}
+use Rattle.node_typing.specs.Infixes.{infix_named}
+use Rattle.node_typing.specs.Nodes.{relation_named}
+use Rattle.tree_typing.specs.Trees.{relvar_typed, infix_typed, used_infix_typed, rel_typed, terms_typed, term_typed, primary_typed, operand_typed, extend_typed, summarize_typed, using_typed, used_typed, used_extend_typed, used_summarize_typed, tree_typed, comparison_typed, used_comparison_typed, test_typed}
+use Rattle.type_check.proofs.AggregateLemmas.{summary-sound}
+use Rattle.type_check.proofs.DeclaredLemmas.{declared-heading, typed-declared}
+use Rattle.type_check.proofs.ExtensionLemmas.{extension-sound}
+use Rattle.type_check.proofs.InfixLemmas.{infix-sound, projection-sound, restriction-sound}
+use Rattle.type_check.proofs.ItemLemmas.{any-given}
+use Rattle.type_check.proofs.ListLemmas.{packing-sound, comparison-sound, using-comparison-sound, emptiness-sound}
+use Rattle.type_check.proofs.LiteralLemmas.{literal-sound}
+use Rattle.type_check.proofs.RenamingLemmas.{renaming-sound}
+use Rattle.type_check.proofs.UsingLemmas.{using-infix-sound, using-projection-sound, using-restriction-sound, using-extension-sound, using-summary-sound}
+
+-- few enough ordinal types and values
+pub are-ordinals : (state : State) → IsWellMade state → AreOrdinals state.ordinals
+are-ordinals state made = (made.few, λ k d l. (made.ordinals k d l).few)
+
+-- the heading of a name is that of its relvar or view
+named-heading : (entries : Entries) (name : Name) → heading_named (headings_of entries) name ≡ option_map relvar_heading (relvar_named entries name)
+named-heading [] name = refl
+named-heading (r ∷ rest) name = by-test (bytes_eq r.0 name) (named-heading rest name)
+  where
+    by-test : (b : Bool) → heading_named (headings_of rest) name ≡ option_map relvar_heading (relvar_named rest name)
+        → (if b then Some (relvar_heading r.1) else heading_named (headings_of rest) name) ≡ option_map relvar_heading (if b then Some r.1 else relvar_named rest name)
+    by-test true more = refl
+    by-test false more = more
+
+module _ (state : State) (made : IsWellMade state) where
+  headed : (t : Tree) → IsTypedFor state t → IsTrue (is_heading (heading_of t))
+  headed t typed = declared-heading (sizes_of state.ordinals) (heading_of t) (typed-declared state t made typed)
+
+  -- ---- names
+
+  relvar-sound : (w : Word) → IfOk (relvar_typed state w) (IsTypedFor state)
+  relvar-sound w =
+      then-sound (λ _. Unit {0}) (IsTypedFor state) (name_typed w) _ (any-given (name_typed w)) (λ name _. by-name name (relvar_named state.relvars name) (named-heading state.relvars name))
+    where
+      by-name : (name : Name) (o : Option PlainRelvar) → heading_named (headings_of state.relvars) name ≡ option_map relvar_heading o
+          → IfOk (value_or w.place E10 o >>= (λ found. Ok (named w.place (relvar_heading found) name))) (IsTypedFor state)
+      by-name name None h = tt
+      by-name name (Some r) h = h
+
+  -- ---- parts
+
+  part-sound : (r : OrFault Tree) (f : Tree → OrFault Tree) → IfOk r (IsTypedFor state) → ((t : Tree) → IsTypedFor state t → IfOk (f t) (IsTypedFor state)) → IfOk (r >>= f) (IsTypedFor state)
+  part-sound r f h more = then-sound (IsTypedFor state) (IsTypedFor state) r f h more
+
+  infix-typed : (at : Place) (word : InfixWord) (l r : OrFault Tree) → IfOk l (IsTypedFor state) → IfOk r (IsTypedFor state) → IfOk (infix_typed at word l r) (IsTypedFor state)
+  infix-typed at word l r h k =
+      part-sound l _ h (λ left a. part-sound r _ k (λ right b. infix-sound (sizes_of state.ordinals) (headings_of state.relvars) at word left right a b))
+
+  used-infix-typed : (place : Place) (acl : NameListP) (at : Place) (word : InfixWord) (l r : OrFault Tree) → IfOk l (IsTypedFor state) → IfOk r (IsTypedFor state)
+      → IfOk (used_infix_typed place acl at word l r) (IsTypedFor state)
+  used-infix-typed place acl at word l r h k =
+      part-sound l _ h (λ left a. part-sound r _ k (λ right b.
+      using-infix-sound (sizes_of state.ordinals) (headings_of state.relvars) place acl at word left right (headed left a) (headed right b) a b))
+
+  -- ---- expressions
+
+  mutual
+    pub rel-sound : (r : RelP) → IfOk (rel_typed state r) (IsTypedFor state)
+    rel-sound (syntax.OfUsing u) = using-sound u
+    rel-sound (syntax.OfTerms t) = terms-sound t
+
+    terms-sound : (t : TermsP) → IfOk (terms_typed state t) (IsTypedFor state)
+    terms-sound (syntax.OneTerm t) = term-sound t
+    terms-sound (syntax.Infix l at w r) = infix-typed at (infix_named w) (terms_typed state l) (term_typed state r) (terms-sound l) (term-sound r)
+    terms-sound (syntax.NotMatching l at r) = infix-typed at NotMatching (terms_typed state l) (term_typed state r) (terms-sound l) (term-sound r)
+
+    term-sound : (t : TermP) → IfOk (term_typed state t) (IsTypedFor state)
+    term-sound (syntax.OneRelPrimary p) = primary-sound p
+    term-sound (syntax.Project t p) =
+        part-sound (term_typed state t) _ (term-sound t) (λ part h. projection-sound (sizes_of state.ordinals) (headings_of state.relvars) p part h)
+    term-sound (syntax.Filter t at c) =
+        part-sound (term_typed state t) _ (term-sound t) (λ part h. restriction-sound state.ordinals made.ordinals (headings_of state.relvars) at c part h)
+    term-sound (syntax.Rename t at r) =
+        part-sound (term_typed state t) _ (term-sound t) (λ part h. renaming-sound (sizes_of state.ordinals) (headings_of state.relvars) at r part (headed part h) h)
+
+    primary-sound : (p : RelPrimaryP) → IfOk (primary_typed state p) (IsTypedFor state)
+    primary-sound (syntax.OfExtend e) = extend-sound e
+    primary-sound (syntax.OfSummarize s) = summarize-sound s
+    primary-sound (syntax.OfOperand o) = operand-sound o
+
+    pub operand-sound : (o : OperandP) → IfOk (operand_typed state o) (IsTypedFor state)
+    operand-sound (syntax.Relvar w) = relvar-sound w
+    operand-sound (syntax.OfLiteral l) = literal-sound state.ordinals made.ordinals (headings_of state.relvars) l
+    operand-sound (syntax.ParenRel at r) = rel-sound r
+    operand-sound (syntax.PackOn at w r acl) =
+        part-sound (rel_typed state r) _ (rel-sound r) (λ part h. packing-sound (sizes_of state.ordinals) (headings_of state.relvars) at w acl part h)
+
+    extend-sound : (e : ExtendP) → IfOk (extend_typed state e) (IsTypedFor state)
+    extend-sound (syntax.Extend at r sets) =
+        part-sound (rel_typed state r) _ (rel-sound r) (λ part h.
+        extension-sound state.ordinals made.ordinals (headings_of state.relvars) at sets part (heading_ascends (heading_of part) (headed part h)) h)
+
+    summarize-sound : (s : SummarizeP) → IfOk (summarize_typed state s) (IsTypedFor state)
+    summarize-sound (syntax.Summarize at r by aggregates) =
+        part-sound (rel_typed state r) _ (rel-sound r) (λ part h. summary-sound state.ordinals made.ordinals (headings_of state.relvars) at by aggregates part (headed part h) h)
+
+    using-sound : (u : UsingP) → IfOk (using_typed state u) (IsTypedFor state)
+    using-sound (syntax.Using at acl part) = used-sound at acl part
+
+    used-sound : (place : Place) (acl : NameListP) (part : UsingPartP) → IfOk (used_typed state place acl part) (IsTypedFor state)
+    used-sound place acl (syntax.UsingExtend e) = used-extend-sound place acl e
+    used-sound place acl (syntax.UsingSummarize s) = used-summarize-sound place acl s
+    used-sound place acl (syntax.UsingInfix l at w r) =
+        used-infix-typed place acl at (infix_named w) (operand_typed state l) (operand_typed state r) (operand-sound l) (operand-sound r)
+    used-sound place acl (syntax.UsingNotMatching l at r) =
+        used-infix-typed place acl at NotMatching (operand_typed state l) (operand_typed state r) (operand-sound l) (operand-sound r)
+    used-sound place acl (syntax.UsingProject o p) =
+        part-sound (operand_typed state o) _ (operand-sound o) (λ part h. using-projection-sound (sizes_of state.ordinals) (headings_of state.relvars) place acl p part (headed part h) h)
+    used-sound place acl (syntax.UsingFilter o at c) =
+        part-sound (operand_typed state o) _ (operand-sound o) (λ part h. using-restriction-sound state.ordinals made.ordinals (headings_of state.relvars) place acl at c part h)
+
+    used-extend-sound : (place : Place) (acl : NameListP) (e : ExtendP) → IfOk (used_extend_typed state place acl e) (IsTypedFor state)
+    used-extend-sound place acl (syntax.Extend at r sets) =
+        part-sound (rel_typed state r) _ (rel-sound r) (λ part h.
+        using-extension-sound state.ordinals made.ordinals (headings_of state.relvars) place acl at sets part (headed part h) h)
+
+    used-summarize-sound : (place : Place) (acl : NameListP) (s : SummarizeP) → IfOk (used_summarize_typed state place acl s) (IsTypedFor state)
+    used-summarize-sound place acl (syntax.Summarize at r by aggregates) =
+        part-sound (rel_typed state r) _ (rel-sound r) (λ part h.
+        using-summary-sound state.ordinals made.ordinals (headings_of state.relvars) place acl at by aggregates part (headed part h) h)
+
+  -- ---- tests
+
+  compared : (c : ComparisonP) → IfOk (comparison_typed state c) (IsTypedTestFor state)
+  compared (syntax.Comparison l at w r) =
+      then-sound (IsTypedFor state) (IsTypedTestFor state) (operand_typed state l) _ (operand-sound l) (λ left a.
+      then-sound (IsTypedFor state) (IsTypedTestFor state) (operand_typed state r) _ (operand-sound r) (λ right b.
+      comparison-sound (sizes_of state.ordinals) (headings_of state.relvars) at (relation_named w) left right a b))
+
+  used-compared : (acl : NameListP) (c : ComparisonP) → IfOk (used_comparison_typed state acl c) (IsTypedTestFor state)
+  used-compared acl (syntax.Comparison l at w r) =
+      then-sound (IsTypedFor state) (IsTypedTestFor state) (operand_typed state l) _ (operand-sound l) (λ left a.
+      then-sound (IsTypedFor state) (IsTypedTestFor state) (operand_typed state r) _ (operand-sound r) (λ right b.
+      using-comparison-sound (sizes_of state.ordinals) (headings_of state.relvars) acl at (relation_named w) left right a b))
+
+  pub tree-sound : (r : RelP) → IfOk (tree_typed state r) (IsTypedFor state)
+  unfolding tree_typed
+  tree-sound r = rel-sound r
+
+  pub test-sound : (t : TestP) → IfOk (test_typed state t) (IsTypedTestFor state)
+  unfolding test_typed
+  test-sound (syntax.UsingTest at acl c) = used-compared acl c
+  test-sound (syntax.OfComparison c) = compared c
+  test-sound (syntax.Emptiness at w r) =
+      then-sound (IsTypedFor state) (IsTypedTestFor state) (rel_typed state r) _ (rel-sound r) (λ t h. emptiness-sound (sizes_of state.ordinals) (headings_of state.relvars) at w t h)
