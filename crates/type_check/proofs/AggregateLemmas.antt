@@ -1,12 +1,10 @@
 -- Typed summaries are typed for evaluation.
-use Rattle.std.specs.Prelude.{◌≡◌, ◌≤◌, ℕ, Bool, true, false, List, [], ◌∷◌, ◌++◌, length, Ok, Err, IfOk, IsTrue, refl}
-use Rattle.std.proofs.Common.{sym, ◌∙◌, ap, subst}
+use Rattle.std.specs.Prelude.{◌≡◌, ◌≤◌, ℕ, true, false, List, [], ◌∷◌, ◌++◌, length, IfOk, IsTrue, refl}
+use Rattle.std.proofs.Common.{sym, subst}
 use Rattle.std.specs.List.{All}
 use Rattle.std.proofs.lemmas.Bool.{true≢false}
-use Rattle.base_core.proofs.SetLemmas.{Ascends}
 use Rattle.point_core.specs.declared.any_type.AnyType.TheVariants.{Integer}
 use Rattle.point_core.specs.declared.fault.Place.{Place}
-use Rattle.point_core.specs.Faults.{OrFault}
 use Rattle.utd_syntax.specs.declared.words.AggregateWord.{AggregateWord}
 use Rattle.utd_syntax.specs.declared.words.AggregateWord.TheVariants.{Sum, Min, Max}
 use Rattle.utd_syntax.specs.Plain as syntax
@@ -15,18 +13,17 @@ use Rattle.value_core.specs.declared.kind.Kind.{Kind}
 use Rattle.value_core.specs.declared.kind.Kind.TheVariants.{Truth, Char, Point, Span}
 use Rattle.value_core.specs.declared.list.OrdinalNames.{OrdinalNames}
 use Rattle.value_core.specs.Headings.{has_name, IsHeadingOf}
-use Rattle.value_core.specs.Values.{Name, Heading, attribute_cmp, is_heading}
+use Rattle.value_core.specs.Values.{Name, Heading, is_heading}
 use Rattle.scalar_core.specs.Expressions.{Expr}
-use Rattle.scalar_core.specs.KindOf.{same_kind, is_ordered}
+use Rattle.scalar_core.specs.KindOf.{is_ordered}
 use Rattle.scalar_core.specs.Kinds.{IsOrdered}
 use Rattle.relation_core.specs.Parts.{attributes_at}
 use Rattle.relation_core.proofs.HeadingLemmas.{part_ascends}
 use Rattle.relation_typing.specs.Attributes.{with_attribute, new_name, few_attributes}
 use Rattle.scalar_typing.specs.Scalars.{typed_scalar}
-use Rattle.scalar_typing.specs.Typings.{◌>>=◌}
 use Rattle.scalar_typing.proofs.SoundLemmas.{then-sound}
 use Rattle.scalar_typing.proofs.TypedLemmas.{same_kind-same}
-use Rattle.tree_core.specs.Trees.{PlainAggregateForm, count_rows, sum_of, min_of, max_of, PlainAggregate, Tree, heading_of}
+use Rattle.tree_core.specs.Trees.{PlainAggregate, Tree, heading_of}
 use Rattle.algebra_core.specs.Typing.{IsScalar, HasKind, Sums, ArePositions, IsSummary, Headings, IsTypedTree}
 use Rattle.algebra_core.specs.WellMade.{sizes_of, IsOrdinalType}
 use Rattle.node_typing.specs.Nodes.{summary_rule}

@@ -1,19 +1,15 @@
 -- Typed expressions have headings: at most 16 attributes in order, of kinds there are.
-use Rattle.std.specs.Prelude.{◌≡◌, ◌<◌, ◌≤◌, ℕ, zero, suc, Bool, true, false, not, ◌&&◌, List, [], ◌∷◌, ◌++◌, map, filter, length, get_or, Option, Some, None, IsTrue, refl, if◌then◌else◌}
-use Rattle.std.proofs.Common.{arith, sym, ◌∙◌, ap, subst, inl, inr}
+use Rattle.std.specs.Prelude.{◌≡◌, ◌<◌, ◌≤◌, ℕ, zero, suc, Bool, true, false, not, List, [], ◌∷◌, ◌++◌, length, get_or, Some, IsTrue, refl, if◌then◌else◌}
+use Rattle.std.proofs.Common.{arith, sym, subst, inl, inr}
 use Rattle.std.specs.List.{list_all, list_any, All}
-use Rattle.std.specs.Ordering.{nat_cmp}
 use Rattle.std.specs.Str.{bytes_eq}
 use Rattle.std.proofs.lemmas.Bool.{and_parts, and_from}
 use Rattle.std.proofs.lemmas.List.{map-append}
 use Rattle.base_core.proofs.SetLemmas.{In, Ascends}
-use Rattle.base_core.proofs.MemberLemmas.{In-append, In-filter, In-map, list_all-In}
+use Rattle.base_core.proofs.MemberLemmas.{In-filter, In-map}
 use Rattle.value_core.specs.declared.kind.Kind.{Kind}
-use Rattle.value_core.specs.declared.kind.Kind.TheVariants.{Truth, Char, Point, Span}
-use Rattle.value_core.specs.Headings.{IsHeadingOf}
 use Rattle.value_core.specs.Values.{Name, Heading, attribute_cmp, is_heading}
 use Rattle.value_core.proofs.HeadingLemmas.{attribute_total}
-use Rattle.scalar_core.specs.Kinds.{IsOrdered}
 use Rattle.relation_core.specs.Agreement.{names_of}
 use Rattle.relation_core.specs.Joins.{joined_heading}
 use Rattle.relation_core.specs.Parts.{no_attribute, attributes_at, renamed}
@@ -23,7 +19,7 @@ use Rattle.tree_core.specs.Relvars.{PlainRelvar, base, view, Entries, State, rel
 use Rattle.tree_core.specs.Trees.{PlainAggregateForm, count_rows, sum_of, min_of, max_of, PlainAggregate, Tree, named, literal, infix_of, project, rename, restrict, extend, summarize, pack, unpack, using, heading_of}
 use Rattle.tree_core.specs.declared.tree.InfixWord.{InfixWord}
 use Rattle.tree_core.specs.declared.tree.InfixWord.TheVariants.{Union, Intersect, Minus, Join, Matching, NotMatching}
-use Rattle.algebra_core.specs.Typing.{is_kind, is_declared, HasKind, Sums, IsInfix, ArePositions, IsProjection, IsRenaming, IsExtension, IsSummary, not_named, Headings, heading_named, IsTypedTree}
+use Rattle.algebra_core.specs.Typing.{is_kind, is_declared, HasKind, Sums, IsInfix, ArePositions, IsExtension, IsSummary, not_named, Headings, heading_named, IsTypedTree}
 use Rattle.algebra_core.specs.WellMade.{sizes_of, headings_of, IsRelvar, AreRelvars, IsWellMade, IsTypedFor}
 use Rattle.type_check.proofs.PutLemmas.{is-heading, all-in, all-both}
 use Rattle.type_check.proofs.ScalarLemmas.{scalar-kind}

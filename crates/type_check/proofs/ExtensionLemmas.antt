@@ -1,6 +1,6 @@
 -- Typed extensions are typed for evaluation.
-use Rattle.std.specs.Prelude.{◌≡◌, ◌≤◌, ℕ, Bool, true, false, not, List, [], ◌∷◌, ◌++◌, map, filter, length, Ok, Err, IfOk, IsTrue, refl}
-use Rattle.std.proofs.Common.{arith, sym, ◌∙◌, ap, subst, inl, inr, ◌⊎◌, Equal}
+use Rattle.std.specs.Prelude.{◌≡◌, ◌≤◌, ℕ, true, not, List, [], ◌∷◌, ◌++◌, filter, length, IfOk, IsTrue, refl}
+use Rattle.std.proofs.Common.{sym, ◌∙◌, ap, subst}
 use Rattle.std.specs.List.{list_any, All}
 use Rattle.std.specs.List.Sorted.{IsPermutation}
 use Rattle.std.specs.Str.{bytes_eq}
@@ -12,7 +12,6 @@ use Rattle.base_core.proofs.SetLemmas.{In, Ascends}
 use Rattle.base_core.proofs.MemberLemmas.{In-map, In-filter, list_any-In}
 use Rattle.base_core.proofs.SetOperatorLemmas.{same_tests, In-permutation}
 use Rattle.point_core.specs.declared.fault.Place.{Place}
-use Rattle.point_core.specs.Faults.{OrFault}
 use Rattle.utd_syntax.specs.Plain.{SetItemP, SetItem, SetsP}
 use Rattle.value_core.specs.declared.kind.Kind.{Kind}
 use Rattle.value_core.specs.declared.list.OrdinalNames.{OrdinalNames}
@@ -24,7 +23,6 @@ use Rattle.relation_core.proofs.ApartLemmas.{Apart, from_in_order, Apart-append,
 use Rattle.relation_core.proofs.AttributeLemmas.{same_name, name_is}
 use Rattle.relation_typing.specs.Attributes.{few_attributes}
 use Rattle.relation_typing.specs.Items.{Made, none_made, item_typed}
-use Rattle.scalar_typing.specs.Typings.{◌>>=◌}
 use Rattle.scalar_typing.proofs.SoundLemmas.{then-sound}
 use Rattle.tree_core.specs.Trees.{PlainSets, Tree, heading_of}
 use Rattle.algebra_core.specs.Typing.{IsExtension, not_named, Headings, IsTypedTree}

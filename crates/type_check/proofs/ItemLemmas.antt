@@ -1,13 +1,12 @@
 -- What items make: attributes in order, of scalars over a heading.
-use Rattle.std.specs.Prelude.{◌≡◌, ◌≤◌, ℕ, Bool, true, false, ◌&&◌, List, [], ◌∷◌, ◌++◌, length, nat_le, Option, Some, None, Ok, Err, IfOk, IsTrue, refl, if◌then◌else◌}
-use Rattle.std.proofs.Common.{sym, ◌∙◌, ap, subst}
-use Rattle.std.specs.List.{list_all}
+use Rattle.std.specs.Prelude.{◌≡◌, ◌≤◌, ℕ, Bool, true, false, List, [], ◌∷◌, ◌++◌, length, nat_le, Ok, Err, IfOk, IsTrue, refl, if◌then◌else◌}
+use Rattle.std.proofs.Common.{sym, subst}
+use Rattle.std.specs.List.{list_all, All}
 use Rattle.std.specs.List.Sorted.{IsPermutation}
-use Rattle.std.specs.Str.{bytes_eq}
-use Rattle.std.proofs.lemmas.Bool.{and_parts, and_from, leb-true}
+use Rattle.std.proofs.lemmas.Bool.{and_from, leb-true}
 use Rattle.std.proofs.lemmas.List.{append-nil, append_assoc}
 use Rattle.std.proofs.lemmas.List.Sorted.{IsPermutation-refl, IsPermutation-trans, IsPermutation-cons, IsPermutation-middle}
-use Rattle.base_core.proofs.SetLemmas.{In, Ascends}
+use Rattle.base_core.proofs.SetLemmas.{Ascends}
 use Rattle.point_core.specs.declared.fault.Place.{Place}
 use Rattle.point_core.specs.declared.fault.Code.TheVariants.{E15, E17}
 use Rattle.point_core.specs.Faults.{OrFault}
@@ -17,7 +16,7 @@ use Rattle.value_core.specs.declared.list.OrdinalNames.{OrdinalNames}
 use Rattle.value_core.specs.Headings.{has_name, IsHeadingOf, most_attributes}
 use Rattle.value_core.specs.Values.{Name, Heading, attribute_cmp, is_heading}
 use Rattle.scalar_core.specs.Expressions.{Expr}
-use Rattle.scalar_typing.specs.Typings.{◌>>=◌, refused}
+use Rattle.scalar_typing.specs.Typings.{refused}
 use Rattle.scalar_typing.specs.Scalars.{typed_scalar}
 use Rattle.scalar_typing.proofs.SoundLemmas.{then-sound}
 use Rattle.relation_typing.specs.Attributes.{with_attribute, name_typed, new_name, few_attributes}
@@ -27,7 +26,6 @@ use Rattle.algebra_core.specs.Typing.{is_kind, is_declared, IsScalar, Makes}
 use Rattle.algebra_core.specs.WellMade.{sizes_of, IsOrdinalType}
 use Rattle.type_check.proofs.PutLemmas.{insert-permutes, insert-ascends, heading-of, is-heading, all-moved}
 use Rattle.type_check.proofs.ScalarLemmas.{scalar-kind, typed-is_scalar}
-use Rattle.std.specs.List.{All}
 
 -- ---- attributes so far
 

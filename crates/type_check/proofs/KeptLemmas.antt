@@ -1,5 +1,5 @@
 -- What USING asks of the attributes and the expressions of an operator, told by what is checked.
-use Rattle.std.specs.Prelude.{◌≡◌, ℕ, Bool, true, false, not, cond, ◌&&◌, ◌||◌, List, [], ◌∷◌, ◌++◌, map, nat_eq, Option, Some, None, is_none, Ok, Err, IfOk, IsTrue, refl}
+use Rattle.std.specs.Prelude.{◌≡◌, ℕ, Bool, true, false, not, cond, ◌&&◌, ◌||◌, List, [], ◌∷◌, ◌++◌, nat_eq, Option, Some, None, is_none, Ok, Err, IfOk, IsTrue, refl, if◌then◌else◌}
 use Rattle.std.proofs.Common.{sym, ◌∙◌, ap, subst, inl, inr, ◌⊎◌, eq-eqb}
 use Rattle.std.specs.List.{list_all, list_any}
 use Rattle.std.specs.Str.{bytes_eq}
@@ -9,7 +9,6 @@ use Rattle.base_core.proofs.MemberLemmas.{list_all-In, list_any-In, In-append}
 use Rattle.point_core.specs.declared.any_type.AnyType.{AnyType}
 use Rattle.point_core.specs.declared.any_type.AnyType.TheVariants.{Integer, Date, Ordinal}
 use Rattle.point_core.specs.declared.fault.Place.{Place}
-use Rattle.point_core.specs.declared.fault.Code.{Code}
 use Rattle.point_core.specs.Faults.{OrFault}
 use Rattle.utd_syntax.specs.Plain.{Word, ScalarP, SetItemP, SetItem}
 use Rattle.value_core.specs.declared.kind.Kind.{Kind}
@@ -19,15 +18,14 @@ use Rattle.value_core.specs.Headings.{has_name}
 use Rattle.value_core.specs.Values.{Name, Heading}
 use Rattle.scalar_core.specs.Expressions.{Expr, constant, attribute, one, pair, and_expr, or_expr}
 use Rattle.scalar_core.specs.KindOf.{same_type, same_kind}
-use Rattle.relation_core.specs.Agreement.{position_of}
-use Rattle.relation_typing.specs.Attributes.{with_attribute, new_name}
+use Rattle.relation_typing.specs.Attributes.{new_name, name_typed}
 use Rattle.relation_typing.specs.Items.{Made, item_typed}
 use Rattle.scalar_typing.specs.Scalars.{typed_scalar}
-use Rattle.scalar_typing.specs.Typings.{Typed, ◌>>=◌, refused}
+use Rattle.scalar_typing.specs.Typings.{refused}
 use Rattle.scalar_typing.proofs.SoundLemmas.{then-sound}
 use Rattle.tree_core.specs.Trees.{PlainSets, PlainAggregateForm, count_rows, sum_of, min_of, max_of, PlainAggregate}
 use Rattle.algebra_core.specs.Sweeping.{among, first_place, names_any, sweep_fault}
-use Rattle.algebra_core.specs.Typing.{kind_at, is_alike_at, are_in, is_swept, names_none}
+use Rattle.algebra_core.specs.Typing.{is_alike_at, are_in, is_swept, names_none}
 use Rattle.node_typing.specs.Lists.{names_of_words, named_in, kind_named}
 use Rattle.node_typing.specs.Positions.{check}
 use Rattle.node_typing.specs.Rows.{items_typed}
@@ -35,9 +33,7 @@ use Rattle.node_typing.specs.Sweeps.{all_kept, none_assigned, refused_if, swept,
 use Rattle.type_check.proofs.ItemLemmas.{any-given}
 use Rattle.type_check.proofs.PositionLemmas.{held, own, name-is}
 use Rattle.type_check.proofs.RenamingLemmas.{word-typed}
-use Rattle.relation_typing.specs.Attributes.{name_typed}
 use Rattle.point_core.specs.declared.fault.Code.TheVariants.{E15, E18}
-use Rattle.std.specs.Prelude.{if◌then◌else◌}
 
 -- two things that hold of what is given
 pub both-hold : {X : Type 0} (P Q : X → Type 0) (r : OrFault X) → IfOk r P → IfOk r Q → IfOk r (λ x. P x × Q x)

@@ -1,7 +1,7 @@
 -- Lists of interval attributes that are checked: PACK, UNPACK and comparisons over them are typed for evaluation.
-use Rattle.std.specs.Prelude.{◌≡◌, ◌<◌, ◌≤◌, ℕ, Bool, true, false, not, ◌&&◌, List, [], ◌∷◌, ◌++◌, map, length, nat_eq, nat_le, Option, Some, None, Ok, Err, IfOk, IsTrue, refl}
-use Rattle.std.proofs.Common.{arith, sym, ◌∙◌, ap, subst, inl, inr, ◌⊎◌}
-use Rattle.std.specs.List.{list_all, list_any, All, IsDistinct}
+use Rattle.std.specs.Prelude.{◌≡◌, ◌≤◌, ℕ, false, not, ◌&&◌, List, [], ◌∷◌, ◌++◌, length, nat_le, Ok, Err, IfOk, IsTrue, refl}
+use Rattle.std.proofs.Common.{arith, sym, ◌∙◌, subst, inl, inr}
+use Rattle.std.specs.List.{IsDistinct}
 use Rattle.std.specs.Cmp.Lexicographic.{nat_list_eq_equiv}
 use Rattle.std.specs.Str.{bytes_eq}
 use Rattle.std.proofs.lemmas.Bool.{and_parts, not-true, leb-true}
@@ -16,16 +16,14 @@ use Rattle.utd_syntax.specs.declared.words.PackWord.TheVariants.{Pack, Unpack}
 use Rattle.utd_syntax.specs.declared.words.EmptinessWord.{EmptinessWord}
 use Rattle.utd_syntax.specs.declared.words.EmptinessWord.TheVariants.{IsEmpty, IsNotEmpty}
 use Rattle.utd_syntax.specs.Plain.{Word, NameListP, NameList}
-use Rattle.value_core.specs.declared.kind.Kind.{Kind}
 use Rattle.value_core.specs.Headings.{has_name}
 use Rattle.value_core.specs.Values.{Name, Heading}
 use Rattle.scalar_core.specs.KindOf.{same_kind}
 use Rattle.relation_core.specs.Agreement.{position_of}
 use Rattle.relation_typing.specs.Headings.{same_heading}
-use Rattle.scalar_typing.specs.Typings.{◌>>=◌}
 use Rattle.scalar_typing.proofs.SoundLemmas.{then-sound}
 use Rattle.scalar_typing.proofs.TypedLemmas.{same_kind-same}
-use Rattle.tree_core.specs.Trees.{Tree, heading_of, Test}
+use Rattle.tree_core.specs.Trees.{Tree, heading_of}
 use Rattle.tree_core.specs.declared.test.RelateWord.{RelateWord}
 use Rattle.algebra_core.specs.Meanings.{positions_of}
 use Rattle.algebra_core.specs.Typing.{is_span, kind_at, IsList, Headings, IsTypedTree, IsTypedTest}

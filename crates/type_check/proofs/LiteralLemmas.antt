@@ -1,6 +1,6 @@
 -- Typed literals are typed for evaluation: their headings are of kinds there are, and each tuple makes the heading.
-use Rattle.std.specs.Prelude.{◌≡◌, ◌≤◌, ℕ, Bool, true, false, ◌&&◌, List, [], ◌∷◌, ◌++◌, length, Ok, Err, IfOk, IsTrue, refl, if◌then◌else◌}
-use Rattle.std.proofs.Common.{sym, ◌∙◌, ap, ap₂, subst}
+use Rattle.std.specs.Prelude.{◌≡◌, ◌≤◌, Bool, true, false, List, [], ◌∷◌, ◌++◌, length, Ok, Err, IfOk, IsTrue, refl, if◌then◌else◌}
+use Rattle.std.proofs.Common.{sym, ap₂, subst}
 use Rattle.std.specs.List.{list_all, All}
 use Rattle.std.specs.Str.{bytes_eq}
 use Rattle.std.proofs.lemmas.Bool.{true≢false, and_parts, and_from}
@@ -9,24 +9,23 @@ use Rattle.std.proofs.lemmas.Slice.Eq.{bytes_eq-Decides}
 use Rattle.base_core.proofs.SetLemmas.{Ascends}
 use Rattle.point_core.specs.declared.fault.Place.{Place}
 use Rattle.point_core.specs.declared.fault.Code.TheVariants.{E13}
-use Rattle.point_core.specs.declared.any_type.AnyType.{AnyType}
 use Rattle.point_core.specs.Faults.{OrFault}
 use Rattle.utd_syntax.specs.Plain as syntax
 use Rattle.utd_syntax.specs.Plain.{Word, KindP, AttributeP, HeadingP, ElementsP, TupleP, LiteralP}
 use Rattle.value_core.specs.declared.kind.Kind.{Kind}
 use Rattle.value_core.specs.declared.list.OrdinalNames.{OrdinalNames}
-use Rattle.value_core.specs.Headings.{has_name, IsHeadingOf}
+use Rattle.value_core.specs.Headings.{has_name}
 use Rattle.value_core.specs.Values.{Name, Heading, attribute_cmp, is_heading}
 use Rattle.scalar_core.specs.KindOf.{same_kind}
 use Rattle.scalar_typing.specs.Names.{point_type}
-use Rattle.scalar_typing.specs.Typings.{◌>>=◌, refused}
+use Rattle.scalar_typing.specs.Typings.{refused}
 use Rattle.scalar_typing.proofs.SoundLemmas.{then-sound}
 use Rattle.scalar_typing.proofs.TypedLemmas.{same_kind-same}
 use Rattle.relation_typing.specs.Attributes.{with_attribute, new_name, few_attributes}
 use Rattle.relation_typing.specs.Headings.{kind_typed, attributes_typed, heading_typed, same_attribute, same_heading}
 use Rattle.relation_typing.specs.Items.{Made, none_made, elements_typed}
-use Rattle.relation_typing.specs.Literals.{elements_made, tuple_typed, under_heading, next_tuple, tuples_typed, headed_typed, first_typed, literal_typed}
-use Rattle.tree_core.specs.Trees.{PlainSets, Tree}
+use Rattle.relation_typing.specs.Literals.{elements_made, tuple_typed, under_heading, next_tuple, tuples_typed, literal_typed}
+use Rattle.tree_core.specs.Trees.{PlainSets}
 use Rattle.algebra_core.specs.Typing.{is_kind, is_declared, IsTuple, Headings, IsTypedTree}
 use Rattle.algebra_core.specs.WellMade.{sizes_of, IsOrdinalType}
 use Rattle.type_check.proofs.PutLemmas.{insert-permutes, insert-ascends, is-heading, all-moved}

@@ -1,11 +1,10 @@
 -- What is written without PACK, UNPACK and USING is typed without them.
-use Rattle.std.specs.Prelude.{◌≡◌, Bool, true, false, ◌&&◌, List, [], ◌∷◌, Option, Some, None, Ok, Err, IfOk, IsTrue, refl, if◌then◌else◌}
-use Rattle.std.proofs.Common.{sym, ap}
+use Rattle.std.specs.Prelude.{Bool, true, false, List, [], ◌∷◌, Ok, Err, IfOk, IsTrue, refl, if◌then◌else◌}
+use Rattle.std.proofs.Common.{sym}
 use Rattle.std.specs.List.{list_all}
 use Rattle.std.specs.Str.{bytes_eq}
 use Rattle.std.proofs.lemmas.Bool.{true≢false, and_parts, and_from}
 use Rattle.point_core.specs.declared.fault.Place.{Place}
-use Rattle.point_core.specs.declared.fault.Code.{Code}
 use Rattle.point_core.specs.Faults.{OrFault}
 use Rattle.utd_syntax.specs.Plain as syntax
 use Rattle.utd_syntax.specs.declared.words.EmptinessWord.{EmptinessWord}
@@ -13,7 +12,7 @@ use Rattle.utd_syntax.specs.declared.words.EmptinessWord.TheVariants.{IsEmpty, I
 use Rattle.utd_syntax.specs.Plain.{Word, LiteralP, ScalarP, ProjectionP, RenamingsP, SetsP, NamesP, AggregatesP, RelP, TermsP, TermP, RelPrimaryP, OperandP, ExtendP, SummarizeP, ComparisonP, TestP}
 use Rattle.value_core.specs.Values.{Name}
 use Rattle.relation_typing.specs.Attributes.{name_typed}
-use Rattle.relation_typing.specs.Headings.{heading_typed}
+use Rattle.relation_typing.specs.Headings.{heading_typed, same_heading}
 use Rattle.relation_typing.specs.Literals.{tuple_typed, tuples_typed, literal_typed}
 use Rattle.scalar_typing.specs.Typings.{◌>>=◌, value_or}
 use Rattle.tree_core.specs.Relvars.{State, relvar_named}
@@ -21,16 +20,14 @@ use Rattle.tree_core.specs.Trees.{Tree, Test, heading_of}
 use Rattle.tree_core.specs.declared.tree.InfixWord.{InfixWord}
 use Rattle.algebra_core.specs.Names.{found}
 use Rattle.algebra_core.specs.Plainness.{is_plain, plain_in, is_plain_test}
-use Rattle.node_typing.specs.Infixes.{infix_heading}
-use Rattle.node_typing.specs.Nodes.{infix_rule, projection_rule, renaming_rule, restriction_rule, extension_rule, summary_rule, comparison_rule, emptiness_test, relation_named}
+use Rattle.node_typing.specs.Infixes.{infix_heading, infix_named}
+use Rattle.node_typing.specs.Nodes.{projection_rule, renaming_rule, restriction_rule, extension_rule, summary_rule, emptiness_test}
 use Rattle.node_typing.specs.Positions.{check}
 use Rattle.node_typing.specs.Projections.{projection_kept, renaming_names}
 use Rattle.node_typing.specs.Rows.{condition_typed, extension_made}
 use Rattle.node_typing.specs.Summaries.{groups_typed, aggregates_made}
-use Rattle.relation_typing.specs.Headings.{same_heading}
 use Rattle.value_core.specs.declared.list.OrdinalNames.{OrdinalNames}
 use Rattle.tree_core.specs.declared.tree.InfixWord.TheVariants.{NotMatching}
-use Rattle.node_typing.specs.Infixes.{infix_named}
 use Rattle.tree_typing.specs.Trees.{relvar_typed, infix_typed, rel_typed, terms_typed, term_typed, primary_typed, operand_typed, extend_typed, summarize_typed, comparison_typed, tree_typed, test_typed}
 use Rattle.type_check.specs.Plainness.{is_plain_rel, is_plain_terms, is_plain_term, is_plain_primary, is_plain_operand, is_plain_extend, is_plain_summarize, is_plain_comparison, is_plain_test as is_plain_written, are_plain}
 

@@ -1,20 +1,18 @@
 -- Attributes by their names and positions.
-use Rattle.std.specs.Prelude.{◌≡◌, ◌<◌, ◌≤◌, ℕ, zero, suc, ◌+◌, Bool, true, false, not, cond, ◌&&◌, ◌||◌, List, [], ◌∷◌, ◌++◌, map, filter, length, get_or, nat_eq, nat_lt, Option, Some, None, Ok, Err, IfOk, IsTrue, refl, if◌then◌else◌}
-use Rattle.std.proofs.Common.{arith, sym, ◌∙◌, ap, ap₂, subst, inl, inr, ◌⊎◌, lt-ltb, eq-eqb, Ordering, Less, Equal, Greater}
-use Rattle.std.specs.List.{list_all, list_any, All, AllByRecursion, IsDistinct}
-use Rattle.std.specs.Cmp.Lexicographic.{texts_ties, nat_list_eq_equiv}
+use Rattle.std.specs.Prelude.{◌≡◌, ◌<◌, ◌≤◌, ℕ, zero, suc, ◌+◌, Bool, true, false, cond, ◌||◌, List, [], ◌∷◌, length, get_or, nat_eq, IfOk, IsTrue, refl, if◌then◌else◌}
+use Rattle.std.proofs.Common.{arith, sym, ◌∙◌, ap, ap₂, subst, inl, inr, lt-ltb, Less, Equal, Greater}
+use Rattle.std.specs.List.{All, AllByRecursion, IsDistinct}
+use Rattle.std.specs.Cmp.Lexicographic.{texts_ties}
 use Rattle.std.specs.Ordering.{nat_cmp, is_eq}
 use Rattle.std.specs.Str.{bytes_eq}
-use Rattle.std.proofs.lemmas.Bool.{true≢false, and_parts, and_from, false_from_ne_true, eqb-true}
+use Rattle.std.proofs.lemmas.Bool.{true≢false, false_from_ne_true, eqb-true}
 use Rattle.std.proofs.lemmas.Cmp.{nat_cmp_total}
 use Rattle.std.proofs.lemmas.Slice.Eq.{bytes_eq-Decides}
-use Rattle.base_core.specs.Sets.{is_set}
 use Rattle.base_core.proofs.SetLemmas.{In, AllAfter, Ascends}
 use Rattle.base_core.proofs.MemberLemmas.{In-map, list_any-In}
 use Rattle.base_core.proofs.SetOperatorLemmas.{AllAfter-In, is_set-Ascends}
 use Rattle.point_core.specs.declared.fault.Place.{Place}
 use Rattle.point_core.specs.declared.fault.Code.{Code}
-use Rattle.point_core.specs.Faults.{OrFault}
 use Rattle.value_core.specs.declared.kind.Kind.{Kind}
 use Rattle.value_core.specs.Headings.{has_name}
 use Rattle.value_core.specs.Values.{Name, Heading, attribute_cmp}
@@ -22,7 +20,7 @@ use Rattle.relation_core.specs.Agreement.{position_of, as_wanted}
 use Rattle.relation_core.specs.Parts.{no_attribute}
 use Rattle.algebra_core.specs.Meanings.{positions_of, names_at}
 use Rattle.algebra_core.specs.Sweeping.{among}
-use Rattle.algebra_core.specs.Typing.{kind_at, ArePositions}
+use Rattle.algebra_core.specs.Typing.{ArePositions}
 use Rattle.algebra_core.proofs.MadeLemmas.{one_in_order}
 use Rattle.node_typing.specs.Lists.{kind_named}
 use Rattle.node_typing.specs.Positions.{check, kept_from, kept}

@@ -8,14 +8,14 @@ use Rattle.std.specs.Ordering.{is_eq, match_ordering, ordering_reverse}
 use Rattle.std.specs.Str.{bytes_eq}
 use Rattle.std.proofs.lemmas.Bool.{true≢false, and_from, and_parts, le-leb}
 use Rattle.std.proofs.lemmas.List.Folds.{list_any-append}
-use Rattle.std.proofs.lemmas.List.Sorted.{IsPermutation-refl, IsPermutation-sym, IsPermutation-trans, IsPermutation-cons, IsPermutation-middle, IsPermutation-to_front}
+use Rattle.std.proofs.lemmas.List.Sorted.{IsPermutation-refl, IsPermutation-sym, IsPermutation-trans, IsPermutation-cons, IsPermutation-middle}
 use Rattle.std.proofs.lemmas.Map.Keys.{IsDistinct-IsPermutation}
 use Rattle.base_core.specs.Sets.{placed, put}
 use Rattle.base_core.proofs.SetLemmas.{In, AllAfter, Ascends}
-use Rattle.base_core.proofs.MemberLemmas.{list_all-In, list_any-In}
+use Rattle.base_core.proofs.MemberLemmas.{list_all-In}
 use Rattle.base_core.proofs.SetOperatorLemmas.{In-permutation, is_set-Ascends}
 use Rattle.value_core.specs.declared.kind.Kind.{Kind}
-use Rattle.value_core.specs.Headings.{has_name, repeat_after, first_repeat, IsHeadingOf}
+use Rattle.value_core.specs.Headings.{has_name, repeat_after, IsHeadingOf}
 use Rattle.value_core.specs.Values.{Name, Heading, name_cmp, attribute_cmp, is_heading}
 use Rattle.value_core.proofs.HeadingLemmas.{attribute_total}
 use Rattle.relation_core.proofs.HeadingLemmas.{neither, heading_ascends}

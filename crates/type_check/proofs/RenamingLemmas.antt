@@ -1,14 +1,13 @@
 -- Typed renamings are typed for evaluation: the names behind them are all different.
-use Rattle.std.specs.Prelude.{◌≡◌, ◌<◌, ◌≤◌, ℕ, suc, ◌+◌, Bool, true, false, cond, List, [], ◌∷◌, ◌++◌, map, filter, length, nat_eq, nat_le, Ok, Err, IfOk, IsTrue, refl, if◌then◌else◌}
-use Rattle.std.proofs.Common.{arith, sym, ◌∙◌, ap, subst, inl, inr, ◌⊎◌, Less, Equal}
+use Rattle.std.specs.Prelude.{◌≡◌, ◌≤◌, ℕ, suc, ◌+◌, Bool, true, false, cond, List, [], ◌∷◌, filter, length, nat_eq, Ok, Err, IfOk, IsTrue, refl, if◌then◌else◌}
+use Rattle.std.proofs.Common.{arith, sym, ◌∙◌, ap, subst, inl, inr, ◌⊎◌}
 use Rattle.std.specs.List.{AllByRecursion, IsDistinct}
-use Rattle.std.specs.Cmp.Lexicographic.{texts_ties, nat_list_eq_equiv}
+use Rattle.std.specs.Cmp.Lexicographic.{texts_ties}
 use Rattle.std.specs.Ordering.{is_eq}
 use Rattle.std.specs.Str.{bytes_eq}
 use Rattle.std.proofs.lemmas.Bool.{true≢false, false_from_ne_true, leb-true}
-use Rattle.base_core.specs.Sets.{in_order}
 use Rattle.base_core.proofs.SetLemmas.{In, Ascends}
-use Rattle.base_core.proofs.MemberLemmas.{In-append, In-map}
+use Rattle.base_core.proofs.MemberLemmas.{In-append}
 use Rattle.base_core.proofs.SetOperatorLemmas.{AllAfter-In, length-in_order}
 use Rattle.point_core.specs.declared.fault.Place.{Place}
 use Rattle.point_core.specs.declared.fault.Code.TheVariants.{E06}
@@ -22,7 +21,7 @@ use Rattle.relation_core.proofs.AttributeLemmas.{same_name}
 use Rattle.relation_core.proofs.HeadingLemmas.{heading_ascends, few_attributes}
 use Rattle.relation_core.proofs.RenamingLemmas.{length-renamed}
 use Rattle.relation_typing.specs.Attributes.{is_name, name_typed}
-use Rattle.scalar_typing.specs.Typings.{◌>>=◌, refused}
+use Rattle.scalar_typing.specs.Typings.{refused}
 use Rattle.scalar_typing.proofs.SoundLemmas.{then-sound}
 use Rattle.tree_core.specs.Trees.{Tree, heading_of}
 use Rattle.algebra_core.specs.Typing.{IsRenaming, Headings, IsTypedTree}

@@ -1,13 +1,13 @@
 -- The constants and the kinds of typed row expressions are of types there are.
-use Rattle.std.specs.Prelude.{◌≡◌, ◌≤◌, ℕ, zero, suc, ◌-◌, ℤ, Bool, true, ◌&&◌, List, [], ◌∷◌, length, nat_eq, Option, Some, None, Ok, Err, IfOk, IfSome, IsTrue, slice_get, refl}
-use Rattle.std.proofs.Common.{arith, sym, ◌∙◌, ap, subst, eq-eqb}
+use Rattle.std.specs.Prelude.{◌≡◌, ◌≤◌, ℕ, zero, suc, ◌-◌, ℤ, List, [], ◌∷◌, length, nat_eq, Option, Some, None, Ok, Err, IfOk, IfSome, IsTrue, slice_get, refl}
+use Rattle.std.proofs.Common.{arith, sym, subst, eq-eqb}
 use Rattle.std.specs.List.{list_all, All}
 use Rattle.std.specs.Str.{bytes_eq}
 use Rattle.std.proofs.lemmas.Bool.{and_parts, and_from}
 use Rattle.point_core.specs.declared.fault.Place.{Place}
 use Rattle.point_core.specs.declared.fault.Code.{Code}
 use Rattle.point_core.specs.declared.any_type.AnyType.{AnyType}
-use Rattle.point_core.specs.declared.any_type.AnyType.TheVariants.{Integer, Date, Ordinal}
+use Rattle.point_core.specs.declared.any_type.AnyType.TheVariants.{Integer}
 use Rattle.point_core.specs.Faults.{OrFault}
 use Rattle.utd_syntax.specs.declared.words.ExtremeWord.{ExtremeWord}
 use Rattle.utd_syntax.specs.declared.words.ExtremeWord.TheVariants.{First, Last}
@@ -16,7 +16,7 @@ use Rattle.utd_syntax.specs.Plain.{Word, PointP, ScalarP, ConjP, NegP, CmpP, Sum
 use Rattle.value_core.specs.declared.kind.Kind.{Kind}
 use Rattle.value_core.specs.declared.kind.Kind.TheVariants.{Truth, Char, Point, Span}
 use Rattle.value_core.specs.declared.list.OrdinalNames.{OrdinalNames}
-use Rattle.value_core.specs.Values.{Name, Heading, text}
+use Rattle.value_core.specs.Values.{Name, Heading}
 use Rattle.scalar_core.specs.declared.operators.OneOp.{OneOp}
 use Rattle.scalar_core.specs.declared.operators.OneOp.TheVariants as one_op
 use Rattle.scalar_core.specs.declared.operators.PairOp.{PairOp}
@@ -24,9 +24,9 @@ use Rattle.scalar_core.specs.declared.operators.PairOp.TheVariants as pair_op
 use Rattle.scalar_core.specs.Expressions.{Expr, constant, attribute, one, pair, and_expr, or_expr}
 use Rattle.scalar_core.specs.Kinds.{OneKinds, PairKinds, IsTyped}
 use Rattle.scalar_typing.specs.Typings.{Typed, ◌>>=◌, value_or}
-use Rattle.scalar_typing.specs.Literals.{integer_of, negative_of, text_of, date_of, point_constant, integer_literal, text_literal, date_literal, extreme_constant}
-use Rattle.scalar_typing.specs.Names.{attribute_of, attribute_typed, ordinal_of, value_of, ordinal_type, point_type, ordinal_value, extreme_typed}
-use Rattle.scalar_typing.specs.Operators.{OneRule, PairRule, when, both_are, one_on, pair_on, one_typed, pair_typed, logic_typed, not_rule, negate_rule, function_rule, sum_rule, product_rule, comparison_rule, pairing_rule, ends_of, selector_rule}
+use Rattle.scalar_typing.specs.Literals.{integer_of, negative_of, text_of, date_of, integer_literal, extreme_constant}
+use Rattle.scalar_typing.specs.Names.{attribute_of, ordinal_of, value_of, ordinal_type, point_type, ordinal_value}
+use Rattle.scalar_typing.specs.Operators.{OneRule, PairRule, both_are, one_on, pair_on, one_typed, pair_typed, logic_typed, not_rule, negate_rule, function_rule, sum_rule, product_rule, comparison_rule, pairing_rule, ends_of, selector_rule}
 use Rattle.scalar_typing.specs.Scalars.{typed_scalar, typed_conj, typed_neg, typed_cmp, typed_sum, typed_prod, typed_sign, typed_primary}
 use Rattle.scalar_typing.proofs.TypedLemmas.{or-refused, mapped, when-holds}
 use Rattle.scalar_typing.proofs.SoundLemmas.{then-sound, found-at, scalar-sound}

@@ -1,27 +1,23 @@
 -- Typed expressions and tests are typed for evaluation.
-use Rattle.std.specs.Prelude.{◌≡◌, ◌≤◌, ℕ, Bool, true, false, List, [], ◌∷◌, map, length, Option, Some, None, option_map, Ok, Err, IfOk, IsTrue, refl, if◌then◌else◌}
-use Rattle.std.proofs.Common.{sym, ◌∙◌, ap, subst}
-use Rattle.std.specs.List.{All}
+use Rattle.std.specs.Prelude.{◌≡◌, Bool, true, false, [], ◌∷◌, Option, Some, None, option_map, Ok, IfOk, IsTrue, refl, if◌then◌else◌}
 use Rattle.std.specs.Str.{bytes_eq}
 use Rattle.point_core.specs.declared.fault.Place.{Place}
-use Rattle.point_core.specs.declared.fault.Code.{Code}
 use Rattle.point_core.specs.declared.fault.Code.TheVariants.{E10}
 use Rattle.point_core.specs.Faults.{OrFault}
 use Rattle.utd_syntax.specs.Plain as syntax
 use Rattle.utd_syntax.specs.Plain.{Word, NameListP, RelP, TermsP, TermP, RelPrimaryP, OperandP, ExtendP, SummarizeP, UsingP, UsingPartP, ComparisonP, TestP}
-use Rattle.value_core.specs.declared.list.OrdinalNames.{OrdinalNames}
-use Rattle.value_core.specs.Values.{Name, Heading, is_heading}
+use Rattle.value_core.specs.Values.{Name, is_heading}
 use Rattle.relation_core.proofs.HeadingLemmas.{heading_ascends}
 use Rattle.relation_typing.specs.Attributes.{name_typed}
 use Rattle.scalar_typing.specs.Names.{AreOrdinals}
 use Rattle.scalar_typing.specs.Typings.{◌>>=◌, value_or}
 use Rattle.scalar_typing.proofs.SoundLemmas.{then-sound}
 use Rattle.tree_core.specs.Relvars.{PlainRelvar, Entries, State, relvar_named, relvar_heading}
-use Rattle.tree_core.specs.Trees.{Tree, named, Test, heading_of}
+use Rattle.tree_core.specs.Trees.{Tree, named, heading_of}
 use Rattle.tree_core.specs.declared.tree.InfixWord.{InfixWord}
 use Rattle.tree_core.specs.declared.tree.InfixWord.TheVariants.{NotMatching}
-use Rattle.algebra_core.specs.Typing.{heading_named, Headings, IsTypedTree, IsTypedTest}
-use Rattle.algebra_core.specs.WellMade.{sizes_of, headings_of, IsOrdinalType, IsWellMade, IsTypedFor, IsTypedTestFor}
+use Rattle.algebra_core.specs.Typing.{heading_named}
+use Rattle.algebra_core.specs.WellMade.{sizes_of, headings_of, IsWellMade, IsTypedFor, IsTypedTestFor}
 use Rattle.node_typing.specs.Infixes.{infix_named}
 use Rattle.node_typing.specs.Nodes.{relation_named}
 use Rattle.tree_typing.specs.Trees.{relvar_typed, infix_typed, used_infix_typed, rel_typed, terms_typed, term_typed, primary_typed, operand_typed, extend_typed, summarize_typed, using_typed, used_typed, used_extend_typed, used_summarize_typed, tree_typed, comparison_typed, used_comparison_typed, test_typed}

@@ -1,19 +1,18 @@
 -- Operators under USING are typed for evaluation.
-use Rattle.std.specs.Prelude.{◌≡◌, ◌<◌, ◌≤◌, ℕ, Bool, true, false, not, ◌&&◌, List, [], ◌∷◌, ◌++◌, map, length, get_or, nat_eq, Ok, Err, IfOk, IsTrue, refl}
-use Rattle.std.proofs.Common.{arith, sym, ◌∙◌, ap, subst, inl, inr, ◌⊎◌, eq-eqb}
+use Rattle.std.specs.Prelude.{◌≡◌, ◌≤◌, ℕ, true, false, not, List, ◌++◌, length, get_or, nat_eq, IfOk, IsTrue, refl}
+use Rattle.std.proofs.Common.{sym, ◌∙◌, ap, subst, inl, inr, eq-eqb}
 use Rattle.std.specs.List.{list_all, list_any, All, IsDistinct}
 use Rattle.std.specs.Str.{bytes_eq}
-use Rattle.std.proofs.lemmas.Bool.{true≢false, and_from, false_from_ne_true, not_from_false}
+use Rattle.std.proofs.lemmas.Bool.{and_from, false_from_ne_true, not_from_false}
 use Rattle.base_core.proofs.SetLemmas.{In, Ascends}
 use Rattle.base_core.proofs.MemberLemmas.{In-append, In-map, In-filter, list_all-In, list_any-In}
 use Rattle.base_core.proofs.SetOperatorLemmas.{In-permutation}
 use Rattle.point_core.specs.declared.fault.Place.{Place}
-use Rattle.point_core.specs.Faults.{OrFault}
 use Rattle.utd_syntax.specs.Plain.{ScalarP, SetsP, NamesP, AggregatesP, NameListP, ProjectionP}
 use Rattle.value_core.specs.declared.kind.Kind.{Kind}
 use Rattle.value_core.specs.declared.kind.Kind.TheVariants.{Truth}
 use Rattle.value_core.specs.declared.list.OrdinalNames.{OrdinalNames}
-use Rattle.value_core.specs.Headings.{has_name, IsHeadingOf}
+use Rattle.value_core.specs.Headings.{has_name}
 use Rattle.value_core.specs.Values.{Name, Heading, attribute_cmp, is_heading}
 use Rattle.scalar_core.specs.Expressions.{Expr}
 use Rattle.relation_core.specs.Agreement.{names_of, position_of}
@@ -22,12 +21,11 @@ use Rattle.relation_core.specs.Parts.{no_attribute, attributes_at}
 use Rattle.relation_core.proofs.AttributeLemmas.{In-joined, joined_ascends}
 use Rattle.relation_core.proofs.HeadingLemmas.{heading_ascends, within_by_members}
 use Rattle.relation_typing.specs.Items.{Made, none_made}
-use Rattle.scalar_typing.specs.Typings.{◌>>=◌}
 use Rattle.scalar_typing.proofs.SoundLemmas.{then-sound}
-use Rattle.tree_core.specs.Trees.{PlainSets, PlainAggregate, Tree, infix_of, project, restrict, extend, summarize, using, heading_of}
+use Rattle.tree_core.specs.Trees.{PlainSets, PlainAggregate, Tree, infix_of, project, restrict, extend, summarize, heading_of}
 use Rattle.tree_core.specs.declared.tree.InfixWord.{InfixWord}
 use Rattle.tree_core.specs.declared.tree.InfixWord.TheVariants.{Union, Intersect, Minus, Join, Matching, NotMatching}
-use Rattle.algebra_core.specs.Meanings.{positions_of, names_at}
+use Rattle.algebra_core.specs.Meanings.{positions_of}
 use Rattle.algebra_core.specs.Sweeping.{among}
 use Rattle.algebra_core.specs.Typing.{is_span, IsScalar, IsInfix, ArePositions, IsExtension, IsSummary, not_named, are_in, is_swept, names_none, is_part, Headings, IsTypedTree}
 use Rattle.algebra_core.specs.WellMade.{sizes_of, IsOrdinalType}
@@ -47,8 +45,8 @@ use Rattle.type_check.proofs.ExtensionLemmas.{extension-made}
 use Rattle.type_check.proofs.InfixLemmas.{infix-heading, kept-sound, condition-sound}
 use Rattle.type_check.proofs.ItemLemmas.{any-given}
 use Rattle.type_check.proofs.KeptLemmas.{both-hold, all-alike, all-kept, AreAssigned, AreOthers, others-assigned, others-none, items-assigned, swept-is, sets-swept, aggregates-none}
-use Rattle.type_check.proofs.ListLemmas.{IsShared, AreListed, list-sound, list-of}
-use Rattle.type_check.proofs.PositionLemmas.{own, name-is, position-at, attribute-named, named-in, kind-is, names-at-positions}
+use Rattle.type_check.proofs.ListLemmas.{AreListed, list-sound, list-of}
+use Rattle.type_check.proofs.PositionLemmas.{position-at, attribute-named, named-in, kind-is, names-at-positions}
 use Rattle.relation_typing.specs.Attributes.{few_attributes}
 use Rattle.node_typing.specs.Headings.{made_beside}
 

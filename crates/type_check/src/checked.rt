@@ -8,6 +8,7 @@ ghost use Rattle.type_check.specs.Plainness.{are_plain};
 
 use std::alloc::Global;
 use tree_core::{RelTest, RelTree, Relvars};
+use tree_typing::{type_test, type_tree};
 use utd_syntax::Statement;
 use value_core::Refuse;
 
@@ -30,5 +31,17 @@ pub fn check(alloc: Global, statement: &Statement, relvars: &Relvars) -> Result<
     ensures plain { IfOk result (λ c. IsTrue (are_plain (read_relvars relvars.now)) → IsTrue (is_plain_statement (read_statement statement.now))
         → IsPlainPlain (read_relvars relvars.now) (read_checked c)) }
 {
-    Err(Refuse::Memory)
+    match statement {
+        Statement::Nothing => Ok(Checked::Nothing),
+        Statement::Print(_, rel) => {
+            let tree = type_tree(alloc, rel, relvars)?;
+            Ok(Checked::Print(tree))
+        }
+        Statement::Ask(_, test) => {
+            let test = type_test(alloc, test, relvars)?;
+            Ok(Checked::Ask(test))
+        }
+        Statement::Ordinal(_, _, _) | Statement::Var(_, _, _) | Statement::History(_) => unreachable!(),
+        Statement::Drop(_, _) | Statement::Assign(_) => unreachable!(),
+    }
 }

@@ -1,0 +1,16 @@
+pub mod AggregateLemmas
+pub mod CheckLemmas
+pub mod DeclaredLemmas
+pub mod ExtensionLemmas
+pub mod InfixLemmas
+pub mod ItemLemmas
+pub mod KeptLemmas
+pub mod ListLemmas
+pub mod LiteralLemmas
+pub mod PlainLemmas
+pub mod PositionLemmas
+pub mod PutLemmas
+pub mod RenamingLemmas
+pub mod ScalarLemmas
+pub mod TreeLemmas
+pub mod UsingLemmas
