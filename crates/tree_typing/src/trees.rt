@@ -1,5 +1,5 @@
 // Relational expressions. The parts of a node are typed before it, left to right.
-ghost use Rattle.utd_syntax.specs.Read.{read_list, read_rel, read_terms, read_term, read_rel_primary, read_operand, read_using, read_using_part};
+ghost use Rattle.utd_syntax.specs.Read.{read_list, read_rel, read_terms, read_term, read_rel_primary, read_operand, read_extend, read_summarize, read_using, read_using_part};
 ghost use Rattle.scalar_core.specs.Answers.{Gives};
 ghost use Rattle.scalar_typing.specs.Names.{AreOrdinals};
 ghost use Rattle.tree_core.specs.Relvars.{read_relvars};
@@ -141,23 +141,8 @@ fn used(
     ensures { Gives read_tree result (rules.used_typed (read_relvars relvars.now) place (read_list list.now) (read_using_part part.now)) }
 {
     match part {
-        UsingPart::Extend(Extend::Of(at, of, sets)) => {
-            let t = whole(alloc, of, relvars)?;
-            nodes::type_using_extension(alloc, &relvars.ordinals, place, list, *at, sets, t)
-        }
-        UsingPart::Summarize(Summarize::Of(at, of, by, aggregates)) => {
-            let t = whole(alloc, of, relvars)?;
-            nodes::type_using_summary(
-                alloc,
-                &relvars.ordinals,
-                place,
-                list,
-                *at,
-                by,
-                aggregates,
-                t,
-            )
-        }
+        UsingPart::Extend(e) => used_extension(alloc, place, list, e, relvars),
+        UsingPart::Summarize(s) => used_summary(alloc, place, list, s, relvars),
         UsingPart::Infix(l, at, word, r) => {
             let left = operand(alloc, l, relvars)?;
             let right = operand(alloc, r, relvars)?;
@@ -177,6 +162,55 @@ fn used(
         UsingPart::Where(of, at, condition) => {
             let t = operand(alloc, of, relvars)?;
             nodes::type_using_restriction(alloc, &relvars.ordinals, place, list, *at, condition, t)
+        }
+    }
+}
+
+/// EXTEND under USING.
+#[cycle(tree)]
+fn used_extension(
+    alloc: Global,
+    place: Place,
+    list: &NameList,
+    e: &Extend,
+    relvars: &Relvars,
+) -> Result<RelTree, Stop>
+    requires { AreOrdinals (read_relvars relvars.now).ordinals }
+    ensures { Gives read_tree result (rules.used_extend_typed (read_relvars relvars.now) place (read_list list.now) (read_extend e.now)) }
+{
+    match e {
+        Extend::Of(at, of, sets) => {
+            let t = whole(alloc, of, relvars)?;
+            nodes::type_using_extension(alloc, &relvars.ordinals, place, list, *at, sets, t)
+        }
+    }
+}
+
+/// SUMMARIZE under USING.
+#[cycle(tree)]
+fn used_summary(
+    alloc: Global,
+    place: Place,
+    list: &NameList,
+    s: &Summarize,
+    relvars: &Relvars,
+) -> Result<RelTree, Stop>
+    requires { AreOrdinals (read_relvars relvars.now).ordinals }
+    ensures { Gives read_tree result (rules.used_summarize_typed (read_relvars relvars.now) place (read_list list.now) (read_summarize s.now)) }
+{
+    match s {
+        Summarize::Of(at, of, by, aggregates) => {
+            let t = whole(alloc, of, relvars)?;
+            nodes::type_using_summary(
+                alloc,
+                &relvars.ordinals,
+                place,
+                list,
+                *at,
+                by,
+                aggregates,
+                t,
+            )
         }
     }
 }
