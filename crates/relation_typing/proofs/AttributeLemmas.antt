@@ -15,12 +15,11 @@ use Rattle.std.specs.Cmp.Lexicographic.{texts_ties}
 use Rattle.std.proofs.lemmas.Slice.Eq.{bytes_eq-Decides}
 use Rattle.std.proofs.lemmas.Bool.Decides.{same_from_decides}
 use Rattle.base_core.proofs.SetLemmas.{AllAfter, Ascends, Ascends-from_sorted}
-use Rattle.point_core.specs.declared.fault.Place.{Place}
 use Rattle.value_core.specs.declared.kind.Kind.{Kind}
 use Rattle.value_core.specs.Headings.{has_name, IsHeadingOf}
 use Rattle.value_core.specs.Values.{Name, Heading, name_cmp, attribute_cmp}
 use Rattle.relation_core.proofs.HeadingLemmas.{heading_in_order}
-use Rattle.relation_typing.specs.Attributes.{is_name, few_attributes}
+use Rattle.relation_typing.specs.Attributes.{is_name, heading_if_few}
 
 -- a name is taken where it is UTF-8 and of such a length
 three : (a b c : Bool) (bytes : List ℕ) → a ≡ true → b ≡ true → c ≡ true → Some bytes ≡ (if a && (b && c) then Some bytes else None)
@@ -75,8 +74,8 @@ keys-ascend (a ∷ rest) h = (keys-after a.0 a.1 rest h.0, keys-ascend rest h.1)
 pub in-order : (attributes : Heading) → IsStrictlySortedBy name_cmp (keys_of attributes) → Ascends attribute_cmp attributes
 in-order attributes h = keys-ascend attributes (Ascends-from_sorted name_cmp (keys_of attributes) h)
 
-pub few-made : (place : Place) (attributes heading : Heading) → Ascends attribute_cmp attributes → IsHeadingOf attributes heading → length attributes ≤ 16 →
-    few_attributes place attributes ≡ Ok heading
-few-made place attributes heading up made few =
+pub few-made : (attributes heading : Heading) → Ascends attribute_cmp attributes → IsHeadingOf attributes heading → length attributes ≤ 16 →
+    Some heading ≡ heading_if_few attributes
+few-made attributes heading up made few =
     let same : heading ≡ attributes = heading_in_order attributes heading up made.same made.ordered in
-    rw (le-leb (length attributes) 16 few) (ap Ok (sym same))
+    rw (le-leb (length attributes) 16 few) (ap Some same)

@@ -1,5 +1,5 @@
 -- Attributes and their names, in the order of the names' bytes.
-use Rattle.std.specs.Prelude.{◌&&◌, Bool, List, [], length, nat_le, Ok, if◌then◌else◌}
+use Rattle.std.specs.Prelude.{◌&&◌, Bool, List, [], length, nat_le, Ok, Option, Some, None, if◌then◌else◌}
 use Rattle.std.specs.BTreeMap.{insert_entry}
 use Rattle.point_core.specs.declared.fault.Place.{Place}
 use Rattle.point_core.specs.declared.fault.Code.TheVariants.{E06, E15, E17}
@@ -27,6 +27,10 @@ abbrev pub new_name : Heading → Word → OrFault Name
 new_name attributes w = do
   name ← name_typed w
   if has_name attributes name then refused w.place E15 else Ok name
+
+-- the heading of the attributes; none where they are too many
+abbrev pub heading_if_few : Heading → Option Heading
+heading_if_few attributes = if nat_le (length attributes) most_attributes then Some attributes else None
 
 -- E17 there above 16 attributes
 abbrev pub few_attributes : Place → Heading → OrFault Heading

@@ -1,5 +1,5 @@
 // Attributes by their names.
-ghost use Rattle.std.specs.Prelude.{◌≡◌, Some, None, IfOk, OnOk, if◌then◌else◌};
+ghost use Rattle.std.specs.Prelude.{◌≡◌, ◌≤◌, Some, None, IfOk, OnOk, length, if◌then◌else◌};
 ghost use Rattle.value_core.specs.Headings.{has_name};
 ghost use Rattle.scalar_core.specs.Answers.{Gives};
 ghost use Rattle.relation_typing.specs.Attributes as rules;
@@ -68,27 +68,48 @@ pub fn new_name(alloc: Global, attributes: &Attributes, word: &Word) -> Result<N
 }
 
 /// The attributes as a list, in order.
-fn listed(alloc: Global, attributes: Attributes) -> Result<Vec<(Name, Kind)>, Memory>
+pub fn listed(alloc: Global, attributes: Attributes) -> Result<Vec<(Name, Kind)>, Memory>
     ensures { IfOk result (λ list. list.items ≡ attributes.entries) }
 {
     let list: Vec<(Name, Kind)> = attributes.into_iter().collect(alloc)?;
     Ok(list)
 }
 
+/// The heading of the attributes; none where they are too many.
+fn heading_if_few(alloc: Global, attributes: Attributes) -> Result<Option<Heading>, Memory>
+    ensures { IfOk result (λ h. h ≡ rules.heading_if_few attributes.entries) }
+{
+    if attributes.len() > 16 {
+        return Ok(None);
+    }
+    match Heading::make(alloc, listed(alloc, attributes)?) {
+        Ok(heading) => Ok(Some(heading)),
+        Err(HeadingRefuse::Memory) => Err(Memory),
+        Err(HeadingRefuse::Repeated(_)) => unreachable!(),
+        Err(HeadingRefuse::TooMany) => unreachable!(),
+    }
+}
+
 /// The heading of the attributes, where they are few enough.
 pub fn few_attributes(alloc: Global, place: Place, attributes: Attributes) -> Result<Heading, Stop>
     ensures { Gives (λ h. h) result (rules.few_attributes place attributes.entries) }
 {
-    if attributes.len() > 16 {
-        return Err(Stop::Fault(Fault {
+    match heading_if_few(alloc, attributes)? {
+        Some(heading) => Ok(heading),
+        None => Err(Stop::Fault(Fault {
             place,
             code: Code::E17,
-        }));
+        })),
     }
-    match Heading::make(alloc, listed(alloc, attributes)?) {
-        Ok(heading) => Ok(heading),
-        Err(HeadingRefuse::Memory) => Err(Stop::Memory),
-        Err(HeadingRefuse::Repeated(_)) => unreachable!(),
-        Err(HeadingRefuse::TooMany) => unreachable!(),
+}
+
+/// The heading of at most 16 attributes.
+pub fn heading_of(alloc: Global, attributes: Attributes) -> Result<Heading, Memory>
+    requires { length attributes.entries ≤ 16 }
+    ensures { IfOk result (λ h. h ≡ attributes.entries) }
+{
+    match heading_if_few(alloc, attributes)? {
+        Some(heading) => Ok(heading),
+        None => unreachable!(),
     }
 }

@@ -15,7 +15,6 @@ use Rattle.node_typing.specs.Nodes.{infix_rule, projection_rule, renaming_rule, 
 use Rattle.node_typing.specs.Usings.{using_infix_rule, using_projection_rule, using_restriction_rule, using_extension_rule, using_summary_rule}
 use Rattle.tree_core.specs.Relvars.{State, relvar_named, relvar_heading}
 use Rattle.tree_core.specs.Trees.{Tree, named, Test}
-use Rattle.tree_core.specs.declared.tree.InfixWord.{InfixWord}
 use Rattle.tree_core.specs.declared.tree.InfixWord.TheVariants.{NotMatching}
 
 -- ---- names
@@ -27,21 +26,6 @@ relvar_typed state w = do
   found ← value_or w.place E10 (relvar_named state.relvars name)
   Ok (named w.place (relvar_heading found) name)
 
--- ---- two operands
-
--- the operator between two operands, and under USING with the list of its attributes
-abbrev pub infix_typed : Place → InfixWord → OrFault Tree → OrFault Tree → OrFault Tree
-infix_typed at word l r = do
-  left ← l
-  right ← r
-  infix_rule at word left right
-
-abbrev pub used_infix_typed : Place → NameListP → Place → InfixWord → OrFault Tree → OrFault Tree → OrFault Tree
-used_infix_typed place acl at word l r = do
-  left ← l
-  right ← r
-  using_infix_rule place acl at word left right
-
 -- ---- relational expressions
 
 abbrev mutual
@@ -51,8 +35,14 @@ abbrev mutual
 
   pub terms_typed : State → TermsP → OrFault Tree
   terms_typed state (syntax.OneTerm t) = term_typed state t
-  terms_typed state (syntax.Infix l at w r) = infix_typed at (infix_named w) (terms_typed state l) (term_typed state r)
-  terms_typed state (syntax.NotMatching l at r) = infix_typed at NotMatching (terms_typed state l) (term_typed state r)
+  terms_typed state (syntax.Infix l at w r) = do
+    left ← terms_typed state l
+    right ← term_typed state r
+    infix_rule at (infix_named w) left right
+  terms_typed state (syntax.NotMatching l at r) = do
+    left ← terms_typed state l
+    right ← term_typed state r
+    infix_rule at NotMatching left right
 
   pub term_typed : State → TermP → OrFault Tree
   term_typed state (syntax.OneRelPrimary p) = primary_typed state p
@@ -96,8 +86,14 @@ abbrev mutual
   pub used_typed : State → Place → NameListP → UsingPartP → OrFault Tree
   used_typed state place acl (syntax.UsingExtend e) = used_extend_typed state place acl e
   used_typed state place acl (syntax.UsingSummarize s) = used_summarize_typed state place acl s
-  used_typed state place acl (syntax.UsingInfix l at w r) = used_infix_typed place acl at (infix_named w) (operand_typed state l) (operand_typed state r)
-  used_typed state place acl (syntax.UsingNotMatching l at r) = used_infix_typed place acl at NotMatching (operand_typed state l) (operand_typed state r)
+  used_typed state place acl (syntax.UsingInfix l at w r) = do
+    left ← operand_typed state l
+    right ← operand_typed state r
+    using_infix_rule place acl at (infix_named w) left right
+  used_typed state place acl (syntax.UsingNotMatching l at r) = do
+    left ← operand_typed state l
+    right ← operand_typed state r
+    using_infix_rule place acl at NotMatching left right
   used_typed state place acl (syntax.UsingProject o p) = do
     part ← operand_typed state o
     using_projection_rule place acl p part

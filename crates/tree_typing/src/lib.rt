@@ -1,6 +1,9 @@
 //! The typing of relational expressions and tests: typed trees, or the first refusal with its place.
 #![tactic(auto)]
 
+mod comparisons;
+mod relvars;
 mod trees;
 
-pub use trees::{type_test, type_tree};
+pub use comparisons::type_test;
+pub use trees::type_tree;

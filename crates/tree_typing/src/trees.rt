@@ -6,7 +6,7 @@ ghost use Rattle.tree_core.specs.Relvars.{read_relvars};
 ghost use Rattle.tree_core.specs.Trees.{read_tree};
 ghost use Rattle.tree_typing.specs.Trees as rules;
 
-use crate::words::{operator_of, packed, type_relvar};
+use crate::relvars::type_relvar;
 use node_typing as nodes;
 use point_core::{Place, Stop};
 use relation_typing::type_literal;
@@ -15,6 +15,15 @@ use tree_core::{InfixWord, RelTree, Relvars};
 use utd_syntax::{
     Extend, NameList, Operand, Rel, RelPrimary, Summarize, Term, Terms, Using, UsingPart,
 };
+
+/// The typed tree of a relational expression where these are the relvars, views and ordinal types, or its first refusal.
+#[tactic(auto, unfolding(crate::specs::Trees::tree_typed))]
+pub fn type_tree(alloc: Global, rel: &Rel, relvars: &Relvars) -> Result<RelTree, Stop>
+    requires { AreOrdinals (read_relvars relvars.now).ordinals }
+    ensures typing { Gives read_tree result (rules.tree_typed (read_relvars relvars.now) (read_rel rel.now)) }
+{
+    whole(alloc, rel, relvars)
+}
 
 /// `using | terms`.
 #[cycle(tree)]
@@ -37,30 +46,16 @@ fn terms(alloc: Global, t: &Terms, relvars: &Relvars) -> Result<RelTree, Stop>
     match t {
         Terms::One(t) => term(alloc, t, relvars),
         Terms::Infix(l, place, word, r) => {
-            infix(alloc, l, *place, operator_of(*word), r, relvars)
+            let left = terms(alloc, l, relvars)?;
+            let right = term(alloc, r, relvars)?;
+            nodes::type_infix(alloc, *place, nodes::infix_named(*word), left, right)
         }
         Terms::NotMatching(l, place, r) => {
-            infix(alloc, l, *place, InfixWord::NotMatching, r, relvars)
+            let left = terms(alloc, l, relvars)?;
+            let right = term(alloc, r, relvars)?;
+            nodes::type_infix(alloc, *place, InfixWord::NotMatching, left, right)
         }
     }
-}
-
-/// The operator between two operands.
-#[cycle(tree)]
-fn infix(
-    alloc: Global,
-    l: &Terms,
-    place: Place,
-    word: InfixWord,
-    r: &Term,
-    relvars: &Relvars,
-) -> Result<RelTree, Stop>
-    requires { AreOrdinals (read_relvars relvars.now).ordinals }
-    ensures { Gives read_tree result (rules.infix_typed place word (rules.terms_typed (read_relvars relvars.now) (read_terms l.now)) (rules.term_typed (read_relvars relvars.now) (read_term r.now))) }
-{
-    let left = terms(alloc, l, relvars)?;
-    let right = term(alloc, r, relvars)?;
-    nodes::type_infix(alloc, place, word, left, right)
 }
 
 /// `rel_primary | term projection | term "WHERE" scalar | term "RENAME" renamings`.
@@ -117,7 +112,7 @@ pub(crate) fn operand(alloc: Global, o: &Operand, relvars: &Relvars) -> Result<R
         Operand::Paren(_, rel) => whole(alloc, rel, relvars),
         Operand::Pack(place, word, rel, list) => {
             let part = whole(alloc, rel, relvars)?;
-            packed(alloc, *word, *place, list, part)
+            nodes::type_packing(alloc, *place, *word, list, part)
         }
     }
 }
@@ -128,17 +123,94 @@ fn using(alloc: Global, u: &Using, relvars: &Relvars) -> Result<RelTree, Stop>
     requires { AreOrdinals (read_relvars relvars.now).ordinals }
     ensures { Gives read_tree result (rules.using_typed (read_relvars relvars.now) (read_using u.now)) }
 {
-    let Using::Of(place, list, part) = u;
+    match u {
+        Using::Of(place, list, part) => used(alloc, *place, list, part, relvars),
+    }
+}
+
+/// An operator under USING.
+#[cycle(tree)]
+fn used(
+    alloc: Global,
+    place: Place,
+    list: &NameList,
+    part: &UsingPart,
+    relvars: &Relvars,
+) -> Result<RelTree, Stop>
+    requires { AreOrdinals (read_relvars relvars.now).ordinals }
+    ensures { Gives read_tree result (rules.used_typed (read_relvars relvars.now) place (read_list list.now) (read_using_part part.now)) }
+{
     match part {
+        UsingPart::Extend(e) => used_extension(alloc, place, list, e, relvars),
+        UsingPart::Summarize(s) => used_summary(alloc, place, list, s, relvars),
         UsingPart::Infix(l, at, word, r) => {
-            used_infix(alloc, *place, list, l, *at, operator_of(*word), r, relvars)
+            let left = operand(alloc, l, relvars)?;
+            let right = operand(alloc, r, relvars)?;
+            let word = nodes::infix_named(*word);
+            nodes::type_using_infix(alloc, place, list, *at, word, left, right)
         }
         UsingPart::NotMatching(l, at, r) => {
-            used_infix(alloc, *place, list, l, *at, InfixWord::NotMatching, r, relvars)
+            let left = operand(alloc, l, relvars)?;
+            let right = operand(alloc, r, relvars)?;
+            let word = InfixWord::NotMatching;
+            nodes::type_using_infix(alloc, place, list, *at, word, left, right)
         }
-        UsingPart::Extend(_) | UsingPart::Summarize(_) | UsingPart::Project(_, _) | UsingPart::Where(_, _, _) => {
-            let of = used(alloc, part, relvars)?;
-            used_alone(alloc, *place, list, part, of)
+        UsingPart::Project(of, projection) => {
+            let t = operand(alloc, of, relvars)?;
+            nodes::type_using_projection(alloc, place, list, projection, t)
+        }
+        UsingPart::Where(of, at, condition) => {
+            let t = operand(alloc, of, relvars)?;
+            nodes::type_using_restriction(alloc, &relvars.ordinals, place, list, *at, condition, t)
+        }
+    }
+}
+
+/// EXTEND under USING.
+#[cycle(tree)]
+fn used_extension(
+    alloc: Global,
+    place: Place,
+    list: &NameList,
+    e: &Extend,
+    relvars: &Relvars,
+) -> Result<RelTree, Stop>
+    requires { AreOrdinals (read_relvars relvars.now).ordinals }
+    ensures { Gives read_tree result (rules.used_extend_typed (read_relvars relvars.now) place (read_list list.now) (read_extend e.now)) }
+{
+    match e {
+        Extend::Of(at, of, sets) => {
+            let t = whole(alloc, of, relvars)?;
+            nodes::type_using_extension(alloc, &relvars.ordinals, place, list, *at, sets, t)
+        }
+    }
+}
+
+/// SUMMARIZE under USING.
+#[cycle(tree)]
+fn used_summary(
+    alloc: Global,
+    place: Place,
+    list: &NameList,
+    s: &Summarize,
+    relvars: &Relvars,
+) -> Result<RelTree, Stop>
+    requires { AreOrdinals (read_relvars relvars.now).ordinals }
+    ensures { Gives read_tree result (rules.used_summarize_typed (read_relvars relvars.now) place (read_list list.now) (read_summarize s.now)) }
+{
+    match s {
+        Summarize::Of(at, of, by, aggregates) => {
+            let t = whole(alloc, of, relvars)?;
+            nodes::type_using_summary(
+                alloc,
+                &relvars.ordinals,
+                place,
+                list,
+                *at,
+                by,
+                aggregates,
+                t,
+            )
         }
     }
 }

@@ -21,14 +21,14 @@ use Rattle.tree_core.specs.declared.tree.InfixWord.{InfixWord}
 use Rattle.algebra_core.specs.Names.{found}
 use Rattle.algebra_core.specs.Plainness.{is_plain, plain_in, is_plain_test}
 use Rattle.node_typing.specs.Infixes.{infix_heading, infix_named}
-use Rattle.node_typing.specs.Nodes.{projection_rule, renaming_rule, restriction_rule, extension_rule, summary_rule, emptiness_test}
+use Rattle.node_typing.specs.Nodes.{infix_rule, projection_rule, renaming_rule, restriction_rule, extension_rule, summary_rule, emptiness_test}
 use Rattle.node_typing.specs.Positions.{check}
 use Rattle.node_typing.specs.Projections.{projection_kept, renaming_names}
 use Rattle.node_typing.specs.Rows.{condition_typed, extension_made}
 use Rattle.node_typing.specs.Summaries.{groups_typed, aggregates_made}
 use Rattle.value_core.specs.declared.list.OrdinalNames.{OrdinalNames}
 use Rattle.tree_core.specs.declared.tree.InfixWord.TheVariants.{NotMatching}
-use Rattle.tree_typing.specs.Trees.{relvar_typed, infix_typed, rel_typed, terms_typed, term_typed, primary_typed, operand_typed, extend_typed, summarize_typed, comparison_typed, tree_typed, test_typed}
+use Rattle.tree_typing.specs.Trees.{relvar_typed, rel_typed, terms_typed, term_typed, primary_typed, operand_typed, extend_typed, summarize_typed, comparison_typed, tree_typed, test_typed}
 use Rattle.type_check.specs.Plainness.{is_plain_rel, is_plain_terms, is_plain_term, is_plain_primary, is_plain_operand, is_plain_extend, is_plain_summarize, is_plain_comparison, is_plain_test as is_plain_written, are_plain}
 
 -- whatever is given, and f of it
@@ -83,7 +83,7 @@ module _ (state : State) (views : IsTrue (are_plain state)) where
       after _ (tuple_typed state.ordinals first) _ (λ made. after _ (tuples_typed state.ordinals made.1 (made.0 ∷ []) more) _ (λ list. refl))
 
   infix-plain : (at : Place) (word : InfixWord) (l r : OrFault Tree) → IfOk l (λ (t : Tree). IsTrue (is_plain (plain_in state.relvars) t)) → IfOk r (λ (t : Tree). IsTrue (is_plain (plain_in state.relvars) t))
-      → IfOk (infix_typed at word l r) (λ (t : Tree). IsTrue (is_plain (plain_in state.relvars) t))
+      → IfOk (l >>= (λ left. r >>= (λ right. infix_rule at word left right))) (λ (t : Tree). IsTrue (is_plain (plain_in state.relvars) t))
   infix-plain at word l r h k =
       then-plain (λ (t : Tree). IsTrue (is_plain (plain_in state.relvars) t)) _ l _ h (λ left a.
       then-plain (λ (t : Tree). IsTrue (is_plain (plain_in state.relvars) t)) _ r _ k (λ right b.

@@ -81,10 +81,13 @@ once-names names (Renaming old new ∷ rest) =
   where
     more : (r : OrFault (List Name)) → IsTrue (stands_once names new.bytes) → IfOk r (λ (all : List Name). (all ≡ names) × ((name : Name) → GivesName rest name → IsTrue (stands_once names name)))
         → IfOk r (λ (all : List Name). (all ≡ names) × ((name : Name) → GivesName (Renaming old new ∷ rest) name → IsTrue (stands_once names name)))
-    more (Ok all) once h = (h.0, λ name g. elim g [
+    more (Ok all) once h = (
+      h.0,
+      λ name g. elim g [
         | inl e ↦ subst (λ (m : Name). IsTrue (stands_once names m)) (sym e) once
         | inr k ↦ h.1 name k
-      ])
+      ],
+    )
     more (Err e) once h = tt
 
 -- the names that are the name
@@ -173,12 +176,11 @@ names-differ : (list : List RenamingP) (pairs : NewNames) (n : ℕ) (h : Heading
     → ((name : Name) → GivesName list name → times name (names_from pairs n h) ≤ 1) → IsDistinct bytes_eq (names_from pairs n h)
 unfolding IsDistinct
 names-differ list pairs n [] w up once = tt
-names-differ list pairs n (a ∷ rest) w up once =
-    (
-      all-by (λ (y : Name). bytes_eq (name_behind pairs n a.0) y ≡ false) (names_from pairs (n + 1) rest) (λ y i.
-          new-apart list a rest (name_behind pairs n a.0) y (names_from pairs (n + 1) rest) up once (behind list pairs n a.0 w) i (behind-in list pairs (n + 1) rest y w i)),
-      names-differ list pairs (n + 1) rest w up.1 (λ name g. let tail = times-tail name (name_behind pairs n a.0) (names_from pairs (n + 1) rest) in omega (arith, once name g, tail)),
-    )
+names-differ list pairs n (a ∷ rest) w up once = (
+  all-by (λ (y : Name). bytes_eq (name_behind pairs n a.0) y ≡ false) (names_from pairs (n + 1) rest) (λ y i.
+      new-apart list a rest (name_behind pairs n a.0) y (names_from pairs (n + 1) rest) up once (behind list pairs n a.0 w) i (behind-in list pairs (n + 1) rest y w i)),
+  names-differ list pairs (n + 1) rest w up.1 (λ name g. let tail = times-tail name (name_behind pairs n a.0) (names_from pairs (n + 1) rest) in omega (arith, once name g, tail)),
+)
 
 length-names_from : (pairs : NewNames) (n : ℕ) (h : Heading) → length (names_from pairs n h) ≡ length h
 length-names_from pairs n [] = refl

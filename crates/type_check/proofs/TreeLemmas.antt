@@ -19,8 +19,9 @@ use Rattle.tree_core.specs.declared.tree.InfixWord.TheVariants.{NotMatching}
 use Rattle.algebra_core.specs.Typing.{heading_named}
 use Rattle.algebra_core.specs.WellMade.{sizes_of, headings_of, IsWellMade, IsTypedFor, IsTypedTestFor}
 use Rattle.node_typing.specs.Infixes.{infix_named}
-use Rattle.node_typing.specs.Nodes.{relation_named}
-use Rattle.tree_typing.specs.Trees.{relvar_typed, infix_typed, used_infix_typed, rel_typed, terms_typed, term_typed, primary_typed, operand_typed, extend_typed, summarize_typed, using_typed, used_typed, used_extend_typed, used_summarize_typed, tree_typed, comparison_typed, used_comparison_typed, test_typed}
+use Rattle.node_typing.specs.Nodes.{infix_rule, relation_named}
+use Rattle.node_typing.specs.Usings.{using_infix_rule}
+use Rattle.tree_typing.specs.Trees.{relvar_typed, rel_typed, terms_typed, term_typed, primary_typed, operand_typed, extend_typed, summarize_typed, using_typed, used_typed, used_extend_typed, used_summarize_typed, tree_typed, comparison_typed, used_comparison_typed, test_typed}
 use Rattle.type_check.proofs.AggregateLemmas.{summary-sound}
 use Rattle.type_check.proofs.DeclaredLemmas.{declared-heading, typed-declared}
 use Rattle.type_check.proofs.ExtensionLemmas.{extension-sound}
@@ -65,12 +66,12 @@ module _ (state : State) (made : IsWellMade state) where
   part-sound : (r : OrFault Tree) (f : Tree → OrFault Tree) → IfOk r (IsTypedFor state) → ((t : Tree) → IsTypedFor state t → IfOk (f t) (IsTypedFor state)) → IfOk (r >>= f) (IsTypedFor state)
   part-sound r f h more = then-sound (IsTypedFor state) (IsTypedFor state) r f h more
 
-  infix-typed : (at : Place) (word : InfixWord) (l r : OrFault Tree) → IfOk l (IsTypedFor state) → IfOk r (IsTypedFor state) → IfOk (infix_typed at word l r) (IsTypedFor state)
+  infix-typed : (at : Place) (word : InfixWord) (l r : OrFault Tree) → IfOk l (IsTypedFor state) → IfOk r (IsTypedFor state) → IfOk (l >>= (λ left. r >>= (λ right. infix_rule at word left right))) (IsTypedFor state)
   infix-typed at word l r h k =
       part-sound l _ h (λ left a. part-sound r _ k (λ right b. infix-sound (sizes_of state.ordinals) (headings_of state.relvars) at word left right a b))
 
   used-infix-typed : (place : Place) (acl : NameListP) (at : Place) (word : InfixWord) (l r : OrFault Tree) → IfOk l (IsTypedFor state) → IfOk r (IsTypedFor state)
-      → IfOk (used_infix_typed place acl at word l r) (IsTypedFor state)
+      → IfOk (l >>= (λ left. r >>= (λ right. using_infix_rule place acl at word left right))) (IsTypedFor state)
   used-infix-typed place acl at word l r h k =
       part-sound l _ h (λ left a. part-sound r _ k (λ right b.
       using-infix-sound (sizes_of state.ordinals) (headings_of state.relvars) place acl at word left right (headed left a) (headed right b) a b))

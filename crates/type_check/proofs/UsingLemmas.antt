@@ -218,9 +218,11 @@ module _ (types : List OrdinalNames) (ordinals : All IsOrdinalType types) (headi
       let i : In (name, kind_named (attributes_at by from) name) to =
       In-permutation (s.made ++ attributes_at by from) to (name, kind_named (attributes_at by from) name) s.headed.same
       ((In-append (name, kind_named (attributes_at by from) name) s.made (attributes_at by from)).1 (inr (attribute-named (attributes_at by from) name here))) in
-      let there = stays-by (attributes_at by from) to name (heading_ascends to s.headed.ordered) i in
-      (there.0, there.1 ∙ sym (kind-is from name (kind_named (attributes_at by from) name) up
-      (part-in from by s.positions.within (name, kind_named (attributes_at by from) name) (attribute-named (attributes_at by from) name here))))
+      let there = stays-by (attributes_at by from) to name (heading_ascends to s.headed.ordered) i in (
+        there.0,
+        there.1 ∙ sym (kind-is from name (kind_named (attributes_at by from) name) up
+            (part-in from by s.positions.within (name, kind_named (attributes_at by from) name) (attribute-named (attributes_at by from) name here))),
+      )
 
   all-among : (from : Heading) (by : List ℕ) (names : List Name) → Ascends attribute_cmp from → ArePositions from by → ((name : Name) → In name names → IsTrue (has_name (attributes_at by from) name))
       → IsTrue (list_all (among by) (positions_of from names))

@@ -41,7 +41,8 @@ pub fn check(alloc: Global, statement: &Statement, relvars: &Relvars) -> Result<
             let test = type_test(alloc, test, relvars)?;
             Ok(Checked::Ask(test))
         }
-        Statement::Ordinal(_, _, _) | Statement::Var(_, _, _) | Statement::History(_) => unreachable!(),
+        Statement::Ordinal(_, _, _) | Statement::Var(_, _, _) | Statement::History(_) =>
+            unreachable!(),
         Statement::Drop(_, _) | Statement::Assign(_) => unreachable!(),
     }
 }

@@ -3,7 +3,7 @@ use Rattle.value_core.specs.Headings.{first_repeat, IsHeadingOf, IsHeadingRefusa
 use Rattle.value_core.specs.Values.{Heading}
 use Rattle.relation_core.proofs.HeadingLemmas.{no_repeat}
 use Rattle.relation_typing.proofs.AttributeLemmas.{in-order, few-made}
-use Rattle.relation_typing.proofs.attributes.few_attributes.Goals as goal
+use Rattle.relation_typing.proofs.attributes.heading_if_few.Goals as goal
 
 pub unreachable-requires : goal.unreachable-requires
 unreachable-requires c =
@@ -17,4 +17,4 @@ pub returns-in-Ok : goal.returns-in-Ok
 returns-in-Ok c =
     let entries = c.args.attributes.entries in
     let same : c.in_ok-listed.field-0.items ≡ entries = c.in_ok-listed.ensures in
-    few-made c.args.place entries c.in-Ok.heading (in-order entries c.len.ensures.ordered) (subst (λ (l : Heading). IsHeadingOf l c.in-Ok.heading) same c.in-Ok.ensures) (omega (arith, c.len.ensures.len))
+    few-made entries c.in-Ok.heading (in-order entries c.len.ensures.ordered) (subst (λ (l : Heading). IsHeadingOf l c.in-Ok.heading) same c.in-Ok.ensures) (omega (arith, c.len.ensures.len))

@@ -1,0 +1,62 @@
+// Tests: comparisons of two relations, and whether one has rows.
+ghost use Rattle.utd_syntax.specs.Read.{read_comparison, read_list, read_test};
+ghost use Rattle.scalar_core.specs.Answers.{Gives};
+ghost use Rattle.scalar_typing.specs.Names.{AreOrdinals};
+ghost use Rattle.tree_core.specs.Relvars.{read_relvars};
+ghost use Rattle.tree_core.specs.Trees.{read_test as read_typed};
+ghost use Rattle.tree_typing.specs.Trees as rules;
+
+use crate::trees::{operand, whole};
+use node_typing as nodes;
+use point_core::Stop;
+use std::alloc::Global;
+use tree_core::{RelTest, Relvars};
+use utd_syntax::{NameList, Relate, Test};
+
+/// A comparison of two relations.
+fn comparison(alloc: Global, c: &Relate, relvars: &Relvars) -> Result<RelTest, Stop>
+    requires { AreOrdinals (read_relvars relvars.now).ordinals }
+    ensures { Gives read_typed result (rules.comparison_typed (read_relvars relvars.now) (read_comparison c.now)) }
+{
+    let left = operand(alloc, &c.left, relvars)?;
+    let right = operand(alloc, &c.right, relvars)?;
+    nodes::type_comparison(c.place, nodes::relation_named(c.word), left, right)
+}
+
+/// A comparison of two relations under USING.
+fn used_comparison(
+    alloc: Global,
+    list: &NameList,
+    c: &Relate,
+    relvars: &Relvars,
+) -> Result<RelTest, Stop>
+    requires { AreOrdinals (read_relvars relvars.now).ordinals }
+    ensures { Gives read_typed result (rules.used_comparison_typed (read_relvars relvars.now) (read_list list.now) (read_comparison c.now)) }
+{
+    let left = operand(alloc, &c.left, relvars)?;
+    let right = operand(alloc, &c.right, relvars)?;
+    nodes::type_using_comparison(
+        alloc,
+        list,
+        c.place,
+        nodes::relation_named(c.word),
+        left,
+        right,
+    )
+}
+
+/// The typed tree of a test where these are the relvars, views and ordinal types, or its first refusal.
+#[tactic(auto, unfolding(crate::specs::Trees::test_typed))]
+pub fn type_test(alloc: Global, test: &Test, relvars: &Relvars) -> Result<RelTest, Stop>
+    requires { AreOrdinals (read_relvars relvars.now).ordinals }
+    ensures typing { Gives read_typed result (rules.test_typed (read_relvars relvars.now) (read_test test.now)) }
+{
+    match test {
+        Test::Using(_, list, c) => used_comparison(alloc, list, c, relvars),
+        Test::Relate(c) => comparison(alloc, c, relvars),
+        Test::Emptiness(place, word, rel) => {
+            let t = whole(alloc, rel, relvars)?;
+            Ok(nodes::emptiness_test(*place, *word, t))
+        }
+    }
+}
