@@ -1,6 +1,6 @@
 -- The lines of refusals and of truth values, as bytes.
 --     code_text      a code and its words
---     HasLine      which refusals a statement's line tells
+--     HasLine      what a line tells
 --     refusal_line, truth_line      the lines
 use Rattle.std.specs.Prelude.{◌≡◌, ℕ, Bool, true, false, List, [], ◌∷◌, ◌++◌, codes, decimal}
 use Rattle.point_core.specs.declared.fault.Place.{Place}
@@ -44,29 +44,9 @@ code_text E43 = codes "E43 FOREIGN KEY broken"
 code_text E44 = codes "E44 HISTORY broken"
 code_text E46 = codes "E46 database full"
 
--- what a code's cause is: the statement as a whole, a place in it, or a constraint of a relvar
-pub data Cause : Type 0 where
-  statement : Cause
-  place : Cause
-  constraint : Cause
-
-abbrev pub cause_of : Code → Cause
-cause_of E03 = statement
-cause_of E04 = statement
-cause_of E46 = statement
-cause_of E40 = constraint
-cause_of E41 = constraint
-cause_of E42 = constraint
-cause_of E43 = constraint
-cause_of E44 = constraint
-cause_of _ = place
-
--- a refusal with what its code's cause asks for; want of memory has no line
+-- each refusal has a line; want of memory is none
 abbrev pub HasLine : Refuse → Type 0
-HasLine (Plain code) = cause_of code ≡ statement
-HasLine (At fault) = cause_of fault.code ≡ place
-HasLine (Broken code relvar number) = cause_of code ≡ constraint
-HasLine Memory = ⊥
+HasLine refuse = refuse ≡ Memory → ⊥
 
 -- a place as LINE:COLUMN
 abbrev pub place_text : Place → List ℕ

@@ -85,8 +85,7 @@ fn put_cause(out: &mut Vec<u8>, refuse: &Refuse) -> Result<(), Memory>
     Ok(())
 }
 
-/// The line of the statement with this number, which is refused. The refusal has a place or a constraint where its code asks
-/// for one.
+/// The line of the statement with this number, which is refused; want of memory has none.
 #[tactic(auto, unfolding(crate::specs::Lines::refusal_line))]
 pub fn refusal_line(alloc: Global, number: u32, refuse: &Refuse) -> Result<Vec<u8>, Memory>
     requires { HasLine refuse.now }

@@ -1,14 +1,20 @@
 -- Statements, one after the other.
 use Rattle.std.proofs.Common.{◌≡◌, ℕ, suc, ◌+◌, ◌≤◌, Bool, true, false, ◌&&◌, List, [], ◌∷◌, ◌++◌, length, take, refl, sym, ap, ◌∙◌, subst, arith, append_assoc, append-nil, length-append, length-take}
 use Rattle.std.proofs.lemmas.List.{take_at}
+use Rattle.tree_core.specs.Relvars.{State}
 use Rattle.utd_session.specs.Statements.{Statement}
 use Rattle.utd_session.specs.Readings.{Reading, IsReading, AreReadings}
-use Rattle.utd_session.specs.Machine.{State, Step, no_relvars, answer, text_of, is_accepted, step, in_turn, all_steps, performed, performed_after}
+use Rattle.utd_session.specs.Answers.{no_relvars, text_of, is_accepted}
+use Rattle.utd_session.specs.Machine.{Step, answer, step, in_turn, all_steps, performed, performed_after}
 
 -- no statement changes the state
 pub state_stays : (state : State) (n : ℕ) (rs : List Reading) → (all_steps state n rs).state ≡ state
 state_stays state n [] = refl
 state_stays state n (r ∷ rs) = state_stays state (n + 1) rs
+
+-- so the state after some statements is the one after others
+pub same_state : (rs us : List Reading) → (performed rs).state ≡ (performed us).state
+same_state rs us = state_stays no_relvars 1 rs ∙ sym (state_stays no_relvars 1 us)
 
 and_assoc : (a b c : Bool) → ((a && b) && c) ≡ (a && (b && c))
 and_assoc true b c = refl

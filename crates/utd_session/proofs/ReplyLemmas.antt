@@ -5,7 +5,7 @@ use Rattle.std.proofs.lemmas.Int.{ints}
 use Rattle.std.proofs.lemmas.List.{drop_more}
 use Rattle.point_core.specs.declared.fault.Place.{Place}
 use Rattle.utd_session.specs.declared.row.PlacedRow.{PlacedRow}
-use Rattle.utd_session.specs.Machine.{first_empty}
+use Rattle.utd_session.specs.Answers.{first_empty}
 
 at_least : (a b : ℤ) → int_lt a b ≡ false → b ≤ℤ a
 at_least a b e = grind (arith, ints)

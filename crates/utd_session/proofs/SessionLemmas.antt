@@ -16,11 +16,13 @@ use Rattle.point_core.specs.declared.fault.Code.TheVariants.{E04}
 use Rattle.value_core.specs.declared.refuse.Refuse.TheVariants.{Plain}
 use Rattle.utd_session.specs.Statements.{Statement, Complete, Incomplete, ends, Cut, cut, complete_statements, is_blank, incomplete_rest, statements, NoEnd, EndsOne}
 use Rattle.utd_session.specs.Readings.{Reading, Refused, IsReading, AreReadings}
-use Rattle.utd_session.specs.Machine.{no_relvars, state_of, answer, text_of, is_accepted, performed, performed_after}
+use Rattle.utd_session.specs.Answers.{text_of, is_accepted}
+use Rattle.utd_session.specs.Databases.{state_of}
+use Rattle.utd_session.specs.Machine.{answer, performed, performed_after}
 use Rattle.utd_session.specs.Run.{IsPrefixOf}
 use Rattle.utd_session.specs.Sessions.{StandsFor, GoesOn, IsCutOff, IsFinished}
 use Rattle.utd_session.proofs.StatementLemmas.{ends_is, is_blank_is, cut-end, cut-keep, cut-more}
-use Rattle.utd_session.proofs.MachineLemmas.{state_stays, output-push, output-one, accepted-push, readings-push, readings-front}
+use Rattle.utd_session.proofs.MachineLemmas.{same_state, output-push, output-one, accepted-push, readings-push, readings-front}
 
 -- what a step of the cutter says
 abbrev pub SinceThen : Cutter → Cuts → ℕ → Cutter → Type 0
@@ -92,15 +94,15 @@ more_statements bytes done rest piece e =
     (m.0, ap (λ x. complete_statements (bytes ++ x)) e ∙ ap complete_statements (sym (append_assoc bytes done rest)) ∙ m.1)
 
 -- memory ran out behind some of them
-pub fed-stop : (session : Session) (cutter : Cutter) (piece rest bytes : List ℕ) (rs : List Reading) (before mid now : Option (List ℕ)) (database : Database) → IsFed session cutter piece rest bytes rs before mid → now ≡ mid
+pub fed-stop : (session : Session) (cutter : Cutter) (piece rest bytes : List ℕ) (rs : List Reading) (before mid now : Option (List ℕ)) (database : Database) → database ≡ session.database → IsFed session cutter piece rest bytes rs before mid → now ≡ mid
     → (more : List Reading) × GoesOn (complete_statements (bytes ++ piece)) rs more before now (state_of database)
-fed-stop session cutter piece rest bytes rs before mid now database i e =
+fed-stop session cutter piece rest bytes rs before mid now database kept i e =
     let m = more_statements bytes i.done rest piece i.split in (
       i.more,
       record {
         read = readings-front _ _ m.0 (rs ++ i.more) m.1 i.stands.read;
         gained = subst (Gains before (performed_after rs i.more).output) (sym e) i.gained;
-        left = sym (state_stays no_relvars 1 (rs ++ i.more));
+        left = ap state_of kept ∙ i.stands.state_is;
       },
     )
 
@@ -112,10 +114,10 @@ gained_front (Some old) mid now xs ys g h =
     (take k.0 ys, (drop k.0 ys, sym (take-append-drop k.0 ys)), k.2 ∙ ap Some (append_assoc old xs (take k.0 ys)))
 
 -- a write failed within the next statement
-pub cut-off : (ss front more : List Statement) (s : Statement) (rs new : List Reading) (r : Reading) (before mid now : Option (List ℕ)) (database : Database) → ss ≡ (front ++ s ∷ []) ++ more
+pub cut-off : (ss front more : List Statement) (s : Statement) (rs new : List Reading) (r : Reading) (before mid now : Option (List ℕ)) (database : Database) → state_of database ≡ (performed (rs ++ new)).state → ss ≡ (front ++ s ∷ []) ++ more
     → AreReadings front (rs ++ new) → IsReading s r → Gains before (performed_after rs new).output mid → GainsPrefix mid (text_of (length (rs ++ new) + 1) (answer (performed (rs ++ new)).state r)) now
     → (text : List ℕ) × IsCutOff ss rs new r text before now (state_of database)
-cut-off ss front more s rs new r before mid now database e read is gained prefix =
+cut-off ss front more s rs new r before mid now database left e read is gained prefix =
     let g = gained_front before mid now _ _ gained prefix in
     let all : List Reading = (rs ++ new) ++ r ∷ [] in
     let len : length all ≡ length (rs ++ new) + 1 = length-append (rs ++ new) (r ∷ []) in (
@@ -124,21 +126,21 @@ cut-off ss front more s rs new r before mid now database e read is gained prefix
         read = subst (λ n. AreReadings (take n ss) all) len (readings-front ss (front ++ s ∷ []) more all e (readings-push front s (rs ++ new) r read is));
         front = g.1;
         gained = g.2;
-        left = sym (state_stays no_relvars 1 all);
+        left = left ∙ same_state (rs ++ new) all;
       },
     )
 
-pub fed-cut-off : (session : Session) (cutter : Cutter) (piece rest front behind bytes : List ℕ) (rs : List Reading) (before mid now : Option (List ℕ)) (database : Database) (i : IsFed session cutter piece rest bytes rs before mid)
+pub fed-cut-off : (session : Session) (cutter : Cutter) (piece rest front behind bytes : List ℕ) (rs : List Reading) (before mid now : Option (List ℕ)) (database : Database) → database ≡ session.database → (i : IsFed session cutter piece rest bytes rs before mid)
     → rest ≡ front ++ behind
     → EndsOne (cut (bytes ++ i.done)).place (cut (bytes ++ i.done)).rest front
     → ((r : Reading) × IsReading (Complete (cut (bytes ++ i.done)).place ((cut (bytes ++ i.done)).rest ++ front)) r × GainsPrefix mid (text_of (length (rs ++ i.more) + 1) (answer (performed (rs ++ i.more)).state r)) now)
     → (more : List Reading) × (r : Reading) × (text : List ℕ) × IsCutOff (complete_statements (bytes ++ piece)) rs more r text before now (state_of database)
-fed-cut-off session cutter piece rest front behind bytes rs before mid now database i e one (r, is, prefix) =
+fed-cut-off session cutter piece rest front behind bytes rs before mid now database kept i e one (r, is, prefix) =
     let split : piece ≡ (i.done ++ front) ++ behind = i.split ∙ ap (λ x. i.done ++ x) e ∙ sym (append_assoc i.done front behind) in
     let m = more_statements bytes (i.done ++ front) behind piece split in
     let done : complete_statements (bytes ++ (i.done ++ front)) ≡ complete_statements (bytes ++ i.done) ++ Complete (cut (bytes ++ i.done)).place ((cut (bytes ++ i.done)).rest ++ front) ∷ [] =
     ap complete_statements (sym (append_assoc bytes i.done front)) ∙ ap (λ (c : Cut). c.ended) (cut-end (bytes ++ i.done) front one) in
-    let k = cut-off (complete_statements (bytes ++ piece)) (complete_statements (bytes ++ i.done)) m.0 (Complete (cut (bytes ++ i.done)).place ((cut (bytes ++ i.done)).rest ++ front)) rs i.more r before mid now database (m.1 ∙ ap (λ x. x ++ m.0) done) i.stands.read is i.gained prefix in
+    let k = cut-off (complete_statements (bytes ++ piece)) (complete_statements (bytes ++ i.done)) m.0 (Complete (cut (bytes ++ i.done)).place ((cut (bytes ++ i.done)).rest ++ front)) rs i.more r before mid now database (ap state_of kept ∙ i.stands.state_is) (m.1 ∙ ap (λ x. x ++ m.0) done) i.stands.read is i.gained prefix in
     (i.more, r, k.0, k.1)
 
 -- what a session stands for after one statement more
@@ -149,27 +151,26 @@ pub record IsEnd (s : Session) (bytes front : List ℕ) (rs : List Reading) (r :
   pub place_is : (cut (bytes ++ front)).place ≡ place_after (cut bytes).place ((cut bytes).rest ++ front)
   pub rest_is : (cut (bytes ++ front)).rest ≡ []
   pub fed : s.fed + length front ≡ length (bytes ++ front)
-  pub left : no_relvars ≡ (performed (rs ++ r ∷ [])).state
+  pub left : state_of s.database ≡ (performed (rs ++ r ∷ [])).state
 
 pub is_end : (s : Session) (bytes front : List ℕ) (rs : List Reading) (r : Reading) (one : Bool) → StandsFor s bytes rs → EndsOne (cut bytes).place (cut bytes).rest front
-    → IsReading (Complete (cut bytes).place ((cut bytes).rest ++ front)) r → one ≡ is_accepted (answer no_relvars r) → IsEnd s bytes front rs r one
+    → IsReading (Complete (cut bytes).place ((cut bytes).rest ++ front)) r → one ≡ is_accepted (answer (state_of s.database) r) → IsEnd s bytes front rs r one
 is_end s bytes front rs r one h ends is accepts =
     let c = cut-end bytes front ends in
-    let state : no_relvars ≡ (performed rs).state = sym (state_stays no_relvars 1 rs) in
     let len : length (rs ++ r ∷ []) ≡ length rs + 1 = length-append rs (r ∷ []) in
     record {
       read = subst (λ ss. AreReadings ss (rs ++ r ∷ [])) (sym (ap (λ (x : Cut). x.ended) c)) (readings-push (complete_statements bytes) _ rs r h.read is);
-      accepted = (λ i. accepts i && h.accepted i) ∙ ap (λ st. is_accepted (answer st r) && (performed rs).accepted) state ∙ sym (accepted-push rs r);
+      accepted = (λ i. accepts i && h.accepted i) ∙ ap (λ st. is_accepted (answer st r) && (performed rs).accepted) h.state_is ∙ sym (accepted-push rs r);
       number = omega (arith, h.number, len);
       place_is = ap (λ (x : Cut). x.place) c;
       rest_is = ap (λ (x : Cut). x.rest) c;
       fed = omega (arith, h.fed, length-append bytes front);
-      left = sym (state_stays no_relvars 1 (rs ++ r ∷ []));
+      left = h.state_is ∙ same_state rs (rs ++ r ∷ []);
     }
 
--- the state that a database holds is the one after any statements
-pub text_is : (n : ℕ) (rs : List Reading) (r : Reading) → text_of n (answer no_relvars r) ≡ text_of n (answer (performed rs).state r)
-text_is n rs r = ap (λ st. text_of n (answer st r)) (sym (state_stays no_relvars 1 rs))
+-- the text of the next statement
+pub text_is : (s : Session) (bytes : List ℕ) (rs : List Reading) (r : Reading) → StandsFor s bytes rs → text_of s.number (answer (state_of s.database) r) ≡ text_of (length rs + 1) (answer (performed rs).state r)
+text_is s bytes rs r h = λ i. text_of (h.number i) (answer (h.state_is i) r)
 
 -- what a session stands for after bytes that end nothing
 pub record IsKept (s : Session) (bytes piece : List ℕ) (rs : List Reading) : Type 0 where
@@ -197,10 +198,10 @@ fed-end session cutter piece rest bytes rs before now (Ok s) i h =
     (i.more, subst (λ b. StandsFor s b (rs ++ i.more)) same h, i.gained)
 fed-end session cutter piece rest bytes rs before now (Err e) i h = tt
 
-pub fed-stop-at-end : (session : Session) (cutter : Cutter) (piece rest bytes : List ℕ) (rs : List Reading) (before now : Option (List ℕ)) (r : Result Session Ended) → IsFed session cutter piece rest bytes rs before now
+pub fed-stop-at-end : (session : Session) (cutter : Cutter) (piece rest bytes : List ℕ) (rs : List Reading) (before now : Option (List ℕ)) (r : Result Session Ended) → IsFed session cutter piece rest bytes rs before now → IfErr r (λ e. e.database ≡ session.database)
     → IfErr r (λ e. e.why ≡ Memory → (more : List Reading) × GoesOn (complete_statements (bytes ++ piece)) rs more before now (state_of e.database))
-fed-stop-at-end session cutter piece rest bytes rs before now (Ok s) i = tt
-fed-stop-at-end session cutter piece rest bytes rs before now (Err e) i = λ why. fed-stop session cutter piece rest bytes rs before now now e.database i refl
+fed-stop-at-end session cutter piece rest bytes rs before now (Ok s) i kept = tt
+fed-stop-at-end session cutter piece rest bytes rs before now (Err e) i kept = λ why. fed-stop session cutter piece rest bytes rs before now now e.database kept i refl
 
 -- ---- the end of a script
 
@@ -219,14 +220,14 @@ blank_statements bytes e = ap (λ t. complete_statements bytes ++ cond t [] (Inc
 open_statements : (bytes : List ℕ) → is_blank (cut bytes).rest ≡ false → statements bytes ≡ complete_statements bytes ++ Incomplete ∷ []
 open_statements bytes e = ap (λ t. complete_statements bytes ++ cond t [] (Incomplete ∷ [])) e
 
-pub finish-blank : (s : Session) (bytes : List ℕ) (rs : List Reading) (before : Option (List ℕ)) (database : Database) → StandsFor s bytes rs → is_blank (cut bytes).rest ≡ true
-    → (more : List Reading) × IsFinished (statements bytes) rs more before before (state_of database) s.all_accepted
-finish-blank s bytes rs before database h e = (
+pub finish-blank : (s : Session) (bytes : List ℕ) (rs : List Reading) (before : Option (List ℕ)) → StandsFor s bytes rs → is_blank (cut bytes).rest ≡ true
+    → (more : List Reading) × IsFinished (statements bytes) rs more before before (state_of s.database) s.all_accepted
+finish-blank s bytes rs before h e = (
   [],
   record {
     read = subst (λ ss. AreReadings ss (rs ++ [])) (sym (blank_statements bytes e)) (subst (AreReadings (complete_statements bytes)) (sym (append-nil rs)) h.read);
     gained = Gains-none before;
-    left = sym (state_stays no_relvars 1 (rs ++ []));
+    left = h.state_is ∙ same_state rs (rs ++ []);
     accepted = h.accepted ∙ ap (λ q. (performed q).accepted) (sym (append-nil rs));
   },
 )
@@ -234,40 +235,39 @@ finish-blank s bytes rs before database h e = (
 abbrev pub not_ended : Reading
 not_ended = Refused (Plain E04)
 
-pub finish-open : (s : Session) (bytes : List ℕ) (rs : List Reading) (before now : Option (List ℕ)) (database : Database) (one both : Bool) → StandsFor s bytes rs → is_blank (cut bytes).rest ≡ false
-    → one ≡ is_accepted (answer no_relvars not_ended) → both ≡ (one && s.all_accepted) → Gains before (text_of s.number (answer no_relvars not_ended)) now
-    → (more : List Reading) × IsFinished (statements bytes) rs more before now (state_of database) both
-finish-open s bytes rs before now database one both h e accepts b gains =
+pub finish-open : (s : Session) (bytes : List ℕ) (rs : List Reading) (before now : Option (List ℕ)) (one both : Bool) → StandsFor s bytes rs → is_blank (cut bytes).rest ≡ false
+    → one ≡ is_accepted (answer (state_of s.database) not_ended) → both ≡ (one && s.all_accepted) → Gains before (text_of s.number (answer (state_of s.database) not_ended)) now
+    → (more : List Reading) × IsFinished (statements bytes) rs more before now (state_of s.database) both
+finish-open s bytes rs before now one both h e accepts b gains =
     let all : List Reading = rs ++ not_ended ∷ [] in
-    let text : text_of s.number (answer no_relvars not_ended) ≡ (performed_after rs (not_ended ∷ [])).output =
-    ap (λ n. text_of n (answer no_relvars not_ended)) h.number ∙ text_is (length rs + 1) rs not_ended ∙ sym (output-one rs not_ended) in (
+    let text : text_of s.number (answer (state_of s.database) not_ended) ≡ (performed_after rs (not_ended ∷ [])).output = text_is s bytes rs not_ended h ∙ sym (output-one rs not_ended) in (
       not_ended ∷ [],
       record {
         read = subst (λ ss. AreReadings ss all) (sym (open_statements bytes e)) (readings-push (complete_statements bytes) Incomplete rs not_ended h.read refl);
         gained = subst (λ t. Gains before t now) text gains;
-        left = sym (state_stays no_relvars 1 all);
-        accepted = b ∙ (λ i. accepts i && h.accepted i) ∙ ap (λ st. is_accepted (answer st not_ended) && (performed rs).accepted) (sym (state_stays no_relvars 1 rs)) ∙ sym (accepted-push rs not_ended);
+        left = h.state_is ∙ same_state rs all;
+        accepted = b ∙ (λ i. accepts i && h.accepted i) ∙ ap (λ st. is_accepted (answer st not_ended) && (performed rs).accepted) h.state_is ∙ sym (accepted-push rs not_ended);
       },
     )
 
-pub finish-stop : (s : Session) (bytes : List ℕ) (rs : List Reading) (before now : Option (List ℕ)) (database : Database) → StandsFor s bytes rs → now ≡ before
-    → (more : List Reading) × GoesOn (statements bytes) rs more before now (state_of database)
-finish-stop s bytes rs before now database h e = (
+pub finish-stop : (s : Session) (bytes : List ℕ) (rs : List Reading) (before now : Option (List ℕ)) → StandsFor s bytes rs → now ≡ before
+    → (more : List Reading) × GoesOn (statements bytes) rs more before now (state_of s.database)
+finish-stop s bytes rs before now h e = (
   [],
   record {
     read = readings-front (statements bytes) (complete_statements bytes) (incomplete_rest (cut bytes).rest) (rs ++ []) refl (subst (AreReadings (complete_statements bytes)) (sym (append-nil rs)) h.read);
     gained = subst (Gains before []) (sym e) (Gains-none before);
-    left = sym (state_stays no_relvars 1 (rs ++ []));
+    left = h.state_is ∙ same_state rs (rs ++ []);
   },
 )
 
-pub finish-cut-off : (s : Session) (bytes : List ℕ) (rs : List Reading) (before now : Option (List ℕ)) (database : Database) → StandsFor s bytes rs → is_blank (cut bytes).rest ≡ false
-    → GainsPrefix before (text_of s.number (answer no_relvars not_ended)) now
-    → (more : List Reading) × (r : Reading) × (text : List ℕ) × IsCutOff (statements bytes) rs more r text before now (state_of database)
-finish-cut-off s bytes rs before now database h e prefix =
+pub finish-cut-off : (s : Session) (bytes : List ℕ) (rs : List Reading) (before now : Option (List ℕ)) → StandsFor s bytes rs → is_blank (cut bytes).rest ≡ false
+    → GainsPrefix before (text_of s.number (answer (state_of s.database) not_ended)) now
+    → (more : List Reading) × (r : Reading) × (text : List ℕ) × IsCutOff (statements bytes) rs more r text before now (state_of s.database)
+finish-cut-off s bytes rs before now h e prefix =
     let whole : statements bytes ≡ (complete_statements bytes ++ Incomplete ∷ []) ++ [] = open_statements bytes e ∙ sym (append-nil _) in
-    let text : text_of s.number (answer no_relvars not_ended) ≡ text_of (length (rs ++ []) + 1) (answer (performed (rs ++ [])).state not_ended) =
-    ap (λ n. text_of n (answer no_relvars not_ended)) h.number ∙ text_is (length rs + 1) rs not_ended ∙ ap (λ q. text_of (length q + 1) (answer (performed q).state not_ended)) (sym (append-nil rs)) in
-    let k = cut-off (statements bytes) (complete_statements bytes) [] Incomplete rs [] not_ended before before now database whole
+    let text : text_of s.number (answer (state_of s.database) not_ended) ≡ text_of (length (rs ++ []) + 1) (answer (performed (rs ++ [])).state not_ended) =
+    text_is s bytes rs not_ended h ∙ ap (λ q. text_of (length q + 1) (answer (performed q).state not_ended)) (sym (append-nil rs)) in
+    let k = cut-off (statements bytes) (complete_statements bytes) [] Incomplete rs [] not_ended before before now s.database (h.state_is ∙ same_state rs (rs ++ [])) whole
     (subst (AreReadings (complete_statements bytes)) (sym (append-nil rs)) h.read) refl (Gains-none before) (subst (λ t. GainsPrefix before t now) text prefix) in
     ([], not_ended, k.0, k.1)

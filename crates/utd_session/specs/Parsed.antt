@@ -21,7 +21,7 @@ IsRefusal place bytes (refuses.At fault) = IsText place bytes (Refused (refuses.
 IsRefusal place bytes (refuses.Plain code) = IsText place bytes (Refused (refuses.Plain code))
 IsRefusal place bytes (refuses.Broken code relvar number) = IsText place bytes (Refused (refuses.Broken code relvar number))
 
--- a refusal has what its line says
+-- a refusal has a line
 abbrev pub HasAnswer : Reading → Type 0
 HasAnswer (Tree first tree) = Unit {0}
 HasAnswer (Refused refuse) = HasLine refuse

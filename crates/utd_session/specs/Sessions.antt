@@ -2,11 +2,14 @@
 use Rattle.std.specs.Prelude.{◌≡◌, ℕ, ◌+◌, Bool, List, [], ◌∷◌, ◌++◌, length, take, Option}
 use Rattle.utd_io.specs.Io.{Gains}
 use Rattle.utd_lexer.specs.Cutting.{Since}
+use Rattle.tree_core.specs.Relvars.{State}
 use Rattle.utd_session.specs.Unfinished.{IsUnfinished}
 use Rattle.utd_session.specs.declared.feeding.Session.{Session}
 use Rattle.utd_session.specs.Statements.{Statement, cut, complete_statements}
 use Rattle.utd_session.specs.Readings.{Reading, AreReadings}
-use Rattle.utd_session.specs.Machine.{State, state_of, answer, text_of, performed, performed_after}
+use Rattle.utd_session.specs.Answers.{text_of}
+use Rattle.utd_session.specs.Databases.{state_of}
+use Rattle.utd_session.specs.Machine.{answer, performed, performed_after}
 use Rattle.utd_session.specs.Run.{IsPrefixOf}
 
 abbrev pub fed_of : Session → ℕ

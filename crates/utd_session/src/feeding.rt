@@ -6,7 +6,7 @@ ghost use Rattle.utd_lexer.specs.Cutting.{Since};
 ghost use Rattle.utd_lexer.specs.Tokens.{Fits, place_after};
 ghost use Rattle.utd_session.specs.Unfinished.{IsUnfinished};
 ghost use Rattle.utd_session.specs.Statements.{Complete, NoEnd, EndsOne};
-ghost use Rattle.utd_session.specs.Machine.{state_of};
+ghost use Rattle.utd_session.specs.Databases.{state_of};
 ghost use Rattle.utd_session.specs.Feeding.{IsReplyTo};
 
 use crate::fault::SessionFault;
@@ -21,14 +21,14 @@ use utd_lexer::{Cut, Cutter};
 use value_core::Refuse;
 
 /// Why a session ended, and the relvars after the last statement that was performed.
-#[derive(Debug, Drop)]
+#[derive(Drop)]
 pub struct Ended {
     pub why: SessionFault,
     pub database: Database,
 }
 
 /// The relvars after all statements, and whether all were accepted.
-#[derive(Debug, Drop)]
+#[derive(Drop)]
 pub struct Finished {
     pub database: Database,
     pub all_accepted: bool,
@@ -52,12 +52,13 @@ pub struct Session {
 }
 
 // What a `;` makes of the statement before it: its answer, with its bytes kept.
-fn reply_to_end(
+fn reply_to_end<L: Ledger>(
     alloc: Global,
     database: &Database,
     number: u32,
     unfinished: &mut Unfinished,
     front: &[u8],
+    steps: &mut Steps<L>,
 ) -> Result<Reply, Memory>
     requires places { Fits unfinished.old.next (length front.now) }
     requires start { unfinished.old.start.line + unfinished.old.start.column ≤ 2 ^ 31 }
@@ -71,7 +72,7 @@ fn reply_to_end(
 {
     unfinished.extend(front)?;
     let parsed = unfinished.read(alloc)?;
-    let reply = answer_to(alloc, database, number, &parsed)?;
+    let reply = answer_to(alloc, database, number, &parsed, steps)?;
     Ok(reply)
 }
 
@@ -104,7 +105,8 @@ impl Session {
     ghost use Rattle.utd_lexer.specs.Parts.{IsBlank};
     ghost use Rattle.utd_session.specs.Statements.{cut, complete_statements, statements};
     ghost use Rattle.utd_session.specs.Readings.{Reading};
-    ghost use Rattle.utd_session.specs.Machine.{answer, text_of, performed, performed_after};
+    ghost use Rattle.utd_session.specs.Answers.{text_of};
+    ghost use Rattle.utd_session.specs.Machine.{answer, performed, performed_after};
     ghost use Rattle.utd_session.specs.Feeding.{HasReading};
     ghost use Rattle.utd_session.specs.Sessions.{StandsFor, GoesOn, IsCutOff, IsFinished, fed_of};
 
@@ -115,7 +117,7 @@ impl Session {
     {
         Session {
             alloc,
-            database: Database,
+            database: Database::new(alloc),
             all_accepted: true,
             fed: 0,
             number: 1,
@@ -141,6 +143,7 @@ impl Session {
             → NoEnd (cut bytes).place (cut bytes).rest piece.now → Since cutter ((cut bytes).rest ++ piece.now)
             → IfOk result (λ s. StandsFor s (bytes ++ piece.now) rs) }
         ensures why { IfErr result (λ e. e.why ≡ SessionFault.Memory) }
+        ensures left { IfErr result (λ e. e.database ≡ self.database) }
     {
         let Session {
             alloc,
@@ -168,7 +171,12 @@ impl Session {
     }
 
     // Performs the statement that these bytes end. Its whole output is made before its first byte is written.
-    fn end<K: Sink>(self, front: &[u8], out: &mut K) -> Result<Session, Ended>
+    fn end<K: Sink, L: Ledger>(
+        self,
+        front: &[u8],
+        out: &mut K,
+        steps: &mut Steps<L>,
+    ) -> Result<Session, Ended>
         requires some { 0 < length front.now }
         requires few { self.fed + length front.now ≤ 16777216 }
         ensures fed { IfOk result (λ s. s.fed ≡ self.fed + length front.now) }
@@ -183,6 +191,7 @@ impl Session {
             (K.written out.old) (text_of (length rs + 1) (answer (performed rs).state r)) (K.written out.new))) }
         ensures count { K.faults out.old ≤ K.faults out.new }
         ensures cause { IfErr result (λ e. e.why ≡ SessionFault.Write → Rose (K.faults out.old) (K.faults out.new)) }
+        ensures left { IfErr result (λ e. e.database ≡ self.database) }
     {
         let Session {
             alloc,
@@ -194,7 +203,7 @@ impl Session {
             cutter: _,
         } = self;
         let mut unfinished = unfinished;
-        let Ok(reply) = reply_to_end(alloc, &database, number, &mut unfinished, front) else {
+        let Ok(reply) = reply_to_end(alloc, &database, number, &mut unfinished, front, steps) else {
             let why = SessionFault::Memory;
             return Err(Ended { why, database });
         };
@@ -219,7 +228,7 @@ impl Session {
         self,
         piece: &[u8],
         out: &mut K,
-        _steps: &mut Steps<L>,
+        steps: &mut Steps<L>,
     ) -> Result<Session, Ended>
         requires { fed_of self + length piece.now ≤ 16777216 }
         ensures fed { IfOk result (λ s. fed_of s ≡ fed_of self + length piece.now) }
@@ -242,7 +251,7 @@ impl Session {
         let mut session = self;
         let mut rest = piece;
         while let Some((front, behind)) = next_end(&mut cutter, rest) {
-            match session.end(front, out) {
+            match session.end(front, out, steps) {
                 Ok(next) => session = next,
                 Err(ended) => return Err(ended),
             }

@@ -1,20 +1,28 @@
 // What is answered to one statement.
-ghost use Rattle.std.specs.Prelude.{◌≡◌, map, true, IfOk, None, option_map};
+ghost use Rattle.std.specs.Prelude.{◌≡◌, map, true, IfOk, None, Some, IsTrue};
+ghost use Rattle.point_core.specs.Faults.{fault};
 ghost use Rattle.utd_syntax.specs.Read.{read_statement};
 ghost use Rattle.utd_print.specs.Lines.{HasLine};
+ghost use Rattle.type_check.specs.Checks.{is_plain_statement};
 ghost use Rattle.utd_session.specs.Rows.{packed_form};
 ghost use Rattle.utd_session.specs.Table.{table};
 ghost use Rattle.utd_session.specs.Parsed.{reading_of, HasAnswer};
-ghost use Rattle.utd_session.specs.Machine.{Refusal, of_form, of_tree, answer, text_of, is_accepted, first_empty, state_of};
+ghost use Rattle.utd_session.specs.Answers.{Answer, Refusal, unless_empty, of_built, of_tree, first_empty};
+ghost use Rattle.utd_session.specs.Machine.{answer};
+ghost use Rattle.utd_session.specs.Databases.{state_of};
+ghost use Rattle.utd_session.specs.Replies.{IsReply, Tells};
 
+use crate::built::is_built;
 use crate::form::rows_of;
 use crate::outcome::Database;
 use crate::packing::packed_form;
+use crate::performing::performed;
 use crate::reading::{Parsed, Tree};
 use crate::row::{PlacedRow, Row};
 use crate::table::table;
-use point_core::{Code, Fault, Memory, Place};
+use point_core::{Code, Fault, Memory, Place, Steps};
 use std::alloc::{AllocError, Global};
+use std::sync::ledger::Ledger;
 use utd_print::refusal_line;
 use utd_syntax::Statement;
 use value_core::Refuse;
@@ -49,8 +57,7 @@ fn without_places(alloc: Global, rows: &[PlacedRow]) -> Result<Vec<Row>, AllocEr
 /// The answer to a refused statement.
 pub fn refusal(alloc: Global, number: u32, refuse: &Refuse) -> Result<Reply, Memory>
     requires { HasLine refuse.now }
-    ensures text { IfOk result (λ r. r.text.items ≡ text_of number (Refusal refuse.now)) }
-    ensures accepted { IfOk result (λ r. r.accepted ≡ is_accepted (Refusal refuse.now)) }
+    ensures { IfOk result (IsReply number (Refusal refuse.now)) }
 {
     let text = refusal_line(alloc, number, refuse)?;
     Ok(Reply {
@@ -74,39 +81,62 @@ fn packed_table(alloc: Global, rows: &[PlacedRow]) -> Result<Reply, Memory>
     })
 }
 
-fn answer_to_form(
-    alloc: Global,
-    number: u32,
-    first: Place,
-    rows: Option<Vec<PlacedRow>>,
-) -> Result<Reply, Memory>
-    ensures text { IfOk result (λ r. r.text.items ≡ text_of number (of_form first (option_map (λ v. v.items) rows))) }
-    ensures accepted { IfOk result (λ r. r.accepted ≡ is_accepted (of_form first (option_map (λ v. v.items) rows))) }
+// The answer to a statement of the form with PACK that is built.
+fn answer_to_rows(alloc: Global, number: u32, rows: &[PlacedRow]) -> Result<Reply, Memory>
+    ensures { IfOk result (IsReply number (unless_empty rows.now (first_empty rows.now))) }
 {
-    let Some(rows) = rows else {
-        let code = Code::E01;
-        return refusal(alloc, number, &Refuse::At(Fault { place: first, code }));
-    };
-    match first_empty(&rows) {
+    match first_empty(rows) {
         Some(place) => {
             let code = Code::E33;
             refusal(alloc, number, &Refuse::At(Fault { place, code }))
         }
-        None => packed_table(alloc, &rows),
+        None => packed_table(alloc, rows),
     }
 }
 
-#[tactic(auto, unfolding(crate::specs::Machine::of_tree))]
-fn answer_to_tree(
+// The answer that is told by this text, or by this refusal.
+fn told(alloc: Global, number: u32, written: Result<Vec<u8>, Refuse>) -> Result<Reply, Memory>
+    ensures { (a : Answer) → Tells written a → IfOk result (IsReply number a) }
+{
+    match written {
+        Ok(text) => Ok(Reply {
+            text,
+            accepted: true,
+        }),
+        Err(Refuse::Memory) => Err(Memory),
+        Err(refuse) => refusal(alloc, number, &refuse),
+    }
+}
+
+// The answer to a statement that is not of that form. One that is not built is refused at its first token.
+fn answer_to_built<L: Ledger>(
     alloc: Global,
     database: &Database,
     number: u32,
     tree: &Tree,
+    steps: &mut Steps<L>,
 ) -> Result<Reply, Memory>
-    ensures text { IfOk result (λ r. r.text.items
-        ≡ text_of number (of_tree (state_of database.now) tree.now.first (read_statement tree.now.statement))) }
-    ensures accepted { IfOk result (λ r. r.accepted
-        ≡ is_accepted (of_tree (state_of database.now) tree.now.first (read_statement tree.now.statement))) }
+    ensures { IfOk result (IsReply number (of_built (state_of database.now) tree.now.first (read_statement tree.now.statement)
+        (is_plain_statement (read_statement tree.now.statement)))) }
+{
+    if !is_built(&tree.statement) {
+        let place = tree.first;
+        let code = Code::E01;
+        return refusal(alloc, number, &Refuse::At(Fault { place, code }));
+    }
+    let written = performed(alloc, &tree.statement, database.relvars(), steps);
+    told(alloc, number, written)
+}
+
+#[tactic(auto, unfolding(crate::specs::Answers::of_tree))]
+fn answer_to_tree<L: Ledger>(
+    alloc: Global,
+    database: &Database,
+    number: u32,
+    tree: &Tree,
+    steps: &mut Steps<L>,
+) -> Result<Reply, Memory>
+    ensures { IfOk result (IsReply number (of_tree (state_of database.now) tree.now.first (read_statement tree.now.statement))) }
 {
     if let Statement::Nothing = &tree.statement {
         return Ok(Reply {
@@ -114,25 +144,25 @@ fn answer_to_tree(
             accepted: true,
         });
     }
-    let rows = rows_of(alloc, &tree.statement)?;
-    answer_to_form(alloc, number, tree.first, rows)
+    match rows_of(alloc, &tree.statement)? {
+        Some(rows) => answer_to_rows(alloc, number, &rows),
+        None => answer_to_built(alloc, database, number, tree, steps),
+    }
 }
 
-/// The answer to what a statement is read as, in the state that the database holds.
-pub fn answer_to(
+/// The answer to what a statement is read as, where these are the relvars.
+pub fn answer_to<L: Ledger>(
     alloc: Global,
     database: &Database,
     number: u32,
     parsed: &Parsed,
+    steps: &mut Steps<L>,
 ) -> Result<Reply, Memory>
     requires { HasAnswer (reading_of parsed.now) }
-    ensures text { IfOk result (λ r. r.text.items
-        ≡ text_of number (answer (state_of database.now) (reading_of parsed.now))) }
-    ensures accepted { IfOk result (λ r. r.accepted
-        ≡ is_accepted (answer (state_of database.now) (reading_of parsed.now))) }
+    ensures { IfOk result (IsReply number (answer (state_of database.now) (reading_of parsed.now))) }
 {
     match parsed {
-        Parsed::Tree(tree) => answer_to_tree(alloc, database, number, tree),
+        Parsed::Tree(tree) => answer_to_tree(alloc, database, number, tree, steps),
         Parsed::Refused(refuse) => refusal(alloc, number, refuse),
     }
 }

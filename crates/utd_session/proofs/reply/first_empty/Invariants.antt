@@ -1,5 +1,5 @@
 use Rattle.std.proofs.Common.{◌≡◌, drop}
-use Rattle.utd_session.specs.Machine.{first_empty}
+use Rattle.utd_session.specs.Answers.{first_empty}
 use Rattle.utd_session.proofs.reply.first_empty.Given as goal
 
 abbrev pub invariant-loop-placed : goal.invariant-loop-placed

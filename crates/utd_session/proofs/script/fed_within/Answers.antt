@@ -8,7 +8,7 @@ returns-then-is_whole-clause-goes_on g c all left before now h comes =
 
 pub returns-else-is_whole-clause-run : goal.returns-else-is_whole-clause-run
 returns-else-is_whole-clause-run g c all left before now h comes =
-    fed_too_long all left now before _ _ c.args.session c.in-Ok.session c.args.piece.now c.split_at.result.0.now c.least-count.result c.stop.result 6 h comes c.requires c.split_at.ensures.front (omega arith) (λ e. omega arith) (omega arith) c.in-Ok.ensures.stands refl
+    fed_too_long all left now before _ _ c.args.session c.in-Ok.session c.args.piece.now c.split_at.result.0.now c.least-count.result c.stop.result 6 h comes c.requires c.split_at.ensures.front (omega arith) (λ e. omega arith) (omega arith) c.in-Ok.ensures.stands c.stop.ensures refl
 
 pub returns-in-Err-clause-run : goal.returns-in-Err-clause-run
 returns-in-Err-clause-run g c all left before now h comes =

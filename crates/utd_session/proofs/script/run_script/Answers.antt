@@ -32,4 +32,4 @@ returns-in-Err-clause-run g c =
 pub returns-clause-run : goal.returns-clause-run
 returns-clause-run g c =
     may_fail (g.S.Source.left c.args.input.now) (g.S.Source.left c.script.input) (g.S.Source.left c.read.new.self) (g.K.Sink.written c.args.out.now) (g.K.Sink.written c.script.out) c.script.session c.stop.result
-    c.script.invariant.fed c.in_default.ensures.failed c.script.session.few
+    c.stop.ensures c.script.invariant.fed c.in_default.ensures.failed c.script.session.few

@@ -1,11 +1,10 @@
-use Rattle.std.proofs.Common.{◌++◌, ◌+◌, ◌∙◌, length, sym, ap, subst, arith}
+use Rattle.std.proofs.Common.{◌++◌, ◌∙◌, sym, ap, subst, arith}
 use Rattle.point_core.specs.declared.fault.Place.{Place}
 use Rattle.utd_io.specs.Io.{Gains}
 use Rattle.utd_lexer.specs.Cutting.{Since}
 use Rattle.utd_session.specs.Unfinished.{IsUnfinished}
 use Rattle.utd_session.specs.Statements.{cut}
 use Rattle.utd_session.specs.Readings.{Reading}
-use Rattle.utd_session.specs.Machine.{answer, text_of, no_relvars}
 use Rattle.utd_session.proofs.StatementLemmas.{place_bound}
 use Rattle.utd_session.proofs.SessionLemmas.{is_end, text_is}
 use Rattle.utd_session.proofs.feeding.Session.end.Goals as goal
@@ -36,7 +35,7 @@ returns-clause-performed g c bytes rs h ends =
     let q = c.in-Ok.ensures.reply (cut bytes).place (cut bytes).rest h.unfinished in
     let r : Reading = q.0 in
     let e = is_end old bytes front rs r c.in-Ok.reply.accepted h ends q.1 q.3 in
-    let text = q.2 ∙ ap (λ n. text_of n (answer no_relvars r)) h.number ∙ text_is (length rs + 1) rs r in
+    let text = q.2 ∙ text_is old bytes rs r h in
     let w = c.restart.ensures.next (cut bytes).place ((cut bytes).rest ++ front) u in (
       r,
       record {

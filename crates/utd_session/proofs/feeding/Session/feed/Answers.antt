@@ -24,14 +24,14 @@ loop-front-preserved g c = record {
 
 pub returns-in-Err-clause-memory : goal.returns-in-Err-clause-memory
 returns-in-Err-clause-memory g c bytes rs h e =
-    fed-stop c.loop-front.session c.loop-front.cutter c.args.piece.now c.loop-front.rest.now bytes rs _ _ _ c.in-Err.ended.database (c.loop-front.invariant.fed bytes rs h) (c.in-Err.ensures.memory e)
+    fed-stop c.loop-front.session c.loop-front.cutter c.args.piece.now c.loop-front.rest.now bytes rs _ _ _ c.in-Err.ended.database c.in-Err.ensures.left (c.loop-front.invariant.fed bytes rs h) (c.in-Err.ensures.memory e)
 
 pub returns-in-Err-clause-write : goal.returns-in-Err-clause-write
 returns-in-Err-clause-write g c bytes rs h e =
     let i = c.loop-front.invariant.fed bytes rs h in
     let done = bytes ++ i.done in
     let ends = c.in-Some.ensures.end (cut done).place (cut done).rest i.since in
-    fed-cut-off c.loop-front.session c.loop-front.cutter c.args.piece.now c.loop-front.rest.now c.in-Some.front.now c.in-Some.behind.now bytes rs _ _ _ c.in-Err.ended.database i
+    fed-cut-off c.loop-front.session c.loop-front.cutter c.args.piece.now c.loop-front.rest.now c.in-Some.front.now c.in-Some.behind.now bytes rs _ _ _ c.in-Err.ended.database c.in-Err.ensures.left i
     c.in-Some.ensures.parts ends (c.in-Err.ensures.write done (rs ++ i.more) i.stands e)
 
 pub returns-clause-stands : goal.returns-clause-stands
@@ -43,4 +43,4 @@ returns-clause-stands g c bytes rs h =
 
 pub returns-clause-memory : goal.returns-clause-memory
 returns-clause-memory g c bytes rs h =
-    fed-stop-at-end c.loop-front.session c.loop-front.cutter c.args.piece.now c.loop-front.rest.now bytes rs _ _ c.keep.result (c.loop-front.invariant.fed bytes rs h)
+    fed-stop-at-end c.loop-front.session c.loop-front.cutter c.args.piece.now c.loop-front.rest.now bytes rs _ _ c.keep.result (c.loop-front.invariant.fed bytes rs h) c.keep.ensures.left

@@ -9,7 +9,7 @@ pub returns-then-is_blank-clause-finished : goal.returns-then-is_blank-clause-fi
 returns-then-is_blank-clause-finished g c bytes rs h =
     let rest = (cut bytes).rest in
     let blank : is_blank rest ≡ true = sym (blank_is rest c.is_blank.result (c.is_blank.ensures rest h.since)) ∙ c.if-is_blank.true in
-    finish-blank c.args.self bytes rs (g.K.Sink.written c.args.out.now) c.args.self.database h blank
+    finish-blank c.args.self bytes rs (g.K.Sink.written c.args.out.now) h blank
 
 pub returns-in_default-clause-blank : goal.returns-in_default-clause-blank
 returns-in_default-clause-blank g c bytes rs h blank =
@@ -18,7 +18,7 @@ returns-in_default-clause-blank g c bytes rs h blank =
 
 pub returns-in_default-clause-memory : goal.returns-in_default-clause-memory
 returns-in_default-clause-memory g c bytes rs h e =
-    finish-stop c.args.self bytes rs (g.K.Sink.written c.args.out.now) (g.K.Sink.written c.args.out.now) c.args.self.database h refl
+    finish-stop c.args.self bytes rs (g.K.Sink.written c.args.out.now) (g.K.Sink.written c.args.out.now) h refl
 
 pub returns-in_default-write_all-clause-blank : goal.returns-in_default-write_all-clause-blank
 returns-in_default-write_all-clause-blank g c bytes rs h blank =
@@ -29,15 +29,15 @@ pub returns-in_default-write_all-clause-write : goal.returns-in_default-write_al
 returns-in_default-write_all-clause-write g c bytes rs h e =
     let rest = (cut bytes).rest in
     let more : is_blank rest ≡ false = sym (blank_is rest c.is_blank.result (c.is_blank.ensures rest h.since)) ∙ c.if-is_blank.false in
-    finish-cut-off c.args.self bytes rs (g.K.Sink.written c.args.out.now) (g.K.Sink.written c.write_all.new.sink) c.args.self.database h more
-    (subst (λ t. GainsPrefix (g.K.Sink.written c.args.out.now) t (g.K.Sink.written c.write_all.new.sink)) (c.deref.ensures.value ∙ c.in-Ok.ensures.text) c.in_default-write_all.ensures.failed)
+    finish-cut-off c.args.self bytes rs (g.K.Sink.written c.args.out.now) (g.K.Sink.written c.write_all.new.sink) h more
+    (subst (λ t. GainsPrefix (g.K.Sink.written c.args.out.now) t (g.K.Sink.written c.write_all.new.sink)) (c.deref.ensures.value ∙ c.in-Ok.ensures.0) c.in_default-write_all.ensures.failed)
 
 pub returns-clause-finished : goal.returns-clause-finished
 returns-clause-finished g c bytes rs h =
     let rest = (cut bytes).rest in
     let more : is_blank rest ≡ false = sym (blank_is rest c.is_blank.result (c.is_blank.ensures rest h.since)) ∙ c.if-is_blank.false in
-    finish-open c.args.self bytes rs (g.K.Sink.written c.args.out.now) (g.K.Sink.written c.write_all.new.sink) c.args.self.database c.in-Ok.reply.accepted c.both.result h more c.in-Ok.ensures.accepted c.both.ensures
-    (subst (λ t. Gains (g.K.Sink.written c.args.out.now) t (g.K.Sink.written c.write_all.new.sink)) (c.deref.ensures.value ∙ c.in-Ok.ensures.text) c.in-Ok-write_all.ensures.bytes)
+    finish-open c.args.self bytes rs (g.K.Sink.written c.args.out.now) (g.K.Sink.written c.write_all.new.sink) c.in-Ok.reply.accepted c.both.result h more c.in-Ok.ensures.1 c.both.ensures
+    (subst (λ t. Gains (g.K.Sink.written c.args.out.now) t (g.K.Sink.written c.write_all.new.sink)) (c.deref.ensures.value ∙ c.in-Ok.ensures.0) c.in-Ok-write_all.ensures.bytes)
 
 pub returns-clause-blank : goal.returns-clause-blank
 returns-clause-blank g c bytes rs h blank =

@@ -9,10 +9,10 @@ use Rattle.utd_session.proofs.feeding.Session.new.Goals as goal
 pub returns-clause-nothing : goal.returns-clause-nothing
 returns-clause-nothing c = record {
   read = subst (λ (x : Cut). AreReadings x.ended []) (sym cut-nil) tt;
-  state_is = refl;
+  state_is = c.new.ensures;
   accepted = refl;
   number = refl;
-  unfinished = subst (λ (x : Cut). IsUnfinished c.new.result x.place x.rest) (sym cut-nil) c.new.ensures.nothing;
-  since = subst (λ (x : Cut). Since c.new-2.result x.rest) (sym cut-nil) c.new-2.ensures;
+  unfinished = subst (λ (x : Cut). IsUnfinished c.new-2.result x.place x.rest) (sym cut-nil) c.new-2.ensures.nothing;
+  since = subst (λ (x : Cut). Since c.new-3.result x.rest) (sym cut-nil) c.new-3.ensures;
   fed = refl;
 }
