@@ -1,5 +1,5 @@
 // What a token is to the grammar.
-ghost use Rattle.std.specs.Prelude.{◌≡◌};
+ghost use Rattle.std.specs.Prelude.{◌≡◌, ℕ, List, ◌∷◌};
 ghost use Rattle.utd_syntax.specs.Table.{same_bytes};
 ghost use Rattle.utd_syntax.specs.Terminals as terminals;
 ghost use Rattle.utd_syntax.specs.Terminals.{spelled_among, word_terminal, symbol_terminal};
@@ -7,108 +7,6 @@ ghost use Rattle.utd_parser.specs.Tokens as tokens;
 
 use utd_lexer::{Token, TokenKind};
 use utd_syntax::Terminal;
-
-const RESERVED: [Terminal; 74] = [
-    Terminal::All,
-    Terminal::After,
-    Terminal::And,
-    Terminal::As,
-    Terminal::Ask,
-    Terminal::Before,
-    Terminal::Begin,
-    Terminal::Begins,
-    Terminal::Boolean,
-    Terminal::But,
-    Terminal::By,
-    Terminal::Char,
-    Terminal::Constraint,
-    Terminal::Count,
-    Terminal::Date,
-    Terminal::Delete,
-    Terminal::Drop,
-    Terminal::End,
-    Terminal::Ends,
-    Terminal::Extend,
-    Terminal::False,
-    Terminal::First,
-    Terminal::Foreign,
-    Terminal::History,
-    Terminal::In,
-    Terminal::IncludedIn,
-    Terminal::Includes,
-    Terminal::Insert,
-    Terminal::Integer,
-    Terminal::Intersect,
-    Terminal::Interval,
-    Terminal::IsEmpty,
-    Terminal::IsNotEmpty,
-    Terminal::Join,
-    Terminal::Key,
-    Terminal::Last,
-    Terminal::Matching,
-    Terminal::Max,
-    Terminal::Meets,
-    Terminal::Merges,
-    Terminal::Min,
-    Terminal::Minus,
-    Terminal::Moment,
-    Terminal::Next,
-    Terminal::Not,
-    Terminal::On,
-    Terminal::Or,
-    Terminal::Overlaps,
-    Terminal::Pack,
-    Terminal::Packed,
-    Terminal::Portion,
-    Terminal::Post,
-    Terminal::Pre,
-    Terminal::Print,
-    Terminal::Prior,
-    Terminal::References,
-    Terminal::Relation,
-    Terminal::Rename,
-    Terminal::Sum,
-    Terminal::Summarize,
-    Terminal::Terminate,
-    Terminal::Then,
-    Terminal::True,
-    Terminal::Tuple,
-    Terminal::TypeWord,
-    Terminal::Union,
-    Terminal::Unpack,
-    Terminal::Unpacked,
-    Terminal::Update,
-    Terminal::Using,
-    Terminal::Var,
-    Terminal::Virtual,
-    Terminal::When,
-    Terminal::Where,
-];
-
-const SYMBOLS: [Terminal; 22] = [
-    Terminal::Open,
-    Terminal::Close,
-    Terminal::OpenBracket,
-    Terminal::CloseBracket,
-    Terminal::OpenBrace,
-    Terminal::CloseBrace,
-    Terminal::Comma,
-    Terminal::Semicolon,
-    Terminal::Colon,
-    Terminal::Assign,
-    Terminal::Equal,
-    Terminal::NotEqual,
-    Terminal::Less,
-    Terminal::LessEqual,
-    Terminal::Greater,
-    Terminal::GreaterEqual,
-    Terminal::Plus,
-    Terminal::Dash,
-    Terminal::Star,
-    Terminal::Slash,
-    Terminal::Bars,
-    Terminal::Dot,
-];
 
 // How a reserved word or a symbol is spelled; of the other kinds one spelling.
 fn spelling(terminal: Terminal) -> &'static [u8]
@@ -247,13 +145,139 @@ fn spelled_among(list: &[Terminal], other: Terminal, bytes: &[u8]) -> Terminal
     }
 }
 
+// The reserved words that begin with this byte.
+fn words_from(first: u8) -> &'static [Terminal]
+    ensures { (rest : List ℕ) → spelled_among result.now Terminal.Name (first ∷ rest) ≡ word_terminal (first ∷ rest) }
+{
+    match first {
+        b'A' => &[
+            Terminal::All,
+            Terminal::After,
+            Terminal::And,
+            Terminal::As,
+            Terminal::Ask,
+        ],
+        b'B' => &[
+            Terminal::Before,
+            Terminal::Begin,
+            Terminal::Begins,
+            Terminal::Boolean,
+            Terminal::But,
+            Terminal::By,
+        ],
+        b'C' => &[Terminal::Char, Terminal::Constraint, Terminal::Count],
+        b'D' => &[Terminal::Date, Terminal::Delete, Terminal::Drop],
+        b'E' => &[Terminal::End, Terminal::Ends, Terminal::Extend],
+        b'F' => &[Terminal::False, Terminal::First, Terminal::Foreign],
+        b'H' => &[Terminal::History],
+        b'I' => &[
+            Terminal::In,
+            Terminal::IncludedIn,
+            Terminal::Includes,
+            Terminal::Insert,
+            Terminal::Integer,
+            Terminal::Intersect,
+            Terminal::Interval,
+            Terminal::IsEmpty,
+            Terminal::IsNotEmpty,
+        ],
+        b'J' => &[Terminal::Join],
+        b'K' => &[Terminal::Key],
+        b'L' => &[Terminal::Last],
+        b'M' => &[
+            Terminal::Matching,
+            Terminal::Max,
+            Terminal::Meets,
+            Terminal::Merges,
+            Terminal::Min,
+            Terminal::Minus,
+            Terminal::Moment,
+        ],
+        b'N' => &[Terminal::Next, Terminal::Not],
+        b'O' => &[Terminal::On, Terminal::Or, Terminal::Overlaps],
+        b'P' => &[
+            Terminal::Pack,
+            Terminal::Packed,
+            Terminal::Portion,
+            Terminal::Post,
+            Terminal::Pre,
+            Terminal::Print,
+            Terminal::Prior,
+        ],
+        b'R' => &[Terminal::References, Terminal::Relation, Terminal::Rename],
+        b'S' => &[Terminal::Sum, Terminal::Summarize],
+        b'T' => &[
+            Terminal::Terminate,
+            Terminal::Then,
+            Terminal::True,
+            Terminal::Tuple,
+            Terminal::TypeWord,
+        ],
+        b'U' => &[
+            Terminal::Union,
+            Terminal::Unpack,
+            Terminal::Unpacked,
+            Terminal::Update,
+            Terminal::Using,
+        ],
+        b'V' => &[Terminal::Var, Terminal::Virtual],
+        b'W' => &[Terminal::When, Terminal::Where],
+        _ => &[],
+    }
+}
+
+// The symbols that begin with this byte.
+fn symbols_from(first: u8) -> &'static [Terminal]
+    ensures { (rest : List ℕ) → spelled_among result.now Terminal.Finish (first ∷ rest) ≡ symbol_terminal (first ∷ rest) }
+{
+    match first {
+        b'(' => &[Terminal::Open],
+        b')' => &[Terminal::Close],
+        b'[' => &[Terminal::OpenBracket],
+        b']' => &[Terminal::CloseBracket],
+        b'{' => &[Terminal::OpenBrace],
+        b'}' => &[Terminal::CloseBrace],
+        b',' => &[Terminal::Comma],
+        b';' => &[Terminal::Semicolon],
+        b':' => &[Terminal::Colon, Terminal::Assign],
+        b'=' => &[Terminal::Equal],
+        b'<' => &[Terminal::NotEqual, Terminal::Less, Terminal::LessEqual],
+        b'>' => &[Terminal::Greater, Terminal::GreaterEqual],
+        b'+' => &[Terminal::Plus],
+        b'-' => &[Terminal::Dash],
+        b'*' => &[Terminal::Star],
+        b'/' => &[Terminal::Slash],
+        b'|' => &[Terminal::Bars],
+        b'.' => &[Terminal::Dot],
+        _ => &[],
+    }
+}
+
+fn word_terminal(bytes: &[u8]) -> Terminal
+    ensures { result ≡ word_terminal bytes.now }
+{
+    match bytes.split_first() {
+        None => Terminal::Name,
+        Some((first, _)) => spelled_among(words_from(*first), Terminal::Name, bytes),
+    }
+}
+
+fn symbol_terminal(bytes: &[u8]) -> Terminal
+    ensures { result ≡ symbol_terminal bytes.now }
+{
+    match bytes.split_first() {
+        None => Terminal::Finish,
+        Some((first, _)) => spelled_among(symbols_from(*first), Terminal::Finish, bytes),
+    }
+}
+
 // What a token of this kind with these bytes is.
 fn terminal_by(kind: TokenKind, bytes: &[u8]) -> Terminal
     ensures { result ≡ tokens.terminal_of kind bytes.now }
 {
     match kind {
-        TokenKind::Word => spelled_among(&RESERVED, Terminal::Name, bytes),
-        TokenKind::Symbol => spelled_among(&SYMBOLS, Terminal::Finish, bytes),
+        TokenKind::Word => word_terminal(bytes),
+        TokenKind::Symbol => symbol_terminal(bytes),
         TokenKind::Integer => Terminal::Digits,
         TokenKind::Text => Terminal::Quoted,
     }
