@@ -1,13 +1,12 @@
 -- The heading of a list of attributes is what their map comes to when each is put in turn.
-use Rattle.std.specs.Prelude.{◌≡◌, ℕ, ◌≤◌, Bool, true, false, not, ◌||◌, cond, List, [], ◌∷◌, ◌++◌, map, filter, length, Option, Some, None, IsTrue, refl}
-use Rattle.std.proofs.Common.{sym, ◌∙◌, ap, ap₂, subst, arith, Ordering, Less, Equal, Greater}
+use Rattle.std.specs.Prelude.{◌≡◌, Bool, true, false, not, ◌||◌, cond, [], ◌∷◌, ◌++◌, Option, Some, None, refl}
+use Rattle.std.proofs.Common.{sym, ◌∙◌, ap, ap₂, subst, Ordering, Less, Equal, Greater}
 use Rattle.std.specs.BTreeMap.{insert_entry}
-use Rattle.std.specs.Cmp.{IsTotalOrder}
 use Rattle.std.specs.Cmp.Lexicographic.{texts_ties, nat_list_cmp_total}
 use Rattle.std.specs.List.{list_any}
 use Rattle.std.specs.Ordering.{is_eq, match_ordering, ordering_reverse}
 use Rattle.std.specs.Str.{bytes_eq}
-use Rattle.std.proofs.lemmas.Cmp.{tied_itself, tied_back}
+use Rattle.std.proofs.lemmas.Cmp.{tied_itself}
 use Rattle.base_core.specs.Sets.{placed, put, in_order}
 use Rattle.base_core.proofs.SetLemmas.{AllAfter, Ascends}
 use Rattle.value_core.proofs.HeadingLemmas.{attribute_total}

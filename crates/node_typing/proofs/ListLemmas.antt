@@ -1,11 +1,9 @@
 -- Words and their names, and the check of a list name by name.
-use Rattle.std.specs.Prelude.{◌≡◌, ℕ, zero, suc, ◌+◌, ◌<◌, ◌≤◌, Bool, true, false, not, ◌||◌, List, [], ◌∷◌, ◌++◌, filter, length, nat_le, take, drop, Ok, if◌then◌else◌, refl}
+use Rattle.std.specs.Prelude.{◌≡◌, ℕ, zero, suc, ◌+◌, ◌<◌, true, false, not, ◌||◌, List, [], ◌∷◌, ◌++◌, filter, length, nat_le, take, drop, Ok, if◌then◌else◌, refl}
 use Rattle.std.proofs.Common.{arith, get_or, sym, subst, ◌∙◌, ap}
 use Rattle.std.proofs.lemmas.Bool.{le-leb, leb-true}
 use Rattle.std.proofs.Math.Seq.{drop-cons}
-use Rattle.std.specs.List.{list_any}
 use Rattle.std.specs.Str.{bytes_eq}
-use Rattle.point_core.specs.Faults.{OrFault}
 use Rattle.utd_syntax.specs.declared.word.Word.{Word as WordTree}
 use Rattle.utd_syntax.specs.Read.{read_name, read_name_list}
 use Rattle.value_core.specs.Values.{Name, Heading}

@@ -1,7 +1,7 @@
 -- Headings that are made of attributes with different names.
-use Rattle.std.specs.Prelude.{List, [], ◌∷◌, ◌++◌}
+use Rattle.std.specs.Prelude.{[], ◌∷◌, ◌++◌}
 use Rattle.base_core.specs.Sets.{in_order}
-use Rattle.value_core.specs.Values.{Name, Heading, attribute_cmp}
+use Rattle.value_core.specs.Values.{Heading, attribute_cmp}
 use Rattle.relation_core.specs.Agreement.{names_of}
 use Rattle.algebra_core.specs.Typing.{not_named}
 use Rattle.relation_typing.specs.Attributes.{with_attribute}

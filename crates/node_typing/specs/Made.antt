@@ -1,7 +1,6 @@
 -- What the code makes on its way, as plain data.
-use Rattle.std.specs.Prelude.{List, map}
-use Rattle.value_core.specs.Values.{Heading}
-use Rattle.tree_core.specs.Trees.{PlainAggregate, read_aggregate}
+use Rattle.std.specs.Prelude.{map}
+use Rattle.tree_core.specs.Trees.{read_aggregate}
 use Rattle.node_typing.specs.Summaries.{Summed}
 use Rattle.node_typing.specs.declared.summaries.Summary.{Summary}
 use Rattle.node_typing.specs.declared.summaries.Summed.{Summed as SummedItems}

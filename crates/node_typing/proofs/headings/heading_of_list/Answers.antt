@@ -1,4 +1,4 @@
-use Rattle.std.proofs.Common.{◌≡◌, ◌≤◌, ◌++◌, [], length, ap, subst, sym, arith}
+use Rattle.std.proofs.Common.{◌≡◌, ◌++◌, [], length, ap, arith}
 use Rattle.std.proofs.lemmas.List.{length-append}
 use Rattle.base_core.proofs.SetOperatorLemmas.{length-in_order}
 use Rattle.value_core.specs.Values.{Heading, attribute_cmp}

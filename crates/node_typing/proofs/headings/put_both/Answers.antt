@@ -1,4 +1,4 @@
-use Rattle.std.proofs.Common.{[], ap, ◌∙◌}
+use Rattle.std.proofs.Common.{ap, ◌∙◌}
 use Rattle.value_core.specs.Values.{Heading}
 use Rattle.node_typing.specs.Headings.{with_all}
 use Rattle.node_typing.proofs.HeadingLemmas.{with_both}
