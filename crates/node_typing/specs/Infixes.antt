@@ -1,6 +1,6 @@
 -- The headings of the operators between two relations.
 --     infix_heading place word left right      the heading of the node, or its refusal
-use Rattle.std.specs.Prelude.{Bool, not, ◌&&◌, ◌||◌, Ok}
+use Rattle.std.specs.Prelude.{Bool, not, ◌||◌, Ok}
 use Rattle.std.specs.List.{list_all}
 use Rattle.std.specs.Str.{bytes_eq}
 use Rattle.point_core.specs.declared.fault.Place.{Place}

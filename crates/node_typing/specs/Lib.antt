@@ -8,3 +8,4 @@ pub mod Summaries
 pub mod Sweeps
 pub mod Nodes
 pub mod Usings
+pub mod Made

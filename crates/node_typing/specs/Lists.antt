@@ -1,7 +1,7 @@
 -- The check of a list of interval attributes that PACK, UNPACK and USING name, over the headings of the operands. Where there
 -- is one operand, its heading stands for both.
 --     list_checked left right list      the names, or the first refusal
-use Rattle.std.specs.Prelude.{Bool, not, ◌&&◌, List, [], ◌∷◌, ◌++◌, map, length, nat_le, Ok, Option, Some, None}
+use Rattle.std.specs.Prelude.{Bool, not, ◌&&◌, List, [], ◌∷◌, ◌++◌, map, length, nat_le, Ok}
 use Rattle.std.specs.List.{list_any}
 use Rattle.std.specs.Str.{bytes_eq}
 use Rattle.point_core.specs.declared.fault.Code.TheVariants.{E12, E14, E15, E16, E17}

@@ -1,6 +1,6 @@
 -- The rules of relational nodes and comparisons over typed operands: the typed node, or its first refusal behind those of the
 -- operands.
-use Rattle.std.specs.Prelude.{ℕ, List, Ok, Option, Some, None}
+use Rattle.std.specs.Prelude.{ℕ, List, Ok, Some, None}
 use Rattle.point_core.specs.declared.fault.Place.{Place}
 use Rattle.point_core.specs.declared.fault.Code.TheVariants.{E13}
 use Rattle.point_core.specs.Faults.{OrFault}

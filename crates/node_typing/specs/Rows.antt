@@ -9,7 +9,7 @@ use Rattle.utd_syntax.specs.Plain as syntax
 use Rattle.utd_syntax.specs.Plain.{Word, ScalarP, SetItemP, SetItem, SetsP}
 use Rattle.value_core.specs.declared.kind.Kind.TheVariants.{Truth}
 use Rattle.value_core.specs.declared.list.OrdinalNames.{OrdinalNames}
-use Rattle.value_core.specs.Values.{Name, Heading}
+use Rattle.value_core.specs.Values.{Heading}
 use Rattle.scalar_core.specs.Expressions.{Expr}
 use Rattle.scalar_core.specs.KindOf.{same_kind}
 use Rattle.scalar_typing.specs.Scalars.{typed_scalar}

@@ -18,7 +18,7 @@ use Rattle.scalar_core.specs.KindOf.{same_kind, is_ordered}
 use Rattle.relation_core.specs.Parts.{attributes_at}
 use Rattle.tree_core.specs.Trees.{PlainAggregateForm, count_rows, sum_of, min_of, max_of, PlainAggregate}
 use Rattle.scalar_typing.specs.Scalars.{typed_scalar}
-use Rattle.scalar_typing.specs.Typings.{Typed, ◌>>=◌}
+use Rattle.scalar_typing.specs.Typings.{◌>>=◌}
 use Rattle.relation_typing.specs.Attributes.{with_attribute, new_name, few_attributes}
 use Rattle.node_typing.specs.Positions.{check, positions_typed, kept}
 

@@ -5,7 +5,11 @@ ghost use Rattle.tree_core.specs.Trees.{read_test, read_tree};
 ghost use Rattle.utd_syntax.specs.Read.{read_list};
 ghost use Rattle.node_typing.specs.Nodes as rules;
 
-use point_core::{Place, Stop};
+use crate::lists::{list_checked, positions_of};
+use crate::positions::check;
+use crate::trees::heading;
+use point_core::{Code, Place, Stop};
+use relation_typing::same_heading;
 use std::alloc::Global;
 use tree_core::{RelTest, RelTree, RelateWord, TestForm};
 use utd_syntax::{EmptinessWord, NameList, RelationComparison};
@@ -33,7 +37,15 @@ pub fn type_comparison(
 ) -> Result<RelTest, Stop>
     ensures { Gives read_test result (rules.comparison_rule place word (read_tree left) (read_tree right)) }
 {
-    Err(Stop::Memory)
+    check(
+        place,
+        Code::E13,
+        same_heading(heading(&left), heading(&right)),
+    )?;
+    Ok(RelTest {
+        place,
+        form: TestForm::Relate(word, None, left, right),
+    })
 }
 
 /// A comparison under USING: the refusals of the list, then E13 at the place where the headings differ.
@@ -47,7 +59,17 @@ pub fn type_using_comparison(
 ) -> Result<RelTest, Stop>
     ensures { Gives read_test result (rules.using_comparison_rule (read_list list.now) place word (read_tree left) (read_tree right)) }
 {
-    Err(Stop::Memory)
+    list_checked(heading(&left), heading(&right), list)?;
+    check(
+        place,
+        Code::E13,
+        same_heading(heading(&left), heading(&right)),
+    )?;
+    let acl = positions_of(alloc, heading(&left), list)?;
+    Ok(RelTest {
+        place,
+        form: TestForm::Relate(word, Some(acl), left, right),
+    })
 }
 
 /// A test whether a relation has rows.

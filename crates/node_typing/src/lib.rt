@@ -2,7 +2,17 @@
 #![tactic(auto)]
 
 mod comparisons;
+mod headings;
+mod infixes;
+mod lists;
 mod nodes;
+mod positions;
+mod projections;
+mod renamings;
+mod rows;
+mod summaries;
+mod sweeps;
+mod trees;
 mod usings;
 
 pub use comparisons::{emptiness_test, relation_named, type_comparison, type_using_comparison};

@@ -1,6 +1,6 @@
 -- Names and attributes.
 use Rattle.std.specs.Prelude.{◌≡◌, ◌≤◌, Bool, true, false, ◌&&◌, ℕ, List, [], ◌∷◌, length, nat_le, Option, Some, None, is_some, Result, Ok, Err, IfOk, MatchOption, if◌then◌else◌, refl}
-use Rattle.std.proofs.Common.{arith, sym, ◌∙◌, ap, subst, eq-eqb}
+use Rattle.std.proofs.Common.{sym, ◌∙◌, ap, subst, eq-eqb}
 use Rattle.std.specs.Str.{IsUtf8}
 use Rattle.std.specs.Str.Lossy.{utf8_valid_len}
 use Rattle.std.proofs.lemmas.Str.{utf8_valid_len-IsUtf8}

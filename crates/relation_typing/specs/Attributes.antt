@@ -1,5 +1,5 @@
 -- Attributes and their names, in the order of the names' bytes.
-use Rattle.std.specs.Prelude.{◌&&◌, Bool, List, [], length, nat_le, Ok, Option, Some, None, if◌then◌else◌}
+use Rattle.std.specs.Prelude.{◌&&◌, Bool, length, nat_le, Ok, Option, Some, None, if◌then◌else◌}
 use Rattle.std.specs.BTreeMap.{insert_entry}
 use Rattle.point_core.specs.declared.fault.Place.{Place}
 use Rattle.point_core.specs.declared.fault.Code.TheVariants.{E06, E15, E17}

@@ -1,4 +1,4 @@
-use Rattle.std.proofs.Common.{◌≡◌, ◌≤◌, length, Some, None, arith, subst, sym, ◌∙◌}
+use Rattle.std.proofs.Common.{◌≡◌, Some, None, arith, subst}
 use Rattle.value_core.specs.Headings.{first_repeat, IsHeadingOf, IsHeadingRefusal}
 use Rattle.value_core.specs.Values.{Heading}
 use Rattle.relation_core.proofs.HeadingLemmas.{no_repeat}

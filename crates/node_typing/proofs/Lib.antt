@@ -1,0 +1,6 @@
+pub mod TreeLemmas
+pub mod HeadingLemmas
+pub mod KeptLemmas
+pub mod ListLemmas
+pub mod SweepLemmas
+pub mod UsingLemmas
