@@ -37,7 +37,7 @@ const PLAIN: Example = Example {
     status: 0,
 };
 
-fn examples() -> [Example; 19] {
+fn examples() -> [Example; 23] {
     [
         Example {
             // an empty script
@@ -60,7 +60,7 @@ fn examples() -> [Example; 19] {
         Example {
             // refusals
             script: b"PRINT PACK RELATION {TUPLE {S 1, D [3:2]}} ON (D); ; PRINT X;",
-            output: b"statement 1 refused: E33 empty interval at 1:36\nstatement 3 refused: E01 not a statement at 1:54\n",
+            output: b"statement 1 refused: E33 empty interval at 1:36\nstatement 3 refused: E10 unknown name at 1:60\n",
             status: 1,
             ..PLAIN
         },
@@ -100,7 +100,7 @@ fn examples() -> [Example; 19] {
             script: b"PRINT X;PRINT X;PRINT",
             read_piece: 9,
             failing_read: 2,
-            output: b"statement 1 refused: E01 not a statement at 1:1\n",
+            output: b"statement 1 refused: E10 unknown name at 1:7\n",
             line: b"utd: read failed\n",
             status: 3,
             ..PLAIN
@@ -137,7 +137,7 @@ fn examples() -> [Example; 19] {
             // a `;` in a text and in comments ends nothing
             script: b"PRINT RELATION {TUPLE {T 'a;''b'}} /* ; */ ; // ;\nPRINT\n",
             read_piece: 7,
-            output: b"statement 1 refused: E01 not a statement at 1:1\nstatement 2 refused: E04 statement not ended\n",
+            output: b"| T       |\n| 'a;''b' |\nrows: 1\nstatement 2 refused: E04 statement not ended\n",
             status: 1,
             ..PLAIN
         },
@@ -175,6 +175,33 @@ fn examples() -> [Example; 19] {
             // rows with one D by S
             script: b"PRINT PACK RELATION {TUPLE {S 20, D [1:2]}, TUPLE {S 3, D [1:2]}, TUPLE {S 3, D [2:2]}} ON (D);",
             output: b"| D     | S  |\n| [1:2] | 3  |\n| [1:2] | 20 |\nrows: 2\n",
+            ..PLAIN
+        },
+        Example {
+            // plain operators
+            script: b"PRINT (RELATION {TUPLE {A 1, D [2:3]}} JOIN RELATION {TUPLE {A 1, B DATE '2012-02-28'}}) {ALL BUT A};PRINT SUMMARIZE RELATION {TUPLE {A 1, N 5}, TUPLE {A 1, N 6}, TUPLE {A 2, N 7}} BY {A}: {S := SUM(N), C := COUNT()};",
+            output: b"| B          | D     |\n| 2012-02-28 | [2:3] |\nrows: 1\n| A | C | S  |\n| 1 | 2 | 11 |\n| 2 | 1 | 7  |\nrows: 2\n",
+            ..PLAIN
+        },
+        Example {
+            // tests
+            script: b"ASK RELATION {TUPLE {N 1}} = RELATION {TUPLE {N 1}}; ASK IS_EMPTY(RELATION {TUPLE {N 1}});",
+            read_piece: 5,
+            output: b"TRUE\nFALSE\n",
+            ..PLAIN
+        },
+        Example {
+            // a refusal of names and one of kinds, and a fault
+            script: b"ASK IS_EMPTY(X);\nPRINT RELATION {TUPLE {N 1}} WHERE N + 1;\nPRINT RELATION {TUPLE {N 1 / 0}};",
+            output: b"statement 1 refused: E10 unknown name at 1:14\nstatement 2 refused: E12 wrong type at 2:30\nstatement 3 refused: E31 division by zero at 3:28\n",
+            status: 1,
+            ..PLAIN
+        },
+        Example {
+            // what is not built
+            script: b"ASK USING (D): RELATION {TUPLE {D [1:2]}} = RELATION {TUPLE {D [1:2]}};PRINT (UNPACK RELATION {TUPLE {D [1:2]}} ON (D));VAR R RELATION {A INTEGER} KEY {A};",
+            output: b"statement 1 refused: E01 not a statement at 1:1\nstatement 2 refused: E01 not a statement at 1:72\nstatement 3 refused: E01 not a statement at 1:121\n",
+            status: 1,
             ..PLAIN
         },
     ]
@@ -283,12 +310,7 @@ fn long_scripts_come_out(rt: HostRuntime) -> Result<(), Fail> {
             b"statement 1 refused: E03 statement too long\n",
             b"",
         ),
-        (
-            spaced(alloc, 1_048_555)?,
-            1,
-            b"statement 1 refused: E01 not a statement at 1:1\n",
-            b"",
-        ),
+        (spaced(alloc, 1_048_555)?, 0, b"|\nrows: 0\n", b""),
     ];
     for (script, status, output, line) in scripts {
         let mut input = MemorySource::new(script, 65_536, Vec::new(alloc));
