@@ -37,7 +37,7 @@ const PLAIN: Example = Example {
     status: 0,
 };
 
-fn examples() -> [Example; 19] {
+fn examples() -> [Example; 22] {
     [
         Example {
             // an empty script
@@ -60,7 +60,7 @@ fn examples() -> [Example; 19] {
         Example {
             // refusals
             script: b"PRINT PACK RELATION {TUPLE {S 1, D [3:2]}} ON (D); ; PRINT X;",
-            output: b"statement 1 refused: E33 empty interval at 1:36\nstatement 3 refused: E01 not a statement at 1:54\n",
+            output: b"statement 1 refused: E33 empty interval at 1:36\nstatement 3 refused: E10 unknown name at 1:60\n",
             status: 1,
             ..PLAIN
         },
@@ -100,7 +100,7 @@ fn examples() -> [Example; 19] {
             script: b"PRINT X;PRINT X;PRINT",
             read_piece: 9,
             failing_read: 2,
-            output: b"statement 1 refused: E01 not a statement at 1:1\n",
+            output: b"statement 1 refused: E10 unknown name at 1:7\n",
             line: b"utd: read failed\n",
             status: 3,
             ..PLAIN
@@ -134,11 +134,38 @@ fn examples() -> [Example; 19] {
             ..PLAIN
         },
         Example {
-            // a `;` in a text and in comments ends nothing
-            script: b"PRINT RELATION {TUPLE {T 'a;''b'}} /* ; */ ; // ;\nPRINT\n",
-            read_piece: 7,
-            output: b"statement 1 refused: E01 not a statement at 1:1\nstatement 2 refused: E04 statement not ended\n",
+            // a read that fails after two statements and a part of the third
+            script: b"PRINT RELATION {TUPLE {N 1}};\nPRINT X;\nPRI",
+            read_piece: 42,
+            failing_read: 2,
+            output: b"| N |\n| 1 |\nrows: 1\nstatement 2 refused: E10 unknown name at 2:7\n",
+            line: b"utd: read failed\n",
+            status: 3,
+            ..PLAIN
+        },
+        Example {
+            // a character that is cut between two reads, and a byte that is none
+            script: b"PRINT RELATION {TUPLE {T '\xc3\xa9'}};\nPRINT \xff;\nASK RELATION {} {} = RELATION {} {};\n",
+            read_piece: 27,
+            output: b"| T   |\n| '\xc3\xa9' |\nrows: 1\nstatement 2 refused: E02 not UTF-8 at 2:7\nTRUE\n",
             status: 1,
+            ..PLAIN
+        },
+        Example {
+            // a rest that is half a character
+            script: b";\xc3",
+            output: b"statement 2 refused: E04 statement not ended\n",
+            status: 1,
+            ..PLAIN
+        },
+        Example {
+            // a write that fails in a table, after a whole answer
+            script: b"ASK RELATION {} {} = RELATION {} {};PRINT RELATION {TUPLE {N 1}};PRINT X;",
+            write_piece: 5,
+            failing_write: 3,
+            output: b"TRUE\n| N |",
+            line: b"utd: write failed\n",
+            status: 4,
             ..PLAIN
         },
         Example {
@@ -283,12 +310,7 @@ fn long_scripts_come_out(rt: HostRuntime) -> Result<(), Fail> {
             b"statement 1 refused: E03 statement too long\n",
             b"",
         ),
-        (
-            spaced(alloc, 1_048_555)?,
-            1,
-            b"statement 1 refused: E01 not a statement at 1:1\n",
-            b"",
-        ),
+        (spaced(alloc, 1_048_555)?, 0, b"|\nrows: 0\n", b""),
     ];
     for (script, status, output, line) in scripts {
         let mut input = MemorySource::new(script, 65_536, Vec::new(alloc));
