@@ -37,7 +37,7 @@ const PLAIN: Example = Example {
     status: 0,
 };
 
-fn examples() -> [Example; 22] {
+fn examples() -> [Example; 23] {
     [
         Example {
             // an empty script
@@ -148,6 +148,13 @@ fn examples() -> [Example; 22] {
             script: b"PRINT RELATION {TUPLE {T '\xc3\xa9'}};\nPRINT \xff;\nASK RELATION {} {} = RELATION {} {};\n",
             read_piece: 27,
             output: b"| T   |\n| '\xc3\xa9' |\nrows: 1\nstatement 2 refused: E02 not UTF-8 at 2:7\nTRUE\n",
+            status: 1,
+            ..PLAIN
+        },
+        Example {
+            // a byte 0
+            script: b"PRINT \x00;",
+            output: b"statement 1 refused: E01 not a statement at 1:7\n",
             status: 1,
             ..PLAIN
         },
@@ -292,6 +299,7 @@ fn long_scripts_come_out(rt: HostRuntime) -> Result<(), Fail> {
             b"",
             b"utd: more than 16777216 bytes\n",
         ),
+        (vec![in alloc; b';'; 1_000_000]?, 0, b"", b""),
         (
             equal_tuples(alloc, 1000)?,
             0,
