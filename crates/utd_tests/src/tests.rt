@@ -37,7 +37,7 @@ const PLAIN: Example = Example {
     status: 0,
 };
 
-fn examples() -> [Example; 23] {
+fn examples() -> [Example; 28] {
     [
         Example {
             // an empty script
@@ -139,6 +139,48 @@ fn examples() -> [Example; 23] {
             read_piece: 7,
             output: b"| T       |\n| 'a;''b' |\nrows: 1\nstatement 2 refused: E04 statement not ended\n",
             status: 1,
+            ..PLAIN
+        },
+        Example {
+            // a read that fails after two statements and a part of the third
+            script: b"PRINT RELATION {TUPLE {N 1}};\nPRINT X;\nPRI",
+            read_piece: 42,
+            failing_read: 2,
+            output: b"| N |\n| 1 |\nrows: 1\nstatement 2 refused: E10 unknown name at 2:7\n",
+            line: b"utd: read failed\n",
+            status: 3,
+            ..PLAIN
+        },
+        Example {
+            // a character that is cut between two reads, and a byte that is none
+            script: b"PRINT RELATION {TUPLE {T '\xc3\xa9'}};\nPRINT \xff;\nASK RELATION {} {} = RELATION {} {};\n",
+            read_piece: 27,
+            output: b"| T   |\n| '\xc3\xa9' |\nrows: 1\nstatement 2 refused: E02 not UTF-8 at 2:7\nTRUE\n",
+            status: 1,
+            ..PLAIN
+        },
+        Example {
+            // a byte 0
+            script: b"PRINT \x00;",
+            output: b"statement 1 refused: E01 not a statement at 1:7\n",
+            status: 1,
+            ..PLAIN
+        },
+        Example {
+            // a rest that is half a character
+            script: b";\xc3",
+            output: b"statement 2 refused: E04 statement not ended\n",
+            status: 1,
+            ..PLAIN
+        },
+        Example {
+            // a write that fails in a table, after a whole answer
+            script: b"ASK RELATION {} {} = RELATION {} {};PRINT RELATION {TUPLE {N 1}};PRINT X;",
+            write_piece: 5,
+            failing_write: 3,
+            output: b"TRUE\n| N |",
+            line: b"utd: write failed\n",
+            status: 4,
             ..PLAIN
         },
         Example {
@@ -292,6 +334,7 @@ fn long_scripts_come_out(rt: HostRuntime) -> Result<(), Fail> {
             b"",
             b"utd: more than 16777216 bytes\n",
         ),
+        (vec![in alloc; b';'; 1_000_000]?, 0, b"", b""),
         (
             equal_tuples(alloc, 1000)?,
             0,
