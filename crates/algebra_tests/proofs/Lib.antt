@@ -1,0 +1,3 @@
+pub mod HeadingLemmas
+pub mod ReadyLemmas
+pub mod StateLemmas
