@@ -10,4 +10,5 @@ pub mod Scopes
 pub mod Sweeping
 pub mod Truths
 pub mod Typing
+pub mod Updates
 pub mod WellMade

@@ -1,0 +1,88 @@
+-- Which items and assignments are typed for a state.
+--     swept_list      the attributes on which a change works point by point
+--     IsTypedItem      of items other than TERMINATE: the target is a base relvar of the item's heading, and its parts are typed
+--     IsTypedAssignment      of assignments: the target is a base relvar, and the expression has its heading
+use Rattle.std.specs.Prelude.{◌≡◌, ℕ, Bool, not, true, ◌&&◌, List, [], ◌∷◌, map, Option, Some, None, IsTrue}
+use Rattle.std.specs.List.{list_all, list_any, All}
+use Rattle.value_core.specs.declared.kind.Kind.TheVariants.{Truth}
+use Rattle.value_core.specs.Values.{Heading}
+use Rattle.scalar_core.specs.Expressions.{Expr}
+use Rattle.relation_core.specs.Agreement.{position_of}
+use Rattle.tree_core.specs.Relvars.{State, relvar_named, heading_if}
+use Rattle.tree_core.specs.Trees.{PlainSets, heading_of}
+use Rattle.tree_core.specs.Items.{PlainPortion, PlainChange, PlainItemForm, set_to, insert, delete, delete_rows, update, terminate, PlainItem, PlainAssignment}
+use Rattle.algebra_core.specs.Sweeping.{among}
+use Rattle.algebra_core.specs.Typing.{IsScalar, IsExtension, IsList, IsListIf, is_span, is_swept, kind_at}
+use Rattle.algebra_core.specs.WellMade.{IsBase, IsTypedFor, sizes_of}
+
+-- ---- changes of rows
+
+-- the attributes of a portion
+abbrev pub attributes_of_portion : PlainPortion → List ℕ
+attributes_of_portion portion = map (λ p. p.0) portion
+
+-- the attributes on which a change works point by point: those of the portion, or those of USING
+abbrev pub swept_list : Option (List ℕ) → Option PlainPortion → Option (List ℕ)
+swept_list acl None = acl
+swept_list acl (Some portion) = Some (attributes_of_portion portion)
+
+-- an interval of the attribute's type, which names no attribute
+abbrev pub IsPart : List ℕ → Heading → ℕ × Expr → Type 0
+IsPart sizes heading p = IsTrue (is_span (kind_at heading p.0)) × IsScalar sizes [] p.1 (kind_at heading p.0)
+
+-- a portion stands beside no USING, and is not empty
+abbrev pub IsPortionIf : List ℕ → Heading → Option (List ℕ) → Option PlainPortion → Type 0
+IsPortionIf sizes heading acl None = Unit {0}
+IsPortionIf sizes heading None (Some []) = ⊥
+IsPortionIf sizes heading None (Some (p ∷ portion)) = IsList heading (attributes_of_portion (p ∷ portion)) × All (IsPart sizes heading) (p ∷ portion)
+IsPortionIf sizes heading (Some acl) (Some portion) = ⊥
+
+abbrev pub IsConditionIf : List ℕ → Heading → Option Expr → Type 0
+IsConditionIf sizes heading None = Unit {0}
+IsConditionIf sizes heading (Some c) = IsScalar sizes heading c Truth
+
+-- the expression is sweepable for the attributes of the list, if there is one
+abbrev pub is_swept_if : Option (List ℕ) → Expr → Bool
+is_swept_if None e = true
+is_swept_if (Some acl) e = is_swept acl e
+
+abbrev pub condition_is_swept : Option (List ℕ) → Option Expr → Bool
+condition_is_swept acl None = true
+condition_is_swept acl (Some c) = is_swept_if acl c
+
+pub record IsChange (sizes : List ℕ) (heading : Heading) (c : PlainChange) : Type 0 where
+  pub acl : IsListIf heading c.acl
+  pub portion : IsPortionIf sizes heading c.acl c.portion
+  pub condition : IsConditionIf sizes heading c.condition
+  pub swept : IsTrue (condition_is_swept (swept_list c.acl c.portion) c.condition)
+
+-- each item of a change is sweepable, and none assigns an attribute of the list
+abbrev pub are_swept_sets : Heading → Option (List ℕ) → PlainSets → Bool
+are_swept_sets heading None sets = true
+are_swept_sets heading (Some acl) sets =
+    list_all (λ s. is_swept acl s.1) sets && not (list_any (λ s. among acl (position_of heading s.0)) sets)
+
+-- ---- items
+
+-- the parts of an item are typed for a target of the heading
+abbrev pub IsTypedForm : State → Heading → PlainItemForm → Type 0
+IsTypedForm s heading (set_to t) = IsTypedFor s t × (heading_of t ≡ heading)
+IsTypedForm s heading (insert acl t) = IsTypedFor s t × (heading_of t ≡ heading) × IsListIf heading acl
+IsTypedForm s heading (delete acl t) = IsTypedFor s t × (heading_of t ≡ heading) × IsListIf heading acl
+IsTypedForm s heading (delete_rows c) = IsChange (sizes_of s.ordinals) heading c
+IsTypedForm s heading (update c sets) =
+    IsChange (sizes_of s.ordinals) heading c × IsExtension (sizes_of s.ordinals) heading heading sets
+    × IsTrue (are_swept_sets heading (swept_list c.acl c.portion) sets)
+IsTypedForm s heading (terminate at place c) = ⊥
+
+pub record IsTypedItem (s : State) (i : PlainItem) : Type 0 where
+  pub base : IsBase (relvar_named s.relvars i.target)
+  pub headed : i.heading ≡ heading_if (relvar_named s.relvars i.target)
+  pub form : IsTypedForm s i.heading i.form
+
+-- ---- assignments
+
+pub record IsTypedAssignment (s : State) (a : PlainAssignment) : Type 0 where
+  pub base : IsBase (relvar_named s.relvars a.target)
+  pub headed : heading_of a.tree ≡ heading_if (relvar_named s.relvars a.target)
+  pub typed : IsTypedFor s a.tree
