@@ -1,3 +1,4 @@
+pub mod Declarations
 pub mod Histories
 pub mod Meanings
 pub mod Names
