@@ -24,6 +24,3 @@ pub use memory::Memory;
 pub use ordinal_type::OrdinalType;
 pub use point_type::{PointNumber, PointType};
 pub use steps::Steps;
-
-#[cfg(test)]
-mod tests;

@@ -26,6 +26,3 @@ pub use renaming::rename;
 pub use restriction::restrict;
 pub use sets::{intersect, minus, union};
 pub use summary::summarize;
-
-#[cfg(test)]
-mod tests;

@@ -8,8 +8,6 @@ mod evaluation;
 mod interval;
 mod operand;
 mod operators;
-#[cfg(test)]
-mod tests;
 mod text;
 mod tree;
 

@@ -1,4 +1,4 @@
-//! Tests of row expressions: the value of each form and each of its faults, at constants.
+//! Tests of row expressions: the value of each form and each of its faults, at constants and in parts.
 #![tactic(auto)]
 
 ghost use Rattle.std.specs.Prelude.{◌≡◌};
@@ -7,6 +7,8 @@ ghost use Rattle.std.specs.Prelude.{◌≡◌};
 mod attribute;
 #[cfg(test)]
 mod constants;
+#[cfg(test)]
+mod faults;
 #[cfg(test)]
 mod one_part;
 #[cfg(test)]

@@ -6,6 +6,3 @@ mod sums;
 
 pub use extremes::{greatest, least};
 pub use sums::sum;
-
-#[cfg(test)]
-mod tests;

@@ -9,6 +9,3 @@ mod token;
 pub use cutter::{Cut, Cutter};
 pub use reading::{place_behind, tokens};
 pub use token::{Token, TokenBytes, TokenKind, TokenList};
-
-#[cfg(test)]
-mod tests;

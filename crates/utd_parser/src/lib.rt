@@ -19,6 +19,3 @@ mod whole;
 pub use limits::{exceeds, is_bad_text};
 pub use terminals::terminal_of;
 pub use whole::{accept, parse};
-
-#[cfg(test)]
-mod tests;

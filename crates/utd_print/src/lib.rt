@@ -10,6 +10,3 @@ mod values;
 pub use refusal::refusal_line;
 pub use tables::table;
 pub use truth::truth_line;
-
-#[cfg(test)]
-mod tests;
