@@ -2,8 +2,10 @@
 ghost use Rattle.std.specs.Prelude.{◌≡◌, IfOk, Ok, nat_lt, length};
 ghost use Rattle.relation_core.specs.Answers.{Answers};
 
-use relation_core::{extend, intersect, matching, minus, not_matching, project, rename, restrict, union};
 use point_core::{AnyPoint, AnyType, Label, Memory, Stop};
+use relation_core::{
+    extend, intersect, matching, minus, not_matching, project, rename, restrict, union,
+};
 use std::alloc::Global;
 use std::test::Fail;
 use value_core::{Heading, HeadingRefuse, Kind, Name, Relation, Row, RowsRefuse, Value};

@@ -6,9 +6,9 @@ ghost use Rattle.value_core.specs.Values.{fits_heading};
 ghost use Rattle.scalar_core.specs.Expressions.{read};
 ghost use Rattle.scalar_core.specs.Kinds.{IsTyped, IsTypedOver};
 
-use scalar_core::{CompareWord, Parts, Scalar, ScalarForm, eval};
 use interval_core::Ends;
 use point_core::{AnyPoint, AnyType, Code, Fault, Memory, Place, Stop};
+use scalar_core::{CompareWord, Parts, Scalar, ScalarForm, eval};
 use std::alloc::Global;
 use std::test::Fail;
 use value_core::{Kind, Row, Text, Value};

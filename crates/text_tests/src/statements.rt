@@ -1,10 +1,10 @@
 // Texts that are statements, and the refusals of others.
 ghost use Rattle.std.specs.Prelude.{◌<◌, length};
 
-use utd_parser::{accept, parse};
 use point_core::{Code, Fault, Place};
 use std::alloc::Global;
 use utd_lexer::tokens;
+use utd_parser::{accept, parse};
 use utd_syntax::Statement;
 use value_core::Refuse;
 

@@ -1,9 +1,9 @@
 // Each source and sink at work: over memory in tables, each standard stream once, all through their bounds.
+use std::test::Fail;
 use utd_io::{
     Failed, MemorySink, MemorySource, PureSink, PureSource, Sink, Source, StdErrSink, StdSink,
     StdSource, write_all,
 };
-use std::test::Fail;
 
 /// One read of at most three bytes: those that came, or none where it failed.
 fn next<'a, S: Source>(source: &mut S, buf: &'a mut [u8; 3]) -> Option<&'a [u8]> {

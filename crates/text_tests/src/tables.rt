@@ -1,9 +1,9 @@
 // Worked tables and lines, to the byte.
-use utd_print::{refusal_line, table, truth_line};
 use interval_core::Interval;
 use point_core::{AnyPoint, AnyType, Code, Fault, Memory, Place};
 use std::alloc::Global;
 use std::test::Fail;
+use utd_print::{refusal_line, table, truth_line};
 use value_core::{
     Heading, Kind, Name, Names, OrdinalNames, OrdinalTypes, Refuse, Relation, Row, RowsRefuse,
     Text, Value,

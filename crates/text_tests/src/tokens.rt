@@ -1,10 +1,10 @@
 // Scripts cut into statements, and statements read as tokens.
 ghost use Rattle.std.specs.Prelude.{◌<◌, length};
 
-use utd_lexer::{Cut, Cutter, tokens};
 use point_core::{Code, Fault, Place};
 use std::alloc::Global;
 use std::test::Fail;
+use utd_lexer::{Cut, Cutter, tokens};
 use value_core::Refuse;
 
 /// A script, how many bytes it has up to the end of its last whole statement, how many statements end,

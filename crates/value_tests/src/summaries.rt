@@ -1,6 +1,6 @@
 // Sums at the bounds of 64 bits, and extremes among equal values.
-use u_summary::{greatest, least, sum};
 use point_core::AnyPoint;
+use u_summary::{greatest, least, sum};
 use value_core::Value;
 
 #[test]
