@@ -5,5 +5,6 @@ pub mod ItemLemmas
 pub mod LimitLemmas
 pub mod LiteralLemmas
 pub mod MadeLemmas
+pub mod RowlessLemmas
 pub mod SummaryLemmas
 pub mod TruthLemmas
