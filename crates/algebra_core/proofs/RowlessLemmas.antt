@@ -16,7 +16,7 @@ use Rattle.value_core.specs.Values.{Name, Heading, Relation}
 use Rattle.tree_core.specs.Relvars.{PlainRelvar, base, view, Entries, State, relvar_named, relvar_heading, heading_if, constraints_if}
 use Rattle.tree_core.specs.Trees.{Tree, named}
 use Rattle.algebra_core.specs.Histories.{joined_history, last_point, type_at, name_at}
-use Rattle.algebra_core.specs.Names.{each_after, given, given_entry, given_relvar, with_value}
+use Rattle.algebra_core.specs.Names.{each_after, given, given_relvar, with_value}
 use Rattle.algebra_core.specs.Plainness.{relvar_is_plain, plain_in}
 use Rattle.algebra_core.specs.Typing.{is_declared, IsTypedTree}
 use Rattle.algebra_core.specs.WellMade.{sizes_of, headings_of, all_names, IsBase, FitsHeadings, FitsNamed, IsConstraint, rule_among, IsOfRule, IsHistory, IsRelvar, AreRelvars, IsWellMade, IsGiven}
