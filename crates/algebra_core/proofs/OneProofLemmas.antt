@@ -291,8 +291,16 @@ FitsHeadings-prop h g (WhenUnpacked acl k) = hlevel (IsList-prop h acl, AreDiffe
 FitsHeadings-prop h g (UKey acl k) = hlevel (IsList-prop h acl, AreDifferent-prop h k, props)
 FitsHeadings-prop h g (Foreign acl k name there) = hlevel (IsList-prop h acl, AreDifferent-prop h k, AreDifferent-prop g there, AreAlike-prop h k g there, props)
 FitsHeadings-prop h g (History r) =
-    hlevel (AreDifferent-prop h r.key_here, AreDifferent-prop g r.key_there, AreAlike-prop h r.key_here g r.key_there,
-    AreDifferent-prop h r.all_here, AreDifferent-prop g r.all_there, AreAlike-prop h r.all_here g r.all_there, IsOver-prop, props)
+    hlevel (
+      AreDifferent-prop h r.key_here,
+      AreDifferent-prop g r.key_there,
+      AreAlike-prop h r.key_here g r.key_there,
+      AreDifferent-prop h r.all_here,
+      AreDifferent-prop g r.all_there,
+      AreAlike-prop h r.all_here g r.all_there,
+      IsOver-prop,
+      props,
+    )
 
 IsBase-prop : (r : Option PlainRelvar) → IsProp (IsBase r)
 IsBase-prop None = hlevel
@@ -309,7 +317,6 @@ IsConstraint-prop before own r (Key k) = FitsHeadings-prop (relvar_heading r) []
 IsConstraint-prop before own r (Packed acl) = FitsHeadings-prop (relvar_heading r) [] (Packed acl)
 IsConstraint-prop before own r (WhenUnpacked acl k) = FitsHeadings-prop (relvar_heading r) [] (WhenUnpacked acl k)
 IsConstraint-prop before own r (UKey acl k) = FitsHeadings-prop (relvar_heading r) [] (UKey acl k)
-
 
 -- ---- views of histories
 

@@ -2,6 +2,7 @@
 --     bare, bare_all      relvars without their rows
 --     bare-keeps      a state stays well made where its relvars differ in their rows alone
 --     given-keeps, given_each-keeps      other values of the same headings are such a difference
+--     headings-keep, heading-keeps ..      the same is looked up in states that differ so
 --     plain-keeps, plain_in-given      and no view becomes plain or ceases to be
 --     nothing-well_made      the state of no relvars is well made
 use Rattle.std.proofs.Common.{◌≡◌, ℕ, Bool, true, false, List, [], ◌∷◌, ◌++◌, map, cond, refl, sym, ap, ap₂, ◌∙◌, subst, arith, true≢false, IsTrue, Option, Some, None, option_map}
@@ -36,7 +37,7 @@ bare_all entries = map bare_entry entries
 
 -- ---- what is looked up in them
 
-heading-bare : (r : PlainRelvar) → relvar_heading (bare r) ≡ relvar_heading r
+pub heading-bare : (r : PlainRelvar) → relvar_heading (bare r) ≡ relvar_heading r
 heading-bare (base value constraints) = refl
 heading-bare (view t history) = refl
 
@@ -44,7 +45,7 @@ pub headings-bare : (entries : Entries) → headings_of (bare_all entries) ≡ h
 headings-bare [] = refl
 headings-bare (r ∷ rest) = λ i. (r.0, heading-bare r.1 i) ∷ headings-bare rest i
 
-names-bare : (entries : Entries) → map (λ r. r.0) (bare_all entries) ≡ map (λ r. r.0) entries
+pub names-bare : (entries : Entries) → map (λ r. r.0) (bare_all entries) ≡ map (λ r. r.0) entries
 names-bare [] = refl
 names-bare (r ∷ rest) = λ i. r.0 ∷ names-bare rest i
 
@@ -181,7 +182,7 @@ given-unnamed name value [] h = refl
 given-unnamed name value (r ∷ rest) h =
     ap₂ (λ (x : PlainRelvar) (es : Entries). (r.0, x) ∷ es) (ap (λ b. cond b (with_value value r.1) r.1) h.0) (given-unnamed name value rest h.1)
 
-bare-with_value : (value : Relation) (r : PlainRelvar) → value.heading ≡ relvar_heading r → bare (with_value value r) ≡ bare r
+pub bare-with_value : (value : Relation) (r : PlainRelvar) → value.heading ≡ relvar_heading r → bare (with_value value r) ≡ bare r
 bare-with_value value (base old constraints) e = ap (λ (h : Heading). base (record { heading = h; rows = [] }) constraints) e
 bare-with_value value (view t history) e = refl
 
@@ -230,6 +231,18 @@ given_if-keeps s None None h g = subst (λ (es : Entries). IsWellMade (record s 
 given_if-keeps s None (Some value) h g = absurd g
 given_if-keeps s (Some name) None h g = absurd g
 given_if-keeps s (Some name) (Some value) h g = given-keeps s name value h g.1
+
+-- what is given in one of two states that differ in their rows alone is given in the other
+pub is_given-keeps : (entries old : Entries) → bare_all entries ≡ bare_all old → (with : Option Name) (value : Option Relation) → IsGiven old with value → IsGiven entries with value
+is_given-keeps entries old e None None g = g
+is_given-keeps entries old e None (Some value) g = g
+is_given-keeps entries old e (Some name) None g = g
+is_given-keeps entries old e (Some name) (Some value) g = (is_base-keeps entries old e name g.0, g.1 ∙ sym (heading-keeps entries old e name))
+
+-- a relvar's own value is such a value
+pub own-given : (entries : Entries) (name : Name) (value : Relation) (constraints : List Constraint) → relvar_named entries name ≡ Some (base value constraints)
+    → IsGiven entries (Some name) (Some value)
+own-given entries name value constraints e = (subst IsBase (sym e) tt, ap heading_if (sym e))
 
 -- ---- other values of several relvars, one after another
 

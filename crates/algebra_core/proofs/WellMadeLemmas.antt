@@ -102,8 +102,8 @@ made-kept : (M H : Heading → Type 0) → ((m : Heading) → IsProp (M m)) → 
 made-kept M H once told keep h =
     let Known : Type 0 = (m : Heading) × M m × ∥ H m ∥₁ in
     let known_prop : IsProp Known = λ x y.
-      let same = told x.0 y.0 x.1 y.1 in
-      λ i. (same i, is_prop→PathP (λ i. M (same i)) (λ i. once (same i)) x.1 y.1 i, is_prop→PathP (λ i. ∥ H (same i) ∥₁) (λ i. ∥∥₁_prop) x.2 y.2 i) in
+    let same = told x.0 y.0 x.1 y.1 in
+    λ i. (same i, is_prop→PathP (λ i. M (same i)) (λ i. once (same i)) x.1 y.1 i, is_prop→PathP (λ i. ∥ H (same i) ∥₁) (λ i. ∥∥₁_prop) x.2 y.2 i) in
     let known : Known = ∥∥₁_elim h known_prop (λ x. (x.0, x.1, ∣ x.2 ∣₁)) in
     (known.0, known.1, keep known.0 known.2)
 
