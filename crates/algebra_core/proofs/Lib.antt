@@ -1,3 +1,4 @@
+pub mod DataLemmas
 pub mod EntryLemmas
 pub mod EvalLemmas
 pub mod GroupFits
@@ -5,5 +6,8 @@ pub mod ItemLemmas
 pub mod LimitLemmas
 pub mod LiteralLemmas
 pub mod MadeLemmas
+pub mod OneProofLemmas
+pub mod RowlessLemmas
 pub mod SummaryLemmas
 pub mod TruthLemmas
+pub mod WellMadeLemmas
