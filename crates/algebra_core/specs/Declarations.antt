@@ -20,7 +20,7 @@ abbrev pub read_declaration : Declaration → PlainDeclaration
 read_declaration (variants.Ordinal name values) = ordinal_type name values
 read_declaration (variants.Base name heading constraints) = base_relvar name heading constraints
 read_declaration (variants.View name tree) = view_relvar name (read_tree tree) None
-read_declaration (variants.HistoryView view tree since during) = view_relvar view (read_tree tree) (Some (since, during))
+read_declaration (variants.HistoryView name tree since during) = view_relvar name (read_tree tree) (Some (since, during))
 
 -- the state with one relvar or view more
 abbrev pub with_relvar : State → Name → PlainRelvar → State

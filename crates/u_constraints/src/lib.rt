@@ -1,0 +1,5 @@
+//! Which constraints of a relvar hold.
+#![tactic(auto)]
+
+mod keys;
+mod parts;
