@@ -18,7 +18,7 @@ use Rattle.relation_core.specs.Agreement.{part_of}
 use Rattle.relation_core.specs.Parts.{projected}
 use Rattle.relation_core.proofs.AgreementLemmas.{length_of_fit}
 use Rattle.relation_core.proofs.FilterLemmas.{passes_at}
-use Rattle.u_constraints.specs.Keys.{agree_on, are_apart, is_key}
+use Rattle.u_constraints.specs.Constraints.{agree_on, are_apart, is_key}
 
 -- each member stands once
 abbrev pub Differ : {X : Type 0} → List X → Type 0

@@ -4,7 +4,7 @@ ghost use Rattle.std.specs.List.{All};
 ghost use Rattle.base_core.specs.Sets.{is_within};
 ghost use Rattle.value_core.specs.Values.{row_cmp, IsRelation};
 ghost use Rattle.relation_core.specs.Parts.{projected};
-ghost use Rattle.u_constraints.specs.Keys.{is_key};
+ghost use Rattle.u_constraints.specs.Constraints.{is_key};
 
 use crate::parts::{contains, part, sorted_parts};
 use point_core::Memory;
