@@ -1,1 +1,2 @@
+pub mod ConstraintLemmas
 pub mod KeyLemmas
