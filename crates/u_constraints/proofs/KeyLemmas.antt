@@ -1,10 +1,10 @@
 -- Keys by counting, and references by searching.
-use Rattle.std.proofs.Common.{◌≡◌, ◌⊎◌, ◌↔◌, inl, inr, ℕ, suc, ◌+◌, ◌<◌, List, [], ◌∷◌, length, get_or, take, map, refl, sym, ap, ap₂, ◌∙◌, subst, arith, eq-eqb, nat_eq, Bool, true, false, not, ◌||◌, ◌&&◌, Ordering}
+use Rattle.std.proofs.Common.{◌≡◌, ◌↔◌, inl, inr, ℕ, suc, ◌+◌, ◌<◌, List, [], ◌∷◌, length, get_or, take, map, refl, sym, ap, ap₂, ◌∙◌, subst, arith, eq-eqb, nat_eq, Bool, true, false, not, ◌||◌, ◌&&◌, Ordering}
 use Rattle.std.specs.declared.cmp.Ordering.TheVariants.{Less, Equal, Greater}
 use Rattle.std.specs.Bool.{IsTrue}
 use Rattle.std.specs.Cmp.{IsTotalOrder, tied_itself}
 use Rattle.std.specs.List.{list_all, All}
-use Rattle.std.specs.Ordering.{eq_by_cmp, is_eq}
+use Rattle.std.specs.Ordering.{eq_by_cmp}
 use Rattle.std.proofs.lemmas.Bool.{eqb-true, or_cases, or_left, or_right, not-true, both_ways}
 use Rattle.std.proofs.lemmas.List.{length-map}
 use Rattle.std.proofs.lemmas.List.Folds.{list_all-map, list_all_more, list_all_at}

@@ -1,5 +1,4 @@
-use Rattle.std.proofs.Common.{◌≡◌, Option, Some, ap, ◌∙◌, option_map}
-use Rattle.value_core.specs.Values.{Relation}
+use Rattle.std.proofs.Common.{◌≡◌, Some, ap, ◌∙◌, option_map}
 use Rattle.u_constraints.proofs.ConstraintLemmas.{referenced}
 use Rattle.u_constraints.proofs.constraints.holds.Goals as goal
 

@@ -1,10 +1,8 @@
-use Rattle.std.proofs.Common.{◌≡◌, ◌<◌, ◌≤◌, Bool, false, true, List, length, get_or, arith, sym, ap, ap₂, ◌∙◌, subst, rules}
+use Rattle.std.proofs.Common.{◌≡◌, ◌<◌, ◌≤◌, false, true, List, length, arith, subst, rules}
 use Rattle.std.specs.List.{list_all}
-use Rattle.std.proofs.lemmas.List.Folds.{list_all_more, list_all_at}
-use Rattle.base_core.specs.Sets.{has, is_within}
+use Rattle.base_core.specs.Sets.{has}
 use Rattle.value_core.specs.Values.{Row, row_cmp}
 use Rattle.relation_core.specs.Agreement.{part_of}
-use Rattle.relation_core.specs.Parts.{projected}
 use Rattle.relation_core.proofs.FilterLemmas.{take_all}
 use Rattle.u_constraints.proofs.KeyLemmas.{positions_within, found_so_far, not_found, searched}
 use Rattle.u_constraints.proofs.keys.is_referenced.Goals as goal
