@@ -57,7 +57,7 @@ module _ {X : Type 0} (cmp : X → X → Ordering) (o : IsTotalOrder cmp) (same 
       let more = length-put_new x (in_order cmp xs) (λ i. new ((In-in_order cmp o same x xs).0 i)) in
       (new, differ_of_length xs (omega (arith, e, more)))
 
-  not_after : (x : X) (xs : List X) → AllAfter cmp x xs → In x xs → ⊥
+  pub not_after : (x : X) (xs : List X) → AllAfter cmp x xs → In x xs → ⊥
   not_after x xs a i = let e : Less ≡ Equal = sym (in_after cmp o same x x xs a i) ∙ tied_itself o x in cc
 
 -- ---- rows that agree only with themselves
@@ -110,13 +110,18 @@ key_where_differ k (a ∷ rows) d x y i j e =
       ]
     ]
 
--- a set of rows has a key exactly where it has as many parts as rows
-pub is_key-length : (k : List ℕ) (rows : List Row) → Ascends row_cmp rows → (length (projected k rows) ≡ length rows) ↔ IsTrue (is_key k rows)
+-- a set of rows has a key exactly where the rows' parts differ, which is where it has as many parts as rows
+pub is_key-Differ : (k : List ℕ) (rows : List Row) → Ascends row_cmp rows → IsTrue (is_key k rows) ↔ Differ (map (part_of k) rows)
+is_key-Differ k rows a =
+    let key = is_key-AgreeOnce k rows in
+    (λ h. differ_where_key k rows a (key.0 h), λ d. key.1 (key_where_differ k rows d))
+
+is_key-length : (k : List ℕ) (rows : List Row) → Ascends row_cmp rows → (length (projected k rows) ≡ length rows) ↔ IsTrue (is_key k rows)
 is_key-length k rows a =
     let size : length (map (part_of k) rows) ≡ length rows = length-map rows (part_of k) in
-    let key = is_key-AgreeOnce k rows in (
-      λ e. key.1 (key_where_differ k rows (differ_of_length row_cmp row_total row_separates (map (part_of k) rows) (e ∙ sym size))),
-      λ h. length_of_differ row_cmp row_total row_separates (map (part_of k) rows) (differ_where_key k rows a (key.0 h)) ∙ size,
+    let key = is_key-Differ k rows a in (
+      λ e. key.1 (differ_of_length row_cmp row_total row_separates (map (part_of k) rows) (e ∙ sym size)),
+      λ h. length_of_differ row_cmp row_total row_separates (map (part_of k) rows) (key.0 h) ∙ size,
     )
 
 -- the answer is whether the numbers of parts and of rows are the same

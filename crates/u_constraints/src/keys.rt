@@ -6,18 +6,24 @@ ghost use Rattle.value_core.specs.Values.{row_cmp, IsRelation};
 ghost use Rattle.relation_core.specs.Parts.{projected};
 ghost use Rattle.u_constraints.specs.Constraints.{is_key};
 
+use crate::fronts::{are_first, fronts_ascend};
 use crate::parts::{contains, part, sorted_parts};
 use point_core::Memory;
 use std::alloc::Global;
 use value_core::Relation;
 
-/// Whether no two different rows have the same values at the positions.
+/// Whether no two different rows have the same values at the positions. Rows are in the order of their first values, so that only
+/// others are sorted for it.
 pub(crate) fn is_key(alloc: Global, r: &Relation, positions: &[usize]) -> Result<bool, Memory>
     requires { All (λ (i : ℕ). i < length r.now.heading) positions.now }
     ensures { IfOk result (λ kept. kept ≡ is_key positions.now r.now.rows) }
 {
+    let rows = r.rows();
+    if are_first(positions) {
+        return Ok(fronts_ascend(rows, positions.len()));
+    }
     let keys = sorted_parts(alloc, r, positions)?;
-    Ok(keys.len() == r.rows().len())
+    Ok(keys.len() == rows.len())
 }
 
 /// Whether the values of each row here, at its positions, are those of some row there.

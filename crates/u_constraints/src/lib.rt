@@ -2,6 +2,7 @@
 #![tactic(auto)]
 
 mod constraints;
+mod fronts;
 mod keys;
 mod parts;
 
