@@ -1,0 +1,3 @@
+pub mod ConstraintLemmas
+pub mod FrontLemmas
+pub mod KeyLemmas

@@ -1,0 +1,18 @@
+use Rattle.std.proofs.Common.{◌≡◌, ◌∙◌, length, refl, rules, true}
+use Rattle.base_core.proofs.SetLemmas.{Ascends-from_sorted}
+use Rattle.value_core.specs.Values.{row_cmp}
+use Rattle.u_constraints.specs.Fronts.{counts_from}
+use Rattle.u_constraints.proofs.FrontLemmas.{key_of_relation}
+use Rattle.u_constraints.proofs.KeyLemmas.{counted}
+use Rattle.u_constraints.proofs.keys.is_key.Goals as goal
+
+pub returns-then-are_first : goal.returns-then-are_first
+returns-then-are_first c =
+    let first : counts_from 0 c.args.positions.now ≡ true = search rules in
+    c.fronts_ascend.ensures ∙ key_of_relation c.args.positions.now c.args.r.now _ _ c.rows-rows.ensures.relation c.requires first refl c.rows-rows.ensures.rows
+
+pub returns : goal.returns
+returns c =
+    let keys : c.len.result ≡ length c.in_ok-keys.keys.items = search rules in
+    let rows : length c.rows-rows.result.now ≡ length c.args.r.now.rows = search rules in
+    counted c.args.positions.now c.args.r.now.rows c.in_ok-keys.keys.items _ _ (Ascends-from_sorted row_cmp c.args.r.now.rows c.rows-rows.ensures.relation.ascending) c.in_ok-keys.ensures.parts keys rows

@@ -1,0 +1,13 @@
+-- Rows by their first values.
+use Rattle.std.specs.Prelude.{ℕ, suc, Bool, true, ◌&&◌, List, [], ◌∷◌, map, take, nat_eq}
+use Rattle.base_core.specs.Sets.{is_set}
+use Rattle.value_core.specs.Values.{Row, row_cmp}
+
+-- whether the positions are n, the one after it, and so on
+abbrev pub counts_from : ℕ → List ℕ → Bool
+counts_from n [] = true
+counts_from n (i ∷ is) = nat_eq i n && counts_from (suc n) is
+
+-- whether each row has less first values than the next one
+abbrev pub fronts_ascend : ℕ → List Row → Bool
+fronts_ascend count rows = is_set row_cmp (map (take count) rows)
