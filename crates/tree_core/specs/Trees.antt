@@ -6,7 +6,7 @@ use Rattle.std.specs.Prelude.{ℕ, List, map, Option}
 use Rattle.point_core.specs.declared.fault.Place.{Place}
 use Rattle.value_core.specs.Values.{Name, Heading}
 use Rattle.scalar_core.specs.declared.tree.Scalar.{Scalar}
-use Rattle.scalar_core.specs.Expressions.{Expr, read}
+use Rattle.scalar_core.specs.Expressions.{Expr, read, read_form as read_scalar}
 use Rattle.tree_core.specs.declared.tree.InfixWord.{InfixWord}
 use Rattle.tree_core.specs.declared.tree.AggregateForm.{AggregateForm}
 use Rattle.tree_core.specs.declared.tree.AggregateForm.TheVariants.{Count, Sum, Min, Max}

@@ -2,7 +2,7 @@
 #![tactic(auto)]
 
 mod conditions;
-mod expand;
+mod items;
 mod rows;
 
-pub use expand::expand;
+pub use items::expand;
