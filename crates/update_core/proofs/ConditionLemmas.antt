@@ -1,7 +1,7 @@
 -- The conditions of changes are typed, and sweepable for the attributes on which the change works point by point.
 use Rattle.std.specs.Prelude.{◌≡◌, ℕ, zero, suc, ◌<◌, Bool, true, false, not, ◌&&◌, ◌||◌, cond, List, [], ◌∷◌, ◌++◌, map, length, nat_eq, Option, Some, None, is_none, IsTrue, refl}
 use Rattle.std.specs.List.{list_any, All, fold}
-use Rattle.std.proofs.Common.{get_or, sym, ap, ap₂, ◌∙◌, subst, inl, inr, arith}
+use Rattle.std.proofs.Common.{get_or, slice_get, sym, ap, ap₂, ◌∙◌, subst, inl, inr, arith}
 use Rattle.std.proofs.lemmas.Bool.{and_parts, and_from}
 use Rattle.std.proofs.lemmas.List.Elements.{All-head, All-tail}
 use Rattle.std.proofs.lemmas.Option.{slice_get-get_or}
@@ -47,10 +47,10 @@ module _ (Q : Expr → Type 0) (place : Place) (heading : Heading) (both : (l r 
 pub any-heading : (heading : Heading) (e : Expr) (kind : Kind) → IsTyped [] e kind → IsTyped heading e kind
 any-heading heading (constant place k v) kind h = h
 any-heading heading (attribute place i) kind h = let e = h.1 in absurd (cc)
-any-heading heading (one op place e) kind h = (h.0, (any-heading heading e h.0 h.1.0, h.1.1))
-any-heading heading (pair op place l r) kind h = (h.0, (h.1.0, (any-heading heading l h.0 h.1.1.0, (any-heading heading r h.1.0 h.1.1.1.0, h.1.1.1.1))))
-any-heading heading (and_expr place l r) kind h = (any-heading heading l Truth h.0, (any-heading heading r Truth h.1.0, h.1.1))
-any-heading heading (or_expr place l r) kind h = (any-heading heading l Truth h.0, (any-heading heading r Truth h.1.0, h.1.1))
+any-heading heading (one op place e) kind h = (h.0, any-heading heading e h.0 h.1, h.2)
+any-heading heading (pair op place l r) kind h = (h.0, h.1, any-heading heading l h.0 h.2, any-heading heading r h.1 h.3, h.4)
+any-heading heading (and_expr place l r) kind h = (any-heading heading l Truth h.0, any-heading heading r Truth h.1, h.2)
+any-heading heading (or_expr place l r) kind h = (any-heading heading l Truth h.0, any-heading heading r Truth h.1, h.2)
 
 neither : (a b : Bool) → a ≡ false → b ≡ false → (a || b) ≡ false
 neither a b h k = rw (h, k) refl
@@ -58,10 +58,10 @@ neither a b h k = rw (h, k) refl
 pub names-no : (acl : List ℕ) (e : Expr) (kind : Kind) → IsTyped [] e kind → names_any acl e ≡ false
 names-no acl (constant place k v) kind h = refl
 names-no acl (attribute place i) kind h = let e = h.1 in absurd (cc)
-names-no acl (one op place e) kind h = names-no acl e h.0 h.1.0
-names-no acl (pair op place l r) kind h = neither (names_any acl l) (names_any acl r) (names-no acl l h.0 h.1.1.0) (names-no acl r h.1.0 h.1.1.1.0)
-names-no acl (and_expr place l r) kind h = neither (names_any acl l) (names_any acl r) (names-no acl l Truth h.0) (names-no acl r Truth h.1.0)
-names-no acl (or_expr place l r) kind h = neither (names_any acl l) (names_any acl r) (names-no acl l Truth h.0) (names-no acl r Truth h.1.0)
+names-no acl (one op place e) kind h = names-no acl e h.0 h.1
+names-no acl (pair op place l r) kind h = neither (names_any acl l) (names_any acl r) (names-no acl l h.0 h.2) (names-no acl r h.1 h.3)
+names-no acl (and_expr place l r) kind h = neither (names_any acl l) (names_any acl r) (names-no acl l Truth h.0) (names-no acl r Truth h.1)
+names-no acl (or_expr place l r) kind h = neither (names_any acl l) (names_any acl r) (names-no acl l Truth h.0) (names-no acl r Truth h.1)
 
 -- ---- typed conditions
 
@@ -70,10 +70,10 @@ module _ (sizes : List ℕ) (heading : Heading) (place : Place) where
   IsCondition c = IsScalar sizes heading c Truth
 
   both-typed : (l r : Expr) → IsCondition l → IsCondition r → IsCondition (and_expr place l r)
-  both-typed l r h k = record { declared = and_from (has_declared sizes l) (has_declared sizes r) h.declared k.declared; typed = (h.typed, (k.typed, refl)) }
+  both-typed l r h k = record { declared = and_from (has_declared sizes l) (has_declared sizes r) h.declared k.declared; typed = (h.typed, k.typed, refl) }
 
   pub negated-typed : (c : Expr) → IsCondition c → IsCondition (negated place c)
-  negated-typed c h = record { declared = h.declared; typed = (Truth, (h.typed, (refl, refl))) }
+  negated-typed c h = record { declared = h.declared; typed = (Truth, h.typed, (refl, refl)) }
 
   pub condition-typed : (o : Option Expr) → IsConditionIf sizes heading o → IsCondition (condition_of place o)
   condition-typed None h = record { declared = refl; typed = (refl, refl) }
@@ -93,13 +93,13 @@ module _ (sizes : List ℕ) (heading : Heading) (place : Place) where
       let read : slice_get heading p.0 ≡ Some (a.0, Span t) = slice_get-get_or heading p.0 no_attribute l ∙ ap (λ (k : Kind). Some (a.0, k)) is in
       record {
         declared = h.1.declared;
-        typed = (Span t, (Span t, ((a.0, read), (subst (λ (k : Kind). IsTyped heading p.1 k) is (any-heading heading p.1 (kind_at heading p.0) h.1.typed), (refl, (refl, refl))))));
+        typed = (Span t, Span t, (a.0, read), subst (λ (k : Kind). IsTyped heading p.1 k) is (any-heading heading p.1 (kind_at heading p.0) h.1.typed), (refl, refl, refl));
       }
 
   inside-typed : (ps : PlainPortion) (c : Expr) → All (λ (i : ℕ). i < length heading) (attributes_of_portion ps) → All (IsPart sizes heading) ps → IsCondition c → IsCondition (inside place heading ps c)
   inside-typed ps c within parts h =
       inside-by IsCondition place heading both-typed ps c
-      (λ p i. part-typed p (all-in (λ (j : ℕ). j < length heading) (attributes_of_portion ps) p.0 within ((In-map (λ (q : ℕ × Expr). q.0) p.0 ps).1 (p, (i, refl)))) (all-in (IsPart sizes heading) ps p parts i)) h
+      (λ p i. part-typed p (all-in (λ (j : ℕ). j < length heading) (attributes_of_portion ps) p.0 within ((In-map (λ (q : ℕ × Expr). q.0) p.0 ps).1 (p, i, refl))) (all-in (IsPart sizes heading) ps p parts i)) h
 
   pub change-typed : (acl : Option (List ℕ)) (portion : Option PlainPortion) (c : Expr) → IsPortionIf sizes heading acl portion → IsCondition c → IsCondition (inside_if place heading portion c)
   change-typed acl None c is h = h
@@ -135,8 +135,8 @@ module _ (acl : List ℕ) (place : Place) where
   pub part-swept : (heading : Heading) (p : ℕ × Expr) → among acl p.0 ≡ true → names_any acl p.1 ≡ false → IsSwept (lies_in place heading p)
   part-swept heading p at names = rw (at, names) refl
 
-member-among : (acl : List ℕ) (i : ℕ) → In i acl → among acl i ≡ true
-member-among acl i h = (list_any-In (nat_eq i) acl).1 (i, (h, nat_eq_equiv.refl i))
+pub member-among : (acl : List ℕ) (i : ℕ) → In i acl → among acl i ≡ true
+member-among acl i h = (list_any-In (nat_eq i) acl).1 (i, h, nat_eq_equiv.refl i)
 
 abbrev pub IsSweptIf : Option (List ℕ) → Expr → Type 0
 IsSweptIf None c = Unit {0}
@@ -156,7 +156,7 @@ inside-swept : (sizes : List ℕ) (heading : Heading) (place : Place) (ps : Plai
 inside-swept sizes heading place ps c parts h =
     let acl = attributes_of_portion ps in
     inside-by (IsSwept acl place) place heading (both-swept acl place) ps c
-    (λ p i. part-swept acl place heading p (member-among acl p.0 ((In-map (λ (q : ℕ × Expr). q.0) p.0 ps).1 (p, (i, refl))))
+    (λ p i. part-swept acl place heading p (member-among acl p.0 ((In-map (λ (q : ℕ × Expr). q.0) p.0 ps).1 (p, i, refl)))
     (names-no acl p.1 (kind_at heading p.0) ((all-in (IsPart sizes heading) ps p parts i).1.typed))) h
 
 pub change-swept : (sizes : List ℕ) (heading : Heading) (place : Place) (acl : Option (List ℕ)) (portion : Option PlainPortion) (c : Expr) → IsPortionIf sizes heading acl portion

@@ -41,7 +41,7 @@ base-heading es name h is e = heading-named es name ∙ some-heading (relvar_nam
 
 -- and this is a declared one
 pub base-declared : (sizes : List ℕ) (before es : Entries) (name : Name) → AreRelvars sizes before es → IsBase (relvar_named es name) → IsTrue (is_declared sizes (heading_if (relvar_named es name)))
-base-declared sizes before [] name are is = absurd is
+base-declared sizes before [] name are = λ is. absurd is
 base-declared sizes before ((own, base value constraints) ∷ rest) name are =
     elim (bytes_eq own name) as (λ b. IsBase (cond b (Some (base value constraints)) (relvar_named rest name)) → IsTrue (is_declared sizes (heading_if (cond b (Some (base value constraints)) (relvar_named rest name))))) [
       | true ↦ λ is. are.0.0
@@ -65,7 +65,7 @@ next-first : (r : Name × PlainRelvar) (rest : Entries) (name : Name) → bytes_
 next-first r rest name e f = record { at = suc f.at; relvar = f.relvar; within = (let l = f.within in omega (arith, l)); first = (e, f.first); is_base = f.is_base }
 
 base-first : (es : Entries) (name : Name) → IsBase (relvar_named es name) → First es name
-base-first [] name is = absurd is
+base-first [] name = λ is. absurd is
 base-first (r ∷ rest) name =
     (elim (bytes_eq r.0 name) as (λ b. bytes_eq r.0 name ≡ b → IsBase (cond b (Some r.1) (relvar_named rest name)) → First (r ∷ rest) name) [
       | true ↦ λ e is. record { at = 0; relvar = r.1; within = omega arith; first = (e, refl); is_base = is }

@@ -5,4 +5,4 @@ use Rattle.update_core.specs.Updates.{all_of, lies_in}
 use Rattle.update_core.proofs.conditions.all_of.Given as goal
 
 abbrev pub invariant-loop-part : goal.invariant-loop-part
-invariant-loop-part l = read l.all ≡ all_of l.place (read l.args.first) (map (lies_in l.place l.heading) (read_portion (take l.part-index l.rest)))
+invariant-loop-part l = read l.all ≡ all_of l.place (read l.fn.first) (map (lies_in l.place l.heading) (read_portion (take l.part-index l.rest)))
