@@ -1,8 +1,8 @@
 -- The conditions of changes are typed, and sweepable for the attributes on which the change works point by point.
-use Rattle.std.specs.Prelude.{◌≡◌, ℕ, zero, suc, ◌<◌, Bool, true, false, not, ◌&&◌, ◌||◌, cond, List, [], ◌∷◌, ◌++◌, map, length, nat_eq, Option, Some, None, is_none, IsTrue, refl}
-use Rattle.std.specs.List.{list_any, All, fold}
-use Rattle.std.proofs.Common.{get_or, slice_get, sym, ap, ap₂, ◌∙◌, subst, inl, inr, arith}
-use Rattle.std.proofs.lemmas.Bool.{and_parts, and_from}
+use Rattle.std.specs.Prelude.{◌≡◌, ℕ, ◌<◌, Bool, true, false, ◌||◌, List, [], ◌∷◌, map, length, nat_eq, Option, Some, None, is_none, IsTrue, refl}
+use Rattle.std.specs.List.{All, fold}
+use Rattle.std.proofs.Common.{get_or, slice_get, sym, ap, ◌∙◌, subst, inl, inr}
+use Rattle.std.proofs.lemmas.Bool.{and_from}
 use Rattle.std.proofs.lemmas.List.Elements.{All-head, All-tail}
 use Rattle.std.proofs.lemmas.Option.{slice_get-get_or}
 use Rattle.std.specs.Cmp.{nat_eq_equiv}
@@ -11,16 +11,16 @@ use Rattle.base_core.proofs.SetLemmas.{In}
 use Rattle.point_core.specs.declared.fault.Place.{Place}
 use Rattle.value_core.specs.declared.kind.Kind.{Kind}
 use Rattle.value_core.specs.declared.kind.Kind.TheVariants.{Truth, Char, Point, Span}
-use Rattle.value_core.specs.Values.{Name, Heading}
+use Rattle.value_core.specs.Values.{Heading}
 use Rattle.scalar_core.specs.Expressions.{Expr, constant, attribute, one, pair, and_expr, or_expr}
 use Rattle.scalar_core.specs.Kinds.{IsTyped}
 use Rattle.relation_core.specs.Parts.{no_attribute}
-use Rattle.tree_core.specs.Items.{PlainPortion, PlainChange}
+use Rattle.tree_core.specs.Items.{PlainPortion}
 use Rattle.algebra_core.specs.Histories.{type_of_kind, type_at}
-use Rattle.algebra_core.specs.Sweeping.{among, names_any, unswept, first_place, sweep_fault}
-use Rattle.algebra_core.specs.Typing.{IsScalar, IsList, IsListIf, is_span, is_swept, kind_at, has_declared}
-use Rattle.algebra_core.specs.Updates.{swept_list, attributes_of_portion, IsPart, IsPortionIf, IsConditionIf, is_swept_if, condition_is_swept, IsChange}
-use Rattle.update_core.specs.Updates.{condition_of, negated, lies_in, all_and, inside, inside_if}
+use Rattle.algebra_core.specs.Sweeping.{among, names_any, unswept, first_place}
+use Rattle.algebra_core.specs.Typing.{IsScalar, IsListIf, is_span, is_swept, kind_at, has_declared}
+use Rattle.algebra_core.specs.Updates.{swept_list, attributes_of_portion, IsPart, IsPortionIf, IsConditionIf, condition_is_swept}
+use Rattle.update_core.specs.Updates.{condition_of, negated, lies_in, inside, inside_if}
 
 -- ---- what holds of all
 

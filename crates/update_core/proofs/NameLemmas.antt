@@ -1,17 +1,15 @@
 -- What a name of a base relvar stands for in a well made state, and where the names of a heading stand.
-use Rattle.std.specs.Prelude.{◌≡◌, ℕ, zero, suc, ◌<◌, Bool, true, false, ◌&&◌, ◌||◌, cond, List, [], ◌∷◌, ◌++◌, length, Option, Some, None, IsTrue, refl, if◌then◌else◌, option_map, take}
-use Rattle.std.proofs.Common.{get_or, sym, ap, ◌∙◌, subst, arith}
+use Rattle.std.specs.Prelude.{◌≡◌, ℕ, zero, suc, ◌<◌, Bool, true, false, ◌||◌, cond, List, [], ◌∷◌, ◌++◌, length, Option, Some, None, IsTrue, refl, option_map, take}
+use Rattle.std.proofs.Common.{sym, ap, ◌∙◌, arith}
 use Rattle.std.specs.Cmp.Lexicographic.{texts_ties, nat_list_eq_equiv}
 use Rattle.std.specs.Ordering.{is_eq}
 use Rattle.std.specs.Str.{bytes_eq}
 use Rattle.std.proofs.Math.Seq.{take-length}
-use Rattle.std.proofs.lemmas.Bool.{and_parts}
 use Rattle.base_core.proofs.SetLemmas.{AllAfter, Ascends}
 use Rattle.value_core.specs.Headings.{has_name}
-use Rattle.value_core.specs.Values.{Name, Heading, is_heading, attribute_cmp}
+use Rattle.value_core.specs.Values.{Name, Heading, attribute_cmp}
 use Rattle.value_core.specs.declared.kind.Kind.{Kind}
 use Rattle.relation_core.specs.Agreement.{position_of}
-use Rattle.relation_core.specs.Parts.{no_attribute}
 use Rattle.tree_core.specs.Relvars.{PlainRelvar, base, view, Entries, relvar_named, relvar_heading, heading_if}
 use Rattle.algebra_core.specs.Histories.{name_at}
 use Rattle.algebra_core.specs.Names.{found, each_in}

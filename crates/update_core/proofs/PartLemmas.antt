@@ -1,5 +1,5 @@
 -- The nodes of updates are parts that USING takes.
-use Rattle.std.specs.Prelude.{◌≡◌, ℕ, ◌<◌, Bool, true, false, not, ◌&&◌, List, [], ◌∷◌, map, length, nat_eq, IsTrue, refl}
+use Rattle.std.specs.Prelude.{◌≡◌, ℕ, ◌<◌, true, false, not, ◌&&◌, List, [], ◌∷◌, length, nat_eq, IsTrue, refl}
 use Rattle.std.specs.List.{list_all, list_any}
 use Rattle.std.proofs.Common.{sym, ap, ap₂, ◌∙◌, inl, inr}
 use Rattle.std.proofs.lemmas.Bool.{and_parts, and_from, true≢false, false_from_ne_true, not-true, not_from_false}
@@ -24,7 +24,6 @@ use Rattle.algebra_core.specs.Histories.{name_at}
 use Rattle.algebra_core.specs.Meanings.{positions_of, names_at}
 use Rattle.algebra_core.specs.Sweeping.{among}
 use Rattle.algebra_core.specs.Typing.{kind_at, is_alike_at, are_in, is_swept, is_part}
-use Rattle.algebra_core.specs.Updates.{are_swept_sets}
 use Rattle.update_core.proofs.ConditionLemmas.{IsSwept, swept-to, member-among}
 use Rattle.update_core.proofs.NameLemmas.{position-own, has-own}
 

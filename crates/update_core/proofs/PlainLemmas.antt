@@ -1,5 +1,5 @@
 -- Items without USING and PORTION, of plain expressions, stand for plain expressions.
-use Rattle.std.specs.Prelude.{◌≡◌, ℕ, Bool, true, ◌&&◌, List, [], ◌∷◌, Option, Some, None, is_none, IsTrue, refl}
+use Rattle.std.specs.Prelude.{◌≡◌, ℕ, true, List, [], Option, Some, None, is_none, IsTrue, refl}
 use Rattle.std.specs.List.{All}
 use Rattle.std.proofs.Common.{ap, ◌∙◌}
 use Rattle.std.proofs.lemmas.Bool.{and_from}

@@ -1,17 +1,17 @@
 -- The assignments of an item that is typed for a well made state are typed for it.
-use Rattle.std.specs.Prelude.{◌≡◌, ℕ, ◌<◌, ◌&&◌, List, [], ◌∷◌, length, Option, Some, None, IsTrue, refl}
+use Rattle.std.specs.Prelude.{◌≡◌, ℕ, ◌<◌, List, [], length, Option, Some, None, IsTrue, refl}
 use Rattle.std.specs.List.{list_all, All}
-use Rattle.std.proofs.Common.{sym, ap, ◌∙◌, subst}
+use Rattle.std.proofs.Common.{sym, ◌∙◌, subst}
 use Rattle.std.proofs.lemmas.Bool.{and_parts}
 use Rattle.std.proofs.lemmas.List.Elements.{All-cons, All-nil}
-use Rattle.base_core.proofs.SetLemmas.{In, Ascends}
-use Rattle.value_core.specs.Values.{Name, Heading, is_heading, attribute_cmp}
+use Rattle.base_core.proofs.SetLemmas.{Ascends}
+use Rattle.value_core.specs.Values.{Heading, is_heading, attribute_cmp}
 use Rattle.scalar_core.specs.Expressions.{Expr}
 use Rattle.relation_core.proofs.HeadingLemmas.{heading_ascends}
 use Rattle.tree_core.specs.declared.tree.InfixWord.{InfixWord}
 use Rattle.tree_core.specs.declared.tree.InfixWord.TheVariants.{Union, Minus}
 use Rattle.tree_core.specs.Items.{PlainChange, PlainItemForm, set_to, insert, delete, delete_rows, update, terminate, PlainItem}
-use Rattle.tree_core.specs.Relvars.{State, relvar_named, heading_if}
+use Rattle.tree_core.specs.Relvars.{State}
 use Rattle.tree_core.specs.Trees.{PlainSets, Tree, infix_of, restrict, extend, heading_of}
 use Rattle.algebra_core.specs.Meanings.{names_at}
 use Rattle.algebra_core.specs.Typing.{IsList, IsListIf, IsInfix, IsExtension, is_kind, is_declared, is_part}

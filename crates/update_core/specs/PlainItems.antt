@@ -1,5 +1,5 @@
 -- Items that work on rows as they are: without USING and PORTION, and of an expression that does without too.
-use Rattle.std.specs.Prelude.{Option, Some, None, is_none, IsTrue}
+use Rattle.std.specs.Prelude.{is_none, IsTrue}
 use Rattle.tree_core.specs.Items.{PlainChange, PlainItemForm, set_to, insert, delete, delete_rows, update, terminate}
 use Rattle.tree_core.specs.Relvars.{Entries}
 use Rattle.algebra_core.specs.Plainness.{IsPlain, no_list}
