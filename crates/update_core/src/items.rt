@@ -1,5 +1,5 @@
 // Items as assignments.
-ghost use Rattle.std.specs.Prelude.{◌≡◌, IfOk, map, Some};
+ghost use Rattle.std.specs.Prelude.{◌≡◌, [], ◌∷◌, IfOk, map, Some};
 ghost use Rattle.tree_core.specs.Trees.{read_tree, read_sets};
 ghost use Rattle.tree_core.specs.Items.{read_item, read_item_form, read_change, read_portion, read_assignment, delete_rows, update};
 ghost use Rattle.algebra_core.specs.Updates.{attributes_of_portion};
@@ -17,11 +17,20 @@ pub fn expand(alloc: Global, item: &Item) -> Result<Vec<Assignment>, Memory>
     requires { IsExpandable (read_item item.now).form }
     ensures { IfOk result (λ v. map read_assignment v.items ≡ expanded (read_item item.now)) }
 {
-    let tree = source(alloc, item)?;
-    let target = item.target.copy(alloc)?;
+    let one = assignment(alloc, item)?;
     let mut list = Vec::with_capacity(alloc, 1)?;
-    list.push(Assignment { target, tree })?;
+    list.push(one)?;
     Ok(list)
+}
+
+/// The one assignment.
+fn assignment(alloc: Global, item: &Item) -> Result<Assignment, Memory>
+    requires { IsExpandable (read_item item.now).form }
+    ensures { IfOk result (λ a. expanded (read_item item.now) ≡ read_assignment a ∷ []) }
+{
+    let target = item.target.copy(alloc)?;
+    let tree = source(alloc, item)?;
+    Ok(Assignment { target, tree })
 }
 
 /// The expression that the target gets.

@@ -1,7 +1,7 @@
 // The rows that a target has, loses and gets.
 ghost use Rattle.std.specs.Prelude.{◌≡◌, IfOk};
 ghost use Rattle.scalar_core.specs.Expressions.{read};
-ghost use Rattle.tree_core.specs.Trees.{read_tree, read_sets, infix_of, restrict, extend, using as tree_using};
+ghost use Rattle.tree_core.specs.Trees.{read_tree, read_form, read_sets, infix_of, restrict, extend, using as tree_using};
 ghost use Rattle.tree_core.specs.Items.{read_item};
 ghost use Rattle.update_core.specs.Updates.{target_of, under_using, with_operand, rows_where, other_rows, changed_rows, updated};
 
@@ -12,17 +12,24 @@ use std::alloc::Global;
 use tree_core::{InfixWord, Item, RelForm, RelTree, Sets, copy_sets};
 use value_core::Positions;
 
+/// The node of a form, at the item's place and with its heading.
+fn node(alloc: Global, item: &Item, form: RelForm) -> Result<RelTree, Memory>
+    ensures { IfOk result (λ t. read_tree t ≡ read_form item.now.place item.now.heading form) }
+{
+    let heading = item.heading.copy(alloc)?;
+    Ok(RelTree {
+        place: item.place,
+        heading,
+        form,
+    })
+}
+
 /// The target.
 fn target(alloc: Global, item: &Item) -> Result<RelTree, Memory>
     ensures { IfOk result (λ t. read_tree t ≡ target_of (read_item item.now)) }
 {
-    let heading = item.heading.copy(alloc)?;
     let name = item.target.copy(alloc)?;
-    Ok(RelTree {
-        place: item.place,
-        heading,
-        form: RelForm::Named(name),
-    })
+    Ok(node(alloc, item, RelForm::Named(name))?)
 }
 
 /// The expression, under USING where a list is given.
@@ -44,14 +51,9 @@ fn under_using(
 fn using(alloc: Global, item: &Item, acl: &Positions, t: RelTree) -> Result<RelTree, Memory>
     ensures { IfOk result (λ r. read_tree r ≡ tree_using item.now.place item.now.heading acl.now (read_tree t)) }
 {
-    let heading = item.heading.copy(alloc)?;
-    let acl = acl.copy(alloc)?;
     let part = Box::new(alloc, t)?;
-    Ok(RelTree {
-        place: item.place,
-        heading,
-        form: RelForm::Using(acl, part),
-    })
+    let acl = acl.copy(alloc)?;
+    Ok(node(alloc, item, RelForm::Using(acl, part))?)
 }
 
 /// Two expressions joined by a word.
@@ -64,41 +66,26 @@ fn infix(
 ) -> Result<RelTree, Memory>
     ensures { IfOk result (λ t. read_tree t ≡ infix_of item.now.place item.now.heading word (read_tree l) (read_tree r)) }
 {
-    let heading = item.heading.copy(alloc)?;
     let left = Box::new(alloc, l)?;
     let right = Box::new(alloc, r)?;
-    Ok(RelTree {
-        place: item.place,
-        heading,
-        form: RelForm::Infix(word, left, right),
-    })
+    Ok(node(alloc, item, RelForm::Infix(word, left, right))?)
 }
 
 /// The rows that meet the condition.
 fn restrict(alloc: Global, item: &Item, c: Scalar, t: RelTree) -> Result<RelTree, Memory>
     ensures { IfOk result (λ r. read_tree r ≡ restrict item.now.place item.now.heading (read c) (read_tree t)) }
 {
-    let heading = item.heading.copy(alloc)?;
     let part = Box::new(alloc, t)?;
-    Ok(RelTree {
-        place: item.place,
-        heading,
-        form: RelForm::Restrict(c, part),
-    })
+    Ok(node(alloc, item, RelForm::Restrict(c, part))?)
 }
 
 /// The rows with new values.
 fn extend(alloc: Global, item: &Item, sets: &Sets, t: RelTree) -> Result<RelTree, Memory>
     ensures { IfOk result (λ r. read_tree r ≡ extend item.now.place item.now.heading (read_sets sets.now) (read_tree t)) }
 {
-    let heading = item.heading.copy(alloc)?;
-    let sets = copy_sets(alloc, sets)?;
     let part = Box::new(alloc, t)?;
-    Ok(RelTree {
-        place: item.place,
-        heading,
-        form: RelForm::Extend(sets, part),
-    })
+    let sets = copy_sets(alloc, sets)?;
+    Ok(node(alloc, item, RelForm::Extend(sets, part))?)
 }
 
 /// The target and an operand, joined by a word.
