@@ -17,10 +17,19 @@ use Rattle.algebra_core.specs.Meanings.{names_at}
 use Rattle.algebra_core.specs.Typing.{IsList, IsListIf, IsInfix, IsExtension, is_kind, is_declared, is_part}
 use Rattle.algebra_core.specs.Updates.{are_swept_sets, IsChange, IsTypedForm, IsTypedItem, IsTypedAssignment}
 use Rattle.algebra_core.specs.WellMade.{IsWellMade, IsTypedFor, sizes_of}
-use Rattle.update_core.specs.Updates.{negated, target_of, under_using, with_operand, rows_where, other_rows, changed_rows, updated, condition_of, condition_of_change, list_of_change, source_of, assigned_to, expanded}
+use Rattle.update_core.specs.Updates.{negated, target_of, under_using, with_operand, rows_where, other_rows, changed_rows, updated, condition_of, condition_of_change, list_of_change, source_of, assigned_to, expanded, IsExpandable}
 use Rattle.update_core.proofs.ConditionLemmas.{all-in, IsCondition, negated-typed, condition-typed, change-typed, change-list, IsSweptIf, condition-swept, negated-swept, change-swept}
 use Rattle.update_core.proofs.NameLemmas.{base-heading, base-declared}
 use Rattle.update_core.proofs.PartLemmas.{AreWithin, infix-part, restrict-part, extend-part}
+
+-- a typed item is no TERMINATE
+pub form-expandable : (s : State) (heading : Heading) (form : PlainItemForm) → IsTypedForm s heading form → IsExpandable form
+form-expandable s heading (set_to t) h = tt
+form-expandable s heading (insert acl t) h = tt
+form-expandable s heading (delete acl t) h = tt
+form-expandable s heading (delete_rows change) h = tt
+form-expandable s heading (update change sets) h = tt
+form-expandable s heading (terminate at place condition) h = absurd h
 
 module _ (s : State) (item : PlainItem) (made : IsWellMade s) (is : IsTypedItem s item) where
   -- typed, and of the target's heading
