@@ -1,0 +1,5 @@
+pub mod NameLemmas
+pub mod ConditionLemmas
+pub mod PartLemmas
+pub mod TypedLemmas
+pub mod PlainLemmas

@@ -1,0 +1,95 @@
+-- The nodes of updates are parts that USING takes.
+use Rattle.std.specs.Prelude.{◌≡◌, ℕ, ◌<◌, true, false, not, ◌&&◌, List, [], ◌∷◌, length, nat_eq, IsTrue, refl}
+use Rattle.std.specs.List.{list_all, list_any}
+use Rattle.std.proofs.Common.{sym, ap, ap₂, ◌∙◌, inl, inr}
+use Rattle.std.proofs.lemmas.Bool.{and_parts, and_from, true≢false, false_from_ne_true, not-true, not_from_false}
+use Rattle.std.specs.Cmp.{nat_eq_equiv}
+use Rattle.std.specs.Str.{bytes_eq}
+use Rattle.base_core.proofs.MemberLemmas.{In-map, list_any-In}
+use Rattle.base_core.proofs.SetLemmas.{In, Ascends}
+use Rattle.point_core.specs.declared.any_type.AnyType.{AnyType}
+use Rattle.point_core.specs.declared.any_type.AnyType.TheVariants.{Integer, Date, Ordinal}
+use Rattle.point_core.specs.declared.fault.Place.{Place}
+use Rattle.value_core.specs.Headings.{has_name}
+use Rattle.value_core.specs.declared.kind.Kind.{Kind}
+use Rattle.value_core.specs.declared.kind.Kind.TheVariants.{Truth, Char, Point, Span}
+use Rattle.value_core.specs.Values.{Name, Heading, attribute_cmp}
+use Rattle.scalar_core.specs.Expressions.{Expr}
+use Rattle.scalar_core.specs.KindOf.{same_type, same_kind}
+use Rattle.relation_core.specs.Agreement.{position_of}
+use Rattle.relation_core.proofs.AttributeLemmas.{name_is}
+use Rattle.tree_core.specs.declared.tree.InfixWord.{InfixWord}
+use Rattle.tree_core.specs.Trees.{PlainSets, Tree, infix_of, restrict, extend, heading_of}
+use Rattle.algebra_core.specs.Histories.{name_at}
+use Rattle.algebra_core.specs.Meanings.{positions_of, names_at}
+use Rattle.algebra_core.specs.Sweeping.{among}
+use Rattle.algebra_core.specs.Typing.{kind_at, is_alike_at, are_in, is_swept, is_part}
+use Rattle.update_core.proofs.ConditionLemmas.{IsSwept, swept-to, member-among}
+use Rattle.update_core.proofs.NameLemmas.{position-own, has-own}
+
+type-own : (t : AnyType) → same_type t t ≡ true
+type-own Integer = refl
+type-own Date = refl
+type-own (Ordinal of last) = and_from (nat_eq of of) (nat_eq last last) (nat_eq_equiv.refl of) (nat_eq_equiv.refl last)
+
+kind-own : (k : Kind) → same_kind k k ≡ true
+kind-own Truth = refl
+kind-own Char = refl
+kind-own (Point t) = type-own t
+kind-own (Span t) = type-own t
+
+alike-own : (h : Heading) (i : ℕ) → i < length h → is_alike_at h h (name_at h i) ≡ true
+alike-own h i l =
+    let name = name_at h i in
+    let same = same_kind (kind_at h (position_of h name)) (kind_at h (position_of h name)) in
+    and_from (has_name h name) (has_name h name && same) (has-own h i l) (and_from (has_name h name) same (has-own h i l) (kind-own (kind_at h (position_of h name))))
+
+abbrev pub AreWithin : Heading → List ℕ → Type 0
+AreWithin h acl = (i : ℕ) → In i acl → i < length h
+
+in-own : (h : Heading) (acl : List ℕ) → AreWithin h acl → are_in h (names_at h acl) h ≡ true
+in-own h [] within = refl
+in-own h (i ∷ is) within =
+    and_from (is_alike_at h h (name_at h i)) (are_in h (names_at h is) h) (alike-own h i (within i (inl refl))) (in-own h is (λ j k. within j (inr k)))
+
+positions-own : (h : Heading) (acl : List ℕ) → Ascends attribute_cmp h → AreWithin h acl → positions_of h (names_at h acl) ≡ acl
+positions-own h [] up within = refl
+positions-own h (i ∷ is) up within =
+    ap₂ (λ (j : ℕ) (js : List ℕ). j ∷ js) (position-own h i up (within i (inl refl))) (positions-own h is up (λ j k. within j (inr k)))
+
+module _ (h : Heading) (acl : List ℕ) (up : Ascends attribute_cmp h) (within : AreWithin h acl) (place : Place) where
+  are-in : (t : Tree) → heading_of t ≡ h → are_in h (names_at h acl) (heading_of t) ≡ true
+  are-in t e = ap (λ (g : Heading). are_in h (names_at h acl) g) e ∙ in-own h acl within
+
+  positions-in : (t : Tree) → heading_of t ≡ h → positions_of (heading_of t) (names_at h acl) ≡ acl
+  positions-in t e = ap (λ (g : Heading). positions_of g (names_at h acl)) e ∙ positions-own h acl up within
+
+  pub infix-part : (word : InfixWord) (l r : Tree) → heading_of l ≡ h → heading_of r ≡ h → IsTrue (is_part (names_at h acl) (infix_of place h word l r))
+  infix-part word l r e f = and_from (are_in h (names_at h acl) (heading_of l)) (are_in h (names_at h acl) (heading_of r)) (are-in l e) (are-in r f)
+
+  pub restrict-part : (c : Expr) (t : Tree) → heading_of t ≡ h → IsSwept acl place c → IsTrue (is_part (names_at h acl) (restrict place h c t))
+  restrict-part c t e swept = ap (λ (ps : List ℕ). is_swept ps c) (positions-in t e) ∙ swept-to acl place c swept
+
+  -- no item of the list's names
+  none-assigned : (sets : PlainSets) → list_any (λ s. among acl (position_of h s.0)) sets ≡ false
+      → list_any (λ n. list_any (λ (s : Name × Expr). bytes_eq n s.0) sets) (names_at h acl) ≡ false
+  none-assigned sets none =
+      false_from_ne_true (list_any (λ n. list_any (λ (s : Name × Expr). bytes_eq n s.0) sets) (names_at h acl)) (λ e.
+      let n = (list_any-In (λ n. list_any (λ (s : Name × Expr). bytes_eq n s.0) sets) (names_at h acl)).0 e in
+      let s = (list_any-In (λ (s : Name × Expr). bytes_eq n.0 s.0) sets).0 n.2 in
+      let k = (In-map (name_at h) n.0 acl).0 n.1 in
+      let same : n.0 ≡ s.0.0 = name_is n.0 s.0.0 s.2 in
+      let at : position_of h s.0.0 ≡ k.0 = ap (position_of h) (sym same ∙ k.2) ∙ position-own h k.0 up (within k.0 k.1) in
+      let hit : among acl (position_of h s.0.0) ≡ true = ap (among acl) at ∙ member-among acl k.0 k.1 in
+      let any = (list_any-In (λ (s : Name × Expr). among acl (position_of h s.0)) sets).1 (s.0, s.1, hit) in
+      true≢false (sym any ∙ none))
+
+  pub extend-part : (sets : PlainSets) (t : Tree) → heading_of t ≡ h → IsTrue (list_all (λ s. is_swept acl s.1) sets && not (list_any (λ s. among acl (position_of h s.0)) sets))
+      → IsTrue (is_part (names_at h acl) (extend place h sets t))
+  extend-part sets t e swept =
+      let parts = and_parts (list_all (λ s. is_swept acl s.1) sets) (not (list_any (λ s. among acl (position_of h s.0)) sets)) swept in
+      let there : list_all (λ (s : Name × Expr). is_swept (positions_of (heading_of t) (names_at h acl)) s.1) sets ≡ true = ap (λ (ps : List ℕ). list_all (λ (s : Name × Expr). is_swept ps s.1) sets) (positions-in t e) ∙ parts.0 in
+      let none = none-assigned sets (not-true (list_any (λ s. among acl (position_of h s.0)) sets) parts.1) in
+      let assigned = list_any (λ n. list_any (λ (s : Name × Expr). bytes_eq n s.0) sets) (names_at h acl) in
+      let swept_there = list_all (λ (s : Name × Expr). is_swept (positions_of (heading_of t) (names_at h acl)) s.1) sets in
+      and_from (are_in h (names_at h acl) (heading_of t)) (swept_there && not assigned) (are-in t e) (and_from swept_there (not assigned) there (not_from_false assigned none))

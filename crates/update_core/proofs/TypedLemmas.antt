@@ -1,0 +1,137 @@
+-- The assignments of an item that is typed for a well made state are typed for it.
+use Rattle.std.specs.Prelude.{◌≡◌, ℕ, ◌<◌, List, [], length, Option, Some, None, IsTrue, refl}
+use Rattle.std.specs.List.{list_all, All}
+use Rattle.std.proofs.Common.{sym, ◌∙◌, subst}
+use Rattle.std.proofs.lemmas.Bool.{and_parts}
+use Rattle.std.proofs.lemmas.List.Elements.{All-cons, All-nil}
+use Rattle.base_core.proofs.SetLemmas.{Ascends}
+use Rattle.value_core.specs.Values.{Heading, is_heading, attribute_cmp}
+use Rattle.scalar_core.specs.Expressions.{Expr}
+use Rattle.relation_core.proofs.HeadingLemmas.{heading_ascends}
+use Rattle.tree_core.specs.declared.tree.InfixWord.{InfixWord}
+use Rattle.tree_core.specs.declared.tree.InfixWord.TheVariants.{Union, Minus}
+use Rattle.tree_core.specs.Items.{PlainChange, PlainItemForm, set_to, insert, delete, delete_rows, update, terminate, PlainItem}
+use Rattle.tree_core.specs.Relvars.{State}
+use Rattle.tree_core.specs.Trees.{PlainSets, Tree, infix_of, restrict, extend, heading_of}
+use Rattle.algebra_core.specs.Meanings.{names_at}
+use Rattle.algebra_core.specs.Typing.{IsList, IsListIf, IsInfix, IsExtension, is_kind, is_declared, is_part}
+use Rattle.algebra_core.specs.Updates.{are_swept_sets, IsChange, IsTypedForm, IsTypedItem, IsTypedAssignment}
+use Rattle.algebra_core.specs.WellMade.{IsWellMade, IsTypedFor, sizes_of}
+use Rattle.update_core.specs.Updates.{negated, target_of, under_using, with_operand, rows_where, other_rows, changed_rows, updated, condition_of, condition_of_change, list_of_change, source_of, assigned_to, expanded, IsExpandable}
+use Rattle.update_core.proofs.ConditionLemmas.{all-in, IsCondition, negated-typed, condition-typed, change-typed, change-list, IsSweptIf, condition-swept, negated-swept, change-swept}
+use Rattle.update_core.proofs.NameLemmas.{base-heading, base-declared}
+use Rattle.update_core.proofs.PartLemmas.{AreWithin, infix-part, restrict-part, extend-part}
+
+-- a typed item is no TERMINATE
+pub form-expandable : (s : State) (heading : Heading) (form : PlainItemForm) → IsTypedForm s heading form → IsExpandable form
+form-expandable s heading (set_to t) h = tt
+form-expandable s heading (insert acl t) h = tt
+form-expandable s heading (delete acl t) h = tt
+form-expandable s heading (delete_rows change) h = tt
+form-expandable s heading (update change sets) h = tt
+form-expandable s heading (terminate at place condition) h = absurd h
+
+module _ (s : State) (item : PlainItem) (made : IsWellMade s) (is : IsTypedItem s item) where
+  -- typed, and of the target's heading
+  abbrev IsSource : Tree → Type 0
+  IsSource t = IsTypedFor s t × (heading_of t ≡ item.heading)
+
+  up : Ascends attribute_cmp item.heading
+  up =
+      let declared = subst (λ (h : Heading). IsTrue (is_declared (sizes_of s.ordinals) h)) (sym is.headed) (base-declared (sizes_of s.ordinals) [] s.relvars item.target made.relvars is.base) in
+      heading_ascends item.heading ((and_parts (is_heading item.heading) (list_all (λ a. is_kind (sizes_of s.ordinals) a.1) item.heading) declared).0)
+
+  within : (acl : List ℕ) → IsList item.heading acl → AreWithin item.heading acl
+  within acl l i k = all-in (λ (j : ℕ). j < length item.heading) acl i l.within k
+
+  target-source : IsSource (target_of item)
+  target-source = (base-heading s.relvars item.target item.heading is.base is.headed, refl)
+
+  -- ---- under USING
+
+  abbrev IsPartIf : Option (List ℕ) → Tree → Type 0
+  IsPartIf None t = Unit {0}
+  IsPartIf (Some acl) t = IsTrue (is_part (names_at item.heading acl) t)
+
+  under-source : (acl : Option (List ℕ)) (t : Tree) → IsListIf item.heading acl → IsPartIf acl t → IsSource t → IsSource (under_using item acl t)
+  under-source None t l p k = k
+  under-source (Some acl) t l p k = ((k.0, l, sym k.1, p), refl)
+
+  infix-if : (acl : Option (List ℕ)) (word : InfixWord) (l r : Tree) → IsListIf item.heading acl → heading_of l ≡ item.heading → heading_of r ≡ item.heading → IsPartIf acl (infix_of item.place item.heading word l r)
+  infix-if None word l r list e f = tt
+  infix-if (Some acl) word l r list e f = infix-part item.heading acl up (within acl list) item.place word l r e f
+
+  restrict-if : (acl : Option (List ℕ)) (c : Expr) (t : Tree) → IsListIf item.heading acl → heading_of t ≡ item.heading → IsSweptIf acl c → IsPartIf acl (restrict item.place item.heading c t)
+  restrict-if None c t list e swept = tt
+  restrict-if (Some acl) c t list e swept = restrict-part item.heading acl up (within acl list) item.place c t e swept
+
+  extend-if : (acl : Option (List ℕ)) (sets : PlainSets) (t : Tree) → IsListIf item.heading acl → heading_of t ≡ item.heading → IsTrue (are_swept_sets item.heading acl sets) → IsPartIf acl (extend item.place item.heading sets t)
+  extend-if None sets t list e swept = tt
+  extend-if (Some acl) sets t list e swept = extend-part item.heading acl up (within acl list) item.place sets t e swept
+
+  -- ---- expressions
+
+  operand-source : (acl : Option (List ℕ)) (word : InfixWord) (t : Tree) → IsListIf item.heading acl → IsSource t → IsInfix word item.heading (heading_of t) item.heading → IsSource (with_operand item acl word t)
+  operand-source acl word t list k joins =
+      under-source acl (infix_of item.place item.heading word (target_of item) t) list (infix-if acl word (target_of item) t list refl k.1) ((target-source.0, k.0, joins), refl)
+
+  module _ (acl : Option (List ℕ)) (list : IsListIf item.heading acl) where
+    rows-source : (c : Expr) → IsCondition (sizes_of s.ordinals) item.heading item.place c → IsSweptIf acl c → IsSource (rows_where item acl c)
+    rows-source c typed swept =
+        under-source acl (restrict item.place item.heading c (target_of item)) list (restrict-if acl c (target_of item) list refl swept)
+        ((target-source.0, record { condition = typed; headed = refl }), refl)
+
+    module _ (c : Expr) (typed : IsCondition (sizes_of s.ordinals) item.heading item.place c) (swept : IsSweptIf acl c) where
+      others-source : IsSource (other_rows item acl c)
+      others-source = rows-source (negated item.place c) (negated-typed (sizes_of s.ordinals) item.heading item.place c typed) (negated-swept acl item.place c swept)
+
+      module _ (sets : PlainSets) (made_of : IsExtension (sizes_of s.ordinals) item.heading item.heading sets) (swept_sets : IsTrue (are_swept_sets item.heading acl sets)) where
+        changed-source : IsSource (changed_rows item acl c sets)
+        changed-source =
+            let rows = rows-source c typed swept in
+            under-source acl (extend item.place item.heading sets (rows_where item acl c)) list (extend-if acl sets (rows_where item acl c) list rows.1 swept_sets)
+            ((rows.0, subst (λ (h : Heading). IsExtension (sizes_of s.ordinals) h item.heading sets) (sym rows.1) made_of), refl)
+
+        updated-source : IsSource (updated item acl c sets)
+        updated-source =
+            let others = others-source in
+            let changed = changed-source in
+            under-source acl (infix_of item.place item.heading Union (other_rows item acl c) (changed_rows item acl c sets)) list
+            (infix-if acl Union (other_rows item acl c) (changed_rows item acl c sets) list others.1 changed.1)
+            ((others.0, changed.0, (others.1 ∙ sym changed.1, sym others.1)), refl)
+
+  -- ---- changes
+
+  module _ (change : PlainChange) (h : IsChange (sizes_of s.ordinals) item.heading change) where
+    list-of : IsListIf item.heading (list_of_change change)
+    list-of = change-list (sizes_of s.ordinals) item.heading change.acl change.portion h.acl h.portion
+
+    typed-of : IsCondition (sizes_of s.ordinals) item.heading item.place (condition_of_change item change)
+    typed-of =
+        change-typed (sizes_of s.ordinals) item.heading item.place change.acl change.portion (condition_of item.place change.condition) h.portion
+        (condition-typed (sizes_of s.ordinals) item.heading item.place change.condition h.condition)
+
+    swept-of : IsSweptIf (list_of_change change) (condition_of_change item change)
+    swept-of =
+        change-swept (sizes_of s.ordinals) item.heading item.place change.acl change.portion (condition_of item.place change.condition) h.portion
+        (condition-swept (list_of_change change) item.place change.condition h.swept)
+
+  -- ---- items
+
+  one : (t : Tree) → IsSource t → All (IsTypedAssignment s) (assigned_to item (Some t))
+  one t k = All-cons (IsTypedAssignment s) (record { target = item.target; tree = t }) [] (record { base = is.base; headed = k.1 ∙ is.headed; typed = k.0 }) (All-nil (IsTypedAssignment s))
+
+  of-form : (form : PlainItemForm) → IsTypedForm s item.heading form → All (IsTypedAssignment s) (assigned_to item (source_of item form))
+  of-form (set_to t) h = one t h
+  of-form (insert acl t) h = one (with_operand item acl Union t) (operand-source acl Union t h.2 (h.0, h.1) (sym h.1, refl))
+  of-form (delete acl t) h = one (with_operand item acl Minus t) (operand-source acl Minus t h.2 (h.0, h.1) (sym h.1, refl))
+  of-form (delete_rows change) h =
+      one (other_rows item (list_of_change change) (condition_of_change item change))
+      (others-source (list_of_change change) (list-of change h) (condition_of_change item change) (typed-of change h) (swept-of change h))
+  of-form (update change sets) h =
+      one (updated item (list_of_change change) (condition_of_change item change) sets)
+      (updated-source (list_of_change change) (list-of change h.0) (condition_of_change item change) (typed-of change h.0) (swept-of change h.0) sets h.1 h.2)
+  of-form (terminate at place condition) h = absurd h
+
+  pub expanded-typed : All (IsTypedAssignment s) (expanded item)
+  expanded-typed = of-form item.form is.form
