@@ -1,0 +1,6 @@
+pub mod Positions
+pub mod Names
+pub mod Ordinals
+pub mod Constraints
+pub mod Relvars
+pub mod Drops

@@ -1,0 +1,14 @@
+//! The typing of what declares and drops: ordinal types, base relvars with their constraints, and views.
+#![tactic(auto)]
+
+mod constraints;
+mod drops;
+mod names;
+mod ordinals;
+mod positions;
+mod references;
+mod relvars;
+
+pub use drops::type_drop;
+pub use ordinals::type_ordinal;
+pub use relvars::type_relvar;
