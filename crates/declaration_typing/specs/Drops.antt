@@ -1,6 +1,6 @@
 -- The typing of DROP VAR.
 --     dropped state name      the name of the relvar or view, or the first refusal
-use Rattle.std.specs.Prelude.{Bool, true, false, not, ◌&&◌, ◌||◌, Ok}
+use Rattle.std.specs.Prelude.{Bool, true, false, not, ◌&&◌, ◌||◌, is_some, Ok}
 use Rattle.std.specs.List.{list_any}
 use Rattle.std.specs.Str.{bytes_eq}
 use Rattle.point_core.specs.declared.fault.Code.TheVariants.{E10, E21}
@@ -9,7 +9,7 @@ use Rattle.utd_syntax.specs.Plain.{Word}
 use Rattle.value_core.specs.declared.constraint.Constraint.{Constraint}
 use Rattle.value_core.specs.declared.constraint.Constraint.TheVariants.{Key, Packed, WhenUnpacked, UKey, Foreign, History}
 use Rattle.value_core.specs.Values.{Name}
-use Rattle.scalar_typing.specs.Typings.{◌>>=◌, value_or}
+use Rattle.scalar_typing.specs.Typings.{◌>>=◌}
 use Rattle.relation_typing.specs.Attributes.{name_typed}
 use Rattle.tree_core.specs.Relvars.{State, PlainRelvar, base, view, Entries, relvar_named}
 use Rattle.tree_core.specs.Trees.{Tree, named, literal, infix_of, project, rename, restrict, extend, summarize, pack, unpack, using}
@@ -51,6 +51,6 @@ is_used entries name = list_any (λ e. not (bytes_eq name e.0) && relvar_names n
 unfoldable pub dropped : State → Word → OrFault Name
 dropped s w = do
   name ← name_typed w
-  found ← value_or w.place E10 (relvar_named s.relvars name)
+  known ← check w.place E10 (is_some (relvar_named s.relvars name))
   free ← check w.place E21 (not (is_used s.relvars name))
   Ok name

@@ -35,11 +35,7 @@ fn constraint_typed(
     match constraint {
         syntax::Constraint::Key(key) => key_typed(alloc, heading, key),
         syntax::Constraint::Foreign(foreign) => foreign_typed(
-            alloc,
-            relvars,
-            own,
-            heading,
-            foreign,
+            alloc, relvars, own, heading, foreign,
         ),
         syntax::Constraint::PackedOn(_, _) => unreachable!(),
         syntax::Constraint::WhenUnpacked(_, _, _) => unreachable!(),

@@ -9,6 +9,7 @@ ghost use Rattle.tree_core.specs.Trees.{read_tree};
 ghost use Rattle.declaration_typing.specs.Drops as rules;
 
 use crate::positions::check;
+use crate::references::is_known;
 use point_core::{Code, Stop};
 use relation_typing::name_typed;
 use std::alloc::Global;
@@ -86,8 +87,7 @@ pub fn type_drop(alloc: Global, word: &Word, relvars: &Relvars) -> Result<Name, 
     ensures { Gives (λ n. n) result (rules.dropped (read_relvars relvars.now) (read_name word.now)) }
 {
     let name = name_typed(alloc, word)?;
-    let known = relvars.list.contains_key(&name);
-    check(word.place, Code::E10, known)?;
+    check(word.place, Code::E10, is_known(relvars, &name))?;
     check(word.place, Code::E21, !is_used(relvars, &name))?;
     Ok(name)
 }

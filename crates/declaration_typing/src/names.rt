@@ -8,6 +8,7 @@ ghost use Rattle.tree_core.specs.Relvars.{read_relvars};
 ghost use Rattle.declaration_typing.specs.Names as rules;
 
 use crate::positions::check;
+use crate::references::is_known;
 use point_core::{Code, Place, Stop};
 use relation_typing::name_typed;
 use std::alloc::Global;
@@ -26,7 +27,7 @@ fn is_ordinal(types: &OrdinalTypes, name: &Name) -> bool
 fn is_taken(relvars: &Relvars, name: &Name) -> bool
     ensures { result ≡ rules.is_taken (read_relvars relvars.now) name.now }
 {
-    is_ordinal(&relvars.ordinals, name) || relvars.list.contains_key(name)
+    is_ordinal(&relvars.ordinals, name) || is_known(relvars, name)
 }
 
 /// The name, which nothing has.

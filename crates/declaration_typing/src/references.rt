@@ -1,5 +1,5 @@
 // Foreign keys.
-ghost use Rattle.std.specs.Prelude.{◌≡◌, [], option_map};
+ghost use Rattle.std.specs.Prelude.{◌≡◌, [], is_some, option_map};
 ghost use Rattle.utd_syntax.specs.Read.{read_name, read_name_list, read_names, read_foreign};
 ghost use Rattle.scalar_core.specs.Answers.{Gives};
 ghost use Rattle.tree_core.specs.Relvars.{read_relvar, read_relvars, relvar_named};
@@ -21,19 +21,30 @@ pub(crate) fn relvar_of<'a>(relvars: &'a Relvars, name: &Name) -> Option<&'a Rel
     relvars.list.get(name)
 }
 
+/// Whether there is a relvar or view of the name.
+pub(crate) fn is_known(relvars: &Relvars, name: &Name) -> bool
+    ensures { result ≡ is_some (relvar_named (read_relvars relvars.now).relvars name.now) }
+{
+    relvar_of(relvars, name).is_some()
+}
+
 /// The heading of a base relvar.
 fn base_heading<'a>(place: Place, found: Option<&'a Relvar>) -> Result<&'a Heading, Stop>
-    ensures { Gives (λ h. h.now) result (rules.base_heading place (option_map (λ r. read_relvar r.now) found)) }
+    ensures { Gives (λ h. h.now) result (rules.base_heading place (option_map (λ r. read_relvar r.now) found.entry)) }
 {
     match found {
-        Some(Relvar::Base {
-            value,
-            constraints: _,
-        }) => Ok(value.heading()),
-        Some(Relvar::View {
-            tree: _,
-            history: _,
-        }) => Err(Stop::Fault(Fault {
+        Some(
+            Relvar::Base {
+                value,
+                constraints: _,
+            },
+        ) => Ok(value.heading()),
+        Some(
+            Relvar::View {
+                tree: _,
+                history: _,
+            },
+        ) => Err(Stop::Fault(Fault {
             place,
             code: Code::E20,
         })),
