@@ -1,2 +1,3 @@
 mod NameLemmas
 mod ConstraintLemmas
+mod CountLemmas

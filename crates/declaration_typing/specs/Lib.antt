@@ -4,3 +4,4 @@ pub mod Ordinals
 pub mod Constraints
 pub mod Relvars
 pub mod Drops
+pub mod Views

@@ -4,6 +4,7 @@
 mod constraints;
 mod drops;
 mod names;
+mod nodes;
 mod ordinals;
 mod positions;
 mod references;
