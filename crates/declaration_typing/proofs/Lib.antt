@@ -1,3 +1,4 @@
 mod NameLemmas
 mod ConstraintLemmas
 mod CountLemmas
+mod DistinctLemmas

@@ -17,6 +17,9 @@ either a b false false p q = refl
 either a b true false p q = absurd (true≢false (sym (own_name a) ∙ ap (λ (n : Name). bytes_eq n a) (same_name a b p) ∙ q))
 either a b false true p q = absurd (true≢false (sym (own_name b) ∙ ap (λ (n : Name). bytes_eq n b) (same_name b a q) ∙ p))
 
+pub either-side : (a b : Name) → bytes_eq a b ≡ bytes_eq b a
+either-side a b = either a b (bytes_eq a b) (bytes_eq b a) refl refl
+
 found : (b : Bool) (x : Relvar) (o : Option Relvar) (p : Option PlainRelvar) → option_map read_relvar o ≡ p
     → option_map read_relvar (cond b (Some x) o) ≡ cond b (Some (read_relvar x)) p
 found true x o p e = refl
