@@ -23,7 +23,8 @@ use Rattle.algebra_core.specs.Sweeping.{among}
 use Rattle.algebra_core.specs.Typing.{IsList}
 use Rattle.algebra_core.specs.WellMade.{AreDifferent, AreAlike, AreAmong, FitsHeadings, IsBase, IsConstraint}
 use Rattle.algebra_core.proofs.MadeLemmas.{same_name}
-use Rattle.declaration_typing.specs.Positions.{check, names_of_words, words_of, name_checked, names_checked, list_checked}
+use Rattle.node_typing.specs.Positions.{check}
+use Rattle.node_typing.specs.Lists.{names_of_words, words_of, name_checked, names_checked, list_checked}
 use Rattle.declaration_typing.specs.Constraints.{base_heading, heading_there, positions_there, reference_typed, names_typed, list_typed, kept_by, listed_key, constraint_typed, constraints_typed}
 use Rattle.declaration_typing.proofs.DistinctLemmas.{no-distinct, all-push}
 use Rattle.declaration_typing.proofs.PositionLemmas.{held, positions_at, AreAt, key-at, AreThere, there-from, are-alike, different-there}

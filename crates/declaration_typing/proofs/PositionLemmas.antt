@@ -22,7 +22,8 @@ use Rattle.relation_core.specs.Parts.{no_attribute}
 use Rattle.algebra_core.specs.Sweeping.{among}
 use Rattle.algebra_core.specs.WellMade.{AreDifferent, AreAlike}
 use Rattle.algebra_core.proofs.MadeLemmas.{same_name, own_name}
-use Rattle.declaration_typing.specs.Positions.{check, position_if, position_typed, new_position, positions_typed, kind_named}
+use Rattle.node_typing.specs.Positions.{check, position_if, position_typed, new_position, positions_typed}
+use Rattle.node_typing.specs.Lists.{kind_named}
 use Rattle.declaration_typing.specs.Constraints.{position_there, positions_there}
 use Rattle.declaration_typing.proofs.DistinctLemmas.{distinct-push, no-distinct, all-push, not-among}
 

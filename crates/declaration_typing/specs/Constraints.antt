@@ -19,7 +19,8 @@ use Rattle.tree_core.specs.Relvars.{State, PlainRelvar, base, view, relvar_named
 use Rattle.algebra_core.specs.Meanings.{positions_of}
 use Rattle.algebra_core.specs.Sweeping.{among}
 use Rattle.relation_core.specs.Agreement.{position_of}
-use Rattle.declaration_typing.specs.Positions.{check, kind_named, position_typed, positions_typed, list_checked, words_of}
+use Rattle.node_typing.specs.Positions.{check, position_typed, positions_typed}
+use Rattle.node_typing.specs.Lists.{kind_named, list_checked, words_of}
 
 -- the K names: E14 at one that is no attribute, E15 at one that stood before
 abbrev pub names_typed : Heading → NamesP → OrFault (List ℕ)

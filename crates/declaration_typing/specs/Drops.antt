@@ -13,7 +13,7 @@ use Rattle.scalar_typing.specs.Typings.{◌>>=◌}
 use Rattle.relation_typing.specs.Attributes.{name_typed}
 use Rattle.tree_core.specs.Relvars.{State, PlainRelvar, base, view, Entries, relvar_named}
 use Rattle.tree_core.specs.Trees.{Tree, named, literal, infix_of, project, rename, restrict, extend, summarize, pack, unpack, using}
-use Rattle.declaration_typing.specs.Positions.{check}
+use Rattle.node_typing.specs.Positions.{check}
 
 -- whether the expression itself names the relvar or view
 abbrev pub names_in : Name → Tree → Bool

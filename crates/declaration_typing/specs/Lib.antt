@@ -1,7 +1,6 @@
-pub mod Positions
 pub mod Names
 pub mod Ordinals
 pub mod Constraints
 pub mod Relvars
 pub mod Drops
-pub mod Views
+pub mod Nodes

@@ -12,7 +12,7 @@ use Rattle.value_core.specs.Values.{Name}
 use Rattle.scalar_typing.specs.Typings.{◌>>=◌}
 use Rattle.relation_typing.specs.Attributes.{name_typed}
 use Rattle.tree_core.specs.Relvars.{State, relvar_named}
-use Rattle.declaration_typing.specs.Positions.{check}
+use Rattle.node_typing.specs.Positions.{check}
 
 -- whether an ordinal type, a relvar or a view has the name
 abbrev pub is_taken : State → Name → Bool

@@ -11,7 +11,8 @@ use Rattle.relation_typing.specs.Attributes.{name_typed}
 use Rattle.tree_core.specs.Relvars.{State}
 use Rattle.algebra_core.specs.Declarations.{PlainDeclaration, ordinal_type}
 use Rattle.declaration_typing.specs.Names.{new_name}
-use Rattle.declaration_typing.specs.Positions.{check, named_in}
+use Rattle.node_typing.specs.Positions.{check}
+use Rattle.node_typing.specs.Lists.{named_in}
 
 -- one value more: E15 at a name that stood before
 abbrev pub with_value : List Name → Word → OrFault (List Name)

@@ -6,7 +6,8 @@ ghost use Rattle.relation_core.specs.Agreement as agreement;
 ghost use Rattle.scalar_core.specs.Answers.{Gives};
 ghost use Rattle.algebra_core.specs.Sweeping.{among};
 ghost use Rattle.algebra_core.specs.Typing.{kind_at};
-ghost use Rattle.declaration_typing.specs.Positions as rules;
+ghost use Rattle.node_typing.specs.Lists.{kind_named};
+ghost use Rattle.node_typing.specs.Positions as rules;
 
 use point_core::{Code, Fault, Place, Stop};
 use std::alloc::Global;
@@ -67,7 +68,7 @@ fn kind_at(list: &[(Name, Kind)], at: usize) -> Kind
 
 /// The kind of the attribute of the name; BOOLEAN where there is none.
 pub(crate) fn kind_named(list: &[(Name, Kind)], name: &[u8]) -> Kind
-    ensures { result ≡ rules.kind_named list.now name.now }
+    ensures { result ≡ kind_named list.now name.now }
 {
     kind_at(list, position(list, name))
 }

@@ -2,7 +2,7 @@ use Rattle.std.proofs.Common.{List, ℕ, ap, ◌∙◌}
 use Rattle.value_core.specs.Values.{Name}
 use Rattle.tree_core.specs.Relvars.{read_relvars}
 use Rattle.tree_core.specs.Trees.{read_tree}
-use Rattle.declaration_typing.specs.Views.{capped, count, nodes_of}
+use Rattle.declaration_typing.specs.Nodes.{capped, count, nodes_of}
 use Rattle.declaration_typing.proofs.CountLemmas.{nodes-capped, few-capped}
 use Rattle.declaration_typing.proofs.nodes.are_few.Goals as goal
 

@@ -1,7 +1,7 @@
 use Rattle.std.proofs.Common.{◌≡◌, map}
 use Rattle.tree_core.specs.Relvars.{read_entry}
 use Rattle.algebra_core.specs.Names.{each_after, each_in}
-use Rattle.declaration_typing.specs.Views.{capped_count}
+use Rattle.declaration_typing.specs.Nodes.{capped_count}
 use Rattle.declaration_typing.proofs.nodes.counts.Given as goal
 
 abbrev pub invariant-loop-name : goal.invariant-loop-name

@@ -1,6 +1,6 @@
 use Rattle.std.proofs.Common.{◌≡◌, [], drop}
 use Rattle.utd_syntax.specs.Read.{read_name_list}
-use Rattle.declaration_typing.specs.Positions.{positions_typed}
+use Rattle.node_typing.specs.Positions.{positions_typed}
 use Rattle.declaration_typing.proofs.positions.positions_typed.Given as goal
 
 abbrev pub invariant-loop-word : goal.invariant-loop-word

@@ -1,20 +1,11 @@
--- The typing of VAR VIRTUAL.
---     nodes_of entries tree      how many nodes an expression has, those of the views that it names counted in
---     view_declared state name expression      the view, or the first refusal
-use Rattle.std.specs.Prelude.{ℕ, ◌+◌, min, List, nat_le, Ok, None}
-use Rattle.point_core.specs.declared.fault.Code.TheVariants.{E22}
-use Rattle.point_core.specs.Faults.{OrFault}
-use Rattle.utd_syntax.specs.Plain.{Word, RelP}
+-- How many nodes an expression has, those of the views that it names counted in.
+--     nodes_of entries tree      where these are the relvars and views
+--     capped_count      what a name counts for, as far as it is counted
+use Rattle.std.specs.Prelude.{ℕ, ◌+◌, min, List}
 use Rattle.value_core.specs.Values.{Name}
-use Rattle.scalar_typing.specs.Typings.{◌>>=◌}
-use Rattle.tree_core.specs.Relvars.{State, PlainRelvar, base, view, Entries}
+use Rattle.tree_core.specs.Relvars.{PlainRelvar, base, view, Entries}
 use Rattle.tree_core.specs.Trees.{Tree, named, literal, infix_of, project, rename, restrict, extend, summarize, pack, unpack, using}
-use Rattle.algebra_core.specs.Declarations.{PlainDeclaration, view_relvar}
 use Rattle.algebra_core.specs.Names.{found, each_in}
-use Rattle.declaration_typing.specs.Names.{new_name, room_for}
-use Rattle.declaration_typing.specs.Positions.{check}
-
--- ---- nodes
 
 -- the nodes of an expression, where it is known how many a name counts for
 abbrev pub count : List (Name × ℕ) → Tree → ℕ
