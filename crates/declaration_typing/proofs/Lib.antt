@@ -5,3 +5,8 @@ mod DistinctLemmas
 mod PositionLemmas
 mod KindLemmas
 mod FitLemmas
+mod StateLemmas
+pub mod RelvarLaws
+mod MoreTypes
+pub mod OrdinalLaws
+pub mod ViewLaws

@@ -4,3 +4,4 @@ pub mod Constraints
 pub mod Relvars
 pub mod Drops
 pub mod Nodes
+pub mod Views

@@ -9,7 +9,9 @@ mod ordinals;
 mod positions;
 mod references;
 mod relvars;
+mod views;
 
 pub use drops::type_drop;
 pub use ordinals::type_ordinal;
 pub use relvars::type_relvar;
+pub use views::type_view;
