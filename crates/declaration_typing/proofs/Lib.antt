@@ -10,3 +10,4 @@ pub mod RelvarLaws
 mod MoreTypes
 pub mod OrdinalLaws
 pub mod ViewLaws
+pub mod DropLaws
