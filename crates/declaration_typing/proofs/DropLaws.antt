@@ -1,10 +1,10 @@
 -- What DROP VAR drops leaves a state well made.
-use Rattle.std.specs.Prelude.{◌≡◌, ◌<◌, ℕ, zero, suc, Bool, true, false, not, ◌&&◌, ◌||◌, List, [], ◌∷◌, ◌++◌, map, filter, cond, length, Option, Some, None, is_some, Ok, IfOk, IsTrue, refl, if◌then◌else◌}
+use Rattle.std.specs.Prelude.{◌≡◌, ℕ, zero, suc, Bool, true, false, not, ◌&&◌, List, [], ◌∷◌, ◌++◌, map, filter, cond, Option, Some, None, is_some, IfOk, IsTrue, refl, if◌then◌else◌}
 use Rattle.std.proofs.Common.{arith, sym, ◌∙◌, ap, subst}
 use Rattle.std.specs.List.{All, AllByRecursion, IsDistinct, list_any}
 use Rattle.std.specs.Option.{option_map}
 use Rattle.std.specs.Str.{bytes_eq}
-use Rattle.std.proofs.lemmas.Bool.{or_parts, not-true, true≢false}
+use Rattle.std.proofs.lemmas.Bool.{or_parts, not-true}
 use Rattle.std.proofs.lemmas.List.{append-nil}
 use Rattle.point_core.specs.declared.fault.Code.TheVariants.{E10, E21}
 use Rattle.point_core.specs.declared.fault.Place.{Place}
@@ -19,7 +19,7 @@ use Rattle.tree_core.specs.Relvars.{State, PlainRelvar, base, view, Entries, rel
 use Rattle.tree_core.specs.Trees.{Tree, named, literal, infix_of, project, rename, restrict, extend, summarize, pack, unpack, using}
 use Rattle.algebra_core.specs.Declarations.{without}
 use Rattle.algebra_core.specs.Histories.{joined_history, last_point, type_at, name_at}
-use Rattle.algebra_core.specs.Typing.{Headings, heading_named, IsTypedTree}
+use Rattle.algebra_core.specs.Typing.{heading_named, IsTypedTree}
 use Rattle.algebra_core.specs.WellMade.{sizes_of, headings_of, FitsHeadings, IsBase, IsConstraint, rule_among, IsOfRule, IsHistory, IsRelvar, AreRelvars, IsWellMade}
 use Rattle.algebra_core.proofs.MadeLemmas.{same_name}
 use Rattle.node_typing.specs.Positions.{check}

@@ -1,5 +1,5 @@
 -- The constraints that are typed fit the headings.
-use Rattle.std.specs.Prelude.{◌≡◌, ◌<◌, ℕ, Bool, true, false, ◌&&◌, List, [], ◌∷◌, ◌++◌, length, nat_le, Option, Some, None, Ok, Err, IfOk, IsTrue, refl, if◌then◌else◌}
+use Rattle.std.specs.Prelude.{◌≡◌, ℕ, Bool, true, false, List, [], ◌∷◌, ◌++◌, length, nat_le, Option, Some, None, Ok, Err, IfOk, IsTrue, refl, if◌then◌else◌}
 use Rattle.std.proofs.Common.{arith, sym, ◌∙◌, ap, subst, append_assoc}
 use Rattle.std.specs.List.{All, list_all}
 use Rattle.std.specs.Str.{bytes_eq}
@@ -13,7 +13,6 @@ use Rattle.utd_syntax.specs.Plain.{Word, NameListP, NamesP, ConstraintP}
 use Rattle.value_core.specs.declared.constraint.Constraint.{Constraint}
 use Rattle.value_core.specs.declared.constraint.Constraint.TheVariants.{Foreign}
 use Rattle.value_core.specs.Values.{Name, Heading}
-use Rattle.scalar_typing.specs.Typings.{refused}
 use Rattle.scalar_typing.proofs.SoundLemmas.{then-sound}
 use Rattle.relation_typing.specs.Attributes.{name_typed}
 use Rattle.relation_core.specs.Agreement.{position_of}

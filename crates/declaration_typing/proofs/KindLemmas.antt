@@ -1,5 +1,5 @@
 -- Kinds that are the same.
-use Rattle.std.specs.Prelude.{◌≡◌, ℕ, true, nat_eq, refl}
+use Rattle.std.specs.Prelude.{◌≡◌, true, nat_eq, refl}
 use Rattle.std.proofs.Common.{ap}
 use Rattle.std.proofs.lemmas.Bool.{eqb-true, and_parts}
 use Rattle.point_core.specs.declared.any_type.AnyType.{AnyType}

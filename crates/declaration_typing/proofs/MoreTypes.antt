@@ -1,7 +1,7 @@
 -- What is typed stays typed where ordinal types are added behind those there are.
-use Rattle.std.specs.Prelude.{◌≡◌, ℕ, zero, suc, Bool, true, false, ◌&&◌, List, [], ◌∷◌, ◌++◌, IsTrue, refl}
+use Rattle.std.specs.Prelude.{ℕ, zero, suc, ◌&&◌, List, [], ◌∷◌, ◌++◌, IsTrue, refl}
 use Rattle.std.proofs.Common.{sym}
-use Rattle.std.specs.List.{All, list_all}
+use Rattle.std.specs.List.{list_all}
 use Rattle.std.proofs.lemmas.Bool.{and_parts, and_from, true≢false}
 use Rattle.point_core.specs.declared.any_type.AnyType.{AnyType}
 use Rattle.point_core.specs.declared.any_type.AnyType.TheVariants.{Integer, Date, Ordinal}
@@ -11,7 +11,7 @@ use Rattle.value_core.specs.Values.{Heading, is_heading}
 use Rattle.scalar_core.specs.Expressions.{Expr, constant, attribute, one, pair, and_expr, or_expr}
 use Rattle.tree_core.specs.Relvars.{PlainRelvar, base, view, Entries}
 use Rattle.tree_core.specs.Trees.{PlainSets, PlainAggregateForm, count_rows, sum_of, min_of, max_of, PlainAggregate, Tree, named, literal, infix_of, project, rename, restrict, extend, summarize, pack, unpack, using}
-use Rattle.algebra_core.specs.Typing.{is_ordinal, is_type, is_kind, is_declared, has_declared, IsScalar, Makes, HasKind, Sums, IsTuple, IsRestriction, IsExtension, IsSummary, Headings, IsTypedTree}
+use Rattle.algebra_core.specs.Typing.{is_ordinal, is_type, is_kind, is_declared, has_declared, IsScalar, Makes, HasKind, Sums, IsTuple, Headings, IsTypedTree}
 use Rattle.algebra_core.specs.WellMade.{headings_of, IsRelvar, AreRelvars}
 
 module _ (sizes more : List ℕ) where

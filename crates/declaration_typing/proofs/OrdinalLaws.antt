@@ -1,7 +1,7 @@
 -- What TYPE declares keeps a state well made.
-use Rattle.std.specs.Prelude.{◌≡◌, ◌≤◌, ℕ, suc, Bool, true, false, not, List, [], ◌∷◌, ◌++◌, map, length, nat_le, nat_lt, Ok, IfOk, IsTrue, refl}
+use Rattle.std.specs.Prelude.{◌≡◌, ◌≤◌, ℕ, suc, false, not, List, [], ◌∷◌, ◌++◌, map, length, nat_le, nat_lt, IfOk, IsTrue}
 use Rattle.std.proofs.Common.{arith, sym, ◌∙◌, ap, subst, append_assoc}
-use Rattle.std.specs.List.{AllByRecursion, IsDistinct, list_any}
+use Rattle.std.specs.List.{AllByRecursion, IsDistinct}
 use Rattle.std.specs.Str.{bytes_eq}
 use Rattle.std.proofs.lemmas.Bool.{leb-true, ltb-true, not-true}
 use Rattle.std.proofs.lemmas.List.{map-append, length-append}

@@ -1,5 +1,5 @@
 -- The positions of named attributes, in the heading of a relvar and in that of a relvar it references.
-use Rattle.std.specs.Prelude.{◌≡◌, ◌<◌, ℕ, zero, suc, Bool, true, false, not, ◌||◌, List, [], ◌∷◌, ◌++◌, map, length, get_or, nat_eq, Option, Some, None, Ok, Err, IfOk, IsTrue, refl, if◌then◌else◌}
+use Rattle.std.specs.Prelude.{◌≡◌, ◌<◌, ℕ, zero, suc, Bool, true, false, not, ◌||◌, List, [], ◌∷◌, ◌++◌, map, length, get_or, nat_eq, Some, None, Ok, Err, IfOk, IsTrue, refl, if◌then◌else◌}
 use Rattle.std.proofs.Common.{arith, sym, ◌∙◌, ap, subst, append_assoc}
 use Rattle.std.specs.List.{All, AllByRecursion, IsDistinct}
 use Rattle.std.specs.Str.{bytes_eq}
@@ -10,19 +10,18 @@ use Rattle.point_core.specs.declared.fault.Code.{Code}
 use Rattle.point_core.specs.declared.fault.Code.TheVariants.{E12, E14, E15}
 use Rattle.point_core.specs.Faults.{OrFault}
 use Rattle.utd_syntax.specs.Plain.{Word}
-use Rattle.value_core.specs.declared.kind.Kind.{Kind}
 use Rattle.value_core.specs.Headings.{has_name}
 use Rattle.value_core.specs.Values.{Name, Heading}
 use Rattle.scalar_core.specs.KindOf.{same_kind}
 use Rattle.declaration_typing.proofs.KindLemmas.{same_kind-same}
-use Rattle.scalar_typing.specs.Typings.{refused, value_or}
+use Rattle.scalar_typing.specs.Typings.{value_or}
 use Rattle.scalar_typing.proofs.SoundLemmas.{then-sound}
 use Rattle.relation_core.specs.Agreement.{position_of}
 use Rattle.relation_core.specs.Parts.{no_attribute}
 use Rattle.algebra_core.specs.Sweeping.{among}
 use Rattle.algebra_core.specs.WellMade.{AreDifferent, AreAlike}
-use Rattle.algebra_core.proofs.MadeLemmas.{same_name, own_name}
-use Rattle.node_typing.specs.Positions.{check, position_if, position_typed, new_position, positions_typed}
+use Rattle.algebra_core.proofs.MadeLemmas.{same_name}
+use Rattle.node_typing.specs.Positions.{check, position_typed, new_position, positions_typed}
 use Rattle.node_typing.specs.Lists.{kind_named}
 use Rattle.declaration_typing.specs.Constraints.{position_there, positions_there}
 use Rattle.declaration_typing.proofs.DistinctLemmas.{distinct-push, no-distinct, all-push, not-among}

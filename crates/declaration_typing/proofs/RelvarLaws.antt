@@ -1,5 +1,5 @@
 -- What VAR RELATION declares keeps a state well made.
-use Rattle.std.specs.Prelude.{◌≡◌, List, [], Ok, Err, IfOk, IsTrue}
+use Rattle.std.specs.Prelude.{List, [], Ok, Err, IfOk, IsTrue}
 use Rattle.std.specs.List.{All}
 use Rattle.point_core.specs.Faults.{OrFault}
 use Rattle.utd_syntax.specs.Plain.{Word, HeadingP, ConstraintP}
@@ -7,7 +7,7 @@ use Rattle.value_core.specs.declared.constraint.Constraint.{Constraint}
 use Rattle.value_core.specs.Values.{Name, Heading}
 use Rattle.scalar_typing.proofs.SoundLemmas.{then-sound}
 use Rattle.relation_typing.specs.Headings.{heading_typed}
-use Rattle.tree_core.specs.Relvars.{State, PlainRelvar, base}
+use Rattle.tree_core.specs.Relvars.{State, base}
 use Rattle.algebra_core.specs.Declarations.{PlainDeclaration, with_declaration}
 use Rattle.algebra_core.specs.Typing.{is_declared}
 use Rattle.algebra_core.specs.WellMade.{sizes_of, IsConstraint, IsWellMade}

@@ -1,5 +1,5 @@
 -- What VAR VIRTUAL declares keeps a state well made.
-use Rattle.std.specs.Prelude.{List, nat_le, None, IfOk}
+use Rattle.std.specs.Prelude.{nat_le, None, IfOk}
 use Rattle.point_core.specs.declared.fault.Code.TheVariants.{E22}
 use Rattle.utd_syntax.specs.Plain.{Word, RelP}
 use Rattle.scalar_typing.proofs.SoundLemmas.{then-sound}

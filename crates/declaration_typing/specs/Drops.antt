@@ -1,6 +1,6 @@
 -- The typing of DROP VAR.
 --     dropped state name      the name of the relvar or view, or the first refusal
-use Rattle.std.specs.Prelude.{Bool, true, false, not, ◌&&◌, ◌||◌, is_some, Ok}
+use Rattle.std.specs.Prelude.{Bool, false, not, ◌&&◌, ◌||◌, is_some, Ok}
 use Rattle.std.specs.List.{list_any}
 use Rattle.std.specs.Str.{bytes_eq}
 use Rattle.point_core.specs.declared.fault.Code.TheVariants.{E10, E21}

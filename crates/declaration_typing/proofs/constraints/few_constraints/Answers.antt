@@ -3,7 +3,7 @@ use Rattle.std.proofs.Common.{Err, sym, ap, ◌∙◌}
 use Rattle.std.specs.Option.{option_map}
 use Rattle.point_core.specs.declared.fault.Place.{Place}
 use Rattle.point_core.specs.declared.fault.Code.TheVariants.{E22}
-use Rattle.point_core.specs.Faults.{OrFault, fault}
+use Rattle.point_core.specs.Faults.{fault}
 use Rattle.utd_syntax.specs.declared.statement.Constraint.{Constraint}
 use Rattle.utd_syntax.specs.Read.{read_constraint}
 use Rattle.declaration_typing.specs.Constraints.{refused_at}
