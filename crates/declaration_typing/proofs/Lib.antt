@@ -1,0 +1,13 @@
+mod NameLemmas
+mod ConstraintLemmas
+mod CountLemmas
+mod DistinctLemmas
+mod PositionLemmas
+mod KindLemmas
+mod FitLemmas
+mod StateLemmas
+pub mod RelvarLaws
+mod MoreTypes
+pub mod OrdinalLaws
+pub mod ViewLaws
+pub mod DropLaws

@@ -1,0 +1,91 @@
+-- A well made state with one relvar or view more.
+use Rattle.std.specs.Prelude.{◌≡◌, ℕ, Bool, true, false, not, List, [], ◌∷◌, ◌++◌, map, Option, Some, None, is_some, IfOk, IsTrue, refl, if◌then◌else◌}
+use Rattle.std.proofs.Common.{sym, ◌∙◌, ap, subst, append_assoc}
+use Rattle.std.specs.List.{AllByRecursion, IsDistinct, list_any}
+use Rattle.std.specs.Str.{bytes_eq}
+use Rattle.std.proofs.lemmas.Bool.{or_parts, not-true}
+use Rattle.std.proofs.lemmas.List.{append-nil, map-append}
+use Rattle.point_core.specs.declared.fault.Code.TheVariants.{E11}
+use Rattle.utd_syntax.specs.Plain.{Word}
+use Rattle.value_core.specs.declared.list.OrdinalNames.{OrdinalNames}
+use Rattle.value_core.specs.Values.{Name}
+use Rattle.scalar_typing.proofs.SoundLemmas.{then-sound}
+use Rattle.relation_typing.specs.Attributes.{name_typed}
+use Rattle.tree_core.specs.Relvars.{State, PlainRelvar, Entries, relvar_named}
+use Rattle.algebra_core.specs.Declarations.{with_relvar}
+use Rattle.algebra_core.specs.WellMade.{sizes_of, all_names, IsRelvar, AreRelvars, IsWellMade}
+use Rattle.node_typing.specs.Positions.{check}
+use Rattle.declaration_typing.specs.Names.{is_taken, new_name}
+use Rattle.declaration_typing.proofs.DistinctLemmas.{distinct-push}
+use Rattle.declaration_typing.proofs.FitLemmas.{any-given}
+use Rattle.declaration_typing.proofs.NameLemmas.{either-side}
+use Rattle.declaration_typing.proofs.PositionLemmas.{held}
+
+-- ---- names that are free
+
+abbrev pub AreOther : Name → List Name → Type 0
+AreOther name names = AllByRecursion (λ (n : Name). bytes_eq n name ≡ false) names
+
+pub other-both : (name : Name) (xs ys : List Name) → AreOther name xs → AreOther name ys → AreOther name (xs ++ ys)
+other-both name [] ys h k = k
+other-both name (x ∷ xs) ys h k = (h.0, other-both name xs ys h.1 k)
+
+none-some : (o : Option PlainRelvar) → is_some o ≡ false → o ≡ None
+none-some None e = refl
+none-some (Some x) e = absurd (cc)
+
+other-ordinals : (name : Name) (types : List OrdinalNames) → list_any (λ o. bytes_eq name o.name) types ≡ false → AreOther name (map (λ o. o.name) types)
+other-ordinals name [] e = tt
+other-ordinals name (o ∷ types) e =
+    let parts = or_parts (bytes_eq name o.name) (list_any (λ t. bytes_eq name t.name) types) e in
+    (either-side o.name name ∙ parts.0, other-ordinals name types parts.1)
+
+other-relvars : (name : Name) (entries : Entries) → relvar_named entries name ≡ None → AreOther name (map (λ r. r.0) entries)
+other-relvars name [] e = tt
+other-relvars name (r ∷ entries) e = by-test (bytes_eq r.0 name) refl (other-relvars name entries) e
+  where
+    by-test : (b : Bool) → bytes_eq r.0 name ≡ b → (relvar_named entries name ≡ None → AreOther name (map (λ k. k.0) entries)) → (if b then Some r.1 else relvar_named entries name) ≡ None
+        → AreOther name (map (λ k. k.0) (r ∷ entries))
+    by-test true f rest g = absurd (cc)
+    by-test false f rest g = (f, rest g)
+
+-- nothing has the name
+pub record IsFree (s : State) (name : Name) : Type 0 where
+  pub none : relvar_named s.relvars name ≡ None
+  pub ordinals : AreOther name (map (λ o. o.name) s.ordinals)
+  pub relvars : AreOther name (map (λ r. r.0) s.relvars)
+
+free-from : (s : State) (name : Name) → is_taken s name ≡ false → IsFree s name
+free-from s name e =
+    let parts = or_parts (list_any (λ o. bytes_eq name o.name) s.ordinals) (is_some (relvar_named s.relvars name)) e in
+    let none : relvar_named s.relvars name ≡ None = none-some (relvar_named s.relvars name) parts.1 in
+    record { none = none; ordinals = other-ordinals name s.ordinals parts.0; relvars = other-relvars name s.relvars none }
+
+pub free-name : (s : State) (w : Word) → IfOk (new_name s w) (IsFree s)
+free-name s w =
+    then-sound (λ (_ : Name). Unit {0}) (IsFree s) (name_typed w) _ (any-given (name_typed w)) (λ name _.
+    then-sound (λ (_ : Unit {0}). IsTrue (not (is_taken s name))) (IsFree s) (check w.place E11 (not (is_taken s name))) _ (held w.place E11 (not (is_taken s name))) (λ _ free.
+    free-from s name (not-true (is_taken s name) free)))
+
+-- ---- one relvar or view more
+
+more-relvars : (sizes : List ℕ) (before entries : Entries) (own : Name) (r : PlainRelvar) → AreRelvars sizes before entries → IsRelvar sizes (before ++ entries) own r
+    → AreRelvars sizes before (entries ++ (own, r) ∷ [])
+more-relvars sizes before [] own r all is = (subst (λ (es : Entries). IsRelvar sizes es own r) (append-nil before) is, tt)
+more-relvars sizes before (e ∷ entries) own r all is =
+    (all.0, more-relvars sizes (before ++ e ∷ []) entries own r all.1 (subst (λ (es : Entries). IsRelvar sizes es own r) (sym (append_assoc before (e ∷ []) entries)) is))
+
+more-names : (s : State) (own : Name) (r : PlainRelvar) → all_names s ++ own ∷ [] ≡ all_names (with_relvar s own r)
+more-names s own r =
+    let ordinals : List Name = map (λ o. o.name) s.ordinals in
+    append_assoc ordinals (map (λ (e : Name × PlainRelvar). e.0) s.relvars) (own ∷ [])
+    ∙ ap (λ (names : List Name). ordinals ++ names) (sym (map-append (λ (e : Name × PlainRelvar). e.0) s.relvars ((own, r) ∷ [])))
+
+pub with-relvar : (s : State) (own : Name) (r : PlainRelvar) → IsWellMade s → IsFree s own → IsRelvar (sizes_of s.ordinals) s.relvars own r → IsWellMade (with_relvar s own r)
+with-relvar s own r made free is = record {
+  few = made.few;
+  ordinals = made.ordinals;
+  different = subst (IsDistinct bytes_eq) (more-names s own r)
+      (distinct-push bytes_eq (all_names s) own made.different (other-both own (map (λ o. o.name) s.ordinals) (map (λ e. e.0) s.relvars) free.ordinals free.relvars));
+  relvars = more-relvars (sizes_of s.ordinals) [] s.relvars own r made.relvars is;
+}

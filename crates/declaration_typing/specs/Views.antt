@@ -1,0 +1,22 @@
+-- The typing of VAR VIRTUAL.
+--     view_declared state name expression      the view, or the first refusal
+use Rattle.std.specs.Prelude.{nat_le, Ok, None}
+use Rattle.point_core.specs.declared.fault.Code.TheVariants.{E22}
+use Rattle.point_core.specs.Faults.{OrFault}
+use Rattle.utd_syntax.specs.Plain.{Word, RelP}
+use Rattle.scalar_typing.specs.Typings.{◌>>=◌}
+use Rattle.tree_core.specs.Relvars.{State}
+use Rattle.algebra_core.specs.Declarations.{PlainDeclaration, view_relvar}
+use Rattle.node_typing.specs.Positions.{check}
+use Rattle.tree_typing.specs.Trees.{tree_typed}
+use Rattle.declaration_typing.specs.Names.{new_name, room_for}
+use Rattle.declaration_typing.specs.Nodes.{nodes_of}
+
+-- E11 at the name, the expression, and E22 at the name above 1,000 nodes and above 64 relvars and views
+unfoldable pub view_declared : State → Word → RelP → OrFault PlainDeclaration
+view_declared s w rel = do
+  name ← new_name s w
+  t ← tree_typed s rel
+  few ← check w.place E22 (nat_le (nodes_of s.relvars t) 1000)
+  room ← room_for s w.place
+  Ok (view_relvar name t None)

@@ -1,0 +1,17 @@
+//! The typing of what declares and drops: ordinal types, base relvars with their constraints, and views.
+#![tactic(auto)]
+
+mod constraints;
+mod drops;
+mod names;
+mod nodes;
+mod ordinals;
+mod positions;
+mod references;
+mod relvars;
+mod views;
+
+pub use drops::type_drop;
+pub use ordinals::type_ordinal;
+pub use relvars::type_relvar;
+pub use views::type_view;

@@ -1,0 +1,93 @@
+// How many nodes expressions have, those of the views that they name counted in, up to one more than there may be.
+ghost use Rattle.std.specs.Prelude.{◌≡◌, ◌+◌, IfOk, nat_le};
+ghost use Rattle.tree_core.specs.Relvars.{read_relvar, read_relvars};
+ghost use Rattle.tree_core.specs.Trees.{read_tree};
+ghost use Rattle.algebra_core.specs.Names.{found, each_in};
+ghost use Rattle.declaration_typing.specs.Nodes as rules;
+ghost use Rattle.declaration_typing.specs.Nodes.{capped};
+
+use point_core::Memory;
+use std::alloc::Global;
+use tree_core::{RelForm, RelTree, Relvar, Relvars};
+use value_core::Name;
+
+/// The most nodes of a view.
+const MOST_NODES: usize = 1000;
+
+/// The number, or one more than there may be.
+fn capped(nodes: usize) -> usize
+    ensures { result ≡ capped nodes }
+{
+    nodes.min(MOST_NODES + 1)
+}
+
+/// The nodes of two operands and their operator.
+fn sum(left: usize, right: usize) -> usize
+    ensures { result ≡ capped (left + right + 1) }
+{
+    capped(left.saturating_add(right).saturating_add(1))
+}
+
+/// How many nodes the name counts for.
+fn known_nodes(known: &[(Name, usize)], name: &Name) -> usize
+    ensures { result ≡ found 1 known.now name.now }
+{
+    for entry in known {
+        if entry.0 == *name {
+            return entry.1;
+        }
+    }
+    1
+}
+
+/// The nodes of an expression.
+fn count(known: &[(Name, usize)], tree: &RelTree) -> usize
+    ensures { result ≡ capped (rules.count known.now (read_tree tree.now)) }
+{
+    match &tree.form {
+        RelForm::Named(name) => capped(known_nodes(known, name)),
+        RelForm::Literal(_) => 1,
+        RelForm::Infix(_, left, right) => sum(count(known, left), count(known, right)),
+        RelForm::Project(_, part) => sum(0, count(known, part)),
+        RelForm::Rename(_, part) => sum(0, count(known, part)),
+        RelForm::Restrict(_, part) => sum(0, count(known, part)),
+        RelForm::Extend(_, part) => sum(0, count(known, part)),
+        RelForm::Summarize(_, _, part) => sum(0, count(known, part)),
+        RelForm::Pack(_, part) => sum(0, count(known, part)),
+        RelForm::Unpack(_, part) => sum(0, count(known, part)),
+        RelForm::Using(_, part) => sum(0, count(known, part)),
+    }
+}
+
+/// The nodes that the name of a relvar or view counts for.
+fn relvar_nodes(known: &[(Name, usize)], relvar: &Relvar) -> usize
+    ensures { result ≡ rules.capped_count known.now (read_relvar relvar.now) }
+{
+    match relvar {
+        Relvar::Base {
+            value: _,
+            constraints: _,
+        } => 1,
+        Relvar::View { tree, history: _ } => count(known, tree),
+    }
+}
+
+/// For each relvar and view how many nodes its name counts for.
+fn counts(alloc: Global, relvars: &Relvars) -> Result<Vec<(Name, usize)>, Memory>
+    ensures { IfOk result (λ v. v.items ≡ each_in rules.capped_count (read_relvars relvars.now).relvars) }
+{
+    let mut known = Vec::new(alloc);
+    for (name, relvar) in &relvars.list {
+        let nodes = relvar_nodes(known.as_slice(), relvar);
+        known.push((name.copy(alloc)?, nodes))?;
+    }
+    Ok(known)
+}
+
+/// Whether an expression has no more nodes than a view may have.
+pub(crate) fn are_few(alloc: Global, tree: &RelTree, relvars: &Relvars) -> Result<bool, Memory>
+    ensures { IfOk result (λ few. few ≡ nat_le (rules.nodes_of (read_relvars relvars.now).relvars (read_tree tree.now)) 1000) }
+{
+    let known = counts(alloc, relvars)?;
+    Ok(count(known.as_slice(), tree) <= MOST_NODES)
+}

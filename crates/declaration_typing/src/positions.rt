@@ -1,0 +1,119 @@
+// Attributes that are named, by their positions in a heading.
+ghost use Rattle.std.specs.Prelude.{◌≡◌, []};
+ghost use Rattle.utd_syntax.specs.Read.{read_name, read_name_list};
+ghost use Rattle.value_core.specs.Headings.{has_name};
+ghost use Rattle.relation_core.specs.Agreement as agreement;
+ghost use Rattle.scalar_core.specs.Answers.{Gives};
+ghost use Rattle.algebra_core.specs.Sweeping.{among};
+ghost use Rattle.algebra_core.specs.Typing.{kind_at};
+ghost use Rattle.node_typing.specs.Lists.{kind_named};
+ghost use Rattle.node_typing.specs.Positions as rules;
+
+use point_core::{Code, Fault, Place, Stop};
+use std::alloc::Global;
+use utd_syntax::Word;
+use value_core::{Kind, Name};
+
+/// The refusal with the code at the place where it does not hold.
+pub(crate) fn check(place: Place, code: Code, holds: bool) -> Result<(), Stop>
+    ensures { Gives (λ _. tt) result (rules.check place code holds) }
+{
+    if holds {
+        Ok(())
+    } else {
+        Err(Stop::Fault(Fault { place, code }))
+    }
+}
+
+/// Whether one of the attributes has the name.
+fn has_name(list: &[(Name, Kind)], name: &[u8]) -> bool
+    ensures { result ≡ has_name list.now name.now }
+{
+    list.iter()
+        .any(|attribute| attribute.0.as_str().as_bytes() == name)
+}
+
+/// Where the attribute of the name stands; past the end where there is none.
+fn position(list: &[(Name, Kind)], name: &[u8]) -> usize
+    ensures { result ≡ agreement.position_of list.now name.now }
+{
+    for (at, attribute) in list.iter().enumerate() {
+        if attribute.0.as_str().as_bytes() == name {
+            return at;
+        }
+    }
+    list.len()
+}
+
+/// The position of the attribute of the name.
+fn position_if(list: &[(Name, Kind)], name: &[u8]) -> Option<usize>
+    ensures { result ≡ rules.position_if list.now name.now }
+{
+    if has_name(list, name) {
+        Some(position(list, name))
+    } else {
+        None
+    }
+}
+
+/// The kind at the position; BOOLEAN past the end.
+fn kind_at(list: &[(Name, Kind)], at: usize) -> Kind
+    ensures { result ≡ kind_at list.now at }
+{
+    match list.get(at) {
+        Some(attribute) => attribute.1,
+        None => Kind::Truth,
+    }
+}
+
+/// The kind of the attribute of the name; BOOLEAN where there is none.
+pub(crate) fn kind_named(list: &[(Name, Kind)], name: &[u8]) -> Kind
+    ensures { result ≡ kind_named list.now name.now }
+{
+    kind_at(list, position(list, name))
+}
+
+/// The position of a named attribute.
+pub(crate) fn position_typed(list: &[(Name, Kind)], word: &Word) -> Result<usize, Stop>
+    ensures { Gives (λ i. i) result (rules.position_typed list.now (read_name word.now)) }
+{
+    match position_if(list, word.bytes.list.as_slice()) {
+        Some(at) => Ok(at),
+        None => Err(Stop::Fault(Fault {
+            place: word.place,
+            code: Code::E14,
+        })),
+    }
+}
+
+/// Whether the position is one of these.
+fn among(positions: &[usize], at: usize) -> bool
+    ensures { result ≡ among positions.now at }
+{
+    positions.iter().any(|position| at == *position)
+}
+
+/// The position of a named attribute that was not named before.
+fn new_position(list: &[(Name, Kind)], before: &[usize], word: &Word) -> Result<usize, Stop>
+    ensures { Gives (λ i. i) result (rules.new_position list.now before.now (read_name word.now)) }
+{
+    let at = position_typed(list, word)?;
+    check(word.place, Code::E15, !among(before, at))?;
+    Ok(at)
+}
+
+/// The positions of different named attributes, in the order of the text.
+pub(crate) fn positions_typed(
+    alloc: Global,
+    list: &[(Name, Kind)],
+    words: &[Word],
+) -> Result<Vec<usize>, Stop>
+    ensures { Gives (λ v. v.items) result (rules.positions_typed list.now [] (read_name_list words.now)) }
+{
+    let mut positions = Vec::new(alloc);
+    for word in words {
+        let at = new_position(list, positions.as_slice(), word)?;
+        positions.push(at)?;
+    }
+    Ok(positions)
+}
