@@ -114,8 +114,8 @@ abbrev pub item_typed : State → ItemP → OrFault PlainItem
 item_typed state (syntax.SetRelvar w rel) = setting_typed state w rel
 item_typed state (syntax.Insert at w rel) = insertion_typed state at w rel
 item_typed state (syntax.Delete at w deletion) = deletion_item_typed state at w deletion
-item_typed state (syntax.Update at w portion condition sets) = update_item_typed state at w portion condition sets
-item_typed state (syntax.Terminate at w at_place s condition) = refused at E01
+item_typed state (syntax.Update at w p c sets) = update_item_typed state at w p c sets
+item_typed state (syntax.Terminate at w at_place s c) = refused at E01
 item_typed state (syntax.UsingItem at list item) = used_item_typed state at list item
 
 -- the items behind those so far, in the order of the text
@@ -135,7 +135,7 @@ assignment_typed state assignment = items_typed state [] (listed_items assignmen
 -- ---- items that are typed so far
 
 abbrev pub is_plain_deletion : DeletionP → Bool
-is_plain_deletion (syntax.DeletePortion portion condition) = false
+is_plain_deletion (syntax.DeletePortion p c) = false
 is_plain_deletion _ = true
 
 abbrev pub has_no_portion : MaybePortionP → Bool
@@ -146,8 +146,8 @@ abbrev pub is_plain_item : ItemP → Bool
 is_plain_item (syntax.SetRelvar w rel) = true
 is_plain_item (syntax.Insert at w rel) = true
 is_plain_item (syntax.Delete at w deletion) = is_plain_deletion deletion
-is_plain_item (syntax.Update at w portion condition sets) = has_no_portion portion
-is_plain_item (syntax.Terminate at w at_place s condition) = false
+is_plain_item (syntax.Update at w p c sets) = has_no_portion p
+is_plain_item (syntax.Terminate at w at_place s c) = false
 is_plain_item (syntax.UsingItem at list item) = false
 
 abbrev pub is_plain_assignment : AssignP → Bool
