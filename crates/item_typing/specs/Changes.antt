@@ -2,7 +2,7 @@
 use Rattle.std.specs.Prelude.{ℕ, not, List, [], ◌∷◌, ◌++◌, length, map, nat_le, Ok, Option, Some, None}
 use Rattle.point_core.specs.declared.fault.Code.TheVariants.{E12, E14, E15, E16, E17}
 use Rattle.point_core.specs.Faults.{OrFault}
-use Rattle.utd_syntax.specs.Plain.{ScalarP, SetItemP, ElementP, Element, SomeElementsP, SomeElements, MaybePortionP, NoPortion, OfPortion, ConditionP, NoCondition, Where}
+use Rattle.utd_syntax.specs.Plain.{SetItemP, ElementP, Element, SomeElementsP, SomeElements, MaybePortionP, NoPortion, OfPortion, ConditionP, NoCondition, Where}
 use Rattle.value_core.specs.declared.list.OrdinalNames.{OrdinalNames}
 use Rattle.value_core.specs.Values.{Name, Heading}
 use Rattle.scalar_core.specs.Expressions.{Expr}

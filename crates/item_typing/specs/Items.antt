@@ -8,7 +8,7 @@ use Rattle.point_core.specs.declared.fault.Code.TheVariants.{E01}
 use Rattle.point_core.specs.Faults.{OrFault}
 use Rattle.utd_syntax.specs.Plain as syntax
 use Rattle.utd_syntax.specs.Plain.{Word, NameListP, RelP, ConditionP, MaybePortionP, SetsP, DeletionP, UsedDeletionP, UsedItemP, ItemP, AssignP}
-use Rattle.value_core.specs.Values.{Name, Heading}
+use Rattle.value_core.specs.Values.{Heading}
 use Rattle.scalar_typing.specs.Typings.{◌>>=◌, refused}
 use Rattle.tree_core.specs.Items.{PlainItemForm, set_to, insert, delete, delete_rows, update, PlainItem}
 use Rattle.tree_core.specs.Relvars.{State}
