@@ -1,0 +1,4 @@
+pub mod Targets
+pub mod Sets
+pub mod Changes
+pub mod Items

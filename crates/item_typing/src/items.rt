@@ -1,0 +1,192 @@
+// The items of an assignment, all typed for the same relvars.
+ghost use Rattle.std.specs.Prelude.{◌≡◌, map, IsTrue};
+ghost use Rattle.std.specs.List.{list_all};
+ghost use Rattle.utd_syntax.specs.Plain.{NoPortion};
+ghost use Rattle.utd_syntax.specs.Read.{read_assign, read_condition, read_deletion, read_item, read_item_list, read_name, read_rel, read_sets};
+ghost use Rattle.scalar_core.specs.Answers.{Gives};
+ghost use Rattle.scalar_typing.specs.Names.{AreOrdinals};
+ghost use Rattle.tree_core.specs.Items as typed;
+ghost use Rattle.tree_core.specs.Relvars.{read_relvars};
+ghost use Rattle.item_typing.specs.Items as rules;
+
+use crate::changes::{condition_if, condition_typed, of_rows};
+use crate::sets::sets_made;
+use crate::targets::{Target, rows_typed, target_typed};
+use point_core::{Place, Stop};
+use std::alloc::Global;
+use tree_core::{Item, ItemForm, Items, Relvars};
+use utd_syntax as syntax;
+use utd_syntax::{Assignment, Condition, Deletion, MaybePortion, Rel, Sets, Word};
+use value_core::Heading;
+
+/// An item that changes the target.
+fn item_of(place: Place, target: Target, form: ItemForm) -> Item
+    ensures { typed.read_item result ≡ rules.item_of place (target.name, target.heading) (typed.read_item_form form) }
+{
+    Item {
+        place,
+        target: target.name,
+        heading: target.heading,
+        form,
+    }
+}
+
+/// `name ":=" rel`.
+fn type_setting(alloc: Global, word: &Word, rel: &Rel, relvars: &Relvars) -> Result<Item, Stop>
+    requires { AreOrdinals (read_relvars relvars.now).ordinals }
+    ensures { Gives typed.read_item result (rules.setting_typed (read_relvars relvars.now) (read_name word.now) (read_rel rel.now)) }
+{
+    let target = target_typed(alloc, word, relvars)?;
+    let t = rows_typed(alloc, word, &target.heading, rel, relvars)?;
+    Ok(item_of(word.place, target, ItemForm::Set(t)))
+}
+
+/// `"INSERT" name rel`.
+fn type_insertion(
+    alloc: Global,
+    place: Place,
+    word: &Word,
+    rel: &Rel,
+    relvars: &Relvars,
+) -> Result<Item, Stop>
+    requires { AreOrdinals (read_relvars relvars.now).ordinals }
+    ensures { Gives typed.read_item result (rules.insertion_typed (read_relvars relvars.now) place (read_name word.now) (read_rel rel.now)) }
+{
+    let target = target_typed(alloc, word, relvars)?;
+    let t = rows_typed(alloc, word, &target.heading, rel, relvars)?;
+    Ok(item_of(place, target, ItemForm::Insert(None, t)))
+}
+
+/// What a DELETE takes away.
+fn type_deleted(
+    alloc: Global,
+    word: &Word,
+    heading: &Heading,
+    deletion: &Deletion,
+    relvars: &Relvars,
+) -> Result<ItemForm, Stop>
+    requires plain { IsTrue (rules.is_plain_deletion (read_deletion deletion.now)) }
+    requires ordinals { AreOrdinals (read_relvars relvars.now).ordinals }
+    ensures { Gives typed.read_item_form result (rules.deletion_typed (read_relvars relvars.now) (read_name word.now) heading.now (read_deletion deletion.now)) }
+{
+    match deletion {
+        Deletion::Where(place, scalar) => {
+            let c = condition_typed(alloc, &relvars.ordinals, *place, heading, scalar)?;
+            Ok(ItemForm::DeleteRows(of_rows(Some(c))))
+        }
+        Deletion::Portion(_, _) => unreachable!(),
+        Deletion::Rows(rel) => {
+            let t = rows_typed(alloc, word, heading, rel, relvars)?;
+            Ok(ItemForm::Delete(None, t))
+        }
+    }
+}
+
+/// `"DELETE" name deletion`.
+fn type_deletion(
+    alloc: Global,
+    place: Place,
+    word: &Word,
+    deletion: &Deletion,
+    relvars: &Relvars,
+) -> Result<Item, Stop>
+    requires plain { IsTrue (rules.is_plain_deletion (read_deletion deletion.now)) }
+    requires ordinals { AreOrdinals (read_relvars relvars.now).ordinals }
+    ensures { Gives typed.read_item result (rules.deletion_item_typed (read_relvars relvars.now) place (read_name word.now) (read_deletion deletion.now)) }
+{
+    let target = target_typed(alloc, word, relvars)?;
+    let form = type_deleted(alloc, word, &target.heading, deletion, relvars)?;
+    Ok(item_of(place, target, form))
+}
+
+/// What an UPDATE changes.
+fn type_updated(
+    alloc: Global,
+    heading: &Heading,
+    condition: &Condition,
+    sets: &Sets,
+    relvars: &Relvars,
+) -> Result<ItemForm, Stop>
+    requires { AreOrdinals (read_relvars relvars.now).ordinals }
+    ensures { Gives typed.read_item_form result (rules.update_typed (read_relvars relvars.now) heading.now NoPortion (read_condition condition.now) (read_sets sets.now)) }
+{
+    let c = condition_if(alloc, &relvars.ordinals, heading, condition)?;
+    let made = sets_made(alloc, &relvars.ordinals, heading, sets)?;
+    Ok(ItemForm::Update(of_rows(c), made))
+}
+
+/// `"UPDATE" name condition ":" sets`.
+fn type_update(
+    alloc: Global,
+    place: Place,
+    word: &Word,
+    condition: &Condition,
+    sets: &Sets,
+    relvars: &Relvars,
+) -> Result<Item, Stop>
+    requires { AreOrdinals (read_relvars relvars.now).ordinals }
+    ensures { Gives typed.read_item result (rules.update_item_typed (read_relvars relvars.now) place (read_name word.now) NoPortion (read_condition condition.now) (read_sets sets.now)) }
+{
+    let target = target_typed(alloc, word, relvars)?;
+    let form = type_updated(alloc, &target.heading, condition, sets, relvars)?;
+    Ok(item_of(place, target, form))
+}
+
+/// The typed item where these are the relvars, views and ordinal types, or its first refusal with its place.
+///
+/// For now of items without USING and PORTION, and of those other than TERMINATE.
+pub fn type_item(alloc: Global, item: &syntax::Item, relvars: &Relvars) -> Result<Item, Stop>
+    requires plain { IsTrue (rules.is_plain_item (read_item item.now)) }
+    requires ordinals { AreOrdinals (read_relvars relvars.now).ordinals }
+    ensures typing { Gives typed.read_item result (rules.item_typed (read_relvars relvars.now) (read_item item.now)) }
+{
+    match item {
+        syntax::Item::Set(word, rel) => type_setting(alloc, word, rel, relvars),
+        syntax::Item::Insert(place, word, rel) => type_insertion(alloc, *place, word, rel, relvars),
+        syntax::Item::Delete(place, word, deletion) => type_deletion(
+            alloc, *place, word, deletion, relvars,
+        ),
+        syntax::Item::Update(place, word, MaybePortion::None, condition, sets) => type_update(
+            alloc, *place, word, condition, sets, relvars,
+        ),
+        syntax::Item::Update(_, _, MaybePortion::Of(_, _), _, _) => unreachable!(),
+        syntax::Item::Terminate(_, _, _, _, _) | syntax::Item::Using(_, _, _) => unreachable!(),
+    }
+}
+
+/// The items behind those so far.
+fn more_items(
+    alloc: Global,
+    before: Vec<Item>,
+    list: &[syntax::Item],
+    relvars: &Relvars,
+) -> Result<Vec<Item>, Stop>
+    requires plain { IsTrue (list_all rules.is_plain_item (read_item_list list.now)) }
+    requires ordinals { AreOrdinals (read_relvars relvars.now).ordinals }
+    ensures { Gives (λ v. map typed.read_item v.items) result (rules.items_typed (read_relvars relvars.now) (map typed.read_item before.items) (read_item_list list.now)) }
+{
+    let mut items = before;
+    for item in list {
+        let next = type_item(alloc, item, relvars)?;
+        items.push(next)?;
+    }
+    Ok(items)
+}
+
+/// The typed items of an assignment, all for the same relvars, views and ordinal types, or the first refusal with its place.
+///
+/// For now of items without USING and PORTION, and of those other than TERMINATE.
+pub fn type_items(alloc: Global, assignment: &Assignment, relvars: &Relvars) -> Result<Items, Stop>
+    requires plain { IsTrue (rules.is_plain_assignment (read_assign assignment.now)) }
+    requires ordinals { AreOrdinals (read_relvars relvars.now).ordinals }
+    ensures typing { Gives (map typed.read_item) result (rules.assignment_typed (read_relvars relvars.now) (read_assign assignment.now)) }
+{
+    let first = type_item(alloc, &assignment.first, relvars)?;
+    let list = more_items(
+        alloc,
+        vec![in alloc; first]?,
+        assignment.more.list.as_slice(),
+        relvars,
+    )?;
+    Ok(Items { list })
+}

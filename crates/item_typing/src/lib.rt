@@ -1,0 +1,9 @@
+//! The typing of the items of an assignment: typed items, or the first refusal with its place.
+#![tactic(auto)]
+
+mod changes;
+mod items;
+mod sets;
+mod targets;
+
+pub use items::{type_item, type_items};

@@ -1,0 +1,102 @@
+// The relvars that items change, and the rows that items give them.
+ghost use Rattle.std.specs.Prelude.{◌≡◌, option_map};
+ghost use Rattle.utd_syntax.specs.Read.{read_name, read_rel};
+ghost use Rattle.scalar_core.specs.Answers.{Gives, seen};
+ghost use Rattle.scalar_typing.specs.Names.{AreOrdinals};
+ghost use Rattle.tree_core.specs.Relvars.{read_relvar, read_relvars, relvar_named};
+ghost use Rattle.tree_core.specs.Trees.{read_tree};
+ghost use Rattle.node_typing.specs.Positions as positions;
+ghost use Rattle.point_core.specs.declared.fault.Code.TheVariants.{E10};
+ghost use Rattle.scalar_typing.specs.Typings.{value_or};
+ghost use Rattle.item_typing.specs.Targets as rules;
+
+use point_core::{Code, Fault, Place, Stop};
+use relation_typing::{name_typed, same_heading};
+use std::alloc::Global;
+use tree_core::{RelTree, Relvar, Relvars};
+use tree_typing::type_tree;
+use utd_syntax::{Rel, Word};
+use value_core::{Heading, Name};
+
+/// The refusal with the code at the place where it does not hold.
+pub(crate) fn check(place: Place, code: Code, holds: bool) -> Result<(), Stop>
+    ensures { Gives (λ _. tt) result (positions.check place code holds) }
+{
+    if holds {
+        Ok(())
+    } else {
+        Err(Stop::Fault(Fault { place, code }))
+    }
+}
+
+/// The relvar or view of the name.
+fn relvar_of<'a>(relvars: &'a Relvars, name: &Name) -> Option<&'a Relvar>
+    ensures { option_map (λ r. read_relvar r.now) result ≡ relvar_named (read_relvars relvars.now).relvars name.now }
+{
+    relvars.list.get(name)
+}
+
+/// The relvar or view of the name: E10 at it where there is none.
+fn known_relvar<'a>(relvars: &'a Relvars, name: &Name, place: Place) -> Result<&'a Relvar, Fault>
+    ensures { seen (λ r. read_relvar r.now) result ≡ value_or place E10 (relvar_named (read_relvars relvars.now).relvars name.now) }
+{
+    match relvar_of(relvars, name) {
+        Some(relvar) => Ok(relvar),
+        None => Err(Fault {
+            place,
+            code: Code::E10,
+        }),
+    }
+}
+
+/// The heading of a base relvar: E20 at a view.
+fn base_heading(place: Place, relvar: &Relvar) -> Result<&Heading, Fault>
+    ensures { seen (λ h. h.now) result ≡ rules.base_heading place (read_relvar relvar.now) }
+{
+    match relvar {
+        Relvar::Base {
+            value,
+            constraints: _,
+        } => Ok(value.heading()),
+        Relvar::View {
+            tree: _,
+            history: _,
+        } => Err(Fault {
+            place,
+            code: Code::E20,
+        }),
+    }
+}
+
+/// The base relvar that an item changes, and its heading.
+#[derive(Drop)]
+pub(crate) struct Target {
+    pub(crate) name: Name,
+    pub(crate) heading: Heading,
+}
+
+/// The base relvar of the name. A name out of its length is E06; the reading of a text lets none through.
+pub(crate) fn target_typed(alloc: Global, word: &Word, relvars: &Relvars) -> Result<Target, Stop>
+    ensures { Gives (λ t. (t.name, t.heading)) result (rules.target_typed (read_relvars relvars.now) (read_name word.now)) }
+{
+    let name = name_typed(alloc, word)?;
+    let relvar = known_relvar(relvars, &name, word.place)?;
+    let heading = base_heading(word.place, relvar)?.copy(alloc)?;
+    Ok(Target { name, heading })
+}
+
+/// An expression of the target's heading.
+pub(crate) fn rows_typed(
+    alloc: Global,
+    word: &Word,
+    heading: &Heading,
+    rel: &Rel,
+    relvars: &Relvars,
+) -> Result<RelTree, Stop>
+    requires { AreOrdinals (read_relvars relvars.now).ordinals }
+    ensures { Gives read_tree result (rules.rows_typed (read_relvars relvars.now) (read_name word.now) heading.now (read_rel rel.now)) }
+{
+    let t = type_tree(alloc, rel, relvars)?;
+    check(word.place, Code::E13, same_heading(&t.heading, heading))?;
+    Ok(t)
+}
