@@ -56,8 +56,8 @@ is_referenced acl here there rows others =
 
 -- ---- histories
 
--- a row x of the since relvar and a row y of the during relvar contradict each other: they agree on the key, and y has not ended
--- before x began; or they agree on all shared attributes, and y ends directly before x begins or later
+-- a row x of the since relvar and a row y of the during relvar contradict each other: they agree on the key, and either y has not
+-- ended before x began, or they agree on all shared attributes and the point directly before x began is in y
 abbrev pub contradict : HistoryRule → Row → Row → Bool
 contradict h x y =
     let began = number_of (value_at x h.point_there) in

@@ -12,8 +12,8 @@ use point_core::Memory;
 use std::alloc::Global;
 use value_core::Relation;
 
-/// Whether no two different rows have the same values at the positions. Rows are in the order of their first values, so that only
-/// others are sorted for it.
+/// Whether no two different rows have the same values at the positions. The rows stand in the order of their first values already;
+/// values at other positions are sorted.
 pub(crate) fn is_key(alloc: Global, r: &Relation, positions: &[usize]) -> Result<bool, Memory>
     requires { All (λ (i : ℕ). i < length r.now.heading) positions.now }
     ensures { IfOk result (λ kept. kept ≡ is_key positions.now r.now.rows) }
