@@ -31,13 +31,18 @@ fn copy_form(alloc: Global, form: &RelForm) -> Result<RelForm, Memory>
     match form {
         RelForm::Named(name) => Ok(RelForm::Named(name.copy(alloc)?)),
         RelForm::Literal(tuples) => Ok(RelForm::Literal(copy_tuples(alloc, tuples)?)),
-        RelForm::Infix(word, l, r) =>
-            Ok(RelForm::Infix(*word, copy_box(alloc, l)?, copy_box(alloc, r)?)),
+        RelForm::Infix(word, l, r) => Ok(RelForm::Infix(
+            *word,
+            copy_box(alloc, l)?,
+            copy_box(alloc, r)?,
+        )),
         RelForm::Project(kept, t) => Ok(RelForm::Project(kept.copy(alloc)?, copy_box(alloc, t)?)),
         RelForm::Rename(names, t) => Ok(RelForm::Rename(names.copy(alloc)?, copy_box(alloc, t)?)),
         RelForm::Restrict(c, t) => Ok(RelForm::Restrict(c.copy(alloc)?, copy_box(alloc, t)?)),
-        RelForm::Extend(sets, t) =>
-            Ok(RelForm::Extend(copy_sets(alloc, sets)?, copy_box(alloc, t)?)),
+        RelForm::Extend(sets, t) => Ok(RelForm::Extend(
+            copy_sets(alloc, sets)?,
+            copy_box(alloc, t)?,
+        )),
         RelForm::Summarize(by, aggregates, t) => Ok(RelForm::Summarize(
             by.copy(alloc)?,
             copy_aggregates(alloc, aggregates)?,

@@ -77,9 +77,11 @@ abbrev pub changed_rows : PlainItem → Option (List ℕ) → Expr → PlainSets
 changed_rows item acl c sets = under_using item acl (extend item.place item.heading sets (rows_where item acl c))
 
 -- the other rows, and the changed ones
+abbrev pub replaced : PlainItem → Option (List ℕ) → Expr → PlainSets → Tree
+replaced item acl c sets = infix_of item.place item.heading Union (other_rows item acl c) (changed_rows item acl c sets)
+
 abbrev pub updated : PlainItem → Option (List ℕ) → Expr → PlainSets → Tree
-updated item acl c sets =
-    under_using item acl (infix_of item.place item.heading Union (other_rows item acl c) (changed_rows item acl c sets))
+updated item acl c sets = under_using item acl (replaced item acl c sets)
 
 -- ---- items
 

@@ -38,10 +38,11 @@ fn condition(alloc: Global, place: Place, c: &Option<Scalar>) -> Result<Scalar, 
 }
 
 /// The opposite condition.
-pub(crate) fn negated(alloc: Global, place: Place, c: Scalar) -> Result<Scalar, Memory>
-    ensures { IfOk result (λ e. read e ≡ negated place (read c)) }
+pub(crate) fn negated(alloc: Global, place: Place, c: &Scalar) -> Result<Scalar, Memory>
+    ensures { IfOk result (λ e. read e ≡ negated place (read c.now)) }
 {
-    let part = Box::new(alloc, c)?;
+    let part = c.copy(alloc)?;
+    let part = Box::new(alloc, part)?;
     Ok(Scalar {
         place,
         form: ScalarForm::Not(part),

@@ -54,7 +54,7 @@ fn without_rows(alloc: Global, item: &Item, change: &Change) -> Result<RelTree, 
 {
     let acl = change_list(alloc, change)?;
     let c = change_condition(alloc, item, change)?;
-    Ok(other_rows(alloc, item, &acl, c)?)
+    Ok(other_rows(alloc, item, &acl, &c)?)
 }
 
 /// The target with new values in the rows of the change.

@@ -3,7 +3,7 @@ ghost use Rattle.std.specs.Prelude.{◌≡◌, IfOk};
 ghost use Rattle.scalar_core.specs.Expressions.{read};
 ghost use Rattle.tree_core.specs.Trees.{read_tree, read_form, read_sets, infix_of, restrict, extend, using as tree_using};
 ghost use Rattle.tree_core.specs.Items.{read_item};
-ghost use Rattle.update_core.specs.Updates.{target_of, under_using, with_operand, rows_where, other_rows, changed_rows, updated};
+ghost use Rattle.update_core.specs.Updates.{target_of, under_using, with_operand, rows_where, other_rows, changed_rows, replaced, updated};
 
 use crate::conditions::negated;
 use point_core::Memory;
@@ -125,9 +125,9 @@ pub(crate) fn other_rows(
     alloc: Global,
     item: &Item,
     acl: &Option<Positions>,
-    c: Scalar,
+    c: &Scalar,
 ) -> Result<RelTree, Memory>
-    ensures { IfOk result (λ r. read_tree r ≡ other_rows (read_item item.now) acl.now (read c)) }
+    ensures { IfOk result (λ r. read_tree r ≡ other_rows (read_item item.now) acl.now (read c.now)) }
 {
     let not = negated(alloc, item.place, c)?;
     let rows = rows_where(alloc, item, acl, not)?;
@@ -151,6 +151,21 @@ fn changed_rows(
 }
 
 /// The other rows, and the changed ones.
+fn replaced(
+    alloc: Global,
+    item: &Item,
+    acl: &Option<Positions>,
+    c: Scalar,
+    sets: &Sets,
+) -> Result<RelTree, Memory>
+    ensures { IfOk result (λ r. read_tree r ≡ replaced (read_item item.now) acl.now (read c) (read_sets sets.now)) }
+{
+    let others = other_rows(alloc, item, acl, &c)?;
+    let changed = changed_rows(alloc, item, acl, c, sets)?;
+    Ok(infix(alloc, item, InfixWord::Union, others, changed)?)
+}
+
+/// The other rows and the changed ones, under USING where a list is given.
 pub(crate) fn updated(
     alloc: Global,
     item: &Item,
@@ -160,9 +175,6 @@ pub(crate) fn updated(
 ) -> Result<RelTree, Memory>
     ensures { IfOk result (λ r. read_tree r ≡ updated (read_item item.now) acl.now (read c) (read_sets sets.now)) }
 {
-    let others = other_rows(alloc, item, acl, c.copy(alloc)?)?;
-    let changed = changed_rows(alloc, item, acl, c, sets)?;
-    let rows = infix(alloc, item, InfixWord::Union, others, changed)?;
-    let rows = under_using(alloc, item, acl, rows)?;
-    Ok(rows)
+    let rows = replaced(alloc, item, acl, c, sets)?;
+    Ok(under_using(alloc, item, acl, rows)?)
 }

@@ -4,7 +4,7 @@
 mod samples;
 mod words;
 
-pub use samples::{always, at, change, interval, sets, words_of};
+pub use samples::{always, at, change, interval, operand, sets, words_of};
 pub use words::{spell, spell_scalar};
 
 #[cfg(test)]

@@ -7,7 +7,7 @@ use crate::words::spell;
 use point_core::{AnyType, Memory, Place};
 use scalar_core::{Scalar, ScalarForm};
 use std::alloc::Global;
-use tree_core::{Assignment, Change, Item, ItemForm, Sets};
+use tree_core::{Assignment, Change, Item, ItemForm, RelForm, RelTree, Sets};
 use update_core::expand;
 use value_core::{Heading, Kind, ListOf, Name, Value};
 
@@ -65,6 +65,17 @@ pub fn sets(alloc: Global, column: u32) -> Result<Sets, Memory> {
     let mut list = Vec::new(alloc);
     list.push((name, always(column)))?;
     Ok(ListOf { list })
+}
+
+/// A relvar of N's heading.
+pub fn operand(alloc: Global, column: u32) -> Result<RelTree, Memory> {
+    let heading = heading(alloc)?;
+    let name = name(alloc, "r")?;
+    Ok(RelTree {
+        place: at(column),
+        heading,
+        form: RelForm::Named(name),
+    })
 }
 
 // The item of that form, which begins at 1.

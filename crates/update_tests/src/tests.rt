@@ -1,5 +1,5 @@
-// What DELETE and UPDATE stand for.
-use crate::samples::{always, change, interval, sets, words_of};
+// What INSERT, DELETE and UPDATE stand for.
+use crate::samples::{always, change, interval, operand, sets, words_of};
 use point_core::Memory;
 use std::alloc::Global;
 use std::test::Fail;
@@ -16,6 +16,18 @@ fn portion_of_s(alloc: Global) -> Result<Portion, Memory> {
     let mut list = Vec::new(alloc);
     list.push((0, interval(3)))?;
     Ok(ListOf { list })
+}
+
+#[test]
+fn insert_and_delete(rt: HostRuntime) -> Result<(), Fail> {
+    let alloc = rt.alloc();
+    let (rows, acl) = (operand(alloc, 4)?, list_of_s(alloc)?);
+    let words = words_of(alloc, ItemForm::Insert(Some(acl), rows))?;
+    assert!(rt; words.as_str() == "n := USING1 UNION1 N1 N4");
+    let rows = operand(alloc, 3)?;
+    let words = words_of(alloc, ItemForm::Delete(None, rows))?;
+    assert!(rt; words.as_str() == "n := MINUS1 N1 N3");
+    Ok(())
 }
 
 #[test]
