@@ -1,16 +1,13 @@
 -- What VAR VIRTUAL declares keeps a state well made.
-use Rattle.std.specs.Prelude.{nat_le, None, IfOk}
-use Rattle.point_core.specs.declared.fault.Code.TheVariants.{E22}
+use Rattle.std.specs.Prelude.{None, IfOk}
 use Rattle.utd_syntax.specs.Plain.{Word, RelP}
 use Rattle.scalar_typing.proofs.SoundLemmas.{then-sound}
 use Rattle.tree_core.specs.Relvars.{State, view}
 use Rattle.algebra_core.specs.Declarations.{PlainDeclaration, with_declaration}
 use Rattle.algebra_core.specs.WellMade.{IsTypedFor, IsWellMade}
-use Rattle.node_typing.specs.Positions.{check}
 use Rattle.tree_typing.specs.Trees.{tree_typed}
-use Rattle.declaration_typing.specs.Names.{new_name, room_for}
-use Rattle.declaration_typing.specs.Nodes.{nodes_of}
-use Rattle.declaration_typing.specs.Views.{view_declared}
+use Rattle.declaration_typing.specs.Names.{new_name}
+use Rattle.declaration_typing.specs.Views.{room_for_view, view_declared}
 use Rattle.declaration_typing.proofs.FitLemmas.{any-given}
 use Rattle.declaration_typing.proofs.StateLemmas.{IsFree, free-name, with-relvar}
 
@@ -24,6 +21,5 @@ module _ (s : State) (w : Word) (rel : RelP) where
   view-kept made typed =
       then-sound (IsFree s) IsKept (new_name s w) _ (free-name s w) (λ name free.
       then-sound (IsTypedFor s) IsKept (tree_typed s rel) _ typed (λ t is.
-      then-sound (λ (_ : Unit {0}). Unit {0}) IsKept (check w.place E22 (nat_le (nodes_of s.relvars t) 1000)) _ (any-given (check w.place E22 (nat_le (nodes_of s.relvars t) 1000))) (λ _ _.
-      then-sound (λ (_ : Unit {0}). Unit {0}) IsKept (room_for s w.place) _ (any-given (room_for s w.place)) (λ _ _.
-      with-relvar s name (view t None) made free (is, tt)))))
+      then-sound (λ (_ : Unit {0}). Unit {0}) IsKept (room_for_view s w.place t) _ (any-given (room_for_view s w.place t)) (λ _ _.
+      with-relvar s name (view t None) made free (is, tt))))

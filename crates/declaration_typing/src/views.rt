@@ -3,17 +3,27 @@ ghost use Rattle.utd_syntax.specs.Read.{read_name, read_rel};
 ghost use Rattle.scalar_core.specs.Answers.{Gives};
 ghost use Rattle.scalar_typing.specs.Names.{AreOrdinals};
 ghost use Rattle.tree_core.specs.Relvars.{read_relvars};
+ghost use Rattle.tree_core.specs.Trees.{read_tree};
 ghost use Rattle.algebra_core.specs.Declarations.{read_declaration};
 ghost use Rattle.declaration_typing.specs.Views as rules;
 
 use crate::names::{new_name, room_for};
 use crate::nodes::are_few;
 use crate::positions::check;
-use point_core::{Code, Stop};
+use point_core::{Code, Place, Stop};
 use std::alloc::Global;
-use tree_core::{Declaration, Relvars};
+use tree_core::{Declaration, RelTree, Relvars};
 use tree_typing::type_tree;
 use utd_syntax::{Rel, Word};
+
+/// The refusal of a view of this expression where it has too many nodes, or there are as many relvars and views as there may be.
+fn room_for_view(alloc: Global, relvars: &Relvars, place: Place, tree: &RelTree) -> Result<(), Stop>
+    ensures { Gives (λ _. tt) result (rules.room_for_view (read_relvars relvars.now) place (read_tree tree.now)) }
+{
+    let few = are_few(alloc, tree, relvars)?;
+    check(place, Code::E22, few)?;
+    room_for(relvars, place)
+}
 
 /// The view that VAR VIRTUAL declares where these are the relvars, views and ordinal types, or the first refusal.
 #[tactic(auto, unfolding(crate::specs::Views::view_declared))]
@@ -28,8 +38,6 @@ pub fn type_view(
 {
     let name = new_name(alloc, word, relvars)?;
     let tree = type_tree(alloc, rel, relvars)?;
-    let few = are_few(alloc, &tree, relvars)?;
-    check(word.place, Code::E22, few)?;
-    room_for(relvars, word.place)?;
+    room_for_view(alloc, relvars, word.place, &tree)?;
     Ok(Declaration::View(name, tree))
 }

@@ -1,5 +1,6 @@
 pub mod AggregateLemmas
 pub mod CheckLemmas
+pub mod DeclarationLemmas
 pub mod DeclaredLemmas
 pub mod ExtensionLemmas
 pub mod InfixLemmas

@@ -1,0 +1,43 @@
+-- What declarations and drops make of a well made state is well made.
+use Rattle.std.specs.Prelude.{List, Ok, Err, IfOk}
+use Rattle.point_core.specs.Faults.{OrFault}
+use Rattle.utd_syntax.specs.Plain.{Word, NameListP, SomeNamesP, HeadingP, ConstraintP, RelP}
+use Rattle.value_core.specs.Values.{Name, Heading}
+use Rattle.tree_core.specs.Relvars.{State}
+use Rattle.algebra_core.specs.Declarations.{with_declaration, without}
+use Rattle.algebra_core.specs.Meanings.{positions_of}
+use Rattle.algebra_core.specs.Typing.{IsList}
+use Rattle.algebra_core.specs.WellMade.{IsWellMade}
+use Rattle.node_typing.specs.Lists.{list_checked}
+use Rattle.declaration_typing.specs.Drops.{dropped}
+use Rattle.declaration_typing.specs.Ordinals.{ordinal_declared}
+use Rattle.declaration_typing.specs.Relvars.{relvar_declared}
+use Rattle.declaration_typing.specs.Views.{view_declared}
+use Rattle.declaration_typing.proofs.DropLaws.{dropped-kept}
+use Rattle.declaration_typing.proofs.OrdinalLaws.{ordinal-kept}
+use Rattle.declaration_typing.proofs.RelvarLaws.{relvar-kept}
+use Rattle.declaration_typing.proofs.ViewLaws.{view-kept}
+use Rattle.type_check.proofs.ListLemmas.{AreListed, list-sound, left-list}
+use Rattle.type_check.proofs.LiteralLemmas.{heading-declared}
+use Rattle.type_check.proofs.TreeLemmas.{tree-sound}
+
+-- a list over one heading
+list-made : (to : Heading) (list : NameListP) → IfOk (list_checked to to list) (λ (names : List Name). IsList to (positions_of to names))
+list-made to list = listed (list_checked to to list) (list-sound to to list)
+  where
+    listed : (r : OrFault (List Name)) → IfOk r (AreListed to to list) → IfOk r (λ (names : List Name). IsList to (positions_of to names))
+    listed (Ok names) h = left-list to to list names h
+    listed (Err e) h = tt
+
+module _ (state : State) (made : IsWellMade state) where
+  pub ordinal-made : (w : Word) (list : SomeNamesP) → IfOk (ordinal_declared state w list) (λ d. IsWellMade (with_declaration state d))
+  ordinal-made w list = ordinal-kept state w list made
+
+  pub relvar-made : (w : Word) (h : HeadingP) (list : List ConstraintP) → IfOk (relvar_declared state w h list) (λ d. IsWellMade (with_declaration state d))
+  relvar-made w h list = relvar-kept state w h list made (heading-declared state.ordinals made.ordinals h) (λ to declared l. list-made to l)
+
+  pub view-made : (w : Word) (rel : RelP) → IfOk (view_declared state w rel) (λ d. IsWellMade (with_declaration state d))
+  view-made w rel = view-kept state w rel made (tree-sound state made rel)
+
+  pub drop-made : (w : Word) → IfOk (dropped state w) (λ name. IsWellMade (without name state))
+  drop-made w = dropped-kept state w made
