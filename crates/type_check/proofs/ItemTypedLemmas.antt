@@ -1,5 +1,5 @@
 -- Typed items are typed for the state.
-use Rattle.std.specs.Prelude.{◌≡◌, ℕ, Bool, true, false, not, List, [], ◌∷◌, ◌++◌, get_or, nat_eq, if◌then◌else◌, option_map, Option, Some, None, Ok, IfOk, IsTrue, refl}
+use Rattle.std.specs.Prelude.{◌≡◌, ℕ, Bool, true, not, List, [], ◌∷◌, ◌++◌, get_or, nat_eq, option_map, Option, Some, None, Ok, IfOk, IsTrue, refl}
 use Rattle.std.proofs.Common.{sym, ◌∙◌, ap, subst, inl, inr}
 use Rattle.std.specs.List.{list_any, list_all, All}
 use Rattle.std.specs.Str.{bytes_eq}
@@ -22,7 +22,7 @@ use Rattle.relation_typing.specs.Attributes.{name_typed}
 use Rattle.relation_typing.specs.Headings.{same_heading}
 use Rattle.scalar_typing.specs.Typings.{◌>>=◌, value_or}
 use Rattle.scalar_typing.proofs.SoundLemmas.{then-sound}
-use Rattle.tree_core.specs.Relvars.{PlainRelvar, base, view, Entries, State, relvar_named, relvar_heading, heading_if}
+use Rattle.tree_core.specs.Relvars.{PlainRelvar, base, view, State, relvar_named, relvar_heading, heading_if}
 use Rattle.tree_core.specs.Trees.{PlainSets, named, heading_of}
 use Rattle.tree_core.specs.Items.{PlainPortion, PlainItemForm, set_to, insert, update, PlainItem}
 use Rattle.algebra_core.specs.Meanings.{positions_of}

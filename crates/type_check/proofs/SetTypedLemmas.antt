@@ -8,7 +8,7 @@ use Rattle.std.proofs.lemmas.List.Sorted.{IsPermutation-sym}
 use Rattle.base_core.proofs.SetLemmas.{In, Ascends}
 use Rattle.base_core.proofs.MemberLemmas.{In-append, In-map, In-filter, list_any-In}
 use Rattle.base_core.proofs.SetOperatorLemmas.{In-permutation}
-use Rattle.point_core.specs.declared.fault.Code.TheVariants.{E14, E15}
+use Rattle.point_core.specs.declared.fault.Code.TheVariants.{E14}
 use Rattle.point_core.specs.Faults.{OrFault}
 use Rattle.utd_syntax.specs.Plain.{Word, ScalarP, SetItemP, SetItem, SetsP}
 use Rattle.value_core.specs.declared.kind.Kind.{Kind}
@@ -21,11 +21,11 @@ use Rattle.scalar_core.specs.KindOf.{same_kind}
 use Rattle.relation_core.specs.Agreement.{names_of}
 use Rattle.relation_core.proofs.ApartLemmas.{from_in_order, ascends_in_order}
 use Rattle.relation_core.proofs.HeadingLemmas.{one_list, heading_ascends, few_attributes}
-use Rattle.relation_typing.specs.Attributes.{with_attribute, name_typed, new_name}
+use Rattle.relation_typing.specs.Attributes.{with_attribute, new_name}
 use Rattle.relation_typing.specs.Items.{Made, none_made}
 use Rattle.scalar_typing.specs.Names.{first_from, attribute_of}
 use Rattle.scalar_typing.specs.Scalars.{typed_scalar}
-use Rattle.scalar_typing.specs.Typings.{refused, value_or}
+use Rattle.scalar_typing.specs.Typings.{value_or}
 use Rattle.scalar_typing.proofs.SoundLemmas.{then-sound}
 use Rattle.scalar_typing.proofs.TypedLemmas.{same_kind-same, mapped, or-refused}
 use Rattle.tree_core.specs.Trees.{PlainSets}
