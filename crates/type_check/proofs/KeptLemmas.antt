@@ -120,7 +120,7 @@ others-none names sets h =
     let s = (list_any-In (λ (s : Name × Expr). bytes_eq n.0 s.0) sets).0 n.2 in
     h n.0 s.0 n.1 s.1 s.2))
 
-new-word : (h : Heading) (w : Word) → IfOk (new_name h w) (λ (name : Name). name ≡ w.bytes)
+pub new-word : (h : Heading) (w : Word) → IfOk (new_name h w) (λ (name : Name). name ≡ w.bytes)
 new-word h w =
     then-sound (λ (name : Name). name ≡ w.bytes) (λ (name : Name). name ≡ w.bytes) (name_typed w) _ (word-typed w) (λ name is. by-test name is (has_name h name))
   where

@@ -5,13 +5,16 @@ pub mod DeclaredLemmas
 pub mod ExtensionLemmas
 pub mod InfixLemmas
 pub mod ItemLemmas
+pub mod ItemTypedLemmas
 pub mod KeptLemmas
 pub mod ListLemmas
 pub mod LiteralLemmas
 pub mod PlainLemmas
+pub mod PortionTypedLemmas
 pub mod PositionLemmas
 pub mod PutLemmas
 pub mod RenamingLemmas
 pub mod ScalarLemmas
+pub mod SetTypedLemmas
 pub mod TreeLemmas
 pub mod UsingLemmas

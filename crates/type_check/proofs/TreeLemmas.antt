@@ -37,7 +37,7 @@ pub are-ordinals : (state : State) → IsWellMade state → AreOrdinals state.or
 are-ordinals state made = (made.few, λ k d l. (made.ordinals k d l).few)
 
 -- the heading of a name is that of its relvar or view
-named-heading : (entries : Entries) (name : Name) → heading_named (headings_of entries) name ≡ option_map relvar_heading (relvar_named entries name)
+pub named-heading : (entries : Entries) (name : Name) → heading_named (headings_of entries) name ≡ option_map relvar_heading (relvar_named entries name)
 named-heading [] name = refl
 named-heading (r ∷ rest) name = by-test (bytes_eq r.0 name) (named-heading rest name)
   where
