@@ -11,13 +11,13 @@ ghost use Rattle.utd_syntax.specs.Read.{read_aggregates, read_list, read_names, 
 ghost use Rattle.node_typing.specs.Usings as rules;
 
 use crate::lists::{list_checked, positions_of};
-use crate::nodes::type_infix;
+use crate::nodes::infix_typed;
 use crate::projections::{projected, projection_place};
 use crate::rows::{Extension, condition_typed, extension_made};
 use crate::summaries::{Summary, aggregates_made, groups_typed};
 use crate::sweeps::{aggregates_name_no, all_kept, none_assigned, sets_swept, swept};
 use crate::trees;
-use crate::trees::heading;
+use crate::trees::{boxed, heading};
 use point_core::{Place, Stop};
 use scalar_core::Scalar;
 use std::alloc::Global;
@@ -38,10 +38,39 @@ pub fn type_using_infix(
 ) -> Result<RelTree, Stop>
     ensures { Gives read_tree result (rules.using_infix_rule place (read_list list.now) at word (read_tree left) (read_tree right)) }
 {
+    let left = boxed(alloc, left)?;
+    using_infix_from(alloc, place, list, at, word, left, right)
+}
+
+fn using_infix_from(
+    alloc: Global,
+    place: Place,
+    list: &NameList,
+    at: Place,
+    word: InfixWord,
+    left: Box<RelTree>,
+    right: RelTree,
+) -> Result<RelTree, Stop>
+    ensures { Gives read_tree result (rules.using_infix_rule place (read_list list.now) at word (read_tree left.value) (read_tree right)) }
+{
+    let right = boxed(alloc, right)?;
+    infix_used(alloc, place, list, at, word, left, right)
+}
+
+fn infix_used(
+    alloc: Global,
+    place: Place,
+    list: &NameList,
+    at: Place,
+    word: InfixWord,
+    left: Box<RelTree>,
+    right: Box<RelTree>,
+) -> Result<RelTree, Stop>
+    ensures { Gives read_tree result (rules.using_infix_rule place (read_list list.now) at word (read_tree left.value) (read_tree right.value)) }
+{
     list_checked(heading(&left), heading(&right), list)?;
-    let part = type_infix(alloc, at, word, left, right)?;
-    let tree = trees::used(alloc, place, list, part)?;
-    Ok(tree)
+    let part = infix_typed(alloc, at, word, left, right)?;
+    trees::used(alloc, place, list, part)
 }
 
 /// The list, the projection, and that it keeps the listed attributes.
@@ -65,14 +94,13 @@ fn projection_used(
     place: Place,
     list: &NameList,
     projection: &Projection,
-    t: RelTree,
+    of: Box<RelTree>,
 ) -> Result<RelTree, Stop>
-    ensures { Gives read_tree result (rules.projection_used place (read_list list.now) (read_projection projection.now) (read_tree t)) }
+    ensures { Gives read_tree result (rules.projection_used place (read_list list.now) (read_projection projection.now) (read_tree of.value)) }
 {
-    let (kept, to) = kept_projection(alloc, list, projection, heading(&t))?;
-    let part = trees::project(alloc, projection_place(projection), to, kept, t)?;
-    let tree = trees::used(alloc, place, list, part)?;
-    Ok(tree)
+    let (kept, to) = kept_projection(alloc, list, projection, heading(&of))?;
+    let part = trees::project(projection_place(projection), to, kept, of);
+    trees::used(alloc, place, list, part)
 }
 
 /// A projection under USING: the refusals of the list and of the projection, then E19 at a listed name.
@@ -85,7 +113,8 @@ pub fn type_using_projection(
 ) -> Result<RelTree, Stop>
     ensures { Gives read_tree result (rules.using_projection_rule place (read_list list.now) (read_projection projection.now) (read_tree t)) }
 {
-    projection_used(alloc, place, list, projection, t)
+    let of = boxed(alloc, t)?;
+    projection_used(alloc, place, list, projection, of)
 }
 
 /// The list, the condition of a WHERE, and that it is sweepable.
@@ -101,8 +130,8 @@ fn swept_condition(
     ensures { Gives read result (rules.swept_condition types.now (read_list list.now) at from.now (read_scalar scalar.now)) }
 {
     list_checked(from, from, list)?;
-    let c = condition_typed(alloc, types, at, from, scalar)?;
     let acl = positions_of(alloc, from, list)?;
+    let c = condition_typed(alloc, types, at, from, scalar)?;
     swept(acl.list.as_slice(), &c)?;
     Ok(c)
 }
@@ -114,15 +143,15 @@ fn restriction_used(
     list: &NameList,
     at: Place,
     scalar: &syntax::Scalar,
-    t: RelTree,
+    of: Box<RelTree>,
 ) -> Result<RelTree, Stop>
     requires { AreOrdinals types.now }
-    ensures { Gives read_tree result (rules.restriction_used types.now place (read_list list.now) at (read_scalar scalar.now) (read_tree t)) }
+    ensures { Gives read_tree result (rules.restriction_used types.now place (read_list list.now) at (read_scalar scalar.now) (read_tree of.value)) }
 {
-    let c = swept_condition(alloc, types, list, at, heading(&t), scalar)?;
-    let part = trees::restrict(alloc, at, c, t)?;
-    let tree = trees::used(alloc, place, list, part)?;
-    Ok(tree)
+    let to = heading(&of).copy(alloc)?;
+    let c = swept_condition(alloc, types, list, at, heading(&of), scalar)?;
+    let part = trees::restrict(at, to, c, of);
+    trees::used(alloc, place, list, part)
 }
 
 /// A WHERE under USING: the refusals of the list and of the condition, then E18 at a name in it.
@@ -138,7 +167,8 @@ pub fn type_using_restriction(
     requires { AreOrdinals types.now }
     ensures { Gives read_tree result (rules.using_restriction_rule types.now place (read_list list.now) at (read_scalar scalar.now) (read_tree t)) }
 {
-    restriction_used(alloc, types, place, list, at, scalar, t)
+    let of = boxed(alloc, t)?;
+    restriction_used(alloc, types, place, list, at, scalar, of)
 }
 
 /// The list, the items of an EXTEND, that they assign no listed attribute, and that they are sweepable.
@@ -169,15 +199,14 @@ fn extension_used(
     list: &NameList,
     at: Place,
     sets: &syntax::Sets,
-    t: RelTree,
+    of: Box<RelTree>,
 ) -> Result<RelTree, Stop>
     requires { AreOrdinals types.now }
-    ensures { Gives read_tree result (rules.extension_used types.now place (read_list list.now) at (read_sets sets.now) (read_tree t)) }
+    ensures { Gives read_tree result (rules.extension_used types.now place (read_list list.now) at (read_sets sets.now) (read_tree of.value)) }
 {
-    let made = swept_extension(alloc, types, list, at, heading(&t), sets)?;
-    let part = trees::extend(alloc, at, made.heading, made.sets, t)?;
-    let tree = trees::used(alloc, place, list, part)?;
-    Ok(tree)
+    let made = swept_extension(alloc, types, list, at, heading(&of), sets)?;
+    let part = trees::extend(at, made.heading, made.sets, of);
+    trees::used(alloc, place, list, part)
 }
 
 /// An EXTEND under USING: the refusals of the list and of the items, then E19 at an item's name, then E18 at a name in an item.
@@ -193,7 +222,8 @@ pub fn type_using_extension(
     requires { AreOrdinals types.now }
     ensures { Gives read_tree result (rules.using_extension_rule types.now place (read_list list.now) at (read_sets sets.now) (read_tree t)) }
 {
-    extension_used(alloc, types, place, list, at, sets, t)
+    let of = boxed(alloc, t)?;
+    extension_used(alloc, types, place, list, at, sets, of)
 }
 
 /// The list, the groups and aggregates of a SUMMARIZE, that the groups keep the listed attributes, and that no aggregate names
@@ -227,15 +257,14 @@ fn summary_used(
     at: Place,
     by: &syntax::Names,
     aggregates: &syntax::Aggregates,
-    t: RelTree,
+    of: Box<RelTree>,
 ) -> Result<RelTree, Stop>
     requires { AreOrdinals types.now }
-    ensures { Gives read_tree result (rules.summary_used types.now place (read_list list.now) at (read_names by.now) (read_aggregates aggregates.now) (read_tree t)) }
+    ensures { Gives read_tree result (rules.summary_used types.now place (read_list list.now) at (read_names by.now) (read_aggregates aggregates.now) (read_tree of.value)) }
 {
-    let (by, made) = swept_summary(alloc, types, list, at, heading(&t), by, aggregates)?;
-    let part = trees::summarize(alloc, at, made.heading, by, made.aggregates, t)?;
-    let tree = trees::used(alloc, place, list, part)?;
-    Ok(tree)
+    let (by, made) = swept_summary(alloc, types, list, at, heading(&of), by, aggregates)?;
+    let part = trees::summarize(at, made.heading, by, made.aggregates, of);
+    trees::used(alloc, place, list, part)
 }
 
 /// A SUMMARIZE under USING: the refusals of the list and of the summary, then E19 at a listed name, then E18 at a listed name in
@@ -253,5 +282,6 @@ pub fn type_using_summary(
     requires { AreOrdinals types.now }
     ensures { Gives read_tree result (rules.using_summary_rule types.now place (read_list list.now) at (read_names by.now) (read_aggregates aggregates.now) (read_tree t)) }
 {
-    summary_used(alloc, types, place, list, at, by, aggregates, t)
+    let of = boxed(alloc, t)?;
+    summary_used(alloc, types, place, list, at, by, aggregates, of)
 }
