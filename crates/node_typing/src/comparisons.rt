@@ -5,7 +5,7 @@ ghost use Rattle.tree_core.specs.Trees.{read_test, read_tree};
 ghost use Rattle.utd_syntax.specs.Read.{read_list};
 ghost use Rattle.node_typing.specs.Nodes as rules;
 
-use crate::lists::{list_checked, positions_of};
+use crate::lists::listed;
 use crate::positions::check;
 use crate::trees::heading;
 use point_core::{Code, Place, Stop};
@@ -59,13 +59,12 @@ pub fn type_using_comparison(
 ) -> Result<RelTest, Stop>
     ensures { Gives read_test result (rules.using_comparison_rule (read_list list.now) place word (read_tree left) (read_tree right)) }
 {
-    list_checked(heading(&left), heading(&right), list)?;
+    let acl = listed(alloc, heading(&left), heading(&right), list)?;
     check(
         place,
         Code::E13,
         same_heading(heading(&left), heading(&right)),
     )?;
-    let acl = positions_of(alloc, heading(&left), list)?;
     Ok(RelTest {
         place,
         form: TestForm::Relate(word, Some(acl), left, right),

@@ -8,7 +8,7 @@ ghost use Rattle.node_typing.specs.Infixes as infixes;
 ghost use Rattle.node_typing.specs.Nodes as rules;
 
 use crate::infixes::infix_heading;
-use crate::lists::{list_checked, positions_of};
+use crate::lists::listed;
 use crate::projections::{projected, projection_place};
 use crate::renamings::{renamed_heading, renaming_names};
 use crate::rows::{condition_typed, extension_made};
@@ -237,8 +237,7 @@ fn packing_typed(
 ) -> Result<RelTree, Stop>
     ensures { Gives read_tree result (rules.packing_rule place word (read_list list.now) (read_tree part.value)) }
 {
-    list_checked(heading(&part), heading(&part), list)?;
-    let acl = positions_of(alloc, heading(&part), list)?;
+    let acl = listed(alloc, heading(&part), heading(&part), list)?;
     let to = heading(&part).copy(alloc)?;
     Ok(trees::pack(place, to, word, acl, part))
 }

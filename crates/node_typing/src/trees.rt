@@ -5,6 +5,7 @@ ghost use Rattle.scalar_core.specs.Answers.{Gives};
 ghost use Rattle.scalar_core.specs.Expressions.{read};
 ghost use Rattle.tree_core.specs.Trees as trees;
 ghost use Rattle.tree_core.specs.Trees.{heading_of, read_aggregate, read_sets, read_tree};
+ghost use Rattle.node_typing.specs.Lists.{listed_names};
 ghost use Rattle.node_typing.specs.Nodes as nodes;
 ghost use Rattle.node_typing.specs.Usings as usings;
 
@@ -148,14 +149,14 @@ pub(crate) fn used(
     list: &NameList,
     part: RelTree,
 ) -> Result<RelTree, Stop>
-    ensures { Gives read_tree result (Ok (usings.used place (usings.listed_names (read_list list.now)) (read_tree part))) }
+    ensures { Gives read_tree result (Ok (usings.used place (listed_names (read_list list.now)) (read_tree part))) }
 {
     let part = boxed(alloc, part)?;
     using(alloc, place, list, part)
 }
 
 fn using(alloc: Global, place: Place, list: &NameList, part: Box<RelTree>) -> Result<RelTree, Stop>
-    ensures { Gives read_tree result (Ok (usings.used place (usings.listed_names (read_list list.now)) (read_tree part.value))) }
+    ensures { Gives read_tree result (Ok (usings.used place (listed_names (read_list list.now)) (read_tree part.value))) }
 {
     let acl = positions_of(alloc, heading(&part), list)?;
     let heading = heading(&part).copy(alloc)?;
