@@ -14,7 +14,7 @@ use crate::renamings::{renamed_heading, renaming_names};
 use crate::rows::{condition_typed, extension_made};
 use crate::summaries::{aggregates_made, groups_typed};
 use crate::trees;
-use crate::trees::{boxed, heading};
+use crate::trees::{both_boxed, boxed, heading};
 use point_core::{Place, Stop};
 use std::alloc::Global;
 use tree_core::{InfixWord, RelTree};
@@ -45,20 +45,7 @@ pub fn type_infix(
 ) -> Result<RelTree, Stop>
     ensures { Gives read_tree result (rules.infix_rule place word (read_tree left) (read_tree right)) }
 {
-    let left = boxed(alloc, left)?;
-    infix_from(alloc, place, word, left, right)
-}
-
-fn infix_from(
-    alloc: Global,
-    place: Place,
-    word: InfixWord,
-    left: Box<RelTree>,
-    right: RelTree,
-) -> Result<RelTree, Stop>
-    ensures { Gives read_tree result (rules.infix_rule place word (read_tree left.value) (read_tree right)) }
-{
-    let right = boxed(alloc, right)?;
+    let (left, right) = both_boxed(alloc, left, right)?;
     infix_typed(alloc, place, word, left, right)
 }
 

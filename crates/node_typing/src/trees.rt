@@ -32,6 +32,20 @@ pub(crate) fn boxed(alloc: Global, t: RelTree) -> Result<Box<RelTree>, Memory>
     Ok(part)
 }
 
+/// Two trees, each in a block of its own.
+pub(crate) fn both_boxed(
+    alloc: Global,
+    left: RelTree,
+    right: RelTree,
+) -> Result<(Box<RelTree>, Box<RelTree>), Memory>
+    ensures left { IfOk result (λ p. p.0.value ≡ left) }
+    ensures right { IfOk result (λ p. p.1.value ≡ right) }
+{
+    let first = boxed(alloc, left);
+    let second = boxed(alloc, right);
+    Ok((first?, second?))
+}
+
 /// An operator between two relations.
 pub(crate) fn infix(
     place: Place,

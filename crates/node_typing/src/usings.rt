@@ -12,7 +12,7 @@ use crate::rows::{condition_typed, extension_made};
 use crate::summaries::{aggregates_made, groups_typed};
 use crate::sweeps::{aggregates_name_no, all_kept, none_assigned, sets_swept, swept};
 use crate::trees;
-use crate::trees::{boxed, heading};
+use crate::trees::{both_boxed, boxed, heading};
 use point_core::{Place, Stop};
 use std::alloc::Global;
 use tree_core::{InfixWord, RelTree};
@@ -32,22 +32,7 @@ pub fn type_using_infix(
 ) -> Result<RelTree, Stop>
     ensures { Gives read_tree result (rules.using_infix_rule place (read_list list.now) at word (read_tree left) (read_tree right)) }
 {
-    let left = boxed(alloc, left)?;
-    using_infix_from(alloc, place, list, at, word, left, right)
-}
-
-fn using_infix_from(
-    alloc: Global,
-    place: Place,
-    list: &NameList,
-    at: Place,
-    word: InfixWord,
-    left: Box<RelTree>,
-    right: RelTree,
-) -> Result<RelTree, Stop>
-    ensures { Gives read_tree result (rules.using_infix_rule place (read_list list.now) at word (read_tree left.value) (read_tree right)) }
-{
-    let right = boxed(alloc, right)?;
+    let (left, right) = both_boxed(alloc, left, right)?;
     infix_used(alloc, place, list, at, word, left, right)
 }
 
