@@ -49,7 +49,7 @@ pub fn type_infix(
     infix_typed(alloc, place, word, left, right)
 }
 
-/// An operator between two relations.
+/// An operator between two operands in blocks of their own.
 pub(crate) fn infix_typed(
     alloc: Global,
     place: Place,
@@ -71,6 +71,7 @@ pub fn type_projection(alloc: Global, projection: &Projection, t: RelTree) -> Re
     projection_typed(alloc, projection, part)
 }
 
+/// The projection of an operand in a block of its own.
 fn projection_typed(
     alloc: Global,
     projection: &Projection,
@@ -96,6 +97,7 @@ pub fn type_renaming(
     renaming_typed(alloc, place, renamings, part)
 }
 
+/// The RENAME of an operand in a block of its own.
 fn renaming_typed(
     alloc: Global,
     place: Place,
@@ -124,6 +126,7 @@ pub fn type_restriction(
     restriction_typed(alloc, types, place, scalar, part)
 }
 
+/// The WHERE over an operand in a block of its own.
 fn restriction_typed(
     alloc: Global,
     types: &OrdinalTypes,
@@ -154,6 +157,7 @@ pub fn type_extension(
     extension_typed(alloc, types, place, sets, part)
 }
 
+/// The EXTEND of an operand in a block of its own.
 fn extension_typed(
     alloc: Global,
     types: &OrdinalTypes,
@@ -185,6 +189,7 @@ pub fn type_summary(
     summary_typed(alloc, types, place, by, aggregates, part)
 }
 
+/// The SUMMARIZE of an operand in a block of its own.
 fn summary_typed(
     alloc: Global,
     types: &OrdinalTypes,
@@ -215,6 +220,7 @@ pub fn type_packing(
     packing_typed(alloc, place, word, list, part)
 }
 
+/// The PACK or UNPACK of an operand in a block of its own.
 fn packing_typed(
     alloc: Global,
     place: Place,

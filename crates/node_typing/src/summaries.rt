@@ -109,9 +109,9 @@ fn aggregate_typed(
     ensures { Gives (λ _. summed before.new) result (rules.aggregate_typed types.now from.now (summed before.old) (read.read_aggregate aggregate.now)) }
 {
     let name = new_name(alloc, &before.attributes, &aggregate.name)?;
-    let (form, kind) = form_typed(alloc, types, from, &aggregate.form)?;
     let copy = name.copy(alloc)?;
     let place = form_place(&aggregate.form);
+    let (form, kind) = form_typed(alloc, types, from, &aggregate.form)?;
     before.aggregates.push(Aggregate { name, place, form })?;
     put(&mut before.attributes, copy, kind)?;
     Ok(())

@@ -169,6 +169,7 @@ pub(crate) fn used(
     using(alloc, place, list, part)
 }
 
+/// The node of USING over a part in a block of its own.
 fn using(alloc: Global, place: Place, list: &NameList, part: Box<RelTree>) -> Result<RelTree, Stop>
     ensures { Gives read_tree result (Ok (usings.used place (listed_names (read_list list.now)) (read_tree part.value))) }
 {

@@ -36,6 +36,7 @@ pub fn type_using_infix(
     infix_used(alloc, place, list, at, word, left, right)
 }
 
+/// The operator between operands in blocks of their own.
 fn infix_used(
     alloc: Global,
     place: Place,
@@ -66,6 +67,7 @@ pub fn type_using_projection(
     projection_used(alloc, place, list, projection, of)
 }
 
+/// The projection of an operand in a block of its own.
 fn projection_used(
     alloc: Global,
     place: Place,
@@ -99,6 +101,7 @@ pub fn type_using_restriction(
     restriction_used(alloc, types, place, list, at, scalar, of)
 }
 
+/// The WHERE over an operand in a block of its own.
 fn restriction_used(
     alloc: Global,
     types: &OrdinalTypes,
@@ -136,6 +139,7 @@ pub fn type_using_extension(
     extension_used(alloc, types, place, list, at, sets, of)
 }
 
+/// The EXTEND of an operand in a block of its own.
 fn extension_used(
     alloc: Global,
     types: &OrdinalTypes,
@@ -176,6 +180,7 @@ pub fn type_using_summary(
     summary_used(alloc, types, place, list, at, by, aggregates, of)
 }
 
+/// The SUMMARIZE of an operand in a block of its own.
 fn summary_used(
     alloc: Global,
     types: &OrdinalTypes,
