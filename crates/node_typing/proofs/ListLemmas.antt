@@ -1,6 +1,6 @@
 -- Words and their names, and the check of a list name by name.
 use Rattle.std.specs.Prelude.{◌≡◌, ℕ, zero, suc, ◌+◌, ◌<◌, List, [], ◌∷◌, ◌++◌, length, take, drop, Ok, refl}
-use Rattle.std.proofs.Common.{arith, get_or, sym, subst, ◌∙◌, ap}
+use Rattle.std.proofs.Common.{arith, get_or, subst, ap}
 use Rattle.std.proofs.Math.Seq.{drop-cons}
 use Rattle.utd_syntax.specs.declared.word.Word.{Word as WordTree}
 use Rattle.utd_syntax.specs.Read.{read_name, read_name_list}
