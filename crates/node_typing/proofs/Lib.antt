@@ -3,4 +3,3 @@ pub mod HeadingLemmas
 pub mod KeptLemmas
 pub mod ListLemmas
 pub mod SweepLemmas
-pub mod UsingLemmas

@@ -8,4 +8,3 @@ pub mod Summaries
 pub mod Sweeps
 pub mod Nodes
 pub mod Usings
-pub mod Made

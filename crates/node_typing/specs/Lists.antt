@@ -23,6 +23,10 @@ words_of (NameList at words) = words
 abbrev pub names_of_words : List Word → List Name
 names_of_words words = map (λ (w : Word). w.bytes) words
 
+-- the names of a list
+abbrev pub listed_names : NameListP → List Name
+listed_names list = names_of_words (words_of list)
+
 abbrev pub named_in : List Name → Name → Bool
 named_in names name = list_any (bytes_eq name) names
 

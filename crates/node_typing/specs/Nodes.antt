@@ -1,6 +1,6 @@
 -- The rules of relational nodes and comparisons over typed operands: the typed node, or its first refusal behind those of the
 -- operands.
-use Rattle.std.specs.Prelude.{ℕ, List, Ok, Some, None}
+use Rattle.std.specs.Prelude.{ℕ, List, Ok, Option, Some, None}
 use Rattle.point_core.specs.declared.fault.Place.{Place}
 use Rattle.point_core.specs.declared.fault.Code.TheVariants.{E13}
 use Rattle.point_core.specs.Faults.{OrFault}
@@ -83,18 +83,20 @@ relation_named written.LessEqual = relation.LessEqual
 relation_named written.Greater = relation.Greater
 relation_named written.GreaterEqual = relation.GreaterEqual
 
--- E13 at the comparison
-abbrev pub comparison_rule : Place → RelateWord → Tree → Tree → OrFault Test
-comparison_rule place word l r = do
+-- E13 at the comparison, which goes by the unpacked rows where attributes are given
+abbrev pub compared : Place → RelateWord → Option (List ℕ) → Tree → Tree → OrFault Test
+compared place word acl l r = do
   same ← check place E13 (same_heading (heading_of l) (heading_of r))
-  Ok (relate place word None l r)
+  Ok (relate place word acl l r)
+
+abbrev pub comparison_rule : Place → RelateWord → Tree → Tree → OrFault Test
+comparison_rule place word l r = compared place word None l r
 
 -- the list, then E13 at the comparison
 abbrev pub using_comparison_rule : NameListP → Place → RelateWord → Tree → Tree → OrFault Test
 using_comparison_rule list place word l r = do
   names ← list_checked (heading_of l) (heading_of r) list
-  same ← check place E13 (same_heading (heading_of l) (heading_of r))
-  Ok (relate place word (Some (positions_of (heading_of l) names)) l r)
+  compared place word (Some (positions_of (heading_of l) names)) l r
 
 abbrev pub emptiness_test : Place → EmptinessWord → Tree → Test
 emptiness_test place IsEmpty t = is_empty place t

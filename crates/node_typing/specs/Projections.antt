@@ -1,7 +1,7 @@
 -- What projections keep, and the names that a RENAME gives.
 --     projection_kept p heading      the positions that are kept
 --     renaming_names r heading      the names of the attributes behind a RENAME, in the order of the old ones
-use Rattle.std.specs.Prelude.{ℕ, ◌+◌, Bool, true, false, not, List, [], ◌∷◌, ◌++◌, map, filter, length, nat_eq, nat_le, Ok, if◌then◌else◌}
+use Rattle.std.specs.Prelude.{ℕ, ◌+◌, Bool, true, false, List, [], ◌∷◌, ◌++◌, map, filter, length, nat_eq, nat_le, Ok, if◌then◌else◌}
 use Rattle.std.specs.Str.{bytes_eq}
 use Rattle.point_core.specs.declared.fault.Place.{Place}
 use Rattle.point_core.specs.declared.fault.Code.TheVariants.{E15}
@@ -11,7 +11,6 @@ use Rattle.utd_syntax.specs.Plain.{Word, ProjectionP, Onto, AllBut, RenamingP, R
 use Rattle.value_core.specs.Values.{Name, Heading}
 use Rattle.scalar_typing.specs.Typings.{◌>>=◌}
 use Rattle.relation_typing.specs.Attributes.{name_typed}
-use Rattle.node_typing.specs.Lists.{named_in}
 use Rattle.node_typing.specs.Positions.{check, new_position, positions_typed, kept}
 
 -- ---- projections
@@ -69,11 +68,6 @@ names_from pairs n (a ∷ rest) = name_behind pairs n a.0 ∷ names_from pairs (
 -- the name stands once among the names
 abbrev pub stands_once : List Name → Name → Bool
 stands_once names name = nat_le (length (filter (bytes_eq name) names)) 1
-
--- the same, name by name
-abbrev pub once : List Name → Name → Bool
-once [] name = true
-once (n ∷ names) name = if bytes_eq name n then not (named_in names name) else once names name
 
 -- E15 at the first new name that stands more than once
 abbrev pub new_names_once : List Name → List RenamingP → OrFault (List Name)

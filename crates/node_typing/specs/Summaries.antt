@@ -1,6 +1,7 @@
 -- The groups and the aggregates of a SUMMARIZE, over the heading of its operand.
---     summary_made types place from by aggregates      the positions of the groups, the aggregates, and the heading of the node
-use Rattle.std.specs.Prelude.{ℕ, Bool, true, List, [], ◌∷◌, ◌++◌, Ok}
+--     groups_typed from by      the positions of the groups
+--     aggregates_made types place from by aggregates      the aggregates, and the heading of the node
+use Rattle.std.specs.Prelude.{ℕ, Bool, true, List, [], ◌∷◌, ◌++◌, map, Ok}
 use Rattle.point_core.specs.declared.any_type.AnyType.TheVariants.{Integer}
 use Rattle.point_core.specs.declared.fault.Place.{Place}
 use Rattle.point_core.specs.declared.fault.Code.TheVariants.{E12}
@@ -16,11 +17,13 @@ use Rattle.value_core.specs.Values.{Name, Heading}
 use Rattle.scalar_core.specs.Expressions.{Expr}
 use Rattle.scalar_core.specs.KindOf.{same_kind, is_ordered}
 use Rattle.relation_core.specs.Parts.{attributes_at}
-use Rattle.tree_core.specs.Trees.{PlainAggregateForm, count_rows, sum_of, min_of, max_of, PlainAggregate}
+use Rattle.tree_core.specs.Trees.{PlainAggregateForm, count_rows, sum_of, min_of, max_of, PlainAggregate, read_aggregate}
 use Rattle.scalar_typing.specs.Scalars.{typed_scalar}
 use Rattle.scalar_typing.specs.Typings.{◌>>=◌}
 use Rattle.relation_typing.specs.Attributes.{with_attribute, new_name, few_attributes}
 use Rattle.node_typing.specs.Positions.{check, positions_typed, kept}
+use Rattle.node_typing.specs.declared.summaries.Summary.{Summary}
+use Rattle.node_typing.specs.declared.summaries.Summed.{Summed as SummedItems}
 
 -- what an aggregate counts, and the kind of its values
 abbrev pub FormMade : Type 0
@@ -84,3 +87,11 @@ aggregates_made types place from by aggregates = do
   made ← aggregates_typed types from ([], attributes_at by from) (aggregate_list aggregates)
   to ← few_attributes place made.1
   Ok (made.0, to)
+
+-- ---- what the code makes, as plain data
+
+abbrev pub summed : SummedItems → Summed
+summed s = (map read_aggregate s.aggregates.items, s.attributes.entries)
+
+abbrev pub summary : Summary → Summed
+summary s = (map read_aggregate s.aggregates, s.heading)

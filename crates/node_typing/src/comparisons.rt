@@ -1,18 +1,18 @@
 // Tests over typed operands.
-ghost use Rattle.std.specs.Prelude.{◌≡◌};
+ghost use Rattle.std.specs.Prelude.{◌≡◌, Err};
 ghost use Rattle.scalar_core.specs.Answers.{Gives};
-ghost use Rattle.tree_core.specs.Trees.{read_test, read_tree};
+ghost use Rattle.tree_core.specs.Trees.{read_test, read_tree, relate};
 ghost use Rattle.utd_syntax.specs.Read.{read_list};
 ghost use Rattle.node_typing.specs.Nodes as rules;
 
-use crate::lists::{list_checked, positions_of};
-use crate::positions::check;
+use crate::lists::listed;
 use crate::trees::heading;
-use point_core::{Code, Place, Stop};
+use point_core::{Code, Fault, Place, Stop};
 use relation_typing::same_heading;
 use std::alloc::Global;
 use tree_core::{RelTest, RelTree, RelateWord, TestForm};
 use utd_syntax::{EmptinessWord, NameList, RelationComparison};
+use value_core::Positions;
 
 /// The comparison that a symbol names.
 pub fn relation_named(word: RelationComparison) -> RelateWord
@@ -28,6 +28,49 @@ pub fn relation_named(word: RelationComparison) -> RelateWord
     }
 }
 
+/// The comparison, by the unpacked rows where attributes are given.
+fn relation_test(
+    place: Place,
+    word: RelateWord,
+    acl: Option<Positions>,
+    left: RelTree,
+    right: RelTree,
+) -> RelTest
+    ensures { read_test result ≡ relate place word acl (read_tree left) (read_tree right) }
+{
+    RelTest {
+        place,
+        form: TestForm::Relate(word, acl, left, right),
+    }
+}
+
+/// The refusal of a comparison, whose operands are dropped.
+fn refused(stop: Stop, left: RelTree, right: RelTree) -> Result<RelTest, Stop>
+    ensures { result ≡ Err stop }
+{
+    drop(left);
+    drop(right);
+    Err(stop)
+}
+
+/// The comparison of operands with the same heading; else E13 at its place.
+fn compared(
+    place: Place,
+    word: RelateWord,
+    acl: Option<Positions>,
+    left: RelTree,
+    right: RelTree,
+) -> Result<RelTest, Stop>
+    ensures { Gives read_test result (rules.compared place word acl (read_tree left) (read_tree right)) }
+{
+    if same_heading(heading(&left), heading(&right)) {
+        Ok(relation_test(place, word, acl, left, right))
+    } else {
+        let code = Code::E13;
+        refused(Stop::Fault(Fault { place, code }), left, right)
+    }
+}
+
 /// A comparison of two relations: E13 at the place where their headings differ.
 pub fn type_comparison(
     place: Place,
@@ -37,15 +80,7 @@ pub fn type_comparison(
 ) -> Result<RelTest, Stop>
     ensures { Gives read_test result (rules.comparison_rule place word (read_tree left) (read_tree right)) }
 {
-    check(
-        place,
-        Code::E13,
-        same_heading(heading(&left), heading(&right)),
-    )?;
-    Ok(RelTest {
-        place,
-        form: TestForm::Relate(word, None, left, right),
-    })
+    compared(place, word, None, left, right)
 }
 
 /// A comparison under USING: the refusals of the list, then E13 at the place where the headings differ.
@@ -59,17 +94,10 @@ pub fn type_using_comparison(
 ) -> Result<RelTest, Stop>
     ensures { Gives read_test result (rules.using_comparison_rule (read_list list.now) place word (read_tree left) (read_tree right)) }
 {
-    list_checked(heading(&left), heading(&right), list)?;
-    check(
-        place,
-        Code::E13,
-        same_heading(heading(&left), heading(&right)),
-    )?;
-    let acl = positions_of(alloc, heading(&left), list)?;
-    Ok(RelTest {
-        place,
-        form: TestForm::Relate(word, Some(acl), left, right),
-    })
+    match listed(alloc, heading(&left), heading(&right), list) {
+        Ok(acl) => compared(place, word, Some(acl), left, right),
+        Err(stop) => refused(stop, left, right),
+    }
 }
 
 /// A test whether a relation has rows.

@@ -7,7 +7,7 @@ ghost use Rattle.algebra_core.specs.Typing.{is_span};
 ghost use Rattle.point_core.specs.declared.fault.Code.TheVariants.{E17};
 ghost use Rattle.node_typing.specs.Lists as rules;
 ghost use Rattle.node_typing.specs.Positions.{check};
-ghost use Rattle.node_typing.specs.Lists.{names_of_words, words_of};
+ghost use Rattle.node_typing.specs.Lists.{names_of_words};
 
 use crate::positions::{check, has_name, kind_named, position};
 use point_core::{Code, Memory, Stop};
@@ -80,12 +80,27 @@ fn few_names(list: &NameList) -> Result<(), Stop>
 
 /// The refusals of a list over the headings of two operands, or twice that of one.
 pub(crate) fn list_checked(left: &Heading, right: &Heading, list: &NameList) -> Result<(), Stop>
-    ensures { Gives (λ _. names_of_words (words_of (read_list list.now))) result (rules.list_checked left.now right.now (read_list list.now)) }
+    ensures { Gives (λ _. rules.listed_names (read_list list.now)) result (rules.list_checked left.now right.now (read_list list.now)) }
 {
     let words = list.names.list.as_slice();
     names_checked(left.attributes(), right.attributes(), words)?;
     few_names(list)?;
     Ok(())
+}
+
+/// The positions of the names of a list in the heading of the first operand, behind the refusals of the list.
+pub(crate) fn listed(
+    alloc: Global,
+    left: &Heading,
+    right: &Heading,
+    list: &NameList,
+) -> Result<Positions, Stop>
+    ensures checked { Gives (λ _. rules.listed_names (read_list list.now)) result (rules.list_checked left.now right.now (read_list list.now)) }
+    ensures positions { IfOk result (λ p. p ≡ positions_of left.now (rules.listed_names (read_list list.now))) }
+{
+    list_checked(left, right, list)?;
+    let positions = positions_of(alloc, left, list)?;
+    Ok(positions)
 }
 
 /// The positions of the listed names in the heading.
@@ -94,7 +109,7 @@ pub(crate) fn positions_of(
     heading: &Heading,
     list: &NameList,
 ) -> Result<Positions, Memory>
-    ensures { IfOk result (λ p. p ≡ positions_of heading.now (names_of_words (words_of (read_list list.now)))) }
+    ensures { IfOk result (λ p. p ≡ positions_of heading.now (rules.listed_names (read_list list.now))) }
 {
     let words = list.names.list.as_slice();
     let list = positions_of_words(alloc, heading.attributes(), words)?;

@@ -8,13 +8,13 @@ ghost use Rattle.node_typing.specs.Infixes as infixes;
 ghost use Rattle.node_typing.specs.Nodes as rules;
 
 use crate::infixes::infix_heading;
-use crate::lists::{list_checked, positions_of};
+use crate::lists::listed;
 use crate::projections::{projected, projection_place};
 use crate::renamings::{renamed_heading, renaming_names};
 use crate::rows::{condition_typed, extension_made};
 use crate::summaries::{aggregates_made, groups_typed};
 use crate::trees;
-use crate::trees::heading;
+use crate::trees::{both_boxed, boxed, heading};
 use point_core::{Place, Stop};
 use std::alloc::Global;
 use tree_core::{InfixWord, RelTree};
@@ -45,18 +45,42 @@ pub fn type_infix(
 ) -> Result<RelTree, Stop>
     ensures { Gives read_tree result (rules.infix_rule place word (read_tree left) (read_tree right)) }
 {
+    let (left, right) = both_boxed(alloc, left, right)?;
+    infix_typed(alloc, place, word, left, right)
+}
+
+/// An operator between two operands in blocks of their own.
+pub(crate) fn infix_typed(
+    alloc: Global,
+    place: Place,
+    word: InfixWord,
+    left: Box<RelTree>,
+    right: Box<RelTree>,
+) -> Result<RelTree, Stop>
+    ensures { Gives read_tree result (rules.infix_rule place word (read_tree left.value) (read_tree right.value)) }
+{
     let to = infix_heading(alloc, place, word, heading(&left), heading(&right))?;
-    let tree = trees::infix(alloc, place, to, word, left, right)?;
-    Ok(tree)
+    Ok(trees::infix(place, to, word, left, right))
 }
 
 /// A projection: E14 or E15 at a name.
 pub fn type_projection(alloc: Global, projection: &Projection, t: RelTree) -> Result<RelTree, Stop>
     ensures { Gives read_tree result (rules.projection_rule (read_projection projection.now) (read_tree t)) }
 {
-    let (kept, to) = projected(alloc, heading(&t), projection)?;
-    let tree = trees::project(alloc, projection_place(projection), to, kept, t)?;
-    Ok(tree)
+    let part = boxed(alloc, t)?;
+    projection_typed(alloc, projection, part)
+}
+
+/// The projection of an operand in a block of its own.
+fn projection_typed(
+    alloc: Global,
+    projection: &Projection,
+    part: Box<RelTree>,
+) -> Result<RelTree, Stop>
+    ensures { Gives read_tree result (rules.projection_rule (read_projection projection.now) (read_tree part.value)) }
+{
+    let (kept, to) = projected(alloc, heading(&part), projection)?;
+    Ok(trees::project(projection_place(projection), to, kept, part))
 }
 
 /// A RENAME: E14 or E15 at an old name, then E15 at a new one. A name out of its length is E06; the reading of a text lets none
@@ -69,10 +93,22 @@ pub fn type_renaming(
 ) -> Result<RelTree, Stop>
     ensures { Gives read_tree result (rules.renaming_rule place (read_renamings renamings.now) (read_tree t)) }
 {
-    let names = renaming_names(alloc, heading(&t), renamings)?;
-    let to = renamed_heading(alloc, names.list.as_slice(), heading(&t))?;
-    let tree = trees::rename(alloc, place, to, names, t)?;
-    Ok(tree)
+    let part = boxed(alloc, t)?;
+    renaming_typed(alloc, place, renamings, part)
+}
+
+/// The RENAME of an operand in a block of its own.
+fn renaming_typed(
+    alloc: Global,
+    place: Place,
+    renamings: &Renamings,
+    part: Box<RelTree>,
+) -> Result<RelTree, Stop>
+    ensures { Gives read_tree result (rules.renaming_rule place (read_renamings renamings.now) (read_tree part.value)) }
+{
+    let names = renaming_names(alloc, heading(&part), renamings)?;
+    let to = renamed_heading(alloc, names.list.as_slice(), heading(&part))?;
+    Ok(trees::rename(place, to, names, part))
 }
 
 /// A WHERE: the refusals of its scalar, then E12 at the place.
@@ -86,9 +122,24 @@ pub fn type_restriction(
     requires { AreOrdinals types.now }
     ensures { Gives read_tree result (rules.restriction_rule types.now place (read_scalar scalar.now) (read_tree t)) }
 {
-    let c = condition_typed(alloc, types, place, heading(&t), scalar)?;
-    let tree = trees::restrict(alloc, place, c, t)?;
-    Ok(tree)
+    let part = boxed(alloc, t)?;
+    restriction_typed(alloc, types, place, scalar, part)
+}
+
+/// The WHERE over an operand in a block of its own.
+fn restriction_typed(
+    alloc: Global,
+    types: &OrdinalTypes,
+    place: Place,
+    scalar: &syntax::Scalar,
+    part: Box<RelTree>,
+) -> Result<RelTree, Stop>
+    requires { AreOrdinals types.now }
+    ensures { Gives read_tree result (rules.restriction_rule types.now place (read_scalar scalar.now) (read_tree part.value)) }
+{
+    let to = heading(&part).copy(alloc)?;
+    let c = condition_typed(alloc, types, place, heading(&part), scalar)?;
+    Ok(trees::restrict(place, to, c, part))
 }
 
 /// An EXTEND: E15 at a name or the refusals of its scalar, item by item, then E17 at the place.
@@ -102,9 +153,23 @@ pub fn type_extension(
     requires { AreOrdinals types.now }
     ensures { Gives read_tree result (rules.extension_rule types.now place (read_sets sets.now) (read_tree t)) }
 {
-    let made = extension_made(alloc, types, place, heading(&t), sets)?;
-    let tree = trees::extend(alloc, place, made.heading, made.sets, t)?;
-    Ok(tree)
+    let part = boxed(alloc, t)?;
+    extension_typed(alloc, types, place, sets, part)
+}
+
+/// The EXTEND of an operand in a block of its own.
+fn extension_typed(
+    alloc: Global,
+    types: &OrdinalTypes,
+    place: Place,
+    sets: &syntax::Sets,
+    part: Box<RelTree>,
+) -> Result<RelTree, Stop>
+    requires { AreOrdinals types.now }
+    ensures { Gives read_tree result (rules.extension_rule types.now place (read_sets sets.now) (read_tree part.value)) }
+{
+    let made = extension_made(alloc, types, place, heading(&part), sets)?;
+    Ok(trees::extend(place, made.heading, made.sets, part))
 }
 
 /// A SUMMARIZE: E14 or E15 at a name of BY; then item by item E15 at its name, the refusals of its scalar and E12 at its word;
@@ -120,10 +185,25 @@ pub fn type_summary(
     requires { AreOrdinals types.now }
     ensures { Gives read_tree result (rules.summary_rule types.now place (read_names by.now) (read_aggregates aggregates.now) (read_tree t)) }
 {
-    let (by, groups) = groups_typed(alloc, heading(&t), by)?;
-    let made = aggregates_made(alloc, types, place, heading(&t), &groups, aggregates)?;
-    let tree = trees::summarize(alloc, place, made.heading, by, made.aggregates, t)?;
-    Ok(tree)
+    let part = boxed(alloc, t)?;
+    summary_typed(alloc, types, place, by, aggregates, part)
+}
+
+/// The SUMMARIZE of an operand in a block of its own.
+fn summary_typed(
+    alloc: Global,
+    types: &OrdinalTypes,
+    place: Place,
+    by: &syntax::Names,
+    aggregates: &syntax::Aggregates,
+    part: Box<RelTree>,
+) -> Result<RelTree, Stop>
+    requires { AreOrdinals types.now }
+    ensures { Gives read_tree result (rules.summary_rule types.now place (read_names by.now) (read_aggregates aggregates.now) (read_tree part.value)) }
+{
+    let (by, groups) = groups_typed(alloc, heading(&part), by)?;
+    let made = aggregates_made(alloc, types, place, heading(&part), &groups, aggregates)?;
+    Ok(trees::summarize(place, made.heading, by, made.aggregates, part))
 }
 
 /// A PACK or an UNPACK: the refusals of its list.
@@ -136,8 +216,21 @@ pub fn type_packing(
 ) -> Result<RelTree, Stop>
     ensures { Gives read_tree result (rules.packing_rule place word (read_list list.now) (read_tree t)) }
 {
-    list_checked(heading(&t), heading(&t), list)?;
-    let acl = positions_of(alloc, heading(&t), list)?;
-    let tree = trees::pack(alloc, place, word, acl, t)?;
-    Ok(tree)
+    let part = boxed(alloc, t)?;
+    packing_typed(alloc, place, word, list, part)
+}
+
+/// The PACK or UNPACK of an operand in a block of its own.
+fn packing_typed(
+    alloc: Global,
+    place: Place,
+    word: PackWord,
+    list: &NameList,
+    part: Box<RelTree>,
+) -> Result<RelTree, Stop>
+    ensures { Gives read_tree result (rules.packing_rule place word (read_list list.now) (read_tree part.value)) }
+{
+    let acl = listed(alloc, heading(&part), heading(&part), list)?;
+    let to = heading(&part).copy(alloc)?;
+    Ok(trees::pack(place, to, word, acl, part))
 }

@@ -1,11 +1,11 @@
 // The names that a RENAME gives.
-ghost use Rattle.std.specs.Prelude.{◌≡◌, ◌≤◌, [], ◌∷◌, IfOk, length};
+ghost use Rattle.std.specs.Prelude.{◌≡◌, ◌≤◌, [], ◌∷◌, IfOk, length, count_by};
+ghost use Rattle.std.specs.Str.{bytes_eq};
 ghost use Rattle.utd_syntax.specs.Read.{read_renaming, read_renaming_list, read_renamings};
 ghost use Rattle.relation_core.specs.Parts.{renamed};
 ghost use Rattle.scalar_core.specs.Answers.{Gives};
 ghost use Rattle.node_typing.specs.Headings as headings;
 ghost use Rattle.point_core.specs.declared.fault.Code.TheVariants.{E15};
-ghost use Rattle.node_typing.specs.Lists.{named_in};
 ghost use Rattle.node_typing.specs.Positions.{check};
 ghost use Rattle.node_typing.specs.Projections as rules;
 
@@ -88,32 +88,21 @@ fn names_behind(
     Ok(names)
 }
 
-/// Whether one of the names is this one.
-fn is_among(names: &[Name], name: &[u8]) -> bool
-    ensures { result ≡ named_in names.now name.now }
+/// How often the name stands among the names.
+fn times(names: &[Name], name: &[u8]) -> usize
+    ensures { result ≡ count_by (bytes_eq name.now) names.now }
 {
-    names.iter().any(|other| name == other.as_str().as_bytes())
-}
-
-/// Whether the name stands at most once among the names, each of which is looked at.
-fn once(names: &[Name], name: &[u8]) -> bool
-    ensures { result ≡ rules.once names.now name.now }
-{
-    match names.split_first() {
-        None => true,
-        Some((first, rest)) => if name == first.as_str().as_bytes() {
-            !is_among(rest, name)
-        } else {
-            once(rest, name)
-        },
-    }
+    names
+        .iter()
+        .filter(|other| name == other.as_str().as_bytes())
+        .count()
 }
 
 /// Whether the name stands at most once among the names.
 fn stands_once(names: &[Name], name: &[u8]) -> bool
     ensures { result ≡ rules.stands_once names.now name.now }
 {
-    once(names, name)
+    times(names, name) <= 1
 }
 
 /// The refusal of one new name among all names.

@@ -11,7 +11,7 @@ ghost use Rattle.scalar_core.specs.KindOf as kind_of;
 ghost use Rattle.scalar_typing.specs.Names.{AreOrdinals};
 ghost use Rattle.tree_core.specs.Trees as trees;
 ghost use Rattle.node_typing.specs.Summaries as rules;
-ghost use Rattle.node_typing.specs.Made.{summed, summary};
+ghost use Rattle.node_typing.specs.Summaries.{summed, summary};
 
 use crate::headings::{heading_at, put_all};
 use crate::positions::{check, kept, positions_typed};
@@ -109,9 +109,9 @@ fn aggregate_typed(
     ensures { Gives (λ _. summed before.new) result (rules.aggregate_typed types.now from.now (summed before.old) (read.read_aggregate aggregate.now)) }
 {
     let name = new_name(alloc, &before.attributes, &aggregate.name)?;
-    let (form, kind) = form_typed(alloc, types, from, &aggregate.form)?;
     let copy = name.copy(alloc)?;
     let place = form_place(&aggregate.form);
+    let (form, kind) = form_typed(alloc, types, from, &aggregate.form)?;
     before.aggregates.push(Aggregate { name, place, form })?;
     put(&mut before.attributes, copy, kind)?;
     Ok(())
@@ -136,14 +136,15 @@ fn aggregates_typed(
     types: &OrdinalTypes,
     from: &Heading,
     groups: &Heading,
-    aggregates: &syntax::Aggregates,
+    first: &syntax::Aggregate,
+    more: &[syntax::Aggregate],
 ) -> Result<Summed, Stop>
     requires { AreOrdinals types.now }
-    ensures { Gives summed result (rules.aggregates_typed types.now from.now ([], groups.now) (rules.aggregate_list (read.read_aggregates aggregates.now))) }
+    ensures { Gives summed result (rules.aggregates_typed types.now from.now ([], groups.now) (read.read_aggregate first.now ∷ read.read_aggregate_list more.now)) }
 {
     let mut before = none_summed(alloc, groups)?;
-    aggregate_typed(alloc, types, from, &mut before, &aggregates.first)?;
-    for aggregate in &aggregates.more.list {
+    aggregate_typed(alloc, types, from, &mut before, first)?;
+    for aggregate in more {
         aggregate_typed(alloc, types, from, &mut before, aggregate)?;
     }
     Ok(before)
@@ -185,7 +186,8 @@ pub(crate) fn aggregates_made(
     ensures { (by : List ℕ) → groups.now ≡ attributes_at by from.now →
         Gives summary result (rules.aggregates_made types.now place from.now by (read.read_aggregates aggregates.now)) }
 {
-    let made = aggregates_typed(alloc, types, from, groups, aggregates)?;
+    let more = aggregates.more.list.as_slice();
+    let made = aggregates_typed(alloc, types, from, groups, &aggregates.first, more)?;
     let aggregates = Aggregates {
         list: made.aggregates,
     };

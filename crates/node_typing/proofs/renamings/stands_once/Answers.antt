@@ -1,6 +1,8 @@
-use Rattle.std.proofs.Common.{◌∙◌}
-use Rattle.node_typing.proofs.ListLemmas.{once-is}
+use Rattle.std.proofs.Common.{ap, sym, ◌∙◌}
+use Rattle.std.specs.Prelude.{nat_le}
+use Rattle.std.specs.Str.{bytes_eq}
+use Rattle.std.proofs.lemmas.List.Sums.{length-filter}
 use Rattle.node_typing.proofs.renamings.stands_once.Goals as goal
 
 pub returns : goal.returns
-returns c = c.once.ensures ∙ once-is c.args.names.now c.args.name.now
+returns c = ap (λ n. nat_le n 1) (c.times.ensures ∙ sym (length-filter (bytes_eq c.args.name.now) c.args.names.now))
