@@ -16,19 +16,19 @@ use utd_syntax::{
     Extend, Operand, PackWord, Rel, RelPrimary, Summarize, Term, Terminal, Terms, Using, UsingPart,
 };
 
-/// A relational expression.
+/// A relational expression, in a box: the trees hold it in one.
 #[cycle(relations)]
-pub fn rel<'a>(alloc: Global, cursor: Cursor<'a>) -> Result<(Rel, Cursor<'a>), AllocError>
-    ensures { Builds TheRel read_rel (left cursor.entry) result }
+pub fn rel<'a>(alloc: Global, cursor: Cursor<'a>) -> Result<(Box<Rel>, Cursor<'a>), AllocError>
+    ensures { Builds TheRel (λ tree. read_rel tree.value) (left cursor.entry) result }
 {
     match cursor.terminal() {
         Terminal::Using => {
             let (only, next) = using(alloc, cursor)?;
-            Ok((Rel::Using(only), next))
+            Ok((Box::new(alloc, Rel::Using(only))?, next))
         }
         _ => {
             let (only, next) = terms(alloc, cursor)?;
-            Ok((Rel::Terms(only), next))
+            Ok((Box::new(alloc, Rel::Terms(only))?, next))
         }
     }
 }
@@ -104,8 +104,7 @@ fn postfixed<'a>(
             Ok((Term::Project(inner, names), next))
         }
         Terminal::Where => {
-            let (value, next) = scalar(alloc, behind)?;
-            let condition = Box::new(alloc, value)?;
+            let (condition, next) = scalar(alloc, behind)?;
             Ok((Term::Where(inner, place, condition), next))
         }
         _ => {
@@ -164,8 +163,7 @@ fn enclosed<'a>(alloc: Global, cursor: Cursor<'a>) -> Result<(Operand, Cursor<'a
     ensures { Builds TheOperand read_operand (left cursor.entry) result }
 {
     let place = cursor.place();
-    let (rows, next) = rel(alloc, cursor.skip())?;
-    let inner = Box::new(alloc, rows)?;
+    let (inner, next) = rel(alloc, cursor.skip())?;
     Ok((Operand::Paren(place, inner), next.skip()))
 }
 
@@ -179,8 +177,7 @@ fn packed<'a>(
     ensures { Builds TheOperand read_operand (left cursor.entry) result }
 {
     let place = cursor.place();
-    let (rows, next) = rel(alloc, cursor.skip())?;
-    let inner = Box::new(alloc, rows)?;
+    let (inner, next) = rel(alloc, cursor.skip())?;
     let (names, end) = name_list(alloc, next.skip())?;
     Ok((Operand::Pack(place, word, inner, names), end))
 }
@@ -191,8 +188,7 @@ fn extend<'a>(alloc: Global, cursor: Cursor<'a>) -> Result<(Extend, Cursor<'a>),
     ensures { Builds TheExtend read_extend (left cursor.entry) result }
 {
     let place = cursor.place();
-    let (rows, next) = rel(alloc, cursor.skip())?;
-    let inner = Box::new(alloc, rows)?;
+    let (inner, next) = rel(alloc, cursor.skip())?;
     let (sets, end) = sets(alloc, next.skip())?;
     Ok((Extend::Of(place, inner, sets), end))
 }
@@ -203,8 +199,7 @@ fn summarize<'a>(alloc: Global, cursor: Cursor<'a>) -> Result<(Summarize, Cursor
     ensures { Builds TheSummarize read_summarize (left cursor.entry) result }
 {
     let place = cursor.place();
-    let (rows, next) = rel(alloc, cursor.skip())?;
-    let inner = Box::new(alloc, rows)?;
+    let (inner, next) = rel(alloc, cursor.skip())?;
     let (by, behind) = names(alloc, next.skip())?;
     let (sums, end) = aggregates(alloc, behind.skip())?;
     Ok((Summarize::Of(place, inner, by, sums), end))
@@ -281,8 +276,7 @@ fn used_otherwise<'a>(
             Ok((UsingPart::Project(first, names), next))
         }
         _ => {
-            let (value, next) = scalar(alloc, behind)?;
-            let condition = Box::new(alloc, value)?;
+            let (condition, next) = scalar(alloc, behind)?;
             Ok((UsingPart::Where(first, place, condition), next))
         }
     }

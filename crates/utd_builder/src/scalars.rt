@@ -15,17 +15,20 @@ use utd_syntax::{
     PairWord, PointName, Primary, Product, Scalar, Sign, Sum, Terminal,
 };
 
-/// A scalar.
+/// A scalar, in a box: the trees hold it in one.
 #[cycle(scalars)]
-pub fn scalar<'a>(alloc: Global, cursor: Cursor<'a>) -> Result<(Scalar, Cursor<'a>), AllocError>
-    ensures { Builds TheScalar read_scalar (left cursor.entry) result }
+pub fn scalar<'a>(
+    alloc: Global,
+    cursor: Cursor<'a>,
+) -> Result<(Box<Scalar>, Cursor<'a>), AllocError>
+    ensures { Builds TheScalar (λ tree. read_scalar tree.value) (left cursor.entry) result }
 {
     let (first, mut next) = conjunction(alloc, cursor)?;
-    let mut left = Scalar::One(first);
+    let mut left = Box::new(alloc, Scalar::One(first))?;
     while let Terminal::Or = next.terminal() {
         let place = next.place();
         let (right, after) = conjunction(alloc, next.skip())?;
-        left = Scalar::Or(Box::new(alloc, left)?, place, right);
+        left = Box::new(alloc, Scalar::Or(left, place, right))?;
         next = after;
     }
     Ok((left, next))
@@ -248,12 +251,10 @@ fn parenthesized<'a>(alloc: Global, cursor: Cursor<'a>) -> Result<(Primary, Curs
     ensures { Builds ThePrimary read_primary (left cursor.entry) result }
 {
     let place = cursor.place();
-    let (first, next) = scalar(alloc, cursor.skip())?;
-    let begin = Box::new(alloc, first)?;
+    let (begin, next) = scalar(alloc, cursor.skip())?;
     match next.terminal() {
         Terminal::Colon => {
-            let (second, last) = scalar(alloc, next.skip())?;
-            let end = Box::new(alloc, second)?;
+            let (end, last) = scalar(alloc, next.skip())?;
             let bracket = end_bracket(last.terminal());
             let tree = Primary::Selector(place, BeginBracket::Open, begin, end, bracket);
             Ok((tree, last.skip()))
@@ -268,10 +269,8 @@ fn bracketed<'a>(alloc: Global, cursor: Cursor<'a>) -> Result<(Primary, Cursor<'
     ensures { Builds ThePrimary read_primary (left cursor.entry) result }
 {
     let place = cursor.place();
-    let (first, next) = scalar(alloc, cursor.skip())?;
-    let (second, last) = scalar(alloc, next.skip())?;
-    let begin = Box::new(alloc, first)?;
-    let end = Box::new(alloc, second)?;
+    let (begin, next) = scalar(alloc, cursor.skip())?;
+    let (end, last) = scalar(alloc, next.skip())?;
     let bracket = end_bracket(last.terminal());
     let tree = Primary::Selector(place, BeginBracket::Closed, begin, end, bracket);
     Ok((tree, last.skip()))
@@ -287,8 +286,7 @@ fn function<'a>(
     ensures { Builds ThePrimary read_primary (left cursor.entry) result }
 {
     let place = cursor.place();
-    let (part, next) = scalar(alloc, cursor.skip().skip())?;
-    let inner = Box::new(alloc, part)?;
+    let (inner, next) = scalar(alloc, cursor.skip().skip())?;
     Ok((Primary::Function(place, word, inner), next.skip()))
 }
 
@@ -302,10 +300,8 @@ fn pair<'a>(
     ensures { Builds ThePrimary read_primary (left cursor.entry) result }
 {
     let place = cursor.place();
-    let (first, next) = scalar(alloc, cursor.skip().skip())?;
-    let (second, end) = scalar(alloc, next.skip())?;
-    let left = Box::new(alloc, first)?;
-    let right = Box::new(alloc, second)?;
+    let (left, next) = scalar(alloc, cursor.skip().skip())?;
+    let (right, end) = scalar(alloc, next.skip())?;
     Ok((Primary::PairFunction(place, word, left, right), end.skip()))
 }
 

@@ -15,7 +15,7 @@ pub scalar-conjunction-requires : goal.scalar-conjunction-requires
 scalar-conjunction-requires u c = (omega arith, tt)
 
 pub scalar-loop-next-init : goal.scalar-loop-next-init
-scalar-loop-next-init u c = ((λ stack k x h. let h1 = scalar-to-conj (left c.args.cursor) _ k x h in c.in_ok-first.ensures.goes_on _ _ x h1), c.in_ok-first.ensures.shorter)
+scalar-loop-next-init u c = rw c.in_ok-left.ensures.ok ((λ stack k x h. let h1 = scalar-to-conj (left c.args.cursor) _ k x h in c.in_ok-first.ensures.goes_on _ _ x h1), c.in_ok-first.ensures.shorter)
 
 pub scalar-conjunction-requires-in-Or : goal.scalar-conjunction-requires-in-Or
 scalar-conjunction-requires-in-Or u c = (omega (arith, c.loop-next.invariant.1, less t.Or (left c.loop-next.next) (left c.skip.result) (sym c.terminal.ensures ∙ c.in-Or.is) refl c.skip.ensures), tt)
@@ -132,37 +132,37 @@ pub parenthesized-scalar-requires : goal.parenthesized-scalar-requires
 parenthesized-scalar-requires u c = (omega (arith, less t.Open (left c.args.cursor) (left c.skip.result) c.requires refl c.skip.ensures), tt)
 
 pub parenthesized-scalar-requires-in-Colon : goal.parenthesized-scalar-requires-in-Colon
-parenthesized-scalar-requires-in-Colon u c = (omega (arith, less t.Open (left c.args.cursor) (left c.skip.result) c.requires refl c.skip.ensures, c.in_ok-first.ensures.shorter, no-more (left c.in_ok-first.next) (left c.skip-in-Colon.result) c.skip-in-Colon.ensures), tt)
+parenthesized-scalar-requires-in-Colon u c = (omega (arith, less t.Open (left c.args.cursor) (left c.skip.result) c.requires refl c.skip.ensures, c.in_ok-begin.ensures.shorter, no-more (left c.in_ok-begin.next) (left c.skip-in-Colon.result) c.skip-in-Colon.ensures), tt)
 
 pub parenthesized-returns-in_ok-end-in-Colon : goal.parenthesized-returns-in_ok-end-in-Colon
-parenthesized-returns-in_ok-end-in-Colon u c = rw (c.in_ok-begin.ensures.ok, c.in_ok-end-in-Colon.ensures.ok) (record { shorter = omega (arith, no-more (left c.args.cursor) (left c.skip.result) c.skip.ensures, c.in_ok-first.ensures.shorter, no-more (left c.in_ok-first.next) (left c.skip-in-Colon.result) c.skip-in-Colon.ensures, c.in_ok-second-in-Colon.ensures.shorter, no-more (left c.in_ok-second-in-Colon.last) (left c.skip-in-Colon-2.result) c.skip-in-Colon-2.ensures); goes_on = λ stack k x h. let h1 = at t.Open _ _ (left c.args.cursor) (left c.skip.result) (ThePrimary ∷ stack) k x c.requires refl c.place-place.ensures refl c.skip.ensures h in let h2 = c.in_ok-first.ensures.goes_on _ _ x h1 in let h3 = at t.Colon _ _ (left c.in_ok-first.next) (left c.skip-in-Colon.result) _ _ x (sym c.terminal.ensures ∙ c.in-Colon.is) refl refl refl c.skip-in-Colon.ensures h2 in let h4 = c.in_ok-second-in-Colon.ensures.goes_on _ _ x h3 in end-bracket c.end_bracket-bracket.result (left c.in_ok-second-in-Colon.last) (left c.skip-in-Colon-2.result) _ _ x (c.end_bracket-bracket.ensures ∙ ap end_bracket_at c.terminal-in-Colon.ensures) c.skip-in-Colon-2.ensures h4 })
+parenthesized-returns-in_ok-end-in-Colon u c = record { shorter = omega (arith, no-more (left c.args.cursor) (left c.skip.result) c.skip.ensures, c.in_ok-begin.ensures.shorter, no-more (left c.in_ok-begin.next) (left c.skip-in-Colon.result) c.skip-in-Colon.ensures, c.in_ok-end-in-Colon.ensures.shorter, no-more (left c.in_ok-end-in-Colon.last) (left c.skip-in-Colon-2.result) c.skip-in-Colon-2.ensures); goes_on = λ stack k x h. let h1 = at t.Open _ _ (left c.args.cursor) (left c.skip.result) (ThePrimary ∷ stack) k x c.requires refl c.place-place.ensures refl c.skip.ensures h in let h2 = c.in_ok-begin.ensures.goes_on _ _ x h1 in let h3 = at t.Colon _ _ (left c.in_ok-begin.next) (left c.skip-in-Colon.result) _ _ x (sym c.terminal.ensures ∙ c.in-Colon.is) refl refl refl c.skip-in-Colon.ensures h2 in let h4 = c.in_ok-end-in-Colon.ensures.goes_on _ _ x h3 in end-bracket c.end_bracket-bracket.result (left c.in_ok-end-in-Colon.last) (left c.skip-in-Colon-2.result) _ _ x (c.end_bracket-bracket.ensures ∙ ap end_bracket_at c.terminal-in-Colon.ensures) c.skip-in-Colon-2.ensures h4 }
 
 pub parenthesized-returns-in_default : goal.parenthesized-returns-in_default
-parenthesized-returns-in_default u c = rw c.in_ok-begin.ensures.ok (record { shorter = omega (arith, no-more (left c.args.cursor) (left c.skip.result) c.skip.ensures, c.in_ok-first.ensures.shorter, no-more (left c.in_ok-first.next) (left c.skip-in_default.result) c.skip-in_default.ensures); goes_on = λ stack k x h. let h1 = at t.Open _ _ (left c.args.cursor) (left c.skip.result) (ThePrimary ∷ stack) k x c.requires refl c.place-place.ensures refl c.skip.ensures h in let h2 = c.in_ok-first.ensures.goes_on _ _ x h1 in step-AfterScalar _ _ (left c.in_ok-first.next) (left c.skip-in_default.result) _ _ x (λ e. c.in_default.not-Colon (c.terminal.ensures ∙ e)) refl refl c.skip-in_default.ensures h2 })
+parenthesized-returns-in_default u c = record { shorter = omega (arith, no-more (left c.args.cursor) (left c.skip.result) c.skip.ensures, c.in_ok-begin.ensures.shorter, no-more (left c.in_ok-begin.next) (left c.skip-in_default.result) c.skip-in_default.ensures); goes_on = λ stack k x h. let h1 = at t.Open _ _ (left c.args.cursor) (left c.skip.result) (ThePrimary ∷ stack) k x c.requires refl c.place-place.ensures refl c.skip.ensures h in let h2 = c.in_ok-begin.ensures.goes_on _ _ x h1 in step-AfterScalar _ _ (left c.in_ok-begin.next) (left c.skip-in_default.result) _ _ x (λ e. c.in_default.not-Colon (c.terminal.ensures ∙ e)) refl refl c.skip-in_default.ensures h2 }
 
 pub bracketed-scalar-requires : goal.bracketed-scalar-requires
 bracketed-scalar-requires u c = (omega (arith, less t.OpenBracket (left c.args.cursor) (left c.skip.result) c.requires refl c.skip.ensures), tt)
 
 pub bracketed-scalar-requires-2 : goal.bracketed-scalar-requires-2
-bracketed-scalar-requires-2 u c = (omega (arith, less t.OpenBracket (left c.args.cursor) (left c.skip.result) c.requires refl c.skip.ensures, c.in_ok-first.ensures.shorter, no-more (left c.in_ok-first.next) (left c.skip-2.result) c.skip-2.ensures), tt)
+bracketed-scalar-requires-2 u c = (omega (arith, less t.OpenBracket (left c.args.cursor) (left c.skip.result) c.requires refl c.skip.ensures, c.in_ok-begin.ensures.shorter, no-more (left c.in_ok-begin.next) (left c.skip-2.result) c.skip-2.ensures), tt)
 
 pub bracketed-returns : goal.bracketed-returns
-bracketed-returns u c = rw (c.in_ok-begin.ensures.ok, c.in_ok-end.ensures.ok) (record { shorter = omega (arith, no-more (left c.args.cursor) (left c.skip.result) c.skip.ensures, c.in_ok-first.ensures.shorter, no-more (left c.in_ok-first.next) (left c.skip-2.result) c.skip-2.ensures, c.in_ok-second.ensures.shorter, no-more (left c.in_ok-second.last) (left c.skip-3.result) c.skip-3.ensures); goes_on = λ stack k x h. let h1 = at t.OpenBracket _ _ (left c.args.cursor) (left c.skip.result) (ThePrimary ∷ stack) k x c.requires refl c.place-place.ensures refl c.skip.ensures h in let h2 = c.in_ok-first.ensures.goes_on _ _ x h1 in let h3 = just t.Colon (left c.in_ok-first.next) (left c.skip-2.result) _ _ x c.skip-2.ensures h2 in let h4 = c.in_ok-second.ensures.goes_on _ _ x h3 in end-bracket c.end_bracket-bracket.result (left c.in_ok-second.last) (left c.skip-3.result) _ _ x (c.end_bracket-bracket.ensures ∙ ap end_bracket_at c.terminal.ensures) c.skip-3.ensures h4 })
+bracketed-returns u c = record { shorter = omega (arith, no-more (left c.args.cursor) (left c.skip.result) c.skip.ensures, c.in_ok-begin.ensures.shorter, no-more (left c.in_ok-begin.next) (left c.skip-2.result) c.skip-2.ensures, c.in_ok-end.ensures.shorter, no-more (left c.in_ok-end.last) (left c.skip-3.result) c.skip-3.ensures); goes_on = λ stack k x h. let h1 = at t.OpenBracket _ _ (left c.args.cursor) (left c.skip.result) (ThePrimary ∷ stack) k x c.requires refl c.place-place.ensures refl c.skip.ensures h in let h2 = c.in_ok-begin.ensures.goes_on _ _ x h1 in let h3 = just t.Colon (left c.in_ok-begin.next) (left c.skip-2.result) _ _ x c.skip-2.ensures h2 in let h4 = c.in_ok-end.ensures.goes_on _ _ x h3 in end-bracket c.end_bracket-bracket.result (left c.in_ok-end.last) (left c.skip-3.result) _ _ x (c.end_bracket-bracket.ensures ∙ ap end_bracket_at c.terminal.ensures) c.skip-3.ensures h4 }
 
 pub function-scalar-requires : goal.function-scalar-requires
 function-scalar-requires u c = (omega (arith, less (written.function c.args.word) (left c.args.cursor) (left c.skip.result) c.requires (more-function c.args.word) c.skip.ensures, no-more (left c.skip.result) (left c.skip-2.result) c.skip-2.ensures), tt)
 
 pub function-returns : goal.function-returns
-function-returns u c = rw c.in_ok-inner.ensures.ok (record { shorter = omega (arith, no-more (left c.args.cursor) (left c.skip.result) c.skip.ensures, no-more (left c.skip.result) (left c.skip-2.result) c.skip-2.ensures, c.in_ok-part.ensures.shorter, no-more (left c.in_ok-part.next) (left c.skip-3.result) c.skip-3.ensures); goes_on = λ stack k x h. let h1 = at (written.function c.args.word) _ _ (left c.args.cursor) (left c.skip.result) (ThePrimary ∷ stack) k x c.requires (more-function c.args.word) c.place-place.ensures refl c.skip.ensures h in let h2 = row-ThePrimary-function c.args.word _ _ _ _ _ _ x h1 in let h3 = step-InParens _ _ (left c.skip.result) (left c.skip-2.result) _ _ x refl refl c.skip-2.ensures h2 in let h4 = c.in_ok-part.ensures.goes_on _ _ x h3 in just t.Close (left c.in_ok-part.next) (left c.skip-3.result) _ _ x c.skip-3.ensures h4 })
+function-returns u c = record { shorter = omega (arith, no-more (left c.args.cursor) (left c.skip.result) c.skip.ensures, no-more (left c.skip.result) (left c.skip-2.result) c.skip-2.ensures, c.in_ok-inner.ensures.shorter, no-more (left c.in_ok-inner.next) (left c.skip-3.result) c.skip-3.ensures); goes_on = λ stack k x h. let h1 = at (written.function c.args.word) _ _ (left c.args.cursor) (left c.skip.result) (ThePrimary ∷ stack) k x c.requires (more-function c.args.word) c.place-place.ensures refl c.skip.ensures h in let h2 = row-ThePrimary-function c.args.word _ _ _ _ _ _ x h1 in let h3 = step-InParens _ _ (left c.skip.result) (left c.skip-2.result) _ _ x refl refl c.skip-2.ensures h2 in let h4 = c.in_ok-inner.ensures.goes_on _ _ x h3 in just t.Close (left c.in_ok-inner.next) (left c.skip-3.result) _ _ x c.skip-3.ensures h4 }
 
 pub pair-scalar-requires : goal.pair-scalar-requires
 pair-scalar-requires u c = (omega (arith, less (written.pair_function c.args.word) (left c.args.cursor) (left c.skip.result) c.requires (more-pair_function c.args.word) c.skip.ensures, no-more (left c.skip.result) (left c.skip-2.result) c.skip-2.ensures), tt)
 
 pub pair-scalar-requires-2 : goal.pair-scalar-requires-2
-pair-scalar-requires-2 u c = (omega (arith, less (written.pair_function c.args.word) (left c.args.cursor) (left c.skip.result) c.requires (more-pair_function c.args.word) c.skip.ensures, no-more (left c.skip.result) (left c.skip-2.result) c.skip-2.ensures, c.in_ok-first.ensures.shorter, no-more (left c.in_ok-first.next) (left c.skip-3.result) c.skip-3.ensures), tt)
+pair-scalar-requires-2 u c = (omega (arith, less (written.pair_function c.args.word) (left c.args.cursor) (left c.skip.result) c.requires (more-pair_function c.args.word) c.skip.ensures, no-more (left c.skip.result) (left c.skip-2.result) c.skip-2.ensures, c.in_ok-left.ensures.shorter, no-more (left c.in_ok-left.next) (left c.skip-3.result) c.skip-3.ensures), tt)
 
 pub pair-returns : goal.pair-returns
-pair-returns u c = rw (c.in_ok-left.ensures.ok, c.in_ok-right.ensures.ok) (record { shorter = omega (arith, no-more (left c.args.cursor) (left c.skip.result) c.skip.ensures, no-more (left c.skip.result) (left c.skip-2.result) c.skip-2.ensures, c.in_ok-first.ensures.shorter, no-more (left c.in_ok-first.next) (left c.skip-3.result) c.skip-3.ensures, c.in_ok-second.ensures.shorter, no-more (left c.in_ok-second.end) (left c.skip-4.result) c.skip-4.ensures); goes_on = λ stack k x h. let h1 = at (written.pair_function c.args.word) _ _ (left c.args.cursor) (left c.skip.result) (ThePrimary ∷ stack) k x c.requires (more-pair_function c.args.word) c.place-place.ensures refl c.skip.ensures h in let h2 = row-ThePrimary-pair_function c.args.word _ _ _ _ _ _ x h1 in let h3 = step-InPair _ _ (left c.skip.result) (left c.skip-2.result) _ _ x refl refl c.skip-2.ensures h2 in let h4 = c.in_ok-first.ensures.goes_on _ _ x h3 in let h5 = step-Comma _ _ (left c.in_ok-first.next) (left c.skip-3.result) _ _ x refl refl c.skip-3.ensures h4 in let h6 = c.in_ok-second.ensures.goes_on _ _ x h5 in just t.Close (left c.in_ok-second.end) (left c.skip-4.result) _ _ x c.skip-4.ensures h6 })
+pair-returns u c = record { shorter = omega (arith, no-more (left c.args.cursor) (left c.skip.result) c.skip.ensures, no-more (left c.skip.result) (left c.skip-2.result) c.skip-2.ensures, c.in_ok-left.ensures.shorter, no-more (left c.in_ok-left.next) (left c.skip-3.result) c.skip-3.ensures, c.in_ok-right.ensures.shorter, no-more (left c.in_ok-right.end) (left c.skip-4.result) c.skip-4.ensures); goes_on = λ stack k x h. let h1 = at (written.pair_function c.args.word) _ _ (left c.args.cursor) (left c.skip.result) (ThePrimary ∷ stack) k x c.requires (more-pair_function c.args.word) c.place-place.ensures refl c.skip.ensures h in let h2 = row-ThePrimary-pair_function c.args.word _ _ _ _ _ _ x h1 in let h3 = step-InPair _ _ (left c.skip.result) (left c.skip-2.result) _ _ x refl refl c.skip-2.ensures h2 in let h4 = c.in_ok-left.ensures.goes_on _ _ x h3 in let h5 = step-Comma _ _ (left c.in_ok-left.next) (left c.skip-3.result) _ _ x refl refl c.skip-3.ensures h4 in let h6 = c.in_ok-right.ensures.goes_on _ _ x h5 in just t.Close (left c.in_ok-right.end) (left c.skip-4.result) _ _ x c.skip-4.ensures h6 }
 
 pub primary-function-requires : goal.primary-function-requires
 primary-function-requires u c = (omega arith, (is-function (first (left c.args.cursor)) c.in-Some.word (ap function_at (sym c.terminal-terminal.ensures) ∙ sym c.function_word.ensures ∙ c.in-Some.is)))

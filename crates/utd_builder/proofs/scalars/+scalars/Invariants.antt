@@ -45,7 +45,7 @@ abbrev pub decreases-pair : goal.decreases-pair
 decreases-pair l = 16 * length (left l.cursor) + 1
 
 abbrev pub invariant-scalar-loop-next : goal.invariant-scalar-loop-next
-invariant-scalar-loop-next l = Path TheScalar MoreOr (λ f. f (read_scalar l.left)) (left l.fn.cursor) (left l.next) × (length (left l.next) ≤ length (left l.fn.cursor))
+invariant-scalar-loop-next l = Path TheScalar MoreOr (λ f. f (read_scalar l.left.value)) (left l.fn.cursor) (left l.next) × (length (left l.next) ≤ length (left l.fn.cursor))
 
 abbrev pub decreases-scalar-loop-next : goal.decreases-scalar-loop-next
 decreases-scalar-loop-next l = length (left l.next)
