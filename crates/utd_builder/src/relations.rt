@@ -37,14 +37,12 @@ pub fn rel<'a>(alloc: Global, cursor: Cursor<'a>) -> Result<(Box<Rel>, Cursor<'a
 fn terms<'a>(alloc: Global, cursor: Cursor<'a>) -> Result<(Terms, Cursor<'a>), AllocError>
     ensures { Builds TheTerms read_terms (left cursor.entry) result }
 {
-    let (first, mut next) = term(alloc, cursor)?;
-    let mut left = Terms::One(first);
-    'chain: while is_infix(next.terminal()) {
-        let (tree, after) = joined(alloc, left, next)?;
-        left = tree;
-        next = after;
+    let (first, next) = term(alloc, cursor)?;
+    let mut so_far = (Terms::One(first), next);
+    'chain: while is_infix(so_far.1.terminal()) {
+        so_far = joined(alloc, so_far.0, so_far.1)?;
     }
-    Ok((left, next))
+    Ok(so_far)
 }
 
 /// The relations so far, an infix, and the relation behind it.
@@ -57,16 +55,15 @@ fn joined<'a>(
     requires { choices.is_infix (first_of (left cursor)) ≡ true }
     ensures { Turns MoreInfix (λ f. f (read_terms so_far)) (λ tree f. f (read_terms tree)) (left cursor.entry) result }
 {
+    let inner = Box::new(alloc, so_far)?;
     let place = cursor.place();
     match infix_word(cursor.terminal()) {
         Some(word) => {
             let (right, next) = term(alloc, cursor.skip())?;
-            let inner = Box::new(alloc, so_far)?;
             Ok((Terms::Infix(inner, place, word, right), next))
         }
         None => {
             let (right, next) = term(alloc, cursor.skip().skip())?;
-            let inner = Box::new(alloc, so_far)?;
             Ok((Terms::NotMatching(inner, place, right), next))
         }
     }
@@ -76,14 +73,12 @@ fn joined<'a>(
 fn term<'a>(alloc: Global, cursor: Cursor<'a>) -> Result<(Term, Cursor<'a>), AllocError>
     ensures { Builds TheTerm read_term (left cursor.entry) result }
 {
-    let (first, mut next) = rel_primary(alloc, cursor)?;
-    let mut left = Term::One(first);
-    'chain: while is_postfix(next.terminal()) {
-        let (tree, after) = postfixed(alloc, left, next)?;
-        left = tree;
-        next = after;
+    let (first, next) = rel_primary(alloc, cursor)?;
+    let mut so_far = (Term::One(first), next);
+    'chain: while is_postfix(so_far.1.terminal()) {
+        so_far = postfixed(alloc, so_far.0, so_far.1)?;
     }
-    Ok((left, next))
+    Ok(so_far)
 }
 
 /// The term so far, and a projection, a condition or renamings behind it.

@@ -36,25 +36,25 @@ pub terms-joined-requires : goal.terms-joined-requires
 terms-joined-requires u c = (omega (arith, c.chain.invariant.1), (ap is_infix (sym c.terminal.ensures) ∙ sym c.is_infix.ensures ∙ c.chain-test.true))
 
 pub terms-chain-smaller : goal.terms-chain-smaller
-terms-chain-smaller u c = omega (arith, c.in_ok-tree.ensures.shorter)
+terms-chain-smaller u c = omega (arith, c.in_ok-so_far.ensures.shorter)
 
 pub terms-chain-preserved : goal.terms-chain-preserved
-terms-chain-preserved u c = ((λ stack k x h. c.in_ok-tree.ensures.goes_on stack (λ w. k (w.0, w.1)) x (c.chain.invariant.0 stack k x h)), omega (arith, c.chain.invariant.1, c.in_ok-tree.ensures.shorter))
+terms-chain-preserved u c = ((λ stack k x h. c.in_ok-so_far.ensures.goes_on stack (λ w. k (w.0, w.1)) x (c.chain.invariant.0 stack k x h)), omega (arith, c.chain.invariant.1, c.in_ok-so_far.ensures.shorter))
 
 pub terms-returns : goal.terms-returns
-terms-returns u c = record { shorter = c.chain.invariant.1; goes_on = λ stack k x h. done-MoreInfix (left c.chain.next) _ _ x (ap is_infix (sym c.terminal.ensures) ∙ sym c.is_infix.ensures ∙ c.chain-test.false) (c.chain.invariant.0 stack k x h) }
+terms-returns u c = record { shorter = c.chain.invariant.1; goes_on = λ stack k x h. done-MoreInfix (left c.chain.so_far.1) _ _ x (ap is_infix (sym c.terminal.ensures) ∙ sym c.is_infix.ensures ∙ c.chain-test.false) (c.chain.invariant.0 stack k x h) }
 
 pub joined-term-requires : goal.joined-term-requires
 joined-term-requires u c = (omega (arith, less (written.infix_word c.in-Some.word) (left c.args.cursor) (left c.skip.result) (is-infix_word (first (left c.args.cursor)) c.in-Some.word (ap infix_word_at (sym c.terminal.ensures) ∙ sym c.infix_word.ensures ∙ c.in-Some.is)) (more-infix_word c.in-Some.word) c.skip.ensures), tt)
 
-pub joined-returns-in_ok-inner-in-Some : goal.joined-returns-in_ok-inner-in-Some
-joined-returns-in_ok-inner-in-Some u c = rw c.in_ok-inner-in-Some.ensures.ok (record { shorter = omega (arith, less (written.infix_word c.in-Some.word) (left c.args.cursor) (left c.skip.result) (is-infix_word (first (left c.args.cursor)) c.in-Some.word (ap infix_word_at (sym c.terminal.ensures) ∙ sym c.infix_word.ensures ∙ c.in-Some.is)) (more-infix_word c.in-Some.word) c.skip.ensures, c.in_ok-right-in-Some.ensures.shorter); goes_on = λ stack k x h. let h1 = at (written.infix_word c.in-Some.word) _ _ (left c.args.cursor) (left c.skip.result) (MoreInfix ∷ stack) (λ vs. k (vs.0 (read_terms c.args.so_far), vs.1)) x (is-infix_word (first (left c.args.cursor)) c.in-Some.word (ap infix_word_at (sym c.terminal.ensures) ∙ sym c.infix_word.ensures ∙ c.in-Some.is)) (more-infix_word c.in-Some.word) c.place-place.ensures refl c.skip.ensures h in let h2 = row-MoreInfix-infix_word c.in-Some.word _ _ _ _ _ _ x h1 in c.in_ok-right-in-Some.ensures.goes_on _ _ x h2 })
+pub joined-returns-in_ok-right-in-Some : goal.joined-returns-in_ok-right-in-Some
+joined-returns-in_ok-right-in-Some u c = rw c.in_ok-inner.ensures.ok (record { shorter = omega (arith, less (written.infix_word c.in-Some.word) (left c.args.cursor) (left c.skip.result) (is-infix_word (first (left c.args.cursor)) c.in-Some.word (ap infix_word_at (sym c.terminal.ensures) ∙ sym c.infix_word.ensures ∙ c.in-Some.is)) (more-infix_word c.in-Some.word) c.skip.ensures, c.in_ok-right-in-Some.ensures.shorter); goes_on = λ stack k x h. let h1 = at (written.infix_word c.in-Some.word) _ _ (left c.args.cursor) (left c.skip.result) (MoreInfix ∷ stack) (λ vs. k (vs.0 (read_terms c.args.so_far), vs.1)) x (is-infix_word (first (left c.args.cursor)) c.in-Some.word (ap infix_word_at (sym c.terminal.ensures) ∙ sym c.infix_word.ensures ∙ c.in-Some.is)) (more-infix_word c.in-Some.word) c.place-place.ensures refl c.skip.ensures h in let h2 = row-MoreInfix-infix_word c.in-Some.word _ _ _ _ _ _ x h1 in c.in_ok-right-in-Some.ensures.goes_on _ _ x h2 })
 
 pub joined-term-requires-in-None : goal.joined-term-requires-in-None
 joined-term-requires-in-None u c = (omega (arith, less t.Not (left c.args.cursor) (left c.skip-in-None.result) (not-infix (first (left c.args.cursor)) c.requires (ap infix_word_at (sym c.terminal.ensures) ∙ sym c.infix_word.ensures ∙ c.in-None.is)) refl c.skip-in-None.ensures, no-more (left c.skip-in-None.result) (left c.skip-in-None-2.result) c.skip-in-None-2.ensures), tt)
 
-pub joined-returns-in_ok-inner-in-None : goal.joined-returns-in_ok-inner-in-None
-joined-returns-in_ok-inner-in-None u c = rw c.in_ok-inner-in-None.ensures.ok (record { shorter = omega (arith, less t.Not (left c.args.cursor) (left c.skip-in-None.result) (not-infix (first (left c.args.cursor)) c.requires (ap infix_word_at (sym c.terminal.ensures) ∙ sym c.infix_word.ensures ∙ c.in-None.is)) refl c.skip-in-None.ensures, no-more (left c.skip-in-None.result) (left c.skip-in-None-2.result) c.skip-in-None-2.ensures, c.in_ok-right-in-None.ensures.shorter); goes_on = λ stack k x h. let h1 = at t.Not _ _ (left c.args.cursor) (left c.skip-in-None.result) (MoreInfix ∷ stack) (λ vs. k (vs.0 (read_terms c.args.so_far), vs.1)) x (not-infix (first (left c.args.cursor)) c.requires (ap infix_word_at (sym c.terminal.ensures) ∙ sym c.infix_word.ensures ∙ c.in-None.is)) refl c.place-place.ensures refl c.skip-in-None.ensures h in let h2 = just t.Matching (left c.skip-in-None.result) (left c.skip-in-None-2.result) _ _ x c.skip-in-None-2.ensures h1 in c.in_ok-right-in-None.ensures.goes_on _ _ x h2 })
+pub joined-returns-in_ok-right-in-None : goal.joined-returns-in_ok-right-in-None
+joined-returns-in_ok-right-in-None u c = rw c.in_ok-inner.ensures.ok (record { shorter = omega (arith, less t.Not (left c.args.cursor) (left c.skip-in-None.result) (not-infix (first (left c.args.cursor)) c.requires (ap infix_word_at (sym c.terminal.ensures) ∙ sym c.infix_word.ensures ∙ c.in-None.is)) refl c.skip-in-None.ensures, no-more (left c.skip-in-None.result) (left c.skip-in-None-2.result) c.skip-in-None-2.ensures, c.in_ok-right-in-None.ensures.shorter); goes_on = λ stack k x h. let h1 = at t.Not _ _ (left c.args.cursor) (left c.skip-in-None.result) (MoreInfix ∷ stack) (λ vs. k (vs.0 (read_terms c.args.so_far), vs.1)) x (not-infix (first (left c.args.cursor)) c.requires (ap infix_word_at (sym c.terminal.ensures) ∙ sym c.infix_word.ensures ∙ c.in-None.is)) refl c.place-place.ensures refl c.skip-in-None.ensures h in let h2 = just t.Matching (left c.skip-in-None.result) (left c.skip-in-None-2.result) _ _ x c.skip-in-None-2.ensures h1 in c.in_ok-right-in-None.ensures.goes_on _ _ x h2 })
 
 pub term-rel_primary-requires : goal.term-rel_primary-requires
 term-rel_primary-requires u c = (omega arith, tt)
@@ -66,13 +66,13 @@ pub term-postfixed-requires : goal.term-postfixed-requires
 term-postfixed-requires u c = (ap is_postfix (sym c.terminal.ensures) ∙ sym c.is_postfix.ensures ∙ c.chain-test.true)
 
 pub term-chain-smaller : goal.term-chain-smaller
-term-chain-smaller u c = omega (arith, c.in_ok-tree.ensures.shorter)
+term-chain-smaller u c = omega (arith, c.in_ok-so_far.ensures.shorter)
 
 pub term-chain-preserved : goal.term-chain-preserved
-term-chain-preserved u c = ((λ stack k x h. c.in_ok-tree.ensures.goes_on stack (λ w. k (w.0, w.1)) x (c.chain.invariant.0 stack k x h)), omega (arith, c.chain.invariant.1, c.in_ok-tree.ensures.shorter))
+term-chain-preserved u c = ((λ stack k x h. c.in_ok-so_far.ensures.goes_on stack (λ w. k (w.0, w.1)) x (c.chain.invariant.0 stack k x h)), omega (arith, c.chain.invariant.1, c.in_ok-so_far.ensures.shorter))
 
 pub term-returns : goal.term-returns
-term-returns u c = record { shorter = c.chain.invariant.1; goes_on = λ stack k x h. done-MorePostfix (left c.chain.next) _ _ x (ap is_postfix (sym c.terminal.ensures) ∙ sym c.is_postfix.ensures ∙ c.chain-test.false) (c.chain.invariant.0 stack k x h) }
+term-returns u c = record { shorter = c.chain.invariant.1; goes_on = λ stack k x h. done-MorePostfix (left c.chain.so_far.1) _ _ x (ap is_postfix (sym c.terminal.ensures) ∙ sym c.is_postfix.ensures ∙ c.chain-test.false) (c.chain.invariant.0 stack k x h) }
 
 pub rel_primary-extend-requires : goal.rel_primary-extend-requires
 rel_primary-extend-requires u c = (omega arith, (sym c.terminal.ensures ∙ c.in-Extend.is))
