@@ -46,8 +46,7 @@ fn element<'a>(alloc: Global, cursor: Cursor<'a>) -> Result<(Element, Cursor<'a>
     ensures { Builds TheElement read_element (left cursor.entry) result }
 {
     let (name, next) = cursor.name(alloc)?;
-    let (value, end) = scalar(alloc, next)?;
-    let scalar = Box::new(alloc, value)?;
+    let (scalar, end) = scalar(alloc, next)?;
     Ok((Element { name, scalar }, end))
 }
 
@@ -63,8 +62,7 @@ fn set_item<'a>(alloc: Global, cursor: Cursor<'a>) -> Result<(SetItem, Cursor<'a
     ensures { Builds TheSetItem read_set_item (left cursor.entry) result }
 {
     let (name, next) = cursor.name(alloc)?;
-    let (value, end) = scalar(alloc, next.skip())?;
-    let scalar = Box::new(alloc, value)?;
+    let (scalar, end) = scalar(alloc, next.skip())?;
     Ok((SetItem { name, scalar }, end))
 }
 
@@ -91,8 +89,7 @@ fn aggregate_form<'a>(
         Terminal::Count => Ok((AggregateForm::Count(place), inner.skip())),
         _ => {
             let word = aggregate_word(terminal);
-            let (part, next) = scalar(alloc, inner)?;
-            let scalar = Box::new(alloc, part)?;
+            let (scalar, next) = scalar(alloc, inner)?;
             Ok((AggregateForm::Of(place, word, scalar), next.skip()))
         }
     }
@@ -474,8 +471,7 @@ pub fn condition<'a>(
         return Ok((Condition::None, cursor));
     };
     let place = cursor.place();
-    let (value, next) = scalar(alloc, cursor.skip())?;
-    let scalar = Box::new(alloc, value)?;
+    let (scalar, next) = scalar(alloc, cursor.skip())?;
     Ok((Condition::Where(place, scalar), next))
 }
 

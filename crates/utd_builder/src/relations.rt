@@ -16,19 +16,19 @@ use utd_syntax::{
     Extend, Operand, PackWord, Rel, RelPrimary, Summarize, Term, Terminal, Terms, Using, UsingPart,
 };
 
-/// A relational expression.
+/// A relational expression, in a box: the trees hold it in one.
 #[cycle(relations)]
-pub fn rel<'a>(alloc: Global, cursor: Cursor<'a>) -> Result<(Rel, Cursor<'a>), AllocError>
-    ensures { Builds TheRel read_rel (left cursor.entry) result }
+pub fn rel<'a>(alloc: Global, cursor: Cursor<'a>) -> Result<(Box<Rel>, Cursor<'a>), AllocError>
+    ensures { Builds TheRel (λ tree. read_rel tree.value) (left cursor.entry) result }
 {
     match cursor.terminal() {
         Terminal::Using => {
             let (only, next) = using(alloc, cursor)?;
-            Ok((Rel::Using(only), next))
+            Ok((Box::new(alloc, Rel::Using(only))?, next))
         }
         _ => {
             let (only, next) = terms(alloc, cursor)?;
-            Ok((Rel::Terms(only), next))
+            Ok((Box::new(alloc, Rel::Terms(only))?, next))
         }
     }
 }
@@ -37,14 +37,12 @@ pub fn rel<'a>(alloc: Global, cursor: Cursor<'a>) -> Result<(Rel, Cursor<'a>), A
 fn terms<'a>(alloc: Global, cursor: Cursor<'a>) -> Result<(Terms, Cursor<'a>), AllocError>
     ensures { Builds TheTerms read_terms (left cursor.entry) result }
 {
-    let (first, mut next) = term(alloc, cursor)?;
-    let mut left = Terms::One(first);
-    'chain: while is_infix(next.terminal()) {
-        let (tree, after) = joined(alloc, left, next)?;
-        left = tree;
-        next = after;
+    let (first, next) = term(alloc, cursor)?;
+    let mut so_far = (Terms::One(first), next);
+    'chain: while is_infix(so_far.1.terminal()) {
+        so_far = joined(alloc, so_far.0, so_far.1)?;
     }
-    Ok((left, next))
+    Ok(so_far)
 }
 
 /// The relations so far, an infix, and the relation behind it.
@@ -57,16 +55,15 @@ fn joined<'a>(
     requires { choices.is_infix (first_of (left cursor)) ≡ true }
     ensures { Turns MoreInfix (λ f. f (read_terms so_far)) (λ tree f. f (read_terms tree)) (left cursor.entry) result }
 {
+    let inner = Box::new(alloc, so_far)?;
     let place = cursor.place();
     match infix_word(cursor.terminal()) {
         Some(word) => {
             let (right, next) = term(alloc, cursor.skip())?;
-            let inner = Box::new(alloc, so_far)?;
             Ok((Terms::Infix(inner, place, word, right), next))
         }
         None => {
             let (right, next) = term(alloc, cursor.skip().skip())?;
-            let inner = Box::new(alloc, so_far)?;
             Ok((Terms::NotMatching(inner, place, right), next))
         }
     }
@@ -76,14 +73,12 @@ fn joined<'a>(
 fn term<'a>(alloc: Global, cursor: Cursor<'a>) -> Result<(Term, Cursor<'a>), AllocError>
     ensures { Builds TheTerm read_term (left cursor.entry) result }
 {
-    let (first, mut next) = rel_primary(alloc, cursor)?;
-    let mut left = Term::One(first);
-    'chain: while is_postfix(next.terminal()) {
-        let (tree, after) = postfixed(alloc, left, next)?;
-        left = tree;
-        next = after;
+    let (first, next) = rel_primary(alloc, cursor)?;
+    let mut so_far = (Term::One(first), next);
+    'chain: while is_postfix(so_far.1.terminal()) {
+        so_far = postfixed(alloc, so_far.0, so_far.1)?;
     }
-    Ok((left, next))
+    Ok(so_far)
 }
 
 /// The term so far, and a projection, a condition or renamings behind it.
@@ -104,8 +99,7 @@ fn postfixed<'a>(
             Ok((Term::Project(inner, names), next))
         }
         Terminal::Where => {
-            let (value, next) = scalar(alloc, behind)?;
-            let condition = Box::new(alloc, value)?;
+            let (condition, next) = scalar(alloc, behind)?;
             Ok((Term::Where(inner, place, condition), next))
         }
         _ => {
@@ -164,8 +158,7 @@ fn enclosed<'a>(alloc: Global, cursor: Cursor<'a>) -> Result<(Operand, Cursor<'a
     ensures { Builds TheOperand read_operand (left cursor.entry) result }
 {
     let place = cursor.place();
-    let (rows, next) = rel(alloc, cursor.skip())?;
-    let inner = Box::new(alloc, rows)?;
+    let (inner, next) = rel(alloc, cursor.skip())?;
     Ok((Operand::Paren(place, inner), next.skip()))
 }
 
@@ -179,8 +172,7 @@ fn packed<'a>(
     ensures { Builds TheOperand read_operand (left cursor.entry) result }
 {
     let place = cursor.place();
-    let (rows, next) = rel(alloc, cursor.skip())?;
-    let inner = Box::new(alloc, rows)?;
+    let (inner, next) = rel(alloc, cursor.skip())?;
     let (names, end) = name_list(alloc, next.skip())?;
     Ok((Operand::Pack(place, word, inner, names), end))
 }
@@ -191,8 +183,7 @@ fn extend<'a>(alloc: Global, cursor: Cursor<'a>) -> Result<(Extend, Cursor<'a>),
     ensures { Builds TheExtend read_extend (left cursor.entry) result }
 {
     let place = cursor.place();
-    let (rows, next) = rel(alloc, cursor.skip())?;
-    let inner = Box::new(alloc, rows)?;
+    let (inner, next) = rel(alloc, cursor.skip())?;
     let (sets, end) = sets(alloc, next.skip())?;
     Ok((Extend::Of(place, inner, sets), end))
 }
@@ -203,8 +194,7 @@ fn summarize<'a>(alloc: Global, cursor: Cursor<'a>) -> Result<(Summarize, Cursor
     ensures { Builds TheSummarize read_summarize (left cursor.entry) result }
 {
     let place = cursor.place();
-    let (rows, next) = rel(alloc, cursor.skip())?;
-    let inner = Box::new(alloc, rows)?;
+    let (inner, next) = rel(alloc, cursor.skip())?;
     let (by, behind) = names(alloc, next.skip())?;
     let (sums, end) = aggregates(alloc, behind.skip())?;
     Ok((Summarize::Of(place, inner, by, sums), end))
@@ -281,8 +271,7 @@ fn used_otherwise<'a>(
             Ok((UsingPart::Project(first, names), next))
         }
         _ => {
-            let (value, next) = scalar(alloc, behind)?;
-            let condition = Box::new(alloc, value)?;
+            let (condition, next) = scalar(alloc, behind)?;
             Ok((UsingPart::Where(first, place, condition), next))
         }
     }

@@ -2,9 +2,9 @@
 ghost use Rattle.std.specs.Prelude.{◌≡◌};
 ghost use Rattle.utd_syntax.specs.Pieces.{first};
 ghost use Rattle.utd_syntax.specs.Read.{read_cmp, read_conj, read_neg, read_point, read_primary, read_prod, read_scalar, read_sign, read_sum};
-ghost use Rattle.utd_syntax.specs.Table.{TheCmp, TheConj, TheNeg, ThePoint, ThePrimary, TheProd, TheScalar, TheSign, TheSum};
+ghost use Rattle.utd_syntax.specs.Table.{MoreAnd, MoreOr, MoreProd, MoreSum, TheCmp, TheConj, TheNeg, ThePoint, ThePrimary, TheProd, TheScalar, TheSign, TheSum};
 ghost use Rattle.utd_syntax.specs.Written as written;
-ghost use Rattle.utd_builder.specs.Building.{Builds, left};
+ghost use Rattle.utd_builder.specs.Building.{Builds, Turns, left};
 ghost use Rattle.utd_builder.specs.Choices.{end_bracket_at};
 
 use crate::choices::{comparison_word, function_word, pair_word, product_word, sum_word};
@@ -12,23 +12,40 @@ use crate::cursor::Cursor;
 use std::alloc::{AllocError, Global};
 use utd_syntax::{
     BeginBracket, Comparison, Conjunction, EndBracket, ExtremeWord, FunctionWord, Negation,
-    PairWord, PointName, Primary, Product, Scalar, Sign, Sum, Terminal,
+    PairWord, PointName, Primary, Product, ProductWord, Scalar, Sign, Sum, SumWord, Terminal,
 };
 
-/// A scalar.
+/// A scalar, in a box: the trees hold it in one.
 #[cycle(scalars)]
-pub fn scalar<'a>(alloc: Global, cursor: Cursor<'a>) -> Result<(Scalar, Cursor<'a>), AllocError>
-    ensures { Builds TheScalar read_scalar (left cursor.entry) result }
+pub fn scalar<'a>(
+    alloc: Global,
+    cursor: Cursor<'a>,
+) -> Result<(Box<Scalar>, Cursor<'a>), AllocError>
+    ensures { Builds TheScalar (λ tree. read_scalar tree.value) (left cursor.entry) result }
 {
-    let (first, mut next) = conjunction(alloc, cursor)?;
-    let mut left = Scalar::One(first);
-    while let Terminal::Or = next.terminal() {
-        let place = next.place();
-        let (right, after) = conjunction(alloc, next.skip())?;
-        left = Scalar::Or(Box::new(alloc, left)?, place, right);
-        next = after;
+    let (first, next) = conjunction(alloc, cursor)?;
+    let tree = Box::new(alloc, Scalar::One(first))?;
+    let mut so_far = (tree, next);
+    'chain: while let Terminal::Or = so_far.1.terminal() {
+        so_far = disjoined(alloc, so_far.0, so_far.1)?;
     }
-    Ok((left, next))
+    Ok(so_far)
+}
+
+// The scalar so far, OR, and the conjunction behind it.
+#[cycle(scalars)]
+fn disjoined<'a>(
+    alloc: Global,
+    so_far: Box<Scalar>,
+    cursor: Cursor<'a>,
+) -> Result<(Box<Scalar>, Cursor<'a>), AllocError>
+    requires { first (left cursor) ≡ Terminal.Or }
+    ensures { Turns MoreOr (λ f. f (read_scalar so_far.value)) (λ tree f. f (read_scalar tree.value)) (left cursor.entry) result }
+{
+    let place = cursor.place();
+    let (right, next) = conjunction(alloc, cursor.skip())?;
+    let tree = Box::new(alloc, Scalar::Or(so_far, place, right))?;
+    Ok((tree, next))
 }
 
 #[cycle(scalars)]
@@ -38,15 +55,28 @@ fn conjunction<'a>(
 ) -> Result<(Conjunction, Cursor<'a>), AllocError>
     ensures { Builds TheConj read_conj (left cursor.entry) result }
 {
-    let (first, mut next) = negation(alloc, cursor)?;
-    let mut left = Conjunction::One(first);
-    while let Terminal::And = next.terminal() {
-        let place = next.place();
-        let (right, after) = negation(alloc, next.skip())?;
-        left = Conjunction::And(Box::new(alloc, left)?, place, right);
-        next = after;
+    let (first, next) = negation(alloc, cursor)?;
+    let mut so_far = (Conjunction::One(first), next);
+    'chain: while let Terminal::And = so_far.1.terminal() {
+        so_far = conjoined(alloc, so_far.0, so_far.1)?;
     }
-    Ok((left, next))
+    Ok(so_far)
+}
+
+// The conjunction so far, AND, and the negation behind it.
+#[cycle(scalars)]
+fn conjoined<'a>(
+    alloc: Global,
+    so_far: Conjunction,
+    cursor: Cursor<'a>,
+) -> Result<(Conjunction, Cursor<'a>), AllocError>
+    requires { first (left cursor) ≡ Terminal.And }
+    ensures { Turns MoreAnd (λ f. f (read_conj so_far)) (λ tree f. f (read_conj tree)) (left cursor.entry) result }
+{
+    let inner = Box::new(alloc, so_far)?;
+    let place = cursor.place();
+    let (right, next) = negation(alloc, cursor.skip())?;
+    Ok((Conjunction::And(inner, place, right), next))
 }
 
 #[cycle(scalars)]
@@ -85,30 +115,58 @@ fn comparison<'a>(alloc: Global, cursor: Cursor<'a>) -> Result<(Comparison, Curs
 fn sum<'a>(alloc: Global, cursor: Cursor<'a>) -> Result<(Sum, Cursor<'a>), AllocError>
     ensures { Builds TheSum read_sum (left cursor.entry) result }
 {
-    let (first, mut next) = product(alloc, cursor)?;
-    let mut left = Sum::One(first);
-    while let Some(word) = sum_word(next.terminal()) {
-        let place = next.place();
-        let (right, after) = product(alloc, next.skip())?;
-        left = Sum::Add(Box::new(alloc, left)?, place, word, right);
-        next = after;
+    let (first, next) = product(alloc, cursor)?;
+    let mut so_far = (Sum::One(first), next);
+    'chain: while let Some(word) = sum_word(so_far.1.terminal()) {
+        so_far = added(alloc, so_far.0, word, so_far.1)?;
     }
-    Ok((left, next))
+    Ok(so_far)
+}
+
+// The sum so far, an operator, and the product behind it.
+#[cycle(scalars)]
+fn added<'a>(
+    alloc: Global,
+    so_far: Sum,
+    word: SumWord,
+    cursor: Cursor<'a>,
+) -> Result<(Sum, Cursor<'a>), AllocError>
+    requires { first (left cursor) ≡ written.sum_word word }
+    ensures { Turns MoreSum (λ f. f (read_sum so_far)) (λ tree f. f (read_sum tree)) (left cursor.entry) result }
+{
+    let inner = Box::new(alloc, so_far)?;
+    let place = cursor.place();
+    let (right, next) = product(alloc, cursor.skip())?;
+    Ok((Sum::Add(inner, place, word, right), next))
 }
 
 #[cycle(scalars)]
 fn product<'a>(alloc: Global, cursor: Cursor<'a>) -> Result<(Product, Cursor<'a>), AllocError>
     ensures { Builds TheProd read_prod (left cursor.entry) result }
 {
-    let (first, mut next) = sign(alloc, cursor)?;
-    let mut left = Product::One(first);
-    while let Some(word) = product_word(next.terminal()) {
-        let place = next.place();
-        let (right, after) = sign(alloc, next.skip())?;
-        left = Product::Multiply(Box::new(alloc, left)?, place, word, right);
-        next = after;
+    let (first, next) = sign(alloc, cursor)?;
+    let mut so_far = (Product::One(first), next);
+    'chain: while let Some(word) = product_word(so_far.1.terminal()) {
+        so_far = multiplied(alloc, so_far.0, word, so_far.1)?;
     }
-    Ok((left, next))
+    Ok(so_far)
+}
+
+// The product so far, an operator, and the sign behind it.
+#[cycle(scalars)]
+fn multiplied<'a>(
+    alloc: Global,
+    so_far: Product,
+    word: ProductWord,
+    cursor: Cursor<'a>,
+) -> Result<(Product, Cursor<'a>), AllocError>
+    requires { first (left cursor) ≡ written.product_word word }
+    ensures { Turns MoreProd (λ f. f (read_prod so_far)) (λ tree f. f (read_prod tree)) (left cursor.entry) result }
+{
+    let inner = Box::new(alloc, so_far)?;
+    let place = cursor.place();
+    let (right, next) = sign(alloc, cursor.skip())?;
+    Ok((Product::Multiply(inner, place, word, right), next))
 }
 
 #[cycle(scalars)]
@@ -248,12 +306,10 @@ fn parenthesized<'a>(alloc: Global, cursor: Cursor<'a>) -> Result<(Primary, Curs
     ensures { Builds ThePrimary read_primary (left cursor.entry) result }
 {
     let place = cursor.place();
-    let (first, next) = scalar(alloc, cursor.skip())?;
-    let begin = Box::new(alloc, first)?;
+    let (begin, next) = scalar(alloc, cursor.skip())?;
     match next.terminal() {
         Terminal::Colon => {
-            let (second, last) = scalar(alloc, next.skip())?;
-            let end = Box::new(alloc, second)?;
+            let (end, last) = scalar(alloc, next.skip())?;
             let bracket = end_bracket(last.terminal());
             let tree = Primary::Selector(place, BeginBracket::Open, begin, end, bracket);
             Ok((tree, last.skip()))
@@ -268,10 +324,8 @@ fn bracketed<'a>(alloc: Global, cursor: Cursor<'a>) -> Result<(Primary, Cursor<'
     ensures { Builds ThePrimary read_primary (left cursor.entry) result }
 {
     let place = cursor.place();
-    let (first, next) = scalar(alloc, cursor.skip())?;
-    let (second, last) = scalar(alloc, next.skip())?;
-    let begin = Box::new(alloc, first)?;
-    let end = Box::new(alloc, second)?;
+    let (begin, next) = scalar(alloc, cursor.skip())?;
+    let (end, last) = scalar(alloc, next.skip())?;
     let bracket = end_bracket(last.terminal());
     let tree = Primary::Selector(place, BeginBracket::Closed, begin, end, bracket);
     Ok((tree, last.skip()))
@@ -287,8 +341,7 @@ fn function<'a>(
     ensures { Builds ThePrimary read_primary (left cursor.entry) result }
 {
     let place = cursor.place();
-    let (part, next) = scalar(alloc, cursor.skip().skip())?;
-    let inner = Box::new(alloc, part)?;
+    let (inner, next) = scalar(alloc, cursor.skip().skip())?;
     Ok((Primary::Function(place, word, inner), next.skip()))
 }
 
@@ -302,10 +355,8 @@ fn pair<'a>(
     ensures { Builds ThePrimary read_primary (left cursor.entry) result }
 {
     let place = cursor.place();
-    let (first, next) = scalar(alloc, cursor.skip().skip())?;
-    let (second, end) = scalar(alloc, next.skip())?;
-    let left = Box::new(alloc, first)?;
-    let right = Box::new(alloc, second)?;
+    let (left, next) = scalar(alloc, cursor.skip().skip())?;
+    let (right, end) = scalar(alloc, next.skip())?;
     Ok((Primary::PairFunction(place, word, left, right), end.skip()))
 }
 

@@ -127,8 +127,7 @@ fn var_form<'a>(alloc: Global, cursor: Cursor<'a>) -> Result<(VarForm, Cursor<'a
     let behind = cursor.skip();
     match cursor.terminal() {
         Terminal::Virtual => {
-            let (rows, next) = rel(alloc, behind.skip())?;
-            let inner = Box::new(alloc, rows)?;
+            let (inner, next) = rel(alloc, behind.skip())?;
             Ok((VarForm::Virtual(place, inner), next.skip()))
         }
         _ => {
@@ -198,8 +197,7 @@ fn emptiness<'a>(
     ensures { Builds TheTest read_test (left cursor.entry) result }
 {
     let place = cursor.place();
-    let (rows, next) = rel(alloc, cursor.skip().skip())?;
-    let inner = Box::new(alloc, rows)?;
+    let (inner, next) = rel(alloc, cursor.skip().skip())?;
     Ok((Test::Emptiness(place, word, inner), next.skip()))
 }
 
@@ -212,13 +210,11 @@ fn used_deletion<'a>(
     match cursor.terminal() {
         Terminal::Where => {
             let place = cursor.place();
-            let (value, next) = scalar(alloc, cursor.skip())?;
-            let inner = Box::new(alloc, value)?;
+            let (inner, next) = scalar(alloc, cursor.skip())?;
             Ok((UsedDeletion::Where(place, inner), next))
         }
         _ => {
-            let (rows, next) = rel(alloc, cursor)?;
-            let inner = Box::new(alloc, rows)?;
+            let (inner, next) = rel(alloc, cursor)?;
             Ok((UsedDeletion::Rows(inner), next))
         }
     }
@@ -230,8 +226,7 @@ fn deletion<'a>(alloc: Global, cursor: Cursor<'a>) -> Result<(Deletion, Cursor<'
     match cursor.terminal() {
         Terminal::Where => {
             let place = cursor.place();
-            let (value, next) = scalar(alloc, cursor.skip())?;
-            let inner = Box::new(alloc, value)?;
+            let (inner, next) = scalar(alloc, cursor.skip())?;
             Ok((Deletion::Where(place, inner), next))
         }
         Terminal::Portion => {
@@ -240,8 +235,7 @@ fn deletion<'a>(alloc: Global, cursor: Cursor<'a>) -> Result<(Deletion, Cursor<'
             Ok((Deletion::Portion(portion, condition), end))
         }
         _ => {
-            let (rows, next) = rel(alloc, cursor)?;
-            let inner = Box::new(alloc, rows)?;
+            let (inner, next) = rel(alloc, cursor)?;
             Ok((Deletion::Rows(inner), next))
         }
     }
@@ -254,8 +248,7 @@ fn used_item<'a>(alloc: Global, cursor: Cursor<'a>) -> Result<(UsedItem, Cursor<
     let (name, next) = cursor.skip().name(alloc)?;
     match cursor.terminal() {
         Terminal::Insert => {
-            let (rows, end) = rel(alloc, next)?;
-            let inner = Box::new(alloc, rows)?;
+            let (inner, end) = rel(alloc, next)?;
             Ok((UsedItem::Insert(place, name, inner), end))
         }
         Terminal::Delete => {
@@ -281,8 +274,7 @@ fn item<'a>(alloc: Global, cursor: Cursor<'a>) -> Result<(Item, Cursor<'a>), All
         Terminal::Using => using_item(alloc, cursor),
         _ => {
             let (name, next) = cursor.name(alloc)?;
-            let (rows, end) = rel(alloc, next.skip())?;
-            let inner = Box::new(alloc, rows)?;
+            let (inner, end) = rel(alloc, next.skip())?;
             Ok((Item::Set(name, inner), end))
         }
     }
@@ -294,8 +286,7 @@ fn insert<'a>(alloc: Global, cursor: Cursor<'a>) -> Result<(Item, Cursor<'a>), A
 {
     let place = cursor.place();
     let (name, next) = cursor.skip().name(alloc)?;
-    let (rows, end) = rel(alloc, next)?;
-    let inner = Box::new(alloc, rows)?;
+    let (inner, end) = rel(alloc, next)?;
     Ok((Item::Insert(place, name, inner), end))
 }
 
@@ -328,8 +319,7 @@ fn terminate<'a>(alloc: Global, cursor: Cursor<'a>) -> Result<(Item, Cursor<'a>)
     let place = cursor.place();
     let (name, next) = cursor.skip().name(alloc)?;
     let at = next.place();
-    let (value, behind) = scalar(alloc, next.skip())?;
-    let inner = Box::new(alloc, value)?;
+    let (inner, behind) = scalar(alloc, next.skip())?;
     let (condition, end) = condition(alloc, behind)?;
     Ok((Item::Terminate(place, name, at, inner, condition), end))
 }
@@ -464,8 +454,7 @@ fn print<'a>(alloc: Global, cursor: Cursor<'a>) -> Result<(Statement, Cursor<'a>
     ensures { Builds TheStatement read_statement (left cursor.entry) result }
 {
     let place = cursor.place();
-    let (rows, next) = rel(alloc, cursor.skip())?;
-    let inner = Box::new(alloc, rows)?;
+    let (inner, next) = rel(alloc, cursor.skip())?;
     Ok((Statement::Print(place, inner), next.skip()))
 }
 

@@ -10,4 +10,4 @@ pub returns-in_default : goal.returns-in_default
 returns-in_default c = record { shorter = omega arith; goes_on = λ stack k x h. done-MaybeWhere (left c.args.cursor) _ _ x (λ e. c.in_default.not-Where (c.terminal.ensures ∙ e)) h }
 
 pub returns : goal.returns
-returns c = rw c.in_ok-scalar.ensures.ok (record { shorter = omega (arith, no-more (left c.args.cursor) (left c.skip.result) c.skip.ensures, c.in_ok-value.ensures.shorter); goes_on = λ stack k x h. let h1 = at t.Where _ _ (left c.args.cursor) (left c.skip.result) (MaybeWhere ∷ stack) k x (sym c.terminal.ensures ∙ c.in-Where.is) refl c.place-place.ensures refl c.skip.ensures h in c.in_ok-value.ensures.goes_on _ _ x h1 })
+returns c = record { shorter = omega (arith, no-more (left c.args.cursor) (left c.skip.result) c.skip.ensures, c.in_ok-scalar.ensures.shorter); goes_on = λ stack k x h. let h1 = at t.Where _ _ (left c.args.cursor) (left c.skip.result) (MaybeWhere ∷ stack) k x (sym c.terminal.ensures ∙ c.in-Where.is) refl c.place-place.ensures refl c.skip.ensures h in c.in_ok-scalar.ensures.goes_on _ _ x h1 }

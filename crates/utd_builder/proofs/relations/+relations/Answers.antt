@@ -17,14 +17,14 @@ use Rattle.utd_builder.proofs.relations.+relations.Goals as goal
 pub rel-using-requires : goal.rel-using-requires
 rel-using-requires u c = (omega arith, (sym c.terminal.ensures ∙ c.in-Using.is))
 
-pub rel-returns-in_ok-only-in-Using : goal.rel-returns-in_ok-only-in-Using
-rel-returns-in_ok-only-in-Using u c = record { shorter = omega (arith, c.in_ok-only-in-Using.ensures.shorter); goes_on = λ stack k x h. let h1 = (sym (rel-as-using (left c.args.cursor) stack k (subst Starts_using (sym (sym c.terminal.ensures ∙ c.in-Using.is)) tt)) ∙ h) in c.in_ok-only-in-Using.ensures.goes_on _ _ x h1 }
+pub rel-returns-in_ok-new-in-Using : goal.rel-returns-in_ok-new-in-Using
+rel-returns-in_ok-new-in-Using u c = rw c.in_ok-new-in-Using.ensures.ok (record { shorter = omega (arith, c.in_ok-only-in-Using.ensures.shorter); goes_on = λ stack k x h. let h1 = (sym (rel-as-using (left c.args.cursor) stack k (subst Starts_using (sym (sym c.terminal.ensures ∙ c.in-Using.is)) tt)) ∙ h) in c.in_ok-only-in-Using.ensures.goes_on _ _ x h1 })
 
 pub rel-terms-requires : goal.rel-terms-requires
 rel-terms-requires u c = (omega arith, tt)
 
-pub rel-returns-in_ok-only-in_default : goal.rel-returns-in_ok-only-in_default
-rel-returns-in_ok-only-in_default u c = record { shorter = omega (arith, c.in_ok-only-in_default.ensures.shorter); goes_on = λ stack k x h. let h1 = rel-to-terms (left c.args.cursor) _ k x (λ e. c.in_default.not-Using (c.terminal.ensures ∙ e)) h in c.in_ok-only-in_default.ensures.goes_on _ _ x h1 }
+pub rel-returns-in_ok-new-in_default : goal.rel-returns-in_ok-new-in_default
+rel-returns-in_ok-new-in_default u c = rw c.in_ok-new-in_default.ensures.ok (record { shorter = omega (arith, c.in_ok-only-in_default.ensures.shorter); goes_on = λ stack k x h. let h1 = rel-to-terms (left c.args.cursor) _ k x (λ e. c.in_default.not-Using (c.terminal.ensures ∙ e)) h in c.in_ok-only-in_default.ensures.goes_on _ _ x h1 })
 
 pub terms-term-requires : goal.terms-term-requires
 terms-term-requires u c = (omega arith, tt)
@@ -36,25 +36,25 @@ pub terms-joined-requires : goal.terms-joined-requires
 terms-joined-requires u c = (omega (arith, c.chain.invariant.1), (ap is_infix (sym c.terminal.ensures) ∙ sym c.is_infix.ensures ∙ c.chain-test.true))
 
 pub terms-chain-smaller : goal.terms-chain-smaller
-terms-chain-smaller u c = omega (arith, c.in_ok-tree.ensures.shorter)
+terms-chain-smaller u c = omega (arith, c.in_ok-so_far.ensures.shorter)
 
 pub terms-chain-preserved : goal.terms-chain-preserved
-terms-chain-preserved u c = ((λ stack k x h. c.in_ok-tree.ensures.goes_on stack (λ w. k (w.0, w.1)) x (c.chain.invariant.0 stack k x h)), omega (arith, c.chain.invariant.1, c.in_ok-tree.ensures.shorter))
+terms-chain-preserved u c = ((λ stack k x h. c.in_ok-so_far.ensures.goes_on stack (λ w. k (w.0, w.1)) x (c.chain.invariant.0 stack k x h)), omega (arith, c.chain.invariant.1, c.in_ok-so_far.ensures.shorter))
 
 pub terms-returns : goal.terms-returns
-terms-returns u c = record { shorter = c.chain.invariant.1; goes_on = λ stack k x h. done-MoreInfix (left c.chain.next) _ _ x (ap is_infix (sym c.terminal.ensures) ∙ sym c.is_infix.ensures ∙ c.chain-test.false) (c.chain.invariant.0 stack k x h) }
+terms-returns u c = record { shorter = c.chain.invariant.1; goes_on = λ stack k x h. done-MoreInfix (left c.chain.so_far.1) _ _ x (ap is_infix (sym c.terminal.ensures) ∙ sym c.is_infix.ensures ∙ c.chain-test.false) (c.chain.invariant.0 stack k x h) }
 
 pub joined-term-requires : goal.joined-term-requires
 joined-term-requires u c = (omega (arith, less (written.infix_word c.in-Some.word) (left c.args.cursor) (left c.skip.result) (is-infix_word (first (left c.args.cursor)) c.in-Some.word (ap infix_word_at (sym c.terminal.ensures) ∙ sym c.infix_word.ensures ∙ c.in-Some.is)) (more-infix_word c.in-Some.word) c.skip.ensures), tt)
 
-pub joined-returns-in_ok-inner-in-Some : goal.joined-returns-in_ok-inner-in-Some
-joined-returns-in_ok-inner-in-Some u c = rw c.in_ok-inner-in-Some.ensures.ok (record { shorter = omega (arith, less (written.infix_word c.in-Some.word) (left c.args.cursor) (left c.skip.result) (is-infix_word (first (left c.args.cursor)) c.in-Some.word (ap infix_word_at (sym c.terminal.ensures) ∙ sym c.infix_word.ensures ∙ c.in-Some.is)) (more-infix_word c.in-Some.word) c.skip.ensures, c.in_ok-right-in-Some.ensures.shorter); goes_on = λ stack k x h. let h1 = at (written.infix_word c.in-Some.word) _ _ (left c.args.cursor) (left c.skip.result) (MoreInfix ∷ stack) (λ vs. k (vs.0 (read_terms c.args.so_far), vs.1)) x (is-infix_word (first (left c.args.cursor)) c.in-Some.word (ap infix_word_at (sym c.terminal.ensures) ∙ sym c.infix_word.ensures ∙ c.in-Some.is)) (more-infix_word c.in-Some.word) c.place-place.ensures refl c.skip.ensures h in let h2 = row-MoreInfix-infix_word c.in-Some.word _ _ _ _ _ _ x h1 in c.in_ok-right-in-Some.ensures.goes_on _ _ x h2 })
+pub joined-returns-in_ok-right-in-Some : goal.joined-returns-in_ok-right-in-Some
+joined-returns-in_ok-right-in-Some u c = rw c.in_ok-inner.ensures.ok (record { shorter = omega (arith, less (written.infix_word c.in-Some.word) (left c.args.cursor) (left c.skip.result) (is-infix_word (first (left c.args.cursor)) c.in-Some.word (ap infix_word_at (sym c.terminal.ensures) ∙ sym c.infix_word.ensures ∙ c.in-Some.is)) (more-infix_word c.in-Some.word) c.skip.ensures, c.in_ok-right-in-Some.ensures.shorter); goes_on = λ stack k x h. let h1 = at (written.infix_word c.in-Some.word) _ _ (left c.args.cursor) (left c.skip.result) (MoreInfix ∷ stack) (λ vs. k (vs.0 (read_terms c.args.so_far), vs.1)) x (is-infix_word (first (left c.args.cursor)) c.in-Some.word (ap infix_word_at (sym c.terminal.ensures) ∙ sym c.infix_word.ensures ∙ c.in-Some.is)) (more-infix_word c.in-Some.word) c.place-place.ensures refl c.skip.ensures h in let h2 = row-MoreInfix-infix_word c.in-Some.word _ _ _ _ _ _ x h1 in c.in_ok-right-in-Some.ensures.goes_on _ _ x h2 })
 
 pub joined-term-requires-in-None : goal.joined-term-requires-in-None
 joined-term-requires-in-None u c = (omega (arith, less t.Not (left c.args.cursor) (left c.skip-in-None.result) (not-infix (first (left c.args.cursor)) c.requires (ap infix_word_at (sym c.terminal.ensures) ∙ sym c.infix_word.ensures ∙ c.in-None.is)) refl c.skip-in-None.ensures, no-more (left c.skip-in-None.result) (left c.skip-in-None-2.result) c.skip-in-None-2.ensures), tt)
 
-pub joined-returns-in_ok-inner-in-None : goal.joined-returns-in_ok-inner-in-None
-joined-returns-in_ok-inner-in-None u c = rw c.in_ok-inner-in-None.ensures.ok (record { shorter = omega (arith, less t.Not (left c.args.cursor) (left c.skip-in-None.result) (not-infix (first (left c.args.cursor)) c.requires (ap infix_word_at (sym c.terminal.ensures) ∙ sym c.infix_word.ensures ∙ c.in-None.is)) refl c.skip-in-None.ensures, no-more (left c.skip-in-None.result) (left c.skip-in-None-2.result) c.skip-in-None-2.ensures, c.in_ok-right-in-None.ensures.shorter); goes_on = λ stack k x h. let h1 = at t.Not _ _ (left c.args.cursor) (left c.skip-in-None.result) (MoreInfix ∷ stack) (λ vs. k (vs.0 (read_terms c.args.so_far), vs.1)) x (not-infix (first (left c.args.cursor)) c.requires (ap infix_word_at (sym c.terminal.ensures) ∙ sym c.infix_word.ensures ∙ c.in-None.is)) refl c.place-place.ensures refl c.skip-in-None.ensures h in let h2 = just t.Matching (left c.skip-in-None.result) (left c.skip-in-None-2.result) _ _ x c.skip-in-None-2.ensures h1 in c.in_ok-right-in-None.ensures.goes_on _ _ x h2 })
+pub joined-returns-in_ok-right-in-None : goal.joined-returns-in_ok-right-in-None
+joined-returns-in_ok-right-in-None u c = rw c.in_ok-inner.ensures.ok (record { shorter = omega (arith, less t.Not (left c.args.cursor) (left c.skip-in-None.result) (not-infix (first (left c.args.cursor)) c.requires (ap infix_word_at (sym c.terminal.ensures) ∙ sym c.infix_word.ensures ∙ c.in-None.is)) refl c.skip-in-None.ensures, no-more (left c.skip-in-None.result) (left c.skip-in-None-2.result) c.skip-in-None-2.ensures, c.in_ok-right-in-None.ensures.shorter); goes_on = λ stack k x h. let h1 = at t.Not _ _ (left c.args.cursor) (left c.skip-in-None.result) (MoreInfix ∷ stack) (λ vs. k (vs.0 (read_terms c.args.so_far), vs.1)) x (not-infix (first (left c.args.cursor)) c.requires (ap infix_word_at (sym c.terminal.ensures) ∙ sym c.infix_word.ensures ∙ c.in-None.is)) refl c.place-place.ensures refl c.skip-in-None.ensures h in let h2 = just t.Matching (left c.skip-in-None.result) (left c.skip-in-None-2.result) _ _ x c.skip-in-None-2.ensures h1 in c.in_ok-right-in-None.ensures.goes_on _ _ x h2 })
 
 pub term-rel_primary-requires : goal.term-rel_primary-requires
 term-rel_primary-requires u c = (omega arith, tt)
@@ -66,13 +66,13 @@ pub term-postfixed-requires : goal.term-postfixed-requires
 term-postfixed-requires u c = (ap is_postfix (sym c.terminal.ensures) ∙ sym c.is_postfix.ensures ∙ c.chain-test.true)
 
 pub term-chain-smaller : goal.term-chain-smaller
-term-chain-smaller u c = omega (arith, c.in_ok-tree.ensures.shorter)
+term-chain-smaller u c = omega (arith, c.in_ok-so_far.ensures.shorter)
 
 pub term-chain-preserved : goal.term-chain-preserved
-term-chain-preserved u c = ((λ stack k x h. c.in_ok-tree.ensures.goes_on stack (λ w. k (w.0, w.1)) x (c.chain.invariant.0 stack k x h)), omega (arith, c.chain.invariant.1, c.in_ok-tree.ensures.shorter))
+term-chain-preserved u c = ((λ stack k x h. c.in_ok-so_far.ensures.goes_on stack (λ w. k (w.0, w.1)) x (c.chain.invariant.0 stack k x h)), omega (arith, c.chain.invariant.1, c.in_ok-so_far.ensures.shorter))
 
 pub term-returns : goal.term-returns
-term-returns u c = record { shorter = c.chain.invariant.1; goes_on = λ stack k x h. done-MorePostfix (left c.chain.next) _ _ x (ap is_postfix (sym c.terminal.ensures) ∙ sym c.is_postfix.ensures ∙ c.chain-test.false) (c.chain.invariant.0 stack k x h) }
+term-returns u c = record { shorter = c.chain.invariant.1; goes_on = λ stack k x h. done-MorePostfix (left c.chain.so_far.1) _ _ x (ap is_postfix (sym c.terminal.ensures) ∙ sym c.is_postfix.ensures ∙ c.chain-test.false) (c.chain.invariant.0 stack k x h) }
 
 pub rel_primary-extend-requires : goal.rel_primary-extend-requires
 rel_primary-extend-requires u c = (omega arith, (sym c.terminal.ensures ∙ c.in-Extend.is))
@@ -120,25 +120,25 @@ pub enclosed-rel-requires : goal.enclosed-rel-requires
 enclosed-rel-requires u c = (omega (arith, less t.Open (left c.args.cursor) (left c.skip.result) c.requires refl c.skip.ensures), tt)
 
 pub enclosed-returns : goal.enclosed-returns
-enclosed-returns u c = rw c.in_ok-inner.ensures.ok (record { shorter = omega (arith, no-more (left c.args.cursor) (left c.skip.result) c.skip.ensures, c.in_ok-rows.ensures.shorter, no-more (left c.in_ok-rows.next) (left c.skip-2.result) c.skip-2.ensures); goes_on = λ stack k x h. let h1 = at t.Open _ _ (left c.args.cursor) (left c.skip.result) (TheOperand ∷ stack) k x c.requires refl c.place-place.ensures refl c.skip.ensures h in let h2 = c.in_ok-rows.ensures.goes_on _ _ x h1 in just t.Close (left c.in_ok-rows.next) (left c.skip-2.result) _ _ x c.skip-2.ensures h2 })
+enclosed-returns u c = record { shorter = omega (arith, no-more (left c.args.cursor) (left c.skip.result) c.skip.ensures, c.in_ok-inner.ensures.shorter, no-more (left c.in_ok-inner.next) (left c.skip-2.result) c.skip-2.ensures); goes_on = λ stack k x h. let h1 = at t.Open _ _ (left c.args.cursor) (left c.skip.result) (TheOperand ∷ stack) k x c.requires refl c.place-place.ensures refl c.skip.ensures h in let h2 = c.in_ok-inner.ensures.goes_on _ _ x h1 in just t.Close (left c.in_ok-inner.next) (left c.skip-2.result) _ _ x c.skip-2.ensures h2 }
 
 pub packed-rel-requires : goal.packed-rel-requires
 packed-rel-requires u c = (omega (arith, less (written.pack_word c.args.word) (left c.args.cursor) (left c.skip.result) c.requires (more-pack_word c.args.word) c.skip.ensures), tt)
 
 pub packed-returns : goal.packed-returns
-packed-returns u c = rw c.in_ok-inner.ensures.ok (record { shorter = omega (arith, no-more (left c.args.cursor) (left c.skip.result) c.skip.ensures, c.in_ok-rows.ensures.shorter, no-more (left c.in_ok-rows.next) (left c.skip-2.result) c.skip-2.ensures, c.in_ok-names.ensures.shorter); goes_on = λ stack k x h. let h1 = at (written.pack_word c.args.word) _ _ (left c.args.cursor) (left c.skip.result) (TheOperand ∷ stack) k x c.requires (more-pack_word c.args.word) c.place-place.ensures refl c.skip.ensures h in let h2 = row-TheOperand-pack_word c.args.word _ _ _ _ _ _ x h1 in let h3 = c.in_ok-rows.ensures.goes_on _ _ x h2 in let h4 = just t.On (left c.in_ok-rows.next) (left c.skip-2.result) _ _ x c.skip-2.ensures h3 in c.in_ok-names.ensures.goes_on _ _ x h4 })
+packed-returns u c = record { shorter = omega (arith, no-more (left c.args.cursor) (left c.skip.result) c.skip.ensures, c.in_ok-inner.ensures.shorter, no-more (left c.in_ok-inner.next) (left c.skip-2.result) c.skip-2.ensures, c.in_ok-names.ensures.shorter); goes_on = λ stack k x h. let h1 = at (written.pack_word c.args.word) _ _ (left c.args.cursor) (left c.skip.result) (TheOperand ∷ stack) k x c.requires (more-pack_word c.args.word) c.place-place.ensures refl c.skip.ensures h in let h2 = row-TheOperand-pack_word c.args.word _ _ _ _ _ _ x h1 in let h3 = c.in_ok-inner.ensures.goes_on _ _ x h2 in let h4 = just t.On (left c.in_ok-inner.next) (left c.skip-2.result) _ _ x c.skip-2.ensures h3 in c.in_ok-names.ensures.goes_on _ _ x h4 }
 
 pub extend-rel-requires : goal.extend-rel-requires
 extend-rel-requires u c = (omega (arith, less t.Extend (left c.args.cursor) (left c.skip.result) c.requires refl c.skip.ensures), tt)
 
 pub extend-returns : goal.extend-returns
-extend-returns u c = rw c.in_ok-inner.ensures.ok (record { shorter = omega (arith, no-more (left c.args.cursor) (left c.skip.result) c.skip.ensures, c.in_ok-rows.ensures.shorter, no-more (left c.in_ok-rows.next) (left c.skip-2.result) c.skip-2.ensures, c.in_ok-sets.ensures.shorter); goes_on = λ stack k x h. let h1 = at t.Extend _ _ (left c.args.cursor) (left c.skip.result) (TheExtend ∷ stack) k x c.requires refl c.place-place.ensures refl c.skip.ensures h in let h2 = c.in_ok-rows.ensures.goes_on _ _ x h1 in let h3 = just t.Colon (left c.in_ok-rows.next) (left c.skip-2.result) _ _ x c.skip-2.ensures h2 in c.in_ok-sets.ensures.goes_on _ _ x h3 })
+extend-returns u c = record { shorter = omega (arith, no-more (left c.args.cursor) (left c.skip.result) c.skip.ensures, c.in_ok-inner.ensures.shorter, no-more (left c.in_ok-inner.next) (left c.skip-2.result) c.skip-2.ensures, c.in_ok-sets.ensures.shorter); goes_on = λ stack k x h. let h1 = at t.Extend _ _ (left c.args.cursor) (left c.skip.result) (TheExtend ∷ stack) k x c.requires refl c.place-place.ensures refl c.skip.ensures h in let h2 = c.in_ok-inner.ensures.goes_on _ _ x h1 in let h3 = just t.Colon (left c.in_ok-inner.next) (left c.skip-2.result) _ _ x c.skip-2.ensures h2 in c.in_ok-sets.ensures.goes_on _ _ x h3 }
 
 pub summarize-rel-requires : goal.summarize-rel-requires
 summarize-rel-requires u c = (omega (arith, less t.Summarize (left c.args.cursor) (left c.skip.result) c.requires refl c.skip.ensures), tt)
 
 pub summarize-returns : goal.summarize-returns
-summarize-returns u c = rw c.in_ok-inner.ensures.ok (record { shorter = omega (arith, no-more (left c.args.cursor) (left c.skip.result) c.skip.ensures, c.in_ok-rows.ensures.shorter, no-more (left c.in_ok-rows.next) (left c.skip-2.result) c.skip-2.ensures, c.in_ok-by.ensures.shorter, no-more (left c.in_ok-by.behind) (left c.skip-3.result) c.skip-3.ensures, c.in_ok-sums.ensures.shorter); goes_on = λ stack k x h. let h1 = at t.Summarize _ _ (left c.args.cursor) (left c.skip.result) (TheSummarize ∷ stack) k x c.requires refl c.place-place.ensures refl c.skip.ensures h in let h2 = c.in_ok-rows.ensures.goes_on _ _ x h1 in let h3 = just t.By (left c.in_ok-rows.next) (left c.skip-2.result) _ _ x c.skip-2.ensures h2 in let h4 = c.in_ok-by.ensures.goes_on _ _ x h3 in let h5 = just t.Colon (left c.in_ok-by.behind) (left c.skip-3.result) _ _ x c.skip-3.ensures h4 in c.in_ok-sums.ensures.goes_on _ _ x h5 })
+summarize-returns u c = record { shorter = omega (arith, no-more (left c.args.cursor) (left c.skip.result) c.skip.ensures, c.in_ok-inner.ensures.shorter, no-more (left c.in_ok-inner.next) (left c.skip-2.result) c.skip-2.ensures, c.in_ok-by.ensures.shorter, no-more (left c.in_ok-by.behind) (left c.skip-3.result) c.skip-3.ensures, c.in_ok-sums.ensures.shorter); goes_on = λ stack k x h. let h1 = at t.Summarize _ _ (left c.args.cursor) (left c.skip.result) (TheSummarize ∷ stack) k x c.requires refl c.place-place.ensures refl c.skip.ensures h in let h2 = c.in_ok-inner.ensures.goes_on _ _ x h1 in let h3 = just t.By (left c.in_ok-inner.next) (left c.skip-2.result) _ _ x c.skip-2.ensures h2 in let h4 = c.in_ok-by.ensures.goes_on _ _ x h3 in let h5 = just t.Colon (left c.in_ok-by.behind) (left c.skip-3.result) _ _ x c.skip-3.ensures h4 in c.in_ok-sums.ensures.goes_on _ _ x h5 }
 
 pub using-using_part-requires : goal.using-using_part-requires
 using-using_part-requires u c = (omega (arith, less t.Using (left c.args.cursor) (left c.skip.result) c.requires refl c.skip.ensures, c.in_ok-names.ensures.shorter, no-more (left c.in_ok-names.next) (left c.skip-2.result) c.skip-2.ensures), tt)
@@ -189,4 +189,4 @@ pub used_otherwise-returns-in_ok-names-in-OpenBrace : goal.used_otherwise-return
 used_otherwise-returns-in_ok-names-in-OpenBrace u c = record { shorter = omega (arith, no-more (left c.args.cursor) (left c.skip-behind.result) c.skip-behind.ensures, c.in_ok-names-in-OpenBrace.ensures.shorter); goes_on = λ stack k x h. let h1 = at t.OpenBrace _ _ (left c.args.cursor) (left c.skip-behind.result) (AfterOperand ∷ stack) (λ vs. k (vs.0 (read_operand c.args.first), vs.1)) x (sym c.terminal.ensures ∙ c.in-OpenBrace.is) refl c.place-place.ensures refl c.skip-behind.ensures h in c.in_ok-names-in-OpenBrace.ensures.goes_on _ (λ w. k (plain.UsingProject (read_operand c.args.first) w.0, w.1)) x h1 }
 
 pub used_otherwise-returns-in_ok-condition-in_default : goal.used_otherwise-returns-in_ok-condition-in_default
-used_otherwise-returns-in_ok-condition-in_default u c = rw c.in_ok-condition-in_default.ensures.ok (record { shorter = omega (arith, no-more (left c.args.cursor) (left c.skip-behind.result) c.skip-behind.ensures, c.in_ok-value-in_default.ensures.shorter); goes_on = λ stack k x h. let h1 = step-AfterOperand _ _ (left c.args.cursor) (left c.skip-behind.result) _ (λ vs. k (vs.0 (read_operand c.args.first), vs.1)) x c.requires (λ e. c.in_default.not-Not (c.terminal.ensures ∙ e)) (λ e. c.in_default.not-OpenBrace (c.terminal.ensures ∙ e)) c.place-place.ensures refl c.skip-behind.ensures h in c.in_ok-value-in_default.ensures.goes_on _ _ x h1 })
+used_otherwise-returns-in_ok-condition-in_default u c = record { shorter = omega (arith, no-more (left c.args.cursor) (left c.skip-behind.result) c.skip-behind.ensures, c.in_ok-condition-in_default.ensures.shorter); goes_on = λ stack k x h. let h1 = step-AfterOperand _ _ (left c.args.cursor) (left c.skip-behind.result) _ (λ vs. k (vs.0 (read_operand c.args.first), vs.1)) x c.requires (λ e. c.in_default.not-Not (c.terminal.ensures ∙ e)) (λ e. c.in_default.not-OpenBrace (c.terminal.ensures ∙ e)) c.place-place.ensures refl c.skip-behind.ensures h in c.in_ok-condition-in_default.ensures.goes_on _ _ x h1 }

@@ -48,13 +48,13 @@ abbrev pub decreases-enclosed : goal.decreases-enclosed
 decreases-enclosed l = 16 * length (left l.cursor) + 3
 
 abbrev pub invariant-terms-chain : goal.invariant-terms-chain
-invariant-terms-chain l = Path TheTerms MoreInfix (λ f. f (read_terms l.left)) (left l.fn.cursor) (left l.next) × (length (left l.next) ≤ length (left l.fn.cursor))
+invariant-terms-chain l = Path TheTerms MoreInfix (λ f. f (read_terms l.so_far.0)) (left l.fn.cursor) (left l.so_far.1) × (length (left l.so_far.1) ≤ length (left l.fn.cursor))
 
 abbrev pub decreases-terms-chain : goal.decreases-terms-chain
-decreases-terms-chain l = length (left l.next)
+decreases-terms-chain l = length (left l.so_far.1)
 
 abbrev pub invariant-term-chain : goal.invariant-term-chain
-invariant-term-chain l = Path TheTerm MorePostfix (λ f. f (read_term l.left)) (left l.fn.cursor) (left l.next) × (length (left l.next) ≤ length (left l.fn.cursor))
+invariant-term-chain l = Path TheTerm MorePostfix (λ f. f (read_term l.so_far.0)) (left l.fn.cursor) (left l.so_far.1) × (length (left l.so_far.1) ≤ length (left l.fn.cursor))
 
 abbrev pub decreases-term-chain : goal.decreases-term-chain
-decreases-term-chain l = length (left l.next)
+decreases-term-chain l = length (left l.so_far.1)

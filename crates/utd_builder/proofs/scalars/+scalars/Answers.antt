@@ -1,6 +1,7 @@
 use Rattle.std.proofs.Common.{◌∷◌, refl, sym, ◌∙◌, ap, arith}
 use Rattle.utd_syntax.specs.declared.terminal.Terminal.TheVariants as t
 use Rattle.utd_syntax.specs.Pieces.{first, bytes_of}
+use Rattle.utd_syntax.specs.Read.{read_conj, read_prod, read_scalar, read_sum}
 use Rattle.utd_syntax.specs.Table.{ThePrimary, TheSign, MoreProd, MoreSum, TheNeg, MoreAnd, MoreOr}
 use Rattle.utd_syntax.specs.Written as written
 use Rattle.utd_syntax.proofs.Reader.{read}
@@ -10,78 +11,6 @@ use Rattle.utd_builder.specs.Choices.{comparison_at, sum_word_at, product_word_a
 use Rattle.utd_builder.proofs.Steps.{at, at-both, less, no-more, just}
 use Rattle.utd_builder.proofs.ScalarRows.{done-MoreOr, done-MoreAnd, done-MoreCmp, done-MoreSum, done-MoreProd, scalar-to-conj, conj-to-neg, neg-to-cmp, cmp-to-sum, sum-to-prod, prod-to-sign, sign-to-primary, step-ThePrimary, step-AfterScalar, step-InParens, step-InPair, step-Comma, step-NegativeDigits, is-comparison, more-comparison, is-sum_word, more-sum_word, is-product_word, more-product_word, is-function, more-function, is-pair_function, more-pair_function, row-MoreCmp-comparison, row-MoreSum-sum_word, row-MoreProd-product_word, row-ThePrimary-function, row-ThePrimary-pair_function, end-bracket}
 use Rattle.utd_builder.proofs.scalars.+scalars.Goals as goal
-
-pub scalar-conjunction-requires : goal.scalar-conjunction-requires
-scalar-conjunction-requires u c = (omega arith, tt)
-
-pub scalar-loop-next-init : goal.scalar-loop-next-init
-scalar-loop-next-init u c = ((λ stack k x h. let h1 = scalar-to-conj (left c.args.cursor) _ k x h in c.in_ok-first.ensures.goes_on _ _ x h1), c.in_ok-first.ensures.shorter)
-
-pub scalar-conjunction-requires-in-Or : goal.scalar-conjunction-requires-in-Or
-scalar-conjunction-requires-in-Or u c = (omega (arith, c.loop-next.invariant.1, less t.Or (left c.loop-next.next) (left c.skip.result) (sym c.terminal.ensures ∙ c.in-Or.is) refl c.skip.ensures), tt)
-
-pub scalar-loop-next-smaller : goal.scalar-loop-next-smaller
-scalar-loop-next-smaller u c = omega (arith, less t.Or (left c.loop-next.next) (left c.skip.result) (sym c.terminal.ensures ∙ c.in-Or.is) refl c.skip.ensures, c.in_ok-right.ensures.shorter)
-
-pub scalar-loop-next-preserved : goal.scalar-loop-next-preserved
-scalar-loop-next-preserved u c = rw c.in_ok-new.ensures.ok ((λ stack k x h. let h1 = at t.Or _ _ (left c.loop-next.next) (left c.skip.result) (MoreOr ∷ stack) _ x (sym c.terminal.ensures ∙ c.in-Or.is) refl c.place-place.ensures refl c.skip.ensures (c.loop-next.invariant.0 stack k x h) in c.in_ok-right.ensures.goes_on _ _ x h1), omega (arith, c.loop-next.invariant.1, less t.Or (left c.loop-next.next) (left c.skip.result) (sym c.terminal.ensures ∙ c.in-Or.is) refl c.skip.ensures, c.in_ok-right.ensures.shorter))
-
-pub scalar-returns : goal.scalar-returns
-scalar-returns u c = record { shorter = c.loop-next.invariant.1; goes_on = λ stack k x h. done-MoreOr (left c.loop-next.next) _ _ x (λ e. c.in_default.not-Or (c.terminal.ensures ∙ e)) (c.loop-next.invariant.0 stack k x h) }
-
-pub conjunction-negation-requires : goal.conjunction-negation-requires
-conjunction-negation-requires u c = (omega arith, tt)
-
-pub conjunction-loop-next-init : goal.conjunction-loop-next-init
-conjunction-loop-next-init u c = ((λ stack k x h. let h1 = conj-to-neg (left c.args.cursor) _ k x h in c.in_ok-first.ensures.goes_on _ _ x h1), c.in_ok-first.ensures.shorter)
-
-pub conjunction-negation-requires-in-And : goal.conjunction-negation-requires-in-And
-conjunction-negation-requires-in-And u c = (omega (arith, c.loop-next.invariant.1, less t.And (left c.loop-next.next) (left c.skip.result) (sym c.terminal.ensures ∙ c.in-And.is) refl c.skip.ensures), tt)
-
-pub conjunction-loop-next-smaller : goal.conjunction-loop-next-smaller
-conjunction-loop-next-smaller u c = omega (arith, less t.And (left c.loop-next.next) (left c.skip.result) (sym c.terminal.ensures ∙ c.in-And.is) refl c.skip.ensures, c.in_ok-right.ensures.shorter)
-
-pub conjunction-loop-next-preserved : goal.conjunction-loop-next-preserved
-conjunction-loop-next-preserved u c = rw c.in_ok-new.ensures.ok ((λ stack k x h. let h1 = at t.And _ _ (left c.loop-next.next) (left c.skip.result) (MoreAnd ∷ stack) _ x (sym c.terminal.ensures ∙ c.in-And.is) refl c.place-place.ensures refl c.skip.ensures (c.loop-next.invariant.0 stack k x h) in c.in_ok-right.ensures.goes_on _ _ x h1), omega (arith, c.loop-next.invariant.1, less t.And (left c.loop-next.next) (left c.skip.result) (sym c.terminal.ensures ∙ c.in-And.is) refl c.skip.ensures, c.in_ok-right.ensures.shorter))
-
-pub conjunction-returns : goal.conjunction-returns
-conjunction-returns u c = record { shorter = c.loop-next.invariant.1; goes_on = λ stack k x h. done-MoreAnd (left c.loop-next.next) _ _ x (λ e. c.in_default.not-And (c.terminal.ensures ∙ e)) (c.loop-next.invariant.0 stack k x h) }
-
-pub sum-product-requires : goal.sum-product-requires
-sum-product-requires u c = (omega arith, tt)
-
-pub sum-loop-word-init : goal.sum-loop-word-init
-sum-loop-word-init u c = ((λ stack k x h. let h1 = sum-to-prod (left c.args.cursor) _ k x h in c.in_ok-first.ensures.goes_on _ _ x h1), c.in_ok-first.ensures.shorter)
-
-pub sum-product-requires-in-Some : goal.sum-product-requires-in-Some
-sum-product-requires-in-Some u c = (omega (arith, c.loop-word.invariant.1, less (written.sum_word c.in-Some.word) (left c.loop-word.next) (left c.skip.result) (is-sum_word (first (left c.loop-word.next)) c.in-Some.word (ap sum_word_at (sym c.terminal.ensures) ∙ sym c.sum_word.ensures ∙ c.in-Some.is)) (more-sum_word c.in-Some.word) c.skip.ensures), tt)
-
-pub sum-loop-word-smaller : goal.sum-loop-word-smaller
-sum-loop-word-smaller u c = omega (arith, less (written.sum_word c.in-Some.word) (left c.loop-word.next) (left c.skip.result) (is-sum_word (first (left c.loop-word.next)) c.in-Some.word (ap sum_word_at (sym c.terminal.ensures) ∙ sym c.sum_word.ensures ∙ c.in-Some.is)) (more-sum_word c.in-Some.word) c.skip.ensures, c.in_ok-right.ensures.shorter)
-
-pub sum-loop-word-preserved : goal.sum-loop-word-preserved
-sum-loop-word-preserved u c = rw c.in_ok-new.ensures.ok ((λ stack k x h. let h1 = at (written.sum_word c.in-Some.word) _ _ (left c.loop-word.next) (left c.skip.result) (MoreSum ∷ stack) _ x (is-sum_word (first (left c.loop-word.next)) c.in-Some.word (ap sum_word_at (sym c.terminal.ensures) ∙ sym c.sum_word.ensures ∙ c.in-Some.is)) (more-sum_word c.in-Some.word) c.place-place.ensures refl c.skip.ensures (c.loop-word.invariant.0 stack k x h) in let h2 = row-MoreSum-sum_word c.in-Some.word _ _ _ _ _ _ x h1 in c.in_ok-right.ensures.goes_on _ _ x h2), omega (arith, c.loop-word.invariant.1, less (written.sum_word c.in-Some.word) (left c.loop-word.next) (left c.skip.result) (is-sum_word (first (left c.loop-word.next)) c.in-Some.word (ap sum_word_at (sym c.terminal.ensures) ∙ sym c.sum_word.ensures ∙ c.in-Some.is)) (more-sum_word c.in-Some.word) c.skip.ensures, c.in_ok-right.ensures.shorter))
-
-pub sum-returns : goal.sum-returns
-sum-returns u c = record { shorter = c.loop-word.invariant.1; goes_on = λ stack k x h. done-MoreSum (left c.loop-word.next) _ _ x (ap sum_word_at (sym c.terminal.ensures) ∙ sym c.sum_word.ensures ∙ c.in_default.is) (c.loop-word.invariant.0 stack k x h) }
-
-pub product-sign-requires : goal.product-sign-requires
-product-sign-requires u c = (omega arith, tt)
-
-pub product-loop-word-init : goal.product-loop-word-init
-product-loop-word-init u c = ((λ stack k x h. let h1 = prod-to-sign (left c.args.cursor) _ k x h in c.in_ok-first.ensures.goes_on _ _ x h1), c.in_ok-first.ensures.shorter)
-
-pub product-sign-requires-in-Some : goal.product-sign-requires-in-Some
-product-sign-requires-in-Some u c = (omega (arith, c.loop-word.invariant.1, less (written.product_word c.in-Some.word) (left c.loop-word.next) (left c.skip.result) (is-product_word (first (left c.loop-word.next)) c.in-Some.word (ap product_word_at (sym c.terminal.ensures) ∙ sym c.product_word.ensures ∙ c.in-Some.is)) (more-product_word c.in-Some.word) c.skip.ensures), tt)
-
-pub product-loop-word-smaller : goal.product-loop-word-smaller
-product-loop-word-smaller u c = omega (arith, less (written.product_word c.in-Some.word) (left c.loop-word.next) (left c.skip.result) (is-product_word (first (left c.loop-word.next)) c.in-Some.word (ap product_word_at (sym c.terminal.ensures) ∙ sym c.product_word.ensures ∙ c.in-Some.is)) (more-product_word c.in-Some.word) c.skip.ensures, c.in_ok-right.ensures.shorter)
-
-pub product-loop-word-preserved : goal.product-loop-word-preserved
-product-loop-word-preserved u c = rw c.in_ok-new.ensures.ok ((λ stack k x h. let h1 = at (written.product_word c.in-Some.word) _ _ (left c.loop-word.next) (left c.skip.result) (MoreProd ∷ stack) _ x (is-product_word (first (left c.loop-word.next)) c.in-Some.word (ap product_word_at (sym c.terminal.ensures) ∙ sym c.product_word.ensures ∙ c.in-Some.is)) (more-product_word c.in-Some.word) c.place-place.ensures refl c.skip.ensures (c.loop-word.invariant.0 stack k x h) in let h2 = row-MoreProd-product_word c.in-Some.word _ _ _ _ _ _ x h1 in c.in_ok-right.ensures.goes_on _ _ x h2), omega (arith, c.loop-word.invariant.1, less (written.product_word c.in-Some.word) (left c.loop-word.next) (left c.skip.result) (is-product_word (first (left c.loop-word.next)) c.in-Some.word (ap product_word_at (sym c.terminal.ensures) ∙ sym c.product_word.ensures ∙ c.in-Some.is)) (more-product_word c.in-Some.word) c.skip.ensures, c.in_ok-right.ensures.shorter))
-
-pub product-returns : goal.product-returns
-product-returns u c = record { shorter = c.loop-word.invariant.1; goes_on = λ stack k x h. done-MoreProd (left c.loop-word.next) _ _ x (ap product_word_at (sym c.terminal.ensures) ∙ sym c.product_word.ensures ∙ c.in_default.is) (c.loop-word.invariant.0 stack k x h) }
 
 pub negation-negation-requires : goal.negation-negation-requires
 negation-negation-requires u c = (omega (arith, less t.Not (left c.args.cursor) (left c.skip.result) (sym c.terminal.ensures ∙ c.in-Not.is) refl c.skip.ensures), tt)
@@ -132,37 +61,37 @@ pub parenthesized-scalar-requires : goal.parenthesized-scalar-requires
 parenthesized-scalar-requires u c = (omega (arith, less t.Open (left c.args.cursor) (left c.skip.result) c.requires refl c.skip.ensures), tt)
 
 pub parenthesized-scalar-requires-in-Colon : goal.parenthesized-scalar-requires-in-Colon
-parenthesized-scalar-requires-in-Colon u c = (omega (arith, less t.Open (left c.args.cursor) (left c.skip.result) c.requires refl c.skip.ensures, c.in_ok-first.ensures.shorter, no-more (left c.in_ok-first.next) (left c.skip-in-Colon.result) c.skip-in-Colon.ensures), tt)
+parenthesized-scalar-requires-in-Colon u c = (omega (arith, less t.Open (left c.args.cursor) (left c.skip.result) c.requires refl c.skip.ensures, c.in_ok-begin.ensures.shorter, no-more (left c.in_ok-begin.next) (left c.skip-in-Colon.result) c.skip-in-Colon.ensures), tt)
 
 pub parenthesized-returns-in_ok-end-in-Colon : goal.parenthesized-returns-in_ok-end-in-Colon
-parenthesized-returns-in_ok-end-in-Colon u c = rw (c.in_ok-begin.ensures.ok, c.in_ok-end-in-Colon.ensures.ok) (record { shorter = omega (arith, no-more (left c.args.cursor) (left c.skip.result) c.skip.ensures, c.in_ok-first.ensures.shorter, no-more (left c.in_ok-first.next) (left c.skip-in-Colon.result) c.skip-in-Colon.ensures, c.in_ok-second-in-Colon.ensures.shorter, no-more (left c.in_ok-second-in-Colon.last) (left c.skip-in-Colon-2.result) c.skip-in-Colon-2.ensures); goes_on = λ stack k x h. let h1 = at t.Open _ _ (left c.args.cursor) (left c.skip.result) (ThePrimary ∷ stack) k x c.requires refl c.place-place.ensures refl c.skip.ensures h in let h2 = c.in_ok-first.ensures.goes_on _ _ x h1 in let h3 = at t.Colon _ _ (left c.in_ok-first.next) (left c.skip-in-Colon.result) _ _ x (sym c.terminal.ensures ∙ c.in-Colon.is) refl refl refl c.skip-in-Colon.ensures h2 in let h4 = c.in_ok-second-in-Colon.ensures.goes_on _ _ x h3 in end-bracket c.end_bracket-bracket.result (left c.in_ok-second-in-Colon.last) (left c.skip-in-Colon-2.result) _ _ x (c.end_bracket-bracket.ensures ∙ ap end_bracket_at c.terminal-in-Colon.ensures) c.skip-in-Colon-2.ensures h4 })
+parenthesized-returns-in_ok-end-in-Colon u c = record { shorter = omega (arith, no-more (left c.args.cursor) (left c.skip.result) c.skip.ensures, c.in_ok-begin.ensures.shorter, no-more (left c.in_ok-begin.next) (left c.skip-in-Colon.result) c.skip-in-Colon.ensures, c.in_ok-end-in-Colon.ensures.shorter, no-more (left c.in_ok-end-in-Colon.last) (left c.skip-in-Colon-2.result) c.skip-in-Colon-2.ensures); goes_on = λ stack k x h. let h1 = at t.Open _ _ (left c.args.cursor) (left c.skip.result) (ThePrimary ∷ stack) k x c.requires refl c.place-place.ensures refl c.skip.ensures h in let h2 = c.in_ok-begin.ensures.goes_on _ _ x h1 in let h3 = at t.Colon _ _ (left c.in_ok-begin.next) (left c.skip-in-Colon.result) _ _ x (sym c.terminal.ensures ∙ c.in-Colon.is) refl refl refl c.skip-in-Colon.ensures h2 in let h4 = c.in_ok-end-in-Colon.ensures.goes_on _ _ x h3 in end-bracket c.end_bracket-bracket.result (left c.in_ok-end-in-Colon.last) (left c.skip-in-Colon-2.result) _ _ x (c.end_bracket-bracket.ensures ∙ ap end_bracket_at c.terminal-in-Colon.ensures) c.skip-in-Colon-2.ensures h4 }
 
 pub parenthesized-returns-in_default : goal.parenthesized-returns-in_default
-parenthesized-returns-in_default u c = rw c.in_ok-begin.ensures.ok (record { shorter = omega (arith, no-more (left c.args.cursor) (left c.skip.result) c.skip.ensures, c.in_ok-first.ensures.shorter, no-more (left c.in_ok-first.next) (left c.skip-in_default.result) c.skip-in_default.ensures); goes_on = λ stack k x h. let h1 = at t.Open _ _ (left c.args.cursor) (left c.skip.result) (ThePrimary ∷ stack) k x c.requires refl c.place-place.ensures refl c.skip.ensures h in let h2 = c.in_ok-first.ensures.goes_on _ _ x h1 in step-AfterScalar _ _ (left c.in_ok-first.next) (left c.skip-in_default.result) _ _ x (λ e. c.in_default.not-Colon (c.terminal.ensures ∙ e)) refl refl c.skip-in_default.ensures h2 })
+parenthesized-returns-in_default u c = record { shorter = omega (arith, no-more (left c.args.cursor) (left c.skip.result) c.skip.ensures, c.in_ok-begin.ensures.shorter, no-more (left c.in_ok-begin.next) (left c.skip-in_default.result) c.skip-in_default.ensures); goes_on = λ stack k x h. let h1 = at t.Open _ _ (left c.args.cursor) (left c.skip.result) (ThePrimary ∷ stack) k x c.requires refl c.place-place.ensures refl c.skip.ensures h in let h2 = c.in_ok-begin.ensures.goes_on _ _ x h1 in step-AfterScalar _ _ (left c.in_ok-begin.next) (left c.skip-in_default.result) _ _ x (λ e. c.in_default.not-Colon (c.terminal.ensures ∙ e)) refl refl c.skip-in_default.ensures h2 }
 
 pub bracketed-scalar-requires : goal.bracketed-scalar-requires
 bracketed-scalar-requires u c = (omega (arith, less t.OpenBracket (left c.args.cursor) (left c.skip.result) c.requires refl c.skip.ensures), tt)
 
 pub bracketed-scalar-requires-2 : goal.bracketed-scalar-requires-2
-bracketed-scalar-requires-2 u c = (omega (arith, less t.OpenBracket (left c.args.cursor) (left c.skip.result) c.requires refl c.skip.ensures, c.in_ok-first.ensures.shorter, no-more (left c.in_ok-first.next) (left c.skip-2.result) c.skip-2.ensures), tt)
+bracketed-scalar-requires-2 u c = (omega (arith, less t.OpenBracket (left c.args.cursor) (left c.skip.result) c.requires refl c.skip.ensures, c.in_ok-begin.ensures.shorter, no-more (left c.in_ok-begin.next) (left c.skip-2.result) c.skip-2.ensures), tt)
 
 pub bracketed-returns : goal.bracketed-returns
-bracketed-returns u c = rw (c.in_ok-begin.ensures.ok, c.in_ok-end.ensures.ok) (record { shorter = omega (arith, no-more (left c.args.cursor) (left c.skip.result) c.skip.ensures, c.in_ok-first.ensures.shorter, no-more (left c.in_ok-first.next) (left c.skip-2.result) c.skip-2.ensures, c.in_ok-second.ensures.shorter, no-more (left c.in_ok-second.last) (left c.skip-3.result) c.skip-3.ensures); goes_on = λ stack k x h. let h1 = at t.OpenBracket _ _ (left c.args.cursor) (left c.skip.result) (ThePrimary ∷ stack) k x c.requires refl c.place-place.ensures refl c.skip.ensures h in let h2 = c.in_ok-first.ensures.goes_on _ _ x h1 in let h3 = just t.Colon (left c.in_ok-first.next) (left c.skip-2.result) _ _ x c.skip-2.ensures h2 in let h4 = c.in_ok-second.ensures.goes_on _ _ x h3 in end-bracket c.end_bracket-bracket.result (left c.in_ok-second.last) (left c.skip-3.result) _ _ x (c.end_bracket-bracket.ensures ∙ ap end_bracket_at c.terminal.ensures) c.skip-3.ensures h4 })
+bracketed-returns u c = record { shorter = omega (arith, no-more (left c.args.cursor) (left c.skip.result) c.skip.ensures, c.in_ok-begin.ensures.shorter, no-more (left c.in_ok-begin.next) (left c.skip-2.result) c.skip-2.ensures, c.in_ok-end.ensures.shorter, no-more (left c.in_ok-end.last) (left c.skip-3.result) c.skip-3.ensures); goes_on = λ stack k x h. let h1 = at t.OpenBracket _ _ (left c.args.cursor) (left c.skip.result) (ThePrimary ∷ stack) k x c.requires refl c.place-place.ensures refl c.skip.ensures h in let h2 = c.in_ok-begin.ensures.goes_on _ _ x h1 in let h3 = just t.Colon (left c.in_ok-begin.next) (left c.skip-2.result) _ _ x c.skip-2.ensures h2 in let h4 = c.in_ok-end.ensures.goes_on _ _ x h3 in end-bracket c.end_bracket-bracket.result (left c.in_ok-end.last) (left c.skip-3.result) _ _ x (c.end_bracket-bracket.ensures ∙ ap end_bracket_at c.terminal.ensures) c.skip-3.ensures h4 }
 
 pub function-scalar-requires : goal.function-scalar-requires
 function-scalar-requires u c = (omega (arith, less (written.function c.args.word) (left c.args.cursor) (left c.skip.result) c.requires (more-function c.args.word) c.skip.ensures, no-more (left c.skip.result) (left c.skip-2.result) c.skip-2.ensures), tt)
 
 pub function-returns : goal.function-returns
-function-returns u c = rw c.in_ok-inner.ensures.ok (record { shorter = omega (arith, no-more (left c.args.cursor) (left c.skip.result) c.skip.ensures, no-more (left c.skip.result) (left c.skip-2.result) c.skip-2.ensures, c.in_ok-part.ensures.shorter, no-more (left c.in_ok-part.next) (left c.skip-3.result) c.skip-3.ensures); goes_on = λ stack k x h. let h1 = at (written.function c.args.word) _ _ (left c.args.cursor) (left c.skip.result) (ThePrimary ∷ stack) k x c.requires (more-function c.args.word) c.place-place.ensures refl c.skip.ensures h in let h2 = row-ThePrimary-function c.args.word _ _ _ _ _ _ x h1 in let h3 = step-InParens _ _ (left c.skip.result) (left c.skip-2.result) _ _ x refl refl c.skip-2.ensures h2 in let h4 = c.in_ok-part.ensures.goes_on _ _ x h3 in just t.Close (left c.in_ok-part.next) (left c.skip-3.result) _ _ x c.skip-3.ensures h4 })
+function-returns u c = record { shorter = omega (arith, no-more (left c.args.cursor) (left c.skip.result) c.skip.ensures, no-more (left c.skip.result) (left c.skip-2.result) c.skip-2.ensures, c.in_ok-inner.ensures.shorter, no-more (left c.in_ok-inner.next) (left c.skip-3.result) c.skip-3.ensures); goes_on = λ stack k x h. let h1 = at (written.function c.args.word) _ _ (left c.args.cursor) (left c.skip.result) (ThePrimary ∷ stack) k x c.requires (more-function c.args.word) c.place-place.ensures refl c.skip.ensures h in let h2 = row-ThePrimary-function c.args.word _ _ _ _ _ _ x h1 in let h3 = step-InParens _ _ (left c.skip.result) (left c.skip-2.result) _ _ x refl refl c.skip-2.ensures h2 in let h4 = c.in_ok-inner.ensures.goes_on _ _ x h3 in just t.Close (left c.in_ok-inner.next) (left c.skip-3.result) _ _ x c.skip-3.ensures h4 }
 
 pub pair-scalar-requires : goal.pair-scalar-requires
 pair-scalar-requires u c = (omega (arith, less (written.pair_function c.args.word) (left c.args.cursor) (left c.skip.result) c.requires (more-pair_function c.args.word) c.skip.ensures, no-more (left c.skip.result) (left c.skip-2.result) c.skip-2.ensures), tt)
 
 pub pair-scalar-requires-2 : goal.pair-scalar-requires-2
-pair-scalar-requires-2 u c = (omega (arith, less (written.pair_function c.args.word) (left c.args.cursor) (left c.skip.result) c.requires (more-pair_function c.args.word) c.skip.ensures, no-more (left c.skip.result) (left c.skip-2.result) c.skip-2.ensures, c.in_ok-first.ensures.shorter, no-more (left c.in_ok-first.next) (left c.skip-3.result) c.skip-3.ensures), tt)
+pair-scalar-requires-2 u c = (omega (arith, less (written.pair_function c.args.word) (left c.args.cursor) (left c.skip.result) c.requires (more-pair_function c.args.word) c.skip.ensures, no-more (left c.skip.result) (left c.skip-2.result) c.skip-2.ensures, c.in_ok-left.ensures.shorter, no-more (left c.in_ok-left.next) (left c.skip-3.result) c.skip-3.ensures), tt)
 
 pub pair-returns : goal.pair-returns
-pair-returns u c = rw (c.in_ok-left.ensures.ok, c.in_ok-right.ensures.ok) (record { shorter = omega (arith, no-more (left c.args.cursor) (left c.skip.result) c.skip.ensures, no-more (left c.skip.result) (left c.skip-2.result) c.skip-2.ensures, c.in_ok-first.ensures.shorter, no-more (left c.in_ok-first.next) (left c.skip-3.result) c.skip-3.ensures, c.in_ok-second.ensures.shorter, no-more (left c.in_ok-second.end) (left c.skip-4.result) c.skip-4.ensures); goes_on = λ stack k x h. let h1 = at (written.pair_function c.args.word) _ _ (left c.args.cursor) (left c.skip.result) (ThePrimary ∷ stack) k x c.requires (more-pair_function c.args.word) c.place-place.ensures refl c.skip.ensures h in let h2 = row-ThePrimary-pair_function c.args.word _ _ _ _ _ _ x h1 in let h3 = step-InPair _ _ (left c.skip.result) (left c.skip-2.result) _ _ x refl refl c.skip-2.ensures h2 in let h4 = c.in_ok-first.ensures.goes_on _ _ x h3 in let h5 = step-Comma _ _ (left c.in_ok-first.next) (left c.skip-3.result) _ _ x refl refl c.skip-3.ensures h4 in let h6 = c.in_ok-second.ensures.goes_on _ _ x h5 in just t.Close (left c.in_ok-second.end) (left c.skip-4.result) _ _ x c.skip-4.ensures h6 })
+pair-returns u c = record { shorter = omega (arith, no-more (left c.args.cursor) (left c.skip.result) c.skip.ensures, no-more (left c.skip.result) (left c.skip-2.result) c.skip-2.ensures, c.in_ok-left.ensures.shorter, no-more (left c.in_ok-left.next) (left c.skip-3.result) c.skip-3.ensures, c.in_ok-right.ensures.shorter, no-more (left c.in_ok-right.end) (left c.skip-4.result) c.skip-4.ensures); goes_on = λ stack k x h. let h1 = at (written.pair_function c.args.word) _ _ (left c.args.cursor) (left c.skip.result) (ThePrimary ∷ stack) k x c.requires (more-pair_function c.args.word) c.place-place.ensures refl c.skip.ensures h in let h2 = row-ThePrimary-pair_function c.args.word _ _ _ _ _ _ x h1 in let h3 = step-InPair _ _ (left c.skip.result) (left c.skip-2.result) _ _ x refl refl c.skip-2.ensures h2 in let h4 = c.in_ok-left.ensures.goes_on _ _ x h3 in let h5 = step-Comma _ _ (left c.in_ok-left.next) (left c.skip-3.result) _ _ x refl refl c.skip-3.ensures h4 in let h6 = c.in_ok-right.ensures.goes_on _ _ x h5 in just t.Close (left c.in_ok-right.end) (left c.skip-4.result) _ _ x c.skip-4.ensures h6 }
 
 pub primary-function-requires : goal.primary-function-requires
 primary-function-requires u c = (omega arith, (is-function (first (left c.args.cursor)) c.in-Some.word (ap function_at (sym c.terminal-terminal.ensures) ∙ sym c.function_word.ensures ∙ c.in-Some.is)))
@@ -229,3 +158,99 @@ primary-returns-in-True u c = record { shorter = omega (arith, no-more (left c.a
 
 pub primary-returns-in_default-terminal : goal.primary-returns-in_default-terminal
 primary-returns-in_default-terminal u c = record { shorter = omega (arith, no-more (left c.args.cursor) (left c.skip-in_default-terminal.result) c.skip-in_default-terminal.ensures); goes_on = λ stack k x h. step-ThePrimary _ _ (left c.args.cursor) (left c.skip-in_default-terminal.result) _ k x (ap function_at (sym c.terminal-terminal.ensures) ∙ sym c.function_word.ensures ∙ c.in_default.is) (ap pair_function_at (sym c.terminal-terminal.ensures) ∙ sym c.pair_word.ensures ∙ c.in_default-pair_word.is) (λ e. c.in_default-terminal.not-Open (c.terminal-terminal.ensures ∙ e)) (λ e. c.in_default-terminal.not-OpenBracket (c.terminal-terminal.ensures ∙ e)) (λ e. c.in_default-terminal.not-First (c.terminal-terminal.ensures ∙ e)) (λ e. c.in_default-terminal.not-Last (c.terminal-terminal.ensures ∙ e)) (λ e. c.in_default-terminal.not-Name (c.terminal-terminal.ensures ∙ e)) (λ e. c.in_default-terminal.not-Digits (c.terminal-terminal.ensures ∙ e)) (λ e. c.in_default-terminal.not-Quoted (c.terminal-terminal.ensures ∙ e)) (λ e. c.in_default-terminal.not-Date (c.terminal-terminal.ensures ∙ e)) (λ e. c.in_default-terminal.not-True (c.terminal-terminal.ensures ∙ e)) c.place-in_default-terminal.ensures refl c.skip-in_default-terminal.ensures h }
+
+pub scalar-conjunction-requires : goal.scalar-conjunction-requires
+scalar-conjunction-requires u c = (omega arith, tt)
+
+pub scalar-chain-init : goal.scalar-chain-init
+scalar-chain-init u c = rw c.in_ok-tree.ensures.ok ((λ stack k x h. let h1 = scalar-to-conj (left c.args.cursor) _ k x h in c.in_ok-first.ensures.goes_on _ _ x h1), c.in_ok-first.ensures.shorter)
+
+pub scalar-disjoined-requires : goal.scalar-disjoined-requires
+scalar-disjoined-requires u c = (omega (arith, c.chain.invariant.1), (sym c.terminal.ensures ∙ c.in-Or.is))
+
+pub scalar-chain-smaller : goal.scalar-chain-smaller
+scalar-chain-smaller u c = omega (arith, c.in_ok-so_far.ensures.shorter)
+
+pub scalar-chain-preserved : goal.scalar-chain-preserved
+scalar-chain-preserved u c = ((λ stack k x h. c.in_ok-so_far.ensures.goes_on stack (λ w. k (w.0, w.1)) x (c.chain.invariant.0 stack k x h)), omega (arith, c.chain.invariant.1, c.in_ok-so_far.ensures.shorter))
+
+pub scalar-returns : goal.scalar-returns
+scalar-returns u c = record { shorter = c.chain.invariant.1; goes_on = λ stack k x h. done-MoreOr (left c.chain.so_far.1) _ _ x (λ e. c.in_default.not-Or (c.terminal.ensures ∙ e)) (c.chain.invariant.0 stack k x h) }
+
+pub disjoined-conjunction-requires : goal.disjoined-conjunction-requires
+disjoined-conjunction-requires u c = (omega (arith, less t.Or (left c.args.cursor) (left c.skip.result) c.requires refl c.skip.ensures), tt)
+
+pub disjoined-returns : goal.disjoined-returns
+disjoined-returns u c = rw c.in_ok-tree.ensures.ok (record { shorter = omega (arith, less t.Or (left c.args.cursor) (left c.skip.result) c.requires refl c.skip.ensures, c.in_ok-right.ensures.shorter); goes_on = λ stack k x h. let h1 = at t.Or _ _ (left c.args.cursor) (left c.skip.result) (MoreOr ∷ stack) (λ vs. k (vs.0 (read_scalar c.args.so_far.value), vs.1)) x c.requires refl c.place-place.ensures refl c.skip.ensures h in c.in_ok-right.ensures.goes_on _ _ x h1 })
+
+pub conjunction-negation-requires : goal.conjunction-negation-requires
+conjunction-negation-requires u c = (omega arith, tt)
+
+pub conjunction-chain-init : goal.conjunction-chain-init
+conjunction-chain-init u c = ((λ stack k x h. let h1 = conj-to-neg (left c.args.cursor) _ k x h in c.in_ok-first.ensures.goes_on _ _ x h1), c.in_ok-first.ensures.shorter)
+
+pub conjunction-conjoined-requires : goal.conjunction-conjoined-requires
+conjunction-conjoined-requires u c = (omega (arith, c.chain.invariant.1), (sym c.terminal.ensures ∙ c.in-And.is))
+
+pub conjunction-chain-smaller : goal.conjunction-chain-smaller
+conjunction-chain-smaller u c = omega (arith, c.in_ok-so_far.ensures.shorter)
+
+pub conjunction-chain-preserved : goal.conjunction-chain-preserved
+conjunction-chain-preserved u c = ((λ stack k x h. c.in_ok-so_far.ensures.goes_on stack (λ w. k (w.0, w.1)) x (c.chain.invariant.0 stack k x h)), omega (arith, c.chain.invariant.1, c.in_ok-so_far.ensures.shorter))
+
+pub conjunction-returns : goal.conjunction-returns
+conjunction-returns u c = record { shorter = c.chain.invariant.1; goes_on = λ stack k x h. done-MoreAnd (left c.chain.so_far.1) _ _ x (λ e. c.in_default.not-And (c.terminal.ensures ∙ e)) (c.chain.invariant.0 stack k x h) }
+
+pub conjoined-negation-requires : goal.conjoined-negation-requires
+conjoined-negation-requires u c = (omega (arith, less t.And (left c.args.cursor) (left c.skip.result) c.requires refl c.skip.ensures), tt)
+
+pub conjoined-returns : goal.conjoined-returns
+conjoined-returns u c = rw c.in_ok-inner.ensures.ok (record { shorter = omega (arith, less t.And (left c.args.cursor) (left c.skip.result) c.requires refl c.skip.ensures, c.in_ok-right.ensures.shorter); goes_on = λ stack k x h. let h1 = at t.And _ _ (left c.args.cursor) (left c.skip.result) (MoreAnd ∷ stack) (λ vs. k (vs.0 (read_conj c.args.so_far), vs.1)) x c.requires refl c.place-place.ensures refl c.skip.ensures h in c.in_ok-right.ensures.goes_on _ _ x h1 })
+
+pub sum-product-requires : goal.sum-product-requires
+sum-product-requires u c = (omega arith, tt)
+
+pub sum-chain-init : goal.sum-chain-init
+sum-chain-init u c = ((λ stack k x h. let h1 = sum-to-prod (left c.args.cursor) _ k x h in c.in_ok-first.ensures.goes_on _ _ x h1), c.in_ok-first.ensures.shorter)
+
+pub sum-added-requires : goal.sum-added-requires
+sum-added-requires u c = (omega (arith, c.chain.invariant.1), (is-sum_word (first (left c.chain.so_far.1)) c.in-Some.word (ap sum_word_at (sym c.terminal.ensures) ∙ sym c.sum_word.ensures ∙ c.in-Some.is)))
+
+pub sum-chain-smaller : goal.sum-chain-smaller
+sum-chain-smaller u c = omega (arith, c.in_ok-so_far.ensures.shorter)
+
+pub sum-chain-preserved : goal.sum-chain-preserved
+sum-chain-preserved u c = ((λ stack k x h. c.in_ok-so_far.ensures.goes_on stack (λ w. k (w.0, w.1)) x (c.chain.invariant.0 stack k x h)), omega (arith, c.chain.invariant.1, c.in_ok-so_far.ensures.shorter))
+
+pub sum-returns : goal.sum-returns
+sum-returns u c = record { shorter = c.chain.invariant.1; goes_on = λ stack k x h. done-MoreSum (left c.chain.so_far.1) _ _ x (ap sum_word_at (sym c.terminal.ensures) ∙ sym c.sum_word.ensures ∙ c.in_default.is) (c.chain.invariant.0 stack k x h) }
+
+pub added-product-requires : goal.added-product-requires
+added-product-requires u c = (omega (arith, less (written.sum_word c.args.word) (left c.args.cursor) (left c.skip.result) c.requires (more-sum_word c.args.word) c.skip.ensures), tt)
+
+pub added-returns : goal.added-returns
+added-returns u c = rw c.in_ok-inner.ensures.ok (record { shorter = omega (arith, less (written.sum_word c.args.word) (left c.args.cursor) (left c.skip.result) c.requires (more-sum_word c.args.word) c.skip.ensures, c.in_ok-right.ensures.shorter); goes_on = λ stack k x h. let h1 = at (written.sum_word c.args.word) _ _ (left c.args.cursor) (left c.skip.result) (MoreSum ∷ stack) (λ vs. k (vs.0 (read_sum c.args.so_far), vs.1)) x c.requires (more-sum_word c.args.word) c.place-place.ensures refl c.skip.ensures h in let h2 = row-MoreSum-sum_word c.args.word _ _ _ _ _ _ x h1 in c.in_ok-right.ensures.goes_on _ _ x h2 })
+
+pub product-sign-requires : goal.product-sign-requires
+product-sign-requires u c = (omega arith, tt)
+
+pub product-chain-init : goal.product-chain-init
+product-chain-init u c = ((λ stack k x h. let h1 = prod-to-sign (left c.args.cursor) _ k x h in c.in_ok-first.ensures.goes_on _ _ x h1), c.in_ok-first.ensures.shorter)
+
+pub product-multiplied-requires : goal.product-multiplied-requires
+product-multiplied-requires u c = (omega (arith, c.chain.invariant.1), (is-product_word (first (left c.chain.so_far.1)) c.in-Some.word (ap product_word_at (sym c.terminal.ensures) ∙ sym c.product_word.ensures ∙ c.in-Some.is)))
+
+pub product-chain-smaller : goal.product-chain-smaller
+product-chain-smaller u c = omega (arith, c.in_ok-so_far.ensures.shorter)
+
+pub product-chain-preserved : goal.product-chain-preserved
+product-chain-preserved u c = ((λ stack k x h. c.in_ok-so_far.ensures.goes_on stack (λ w. k (w.0, w.1)) x (c.chain.invariant.0 stack k x h)), omega (arith, c.chain.invariant.1, c.in_ok-so_far.ensures.shorter))
+
+pub product-returns : goal.product-returns
+product-returns u c = record { shorter = c.chain.invariant.1; goes_on = λ stack k x h. done-MoreProd (left c.chain.so_far.1) _ _ x (ap product_word_at (sym c.terminal.ensures) ∙ sym c.product_word.ensures ∙ c.in_default.is) (c.chain.invariant.0 stack k x h) }
+
+pub multiplied-sign-requires : goal.multiplied-sign-requires
+multiplied-sign-requires u c = (omega (arith, less (written.product_word c.args.word) (left c.args.cursor) (left c.skip.result) c.requires (more-product_word c.args.word) c.skip.ensures), tt)
+
+pub multiplied-returns : goal.multiplied-returns
+multiplied-returns u c = rw c.in_ok-inner.ensures.ok (record { shorter = omega (arith, less (written.product_word c.args.word) (left c.args.cursor) (left c.skip.result) c.requires (more-product_word c.args.word) c.skip.ensures, c.in_ok-right.ensures.shorter); goes_on = λ stack k x h. let h1 = at (written.product_word c.args.word) _ _ (left c.args.cursor) (left c.skip.result) (MoreProd ∷ stack) (λ vs. k (vs.0 (read_prod c.args.so_far), vs.1)) x c.requires (more-product_word c.args.word) c.place-place.ensures refl c.skip.ensures h in let h2 = row-MoreProd-product_word c.args.word _ _ _ _ _ _ x h1 in c.in_ok-right.ensures.goes_on _ _ x h2 })

@@ -44,26 +44,38 @@ decreases-function l = 16 * length (left l.cursor) + 1
 abbrev pub decreases-pair : goal.decreases-pair
 decreases-pair l = 16 * length (left l.cursor) + 1
 
-abbrev pub invariant-scalar-loop-next : goal.invariant-scalar-loop-next
-invariant-scalar-loop-next l = Path TheScalar MoreOr (λ f. f (read_scalar l.left)) (left l.fn.cursor) (left l.next) × (length (left l.next) ≤ length (left l.fn.cursor))
+abbrev pub decreases-disjoined : goal.decreases-disjoined
+decreases-disjoined l = 16 * length (left l.cursor) + 8
 
-abbrev pub decreases-scalar-loop-next : goal.decreases-scalar-loop-next
-decreases-scalar-loop-next l = length (left l.next)
+abbrev pub invariant-scalar-chain : goal.invariant-scalar-chain
+invariant-scalar-chain l = Path TheScalar MoreOr (λ f. f (read_scalar l.so_far.0.value)) (left l.fn.cursor) (left l.so_far.1) × (length (left l.so_far.1) ≤ length (left l.fn.cursor))
 
-abbrev pub invariant-conjunction-loop-next : goal.invariant-conjunction-loop-next
-invariant-conjunction-loop-next l = Path TheConj MoreAnd (λ f. f (read_conj l.left)) (left l.fn.cursor) (left l.next) × (length (left l.next) ≤ length (left l.fn.cursor))
+abbrev pub decreases-scalar-chain : goal.decreases-scalar-chain
+decreases-scalar-chain l = length (left l.so_far.1)
 
-abbrev pub decreases-conjunction-loop-next : goal.decreases-conjunction-loop-next
-decreases-conjunction-loop-next l = length (left l.next)
+abbrev pub decreases-conjoined : goal.decreases-conjoined
+decreases-conjoined l = 16 * length (left l.cursor) + 7
 
-abbrev pub invariant-sum-loop-word : goal.invariant-sum-loop-word
-invariant-sum-loop-word l = Path TheSum MoreSum (λ f. f (read_sum l.left)) (left l.fn.cursor) (left l.next) × (length (left l.next) ≤ length (left l.fn.cursor))
+abbrev pub invariant-conjunction-chain : goal.invariant-conjunction-chain
+invariant-conjunction-chain l = Path TheConj MoreAnd (λ f. f (read_conj l.so_far.0)) (left l.fn.cursor) (left l.so_far.1) × (length (left l.so_far.1) ≤ length (left l.fn.cursor))
 
-abbrev pub decreases-sum-loop-word : goal.decreases-sum-loop-word
-decreases-sum-loop-word l = length (left l.next)
+abbrev pub decreases-conjunction-chain : goal.decreases-conjunction-chain
+decreases-conjunction-chain l = length (left l.so_far.1)
 
-abbrev pub invariant-product-loop-word : goal.invariant-product-loop-word
-invariant-product-loop-word l = Path TheProd MoreProd (λ f. f (read_prod l.left)) (left l.fn.cursor) (left l.next) × (length (left l.next) ≤ length (left l.fn.cursor))
+abbrev pub decreases-added : goal.decreases-added
+decreases-added l = 16 * length (left l.cursor) + 4
 
-abbrev pub decreases-product-loop-word : goal.decreases-product-loop-word
-decreases-product-loop-word l = length (left l.next)
+abbrev pub invariant-sum-chain : goal.invariant-sum-chain
+invariant-sum-chain l = Path TheSum MoreSum (λ f. f (read_sum l.so_far.0)) (left l.fn.cursor) (left l.so_far.1) × (length (left l.so_far.1) ≤ length (left l.fn.cursor))
+
+abbrev pub decreases-sum-chain : goal.decreases-sum-chain
+decreases-sum-chain l = length (left l.so_far.1)
+
+abbrev pub decreases-multiplied : goal.decreases-multiplied
+decreases-multiplied l = 16 * length (left l.cursor) + 3
+
+abbrev pub invariant-product-chain : goal.invariant-product-chain
+invariant-product-chain l = Path TheProd MoreProd (λ f. f (read_prod l.so_far.0)) (left l.fn.cursor) (left l.so_far.1) × (length (left l.so_far.1) ≤ length (left l.fn.cursor))
+
+abbrev pub decreases-product-chain : goal.decreases-product-chain
+decreases-product-chain l = length (left l.so_far.1)

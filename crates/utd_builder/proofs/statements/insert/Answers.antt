@@ -7,4 +7,4 @@ use Rattle.utd_builder.proofs.ScalarRows.{step-TheName}
 use Rattle.utd_builder.proofs.statements.insert.Goals as goal
 
 pub returns : goal.returns
-returns c = rw c.in_ok-inner.ensures.ok (record { shorter = omega (arith, no-more (left c.args.cursor) (left c.skip.result) c.skip.ensures, no-more (left c.skip.result) (left c.in_ok-name.next) c.in_ok-name.ensures.2, c.in_ok-rows.ensures.shorter); goes_on = λ stack k x h. let h1 = at t.Insert _ _ (left c.args.cursor) (left c.skip.result) (TheItem ∷ stack) k x c.requires refl c.place-place.ensures refl c.skip.ensures h in let h2 = step-TheName _ _ (left c.skip.result) (left c.in_ok-name.next) _ _ x c.in_ok-name.ensures.0 c.in_ok-name.ensures.1 c.in_ok-name.ensures.2 h1 in c.in_ok-rows.ensures.goes_on _ _ x h2 })
+returns c = record { shorter = omega (arith, no-more (left c.args.cursor) (left c.skip.result) c.skip.ensures, no-more (left c.skip.result) (left c.in_ok-name.next) c.in_ok-name.ensures.2, c.in_ok-inner.ensures.shorter); goes_on = λ stack k x h. let h1 = at t.Insert _ _ (left c.args.cursor) (left c.skip.result) (TheItem ∷ stack) k x c.requires refl c.place-place.ensures refl c.skip.ensures h in let h2 = step-TheName _ _ (left c.skip.result) (left c.in_ok-name.next) _ _ x c.in_ok-name.ensures.0 c.in_ok-name.ensures.1 c.in_ok-name.ensures.2 h1 in c.in_ok-inner.ensures.goes_on _ _ x h2 }

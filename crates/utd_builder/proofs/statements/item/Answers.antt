@@ -36,4 +36,4 @@ pub returns-in-Using : goal.returns-in-Using
 returns-in-Using c = c.using_item.ensures
 
 pub returns-in_ok-inner-in_default : goal.returns-in_ok-inner-in_default
-returns-in_ok-inner-in_default c = rw c.in_ok-inner-in_default.ensures.ok (record { shorter = omega (arith, no-more (left c.args.cursor) (left c.in_ok-name-in_default.next) c.in_ok-name-in_default.ensures.2, no-more (left c.in_ok-name-in_default.next) (left c.skip.result) c.skip.ensures, c.in_ok-rows-in_default.ensures.shorter); goes_on = λ stack k x h. let h1 = step-TheItem _ _ (left c.args.cursor) (left c.in_ok-name-in_default.next) _ k x (λ e. c.in_default.not-Insert (c.terminal.ensures ∙ e)) (λ e. c.in_default.not-Delete (c.terminal.ensures ∙ e)) (λ e. c.in_default.not-Update (c.terminal.ensures ∙ e)) (λ e. c.in_default.not-Terminate (c.terminal.ensures ∙ e)) (λ e. c.in_default.not-Using (c.terminal.ensures ∙ e)) c.in_ok-name-in_default.ensures.0 c.in_ok-name-in_default.ensures.1 c.in_ok-name-in_default.ensures.2 h in let h2 = just t.Assign (left c.in_ok-name-in_default.next) (left c.skip.result) _ _ x c.skip.ensures h1 in c.in_ok-rows-in_default.ensures.goes_on _ _ x h2 })
+returns-in_ok-inner-in_default c = record { shorter = omega (arith, no-more (left c.args.cursor) (left c.in_ok-name-in_default.next) c.in_ok-name-in_default.ensures.2, no-more (left c.in_ok-name-in_default.next) (left c.skip.result) c.skip.ensures, c.in_ok-inner-in_default.ensures.shorter); goes_on = λ stack k x h. let h1 = step-TheItem _ _ (left c.args.cursor) (left c.in_ok-name-in_default.next) _ k x (λ e. c.in_default.not-Insert (c.terminal.ensures ∙ e)) (λ e. c.in_default.not-Delete (c.terminal.ensures ∙ e)) (λ e. c.in_default.not-Update (c.terminal.ensures ∙ e)) (λ e. c.in_default.not-Terminate (c.terminal.ensures ∙ e)) (λ e. c.in_default.not-Using (c.terminal.ensures ∙ e)) c.in_ok-name-in_default.ensures.0 c.in_ok-name-in_default.ensures.1 c.in_ok-name-in_default.ensures.2 h in let h2 = just t.Assign (left c.in_ok-name-in_default.next) (left c.skip.result) _ _ x c.skip.ensures h1 in c.in_ok-inner-in_default.ensures.goes_on _ _ x h2 }
