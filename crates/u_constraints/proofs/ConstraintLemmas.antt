@@ -1,0 +1,63 @@
+-- Constraints over no rows, and what a checked reference tells.
+use Rattle.std.proofs.Common.{◌≡◌, ℕ, List, [], ◌∷◌, map, Option, None, Some, refl, sym, ap, ap₂, ◌∙◌, subst, Bool, false, not, Ordering}
+use Rattle.std.specs.List.{list_any}
+use Rattle.point_core.specs.declared.fault.Code.{Code}
+use Rattle.point_core.specs.declared.fault.Code.TheVariants.{E40, E41, E42, E43, E44}
+use Rattle.base_core.specs.Sets.{is_within}
+use Rattle.interval_core.specs.Packing.{Side, unpack, pack, pack_each}
+use Rattle.value_core.specs.Values.{Name, Row, Relation, row_cmp, same_rows}
+use Rattle.value_core.specs.declared.constraint.Constraint.{Constraint}
+use Rattle.value_core.specs.declared.constraint.Constraint.TheVariants.{Key, Packed, WhenUnpacked, UKey, Foreign, History}
+use Rattle.relation_core.specs.Parts.{projected}
+use Rattle.algebra_core.specs.RowPacking.{attribute, unpacked, packed}
+use Rattle.u_constraints.specs.Constraints.{is_key, counterpart, first_failed, broken, rows_or_none, IsBuilt}
+
+-- ---- over no rows
+
+module _ {X : Type 0} (cmp : X → X → Ordering) where
+  unpack_none : (sides : List (Side X)) → unpack cmp sides [] ≡ []
+  unpack_none [] = refl
+  unpack_none (a ∷ sides) = unpack_none sides
+
+  pack_each_none : (sides : List (Side X)) → pack_each cmp sides [] ≡ []
+  pack_each_none [] = refl
+  pack_each_none (a ∷ sides) = pack_each_none sides
+
+  pack_none : (sides : List (Side X)) → pack cmp sides [] ≡ []
+  pack_none sides = ap (pack_each cmp sides) (unpack_none sides) ∙ pack_each_none sides
+
+unpacked_none : (acl : List ℕ) → unpacked acl [] ≡ []
+unpacked_none acl = unpack_none row_cmp (map attribute acl)
+
+packed_none : (acl : List ℕ) → packed acl [] ≡ []
+packed_none acl = pack_none row_cmp (map attribute acl)
+
+none_found : {X : Type 0} (xs : List X) → list_any (λ x. false) xs ≡ false
+none_found [] = refl
+none_found (x ∷ xs) = none_found xs
+
+-- every constraint holds over no rows, whatever rows the relvar has that it names
+pub broken_none : (c : Constraint) (others : List Row) → broken c [] others ≡ None
+broken_none (Key k) others = refl
+broken_none (Packed acl) others = ap (λ (ps : List Row). first_failed ((same_rows [] ps, E41) ∷ [])) (packed_none acl)
+broken_none (WhenUnpacked acl k) others = ap (λ (us : List Row). first_failed ((is_key k us, E42) ∷ [])) (unpacked_none acl)
+broken_none (UKey acl k) others =
+    ap₂ (λ (ps us : List Row). first_failed ((same_rows [] ps, E41) ∷ (is_key k us, E42) ∷ (is_key k [], E40) ∷ [])) (packed_none acl) (unpacked_none acl)
+broken_none (Foreign acl here name there) others =
+    ap (λ (us : List Row). first_failed ((is_within row_cmp (projected here us) (projected there (unpacked (map (counterpart here there) acl) others)), E43) ∷ [])) (unpacked_none acl)
+broken_none (History h) others = ap (λ b. first_failed ((not b, E44) ∷ [])) (none_found others)
+
+-- ---- a reference without a list to unpack
+
+reference_told : (acl here there h t : List ℕ) (name : Name) (rows others : List Row) (kept : Bool) (code : Option Code) → IsBuilt (Foreign acl here name there) → h ≡ here → t ≡ there
+    → kept ≡ is_within row_cmp (projected h rows) (projected t others) → code ≡ first_failed ((kept, E43) ∷ []) → code ≡ broken (Foreign acl here name there) rows others
+reference_told [] here there h t name rows others kept code built e f is told =
+    told ∙ ap (λ k. first_failed ((k, E43) ∷ [])) (is ∙ ap₂ (λ (hs ts : List ℕ). is_within row_cmp (projected hs rows) (projected ts others)) e f)
+reference_told (i ∷ acl) here there h t name rows others kept code built e f is told = absurd built
+
+pub referenced : (c : Constraint) (acl here there h t : List ℕ) (name : Name) (rows : List Row) (other : Option Relation) (r : Relation) (kept : Bool) (code : Option Code) → c ≡ Foreign acl here name there
+    → other ≡ Some r → IsBuilt c → h ≡ here → t ≡ there → kept ≡ is_within row_cmp (projected h rows) (projected t r.rows)
+    → code ≡ first_failed ((kept, E43) ∷ []) → code ≡ broken c rows (rows_or_none other)
+referenced c acl here there h t name rows other r kept code form named built e f is told =
+    reference_told acl here there h t name rows r.rows kept code (subst IsBuilt form built) e f is told
+    ∙ ap₂ (λ z o. broken z rows (rows_or_none o)) (sym form) (sym named)

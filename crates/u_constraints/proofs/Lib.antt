@@ -1,0 +1,2 @@
+pub mod ConstraintLemmas
+pub mod KeyLemmas

@@ -1,0 +1,43 @@
+// Keys and foreign keys on relations as they are.
+ghost use Rattle.std.specs.Prelude.{◌≡◌, ◌<◌, ℕ, length, IfOk};
+ghost use Rattle.std.specs.List.{All};
+ghost use Rattle.base_core.specs.Sets.{is_within};
+ghost use Rattle.value_core.specs.Values.{row_cmp, IsRelation};
+ghost use Rattle.relation_core.specs.Parts.{projected};
+ghost use Rattle.u_constraints.specs.Constraints.{is_key};
+
+use crate::parts::{contains, part, sorted_parts};
+use point_core::Memory;
+use std::alloc::Global;
+use value_core::Relation;
+
+/// Whether no two different rows have the same values at the positions.
+pub(crate) fn is_key(alloc: Global, r: &Relation, positions: &[usize]) -> Result<bool, Memory>
+    requires { All (λ (i : ℕ). i < length r.now.heading) positions.now }
+    ensures { IfOk result (λ kept. kept ≡ is_key positions.now r.now.rows) }
+{
+    let keys = sorted_parts(alloc, r, positions)?;
+    Ok(keys.len() == r.rows().len())
+}
+
+/// Whether the values of each row here, at its positions, are those of some row there.
+pub(crate) fn is_referenced(
+    alloc: Global,
+    r: &Relation,
+    here: &[usize],
+    other: &Relation,
+    there: &[usize],
+) -> Result<bool, Memory>
+    requires here { All (λ (i : ℕ). i < length r.now.heading) here.now }
+    requires there { All (λ (i : ℕ). i < length other.now.heading) there.now }
+    ensures { IfOk result (λ kept. kept ≡ is_within row_cmp (projected here.now r.now.rows) (projected there.now other.now.rows)) }
+{
+    let keys = sorted_parts(alloc, other, there)?;
+    for row in r.rows() {
+        let key = part(alloc, row, here)?;
+        if !contains(keys.as_slice(), &key) {
+            return Ok(false);
+        }
+    }
+    Ok(true)
+}
