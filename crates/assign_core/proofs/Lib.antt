@@ -1,0 +1,4 @@
+pub mod DeclaredLemmas
+pub mod NameLemmas
+pub mod RemovedLemmas
+pub mod RowlessLemmas

@@ -1,0 +1,5 @@
+pub mod Assignments
+pub mod Breaches
+pub mod Changes
+pub mod Databases
+pub mod Parts
