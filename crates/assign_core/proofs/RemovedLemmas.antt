@@ -55,11 +55,10 @@ base_before (x ∷ xs) ys n h = by (bytes_eq x.0 n) (base_before xs ys n) h
 fits_named : (xs ys : Entries) (r : PlainRelvar) (n : Name) (c : Constraint) → names_relvar c ≡ Some n → IsBase (relvar_named xs n)
     → FitsHeadings (relvar_heading r) (heading_if (relvar_named xs n)) c → IsFitting (xs ++ ys) r c
 fits_named xs ys r n c e h f =
-    let is = base_before xs ys n h in
-    (
+    let is = base_before xs ys n h in (
       subst (NamesBase (xs ++ ys)) (sym e) (subst IsBase is h),
       subst (λ (o : Option Name). FitsHeadings (relvar_heading r) (heading_at (xs ++ ys) o) c) (sym e)
-      (subst (λ (o : Option PlainRelvar). FitsHeadings (relvar_heading r) (heading_if o) c) is f),
+          (subst (λ (o : Option PlainRelvar). FitsHeadings (relvar_heading r) (heading_if o) c) is f),
     )
 
 one_fits : (before rest : Entries) (own : Name) (r : PlainRelvar) (c : Constraint) → IsConstraint before own r c → IsFitting ((before ++ (own, r) ∷ []) ++ rest) r c
@@ -84,8 +83,7 @@ relvar_fits sizes before rest own (view t history) h = tt
 fit_after : (sizes : List ℕ) (before es all : Entries) → all ≡ before ++ es → AreRelvars sizes before es → AllFit all es
 fit_after sizes before [] all e h = tt
 fit_after sizes before (r ∷ es) all e h =
-    let is : all ≡ (before ++ (r.0, r.1) ∷ []) ++ es = e ∙ sym (in_turn before (r ∷ []) es) in
-    (
+    let is : all ≡ (before ++ (r.0, r.1) ∷ []) ++ es = e ∙ sym (in_turn before (r ∷ []) es) in (
       subst (λ (z : Entries). AreFitting z r.1 (constraints_of r.1)) (sym is) (relvar_fits sizes before es r.0 r.1 h.0),
       fit_after sizes (before ++ r ∷ []) es all is h.1,
     )

@@ -2,6 +2,10 @@
 #![tactic(auto)]
 
 mod appending;
+mod changes;
+mod counting;
 mod database;
+mod exchange;
+mod sources;
 
 pub use database::Database;
