@@ -1,6 +1,8 @@
 pub mod ChangeLemmas
+pub mod CheckLemmas
 pub mod CountLemmas
 pub mod DeclaredLemmas
+pub mod ExchangeLemmas
 pub mod NameLemmas
 pub mod RemovedLemmas
 pub mod RowlessLemmas

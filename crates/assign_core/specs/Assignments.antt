@@ -68,6 +68,11 @@ IsRefusedFor (At fault) meant = meant ≡ Err (At fault)
 IsRefusedFor (Broken code relvar number) meant = meant ≡ Err (Broken code relvar number)
 IsRefusedFor Memory meant = Unit {0}
 
+-- relvars that are neither too many rows nor break a constraint, or why they are refused
+abbrev pub IsAdmitted : Result (Unit {0}) Refuse → Entries → Type 0
+IsAdmitted (Ok done) new = kept_or_refused new ≡ Ok new
+IsAdmitted (Err refuse) new = IsRefusedFor refuse (kept_or_refused new)
+
 -- the state becomes what is meant; where that is refused, or memory is wanting, it stays
 abbrev pub IsAssigned : Result (Unit {0}) Refuse → State → State → List PlainAssignment → Type 0
 IsAssigned (Ok done) old new list =

@@ -58,8 +58,8 @@ pub(crate) fn newest_of<'a>(
     }
 }
 
-// The new value, or the old one where there is none.
-fn newer<'a>(change: &'a Option<Relation>, old: &'a Relation) -> &'a Relation
+/// The new value, or the old one where there is none.
+pub(crate) fn newer<'a>(change: &'a Option<Relation>, old: &'a Relation) -> &'a Relation
     ensures { result.now ≡ newest change.now old.now }
 {
     match change {

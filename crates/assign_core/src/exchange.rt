@@ -26,9 +26,12 @@ fn exchange_at(relvars: &mut Relvars, at: usize, change: Option<Relation>)
     ensures list { map read_entry relvars.new.list.entries ≡ changed_at at change (map read_entry relvars.old.list.entries) }
     ensures ordinals { relvars.new.ordinals ≡ relvars.old.ordinals }
 {
-    if let Some(value) = change {
-        let (_, relvar) = relvars.list.pair_mut(at);
-        put(relvar, value);
+    match change {
+        Some(value) => {
+            let (_, relvar) = relvars.list.pair_mut(at);
+            put(relvar, value);
+        }
+        None => {}
     }
 }
 

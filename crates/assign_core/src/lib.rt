@@ -3,9 +3,11 @@
 
 mod appending;
 mod changes;
+mod checking;
 mod counting;
 mod database;
 mod exchange;
+mod preparing;
 mod sources;
 
 pub use database::Database;
