@@ -1,19 +1,16 @@
 -- New values that stand ready for base relvars.
-use Rattle.std.proofs.Common.{◌≡◌, ℕ, zero, suc, ◌+◌, ◌<◌, Bool, true, false, cond, List, [], ◌∷◌, ◌++◌, map, take, length, replicate, get_or, refl, sym, ap, ap₂, subst, ◌∙◌, arith, true≢false, Option, Some, None}
+use Rattle.std.proofs.Common.{◌≡◌, ℕ, zero, suc, ◌<◌, Bool, true, false, cond, List, [], ◌∷◌, map, length, replicate, get_or, refl, sym, ap, ap₂, subst, ◌∙◌, arith, Option, Some, None}
 use Rattle.std.specs.Prelude.{slice_set, slice_index_or}
-use Rattle.std.specs.List.{IsDistinct, AllByRecursion, All}
-use Rattle.std.proofs.lemmas.List.Elements.{All-head, All-tail}
+use Rattle.std.specs.List.{IsDistinct, AllByRecursion}
 use Rattle.std.specs.Str.{bytes_eq}
-use Rattle.value_core.specs.declared.constraint.Constraint.{Constraint}
 use Rattle.value_core.specs.Values.{Name, Relation}
 use Rattle.tree_core.specs.declared.relvar.Relvar.{Relvar}
-use Rattle.tree_core.specs.Relvars.{PlainRelvar, base, view, Entries, relvar_named, relvar_heading, heading_if, read_entry, read_relvar}
-use Rattle.algebra_core.specs.Names.{given, given_relvar, with_value}
+use Rattle.tree_core.specs.Relvars.{PlainRelvar, base, view, Entries, relvar_named, heading_if, read_entry, read_relvar}
+use Rattle.algebra_core.specs.Names.{given, with_value}
 use Rattle.algebra_core.specs.Scopes.{IsFirstAt}
 use Rattle.algebra_core.specs.WellMade.{IsBase}
-use Rattle.algebra_core.proofs.MadeLemmas.{same_name, own_name}
-use Rattle.assign_core.specs.Changes.{Changes, IsChange, AreChanges, changed_relvar, changed, newest}
-use Rattle.assign_core.specs.Breaches.{value_of, value_if}
+use Rattle.algebra_core.proofs.MadeLemmas.{same_name}
+use Rattle.assign_core.specs.Changes.{Changes, IsChange, AreChanges, changed_relvar, changed}
 use Rattle.assign_core.specs.Parts.{names_in}
 use Rattle.assign_core.proofs.NameLemmas.{turned}
 use Rattle.assign_core.proofs.RowlessLemmas.{bare_all, bare, bare-with_value}

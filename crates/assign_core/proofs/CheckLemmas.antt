@@ -1,5 +1,5 @@
 -- Constraints checked one after another.
-use Rattle.std.proofs.Common.{◌≡◌, ℕ, zero, suc, ◌+◌, ◌<◌, ◌≤◌, List, [], ◌∷◌, ◌++◌, map, take, drop, length, refl, sym, ap, subst, ◌∙◌, arith, Option, Some, None, option_map, Ok, Err}
+use Rattle.std.proofs.Common.{◌≡◌, ℕ, zero, suc, ◌+◌, ◌<◌, ◌≤◌, List, [], ◌∷◌, take, drop, length, refl, sym, ap, subst, ◌∙◌, arith, Option, Some, None, option_map, Err}
 use Rattle.std.specs.Prelude.{slice_index_or}
 use Rattle.std.specs.List.{All}
 use Rattle.relation_core.proofs.FilterLemmas.{take_all}
@@ -12,7 +12,7 @@ use Rattle.value_core.specs.Values.{Name, Row, Relation}
 use Rattle.tree_core.specs.Relvars.{PlainRelvar, base, view, Entries, relvar_named, heading_if}
 use Rattle.algebra_core.specs.WellMade.{IsBase}
 use Rattle.u_constraints.specs.Constraints.{broken, names_relvar, heading_or_none, IsNamed}
-use Rattle.assign_core.specs.Breaches.{value_of, value_if, value_at, rows_named, or_later, breach, first_of, first_in, first_among, first_broken}
+use Rattle.assign_core.specs.Breaches.{value_of, value_if, value_at, rows_named, or_later, breach, first_of, first_in, first_among}
 use Rattle.assign_core.specs.Changes.{newest, changed_relvar, Tells}
 use Rattle.assign_core.specs.Checks.{heading_at, NamesBase, IsChecked, AreChecked, AllChecked}
 use Rattle.assign_core.proofs.DeclaredLemmas.{neither, none_of_two}

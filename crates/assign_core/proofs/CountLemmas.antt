@@ -1,12 +1,12 @@
 -- Rows counted relvar by relvar.
-use Rattle.std.proofs.Common.{◌≡◌, ℕ, zero, suc, ◌+◌, ◌<◌, ◌≤◌, Bool, true, false, List, [], ◌∷◌, map, take, length, refl, sym, ap, ◌∙◌, arith, nat_le, ◌-◌, Option, Some, None}
+use Rattle.std.proofs.Common.{◌≡◌, ℕ, zero, suc, ◌+◌, ◌<◌, ◌≤◌, Bool, true, false, List, [], ◌∷◌, map, take, length, refl, sym, ap, ◌∙◌, arith, nat_le, ◌-◌, Option, Some}
 use Rattle.std.specs.Prelude.{slice_index_or, slice_get}
 use Rattle.std.proofs.lemmas.Bool.Decides.{nat_tests}
 use Rattle.relation_core.proofs.FilterLemmas.{take_all}
 use Rattle.value_core.specs.Values.{Name, Relation}
 use Rattle.tree_core.specs.declared.relvar.Relvar.{Relvar}
 use Rattle.tree_core.specs.Relvars.{PlainRelvar, Entries, read_entry, read_relvar}
-use Rattle.assign_core.specs.Breaches.{count_of, rows_of_all, value_of}
+use Rattle.assign_core.specs.Breaches.{count_of, rows_of_all}
 use Rattle.assign_core.specs.Changes.{Changes, changed, changed_relvar}
 
 pub rows_more : (es : Entries) (i : ℕ) (d : Name × PlainRelvar) → i < length es → rows_of_all (take (i + 1) es) ≡ rows_of_all (take i es) + count_of (slice_index_or es i d)

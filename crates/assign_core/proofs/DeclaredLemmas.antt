@@ -1,8 +1,7 @@
 -- What declarations append, and that it breaks no constraint.
-use Rattle.std.proofs.Common.{◌≡◌, ℕ, suc, ◌+◌, ◌≤◌, Bool, true, false, ◌&&◌, cond, List, [], ◌∷◌, ◌++◌, map, length, fold, sum, refl, sym, ap, subst, ◌∙◌, arith, IsTrue, Option, Some, None, option_map}
-use Rattle.std.specs.List.{IsDistinct, list_all}
+use Rattle.std.proofs.Common.{◌≡◌, ℕ, suc, ◌+◌, Bool, true, false, cond, List, [], ◌∷◌, ◌++◌, map, length, refl, sym, ap, subst, ◌∙◌, arith, Option, Some, None, option_map}
+use Rattle.std.specs.List.{IsDistinct}
 use Rattle.std.specs.Str.{bytes_eq}
-use Rattle.std.proofs.lemmas.Bool.{and_parts}
 use Rattle.value_core.specs.declared.constraint.Constraint.{Constraint}
 use Rattle.value_core.specs.declared.refuse.Refuse.{Refuse}
 use Rattle.value_core.specs.declared.refuse.Refuse.TheVariants.{Broken}
@@ -12,10 +11,10 @@ use Rattle.tree_core.specs.Relvars.{State, PlainRelvar, base, view, Entries, rel
 use Rattle.algebra_core.specs.Declarations.{PlainDeclaration, ordinal_type, base_relvar, view_relvar, with_declaration, read_declaration}
 use Rattle.u_constraints.specs.Constraints.{broken, names_relvar, rows_or_none}
 use Rattle.u_constraints.proofs.ConstraintLemmas.{broken_none}
-use Rattle.assign_core.specs.Breaches.{value_of, value_if, value_at, count_of, rows_of_all, rows_named, or_later, breach, first_of, first_in, first_among, first_broken, AreBuilt}
+use Rattle.assign_core.specs.Breaches.{value_of, value_if, value_at, count_of, rows_of_all, rows_named, or_later, breach, first_of, first_in, first_among, first_broken}
 use Rattle.assign_core.specs.Databases.{IsKept, CanBecome, declared}
 use Rattle.assign_core.specs.Parts.{names_in}
-use Rattle.assign_core.proofs.NameLemmas.{distinct_earlier, distinct_later, names_more}
+use Rattle.assign_core.proofs.NameLemmas.{distinct_earlier, names_more}
 
 -- ---- what is appended
 

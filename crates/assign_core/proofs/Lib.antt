@@ -1,3 +1,4 @@
+pub mod AssignedLemmas
 pub mod ChangeLemmas
 pub mod CheckLemmas
 pub mod CountLemmas

@@ -1,12 +1,12 @@
 -- Names that differ, and what is found under a name.
-use Rattle.std.proofs.Common.{◌≡◌, ℕ, zero, suc, ◌<◌, ◌+◌, Bool, true, false, not, cond, List, [], ◌∷◌, ◌++◌, map, filter, take, drop, length, get_or, refl, sym, ap, subst, ◌∙◌, arith, true≢false, Option, Some, None}
+use Rattle.std.proofs.Common.{◌≡◌, ℕ, zero, suc, ◌<◌, Bool, true, false, not, cond, List, [], ◌∷◌, ◌++◌, map, filter, take, drop, length, get_or, refl, sym, ap, subst, ◌∙◌, arith, true≢false}
 use Rattle.std.specs.List.{IsDistinct, AllByRecursion}
 use Rattle.std.specs.Map.{keys_of}
 use Rattle.std.specs.Str.{bytes_eq}
 use Rattle.indexmap.specs.IndexMap.{insert_entry, shift_remove_entry}
 use Rattle.value_core.specs.Values.{Name}
 use Rattle.tree_core.specs.declared.relvar.Relvar.{Relvar}
-use Rattle.tree_core.specs.Relvars.{PlainRelvar, Entries, read_entry, read_relvar}
+use Rattle.tree_core.specs.Relvars.{PlainRelvar, Entries, read_entry}
 use Rattle.algebra_core.proofs.MadeLemmas.{same_name, own_name}
 use Rattle.assign_core.specs.Parts.{names_in}
 

@@ -1,31 +1,23 @@
 -- What is left where a relvar or view is removed, and that each constraint finds the relvar that it names.
-use Rattle.std.proofs.Common.{◌≡◌, ℕ, suc, ◌+◌, ◌≤◌, Bool, true, false, not, ◌&&◌, cond, List, [], ◌∷◌, ◌++◌, map, filter, length, refl, sym, ap, subst, ◌∙◌, arith, IsTrue, Option, Some, None}
-use Rattle.std.specs.List.{All, list_all}
+use Rattle.std.proofs.Common.{◌≡◌, ℕ, ◌+◌, ◌≤◌, Bool, true, false, not, cond, List, [], ◌∷◌, ◌++◌, filter, refl, sym, ap, subst, ◌∙◌, arith, IsTrue, Option, Some, None}
+use Rattle.std.specs.List.{All}
 use Rattle.std.specs.Str.{bytes_eq}
-use Rattle.std.proofs.lemmas.Bool.{and_parts}
 use Rattle.std.proofs.lemmas.List.Elements.{All-head, All-tail}
 use Rattle.value_core.specs.declared.constraint.Constraint.{Constraint}
 use Rattle.value_core.specs.declared.constraint.Constraint.TheVariants.{Key, Packed, WhenUnpacked, UKey, Foreign, History}
-use Rattle.value_core.specs.Values.{Name, Heading}
+use Rattle.value_core.specs.Values.{Name}
 use Rattle.tree_core.specs.Relvars.{State, PlainRelvar, base, view, Entries, relvar_named, relvar_heading, heading_if}
 use Rattle.algebra_core.specs.Declarations.{without}
 use Rattle.algebra_core.specs.WellMade.{IsBase, IsConstraint, IsRelvar, AreRelvars, FitsHeadings, IsWellMade, sizes_of}
-use Rattle.algebra_core.proofs.MadeLemmas.{same_name, own_name}
-use Rattle.u_constraints.specs.Constraints.{broken, names_relvar, rows_or_none}
-use Rattle.assign_core.specs.Breaches.{value_of, value_if, value_at, count_of, rows_of_all, rows_named, first_of, first_in, first_among, first_broken, IsBuiltRelvar, AreBuilt}
+use Rattle.algebra_core.proofs.MadeLemmas.{same_name}
+use Rattle.u_constraints.specs.Constraints.{names_relvar, rows_or_none}
+use Rattle.assign_core.specs.Breaches.{value_if, value_at, count_of, rows_of_all, first_in, first_among, IsBuiltRelvar, AreBuilt}
+use Rattle.assign_core.specs.Checks.{heading_at, NamesBase}
 use Rattle.assign_core.specs.Databases.{IsKept, are_plain}
 use Rattle.assign_core.proofs.DeclaredLemmas.{NameTheSame, same_of, neither, none_of_two, in_turn}
 use Rattle.assign_core.proofs.NameLemmas.{turned}
 
 -- ---- what constraints name
-
-abbrev pub heading_at : Entries → Option Name → Heading
-heading_at entries None = []
-heading_at entries (Some name) = heading_if (relvar_named entries name)
-
-abbrev pub NamesBase : Entries → Option Name → Type 0
-NamesBase entries None = Unit {0}
-NamesBase entries (Some name) = IsBase (relvar_named entries name)
 
 -- the constraint fits its relvar's heading and that of the relvar that it names
 abbrev pub IsFitting : Entries → PlainRelvar → Constraint → Type 0

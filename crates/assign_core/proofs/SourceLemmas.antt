@@ -1,5 +1,5 @@
 -- The values of sources, evaluated one after another.
-use Rattle.std.proofs.Common.{◌≡◌, ℕ, zero, suc, ◌+◌, ◌<◌, Bool, true, false, List, [], ◌∷◌, ◌++◌, map, take, drop, length, get_or, refl, sym, ap, subst, ◌∙◌, arith, Option, Some, None, option_map, Result, Ok, Err}
+use Rattle.std.proofs.Common.{◌≡◌, ℕ, zero, suc, ◌+◌, ◌<◌, List, [], ◌∷◌, ◌++◌, map, take, drop, length, refl, sym, ap, subst, ◌∙◌, arith, Option, Some, None, Result, Ok, Err}
 use Rattle.std.specs.Prelude.{slice_index_or}
 use Rattle.base_core.specs.Outcomes.{then_give}
 use Rattle.point_core.specs.declared.fault.Fault.{Fault}
@@ -7,20 +7,18 @@ use Rattle.point_core.specs.declared.fault.Stop.{Stop}
 use Rattle.point_core.specs.declared.fault.Stop.TheVariants.{Fault as Faulted, Memory as OfMemory}
 use Rattle.point_core.specs.Faults.{OrFault}
 use Rattle.relation_core.specs.Answers.{Answers, under}
-use Rattle.value_core.specs.declared.constraint.Constraint.{Constraint}
 use Rattle.value_core.specs.Values.{Name, Relation, Heading}
 use Rattle.tree_core.specs.declared.declaration.Assignment.{Assignment}
 use Rattle.tree_core.specs.declared.tree.RelTree.{RelTree}
 use Rattle.tree_core.specs.Items.{PlainAssignment, read_assignment}
-use Rattle.tree_core.specs.Relvars.{PlainRelvar, base, view, Entries, State, relvar_named, heading_if}
-use Rattle.tree_core.specs.Trees.{Tree, heading_of, read_tree}
-use Rattle.algebra_core.specs.Meanings.{RowsMeant, meaning_in}
+use Rattle.tree_core.specs.Relvars.{PlainRelvar, base, view, Entries, relvar_named}
+use Rattle.tree_core.specs.Trees.{heading_of, read_tree}
+use Rattle.algebra_core.specs.Meanings.{meaning_in}
 use Rattle.algebra_core.specs.Names.{given}
 use Rattle.algebra_core.specs.WellMade.{IsBase, IsGiven}
-use Rattle.algebra_core.specs.Scopes.{IsFirstAt}
 use Rattle.algebra_core.proofs.EvalLemmas.{operand_heading, under_ok}
 use Rattle.assign_core.specs.Assignments.{seen_by, source_value, with_target, evaluated}
-use Rattle.assign_core.specs.Breaches.{value_of, value_if}
+use Rattle.assign_core.specs.Breaches.{value_if}
 use Rattle.assign_core.specs.Changes.{Gives}
 use Rattle.assign_core.proofs.RowlessLemmas.{bare_all, own-given, is_given-keeps, is_base-keeps}
 

@@ -1,7 +1,7 @@
 -- The relvars after a change, and what a check of their constraints asks.
 --     after      the relvars with the values that stand ready
 --     AllChecked      each constraint fits the headings that it is of, finds the relvar that it names, and is of a form that is checked
-use Rattle.std.specs.Prelude.{List, [], ◌∷◌, Option, Some, None}
+use Rattle.std.specs.Prelude.{[], ◌∷◌, Option, Some, None}
 use Rattle.std.specs.List.{All}
 use Rattle.value_core.specs.declared.constraint.Constraint.{Constraint}
 use Rattle.value_core.specs.Values.{Name, Heading}

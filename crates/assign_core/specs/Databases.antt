@@ -1,7 +1,7 @@
 -- The states of databases.
 --     IsKept      what the state of a database keeps
 --     declared      the state with what a list declares
-use Rattle.std.specs.Prelude.{◌≡◌, ◌≤◌, Bool, List, [], ◌∷◌, None, fold, IsTrue}
+use Rattle.std.specs.Prelude.{◌≡◌, ◌≤◌, Bool, List, [], None, fold, IsTrue}
 use Rattle.std.specs.List.{list_all}
 use Rattle.tree_core.specs.Relvars.{State, Entries}
 use Rattle.algebra_core.specs.Declarations.{PlainDeclaration, with_declaration}

@@ -1,17 +1,24 @@
 // The database.
 ghost use Rattle.std.specs.Prelude.{◌≡◌, map, take, OnOk, OnErr, IsOk, IsTrue};
+ghost use Rattle.std.specs.List.{All};
+ghost use Rattle.tree_core.specs.Items.{read_assignment};
 ghost use Rattle.tree_core.specs.Relvars.{read_relvars};
 ghost use Rattle.algebra_core.specs.Declarations.{read_declaration, without};
 ghost use Rattle.algebra_core.specs.WellMade.{IsWellMade};
+ghost use Rattle.algebra_core.specs.Updates.{IsTypedAssignment};
+ghost use Rattle.assign_core.specs.Assignments.{IsAssigned, IsPlainAssignment};
 ghost use Rattle.assign_core.specs.Databases.{no_relvars, declared, CanBecome, IsKept, are_plain};
 
 use crate::appending::append_all;
+use crate::exchange::exchange_all;
+use crate::preparing::prepare;
 use indexmap::IndexMap;
-use point_core::Memory;
+use point_core::{Memory, Steps};
 use std::alloc::Global;
 use std::marker::Model;
-use tree_core::{Declaration, Relvars};
-use value_core::{Name, OrdinalTypes};
+use std::sync::ledger::Ledger;
+use tree_core::{Assignment, Declaration, Relvars};
+use value_core::{Name, OrdinalTypes, Refuse};
 
 /// The ordinal types, relvars and views. They are well made, each constraint holds, and the base relvars have at most 200,000
 /// rows together.
@@ -76,6 +83,25 @@ impl Database {
                 Err(memory)
             }
         }
+    }
+
+    /// Gives each target the value of its source, all together, or refuses and changes nothing.
+    ///
+    /// The sources are evaluated in order. Each sees the relvars as they are, its own target alone with the value of the latest
+    /// earlier assignment to it. The first fault counts; then more than 200,000 rows; then the first broken constraint.
+    pub fn assign<L: Ledger>(
+        &mut self,
+        list: &[Assignment],
+        steps: &mut Steps<L>,
+    ) -> Result<(), Refuse>
+        requires typed { All (IsTypedAssignment (read_relvars self.old)) (map read_assignment list.now) }
+        requires plain { All (IsPlainAssignment (read_relvars self.old)) (map read_assignment list.now) }
+        ensures assigned { IsAssigned result (read_relvars self.old) (read_relvars self.new) (map read_assignment list.now) }
+        ensures steps { steps.new ≡ steps.old }
+    {
+        let changes = prepare(self.alloc, list, &self.relvars, steps)?;
+        exchange_all(&mut self.relvars, changes);
+        Ok(())
     }
 
     /// Removes the relvar or view of this name. The others keep their order.

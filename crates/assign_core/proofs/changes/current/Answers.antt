@@ -1,8 +1,8 @@
-use Rattle.std.proofs.Common.{Bool, Option, Some, None, map, sym, ap, ◌∙◌, refl}
+use Rattle.std.proofs.Common.{Option, map, sym, ap, ◌∙◌}
 use Rattle.std.specs.Str.{bytes_eq}
 use Rattle.value_core.specs.Values.{Name, Relation}
 use Rattle.tree_core.specs.declared.relvar.Relvar.{Relvar}
-use Rattle.tree_core.specs.Relvars.{PlainRelvar, read_entry, read_relvar}
+use Rattle.tree_core.specs.Relvars.{read_entry, read_relvar}
 use Rattle.algebra_core.proofs.EvalLemmas.{found_at, none_passes}
 use Rattle.assign_core.specs.Breaches.{value_if, value_of}
 use Rattle.assign_core.specs.Changes.{changed_relvar}

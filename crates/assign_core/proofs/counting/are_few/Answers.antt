@@ -1,6 +1,6 @@
-use Rattle.std.proofs.Common.{◌≡◌, ◌<◌, ◌≤◌, [], length, map, sym, ap, ◌∙◌, arith}
+use Rattle.std.proofs.Common.{◌<◌, ◌≤◌, [], length, map, sym, ◌∙◌, arith}
 use Rattle.value_core.specs.Values.{Name}
-use Rattle.tree_core.specs.Relvars.{PlainRelvar, view, read_entry}
+use Rattle.tree_core.specs.Relvars.{PlainRelvar, read_entry}
 use Rattle.assign_core.specs.Breaches.{most_rows_of_all}
 use Rattle.assign_core.specs.Changes.{changed}
 use Rattle.assign_core.proofs.ChangeLemmas.{entries_length}

@@ -1,5 +1,5 @@
 use Rattle.std.proofs.Common.{rules, ◌≡◌, ℕ, ◌++◌, ◌∷◌, [], length, map, sym, ap, ◌∙◌, arith}
-use Rattle.tree_core.specs.Relvars.{Entries, read_entry}
+use Rattle.tree_core.specs.Relvars.{read_entry}
 use Rattle.assign_core.specs.Changes.{Changes, changed, changed_at}
 use Rattle.assign_core.proofs.ChangeLemmas.{entries_length}
 use Rattle.assign_core.proofs.ExchangeLemmas.{changed_last, length_changed_at}

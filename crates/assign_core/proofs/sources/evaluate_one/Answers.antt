@@ -1,6 +1,5 @@
-use Rattle.std.proofs.Common.{◌≡◌, ℕ, ◌<◌, length, map, sym, ◌∙◌, ap, subst, arith, Some, Ok}
-use Rattle.std.specs.List.{IsDistinct}
-use Rattle.tree_core.specs.Relvars.{Entries, read_relvars, read_entry}
+use Rattle.std.proofs.Common.{◌≡◌, length, map, ◌∙◌, subst, arith, Some, Ok}
+use Rattle.tree_core.specs.Relvars.{read_entry}
 use Rattle.tree_core.specs.Items.{read_assignment}
 use Rattle.algebra_core.proofs.EntryLemmas.{named_first}
 use Rattle.assign_core.specs.Assignments.{source_value}

@@ -1,5 +1,5 @@
-use Rattle.std.proofs.Common.{map, sym, ◌∙◌}
-use Rattle.tree_core.specs.Relvars.{read_relvars, read_entry}
+use Rattle.std.proofs.Common.{map, ◌∙◌}
+use Rattle.tree_core.specs.Relvars.{read_entry}
 use Rattle.assign_core.specs.Changes.{changed}
 use Rattle.assign_core.proofs.ChangeLemmas.{bare_changed, same_length, entries_length}
 use Rattle.assign_core.proofs.SourceLemmas.{newest_given, no_base, source_told}

@@ -1,6 +1,4 @@
 use Rattle.std.proofs.Common.{map, sym, subst}
-use Rattle.std.specs.List.{IsDistinct}
-use Rattle.std.specs.Str.{bytes_eq}
 use Rattle.tree_core.specs.declared.relvar.Relvars.{Relvars}
 use Rattle.tree_core.specs.Relvars.{read_relvars}
 use Rattle.algebra_core.specs.Declarations.{read_declaration}

@@ -2,7 +2,7 @@ use Rattle.std.proofs.Common.{◌≡◌, map, IsTrue, ap, ◌∙◌, subst, sym}
 use Rattle.std.specs.List.{IsDistinct}
 use Rattle.std.specs.Str.{bytes_eq}
 use Rattle.tree_core.specs.declared.relvar.Relvars.{Relvars}
-use Rattle.tree_core.specs.Relvars.{State, Entries, read_relvars, read_entry}
+use Rattle.tree_core.specs.Relvars.{Entries, read_relvars, read_entry}
 use Rattle.algebra_core.specs.Declarations.{without}
 use Rattle.algebra_core.specs.WellMade.{IsWellMade}
 use Rattle.assign_core.specs.Databases.{are_plain}
