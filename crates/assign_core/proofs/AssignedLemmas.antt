@@ -1,0 +1,109 @@
+-- What assignments make of a state.
+use Rattle.std.proofs.Common.{◌≡◌, ℕ, ◌≤◌, Bool, true, false, cond, nat_le, List, [], ◌∷◌, map, replicate, refl, sym, ap, subst, ◌∙◌, arith, IsTrue, Option, Some, None, Ok, Err}
+use Rattle.std.specs.List.{All, AllByRecursion, list_all}
+use Rattle.std.proofs.lemmas.Bool.Decides.{nat_tests}
+use Rattle.std.proofs.lemmas.List.Elements.{All-nil, All-cons, All-head, All-tail}
+use Rattle.point_core.specs.declared.fault.Code.TheVariants.{E46}
+use Rattle.point_core.specs.declared.fault.Stop.{Stop}
+use Rattle.point_core.specs.declared.fault.Stop.TheVariants.{Fault as Faulted, Memory as OfMemory}
+use Rattle.point_core.specs.Faults.{OrFault}
+use Rattle.value_core.specs.declared.constraint.Constraint.{Constraint}
+use Rattle.value_core.specs.declared.refuse.Refuse.{Refuse}
+use Rattle.value_core.specs.declared.refuse.Refuse.TheVariants.{Plain}
+use Rattle.value_core.specs.Refusals.{refusal_of}
+use Rattle.value_core.specs.Values.{Relation}
+use Rattle.tree_core.specs.declared.declaration.Assignment.{Assignment}
+use Rattle.tree_core.specs.Items.{PlainAssignment, read_assignment}
+use Rattle.tree_core.specs.Relvars.{State, PlainRelvar, base, view, Entries}
+use Rattle.u_constraints.specs.Constraints.{IsBuilt}
+use Rattle.assign_core.specs.Assignments.{evaluated, unless_broken, kept_or_refused, of_values, after_assignments, IsRefusedFor}
+use Rattle.assign_core.specs.Breaches.{rows_of_all, most_rows_of_all, first_broken, IsBuiltRelvar, AreBuilt}
+use Rattle.assign_core.specs.Changes.{Changes, AreChanges, changed, changed_relvar, Gives}
+use Rattle.assign_core.specs.Checks.{IsChecked, AreChecked, AllChecked}
+use Rattle.assign_core.specs.Databases.{IsKept}
+use Rattle.assign_core.proofs.ChangeLemmas.{bare_changed, none_changed}
+use Rattle.assign_core.proofs.RemovedLemmas.{AreFitting, AllFit, constraints_of, all_fit}
+use Rattle.assign_core.proofs.RowlessLemmas.{bare-keeps, plain-keeps}
+
+-- ---- what is meant
+
+pub from_none : (es : Entries) (none : Changes) (n : ℕ) (list : List PlainAssignment) → none ≡ replicate n None → evaluated es (changed none es) list ≡ evaluated es es list
+from_none es none n list e = ap (λ (z : Entries). evaluated es z list) (ap (λ (cs : Changes). changed cs es) e ∙ none_changed es n)
+
+pub stopped : (es start last : Entries) (list : List PlainAssignment) (stop : Stop) → evaluated es start list ≡ evaluated es es list → Gives (Err stop) (evaluated es start list) last
+    → IsRefusedFor (refusal_of stop) (after_assignments es list)
+stopped es start last list (Faulted f) same told = ap of_values (sym same ∙ told)
+stopped es start last list OfMemory same told = tt
+
+pub not_admitted : (es new : Entries) (list : List PlainAssignment) (refuse : Refuse) → evaluated es es list ≡ Ok new → IsRefusedFor refuse (kept_or_refused new) → IsRefusedFor refuse (after_assignments es list)
+not_admitted es new list refuse e h = subst (λ (r : OrFault Entries). IsRefusedFor refuse (of_values r)) (sym e) h
+
+pub admitted : (es new : Entries) (list : List PlainAssignment) → evaluated es es list ≡ Ok new → kept_or_refused new ≡ Ok new → after_assignments es list ≡ Ok new
+admitted es new list e h = ap of_values e ∙ h
+
+pub each_of : (P : PlainAssignment → Type 0) (xs : List Assignment) → All P (map read_assignment xs) → All (λ a. P (read_assignment a)) xs
+each_of P [] h = All-nil (λ a. P (read_assignment a))
+each_of P (x ∷ xs) h =
+    All-cons (λ a. P (read_assignment a)) x xs (All-head P (read_assignment x) (map read_assignment xs) h) (each_of P xs (All-tail P (read_assignment x) (map read_assignment xs) h))
+
+-- ---- what is admitted
+
+abbrev IsFine : Entries → Type 0
+IsFine new = (rows_of_all new ≤ most_rows_of_all) × (first_broken new ≡ None)
+
+unless_known : (n new : Entries) (o : Option Refuse) → first_broken n ≡ o → rows_of_all n ≤ most_rows_of_all → unless_broken n o ≡ Ok new → IsFine new
+unless_known n new (Some refuse) b few e = absurd (cc)
+unless_known n new None b few e = let same : n ≡ new = cc in subst IsFine same (few, b)
+
+few_known : (n new : Entries) (t : Bool) → nat_le (rows_of_all n) most_rows_of_all ≡ t → cond t (unless_broken n (first_broken n)) (Err (Plain E46)) ≡ Ok new → IsFine new
+few_known n new false q e = absurd (cc)
+few_known n new true q e = let few : rows_of_all n ≤ most_rows_of_all = grind (arith, nat_tests) in unless_known n new (first_broken n) refl few e
+
+is_fine : (r : OrFault Entries) (new : Entries) → of_values r ≡ Ok new → IsFine new
+is_fine (Err f) new e = absurd (cc)
+is_fine (Ok n) new e = few_known n new (nat_le (rows_of_all n) most_rows_of_all) refl e
+
+-- ---- what stays
+
+built_relvar : (c : Option Relation) (r : PlainRelvar) → IsBuiltRelvar r → IsBuiltRelvar (changed_relvar c r)
+built_relvar None r h = h
+built_relvar (Some value) (base old constraints) h = h
+built_relvar (Some value) (view t history) h = h
+
+built_changed : (cs : Changes) (es : Entries) → AreBuilt es → AreBuilt (changed cs es)
+built_changed [] es h = h
+built_changed (c ∷ cs) [] h = tt
+built_changed (c ∷ cs) (e ∷ es) h = (built_relvar c e.1 h.0, built_changed cs es h.1)
+
+each_checked : (all : Entries) (value : Relation) (own cs : List Constraint) → AreFitting all (base value own) cs → AllByRecursion IsBuilt cs → All (IsChecked all value.heading) cs
+each_checked all value own [] fit built = All-nil (IsChecked all value.heading)
+each_checked all value own (c ∷ cs) fit built =
+    All-cons (IsChecked all value.heading) c cs (record { names = fit.0.0; fits = fit.0.1; built = built.0 }) (each_checked all value own cs fit.1 built.1)
+
+relvar_checked : (all : Entries) (r : PlainRelvar) → AreFitting all r (constraints_of r) → IsBuiltRelvar r → AreChecked all r
+relvar_checked all (base value constraints) fit built = each_checked all value constraints constraints fit built
+relvar_checked all (view t history) fit built = tt
+
+all_checked : (all es : Entries) → AllFit all es → AreBuilt es → AllChecked all es
+all_checked all [] fit built = tt
+all_checked all (e ∷ es) fit built = (relvar_checked all e.1 fit.0 built.0, all_checked all es fit.1 built.1)
+
+pub kept_checked : (s : State) (cs : Changes) → IsKept s → AreChanges cs s.relvars → AllChecked (changed cs s.relvars) (changed cs s.relvars)
+kept_checked s cs kept are =
+    let new = changed cs s.relvars in
+    let made = bare-keeps s new (bare_changed cs s.relvars are) kept.well_made in
+    all_checked new new (all_fit (record s { relvars = new }) made) (built_changed cs s.relvars kept.built)
+
+pub assigned_kept : (s : State) (cs : Changes) (list : List PlainAssignment) → IsKept s → AreChanges cs s.relvars → after_assignments s.relvars list ≡ Ok (changed cs s.relvars)
+    → IsKept (record s { relvars = changed cs s.relvars })
+assigned_kept s cs list kept are e =
+    let new = changed cs s.relvars in
+    let bare = bare_changed cs s.relvars are in
+    let fine = is_fine (evaluated s.relvars s.relvars list) new e in
+    record {
+      well_made = bare-keeps s new bare kept.well_made;
+      plain = subst (λ k. IsTrue (list_all (λ e. e.1) k)) (sym (plain-keeps new s.relvars bare)) kept.plain;
+      built = built_changed cs s.relvars kept.built;
+      holds = fine.1;
+      few = fine.0;
+    }

@@ -1,0 +1,10 @@
+pub mod AssignedLemmas
+pub mod ChangeLemmas
+pub mod CheckLemmas
+pub mod CountLemmas
+pub mod DeclaredLemmas
+pub mod ExchangeLemmas
+pub mod NameLemmas
+pub mod RemovedLemmas
+pub mod RowlessLemmas
+pub mod SourceLemmas

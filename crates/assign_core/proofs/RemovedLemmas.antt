@@ -1,0 +1,173 @@
+-- What is left where a relvar or view is removed, and that each constraint finds the relvar that it names.
+use Rattle.std.proofs.Common.{◌≡◌, ℕ, ◌+◌, ◌≤◌, Bool, true, false, not, cond, List, [], ◌∷◌, ◌++◌, filter, refl, sym, ap, subst, ◌∙◌, arith, IsTrue, Option, Some, None}
+use Rattle.std.specs.List.{All}
+use Rattle.std.specs.Str.{bytes_eq}
+use Rattle.std.proofs.lemmas.List.Elements.{All-head, All-tail}
+use Rattle.value_core.specs.declared.constraint.Constraint.{Constraint}
+use Rattle.value_core.specs.declared.constraint.Constraint.TheVariants.{Key, Packed, WhenUnpacked, UKey, Foreign, History}
+use Rattle.value_core.specs.Values.{Name}
+use Rattle.tree_core.specs.Relvars.{State, PlainRelvar, base, view, Entries, relvar_named, relvar_heading, heading_if}
+use Rattle.algebra_core.specs.Declarations.{without}
+use Rattle.algebra_core.specs.WellMade.{IsBase, IsConstraint, IsRelvar, AreRelvars, FitsHeadings, IsWellMade, sizes_of}
+use Rattle.algebra_core.proofs.MadeLemmas.{same_name}
+use Rattle.u_constraints.specs.Constraints.{names_relvar, rows_or_none}
+use Rattle.assign_core.specs.Breaches.{value_if, value_at, count_of, rows_of_all, first_in, first_among, IsBuiltRelvar, AreBuilt}
+use Rattle.assign_core.specs.Checks.{heading_at, NamesBase}
+use Rattle.assign_core.specs.Databases.{IsKept, are_plain}
+use Rattle.assign_core.proofs.DeclaredLemmas.{NameTheSame, same_of, neither, none_of_two, in_turn}
+use Rattle.assign_core.proofs.NameLemmas.{turned}
+
+-- ---- what constraints name
+
+-- the constraint fits its relvar's heading and that of the relvar that it names
+abbrev pub IsFitting : Entries → PlainRelvar → Constraint → Type 0
+IsFitting entries r c = NamesBase entries (names_relvar c) × FitsHeadings (relvar_heading r) (heading_at entries (names_relvar c)) c
+
+abbrev pub AreFitting : Entries → PlainRelvar → List Constraint → Type 0
+AreFitting entries r [] = Unit {0}
+AreFitting entries r (c ∷ cs) = IsFitting entries r c × AreFitting entries r cs
+
+abbrev pub constraints_of : PlainRelvar → List Constraint
+constraints_of (base value constraints) = constraints
+constraints_of (view t history) = []
+
+abbrev pub AllFit : Entries → Entries → Type 0
+AllFit entries [] = Unit {0}
+AllFit entries (r ∷ rest) = AreFitting entries r.1 (constraints_of r.1) × AllFit entries rest
+
+base_before : (xs ys : Entries) (n : Name) → IsBase (relvar_named xs n) → relvar_named xs n ≡ relvar_named (xs ++ ys) n
+base_before [] ys n h = absurd h
+base_before (x ∷ xs) ys n h = by (bytes_eq x.0 n) (base_before xs ys n) h
+  where
+    by : (b : Bool) → (IsBase (relvar_named xs n) → relvar_named xs n ≡ relvar_named (xs ++ ys) n) → IsBase (cond b (Some x.1) (relvar_named xs n))
+        → cond b (Some x.1) (relvar_named xs n) ≡ cond b (Some x.1) (relvar_named (xs ++ ys) n)
+    by true ih h = refl
+    by false ih h = ih h
+
+fits_named : (xs ys : Entries) (r : PlainRelvar) (n : Name) (c : Constraint) → names_relvar c ≡ Some n → IsBase (relvar_named xs n)
+    → FitsHeadings (relvar_heading r) (heading_if (relvar_named xs n)) c → IsFitting (xs ++ ys) r c
+fits_named xs ys r n c e h f =
+    let is = base_before xs ys n h in (
+      subst (NamesBase (xs ++ ys)) (sym e) (subst IsBase is h),
+      subst (λ (o : Option Name). FitsHeadings (relvar_heading r) (heading_at (xs ++ ys) o) c) (sym e)
+          (subst (λ (o : Option PlainRelvar). FitsHeadings (relvar_heading r) (heading_if o) c) is f),
+    )
+
+one_fits : (before rest : Entries) (own : Name) (r : PlainRelvar) (c : Constraint) → IsConstraint before own r c → IsFitting ((before ++ (own, r) ∷ []) ++ rest) r c
+one_fits before rest own r (Key k) h = (tt, h)
+one_fits before rest own r (Packed acl) h = (tt, h)
+one_fits before rest own r (WhenUnpacked acl k) h = (tt, h)
+one_fits before rest own r (UKey acl k) h = (tt, h)
+one_fits before rest own r (Foreign acl k name there) h = fits_named (before ++ (own, r) ∷ []) rest r name (Foreign acl k name there) refl h.0 h.1
+one_fits before rest own r (History rule) h =
+    subst (λ (z : Entries). IsFitting z r (History rule)) (sym (in_turn before ((own, r) ∷ []) rest))
+    (fits_named before ((own, r) ∷ rest) r rule.since (History rule) refl h.0 h.1)
+
+each_fits : (before rest : Entries) (own : Name) (r : PlainRelvar) (cs : List Constraint) → All (IsConstraint before own r) cs → AreFitting ((before ++ (own, r) ∷ []) ++ rest) r cs
+each_fits before rest own r [] h = tt
+each_fits before rest own r (c ∷ cs) h = (one_fits before rest own r c (All-head (IsConstraint before own r) c cs h), each_fits before rest own r cs (All-tail (IsConstraint before own r) c cs h))
+
+relvar_fits : (sizes : List ℕ) (before rest : Entries) (own : Name) (r : PlainRelvar) → IsRelvar sizes before own r
+    → AreFitting ((before ++ (own, r) ∷ []) ++ rest) r (constraints_of r)
+relvar_fits sizes before rest own (base value constraints) h = each_fits before rest own (base value constraints) constraints h.1
+relvar_fits sizes before rest own (view t history) h = tt
+
+fit_after : (sizes : List ℕ) (before es all : Entries) → all ≡ before ++ es → AreRelvars sizes before es → AllFit all es
+fit_after sizes before [] all e h = tt
+fit_after sizes before (r ∷ es) all e h =
+    let is : all ≡ (before ++ (r.0, r.1) ∷ []) ++ es = e ∙ sym (in_turn before (r ∷ []) es) in (
+      subst (λ (z : Entries). AreFitting z r.1 (constraints_of r.1)) (sym is) (relvar_fits sizes before es r.0 r.1 h.0),
+      fit_after sizes (before ++ r ∷ []) es all is h.1,
+    )
+
+-- in a well made state each constraint fits
+pub all_fit : (s : State) → IsWellMade s → AllFit s.relvars s.relvars
+all_fit s made = fit_after (sizes_of s.ordinals) [] s.relvars s.relvars refl made.relvars
+
+-- ---- a name removed
+
+module _ (name : Name) where
+  abbrev pub left : Entries → Entries
+  left es = filter (λ r. not (bytes_eq r.0 name)) es
+
+  gone : (es : Entries) → relvar_named (left es) name ≡ None
+  gone [] = refl
+  gone (e ∷ es) = by (bytes_eq e.0 name) refl (gone es)
+    where
+      by : (b : Bool) → bytes_eq e.0 name ≡ b → relvar_named (left es) name ≡ None → relvar_named (cond (not (bytes_eq e.0 name)) (e ∷ left es) (left es)) name ≡ None
+      by true q ih = ap (λ (t : Bool). relvar_named (cond (not t) (e ∷ left es) (left es)) name) q ∙ ih
+      by false q ih =
+          ap (λ (t : Bool). relvar_named (cond (not t) (e ∷ left es) (left es)) name) q
+          ∙ (ap (λ (t : Bool). cond t (Some e.1) (relvar_named (left es) name)) q ∙ ih)
+
+  still : (es : Entries) (n : Name) → bytes_eq n name ≡ false → relvar_named (left es) n ≡ relvar_named es n
+  still [] n d = refl
+  still (e ∷ es) n d = by (bytes_eq e.0 name) refl (still es n d)
+    where
+      by : (b : Bool) → bytes_eq e.0 name ≡ b → relvar_named (left es) n ≡ relvar_named es n
+          → relvar_named (cond (not (bytes_eq e.0 name)) (e ∷ left es) (left es)) n ≡ cond (bytes_eq e.0 n) (Some e.1) (relvar_named es n)
+      by true q ih =
+          let other : bytes_eq e.0 n ≡ false = ap (λ (z : Name). bytes_eq z n) (same_name e.0 name q) ∙ turned n name d in
+          ap (λ (t : Bool). relvar_named (cond (not t) (e ∷ left es) (left es)) n) q
+          ∙ (ih ∙ sym (ap (λ (t : Bool). cond t (Some e.1) (relvar_named es n)) other))
+      by false q ih =
+          ap (λ (t : Bool). relvar_named (cond (not t) (e ∷ left es) (left es)) n) q
+          ∙ ap (λ (z : Option PlainRelvar). cond (bytes_eq e.0 n) (Some e.1) z) ih
+
+  base_stays : (es : Entries) (n : Name) → IsBase (relvar_named (left es) n) → relvar_named (left es) n ≡ relvar_named es n
+  base_stays es n h = by (bytes_eq n name) refl
+    where
+      by : (b : Bool) → bytes_eq n name ≡ b → relvar_named (left es) n ≡ relvar_named es n
+      by true q = absurd (subst IsBase (ap (relvar_named (left es)) (same_name n name q) ∙ gone es) h)
+      by false q = still es n q
+
+  same_at : (all : Entries) (n : Option Name) → NamesBase (left all) n → rows_or_none (value_at (left all) n) ≡ rows_or_none (value_at all n)
+  same_at all None h = refl
+  same_at all (Some n) h = ap (λ (o : Option PlainRelvar). rows_or_none (value_if o)) (base_stays all n h)
+
+  same_each : (all : Entries) (r : PlainRelvar) (cs : List Constraint) → AreFitting (left all) r cs → NameTheSame (left all) all cs
+  same_each all r [] h = tt
+  same_each all r (c ∷ cs) h = (same_at all (names_relvar c) h.0.0, same_each all r cs h.1)
+
+  same_in : (all : Entries) (own : Name) (r : PlainRelvar) → AreFitting (left all) r (constraints_of r) → first_in (left all) own r ≡ first_in all own r
+  same_in all own (base value constraints) h = same_of (left all) all own value.rows 1 constraints (same_each all (base value constraints) constraints h)
+  same_in all own (view t history) h = refl
+
+  none_left : (all es : Entries) → AllFit (left all) (left es) → first_among all es ≡ None → first_among (left all) (left es) ≡ None
+  none_left all [] fit none = refl
+  none_left all (e ∷ es) fit none =
+      let parts = neither (first_in all e.0 e.1) (first_among all es) none in
+      by (bytes_eq e.0 name) (λ f. none_left all es f parts.1) parts.0 fit
+    where
+      by : (b : Bool) → (AllFit (left all) (left es) → first_among (left all) (left es) ≡ None) → first_in all e.0 e.1 ≡ None
+          → AllFit (left all) (cond (not b) (e ∷ left es) (left es)) → first_among (left all) (cond (not b) (e ∷ left es) (left es)) ≡ None
+      by true ih own f = ih f
+      by false ih own f = none_of_two (first_in (left all) e.0 e.1) (first_among (left all) (left es)) (same_in all e.0 e.1 f.0 ∙ own) (ih f.1)
+
+  fewer_rows : (es : Entries) → rows_of_all (left es) ≤ rows_of_all es
+  fewer_rows [] = omega arith
+  fewer_rows (e ∷ es) = by (bytes_eq e.0 name) (fewer_rows es)
+    where
+      by : (b : Bool) → rows_of_all (left es) ≤ rows_of_all es → rows_of_all (cond (not b) (e ∷ left es) (left es)) ≤ count_of e + rows_of_all es
+      by true ih = omega (arith, ih)
+      by false ih = omega (arith, ih)
+
+  built_left : (es : Entries) → AreBuilt es → AreBuilt (left es)
+  built_left [] h = h
+  built_left (e ∷ es) h = by (bytes_eq e.0 name) h.0 (built_left es h.1)
+    where
+      by : (b : Bool) → IsBuiltRelvar e.1 → AreBuilt (left es) → AreBuilt (cond (not b) (e ∷ left es) (left es))
+      by true own ih = ih
+      by false own ih = (own, ih)
+
+pub removed_kept : (s now : State) (name : Name) → now ≡ without name s → IsKept s → IsWellMade (without name s) → IsTrue (are_plain (without name s).relvars) → IsKept now
+removed_kept s now name e kept made plain = subst IsKept (sym e) (record {
+  well_made = made;
+  plain = plain;
+  built = built_left name s.relvars kept.built;
+  holds = none_left name s.relvars s.relvars (all_fit (without name s) made) kept.holds;
+  few =
+      let fewer = fewer_rows name s.relvars in
+      let few = kept.few in
+      omega (arith, fewer, few);
+})

@@ -1,0 +1,328 @@
+-- Whether a state is well made, and which views are plain, does not turn on the rows of its relvars.
+--     bare, bare_all      relvars without their rows
+--     bare-keeps      a state stays well made where its relvars differ in their rows alone
+--     given-keeps, given_each-keeps      other values of the same headings are such a difference
+--     headings-keep, heading-keeps ..      the same is looked up in states that differ so
+--     plain-keeps, plain_in-given      and no view becomes plain or ceases to be
+--     nothing-well_made      the state of no relvars is well made
+use Rattle.std.proofs.Common.{◌≡◌, ℕ, Bool, true, false, List, [], ◌∷◌, ◌++◌, map, cond, refl, sym, ap, ap₂, ◌∙◌, subst, arith, true≢false, IsTrue, Option, Some, None, option_map}
+use Rattle.std.specs.List.{All, AllByRecursion, IsDistinct}
+use Rattle.std.specs.Str.{bytes_eq}
+use Rattle.std.proofs.lemmas.List.{map-append}
+use Rattle.point_core.specs.declared.fault.Place.{Place}
+use Rattle.value_core.specs.declared.constraint.Constraint.{Constraint}
+use Rattle.value_core.specs.declared.constraint.Constraint.TheVariants.{Key, Packed, WhenUnpacked, UKey, Foreign, History}
+use Rattle.value_core.specs.declared.constraint.HistoryRule.{HistoryRule}
+use Rattle.value_core.specs.Values.{Name, Heading, Relation}
+use Rattle.tree_core.specs.Relvars.{PlainRelvar, base, view, Entries, State, relvar_named, relvar_heading, heading_if, constraints_if}
+use Rattle.tree_core.specs.Trees.{Tree, named}
+use Rattle.algebra_core.specs.Histories.{joined_history, last_point, type_at, name_at}
+use Rattle.algebra_core.specs.Names.{each_after, given, given_relvar, with_value}
+use Rattle.algebra_core.specs.Plainness.{relvar_is_plain, plain_in}
+use Rattle.algebra_core.specs.Typing.{is_declared, IsTypedTree}
+use Rattle.algebra_core.specs.WellMade.{sizes_of, headings_of, all_names, IsBase, FitsHeadings, FitsNamed, IsConstraint, rule_among, IsOfRule, IsHistory, IsRelvar, AreRelvars, IsWellMade, IsGiven}
+use Rattle.algebra_core.proofs.MadeLemmas.{same_name, own_name}
+
+-- ---- relvars without their rows
+
+abbrev pub bare : PlainRelvar → PlainRelvar
+bare (base value constraints) = base (record { heading = value.heading; rows = [] }) constraints
+bare (view t history) = view t history
+
+abbrev pub bare_entry : Name × PlainRelvar → Name × PlainRelvar
+bare_entry r = (r.0, bare r.1)
+
+abbrev pub bare_all : Entries → Entries
+bare_all entries = map bare_entry entries
+
+-- ---- what is looked up in them
+
+pub heading-bare : (r : PlainRelvar) → relvar_heading (bare r) ≡ relvar_heading r
+heading-bare (base value constraints) = refl
+heading-bare (view t history) = refl
+
+pub headings-bare : (entries : Entries) → headings_of (bare_all entries) ≡ headings_of entries
+headings-bare [] = refl
+headings-bare (r ∷ rest) = λ i. (r.0, heading-bare r.1 i) ∷ headings-bare rest i
+
+pub names-bare : (entries : Entries) → map (λ r. r.0) (bare_all entries) ≡ map (λ r. r.0) entries
+names-bare [] = refl
+names-bare (r ∷ rest) = λ i. r.0 ∷ names-bare rest i
+
+bare-some : (b : Bool) (r : PlainRelvar) (o : Option PlainRelvar) → cond b (Some (bare r)) (option_map bare o) ≡ option_map bare (cond b (Some r) o)
+bare-some true r o = refl
+bare-some false r o = refl
+
+named-bare : (entries : Entries) (name : Name) → relvar_named (bare_all entries) name ≡ option_map bare (relvar_named entries name)
+named-bare [] name = refl
+named-bare (r ∷ rest) name =
+    ap (cond (bytes_eq r.0 name) (Some (bare r.1))) (named-bare rest name) ∙ bare-some (bytes_eq r.0 name) r.1 (relvar_named rest name)
+
+heading_if-bare : (o : Option PlainRelvar) → heading_if (option_map bare o) ≡ heading_if o
+heading_if-bare None = refl
+heading_if-bare (Some r) = heading-bare r
+
+constraints_if-bare : (o : Option PlainRelvar) → constraints_if (option_map bare o) ≡ constraints_if o
+constraints_if-bare None = refl
+constraints_if-bare (Some (base value constraints)) = refl
+constraints_if-bare (Some (view t history)) = refl
+
+IsBase-bare : (o : Option PlainRelvar) → IsBase (option_map bare o) ≡ IsBase o
+IsBase-bare None = refl
+IsBase-bare (Some (base value constraints)) = refl
+IsBase-bare (Some (view t history)) = refl
+
+pub heading_named-bare : (entries : Entries) (name : Name) → heading_if (relvar_named (bare_all entries) name) ≡ heading_if (relvar_named entries name)
+heading_named-bare entries name = ap heading_if (named-bare entries name) ∙ heading_if-bare (relvar_named entries name)
+
+constraints_named-bare : (entries : Entries) (name : Name) → constraints_if (relvar_named (bare_all entries) name) ≡ constraints_if (relvar_named entries name)
+constraints_named-bare entries name = ap constraints_if (named-bare entries name) ∙ constraints_if-bare (relvar_named entries name)
+
+is_base-bare : (entries : Entries) (name : Name) → IsBase (relvar_named (bare_all entries) name) ≡ IsBase (relvar_named entries name)
+is_base-bare entries name = ap IsBase (named-bare entries name) ∙ IsBase-bare (relvar_named entries name)
+
+-- ---- what holds of them
+
+FitsNamed-bare : (entries : Entries) (h : Heading) (name : Name) (c : Constraint) → FitsNamed (bare_all entries) h name c ≡ FitsNamed entries h name c
+FitsNamed-bare entries h name c = λ i. is_base-bare entries name i × FitsHeadings h (heading_named-bare entries name i) c
+
+IsConstraint-bare : (before : Entries) (own : Name) (r : PlainRelvar) (c : Constraint) → IsConstraint (bare_all before) own (bare r) c ≡ IsConstraint before own r c
+IsConstraint-bare before own r (Foreign acl k name there) =
+    ap₂ (λ (es : Entries) (h : Heading). FitsNamed es h name (Foreign acl k name there)) (sym (map-append bare_entry before ((own, r) ∷ []))) (heading-bare r)
+    ∙ FitsNamed-bare (before ++ (own, r) ∷ []) (relvar_heading r) name (Foreign acl k name there)
+IsConstraint-bare before own r (History rule) =
+    ap (λ (h : Heading). FitsNamed (bare_all before) h rule.since (History rule)) (heading-bare r) ∙ FitsNamed-bare before (relvar_heading r) rule.since (History rule)
+IsConstraint-bare before own r (Key k) = ap (λ (h : Heading). FitsHeadings h [] (Key k)) (heading-bare r)
+IsConstraint-bare before own r (Packed acl) = ap (λ (h : Heading). FitsHeadings h [] (Packed acl)) (heading-bare r)
+IsConstraint-bare before own r (WhenUnpacked acl k) = ap (λ (h : Heading). FitsHeadings h [] (WhenUnpacked acl k)) (heading-bare r)
+IsConstraint-bare before own r (UKey acl k) = ap (λ (h : Heading). FitsHeadings h [] (UKey acl k)) (heading-bare r)
+
+-- a view is what a rule makes it, of relvars of these headings
+abbrev IsMade : Name → Name → Tree → HistoryRule → Heading → Heading → Type 0
+IsMade s d t rule since during =
+    let over = type_at during rule.span_here in
+    (place : Place) × (rule.since ≡ s)
+    × (t ≡ joined_history place place over (name_at since rule.point_there) (name_at during rule.span_here) d since during (last_point place over) (named place since s))
+
+IsOfRule-bare : (before : Entries) (s d : Name) (t : Tree) (rule : Option HistoryRule) → IsOfRule (bare_all before) s d t rule ≡ IsOfRule before s d t rule
+IsOfRule-bare before s d t None = refl
+IsOfRule-bare before s d t (Some rule) = ap₂ (IsMade s d t rule) (heading_named-bare before s) (heading_named-bare before d)
+
+IsHistory-bare : (before : Entries) (t : Tree) (history : Option (Name × Name)) → IsHistory (bare_all before) t history ≡ IsHistory before t history
+IsHistory-bare before t None = refl
+IsHistory-bare before t (Some names) =
+    let rule = ap (λ c. IsOfRule (bare_all before) names.0 names.1 t (rule_among c)) (constraints_named-bare before names.1)
+    ∙ IsOfRule-bare before names.0 names.1 t (rule_among (constraints_if (relvar_named before names.1))) in
+    λ i. is_base-bare before names.0 i × is_base-bare before names.1 i × rule i
+
+IsRelvar-bare : (sizes : List ℕ) (before : Entries) (own : Name) (r : PlainRelvar) → IsRelvar sizes (bare_all before) own (bare r) ≡ IsRelvar sizes before own r
+IsRelvar-bare sizes before own (base value constraints) =
+    λ i. IsTrue (is_declared sizes value.heading) × All (λ c. IsConstraint-bare before own (base value constraints) c i) constraints
+IsRelvar-bare sizes before own (view t history) = λ i. IsTypedTree sizes (headings-bare before i) t × IsHistory-bare before t history i
+
+AreRelvars-bare : (sizes : List ℕ) (before entries : Entries) → AreRelvars sizes (bare_all before) (bare_all entries) ≡ AreRelvars sizes before entries
+AreRelvars-bare sizes before [] = refl
+AreRelvars-bare sizes before (r ∷ rest) =
+    let more = ap (λ (es : Entries). AreRelvars sizes es (bare_all rest)) (sym (map-append bare_entry before (r ∷ []))) ∙ AreRelvars-bare sizes (before ++ r ∷ []) rest in
+    λ i. IsRelvar-bare sizes before r.0 r.1 i × more i
+
+-- ---- states that differ in their rows alone
+
+-- the same is looked up in both
+pub headings-keep : (entries old : Entries) → bare_all entries ≡ bare_all old → headings_of entries ≡ headings_of old
+headings-keep entries old e = sym (headings-bare entries) ∙ (ap headings_of e ∙ headings-bare old)
+
+pub heading-keeps : (entries old : Entries) → bare_all entries ≡ bare_all old → (name : Name) → heading_if (relvar_named entries name) ≡ heading_if (relvar_named old name)
+heading-keeps entries old e name =
+    sym (heading_named-bare entries name) ∙ (ap (λ (es : Entries). heading_if (relvar_named es name)) e ∙ heading_named-bare old name)
+
+pub constraints-keep : (entries old : Entries) → bare_all entries ≡ bare_all old → (name : Name)
+    → constraints_if (relvar_named entries name) ≡ constraints_if (relvar_named old name)
+constraints-keep entries old e name =
+    sym (constraints_named-bare entries name) ∙ (ap (λ (es : Entries). constraints_if (relvar_named es name)) e ∙ constraints_named-bare old name)
+
+pub is_base-keeps : (entries old : Entries) → bare_all entries ≡ bare_all old → (name : Name) → IsBase (relvar_named old name) → IsBase (relvar_named entries name)
+is_base-keeps entries old e name h =
+    subst (λ (T : Type 0). T) (sym (is_base-bare old name) ∙ (ap (λ (es : Entries). IsBase (relvar_named es name)) (sym e) ∙ is_base-bare entries name)) h
+
+-- and it is well made as the other is
+pub bare-keeps : (s : State) (entries : Entries) → bare_all entries ≡ bare_all s.relvars → IsWellMade s → IsWellMade (record s { relvars = entries })
+bare-keeps s entries e h =
+    let names = sym (names-bare s.relvars) ∙ (ap (map (λ r. r.0)) (sym e) ∙ names-bare entries) in
+    let same = sym (AreRelvars-bare (sizes_of s.ordinals) [] s.relvars) ∙ (ap (AreRelvars (sizes_of s.ordinals) []) (sym e) ∙ AreRelvars-bare (sizes_of s.ordinals) [] entries) in
+    record {
+      few = h.few;
+      ordinals = h.ordinals;
+      different = subst (λ (ns : List Name). IsDistinct bytes_eq (map (λ o. o.name) s.ordinals ++ ns)) names h.different;
+      relvars = subst (λ (T : Type 0). T) same h.relvars;
+    }
+
+-- ---- another value of a base relvar
+
+-- none of the entries has the name
+abbrev IsUnnamed : Name → Entries → Type 0
+IsUnnamed name [] = Unit {0}
+IsUnnamed name (r ∷ rest) = (bytes_eq r.0 name ≡ false) × IsUnnamed name rest
+
+unnamed-behind : (name own : Name) (rest : Entries) → bytes_eq own name ≡ true → AllByRecursion (λ n. bytes_eq own n ≡ false) (map (λ r. r.0) rest) → IsUnnamed name rest
+unnamed-behind name own [] e h = tt
+unnamed-behind name own (r ∷ rest) e h = (
+  apart (bytes_eq r.0 name) refl,
+  unnamed-behind name own rest e h.1,
+)
+  where
+    apart : (b : Bool) → bytes_eq r.0 name ≡ b → bytes_eq r.0 name ≡ false
+    apart true k =
+        let one : own ≡ r.0 = same_name own name e ∙ sym (same_name r.0 name k) in
+        absurd (true≢false (sym (own_name own) ∙ (ap (bytes_eq own) one ∙ h.0)))
+    apart false k = k
+
+given-unnamed : (name : Name) (value : Relation) (entries : Entries) → IsUnnamed name entries → given (Some name) (Some value) entries ≡ entries
+given-unnamed name value [] h = refl
+given-unnamed name value (r ∷ rest) h =
+    ap₂ (λ (x : PlainRelvar) (es : Entries). (r.0, x) ∷ es) (ap (λ b. cond b (with_value value r.1) r.1) h.0) (given-unnamed name value rest h.1)
+
+pub bare-with_value : (value : Relation) (r : PlainRelvar) → value.heading ≡ relvar_heading r → bare (with_value value r) ≡ bare r
+bare-with_value value (base old constraints) e = ap (λ (h : Heading). base (record { heading = h; rows = [] }) constraints) e
+bare-with_value value (view t history) e = refl
+
+given-first : (name : Name) (value : Relation) (r : Name × PlainRelvar) (rest : Entries) (b : Bool) → bytes_eq r.0 name ≡ b → (b ≡ true → IsUnnamed name rest)
+    → (value.heading ≡ heading_if (relvar_named rest name) → bare_all (given (Some name) (Some value) rest) ≡ bare_all rest)
+    → value.heading ≡ heading_if (relvar_named (r ∷ rest) name) → bare_all (given (Some name) (Some value) (r ∷ rest)) ≡ bare_all (r ∷ rest)
+given-first name value r rest true k new more e =
+    let same : value.heading ≡ relvar_heading r.1 = e ∙ ap (λ b. heading_if (cond b (Some r.1) (relvar_named rest name))) k in
+    let first : bare (given_relvar (Some name) (Some value) r.0 r.1) ≡ bare r.1 = ap (λ b. bare (cond b (with_value value r.1) r.1)) k ∙ bare-with_value value r.1 same in
+    ap₂ (λ (x : PlainRelvar) (es : Entries). (r.0, x) ∷ es) first (ap bare_all (given-unnamed name value rest (new refl)))
+given-first name value r rest false k new more e =
+    let same : value.heading ≡ heading_if (relvar_named rest name) = e ∙ ap (λ b. heading_if (cond b (Some r.1) (relvar_named rest name))) k in
+    let first : bare (given_relvar (Some name) (Some value) r.0 r.1) ≡ bare r.1 = ap (λ b. bare (cond b (with_value value r.1) r.1)) k in
+    ap₂ (λ (x : PlainRelvar) (es : Entries). (r.0, x) ∷ es) first (more same)
+
+pub given-bare : (name : Name) (value : Relation) (entries : Entries) → IsDistinct bytes_eq (map (λ r. r.0) entries) → value.heading ≡ heading_if (relvar_named entries name)
+    → bare_all (given (Some name) (Some value) entries) ≡ bare_all entries
+unfolding IsDistinct
+given-bare name value [] d e = refl
+given-bare name value (r ∷ rest) d e =
+    given-first name value r rest (bytes_eq r.0 name) refl (λ k. unnamed-behind name r.0 rest k d.0) (given-bare name value rest d.1) e
+
+names-behind : (xs ys : List Name) → IsDistinct bytes_eq (xs ++ ys) → IsDistinct bytes_eq ys
+unfolding IsDistinct
+names-behind [] ys d = d
+names-behind (x ∷ xs) ys d = names-behind xs ys d.1
+
+-- another value, where it has the relvar's heading
+pub given-same : (s : State) (name : Name) (value : Relation) → IsWellMade s → value.heading ≡ heading_if (relvar_named s.relvars name)
+    → bare_all (given (Some name) (Some value) s.relvars) ≡ bare_all s.relvars
+given-same s name value h e = given-bare name value s.relvars (names-behind (map (λ o. o.name) s.ordinals) (map (λ r. r.0) s.relvars) h.different) e
+
+-- a state with another value of a relvar, of its heading, is well made
+pub given-keeps : (s : State) (name : Name) (value : Relation) → IsWellMade s → value.heading ≡ heading_if (relvar_named s.relvars name)
+    → IsWellMade (record s { relvars = given (Some name) (Some value) s.relvars })
+given-keeps s name value h e = bare-keeps s (given (Some name) (Some value) s.relvars) (given-same s name value h e) h
+
+given-nothing : (with : Option Name) (entries : Entries) → given with None entries ≡ entries
+given-nothing with [] = refl
+given-nothing (Some name) (r ∷ rest) = ap (λ (es : Entries). r ∷ es) (given-nothing (Some name) rest)
+given-nothing None (r ∷ rest) = ap (λ (es : Entries). r ∷ es) (given-nothing None rest)
+
+pub given_if-keeps : (s : State) (with : Option Name) (value : Option Relation) → IsWellMade s → IsGiven s.relvars with value
+    → IsWellMade (record s { relvars = given with value s.relvars })
+given_if-keeps s None None h g = subst (λ (es : Entries). IsWellMade (record s { relvars = es })) (sym (given-nothing None s.relvars)) h
+given_if-keeps s None (Some value) h g = absurd g
+given_if-keeps s (Some name) None h g = absurd g
+given_if-keeps s (Some name) (Some value) h g = given-keeps s name value h g.1
+
+-- what is given in one of two states that differ in their rows alone is given in the other
+pub is_given-keeps : (entries old : Entries) → bare_all entries ≡ bare_all old → (with : Option Name) (value : Option Relation) → IsGiven old with value → IsGiven entries with value
+is_given-keeps entries old e None None g = g
+is_given-keeps entries old e None (Some value) g = g
+is_given-keeps entries old e (Some name) None g = g
+is_given-keeps entries old e (Some name) (Some value) g = (is_base-keeps entries old e name g.0, g.1 ∙ sym (heading-keeps entries old e name))
+
+-- a relvar's own value is such a value
+pub own-given : (entries : Entries) (name : Name) (value : Relation) (constraints : List Constraint) → relvar_named entries name ≡ Some (base value constraints)
+    → IsGiven entries (Some name) (Some value)
+own-given entries name value constraints e = (subst IsBase (sym e) tt, ap heading_if (sym e))
+
+-- ---- other values of several relvars, one after another
+
+abbrev pub given_each : List (Name × Relation) → Entries → Entries
+given_each [] entries = entries
+given_each (c ∷ changes) entries = given_each changes (given (Some c.0) (Some c.1) entries)
+
+-- each value has the heading of its relvar
+abbrev pub HaveHeadings : Entries → List (Name × Relation) → Type 0
+HaveHeadings entries [] = Unit {0}
+HaveHeadings entries (c ∷ changes) = (c.1.heading ≡ heading_if (relvar_named entries c.0)) × HaveHeadings entries changes
+
+headings-had : (entries old : Entries) (changes : List (Name × Relation)) → bare_all entries ≡ bare_all old → HaveHeadings old changes → HaveHeadings entries changes
+headings-had entries old [] e h = tt
+headings-had entries old (c ∷ changes) e h = (h.0 ∙ sym (heading-keeps entries old e c.0), headings-had entries old changes e h.1)
+
+pub given_each-same : (s : State) (changes : List (Name × Relation)) → IsWellMade s → HaveHeadings s.relvars changes
+    → bare_all (given_each changes s.relvars) ≡ bare_all s.relvars
+given_each-same s [] h g = refl
+given_each-same s (c ∷ changes) h g =
+    let next = given (Some c.0) (Some c.1) s.relvars in
+    let same = given-same s c.0 c.1 h g.0 in
+    given_each-same (record s { relvars = next }) changes (bare-keeps s next same h) (headings-had next s.relvars changes same g.1) ∙ same
+
+pub given_each-keeps : (s : State) (changes : List (Name × Relation)) → IsWellMade s → HaveHeadings s.relvars changes
+    → IsWellMade (record s { relvars = given_each changes s.relvars })
+given_each-keeps s changes h g = bare-keeps s (given_each changes s.relvars) (given_each-same s changes h g) h
+
+-- ---- which views are plain
+
+plain-bare : (known : List (Name × Bool)) (r : PlainRelvar) → relvar_is_plain known (bare r) ≡ relvar_is_plain known r
+plain-bare known (base value constraints) = refl
+plain-bare known (view t history) = refl
+
+plain_after-bare : (known : List (Name × Bool)) (entries : Entries) → each_after relvar_is_plain known (bare_all entries) ≡ each_after relvar_is_plain known entries
+plain_after-bare known [] = refl
+plain_after-bare known (r ∷ rest) =
+    ap (λ b. each_after relvar_is_plain (known ++ (r.0, b) ∷ []) (bare_all rest)) (plain-bare known r.1)
+    ∙ plain_after-bare (known ++ (r.0, relvar_is_plain known r.1) ∷ []) rest
+
+pub plain_in-bare : (entries : Entries) → plain_in (bare_all entries) ≡ plain_in entries
+plain_in-bare entries = plain_after-bare [] entries
+
+-- the same views are plain in states that differ in their rows alone
+pub plain-keeps : (entries old : Entries) → bare_all entries ≡ bare_all old → plain_in entries ≡ plain_in old
+plain-keeps entries old e = sym (plain_in-bare entries) ∙ (ap plain_in e ∙ plain_in-bare old)
+
+plain-with_value : (known : List (Name × Bool)) (value : Relation) (r : PlainRelvar) → relvar_is_plain known (with_value value r) ≡ relvar_is_plain known r
+plain-with_value known value (base old constraints) = refl
+plain-with_value known value (view t history) = refl
+
+plain-given_relvar : (known : List (Name × Bool)) (with : Option Name) (value : Option Relation) (name : Name) (r : PlainRelvar)
+    → relvar_is_plain known (given_relvar with value name r) ≡ relvar_is_plain known r
+plain-given_relvar known None value name r = refl
+plain-given_relvar known (Some with) None name r = refl
+plain-given_relvar known (Some with) (Some value) name r =
+    elim (bytes_eq name with) as (λ b. relvar_is_plain known (cond b (with_value value r) r) ≡ relvar_is_plain known r) [
+      | true ↦ plain-with_value known value r
+      | false ↦ refl
+    ]
+
+plain_after-given : (known : List (Name × Bool)) (with : Option Name) (value : Option Relation) (entries : Entries)
+    → each_after relvar_is_plain known (given with value entries) ≡ each_after relvar_is_plain known entries
+plain_after-given known with value [] = refl
+plain_after-given known with value (r ∷ rest) =
+    ap (λ b. each_after relvar_is_plain (known ++ (r.0, b) ∷ []) (given with value rest)) (plain-given_relvar known with value r.0 r.1)
+    ∙ plain_after-given (known ++ (r.0, relvar_is_plain known r.1) ∷ []) with value rest
+
+-- given values change no view
+pub plain_in-given : (with : Option Name) (value : Option Relation) (entries : Entries) → plain_in (given with value entries) ≡ plain_in entries
+plain_in-given with value entries = plain_after-given [] with value entries
+
+-- ---- the state of nothing
+
+abbrev pub nothing : State
+nothing = record { ordinals = []; relvars = [] }
+
+nothing-differs : IsDistinct bytes_eq (all_names nothing)
+unfolding IsDistinct
+nothing-differs = tt
+
+pub nothing-well_made : IsWellMade nothing
+nothing-well_made = record { few = omega arith; ordinals = λ k d l. absurd (omega arith); different = nothing-differs; relvars = tt }

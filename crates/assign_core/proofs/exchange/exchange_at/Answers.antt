@@ -1,0 +1,17 @@
+use Rattle.std.proofs.Common.{Option, map, sym, ap, ◌∙◌}
+use Rattle.value_core.specs.Values.{Relation}
+use Rattle.tree_core.specs.Relvars.{read_entry}
+use Rattle.assign_core.specs.Changes.{changed_at}
+use Rattle.assign_core.proofs.ExchangeLemmas.{set_place, nothing_at}
+use Rattle.assign_core.proofs.exchange.exchange_at.Goals as goal
+
+pub returns-in-Some-clause-list : goal.returns-in-Some-clause-list
+returns-in-Some-clause-list c =
+    let es = c.args.relvars.now.list.entries in
+    set_place es c.args.at c.put.new.relvar c.in-Some.value c.pair_mut-relvar.result.0.now c.pair_mut-relvar.result.1.now c.pair_mut-relvar.ensures.value c.put.ensures
+    ∙ ap (λ (o : Option Relation). changed_at c.args.at o (map read_entry es)) (sym c.in-Some.is)
+
+pub returns-in-None-clause-list : goal.returns-in-None-clause-list
+returns-in-None-clause-list c =
+    let es = map read_entry c.args.relvars.now.list.entries in
+    nothing_at es c.args.at ∙ ap (λ (o : Option Relation). changed_at c.args.at o es) (sym c.in-None.is)

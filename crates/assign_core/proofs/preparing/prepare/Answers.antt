@@ -1,0 +1,53 @@
+use Rattle.std.proofs.Common.{◌≡◌, length, map, sym, subst, ◌∙◌, Ok}
+use Rattle.std.proofs.lemmas.Result.{err_from_is_err_and}
+use Rattle.tree_core.specs.Items.{read_assignment}
+use Rattle.tree_core.specs.Relvars.{read_entry, read_relvars}
+use Rattle.assign_core.specs.Assignments.{kept_or_refused, IsRefusedFor}
+use Rattle.assign_core.specs.Changes.{Changes, AreChanges, changed}
+use Rattle.assign_core.specs.Checks.{AllChecked}
+use Rattle.assign_core.proofs.AssignedLemmas.{from_none, stopped, not_admitted, admitted, kept_checked}
+use Rattle.assign_core.proofs.ChangeLemmas.{none_are}
+use Rattle.assign_core.proofs.preparing.prepare.Goals as goal
+
+pub evaluate-requires-clause-changes : goal.evaluate-requires-clause-changes
+evaluate-requires-clause-changes g c =
+    let raw = c.args.relvars.now.list.entries in
+    subst (λ (cs : Changes). AreChanges cs (map read_entry raw)) (sym c.in_ok-changes.ensures) (none_are raw)
+
+pub returns-in_err-evaluate-clause-refused : goal.returns-in_err-evaluate-clause-refused
+returns-in_err-evaluate-clause-refused g c =
+    let raw = c.args.relvars.now.list.entries in
+    let es = map read_entry raw in
+    let list = map read_assignment c.args.list.now in
+    let none = c.in_ok-changes.changes.items in
+    let p = err_from_is_err_and c.from_residual-in_err-evaluate.result c.from_residual-in_err-evaluate.ensures.1 in
+    rw (p.1, p.2) (stopped es (changed none es) (changed c.evaluate.new.changes.items es) list c.in_err-evaluate.field-0.0
+    (from_none es none (length raw) list c.in_ok-changes.ensures) c.in_err-evaluate.ensures.value)
+
+pub admit-requires-clause-checked : goal.admit-requires-clause-checked
+admit-requires-clause-checked g c =
+    let es = map read_entry c.args.relvars.now.list.entries in
+    subst (λ (cs : Changes). AllChecked (changed cs es) (changed cs es)) (sym c.as_slice.ensures.value)
+    (kept_checked (read_relvars c.args.relvars.now) c.evaluate.new.changes.items c.requires.kept c.evaluate.ensures.changes)
+
+pub returns-in_err-admit-clause-refused : goal.returns-in_err-admit-clause-refused
+returns-in_err-admit-clause-refused g c =
+    let raw = c.args.relvars.now.list.entries in
+    let es = map read_entry raw in
+    let list = map read_assignment c.args.list.now in
+    let cs = c.evaluate.new.changes.items in
+    let meant = sym (from_none es c.in_ok-changes.changes.items (length raw) list c.in_ok-changes.ensures) ∙ c.in_ok-evaluate.ensures.value in
+    let refuse = c.in_err-admit.field-0.0 in
+    let told = subst (λ (z : Changes). IsRefusedFor refuse (kept_or_refused (changed z es))) c.as_slice.ensures.value c.in_err-admit.ensures.admitted in
+    let p = err_from_is_err_and c.from_residual-in_err-admit.result c.from_residual-in_err-admit.ensures.1 in
+    rw (p.1, p.2) (not_admitted es (changed cs es) list refuse meant told)
+
+pub returns-clause-ready : goal.returns-clause-ready
+returns-clause-ready g c =
+    let raw = c.args.relvars.now.list.entries in
+    let es = map read_entry raw in
+    let list = map read_assignment c.args.list.now in
+    let cs = c.evaluate.new.changes.items in
+    let meant = sym (from_none es c.in_ok-changes.changes.items (length raw) list c.in_ok-changes.ensures) ∙ c.in_ok-evaluate.ensures.value in
+    let told = subst (λ (z : Changes). kept_or_refused (changed z es) ≡ Ok (changed z es)) c.as_slice.ensures.value c.in_ok-admit.ensures.admitted in
+    admitted es (changed cs es) list meant told

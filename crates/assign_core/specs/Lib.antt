@@ -1,0 +1,6 @@
+pub mod Assignments
+pub mod Breaches
+pub mod Changes
+pub mod Checks
+pub mod Databases
+pub mod Parts

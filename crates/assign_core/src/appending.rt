@@ -1,0 +1,90 @@
+// What declarations append.
+ghost use Rattle.std.specs.Prelude.{◌≡◌, ◌∷◌, ◌++◌, [], map, OnOk, OnErr, IfOk};
+ghost use Rattle.std.specs.List.{IsDistinct};
+ghost use Rattle.std.specs.Str.{bytes_eq};
+ghost use Rattle.indexmap.specs.IndexMap.{keys};
+ghost use Rattle.tree_core.specs.Relvars.{read_relvars};
+ghost use Rattle.algebra_core.specs.Declarations.{read_declaration, with_declaration};
+ghost use Rattle.assign_core.specs.Databases.{declared};
+ghost use Rattle.assign_core.specs.Parts.{names_in, Begins};
+
+use point_core::Memory;
+use std::alloc::Global;
+use tree_core::{Declaration, Relvar, Relvars};
+use value_core::{Heading, Name, OrdinalNames, Relation, RowsRefuse};
+
+/// Appends what is declared, in the order of the list. For want of memory, what was there stays in front.
+pub(crate) fn append_all(
+    alloc: Global,
+    relvars: &mut Relvars,
+    declarations: Vec<Declaration>,
+) -> Result<(), Memory>
+    requires { IsDistinct bytes_eq (names_in (declared (read_relvars relvars.old) (map read_declaration declarations.items)).relvars) }
+    ensures ok { OnOk result (read_relvars relvars.new ≡ declared (read_relvars relvars.old) (map read_declaration declarations.items)) }
+    ensures err { OnErr result (Begins relvars.old relvars.new) }
+{
+    for declaration in declarations {
+        append(alloc, relvars, declaration)?;
+    }
+    Ok(())
+}
+
+// Appends what is declared.
+fn append(alloc: Global, relvars: &mut Relvars, declaration: Declaration) -> Result<(), Memory>
+    requires { IsDistinct bytes_eq (names_in (with_declaration (read_relvars relvars.old) (read_declaration declaration)).relvars) }
+    ensures ok { OnOk result (read_relvars relvars.new ≡ with_declaration (read_relvars relvars.old) (read_declaration declaration)) }
+    ensures begins { Begins relvars.old relvars.new }
+{
+    match declaration {
+        Declaration::Ordinal(name, values) => append_type(relvars, OrdinalNames { name, values }),
+        Declaration::Base(name, heading, constraints) => {
+            let value = no_rows(alloc, heading)?;
+            append_relvar(relvars, name, Relvar::Base { value, constraints })
+        }
+        Declaration::View(name, tree) => {
+            let history = None;
+            append_relvar(relvars, name, Relvar::View { tree, history })
+        }
+        Declaration::HistoryView {
+            view,
+            tree,
+            since,
+            during,
+        } => {
+            let history = Some((since, during));
+            append_relvar(relvars, view, Relvar::View { tree, history })
+        }
+    }
+}
+
+// Appends an ordinal type.
+fn append_type(relvars: &mut Relvars, ordinal: OrdinalNames) -> Result<(), Memory>
+    ensures ok { OnOk result (relvars.new.ordinals ≡ relvars.old.ordinals ++ ordinal ∷ []) }
+    ensures err { OnErr result (relvars.new.ordinals ≡ relvars.old.ordinals) }
+    ensures list { relvars.new.list ≡ relvars.old.list }
+{
+    relvars.ordinals.list.push(ordinal)?;
+    Ok(())
+}
+
+// Appends a relvar or view of a new name.
+fn append_relvar(relvars: &mut Relvars, name: Name, relvar: Relvar) -> Result<(), Memory>
+    requires { IsDistinct bytes_eq (keys relvars.old.list ++ name ∷ []) }
+    ensures ok { OnOk result (relvars.new.list.entries ≡ relvars.old.list.entries ++ (name, relvar) ∷ []) }
+    ensures err { OnErr result (relvars.new.list.entries ≡ relvars.old.list.entries) }
+    ensures ordinals { relvars.new.ordinals ≡ relvars.old.ordinals }
+{
+    drop(relvars.list.insert(name, relvar)?);
+    Ok(())
+}
+
+// The relation without rows.
+fn no_rows(alloc: Global, heading: Heading) -> Result<Relation, Memory>
+    ensures { IfOk result (λ r. r ≡ record { heading = heading; rows = [] }) }
+{
+    match Relation::from_rows(alloc, heading, Vec::new(alloc)) {
+        Ok(relation) => Ok(relation),
+        Err(RowsRefuse::Memory) => Err(Memory),
+        Err(RowsRefuse::Heading) | Err(RowsRefuse::TooMany) => unreachable!(),
+    }
+}

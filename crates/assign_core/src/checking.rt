@@ -1,0 +1,163 @@
+// Constraints after a change.
+ghost use Rattle.std.specs.Prelude.{◌≡◌, ◌+◌, ◌<◌, ◌^◌, length, option_map, slice_index_or, Some, Err, IfOk};
+ghost use Rattle.std.specs.List.{All};
+ghost use Rattle.std.specs.Result.{result_err};
+ghost use Rattle.value_core.specs.declared.refuse.Refuse.TheVariants.{Broken};
+ghost use Rattle.value_core.specs.Values.{Name as PlainName};
+ghost use Rattle.tree_core.specs.Relvars.{read_relvars, read_relvar, PlainRelvar};
+ghost use Rattle.u_constraints.specs.Constraints.{broken, names_relvar};
+ghost use Rattle.assign_core.specs.Breaches.{first_broken, first_in, first_of, rows_named, value_at};
+ghost use Rattle.assign_core.specs.Changes.{AreChanges, Tells, changed_relvar};
+ghost use Rattle.assign_core.specs.Checks.{after, AllChecked, AreChecked, IsChecked};
+
+use crate::changes::{current, newer};
+use point_core::{Code, Memory, Steps};
+use std::alloc::Global;
+use std::sync::ledger::Ledger;
+use tree_core::{Relvar, Relvars};
+use u_constraints::holds;
+use value_core::{Constraint, Name, Refuse, Relation};
+
+/// The relvars, and the new values that stand ready for them.
+#[derive(Clone, Copy)]
+pub(crate) struct After<'a> {
+    pub relvars: &'a Relvars,
+    pub changes: &'a [Option<Relation>],
+}
+
+/// Tells the first broken constraint, by relvars in order of declaration and by number.
+pub(crate) fn check<L: Ledger>(
+    alloc: Global,
+    new: After<'_>,
+    steps: &mut Steps<L>,
+) -> Result<(), Refuse>
+    requires changes { AreChanges new.changes.now (read_relvars new.relvars.now).relvars }
+    requires checked { AllChecked (after new) (after new) }
+    ensures told { Tells result (first_broken (after new.entry)) }
+    ensures steps { steps.new ≡ steps.old }
+{
+    for at in 0..new.changes.len() {
+        check_at(alloc, new, at, steps)?;
+    }
+    Ok(())
+}
+
+// Tells the first broken constraint of the relvar at a place.
+fn check_at<L: Ledger>(
+    alloc: Global,
+    new: After<'_>,
+    at: usize,
+    steps: &mut Steps<L>,
+) -> Result<(), Refuse>
+    requires changes { AreChanges new.changes.now (read_relvars new.relvars.now).relvars }
+    requires within { at < length new.relvars.now.list.entries }
+    requires length { length new.changes.now ≡ length new.relvars.now.list.entries }
+    requires checked { (d : PlainName × PlainRelvar) → AreChecked (after new) (slice_index_or (after new) at d).1 }
+    ensures told { (d : PlainName × PlainRelvar) → Tells result (first_in (after new.entry) (slice_index_or (after new.entry) at d).0 (slice_index_or (after new.entry) at d).1) }
+    ensures steps { steps.new ≡ steps.old }
+{
+    match new.relvars.list.get_index(at) {
+        Some((name, relvar)) => check_relvar(alloc, new, name, &new.changes[at], relvar, steps),
+        None => unreachable!(),
+    }
+}
+
+// Tells the first broken constraint of a relvar with a new value, if there is one.
+fn check_relvar<L: Ledger>(
+    alloc: Global,
+    new: After<'_>,
+    name: &Name,
+    change: &Option<Relation>,
+    relvar: &Relvar,
+    steps: &mut Steps<L>,
+) -> Result<(), Refuse>
+    requires changes { AreChanges new.changes.now (read_relvars new.relvars.now).relvars }
+    requires length { length new.changes.now ≡ length new.relvars.now.list.entries }
+    requires checked { AreChecked (after new) (changed_relvar change.now (read_relvar relvar.now)) }
+    ensures told { Tells result (first_in (after new.entry) name.now (changed_relvar change.now (read_relvar relvar.now))) }
+    ensures steps { steps.new ≡ steps.old }
+{
+    match relvar {
+        Relvar::Base { value, constraints } => {
+            let of = newer(change, value);
+            check_list(alloc, new, name, of, constraints.list.as_slice(), steps)
+        }
+        Relvar::View {
+            tree: _,
+            history: _,
+        } => Ok(()),
+    }
+}
+
+// Tells the first broken one among constraints, numbered from 1.
+fn check_list<L: Ledger>(
+    alloc: Global,
+    new: After<'_>,
+    name: &Name,
+    of: &Relation,
+    list: &[Constraint],
+    steps: &mut Steps<L>,
+) -> Result<(), Refuse>
+    requires changes { AreChanges new.changes.now (read_relvars new.relvars.now).relvars }
+    requires length { length new.changes.now ≡ length new.relvars.now.list.entries }
+    requires checked { All (IsChecked (after new) of.now.heading) list.now }
+    ensures told { Tells result (first_of (after new.entry) name.now of.now.rows 1 list.now) }
+    ensures steps { steps.new ≡ steps.old }
+{
+    for (at, constraint) in list.iter().enumerate() {
+        let answer = check_one(alloc, new, of, constraint, steps)?;
+        if let Err(code) = answer {
+            return Err(breach(alloc, code, name, at));
+        }
+    }
+    Ok(())
+}
+
+// Whether a constraint holds after the change.
+fn check_one<L: Ledger>(
+    alloc: Global,
+    new: After<'_>,
+    of: &Relation,
+    constraint: &Constraint,
+    steps: &mut Steps<L>,
+) -> Result<Result<(), Code>, Memory>
+    requires changes { AreChanges new.changes.now (read_relvars new.relvars.now).relvars }
+    requires length { length new.changes.now ≡ length new.relvars.now.list.entries }
+    requires checked { IsChecked (after new) of.now.heading constraint.now }
+    ensures answer { IfOk result (λ answer. result_err answer ≡ broken constraint.now of.now.rows (rows_named (after new.entry) constraint.now)) }
+    ensures steps { steps.new ≡ steps.old }
+{
+    let other = named(new, constraint);
+    holds(alloc, constraint, of, other, steps)
+}
+
+// The newest value of the relvar that a constraint names, if it names one.
+fn named<'a>(new: After<'a>, constraint: &Constraint) -> Option<&'a Relation>
+    requires changes { AreChanges new.changes.now (read_relvars new.relvars.now).relvars }
+    requires length { length new.changes.now ≡ length new.relvars.now.list.entries }
+    ensures { option_map (λ v. v.now) result ≡ value_at (after new.entry) (names_relvar constraint.now) }
+{
+    match constraint {
+        Constraint::Foreign(_, _, name, _) => current(new.relvars, new.changes, name),
+        Constraint::History(rule) => current(new.relvars, new.changes, &rule.since),
+        Constraint::Key(_)
+        | Constraint::Packed(_)
+        | Constraint::WhenUnpacked(_, _)
+        | Constraint::UKey(_, _) => None,
+    }
+}
+
+// What is refused where a constraint of the relvar is broken, by its index; or want of memory.
+fn breach(alloc: Global, code: Code, name: &Name, at: usize) -> Refuse
+    requires { at + 1 < 2 ^ 64 }
+    ensures { Tells (Err result) (Some (Broken code name.now (at + 1))) }
+{
+    match (name.copy(alloc), u32::try_from(at + 1)) {
+        (Ok(relvar), Ok(number)) => Refuse::Broken {
+            code,
+            relvar,
+            number,
+        },
+        _ => Refuse::Memory,
+    }
+}

@@ -1,0 +1,126 @@
+// The database.
+ghost use Rattle.std.specs.Prelude.{◌≡◌, map, take, OnOk, OnErr, IsOk, IsTrue};
+ghost use Rattle.std.specs.List.{All};
+ghost use Rattle.tree_core.specs.Items.{read_assignment};
+ghost use Rattle.tree_core.specs.Relvars.{read_relvars};
+ghost use Rattle.algebra_core.specs.Declarations.{read_declaration, without};
+ghost use Rattle.algebra_core.specs.WellMade.{IsWellMade};
+ghost use Rattle.algebra_core.specs.Updates.{IsTypedAssignment};
+ghost use Rattle.assign_core.specs.Assignments.{IsAssigned, IsPlainAssignment};
+ghost use Rattle.assign_core.specs.Databases.{no_relvars, declared, CanBecome, IsKept, are_plain};
+
+use crate::appending::append_all;
+use crate::exchange::exchange_all;
+use crate::preparing::prepare;
+use indexmap::IndexMap;
+use point_core::{Memory, Steps};
+use std::alloc::Global;
+use std::marker::Model;
+use std::sync::ledger::Ledger;
+use tree_core::{Assignment, Declaration, Relvars};
+use value_core::{Name, OrdinalTypes, Refuse};
+
+/// The ordinal types, relvars and views. They are well made, each constraint holds, and the base relvars have at most 200,000
+/// rows together.
+///
+/// For now no view has PACK, UNPACK or USING, and each constraint is a KEY, or a FOREIGN KEY without USING.
+#[derive(Drop)]
+pub struct Database {
+    alloc: Global,
+    relvars: Relvars,
+}
+
+impl Model for Database {
+    ghost use Rattle.tree_core.specs.Relvars.{read_relvars};
+    ghost use Rattle.tree_core.specs.contracts.relvar.Relvars as kept;
+    ghost use Rattle.tree_core.specs.declared.relvar.Relvars.{Relvars};
+    ghost use Rattle.assign_core.specs.Databases.{IsKept};
+
+    ghost Value = { Relvars };
+
+    ghost coded = { kept.the_row.coded };
+
+    ghost view = { λ d. d.relvars };
+
+    ghost invariant = { λ d. IsKept (read_relvars d.relvars) };
+}
+
+impl Database {
+    /// No relvars, views and types. It takes no memory.
+    pub fn new(alloc: Global) -> Database
+        ensures { read_relvars result ≡ no_relvars }
+    {
+        Database {
+            alloc,
+            relvars: Relvars {
+                list: IndexMap::new(alloc),
+                ordinals: OrdinalTypes {
+                    list: Vec::new(alloc),
+                },
+            },
+        }
+    }
+
+    /// The relvars and views, and the ordinal types.
+    pub fn relvars(&self) -> &Relvars
+        ensures state { read_relvars result.now ≡ read_relvars self.now }
+        ensures kept { IsKept (read_relvars self.now) }
+    {
+        &self.relvars
+    }
+
+    /// Declares all that the list says, or nothing for want of memory.
+    pub fn declare(&mut self, list: Vec<Declaration>) -> Result<(), Memory>
+        requires { CanBecome (declared (read_relvars self.old) (map read_declaration list.items)) }
+        ensures ok { OnOk result (read_relvars self.new ≡ declared (read_relvars self.old) (map read_declaration list.items)) }
+        ensures err { OnErr result (read_relvars self.new ≡ read_relvars self.old) }
+    {
+        let before = (self.relvars.list.len(), self.relvars.ordinals.list.len());
+        match append_all(self.alloc, &mut self.relvars, list) {
+            Ok(()) => Ok(()),
+            Err(memory) => {
+                cut(&mut self.relvars, before);
+                Err(memory)
+            }
+        }
+    }
+
+    /// Gives each target the value of its source, all together, or refuses and changes nothing.
+    ///
+    /// The sources are evaluated in order. Each sees the relvars as they are, its own target alone with the value of the latest
+    /// earlier assignment to it. The first fault counts; then more than 200,000 rows; then the first broken constraint.
+    pub fn assign<L: Ledger>(
+        &mut self,
+        list: &[Assignment],
+        steps: &mut Steps<L>,
+    ) -> Result<(), Refuse>
+        requires typed { All (IsTypedAssignment (read_relvars self.old)) (map read_assignment list.now) }
+        requires plain { All (IsPlainAssignment (read_relvars self.old)) (map read_assignment list.now) }
+        ensures assigned { IsAssigned result (read_relvars self.old) (read_relvars self.new) (map read_assignment list.now) }
+        ensures steps { steps.new ≡ steps.old }
+    {
+        let changes = prepare(self.alloc, list, &self.relvars, steps)?;
+        exchange_all(&mut self.relvars, changes);
+        Ok(())
+    }
+
+    /// Removes the relvar or view of this name. The others keep their order.
+    pub fn remove(&mut self, name: &Name) -> Result<(), Memory>
+        requires well_made { IsWellMade (without name.now (read_relvars self.old)) }
+        requires plain { IsTrue (are_plain (without name.now (read_relvars self.old)).relvars) }
+        ensures state { read_relvars self.new ≡ without name.now (read_relvars self.old) }
+        ensures ok { IsOk result }
+    {
+        drop(self.relvars.list.shift_remove(name));
+        Ok(())
+    }
+}
+
+// Cuts the relvars and types down to so many.
+fn cut(relvars: &mut Relvars, to: (usize, usize))
+    ensures list { relvars.new.list.entries ≡ take to.0 relvars.old.list.entries }
+    ensures ordinals { relvars.new.ordinals ≡ take to.1 relvars.old.ordinals }
+{
+    relvars.list.truncate(to.0);
+    relvars.ordinals.list.truncate(to.1);
+}

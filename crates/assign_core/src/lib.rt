@@ -1,0 +1,13 @@
+//! The database: relvars that keep their constraints, changed all together or not at all.
+#![tactic(auto)]
+
+mod appending;
+mod changes;
+mod checking;
+mod counting;
+mod database;
+mod exchange;
+mod preparing;
+mod sources;
+
+pub use database::Database;

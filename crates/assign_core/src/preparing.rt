@@ -1,0 +1,59 @@
+// What stands ready before anything changes.
+ghost use Rattle.std.specs.Prelude.{◌≡◌, map, Ok, IfOk, IfErr};
+ghost use Rattle.std.specs.List.{All};
+ghost use Rattle.tree_core.specs.Items.{read_assignment};
+ghost use Rattle.tree_core.specs.Relvars.{read_relvars};
+ghost use Rattle.algebra_core.specs.Updates.{IsTypedAssignment};
+ghost use Rattle.assign_core.specs.Assignments.{after_assignments, IsPlainAssignment, IsRefusedFor, IsAdmitted};
+ghost use Rattle.assign_core.specs.Changes.{AreChanges, changed};
+ghost use Rattle.assign_core.specs.Checks.{AllChecked};
+ghost use Rattle.assign_core.specs.Databases.{IsKept};
+
+use crate::changes::none_yet;
+use crate::checking::{After, check};
+use crate::counting::are_few;
+use crate::sources::evaluate;
+use point_core::{Code, Steps};
+use std::alloc::Global;
+use std::sync::ledger::Ledger;
+use tree_core::{Assignment, Relvars};
+use value_core::{Refuse, Relation};
+
+/// The new values of all targets, or why the assignments are refused.
+pub(crate) fn prepare<L: Ledger>(
+    alloc: Global,
+    list: &[Assignment],
+    relvars: &Relvars,
+    steps: &mut Steps<L>,
+) -> Result<Vec<Option<Relation>>, Refuse>
+    requires kept { IsKept (read_relvars relvars.now) }
+    requires typed { All (λ a. IsTypedAssignment (read_relvars relvars.now) (read_assignment a)) list.now }
+    requires plain { All (λ a. IsPlainAssignment (read_relvars relvars.now) (read_assignment a)) list.now }
+    ensures changes { IfOk result (λ v. AreChanges v.items (read_relvars relvars.now).relvars) }
+    ensures ready { IfOk result (λ v. after_assignments (read_relvars relvars.now).relvars (map read_assignment list.now) ≡ Ok (changed v.items (read_relvars relvars.now).relvars)) }
+    ensures refused { IfErr result (λ refuse. IsRefusedFor refuse (after_assignments (read_relvars relvars.now).relvars (map read_assignment list.now))) }
+    ensures steps { steps.new ≡ steps.old }
+{
+    let mut changes = none_yet(alloc, relvars)?;
+    evaluate(alloc, list, relvars, &mut changes, steps)?;
+    admit(alloc, relvars, changes.as_slice(), steps)?;
+    Ok(changes)
+}
+
+// Refuses too many rows, and then a broken constraint.
+fn admit<L: Ledger>(
+    alloc: Global,
+    relvars: &Relvars,
+    changes: &[Option<Relation>],
+    steps: &mut Steps<L>,
+) -> Result<(), Refuse>
+    requires changes { AreChanges changes.now (read_relvars relvars.now).relvars }
+    requires checked { AllChecked (changed changes.now (read_relvars relvars.now).relvars) (changed changes.now (read_relvars relvars.now).relvars) }
+    ensures admitted { IsAdmitted result (changed changes.now (read_relvars relvars.now).relvars) }
+    ensures steps { steps.new ≡ steps.old }
+{
+    if !are_few(relvars, changes) {
+        return Err(Refuse::Plain(Code::E46));
+    }
+    check(alloc, After { relvars, changes }, steps)
+}

@@ -1,0 +1,105 @@
+// The values of sources.
+ghost use Rattle.std.specs.Prelude.{◌≡◌, ◌<◌, [], ◌∷◌, map, length};
+ghost use Rattle.std.specs.List.{All};
+ghost use Rattle.relation_core.specs.Answers.{Answers};
+ghost use Rattle.tree_core.specs.Items.{read_assignment};
+ghost use Rattle.tree_core.specs.Relvars.{read_relvars, PlainRelvar};
+ghost use Rattle.algebra_core.specs.Scopes.{IsFirstAt};
+ghost use Rattle.algebra_core.specs.Updates.{IsTypedAssignment};
+ghost use Rattle.algebra_core.specs.WellMade.{IsWellMade};
+ghost use Rattle.assign_core.specs.Assignments.{source_value, evaluated, IsPlainAssignment};
+ghost use Rattle.assign_core.specs.Changes.{AreChanges, changed, Gives};
+
+use crate::changes::current;
+use algebra_core::eval;
+use point_core::{Steps, Stop};
+use std::alloc::Global;
+use std::sync::ledger::Ledger;
+use tree_core::{Assignment, Relvars};
+use value_core::Relation;
+
+/// Evaluates the sources in order. Each sees the old relvars, its own target alone with its newest value.
+pub(crate) fn evaluate<L: Ledger>(
+    alloc: Global,
+    list: &[Assignment],
+    relvars: &Relvars,
+    changes: &mut Vec<Option<Relation>>,
+    steps: &mut Steps<L>,
+) -> Result<(), Stop>
+    requires well_made { IsWellMade (read_relvars relvars.now) }
+    requires typed { All (λ a. IsTypedAssignment (read_relvars relvars.now) (read_assignment a)) list.now }
+    requires plain { All (λ a. IsPlainAssignment (read_relvars relvars.now) (read_assignment a)) list.now }
+    requires changes { AreChanges changes.old.items (read_relvars relvars.now).relvars }
+    ensures changes { AreChanges changes.new.items (read_relvars relvars.now).relvars }
+    ensures value { Gives result (evaluated (read_relvars relvars.now).relvars (changed changes.old.items (read_relvars relvars.now).relvars) (map read_assignment list.now))
+        (changed changes.new.items (read_relvars relvars.now).relvars) }
+    ensures steps { steps.new ≡ steps.old }
+{
+    for assignment in list {
+        evaluate_one(alloc, assignment, relvars, changes, steps)?;
+    }
+    Ok(())
+}
+
+// Evaluates a source, whose value then stands ready for its target.
+fn evaluate_one<L: Ledger>(
+    alloc: Global,
+    assignment: &Assignment,
+    relvars: &Relvars,
+    changes: &mut Vec<Option<Relation>>,
+    steps: &mut Steps<L>,
+) -> Result<(), Stop>
+    requires well_made { IsWellMade (read_relvars relvars.now) }
+    requires typed { IsTypedAssignment (read_relvars relvars.now) (read_assignment assignment.now) }
+    requires plain { IsPlainAssignment (read_relvars relvars.now) (read_assignment assignment.now) }
+    requires changes { AreChanges changes.old.items (read_relvars relvars.now).relvars }
+    ensures changes { AreChanges changes.new.items (read_relvars relvars.now).relvars }
+    ensures value { Gives result (evaluated (read_relvars relvars.now).relvars (changed changes.old.items (read_relvars relvars.now).relvars) (read_assignment assignment.now ∷ []))
+        (changed changes.new.items (read_relvars relvars.now).relvars) }
+    ensures steps { steps.new ≡ steps.old }
+{
+    let value = source(alloc, assignment, relvars, changes.as_slice(), steps)?;
+    let at = place(relvars, assignment);
+    changes[at] = Some(value);
+    Ok(())
+}
+
+// The value of a source.
+fn source<L: Ledger>(
+    alloc: Global,
+    assignment: &Assignment,
+    relvars: &Relvars,
+    changes: &[Option<Relation>],
+    steps: &mut Steps<L>,
+) -> Result<Relation, Stop>
+    requires well_made { IsWellMade (read_relvars relvars.now) }
+    requires typed { IsTypedAssignment (read_relvars relvars.now) (read_assignment assignment.now) }
+    requires plain { IsPlainAssignment (read_relvars relvars.now) (read_assignment assignment.now) }
+    requires changes { AreChanges changes.now (read_relvars relvars.now).relvars }
+    ensures value { Answers result (source_value (read_relvars relvars.now).relvars (changed changes.now (read_relvars relvars.now).relvars) (read_assignment assignment.now)) }
+    ensures steps { steps.new ≡ steps.old }
+{
+    match current(relvars, changes, &assignment.target) {
+        Some(value) => eval(
+            alloc,
+            &assignment.tree,
+            relvars,
+            Some(&assignment.target),
+            Some(value),
+            steps,
+        ),
+        None => unreachable!(),
+    }
+}
+
+// The place of the target.
+fn place(relvars: &Relvars, assignment: &Assignment) -> usize
+    requires { IsTypedAssignment (read_relvars relvars.now) (read_assignment assignment.now) }
+    ensures within { result < length relvars.now.list.entries }
+    ensures first { (r : PlainRelvar) × IsFirstAt (read_relvars relvars.now).relvars assignment.now.target result r }
+{
+    match relvars.list.get_full(&assignment.target) {
+        Some((at, _, _)) => at,
+        None => unreachable!(),
+    }
+}
