@@ -147,7 +147,7 @@ module _ (types : List OrdinalNames) (ordinals : All IsOrdinalType types) (headi
       (IsRead (sizes_of types) heading (attributes_of_portion before) (w.bytes ∷ map element_name rest)) (parts_typed types heading next rest) (parts-sound next rest is.0) (λ m k. (
         k.0,
         k.1 ∙ (ap (λ (l : List ℕ). l ++ positions_of heading (map element_name rest)) is.1
-        ∙ append_assoc (attributes_of_portion before) (position_of heading w.bytes ∷ []) (positions_of heading (map element_name rest))),
+            ∙ append_assoc (attributes_of_portion before) (position_of heading w.bytes ∷ []) (positions_of heading (map element_name rest))),
         λ name i. elim i [ inl e ↦ is.2 name (inl e) | inr j ↦ k.2 name j ],
       )))
 
