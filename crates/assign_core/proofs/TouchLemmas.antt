@@ -1,16 +1,15 @@
 -- Constraints that a change cannot break.
-use Rattle.std.proofs.Common.{◌≡◌, ℕ, zero, suc, ◌<◌, Bool, true, false, cond, ◌||◌, List, [], ◌∷◌, map, length, get_or, refl, sym, ap, subst, ◌∙◌, arith, true≢false, Option, Some, None, option_map, is_some}
+use Rattle.std.proofs.Common.{◌≡◌, ℕ, zero, suc, ◌<◌, Bool, true, false, cond, ◌||◌, List, [], ◌∷◌, map, length, get_or, refl, sym, ap, ◌∙◌, arith, true≢false, Option, Some, None, option_map, is_some}
 use Rattle.std.specs.Prelude.{slice_index_or, slice_get}
 use Rattle.std.specs.List.{All}
 use Rattle.std.specs.Str.{bytes_eq}
 use Rattle.std.proofs.lemmas.List.Elements.{All-nil, All-cons}
 use Rattle.point_core.specs.declared.fault.Code.{Code}
 use Rattle.value_core.specs.declared.constraint.Constraint.{Constraint}
-use Rattle.value_core.specs.declared.refuse.Refuse.{Refuse}
 use Rattle.value_core.specs.declared.refuse.Refuse.TheVariants.{Broken}
 use Rattle.value_core.specs.Values.{Name, Row, Relation}
 use Rattle.tree_core.specs.declared.relvar.Relvar.{Relvar}
-use Rattle.tree_core.specs.Relvars.{PlainRelvar, base, view, Entries, relvar_named, read_entry, read_relvar}
+use Rattle.tree_core.specs.Relvars.{PlainRelvar, base, Entries, relvar_named, read_entry, read_relvar}
 use Rattle.algebra_core.specs.Scopes.{IsFirstAt}
 use Rattle.u_constraints.specs.Constraints.{broken, names_relvar, rows_or_none}
 use Rattle.assign_core.specs.declared.checking.After.{After}

@@ -1,6 +1,6 @@
-use Rattle.std.proofs.Common.{Option, map, sym, ap, ◌∙◌, is_some}
+use Rattle.std.proofs.Common.{map, sym, ap, ◌∙◌, is_some}
 use Rattle.std.specs.Str.{bytes_eq}
-use Rattle.value_core.specs.Values.{Name, Relation}
+use Rattle.value_core.specs.Values.{Name}
 use Rattle.tree_core.specs.declared.relvar.Relvar.{Relvar}
 use Rattle.tree_core.specs.Relvars.{read_entry, read_relvar}
 use Rattle.algebra_core.proofs.EvalLemmas.{found_at, none_passes}
