@@ -8,3 +8,4 @@ pub mod NameLemmas
 pub mod RemovedLemmas
 pub mod RowlessLemmas
 pub mod SourceLemmas
+pub mod TouchLemmas

@@ -1,15 +1,18 @@
 -- The relvars after a change, and what a check of their constraints asks.
 --     after      the relvars with the values that stand ready
+--     can_break      whether the change can break a constraint
 --     AllChecked      each constraint fits the headings that it is of, finds the relvar that it names, and is of a form that is checked
-use Rattle.std.specs.Prelude.{[], ◌∷◌, Option, Some, None}
+use Rattle.std.specs.Prelude.{◌≡◌, Bool, false, ◌||◌, List, [], ◌∷◌, Option, Some, None, is_some, if◌then◌else◌}
 use Rattle.std.specs.List.{All}
+use Rattle.std.specs.Str.{bytes_eq}
 use Rattle.value_core.specs.declared.constraint.Constraint.{Constraint}
-use Rattle.value_core.specs.Values.{Name, Heading}
+use Rattle.value_core.specs.Values.{Name, Heading, Row, Relation}
 use Rattle.tree_core.specs.Relvars.{PlainRelvar, base, view, Entries, relvar_named, heading_if, read_relvars}
 use Rattle.algebra_core.specs.WellMade.{IsBase, FitsHeadings}
-use Rattle.u_constraints.specs.Constraints.{names_relvar, IsBuilt}
+use Rattle.u_constraints.specs.Constraints.{broken, names_relvar, IsBuilt}
+use Rattle.assign_core.specs.Breaches.{rows_named}
 use Rattle.assign_core.specs.declared.checking.After.{After}
-use Rattle.assign_core.specs.Changes.{changed}
+use Rattle.assign_core.specs.Changes.{Changes, changed}
 
 abbrev pub after : After → Entries
 after a = changed a.changes.now (read_relvars a.relvars.now).relvars
@@ -34,3 +37,26 @@ AreChecked entries (view t history) = Unit {0}
 abbrev pub AllChecked : Entries → Entries → Type 0
 AllChecked entries [] = Unit {0}
 AllChecked entries (r ∷ rest) = AreChecked entries r.1 × AllChecked entries rest
+
+-- ---- which constraints a change can break
+
+abbrev pub before : After → Entries
+before a = (read_relvars a.relvars.now).relvars
+
+-- the value that stands ready for the relvar of a name
+abbrev pub change_named : Changes → Entries → Name → Option Relation
+change_named [] entries name = None
+change_named (c ∷ cs) [] name = None
+change_named (c ∷ cs) (r ∷ rest) name = if bytes_eq r.0 name then c else change_named cs rest name
+
+abbrev pub change_at : Changes → Entries → Option Name → Option Relation
+change_at cs entries None = None
+change_at cs entries (Some name) = change_named cs entries name
+
+-- a new value stands ready for the constraint's own relvar, or for the one that it names
+abbrev pub can_break : After → Bool → Constraint → Bool
+can_break a own c = own || is_some (change_at a.changes.now (before a) (names_relvar c))
+
+-- where the relvar stays, the constraint held before
+abbrev pub HeldBefore : After → Bool → List Row → Constraint → Type 0
+HeldBefore a own rows c = own ≡ false → broken c rows (rows_named (before a) c) ≡ None

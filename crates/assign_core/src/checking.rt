@@ -1,5 +1,5 @@
 // Constraints after a change.
-ghost use Rattle.std.specs.Prelude.{◌≡◌, ◌+◌, ◌<◌, ◌^◌, length, option_map, slice_index_or, Some, Err, IfOk};
+ghost use Rattle.std.specs.Prelude.{◌≡◌, ◌+◌, ◌<◌, ◌^◌, length, option_map, slice_index_or, is_some, None, Some, Err, IfOk};
 ghost use Rattle.std.specs.List.{All};
 ghost use Rattle.std.specs.Result.{result_err};
 ghost use Rattle.value_core.specs.declared.refuse.Refuse.TheVariants.{Broken};
@@ -8,7 +8,7 @@ ghost use Rattle.tree_core.specs.Relvars.{read_relvars, read_relvar, PlainRelvar
 ghost use Rattle.u_constraints.specs.Constraints.{broken, names_relvar};
 ghost use Rattle.assign_core.specs.Breaches.{first_broken, first_in, first_of, rows_named, value_at};
 ghost use Rattle.assign_core.specs.Changes.{AreChanges, Tells, changed_relvar};
-ghost use Rattle.assign_core.specs.Checks.{after, AllChecked, AreChecked, IsChecked};
+ghost use Rattle.assign_core.specs.Checks.{after, before, can_break, change_named, AllChecked, AreChecked, HeldBefore, IsChecked};
 
 use crate::changes::{current, newer};
 use point_core::{Code, Memory, Steps};
@@ -25,6 +25,13 @@ pub(crate) struct After<'a> {
     pub changes: &'a [Option<Relation>],
 }
 
+// A relvar's newest value, and whether it is a new one.
+#[derive(Clone, Copy)]
+struct Own<'a> {
+    of: &'a Relation,
+    changes: bool,
+}
+
 /// Tells the first broken constraint, by relvars in order of declaration and by number.
 pub(crate) fn check<L: Ledger>(
     alloc: Global,
@@ -33,6 +40,7 @@ pub(crate) fn check<L: Ledger>(
 ) -> Result<(), Refuse>
     requires changes { AreChanges new.changes.now (read_relvars new.relvars.now).relvars }
     requires checked { AllChecked (after new) (after new) }
+    requires held { first_broken (before new) ≡ None }
     ensures told { Tells result (first_broken (after new.entry)) }
     ensures steps { steps.new ≡ steps.old }
 {
@@ -53,6 +61,7 @@ fn check_at<L: Ledger>(
     requires within { at < length new.relvars.now.list.entries }
     requires length { length new.changes.now ≡ length new.relvars.now.list.entries }
     requires checked { (d : PlainName × PlainRelvar) → AreChecked (after new) (slice_index_or (after new) at d).1 }
+    requires held { first_broken (before new) ≡ None }
     ensures told { (d : PlainName × PlainRelvar) → Tells result (first_in (after new.entry) (slice_index_or (after new.entry) at d).0 (slice_index_or (after new.entry) at d).1) }
     ensures steps { steps.new ≡ steps.old }
 {
@@ -74,13 +83,17 @@ fn check_relvar<L: Ledger>(
     requires changes { AreChanges new.changes.now (read_relvars new.relvars.now).relvars }
     requires length { length new.changes.now ≡ length new.relvars.now.list.entries }
     requires checked { AreChecked (after new) (changed_relvar change.now (read_relvar relvar.now)) }
+    requires held { first_in (before new) name.now (read_relvar relvar.now) ≡ None }
     ensures told { Tells result (first_in (after new.entry) name.now (changed_relvar change.now (read_relvar relvar.now))) }
     ensures steps { steps.new ≡ steps.old }
 {
     match relvar {
         Relvar::Base { value, constraints } => {
-            let of = newer(change, value);
-            check_list(alloc, new, name, of, constraints.list.as_slice(), steps)
+            let own = Own {
+                of: newer(change, value),
+                changes: change.is_some(),
+            };
+            check_list(alloc, new, name, own, constraints.list.as_slice(), steps)
         }
         Relvar::View {
             tree: _,
@@ -94,18 +107,19 @@ fn check_list<L: Ledger>(
     alloc: Global,
     new: After<'_>,
     name: &Name,
-    of: &Relation,
+    own: Own<'_>,
     list: &[Constraint],
     steps: &mut Steps<L>,
 ) -> Result<(), Refuse>
     requires changes { AreChanges new.changes.now (read_relvars new.relvars.now).relvars }
     requires length { length new.changes.now ≡ length new.relvars.now.list.entries }
-    requires checked { All (IsChecked (after new) of.now.heading) list.now }
-    ensures told { Tells result (first_of (after new.entry) name.now of.now.rows 1 list.now) }
+    requires checked { All (IsChecked (after new) own.of.now.heading) list.now }
+    requires held { All (HeldBefore new own.changes own.of.now.rows) list.now }
+    ensures told { Tells result (first_of (after new.entry) name.now own.entry.of.now.rows 1 list.now) }
     ensures steps { steps.new ≡ steps.old }
 {
     for (at, constraint) in list.iter().enumerate() {
-        let answer = check_one(alloc, new, of, constraint, steps)?;
+        let answer = check_one(alloc, new, own, constraint, steps)?;
         if let Err(code) = answer {
             return Err(breach(alloc, code, name, at));
         }
@@ -117,18 +131,48 @@ fn check_list<L: Ledger>(
 fn check_one<L: Ledger>(
     alloc: Global,
     new: After<'_>,
-    of: &Relation,
+    own: Own<'_>,
     constraint: &Constraint,
     steps: &mut Steps<L>,
 ) -> Result<Result<(), Code>, Memory>
     requires changes { AreChanges new.changes.now (read_relvars new.relvars.now).relvars }
     requires length { length new.changes.now ≡ length new.relvars.now.list.entries }
-    requires checked { IsChecked (after new) of.now.heading constraint.now }
-    ensures answer { IfOk result (λ answer. result_err answer ≡ broken constraint.now of.now.rows (rows_named (after new.entry) constraint.now)) }
+    requires checked { IsChecked (after new) own.of.now.heading constraint.now }
+    requires held { HeldBefore new own.changes own.of.now.rows constraint.now }
+    ensures answer { IfOk result (λ answer. result_err answer ≡ broken constraint.now own.entry.of.now.rows (rows_named (after new.entry) constraint.now)) }
     ensures steps { steps.new ≡ steps.old }
 {
+    if !can_break(new, own.changes, constraint) {
+        return Ok(Ok(()));
+    }
     let other = named(new, constraint);
-    holds(alloc, constraint, of, other, steps)
+    holds(alloc, constraint, own.of, other, steps)
+}
+
+// Whether the change can break a constraint: its own relvar or the one that it names gets a new value.
+fn can_break(new: After<'_>, own: bool, constraint: &Constraint) -> bool
+    requires { length new.changes.now ≡ length new.relvars.now.list.entries }
+    ensures { result ≡ can_break new.entry own constraint.now }
+{
+    own || match constraint {
+        Constraint::Foreign(_, _, name, _) => is_changed(new, name),
+        Constraint::History(rule) => is_changed(new, &rule.since),
+        Constraint::Key(_)
+        | Constraint::Packed(_)
+        | Constraint::WhenUnpacked(_, _)
+        | Constraint::UKey(_, _) => false,
+    }
+}
+
+// Whether a new value stands ready for the relvar of this name.
+fn is_changed(new: After<'_>, name: &Name) -> bool
+    requires { length new.changes.now ≡ length new.relvars.now.list.entries }
+    ensures { result ≡ is_some (change_named new.entry.changes.now (before new.entry) name.now) }
+{
+    match new.relvars.list.get_full(name) {
+        Some((at, _, _)) => new.changes[at].is_some(),
+        None => false,
+    }
 }
 
 // The newest value of the relvar that a constraint names, if it names one.

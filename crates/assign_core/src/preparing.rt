@@ -1,10 +1,11 @@
 // What stands ready before anything changes.
-ghost use Rattle.std.specs.Prelude.{◌≡◌, map, Ok, IfOk, IfErr};
+ghost use Rattle.std.specs.Prelude.{◌≡◌, map, None, Ok, IfOk, IfErr};
 ghost use Rattle.std.specs.List.{All};
 ghost use Rattle.tree_core.specs.Items.{read_assignment};
 ghost use Rattle.tree_core.specs.Relvars.{read_relvars};
 ghost use Rattle.algebra_core.specs.Updates.{IsTypedAssignment};
 ghost use Rattle.assign_core.specs.Assignments.{after_assignments, IsPlainAssignment, IsRefusedFor, IsAdmitted};
+ghost use Rattle.assign_core.specs.Breaches.{first_broken};
 ghost use Rattle.assign_core.specs.Changes.{AreChanges, changed};
 ghost use Rattle.assign_core.specs.Checks.{AllChecked};
 ghost use Rattle.assign_core.specs.Databases.{IsKept};
@@ -49,6 +50,7 @@ fn admit<L: Ledger>(
 ) -> Result<(), Refuse>
     requires changes { AreChanges changes.now (read_relvars relvars.now).relvars }
     requires checked { AllChecked (changed changes.now (read_relvars relvars.now).relvars) (changed changes.now (read_relvars relvars.now).relvars) }
+    requires held { first_broken (read_relvars relvars.now).relvars ≡ None }
     ensures admitted { IsAdmitted result (changed changes.now (read_relvars relvars.now).relvars) }
     ensures steps { steps.new ≡ steps.old }
 {

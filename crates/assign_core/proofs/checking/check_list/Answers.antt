@@ -10,7 +10,7 @@ use Rattle.assign_core.proofs.checking.check_list.Goals as goal
 pub returns-in-Err-clause-told : goal.returns-in-Err-clause-told
 returns-in-Err-clause-told g c =
     let all = after c.args.new in
-    let rows = c.args.of.now.rows in
+    let rows = c.args.own.of.now.rows in
     let item = c.index-list-at.result in
     let within : c.loop-at.at < length c.args.list.now = omega arith in
     let here = sym (ap result_err c.in-Err.is) ∙ c.in_ok-answer.ensures.answer in
@@ -20,7 +20,7 @@ returns-in-Err-clause-told g c =
 pub loop-at-preserved : goal.loop-at-preserved
 loop-at-preserved g c =
     let all = after c.args.new in
-    let rows = c.args.of.now.rows in
+    let rows = c.args.own.of.now.rows in
     let item = c.index-list-at.result in
     let within : c.loop-at.at < length c.args.list.now = omega arith in
     let here = sym (ap result_err c.in_default.is) ∙ c.in_ok-answer.ensures.answer in
@@ -32,4 +32,4 @@ loop-at-preserved g c =
 
 pub returns-clause-told : goal.returns-clause-told
 returns-clause-told g c =
-    all_kept (after c.args.new) c.args.name.now c.args.of.now.rows c.loop-at.at c.args.list.now c.loop-at-test.false c.loop-at.invariant.kept
+    all_kept (after c.args.new) c.args.name.now c.args.own.of.now.rows c.loop-at.at c.args.list.now c.loop-at-test.false c.loop-at.invariant.kept

@@ -5,6 +5,6 @@ use Rattle.assign_core.proofs.checking.check_list.Given as goal
 
 abbrev pub invariant-loop-at : goal.invariant-loop-at
 invariant-loop-at g l = record {
-  kept : first_of (after l.new) l.name l.of.rows 1 (take l.at l.list) ≡ None;
+  kept : first_of (after l.new) l.name l.own.of.now.rows 1 (take l.at l.list) ≡ None;
   steps : l.steps ≡ l.initial.steps;
 }
