@@ -1,4 +1,3 @@
-pub mod DataLemmas
 pub mod EntryLemmas
 pub mod EvalLemmas
 pub mod GroupFits
@@ -6,8 +5,6 @@ pub mod ItemLemmas
 pub mod LimitLemmas
 pub mod LiteralLemmas
 pub mod MadeLemmas
-pub mod OneProofLemmas
 pub mod RowlessLemmas
 pub mod SummaryLemmas
 pub mod TruthLemmas
-pub mod WellMadeLemmas

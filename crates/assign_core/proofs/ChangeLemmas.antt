@@ -13,7 +13,7 @@ use Rattle.algebra_core.proofs.MadeLemmas.{same_name}
 use Rattle.assign_core.specs.Changes.{Changes, IsChange, AreChanges, changed_relvar, changed}
 use Rattle.assign_core.specs.Parts.{names_in}
 use Rattle.assign_core.proofs.NameLemmas.{turned}
-use Rattle.assign_core.proofs.RowlessLemmas.{bare_all, bare, bare-with_value}
+use Rattle.algebra_core.proofs.RowlessLemmas.{bare_all, bare, bare-with_value}
 
 pub same_length : (cs : Changes) (es : Entries) → AreChanges cs es → length cs ≡ length es
 same_length [] [] h = refl

@@ -6,6 +6,5 @@ pub mod DeclaredLemmas
 pub mod ExchangeLemmas
 pub mod NameLemmas
 pub mod RemovedLemmas
-pub mod RowlessLemmas
 pub mod SourceLemmas
 pub mod TouchLemmas

@@ -20,7 +20,7 @@ use Rattle.algebra_core.proofs.EvalLemmas.{operand_heading, under_ok}
 use Rattle.assign_core.specs.Assignments.{seen_by, source_value, with_target, evaluated}
 use Rattle.assign_core.specs.Breaches.{value_if}
 use Rattle.assign_core.specs.Changes.{Gives}
-use Rattle.assign_core.proofs.RowlessLemmas.{bare_all, own-given, is_given-keeps, is_base-keeps}
+use Rattle.algebra_core.proofs.RowlessLemmas.{bare_all, own-given, is_given-keeps, is_base-keeps}
 
 heading_is : (t : RelTree) → t.heading ≡ heading_of (read_tree t)
 heading_is t = operand_heading t (Ok []) (record { heading = t.heading; rows = [] }) refl
