@@ -142,5 +142,5 @@ module _ (s : State) (plain : ArePlain s.relvars) (w : Word) where
       then-sound Anything StaysPlain (room_for_view s w.place t) _ (any-given (room_for_view s w.place t)) (λ _ _.
       with-plain s.relvars name (view t None) plain is)))
 
-  pub without-plain : (name : Name) → ArePlain (without name s).relvars
-  without-plain name = rest-plain name [] [] s.relvars refl plain
+pub without-plain : (s : State) → ArePlain s.relvars → (name : Name) → ArePlain (without name s).relvars
+without-plain s plain name = rest-plain name [] [] s.relvars refl plain
