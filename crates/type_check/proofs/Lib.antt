@@ -5,6 +5,7 @@ pub mod DeclaredLemmas
 pub mod ExtensionLemmas
 pub mod InfixLemmas
 pub mod ItemLemmas
+pub mod ItemPlainLemmas
 pub mod ItemTypedLemmas
 pub mod KeptLemmas
 pub mod ListLemmas

@@ -32,11 +32,11 @@ use Rattle.tree_typing.specs.Trees.{relvar_typed, rel_typed, terms_typed, term_t
 use Rattle.type_check.specs.Plainness.{is_plain_rel, is_plain_terms, is_plain_term, is_plain_primary, is_plain_operand, is_plain_extend, is_plain_summarize, is_plain_comparison, is_plain_test as is_plain_written, are_plain}
 
 -- whatever is given, and f of it
-after : {X Y : Type 0} (P : Y → Type 0) (r : OrFault X) (f : X → OrFault Y) → ((x : X) → IfOk (f x) P) → IfOk (r >>= f) P
+pub after : {X Y : Type 0} (P : Y → Type 0) (r : OrFault X) (f : X → OrFault Y) → ((x : X) → IfOk (f x) P) → IfOk (r >>= f) P
 after P (Ok x) f h = h x
 after P (Err e) f h = tt
 
-then-plain : {X Y : Type 0} (P : X → Type 0) (Q : Y → Type 0) (r : OrFault X) (f : X → OrFault Y) → IfOk r P → ((x : X) → P x → IfOk (f x) Q) → IfOk (r >>= f) Q
+pub then-plain : {X Y : Type 0} (P : X → Type 0) (Q : Y → Type 0) (r : OrFault X) (f : X → OrFault Y) → IfOk r P → ((x : X) → P x → IfOk (f x) Q) → IfOk (r >>= f) Q
 then-plain P Q (Ok x) f h more = more x h
 then-plain P Q (Err e) f h more = tt
 

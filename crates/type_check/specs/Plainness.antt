@@ -1,12 +1,15 @@
--- Which expressions and tests do without PACK, UNPACK and USING, as they are written.
+-- Which expressions, tests and items do without PACK, UNPACK and USING, as they are written.
 --     is_plain_rel, is_plain_test      of expressions and tests
+--     is_plain_update, IsPlainForm      of items, and of what is typed of them
 --     are_plain      the views of a state do without
-use Rattle.std.specs.Prelude.{Bool, true, false, ◌&&◌}
+use Rattle.std.specs.Prelude.{Bool, true, false, ◌&&◌, is_none, IsTrue}
 use Rattle.std.specs.List.{list_all}
 use Rattle.utd_syntax.specs.Plain as syntax
-use Rattle.utd_syntax.specs.Plain.{RelP, TermsP, TermP, RelPrimaryP, OperandP, ExtendP, SummarizeP, ComparisonP, TestP}
-use Rattle.tree_core.specs.Relvars.{State}
-use Rattle.algebra_core.specs.Plainness.{plain_in}
+use Rattle.utd_syntax.specs.Plain.{RelP, TermsP, TermP, RelPrimaryP, OperandP, ExtendP, SummarizeP, ComparisonP, TestP, DeletionP, ItemP}
+use Rattle.tree_core.specs.Relvars.{Entries, State}
+use Rattle.tree_core.specs.Items.{PlainChange, PlainItemForm, set_to, insert, delete, delete_rows, update, terminate}
+use Rattle.algebra_core.specs.Plainness.{IsPlain, no_list, plain_in}
+use Rattle.item_typing.specs.Items.{has_no_portion}
 
 abbrev mutual
   pub is_plain_rel : RelP → Bool
@@ -48,6 +51,34 @@ abbrev pub is_plain_test : TestP → Bool
 is_plain_test (syntax.UsingTest at l c) = false
 is_plain_test (syntax.Emptiness at w r) = is_plain_rel r
 is_plain_test (syntax.OfComparison c) = is_plain_comparison c
+
+-- ---- items
+
+abbrev pub is_plain_deletion : DeletionP → Bool
+is_plain_deletion (syntax.DeleteWhere at c) = true
+is_plain_deletion (syntax.DeletePortion p c) = false
+is_plain_deletion (syntax.DeleteRows r) = is_plain_rel r
+
+abbrev pub is_plain_update : ItemP → Bool
+is_plain_update (syntax.SetRelvar w r) = is_plain_rel r
+is_plain_update (syntax.Insert at w r) = is_plain_rel r
+is_plain_update (syntax.Delete at w d) = is_plain_deletion d
+is_plain_update (syntax.Update at w p c s) = has_no_portion p
+is_plain_update (syntax.Terminate at w place s c) = false
+is_plain_update (syntax.UsingItem at l i) = false
+
+abbrev pub IsPlainChange : PlainChange → Type 0
+IsPlainChange change = IsTrue (no_list change.acl) × IsTrue (is_none change.portion)
+
+abbrev pub IsPlainForm : Entries → PlainItemForm → Type 0
+IsPlainForm entries (set_to t) = IsPlain entries t
+IsPlainForm entries (insert acl t) = IsTrue (no_list acl) × IsPlain entries t
+IsPlainForm entries (delete acl t) = IsTrue (no_list acl) × IsPlain entries t
+IsPlainForm entries (delete_rows change) = IsPlainChange change
+IsPlainForm entries (update change sets) = IsPlainChange change
+IsPlainForm entries (terminate at place condition) = ⊥
+
+-- ---- states
 
 -- each view of the state does without
 abbrev pub are_plain : State → Bool

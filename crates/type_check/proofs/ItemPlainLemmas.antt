@@ -1,0 +1,64 @@
+-- Items that are written without PORTION, PACK, UNPACK and USING are typed without them.
+use Rattle.std.specs.Prelude.{IfOk, IsTrue, refl}
+use Rattle.point_core.specs.declared.fault.Code.TheVariants.{E13}
+use Rattle.utd_syntax.specs.Plain as syntax
+use Rattle.utd_syntax.specs.Plain.{Word, RelP, DeletionP, MaybePortionP, ConditionP, SetsP, ItemP}
+use Rattle.value_core.specs.Values.{Heading}
+use Rattle.relation_typing.specs.Headings.{same_heading}
+use Rattle.tree_core.specs.Items.{PlainItem}
+use Rattle.tree_core.specs.Relvars.{State}
+use Rattle.tree_core.specs.Trees.{heading_of}
+use Rattle.algebra_core.specs.Plainness.{IsPlain}
+use Rattle.node_typing.specs.Positions.{check}
+use Rattle.node_typing.specs.Rows.{condition_typed}
+use Rattle.tree_typing.specs.Trees.{tree_typed}
+use Rattle.item_typing.specs.Changes.{condition_if}
+use Rattle.item_typing.specs.Items.{deletion_typed, update_typed, item_typed, is_plain_item, has_no_portion}
+use Rattle.item_typing.specs.Sets.{sets_made}
+use Rattle.item_typing.specs.Targets.{target_typed, rows_typed}
+use Rattle.type_check.specs.Plainness.{is_plain_rel, is_plain_deletion, is_plain_update, IsPlainForm, are_plain}
+use Rattle.type_check.proofs.PlainLemmas.{after, then-plain, tree-plain}
+
+-- they are of the forms that are typed so far
+pub plain-built : (x : ItemP) → IsTrue (is_plain_update x) → IsTrue (is_plain_item x)
+plain-built (syntax.SetRelvar w r) plain = refl
+plain-built (syntax.Insert at w r) plain = refl
+plain-built (syntax.Delete at w (syntax.DeleteWhere place c)) plain = refl
+plain-built (syntax.Delete at w (syntax.DeletePortion p c)) plain = absurd cc
+plain-built (syntax.Delete at w (syntax.DeleteRows r)) plain = refl
+plain-built (syntax.Update at w p c s) plain = plain
+plain-built (syntax.Terminate at w place s c) plain = absurd cc
+plain-built (syntax.UsingItem at l i) plain = absurd cc
+
+module _ (state : State) (views : IsTrue (are_plain state)) where
+  rows-plain : (w : Word) (heading : Heading) (r : RelP) → IsTrue (is_plain_rel r) → IfOk (rows_typed state w heading r) (IsPlain state.relvars)
+  rows-plain w heading r plain =
+      then-plain (IsPlain state.relvars) (IsPlain state.relvars) (tree_typed state r) _ (tree-plain state views r plain)
+      (λ t h. after (IsPlain state.relvars) (check w.place E13 (same_heading (heading_of t) heading)) _ (λ _. h))
+
+  deletion-plain : (w : Word) (heading : Heading) (d : DeletionP) → IsTrue (is_plain_deletion d) → IfOk (deletion_typed state w heading d) (IsPlainForm state.relvars)
+  deletion-plain w heading (syntax.DeleteWhere at c) plain = after (IsPlainForm state.relvars) (condition_typed state.ordinals at heading c) _ (λ e. (refl, refl))
+  deletion-plain w heading (syntax.DeletePortion p c) plain = absurd cc
+  deletion-plain w heading (syntax.DeleteRows r) plain =
+      then-plain (IsPlain state.relvars) (IsPlainForm state.relvars) (rows_typed state w heading r) _ (rows-plain w heading r plain) (λ t h. (refl, h))
+
+  update-plain : (heading : Heading) (p : MaybePortionP) (c : ConditionP) (sets : SetsP) → IsTrue (has_no_portion p) → IfOk (update_typed state heading p c sets) (IsPlainForm state.relvars)
+  update-plain heading syntax.NoPortion c sets plain =
+      after (IsPlainForm state.relvars) (condition_if state.ordinals heading c) _ (λ e. after (IsPlainForm state.relvars) (sets_made state.ordinals heading sets) _ (λ s. (refl, refl)))
+  update-plain heading (syntax.OfPortion at elements) c sets plain = absurd cc
+
+  pub item-plain : (x : ItemP) → IsTrue (is_plain_update x) → IfOk (item_typed state x) (λ (i : PlainItem). IsPlainForm state.relvars i.form)
+  item-plain (syntax.SetRelvar w r) plain =
+      after _ (target_typed state w) _ (λ target.
+      then-plain (IsPlain state.relvars) (λ (i : PlainItem). IsPlainForm state.relvars i.form) (rows_typed state w target.1 r) _ (rows-plain w target.1 r plain) (λ t h. h))
+  item-plain (syntax.Insert at w r) plain =
+      after _ (target_typed state w) _ (λ target.
+      then-plain (IsPlain state.relvars) (λ (i : PlainItem). IsPlainForm state.relvars i.form) (rows_typed state w target.1 r) _ (rows-plain w target.1 r plain) (λ t h. (refl, h)))
+  item-plain (syntax.Delete at w d) plain =
+      after _ (target_typed state w) _ (λ target.
+      then-plain (IsPlainForm state.relvars) (λ (i : PlainItem). IsPlainForm state.relvars i.form) (deletion_typed state w target.1 d) _ (deletion-plain w target.1 d plain) (λ form h. h))
+  item-plain (syntax.Update at w p c sets) plain =
+      after _ (target_typed state w) _ (λ target.
+      then-plain (IsPlainForm state.relvars) (λ (i : PlainItem). IsPlainForm state.relvars i.form) (update_typed state target.1 p c sets) _ (update-plain target.1 p c sets plain) (λ form h. h))
+  item-plain (syntax.Terminate at w place s c) plain = absurd cc
+  item-plain (syntax.UsingItem at l i) plain = absurd cc
