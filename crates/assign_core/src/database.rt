@@ -64,7 +64,7 @@ impl Database {
     /// The relvars and views, and the ordinal types.
     pub fn relvars(&self) -> &Relvars
         ensures state { read_relvars result.now ≡ read_relvars self.now }
-        ensures kept { IsKept (read_relvars self.now) }
+        ensures kept { IsKept (read_relvars result.now) }
     {
         &self.relvars
     }
