@@ -1,6 +1,14 @@
--- Which expressions do without PACK, UNPACK and USING, the views that they name included.
-use Rattle.std.specs.Prelude.{Bool, true, false, ◌&&◌, List, IsTrue}
+-- Which expressions, items and constraints do without PACK, UNPACK and USING, the views that they name included.
+--     IsPlain, IsPlainTest      of expressions and tests
+--     are_plain      the views of a state do without
+--     IsPlainForm      of items
+--     IsPlainConstraint      of constraints
+use Rattle.std.specs.Prelude.{Bool, true, false, ◌&&◌, List, [], is_none, IsTrue}
+use Rattle.std.specs.List.{list_all}
+use Rattle.value_core.specs.declared.constraint.Constraint.{Constraint}
+use Rattle.value_core.specs.declared.constraint.Constraint.TheVariants.{Key, Foreign}
 use Rattle.value_core.specs.Values.{Name}
+use Rattle.tree_core.specs.Items.{PlainChange, PlainItemForm, set_to, insert, delete, delete_rows, update, terminate}
 use Rattle.tree_core.specs.Relvars.{PlainRelvar, base, view, Entries}
 use Rattle.tree_core.specs.Trees.{Tree, named, literal, infix_of, project, rename, restrict, extend, summarize, pack, unpack, using, Test, relate, is_empty, is_not_empty}
 use Rattle.std.specs.Prelude.{ℕ, Option, Some, None}
@@ -44,3 +52,31 @@ is_plain_test known (is_not_empty place t) = is_plain known t
 
 abbrev pub IsPlainTest : Entries → Test → Type 0
 IsPlainTest entries t = IsTrue (is_plain_test (plain_in entries) t)
+
+-- ---- states
+
+-- each view does without
+abbrev pub are_plain : Entries → Bool
+are_plain entries = list_all (λ e. e.1) (plain_in entries)
+
+-- ---- items
+
+abbrev pub IsPlainChange : PlainChange → Type 0
+IsPlainChange change = IsTrue (no_list change.acl) × IsTrue (is_none change.portion)
+
+-- neither USING nor PORTION, and an expression that does without; of items other than TERMINATE
+abbrev pub IsPlainForm : Entries → PlainItemForm → Type 0
+IsPlainForm entries (set_to t) = IsPlain entries t
+IsPlainForm entries (insert acl t) = IsTrue (no_list acl) × IsPlain entries t
+IsPlainForm entries (delete acl t) = IsTrue (no_list acl) × IsPlain entries t
+IsPlainForm entries (delete_rows change) = IsPlainChange change
+IsPlainForm entries (update change sets) = IsPlainChange change
+IsPlainForm entries (terminate at place condition) = ⊥
+
+-- ---- constraints
+
+-- the forms that do without unpacking and histories: keys, and references without a list
+abbrev pub IsPlainConstraint : Constraint → Type 0
+IsPlainConstraint (Key k) = Unit {0}
+IsPlainConstraint (Foreign [] here name there) = Unit {0}
+IsPlainConstraint _ = ⊥

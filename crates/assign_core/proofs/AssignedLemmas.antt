@@ -15,7 +15,7 @@ use Rattle.value_core.specs.Values.{Relation}
 use Rattle.tree_core.specs.declared.declaration.Assignment.{Assignment}
 use Rattle.tree_core.specs.Items.{PlainAssignment, read_assignment}
 use Rattle.tree_core.specs.Relvars.{State, PlainRelvar, base, view, Entries}
-use Rattle.u_constraints.specs.Constraints.{IsBuilt}
+use Rattle.algebra_core.specs.Plainness.{IsPlainConstraint}
 use Rattle.assign_core.specs.Assignments.{evaluated, unless_broken, kept_or_refused, of_values, after_assignments, IsRefusedFor}
 use Rattle.assign_core.specs.Breaches.{rows_of_all, most_rows_of_all, first_broken, IsBuiltRelvar, AreBuilt}
 use Rattle.assign_core.specs.Changes.{Changes, AreChanges, changed, changed_relvar, Gives}
@@ -75,7 +75,7 @@ built_changed [] es h = h
 built_changed (c ∷ cs) [] h = tt
 built_changed (c ∷ cs) (e ∷ es) h = (built_relvar c e.1 h.0, built_changed cs es h.1)
 
-each_checked : (all : Entries) (value : Relation) (own cs : List Constraint) → AreFitting all (base value own) cs → AllByRecursion IsBuilt cs → All (IsChecked all value.heading) cs
+each_checked : (all : Entries) (value : Relation) (own cs : List Constraint) → AreFitting all (base value own) cs → AllByRecursion IsPlainConstraint cs → All (IsChecked all value.heading) cs
 each_checked all value own [] fit built = All-nil (IsChecked all value.heading)
 each_checked all value own (c ∷ cs) fit built =
     All-cons (IsChecked all value.heading) c cs (record { names = fit.0.0; fits = fit.0.1; built = built.0 }) (each_checked all value own cs fit.1 built.1)

@@ -9,7 +9,8 @@ use Rattle.value_core.specs.declared.refuse.Refuse.{Refuse}
 use Rattle.value_core.specs.declared.refuse.Refuse.TheVariants.{Broken}
 use Rattle.value_core.specs.Values.{Name, Row, Relation}
 use Rattle.tree_core.specs.Relvars.{PlainRelvar, base, view, Entries, relvar_named}
-use Rattle.u_constraints.specs.Constraints.{broken, names_relvar, rows_or_none, IsBuilt}
+use Rattle.u_constraints.specs.Constraints.{broken, names_relvar, rows_or_none}
+use Rattle.algebra_core.specs.Plainness.{IsPlainConstraint}
 
 -- ---- rows
 
@@ -74,7 +75,7 @@ first_broken entries = first_among entries entries
 -- ---- what is checked
 
 abbrev pub IsBuiltRelvar : PlainRelvar → Type 0
-IsBuiltRelvar (base value constraints) = AllByRecursion IsBuilt constraints
+IsBuiltRelvar (base value constraints) = AllByRecursion IsPlainConstraint constraints
 IsBuiltRelvar (view t history) = Unit {0}
 
 -- each constraint is of a form that is checked

@@ -9,7 +9,8 @@ use Rattle.value_core.specs.declared.constraint.Constraint.{Constraint}
 use Rattle.value_core.specs.Values.{Name, Heading, Row, Relation}
 use Rattle.tree_core.specs.Relvars.{PlainRelvar, base, view, Entries, relvar_named, heading_if, read_relvars}
 use Rattle.algebra_core.specs.WellMade.{IsBase, FitsHeadings}
-use Rattle.u_constraints.specs.Constraints.{broken, names_relvar, IsBuilt}
+use Rattle.u_constraints.specs.Constraints.{broken, names_relvar}
+use Rattle.algebra_core.specs.Plainness.{IsPlainConstraint}
 use Rattle.assign_core.specs.Breaches.{rows_named}
 use Rattle.assign_core.specs.declared.checking.After.{After}
 use Rattle.assign_core.specs.Changes.{Changes, changed}
@@ -28,7 +29,7 @@ NamesBase entries (Some name) = IsBase (relvar_named entries name)
 pub record IsChecked (entries : Entries) (heading : Heading) (c : Constraint) : Type 0 where
   pub names : NamesBase entries (names_relvar c)
   pub fits : FitsHeadings heading (heading_at entries (names_relvar c)) c
-  pub built : IsBuilt c
+  pub built : IsPlainConstraint c
 
 abbrev pub AreChecked : Entries → PlainRelvar → Type 0
 AreChecked entries (base value constraints) = All (IsChecked entries value.heading) constraints

@@ -1,21 +1,16 @@
 -- The states of databases.
 --     IsKept      what the state of a database keeps
 --     declared      the state with what a list declares
-use Rattle.std.specs.Prelude.{◌≡◌, ◌≤◌, Bool, List, [], None, fold, IsTrue}
-use Rattle.std.specs.List.{list_all}
-use Rattle.tree_core.specs.Relvars.{State, Entries}
+use Rattle.std.specs.Prelude.{◌≡◌, ◌≤◌, List, [], None, fold, IsTrue}
+use Rattle.tree_core.specs.Relvars.{State}
 use Rattle.algebra_core.specs.Declarations.{PlainDeclaration, with_declaration}
-use Rattle.algebra_core.specs.Plainness.{plain_in}
+use Rattle.algebra_core.specs.Plainness.{are_plain}
 use Rattle.algebra_core.specs.WellMade.{IsWellMade}
 use Rattle.assign_core.specs.Breaches.{rows_of_all, most_rows_of_all, first_broken, AreBuilt}
 
 -- what a database begins with
 abbrev pub no_relvars : State
 no_relvars = record { ordinals = []; relvars = [] }
-
--- no view has PACK, UNPACK or USING
-abbrev pub are_plain : Entries → Bool
-are_plain entries = list_all (λ e. e.1) (plain_in entries)
 
 -- the state is well made, no view has PACK, UNPACK or USING, each constraint is of a form that is checked and holds, and the
 -- base relvars have at most 200,000 rows together

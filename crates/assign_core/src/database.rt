@@ -4,10 +4,11 @@ ghost use Rattle.std.specs.List.{All};
 ghost use Rattle.tree_core.specs.Items.{read_assignment};
 ghost use Rattle.tree_core.specs.Relvars.{read_relvars};
 ghost use Rattle.algebra_core.specs.Declarations.{read_declaration, without};
+ghost use Rattle.algebra_core.specs.Plainness.{are_plain};
 ghost use Rattle.algebra_core.specs.WellMade.{IsWellMade};
 ghost use Rattle.algebra_core.specs.Updates.{IsTypedAssignment};
 ghost use Rattle.assign_core.specs.Assignments.{IsAssigned, IsPlainAssignment};
-ghost use Rattle.assign_core.specs.Databases.{no_relvars, declared, CanBecome, IsKept, are_plain};
+ghost use Rattle.assign_core.specs.Databases.{no_relvars, declared, CanBecome, IsKept};
 
 use crate::appending::append_all;
 use crate::exchange::exchange_all;

@@ -8,7 +8,7 @@ use Rattle.relation_typing.specs.Headings.{same_heading}
 use Rattle.tree_core.specs.Items.{PlainItem}
 use Rattle.tree_core.specs.Relvars.{State}
 use Rattle.tree_core.specs.Trees.{heading_of}
-use Rattle.algebra_core.specs.Plainness.{IsPlain}
+use Rattle.algebra_core.specs.Plainness.{IsPlain, IsPlainForm, are_plain}
 use Rattle.node_typing.specs.Positions.{check}
 use Rattle.node_typing.specs.Rows.{condition_typed}
 use Rattle.tree_typing.specs.Trees.{tree_typed}
@@ -16,7 +16,7 @@ use Rattle.item_typing.specs.Changes.{condition_if}
 use Rattle.item_typing.specs.Items.{deletion_typed, update_typed, item_typed, is_plain_item, has_no_portion}
 use Rattle.item_typing.specs.Sets.{sets_made}
 use Rattle.item_typing.specs.Targets.{target_typed, rows_typed}
-use Rattle.type_check.specs.Plainness.{is_plain_rel, is_plain_deletion, is_plain_update, IsPlainForm, are_plain}
+use Rattle.type_check.specs.Plainness.{is_plain_rel, is_plain_deletion, is_plain_update}
 use Rattle.type_check.proofs.PlainLemmas.{after, then-plain, tree-plain}
 
 -- they are of the forms that are typed so far
@@ -30,7 +30,7 @@ plain-built (syntax.Update at w p c s) plain = plain
 plain-built (syntax.Terminate at w place s c) plain = absurd cc
 plain-built (syntax.UsingItem at l i) plain = absurd cc
 
-module _ (state : State) (views : IsTrue (are_plain state)) where
+module _ (state : State) (views : IsTrue (are_plain state.relvars)) where
   rows-plain : (w : Word) (heading : Heading) (r : RelP) → IsTrue (is_plain_rel r) → IfOk (rows_typed state w heading r) (IsPlain state.relvars)
   rows-plain w heading r plain =
       then-plain (IsPlain state.relvars) (IsPlain state.relvars) (tree_typed state r) _ (tree-plain state views r plain)

@@ -19,7 +19,7 @@ use Rattle.tree_core.specs.Relvars.{State, relvar_named}
 use Rattle.tree_core.specs.Trees.{Tree, Test, heading_of}
 use Rattle.tree_core.specs.declared.tree.InfixWord.{InfixWord}
 use Rattle.algebra_core.specs.Names.{found}
-use Rattle.algebra_core.specs.Plainness.{is_plain, plain_in, is_plain_test}
+use Rattle.algebra_core.specs.Plainness.{is_plain, plain_in, is_plain_test, are_plain}
 use Rattle.node_typing.specs.Infixes.{infix_heading, infix_named}
 use Rattle.node_typing.specs.Nodes.{infix_rule, projection_rule, renaming_rule, restriction_rule, extension_rule, summary_rule, emptiness_test}
 use Rattle.node_typing.specs.Positions.{check}
@@ -29,7 +29,7 @@ use Rattle.node_typing.specs.Summaries.{groups_typed, aggregates_made}
 use Rattle.value_core.specs.declared.list.OrdinalNames.{OrdinalNames}
 use Rattle.tree_core.specs.declared.tree.InfixWord.TheVariants.{NotMatching}
 use Rattle.tree_typing.specs.Trees.{relvar_typed, rel_typed, terms_typed, term_typed, primary_typed, operand_typed, extend_typed, summarize_typed, comparison_typed, tree_typed, test_typed}
-use Rattle.type_check.specs.Plainness.{is_plain_rel, is_plain_terms, is_plain_term, is_plain_primary, is_plain_operand, is_plain_extend, is_plain_summarize, is_plain_comparison, is_plain_test as is_plain_written, are_plain}
+use Rattle.type_check.specs.Plainness.{is_plain_rel, is_plain_terms, is_plain_term, is_plain_primary, is_plain_operand, is_plain_extend, is_plain_summarize, is_plain_comparison, is_plain_test as is_plain_written}
 
 -- whatever is given, and f of it
 pub after : {X Y : Type 0} (P : Y → Type 0) (r : OrFault X) (f : X → OrFault Y) → ((x : X) → IfOk (f x) P) → IfOk (r >>= f) P
@@ -71,7 +71,7 @@ found-plain (k ∷ ks) name all =
     by-test true here there = here
     by-test false here there = there
 
-module _ (state : State) (views : IsTrue (are_plain state)) where
+module _ (state : State) (views : IsTrue (are_plain state.relvars)) where
   relvar-plain : (w : Word) → IfOk (relvar_typed state w) (λ (t : Tree). IsTrue (is_plain (plain_in state.relvars) t))
   relvar-plain w =
       after _ (name_typed w) _ (λ name. after _ (value_or w.place _ (relvar_named state.relvars name)) _ (λ r. found-plain (plain_in state.relvars) name views))

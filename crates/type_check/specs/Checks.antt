@@ -1,54 +1,90 @@
 -- What type checking gives of a statement: what it does, typed, or the first refusal.
 --     Plain, read_checked      what is given, as plain data
 --     checked      the typing of a statement in a state
-use Rattle.std.specs.Prelude.{◌≡◌, Bool, true, false, Result, Ok, Err}
+--     IsTypedPlain, IsPlainPlain      what is given can be performed
+use Rattle.std.specs.Prelude.{◌≡◌, Bool, true, false, List, map, Result, Ok, Err, IsTrue}
+use Rattle.std.specs.List.{All, AllByRecursion}
 use Rattle.point_core.specs.Faults.{OrFault}
 use Rattle.utd_syntax.specs.Plain as syntax
-use Rattle.utd_syntax.specs.Plain.{StatementP}
+use Rattle.utd_syntax.specs.Plain.{Word, VarFormP, StatementP}
 use Rattle.value_core.specs.declared.refuse.Refuse.{Refuse}
 use Rattle.value_core.specs.declared.refuse.Refuse.TheVariants as refuses
+use Rattle.value_core.specs.Values.{Name}
 use Rattle.scalar_typing.specs.Typings.{◌>>=◌}
+use Rattle.tree_core.specs.Items.{PlainItem, read_item}
 use Rattle.tree_core.specs.Relvars.{State}
 use Rattle.tree_core.specs.Trees.{Tree, Test, read_tree, read_test}
-use Rattle.algebra_core.specs.Plainness.{IsPlain, IsPlainTest}
-use Rattle.algebra_core.specs.WellMade.{IsTypedFor, IsTypedTestFor}
+use Rattle.algebra_core.specs.Declarations.{PlainDeclaration, ordinal_type, base_relvar, view_relvar, read_declaration, with_declaration, without}
+use Rattle.algebra_core.specs.Plainness.{IsPlain, IsPlainTest, IsPlainForm, IsPlainConstraint, are_plain}
+use Rattle.algebra_core.specs.Updates.{IsTypedItem}
+use Rattle.algebra_core.specs.WellMade.{IsWellMade, IsTypedFor, IsTypedTestFor}
 use Rattle.tree_typing.specs.Trees.{tree_typed, test_typed}
+use Rattle.declaration_typing.specs.Constraints.{are_built}
+use Rattle.declaration_typing.specs.Drops.{dropped}
+use Rattle.declaration_typing.specs.Ordinals.{ordinal_declared}
+use Rattle.declaration_typing.specs.Relvars.{relvar_declared}
+use Rattle.declaration_typing.specs.Views.{view_declared}
+use Rattle.item_typing.specs.Items.{assignment_typed, is_plain_assignment}
 use Rattle.type_check.specs.declared.checked.Checked.{Checked}
 use Rattle.type_check.specs.declared.checked.Checked.TheVariants as variants
-use Rattle.type_check.specs.Plainness.{is_plain_rel, is_plain_test}
 
--- nothing, a relation to be printed, or a test whose truth is asked for
+-- nothing; an ordinal type, a base relvar or a view that is declared; a relvar or view that goes; items of an assignment;
+-- a relation to be printed; a test whose truth is asked for
 pub data Plain : Type 0 where
   nothing : Plain
+  declare_ordinal : PlainDeclaration → Plain
+  declare_base : PlainDeclaration → Plain
+  declare_view : PlainDeclaration → Plain
+  remove : Name → Plain
+  assign : List PlainItem → Plain
   print : Tree → Plain
   ask : Test → Plain
 
 abbrev pub read_checked : Checked → Plain
 read_checked variants.Nothing = nothing
+read_checked (variants.Ordinal d) = declare_ordinal (read_declaration d)
+read_checked (variants.Base d) = declare_base (read_declaration d)
+read_checked (variants.View d) = declare_view (read_declaration d)
+read_checked (variants.Remove name) = remove name
+read_checked (variants.Assign items) = assign (map read_item items)
 read_checked (variants.Print t) = print (read_tree t)
 read_checked (variants.Ask t) = ask (read_test t)
 
--- the forms of statements that are checked
+-- ---- the forms of statements that are checked
+
+abbrev pub is_checked_var : VarFormP → Bool
+is_checked_var (syntax.BaseRelvar at heading constraints) = are_built constraints
+is_checked_var (syntax.View at rel) = true
+
 abbrev pub is_checked : StatementP → Bool
 is_checked syntax.Nothing = true
+is_checked (syntax.DeclareOrdinal at w values) = true
+is_checked (syntax.DeclareRelvar at w form) = is_checked_var form
+is_checked (syntax.DeclareHistory at w h key since began during lasted point) = false
+is_checked (syntax.Drop at w) = true
 is_checked (syntax.Print at rel) = true
 is_checked (syntax.Ask at test) = true
-is_checked _ = false
+is_checked (syntax.Assignment assignment) = is_plain_assignment assignment
 
--- the typing of these forms
-abbrev pub checked_print : OrFault Tree → OrFault Plain
-checked_print typed = do
-  t ← typed
-  Ok (print t)
+-- ---- their typing
 
-abbrev pub checked_ask : OrFault Test → OrFault Plain
-checked_ask typed = do
-  t ← typed
-  Ok (ask t)
+-- what is typed, as what the statement does
+abbrev pub giving : {A : Type 0} → (A → Plain) → OrFault A → OrFault Plain
+giving f typed = do
+  x ← typed
+  Ok (f x)
+
+abbrev pub checked_var : State → Word → VarFormP → OrFault Plain
+checked_var state w (syntax.BaseRelvar at heading constraints) = giving declare_base (relvar_declared state w heading constraints)
+checked_var state w (syntax.View at rel) = giving declare_view (view_declared state w rel)
 
 abbrev pub checked : State → StatementP → OrFault Plain
-checked state (syntax.Print at rel) = checked_print (tree_typed state rel)
-checked state (syntax.Ask at test) = checked_ask (test_typed state test)
+checked state (syntax.DeclareOrdinal at w values) = giving declare_ordinal (ordinal_declared state w values)
+checked state (syntax.DeclareRelvar at w form) = checked_var state w form
+checked state (syntax.Drop at w) = giving remove (dropped state w)
+checked state (syntax.Assignment assignment) = giving assign (assignment_typed state assignment)
+checked state (syntax.Print at rel) = giving print (tree_typed state rel)
+checked state (syntax.Ask at test) = giving ask (test_typed state test)
 checked state _ = Ok nothing
 
 -- the answer is what is meant, or want of memory; a refusal has its place
@@ -59,21 +95,36 @@ Checks (Err refuses.Memory) meant = Unit {0}
 Checks (Err (refuses.Plain code)) meant = ⊥
 Checks (Err (refuses.Broken code relvar number)) meant = ⊥
 
--- what is given is typed for evaluation
+-- ---- what is given can be performed
+
+-- what is given is typed for the state, and what it makes of the state is well made
 abbrev pub IsTypedPlain : State → Plain → Type 0
 IsTypedPlain state nothing = Unit {0}
+IsTypedPlain state (declare_ordinal d) = IsWellMade (with_declaration state d)
+IsTypedPlain state (declare_base d) = IsWellMade (with_declaration state d)
+IsTypedPlain state (declare_view d) = IsWellMade (with_declaration state d)
+IsTypedPlain state (remove name) = IsWellMade (without name state)
+IsTypedPlain state (assign items) = All (IsTypedItem state) items
 IsTypedPlain state (print t) = IsTypedFor state t
 IsTypedPlain state (ask t) = IsTypedTestFor state t
 
--- the statement does without PACK, UNPACK and USING
-abbrev pub is_plain_statement : StatementP → Bool
-is_plain_statement syntax.Nothing = true
-is_plain_statement (syntax.Print at rel) = is_plain_rel rel
-is_plain_statement (syntax.Ask at test) = is_plain_test test
-is_plain_statement _ = false
+-- a base relvar has constraints without a list alone
+abbrev pub IsPlainDeclaration : PlainDeclaration → Type 0
+IsPlainDeclaration (base_relvar name heading constraints) = AllByRecursion IsPlainConstraint constraints
+IsPlainDeclaration (ordinal_type name values) = Unit {0}
+IsPlainDeclaration (view_relvar name t history) = Unit {0}
 
--- and so does what is given
+-- the views of the state with the declaration do without PACK, UNPACK and USING, and so does what is declared
+abbrev pub StaysPlain : State → PlainDeclaration → Type 0
+StaysPlain state d = IsTrue (are_plain (with_declaration state d).relvars) × IsPlainDeclaration d
+
+-- what is given does without, where the statement and the views of the state do
 abbrev pub IsPlainPlain : State → Plain → Type 0
 IsPlainPlain state nothing = Unit {0}
+IsPlainPlain state (declare_ordinal d) = StaysPlain state d
+IsPlainPlain state (declare_base d) = StaysPlain state d
+IsPlainPlain state (declare_view d) = StaysPlain state d
+IsPlainPlain state (remove name) = IsTrue (are_plain (without name state).relvars)
+IsPlainPlain state (assign items) = All (λ (i : PlainItem). IsPlainForm state.relvars i.form) items
 IsPlainPlain state (print t) = IsPlain state.relvars t
 IsPlainPlain state (ask t) = IsPlainTest state.relvars t

@@ -1,15 +1,13 @@
--- Which expressions, tests and items do without PACK, UNPACK and USING, as they are written.
+-- Which expressions, tests, items and statements do without PACK, UNPACK and USING, as they are written.
 --     is_plain_rel, is_plain_test      of expressions and tests
---     is_plain_update, IsPlainForm      of items, and of what is typed of them
---     are_plain      the views of a state do without
-use Rattle.std.specs.Prelude.{Bool, true, false, ◌&&◌, is_none, IsTrue}
+--     is_plain_update      of items: they have no PORTION either, and are no TERMINATE
+--     is_plain_statement      of statements: they have no constraint over a list either, and are no HISTORY
+use Rattle.std.specs.Prelude.{Bool, true, false, ◌&&◌}
 use Rattle.std.specs.List.{list_all}
 use Rattle.utd_syntax.specs.Plain as syntax
-use Rattle.utd_syntax.specs.Plain.{RelP, TermsP, TermP, RelPrimaryP, OperandP, ExtendP, SummarizeP, ComparisonP, TestP, DeletionP, ItemP}
-use Rattle.tree_core.specs.Relvars.{Entries, State}
-use Rattle.tree_core.specs.Items.{PlainChange, PlainItemForm, set_to, insert, delete, delete_rows, update, terminate}
-use Rattle.algebra_core.specs.Plainness.{IsPlain, no_list, plain_in}
-use Rattle.item_typing.specs.Items.{has_no_portion}
+use Rattle.utd_syntax.specs.Plain.{RelP, TermsP, TermP, RelPrimaryP, OperandP, ExtendP, SummarizeP, ComparisonP, TestP, DeletionP, ItemP, VarFormP, StatementP}
+use Rattle.declaration_typing.specs.Constraints.{are_built}
+use Rattle.item_typing.specs.Items.{has_no_portion, listed_items}
 
 abbrev mutual
   pub is_plain_rel : RelP → Bool
@@ -67,19 +65,18 @@ is_plain_update (syntax.Update at w p c s) = has_no_portion p
 is_plain_update (syntax.Terminate at w place s c) = false
 is_plain_update (syntax.UsingItem at l i) = false
 
-abbrev pub IsPlainChange : PlainChange → Type 0
-IsPlainChange change = IsTrue (no_list change.acl) × IsTrue (is_none change.portion)
+-- ---- statements
 
-abbrev pub IsPlainForm : Entries → PlainItemForm → Type 0
-IsPlainForm entries (set_to t) = IsPlain entries t
-IsPlainForm entries (insert acl t) = IsTrue (no_list acl) × IsPlain entries t
-IsPlainForm entries (delete acl t) = IsTrue (no_list acl) × IsPlain entries t
-IsPlainForm entries (delete_rows change) = IsPlainChange change
-IsPlainForm entries (update change sets) = IsPlainChange change
-IsPlainForm entries (terminate at place condition) = ⊥
+abbrev pub is_plain_var : VarFormP → Bool
+is_plain_var (syntax.BaseRelvar at heading constraints) = are_built constraints
+is_plain_var (syntax.View at rel) = is_plain_rel rel
 
--- ---- states
-
--- each view of the state does without
-abbrev pub are_plain : State → Bool
-are_plain state = list_all (λ e. e.1) (plain_in state.relvars)
+abbrev pub is_plain_statement : StatementP → Bool
+is_plain_statement syntax.Nothing = true
+is_plain_statement (syntax.DeclareOrdinal at w values) = true
+is_plain_statement (syntax.DeclareRelvar at w form) = is_plain_var form
+is_plain_statement (syntax.DeclareHistory at w h key since began during lasted point) = false
+is_plain_statement (syntax.Drop at w) = true
+is_plain_statement (syntax.Print at rel) = is_plain_rel rel
+is_plain_statement (syntax.Ask at test) = is_plain_test test
+is_plain_statement (syntax.Assignment assignment) = list_all is_plain_update (listed_items assignment)

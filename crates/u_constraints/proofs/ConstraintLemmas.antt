@@ -10,7 +10,8 @@ use Rattle.value_core.specs.declared.constraint.Constraint.{Constraint}
 use Rattle.value_core.specs.declared.constraint.Constraint.TheVariants.{Key, Packed, WhenUnpacked, UKey, Foreign, History}
 use Rattle.relation_core.specs.Parts.{projected}
 use Rattle.algebra_core.specs.RowPacking.{attribute, unpacked, packed}
-use Rattle.u_constraints.specs.Constraints.{is_key, counterpart, first_failed, broken, rows_or_none, IsBuilt}
+use Rattle.u_constraints.specs.Constraints.{is_key, counterpart, first_failed, broken, rows_or_none}
+use Rattle.algebra_core.specs.Plainness.{IsPlainConstraint}
 
 -- ---- over no rows
 
@@ -49,15 +50,15 @@ broken_none (History h) others = ap (λ b. first_failed ((not b, E44) ∷ [])) (
 
 -- ---- a reference without a list to unpack
 
-reference_told : (acl here there h t : List ℕ) (name : Name) (rows others : List Row) (kept : Bool) (code : Option Code) → IsBuilt (Foreign acl here name there) → h ≡ here → t ≡ there
+reference_told : (acl here there h t : List ℕ) (name : Name) (rows others : List Row) (kept : Bool) (code : Option Code) → IsPlainConstraint (Foreign acl here name there) → h ≡ here → t ≡ there
     → kept ≡ is_within row_cmp (projected h rows) (projected t others) → code ≡ first_failed ((kept, E43) ∷ []) → code ≡ broken (Foreign acl here name there) rows others
 reference_told [] here there h t name rows others kept code built e f is told =
     told ∙ ap (λ k. first_failed ((k, E43) ∷ [])) (is ∙ ap₂ (λ (hs ts : List ℕ). is_within row_cmp (projected hs rows) (projected ts others)) e f)
 reference_told (i ∷ acl) here there h t name rows others kept code built e f is told = absurd built
 
 pub referenced : (c : Constraint) (acl here there h t : List ℕ) (name : Name) (rows : List Row) (other : Option Relation) (r : Relation) (kept : Bool) (code : Option Code) → c ≡ Foreign acl here name there
-    → other ≡ Some r → IsBuilt c → h ≡ here → t ≡ there → kept ≡ is_within row_cmp (projected h rows) (projected t r.rows)
+    → other ≡ Some r → IsPlainConstraint c → h ≡ here → t ≡ there → kept ≡ is_within row_cmp (projected h rows) (projected t r.rows)
     → code ≡ first_failed ((kept, E43) ∷ []) → code ≡ broken c rows (rows_or_none other)
 referenced c acl here there h t name rows other r kept code form named built e f is told =
-    reference_told acl here there h t name rows r.rows kept code (subst IsBuilt form built) e f is told
+    reference_told acl here there h t name rows r.rows kept code (subst IsPlainConstraint form built) e f is told
     ∙ ap₂ (λ z o. broken z rows (rows_or_none o)) (sym form) (sym named)

@@ -3,7 +3,7 @@
 --     is_key, is_packed, is_referenced, keeps_history      what each constraint asks
 --     broken      the code of the first line of a constraint that does not hold
 --     names_relvar      the relvar that a constraint names besides its own
---     IsBuilt, IsNamed      what a call that checks a constraint asks
+--     IsNamed      what a call that checks a constraint asks
 use Rattle.std.specs.Prelude.{ℕ, pos, ◌-ℤ◌, Bool, not, ◌&&◌, ◌||◌, List, [], ◌∷◌, map, nat_eq, int_lt, Option, Some, None, if◌then◌else◌}
 use Rattle.std.specs.List.{list_any, list_all}
 use Rattle.std.specs.Ordering.{eq_by_cmp}
@@ -109,9 +109,3 @@ abbrev pub IsNamed : Constraint → Option Relation → Type 0
 IsNamed (Foreign acl here name there) None = ⊥
 IsNamed (History h) None = ⊥
 IsNamed _ _ = Unit {0}
-
--- the forms that do without unpacking and histories: keys, and references without a list
-abbrev pub IsBuilt : Constraint → Type 0
-IsBuilt (Key k) = Unit {0}
-IsBuilt (Foreign [] here name there) = Unit {0}
-IsBuilt _ = ⊥

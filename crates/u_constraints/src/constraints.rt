@@ -2,7 +2,8 @@
 ghost use Rattle.std.specs.Prelude.{◌≡◌, [], ◌∷◌, IfOk, option_map};
 ghost use Rattle.std.specs.Result.{result_err};
 ghost use Rattle.algebra_core.specs.WellMade.{FitsHeadings};
-ghost use Rattle.u_constraints.specs.Constraints.{broken, first_failed, heading_or_none, rows_or_none, IsNamed, IsBuilt};
+ghost use Rattle.u_constraints.specs.Constraints.{broken, first_failed, heading_or_none, rows_or_none, IsNamed};
+ghost use Rattle.algebra_core.specs.Plainness.{IsPlainConstraint};
 
 use crate::keys::{is_key, is_referenced};
 use point_core::{Code, Memory, Steps};
@@ -23,7 +24,7 @@ pub fn holds<L: Ledger>(
 ) -> Result<Result<(), Code>, Memory>
     requires fits { FitsHeadings of.now.heading (heading_or_none (option_map (λ r. r.now) other)) c.now }
     requires named { IsNamed c.now (option_map (λ r. r.now) other) }
-    requires built { IsBuilt c.now }
+    requires built { IsPlainConstraint c.now }
     ensures answer { IfOk result (λ answer. result_err answer ≡ broken c.now of.now.rows (rows_or_none (option_map (λ r. r.now) other.entry))) }
     ensures steps { _steps.new ≡ _steps.old }
 {

@@ -10,10 +10,9 @@ use Rattle.tree_core.specs.declared.tree.InfixWord.TheVariants.{Union, Minus}
 use Rattle.tree_core.specs.Items.{PlainPortion, PlainItemForm, set_to, insert, delete, delete_rows, update, terminate, PlainItem, PlainAssignment}
 use Rattle.tree_core.specs.Relvars.{Entries, relvar_named}
 use Rattle.tree_core.specs.Trees.{PlainSets, Tree}
-use Rattle.algebra_core.specs.Plainness.{IsPlain, is_plain, plain_in, no_list}
+use Rattle.algebra_core.specs.Plainness.{IsPlain, is_plain, plain_in, no_list, IsPlainForm}
 use Rattle.algebra_core.specs.Updates.{swept_list}
 use Rattle.algebra_core.specs.WellMade.{IsBase}
-use Rattle.update_core.specs.PlainItems.{IsPlainForm}
 use Rattle.update_core.specs.Updates.{target_of, with_operand, other_rows, updated, condition_of_change, list_of_change, source_of, assigned_to, expanded}
 use Rattle.update_core.proofs.NameLemmas.{base-plain}
 

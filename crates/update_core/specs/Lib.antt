@@ -1,2 +1,1 @@
 pub mod Updates
-pub mod PlainItems

@@ -1,62 +1,12 @@
 -- A statement has one reading, and the machine one step after each number of statements.
-use Rattle.std.proofs.Common.{◌≡◌, inl, inr, ℕ, Bool, true, false, nat_le, List, [], ◌∷◌, length, take, refl, sym, ap, ◌∙◌, subst}
+use Rattle.std.proofs.Common.{◌≡◌, ℕ, Bool, true, false, nat_le, List, [], ◌∷◌, length, take, refl, sym, ap, ◌∙◌}
 use Rattle.point_core.specs.declared.fault.Place.{Place}
-use Rattle.point_core.specs.declared.fault.Fault.{Fault}
-use Rattle.point_core.specs.declared.fault.Code.{Code}
-use Rattle.value_core.specs.declared.refuse.Refuse.TheVariants as refuses
-use Rattle.utd_lexer.specs.declared.token.Token.{Token}
-use Rattle.utd_lexer.proofs.OneReadingLemmas.{reads-one, refuses-one, reads-refuses}
-use Rattle.utd_syntax.specs.Pieces.{place_of}
-use Rattle.utd_syntax.specs.Written.{Spells, of_statement}
-use Rattle.utd_syntax.specs.Verdict as verdict
-use Rattle.utd_syntax.specs.Verdict.{Verdict, verdict_on, Whole}
-use Rattle.utd_syntax.proofs.Laws.{law_c}
-use Rattle.utd_parser.specs.Tokens.{pieces}
+use Rattle.utd_statement.specs.Readings.{Reading}
+use Rattle.utd_statement.proofs.ReadingLaws.{text_one}
 use Rattle.utd_session.specs.Statements.{Statement, Complete, Incomplete}
-use Rattle.utd_session.specs.Readings.{Reading, Tree, Refused, IsText, IsShort, IsReading, AreReadings, most_in_statement}
+use Rattle.utd_session.specs.Readings.{IsShort, IsReading, AreReadings, most_in_statement}
 use Rattle.utd_session.specs.Machine.{Step, performed}
 use Rattle.utd_session.specs.Run.{IsAfter}
-
--- two verdicts on one text
-no_whole : (ts us : List Token) (code : Code) (place : Place) → us ≡ ts → verdict_on (pieces ts) ≡ Whole → verdict_on (pieces us) ≡ verdict.Refused code place → ⊥
-no_whole ts us code place e w r = let f : Whole ≡ verdict.Refused code place = sym w ∙ ap (λ x. verdict_on (pieces x)) (sym e) ∙ r in cc
-
-refused_one : (a b : Fault) → verdict.Refused a.code a.place ≡ verdict.Refused b.code b.place → a ≡ b
-refused_one a b e =
-    let c : a.code ≡ b.code = cc in
-    let p : a.place ≡ b.place = cc in
-    λ i. record { place = p i; code = c i }
-
-text_one : (place : Place) (bytes : List ℕ) (a b : Reading) → IsText place bytes a → IsText place bytes b → a ≡ b
-text_one place bytes (Tree p x) (Tree q y) (ts, rt, ft, wt, st) (us, ru, fu, wu, su) =
-    let e : us ≡ ts = reads-one place bytes ts us rt ru in
-    let trees : x ≡ y = law_c x y (pieces ts) st (subst (λ z. Spells (of_statement y) (pieces z) []) e su) in
-    let places : p ≡ q = ft ∙ ap (λ z. place_of (pieces z)) (sym e) ∙ sym fu in
-    λ i. Tree (places i) (trees i)
-text_one place bytes (Tree p x) (Refused (refuses.At f)) (ts, rt, ft, wt, st) h = elim h [
-  | inl r ↦ absurd (reads-refuses place bytes ts f rt r)
-  | inr k ↦ absurd (no_whole ts k.0 f.code f.place (reads-one place bytes ts k.0 rt k.1) wt k.2)
-]
-text_one place bytes (Refused (refuses.At f)) (Tree p x) h (ts, rt, ft, wt, st) = elim h [
-  | inl r ↦ absurd (reads-refuses place bytes ts f rt r)
-  | inr k ↦ absurd (no_whole ts k.0 f.code f.place (reads-one place bytes ts k.0 rt k.1) wt k.2)
-]
-text_one place bytes (Refused (refuses.At f)) (Refused (refuses.At g)) h k = elim h [
-  | inl r ↦ elim k [
-    | inl s ↦ ap (λ z. Refused (refuses.At z)) (sym (refuses-one place bytes f g r s))
-    | inr s ↦ absurd (reads-refuses place bytes s.0 f s.1 r)
-  ]
-  | inr r ↦ elim k [
-    | inl s ↦ absurd (reads-refuses place bytes r.0 g r.1 s)
-    | inr s ↦ ap (λ z. Refused (refuses.At z)) (refused_one f g (sym r.2 ∙ ap (λ z. verdict_on (pieces z)) (sym (reads-one place bytes r.0 s.0 r.1 s.1)) ∙ s.2))
-  ]
-]
-text_one place bytes a (Refused refuses.Memory) h k = absurd k
-text_one place bytes a (Refused (refuses.Plain c)) h k = absurd k
-text_one place bytes a (Refused (refuses.Broken c r n)) h k = absurd k
-text_one place bytes (Refused refuses.Memory) b h k = absurd h
-text_one place bytes (Refused (refuses.Plain c)) b h k = absurd h
-text_one place bytes (Refused (refuses.Broken c r n)) b h k = absurd h
 
 short_one : (t : Bool) (place : Place) (bytes : List ℕ) (a b : Reading) → IsShort t place bytes a → IsShort t place bytes b → a ≡ b
 short_one true place bytes a b h k = text_one place bytes a b h k

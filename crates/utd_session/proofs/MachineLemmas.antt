@@ -3,9 +3,10 @@ use Rattle.std.proofs.Common.{◌≡◌, ℕ, suc, ◌+◌, ◌≤◌, Bool, tru
 use Rattle.std.proofs.lemmas.List.{take_at}
 use Rattle.tree_core.specs.Relvars.{State}
 use Rattle.utd_session.specs.Statements.{Statement}
-use Rattle.utd_session.specs.Readings.{Reading, IsReading, AreReadings}
-use Rattle.utd_session.specs.Answers.{no_relvars, text_of, is_accepted}
-use Rattle.utd_session.specs.Machine.{Step, answer, step, in_turn, all_steps, performed, performed_after}
+use Rattle.utd_statement.specs.Readings.{Reading}
+use Rattle.utd_session.specs.Readings.{IsReading, AreReadings}
+use Rattle.utd_statement.specs.Answers.{text_of, is_accepted, answer}
+use Rattle.utd_session.specs.Machine.{Step, step, in_turn, all_steps, performed, performed_after}
 
 -- no statement changes the state
 pub state_stays : (state : State) (n : ℕ) (rs : List Reading) → (all_steps state n rs).state ≡ state

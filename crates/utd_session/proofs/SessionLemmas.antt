@@ -8,17 +8,18 @@ use Rattle.utd_lexer.specs.declared.cutter.Cut.TheVariants.{Inside, Ends}
 use Rattle.utd_lexer.specs.Parts.{IsWhole, IsBlank}
 use Rattle.utd_lexer.specs.Cutting.{Since, since_then}
 use Rattle.utd_lexer.specs.Tokens.{place_after}
-use Rattle.utd_session.specs.declared.outcome.Database.{Database}
+use Rattle.tree_core.specs.declared.relvar.Relvars.{Relvars as Database}
 use Rattle.utd_session.specs.declared.feeding.Session.{Session}
 use Rattle.utd_session.specs.declared.feeding.Ended.{Ended}
 use Rattle.utd_session.specs.declared.fault.SessionFault.TheVariants.{Memory}
 use Rattle.point_core.specs.declared.fault.Code.TheVariants.{E04}
 use Rattle.value_core.specs.declared.refuse.Refuse.TheVariants.{Plain}
 use Rattle.utd_session.specs.Statements.{Statement, Complete, Incomplete, ends, Cut, cut, complete_statements, is_blank, incomplete_rest, statements, NoEnd, EndsOne}
-use Rattle.utd_session.specs.Readings.{Reading, Refused, IsReading, AreReadings}
-use Rattle.utd_session.specs.Answers.{text_of, is_accepted}
+use Rattle.utd_statement.specs.Readings.{Reading, Refused}
+use Rattle.utd_session.specs.Readings.{IsReading, AreReadings}
+use Rattle.utd_statement.specs.Answers.{text_of, is_accepted, answer}
 use Rattle.utd_session.specs.Databases.{state_of}
-use Rattle.utd_session.specs.Machine.{answer, performed, performed_after}
+use Rattle.utd_session.specs.Machine.{performed, performed_after}
 use Rattle.utd_session.specs.Run.{IsPrefixOf}
 use Rattle.utd_session.specs.Sessions.{StandsFor, GoesOn, IsCutOff, IsFinished}
 use Rattle.utd_session.proofs.StatementLemmas.{ends_is, is_blank_is, cut-end, cut-keep, cut-more}

@@ -1,6 +1,6 @@
 -- The state that a database holds.
 use Rattle.tree_core.specs.Relvars.{State, read_relvars}
-use Rattle.utd_session.specs.declared.outcome.Database.{Database}
+use Rattle.tree_core.specs.declared.relvar.Relvars.{Relvars}
 
-abbrev pub state_of : Database → State
-state_of database = read_relvars database.relvars
+abbrev pub state_of : Relvars → State
+state_of database = read_relvars database

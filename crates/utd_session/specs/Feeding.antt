@@ -1,11 +1,11 @@
 -- What is answered to a statement that ends.
 use Rattle.std.specs.Prelude.{◌≡◌, ℕ, List, ◌++◌}
 use Rattle.tree_core.specs.Relvars.{State}
-use Rattle.utd_session.specs.declared.reply.Reply.{Reply}
+use Rattle.utd_statement.specs.declared.reply.Reply.{Reply}
 use Rattle.utd_session.specs.Statements.{Statement, Complete, cut}
-use Rattle.utd_session.specs.Readings.{Reading, IsReading}
-use Rattle.utd_session.specs.Answers.{text_of, is_accepted}
-use Rattle.utd_session.specs.Machine.{answer}
+use Rattle.utd_statement.specs.Readings.{Reading}
+use Rattle.utd_session.specs.Readings.{IsReading}
+use Rattle.utd_statement.specs.Answers.{text_of, is_accepted, answer}
 
 -- something holds of what the statement that the piece ends is read as
 abbrev pub HasReading : List ℕ → List ℕ → (Reading → Type 0) → Type 0

@@ -2,7 +2,7 @@
 use Rattle.std.specs.Prelude.{◌≡◌, ℕ, ◌+◌, ◌≤◌, List, length, take, drop, Option, Some, None}
 use Rattle.utd_io.specs.Io.{Gains}
 use Rattle.utd_session.specs.declared.feeding.Session.{Session}
-use Rattle.utd_session.specs.Readings.{Reading}
+use Rattle.utd_statement.specs.Readings.{Reading}
 use Rattle.utd_session.specs.Machine.{performed}
 use Rattle.utd_session.specs.Sessions.{StandsFor, fed_of}
 

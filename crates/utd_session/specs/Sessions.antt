@@ -6,10 +6,11 @@ use Rattle.tree_core.specs.Relvars.{State}
 use Rattle.utd_session.specs.Unfinished.{IsUnfinished}
 use Rattle.utd_session.specs.declared.feeding.Session.{Session}
 use Rattle.utd_session.specs.Statements.{Statement, cut, complete_statements}
-use Rattle.utd_session.specs.Readings.{Reading, AreReadings}
-use Rattle.utd_session.specs.Answers.{text_of}
+use Rattle.utd_statement.specs.Readings.{Reading}
+use Rattle.utd_session.specs.Readings.{AreReadings}
+use Rattle.utd_statement.specs.Answers.{text_of, answer}
 use Rattle.utd_session.specs.Databases.{state_of}
-use Rattle.utd_session.specs.Machine.{answer, performed, performed_after}
+use Rattle.utd_session.specs.Machine.{performed, performed_after}
 use Rattle.utd_session.specs.Run.{IsPrefixOf}
 
 abbrev pub fed_of : Session → ℕ

@@ -10,8 +10,8 @@ ghost use Rattle.utd_session.specs.Databases.{state_of};
 ghost use Rattle.utd_session.specs.Feeding.{IsReplyTo};
 
 use crate::fault::SessionFault;
-use crate::outcome::Database;
-use crate::reply::{Reply, answer_to, refusal};
+use assign_core::Database;
+use utd_statement::{Reply, answer_to, refusal};
 use crate::unfinished::Unfinished;
 use point_core::{Code, Memory, Steps};
 use std::alloc::Global;
@@ -104,9 +104,9 @@ fn both(a: bool, b: bool) -> bool
 impl Session {
     ghost use Rattle.utd_lexer.specs.Parts.{IsBlank};
     ghost use Rattle.utd_session.specs.Statements.{cut, complete_statements, statements};
-    ghost use Rattle.utd_session.specs.Readings.{Reading};
-    ghost use Rattle.utd_session.specs.Answers.{text_of};
-    ghost use Rattle.utd_session.specs.Machine.{answer, performed, performed_after};
+    ghost use Rattle.utd_statement.specs.Readings.{Reading};
+    ghost use Rattle.utd_statement.specs.Answers.{text_of, answer};
+    ghost use Rattle.utd_session.specs.Machine.{performed, performed_after};
     ghost use Rattle.utd_session.specs.Feeding.{HasReading};
     ghost use Rattle.utd_session.specs.Sessions.{StandsFor, GoesOn, IsCutOff, IsFinished, fed_of};
 

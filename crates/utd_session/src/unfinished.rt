@@ -2,7 +2,7 @@
 ghost use Rattle.std.specs.Prelude.{◌≡◌, ℕ, ◌+◌, ◌-◌, ◌^◌, ◌<◌, ◌≤◌, List, [], ◌++◌, length, IfOk, OnOk, OnErr};
 ghost use Rattle.utd_lexer.specs.Tokens.{Fits, place_after};
 
-use crate::reading::{Parsed, read_text};
+use utd_statement::{Parsed, read_text};
 use point_core::{Code, Memory, Place};
 use std::alloc::{AllocError, Global};
 use utd_lexer::place_behind;
@@ -38,7 +38,7 @@ impl Unfinished {
     ghost use Rattle.utd_session.specs.Unfinished.{IsUnfinished};
     ghost use Rattle.utd_session.specs.Statements.{Complete, first_place};
     ghost use Rattle.utd_session.specs.Readings.{IsReading};
-    ghost use Rattle.utd_session.specs.Parsed.{reading_of, HasAnswer};
+    ghost use Rattle.utd_statement.specs.Parsed.{reading_of, HasAnswer};
 
     /// Nothing, at the start of a script.
     pub fn new(alloc: Global) -> Unfinished

@@ -4,7 +4,7 @@ use Rattle.utd_io.specs.Io.{Gains}
 use Rattle.utd_lexer.specs.Cutting.{Since}
 use Rattle.utd_session.specs.Unfinished.{IsUnfinished}
 use Rattle.utd_session.specs.Statements.{cut}
-use Rattle.utd_session.specs.Readings.{Reading}
+use Rattle.utd_statement.specs.Readings.{Reading}
 use Rattle.utd_session.proofs.StatementLemmas.{place_bound}
 use Rattle.utd_session.proofs.SessionLemmas.{is_end, text_is}
 use Rattle.utd_session.proofs.feeding.Session.end.Goals as goal

@@ -1,5 +1,5 @@
 use Rattle.std.proofs.Common.{◌≡◌, ℕ, ◌+◌, ◌≤◌, List, length}
-use Rattle.utd_session.specs.Readings.{Reading}
+use Rattle.utd_statement.specs.Readings.{Reading}
 use Rattle.utd_session.specs.Sessions.{StandsFor, fed_of}
 use Rattle.utd_session.proofs.SessionLemmas.{IsFed}
 use Rattle.utd_session.proofs.feeding.Session.feed.Given as goal

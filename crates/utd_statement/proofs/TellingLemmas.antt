@@ -1,0 +1,45 @@
+-- What is told of the relation that an expression means.
+use Rattle.std.proofs.Common.{◌≡◌, List, [], ◌∷◌, length, map, refl, sym, ap, subst, arith, None, ℕ, Vec, Global, Result, Ok, Err}
+use Rattle.point_core.specs.Faults.{OrFault}
+use Rattle.point_core.specs.declared.fault.Stop.{Stop}
+use Rattle.point_core.specs.declared.fault.Stop.TheVariants as stops
+use Rattle.value_core.specs.Refusals.{refusal_of}
+use Rattle.value_core.specs.Values.{Relation, Heading}
+use Rattle.relation_core.specs.Answers.{Answers, under}
+use Rattle.tree_core.specs.Relvars.{State, Entries}
+use Rattle.tree_core.specs.Trees.{read_tree, heading_of}
+use Rattle.tree_core.specs.declared.tree.RelTree.{RelTree}
+use Rattle.algebra_core.specs.Meanings.{meaning_in}
+use Rattle.algebra_core.specs.Names.{given}
+use Rattle.algebra_core.proofs.EvalLemmas.{given_none, operand_heading}
+use Rattle.type_check.specs.Checks.{print}
+use Rattle.utd_print.specs.Tables as printed
+use Rattle.utd_statement.specs.Answers.{Answer, Table, unless_fault, relation_in, of_checked}
+use Rattle.utd_statement.specs.Replies.{IsTextOf, Tells}
+
+-- ---- expressions
+
+heading_is : (t : RelTree) → t.heading ≡ heading_of (read_tree t)
+heading_is t = operand_heading t (Ok []) (record { heading = t.heading; rows = [] }) refl
+
+-- an expression is evaluated in the state as it is, with the heading of its tree
+relation_is : (state : State) (t : RelTree) (r : Result Relation Stop) → Answers r (under t.heading (meaning_in (given None None state.relvars) (read_tree t))) → Answers r (relation_in state (read_tree t))
+relation_is state t r h =
+    let same = subst (λ (es : Entries). Answers r (under t.heading (meaning_in es (read_tree t)))) (given_none None state.relvars) h in
+    subst (λ (heading : Heading). Answers r (under heading (meaning_in state.relvars (read_tree t)))) (heading_is t) same
+
+-- the fault of an evaluation
+stop_told : {A : Type 0} (f : A → Answer) (stop : Stop) (meant : OrFault A) → Answers {A = A} (Err stop) meant → Tells (Err (refusal_of stop)) (unless_fault f meant)
+stop_told f (stops.Fault e) meant h = ap (unless_fault f) h
+stop_told f stops.Memory meant h = tt
+
+value_told : {A : Type 0} (f : A → Answer) (v : A) (meant : OrFault A) (text : Vec ℕ Global) → meant ≡ Ok v → IsTextOf (f v) text → Tells (Ok text) (unless_fault f meant)
+value_told f v meant text e h = subst (λ m. Tells (Ok text) (unless_fault f m)) (sym e) h
+
+pub printed_text : (state : State) (t : RelTree) (r : Relation) (text : Vec ℕ Global) → Answers (Ok r) (under t.heading (meaning_in (given None None state.relvars) (read_tree t)))
+    → text.items ≡ printed.table state.ordinals r → Tells (Ok text) (of_checked state (print (read_tree t)))
+printed_text state t r text h e = value_told (Table state.ordinals) r _ text (relation_is state t (Ok r) h) ((λ n. e), refl)
+
+pub printed_stop : (state : State) (t : RelTree) (stop : Stop) → Answers {A = Relation} (Err stop) (under t.heading (meaning_in (given None None state.relvars) (read_tree t)))
+    → Tells (Err (refusal_of stop)) (of_checked state (print (read_tree t)))
+printed_stop state t stop h = stop_told (Table state.ordinals) stop _ (relation_is state t (Err stop) h)

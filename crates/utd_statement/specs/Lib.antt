@@ -1,0 +1,9 @@
+pub mod Rows
+pub mod Absorption
+pub mod Form
+pub mod Table
+pub mod Texts
+pub mod Readings
+pub mod Parsed
+pub mod Answers
+pub mod Replies

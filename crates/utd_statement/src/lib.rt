@@ -1,0 +1,14 @@
+//! One statement: what its text is read as, what is answered to it, and what it makes of the database.
+#![tactic(auto)]
+
+mod built;
+mod form;
+mod packing;
+mod performing;
+mod reading;
+mod reply;
+mod row;
+mod table;
+
+pub use reading::{Parsed, Tree, read_text};
+pub use reply::{Reply, answer_to, refusal};

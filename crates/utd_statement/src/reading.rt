@@ -1,0 +1,73 @@
+// What a statement's text is read as.
+ghost use Rattle.std.specs.Prelude.{◌≡◌, ◌+◌, ◌-◌, ◌^◌, ◌≤◌, length, IfOk, IfErr};
+ghost use Rattle.value_core.specs.declared.refuse.Refuse.TheVariants as refuses;
+ghost use Rattle.utd_syntax.specs.Pieces.{place_of};
+ghost use Rattle.utd_syntax.specs.Read.{read_statement};
+ghost use Rattle.utd_parser.specs.Tokens.{pieces};
+ghost use Rattle.utd_statement.specs.Readings as readings;
+ghost use Rattle.utd_statement.specs.Readings.{IsText};
+ghost use Rattle.utd_statement.specs.Parsed.{reading_of, IsRefusal, HasAnswer};
+
+use point_core::{Memory, Place};
+use std::alloc::Global;
+use utd_lexer::{TokenList, tokens};
+use utd_parser::parse;
+use utd_syntax::Statement;
+use value_core::Refuse;
+
+/// The tree of a statement, and the place of its first token.
+#[derive(Drop)]
+pub struct Tree {
+    pub first: Place,
+    pub statement: Statement,
+}
+
+/// The tree of a statement, or the refusal of its text.
+#[derive(Drop)]
+pub enum Parsed {
+    Tree(Tree),
+    Refused(Refuse),
+}
+
+fn first_place(list: &TokenList) -> Place
+    ensures { result ≡ place_of (pieces list.now) }
+{
+    match list.list.as_slice().split_first() {
+        None => Place { line: 0, column: 0 },
+        Some((token, _)) => token.place,
+    }
+}
+
+fn tree_of(alloc: Global, text: &[u8], start: Place) -> Result<Tree, Refuse>
+    requires { start.line + start.column + length text.now ≤ 2 ^ 32 - 1 }
+    ensures read { IfOk result (λ t. IsText start text.now (readings.Tree t.first (read_statement t.statement))) }
+    ensures refused { IfErr result (λ refuse. IsRefusal start text.now refuse) }
+{
+    let list = tokens(alloc, text, start)?;
+    let statement = parse(alloc, &list)?;
+    let first = first_place(&list);
+    Ok(Tree { first, statement })
+}
+
+// A refusal as a reading, unless it is want of memory.
+fn refused(refuse: Refuse) -> Result<Parsed, Memory>
+    ensures same { IfOk result (λ p. reading_of p ≡ readings.Refused refuse) }
+    ensures memory { IfOk result (λ _. refuse ≡ refuses.Memory → ⊥) }
+{
+    match refuse {
+        Refuse::Memory => Err(Memory),
+        _ => Ok(Parsed::Refused(refuse)),
+    }
+}
+
+/// The reading of the text from this place on.
+pub fn read_text(alloc: Global, text: &[u8], start: Place) -> Result<Parsed, Memory>
+    requires { start.line + start.column + length text.now ≤ 2 ^ 32 - 1 }
+    ensures read { IfOk result (λ p. IsText start text.now (reading_of p)) }
+    ensures told { IfOk result (λ p. HasAnswer (reading_of p)) }
+{
+    match tree_of(alloc, text, start) {
+        Ok(tree) => Ok(Parsed::Tree(tree)),
+        Err(refuse) => refused(refuse),
+    }
+}

@@ -1,0 +1,167 @@
+// What is answered to one statement.
+ghost use Rattle.std.specs.Prelude.{◌≡◌, map, true, IfOk, None, Some, IsTrue};
+ghost use Rattle.point_core.specs.Faults.{fault};
+ghost use Rattle.utd_syntax.specs.Read.{read_statement};
+ghost use Rattle.utd_print.specs.Lines.{HasLine};
+ghost use Rattle.type_check.specs.Checks.{is_plain_statement};
+ghost use Rattle.utd_statement.specs.Rows.{packed_form};
+ghost use Rattle.utd_statement.specs.Table.{table};
+ghost use Rattle.utd_statement.specs.Parsed.{reading_of, HasAnswer};
+ghost use Rattle.utd_statement.specs.Answers.{Answer, Refusal, unless_empty, of_built, of_tree, first_empty};
+ghost use Rattle.tree_core.specs.Relvars.{read_relvars};
+ghost use Rattle.utd_statement.specs.Replies.{IsReply, Tells};
+
+use crate::built::is_built;
+use crate::form::rows_of;
+use crate::outcome::Database;
+use crate::packing::packed_form;
+use crate::performing::performed;
+use crate::reading::{Parsed, Tree};
+use crate::row::{PlacedRow, Row};
+use crate::table::table;
+use point_core::{Code, Fault, Memory, Place, Steps};
+use std::alloc::{AllocError, Global};
+use std::sync::ledger::Ledger;
+use utd_print::refusal_line;
+use utd_syntax::Statement;
+use value_core::Refuse;
+
+/// What a statement writes, and whether it is accepted.
+#[derive(Drop)]
+pub struct Reply {
+    pub text: Vec<u8>,
+    pub accepted: bool,
+}
+
+// Where the first interval stands that has its END before its BEGIN.
+fn first_empty(rows: &[PlacedRow]) -> Option<Place>
+    ensures { result ≡ first_empty rows.now }
+{
+    for placed in rows {
+        if placed.row.end < placed.row.begin {
+            return Some(placed.place);
+        }
+    }
+    None
+}
+
+fn without_places(alloc: Global, rows: &[PlacedRow]) -> Result<Vec<Row>, AllocError>
+    ensures { IfOk result (λ v. v.items ≡ map (λ r. r.row) rows.now) }
+{
+    rows.iter()
+        .map(|placed: &PlacedRow| placed.row)
+        .collect(alloc)
+}
+
+/// The answer to a refused statement.
+pub fn refusal(alloc: Global, number: u32, refuse: &Refuse) -> Result<Reply, Memory>
+    requires { HasLine refuse.now }
+    ensures { IfOk result (IsReply number (Refusal refuse.now)) }
+{
+    let text = refusal_line(alloc, number, refuse)?;
+    Ok(Reply {
+        text,
+        accepted: false,
+    })
+}
+
+// The table of the packed form.
+fn packed_table(alloc: Global, rows: &[PlacedRow]) -> Result<Reply, Memory>
+    requires { first_empty rows.now ≡ None }
+    ensures text { IfOk result (λ r. r.text.items ≡ table (packed_form (map (λ p. p.row) rows.now))) }
+    ensures accepted { IfOk result (λ r. r.accepted ≡ true) }
+{
+    let rows = without_places(alloc, rows)?;
+    let rows = packed_form(alloc, &rows)?;
+    let text = table(alloc, &rows)?;
+    Ok(Reply {
+        text,
+        accepted: true,
+    })
+}
+
+// The answer to a statement of the form with PACK that is built.
+fn answer_to_rows(alloc: Global, number: u32, rows: &[PlacedRow]) -> Result<Reply, Memory>
+    ensures { IfOk result (IsReply number (unless_empty rows.now (first_empty rows.now))) }
+{
+    match first_empty(rows) {
+        Some(place) => {
+            let code = Code::E33;
+            refusal(alloc, number, &Refuse::At(Fault { place, code }))
+        }
+        None => packed_table(alloc, rows),
+    }
+}
+
+// The answer that is told by this text, or by this refusal.
+fn told(alloc: Global, number: u32, written: Result<Vec<u8>, Refuse>) -> Result<Reply, Memory>
+    ensures { (a : Answer) → Tells written a → IfOk result (IsReply number a) }
+{
+    match written {
+        Ok(text) => Ok(Reply {
+            text,
+            accepted: true,
+        }),
+        Err(Refuse::Memory) => Err(Memory),
+        Err(refuse) => refusal(alloc, number, &refuse),
+    }
+}
+
+// The answer to a statement that is not of that form. One that is not built is refused at its first token.
+fn answer_to_built<L: Ledger>(
+    alloc: Global,
+    database: &Database,
+    number: u32,
+    tree: &Tree,
+    steps: &mut Steps<L>,
+) -> Result<Reply, Memory>
+    ensures { IfOk result (IsReply number (of_built (state_of database.now) tree.now.first (read_statement tree.now.statement)
+        (is_plain_statement (read_statement tree.now.statement)))) }
+{
+    if !is_built(&tree.statement) {
+        let place = tree.first;
+        let code = Code::E01;
+        return refusal(alloc, number, &Refuse::At(Fault { place, code }));
+    }
+    let written = performed(alloc, &tree.statement, database.relvars(), steps);
+    told(alloc, number, written)
+}
+
+#[tactic(auto, unfolding(crate::specs::Answers::of_tree))]
+fn answer_to_tree<L: Ledger>(
+    alloc: Global,
+    database: &Database,
+    number: u32,
+    tree: &Tree,
+    steps: &mut Steps<L>,
+) -> Result<Reply, Memory>
+    ensures { IfOk result (IsReply number (of_tree (state_of database.now) tree.now.first (read_statement tree.now.statement))) }
+{
+    if let Statement::Nothing = &tree.statement {
+        return Ok(Reply {
+            text: Vec::new(alloc),
+            accepted: true,
+        });
+    }
+    match rows_of(alloc, &tree.statement)? {
+        Some(rows) => answer_to_rows(alloc, number, &rows),
+        None => answer_to_built(alloc, database, number, tree, steps),
+    }
+}
+
+/// The answer to what a statement is read as, where these are the relvars.
+pub fn answer_to<L: Ledger>(
+    alloc: Global,
+    database: &Database,
+    number: u32,
+    parsed: &Parsed,
+    steps: &mut Steps<L>,
+) -> Result<Reply, Memory>
+    requires { HasAnswer (reading_of parsed.now) }
+    ensures { IfOk result (IsReply number (answer (state_of database.now) (reading_of parsed.now))) }
+{
+    match parsed {
+        Parsed::Tree(tree) => answer_to_tree(alloc, database, number, tree, steps),
+        Parsed::Refused(refuse) => refusal(alloc, number, refuse),
+    }
+}
