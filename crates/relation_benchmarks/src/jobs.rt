@@ -1,11 +1,11 @@
 // The operators that are timed.
 ghost use Rattle.std.specs.Prelude.{◌≡◌};
-ghost use Rattle.relation_tests.specs.Samples.{AreIntegers};
+ghost use Rattle.relation_benchmarks.specs.Integers.{AreIntegers};
 
+use crate::operators::{joined, last_rows};
 use crate::samples::Sample;
 use point_core::Memory;
 use relation_core::{matching, project};
-use relation_tests::{joined, last_rows};
 use std::alloc::Global;
 use value_core::Relation;
 

@@ -1,7 +1,9 @@
 //! Times one operator on relations of a number of rows, beside one sort of the same rows.
 #![tactic(auto)]
 
+mod integers;
 mod jobs;
+mod operators;
 mod samples;
 
 use crate::jobs::{Job, perform};

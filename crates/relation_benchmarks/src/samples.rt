@@ -1,9 +1,9 @@
 // Relations of integers in no order.
 ghost use Rattle.std.specs.Prelude.{IfOk};
-ghost use Rattle.relation_tests.specs.Samples.{AreIntegers};
+ghost use Rattle.relation_benchmarks.specs.Integers.{AreIntegers};
 
+use crate::integers::{heading, row};
 use point_core::Memory;
-use relation_tests::{heading, row};
 use std::alloc::Global;
 use value_core::{Relation, Row, RowsRefuse};
 

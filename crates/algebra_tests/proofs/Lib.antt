@@ -1,3 +1,0 @@
-pub mod HeadingLemmas
-pub mod ReadyLemmas
-pub mod StateLemmas

@@ -1,4 +1,0 @@
-use Rattle.constraint_tests.proofs.tests.constraints.Given as goal
-
-abbrev pub ghosts-first_wrong : goal.ghosts-first_wrong
-ghosts-first_wrong g a = record { name = a.blank.name; parts = a.blank.parts }
