@@ -1,16 +1,15 @@
 -- The entries of a state, by the first of a name.
-use Rattle.std.proofs.Common.{◌≡◌, ℕ, zero, suc, ◌+◌, ◌<◌, ◌≤◌, Bool, true, false, List, [], ◌∷◌, ◌++◌, length, map, take, get_or, refl, sym, ap, ap₂, ◌∙◌, subst, arith, cond, IsTrue, Option, Some, None, inl, inr, ◌⊎◌}
+use Rattle.std.proofs.Common.{◌≡◌, ℕ, zero, suc, ◌+◌, ◌<◌, ◌≤◌, true, false, List, [], ◌∷◌, ◌++◌, take, refl, sym, ap, ap₂, ◌∙◌, subst, arith, cond, Option, Some, inl, inr, ◌⊎◌}
 use Rattle.std.specs.Str.{bytes_eq}
 use Rattle.std.proofs.lemmas.List.{append-nil}
 use Rattle.std.proofs.Common.{append_assoc}
 use Rattle.algebra_core.proofs.MadeLemmas.{same_name}
-use Rattle.value_core.specs.Values.{Name, Heading, Relation, most_rows}
-use Rattle.tree_core.specs.Relvars.{PlainRelvar, base, view, Entries, relvar_named, relvar_heading, heading_if}
-use Rattle.tree_core.specs.Trees.{Tree}
-use Rattle.algebra_core.specs.Names.{found, each_after, each_in, given, given_entry, given_relvar, with_value}
-use Rattle.algebra_core.specs.Scopes.{IsFirstAt, nodes, relvar_nodes, weight}
-use Rattle.algebra_core.specs.Typing.{Headings, heading_named, IsTypedTree}
-use Rattle.algebra_core.specs.WellMade.{headings_of, IsRelvar, AreRelvars, IsGiven}
+use Rattle.value_core.specs.Values.{Name, Heading, Relation}
+use Rattle.tree_core.specs.Relvars.{PlainRelvar, Entries, relvar_named, relvar_heading}
+use Rattle.algebra_core.specs.Names.{found, each_after, each_in, given, given_relvar}
+use Rattle.algebra_core.specs.Scopes.{IsFirstAt, relvar_nodes, weight}
+use Rattle.algebra_core.specs.Typing.{heading_named}
+use Rattle.algebra_core.specs.WellMade.{headings_of, IsRelvar, AreRelvars}
 
 abbrev Entry : Type 0
 Entry = Name × PlainRelvar

@@ -1,5 +1,5 @@
 -- What nodes mean, from what their parts mean.
-use Rattle.std.proofs.Common.{◌≡◌, ℕ, zero, suc, ◌+◌, ◌<◌, ◌≤◌, Bool, true, false, List, [], ◌∷◌, length, map, take, get_or, refl, sym, ap, ap₂, ◌∙◌, subst, arith, cond, IsTrue, Option, Some, None, Result, Ok, Err, nat_lt, ◌⊎◌, inl, inr}
+use Rattle.std.proofs.Common.{◌≡◌, ℕ, zero, suc, ◌<◌, ◌≤◌, Bool, true, false, List, [], ◌∷◌, length, map, take, get_or, refl, sym, ap, ◌∙◌, subst, arith, cond, IsTrue, Option, Some, None, Result, Ok, Err, nat_lt, ◌⊎◌, inl, inr}
 use Rattle.std.specs.List.{position, position_or_len}
 use Rattle.std.proofs.lemmas.List.{length-map}
 use Rattle.std.proofs.lemmas.List.Sums.{fails_before_first}
@@ -7,7 +7,7 @@ use Rattle.relation_core.proofs.FilterLemmas.{take_all}
 use Rattle.std.proofs.lemmas.Bool.Decides.{nat_tests}
 use Rattle.std.specs.Prelude.{slice_get}
 use Rattle.std.specs.Str.{bytes_eq}
-use Rattle.std.proofs.lemmas.Bool.{true≢false, and_parts}
+use Rattle.std.proofs.lemmas.Bool.{true≢false}
 use Rattle.std.proofs.lemmas.List.Quantifiers.{position-Some}
 use Rattle.base_core.specs.Outcomes.{then_give, both}
 use Rattle.point_core.specs.declared.fault.Place.{Place}
@@ -21,11 +21,11 @@ use Rattle.tree_core.specs.declared.relvar.Relvar.{Relvar}
 use Rattle.tree_core.specs.declared.tree.RelTree.{RelTree}
 use Rattle.tree_core.specs.declared.tree.RelForm.{RelForm, Named, Literal, Infix', Project', Rename', Restrict', Extend', Summarize', Pack', Unpack', Using'}
 use Rattle.algebra_core.specs.Meanings.{RowsMeant, Known, at_name, limited, relvar_meaning, known_in}
-use Rattle.algebra_core.specs.Names.{found, each_in, given, given_relvar, given_entry}
-use Rattle.algebra_core.specs.Plainness.{IsPlain, relvar_is_plain, plain_in}
-use Rattle.algebra_core.specs.Scopes.{CanEvaluate, CanLookUp, IsFirstAt, state_of, all_of, first_of, with_of, value_of, known_at, stored_meaning, stored_work, work, up_to, current}
+use Rattle.algebra_core.specs.Names.{found, given, given_relvar, given_entry}
+use Rattle.algebra_core.specs.Plainness.{IsPlain, relvar_is_plain}
+use Rattle.algebra_core.specs.Scopes.{CanEvaluate, CanLookUp, IsFirstAt, state_of, all_of, with_of, value_of, known_at, stored_meaning, stored_work, work, up_to, current}
 use Rattle.algebra_core.specs.Typing.{heading_named, IsTypedTree}
-use Rattle.algebra_core.specs.WellMade.{sizes_of, headings_of, IsGiven, IsRelvar, IsWellMade, IsTypedFor}
+use Rattle.algebra_core.specs.WellMade.{sizes_of, headings_of, IsGiven, IsWellMade, IsTypedFor}
 use Rattle.algebra_core.specs.declared.scope.Scope.{Scope}
 use Rattle.algebra_core.proofs.EntryLemmas.{found_first, named_first, heading_first, weight_first, relvar_first, given_first}
 use Rattle.algebra_core.proofs.LimitLemmas.{with_rows}

@@ -1,11 +1,11 @@
 -- The rows of groups fit the heading that the aggregates make with that of the rows.
-use Rattle.std.proofs.Common.{◌≡◌, ◌↔◌, ℕ, zero, suc, ◌+◌, ◌<◌, ◌≤◌, ℤ, pos, Bool, true, false, cond, List, [], ◌∷◌, ◌++◌, length, map, get_or, refl, sym, ap, ap₂, ◌∙◌, subst, arith, IsTrue, inl, inr, Result, Ok, Err}
+use Rattle.std.proofs.Common.{◌≡◌, ℕ, zero, suc, ◌<◌, ◌≤◌, ℤ, pos, Bool, true, false, cond, List, [], ◌∷◌, ◌++◌, length, map, get_or, refl, sym, ap, ap₂, ◌∙◌, subst, arith, IsTrue, inl, inr, Ok, Err}
 use Rattle.std.specs.List.{All, Contains, list_all, best_of, filter}
-use Rattle.std.proofs.lemmas.Bool.{true≢false, and_parts, and_from}
+use Rattle.std.proofs.lemmas.Bool.{and_parts, and_from}
 use Rattle.std.proofs.lemmas.Int.{ints}
 use Rattle.std.proofs.lemmas.List.{map-append, length-map}
 use Rattle.std.proofs.lemmas.List.Sorted.{IsPermutation-sym}
-use Rattle.base_core.specs.Outcomes.{then_give, both, first_of_all, least_of_all}
+use Rattle.base_core.specs.Outcomes.{then_give, first_of_all, least_of_all}
 use Rattle.base_core.proofs.MemberLemmas.{In-append, In-map}
 use Rattle.base_core.proofs.OutcomeLemmas.{least_of_all-Ok, length-first_of_all}
 use Rattle.base_core.proofs.SetLemmas.{In}
@@ -16,7 +16,7 @@ use Rattle.point_core.specs.contracts.fault.FaultOrd.TheImpl.Laws.{total-law}
 use Rattle.point_core.specs.declared.any_type.AnyType.TheVariants.{Integer}
 use Rattle.point_core.specs.declared.fault.Place.{Place}
 use Rattle.value_core.specs.Headings.{IsHeadingOf}
-use Rattle.value_core.specs.Values.{Name, Row, Heading, Value, truth, point, is_heading, fits, fits_heading, most_rows, rows_of, row_cmp}
+use Rattle.value_core.specs.Values.{Name, Row, Heading, Value, point, is_heading, fits, fits_heading, most_rows, rows_of, row_cmp}
 use Rattle.value_core.specs.declared.kind.Kind.{Kind}
 use Rattle.value_core.specs.declared.kind.Kind.TheVariants.{Point}
 use Rattle.scalar_core.specs.Expressions.{Expr}

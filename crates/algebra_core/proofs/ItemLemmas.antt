@@ -1,15 +1,15 @@
 -- The values of items on a row, one after the other.
-use Rattle.std.proofs.Common.{◌≡◌, ℕ, zero, suc, ◌+◌, ◌<◌, List, [], ◌∷◌, ◌++◌, length, map, take, drop, get_or, refl, sym, ap, ◌∙◌, subst, arith, Result, Ok, Err}
-use Rattle.std.proofs.lemmas.List.{take_more, map-append, length-map, get_or-map, take-append-drop}
+use Rattle.std.proofs.Common.{◌≡◌, ℕ, zero, suc, ◌+◌, ◌<◌, List, [], ◌∷◌, ◌++◌, length, map, take, drop, get_or, sym, ap, ◌∙◌, subst, arith, Ok, Err}
+use Rattle.std.proofs.lemmas.List.{take_more, map-append, take-append-drop}
 use Rattle.relation_core.proofs.FilterLemmas.{head_of}
 use Rattle.point_core.specs.Faults.{OrFault}
 use Rattle.point_core.specs.declared.fault.Stop.{Stop}
 use Rattle.point_core.specs.declared.fault.Stop.TheVariants.{Fault as Faulted, Memory as OfMemory}
-use Rattle.base_core.specs.Outcomes.{then_give, both, first_of_all}
-use Rattle.base_core.proofs.OutcomeLemmas.{first_of_all-more, first_of_all-Err_at, first_of_all-Err}
+use Rattle.base_core.specs.Outcomes.{both, first_of_all}
+use Rattle.base_core.proofs.OutcomeLemmas.{first_of_all-more, first_of_all-Err_at}
 use Rattle.value_core.specs.declared.value.Value.{Value}
 use Rattle.value_core.specs.Plain.{plain}
-use Rattle.value_core.specs.Values.{Name, Row, Value as PlainValue}
+use Rattle.value_core.specs.Values.{Name, Row}
 use Rattle.scalar_core.specs.Answers.{Gives}
 use Rattle.scalar_core.specs.Expressions.{Expr, read}
 use Rattle.scalar_core.specs.Kinds.{IsTypedOver}

@@ -5,6 +5,7 @@ pub mod ItemLemmas
 pub mod LimitLemmas
 pub mod LiteralLemmas
 pub mod MadeLemmas
+pub mod OperandLemmas
 pub mod RowlessLemmas
 pub mod SummaryLemmas
 pub mod TruthLemmas

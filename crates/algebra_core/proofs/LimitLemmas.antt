@@ -1,5 +1,5 @@
 -- Operators that make no more rows than they are given stay within the limit. And the heading of a list of attributes is one.
-use Rattle.std.proofs.Common.{◌≡◌, ◌≤◌, ℕ, Bool, true, false, List, ◌++◌, length, map, refl, sym, ap, ap₂, ◌∙◌, subst, arith, Result, Ok, Err, nat_le}
+use Rattle.std.proofs.Common.{◌≡◌, ◌≤◌, ℕ, Bool, List, ◌++◌, length, map, refl, sym, ap, ap₂, ◌∙◌, arith, Ok, Err}
 use Rattle.std.proofs.lemmas.Bool.Decides.{nat_tests}
 use Rattle.std.proofs.lemmas.List.{length-map}
 use Rattle.std.proofs.lemmas.List.Sorted.{IsPermutation-sym, IsPermutation-trans}

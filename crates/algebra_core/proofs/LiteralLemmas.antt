@@ -1,14 +1,14 @@
 -- The rows of tuples, one after the other.
-use Rattle.std.proofs.Common.{◌≡◌, ℕ, zero, suc, ◌+◌, ◌<◌, List, [], ◌∷◌, ◌++◌, length, map, take, get_or, refl, sym, ap, ◌∙◌, subst, arith, IsTrue, Result, Ok, Err}
+use Rattle.std.proofs.Common.{◌≡◌, ℕ, suc, ◌<◌, List, [], ◌∷◌, ◌++◌, length, map, take, get_or, refl, sym, ap, ◌∙◌, subst, arith, IsTrue, Ok, Err}
 use Rattle.std.specs.List.{All}
 use Rattle.std.proofs.lemmas.Bool.{and_from}
 use Rattle.std.proofs.lemmas.List.{length-map, get_or-map}
-use Rattle.base_core.specs.Outcomes.{then_give, both, first_of_all}
+use Rattle.base_core.specs.Outcomes.{both, first_of_all}
 use Rattle.point_core.specs.Faults.{OrFault}
 use Rattle.point_core.specs.declared.fault.Stop.{Stop}
 use Rattle.point_core.specs.declared.fault.Stop.TheVariants.{Fault as Faulted, Memory as OfMemory}
 use Rattle.value_core.specs.Relations.{all_fit}
-use Rattle.value_core.specs.Values.{Name, Row, Heading, fits_heading}
+use Rattle.value_core.specs.Values.{Row, Heading, fits_heading}
 use Rattle.scalar_core.specs.Answers.{Gives}
 use Rattle.relation_core.specs.Answers.{Answers}
 use Rattle.relation_core.specs.Agreement.{names_of}

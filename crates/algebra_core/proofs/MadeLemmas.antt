@@ -1,13 +1,13 @@
 -- Rows with made values fit the heading that these make with another one.
-use Rattle.std.proofs.Common.{◌≡◌, ◌⊎◌, inl, inr, ℕ, zero, suc, ◌+◌, ◌<◌, Bool, true, false, List, [], ◌∷◌, ◌++◌, length, map, get_or, refl, sym, ap, ap₂, ◌∙◌, subst, arith, cond, IsTrue, Ordering, Less, Equal, Decides, Result, Ok, Err, not}
+use Rattle.std.proofs.Common.{◌≡◌, ◌⊎◌, inl, inr, ℕ, suc, Bool, true, false, List, [], ◌∷◌, ◌++◌, get_or, refl, sym, ap, ap₂, ◌∙◌, subst, cond, IsTrue, Less, Equal, Ok, Err, not}
 use Rattle.std.specs.Str.{bytes_eq}
 use Rattle.std.specs.List.{list_any}
 use Rattle.std.proofs.lemmas.List.{map-append, append-nil}
 use Rattle.std.proofs.lemmas.List.Sorted.{IsPermutation-sym}
 use Rattle.std.proofs.lemmas.Bool.{true≢false, and_parts, and_from}
 use Rattle.std.proofs.lemmas.Slice.Eq.{bytes_eq-Decides}
-use Rattle.std.specs.Cmp.{IsTotalOrder, tied_itself}
-use Rattle.base_core.proofs.SetLemmas.{In, AllAfter, Ascends}
+use Rattle.std.specs.Cmp.{tied_itself}
+use Rattle.base_core.proofs.SetLemmas.{In, Ascends}
 use Rattle.base_core.specs.Outcomes.{then_give, both}
 use Rattle.base_core.proofs.MemberLemmas.{In-append, In-filter}
 use Rattle.point_core.specs.Faults.{OrFault}
@@ -24,7 +24,7 @@ use Rattle.tree_core.specs.Trees.{PlainSets}
 use Rattle.algebra_core.specs.Places.{place_among, places}
 use Rattle.algebra_core.specs.Rows.{set_names, values_on, extended_at}
 use Rattle.algebra_core.specs.Scalars.{AreTypedOver}
-use Rattle.algebra_core.specs.Typing.{IsScalar, Makes, IsTuple, IsExtension, not_named}
+use Rattle.algebra_core.specs.Typing.{Makes, IsTuple, IsExtension, not_named}
 
 abbrev pub Attribute : Type 0
 Attribute = Name × Kind

@@ -1,7 +1,7 @@
 -- The values of aggregates, and the rows of groups.
-use Rattle.std.proofs.Common.{◌≡◌, ◌↔◌, ℕ, zero, suc, ◌+◌, ◌<◌, Bool, false, List, [], ◌∷◌, ◌++◌, length, map, take, get_or, refl, sym, ap, ◌∙◌, subst, arith, Option, Some, None, IsSome, IsNone, IfSome, Result, Ok, Err}
+use Rattle.std.proofs.Common.{◌≡◌, ◌↔◌, ℕ, zero, suc, ◌<◌, Bool, false, List, [], ◌∷◌, length, map, get_or, refl, sym, ap, ◌∙◌, subst, arith, Option, Some, None, IsNone, IfSome}
 use Rattle.std.specs.Cmp.{IsStrictWeakOrder}
-use Rattle.std.specs.List.{All, IsFirstBest, best_of}
+use Rattle.std.specs.List.{IsFirstBest}
 use Rattle.std.proofs.lemmas.List.MinMax.{ranks_by, IsStrictWeakOrder-flip, IsFirstBest-unique, IsFirstBest-from_best_of}
 use Rattle.point_core.specs.Faults.{OrFault}
 use Rattle.base_core.specs.Outcomes.{least_of_all}
@@ -9,16 +9,15 @@ use Rattle.value_core.specs.declared.value.Value.{Value}
 use Rattle.value_core.specs.Plain.{plain}
 use Rattle.value_core.specs.Values.{Row, truth, Value as PlainValue}
 use Rattle.scalar_core.specs.Expressions.{Expr}
-use Rattle.scalar_core.specs.Kinds.{IsTypedOver}
 use Rattle.scalar_core.specs.ScalarValues.{value}
 use Rattle.relation_core.specs.Groups.{rows_at}
 use Rattle.relation_core.specs.Operators.{fault_order}
-use Rattle.tree_core.specs.Trees.{PlainAggregate, read_aggregate, read_aggregate_form}
+use Rattle.tree_core.specs.Trees.{read_aggregate, read_aggregate_form}
 use Rattle.tree_core.specs.declared.tree.Aggregate.{Aggregate}
-use Rattle.algebra_core.specs.Rows.{extreme, picked, aggregate_value, aggregates_on, values_over}
+use Rattle.algebra_core.specs.Rows.{extreme, picked, values_over}
 use Rattle.u_summary.specs.Summaries.{is_before}
 use Rattle.value_core.specs.Order.{value_total}
-use Rattle.algebra_core.specs.Scalars.{AllOver, AreSummedOver, IsSummedOver}
+use Rattle.algebra_core.specs.Scalars.{AreSummedOver, IsSummedOver}
 
 -- ---- extremes
 

@@ -1,5 +1,5 @@
 -- The truth of a test in a state, from that in the scope of the whole state.
-use Rattle.std.proofs.Common.{◌≡◌, ◌≤◌, ℕ, Bool, not, List, length, refl, sym, ap, ◌∙◌, subst, IsTrue, Option, Some, None, Result, Ok}
+use Rattle.std.proofs.Common.{◌≡◌, ◌≤◌, ℕ, Bool, List, length, sym, ap, ◌∙◌, Option, Some, None, Result, Ok}
 use Rattle.std.proofs.lemmas.Bool.{true≢false}
 use Rattle.base_core.specs.Outcomes.{both}
 use Rattle.point_core.specs.declared.fault.Place.{Place}
@@ -9,7 +9,7 @@ use Rattle.value_core.specs.Values.{Name}
 use Rattle.tree_core.specs.Relvars.{Entries}
 use Rattle.tree_core.specs.Trees.{Tree, relate}
 use Rattle.tree_core.specs.declared.test.RelateWord.{RelateWord}
-use Rattle.algebra_core.specs.Meanings.{Known, meaning, plainly, known_in}
+use Rattle.algebra_core.specs.Meanings.{meaning, plainly, known_in}
 use Rattle.algebra_core.specs.Names.{given}
 use Rattle.algebra_core.specs.Plainness.{IsPlainTest}
 use Rattle.algebra_core.specs.Scopes.{all_of, with_of, value_of, known_at}

@@ -1,6 +1,6 @@
 -- The view of a history: what lasts, up to the last point, beside what has ended.
 --     joined_history      a during relvar and an expression of its since relvar's heading, as one relation
-use Rattle.std.specs.Prelude.{ℕ, List, [], ◌∷◌, nat_eq, not, filter, map, slice_index_or}
+use Rattle.std.specs.Prelude.{ℕ, List, [], ◌∷◌, nat_eq, not, filter, slice_index_or}
 use Rattle.interval_core.specs.declared.selector.Ends.TheVariants.{Closed}
 use Rattle.point_core.specs.declared.fault.Place.{Place}
 use Rattle.point_core.specs.declared.any_type.AnyType.{AnyType}
@@ -16,7 +16,7 @@ use Rattle.relation_core.specs.Agreement.{names_of, position_of}
 use Rattle.relation_core.specs.Parts.{no_attribute}
 use Rattle.tree_core.specs.Trees.{Tree, named, infix_of, project, extend, using}
 use Rattle.tree_core.specs.declared.tree.InfixWord.TheVariants.{Union}
-use Rattle.algebra_core.specs.Meanings.{positions_of, names_at}
+use Rattle.algebra_core.specs.Meanings.{positions_of}
 use Rattle.algebra_core.specs.Typing.{kind_at}
 
 -- a heading with one attribute more

@@ -2,6 +2,7 @@ pub mod Declarations
 pub mod Histories
 pub mod Meanings
 pub mod Names
+pub mod Operands
 pub mod Places
 pub mod Plainness
 pub mod RowPacking

@@ -2,7 +2,7 @@
 --     Known      what names mean so far
 --     meaning      what an expression means where names mean that
 --     known_in, meaning_in      what names and expressions mean in a state
-use Rattle.std.specs.Prelude.{ℕ, Bool, List, [], ◌∷◌, map, length, nat_le, slice_index_or, Ok, Err, if◌then◌else◌}
+use Rattle.std.specs.Prelude.{ℕ, Bool, List, [], map, length, nat_le, slice_index_or, Ok, Err, if◌then◌else◌}
 use Rattle.base_core.specs.Outcomes.{then_give, both, first_of_all}
 use Rattle.point_core.specs.Faults.{OrFault, fault}
 use Rattle.point_core.specs.declared.fault.Place.{Place}
@@ -11,7 +11,7 @@ use Rattle.value_core.specs.Values.{most_rows, Name, Row, Heading, rows_of}
 use Rattle.scalar_core.specs.Expressions.{Expr}
 use Rattle.scalar_core.specs.Operations.{is_true}
 use Rattle.scalar_core.specs.ScalarValues.{value}
-use Rattle.relation_core.specs.Agreement.{names_of, position_of, matched, unmatched}
+use Rattle.relation_core.specs.Agreement.{position_of, matched, unmatched}
 use Rattle.relation_core.specs.Groups.{rows_at, summarized}
 use Rattle.relation_core.specs.Joins.{joined}
 use Rattle.relation_core.specs.Operators.{united, intersected, subtracted, restricted, extended}

@@ -2,7 +2,7 @@
 use Rattle.std.specs.Prelude.{List, [], ◌∷◌, IsTrue}
 use Rattle.std.specs.List.{All}
 use Rattle.value_core.specs.declared.kind.Kind.TheVariants.{Truth}
-use Rattle.value_core.specs.Values.{Name, Heading, Row, fits_heading}
+use Rattle.value_core.specs.Values.{Heading, Row, fits_heading}
 use Rattle.scalar_core.specs.Expressions.{Expr}
 use Rattle.scalar_core.specs.Kinds.{IsTyped, IsTypedOver}
 use Rattle.tree_core.specs.Trees.{PlainSets, PlainAggregateForm, count_rows, sum_of, min_of, max_of, PlainAggregate}

@@ -3,7 +3,7 @@
 --     CanEvaluate      what an expression in a scope keeps
 --     CanLookUp      what an entry of a scope keeps
 --     known_at      what the names of a scope mean
-use Rattle.std.specs.Prelude.{◌≡◌, ℕ, zero, suc, ◌+◌, Bool, true, false, List, [], ◌∷◌, take, Option, Some, None, option_map, IsTrue, if◌then◌else◌}
+use Rattle.std.specs.Prelude.{◌≡◌, ℕ, zero, suc, ◌+◌, true, false, List, [], ◌∷◌, take, Option, Some, None, option_map, IsTrue, if◌then◌else◌}
 use Rattle.std.specs.Str.{bytes_eq}
 use Rattle.value_core.specs.Values.{Name, Relation}
 use Rattle.tree_core.specs.Relvars.{PlainRelvar, base, view, Entries, State, read_relvars}

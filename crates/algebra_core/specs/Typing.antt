@@ -3,7 +3,7 @@
 --     is_kind      which kinds there are, where so many ordinal types are declared
 --     IsScalar      of expressions over rows
 --     IsTypedTree, IsTypedTest      of relational expressions and tests, where names have these headings
-use Rattle.std.specs.Prelude.{◌≡◌, ℕ, zero, suc, ◌<◌, ◌≤◌, Bool, true, false, not, ◌&&◌, List, [], ◌∷◌, ◌++◌, map, filter, length, nat_eq, Option, Some, None, is_none, slice_index_or, IsTrue, if◌then◌else◌}
+use Rattle.std.specs.Prelude.{◌≡◌, ℕ, zero, suc, ◌<◌, ◌≤◌, Bool, true, false, not, ◌&&◌, List, [], ◌∷◌, ◌++◌, filter, length, nat_eq, Option, Some, None, is_none, slice_index_or, IsTrue, if◌then◌else◌}
 use Rattle.std.specs.List.{list_any, list_all, All, IsDistinct}
 use Rattle.std.specs.Ordering.{nat_cmp}
 use Rattle.std.specs.Str.{bytes_eq}

@@ -1,6 +1,6 @@
 -- Well made states: what declarations keep. And what is typed for a state.
-use Rattle.std.specs.Prelude.{◌≡◌, ℕ, suc, ◌<◌, ◌≤◌, Bool, true, false, ◌&&◌, List, [], ◌∷◌, ◌++◌, map, length, nat_eq, Option, Some, None, IsTrue}
-use Rattle.std.specs.List.{list_all, list_any, All, IsDistinct}
+use Rattle.std.specs.Prelude.{◌≡◌, ℕ, ◌<◌, ◌≤◌, List, [], ◌∷◌, ◌++◌, map, length, nat_eq, Option, Some, None, IsTrue}
+use Rattle.std.specs.List.{list_all, All, IsDistinct}
 use Rattle.std.specs.Str.{bytes_eq}
 use Rattle.point_core.specs.declared.fault.Place.{Place}
 use Rattle.value_core.specs.declared.constraint.Constraint.{Constraint}

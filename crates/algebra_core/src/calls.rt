@@ -12,7 +12,7 @@ ghost use Rattle.algebra_core.specs.Scopes.{CanEvaluate, known_at};
 ghost use Rattle.algebra_core.specs.Truths.{truth_in, related_rows, no_rows, within};
 ghost use Rattle.algebra_core.specs.WellMade.{IsWellMade, IsTypedFor, IsTypedTestFor, IsGiven};
 
-use crate::evaluation::answer;
+use crate::evaluation::{answer, operand};
 use crate::scope::Scope;
 use point_core::{Steps, Stop};
 use std::alloc::Global;
@@ -90,9 +90,9 @@ fn related(
     ensures { Answers result (both (meaning (known_at scope.now) plainly (read_tree l.now)) (meaning (known_at scope.now) plainly (read_tree r.now))
         (λ a b. Ok (related_rows word a b))) }
 {
-    let left = answer(alloc, l, scope)?;
-    let right = answer(alloc, r, scope)?;
-    Ok(compare(word, &left, &right))
+    let left = operand(alloc, l, scope)?;
+    let right = operand(alloc, r, scope)?;
+    Ok(compare(word, left.relation(), right.relation()))
 }
 
 // Whether the relation of the expression has no rows.
@@ -100,8 +100,8 @@ fn is_empty(alloc: Global, t: &RelTree, scope: &Scope<'_>) -> Result<bool, Stop>
     requires { CanEvaluate scope.now (read_tree t.now) }
     ensures { Answers result (then_give (meaning (known_at scope.now) plainly (read_tree t.now)) (λ a. Ok (no_rows a))) }
 {
-    let relation = answer(alloc, t, scope)?;
-    Ok(relation.rows().is_empty())
+    let operand = operand(alloc, t, scope)?;
+    Ok(operand.relation().rows().is_empty())
 }
 
 // Whether the relation of the expression has rows.
@@ -109,8 +109,8 @@ fn is_not_empty(alloc: Global, t: &RelTree, scope: &Scope<'_>) -> Result<bool, S
     requires { CanEvaluate scope.now (read_tree t.now) }
     ensures { Answers result (then_give (meaning (known_at scope.now) plainly (read_tree t.now)) (λ a. Ok (not (no_rows a)))) }
 {
-    let relation = answer(alloc, t, scope)?;
-    Ok(!relation.rows().is_empty())
+    let operand = operand(alloc, t, scope)?;
+    Ok(!operand.relation().rows().is_empty())
 }
 
 // Whether two relations stand as the word says.

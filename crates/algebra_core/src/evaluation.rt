@@ -1,5 +1,5 @@
 // The relations of expressions.
-ghost use Rattle.std.specs.Prelude.{◌≡◌, Ok, map};
+ghost use Rattle.std.specs.Prelude.{◌≡◌, Ok, IfSome, map};
 ghost use Rattle.base_core.specs.Outcomes.{then_give};
 ghost use Rattle.value_core.specs.Values.{Heading as PlainHeading};
 ghost use Rattle.scalar_core.specs.Expressions.{read};
@@ -7,9 +7,11 @@ ghost use Rattle.relation_core.specs.Answers.{Answers, under};
 ghost use Rattle.tree_core.specs.Relvars.{read_relvar, relvar_heading};
 ghost use Rattle.tree_core.specs.Trees.{read_tree, read_sets, read_aggregate, named as named_tree, infix_of, project as project_tree, rename as rename_tree, restrict as restrict_tree, extend as extend_tree, summarize as summarize_tree};
 ghost use Rattle.algebra_core.specs.Meanings.{RowsMeant, meaning, plainly, at_name, limited};
+ghost use Rattle.algebra_core.specs.Operands.{held_in, IsKept};
 ghost use Rattle.algebra_core.specs.Scopes.{CanEvaluate, CanLookUp, known_at, stored_meaning, up_to, current, with_of, value_of};
 
 use crate::literal::literal;
+use crate::operand::Operand;
 use crate::operators::{self, MOST_ROWS};
 use crate::scope::Scope;
 use crate::summary;
@@ -40,6 +42,25 @@ pub(crate) fn answer(alloc: Global, tree: &RelTree, scope: &Scope<'_>) -> Result
         RelForm::Extend(sets, t) => extend(alloc, tree, sets, t, scope),
         RelForm::Summarize(by, aggregates, t) => summarize(alloc, tree, by, aggregates, t, scope),
         RelForm::Pack(_, _) | RelForm::Unpack(_, _) | RelForm::Using(_, _) => unreachable!(),
+    }
+}
+
+/// The relation of an operand: that of a base relvar's name stays where it is.
+#[cycle(answer)]
+pub(crate) fn operand<'a>(
+    alloc: Global,
+    tree: &RelTree,
+    scope: &Scope<'a>,
+) -> Result<Operand<'a>, Stop>
+    requires { CanEvaluate scope.now (read_tree tree.now) }
+    ensures { Answers (held_in result) (under tree.now.heading (meaning (known_at scope.now) plainly (read_tree tree.now))) }
+{
+    match kept(tree, scope) {
+        Some(relation) => Ok(Operand::Kept(relation)),
+        None => {
+            let relation = answer(alloc, tree, scope)?;
+            Ok(Operand::Made(relation))
+        }
     }
 }
 
@@ -99,9 +120,9 @@ fn infix(
     ensures { Answers result (under tree.now.heading (meaning (known_at scope.now) plainly
         (infix_of tree.now.place tree.now.heading word (read_tree l.now) (read_tree r.now)))) }
 {
-    let left = answer(alloc, l, scope)?;
-    let right = answer(alloc, r, scope)?;
-    operators::infix(alloc, tree.place, word, &left, &right)
+    let left = operand(alloc, l, scope)?;
+    let right = operand(alloc, r, scope)?;
+    operators::infix(alloc, tree.place, word, left.relation(), right.relation())
 }
 
 // The parts of the operand's rows.
@@ -117,8 +138,8 @@ fn project(
     ensures { Answers result (under tree.now.heading (meaning (known_at scope.now) plainly
         (project_tree tree.now.place tree.now.heading kept.now (read_tree t.now)))) }
 {
-    let part = answer(alloc, t, scope)?;
-    operators::projected(alloc, &part, kept)
+    let part = operand(alloc, t, scope)?;
+    operators::projected(alloc, part.relation(), kept)
 }
 
 // The operand with new names.
@@ -134,8 +155,8 @@ fn rename(
     ensures { Answers result (under tree.now.heading (meaning (known_at scope.now) plainly
         (rename_tree tree.now.place tree.now.heading names.now (read_tree t.now)))) }
 {
-    let part = answer(alloc, t, scope)?;
-    operators::renamed(alloc, &part, names)
+    let part = operand(alloc, t, scope)?;
+    operators::renamed(alloc, part.relation(), names)
 }
 
 // The operand's rows for which the condition holds.
@@ -151,8 +172,8 @@ fn restrict(
     ensures { Answers result (under tree.now.heading (meaning (known_at scope.now) plainly
         (restrict_tree tree.now.place tree.now.heading (read c.now) (read_tree t.now)))) }
 {
-    let part = answer(alloc, t, scope)?;
-    operators::restricted(alloc, &part, c)
+    let part = operand(alloc, t, scope)?;
+    operators::restricted(alloc, part.relation(), c)
 }
 
 // The operand's rows with the values of the items.
@@ -168,8 +189,8 @@ fn extend(
     ensures { Answers result (under tree.now.heading (meaning (known_at scope.now) plainly
         (extend_tree tree.now.place tree.now.heading (read_sets sets.now) (read_tree t.now)))) }
 {
-    let part = answer(alloc, t, scope)?;
-    operators::extended(alloc, &part, &tree.heading, sets)
+    let part = operand(alloc, t, scope)?;
+    operators::extended(alloc, part.relation(), &tree.heading, sets)
 }
 
 // A row for each group of the operand's rows.
@@ -186,8 +207,8 @@ fn summarize(
     ensures { Answers result (under tree.now.heading (meaning (known_at scope.now) plainly
         (summarize_tree tree.now.place tree.now.heading by.now (map read_aggregate aggregates.now) (read_tree t.now)))) }
 {
-    let part = answer(alloc, t, scope)?;
-    summary::summarized(alloc, &part, &tree.heading, by, aggregates)
+    let part = operand(alloc, t, scope)?;
+    summary::summarized(alloc, part.relation(), &tree.heading, by, aggregates)
 }
 
 // The scope of the entries before a place.
@@ -202,7 +223,51 @@ fn earlier<'a>(scope: &Scope<'a>, at: usize) -> Scope<'a>
     }
 }
 
+// The value that an expression names, where it names a base relvar.
+fn kept<'a>(tree: &RelTree, scope: &Scope<'a>) -> Option<&'a Relation>
+    requires { CanEvaluate scope.now (read_tree tree.now) }
+    ensures { IfSome result (λ v. under tree.now.heading (meaning (known_at scope.now) plainly (read_tree tree.now)) ≡ Ok v.now) }
+{
+    let RelForm::Named(name) = &tree.form else {
+        return None;
+    };
+    match scope.relvars.list.get_full(name) {
+        Some((_, _, relvar)) => kept_at(name, relvar, scope),
+        None => None,
+    }
+}
+
+// The value of a base relvar, or the one that stands for it; none of a view.
+fn kept_at<'a>(name: &Name, relvar: &'a Relvar, scope: &Scope<'a>) -> Option<&'a Relation>
+    ensures { IfSome result (λ v. IsKept scope.now name.now (read_relvar relvar.now) v.now) }
+{
+    match relvar {
+        Relvar::Base {
+            value,
+            constraints: _,
+        } => {
+            let relation = newest(name, value, scope);
+            prove!(relation.rows().len() <= MOST_ROWS);
+            Some(relation)
+        }
+        Relvar::View {
+            tree: _,
+            history: _,
+        } => None,
+    }
+}
+
 // The value of a base relvar, or the one that stands for it.
+fn newest<'a>(name: &Name, value: &'a Relation, scope: &Scope<'a>) -> &'a Relation
+    ensures { result.now ≡ current (with_of scope.now) (value_of scope.now) name.now value.now }
+{
+    match (scope.with, scope.value) {
+        (Some(with), Some(given)) if *name == *with => given,
+        _ => value,
+    }
+}
+
+// A copy of that value.
 fn base_value(
     alloc: Global,
     name: &Name,
@@ -211,10 +276,7 @@ fn base_value(
 ) -> Result<Relation, Stop>
     ensures { Answers result (Ok (current (with_of scope.now) (value_of scope.now) name.now value.now)) }
 {
-    let relation = match (scope.with, scope.value) {
-        (Some(with), Some(given)) if *name == *with => given.copy(alloc)?,
-        _ => value.copy(alloc)?,
-    };
+    let relation = newest(name, value, scope).copy(alloc)?;
     Ok(relation)
 }
 

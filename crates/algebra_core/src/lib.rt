@@ -6,6 +6,7 @@ mod calls;
 mod evaluation;
 mod items;
 mod literal;
+mod operand;
 mod operators;
 mod places;
 mod scope;

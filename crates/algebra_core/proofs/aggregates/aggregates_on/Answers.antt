@@ -1,4 +1,4 @@
-use Rattle.std.proofs.Common.{◌≡◌, ◌<◌, List, ◌∷◌, [], length, map, arith, Ok, Err, sym, ap, ◌∙◌, Vec, Global}
+use Rattle.std.proofs.Common.{◌<◌, List, ◌∷◌, [], length, map, arith, Ok, sym, ap, ◌∙◌, Vec, Global}
 use Rattle.std.proofs.lemmas.List.{map-append}
 use Rattle.std.proofs.lemmas.Result.{err_from_is_err_and}
 use Rattle.value_core.specs.Plain.{plain}

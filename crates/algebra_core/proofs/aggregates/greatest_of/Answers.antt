@@ -1,5 +1,4 @@
-use Rattle.std.proofs.Common.{◌≡◌, ◌↔◌, List, [], map, length, Ok, IsNone, IfSome, sym, ap, ◌∙◌, subst}
-use Rattle.std.specs.List.{IsFirstBest}
+use Rattle.std.proofs.Common.{◌≡◌, List, map, Ok, sym, ap, ◌∙◌}
 use Rattle.base_core.specs.Outcomes.{then_give}
 use Rattle.point_core.specs.Faults.{OrFault}
 use Rattle.value_core.specs.Plain.{plain}

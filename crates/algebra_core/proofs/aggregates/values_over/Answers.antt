@@ -1,8 +1,7 @@
-use Rattle.std.proofs.Common.{◌≡◌, ◌<◌, ℕ, List, [], ◌∷◌, ◌++◌, length, map, get_or, take, Ok, sym, ap, ap₂, ◌∙◌, subst, arith, Option, Some, None}
+use Rattle.std.proofs.Common.{◌≡◌, ◌<◌, ℕ, List, [], ◌∷◌, ◌++◌, length, map, get_or, take, Ok, sym, ap, ap₂, ◌∙◌, subst, arith, Option}
 use Rattle.base_core.specs.Outcomes.{least_of_all}
 use Rattle.point_core.specs.Faults.{OrFault}
 use Rattle.point_core.specs.declared.fault.Fault.{Fault}
-use Rattle.value_core.specs.Plain.{plain}
 use Rattle.value_core.specs.Values.{Row, Value as PlainValue}
 use Rattle.scalar_core.specs.Expressions.{read}
 use Rattle.scalar_core.specs.Kinds.{IsTypedOver}

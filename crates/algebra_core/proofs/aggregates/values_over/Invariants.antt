@@ -4,7 +4,6 @@ use Rattle.value_core.specs.Plain.{plain}
 use Rattle.scalar_core.specs.Expressions.{read}
 use Rattle.scalar_core.specs.ScalarValues.{value}
 use Rattle.relation_core.specs.Faults.{fault_of, values_of}
-use Rattle.relation_core.specs.Groups.{rows_at}
 use Rattle.relation_core.specs.Operators.{fault_order}
 use Rattle.algebra_core.proofs.aggregates.values_over.Given as goal
 

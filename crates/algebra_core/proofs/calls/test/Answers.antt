@@ -1,9 +1,9 @@
-use Rattle.std.proofs.Common.{◌≡◌, ◌≤◌, Bool, not, length, None, Ok, refl, sym, subst, arith, Result}
+use Rattle.std.proofs.Common.{◌≤◌, not, length, None, Ok, refl, sym, subst, arith}
 use Rattle.std.proofs.lemmas.List.{length-map}
 use Rattle.base_core.specs.Outcomes.{both, then_give}
 use Rattle.relation_core.specs.Answers.{Answers}
 use Rattle.tree_core.specs.Relvars.{read_relvars, read_entry}
-use Rattle.tree_core.specs.Trees.{read_tree, read_test, read_test_form}
+use Rattle.tree_core.specs.Trees.{read_tree, read_test_form}
 use Rattle.tree_core.specs.declared.test.TestForm.{TestForm}
 use Rattle.algebra_core.specs.Meanings.{Known, meaning, plainly}
 use Rattle.algebra_core.specs.Plainness.{IsPlainTest}

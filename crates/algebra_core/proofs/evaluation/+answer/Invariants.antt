@@ -8,6 +8,9 @@ use Rattle.algebra_core.proofs.evaluation.+answer.Given as goal
 abbrev pub decreases-answer : goal.decreases-answer
 decreases-answer l = 4 * work l.scope.now (read_tree l.tree.now) + 1
 
+abbrev pub decreases-operand : goal.decreases-operand
+decreases-operand l = 4 * work l.scope.now (read_tree l.tree.now) + 2
+
 abbrev pub decreases-named : goal.decreases-named
 decreases-named l = 4 * work l.scope.now (named l.place l.heading.now l.name.now)
 

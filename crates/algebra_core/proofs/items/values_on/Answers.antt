@@ -1,4 +1,4 @@
-use Rattle.std.proofs.Common.{◌≡◌, ◌<◌, length, map, arith, rules, Result, Ok, Err, Vec, Global}
+use Rattle.std.proofs.Common.{◌<◌, length, map, arith, Vec, Global}
 use Rattle.std.proofs.lemmas.Result.{err_from_is_err_and}
 use Rattle.value_core.specs.Plain.{plain}
 use Rattle.value_core.specs.declared.value.Value.{Value}

@@ -1,4 +1,4 @@
-use Rattle.std.proofs.Common.{◌≡◌, ◌<◌, List, length, arith, rules, ap, ◌∙◌, sym, subst, Ok, Err, Vec, Global}
+use Rattle.std.proofs.Common.{◌≡◌, ◌<◌, List, length, arith, ap, ◌∙◌, sym, subst, Ok, Err, Vec, Global}
 use Rattle.std.proofs.lemmas.Result.{err_from_is_err_and}
 use Rattle.value_core.specs.Values.{Name, Row}
 use Rattle.scalar_core.specs.declared.tree.Scalar.{Scalar}

@@ -1,16 +1,13 @@
-use Rattle.std.proofs.Common.{◌≡◌, List, ◌∷◌, ◌++◌, ℕ, ap, ap₂, sym, ◌∙◌, subst, rules, IsTrue, Ok}
-use Rattle.std.proofs.lemmas.Result.{err_from_is_err_and}
-use Rattle.base_core.specs.Outcomes.{then_give}
-use Rattle.value_core.specs.Values.{Heading, Row, Name, Relation, is_heading}
+use Rattle.std.proofs.Common.{◌≡◌, List, ◌++◌, ap, ap₂, sym, ◌∙◌, subst, rules, Ok}
+use Rattle.value_core.specs.Values.{Heading, Name, Relation}
 use Rattle.relation_core.specs.Agreement.{names_of}
 use Rattle.point_core.specs.Faults.{OrFault}
 use Rattle.relation_core.specs.Answers.{Answers, under}
 use Rattle.relation_core.specs.Operators.{extended}
 use Rattle.scalar_core.specs.declared.tree.Scalar.{Scalar}
-use Rattle.tree_core.specs.Trees.{PlainSets, read_sets}
-use Rattle.algebra_core.specs.Meanings.{limited}
+use Rattle.tree_core.specs.Trees.{read_sets}
 use Rattle.algebra_core.specs.Places.{places}
-use Rattle.algebra_core.specs.Rows.{set_names, extended_at, extended_row}
+use Rattle.algebra_core.specs.Rows.{set_names, extended_at}
 use Rattle.algebra_core.proofs.LimitLemmas.{extension_meant}
 use Rattle.algebra_core.proofs.MadeLemmas.{given_typed, extended_fits}
 use Rattle.algebra_core.proofs.operators.extended.Goals as goal

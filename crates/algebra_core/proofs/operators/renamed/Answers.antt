@@ -1,5 +1,4 @@
-use Rattle.std.proofs.Common.{◌≡◌, ◌≤◌, length, subst, ap, sym, ◌∙◌, arith, rules}
-use Rattle.value_core.specs.Values.{most_rows}
+use Rattle.std.proofs.Common.{rules}
 use Rattle.relation_core.specs.Parts.{IsRenamed}
 use Rattle.algebra_core.proofs.LimitLemmas.{renamed_answer}
 use Rattle.algebra_core.proofs.operators.renamed.Goals as goal

@@ -1,5 +1,4 @@
-use Rattle.std.proofs.Common.{rules, arith}
-use Rattle.std.proofs.lemmas.Grind.{common_steps}
+use Rattle.std.proofs.Common.{rules}
 use Rattle.algebra_core.proofs.summary.summarized_at.Goals as goal
 
 pub summarize-requires : goal.summarize-requires

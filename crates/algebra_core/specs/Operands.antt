@@ -1,0 +1,29 @@
+-- The relations of operands.
+--     held, held_in      the relation of an operand, and of an answer that gives one
+--     IsKept      what stands for a name where it is kept
+use Rattle.std.specs.Prelude.{◌≡◌, ◌≤◌, length, Option, Some, None, Result, Ok, Err}
+use Rattle.point_core.specs.declared.fault.Stop.{Stop}
+use Rattle.value_core.specs.Values.{Name, Relation, most_rows}
+use Rattle.tree_core.specs.Relvars.{PlainRelvar, base, view}
+use Rattle.algebra_core.specs.declared.operand.Operand.{Operand}
+use Rattle.algebra_core.specs.declared.operand.Operand.TheVariants.{Made, Kept}
+use Rattle.algebra_core.specs.declared.scope.Scope.{Scope}
+use Rattle.algebra_core.specs.Scopes.{with_of, value_of, current}
+
+abbrev pub held : Operand → Relation
+held (Made relation) = relation
+held (Kept relation) = relation.now
+
+abbrev pub held_in : Result Operand Stop → Result Relation Stop
+held_in (Ok operand) = Ok (held operand)
+held_in (Err stop) = Err stop
+
+-- the value of a base relvar, or the one that stands for it; none of a view
+abbrev pub kept_value : Scope → Name → PlainRelvar → Option Relation
+kept_value s name (base old constraints) = Some (current (with_of s) (value_of s) name old)
+kept_value s name (view t history) = None
+
+-- the relation stands for the name of the relvar, and has not too many rows
+pub record IsKept (s : Scope) (name : Name) (r : PlainRelvar) (relation : Relation) : Type 0 where
+  pub is : kept_value s name r ≡ Some relation
+  pub few : length relation.rows ≤ most_rows
