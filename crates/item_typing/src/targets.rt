@@ -1,5 +1,5 @@
 // The relvars that items change, and the rows that items give them.
-ghost use Rattle.std.specs.Prelude.{◌≡◌, option_map};
+ghost use Rattle.std.specs.Prelude.{◌≡◌};
 ghost use Rattle.utd_syntax.specs.Read.{read_name, read_rel};
 ghost use Rattle.scalar_core.specs.Answers.{Gives, seen};
 ghost use Rattle.scalar_typing.specs.Names.{AreOrdinals};
