@@ -25,7 +25,7 @@ use Rattle.algebra_core.proofs.MadeLemmas.{same_name}
 use Rattle.node_typing.specs.Positions.{check}
 use Rattle.declaration_typing.specs.Drops.{names_in, references, relvar_names, is_used, dropped}
 use Rattle.declaration_typing.proofs.FitLemmas.{any-given}
-use Rattle.declaration_typing.proofs.NameLemmas.{either-side}
+use Rattle.tree_typing.proofs.NameLemmas.{either-side}
 use Rattle.declaration_typing.proofs.PositionLemmas.{held}
 
 module _ (name : Name) where

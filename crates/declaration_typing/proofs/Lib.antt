@@ -1,9 +1,7 @@
-mod NameLemmas
 mod ConstraintLemmas
 mod CountLemmas
 mod DistinctLemmas
 mod PositionLemmas
-mod KindLemmas
 mod FitLemmas
 mod StateLemmas
 pub mod RelvarLaws

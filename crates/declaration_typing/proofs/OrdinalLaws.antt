@@ -22,7 +22,7 @@ use Rattle.declaration_typing.specs.Ordinals.{with_value, values_typed, few_valu
 use Rattle.declaration_typing.proofs.DistinctLemmas.{distinct-push, distinct-between, no-distinct, none-named, all-push}
 use Rattle.declaration_typing.proofs.FitLemmas.{any-given}
 use Rattle.declaration_typing.proofs.MoreTypes.{relvars-more}
-use Rattle.declaration_typing.proofs.NameLemmas.{either-side}
+use Rattle.tree_typing.proofs.NameLemmas.{either-side}
 use Rattle.declaration_typing.proofs.PositionLemmas.{held}
 use Rattle.declaration_typing.proofs.StateLemmas.{AreOther, IsFree, free-name}
 

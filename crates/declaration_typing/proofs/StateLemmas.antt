@@ -18,7 +18,7 @@ use Rattle.node_typing.specs.Positions.{check}
 use Rattle.declaration_typing.specs.Names.{is_taken, new_name}
 use Rattle.declaration_typing.proofs.DistinctLemmas.{distinct-push}
 use Rattle.declaration_typing.proofs.FitLemmas.{any-given}
-use Rattle.declaration_typing.proofs.NameLemmas.{either-side}
+use Rattle.tree_typing.proofs.NameLemmas.{either-side}
 use Rattle.declaration_typing.proofs.PositionLemmas.{held}
 
 -- ---- names that are free

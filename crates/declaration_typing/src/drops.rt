@@ -8,8 +8,8 @@ ghost use Rattle.tree_core.specs.Relvars.{read_relvar, read_relvars};
 ghost use Rattle.tree_core.specs.Trees.{read_tree};
 ghost use Rattle.declaration_typing.specs.Drops as rules;
 
-use crate::positions::check;
 use crate::references::is_known;
+use node_typing::check;
 use point_core::{Code, Stop};
 use relation_typing::name_typed;
 use std::alloc::Global;

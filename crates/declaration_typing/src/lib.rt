@@ -6,7 +6,6 @@ mod drops;
 mod names;
 mod nodes;
 mod ordinals;
-mod positions;
 mod references;
 mod relvars;
 mod views;

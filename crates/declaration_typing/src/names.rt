@@ -7,8 +7,8 @@ ghost use Rattle.utd_syntax.specs.Read.{read_name};
 ghost use Rattle.tree_core.specs.Relvars.{read_relvars};
 ghost use Rattle.declaration_typing.specs.Names as rules;
 
-use crate::positions::check;
 use crate::references::is_known;
+use node_typing::check;
 use point_core::{Code, Place, Stop};
 use relation_typing::name_typed;
 use std::alloc::Global;

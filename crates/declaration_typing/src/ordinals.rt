@@ -7,8 +7,8 @@ ghost use Rattle.algebra_core.specs.Declarations.{read_declaration};
 ghost use Rattle.declaration_typing.specs.Ordinals as rules;
 
 use crate::names::new_name;
-use crate::positions::check;
 use indexmap::IndexSet;
+use node_typing::check;
 use point_core::{Code, Memory, Stop};
 use relation_typing::name_typed;
 use std::alloc::Global;

@@ -5,21 +5,15 @@ ghost use Rattle.scalar_core.specs.Answers.{Gives};
 ghost use Rattle.tree_core.specs.Relvars.{read_relvar, read_relvars, relvar_named};
 ghost use Rattle.declaration_typing.specs.Constraints as rules;
 
-use crate::positions::{check, kind_named, position_typed, positions_typed};
+use node_typing::{check, kind_named, position_typed, positions_typed};
 use point_core::{Code, Fault, Place, Stop};
 use relation_typing::name_typed;
 use scalar_typing::same_kind;
 use std::alloc::Global;
 use tree_core::{Relvar, Relvars};
+use tree_typing::relvar_of;
 use utd_syntax::{Foreign, Names, Word};
 use value_core::{Constraint, Heading, Kind, Name, Positions};
-
-/// The relvar or view of the name.
-pub(crate) fn relvar_of<'a>(relvars: &'a Relvars, name: &Name) -> Option<&'a Relvar>
-    ensures { option_map (λ r. read_relvar r.now) result ≡ relvar_named (read_relvars relvars.now).relvars name.now }
-{
-    relvars.list.get(name)
-}
 
 /// Whether there is a relvar or view of the name.
 pub(crate) fn is_known(relvars: &Relvars, name: &Name) -> bool
@@ -112,7 +106,7 @@ pub(crate) fn names_typed(
     ensures { Gives (λ p. p) result (rules.names_typed heading.now (read_names names.now)) }
 {
     let words = names.names.list.as_slice();
-    let list = positions_typed(alloc, heading.attributes(), words)?;
+    let list = positions_typed(heading.attributes(), Vec::new(alloc), words)?;
     Ok(Positions { list })
 }
 

@@ -9,7 +9,7 @@ ghost use Rattle.declaration_typing.specs.Views as rules;
 
 use crate::names::{new_name, room_for};
 use crate::nodes::are_few;
-use crate::positions::check;
+use node_typing::check;
 use point_core::{Code, Place, Stop};
 use std::alloc::Global;
 use tree_core::{Declaration, RelTree, Relvars};
@@ -38,6 +38,11 @@ pub fn type_view(
 {
     let name = new_name(alloc, word, relvars)?;
     let tree = type_tree(alloc, rel, relvars)?;
-    room_for_view(alloc, relvars, word.place, &tree)?;
-    Ok(Declaration::View(name, tree))
+    match room_for_view(alloc, relvars, word.place, &tree) {
+        Ok(()) => Ok(Declaration::View(name, tree)),
+        Err(stop) => {
+            drop(tree);
+            Err(stop)
+        }
+    }
 }

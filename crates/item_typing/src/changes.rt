@@ -1,38 +1,19 @@
 // Which rows of the target change.
 ghost use Rattle.std.specs.Prelude.{◌≡◌, Some, None, option_map};
-ghost use Rattle.utd_syntax.specs.Read.{read_condition, read_scalar};
+ghost use Rattle.utd_syntax.specs.Read.{read_condition};
 ghost use Rattle.scalar_core.specs.Answers.{Gives};
 ghost use Rattle.scalar_core.specs.Expressions.{read};
 ghost use Rattle.scalar_typing.specs.Names.{AreOrdinals};
 ghost use Rattle.tree_core.specs.Items.{read_change};
-ghost use Rattle.node_typing.specs.Rows as rows;
 ghost use Rattle.item_typing.specs.Changes as rules;
 
-use crate::targets::check;
-use point_core::{Code, Place, Stop};
+use node_typing::condition_typed;
+use point_core::Stop;
 use scalar_core::Scalar;
-use scalar_typing::{same_kind, type_scalar};
 use std::alloc::Global;
 use tree_core::Change;
-use utd_syntax as syntax;
 use utd_syntax::Condition;
-use value_core::{Heading, Kind, OrdinalTypes};
-
-/// A condition over the heading: the refusals of its scalar, then E12 at the place.
-pub(crate) fn condition_typed(
-    alloc: Global,
-    types: &OrdinalTypes,
-    place: Place,
-    heading: &Heading,
-    scalar: &syntax::Scalar,
-) -> Result<Scalar, Stop>
-    requires { AreOrdinals types.now }
-    ensures { Gives read result (rows.condition_typed types.now place heading.now (read_scalar scalar.now)) }
-{
-    let e = type_scalar(alloc, types, heading, scalar)?;
-    check(place, Code::E12, same_kind(e.kind, Kind::Truth))?;
-    Ok(e.scalar)
-}
+use value_core::{Heading, OrdinalTypes};
 
 /// The condition, if there is one.
 pub(crate) fn condition_if(

@@ -9,9 +9,10 @@ ghost use Rattle.tree_core.specs.Items as typed;
 ghost use Rattle.tree_core.specs.Relvars.{read_relvars};
 ghost use Rattle.item_typing.specs.Items as rules;
 
-use crate::changes::{condition_if, condition_typed, of_rows};
+use crate::changes::{condition_if, of_rows};
 use crate::sets::sets_made;
 use crate::targets::{Target, rows_typed, target_typed};
+use node_typing::condition_typed;
 use point_core::{Place, Stop};
 use std::alloc::Global;
 use tree_core::{Item, ItemForm, Items, Relvars};
@@ -111,8 +112,13 @@ fn type_updated(
     ensures { Gives typed.read_item_form result (rules.update_typed (read_relvars relvars.now) heading.now NoPortion (read_condition condition.now) (read_sets sets.now)) }
 {
     let c = condition_if(alloc, &relvars.ordinals, heading, condition)?;
-    let made = sets_made(alloc, &relvars.ordinals, heading, sets)?;
-    Ok(ItemForm::Update(of_rows(c), made))
+    match sets_made(alloc, &relvars.ordinals, heading, sets) {
+        Ok(made) => Ok(ItemForm::Update(of_rows(c), made)),
+        Err(stop) => {
+            drop(c);
+            Err(stop)
+        }
+    }
 }
 
 /// `"UPDATE" name condition ":" sets`.

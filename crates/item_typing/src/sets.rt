@@ -10,27 +10,15 @@ ghost use Rattle.tree_core.specs.Trees as trees;
 ghost use Rattle.relation_typing.specs.Items.{made, none_made};
 ghost use Rattle.item_typing.specs.Sets as rules;
 
-use crate::targets::check;
+use node_typing::check;
 use point_core::{Code, Fault, Stop};
 use relation_typing::{Made, new_name, none_made, put};
-use scalar_typing::{same_kind, type_scalar};
+use scalar_typing::{attribute_of, same_kind, type_scalar};
 use std::alloc::Global;
 use tree_core::Sets;
 use utd_syntax as syntax;
 use utd_syntax::{SetItem, Word};
 use value_core::{Heading, Kind, OrdinalTypes};
-
-/// The position and the kind of an attribute.
-fn attribute_of(heading: &Heading, name: &[u8]) -> Option<(usize, Kind)>
-    ensures { result ≡ names.attribute_of heading.now name.now }
-{
-    for (at, attribute) in heading.attributes().iter().enumerate() {
-        if attribute.0.as_str().as_bytes() == name {
-            return Some((at, attribute.1));
-        }
-    }
-    None
-}
 
 /// The position and the kind of a named attribute: E14 at the name where there is none.
 fn attribute_named(heading: &Heading, word: &Word) -> Result<(usize, Kind), Fault>
@@ -59,12 +47,19 @@ fn set_typed(
 {
     let found = attribute_named(heading, word)?;
     let name = new_name(alloc, &before.attributes, word)?;
-    let e = type_scalar(alloc, types, heading, scalar)?;
-    check(word.place, Code::E12, same_kind(e.kind, found.1))?;
     let copy = name.copy(alloc)?;
-    before.sets.push((name, e.scalar))?;
-    put(&mut before.attributes, copy, e.kind)?;
-    Ok(())
+    let e = type_scalar(alloc, types, heading, scalar)?;
+    match check(word.place, Code::E12, same_kind(e.kind, found.1)) {
+        Ok(()) => {
+            before.sets.push((name, e.scalar))?;
+            put(&mut before.attributes, copy, e.kind)?;
+            Ok(())
+        }
+        Err(stop) => {
+            drop(e);
+            Err(stop)
+        }
+    }
 }
 
 /// The items and the attributes that they make.

@@ -1,40 +1,22 @@
 // The relvars that items change, and the rows that items give them.
-ghost use Rattle.std.specs.Prelude.{◌≡◌, option_map};
+ghost use Rattle.std.specs.Prelude.{◌≡◌};
 ghost use Rattle.utd_syntax.specs.Read.{read_name, read_rel};
 ghost use Rattle.scalar_core.specs.Answers.{Gives, seen};
 ghost use Rattle.scalar_typing.specs.Names.{AreOrdinals};
 ghost use Rattle.tree_core.specs.Relvars.{read_relvar, read_relvars, relvar_named};
 ghost use Rattle.tree_core.specs.Trees.{read_tree};
-ghost use Rattle.node_typing.specs.Positions as positions;
 ghost use Rattle.point_core.specs.declared.fault.Code.TheVariants.{E10};
 ghost use Rattle.scalar_typing.specs.Typings.{value_or};
 ghost use Rattle.item_typing.specs.Targets as rules;
 
+use node_typing::check;
 use point_core::{Code, Fault, Place, Stop};
 use relation_typing::{name_typed, same_heading};
 use std::alloc::Global;
 use tree_core::{RelTree, Relvar, Relvars};
-use tree_typing::type_tree;
+use tree_typing::{relvar_of, type_tree};
 use utd_syntax::{Rel, Word};
 use value_core::{Heading, Name};
-
-/// The refusal with the code at the place where it does not hold.
-pub(crate) fn check(place: Place, code: Code, holds: bool) -> Result<(), Stop>
-    ensures { Gives (λ _. tt) result (positions.check place code holds) }
-{
-    if holds {
-        Ok(())
-    } else {
-        Err(Stop::Fault(Fault { place, code }))
-    }
-}
-
-/// The relvar or view of the name.
-fn relvar_of<'a>(relvars: &'a Relvars, name: &Name) -> Option<&'a Relvar>
-    ensures { option_map (λ r. read_relvar r.now) result ≡ relvar_named (read_relvars relvars.now).relvars name.now }
-{
-    relvars.list.get(name)
-}
 
 /// The relvar or view of the name: E10 at it where there is none.
 fn known_relvar<'a>(relvars: &'a Relvars, name: &Name, place: Place) -> Result<&'a Relvar, Fault>
@@ -97,6 +79,11 @@ pub(crate) fn rows_typed(
     ensures { Gives read_tree result (rules.rows_typed (read_relvars relvars.now) (read_name word.now) heading.now (read_rel rel.now)) }
 {
     let t = type_tree(alloc, rel, relvars)?;
-    check(word.place, Code::E13, same_heading(&t.heading, heading))?;
-    Ok(t)
+    match check(word.place, Code::E13, same_heading(&t.heading, heading)) {
+        Ok(()) => Ok(t),
+        Err(stop) => {
+            drop(t);
+            Err(stop)
+        }
+    }
 }

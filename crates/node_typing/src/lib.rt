@@ -20,6 +20,8 @@ pub use nodes::{
     infix_named, type_extension, type_infix, type_packing, type_projection, type_renaming,
     type_restriction, type_summary,
 };
+pub use positions::{check, kind_named, position_typed, positions_typed};
+pub use rows::condition_typed;
 pub use usings::{
     type_using_extension, type_using_infix, type_using_projection, type_using_restriction,
     type_using_summary,

@@ -18,7 +18,7 @@ use utd_syntax::Word;
 use value_core::{Kind, Name};
 
 /// The refusal with the code at the place where it does not hold.
-pub(crate) fn check(place: Place, code: Code, holds: bool) -> Result<(), Stop>
+pub fn check(place: Place, code: Code, holds: bool) -> Result<(), Stop>
     ensures { Gives (λ _. tt) result (rules.check place code holds) }
 {
     if holds {
@@ -70,14 +70,14 @@ fn kind_at(list: &[(Name, Kind)], at: usize) -> Kind
 }
 
 /// The kind of the attribute of the name; BOOLEAN where there is none.
-pub(crate) fn kind_named(list: &[(Name, Kind)], name: &[u8]) -> Kind
+pub fn kind_named(list: &[(Name, Kind)], name: &[u8]) -> Kind
     ensures { result ≡ kind_named list.now name.now }
 {
     kind_at(list, position(list, name))
 }
 
 /// The position of a named attribute.
-fn position_typed(list: &[(Name, Kind)], word: &Word) -> Result<usize, Stop>
+pub fn position_typed(list: &[(Name, Kind)], word: &Word) -> Result<usize, Stop>
     ensures { Gives (λ i. i) result (rules.position_typed list.now (read_name word.now)) }
 {
     match position_if(list, word.bytes.list.as_slice()) {
@@ -110,7 +110,7 @@ pub(crate) fn new_position(
 }
 
 /// The positions of different named attributes, in the order of the text, behind those so far.
-pub(crate) fn positions_typed(
+pub fn positions_typed(
     list: &[(Name, Kind)],
     before: Vec<usize>,
     words: &[Word],

@@ -20,8 +20,8 @@ use utd_syntax as syntax;
 use utd_syntax::SetItem;
 use value_core::{Heading, Kind, OrdinalTypes};
 
-/// A condition over the heading.
-pub(crate) fn condition_typed(
+/// A condition over the heading: the refusals of its scalar, then E12 at the place.
+pub fn condition_typed(
     alloc: Global,
     types: &OrdinalTypes,
     place: Place,
@@ -32,8 +32,13 @@ pub(crate) fn condition_typed(
     ensures { Gives read result (rules.condition_typed types.now place from.now (read_scalar scalar.now)) }
 {
     let e = type_scalar(alloc, types, from, scalar)?;
-    check(place, Code::E12, same_kind(e.kind, Kind::Truth))?;
-    Ok(e.scalar)
+    match check(place, Code::E12, same_kind(e.kind, Kind::Truth)) {
+        Ok(()) => Ok(e.scalar),
+        Err(stop) => {
+            drop(e);
+            Err(stop)
+        }
+    }
 }
 
 /// The items of an EXTEND and the attributes that they make.

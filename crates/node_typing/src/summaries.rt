@@ -7,7 +7,6 @@ ghost use Rattle.utd_syntax.specs.Read as read;
 ghost use Rattle.relation_core.specs.Parts.{attributes_at};
 ghost use Rattle.scalar_core.specs.Answers.{Gives};
 ghost use Rattle.scalar_core.specs.Expressions.{read as read_expression};
-ghost use Rattle.scalar_core.specs.KindOf as kind_of;
 ghost use Rattle.scalar_typing.specs.Names.{AreOrdinals};
 ghost use Rattle.tree_core.specs.Trees as trees;
 ghost use Rattle.node_typing.specs.Summaries as rules;
@@ -18,25 +17,13 @@ use crate::positions::{check, kept, positions_typed};
 use point_core::{Code, Memory, Place, Stop};
 use relation_typing::{Attributes, few_attributes, new_name, put};
 use scalar_core::Scalar;
-use scalar_typing::{INTEGER, same_kind, type_scalar};
+use scalar_typing::{INTEGER, is_ordered, same_kind, type_scalar};
 use std::alloc::Global;
 use std::collections::BTreeMap;
 use tree_core::{Aggregate, AggregateForm, Aggregates};
 use utd_syntax as syntax;
 use utd_syntax::AggregateWord;
 use value_core::{Heading, Kind, OrdinalTypes, Positions};
-
-/// Whether values of the kind are less or greater.
-fn is_ordered(kind: Kind) -> bool
-    ensures { result ≡ kind_of.is_ordered kind }
-{
-    match kind {
-        Kind::Truth => false,
-        Kind::Char => true,
-        Kind::Point(_) => true,
-        Kind::Span(_) => false,
-    }
-}
 
 /// Whether the word takes values of the kind.
 fn takes(word: AggregateWord, kind: Kind) -> bool
@@ -84,8 +71,13 @@ fn form_typed(
         syntax::AggregateForm::Count(_) => Ok((AggregateForm::Count, INTEGER)),
         syntax::AggregateForm::Of(place, word, scalar) => {
             let e = type_scalar(alloc, types, from, scalar)?;
-            check(*place, Code::E12, takes(*word, e.kind))?;
-            Ok((form_over(*word, e.scalar), e.kind))
+            match check(*place, Code::E12, takes(*word, e.kind)) {
+                Ok(()) => Ok((form_over(*word, e.scalar), e.kind)),
+                Err(stop) => {
+                    drop(e);
+                    Err(stop)
+                }
+            }
         }
     }
 }

@@ -117,9 +117,13 @@ fn restriction_used(
     let to = heading(&of).copy(alloc)?;
     let acl = listed(alloc, heading(&of), heading(&of), list)?;
     let c = condition_typed(alloc, types, at, heading(&of), scalar)?;
-    swept(acl.list.as_slice(), &c)?;
-    let part = trees::restrict(at, to, c, of);
-    trees::used(alloc, place, list, part)
+    match swept(acl.list.as_slice(), &c) {
+        Ok(()) => trees::used(alloc, place, list, trees::restrict(at, to, c, of)),
+        Err(stop) => {
+            drop(c);
+            Err(stop)
+        }
+    }
 }
 
 /// An EXTEND under USING: the refusals of the list and of the items, then E19 at an item's name, then E18 at a name in an item.

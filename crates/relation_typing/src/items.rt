@@ -46,8 +46,8 @@ pub fn item_typed(
     ensures { Gives (λ _. made before.new) result (rules.item_typed types.now from.now (made before.old) (read_name word.now) (read_scalar scalar.now)) }
 {
     let name = new_name(alloc, &before.attributes, word)?;
-    let e = type_scalar(alloc, types, from, scalar)?;
     let copy = name.copy(alloc)?;
+    let e = type_scalar(alloc, types, from, scalar)?;
     before.sets.push((name, e.scalar))?;
     put(&mut before.attributes, copy, e.kind)?;
     Ok(())

@@ -44,7 +44,7 @@ pub fn both_are(kind: Kind, left: Kind, right: Kind) -> bool
 }
 
 /// Whether values of the kind are less or greater.
-fn is_ordered(kind: Kind) -> bool
+pub fn is_ordered(kind: Kind) -> bool
     ensures { result ≡ kind_of.is_ordered kind }
 {
     match kind {

@@ -8,7 +8,7 @@ mod operators;
 mod scalars;
 mod typed;
 
-pub use kinds::{INTEGER, same_kind};
-pub use names::point_type;
+pub use kinds::{INTEGER, is_ordered, same_kind};
+pub use names::{attribute_of, point_type};
 pub use scalars::type_scalar;
 pub use typed::Typed;

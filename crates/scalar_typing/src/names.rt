@@ -23,7 +23,7 @@ fn is_called(name: &Name, bytes: &[u8]) -> bool
 }
 
 /// The position and the kind of an attribute.
-fn attribute_of(heading: &Heading, name: &[u8]) -> Option<(usize, Kind)>
+pub fn attribute_of(heading: &Heading, name: &[u8]) -> Option<(usize, Kind)>
     ensures { result ≡ names.attribute_of heading.now name.now }
 {
     for (at, attribute) in heading.attributes().iter().enumerate() {

@@ -10,7 +10,7 @@ use crate::kinds::{
     INTEGER, both_are, compares, point_and_span, point_type, same_kind, span_type, two_points,
     two_spans,
 };
-use crate::typed::{Typed, at_place, or_wrong, parts, when};
+use crate::typed::{Typed, at_place, boxed, or_wrong, parts, when};
 use interval_core::Ends;
 use point_core::{AnyType, Place, Stop};
 use scalar_core::{AllenWord, CompareWord, Parts, Scalar, ScalarForm};
@@ -43,7 +43,7 @@ pub fn not(alloc: Global, place: Place, part: Typed) -> Result<Typed, Stop>
     ensures { Gives typed result (one_typed place rules.not_rule (typed part)) }
 {
     let holds = same_kind(part.kind, Kind::Truth);
-    let e = Box::new(alloc, part.scalar)?;
+    let e = boxed(alloc, part.scalar)?;
     or_wrong(place, when(place, holds, ScalarForm::Not(e), Kind::Truth))
 }
 
@@ -52,7 +52,7 @@ pub fn negate(alloc: Global, place: Place, part: Typed) -> Result<Typed, Stop>
     ensures { Gives typed result (one_typed place rules.negate_rule (typed part)) }
 {
     let holds = same_kind(part.kind, INTEGER);
-    let e = Box::new(alloc, part.scalar)?;
+    let e = boxed(alloc, part.scalar)?;
     or_wrong(place, when(place, holds, ScalarForm::Negate(e), INTEGER))
 }
 
@@ -90,7 +90,7 @@ pub fn function(alloc: Global, place: Place, word: FunctionWord, part: Typed) ->
     ensures { Gives typed result (one_typed place (rules.function_rule word) (typed part)) }
 {
     let kind = part.kind;
-    let e = Box::new(alloc, part.scalar)?;
+    let e = boxed(alloc, part.scalar)?;
     match argument_type(word, kind) {
         Some(t) => Ok(function_on(place, word, t, e)),
         None => or_wrong(place, None),

@@ -8,7 +8,7 @@ ghost use Rattle.scalar_typing.specs.Typings.{typed};
 ghost use Rattle.scalar_typing.specs.Names.{AreOrdinals};
 ghost use Rattle.scalar_typing.specs.Scalars.{typed_scalar, typed_conj, typed_neg, typed_cmp, typed_sum, typed_prod, typed_sign, typed_primary};
 
-use crate::typed::Typed;
+use crate::typed::{Typed, refused};
 use crate::{literals, names, operators};
 use point_core::Stop;
 use std::alloc::Global;
@@ -39,8 +39,10 @@ fn scalar(alloc: Global, types: &OrdinalTypes, heading: &Heading, s: &Scalar) ->
         Scalar::One(c) => conjunction(alloc, types, heading, c),
         Scalar::Or(l, place, r) => {
             let left = scalar(alloc, types, heading, l)?;
-            let right = conjunction(alloc, types, heading, r)?;
-            operators::or(alloc, *place, left, right)
+            match conjunction(alloc, types, heading, r) {
+                Ok(right) => operators::or(alloc, *place, left, right),
+                Err(stop) => refused(left, stop),
+            }
         }
     }
 }
@@ -59,8 +61,10 @@ fn conjunction(
         Conjunction::One(n) => negation(alloc, types, heading, n),
         Conjunction::And(l, place, r) => {
             let left = conjunction(alloc, types, heading, l)?;
-            let right = negation(alloc, types, heading, r)?;
-            operators::and(alloc, *place, left, right)
+            match negation(alloc, types, heading, r) {
+                Ok(right) => operators::and(alloc, *place, left, right),
+                Err(stop) => refused(left, stop),
+            }
         }
     }
 }
@@ -98,8 +102,10 @@ fn comparison(
         Comparison::One(s) => sum(alloc, types, heading, s),
         Comparison::Compare(l, place, word, r) => {
             let left = sum(alloc, types, heading, l)?;
-            let right = sum(alloc, types, heading, r)?;
-            operators::comparison(alloc, *place, *word, left, right)
+            match sum(alloc, types, heading, r) {
+                Ok(right) => operators::comparison(alloc, *place, *word, left, right),
+                Err(stop) => refused(left, stop),
+            }
         }
     }
 }
@@ -113,8 +119,10 @@ fn sum(alloc: Global, types: &OrdinalTypes, heading: &Heading, s: &Sum) -> Resul
         Sum::One(p) => product(alloc, types, heading, p),
         Sum::Add(l, place, word, r) => {
             let left = sum(alloc, types, heading, l)?;
-            let right = product(alloc, types, heading, r)?;
-            operators::sum(alloc, *place, *word, left, right)
+            match product(alloc, types, heading, r) {
+                Ok(right) => operators::sum(alloc, *place, *word, left, right),
+                Err(stop) => refused(left, stop),
+            }
         }
     }
 }
@@ -133,8 +141,10 @@ fn product(
         Product::One(s) => sign(alloc, types, heading, s),
         Product::Multiply(l, place, word, r) => {
             let left = product(alloc, types, heading, l)?;
-            let right = sign(alloc, types, heading, r)?;
-            operators::product(alloc, *place, *word, left, right)
+            match sign(alloc, types, heading, r) {
+                Ok(right) => operators::product(alloc, *place, *word, left, right),
+                Err(stop) => refused(left, stop),
+            }
         }
     }
 }
@@ -185,8 +195,11 @@ fn primary(
         Primary::Paren(_, s) => scalar(alloc, types, heading, s),
         Primary::Selector(place, begin, l, r, end) => {
             let left = scalar(alloc, types, heading, l)?;
-            let right = scalar(alloc, types, heading, r)?;
-            operators::selector(alloc, *place, operators::ends_of(*begin, *end), left, right)
+            let ends = operators::ends_of(*begin, *end);
+            match scalar(alloc, types, heading, r) {
+                Ok(right) => operators::selector(alloc, *place, ends, left, right),
+                Err(stop) => refused(left, stop),
+            }
         }
         Primary::Extreme(place, word, name) => names::extreme(types, *place, *word, name),
         Primary::Function(place, word, s) => {
@@ -195,8 +208,10 @@ fn primary(
         }
         Primary::PairFunction(place, word, l, r) => {
             let left = scalar(alloc, types, heading, l)?;
-            let right = scalar(alloc, types, heading, r)?;
-            operators::pairing(alloc, *place, *word, left, right)
+            match scalar(alloc, types, heading, r) {
+                Ok(right) => operators::pairing(alloc, *place, *word, left, right),
+                Err(stop) => refused(left, stop),
+            }
         }
     }
 }

@@ -1,5 +1,5 @@
 // Typed row expressions.
-ghost use Rattle.std.specs.Prelude.{◌≡◌, Some, None, IfOk, if◌then◌else◌, option_map};
+ghost use Rattle.std.specs.Prelude.{◌≡◌, Err, Some, None, IfOk, if◌then◌else◌, option_map};
 ghost use Rattle.point_core.specs.declared.fault.Code.TheVariants.{E12};
 ghost use Rattle.scalar_core.specs.Answers.{Gives};
 ghost use Rattle.scalar_core.specs.Expressions.{read, read_form, read_left, read_right};
@@ -34,6 +34,7 @@ pub fn when(place: Place, holds: bool, form: ScalarForm, kind: Kind) -> Option<T
     if holds {
         Some(at_place(place, form, kind))
     } else {
+        drop(form);
         None
     }
 }
@@ -51,12 +52,31 @@ pub fn or_wrong(place: Place, found: Option<Typed>) -> Result<Typed, Stop>
     }
 }
 
+/// The expression in a block of its own.
+pub fn boxed(alloc: Global, e: Scalar) -> Result<Box<Scalar>, Memory>
+    ensures { IfOk result (λ b. b.value ≡ e) }
+{
+    let part = Box::new(alloc, e)?;
+    Ok(part)
+}
+
 /// The two parts of an operator.
 pub fn parts(alloc: Global, left: Scalar, right: Scalar) -> Result<Parts, Memory>
     ensures left { IfOk result (λ p. read_left p ≡ read left) }
     ensures right { IfOk result (λ p. read_right p ≡ read right) }
 {
-    let left = Box::new(alloc, left)?;
-    let right = Box::new(alloc, right)?;
-    Ok(Parts { left, right })
+    let first = boxed(alloc, left);
+    let second = boxed(alloc, right);
+    Ok(Parts {
+        left: first?,
+        right: second?,
+    })
+}
+
+/// The refusal of the right part of an operator, whose left part is dropped.
+pub fn refused(left: Typed, stop: Stop) -> Result<Typed, Stop>
+    ensures { result ≡ Err stop }
+{
+    drop(left);
+    Err(stop)
 }

@@ -1,4 +1,5 @@
 // Tests: comparisons of two relations, and whether one has rows.
+ghost use Rattle.std.specs.Prelude.{◌≡◌, Err};
 ghost use Rattle.utd_syntax.specs.Read.{read_comparison, read_list, read_test};
 ghost use Rattle.scalar_core.specs.Answers.{Gives};
 ghost use Rattle.scalar_typing.specs.Names.{AreOrdinals};
@@ -10,8 +11,16 @@ use crate::trees::{operand, whole};
 use node_typing as nodes;
 use point_core::Stop;
 use std::alloc::Global;
-use tree_core::{RelTest, Relvars};
+use tree_core::{RelTest, RelTree, Relvars};
 use utd_syntax::{NameList, Relate, Test};
+
+/// The refusal of the right operand, for which the left one is dropped.
+fn refused(left: RelTree, stop: Stop) -> Result<RelTest, Stop>
+    ensures { result ≡ Err stop }
+{
+    drop(left);
+    Err(stop)
+}
 
 /// A comparison of two relations.
 fn comparison(alloc: Global, c: &Relate, relvars: &Relvars) -> Result<RelTest, Stop>
@@ -19,8 +28,11 @@ fn comparison(alloc: Global, c: &Relate, relvars: &Relvars) -> Result<RelTest, S
     ensures { Gives read_typed result (rules.comparison_typed (read_relvars relvars.now) (read_comparison c.now)) }
 {
     let left = operand(alloc, &c.left, relvars)?;
-    let right = operand(alloc, &c.right, relvars)?;
-    nodes::type_comparison(c.place, nodes::relation_named(c.word), left, right)
+    let word = nodes::relation_named(c.word);
+    match operand(alloc, &c.right, relvars) {
+        Ok(right) => nodes::type_comparison(c.place, word, left, right),
+        Err(stop) => refused(left, stop),
+    }
 }
 
 /// A comparison of two relations under USING.
@@ -34,15 +46,11 @@ fn used_comparison(
     ensures { Gives read_typed result (rules.used_comparison_typed (read_relvars relvars.now) (read_list list.now) (read_comparison c.now)) }
 {
     let left = operand(alloc, &c.left, relvars)?;
-    let right = operand(alloc, &c.right, relvars)?;
-    nodes::type_using_comparison(
-        alloc,
-        list,
-        c.place,
-        nodes::relation_named(c.word),
-        left,
-        right,
-    )
+    let word = nodes::relation_named(c.word);
+    match operand(alloc, &c.right, relvars) {
+        Ok(right) => nodes::type_using_comparison(alloc, list, c.place, word, left, right),
+        Err(stop) => refused(left, stop),
+    }
 }
 
 /// The typed tree of a test where these are the relvars, views and ordinal types, or its first refusal.

@@ -6,4 +6,5 @@ mod relvars;
 mod trees;
 
 pub use comparisons::type_test;
+pub use relvars::relvar_of;
 pub use trees::type_tree;

@@ -14,7 +14,7 @@ use utd_syntax::Word;
 use value_core::{Heading, Name};
 
 /// The relvar or view of the name.
-fn relvar_of<'a>(relvars: &'a Relvars, name: &Name) -> Option<&'a Relvar>
+pub fn relvar_of<'a>(relvars: &'a Relvars, name: &Name) -> Option<&'a Relvar>
     ensures { option_map (λ r. read_relvar r.now) result ≡ relvar_named (read_relvars relvars.now).relvars name.now }
 {
     relvars.list.get(name)

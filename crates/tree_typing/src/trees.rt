@@ -1,4 +1,5 @@
 // Relational expressions. The parts of a node are typed before it, left to right.
+ghost use Rattle.std.specs.Prelude.{◌≡◌, Err};
 ghost use Rattle.utd_syntax.specs.Read.{read_list, read_rel, read_terms, read_term, read_rel_primary, read_operand, read_extend, read_summarize, read_using, read_using_part};
 ghost use Rattle.scalar_core.specs.Answers.{Gives};
 ghost use Rattle.scalar_typing.specs.Names.{AreOrdinals};
@@ -25,6 +26,14 @@ pub fn type_tree(alloc: Global, rel: &Rel, relvars: &Relvars) -> Result<RelTree,
     whole(alloc, rel, relvars)
 }
 
+/// The refusal of the right operand, for which the left one is dropped.
+fn refused(left: RelTree, stop: Stop) -> Result<RelTree, Stop>
+    ensures { result ≡ Err stop }
+{
+    drop(left);
+    Err(stop)
+}
+
 /// `using | terms`.
 #[cycle(tree)]
 pub(crate) fn whole(alloc: Global, rel: &Rel, relvars: &Relvars) -> Result<RelTree, Stop>
@@ -47,13 +56,18 @@ fn terms(alloc: Global, t: &Terms, relvars: &Relvars) -> Result<RelTree, Stop>
         Terms::One(t) => term(alloc, t, relvars),
         Terms::Infix(l, place, word, r) => {
             let left = terms(alloc, l, relvars)?;
-            let right = term(alloc, r, relvars)?;
-            nodes::type_infix(alloc, *place, nodes::infix_named(*word), left, right)
+            let word = nodes::infix_named(*word);
+            match term(alloc, r, relvars) {
+                Ok(right) => nodes::type_infix(alloc, *place, word, left, right),
+                Err(stop) => refused(left, stop),
+            }
         }
         Terms::NotMatching(l, place, r) => {
             let left = terms(alloc, l, relvars)?;
-            let right = term(alloc, r, relvars)?;
-            nodes::type_infix(alloc, *place, InfixWord::NotMatching, left, right)
+            match term(alloc, r, relvars) {
+                Ok(right) => nodes::type_infix(alloc, *place, InfixWord::NotMatching, left, right),
+                Err(stop) => refused(left, stop),
+            }
         }
     }
 }
@@ -145,15 +159,19 @@ fn used(
         UsingPart::Summarize(s) => used_summary(alloc, place, list, s, relvars),
         UsingPart::Infix(l, at, word, r) => {
             let left = operand(alloc, l, relvars)?;
-            let right = operand(alloc, r, relvars)?;
             let word = nodes::infix_named(*word);
-            nodes::type_using_infix(alloc, place, list, *at, word, left, right)
+            match operand(alloc, r, relvars) {
+                Ok(right) => nodes::type_using_infix(alloc, place, list, *at, word, left, right),
+                Err(stop) => refused(left, stop),
+            }
         }
         UsingPart::NotMatching(l, at, r) => {
             let left = operand(alloc, l, relvars)?;
-            let right = operand(alloc, r, relvars)?;
             let word = InfixWord::NotMatching;
-            nodes::type_using_infix(alloc, place, list, *at, word, left, right)
+            match operand(alloc, r, relvars) {
+                Ok(right) => nodes::type_using_infix(alloc, place, list, *at, word, left, right),
+                Err(stop) => refused(left, stop),
+            }
         }
         UsingPart::Project(of, projection) => {
             let t = operand(alloc, of, relvars)?;
