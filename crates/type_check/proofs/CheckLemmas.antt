@@ -1,9 +1,7 @@
 -- What is typed of a statement can be performed on a well made state, and does without PACK, UNPACK and USING where the statement
 -- and the views do.
-use Rattle.std.specs.Prelude.{◌≡◌, Result, Ok, Err, IfOk, IsTrue, refl}
-use Rattle.std.proofs.Common.{sym, subst}
-use Rattle.std.specs.List.{All}
-use Rattle.std.proofs.lemmas.Bool.{true≢false}
+use Rattle.std.specs.Prelude.{Result, Ok, Err, IfOk, IsTrue, refl}
+use Rattle.std.proofs.Common.{subst}
 use Rattle.point_core.specs.Faults.{OrFault}
 use Rattle.utd_syntax.specs.Plain as syntax
 use Rattle.utd_syntax.specs.Plain.{Word, SomeNamesP, HeadingP, ConstraintP, VarFormP, RelP, StatementP}
@@ -14,7 +12,6 @@ use Rattle.algebra_core.specs.Declarations.{PlainDeclaration, with_declaration, 
 use Rattle.algebra_core.specs.Plainness.{are_plain}
 use Rattle.algebra_core.specs.WellMade.{IsWellMade}
 use Rattle.tree_typing.specs.Trees.{tree_typed, test_typed}
-use Rattle.declaration_typing.specs.Constraints.{are_built}
 use Rattle.declaration_typing.specs.Drops.{dropped}
 use Rattle.declaration_typing.specs.Ordinals.{ordinal_declared}
 use Rattle.declaration_typing.specs.Relvars.{relvar_declared}
@@ -22,7 +19,7 @@ use Rattle.declaration_typing.specs.Views.{view_declared}
 use Rattle.item_typing.specs.Items.{assignment_typed}
 use Rattle.type_check.specs.declared.checked.Checked.{Checked}
 use Rattle.type_check.specs.Checks.{Plain, declare_ordinal, declare_base, declare_view, remove, assign, print, ask, read_checked, is_checked_var, is_checked, giving, checked_var, checked, Checks, IsTypedPlain, IsPlainDeclaration, StaysPlain, IsPlainPlain}
-use Rattle.type_check.specs.Plainness.{is_plain_rel, is_plain_var, is_plain_statement}
+use Rattle.type_check.specs.Plainness.{is_plain_var, is_plain_statement}
 use Rattle.type_check.proofs.DeclarationLemmas.{ordinal-made, relvar-made, view-made, drop-made, ordinal-stays-plain, relvar-stays-plain, view-stays-plain, drop-stays-plain}
 use Rattle.type_check.proofs.DeclaredPlainLemmas.{ordinal-declared-plain, relvar-declared-plain, view-declared-plain}
 use Rattle.type_check.proofs.ItemPlainLemmas.{plain-assignment, assignment-plain}

@@ -1,8 +1,8 @@
 -- Items that are written without PORTION, PACK, UNPACK and USING are typed without them.
 use Rattle.std.specs.Prelude.{List, [], ◌∷◌, ◌++◌, IfOk, IsTrue, refl}
-use Rattle.std.proofs.Common.{arith}
 use Rattle.std.specs.List.{All, list_all}
 use Rattle.std.proofs.lemmas.Bool.{and_parts, and_from}
+use Rattle.std.proofs.lemmas.List.Elements.{All-nil, All-push}
 use Rattle.point_core.specs.declared.fault.Code.TheVariants.{E13}
 use Rattle.utd_syntax.specs.Plain as syntax
 use Rattle.utd_syntax.specs.Plain.{Word, RelP, DeletionP, MaybePortionP, ConditionP, SetsP, ItemP, AssignP}
@@ -15,7 +15,6 @@ use Rattle.algebra_core.specs.Plainness.{IsPlain, IsPlainForm, are_plain}
 use Rattle.node_typing.specs.Positions.{check}
 use Rattle.node_typing.specs.Rows.{condition_typed}
 use Rattle.tree_typing.specs.Trees.{tree_typed}
-use Rattle.declaration_typing.proofs.DistinctLemmas.{all-push}
 use Rattle.item_typing.specs.Changes.{condition_if}
 use Rattle.item_typing.specs.Items.{deletion_typed, update_typed, item_typed, items_typed, listed_items, assignment_typed, is_plain_item, is_plain_assignment, has_no_portion}
 use Rattle.item_typing.specs.Sets.{sets_made}
@@ -86,7 +85,7 @@ module _ (state : State) (views : IsTrue (are_plain state.relvars)) where
   items-plain before (x ∷ rest) h plain =
       let parts = and_parts (is_plain_update x) (list_all is_plain_update rest) plain in
       then-plain ArePlainParts (All ArePlainParts) (item_typed state x) _ (item-plain x parts.0)
-      (λ item is. items-plain (before ++ item ∷ []) rest (all-push ArePlainParts before item h is) parts.1)
+      (λ item is. items-plain (before ++ item ∷ []) rest (All-push ArePlainParts before item h is) parts.1)
 
   pub assignment-plain : (a : AssignP) → IsTrue (list_all is_plain_update (listed_items a)) → IfOk (assignment_typed state a) (All (λ (i : PlainItem). IsPlainForm state.relvars i.form))
-  assignment-plain a plain = items-plain [] (listed_items a) (λ k d l. absurd (omega (arith, l))) plain
+  assignment-plain a plain = items-plain [] (listed_items a) (All-nil (λ (i : PlainItem). IsPlainForm state.relvars i.form)) plain
