@@ -1,6 +1,7 @@
 // What type checking answers to a statement.
 ghost use Rattle.std.specs.Prelude.{IfOk, IsTrue};
 ghost use Rattle.utd_syntax.specs.Read.{read_statement};
+ghost use Rattle.scalar_typing.specs.Names.{AreOrdinals};
 ghost use Rattle.tree_core.specs.Relvars.{read_relvars};
 ghost use Rattle.algebra_core.specs.Plainness.{are_plain};
 ghost use Rattle.algebra_core.specs.WellMade.{IsWellMade};
@@ -12,7 +13,7 @@ use item_typing::type_items;
 use std::alloc::Global;
 use tree_core::{Declaration, Items, RelTest, RelTree, Relvars};
 use tree_typing::{type_test, type_tree};
-use utd_syntax::Statement;
+use utd_syntax::{Statement, VarForm};
 use value_core::{Name, Refuse};
 
 /// What a statement does: nothing, declare an ordinal type, a base relvar or a view, remove a relvar or view, assign, print a
@@ -29,6 +30,50 @@ pub enum Checked {
     Ask(RelTest),
 }
 
+/// What the statement does, without what is known of a well made state.
+fn type_statement(
+    alloc: Global,
+    statement: &Statement,
+    relvars: &Relvars,
+) -> Result<Checked, Refuse>
+    requires built { IsTrue (is_checked (read_statement statement.now)) }
+    requires ordinals { AreOrdinals (read_relvars relvars.now).ordinals }
+    ensures { Checks result (checked (read_relvars relvars.now) (read_statement statement.now)) }
+{
+    match statement {
+        Statement::Nothing => Ok(Checked::Nothing),
+        Statement::Ordinal(_, word, values) => {
+            let declaration = type_ordinal(alloc, word, values, relvars)?;
+            Ok(Checked::Ordinal(declaration))
+        }
+        Statement::Var(_, word, VarForm::Relation(_, heading, constraints)) => {
+            let declaration = type_relvar(alloc, word, heading, constraints, relvars)?;
+            Ok(Checked::Base(declaration))
+        }
+        Statement::Var(_, word, VarForm::Virtual(_, rel)) => {
+            let declaration = type_view(alloc, word, rel, relvars)?;
+            Ok(Checked::View(declaration))
+        }
+        Statement::History(_) => unreachable!(),
+        Statement::Drop(_, word) => {
+            let name = type_drop(alloc, word, relvars)?;
+            Ok(Checked::Remove(name))
+        }
+        Statement::Assign(assignment) => {
+            let items = type_items(alloc, assignment, relvars)?;
+            Ok(Checked::Assign(items))
+        }
+        Statement::Print(_, rel) => {
+            let tree = type_tree(alloc, rel, relvars)?;
+            Ok(Checked::Print(tree))
+        }
+        Statement::Ask(_, test) => {
+            let test = type_test(alloc, test, relvars)?;
+            Ok(Checked::Ask(test))
+        }
+    }
+}
+
 /// The typed statement where these are the relvars, views and ordinal types, or its first refusal with its place.
 ///
 /// For now of statements other than HISTORY, of constraints without a list, and of items without USING and PORTION that are no
@@ -41,5 +86,5 @@ pub fn check(alloc: Global, statement: &Statement, relvars: &Relvars) -> Result<
     ensures plain { IfOk result (λ c. IsTrue (are_plain (read_relvars relvars.now).relvars) → IsTrue (is_plain_statement (read_statement statement.now))
         → IsPlainPlain (read_relvars relvars.now) (read_checked c)) }
 {
-    Err(Refuse::Memory)
+    type_statement(alloc, statement, relvars)
 }
