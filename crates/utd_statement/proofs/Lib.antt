@@ -7,3 +7,5 @@ pub mod ReadingLemmas
 pub mod ReplyLemmas
 pub mod TellingLemmas
 pub mod ReadingLaws
+pub mod EmptyLemmas
+pub mod ChangeLemmas

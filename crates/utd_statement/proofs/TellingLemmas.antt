@@ -1,8 +1,10 @@
--- What is told of the relation that an expression means.
+-- What is told of the relation that an expression means, and of a refusal of types.
 use Rattle.std.proofs.Common.{◌≡◌, List, [], ◌∷◌, length, map, refl, sym, ap, subst, arith, None, ℕ, Vec, Global, Result, Ok, Err}
 use Rattle.point_core.specs.Faults.{OrFault}
 use Rattle.point_core.specs.declared.fault.Stop.{Stop}
 use Rattle.point_core.specs.declared.fault.Stop.TheVariants as stops
+use Rattle.value_core.specs.declared.refuse.Refuse.{Refuse}
+use Rattle.value_core.specs.declared.refuse.Refuse.TheVariants as refuses
 use Rattle.value_core.specs.Refusals.{refusal_of}
 use Rattle.value_core.specs.Values.{Relation, Heading}
 use Rattle.relation_core.specs.Answers.{Answers, under}
@@ -12,10 +14,10 @@ use Rattle.tree_core.specs.declared.tree.RelTree.{RelTree}
 use Rattle.algebra_core.specs.Meanings.{meaning_in}
 use Rattle.algebra_core.specs.Names.{given}
 use Rattle.algebra_core.proofs.EvalLemmas.{given_none, operand_heading}
-use Rattle.type_check.specs.Checks.{print}
+use Rattle.type_check.specs.Checks.{Plain, print, Checks}
 use Rattle.utd_print.specs.Tables as printed
-use Rattle.utd_statement.specs.Answers.{Answer, Table, unless_fault, relation_in, of_checked}
-use Rattle.utd_statement.specs.Replies.{IsTextOf, Tells}
+use Rattle.utd_statement.specs.Answers.{Answer, Table, unless_fault, relation_in, of_checked, state_after}
+use Rattle.utd_statement.specs.Replies.{IsTextOf, IsPerformed}
 
 -- ---- expressions
 
@@ -28,18 +30,27 @@ relation_is state t r h =
     let same = subst (λ (es : Entries). Answers r (under t.heading (meaning_in es (read_tree t)))) (given_none None state.relvars) h in
     subst (λ (heading : Heading). Answers r (under heading (meaning_in state.relvars (read_tree t)))) (heading_is t) same
 
--- the fault of an evaluation
-stop_told : {A : Type 0} (f : A → Answer) (stop : Stop) (meant : OrFault A) → Answers {A = A} (Err stop) meant → Tells (Err (refusal_of stop)) (unless_fault f meant)
-stop_told f (stops.Fault e) meant h = ap (unless_fault f) h
-stop_told f stops.Memory meant h = tt
+module _ {A : Type 0} (f : A → Answer) (state : State) (stays : (v : A) → state_after state (f v) ≡ state) where
+  -- the fault of an evaluation
+  stop_performed : (stop : Stop) (meant : OrFault A) → Answers {A = A} (Err stop) meant → IsPerformed (Err (refusal_of stop)) state state (unless_fault f meant)
+  stop_performed (stops.Fault e) meant h = (ap (unless_fault f) h, refl)
+  stop_performed stops.Memory meant h = (tt, refl)
 
-value_told : {A : Type 0} (f : A → Answer) (v : A) (meant : OrFault A) (text : Vec ℕ Global) → meant ≡ Ok v → IsTextOf (f v) text → Tells (Ok text) (unless_fault f meant)
-value_told f v meant text e h = subst (λ m. Tells (Ok text) (unless_fault f m)) (sym e) h
+  value_performed : (v : A) (meant : OrFault A) (text : Vec ℕ Global) → meant ≡ Ok v → IsTextOf (f v) text → IsPerformed (Ok text) state state (unless_fault f meant)
+  value_performed v meant text e h = subst (λ m. IsPerformed (Ok text) state state (unless_fault f m)) (sym e) (h, sym (stays v))
 
 pub printed_text : (state : State) (t : RelTree) (r : Relation) (text : Vec ℕ Global) → Answers (Ok r) (under t.heading (meaning_in (given None None state.relvars) (read_tree t)))
-    → text.items ≡ printed.table state.ordinals r → Tells (Ok text) (of_checked state (print (read_tree t)))
-printed_text state t r text h e = value_told (Table state.ordinals) r _ text (relation_is state t (Ok r) h) ((λ n. e), refl)
+    → text.items ≡ printed.table state.ordinals r → IsPerformed (Ok text) state state (of_checked state (print (read_tree t)))
+printed_text state t r text h e = value_performed (Table state.ordinals) state (λ v. refl) r _ text (relation_is state t (Ok r) h) ((λ n. e), refl)
 
 pub printed_stop : (state : State) (t : RelTree) (stop : Stop) → Answers {A = Relation} (Err stop) (under t.heading (meaning_in (given None None state.relvars) (read_tree t)))
-    → Tells (Err (refusal_of stop)) (of_checked state (print (read_tree t)))
-printed_stop state t stop h = stop_told (Table state.ordinals) stop _ (relation_is state t (Err stop) h)
+    → IsPerformed (Err (refusal_of stop)) state state (of_checked state (print (read_tree t)))
+printed_stop state t stop h = stop_performed (Table state.ordinals) state (λ v. refl) stop _ (relation_is state t (Err stop) h)
+
+-- ---- refusals of types
+
+pub typing_refused : (state : State) (refuse : Refuse) (meant : OrFault Plain) → Checks (Err refuse) meant → IsPerformed (Err refuse) state state (unless_fault (of_checked state) meant)
+typing_refused state (refuses.At fault) meant h = (ap (unless_fault (of_checked state)) h, refl)
+typing_refused state refuses.Memory meant h = (tt, refl)
+typing_refused state (refuses.Plain code) meant h = absurd h
+typing_refused state (refuses.Broken code relvar number) meant h = absurd h

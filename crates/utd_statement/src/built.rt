@@ -1,11 +1,14 @@
-// Which statements are built: the empty one, PRINT and ASK, without PACK, UNPACK and USING.
+// Which statements are built: those without PACK, UNPACK, USING and PORTION, HISTORY and TERMINATE.
 ghost use Rattle.std.specs.Prelude.{◌≡◌, ◌&&◌};
-ghost use Rattle.utd_syntax.specs.Read.{read_rel, read_terms, read_term, read_rel_primary, read_operand, read_extend, read_summarize, read_comparison, read_test, read_statement};
-ghost use Rattle.type_check.specs.Plainness.{is_plain_rel, is_plain_terms, is_plain_term, is_plain_primary, is_plain_operand, is_plain_extend, is_plain_summarize, is_plain_comparison, is_plain_test};
-ghost use Rattle.type_check.specs.Checks.{is_plain_statement};
+ghost use Rattle.std.specs.List.{list_all};
+ghost use Rattle.utd_syntax.specs.Read.{read_rel, read_terms, read_term, read_rel_primary, read_operand, read_extend, read_summarize, read_comparison, read_test, read_deletion, read_item, read_item_list, read_assign, read_maybe_portion, read_var_form, read_statement};
+ghost use Rattle.item_typing.specs.Items.{has_no_portion, listed_items};
+ghost use Rattle.type_check.specs.Plainness.{is_plain_rel, is_plain_terms, is_plain_term, is_plain_primary, is_plain_operand, is_plain_extend, is_plain_summarize, is_plain_comparison, is_plain_test, is_plain_deletion, is_plain_update, is_plain_var, is_plain_statement};
 
+use declaration_typing::are_built;
 use utd_syntax::{
-    Extend, Operand, Rel, RelPrimary, Relate, Statement, Summarize, Term, Terms, Test,
+    Assignment, Deletion, Extend, Item, MaybePortion, Operand, Rel, RelPrimary, Relate, Statement,
+    Summarize, Term, Terms, Test, VarForm,
 };
 
 #[cycle(rel)]
@@ -96,14 +99,77 @@ fn is_plain_test(test: &Test) -> bool
     }
 }
 
-/// Whether the statement is built: the empty one, or PRINT or ASK without PACK, UNPACK and USING.
+fn is_plain_deletion(deletion: &Deletion) -> bool
+    ensures { result ≡ is_plain_deletion (read_deletion deletion.now) }
+{
+    match deletion {
+        Deletion::Where(_, _) => true,
+        Deletion::Portion(_, _) => false,
+        Deletion::Rows(rel) => is_plain_rel(rel),
+    }
+}
+
+fn has_no_portion(portion: &MaybePortion) -> bool
+    ensures { result ≡ has_no_portion (read_maybe_portion portion.now) }
+{
+    match portion {
+        MaybePortion::None => true,
+        MaybePortion::Of(_, _) => false,
+    }
+}
+
+fn is_plain_update(item: &Item) -> bool
+    ensures { result ≡ is_plain_update (read_item item.now) }
+{
+    match item {
+        Item::Set(_, rel) => is_plain_rel(rel),
+        Item::Insert(_, _, rel) => is_plain_rel(rel),
+        Item::Delete(_, _, deletion) => is_plain_deletion(deletion),
+        Item::Update(_, _, portion, _, _) => has_no_portion(portion),
+        Item::Terminate(_, _, _, _, _) => false,
+        Item::Using(_, _, _) => false,
+    }
+}
+
+fn are_plain_updates(items: &[Item]) -> bool
+    ensures { result ≡ list_all is_plain_update (read_item_list items.now) }
+{
+    for item in items {
+        if !is_plain_update(item) {
+            return false;
+        }
+    }
+    true
+}
+
+fn is_plain_assignment(assignment: &Assignment) -> bool
+    ensures { result ≡ list_all is_plain_update (listed_items (read_assign assignment.now)) }
+{
+    is_plain_update(&assignment.first) && are_plain_updates(&assignment.more.list)
+}
+
+fn is_plain_var(form: &VarForm) -> bool
+    ensures { result ≡ is_plain_var (read_var_form form.now) }
+{
+    match form {
+        VarForm::Relation(_, _, constraints) => are_built(constraints),
+        VarForm::Virtual(_, rel) => is_plain_rel(rel),
+    }
+}
+
+/// Whether the statement is built: it has no PACK, UNPACK, USING and PORTION, of constraints KEY and FOREIGN KEY alone, and it
+/// is no HISTORY and no TERMINATE.
 pub fn is_built(statement: &Statement) -> bool
     ensures { result ≡ is_plain_statement (read_statement statement.now) }
 {
     match statement {
         Statement::Nothing => true,
+        Statement::Ordinal(_, _, _) => true,
+        Statement::Var(_, _, form) => is_plain_var(form),
+        Statement::History(_) => false,
+        Statement::Drop(_, _) => true,
         Statement::Print(_, rel) => is_plain_rel(rel),
         Statement::Ask(_, test) => is_plain_test(test),
-        _ => false,
+        Statement::Assign(assignment) => is_plain_assignment(assignment),
     }
 }

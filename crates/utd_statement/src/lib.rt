@@ -2,6 +2,7 @@
 #![tactic(auto)]
 
 mod built;
+mod changing;
 mod form;
 mod packing;
 mod performing;

@@ -1,16 +1,19 @@
-// What a statement without PACK, UNPACK and USING writes.
+// What a statement is performed as: it writes, or it changes the database.
 ghost use Rattle.std.specs.Prelude.{IsTrue};
 ghost use Rattle.utd_syntax.specs.Read.{read_statement};
 ghost use Rattle.tree_core.specs.Relvars.{read_relvars};
 ghost use Rattle.tree_core.specs.Trees.{read_tree, read_test};
 ghost use Rattle.algebra_core.specs.Plainness.{IsPlain, IsPlainTest};
 ghost use Rattle.algebra_core.specs.WellMade.{IsWellMade, IsTypedFor, IsTypedTestFor};
-ghost use Rattle.type_check.specs.Checks.{print, ask, checked, read_checked, is_plain_statement, IsTypedPlain, IsPlainPlain};
-ghost use Rattle.type_check.specs.Plainness.{are_plain};
+ghost use Rattle.assign_core.specs.Databases.{IsKept};
+ghost use Rattle.type_check.specs.Checks.{print, ask, checked, read_checked, IsTypedPlain, IsPlainPlain};
+ghost use Rattle.type_check.specs.Plainness.{is_plain_statement};
 ghost use Rattle.utd_statement.specs.Answers.{of_checked, unless_fault};
-ghost use Rattle.utd_statement.specs.Replies.{Tells};
+ghost use Rattle.utd_statement.specs.Replies.{IsPerformed};
 
+use crate::changing::{assigned, declared, removed};
 use algebra_core::{eval, test};
+use assign_core::Database;
 use point_core::Steps;
 use std::alloc::Global;
 use std::sync::ledger::Ledger;
@@ -30,7 +33,7 @@ fn printed<L: Ledger>(
     requires well_made { IsWellMade (read_relvars relvars.now) }
     requires typed { IsTypedFor (read_relvars relvars.now) (read_tree tree.now) }
     requires plain { IsPlain (read_relvars relvars.now).relvars (read_tree tree.now) }
-    ensures { Tells result (of_checked (read_relvars relvars.now) (print (read_tree tree.now))) }
+    ensures { IsPerformed result (read_relvars relvars.now) (read_relvars relvars.now) (of_checked (read_relvars relvars.now) (print (read_tree tree.now))) }
 {
     let relation = eval(alloc, tree, relvars, None, None, steps)?;
     Ok(table(alloc, &relation, &relvars.ordinals)?)
@@ -46,45 +49,48 @@ fn asked<L: Ledger>(
     requires well_made { IsWellMade (read_relvars relvars.now) }
     requires typed { IsTypedTestFor (read_relvars relvars.now) (read_test question.now) }
     requires plain { IsPlainTest (read_relvars relvars.now).relvars (read_test question.now) }
-    ensures { Tells result (of_checked (read_relvars relvars.now) (ask (read_test question.now))) }
+    ensures { IsPerformed result (read_relvars relvars.now) (read_relvars relvars.now) (of_checked (read_relvars relvars.now) (ask (read_test question.now))) }
 {
     let holds = test(alloc, question, relvars, steps)?;
     Ok(Vec::from_slice(alloc, truth_line(holds))?)
 }
 
-// What a typed statement writes.
+// Performs a typed statement.
 fn performed_typed<L: Ledger>(
     alloc: Global,
-    typed: &Checked,
-    relvars: &Relvars,
+    typed: Checked,
+    database: &mut Database,
     steps: &mut Steps<L>,
 ) -> Result<Vec<u8>, Refuse>
-    requires well_made { IsWellMade (read_relvars relvars.now) }
-    requires typed { IsTypedPlain (read_relvars relvars.now) (read_checked typed.now) }
-    requires plain { IsPlainPlain (read_relvars relvars.now) (read_checked typed.now) }
-    ensures { Tells result (of_checked (read_relvars relvars.now) (read_checked typed.now)) }
+    requires kept { IsKept (read_relvars database.old) }
+    requires typed { IsTypedPlain (read_relvars database.old) (read_checked typed) }
+    requires plain { IsPlainPlain (read_relvars database.old) (read_checked typed) }
+    ensures { IsPerformed result (read_relvars database.old) (read_relvars database.new) (of_checked (read_relvars database.old) (read_checked typed)) }
 {
     match typed {
         Checked::Nothing => Ok(Vec::new(alloc)),
-        Checked::Print(tree) => printed(alloc, tree, relvars, steps),
-        Checked::Ask(question) => asked(alloc, question, relvars, steps),
+        Checked::Ordinal(declaration) => declared(alloc, declaration, database),
+        Checked::Base(declaration) => declared(alloc, declaration, database),
+        Checked::View(declaration) => declared(alloc, declaration, database),
+        Checked::Remove(name) => removed(alloc, &name, database),
+        Checked::Assign(items) => assigned(alloc, &items, database, steps),
+        Checked::Print(tree) => printed(alloc, &tree, database.relvars(), steps),
+        Checked::Ask(question) => asked(alloc, &question, database.relvars(), steps),
     }
 }
 
-/// What a statement without PACK, UNPACK and USING writes where these are the relvars, views and ordinal types, or its first
-/// refusal.
+/// Performs a statement that is built, and gives what it writes, or its first refusal. Where it is refused, or memory is wanting,
+/// the database stays as it is.
 pub fn performed<L: Ledger>(
     alloc: Global,
     statement: &Statement,
-    relvars: &Relvars,
+    database: &mut Database,
     steps: &mut Steps<L>,
 ) -> Result<Vec<u8>, Refuse>
     requires built { IsTrue (is_plain_statement (read_statement statement.now)) }
-    requires well_made { IsWellMade (read_relvars relvars.now) }
-    requires plain { IsTrue (are_plain (read_relvars relvars.now)) }
-    ensures { Tells result (unless_fault (of_checked (read_relvars relvars.now))
-        (checked (read_relvars relvars.now) (read_statement statement.now))) }
+    ensures { IsPerformed result (read_relvars database.old) (read_relvars database.new)
+        (unless_fault (of_checked (read_relvars database.old)) (checked (read_relvars database.old) (read_statement statement.now))) }
 {
-    let typed = check(alloc, statement, relvars)?;
-    performed_typed(alloc, &typed, relvars, steps)
+    let typed = check(alloc, statement, database.relvars())?;
+    performed_typed(alloc, typed, database, steps)
 }

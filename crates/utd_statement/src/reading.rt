@@ -1,7 +1,10 @@
 // What a statement's text is read as.
-ghost use Rattle.std.specs.Prelude.{◌≡◌, ◌+◌, ◌-◌, ◌^◌, ◌≤◌, length, IfOk, IfErr};
+ghost use Rattle.std.specs.Prelude.{◌≡◌, ◌+◌, ◌-◌, ◌^◌, ◌≤◌, length, IfOk, IfErr, IfSome};
+ghost use Rattle.std.specs.List.{list_all};
 ghost use Rattle.value_core.specs.declared.refuse.Refuse.TheVariants as refuses;
+ghost use Rattle.utd_lexer.specs.Parts.{is_space};
 ghost use Rattle.utd_syntax.specs.Pieces.{place_of};
+ghost use Rattle.utd_syntax.specs.Plain.{Nothing};
 ghost use Rattle.utd_syntax.specs.Read.{read_statement};
 ghost use Rattle.utd_parser.specs.Tokens.{pieces};
 ghost use Rattle.utd_statement.specs.Readings as readings;
@@ -10,7 +13,7 @@ ghost use Rattle.utd_statement.specs.Parsed.{reading_of, IsRefusal, HasAnswer};
 
 use point_core::{Memory, Place};
 use std::alloc::Global;
-use utd_lexer::{TokenList, tokens};
+use utd_lexer::{TokenList, place_behind, tokens};
 use utd_parser::parse;
 use utd_syntax::Statement;
 use value_core::Refuse;
@@ -49,6 +52,30 @@ fn tree_of(alloc: Global, text: &[u8], start: Place) -> Result<Tree, Refuse>
     Ok(Tree { first, statement })
 }
 
+fn are_spaces(bytes: &[u8]) -> bool
+    ensures { result ≡ list_all is_space bytes.now }
+{
+    for byte in bytes {
+        if !matches!(*byte, b'\t' | b'\n' | b'\r' | b' ') {
+            return false;
+        }
+    }
+    true
+}
+
+// The place of the semicolon, where white space is all that stands before it.
+fn empty_statement(text: &[u8], start: Place) -> Option<Place>
+    requires { start.line + start.column + length text.now ≤ 2 ^ 32 - 1 }
+    ensures { IfSome result (λ first. IsText start text.now (readings.Tree first Nothing)) }
+{
+    let (last, front) = text.split_last()?;
+    if *last == b';' && are_spaces(front) {
+        Some(place_behind(start, front))
+    } else {
+        None
+    }
+}
+
 // A refusal as a reading, unless it is want of memory.
 fn refused(refuse: Refuse) -> Result<Parsed, Memory>
     ensures same { IfOk result (λ p. reading_of p ≡ readings.Refused refuse) }
@@ -60,12 +87,16 @@ fn refused(refuse: Refuse) -> Result<Parsed, Memory>
     }
 }
 
-/// The reading of the text from this place on.
+/// The reading of the text from this place on. An empty statement is known without its tokens.
 pub fn read_text(alloc: Global, text: &[u8], start: Place) -> Result<Parsed, Memory>
     requires { start.line + start.column + length text.now ≤ 2 ^ 32 - 1 }
     ensures read { IfOk result (λ p. IsText start text.now (reading_of p)) }
     ensures told { IfOk result (λ p. HasAnswer (reading_of p)) }
 {
+    if let Some(first) = empty_statement(text, start) {
+        let statement = Statement::Nothing;
+        return Ok(Parsed::Tree(Tree { first, statement }));
+    }
     match tree_of(alloc, text, start) {
         Ok(tree) => Ok(Parsed::Tree(tree)),
         Err(refuse) => refused(refuse),

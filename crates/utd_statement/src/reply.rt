@@ -3,22 +3,22 @@ ghost use Rattle.std.specs.Prelude.{◌≡◌, map, true, IfOk, None, Some, IsTr
 ghost use Rattle.point_core.specs.Faults.{fault};
 ghost use Rattle.utd_syntax.specs.Read.{read_statement};
 ghost use Rattle.utd_print.specs.Lines.{HasLine};
-ghost use Rattle.type_check.specs.Checks.{is_plain_statement};
+ghost use Rattle.type_check.specs.Plainness.{is_plain_statement};
 ghost use Rattle.utd_statement.specs.Rows.{packed_form};
 ghost use Rattle.utd_statement.specs.Table.{table};
 ghost use Rattle.utd_statement.specs.Parsed.{reading_of, HasAnswer};
-ghost use Rattle.utd_statement.specs.Answers.{Answer, Refusal, unless_empty, of_built, of_tree, first_empty};
-ghost use Rattle.tree_core.specs.Relvars.{read_relvars};
-ghost use Rattle.utd_statement.specs.Replies.{IsReply, Tells};
+ghost use Rattle.utd_statement.specs.Answers.{Answer, Refusal, unless_empty, of_built, of_tree, answer, first_empty};
+ghost use Rattle.tree_core.specs.Relvars.{read_relvars, State};
+ghost use Rattle.utd_statement.specs.Replies.{IsReply, IsAnswered, IsPerformed};
 
 use crate::built::is_built;
 use crate::form::rows_of;
-use crate::outcome::Database;
 use crate::packing::packed_form;
 use crate::performing::performed;
 use crate::reading::{Parsed, Tree};
 use crate::row::{PlacedRow, Row};
 use crate::table::table;
+use assign_core::Database;
 use point_core::{Code, Fault, Memory, Place, Steps};
 use std::alloc::{AllocError, Global};
 use std::sync::ledger::Ledger;
@@ -93,9 +93,9 @@ fn answer_to_rows(alloc: Global, number: u32, rows: &[PlacedRow]) -> Result<Repl
     }
 }
 
-// The answer that is told by this text, or by this refusal.
+// The answer that is told by this text, or by this refusal. Where there is a text, no memory is taken.
 fn told(alloc: Global, number: u32, written: Result<Vec<u8>, Refuse>) -> Result<Reply, Memory>
-    ensures { (a : Answer) → Tells written a → IfOk result (IsReply number a) }
+    ensures { (old new : State) (a : Answer) → IsPerformed written old new a → IsAnswered result number old new a }
 {
     match written {
         Ok(text) => Ok(Reply {
@@ -110,32 +110,33 @@ fn told(alloc: Global, number: u32, written: Result<Vec<u8>, Refuse>) -> Result<
 // The answer to a statement that is not of that form. One that is not built is refused at its first token.
 fn answer_to_built<L: Ledger>(
     alloc: Global,
-    database: &Database,
+    database: &mut Database,
     number: u32,
     tree: &Tree,
     steps: &mut Steps<L>,
 ) -> Result<Reply, Memory>
-    ensures { IfOk result (IsReply number (of_built (state_of database.now) tree.now.first (read_statement tree.now.statement)
-        (is_plain_statement (read_statement tree.now.statement)))) }
+    ensures { IsAnswered result number (read_relvars database.old) (read_relvars database.new)
+        (of_built (read_relvars database.old) tree.now.first (read_statement tree.now.statement) (is_plain_statement (read_statement tree.now.statement))) }
 {
     if !is_built(&tree.statement) {
         let place = tree.first;
         let code = Code::E01;
         return refusal(alloc, number, &Refuse::At(Fault { place, code }));
     }
-    let written = performed(alloc, &tree.statement, database.relvars(), steps);
+    let written = performed(alloc, &tree.statement, database, steps);
     told(alloc, number, written)
 }
 
 #[tactic(auto, unfolding(crate::specs::Answers::of_tree))]
 fn answer_to_tree<L: Ledger>(
     alloc: Global,
-    database: &Database,
+    database: &mut Database,
     number: u32,
     tree: &Tree,
     steps: &mut Steps<L>,
 ) -> Result<Reply, Memory>
-    ensures { IfOk result (IsReply number (of_tree (state_of database.now) tree.now.first (read_statement tree.now.statement))) }
+    ensures { IsAnswered result number (read_relvars database.old) (read_relvars database.new)
+        (of_tree (read_relvars database.old) tree.now.first (read_statement tree.now.statement)) }
 {
     if let Statement::Nothing = &tree.statement {
         return Ok(Reply {
@@ -149,16 +150,17 @@ fn answer_to_tree<L: Ledger>(
     }
 }
 
-/// The answer to what a statement is read as, where these are the relvars.
+/// The answer to what a statement is read as, and what the statement makes of the database. For want of memory the database
+/// stays as it is.
 pub fn answer_to<L: Ledger>(
     alloc: Global,
-    database: &Database,
+    database: &mut Database,
     number: u32,
     parsed: &Parsed,
     steps: &mut Steps<L>,
 ) -> Result<Reply, Memory>
     requires { HasAnswer (reading_of parsed.now) }
-    ensures { IfOk result (IsReply number (answer (state_of database.now) (reading_of parsed.now))) }
+    ensures { IsAnswered result number (read_relvars database.old) (read_relvars database.new) (answer (read_relvars database.old) (reading_of parsed.now)) }
 {
     match parsed {
         Parsed::Tree(tree) => answer_to_tree(alloc, database, number, tree, steps),
