@@ -2,20 +2,12 @@
 use Rattle.std.proofs.Common.{◌≡◌, ℕ, suc, ◌+◌, ◌≤◌, Bool, true, false, ◌&&◌, List, [], ◌∷◌, ◌++◌, length, take, refl, sym, ap, ◌∙◌, subst, arith, append_assoc, append-nil, length-append, length-take}
 use Rattle.std.proofs.lemmas.List.{take_at}
 use Rattle.tree_core.specs.Relvars.{State}
-use Rattle.utd_session.specs.Statements.{Statement}
+use Rattle.assign_core.specs.Databases.{no_relvars}
 use Rattle.utd_statement.specs.Readings.{Reading}
+use Rattle.utd_statement.specs.Answers.{text_of, is_accepted, answer, state_after}
+use Rattle.utd_session.specs.Statements.{Statement}
 use Rattle.utd_session.specs.Readings.{IsReading, AreReadings}
-use Rattle.utd_statement.specs.Answers.{text_of, is_accepted, answer}
 use Rattle.utd_session.specs.Machine.{Step, step, in_turn, all_steps, performed, performed_after}
-
--- no statement changes the state
-pub state_stays : (state : State) (n : ℕ) (rs : List Reading) → (all_steps state n rs).state ≡ state
-state_stays state n [] = refl
-state_stays state n (r ∷ rs) = state_stays state (n + 1) rs
-
--- so the state after some statements is the one after others
-pub same_state : (rs us : List Reading) → (performed rs).state ≡ (performed us).state
-same_state rs us = state_stays no_relvars 1 rs ∙ sym (state_stays no_relvars 1 us)
 
 and_assoc : (a b c : Bool) → ((a && b) && c) ≡ (a && (b && c))
 and_assoc true b c = refl
@@ -25,10 +17,10 @@ pub all_steps-append : (state : State) (n : ℕ) (rs more : List Reading) → al
 all_steps-append state n [] more = let e : n ≡ n + 0 = omega arith in ap (λ m. all_steps state m more) e
 all_steps-append state n (r ∷ rs) more =
     let first : Step = step state n r in
-    let a : Step = all_steps state (n + 1) rs in
+    let a : Step = all_steps first.state (n + 1) rs in
     let e : n + 1 + length rs ≡ n + suc (length rs) = omega arith in
     let rest : Step = all_steps a.state (n + suc (length rs)) more in
-    ap (in_turn first) (all_steps-append state (n + 1) rs more ∙ ap (λ m. in_turn a (all_steps a.state m more)) e)
+    ap (in_turn first) (all_steps-append first.state (n + 1) rs more ∙ ap (λ m. in_turn a (all_steps a.state m more)) e)
     ∙ (λ i. record { state = rest.state; output = sym (append_assoc first.output a.output rest.output) i; accepted = sym (and_assoc first.accepted a.accepted rest.accepted) i })
 
 -- the first ones, and more
@@ -49,6 +41,9 @@ output-push rs more r =
 
 pub output-one : (rs : List Reading) (r : Reading) → (performed_after rs (r ∷ [])).output ≡ text_of (length rs + 1) (answer (performed rs).state r)
 output-one rs r = append-nil _
+
+pub state-push : (rs : List Reading) (r : Reading) → (performed (rs ++ r ∷ [])).state ≡ state_after (performed rs).state (answer (performed rs).state r)
+state-push rs r = ap (λ (x : Step). x.state) (performed-more rs (r ∷ []))
 
 pub accepted-push : (rs : List Reading) (r : Reading) → (performed (rs ++ r ∷ [])).accepted ≡ (is_accepted (answer (performed rs).state r) && (performed rs).accepted)
 accepted-push rs r = ap (λ (x : Step). x.accepted) (performed-more rs (r ∷ [])) ∙ swap (performed rs).accepted (is_accepted (answer (performed rs).state r))

@@ -1,5 +1,6 @@
 -- How a session goes on, statement by statement.
-use Rattle.std.proofs.Common.{◌≡◌, ◌↔◌, ℕ, ◌+◌, Bool, true, false, cond, ◌&&◌, List, [], ◌∷◌, ◌++◌, length, take, drop, Option, Some, None, Result, Ok, Err, IfOk, IfErr, refl, sym, ap, ◌∙◌, subst, arith, append_assoc, append-nil, length-append, take-append-drop}
+use Rattle.std.proofs.Common.{◌≡◌, ◌↔◌, ℕ, ◌+◌, ◌≤◌, Bool, true, false, cond, ◌&&◌, List, [], ◌∷◌, ◌++◌, length, take, drop, Option, Some, None, Result, Ok, Err, IfOk, IfErr, refl, sym, ap, ◌∙◌, subst, arith, append_assoc, append-nil, length-append, take-append-drop}
+use Rattle.point_core.specs.declared.fault.Place.{Place}
 use Rattle.utd_io.specs.Io.{Gains, GainsPrefix}
 use Rattle.utd_io.proofs.Gained.{Gains-none, Gains-more}
 use Rattle.utd_lexer.specs.declared.cutter.Cutter.{Cutter}
@@ -8,22 +9,24 @@ use Rattle.utd_lexer.specs.declared.cutter.Cut.TheVariants.{Inside, Ends}
 use Rattle.utd_lexer.specs.Parts.{IsWhole, IsBlank}
 use Rattle.utd_lexer.specs.Cutting.{Since, since_then}
 use Rattle.utd_lexer.specs.Tokens.{place_after}
+use Rattle.tree_core.specs.Relvars.{State}
 use Rattle.tree_core.specs.declared.relvar.Relvars.{Relvars as Database}
 use Rattle.utd_session.specs.declared.feeding.Session.{Session}
+use Rattle.utd_session.specs.declared.unfinished.Unfinished.{Unfinished}
 use Rattle.utd_session.specs.declared.feeding.Ended.{Ended}
 use Rattle.utd_session.specs.declared.fault.SessionFault.TheVariants.{Memory}
 use Rattle.point_core.specs.declared.fault.Code.TheVariants.{E04}
 use Rattle.value_core.specs.declared.refuse.Refuse.TheVariants.{Plain}
-use Rattle.utd_session.specs.Statements.{Statement, Complete, Incomplete, ends, Cut, cut, complete_statements, is_blank, incomplete_rest, statements, NoEnd, EndsOne}
 use Rattle.utd_statement.specs.Readings.{Reading, Refused}
+use Rattle.utd_statement.specs.Answers.{text_of, is_accepted, answer, state_after}
+use Rattle.utd_session.specs.Statements.{Statement, Complete, Incomplete, ends, Cut, cut, complete_statements, is_blank, incomplete_rest, statements, NoEnd, EndsOne}
 use Rattle.utd_session.specs.Readings.{IsReading, AreReadings}
-use Rattle.utd_statement.specs.Answers.{text_of, is_accepted, answer}
 use Rattle.utd_session.specs.Databases.{state_of}
 use Rattle.utd_session.specs.Machine.{performed, performed_after}
 use Rattle.utd_session.specs.Run.{IsPrefixOf}
 use Rattle.utd_session.specs.Sessions.{StandsFor, GoesOn, IsCutOff, IsFinished}
-use Rattle.utd_session.proofs.StatementLemmas.{ends_is, is_blank_is, cut-end, cut-keep, cut-more}
-use Rattle.utd_session.proofs.MachineLemmas.{same_state, output-push, output-one, accepted-push, readings-push, readings-front}
+use Rattle.utd_session.proofs.StatementLemmas.{place_bound, ends_is, is_blank_is, cut-end, cut-keep, cut-more}
+use Rattle.utd_session.proofs.MachineLemmas.{state-push, output-push, output-one, accepted-push, readings-push, readings-front}
 
 -- what a step of the cutter says
 abbrev pub SinceThen : Cutter → Cuts → ℕ → Cutter → Type 0
@@ -95,7 +98,7 @@ more_statements bytes done rest piece e =
     (m.0, ap (λ x. complete_statements (bytes ++ x)) e ∙ ap complete_statements (sym (append_assoc bytes done rest)) ∙ m.1)
 
 -- memory ran out behind some of them
-pub fed-stop : (session : Session) (cutter : Cutter) (piece rest bytes : List ℕ) (rs : List Reading) (before mid now : Option (List ℕ)) (database : Database) → database ≡ session.database → IsFed session cutter piece rest bytes rs before mid → now ≡ mid
+pub fed-stop : (session : Session) (cutter : Cutter) (piece rest bytes : List ℕ) (rs : List Reading) (before mid now : Option (List ℕ)) (database : Database) → state_of database ≡ state_of session.database → IsFed session cutter piece rest bytes rs before mid → now ≡ mid
     → (more : List Reading) × GoesOn (complete_statements (bytes ++ piece)) rs more before now (state_of database)
 fed-stop session cutter piece rest bytes rs before mid now database kept i e =
     let m = more_statements bytes i.done rest piece i.split in (
@@ -103,7 +106,7 @@ fed-stop session cutter piece rest bytes rs before mid now database kept i e =
       record {
         read = readings-front _ _ m.0 (rs ++ i.more) m.1 i.stands.read;
         gained = subst (Gains before (performed_after rs i.more).output) (sym e) i.gained;
-        left = ap state_of kept ∙ i.stands.state_is;
+        left = kept ∙ i.stands.state_is;
       },
     )
 
@@ -115,7 +118,7 @@ gained_front (Some old) mid now xs ys g h =
     (take k.0 ys, (drop k.0 ys, sym (take-append-drop k.0 ys)), k.2 ∙ ap Some (append_assoc old xs (take k.0 ys)))
 
 -- a write failed within the next statement
-pub cut-off : (ss front more : List Statement) (s : Statement) (rs new : List Reading) (r : Reading) (before mid now : Option (List ℕ)) (database : Database) → state_of database ≡ (performed (rs ++ new)).state → ss ≡ (front ++ s ∷ []) ++ more
+pub cut-off : (ss front more : List Statement) (s : Statement) (rs new : List Reading) (r : Reading) (before mid now : Option (List ℕ)) (database : Database) → state_of database ≡ (performed ((rs ++ new) ++ r ∷ [])).state → ss ≡ (front ++ s ∷ []) ++ more
     → AreReadings front (rs ++ new) → IsReading s r → Gains before (performed_after rs new).output mid → GainsPrefix mid (text_of (length (rs ++ new) + 1) (answer (performed (rs ++ new)).state r)) now
     → (text : List ℕ) × IsCutOff ss rs new r text before now (state_of database)
 cut-off ss front more s rs new r before mid now database left e read is gained prefix =
@@ -127,36 +130,43 @@ cut-off ss front more s rs new r before mid now database left e read is gained p
         read = subst (λ n. AreReadings (take n ss) all) len (readings-front ss (front ++ s ∷ []) more all e (readings-push front s (rs ++ new) r read is));
         front = g.1;
         gained = g.2;
-        left = left ∙ same_state (rs ++ new) all;
+        left = left;
       },
     )
 
-pub fed-cut-off : (session : Session) (cutter : Cutter) (piece rest front behind bytes : List ℕ) (rs : List Reading) (before mid now : Option (List ℕ)) (database : Database) → database ≡ session.database → (i : IsFed session cutter piece rest bytes rs before mid)
+pub fed-cut-off : (session : Session) (cutter : Cutter) (piece rest front behind bytes : List ℕ) (rs : List Reading) (before mid now : Option (List ℕ)) (database : Database) (i : IsFed session cutter piece rest bytes rs before mid)
     → rest ≡ front ++ behind
     → EndsOne (cut (bytes ++ i.done)).place (cut (bytes ++ i.done)).rest front
-    → ((r : Reading) × IsReading (Complete (cut (bytes ++ i.done)).place ((cut (bytes ++ i.done)).rest ++ front)) r × GainsPrefix mid (text_of (length (rs ++ i.more) + 1) (answer (performed (rs ++ i.more)).state r)) now)
+    → ((r : Reading) × IsReading (Complete (cut (bytes ++ i.done)).place ((cut (bytes ++ i.done)).rest ++ front)) r
+    × (GainsPrefix mid (text_of (length (rs ++ i.more) + 1) (answer (performed (rs ++ i.more)).state r)) now × (state_of database ≡ (performed ((rs ++ i.more) ++ r ∷ [])).state)))
     → (more : List Reading) × (r : Reading) × (text : List ℕ) × IsCutOff (complete_statements (bytes ++ piece)) rs more r text before now (state_of database)
-fed-cut-off session cutter piece rest front behind bytes rs before mid now database kept i e one (r, is, prefix) =
+fed-cut-off session cutter piece rest front behind bytes rs before mid now database i e one (r, is, (prefix, left)) =
     let split : piece ≡ (i.done ++ front) ++ behind = i.split ∙ ap (λ x. i.done ++ x) e ∙ sym (append_assoc i.done front behind) in
     let m = more_statements bytes (i.done ++ front) behind piece split in
     let done : complete_statements (bytes ++ (i.done ++ front)) ≡ complete_statements (bytes ++ i.done) ++ Complete (cut (bytes ++ i.done)).place ((cut (bytes ++ i.done)).rest ++ front) ∷ [] =
     ap complete_statements (sym (append_assoc bytes i.done front)) ∙ ap (λ (c : Cut). c.ended) (cut-end (bytes ++ i.done) front one) in
-    let k = cut-off (complete_statements (bytes ++ piece)) (complete_statements (bytes ++ i.done)) m.0 (Complete (cut (bytes ++ i.done)).place ((cut (bytes ++ i.done)).rest ++ front)) rs i.more r before mid now database (ap state_of kept ∙ i.stands.state_is) (m.1 ∙ ap (λ x. x ++ m.0) done) i.stands.read is i.gained prefix in
+    let k = cut-off (complete_statements (bytes ++ piece)) (complete_statements (bytes ++ i.done)) m.0 (Complete (cut (bytes ++ i.done)).place ((cut (bytes ++ i.done)).rest ++ front)) rs i.more r before mid now database left (m.1 ∙ ap (λ x. x ++ m.0) done) i.stands.read is i.gained prefix in
     (i.more, r, k.0, k.1)
 
+-- the state after one statement more
+pub after_one : (s : Session) (bytes : List ℕ) (rs : List Reading) (r : Reading) (new : State) → StandsFor s bytes rs → new ≡ state_after (state_of s.database) (answer (state_of s.database) r)
+    → new ≡ (performed (rs ++ r ∷ [])).state
+after_one s bytes rs r new h left = left ∙ ap (λ st. state_after st (answer st r)) h.state_is ∙ sym (state-push rs r)
+
 -- what a session stands for after one statement more
-pub record IsEnd (s : Session) (bytes front : List ℕ) (rs : List Reading) (r : Reading) (one : Bool) : Type 0 where
+pub record IsEnd (s : Session) (bytes front : List ℕ) (rs : List Reading) (r : Reading) (one : Bool) (new : State) : Type 0 where
   pub read : AreReadings (complete_statements (bytes ++ front)) (rs ++ r ∷ [])
   pub accepted : (one && s.all_accepted) ≡ (performed (rs ++ r ∷ [])).accepted
   pub number : s.number + 1 ≡ length (rs ++ r ∷ []) + 1
   pub place_is : (cut (bytes ++ front)).place ≡ place_after (cut bytes).place ((cut bytes).rest ++ front)
   pub rest_is : (cut (bytes ++ front)).rest ≡ []
   pub fed : s.fed + length front ≡ length (bytes ++ front)
-  pub left : state_of s.database ≡ (performed (rs ++ r ∷ [])).state
+  pub left : new ≡ (performed (rs ++ r ∷ [])).state
 
-pub is_end : (s : Session) (bytes front : List ℕ) (rs : List Reading) (r : Reading) (one : Bool) → StandsFor s bytes rs → EndsOne (cut bytes).place (cut bytes).rest front
-    → IsReading (Complete (cut bytes).place ((cut bytes).rest ++ front)) r → one ≡ is_accepted (answer (state_of s.database) r) → IsEnd s bytes front rs r one
-is_end s bytes front rs r one h ends is accepts =
+pub is_end : (s : Session) (bytes front : List ℕ) (rs : List Reading) (r : Reading) (one : Bool) (new : State) → StandsFor s bytes rs → EndsOne (cut bytes).place (cut bytes).rest front
+    → IsReading (Complete (cut bytes).place ((cut bytes).rest ++ front)) r → one ≡ is_accepted (answer (state_of s.database) r)
+    → new ≡ state_after (state_of s.database) (answer (state_of s.database) r) → IsEnd s bytes front rs r one new
+is_end s bytes front rs r one new h ends is accepts left =
     let c = cut-end bytes front ends in
     let len : length (rs ++ r ∷ []) ≡ length rs + 1 = length-append rs (r ∷ []) in
     record {
@@ -166,8 +176,24 @@ is_end s bytes front rs r one h ends is accepts =
       place_is = ap (λ (x : Cut). x.place) c;
       rest_is = ap (λ (x : Cut). x.rest) c;
       fed = omega (arith, h.fed, length-append bytes front);
-      left = h.state_is ∙ same_state rs (rs ++ r ∷ []);
+      left = after_one s bytes rs r new h left;
     }
+
+-- a session's bounds, with more bytes of the statement that is not ended
+pub with_more : (s : Session) (u : Unfinished) (front : List ℕ) → u.size ≡ s.unfinished.size + length front → u.start ≡ s.unfinished.start → u.next ≡ place_after s.unfinished.next front
+    → (s.number + u.size ≤ s.fed + length front + 1)
+    × ((u.start.line ≤ s.fed + length front + 1) × (u.start.column ≤ s.fed + length front + 1))
+    × ((u.next.line ≤ s.fed + length front + 1) × (u.next.column ≤ s.fed + length front + 1))
+with_more s u front size start next =
+    let bound = place_bound s.unfinished.next front in
+    let line = ap (λ (p : Place). p.line) next in
+    let column = ap (λ (p : Place). p.column) next in
+    let start_line = ap (λ (p : Place). p.line) start in
+    let start_column = ap (λ (p : Place). p.column) start in (
+      omega (arith, s.numbered, size),
+      (omega (arith, s.begun.0, start_line), omega (arith, s.begun.1, start_column)),
+      (omega (arith, s.placed.0, line, bound.0), omega (arith, s.placed.1, column, bound.1)),
+    )
 
 -- the text of the next statement
 pub text_is : (s : Session) (bytes : List ℕ) (rs : List Reading) (r : Reading) → StandsFor s bytes rs → text_of s.number (answer (state_of s.database) r) ≡ text_of (length rs + 1) (answer (performed rs).state r)
@@ -202,7 +228,7 @@ fed-end session cutter piece rest bytes rs before now (Err e) i h = tt
 pub fed-stop-at-end : (session : Session) (cutter : Cutter) (piece rest bytes : List ℕ) (rs : List Reading) (before now : Option (List ℕ)) (r : Result Session Ended) → IsFed session cutter piece rest bytes rs before now → IfErr r (λ e. e.database ≡ session.database)
     → IfErr r (λ e. e.why ≡ Memory → (more : List Reading) × GoesOn (complete_statements (bytes ++ piece)) rs more before now (state_of e.database))
 fed-stop-at-end session cutter piece rest bytes rs before now (Ok s) i kept = tt
-fed-stop-at-end session cutter piece rest bytes rs before now (Err e) i kept = λ why. fed-stop session cutter piece rest bytes rs before now now e.database kept i refl
+fed-stop-at-end session cutter piece rest bytes rs before now (Err e) i kept = λ why. fed-stop session cutter piece rest bytes rs before now now e.database (ap state_of kept) i refl
 
 -- ---- the end of a script
 
@@ -228,7 +254,7 @@ finish-blank s bytes rs before h e = (
   record {
     read = subst (λ ss. AreReadings ss (rs ++ [])) (sym (blank_statements bytes e)) (subst (AreReadings (complete_statements bytes)) (sym (append-nil rs)) h.read);
     gained = Gains-none before;
-    left = h.state_is ∙ same_state rs (rs ++ []);
+    left = h.state_is ∙ ap (λ q. (performed q).state) (sym (append-nil rs));
     accepted = h.accepted ∙ ap (λ q. (performed q).accepted) (sym (append-nil rs));
   },
 )
@@ -246,7 +272,7 @@ finish-open s bytes rs before now one both h e accepts b gains =
       record {
         read = subst (λ ss. AreReadings ss all) (sym (open_statements bytes e)) (readings-push (complete_statements bytes) Incomplete rs not_ended h.read refl);
         gained = subst (λ t. Gains before t now) text gains;
-        left = h.state_is ∙ same_state rs all;
+        left = after_one s bytes rs not_ended (state_of s.database) h refl;
         accepted = b ∙ (λ i. accepts i && h.accepted i) ∙ ap (λ st. is_accepted (answer st not_ended) && (performed rs).accepted) h.state_is ∙ sym (accepted-push rs not_ended);
       },
     )
@@ -258,7 +284,7 @@ finish-stop s bytes rs before now h e = (
   record {
     read = readings-front (statements bytes) (complete_statements bytes) (incomplete_rest (cut bytes).rest) (rs ++ []) refl (subst (AreReadings (complete_statements bytes)) (sym (append-nil rs)) h.read);
     gained = subst (Gains before []) (sym e) (Gains-none before);
-    left = h.state_is ∙ same_state rs (rs ++ []);
+    left = h.state_is ∙ ap (λ q. (performed q).state) (sym (append-nil rs));
   },
 )
 
@@ -269,6 +295,8 @@ finish-cut-off s bytes rs before now h e prefix =
     let whole : statements bytes ≡ (complete_statements bytes ++ Incomplete ∷ []) ++ [] = open_statements bytes e ∙ sym (append-nil _) in
     let text : text_of s.number (answer (state_of s.database) not_ended) ≡ text_of (length (rs ++ []) + 1) (answer (performed (rs ++ [])).state not_ended) =
     text_is s bytes rs not_ended h ∙ ap (λ q. text_of (length q + 1) (answer (performed q).state not_ended)) (sym (append-nil rs)) in
-    let k = cut-off (statements bytes) (complete_statements bytes) [] Incomplete rs [] not_ended before before now s.database (h.state_is ∙ same_state rs (rs ++ [])) whole
+    let left : state_of s.database ≡ (performed ((rs ++ []) ++ not_ended ∷ [])).state =
+    after_one s bytes rs not_ended (state_of s.database) h refl ∙ ap (λ q. (performed (q ++ not_ended ∷ [])).state) (sym (append-nil rs)) in
+    let k = cut-off (statements bytes) (complete_statements bytes) [] Incomplete rs [] not_ended before before now s.database left whole
     (subst (AreReadings (complete_statements bytes)) (sym (append-nil rs)) h.read) refl (Gains-none before) (subst (λ t. GainsPrefix before t now) text prefix) in
     ([], not_ended, k.0, k.1)

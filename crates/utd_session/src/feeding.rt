@@ -1,5 +1,5 @@
 // A session: a script that comes in pieces.
-ghost use Rattle.std.specs.Prelude.{◌≡◌, ℕ, ◌+◌, ◌-◌, ◌^◌, ◌<◌, ◌≤◌, true, ◌&&◌, List, [], ◌∷◌, ◌++◌, length, IfOk, OnOk, IfErr, IsOk, MatchOption, IfSome};
+ghost use Rattle.std.specs.Prelude.{◌≡◌, ℕ, ◌+◌, ◌-◌, ◌^◌, ◌<◌, ◌≤◌, true, ◌&&◌, List, [], ◌∷◌, ◌++◌, length, IfOk, OnOk, OnErr, IfErr, IsOk, MatchOption, IfSome};
 ghost use Rattle.utd_io.specs.Io.{Rose, Gains, GainsPrefix};
 ghost use Rattle.point_core.specs.declared.fault.Place.{Place};
 ghost use Rattle.utd_lexer.specs.Cutting.{Since};
@@ -10,24 +10,24 @@ ghost use Rattle.utd_session.specs.Databases.{state_of};
 ghost use Rattle.utd_session.specs.Feeding.{IsReplyTo};
 
 use crate::fault::SessionFault;
-use assign_core::Database;
-use utd_statement::{Reply, answer_to, refusal};
 use crate::unfinished::Unfinished;
+use assign_core::Database;
 use point_core::{Code, Memory, Steps};
 use std::alloc::Global;
 use std::sync::ledger::Ledger;
 use utd_io::{Sink, write_all};
 use utd_lexer::{Cut, Cutter};
+use utd_statement::{Reply, answer_to, refusal};
 use value_core::Refuse;
 
-/// Why a session ended, and the relvars after the last statement that was performed.
+/// Why a session ended, and the database after the last statement that was performed.
 #[derive(Drop)]
 pub struct Ended {
     pub why: SessionFault,
     pub database: Database,
 }
 
-/// The relvars after all statements, and whether all were accepted.
+/// The database after all statements, and whether all were accepted.
 #[derive(Drop)]
 pub struct Finished {
     pub database: Database,
@@ -51,10 +51,11 @@ pub struct Session {
     ghost placed: { (unfinished.next.line ≤ fed + 1) × (unfinished.next.column ≤ fed + 1) },
 }
 
-// What a `;` makes of the statement before it: its answer, with its bytes kept.
+// What a `;` makes of the statement before it: its answer and the database after it, with its bytes kept. For want of memory the
+// database stays.
 fn reply_to_end<L: Ledger>(
     alloc: Global,
-    database: &Database,
+    database: &mut Database,
     number: u32,
     unfinished: &mut Unfinished,
     front: &[u8],
@@ -64,11 +65,13 @@ fn reply_to_end<L: Ledger>(
     requires start { unfinished.old.start.line + unfinished.old.start.column ≤ 2 ^ 31 }
     requires few { unfinished.old.size + length front.now ≤ 2 ^ 32 - 1 }
     ensures reply { (place : Place) (bytes : List ℕ) → IsUnfinished unfinished.old place bytes
-        → IfOk result (λ r. IsReplyTo (Complete place (bytes ++ front.now)) (state_of database.now) number r) }
+        → IfOk result (λ r. IsReplyTo (Complete place (bytes ++ front.now)) (state_of database.old) (state_of database.new) number r) }
+    ensures stays { OnErr result (state_of database.new ≡ state_of database.old) }
     ensures more { (place : Place) (bytes : List ℕ) → IsUnfinished unfinished.old place bytes
         → OnOk result (IsUnfinished unfinished.new place (bytes ++ front.now)) }
-    ensures size { OnOk result (unfinished.new.size ≡ unfinished.old.size + length front.now) }
-    ensures next { OnOk result (unfinished.new.next ≡ place_after unfinished.old.next front.now) }
+    ensures size { unfinished.new.size ≡ unfinished.old.size + length front.now }
+    ensures start { unfinished.new.start ≡ unfinished.old.start }
+    ensures next { unfinished.new.next ≡ place_after unfinished.old.next front.now }
 {
     unfinished.extend(front)?;
     let parsed = unfinished.read(alloc)?;
@@ -170,57 +173,50 @@ impl Session {
         })
     }
 
-    // Performs the statement that these bytes end. Its whole output is made before its first byte is written.
+    // Performs the statement that these bytes end. Its whole output is made before its first byte is written. Where it fails, the
+    // session only hands the database back.
     fn end<K: Sink, L: Ledger>(
-        self,
+        &mut self,
         front: &[u8],
         out: &mut K,
         steps: &mut Steps<L>,
-    ) -> Result<Session, Ended>
+    ) -> Result<(), SessionFault>
         requires some { 0 < length front.now }
-        requires few { self.fed + length front.now ≤ 16777216 }
-        ensures fed { IfOk result (λ s. s.fed ≡ self.fed + length front.now) }
-        ensures since { IfOk result (λ s. Since s.cutter []) }
-        ensures performed { (bytes : List ℕ) (rs : List Reading) → StandsFor self bytes rs
+        requires few { self.old.fed + length front.now ≤ 16777216 }
+        ensures fed { OnOk result (self.new.fed ≡ self.old.fed + length front.now) }
+        ensures since { OnOk result (Since self.new.cutter []) }
+        ensures performed { (bytes : List ℕ) (rs : List Reading) → StandsFor self.old bytes rs
             → EndsOne (cut bytes).place (cut bytes).rest front.now
-            → IfOk result (λ s. (r : Reading) × StandsFor s (bytes ++ front.now) (rs ++ r ∷ [])
+            → OnOk result ((r : Reading) × StandsFor self.new (bytes ++ front.now) (rs ++ r ∷ [])
             × Gains (K.written out.old) (text_of (length rs + 1) (answer (performed rs).state r)) (K.written out.new)) }
-        ensures memory { IfErr result (λ e. e.why ≡ SessionFault.Memory → K.written out.new ≡ K.written out.old) }
-        ensures write { (bytes : List ℕ) (rs : List Reading) → StandsFor self bytes rs
-            → IfErr result (λ e. e.why ≡ SessionFault.Write → HasReading bytes front.now (λ r. GainsPrefix
-            (K.written out.old) (text_of (length rs + 1) (answer (performed rs).state r)) (K.written out.new))) }
+        ensures memory { IfErr result (λ why. why ≡ SessionFault.Memory
+            → (K.written out.new ≡ K.written out.old) × (state_of self.new.database ≡ state_of self.old.database)) }
+        ensures write { (bytes : List ℕ) (rs : List Reading) → StandsFor self.old bytes rs
+            → IfErr result (λ why. why ≡ SessionFault.Write → HasReading bytes front.now (λ r. GainsPrefix
+            (K.written out.old) (text_of (length rs + 1) (answer (performed rs).state r)) (K.written out.new)
+            × (state_of self.new.database ≡ (performed (rs ++ r ∷ [])).state))) }
         ensures count { K.faults out.old ≤ K.faults out.new }
-        ensures cause { IfErr result (λ e. e.why ≡ SessionFault.Write → Rose (K.faults out.old) (K.faults out.new)) }
-        ensures left { IfErr result (λ e. e.database ≡ self.database) }
+        ensures cause { IfErr result (λ why. why ≡ SessionFault.Write → Rose (K.faults out.old) (K.faults out.new)) }
     {
-        let Session {
-            alloc,
-            database,
-            all_accepted,
-            fed,
-            number,
-            unfinished,
-            cutter: _,
-        } = self;
-        let mut unfinished = unfinished;
-        let Ok(reply) = reply_to_end(alloc, &database, number, &mut unfinished, front, steps) else {
-            let why = SessionFault::Memory;
-            return Err(Ended { why, database });
+        self.fed += front.len() as u64;
+        let Ok(reply) = reply_to_end(
+            self.alloc,
+            &mut self.database,
+            self.number,
+            &mut self.unfinished,
+            front,
+            steps,
+        ) else {
+            return Err(SessionFault::Memory);
         };
         let Ok(()) = write_all(out, &reply.text) else {
-            let why = SessionFault::Write;
-            return Err(Ended { why, database });
+            return Err(SessionFault::Write);
         };
-        unfinished.restart();
-        Ok(Session {
-            alloc,
-            database,
-            all_accepted: both(reply.accepted, all_accepted),
-            fed: fed + front.len() as u64,
-            number: number + 1,
-            unfinished,
-            cutter: Cutter::new(),
-        })
+        self.all_accepted = both(reply.accepted, self.all_accepted);
+        self.number += 1;
+        self.unfinished.restart();
+        self.cutter = Cutter::new();
+        Ok(())
     }
 
     /// Takes more of the script, and performs the statements that end in it.
@@ -252,10 +248,12 @@ impl Session {
         let mut rest = piece;
         while let Some((front, behind)) = next_end(&mut cutter, rest) {
             match session.end(front, out, steps) {
-                Ok(next) => session = next,
-                Err(ended) => return Err(ended),
+                Ok(()) => rest = behind,
+                Err(why) => {
+                    let database = session.database;
+                    return Err(Ended { why, database });
+                }
             }
-            rest = behind;
         }
         session.keep(rest, cutter)
     }
@@ -311,7 +309,7 @@ impl Session {
         })
     }
 
-    /// Performs nothing more, and hands the relvars back.
+    /// Performs nothing more, and hands the database back.
     pub fn stop(self) -> Database
         ensures { (bytes : List ℕ) (rs : List Reading) → StandsFor self bytes rs
             → state_of result ≡ (performed rs).state }

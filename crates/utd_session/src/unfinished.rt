@@ -2,10 +2,10 @@
 ghost use Rattle.std.specs.Prelude.{◌≡◌, ℕ, ◌+◌, ◌-◌, ◌^◌, ◌<◌, ◌≤◌, List, [], ◌++◌, length, IfOk, OnOk, OnErr};
 ghost use Rattle.utd_lexer.specs.Tokens.{Fits, place_after};
 
-use utd_statement::{Parsed, read_text};
 use point_core::{Code, Memory, Place};
 use std::alloc::{AllocError, Global};
 use utd_lexer::place_behind;
+use utd_statement::{Parsed, read_text};
 use value_core::Refuse;
 
 const MOST_BYTES: usize = 1_048_576;
@@ -53,19 +53,19 @@ impl Unfinished {
         }
     }
 
-    /// Takes more bytes.
+    /// Takes more bytes. For want of memory they are counted and not kept.
     pub fn extend(&mut self, piece: &[u8]) -> Result<(), AllocError>
         requires places { Fits self.old.next (length piece.now) }
         requires few { self.old.size + length piece.now ≤ 2 ^ 32 - 1 }
         ensures more { (place : Place) (bytes : List ℕ) → IsUnfinished self.old place bytes
             → OnOk result (IsUnfinished self.new place (bytes ++ piece.now)) }
-        ensures size { OnOk result (self.new.size ≡ self.old.size + length piece.now) }
+        ensures size { self.new.size ≡ self.old.size + length piece.now }
         ensures start { self.new.start ≡ self.old.start }
-        ensures next { OnOk result (self.new.next ≡ place_after self.old.next piece.now) }
+        ensures next { self.new.next ≡ place_after self.old.next piece.now }
     {
-        keep(&mut self.bytes, self.size + piece.len(), piece)?;
         self.size += piece.len();
         self.next = place_behind(self.next, piece);
+        keep(&mut self.bytes, self.size, piece)?;
         Ok(())
     }
 

@@ -1,20 +1,42 @@
 use Rattle.std.proofs.Common.{◌++◌, ◌∙◌, sym, ap, subst, arith}
 use Rattle.point_core.specs.declared.fault.Place.{Place}
-use Rattle.utd_io.specs.Io.{Gains}
+use Rattle.utd_io.specs.Io.{Gains, GainsPrefix}
 use Rattle.utd_lexer.specs.Cutting.{Since}
+use Rattle.utd_session.specs.Databases.{state_of}
 use Rattle.utd_session.specs.Unfinished.{IsUnfinished}
 use Rattle.utd_session.specs.Statements.{cut}
 use Rattle.utd_statement.specs.Readings.{Reading}
-use Rattle.utd_session.proofs.StatementLemmas.{place_bound}
-use Rattle.utd_session.proofs.SessionLemmas.{is_end, text_is}
+use Rattle.utd_session.proofs.SessionLemmas.{with_more, is_end, after_one, text_is}
 use Rattle.utd_session.proofs.feeding.Session.end.Goals as goal
 
-pub invariant_of-result : goal.invariant_of-result
-invariant_of-result g c =
-    let old = c.args.self in
-    let bound = place_bound old.unfinished.next c.args.front.now in
-    let line = ap (λ (p : Place). p.line) c.in-Ok.ensures.next in
-    let column = ap (λ (p : Place). p.column) c.in-Ok.ensures.next in
+pub invariant_of-self : goal.invariant_of-self
+invariant_of-self g c =
+    let b = with_more c.args.self.now c.reply_to_end.new.unfinished c.args.front.now c.reply_to_end.ensures.size c.reply_to_end.ensures.start c.reply_to_end.ensures.next in
+    record { few = c.requires.few; numbered = b.0; begun = b.1; placed = b.2 }
+
+pub invariant_of-self-in_default-write_all : goal.invariant_of-self-in_default-write_all
+invariant_of-self-in_default-write_all g c =
+    let b = with_more c.args.self.now c.reply_to_end.new.unfinished c.args.front.now c.reply_to_end.ensures.size c.reply_to_end.ensures.start c.reply_to_end.ensures.next in
+    record { few = c.requires.few; numbered = b.0; begun = b.1; placed = b.2 }
+
+pub returns-in_default-write_all-clause-write : goal.returns-in_default-write_all-clause-write
+returns-in_default-write_all-clause-write g c bytes rs h e =
+    let old = c.args.self.now in
+    let q = c.in-Ok.ensures.reply (cut bytes).place (cut bytes).rest h.unfinished in
+    let r : Reading = q.0 in
+    let text = q.2.0 ∙ text_is old bytes rs r h in (
+      r,
+      q.1,
+      (
+        subst (λ t. GainsPrefix (g.K.Sink.written c.args.out.now) t (g.K.Sink.written c.write_all.new.sink)) (c.deref.ensures.value ∙ text) c.in_default-write_all.ensures.failed,
+        after_one old bytes rs r (state_of c.reply_to_end.new.database) h q.3,
+      ),
+    )
+
+pub invariant_of-self-2 : goal.invariant_of-self-2
+invariant_of-self-2 g c =
+    let old = c.args.self.now in
+    let b = with_more old c.reply_to_end.new.unfinished c.args.front.now c.reply_to_end.ensures.size c.reply_to_end.ensures.start c.reply_to_end.ensures.next in
     let start_line = ap (λ (p : Place). p.line) c.restart.ensures.start in
     let start_column = ap (λ (p : Place). p.column) c.restart.ensures.start in
     let next_line = ap (λ (p : Place). p.line) c.restart.ensures.place in
@@ -22,29 +44,29 @@ invariant_of-result g c =
     record {
       few = c.requires.few;
       numbered = omega (arith, old.numbered, c.restart.ensures.size, c.requires.some);
-      begun = (omega (arith, old.placed.0, line, bound.0, start_line), omega (arith, old.placed.1, column, bound.1, start_column));
-      placed = (omega (arith, old.placed.0, line, bound.0, next_line), omega (arith, old.placed.1, column, bound.1, next_column));
+      begun = (omega (arith, b.2.0, start_line), omega (arith, b.2.1, start_column));
+      placed = (omega (arith, b.2.0, next_line), omega (arith, b.2.1, next_column));
     }
 
 pub returns-clause-performed : goal.returns-clause-performed
 returns-clause-performed g c bytes rs h ends =
     let front = c.args.front.now in
-    let old = c.args.self in
+    let old = c.args.self.now in
     let new = c.restart.new.self in
     let u = c.in-Ok.ensures.more (cut bytes).place (cut bytes).rest h.unfinished in
     let q = c.in-Ok.ensures.reply (cut bytes).place (cut bytes).rest h.unfinished in
     let r : Reading = q.0 in
-    let e = is_end old bytes front rs r c.in-Ok.reply.accepted h ends q.1 q.3 in
-    let text = q.2 ∙ text_is old bytes rs r h in
+    let e = is_end old bytes front rs r c.in-Ok.reply.accepted (state_of c.reply_to_end.new.database) h ends q.1 q.2.1 q.3 in
+    let text = q.2.0 ∙ text_is old bytes rs r h in
     let w = c.restart.ensures.next (cut bytes).place ((cut bytes).rest ++ front) u in (
       r,
       record {
         read = e.read;
         state_is = e.left;
-        accepted = c.both.ensures ∙ e.accepted;
+        accepted = c.both-self.ensures ∙ e.accepted;
         number = e.number;
         unfinished = subst (λ p. IsUnfinished new p (cut (bytes ++ front)).rest) (sym e.place_is) (subst (IsUnfinished new _) (sym e.rest_is) w);
-        since = subst (Since c.new.result) (sym e.rest_is) c.new.ensures;
+        since = subst (Since c.new-self.result) (sym e.rest_is) c.new-self.ensures;
         fed = e.fed;
       },
       subst (λ t. Gains (g.K.Sink.written c.args.out.now) t (g.K.Sink.written c.write_all.new.sink)) (c.deref.ensures.value ∙ text) c.in-Ok-write_all.ensures.bytes,

@@ -16,7 +16,7 @@ loop-front-preserved g c = record {
       let i = c.loop-front.invariant.fed bytes rs h in
       let done = bytes ++ i.done in
       let ends = c.in-Some.ensures.end (cut done).place (cut done).rest i.since in
-      fed-more c.loop-front.session c.in-Ok.next c.loop-front.cutter c.next_end.new.cutter c.args.piece.now c.loop-front.rest.now c.in-Some.front.now c.in-Some.behind.now bytes rs _ _ _ i
+      fed-more c.loop-front.session c.end.new.self c.loop-front.cutter c.next_end.new.cutter c.args.piece.now c.loop-front.rest.now c.in-Some.front.now c.in-Some.behind.now bytes rs _ _ _ i
       c.in-Some.ensures.parts ends (c.in-Ok.ensures.performed done (rs ++ i.more) i.stands ends) (c.in-Some.ensures.since (cut done).rest i.since);
   room = omega (arith, c.in-Ok.ensures.fed, c.loop-front.invariant.room, ap length c.in-Some.ensures.parts, length-append c.in-Some.front.now c.in-Some.behind.now);
   count = omega (arith, c.loop-front.invariant.count, c.end.ensures.count);
@@ -24,14 +24,14 @@ loop-front-preserved g c = record {
 
 pub returns-in-Err-clause-memory : goal.returns-in-Err-clause-memory
 returns-in-Err-clause-memory g c bytes rs h e =
-    fed-stop c.loop-front.session c.loop-front.cutter c.args.piece.now c.loop-front.rest.now bytes rs _ _ _ c.in-Err.ended.database c.in-Err.ensures.left (c.loop-front.invariant.fed bytes rs h) (c.in-Err.ensures.memory e)
+    fed-stop c.loop-front.session c.loop-front.cutter c.args.piece.now c.loop-front.rest.now bytes rs _ _ _ c.end.new.self.database (c.in-Err.ensures.memory e).1 (c.loop-front.invariant.fed bytes rs h) (c.in-Err.ensures.memory e).0
 
 pub returns-in-Err-clause-write : goal.returns-in-Err-clause-write
 returns-in-Err-clause-write g c bytes rs h e =
     let i = c.loop-front.invariant.fed bytes rs h in
     let done = bytes ++ i.done in
     let ends = c.in-Some.ensures.end (cut done).place (cut done).rest i.since in
-    fed-cut-off c.loop-front.session c.loop-front.cutter c.args.piece.now c.loop-front.rest.now c.in-Some.front.now c.in-Some.behind.now bytes rs _ _ _ c.in-Err.ended.database c.in-Err.ensures.left i
+    fed-cut-off c.loop-front.session c.loop-front.cutter c.args.piece.now c.loop-front.rest.now c.in-Some.front.now c.in-Some.behind.now bytes rs _ _ _ c.end.new.self.database i
     c.in-Some.ensures.parts ends (c.in-Err.ensures.write done (rs ++ i.more) i.stands e)
 
 pub returns-clause-stands : goal.returns-clause-stands
