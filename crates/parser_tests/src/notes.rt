@@ -4,6 +4,7 @@ use std::alloc::Global;
 use utd_syntax::{Bytes, Word, Words};
 
 /// The text so far, and whether memory failed for a part of it.
+#[derive(Drop)]
 pub struct Notes {
     alloc: Global,
     text: String,
