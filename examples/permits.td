@@ -56,5 +56,5 @@ PRINT EXTEND RELATION {
 /* One list cannot be taken from another that has further attributes. */
 PRINT RELATION {TUPLE {WHO 'Ada', AREA 1}} MINUS RELATION {TUPLE {WHO 'Ada'}};
 
-/* Relvars cannot be declared yet. */
-VAR PERMITS RELATION {WHO CHAR, HOLDS INTERVAL(DATE)} KEY {WHO};
+/* On which days was there a permit at all? What looks into intervals day by day does not run yet. */
+PRINT USING (HOLDS): RELATION {TUPLE {WHO 'Ada', HOLDS [DATE '2012-01-10':DATE '2012-02-20']}} {HOLDS};

@@ -1,5 +1,5 @@
 // Prices of a shop, the days for which they hold, and what was bought.
-// Nothing can be kept yet, so each question has its relations written out.
+// Each question has its relations written out.
 
 /* What does each article cost on 15 April 2012? */
 PRINT (RELATION {

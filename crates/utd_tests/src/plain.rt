@@ -3,7 +3,7 @@ mod ask_rows;
 mod fault_rows;
 mod limit_rows;
 mod literal_rows;
-mod long;
+pub mod long;
 mod page_rows;
 mod relation_rows;
 mod scalar_rows;
@@ -24,7 +24,7 @@ pub struct Row {
 }
 
 /// A script that moves in pieces of so many bytes writes this and has this status.
-fn assert_gives(
+pub fn assert_gives(
     rt: &impl Abort,
     alloc: Global,
     script: &str,
@@ -51,7 +51,8 @@ fn assert_row(rt: &impl Abort, alloc: Global, row: &Row) -> Result<(), Fail> {
     Ok(())
 }
 
-fn assert_rows(rt: &impl Abort, alloc: Global, rows: &[Row]) -> Result<(), Fail> {
+/// Each script writes what its row says, in pieces of several lengths.
+pub fn assert_rows(rt: &impl Abort, alloc: Global, rows: &[Row]) -> Result<(), Fail> {
     for row in rows {
         assert_row(rt, alloc, row)?;
     }

@@ -37,7 +37,7 @@ const PLAIN: Example = Example {
     status: 0,
 };
 
-fn examples() -> [Example; 28] {
+fn examples() -> [Example; 31] {
     [
         Example {
             // an empty script
@@ -241,9 +241,37 @@ fn examples() -> [Example; 28] {
         },
         Example {
             // what is not built
-            script: b"ASK USING (D): RELATION {TUPLE {D [1:2]}} = RELATION {TUPLE {D [1:2]}};PRINT (UNPACK RELATION {TUPLE {D [1:2]}} ON (D));VAR R RELATION {A INTEGER} KEY {A};",
+            script: b"ASK USING (D): RELATION {TUPLE {D [1:2]}} = RELATION {TUPLE {D [1:2]}};PRINT (UNPACK RELATION {TUPLE {D [1:2]}} ON (D));VAR R RELATION {D INTERVAL(INTEGER)} PACKED ON (D);",
             output: b"statement 1 refused: E01 not a statement at 1:1\nstatement 2 refused: E01 not a statement at 1:72\nstatement 3 refused: E01 not a statement at 1:121\n",
             status: 1,
+            ..PLAIN
+        },
+        Example {
+            // a relvar that is declared, filled, shown and dropped
+            script: b"VAR R RELATION {A INTEGER} KEY {A};INSERT R RELATION {TUPLE {A 1}};PRINT R;INSERT R RELATION {TUPLE {A 1}}, UPDATE R: {A := A / 0};DROP VAR R;PRINT R;",
+            read_piece: 3,
+            output: b"| A |\n| 1 |\nrows: 1\nstatement 4 refused: E31 division by zero at 1:127\nstatement 6 refused: E10 unknown name at 1:149\n",
+            status: 1,
+            ..PLAIN
+        },
+        Example {
+            // a broken key, and a write that fails in its line
+            script: b"VAR R RELATION {A INTEGER} KEY {};R := RELATION {TUPLE {A 1}, TUPLE {A 2}};R := RELATION {TUPLE {A 3}};PRINT R;",
+            write_piece: 10,
+            failing_write: 6,
+            output: b"statement 2 refused: E40 KEY broken in R constrain",
+            line: b"utd: write failed\n",
+            status: 4,
+            ..PLAIN
+        },
+        Example {
+            // a read that fails after an assignment, and what it did is there
+            script: b"VAR R RELATION {A INTEGER};INSERT R RELATION {TUPLE {A 5}};PRINT R;PRINT R;",
+            read_piece: 70,
+            failing_read: 2,
+            output: b"| A |\n| 5 |\nrows: 1\n",
+            line: b"utd: read failed\n",
+            status: 3,
             ..PLAIN
         },
     ]

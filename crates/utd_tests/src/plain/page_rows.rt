@@ -1,28 +1,32 @@
 //! The examples of docs/language.md.
 use super::Row;
 
-pub static ROWS: [Row; 17] = [
+pub static ROWS: [Row; 25] = [
     Row {
         // under "A first script"
         script: "\
 // What the shop asks, and from when to when.
-PRINT RELATION {
+VAR PRICES RELATION {ARTICLE CHAR, CENTS INTEGER, VALID INTERVAL(DATE)} KEY {ARTICLE, VALID};
+
+INSERT PRICES RELATION {
   TUPLE {ARTICLE 'tea',    CENTS 450, VALID [DATE '2012-01-01':DATE '2012-03-31']},
   TUPLE {ARTICLE 'tea',    CENTS 480, VALID [DATE '2012-04-01':DATE '2012-12-31']},
   TUPLE {ARTICLE 'coffee', CENTS 620, VALID [DATE '2012-01-01':DATE '2012-12-31']}
-} WHERE DATE '2012-04-15' IN VALID;
+};
 
-PRINT PRICES;
+PRINT PRICES WHERE DATE '2012-04-15' IN VALID;
 
-ASK IS_EMPTY(RELATION {TUPLE {CENTS 450}, TUPLE {CENTS 480}} WHERE CENTS > 600);
+PRINT ARTICLES;
+
+ASK IS_EMPTY(PRICES WHERE CENTS > 600);
 ",
         output: "\
 | ARTICLE  | CENTS | VALID                   |
 | 'coffee' | 620   | [2012-01-01:2012-12-31] |
 | 'tea'    | 480   | [2012-04-01:2012-12-31] |
 rows: 2
-statement 2 refused: E10 unknown name at 8:7
-TRUE
+statement 4 refused: E10 unknown name at 12:7
+FALSE
 ",
         status: 1,
     },
@@ -237,6 +241,182 @@ FALSE
         status: 0,
     },
     Row {
+        // under "Types"
+        script: "\
+TYPE SIZE ORDINAL {S, M, L, XL};
+VAR SHIRTS RELATION {ARTICLE CHAR, SIZES INTERVAL(SIZE), SMALLEST SIZE};
+INSERT SHIRTS RELATION {
+  TUPLE {ARTICLE 'plain',   SIZES [SIZE.S:SIZE.L], SMALLEST SIZE.S},
+  TUPLE {ARTICLE 'striped', SIZES (SIZE.M:LAST(SIZE)], SMALLEST NEXT(SIZE.M)}
+};
+PRINT SHIRTS;
+PRINT SHIRTS WHERE SIZE.XL IN SIZES;
+PRINT RELATION {TUPLE {N NEXT(SIZE.XL)}};
+PRINT RELATION {TUPLE {N SIZE.XXL}};
+",
+        output: "\
+| ARTICLE   | SIZES  | SMALLEST |
+| 'plain'   | [S:L]  | S        |
+| 'striped' | [L:XL] | L        |
+rows: 2
+| ARTICLE   | SIZES  | SMALLEST |
+| 'striped' | [L:XL] | L        |
+rows: 1
+statement 6 refused: E32 no such point at 9:26
+statement 7 refused: E10 unknown name at 10:31
+",
+        status: 1,
+    },
+    Row {
+        // under "Relvars"
+        script: "\
+VAR CUSTOMERS RELATION {NO INTEGER, NAME CHAR, SINCE DATE} KEY {NO};
+PRINT CUSTOMERS;
+INSERT CUSTOMERS RELATION {TUPLE {NO 7, NAME 'Ada', SINCE DATE '2012-02-29'}};
+PRINT CUSTOMERS {NO, NAME};
+VAR CUSTOMERS RELATION {NO INTEGER};
+",
+        output: "\
+| NAME | NO | SINCE |
+rows: 0
+| NAME  | NO |
+| 'Ada' | 7  |
+rows: 1
+statement 5 refused: E11 name taken at 5:5
+",
+        status: 1,
+    },
+    Row {
+        // under "Views"
+        script: "\
+VAR STOCK RELATION {ARTICLE CHAR, PIECES INTEGER, CENTS INTEGER};
+VAR SOLD_OUT VIRTUAL (STOCK WHERE PIECES = 0);
+VAR EACH VIRTUAL (EXTEND STOCK: {EACH := CENTS / PIECES});
+INSERT STOCK RELATION {TUPLE {ARTICLE 'tea', PIECES 12, CENTS 540}, TUPLE {ARTICLE 'salt', PIECES 3, CENTS 270}};
+PRINT SOLD_OUT;
+PRINT EACH {ARTICLE, EACH};
+UPDATE STOCK WHERE ARTICLE = 'salt': {PIECES := 0};
+PRINT SOLD_OUT;
+PRINT EACH {ARTICLE, EACH};
+DELETE SOLD_OUT WHERE TRUE;
+",
+        output: "\
+| ARTICLE | CENTS | PIECES |
+rows: 0
+| ARTICLE | EACH |
+| 'salt'  | 90   |
+| 'tea'   | 45   |
+rows: 2
+| ARTICLE | CENTS | PIECES |
+| 'salt'  | 270   | 0      |
+rows: 1
+statement 9 refused: E31 division by zero at 9:7
+statement 10 refused: E20 wrong kind of relvar at 10:8
+",
+        status: 1,
+    },
+    Row {
+        // under "Removals"
+        script: "\
+VAR A RELATION {N INTEGER};
+VAR V VIRTUAL (A WHERE N > 0);
+DROP VAR A;
+DROP VAR V;
+DROP VAR A;
+VAR A RELATION {T CHAR};
+PRINT A;
+",
+        output: "\
+statement 3 refused: E21 in use at 3:10
+| T |
+rows: 0
+",
+        status: 1,
+    },
+    Row {
+        // under "Assignments"
+        script: "\
+VAR ACCOUNTS RELATION {NO INTEGER, CENTS INTEGER, OPEN BOOLEAN};
+ACCOUNTS := RELATION {TUPLE {NO 1, CENTS 500, OPEN TRUE}, TUPLE {NO 2, CENTS 0, OPEN TRUE}};
+INSERT ACCOUNTS RELATION {TUPLE {NO 3, CENTS -20, OPEN TRUE}, TUPLE {NO 2, CENTS 0, OPEN TRUE}};
+UPDATE ACCOUNTS WHERE CENTS < 0: {CENTS := CENTS - 5, OPEN := FALSE};
+DELETE ACCOUNTS WHERE CENTS = 0;
+PRINT ACCOUNTS;
+UPDATE ACCOUNTS: {CENTS := 100 / (CENTS - 500)};
+DELETE ACCOUNTS (ACCOUNTS WHERE OPEN);
+PRINT ACCOUNTS;
+",
+        output: "\
+| CENTS | NO | OPEN  |
+| -25   | 3  | FALSE |
+| 500   | 1  | TRUE  |
+rows: 2
+statement 7 refused: E31 division by zero at 7:32
+| CENTS | NO | OPEN  |
+| -25   | 3  | FALSE |
+rows: 1
+",
+        status: 1,
+    },
+    Row {
+        // under "Several at once"
+        script: "\
+VAR A RELATION {N INTEGER};
+VAR B RELATION {N INTEGER};
+A := RELATION {TUPLE {N 1}}, B := RELATION {TUPLE {N 2}};
+A := B, B := A;
+PRINT A;
+INSERT A RELATION {TUPLE {N 3}}, UPDATE A WHERE N = 3: {N := 4}, B := A;
+PRINT A;
+PRINT B;
+DELETE A WHERE TRUE, INSERT B RELATION {TUPLE {N 1 / 0}};
+PRINT A;
+",
+        output: "\
+| N |
+| 2 |
+rows: 1
+| N |
+| 2 |
+| 4 |
+rows: 2
+| N |
+| 2 |
+rows: 1
+statement 9 refused: E31 division by zero at 9:52
+| N |
+| 2 |
+| 4 |
+rows: 2
+",
+        status: 1,
+    },
+    Row {
+        // under "Keys and foreign keys"
+        script: "\
+VAR OWNERS RELATION {NO INTEGER, NAME CHAR} KEY {NO};
+VAR CARS RELATION {PLATE CHAR, NO INTEGER} KEY {PLATE} FOREIGN KEY {NO} REFERENCES OWNERS;
+INSERT OWNERS RELATION {TUPLE {NO 1, NAME 'Ada'}};
+INSERT OWNERS RELATION {TUPLE {NO 1, NAME 'Grace'}};
+INSERT CARS RELATION {TUPLE {PLATE 'B 47', NO 2}};
+INSERT CARS RELATION {TUPLE {PLATE 'B 47', NO 2}}, INSERT OWNERS RELATION {TUPLE {NO 2, NAME 'Grace'}};
+DELETE OWNERS WHERE NO = 2;
+UPDATE OWNERS: {NO := NO + 10}, UPDATE CARS: {NO := NO + 10};
+PRINT CARS JOIN OWNERS;
+DROP VAR OWNERS;
+",
+        output: "\
+statement 4 refused: E40 KEY broken in OWNERS constraint 1
+statement 5 refused: E43 FOREIGN KEY broken in CARS constraint 2
+statement 7 refused: E43 FOREIGN KEY broken in CARS constraint 2
+| NAME    | NO | PLATE  |
+| 'Grace' | 12 | 'B 47' |
+rows: 1
+statement 10 refused: E21 in use at 10:10
+",
+        status: 1,
+    },
+    Row {
         // under "Tables"
         script: "\
 PRINT RELATION {
@@ -272,6 +452,38 @@ rows: 0
         status: 1,
     },
     Row {
+        // under "What is refused, and where"
+        script: "\
+VAR R RELATION {A INTEGER, B CHAR} KEY {A};
+VAR R RELATION {A NOTHING};
+VAR S RELATION {A NOTHING, A INTEGER} KEY {C};
+VAR S RELATION {A CHAR} KEY {A} FOREIGN KEY {A} REFERENCES R;
+INSERT Q X;
+INSERT R X;
+INSERT R RELATION {TUPLE {A 1 / 0}};
+UPDATE R WHERE A: {C := 1};
+UPDATE R WHERE A = 1: {B := 'x', B := C};
+INSERT R RELATION {TUPLE {A 1, B 'x'}, TUPLE {A 1, B 'y'}}, INSERT R RELATION {TUPLE {A 2 / 0, B 'x'}};
+INSERT R RELATION {TUPLE {A 1, B 'x'}, TUPLE {A 1, B 'y'}};
+PRINT R;
+",
+        output: "\
+statement 2 refused: E11 name taken at 2:5
+statement 3 refused: E10 unknown name at 3:19
+statement 4 refused: E12 wrong type at 4:46
+statement 5 refused: E10 unknown name at 5:8
+statement 6 refused: E10 unknown name at 6:10
+statement 7 refused: E13 headings differ at 7:8
+statement 8 refused: E12 wrong type at 8:10
+statement 9 refused: E15 name repeated at 9:34
+statement 10 refused: E31 division by zero at 10:91
+statement 11 refused: E40 KEY broken in R constraint 1
+| A | B |
+rows: 0
+",
+        status: 1,
+    },
+    Row {
         // under "Codes"
         script: "\
 PRINT 5;
@@ -288,6 +500,14 @@ PRINT RELATION {TUPLE {N 1 / 0}};
 PRINT RELATION {TUPLE {N POST([5:LAST(INTEGER)])}};
 PRINT RELATION {TUPLE {D [3:2]}};
 PRINT RELATION {TUPLE {D MINUS([1:9], [4:5])}};
+VAR R RELATION {N INTEGER} KEY {};
+VAR R RELATION {N INTEGER};
+VAR S RELATION {N INTEGER} FOREIGN KEY {N} REFERENCES R;
+VAR V VIRTUAL (R JOIN S);
+INSERT V R;
+DROP VAR S;
+INSERT R RELATION {TUPLE {N 1}, TUPLE {N 2}};
+INSERT S RELATION {TUPLE {N 3}};
 PRINT RELATION {TUPLE {T 'x'}}
 ",
         output: "\
@@ -305,7 +525,12 @@ statement 11 refused: E31 division by zero at 11:28
 statement 12 refused: E32 no such point at 12:26
 statement 13 refused: E33 empty interval at 13:26
 statement 14 refused: E34 not one interval at 14:26
-statement 15 refused: E04 statement not ended
+statement 16 refused: E11 name taken at 16:5
+statement 19 refused: E20 wrong kind of relvar at 19:8
+statement 20 refused: E21 in use at 20:10
+statement 21 refused: E40 KEY broken in R constraint 1
+statement 22 refused: E43 FOREIGN KEY broken in S constraint 1
+statement 23 refused: E04 statement not ended
 ",
         status: 1,
     },

@@ -1,12 +1,12 @@
 //! The scripts of examples/ and what stands beside them.
 use super::Row;
 
-pub static ROWS: [Row; 2] = [
+pub static ROWS: [Row; 3] = [
     Row {
         // examples/prices.td
         script: "\
 // Prices of a shop, the days for which they hold, and what was bought.
-// Nothing can be kept yet, so each question has its relations written out.
+// Each question has its relations written out.
 
 /* What does each article cost on 15 April 2012? */
 PRINT (RELATION {
@@ -138,8 +138,8 @@ PRINT EXTEND RELATION {
 /* One list cannot be taken from another that has further attributes. */
 PRINT RELATION {TUPLE {WHO 'Ada', AREA 1}} MINUS RELATION {TUPLE {WHO 'Ada'}};
 
-/* Relvars cannot be declared yet. */
-VAR PERMITS RELATION {WHO CHAR, HOLDS INTERVAL(DATE)} KEY {WHO};
+/* On which days was there a permit at all? What looks into intervals day by day does not run yet. */
+PRINT USING (HOLDS): RELATION {TUPLE {WHO 'Ada', HOLDS [DATE '2012-01-10':DATE '2012-02-20']}} {HOLDS};
 ",
         output: "\
 | AREA | HOLDS                   | WHO     |
@@ -161,6 +161,111 @@ rows: 1
 statement 6 refused: E34 not one interval at 54:15
 statement 7 refused: E13 headings differ at 57:44
 statement 8 refused: E01 not a statement at 60:1
+",
+        status: 1,
+    },
+    Row {
+        // examples/accounts.td
+        script: "\
+// Customers of a bank, their accounts, and what is posted to them.
+
+TYPE RANK ORDINAL {NEW, REGULAR, GOLD};
+
+VAR CUSTOMERS RELATION {CUSTOMER INTEGER, NAME CHAR, RANK RANK} KEY {CUSTOMER};
+
+VAR ACCOUNTS RELATION {ACCOUNT INTEGER, CUSTOMER INTEGER, OPENED DATE, CENTS INTEGER}
+  KEY {ACCOUNT}
+  FOREIGN KEY {CUSTOMER} REFERENCES CUSTOMERS;
+
+VAR CLOSED RELATION {ACCOUNT INTEGER, CUSTOMER INTEGER, OPENED DATE, ENDED DATE} KEY {ACCOUNT};
+
+/* What each customer has, all accounts together. */
+VAR BALANCES VIRTUAL (
+  (SUMMARIZE ACCOUNTS BY {CUSTOMER}: {CENTS := SUM(CENTS), NUMBER := COUNT()})
+  JOIN CUSTOMERS {CUSTOMER, NAME}
+);
+
+INSERT CUSTOMERS RELATION {
+  TUPLE {CUSTOMER 1, NAME 'Ada',   RANK RANK.GOLD},
+  TUPLE {CUSTOMER 2, NAME 'Grace', RANK RANK.NEW}
+};
+
+INSERT ACCOUNTS RELATION {
+  TUPLE {ACCOUNT 17, CUSTOMER 1, OPENED DATE '2011-05-02', CENTS 50000},
+  TUPLE {ACCOUNT 18, CUSTOMER 1, OPENED DATE '2012-02-29', CENTS 1200},
+  TUPLE {ACCOUNT 19, CUSTOMER 2, OPENED DATE '2012-03-01', CENTS 0}
+};
+
+PRINT BALANCES;
+
+/* An account of nobody is refused .. */
+INSERT ACCOUNTS RELATION {TUPLE {ACCOUNT 20, CUSTOMER 3, OPENED DATE '2012-03-02', CENTS 100}};
+
+/* .. and so is a second account 17; nothing has changed. */
+INSERT ACCOUNTS RELATION {TUPLE {ACCOUNT 17, CUSTOMER 2, OPENED DATE '2012-03-02', CENTS 100}};
+
+/* Together with the customer it is taken. */
+INSERT ACCOUNTS RELATION {TUPLE {ACCOUNT 20, CUSTOMER 3, OPENED DATE '2012-03-02', CENTS 100}},
+INSERT CUSTOMERS RELATION {TUPLE {CUSTOMER 3, NAME 'Zoë', RANK RANK.NEW}};
+
+/* 300 cents go from account 18 to account 19. */
+UPDATE ACCOUNTS WHERE ACCOUNT = 18: {CENTS := CENTS - 300},
+UPDATE ACCOUNTS WHERE ACCOUNT = 19: {CENTS := CENTS + 300};
+
+/* Who has more than 40,000 cents gets the next rank; there is none above GOLD, so this is refused at NEXT .. */
+UPDATE CUSTOMERS WHERE CUSTOMER <= 2: {RANK := NEXT(RANK)};
+
+/* .. and this is not. */
+UPDATE CUSTOMERS WHERE RANK < RANK.GOLD: {RANK := NEXT(RANK)};
+
+/* Account 20 is closed: it goes from one relvar to the other. */
+INSERT CLOSED (EXTEND ACCOUNTS WHERE ACCOUNT = 20: {ENDED := DATE '2012-04-01'}) {ALL BUT CENTS},
+DELETE ACCOUNTS WHERE ACCOUNT = 20;
+
+PRINT ACCOUNTS JOIN CUSTOMERS;
+PRINT CLOSED;
+PRINT BALANCES;
+
+/* Is there a customer without an account? */
+ASK IS_EMPTY(CUSTOMERS NOT MATCHING ACCOUNTS);
+PRINT (CUSTOMERS NOT MATCHING ACCOUNTS) {NAME};
+
+/* A view is not assigned to, and what others name stays. */
+UPDATE BALANCES: {CENTS := 0};
+DELETE CUSTOMERS WHERE NAME = 'Ada';
+DROP VAR CUSTOMERS;
+DROP VAR BALANCES;
+DROP VAR CLOSED;
+PRINT CLOSED;
+",
+        output: "\
+| CENTS | CUSTOMER | NAME    | NUMBER |
+| 0     | 2        | 'Grace' | 1      |
+| 51200 | 1        | 'Ada'   | 2      |
+rows: 2
+statement 9 refused: E43 FOREIGN KEY broken in ACCOUNTS constraint 2
+statement 10 refused: E40 KEY broken in ACCOUNTS constraint 1
+statement 13 refused: E32 no such point at 47:48
+| ACCOUNT | CENTS | CUSTOMER | NAME    | OPENED     | RANK    |
+| 17      | 50000 | 1        | 'Ada'   | 2011-05-02 | GOLD    |
+| 18      | 900   | 1        | 'Ada'   | 2012-02-29 | GOLD    |
+| 19      | 300   | 2        | 'Grace' | 2012-03-01 | REGULAR |
+rows: 3
+| ACCOUNT | CUSTOMER | ENDED      | OPENED     |
+| 20      | 3        | 2012-04-01 | 2012-03-02 |
+rows: 1
+| CENTS | CUSTOMER | NAME    | NUMBER |
+| 300   | 2        | 'Grace' | 1      |
+| 50900 | 1        | 'Ada'   | 2      |
+rows: 2
+FALSE
+| NAME  |
+| 'Zoë' |
+rows: 1
+statement 21 refused: E20 wrong kind of relvar at 65:8
+statement 22 refused: E43 FOREIGN KEY broken in ACCOUNTS constraint 2
+statement 23 refused: E21 in use at 67:10
+statement 26 refused: E10 unknown name at 70:7
 ",
         status: 1,
     },

@@ -1,0 +1,45 @@
+// The whole tree of each statement, with every place.
+ghost use Rattle.std.specs.Prelude.{◌<◌, length};
+
+use crate::notes::Notes;
+use crate::rows::ROWS;
+use crate::statements::statement;
+use point_core::Place;
+use std::alloc::Global;
+use std::test::Fail;
+use utd_lexer::tokens;
+use utd_parser::parse;
+use utd_syntax::Statement;
+use value_core::Refuse;
+
+fn tree(alloc: Global, text: &[u8]) -> Result<Statement, Refuse>
+    requires { length text.now < 1000 }
+{
+    let list = tokens(alloc, text, Place { line: 1, column: 1 })?;
+    parse(alloc, &list)
+}
+
+fn written(alloc: Global, text: &[u8]) -> Option<Notes>
+    requires { length text.now < 1000 }
+{
+    match tree(alloc, text) {
+        Ok(tree) => {
+            let mut out = Notes::new(alloc);
+            statement(&mut out, &tree);
+            Some(out)
+        }
+        Err(_) => None,
+    }
+}
+
+#[test]
+fn whole_trees_are_built(rt: HostRuntime) -> Result<(), Fail> {
+    let alloc = rt.alloc();
+    for row in &ROWS {
+        let text = row.text;
+        assert!(rt; text.len() < 1000);
+        let notes = written(alloc, text.as_bytes()).expect(&rt, "a statement");
+        assert_eq!(rt; notes.text(), Some(row.tree), "{text}");
+    }
+    Ok(())
+}
