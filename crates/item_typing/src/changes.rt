@@ -1,5 +1,5 @@
 // Which rows of the target change.
-ghost use Rattle.std.specs.Prelude.{◌≡◌, Some, None, option_map};
+ghost use Rattle.std.specs.Prelude.{◌≡◌, None, option_map};
 ghost use Rattle.utd_syntax.specs.Read.{read_condition};
 ghost use Rattle.scalar_core.specs.Answers.{Gives};
 ghost use Rattle.scalar_core.specs.Expressions.{read};

@@ -1,4 +1,4 @@
--- What a map of relvars finds at a name is the first entry of that name.
+-- What a map of relvars finds at a name is the first entry of that name; names are equal from either side.
 use denote.Ref.{Bor}
 use Rattle.std.proofs.Common.{◌≡◌, Bool, true, false, cond, List, [], ◌∷◌, map, Option, Some, None, refl, sym, ap, ◌∙◌}
 use Rattle.std.specs.Option.{option_map, option_copied}
@@ -17,6 +17,9 @@ either a b false false p q = refl
 either a b true false p q = absurd (true≢false (sym (own_name a) ∙ ap (λ (n : Name). bytes_eq n a) (same_name a b p) ∙ q))
 either a b false true p q = absurd (true≢false (sym (own_name b) ∙ ap (λ (n : Name). bytes_eq n b) (same_name b a q) ∙ p))
 
+pub either-side : (a b : Name) → bytes_eq a b ≡ bytes_eq b a
+either-side a b = either a b (bytes_eq a b) (bytes_eq b a) refl refl
+
 found : (b : Bool) (x : Relvar) (o : Option Relvar) (p : Option PlainRelvar) → option_map read_relvar o ≡ p
     → option_map read_relvar (cond b (Some x) o) ≡ cond b (Some (read_relvar x)) p
 found true x o p e = refl
@@ -25,7 +28,7 @@ found false x o p e = e
 pub looked-up : (es : List (Name × Relvar)) (name : Name) → option_map read_relvar (lookup (bytes_eq name) es) ≡ relvar_named (map read_entry es) name
 looked-up [] name = refl
 looked-up (d ∷ es) name =
-    ap (λ (b : Bool). option_map read_relvar (cond b (Some d.1) (lookup (bytes_eq name) es))) (either name d.0 (bytes_eq name d.0) (bytes_eq d.0 name) refl refl)
+    ap (λ (b : Bool). option_map read_relvar (cond b (Some d.1) (lookup (bytes_eq name) es))) (either-side name d.0)
     ∙ found (bytes_eq d.0 name) d.1 (lookup (bytes_eq name) es) (relvar_named (map read_entry es) name) (looked-up es name)
 
 pub seen : (r : Option (Bor Relvar)) → option_map (λ (x : Bor Relvar). read_relvar x.now) r ≡ option_map read_relvar (option_copied r)
