@@ -1,12 +1,9 @@
--- What changes ask for, and how they are told.
-use Rattle.std.specs.Prelude.{◌≡◌, List, [], ◌∷◌, ◌++◌, map, Ok, Err, refl}
-use Rattle.std.proofs.Common.{sym, ap, subst, Vec, ℕ, Global}
+-- What changes ask for.
+use Rattle.std.specs.Prelude.{List, [], ◌∷◌, ◌++◌, map}
 use Rattle.std.specs.List.{All}
 use Rattle.std.proofs.lemmas.List.Elements.{All-nil, All-head, All-tail, All-append, All-cons}
-use Rattle.value_core.specs.declared.refuse.Refuse.{Refuse}
-use Rattle.value_core.specs.declared.refuse.Refuse.TheVariants as refuses
 use Rattle.value_core.specs.Values.{Name}
-use Rattle.tree_core.specs.Items.{PlainItem, PlainAssignment, read_item}
+use Rattle.tree_core.specs.Items.{PlainItem, read_item}
 use Rattle.tree_core.specs.declared.item.Item.{Item}
 use Rattle.tree_core.specs.Relvars.{State, Entries, PlainRelvar, base, view}
 use Rattle.algebra_core.specs.Declarations.{PlainDeclaration, ordinal_type, base_relvar, view_relvar, with_declaration}
@@ -16,12 +13,11 @@ use Rattle.algebra_core.specs.WellMade.{IsWellMade}
 use Rattle.update_core.specs.Updates.{expanded, IsExpandable}
 use Rattle.update_core.proofs.PlainLemmas.{expanded-plain}
 use Rattle.update_core.proofs.TypedLemmas.{form-expandable, expanded-typed}
-use Rattle.assign_core.specs.Assignments.{after_assignments, IsAssigned, IsPlainAssignment}
+use Rattle.assign_core.specs.Assignments.{IsPlainAssignment}
 use Rattle.assign_core.specs.Breaches.{IsBuiltRelvar, AreBuilt}
 use Rattle.assign_core.specs.Databases.{IsKept, CanBecome}
 use Rattle.type_check.specs.Checks.{IsPlainDeclaration, StaysPlain}
-use Rattle.utd_statement.specs.Answers.{assignments_of, unless_refused}
-use Rattle.utd_statement.specs.Replies.{IsPerformed}
+use Rattle.utd_statement.specs.Answers.{assignments_of}
 
 -- ---- declarations
 
@@ -60,13 +56,3 @@ all-plain s (i ∷ items) h k =
     All-append (IsPlainAssignment s) (expanded i) (assignments_of items)
     (expanded-plain s.relvars i (All-head (IsTypedItem s) i items h).base (All-head P i items k))
     (all-plain s items (All-tail (IsTypedItem s) i items h) (All-tail P i items k))
-
-module _ (old new : State) (list : List PlainAssignment) where
-  pub assigned-performed : (text : Vec ℕ Global) → text.items ≡ [] → IsAssigned (Ok tt) old new list → IsPerformed (Ok text) old new (unless_refused old (after_assignments old.relvars list))
-  assigned-performed text e h = subst (λ r. IsPerformed (Ok text) old new (unless_refused old r)) (sym h.0) (((λ n. e), refl), h.1)
-
-  pub refused-performed : (refuse : Refuse) → IsAssigned (Err refuse) old new list → IsPerformed (Err refuse) old new (unless_refused old (after_assignments old.relvars list))
-  refused-performed refuses.Memory h = (tt, h.1)
-  refused-performed (refuses.At fault) h = (ap (unless_refused old) h.0, h.1)
-  refused-performed (refuses.Plain code) h = (ap (unless_refused old) h.0, h.1)
-  refused-performed (refuses.Broken code relvar number) h = (ap (unless_refused old) h.0, h.1)

@@ -1,15 +1,11 @@
--- Rows of which none has an empty interval, and answers that change nothing.
-use Rattle.std.proofs.Common.{◌≡◌, ℕ, ◌+◌, ◌<◌, ℤ, ◌≤ℤ◌, ◌<ℤ◌, Bool, true, false, cond, List, [], ◌∷◌, length, get_or, drop, map, refl, sym, ap, ◌∙◌, Option, Some, None, Result, Ok, Err, IfOk, int_lt, arith}
+-- Rows of which none has an empty interval.
+use Rattle.std.proofs.Common.{◌≡◌, ℕ, ◌+◌, ◌<◌, ℤ, ◌≤ℤ◌, ◌<ℤ◌, Bool, true, false, cond, List, [], ◌∷◌, length, get_or, drop, map, refl, sym, ap, ◌∙◌, Option, Some, None, int_lt, arith}
 use Rattle.std.specs.List.{AllByRecursion}
 use Rattle.std.proofs.lemmas.Int.{ints}
 use Rattle.std.proofs.lemmas.List.{drop_more}
 use Rattle.point_core.specs.declared.fault.Place.{Place}
 use Rattle.utd_statement.specs.declared.row.PlacedRow.{PlacedRow}
-use Rattle.point_core.specs.declared.memory.Memory.{Memory as NoMemory}
-use Rattle.tree_core.specs.Relvars.{State}
-use Rattle.utd_statement.specs.declared.reply.Reply.{Reply}
-use Rattle.utd_statement.specs.Answers.{Answer, first_empty, unless_empty, state_after}
-use Rattle.utd_statement.specs.Replies.{IsReply, IsAnswered}
+use Rattle.utd_statement.specs.Answers.{first_empty}
 
 at_least : (a b : ℤ) → int_lt a b ≡ false → b ≤ℤ a
 at_least a b e = grind (arith, ints)
@@ -39,13 +35,3 @@ first_empty_later rows i r l at e = first_empty_at rows i r l at ∙ ap (λ t. c
   where
     not_below : (a b : ℤ) → b ≤ℤ a → int_lt a b ≡ false
     not_below a b e = grind (arith, ints)
-
--- ---- answers that change nothing
-
-pub unchanged : (r : Result Reply NoMemory) (n : ℕ) (s : State) (a : Answer) → state_after s a ≡ s → IfOk r (IsReply n a) → IsAnswered r n s s a
-unchanged (Ok reply) n s a stays h = (h, sym stays)
-unchanged (Err memory) n s a stays h = refl
-
-pub rows-stay : (s : State) (rows : List PlacedRow) (empty : Option Place) → state_after s (unless_empty rows empty) ≡ s
-rows-stay s rows None = refl
-rows-stay s rows (Some place) = refl

@@ -1,10 +1,8 @@
--- What is told of the relation that an expression means, and of a refusal of types.
-use Rattle.std.proofs.Common.{◌≡◌, List, [], ◌∷◌, length, map, refl, sym, ap, subst, arith, None, ℕ, Vec, Global, Result, Ok, Err}
+-- What is told of the relation that an expression means.
+use Rattle.std.proofs.Common.{◌≡◌, [], refl, sym, ap, subst, None, ℕ, Vec, Global, Result, Ok, Err}
 use Rattle.point_core.specs.Faults.{OrFault}
 use Rattle.point_core.specs.declared.fault.Stop.{Stop}
 use Rattle.point_core.specs.declared.fault.Stop.TheVariants as stops
-use Rattle.value_core.specs.declared.refuse.Refuse.{Refuse}
-use Rattle.value_core.specs.declared.refuse.Refuse.TheVariants as refuses
 use Rattle.value_core.specs.Refusals.{refusal_of}
 use Rattle.value_core.specs.Values.{Relation, Heading}
 use Rattle.relation_core.specs.Answers.{Answers, under}
@@ -14,7 +12,7 @@ use Rattle.tree_core.specs.declared.tree.RelTree.{RelTree}
 use Rattle.algebra_core.specs.Meanings.{meaning_in}
 use Rattle.algebra_core.specs.Names.{given}
 use Rattle.algebra_core.proofs.EvalLemmas.{given_none, operand_heading}
-use Rattle.type_check.specs.Checks.{Plain, print, Checks}
+use Rattle.type_check.specs.Checks.{print}
 use Rattle.utd_print.specs.Tables as printed
 use Rattle.utd_statement.specs.Answers.{Answer, Table, unless_fault, relation_in, of_checked, state_after}
 use Rattle.utd_statement.specs.Replies.{IsTextOf, IsPerformed}
@@ -46,11 +44,3 @@ printed_text state t r text h e = value_performed (Table state.ordinals) state (
 pub printed_stop : (state : State) (t : RelTree) (stop : Stop) → Answers {A = Relation} (Err stop) (under t.heading (meaning_in (given None None state.relvars) (read_tree t)))
     → IsPerformed (Err (refusal_of stop)) state state (of_checked state (print (read_tree t)))
 printed_stop state t stop h = stop_performed (Table state.ordinals) state (λ v. refl) stop _ (relation_is state t (Err stop) h)
-
--- ---- refusals of types
-
-pub typing_refused : (state : State) (refuse : Refuse) (meant : OrFault Plain) → Checks (Err refuse) meant → IsPerformed (Err refuse) state state (unless_fault (of_checked state) meant)
-typing_refused state (refuses.At fault) meant h = (ap (unless_fault (of_checked state)) h, refl)
-typing_refused state refuses.Memory meant h = (tt, refl)
-typing_refused state (refuses.Plain code) meant h = absurd h
-typing_refused state (refuses.Broken code relvar number) meant h = absurd h

@@ -2,7 +2,7 @@
 --     Answer      what is answered
 --     of_tree, answer      to a tree in a state, and to what a statement is read as
 --     text_of, is_accepted, state_after      what an answer writes, whether it accepts, and the state that it leaves
-use Rattle.std.specs.Prelude.{ℕ, Bool, true, false, List, [], map, flat_map, if◌then◌else◌, Option, Some, None, Result, Ok, Err}
+use Rattle.std.specs.Prelude.{ℕ, Bool, true, false, List, [], ◌∷◌, map, flat_map, if◌then◌else◌, Option, Some, None, Result, Ok, Err}
 use Rattle.std.specs.Int.RustNames.{int_lt}
 use Rattle.point_core.specs.declared.fault.Place.{Place}
 use Rattle.point_core.specs.declared.fault.Code.TheVariants.{E01, E33}

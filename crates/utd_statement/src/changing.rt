@@ -40,11 +40,7 @@ pub fn declared(
 }
 
 /// Removes the relvar or view of this name.
-pub fn removed(
-    alloc: Global,
-    name: &Name,
-    database: &mut Database,
-) -> Result<Vec<u8>, Refuse>
+pub fn removed(alloc: Global, name: &Name, database: &mut Database) -> Result<Vec<u8>, Refuse>
     requires well_made { IsWellMade (without name.now (read_relvars database.old)) }
     requires plain { IsTrue (are_plain (without name.now (read_relvars database.old)).relvars) }
     ensures { IsPerformed result (read_relvars database.old) (read_relvars database.new) (Changed (without name.now (read_relvars database.old))) }

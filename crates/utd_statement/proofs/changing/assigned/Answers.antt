@@ -1,6 +1,6 @@
 use Rattle.std.proofs.Common.{◌≡◌, map, sym, ap, subst, ◌∙◌}
 use Rattle.std.specs.List.{All}
-use Rattle.tree_core.specs.Items.{PlainAssignment, read_item, read_assignment}
+use Rattle.tree_core.specs.Items.{read_item, read_assignment}
 use Rattle.tree_core.specs.Relvars.{read_relvars}
 use Rattle.tree_core.specs.declared.item.Item.{Item}
 use Rattle.algebra_core.specs.Updates.{IsTypedAssignment}
@@ -20,7 +20,7 @@ assign-requires-clause-typed g c =
     let old = read_relvars c.args.database.now in
     let same : c.as_slice.result.now ≡ c.args.items.now = cc in
     let list : map read_assignment c.deref.result.now ≡ assignments_of (map read_item c.args.items.now) =
-        ap (map read_assignment) c.deref.ensures.value ∙ c.in_ok-list.ensures ∙ ap (λ xs. assignments_of (map read_item xs)) same
+    ap (map read_assignment) c.deref.ensures.value ∙ c.in_ok-list.ensures ∙ ap (λ xs. assignments_of (map read_item xs)) same
     in
     subst (All (IsTypedAssignment old)) (sym list) (all-typed old (map read_item c.args.items.now) c.requires.kept.well_made c.requires.typed)
 
@@ -29,6 +29,6 @@ assign-requires-clause-plain g c =
     let old = read_relvars c.args.database.now in
     let same : c.as_slice.result.now ≡ c.args.items.now = cc in
     let list : map read_assignment c.deref.result.now ≡ assignments_of (map read_item c.args.items.now) =
-        ap (map read_assignment) c.deref.ensures.value ∙ c.in_ok-list.ensures ∙ ap (λ xs. assignments_of (map read_item xs)) same
+    ap (map read_assignment) c.deref.ensures.value ∙ c.in_ok-list.ensures ∙ ap (λ xs. assignments_of (map read_item xs)) same
     in
     subst (All (IsPlainAssignment old)) (sym list) (all-plain old (map read_item c.args.items.now) c.requires.typed c.requires.plain)
