@@ -2,11 +2,11 @@
 ghost use Rattle.std.specs.Prelude.{◌<◌, length};
 
 use crate::notes::Notes;
-use crate::rows::ROWS;
+use crate::rows::{ROWS, Row};
 use crate::statements::statement;
 use point_core::Place;
 use std::alloc::Global;
-use std::test::Fail;
+use std::process::Abort;
 use utd_lexer::tokens;
 use utd_parser::parse;
 use utd_syntax::Statement;
@@ -32,14 +32,21 @@ fn written(alloc: Global, text: &[u8]) -> Option<Notes>
     }
 }
 
-#[test]
-fn whole_trees_are_built(rt: HostRuntime) -> Result<(), Fail> {
-    let alloc = rt.alloc();
-    for row in &ROWS {
-        let text = row.text;
-        assert!(rt; text.len() < 1000);
-        let notes = written(alloc, text.as_bytes()).expect(&rt, "a statement");
-        assert_eq!(rt; notes.text(), Some(row.tree), "{text}");
+/// The statement's tree is written so.
+fn assert_tree(rt: &impl Abort, alloc: Global, row: &Row) {
+    let text = row.text;
+    assert!(rt; text.len() < 1000);
+    let notes = written(alloc, text.as_bytes()).expect(rt, "a statement");
+    assert_eq!(rt; notes.text(), Some(row.tree), "{text}");
+}
+
+fn assert_trees(rt: &impl Abort, alloc: Global, rows: &[Row]) {
+    for row in rows {
+        assert_tree(rt, alloc, row);
     }
-    Ok(())
+}
+
+#[test]
+fn whole_trees_are_built(rt: HostRuntime) {
+    assert_trees(&rt, rt.alloc(), &ROWS);
 }
