@@ -2,8 +2,8 @@
 ghost use Rattle.std.specs.Prelude.{◌<◌, length};
 
 use crate::notes::Notes;
-use crate::rows::{ROWS, Row};
 use crate::statements::statement;
+use crate::{relation_rows, scalar_rows, statement_rows};
 use point_core::Place;
 use std::alloc::Global;
 use std::process::Abort;
@@ -11,6 +11,12 @@ use utd_lexer::tokens;
 use utd_parser::parse;
 use utd_syntax::Statement;
 use value_core::Refuse;
+
+/// A statement, and its tree as text.
+pub struct Row {
+    pub text: &'static str,
+    pub tree: &'static str,
+}
 
 fn tree(alloc: Global, text: &[u8]) -> Result<Statement, Refuse>
     requires { length text.now < 1000 }
@@ -47,6 +53,16 @@ fn assert_trees(rt: &impl Abort, alloc: Global, rows: &[Row]) {
 }
 
 #[test]
-fn whole_trees_are_built(rt: HostRuntime) {
-    assert_trees(&rt, rt.alloc(), &ROWS);
+fn relations_are_built(rt: HostRuntime) {
+    assert_trees(&rt, rt.alloc(), &relation_rows::ROWS);
+}
+
+#[test]
+fn scalars_are_built(rt: HostRuntime) {
+    assert_trees(&rt, rt.alloc(), &scalar_rows::ROWS);
+}
+
+#[test]
+fn statements_are_built(rt: HostRuntime) {
+    assert_trees(&rt, rt.alloc(), &statement_rows::ROWS);
 }
