@@ -6,11 +6,15 @@ mod notes;
 #[cfg(test)]
 mod parts;
 #[cfg(test)]
+mod relation_rows;
+#[cfg(test)]
 mod relations;
 #[cfg(test)]
-mod rows;
+mod scalar_rows;
 #[cfg(test)]
 mod scalars;
+#[cfg(test)]
+mod statement_rows;
 #[cfg(test)]
 mod statements;
 #[cfg(test)]

@@ -5,6 +5,7 @@ mod drop_rows;
 mod item_rows;
 mod kept_rows;
 mod limit_rows;
+mod name_rows;
 mod relvar_rows;
 mod source_rows;
 mod type_rows;
@@ -28,6 +29,11 @@ fn relvars_are_declared_or_refused(rt: HostRuntime) -> Result<(), Fail> {
 #[test]
 fn views_show_the_present_rows(rt: HostRuntime) -> Result<(), Fail> {
     assert_rows(&rt, rt.alloc(), &view_rows::ROWS)
+}
+
+#[test]
+fn relvars_and_views_are_operands(rt: HostRuntime) -> Result<(), Fail> {
+    assert_rows(&rt, rt.alloc(), &name_rows::ROWS)
 }
 
 #[test]

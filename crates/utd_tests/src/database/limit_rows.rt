@@ -7,7 +7,9 @@ pub static ROWS: [Long; 24] = [
         pieces: &[
             Piece::Numbered(40, "VAR R", " RELATION {A INTEGER};\n"),
             Piece::Numbered(24, "VAR V", " VIRTUAL (R0);\n"),
-            Piece::Text("VAR X RELATION {A INTEGER};\nVAR Y VIRTUAL (R1);\nDROP VAR R39;\nVAR X RELATION {A INTEGER};\nVAR Y RELATION {A INTEGER};\nDROP VAR V23;\nVAR Y VIRTUAL (X);\nPRINT Y;\nVAR Z RELATION {};\n"),
+            Piece::Text(
+                "VAR X RELATION {A INTEGER};\nVAR Y VIRTUAL (R1);\nDROP VAR R39;\nVAR X RELATION {A INTEGER};\nVAR Y RELATION {A INTEGER};\nDROP VAR V23;\nVAR Y VIRTUAL (X);\nPRINT Y;\nVAR Z RELATION {};\n",
+            ),
         ],
         output: "\
 statement 65 refused: E22 too many at 65:5
@@ -33,7 +35,9 @@ statement 73 refused: E22 too many at 73:5
         // what else a declaration is refused for goes before the 65th
         pieces: &[
             Piece::Numbered(64, "VAR R", " RELATION {A INTEGER};\n"),
-            Piece::Text("VAR R1 RELATION {};\nVAR X RELATION {A NOTHING};\nVAR X RELATION {A INTEGER} KEY {B};\nVAR X VIRTUAL (Y);\nVAR X VIRTUAL (R1 {B});\nVAR X RELATION {A INTEGER}"),
+            Piece::Text(
+                "VAR R1 RELATION {};\nVAR X RELATION {A NOTHING};\nVAR X RELATION {A INTEGER} KEY {B};\nVAR X VIRTUAL (Y);\nVAR X VIRTUAL (R1 {B});\nVAR X RELATION {A INTEGER}",
+            ),
             Piece::Times(33, " KEY {A}"),
             Piece::Text(";\nVAR X RELATION {A INTEGER}"),
             Piece::Times(32, " KEY {A}"),
@@ -54,7 +58,9 @@ statement 71 refused: E22 too many at 71:5
         // a refused one takes no place
         pieces: &[
             Piece::Numbered(63, "VAR R", " RELATION {A INTEGER};\n"),
-            Piece::Text("VAR X RELATION {A INTEGER} KEY {B};\nVAR R0 RELATION {};\nVAR X RELATION {A INTEGER};\nVAR Y RELATION {A INTEGER};\nPRINT X;\n"),
+            Piece::Text(
+                "VAR X RELATION {A INTEGER} KEY {B};\nVAR R0 RELATION {};\nVAR X RELATION {A INTEGER};\nVAR Y RELATION {A INTEGER};\nPRINT X;\n",
+            ),
         ],
         output: "\
 statement 64 refused: E14 no such attribute at 64:33
@@ -69,7 +75,9 @@ rows: 0
         // 16 types, and a 17th one
         pieces: &[
             Piece::Numbered(16, "TYPE T", " ORDINAL {A, B};\n"),
-            Piece::Text("TYPE X ORDINAL {A};\nPRINT RELATION {TUPLE {P T15.B}};\nTYPE T3 ORDINAL {A};\nTYPE X ORDINAL {A, A};\nVAR X RELATION {A T7};\n"),
+            Piece::Text(
+                "TYPE X ORDINAL {A};\nPRINT RELATION {TUPLE {P T15.B}};\nTYPE T3 ORDINAL {A};\nTYPE X ORDINAL {A, A};\nVAR X RELATION {A T7};\n",
+            ),
         ],
         output: "\
 statement 17 refused: E22 too many at 17:6
@@ -86,7 +94,9 @@ statement 20 refused: E15 name repeated at 20:20
         pieces: &[
             Piece::Text("TYPE T ORDINAL {X"),
             Piece::Numbered(999, ", V", ""),
-            Piece::Text("};\nPRINT RELATION {TUPLE {A FIRST(T), B LAST(T), C COUNT([FIRST(T):LAST(T)]), D [T.V500:T.V501]}};\n"),
+            Piece::Text(
+                "};\nPRINT RELATION {TUPLE {A FIRST(T), B LAST(T), C COUNT([FIRST(T):LAST(T)]), D [T.V500:T.V501]}};\n",
+            ),
         ],
         output: "\
 | A | B    | C    | D           |
@@ -139,7 +149,9 @@ statement 18 refused: E22 too many at 18:6
         pieces: &[
             Piece::Text("VAR X RELATION {A INTEGER, B INTEGER} KEY {B}"),
             Piece::Times(30, " KEY {A}"),
-            Piece::Text(" KEY {A};\nINSERT X RELATION {TUPLE {A 1, B 1}, TUPLE {A 1, B 2}};\nPRINT X;\n"),
+            Piece::Text(
+                " KEY {A};\nINSERT X RELATION {TUPLE {A 1, B 1}, TUPLE {A 1, B 2}};\nPRINT X;\n",
+            ),
         ],
         output: "\
 statement 2 refused: E40 KEY broken in X constraint 2
@@ -189,7 +201,9 @@ statement 2 refused: E10 unknown name at 2:7
         pieces: &[
             Piece::Text("VAR R RELATION {A INTEGER};\nVAR V VIRTUAL (R"),
             Piece::Times(249, " UNION R"),
-            Piece::Text(");\nVAR W VIRTUAL (V UNION V {A});\nINSERT R RELATION {TUPLE {A 7}};\nPRINT W;\nVAR X VIRTUAL (W);\nVAR Y VIRTUAL (W {A});\nPRINT X;\nPRINT Y;\n"),
+            Piece::Text(
+                ");\nVAR W VIRTUAL (V UNION V {A});\nINSERT R RELATION {TUPLE {A 7}};\nPRINT W;\nVAR X VIRTUAL (W);\nVAR Y VIRTUAL (W {A});\nPRINT X;\nPRINT Y;\n",
+            ),
         ],
         output: "\
 | A |
@@ -210,7 +224,9 @@ statement 9 refused: E10 unknown name at 9:7
             Piece::Times(249, " UNION R"),
             Piece::Text(");\n"),
             Piece::Numbered(61, "VAR R", " RELATION {A INTEGER};\n"),
-            Piece::Text("VAR W VIRTUAL (V {A} UNION V {A});\nVAR W VIRTUAL (V UNION V {A});\nVAR X VIRTUAL (V {A} UNION V {A});\nVAR X VIRTUAL (V UNION V {A});\n"),
+            Piece::Text(
+                "VAR W VIRTUAL (V {A} UNION V {A});\nVAR W VIRTUAL (V UNION V {A});\nVAR X VIRTUAL (V {A} UNION V {A});\nVAR X VIRTUAL (V UNION V {A});\n",
+            ),
         ],
         output: "\
 statement 64 refused: E22 too many at 64:5
@@ -222,9 +238,13 @@ statement 67 refused: E22 too many at 67:5
     Long {
         // no such limit for what is printed and assigned
         pieces: &[
-            Piece::Text("VAR R RELATION {A INTEGER};\nINSERT R RELATION {TUPLE {A 7}};\nVAR V VIRTUAL (R"),
+            Piece::Text(
+                "VAR R RELATION {A INTEGER};\nINSERT R RELATION {TUPLE {A 7}};\nVAR V VIRTUAL (R",
+            ),
             Piece::Times(249, " UNION R"),
-            Piece::Text(");\nPRINT V UNION V UNION V;\nR := V UNION V UNION (V MINUS V);\nPRINT R;\n"),
+            Piece::Text(
+                ");\nPRINT V UNION V UNION V;\nR := V UNION V UNION (V MINUS V);\nPRINT R;\n",
+            ),
         ],
         output: "\
 | A |
@@ -241,7 +261,9 @@ rows: 1
         pieces: &[
             Piece::Text("VAR R RELATION {A INTEGER};\nVAR V0 VIRTUAL (R WHERE 60 / A > 0);\n"),
             Piece::Chained(60, "VAR V", " VIRTUAL (EXTEND V", ": {A := A + 1});\n"),
-            Piece::Text("R := RELATION {TUPLE {A 1}, TUPLE {A 2}};\nPRINT V60;\nDROP VAR V30;\nINSERT R RELATION {TUPLE {A 0}};\nPRINT V60;\nINSERT R RELATION {TUPLE {A LAST(INTEGER) - 30}};\nDELETE R WHERE A = 0;\nPRINT V59;\n"),
+            Piece::Text(
+                "R := RELATION {TUPLE {A 1}, TUPLE {A 2}};\nPRINT V60;\nDROP VAR V30;\nINSERT R RELATION {TUPLE {A 0}};\nPRINT V60;\nINSERT R RELATION {TUPLE {A LAST(INTEGER) - 30}};\nDELETE R WHERE A = 0;\nPRINT V59;\n",
+            ),
         ],
         output: "\
 | A  |
@@ -264,7 +286,9 @@ rows: 2
             Piece::Tuples("N", 400),
             Piece::Text(" JOIN "),
             Piece::Tuples("M", 250),
-            Piece::Text(";\nPRINT SUMMARIZE R BY {}: {C := COUNT()};\n  INSERT R RELATION {TUPLE {N -1, M 0}};\nR := R\n  UNION RELATION {TUPLE {N -1, M 0}};\nPRINT SUMMARIZE R BY {}: {C := COUNT()};\nDELETE R WHERE N > 0 OR M > 2;\nINSERT R RELATION {TUPLE {N -1, M 0}};\nPRINT R;\n"),
+            Piece::Text(
+                ";\nPRINT SUMMARIZE R BY {}: {C := COUNT()};\n  INSERT R RELATION {TUPLE {N -1, M 0}};\nR := R\n  UNION RELATION {TUPLE {N -1, M 0}};\nPRINT SUMMARIZE R BY {}: {C := COUNT()};\nDELETE R WHERE N > 0 OR M > 2;\nINSERT R RELATION {TUPLE {N -1, M 0}};\nPRINT R;\n",
+            ),
         ],
         output: "\
 | C      |
@@ -287,9 +311,13 @@ rows: 4
     Long {
         // too many rows of a view, at its name, and of an item
         pieces: &[
-            Piece::Text("VAR R RELATION {N INTEGER};\nVAR V VIRTUAL (R JOIN R RENAME {N AS M});\nVAR S RELATION {N INTEGER, M INTEGER};\nR := "),
+            Piece::Text(
+                "VAR R RELATION {N INTEGER};\nVAR V VIRTUAL (R JOIN R RENAME {N AS M});\nVAR S RELATION {N INTEGER, M INTEGER};\nR := ",
+            ),
             Piece::Tuples("N", 317),
-            Piece::Text(";\nPRINT V;\nINSERT S V;\nS := V;\nINSERT S R JOIN R RENAME {N AS M};\nPRINT S;\nDELETE R WHERE N > 2;\nPRINT V WHERE N = M;\n"),
+            Piece::Text(
+                ";\nPRINT V;\nINSERT S V;\nS := V;\nINSERT S R JOIN R RENAME {N AS M};\nPRINT S;\nDELETE R WHERE N > 2;\nPRINT V WHERE N = M;\n",
+            ),
         ],
         output: "\
 statement 5 refused: E35 too many rows at 5:7
@@ -309,11 +337,15 @@ rows: 3
     Long {
         // 200,000 rows of all relvars, and one more
         pieces: &[
-            Piece::Text("VAR A RELATION {N INTEGER, M INTEGER};\nVAR B RELATION {N INTEGER, M INTEGER};\nVAR C RELATION {N INTEGER} KEY {};\nA := "),
+            Piece::Text(
+                "VAR A RELATION {N INTEGER, M INTEGER};\nVAR B RELATION {N INTEGER, M INTEGER};\nVAR C RELATION {N INTEGER} KEY {};\nA := ",
+            ),
             Piece::Tuples("N", 400),
             Piece::Text(" JOIN "),
             Piece::Tuples("M", 250),
-            Piece::Text(";\nB := A;\nINSERT C RELATION {TUPLE {N 1}, TUPLE {N 2}};\nINSERT C RELATION {TUPLE {N 1 / 0}};\nINSERT C RELATION {TUPLE {N 1}}, DELETE B WHERE N = 0 AND M = 0;\nINSERT B RELATION {TUPLE {N 0, M 0}};\nPRINT C;\nPRINT SUMMARIZE B BY {}: {C := COUNT()};\n"),
+            Piece::Text(
+                ";\nB := A;\nINSERT C RELATION {TUPLE {N 1}, TUPLE {N 2}};\nINSERT C RELATION {TUPLE {N 1 / 0}};\nINSERT C RELATION {TUPLE {N 1}}, DELETE B WHERE N = 0 AND M = 0;\nINSERT B RELATION {TUPLE {N 0, M 0}};\nPRINT C;\nPRINT SUMMARIZE B BY {}: {C := COUNT()};\n",
+            ),
         ],
         output: "\
 statement 6 refused: E46 database full
@@ -410,7 +442,10 @@ statement 6 refused: E06 literal out of range at 6:10
     Long {
         // many declarations and removals of one name
         pieces: &[
-            Piece::Times(200, "VAR R RELATION {A INTEGER};INSERT R RELATION {TUPLE {A 1}};DROP VAR R;\n"),
+            Piece::Times(
+                200,
+                "VAR R RELATION {A INTEGER};INSERT R RELATION {TUPLE {A 1}};DROP VAR R;\n",
+            ),
             Piece::Text("PRINT R;\n"),
         ],
         output: "statement 601 refused: E10 unknown name at 201:7\n",
