@@ -28,12 +28,7 @@ IsRefusedWith (refuses.At fault) answer = answer ≡ Refusal (refuses.At fault)
 IsRefusedWith (refuses.Plain code) answer = answer ≡ Refusal (refuses.Plain code)
 IsRefusedWith (refuses.Broken code relvar number) answer = answer ≡ Refusal (refuses.Broken code relvar number)
 
--- the text of the answer where that accepts, or its refusal, or want of memory
-abbrev pub Tells : Result (Vec ℕ Global) Refuse → Answer → Type 0
-Tells (Ok text) answer = IsTextOf answer text
-Tells (Err refuse) answer = IsRefusedWith refuse answer
-
--- the same, and the state that the answer leaves; where the statement is refused, or memory is wanting, the state stays
+-- the text of the answer where that accepts, and the state that the answer leaves; or its refusal, or want of memory, and the state as it was
 abbrev pub IsPerformed : Result (Vec ℕ Global) Refuse → State → State → Answer → Type 0
 IsPerformed (Ok text) old new answer = IsTextOf answer text × (new ≡ state_after old answer)
 IsPerformed (Err refuse) old new answer = IsRefusedWith refuse answer × (new ≡ old)
