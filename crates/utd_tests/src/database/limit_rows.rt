@@ -1,7 +1,7 @@
 //! Declarations and assignments at the limits, put together from pieces.
 use crate::plain::long::{Long, Piece};
 
-pub static ROWS: [Long; 24] = [
+pub static ROWS: [Long; 25] = [
     Long {
         // 64 relvars and views, a 65th one, and one in the place of another
         pieces: &[
@@ -331,6 +331,41 @@ rows: 0
 | 1 | 1 |
 | 2 | 2 |
 rows: 3
+",
+        status: 1,
+    },
+    Long {
+        // three relvars of 90,000 rows are too many, two are not
+        pieces: &[
+            Piece::Text(
+                "VAR A RELATION {N INTEGER, M INTEGER};\nVAR B RELATION {N INTEGER, M INTEGER};\nVAR C RELATION {N INTEGER, M INTEGER};\nA := ",
+            ),
+            Piece::Tuples("N", 300),
+            Piece::Text(" JOIN "),
+            Piece::Tuples("M", 300),
+            Piece::Text(
+                ";\nB := A;\nC := A;\nA := A WHERE N < 250, C := B, B := A;\nPRINT SUMMARIZE A BY {}: {ROWS := COUNT()};\nPRINT SUMMARIZE B BY {}: {ROWS := COUNT()};\nPRINT SUMMARIZE C BY {}: {ROWS := COUNT()};\nC := A, B := B MINUS B;\nPRINT SUMMARIZE A BY {}: {ROWS := COUNT()};\nPRINT SUMMARIZE B BY {}: {ROWS := COUNT()};\nPRINT SUMMARIZE C BY {}: {ROWS := COUNT()};\n",
+            ),
+        ],
+        output: "\
+statement 6 refused: E46 database full
+statement 7 refused: E46 database full
+| ROWS  |
+| 90000 |
+rows: 1
+| ROWS  |
+| 90000 |
+rows: 1
+| ROWS |
+rows: 0
+| ROWS  |
+| 90000 |
+rows: 1
+| ROWS |
+rows: 0
+| ROWS  |
+| 90000 |
+rows: 1
 ",
         status: 1,
     },
