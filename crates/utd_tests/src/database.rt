@@ -7,13 +7,14 @@ mod kept_rows;
 mod limit_rows;
 mod name_rows;
 mod relvar_rows;
+mod size_rows;
 mod source_rows;
 mod type_rows;
 mod unbuilt_rows;
 mod update_rows;
 mod view_rows;
 
-use crate::plain::{assert_gives, assert_rows};
+use crate::plain::{assert_longs, assert_rows};
 use std::test::Fail;
 
 #[test]
@@ -78,10 +79,10 @@ fn other_forms_are_refused_at_their_first_token(rt: HostRuntime) -> Result<(), F
 
 #[test]
 fn limits_of_the_database_are_kept(rt: HostRuntime) -> Result<(), Fail> {
-    let alloc = rt.alloc();
-    for long in &limit_rows::ROWS {
-        let script = long.script(alloc)?;
-        assert_gives(&rt, alloc, script.as_str(), 13, long.output, long.status)?;
-    }
-    Ok(())
+    assert_longs(&rt, rt.alloc(), &limit_rows::ROWS)
+}
+
+#[test]
+fn very_many_rows_are_kept_or_refused(rt: HostRuntime) -> Result<(), Fail> {
+    assert_longs(&rt, rt.alloc(), &size_rows::ROWS)
 }

@@ -12,6 +12,7 @@ mod text_rows;
 mod typing_rows;
 
 use super::*;
+use long::Long;
 use std::marker::Brand;
 use std::process::Abort;
 use std::test::Fail;
@@ -24,7 +25,7 @@ pub struct Row {
 }
 
 /// A script that moves in pieces of so many bytes writes this and has this status.
-pub fn assert_gives(
+fn assert_gives(
     rt: &impl Abort,
     alloc: Global,
     script: &str,
@@ -55,6 +56,15 @@ fn assert_row(rt: &impl Abort, alloc: Global, row: &Row) -> Result<(), Fail> {
 pub fn assert_rows(rt: &impl Abort, alloc: Global, rows: &[Row]) -> Result<(), Fail> {
     for row in rows {
         assert_row(rt, alloc, row)?;
+    }
+    Ok(())
+}
+
+/// Each long script writes what it should, in pieces of 13 bytes.
+pub fn assert_longs(rt: &impl Abort, alloc: Global, longs: &[Long]) -> Result<(), Fail> {
+    for long in longs {
+        let script = long.script(alloc)?;
+        assert_gives(rt, alloc, script.as_str(), 13, long.output, long.status)?;
     }
     Ok(())
 }
@@ -106,10 +116,5 @@ fn the_example_scripts_come_out(rt: HostRuntime) -> Result<(), Fail> {
 
 #[test]
 fn limits_are_kept(rt: HostRuntime) -> Result<(), Fail> {
-    let alloc = rt.alloc();
-    for long in &limit_rows::ROWS {
-        let script = long.script(alloc)?;
-        assert_gives(&rt, alloc, script.as_str(), 13, long.output, long.status)?;
-    }
-    Ok(())
+    assert_longs(&rt, rt.alloc(), &limit_rows::ROWS)
 }
