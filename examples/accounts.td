@@ -43,7 +43,7 @@ INSERT CUSTOMERS RELATION {TUPLE {CUSTOMER 3, NAME 'Zoë', RANK RANK.NEW}};
 UPDATE ACCOUNTS WHERE ACCOUNT = 18: {CENTS := CENTS - 300},
 UPDATE ACCOUNTS WHERE ACCOUNT = 19: {CENTS := CENTS + 300};
 
-/* Who has more than 40,000 cents gets the next rank; there is none above GOLD, so this is refused at NEXT .. */
+/* The first two customers get the next rank; there is none above GOLD, so this is refused at NEXT .. */
 UPDATE CUSTOMERS WHERE CUSTOMER <= 2: {RANK := NEXT(RANK)};
 
 /* .. and this is not. */
