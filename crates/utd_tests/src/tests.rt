@@ -37,10 +37,15 @@ const PLAIN: Example = Example {
     status: 0,
 };
 
-fn examples() -> [Example; 31] {
+fn examples() -> [Example; 32] {
     [
         Example {
             // an empty script
+            ..PLAIN
+        },
+        Example {
+            // empty statements
+            script: b";;\n; /* a */ ;\t\r\n;",
             ..PLAIN
         },
         Example {

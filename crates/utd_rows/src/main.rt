@@ -1,0 +1,60 @@
+//! Runs the scripts of data/ in pieces of several lengths, and tells those that write something else than what stands beside them.
+#![tactic(auto)]
+
+mod rows;
+mod runs;
+
+use crate::rows::Rows;
+use crate::runs::first_wrong_piece;
+use std::alloc::Global;
+use std::{fs, io};
+
+/// The files of data/, by subject.
+const FILES: [&str; 21] = [
+    "ask.txt",
+    "assign.txt",
+    "constraint.txt",
+    "drop.txt",
+    "fault.txt",
+    "item.txt",
+    "kept.txt",
+    "literal.txt",
+    "name.txt",
+    "page.txt",
+    "relation.txt",
+    "relvar.txt",
+    "scalar.txt",
+    "script.txt",
+    "source.txt",
+    "text.txt",
+    "type.txt",
+    "typing.txt",
+    "unbuilt.txt",
+    "update.txt",
+    "view.txt",
+];
+
+/// Runs each script of a file, tells those that come out wrong, and gives how many come out right.
+fn right_in(rt: &HostRuntime, alloc: Global, file: &str) -> io::Result<u64> {
+    let text = fs::read_to_string(rt, file)?;
+    let rows = Rows::of(alloc, text.as_str())?;
+    let mut right: u64 = 0;
+    for row in &rows.list {
+        match first_wrong_piece(alloc, row)? {
+            None => right = right.saturating_add(1),
+            Some(piece) => {
+                let title = row.title.as_str();
+                println!(rt; "{file}: {title}: differs in pieces of {piece}")?;
+            }
+        }
+    }
+    Ok(right)
+}
+
+fn main(rt: HostRuntime) -> io::Result<()> {
+    let mut right: u64 = 0;
+    for file in FILES {
+        right = right.saturating_add(right_in(&rt, rt.alloc(), file)?);
+    }
+    println!(rt; "{right} scripts agree")
+}

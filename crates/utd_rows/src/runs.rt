@@ -1,0 +1,31 @@
+// Runs of a row's script.
+use crate::rows::Row;
+use std::alloc::{AllocError, Global};
+use std::marker::Brand;
+use std::sync::ledger::Blank;
+use utd_io::{MemorySink, MemorySource};
+use utd_tests::status;
+
+/// The most bytes that a script of a row writes.
+const ROOM: usize = 20_000;
+
+/// Whether the script comes out right where it is read and written in pieces of so many bytes.
+fn is_right(alloc: Global, row: &Row, piece: usize) -> Result<bool, AllocError> {
+    let piece = piece.max(1);
+    let script = row.script.as_bytes().to_vec(alloc)?;
+    let mut input = MemorySource::new(script, piece, Vec::new(alloc));
+    let mut out = MemorySink::new(vec![in alloc; 0u8; ROOM]?, piece, Vec::new(alloc));
+    let mut err = MemorySink::new(Vec::new(alloc), 100, Vec::new(alloc));
+    let status = status::<Brand>(alloc, &mut input, &mut out, &mut err, Blank::new(1));
+    Ok(status == row.status && *out.bytes() == *row.output.as_bytes() && err.bytes().is_empty())
+}
+
+/// The first length of pieces in which the script comes out wrong.
+pub(crate) fn first_wrong_piece(alloc: Global, row: &Row) -> Result<Option<usize>, AllocError> {
+    for piece in [1, 7, 13, 65_536] {
+        if !is_right(alloc, row, piece)? {
+            return Ok(Some(piece));
+        }
+    }
+    Ok(None)
+}
