@@ -13,11 +13,10 @@ use Rattle.value_core.specs.Values.{Name, Heading, attribute_cmp, point}
 use Rattle.scalar_core.specs.declared.operators.PairOp.TheVariants.{Select}
 use Rattle.scalar_core.specs.Expressions.{Expr, constant, attribute, pair}
 use Rattle.relation_core.specs.Agreement.{names_of, position_of}
-use Rattle.relation_core.specs.Parts.{no_attribute}
+use Rattle.relation_core.specs.Parts.{no_attribute, kind_at}
 use Rattle.tree_core.specs.Trees.{Tree, named, infix_of, project, extend, using}
 use Rattle.tree_core.specs.declared.tree.InfixWord.TheVariants.{Union}
 use Rattle.algebra_core.specs.Meanings.{positions_of}
-use Rattle.algebra_core.specs.Typing.{kind_at}
 
 -- a heading with one attribute more
 abbrev pub with_attribute : Heading → Name → Kind → Heading

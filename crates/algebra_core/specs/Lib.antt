@@ -5,11 +5,9 @@ pub mod Names
 pub mod Operands
 pub mod Places
 pub mod Plainness
-pub mod RowPacking
 pub mod Rows
 pub mod Scalars
 pub mod Scopes
-pub mod Sweeping
 pub mod Truths
 pub mod Typing
 pub mod Updates

@@ -7,6 +7,7 @@ use Rattle.base_core.specs.Outcomes.{then_give, both, first_of_all}
 use Rattle.point_core.specs.Faults.{OrFault, fault}
 use Rattle.point_core.specs.declared.fault.Place.{Place}
 use Rattle.point_core.specs.declared.fault.Code.TheVariants.{E35}
+use Rattle.value_core.specs.RowPacking.{packed, unpacked}
 use Rattle.value_core.specs.Values.{most_rows, Name, Row, Heading, rows_of}
 use Rattle.scalar_core.specs.Expressions.{Expr}
 use Rattle.scalar_core.specs.Operations.{is_true}
@@ -21,7 +22,6 @@ use Rattle.tree_core.specs.Trees.{PlainSets, Tree, named, literal, infix_of, pro
 use Rattle.tree_core.specs.declared.tree.InfixWord.{InfixWord}
 use Rattle.tree_core.specs.declared.tree.InfixWord.TheVariants.{Union, Intersect, Minus, Join, Matching, NotMatching}
 use Rattle.algebra_core.specs.Names.{found, each_in}
-use Rattle.algebra_core.specs.RowPacking.{packed, unpacked}
 use Rattle.algebra_core.specs.Rows.{extended_row, literal_row, group_row}
 
 -- the rows of a relation, or a fault

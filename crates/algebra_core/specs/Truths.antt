@@ -5,13 +5,13 @@ use Rattle.std.specs.Prelude.{ℕ, Bool, true, false, not, ◌&&◌, List, [], �
 use Rattle.base_core.specs.Outcomes.{then_give, both}
 use Rattle.base_core.specs.Sets.{is_within}
 use Rattle.point_core.specs.Faults.{OrFault}
+use Rattle.value_core.specs.RowPacking.{unpacked}
 use Rattle.value_core.specs.Values.{Row, row_cmp, same_rows}
 use Rattle.tree_core.specs.Relvars.{Entries}
 use Rattle.tree_core.specs.Trees.{Test, relate, is_empty, is_not_empty}
 use Rattle.tree_core.specs.declared.test.RelateWord.{RelateWord}
 use Rattle.tree_core.specs.declared.test.RelateWord.TheVariants.{Equal, NotEqual, Less, LessEqual, Greater, GreaterEqual}
 use Rattle.algebra_core.specs.Meanings.{Known, meaning, plainly, known_in}
-use Rattle.algebra_core.specs.RowPacking.{unpacked}
 
 -- each row of r is in s
 abbrev pub within : List Row → List Row → Bool

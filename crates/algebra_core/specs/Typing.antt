@@ -3,7 +3,7 @@
 --     is_kind      which kinds there are, where so many ordinal types are declared
 --     IsScalar      of expressions over rows
 --     IsTypedTree, IsTypedTest      of relational expressions and tests, where names have these headings
-use Rattle.std.specs.Prelude.{◌≡◌, ℕ, zero, suc, ◌<◌, ◌≤◌, Bool, true, false, not, ◌&&◌, List, [], ◌∷◌, ◌++◌, filter, length, nat_eq, Option, Some, None, is_none, slice_index_or, IsTrue, if◌then◌else◌}
+use Rattle.std.specs.Prelude.{◌≡◌, ℕ, zero, suc, ◌<◌, ◌≤◌, Bool, true, false, not, ◌&&◌, List, [], ◌∷◌, ◌++◌, filter, length, nat_eq, Option, Some, None, is_none, IsTrue, if◌then◌else◌}
 use Rattle.std.specs.List.{list_any, list_all, All, IsDistinct}
 use Rattle.std.specs.Ordering.{nat_cmp}
 use Rattle.std.specs.Str.{bytes_eq}
@@ -12,6 +12,7 @@ use Rattle.point_core.specs.declared.any_type.AnyType.{AnyType}
 use Rattle.point_core.specs.declared.any_type.AnyType.TheVariants.{Integer, Date, Ordinal}
 use Rattle.value_core.specs.declared.kind.Kind.{Kind}
 use Rattle.value_core.specs.declared.kind.Kind.TheVariants.{Truth, Char, Point, Span}
+use Rattle.value_core.specs.Attributes.{among}
 use Rattle.value_core.specs.Headings.{IsHeadingOf, has_name}
 use Rattle.value_core.specs.Values.{Name, Heading, is_heading}
 use Rattle.scalar_core.specs.Expressions.{Expr, constant, attribute, one, pair, and_expr, or_expr}
@@ -19,12 +20,12 @@ use Rattle.scalar_core.specs.KindOf.{same_kind}
 use Rattle.scalar_core.specs.Kinds.{IsTyped, IsOrdered}
 use Rattle.relation_core.specs.Agreement.{names_of, position_of}
 use Rattle.relation_core.specs.Joins.{joined_heading, HaveEqualKinds}
-use Rattle.relation_core.specs.Parts.{no_attribute, attributes_at, renamed}
+use Rattle.relation_core.specs.Parts.{kind_at, attributes_at, renamed}
 use Rattle.tree_core.specs.Trees.{PlainSets, PlainAggregateForm, count_rows, sum_of, min_of, max_of, PlainAggregate, Tree, named, literal, infix_of, project, rename, restrict, extend, summarize, pack, unpack, using, heading_of, Test, relate, is_empty, is_not_empty}
 use Rattle.tree_core.specs.declared.tree.InfixWord.{InfixWord}
 use Rattle.tree_core.specs.declared.tree.InfixWord.TheVariants.{Union, Intersect, Minus, Join, Matching, NotMatching}
 use Rattle.algebra_core.specs.Meanings.{positions_of, names_at}
-use Rattle.algebra_core.specs.Sweeping.{among, sweep_fault, names_any}
+use Rattle.scalar_core.specs.Sweeping.{sweep_fault, names_any}
 
 -- ---- kinds
 
@@ -145,9 +146,6 @@ pub record IsSummary (sizes : List ℕ) (from to : Heading) (by : List ℕ) (agg
 abbrev pub is_span : Kind → Bool
 is_span (Span t) = true
 is_span _ = false
-
-abbrev pub kind_at : Heading → ℕ → Kind
-kind_at heading i = (slice_index_or heading i no_attribute).1
 
 -- different positions of interval attributes, at most three
 pub record IsList (heading : Heading) (acl : List ℕ) : Type 0 where

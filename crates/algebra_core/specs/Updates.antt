@@ -5,14 +5,15 @@
 use Rattle.std.specs.Prelude.{◌≡◌, ℕ, Bool, not, true, ◌&&◌, List, [], ◌∷◌, map, Option, Some, None, IsTrue}
 use Rattle.std.specs.List.{list_all, list_any, All}
 use Rattle.value_core.specs.declared.kind.Kind.TheVariants.{Truth}
+use Rattle.value_core.specs.Attributes.{among}
 use Rattle.value_core.specs.Values.{Heading}
 use Rattle.scalar_core.specs.Expressions.{Expr}
 use Rattle.relation_core.specs.Agreement.{position_of}
+use Rattle.relation_core.specs.Parts.{kind_at}
 use Rattle.tree_core.specs.Relvars.{State, relvar_named, heading_if}
 use Rattle.tree_core.specs.Trees.{PlainSets, heading_of}
 use Rattle.tree_core.specs.Items.{PlainPortion, PlainChange, PlainItemForm, set_to, insert, delete, delete_rows, update, terminate, PlainItem, PlainAssignment}
-use Rattle.algebra_core.specs.Sweeping.{among}
-use Rattle.algebra_core.specs.Typing.{IsScalar, IsExtension, IsList, IsListIf, is_span, is_swept, kind_at}
+use Rattle.algebra_core.specs.Typing.{IsScalar, IsExtension, IsList, IsListIf, is_span, is_swept}
 use Rattle.algebra_core.specs.WellMade.{IsBase, IsTypedFor, sizes_of}
 
 -- ---- changes of rows

@@ -4,8 +4,8 @@ use Rattle.std.proofs.lemmas.Bool.{or_parts, true≢false, eqb-true, eq-eqb}
 use Rattle.std.proofs.lemmas.List.{append-nil}
 use Rattle.std.specs.List.{All, AllByRecursion, IsDistinct, list_any}
 use Rattle.std.specs.Str.{bytes_eq}
+use Rattle.value_core.specs.Attributes.{among}
 use Rattle.value_core.specs.Values.{Name}
-use Rattle.algebra_core.specs.Sweeping.{among}
 use Rattle.tree_typing.proofs.NameLemmas.{either-side}
 
 pub all-between : {X : Type 0} (P : X → Type 0) (xs : List X) (n : X) (ys : List X) → AllByRecursion P (xs ++ ys) → P n → AllByRecursion P (xs ++ n ∷ ys)

@@ -8,6 +8,7 @@ use Rattle.std.proofs.lemmas.List.{append-nil}
 use Rattle.point_core.specs.declared.fault.Place.{Place}
 use Rattle.point_core.specs.declared.fault.Code.TheVariants.{E17, E19}
 use Rattle.point_core.specs.Faults.{OrFault}
+use Rattle.value_core.specs.Attributes.{among}
 use Rattle.utd_syntax.specs.Plain as syntax
 use Rattle.utd_syntax.specs.Plain.{Word, NameListP, NamesP, ConstraintP}
 use Rattle.value_core.specs.declared.constraint.Constraint.{Constraint}
@@ -18,7 +19,6 @@ use Rattle.relation_typing.specs.Attributes.{name_typed}
 use Rattle.relation_core.specs.Agreement.{position_of}
 use Rattle.tree_core.specs.Relvars.{State, PlainRelvar, base, view, Entries, relvar_named, heading_if}
 use Rattle.algebra_core.specs.Meanings.{positions_of}
-use Rattle.algebra_core.specs.Sweeping.{among}
 use Rattle.algebra_core.specs.Typing.{IsList}
 use Rattle.algebra_core.specs.WellMade.{AreDifferent, AreAlike, AreAmong, FitsHeadings, IsBase, IsConstraint}
 use Rattle.algebra_core.proofs.MadeLemmas.{same_name}

@@ -9,6 +9,7 @@ use Rattle.point_core.specs.declared.fault.Place.{Place}
 use Rattle.point_core.specs.declared.fault.Code.{Code}
 use Rattle.point_core.specs.declared.fault.Code.TheVariants.{E12, E14, E15}
 use Rattle.point_core.specs.Faults.{OrFault}
+use Rattle.value_core.specs.Attributes.{among}
 use Rattle.utd_syntax.specs.Plain.{Word}
 use Rattle.value_core.specs.Headings.{has_name}
 use Rattle.value_core.specs.Values.{Name, Heading}
@@ -18,7 +19,6 @@ use Rattle.scalar_typing.specs.Typings.{value_or}
 use Rattle.scalar_typing.proofs.SoundLemmas.{then-sound}
 use Rattle.relation_core.specs.Agreement.{position_of}
 use Rattle.relation_core.specs.Parts.{no_attribute}
-use Rattle.algebra_core.specs.Sweeping.{among}
 use Rattle.algebra_core.specs.WellMade.{AreDifferent, AreAlike}
 use Rattle.algebra_core.proofs.MadeLemmas.{same_name}
 use Rattle.node_typing.specs.Positions.{check, position_typed, new_position, positions_typed}

@@ -7,6 +7,7 @@ use Rattle.std.specs.Str.{bytes_eq}
 use Rattle.point_core.specs.declared.fault.Place.{Place}
 use Rattle.point_core.specs.declared.fault.Code.TheVariants.{E10, E12, E19, E20, E22}
 use Rattle.point_core.specs.Faults.{OrFault}
+use Rattle.value_core.specs.Attributes.{among}
 use Rattle.utd_syntax.specs.Plain as syntax
 use Rattle.utd_syntax.specs.Plain.{Word, NamesP, NameListP, KeyP, ForeignP, UsedConstraintP, ConstraintP}
 use Rattle.value_core.specs.declared.constraint.Constraint.{Constraint}
@@ -17,7 +18,6 @@ use Rattle.scalar_typing.specs.Typings.{◌>>=◌, refused}
 use Rattle.relation_typing.specs.Attributes.{name_typed}
 use Rattle.tree_core.specs.Relvars.{State, PlainRelvar, base, view, relvar_named}
 use Rattle.algebra_core.specs.Meanings.{positions_of}
-use Rattle.algebra_core.specs.Sweeping.{among}
 use Rattle.relation_core.specs.Agreement.{position_of}
 use Rattle.node_typing.specs.Positions.{check, position_typed, positions_typed}
 use Rattle.node_typing.specs.Lists.{kind_named, list_checked, words_of}

@@ -2,6 +2,7 @@
 use Rattle.std.specs.Prelude.{ℕ, not, List, [], ◌∷◌, ◌++◌, length, map, nat_le, Ok, Option, Some, None}
 use Rattle.point_core.specs.declared.fault.Code.TheVariants.{E12, E14, E15, E16, E17}
 use Rattle.point_core.specs.Faults.{OrFault}
+use Rattle.value_core.specs.Attributes.{among}
 use Rattle.utd_syntax.specs.Plain.{SetItemP, ElementP, Element, SomeElementsP, SomeElements, MaybePortionP, NoPortion, OfPortion, ConditionP, NoCondition, Where}
 use Rattle.value_core.specs.declared.list.OrdinalNames.{OrdinalNames}
 use Rattle.value_core.specs.Values.{Name, Heading}
@@ -13,7 +14,6 @@ use Rattle.scalar_typing.specs.Typings.{◌>>=◌, value_or}
 use Rattle.tree_core.specs.Items.{PlainPortion, PlainChange}
 use Rattle.tree_core.specs.Trees.{PlainSets}
 use Rattle.algebra_core.specs.Meanings.{positions_of}
-use Rattle.algebra_core.specs.Sweeping.{among}
 use Rattle.algebra_core.specs.Typing.{is_span}
 use Rattle.algebra_core.specs.Updates.{attributes_of_portion}
 use Rattle.node_typing.specs.Positions.{check}

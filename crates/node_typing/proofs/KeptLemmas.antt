@@ -7,9 +7,9 @@ use Rattle.std.proofs.lemmas.Cmp.{by_ranked, nat_cmp_total, ranked}
 use Rattle.base_core.specs.Sets.{is_set}
 use Rattle.base_core.proofs.SetLemmas.{AllAfter, Ascends}
 use Rattle.base_core.proofs.SetOperatorLemmas.{is_set-Ascends}
+use Rattle.value_core.specs.Attributes.{among}
 use Rattle.value_core.specs.Values.{Heading}
 use Rattle.relation_core.specs.Agreement.{as_wanted}
-use Rattle.algebra_core.specs.Sweeping.{among}
 use Rattle.node_typing.specs.Positions.{kept_from, kept}
 
 all-more : (m x : ℕ) (xs : List ℕ) → x < m → All (λ (i : ℕ). i < m) xs → All (λ (i : ℕ). i < m) (x ∷ xs)

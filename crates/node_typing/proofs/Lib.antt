@@ -2,4 +2,3 @@ pub mod TreeLemmas
 pub mod HeadingLemmas
 pub mod KeptLemmas
 pub mod ListLemmas
-pub mod SweepLemmas

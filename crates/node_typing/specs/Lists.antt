@@ -12,8 +12,9 @@ use Rattle.value_core.specs.declared.kind.Kind.{Kind}
 use Rattle.value_core.specs.Values.{Name, Heading}
 use Rattle.scalar_core.specs.KindOf.{same_kind}
 use Rattle.relation_core.specs.Agreement.{position_of}
+use Rattle.relation_core.specs.Parts.{kind_at}
 use Rattle.scalar_typing.specs.Typings.{◌>>=◌}
-use Rattle.algebra_core.specs.Typing.{is_span, kind_at}
+use Rattle.algebra_core.specs.Typing.{is_span}
 use Rattle.node_typing.specs.Positions.{check}
 
 -- the words and their names

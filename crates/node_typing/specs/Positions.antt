@@ -4,12 +4,12 @@ use Rattle.point_core.specs.declared.fault.Place.{Place}
 use Rattle.point_core.specs.declared.fault.Code.{Code}
 use Rattle.point_core.specs.declared.fault.Code.TheVariants.{E14, E15}
 use Rattle.point_core.specs.Faults.{OrFault}
+use Rattle.value_core.specs.Attributes.{among}
 use Rattle.utd_syntax.specs.Plain.{Word}
 use Rattle.value_core.specs.Headings.{has_name}
 use Rattle.value_core.specs.Values.{Name, Heading}
 use Rattle.relation_core.specs.Agreement.{position_of, as_wanted}
 use Rattle.scalar_typing.specs.Typings.{◌>>=◌, refused, value_or}
-use Rattle.algebra_core.specs.Sweeping.{among}
 
 -- nothing, or the refusal with this code at this place where it does not hold
 abbrev pub check : Place → Code → Bool → OrFault (Unit {0})

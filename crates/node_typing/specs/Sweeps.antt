@@ -1,6 +1,6 @@
 -- What USING asks of an operator behind the operator's own checks: first that the listed attributes are kept (E19), then that
 -- expressions are sweepable for them (E18). Positions are those of the listed attributes in the operand's heading.
-use Rattle.std.specs.Prelude.{ℕ, Bool, not, ◌||◌, cond, List, [], ◌∷◌, ◌++◌, Ok, Option, Some, None}
+use Rattle.std.specs.Prelude.{ℕ, not, List, [], ◌∷◌, Ok, Option, Some, None}
 use Rattle.point_core.specs.declared.fault.Place.{Place}
 use Rattle.point_core.specs.declared.fault.Code.{Code}
 use Rattle.point_core.specs.declared.fault.Code.TheVariants.{E18, E19}
@@ -8,10 +8,10 @@ use Rattle.point_core.specs.Faults.{OrFault}
 use Rattle.utd_syntax.specs.Plain.{Word, SetItemP, SetItem}
 use Rattle.value_core.specs.Headings.{has_name}
 use Rattle.value_core.specs.Values.{Name, Heading}
-use Rattle.scalar_core.specs.Expressions.{Expr, constant, attribute, one, pair, and_expr, or_expr}
+use Rattle.scalar_core.specs.Expressions.{Expr}
 use Rattle.tree_core.specs.Trees.{PlainSets, PlainAggregateForm, count_rows, sum_of, min_of, max_of, PlainAggregate}
 use Rattle.scalar_typing.specs.Typings.{◌>>=◌, refused}
-use Rattle.algebra_core.specs.Sweeping.{among, first_place, is_swept_by, sweep_fault, swept_attribute}
+use Rattle.scalar_core.specs.Sweeping.{first_place, named_places, sweep_fault}
 use Rattle.node_typing.specs.Lists.{named_in}
 use Rattle.node_typing.specs.Positions.{check}
 
@@ -38,15 +38,6 @@ abbrev pub refused_if : Code → Option Place → OrFault (Unit {0})
 refused_if code None = Ok tt
 refused_if code (Some place) = refused place code
 
--- the first of two places
-abbrev pub first_of : Option Place → Option Place → Option Place
-first_of None second = second
-first_of (Some place) second = Some place
-
--- a comparison of the two is an atom
-abbrev pub is_swept : List ℕ → Expr → Expr → Bool
-is_swept acl l r = is_swept_by acl (swept_attribute acl l) r || is_swept_by acl (swept_attribute acl r) l
-
 -- E18 at the first name that is in no atom
 abbrev pub swept : List ℕ → Expr → OrFault (Unit {0})
 swept acl e = refused_if E18 (sweep_fault acl e)
@@ -57,15 +48,6 @@ sets_swept acl [] = Ok tt
 sets_swept acl (s ∷ rest) = do
   item ← swept acl s.1
   sets_swept acl rest
-
--- the places of the names of listed attributes, in the order of the text
-abbrev pub named_places : List ℕ → Expr → List Place
-named_places acl (constant place kind v) = []
-named_places acl (attribute place i) = cond (among acl i) (place ∷ []) []
-named_places acl (one op place e) = named_places acl e
-named_places acl (pair op place l r) = named_places acl l ++ named_places acl r
-named_places acl (and_expr place l r) = named_places acl l ++ named_places acl r
-named_places acl (or_expr place l r) = named_places acl l ++ named_places acl r
 
 -- E18 at the first name of a listed attribute
 abbrev pub names_no : List ℕ → Expr → OrFault (Unit {0})

@@ -3,12 +3,12 @@ ghost use Rattle.std.specs.Prelude.{◌≡◌, ◌<◌, ℕ, List, IfOk, length,
 ghost use Rattle.std.specs.List.{All};
 ghost use Rattle.std.specs.Ordering.{nat_cmp};
 ghost use Rattle.base_core.specs.Sets.{is_set};
+ghost use Rattle.value_core.specs.Attributes.{among};
+ghost use Rattle.relation_core.specs.Parts.{kind_at};
 ghost use Rattle.utd_syntax.specs.Read.{read_name, read_name_list};
 ghost use Rattle.value_core.specs.Headings.{has_name};
 ghost use Rattle.relation_core.specs.Agreement as agreement;
 ghost use Rattle.scalar_core.specs.Answers.{Gives};
-ghost use Rattle.algebra_core.specs.Sweeping.{among};
-ghost use Rattle.algebra_core.specs.Typing.{kind_at};
 ghost use Rattle.node_typing.specs.Lists.{kind_named};
 ghost use Rattle.node_typing.specs.Positions as rules;
 

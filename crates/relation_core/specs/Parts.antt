@@ -1,5 +1,5 @@
 -- Headings and relations on some of the attributes.
---     attributes_at      the attributes at positions
+--     kind_at, attributes_at      the kind at a position, and the attributes at positions
 --     projected      the different parts of rows
 --     IsRenamed      a relation with new names of the attributes
 use Rattle.std.specs.Prelude.{◌≡◌, ℕ, List, [], ◌∷◌, map, slice_index_or}
@@ -12,6 +12,10 @@ use Rattle.relation_core.specs.Agreement.{names_of, position_of, part_of}
 -- what stands for an attribute past the end
 abbrev pub no_attribute : Name × Kind
 no_attribute = ([], Truth)
+
+-- the kind at a position
+abbrev pub kind_at : Heading → ℕ → Kind
+kind_at heading i = (slice_index_or heading i no_attribute).1
 
 -- the attributes at the positions
 abbrev pub attributes_at : List ℕ → Heading → Heading

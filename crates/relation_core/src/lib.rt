@@ -21,6 +21,7 @@ mod summary;
 pub use agreement::{matching, not_matching};
 pub use extension::extend;
 pub use joining::join;
+pub use parts::part;
 pub use projection::project;
 pub use renaming::rename;
 pub use restriction::restrict;

@@ -11,7 +11,7 @@ use std::alloc::Global;
 use value_core::{Relation, Row};
 
 /// The row's values at the positions.
-pub(crate) fn part(alloc: Global, row: &Row, positions: &[usize]) -> Result<Row, Memory>
+pub fn part(alloc: Global, row: &Row, positions: &[usize]) -> Result<Row, Memory>
     requires { All (λ (i : ℕ). i < length row.now) positions.now }
     ensures { IfOk result (λ r. r ≡ part_of positions.now row.now) }
 {

@@ -10,6 +10,7 @@ use Rattle.point_core.specs.Points.{line_of, integers, is_number, first_of, last
 use Rattle.interval_core.specs.Members.{Span as Ends}
 use Rattle.value_core.specs.declared.kind.Kind.{Kind}
 use Rattle.value_core.specs.declared.kind.Kind.TheVariants.{Truth, Char, Point, Span}
+use Rattle.value_core.specs.Attributes.{value_at, span_of}
 use Rattle.value_core.specs.Values.{Value, Row, Name, Heading, truth, text, point, interval, fits, fits_heading, is_interval, same_line}
 use Rattle.scalar_core.specs.declared.operators.OneOp.{OneOp}
 use Rattle.scalar_core.specs.declared.operators.OneOp.TheVariants.{Not, Negate, BeginOf, EndOf, PreOf, PostOf, CountOf, NextOf, PriorOf}
@@ -17,8 +18,8 @@ use Rattle.scalar_core.specs.declared.operators.PairOp.{PairOp}
 use Rattle.scalar_core.specs.declared.operators.PairOp.TheVariants.{Add, Subtract, Multiply, Divide, Concat, Compare, Allen, Member, Select, UnionOf, IntersectOf, MinusOf}
 use Rattle.scalar_core.specs.Expressions.{Expr, constant, attribute, one, pair, and_expr, or_expr}
 use Rattle.scalar_core.specs.Kinds.{IsTyped, IsTypedOver, OneKinds, PairKinds, OneTakes, PairTakes}
-use Rattle.scalar_core.specs.ScalarValues.{value, value_at}
-use Rattle.scalar_core.specs.Operations.{Meant, is_true, number_of, span_of, integer, quotient, joined_text, point_or, interval_or, selector_or, begin_of, end_of, one_of, pair_of}
+use Rattle.scalar_core.specs.ScalarValues.{value}
+use Rattle.scalar_core.specs.Operations.{Meant, is_true, number_of, integer, quotient, joined_text, point_or, interval_or, selector_or, begin_of, end_of, one_of, pair_of}
 use Rattle.base_core.proofs.SetLemmas.{In}
 use Rattle.base_core.proofs.MemberLemmas.{In-append, In-filter}
 use Rattle.interval_core.proofs.MembersLemmas.{In-members}
@@ -109,16 +110,16 @@ number_of-fits t (text bytes) h = absurd cc
 number_of-fits t (point l p) h = and_right (same_line l (line_of t)) (is_number t p) h
 number_of-fits t (interval l i) h = absurd cc
 
-span_of-fits : (t : AnyType) (v : Value) → IsTrue (fits (Span t) v) → is_interval t (span_of v) ≡ true
+pub span_of-fits : (t : AnyType) (v : Value) → IsTrue (fits (Span t) v) → is_interval t (span_of v) ≡ true
 span_of-fits t (truth b) h = absurd cc
 span_of-fits t (text bytes) h = absurd cc
 span_of-fits t (point l p) h = absurd cc
 span_of-fits t (interval l i) h = and_right (same_line l (line_of t)) (is_interval t i) h
 
-begin-number : (t : AnyType) (i : Ends) → is_interval t i ≡ true → is_number t i.0 ≡ true
+pub begin-number : (t : AnyType) (i : Ends) → is_interval t i ≡ true → is_number t i.0 ≡ true
 begin-number t i h = and_left (is_number t i.0) (is_number t i.1 && int_le i.0 i.1) h
 
-end-number : (t : AnyType) (i : Ends) → is_interval t i ≡ true → is_number t i.1 ≡ true
+pub end-number : (t : AnyType) (i : Ends) → is_interval t i ≡ true → is_number t i.1 ≡ true
 end-number t i h = and_left (is_number t i.1) (int_le i.0 i.1) (and_right (is_number t i.0) (is_number t i.1 && int_le i.0 i.1) h)
 
 begin_of-fits : (t : AnyType) (v : Value) → IsTrue (fits (Span t) v) → IsTrue (fits (Point t) (begin_of v))

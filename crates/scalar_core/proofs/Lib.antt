@@ -1,4 +1,10 @@
+pub mod AlikeLemmas
+pub mod AtPlaceLemmas
+pub mod CutLemmas
 pub mod KindLemmas
 pub mod KindOfLemmas
+pub mod NameLemmas
+pub mod NearLemmas
 pub mod PointLemmas
+pub mod SweepLemmas
 pub mod TreeLemmas

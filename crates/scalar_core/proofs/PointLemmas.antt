@@ -60,6 +60,9 @@ le-int_le a b h = grind (arith, ints)
 pub int_lt-lt : (a b : ℤ) → int_lt a b ≡ true → a <ℤ b
 int_lt-lt a b h = grind (arith, ints)
 
+pub lt-int_lt : (a b : ℤ) → a <ℤ b → int_lt a b ≡ true
+lt-int_lt a b h = grind (arith, ints)
+
 pub is_number-number : (t : AnyType) (n : ℤ) → is_number t n ≡ true → IsNumber t n
 is_number-number t n h =
     (int_le-le (first_of t) n (and_left (int_le (first_of t) n) (int_le n (last_of t)) h), int_le-le n (last_of t) (and_right (int_le (first_of t) n) (int_le n (last_of t)) h))

@@ -6,6 +6,7 @@ use Rattle.std.proofs.lemmas.List.{length-map}
 use Rattle.point_core.specs.declared.fault.Stop.{Stop}
 use Rattle.value_core.specs.declared.kind.Kind.{Kind}
 use Rattle.value_core.specs.declared.value.Value.{Value as Held}
+use Rattle.value_core.specs.Attributes.{value_at}
 use Rattle.value_core.specs.Values.{Value, Row, truth, fits}
 use Rattle.value_core.specs.Plain.{plain}
 use Rattle.scalar_core.specs.declared.tree.Scalar.{Scalar}
@@ -13,7 +14,6 @@ use Rattle.scalar_core.specs.declared.tree.Parts.{Parts, Parts', out-Parts}
 use Rattle.scalar_core.specs.Answers.{Gives}
 use Rattle.scalar_core.specs.Expressions.{read, read_left, read_right}
 use Rattle.scalar_core.specs.Operations.{Meant}
-use Rattle.scalar_core.specs.ScalarValues.{value_at}
 
 left-is : (p : Parts) → read_left p ≡ read (out-Parts p).left.value
 unfolding out-Parts denote.Hole.Carrier.out

@@ -1,6 +1,9 @@
 pub mod Answers
+pub mod AtPlaces
+pub mod Cuts
 pub mod Expressions
 pub mod KindOf
 pub mod Kinds
 pub mod Operations
 pub mod ScalarValues
+pub mod Sweeping

@@ -14,6 +14,7 @@ use Rattle.interval_core.specs.declared.selector.SelectFault.{SelectFault}
 use Rattle.interval_core.specs.declared.selector.SelectFault.TheVariants.{NoPoint, Empty}
 use Rattle.interval_core.specs.Operators.{count, union, intersect, minus}
 use Rattle.interval_core.specs.Selector.{selected}
+use Rattle.value_core.specs.Attributes.{span_of}
 use Rattle.value_core.specs.Values.{Value, truth, text, point, interval, value_cmp}
 use Rattle.scalar_core.specs.declared.operators.OneOp.{OneOp}
 use Rattle.scalar_core.specs.declared.operators.OneOp.TheVariants.{Not, Negate, BeginOf, EndOf, PreOf, PostOf, CountOf, NextOf, PriorOf}
@@ -41,10 +42,6 @@ number_of _ = pos 0
 abbrev pub bytes_of : Value → List ℕ
 bytes_of (text bytes) = bytes
 bytes_of _ = []
-
-abbrev pub span_of : Value → Span
-span_of (interval l i) = i
-span_of _ = (pos 0, pos 0)
 
 -- ---- answers
 

@@ -1,13 +1,10 @@
 -- The value of an expression on a row, or the first fault in the order: left part, right part, operator.
-use Rattle.std.specs.Prelude.{ℕ, Ok, slice_get, unwrap_or, if◌then◌else◌, false}
+use Rattle.std.specs.Prelude.{Ok, if◌then◌else◌}
 use Rattle.base_core.specs.Outcomes.{then_give, both}
-use Rattle.value_core.specs.Values.{Value, Row, truth}
+use Rattle.value_core.specs.Attributes.{value_at}
+use Rattle.value_core.specs.Values.{Row}
 use Rattle.scalar_core.specs.Expressions.{Expr, constant, attribute, one, pair, and_expr, or_expr}
 use Rattle.scalar_core.specs.Operations.{Meant, is_true, one_of, pair_of}
-
--- the value at a position, which a row of a typed expression has
-abbrev pub value_at : Row → ℕ → Value
-value_at row i = unwrap_or (slice_get row i) (truth false)
 
 -- the right part of AND and OR is evaluated only where the left does not decide
 abbrev pub value : Expr → Row → Meant

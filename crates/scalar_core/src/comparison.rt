@@ -1,10 +1,11 @@
 // Comparisons of values and of intervals.
 ghost use Rattle.std.specs.Prelude.{◌≡◌, IsTrue};
 ghost use Rattle.value_core.specs.declared.kind.Kind.TheVariants as kind;
+ghost use Rattle.value_core.specs.Attributes.{span_of};
 ghost use Rattle.value_core.specs.Values.{truth, fits, value_cmp};
 ghost use Rattle.value_core.specs.Plain.{plain};
 ghost use Rattle.interval_core.specs.Members.{has_member};
-ghost use Rattle.scalar_core.specs.Operations.{compared, related, number_of, span_of};
+ghost use Rattle.scalar_core.specs.Operations.{compared, related, number_of};
 
 use crate::operand::{interval_of, point_of};
 use crate::tree::{AllenWord, CompareWord};

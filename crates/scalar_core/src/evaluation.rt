@@ -2,12 +2,13 @@
 ghost use Rattle.std.specs.Prelude.{◌≡◌, ℕ, Ok, Some, IsTrue, IfOk, slice_get};
 ghost use Rattle.base_core.specs.Outcomes.{then_give, both};
 ghost use Rattle.value_core.specs.declared.kind.Kind.{Kind};
+ghost use Rattle.value_core.specs.Attributes.{value_at};
 ghost use Rattle.value_core.specs.Plain.{plain};
 ghost use Rattle.value_core.specs.Values.{Heading, fits, fits_heading};
 ghost use Rattle.scalar_core.specs.Answers.{Gives};
 ghost use Rattle.scalar_core.specs.Expressions.{one, pair, and_expr, or_expr, attribute as attribute_expr, read, read_left, read_right};
 ghost use Rattle.scalar_core.specs.Kinds.{IsTyped, IsTypedOver};
-ghost use Rattle.scalar_core.specs.ScalarValues.{value, value_at};
+ghost use Rattle.scalar_core.specs.ScalarValues.{value};
 
 use crate::operand::truth_of;
 use crate::operators::{OneOp, PairOp, apply_one, apply_pair};

@@ -4,12 +4,16 @@
 mod arithmetic;
 mod comparison;
 mod copy;
+mod cutting;
 mod evaluation;
 mod interval;
 mod operand;
 mod operators;
+mod sweeping;
 mod text;
 mod tree;
 
+pub use cutting::cuts;
 pub use evaluation::eval;
+pub use sweeping::{first_named, is_sweepable, sweep_fault};
 pub use tree::{AllenWord, CompareWord, Parts, Scalar, ScalarForm};

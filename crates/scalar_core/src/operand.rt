@@ -5,10 +5,10 @@ ghost use Rattle.point_core.specs.declared.any_type.AnyType.{AnyType};
 ghost use Rattle.point_core.specs.declared.any_type.AnyType.TheVariants.{Integer};
 ghost use Rattle.value_core.specs.declared.kind.Kind.TheVariants as kind;
 ghost use Rattle.value_core.specs.declared.value.Value.TheVariants.{Point, Span};
+ghost use Rattle.value_core.specs.Attributes.{span_of};
 ghost use Rattle.value_core.specs.Values.{truth, text, point, fits};
 ghost use Rattle.value_core.specs.Plain.{plain};
 ghost use Rattle.interval_core.specs.Members.{span, HasEndsIn};
-ghost use Rattle.scalar_core.specs.Operations.{span_of};
 
 use interval_core::Interval;
 use point_core::{AnyPoint, AnyType};

@@ -72,7 +72,7 @@ passed_step starts first n cell h p j f l = elim (cases_lt j n) [ inl w ↦ p j 
 
 -- ---- in order, each once
 
-ascending : (a z : ℕ) (xs : List ℕ) → AreRows a z xs → IsStrictlySortedBy nat_cmp xs
+pub ascending : (a z : ℕ) (xs : List ℕ) → AreRows a z xs → IsStrictlySortedBy nat_cmp xs
 unfolding IsStrictlySortedBy
 ascending a z [] h = tt
 ascending a z (x ∷ xs) h = (after (suc x) xs h.2 (omega arith), ascending (suc x) z xs h.2)

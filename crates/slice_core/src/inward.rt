@@ -132,7 +132,7 @@ fn lesser(least: Option<Fault>, e: Fault) -> Fault
 }
 
 // The labels at a place of no sides.
-fn leaf<O: CellOp, L: Ledger>(
+pub fn leaf<O: CellOp, L: Ledger>(
     alloc: Global,
     left: &[usize],
     right: &[usize],

@@ -11,5 +11,7 @@ mod united;
 
 pub use by_label::pack_rows;
 pub use cell_op::CellOp;
-pub use inward::{IndexBox, slices};
+pub use inward::{IndexBox, leaf, slices};
 pub use key::Key;
+pub use live::{Sweep, advance, sweep_of};
+pub use united::cuts_at;

@@ -86,7 +86,7 @@ fn ends_at(
 }
 
 // The same in order.
-fn cuts_at(
+pub fn cuts_at(
     alloc: Global,
     boxes: &[IndexBox],
     live: &[usize],

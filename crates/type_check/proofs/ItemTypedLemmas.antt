@@ -9,6 +9,7 @@ use Rattle.base_core.proofs.MemberLemmas.{In-append, In-map, list_any-In}
 use Rattle.point_core.specs.declared.fault.Place.{Place}
 use Rattle.point_core.specs.declared.fault.Code.TheVariants.{E10, E13}
 use Rattle.point_core.specs.Faults.{OrFault}
+use Rattle.value_core.specs.Attributes.{among}
 use Rattle.utd_syntax.specs.Plain as syntax
 use Rattle.utd_syntax.specs.Plain.{Word, RelP, ScalarP, SetItemP, SetsP, NameListP, DeletionP, UsedDeletionP, UsedItemP, MaybePortionP, ConditionP, ItemP, AssignP}
 use Rattle.value_core.specs.declared.kind.Kind.TheVariants.{Truth}
@@ -26,7 +27,6 @@ use Rattle.tree_core.specs.Relvars.{PlainRelvar, base, view, State, relvar_named
 use Rattle.tree_core.specs.Trees.{PlainSets, named, heading_of}
 use Rattle.tree_core.specs.Items.{PlainPortion, PlainItemForm, set_to, insert, update, PlainItem}
 use Rattle.algebra_core.specs.Meanings.{positions_of}
-use Rattle.algebra_core.specs.Sweeping.{among}
 use Rattle.algebra_core.specs.Typing.{IsScalar, IsExtension, is_swept, heading_named}
 use Rattle.algebra_core.specs.Updates.{attributes_of_portion, IsPortionIf, IsConditionIf, IsChange, condition_is_swept, are_swept_sets, IsTypedForm, IsTypedItem}
 use Rattle.algebra_core.specs.WellMade.{sizes_of, headings_of, IsBase, IsWellMade, IsTypedFor}

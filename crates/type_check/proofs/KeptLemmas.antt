@@ -10,6 +10,7 @@ use Rattle.point_core.specs.declared.any_type.AnyType.{AnyType}
 use Rattle.point_core.specs.declared.any_type.AnyType.TheVariants.{Integer, Date, Ordinal}
 use Rattle.point_core.specs.declared.fault.Place.{Place}
 use Rattle.point_core.specs.Faults.{OrFault}
+use Rattle.value_core.specs.Attributes.{among}
 use Rattle.utd_syntax.specs.Plain.{Word, ScalarP, SetItemP, SetItem}
 use Rattle.value_core.specs.declared.kind.Kind.{Kind}
 use Rattle.value_core.specs.declared.kind.Kind.TheVariants.{Truth, Char, Point, Span}
@@ -24,12 +25,12 @@ use Rattle.scalar_typing.specs.Scalars.{typed_scalar}
 use Rattle.scalar_typing.specs.Typings.{refused}
 use Rattle.scalar_typing.proofs.SoundLemmas.{then-sound}
 use Rattle.tree_core.specs.Trees.{PlainSets, PlainAggregateForm, count_rows, sum_of, min_of, max_of, PlainAggregate}
-use Rattle.algebra_core.specs.Sweeping.{among, first_place, names_any, sweep_fault}
+use Rattle.scalar_core.specs.Sweeping.{first_place, named_places, names_any, sweep_fault}
 use Rattle.algebra_core.specs.Typing.{is_alike_at, are_in, is_swept, names_none}
 use Rattle.node_typing.specs.Lists.{names_of_words, named_in, kind_named}
 use Rattle.node_typing.specs.Positions.{check}
 use Rattle.node_typing.specs.Rows.{items_typed}
-use Rattle.node_typing.specs.Sweeps.{all_kept, none_assigned, refused_if, swept, sets_swept, named_places, names_no, form_names_no, aggregates_name_no}
+use Rattle.node_typing.specs.Sweeps.{all_kept, none_assigned, refused_if, swept, sets_swept, names_no, form_names_no, aggregates_name_no}
 use Rattle.type_check.proofs.ItemLemmas.{any-given}
 use Rattle.type_check.proofs.PositionLemmas.{held, own, name-is}
 use Rattle.type_check.proofs.RenamingLemmas.{word-typed}

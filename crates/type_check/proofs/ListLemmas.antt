@@ -20,13 +20,14 @@ use Rattle.value_core.specs.Headings.{has_name}
 use Rattle.value_core.specs.Values.{Name, Heading}
 use Rattle.scalar_core.specs.KindOf.{same_kind}
 use Rattle.relation_core.specs.Agreement.{position_of}
+use Rattle.relation_core.specs.Parts.{kind_at}
 use Rattle.relation_typing.specs.Headings.{same_heading}
 use Rattle.scalar_typing.proofs.SoundLemmas.{then-sound}
 use Rattle.scalar_typing.proofs.TypedLemmas.{same_kind-same}
 use Rattle.tree_core.specs.Trees.{Tree, heading_of}
 use Rattle.tree_core.specs.declared.test.RelateWord.{RelateWord}
 use Rattle.algebra_core.specs.Meanings.{positions_of}
-use Rattle.algebra_core.specs.Typing.{is_span, kind_at, IsList, Headings, IsTypedTree, IsTypedTest}
+use Rattle.algebra_core.specs.Typing.{is_span, IsList, Headings, IsTypedTree, IsTypedTest}
 use Rattle.node_typing.specs.Lists.{words_of, names_of_words, named_in, kind_named, name_checked, names_checked, list_checked}
 use Rattle.node_typing.specs.Nodes.{packed_by, packing_rule, comparison_rule, using_comparison_rule, emptiness_test}
 use Rattle.node_typing.specs.Positions.{check}

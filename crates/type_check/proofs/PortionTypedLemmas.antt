@@ -10,6 +10,7 @@ use Rattle.std.proofs.lemmas.Map.Keys.{IsDistinct-push}
 use Rattle.base_core.proofs.SetLemmas.{In, Ascends}
 use Rattle.base_core.proofs.MemberLemmas.{In-append, In-map, list_all-In}
 use Rattle.point_core.specs.declared.fault.Code.TheVariants.{E12, E14, E15, E16, E17}
+use Rattle.value_core.specs.Attributes.{among}
 use Rattle.utd_syntax.specs.Plain.{Word, ScalarP, ElementP, Element, SomeElementsP, SomeElements}
 use Rattle.value_core.specs.declared.kind.Kind.{Kind}
 use Rattle.value_core.specs.declared.list.OrdinalNames.{OrdinalNames}
@@ -18,7 +19,7 @@ use Rattle.value_core.specs.Values.{Name, Heading, attribute_cmp}
 use Rattle.scalar_core.specs.Expressions.{Expr}
 use Rattle.scalar_core.specs.KindOf.{same_kind}
 use Rattle.relation_core.specs.Agreement.{position_of}
-use Rattle.relation_core.specs.Parts.{no_attribute}
+use Rattle.relation_core.specs.Parts.{no_attribute, kind_at}
 use Rattle.scalar_typing.specs.Names.{first_from, attribute_of}
 use Rattle.scalar_typing.specs.Scalars.{typed_scalar}
 use Rattle.scalar_typing.specs.Typings.{value_or}
@@ -26,8 +27,7 @@ use Rattle.scalar_typing.proofs.SoundLemmas.{then-sound, found-at}
 use Rattle.scalar_typing.proofs.TypedLemmas.{same_kind-same, mapped, or-refused}
 use Rattle.tree_core.specs.Items.{PlainPortion}
 use Rattle.algebra_core.specs.Meanings.{positions_of}
-use Rattle.algebra_core.specs.Sweeping.{among}
-use Rattle.algebra_core.specs.Typing.{IsScalar, is_span, kind_at}
+use Rattle.algebra_core.specs.Typing.{IsScalar, is_span}
 use Rattle.algebra_core.specs.Updates.{attributes_of_portion, IsPart, IsPortionIf}
 use Rattle.algebra_core.specs.WellMade.{sizes_of, IsOrdinalType}
 use Rattle.node_typing.specs.Positions.{check}

@@ -14,12 +14,12 @@ use Rattle.base_core.proofs.SetOperatorLemmas.{AllAfter-In, is_set-Ascends}
 use Rattle.point_core.specs.declared.fault.Place.{Place}
 use Rattle.point_core.specs.declared.fault.Code.{Code}
 use Rattle.value_core.specs.declared.kind.Kind.{Kind}
+use Rattle.value_core.specs.Attributes.{among}
 use Rattle.value_core.specs.Headings.{has_name}
 use Rattle.value_core.specs.Values.{Name, Heading, attribute_cmp}
 use Rattle.relation_core.specs.Agreement.{position_of, as_wanted}
 use Rattle.relation_core.specs.Parts.{no_attribute}
 use Rattle.algebra_core.specs.Meanings.{positions_of, names_at}
-use Rattle.algebra_core.specs.Sweeping.{among}
 use Rattle.algebra_core.specs.Typing.{ArePositions}
 use Rattle.algebra_core.proofs.MadeLemmas.{one_in_order}
 use Rattle.node_typing.specs.Lists.{kind_named}

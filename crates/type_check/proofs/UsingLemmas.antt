@@ -8,6 +8,7 @@ use Rattle.base_core.proofs.SetLemmas.{In, Ascends}
 use Rattle.base_core.proofs.MemberLemmas.{In-append, In-map, In-filter, list_all-In, list_any-In}
 use Rattle.base_core.proofs.SetOperatorLemmas.{In-permutation}
 use Rattle.point_core.specs.declared.fault.Place.{Place}
+use Rattle.value_core.specs.Attributes.{among}
 use Rattle.utd_syntax.specs.Plain.{ScalarP, SetsP, NamesP, AggregatesP, NameListP, ProjectionP}
 use Rattle.value_core.specs.declared.kind.Kind.{Kind}
 use Rattle.value_core.specs.declared.kind.Kind.TheVariants.{Truth}
@@ -26,7 +27,6 @@ use Rattle.tree_core.specs.Trees.{PlainSets, PlainAggregate, Tree, infix_of, pro
 use Rattle.tree_core.specs.declared.tree.InfixWord.{InfixWord}
 use Rattle.tree_core.specs.declared.tree.InfixWord.TheVariants.{Union, Intersect, Minus, Join, Matching, NotMatching}
 use Rattle.algebra_core.specs.Meanings.{positions_of}
-use Rattle.algebra_core.specs.Sweeping.{among}
 use Rattle.algebra_core.specs.Typing.{is_span, IsScalar, IsInfix, ArePositions, IsExtension, IsSummary, not_named, are_in, is_swept, names_none, is_part, Headings, IsTypedTree}
 use Rattle.algebra_core.specs.WellMade.{sizes_of, IsOrdinalType}
 use Rattle.algebra_core.specs.Rows.{set_names}

@@ -9,7 +9,7 @@ use Rattle.value_core.specs.Values.{Name, Row, Relation, row_cmp, same_rows}
 use Rattle.value_core.specs.declared.constraint.Constraint.{Constraint}
 use Rattle.value_core.specs.declared.constraint.Constraint.TheVariants.{Key, Packed, WhenUnpacked, UKey, Foreign, History}
 use Rattle.relation_core.specs.Parts.{projected}
-use Rattle.algebra_core.specs.RowPacking.{attribute, unpacked, packed}
+use Rattle.value_core.specs.RowPacking.{attribute, unpacked, packed}
 use Rattle.u_constraints.specs.Constraints.{is_key, counterpart, first_failed, broken, rows_or_none}
 use Rattle.algebra_core.specs.Plainness.{IsPlainConstraint}
 

@@ -11,15 +11,15 @@ use Rattle.point_core.specs.declared.fault.Code.{Code}
 use Rattle.point_core.specs.declared.fault.Code.TheVariants.{E40, E41, E42, E43, E44}
 use Rattle.interval_core.specs.Members.{has_member}
 use Rattle.base_core.specs.Sets.{is_within}
+use Rattle.value_core.specs.Attributes.{value_at, span_of}
+use Rattle.value_core.specs.RowPacking.{packed, unpacked}
 use Rattle.value_core.specs.Values.{Name, Row, Heading, Relation, row_cmp, same_rows}
 use Rattle.value_core.specs.declared.constraint.Constraint.{Constraint}
 use Rattle.value_core.specs.declared.constraint.Constraint.TheVariants.{Key, Packed, WhenUnpacked, UKey, Foreign, History}
 use Rattle.value_core.specs.declared.constraint.HistoryRule.{HistoryRule}
-use Rattle.scalar_core.specs.Operations.{number_of, span_of}
-use Rattle.scalar_core.specs.ScalarValues.{value_at}
+use Rattle.scalar_core.specs.Operations.{number_of}
 use Rattle.relation_core.specs.Agreement.{part_of}
 use Rattle.relation_core.specs.Parts.{projected}
-use Rattle.algebra_core.specs.RowPacking.{packed, unpacked}
 
 -- whether two rows have the same values, the one at positions here and the other at positions there
 abbrev pub agree_on : List ℕ → List ℕ → Row → Row → Bool

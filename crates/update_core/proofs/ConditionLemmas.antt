@@ -11,14 +11,15 @@ use Rattle.base_core.proofs.SetLemmas.{In}
 use Rattle.point_core.specs.declared.fault.Place.{Place}
 use Rattle.value_core.specs.declared.kind.Kind.{Kind}
 use Rattle.value_core.specs.declared.kind.Kind.TheVariants.{Truth, Char, Point, Span}
+use Rattle.value_core.specs.Attributes.{among}
 use Rattle.value_core.specs.Values.{Heading}
 use Rattle.scalar_core.specs.Expressions.{Expr, constant, attribute, one, pair, and_expr, or_expr}
 use Rattle.scalar_core.specs.Kinds.{IsTyped}
-use Rattle.relation_core.specs.Parts.{no_attribute}
+use Rattle.relation_core.specs.Parts.{no_attribute, kind_at}
 use Rattle.tree_core.specs.Items.{PlainPortion}
 use Rattle.algebra_core.specs.Histories.{type_of_kind, type_at}
-use Rattle.algebra_core.specs.Sweeping.{among, names_any, unswept, first_place}
-use Rattle.algebra_core.specs.Typing.{IsScalar, IsListIf, is_span, is_swept, kind_at, has_declared}
+use Rattle.scalar_core.specs.Sweeping.{names_any, unswept, first_place}
+use Rattle.algebra_core.specs.Typing.{IsScalar, IsListIf, is_span, is_swept, has_declared}
 use Rattle.algebra_core.specs.Updates.{swept_list, attributes_of_portion, IsPart, IsPortionIf, IsConditionIf, condition_is_swept}
 use Rattle.update_core.specs.Updates.{condition_of, negated, lies_in, inside, inside_if}
 

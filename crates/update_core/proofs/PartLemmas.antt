@@ -10,6 +10,7 @@ use Rattle.base_core.proofs.SetLemmas.{In, Ascends}
 use Rattle.point_core.specs.declared.any_type.AnyType.{AnyType}
 use Rattle.point_core.specs.declared.any_type.AnyType.TheVariants.{Integer, Date, Ordinal}
 use Rattle.point_core.specs.declared.fault.Place.{Place}
+use Rattle.value_core.specs.Attributes.{among}
 use Rattle.value_core.specs.Headings.{has_name}
 use Rattle.value_core.specs.declared.kind.Kind.{Kind}
 use Rattle.value_core.specs.declared.kind.Kind.TheVariants.{Truth, Char, Point, Span}
@@ -18,12 +19,12 @@ use Rattle.scalar_core.specs.Expressions.{Expr}
 use Rattle.scalar_core.specs.KindOf.{same_type, same_kind}
 use Rattle.relation_core.specs.Agreement.{position_of}
 use Rattle.relation_core.proofs.AttributeLemmas.{name_is}
+use Rattle.relation_core.specs.Parts.{kind_at}
 use Rattle.tree_core.specs.declared.tree.InfixWord.{InfixWord}
 use Rattle.tree_core.specs.Trees.{PlainSets, Tree, infix_of, restrict, extend, heading_of}
 use Rattle.algebra_core.specs.Histories.{name_at}
 use Rattle.algebra_core.specs.Meanings.{positions_of, names_at}
-use Rattle.algebra_core.specs.Sweeping.{among}
-use Rattle.algebra_core.specs.Typing.{kind_at, is_alike_at, are_in, is_swept, is_part}
+use Rattle.algebra_core.specs.Typing.{is_alike_at, are_in, is_swept, is_part}
 use Rattle.update_core.proofs.ConditionLemmas.{IsSwept, swept-to, member-among}
 use Rattle.update_core.proofs.NameLemmas.{position-own, has-own}
 

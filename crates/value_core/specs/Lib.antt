@@ -1,7 +1,9 @@
+pub mod Attributes
 pub mod Headings
 pub mod Lengths
 pub mod Order
 pub mod Plain
 pub mod Refusals
 pub mod Relations
+pub mod RowPacking
 pub mod Values

@@ -1,0 +1,101 @@
+// The rows of a run.
+ghost use Rattle.std.specs.Prelude.{◌<◌, ◌≤◌};
+
+use box_tests::Small;
+use point_core::Memory;
+use std::alloc::Global;
+
+/// One key over boxes apart from each other, a key for each row over boxes that all overlap, a tenth as many keys as
+/// rows, or the same on two sides.
+#[derive(Clone, Copy)]
+pub enum Kind {
+    One,
+    Each,
+    Tenth,
+    Two,
+}
+
+impl Kind {
+    /// How many sides the rows have.
+    pub fn sides(self) -> usize
+        ensures some { 0 < result }
+        ensures few { result ≤ 2 }
+    {
+        match self {
+            Kind::Two => 2,
+            _ => 1,
+        }
+    }
+}
+
+// The next of a row of pseudo-random numbers.
+fn next(seed: u64) -> u64 {
+    seed.wrapping_mul(6364136223846793005)
+        .wrapping_add(1442695040888963407)
+}
+
+// A number below `end`, or 0.
+fn below(seed: &mut u64, end: u32) -> u32 {
+    *seed = next(*seed);
+    (*seed >> 33) as u32 % end.max(1)
+}
+
+// At most 20 cells, of which the first is among the first `among`.
+fn short_span(seed: &mut u64, among: u32) -> (usize, usize) {
+    let begin = below(seed, among) as usize;
+    let length = below(seed, 20) as usize;
+    (begin, begin + length + 1)
+}
+
+// From the first half of the cells to the second.
+fn long_span(seed: &mut u64, half: u32) -> (usize, usize) {
+    let begin = below(seed, half) as usize;
+    let more = below(seed, half) as usize;
+    (begin, half as usize + more + 1)
+}
+
+fn row(seed: &mut u64, kind: Kind, i: u32, count: u32) -> Small {
+    let tenth = count / 10;
+    let label = u64::from(i);
+    match kind {
+        Kind::One => {
+            let begin = i as usize * 10 + below(seed, 5) as usize;
+            let end = begin + 1 + below(seed, 4) as usize;
+            Small {
+                key: 0,
+                label,
+                first: (begin, end),
+                second: (0, 0),
+            }
+        }
+        Kind::Each => Small {
+            key: label,
+            label,
+            first: long_span(seed, count),
+            second: (0, 0),
+        },
+        Kind::Tenth => Small {
+            key: u64::from(below(seed, tenth)),
+            label,
+            first: short_span(seed, 300),
+            second: (0, 0),
+        },
+        Kind::Two => Small {
+            key: u64::from(below(seed, tenth)),
+            label,
+            first: short_span(seed, 60),
+            second: short_span(seed, 60),
+        },
+    }
+}
+
+/// The rows of a run.
+pub fn drawn(alloc: Global, kind: Kind, count: u32, first: u64) -> Result<Vec<Small>, Memory> {
+    let mut out = Vec::new(alloc);
+    let mut seed = first;
+    for i in 0..count {
+        let x = row(&mut seed, kind, i, count);
+        out.push(x)?;
+    }
+    Ok(out)
+}

@@ -1,0 +1,143 @@
+-- Rows of one key that have no place in common.
+use Rattle.std.proofs.Common.{◌≡◌, ℕ, suc, ◌+◌, ◌-◌, ◌<◌, ◌≤◌, List, [], ◌∷◌, Bool, true, false, length, ◌↔◌, inl, inr, arith, sym, ap, subst, refl, ◌∙◌, Ordering}
+use Rattle.std.specs.declared.cmp.Ordering.TheVariants.{Less, Equal}
+use Rattle.std.specs.Cmp.{IsTotalOrder}
+use Rattle.std.specs.List.{All, list_all}
+use Rattle.std.proofs.lemmas.Bool.{cases_lt, cases_Bool, true≢false, and_parts, and_from}
+use Rattle.std.proofs.lemmas.Cmp.{tied_back, alike_right}
+use Rattle.packing_core.specs.Covering.{Among}
+use Rattle.packing_core.specs.Live.{span_has, has_place}
+use Rattle.box_core.specs.Apartness.{AreApart, Follows, AllFollow, AreOwn}
+use Rattle.box_core.specs.Common.{At, first_of, common, has_cell, HaveCells}
+use Rattle.box_core.specs.Meetings.{Met, IsMeeting}
+use Rattle.box_core.specs.Rows.{IsRow, Ascend, KeyBox}
+use Rattle.box_core.proofs.PlaceLemmas.{span_parts, span_from, at_common, common_length, cells_from, cell_parts}
+use Rattle.box_core.proofs.RowLemmas.{row_among, among_row, one_row, row_all, row_sides}
+
+module _ {P : Type 0} (order : P → P → Ordering) (total : IsTotalOrder order) (rows : List (KeyBox P)) (up : Ascend order rows) where
+  not_less : (u v : P) → order u v ≡ Equal → order u v ≡ Less → ⊥
+  not_less u v e l = cc
+
+  first_cell : (y : List (ℕ × ℕ)) → HaveCells y → 0 < length y → (first_of y).0 < (first_of y).1
+  first_cell [] h l = absurd (omega arith)
+  first_cell (x ∷ xs) h l = cell_parts x (and_parts (has_cell x) (list_all has_cell xs) h).0
+
+  module _ (some : All (λ x. 0 < length x.1) rows) (cells : All (λ x. HaveCells x.1) rows) where
+    pub none_follow : AllFollow order 1 rows
+    none_follow i j x y l m a b = absurd (omega arith)
+
+    -- one row more that follows the one before it
+    pub follow_turn : (n : ℕ) (u v : KeyBox P) → 0 < n → IsRow rows (n - 1) u → IsRow rows n v → Follows order u v → AllFollow order n rows → AllFollow order (n + 1) rows
+    follow_turn n u v s ru rv f old i j x y l m a b e = elim (cases_lt j n) [
+      | inl w ↦ old i j x y l w a b e
+      | inr w ↦
+          let q : j ≡ n = omega arith in
+          let same : y ≡ v = one_row rows n y v (subst (λ z. IsRow rows z y) q b) rv in
+          let ev : order x.0 v.0 ≡ Equal = subst (λ (z : KeyBox P). order x.0 z.0 ≡ Equal) same e in
+          subst (λ (z : KeyBox P). (first_of x.1).1 ≤ (first_of z.1).0) (sym same) (elim (cases_lt i (n - 1)) [
+            | inl k ↦
+                let xu : order x.0 u.0 ≡ Equal = elim (up i (n - 1) x u (omega arith) a ru) [
+                  | inl p ↦ elim (up (n - 1) n u v (omega arith) ru rv) [
+                    | inl r ↦ absurd (not_less x.0 v.0 ev (total.trans x.0 u.0 v.0 p r))
+                    | inr r ↦ absurd (not_less x.0 v.0 ev (sym (alike_right total u.0 v.0 x.0 r.0) ∙ p))
+                  ]
+                  | inr p ↦ p.0
+                ] in
+                let uv : order u.0 v.0 ≡ Equal = sym (total.congr x.0 u.0 v.0 xu) ∙ ev in
+                let c = old i (n - 1) x u k (omega arith) a ru xu in
+                let d = first_cell u.1 (row_all (λ (z : KeyBox P). HaveCells z.1) rows cells (n - 1) u ru) (row_all (λ (z : KeyBox P). 0 < length z.1) rows some (n - 1) u ru) in
+                let g = f uv in
+                omega arith
+            | inr k ↦
+                let q' : i ≡ n - 1 = omega arith in
+                let same' : x ≡ u = one_row rows (n - 1) x u (subst (λ z. IsRow rows z x) q' a) ru in
+                subst (λ (z : KeyBox P). (first_of z.1).1 ≤ (first_of v.1).0) (sym same') (f (subst (λ (z : KeyBox P). order z.0 v.0 ≡ Equal) same' ev))
+          ])
+    ]
+
+  -- ---- on one side
+
+  module _ (one : All (λ x. length x.1 ≡ 1) rows) where
+    follows_apart : (x y : List (ℕ × ℕ)) → (first_of x).1 ≤ (first_of y).0 → (place : List ℕ) → length place ≡ 1 → At x place → At y place → ⊥
+    follows_apart x y l [] e a b = absurd (omega arith)
+    follows_apart [] y l (p ∷ ps) e a b = absurd (true≢false (sym a))
+    follows_apart (s ∷ x) [] l (p ∷ ps) e a b = absurd (true≢false (sym b))
+    follows_apart (s ∷ x) (t ∷ y) l (p ∷ ps) e a b =
+        let u = (span_parts s p (and_parts (span_has s p) (has_place x ps) a).0).1 in
+        let v = (span_parts t p (and_parts (span_has t p) (has_place y ps) b).0).0 in
+        omega arith
+
+    at_one : (x : List (ℕ × ℕ)) (p : ℕ) → length x ≡ 1 → (first_of x).0 ≤ p → p < (first_of x).1 → At x (p ∷ [])
+    at_one [] p e a b = absurd (omega arith)
+    at_one (s ∷ x) p e a b = and_from (span_has s p) (has_place x []) (span_from s p a b) refl
+
+    pub all_apart : (b : Bool) → (b ≡ true → AllFollow order (length rows) rows)
+        → (b ≡ false → (i : ℕ) × (x : KeyBox P) × (y : KeyBox P) × IsRow rows i x × IsRow rows (i + 1) y × (Follows order x y → ⊥))
+        → All (λ x. HaveCells x.1) rows → (b ≡ true) ↔ AreApart order 1 rows
+    all_apart b sure unsure cells = (
+      λ h i j x y l a c e place f g k. let r = c.0 in follows_apart x.1 y.1 (sure h i j x y l r a c e) place f g k,
+      λ apart. elim (cases_Bool b) [
+        | inl t ↦ t
+        | inr t ↦
+            let w = unsure t in
+            let i : ℕ = w.0 in
+            let x : KeyBox P = w.1 in
+            let y : KeyBox P = w.2 in
+            elim (up i (i + 1) x y (omega arith) w.3 w.4) [
+              | inl l ↦ absurd (w.5 (λ e. absurd (not_less x.0 y.0 e l)))
+              | inr e ↦ elim (cases_lt (first_of y.1).0 (first_of x.1).1) [
+                | inl l ↦
+                    let lx = row_sides 1 rows one i x w.3 in
+                    let ly = row_sides 1 rows one (i + 1) y w.4 in
+                    let c = first_cell y.1 (row_all (λ (z : KeyBox P). HaveCells z.1) rows cells (i + 1) y w.4) (omega (arith, ly)) in
+                    absurd (apart i (i + 1) x y (omega arith) w.3 w.4 e.0 ((first_of y.1).0 ∷ []) refl (at_one x.1 (first_of y.1).0 lx e.1 l) (at_one y.1 (first_of y.1).0 ly (omega arith) c))
+                | inr l ↦ absurd (w.5 (λ q. l))
+              ]
+            ]
+      ],
+    )
+
+  -- ---- on any number of sides
+
+  a_place : (y : List (ℕ × ℕ)) → HaveCells y → (place : List ℕ) × (length place ≡ length y) × At y place
+  a_place [] h = ([], refl, refl)
+  a_place (x ∷ xs) h =
+      let w = and_parts (has_cell x) (list_all has_cell xs) h in
+      let v = a_place xs w.1 in
+      (x.0 ∷ v.0, ap suc v.1, and_from (span_has x x.0) (has_place xs v.0) (span_from x x.0 (omega arith) (cell_parts x w.0)) v.2)
+
+  module _ (k : ℕ) (sides : All (λ x. length x.1 ≡ k) rows) (meetings : List Met) (is : (m : Met) → Among m meetings ↔ IsMeeting order rows rows m) where
+    pub own_apart : (b : Bool) → (b ≡ true → AreOwn meetings) → (b ≡ false → (a : ℕ) × (m : Met) × IsRow meetings a m × (m.0.0 ≡ m.0.1 → ⊥)) → (b ≡ true) ↔ AreApart order k rows
+    own_apart b sure unsure = (
+      λ h i j x y l a c e place f g n.
+          let lx = row_sides k rows sides i x a in
+          let ly = row_sides k rows sides j y c in
+          let z : List (ℕ × ℕ) = common x.1 y.1 in
+          let here : At z place = (at_common x.1 y.1 place (lx ∙ sym ly)).1 (g, n) in
+          let cells : HaveCells z = cells_from z place (f ∙ sym lx ∙ sym (common_length x.1 y.1 (lx ∙ sym ly))) here in
+          let m : Met = ((i, j), z) in
+          let q = among_row meetings m ((is m).1 (x, y, a, c, e, refl, cells)) in
+          let same : i ≡ j = sure h q.0 m q.1 in
+          omega arith,
+      λ apart. elim (cases_Bool b) [
+        | inl t ↦ t
+        | inr t ↦
+            let w = unsure t in
+            let m : Met = w.1 in
+            let v = (is m).0 (row_among meetings w.0 m w.2) in
+            let x : KeyBox P = v.0 in
+            let y : KeyBox P = v.1 in
+            let lx = row_sides k rows sides m.0.0 x v.2 in
+            let ly = row_sides k rows sides m.0.1 y v.3 in
+            let p = a_place m.1 v.6 in
+            let both = (at_common x.1 y.1 p.0 (lx ∙ sym ly)).0 (subst (λ z. At z p.0) (sym v.5) p.2) in
+            let len : length p.0 ≡ k = p.1 ∙ sym (ap length v.5) ∙ common_length x.1 y.1 (lx ∙ sym ly) ∙ lx in
+            elim (cases_lt m.0.0 m.0.1) [
+              | inl l ↦ absurd (apart m.0.0 m.0.1 x y l v.2 v.3 v.4 p.0 len both.0 both.1)
+              | inr l ↦ elim (cases_lt m.0.1 m.0.0) [
+                | inl r ↦ absurd (apart m.0.1 m.0.0 y x r v.3 v.2 (tied_back total x.0 y.0 v.4) p.0 len both.1 both.0)
+                | inr r ↦ absurd (w.3 (omega arith))
+              ]
+            ]
+      ],
+    )

@@ -1,0 +1,300 @@
+-- Holes taken out of a box, one after the other.
+use Rattle.std.proofs.Common.{◌≡◌, ℕ, zero, suc, ◌+◌, ◌<◌, ◌≤◌, Bool, true, false, cond, leb, ltb, min, max, List, [], ◌∷◌, ◌++◌, set, length, get_or, map, flat_map, ◌↔◌, ◌⊎◌, inl, inr, arith, sym, ap, subst, refl, ◌∙◌, append_assoc}
+use Rattle.std.specs.List.{All}
+use Rattle.std.proofs.lemmas.Bool.{cases_lt, cases_Bool}
+use Rattle.std.proofs.lemmas.Bool.Decides.{nat_tests}
+use Rattle.std.proofs.lemmas.Int.{clamps}
+use Rattle.std.proofs.Math.ListN.{length-set}
+use Rattle.packing_core.specs.Covering.{Among}
+use Rattle.packing_core.specs.Packed.{no_cells}
+use Rattle.packing_core.proofs.Numbered.{other_default}
+use Rattle.packing_core.proofs.AmongLemmas.{among_append, among_flat}
+use Rattle.slice_core.specs.Rows.{sides_of}
+use Rattle.slice_core.specs.declared.inward.IndexBox.{IndexBox}
+use Rattle.box_core.specs.Common.{At, EndsBy, both, first_of}
+use Rattle.box_core.specs.Meetings.{Met}
+use Rattle.box_core.specs.Rows.{IsRow}
+use Rattle.box_core.specs.Outside.{HasBox, part, beside, narrowed, outside_to, outside, is_past, past, ahead, IsClear}
+use Rattle.box_core.proofs.RowLemmas.{row_among, one_row, some_row, map_row}
+use Rattle.box_core.proofs.OutsideLemmas.{at_side, has_append, has_one, narrowed_length, outside_places}
+
+abbrev Box : Type 0
+Box = List (ℕ × ℕ)
+
+flat_of_map : {X Y Z : Type 0} (f : Y → List Z) (g : X → Y) (xs : List X) → flat_map (λ x. f (g x)) xs ≡ flat_map f (map g xs)
+flat_of_map f g [] = refl
+flat_of_map f g (x ∷ xs) = ap (λ z. f (g x) ++ z) (flat_of_map f g xs)
+
+map_both : {X Y : Type 0} (f : X → Y) (xs ys : List X) → map f (xs ++ ys) ≡ map f xs ++ map f ys
+map_both f [] ys = refl
+map_both f (x ∷ xs) ys = ap (λ z. f x ∷ z) (map_both f xs ys)
+
+-- ---- one side more of a hole
+
+pub narrowed_turn : (y hole rest : Box) (s : ℕ) (a c : ℕ × ℕ) → rest ≡ narrowed s y hole → s < length rest → s < length hole → a ≡ get_or rest s a → c ≡ get_or hole s c → set rest s (both a c) ≡ narrowed (s + 1) y hole
+narrowed_turn y hole rest s a c e l m f g =
+    let q : suc s ≡ s + 1 = omega arith in
+    let fa : a ≡ get_or (narrowed s y hole) s no_cells = f ∙ other_default rest s a no_cells l ∙ ap (λ zs. get_or zs s no_cells) e in
+    let gc : c ≡ get_or hole s no_cells = g ∙ other_default hole s c no_cells m in
+    subst (λ n. set rest s (both a c) ≡ narrowed n y hole) q (λ t. set (e t) s (both (fa t) (gc t)))
+
+pub outside_turn : (y hole rest : Box) (s : ℕ) (c : ℕ × ℕ) (old out new : List Box) → rest ≡ narrowed s y hole → s < length hole → c ≡ get_or hole s c
+    → out ≡ old ++ outside_to s y hole → new ≡ out ++ beside rest s c → new ≡ old ++ outside_to (s + 1) y hole
+outside_turn y hole rest s c old out new e m g made more =
+    let q : suc s ≡ s + 1 = omega arith in
+    let gc : c ≡ get_or hole s no_cells = g ∙ other_default hole s c no_cells m in
+    let step : new ≡ (old ++ outside_to s y hole) ++ beside (narrowed s y hole) s (get_or hole s no_cells) = more ∙ (λ t. made t ++ beside (e t) s (gc t)) in
+    subst (λ n. new ≡ old ++ outside_to n y hole) q (step ∙ append_assoc old (outside_to s y hole) (beside (narrowed s y hole) s (get_or hole s no_cells)))
+
+-- ---- how many sides the pieces have
+
+pub all_sides : (items : List IndexBox) (n : ℕ) → ((z : Box) → Among z (sides_of items) → length z ≡ n) → All (λ (x : IndexBox). length x.sides.items ≡ n) items
+all_sides items n h i d l =
+    let r = map_row (λ (x : IndexBox). x.sides.items) items i (get_or items i d) (some_row items i d l) in
+    h (get_or items i d).sides.items (row_among (sides_of items) i (get_or items i d).sides.items r)
+
+part_length : (y : Box) (s : ℕ) (c : ℕ × ℕ) (z : Box) → Among z (part y s c) → length z ≡ length y
+part_length y s c z h = go (ltb c.0 c.1) h
+  where
+    go : (t : Bool) → Among z (cond t (set y s c ∷ []) []) → length z ≡ length y
+    go true h = elim h [ inl e ↦ sym (ap length e) ∙ length-set y s c | inr w ↦ absurd w ]
+    go false h = absurd h
+
+beside_length : (y : Box) (s : ℕ) (c : ℕ × ℕ) (z : Box) → Among z (beside y s c) → length z ≡ length y
+beside_length y s c z h =
+    let own : ℕ × ℕ = get_or y s no_cells in
+    elim ((among_append z (part y s (own.0, min own.1 c.0)) (part y s (max own.0 c.1, own.1))).0 h) [
+      | inl w ↦ part_length y s (own.0, min own.1 c.0) z w
+      | inr w ↦ part_length y s (max own.0 c.1, own.1) z w
+    ]
+
+outside_length : (s : ℕ) (y hole : Box) (z : Box) → Among z (outside_to s y hole) → length z ≡ length y
+outside_length zero y hole z h = absurd h
+outside_length (suc s) y hole z h =
+    let n = narrowed s y hole in
+    elim ((among_append z (outside_to s y hole) (beside n s (get_or hole s no_cells))).0 h) [
+      | inl w ↦ outside_length s y hole z w
+      | inr w ↦ beside_length n s (get_or hole s no_cells) z w ∙ narrowed_length s y hole
+    ]
+
+-- ---- where the pieces end
+
+set_ends : (y : Box) (s : ℕ) (v : ℕ × ℕ) → v.1 ≤ (get_or y s no_cells).1 → EndsBy y (set y s v)
+set_ends [] s v h t = omega arith
+set_ends (x ∷ xs) zero v h zero = h
+set_ends (x ∷ xs) zero v h (suc t) = omega arith
+set_ends (x ∷ xs) (suc s) v h zero = omega arith
+set_ends (x ∷ xs) (suc s) v h (suc t) = set_ends xs s v h t
+
+part_ends : (y : Box) (s : ℕ) (c : ℕ × ℕ) → c.1 ≤ (get_or y s no_cells).1 → (z : Box) → Among z (part y s c) → EndsBy y z
+part_ends y s c l z h = go (ltb c.0 c.1) h
+  where
+    go : (t : Bool) → Among z (cond t (set y s c ∷ []) []) → EndsBy y z
+    go true h = elim h [ inl e ↦ subst (EndsBy y) e (set_ends y s c l) | inr w ↦ absurd w ]
+    go false h = absurd h
+
+beside_ends : (y : Box) (s : ℕ) (c : ℕ × ℕ) (z : Box) → Among z (beside y s c) → EndsBy y z
+beside_ends y s c z h =
+    let own : ℕ × ℕ = get_or y s no_cells in
+    let a : min own.1 c.0 ≤ own.1 = omega (arith, clamps) in
+    let b : own.1 ≤ own.1 = omega arith in
+    elim ((among_append z (part y s (own.0, min own.1 c.0)) (part y s (max own.0 c.1, own.1))).0 h) [
+      | inl w ↦ part_ends y s (own.0, min own.1 c.0) a z w
+      | inr w ↦ part_ends y s (max own.0 c.1, own.1) b z w
+    ]
+
+ends_far : (x y z : Box) → EndsBy x y → EndsBy y z → EndsBy x z
+ends_far x y z a b s = let u = a s in let v = b s in omega arith
+
+narrowed_ends : (s : ℕ) (y hole : Box) → EndsBy y (narrowed s y hole)
+narrowed_ends zero y hole = λ t. omega arith
+narrowed_ends (suc s) y hole =
+    let n = narrowed s y hole in
+    let own : ℕ × ℕ = get_or n s no_cells in
+    let c : ℕ × ℕ = get_or hole s no_cells in
+    let a : min own.1 c.1 ≤ own.1 = omega (arith, clamps) in
+    ends_far y n (set n s (both own c)) (narrowed_ends s y hole) (set_ends n s (both own c) a)
+
+outside_ends : (s : ℕ) (y hole : Box) (z : Box) → Among z (outside_to s y hole) → EndsBy y z
+outside_ends zero y hole z h = absurd h
+outside_ends (suc s) y hole z h =
+    let n = narrowed s y hole in
+    elim ((among_append z (outside_to s y hole) (beside n s (get_or hole s no_cells))).0 h) [
+      | inl w ↦ outside_ends s y hole z w
+      | inr w ↦ ends_far y n z (narrowed_ends s y hole) (beside_ends n s (get_or hole s no_cells) z w)
+    ]
+
+-- ---- one piece and a hole
+
+module _ (hole y : Box) where
+  past_or_ahead : (is_past hole y ≡ true) × ((first_of y).1 ≤ (first_of hole).0) ⊎ (is_past hole y ≡ false)
+  past_or_ahead = elim (cases_Bool (is_past hole y)) [ inl e ↦ inl (e, within (first_of y).1 (first_of hole).0 e) | inr e ↦ inr e ]
+    where
+      within : (a b : ℕ) → leb a b ≡ true → a ≤ b
+      within a b h = grind (arith, nat_tests)
+
+  in_past : (z : Box) → Among z (past hole y) → (y ≡ z) × ((first_of y).1 ≤ (first_of hole).0)
+  in_past z h = elim past_or_ahead [
+    | inl w ↦ elim (subst (λ t. Among z (cond t (y ∷ []) [])) w.0 h) [ inl e ↦ (e, w.1) | inr v ↦ absurd v ]
+    | inr w ↦ absurd (subst (λ t. Among z (cond t (y ∷ []) [])) w h)
+  ]
+
+  in_ahead : (z : Box) → Among z (ahead hole y) → Among z (outside hole y)
+  in_ahead z h = elim past_or_ahead [
+    | inl w ↦ absurd (subst (λ t. Among z (cond t [] (outside hole y))) w.0 h)
+    | inr w ↦ subst (λ t. Among z (cond t [] (outside hole y))) w h
+  ]
+
+  in_one : (place : List ℕ) → length hole ≡ length y → length place ≡ length y → At y place → (At hole place → ⊥) → HasBox (past hole y) place ⊎ HasBox (ahead hole y) place
+  in_one place e f h g = elim past_or_ahead [
+    | inl w ↦ inl (y, subst (λ t. Among y (cond t (y ∷ []) [])) (sym w.0) (inl refl), h)
+    | inr w ↦
+        let v = (outside_places y hole place e f).1 (h, g) in
+        inr (v.0, subst (λ t. Among v.0 (cond t [] (outside hole y))) (sym w) v.1, v.2)
+  ]
+
+-- ---- the pieces that are done and those that are not, before the hole h
+
+module _ (own : Box) (holes : List Met) (first end : ℕ) where
+  abbrev Fits : List ℕ → Type 0
+  Fits place = length place ≡ length own
+
+  pub record IsSplit (h : ℕ) (finished others : List Box) : Type 0 where
+    done_sides : (z : Box) → Among z finished → length z ≡ length own
+    pub sides : (z : Box) → Among z others → length z ≡ length own
+    done_ends : (z : Box) → Among z finished → EndsBy own z
+    ends : (z : Box) → Among z others → EndsBy own z
+    done : (place : List ℕ) → Fits place → HasBox finished place → At own place × IsClear holes first end place
+    pieces : (place : List ℕ) → Fits place → HasBox others place → At own place × IsClear holes first h place
+    all : (place : List ℕ) → Fits place → At own place → IsClear holes first end place → HasBox finished place ⊎ HasBox others place
+
+  pub split_first : IsSplit first [] (own ∷ [])
+  split_first = record {
+    done_sides = λ z m. absurd m;
+    sides = λ z m. elim m [ inl e ↦ sym (ap length e) | inr w ↦ absurd w ];
+    done_ends = λ z m. absurd m;
+    ends = λ z m. elim m [ inl e ↦ subst (EndsBy own) e (λ s. omega arith) | inr w ↦ absurd w ];
+    done = λ place f h. absurd h.1;
+    pieces = λ place f h. ((has_one own place).0 h, λ q m r a b g. omega arith);
+    all = λ place f h c. inr ((has_one own place).1 h);
+  }
+
+  module _ (h : ℕ) (from : first ≤ h) (below : h < end) (m : Met) (row : IsRow holes h m) (same : length m.1 ≡ length own) (some : 0 < length own)
+      (order : (r : ℕ) (n : Met) → IsRow holes r n → h ≤ r → r < end → (first_of m.1).0 ≤ (first_of n.1).0)
+      (done pieces done' pieces' : List Box) (made : done' ≡ done ++ flat_map (past m.1) pieces) (made' : pieces' ≡ flat_map (ahead m.1) pieces) (old : IsSplit h done pieces) where
+    in_done : (z : Box) → Among z done' ↔ Among z done ⊎ ((y : Box) × Among y pieces × Among z (past m.1 y))
+    in_done z =
+        let a = among_append z done (flat_map (past m.1) pieces) in
+        let b = among_flat (past m.1) z pieces in
+        subst (λ zs. Among z zs ↔ Among z done ⊎ ((y : Box) × Among y pieces × Among z (past m.1 y))) (sym made) (
+          λ w. elim (a.0 w) [ inl v ↦ inl v | inr v ↦ inr (b.0 v) ],
+          λ w. elim w [ inl v ↦ a.1 (inl v) | inr v ↦ a.1 (inr (b.1 v)) ],
+        )
+
+    in_pieces : (z : Box) → Among z pieces' ↔ ((y : Box) × Among y pieces × Among z (ahead m.1 y))
+    in_pieces z = subst (λ zs. Among z zs ↔ ((y : Box) × Among y pieces × Among z (ahead m.1 y))) (sym made') (among_flat (ahead m.1) z pieces)
+
+    -- what ends before the hole has no place of this hole and of those after it
+    clear_ahead : (y : Box) (place : List ℕ) → Fits place → Among y pieces → At y place → (first_of y).1 ≤ (first_of m.1).0 → At own place × IsClear holes first end place
+    clear_ahead y place f a g l =
+        let w = old.pieces place f (y, a, g) in
+        let u = at_side y place 0 g (omega (arith, f)) in
+        let u1 : get_or place 0 0 < (first_of y).1 = u.1 in (
+          w.0,
+          λ q n r c d k. elim (cases_lt q h) [
+            | inl s ↦ w.1 q n r c s k
+            | inr s ↦
+                let v = at_side n.1 place 0 k (omega (arith, f)) in
+                let v0 : (first_of n.1).0 ≤ get_or place 0 0 = v.0 in
+                let o = order q n r s d in
+                omega arith
+          ],
+        )
+
+    new_done : (place : List ℕ) → Fits place → HasBox done' place → At own place × IsClear holes first end place
+    new_done place f w = elim ((in_done w.0).0 w.1) [
+      | inl v ↦ old.done place f (w.0, v, w.2)
+      | inr v ↦
+          let p = in_past m.1 v.0 w.0 v.2 in
+          clear_ahead v.0 place f v.1 (subst (λ z. At z place) (sym p.0) w.2) p.1
+    ]
+
+    new_pieces : (place : List ℕ) → Fits place → HasBox pieces' place → At own place × IsClear holes first (h + 1) place
+    new_pieces place f w =
+        let v = (in_pieces w.0).0 w.1 in
+        let y : Box = v.0 in
+        let len = old.sides y v.1 in
+        let o = (outside_places y m.1 place (same ∙ sym len) (f ∙ sym len)).0 (w.0, in_ahead m.1 y w.0 v.2, w.2) in
+        let u = old.pieces place f (y, v.1, o.0) in (
+          u.0,
+          λ q n r c d k. elim (cases_lt q h) [
+            | inl s ↦ u.1 q n r c s k
+            | inr s ↦
+                let e : q ≡ h = omega arith in
+                o.1 (subst (λ (z : Met). At z.1 place) (one_row holes h n m (subst (λ i. IsRow holes i n) e r) row) k)
+          ],
+        )
+
+    new_all : (place : List ℕ) → Fits place → At own place → IsClear holes first end place → HasBox done' place ⊎ HasBox pieces' place
+    new_all place f g c = elim (old.all place f g c) [
+      | inl w ↦ inl (w.0, (in_done w.0).1 (inl w.1), w.2)
+      | inr w ↦
+          let len = old.sides w.0 w.1 in
+          elim (in_one m.1 w.0 place (same ∙ sym len) (f ∙ sym len) w.2 (c h m row from below)) [
+            | inl v ↦ inl (v.0, (in_done v.0).1 (inr (w.0, w.1, v.1)), v.2)
+            | inr v ↦ inr (v.0, (in_pieces v.0).1 (w.0, w.1, v.1), v.2)
+          ]
+    ]
+
+    pub split_turn : IsSplit (h + 1) done' pieces'
+    split_turn = record {
+      done_sides = λ z w. elim ((in_done z).0 w) [
+        | inl v ↦ old.done_sides z v
+        | inr v ↦ sym (ap length (in_past m.1 v.0 z v.2).0) ∙ old.sides v.0 v.1
+      ];
+      sides = λ z w. let v = (in_pieces z).0 w in outside_length (length m.1) v.0 m.1 z (in_ahead m.1 v.0 z v.2) ∙ old.sides v.0 v.1;
+      done_ends = λ z w. elim ((in_done z).0 w) [
+        | inl v ↦ old.done_ends z v
+        | inr v ↦ subst (EndsBy own) (in_past m.1 v.0 z v.2).0 (old.ends v.0 v.1)
+      ];
+      ends = λ z w. let v = (in_pieces z).0 w in ends_far own v.0 z (old.ends v.0 v.1) (outside_ends (length m.1) v.0 m.1 z (in_ahead m.1 v.0 z v.2));
+      done = new_done;
+      pieces = new_pieces;
+      all = new_all;
+    }
+
+  pub split_last : (done pieces : List Box) → IsSplit end done pieces → (place : List ℕ) → Fits place → HasBox (done ++ pieces) place ↔ At own place × IsClear holes first end place
+  split_last done pieces s place f =
+      let a = has_append done pieces place in (
+        λ h. elim (a.0 h) [ inl w ↦ s.done place f w | inr w ↦ s.pieces place f w ],
+        λ h. a.1 (s.all place f h.0 h.1),
+      )
+
+-- ---- the same of the lists that the code has
+
+module _ (own : Box) (holes : List Met) (first end : ℕ) where
+  pub split_start : (done pieces : List IndexBox) → done ≡ [] → sides_of pieces ≡ own ∷ [] → IsSplit own holes first end first (sides_of done) (sides_of pieces)
+  split_start done pieces d p = subst (λ ds. IsSplit own holes first end first ds (sides_of pieces)) (sym (ap sides_of d)) (subst (IsSplit own holes first end first []) (sym p) (split_first own holes first end))
+
+  pub split_more : (h : ℕ) → first ≤ h → h < end → (m : Met) → IsRow holes h m → length m.1 ≡ length own → 0 < length own
+      → ((r : ℕ) (n : Met) → IsRow holes r n → h ≤ r → r < end → (first_of m.1).0 ≤ (first_of n.1).0)
+      → (done pieces done' pieces' : List IndexBox)
+      → sides_of done' ≡ sides_of done ++ flat_map (λ (x : IndexBox). past m.1 x.sides.items) pieces → sides_of pieces' ≡ flat_map (λ (x : IndexBox). ahead m.1 x.sides.items) pieces
+      → IsSplit own holes first end h (sides_of done) (sides_of pieces) → IsSplit own holes first end (h + 1) (sides_of done') (sides_of pieces')
+  split_more h from below m row same some order done pieces done' pieces' made made' old =
+      split_turn own holes first end h from below m row same some order (sides_of done) (sides_of pieces) (sides_of done') (sides_of pieces')
+      (made ∙ ap (λ z. sides_of done ++ z) (flat_of_map (past m.1) (λ (x : IndexBox). x.sides.items) pieces))
+      (made' ∙ flat_of_map (ahead m.1) (λ (x : IndexBox). x.sides.items) pieces) old
+
+  module _ (done pieces out : List IndexBox) (made : out ≡ done ++ pieces) (s : IsSplit own holes first end end (sides_of done) (sides_of pieces)) where
+    both_sides : sides_of out ≡ sides_of done ++ sides_of pieces
+    both_sides = ap sides_of made ∙ map_both (λ (x : IndexBox). x.sides.items) done pieces
+
+    pub split_places : (place : List ℕ) → length place ≡ length own → HasBox (sides_of out) place ↔ At own place × IsClear holes first end place
+    split_places place f = subst (λ zs. HasBox zs place ↔ At own place × IsClear holes first end place) (sym both_sides) (split_last own holes first end (sides_of done) (sides_of pieces) s place f)
+
+    pub split_sides : All (λ (x : IndexBox). length x.sides.items ≡ length own) out
+    split_sides = all_sides out (length own) (λ z h. elim ((among_append z (sides_of done) (sides_of pieces)).0 (subst (Among z) both_sides h)) [ inl w ↦ s.done_sides z w | inr w ↦ s.sides z w ])
+
+    pub split_ends : (z : Box) → Among z (sides_of out) → EndsBy own z
+    split_ends z h = elim ((among_append z (sides_of done) (sides_of pieces)).0 (subst (Among z) both_sides h)) [ inl w ↦ s.done_ends z w | inr w ↦ s.ends z w ]

@@ -1,0 +1,14 @@
+pub mod RowLemmas
+pub mod PlaceLemmas
+pub mod MeetingLemmas
+pub mod OutsideLemmas
+pub mod LessLemmas
+pub mod RestLemmas
+pub mod SharedLemmas
+pub mod OperatorLemmas
+pub mod JoinLemmas
+pub mod PointLemmas
+pub mod ApartLemmas
+pub mod GroupLemmas
+pub mod CoveredLemmas
+pub mod TallyLemmas

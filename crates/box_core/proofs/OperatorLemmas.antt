@@ -1,0 +1,195 @@
+-- Operators by what their parts have at each place.
+use Rattle.std.proofs.Common.{◌≡◌, ℕ, zero, suc, ◌+◌, false, List, [], ◌∷◌, map, length, get_or, ◌↔◌, arith, sym, ap, subst, refl, ◌∙◌, Ordering}
+use Rattle.std.specs.Cmp.{IsTotalOrder}
+use Rattle.std.specs.Ordering.{is_lt}
+use Rattle.std.specs.List.{All}
+use Rattle.std.specs.List.Sorted.{IsSortedBy, IsPermutation}
+use Rattle.std.proofs.lemmas.List.Elements.{All-same, All-map}
+use Rattle.std.proofs.lemmas.List.Sorted.{All-permutation, Contains-permutation, IsPermutation-sym, sorted_far, ranks_by}
+use Rattle.packing_core.specs.Covering.{Among}
+use Rattle.packing_core.specs.Packed.{IsIndexPackedTo, no_cells}
+use Rattle.packing_core.proofs.AmongLemmas.{among_map}
+use Rattle.packing_core.proofs.Joined.{IsIndexRun-iff}
+use Rattle.packing_core.proofs.Numbered.{other_default}
+use Rattle.packing_core.proofs.Order.{among_contains, contains_among}
+use Rattle.slice_core.specs.PackedRows.{HasRow, IsPackedOf}
+use Rattle.slice_core.specs.Rows.{key_cmp, key_total}
+use Rattle.box_core.specs.Answers.{IsPackedRow, IsPackedCover, IsBoxOf, IsBoxOfKeyed, InBoth, InFirst, IsMatched, IsUnmatched, KeyedBox, HasKeyed}
+use Rattle.box_core.specs.Common.{At, EndsBy}
+use Rattle.box_core.specs.Keys.{key_of, label_of, doubled, keyed_cmp, ArePaired}
+use Rattle.box_core.specs.Meetings.{IsShared}
+use Rattle.box_core.specs.Outside.{IsRest}
+use Rattle.box_core.specs.Rows.{IsRow, Ascend, KeyBox}
+use Rattle.box_core.proofs.RowLemmas.{row_among, among_row, one_row, row_there, map_row, row_map, in_order}
+
+-- ---- packed rows of sets that are alike at the places of all sides
+
+packed_alike : (k : ℕ) (S S' : List ℕ → Type 0) → ((place : List ℕ) → length place ≡ k → S place ↔ S' place) → (j : ℕ) (y : List (ℕ × ℕ)) (rest : List ℕ) → j + length rest ≡ k → IsIndexPackedTo j S y rest ↔ IsIndexPackedTo j S' y rest
+packed_alike k S S' e zero y rest f = e rest (omega (arith, f))
+packed_alike k S S' e (suc j) y rest f =
+    let at = get_or y j no_cells in
+    let ih = λ (i : ℕ). packed_alike k S S' e j y (i ∷ rest) (omega (arith, f)) in (
+      IsIndexRun-iff (λ i. IsIndexPackedTo j S y (i ∷ rest)) (λ i. IsIndexPackedTo j S' y (i ∷ rest)) ih at.0 at.1,
+      IsIndexRun-iff (λ i. IsIndexPackedTo j S' y (i ∷ rest)) (λ i. IsIndexPackedTo j S y (i ∷ rest)) (λ i. let w = ih i in (w.1, w.0)) at.0 at.1,
+    )
+
+-- the packed parts are the packed form of what they have at each place
+pub packed_rows : {P : Type 0} (k : ℕ) (S : P → List ℕ → Type 0) (parts out : List (KeyBox P)) → ((l : P) (place : List ℕ) → length place ≡ k → HasRow parts l place ↔ S l place)
+    → ((x : KeyBox P) → Among x out ↔ (length x.1 ≡ k) × IsPackedOf k parts x) → (x : KeyBox P) → Among x out ↔ IsPackedRow k S x
+packed_rows k S parts out e is x =
+    let a = is x in
+    let b = packed_alike k (HasRow parts x.0) (S x.0) (e x.0) k x.1 [] (omega arith) in (
+      λ h. let w = a.0 h in (w.0, b.0 w.1),
+      λ h. a.1 (h.0, b.1 h.1),
+    )
+
+-- the same set by other words
+pub packed_same : {P : Type 0} (k : ℕ) (S S' : P → List ℕ → Type 0) (out : List (KeyBox P)) → ((l : P) (place : List ℕ) → S l place ↔ S' l place)
+    → ((x : KeyBox P) → Among x out ↔ IsPackedRow k S x) → (x : KeyBox P) → Among x out ↔ IsPackedRow k S' x
+packed_same k S S' out e is x =
+    let a = is x in
+    let b = packed_alike k (S x.0) (S' x.0) (λ place f. e x.0 place) k x.1 [] (omega arith) in (
+      λ h. let w = a.0 h in (w.0, b.0 w.1),
+      λ h. a.1 (h.0, b.1 h.1),
+    )
+
+-- ---- what the packed parts cover
+
+pub cover_of : {P K : Type 0} (k : ℕ) (S : P → List ℕ → Type 0) (left : List (KeyBox K)) (parts out : List (KeyBox P)) → All (λ (x : KeyBox P). length x.1 ≡ k) parts
+    → ((z : KeyBox P) → Among z parts → (x : KeyBox K) × Among x left × EndsBy x.1 z.1) → ((l : P) (place : List ℕ) → length place ≡ k → HasRow parts l place ↔ S l place)
+    → ((x : KeyBox P) → Among x out ↔ (length x.1 ≡ k) × IsPackedOf k parts x) → IsPackedCover k S (IsBoxOf left) out
+cover_of k S left parts out a b c d = record {
+  parts = parts;
+  sides = a;
+  ends = λ z h. let w = b z h in (w.0.1, (w.0.0, w.1), w.2);
+  places = c;
+  packed = d;
+}
+
+-- the same set by other words, and more boxes
+pub cover_same : {P : Type 0} (k : ℕ) (S S' : P → List ℕ → Type 0) (B B' : List (ℕ × ℕ) → Type 0) (out : List (KeyBox P)) → ((l : P) (place : List ℕ) → S l place ↔ S' l place) → ((y : List (ℕ × ℕ)) → B y → B' y)
+    → IsPackedCover k S B out → IsPackedCover k S' B' out
+cover_same k S S' B B' out e f c = record {
+  parts = c.parts;
+  sides = c.sides;
+  ends = λ z h. let w = c.ends z h in (w.0, f w.0 w.1, w.2);
+  places = λ l place g. let a = c.places l place g in let b = e l place in (λ h. b.0 (a.0 h), λ h. a.1 (b.1 h));
+  packed = c.packed;
+}
+
+-- ---- rows in another order
+
+pub among_moved : {X : Type 0} (xs ys : List X) → IsPermutation xs ys → (x : X) → Among x ys ↔ Among x xs
+among_moved xs ys p x = (
+  λ h. contains_among xs x (Contains-permutation ys xs x (IsPermutation-sym xs ys p) (among_contains ys x h)),
+  λ h. contains_among ys x (Contains-permutation xs ys x p (among_contains xs x h)),
+)
+
+has_alike : {P : Type 0} (rows others : List (KeyBox P)) → ((x : KeyBox P) → Among x others ↔ Among x rows) → (l : P) (place : List ℕ) → HasRow others l place ↔ HasRow rows l place
+has_alike rows others e l place = (
+  λ h. (h.0, (e (l, h.0)).0 h.1, h.2),
+  λ h. (h.0, (e (l, h.0)).1 h.1, h.2),
+)
+
+-- ---- rows with a key and a label, by their numbers
+
+map_count : {X Y : Type 0} (f : X → Y) (xs : List X) → length (map f xs) ≡ length xs
+map_count f [] = refl
+map_count f (x ∷ xs) = ap suc (map_count f xs)
+
+module _ {K P : Type 0} (order : K → K → Ordering) (total : IsTotalOrder order) (rows sorted : List (KeyedBox K P)) (moved : IsPermutation rows sorted)
+    (keys : List (KeyBox K)) (labels : List P) (ks : keys ≡ map key_of sorted) (ls : labels ≡ map label_of sorted) where
+  pub paired : ArePaired rows keys labels
+  paired = record {
+    count = ap length ls ∙ map_count label_of sorted ∙ sym (ap length ks ∙ map_count key_of sorted);
+    from = λ i x l a b.
+        let v = row_map key_of sorted i x (subst (λ zs. IsRow zs i x) ks a) in
+        let w = row_map label_of sorted i l (subst (λ zs. IsRow zs i l) ls b) in
+        let s : w.0 ≡ v.0 = one_row sorted i w.0 v.0 w.1 v.1 in
+        let e0 : (v.0).0 ≡ x.0 = ap (λ (z : KeyBox K). z.0) v.2 in
+        let e1 : (v.0).1 ≡ l = subst (λ (z : KeyedBox K P). z.1 ≡ l) s w.2 in
+        let e2 : (v.0).2 ≡ x.1 = ap (λ (z : KeyBox K). z.1) v.2 in
+        let e : v.0 ≡ (x.0, l, x.1) = λ t. (e0 t, e1 t, e2 t) in
+        (among_moved rows sorted moved (x.0, l, x.1)).0 (subst (λ z. Among z sorted) e (row_among sorted i v.0 v.1));
+    to = λ z h.
+        let i = among_row sorted z ((among_moved rows sorted moved z).1 h) in
+        (i.0, subst (λ zs. IsRow zs i.0 (key_of z)) (sym ks) (map_row key_of sorted i.0 z i.1), subst (λ zs. IsRow zs i.0 (label_of z)) (sym ls) (map_row label_of sorted i.0 z i.1));
+  }
+
+  pub keys_ascend : IsSortedBy (λ x y. is_lt (keyed_cmp order x y)) sorted → Ascend order keys
+  keys_ascend s i j x y h a b =
+      let v = row_map key_of sorted i x (subst (λ zs. IsRow zs i x) ks a) in
+      let w = row_map key_of sorted j y (subst (λ zs. IsRow zs j y) ks b) in
+      let f = sorted_far (λ x y. is_lt (keyed_cmp order x y)) (ranks_by (key_total total) key_of) sorted s i j v.0 h w.1.0 in
+      let g : is_lt (keyed_cmp order w.0 v.0) ≡ false = subst (λ z. is_lt (keyed_cmp order z v.0) ≡ false) (other_default sorted j v.0 w.0 w.1.0 ∙ w.1.1) (subst (λ z. is_lt (keyed_cmp order (get_or sorted j v.0) z) ≡ false) v.1.1 f) in
+      in_order order total x y (subst (λ z. is_lt (key_cmp order z x) ≡ false) w.2 (subst (λ z. is_lt (key_cmp order (key_of w.0) z) ≡ false) v.2 g))
+
+  pub keys_sides : (k : ℕ) → All (λ (x : KeyedBox K P). length x.2 ≡ k) rows → All (λ (x : KeyBox K). length x.1 ≡ k) keys
+  keys_sides k h = All-same (λ (x : KeyBox K). length x.1 ≡ k) keys (map key_of sorted) ks (All-map (λ (x : KeyBox K). length x.1 ≡ k) key_of sorted (All-permutation (λ (x : KeyedBox K P). length x.2 ≡ k) rows sorted moved h))
+
+module _ {K P : Type 0} (rows : List (KeyedBox K P)) (keys : List (KeyBox K)) (labels : List P) (pairs : ArePaired rows keys labels) where
+  -- a box of the keys is one of the rows
+  pub box_of_keyed : (y : List (ℕ × ℕ)) → IsBoxOf keys y → IsBoxOfKeyed rows y
+  box_of_keyed y h =
+      let x : KeyBox K = (h.0, y) in
+      let i = among_row keys x h.1 in
+      let l = row_there labels i.0 (let a = i.1.0 in omega (arith, pairs.count)) in
+      (h.0, l.0, pairs.from i.0 x l.0 i.1 l.1)
+
+  -- some row of the label has the place, and R holds of its key
+  some_keyed : (R : K → Type 0) (l : P) (place : List ℕ) → ((i : ℕ) × (x : KeyBox K) × IsRow keys i x × IsRow labels i l × At x.1 place × R x.0) ↔ ((k : K) × HasKeyed rows k l place × R k)
+  some_keyed R l place = (
+    λ h. let x : KeyBox K = h.1 in (x.0, (x.1, pairs.from h.0 x l h.2 h.3, h.4), h.5),
+    λ h. let i = pairs.to (h.0, l, h.1.0) h.1.1 in (i.0, (h.0, h.1.0), i.1, i.2, h.1.2, h.2),
+  )
+
+  module _ (right others : List (KeyBox K)) (same : (x : KeyBox K) → Among x others ↔ Among x right) where
+    pub is_matched : (l : P) (place : List ℕ) → IsShared keys labels others l place ↔ IsMatched rows right l place
+    is_matched l place =
+        let a = some_keyed (λ k. HasRow others k place) l place in (
+          λ h. let w = a.0 h in (w.0, w.1, (has_alike right others same w.0 place).0 w.2),
+          λ h. a.1 (h.0, h.1, (has_alike right others same h.0 place).1 h.2),
+        )
+
+    pub is_unmatched : (l : P) (place : List ℕ) → IsRest keys labels others l place ↔ IsUnmatched rows right l place
+    is_unmatched l place =
+        let a = some_keyed (λ k. HasRow others k place → ⊥) l place in (
+          λ h. let w = a.0 h in (w.0, w.1, λ g. w.2 ((has_alike right others same w.0 place).1 g)),
+          λ h. a.1 (h.0, h.1, λ g. h.2 ((has_alike right others same h.0 place).0 g)),
+        )
+
+-- ---- rows whose key is their label
+
+module _ {P : Type 0} (rows right : List (KeyBox P)) where
+  has_doubled : (k l : P) (place : List ℕ) → HasKeyed (map doubled rows) k l place ↔ (k ≡ l) × HasRow rows l place
+  has_doubled k l place = (
+    λ h.
+        let w = (among_map doubled (k, l, h.0) rows).0 h.1 in
+        let a : (w.0).0 ≡ k = ap (λ (z : KeyedBox P P). z.0) w.2 in
+        let b : (w.0).0 ≡ l = ap (λ (z : KeyedBox P P). z.1) w.2 in
+        let c : (w.0).1 ≡ h.0 = ap (λ (z : KeyedBox P P). z.2) w.2 in
+        let e : w.0 ≡ (l, h.0) = λ t. (b t, c t) in
+        (sym a ∙ b, (h.0, subst (λ z. Among z rows) e w.1, h.2)),
+    λ h. (h.1.0, (among_map doubled (k, l, h.1.0) rows).1 ((l, h.1.0), h.1.1, λ t. (sym h.0 t, l, h.1.0)), h.1.2),
+  )
+
+  pub in_both : (l : P) (place : List ℕ) → IsMatched (map doubled rows) right l place ↔ InBoth rows right l place
+  in_both l place = (
+    λ h. let w = (has_doubled h.0 l place).0 h.1 in (w.1, subst (λ z. HasRow right z place) w.0 h.2),
+    λ h. (l, (has_doubled l l place).1 (refl, h.0), h.1),
+  )
+
+  pub in_first : (l : P) (place : List ℕ) → IsUnmatched (map doubled rows) right l place ↔ InFirst rows right l place
+  in_first l place = (
+    λ h. let w = (has_doubled h.0 l place).0 h.1 in (w.1, subst (λ z. HasRow right z place → ⊥) w.0 h.2),
+    λ h. (l, (has_doubled l l place).1 (refl, h.0), h.1),
+  )
+
+  pub doubled_sides : (k : ℕ) → All (λ (x : KeyBox P). length x.1 ≡ k) rows → All (λ (x : KeyedBox P P). length x.2 ≡ k) (map doubled rows)
+  doubled_sides k h = All-map (λ (x : KeyedBox P P). length x.2 ≡ k) doubled rows h
+
+  pub box_of_doubled : (y : List (ℕ × ℕ)) → IsBoxOfKeyed (map doubled rows) y → IsBoxOf rows y
+  box_of_doubled y h =
+      let w = (among_map doubled (h.0, h.1, y) rows).0 h.2 in
+      let e : (w.0).1 ≡ y = ap (λ (z : KeyedBox P P). z.2) w.2 in
+      ((w.0).0, subst (λ z. Among ((w.0).0, z) rows) e w.1)

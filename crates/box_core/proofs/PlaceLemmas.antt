@@ -1,0 +1,141 @@
+-- The places of boxes.
+use Rattle.std.proofs.Common.{◌≡◌, ℕ, zero, suc, ◌+◌, ◌<◌, ◌≤◌, true, ◌&&◌, leb, ltb, max, min, List, [], ◌∷◌, ◌++◌, take, length, get_or, ◌↔◌, arith, sym, ap, subst, refl}
+use Rattle.std.specs.List.{list_all}
+use Rattle.std.proofs.lemmas.Bool.{true≢false, and_parts, and_from}
+use Rattle.std.proofs.lemmas.Bool.Decides.{nat_tests}
+use Rattle.std.proofs.lemmas.Int.{clamps}
+use Rattle.std.proofs.lemmas.List.{take_all}
+use Rattle.packing_core.specs.Live.{span_has, has_place}
+use Rattle.packing_core.specs.Packed.{no_cells}
+use Rattle.box_core.specs.Common.{At, EndsBy, both, common, has_cell, HaveCells, first_of}
+
+-- ---- cells
+
+pub span_parts : (s : ℕ × ℕ) (i : ℕ) → span_has s i ≡ true → (s.0 ≤ i) × (i < s.1)
+span_parts s i e = let w = and_parts (leb s.0 i) (ltb i s.1) e in (first s.0 w.0, last s.1 w.1)
+  where
+    first : (a : ℕ) → leb a i ≡ true → a ≤ i
+    first a h = grind (arith, nat_tests)
+
+    last : (z : ℕ) → ltb i z ≡ true → i < z
+    last z h = grind (arith, nat_tests)
+
+pub span_from : (s : ℕ × ℕ) (i : ℕ) → s.0 ≤ i → i < s.1 → span_has s i ≡ true
+span_from s i l m = within s.0 s.1 l m
+  where
+    within : (a z : ℕ) → a ≤ i → i < z → (leb a i && ltb i z) ≡ true
+    within a z l m = grind (arith, nat_tests)
+
+both_parts : (x y : ℕ × ℕ) (i : ℕ) → span_has (both x y) i ≡ true → (span_has x i ≡ true) × (span_has y i ≡ true)
+both_parts x y i h =
+    let w = span_parts (both x y) i h in
+    let a : max x.0 y.0 ≤ i = w.0 in
+    let b : i < min x.1 y.1 = w.1 in
+    (span_from x i (omega (arith, clamps)) (omega (arith, clamps)), span_from y i (omega (arith, clamps)) (omega (arith, clamps)))
+
+both_from : (x y : ℕ × ℕ) (i : ℕ) → span_has x i ≡ true → span_has y i ≡ true → span_has (both x y) i ≡ true
+both_from x y i h g =
+    let a = span_parts x i h in
+    let b = span_parts y i g in
+    let p = a.0 in
+    let q = a.1 in
+    let r = b.0 in
+    let s = b.1 in
+    span_from (both x y) i (omega (arith, clamps)) (omega (arith, clamps))
+
+-- ---- boxes in common
+
+pub common_length : (xs ys : List (ℕ × ℕ)) → length xs ≡ length ys → length (common xs ys) ≡ length xs
+common_length [] ys e = refl
+common_length (x ∷ xs) [] e = absurd (omega (arith, e))
+common_length (x ∷ xs) (y ∷ ys) e = ap suc (common_length xs ys (omega (arith, e)))
+
+pub take_common : (xs ys : List (ℕ × ℕ)) (s : ℕ) → length xs ≡ length ys → s < length xs → take (s + 1) (common xs ys) ≡ take s (common xs ys) ++ both (get_or xs s no_cells) (get_or ys s no_cells) ∷ []
+take_common xs ys s e l = let q : suc s ≡ s + 1 = omega arith in subst (λ n. take n (common xs ys) ≡ take s (common xs ys) ++ both (get_or xs s no_cells) (get_or ys s no_cells) ∷ []) q (more xs ys s e l)
+  where
+    more : (xs ys : List (ℕ × ℕ)) (s : ℕ) → length xs ≡ length ys → s < length xs → take (suc s) (common xs ys) ≡ take s (common xs ys) ++ both (get_or xs s no_cells) (get_or ys s no_cells) ∷ []
+    more [] ys s e l = absurd (omega arith)
+    more (x ∷ xs) [] s e l = absurd (omega (arith, e))
+    more (x ∷ xs) (y ∷ ys) zero e l = refl
+    more (x ∷ xs) (y ∷ ys) (suc s) e l = ap (λ zs. both x y ∷ zs) (more xs ys s (omega (arith, e)) (omega arith))
+
+pub all_common : (xs ys : List (ℕ × ℕ)) (s : ℕ) → length xs ≡ length ys → length xs ≤ s → take s (common xs ys) ≡ common xs ys
+all_common xs ys s e l = take_all s (common xs ys) (let f = common_length xs ys e in omega (arith, f))
+
+-- a place is in what two boxes have in common exactly where both have it
+pub at_common : (xs ys : List (ℕ × ℕ)) (place : List ℕ) → length xs ≡ length ys → At (common xs ys) place ↔ At xs place × At ys place
+at_common xs ys [] e = (λ h. (refl, refl), λ h. refl)
+at_common [] [] (p ∷ ps) e = (λ h. absurd (true≢false (sym h)), λ h. absurd (true≢false (sym h.0)))
+at_common [] (y ∷ ys) (p ∷ ps) e = absurd (omega (arith, e))
+at_common (x ∷ xs) [] (p ∷ ps) e = absurd (omega (arith, e))
+at_common (x ∷ xs) (y ∷ ys) (p ∷ ps) e =
+    let ih = at_common xs ys ps (omega (arith, e)) in (
+      λ h.
+          let w = and_parts (span_has (both x y) p) (has_place (common xs ys) ps) h in
+          let v = both_parts x y p w.0 in
+          let u = ih.0 w.1 in
+          (and_from (span_has x p) (has_place xs ps) v.0 u.0, and_from (span_has y p) (has_place ys ps) v.1 u.1),
+      λ h.
+          let a = and_parts (span_has x p) (has_place xs ps) h.0 in
+          let b = and_parts (span_has y p) (has_place ys ps) h.1 in
+          and_from (span_has (both x y) p) (has_place (common xs ys) ps) (both_from x y p a.0 b.0) (ih.1 (a.1, b.1)),
+    )
+
+-- it ends by both
+pub common_ends : (xs ys : List (ℕ × ℕ)) → EndsBy xs (common xs ys)
+common_ends [] ys s = omega arith
+common_ends (x ∷ xs) [] s = omega arith
+common_ends (x ∷ xs) (y ∷ ys) zero = omega (arith, clamps)
+common_ends (x ∷ xs) (y ∷ ys) (suc s) = common_ends xs ys s
+
+-- it is the same the other way round
+pub common_turned : (xs ys : List (ℕ × ℕ)) → common xs ys ≡ common ys xs
+common_turned [] [] = refl
+common_turned [] (y ∷ ys) = refl
+common_turned (x ∷ xs) [] = refl
+common_turned (x ∷ xs) (y ∷ ys) = λ t. (turned_max x.0 y.0 t, turned_min x.1 y.1 t) ∷ common_turned xs ys t
+  where
+    turned_max : (a b : ℕ) → max a b ≡ max b a
+    turned_max a b = omega (arith, clamps)
+
+    turned_min : (a b : ℕ) → min a b ≡ min b a
+    turned_min a b = omega (arith, clamps)
+
+pub cell_from : (s : ℕ × ℕ) → s.0 < s.1 → has_cell s ≡ true
+cell_from s h = within s.0 s.1 h
+  where
+    within : (a z : ℕ) → a < z → ltb a z ≡ true
+    within a z l = grind (arith, nat_tests)
+
+pub cell_parts : (s : ℕ × ℕ) → has_cell s ≡ true → s.0 < s.1
+cell_parts s h = within s.0 s.1 h
+  where
+    within : (a z : ℕ) → ltb a z ≡ true → a < z
+    within a z l = grind (arith, nat_tests)
+
+-- a box that has a place of all its sides has a cell on each
+pub cells_from : (y : List (ℕ × ℕ)) (place : List ℕ) → length place ≡ length y → At y place → HaveCells y
+cells_from [] place e h = refl
+cells_from (x ∷ xs) [] e h = absurd (omega (arith, e))
+cells_from (x ∷ xs) (p ∷ ps) e h =
+    let w = and_parts (span_has x p) (has_place xs ps) h in
+    let v = span_parts x p w.0 in
+    let a = v.0 in
+    let b = v.1 in
+    and_from (has_cell x) (list_all has_cell xs) (cell_from x (omega arith)) (cells_from xs ps (omega (arith, e)) w.1)
+
+-- two rows that have a first side with a cell in common
+pub first_meets : (xs ys : List (ℕ × ℕ)) → length xs ≡ length ys → 0 < length xs → HaveCells (common xs ys) → ((first_of ys).0 < (first_of xs).1) × ((first_of xs).0 < (first_of ys).1)
+first_meets [] ys e s h = absurd (omega arith)
+first_meets (x ∷ xs) [] e s h = absurd (omega (arith, e))
+first_meets (x ∷ xs) (y ∷ ys) e s h =
+    let w = cell_parts (both x y) (and_parts (has_cell (both x y)) (list_all has_cell (common xs ys)) h).0 in
+    let l : max x.0 y.0 < min x.1 y.1 = w in
+    (omega (arith, clamps), omega (arith, clamps))
+
+-- what has a side with the later of two first cells does not begin before
+pub first_common : (xs ys zs : List (ℕ × ℕ)) → length xs ≡ length ys → length xs ≡ length zs → (first_of ys).0 ≤ (first_of zs).0 → (first_of (common xs ys)).0 ≤ (first_of (common xs zs)).0
+first_common [] ys zs e f h = omega arith
+first_common (x ∷ xs) [] zs e f h = absurd (omega (arith, e))
+first_common (x ∷ xs) (y ∷ ys) [] e f h = absurd (omega (arith, f))
+first_common (x ∷ xs) (y ∷ ys) (z ∷ zs) e f h = omega (arith, clamps)

@@ -1,0 +1,170 @@
+-- Left boxes less the right boxes of their keys.
+use Rattle.std.proofs.Common.{◌≡◌, ℕ, ◌+◌, ◌<◌, ◌≤◌, List, ◌++◌, length, get_or, map, ◌↔◌, inl, inr, arith, sym, ap, subst, refl, ◌∙◌, Ordering}
+use Rattle.std.specs.declared.cmp.Ordering.TheVariants.{Equal}
+use Rattle.std.specs.Cmp.{IsTotalOrder}
+use Rattle.std.specs.List.{All}
+use Rattle.std.proofs.lemmas.Bool.{cases_lt}
+use Rattle.std.proofs.lemmas.Cmp.{tied_itself}
+use Rattle.std.proofs.lemmas.List.Elements.{All-append, All-map, All-same}
+use Rattle.packing_core.specs.Covering.{Among}
+use Rattle.packing_core.proofs.AmongLemmas.{among_append, among_map}
+use Rattle.slice_core.specs.PackedRows.{HasRow}
+use Rattle.slice_core.specs.Rows.{sides_of}
+use Rattle.slice_core.specs.declared.inward.IndexBox.{IndexBox}
+use Rattle.box_core.specs.Common.{At, EndsBy, first_of, common, HaveCells}
+use Rattle.box_core.specs.Rows.{IsRow, KeyBox}
+use Rattle.box_core.specs.Meetings.{Met, IsMeeting, StandByLeft}
+use Rattle.box_core.specs.Outside.{HasBox, IsClear}
+use Rattle.box_core.proofs.RowLemmas.{row_among, among_row, one_row, some_row, row_sides}
+use Rattle.box_core.proofs.PlaceLemmas.{at_common, common_length, cells_from}
+
+-- the holes before `first` are in left rows before this one, and the others are not
+pub record IsFrom (holes : List Met) (row first : ℕ) : Type 0 where
+  pub within : first ≤ length holes
+  pub passed : (q : ℕ) (m : Met) → IsRow holes q m → q < first → m.0.0 < row
+  pub others : (q : ℕ) (m : Met) → IsRow holes q m → first ≤ q → row ≤ m.0.0
+
+pub from_first : (holes : List Met) → IsFrom holes 0 0
+from_first holes = record {
+  within = omega arith;
+  passed = λ q m h l. absurd (omega arith);
+  others = λ q m h l. omega arith;
+}
+
+module _ {P : Type 0} (order : P → P → Ordering) (total : IsTotalOrder order) (separates : (a b : P) → order a b ≡ Equal → a ≡ b)
+    (left right : List (KeyBox P)) (k : ℕ) (ls : All (λ x. length x.1 ≡ k) left) (rs : All (λ x. length x.1 ≡ k) right)
+    (holes : List Met) (is : (m : Met) → Among m holes ↔ IsMeeting order left right m) (stand : StandByLeft holes) where
+  module _ (row first end : ℕ) (now : IsFrom holes row first) (from : first ≤ end) (within : end ≤ length holes)
+      (same : (q : ℕ) (m : Met) → IsRow holes q m → first ≤ q → q < end → m.0.0 ≡ row) (other : (m : Met) → IsRow holes end m → m.0.0 ≡ row → ⊥) where
+    pub from_more : IsFrom holes (row + 1) end
+    from_more = record {
+      within = within;
+      passed = λ q m h l. elim (cases_lt q first) [
+        | inl w ↦ let a = now.passed q m h w in omega arith
+        | inr w ↦ let a = same q m h w l in omega arith
+      ];
+      others = λ q m h l. after q m h l;
+    }
+      where
+        after : (q : ℕ) (m : Met) → IsRow holes q m → end ≤ q → row + 1 ≤ m.0.0
+        after q m h l =
+            let below : end < length holes = let a = h.0 in omega arith in
+            let n : Met = get_or holes end m in
+            let r : IsRow holes end n = some_row holes end m below in
+            let a = now.others end n r from in
+            let b : n.0.0 ≡ row → ⊥ = other n r in
+            let c : row < n.0.0 = elim (cases_lt row n.0.0) [ inl w ↦ w | inr w ↦ absurd (b (omega arith)) ] in
+            elim (stand end q n m l r h) [ inl w ↦ omega arith | inr w ↦ let e = w.0 in omega arith ]
+
+    module _ (x : KeyBox P) (at : IsRow left row x) where
+      -- a hole of the row is the box that it has in common with a right row
+      pub hole_sides : (q : ℕ) (m : Met) → IsRow holes q m → first ≤ q → q < end → length m.1 ≡ length x.1
+      hole_sides q m h a b =
+          let w = (is m).0 (row_among holes q m h) in
+          let e = same q m h a b in
+          let s : w.0 ≡ x = one_row left row w.0 x (subst (λ i. IsRow left i w.0) e w.2) at in
+          let f = row_sides k left ls row x at in
+          let g = row_sides k right rs m.0.1 w.1 w.3 in
+          let c : common x.1 w.1.1 ≡ m.1 = subst (λ (z : KeyBox P). common z.1 w.1.1 ≡ m.1) s w.5 in
+          sym (ap length c) ∙ common_length x.1 w.1.1 (f ∙ sym g)
+
+      pub hole_order : (q r : ℕ) (m n : Met) → IsRow holes q m → IsRow holes r n → first ≤ q → q ≤ r → r < end → (first_of m.1).0 ≤ (first_of n.1).0
+      hole_order q r m n h g a b c =
+          let e = same q m h a (omega arith) in
+          let f = same r n g (omega arith) c in
+          elim (stand q r m n b h g) [ inl w ↦ omega arith | inr w ↦ w.1 ]
+
+      -- outside the holes of the row no right row of its key has the place
+      clear_is : (place : List ℕ) → length place ≡ k → At x.1 place → IsClear holes first end place ↔ (HasRow right x.0 place → ⊥)
+      clear_is place f g = (
+        λ c h.
+            let y : KeyBox P = (x.0, h.0) in
+            let j = among_row right y h.1 in
+            let lx = row_sides k left ls row x at in
+            let ly = row_sides k right rs j.0 y j.1 in
+            let b : List (ℕ × ℕ) = common x.1 h.0 in
+            let here : At b place = (at_common x.1 h.0 place (lx ∙ sym ly)).1 (g, h.2) in
+            let cells : HaveCells b = cells_from b place (f ∙ sym lx ∙ sym (common_length x.1 h.0 (lx ∙ sym ly))) here in
+            let m : Met = ((row, j.0), b) in
+            let found = among_row holes m ((is m).1 (x, y, at, j.1, tied_itself total x.0, refl, cells)) in
+            let q : ℕ = found.0 in
+            let low : first ≤ q = elim (cases_lt q first) [ inl w ↦ absurd (let a = now.passed q m found.1 w in omega arith) | inr w ↦ w ] in
+            let high : q < end = elim (cases_lt q end) [ inl w ↦ w | inr w ↦ absurd (let a = from_more.others q m found.1 w in omega arith) ] in
+            c q m found.1 low high here,
+        λ n q m h a b here.
+            let w = (is m).0 (row_among holes q m h) in
+            let e = same q m h a b in
+            let s : w.0 ≡ x = one_row left row w.0 x (subst (λ i. IsRow left i w.0) e w.2) at in
+            let lx = row_sides k left ls row x at in
+            let ly = row_sides k right rs m.0.1 w.1 w.3 in
+            let c : common x.1 w.1.1 ≡ m.1 = subst (λ (z : KeyBox P). common z.1 w.1.1 ≡ m.1) s w.5 in
+            let key : x.0 ≡ w.1.0 = separates x.0 w.1.0 (subst (λ (z : KeyBox P). order z.0 w.1.0 ≡ Equal) s w.4) in
+            let v = (at_common x.1 w.1.1 place (lx ∙ sym ly)).0 (subst (λ z. At z place) (sym c) here) in
+            n (w.1.1, subst (λ z. Among (z, w.1.1) right) (sym key) (row_among right m.0.1 w.1 w.3), v.1),
+      )
+
+      module _ {Q : Type 0} (labels : List Q) (l0 : Q) (named : IsRow labels row l0) (parts : List IndexBox) (old new : List (KeyBox Q))
+          (made : new ≡ old ++ map (λ (z : IndexBox). (l0, z.sides.items)) parts)
+          (places : (place : List ℕ) → length place ≡ length x.1 → HasBox (sides_of parts) place ↔ At x.1 place × IsClear holes first end place) where
+        -- what is there of the rows before the n-th
+        abbrev Done : ℕ → Q → List ℕ → Type 0
+        Done n l place = (i : ℕ) × (i < n) × (z : KeyBox P) × IsRow left i z × IsRow labels i l × At z.1 place × (HasRow right z.0 place → ⊥)
+
+        in_parts : (l : Q) (place : List ℕ) → HasRow (map (λ (z : IndexBox). (l0, z.sides.items)) parts) l place ↔ (l0 ≡ l) × HasBox (sides_of parts) place
+        in_parts l place = (
+          λ h.
+              let w = (among_map (λ (z : IndexBox). (l0, z.sides.items)) (l, h.0) parts).0 h.1 in
+              let b : List (ℕ × ℕ) = (w.0).sides.items in
+              let e : b ≡ h.0 = ap (λ (z : KeyBox Q). z.1) w.2 in
+              (ap (λ (z : KeyBox Q). z.0) w.2, (b, (among_map (λ (z : IndexBox). z.sides.items) b parts).1 (w.0, w.1, refl), subst (λ z. At z place) (sym e) h.2)),
+          λ h.
+              let w = (among_map (λ (z : IndexBox). z.sides.items) h.1.0 parts).0 h.1.1 in
+              (h.1.0, (among_map (λ (z : IndexBox). (l0, z.sides.items)) (l, h.1.0) parts).1 (w.0, w.1, λ t. (h.0 t, w.2 t)), h.1.2),
+        )
+
+        pub rest_turn : ((l : Q) (place : List ℕ) → length place ≡ k → HasRow old l place ↔ Done row l place) → (l : Q) (place : List ℕ) → length place ≡ k → HasRow new l place ↔ Done (row + 1) l place
+        rest_turn before l place f =
+            let b = before l place f in
+            let p = in_parts l place in
+            let lx = row_sides k left ls row x at in
+            let q = places place (f ∙ sym lx) in
+            subst (λ zs. HasRow zs l place ↔ Done (row + 1) l place) (sym made) (
+              λ h. elim ((among_append (l, h.0) old (map (λ (z : IndexBox). (l0, z.sides.items)) parts)).0 h.1) [
+                | inl w ↦ let v = b.0 (h.0, w, h.2) in let u = v.1 in (v.0, omega arith, v.2, v.3, v.4, v.5, v.6)
+                | inr w ↦
+                    let v = p.0 (h.0, w, h.2) in
+                    let u = q.0 v.1 in
+                    (row, omega arith, x, at, subst (IsRow labels row) v.0 named, u.0, (clear_is place f u.0).0 u.1)
+              ],
+              λ h. elim (cases_lt h.0 row) [
+                | inl w ↦
+                    let v = b.1 (h.0, w, h.2, h.3, h.4, h.5, h.6) in
+                    (v.0, (among_append (l, v.0) old (map (λ (z : IndexBox). (l0, z.sides.items)) parts)).1 (inl v.1), v.2)
+                | inr w ↦
+                    let u = h.1 in
+                    let e : h.0 ≡ row = omega arith in
+                    let s : h.2 ≡ x = one_row left row h.2 x (subst (λ i. IsRow left i h.2) e h.3) at in
+                    let n : l0 ≡ l = one_row labels row l0 l named (subst (λ i. IsRow labels i l) e h.4) in
+                    let here : At x.1 place = subst (λ (z : KeyBox P). At z.1 place) s h.5 in
+                    let not : HasRow right x.0 place → ⊥ = subst (λ (z : KeyBox P). HasRow right z.0 place → ⊥) s h.6 in
+                    let v = p.1 (n, q.1 (here, (clear_is place f here).1 not)) in
+                    (v.0, (among_append (l, v.0) old (map (λ (z : IndexBox). (l0, z.sides.items)) parts)).1 (inr v.1), v.2)
+              ],
+            )
+
+        pub rest_sides : All (λ (z : KeyBox Q). length z.1 ≡ k) old → All (λ (z : IndexBox). length z.sides.items ≡ length x.1) parts → All (λ (z : KeyBox Q). length z.1 ≡ k) new
+        rest_sides a b =
+            let lx = row_sides k left ls row x at in
+            All-same (λ (z : KeyBox Q). length z.1 ≡ k) new (old ++ map (λ (z : IndexBox). (l0, z.sides.items)) parts) made
+            (All-append (λ (z : KeyBox Q). length z.1 ≡ k) old (map (λ (z : IndexBox). (l0, z.sides.items)) parts) a
+            (All-map (λ (z : KeyBox Q). length z.1 ≡ k) (λ (z : IndexBox). (l0, z.sides.items)) parts (subst (λ n. All (λ (z : IndexBox). length z.sides.items ≡ n) parts) lx b)))
+
+        pub rest_ends : ((z : KeyBox Q) → Among z old → (w : KeyBox P) × Among w left × EndsBy w.1 z.1) → ((z : List (ℕ × ℕ)) → Among z (sides_of parts) → EndsBy x.1 z) → (z : KeyBox Q) → Among z new → (w : KeyBox P) × Among w left × EndsBy w.1 z.1
+        rest_ends a b z h = elim ((among_append z old (map (λ (p : IndexBox). (l0, p.sides.items)) parts)).0 (subst (Among z) made h)) [
+          | inl w ↦ a z w
+          | inr w ↦
+              let v = (among_map (λ (p : IndexBox). (l0, p.sides.items)) z parts).0 w in
+              let y : List (ℕ × ℕ) = (v.0).sides.items in
+              let e : y ≡ z.1 = ap (λ (k : KeyBox Q). k.1) v.2 in
+              (x, row_among left row x at, subst (EndsBy x.1) e (b y ((among_map (λ (p : IndexBox). p.sides.items) y parts).1 (v.0, v.1, refl))))
+        ]

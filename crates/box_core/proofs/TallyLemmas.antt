@@ -1,0 +1,310 @@
+-- Marks of rows that come and go.
+use Rattle.std.proofs.Common.{◌≡◌, ◌≢◌, ℕ, zero, suc, ◌+◌, ◌<◌, ◌≤◌, Bool, true, false, List, [], ◌∷◌, ◌++◌, set, length, get_or, ◌↔◌, ◌⊎◌, inl, inr, arith, sym, ap, subst, refl, ◌∙◌, Option, Some, None}
+use Rattle.std.proofs.lemmas.Bool.{cases_lt, true≢false, and_parts, and_from}
+use Rattle.std.proofs.lemmas.List.{get_or-set_same, get_or-set_other, length-set}
+use Rattle.packing_core.specs.Covering.{Among}
+use Rattle.packing_core.specs.Live.{span_has}
+use Rattle.packing_core.proofs.AmongLemmas.{among_append}
+use Rattle.slice_core.specs.PackedRows.{HasRow}
+use Rattle.slice_core.proofs.UnitedLemmas.{IsBeside}
+use Rattle.box_core.specs.Common.{At}
+use Rattle.box_core.specs.Rows.{KeyBox}
+use Rattle.box_core.specs.Tallies.{IsIn, span_at, pair_at, IsEntered, IsLeft, AreEntered, AreLeft, AreBy, IsKept, boxed, IsTallied}
+use Rattle.box_core.proofs.PlaceLemmas.{span_parts, span_from}
+
+equal_or : (a b : ℕ) → (a ≡ b) ⊎ (a ≢ b)
+equal_or a b = elim (cases_lt a b) [
+  | inl l ↦ inr (λ e. omega arith)
+  | inr l ↦ elim (cases_lt b a) [ inl m ↦ inr (λ e. omega arith) | inr m ↦ inl (omega arith) ]
+]
+
+module _ (spans : List (ℕ × ℕ)) (cell row : ℕ) (old new : List Bool) where
+  pub entered_from : new ≡ set old row true → row < length old → cell < (span_at spans row).1 → IsEntered spans cell row old new
+  entered_from e inside l = record {
+    count = ap length e ∙ length-set old row true;
+    marks = λ r. (
+      λ h. elim (equal_or r row) [
+        | inl q ↦ inr (q, l)
+        | inr n ↦ inl (sym (get_or-set_other old row r true false n) ∙ subst (λ ms. IsIn ms r) e h)
+      ],
+      λ h. subst (λ ms. IsIn ms r) (sym e) (elim (equal_or r row) [
+        | inl q ↦ subst (IsIn (set old row true)) (sym q) (get_or-set_same old row true false inside)
+        | inr n ↦ elim h [ inl w ↦ get_or-set_other old row r true false n ∙ w | inr w ↦ absurd (n w.0) ]
+      ]),
+    );
+  }
+
+  pub entered_not : new ≡ old → (IsIn old row ⊎ ((span_at spans row).1 ≤ cell)) → IsEntered spans cell row old new
+  entered_not e h = subst (λ ms. IsEntered spans cell row old ms) (sym e) (record {
+    count = refl;
+    marks = λ r. (
+      λ w. inl w,
+      λ w. elim w [ inl v ↦ v | inr v ↦ elim h [ inl u ↦ subst (IsIn old) (sym v.0) u | inr u ↦ (let l = v.1 in absurd (omega arith)) ] ],
+    );
+  })
+
+  pub left_from : new ≡ set old row false → row < length old → (span_at spans row).1 ≤ cell → IsLeft spans cell row old new
+  left_from e inside l = record {
+    count = ap length e ∙ length-set old row false;
+    marks = λ r. (
+      λ h. elim (equal_or r row) [
+        | inl q ↦ absurd (true≢false (sym (subst (IsIn (set old row false)) q (subst (λ ms. IsIn ms r) e h)) ∙ get_or-set_same old row false false inside))
+        | inr n ↦ (sym (get_or-set_other old row r false false n) ∙ subst (λ ms. IsIn ms r) e h, λ q. absurd (n q))
+      ],
+      λ h. subst (λ ms. IsIn ms r) (sym e) (elim (equal_or r row) [
+        | inl q ↦ (let m = h.1 q in absurd (omega arith))
+        | inr n ↦ get_or-set_other old row r false false n ∙ h.0
+      ]),
+    );
+  }
+
+  pub left_not : new ≡ old → ((get_or old row false ≡ false) ⊎ (cell < (span_at spans row).1)) → IsLeft spans cell row old new
+  left_not e h = subst (λ ms. IsLeft spans cell row old ms) (sym e) (record {
+    count = refl;
+    marks = λ r. (
+      λ w. (w, λ q. elim h [ inl u ↦ absurd (true≢false (sym (subst (IsIn old) q w) ∙ u)) | inr u ↦ u ]),
+      λ w. w.0,
+    );
+  })
+
+-- ---- one more start, one more end
+
+pub enter_step : (spans starts : List (ℕ × ℕ)) (first n cell : ℕ) → first ≤ n → (old mid new : List Bool)
+    → ((r : ℕ) → IsIn mid r ↔ IsIn old r ⊎ ((j : ℕ) × (first ≤ j) × (j < n) × ((pair_at starts j).1 ≡ r) × (cell < (span_at spans r).1)))
+    → IsEntered spans cell (pair_at starts n).1 mid new
+    → (r : ℕ) → IsIn new r ↔ IsIn old r ⊎ ((j : ℕ) × (first ≤ j) × (j < n + 1) × ((pair_at starts j).1 ≡ r) × (cell < (span_at spans r).1))
+enter_step spans starts first n cell from old mid new was now r =
+    let a = was r in
+    let b = now.marks r in (
+      λ h. elim (b.0 h) [
+        | inl w ↦ elim (a.0 w) [ inl v ↦ inl v | inr v ↦ (let l = v.2 in inr (v.0, v.1, omega arith, v.3, v.4)) ]
+        | inr w ↦ inr (n, from, omega arith, sym w.0, subst (λ q. cell < (span_at spans q).1) (sym w.0) w.1)
+      ],
+      λ h. b.1 (elim h [
+        | inl w ↦ inl (a.1 (inl w))
+        | inr w ↦ elim (cases_lt w.0 n) [
+          | inl l ↦ inl (a.1 (inr (w.0, w.1, l, w.3, w.4)))
+          | inr l ↦
+              let m = w.2 in
+              let q : w.0 ≡ n = omega arith in
+              let e : (pair_at starts n).1 ≡ r = subst (λ j. (pair_at starts j).1 ≡ r) q w.3 in
+              inr (sym e, subst (λ k. cell < (span_at spans k).1) (sym e) w.4)
+        ]
+      ]),
+    )
+
+pub leave_step : (spans ends : List (ℕ × ℕ)) (first n cell : ℕ) → first ≤ n → (old mid new : List Bool)
+    → ((r : ℕ) → IsIn mid r ↔ IsIn old r × ((j : ℕ) → first ≤ j → j < n → (pair_at ends j).1 ≡ r → cell < (span_at spans r).1))
+    → IsLeft spans cell (pair_at ends n).1 mid new
+    → (r : ℕ) → IsIn new r ↔ IsIn old r × ((j : ℕ) → first ≤ j → j < n + 1 → (pair_at ends j).1 ≡ r → cell < (span_at spans r).1)
+leave_step spans ends first n cell from old mid new was now r =
+    let a = was r in
+    let b = now.marks r in (
+      λ h.
+          let w = b.0 h in
+          let v = a.0 w.0 in (
+            v.0,
+            λ j f l e. elim (cases_lt j n) [
+              | inl m ↦ v.1 j f m e
+              | inr m ↦
+                  let q : j ≡ n = omega arith in
+                  let k : (pair_at ends n).1 ≡ r = subst (λ i. (pair_at ends i).1 ≡ r) q e in
+                  subst (λ i. cell < (span_at spans i).1) k (w.1 (sym k))
+            ],
+          ),
+      λ h. b.1 (
+        a.1 (h.0, λ j f l e. h.1 j f (omega arith) e),
+        λ q. subst (λ i. cell < (span_at spans i).1) q (h.1 n from (omega arith) (sym q)),
+      ),
+    )
+
+-- ---- come to a cell
+
+module _ (spans : List (ℕ × ℕ)) (rows : List ℕ) (starts ends : List (ℕ × ℕ))
+    (by_start : AreBy (λ r. (span_at spans r).0) rows starts) (by_end : AreBy (λ r. (span_at spans r).1) rows ends)
+    (n s e : ℕ) (old : List Bool) (was : IsKept spans rows starts ends n s e old)
+    (cell : ℕ) (up : n ≤ cell + 1) (t f : ℕ) (mid new : List Bool) (entered : AreEntered spans starts s t cell old mid) (left : AreLeft spans ends e f cell mid new) where
+  end_after : (r : ℕ) → Among r rows → n ≤ (span_at spans r).1 → ((j : ℕ) → e ≤ j → j < f → (pair_at ends j).1 ≡ r → cell < (span_at spans r).1) → cell < (span_at spans r).1
+  end_after r m l h =
+      let w = by_end.to r m in
+      let j : ℕ = w.0 in
+      let own : (pair_at ends j).0 ≡ (span_at spans r).1 = (by_end.from j w.1).1 ∙ ap (λ q. (span_at spans q).1) w.2 in
+      elim (cases_lt j e) [
+        | inl a ↦ (let b = was.ended j a in absurd (omega arith))
+        | inr a ↦ elim (cases_lt j f) [
+          | inl b ↦ h j a b w.2
+          | inr b ↦ (let inside = w.1 in let c = left.at.ahead (omega arith) in let d = by_end.order f j b inside in omega arith)
+        ]
+      ]
+
+  begun_before : (r : ℕ) → Among r rows → (span_at spans r).0 ≤ cell → cell < (span_at spans r).1 → IsIn mid r
+  begun_before r m l h =
+      let w = by_start.to r m in
+      let j : ℕ = w.0 in
+      let own : (pair_at starts j).0 ≡ (span_at spans r).0 = (by_start.from j w.1).1 ∙ ap (λ q. (span_at spans q).0) w.2 in
+      (entered.marks r).1 (elim (cases_lt j s) [
+        | inl a ↦ (let b = was.begun j a in inl ((was.marked r).1 (m, omega arith, omega arith)))
+        | inr a ↦ elim (cases_lt j t) [
+          | inl b ↦ inr (j, a, b, w.2, h)
+          | inr b ↦ (let inside = w.1 in let c = entered.at.ahead (omega arith) in let d = by_start.order t j b inside in absurd (omega arith))
+        ]
+      ])
+
+  pub kept_at : IsKept spans rows starts ends (cell + 1) t f new
+  kept_at = record {
+    starts_within = entered.at.within;
+    ends_within = left.at.within;
+    begun = λ j l. elim (cases_lt j s) [
+      | inl a ↦ (let b = was.begun j a in omega arith)
+      | inr a ↦ (let b = entered.at.passed j a l in omega arith)
+    ];
+    ended = λ j l. elim (cases_lt j e) [
+      | inl a ↦ (let b = was.ended j a in omega arith)
+      | inr a ↦ (let b = left.at.passed j a l in omega arith)
+    ];
+    marked = λ r. (
+      λ h.
+          let w = (left.marks r).0 h in
+          elim ((entered.marks r).0 w.0) [
+            | inl v ↦
+                let u = (was.marked r).0 v in
+                let a = u.1 in
+                let b = end_after r u.0 u.2 w.1 in
+                (u.0, omega arith, omega arith)
+            | inr v ↦
+                let j : ℕ = v.0 in
+                let b = v.2 in
+                let c = entered.at.within in
+                let u = by_start.from j (omega arith) in
+                let m : Among r rows = subst (λ q. Among q rows) v.3 u.0 in
+                let own : (pair_at starts j).0 ≡ (span_at spans r).0 = u.1 ∙ ap (λ q. (span_at spans q).0) v.3 in
+                let p = entered.at.passed j v.1 v.2 in
+                let d = v.4 in
+                (m, omega arith, omega arith)
+          ],
+      λ h.
+          let a = h.1 in
+          let b = h.2 in
+          let end : cell < (span_at spans r).1 = omega arith in
+          (left.marks r).1 (begun_before r h.0 (omega arith) end, λ j p q k. end),
+    );
+  }
+
+pub kept_first : (spans : List (ℕ × ℕ)) (rows : List ℕ) (starts ends : List (ℕ × ℕ)) (marks : List Bool) → ((r : ℕ) → IsIn marks r → ⊥) → IsKept spans rows starts ends 0 0 0 marks
+kept_first spans rows starts ends marks none = record {
+  starts_within = omega arith;
+  ends_within = omega arith;
+  begun = λ j l. omega arith;
+  ended = λ j l. omega arith;
+  marked = λ r. (λ h. absurd (none r h), λ h. let l = h.1 in absurd (omega arith));
+}
+
+-- ---- one more run of cells
+
+marks_same : (f g : List Bool) → length f ≡ length g → ((r : ℕ) → IsIn f r ↔ IsIn g r) → f ≡ g
+marks_same [] [] e h = refl
+marks_same [] (y ∷ ys) e h = absurd (omega (arith, e))
+marks_same (x ∷ xs) [] e h = absurd (omega (arith, e))
+marks_same (x ∷ xs) (y ∷ ys) e h = λ t. same x y (h 0) t ∷ marks_same xs ys (omega (arith, e)) (λ r. h (suc r)) t
+  where
+    same : (a b : Bool) → ((a ≡ true) ↔ (b ≡ true)) → a ≡ b
+    same true true i = refl
+    same false false i = refl
+    same true false i = sym (i.0 refl)
+    same false true i = i.1 refl
+
+some_in : (f : List Bool) → ((r : ℕ) × IsIn f r) ⊎ ((r : ℕ) → IsIn f r → ⊥)
+some_in [] = inr (λ r h. true≢false (sym h))
+some_in (true ∷ fs) = inl (0, refl)
+some_in (false ∷ fs) = elim (some_in fs) [ inl w ↦ inl (suc w.0, w.1) | inr n ↦ inr (λ r h. later r h n) ]
+  where
+    later : (r : ℕ) → IsIn (false ∷ fs) r → ((q : ℕ) → IsIn fs q → ⊥) → ⊥
+    later zero h n = true≢false (sym h)
+    later (suc r) h n = n r h
+
+has_boxed : {P : Type 0} (a z : ℕ) (o : Option P) (l : P) (j : ℕ) → HasRow (boxed (a, z) o) l (j ∷ []) ↔ (o ≡ Some l) × (a ≤ j) × (j < z)
+has_boxed a z None l j = (λ h. absurd h.1, λ h. absurd (none_some h.0))
+  where
+    is_some : {Q : Type 0} → Option Q → Bool
+    is_some None = false
+    is_some (Some q) = true
+
+    none_some : None ≡ Some l → ⊥
+    none_some e = true≢false (sym (ap is_some e))
+has_boxed {P} a z (Some k) l j = (
+  λ h. elim h.1 [
+    | inl e ↦
+        let y : (a, z) ∷ [] ≡ h.0 = ap (λ (x : KeyBox P). x.1) e in
+        let s = span_parts (a, z) j (and_parts (span_has (a, z) j) true (subst (λ y. At y (j ∷ [])) (sym y) h.2)).0 in
+        (ap Some (ap (λ (x : KeyBox P). x.0) e), s.0, s.1)
+    | inr w ↦ absurd w
+  ],
+  λ h. ((a, z) ∷ [], inl (λ t. (some_or k (h.0 t), (a, z) ∷ [])), and_from (span_has (a, z) j) true (span_from (a, z) j h.1 h.2) refl),
+)
+  where
+    some_or : P → Option P → P
+    some_or d None = d
+    some_or d (Some q) = q
+
+module _ {P : Type 0} (means : List Bool → Option P) (spans : List (ℕ × ℕ)) (rows : List ℕ) (m : ℕ) where
+  -- the marks of the cell a are those of each cell up to before z
+  given_at : (starts ends : List (ℕ × ℕ)) (s e a z : ℕ) (f : List Bool) → IsKept spans rows starts ends (a + 1) s e f → length f ≡ m
+      → ((r : ℕ) → Among r rows → IsBeside a z (span_at spans r).0 × IsBeside a z (span_at spans r).1)
+      → (l : P) (j : ℕ) → a ≤ j → j < z → IsTallied means spans rows m l j ↔ (means f ≡ Some l)
+  given_at starts ends s e a z f kept n cut l j p q = (
+    λ h.
+        let same : h.0 ≡ f = marks_same h.0 f (h.1 ∙ sym n) (λ r. (λ w. (kept.marked r).1 (to r ((h.2 r).0 w)), λ w. (h.2 r).1 (from r ((kept.marked r).0 w)))) in
+        subst (λ g. means g ≡ Some l) same h.3,
+    λ h. (f, n, (λ r. (λ w. from r ((kept.marked r).0 w), λ w. (kept.marked r).1 (to r w))), h),
+  )
+    where
+      to : (r : ℕ) → Among r rows × ((span_at spans r).0 ≤ j) × (j < (span_at spans r).1) → Among r rows × ((span_at spans r).0 < a + 1) × (a + 1 ≤ (span_at spans r).1)
+      to r w =
+          let c = cut r w.0 in
+          let x = w.1 in
+          let y = w.2 in
+          (w.0, elim c.0 [ inl u ↦ omega arith | inr u ↦ omega arith ], omega arith)
+
+      from : (r : ℕ) → Among r rows × ((span_at spans r).0 < a + 1) × (a + 1 ≤ (span_at spans r).1) → Among r rows × ((span_at spans r).0 ≤ j) × (j < (span_at spans r).1)
+      from r w =
+          let c = cut r w.0 in
+          let x = w.1 in
+          let y = w.2 in
+          (w.0, omega arith, elim c.1 [ inl u ↦ omega arith | inr u ↦ omega arith ])
+
+  pub tallied_turn : (starts ends : List (ℕ × ℕ)) (s e a z : ℕ) (f : List Bool) → a ≤ z → IsKept spans rows starts ends (a + 1) s e f → length f ≡ m
+      → ((r : ℕ) → Among r rows → IsBeside a z (span_at spans r).0 × IsBeside a z (span_at spans r).1)
+      → (first old new : List (KeyBox P)) (o : Option P) → o ≡ means f → new ≡ old ++ boxed (a, z) o
+      → ((l : P) (j : ℕ) → HasRow old l (j ∷ []) ↔ HasRow first l (j ∷ []) ⊎ ((j < a) × IsTallied means spans rows m l j))
+      → (l : P) (j : ℕ) → HasRow new l (j ∷ []) ↔ HasRow first l (j ∷ []) ⊎ ((j < z) × IsTallied means spans rows m l j)
+  tallied_turn starts ends s e a z f up kept n cut first old new o is made before l j =
+      let b = before l j in
+      let p = has_boxed a z o l j in
+      let g = given_at starts ends s e a z f kept n cut l j in
+      subst (λ zs. HasRow zs l (j ∷ []) ↔ HasRow first l (j ∷ []) ⊎ ((j < z) × IsTallied means spans rows m l j)) (sym made) (
+        λ h. elim ((among_append (l, h.0) old (boxed (a, z) o)).0 h.1) [
+          | inl w ↦ elim (b.0 (h.0, w, h.2)) [ inl v ↦ inl v | inr v ↦ (let u = v.0 in inr (omega arith, v.1)) ]
+          | inr w ↦ let v = p.0 (h.0, w, h.2) in inr (v.2, (g v.1 v.2).1 (sym is ∙ v.0))
+        ],
+        λ h. elim h [
+          | inl w ↦ let v = b.1 (inl w) in (v.0, (among_append (l, v.0) old (boxed (a, z) o)).1 (inl v.1), v.2)
+          | inr w ↦ elim (cases_lt j a) [
+            | inl q ↦ let v = b.1 (inr (q, w.1)) in (v.0, (among_append (l, v.0) old (boxed (a, z) o)).1 (inl v.1), v.2)
+            | inr q ↦ let v = p.1 (is ∙ (g q w.0).0 w.1, q, w.0) in (v.0, (among_append (l, v.0) old (boxed (a, z) o)).1 (inr v.1), v.2)
+          ]
+        ],
+      )
+
+  -- no label is given after all ends
+  pub tallied_below : ((f : List Bool) → ((r : ℕ) → IsIn f r → ⊥) → means f ≡ None) → (count : ℕ) → ((r : ℕ) → Among r rows → (span_at spans r).1 ≤ count) → (l : P) (j : ℕ) → IsTallied means spans rows m l j → j < count
+  tallied_below nothing count last l j h = elim (some_in h.0) [
+    | inl w ↦ let v = (h.2 w.0).0 w.1 in let a = v.2 in let b = last w.0 v.0 in omega arith
+    | inr n ↦ absurd (none_some (sym (nothing h.0 n) ∙ h.3))
+  ]
+    where
+      is_some : Option P → Bool
+      is_some None = false
+      is_some (Some q) = true
+
+      none_some : None ≡ Some l → ⊥
+      none_some e = true≢false (sym (ap is_some e))

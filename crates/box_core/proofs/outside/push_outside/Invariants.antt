@@ -1,0 +1,11 @@
+use Rattle.std.proofs.Common.{◌≡◌, ◌++◌, length}
+use Rattle.slice_core.specs.Rows.{sides_of}
+use Rattle.box_core.specs.Outside.{narrowed, outside_to}
+use Rattle.box_core.proofs.outside.push_outside.Given as goal
+
+abbrev pub invariant-loop-s : goal.invariant-loop-s
+invariant-loop-s l = record {
+  sides : length l.rest.sides.items ≡ length l.hole.1;
+  rest : l.rest.sides.items ≡ narrowed l.s l.fn.piece.sides.items l.hole.1;
+  out : sides_of l.out.items ≡ sides_of l.fn.out.items ++ outside_to l.s l.fn.piece.sides.items l.hole.1;
+}

@@ -1,0 +1,33 @@
+-- Boxes with a key and a label by the key alone.
+use Rattle.std.specs.Prelude.{◌≡◌, ℕ, List, length}
+use Rattle.std.specs.declared.cmp.Ordering.{Ordering}
+use Rattle.std.specs.Cmp.{IsTotalOrder}
+use Rattle.std.proofs.lemmas.Cmp.{on_total}
+use Rattle.slice_core.specs.Rows.{key_cmp, key_total}
+use Rattle.box_core.specs.Answers.{KeyedBox}
+use Rattle.packing_core.specs.Covering.{Among}
+use Rattle.box_core.specs.Rows.{KeyBox, IsRow}
+
+-- without the label
+abbrev pub key_of : {K P : Type 0} → KeyedBox K P → KeyBox K
+key_of x = (x.0, x.2)
+
+abbrev pub label_of : {K P : Type 0} → KeyedBox K P → P
+label_of x = x.1
+
+-- by key, and then by sides
+abbrev pub keyed_cmp : {K P : Type 0} → (K → K → Ordering) → KeyedBox K P → KeyedBox K P → Ordering
+keyed_cmp order a b = key_cmp order (key_of a) (key_of b)
+
+pub keyed_total : {K P : Type 0} {order : K → K → Ordering} → IsTotalOrder order → IsTotalOrder (keyed_cmp {K = K} {P = P} order)
+keyed_total {K} {P} o = on_total (λ (x : KeyedBox K P). key_of x) (key_total o)
+
+-- with the label as its key too
+abbrev pub doubled : {P : Type 0} → KeyBox P → KeyedBox P P
+doubled x = (x.0, x.0, x.1)
+
+-- the key and the label of one number are those of one row, and each row has its number
+pub record ArePaired {K P : Type 0} (rows : List (KeyedBox K P)) (keys : List (KeyBox K)) (labels : List P) : Type 0 where
+  pub count : length labels ≡ length keys
+  pub from : (i : ℕ) (x : KeyBox K) (l : P) → IsRow keys i x → IsRow labels i l → Among (x.0, l, x.1) rows
+  pub to : (z : KeyedBox K P) → Among z rows → (i : ℕ) × IsRow keys i (key_of z) × IsRow labels i (label_of z)

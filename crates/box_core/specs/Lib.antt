@@ -1,0 +1,9 @@
+pub mod Common
+pub mod Rows
+pub mod Meetings
+pub mod Outside
+pub mod Answers
+pub mod Keys
+pub mod Apartness
+pub mod Groups
+pub mod Tallies

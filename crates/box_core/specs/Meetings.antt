@@ -1,0 +1,68 @@
+-- Left and right rows of one key that have cells in common.
+use Rattle.std.specs.Prelude.{◌≡◌, ℕ, ◌+◌, ◌<◌, ◌≤◌, ◌⊎◌, Bool, cond, List, [], ◌∷◌, map}
+use Rattle.std.specs.List.{list_all}
+use Rattle.std.specs.declared.cmp.Ordering.{Ordering}
+use Rattle.std.specs.declared.cmp.Ordering.TheVariants.{Equal}
+use Rattle.packing_core.specs.Covering.{Among}
+use Rattle.packing_core.specs.Live.{box}
+use Rattle.slice_core.specs.PackedRows.{HasRow}
+use Rattle.box_core.specs.Common.{At, first_of, common, has_cell, HaveCells}
+use Rattle.box_core.specs.Rows.{IsRow, KeyBox}
+
+-- the numbers of two rows, and the box that they have in common
+abbrev pub Met : Type 0
+Met = (ℕ × ℕ) × List (ℕ × ℕ)
+
+-- rows of those numbers are of one key, and have just that box in common
+abbrev pub IsMeeting : {P : Type 0} → (P → P → Ordering) → List (KeyBox P) → List (KeyBox P) → Met → Type 0
+IsMeeting {P} order left right m =
+    (x : KeyBox P) × (y : KeyBox P) × IsRow left m.0.0 x × IsRow right m.0.1 y
+    × (order x.0 y.0 ≡ Equal) × (common x.1 y.1 ≡ m.1) × HaveCells m.1
+
+-- the boxes of the rows
+abbrev pub boxes_in : {P : Type 0} → List (KeyBox P) → List (List (ℕ × ℕ))
+boxes_in rows = map (λ x. x.1) rows
+
+-- the pair with what the boxes of those numbers have in common, if that has a cell
+abbrev pub met : List (List (ℕ × ℕ)) → List (List (ℕ × ℕ)) → ℕ × ℕ → List Met
+met lefts rights p =
+    let b = common (box lefts p.0) (box rights p.1) in
+    cond (list_all has_cell b) ((p, b) ∷ []) []
+
+-- the row p.1 of `rows` begins within the row p.0 of `from`, or strictly after its first cell and within it
+abbrev pub IsLater : {P : Type 0} → (P → P → Ordering) → Bool → List (KeyBox P) → List (KeyBox P) → ℕ × ℕ → Type 0
+IsLater {P} order strict from rows p =
+    (x : KeyBox P) × (y : KeyBox P) × IsRow from p.0 x × IsRow rows p.1 y
+    × (order y.0 x.0 ≡ Equal) × (cond strict ((first_of x.1).0 + 1) (first_of x.1).0 ≤ (first_of y.1).0)
+    × ((first_of y.1).0 < (first_of x.1).1)
+
+-- the two numbers the other way round
+abbrev pub turned : ℕ × ℕ → ℕ × ℕ
+turned p = (p.1, p.0)
+
+-- by their left rows, and those of one left row by their first cells
+abbrev pub StandByLeft : List Met → Type 0
+StandByLeft ms =
+    (a b : ℕ) (m n : Met) → a ≤ b → IsRow ms a m → IsRow ms b n
+    → (m.0.0 < n.0.0) ⊎ ((m.0.0 ≡ n.0.0) × ((first_of m.1).0 ≤ (first_of n.1).0))
+
+-- of the left rows whose label this is, some has the place and so has a right row of its key
+abbrev pub IsShared : {P Q : Type 0} → List (KeyBox P) → List Q → List (KeyBox P) → Q → List ℕ → Type 0
+IsShared {P} left labels right l place =
+    (i : ℕ) × (x : KeyBox P) × IsRow left i x × IsRow labels i l × At x.1 place × HasRow right x.0 place
+
+-- the box of a meeting with the label of its left row
+abbrev pub IsLabelled : {Q : Type 0} → List Q → List Met → KeyBox Q → Type 0
+IsLabelled labels ms z = (m : Met) × Among m ms × IsRow labels m.0.0 z.0 × (m.1 ≡ z.1)
+
+-- it is what the labels give of a left and a right row of one key that both have the place
+abbrev pub IsPair : {P A B R : Type 0} → (A → B → R) → List (KeyBox P) → List A → List (KeyBox P) → List B → R → List ℕ → Type 0
+IsPair {P} {A} {B} means left lefts right rights l place =
+    (i : ℕ) × (j : ℕ) × (x : KeyBox P) × (y : KeyBox P) × (a : A) × (b : B)
+    × IsRow left i x × IsRow right j y × IsRow lefts i a × IsRow rights j b
+    × (x.0 ≡ y.0) × At x.1 place × At y.1 place × (means a b ≡ l)
+
+-- the box of a meeting with what the labels of its rows give
+abbrev pub IsPairLabelled : {A B R : Type 0} → (A → B → R) → List A → List B → List Met → KeyBox R → Type 0
+IsPairLabelled {A} {B} means lefts rights ms z =
+    (m : Met) × (a : A) × (b : B) × Among m ms × IsRow lefts m.0.0 a × IsRow rights m.0.1 b × (means a b ≡ z.0) × (m.1 ≡ z.1)

@@ -1,0 +1,56 @@
+-- What of a box is outside a hole, and outside holes.
+use Rattle.std.specs.Prelude.{ℕ, zero, suc, ◌<◌, ◌≤◌, max, min, nat_lt, nat_le, Bool, cond, List, [], ◌∷◌, ◌++◌, get_or, set, length}
+use Rattle.packing_core.specs.Covering.{Among}
+use Rattle.packing_core.specs.Packed.{no_cells}
+use Rattle.slice_core.specs.PackedRows.{HasRow}
+use Rattle.box_core.specs.Common.{At, both, first_of}
+use Rattle.box_core.specs.Meetings.{Met}
+use Rattle.box_core.specs.Rows.{IsRow, KeyBox}
+
+-- some box has the place
+abbrev pub HasBox : List (List (ℕ × ℕ)) → List ℕ → Type 0
+HasBox boxes place = (y : List (ℕ × ℕ)) × Among y boxes × At y place
+
+-- the box with other cells on a side, where there are any
+abbrev pub part : List (ℕ × ℕ) → ℕ → ℕ × ℕ → List (List (ℕ × ℕ))
+part y side cells = cond (nat_lt cells.0 cells.1) (set y side cells ∷ []) []
+
+-- what of it is before the cells on the side, and what is after them
+abbrev pub beside : List (ℕ × ℕ) → ℕ → ℕ × ℕ → List (List (ℕ × ℕ))
+beside y side cells =
+    let own = get_or y side no_cells in
+    part y side (own.0, min own.1 cells.0) ++ part y side (max own.0 cells.1, own.1)
+
+-- the box within the hole on the first sides
+abbrev pub narrowed : ℕ → List (ℕ × ℕ) → List (ℕ × ℕ) → List (ℕ × ℕ)
+narrowed zero y hole = y
+narrowed (suc s) y hole = set (narrowed s y hole) s (both (get_or (narrowed s y hole) s no_cells) (get_or hole s no_cells))
+
+-- what of the box is outside the hole on the first sides
+abbrev pub outside_to : ℕ → List (ℕ × ℕ) → List (ℕ × ℕ) → List (List (ℕ × ℕ))
+outside_to zero y hole = []
+outside_to (suc s) y hole = outside_to s y hole ++ beside (narrowed s y hole) s (get_or hole s no_cells)
+
+abbrev pub outside : List (ℕ × ℕ) → List (ℕ × ℕ) → List (List (ℕ × ℕ))
+outside hole y = outside_to (length hole) y hole
+
+-- whether the box ends before the hole begins
+abbrev pub is_past : List (ℕ × ℕ) → List (ℕ × ℕ) → Bool
+is_past hole y = nat_le (first_of y).1 (first_of hole).0
+
+-- the box, if it is past
+abbrev pub past : List (ℕ × ℕ) → List (ℕ × ℕ) → List (List (ℕ × ℕ))
+past hole y = cond (is_past hole y) (y ∷ []) []
+
+-- what of it is outside the hole, if it is not
+abbrev pub ahead : List (ℕ × ℕ) → List (ℕ × ℕ) → List (List (ℕ × ℕ))
+ahead hole y = cond (is_past hole y) [] (outside hole y)
+
+-- none of the holes from `first` up to before `end` has the place
+abbrev pub IsClear : List Met → ℕ → ℕ → List ℕ → Type 0
+IsClear holes first end place = (q : ℕ) (m : Met) → IsRow holes q m → first ≤ q → q < end → At m.1 place → ⊥
+
+-- of the left rows whose label this is, some has the place and no right row of its key does
+abbrev pub IsRest : {P Q : Type 0} → List (KeyBox P) → List Q → List (KeyBox P) → Q → List ℕ → Type 0
+IsRest {P} left labels right l place =
+    (i : ℕ) × (x : KeyBox P) × IsRow left i x × IsRow labels i l × At x.1 place × (HasRow right x.0 place → ⊥)

@@ -1,0 +1,41 @@
+// The cells that two boxes have in common.
+ghost use Rattle.std.specs.Prelude.{◌≡◌, ℕ, IfOk, length};
+ghost use Rattle.std.specs.List.{list_all};
+ghost use Rattle.box_core.specs.Common.{both as both_of, common as common_of, has_cell};
+
+use point_core::Memory;
+use slice_core::Key;
+use std::alloc::Global;
+
+// The cells of both.
+pub fn both(x: (usize, usize), y: (usize, usize)) -> (usize, usize)
+    ensures { result ≡ both_of x y }
+{
+    (x.0.max(y.0), x.1.min(y.1))
+}
+
+// The cells of both boxes, side by side.
+#[tactic(auto, using(crate::proofs::PlaceLemmas::take_common, crate::proofs::PlaceLemmas::all_common))]
+pub fn common<P>(alloc: Global, x: &Key<P>, y: &Key<P>) -> Result<Vec<(usize, usize)>, Memory>
+    requires { length x.now.1 ≡ length y.now.1 }
+    ensures { IfOk result (λ v. v.items ≡ common_of x.now.1 y.now.1) }
+{
+    let mut out = Vec::new(alloc);
+    for s in 0..x.sides.len() {
+        let cells = both(x.sides[s], y.sides[s]);
+        out.push(cells)?;
+    }
+    Ok(out)
+}
+
+// Whether each side has a cell.
+pub fn have_cells(sides: &[(usize, usize)]) -> bool
+    ensures { result ≡ list_all has_cell sides.now }
+{
+    for s in sides {
+        if s.1 <= s.0 {
+            return false;
+        }
+    }
+    true
+}

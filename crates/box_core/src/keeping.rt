@@ -1,0 +1,85 @@
+// The marks of the rows of a side, kept from cell to cell.
+ghost use Rattle.std.specs.Prelude.{◌≡◌, ℕ, ◌+◌, ◌<◌, ◌≤◌, List, length, IfOk};
+ghost use Rattle.std.specs.List.{All};
+ghost use Rattle.box_core.specs.Tallies.{span_at, AreEntered, AreLeft, AreBy, IsKept};
+
+use crate::tally::{Tally, enter_at, leave_at};
+use point_core::Memory;
+
+// Marks the rows that begin by the cell, from the start `next` on, where they do not end by it; and how many have begun.
+fn enter_all<T: Tally>(
+    rule: &T,
+    state: T::State,
+    marks: &mut Vec<bool>,
+    spans: &[(usize, usize)],
+    starts: &[(usize, usize)],
+    next: usize,
+    cell: usize,
+) -> Result<(usize, T::State), Memory>
+    requires of { T.IsOf rule.now state marks.now.items }
+    requires marks { length spans.now ≤ length marks.now.items }
+    requires starts { All (λ x. x.1 < length spans.now) starts.now }
+    requires next { next ≤ length starts.now }
+    ensures of { IfOk result (λ v. T.IsOf rule.now v.1 marks.new.items) }
+    ensures marks { IfOk result (λ v. AreEntered spans.now starts.now next v.0 cell marks.old.items marks.new.items) }
+{
+    let mut kept = state;
+    let mut i = next;
+    while i < starts.len() && starts[i].0 <= cell {
+        kept = enter_at(rule, kept, marks, spans, starts[i].1, cell)?;
+        i += 1;
+    }
+    Ok((i, kept))
+}
+
+// Marks the rows no more that end by the cell, from the end `next` on; and how many have ended.
+fn leave_all<T: Tally>(
+    rule: &T,
+    state: T::State,
+    marks: &mut Vec<bool>,
+    spans: &[(usize, usize)],
+    ends: &[(usize, usize)],
+    next: usize,
+    cell: usize,
+) -> Result<(usize, T::State), Memory>
+    requires of { T.IsOf rule.now state marks.now.items }
+    requires marks { length spans.now ≤ length marks.now.items }
+    requires ends { All (λ x. x.1 < length spans.now) ends.now }
+    requires next { next ≤ length ends.now }
+    ensures of { IfOk result (λ v. T.IsOf rule.now v.1 marks.new.items) }
+    ensures marks { IfOk result (λ v. AreLeft spans.now ends.now next v.0 cell marks.old.items marks.new.items) }
+{
+    let mut kept = state;
+    let mut i = next;
+    while i < ends.len() && ends[i].0 <= cell {
+        kept = leave_at(rule, kept, marks, spans, ends[i].1, cell)?;
+        i += 1;
+    }
+    Ok((i, kept))
+}
+
+// Comes to the cell: the rows that have it are marked, and no others.
+pub fn come<T: Tally>(
+    rule: &T,
+    state: T::State,
+    marks: &mut Vec<bool>,
+    spans: &[(usize, usize)],
+    starts: &[(usize, usize)],
+    ends: &[(usize, usize)],
+    at: (usize, usize),
+    cell: usize,
+) -> Result<((usize, usize), T::State), Memory>
+    requires of { T.IsOf rule.now state marks.now.items }
+    requires marks { length spans.now ≤ length marks.now.items }
+    requires starts { All (λ x. x.1 < length spans.now) starts.now }
+    requires ends { All (λ x. x.1 < length spans.now) ends.now }
+    requires at { (at.0 ≤ length starts.now) × (at.1 ≤ length ends.now) }
+    ensures of { IfOk result (λ v. T.IsOf rule.now v.1 marks.new.items) }
+    ensures count { IfOk result (λ v. length marks.new.items ≡ length marks.old.items) }
+    ensures kept { IfOk result (λ v. (rows : List ℕ) (n : ℕ) → AreBy (λ r. (span_at spans.now r).0) rows starts.now → AreBy (λ r. (span_at spans.now r).1) rows ends.now → n ≤ cell + 1 →
+        IsKept spans.now rows starts.now ends.now n at.0 at.1 marks.old.items → IsKept spans.now rows starts.now ends.now (cell + 1) v.0.0 v.0.1 marks.new.items) }
+{
+    let (s, begun) = enter_all(rule, state, marks, spans, starts, at.0, cell)?;
+    let (e, kept) = leave_all(rule, begun, marks, spans, ends, at.1, cell)?;
+    Ok(((s, e), kept))
+}

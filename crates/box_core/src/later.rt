@@ -1,0 +1,78 @@
+// The rows that begin within others of their keys.
+ghost use Rattle.std.specs.Prelude.{◌≡◌, ℕ, ◌+◌, ◌<◌, ◌≤◌, ◌↔◌, ◌⊎◌, length, cond, OnOk, IfOk, ◌++◌, map};
+ghost use Rattle.std.specs.List.{All};
+ghost use Rattle.std.specs.declared.cmp.Ordering.TheVariants.{Equal};
+ghost use Rattle.packing_core.specs.Covering.{Among};
+ghost use Rattle.box_core.specs.Common.{first_of};
+ghost use Rattle.box_core.specs.Rows.{IsRow, Ascend, KeyBox};
+ghost use Rattle.box_core.specs.Meetings.{IsLater, turned};
+
+use crate::search::count_before;
+use point_core::{Label, Memory};
+use slice_core::Key;
+use std::alloc::Global;
+
+// The numbers of the rows of the row's key that begin within it, or, if `strict`, within it and after its first cell:
+// from the first up to before the second.
+fn range_within<P: Label>(row: &Key<P>, rows: &[Key<P>], strict: bool) -> (usize, usize)
+    requires side { 0 < length row.now.1 }
+    requires sides { All (λ x. 0 < length x.1) rows.now }
+    requires order { Ascend P.order rows.now }
+    ensures within { result.1 ≤ length rows.now }
+    ensures rows { (j : ℕ) (y : KeyBox P) → IsRow rows.now j y → (result.0 ≤ j) × (j < result.1) ↔
+        (P.order y.0 row.now.0 ≡ Equal) × (cond strict ((first_of row.now.1).0 + 1) (first_of row.now.1).0 ≤ (first_of y.1).0) × ((first_of y.1).0 < (first_of row.now.1).1) }
+{
+    let (begin, end) = row.sides[0];
+    if end <= begin {
+        return (0, 0);
+    }
+    let cell = if strict { begin + 1 } else { begin };
+    let first = count_before(rows, &row.label, cell);
+    let last = count_before(rows, &row.label, end);
+    (first, last)
+}
+
+// Adds the number with each number from `first` up to before `end`.
+fn push_range(
+    out: &mut Vec<(usize, usize)>,
+    number: usize,
+    first: usize,
+    end: usize,
+) -> Result<(), Memory>
+    ensures { OnOk result ((p : ℕ × ℕ) → Among p out.new.items ↔ Among p out.old.items ⊎ ((p.0 ≡ number) × (first ≤ p.1) × (p.1 < end))) }
+{
+    for j in first..end {
+        out.push((number, j))?;
+    }
+    Ok(())
+}
+
+// For each row of `from` the rows that begin within it; if `strict`, after its first cell.
+pub fn later<P: Label>(
+    alloc: Global,
+    from: &[Key<P>],
+    rows: &[Key<P>],
+    strict: bool,
+) -> Result<Vec<(usize, usize)>, Memory>
+    requires from { All (λ x. 0 < length x.1) from.now }
+    requires rows { All (λ x. 0 < length x.1) rows.now }
+    requires order { Ascend P.order rows.now }
+    ensures { IfOk result (λ v. (p : ℕ × ℕ) → Among p v.items ↔ IsLater P.order strict from.now rows.now p) }
+{
+    let mut out = Vec::new(alloc);
+    for i in 0..from.len() {
+        let (first, end) = range_within(&from[i], rows, strict);
+        push_range(&mut out, i, first, end)?;
+    }
+    Ok(out)
+}
+
+// Adds the pairs the other way round.
+pub fn push_turned(out: &mut Vec<(usize, usize)>, pairs: &[(usize, usize)]) -> Result<(), Memory>
+    ensures { OnOk result (out.new.items ≡ out.old.items ++ map turned pairs.now) }
+{
+    for p in pairs {
+        out.push((p.1, p.0))?;
+    }
+    Ok(())
+}

@@ -1,0 +1,102 @@
+// Boxes of one key that meet.
+ghost use Rattle.std.specs.Prelude.{◌≡◌, ℕ, ◌<◌, ◌↔◌, ◌++◌, List, length, flat_map, OnOk, IfOk};
+ghost use Rattle.std.specs.List.{All};
+ghost use Rattle.std.specs.declared.cmp.Ordering.TheVariants.{Equal};
+ghost use Rattle.packing_core.specs.Covering.{Among};
+ghost use Rattle.box_core.specs.Common.{At};
+ghost use Rattle.box_core.specs.Meetings.{IsMeeting, StandByLeft, Met, met, boxes_in};
+ghost use Rattle.box_core.specs.Rows.{Ascend, IsRow, KeyBox};
+
+use crate::common::{common, have_cells};
+use crate::later::{later, push_turned};
+use point_core::{Label, Memory};
+use slice_core::Key;
+use std::alloc::Global;
+use std::marker::Model;
+
+/// The number of a left row and of a right row of one key, and the box that they have in common.
+#[derive(Drop)]
+pub struct Meeting {
+    pub left: usize,
+    pub right: usize,
+    pub sides: Vec<(usize, usize)>,
+}
+
+impl Model for Meeting {
+    ghost use Rattle.std.specs.Prelude.{ℕ, List};
+
+    ghost Value = { (ℕ × ℕ) × List (ℕ × ℕ) };
+
+    ghost view = { λ m. ((m.left, m.right), m.sides.items) };
+}
+
+// Adds the pair with what its rows have in common, if that has a cell.
+fn push_meeting<P>(
+    alloc: Global,
+    out: &mut Vec<Meeting>,
+    left: &[Key<P>],
+    right: &[Key<P>],
+    pair: (usize, usize),
+) -> Result<(), Memory>
+    requires left { pair.0 < length left.now }
+    requires right { pair.1 < length right.now }
+    requires sides { (x y : KeyBox P) → IsRow left.now pair.0 x → IsRow right.now pair.1 y → length x.1 ≡ length y.1 }
+    ensures { OnOk result (out.new.items ≡ out.old.items ++ met (boxes_in left.now) (boxes_in right.now) pair) }
+{
+    let sides = common(alloc, &left[pair.0], &right[pair.1])?;
+    if have_cells(sides.as_slice()) {
+        out.push(Meeting {
+            left: pair.0,
+            right: pair.1,
+            sides,
+        })?;
+    }
+    Ok(())
+}
+
+// The meetings among the pairs.
+fn meetings<P>(
+    alloc: Global,
+    left: &[Key<P>],
+    right: &[Key<P>],
+    pairs: &[(usize, usize)],
+) -> Result<Vec<Meeting>, Memory>
+    requires pairs { All (λ p. (p.0 < length left.now) × (p.1 < length right.now)) pairs.now }
+    requires sides { (i j : ℕ) (x y : KeyBox P) → IsRow left.now i x → IsRow right.now j y → length x.1 ≡ length y.1 }
+    ensures { IfOk result (λ v. v.items ≡ flat_map (met (boxes_in left.now) (boxes_in right.now)) pairs.now) }
+{
+    let mut out = Vec::new(alloc);
+    for pair in pairs {
+        push_meeting(alloc, &mut out, left, right, *pair)?;
+    }
+    Ok(out)
+}
+
+/// The pairs of a left and a right row of one key whose boxes meet, each with the box that they have in common.
+///
+/// The pairs are found on the first side: for a left row the rights that begin within it, and for a right row the lefts
+/// that begin within it and after its first cell, so each pair once. That takes the time of two searches for each row,
+/// and of one sort of the pairs. On one side just the pairs that meet are found.
+pub fn overlaps<P: Label>(
+    alloc: Global,
+    sides: usize,
+    left: &[Key<P>],
+    right: &[Key<P>],
+) -> Result<Vec<Meeting>, Memory>
+    requires some { 0 < sides }
+    requires left { All (λ x. length x.1 ≡ sides) left.now }
+    requires right { All (λ x. length x.1 ≡ sides) right.now }
+    requires left_order { Ascend P.order left.now }
+    requires right_order { Ascend P.order right.now }
+    ensures members { IfOk result (λ v. (m : Met) → Among m v.items ↔ IsMeeting P.order left.now right.now m) }
+    ensures places { IfOk result (λ v. (i j : ℕ) (x y : KeyBox P) (place : List ℕ) → IsRow left.now i x → IsRow right.now j y → P.order x.0 y.0 ≡ Equal → length place ≡ sides →
+        ((b : List (ℕ × ℕ)) × Among ((i, j), b) v.items × At b place) ↔ At x.1 place × At y.1 place) }
+    ensures order { IfOk result (λ v. StandByLeft v.items) }
+{
+    let mut pairs = later(alloc, left, right, false)?;
+    let others = later(alloc, right, left, true)?;
+    push_turned(&mut pairs, others.as_slice())?;
+    pairs.sort()?;
+    let out = meetings(alloc, left, right, pairs.as_slice())?;
+    Ok(out)
+}

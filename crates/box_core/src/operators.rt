@@ -1,0 +1,153 @@
+// Operators over labelled boxes: the packed form of what they give at each place.
+ghost use Rattle.std.specs.Prelude.{◌≡◌, ℕ, ◌<◌, ◌↔◌, List, length, IfOk};
+ghost use Rattle.std.specs.List.{All};
+ghost use Rattle.std.specs.List.Sorted.{IsStrictlySortedBy};
+ghost use Rattle.packing_core.specs.Covering.{Among};
+ghost use Rattle.slice_core.specs.Rows.{key_cmp};
+ghost use Rattle.box_core.specs.Answers.{IsPackedRow, IsPackedCover, IsBoxOf, IsBoxOfKeyed, InBoth, InFirst, IsMatched, IsUnmatched};
+ghost use Rattle.box_core.specs.Meetings.{IsShared};
+ghost use Rattle.box_core.specs.Outside.{IsRest};
+ghost use Rattle.box_core.specs.Rows.{Ascend, KeyBox};
+
+use crate::keyed::{Keyed, keys_in_order, rows_in_order, with_own_keys};
+use crate::remaining::rest;
+use crate::sharing::shared;
+use point_core::{Label, Memory};
+use slice_core::{Key, pack_rows};
+use std::alloc::Global;
+
+// What the left boxes have in common with the right boxes of their keys, packed.
+fn packed_shared<K: Label, P: Label>(
+    alloc: Global,
+    sides: usize,
+    left: &[Key<K>],
+    labels: &[P],
+    right: &[Key<K>],
+) -> Result<Vec<Key<P>>, Memory>
+    requires some { 0 < sides }
+    requires left { All (λ x. length x.1 ≡ sides) left.now }
+    requires right { All (λ x. length x.1 ≡ sides) right.now }
+    requires left_order { Ascend K.order left.now }
+    requires right_order { Ascend K.order right.now }
+    requires labels { length labels.now ≡ length left.now }
+    ensures rows { IfOk result (λ v. (x : KeyBox P) → Among x v.items ↔ IsPackedRow sides (IsShared left.now labels.now right.now) x) }
+    ensures cover { IfOk result (λ v. IsPackedCover sides (IsShared left.now labels.now right.now) (IsBoxOf left.now) v.items) }
+    ensures sorted { IfOk result (λ v. IsStrictlySortedBy (key_cmp P.order) v.items) }
+{
+    let parts = shared(alloc, sides, left, labels, right)?;
+    let out = pack_rows(alloc, sides, parts)?;
+    Ok(out)
+}
+
+// What of the left boxes is outside the right boxes of their keys, packed.
+fn packed_rest<K: Label, P: Label>(
+    alloc: Global,
+    sides: usize,
+    left: &[Key<K>],
+    labels: &[P],
+    right: &[Key<K>],
+) -> Result<Vec<Key<P>>, Memory>
+    requires some { 0 < sides }
+    requires left { All (λ x. length x.1 ≡ sides) left.now }
+    requires right { All (λ x. length x.1 ≡ sides) right.now }
+    requires left_order { Ascend K.order left.now }
+    requires right_order { Ascend K.order right.now }
+    requires labels { length labels.now ≡ length left.now }
+    ensures rows { IfOk result (λ v. (x : KeyBox P) → Among x v.items ↔ IsPackedRow sides (IsRest left.now labels.now right.now) x) }
+    ensures cover { IfOk result (λ v. IsPackedCover sides (IsRest left.now labels.now right.now) (IsBoxOf left.now) v.items) }
+    ensures sorted { IfOk result (λ v. IsStrictlySortedBy (key_cmp P.order) v.items) }
+{
+    let parts = rest(alloc, sides, left, labels, right)?;
+    let out = pack_rows(alloc, sides, parts)?;
+    Ok(out)
+}
+
+/// The packed form of the labels of the left rows where a right row has their key.
+pub fn matching<K: Label, P: Label>(
+    alloc: Global,
+    sides: usize,
+    left: Vec<Keyed<K, P>>,
+    right: Vec<Key<K>>,
+) -> Result<Vec<Key<P>>, Memory>
+    requires some { 0 < sides }
+    requires left { All (λ x. length x.2 ≡ sides) left.items }
+    requires right { All (λ x. length x.1 ≡ sides) right.items }
+    ensures rows { IfOk result (λ v. (x : KeyBox P) → Among x v.items ↔ IsPackedRow sides (IsMatched left.items right.items) x) }
+    ensures cover { IfOk result (λ v. IsPackedCover sides (IsMatched left.items right.items) (IsBoxOfKeyed left.items) v.items) }
+    ensures sorted { IfOk result (λ v. IsStrictlySortedBy (key_cmp P.order) v.items) }
+{
+    let (keys, labels) = keys_in_order(alloc, left)?;
+    let rights = rows_in_order(right)?;
+    let out = packed_shared(
+        alloc,
+        sides,
+        keys.as_slice(),
+        labels.as_slice(),
+        rights.as_slice(),
+    )?;
+    Ok(out)
+}
+
+/// The packed form of the labels of the left rows where no right row has their key.
+pub fn not_matching<K: Label, P: Label>(
+    alloc: Global,
+    sides: usize,
+    left: Vec<Keyed<K, P>>,
+    right: Vec<Key<K>>,
+) -> Result<Vec<Key<P>>, Memory>
+    requires some { 0 < sides }
+    requires left { All (λ x. length x.2 ≡ sides) left.items }
+    requires right { All (λ x. length x.1 ≡ sides) right.items }
+    ensures rows { IfOk result (λ v. (x : KeyBox P) → Among x v.items ↔ IsPackedRow sides (IsUnmatched left.items right.items) x) }
+    ensures cover { IfOk result (λ v. IsPackedCover sides (IsUnmatched left.items right.items) (IsBoxOfKeyed left.items) v.items) }
+    ensures sorted { IfOk result (λ v. IsStrictlySortedBy (key_cmp P.order) v.items) }
+{
+    let (keys, labels) = keys_in_order(alloc, left)?;
+    let rights = rows_in_order(right)?;
+    let out = packed_rest(
+        alloc,
+        sides,
+        keys.as_slice(),
+        labels.as_slice(),
+        rights.as_slice(),
+    )?;
+    Ok(out)
+}
+
+/// The packed form of the labels that both have.
+pub fn intersect<P: Label>(
+    alloc: Global,
+    sides: usize,
+    left: Vec<Key<P>>,
+    right: Vec<Key<P>>,
+) -> Result<Vec<Key<P>>, Memory>
+    requires some { 0 < sides }
+    requires left { All (λ x. length x.1 ≡ sides) left.items }
+    requires right { All (λ x. length x.1 ≡ sides) right.items }
+    ensures rows { IfOk result (λ v. (x : KeyBox P) → Among x v.items ↔ IsPackedRow sides (InBoth left.items right.items) x) }
+    ensures cover { IfOk result (λ v. IsPackedCover sides (InBoth left.items right.items) (IsBoxOf left.items) v.items) }
+    ensures sorted { IfOk result (λ v. IsStrictlySortedBy (key_cmp P.order) v.items) }
+{
+    let lefts = with_own_keys(alloc, left)?;
+    let out = matching(alloc, sides, lefts, right)?;
+    Ok(out)
+}
+
+/// The packed form of the labels that the left rows have and the right rows have not.
+pub fn minus<P: Label>(
+    alloc: Global,
+    sides: usize,
+    left: Vec<Key<P>>,
+    right: Vec<Key<P>>,
+) -> Result<Vec<Key<P>>, Memory>
+    requires some { 0 < sides }
+    requires left { All (λ x. length x.1 ≡ sides) left.items }
+    requires right { All (λ x. length x.1 ≡ sides) right.items }
+    ensures rows { IfOk result (λ v. (x : KeyBox P) → Among x v.items ↔ IsPackedRow sides (InFirst left.items right.items) x) }
+    ensures cover { IfOk result (λ v. IsPackedCover sides (InFirst left.items right.items) (IsBoxOf left.items) v.items) }
+    ensures sorted { IfOk result (λ v. IsStrictlySortedBy (key_cmp P.order) v.items) }
+{
+    let lefts = with_own_keys(alloc, left)?;
+    let out = not_matching(alloc, sides, lefts, right)?;
+    Ok(out)
+}

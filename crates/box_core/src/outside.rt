@@ -1,0 +1,160 @@
+// What of a box is outside others.
+ghost use Rattle.std.specs.Prelude.{◌≡◌, ℕ, ◌<◌, ◌≤◌, ◌↔◌, ◌++◌, List, [], ◌∷◌, length, flat_map, OnOk, IfOk};
+ghost use Rattle.std.specs.List.{All};
+ghost use Rattle.packing_core.specs.Covering.{Among};
+ghost use Rattle.slice_core.specs.Rows.{sides_of};
+ghost use Rattle.box_core.specs.Common.{At, EndsBy, first_of};
+ghost use Rattle.box_core.specs.Meetings.{Met};
+ghost use Rattle.box_core.specs.Outside.{part, beside, outside, past, ahead, HasBox, IsClear};
+ghost use Rattle.box_core.specs.Rows.{IsRow};
+
+use crate::common::both;
+use crate::meeting::Meeting;
+use point_core::Memory;
+use slice_core::{IndexBox, Key};
+use std::alloc::Global;
+
+// Adds the piece with other cells on the side, if they are any.
+fn push_part(
+    alloc: Global,
+    out: &mut Vec<IndexBox>,
+    piece: &IndexBox,
+    side: usize,
+    cells: (usize, usize),
+) -> Result<(), Memory>
+    requires { side < length piece.now.sides.items }
+    ensures { OnOk result (sides_of out.new.items ≡ sides_of out.old.items ++ part piece.now.sides.items side cells) }
+{
+    if cells.0 < cells.1 {
+        let mut sides = Vec::new(alloc);
+        sides.extend_from_slice(piece.sides.as_slice())?;
+        sides[side] = cells;
+        out.push(IndexBox { sides })?;
+    }
+    Ok(())
+}
+
+// Adds what of the piece is before the cells on the side, and what is after them.
+fn push_beside(
+    alloc: Global,
+    out: &mut Vec<IndexBox>,
+    piece: &IndexBox,
+    side: usize,
+    cells: (usize, usize),
+) -> Result<(), Memory>
+    requires { side < length piece.now.sides.items }
+    ensures { OnOk result (sides_of out.new.items ≡ sides_of out.old.items ++ beside piece.now.sides.items side cells) }
+{
+    let (begin, end) = piece.sides[side];
+    push_part(alloc, out, piece, side, (begin, end.min(cells.0)))?;
+    push_part(alloc, out, piece, side, (begin.max(cells.1), end))?;
+    Ok(())
+}
+
+// Adds what of the piece is outside the hole: side after side what is beside it there and within it on the sides before.
+fn push_outside(
+    alloc: Global,
+    out: &mut Vec<IndexBox>,
+    piece: IndexBox,
+    hole: &Meeting,
+) -> Result<(), Memory>
+    requires { length piece.sides.items ≡ length hole.now.1 }
+    ensures { OnOk result (sides_of out.new.items ≡ sides_of out.old.items ++ outside hole.now.1 piece.sides.items) }
+{
+    let mut rest = piece;
+    for s in 0..hole.sides.len() {
+        let cells = hole.sides[s];
+        push_beside(alloc, out, &rest, s, cells)?;
+        rest.sides[s] = both(rest.sides[s], cells);
+    }
+    Ok(())
+}
+
+// The piece is done where it ends before the hole begins; else what of it is outside the hole stays open.
+fn push_piece(
+    alloc: Global,
+    done: &mut Vec<IndexBox>,
+    next: &mut Vec<IndexBox>,
+    piece: IndexBox,
+    hole: &Meeting,
+) -> Result<(), Memory>
+    requires same { length piece.sides.items ≡ length hole.now.1 }
+    requires some { 0 < length hole.now.1 }
+    ensures done { OnOk result (sides_of done.new.items ≡ sides_of done.old.items ++ past hole.now.1 piece.sides.items) }
+    ensures next { OnOk result (sides_of next.new.items ≡ sides_of next.old.items ++ ahead hole.now.1 piece.sides.items) }
+{
+    if piece.sides[0].1 <= hole.sides[0].0 {
+        done.push(piece)?;
+    } else {
+        push_outside(alloc, next, piece, hole)?;
+    }
+    Ok(())
+}
+
+// The same for each open piece.
+fn opened(
+    alloc: Global,
+    done: &mut Vec<IndexBox>,
+    pieces: Vec<IndexBox>,
+    hole: &Meeting,
+) -> Result<Vec<IndexBox>, Memory>
+    requires same { All (λ x. length x.sides.items ≡ length hole.now.1) pieces.items }
+    requires some { 0 < length hole.now.1 }
+    ensures done { OnOk result (sides_of done.new.items ≡ sides_of done.old.items ++ flat_map (λ x. past hole.now.1 x.sides.items) pieces.items) }
+    ensures next { IfOk result (λ v. sides_of v.items ≡ flat_map (λ x. ahead hole.now.1 x.sides.items) pieces.items) }
+{
+    let mut next = Vec::new(alloc);
+    for piece in pieces {
+        push_piece(alloc, done, &mut next, piece, hole)?;
+    }
+    Ok(next)
+}
+
+// The box of the row, alone.
+fn own_box<P>(alloc: Global, row: &Key<P>) -> Result<Vec<IndexBox>, Memory>
+    ensures { IfOk result (λ v. sides_of v.items ≡ row.now.1 ∷ []) }
+{
+    let mut sides = Vec::new(alloc);
+    sides.extend_from_slice(row.sides.as_slice())?;
+    let mut out = Vec::new(alloc);
+    out.push(IndexBox { sides })?;
+    Ok(out)
+}
+
+// Adds the boxes.
+fn push_all(out: &mut Vec<IndexBox>, boxes: Vec<IndexBox>) -> Result<(), Memory>
+    ensures { OnOk result (out.new.items ≡ out.old.items ++ boxes.items) }
+{
+    for b in boxes {
+        out.push(b)?;
+    }
+    Ok(())
+}
+
+// What of the row's box is outside the holes from `first` up to before `end`, which stand by their first cells. So a
+// piece that ends before a hole begins is not looked at again; on one side two pieces are open at most.
+pub fn less<P>(
+    alloc: Global,
+    row: &Key<P>,
+    holes: &[Meeting],
+    first: usize,
+    end: usize,
+) -> Result<Vec<IndexBox>, Memory>
+    requires range { first ≤ end }
+    requires within { end ≤ length holes.now }
+    requires some { 0 < length row.now.1 }
+    requires same { (q : ℕ) (m : Met) → IsRow holes.now q m → first ≤ q → q < end → length m.1 ≡ length row.now.1 }
+    requires order { (q r : ℕ) (m n : Met) → IsRow holes.now q m → IsRow holes.now r n → first ≤ q → q ≤ r → r < end → (first_of m.1).0 ≤ (first_of n.1).0 }
+    ensures places { IfOk result (λ v. (place : List ℕ) → length place ≡ length row.now.1 →
+        HasBox (sides_of v.items) place ↔ At row.now.1 place × IsClear holes.now first end place) }
+    ensures lengths { IfOk result (λ v. All (λ x. length x.sides.items ≡ length row.now.1) v.items) }
+    ensures ends { IfOk result (λ v. (z : List (ℕ × ℕ)) → Among z (sides_of v.items) → EndsBy row.now.1 z) }
+{
+    let mut done = Vec::new(alloc);
+    let mut pieces = own_box(alloc, row)?;
+    for h in first..end {
+        pieces = opened(alloc, &mut done, pieces, &holes[h])?;
+    }
+    push_all(&mut done, pieces)?;
+    Ok(done)
+}

@@ -1,0 +1,82 @@
+// What is kept of the rows that are in, from cell to cell.
+ghost use Rattle.std.specs.Prelude.{◌≡◌, ℕ, ◌<◌, List, Bool, true, false, length, get_or, set, IfOk, Option, None};
+ghost use Rattle.box_core.specs.Tallies.{IsIn, IsEntered, IsLeft};
+
+use point_core::{Label, Memory};
+use std::alloc::Global;
+
+/// What is kept of rows, and the label that it gives of them. A set of rows is a mark for each row.
+pub trait Tally {
+    type State: Drop;
+
+    type Out: Label;
+
+    /// The state is of just the marked rows.
+    ghost IsOf: { Self → Self.State → List Bool → Type 0 };
+
+    /// The label of the marked rows, if there is one.
+    ghost means: { Self → List Bool → Option Self.Out };
+
+    /// One row more.
+    fn enter(&self, state: Self::State, row: usize) -> Result<Self::State, Memory>
+        requires { (f : List Bool) × IsOf self.now state f × (row < length f) × (get_or f row true ≡ false) }
+        ensures { IfOk result (λ s. (f : List Bool) → IsOf self.now state f → row < length f → get_or f row true ≡ false → IsOf self.now s (set f row true)) };
+
+    /// One row less.
+    fn leave(&self, state: Self::State, row: usize) -> Result<Self::State, Memory>
+        requires { (f : List Bool) × IsOf self.now state f × (row < length f) × (get_or f row false ≡ true) }
+        ensures { IfOk result (λ s. (f : List Bool) → IsOf self.now state f → row < length f → get_or f row false ≡ true → IsOf self.now s (set f row false)) };
+
+    fn label(&self, alloc: Global, state: &Self::State) -> Result<Option<Self::Out>, Memory>
+        requires { (f : List Bool) × IsOf self.now state.now f }
+        ensures { IfOk result (λ l. (f : List Bool) → IsOf self.now state.now f → l ≡ means self.now f) };
+
+    /// Where no row is marked there is no label.
+    ghost nothing: { (rule : Self) (f : List Bool) → ((r : ℕ) → IsIn f r → ⊥) → means rule f ≡ None };
+}
+
+// Marks the row, if its cells do not end by the cell.
+pub fn enter_at<T: Tally>(
+    rule: &T,
+    state: T::State,
+    marks: &mut Vec<bool>,
+    spans: &[(usize, usize)],
+    row: usize,
+    cell: usize,
+) -> Result<T::State, Memory>
+    requires of { T.IsOf rule.now state marks.now.items }
+    requires marks { row < length marks.now.items }
+    requires spans { row < length spans.now }
+    ensures of { IfOk result (λ s. T.IsOf rule.now s marks.new.items) }
+    ensures marks { IfOk result (λ _. IsEntered spans.now cell row marks.old.items marks.new.items) }
+{
+    if marks[row] || spans[row].1 <= cell {
+        return Ok(state);
+    }
+    let next = rule.enter(state, row)?;
+    marks[row] = true;
+    Ok(next)
+}
+
+// Marks the row no more, if its cells end by the cell.
+pub fn leave_at<T: Tally>(
+    rule: &T,
+    state: T::State,
+    marks: &mut Vec<bool>,
+    spans: &[(usize, usize)],
+    row: usize,
+    cell: usize,
+) -> Result<T::State, Memory>
+    requires of { T.IsOf rule.now state marks.now.items }
+    requires marks { row < length marks.now.items }
+    requires spans { row < length spans.now }
+    ensures of { IfOk result (λ s. T.IsOf rule.now s marks.new.items) }
+    ensures marks { IfOk result (λ _. IsLeft spans.now cell row marks.old.items marks.new.items) }
+{
+    if !marks[row] || cell < spans[row].1 {
+        return Ok(state);
+    }
+    let next = rule.leave(state, row)?;
+    marks[row] = false;
+    Ok(next)
+}

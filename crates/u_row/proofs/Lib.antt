@@ -1,0 +1,5 @@
+pub mod CellLemmas
+pub mod CuttingLemmas
+pub mod GivingLemmas
+pub mod PlaceLemmas
+pub mod RuleLemmas

@@ -1,0 +1,3 @@
+pub mod Labels
+pub mod Cutting
+pub mod Rules

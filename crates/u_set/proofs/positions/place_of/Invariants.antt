@@ -1,0 +1,6 @@
+use Rattle.std.proofs.Common.{◌≡◌, ◌+◌, drop}
+use Rattle.u_set.specs.Boxes.{place_of}
+use Rattle.u_set.proofs.positions.place_of.Given as goal
+
+abbrev pub invariant-loop-at : goal.invariant-loop-at
+invariant-loop-at l = place_of l.acl l.i ≡ l.at + place_of (drop l.at l.acl) l.i

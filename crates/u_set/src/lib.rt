@@ -1,0 +1,18 @@
+//! Relations as labelled boxes and back, and what of the operators point by point needs no more than packing.
+#![tactic(auto)]
+
+mod boxes;
+mod comparison;
+mod intervals;
+mod labels;
+mod packing;
+mod positions;
+mod refusals;
+mod rows;
+mod union;
+
+pub use boxes::to_boxes;
+pub use comparison::{are_same, is_within, u_equal, u_subset};
+pub use packing::{packed, unpacked};
+pub use rows::from_boxes;
+pub use union::{u_union, united};

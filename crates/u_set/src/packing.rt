@@ -1,0 +1,97 @@
+// PACK and UNPACK of a relation.
+ghost use Rattle.std.specs.Prelude.{◌≡◌, ◌≤◌, ◌<◌, ◌+◌, map, length, Err, IfOk, MatchResult};
+ghost use Rattle.std.specs.List.{All};
+ghost use Rattle.point_core.specs.Points.{number, IsPointOf};
+ghost use Rattle.packing_core.specs.Boxed.{packed_boxes, unpacked_boxes};
+ghost use Rattle.value_core.specs.RowPacking.{packed, unpacked};
+ghost use Rattle.value_core.specs.Values.{row_cmp, most_rows};
+ghost use Rattle.relation_core.specs.Answers.{IsAnswer, IsRefusal};
+ghost use Rattle.cell_core.specs.Boxes.{IsBox};
+ghost use Rattle.cell_core.specs.Cells.{row_numbers};
+ghost use Rattle.cell_core.specs.Costs.{bound};
+ghost use Rattle.cell_core.specs.declared.boxes.CellRefuse.TheVariants.{Limit as OfLimit};
+ghost use Rattle.u_set.specs.Boxes.{AreIntervals, types_at, boxed};
+
+use crate::boxes::to_boxes;
+use crate::positions::types_at;
+use crate::refusals::{MOST_ROWS, refusal};
+use crate::rows::from_boxes;
+use cell_core::{BoxRow, CellRefuse, pack, unpack};
+use point_core::{AnyType, Steps};
+use std::alloc::Global;
+use std::sync::ledger::Ledger;
+use value_core::{Relation, Row, RowsRefuse};
+
+// The packed boxes of the relation.
+fn packed_form<L: Ledger>(
+    alloc: Global,
+    r: &Relation,
+    acl: &[usize],
+    steps: &mut Steps<L>,
+) -> Result<Vec<BoxRow<AnyType, Row>>, CellRefuse>
+    requires { AreIntervals r.now.heading acl.now }
+    ensures rows { IfOk result (λ v. map (row_numbers number) v.items ≡ packed_boxes row_cmp (length acl.now) (map (boxed acl.now) r.now.rows)) }
+    ensures boxes { IfOk result (λ v. All (λ b. IsBox IsPointOf (types_at r.now.heading acl.now) b.1) v.items) }
+    ensures limit { result ≡ Err OfLimit → most_rows < length (packed_boxes row_cmp (length acl.now) (map (boxed acl.now) r.now.rows)) }
+    ensures cost { steps.new ≤ steps.old + bound (length r.now.rows) (length acl.now) }
+{
+    let types = types_at(alloc, r.heading().attributes(), acl)?;
+    let boxes = to_boxes(alloc, r, acl)?;
+    pack(alloc, types.as_slice(), boxes.as_slice(), MOST_ROWS, steps)
+}
+
+// The unpacked boxes of the relation.
+fn unpacked_form<L: Ledger>(
+    alloc: Global,
+    r: &Relation,
+    acl: &[usize],
+    steps: &mut Steps<L>,
+) -> Result<Vec<BoxRow<AnyType, Row>>, CellRefuse>
+    requires { AreIntervals r.now.heading acl.now }
+    ensures rows { IfOk result (λ v. map (row_numbers number) v.items ≡ unpacked_boxes row_cmp (length acl.now) (map (boxed acl.now) r.now.rows)) }
+    ensures boxes { IfOk result (λ v. All (λ b. IsBox IsPointOf (types_at r.now.heading acl.now) b.1) v.items) }
+    ensures limit { result ≡ Err OfLimit → most_rows < length (unpacked_boxes row_cmp (length acl.now) (map (boxed acl.now) r.now.rows)) }
+    ensures cost { steps.new ≤ steps.old + bound (length r.now.rows) (length acl.now) }
+{
+    let types = types_at(alloc, r.heading().attributes(), acl)?;
+    let boxes = to_boxes(alloc, r, acl)?;
+    unpack(alloc, types.as_slice(), boxes.as_slice(), MOST_ROWS, steps)
+}
+
+/// The rows of the relation packed on the attributes at the positions: unpacked on all of them, then packed on the first, on the
+/// second, and so on.
+pub fn packed<L: Ledger>(
+    alloc: Global,
+    r: &Relation,
+    acl: &[usize],
+    steps: &mut Steps<L>,
+) -> Result<Relation, RowsRefuse>
+    requires { AreIntervals r.now.heading acl.now }
+    ensures rows { MatchResult result (IsAnswer r.now.heading (packed acl.now r.now.rows)) (IsRefusal (packed acl.now r.now.rows)) }
+    ensures cost { steps.new ≤ steps.old + bound (length r.now.rows) (length acl.now) }
+{
+    let heading = r.heading().copy(alloc)?;
+    match packed_form(alloc, r, acl, steps) {
+        Ok(form) => from_boxes(alloc, heading, acl, form),
+        Err(refuse) => Err(refusal(refuse)),
+    }
+}
+
+/// The rows of the relation unpacked on the attributes at the positions: a row of single points for each row and each point of each of
+/// its intervals there.
+pub fn unpacked<L: Ledger>(
+    alloc: Global,
+    r: &Relation,
+    acl: &[usize],
+    steps: &mut Steps<L>,
+) -> Result<Relation, RowsRefuse>
+    requires { AreIntervals r.now.heading acl.now }
+    ensures rows { MatchResult result (IsAnswer r.now.heading (unpacked acl.now r.now.rows)) (IsRefusal (unpacked acl.now r.now.rows)) }
+    ensures cost { steps.new ≤ steps.old + bound (length r.now.rows) (length acl.now) }
+{
+    let heading = r.heading().copy(alloc)?;
+    match unpacked_form(alloc, r, acl, steps) {
+        Ok(form) => from_boxes(alloc, heading, acl, form),
+        Err(refuse) => Err(refusal(refuse)),
+    }
+}

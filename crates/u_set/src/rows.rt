@@ -1,0 +1,98 @@
+// The rows of boxes, as a relation.
+ghost use Rattle.std.specs.Prelude.{◌≡◌, ℕ, List, drop, get_or, slice_index_or, map, IfOk, IsTrue, MatchResult};
+ghost use Rattle.std.specs.List.{All};
+ghost use Rattle.point_core.specs.Points.{line_of, number, IsPointOf};
+ghost use Rattle.value_core.specs.Attributes.{among};
+ghost use Rattle.packing_core.specs.Packed.{nowhere};
+ghost use Rattle.value_core.specs.Plain.{plain};
+ghost use Rattle.value_core.specs.Relations.{all_fit};
+ghost use Rattle.value_core.specs.Values.{interval, fits, fits_heading, rows_of};
+ghost use Rattle.relation_core.specs.Answers.{IsAnswer, IsRefusal};
+ghost use Rattle.relation_core.specs.Parts.{kind_at};
+ghost use Rattle.cell_core.specs.Boxes.{IsBox};
+ghost use Rattle.cell_core.specs.Cells.{box_numbers, row_numbers};
+ghost use Rattle.u_set.specs.Boxes.{AreIntervals, place_of, type_of, types_at, others, unboxed};
+
+use crate::intervals::value_of;
+use crate::positions::{is_listed, place_of, type_of};
+use cell_core::{BoxRow, Sides};
+use point_core::{AnyType, Memory};
+use std::alloc::Global;
+use value_core::{Heading, Kind, Name, Relation, Row, RowsRefuse, Value};
+
+// The value of a listed attribute.
+fn side_value(heading: &[(Name, Kind)], acl: &[usize], i: usize, sides: &Sides<AnyType>) -> Value
+    requires intervals { AreIntervals heading.now acl.now }
+    requires listed { IsTrue (among acl.now i) }
+    requires sides { IsBox IsPointOf (types_at heading.now acl.now) sides.now }
+    ensures value { plain result ≡ interval (line_of (type_of (kind_at heading.now i))) (get_or (box_numbers number sides.now) (place_of acl.now i) nowhere) }
+    ensures fits { IsTrue (fits (kind_at heading.now i) (plain result)) }
+{
+    value_of(type_of(heading[i].1), &sides.list[place_of(acl, i)])
+}
+
+// The row of a box.
+fn to_row(
+    alloc: Global,
+    heading: &[(Name, Kind)],
+    acl: &[usize],
+    b: &BoxRow<AnyType, Row>,
+) -> Result<Row, Memory>
+    requires intervals { AreIntervals heading.now acl.now }
+    requires sides { IsBox IsPointOf (types_at heading.now acl.now) b.now.1 }
+    requires label { IsTrue (fits_heading (others acl.now heading.now) b.now.0) }
+    ensures row { IfOk result (λ r. r ≡ unboxed heading.now acl.now (row_numbers number b.now)) }
+    ensures fits { IfOk result (λ r. IsTrue (fits_heading heading.now r)) }
+{
+    let label = b.label.values();
+    let mut values = Vec::new(alloc);
+    let mut used = 0;
+    for i in 0..heading.len() {
+        if is_listed(acl, i) {
+            values.push(side_value(heading, acl, i, &b.sides))?;
+        } else {
+            values.push(label[used].copy(alloc)?)?;
+            used += 1;
+        }
+    }
+    Ok(Row::make(values))
+}
+
+// The row of each box.
+fn to_rows(
+    alloc: Global,
+    heading: &[(Name, Kind)],
+    acl: &[usize],
+    boxes: &[BoxRow<AnyType, Row>],
+) -> Result<Vec<Row>, Memory>
+    requires intervals { AreIntervals heading.now acl.now }
+    requires sides { All (λ b. IsBox IsPointOf (types_at heading.now acl.now) b.1) boxes.now }
+    requires labels { All (λ b. IsTrue (fits_heading (others acl.now heading.now) b.0)) boxes.now }
+    ensures rows { IfOk result (λ v. v.items ≡ map (unboxed heading.now acl.now) (map (row_numbers number) boxes.now)) }
+    ensures fits { IfOk result (λ v. IsTrue (all_fit heading.now v.items)) }
+{
+    let mut rows = Vec::with_capacity(alloc, boxes.len())?;
+    for b in boxes {
+        let row = to_row(alloc, heading, acl, b)?;
+        rows.push(row)?;
+    }
+    Ok(rows)
+}
+
+/// The relation of the heading with the rows of the boxes: the sides of a box are the intervals at the positions, its label the other
+/// values. Boxes that are given twice fall together.
+pub fn from_boxes(
+    alloc: Global,
+    heading: Heading,
+    acl: &[usize],
+    boxes: Vec<BoxRow<AnyType, Row>>,
+) -> Result<Relation, RowsRefuse>
+    requires intervals { AreIntervals heading acl.now }
+    requires sides { All (λ b. IsBox IsPointOf (types_at heading acl.now) b.1) boxes.items }
+    requires labels { All (λ b. IsTrue (fits_heading (others acl.now heading) b.0)) boxes.items }
+    ensures { let rows = rows_of (map (unboxed heading acl.now) (map (row_numbers number) boxes.items)) in
+        MatchResult result (IsAnswer heading rows) (IsRefusal rows) }
+{
+    let rows = to_rows(alloc, heading.attributes(), acl, boxes.as_slice())?;
+    Relation::from_rows(alloc, heading, rows)
+}
