@@ -20,52 +20,17 @@ use Rattle.tree_core.specs.Trees.{Tree, named, heading_of, read_tree, read_form}
 use Rattle.tree_core.specs.declared.relvar.Relvar.{Relvar}
 use Rattle.tree_core.specs.declared.tree.RelTree.{RelTree}
 use Rattle.tree_core.specs.declared.tree.RelForm.{RelForm, Named, Literal, Infix', Project', Rename', Restrict', Extend', Summarize', Pack', Unpack', Using'}
-use Rattle.algebra_core.specs.Meanings.{RowsMeant, Known, at_name, limited, relvar_meaning, known_in}
-use Rattle.algebra_core.specs.Names.{found, given, given_relvar, given_entry}
-use Rattle.algebra_core.specs.Plainness.{IsPlain, relvar_is_plain}
-use Rattle.algebra_core.specs.Scopes.{CanEvaluate, CanLookUp, IsFirstAt, state_of, all_of, with_of, value_of, known_at, stored_meaning, stored_work, work, up_to, current}
-use Rattle.algebra_core.specs.Typing.{heading_named, IsTypedTree}
-use Rattle.algebra_core.specs.WellMade.{sizes_of, headings_of, IsGiven, IsWellMade, IsTypedFor}
+use Rattle.meaning_core.specs.Meanings.{RowsMeant, Known, at_name, limited, relvar_meaning, known_in}
+use Rattle.meaning_core.specs.Names.{found, given, given_relvar, given_entry}
+
+use Rattle.meaning_core.specs.Names.{IsFirstAt}
+use Rattle.algebra_core.specs.Scopes.{CanEvaluate, CanLookUp, state_of, all_of, with_of, value_of, known_at, stored_meaning, stored_work, work, up_to, current}
+use Rattle.meaning_core.specs.Typing.{heading_named, IsTypedTree}
+use Rattle.meaning_core.specs.WellMade.{sizes_of, headings_of, IsGiven, IsWellMade, IsTypedFor}
 use Rattle.algebra_core.specs.declared.scope.Scope.{Scope}
-use Rattle.algebra_core.proofs.EntryLemmas.{found_first, named_first, heading_first, weight_first, relvar_first, given_first}
-use Rattle.algebra_core.proofs.LimitLemmas.{with_rows}
-use Rattle.algebra_core.proofs.MadeLemmas.{same_name, own_name}
-
--- ---- headings
-
-heading_of_form : (place : Place) (h : Heading) (form : RelForm) → heading_of (read_form place h form) ≡ h
-heading_of_form place h (Named name) = refl
-heading_of_form place h (Literal tuples) = refl
-heading_of_form place h (Infix' word p at g form q other_at other_g other_form) = refl
-heading_of_form place h (Project' kept p at g form) = refl
-heading_of_form place h (Rename' names p at g form) = refl
-heading_of_form place h (Restrict' c p at g form) = refl
-heading_of_form place h (Extend' sets p at g form) = refl
-heading_of_form place h (Summarize' by aggregates p at g form) = refl
-heading_of_form place h (Pack' acl p at g form) = refl
-heading_of_form place h (Unpack' acl p at g form) = refl
-heading_of_form place h (Using' acl p at g form) = refl
-
-pub under_ok : (h : Heading) (m : RowsMeant) (a : Relation) → under h m ≡ Ok a → (m ≡ Ok a.rows) × (h ≡ a.heading)
-under_ok h (Ok rows) a e =
-    let same : with_rows h rows ≡ a = cc in
-    (ap (λ (r : Relation). Ok r.rows) same, ap (λ (r : Relation). r.heading) same)
-under_ok h (Err d) a e = absurd (cc)
-
--- the heading of an operand's relation is that of its expression
-pub operand_heading : (t : RelTree) (m : RowsMeant) (a : Relation) → under t.heading m ≡ Ok a → a.heading ≡ heading_of (read_tree t)
-operand_heading t m a e = sym (under_ok t.heading m a e).1 ∙ sym (heading_of_form t.place t.heading t.form)
-
--- ---- one operand, and two
-
-pub unary_meant : (result : Result Relation Stop) (h from : Heading) (m : RowsMeant) (a : Relation) (f : List Row → RowsMeant)
-    → under from m ≡ Ok a → Answers result (under h (f a.rows)) → Answers result (under h (then_give m f))
-unary_meant result h from m a f e told = subst (λ (z : RowsMeant). Answers result (under h (then_give z f))) (sym (under_ok from m a e).0) told
-
-pub binary_meant : (result : Result Relation Stop) (h left right : Heading) (m n : RowsMeant) (a b : Relation) (f : List Row → List Row → RowsMeant)
-    → under left m ≡ Ok a → under right n ≡ Ok b → Answers result (under h (f a.rows b.rows)) → Answers result (under h (both m n f))
-binary_meant result h left right m n a b f d e told =
-    unary_meant result h left m a (λ x. then_give n (f x)) d (unary_meant result h right n b (f a.rows) e told)
+use Rattle.meaning_core.proofs.EntryLemmas.{found_first, named_first, heading_first, weight_first, relvar_first, given_first}
+use Rattle.meaning_core.proofs.LimitLemmas.{with_rows}
+use Rattle.meaning_core.proofs.MadeLemmas.{same_name, own_name}
 
 -- ---- names
 
@@ -95,27 +60,6 @@ module _ (s : Scope) (place : Place) (h : Heading) (name : Name) (at : ℕ) (x :
       subst (λ (z : RowsMeant). Answers result (under h (then_give (at_name place z) (limited place)))) (sym meant)
       (subst (λ (z : Heading). Answers result (under z (then_give (at_name place (stored_meaning s name at x)) (limited place)))) stands_before.1 told)
 
--- where a map finds a name, it stands first
-pub first_from : (es : List (Name × Relvar)) (name key : Name) (i : ℕ) (r : Relvar) → ((k : ℕ) → k < i → bytes_eq name (get_or (map (λ (e : Name × Relvar). e.0) es) k []) ≡ false)
-    → bytes_eq name (get_or (map (λ (e : Name × Relvar). e.0) es) i []) ≡ true → slice_get es i ≡ Some (key, r) → IsFirstAt (map read_entry es) name i (read_relvar r)
-first_from [] name key i r before here e = absurd (cc)
-first_from (d ∷ es) name key zero r before here e =
-    let same : d ≡ (key, r) = cc in
-    (ap (λ (n : Name). bytes_eq n name) (sym (same_name name d.0 here)) ∙ own_name name, ap (λ (z : Name × Relvar). read_relvar z.1) same)
-first_from (d ∷ es) name key (suc i) r before here e =
-    (differ (bytes_eq d.0 name) refl, first_from es name key i r (λ k l. before (suc k) (omega arith)) here e)
-  where
-    differ : (b : Bool) → bytes_eq d.0 name ≡ b → bytes_eq d.0 name ≡ false
-    differ false q = q
-    differ true q =
-        absurd (true≢false (sym (own_name name) ∙ (ap (λ (n : Name). bytes_eq name n) (sym (same_name d.0 name q)) ∙ before 0 (omega arith))))
-
-pub found_at : (es : List (Name × Relvar)) (name key : Name) (i : ℕ) (r : Relvar) → position (bytes_eq name) (map (λ (e : Name × Relvar). e.0) es) ≡ Some i → slice_get es i ≡ Some (key, r)
-    → IsFirstAt (map read_entry es) name i (read_relvar r)
-found_at es name key i r p e =
-    let all = position-Some (bytes_eq name) (map (λ (e : Name × Relvar). e.0) es) i [] p in
-    first_from es name key i r all.2 all.1 e
-
 -- ---- what an entry is
 
 pub view_can : (s : Scope) (name : Name) (at : ℕ) (t : Tree) (history : Option (Name × Name)) → CanLookUp s name at (view t history) → CanEvaluate (up_to s at) t
@@ -143,16 +87,6 @@ pub base_meant : (s : Scope) (name : Name) (at : ℕ) (old : Relation) (constrai
     → under old.heading (stored_meaning s name at (base old constraints)) ≡ Ok (current (with_of s) (value_of s) name old)
 base_meant s name at old constraints can =
     base_by (all_of s) (known_at (up_to s at)) (with_of s) (value_of s) name old constraints can.given (named_first (all_of s) name at (base old constraints) can.first)
-
--- ---- where a map finds no name
-
-none_before : (p : Name → Bool) (xs : List Name) (b : Bool) → nat_lt (position_or_len p xs) (length xs) ≡ b → cond b (Some (position_or_len p xs)) None ≡ None
-    → (k : ℕ) → k < length xs → p (get_or xs k []) ≡ false
-none_before p xs true q e k l = absurd (cc)
-none_before p xs false q e k l = fails_before_first p xs k [] (let m : length xs ≤ position_or_len p xs = grind (arith, nat_tests) in omega (arith, m))
-
-pub none_passes : (p : Name → Bool) (xs : List Name) → position p xs ≡ None → (k : ℕ) → k < length xs → p (get_or xs k []) ≡ false
-none_passes p xs e k l = none_before p xs (nat_lt (position_or_len p xs) (length xs)) refl e k l
 
 named_more : (t : Bool) (d : Name × Heading) (rest : List (Name × Heading)) (name : Name) (h : Heading) → bytes_eq d.0 name ≡ t → heading_named (d ∷ rest) name ≡ Some h
     → (bytes_eq d.0 name ≡ true) ⊎ (heading_named rest name ≡ Some h)
@@ -188,7 +122,3 @@ module _ (s : Scope) (whole : length (all_of s) ≤ s.before) where
   pub whole_known : known_at s ≡ known_in (given (with_of s) (value_of s) (all_of s))
   whole_known =
       ap known_in (take_all s.before (given (with_of s) (value_of s) (all_of s)) (omega (arith, length-map (all_of s) (given_entry (with_of s) (value_of s)))))
-
-pub given_none : (value : Option Relation) (entries : Entries) → given None value entries ≡ entries
-given_none value [] = refl
-given_none value (e ∷ rest) = ap (λ (es : Entries). e ∷ es) (given_none value rest)

@@ -16,8 +16,8 @@ use Rattle.scalar_core.specs.Kinds.{IsTypedOver}
 use Rattle.scalar_core.specs.ScalarValues.{value}
 use Rattle.scalar_core.specs.declared.tree.Scalar.{Scalar}
 use Rattle.tree_core.specs.Trees.{read_set, read_sets}
-use Rattle.algebra_core.specs.Rows.{values_on}
-use Rattle.algebra_core.specs.Scalars.{AreTypedOver}
+use Rattle.meaning_core.specs.Rows.{values_on}
+use Rattle.meaning_core.specs.Scalars.{AreTypedOver}
 
 -- a list of calls up to one, with that one, and up to its end
 module _ {A B X : Type 0} (f : B → OrFault X) (g : A → B) where

@@ -1,11 +1,6 @@
-pub mod EntryLemmas
 pub mod EvalLemmas
-pub mod GroupFits
 pub mod ItemLemmas
-pub mod LimitLemmas
 pub mod LiteralLemmas
-pub mod MadeLemmas
 pub mod OperandLemmas
-pub mod RowlessLemmas
 pub mod SummaryLemmas
 pub mod TruthLemmas

@@ -7,13 +7,14 @@ use Rattle.relation_core.specs.Answers.{under}
 use Rattle.tree_core.specs.Relvars.{PlainRelvar, base, view}
 use Rattle.tree_core.specs.Trees.{named}
 use Rattle.base_core.specs.Outcomes.{then_give}
-use Rattle.algebra_core.specs.Meanings.{RowsMeant, at_name, limited, meaning, plainly}
+use Rattle.meaning_core.specs.Meanings.{RowsMeant, at_name, limited, meaning, plainly}
 use Rattle.algebra_core.specs.Operands.{held, IsKept}
-use Rattle.algebra_core.specs.Scopes.{CanEvaluate, IsFirstAt, all_of, with_of, value_of, current, known_at, stored_meaning}
+use Rattle.meaning_core.specs.Names.{IsFirstAt}
+use Rattle.algebra_core.specs.Scopes.{CanEvaluate, all_of, with_of, value_of, current, known_at, stored_meaning}
 use Rattle.algebra_core.specs.declared.operand.Operand.{Operand}
 use Rattle.algebra_core.specs.declared.scope.Scope.{Scope}
 use Rattle.algebra_core.proofs.EvalLemmas.{named_meant, base_meant, can_look_up}
-use Rattle.algebra_core.proofs.LimitLemmas.{limited_few}
+use Rattle.meaning_core.proofs.LimitLemmas.{limited_few}
 
 pub held_given : (m : OrFault Relation) (operand : Operand) (a : Relation) → m ≡ Ok (held operand) → a ≡ held operand → m ≡ Ok a
 held_given m operand a e same = e ∙ ap (λ (r : Relation). Ok r) (sym same)

@@ -14,10 +14,10 @@ use Rattle.relation_core.specs.Groups.{rows_at}
 use Rattle.relation_core.specs.Operators.{fault_order}
 use Rattle.tree_core.specs.Trees.{read_aggregate, read_aggregate_form}
 use Rattle.tree_core.specs.declared.tree.Aggregate.{Aggregate}
-use Rattle.algebra_core.specs.Rows.{extreme, picked, values_over}
+use Rattle.meaning_core.specs.Rows.{extreme, picked, values_over}
 use Rattle.u_summary.specs.Summaries.{is_before}
 use Rattle.value_core.specs.Order.{value_total}
-use Rattle.algebra_core.specs.Scalars.{AreSummedOver, IsSummedOver}
+use Rattle.meaning_core.specs.Scalars.{AreSummedOver, IsSummedOver}
 
 -- ---- extremes
 

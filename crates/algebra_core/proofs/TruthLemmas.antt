@@ -9,13 +9,14 @@ use Rattle.value_core.specs.Values.{Name}
 use Rattle.tree_core.specs.Relvars.{Entries}
 use Rattle.tree_core.specs.Trees.{Tree, relate}
 use Rattle.tree_core.specs.declared.test.RelateWord.{RelateWord}
-use Rattle.algebra_core.specs.Meanings.{meaning, plainly, known_in}
-use Rattle.algebra_core.specs.Names.{given}
+use Rattle.meaning_core.specs.Meanings.{meaning, plainly, known_in}
+use Rattle.meaning_core.specs.Names.{given}
 use Rattle.algebra_core.specs.Plainness.{IsPlainTest}
 use Rattle.algebra_core.specs.Scopes.{all_of, with_of, value_of, known_at}
-use Rattle.algebra_core.specs.Truths.{truth_in, related_rows}
+use Rattle.meaning_core.specs.Truths.{truth_in, related_rows}
 use Rattle.algebra_core.specs.declared.scope.Scope.{Scope}
-use Rattle.algebra_core.proofs.EvalLemmas.{whole_known, given_none}
+use Rattle.meaning_core.proofs.LookupLemmas.{given_none}
+use Rattle.algebra_core.proofs.EvalLemmas.{whole_known}
 
 pub known_whole : (s : Scope) → with_of s ≡ None → length (all_of s) ≤ s.before → known_at s ≡ known_in (all_of s)
 known_whole s none whole =

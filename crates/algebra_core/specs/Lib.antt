@@ -1,14 +1,3 @@
-pub mod Declarations
-pub mod Histories
-pub mod Meanings
-pub mod Names
+pub mod Costs
 pub mod Operands
-pub mod Places
-pub mod Plainness
-pub mod Rows
-pub mod Scalars
 pub mod Scopes
-pub mod Truths
-pub mod Typing
-pub mod Updates
-pub mod WellMade

@@ -12,8 +12,8 @@ ghost use Rattle.scalar_core.specs.Operations.{number_of, integer};
 ghost use Rattle.relation_core.specs.Faults.{fault_of, lesser_of, values_of};
 ghost use Rattle.relation_core.specs.Groups.{rows_at};
 ghost use Rattle.tree_core.specs.Trees.{read_aggregate, read_aggregate_form};
-ghost use Rattle.algebra_core.specs.Rows.{picked, values_over, aggregate_value, aggregates_on, extreme};
-ghost use Rattle.algebra_core.specs.Scalars.{AllOver, AreSummedOver, IsSummedOver};
+ghost use Rattle.meaning_core.specs.Rows.{picked, values_over, aggregate_value, aggregates_on, extreme};
+ghost use Rattle.meaning_core.specs.Scalars.{AllOver, AreSummedOver, IsSummedOver};
 ghost use Rattle.u_summary.specs.Summaries.{total, is_before};
 
 use point_core::{AnyPoint, Code, Fault, Memory, Place, Stop};

@@ -6,7 +6,7 @@ ghost use Rattle.scalar_core.specs.Expressions.{read};
 ghost use Rattle.relation_core.specs.Answers.{Answers, under};
 ghost use Rattle.tree_core.specs.Relvars.{read_relvar, relvar_heading};
 ghost use Rattle.tree_core.specs.Trees.{read_tree, read_sets, read_aggregate, named as named_tree, infix_of, project as project_tree, rename as rename_tree, restrict as restrict_tree, extend as extend_tree, summarize as summarize_tree};
-ghost use Rattle.algebra_core.specs.Meanings.{RowsMeant, meaning, plainly, at_name, limited};
+ghost use Rattle.meaning_core.specs.Meanings.{RowsMeant, meaning, plainly, at_name, limited};
 ghost use Rattle.algebra_core.specs.Operands.{held_in, IsKept};
 ghost use Rattle.algebra_core.specs.Scopes.{CanEvaluate, CanLookUp, known_at, stored_meaning, up_to, current, with_of, value_of};
 

@@ -6,10 +6,10 @@ ghost use Rattle.scalar_core.specs.Expressions.{read};
 ghost use Rattle.relation_core.specs.Agreement.{names_of};
 ghost use Rattle.relation_core.specs.Answers.{Answers};
 ghost use Rattle.tree_core.specs.Trees.{read_sets};
-ghost use Rattle.algebra_core.specs.Meanings.{condition};
-ghost use Rattle.algebra_core.specs.Places.{places};
-ghost use Rattle.algebra_core.specs.Rows.{extended_at, set_names, values_on};
-ghost use Rattle.algebra_core.specs.Scalars.{AreTypedOver, IsConditionOver};
+ghost use Rattle.meaning_core.specs.Meanings.{condition};
+ghost use Rattle.meaning_core.specs.Places.{places};
+ghost use Rattle.meaning_core.specs.Rows.{extended_at, set_names, values_on};
+ghost use Rattle.meaning_core.specs.Scalars.{AreTypedOver, IsConditionOver};
 
 use crate::places::{pick, places, with_names};
 use point_core::{Memory, Stop};

@@ -7,9 +7,9 @@ ghost use Rattle.value_core.specs.Values.{rows_of};
 ghost use Rattle.scalar_core.specs.Answers.{Gives};
 ghost use Rattle.relation_core.specs.Answers.{Answers, IsAnswer, IsRefusal, under};
 ghost use Rattle.tree_core.specs.Trees.{read_sets};
-ghost use Rattle.algebra_core.specs.Meanings.{limited, literal_rows};
-ghost use Rattle.algebra_core.specs.Rows.{literal_row};
-ghost use Rattle.algebra_core.specs.Typing.{IsTuple};
+ghost use Rattle.meaning_core.specs.Meanings.{limited, literal_rows};
+ghost use Rattle.meaning_core.specs.Rows.{literal_row};
+ghost use Rattle.meaning_core.specs.Typing.{IsTuple};
 
 use crate::items::{extended_row, set_places};
 use crate::operators::told;

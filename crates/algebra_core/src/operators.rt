@@ -7,12 +7,12 @@ ghost use Rattle.relation_core.specs.Answers.{Answers, IsAnswer, IsRefusal, unde
 ghost use Rattle.relation_core.specs.Operators.{restricted, extended};
 ghost use Rattle.relation_core.specs.Parts.{projected};
 ghost use Rattle.tree_core.specs.Trees.{read_sets};
-ghost use Rattle.algebra_core.specs.Meanings.{limited, infix_rows, renamed_rows, condition};
-ghost use Rattle.algebra_core.specs.Rows.{extended_at, extended_row};
-ghost use Rattle.algebra_core.specs.Scalars.{AreTypedOver};
+ghost use Rattle.meaning_core.specs.Meanings.{limited, infix_rows, renamed_rows, condition};
+ghost use Rattle.meaning_core.specs.Rows.{extended_at, extended_row};
+ghost use Rattle.meaning_core.specs.Scalars.{AreTypedOver};
 ghost use Rattle.value_core.specs.declared.kind.Kind.TheVariants.{Truth};
 ghost use Rattle.scalar_core.specs.Kinds.{IsTyped};
-ghost use Rattle.algebra_core.specs.Typing.{IsInfix, IsProjection, IsRenaming, IsExtension};
+ghost use Rattle.meaning_core.specs.Typing.{IsInfix, IsProjection, IsRenaming, IsExtension};
 
 use crate::items::{extended_row, holds, set_places};
 use point_core::{Code, Fault, Memory, Place, Stop};

@@ -3,7 +3,7 @@ ghost use Rattle.std.specs.Prelude.{◌≡◌, ◌++◌, map, IfOk, slice_index_
 ghost use Rattle.value_core.specs.Plain.{plain};
 ghost use Rattle.value_core.specs.Values.{truth};
 ghost use Rattle.relation_core.specs.Agreement.{names_of, part_of};
-ghost use Rattle.algebra_core.specs.Places.{place_among, places};
+ghost use Rattle.meaning_core.specs.Places.{place_among, places};
 
 use point_core::Memory;
 use std::alloc::Global;

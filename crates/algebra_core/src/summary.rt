@@ -8,11 +8,11 @@ ghost use Rattle.relation_core.specs.Agreement.{names_of, part_of};
 ghost use Rattle.relation_core.specs.Answers.{Answers, under};
 ghost use Rattle.relation_core.specs.Groups.{groups, rows_at, summarized};
 ghost use Rattle.tree_core.specs.Trees.{read_aggregate};
-ghost use Rattle.algebra_core.specs.Meanings.{limited};
-ghost use Rattle.algebra_core.specs.Places.{places};
-ghost use Rattle.algebra_core.specs.Rows.{aggregate_names, first_row, group_at, group_row};
-ghost use Rattle.algebra_core.specs.Scalars.{AreSummedOver};
-ghost use Rattle.algebra_core.specs.Typing.{IsSummary};
+ghost use Rattle.meaning_core.specs.Meanings.{limited};
+ghost use Rattle.meaning_core.specs.Places.{places};
+ghost use Rattle.meaning_core.specs.Rows.{aggregate_names, first_row, group_at, group_row};
+ghost use Rattle.meaning_core.specs.Scalars.{AreSummedOver};
+ghost use Rattle.meaning_core.specs.Typing.{IsSummary};
 
 use crate::aggregates::aggregates_on;
 use crate::places::{pick, places, with_names};

@@ -23,7 +23,7 @@ use Rattle.assign_core.specs.Checks.{IsChecked, AreChecked, AllChecked}
 use Rattle.assign_core.specs.Databases.{IsKept}
 use Rattle.assign_core.proofs.ChangeLemmas.{bare_changed, none_changed}
 use Rattle.assign_core.proofs.RemovedLemmas.{AreFitting, AllFit, constraints_of, all_fit}
-use Rattle.algebra_core.proofs.RowlessLemmas.{bare-keeps, plain-keeps}
+use Rattle.meaning_core.proofs.RowlessLemmas.{bare-keeps, plain-keeps}
 
 -- ---- what is meant
 

@@ -6,14 +6,14 @@ use Rattle.std.specs.Str.{bytes_eq}
 use Rattle.value_core.specs.Values.{Name, Relation}
 use Rattle.tree_core.specs.declared.relvar.Relvar.{Relvar}
 use Rattle.tree_core.specs.Relvars.{PlainRelvar, base, view, Entries, relvar_named, heading_if, read_entry, read_relvar}
-use Rattle.algebra_core.specs.Names.{given, with_value}
-use Rattle.algebra_core.specs.Scopes.{IsFirstAt}
-use Rattle.algebra_core.specs.WellMade.{IsBase}
-use Rattle.algebra_core.proofs.MadeLemmas.{same_name}
+use Rattle.meaning_core.specs.Names.{given, with_value}
+use Rattle.meaning_core.specs.Names.{IsFirstAt}
+use Rattle.meaning_core.specs.WellMade.{IsBase}
+use Rattle.meaning_core.proofs.MadeLemmas.{same_name}
 use Rattle.assign_core.specs.Changes.{Changes, IsChange, AreChanges, changed_relvar, changed}
 use Rattle.assign_core.specs.Parts.{names_in}
 use Rattle.assign_core.proofs.NameLemmas.{turned}
-use Rattle.algebra_core.proofs.RowlessLemmas.{bare_all, bare, bare-with_value}
+use Rattle.meaning_core.proofs.RowlessLemmas.{bare_all, bare, bare-with_value}
 
 pub same_length : (cs : Changes) (es : Entries) → AreChanges cs es → length cs ≡ length es
 same_length [] [] h = refl

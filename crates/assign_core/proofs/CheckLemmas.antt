@@ -10,7 +10,7 @@ use Rattle.value_core.specs.declared.refuse.Refuse.{Refuse}
 use Rattle.value_core.specs.declared.refuse.Refuse.TheVariants.{Plain, At, Broken, Memory}
 use Rattle.value_core.specs.Values.{Name, Row, Relation}
 use Rattle.tree_core.specs.Relvars.{PlainRelvar, base, view, Entries, relvar_named, heading_if}
-use Rattle.algebra_core.specs.WellMade.{IsBase}
+use Rattle.meaning_core.specs.WellMade.{IsBase}
 use Rattle.u_constraints.specs.Constraints.{broken, names_relvar, heading_or_none, IsNamed}
 use Rattle.assign_core.specs.Breaches.{value_of, value_if, value_at, rows_named, or_later, breach, first_of, first_in, first_among}
 use Rattle.assign_core.specs.Changes.{newest, changed_relvar, Tells}

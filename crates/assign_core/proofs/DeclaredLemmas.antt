@@ -8,7 +8,7 @@ use Rattle.value_core.specs.declared.refuse.Refuse.TheVariants.{Broken}
 use Rattle.value_core.specs.Values.{Name, Row}
 use Rattle.tree_core.specs.declared.declaration.Declaration.{Declaration}
 use Rattle.tree_core.specs.Relvars.{State, PlainRelvar, base, view, Entries, relvar_named}
-use Rattle.algebra_core.specs.Declarations.{PlainDeclaration, ordinal_type, base_relvar, view_relvar, with_declaration, read_declaration}
+use Rattle.meaning_core.specs.Declarations.{PlainDeclaration, ordinal_type, base_relvar, view_relvar, with_declaration, read_declaration}
 use Rattle.u_constraints.specs.Constraints.{broken, names_relvar, rows_or_none}
 use Rattle.u_constraints.proofs.ConstraintLemmas.{broken_none}
 use Rattle.assign_core.specs.Breaches.{value_of, value_if, value_at, count_of, rows_of_all, rows_named, or_later, breach, first_of, first_in, first_among, first_broken}

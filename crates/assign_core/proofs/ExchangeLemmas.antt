@@ -5,7 +5,7 @@ use Rattle.indexmap.specs.IndexMap.{set_value_at}
 use Rattle.value_core.specs.Values.{Name, Relation}
 use Rattle.tree_core.specs.declared.relvar.Relvar.{Relvar}
 use Rattle.tree_core.specs.Relvars.{PlainRelvar, Entries, read_entry, read_relvar}
-use Rattle.algebra_core.specs.Names.{with_value}
+use Rattle.meaning_core.specs.Names.{with_value}
 use Rattle.assign_core.specs.Changes.{Changes, changed, changed_relvar, changed_at}
 
 pub set_place : (es : List (Name × Relvar)) (i : ℕ) (w : Relvar) (value : Relation) (k : Name) (r : Relvar) → slice_get es i ≡ Some (k, r) → read_relvar w ≡ with_value value (read_relvar r)

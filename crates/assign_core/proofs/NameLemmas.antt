@@ -7,7 +7,7 @@ use Rattle.indexmap.specs.IndexMap.{insert_entry, shift_remove_entry}
 use Rattle.value_core.specs.Values.{Name}
 use Rattle.tree_core.specs.declared.relvar.Relvar.{Relvar}
 use Rattle.tree_core.specs.Relvars.{PlainRelvar, Entries, read_entry}
-use Rattle.algebra_core.proofs.MadeLemmas.{same_name, own_name}
+use Rattle.meaning_core.proofs.MadeLemmas.{same_name, own_name}
 use Rattle.assign_core.specs.Parts.{names_in}
 
 -- ---- equal names

@@ -7,9 +7,9 @@ use Rattle.value_core.specs.declared.constraint.Constraint.{Constraint}
 use Rattle.value_core.specs.declared.constraint.Constraint.TheVariants.{Key, Packed, WhenUnpacked, UKey, Foreign, History}
 use Rattle.value_core.specs.Values.{Name}
 use Rattle.tree_core.specs.Relvars.{State, PlainRelvar, base, view, Entries, relvar_named, relvar_heading, heading_if}
-use Rattle.algebra_core.specs.Declarations.{without}
-use Rattle.algebra_core.specs.WellMade.{IsBase, IsConstraint, IsRelvar, AreRelvars, FitsHeadings, IsWellMade, sizes_of}
-use Rattle.algebra_core.proofs.MadeLemmas.{same_name}
+use Rattle.meaning_core.specs.Declarations.{without}
+use Rattle.meaning_core.specs.WellMade.{IsBase, IsConstraint, IsRelvar, AreRelvars, FitsHeadings, IsWellMade, sizes_of}
+use Rattle.meaning_core.proofs.MadeLemmas.{same_name}
 use Rattle.u_constraints.specs.Constraints.{names_relvar, rows_or_none}
 use Rattle.assign_core.specs.Breaches.{value_if, value_at, count_of, rows_of_all, first_in, first_among, IsBuiltRelvar, AreBuilt}
 use Rattle.assign_core.specs.Checks.{heading_at, NamesBase}

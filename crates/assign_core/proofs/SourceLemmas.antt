@@ -13,14 +13,14 @@ use Rattle.tree_core.specs.declared.tree.RelTree.{RelTree}
 use Rattle.tree_core.specs.Items.{PlainAssignment, read_assignment}
 use Rattle.tree_core.specs.Relvars.{PlainRelvar, base, view, Entries, relvar_named}
 use Rattle.tree_core.specs.Trees.{heading_of, read_tree}
-use Rattle.algebra_core.specs.Meanings.{meaning_in}
-use Rattle.algebra_core.specs.Names.{given}
-use Rattle.algebra_core.specs.WellMade.{IsBase, IsGiven}
-use Rattle.algebra_core.proofs.EvalLemmas.{operand_heading, under_ok}
+use Rattle.meaning_core.specs.Meanings.{meaning_in}
+use Rattle.meaning_core.specs.Names.{given}
+use Rattle.meaning_core.specs.WellMade.{IsBase, IsGiven}
+use Rattle.meaning_core.proofs.LookupLemmas.{operand_heading, under_ok}
 use Rattle.assign_core.specs.Assignments.{seen_by, source_value, with_target, evaluated}
 use Rattle.assign_core.specs.Breaches.{value_if}
 use Rattle.assign_core.specs.Changes.{Gives}
-use Rattle.algebra_core.proofs.RowlessLemmas.{bare_all, own-given, is_given-keeps, is_base-keeps}
+use Rattle.meaning_core.proofs.RowlessLemmas.{bare_all, own-given, is_given-keeps, is_base-keeps}
 
 heading_is : (t : RelTree) → t.heading ≡ heading_of (read_tree t)
 heading_is t = operand_heading t (Ok []) (record { heading = t.heading; rows = [] }) refl

@@ -10,7 +10,7 @@ use Rattle.value_core.specs.declared.refuse.Refuse.TheVariants.{Broken}
 use Rattle.value_core.specs.Values.{Name, Row, Relation}
 use Rattle.tree_core.specs.declared.relvar.Relvar.{Relvar}
 use Rattle.tree_core.specs.Relvars.{PlainRelvar, base, Entries, relvar_named, read_entry, read_relvar}
-use Rattle.algebra_core.specs.Scopes.{IsFirstAt}
+use Rattle.meaning_core.specs.Names.{IsFirstAt}
 use Rattle.u_constraints.specs.Constraints.{broken, names_relvar, rows_or_none}
 use Rattle.assign_core.specs.declared.checking.After.{After}
 use Rattle.assign_core.specs.Breaches.{value_if, value_at, rows_named, breach, first_of, first_in, first_among}

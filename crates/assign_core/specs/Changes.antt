@@ -10,7 +10,7 @@ use Rattle.value_core.specs.declared.refuse.Refuse.{Refuse}
 use Rattle.value_core.specs.declared.refuse.Refuse.TheVariants.{Plain, At, Broken, Memory}
 use Rattle.value_core.specs.Values.{Relation}
 use Rattle.tree_core.specs.Relvars.{PlainRelvar, base, view, Entries}
-use Rattle.algebra_core.specs.Names.{with_value}
+use Rattle.meaning_core.specs.Names.{with_value}
 
 abbrev pub Changes : Type 0
 Changes = List (Option Relation)

@@ -4,7 +4,7 @@ ghost use Rattle.std.specs.List.{IsDistinct};
 ghost use Rattle.std.specs.Str.{bytes_eq};
 ghost use Rattle.indexmap.specs.IndexMap.{keys};
 ghost use Rattle.tree_core.specs.Relvars.{read_relvars};
-ghost use Rattle.algebra_core.specs.Declarations.{read_declaration, with_declaration};
+ghost use Rattle.meaning_core.specs.Declarations.{read_declaration, with_declaration};
 ghost use Rattle.assign_core.specs.Databases.{declared};
 ghost use Rattle.assign_core.specs.Parts.{names_in, Begins};
 

@@ -1,7 +1,7 @@
 // The exchange of values.
 ghost use Rattle.std.specs.Prelude.{◌≡◌, ◌<◌, length, map};
 ghost use Rattle.tree_core.specs.Relvars.{read_entry, read_relvar};
-ghost use Rattle.algebra_core.specs.Names.{with_value};
+ghost use Rattle.meaning_core.specs.Names.{with_value};
 ghost use Rattle.assign_core.specs.Changes.{changed, changed_at};
 
 use tree_core::{Relvar, Relvars};

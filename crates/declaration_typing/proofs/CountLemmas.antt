@@ -8,7 +8,7 @@ use Rattle.std.proofs.lemmas.List.{map-append}
 use Rattle.value_core.specs.Values.{Name}
 use Rattle.tree_core.specs.Relvars.{PlainRelvar, base, view, Entries}
 use Rattle.tree_core.specs.Trees.{Tree, named, literal, infix_of, project, rename, restrict, extend, summarize, pack, unpack, using}
-use Rattle.algebra_core.specs.Names.{found, each_after, each_in}
+use Rattle.meaning_core.specs.Names.{found, each_after, each_in}
 use Rattle.declaration_typing.specs.Nodes.{capped, count, relvar_count, nodes_of, capped_count}
 
 abbrev Known : Type 0

@@ -18,10 +18,10 @@ use Rattle.scalar_typing.proofs.SoundLemmas.{then-sound}
 use Rattle.relation_typing.specs.Attributes.{name_typed}
 use Rattle.relation_core.specs.Agreement.{position_of}
 use Rattle.tree_core.specs.Relvars.{State, PlainRelvar, base, view, Entries, relvar_named, heading_if}
-use Rattle.algebra_core.specs.Meanings.{positions_of}
-use Rattle.algebra_core.specs.Typing.{IsList}
-use Rattle.algebra_core.specs.WellMade.{AreDifferent, AreAlike, AreAmong, FitsHeadings, IsBase, IsConstraint}
-use Rattle.algebra_core.proofs.MadeLemmas.{same_name}
+use Rattle.meaning_core.specs.Meanings.{positions_of}
+use Rattle.meaning_core.specs.Typing.{IsList}
+use Rattle.meaning_core.specs.WellMade.{AreDifferent, AreAlike, AreAmong, FitsHeadings, IsBase, IsConstraint}
+use Rattle.meaning_core.proofs.MadeLemmas.{same_name}
 use Rattle.node_typing.specs.Positions.{check}
 use Rattle.node_typing.specs.Lists.{names_of_words, words_of, name_checked, names_checked, list_checked}
 use Rattle.declaration_typing.specs.Constraints.{base_heading, heading_there, positions_there, reference_typed, names_typed, list_typed, kept_by, listed_key, constraint_typed, constraints_typed}

@@ -11,8 +11,8 @@ use Rattle.value_core.specs.Values.{Heading, is_heading}
 use Rattle.scalar_core.specs.Expressions.{Expr, constant, attribute, one, pair, and_expr, or_expr}
 use Rattle.tree_core.specs.Relvars.{PlainRelvar, base, view, Entries}
 use Rattle.tree_core.specs.Trees.{PlainSets, PlainAggregateForm, count_rows, sum_of, min_of, max_of, PlainAggregate, Tree, named, literal, infix_of, project, rename, restrict, extend, summarize, pack, unpack, using}
-use Rattle.algebra_core.specs.Typing.{is_ordinal, is_type, is_kind, is_declared, has_declared, IsScalar, Makes, HasKind, Sums, IsTuple, Headings, IsTypedTree}
-use Rattle.algebra_core.specs.WellMade.{headings_of, IsRelvar, AreRelvars}
+use Rattle.meaning_core.specs.Typing.{is_ordinal, is_type, is_kind, is_declared, has_declared, IsScalar, Makes, HasKind, Sums, IsTuple, Headings, IsTypedTree}
+use Rattle.meaning_core.specs.WellMade.{headings_of, IsRelvar, AreRelvars}
 
 module _ (sizes more : List ℕ) where
   ordinal-more : (of last : ℕ) → IsTrue (is_ordinal sizes of last) → IsTrue (is_ordinal (sizes ++ more) of last)

@@ -13,8 +13,8 @@ use Rattle.value_core.specs.Values.{Name}
 use Rattle.scalar_typing.proofs.SoundLemmas.{then-sound}
 use Rattle.relation_typing.specs.Attributes.{name_typed}
 use Rattle.tree_core.specs.Relvars.{State}
-use Rattle.algebra_core.specs.Declarations.{PlainDeclaration, with_declaration}
-use Rattle.algebra_core.specs.WellMade.{sizes_of, all_names, IsOrdinalType, AreRelvars, IsWellMade}
+use Rattle.meaning_core.specs.Declarations.{PlainDeclaration, with_declaration}
+use Rattle.meaning_core.specs.WellMade.{sizes_of, all_names, IsOrdinalType, AreRelvars, IsWellMade}
 use Rattle.node_typing.specs.Lists.{named_in}
 use Rattle.node_typing.specs.Positions.{check}
 use Rattle.declaration_typing.specs.Names.{new_name}

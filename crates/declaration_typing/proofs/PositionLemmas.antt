@@ -19,8 +19,8 @@ use Rattle.scalar_typing.specs.Typings.{value_or}
 use Rattle.scalar_typing.proofs.SoundLemmas.{then-sound}
 use Rattle.relation_core.specs.Agreement.{position_of}
 use Rattle.relation_core.specs.Parts.{no_attribute}
-use Rattle.algebra_core.specs.WellMade.{AreDifferent, AreAlike}
-use Rattle.algebra_core.proofs.MadeLemmas.{same_name}
+use Rattle.meaning_core.specs.WellMade.{AreDifferent, AreAlike}
+use Rattle.meaning_core.proofs.MadeLemmas.{same_name}
 use Rattle.node_typing.specs.Positions.{check, position_typed, new_position, positions_typed}
 use Rattle.node_typing.specs.Lists.{kind_named}
 use Rattle.declaration_typing.specs.Constraints.{position_there, positions_there}

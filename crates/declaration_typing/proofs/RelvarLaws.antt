@@ -8,9 +8,9 @@ use Rattle.value_core.specs.Values.{Name, Heading}
 use Rattle.scalar_typing.proofs.SoundLemmas.{then-sound}
 use Rattle.relation_typing.specs.Headings.{heading_typed}
 use Rattle.tree_core.specs.Relvars.{State, base}
-use Rattle.algebra_core.specs.Declarations.{PlainDeclaration, with_declaration}
-use Rattle.algebra_core.specs.Typing.{is_declared}
-use Rattle.algebra_core.specs.WellMade.{sizes_of, IsConstraint, IsWellMade}
+use Rattle.meaning_core.specs.Declarations.{PlainDeclaration, with_declaration}
+use Rattle.meaning_core.specs.Typing.{is_declared}
+use Rattle.meaning_core.specs.WellMade.{sizes_of, IsConstraint, IsWellMade}
 use Rattle.declaration_typing.specs.Constraints.{constraints_typed, few_constraints}
 use Rattle.declaration_typing.specs.Names.{new_name, room_for}
 use Rattle.declaration_typing.specs.Relvars.{relvar_declared}

@@ -12,8 +12,8 @@ use Rattle.value_core.specs.Values.{Name}
 use Rattle.scalar_typing.proofs.SoundLemmas.{then-sound}
 use Rattle.relation_typing.specs.Attributes.{name_typed}
 use Rattle.tree_core.specs.Relvars.{State, PlainRelvar, Entries, relvar_named}
-use Rattle.algebra_core.specs.Declarations.{with_relvar}
-use Rattle.algebra_core.specs.WellMade.{sizes_of, all_names, IsRelvar, AreRelvars, IsWellMade}
+use Rattle.meaning_core.specs.Declarations.{with_relvar}
+use Rattle.meaning_core.specs.WellMade.{sizes_of, all_names, IsRelvar, AreRelvars, IsWellMade}
 use Rattle.node_typing.specs.Positions.{check}
 use Rattle.declaration_typing.specs.Names.{is_taken, new_name}
 use Rattle.declaration_typing.proofs.DistinctLemmas.{distinct-push}

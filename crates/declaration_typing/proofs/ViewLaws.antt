@@ -3,8 +3,8 @@ use Rattle.std.specs.Prelude.{None, IfOk}
 use Rattle.utd_syntax.specs.Plain.{Word, RelP}
 use Rattle.scalar_typing.proofs.SoundLemmas.{then-sound}
 use Rattle.tree_core.specs.Relvars.{State, view}
-use Rattle.algebra_core.specs.Declarations.{PlainDeclaration, with_declaration}
-use Rattle.algebra_core.specs.WellMade.{IsTypedFor, IsWellMade}
+use Rattle.meaning_core.specs.Declarations.{PlainDeclaration, with_declaration}
+use Rattle.meaning_core.specs.WellMade.{IsTypedFor, IsWellMade}
 use Rattle.tree_typing.specs.Trees.{tree_typed}
 use Rattle.declaration_typing.specs.Names.{new_name}
 use Rattle.declaration_typing.specs.Views.{room_for_view, view_declared}

@@ -17,7 +17,7 @@ use Rattle.scalar_core.specs.KindOf.{same_kind}
 use Rattle.scalar_typing.specs.Typings.{◌>>=◌, refused}
 use Rattle.relation_typing.specs.Attributes.{name_typed}
 use Rattle.tree_core.specs.Relvars.{State, PlainRelvar, base, view, relvar_named}
-use Rattle.algebra_core.specs.Meanings.{positions_of}
+use Rattle.meaning_core.specs.Meanings.{positions_of}
 use Rattle.relation_core.specs.Agreement.{position_of}
 use Rattle.node_typing.specs.Positions.{check, position_typed, positions_typed}
 use Rattle.node_typing.specs.Lists.{kind_named, list_checked, words_of}
@@ -147,16 +147,3 @@ refused_at (Some c) = refused (place_of c) E22
 
 abbrev pub few_constraints : List ConstraintP → OrFault (Unit {0})
 few_constraints constraints = refused_at (slice_get constraints 32)
-
--- ---- what is built
-
--- KEY, and FOREIGN KEY without USING
-abbrev pub is_built : ConstraintP → Bool
-is_built (syntax.KeyOf key) = true
-is_built (syntax.ForeignOf key) = true
-is_built (syntax.PackedOn at list) = false
-is_built (syntax.WhenUnpacked at list key) = false
-is_built (syntax.UsingConstraint at list c) = false
-
-abbrev pub are_built : List ConstraintP → Bool
-are_built constraints = list_all is_built constraints

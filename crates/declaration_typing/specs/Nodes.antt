@@ -5,7 +5,7 @@ use Rattle.std.specs.Prelude.{ℕ, ◌+◌, min, List}
 use Rattle.value_core.specs.Values.{Name}
 use Rattle.tree_core.specs.Relvars.{PlainRelvar, base, view, Entries}
 use Rattle.tree_core.specs.Trees.{Tree, named, literal, infix_of, project, rename, restrict, extend, summarize, pack, unpack, using}
-use Rattle.algebra_core.specs.Names.{found, each_in}
+use Rattle.meaning_core.specs.Names.{found, each_in}
 
 -- the nodes of an expression, where it is known how many a name counts for
 abbrev pub count : List (Name × ℕ) → Tree → ℕ

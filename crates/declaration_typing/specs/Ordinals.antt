@@ -9,7 +9,7 @@ use Rattle.value_core.specs.Values.{Name}
 use Rattle.scalar_typing.specs.Typings.{◌>>=◌}
 use Rattle.relation_typing.specs.Attributes.{name_typed}
 use Rattle.tree_core.specs.Relvars.{State}
-use Rattle.algebra_core.specs.Declarations.{PlainDeclaration, ordinal_type}
+use Rattle.meaning_core.specs.Declarations.{PlainDeclaration, ordinal_type}
 use Rattle.declaration_typing.specs.Names.{new_name}
 use Rattle.node_typing.specs.Positions.{check}
 use Rattle.node_typing.specs.Lists.{named_in}

@@ -6,7 +6,7 @@ use Rattle.utd_syntax.specs.Plain.{Word, HeadingP, ConstraintP}
 use Rattle.scalar_typing.specs.Typings.{◌>>=◌}
 use Rattle.relation_typing.specs.Headings.{heading_typed}
 use Rattle.tree_core.specs.Relvars.{State}
-use Rattle.algebra_core.specs.Declarations.{PlainDeclaration, base_relvar}
+use Rattle.meaning_core.specs.Declarations.{PlainDeclaration, base_relvar}
 use Rattle.declaration_typing.specs.Constraints.{constraints_typed, few_constraints}
 use Rattle.declaration_typing.specs.Names.{new_name, room_for}
 

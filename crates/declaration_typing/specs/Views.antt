@@ -8,7 +8,7 @@ use Rattle.utd_syntax.specs.Plain.{Word, RelP}
 use Rattle.scalar_typing.specs.Typings.{◌>>=◌}
 use Rattle.tree_core.specs.Relvars.{State}
 use Rattle.tree_core.specs.Trees.{Tree}
-use Rattle.algebra_core.specs.Declarations.{PlainDeclaration, view_relvar}
+use Rattle.meaning_core.specs.Declarations.{PlainDeclaration, view_relvar}
 use Rattle.node_typing.specs.Positions.{check}
 use Rattle.tree_typing.specs.Trees.{tree_typed}
 use Rattle.declaration_typing.specs.Names.{new_name, room_for}

@@ -2,7 +2,7 @@
 ghost use Rattle.std.specs.Prelude.{◌≡◌, ◌+◌, IfOk, nat_le};
 ghost use Rattle.tree_core.specs.Relvars.{read_relvar, read_relvars};
 ghost use Rattle.tree_core.specs.Trees.{read_tree};
-ghost use Rattle.algebra_core.specs.Names.{found, each_in};
+ghost use Rattle.meaning_core.specs.Names.{found, each_in};
 ghost use Rattle.declaration_typing.specs.Nodes as rules;
 ghost use Rattle.declaration_typing.specs.Nodes.{capped};
 

@@ -3,7 +3,7 @@ ghost use Rattle.std.specs.Prelude.{◌≡◌, ◌∷◌, [], IfOk};
 ghost use Rattle.scalar_core.specs.Answers.{Gives};
 ghost use Rattle.utd_syntax.specs.Read.{read_name, read_name_list, read_some_names};
 ghost use Rattle.tree_core.specs.Relvars.{read_relvars};
-ghost use Rattle.algebra_core.specs.Declarations.{read_declaration};
+ghost use Rattle.meaning_core.specs.Declarations.{read_declaration};
 ghost use Rattle.declaration_typing.specs.Ordinals as rules;
 
 use crate::names::new_name;

@@ -4,7 +4,7 @@ ghost use Rattle.scalar_core.specs.Answers.{Gives};
 ghost use Rattle.scalar_typing.specs.Names.{AreOrdinals};
 ghost use Rattle.tree_core.specs.Relvars.{read_relvars};
 ghost use Rattle.tree_core.specs.Trees.{read_tree};
-ghost use Rattle.algebra_core.specs.Declarations.{read_declaration};
+ghost use Rattle.meaning_core.specs.Declarations.{read_declaration};
 ghost use Rattle.declaration_typing.specs.Views as rules;
 
 use crate::names::{new_name, room_for};

@@ -13,9 +13,9 @@ use Rattle.scalar_typing.specs.Scalars.{typed_scalar}
 use Rattle.scalar_typing.specs.Typings.{◌>>=◌, value_or}
 use Rattle.tree_core.specs.Items.{PlainPortion, PlainChange}
 use Rattle.tree_core.specs.Trees.{PlainSets}
-use Rattle.algebra_core.specs.Meanings.{positions_of}
-use Rattle.algebra_core.specs.Typing.{is_span}
-use Rattle.algebra_core.specs.Updates.{attributes_of_portion}
+use Rattle.meaning_core.specs.Meanings.{positions_of}
+use Rattle.meaning_core.specs.Typing.{is_span}
+use Rattle.meaning_core.specs.Updates.{attributes_of_portion}
 use Rattle.node_typing.specs.Positions.{check}
 use Rattle.node_typing.specs.Rows.{condition_typed}
 use Rattle.node_typing.specs.Sweeps.{none_assigned, swept, sets_swept}

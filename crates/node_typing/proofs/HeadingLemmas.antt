@@ -15,7 +15,7 @@ use Rattle.value_core.specs.Values.{Name, Heading, attribute_cmp, name_cmp}
 use Rattle.relation_core.specs.Agreement.{names_of}
 use Rattle.relation_core.proofs.ApartLemmas.{ascends_in_order}
 use Rattle.relation_core.proofs.AttributeLemmas.{name_is}
-use Rattle.algebra_core.specs.Typing.{not_named}
+use Rattle.meaning_core.specs.Typing.{not_named}
 use Rattle.relation_typing.specs.Attributes.{with_attribute}
 use Rattle.node_typing.specs.Headings.{heading_of_list, made_beside, with_all}
 

@@ -3,7 +3,7 @@ use Rattle.std.specs.Prelude.{[], ◌∷◌, ◌++◌}
 use Rattle.base_core.specs.Sets.{in_order}
 use Rattle.value_core.specs.Values.{Heading, attribute_cmp}
 use Rattle.relation_core.specs.Agreement.{names_of}
-use Rattle.algebra_core.specs.Typing.{not_named}
+use Rattle.meaning_core.specs.Typing.{not_named}
 use Rattle.relation_typing.specs.Attributes.{with_attribute}
 
 -- the attributes in the order of their names

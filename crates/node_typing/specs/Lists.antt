@@ -14,7 +14,7 @@ use Rattle.scalar_core.specs.KindOf.{same_kind}
 use Rattle.relation_core.specs.Agreement.{position_of}
 use Rattle.relation_core.specs.Parts.{kind_at}
 use Rattle.scalar_typing.specs.Typings.{◌>>=◌}
-use Rattle.algebra_core.specs.Typing.{is_span}
+use Rattle.meaning_core.specs.Typing.{is_span}
 use Rattle.node_typing.specs.Positions.{check}
 
 -- the words and their names

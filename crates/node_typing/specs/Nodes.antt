@@ -19,7 +19,7 @@ use Rattle.tree_core.specs.declared.tree.InfixWord.{InfixWord}
 use Rattle.tree_core.specs.declared.test.RelateWord.{RelateWord}
 use Rattle.tree_core.specs.declared.test.RelateWord.TheVariants as relation
 use Rattle.scalar_typing.specs.Typings.{◌>>=◌}
-use Rattle.algebra_core.specs.Meanings.{positions_of}
+use Rattle.meaning_core.specs.Meanings.{positions_of}
 use Rattle.relation_typing.specs.Headings.{same_heading}
 use Rattle.node_typing.specs.Headings.{heading_of_list}
 use Rattle.node_typing.specs.Infixes.{infix_heading}

@@ -10,7 +10,7 @@ use Rattle.relation_core.specs.Parts.{attributes_at}
 use Rattle.tree_core.specs.Trees.{Tree, restrict, extend, project, summarize, using, heading_of}
 use Rattle.tree_core.specs.declared.tree.InfixWord.{InfixWord}
 use Rattle.scalar_typing.specs.Typings.{◌>>=◌}
-use Rattle.algebra_core.specs.Meanings.{positions_of}
+use Rattle.meaning_core.specs.Meanings.{positions_of}
 use Rattle.node_typing.specs.Lists.{words_of, list_checked}
 use Rattle.node_typing.specs.Nodes.{infix_rule}
 use Rattle.node_typing.specs.Projections.{projection_place, projection_kept}

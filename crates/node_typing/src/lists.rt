@@ -2,8 +2,8 @@
 ghost use Rattle.std.specs.Prelude.{◌≡◌, [], IfOk, length, nat_le};
 ghost use Rattle.utd_syntax.specs.Read.{read_list, read_name, read_name_list};
 ghost use Rattle.scalar_core.specs.Answers.{Gives};
-ghost use Rattle.algebra_core.specs.Meanings.{positions_of};
-ghost use Rattle.algebra_core.specs.Typing.{is_span};
+ghost use Rattle.meaning_core.specs.Meanings.{positions_of};
+ghost use Rattle.meaning_core.specs.Typing.{is_span};
 ghost use Rattle.point_core.specs.declared.fault.Code.TheVariants.{E17};
 ghost use Rattle.node_typing.specs.Lists as rules;
 ghost use Rattle.node_typing.specs.Positions.{check};

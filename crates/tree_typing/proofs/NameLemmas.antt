@@ -8,7 +8,7 @@ use Rattle.std.proofs.lemmas.Bool.{true≢false}
 use Rattle.value_core.specs.Values.{Name}
 use Rattle.tree_core.specs.Relvars.{PlainRelvar, relvar_named, read_relvar, read_entry}
 use Rattle.tree_core.specs.declared.relvar.Relvar.{Relvar}
-use Rattle.algebra_core.proofs.MadeLemmas.{same_name, own_name}
+use Rattle.meaning_core.proofs.MadeLemmas.{same_name, own_name}
 
 -- names are equal from either side
 either : (a b : Name) (r s : Bool) → bytes_eq a b ≡ r → bytes_eq b a ≡ s → r ≡ s

@@ -24,8 +24,8 @@ use Rattle.scalar_typing.specs.Scalars.{typed_scalar}
 use Rattle.scalar_typing.proofs.SoundLemmas.{then-sound}
 use Rattle.scalar_typing.proofs.TypedLemmas.{same_kind-same}
 use Rattle.tree_core.specs.Trees.{PlainAggregate, Tree, heading_of}
-use Rattle.algebra_core.specs.Typing.{IsScalar, HasKind, Sums, ArePositions, IsSummary, Headings, IsTypedTree}
-use Rattle.algebra_core.specs.WellMade.{sizes_of, IsOrdinalType}
+use Rattle.meaning_core.specs.Typing.{IsScalar, HasKind, Sums, ArePositions, IsSummary, Headings, IsTypedTree}
+use Rattle.meaning_core.specs.WellMade.{sizes_of, IsOrdinalType}
 use Rattle.node_typing.specs.Nodes.{summary_rule}
 use Rattle.node_typing.specs.Positions.{check, positions_typed}
 use Rattle.node_typing.specs.Summaries.{FormMade, takes, form_over, form_typed, Summed, aggregate_of, aggregate_typed, aggregates_typed, aggregate_list, groups_typed, aggregates_made, form_place}

@@ -4,10 +4,10 @@ use Rattle.point_core.specs.Faults.{OrFault}
 use Rattle.utd_syntax.specs.Plain.{Word, NameListP, SomeNamesP, HeadingP, ConstraintP, RelP}
 use Rattle.value_core.specs.Values.{Name, Heading}
 use Rattle.tree_core.specs.Relvars.{State}
-use Rattle.algebra_core.specs.Declarations.{with_declaration, without}
-use Rattle.algebra_core.specs.Meanings.{positions_of}
-use Rattle.algebra_core.specs.Typing.{IsList}
-use Rattle.algebra_core.specs.WellMade.{IsWellMade}
+use Rattle.meaning_core.specs.Declarations.{with_declaration, without}
+use Rattle.meaning_core.specs.Meanings.{positions_of}
+use Rattle.meaning_core.specs.Typing.{IsList}
+use Rattle.meaning_core.specs.WellMade.{IsWellMade}
 use Rattle.node_typing.specs.Lists.{list_checked}
 use Rattle.declaration_typing.specs.Drops.{dropped}
 use Rattle.declaration_typing.specs.Ordinals.{ordinal_declared}

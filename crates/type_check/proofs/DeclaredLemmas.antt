@@ -19,8 +19,8 @@ use Rattle.tree_core.specs.Relvars.{PlainRelvar, base, view, Entries, State, rel
 use Rattle.tree_core.specs.Trees.{PlainAggregateForm, count_rows, sum_of, min_of, max_of, PlainAggregate, Tree, named, literal, infix_of, project, rename, restrict, extend, summarize, pack, unpack, using, heading_of}
 use Rattle.tree_core.specs.declared.tree.InfixWord.{InfixWord}
 use Rattle.tree_core.specs.declared.tree.InfixWord.TheVariants.{Union, Intersect, Minus, Join, Matching, NotMatching}
-use Rattle.algebra_core.specs.Typing.{is_kind, is_declared, HasKind, Sums, IsInfix, ArePositions, IsExtension, IsSummary, not_named, Headings, heading_named, IsTypedTree}
-use Rattle.algebra_core.specs.WellMade.{sizes_of, headings_of, IsRelvar, AreRelvars, IsWellMade, IsTypedFor}
+use Rattle.meaning_core.specs.Typing.{is_kind, is_declared, HasKind, Sums, IsInfix, ArePositions, IsExtension, IsSummary, not_named, Headings, heading_named, IsTypedTree}
+use Rattle.meaning_core.specs.WellMade.{sizes_of, headings_of, IsRelvar, AreRelvars, IsWellMade, IsTypedFor}
 use Rattle.type_check.proofs.PutLemmas.{is-heading, all-in, all-both}
 use Rattle.type_check.proofs.ScalarLemmas.{scalar-kind}
 use Rattle.type_check.proofs.ItemLemmas.{makes-kinds, declared-of}

@@ -25,8 +25,8 @@ use Rattle.relation_typing.specs.Attributes.{few_attributes}
 use Rattle.relation_typing.specs.Items.{Made, none_made, item_typed}
 use Rattle.scalar_typing.proofs.SoundLemmas.{then-sound}
 use Rattle.tree_core.specs.Trees.{PlainSets, Tree, heading_of}
-use Rattle.algebra_core.specs.Typing.{IsExtension, not_named, Headings, IsTypedTree}
-use Rattle.algebra_core.specs.WellMade.{sizes_of, IsOrdinalType}
+use Rattle.meaning_core.specs.Typing.{IsExtension, not_named, Headings, IsTypedTree}
+use Rattle.meaning_core.specs.WellMade.{sizes_of, IsOrdinalType}
 use Rattle.node_typing.specs.Headings.{made_beside}
 use Rattle.node_typing.specs.Nodes.{extension_rule}
 use Rattle.node_typing.specs.Rows.{item_list, items_typed, extension_made}

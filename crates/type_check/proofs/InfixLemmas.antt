@@ -24,8 +24,8 @@ use Rattle.scalar_typing.proofs.SoundLemmas.{then-sound}
 use Rattle.scalar_typing.proofs.TypedLemmas.{same_kind-same}
 use Rattle.relation_typing.specs.Attributes.{few_attributes}
 use Rattle.relation_typing.specs.Headings.{same_heading}
-use Rattle.algebra_core.specs.Typing.{IsScalar, IsInfix, ArePositions, Headings, IsTypedTree}
-use Rattle.algebra_core.specs.WellMade.{sizes_of, IsOrdinalType}
+use Rattle.meaning_core.specs.Typing.{IsScalar, IsInfix, ArePositions, Headings, IsTypedTree}
+use Rattle.meaning_core.specs.WellMade.{sizes_of, IsOrdinalType}
 use Rattle.node_typing.specs.Infixes.{agrees_with, agrees_in, kinds_agree, infix_heading}
 use Rattle.node_typing.specs.Nodes.{infix_rule, projection_rule, restriction_rule}
 use Rattle.node_typing.specs.Positions.{check, positions_typed}

@@ -22,8 +22,8 @@ use Rattle.scalar_typing.proofs.SoundLemmas.{then-sound}
 use Rattle.relation_typing.specs.Attributes.{with_attribute, name_typed, new_name, few_attributes}
 use Rattle.relation_typing.specs.Items.{Made, item_typed, elements_typed}
 use Rattle.tree_core.specs.Trees.{PlainSets}
-use Rattle.algebra_core.specs.Typing.{is_kind, is_declared, IsScalar, Makes}
-use Rattle.algebra_core.specs.WellMade.{sizes_of, IsOrdinalType}
+use Rattle.meaning_core.specs.Typing.{is_kind, is_declared, IsScalar, Makes}
+use Rattle.meaning_core.specs.WellMade.{sizes_of, IsOrdinalType}
 use Rattle.type_check.proofs.PutLemmas.{insert-permutes, insert-ascends, heading-of, is-heading, all-moved}
 use Rattle.type_check.proofs.ScalarLemmas.{scalar-kind, typed-is_scalar}
 

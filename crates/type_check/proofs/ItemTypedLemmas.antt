@@ -26,10 +26,10 @@ use Rattle.scalar_typing.proofs.SoundLemmas.{then-sound}
 use Rattle.tree_core.specs.Relvars.{PlainRelvar, base, view, State, relvar_named, relvar_heading, heading_if}
 use Rattle.tree_core.specs.Trees.{PlainSets, named, heading_of}
 use Rattle.tree_core.specs.Items.{PlainPortion, PlainItemForm, set_to, insert, update, PlainItem}
-use Rattle.algebra_core.specs.Meanings.{positions_of}
-use Rattle.algebra_core.specs.Typing.{IsScalar, IsExtension, is_swept, heading_named}
-use Rattle.algebra_core.specs.Updates.{attributes_of_portion, IsPortionIf, IsConditionIf, IsChange, condition_is_swept, are_swept_sets, IsTypedForm, IsTypedItem}
-use Rattle.algebra_core.specs.WellMade.{sizes_of, headings_of, IsBase, IsWellMade, IsTypedFor}
+use Rattle.meaning_core.specs.Meanings.{positions_of}
+use Rattle.meaning_core.specs.Typing.{IsScalar, IsExtension, is_swept, heading_named}
+use Rattle.meaning_core.specs.Updates.{attributes_of_portion, IsPortionIf, IsConditionIf, IsChange, condition_is_swept, are_swept_sets, IsTypedForm, IsTypedItem}
+use Rattle.meaning_core.specs.WellMade.{sizes_of, headings_of, IsBase, IsWellMade, IsTypedFor}
 use Rattle.node_typing.specs.Lists.{list_checked}
 use Rattle.node_typing.specs.Positions.{check}
 use Rattle.node_typing.specs.Rows.{item_list, condition_typed}

@@ -26,7 +26,7 @@ use Rattle.scalar_typing.specs.Typings.{refused}
 use Rattle.scalar_typing.proofs.SoundLemmas.{then-sound}
 use Rattle.tree_core.specs.Trees.{PlainSets, PlainAggregateForm, count_rows, sum_of, min_of, max_of, PlainAggregate}
 use Rattle.scalar_core.specs.Sweeping.{first_place, named_places, names_any, sweep_fault}
-use Rattle.algebra_core.specs.Typing.{is_alike_at, are_in, is_swept, names_none}
+use Rattle.meaning_core.specs.Typing.{is_alike_at, are_in, is_swept, names_none}
 use Rattle.node_typing.specs.Lists.{names_of_words, named_in, kind_named}
 use Rattle.node_typing.specs.Positions.{check}
 use Rattle.node_typing.specs.Rows.{items_typed}

@@ -26,8 +26,8 @@ use Rattle.scalar_typing.proofs.SoundLemmas.{then-sound}
 use Rattle.scalar_typing.proofs.TypedLemmas.{same_kind-same}
 use Rattle.tree_core.specs.Trees.{Tree, heading_of}
 use Rattle.tree_core.specs.declared.test.RelateWord.{RelateWord}
-use Rattle.algebra_core.specs.Meanings.{positions_of}
-use Rattle.algebra_core.specs.Typing.{is_span, IsList, Headings, IsTypedTree, IsTypedTest}
+use Rattle.meaning_core.specs.Meanings.{positions_of}
+use Rattle.meaning_core.specs.Typing.{is_span, IsList, Headings, IsTypedTree, IsTypedTest}
 use Rattle.node_typing.specs.Lists.{words_of, names_of_words, named_in, kind_named, name_checked, names_checked, list_checked}
 use Rattle.node_typing.specs.Nodes.{packed_by, packing_rule, comparison_rule, using_comparison_rule, emptiness_test}
 use Rattle.node_typing.specs.Positions.{check}

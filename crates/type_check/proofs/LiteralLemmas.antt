@@ -26,8 +26,8 @@ use Rattle.relation_typing.specs.Headings.{kind_typed, attributes_typed, heading
 use Rattle.relation_typing.specs.Items.{Made, none_made, elements_typed}
 use Rattle.relation_typing.specs.Literals.{elements_made, tuple_typed, under_heading, next_tuple, tuples_typed, literal_typed}
 use Rattle.tree_core.specs.Trees.{PlainSets}
-use Rattle.algebra_core.specs.Typing.{is_kind, is_declared, IsTuple, Headings, IsTypedTree}
-use Rattle.algebra_core.specs.WellMade.{sizes_of, IsOrdinalType}
+use Rattle.meaning_core.specs.Typing.{is_kind, is_declared, IsTuple, Headings, IsTypedTree}
+use Rattle.meaning_core.specs.WellMade.{sizes_of, IsOrdinalType}
 use Rattle.type_check.proofs.PutLemmas.{insert-permutes, insert-ascends, is-heading, all-moved}
 use Rattle.type_check.proofs.ScalarLemmas.{IsType, point-declared}
 use Rattle.type_check.proofs.ItemLemmas.{new-is_new, few-is_few, IsMade, made-none, makes-kinds, made-heading, declared-of, elements-made}

@@ -26,10 +26,10 @@ use Rattle.scalar_typing.specs.Typings.{value_or}
 use Rattle.scalar_typing.proofs.SoundLemmas.{then-sound, found-at}
 use Rattle.scalar_typing.proofs.TypedLemmas.{same_kind-same, mapped, or-refused}
 use Rattle.tree_core.specs.Items.{PlainPortion}
-use Rattle.algebra_core.specs.Meanings.{positions_of}
-use Rattle.algebra_core.specs.Typing.{IsScalar, is_span}
-use Rattle.algebra_core.specs.Updates.{attributes_of_portion, IsPart, IsPortionIf}
-use Rattle.algebra_core.specs.WellMade.{sizes_of, IsOrdinalType}
+use Rattle.meaning_core.specs.Meanings.{positions_of}
+use Rattle.meaning_core.specs.Typing.{IsScalar, is_span}
+use Rattle.meaning_core.specs.Updates.{attributes_of_portion, IsPart, IsPortionIf}
+use Rattle.meaning_core.specs.WellMade.{sizes_of, IsOrdinalType}
 use Rattle.node_typing.specs.Positions.{check}
 use Rattle.item_typing.specs.Changes.{part_typed, parts_typed, portion_typed, element_name, portion_names}
 use Rattle.type_check.proofs.PositionLemmas.{held, name-is, all-from, named-in, position-at}

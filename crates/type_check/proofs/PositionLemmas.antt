@@ -19,9 +19,9 @@ use Rattle.value_core.specs.Headings.{has_name}
 use Rattle.value_core.specs.Values.{Name, Heading, attribute_cmp}
 use Rattle.relation_core.specs.Agreement.{position_of, as_wanted}
 use Rattle.relation_core.specs.Parts.{no_attribute}
-use Rattle.algebra_core.specs.Meanings.{positions_of, names_at}
-use Rattle.algebra_core.specs.Typing.{ArePositions}
-use Rattle.algebra_core.proofs.MadeLemmas.{one_in_order}
+use Rattle.meaning_core.specs.Meanings.{positions_of, names_at}
+use Rattle.meaning_core.specs.Typing.{ArePositions}
+use Rattle.meaning_core.proofs.MadeLemmas.{one_in_order}
 use Rattle.node_typing.specs.Lists.{kind_named}
 use Rattle.node_typing.specs.Positions.{check, kept_from, kept}
 use Rattle.type_check.proofs.DeclaredLemmas.{member-at}

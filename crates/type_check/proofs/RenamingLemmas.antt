@@ -24,7 +24,7 @@ use Rattle.relation_typing.specs.Attributes.{is_name, name_typed}
 use Rattle.scalar_typing.specs.Typings.{refused}
 use Rattle.scalar_typing.proofs.SoundLemmas.{then-sound}
 use Rattle.tree_core.specs.Trees.{Tree, heading_of}
-use Rattle.algebra_core.specs.Typing.{IsRenaming, Headings, IsTypedTree}
+use Rattle.meaning_core.specs.Typing.{IsRenaming, Headings, IsTypedTree}
 use Rattle.node_typing.specs.Headings.{heading_of_list}
 use Rattle.node_typing.specs.Nodes.{renaming_rule}
 use Rattle.node_typing.specs.Positions.{check, new_position}

@@ -30,8 +30,8 @@ use Rattle.scalar_typing.specs.Operators.{OneRule, PairRule, both_are, one_on, p
 use Rattle.scalar_typing.specs.Scalars.{typed_scalar, typed_conj, typed_neg, typed_cmp, typed_sum, typed_prod, typed_sign, typed_primary}
 use Rattle.scalar_typing.proofs.TypedLemmas.{or-refused, mapped, when-holds}
 use Rattle.scalar_typing.proofs.SoundLemmas.{then-sound, found-at, scalar-sound}
-use Rattle.algebra_core.specs.Typing.{is_ordinal, is_type, is_kind, has_declared, IsScalar}
-use Rattle.algebra_core.specs.WellMade.{sizes_of, IsOrdinalType}
+use Rattle.meaning_core.specs.Typing.{is_ordinal, is_type, is_kind, has_declared, IsScalar}
+use Rattle.meaning_core.specs.WellMade.{sizes_of, IsOrdinalType}
 
 -- ---- point types
 

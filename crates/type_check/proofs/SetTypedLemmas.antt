@@ -29,9 +29,9 @@ use Rattle.scalar_typing.specs.Typings.{value_or}
 use Rattle.scalar_typing.proofs.SoundLemmas.{then-sound}
 use Rattle.scalar_typing.proofs.TypedLemmas.{same_kind-same, mapped, or-refused}
 use Rattle.tree_core.specs.Trees.{PlainSets}
-use Rattle.algebra_core.specs.Typing.{IsScalar, IsExtension, not_named}
-use Rattle.algebra_core.specs.WellMade.{sizes_of, IsOrdinalType}
-use Rattle.algebra_core.proofs.MadeLemmas.{one_in_order}
+use Rattle.meaning_core.specs.Typing.{IsScalar, IsExtension, not_named}
+use Rattle.meaning_core.specs.WellMade.{sizes_of, IsOrdinalType}
+use Rattle.meaning_core.proofs.MadeLemmas.{one_in_order}
 use Rattle.node_typing.specs.Headings.{made_beside}
 use Rattle.node_typing.specs.Positions.{check}
 use Rattle.node_typing.specs.Rows.{item_list}

@@ -16,8 +16,8 @@ use Rattle.tree_core.specs.Relvars.{PlainRelvar, Entries, State, relvar_named, r
 use Rattle.tree_core.specs.Trees.{Tree, named, heading_of}
 use Rattle.tree_core.specs.declared.tree.InfixWord.{InfixWord}
 use Rattle.tree_core.specs.declared.tree.InfixWord.TheVariants.{NotMatching}
-use Rattle.algebra_core.specs.Typing.{heading_named}
-use Rattle.algebra_core.specs.WellMade.{sizes_of, headings_of, IsWellMade, IsTypedFor, IsTypedTestFor}
+use Rattle.meaning_core.specs.Typing.{heading_named}
+use Rattle.meaning_core.specs.WellMade.{sizes_of, headings_of, IsWellMade, IsTypedFor, IsTypedTestFor}
 use Rattle.node_typing.specs.Infixes.{infix_named}
 use Rattle.node_typing.specs.Nodes.{infix_rule, relation_named}
 use Rattle.node_typing.specs.Usings.{using_infix_rule}

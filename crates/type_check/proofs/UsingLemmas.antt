@@ -26,11 +26,11 @@ use Rattle.scalar_typing.proofs.SoundLemmas.{then-sound}
 use Rattle.tree_core.specs.Trees.{PlainSets, PlainAggregate, Tree, infix_of, project, restrict, extend, summarize, heading_of}
 use Rattle.tree_core.specs.declared.tree.InfixWord.{InfixWord}
 use Rattle.tree_core.specs.declared.tree.InfixWord.TheVariants.{Union, Intersect, Minus, Join, Matching, NotMatching}
-use Rattle.algebra_core.specs.Meanings.{positions_of}
-use Rattle.algebra_core.specs.Typing.{is_span, IsScalar, IsInfix, ArePositions, IsExtension, IsSummary, not_named, are_in, is_swept, names_none, is_part, Headings, IsTypedTree}
-use Rattle.algebra_core.specs.WellMade.{sizes_of, IsOrdinalType}
-use Rattle.algebra_core.specs.Rows.{set_names}
-use Rattle.algebra_core.proofs.MadeLemmas.{given_names}
+use Rattle.meaning_core.specs.Meanings.{positions_of}
+use Rattle.meaning_core.specs.Typing.{is_span, IsScalar, IsInfix, ArePositions, IsExtension, IsSummary, not_named, are_in, is_swept, names_none, is_part, Headings, IsTypedTree}
+use Rattle.meaning_core.specs.WellMade.{sizes_of, IsOrdinalType}
+use Rattle.meaning_core.specs.Rows.{set_names}
+use Rattle.meaning_core.proofs.MadeLemmas.{given_names}
 use Rattle.node_typing.specs.Infixes.{infix_heading}
 use Rattle.node_typing.specs.Lists.{words_of, names_of_words, kind_named, list_checked}
 use Rattle.node_typing.specs.Nodes.{infix_rule}

@@ -1,9 +1,9 @@
 // Constraints of a relvar.
-ghost use Rattle.std.specs.Prelude.{◌≡◌, [], ◌∷◌, IfOk, option_map};
+ghost use Rattle.std.specs.Prelude.{◌≡◌, ◌≤◌, ◌+◌, [], ◌∷◌, IfOk, option_map};
 ghost use Rattle.std.specs.Result.{result_err};
-ghost use Rattle.algebra_core.specs.WellMade.{FitsHeadings};
+ghost use Rattle.meaning_core.specs.WellMade.{FitsHeadings};
 ghost use Rattle.u_constraints.specs.Constraints.{broken, first_failed, heading_or_none, rows_or_none, IsNamed};
-ghost use Rattle.algebra_core.specs.Plainness.{IsPlainConstraint};
+ghost use Rattle.u_constraints.specs.Costs.{constraint_cost};
 
 use crate::keys::{is_key, is_referenced};
 use point_core::{Code, Memory, Steps};
@@ -13,20 +13,17 @@ use value_core::{Constraint, Relation};
 
 /// Whether the constraint of the relvar `of` holds; if not, the code of the first of its lines that is broken. `other` is the
 /// relvar that the constraint names, if it names one.
-///
-/// For now the constraint is a key, or a foreign key without a list of attributes to unpack.
 pub fn holds<L: Ledger>(
     alloc: Global,
     c: &Constraint,
     of: &Relation,
     other: Option<&Relation>,
-    _steps: &mut Steps<L>,
+    steps: &mut Steps<L>,
 ) -> Result<Result<(), Code>, Memory>
     requires fits { FitsHeadings of.now.heading (heading_or_none (option_map (λ r. r.now) other)) c.now }
     requires named { IsNamed c.now (option_map (λ r. r.now) other) }
-    requires built { IsPlainConstraint c.now }
     ensures answer { IfOk result (λ answer. result_err answer ≡ broken c.now of.now.rows (rows_or_none (option_map (λ r. r.now) other.entry))) }
-    ensures steps { _steps.new ≡ _steps.old }
+    ensures cost { steps.new ≤ steps.old + constraint_cost c.now of.now.rows (rows_or_none (option_map (λ r. r.now) other.entry)) }
 {
     match (c, other) {
         (Constraint::Key(key), _) => {
@@ -38,7 +35,7 @@ pub fn holds<L: Ledger>(
             let kept = is_referenced(alloc, of, here, other, there)?;
             Ok(unless(kept, Code::E43))
         }
-        _ => unreachable!(),
+        _ => Err(Memory),
     }
 }
 

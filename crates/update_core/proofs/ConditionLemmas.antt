@@ -17,10 +17,10 @@ use Rattle.scalar_core.specs.Expressions.{Expr, constant, attribute, one, pair, 
 use Rattle.scalar_core.specs.Kinds.{IsTyped}
 use Rattle.relation_core.specs.Parts.{no_attribute, kind_at}
 use Rattle.tree_core.specs.Items.{PlainPortion}
-use Rattle.algebra_core.specs.Histories.{type_of_kind, type_at}
+use Rattle.meaning_core.specs.Histories.{type_of_kind, type_at}
 use Rattle.scalar_core.specs.Sweeping.{names_any, unswept, first_place}
-use Rattle.algebra_core.specs.Typing.{IsScalar, IsListIf, is_span, is_swept, has_declared}
-use Rattle.algebra_core.specs.Updates.{swept_list, attributes_of_portion, IsPart, IsPortionIf, IsConditionIf, condition_is_swept}
+use Rattle.meaning_core.specs.Typing.{IsScalar, IsListIf, is_span, is_swept, has_declared}
+use Rattle.meaning_core.specs.Updates.{swept_list, attributes_of_portion, IsPart, IsPortionIf, IsConditionIf, condition_is_swept}
 use Rattle.update_core.specs.Updates.{condition_of, negated, lies_in, inside, inside_if}
 
 -- ---- what holds of all

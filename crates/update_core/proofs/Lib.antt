@@ -2,4 +2,3 @@ pub mod NameLemmas
 pub mod ConditionLemmas
 pub mod PartLemmas
 pub mod TypedLemmas
-pub mod PlainLemmas

@@ -11,13 +11,13 @@ use Rattle.value_core.specs.Values.{Name, Heading, attribute_cmp}
 use Rattle.value_core.specs.declared.kind.Kind.{Kind}
 use Rattle.relation_core.specs.Agreement.{position_of}
 use Rattle.tree_core.specs.Relvars.{PlainRelvar, base, view, Entries, relvar_named, relvar_heading, heading_if}
-use Rattle.algebra_core.specs.Histories.{name_at}
-use Rattle.algebra_core.specs.Names.{found, each_in}
+use Rattle.meaning_core.specs.Histories.{name_at}
+use Rattle.meaning_core.specs.Names.{found, each_in}
 use Rattle.algebra_core.specs.Plainness.{relvar_is_plain, plain_in}
-use Rattle.algebra_core.specs.Scopes.{IsFirstAt}
-use Rattle.algebra_core.specs.Typing.{heading_named, is_declared}
-use Rattle.algebra_core.specs.WellMade.{headings_of, IsBase, AreRelvars}
-use Rattle.algebra_core.proofs.EntryLemmas.{found_first}
+use Rattle.meaning_core.specs.Names.{IsFirstAt}
+use Rattle.meaning_core.specs.Typing.{heading_named, is_declared}
+use Rattle.meaning_core.specs.WellMade.{headings_of, IsBase, AreRelvars}
+use Rattle.meaning_core.proofs.EntryLemmas.{found_first}
 
 -- ---- relvars
 

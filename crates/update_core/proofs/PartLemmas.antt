@@ -22,9 +22,9 @@ use Rattle.relation_core.proofs.AttributeLemmas.{name_is}
 use Rattle.relation_core.specs.Parts.{kind_at}
 use Rattle.tree_core.specs.declared.tree.InfixWord.{InfixWord}
 use Rattle.tree_core.specs.Trees.{PlainSets, Tree, infix_of, restrict, extend, heading_of}
-use Rattle.algebra_core.specs.Histories.{name_at}
-use Rattle.algebra_core.specs.Meanings.{positions_of, names_at}
-use Rattle.algebra_core.specs.Typing.{is_alike_at, are_in, is_swept, is_part}
+use Rattle.meaning_core.specs.Histories.{name_at}
+use Rattle.meaning_core.specs.Meanings.{positions_of, names_at}
+use Rattle.meaning_core.specs.Typing.{is_alike_at, are_in, is_swept, is_part}
 use Rattle.update_core.proofs.ConditionLemmas.{IsSwept, swept-to, member-among}
 use Rattle.update_core.proofs.NameLemmas.{position-own, has-own}
 

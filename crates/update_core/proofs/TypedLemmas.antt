@@ -13,10 +13,10 @@ use Rattle.tree_core.specs.declared.tree.InfixWord.TheVariants.{Union, Minus}
 use Rattle.tree_core.specs.Items.{PlainChange, PlainItemForm, set_to, insert, delete, delete_rows, update, terminate, PlainItem}
 use Rattle.tree_core.specs.Relvars.{State}
 use Rattle.tree_core.specs.Trees.{PlainSets, Tree, infix_of, restrict, extend, heading_of}
-use Rattle.algebra_core.specs.Meanings.{names_at}
-use Rattle.algebra_core.specs.Typing.{IsList, IsListIf, IsInfix, IsExtension, is_kind, is_declared, is_part}
-use Rattle.algebra_core.specs.Updates.{are_swept_sets, IsChange, IsTypedForm, IsTypedItem, IsTypedAssignment}
-use Rattle.algebra_core.specs.WellMade.{IsWellMade, IsTypedFor, sizes_of}
+use Rattle.meaning_core.specs.Meanings.{names_at}
+use Rattle.meaning_core.specs.Typing.{IsList, IsListIf, IsInfix, IsExtension, is_kind, is_declared, is_part}
+use Rattle.meaning_core.specs.Updates.{are_swept_sets, IsChange, IsTypedForm, IsTypedItem, IsTypedAssignment}
+use Rattle.meaning_core.specs.WellMade.{IsWellMade, IsTypedFor, sizes_of}
 use Rattle.update_core.specs.Updates.{negated, target_of, under_using, with_operand, rows_where, other_rows, changed_rows, updated, condition_of, condition_of_change, list_of_change, source_of, assigned_to, expanded, IsExpandable}
 use Rattle.update_core.proofs.ConditionLemmas.{all-in, IsCondition, negated-typed, condition-typed, change-typed, change-list, IsSweptIf, condition-swept, negated-swept, change-swept}
 use Rattle.update_core.proofs.NameLemmas.{base-heading, base-declared}

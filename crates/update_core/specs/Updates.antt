@@ -15,8 +15,8 @@ use Rattle.tree_core.specs.declared.tree.InfixWord.{InfixWord}
 use Rattle.tree_core.specs.declared.tree.InfixWord.TheVariants.{Union, Minus}
 use Rattle.tree_core.specs.Trees.{PlainSets, Tree, named, infix_of, restrict, extend, using}
 use Rattle.tree_core.specs.Items.{PlainPortion, PlainChange, PlainItemForm, set_to, insert, delete, delete_rows, update, terminate, PlainItem, PlainAssignment}
-use Rattle.algebra_core.specs.Histories.{type_at}
-use Rattle.algebra_core.specs.Updates.{swept_list}
+use Rattle.meaning_core.specs.Histories.{type_at}
+use Rattle.meaning_core.specs.Updates.{swept_list}
 
 -- ---- conditions
 

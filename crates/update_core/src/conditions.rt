@@ -1,6 +1,6 @@
 // The conditions of changes: which points of which rows they are about.
 ghost use Rattle.std.specs.Prelude.{◌≡◌, IfOk, map, option_map};
-ghost use Rattle.algebra_core.specs.Histories.{type_of_kind, type_at};
+ghost use Rattle.meaning_core.specs.Histories.{type_of_kind, type_at};
 ghost use Rattle.scalar_core.specs.Expressions.{read, read_left, read_right, and_expr};
 ghost use Rattle.tree_core.specs.Items.{read_portion, read_item, read_change};
 ghost use Rattle.update_core.specs.Updates.{condition_of, negated, lies_in, all_of, inside, inside_if, condition_of_change};

@@ -2,7 +2,7 @@
 ghost use Rattle.std.specs.Prelude.{◌≡◌, [], ◌∷◌, IfOk, map, Some};
 ghost use Rattle.tree_core.specs.Trees.{read_tree, read_sets};
 ghost use Rattle.tree_core.specs.Items.{read_item, read_change, read_portion, read_assignment, delete_rows, update};
-ghost use Rattle.algebra_core.specs.Updates.{attributes_of_portion};
+ghost use Rattle.meaning_core.specs.Updates.{attributes_of_portion};
 ghost use Rattle.update_core.specs.Updates.{IsExpandable, expanded, source_of, list_of_change};
 
 use crate::conditions::change_condition;

@@ -9,9 +9,9 @@ use Rattle.relation_core.specs.Answers.{Answers, under}
 use Rattle.tree_core.specs.Relvars.{State, Entries}
 use Rattle.tree_core.specs.Trees.{read_tree, heading_of}
 use Rattle.tree_core.specs.declared.tree.RelTree.{RelTree}
-use Rattle.algebra_core.specs.Meanings.{meaning_in}
-use Rattle.algebra_core.specs.Names.{given}
-use Rattle.algebra_core.proofs.EvalLemmas.{given_none, operand_heading}
+use Rattle.meaning_core.specs.Meanings.{meaning_in}
+use Rattle.meaning_core.specs.Names.{given}
+use Rattle.meaning_core.proofs.LookupLemmas.{given_none, operand_heading}
 use Rattle.type_check.specs.Checks.{print}
 use Rattle.utd_print.specs.Tables as printed
 use Rattle.utd_statement.specs.Answers.{Answer, Table, unless_fault, relation_in, of_checked, state_after}

@@ -6,7 +6,7 @@ use Rattle.value_core.specs.Values.{Value as PlainValue}
 use Rattle.value_core.specs.declared.value.Value.{Value}
 use Rattle.relation_core.specs.Groups.{rows_at}
 use Rattle.tree_core.specs.Trees.{PlainAggregate, read_aggregate}
-use Rattle.algebra_core.specs.Rows.{aggregate_value}
+use Rattle.meaning_core.specs.Rows.{aggregate_value}
 use Rattle.algebra_core.proofs.ItemLemmas.{calls_more, calls_end}
 use Rattle.algebra_core.proofs.SummaryLemmas.{summed_at}
 use Rattle.algebra_core.proofs.aggregates.aggregates_on.Goals as goal

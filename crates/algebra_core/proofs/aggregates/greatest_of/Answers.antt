@@ -6,7 +6,7 @@ use Rattle.value_core.specs.Values.{Value as PlainValue}
 use Rattle.value_core.specs.declared.value.Value.{Value}
 use Rattle.u_summary.specs.Summaries.{is_before}
 use Rattle.algebra_core.proofs.SummaryLemmas.{after_ranks}
-use Rattle.algebra_core.specs.Rows.{extreme, picked}
+use Rattle.meaning_core.specs.Rows.{extreme, picked}
 use Rattle.algebra_core.proofs.SummaryLemmas.{picked_best}
 use Rattle.algebra_core.proofs.aggregates.greatest_of.Goals as goal
 

@@ -5,10 +5,10 @@ use Rattle.relation_core.specs.Answers.{Answers}
 use Rattle.tree_core.specs.Relvars.{read_relvars, read_entry}
 use Rattle.tree_core.specs.Trees.{read_tree, read_test_form}
 use Rattle.tree_core.specs.declared.test.TestForm.{TestForm}
-use Rattle.algebra_core.specs.Meanings.{Known, meaning, plainly}
+use Rattle.meaning_core.specs.Meanings.{Known, meaning, plainly}
 use Rattle.algebra_core.specs.Plainness.{IsPlainTest}
 use Rattle.algebra_core.specs.Scopes.{all_of}
-use Rattle.algebra_core.specs.Truths.{truth_in, related_rows, no_rows}
+use Rattle.meaning_core.specs.Truths.{truth_in, related_rows, no_rows}
 use Rattle.algebra_core.specs.declared.scope.Scope.{Scope}
 use Rattle.algebra_core.proofs.TruthLemmas.{known_whole, relate_meant}
 use Rattle.algebra_core.proofs.calls.test.Goals as goal

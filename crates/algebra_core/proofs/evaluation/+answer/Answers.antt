@@ -16,14 +16,16 @@ use Rattle.tree_core.specs.Trees.{read_tree, read_form, read_sets, read_aggregat
 use Rattle.tree_core.specs.declared.relvar.Relvar.{Relvar}
 use Rattle.tree_core.specs.declared.tree.RelForm.{RelForm}
 use Rattle.point_core.specs.Faults.{OrFault}
-use Rattle.algebra_core.specs.Meanings.{meaning, plainly, limited, condition, infix_rows, renamed_rows, RowsMeant}
-use Rattle.algebra_core.specs.Rows.{extended_row, group_row}
-use Rattle.algebra_core.specs.Scopes.{CanEvaluate, CanLookUp, known_at, state_of, all_of, work, stored_work, stored_meaning, IsFirstAt}
-use Rattle.algebra_core.specs.Typing.{IsTuple, IsInfix, IsProjection, IsRenaming, IsExtension, IsSummary}
-use Rattle.algebra_core.specs.WellMade.{sizes_of}
+use Rattle.meaning_core.specs.Meanings.{meaning, plainly, limited, condition, infix_rows, renamed_rows, RowsMeant}
+use Rattle.meaning_core.specs.Rows.{extended_row, group_row}
+use Rattle.meaning_core.specs.Names.{IsFirstAt}
+use Rattle.algebra_core.specs.Scopes.{CanEvaluate, CanLookUp, known_at, state_of, all_of, work, stored_work, stored_meaning}
+use Rattle.meaning_core.specs.Typing.{IsTuple, IsInfix, IsProjection, IsRenaming, IsExtension, IsSummary}
+use Rattle.meaning_core.specs.WellMade.{sizes_of}
 use Rattle.algebra_core.specs.declared.scope.Scope.{Scope}
 use Rattle.algebra_core.proofs.OperandLemmas.{held_given}
-use Rattle.algebra_core.proofs.EvalLemmas.{operand_heading, unary_meant, binary_meant, found_at, can_look_up, work_falls, named_meant, view_can, base_meant, none_named, none_passes}
+use Rattle.meaning_core.proofs.LookupLemmas.{operand_heading, unary_meant, binary_meant, found_at, none_passes}
+use Rattle.algebra_core.proofs.EvalLemmas.{can_look_up, work_falls, named_meant, view_can, base_meant, none_named}
 use Rattle.algebra_core.proofs.evaluation.+answer.Goals as goal
 
 pub answer-literal-requires : goal.answer-literal-requires

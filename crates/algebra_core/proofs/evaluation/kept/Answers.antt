@@ -4,9 +4,9 @@ use Rattle.relation_core.specs.Answers.{under}
 use Rattle.tree_core.specs.Relvars.{read_relvar}
 use Rattle.tree_core.specs.Trees.{read_form}
 use Rattle.tree_core.specs.declared.tree.RelForm.{RelForm}
-use Rattle.algebra_core.specs.Meanings.{meaning, plainly}
+use Rattle.meaning_core.specs.Meanings.{meaning, plainly}
 use Rattle.algebra_core.specs.Scopes.{CanEvaluate, known_at}
-use Rattle.algebra_core.proofs.EvalLemmas.{found_at}
+use Rattle.meaning_core.proofs.LookupLemmas.{found_at}
 use Rattle.algebra_core.proofs.OperandLemmas.{kept_meant}
 use Rattle.algebra_core.proofs.evaluation.kept.Goals as goal
 

@@ -1,6 +1,6 @@
 use Rattle.std.proofs.Common.{◌≡◌, take}
 use Rattle.tree_core.specs.Trees.{read_sets}
-use Rattle.algebra_core.specs.Rows.{set_names}
+use Rattle.meaning_core.specs.Rows.{set_names}
 use Rattle.algebra_core.proofs.items.set_names.Given as goal
 
 abbrev pub invariant-loop-set : goal.invariant-loop-set

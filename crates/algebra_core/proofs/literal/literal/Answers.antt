@@ -4,8 +4,8 @@ use Rattle.point_core.specs.Faults.{OrFault}
 use Rattle.value_core.specs.Values.{Row, Heading, rows_of}
 use Rattle.relation_core.specs.Answers.{Answers, under}
 use Rattle.tree_core.specs.Trees.{read_sets}
-use Rattle.algebra_core.specs.Meanings.{limited}
-use Rattle.algebra_core.specs.Rows.{literal_row}
+use Rattle.meaning_core.specs.Meanings.{limited}
+use Rattle.meaning_core.specs.Rows.{literal_row}
 use Rattle.algebra_core.proofs.LiteralLemmas.{tuples_fit}
 use Rattle.algebra_core.proofs.literal.literal.Goals as goal
 

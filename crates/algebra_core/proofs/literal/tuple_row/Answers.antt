@@ -2,8 +2,8 @@ use Rattle.std.proofs.Common.{◌≡◌, [], map, refl, sym, ap, ◌∙◌, subs
 use Rattle.value_core.specs.Plain.{plain}
 use Rattle.value_core.specs.Values.{Row}
 use Rattle.tree_core.specs.Trees.{read_sets}
-use Rattle.algebra_core.specs.Scalars.{AreTypedOver}
-use Rattle.algebra_core.proofs.MadeLemmas.{given_typed}
+use Rattle.meaning_core.specs.Scalars.{AreTypedOver}
+use Rattle.meaning_core.proofs.MadeLemmas.{given_typed}
 use Rattle.algebra_core.proofs.literal.tuple_row.Goals as goal
 
 pub extended_row-requires : goal.extended_row-requires

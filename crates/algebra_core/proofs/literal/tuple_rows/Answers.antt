@@ -4,8 +4,8 @@ use Rattle.value_core.specs.Values.{Name, Row}
 use Rattle.scalar_core.specs.declared.tree.Scalar.{Scalar}
 use Rattle.tree_core.specs.Trees.{read_sets}
 use Rattle.relation_core.specs.Answers.{Answers}
-use Rattle.algebra_core.specs.Rows.{literal_row}
-use Rattle.algebra_core.specs.Typing.{IsTuple}
+use Rattle.meaning_core.specs.Rows.{literal_row}
+use Rattle.meaning_core.specs.Typing.{IsTuple}
 use Rattle.algebra_core.proofs.ItemLemmas.{calls_more}
 use Rattle.algebra_core.proofs.LiteralLemmas.{all_at, answers_end}
 use Rattle.algebra_core.proofs.literal.tuple_rows.Goals as goal

@@ -1,7 +1,7 @@
 use Rattle.std.proofs.Common.{◌≡◌, map, take, Ok}
 use Rattle.base_core.specs.Outcomes.{first_of_all}
 use Rattle.tree_core.specs.Trees.{read_sets}
-use Rattle.algebra_core.specs.Rows.{literal_row}
+use Rattle.meaning_core.specs.Rows.{literal_row}
 use Rattle.algebra_core.proofs.literal.tuple_rows.Given as goal
 
 abbrev pub invariant-loop-tuple : goal.invariant-loop-tuple

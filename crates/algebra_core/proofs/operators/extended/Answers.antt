@@ -6,10 +6,10 @@ use Rattle.relation_core.specs.Answers.{Answers, under}
 use Rattle.relation_core.specs.Operators.{extended}
 use Rattle.scalar_core.specs.declared.tree.Scalar.{Scalar}
 use Rattle.tree_core.specs.Trees.{read_sets}
-use Rattle.algebra_core.specs.Places.{places}
-use Rattle.algebra_core.specs.Rows.{set_names, extended_at}
-use Rattle.algebra_core.proofs.LimitLemmas.{extension_meant}
-use Rattle.algebra_core.proofs.MadeLemmas.{given_typed, extended_fits}
+use Rattle.meaning_core.specs.Places.{places}
+use Rattle.meaning_core.specs.Rows.{set_names, extended_at}
+use Rattle.meaning_core.proofs.LimitLemmas.{extension_meant}
+use Rattle.meaning_core.proofs.MadeLemmas.{given_typed, extended_fits}
 use Rattle.algebra_core.proofs.operators.extended.Goals as goal
 
 pub extended_at-requires-clause-typed : goal.extended_at-requires-clause-typed

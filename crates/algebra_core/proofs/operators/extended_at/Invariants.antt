@@ -1,5 +1,5 @@
 use Rattle.tree_core.specs.Trees.{read_sets}
-use Rattle.algebra_core.specs.Rows.{extended_at}
+use Rattle.meaning_core.specs.Rows.{extended_at}
 use Rattle.algebra_core.specs.contracts.operators.fn.extended_at.f as closure
 use Rattle.algebra_core.proofs.operators.extended_at.Given as goal
 

@@ -1,6 +1,6 @@
 use Rattle.std.proofs.Common.{rules}
 use Rattle.relation_core.specs.Parts.{IsRenamed}
-use Rattle.algebra_core.proofs.LimitLemmas.{renamed_answer}
+use Rattle.meaning_core.proofs.LimitLemmas.{renamed_answer}
 use Rattle.algebra_core.proofs.operators.renamed.Goals as goal
 
 pub returns : goal.returns

@@ -1,5 +1,5 @@
 use Rattle.scalar_core.specs.Expressions.{read}
-use Rattle.algebra_core.specs.Meanings.{condition}
+use Rattle.meaning_core.specs.Meanings.{condition}
 use Rattle.algebra_core.specs.contracts.operators.fn.restricted.test as closure
 use Rattle.algebra_core.proofs.operators.restricted.Given as goal
 

@@ -1,5 +1,5 @@
 use Rattle.std.proofs.Common.{◌≡◌, ◌+◌, drop}
-use Rattle.algebra_core.specs.Places.{place_among}
+use Rattle.meaning_core.specs.Places.{place_among}
 use Rattle.algebra_core.proofs.places.place_among.Given as goal
 
 abbrev pub invariant-loop-at : goal.invariant-loop-at

@@ -1,5 +1,5 @@
 use Rattle.std.proofs.Common.{◌≡◌, take}
-use Rattle.algebra_core.specs.Places.{places}
+use Rattle.meaning_core.specs.Places.{places}
 use Rattle.algebra_core.proofs.places.places.Given as goal
 
 abbrev pub invariant-loop-attribute : goal.invariant-loop-attribute

@@ -1,6 +1,6 @@
 use Rattle.std.proofs.Common.{◌≡◌, map, take}
 use Rattle.tree_core.specs.Trees.{read_aggregate}
-use Rattle.algebra_core.specs.Rows.{aggregate_names}
+use Rattle.meaning_core.specs.Rows.{aggregate_names}
 use Rattle.algebra_core.proofs.summary.aggregate_names.Given as goal
 
 abbrev pub invariant-loop-aggregate : goal.invariant-loop-aggregate

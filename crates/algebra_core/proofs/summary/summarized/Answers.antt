@@ -8,10 +8,10 @@ use Rattle.relation_core.specs.Groups.{rows_at, summarized}
 use Rattle.relation_core.proofs.GroupLemmas.{group_within}
 use Rattle.tree_core.specs.Trees.{read_aggregate}
 use Rattle.tree_core.specs.declared.tree.Aggregate.{Aggregate}
-use Rattle.algebra_core.specs.Places.{places}
-use Rattle.algebra_core.specs.Rows.{aggregate_names, group_at}
-use Rattle.algebra_core.specs.Scalars.{AreSummedOver}
-use Rattle.algebra_core.proofs.GroupFits.{grouped_fits, summed_typed, group_fits, group_some, group_few, summary_meant}
+use Rattle.meaning_core.specs.Places.{places}
+use Rattle.meaning_core.specs.Rows.{aggregate_names, group_at}
+use Rattle.meaning_core.specs.Scalars.{AreSummedOver}
+use Rattle.meaning_core.proofs.GroupFits.{grouped_fits, summed_typed, group_fits, group_some, group_few, summary_meant}
 use Rattle.algebra_core.proofs.summary.summarized.Goals as goal
 
 pub summarized_at-requires-clause-within : goal.summarized_at-requires-clause-within

@@ -1,7 +1,7 @@
 use Rattle.std.proofs.Common.{map}
 use Rattle.relation_core.specs.Groups.{rows_at}
 use Rattle.tree_core.specs.Trees.{read_aggregate}
-use Rattle.algebra_core.specs.Rows.{group_at}
+use Rattle.meaning_core.specs.Rows.{group_at}
 use Rattle.algebra_core.specs.contracts.summary.fn.summarized_at.f as closure
 use Rattle.algebra_core.proofs.summary.summarized_at.Given as goal
 

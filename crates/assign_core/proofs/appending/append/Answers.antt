@@ -4,7 +4,7 @@ use Rattle.std.specs.Str.{bytes_eq}
 use Rattle.tree_core.specs.declared.declaration.Declaration.{Declaration}
 use Rattle.tree_core.specs.Relvars.{read_relvars, base, view}
 use Rattle.tree_core.specs.Trees.{read_tree}
-use Rattle.algebra_core.specs.Declarations.{read_declaration, with_declaration}
+use Rattle.meaning_core.specs.Declarations.{read_declaration, with_declaration}
 use Rattle.assign_core.specs.Parts.{names_in}
 use Rattle.assign_core.proofs.NameLemmas.{new_name}
 use Rattle.assign_core.proofs.appending.append.Goals as goal

@@ -1,6 +1,6 @@
 use Rattle.std.proofs.Common.{◌≡◌, map}
 use Rattle.tree_core.specs.Relvars.{read_relvars}
-use Rattle.algebra_core.specs.Declarations.{read_declaration}
+use Rattle.meaning_core.specs.Declarations.{read_declaration}
 use Rattle.assign_core.specs.Databases.{declared}
 use Rattle.assign_core.specs.Parts.{Begins}
 use Rattle.assign_core.proofs.appending.append_all.Given as goal

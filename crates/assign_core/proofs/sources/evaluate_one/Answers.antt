@@ -1,7 +1,7 @@
 use Rattle.std.proofs.Common.{◌≡◌, length, map, ◌∙◌, subst, arith, Some, Ok}
 use Rattle.tree_core.specs.Relvars.{read_entry}
 use Rattle.tree_core.specs.Items.{read_assignment}
-use Rattle.algebra_core.proofs.EntryLemmas.{named_first}
+use Rattle.meaning_core.proofs.EntryLemmas.{named_first}
 use Rattle.assign_core.specs.Assignments.{source_value}
 use Rattle.assign_core.specs.Changes.{Changes, IsChange, changed}
 use Rattle.assign_core.specs.Parts.{names_in}

@@ -1,6 +1,6 @@
 use Rattle.std.proofs.Common.{◌≡◌, map}
 use Rattle.tree_core.specs.Relvars.{read_entry}
-use Rattle.algebra_core.specs.Names.{each_after, each_in}
+use Rattle.meaning_core.specs.Names.{each_after, each_in}
 use Rattle.declaration_typing.specs.Nodes.{capped_count}
 use Rattle.declaration_typing.proofs.nodes.counts.Given as goal
 

@@ -1,5 +1,5 @@
 use Rattle.std.proofs.Common.{◌≡◌, drop}
-use Rattle.algebra_core.specs.Names.{found}
+use Rattle.meaning_core.specs.Names.{found}
 use Rattle.declaration_typing.proofs.nodes.known_nodes.Given as goal
 
 abbrev pub invariant-loop-entry : goal.invariant-loop-entry

@@ -1,6 +1,6 @@
 use Rattle.std.proofs.Common.{◌≡◌, ◌++◌, drop}
 use Rattle.utd_syntax.specs.Read.{read_name_list}
-use Rattle.algebra_core.specs.Meanings.{positions_of}
+use Rattle.meaning_core.specs.Meanings.{positions_of}
 use Rattle.node_typing.specs.Lists.{names_of_words}
 use Rattle.node_typing.proofs.lists.positions_of_words.Given as goal
 

@@ -1,6 +1,6 @@
 use Rattle.std.proofs.Common.{◌≡◌, take}
 use Rattle.tree_core.specs.Items.{read_portion}
-use Rattle.algebra_core.specs.Updates.{attributes_of_portion}
+use Rattle.meaning_core.specs.Updates.{attributes_of_portion}
 use Rattle.update_core.proofs.items.attributes.Given as goal
 
 abbrev pub invariant-loop-part : goal.invariant-loop-part

@@ -3,7 +3,7 @@ use Rattle.std.specs.List.{All}
 use Rattle.tree_core.specs.Items.{read_item, read_assignment}
 use Rattle.tree_core.specs.Relvars.{read_relvars}
 use Rattle.tree_core.specs.declared.item.Item.{Item}
-use Rattle.algebra_core.specs.Updates.{IsTypedAssignment}
+use Rattle.meaning_core.specs.Updates.{IsTypedAssignment}
 use Rattle.update_core.specs.Updates.{IsExpandable}
 use Rattle.assign_core.specs.Assignments.{IsPlainAssignment}
 use Rattle.utd_statement.specs.Answers.{assignments_of}

@@ -1,6 +1,6 @@
 use Rattle.std.proofs.Common.{map, sym, subst}
 use Rattle.tree_core.specs.Relvars.{read_relvars}
-use Rattle.algebra_core.specs.Declarations.{read_declaration}
+use Rattle.meaning_core.specs.Declarations.{read_declaration}
 use Rattle.assign_core.specs.Databases.{CanBecome, declared}
 use Rattle.utd_statement.proofs.ChangeLemmas.{can-become}
 use Rattle.utd_statement.proofs.changing.declared.Goals as goal

@@ -3,7 +3,7 @@ use Rattle.std.specs.List.{All}
 use Rattle.tree_core.specs.declared.relvar.Relvars.{Relvars}
 use Rattle.tree_core.specs.Items.{read_assignment}
 use Rattle.tree_core.specs.Relvars.{read_relvars, read_entry}
-use Rattle.algebra_core.specs.Updates.{IsTypedAssignment}
+use Rattle.meaning_core.specs.Updates.{IsTypedAssignment}
 use Rattle.assign_core.specs.Assignments.{IsPlainAssignment}
 use Rattle.assign_core.specs.Databases.{IsKept}
 use Rattle.assign_core.proofs.AssignedLemmas.{each_of, assigned_kept}

@@ -1,7 +1,7 @@
 use Rattle.std.proofs.Common.{map, sym, subst}
 use Rattle.tree_core.specs.declared.relvar.Relvars.{Relvars}
 use Rattle.tree_core.specs.Relvars.{read_relvars}
-use Rattle.algebra_core.specs.Declarations.{read_declaration}
+use Rattle.meaning_core.specs.Declarations.{read_declaration}
 use Rattle.assign_core.specs.Databases.{CanBecome, declared}
 use Rattle.assign_core.specs.Parts.{names_in}
 use Rattle.assign_core.proofs.DeclaredLemmas.{declared_kept}

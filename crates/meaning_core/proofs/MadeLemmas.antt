@@ -21,10 +21,10 @@ use Rattle.relation_core.proofs.HeadingLemmas.{heading_ascends}
 use Rattle.scalar_core.specs.ScalarValues.{value}
 use Rattle.scalar_core.proofs.KindLemmas.{value-fits}
 use Rattle.tree_core.specs.Trees.{PlainSets}
-use Rattle.algebra_core.specs.Places.{place_among, places}
-use Rattle.algebra_core.specs.Rows.{set_names, values_on, extended_at}
-use Rattle.algebra_core.specs.Scalars.{AreTypedOver}
-use Rattle.algebra_core.specs.Typing.{Makes, IsTuple, IsExtension, not_named}
+use Rattle.meaning_core.specs.Places.{place_among, places}
+use Rattle.meaning_core.specs.Rows.{set_names, values_on, extended_at}
+use Rattle.meaning_core.specs.Scalars.{AreTypedOver}
+use Rattle.meaning_core.specs.Typing.{Makes, IsTuple, IsExtension, not_named}
 
 abbrev pub Attribute : Type 0
 Attribute = Name × Kind

@@ -33,13 +33,13 @@ use Rattle.relation_core.specs.Groups.{group, groups, rows_at, has_part, summari
 use Rattle.relation_core.proofs.HeadingLemmas.{heading_ascends, within_by_members, projected_few}
 use Rattle.tree_core.specs.Trees.{PlainAggregateForm, count_rows, sum_of, min_of, max_of, PlainAggregate}
 use Rattle.u_summary.specs.Summaries.{total, is_before}
-use Rattle.algebra_core.specs.Meanings.{limited}
-use Rattle.algebra_core.specs.Places.{places}
-use Rattle.algebra_core.specs.Rows.{extreme, values_over, aggregate_value, aggregates_on, aggregate_names, first_row, group_at, group_row}
-use Rattle.algebra_core.specs.Scalars.{AllOver, IsSummedOver, AreSummedOver}
-use Rattle.algebra_core.specs.Typing.{IsScalar, HasKind, Sums, IsSummary}
-use Rattle.algebra_core.proofs.LimitLemmas.{unlimited}
-use Rattle.algebra_core.proofs.MadeLemmas.{Attribute, IsFirst, IsAlone, first_append, first_in, one_in_order, alone_in, picked_fits, fits_append, one_more, split_ok}
+use Rattle.meaning_core.specs.Meanings.{limited}
+use Rattle.meaning_core.specs.Places.{places}
+use Rattle.meaning_core.specs.Rows.{extreme, values_over, aggregate_value, aggregates_on, aggregate_names, first_row, group_at, group_row}
+use Rattle.meaning_core.specs.Scalars.{AllOver, IsSummedOver, AreSummedOver}
+use Rattle.meaning_core.specs.Typing.{IsScalar, HasKind, Sums, IsSummary}
+use Rattle.meaning_core.proofs.LimitLemmas.{unlimited}
+use Rattle.meaning_core.proofs.MadeLemmas.{Attribute, IsFirst, IsAlone, first_append, first_in, one_in_order, alone_in, picked_fits, fits_append, one_more, split_ok}
 
 -- ---- values of a kind
 

@@ -13,7 +13,7 @@ use Rattle.relation_core.specs.Agreement.{names_of, part_of}
 use Rattle.relation_core.specs.Operators.{fault_order}
 use Rattle.u_summary.specs.Summaries.{total, is_before}
 use Rattle.scalar_core.specs.Expressions.{Expr}
-use Rattle.algebra_core.specs.Places.{places}
+use Rattle.meaning_core.specs.Places.{places}
 use Rattle.tree_core.specs.Trees.{PlainSets, PlainAggregateForm, count_rows, sum_of, min_of, max_of, PlainAggregate}
 
 -- ---- new values of a row

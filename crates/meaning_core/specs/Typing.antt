@@ -24,7 +24,7 @@ use Rattle.relation_core.specs.Parts.{kind_at, attributes_at, renamed}
 use Rattle.tree_core.specs.Trees.{PlainSets, PlainAggregateForm, count_rows, sum_of, min_of, max_of, PlainAggregate, Tree, named, literal, infix_of, project, rename, restrict, extend, summarize, pack, unpack, using, heading_of, Test, relate, is_empty, is_not_empty}
 use Rattle.tree_core.specs.declared.tree.InfixWord.{InfixWord}
 use Rattle.tree_core.specs.declared.tree.InfixWord.TheVariants.{Union, Intersect, Minus, Join, Matching, NotMatching}
-use Rattle.algebra_core.specs.Meanings.{positions_of, names_at}
+use Rattle.meaning_core.specs.Meanings.{positions_of, names_at}
 use Rattle.scalar_core.specs.Sweeping.{sweep_fault, names_any}
 
 -- ---- kinds

@@ -2,7 +2,8 @@
 --     each_in of entries      the names of a state with what each stands for
 --     found      what a name stands for
 --     given      a state in which a base relvar has another value
-use Rattle.std.specs.Prelude.{List, [], ◌∷◌, ◌++◌, map, Option, Some, None, if◌then◌else◌}
+--     IsFirstAt      the first entry of a name
+use Rattle.std.specs.Prelude.{◌≡◌, ℕ, zero, suc, true, false, List, [], ◌∷◌, ◌++◌, map, Option, Some, None, if◌then◌else◌}
 use Rattle.std.specs.Str.{bytes_eq}
 use Rattle.value_core.specs.Values.{Name, Relation}
 use Rattle.tree_core.specs.Relvars.{PlainRelvar, base, view, Entries}
@@ -40,3 +41,11 @@ given_entry with value e = (e.0, given_relvar with value e.0 e.1)
 -- the state in which the named relvar has the value, where both are given
 abbrev pub given : Option Name → Option Relation → Entries → Entries
 given with value entries = map (given_entry with value) entries
+
+-- ---- where a name stands
+
+-- the first entry of a name, at a place
+abbrev pub IsFirstAt : {A : Type 0} → List (Name × A) → Name → ℕ → A → Type 0
+IsFirstAt [] name i x = ⊥
+IsFirstAt (k ∷ ks) name zero x = (bytes_eq k.0 name ≡ true) × (k.1 ≡ x)
+IsFirstAt (k ∷ ks) name (suc i) x = (bytes_eq k.0 name ≡ false) × IsFirstAt ks name i x

@@ -14,8 +14,8 @@ use Rattle.value_core.specs.Values.{Name, Heading, Relation}
 use Rattle.relation_core.specs.Parts.{kind_at}
 use Rattle.tree_core.specs.Relvars.{PlainRelvar, base, view, Entries, State, relvar_named, relvar_heading, heading_if, constraints_if}
 use Rattle.tree_core.specs.Trees.{Tree, Test, named}
-use Rattle.algebra_core.specs.Histories.{joined_history, last_point, type_at, name_at}
-use Rattle.algebra_core.specs.Typing.{Headings, IsList, is_declared, IsTypedTree, IsTypedTest}
+use Rattle.meaning_core.specs.Histories.{joined_history, last_point, type_at, name_at}
+use Rattle.meaning_core.specs.Typing.{Headings, IsList, is_declared, IsTypedTree, IsTypedTest}
 
 -- how many values each ordinal type has
 abbrev pub sizes_of : List OrdinalNames → List ℕ

@@ -3,13 +3,14 @@ use Rattle.std.proofs.Common.{◌≡◌, ℕ, zero, suc, ◌+◌, ◌<◌, ◌�
 use Rattle.std.specs.Str.{bytes_eq}
 use Rattle.std.proofs.lemmas.List.{append-nil}
 use Rattle.std.proofs.Common.{append_assoc}
-use Rattle.algebra_core.proofs.MadeLemmas.{same_name}
+use Rattle.meaning_core.proofs.MadeLemmas.{same_name}
 use Rattle.value_core.specs.Values.{Name, Heading, Relation}
 use Rattle.tree_core.specs.Relvars.{PlainRelvar, Entries, relvar_named, relvar_heading}
-use Rattle.algebra_core.specs.Names.{found, each_after, each_in, given, given_relvar}
-use Rattle.algebra_core.specs.Scopes.{IsFirstAt, relvar_nodes, weight}
-use Rattle.algebra_core.specs.Typing.{heading_named}
-use Rattle.algebra_core.specs.WellMade.{headings_of, IsRelvar, AreRelvars}
+use Rattle.meaning_core.specs.Names.{found, each_after, each_in, given, given_relvar}
+use Rattle.meaning_core.specs.Sizes.{relvar_nodes, weight}
+use Rattle.meaning_core.specs.Names.{IsFirstAt}
+use Rattle.meaning_core.specs.Typing.{heading_named}
+use Rattle.meaning_core.specs.WellMade.{headings_of, IsRelvar, AreRelvars}
 
 abbrev Entry : Type 0
 Entry = Name × PlainRelvar

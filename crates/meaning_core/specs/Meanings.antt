@@ -21,8 +21,8 @@ use Rattle.tree_core.specs.Relvars.{PlainRelvar, base, view, Entries}
 use Rattle.tree_core.specs.Trees.{PlainSets, Tree, named, literal, infix_of, project, rename, restrict, extend, summarize, pack, unpack, using, heading_of}
 use Rattle.tree_core.specs.declared.tree.InfixWord.{InfixWord}
 use Rattle.tree_core.specs.declared.tree.InfixWord.TheVariants.{Union, Intersect, Minus, Join, Matching, NotMatching}
-use Rattle.algebra_core.specs.Names.{found, each_in}
-use Rattle.algebra_core.specs.Rows.{extended_row, literal_row, group_row}
+use Rattle.meaning_core.specs.Names.{found, each_in}
+use Rattle.meaning_core.specs.Rows.{extended_row, literal_row, group_row}
 
 -- the rows of a relation, or a fault
 abbrev pub RowsMeant : Type 0

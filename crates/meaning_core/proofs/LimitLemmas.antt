@@ -17,12 +17,12 @@ use Rattle.relation_core.proofs.HeadingLemmas.{heading_ascends, heading_in_order
 use Rattle.relation_core.specs.Operators.{fault_order, is_true, restricted, extended}
 use Rattle.relation_core.specs.Answers.{under}
 use Rattle.relation_core.specs.Parts.{projected, renamed, positions_in, IsRenamed}
-use Rattle.algebra_core.specs.Meanings.{limited, renamed_rows}
+use Rattle.meaning_core.specs.Meanings.{limited, renamed_rows}
 use Rattle.relation_core.specs.Agreement.{names_of}
 use Rattle.tree_core.specs.Trees.{PlainSets}
-use Rattle.algebra_core.specs.Places.{places}
-use Rattle.algebra_core.specs.Rows.{set_names, extended_at, extended_row}
-use Rattle.algebra_core.specs.Typing.{IsRenaming}
+use Rattle.meaning_core.specs.Places.{places}
+use Rattle.meaning_core.specs.Rows.{set_names, extended_at, extended_row}
+use Rattle.meaning_core.specs.Typing.{IsRenaming}
 
 pub limited_few : (place : Place) (rows : List Row) → length rows ≤ most_rows → limited place rows ≡ Ok rows
 limited_few place rows h = grind (arith, nat_tests)

@@ -11,7 +11,7 @@ use Rattle.tree_core.specs.Relvars.{Entries}
 use Rattle.tree_core.specs.Trees.{Test, relate, is_empty, is_not_empty}
 use Rattle.tree_core.specs.declared.test.RelateWord.{RelateWord}
 use Rattle.tree_core.specs.declared.test.RelateWord.TheVariants.{Equal, NotEqual, Less, LessEqual, Greater, GreaterEqual}
-use Rattle.algebra_core.specs.Meanings.{Known, meaning, plainly, known_in}
+use Rattle.meaning_core.specs.Meanings.{Known, meaning, plainly, known_in}
 
 -- each row of r is in s
 abbrev pub within : List Row → List Row → Bool

@@ -16,7 +16,7 @@ use Rattle.relation_core.specs.Agreement.{names_of, position_of}
 use Rattle.relation_core.specs.Parts.{no_attribute, kind_at}
 use Rattle.tree_core.specs.Trees.{Tree, named, infix_of, project, extend, using}
 use Rattle.tree_core.specs.declared.tree.InfixWord.TheVariants.{Union}
-use Rattle.algebra_core.specs.Meanings.{positions_of}
+use Rattle.meaning_core.specs.Meanings.{positions_of}
 
 -- a heading with one attribute more
 abbrev pub with_attribute : Heading → Name → Kind → Heading

@@ -1,0 +1,6 @@
+pub mod EntryLemmas
+pub mod GroupFits
+pub mod LimitLemmas
+pub mod LookupLemmas
+pub mod MadeLemmas
+pub mod RowlessLemmas

@@ -1,0 +1,13 @@
+pub mod Declarations
+pub mod Endings
+pub mod Histories
+pub mod Meanings
+pub mod Names
+pub mod Places
+pub mod Rows
+pub mod Scalars
+pub mod Sizes
+pub mod Truths
+pub mod Typing
+pub mod Updates
+pub mod WellMade

@@ -1,0 +1,59 @@
+// Operators under USING that look at labels and places alone.
+ghost use Rattle.std.specs.Prelude.{◌≤◌, ◌+◌, length, IsTrue};
+ghost use Rattle.relation_core.specs.Answers.{Answers, under};
+ghost use Rattle.relation_core.specs.Parts.{projected};
+ghost use Rattle.cell_core.specs.Costs.{bound};
+ghost use Rattle.meaning_core.specs.Meanings.{infix_rows, opened, closed};
+ghost use Rattle.meaning_core.specs.Typing.{IsInfix, IsProjection, IsList};
+ghost use Rattle.using_core.specs.Using.{around, HasList};
+
+use point_core::{Place, Steps, Stop};
+use std::alloc::Global;
+use std::sync::ledger::Ledger;
+use tree_core::InfixWord;
+use value_core::{Heading, Relation};
+
+/// What the operator gives of two relations under USING, whose place is given, as the heading of its node and the positions of its
+/// list there; or the fault of too many rows.
+pub fn using_infix<L: Ledger>(
+    alloc: Global,
+    place: Place,
+    word: InfixWord,
+    heading: &Heading,
+    acl: &[usize],
+    left: &Relation,
+    right: &Relation,
+    steps: &mut Steps<L>,
+) -> Result<Relation, Stop>
+    requires infix { IsInfix word left.now.heading right.now.heading heading.now }
+    requires list { IsList heading.now acl.now }
+    requires left { HasList heading.now acl.now left.now.heading }
+    requires right { HasList heading.now acl.now right.now.heading }
+    ensures value { Answers result (under heading.now (closed (around place heading.now acl.now) place heading.now
+        (infix_rows word left.now.heading right.now.heading
+        (opened (around place heading.now acl.now) left.now.heading left.now.rows)
+        (opened (around place heading.now acl.now) right.now.heading right.now.rows)))) }
+    ensures cost { steps.new ≤ steps.old + bound (length left.now.rows + length right.now.rows) (length acl.now) }
+{
+    Err(Stop::Memory)
+}
+
+/// The parts of a relation's rows at the positions under USING.
+pub fn using_projection<L: Ledger>(
+    alloc: Global,
+    place: Place,
+    heading: &Heading,
+    acl: &[usize],
+    kept: &[usize],
+    r: &Relation,
+    steps: &mut Steps<L>,
+) -> Result<Relation, Stop>
+    requires projection { IsProjection r.now.heading heading.now kept.now }
+    requires list { IsList heading.now acl.now }
+    requires listed { HasList heading.now acl.now r.now.heading }
+    ensures value { Answers result (under heading.now (closed (around place heading.now acl.now) place heading.now
+        (projected kept.now (opened (around place heading.now acl.now) r.now.heading r.now.rows)))) }
+    ensures cost { steps.new ≤ steps.old + bound (length r.now.rows) (length acl.now) }
+{
+    Err(Stop::Memory)
+}

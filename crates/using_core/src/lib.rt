@@ -1,0 +1,13 @@
+//! Operators under USING, PACK and UNPACK, and comparisons under USING, on relations: each means what the plain operator gives of the
+//! unpacked operands, packed again, and works on the ends of intervals alone.
+#![tactic(auto)]
+
+mod combining;
+mod comparing;
+mod packing;
+mod rules;
+
+pub use combining::{using_infix, using_projection};
+pub use comparing::compared;
+pub use packing::{packed, unpacked};
+pub use rules::{using_extension, using_restriction, using_summary};
