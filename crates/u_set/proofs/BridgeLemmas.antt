@@ -1,25 +1,23 @@
 -- The rows of a relation are packed and unpacked as their boxes are, one for one.
-use Rattle.std.proofs.Common.{◌≡◌, ◌↔◌, ℕ, ℤ, ◌≤ℤ◌, List, [], ◌∷◌, length, map, refl, sym, ap, ◌∙◌, subst, arith, Ordering}
-use Rattle.std.proofs.lemmas.Int.{ints}
+use Rattle.std.proofs.Common.{◌≡◌, ◌↔◌, ℕ, ℤ, List, length, map, refl, sym, ap, ◌∙◌, subst, Ordering}
 use Rattle.std.proofs.lemmas.List.{length-map}
 use Rattle.std.specs.Bool.{IsTrue}
 use Rattle.std.specs.Cmp.{IsTotalOrder}
 use Rattle.base_core.specs.Sets.{in_order}
 use Rattle.base_core.proofs.SetLemmas.{In, Ascends, Separates, In-in_order, Ascends-in_order, Ascends-from_sorted}
 use Rattle.base_core.proofs.MemberLemmas.{In-map}
-use Rattle.interval_core.specs.Members.{Span, at_point}
+use Rattle.interval_core.specs.Members.{Span}
 use Rattle.value_core.specs.Attributes.{value_at, span_of}
 use Rattle.value_core.specs.Order.{row_total, row_separates}
 use Rattle.value_core.specs.RowPacking.{attribute, packed, unpacked}
 use Rattle.value_core.specs.Values.{Row, Heading, row_cmp, rows_of, fits_heading}
 use Rattle.packing_core.specs.Boxed.{Boxed, boxed_cmp, sides_from, packed_boxes, unpacked_boxes, InBoxes}
 use Rattle.packing_core.specs.Covering.{Among, CellFunction, InCells}
-use Rattle.packing_core.specs.Packed.{ArePoints, firsts, points_of, Has, packs}
+use Rattle.packing_core.specs.Packed.{firsts, points_of, packs}
 use Rattle.packing_core.proofs.PackedBoxes.{among_in, packs-iff, packed_form_is}
 use Rattle.cell_core.specs.Cells.{IsPackedForm}
 use Rattle.cell_core.proofs.OrderLemmas.{boxed_total, boxed_separates}
-use Rattle.cell_core.proofs.PackedPlaces.{AllHave, place_length, packed_from_same}
-use Rattle.cell_core.proofs.UnpackedLemmas.{firsts_at, are_points, length_at, in_unpacked_boxes}
+use Rattle.cell_core.proofs.PackedPlaces.{AllHave, packed_from_same}
 use Rattle.cell_core.proofs.UnpackedPlaces.{unpacked_places}
 use Rattle.u_set.specs.Boxes.{AreIntervals, IsShaped, others, boxed, unboxed}
 use Rattle.u_set.proofs.ImageLemmas.{IsImage, Ascends-pack, Ascends-unpack, image-pack, image-unpack, list_back, same_length}

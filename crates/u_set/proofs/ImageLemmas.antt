@@ -14,6 +14,7 @@ use Rattle.base_core.proofs.MemberLemmas.{In-map, In-flat_map, In-filter, has-In
 use Rattle.base_core.proofs.SetOperatorLemmas.{same_tests, is_within-In}
 use Rattle.interval_core.specs.Members.{Span, at_point, members}
 use Rattle.interval_core.specs.Packing.{Side, unpack1, has_at, is_longest, spanned, pack1, unpack, pack_each, pack}
+use Rattle.cell_core.proofs.Listing.{Distinct}
 
 -- f goes along with an interval attribute, of what is shaped so
 pub record Alike {X Y : Type 0} (Shaped : X → Type 0) (f : X → Y) (a : Side X) (b : Side Y) : Type 0 where
@@ -83,37 +84,32 @@ module _ {X : Type 0} (cmp : X → X → Ordering) (o : IsTotalOrder cmp) (same 
 
 -- ---- the number of a set's members
 
--- each member once
-abbrev Once : {X : Type 0} → List X → Type 0
-Once [] = Unit {0}
-Once (x ∷ xs) = (In x xs → ⊥) × Once xs
-
-length-put : {X : Type 0} (cmp : X → X → Ordering) → Separates cmp → (x : X) (xs : List X) → (In x xs → ⊥) → length (put cmp x xs) ≡ suc (length xs)
-length-put cmp same x [] new = refl
-length-put cmp same x (y ∷ ys) new =
+put_longer : {X : Type 0} (cmp : X → X → Ordering) → Separates cmp → (x : X) (xs : List X) → (In x xs → ⊥) → length (put cmp x xs) ≡ suc (length xs)
+put_longer cmp same x [] new = refl
+put_longer cmp same x (y ∷ ys) new =
     elim (cmp x y) as (λ r. cmp x y ≡ r → length (placed r x y ys (put cmp x ys)) ≡ suc (suc (length ys))) [
       | Less ↦ λ e. refl
       | Equal ↦ λ e. absurd (new (inl (same x y e)))
-      | Greater ↦ λ e. ap suc (length-put cmp same x ys (λ i. new (inr i)))
+      | Greater ↦ λ e. ap suc (put_longer cmp same x ys (λ i. new (inr i)))
     ] refl
 
 module _ {X : Type 0} (cmp : X → X → Ordering) (o : IsTotalOrder cmp) (same : Separates cmp) where
-  length-in_order : (xs : List X) → Once xs → length (in_order cmp xs) ≡ length xs
-  length-in_order [] h = refl
-  length-in_order (x ∷ xs) h =
-      length-put cmp same x (in_order cmp xs) (λ i. h.0 ((In-in_order cmp o same x xs).0 i)) ∙ ap suc (length-in_order xs h.1)
+  length_distinct : (xs : List X) → Distinct xs → length (in_order cmp xs) ≡ length xs
+  length_distinct [] h = refl
+  length_distinct (x ∷ xs) h =
+      put_longer cmp same x (in_order cmp xs) (λ i. h.0 ((In-in_order cmp o same x xs).0 i)) ∙ ap suc (length_distinct xs h.1)
 
   not_before_itself : (x : X) → cmp x x ≡ Less → ⊥
   not_before_itself x l = let e : Less ≡ Equal = sym l ∙ tied_itself o x in cc
 
   -- what a function that tells members apart makes of a list in order
-  Once-map : {Y : Type 0} (f : X → Y) (xs : List X) → ((x z : X) → In x xs → In z xs → f x ≡ f z → x ≡ z) → Ascends cmp xs → Once (map f xs)
-  Once-map f [] one h = tt
-  Once-map f (x ∷ xs) one h = (
+  distinct_map : {Y : Type 0} (f : X → Y) (xs : List X) → ((x z : X) → In x xs → In z xs → f x ≡ f z → x ≡ z) → Ascends cmp xs → Distinct (map f xs)
+  distinct_map f [] one h = tt
+  distinct_map f (x ∷ xs) one h = (
     λ i. let w = (In-map f (f x) xs).0 i in
         let e : x ≡ w.0 = one x w.0 (inl refl) (inr w.1) w.2 in
         not_before_itself x (in_after cmp o same x x xs h.0 (subst (λ z. In z xs) (sym e) w.1)),
-    Once-map f xs (λ y z i j. one y z (inr i) (inr j)) h.1,
+    distinct_map f xs (λ y z i j. one y z (inr i) (inr j)) h.1,
   )
 
 -- ---- unpacked and packed alike
@@ -239,8 +235,8 @@ module _ {X Y : Type 0} (cmp : X → X → Ordering) (o : IsTotalOrder cmp) (sam
         λ i. let w = all.0 (set.0 i) in subst (λ z. In z s) (sym w.2) (h.to w.0 w.1),
         λ i. set.1 (all.1 (h.from y i)),
       )) in
-      let once : Once (map f r) = Once-map cmp o same f r (λ x z i j. one x z (h.shaped x i) (h.shaped z j)) up in
-      sym (length-map r f) ∙ sym (length-in_order cmp' o' same' (map f r) once) ∙ ap length is
+      let distinct : Distinct (map f r) = distinct_map cmp o same f r (λ x z i j. one x z (h.shaped x i) (h.shaped z j)) up in
+      sym (length-map r f) ∙ sym (length_distinct cmp' o' same' (map f r) distinct) ∙ ap length is
 
   -- ---- two lists and two others compare alike
 

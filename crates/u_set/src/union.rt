@@ -25,7 +25,7 @@ use std::alloc::Global;
 use std::sync::ledger::Ledger;
 use value_core::{Relation, Row, RowsRefuse};
 
-/// Adds equal boxes.
+// Adds equal boxes.
 fn push_copies<T: PointType>(
     alloc: Global,
     out: &mut Vec<BoxRow<T, Row>>,

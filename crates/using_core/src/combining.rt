@@ -1,16 +1,19 @@
 // Operators under USING that look at labels and places alone.
-ghost use Rattle.std.specs.Prelude.{◌≤◌, ◌+◌, length, IsTrue};
+ghost use Rattle.std.specs.Prelude.{◌≡◌, ◌≤◌, ◌+◌, length, IsTrue};
 ghost use Rattle.relation_core.specs.Answers.{Answers, under};
+ghost use Rattle.relation_core.specs.Operators.{united};
 ghost use Rattle.relation_core.specs.Parts.{projected};
 ghost use Rattle.cell_core.specs.Costs.{bound};
 ghost use Rattle.meaning_core.specs.Meanings.{infix_rows, opened, closed};
 ghost use Rattle.meaning_core.specs.Typing.{IsInfix, IsProjection, IsList};
 ghost use Rattle.using_core.specs.Using.{around, HasList};
 
+use crate::telling::told;
 use point_core::{Place, Steps, Stop};
 use std::alloc::Global;
 use std::sync::ledger::Ledger;
 use tree_core::InfixWord;
+use u_set::united;
 use value_core::{Heading, Relation};
 
 /// What the operator gives of two relations under USING, whose place is given, as the heading of its node and the positions of its
@@ -35,7 +38,33 @@ pub fn using_infix<L: Ledger>(
         (opened (around place heading.now acl.now) right.now.heading right.now.rows)))) }
     ensures cost { steps.new ≤ steps.old + bound (length left.now.rows + length right.now.rows) (length acl.now) }
 {
-    Err(Stop::Memory)
+    match word {
+        InfixWord::Union => using_union(alloc, place, heading, acl, left, right, steps),
+        _ => Err(Stop::Memory),
+    }
+}
+
+// The rows of either relation under USING.
+fn using_union<L: Ledger>(
+    alloc: Global,
+    place: Place,
+    heading: &Heading,
+    acl: &[usize],
+    left: &Relation,
+    right: &Relation,
+    steps: &mut Steps<L>,
+) -> Result<Relation, Stop>
+    requires list { IsList heading.now acl.now }
+    requires left { heading.now ≡ left.now.heading }
+    requires right { heading.now ≡ right.now.heading }
+    ensures value { Answers result (under heading.now (closed (around place heading.now acl.now) place heading.now (united
+        (opened (around place heading.now acl.now) left.now.heading left.now.rows)
+        (opened (around place heading.now acl.now) right.now.heading right.now.rows)))) }
+    ensures cost { steps.new ≤ steps.old + bound (length left.now.rows + length right.now.rows) (length acl.now) }
+{
+    // The names of a heading are different, so the names at the positions lead back to these.
+    let _attributes = heading.attributes();
+    told(place, united(alloc, left, right, acl, steps))
 }
 
 /// The parts of a relation's rows at the positions under USING.

@@ -1,6 +1,8 @@
 // Comparisons of relations under USING.
 ghost use Rattle.std.specs.Prelude.{◌≡◌, ◌≤◌, ◌+◌, length, IfOk};
+ghost use Rattle.base_core.specs.Sets.{is_within};
 ghost use Rattle.value_core.specs.RowPacking.{unpacked};
+ghost use Rattle.value_core.specs.Values.{row_cmp, same_rows};
 ghost use Rattle.cell_core.specs.Costs.{bound};
 ghost use Rattle.meaning_core.specs.Truths.{related_rows};
 ghost use Rattle.meaning_core.specs.Typing.{IsList};
@@ -9,6 +11,7 @@ use point_core::{Memory, Steps};
 use std::alloc::Global;
 use std::sync::ledger::Ledger;
 use tree_core::RelateWord;
+use u_set::{are_same, is_within};
 use value_core::Relation;
 
 /// Whether two relations of one heading, unpacked on the attributes at the positions, stand as the word says.
@@ -25,5 +28,46 @@ pub fn compared<L: Ledger>(
     ensures answer { IfOk result (λ b. b ≡ related_rows word (unpacked acl.now left.now.rows) (unpacked acl.now right.now.rows)) }
     ensures cost { steps.new ≤ steps.old + bound (length left.now.rows + length right.now.rows) (length acl.now) }
 {
-    Err(Memory)
+    match word {
+        RelateWord::Equal => equal(alloc, acl, left, right, steps),
+        RelateWord::NotEqual => {
+            let same = equal(alloc, acl, left, right, steps)?;
+            Ok(!same)
+        }
+        RelateWord::LessEqual => within(alloc, acl, left, right, steps),
+        RelateWord::GreaterEqual => within(alloc, acl, right, left, steps),
+        RelateWord::Less | RelateWord::Greater => Err(Memory),
+    }
+}
+
+// Whether the relations, unpacked, are equal.
+fn equal<L: Ledger>(
+    alloc: Global,
+    acl: &[usize],
+    left: &Relation,
+    right: &Relation,
+    steps: &mut Steps<L>,
+) -> Result<bool, Memory>
+    requires heading { left.now.heading ≡ right.now.heading }
+    requires list { IsList left.now.heading acl.now }
+    ensures answer { IfOk result (λ b. b ≡ same_rows (unpacked acl.now left.now.rows) (unpacked acl.now right.now.rows)) }
+    ensures cost { steps.new ≤ steps.old + bound (length left.now.rows + length right.now.rows) (length acl.now) }
+{
+    are_same(alloc, left, right, acl, steps)
+}
+
+// Whether the left relation, unpacked, is a subset of the right one.
+fn within<L: Ledger>(
+    alloc: Global,
+    acl: &[usize],
+    left: &Relation,
+    right: &Relation,
+    steps: &mut Steps<L>,
+) -> Result<bool, Memory>
+    requires heading { left.now.heading ≡ right.now.heading }
+    requires list { IsList left.now.heading acl.now }
+    ensures answer { IfOk result (λ b. b ≡ is_within row_cmp (unpacked acl.now left.now.rows) (unpacked acl.now right.now.rows)) }
+    ensures cost { steps.new ≤ steps.old + bound (length left.now.rows + length right.now.rows) (length acl.now) }
+{
+    is_within(alloc, left, right, acl, steps)
 }

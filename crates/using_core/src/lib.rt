@@ -1,11 +1,12 @@
 //! Operators under USING, PACK and UNPACK, and comparisons under USING, on relations: each means what the plain operator gives of the
 //! unpacked operands, packed again, and works on the ends of intervals alone.
-#![tactic(auto)]
+#![tactic(auto, using(crate::proofs::ListLemmas::intervals_of_list))]
 
 mod combining;
 mod comparing;
 mod packing;
 mod rules;
+mod telling;
 
 pub use combining::{using_infix, using_projection};
 pub use comparing::compared;

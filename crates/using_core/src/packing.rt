@@ -6,6 +6,7 @@ ghost use Rattle.cell_core.specs.Costs.{bound};
 ghost use Rattle.meaning_core.specs.Meanings.{limited};
 ghost use Rattle.meaning_core.specs.Typing.{IsList};
 
+use crate::telling::told;
 use point_core::{Place, Steps, Stop};
 use std::alloc::Global;
 use std::sync::ledger::Ledger;
@@ -23,7 +24,7 @@ pub fn packed<L: Ledger>(
     ensures value { Answers result (under r.now.heading (limited place (packed acl.now r.now.rows))) }
     ensures cost { steps.new ≤ steps.old + bound (length r.now.rows) (length acl.now) }
 {
-    Err(Stop::Memory)
+    told(place, u_set::packed(alloc, r, acl, steps))
 }
 
 /// The relation unpacked on the attributes at the positions, or the fault of too many rows at the place.
@@ -38,5 +39,5 @@ pub fn unpacked<L: Ledger>(
     ensures value { Answers result (under r.now.heading (limited place (unpacked acl.now r.now.rows))) }
     ensures cost { steps.new ≤ steps.old + bound (length r.now.rows) (length acl.now) }
 {
-    Err(Stop::Memory)
+    told(place, u_set::unpacked(alloc, r, acl, steps))
 }

@@ -80,9 +80,9 @@ pub fn using_summary<L: Ledger>(
     requires summed { IsSummedBy heading.now acl.now r.now.heading by.now (map read_aggregate aggregates.now) }
     ensures value { Answers result (under heading.now
         (then_give (summarized by.now
-            (λ numbers. group_row r.now.heading heading.now (map read_aggregate aggregates.now)
-                (rows_at (opened (around place heading.now acl.now) r.now.heading r.now.rows) numbers))
-            (opened (around place heading.now acl.now) r.now.heading r.now.rows))
+        (λ numbers. group_row r.now.heading heading.now (map read_aggregate aggregates.now)
+        (rows_at (opened (around place heading.now acl.now) r.now.heading r.now.rows) numbers))
+        (opened (around place heading.now acl.now) r.now.heading r.now.rows))
         (closed (around place heading.now acl.now) place heading.now))) }
     ensures cost { steps.new ≤ steps.old + bound (length r.now.rows) (length acl.now) }
 {

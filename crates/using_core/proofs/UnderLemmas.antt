@@ -1,0 +1,25 @@
+-- What operators under USING mean, where the operands have the heading of the node: their positions are those of the list.
+use Rattle.std.proofs.Common.{◌≡◌, ℕ, List, sym, ◌∙◌}
+use Rattle.std.specs.Bool.{IsTrue}
+use Rattle.point_core.specs.declared.fault.Place.{Place}
+use Rattle.value_core.specs.RowPacking.{packed, unpacked}
+use Rattle.value_core.specs.Values.{Row, Heading, is_heading}
+use Rattle.relation_core.specs.Answers.{under}
+use Rattle.relation_core.specs.Operators.{united}
+use Rattle.meaning_core.specs.Meanings.{limited, opened, closed, positions_of, names_at}
+use Rattle.meaning_core.specs.Typing.{IsList}
+use Rattle.using_core.specs.Using.{around}
+use Rattle.using_core.proofs.ListLemmas.{positions_back}
+
+module _ (place : Place) (heading : Heading) (acl : List ℕ) (headed : IsTrue (is_heading heading)) (list : IsList heading acl) where
+  back : positions_of heading (names_at heading acl) ≡ acl
+  back = positions_back heading acl headed list
+
+  back_in : (from : Heading) → heading ≡ from → acl ≡ positions_of from (names_at heading acl)
+  back_in from same = sym back ∙ (λ t. positions_of (same t) (names_at heading acl))
+
+  pub union_meant : (left right : Heading) (r s : List Row) → heading ≡ left → heading ≡ right
+      → under left (limited place (packed acl (united (unpacked acl r) (unpacked acl s))))
+      ≡ under heading (closed (around place heading acl) place heading (united (opened (around place heading acl) left r) (opened (around place heading acl) right s)))
+  union_meant left right r s l m =
+      λ t. under (sym l t) (limited place (packed (sym back t) (united (unpacked (back_in left l t) r) (unpacked (back_in right m t) s))))
