@@ -1,4 +1,4 @@
--- The derived tests and orders of points, types and faults.
+-- The derived tests and orders of points and types.
 use Rattle.std.proofs.Common.{◌≡◌, ◌↔◌, ℕ, ℤ, pos, IsTrue, arith, ap, refl}
 use Rattle.std.specs.declared.cmp.Ordering.{Ordering}
 use Rattle.std.specs.declared.cmp.Ordering.TheVariants.{Less, Equal, Greater}
@@ -9,12 +9,8 @@ use Rattle.std.proofs.lemmas.Int.{ints}
 use Rattle.point_core.specs.declared.any_type.AnyPoint.{AnyPoint}
 use Rattle.point_core.specs.declared.any_type.AnyPoint.TheVariants.{Integer, Date, Ordinal}
 use Rattle.point_core.specs.declared.any_type.AnyType.{AnyType}
-use Rattle.point_core.specs.declared.fault.Fault.{Fault}
-use Rattle.point_core.specs.declared.fault.Code.{Code}
-use Rattle.point_core.specs.declared.fault.Code.TheVariants.{E01, E02, E03, E04, E05, E06, E10, E11, E12, E13, E14, E15, E16, E17, E18, E19, E20, E21, E22, E30, E31, E32, E33, E34, E35, E36, E40, E41, E42, E43, E44, E46}
-use Rattle.point_core.specs.Faults.{code_number, place_cmp, fault_cmp}
 use Rattle.point_core.specs.Points.{number, line}
-use Rattle.point_core.specs.Orders.{point_cmp, point_eq, type_eq, code_order, fault_order}
+use Rattle.point_core.specs.Orders.{point_cmp, point_eq, type_eq}
 use Rattle.point_core.specs.contracts.any_type.AnyPointOrd.TheImpl.Laws.{total-law}
 
 -- ---- what ties is equal
@@ -72,43 +68,3 @@ point_cmp_line (Date a) (Integer b) e = cc
 point_cmp_line (Date a) (Ordinal q b) e = cc
 point_cmp_line (Ordinal p a) (Integer b) e = cc
 point_cmp_line (Ordinal p a) (Date b) e = cc
-
--- codes are in the order of their numbers
-pub code_cmp : (a b : Code) → code_order a b ≡ nat_cmp (code_number a) (code_number b)
-code_cmp E01 E01 = refl
-code_cmp E02 E01 = refl
-code_cmp E03 E01 = refl
-code_cmp E04 E01 = refl
-code_cmp E05 E01 = refl
-code_cmp E06 E01 = refl
-code_cmp E10 E01 = refl
-code_cmp E11 E01 = refl
-code_cmp E12 E01 = refl
-code_cmp E13 E01 = refl
-code_cmp E14 E01 = refl
-code_cmp E15 E01 = refl
-code_cmp E16 E01 = refl
-code_cmp E17 E01 = refl
-code_cmp E18 E01 = refl
-code_cmp E19 E01 = refl
-code_cmp E20 E01 = refl
-code_cmp E21 E01 = refl
-code_cmp E22 E01 = refl
-code_cmp E30 E01 = refl
-code_cmp E31 E01 = refl
-code_cmp E32 E01 = refl
-code_cmp E33 E01 = refl
-code_cmp E34 E01 = refl
-code_cmp E35 E01 = refl
-code_cmp E36 E01 = refl
-code_cmp E40 E01 = refl
-code_cmp E41 E01 = refl
-code_cmp E42 E01 = refl
-code_cmp E43 E01 = refl
-code_cmp E44 E01 = refl
-code_cmp E46 E01 = refl
-code_cmp a b = refl
-
--- faults are in the order of their places, and then of their codes
-pub fault_cmp_derived : (a b : Fault) → fault_order a b ≡ fault_cmp a b
-fault_cmp_derived a b = ap (λ o. ordering_then (place_cmp a.place b.place) o) (code_cmp a.code b.code)

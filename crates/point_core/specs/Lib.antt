@@ -1,6 +1,7 @@
 pub mod Dates
 pub mod DayLaws
 pub mod Digits
+pub mod FaultLaws
 pub mod Faults
 pub mod Orders
 pub mod Pairs

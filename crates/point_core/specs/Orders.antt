@@ -23,5 +23,6 @@ type_eq = derived_type_eq.it
 abbrev pub code_order : Code → Code → Ordering
 code_order = derived_code_cmp.it
 
+-- by place, and then by code: `fault_by_place` of FaultLaws says that it is fault_cmp
 abbrev pub fault_order : Fault → Fault → Ordering
 fault_order = derived_fault_cmp.it
