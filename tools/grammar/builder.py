@@ -1,16 +1,15 @@
 # What the builder of trees stands on: which of some words a token is, and what a form says of the next token where a
-# statement goes on. Run it with the folder of crates/utd_builder; it reads crates/utd_syntax beside it.
-import re, sys
-import os
-OUT = os.path.abspath(sys.argv[1])
+# statement goes on. It reads what the other scripts write of crates/utd_syntax.
+import re
 from forms import *
-SYNTAX = OUT.rstrip('/').rsplit('/', 1)[0] + '/utd_syntax'
+import files
+write = files.writer('utd_builder')
+def syntax(path): return files.WRITTEN[('utd_syntax', path)]
 WORDFN = {'comparison':'comparison_word','sum_word':'sum_word','product_word':'product_word','function':'function_word','pair_function':'pair_word','infix_word':'infix_word','relation_comparison':'relation_comparison'}
 DOC = {'comparison':'comparison of scalars','sum_word':'operator of a sum','product_word':'operator of a product','function':'function of one scalar','pair_function':'function of two scalars','infix_word':'infix of relations of one word','relation_comparison':'comparison of relations'}
-def write(path, lines): open(f'{OUT}/{path}', 'w').write('\n'.join(lines).rstrip('\n') + '\n')
 CTYPE = {c: v[0] for c, v in CHOICES.items()}
 # ---------------------------------------------------------------- choices
-o = ['// Which of some words a token is.', 'ghost use Rattle.std.specs.Prelude.{◌≡◌};', 'ghost use Rattle.utd_builder.specs.Choices as choices;', '', 'use utd_syntax::{' + ', '.join(sorted(CTYPE[c] for c in WORDFN) + ['Terminal']) + '};', '']
+o = ['// Which of some words a token is.', 'ghost use Rattle.std.specs.Prelude.{◌≡◌};', 'ghost use Rattle.utd_builder.specs.Choices as choices;', ''] + files.use_lines('utd_syntax', sorted(CTYPE[c] for c in WORDFN) + ['Terminal']) + ['']
 for c in WORDFN:
     ty, vs_ = CHOICES[c]
     o += [f'/// The {DOC[c]} that the token is.', f'pub fn {WORDFN[c]}(terminal: Terminal) -> Option<{ty}>', f'    ensures {{ result ≡ choices.{c}_at terminal }}', '{', '    match terminal {']
@@ -28,31 +27,20 @@ for fn, doc, ts in [('is_infix','the token stands between two relations','Union 
 write('specs/Choices.antt', o)
 # ---------------------------------------------------------------- lemmas
 CON = {'comparison':'comparison','sum_word':'sum_word','product_word':'product_word','function':'function','pair_function':'pair_function','infix_word':'infix_word','relation_comparison':'relation_comparison','pack_word':'pack_word','aggregate_word':'aggregate_word','emptiness':'emptiness','extreme':'extreme','end_bracket':'end_bracket'}
-READS = sorted(set(re.findall(r'pub (read_\w+) :', open(SYNTAX + '/specs/Read.antt').read())))
+READS = sorted(set(re.findall(r'pub (read_\w+) :', syntax('specs/Read.antt'))))
 TREES = [('word','Word')] + [('parts',x) for x in 'Attribute Element Tuple SetItem Aggregate Renaming'.split()] + [('statement','Constraint'), ('statement','Item')]
 def head(title, body, extra=[]):
     u = ['-- ' + title,
      'use Rattle.std.proofs.Common.{◌≡◌, ℕ, List, [], ◌∷◌, ◌++◌, Bool, true, false, Option, Some, None, refl, sym, ◌∙◌, ap, subst}',
      f'use {CR}.specs.declared.terminal.Terminal.{{Terminal}}', f'use {CR}.specs.declared.terminal.Terminal.TheVariants as t', 'use Rattle.point_core.specs.declared.fault.Place.{Place}'] + choice_use(CON) + [
      f'use {CR}.specs.Pieces.{{Piece, first, place_of, bytes_of}}', 'use Rattle.utd_builder.specs.Building.{behind}', 'use Rattle.utd_syntax.specs.Plain.{StatementP, Word, ' + ', '.join(sorted(set(f["type"] for f in FORMS.values() if f["type"].endswith("P") and not f["type"].startswith("List")) - {"StatementP"})) + ', ' + ', '.join(sorted(set(CONS_ALL))) + '}',
-     f'use {CR}.specs.Table.{{Symbol, Just, same, ' + ', '.join(T) + '}', f'use {CR}.specs.Written.{{' + ', '.join(CON) + '}', f'use {CR}.proofs.Reader.{{Go, read, read_at}}',
-     f'use {CR}.proofs.FormEnds.{{Halts, ' + ', '.join(sorted(STARTSETS)) + ', ' + ', '.join(f'{s}-end' for s in T if may_end(s)) + '}', f'use {CR}.proofs.FirstTokens.{{' + ', '.join(sorted(STARTS | set(LINK_NAMES))) + '}',
+     f'use {CR}.specs.Table.{{Symbol, Just, same, ' + ', '.join(TABLE) + '}', f'use {CR}.specs.Written.{{' + ', '.join(CON) + '}', f'use {CR}.proofs.Reader.{{Go, read, read_at}}',
+     f'use {CR}.proofs.FormEnds.{{Halts, ' + ', '.join(sorted(STARTSETS)) + ', ' + ', '.join(f'{s}-end' for s in TABLE if may_end(s)) + '}', f'use {CR}.proofs.FirstTokens.{{' + ', '.join(sorted(STARTS | set(LINK_NAMES))) + '}',
      'use Rattle.utd_builder.specs.Choices.{' + ', '.join(f'{c}_at' for c in WORDFN) + ', is_infix, is_postfix, is_constraint, relation_comparison_of, end_bracket_at, aggregate_word_at, pack_word_at, emptiness_at}', 'use Rattle.utd_syntax.specs.Read.{' + ', '.join(READS) + '}', *[f'use Rattle.utd_syntax.specs.declared.{m}.{t_}.{{{t_} as {t_}Tree}}' for m, t_ in TREES]] + extra
-    text = '\n'.join(body)
-    words = set(re.findall(r"[^\s(){},;.]+", re.sub(r'--.*', '', text))); mods = set(re.findall(r"([A-Za-z_]+)\.", text))
-    out = []
-    for l in u:
-        m = re.match(r'(use [^{]*)\{(.*)\}$', l)
-        if m:
-            kept = [n for n in m[2].split(', ') if (n.split(' as ')[-1] in words if ' as ' in n else all(p in words for p in n.split('◌') if p) if '◌' in n else n in words)]
-            if kept: out.append(m[1] + '{' + ', '.join(kept) + '}')
-        elif l.startswith('use '):
-            if l.split(' as ')[-1] in mods: out.append(l)
-        else: out.append(l)
-    return out + [''] + body
-CONS_ALL = [c for f in FORMS.values() for c, _ in f['alts'] if c and c not in ('[]', '∷')]
-src = open(SYNTAX + '/proofs/FirstTokens.antt').read() + open(SYNTAX + '/proofs/FormEnds.antt').read()
-ends_src = open(SYNTAX + '/proofs/FormEnds.antt').read()
+    return u + [''] + body
+CONS_ALL = [c for f in FORMS.values() for c, _ in f['alternatives'] if c and c not in ('[]', '∷')]
+src = syntax('proofs/FirstTokens.antt') + syntax('proofs/FormEnds.antt')
+ends_src = syntax('proofs/FormEnds.antt')
 STARTS = set()
 STARTSETS = {}
 for m in re.finditer(r'\n(Starts_\w+) t\.(\w+) = Unit', src): STARTSETS.setdefault(m[1], []).append(m[2])

@@ -33,7 +33,7 @@ done_ = set()
 o.append('-- the token continues none of the forms that may be open at the end of one')
 for l, nm in names:
     o += [f'abbrev pub {nm} : Terminal → Type 0', f'{nm} x = Halts {l[0]} x' + (f' × {CALMS[l[1:]]} x' if len(l) > 1 else ''), '']
-for s in T:
+for s in TABLE:
     if may_end(s):
         e = end_value(s)
         o += [f'pub {s}-end : (ts : List Piece) (stack : List Symbol) (k : Go ({s} ∷ stack)) → Halts {s} (first ts) → read ts ({s} ∷ stack) k ≡ read ts stack (λ v. k ({e}, v))',
@@ -110,7 +110,7 @@ for w, (f, g) in wid.items():
 o += body
 # ---- links
 for (f, g), (gs, c, mk) in LINKS.items():
-    fs = FORMS[f]['sym']
+    fs = FORMS[f]['symbol']
     if c is None:
         st = f'({gs} ∷ stack)'; k = f'(λ v. k ({mk.replace("$0", "v.0")}, v.1))'
     else:
@@ -219,11 +219,11 @@ def reads(n, ind):
     ctype = f' → {CALMS[oc]} (first rest)' if oc else ''
     cvar = ' calm' if oc else ''
     end = f'read rest ({tail} ∷ stack) (λ v. k (v.0 x, v.1))' if tail else 'read rest stack (λ v. k (x, v))'
-    r = [f'{ind}pub {n}-reads : (x : {f["type"]}) (ts rest : List Piece) → Spells (of_{n} x) ts rest{ctype} → (stack : List Symbol) (k : Go ({f["sym"]} ∷ stack)) → read ts ({f["sym"]} ∷ stack) k ≡ {end}']
+    r = [f'{ind}pub {n}-reads : (x : {f["type"]}) (ts rest : List Piece) → Spells (of_{n} x) ts rest{ctype} → (stack : List Symbol) (k : Go ({f["symbol"]} ∷ stack)) → read ts ({f["symbol"]} ∷ stack) k ≡ {end}']
     for con, pat, items, parts in f['cases']:
         head = f'{ind}{n}-reads {pat} ts rest sp{cvar} stack go ='
         if not items:
-            r.append(f'{head} along ts rest ({f["sym"]} ∷ stack) go (done ts rest sp) ∙ {f["sym"]}-end rest stack go {project("calm", oc, (f["sym"],))}'); continue
+            r.append(f'{head} along ts rest ({f["symbol"]} ∷ stack) go (done ts rest sp) ∙ {f["symbol"]}-end rest stack go {project("calm", oc, (f["symbol"],))}'); continue
         s = Seq(n, oc)
         s.at_end = lambda P: project('calm', oc, P)
         pend = PENDING.get((n, con))
@@ -238,7 +238,7 @@ def reads(n, ind):
         else: r += [head] + [f'{ind}    {l}' for l in s.lets] + [f'{ind}    ' + ' ∙ '.join(chain)]
     return r
 body = []
-for blk in [[n] if n not in SCALARS + RELATIONS else (SCALARS if n == 'scalar' else RELATIONS if n == 'rel' else []) for n in FORMS if FORMS[n]['sym']]:
+for blk in [[n] if n not in SCALARS + RELATIONS else (SCALARS if n == 'scalar' else RELATIONS if n == 'rel' else []) for n in FORMS if FORMS[n]['symbol']]:
     if len(blk) > 1:
         body.append('mutual')
         for n in blk: body += reads(n, '  ') + ['']

@@ -1,33 +1,7 @@
 # The definitions: the terminals and choices in Rust, the plain trees, what they write, and the table.
 from forms import *
-HERE = os.path.dirname(os.path.abspath(__file__))
-OUT = sys.argv[1]
-def write(path, text):
-    whole = f'{OUT}/{path}'
-    os.makedirs(os.path.dirname(whole), exist_ok=True)
-    open(whole, 'w').write(without_unused(text.rstrip() + '\n') if path.endswith('.antt') else text)
-def text(name): return open(f'{HERE}/text/{name}').read()
-def without_unused(text):
-    """without the imports that nothing in the file names"""
-    uses = [l for l in text.split('\n') if l.startswith('use ')]
-    body = '\n'.join(l for l in text.split('\n') if not l.startswith('use '))
-    body = re.sub(r'--.*', '', body)
-    words = {w.split('.')[0] for w in re.findall(r"[^\s(){},;]+", body)}
-    modules = set(re.findall(r"([A-Za-z_]+)\.", body))
-    def named(n):
-        n = n.split(' as ')[-1]
-        return all(part in words for part in n.split('◌') if part) if '◌' in n else n in words
-    out = []
-    for l in text.split('\n'):
-        if l.startswith('use '):
-            m = re.match(r'(use [^{]*)\{(.*)\}$', l)
-            if m:
-                kept = [n for n in m[2].split(', ') if named(n)]
-                if not kept: continue
-                l = m[1] + '{' + ', '.join(kept) + '}'
-            elif l.split(' as ')[-1] not in modules: continue
-        out.append(l)
-    return '\n'.join(out)
+import files
+write = files.writer('utd_syntax')
 # ---------------------------------------------------------------- Rust: terminals, choices
 lines = ['// What a token is to the grammar.', '',
  '/// What a token is to the grammar: a reserved word, a symbol, a name, an integer, a text, or that no token is left.',
@@ -50,8 +24,8 @@ TV = f'use {CR}.specs.declared.terminal.Terminal.TheVariants as t'
 def choice_uses(variants=True):
     o = []
     for c in CHOICES:
-        o.append(f'use {CR}.specs.declared.words.{CT[c]}.{{{CT[c]}}}')
-        if variants: o.append(f'use {CR}.specs.declared.words.{CT[c]}.TheVariants as {PLURAL[c]}')
+        o.append(f'use {CR}.specs.declared.words.{CHOICE_TYPES[c]}.{{{CHOICE_TYPES[c]}}}')
+        if variants: o.append(f'use {CR}.specs.declared.words.{CHOICE_TYPES[c]}.TheVariants as {PLURAL[c]}')
     return o
 COMMENT = {  # the rule of the grammar above each type
  'point':'"INTEGER" | "DATE" | name','scalar':'conj | scalar "OR" conj','conj':'neg | conj "AND" neg','neg':'"NOT" neg | cmp','cmp':'sum | sum comparison sum',
@@ -77,7 +51,7 @@ def data(names, indent=''):
         if not f['type'].endswith('P') or f['type'].startswith('List') : continue
         o.append(f'{indent}-- {COMMENT[n]}')
         o.append(f'{indent}pub data {f["type"]} : Type 0 where')
-        for con, parts in f['alts']:
+        for con, parts in f['alternatives']:
             o.append(f'{indent}  {con} : ' + ' → '.join([t for _, t in args_of(parts)] + [f['type']]))
         o.append('')
     return o
@@ -95,7 +69,7 @@ def block(stop):
     return data(ns)
 o += block('scalar') + ['mutual'] + data(SCALARS, '  ') + block('rel') + ['mutual'] + data(RELATIONS, '  ') + block(None)
 write('specs/Plain.antt', '\n'.join(o))
-CONS = [con for n, f in FORMS.items() for con, _ in f['alts'] if con and con not in ('[]', '∷')]
+CONS = [con for n, f in FORMS.items() for con, _ in f['alternatives'] if con and con not in ('[]', '∷')]
 assert len(CONS) == len(set(CONS)), [c for c in CONS if CONS.count(c) > 1]
 TYPES = [f['type'] for f in FORMS.values() if f['type'].endswith('P') and not f['type'].startswith('List')]
 PLAIN_USE = f'use {CR}.specs.Plain.{{Word, word, ' + ', '.join(dict.fromkeys(TYPES)) + ', ' + ', '.join(CONS) + '}'
@@ -148,7 +122,7 @@ negation p = apart t.Dash p t.Digits ∷ []
 
 -- the words that have a meaning at their places alone, and may be names''']
 for w in CONTEXT:
-    o += [f'abbrev pub {cword(w)} : List ℕ', f'{cword(w)} = ' + ' ∷ '.join(str(ord(c)) for c in w) + ' ∷ []', '']
+    o += [f'abbrev pub {word_name(w)} : List ℕ', f'{word_name(w)} = ' + ' ∷ '.join(str(ord(c)) for c in w) + ' ∷ []', '']
 for c, (typ, vv) in CHOICES.items():
     o += [f'abbrev pub {c} : {typ} → Terminal'] + [f'{c} {PLURAL[c]}.{v} = t.{x}' for v, x in vv] + ['']
 def written(names, indent='', abbrev='abbrev '):
@@ -156,7 +130,7 @@ def written(names, indent='', abbrev='abbrev '):
     for n in names:
         f = FORMS[n]
         r.append(f'{indent}{abbrev}pub of_{n} : {f["type"]} → List Mark')
-        for con, parts in f['alts']: r.append(f'{indent}of_{n} {pattern(con, parts, {})} = {expr(parts)}')
+        for con, parts in f['alternatives']: r.append(f'{indent}of_{n} {pattern(con, parts, {})} = {expr(parts)}')
         r.append('')
         for l, (typ, item, mf) in LISTS.items():
             if mf == n:
@@ -179,7 +153,7 @@ def how(h, inner): return HOW[h] if h in HOW else f'({"Opens" if h == "L" else "
 def rname(s): return snake(s[3:] if s.startswith('The') else s) + '_rows'
 def sl(l): return f'({symlist(l)})' if l else '[]'
 o = ['-- For each form and each place in it, the tokens that may stand next.',
- 'use Rattle.std.specs.Prelude.{ℕ, List, [], ◌∷◌, ◌++◌, Bool, true, false, ◌==◌, ◌&&◌, if◌then◌else◌}', TERM, TV, f'use {CR}.specs.Written.{{' + ', '.join(cword(w) for w in CONTEXT) + '}', '',
+ 'use Rattle.std.specs.Prelude.{ℕ, List, [], ◌∷◌, ◌++◌, Bool, true, false, ◌==◌, ◌&&◌, if◌then◌else◌}', TERM, TV, f'use {CR}.specs.Written.{{' + ', '.join(word_name(w) for w in CONTEXT) + '}', '',
 '''-- the levels that are open, the operators in force, and those of them that stand outside the innermost level
 pub record Load : Type 0 where
   pub levels : ℕ
@@ -188,7 +162,7 @@ pub record Load : Type 0 where
 
 -- A form that may stand here, or the rest of one that has begun.
 pub data Symbol : Type 0 where
-''' + '  ' + ' '.join(T) + ''' : Symbol
+''' + '  ' + ' '.join(TABLE) + ''' : Symbol
   -- this token; this word where it stands for itself
   Just : Terminal → Symbol
   Worded : List ℕ → Symbol
@@ -230,7 +204,7 @@ def rowtext(r):
     if r[0] == 'before': return f'before t.{r[1]} t.{r[2]} {how(r[3][0], r[3][1])} {sl(r[3][2])} {how(r[4][0], r[4][1])} {sl(r[4][2])}'
 def rows_text(s):
     parts = []; cur = []
-    for r in T[s]['rows']:
+    for r in TABLE[s]['rows']:
         if r[0] in ('on', 'before'): cur.append(rowtext(r))
         else:
             if cur: parts.append('(' + ' ∷ '.join(cur + ['[]']) + ')'); cur = []
@@ -238,7 +212,7 @@ def rows_text(s):
     if cur: parts.append('(' + ' ∷ '.join(cur + ['[]']) + ')' if parts else ' ∷ '.join(cur + ['[]']))
     return parts
 def layout(s):
-    rs = T[s]['rows']
+    rs = TABLE[s]['rows']
     if all(r[0] in ('on', 'before') for r in rs):
         return f'{rname(s)} =\n' + ''.join(f'    {rowtext(r)} ∷\n' for r in rs) + '    []' if len(rs) > 1 else f'{rname(s)} = {rowtext(rs[0])} ∷ []'
     ps = rows_text(s)
@@ -246,9 +220,9 @@ def layout(s):
     e = ps[-1]
     for p in reversed(ps[:-1]): e = f'{p} ++ ({e})' if '++' in e else f'{p} ++ {e}'
     return f'{rname(s)} = {e}'
-for s in T: o += [f'abbrev pub {rname(s)} : List Row', layout(s), '']
-o += ['abbrev pub rows : Symbol → List Row'] + [f'rows {s} = {rname(s)}' for s in T] + ['rows (Just x) = on x Plain [] ∷ []', 'rows (Worded b) = spelt b [] ∷ []', 'rows (Shut outer) = []', '']
-o += ['-- the form may end before a token that none of its rows takes', 'abbrev pub may_end : Symbol → Bool'] + [f'may_end {s} = true' for s in T if may_end(s)] + ['may_end (Shut outer) = true', 'may_end _ = false', '']
+for s in TABLE: o += [f'abbrev pub {rname(s)} : List Row', layout(s), '']
+o += ['abbrev pub rows : Symbol → List Row'] + [f'rows {s} = {rname(s)}' for s in TABLE] + ['rows (Just x) = on x Plain [] ∷ []', 'rows (Worded b) = spelt b [] ∷ []', 'rows (Shut outer) = []', '']
+o += ['-- the form may end before a token that none of its rows takes', 'abbrev pub may_end : Symbol → Bool'] + [f'may_end {s} = true' for s in TABLE if may_end(s)] + ['may_end (Shut outer) = true', 'may_end _ = false', '']
 o += ['-- the place of a terminal in their list, which tells them apart', 'abbrev pub number : Terminal → ℕ'] + [f'number t.{x} = {i}' for i, x in enumerate(TERMINALS)] + ['']
 o += ['''abbrev pub same : Terminal → Terminal → Bool
 same a b = number a == number b
@@ -279,4 +253,4 @@ find (r ∷ rs) ends x b n = if fits r x b then chosen r n else find rs ends x b
 abbrev pub turn : Symbol → Terminal → List ℕ → Terminal → Turn
 turn s x b n = find (rows s) (may_end s) x b n''']
 write('specs/Table.antt', '\n'.join(o) + '\n')
-SYMS = ', '.join(T) + ', Just, Worded, Shut'
+SYMS = ', '.join(TABLE) + ', Just, Worded, Shut'

@@ -1,15 +1,15 @@
 # What the table reads: a value for each form, made row by row.
 from definitions import *
 COMMON = 'use Rattle.std.proofs.Common.{◌≡◌, ◌≢◌, ◌↔◌, ℕ, List, [], ◌∷◌, ◌++◌, Bool, true, false, cond, ◌==◌, ◌&&◌, eqb, ◌⊎◌, inl, inr, Option, Some, None, refl, sym, ◌∙◌, ap, subst, append_assoc, if◌then◌else◌}'
-WRITTEN_USE = f'use {CR}.specs.Written.{{Mark, fixed, at, spelled, worded, apart, IsMark, Spells, token, placed, lexeme, word_of, contextual, negation, ' + ', '.join(cword(w) for w in CONTEXT) + ', ' + ', '.join(CHOICES) + ', ' + ', '.join(OFS) + '}'
-TABLE_USE = f'use {CR}.specs.Table.{{Load, Symbol, {SYMS}, Taking, Plain, Operator, Separator, Negated, Dated, Opens, OperatorOpens, Turn, Never, Ends, Takes, Row, on, spelt, before, then_row, ◌▹◌, rows, may_end, number, same, same_bytes, fits, chosen, find, turn, ' + ', '.join(rname(s) for s in T) + '}'
+WRITTEN_USE = f'use {CR}.specs.Written.{{Mark, fixed, at, spelled, worded, apart, IsMark, Spells, token, placed, lexeme, word_of, contextual, negation, ' + ', '.join(word_name(w) for w in CONTEXT) + ', ' + ', '.join(CHOICES) + ', ' + ', '.join(OFS) + '}'
+TABLE_USE = f'use {CR}.specs.Table.{{Load, Symbol, {SYMS}, Taking, Plain, Operator, Separator, Negated, Dated, Opens, OperatorOpens, Turn, Never, Ends, Takes, Row, on, spelt, before, then_row, ◌▹◌, rows, may_end, number, same, same_bytes, fits, chosen, find, turn, ' + ', '.join(rname(s) for s in TABLE) + '}'
 PIECES_USE = f'use {CR}.specs.Pieces.{{Piece, first, place_of}}'
 HEAD = [COMMON, TERM, TV, PLACE] + choice_uses() + [PIECES_USE, PLAIN_USE]
 def val_type(s):
-    d = T[s]
+    d = TABLE[s]
     if d['kind'] == 'form': return d['type']
     return ' → '.join([t for _, t in d['params']] + [d['restype']])
-def lam_params(s): return ''.join(f' {p}' for p, _ in T[s]['params']) if T[s]['kind'] == 'after' else ''
+def lam_params(s): return ''.join(f' {p}' for p, _ in TABLE[s]['params']) if TABLE[s]['kind'] == 'after' else ''
 def prow(s, r):   # make of a row: list of strings (two for before)
     if r[0] == 'on':
         return f'(λ p b v{lam_params(s)}. {vs(r[5], "v")})'
@@ -25,7 +25,7 @@ def makes_parts(s):
         e = 'tt'
         for x in reversed(c): e = f'({x}, {e})'
         return e
-    for r in T[s]['rows']:
+    for r in TABLE[s]['rows']:
         if r[0] in ('on', 'before'): cur.append(prow(s, r))
         else:
             if cur: parts.append(('lit', tup(cur), [rowtext(x) for x in []])); cur = []
@@ -40,10 +40,9 @@ def emit_makes(s):
     o = [f'abbrev pub {mname(s)} : Makes {s} {rname(s)}']
     if len(ps) == 1:
         if ps[0][0] == 'lit':
-            rows_ = T[s]['rows']
+            rows_ = TABLE[s]['rows']
             if len(rows_) > 1:
-                o.append(f'{mname(s)} =')
-                o += [f'    ({prow(s, r)},' for r in rows_] + ['    tt' + ')' * len(rows_)]
+                o.append(f'{mname(s)} = ' + files.pairs_of([prow(s, r) for r in rows_]))
             else: o.append(f'{mname(s)} = {ps[0][1]}')
         else: o.append(f'{mname(s)} = {ps[0][1]}')
         return o + ['']
@@ -54,12 +53,12 @@ def emit_makes(s):
     o.append(f'{mname(s)} = {e}')
     return o + ['']
 def end_value(s):
-    d = T[s]
+    d = TABLE[s]
     ps = ' '.join(p for p, _ in d.get('params', []))
     return f'(λ {ps}. {d["ends"]})' if d['kind'] == 'after' else d['ends']
-o = ['-- What the table reads: a value for each form.'] + HEAD + [TABLE_USE, f'use {CR}.specs.Written.{{' + ', '.join(cword(w) for w in CONTEXT) + '}', '',
+o = ['-- What the table reads: a value for each form.'] + HEAD + [TABLE_USE, f'use {CR}.specs.Written.{{' + ', '.join(word_name(w) for w in CONTEXT) + '}', '',
  '-- what a form gives; the rest of one gives what it makes of the part before it', 'abbrev pub Val : Symbol → Type 0']
-o += [f'Val {s} = {val_type(s)}' for s in T] + ['Val (Just x) = Unit {0}', 'Val (Worded b) = Place', 'Val (Shut outer) = Unit {0}', '']
+o += [f'Val {s} = {val_type(s)}' for s in TABLE] + ['Val (Just x) = Unit {0}', 'Val (Worded b) = Place', 'Val (Shut outer) = Unit {0}', '']
 o += ['''abbrev pub Vals : List Symbol → Type 0
 Vals [] = Unit {0}
 Vals (s ∷ stack) = Val s × Vals stack
@@ -116,10 +115,10 @@ abbrev pub append_makes : (s : Symbol) (xs ys : List Row) → Makes s xs → Mak
 append_makes s [] ys ms ns = ns
 append_makes s (r ∷ xs) ys ms ns = (ms.0, append_makes s xs ys ms.1 ns)
 ''']
-for s in T: o += emit_makes(s)
-o += ['abbrev pub makes : (s : Symbol) → Makes s (rows s)'] + [f'makes {s} = {mname(s)}' for s in T] + ['makes (Just x) = ((λ p b v. tt), tt)', 'makes (Worded w) = ((λ p b v. p), tt)', 'makes (Shut outer) = tt', '']
+for s in TABLE: o += emit_makes(s)
+o += ['abbrev pub makes : (s : Symbol) → Makes s (rows s)'] + [f'makes {s} = {mname(s)}' for s in TABLE] + ['makes (Just x) = ((λ p b v. tt), tt)', 'makes (Worded w) = ((λ p b v. p), tt)', 'makes (Shut outer) = tt', '']
 o += ['-- what a form gives that ends before its first token', 'abbrev pub Ended : Symbol → Bool → Type 0', 'Ended s true = Val s', 'Ended s false = Unit {0}', '',
- 'abbrev pub end_value : (s : Symbol) → Ended s (may_end s)'] + [f'end_value {s} = {end_value(s)}' for s in T if may_end(s)] + ['end_value (Shut outer) = tt', 'end_value _ = tt', '']
+ 'abbrev pub end_value : (s : Symbol) → Ended s (may_end s)'] + [f'end_value {s} = {end_value(s)}' for s in TABLE if may_end(s)] + ['end_value (Shut outer) = tt', 'end_value _ = tt', '']
 o += ['''-- what a turn of the table makes
 abbrev pub Built : Symbol → Turn → Type 0
 Built s Never = Unit {0}
@@ -181,4 +180,4 @@ abbrev pub read : List Piece → (stack : List Symbol) → Go stack → Option S
 read [] stack k = read_end stack k
 read (x ∷ ts) stack k = read_at x.terminal (first ts) x.place x.bytes (read ts) stack k''']
 write('proofs/Reader.antt', '\n'.join(o) + '\n')
-READER_USE = f'use {CR}.proofs.Reader.{{Val, Vals, Case, Make, Makes, Ended, Built, Go, inner, over_make, over_makes, last_of, last_behind, then_case, then_make, then_makes, append_makes, makes, end_value, by_case, made, pick, found_end, found, build, split, on_turn, read_at, on_end, read_end, read, ' + ', '.join(mname(s) for s in T) + '}'
+READER_USE = f'use {CR}.proofs.Reader.{{Val, Vals, Case, Make, Makes, Ended, Built, Go, inner, over_make, over_makes, last_of, last_behind, then_case, then_make, then_makes, append_makes, makes, end_value, by_case, made, pick, found_end, found, build, split, on_turn, read_at, on_end, read_end, read, ' + ', '.join(mname(s) for s in TABLE) + '}'

@@ -2,13 +2,13 @@
 from sound import *
 o = ['-- Each stack that the table reaches can be completed; so E01 is that no statement continues so.'] + [COMMON, TERM, TV, PLACE,
  'use Rattle.point_core.specs.declared.fault.Code.{Code}', 'use Rattle.point_core.specs.declared.fault.Code.TheVariants.{E01, E05, E06}', PIECES_USE,
- f'use {CR}.specs.Plain.{{StatementP}}', f'use {CR}.specs.Written.{{Spells, of_statement, ' + ', '.join(cword(w) for w in CONTEXT) + '}', f'use {CR}.specs.Continues.{{Starts, again, NoStatement}}', f'use {CR}.specs.Terminals.{{spelling, is_token, AreTokens}}', TABLE_USE,
+ f'use {CR}.specs.Plain.{{StatementP}}', f'use {CR}.specs.Written.{{Spells, of_statement, ' + ', '.join(word_name(w) for w in CONTEXT) + '}', f'use {CR}.specs.Continues.{{Starts, again, NoStatement}}', f'use {CR}.specs.Terminals.{{spelling, is_token, AreTokens}}', TABLE_USE,
  f'use {CR}.specs.Verdict.{{Verdict, Whole, Refused, Limits, no_limits, verdict, reach, taken, ended, at_form, Reach, Over, Stuck, Reaches, outside, stack_after, load_after}}',
- READER_USE, f'use {CR}.proofs.Complete.{{statement-reads, Halts, ' + ', '.join(CALMS.values()) + ', ' + ', '.join(f'{s}-end' for s in T if may_end(s)) + '}',
+ READER_USE, f'use {CR}.proofs.Complete.{{statement-reads, Halts, ' + ', '.join(CALMS.values()) + ', ' + ', '.join(f'{s}-end' for s in TABLE if may_end(s)) + '}',
  f'use {CR}.proofs.Accepted.{{bare, row, plain, bare-after, Agree, agrees-end}}', f'use {CR}.proofs.Sound.{{SoundAt, sound, same-self, bytes-self}}', '']
 def tok_text(x, b): return f'(t.{x}, {b})' if b else f'(t.{x}, spelling t.{x})'
 o += ['-- the tokens that complete a form', 'abbrev pub ending : Symbol → List (Terminal × List ℕ)']
-o += [f'ending {s} = ' + ' ∷ '.join([tok_text(x, b) for x, b in ENDING[s]] + ['[]']) for s in T] + ['ending (Just x) = (x, spelling x) ∷ []', 'ending (Worded w) = (t.Name, w) ∷ []', 'ending (Shut outer) = []', '']
+o += [f'ending {s} = ' + ' ∷ '.join([tok_text(x, b) for x, b in ENDING[s]] + ['[]']) for s in TABLE] + ['ending (Just x) = (x, spelling x) ∷ []', 'ending (Worded w) = (t.Name, w) ∷ []', 'ending (Shut outer) = []', '']
 o += ['''abbrev pub pieces_of : List (Terminal × List ℕ) → List Piece → List Piece
 pieces_of [] rest = rest
 pieces_of (x ∷ xs) rest = record { terminal = x.0; place = place_of []; bytes = x.1 } ∷ pieces_of xs rest
@@ -22,7 +22,7 @@ lead stack = first (complete stack)
 
 -- what comes next does not continue a form that could go on
 abbrev pub Calm : Symbol → Terminal → Type 0''']
-o += [f'Calm {s} x = ' + (f'Halts {calm(s)[0]} x' if len(calm(s)) == 1 else f'{CALMS[calm(s)]} x') for s in T if calm(s)] + ['Calm (Just y) x = is_token y (spelling y) ≡ true', 'Calm (Worded w) x = is_token t.Name w ≡ true', 'Calm _ x = Unit {0}', '']
+o += [f'Calm {s} x = ' + (f'Halts {calm(s)[0]} x' if len(calm(s)) == 1 else f'{CALMS[calm(s)]} x') for s in TABLE if calm(s)] + ['Calm (Just y) x = is_token y (spelling y) ≡ true', 'Calm (Worded w) x = is_token t.Name w ≡ true', 'Calm _ x = Unit {0}', '']
 o += ['''abbrev pub Good : List Symbol → Type 0
 Good [] = Unit {0}
 Good (s ∷ stack) = Calm s (lead stack) × Good stack
@@ -72,7 +72,7 @@ def simulate(s):
             assert may_end(f), (s, f, x); st = st[1:]
     assert all(may_end(f) for f in st), (s, st)
     return st
-for s in T:
+for s in TABLE:
     if ENDING[s] == []: pend = [s]
     else: pend = simulate(s)
     L = calm(s)
@@ -85,7 +85,7 @@ o += ['complete-reads (Just wanted ∷ st) g k = by _ _ (just-self wanted (first
  'complete-reads (Shut outer ∷ st) g k = by _ _ (shut-end (complete st) outer st k) (complete-reads st g.1 _)', '']
 o += ['''-- and that with tokens
 pub complete-tokens : (stack : List Symbol) → Good stack → AreTokens (complete stack)
-complete-tokens [] g = tt'''] + [f'complete-tokens ({s_} ∷ st) g = ' + '(refl, ' * len(ENDING[s_]) + 'complete-tokens st g.1' + ')' * len(ENDING[s_]) for s_ in T] + ['complete-tokens (Just wanted ∷ st) g = (g.0, complete-tokens st g.1)', 'complete-tokens (Worded w ∷ st) g = (g.0, complete-tokens st g.1)', 'complete-tokens (Shut outer ∷ st) g = complete-tokens st g.1', '']
+complete-tokens [] g = tt'''] + [f'complete-tokens ({s_} ∷ st) g = ' + '(refl, ' * len(ENDING[s_]) + 'complete-tokens st g.1' + ')' * len(ENDING[s_]) for s_ in TABLE] + ['complete-tokens (Just wanted ∷ st) g = (g.0, complete-tokens st g.1)', 'complete-tokens (Worded w ∷ st) g = (g.0, complete-tokens st g.1)', 'complete-tokens (Shut outer ∷ st) g = complete-tokens st g.1', '']
 o += ['''-- the rows keep stacks good
 abbrev GoodForms : Symbol → List Symbol → Type 0
 GoodForms s forms = (st : List Symbol) → Good (s ∷ st) → Good (forms ++ st)
@@ -114,15 +114,15 @@ def good_forms(s, forms):
         else: c = project('g.0', L, C)
         e = f'({c}, {e})'
     return f'(λ st g. {e})'
-for s in T:
+for s in TABLE:
     o.append(f'good-{snake(s)} : GoodRows {s} {rname(s)}')
     items = []
     for r in exp_rows(s):
         if r[0] == 'on': items.append(good_forms(s, r[2] + r[3]))
         else: items.append('(' + good_forms(s, r[3][0] + r[3][1]) + ', ' + good_forms(s, r[4][0] + r[4][1]) + ')')
-    if len(items) > 1: o += [f'good-{snake(s)} ='] + [f'    ({i},' for i in items] + ['    tt' + ')' * len(items), '']
+    if len(items) > 1: o += [f'good-{snake(s)} = ' + files.pairs_of(items), '']
     else: o += [f'good-{snake(s)} = ({items[0]}, tt)', '']
-o += ['good-rows : (s : Symbol) → GoodRows s (rows s)'] + [f'good-rows {s} = good-{snake(s)}' for s in T] + ['good-rows (Just x) = ((λ st g. g.1), tt)', 'good-rows (Worded w) = ((λ st g. g.1), tt)', 'good-rows (Shut outer) = tt', '']
+o += ['good-rows : (s : Symbol) → GoodRows s (rows s)'] + [f'good-rows {s} = good-{snake(s)}' for s in TABLE] + ['good-rows (Just x) = ((λ st g. g.1), tt)', 'good-rows (Worded w) = ((λ st g. g.1), tt)', 'good-rows (Shut outer) = tt', '']
 o += ['''good-case : (s : Symbol) (c : Bool) (how how' : Taking) (more more' : List Symbol) → GoodForms s (inner how ++ more) → GoodForms s (inner how' ++ more') → GoodForms s (row (cond c (Takes how more) (Takes how' more')))
 good-case s true how how' more more' h g = h
 good-case s false how how' more more' h g = g
@@ -190,7 +190,7 @@ abbrev SteadyRows : List Row → Type 0
 SteadyRows [] = Unit {0}
 SteadyRows (r ∷ rs) = SteadyRow r × SteadyRows rs
 ''']
-o += ['steady-rows : (s : Symbol) → SteadyRows (rows s)'] + [f'steady-rows {s} = ' + tuple_of(['tt' if r[0] == 'on' else '((λ st. refl), (λ st. refl))' for r in exp_rows(s)]) for s in T] + ['steady-rows (Just x) = (tt, tt)', 'steady-rows (Worded w) = (tt, tt)', 'steady-rows (Shut outer) = tt', '']
+o += ['steady-rows : (s : Symbol) → SteadyRows (rows s)'] + [f'steady-rows {s} = ' + tuple_of(['tt' if r[0] == 'on' else '((λ st. refl), (λ st. refl))' for r in exp_rows(s)]) for s in TABLE] + ['steady-rows (Just x) = (tt, tt)', 'steady-rows (Worded w) = (tt, tt)', 'steady-rows (Shut outer) = tt', '']
 o += ['''steady-case : (c : Bool) (y : Terminal) (how how' : Taking) (more more' : List Symbol) (st : List Symbol) → same y (lead ((inner how ++ more) ++ st)) ≡ true → same y (lead ((inner how' ++ more') ++ st)) ≡ false → cond (same y (lead (row (cond c (Takes how more) (Takes how' more')) ++ st))) (Takes how more) (Takes how' more') ≡ cond c (Takes how more) (Takes how' more')
 steady-case true y how how' more more' st h g = ap (λ z. cond z (Takes how more) (Takes how' more')) h
 steady-case false y how how' more more' st h g = ap (λ z. cond z (Takes how more) (Takes how' more')) g
@@ -212,7 +212,7 @@ stable-row : (s : Symbol) (x : Terminal) (b : List ℕ) (n : Terminal) (st : Lis
 stable-row s x b n st = steady-find (rows s) (may_end s) x b n st (steady-rows s)
 ''']
 # what speaks of stacks alone, and so of no form by name
-o.append(text('refused.txt'))
+o.append(files.text_of('refused.txt'))
 write('proofs/Refused.antt', '\n'.join(o))
 # ---------------------------------------------------------------- Laws
-write('proofs/Laws.antt', text('laws.txt'))
+write('proofs/Laws.antt', files.text_of('laws.txt'))

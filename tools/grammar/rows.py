@@ -1,38 +1,36 @@
-# The table as static rows of crates/utd_parser. Run in the repository's root with that crate's folder.
+# The table as static rows of crates/utd_parser.
 from forms import *
-OUT = sys.argv[1]
-def write(path, text):
-    whole = f'{OUT}/{path}'
-    os.makedirs(os.path.dirname(whole), exist_ok=True)
-    open(whole, 'w').write(text)
-PRIMARY_PART = list(T)[:list(T).index('TheProd')]
-OPERATOR_PART = list(T)[list(T).index('TheProd'):list(T).index('TheNeg')]
-SCALAR_PART = list(T)[list(T).index('TheNeg'):list(T).index('ThePoint')]
-STATEMENT_PART = list(T)[list(T).index('TheKey'):]
-RELATION_PART = [s for s in T if s not in PRIMARY_PART + OPERATOR_PART + SCALAR_PART + STATEMENT_PART]
+import files
+from files import call, array
+write = files.writer('utd_parser')
+PRIMARY_PART = list(TABLE)[:list(TABLE).index('TheProd')]
+OPERATOR_PART = list(TABLE)[list(TABLE).index('TheProd'):list(TABLE).index('TheNeg')]
+SCALAR_PART = list(TABLE)[list(TABLE).index('TheNeg'):list(TABLE).index('ThePoint')]
+STATEMENT_PART = list(TABLE)[list(TABLE).index('TheKey'):]
+RELATION_PART = [s for s in TABLE if s not in PRIMARY_PART + OPERATOR_PART + SCALAR_PART + STATEMENT_PART]
 TAKING = {'P': 'Plain', 'O': 'Operator', 'S': 'Separator', 'N': 'Negated', 'D': 'Dated'}
 def form(s):
     if isinstance(s, str): return f'Form::{s}'
     return f'Form::Just(Terminal::{s[1]})' if s[0] == 'Just' else f'Form::Worded(PlaceWord::{s[1].capitalize()})'
-def forms(l): return '&[' + ', '.join(form(s) for s in l) + ']'
+def forms(l): return array([form(s) for s in l])
 def taking(h, inner):
     if h in TAKING: return f'Taking::{TAKING[h]}'
-    return f'Taking::{"Opens" if h == "L" else "OperatorOpens"}({forms(inner)})'
-def rows_text(s):
+    return call('Taking::' + ('Opens' if h == 'L' else 'OperatorOpens'), [forms(inner)])
+def values(s):   # the rows of a form
     out, rows = [], list(EXP[s])
     while rows:
         kind, x, n, h, inner, more = rows.pop(0)
-        if kind == 'on': out.append(f'Row::On(Terminal::{x}, {taking(h, inner)}, {forms(more)})')
+        if kind == 'on': out.append(call('Row::On', [f'Terminal::{x}', taking(h, inner), forms(more)]))
         else:
             _, _, _, h2, inner2, more2 = rows.pop(0)
-            out.append(f'Row::Before(Terminal::{x}, Terminal::{n}, {taking(h, inner)}, {forms(more)}, {taking(h2, inner2)}, {forms(more2)})')
+            out.append(call('Row::Before', [f'Terminal::{x}', f'Terminal::{n}', taking(h, inner), forms(more), taking(h2, inner2), forms(more2)]))
     return out
 def table(name, part, what):
     o = [f'// The rows of {what}.', 'use crate::form::{Form, PlaceWord, Row, Taking};', 'use utd_syntax::Terminal;', '']
-    if 'PlaceWord::' not in ''.join(''.join(rows_text(s)) for s in part): o[1] = 'use crate::form::{Form, Row, Taking};'
+    if not any('PlaceWord::' in files.on_one_line(x) for s in part for x in values(s)): o[1] = 'use crate::form::{Form, Row, Taking};'
     for s in part:
-        r = rows_text(s)
-        o += [f'pub static {snake(s).upper()}: [Row; {len(r)}] = ['] + [f'    {x},' for x in r] + ['];', '']
+        r = values(s)
+        o += files.table_lines(f'pub static {snake(s).upper()}: [Row; {len(r)}] =', r) + ['']
     write(f'src/{name}.rt', '\n'.join(o))
 table('primary_rows', PRIMARY_PART, 'primaries and their parts')
 table('operator_rows', OPERATOR_PART, 'products, sums and comparisons')
@@ -52,7 +50,7 @@ o += ['''}
 /// A form that may stand at a place, or the rest of one that has begun; a fixed token; a word that is reserved there.
 #[derive(Clone, Copy)]
 pub enum Form {''']
-o += [f'    {s},' for s in T]
+o += [f'    {s},' for s in TABLE]
 o += ['''    Just(Terminal),
     Worded(PlaceWord),
 }
@@ -75,14 +73,7 @@ pub enum Taking {
 #[derive(Clone, Copy)]
 pub enum Row {
     On(Terminal, Taking, &'static [Form]),
-    Before(
-        Terminal,
-        Terminal,
-        Taking,
-        &'static [Form],
-        Taking,
-        &'static [Form],
-    ),
+    Before(Terminal, Terminal, Taking, &'static [Form], Taking, &'static [Form]),
 }
 
 /// What a token does where a form may stand: it cannot stand there; the form ends before it; or it is taken, and these
@@ -107,7 +98,7 @@ pub fn rows_at(form: Form) -> &'static [Row]
     ensures { rows_of result.now ≡ listed_rows form }
 {
     match form {''']
-for s in T: o.append(f'        Form::{s} => &{MODULE[s]}::{snake(s).upper()},')
+for s in TABLE: o.append(f'        Form::{s} => &{MODULE[s]}::{snake(s).upper()},')
 o += ['''        Form::Just(_) => &[],
         Form::Worded(_) => &[],
     }
@@ -118,19 +109,19 @@ pub fn may_end(form: Form) -> bool
     ensures { result ≡ table.may_end (form_of form) }
 {
     match form {''']
-o.append('        ' + '\n        | '.join(f'Form::{s}' for s in T if may_end(s)) + ' => true,')
+o.append('        ' + '\n        | '.join(f'Form::{s}' for s in TABLE if may_end(s)) + ' => true,')
 o += ['        _ => false,', '    }', '}']
 write('src/listed.rt', '\n'.join(o).replace('table as table', 'Table as table').replace('{form_of, rows_of}', '{form_of, listed_rows, rows_of}') + '\n')
 P = 'Rattle.utd_parser.specs.declared.form'
 o = ['''-- The forms of the parser as those of the table.
 use Rattle.std.specs.Prelude.{ℕ, List, [], ◌∷◌}
 use Rattle.utd_syntax.specs.Table as table
-use Rattle.utd_syntax.specs.Written.{''' + ', '.join(cword(w) for w in CONTEXT) + '}',
+use Rattle.utd_syntax.specs.Written.{''' + ', '.join(word_name(w) for w in CONTEXT) + '}',
 f'use {P}.PlaceWord.{{PlaceWord}}', f'use {P}.PlaceWord.TheVariants as words', f'use {P}.Form.{{Form}}', f'use {P}.Form.TheVariants as forms',
 f'use {P}.Taking.{{Taking}}', f'use {P}.Taking.TheVariants as takings', f'use {P}.Row.{{Row}}', f'use {P}.Row.TheVariants as lines', f'use {P}.Turn.{{Turn}}', f'use {P}.Turn.TheVariants as turns', '',
 '-- how a word that is reserved at its place is spelled', 'abbrev pub spelled_as : PlaceWord → List ℕ']
-o += [f'spelled_as words.{w.capitalize()} = {cword(w)}' for w in CONTEXT]
-o += ['', 'abbrev pub form_of : Form → table.Symbol'] + [f'form_of forms.{s} = table.{s}' for s in T]
+o += [f'spelled_as words.{w.capitalize()} = {word_name(w)}' for w in CONTEXT]
+o += ['', 'abbrev pub form_of : Form → table.Symbol'] + [f'form_of forms.{s} = table.{s}' for s in TABLE]
 o += ['form_of (forms.Just x) = table.Just x', 'form_of (forms.Worded w) = table.Worded (spelled_as w)', '']
 o += ['''abbrev pub forms_of : List Form → List table.Symbol
 forms_of [] = []

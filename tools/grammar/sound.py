@@ -5,7 +5,7 @@ def rtuple(m, first=False):
 def markof(m, t):
     return {'fixed':f'fixed t.{t}','at':f'at t.{t} p','spelled':f'spelled t.{t} p b','apart':'apart t.Dash p t.Digits'}[m]
 def sound_case(s, t, forms, make, mk, seq, extra=''):
-    d = T[s]; m = len(forms); isafter = d['kind'] == 'after'
+    d = TABLE[s]; m = len(forms); isafter = d['kind'] == 'after'
     def h(i): return 'h' if m == 1 else ('h' + '.2' * i + '.1' if i < m - 1 else 'h' + '.2' * (m - 1))
     R = '(refl, refl, e)' if mk == 'apart' else rtuple(mk)
     piece = f'(piece_at t.{t} p b)'
@@ -33,7 +33,7 @@ def srow(s, r):
     return '(' + sound_case(s, r[1], (a[1] or []) + a[2], a[3], a[4], a[5], ' e') + ', ' + sound_case(s, r[1], (b[1] or []) + b[2], b[3], b[4], b[5], ' e') + ')'
 def sname(s): return snake(s[3:] if s.startswith('The') else s) + '-sound'
 def writes(s):
-    d = T[s]
+    d = TABLE[s]
     if d['kind'] == 'form': return f'Writes {s} v ts rest = Spells ({d["marks"]}) ts rest'
     ps = ' '.join(f'({p} : {t})' for p, t in d['params'])
     return f'Writes {s} v ts rest = {ps} (from : List Piece) → Spells ({d["prefix"]}) from ts → Spells ({d["result"]} (v {" ".join(p for p, _ in d["params"])})) from rest'
@@ -57,7 +57,7 @@ loose_word p b (y ∷ ts) rest h = ((h.0.0, h.0.2), h.1)
 
 -- what a form's value writes; the rest of a form makes the whole from the part before it
 abbrev pub Writes : (s : Symbol) → Val s → List Piece → List Piece → Type 0''']
-o += [writes(s) for s in T] + ['Writes (Just x) v ts rest = Spells (token x) ts rest', 'Writes (Worded w) v ts rest = Spells (lexeme t.Name v w) ts rest', 'Writes (Shut outer) v ts rest = ts ≡ rest', '']
+o += [writes(s) for s in TABLE] + ['Writes (Just x) v ts rest = Spells (token x) ts rest', 'Writes (Worded w) v ts rest = Spells (lexeme t.Name v w) ts rest', 'Writes (Shut outer) v ts rest = ts ≡ rest', '']
 o += ['''abbrev pub WritesAll : (stack : List Symbol) → Vals stack → List Piece → List Piece → Type 0
 WritesAll [] vs ts rest = ts ≡ rest
 WritesAll (s ∷ stack) vs ts rest = (mid : List Piece) × Writes s vs.0 ts mid × WritesAll stack vs.1 mid rest
@@ -140,7 +140,7 @@ def glue(s, r):
     a = r[1]
     if r[0] == 'over': return '(λ u from rest h. h)'
     c = r[2]; e = r[-1]
-    if isinstance(c, str) and T[c]['kind'] == 'after':
+    if isinstance(c, str) and TABLE[c]['kind'] == 'after':
         m = re.match(r'^\$1 (.*)$', e); arg = m[1].replace('$0', 'u')
         return f'(λ u w from mid rest h g. g {arg} from h)'
     return '(λ u w from mid rest h g. join _ _ _ _ _ h g)'
@@ -150,7 +150,7 @@ def sparts(s):
         e = 'tt'
         for x in reversed(c): e = f'({x}, {e})'
         return e
-    for r in T[s]['rows']:
+    for r in TABLE[s]['rows']:
         if r[0] in ('on', 'before'): cur.append(srow(s, r))
         else:
             if cur: parts.append(tup(cur)); cur = []
@@ -158,13 +158,13 @@ def sparts(s):
             else: parts.append(f'then-sounds {r[1]} {s} {paren(sym(r[2]))} {link_fun(r)} {glue(s, r)} {rname(r[1])} {mname(r[1])} {sname(r[1])}')
     if cur: parts.append(tup(cur))
     return parts
-for s in T:
+for s in TABLE:
     ps = sparts(s); rs = group_rows(s); ms = [p[1] for p in makes_parts(s)]
     o.append(f'{sname(s)} : SoundRows {s} {rname(s)} {mname(s)}')
     if len(ps) == 1:
-        rows_ = T[s]['rows']
+        rows_ = TABLE[s]['rows']
         if rows_[0][0] in ('on', 'before') and len(rows_) > 1:
-            o.append(f'{sname(s)} ='); o += [f'    ({srow(s, r)},' for r in rows_] + ['    tt' + ')' * len(rows_)]
+            o.append(f'{sname(s)} = ' + files.pairs_of([srow(s, r) for r in rows_]))
         else: o.append(f'{sname(s)} = {ps[0]}')
     else:
         e = paren(ps[-1]); tail = rs[-1]; mt = paren(ms[-1])
@@ -175,14 +175,14 @@ for s in T:
         o.append(f'{sname(s)} = {e}')
     o.append('')
 def end_sound(s):
-    d = T[s]
+    d = TABLE[s]
     if d['kind'] == 'after': return 'λ rest ' + ' '.join(p for p, _ in d['params']) + ' from g. g'
     return 'λ rest. nil refl'
-o += ['sounds : (s : Symbol) → SoundRows s (rows s) (makes s)'] + [f'sounds {s} = {sname(s)}' for s in T]
+o += ['sounds : (s : Symbol) → SoundRows s (rows s) (makes s)'] + [f'sounds {s} = {sname(s)}' for s in TABLE]
 o += ['sounds (Just x) = ((λ p b ts vs rest h. cons (fixed x) [] (piece_at x p b) ts _ refl (nil h)), tt)',
       'sounds (Worded w) = ((λ p ts vs rest h. cons (spelled t.Name p w) [] (piece_at t.Name p w) ts _ (refl, refl, refl) (nil h)), tt)', 'sounds (Shut outer) = tt', '']
 o += ['-- a form that ends before its first token writes nothing', 'abbrev EndSound : (s : Symbol) (e : Bool) → Ended s e → Type 0', 'EndSound s true v = (rest : List Piece) → Writes s v rest rest', 'EndSound s false v = Unit {0}', '',
- 'end-sounds : (s : Symbol) → EndSound s (may_end s) (end_value s)'] + [f'end-sounds {s} = {end_sound(s)}' for s in T if may_end(s)] + ['end-sounds (Shut outer) = λ rest. refl', 'end-sounds _ = tt', '']
+ 'end-sounds : (s : Symbol) → EndSound s (may_end s) (end_value s)'] + [f'end-sounds {s} = {end_sound(s)}' for s in TABLE if may_end(s)] + ['end-sounds (Shut outer) = λ rest. refl', 'end-sounds _ = tt', '']
 o += ['''at_number : (x : Terminal) (P : Terminal → Terminal → Type 0) → ((y : Terminal) → P y y) → (y : Terminal) → number x ≡ number y → P x y
 at_number x P h y e = subst (λ z. P z y) (sym (numbered x) ∙ ap of_number e ∙ numbered y) (h y)
   where
@@ -260,8 +260,8 @@ made-sound s (spelt c more) m h x p b ts e =
     subst (λ z. SoundCase s Plain more m (piece_at z p b) ts) a (subst (λ z. SoundCase s Plain more m (piece_at t.Name p z) ts) d (h p ts))
 made-sound s (before y z how more how' more') m h x p b ts e =
     by_case-sound s how more how' more' (same z (first ts)) m.0 m.1 (piece_at x p b) ts
-      (λ c. subst (λ w. SoundCase s how more m.0 (piece_at w p b) ts) (number-same y x e) (h.0 p b ts (sym (number-same z (first ts) c))))
-      (λ c. subst (λ w. SoundCase s how' more' m.1 (piece_at w p b) ts) (number-same y x e) (h.1 p b ts (λ q. true-false (same z (first ts)) (ap (same z) q ∙ same-self z) c)))
+    (λ c. subst (λ w. SoundCase s how more m.0 (piece_at w p b) ts) (number-same y x e) (h.0 p b ts (sym (number-same z (first ts) c))))
+    (λ c. subst (λ w. SoundCase s how' more' m.1 (piece_at w p b) ts) (number-same y x e) (h.1 p b ts (λ q. true-false (same z (first ts)) (ap (same z) q ∙ same-self z) c)))
 
 pick-sound : (s : Symbol) (c : Bool) (r r' : Turn) (v : Built s r) (w : Built s r') (x : Piece) (ts : List Piece) → (c ≡ true → SoundTurn s r v x ts) → SoundTurn s r' w x ts → SoundTurn s (cond c r r') (pick s c r r' v w) x ts
 pick-sound s true r r' v w x ts h k = h refl
@@ -375,7 +375,7 @@ def tuple_of(items):
     e = 'tt'
     for x in reversed(items): e = f'({x}, {e})'
     return e
-o += ['bare-rows : (s : Symbol) → BareRows (rows s)'] + [f'bare-rows {s} = ' + tuple_of(['refl' if r[0] == 'on' else '(refl, refl)' for r in exp_rows(s)]) for s in T] + ['bare-rows (Just x) = (refl, tt)', 'bare-rows (Worded w) = (refl, tt)', 'bare-rows (Shut outer) = tt', '']
+o += ['bare-rows : (s : Symbol) → BareRows (rows s)'] + [f'bare-rows {s} = ' + tuple_of(['refl' if r[0] == 'on' else '(refl, refl)' for r in exp_rows(s)]) for s in TABLE] + ['bare-rows (Just x) = (refl, tt)', 'bare-rows (Worded w) = (refl, tt)', 'bare-rows (Shut outer) = tt', '']
 o += ['''bare-case : (c : Bool) (how how' : Taking) (more more' : List Symbol) → IsBare (inner how ++ more) → IsBare (inner how' ++ more') → bare (row (cond c (Takes how more) (Takes how' more'))) ≡ row (cond c (Takes how more) (Takes how' more'))
 bare-case true how how' more more' h g = h
 bare-case false how how' more more' h g = g

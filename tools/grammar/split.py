@@ -1,11 +1,11 @@
-"""Splits the lemma files that trees.py writes long, at items that stand at the margin, and mends the imports of all files.
-
-    python3 split.py PROOFS_FOLDER CRATE
-
-Each long file becomes several; what a later part uses of an earlier one is made public and imported."""
-import os
+"""Splits the long lemma files of crates/utd_syntax, as trees.py writes them, at items that stand at the margin, and mends the
+imports of all of its files."""
 import re
-import sys
+
+import files
+
+CRATE = 'utd_syntax'
+PROOFS = f'Rattle.{CRATE}.proofs'
 
 # file -> its parts in order: (name, the item that the part begins with, what the part says)
 PLAN = {
@@ -74,57 +74,58 @@ def tokens_of(lines):
     return set(re.split(r'[\s(){},\[\]λ.]+', '\n'.join(lines)))
 
 
-def main(folder, crate):
-    home = {}          # name of a part's item -> the part
+def split_file(file, parts, home):
+    """The file's parts, as name -> text; tells `home` in which part each item stands."""
+    lines = files.WRITTEN.pop((CRATE, f'proofs/{file}.antt')).split('\n')
+    end = next(i for i, line in enumerate(lines) if i and line.strip() == '')
+    imports, body = [x for x in lines[:end] if x.startswith('use ')], lines[end + 1:]
+    starts = [start_of(body, item) for _, item, _ in parts]
+    pieces = [body[a:b] for a, b in zip(starts, starts[1:] + [len(body)])]
+    texts, earlier = {}, []
+    for (name, _, about), piece in zip(parts, pieces):
+        while piece and piece[-1].strip() == '':
+            piece.pop()
+        names = defined_in(piece)
+        texts[name] = [f'-- {about}'] + imports + imports_from(earlier, piece) + [''] + published(piece)
+        earlier.append((name, names))
+        for item in names:
+            home[(file, item)] = name
+    return {name: '\n'.join(text) + '\n' for name, text in texts.items()}
+
+
+def imports_from(parts, piece):
+    """The imports of what the piece uses of these parts."""
+    used, lines = tokens_of(piece), []
+    for name, items in parts:
+        taken = [item for item in items if item in used]
+        if taken:
+            lines.append(f'use {PROOFS}.{name}.{{{", ".join(taken)}}}')
+    return lines
+
+
+def mended(text, home):
+    """The text with its imports from the parts in which the items stand."""
+    out = []
+    for line in text.split('\n'):
+        found = re.match(rf'^use {re.escape(PROOFS)}\.(\w+)\.\{{(.*)\}}$', line)
+        names = found.group(2).split(', ') if found else []
+        if any((found.group(1), name) in home for name in names):
+            by_part = {}
+            for name in names:
+                by_part.setdefault(home.get((found.group(1), name), found.group(1)), []).append(name)
+            out += [f'use {PROOFS}.{part}.{{{", ".join(items)}}}' for part, items in by_part.items()]
+        else:
+            out.append(line)
+    return '\n'.join(out)
+
+
+def split():
+    home, texts = {}, {}
     for file, parts in PLAN.items():
-        lines = open(f'{folder}/{file}.antt').read().split('\n')
-        end = next(i for i, line in enumerate(lines) if i and line.strip() == '')
-        imports, body = [x for x in lines[:end] if x.startswith('use ')], lines[end + 1:]
-        starts = [start_of(body, item) for _, item, _ in parts]
-        pieces = [body[a:b] for a, b in zip(starts, starts[1:] + [len(body)])]
-        earlier = []
-        for (name, _, about), piece in zip(parts, pieces):
-            used, extra = tokens_of(piece), []
-            for part, names in earlier:
-                taken = [n for n in names if n in used]
-                if taken:
-                    extra.append(f'use Rattle.{crate}.proofs.{part}.{{{", ".join(taken)}}}')
-            while piece and piece[-1].strip() == '':
-                piece.pop()
-            names = defined_in(piece)
-            earlier.append((name, names))
-            for n in names:
-                home[(file, n)] = name
-            text = [f'-- {about}'] + imports + extra + [''] + published(piece)
-            open(f'{folder}/{name}.antt.new', 'w').write('\n'.join(text) + '\n')
-    for root, _, files in os.walk(folder):
-        for f in files:
-            path = f'{root}/{f}'
-            if f.endswith('.antt.new') or (f.endswith('.antt') and f[:-5] not in PLAN and f != 'Lib.antt'):
-                out = []
-                for line in open(path).read().split('\n'):
-                    found = re.match(rf'^use Rattle\.{crate}\.proofs\.(\w+)\.\{{(.*)\}}$', line)
-                    if found and found.group(1) in PLAN and any((found.group(1), n.strip()) in home for n in found.group(2).split(',')):
-                        by = {}
-                        for n in found.group(2).split(', '):
-                            by.setdefault(home.get((found.group(1), n), found.group(1)), []).append(n)
-                        out += [f'use Rattle.{crate}.proofs.{p}.{{{", ".join(ns)}}}' for p, ns in by.items()]
-                    else:
-                        out.append(line)
-                open(path, 'w').write('\n'.join(out))
-    order = []
-    for line in open(f'{folder}/Lib.antt').read().split('\n'):
-        found = re.match(r'^pub mod (\w+)$', line)
-        if found and found.group(1) in PLAN:
-            order += [f'pub mod {part[0]}' for part in PLAN[found.group(1)]]
-        elif line:
-            order.append(line)
-    order = list(dict.fromkeys(order))
-    open(f'{folder}/Lib.antt', 'w').write('\n'.join(order) + '\n')
-    for root, _, files in os.walk(folder):
-        for f in files:
-            if f.endswith('.antt.new'):
-                os.replace(f'{root}/{f}', f'{root}/{f[:-4]}')
-
-
-main(sys.argv[1], sys.argv[2])
+        texts.update(split_file(file, parts, home))
+    write = files.writer(CRATE)
+    for name, text in texts.items():
+        write(f'proofs/{name}.antt', mended(text, home))
+    for (crate, path), text in list(files.WRITTEN.items()):
+        if crate == CRATE and path.endswith('.antt'):
+            write(path, mended(text, home))

@@ -23,10 +23,10 @@ LISTTYPE = {'Word':('word','Words','name'),'AttributeP':('parts','Attributes','a
 INCYCLE = {}   # (form, argument type) boxed inside the cycle
 def al(form): return 'rust_' + form
 o = ['-- The plain tree of a tree: without where its parts lie in memory.', 'use Rattle.std.specs.Prelude.{ℕ, List, [], ◌∷◌}', PLACE]
-for c in CHOICES: o.append(f'use {CR}.specs.declared.words.{CT[c]}.{{{CT[c]}}}')
+for c in CHOICES: o.append(f'use {CR}.specs.declared.words.{CHOICE_TYPES[c]}.{{{CHOICE_TYPES[c]}}}')
 for f, (m, ty) in R.items():
     o.append(f'use {CR}.specs.declared.{m}.{ty}.{{{ty} as {ty}Tree}}')
-    if f in FORMS and f not in ('name',) and not (len(FORMS[f]['alts']) == 1 and FORMS[f]['alts'][0][0] in FIELDS): o.append(f'use {CR}.specs.declared.{m}.{ty}.TheVariants as {al(f)}')
+    if f in FORMS and f not in ('name',) and not (len(FORMS[f]['alternatives']) == 1 and FORMS[f]['alternatives'][0][0] in FIELDS): o.append(f'use {CR}.specs.declared.{m}.{ty}.TheVariants as {al(f)}')
 for k, (m, ty, it) in LISTTYPE.items(): o.append(f'use {CR}.specs.declared.{m}.{ty}.{{{ty} as {ty}Tree}}')
 o.append(f'use {CR}.specs.declared.statement.History.{{History as HistoryTree}}')
 o += [f'use {CR}.specs.Plain.{{Word, ' + ', '.join(dict.fromkeys(TYPES)) + '}', f'use {CR}.specs.Plain as plain', '',
@@ -34,7 +34,7 @@ o += [f'use {CR}.specs.Plain.{{Word, ' + ', '.join(dict.fromkeys(TYPES)) + '}', 
 TYFORM = {FORMS[f]['type']: f for f in FORMS if f in R}
 def conv(ty, e, boxed):
     """the plain value of an argument of that plain type"""
-    if ty == 'Place' or ty in CT.values(): return e
+    if ty == 'Place' or ty in CHOICE_TYPES.values(): return e
     if ty == 'List ℕ': return f'{e}.list.items'
     if ty.startswith('List '): return f'(read_{LISTTYPE[ty[5:]][2]}_list {e}.list.items)'
     f = TYFORM[ty]
@@ -48,9 +48,9 @@ def in_box(form, ty, i, con):   # a box of the type's own cycle
 def read_form(n, ind='', ab='abbrev '):
     f = FORMS[n]; m, ty = R[n]
     r = [f'{ind}{ab}pub read_{n} : {ty}Tree → {f["type"]}']
-    for con, parts in f['alts']:
+    for con, parts in f['alternatives']:
         a = args_of(parts)
-        if con in FIELDS and len(f['alts']) == 1:
+        if con in FIELDS and len(f['alternatives']) == 1:
             args = [conv(t, f'x.{fld}', boxed_out(n, t)) for (v, t), fld in zip(a, FIELDS[con])]
             r.append(f'{ind}read_{n} x = plain.{con} ' + ' '.join(args)); continue
         if con == 'DeclareHistory':
