@@ -1,3 +1,2 @@
-pub mod Costs
 pub mod Operands
 pub mod Scopes

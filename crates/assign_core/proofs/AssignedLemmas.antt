@@ -15,7 +15,7 @@ use Rattle.value_core.specs.Values.{Relation}
 use Rattle.tree_core.specs.declared.declaration.Assignment.{Assignment}
 use Rattle.tree_core.specs.Items.{PlainAssignment, read_assignment}
 use Rattle.tree_core.specs.Relvars.{State, PlainRelvar, base, view, Entries}
-use Rattle.algebra_core.specs.Plainness.{IsPlainConstraint}
+use Rattle.meaning_core.specs.Plainness.{IsPlainConstraint}
 use Rattle.assign_core.specs.Assignments.{evaluated, unless_broken, kept_or_refused, of_values, after_assignments, IsRefusedFor}
 use Rattle.assign_core.specs.Breaches.{rows_of_all, most_rows_of_all, first_broken, IsBuiltRelvar, AreBuilt}
 use Rattle.assign_core.specs.Changes.{Changes, AreChanges, changed, changed_relvar, Gives}

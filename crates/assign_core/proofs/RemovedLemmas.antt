@@ -13,7 +13,7 @@ use Rattle.meaning_core.proofs.MadeLemmas.{same_name}
 use Rattle.u_constraints.specs.Constraints.{names_relvar, rows_or_none}
 use Rattle.assign_core.specs.Breaches.{value_if, value_at, count_of, rows_of_all, first_in, first_among, IsBuiltRelvar, AreBuilt}
 use Rattle.assign_core.specs.Checks.{heading_at, NamesBase}
-use Rattle.algebra_core.specs.Plainness.{are_plain}
+use Rattle.meaning_core.specs.Plainness.{are_plain}
 use Rattle.assign_core.specs.Databases.{IsKept}
 use Rattle.assign_core.proofs.DeclaredLemmas.{NameTheSame, same_of, neither, none_of_two, in_turn}
 use Rattle.assign_core.proofs.NameLemmas.{turned}

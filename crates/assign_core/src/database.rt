@@ -4,9 +4,10 @@ ghost use Rattle.std.specs.List.{All};
 ghost use Rattle.tree_core.specs.Items.{read_assignment};
 ghost use Rattle.tree_core.specs.Relvars.{read_relvars};
 ghost use Rattle.meaning_core.specs.Declarations.{read_declaration, without};
+ghost use Rattle.meaning_core.specs.Plainness.{are_plain};
 ghost use Rattle.meaning_core.specs.WellMade.{IsWellMade};
 ghost use Rattle.meaning_core.specs.Updates.{IsTypedAssignment};
-ghost use Rattle.assign_core.specs.Assignments.{IsAssigned};
+ghost use Rattle.assign_core.specs.Assignments.{IsAssigned, IsPlainAssignment};
 ghost use Rattle.assign_core.specs.Databases.{no_relvars, declared, CanBecome, IsKept};
 
 use crate::appending::append_all;
@@ -95,6 +96,7 @@ impl Database {
         steps: &mut Steps<L>,
     ) -> Result<(), Refuse>
         requires typed { All (IsTypedAssignment (read_relvars self.old)) (map read_assignment list.now) }
+        requires plain { All (IsPlainAssignment (read_relvars self.old)) (map read_assignment list.now) }
         ensures assigned { IsAssigned result (read_relvars self.old) (read_relvars self.new) (map read_assignment list.now) }
         ensures steps { steps.new ≡ steps.old }
     {
@@ -106,6 +108,7 @@ impl Database {
     /// Removes the relvar or view of this name. The others keep their order.
     pub fn remove(&mut self, name: &Name) -> Result<(), Memory>
         requires well_made { IsWellMade (without name.now (read_relvars self.old)) }
+        requires plain { IsTrue (are_plain (without name.now (read_relvars self.old)).relvars) }
         ensures state { read_relvars self.new ≡ without name.now (read_relvars self.old) }
         ensures ok { IsOk result }
     {

@@ -4,7 +4,7 @@ ghost use Rattle.std.specs.List.{All};
 ghost use Rattle.tree_core.specs.Items.{read_assignment};
 ghost use Rattle.tree_core.specs.Relvars.{read_relvars};
 ghost use Rattle.meaning_core.specs.Updates.{IsTypedAssignment};
-ghost use Rattle.assign_core.specs.Assignments.{after_assignments, IsRefusedFor, IsAdmitted};
+ghost use Rattle.assign_core.specs.Assignments.{after_assignments, IsPlainAssignment, IsRefusedFor, IsAdmitted};
 ghost use Rattle.assign_core.specs.Breaches.{first_broken};
 ghost use Rattle.assign_core.specs.Changes.{AreChanges, changed};
 ghost use Rattle.assign_core.specs.Checks.{AllChecked};
@@ -29,6 +29,7 @@ pub(crate) fn prepare<L: Ledger>(
 ) -> Result<Vec<Option<Relation>>, Refuse>
     requires kept { IsKept (read_relvars relvars.now) }
     requires typed { All (λ a. IsTypedAssignment (read_relvars relvars.now) (read_assignment a)) list.now }
+    requires plain { All (λ a. IsPlainAssignment (read_relvars relvars.now) (read_assignment a)) list.now }
     ensures changes { IfOk result (λ v. AreChanges v.items (read_relvars relvars.now).relvars) }
     ensures ready { IfOk result (λ v. after_assignments (read_relvars relvars.now).relvars (map read_assignment list.now) ≡ Ok (changed v.items (read_relvars relvars.now).relvars)) }
     ensures refused { IfErr result (λ refuse. IsRefusedFor refuse (after_assignments (read_relvars relvars.now).relvars (map read_assignment list.now))) }

@@ -7,7 +7,7 @@ ghost use Rattle.tree_core.specs.Relvars.{read_relvars, PlainRelvar};
 ghost use Rattle.meaning_core.specs.Names.{IsFirstAt};
 ghost use Rattle.meaning_core.specs.Updates.{IsTypedAssignment};
 ghost use Rattle.meaning_core.specs.WellMade.{IsWellMade};
-ghost use Rattle.assign_core.specs.Assignments.{source_value, evaluated};
+ghost use Rattle.assign_core.specs.Assignments.{source_value, evaluated, IsPlainAssignment};
 ghost use Rattle.assign_core.specs.Changes.{AreChanges, changed, Gives};
 
 use crate::changes::current;
@@ -28,6 +28,7 @@ pub(crate) fn evaluate<L: Ledger>(
 ) -> Result<(), Stop>
     requires well_made { IsWellMade (read_relvars relvars.now) }
     requires typed { All (λ a. IsTypedAssignment (read_relvars relvars.now) (read_assignment a)) list.now }
+    requires plain { All (λ a. IsPlainAssignment (read_relvars relvars.now) (read_assignment a)) list.now }
     requires changes { AreChanges changes.old.items (read_relvars relvars.now).relvars }
     ensures changes { AreChanges changes.new.items (read_relvars relvars.now).relvars }
     ensures value { Gives result (evaluated (read_relvars relvars.now).relvars (changed changes.old.items (read_relvars relvars.now).relvars) (map read_assignment list.now))
@@ -50,6 +51,7 @@ fn evaluate_one<L: Ledger>(
 ) -> Result<(), Stop>
     requires well_made { IsWellMade (read_relvars relvars.now) }
     requires typed { IsTypedAssignment (read_relvars relvars.now) (read_assignment assignment.now) }
+    requires plain { IsPlainAssignment (read_relvars relvars.now) (read_assignment assignment.now) }
     requires changes { AreChanges changes.old.items (read_relvars relvars.now).relvars }
     ensures changes { AreChanges changes.new.items (read_relvars relvars.now).relvars }
     ensures value { Gives result (evaluated (read_relvars relvars.now).relvars (changed changes.old.items (read_relvars relvars.now).relvars) (read_assignment assignment.now ∷ []))
@@ -72,6 +74,7 @@ fn source<L: Ledger>(
 ) -> Result<Relation, Stop>
     requires well_made { IsWellMade (read_relvars relvars.now) }
     requires typed { IsTypedAssignment (read_relvars relvars.now) (read_assignment assignment.now) }
+    requires plain { IsPlainAssignment (read_relvars relvars.now) (read_assignment assignment.now) }
     requires changes { AreChanges changes.now (read_relvars relvars.now).relvars }
     ensures value { Answers result (source_value (read_relvars relvars.now).relvars (changed changes.now (read_relvars relvars.now).relvars) (read_assignment assignment.now)) }
     ensures steps { steps.new ≡ steps.old }

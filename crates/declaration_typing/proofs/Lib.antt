@@ -9,3 +9,4 @@ mod MoreTypes
 pub mod OrdinalLaws
 pub mod ViewLaws
 pub mod DropLaws
+pub mod PlainLaws

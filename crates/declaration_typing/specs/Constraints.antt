@@ -147,3 +147,16 @@ refused_at (Some c) = refused (place_of c) E22
 
 abbrev pub few_constraints : List ConstraintP → OrFault (Unit {0})
 few_constraints constraints = refused_at (slice_get constraints 32)
+
+-- ---- what is built
+
+-- KEY, and FOREIGN KEY without USING
+abbrev pub is_built : ConstraintP → Bool
+is_built (syntax.KeyOf key) = true
+is_built (syntax.ForeignOf key) = true
+is_built (syntax.PackedOn at list) = false
+is_built (syntax.WhenUnpacked at list key) = false
+is_built (syntax.UsingConstraint at list c) = false
+
+abbrev pub are_built : List ConstraintP → Bool
+are_built constraints = list_all is_built constraints

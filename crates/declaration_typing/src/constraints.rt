@@ -21,6 +21,31 @@ fn key_typed(alloc: Global, heading: &Heading, key: &Key) -> Result<Constraint, 
     Ok(Constraint::Key(positions))
 }
 
+/// Whether the constraint is KEY, or FOREIGN KEY without USING.
+fn is_built(constraint: &syntax::Constraint) -> bool
+    ensures { result ≡ rules.is_built (read_constraint constraint.now) }
+{
+    match constraint {
+        syntax::Constraint::Key(_) => true,
+        syntax::Constraint::Foreign(_) => true,
+        syntax::Constraint::PackedOn(_, _) => false,
+        syntax::Constraint::WhenUnpacked(_, _, _) => false,
+        syntax::Constraint::Using(_, _, _) => false,
+    }
+}
+
+/// Whether the constraints are those that are built: KEY, and FOREIGN KEY without USING.
+pub fn are_built(constraints: &syntax::Constraints) -> bool
+    ensures { result ≡ rules.are_built (read_constraint_list constraints.now.list.items) }
+{
+    for constraint in &constraints.list {
+        if !is_built(constraint) {
+            return false;
+        }
+    }
+    true
+}
+
 /// One constraint.
 fn constraint_typed(
     alloc: Global,
@@ -29,6 +54,7 @@ fn constraint_typed(
     heading: &Heading,
     constraint: &syntax::Constraint,
 ) -> Result<Constraint, Stop>
+    requires { IsTrue (rules.is_built (read_constraint constraint.now)) }
     ensures { Gives (λ c. c) result (rules.constraint_typed (read_relvars relvars.now) own.now heading.now (read_constraint constraint.now)) }
 {
     match constraint {
@@ -50,6 +76,7 @@ pub(crate) fn constraints_typed(
     heading: &Heading,
     constraints: &[syntax::Constraint],
 ) -> Result<Constraints, Stop>
+    requires { IsTrue (rules.are_built (read_constraint_list constraints.now)) }
     ensures { Gives (λ c. c) result (rules.constraints_typed (read_relvars relvars.now) own.now heading.now [] (read_constraint_list constraints.now)) }
 {
     let mut list = Vec::new(alloc);

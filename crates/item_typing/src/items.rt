@@ -66,7 +66,8 @@ fn type_deleted(
     deletion: &Deletion,
     relvars: &Relvars,
 ) -> Result<ItemForm, Stop>
-    requires { AreOrdinals (read_relvars relvars.now).ordinals }
+    requires plain { IsTrue (rules.is_plain_deletion (read_deletion deletion.now)) }
+    requires ordinals { AreOrdinals (read_relvars relvars.now).ordinals }
     ensures { Gives typed.read_item_form result (rules.deletion_typed (read_relvars relvars.now) (read_name word.now) heading.now (read_deletion deletion.now)) }
 {
     match deletion {
@@ -90,7 +91,8 @@ fn type_deletion(
     deletion: &Deletion,
     relvars: &Relvars,
 ) -> Result<Item, Stop>
-    requires { AreOrdinals (read_relvars relvars.now).ordinals }
+    requires plain { IsTrue (rules.is_plain_deletion (read_deletion deletion.now)) }
+    requires ordinals { AreOrdinals (read_relvars relvars.now).ordinals }
     ensures { Gives typed.read_item result (rules.deletion_item_typed (read_relvars relvars.now) place (read_name word.now) (read_deletion deletion.now)) }
 {
     let target = target_typed(alloc, word, relvars)?;
@@ -137,8 +139,11 @@ fn type_update(
 }
 
 /// The typed item where these are the relvars, views and ordinal types, or its first refusal with its place.
+///
+/// For now of items without USING and PORTION, and of those other than TERMINATE.
 pub fn type_item(alloc: Global, item: &syntax::Item, relvars: &Relvars) -> Result<Item, Stop>
-    requires { AreOrdinals (read_relvars relvars.now).ordinals }
+    requires plain { IsTrue (rules.is_plain_item (read_item item.now)) }
+    requires ordinals { AreOrdinals (read_relvars relvars.now).ordinals }
     ensures typing { Gives typed.read_item result (rules.item_typed (read_relvars relvars.now) (read_item item.now)) }
 {
     match item {
@@ -162,7 +167,8 @@ fn more_items(
     list: &[syntax::Item],
     relvars: &Relvars,
 ) -> Result<Vec<Item>, Stop>
-    requires { AreOrdinals (read_relvars relvars.now).ordinals }
+    requires plain { IsTrue (list_all rules.is_plain_item (read_item_list list.now)) }
+    requires ordinals { AreOrdinals (read_relvars relvars.now).ordinals }
     ensures { Gives (λ v. map typed.read_item v.items) result (rules.items_typed (read_relvars relvars.now) (map typed.read_item before.items) (read_item_list list.now)) }
 {
     let mut items = before;
@@ -174,8 +180,11 @@ fn more_items(
 }
 
 /// The typed items of an assignment, all for the same relvars, views and ordinal types, or the first refusal with its place.
+///
+/// For now of items without USING and PORTION, and of those other than TERMINATE.
 pub fn type_items(alloc: Global, assignment: &Assignment, relvars: &Relvars) -> Result<Items, Stop>
-    requires { AreOrdinals (read_relvars relvars.now).ordinals }
+    requires plain { IsTrue (rules.is_plain_assignment (read_assign assignment.now)) }
+    requires ordinals { AreOrdinals (read_relvars relvars.now).ordinals }
     ensures typing { Gives (map typed.read_item) result (rules.assignment_typed (read_relvars relvars.now) (read_assign assignment.now)) }
 {
     let first = type_item(alloc, &assignment.first, relvars)?;

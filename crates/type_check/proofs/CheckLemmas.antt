@@ -9,7 +9,7 @@ use Rattle.value_core.specs.declared.refuse.Refuse.{Refuse}
 use Rattle.value_core.specs.Values.{Name}
 use Rattle.tree_core.specs.Relvars.{State}
 use Rattle.meaning_core.specs.Declarations.{PlainDeclaration, with_declaration, without}
-use Rattle.algebra_core.specs.Plainness.{are_plain}
+use Rattle.meaning_core.specs.Plainness.{are_plain}
 use Rattle.meaning_core.specs.WellMade.{IsWellMade}
 use Rattle.tree_typing.specs.Trees.{tree_typed, test_typed}
 use Rattle.declaration_typing.specs.Drops.{dropped}

@@ -23,7 +23,7 @@ use Rattle.type_check.proofs.LiteralLemmas.{heading-declared}
 use Rattle.type_check.proofs.PlainLemmas.{tree-plain}
 use Rattle.type_check.proofs.TreeLemmas.{tree-sound}
 use Rattle.type_check.specs.Plainness.{is_plain_rel}
-use Rattle.algebra_core.specs.Plainness.{are_plain}
+use Rattle.meaning_core.specs.Plainness.{are_plain}
 
 -- a list over one heading
 list-made : (to : Heading) (list : NameListP) → IfOk (list_checked to to list) (λ (names : List Name). IsList to (positions_of to names))

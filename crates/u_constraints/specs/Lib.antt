@@ -1,3 +1,2 @@
 pub mod Constraints
-pub mod Costs
 pub mod Fronts

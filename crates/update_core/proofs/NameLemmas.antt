@@ -13,7 +13,7 @@ use Rattle.relation_core.specs.Agreement.{position_of}
 use Rattle.tree_core.specs.Relvars.{PlainRelvar, base, view, Entries, relvar_named, relvar_heading, heading_if}
 use Rattle.meaning_core.specs.Histories.{name_at}
 use Rattle.meaning_core.specs.Names.{found, each_in}
-use Rattle.algebra_core.specs.Plainness.{relvar_is_plain, plain_in}
+use Rattle.meaning_core.specs.Plainness.{relvar_is_plain, plain_in}
 use Rattle.meaning_core.specs.Names.{IsFirstAt}
 use Rattle.meaning_core.specs.Typing.{heading_named, is_declared}
 use Rattle.meaning_core.specs.WellMade.{headings_of, IsBase, AreRelvars}

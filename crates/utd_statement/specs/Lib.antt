@@ -7,4 +7,3 @@ pub mod Readings
 pub mod Parsed
 pub mod Answers
 pub mod Replies
-pub mod Built

@@ -5,7 +5,7 @@ use Rattle.tree_core.specs.declared.relvar.Relvars.{Relvars}
 use Rattle.tree_core.specs.Relvars.{Entries, read_relvars, read_entry}
 use Rattle.meaning_core.specs.Declarations.{without}
 use Rattle.meaning_core.specs.WellMade.{IsWellMade}
-use Rattle.algebra_core.specs.Plainness.{are_plain}
+use Rattle.meaning_core.specs.Plainness.{are_plain}
 use Rattle.assign_core.specs.Parts.{names_in}
 use Rattle.assign_core.proofs.NameLemmas.{distinct_later, names_of_keys, shift_filter}
 use Rattle.assign_core.proofs.RemovedLemmas.{removed_kept}
