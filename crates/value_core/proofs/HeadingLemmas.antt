@@ -13,7 +13,7 @@ use Rattle.std.specs.Cmp.Lexicographic.{nat_list_cmp_total, texts_ties, nat_list
 use Rattle.base_core.specs.Sets.{is_set, is_set_after}
 use Rattle.value_core.specs.Values.{Name, Heading, attribute_cmp, is_heading}
 use Rattle.value_core.specs.declared.kind.Kind.{Kind}
-use Rattle.value_core.specs.Headings.{has_name, repeat_after, first_repeat}
+use Rattle.value_core.specs.Headings.{has_name, repeat_after, first_repeat, most_attributes}
 
 -- ---- the first repeat, index by index
 
@@ -94,7 +94,7 @@ attribute_total = on_total (λ a. a.0) nat_list_cmp_total
 same_name-flips : (a b : Name × Kind) → same_name a b ≡ same_name b a
 same_name-flips a b = nat_list_eq_equiv.symm a.0 b.0
 
-few_enough : (n : ℕ) → n ≤ 16 → nat_le n 16 ≡ true
+few_enough : (n : ℕ) → n ≤ most_attributes → nat_le n most_attributes ≡ true
 few_enough n le = grind (arith, nat_tests)
 
 -- what a sort by name gives
@@ -103,5 +103,5 @@ set_of_names xs ys new moved up =
     let apart = IsDistinct-IsPermutation same_name same_name-flips xs ys moved (all_apart [] 0 xs new).1 in
     set_from_sorted attribute_cmp attribute_total ys up (subst (λ e. IsDistinct e ys) (λ i a b. texts_ties a.0 b.0 i) apart)
 
-pub heading_from_sorted : (xs ys : Heading) → first_repeat xs ≡ None → IsPermutation xs ys → IsSorted attribute_cmp ys → length ys ≤ 16 → is_heading ys ≡ true
+pub heading_from_sorted : (xs ys : Heading) → first_repeat xs ≡ None → IsPermutation xs ys → IsSorted attribute_cmp ys → length ys ≤ most_attributes → is_heading ys ≡ true
 heading_from_sorted xs ys new moved up few = rw (set_of_names xs ys new moved up, few_enough (length ys) few) refl

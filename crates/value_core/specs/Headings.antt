@@ -6,12 +6,9 @@ use Rattle.std.specs.List.{list_any}
 use Rattle.std.specs.List.Sorted.{IsPermutation}
 use Rattle.std.specs.Str.{bytes_eq}
 use Rattle.value_core.specs.Values.{Name, Heading, is_heading}
+pub use Rattle.value_core.specs.Limits.{most_attributes}
 use Rattle.value_core.specs.declared.refuse.HeadingRefuse.{HeadingRefuse}
 use Rattle.value_core.specs.declared.refuse.HeadingRefuse.TheVariants.{Repeated, TooMany, Memory}
-
--- the most attributes of a heading
-abbrev pub most_attributes : ℕ
-most_attributes = 16
 
 -- whether an attribute has the name
 abbrev pub has_name : Heading → Name → Bool

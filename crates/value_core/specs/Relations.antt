@@ -1,11 +1,14 @@
 -- Relations made from rows.
 --     relation_of      the relation of a heading with a list's rows
---     IsRelationOf, IsRowsRefusal      what a list of rows gives
+--     IsRelationOf      the relation that a list of rows gives
+--     IsRowsRefusal, IsRelationRefusal      why there is none
 use Rattle.std.specs.Prelude.{◌≡◌, ◌<◌, ◌≤◌, Bool, false, List, length, IsTrue}
 use Rattle.std.specs.List.{list_all}
 use Rattle.value_core.specs.Values.{Row, Heading, Relation, rows_of, fits_heading, most_rows}
 use Rattle.value_core.specs.declared.refuse.RowsRefuse.{RowsRefuse}
-use Rattle.value_core.specs.declared.refuse.RowsRefuse.TheVariants.{Heading as NoHeading, TooMany, Memory}
+use Rattle.value_core.specs.declared.refuse.RowsRefuse.TheVariants.{TooMany, Memory}
+use Rattle.value_core.specs.declared.refuse.RelationRefuse.{RelationRefuse}
+use Rattle.value_core.specs.declared.refuse.RelationRefuse.TheVariants.{Misfit, TooMany as TooManyFit, Memory as NoMemory}
 
 -- whether each row fits the heading
 abbrev pub all_fit : Heading → List Row → Bool
@@ -21,8 +24,13 @@ pub record IsRelationOf (heading : Heading) (rows : List Row) (relation : Relati
   pub few : length (rows_of rows) ≤ most_rows
   pub is : relation ≡ relation_of heading rows
 
+-- why rows that fit are refused
+abbrev pub IsRowsRefusal : List Row → RowsRefuse → Type 0
+IsRowsRefusal rows TooMany = most_rows < length (rows_of rows)
+IsRowsRefusal rows Memory = Unit {0}
+
 -- why a list of rows is refused
-abbrev pub IsRowsRefusal : Heading → List Row → RowsRefuse → Type 0
-IsRowsRefusal heading rows NoHeading = all_fit heading rows ≡ false
-IsRowsRefusal heading rows TooMany = IsTrue (all_fit heading rows) × (most_rows < length (rows_of rows))
-IsRowsRefusal heading rows Memory = Unit {0}
+abbrev pub IsRelationRefusal : Heading → List Row → RelationRefuse → Type 0
+IsRelationRefusal heading rows Misfit = all_fit heading rows ≡ false
+IsRelationRefusal heading rows TooManyFit = IsTrue (all_fit heading rows) × (most_rows < length (rows_of rows))
+IsRelationRefusal heading rows NoMemory = Unit {0}

@@ -13,6 +13,8 @@ use Rattle.point_core.specs.declared.any_type.AnyType.{AnyType}
 use Rattle.point_core.specs.Points.{Line, integers, days, values_of, line_of, is_number}
 use Rattle.interval_core.specs.Members.{Span}
 use Rattle.base_core.specs.Sets.{is_set, in_order, are_same}
+use Rattle.value_core.specs.Limits.{most_attributes, most_text_bytes}
+pub use Rattle.value_core.specs.Limits.{most_rows}
 use Rattle.value_core.specs.declared.kind.Kind.{Kind}
 use Rattle.value_core.specs.declared.kind.Kind.TheVariants.{Truth, Char, Point, Span as SpanOf}
 
@@ -102,7 +104,7 @@ is_interval t i = is_number t i.0 && (is_number t i.1 && int_le i.0 i.1)
 -- whether the value is of the kind, and its points are points of the type
 abbrev pub fits : Kind → Value → Bool
 fits Truth (truth b) = true
-fits Char (text bytes) = nat_le (length bytes) 255
+fits Char (text bytes) = nat_le (length bytes) most_text_bytes
 fits (Point t) (point l p) = same_line l (line_of t) && is_number t p
 fits (SpanOf t) (interval l i) = same_line l (line_of t) && is_interval t i
 fits _ _ = false
@@ -118,13 +120,9 @@ fits_heading (a ∷ rest) (v ∷ vs) = fits a.1 v && fits_heading rest vs
 abbrev pub attribute_cmp : Name × Kind → Name × Kind → Ordering
 attribute_cmp = on (λ (a : Name × Kind). a.0) name_cmp
 
--- whether the names ascend, and are at most 16
+-- whether the names ascend, and are not too many
 abbrev pub is_heading : Heading → Bool
-is_heading h = is_set attribute_cmp h && nat_le (length h) 16
-
--- the most rows of a relation
-abbrev pub most_rows : ℕ
-most_rows = 100000
+is_heading h = is_set attribute_cmp h && nat_le (length h) most_attributes
 
 -- rows that ascend and fit the heading, and are not too many
 pub record IsRelation (r : Relation) : Type 0 where

@@ -4,14 +4,12 @@ ghost use Rattle.value_core.specs.Values.{is_heading};
 ghost use Rattle.value_core.specs.Headings.{has_name, first_repeat, IsHeadingOf, IsHeadingRefusal};
 
 use crate::kind::Kind;
+use crate::limits::MOST_ATTRIBUTES;
 use crate::name::Name;
 use crate::refuse::HeadingRefuse;
 use point_core::Memory;
 use std::alloc::Global;
 use std::marker::Model;
-
-/// The most attributes of a heading.
-const MOST_ATTRIBUTES: usize = 16;
 
 /// The attributes of a relation: at most 16, with different names, in the order of their names' bytes.
 #[derive(Drop)]

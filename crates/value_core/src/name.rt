@@ -8,6 +8,7 @@ ghost use Rattle.std.specs.Cmp.Rules.{hashing};
 ghost use Rattle.std.specs.Hash as fed;
 ghost use Rattle.value_core.specs.Lengths.{IsNameLength};
 
+use crate::limits::MOST_NAME_BYTES;
 use point_core::Memory;
 use std::alloc::Global;
 use std::cmp::Ordering;
@@ -37,7 +38,7 @@ impl Name {
     pub fn make(alloc: Global, text: &str) -> Result<Option<Name>, Memory>
         ensures { IfOk result (λ o. MatchOption o (IsNameLength text.now → ⊥) (λ n. (n ≡ text.now) × IsNameLength text.now)) }
     {
-        if text.is_empty() || text.len() > 64 {
+        if text.is_empty() || text.len() > MOST_NAME_BYTES {
             return Ok(None);
         }
         let text = String::from_str(alloc, text)?;

@@ -13,11 +13,19 @@ pub enum HeadingRefuse {
     Memory,
 }
 
-/// Why a list of rows is no relation of a heading.
+/// Why rows that fit a heading are no relation.
 #[derive(Clone, Copy, Debug, PartialEq, Eq)]
 pub enum RowsRefuse {
+    /// There are more than 100,000 different ones.
+    TooMany,
+    Memory,
+}
+
+/// Why a list of rows is no relation of a heading.
+#[derive(Clone, Copy, Debug, PartialEq, Eq)]
+pub enum RelationRefuse {
     /// A row does not fit the heading.
-    Heading,
+    Misfit,
     /// Each row fits, and there are more than 100,000 different ones.
     TooMany,
     Memory,
@@ -102,6 +110,53 @@ impl<T: Drop> From<AllocFailed<T>> for RowsRefuse {
 
     fn from(_: AllocFailed<T>) -> RowsRefuse {
         RowsRefuse::Memory
+    }
+}
+
+impl From<Memory> for RelationRefuse {
+    ghost use Rattle.std.specs.Prelude.{◌≡◌};
+    ghost use Rattle.value_core.specs.declared.refuse.RelationRefuse.TheVariants.{Memory};
+
+    ghost from_gives = { λ _ r. r ≡ Memory };
+
+    fn from(_: Memory) -> RelationRefuse {
+        RelationRefuse::Memory
+    }
+}
+
+impl From<AllocError> for RelationRefuse {
+    ghost use Rattle.std.specs.Prelude.{◌≡◌};
+    ghost use Rattle.value_core.specs.declared.refuse.RelationRefuse.TheVariants.{Memory};
+
+    ghost from_gives = { λ _ r. r ≡ Memory };
+
+    fn from(_: AllocError) -> RelationRefuse {
+        RelationRefuse::Memory
+    }
+}
+
+impl<T: Drop> From<AllocFailed<T>> for RelationRefuse {
+    ghost use Rattle.std.specs.Prelude.{◌≡◌};
+    ghost use Rattle.value_core.specs.declared.refuse.RelationRefuse.TheVariants.{Memory};
+
+    ghost from_gives = { λ _ r. r ≡ Memory };
+
+    fn from(_: AllocFailed<T>) -> RelationRefuse {
+        RelationRefuse::Memory
+    }
+}
+
+impl From<RowsRefuse> for RelationRefuse {
+    ghost use Rattle.std.specs.Prelude.{◌≡◌};
+    ghost use Rattle.value_core.specs.Refusals.{relation_refusal_of};
+
+    ghost from_gives = { λ rows r. r ≡ relation_refusal_of rows };
+
+    fn from(rows: RowsRefuse) -> RelationRefuse {
+        match rows {
+            RowsRefuse::TooMany => RelationRefuse::TooMany,
+            RowsRefuse::Memory => RelationRefuse::Memory,
+        }
     }
 }
 

@@ -5,6 +5,7 @@ ghost use Rattle.std.specs.Cmp.{partial_equiv_from_equiv};
 ghost use Rattle.std.specs.Cmp.Lexicographic.{slice_cmp, pointwise, nat_list_eq_equiv, nat_list_cmp_total, texts_ties, texts_po};
 ghost use Rattle.value_core.specs.Lengths.{IsTextLength};
 
+use crate::limits::MOST_TEXT_BYTES;
 use point_core::Memory;
 use std::alloc::Global;
 use std::cmp::Ordering;
@@ -33,7 +34,7 @@ impl Text {
     pub fn make(alloc: Global, text: &str) -> Result<Option<Text>, Memory>
         ensures { IfOk result (λ o. MatchOption o (IsTextLength text.now → ⊥) (λ t. (t ≡ text.now) × IsTextLength text.now)) }
     {
-        if text.len() > 255 {
+        if text.len() > MOST_TEXT_BYTES {
             return Ok(None);
         }
         let text = String::from_str(alloc, text)?;
