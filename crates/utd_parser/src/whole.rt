@@ -11,6 +11,7 @@ ghost use Rattle.utd_syntax.specs.Read.{read_statement};
 ghost use Rattle.utd_syntax.specs.Table.{TheStatement};
 ghost use Rattle.utd_syntax.specs.Verdict.{Verdict, Whole, Refused, at_start, limits, verdict, verdict_on};
 ghost use Rattle.utd_syntax.specs.Written.{Spells, of_statement};
+ghost use Rattle.utd_ranges.specs.Ranges.{HasLiteralsInRange, AreWritten, HasValues};
 ghost use Rattle.utd_builder.specs.Building as building;
 ghost use Rattle.utd_parser.specs.Tokens.{pieces, seen};
 ghost use Rattle.utd_parser.specs.Frames.{load_of, stack_of, Comes, Fails, IsStatement, RefusedAt};
@@ -167,10 +168,12 @@ fn lexemes_of<'a>(alloc: Global, list: &'a TokenList) -> Result<Vec<Lexeme<'a>>,
 }
 
 /// The statement that the tokens are, and else the refusal of `accept`: the tree writes these tokens, and no other tree
-/// does.
+/// does. Its names and literals are in range; where the tokens are ones that a text writes, each stands for a name or a value.
 pub fn parse(alloc: Global, list: &TokenList) -> Result<Statement, Refuse>
     ensures verdict { Comes result (verdict_on (pieces list.now)) Whole }
     ensures read { IfOk result (λ s. Spells (of_statement (read_statement s)) (pieces list.now) []) }
+    ensures range { IfOk result (λ s. HasLiteralsInRange (read_statement s)) }
+    ensures values { AreWritten (pieces list.now) → IfOk result (λ s. HasValues (read_statement s)) }
     ensures sole { IfOk result (λ s. (other : StatementP) → Spells (of_statement other) (pieces list.now) [] → other ≡ read_statement s) }
     ensures no_statement { (place : Place) → RefusedAt result E01 place → NoStatement (pieces list.now) place }
     ensures limit { (code : Code) (place : Place) → RefusedAt result code place → (E01 ≡ code → ⊥) → Continues (pieces list.now) place }

@@ -1,0 +1,4 @@
+pub mod RangeForms
+pub mod ScalarRows
+pub mod StatementRows
+pub mod RangeLaws
