@@ -39,7 +39,7 @@ fn relation(alloc: Global, heading: &Heading, rows: Vec<Row>) -> Result<Relation
     ensures { MatchResult result (IsAnswer heading.now (rows_of rows.items)) (IsRefusal (rows_of rows.items)) }
 {
     let heading = heading.copy(alloc)?;
-    Relation::from_rows(alloc, heading, rows)
+    Relation::of_fitting(heading, rows)
 }
 
 /// The rows of the tuples, or their first fault.

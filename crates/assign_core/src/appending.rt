@@ -11,7 +11,7 @@ ghost use Rattle.assign_core.specs.Parts.{names_in, Begins};
 use point_core::Memory;
 use std::alloc::Global;
 use tree_core::{Declaration, Relvar, Relvars};
-use value_core::{Heading, Name, OrdinalNames, Relation, RowsRefuse};
+use value_core::{Heading, Name, OrdinalNames, Relation};
 
 /// Appends what is declared, in the order of the list. For want of memory, what was there stays in front.
 pub(crate) fn append_all(
@@ -82,9 +82,5 @@ fn append_relvar(relvars: &mut Relvars, name: Name, relvar: Relvar) -> Result<()
 fn no_rows(alloc: Global, heading: Heading) -> Result<Relation, Memory>
     ensures { IfOk result (λ r. r ≡ record { heading = heading; rows = [] }) }
 {
-    match Relation::from_rows(alloc, heading, Vec::new(alloc)) {
-        Ok(relation) => Ok(relation),
-        Err(RowsRefuse::Memory) => Err(Memory),
-        Err(RowsRefuse::Heading) | Err(RowsRefuse::TooMany) => unreachable!(),
-    }
+    Relation::of_few(heading, Vec::new(alloc))
 }

@@ -5,7 +5,7 @@ ghost use Rattle.relation_benchmarks.specs.Integers.{AreIntegers};
 use crate::integers::{heading, row};
 use point_core::Memory;
 use std::alloc::Global;
-use value_core::{Relation, Row, RowsRefuse};
+use value_core::{Relation, RelationRefuse, Row};
 
 /// A relation of attributes a and b, and one of b and c.
 #[derive(Drop)]
@@ -43,7 +43,7 @@ fn right_rows(alloc: Global, count: u32) -> Result<Vec<Row>, Memory> {
 }
 
 /// The relation of integers with these names and rows.
-fn relation(alloc: Global, names: &[&str], rows: Vec<Row>) -> Result<Relation, RowsRefuse>
+fn relation(alloc: Global, names: &[&str], rows: Vec<Row>) -> Result<Relation, RelationRefuse>
     ensures { IfOk result (λ r. AreIntegers r.heading) }
 {
     match heading(alloc, names) {
@@ -51,12 +51,12 @@ fn relation(alloc: Global, names: &[&str], rows: Vec<Row>) -> Result<Relation, R
             let relation = Relation::from_rows(alloc, heading, rows)?;
             Ok(relation)
         }
-        Err(_) => Err(RowsRefuse::Memory),
+        Err(_) => Err(RelationRefuse::Memory),
     }
 }
 
 /// Two relations with a common attribute, in which each row agrees with one.
-pub(crate) fn two_relations(alloc: Global, count: u32) -> Result<Sample, RowsRefuse>
+pub(crate) fn two_relations(alloc: Global, count: u32) -> Result<Sample, RelationRefuse>
     ensures left { IfOk result (λ s. AreIntegers s.left.heading) }
     ensures right { IfOk result (λ s. AreIntegers s.right.heading) }
 {

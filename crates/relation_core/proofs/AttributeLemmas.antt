@@ -16,7 +16,7 @@ use Rattle.base_core.proofs.SetLemmas.{In, Ascends}
 use Rattle.base_core.proofs.MemberLemmas.{In-append, In-map, In-filter, list_any-In, list_all-In}
 use Rattle.base_core.proofs.SetOperatorLemmas.{In-permutation, length-in_order}
 use Rattle.value_core.proofs.HeadingLemmas.{attribute_total}
-use Rattle.value_core.specs.Headings.{has_name, repeat_after, first_repeat}
+use Rattle.value_core.specs.Headings.{has_name, repeat_after, first_repeat, most_attributes}
 use Rattle.value_core.specs.Values.{Name, Heading, attribute_cmp, is_heading}
 use Rattle.value_core.specs.declared.kind.Kind.{Kind}
 use Rattle.relation_core.specs.Agreement.{names_of}
@@ -133,7 +133,7 @@ module _ (left right : Heading) (first : Ascends attribute_cmp left) (second : A
         λ i. In-permutation list heading a moved (subst (λ (l : Heading). In a l) (sym e) ((In-listed a).1 ((In-joined a).0 i))),
       ))
 
-  pub few_listed : length (joined_heading left right) ≤ 16 → length (left ++ filter (λ a. not (has_name left a.0)) right) ≤ 16
+  pub few_listed : length (joined_heading left right) ≤ most_attributes → length (left ++ filter (λ a. not (has_name left a.0)) right) ≤ most_attributes
   few_listed few =
       let all = left ++ filter (λ a. not (has_name left a.0)) right in
       let tells : Tells attribute_cmp (left ++ filter (λ a. not (has_name left a.0)) right) = λ a b i j e. both_tell a b ((In-listed a).0 i) ((In-listed b).0 j) e in

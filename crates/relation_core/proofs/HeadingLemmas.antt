@@ -21,7 +21,7 @@ use Rattle.base_core.proofs.SetLemmas.{In, AllAfter, Ascends, In-in_order}
 use Rattle.base_core.proofs.MemberLemmas.{In-map, list_all-In}
 use Rattle.base_core.proofs.SetOperatorLemmas.{AllAfter-In, In-permutation, is_set-Ascends, length-in_order}
 use Rattle.value_core.proofs.HeadingLemmas.{attribute_total}
-use Rattle.value_core.specs.Headings.{has_name, repeat_after, first_repeat}
+use Rattle.value_core.specs.Headings.{has_name, repeat_after, first_repeat, most_attributes}
 use Rattle.value_core.specs.Values.{Name, Row, Heading, truth, fits, fits_heading, attribute_cmp, is_heading, row_cmp, most_rows}
 use Rattle.value_core.specs.declared.kind.Kind.{Kind}
 use Rattle.relation_core.specs.Agreement.{part_of}
@@ -154,20 +154,20 @@ attributes_more list positions i d items now a l within is so_far more =
 
 -- ---- projections
 
-at_most : (n : ℕ) → nat_le n 16 ≡ true → n ≤ 16
+at_most : (n : ℕ) → nat_le n most_attributes ≡ true → n ≤ most_attributes
 at_most n e = grind (arith, nat_tests)
 
 pub heading_ascends : (heading : Heading) → IsTrue (is_heading heading) → Ascends attribute_cmp heading
 heading_ascends heading h = (is_set-Ascends attribute_cmp attribute_total heading).0 (and_parts _ _ h).0
 
-pub few_attributes : (heading : Heading) → IsTrue (is_heading heading) → length heading ≤ 16
+pub few_attributes : (heading : Heading) → IsTrue (is_heading heading) → length heading ≤ most_attributes
 few_attributes heading h = at_most (length heading) (and_parts _ _ h).1
 
 module _ (heading : Heading) (kept : List ℕ) (headed : IsTrue (is_heading heading)) (ascending : IsTrue (is_set nat_cmp kept)) (within : All (λ (i : ℕ). i < length heading) kept) where
   pub part_ascends : Ascends attribute_cmp (attributes_at kept heading)
   part_ascends = attributes_ascend heading kept (heading_ascends heading headed) ((is_set-Ascends nat_cmp nat_cmp_total kept).0 ascending) (within_by_members (length heading) kept within)
 
-  pub part_is_few : length (attributes_at kept heading) ≤ 16
+  pub part_is_few : length (attributes_at kept heading) ≤ most_attributes
   part_is_few =
       let same = length-map kept (λ i. get_or heading i no_attribute) in
       let few = few_positions (length heading) kept ((is_set-Ascends nat_cmp nat_cmp_total kept).0 ascending) (within_by_members (length heading) kept within) in

@@ -9,16 +9,15 @@ use Rattle.point_core.specs.declared.fault.Stop.{Stop}
 use Rattle.point_core.specs.declared.fault.Stop.TheVariants.{Fault as Faulted, Memory as OfMemory}
 use Rattle.value_core.specs.Values.{Row, Heading, Relation, most_rows}
 use Rattle.value_core.specs.declared.refuse.RowsRefuse.{RowsRefuse}
-use Rattle.value_core.specs.declared.refuse.RowsRefuse.TheVariants.{Heading as NoHeading, TooMany, Memory}
+use Rattle.value_core.specs.declared.refuse.RowsRefuse.TheVariants.{TooMany, Memory}
 
 -- the relation has the heading and the rows, which are not too many
 pub record IsAnswer (heading : Heading) (rows : List Row) (relation : Relation) : Type 0 where
   pub few : length rows ≤ most_rows
   pub is : relation ≡ record { heading = heading; rows = rows }
 
--- rows are refused only where they are too many
+-- rows that fit are refused only where they are too many
 abbrev pub IsRefusal : List Row → RowsRefuse → Type 0
-IsRefusal rows NoHeading = ⊥
 IsRefusal rows TooMany = most_rows < length rows
 IsRefusal rows Memory = Unit {0}
 

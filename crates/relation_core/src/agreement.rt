@@ -7,7 +7,6 @@ ghost use Rattle.value_core.specs.Values.{row_cmp, IsRelation};
 ghost use Rattle.relation_core.specs.Agreement.{as_wanted, chosen, matched, unmatched, part_of};
 ghost use Rattle.relation_core.specs.Answers.{IsAnswer, IsRefusal};
 
-use crate::answers::small_relation;
 use crate::merging::keep;
 use crate::names::common_positions;
 use crate::parts::{contains, part, sorted_parts};
@@ -54,7 +53,7 @@ fn agreeing(
     let keys = sorted_parts(alloc, right, there.as_slice())?;
     let rows = rows_by_keys(alloc, left, here.as_slice(), keys.as_slice(), wanted)?;
     let heading = left.heading().copy(alloc)?;
-    let relation = small_relation(alloc, heading, rows)?;
+    let relation = Relation::of_few(heading, rows)?;
     Ok(relation)
 }
 

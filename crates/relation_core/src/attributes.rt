@@ -1,6 +1,6 @@
 // The attributes of two headings.
 ghost use Rattle.std.specs.Prelude.{◌≡◌, ◌≤◌, ◌++◌, IfOk, OnOk, filter, length, not};
-ghost use Rattle.value_core.specs.Headings.{has_name};
+ghost use Rattle.value_core.specs.Headings.{has_name, most_attributes};
 ghost use Rattle.value_core.specs.Values.{Name as PlainName};
 ghost use Rattle.value_core.specs.declared.kind.Kind.{Kind as PlainKind};
 ghost use Rattle.relation_core.specs.Joins.{joined_heading, HaveEqualKinds};
@@ -20,7 +20,7 @@ pub(crate) fn joined_heading(
     right: &Heading,
 ) -> Result<Heading, Memory>
     requires kinds { HaveEqualKinds left.now right.now }
-    requires few { length (joined_heading left.now right.now) ≤ 16 }
+    requires few { length (joined_heading left.now right.now) ≤ most_attributes }
     ensures { IfOk result (λ heading. heading ≡ joined_heading left.now right.now) }
 {
     let ours = left.attributes();

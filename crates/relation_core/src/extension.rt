@@ -7,7 +7,6 @@ ghost use Rattle.relation_core.specs.Answers.{Answers, under};
 ghost use Rattle.relation_core.specs.Faults.{fault_of, lesser_of, values_of};
 ghost use Rattle.relation_core.specs.Operators.{extended};
 
-use crate::answers::small_relation;
 use crate::restriction::lesser;
 use point_core::{Fault, Memory, Stop};
 use std::alloc::Global;
@@ -36,7 +35,7 @@ pub fn extend<F: Fn(&Row) -> Result<Row, Stop>>(
     match least {
         Some(fault) => Err(Stop::Fault(fault)),
         None => {
-            let relation = small_relation(alloc, heading, rows)?;
+            let relation = Relation::of_few(heading, rows)?;
             Ok(relation)
         }
     }

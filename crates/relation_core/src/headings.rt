@@ -1,7 +1,7 @@
 // Headings that are made from attributes with different names.
 ghost use Rattle.std.specs.Prelude.{◌≡◌, ◌<◌, ◌≤◌, ℕ, None, IfOk, length};
 ghost use Rattle.std.specs.List.{All};
-ghost use Rattle.value_core.specs.Headings.{first_repeat, IsHeadingOf};
+ghost use Rattle.value_core.specs.Headings.{first_repeat, IsHeadingOf, most_attributes};
 ghost use Rattle.relation_core.specs.Parts.{attributes_at};
 
 use point_core::Memory;
@@ -11,7 +11,7 @@ use value_core::{Heading, HeadingRefuse, Kind, Name};
 /// The heading of the attributes.
 pub(crate) fn heading_of(alloc: Global, list: Vec<(Name, Kind)>) -> Result<Heading, Memory>
     requires different { first_repeat list.items ≡ None }
-    requires few { length list.items ≤ 16 }
+    requires few { length list.items ≤ most_attributes }
     ensures { IfOk result (IsHeadingOf list.items) }
 {
     match Heading::make(alloc, list) {

@@ -21,7 +21,7 @@ mod summary;
 pub use agreement::{matching, not_matching};
 pub use extension::extend;
 pub use joining::join;
-pub use parts::part;
+pub use parts::{contains, part, sorted_parts};
 pub use projection::project;
 pub use renaming::rename;
 pub use restriction::restrict;

@@ -12,10 +12,7 @@ use crate::names::common_positions;
 use crate::parts::part;
 use point_core::Memory;
 use std::alloc::Global;
-use value_core::{Kind, Name, Relation, Row, RowsRefuse, Value};
-
-/// The most rows of a relation.
-const MOST_ROWS: usize = 100_000;
+use value_core::{Kind, MOST_ROWS, Name, Relation, Row, RowsRefuse, Value};
 
 /// Each row of the left relation with each row of the right one that agrees with it, under the heading of both.
 pub(crate) fn joined_pairs(

@@ -3,8 +3,9 @@ ghost use Rattle.std.specs.Prelude.{◌≡◌, ◌<◌, ℕ, map, length, IfOk};
 ghost use Rattle.std.specs.List.{All};
 ghost use Rattle.std.specs.List.Sorted.{IsStrictlySortedBy};
 ghost use Rattle.base_core.specs.Sets.{has};
-ghost use Rattle.value_core.specs.Values.{row_cmp, rows_of, IsRelation};
+ghost use Rattle.value_core.specs.Values.{row_cmp, IsRelation};
 ghost use Rattle.relation_core.specs.Agreement.{part_of};
+ghost use Rattle.relation_core.specs.Parts.{projected};
 
 use point_core::Memory;
 use std::alloc::Global;
@@ -38,13 +39,9 @@ fn parts(alloc: Global, r: &Relation, positions: &[usize]) -> Result<Vec<Row>, M
 }
 
 /// The different parts of all rows, in order.
-pub(crate) fn sorted_parts(
-    alloc: Global,
-    r: &Relation,
-    positions: &[usize],
-) -> Result<Vec<Row>, Memory>
+pub fn sorted_parts(alloc: Global, r: &Relation, positions: &[usize]) -> Result<Vec<Row>, Memory>
     requires { All (λ (i : ℕ). i < length r.now.heading) positions.now }
-    ensures parts { IfOk result (λ list. list.items ≡ rows_of (map (part_of positions.now) r.now.rows)) }
+    ensures parts { IfOk result (λ list. list.items ≡ projected positions.now r.now.rows) }
     ensures sorted { IfOk result (λ list. IsStrictlySortedBy row_cmp list.items) }
     ensures relation { IsRelation r.now }
 {
@@ -55,7 +52,7 @@ pub(crate) fn sorted_parts(
 }
 
 /// Whether the row is among the rows, which are in order.
-pub(crate) fn contains(rows: &[Row], row: &Row) -> bool
+pub fn contains(rows: &[Row], row: &Row) -> bool
     requires { IsStrictlySortedBy row_cmp rows.now }
     ensures { result ≡ has row_cmp rows.now row.now }
 {

@@ -6,7 +6,6 @@ ghost use Rattle.base_core.specs.Sets.{is_set};
 ghost use Rattle.relation_core.specs.Answers.{IsAnswer};
 ghost use Rattle.relation_core.specs.Parts.{attributes_at, projected};
 
-use crate::answers::small_relation;
 use crate::headings::{attributes_at, heading_of};
 use crate::parts::sorted_parts;
 use point_core::Memory;
@@ -22,6 +21,6 @@ pub fn project(alloc: Global, r: &Relation, kept: &[usize]) -> Result<Relation, 
     let rows = sorted_parts(alloc, r, kept)?;
     let list = attributes_at(alloc, r.heading().attributes(), kept)?;
     let heading = heading_of(alloc, list)?;
-    let relation = small_relation(alloc, heading, rows)?;
+    let relation = Relation::of_few(heading, rows)?;
     Ok(relation)
 }

@@ -4,7 +4,6 @@ ghost use Rattle.std.specs.List.{IsDistinct};
 ghost use Rattle.std.specs.Str.{bytes_eq};
 ghost use Rattle.relation_core.specs.Parts.{renamed, positions_in, IsRenamed};
 
-use crate::answers::small_relation;
 use crate::headings::heading_of;
 use crate::names::position;
 use crate::parts::sorted_parts;
@@ -23,7 +22,7 @@ pub fn rename(alloc: Global, r: &Relation, names: &[Name]) -> Result<Relation, M
     let heading = heading_of(alloc, attributes)?;
     let positions = positions_in(alloc, list.as_slice(), heading.attributes())?;
     let rows = sorted_parts(alloc, r, positions.as_slice())?;
-    let relation = small_relation(alloc, heading, rows)?;
+    let relation = Relation::of_few(heading, rows)?;
     Ok(relation)
 }
 

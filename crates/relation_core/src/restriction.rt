@@ -7,7 +7,6 @@ ghost use Rattle.relation_core.specs.Answers.{Answers, under};
 ghost use Rattle.relation_core.specs.Faults.{fault_of, lesser_of};
 ghost use Rattle.relation_core.specs.Operators.{is_true, restricted};
 
-use crate::answers::small_relation;
 use point_core::{Fault, Label, Memory, Stop};
 use std::alloc::Global;
 use std::cmp::Ordering;
@@ -35,7 +34,7 @@ pub fn restrict<F: Fn(&Row) -> Result<bool, Stop>>(
         Some(fault) => Err(Stop::Fault(fault)),
         None => {
             let heading = r.heading().copy(alloc)?;
-            let relation = small_relation(alloc, heading, rows)?;
+            let relation = Relation::of_few(heading, rows)?;
             Ok(relation)
         }
     }
@@ -73,7 +72,7 @@ pub(crate) fn lesser(least: Option<Fault>, fault: Fault) -> Fault
     match least {
         None => fault,
         Some(before) => {
-            if fault.cmp(&before) == Ordering::Less {
+            if fault.compare(before) == Ordering::Less {
                 fault
             } else {
                 before

@@ -7,7 +7,6 @@ ghost use Rattle.value_core.specs.Values.{Row as PlainRow, fits_heading, most_ro
 ghost use Rattle.relation_core.specs.Answers.{Answers, under};
 ghost use Rattle.relation_core.specs.Groups.{groups, summarized};
 
-use crate::answers::small_relation;
 use crate::extension::take_given;
 use crate::keys::{index, numbers_with};
 use crate::parts::sorted_parts;
@@ -45,7 +44,7 @@ pub fn summarize<F: Fn(&[usize]) -> Result<Row, Stop>>(
     match least {
         Some(fault) => Err(Stop::Fault(fault)),
         None => {
-            let relation = small_relation(alloc, heading, rows)?;
+            let relation = Relation::of_few(heading, rows)?;
             Ok(relation)
         }
     }

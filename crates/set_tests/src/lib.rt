@@ -9,20 +9,20 @@ use point_core::{AnyPoint, AnyType, Memory, Steps};
 use std::alloc::Global;
 use std::sync::ledger::{Blank, Ledger};
 use u_set::{are_same, is_within, packed, united, unpacked};
-use value_core::{Heading, Kind, Name, Relation, Row, RowsRefuse, Value};
+use value_core::{Heading, Kind, Name, Relation, RelationRefuse, Row, Value};
 
 // The heading of the one attribute D, an interval of integers.
-fn heading_of_one(alloc: Global) -> Result<Heading, RowsRefuse>
+fn heading_of_one(alloc: Global) -> Result<Heading, RelationRefuse>
     ensures { IfOk result (λ h. AreIntervals h (0 ∷ [])) }
 {
     let Some(name) = Name::make(alloc, "D")? else {
-        return Err(RowsRefuse::Heading);
+        return Err(RelationRefuse::Misfit);
     };
     let mut list = Vec::new(alloc);
     list.push((name, Kind::Span(AnyType::Integer)))?;
     match Heading::make(alloc, list) {
         Ok(heading) => Ok(heading),
-        Err(_) => Err(RowsRefuse::Heading),
+        Err(_) => Err(RelationRefuse::Misfit),
     }
 }
 
@@ -39,7 +39,7 @@ fn row_of(alloc: Global, ends: (i64, i64)) -> Result<Row, Memory> {
 }
 
 /// The relation of the intervals.
-pub fn relation(alloc: Global, spans: &[(i64, i64)]) -> Result<Relation, RowsRefuse>
+pub fn relation(alloc: Global, spans: &[(i64, i64)]) -> Result<Relation, RelationRefuse>
     ensures { IfOk result (λ r. AreIntervals r.heading (0 ∷ [])) }
 {
     let mut rows = Vec::new(alloc);
@@ -57,7 +57,7 @@ pub fn packed_spans<L: Ledger>(
     alloc: Global,
     spans: &[(i64, i64)],
     blank: Blank,
-) -> Result<Relation, RowsRefuse>
+) -> Result<Relation, RelationRefuse>
     requires name { blank.name ≡ L.name }
     requires parts { blank.parts ≡ L.parts }
     requires one { blank.parts ≡ 1 }
@@ -73,7 +73,7 @@ pub fn unpacked_spans<L: Ledger>(
     alloc: Global,
     spans: &[(i64, i64)],
     blank: Blank,
-) -> Result<Relation, RowsRefuse>
+) -> Result<Relation, RelationRefuse>
     requires name { blank.name ≡ L.name }
     requires parts { blank.parts ≡ L.parts }
     requires one { blank.parts ≡ 1 }
@@ -89,7 +89,7 @@ pub fn united_spans<L: Ledger>(
     alloc: Global,
     spans: &[(i64, i64)],
     blank: Blank,
-) -> Result<Relation, RowsRefuse>
+) -> Result<Relation, RelationRefuse>
     requires name { blank.name ≡ L.name }
     requires parts { blank.parts ≡ L.parts }
     requires one { blank.parts ≡ 1 }
@@ -106,7 +106,7 @@ pub fn is_itself<L: Ledger>(
     alloc: Global,
     spans: &[(i64, i64)],
     blank: Blank,
-) -> Result<bool, RowsRefuse>
+) -> Result<bool, RelationRefuse>
     requires name { blank.name ≡ L.name }
     requires parts { blank.parts ≡ L.parts }
     requires one { blank.parts ≡ 1 }
@@ -172,7 +172,7 @@ mod tests {
     fn is_refused_for_too_many_rows(rt: HostRuntime) -> Result<(), Fail> {
         let alloc = rt.alloc();
         match unpacked_spans::<Brand>(alloc, &[(1, 100_001)], Blank::new(1)) {
-            Err(RowsRefuse::TooMany) => Ok(()),
+            Err(RelationRefuse::TooMany) => Ok(()),
             _ => {
                 assert!(rt; false);
                 Ok(())

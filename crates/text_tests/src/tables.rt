@@ -5,7 +5,7 @@ use std::alloc::Global;
 use std::test::Fail;
 use utd_print::{refusal_line, table, truth_line};
 use value_core::{
-    Heading, Kind, Name, Names, OrdinalNames, OrdinalTypes, Refuse, Relation, Row, RowsRefuse,
+    Heading, Kind, Name, Names, OrdinalNames, OrdinalTypes, Refuse, Relation, RelationRefuse, Row,
     Text, Value,
 };
 
@@ -78,7 +78,7 @@ fn relation(
     alloc: Global,
     attributes: &[(&str, Kind)],
     rows: &[&[Part]],
-) -> Result<Relation, RowsRefuse> {
+) -> Result<Relation, RelationRefuse> {
     let mut list = Vec::new(alloc);
     for attribute in attributes {
         list.push((name(alloc, attribute.0)?, attribute.1))?;
@@ -89,7 +89,7 @@ fn relation(
     }
     match Heading::make(alloc, list) {
         Ok(heading) => Relation::from_rows(alloc, heading, all),
-        Err(_) => Err(RowsRefuse::Heading),
+        Err(_) => Err(RelationRefuse::Misfit),
     }
 }
 
@@ -112,7 +112,7 @@ fn printed(
     alloc: Global,
     attributes: &[(&str, Kind)],
     rows: &[&[Part]],
-) -> Result<Vec<u8>, RowsRefuse> {
+) -> Result<Vec<u8>, RelationRefuse> {
     let types = sizes(alloc)?;
     let all = relation(alloc, attributes, rows)?;
     Ok(table(alloc, &all, &types)?)

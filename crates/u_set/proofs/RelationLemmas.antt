@@ -10,7 +10,7 @@ use Rattle.point_core.specs.declared.any_type.AnyPoint.{AnyPoint}
 use Rattle.point_core.specs.Points.{number}
 use Rattle.value_core.specs.Values.{Row, Heading, Relation, IsRelation, rows_of, most_rows, fits_heading}
 use Rattle.value_core.specs.declared.refuse.RowsRefuse.{RowsRefuse}
-use Rattle.value_core.specs.declared.refuse.RowsRefuse.TheVariants.{Heading as NoHeading, TooMany, Memory}
+use Rattle.value_core.specs.declared.refuse.RowsRefuse.TheVariants.{TooMany, Memory}
 use Rattle.relation_core.specs.Answers.{IsAnswer, IsRefusal}
 use Rattle.packing_core.specs.Boxed.{Boxed}
 use Rattle.cell_core.specs.Cells.{row_numbers}
@@ -57,7 +57,6 @@ module _ (heading : Heading) (acl : List ℕ) (rows : List Row) (boxes : List (B
       (subst (λ (s : List Row). MatchResult result (IsAnswer h s) (IsRefusal s)) read given)
 
   -- and boxes are refused for too many rows alone
-  pub refusal_read : (cause : CellRefuse) (refuse : RowsRefuse) → (refuse ≡ TooMany → cause ≡ OfLimit) → (refuse ≡ NoHeading → ⊥) → (cause ≡ OfLimit → most_rows < length boxes) → IsRefusal rows refuse
-  refusal_read cause NoHeading many never limit = never refl
-  refusal_read cause TooMany many never limit = too_many most_rows (limit (many refl))
-  refusal_read cause Memory many never limit = tt
+  pub refusal_read : (cause : CellRefuse) (refuse : RowsRefuse) → (refuse ≡ TooMany → cause ≡ OfLimit) → (cause ≡ OfLimit → most_rows < length boxes) → IsRefusal rows refuse
+  refusal_read cause TooMany many limit = too_many most_rows (limit (many refl))
+  refusal_read cause Memory many limit = tt

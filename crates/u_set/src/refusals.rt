@@ -1,6 +1,6 @@
 // How boxes are refused as the rows of a relation.
 ghost use Rattle.std.specs.Prelude.{◌≡◌};
-ghost use Rattle.value_core.specs.declared.refuse.RowsRefuse.TheVariants.{Heading as NoHeading, TooMany};
+ghost use Rattle.value_core.specs.declared.refuse.RowsRefuse.TheVariants.{TooMany};
 ghost use Rattle.cell_core.specs.declared.boxes.CellRefuse.TheVariants.{Limit as OfLimit};
 
 use cell_core::CellRefuse;
@@ -11,8 +11,7 @@ pub(crate) const MOST_ROWS: usize = 100_000;
 
 /// Too many boxes are too many rows.
 pub(crate) fn refusal(refuse: CellRefuse) -> RowsRefuse
-    ensures many { result ≡ TooMany → refuse ≡ OfLimit }
-    ensures heading { result ≡ NoHeading → ⊥ }
+    ensures { result ≡ TooMany → refuse ≡ OfLimit }
 {
     match refuse {
         CellRefuse::Limit => RowsRefuse::TooMany,

@@ -94,5 +94,5 @@ pub fn from_boxes(
         MatchResult result (IsAnswer heading rows) (IsRefusal rows) }
 {
     let rows = to_rows(alloc, heading.attributes(), acl, boxes.as_slice())?;
-    Relation::from_rows(alloc, heading, rows)
+    Relation::of_fitting(heading, rows)
 }

@@ -44,8 +44,8 @@ few_chosen wanted left right r s few =
     let less = length-filter_at_most (λ x. as_wanted wanted (list_any (agree left right x) s)) r in
     omega (arith, less)
 
-pub small_relation-requires-clause-fitting : goal.small_relation-requires-clause-fitting
-small_relation-requires-clause-fitting c =
+pub of_few-requires-clause-fitting : goal.of_few-requires-clause-fitting
+of_few-requires-clause-fitting c =
     let ours : c.attributes-ours.result.now ≡ c.args.left.now.heading = c.attributes-ours.ensures.list ∙ c.heading.ensures.heading in
     let theirs : c.attributes-theirs.result.now ≡ c.args.right.now.heading = c.attributes-theirs.ensures.list ∙ c.heading-2.ensures.heading in
     let all : c.in_ok-rows.rows.items ≡ chosen c.args.wanted c.args.left.now.heading c.args.right.now.heading c.args.left.now.rows c.args.right.now.rows =
@@ -55,8 +55,8 @@ small_relation-requires-clause-fitting c =
     (subst (λ (l : List Row). IsTrue (all_fit c.args.left.now.heading l)) (sym all)
     (list_all-filter (fits_heading c.args.left.now.heading) (λ x. as_wanted c.args.wanted (list_any (agree c.args.left.now.heading c.args.right.now.heading x) c.args.right.now.rows)) c.args.left.now.rows c.in_ok-rows.ensures.relation.fitting))
 
-pub small_relation-requires-clause-few : goal.small_relation-requires-clause-few
-small_relation-requires-clause-few c =
+pub of_few-requires-clause-few : goal.of_few-requires-clause-few
+of_few-requires-clause-few c =
     let ours : c.attributes-ours.result.now ≡ c.args.left.now.heading = c.attributes-ours.ensures.list ∙ c.heading.ensures.heading in
     let theirs : c.attributes-theirs.result.now ≡ c.args.right.now.heading = c.attributes-theirs.ensures.list ∙ c.heading-2.ensures.heading in
     let all : c.in_ok-rows.rows.items ≡ chosen c.args.wanted c.args.left.now.heading c.args.right.now.heading c.args.left.now.rows c.args.right.now.rows =

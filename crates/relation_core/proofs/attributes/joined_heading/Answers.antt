@@ -1,6 +1,6 @@
 use Rattle.std.proofs.Common.{◌≡◌, ◌≤◌, [], ◌++◌, not, length, None, sym, subst, ap₂, ◌∙◌}
 use Rattle.std.specs.List.{filter}
-use Rattle.value_core.specs.Headings.{has_name, first_repeat}
+use Rattle.value_core.specs.Headings.{has_name, first_repeat, most_attributes}
 use Rattle.value_core.specs.Values.{Heading}
 use Rattle.relation_core.proofs.AttributeLemmas.{none_known, heading_is_joined, few_listed, listed_apart, apart_no_repeat}
 use Rattle.relation_core.proofs.HeadingLemmas.{heading_ascends}
@@ -23,7 +23,7 @@ heading_of-requires c =
     let second = heading_ascends r c.attributes-theirs.ensures.heading in
     record {
       different = subst (λ (h : Heading). first_repeat h ≡ None) (sym list) (apart_no_repeat (l ++ filter (λ a. not (has_name l a.0)) r) (listed_apart l r first second c.requires.kinds));
-      few = subst (λ (h : Heading). length h ≤ 16) (sym list) (few_listed l r first second c.requires.kinds c.requires.few);
+      few = subst (λ (h : Heading). length h ≤ most_attributes) (sym list) (few_listed l r first second c.requires.kinds c.requires.few);
     }
 
 pub returns : goal.returns

@@ -44,16 +44,16 @@ loop-x-preserved g c =
       rows = cc (rows, c.loop-x.invariant.rows);
     }
 
-pub small_relation-requires-clause-fitting : goal.small_relation-requires-clause-fitting
-small_relation-requires-clause-fitting g c =
+pub of_few-requires-clause-fitting : goal.of_few-requires-clause-fitting
+of_few-requires-clause-fitting g c =
     let r = c.args.r.now in
     let all : c.loop-x.rows.items ≡ values_of (map g.means c.args.r.now.rows) =
     c.loop-x.invariant.rows ∙ ap (λ (l : List Row). values_of (map g.means l)) (take_all c.loop-x.x-index c.rows-given.result.now (omega arith) ∙ c.rows-given.ensures.rows) in
     subst (λ (l : List Row). IsTrue (all_fit c.args.heading l)) (sym all)
     (values_pass (fits_heading c.args.heading) g.means r.rows (λ x i y e. c.requires.1.1.1 x y ((list_all-In (fits_heading r.heading) r.rows).0 c.rows-given.ensures.relation.fitting x i) e))
 
-pub small_relation-requires-clause-few : goal.small_relation-requires-clause-few
-small_relation-requires-clause-few g c =
+pub of_few-requires-clause-few : goal.of_few-requires-clause-few
+of_few-requires-clause-few g c =
     let all : c.loop-x.rows.items ≡ values_of (map g.means c.args.r.now.rows) =
     c.loop-x.invariant.rows ∙ ap (λ (l : List Row). values_of (map g.means l)) (take_all c.loop-x.x-index c.rows-given.result.now (omega arith) ∙ c.rows-given.ensures.rows) in
     let less = length-values_of (map g.means c.args.r.now.rows) in

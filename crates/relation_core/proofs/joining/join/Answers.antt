@@ -3,7 +3,7 @@ use Rattle.std.proofs.lemmas.Result.{err_from_is_err_and}
 use Rattle.value_core.specs.Values.{Row, Heading, Relation, most_rows, rows_of}
 use Rattle.value_core.specs.Relations.{all_fit}
 use Rattle.value_core.specs.declared.refuse.RowsRefuse.{RowsRefuse}
-use Rattle.value_core.specs.declared.refuse.RowsRefuse.TheVariants.{Heading as NoHeading, TooMany, Memory}
+use Rattle.value_core.specs.declared.refuse.RowsRefuse.TheVariants.{TooMany, Memory}
 use Rattle.relation_core.specs.Answers.{IsAnswer, IsRefusal}
 use Rattle.relation_core.specs.Joins.{joined_heading, joined_pairs, joined}
 use Rattle.relation_core.proofs.JoinLemmas.{all_joined, all_fit_joined, count_joined}
@@ -14,7 +14,6 @@ relation_with heading rows = record { heading = heading; rows = rows }
 
 -- lists of one length are refused alike
 refused : (rows others : List Row) → length rows ≡ length others → (e : RowsRefuse) → IsRefusal others e → IsRefusal rows e
-refused rows others same NoHeading h = h
 refused rows others same TooMany h = subst (λ n. most_rows < n) (sym same) h
 refused rows others same Memory h = h
 
@@ -37,8 +36,8 @@ returns-in_err-rows-clause-rows c =
 pub returns-in_err-rows-clause-members : goal.returns-in_err-rows-clause-members
 returns-in_err-rows-clause-members c z = all_joined c.args.left.now c.args.right.now c.heading.ensures.relation c.heading-2.ensures.relation c.requires.kinds z
 
-pub small_relation-requires-clause-fitting : goal.small_relation-requires-clause-fitting
-small_relation-requires-clause-fitting c =
+pub of_few-requires-clause-fitting : goal.of_few-requires-clause-fitting
+of_few-requires-clause-fitting c =
     let head = joined_as c.args.left.now.heading c.args.right.now.heading c.heading.result.now c.heading-2.result.now c.in_ok-heading.heading c.heading.ensures.heading c.heading-2.ensures.heading c.in_ok-heading.ensures in
     subst (λ (h : Heading). IsTrue (all_fit h c.in_ok-rows.rows.items)) (sym head)
     (subst (λ (rows : List Row). IsTrue (all_fit (joined_heading c.args.left.now.heading c.args.right.now.heading) rows)) (sym c.in_ok-rows.ensures.pairs)

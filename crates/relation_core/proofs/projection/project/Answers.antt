@@ -1,7 +1,7 @@
 use Rattle.std.proofs.Common.{◌≡◌, ◌<◌, ◌≤◌, List, length, get_or, map, None, ap, ap₂, sym, subst, ◌∙◌, IsTrue}
 use Rattle.std.specs.List.Sorted.{IsPermutation}
 use Rattle.base_core.proofs.SetOperatorLemmas.{in_order-in_order}
-use Rattle.value_core.specs.Headings.{first_repeat}
+use Rattle.value_core.specs.Headings.{first_repeat, most_attributes}
 use Rattle.value_core.specs.Order.{row_total, row_separates}
 use Rattle.value_core.specs.Relations.{all_fit}
 use Rattle.value_core.specs.Values.{Row, Heading, Relation, row_cmp, rows_of, most_rows}
@@ -25,11 +25,11 @@ heading_of-requires c =
     c.in_ok-list.ensures ∙ ap (λ (h : Heading). attributes_at c.args.kept.now h) (c.attributes.ensures.list ∙ c.heading.ensures.heading) in
     record {
       different = subst (λ (h : Heading). first_repeat h ≡ None) (sym list) (no_repeat (attributes_at c.args.kept.now r.heading) (part_ascends r.heading c.args.kept.now c.in_ok-rows.ensures.relation.headed c.requires.ascending c.requires.within));
-      few = subst (λ (h : Heading). length h ≤ 16) (sym list) (part_is_few r.heading c.args.kept.now c.in_ok-rows.ensures.relation.headed c.requires.ascending c.requires.within);
+      few = subst (λ (h : Heading). length h ≤ most_attributes) (sym list) (part_is_few r.heading c.args.kept.now c.in_ok-rows.ensures.relation.headed c.requires.ascending c.requires.within);
     }
 
-pub small_relation-requires : goal.small_relation-requires
-small_relation-requires c =
+pub of_few-requires : goal.of_few-requires
+of_few-requires c =
     let r = c.args.r.now in
     let kept = c.args.kept.now in
     let list : c.in_ok-list.list.items ≡ attributes_at c.args.kept.now c.args.r.now.heading =

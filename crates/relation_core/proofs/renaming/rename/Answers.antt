@@ -1,7 +1,7 @@
 use Rattle.std.proofs.Common.{◌≡◌, ◌<◌, ◌≤◌, ℕ, List, length, map, None, ap, ap₂, sym, subst, ◌∙◌, IsTrue}
 use Rattle.std.specs.List.{All}
 use Rattle.base_core.proofs.SetOperatorLemmas.{in_order-in_order}
-use Rattle.value_core.specs.Headings.{first_repeat, IsHeadingOf}
+use Rattle.value_core.specs.Headings.{first_repeat, IsHeadingOf, most_attributes}
 use Rattle.value_core.specs.Order.{row_total, row_separates}
 use Rattle.value_core.specs.Relations.{all_fit}
 use Rattle.value_core.specs.Values.{Row, Heading, Relation, row_cmp, rows_of, most_rows}
@@ -25,7 +25,7 @@ heading_of-requires c =
     c.in_ok-attributes.ensures ∙ ap (λ (h : Heading). renamed c.args.names.now h) (c.attributes-2.ensures.list ∙ c.heading-2.ensures.heading) in
     record {
       different = subst (λ (h : Heading). first_repeat h ≡ None) (sym made) (renamed_differ names r.heading c.requires.different);
-      few = subst (λ (h : Heading). length h ≤ 16) (sym made) (subst (λ n. n ≤ 16) (sym (length-renamed names r.heading c.requires.one_each)) (few_attributes r.heading c.heading.ensures.relation.headed));
+      few = subst (λ (h : Heading). length h ≤ most_attributes) (sym made) (subst (λ n. n ≤ most_attributes) (sym (length-renamed names r.heading c.requires.one_each)) (few_attributes r.heading c.heading.ensures.relation.headed));
     }
 
 pub sorted_parts-requires : goal.sorted_parts-requires
@@ -40,8 +40,8 @@ sorted_parts-requires c k d l =
     (subst (λ (ps : List ℕ). All (λ (i : ℕ). i < length c.args.r.now.heading) ps) (sym positions)
     (positions_fit c.args.names.now c.args.r.now.heading c.in_ok-heading.heading c.requires.different head.same c.requires.one_each)) k d l
 
-pub small_relation-requires : goal.small_relation-requires
-small_relation-requires c =
+pub of_few-requires : goal.of_few-requires
+of_few-requires c =
     let list : c.as_slice.result.now ≡ renamed c.args.names.now c.args.r.now.heading =
     c.as_slice.ensures.value ∙ (c.in_ok-list.ensures ∙ ap (λ (h : Heading). renamed c.args.names.now h) (c.attributes.ensures.list ∙ c.heading.ensures.heading)) in
     let positions : c.as_slice-2.result.now ≡ positions_in (renamed c.args.names.now c.args.r.now.heading) c.in_ok-heading.heading =

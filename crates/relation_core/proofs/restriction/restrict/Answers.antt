@@ -33,8 +33,8 @@ loop-x-preserved g c =
       rows = cc (rows, c.loop-x.invariant.rows);
     }
 
-pub small_relation-requires-clause-fitting : goal.small_relation-requires-clause-fitting
-small_relation-requires-clause-fitting g c =
+pub of_few-requires-clause-fitting : goal.of_few-requires-clause-fitting
+of_few-requires-clause-fitting g c =
     let r = c.args.r.now in
     let p : Row → _ = λ x. is_true (g.means x) in
     let all : c.loop-x.rows.items ≡ filter (λ (x : Row). is_true (g.means x)) c.args.r.now.rows =
@@ -43,8 +43,8 @@ small_relation-requires-clause-fitting g c =
     subst (λ h. IsTrue (all_fit h c.loop-x.rows.items)) (sym head)
     (subst (λ (l : List Row). IsTrue (all_fit r.heading l)) (sym all) (list_all-filter (fits_heading r.heading) p r.rows c.rows-given.ensures.relation.fitting))
 
-pub small_relation-requires-clause-few : goal.small_relation-requires-clause-few
-small_relation-requires-clause-few g c =
+pub of_few-requires-clause-few : goal.of_few-requires-clause-few
+of_few-requires-clause-few g c =
     let p : Row → _ = λ x. is_true (g.means x) in
     let all : c.loop-x.rows.items ≡ filter (λ (x : Row). is_true (g.means x)) c.args.r.now.rows =
     c.loop-x.invariant.rows ∙ ap (filter p) (take_all c.loop-x.x-index c.rows-given.result.now (omega arith) ∙ c.rows-given.ensures.rows) in

@@ -79,16 +79,16 @@ few_given means by rows given few e =
     let parts = projected_few by rows few in
     omega (arith, same, less, many, size, parts)
 
-pub small_relation-requires-clause-fitting : goal.small_relation-requires-clause-fitting
-small_relation-requires-clause-fitting g c =
+pub of_few-requires-clause-fitting : goal.of_few-requires-clause-fitting
+of_few-requires-clause-fitting g c =
     let keys : c.deref-key-items.result.now ≡ projected c.args.by.now c.args.r.now.rows = c.deref-key-items.ensures.value ∙ c.in_ok-keys.ensures.parts in
     let all : c.loop-key.rows.items ≡ values_of (map g.means (groups c.args.by.now c.args.r.now.rows)) =
     all_given g.means c.args.by.now c.args.r.now.rows c.deref-key-items.result.now c.loop-key.key-index c.loop-key.rows.items (omega arith) keys c.loop-key.invariant.rows in
     subst (λ (l : List Row). IsTrue (all_fit c.args.heading l)) (sym all)
     (values_pass (fits_heading c.args.heading) g.means (groups c.args.by.now c.args.r.now.rows) (λ x i y e. c.requires.1.1.1.1 x y (Contains-from_In (groups c.args.by.now c.args.r.now.rows) x i) e))
 
-pub small_relation-requires-clause-few : goal.small_relation-requires-clause-few
-small_relation-requires-clause-few g c =
+pub of_few-requires-clause-few : goal.of_few-requires-clause-few
+of_few-requires-clause-few g c =
     let keys : c.deref-key-items.result.now ≡ projected c.args.by.now c.args.r.now.rows = c.deref-key-items.ensures.value ∙ c.in_ok-keys.ensures.parts in
     few_given g.means c.args.by.now c.args.r.now.rows c.loop-key.rows.items c.in_ok-keys.ensures.relation.few
     (all_given g.means c.args.by.now c.args.r.now.rows c.deref-key-items.result.now c.loop-key.key-index c.loop-key.rows.items (omega arith) keys c.loop-key.invariant.rows)

@@ -35,5 +35,5 @@ returns-in-Err-clause-rows g c =
     let acl = c.args.acl.now in
     let is = c.heading.ensures.relation in
     let are = unpacked_rows r.heading acl c.requires r.rows (rows_ascend r is) (relation_shaped r is acl c.requires) in
-    refusal_read r.heading acl (unpacked acl r.rows) (unpacked_boxes row_cmp (length acl) (map (boxed acl) r.rows)) are c.in-Err.refuse c.refusal.result c.refusal.ensures.many c.refusal.ensures.heading
+    refusal_read r.heading acl (unpacked acl r.rows) (unpacked_boxes row_cmp (length acl) (map (boxed acl) r.rows)) are c.in-Err.refuse c.refusal.result c.refusal.ensures
     (λ e. c.in-Err.ensures.limit (ap (λ x. Err x) e))

@@ -50,4 +50,4 @@ returns-in-Err-clause-rows g c =
     united_rows left.heading acl c.requires.intervals left.rows right.rows (rows_ascend left l) (rows_ascend right r)
     (relation_shaped left l acl c.requires.intervals) (shaped_under left.heading right c.requires.heading r acl c.requires.intervals) in
     refusal_read left.heading acl (packed acl (united (unpacked acl left.rows) (unpacked acl right.rows))) (packed_boxes row_cmp (length acl) (union_of (boxed_cmp row_cmp) (unpacked_boxes row_cmp (length acl) (map (boxed acl) left.rows)) (unpacked_boxes row_cmp (length acl) (map (boxed acl) right.rows)))) are
-    c.in-Err.refuse c.refusal.result c.refusal.ensures.many c.refusal.ensures.heading (λ e. c.in-Err.ensures.limit (ap (λ x. Err x) e))
+    c.in-Err.refuse c.refusal.result c.refusal.ensures (λ e. c.in-Err.ensures.limit (ap (λ x. Err x) e))
