@@ -11,7 +11,7 @@ use Rattle.tree_core.specs.Trees.{Tree, relate}
 use Rattle.tree_core.specs.declared.test.RelateWord.{RelateWord}
 use Rattle.meaning_core.specs.Meanings.{meaning, plainly, known_in}
 use Rattle.meaning_core.specs.Names.{given}
-use Rattle.meaning_core.specs.Plainness.{IsPlainTest}
+use Rattle.algebra_core.specs.Plainness.{IsPlainTest}
 use Rattle.algebra_core.specs.Scopes.{all_of, with_of, value_of, known_at}
 use Rattle.meaning_core.specs.Truths.{truth_in, related_rows}
 use Rattle.algebra_core.specs.declared.scope.Scope.{Scope}

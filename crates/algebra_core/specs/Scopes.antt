@@ -2,7 +2,7 @@
 --     CanEvaluate      what an expression in a scope keeps
 --     CanLookUp      what an entry of a scope keeps
 --     known_at      what the names of a scope mean
-use Rattle.std.specs.Prelude.{ℕ, ◌+◌, [], take, Option, Some, None, option_map, IsTrue, if◌then◌else◌}
+use Rattle.std.specs.Prelude.{ℕ, ◌+◌, [], take, Option, Some, None, option_map, if◌then◌else◌}
 use Rattle.std.specs.Str.{bytes_eq}
 use Rattle.value_core.specs.Values.{Name, Relation}
 use Rattle.tree_core.specs.Relvars.{PlainRelvar, Entries, State, read_relvars}
@@ -11,7 +11,6 @@ use Rattle.algebra_core.specs.declared.scope.Scope.{Scope}
 use Rattle.meaning_core.specs.Meanings.{Known, RowsMeant, known_in, relvar_meaning}
 use Rattle.meaning_core.specs.Names.{IsFirstAt, given, given_relvar}
 use Rattle.meaning_core.specs.Sizes.{nodes, relvar_nodes, weight}
-use Rattle.meaning_core.specs.Plainness.{IsPlain, relvar_is_plain, plain_in}
 use Rattle.meaning_core.specs.Typing.{IsTypedTree}
 use Rattle.meaning_core.specs.WellMade.{sizes_of, headings_of, AreRelvars, IsGiven}
 
@@ -38,23 +37,21 @@ first_of s = take s.before (all_of s)
 abbrev pub known_at : Scope → Known
 known_at s = known_in (take s.before (given (with_of s) (value_of s) (all_of s)))
 
--- the expression is typed for the scope and plain, and the state keeps what declarations keep
+-- the expression is typed for the scope, and the state keeps what declarations keep
 pub record CanEvaluate (s : Scope) (t : Tree) : Type 0 where
   pub relvars : AreRelvars (sizes_of (state_of s).ordinals) [] (all_of s)
   pub given : IsGiven (all_of s) (with_of s) (value_of s)
   pub typed : IsTypedTree (sizes_of (state_of s).ordinals) (headings_of (first_of s)) t
-  pub plain : IsPlain (first_of s) t
 
 -- the scope of the entries before a place
 abbrev pub up_to : Scope → ℕ → Scope
 up_to s at = record s { before = at }
 
--- the name stands for the relvar or view at a place, which is plain
+-- the name stands for the relvar or view at a place
 pub record CanLookUp (s : Scope) (name : Name) (at : ℕ) (r : PlainRelvar) : Type 0 where
   pub relvars : AreRelvars (sizes_of (state_of s).ordinals) [] (all_of s)
   pub given : IsGiven (all_of s) (with_of s) (value_of s)
   pub first : IsFirstAt (all_of s) name at r
-  pub plain : IsTrue (relvar_is_plain (plain_in (take at (all_of s))) r)
 
 -- the value of a base relvar of this name, or the one that stands for it
 abbrev pub current : Option Name → Option Relation → Name → Relation → Relation

@@ -1,5 +1,5 @@
 // The calls of this crate.
-ghost use Rattle.std.specs.Prelude.{◌≡◌, Ok, not, option_map};
+ghost use Rattle.std.specs.Prelude.{◌≡◌, ◌≤◌, ◌+◌, Ok, not, option_map};
 ghost use Rattle.base_core.specs.Outcomes.{both, then_give};
 ghost use Rattle.relation_core.specs.Answers.{Answers, under};
 ghost use Rattle.value_core.specs.Values.{same_rows};
@@ -7,7 +7,7 @@ ghost use Rattle.tree_core.specs.Relvars.{read_relvars};
 ghost use Rattle.tree_core.specs.Trees.{read_tree, read_test, heading_of};
 ghost use Rattle.meaning_core.specs.Meanings.{meaning, meaning_in, plainly};
 ghost use Rattle.meaning_core.specs.Names.{given};
-ghost use Rattle.meaning_core.specs.Plainness.{IsPlain, IsPlainTest};
+ghost use Rattle.algebra_core.specs.Costs.{cost_in, test_cost};
 ghost use Rattle.algebra_core.specs.Scopes.{CanEvaluate, known_at};
 ghost use Rattle.meaning_core.specs.Truths.{truth_in, related_rows, no_rows, within};
 ghost use Rattle.meaning_core.specs.WellMade.{IsWellMade, IsTypedFor, IsTypedTestFor, IsGiven};
@@ -22,23 +22,21 @@ use value_core::{Name, Relation};
 
 /// The relation of an expression where these are the relvars and views, or its first fault. Where a base relvar and a value are
 /// given, this value stands for the relvar's, in views too.
-///
-/// For now the expression and the views that it names do without PACK, UNPACK and USING.
 pub fn eval<L: Ledger>(
     alloc: Global,
     tree: &RelTree,
     relvars: &Relvars,
     with: Option<&Name>,
     value: Option<&Relation>,
-    _steps: &mut Steps<L>,
+    steps: &mut Steps<L>,
 ) -> Result<Relation, Stop>
     requires well_made { IsWellMade (read_relvars relvars.now) }
     requires typed { IsTypedFor (read_relvars relvars.now) (read_tree tree.now) }
     requires given { IsGiven (read_relvars relvars.now).relvars (option_map (λ n. n.now) with) (option_map (λ v. v.now) value) }
-    requires plain { IsPlain (read_relvars relvars.now).relvars (read_tree tree.now) }
     ensures value { Answers result (under tree.now.heading
         (meaning_in (given (option_map (λ n. n.now) with.entry) (option_map (λ v. v.now) value.entry) (read_relvars relvars.now).relvars) (read_tree tree.now))) }
-    ensures steps { _steps.new ≡ _steps.old }
+    ensures cost { steps.new ≤ steps.old + cost_in
+        (given (option_map (λ n. n.now) with.entry) (option_map (λ v. v.now) value.entry) (read_relvars relvars.now).relvars) (read_tree tree.now) }
 {
     let scope = Scope {
         relvars,
@@ -50,19 +48,16 @@ pub fn eval<L: Ledger>(
 }
 
 /// Whether a test holds where these are the relvars and views, or its first fault.
-///
-/// For now its expressions and the views that these name do without PACK, UNPACK and USING, and so does the test.
 pub fn test<L: Ledger>(
     alloc: Global,
     test: &RelTest,
     relvars: &Relvars,
-    _steps: &mut Steps<L>,
+    steps: &mut Steps<L>,
 ) -> Result<bool, Stop>
     requires well_made { IsWellMade (read_relvars relvars.now) }
     requires typed { IsTypedTestFor (read_relvars relvars.now) (read_test test.now) }
-    requires plain { IsPlainTest (read_relvars relvars.now).relvars (read_test test.now) }
     ensures value { Answers result (truth_in (read_relvars relvars.now).relvars (read_test test.now)) }
-    ensures steps { _steps.new ≡ _steps.old }
+    ensures cost { steps.new ≤ steps.old + test_cost (read_relvars relvars.now).relvars (read_test test.now) }
 {
     let scope = Scope {
         relvars,

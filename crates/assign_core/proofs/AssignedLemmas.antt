@@ -1,6 +1,6 @@
 -- What assignments make of a state.
-use Rattle.std.proofs.Common.{◌≡◌, ℕ, ◌≤◌, Bool, true, false, cond, nat_le, List, [], ◌∷◌, map, replicate, refl, sym, ap, subst, ◌∙◌, arith, IsTrue, Option, Some, None, Ok, Err}
-use Rattle.std.specs.List.{All, AllByRecursion, list_all}
+use Rattle.std.proofs.Common.{◌≡◌, ℕ, ◌≤◌, Bool, true, false, cond, nat_le, List, [], ◌∷◌, map, replicate, refl, sym, ap, subst, ◌∙◌, arith, Option, Some, None, Ok, Err}
+use Rattle.std.specs.List.{All}
 use Rattle.std.proofs.lemmas.Bool.Decides.{nat_tests}
 use Rattle.std.proofs.lemmas.List.Elements.{All-nil, All-cons, All-head, All-tail}
 use Rattle.point_core.specs.declared.fault.Code.TheVariants.{E46}
@@ -15,15 +15,14 @@ use Rattle.value_core.specs.Values.{Relation}
 use Rattle.tree_core.specs.declared.declaration.Assignment.{Assignment}
 use Rattle.tree_core.specs.Items.{PlainAssignment, read_assignment}
 use Rattle.tree_core.specs.Relvars.{State, PlainRelvar, base, view, Entries}
-use Rattle.meaning_core.specs.Plainness.{IsPlainConstraint}
 use Rattle.assign_core.specs.Assignments.{evaluated, unless_broken, kept_or_refused, of_values, after_assignments, IsRefusedFor}
-use Rattle.assign_core.specs.Breaches.{rows_of_all, most_rows_of_all, first_broken, IsBuiltRelvar, AreBuilt}
-use Rattle.assign_core.specs.Changes.{Changes, AreChanges, changed, changed_relvar, Gives}
+use Rattle.assign_core.specs.Breaches.{rows_of_all, most_rows_of_all, first_broken}
+use Rattle.assign_core.specs.Changes.{Changes, AreChanges, changed, Gives}
 use Rattle.assign_core.specs.Checks.{IsChecked, AreChecked, AllChecked}
 use Rattle.assign_core.specs.Databases.{IsKept}
 use Rattle.assign_core.proofs.ChangeLemmas.{bare_changed, none_changed}
 use Rattle.assign_core.proofs.RemovedLemmas.{AreFitting, AllFit, constraints_of, all_fit}
-use Rattle.meaning_core.proofs.RowlessLemmas.{bare-keeps, plain-keeps}
+use Rattle.meaning_core.proofs.RowlessLemmas.{bare-keeps}
 
 -- ---- what is meant
 
@@ -65,34 +64,24 @@ is_fine (Ok n) new e = few_known n new (nat_le (rows_of_all n) most_rows_of_all)
 
 -- ---- what stays
 
-built_relvar : (c : Option Relation) (r : PlainRelvar) → IsBuiltRelvar r → IsBuiltRelvar (changed_relvar c r)
-built_relvar None r h = h
-built_relvar (Some value) (base old constraints) h = h
-built_relvar (Some value) (view t history) h = h
+each_checked : (all : Entries) (value : Relation) (own cs : List Constraint) → AreFitting all (base value own) cs → All (IsChecked all value.heading) cs
+each_checked all value own [] fit = All-nil (IsChecked all value.heading)
+each_checked all value own (c ∷ cs) fit =
+    All-cons (IsChecked all value.heading) c cs (record { names = fit.0.0; fits = fit.0.1 }) (each_checked all value own cs fit.1)
 
-built_changed : (cs : Changes) (es : Entries) → AreBuilt es → AreBuilt (changed cs es)
-built_changed [] es h = h
-built_changed (c ∷ cs) [] h = tt
-built_changed (c ∷ cs) (e ∷ es) h = (built_relvar c e.1 h.0, built_changed cs es h.1)
+relvar_checked : (all : Entries) (r : PlainRelvar) → AreFitting all r (constraints_of r) → AreChecked all r
+relvar_checked all (base value constraints) fit = each_checked all value constraints constraints fit
+relvar_checked all (view t history) fit = tt
 
-each_checked : (all : Entries) (value : Relation) (own cs : List Constraint) → AreFitting all (base value own) cs → AllByRecursion IsPlainConstraint cs → All (IsChecked all value.heading) cs
-each_checked all value own [] fit built = All-nil (IsChecked all value.heading)
-each_checked all value own (c ∷ cs) fit built =
-    All-cons (IsChecked all value.heading) c cs (record { names = fit.0.0; fits = fit.0.1; built = built.0 }) (each_checked all value own cs fit.1 built.1)
-
-relvar_checked : (all : Entries) (r : PlainRelvar) → AreFitting all r (constraints_of r) → IsBuiltRelvar r → AreChecked all r
-relvar_checked all (base value constraints) fit built = each_checked all value constraints constraints fit built
-relvar_checked all (view t history) fit built = tt
-
-all_checked : (all es : Entries) → AllFit all es → AreBuilt es → AllChecked all es
-all_checked all [] fit built = tt
-all_checked all (e ∷ es) fit built = (relvar_checked all e.1 fit.0 built.0, all_checked all es fit.1 built.1)
+all_checked : (all es : Entries) → AllFit all es → AllChecked all es
+all_checked all [] fit = tt
+all_checked all (e ∷ es) fit = (relvar_checked all e.1 fit.0, all_checked all es fit.1)
 
 pub kept_checked : (s : State) (cs : Changes) → IsKept s → AreChanges cs s.relvars → AllChecked (changed cs s.relvars) (changed cs s.relvars)
 kept_checked s cs kept are =
     let new = changed cs s.relvars in
     let made = bare-keeps s new (bare_changed cs s.relvars are) kept.well_made in
-    all_checked new new (all_fit (record s { relvars = new }) made) (built_changed cs s.relvars kept.built)
+    all_checked new new (all_fit (record s { relvars = new }) made)
 
 pub assigned_kept : (s : State) (cs : Changes) (list : List PlainAssignment) → IsKept s → AreChanges cs s.relvars → after_assignments s.relvars list ≡ Ok (changed cs s.relvars)
     → IsKept (record s { relvars = changed cs s.relvars })
@@ -102,8 +91,6 @@ assigned_kept s cs list kept are e =
     let fine = is_fine (evaluated s.relvars s.relvars list) new e in
     record {
       well_made = bare-keeps s new bare kept.well_made;
-      plain = subst (λ k. IsTrue (list_all (λ e. e.1) k)) (sym (plain-keeps new s.relvars bare)) kept.plain;
-      built = built_changed cs s.relvars kept.built;
       holds = fine.1;
       few = fine.0;
     }

@@ -9,10 +9,11 @@ use Rattle.value_core.specs.Values.{Name, Row}
 use Rattle.tree_core.specs.declared.declaration.Declaration.{Declaration}
 use Rattle.tree_core.specs.Relvars.{State, PlainRelvar, base, view, Entries, relvar_named}
 use Rattle.meaning_core.specs.Declarations.{PlainDeclaration, ordinal_type, base_relvar, view_relvar, with_declaration, read_declaration}
+use Rattle.meaning_core.specs.WellMade.{IsWellMade}
 use Rattle.u_constraints.specs.Constraints.{broken, names_relvar, rows_or_none}
 use Rattle.u_constraints.proofs.ConstraintLemmas.{broken_none}
 use Rattle.assign_core.specs.Breaches.{value_of, value_if, value_at, count_of, rows_of_all, rows_named, or_later, breach, first_of, first_in, first_among, first_broken}
-use Rattle.assign_core.specs.Databases.{IsKept, CanBecome, declared}
+use Rattle.assign_core.specs.Databases.{IsKept, declared}
 use Rattle.assign_core.specs.Parts.{names_in}
 use Rattle.assign_core.proofs.NameLemmas.{distinct_earlier, names_more}
 
@@ -178,11 +179,9 @@ rows_of_both (x ∷ xs) ys = let rest = rows_of_both xs ys in omega (arith, rest
 
 -- ---- databases
 
-pub declared_kept : (s now : State) (ds : List PlainDeclaration) → now ≡ declared s ds → IsKept s → CanBecome (declared s ds) → IsKept now
-declared_kept s now ds e kept can = subst IsKept (sym e) (record {
-  well_made = can.well_made;
-  plain = can.plain;
-  built = can.built;
+pub declared_kept : (s now : State) (ds : List PlainDeclaration) → now ≡ declared s ds → IsKept s → IsWellMade (declared s ds) → IsKept now
+declared_kept s now ds e kept made = subst IsKept (sym e) (record {
+  well_made = made;
   holds =
       let is = declared_added s ds in
       subst (λ (z : Entries). first_broken z ≡ None) (sym is)

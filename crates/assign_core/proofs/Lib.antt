@@ -1,6 +1,7 @@
 pub mod AssignedLemmas
 pub mod ChangeLemmas
 pub mod CheckLemmas
+pub mod CostLemmas
 pub mod CountLemmas
 pub mod DeclaredLemmas
 pub mod ExchangeLemmas

@@ -1,5 +1,5 @@
 -- What is left where a relvar or view is removed, and that each constraint finds the relvar that it names.
-use Rattle.std.proofs.Common.{◌≡◌, ℕ, ◌+◌, ◌≤◌, Bool, true, false, not, cond, List, [], ◌∷◌, ◌++◌, filter, refl, sym, ap, subst, ◌∙◌, arith, IsTrue, Option, Some, None}
+use Rattle.std.proofs.Common.{◌≡◌, ℕ, ◌+◌, ◌≤◌, Bool, true, false, not, cond, List, [], ◌∷◌, ◌++◌, filter, refl, sym, ap, subst, ◌∙◌, arith, Option, Some, None}
 use Rattle.std.specs.List.{All}
 use Rattle.std.specs.Str.{bytes_eq}
 use Rattle.std.proofs.lemmas.List.Elements.{All-head, All-tail}
@@ -11,9 +11,8 @@ use Rattle.meaning_core.specs.Declarations.{without}
 use Rattle.meaning_core.specs.WellMade.{IsBase, IsConstraint, IsRelvar, AreRelvars, FitsHeadings, IsWellMade, sizes_of}
 use Rattle.meaning_core.proofs.MadeLemmas.{same_name}
 use Rattle.u_constraints.specs.Constraints.{names_relvar, rows_or_none}
-use Rattle.assign_core.specs.Breaches.{value_if, value_at, count_of, rows_of_all, first_in, first_among, IsBuiltRelvar, AreBuilt}
+use Rattle.assign_core.specs.Breaches.{value_if, value_at, count_of, rows_of_all, first_in, first_among}
 use Rattle.assign_core.specs.Checks.{heading_at, NamesBase}
-use Rattle.meaning_core.specs.Plainness.{are_plain}
 use Rattle.assign_core.specs.Databases.{IsKept}
 use Rattle.assign_core.proofs.DeclaredLemmas.{NameTheSame, same_of, neither, none_of_two, in_turn}
 use Rattle.assign_core.proofs.NameLemmas.{turned}
@@ -153,19 +152,9 @@ module _ (name : Name) where
       by true ih = omega (arith, ih)
       by false ih = omega (arith, ih)
 
-  built_left : (es : Entries) → AreBuilt es → AreBuilt (left es)
-  built_left [] h = h
-  built_left (e ∷ es) h = by (bytes_eq e.0 name) h.0 (built_left es h.1)
-    where
-      by : (b : Bool) → IsBuiltRelvar e.1 → AreBuilt (left es) → AreBuilt (cond (not b) (e ∷ left es) (left es))
-      by true own ih = ih
-      by false own ih = (own, ih)
-
-pub removed_kept : (s now : State) (name : Name) → now ≡ without name s → IsKept s → IsWellMade (without name s) → IsTrue (are_plain (without name s).relvars) → IsKept now
-removed_kept s now name e kept made plain = subst IsKept (sym e) (record {
+pub removed_kept : (s now : State) (name : Name) → now ≡ without name s → IsKept s → IsWellMade (without name s) → IsKept now
+removed_kept s now name e kept made = subst IsKept (sym e) (record {
   well_made = made;
-  plain = plain;
-  built = built_left name s.relvars kept.built;
   holds = none_left name s.relvars s.relvars (all_fit (without name s) made) kept.holds;
   few =
       let fewer = fewer_rows name s.relvars in

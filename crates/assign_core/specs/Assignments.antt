@@ -15,7 +15,6 @@ use Rattle.tree_core.specs.Relvars.{Entries, State, relvar_named}
 use Rattle.tree_core.specs.Trees.{heading_of}
 use Rattle.meaning_core.specs.Meanings.{meaning_in}
 use Rattle.meaning_core.specs.Names.{given}
-use Rattle.meaning_core.specs.Plainness.{IsPlain}
 use Rattle.assign_core.specs.Breaches.{value_if, rows_of_all, most_rows_of_all, first_broken}
 
 -- ---- sources
@@ -36,10 +35,6 @@ with_target new name value = given (Some name) (Some value) new
 abbrev pub evaluated : Entries → Entries → List PlainAssignment → OrFault Entries
 evaluated old new [] = Ok new
 evaluated old new (a ∷ rest) = then_give (source_value old new a) (λ value. evaluated old (with_target new a.target value) rest)
-
--- the source has no PACK, UNPACK or USING, and so the views that it names
-abbrev pub IsPlainAssignment : State → PlainAssignment → Type 0
-IsPlainAssignment s a = IsPlain s.relvars a.tree
 
 -- ---- refusals
 

@@ -1,16 +1,13 @@
 -- The first broken constraint of a state, and how many rows a state has.
 --     rows_of_all      the rows of all base relvars, counted
 --     first_broken      the first broken constraint, by relvars in order of declaration and by number
---     AreBuilt      each constraint is of a form that is checked
 use Rattle.std.specs.Prelude.{ℕ, suc, ◌+◌, List, [], ◌∷◌, length, Option, Some, None, option_map}
-use Rattle.std.specs.List.{AllByRecursion}
 use Rattle.value_core.specs.declared.constraint.Constraint.{Constraint}
 use Rattle.value_core.specs.declared.refuse.Refuse.{Refuse}
 use Rattle.value_core.specs.declared.refuse.Refuse.TheVariants.{Broken}
 use Rattle.value_core.specs.Values.{Name, Row, Relation}
 use Rattle.tree_core.specs.Relvars.{PlainRelvar, base, view, Entries, relvar_named}
 use Rattle.u_constraints.specs.Constraints.{broken, names_relvar, rows_or_none}
-use Rattle.meaning_core.specs.Plainness.{IsPlainConstraint}
 
 -- ---- rows
 
@@ -71,14 +68,3 @@ first_among entries (r ∷ rest) = or_later (first_in entries r.0 r.1) (first_am
 -- the first broken constraint, by relvars in order of declaration and by number
 abbrev pub first_broken : Entries → Option Refuse
 first_broken entries = first_among entries entries
-
--- ---- what is checked
-
-abbrev pub IsBuiltRelvar : PlainRelvar → Type 0
-IsBuiltRelvar (base value constraints) = AllByRecursion IsPlainConstraint constraints
-IsBuiltRelvar (view t history) = Unit {0}
-
--- each constraint is of a form that is checked
-abbrev pub AreBuilt : Entries → Type 0
-AreBuilt [] = Unit {0}
-AreBuilt (r ∷ rest) = IsBuiltRelvar r.1 × AreBuilt rest

@@ -1,7 +1,7 @@
 -- The relvars after a change, and what a check of their constraints asks.
 --     after      the relvars with the values that stand ready
 --     can_break      whether the change can break a constraint
---     AllChecked      each constraint fits the headings that it is of, finds the relvar that it names, and is of a form that is checked
+--     AllChecked      each constraint fits the headings that it is of, and finds the relvar that it names
 use Rattle.std.specs.Prelude.{◌≡◌, Bool, false, ◌||◌, List, [], ◌∷◌, Option, Some, None, is_some, if◌then◌else◌}
 use Rattle.std.specs.List.{All}
 use Rattle.std.specs.Str.{bytes_eq}
@@ -10,7 +10,6 @@ use Rattle.value_core.specs.Values.{Name, Heading, Row, Relation}
 use Rattle.tree_core.specs.Relvars.{PlainRelvar, base, view, Entries, relvar_named, heading_if, read_relvars}
 use Rattle.meaning_core.specs.WellMade.{IsBase, FitsHeadings}
 use Rattle.u_constraints.specs.Constraints.{broken, names_relvar}
-use Rattle.meaning_core.specs.Plainness.{IsPlainConstraint}
 use Rattle.assign_core.specs.Breaches.{rows_named}
 use Rattle.assign_core.specs.declared.checking.After.{After}
 use Rattle.assign_core.specs.Changes.{Changes, changed}
@@ -29,7 +28,6 @@ NamesBase entries (Some name) = IsBase (relvar_named entries name)
 pub record IsChecked (entries : Entries) (heading : Heading) (c : Constraint) : Type 0 where
   pub names : NamesBase entries (names_relvar c)
   pub fits : FitsHeadings heading (heading_at entries (names_relvar c)) c
-  pub built : IsPlainConstraint c
 
 abbrev pub AreChecked : Entries → PlainRelvar → Type 0
 AreChecked entries (base value constraints) = All (IsChecked entries value.heading) constraints

@@ -1,31 +1,21 @@
 -- The states of databases.
 --     IsKept      what the state of a database keeps
 --     declared      the state with what a list declares
-use Rattle.std.specs.Prelude.{◌≡◌, ◌≤◌, List, [], None, fold, IsTrue}
+use Rattle.std.specs.Prelude.{◌≡◌, ◌≤◌, List, [], None, fold}
 use Rattle.tree_core.specs.Relvars.{State}
 use Rattle.meaning_core.specs.Declarations.{PlainDeclaration, with_declaration}
-use Rattle.meaning_core.specs.Plainness.{are_plain}
 use Rattle.meaning_core.specs.WellMade.{IsWellMade}
-use Rattle.assign_core.specs.Breaches.{rows_of_all, most_rows_of_all, first_broken, AreBuilt}
+use Rattle.assign_core.specs.Breaches.{rows_of_all, most_rows_of_all, first_broken}
 
 -- what a database begins with
 abbrev pub no_relvars : State
 no_relvars = record { ordinals = []; relvars = [] }
 
--- the state is well made, no view has PACK, UNPACK or USING, each constraint is of a form that is checked and holds, and the
--- base relvars have at most 200,000 rows together
+-- the state is well made, each constraint holds, and the base relvars have at most 200,000 rows together
 pub record IsKept (s : State) : Type 0 where
   pub well_made : IsWellMade s
-  pub plain : IsTrue (are_plain s.relvars)
-  pub built : AreBuilt s.relvars
   pub holds : first_broken s.relvars ≡ None
   pub few : rows_of_all s.relvars ≤ most_rows_of_all
-
--- what declarations ask for: the state with them is well made, its views are plain, and its constraints are checked
-pub record CanBecome (s : State) : Type 0 where
-  pub well_made : IsWellMade s
-  pub plain : IsTrue (are_plain s.relvars)
-  pub built : AreBuilt s.relvars
 
 -- the state with all that is declared, in the order of the list
 abbrev pub declared : State → List PlainDeclaration → State

@@ -2,5 +2,6 @@ pub mod Assignments
 pub mod Breaches
 pub mod Changes
 pub mod Checks
+pub mod Costs
 pub mod Databases
 pub mod Parts

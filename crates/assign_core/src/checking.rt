@@ -1,5 +1,5 @@
 // Constraints after a change.
-ghost use Rattle.std.specs.Prelude.{◌≡◌, ◌+◌, ◌<◌, ◌^◌, length, option_map, slice_index_or, is_some, None, Some, Err, IfOk};
+ghost use Rattle.std.specs.Prelude.{◌≡◌, ◌+◌, ◌<◌, ◌≤◌, ◌^◌, length, option_map, slice_index_or, is_some, None, Some, Err, IfOk};
 ghost use Rattle.std.specs.List.{All};
 ghost use Rattle.std.specs.Result.{result_err};
 ghost use Rattle.value_core.specs.declared.refuse.Refuse.TheVariants.{Broken};
@@ -9,6 +9,7 @@ ghost use Rattle.u_constraints.specs.Constraints.{broken, names_relvar};
 ghost use Rattle.assign_core.specs.Breaches.{first_broken, first_in, first_of, rows_named, value_at};
 ghost use Rattle.assign_core.specs.Changes.{AreChanges, Tells, changed_relvar};
 ghost use Rattle.assign_core.specs.Checks.{after, before, can_break, change_named, AllChecked, AreChecked, HeldBefore, IsChecked};
+ghost use Rattle.assign_core.specs.Costs.{cost_over, looked_at, looked_at_in, looked_at_all};
 
 use crate::changes::{current, newer};
 use point_core::{Code, Memory, Steps};
@@ -42,7 +43,7 @@ pub(crate) fn check<L: Ledger>(
     requires checked { AllChecked (after new) (after new) }
     requires held { first_broken (before new) ≡ None }
     ensures told { Tells result (first_broken (after new.entry)) }
-    ensures steps { steps.new ≡ steps.old }
+    ensures cost { steps.new ≤ steps.old + looked_at_all (after new.entry) (after new.entry) }
 {
     for at in 0..new.changes.len() {
         check_at(alloc, new, at, steps)?;
@@ -63,7 +64,7 @@ fn check_at<L: Ledger>(
     requires checked { (d : PlainName × PlainRelvar) → AreChecked (after new) (slice_index_or (after new) at d).1 }
     requires held { first_broken (before new) ≡ None }
     ensures told { (d : PlainName × PlainRelvar) → Tells result (first_in (after new.entry) (slice_index_or (after new.entry) at d).0 (slice_index_or (after new.entry) at d).1) }
-    ensures steps { steps.new ≡ steps.old }
+    ensures cost { (d : PlainName × PlainRelvar) → steps.new ≤ steps.old + looked_at_in (after new.entry) (slice_index_or (after new.entry) at d).1 }
 {
     match new.relvars.list.get_index(at) {
         Some((name, relvar)) => check_relvar(alloc, new, name, &new.changes[at], relvar, steps),
@@ -85,7 +86,7 @@ fn check_relvar<L: Ledger>(
     requires checked { AreChecked (after new) (changed_relvar change.now (read_relvar relvar.now)) }
     requires held { first_in (before new) name.now (read_relvar relvar.now) ≡ None }
     ensures told { Tells result (first_in (after new.entry) name.now (changed_relvar change.now (read_relvar relvar.now))) }
-    ensures steps { steps.new ≡ steps.old }
+    ensures cost { steps.new ≤ steps.old + looked_at_in (after new.entry) (changed_relvar change.now (read_relvar relvar.now)) }
 {
     match relvar {
         Relvar::Base { value, constraints } => {
@@ -116,7 +117,7 @@ fn check_list<L: Ledger>(
     requires checked { All (IsChecked (after new) own.of.now.heading) list.now }
     requires held { All (HeldBefore new own.changes own.of.now.rows) list.now }
     ensures told { Tells result (first_of (after new.entry) name.now own.entry.of.now.rows 1 list.now) }
-    ensures steps { steps.new ≡ steps.old }
+    ensures cost { steps.new ≤ steps.old + looked_at (after new.entry) own.entry.of.now.rows list.now }
 {
     for (at, constraint) in list.iter().enumerate() {
         let answer = check_one(alloc, new, own, constraint, steps)?;
@@ -140,7 +141,7 @@ fn check_one<L: Ledger>(
     requires checked { IsChecked (after new) own.of.now.heading constraint.now }
     requires held { HeldBefore new own.changes own.of.now.rows constraint.now }
     ensures answer { IfOk result (λ answer. result_err answer ≡ broken constraint.now own.entry.of.now.rows (rows_named (after new.entry) constraint.now)) }
-    ensures steps { steps.new ≡ steps.old }
+    ensures cost { steps.new ≤ steps.old + cost_over (after new.entry) own.entry.of.now.rows constraint.now }
 {
     if !can_break(new, own.changes, constraint) {
         return Ok(Ok(()));

@@ -1,14 +1,14 @@
 // The database.
-ghost use Rattle.std.specs.Prelude.{◌≡◌, map, take, OnOk, OnErr, IsOk, IsTrue};
+ghost use Rattle.std.specs.Prelude.{◌≡◌, ◌≤◌, ◌+◌, map, take, OnOk, OnErr, IsOk};
 ghost use Rattle.std.specs.List.{All};
 ghost use Rattle.tree_core.specs.Items.{read_assignment};
 ghost use Rattle.tree_core.specs.Relvars.{read_relvars};
 ghost use Rattle.meaning_core.specs.Declarations.{read_declaration, without};
-ghost use Rattle.meaning_core.specs.Plainness.{are_plain};
 ghost use Rattle.meaning_core.specs.WellMade.{IsWellMade};
 ghost use Rattle.meaning_core.specs.Updates.{IsTypedAssignment};
-ghost use Rattle.assign_core.specs.Assignments.{IsAssigned, IsPlainAssignment};
-ghost use Rattle.assign_core.specs.Databases.{no_relvars, declared, CanBecome, IsKept};
+ghost use Rattle.assign_core.specs.Assignments.{IsAssigned};
+ghost use Rattle.assign_core.specs.Costs.{assignments_cost};
+ghost use Rattle.assign_core.specs.Databases.{no_relvars, declared, IsKept};
 
 use crate::appending::append_all;
 use crate::exchange::exchange_all;
@@ -23,8 +23,6 @@ use value_core::{Name, OrdinalTypes, Refuse};
 
 /// The ordinal types, relvars and views. They are well made, each constraint holds, and the base relvars have at most 200,000
 /// rows together.
-///
-/// For now no view has PACK, UNPACK or USING, and each constraint is a KEY, or a FOREIGN KEY without USING.
 #[derive(Drop)]
 pub struct Database {
     alloc: Global,
@@ -72,7 +70,7 @@ impl Database {
 
     /// Declares all that the list says, or nothing for want of memory.
     pub fn declare(&mut self, list: Vec<Declaration>) -> Result<(), Memory>
-        requires { CanBecome (declared (read_relvars self.old) (map read_declaration list.items)) }
+        requires { IsWellMade (declared (read_relvars self.old) (map read_declaration list.items)) }
         ensures ok { OnOk result (read_relvars self.new ≡ declared (read_relvars self.old) (map read_declaration list.items)) }
         ensures err { OnErr result (read_relvars self.new ≡ read_relvars self.old) }
     {
@@ -96,9 +94,8 @@ impl Database {
         steps: &mut Steps<L>,
     ) -> Result<(), Refuse>
         requires typed { All (IsTypedAssignment (read_relvars self.old)) (map read_assignment list.now) }
-        requires plain { All (IsPlainAssignment (read_relvars self.old)) (map read_assignment list.now) }
         ensures assigned { IsAssigned result (read_relvars self.old) (read_relvars self.new) (map read_assignment list.now) }
-        ensures steps { steps.new ≡ steps.old }
+        ensures cost { steps.new ≤ steps.old + assignments_cost (read_relvars self.old).relvars (map read_assignment list.now) }
     {
         let changes = prepare(self.alloc, list, &self.relvars, steps)?;
         exchange_all(&mut self.relvars, changes);
@@ -108,7 +105,6 @@ impl Database {
     /// Removes the relvar or view of this name. The others keep their order.
     pub fn remove(&mut self, name: &Name) -> Result<(), Memory>
         requires well_made { IsWellMade (without name.now (read_relvars self.old)) }
-        requires plain { IsTrue (are_plain (without name.now (read_relvars self.old)).relvars) }
         ensures state { read_relvars self.new ≡ without name.now (read_relvars self.old) }
         ensures ok { IsOk result }
     {

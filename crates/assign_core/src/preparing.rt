@@ -1,13 +1,14 @@
 // What stands ready before anything changes.
-ghost use Rattle.std.specs.Prelude.{◌≡◌, map, None, Ok, IfOk, IfErr};
+ghost use Rattle.std.specs.Prelude.{◌≡◌, ◌≤◌, ◌+◌, map, None, Ok, IfOk, IfErr};
 ghost use Rattle.std.specs.List.{All};
 ghost use Rattle.tree_core.specs.Items.{read_assignment};
 ghost use Rattle.tree_core.specs.Relvars.{read_relvars};
 ghost use Rattle.meaning_core.specs.Updates.{IsTypedAssignment};
-ghost use Rattle.assign_core.specs.Assignments.{after_assignments, IsPlainAssignment, IsRefusedFor, IsAdmitted};
+ghost use Rattle.assign_core.specs.Assignments.{after_assignments, IsRefusedFor, IsAdmitted};
 ghost use Rattle.assign_core.specs.Breaches.{first_broken};
 ghost use Rattle.assign_core.specs.Changes.{AreChanges, changed};
 ghost use Rattle.assign_core.specs.Checks.{AllChecked};
+ghost use Rattle.assign_core.specs.Costs.{assignments_cost, constraints_cost};
 ghost use Rattle.assign_core.specs.Databases.{IsKept};
 
 use crate::changes::none_yet;
@@ -29,11 +30,10 @@ pub(crate) fn prepare<L: Ledger>(
 ) -> Result<Vec<Option<Relation>>, Refuse>
     requires kept { IsKept (read_relvars relvars.now) }
     requires typed { All (λ a. IsTypedAssignment (read_relvars relvars.now) (read_assignment a)) list.now }
-    requires plain { All (λ a. IsPlainAssignment (read_relvars relvars.now) (read_assignment a)) list.now }
     ensures changes { IfOk result (λ v. AreChanges v.items (read_relvars relvars.now).relvars) }
     ensures ready { IfOk result (λ v. after_assignments (read_relvars relvars.now).relvars (map read_assignment list.now) ≡ Ok (changed v.items (read_relvars relvars.now).relvars)) }
     ensures refused { IfErr result (λ refuse. IsRefusedFor refuse (after_assignments (read_relvars relvars.now).relvars (map read_assignment list.now))) }
-    ensures steps { steps.new ≡ steps.old }
+    ensures cost { steps.new ≤ steps.old + assignments_cost (read_relvars relvars.now).relvars (map read_assignment list.now) }
 {
     let mut changes = none_yet(alloc, relvars)?;
     evaluate(alloc, list, relvars, &mut changes, steps)?;
@@ -52,7 +52,7 @@ fn admit<L: Ledger>(
     requires checked { AllChecked (changed changes.now (read_relvars relvars.now).relvars) (changed changes.now (read_relvars relvars.now).relvars) }
     requires held { first_broken (read_relvars relvars.now).relvars ≡ None }
     ensures admitted { IsAdmitted result (changed changes.now (read_relvars relvars.now).relvars) }
-    ensures steps { steps.new ≡ steps.old }
+    ensures cost { steps.new ≤ steps.old + constraints_cost (changed changes.now (read_relvars relvars.now).relvars) }
 {
     if !are_few(relvars, changes) {
         return Err(Refuse::Plain(Code::E46));

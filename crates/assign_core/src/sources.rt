@@ -1,5 +1,5 @@
 // The values of sources.
-ghost use Rattle.std.specs.Prelude.{◌≡◌, ◌<◌, [], ◌∷◌, map, length};
+ghost use Rattle.std.specs.Prelude.{◌≡◌, ◌<◌, ◌≤◌, ◌+◌, [], ◌∷◌, map, length};
 ghost use Rattle.std.specs.List.{All};
 ghost use Rattle.relation_core.specs.Answers.{Answers};
 ghost use Rattle.tree_core.specs.Items.{read_assignment};
@@ -7,8 +7,9 @@ ghost use Rattle.tree_core.specs.Relvars.{read_relvars, PlainRelvar};
 ghost use Rattle.meaning_core.specs.Names.{IsFirstAt};
 ghost use Rattle.meaning_core.specs.Updates.{IsTypedAssignment};
 ghost use Rattle.meaning_core.specs.WellMade.{IsWellMade};
-ghost use Rattle.assign_core.specs.Assignments.{source_value, evaluated, IsPlainAssignment};
+ghost use Rattle.assign_core.specs.Assignments.{source_value, evaluated};
 ghost use Rattle.assign_core.specs.Changes.{AreChanges, changed, Gives};
+ghost use Rattle.assign_core.specs.Costs.{source_cost, sources_cost};
 
 use crate::changes::current;
 use algebra_core::eval;
@@ -28,12 +29,11 @@ pub(crate) fn evaluate<L: Ledger>(
 ) -> Result<(), Stop>
     requires well_made { IsWellMade (read_relvars relvars.now) }
     requires typed { All (λ a. IsTypedAssignment (read_relvars relvars.now) (read_assignment a)) list.now }
-    requires plain { All (λ a. IsPlainAssignment (read_relvars relvars.now) (read_assignment a)) list.now }
     requires changes { AreChanges changes.old.items (read_relvars relvars.now).relvars }
     ensures changes { AreChanges changes.new.items (read_relvars relvars.now).relvars }
     ensures value { Gives result (evaluated (read_relvars relvars.now).relvars (changed changes.old.items (read_relvars relvars.now).relvars) (map read_assignment list.now))
         (changed changes.new.items (read_relvars relvars.now).relvars) }
-    ensures steps { steps.new ≡ steps.old }
+    ensures cost { steps.new ≤ steps.old + sources_cost (read_relvars relvars.now).relvars (changed changes.old.items (read_relvars relvars.now).relvars) (map read_assignment list.now) }
 {
     for assignment in list {
         evaluate_one(alloc, assignment, relvars, changes, steps)?;
@@ -51,12 +51,11 @@ fn evaluate_one<L: Ledger>(
 ) -> Result<(), Stop>
     requires well_made { IsWellMade (read_relvars relvars.now) }
     requires typed { IsTypedAssignment (read_relvars relvars.now) (read_assignment assignment.now) }
-    requires plain { IsPlainAssignment (read_relvars relvars.now) (read_assignment assignment.now) }
     requires changes { AreChanges changes.old.items (read_relvars relvars.now).relvars }
     ensures changes { AreChanges changes.new.items (read_relvars relvars.now).relvars }
     ensures value { Gives result (evaluated (read_relvars relvars.now).relvars (changed changes.old.items (read_relvars relvars.now).relvars) (read_assignment assignment.now ∷ []))
         (changed changes.new.items (read_relvars relvars.now).relvars) }
-    ensures steps { steps.new ≡ steps.old }
+    ensures cost { steps.new ≤ steps.old + source_cost (read_relvars relvars.now).relvars (changed changes.old.items (read_relvars relvars.now).relvars) (read_assignment assignment.now) }
 {
     let value = source(alloc, assignment, relvars, changes.as_slice(), steps)?;
     let at = place(relvars, assignment);
@@ -74,10 +73,9 @@ fn source<L: Ledger>(
 ) -> Result<Relation, Stop>
     requires well_made { IsWellMade (read_relvars relvars.now) }
     requires typed { IsTypedAssignment (read_relvars relvars.now) (read_assignment assignment.now) }
-    requires plain { IsPlainAssignment (read_relvars relvars.now) (read_assignment assignment.now) }
     requires changes { AreChanges changes.now (read_relvars relvars.now).relvars }
     ensures value { Answers result (source_value (read_relvars relvars.now).relvars (changed changes.now (read_relvars relvars.now).relvars) (read_assignment assignment.now)) }
-    ensures steps { steps.new ≡ steps.old }
+    ensures cost { steps.new ≤ steps.old + source_cost (read_relvars relvars.now).relvars (changed changes.now (read_relvars relvars.now).relvars) (read_assignment assignment.now) }
 {
     match current(relvars, changes, &assignment.target) {
         Some(value) => eval(

@@ -9,4 +9,3 @@ mod MoreTypes
 pub mod OrdinalLaws
 pub mod ViewLaws
 pub mod DropLaws
-pub mod PlainLaws

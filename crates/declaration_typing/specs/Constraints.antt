@@ -1,8 +1,7 @@
 -- The typing of the constraints that are written with a relvar.
 --     constraint_typed state own heading constraint      over its own heading and that of the relvar it names
 --     constraints_typed      in their order, or the first refusal
-use Rattle.std.specs.Prelude.{ℕ, List, [], ◌∷◌, ◌++◌, Ok, Option, Some, None, slice_get, if◌then◌else◌, Bool, true, false}
-use Rattle.std.specs.List.{list_all}
+use Rattle.std.specs.Prelude.{ℕ, List, [], ◌∷◌, ◌++◌, Ok, Option, Some, None, slice_get, if◌then◌else◌}
 use Rattle.std.specs.Str.{bytes_eq}
 use Rattle.point_core.specs.declared.fault.Place.{Place}
 use Rattle.point_core.specs.declared.fault.Code.TheVariants.{E10, E12, E19, E20, E22}
@@ -147,16 +146,3 @@ refused_at (Some c) = refused (place_of c) E22
 
 abbrev pub few_constraints : List ConstraintP → OrFault (Unit {0})
 few_constraints constraints = refused_at (slice_get constraints 32)
-
--- ---- what is built
-
--- KEY, and FOREIGN KEY without USING
-abbrev pub is_built : ConstraintP → Bool
-is_built (syntax.KeyOf key) = true
-is_built (syntax.ForeignOf key) = true
-is_built (syntax.PackedOn at list) = false
-is_built (syntax.WhenUnpacked at list key) = false
-is_built (syntax.UsingConstraint at list c) = false
-
-abbrev pub are_built : List ConstraintP → Bool
-are_built constraints = list_all is_built constraints

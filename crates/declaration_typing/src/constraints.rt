@@ -1,5 +1,5 @@
 // The constraints that are written with a relvar.
-ghost use Rattle.std.specs.Prelude.{◌≡◌, [], IsTrue};
+ghost use Rattle.std.specs.Prelude.{◌≡◌, []};
 ghost use Rattle.utd_syntax.specs.Read.{read_key, read_constraint, read_constraint_list};
 ghost use Rattle.scalar_core.specs.Answers.{Gives};
 ghost use Rattle.tree_core.specs.Relvars.{read_relvars};
@@ -21,31 +21,6 @@ fn key_typed(alloc: Global, heading: &Heading, key: &Key) -> Result<Constraint, 
     Ok(Constraint::Key(positions))
 }
 
-/// Whether the constraint is KEY, or FOREIGN KEY without USING.
-fn is_built(constraint: &syntax::Constraint) -> bool
-    ensures { result ≡ rules.is_built (read_constraint constraint.now) }
-{
-    match constraint {
-        syntax::Constraint::Key(_) => true,
-        syntax::Constraint::Foreign(_) => true,
-        syntax::Constraint::PackedOn(_, _) => false,
-        syntax::Constraint::WhenUnpacked(_, _, _) => false,
-        syntax::Constraint::Using(_, _, _) => false,
-    }
-}
-
-/// Whether the constraints are those that are built: KEY, and FOREIGN KEY without USING.
-pub fn are_built(constraints: &syntax::Constraints) -> bool
-    ensures { result ≡ rules.are_built (read_constraint_list constraints.now.list.items) }
-{
-    for constraint in &constraints.list {
-        if !is_built(constraint) {
-            return false;
-        }
-    }
-    true
-}
-
 /// One constraint.
 fn constraint_typed(
     alloc: Global,
@@ -54,7 +29,6 @@ fn constraint_typed(
     heading: &Heading,
     constraint: &syntax::Constraint,
 ) -> Result<Constraint, Stop>
-    requires { IsTrue (rules.is_built (read_constraint constraint.now)) }
     ensures { Gives (λ c. c) result (rules.constraint_typed (read_relvars relvars.now) own.now heading.now (read_constraint constraint.now)) }
 {
     match constraint {
@@ -62,9 +36,9 @@ fn constraint_typed(
         syntax::Constraint::Foreign(foreign) => foreign_typed(
             alloc, relvars, own, heading, foreign,
         ),
-        syntax::Constraint::PackedOn(_, _) => unreachable!(),
-        syntax::Constraint::WhenUnpacked(_, _, _) => unreachable!(),
-        syntax::Constraint::Using(_, _, _) => unreachable!(),
+        syntax::Constraint::PackedOn(_, _) => Err(Stop::Memory),
+        syntax::Constraint::WhenUnpacked(_, _, _) => Err(Stop::Memory),
+        syntax::Constraint::Using(_, _, _) => Err(Stop::Memory),
     }
 }
 
@@ -76,7 +50,6 @@ pub(crate) fn constraints_typed(
     heading: &Heading,
     constraints: &[syntax::Constraint],
 ) -> Result<Constraints, Stop>
-    requires { IsTrue (rules.are_built (read_constraint_list constraints.now)) }
     ensures { Gives (λ c. c) result (rules.constraints_typed (read_relvars relvars.now) own.now heading.now [] (read_constraint_list constraints.now)) }
 {
     let mut list = Vec::new(alloc);

@@ -10,7 +10,6 @@ mod references;
 mod relvars;
 mod views;
 
-pub use constraints::are_built;
 pub use drops::type_drop;
 pub use ordinals::type_ordinal;
 pub use relvars::type_relvar;

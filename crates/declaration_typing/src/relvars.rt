@@ -5,7 +5,6 @@ ghost use Rattle.scalar_core.specs.Answers.{Gives};
 ghost use Rattle.scalar_typing.specs.Names.{AreOrdinals};
 ghost use Rattle.tree_core.specs.Relvars.{read_relvars};
 ghost use Rattle.meaning_core.specs.Declarations.{read_declaration};
-ghost use Rattle.declaration_typing.specs.Constraints.{are_built};
 ghost use Rattle.declaration_typing.specs.Relvars as rules;
 
 use crate::constraints::{constraints_typed, few_constraints};
@@ -29,7 +28,6 @@ pub fn type_relvar(
     relvars: &Relvars,
 ) -> Result<Declaration, Stop>
     requires ordinals { AreOrdinals (read_relvars relvars.now).ordinals }
-    requires built { IsTrue (are_built (read_constraint_list constraints.now.list.items)) }
     ensures { Gives read_declaration result (rules.relvar_declared (read_relvars relvars.now) (read_name word.now) (read_heading heading.now) (read_constraint_list constraints.now.list.items)) }
 {
     let written = constraints.list.as_slice();

@@ -1,8 +1,6 @@
 -- The typing of the items of an assignment: the typed item, or the first refusal. All items are typed for the same state.
 --     item_typed state x, items_typed state before items
---     is_plain_item      items without USING, PORTION and TERMINATE
-use Rattle.std.specs.Prelude.{Bool, true, false, List, [], ◌∷◌, ◌++◌, Ok, Some, None}
-use Rattle.std.specs.List.{list_all}
+use Rattle.std.specs.Prelude.{List, [], ◌∷◌, ◌++◌, Ok, Some, None}
 use Rattle.point_core.specs.declared.fault.Place.{Place}
 use Rattle.point_core.specs.declared.fault.Code.TheVariants.{E01}
 use Rattle.point_core.specs.Faults.{OrFault}
@@ -131,24 +129,3 @@ listed_items (syntax.Assign first more) = first ∷ more
 
 abbrev pub assignment_typed : State → AssignP → OrFault (List PlainItem)
 assignment_typed state assignment = items_typed state [] (listed_items assignment)
-
--- ---- items that are typed so far
-
-abbrev pub is_plain_deletion : DeletionP → Bool
-is_plain_deletion (syntax.DeletePortion p c) = false
-is_plain_deletion _ = true
-
-abbrev pub has_no_portion : MaybePortionP → Bool
-has_no_portion syntax.NoPortion = true
-has_no_portion (syntax.OfPortion at elements) = false
-
-abbrev pub is_plain_item : ItemP → Bool
-is_plain_item (syntax.SetRelvar w rel) = true
-is_plain_item (syntax.Insert at w rel) = true
-is_plain_item (syntax.Delete at w deletion) = is_plain_deletion deletion
-is_plain_item (syntax.Update at w p c sets) = has_no_portion p
-is_plain_item (syntax.Terminate at w at_place s c) = false
-is_plain_item (syntax.UsingItem at list item) = false
-
-abbrev pub is_plain_assignment : AssignP → Bool
-is_plain_assignment assignment = list_all is_plain_item (listed_items assignment)

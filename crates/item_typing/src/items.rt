@@ -1,10 +1,11 @@
 // The items of an assignment, all typed for the same relvars.
-ghost use Rattle.std.specs.Prelude.{◌≡◌, map, IsTrue};
-ghost use Rattle.std.specs.List.{list_all};
+ghost use Rattle.std.specs.Prelude.{◌≡◌, map};
+ghost use Rattle.point_core.specs.declared.fault.Code.TheVariants.{E01};
 ghost use Rattle.utd_syntax.specs.Plain.{NoPortion};
 ghost use Rattle.utd_syntax.specs.Read.{read_assign, read_condition, read_deletion, read_item, read_item_list, read_name, read_rel, read_sets};
 ghost use Rattle.scalar_core.specs.Answers.{Gives};
 ghost use Rattle.scalar_typing.specs.Names.{AreOrdinals};
+ghost use Rattle.scalar_typing.specs.Typings.{refused};
 ghost use Rattle.tree_core.specs.Items as typed;
 ghost use Rattle.tree_core.specs.Relvars.{read_relvars};
 ghost use Rattle.item_typing.specs.Items as rules;
@@ -13,7 +14,7 @@ use crate::changes::{condition_if, of_rows};
 use crate::sets::sets_made;
 use crate::targets::{Target, rows_typed, target_typed};
 use node_typing::condition_typed;
-use point_core::{Place, Stop};
+use point_core::{Code, Fault, Place, Stop};
 use std::alloc::Global;
 use tree_core::{Item, ItemForm, Items, Relvars};
 use utd_syntax as syntax;
@@ -66,8 +67,7 @@ fn type_deleted(
     deletion: &Deletion,
     relvars: &Relvars,
 ) -> Result<ItemForm, Stop>
-    requires plain { IsTrue (rules.is_plain_deletion (read_deletion deletion.now)) }
-    requires ordinals { AreOrdinals (read_relvars relvars.now).ordinals }
+    requires { AreOrdinals (read_relvars relvars.now).ordinals }
     ensures { Gives typed.read_item_form result (rules.deletion_typed (read_relvars relvars.now) (read_name word.now) heading.now (read_deletion deletion.now)) }
 {
     match deletion {
@@ -75,7 +75,7 @@ fn type_deleted(
             let c = condition_typed(alloc, &relvars.ordinals, *place, heading, scalar)?;
             Ok(ItemForm::DeleteRows(of_rows(Some(c))))
         }
-        Deletion::Portion(_, _) => unreachable!(),
+        Deletion::Portion(_, _) => Err(Stop::Memory),
         Deletion::Rows(rel) => {
             let t = rows_typed(alloc, word, heading, rel, relvars)?;
             Ok(ItemForm::Delete(None, t))
@@ -91,8 +91,7 @@ fn type_deletion(
     deletion: &Deletion,
     relvars: &Relvars,
 ) -> Result<Item, Stop>
-    requires plain { IsTrue (rules.is_plain_deletion (read_deletion deletion.now)) }
-    requires ordinals { AreOrdinals (read_relvars relvars.now).ordinals }
+    requires { AreOrdinals (read_relvars relvars.now).ordinals }
     ensures { Gives typed.read_item result (rules.deletion_item_typed (read_relvars relvars.now) place (read_name word.now) (read_deletion deletion.now)) }
 {
     let target = target_typed(alloc, word, relvars)?;
@@ -138,12 +137,19 @@ fn type_update(
     Ok(item_of(place, target, form))
 }
 
+/// TERMINATE, which is refused at its first token.
+fn type_ending(place: Place) -> Result<Item, Stop>
+    ensures { Gives typed.read_item result (refused place E01) }
+{
+    Err(Stop::Fault(Fault {
+        place,
+        code: Code::E01,
+    }))
+}
+
 /// The typed item where these are the relvars, views and ordinal types, or its first refusal with its place.
-///
-/// For now of items without USING and PORTION, and of those other than TERMINATE.
 pub fn type_item(alloc: Global, item: &syntax::Item, relvars: &Relvars) -> Result<Item, Stop>
-    requires plain { IsTrue (rules.is_plain_item (read_item item.now)) }
-    requires ordinals { AreOrdinals (read_relvars relvars.now).ordinals }
+    requires { AreOrdinals (read_relvars relvars.now).ordinals }
     ensures typing { Gives typed.read_item result (rules.item_typed (read_relvars relvars.now) (read_item item.now)) }
 {
     match item {
@@ -155,8 +161,9 @@ pub fn type_item(alloc: Global, item: &syntax::Item, relvars: &Relvars) -> Resul
         syntax::Item::Update(place, word, MaybePortion::None, condition, sets) => type_update(
             alloc, *place, word, condition, sets, relvars,
         ),
-        syntax::Item::Update(_, _, MaybePortion::Of(_, _), _, _) => unreachable!(),
-        syntax::Item::Terminate(_, _, _, _, _) | syntax::Item::Using(_, _, _) => unreachable!(),
+        syntax::Item::Update(_, _, MaybePortion::Of(_, _), _, _) => Err(Stop::Memory),
+        syntax::Item::Terminate(place, _, _, _, _) => type_ending(*place),
+        syntax::Item::Using(_, _, _) => Err(Stop::Memory),
     }
 }
 
@@ -167,8 +174,7 @@ fn more_items(
     list: &[syntax::Item],
     relvars: &Relvars,
 ) -> Result<Vec<Item>, Stop>
-    requires plain { IsTrue (list_all rules.is_plain_item (read_item_list list.now)) }
-    requires ordinals { AreOrdinals (read_relvars relvars.now).ordinals }
+    requires { AreOrdinals (read_relvars relvars.now).ordinals }
     ensures { Gives (λ v. map typed.read_item v.items) result (rules.items_typed (read_relvars relvars.now) (map typed.read_item before.items) (read_item_list list.now)) }
 {
     let mut items = before;
@@ -180,11 +186,8 @@ fn more_items(
 }
 
 /// The typed items of an assignment, all for the same relvars, views and ordinal types, or the first refusal with its place.
-///
-/// For now of items without USING and PORTION, and of those other than TERMINATE.
 pub fn type_items(alloc: Global, assignment: &Assignment, relvars: &Relvars) -> Result<Items, Stop>
-    requires plain { IsTrue (rules.is_plain_assignment (read_assign assignment.now)) }
-    requires ordinals { AreOrdinals (read_relvars relvars.now).ordinals }
+    requires { AreOrdinals (read_relvars relvars.now).ordinals }
     ensures typing { Gives (map typed.read_item) result (rules.assignment_typed (read_relvars relvars.now) (read_assign assignment.now)) }
 {
     let first = type_item(alloc, &assignment.first, relvars)?;

@@ -1,9 +1,8 @@
--- Whether a state is well made, and which views are plain, does not turn on the rows of its relvars.
+-- Whether a state is well made does not turn on the rows of its relvars.
 --     bare, bare_all      relvars without their rows
 --     bare-keeps      a state stays well made where its relvars differ in their rows alone
 --     given-keeps, given_each-keeps      other values of the same headings are such a difference
 --     headings-keep, heading-keeps ..      the same is looked up in states that differ so
---     plain-keeps, plain_in-given      and no view becomes plain or ceases to be
 --     nothing-well_made      the state of no relvars is well made
 use Rattle.std.proofs.Common.{◌≡◌, ℕ, Bool, true, false, List, [], ◌∷◌, ◌++◌, map, cond, refl, sym, ap, ap₂, ◌∙◌, subst, arith, true≢false, IsTrue, Option, Some, None, option_map}
 use Rattle.std.specs.List.{All, AllByRecursion, IsDistinct}
@@ -18,7 +17,6 @@ use Rattle.tree_core.specs.Relvars.{PlainRelvar, base, view, Entries, State, rel
 use Rattle.tree_core.specs.Trees.{Tree, named}
 use Rattle.meaning_core.specs.Histories.{joined_history, last_point, type_at, name_at}
 use Rattle.meaning_core.specs.Names.{each_after, given, given_relvar, with_value}
-use Rattle.meaning_core.specs.Plainness.{relvar_is_plain, plain_in}
 use Rattle.meaning_core.specs.Typing.{is_declared, IsTypedTree}
 use Rattle.meaning_core.specs.WellMade.{sizes_of, headings_of, all_names, IsBase, FitsHeadings, FitsNamed, IsConstraint, rule_among, IsOfRule, IsHistory, IsRelvar, AreRelvars, IsWellMade, IsGiven}
 use Rattle.meaning_core.proofs.MadeLemmas.{same_name, own_name}
@@ -270,50 +268,6 @@ given_each-same s (c ∷ changes) h g =
 pub given_each-keeps : (s : State) (changes : List (Name × Relation)) → IsWellMade s → HaveHeadings s.relvars changes
     → IsWellMade (record s { relvars = given_each changes s.relvars })
 given_each-keeps s changes h g = bare-keeps s (given_each changes s.relvars) (given_each-same s changes h g) h
-
--- ---- which views are plain
-
-plain-bare : (known : List (Name × Bool)) (r : PlainRelvar) → relvar_is_plain known (bare r) ≡ relvar_is_plain known r
-plain-bare known (base value constraints) = refl
-plain-bare known (view t history) = refl
-
-plain_after-bare : (known : List (Name × Bool)) (entries : Entries) → each_after relvar_is_plain known (bare_all entries) ≡ each_after relvar_is_plain known entries
-plain_after-bare known [] = refl
-plain_after-bare known (r ∷ rest) =
-    ap (λ b. each_after relvar_is_plain (known ++ (r.0, b) ∷ []) (bare_all rest)) (plain-bare known r.1)
-    ∙ plain_after-bare (known ++ (r.0, relvar_is_plain known r.1) ∷ []) rest
-
-pub plain_in-bare : (entries : Entries) → plain_in (bare_all entries) ≡ plain_in entries
-plain_in-bare entries = plain_after-bare [] entries
-
--- the same views are plain in states that differ in their rows alone
-pub plain-keeps : (entries old : Entries) → bare_all entries ≡ bare_all old → plain_in entries ≡ plain_in old
-plain-keeps entries old e = sym (plain_in-bare entries) ∙ (ap plain_in e ∙ plain_in-bare old)
-
-plain-with_value : (known : List (Name × Bool)) (value : Relation) (r : PlainRelvar) → relvar_is_plain known (with_value value r) ≡ relvar_is_plain known r
-plain-with_value known value (base old constraints) = refl
-plain-with_value known value (view t history) = refl
-
-plain-given_relvar : (known : List (Name × Bool)) (with : Option Name) (value : Option Relation) (name : Name) (r : PlainRelvar)
-    → relvar_is_plain known (given_relvar with value name r) ≡ relvar_is_plain known r
-plain-given_relvar known None value name r = refl
-plain-given_relvar known (Some with) None name r = refl
-plain-given_relvar known (Some with) (Some value) name r =
-    elim (bytes_eq name with) as (λ b. relvar_is_plain known (cond b (with_value value r) r) ≡ relvar_is_plain known r) [
-      | true ↦ plain-with_value known value r
-      | false ↦ refl
-    ]
-
-plain_after-given : (known : List (Name × Bool)) (with : Option Name) (value : Option Relation) (entries : Entries)
-    → each_after relvar_is_plain known (given with value entries) ≡ each_after relvar_is_plain known entries
-plain_after-given known with value [] = refl
-plain_after-given known with value (r ∷ rest) =
-    ap (λ b. each_after relvar_is_plain (known ++ (r.0, b) ∷ []) (given with value rest)) (plain-given_relvar known with value r.0 r.1)
-    ∙ plain_after-given (known ++ (r.0, relvar_is_plain known r.1) ∷ []) with value rest
-
--- given values change no view
-pub plain_in-given : (with : Option Name) (value : Option Relation) (entries : Entries) → plain_in (given with value entries) ≡ plain_in entries
-plain_in-given with value entries = plain_after-given [] with value entries
 
 -- ---- the state of nothing
 

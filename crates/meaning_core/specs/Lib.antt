@@ -1,9 +1,9 @@
 pub mod Declarations
+pub mod Endings
 pub mod Histories
 pub mod Meanings
 pub mod Names
 pub mod Places
-pub mod Plainness
 pub mod Rows
 pub mod Scalars
 pub mod Sizes

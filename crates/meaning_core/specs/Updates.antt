@@ -1,12 +1,13 @@
 -- Which items and assignments are typed for a state.
 --     swept_list      the attributes on which a change works point by point
---     IsTypedItem      of items other than TERMINATE: the target is a base relvar of the item's heading, and its parts are typed
+--     IsTypedItem      of items: the target is a base relvar of the item's heading, or the view of a history, and its parts are typed
 --     IsTypedAssignment      of assignments: the target is a base relvar, and the expression has its heading
 use Rattle.std.specs.Prelude.{◌≡◌, ℕ, Bool, not, true, ◌&&◌, List, [], ◌∷◌, map, Option, Some, None, IsTrue}
 use Rattle.std.specs.List.{list_all, list_any, All}
 use Rattle.value_core.specs.declared.kind.Kind.TheVariants.{Truth}
 use Rattle.value_core.specs.Attributes.{among}
-use Rattle.value_core.specs.Values.{Heading}
+use Rattle.value_core.specs.declared.constraint.HistoryRule.{HistoryRule}
+use Rattle.value_core.specs.Values.{Name, Heading}
 use Rattle.scalar_core.specs.Expressions.{Expr}
 use Rattle.relation_core.specs.Agreement.{position_of}
 use Rattle.relation_core.specs.Parts.{kind_at}
@@ -14,6 +15,7 @@ use Rattle.tree_core.specs.Relvars.{State, relvar_named, heading_if}
 use Rattle.tree_core.specs.Trees.{PlainSets, heading_of}
 use Rattle.tree_core.specs.Items.{PlainPortion, PlainChange, PlainItemForm, set_to, insert, delete, delete_rows, update, terminate, PlainItem, PlainAssignment}
 use Rattle.meaning_core.specs.Typing.{IsScalar, IsExtension, IsList, IsListIf, is_span, is_swept}
+use Rattle.meaning_core.specs.Endings.{history_of, rule_of}
 use Rattle.meaning_core.specs.WellMade.{IsBase, IsTypedFor, sizes_of}
 
 -- ---- changes of rows
@@ -65,21 +67,31 @@ are_swept_sets heading (Some acl) sets =
 
 -- ---- items
 
--- the parts of an item are typed for a target of the heading
-abbrev pub IsTypedForm : State → Heading → PlainItemForm → Type 0
-IsTypedForm s heading (set_to t) = IsTypedFor s t × (heading_of t ≡ heading)
-IsTypedForm s heading (insert acl t) = IsTypedFor s t × (heading_of t ≡ heading) × IsListIf heading acl
-IsTypedForm s heading (delete acl t) = IsTypedFor s t × (heading_of t ≡ heading) × IsListIf heading acl
-IsTypedForm s heading (delete_rows c) = IsChange (sizes_of s.ordinals) heading c
-IsTypedForm s heading (update c sets) =
-    IsChange (sizes_of s.ordinals) heading c × IsExtension (sizes_of s.ordinals) heading heading sets
-    × IsTrue (are_swept_sets heading (swept_list c.acl c.portion) sets)
-IsTypedForm s heading (terminate at place c) = ⊥
+-- the base relvar or the view that an item is of
+abbrev pub IsBaseOf : State → Name → Heading → Type 0
+IsBaseOf s target heading = IsBase (relvar_named s.relvars target) × (heading ≡ heading_if (relvar_named s.relvars target))
 
-pub record IsTypedItem (s : State) (i : PlainItem) : Type 0 where
-  pub base : IsBase (relvar_named s.relvars i.target)
-  pub headed : i.heading ≡ heading_if (relvar_named s.relvars i.target)
-  pub form : IsTypedForm s i.heading i.form
+-- an ending is of the view of a history: its point is one of the since relvar's, and its condition is over that relvar's rows
+abbrev pub IsEnding : State → Option HistoryRule → Option (Name × Name) → Expr → Option Expr → Type 0
+IsEnding s rule None e c = ⊥
+IsEnding s None (Some names) e c = ⊥
+IsEnding s (Some rule) (Some names) e c =
+    let since = heading_if (relvar_named s.relvars names.0) in
+    IsScalar (sizes_of s.ordinals) [] e (kind_at since rule.point_there) × IsConditionIf (sizes_of s.ordinals) since c
+
+-- the parts of an item are typed for its target, which is a base relvar; that of an ending is the view of a history
+abbrev pub IsTypedForm : State → Name → Heading → PlainItemForm → Type 0
+IsTypedForm s target heading (set_to t) = IsBaseOf s target heading × IsTypedFor s t × (heading_of t ≡ heading)
+IsTypedForm s target heading (insert acl t) = IsBaseOf s target heading × IsTypedFor s t × (heading_of t ≡ heading) × IsListIf heading acl
+IsTypedForm s target heading (delete acl t) = IsBaseOf s target heading × IsTypedFor s t × (heading_of t ≡ heading) × IsListIf heading acl
+IsTypedForm s target heading (delete_rows c) = IsBaseOf s target heading × IsChange (sizes_of s.ordinals) heading c
+IsTypedForm s target heading (update c sets) =
+    IsBaseOf s target heading × IsChange (sizes_of s.ordinals) heading c × IsExtension (sizes_of s.ordinals) heading heading sets
+    × IsTrue (are_swept_sets heading (swept_list c.acl c.portion) sets)
+IsTypedForm s target heading (terminate e place c) = IsEnding s (rule_of s.relvars target) (history_of s.relvars target) e c
+
+abbrev pub IsTypedItem : State → PlainItem → Type 0
+IsTypedItem s i = IsTypedForm s i.target i.heading i.form
 
 -- ---- assignments
 

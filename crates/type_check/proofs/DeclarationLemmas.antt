@@ -1,5 +1,5 @@
--- What declarations and drops make of a well made state is well made, and plain where they are.
-use Rattle.std.specs.Prelude.{List, Ok, Err, IfOk, IsTrue}
+-- What declarations and drops make of a well made state is well made.
+use Rattle.std.specs.Prelude.{List, Ok, Err, IfOk}
 use Rattle.point_core.specs.Faults.{OrFault}
 use Rattle.utd_syntax.specs.Plain.{Word, NameListP, SomeNamesP, HeadingP, ConstraintP, RelP}
 use Rattle.value_core.specs.Values.{Name, Heading}
@@ -15,15 +15,11 @@ use Rattle.declaration_typing.specs.Relvars.{relvar_declared}
 use Rattle.declaration_typing.specs.Views.{view_declared}
 use Rattle.declaration_typing.proofs.DropLaws.{dropped-kept}
 use Rattle.declaration_typing.proofs.OrdinalLaws.{ordinal-kept}
-use Rattle.declaration_typing.proofs.PlainLaws.{ordinal-plain, relvar-plain, view-plain, without-plain}
 use Rattle.declaration_typing.proofs.RelvarLaws.{relvar-kept}
 use Rattle.declaration_typing.proofs.ViewLaws.{view-kept}
 use Rattle.type_check.proofs.ListLemmas.{AreListed, list-sound, left-list}
 use Rattle.type_check.proofs.LiteralLemmas.{heading-declared}
-use Rattle.type_check.proofs.PlainLemmas.{tree-plain}
 use Rattle.type_check.proofs.TreeLemmas.{tree-sound}
-use Rattle.type_check.specs.Plainness.{is_plain_rel}
-use Rattle.meaning_core.specs.Plainness.{are_plain}
 
 -- a list over one heading
 list-made : (to : Heading) (list : NameListP) → IfOk (list_checked to to list) (λ (names : List Name). IsList to (positions_of to names))
@@ -45,16 +41,3 @@ module _ (state : State) (made : IsWellMade state) where
 
   pub drop-made : (w : Word) → IfOk (dropped state w) (λ name. IsWellMade (without name state))
   drop-made w = dropped-kept state w made
-
-module _ (state : State) (views : IsTrue (are_plain state.relvars)) where
-  pub ordinal-stays-plain : (w : Word) (list : SomeNamesP) → IfOk (ordinal_declared state w list) (λ d. IsTrue (are_plain (with_declaration state d).relvars))
-  ordinal-stays-plain w list = ordinal-plain state views w list
-
-  pub relvar-stays-plain : (w : Word) (h : HeadingP) (list : List ConstraintP) → IfOk (relvar_declared state w h list) (λ d. IsTrue (are_plain (with_declaration state d).relvars))
-  relvar-stays-plain w h list = relvar-plain state views w h list
-
-  pub view-stays-plain : (w : Word) (rel : RelP) → IsTrue (is_plain_rel rel) → IfOk (view_declared state w rel) (λ d. IsTrue (are_plain (with_declaration state d).relvars))
-  view-stays-plain w rel plain = view-plain state views w rel (tree-plain state views rel plain)
-
-  pub drop-stays-plain : (name : Name) → IsTrue (are_plain (without name state).relvars)
-  drop-stays-plain name = without-plain state views name

@@ -25,10 +25,10 @@ use Rattle.scalar_typing.specs.Typings.{◌>>=◌, value_or}
 use Rattle.scalar_typing.proofs.SoundLemmas.{then-sound}
 use Rattle.tree_core.specs.Relvars.{PlainRelvar, base, view, State, relvar_named, relvar_heading, heading_if}
 use Rattle.tree_core.specs.Trees.{PlainSets, named, heading_of}
-use Rattle.tree_core.specs.Items.{PlainPortion, PlainItemForm, set_to, insert, update, PlainItem}
+use Rattle.tree_core.specs.Items.{PlainPortion, PlainItemForm, update, PlainItem}
 use Rattle.meaning_core.specs.Meanings.{positions_of}
 use Rattle.meaning_core.specs.Typing.{IsScalar, IsExtension, is_swept, heading_named}
-use Rattle.meaning_core.specs.Updates.{attributes_of_portion, IsPortionIf, IsConditionIf, IsChange, condition_is_swept, are_swept_sets, IsTypedForm, IsTypedItem}
+use Rattle.meaning_core.specs.Updates.{attributes_of_portion, IsPortionIf, IsConditionIf, IsChange, condition_is_swept, are_swept_sets, IsBaseOf, IsTypedForm, IsTypedItem}
 use Rattle.meaning_core.specs.WellMade.{sizes_of, headings_of, IsBase, IsWellMade, IsTypedFor}
 use Rattle.node_typing.specs.Lists.{list_checked}
 use Rattle.node_typing.specs.Positions.{check}
@@ -91,7 +91,7 @@ points-sound heading names c items sets listed known assigned =
 
 -- the name of a base relvar, with its heading
 abbrev pub IsTarget : State → Target → Type 0
-IsTarget s t = IsBase (relvar_named s.relvars t.0) × (t.1 ≡ heading_if (relvar_named s.relvars t.0))
+IsTarget s t = IsBaseOf s t.0 t.1
 
 plain-change : (sizes : List ℕ) (heading : Heading) (c : Option Expr) → IsConditionIf sizes heading c → IsChange sizes heading (change None None c)
 plain-change sizes heading None h = record { acl = tt; portion = tt; condition = tt; swept = refl }
@@ -154,113 +154,110 @@ module _ (state : State) (made : IsWellMade state) where
   names-known heading names None portion = absurd portion
   names-known heading names (Some m) portion = portion.1.known
 
-  portion-update : (heading : Heading) (names : List Name) (o : Option PlainPortion) (c : Option Expr) (sets : PlainSets) → IsPortionOf heading names o
+  portion-update : (name : Name) (heading : Heading) (names : List Name) (o : Option PlainPortion) (c : Option Expr) (sets : PlainSets) → IsBaseOf state name heading → IsPortionOf heading names o
       → IsConditionIf (sizes_of state.ordinals) heading c → IsExtension (sizes_of state.ordinals) heading heading sets → WorksAtPoints heading names c sets
-      → IsTypedForm state heading (update (change None o c) sets)
-  portion-update heading names None c sets portion h is swept = absurd portion
-  portion-update heading names (Some m) c sets portion h is swept =
+      → IsTypedForm state name heading (update (change None o c) sets)
+  portion-update name heading names None c sets there portion h is swept = absurd portion
+  portion-update name heading names (Some m) c sets there portion h is swept =
       let both = portion-change heading names m c sets portion.0 portion.1 h swept in
-      (both.0, is, both.1)
+      (there, both.0, is, both.1)
 
-  deletion-sound : (w : Word) (heading : Heading) (d : DeletionP) → IsTrue (is_heading heading) → IfOk (deletion_typed state w heading d) (IsTypedForm state heading)
-  deletion-sound w heading (syntax.DeleteWhere at s) headed =
-      then-sound (λ (c : Expr). IsScalar (sizes_of state.ordinals) heading c Truth) (IsTypedForm state heading) (condition_typed state.ordinals at heading s) _
-      (condition-sound state.ordinals made.ordinals at heading s) (λ c is. plain-change (sizes_of state.ordinals) heading (Some c) is)
-  deletion-sound w heading (syntax.DeletePortion (syntax.Portion at elements) condition) headed =
-      then-sound (λ (m : PlainPortion). IsPortionIf (sizes_of state.ordinals) heading None (Some m) × AreNamed heading (portion_names elements) (attributes_of_portion m)) (IsTypedForm state heading)
+  deletion-sound : (w : Word) (name : Name) (heading : Heading) (d : DeletionP) → IsBaseOf state name heading → IsTrue (is_heading heading) → IfOk (deletion_typed state w heading d) (IsTypedForm state name heading)
+  deletion-sound w name heading (syntax.DeleteWhere at s) there headed =
+      then-sound (λ (c : Expr). IsScalar (sizes_of state.ordinals) heading c Truth) (IsTypedForm state name heading) (condition_typed state.ordinals at heading s) _
+      (condition-sound state.ordinals made.ordinals at heading s) (λ c is. (there, plain-change (sizes_of state.ordinals) heading (Some c) is))
+  deletion-sound w name heading (syntax.DeletePortion (syntax.Portion at elements) condition) there headed =
+      then-sound (λ (m : PlainPortion). IsPortionIf (sizes_of state.ordinals) heading None (Some m) × AreNamed heading (portion_names elements) (attributes_of_portion m)) (IsTypedForm state name heading)
       (portion_typed state.ordinals heading elements) _ (portion-sound state.ordinals made.ordinals heading (heading_ascends heading headed) elements) (λ m portion.
-      then-sound (IsConditionIf (sizes_of state.ordinals) heading) (IsTypedForm state heading) (condition_if state.ordinals heading condition) _ (condition-if-sound heading condition) (λ c h.
-      then-sound (λ _. WorksAtPoints heading (portion_names elements) c []) (IsTypedForm state heading) (works_at_points heading (Some (portion_names elements)) c [] []) _
+      then-sound (IsConditionIf (sizes_of state.ordinals) heading) (IsTypedForm state name heading) (condition_if state.ordinals heading condition) _ (condition-if-sound heading condition) (λ c h.
+      then-sound (λ _. WorksAtPoints heading (portion_names elements) c []) (IsTypedForm state name heading) (works_at_points heading (Some (portion_names elements)) c [] []) _
       (points-sound heading (portion_names elements) c [] [] portion.1.known (λ s i. absurd i) (λ s i. absurd i))
-      (λ _ swept. (portion-change heading (portion_names elements) m c [] portion.0 portion.1 h swept).0)))
-  deletion-sound w heading (syntax.DeleteRows rel) headed =
-      then-sound (λ t. IsTypedFor state t × (heading_of t ≡ heading)) (IsTypedForm state heading) (rows_typed state w heading rel) _ (rows-sound w heading rel) (λ t h. (h.0, h.1, tt))
+      (λ _ swept. (there, (portion-change heading (portion_names elements) m c [] portion.0 portion.1 h swept).0))))
+  deletion-sound w name heading (syntax.DeleteRows rel) there headed =
+      then-sound (λ t. IsTypedFor state t × (heading_of t ≡ heading)) (IsTypedForm state name heading) (rows_typed state w heading rel) _ (rows-sound w heading rel) (λ t h. (there, h.0, h.1, tt))
 
-  update-sound : (heading : Heading) (p : MaybePortionP) (c : ConditionP) (sets : SetsP) → IsTrue (is_heading heading) → IfOk (update_typed state heading p c sets) (IsTypedForm state heading)
-  update-sound heading syntax.NoPortion c sets headed =
-      then-sound (IsConditionIf (sizes_of state.ordinals) heading) (IsTypedForm state heading) (condition_if state.ordinals heading c) _ (condition-if-sound heading c) (λ e condition.
-      then-sound (IsUpdate (sizes_of state.ordinals) heading (item_list sets)) (IsTypedForm state heading) (sets_made state.ordinals heading sets) _
-      (sets-made-sound state.ordinals made.ordinals heading sets headed) (λ s is. (plain-change (sizes_of state.ordinals) heading e condition, is.extension, refl)))
-  update-sound heading (syntax.OfPortion at elements) c sets headed =
-      then-sound (IsPortionOf heading (portion_names elements)) (IsTypedForm state heading) (portion_if state.ordinals heading (syntax.OfPortion at elements)) _
+  update-sound : (name : Name) (heading : Heading) (p : MaybePortionP) (c : ConditionP) (sets : SetsP) → IsBaseOf state name heading → IsTrue (is_heading heading) → IfOk (update_typed state heading p c sets) (IsTypedForm state name heading)
+  update-sound name heading syntax.NoPortion c sets there headed =
+      then-sound (IsConditionIf (sizes_of state.ordinals) heading) (IsTypedForm state name heading) (condition_if state.ordinals heading c) _ (condition-if-sound heading c) (λ e condition.
+      then-sound (IsUpdate (sizes_of state.ordinals) heading (item_list sets)) (IsTypedForm state name heading) (sets_made state.ordinals heading sets) _
+      (sets-made-sound state.ordinals made.ordinals heading sets headed) (λ s is. (there, plain-change (sizes_of state.ordinals) heading e condition, is.extension, refl)))
+  update-sound name heading (syntax.OfPortion at elements) c sets there headed =
+      then-sound (IsPortionOf heading (portion_names elements)) (IsTypedForm state name heading) (portion_if state.ordinals heading (syntax.OfPortion at elements)) _
       (then-sound (λ (m : PlainPortion). IsPortionIf (sizes_of state.ordinals) heading None (Some m) × AreNamed heading (portion_names elements) (attributes_of_portion m))
       (IsPortionOf heading (portion_names elements)) (portion_typed state.ordinals heading elements) _ (portion-sound state.ordinals made.ordinals heading (heading_ascends heading headed) elements)
       (λ m portion. portion)) (λ o portion.
-      then-sound (IsConditionIf (sizes_of state.ordinals) heading) (IsTypedForm state heading) (condition_if state.ordinals heading c) _ (condition-if-sound heading c) (λ e condition.
-      then-sound (IsUpdate (sizes_of state.ordinals) heading (item_list sets)) (IsTypedForm state heading) (sets_made state.ordinals heading sets) _
+      then-sound (IsConditionIf (sizes_of state.ordinals) heading) (IsTypedForm state name heading) (condition_if state.ordinals heading c) _ (condition-if-sound heading c) (λ e condition.
+      then-sound (IsUpdate (sizes_of state.ordinals) heading (item_list sets)) (IsTypedForm state name heading) (sets_made state.ordinals heading sets) _
       (sets-made-sound state.ordinals made.ordinals heading sets headed) (λ s is.
-      then-sound (λ _. WorksAtPoints heading (portion_names elements) e s) (IsTypedForm state heading) (works_at_points heading (Some (portion_names elements)) e (item_list sets) s) _
+      then-sound (λ _. WorksAtPoints heading (portion_names elements) e s) (IsTypedForm state name heading) (works_at_points heading (Some (portion_names elements)) e (item_list sets) s) _
       (points-sound heading (portion_names elements) e (item_list sets) s (names-known heading (portion_names elements) o portion) is.known is.assigned)
-      (λ _ swept. portion-update heading (portion_names elements) o e s portion condition is.extension swept))))
+      (λ _ swept. portion-update name heading (portion_names elements) o e s there portion condition is.extension swept))))
 
   -- ---- items
-
-  of-target : (place : Place) (target : Target) (form : PlainItemForm) → IsTarget state target → IsTypedForm state target.1 form → IsTypedItem state (item_of place target form)
-  of-target place target form is typed = record { base = is.0; headed = is.1; form = typed }
 
   -- over USING
   used-change : (heading : Heading) (list : NameListP) (names : List Name) (c : Option Expr) → AreListed heading heading list names → IsConditionIf (sizes_of state.ordinals) heading c
       → IsTrue (condition_is_swept (Some (positions_of heading names)) c) → IsChange (sizes_of state.ordinals) heading (change (Some (positions_of heading names)) None c)
   used-change heading list names c is h swept = record { acl = left-list heading heading list names is; portion = tt; condition = h; swept = swept }
 
-  used-deletion-sound : (w : Word) (heading : Heading) (list : NameListP) (d : UsedDeletionP) → IfOk (used_deletion_typed state w heading list d) (IsTypedForm state heading)
-  used-deletion-sound w heading list (syntax.UsedDeleteWhere at s) =
-      then-sound (AreListed heading heading list) (IsTypedForm state heading) (list_checked heading heading list) _ (list-sound heading heading list) (λ names is.
-      then-sound (λ (c : Expr). IsScalar (sizes_of state.ordinals) heading c Truth) (IsTypedForm state heading) (condition_typed state.ordinals at heading s) _
+  used-deletion-sound : (w : Word) (name : Name) (heading : Heading) (list : NameListP) (d : UsedDeletionP) → IsBaseOf state name heading → IfOk (used_deletion_typed state w heading list d) (IsTypedForm state name heading)
+  used-deletion-sound w name heading list (syntax.UsedDeleteWhere at s) there =
+      then-sound (AreListed heading heading list) (IsTypedForm state name heading) (list_checked heading heading list) _ (list-sound heading heading list) (λ names is.
+      then-sound (λ (c : Expr). IsScalar (sizes_of state.ordinals) heading c Truth) (IsTypedForm state name heading) (condition_typed state.ordinals at heading s) _
       (condition-sound state.ordinals made.ordinals at heading s) (λ c condition.
-      then-sound (λ _. WorksAtPoints heading names (Some c) []) (IsTypedForm state heading) (works_at_points heading (Some names) (Some c) [] []) _
+      then-sound (λ _. WorksAtPoints heading names (Some c) []) (IsTypedForm state name heading) (works_at_points heading (Some names) (Some c) [] []) _
       (points-sound heading names (Some c) [] [] (λ n i. (is.shared n i).here) (λ s i. absurd i) (λ s i. absurd i))
-      (λ _ swept. used-change heading list names (Some c) is condition swept.0)))
-  used-deletion-sound w heading list (syntax.UsedDeleteRows rel) =
-      then-sound (λ t. IsTypedFor state t × (heading_of t ≡ heading)) (IsTypedForm state heading) (rows_typed state w heading rel) _ (rows-sound w heading rel) (λ t h.
-      then-sound (AreListed heading (heading_of t) list) (IsTypedForm state heading) (list_checked heading (heading_of t) list) _ (list-sound heading (heading_of t) list)
-      (λ names is. (h.0, h.1, left-list heading (heading_of t) list names is)))
+      (λ _ swept. (there, used-change heading list names (Some c) is condition swept.0))))
+  used-deletion-sound w name heading list (syntax.UsedDeleteRows rel) there =
+      then-sound (λ t. IsTypedFor state t × (heading_of t ≡ heading)) (IsTypedForm state name heading) (rows_typed state w heading rel) _ (rows-sound w heading rel) (λ t h.
+      then-sound (AreListed heading (heading_of t) list) (IsTypedForm state name heading) (list_checked heading (heading_of t) list) _ (list-sound heading (heading_of t) list)
+      (λ names is. (there, h.0, h.1, left-list heading (heading_of t) list names is)))
 
-  used-update-sound : (heading : Heading) (list : NameListP) (c : ConditionP) (sets : SetsP) → IsTrue (is_heading heading)
-      → IfOk (used_update_typed state heading list c sets) (IsTypedForm state heading)
-  used-update-sound heading list c sets headed =
-      then-sound (AreListed heading heading list) (IsTypedForm state heading) (list_checked heading heading list) _ (list-sound heading heading list) (λ names is.
-      then-sound (IsConditionIf (sizes_of state.ordinals) heading) (IsTypedForm state heading) (condition_if state.ordinals heading c) _ (condition-if-sound heading c) (λ e condition.
-      then-sound (IsUpdate (sizes_of state.ordinals) heading (item_list sets)) (IsTypedForm state heading) (sets_made state.ordinals heading sets) _
+  used-update-sound : (name : Name) (heading : Heading) (list : NameListP) (c : ConditionP) (sets : SetsP) → IsBaseOf state name heading → IsTrue (is_heading heading)
+      → IfOk (used_update_typed state heading list c sets) (IsTypedForm state name heading)
+  used-update-sound name heading list c sets there headed =
+      then-sound (AreListed heading heading list) (IsTypedForm state name heading) (list_checked heading heading list) _ (list-sound heading heading list) (λ names is.
+      then-sound (IsConditionIf (sizes_of state.ordinals) heading) (IsTypedForm state name heading) (condition_if state.ordinals heading c) _ (condition-if-sound heading c) (λ e condition.
+      then-sound (IsUpdate (sizes_of state.ordinals) heading (item_list sets)) (IsTypedForm state name heading) (sets_made state.ordinals heading sets) _
       (sets-made-sound state.ordinals made.ordinals heading sets headed) (λ s update.
-      then-sound (λ _. WorksAtPoints heading names e s) (IsTypedForm state heading) (works_at_points heading (Some names) e (item_list sets) s) _
+      then-sound (λ _. WorksAtPoints heading names e s) (IsTypedForm state name heading) (works_at_points heading (Some names) e (item_list sets) s) _
       (points-sound heading names e (item_list sets) s (λ n i. (is.shared n i).here) update.known update.assigned)
-      (λ _ swept. (used-change heading list names e is condition swept.0, update.extension, swept.1)))))
+      (λ _ swept. (there, used-change heading list names e is condition swept.0, update.extension, swept.1)))))
 
-  item-by : (place : Place) (w : Word) (f : Target → OrFault PlainItemForm) → ((target : Target) → IsTarget state target → IfOk (f target) (IsTypedForm state target.1))
+  item-by : (place : Place) (w : Word) (f : Target → OrFault PlainItemForm) → ((target : Target) → IsTarget state target → IfOk (f target) (IsTypedForm state target.0 target.1))
       → IfOk (target_typed state w >>= (λ target. f target >>= (λ form. Ok (item_of place target form)))) (IsTypedItem state)
   item-by place w f typed =
       then-sound (IsTarget state) (IsTypedItem state) (target_typed state w) _ (target-sound w) (λ target is.
-      then-sound (IsTypedForm state target.1) (IsTypedItem state) (f target) _ (typed target is) (λ form h. of-target place target form is h))
+      then-sound (IsTypedForm state target.0 target.1) (IsTypedItem state) (f target) _ (typed target is) (λ form h. h))
 
   setting-sound : (w : Word) (rel : RelP) → IfOk (setting_typed state w rel) (IsTypedItem state)
   setting-sound w rel =
       then-sound (IsTarget state) (IsTypedItem state) (target_typed state w) _ (target-sound w) (λ target is.
       then-sound (λ t. IsTypedFor state t × (heading_of t ≡ target.1)) (IsTypedItem state) (rows_typed state w target.1 rel) _ (rows-sound w target.1 rel)
-      (λ t h. of-target w.place target (set_to t) is h))
+      (λ t h. (is, h.0, h.1)))
 
   insertion-sound : (place : Place) (w : Word) (rel : RelP) → IfOk (insertion_typed state place w rel) (IsTypedItem state)
   insertion-sound place w rel =
       then-sound (IsTarget state) (IsTypedItem state) (target_typed state w) _ (target-sound w) (λ target is.
       then-sound (λ t. IsTypedFor state t × (heading_of t ≡ target.1)) (IsTypedItem state) (rows_typed state w target.1 rel) _ (rows-sound w target.1 rel)
-      (λ t h. of-target place target (insert None t) is (h.0, h.1, tt)))
+      (λ t h. (is, h.0, h.1, tt)))
 
   used-item-sound : (place : Place) (list : NameListP) (u : UsedItemP) → IfOk (used_item_typed state place list u) (IsTypedItem state)
   used-item-sound place list (syntax.UsedInsert at w rel) =
       then-sound (IsTarget state) (IsTypedItem state) (target_typed state w) _ (target-sound w) (λ target is.
       then-sound (λ t. IsTypedFor state t × (heading_of t ≡ target.1)) (IsTypedItem state) (rows_typed state w target.1 rel) _ (rows-sound w target.1 rel) (λ t h.
       then-sound (AreListed target.1 (heading_of t) list) (IsTypedItem state) (list_checked target.1 (heading_of t) list) _ (list-sound target.1 (heading_of t) list)
-      (λ names listed. of-target place target (insert (Some (positions_of target.1 names)) t) is (h.0, h.1, left-list target.1 (heading_of t) list names listed))))
-  used-item-sound place list (syntax.UsedDelete at w d) = item-by place w (λ target. used_deletion_typed state w target.1 list d) (λ target is. used-deletion-sound w target.1 list d)
+      (λ names listed. (is, h.0, h.1, left-list target.1 (heading_of t) list names listed))))
+  used-item-sound place list (syntax.UsedDelete at w d) = item-by place w (λ target. used_deletion_typed state w target.1 list d) (λ target is. used-deletion-sound w target.0 target.1 list d is)
   used-item-sound place list (syntax.UsedUpdate at w c sets) =
-      item-by place w (λ target. used_update_typed state target.1 list c sets) (λ target is. used-update-sound target.1 list c sets (target-heading place target is))
+      item-by place w (λ target. used_update_typed state target.1 list c sets) (λ target is. used-update-sound target.0 target.1 list c sets is (target-heading place target is))
 
   -- what is typed is typed for the state
   pub item-sound : (x : ItemP) → IfOk (item_typed state x) (IsTypedItem state)
   item-sound (syntax.SetRelvar w rel) = setting-sound w rel
   item-sound (syntax.Insert at w rel) = insertion-sound at w rel
-  item-sound (syntax.Delete at w d) = item-by at w (λ target. deletion_typed state w target.1 d) (λ target is. deletion-sound w target.1 d (target-heading at target is))
-  item-sound (syntax.Update at w p c sets) = item-by at w (λ target. update_typed state target.1 p c sets) (λ target is. update-sound target.1 p c sets (target-heading at target is))
+  item-sound (syntax.Delete at w d) = item-by at w (λ target. deletion_typed state w target.1 d) (λ target is. deletion-sound w target.0 target.1 d is (target-heading at target is))
+  item-sound (syntax.Update at w p c sets) = item-by at w (λ target. update_typed state target.1 p c sets) (λ target is. update-sound target.0 target.1 p c sets is (target-heading at target is))
   item-sound (syntax.Terminate at w at_place s c) = tt
   item-sound (syntax.UsingItem at list u) = used-item-sound at list u
 

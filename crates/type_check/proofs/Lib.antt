@@ -2,16 +2,13 @@ pub mod AggregateLemmas
 pub mod CheckLemmas
 pub mod DeclarationLemmas
 pub mod DeclaredLemmas
-pub mod DeclaredPlainLemmas
 pub mod ExtensionLemmas
 pub mod InfixLemmas
 pub mod ItemLemmas
-pub mod ItemPlainLemmas
 pub mod ItemTypedLemmas
 pub mod KeptLemmas
 pub mod ListLemmas
 pub mod LiteralLemmas
-pub mod PlainLemmas
 pub mod PortionTypedLemmas
 pub mod PositionLemmas
 pub mod PutLemmas

@@ -1,30 +1,29 @@
 -- What type checking gives of a statement: what it does, typed, or the first refusal.
 --     Plain, read_checked      what is given, as plain data
 --     checked      the typing of a statement in a state
---     IsTypedPlain, IsPlainPlain      what is given can be performed
-use Rattle.std.specs.Prelude.{◌≡◌, Bool, true, false, List, map, Result, Ok, Err, IsTrue}
-use Rattle.std.specs.List.{All, AllByRecursion}
+--     IsTypedPlain      what is given can be performed
+use Rattle.std.specs.Prelude.{◌≡◌, List, map, Result, Ok, Err}
+use Rattle.std.specs.List.{All}
+use Rattle.point_core.specs.declared.fault.Code.TheVariants.{E01}
 use Rattle.point_core.specs.Faults.{OrFault}
 use Rattle.utd_syntax.specs.Plain as syntax
 use Rattle.utd_syntax.specs.Plain.{Word, VarFormP, StatementP}
 use Rattle.value_core.specs.declared.refuse.Refuse.{Refuse}
 use Rattle.value_core.specs.declared.refuse.Refuse.TheVariants as refuses
 use Rattle.value_core.specs.Values.{Name}
-use Rattle.scalar_typing.specs.Typings.{◌>>=◌}
+use Rattle.scalar_typing.specs.Typings.{◌>>=◌, refused}
 use Rattle.tree_core.specs.Items.{PlainItem, read_item}
 use Rattle.tree_core.specs.Relvars.{State}
 use Rattle.tree_core.specs.Trees.{Tree, Test, read_tree, read_test}
 use Rattle.meaning_core.specs.Declarations.{PlainDeclaration, ordinal_type, base_relvar, view_relvar, read_declaration, with_declaration, without}
-use Rattle.meaning_core.specs.Plainness.{IsPlain, IsPlainTest, IsPlainForm, IsPlainConstraint, are_plain}
 use Rattle.meaning_core.specs.Updates.{IsTypedItem}
 use Rattle.meaning_core.specs.WellMade.{IsWellMade, IsTypedFor, IsTypedTestFor}
 use Rattle.tree_typing.specs.Trees.{tree_typed, test_typed}
-use Rattle.declaration_typing.specs.Constraints.{are_built}
 use Rattle.declaration_typing.specs.Drops.{dropped}
 use Rattle.declaration_typing.specs.Ordinals.{ordinal_declared}
 use Rattle.declaration_typing.specs.Relvars.{relvar_declared}
 use Rattle.declaration_typing.specs.Views.{view_declared}
-use Rattle.item_typing.specs.Items.{assignment_typed, is_plain_assignment}
+use Rattle.item_typing.specs.Items.{assignment_typed}
 use Rattle.type_check.specs.declared.checked.Checked.{Checked}
 use Rattle.type_check.specs.declared.checked.Checked.TheVariants as variants
 
@@ -50,22 +49,6 @@ read_checked (variants.Assign items) = assign (map read_item items)
 read_checked (variants.Print t) = print (read_tree t)
 read_checked (variants.Ask t) = ask (read_test t)
 
--- ---- the forms of statements that are checked
-
-abbrev pub is_checked_var : VarFormP → Bool
-is_checked_var (syntax.BaseRelvar at heading constraints) = are_built constraints
-is_checked_var (syntax.View at rel) = true
-
-abbrev pub is_checked : StatementP → Bool
-is_checked syntax.Nothing = true
-is_checked (syntax.DeclareOrdinal at w values) = true
-is_checked (syntax.DeclareRelvar at w form) = is_checked_var form
-is_checked (syntax.DeclareHistory at w h key since began during lasted point) = false
-is_checked (syntax.Drop at w) = true
-is_checked (syntax.Print at rel) = true
-is_checked (syntax.Ask at test) = true
-is_checked (syntax.Assignment assignment) = is_plain_assignment assignment
-
 -- ---- their typing
 
 -- what is typed, as what the statement does
@@ -78,14 +61,16 @@ abbrev pub checked_var : State → Word → VarFormP → OrFault Plain
 checked_var state w (syntax.BaseRelvar at heading constraints) = giving declare_base (relvar_declared state w heading constraints)
 checked_var state w (syntax.View at rel) = giving declare_view (view_declared state w rel)
 
+-- HISTORY is not typed yet, and is refused at its first token
 abbrev pub checked : State → StatementP → OrFault Plain
+checked state syntax.Nothing = Ok nothing
 checked state (syntax.DeclareOrdinal at w values) = giving declare_ordinal (ordinal_declared state w values)
 checked state (syntax.DeclareRelvar at w form) = checked_var state w form
 checked state (syntax.Drop at w) = giving remove (dropped state w)
 checked state (syntax.Assignment assignment) = giving assign (assignment_typed state assignment)
 checked state (syntax.Print at rel) = giving print (tree_typed state rel)
 checked state (syntax.Ask at test) = giving ask (test_typed state test)
-checked state _ = Ok nothing
+checked state (syntax.DeclareHistory at w h key since began during lasted point) = refused at E01
 
 -- the answer is what is meant, or want of memory; a refusal has its place
 abbrev pub Checks : Result Checked Refuse → OrFault Plain → Type 0
@@ -107,24 +92,3 @@ IsTypedPlain state (remove name) = IsWellMade (without name state)
 IsTypedPlain state (assign items) = All (IsTypedItem state) items
 IsTypedPlain state (print t) = IsTypedFor state t
 IsTypedPlain state (ask t) = IsTypedTestFor state t
-
--- a base relvar has constraints without a list alone
-abbrev pub IsPlainDeclaration : PlainDeclaration → Type 0
-IsPlainDeclaration (base_relvar name heading constraints) = AllByRecursion IsPlainConstraint constraints
-IsPlainDeclaration (ordinal_type name values) = Unit {0}
-IsPlainDeclaration (view_relvar name t history) = Unit {0}
-
--- the views of the state with the declaration do without PACK, UNPACK and USING, and so does what is declared
-abbrev pub StaysPlain : State → PlainDeclaration → Type 0
-StaysPlain state d = IsTrue (are_plain (with_declaration state d).relvars) × IsPlainDeclaration d
-
--- what is given does without, where the statement and the views of the state do
-abbrev pub IsPlainPlain : State → Plain → Type 0
-IsPlainPlain state nothing = Unit {0}
-IsPlainPlain state (declare_ordinal d) = StaysPlain state d
-IsPlainPlain state (declare_base d) = StaysPlain state d
-IsPlainPlain state (declare_view d) = StaysPlain state d
-IsPlainPlain state (remove name) = IsTrue (are_plain (without name state).relvars)
-IsPlainPlain state (assign items) = All (λ (i : PlainItem). IsPlainForm state.relvars i.form) items
-IsPlainPlain state (print t) = IsPlain state.relvars t
-IsPlainPlain state (ask t) = IsPlainTest state.relvars t

@@ -1,15 +1,14 @@
 // What type checking answers to a statement.
-ghost use Rattle.std.specs.Prelude.{IfOk, IsTrue};
+ghost use Rattle.std.specs.Prelude.{IfOk};
 ghost use Rattle.utd_syntax.specs.Read.{read_statement};
 ghost use Rattle.scalar_typing.specs.Names.{AreOrdinals};
 ghost use Rattle.tree_core.specs.Relvars.{read_relvars};
-ghost use Rattle.meaning_core.specs.Plainness.{are_plain};
 ghost use Rattle.meaning_core.specs.WellMade.{IsWellMade};
-ghost use Rattle.type_check.specs.Checks.{Checks, checked, read_checked, is_checked, IsTypedPlain, IsPlainPlain};
-ghost use Rattle.type_check.specs.Plainness.{is_plain_statement};
+ghost use Rattle.type_check.specs.Checks.{Checks, checked, read_checked, IsTypedPlain};
 
 use declaration_typing::{type_drop, type_ordinal, type_relvar, type_view};
 use item_typing::type_items;
+use point_core::{Code, Fault};
 use std::alloc::Global;
 use tree_core::{Declaration, Items, RelTest, RelTree, Relvars};
 use tree_typing::{type_test, type_tree};
@@ -36,8 +35,7 @@ fn type_statement(
     statement: &Statement,
     relvars: &Relvars,
 ) -> Result<Checked, Refuse>
-    requires built { IsTrue (is_checked (read_statement statement.now)) }
-    requires ordinals { AreOrdinals (read_relvars relvars.now).ordinals }
+    requires { AreOrdinals (read_relvars relvars.now).ordinals }
     ensures { Checks result (checked (read_relvars relvars.now) (read_statement statement.now)) }
 {
     match statement {
@@ -54,7 +52,10 @@ fn type_statement(
             let declaration = type_view(alloc, word, rel, relvars)?;
             Ok(Checked::View(declaration))
         }
-        Statement::History(_) => unreachable!(),
+        Statement::History(history) => Err(Refuse::At(Fault {
+            place: history.place,
+            code: Code::E01,
+        })),
         Statement::Drop(_, word) => {
             let name = type_drop(alloc, word, relvars)?;
             Ok(Checked::Remove(name))
@@ -75,16 +76,10 @@ fn type_statement(
 }
 
 /// The typed statement where these are the relvars, views and ordinal types, or its first refusal with its place.
-///
-/// For now of statements other than HISTORY, of constraints without a list, and of items without USING and PORTION that are no
-/// TERMINATE.
 pub fn check(alloc: Global, statement: &Statement, relvars: &Relvars) -> Result<Checked, Refuse>
-    requires built { IsTrue (is_checked (read_statement statement.now)) }
     requires well_made { IsWellMade (read_relvars relvars.now) }
     ensures typing { Checks result (checked (read_relvars relvars.now) (read_statement statement.now)) }
     ensures typed { IfOk result (λ c. IsTypedPlain (read_relvars relvars.now) (read_checked c)) }
-    ensures plain { IfOk result (λ c. IsTrue (are_plain (read_relvars relvars.now).relvars) → IsTrue (is_plain_statement (read_statement statement.now))
-        → IsPlainPlain (read_relvars relvars.now) (read_checked c)) }
 {
     type_statement(alloc, statement, relvars)
 }

@@ -1,5 +1,5 @@
 -- Constraints over no rows, and what a checked reference tells.
-use Rattle.std.proofs.Common.{◌≡◌, ℕ, List, [], ◌∷◌, map, Option, None, Some, refl, sym, ap, ap₂, ◌∙◌, subst, Bool, false, not, Ordering}
+use Rattle.std.proofs.Common.{◌≡◌, ℕ, List, [], ◌∷◌, map, Option, None, Some, refl, sym, ap, ap₂, ◌∙◌, Bool, false, not, Ordering}
 use Rattle.std.specs.List.{list_any}
 use Rattle.point_core.specs.declared.fault.Code.{Code}
 use Rattle.point_core.specs.declared.fault.Code.TheVariants.{E40, E41, E42, E43, E44}
@@ -10,8 +10,7 @@ use Rattle.value_core.specs.declared.constraint.Constraint.{Constraint}
 use Rattle.value_core.specs.declared.constraint.Constraint.TheVariants.{Key, Packed, WhenUnpacked, UKey, Foreign, History}
 use Rattle.relation_core.specs.Parts.{projected}
 use Rattle.value_core.specs.RowPacking.{attribute, unpacked, packed}
-use Rattle.u_constraints.specs.Constraints.{is_key, counterpart, first_failed, broken, rows_or_none}
-use Rattle.meaning_core.specs.Plainness.{IsPlainConstraint}
+use Rattle.u_constraints.specs.Constraints.{is_key, is_referenced, counterpart, first_failed, broken, rows_or_none}
 
 -- ---- over no rows
 
@@ -48,17 +47,10 @@ broken_none (Foreign acl here name there) others =
     ap (λ (us : List Row). first_failed ((is_within row_cmp (projected here us) (projected there (unpacked (map (counterpart here there) acl) others)), E43) ∷ [])) (unpacked_none acl)
 broken_none (History h) others = ap (λ b. first_failed ((not b, E44) ∷ [])) (none_found others)
 
--- ---- a reference without a list to unpack
+-- ---- a reference
 
-reference_told : (acl here there h t : List ℕ) (name : Name) (rows others : List Row) (kept : Bool) (code : Option Code) → IsPlainConstraint (Foreign acl here name there) → h ≡ here → t ≡ there
-    → kept ≡ is_within row_cmp (projected h rows) (projected t others) → code ≡ first_failed ((kept, E43) ∷ []) → code ≡ broken (Foreign acl here name there) rows others
-reference_told [] here there h t name rows others kept code built e f is told =
-    told ∙ ap (λ k. first_failed ((k, E43) ∷ [])) (is ∙ ap₂ (λ (hs ts : List ℕ). is_within row_cmp (projected hs rows) (projected ts others)) e f)
-reference_told (i ∷ acl) here there h t name rows others kept code built e f is told = absurd built
-
-pub referenced : (c : Constraint) (acl here there h t : List ℕ) (name : Name) (rows : List Row) (other : Option Relation) (r : Relation) (kept : Bool) (code : Option Code) → c ≡ Foreign acl here name there
-    → other ≡ Some r → IsPlainConstraint c → h ≡ here → t ≡ there → kept ≡ is_within row_cmp (projected h rows) (projected t r.rows)
-    → code ≡ first_failed ((kept, E43) ∷ []) → code ≡ broken c rows (rows_or_none other)
-referenced c acl here there h t name rows other r kept code form named built e f is told =
-    reference_told acl here there h t name rows r.rows kept code (subst IsPlainConstraint form built) e f is told
-    ∙ ap₂ (λ z o. broken z rows (rows_or_none o)) (sym form) (sym named)
+pub referenced : (c : Constraint) (acl here there a h t : List ℕ) (name : Name) (rows : List Row) (other : Option Relation) (r : Relation) (kept : Bool) (code : Option Code) → c ≡ Foreign acl here name there
+    → other ≡ Some r → a ≡ acl → h ≡ here → t ≡ there → kept ≡ is_referenced a h t rows r.rows → code ≡ first_failed ((kept, E43) ∷ []) → code ≡ broken c rows (rows_or_none other)
+referenced c acl here there a h t name rows other r kept code form named d e f is told =
+    let same = ap₂ (λ (l : List ℕ) (p : List ℕ × List ℕ). is_referenced l p.0 p.1 rows r.rows) d (ap₂ (λ (x y : List ℕ). (x, y)) e f) in
+    told ∙ ap (λ k. first_failed ((k, E43) ∷ [])) (is ∙ same) ∙ ap₂ (λ z o. broken z rows (rows_or_none o)) (sym form) (sym named)

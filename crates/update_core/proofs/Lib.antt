@@ -2,4 +2,4 @@ pub mod NameLemmas
 pub mod ConditionLemmas
 pub mod PartLemmas
 pub mod TypedLemmas
-pub mod PlainLemmas
+pub mod EndingLemmas

@@ -13,7 +13,6 @@ use Rattle.relation_core.specs.Agreement.{position_of}
 use Rattle.tree_core.specs.Relvars.{PlainRelvar, base, view, Entries, relvar_named, relvar_heading, heading_if}
 use Rattle.meaning_core.specs.Histories.{name_at}
 use Rattle.meaning_core.specs.Names.{found, each_in}
-use Rattle.meaning_core.specs.Plainness.{relvar_is_plain, plain_in}
 use Rattle.meaning_core.specs.Names.{IsFirstAt}
 use Rattle.meaning_core.specs.Typing.{heading_named, is_declared}
 use Rattle.meaning_core.specs.WellMade.{headings_of, IsBase, AreRelvars}
@@ -50,36 +49,6 @@ base-declared sizes before ((own, view t history) ∷ rest) name are =
       | true ↦ λ is. absurd is
       | false ↦ base-declared sizes (before ++ (own, view t history) ∷ []) rest name are.1
     ]
-
--- the first entry of the name
-record First (es : Entries) (name : Name) : Type 0 where
-  pub at : ℕ
-  pub relvar : PlainRelvar
-  pub within : at < length es
-  pub first : IsFirstAt es name at relvar
-  pub is_base : IsBase (Some relvar)
-
-next-first : (r : Name × PlainRelvar) (rest : Entries) (name : Name) → bytes_eq r.0 name ≡ false → First rest name → First (r ∷ rest) name
-next-first r rest name e f = record { at = suc f.at; relvar = f.relvar; within = (let l = f.within in omega (arith, l)); first = (e, f.first); is_base = f.is_base }
-
-base-first : (es : Entries) (name : Name) → IsBase (relvar_named es name) → First es name
-base-first [] name = λ is. absurd is
-base-first (r ∷ rest) name =
-    (elim (bytes_eq r.0 name) as (λ b. bytes_eq r.0 name ≡ b → IsBase (cond b (Some r.1) (relvar_named rest name)) → First (r ∷ rest) name) [
-      | true ↦ λ e is. record { at = 0; relvar = r.1; within = omega arith; first = (e, refl); is_base = is }
-      | false ↦ λ e is. next-first r rest name e (base-first rest name is)
-    ]) refl
-
-plain-base : (known : List (Name × Bool)) (r : PlainRelvar) → IsBase (Some r) → relvar_is_plain known r ≡ true
-plain-base known (base value constraints) is = refl
-plain-base known (view t history) is = absurd is
-
--- base relvars do without PACK, UNPACK and USING
-pub base-plain : (es : Entries) (name : Name) → IsBase (relvar_named es name) → found true (plain_in es) name ≡ true
-base-plain es name is =
-    let f = base-first es name is in
-    ap (λ (some : Entries). found true (plain_in some) name) (sym (take-length es))
-    ∙ (found_first relvar_is_plain true es name f.at (length es) f.relvar f.first f.within ∙ plain-base (each_in relvar_is_plain (take f.at es)) f.relvar f.is_base)
 
 -- ---- headings
 

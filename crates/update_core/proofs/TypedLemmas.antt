@@ -1,11 +1,11 @@
--- The assignments of an item that is typed for a well made state are typed for it.
+-- The assignments of an item other than TERMINATE that is typed for a well made state are typed for it.
 use Rattle.std.specs.Prelude.{◌≡◌, ℕ, ◌<◌, List, [], length, Option, Some, None, IsTrue, refl}
 use Rattle.std.specs.List.{list_all, All}
 use Rattle.std.proofs.Common.{sym, ◌∙◌, subst}
 use Rattle.std.proofs.lemmas.Bool.{and_parts}
 use Rattle.std.proofs.lemmas.List.Elements.{All-cons, All-nil}
 use Rattle.base_core.proofs.SetLemmas.{Ascends}
-use Rattle.value_core.specs.Values.{Heading, is_heading, attribute_cmp}
+use Rattle.value_core.specs.Values.{Name, Heading, is_heading, attribute_cmp}
 use Rattle.scalar_core.specs.Expressions.{Expr}
 use Rattle.relation_core.proofs.HeadingLemmas.{heading_ascends}
 use Rattle.tree_core.specs.declared.tree.InfixWord.{InfixWord}
@@ -15,37 +15,37 @@ use Rattle.tree_core.specs.Relvars.{State}
 use Rattle.tree_core.specs.Trees.{PlainSets, Tree, infix_of, restrict, extend, heading_of}
 use Rattle.meaning_core.specs.Meanings.{names_at}
 use Rattle.meaning_core.specs.Typing.{IsList, IsListIf, IsInfix, IsExtension, is_kind, is_declared, is_part}
-use Rattle.meaning_core.specs.Updates.{are_swept_sets, IsChange, IsTypedForm, IsTypedItem, IsTypedAssignment}
+use Rattle.meaning_core.specs.Updates.{are_swept_sets, IsBaseOf, IsChange, IsTypedForm, IsTypedItem, IsTypedAssignment}
 use Rattle.meaning_core.specs.WellMade.{IsWellMade, IsTypedFor, sizes_of}
 use Rattle.update_core.specs.Updates.{negated, target_of, under_using, with_operand, rows_where, other_rows, changed_rows, updated, condition_of, condition_of_change, list_of_change, source_of, assigned_to, expanded, IsExpandable}
 use Rattle.update_core.proofs.ConditionLemmas.{all-in, IsCondition, negated-typed, condition-typed, change-typed, change-list, IsSweptIf, condition-swept, negated-swept, change-swept}
 use Rattle.update_core.proofs.NameLemmas.{base-heading, base-declared}
 use Rattle.update_core.proofs.PartLemmas.{AreWithin, infix-part, restrict-part, extend-part}
 
--- a typed item is no TERMINATE
-pub form-expandable : (s : State) (heading : Heading) (form : PlainItemForm) → IsTypedForm s heading form → IsExpandable form
-form-expandable s heading (set_to t) h = tt
-form-expandable s heading (insert acl t) h = tt
-form-expandable s heading (delete acl t) h = tt
-form-expandable s heading (delete_rows change) h = tt
-form-expandable s heading (update change sets) h = tt
-form-expandable s heading (terminate at place condition) h = absurd h
+-- the parts of an item other than TERMINATE are typed for a base relvar of its heading
+form-base : (s : State) (target : Name) (heading : Heading) (form : PlainItemForm) → IsExpandable form → IsTypedForm s target heading form → IsBaseOf s target heading
+form-base s target heading (set_to t) other h = h.0
+form-base s target heading (insert acl t) other h = h.0
+form-base s target heading (delete acl t) other h = h.0
+form-base s target heading (delete_rows change) other h = h.0
+form-base s target heading (update change sets) other h = h.0
+form-base s target heading (terminate at place condition) other h = absurd other
 
-module _ (s : State) (item : PlainItem) (made : IsWellMade s) (is : IsTypedItem s item) where
+module _ (s : State) (item : PlainItem) (made : IsWellMade s) (is : IsBaseOf s item.target item.heading) where
   -- typed, and of the target's heading
   abbrev IsSource : Tree → Type 0
   IsSource t = IsTypedFor s t × (heading_of t ≡ item.heading)
 
   up : Ascends attribute_cmp item.heading
   up =
-      let declared = subst (λ (h : Heading). IsTrue (is_declared (sizes_of s.ordinals) h)) (sym is.headed) (base-declared (sizes_of s.ordinals) [] s.relvars item.target made.relvars is.base) in
+      let declared = subst (λ (h : Heading). IsTrue (is_declared (sizes_of s.ordinals) h)) (sym is.1) (base-declared (sizes_of s.ordinals) [] s.relvars item.target made.relvars is.0) in
       heading_ascends item.heading ((and_parts (is_heading item.heading) (list_all (λ a. is_kind (sizes_of s.ordinals) a.1) item.heading) declared).0)
 
   within : (acl : List ℕ) → IsList item.heading acl → AreWithin item.heading acl
   within acl l i k = all-in (λ (j : ℕ). j < length item.heading) acl i l.within k
 
   target-source : IsSource (target_of item)
-  target-source = (base-heading s.relvars item.target item.heading is.base is.headed, refl)
+  target-source = (base-heading s.relvars item.target item.heading is.0 is.1, refl)
 
   -- ---- under USING
 
@@ -119,19 +119,19 @@ module _ (s : State) (item : PlainItem) (made : IsWellMade s) (is : IsTypedItem 
   -- ---- items
 
   one : (t : Tree) → IsSource t → All (IsTypedAssignment s) (assigned_to item (Some t))
-  one t k = All-cons (IsTypedAssignment s) (record { target = item.target; tree = t }) [] (record { base = is.base; headed = k.1 ∙ is.headed; typed = k.0 }) (All-nil (IsTypedAssignment s))
+  one t k = All-cons (IsTypedAssignment s) (record { target = item.target; tree = t }) [] (record { base = is.0; headed = k.1 ∙ is.1; typed = k.0 }) (All-nil (IsTypedAssignment s))
 
-  of-form : (form : PlainItemForm) → IsTypedForm s item.heading form → All (IsTypedAssignment s) (assigned_to item (source_of item form))
-  of-form (set_to t) h = one t h
-  of-form (insert acl t) h = one (with_operand item acl Union t) (operand-source acl Union t h.2 (h.0, h.1) (sym h.1, refl))
-  of-form (delete acl t) h = one (with_operand item acl Minus t) (operand-source acl Minus t h.2 (h.0, h.1) (sym h.1, refl))
-  of-form (delete_rows change) h =
+  of-form : (form : PlainItemForm) → IsExpandable form → IsTypedForm s item.target item.heading form → All (IsTypedAssignment s) (assigned_to item (source_of item form))
+  of-form (set_to t) other h = one t (h.1, h.2)
+  of-form (insert acl t) other h = one (with_operand item acl Union t) (operand-source acl Union t h.3 (h.1, h.2) (sym h.2, refl))
+  of-form (delete acl t) other h = one (with_operand item acl Minus t) (operand-source acl Minus t h.3 (h.1, h.2) (sym h.2, refl))
+  of-form (delete_rows change) other h =
       one (other_rows item (list_of_change change) (condition_of_change item change))
-      (others-source (list_of_change change) (list-of change h) (condition_of_change item change) (typed-of change h) (swept-of change h))
-  of-form (update change sets) h =
+      (others-source (list_of_change change) (list-of change h.1) (condition_of_change item change) (typed-of change h.1) (swept-of change h.1))
+  of-form (update change sets) other h =
       one (updated item (list_of_change change) (condition_of_change item change) sets)
-      (updated-source (list_of_change change) (list-of change h.0) (condition_of_change item change) (typed-of change h.0) (swept-of change h.0) sets h.1 h.2)
-  of-form (terminate at place condition) h = absurd h
+      (updated-source (list_of_change change) (list-of change h.1) (condition_of_change item change) (typed-of change h.1) (swept-of change h.1) sets h.2 h.3)
+  of-form (terminate at place condition) other h = absurd other
 
-  pub expanded-typed : All (IsTypedAssignment s) (expanded item)
-  expanded-typed = of-form item.form is.form
+pub expanded-typed : (s : State) (item : PlainItem) → IsWellMade s → IsExpandable item.form → IsTypedItem s item → All (IsTypedAssignment s) (expanded item)
+expanded-typed s item made other is = of-form s item made (form-base s item.target item.heading item.form other is) item.form other is

@@ -7,7 +7,7 @@ use Rattle.tree_core.specs.Items.{PlainItem, read_item}
 use Rattle.tree_core.specs.declared.item.Item.{Item}
 use Rattle.tree_core.specs.Relvars.{State, Entries, PlainRelvar, base, view}
 use Rattle.meaning_core.specs.Declarations.{PlainDeclaration, ordinal_type, base_relvar, view_relvar, with_declaration}
-use Rattle.meaning_core.specs.Plainness.{IsPlainForm}
+use Rattle.algebra_core.specs.Plainness.{IsPlainForm}
 use Rattle.meaning_core.specs.Updates.{IsTypedItem, IsTypedAssignment}
 use Rattle.meaning_core.specs.WellMade.{IsWellMade}
 use Rattle.update_core.specs.Updates.{expanded, IsExpandable}

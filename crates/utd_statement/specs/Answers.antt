@@ -18,12 +18,12 @@ use Rattle.tree_core.specs.Trees.{Tree, heading_of}
 use Rattle.meaning_core.specs.Declarations.{with_declaration, without}
 use Rattle.meaning_core.specs.Meanings.{meaning_in}
 use Rattle.meaning_core.specs.Truths.{truth_in}
-use Rattle.update_core.specs.Updates.{expanded}
+use Rattle.update_core.specs.Endings.{meant_by}
 use Rattle.assign_core.specs.Assignments.{after_assignments}
 use Rattle.utd_syntax.specs.Plain as plain
 use Rattle.utd_syntax.specs.Plain.{StatementP}
 use Rattle.type_check.specs.Checks.{Plain, nothing, declare_ordinal, declare_base, declare_view, remove, assign, print, ask, checked}
-use Rattle.type_check.specs.Plainness.{is_plain_statement}
+use Rattle.utd_statement.specs.Built.{is_plain_statement}
 use Rattle.utd_print.specs.Lines.{refusal_line, truth_line}
 use Rattle.utd_print.specs.Tables as printed
 use Rattle.utd_statement.specs.declared.row.Row.{Row}
@@ -61,9 +61,9 @@ unless_fault f (Err e) = Refusal (At e)
 abbrev pub relation_in : State → Tree → OrFault Relation
 relation_in state t = under (heading_of t) (meaning_in state.relvars t)
 
--- the assignments that items stand for, in the order of the items
-abbrev pub assignments_of : List PlainItem → List PlainAssignment
-assignments_of items = flat_map expanded items
+-- the assignments that items stand for where these are the relvars and views, in the order of the items
+abbrev pub assignments_of : Entries → List PlainItem → List PlainAssignment
+assignments_of entries items = flat_map (meant_by entries) items
 
 -- the state with new values of its relvars, or the refusal of the assignments
 abbrev pub unless_refused : State → Result Entries Refuse → Answer
@@ -77,7 +77,7 @@ of_checked state (declare_ordinal d) = Changed (with_declaration state d)
 of_checked state (declare_base d) = Changed (with_declaration state d)
 of_checked state (declare_view d) = Changed (with_declaration state d)
 of_checked state (remove name) = Changed (without name state)
-of_checked state (assign items) = unless_refused state (after_assignments state.relvars (assignments_of items))
+of_checked state (assign items) = unless_refused state (after_assignments state.relvars (assignments_of state.relvars items))
 of_checked state (print t) = unless_fault (Table state.ordinals) (relation_in state t)
 of_checked state (ask t) = unless_fault Truth (truth_in state.relvars t)
 

@@ -7,3 +7,4 @@ pub mod Readings
 pub mod Parsed
 pub mod Answers
 pub mod Replies
+pub mod Built

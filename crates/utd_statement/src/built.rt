@@ -1,13 +1,13 @@
 // Which statements are built: those without PACK, UNPACK, USING and PORTION, HISTORY and TERMINATE.
 ghost use Rattle.std.specs.Prelude.{◌≡◌, ◌&&◌};
 ghost use Rattle.std.specs.List.{list_all};
-ghost use Rattle.utd_syntax.specs.Read.{read_rel, read_terms, read_term, read_rel_primary, read_operand, read_extend, read_summarize, read_comparison, read_test, read_deletion, read_item, read_item_list, read_assign, read_maybe_portion, read_var_form, read_statement};
-ghost use Rattle.item_typing.specs.Items.{has_no_portion, listed_items};
-ghost use Rattle.type_check.specs.Plainness.{is_plain_rel, is_plain_terms, is_plain_term, is_plain_primary, is_plain_operand, is_plain_extend, is_plain_summarize, is_plain_comparison, is_plain_test, is_plain_deletion, is_plain_update, is_plain_var, is_plain_statement};
+ghost use Rattle.utd_syntax.specs.Read.{read_rel, read_terms, read_term, read_rel_primary, read_operand, read_extend, read_summarize, read_comparison, read_test, read_deletion, read_item, read_item_list, read_assign, read_maybe_portion, read_constraint, read_constraint_list, read_var_form, read_statement};
+ghost use Rattle.item_typing.specs.Items.{listed_items};
+ghost use Rattle.utd_statement.specs.Built as rules;
+ghost use Rattle.utd_statement.specs.Built.{has_no_portion, is_plain_rel, is_plain_terms, is_plain_term, is_plain_primary, is_plain_operand, is_plain_extend, is_plain_summarize, is_plain_comparison, is_plain_test, is_plain_deletion, is_plain_update, is_plain_var, is_plain_statement};
 
-use declaration_typing::are_built;
 use utd_syntax::{
-    Assignment, Deletion, Extend, Item, MaybePortion, Operand, Rel, RelPrimary, Relate, Statement,
+    Assignment, Constraint, Constraints, Deletion, Extend, Item, MaybePortion, Operand, Rel, RelPrimary, Relate, Statement,
     Summarize, Term, Terms, Test, VarForm,
 };
 
@@ -109,6 +109,29 @@ fn is_plain_deletion(deletion: &Deletion) -> bool
     }
 }
 
+fn is_plain_constraint(constraint: &Constraint) -> bool
+    ensures { result ≡ rules.is_plain_constraint (read_constraint constraint.now) }
+{
+    match constraint {
+        Constraint::Key(_) => true,
+        Constraint::Foreign(_) => true,
+        Constraint::PackedOn(_, _) => false,
+        Constraint::WhenUnpacked(_, _, _) => false,
+        Constraint::Using(_, _, _) => false,
+    }
+}
+
+fn are_plain_constraints(constraints: &Constraints) -> bool
+    ensures { result ≡ rules.are_plain_constraints (read_constraint_list constraints.now.list.items) }
+{
+    for constraint in &constraints.list {
+        if !is_plain_constraint(constraint) {
+            return false;
+        }
+    }
+    true
+}
+
 fn has_no_portion(portion: &MaybePortion) -> bool
     ensures { result ≡ has_no_portion (read_maybe_portion portion.now) }
 {
@@ -152,7 +175,7 @@ fn is_plain_var(form: &VarForm) -> bool
     ensures { result ≡ is_plain_var (read_var_form form.now) }
 {
     match form {
-        VarForm::Relation(_, _, constraints) => are_built(constraints),
+        VarForm::Relation(_, _, constraints) => are_plain_constraints(constraints),
         VarForm::Virtual(_, rel) => is_plain_rel(rel),
     }
 }

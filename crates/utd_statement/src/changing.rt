@@ -4,7 +4,7 @@ ghost use Rattle.std.specs.List.{All};
 ghost use Rattle.tree_core.specs.Items.{PlainItem, read_item, read_assignment};
 ghost use Rattle.tree_core.specs.Relvars.{read_relvars};
 ghost use Rattle.meaning_core.specs.Declarations.{read_declaration, with_declaration, without};
-ghost use Rattle.meaning_core.specs.Plainness.{are_plain, IsPlainForm};
+ghost use Rattle.algebra_core.specs.Plainness.{are_plain, IsPlainForm};
 ghost use Rattle.meaning_core.specs.Updates.{IsTypedItem};
 ghost use Rattle.meaning_core.specs.WellMade.{IsWellMade};
 ghost use Rattle.update_core.specs.Updates.{IsExpandable};

@@ -3,7 +3,7 @@ ghost use Rattle.std.specs.Prelude.{IsTrue};
 ghost use Rattle.utd_syntax.specs.Read.{read_statement};
 ghost use Rattle.tree_core.specs.Relvars.{read_relvars};
 ghost use Rattle.tree_core.specs.Trees.{read_tree, read_test};
-ghost use Rattle.meaning_core.specs.Plainness.{IsPlain, IsPlainTest};
+ghost use Rattle.algebra_core.specs.Plainness.{IsPlain, IsPlainTest};
 ghost use Rattle.meaning_core.specs.WellMade.{IsWellMade, IsTypedFor, IsTypedTestFor};
 ghost use Rattle.assign_core.specs.Databases.{IsKept};
 ghost use Rattle.type_check.specs.Checks.{print, ask, checked, read_checked, IsTypedPlain, IsPlainPlain};

@@ -6,7 +6,7 @@ use Rattle.tree_core.specs.Relvars.{read_relvars, read_entry}
 use Rattle.tree_core.specs.Trees.{read_tree, read_test_form}
 use Rattle.tree_core.specs.declared.test.TestForm.{TestForm}
 use Rattle.meaning_core.specs.Meanings.{Known, meaning, plainly}
-use Rattle.meaning_core.specs.Plainness.{IsPlainTest}
+use Rattle.algebra_core.specs.Plainness.{IsPlainTest}
 use Rattle.algebra_core.specs.Scopes.{all_of}
 use Rattle.meaning_core.specs.Truths.{truth_in, related_rows, no_rows}
 use Rattle.algebra_core.specs.declared.scope.Scope.{Scope}

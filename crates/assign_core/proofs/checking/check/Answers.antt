@@ -5,6 +5,7 @@ use Rattle.tree_core.specs.Relvars.{PlainRelvar, read_entry, base}
 use Rattle.assign_core.specs.Checks.{after}
 use Rattle.assign_core.proofs.ChangeLemmas.{same_length, entries_length}
 use Rattle.assign_core.proofs.CheckLemmas.{relvar_kept, relvar_broken, relvars_kept, checked_at}
+use Rattle.assign_core.proofs.CostLemmas.{relvar_left, relvars_left}
 use Rattle.assign_core.proofs.CountLemmas.{changed_length}
 use Rattle.assign_core.proofs.checking.check.Goals as goal
 
@@ -44,6 +45,19 @@ returns-in_err-check_at-clause-told g c =
     let p = err_from_is_err_and c.from_residual.result c.from_residual.ensures.1 in
     rw (p.1, p.2) (relvar_broken es c.loop-at.at es none c.in_err-check_at.field-0.0 within c.loop-at.invariant.kept (c.in_err-check_at.ensures.told none))
 
+pub returns-in_err-check_at-clause-cost : goal.returns-in_err-check_at-clause-cost
+returns-in_err-check_at-clause-cost g c =
+    let raw = c.args.new.relvars.now.list.entries in
+    let es = after c.args.new in
+    let same = same_length c.args.new.changes.now (map read_entry raw) c.requires.changes in
+    let long = changed_length c.args.new.changes.now (map read_entry raw) same in
+    let at : c.loop-at.at < length c.args.new.changes.now = omega arith in
+    let within : c.loop-at.at < length es = omega (arith, long, same, at) in
+    let one = c.check_at.ensures.cost none in
+    let left = relvar_left es c.loop-at.at es none within in
+    let so_far = c.loop-at.invariant.cost in
+    omega (arith, one, left, so_far)
+
 pub loop-at-preserved : goal.loop-at-preserved
 loop-at-preserved g c =
     let raw = c.args.new.relvars.now.list.entries in
@@ -54,7 +68,11 @@ loop-at-preserved g c =
     let within : c.loop-at.at < length es = omega (arith, long, same, at) in
     record {
       kept = relvar_kept es c.loop-at.at es none within c.loop-at.invariant.kept (c.in_ok-check_at.ensures.told none);
-      steps = c.check_at.ensures.steps ∙ c.loop-at.invariant.steps;
+      cost =
+          let one = c.check_at.ensures.cost none in
+          let left = relvars_left es c.loop-at.at es none within (c.in_ok-check_at.ensures.told none) in
+          let so_far = c.loop-at.invariant.cost in
+          omega (arith, one, left, so_far);
     }
 
 pub returns-clause-told : goal.returns-clause-told

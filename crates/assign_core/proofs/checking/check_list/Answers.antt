@@ -1,10 +1,12 @@
-use Rattle.std.proofs.Common.{◌≡◌, ◌<◌, length, sym, ap, subst, ◌∙◌, arith, Some, None}
+use Rattle.std.proofs.Common.{◌≡◌, ◌<◌, ◌≤◌, ◌+◌, length, sym, ap, subst, ◌∙◌, arith, Some, None}
 use Rattle.std.specs.Result.{result_err}
 use Rattle.value_core.specs.declared.constraint.Constraint.{Constraint}
 use Rattle.u_constraints.specs.Constraints.{broken}
 use Rattle.assign_core.specs.Breaches.{rows_named}
 use Rattle.assign_core.specs.Checks.{after}
+use Rattle.assign_core.specs.Costs.{cost_over}
 use Rattle.assign_core.proofs.CheckLemmas.{kept_turn, broken_turn, all_kept}
+use Rattle.assign_core.proofs.CostLemmas.{left_kept}
 use Rattle.assign_core.proofs.checking.check_list.Goals as goal
 
 pub returns-in-Err-clause-told : goal.returns-in-Err-clause-told
@@ -27,7 +29,11 @@ loop-at-preserved g c =
     let told = subst (λ (x : Constraint). None ≡ broken x rows (rows_named all x)) c.index-list-at.is here in
     record {
       kept = kept_turn all c.args.name.now rows c.loop-at.at c.args.list.now item within c.loop-at.invariant.kept told;
-      steps = c.check_one.ensures.steps ∙ c.loop-at.invariant.steps;
+      cost =
+          let one = subst (λ (x : Constraint). c.check_one.new.steps ≤ c.loop-at.steps + cost_over all rows x) c.index-list-at.is c.check_one.ensures.cost in
+          let left = left_kept all rows c.loop-at.at c.args.list.now item within told in
+          let so_far = c.loop-at.invariant.cost in
+          omega (arith, one, left, so_far);
     }
 
 pub returns-clause-told : goal.returns-clause-told

@@ -1,10 +1,11 @@
-use Rattle.std.proofs.Common.{◌≡◌, None, take}
+use Rattle.std.proofs.Common.{◌≡◌, ◌≤◌, ◌+◌, None, take, drop}
 use Rattle.assign_core.specs.Breaches.{first_of}
 use Rattle.assign_core.specs.Checks.{after}
+use Rattle.assign_core.specs.Costs.{looked_at}
 use Rattle.assign_core.proofs.checking.check_list.Given as goal
 
 abbrev pub invariant-loop-at : goal.invariant-loop-at
 invariant-loop-at g l = record {
   kept : first_of (after l.new) l.name l.own.of.now.rows 1 (take l.at l.list) ≡ None;
-  steps : l.steps ≡ l.initial.steps;
+  cost : l.steps + looked_at (after l.new) l.own.of.now.rows (drop l.at l.list) ≤ l.initial.steps + looked_at (after l.new) l.own.of.now.rows l.list;
 }

@@ -1,10 +1,12 @@
-use Rattle.std.proofs.Common.{◌≡◌, ◌<◌, [], ◌∷◌, length, map, subst, ◌∙◌, arith, Ok, Err}
+use Rattle.std.proofs.Common.{◌≡◌, ◌<◌, ◌≤◌, ◌+◌, [], ◌∷◌, length, map, subst, arith, Ok, Err}
 use Rattle.std.proofs.lemmas.Result.{err_from_is_err_and}
 use Rattle.tree_core.specs.declared.declaration.Assignment.{Assignment}
 use Rattle.tree_core.specs.Items.{read_assignment}
 use Rattle.tree_core.specs.Relvars.{read_entry}
 use Rattle.assign_core.specs.Assignments.{evaluated}
 use Rattle.assign_core.specs.Changes.{changed, Gives}
+use Rattle.assign_core.specs.Costs.{source_cost}
+use Rattle.assign_core.proofs.CostLemmas.{sources_left}
 use Rattle.assign_core.proofs.SourceLemmas.{turn_given, turn_failed}
 use Rattle.assign_core.proofs.sources.evaluate.Goals as goal
 
@@ -32,5 +34,9 @@ loop-assignment-preserved g c =
       value =
           turn_given es (changed c.args.changes.now.items es) mid after c.args.list.now c.loop-assignment.assignment-index c.assignment-item.result within c.loop-assignment.invariant.value
           told;
-      steps = c.evaluate_one.ensures.steps ∙ c.loop-assignment.invariant.steps;
+      cost =
+          let one = subst (λ (a : Assignment). c.evaluate_one.new.steps ≤ c.loop-assignment.steps + source_cost es mid (read_assignment a)) c.assignment-item.is c.evaluate_one.ensures.cost in
+          let left = sources_left es mid after c.loop-assignment.assignment-index c.args.list.now c.assignment-item.result within told in
+          let so_far = c.loop-assignment.invariant.cost in
+          omega (arith, one, left, so_far);
     }

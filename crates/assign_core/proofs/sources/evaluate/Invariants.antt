@@ -1,8 +1,9 @@
-use Rattle.std.proofs.Common.{◌≡◌, map, take, Ok}
+use Rattle.std.proofs.Common.{◌≡◌, ◌≤◌, ◌+◌, map, take, drop, Ok}
 use Rattle.tree_core.specs.Items.{read_assignment}
 use Rattle.tree_core.specs.Relvars.{read_relvars}
 use Rattle.assign_core.specs.Assignments.{evaluated}
 use Rattle.assign_core.specs.Changes.{AreChanges, changed}
+use Rattle.assign_core.specs.Costs.{sources_cost}
 use Rattle.assign_core.proofs.sources.evaluate.Given as goal
 
 abbrev pub invariant-loop-assignment : goal.invariant-loop-assignment
@@ -11,5 +12,5 @@ invariant-loop-assignment g l =
     record {
       changes : AreChanges l.changes.items entries;
       value : evaluated entries (changed l.initial.changes.items entries) (map read_assignment (take l.assignment-index l.list)) ≡ Ok (changed l.changes.items entries);
-      steps : l.steps ≡ l.initial.steps;
+      cost : l.steps + sources_cost entries (changed l.changes.items entries) (map read_assignment (drop l.assignment-index l.list)) ≤ l.initial.steps + sources_cost entries (changed l.initial.changes.items entries) (map read_assignment l.list);
     }

@@ -4,7 +4,6 @@ use Rattle.tree_core.specs.declared.relvar.Relvars.{Relvars}
 use Rattle.tree_core.specs.Items.{read_assignment}
 use Rattle.tree_core.specs.Relvars.{read_relvars, read_entry}
 use Rattle.meaning_core.specs.Updates.{IsTypedAssignment}
-use Rattle.assign_core.specs.Assignments.{IsPlainAssignment}
 use Rattle.assign_core.specs.Databases.{IsKept}
 use Rattle.assign_core.proofs.AssignedLemmas.{each_of, assigned_kept}
 use Rattle.assign_core.proofs.ChangeLemmas.{same_length, entries_length}
@@ -15,12 +14,6 @@ prepare-requires-clause-typed g c =
     let list = map read_assignment c.args.list.now in
     each_of (IsTypedAssignment (read_relvars c.self.inside.relvars)) c.args.list.now
     (subst (λ (r : Relvars). All (IsTypedAssignment (read_relvars r)) list) (sym c.self.view_is) c.requires.typed)
-
-pub prepare-requires-clause-plain : goal.prepare-requires-clause-plain
-prepare-requires-clause-plain g c =
-    let list = map read_assignment c.args.list.now in
-    each_of (IsPlainAssignment (read_relvars c.self.inside.relvars)) c.args.list.now
-    (subst (λ (r : Relvars). All (IsPlainAssignment (read_relvars r)) list) (sym c.self.view_is) c.requires.plain)
 
 pub exchange_all-requires : goal.exchange_all-requires
 exchange_all-requires g c =

@@ -2,7 +2,8 @@ use Rattle.std.proofs.Common.{map, sym, subst}
 use Rattle.tree_core.specs.declared.relvar.Relvars.{Relvars}
 use Rattle.tree_core.specs.Relvars.{read_relvars}
 use Rattle.meaning_core.specs.Declarations.{read_declaration}
-use Rattle.assign_core.specs.Databases.{CanBecome, declared}
+use Rattle.meaning_core.specs.WellMade.{IsWellMade}
+use Rattle.assign_core.specs.Databases.{declared}
 use Rattle.assign_core.specs.Parts.{names_in}
 use Rattle.assign_core.proofs.DeclaredLemmas.{declared_kept}
 use Rattle.assign_core.proofs.NameLemmas.{distinct_later}
@@ -10,11 +11,11 @@ use Rattle.assign_core.proofs.database.Database.declare.Goals as goal
 
 pub append_all-requires : goal.append_all-requires
 append_all-requires c =
-    let can = subst (λ (r : Relvars). CanBecome (declared (read_relvars r) (map read_declaration c.args.list.items))) (sym c.self.view_is) c.requires in
+    let made = subst (λ (r : Relvars). IsWellMade (declared (read_relvars r) (map read_declaration c.args.list.items))) (sym c.self.view_is) c.requires in
     let s = declared (read_relvars c.self.inside.relvars) (map read_declaration c.args.list.items) in
-    distinct_later (map (λ o. o.name) s.ordinals) (names_in s.relvars) can.well_made.different
+    distinct_later (map (λ o. o.name) s.ordinals) (names_in s.relvars) made.different
 
 pub invariant_of-self : goal.invariant_of-self
 invariant_of-self c =
-    let can = subst (λ (r : Relvars). CanBecome (declared (read_relvars r) (map read_declaration c.args.list.items))) (sym c.self.view_is) c.requires in
-    declared_kept (read_relvars c.self.inside.relvars) (read_relvars c.append_all.new.relvars) (map read_declaration c.args.list.items) c.in-Ok.ensures.ok c.self.invariant can
+    let made = subst (λ (r : Relvars). IsWellMade (declared (read_relvars r) (map read_declaration c.args.list.items))) (sym c.self.view_is) c.requires in
+    declared_kept (read_relvars c.self.inside.relvars) (read_relvars c.append_all.new.relvars) (map read_declaration c.args.list.items) c.in-Ok.ensures.ok c.self.invariant made

@@ -1,11 +1,10 @@
-use Rattle.std.proofs.Common.{◌≡◌, map, IsTrue, ap, ◌∙◌, subst, sym}
+use Rattle.std.proofs.Common.{◌≡◌, map, ap, ◌∙◌, subst, sym}
 use Rattle.std.specs.List.{IsDistinct}
 use Rattle.std.specs.Str.{bytes_eq}
 use Rattle.tree_core.specs.declared.relvar.Relvars.{Relvars}
 use Rattle.tree_core.specs.Relvars.{Entries, read_relvars, read_entry}
 use Rattle.meaning_core.specs.Declarations.{without}
 use Rattle.meaning_core.specs.WellMade.{IsWellMade}
-use Rattle.meaning_core.specs.Plainness.{are_plain}
 use Rattle.assign_core.specs.Parts.{names_in}
 use Rattle.assign_core.proofs.NameLemmas.{distinct_later, names_of_keys, shift_filter}
 use Rattle.assign_core.proofs.RemovedLemmas.{removed_kept}
@@ -26,6 +25,5 @@ returns-clause-state c =
 pub invariant_of-self : goal.invariant_of-self
 invariant_of-self c =
     let made = subst (λ (r : Relvars). IsWellMade (without c.args.name.now (read_relvars r))) (sym c.self.view_is) c.requires.well_made in
-    let plain = subst (λ (r : Relvars). IsTrue (are_plain (without c.args.name.now (read_relvars r)).relvars)) (sym c.self.view_is) c.requires.plain in
     removed_kept (read_relvars c.self.inside.relvars) (read_relvars (record { list = c.shift_remove.new.self; ordinals = c.self.inside.relvars.ordinals })) c.args.name.now
-    (left_is c) c.self.invariant made plain
+    (left_is c) c.self.invariant made

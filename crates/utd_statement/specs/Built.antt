@@ -2,12 +2,11 @@
 --     is_plain_rel, is_plain_test      of expressions and tests
 --     is_plain_update      of items: they have no PORTION either, and are no TERMINATE
 --     is_plain_statement      of statements: they have no constraint over a list either, and are no HISTORY
-use Rattle.std.specs.Prelude.{Bool, true, false, ◌&&◌}
+use Rattle.std.specs.Prelude.{Bool, true, false, ◌&&◌, List}
 use Rattle.std.specs.List.{list_all}
 use Rattle.utd_syntax.specs.Plain as syntax
-use Rattle.utd_syntax.specs.Plain.{RelP, TermsP, TermP, RelPrimaryP, OperandP, ExtendP, SummarizeP, ComparisonP, TestP, DeletionP, ItemP, VarFormP, StatementP}
-use Rattle.declaration_typing.specs.Constraints.{are_built}
-use Rattle.item_typing.specs.Items.{has_no_portion, listed_items}
+use Rattle.utd_syntax.specs.Plain.{RelP, TermsP, TermP, RelPrimaryP, OperandP, ExtendP, SummarizeP, ComparisonP, TestP, ConstraintP, MaybePortionP, DeletionP, ItemP, VarFormP, StatementP}
+use Rattle.item_typing.specs.Items.{listed_items}
 
 abbrev mutual
   pub is_plain_rel : RelP → Bool
@@ -50,7 +49,24 @@ is_plain_test (syntax.UsingTest at l c) = false
 is_plain_test (syntax.Emptiness at w r) = is_plain_rel r
 is_plain_test (syntax.OfComparison c) = is_plain_comparison c
 
+-- ---- constraints
+
+-- KEY, and FOREIGN KEY without USING
+abbrev pub is_plain_constraint : ConstraintP → Bool
+is_plain_constraint (syntax.KeyOf key) = true
+is_plain_constraint (syntax.ForeignOf key) = true
+is_plain_constraint (syntax.PackedOn at list) = false
+is_plain_constraint (syntax.WhenUnpacked at list key) = false
+is_plain_constraint (syntax.UsingConstraint at list c) = false
+
+abbrev pub are_plain_constraints : List ConstraintP → Bool
+are_plain_constraints constraints = list_all is_plain_constraint constraints
+
 -- ---- items
+
+abbrev pub has_no_portion : MaybePortionP → Bool
+has_no_portion syntax.NoPortion = true
+has_no_portion (syntax.OfPortion at elements) = false
 
 abbrev pub is_plain_deletion : DeletionP → Bool
 is_plain_deletion (syntax.DeleteWhere at c) = true
@@ -68,7 +84,7 @@ is_plain_update (syntax.UsingItem at l i) = false
 -- ---- statements
 
 abbrev pub is_plain_var : VarFormP → Bool
-is_plain_var (syntax.BaseRelvar at heading constraints) = are_built constraints
+is_plain_var (syntax.BaseRelvar at heading constraints) = are_plain_constraints constraints
 is_plain_var (syntax.View at rel) = is_plain_rel rel
 
 abbrev pub is_plain_statement : StatementP → Bool

@@ -1,0 +1,71 @@
+-- How many steps assignments may take: a bound by numbers of rows and not of points.
+--     sources_cost      of the sources that are evaluated
+--     looked_at_all      of the constraints that are looked at
+--     assignments_cost      of both
+use Rattle.std.specs.Prelude.{ℕ, ◌+◌, nat_le, List, [], ◌∷◌, Option, Some, None, Ok, Err, if◌then◌else◌}
+use Rattle.point_core.specs.Faults.{OrFault}
+use Rattle.value_core.specs.declared.constraint.Constraint.{Constraint}
+use Rattle.value_core.specs.Values.{Row, Relation}
+use Rattle.tree_core.specs.Items.{PlainAssignment}
+use Rattle.tree_core.specs.Relvars.{PlainRelvar, base, view, Entries}
+use Rattle.algebra_core.specs.Costs.{cost_in}
+use Rattle.u_constraints.specs.Constraints.{broken}
+use Rattle.u_constraints.specs.Costs.{constraint_cost}
+use Rattle.assign_core.specs.Assignments.{seen_by, source_value, with_target, evaluated}
+use Rattle.assign_core.specs.Breaches.{rows_of_all, most_rows_of_all, rows_named, first_in}
+
+-- ---- sources
+
+-- the steps of a source in the relvars that it sees
+abbrev pub source_cost : Entries → Entries → PlainAssignment → ℕ
+source_cost old new a = cost_in (seen_by old new a.target) a.tree
+
+-- the steps that follow a value; behind a fault nothing follows
+abbrev pub behind : OrFault Relation → (Relation → ℕ) → ℕ
+behind (Ok value) f = f value
+behind (Err fault) f = 0
+
+-- the steps of sources that are evaluated one after the other
+abbrev pub sources_cost : Entries → Entries → List PlainAssignment → ℕ
+sources_cost old new [] = 0
+sources_cost old new (a ∷ rest) =
+    source_cost old new a + behind (source_value old new a) (λ value. sources_cost old (with_target new a.target value) rest)
+
+-- ---- constraints
+
+-- the steps that follow where nothing is broken
+abbrev pub where_kept : {X : Type 0} → Option X → ℕ → ℕ
+where_kept None n = n
+where_kept (Some x) n = 0
+
+-- the steps of a constraint over the rows of its relvar and of the one that it names
+abbrev pub cost_over : Entries → List Row → Constraint → ℕ
+cost_over entries rows c = constraint_cost c rows (rows_named entries c)
+
+-- the steps of a relvar's constraints, up to and with the first one that the rows break
+abbrev pub looked_at : Entries → List Row → List Constraint → ℕ
+looked_at entries rows [] = 0
+looked_at entries rows (c ∷ rest) =
+    cost_over entries rows c + where_kept (broken c rows (rows_named entries c)) (looked_at entries rows rest)
+
+abbrev pub looked_at_in : Entries → PlainRelvar → ℕ
+looked_at_in entries (base value constraints) = looked_at entries value.rows constraints
+looked_at_in entries (view t history) = 0
+
+-- the steps of the constraints of some relvars, up to and with the first broken one
+abbrev pub looked_at_all : Entries → Entries → ℕ
+looked_at_all entries [] = 0
+looked_at_all entries (r ∷ rest) = looked_at_in entries r.1 + where_kept (first_in entries r.0 r.1) (looked_at_all entries rest)
+
+-- ---- assignments
+
+-- constraints are looked at where the relvars do not have too many rows together
+abbrev pub constraints_cost : Entries → ℕ
+constraints_cost new = if nat_le (rows_of_all new) most_rows_of_all then looked_at_all new new else 0
+
+abbrev pub constraints_cost_of : OrFault Entries → ℕ
+constraints_cost_of (Ok new) = constraints_cost new
+constraints_cost_of (Err fault) = 0
+
+abbrev pub assignments_cost : Entries → List PlainAssignment → ℕ
+assignments_cost entries list = sources_cost entries entries list + constraints_cost_of (evaluated entries entries list)
