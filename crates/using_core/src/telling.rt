@@ -20,6 +20,5 @@ pub(crate) fn told(place: Place, answer: Result<Relation, RowsRefuse>) -> Result
             code: Code::E35,
         })),
         Err(RowsRefuse::Memory) => Err(Stop::Memory),
-        Err(RowsRefuse::Heading) => unreachable!(),
     }
 }
