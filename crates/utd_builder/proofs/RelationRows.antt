@@ -1,3 +1,4 @@
+-- Written by tools/grammar; change it there.
 -- What relational expressions say of the next token, where a statement goes on.
 use Rattle.std.proofs.Common.{◌≡◌, ℕ, List, [], ◌∷◌, true, false, Option, Some, None, refl, sym, ◌∙◌, ap}
 use Rattle.utd_syntax.specs.declared.terminal.Terminal.{Terminal}

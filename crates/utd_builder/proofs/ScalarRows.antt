@@ -1,3 +1,4 @@
+-- Written by tools/grammar; change it there.
 -- What scalars say of the next token, where a statement goes on.
 use Rattle.std.proofs.Common.{◌≡◌, ℕ, List, [], ◌∷◌, false, Option, Some, None, refl, sym, ◌∙◌, ap}
 use Rattle.utd_syntax.specs.declared.terminal.Terminal.{Terminal}

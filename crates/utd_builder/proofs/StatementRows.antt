@@ -1,3 +1,4 @@
+-- Written by tools/grammar; change it there.
 -- What statements say of the next token, where a statement goes on.
 use Rattle.std.proofs.Common.{◌≡◌, ℕ, List, [], ◌∷◌, ◌++◌, true, false, Option, Some, refl, sym, ◌∙◌, ap}
 use Rattle.utd_syntax.specs.declared.terminal.Terminal.{Terminal}

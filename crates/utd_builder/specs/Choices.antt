@@ -1,3 +1,4 @@
+-- Written by tools/grammar; change it there.
 -- Which of some words a token is.
 use Rattle.std.specs.Prelude.{Option, Some, None, Bool, true, false}
 use Rattle.utd_syntax.specs.declared.terminal.Terminal.{Terminal}

@@ -1,3 +1,4 @@
+// Written by tools/grammar; change it there.
 // Which of some words a token is.
 ghost use Rattle.std.specs.Prelude.{◌≡◌};
 ghost use Rattle.utd_builder.specs.Choices as choices;

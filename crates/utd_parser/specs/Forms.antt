@@ -1,3 +1,4 @@
+-- Written by tools/grammar; change it there.
 -- The forms of the parser as those of the table.
 use Rattle.std.specs.Prelude.{ℕ, List, [], ◌∷◌}
 use Rattle.utd_syntax.specs.Table as table

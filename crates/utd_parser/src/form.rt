@@ -1,3 +1,4 @@
+// Written by tools/grammar; change it there.
 // The forms of the grammar, and what a token does where one may stand.
 use utd_syntax::Terminal;
 

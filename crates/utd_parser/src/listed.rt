@@ -1,3 +1,4 @@
+// Written by tools/grammar; change it there.
 // For each form, the tokens that may stand next.
 ghost use Rattle.std.specs.Prelude.{◌≡◌};
 ghost use Rattle.utd_syntax.specs.Table as table;

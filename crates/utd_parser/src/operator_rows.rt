@@ -1,3 +1,4 @@
+// Written by tools/grammar; change it there.
 // The rows of products, sums and comparisons.
 use crate::form::{Form, Row, Taking};
 use utd_syntax::Terminal;

@@ -1,3 +1,4 @@
+// Written by tools/grammar; change it there.
 // The rows of relations and their parts.
 use crate::form::{Form, Row, Taking};
 use utd_syntax::Terminal;

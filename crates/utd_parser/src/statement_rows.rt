@@ -1,3 +1,4 @@
+// Written by tools/grammar; change it there.
 // The rows of statements and their parts.
 use crate::form::{Form, PlaceWord, Row, Taking};
 use utd_syntax::Terminal;

@@ -1,3 +1,4 @@
+-- Written by tools/grammar; change it there.
 -- The verdict without limits, and what the table reads.
 use Rattle.std.proofs.Common.{◌≡◌, ℕ, List, [], ◌∷◌, ◌++◌, Bool, true, false, cond, Option, Some, None, refl, sym, ◌∙◌, ap, subst, append_assoc}
 use Rattle.utd_syntax.specs.declared.terminal.Terminal.{Terminal}

@@ -1,3 +1,4 @@
+-- Written by tools/grammar; change it there.
 -- The table reads what a tree writes as that tree.
 use Rattle.std.proofs.Common.{◌≡◌, List, [], ◌∷◌, ◌++◌, Option, Some, None, refl, sym, ◌∙◌, ap}
 use Rattle.utd_syntax.specs.declared.terminal.Terminal.TheVariants as t

@@ -1,3 +1,4 @@
+-- Written by tools/grammar; change it there.
 -- The tokens that complete a stack, and that they do.
 use Rattle.std.proofs.Common.{◌≡◌, ℕ, List, [], ◌∷◌, ◌++◌, Bool, true, false, cond, ◌&&◌, Option, Some, refl, ◌∙◌}
 use Rattle.utd_syntax.specs.declared.terminal.Terminal.{Terminal}

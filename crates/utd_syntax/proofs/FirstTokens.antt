@@ -1,3 +1,4 @@
+-- Written by tools/grammar; change it there.
 -- A tree begins with a token that may begin its form.
 use Rattle.std.proofs.Common.{◌≡◌, ℕ, List, [], ◌∷◌, ◌++◌, Option, refl}
 use Rattle.utd_syntax.specs.declared.terminal.Terminal.{Terminal}

@@ -1,3 +1,4 @@
+-- Written by tools/grammar; change it there.
 -- Forms that end before a token that they do not take, and which tokens may begin a form.
 use Rattle.std.proofs.Common.{◌≡◌, ℕ, List, [], ◌∷◌, Bool, true, false, cond, Option, refl, ap}
 use Rattle.utd_syntax.specs.declared.terminal.Terminal.{Terminal}

@@ -1,3 +1,4 @@
+-- Written by tools/grammar; change it there.
 -- What forms and rows make of their tokens and of what stands behind them.
 use Rattle.std.proofs.Common.{ℕ, List, [], ◌∷◌, ◌++◌}
 use Rattle.utd_syntax.specs.declared.terminal.Terminal.TheVariants as t

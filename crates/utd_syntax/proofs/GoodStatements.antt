@@ -1,3 +1,4 @@
+-- Written by tools/grammar; change it there.
 -- The rows of relations and of statements keep stacks good.
 use Rattle.std.proofs.Common.{ℕ, List, [], ◌∷◌, ◌++◌, Bool, true, false, cond, refl}
 use Rattle.utd_syntax.specs.declared.terminal.Terminal.{Terminal}

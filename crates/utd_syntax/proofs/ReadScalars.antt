@@ -1,3 +1,4 @@
+-- Written by tools/grammar; change it there.
 -- The table reads what a row expression writes as that expression.
 use Rattle.std.proofs.Common.{◌≡◌, ℕ, List, [], ◌∷◌, ◌++◌, Option, refl, ◌∙◌, ap}
 use Rattle.utd_syntax.specs.declared.terminal.Terminal.{Terminal}

@@ -1,3 +1,4 @@
+-- Written by tools/grammar; change it there.
 -- What the table reads: a value for each form.
 use Rattle.std.proofs.Common.{ℕ, List, [], ◌∷◌, ◌++◌, Bool, true, false, Option, Some, None, if◌then◌else◌}
 use Rattle.utd_syntax.specs.declared.terminal.Terminal.{Terminal}

@@ -1,3 +1,4 @@
+-- Written by tools/grammar; change it there.
 -- Each stack that the table reaches can be completed; so E01 is that no statement continues so.
 use Rattle.std.proofs.Common.{◌≡◌, ℕ, List, [], ◌∷◌, ◌++◌, Bool, true, false, cond, ◌⊎◌, inl, inr, Option, Some, None, refl, sym, ◌∙◌, ap, subst}
 use Rattle.utd_syntax.specs.declared.terminal.Terminal.{Terminal}

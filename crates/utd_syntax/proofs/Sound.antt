@@ -1,3 +1,4 @@
+-- Written by tools/grammar; change it there.
 -- What the table reads writes the tokens.
 use Rattle.std.proofs.Common.{◌≡◌, ℕ, List, [], ◌∷◌, ◌++◌, Bool, true, false, cond, get_or, rules, ◌==◌, ◌&&◌, Option, Some, None, refl, sym, ◌∙◌, ap, subst}
 use Rattle.utd_syntax.specs.declared.terminal.Terminal.{Terminal}

@@ -1,3 +1,4 @@
+-- Written by tools/grammar; change it there.
 -- What the rows of the table make writes their tokens.
 use Rattle.std.proofs.Common.{◌≡◌, ℕ, List, [], ◌∷◌, ◌++◌, refl, subst}
 use Rattle.utd_syntax.specs.declared.terminal.Terminal.{Terminal}

@@ -1,3 +1,4 @@
+-- Written by tools/grammar; change it there.
 -- The syntax tree as plain data: without where its parts lie in memory. Each rule of the grammar is one type. A tree
 -- keeps the place of its first token, of each name, and of each token at which a refusal or a fault may stand.
 use Rattle.std.specs.Prelude.{ℕ, List}

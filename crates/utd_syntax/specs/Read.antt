@@ -1,3 +1,4 @@
+-- Written by tools/grammar; change it there.
 -- The plain tree of a tree: without where its parts lie in memory.
 use Rattle.std.specs.Prelude.{List, [], ◌∷◌}
 use Rattle.utd_syntax.specs.declared.word.Word.{Word as WordTree}

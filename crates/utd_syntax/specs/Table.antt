@@ -1,3 +1,4 @@
+-- Written by tools/grammar; change it there.
 -- For each form and each place in it, the tokens that may stand next.
 use Rattle.std.specs.Prelude.{ℕ, List, [], ◌∷◌, ◌++◌, Bool, true, false, ◌==◌, ◌&&◌, if◌then◌else◌}
 use Rattle.utd_syntax.specs.declared.terminal.Terminal.{Terminal}

@@ -1,3 +1,4 @@
+-- Written by tools/grammar; change it there.
 -- How the terminals are spelled.
 use Rattle.std.specs.Prelude.{◌≡◌, ℕ, List, [], ◌∷◌, Bool, true, false, ◌&&◌, ◌||◌, ◌==◌, nat_le, if◌then◌else◌}
 use Rattle.utd_syntax.specs.declared.terminal.Terminal.{Terminal}

@@ -1,3 +1,4 @@
+-- Written by tools/grammar; change it there.
 -- The grammar: the tokens that a tree is written as, an equation for each alternative.
 use Rattle.std.specs.Prelude.{◌≡◌, ℕ, List, [], ◌∷◌, ◌++◌}
 use Rattle.utd_syntax.specs.declared.terminal.Terminal.{Terminal}

@@ -1,3 +1,4 @@
+// Written by tools/grammar; change it there.
 // What a token is to the grammar.
 
 /// What a token is to the grammar: a reserved word, a symbol, a name, an integer, a text, or that no token is left.

@@ -1,3 +1,4 @@
+// Written by tools/grammar; change it there.
 // The choices of one token inside the rules of the grammar.
 
 /// The words and symbols that compare two scalars.
