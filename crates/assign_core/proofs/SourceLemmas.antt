@@ -15,12 +15,12 @@ use Rattle.tree_core.specs.Relvars.{PlainRelvar, base, view, Entries, relvar_nam
 use Rattle.tree_core.specs.Trees.{heading_of, read_tree}
 use Rattle.meaning_core.specs.Meanings.{meaning_in}
 use Rattle.meaning_core.specs.Names.{given}
-use Rattle.meaning_core.specs.WellMade.{IsBase, IsGiven}
+use Rattle.meaning_core.specs.WellMade.{IsGiven}
 use Rattle.meaning_core.proofs.LookupLemmas.{operand_heading, under_ok}
 use Rattle.assign_core.specs.Assignments.{seen_by, source_value, with_target, evaluated}
 use Rattle.assign_core.specs.Breaches.{value_if}
 use Rattle.assign_core.specs.Changes.{Gives}
-use Rattle.meaning_core.proofs.RowlessLemmas.{bare_all, own-given, is_given-keeps, is_base-keeps}
+use Rattle.meaning_core.proofs.RowlessLemmas.{bare_all, own-given, is_given-keeps}
 
 heading_is : (t : RelTree) → t.heading ≡ heading_of (read_tree t)
 heading_is t = operand_heading t (Ok []) (record { heading = t.heading; rows = [] }) refl
@@ -38,20 +38,22 @@ newest_given old new name value e is = by (relvar_named new name) refl is
         subst (λ (z : Relation). IsGiven old (Some name) (Some z)) (sym same) (is_given-keeps old new (sym e) (Some name) (Some v) (own-given new name v cs q))
     by (Some (view t h)) q f = absurd (cc)
 
--- a base relvar has a newest value
-pub no_base : (old new : Entries) (name : Name) → bare_all new ≡ bare_all old → None ≡ value_if (relvar_named new name) → IsBase (relvar_named old name) → ⊥
-no_base old new name e is h = by (relvar_named new name) is (is_base-keeps new old e name h)
-  where
-    by : (o : Option PlainRelvar) → None ≡ value_if o → IsBase o → ⊥
-    by None f b = b
-    by (Some (base v cs)) f b = cc
-    by (Some (view t h)) f b = b
+-- what a source sees is what it is given: its own newest value, or nothing where there is none
+pub seen_newest : (old new : Entries) (name : Name) (value : Relation) → Some value ≡ value_if (relvar_named new name) → given (Some name) (Some value) old ≡ seen_by old new name
+seen_newest old new name value is = ap (λ (o : Option Relation). given (Some name) o old) is
 
-pub source_told : (result : Result Relation Stop) (old new : Entries) (a : Assignment) (value : Relation) → Some value ≡ value_if (relvar_named new a.target)
-    → Answers result (under a.tree.heading (meaning_in (given (Some a.target) (Some value) old) (read_tree a.tree))) → Answers result (source_value old new (read_assignment a))
-source_told result old new a value is told =
-    subst (λ (o : Option Relation). Answers result (under (heading_of (read_tree a.tree)) (meaning_in (given (Some a.target) o old) (read_tree a.tree)))) is
-    (subst (λ (h : Heading). Answers result (under h (meaning_in (given (Some a.target) (Some value) old) (read_tree a.tree)))) (heading_is a.tree) told)
+pub seen_old : (old new : Entries) (name : Name) → None ≡ value_if (relvar_named new name) → given None None old ≡ seen_by old new name
+seen_old old new name is = same old ∙ ap (λ (o : Option Relation). given (Some name) o old) is
+  where
+    same : (es : Entries) → given None None es ≡ given (Some name) None es
+    same [] = refl
+    same (e ∷ es) = ap (λ (z : Entries). e ∷ z) (same es)
+
+pub source_told : (result : Result Relation Stop) (t : RelTree) (given seen : Entries) → given ≡ seen → Answers result (under t.heading (meaning_in given (read_tree t)))
+    → Answers result (under (heading_of (read_tree t)) (meaning_in seen (read_tree t)))
+source_told result t given seen is told =
+    subst (λ (es : Entries). Answers result (under (heading_of (read_tree t)) (meaning_in es (read_tree t)))) is
+    (subst (λ (h : Heading). Answers result (under h (meaning_in given (read_tree t)))) (heading_is t) told)
 
 -- the value of a source has its heading
 pub source_heading : (old new : Entries) (a : PlainAssignment) (value : Relation) → source_value old new a ≡ Ok value → value.heading ≡ heading_of a.tree

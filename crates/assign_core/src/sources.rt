@@ -1,13 +1,16 @@
 // The values of sources.
 ghost use Rattle.std.specs.Prelude.{◌≡◌, ◌<◌, ◌≤◌, ◌+◌, [], ◌∷◌, map, length};
 ghost use Rattle.std.specs.List.{All};
-ghost use Rattle.relation_core.specs.Answers.{Answers};
+ghost use Rattle.relation_core.specs.Answers.{Answers, under};
 ghost use Rattle.tree_core.specs.Items.{read_assignment};
 ghost use Rattle.tree_core.specs.Relvars.{read_relvars, PlainRelvar};
+ghost use Rattle.tree_core.specs.Trees.{heading_of, read_tree};
+ghost use Rattle.meaning_core.specs.Meanings.{meaning_in};
 ghost use Rattle.meaning_core.specs.Names.{IsFirstAt};
 ghost use Rattle.meaning_core.specs.Updates.{IsTypedAssignment};
-ghost use Rattle.meaning_core.specs.WellMade.{IsWellMade};
-ghost use Rattle.assign_core.specs.Assignments.{source_value, evaluated};
+ghost use Rattle.meaning_core.specs.WellMade.{IsTypedFor, IsWellMade};
+ghost use Rattle.algebra_core.specs.Costs.{cost_in};
+ghost use Rattle.assign_core.specs.Assignments.{seen_by, evaluated};
 ghost use Rattle.assign_core.specs.Changes.{AreChanges, changed, Gives};
 ghost use Rattle.assign_core.specs.Costs.{source_cost, sources_cost};
 
@@ -16,8 +19,8 @@ use algebra_core::eval;
 use point_core::{Steps, Stop};
 use std::alloc::Global;
 use std::sync::ledger::Ledger;
-use tree_core::{Assignment, Relvars};
-use value_core::Relation;
+use tree_core::{Assignment, RelTree, Relvars};
+use value_core::{Name, Relation};
 
 /// Evaluates the sources in order. Each sees the old relvars, its own target alone with its newest value.
 pub(crate) fn evaluate<L: Ledger>(
@@ -57,36 +60,39 @@ fn evaluate_one<L: Ledger>(
         (changed changes.new.items (read_relvars relvars.now).relvars) }
     ensures cost { steps.new ≤ steps.old + source_cost (read_relvars relvars.now).relvars (changed changes.old.items (read_relvars relvars.now).relvars) (read_assignment assignment.now) }
 {
-    let value = source(alloc, assignment, relvars, changes.as_slice(), steps)?;
+    let value = source(
+        alloc,
+        &assignment.tree,
+        &assignment.target,
+        relvars,
+        changes.as_slice(),
+        steps,
+    )?;
     let at = place(relvars, assignment);
     changes[at] = Some(value);
     Ok(())
 }
 
-// The value of a source.
+// The value of a source that sees the old relvars, the one of this name alone with its newest value.
 fn source<L: Ledger>(
     alloc: Global,
-    assignment: &Assignment,
+    tree: &RelTree,
+    name: &Name,
     relvars: &Relvars,
     changes: &[Option<Relation>],
     steps: &mut Steps<L>,
 ) -> Result<Relation, Stop>
     requires well_made { IsWellMade (read_relvars relvars.now) }
-    requires typed { IsTypedAssignment (read_relvars relvars.now) (read_assignment assignment.now) }
+    requires typed { IsTypedFor (read_relvars relvars.now) (read_tree tree.now) }
     requires changes { AreChanges changes.now (read_relvars relvars.now).relvars }
-    ensures value { Answers result (source_value (read_relvars relvars.now).relvars (changed changes.now (read_relvars relvars.now).relvars) (read_assignment assignment.now)) }
-    ensures cost { steps.new ≤ steps.old + source_cost (read_relvars relvars.now).relvars (changed changes.now (read_relvars relvars.now).relvars) (read_assignment assignment.now) }
+    ensures value { Answers result (under (heading_of (read_tree tree.now))
+        (meaning_in (seen_by (read_relvars relvars.now).relvars (changed changes.now (read_relvars relvars.now).relvars) name.now) (read_tree tree.now))) }
+    ensures cost { steps.new ≤ steps.old + cost_in
+        (seen_by (read_relvars relvars.now).relvars (changed changes.now (read_relvars relvars.now).relvars) name.now) (read_tree tree.now) }
 {
-    match current(relvars, changes, &assignment.target) {
-        Some(value) => eval(
-            alloc,
-            &assignment.tree,
-            relvars,
-            Some(&assignment.target),
-            Some(value),
-            steps,
-        ),
-        None => unreachable!(),
+    match current(relvars, changes, name) {
+        Some(value) => eval(alloc, tree, relvars, Some(name), Some(value), steps),
+        None => eval(alloc, tree, relvars, None, None, steps),
     }
 }
 

@@ -2,7 +2,7 @@ use Rattle.std.proofs.Common.{map, ◌∙◌}
 use Rattle.tree_core.specs.Relvars.{read_entry}
 use Rattle.assign_core.specs.Changes.{changed}
 use Rattle.assign_core.proofs.ChangeLemmas.{bare_changed, same_length, entries_length}
-use Rattle.assign_core.proofs.SourceLemmas.{newest_given, no_base, source_told}
+use Rattle.assign_core.proofs.SourceLemmas.{newest_given, seen_newest, seen_old, source_told}
 use Rattle.assign_core.proofs.sources.source.Goals as goal
 
 pub current-requires-clause-length : goal.current-requires-clause-length
@@ -13,14 +13,16 @@ current-requires-clause-length g c =
 pub eval-requires-clause-given : goal.eval-requires-clause-given
 eval-requires-clause-given g c =
     let es = map read_entry c.args.relvars.now.list.entries in
-    newest_given es (changed c.args.changes.now es) c.args.assignment.now.target c.in-Some.value.now (bare_changed c.args.changes.now es c.requires.changes) c.in-Some.ensures
+    newest_given es (changed c.args.changes.now es) c.args.name.now c.in-Some.value.now (bare_changed c.args.changes.now es c.requires.changes) c.in-Some.ensures
 
-pub unreachable-requires : goal.unreachable-requires
-unreachable-requires g c =
+pub returns-in-Some-clause-value : goal.returns-in-Some-clause-value
+returns-in-Some-clause-value g c =
     let es = map read_entry c.args.relvars.now.list.entries in
-    no_base es (changed c.args.changes.now es) c.args.assignment.now.target (bare_changed c.args.changes.now es c.requires.changes) c.in-None.ensures c.requires.typed.base
+    let seen = seen_newest es (changed c.args.changes.now es) c.args.name.now c.in-Some.value.now c.in-Some.ensures in
+    source_told _ c.args.tree.now _ _ seen c.eval.ensures.value
 
-pub returns-clause-value : goal.returns-clause-value
-returns-clause-value g c =
+pub returns-in-None-clause-value : goal.returns-in-None-clause-value
+returns-in-None-clause-value g c =
     let es = map read_entry c.args.relvars.now.list.entries in
-    source_told c.eval.result es (changed c.args.changes.now es) c.args.assignment.now c.in-Some.value.now c.in-Some.ensures c.eval.ensures.value
+    let seen = seen_old es (changed c.args.changes.now es) c.args.name.now c.in-None.ensures in
+    source_told _ c.args.tree.now _ _ seen c.eval-in-None.ensures.value
