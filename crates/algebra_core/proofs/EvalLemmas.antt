@@ -22,7 +22,6 @@ use Rattle.tree_core.specs.declared.tree.RelTree.{RelTree}
 use Rattle.tree_core.specs.declared.tree.RelForm.{RelForm, Named, Literal, Infix', Project', Rename', Restrict', Extend', Summarize', Pack', Unpack', Using'}
 use Rattle.meaning_core.specs.Meanings.{RowsMeant, Known, at_name, limited, relvar_meaning, known_in}
 use Rattle.meaning_core.specs.Names.{found, given, given_relvar, given_entry}
-
 use Rattle.meaning_core.specs.Names.{IsFirstAt}
 use Rattle.algebra_core.specs.Scopes.{CanEvaluate, CanLookUp, state_of, all_of, with_of, value_of, known_at, stored_meaning, stored_work, work, up_to, current}
 use Rattle.meaning_core.specs.Typing.{heading_named, IsTypedTree}

@@ -57,7 +57,14 @@ pub fn counted<L: Ledger>(
     let mut least = None;
     let keys = keys_of(alloc, sides, rows)?;
     let ordered = rows_in_order(keys)?;
-    let counts = grouped(alloc, sides, ordered.as_slice(), &Count, &mut least, &mut steps)?;
+    let counts = grouped(
+        alloc,
+        sides,
+        ordered.as_slice(),
+        &Count,
+        &mut least,
+        &mut steps,
+    )?;
     let out = small_of(alloc, counts.as_slice())?;
     Ok(out)
 }

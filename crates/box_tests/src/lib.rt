@@ -145,10 +145,7 @@ mod tests {
 
     #[test]
     fn counts_on_two_sides(rt: HostRuntime) -> Result<(), Fail> {
-        let rows = [
-            two_sides(0, (0, 3), (0, 2)),
-            two_sides(0, (2, 4), (1, 3)),
-        ];
+        let rows = [two_sides(0, (0, 3), (0, 2)), two_sides(0, (2, 4), (1, 3))];
         let counts = counted::<Brand>(rt.alloc(), 2, &rows, Blank::new(1))?;
         assert_eq!(rt; counts.len(), 5);
         assert!(rt; counts[0] == two_sides(1, (0, 3), (0, 1)));

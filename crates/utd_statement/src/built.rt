@@ -7,8 +7,8 @@ ghost use Rattle.utd_statement.specs.Built as rules;
 ghost use Rattle.utd_statement.specs.Built.{has_no_portion, is_plain_rel, is_plain_terms, is_plain_term, is_plain_primary, is_plain_operand, is_plain_extend, is_plain_summarize, is_plain_comparison, is_plain_test, is_plain_deletion, is_plain_update, is_plain_var, is_plain_statement};
 
 use utd_syntax::{
-    Assignment, Constraint, Constraints, Deletion, Extend, Item, MaybePortion, Operand, Rel, RelPrimary, Relate, Statement,
-    Summarize, Term, Terms, Test, VarForm,
+    Assignment, Constraint, Constraints, Deletion, Extend, Item, MaybePortion, Operand, Rel,
+    RelPrimary, Relate, Statement, Summarize, Term, Terms, Test, VarForm,
 };
 
 #[cycle(rel)]
