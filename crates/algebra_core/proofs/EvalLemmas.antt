@@ -1,29 +1,22 @@
 -- What nodes mean, from what their parts mean.
-use Rattle.std.proofs.Common.{◌≡◌, ℕ, zero, suc, ◌<◌, ◌≤◌, Bool, true, false, List, [], ◌∷◌, length, map, take, get_or, refl, sym, ap, ◌∙◌, subst, arith, cond, IsTrue, Option, Some, None, Result, Ok, Err, nat_lt, ◌⊎◌, inl, inr}
-use Rattle.std.specs.List.{position, position_or_len}
+use Rattle.std.proofs.Common.{◌≡◌, ℕ, zero, suc, ◌<◌, ◌≤◌, Bool, true, false, List, [], ◌∷◌, length, map, take, get_or, refl, sym, ap, ◌∙◌, subst, arith, cond, Option, Some, None, Result, Ok, ◌⊎◌, inl, inr}
 use Rattle.std.proofs.lemmas.List.{length-map}
-use Rattle.std.proofs.lemmas.List.Sums.{fails_before_first}
 use Rattle.relation_core.proofs.FilterLemmas.{take_all}
-use Rattle.std.proofs.lemmas.Bool.Decides.{nat_tests}
-use Rattle.std.specs.Prelude.{slice_get}
 use Rattle.std.specs.Str.{bytes_eq}
 use Rattle.std.proofs.lemmas.Bool.{true≢false}
-use Rattle.std.proofs.lemmas.List.Quantifiers.{position-Some}
-use Rattle.base_core.specs.Outcomes.{then_give, both}
+use Rattle.base_core.specs.Outcomes.{then_give}
 use Rattle.point_core.specs.declared.fault.Place.{Place}
 use Rattle.point_core.specs.declared.fault.Stop.{Stop}
 use Rattle.value_core.specs.declared.constraint.Constraint.{Constraint}
-use Rattle.value_core.specs.Values.{Name, Row, Heading, Relation}
+use Rattle.value_core.specs.Values.{Name, Heading, Relation}
 use Rattle.relation_core.specs.Answers.{Answers, under}
 use Rattle.tree_core.specs.Relvars.{PlainRelvar, base, view, Entries, relvar_named, relvar_heading, heading_if, read_relvar, read_entry}
-use Rattle.tree_core.specs.Trees.{Tree, named, heading_of, read_tree, read_form}
+use Rattle.tree_core.specs.Trees.{Tree, named}
 use Rattle.tree_core.specs.declared.relvar.Relvar.{Relvar}
-use Rattle.tree_core.specs.declared.tree.RelTree.{RelTree}
-use Rattle.tree_core.specs.declared.tree.RelForm.{RelForm, Named, Literal, Infix', Project', Rename', Restrict', Extend', Summarize', Pack', Unpack', Using'}
 use Rattle.meaning_core.specs.Meanings.{RowsMeant, Known, at_name, limited, relvar_meaning, known_in}
-use Rattle.meaning_core.specs.Names.{found, given, given_relvar, given_entry}
-use Rattle.meaning_core.specs.Names.{IsFirstAt}
-use Rattle.algebra_core.specs.Scopes.{CanEvaluate, CanLookUp, state_of, all_of, with_of, value_of, known_at, stored_meaning, stored_work, work, up_to, current}
+use Rattle.meaning_core.specs.Names.{found, given, given_relvar, given_entry, IsFirstAt}
+use Rattle.algebra_core.specs.Costs.{prices_in}
+use Rattle.algebra_core.specs.Scopes.{CanEvaluate, CanLookUp, state_of, all_of, with_of, value_of, known_at, prices_at, stored_meaning, stored_work, work, up_to, current}
 use Rattle.meaning_core.specs.Typing.{heading_named, IsTypedTree}
 use Rattle.meaning_core.specs.WellMade.{sizes_of, headings_of, IsGiven, IsWellMade, IsTypedFor}
 use Rattle.algebra_core.specs.declared.scope.Scope.{Scope}
@@ -42,7 +35,6 @@ module _ (s : Scope) (place : Place) (h : Heading) (name : Name) (at : ℕ) (x :
     relvars = can.relvars;
     given = can.given;
     first = first;
-    plain = subst (λ (b : Bool). IsTrue b) (found_first relvar_is_plain true (all_of s) name at s.before x first stands_before.0) can.plain;
   }
 
   pub work_falls : stored_work s at x < work s (named place h name)
@@ -66,7 +58,6 @@ view_can s name at t history can = record {
   relvars = can.relvars;
   given = can.given;
   typed = (relvar_first (sizes_of (state_of s).ordinals) (all_of s) name at (view t history) can.relvars can.first).1.0;
-  plain = can.plain;
 }
 
 base_by : (entries : Entries) (known : Known) (with : Option Name) (value : Option Relation) (name : Name) (old : Relation) (constraints : List Constraint)
@@ -110,14 +101,17 @@ module _ (s : Scope) (whole : length (all_of s) ≤ s.before) where
   all_first : take s.before (all_of s) ≡ all_of s
   all_first = take_all s.before (all_of s) whole
 
-  pub whole_can : (t : Tree) → IsWellMade (state_of s) → IsTypedFor (state_of s) t → IsGiven (all_of s) (with_of s) (value_of s) → IsPlain (all_of s) t → CanEvaluate s t
-  whole_can t made typed given plain = record {
+  pub whole_can : (t : Tree) → IsWellMade (state_of s) → IsTypedFor (state_of s) t → IsGiven (all_of s) (with_of s) (value_of s) → CanEvaluate s t
+  whole_can t made typed given = record {
     relvars = made.relvars;
     given = given;
     typed = subst (λ (es : Entries). IsTypedTree (sizes_of (state_of s).ordinals) (headings_of es) t) (sym all_first) typed;
-    plain = subst (λ (es : Entries). IsPlain es t) (sym all_first) plain;
   }
 
   pub whole_known : known_at s ≡ known_in (given (with_of s) (value_of s) (all_of s))
   whole_known =
       ap known_in (take_all s.before (given (with_of s) (value_of s) (all_of s)) (omega (arith, length-map (all_of s) (given_entry (with_of s) (value_of s)))))
+
+  pub whole_prices : prices_at s ≡ prices_in (given (with_of s) (value_of s) (all_of s))
+  whole_prices =
+      ap prices_in (take_all s.before (given (with_of s) (value_of s) (all_of s)) (omega (arith, length-map (all_of s) (given_entry (with_of s) (value_of s)))))

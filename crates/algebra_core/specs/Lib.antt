@@ -1,3 +1,4 @@
 pub mod Costs
 pub mod Operands
 pub mod Scopes
+pub mod Surroundings

@@ -1,12 +1,13 @@
 -- The first entries of a state as the scope of names.
 --     CanEvaluate      what an expression in a scope keeps
 --     CanLookUp      what an entry of a scope keeps
---     known_at      what the names of a scope mean
+--     known_at, prices_at      what the names of a scope mean, and what steps they take
 use Rattle.std.specs.Prelude.{ℕ, ◌+◌, [], take, Option, Some, None, option_map, if◌then◌else◌}
 use Rattle.std.specs.Str.{bytes_eq}
 use Rattle.value_core.specs.Values.{Name, Relation}
 use Rattle.tree_core.specs.Relvars.{PlainRelvar, Entries, State, read_relvars}
 use Rattle.tree_core.specs.Trees.{Tree}
+use Rattle.algebra_core.specs.Costs.{Prices, prices_in, relvar_cost}
 use Rattle.algebra_core.specs.declared.scope.Scope.{Scope}
 use Rattle.meaning_core.specs.Meanings.{Known, RowsMeant, known_in, relvar_meaning}
 use Rattle.meaning_core.specs.Names.{IsFirstAt, given, given_relvar}
@@ -37,6 +38,10 @@ first_of s = take s.before (all_of s)
 abbrev pub known_at : Scope → Known
 known_at s = known_in (take s.before (given (with_of s) (value_of s) (all_of s)))
 
+-- and what they take
+abbrev pub prices_at : Scope → Prices
+prices_at s = prices_in (take s.before (given (with_of s) (value_of s) (all_of s)))
+
 -- the expression is typed for the scope, and the state keeps what declarations keep
 pub record CanEvaluate (s : Scope) (t : Tree) : Type 0 where
   pub relvars : AreRelvars (sizes_of (state_of s).ordinals) [] (all_of s)
@@ -62,6 +67,10 @@ current None value name old = old
 -- what a relvar or view at a place means
 abbrev pub stored_meaning : Scope → Name → ℕ → PlainRelvar → RowsMeant
 stored_meaning s name at r = relvar_meaning (known_at (up_to s at)) (given_relvar (with_of s) (value_of s) name r)
+
+-- what it takes: another value changes no view
+abbrev pub stored_cost : Scope → ℕ → PlainRelvar → ℕ
+stored_cost s at r = relvar_cost (prices_at (up_to s at)) r
 
 -- what work is left for an expression in a scope, and for an entry
 abbrev pub work : Scope → Tree → ℕ

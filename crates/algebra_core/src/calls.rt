@@ -1,24 +1,27 @@
 // The calls of this crate.
-ghost use Rattle.std.specs.Prelude.{◌≡◌, ◌≤◌, ◌+◌, Ok, not, option_map};
-ghost use Rattle.base_core.specs.Outcomes.{both, then_give};
+ghost use Rattle.std.specs.Prelude.{◌≡◌, ◌≤◌, ◌+◌, Ok, length, not, option_map};
+ghost use Rattle.base_core.specs.Outcomes.{then_give};
 ghost use Rattle.relation_core.specs.Answers.{Answers, under};
 ghost use Rattle.value_core.specs.Values.{same_rows};
 ghost use Rattle.tree_core.specs.Relvars.{read_relvars};
-ghost use Rattle.tree_core.specs.Trees.{read_tree, read_test, heading_of};
+ghost use Rattle.tree_core.specs.Trees.{read_tree, read_test, heading_of, relate};
 ghost use Rattle.meaning_core.specs.Meanings.{meaning, meaning_in, plainly};
 ghost use Rattle.meaning_core.specs.Names.{given};
-ghost use Rattle.algebra_core.specs.Costs.{cost_in, test_cost};
-ghost use Rattle.algebra_core.specs.Scopes.{CanEvaluate, known_at};
-ghost use Rattle.meaning_core.specs.Truths.{truth_in, related_rows, no_rows, within};
+ghost use Rattle.algebra_core.specs.Costs.{comparison_cost, cost_in, cost_of_test, test_cost, tree_cost};
+ghost use Rattle.algebra_core.specs.Scopes.{CanEvaluate, known_at, prices_at};
+ghost use Rattle.meaning_core.specs.Truths.{compared_rows, no_rows, related_rows, truth_in, truth_of, within};
+ghost use Rattle.meaning_core.specs.Typing.{IsListIf};
 ghost use Rattle.meaning_core.specs.WellMade.{IsWellMade, IsTypedFor, IsTypedTestFor, IsGiven};
 
 use crate::evaluation::{answer, operand};
 use crate::scope::Scope;
+use crate::surrounding::Surrounding;
 use point_core::{Steps, Stop};
 use std::alloc::Global;
 use std::sync::ledger::Ledger;
 use tree_core::{RelTest, RelTree, RelateWord, Relvars, TestForm};
-use value_core::{Name, Relation};
+use using_core::compared;
+use value_core::{Name, Positions, Relation};
 
 /// The relation of an expression where these are the relvars and views, or its first fault. Where a base relvar and a value are
 /// given, this value stands for the relvar's, in views too.
@@ -44,7 +47,7 @@ pub fn eval<L: Ledger>(
         value,
         before: relvars.list.len(),
     };
-    answer(alloc, tree, &scope)
+    answer(alloc, tree, Surrounding::Plainly, &scope, steps)
 }
 
 /// Whether a test holds where these are the relvars and views, or its first fault.
@@ -66,45 +69,84 @@ pub fn test<L: Ledger>(
         before: relvars.list.len(),
     };
     match &test.form {
-        TestForm::Relate(word, _, l, r) => related(alloc, *word, l, r, &scope),
-        TestForm::IsEmpty(t) => is_empty(alloc, t, &scope),
-        TestForm::IsNotEmpty(t) => is_not_empty(alloc, t, &scope),
+        TestForm::Relate(word, acl, l, r) => related(alloc, *word, acl, l, r, &scope, steps),
+        TestForm::IsEmpty(t) => is_empty(alloc, t, &scope, steps),
+        TestForm::IsNotEmpty(t) => is_not_empty(alloc, t, &scope, steps),
     }
 }
 
-// Whether the relations of two expressions stand as the word says.
-fn related(
+// Whether the relations of two expressions stand as the word says, unpacked where a list is given.
+fn related<L: Ledger>(
     alloc: Global,
     word: RelateWord,
+    acl: &Option<Positions>,
     l: &RelTree,
     r: &RelTree,
     scope: &Scope<'_>,
+    steps: &mut Steps<L>,
 ) -> Result<bool, Stop>
     requires left { CanEvaluate scope.now (read_tree l.now) }
     requires right { CanEvaluate scope.now (read_tree r.now) }
-    ensures { Answers result (both (meaning (known_at scope.now) plainly (read_tree l.now)) (meaning (known_at scope.now) plainly (read_tree r.now))
-        (λ a b. Ok (related_rows word a b))) }
+    requires alike { heading_of (read_tree l.now) ≡ heading_of (read_tree r.now) }
+    requires list { IsListIf (heading_of (read_tree l.now)) acl.now }
+    ensures value { (place : _) → Answers result (truth_of (known_at scope.now) (relate place word acl.now (read_tree l.now) (read_tree r.now))) }
+    ensures cost { (place : _) → steps.new ≤ steps.old + cost_of_test (prices_at scope.now) (relate place word acl.now (read_tree l.now) (read_tree r.now)) }
 {
-    let left = operand(alloc, l, scope)?;
-    let right = operand(alloc, r, scope)?;
-    Ok(compare(word, left.relation(), right.relation()))
+    let left = operand(alloc, l, scope, steps)?;
+    let right = operand(alloc, r, scope, steps)?;
+    compared_on(alloc, word, acl, left.relation(), right.relation(), steps)
+}
+
+// Whether two relations stand as the word says, unpacked where a list is given.
+fn compared_on<L: Ledger>(
+    alloc: Global,
+    word: RelateWord,
+    acl: &Option<Positions>,
+    left: &Relation,
+    right: &Relation,
+    steps: &mut Steps<L>,
+) -> Result<bool, Stop>
+    requires alike { left.now.heading ≡ right.now.heading }
+    requires list { IsListIf left.now.heading acl.now }
+    ensures value { Answers result (Ok (related_rows word (compared_rows acl.now left.now.rows) (compared_rows acl.now right.now.rows))) }
+    ensures cost { steps.new ≤ steps.old + comparison_cost acl.now (length left.now.rows + length right.now.rows) }
+{
+    match acl {
+        None => Ok(compare(word, left, right)),
+        Some(acl) => {
+            let answer = compared(alloc, word, acl.list.as_slice(), left, right, steps)?;
+            Ok(answer)
+        }
+    }
 }
 
 // Whether the relation of the expression has no rows.
-fn is_empty(alloc: Global, t: &RelTree, scope: &Scope<'_>) -> Result<bool, Stop>
+fn is_empty<L: Ledger>(
+    alloc: Global,
+    t: &RelTree,
+    scope: &Scope<'_>,
+    steps: &mut Steps<L>,
+) -> Result<bool, Stop>
     requires { CanEvaluate scope.now (read_tree t.now) }
-    ensures { Answers result (then_give (meaning (known_at scope.now) plainly (read_tree t.now)) (λ a. Ok (no_rows a))) }
+    ensures value { Answers result (then_give (meaning (known_at scope.now) plainly (read_tree t.now)) (λ a. Ok (no_rows a))) }
+    ensures cost { steps.new ≤ steps.old + tree_cost (prices_at scope.now) plainly (read_tree t.now) }
 {
-    let operand = operand(alloc, t, scope)?;
+    let operand = operand(alloc, t, scope, steps)?;
     Ok(operand.relation().rows().is_empty())
 }
 
 // Whether the relation of the expression has rows.
-fn is_not_empty(alloc: Global, t: &RelTree, scope: &Scope<'_>) -> Result<bool, Stop>
+fn is_not_empty<L: Ledger>(
+    alloc: Global,
+    t: &RelTree,
+    scope: &Scope<'_>,
+    steps: &mut Steps<L>,
+) -> Result<bool, Stop>
     requires { CanEvaluate scope.now (read_tree t.now) }
-    ensures { Answers result (then_give (meaning (known_at scope.now) plainly (read_tree t.now)) (λ a. Ok (not (no_rows a)))) }
+    ensures value { Answers result (then_give (meaning (known_at scope.now) plainly (read_tree t.now)) (λ a. Ok (not (no_rows a)))) }
+    ensures cost { steps.new ≤ steps.old + tree_cost (prices_at scope.now) plainly (read_tree t.now) }
 {
-    let operand = operand(alloc, t, scope)?;
+    let operand = operand(alloc, t, scope, steps)?;
     Ok(!operand.relation().rows().is_empty())
 }
 

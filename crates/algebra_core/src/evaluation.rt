@@ -1,64 +1,83 @@
 // The relations of expressions.
-ghost use Rattle.std.specs.Prelude.{◌≡◌, Ok, IfSome, map};
+ghost use Rattle.std.specs.Prelude.{◌≡◌, ◌≤◌, ◌+◌, Ok, IfSome, map};
 ghost use Rattle.base_core.specs.Outcomes.{then_give};
 ghost use Rattle.value_core.specs.Values.{Heading as PlainHeading};
 ghost use Rattle.scalar_core.specs.Expressions.{read};
 ghost use Rattle.relation_core.specs.Answers.{Answers, under};
 ghost use Rattle.tree_core.specs.Relvars.{read_relvar, relvar_heading};
-ghost use Rattle.tree_core.specs.Trees.{read_tree, read_sets, read_aggregate, named as named_tree, infix_of, project as project_tree, rename as rename_tree, restrict as restrict_tree, extend as extend_tree, summarize as summarize_tree};
+ghost use Rattle.tree_core.specs.Trees.{read_tree, read_sets, read_aggregate, named as named_tree, infix_of, project as project_tree, rename as rename_tree, restrict as restrict_tree, extend as extend_tree, summarize as summarize_tree, pack as pack_tree, unpack as unpack_tree, using as using_tree};
 ghost use Rattle.meaning_core.specs.Meanings.{RowsMeant, meaning, plainly, at_name, limited};
+ghost use Rattle.algebra_core.specs.Costs.{price_of, tree_cost};
 ghost use Rattle.algebra_core.specs.Operands.{held_in, IsKept};
-ghost use Rattle.algebra_core.specs.Scopes.{CanEvaluate, CanLookUp, known_at, stored_meaning, up_to, current, with_of, value_of};
+ghost use Rattle.algebra_core.specs.Scopes.{CanEvaluate, CanLookUp, known_at, prices_at, stored_cost, stored_meaning, up_to, current, with_of, value_of};
+ghost use Rattle.algebra_core.specs.Surroundings.{around_of, MayStand};
 
 use crate::literal::literal;
 use crate::operand::Operand;
 use crate::operators::{self, MOST_ROWS};
 use crate::scope::Scope;
-use crate::summary;
-use point_core::{Fault, Memory, Place, Stop};
+use crate::surrounded;
+use crate::surrounding::Surrounding;
+use point_core::{Fault, Memory, Place, Steps, Stop};
 use scalar_core::Scalar;
 use std::alloc::Global;
+use std::sync::ledger::Ledger;
 use tree_core::{Aggregates, InfixWord, RelForm, RelTree, Relvar, Sets};
+use using_core::{packed, unpacked};
 use value_core::{Heading, Name, Names, Positions, Relation};
 
 /// The relation of an expression, or its fault.
 #[cycle(answer)]
-pub(crate) fn answer(alloc: Global, tree: &RelTree, scope: &Scope<'_>) -> Result<Relation, Stop>
-    requires { CanEvaluate scope.now (read_tree tree.now) }
-    ensures { Answers result (under tree.now.heading (meaning (known_at scope.now) plainly (read_tree tree.now))) }
+pub(crate) fn answer<L: Ledger>(
+    alloc: Global,
+    tree: &RelTree,
+    around: Surrounding<'_>,
+    scope: &Scope<'_>,
+    steps: &mut Steps<L>,
+) -> Result<Relation, Stop>
+    requires can { CanEvaluate scope.now (read_tree tree.now) }
+    requires stands { MayStand around (read_tree tree.now) }
+    ensures value { Answers result (under tree.now.heading (meaning (known_at scope.now) (around_of around.entry tree.now.heading) (read_tree tree.now))) }
+    ensures cost { steps.new ≤ steps.old + tree_cost (prices_at scope.now) (around_of around.entry tree.now.heading) (read_tree tree.now) }
 {
     match &tree.form {
-        RelForm::Named(name) => named(alloc, tree.place, &tree.heading, name, scope),
+        RelForm::Named(name) => named(alloc, tree.place, &tree.heading, name, scope, steps),
         RelForm::Literal(tuples) => literal(
             alloc,
             tree.place,
             &tree.heading,
             tuples.list.as_slice(),
         ),
-        RelForm::Infix(word, l, r) => infix(alloc, tree, *word, l, r, scope),
-        RelForm::Project(kept, t) => project(alloc, tree, kept, t, scope),
-        RelForm::Rename(names, t) => rename(alloc, tree, names, t, scope),
-        RelForm::Restrict(c, t) => restrict(alloc, tree, c, t, scope),
-        RelForm::Extend(sets, t) => extend(alloc, tree, sets, t, scope),
-        RelForm::Summarize(by, aggregates, t) => summarize(alloc, tree, by, aggregates, t, scope),
-        RelForm::Pack(_, _) | RelForm::Unpack(_, _) | RelForm::Using(_, _) => unreachable!(),
+        RelForm::Infix(word, l, r) => infix(alloc, tree, *word, l, r, around, scope, steps),
+        RelForm::Project(kept, t) => project(alloc, tree, kept, t, around, scope, steps),
+        RelForm::Rename(names, t) => rename(alloc, tree, names, t, scope, steps),
+        RelForm::Restrict(c, t) => restrict(alloc, tree, c, t, around, scope, steps),
+        RelForm::Extend(sets, t) => extend(alloc, tree, sets, t, around, scope, steps),
+        RelForm::Summarize(by, aggregates, t) => {
+            summarize(alloc, tree, by, aggregates, t, around, scope, steps)
+        }
+        RelForm::Pack(acl, t) => pack(alloc, tree, acl, t, scope, steps),
+        RelForm::Unpack(acl, t) => unpack(alloc, tree, acl, t, scope, steps),
+        RelForm::Using(acl, t) => using(alloc, tree, acl, t, scope, steps),
     }
 }
 
 /// The relation of an operand: that of a base relvar's name stays where it is.
 #[cycle(answer)]
-pub(crate) fn operand<'a>(
+pub(crate) fn operand<'a, L: Ledger>(
     alloc: Global,
     tree: &RelTree,
     scope: &Scope<'a>,
+    steps: &mut Steps<L>,
 ) -> Result<Operand<'a>, Stop>
     requires { CanEvaluate scope.now (read_tree tree.now) }
-    ensures { Answers (held_in result) (under tree.now.heading (meaning (known_at scope.now) plainly (read_tree tree.now))) }
+    ensures value { Answers (held_in result) (under tree.now.heading (meaning (known_at scope.now) plainly (read_tree tree.now))) }
+    ensures cost { steps.new ≤ steps.old + tree_cost (prices_at scope.now) plainly (read_tree tree.now) }
 {
     match kept(tree, scope) {
         Some(relation) => Ok(Operand::Kept(relation)),
         None => {
-            let relation = answer(alloc, tree, scope)?;
+            let relation = answer(alloc, tree, Surrounding::Plainly, scope, steps)?;
             Ok(Operand::Made(relation))
         }
     }
@@ -66,33 +85,39 @@ pub(crate) fn operand<'a>(
 
 // A name: what stands at it, a fault of a view taking the name's place.
 #[cycle(answer)]
-fn named(
+fn named<L: Ledger>(
     alloc: Global,
     place: Place,
     heading: &Heading,
     name: &Name,
     scope: &Scope<'_>,
+    steps: &mut Steps<L>,
 ) -> Result<Relation, Stop>
     requires { CanEvaluate scope.now (named_tree place heading.now name.now) }
-    ensures { Answers result (under heading.now (meaning (known_at scope.now) plainly (named_tree place heading.now name.now))) }
+    ensures value { Answers result (under heading.now (meaning (known_at scope.now) plainly (named_tree place heading.now name.now))) }
+    ensures cost { steps.new ≤ steps.old + price_of (prices_at scope.now) name.now }
 {
     match scope.relvars.list.get_full(name) {
-        Some((at, _, relvar)) => told_at_name(place, stored(alloc, name, at, relvar, scope)),
+        Some((at, _, relvar)) => {
+            told_at_name(place, stored(alloc, name, at, relvar, scope, steps))
+        }
         None => unreachable!(),
     }
 }
 
 // The value of a base relvar, or the relation of a view's expression, which names entries before it alone.
 #[cycle(answer)]
-fn stored(
+fn stored<L: Ledger>(
     alloc: Global,
     name: &Name,
     at: usize,
     relvar: &Relvar,
     scope: &Scope<'_>,
+    steps: &mut Steps<L>,
 ) -> Result<Relation, Stop>
     requires { CanLookUp scope.now name.now at (read_relvar relvar.now) }
-    ensures { Answers result (under (relvar_heading (read_relvar relvar.now)) (stored_meaning scope.now name.now at (read_relvar relvar.now))) }
+    ensures value { Answers result (under (relvar_heading (read_relvar relvar.now)) (stored_meaning scope.now name.now at (read_relvar relvar.now))) }
+    ensures cost { steps.new ≤ steps.old + stored_cost scope.now at (read_relvar relvar.now) }
 {
     match relvar {
         Relvar::Base {
@@ -101,114 +126,232 @@ fn stored(
         } => base_value(alloc, name, value, scope),
         Relvar::View { tree, history: _ } => {
             let before = earlier(scope, at);
-            answer(alloc, tree, &before)
+            answer(alloc, tree, Surrounding::Plainly, &before, steps)
         }
     }
 }
 
 // The operator between two operands, left to right.
 #[cycle(answer)]
-fn infix(
+fn infix<L: Ledger>(
     alloc: Global,
     tree: &RelTree,
     word: InfixWord,
     l: &RelTree,
     r: &RelTree,
+    around: Surrounding<'_>,
     scope: &Scope<'_>,
+    steps: &mut Steps<L>,
 ) -> Result<Relation, Stop>
-    requires { CanEvaluate scope.now (infix_of tree.now.place tree.now.heading word (read_tree l.now) (read_tree r.now)) }
-    ensures { Answers result (under tree.now.heading (meaning (known_at scope.now) plainly
+    requires can { CanEvaluate scope.now (infix_of tree.now.place tree.now.heading word (read_tree l.now) (read_tree r.now)) }
+    requires stands { MayStand around (infix_of tree.now.place tree.now.heading word (read_tree l.now) (read_tree r.now)) }
+    ensures value { Answers result (under tree.now.heading (meaning (known_at scope.now) (around_of around.entry tree.now.heading)
         (infix_of tree.now.place tree.now.heading word (read_tree l.now) (read_tree r.now)))) }
+    ensures cost { steps.new ≤ steps.old + tree_cost (prices_at scope.now) (around_of around.entry tree.now.heading)
+        (infix_of tree.now.place tree.now.heading word (read_tree l.now) (read_tree r.now)) }
 {
-    let left = operand(alloc, l, scope)?;
-    let right = operand(alloc, r, scope)?;
-    operators::infix(alloc, tree.place, word, left.relation(), right.relation())
+    let left = operand(alloc, l, scope, steps)?;
+    let right = operand(alloc, r, scope, steps)?;
+    let place = tree.place;
+    surrounded::infix(
+        alloc,
+        around,
+        place,
+        word,
+        &tree.heading,
+        left.relation(),
+        right.relation(),
+        steps,
+    )
 }
 
 // The parts of the operand's rows.
 #[cycle(answer)]
-fn project(
+fn project<L: Ledger>(
     alloc: Global,
     tree: &RelTree,
     kept: &Positions,
     t: &RelTree,
+    around: Surrounding<'_>,
     scope: &Scope<'_>,
+    steps: &mut Steps<L>,
 ) -> Result<Relation, Stop>
-    requires { CanEvaluate scope.now (project_tree tree.now.place tree.now.heading kept.now (read_tree t.now)) }
-    ensures { Answers result (under tree.now.heading (meaning (known_at scope.now) plainly
+    requires can { CanEvaluate scope.now (project_tree tree.now.place tree.now.heading kept.now (read_tree t.now)) }
+    requires stands { MayStand around (project_tree tree.now.place tree.now.heading kept.now (read_tree t.now)) }
+    ensures value { Answers result (under tree.now.heading (meaning (known_at scope.now) (around_of around.entry tree.now.heading)
         (project_tree tree.now.place tree.now.heading kept.now (read_tree t.now)))) }
+    ensures cost { steps.new ≤ steps.old + tree_cost (prices_at scope.now) (around_of around.entry tree.now.heading)
+        (project_tree tree.now.place tree.now.heading kept.now (read_tree t.now)) }
 {
-    let part = operand(alloc, t, scope)?;
-    operators::projected(alloc, part.relation(), kept)
+    let part = operand(alloc, t, scope, steps)?;
+    surrounded::projection(alloc, around, &tree.heading, kept, part.relation(), steps)
 }
 
 // The operand with new names.
 #[cycle(answer)]
-fn rename(
+fn rename<L: Ledger>(
     alloc: Global,
     tree: &RelTree,
     names: &Names,
     t: &RelTree,
     scope: &Scope<'_>,
+    steps: &mut Steps<L>,
 ) -> Result<Relation, Stop>
     requires { CanEvaluate scope.now (rename_tree tree.now.place tree.now.heading names.now (read_tree t.now)) }
-    ensures { Answers result (under tree.now.heading (meaning (known_at scope.now) plainly
+    ensures value { Answers result (under tree.now.heading (meaning (known_at scope.now) plainly
         (rename_tree tree.now.place tree.now.heading names.now (read_tree t.now)))) }
+    ensures cost { steps.new ≤ steps.old + tree_cost (prices_at scope.now) plainly
+        (rename_tree tree.now.place tree.now.heading names.now (read_tree t.now)) }
 {
-    let part = operand(alloc, t, scope)?;
+    let part = operand(alloc, t, scope, steps)?;
     operators::renamed(alloc, part.relation(), names)
 }
 
 // The operand's rows for which the condition holds.
 #[cycle(answer)]
-fn restrict(
+fn restrict<L: Ledger>(
     alloc: Global,
     tree: &RelTree,
     c: &Scalar,
     t: &RelTree,
+    around: Surrounding<'_>,
     scope: &Scope<'_>,
+    steps: &mut Steps<L>,
 ) -> Result<Relation, Stop>
-    requires { CanEvaluate scope.now (restrict_tree tree.now.place tree.now.heading (read c.now) (read_tree t.now)) }
-    ensures { Answers result (under tree.now.heading (meaning (known_at scope.now) plainly
+    requires can { CanEvaluate scope.now (restrict_tree tree.now.place tree.now.heading (read c.now) (read_tree t.now)) }
+    requires stands { MayStand around (restrict_tree tree.now.place tree.now.heading (read c.now) (read_tree t.now)) }
+    ensures value { Answers result (under tree.now.heading (meaning (known_at scope.now) (around_of around.entry tree.now.heading)
         (restrict_tree tree.now.place tree.now.heading (read c.now) (read_tree t.now)))) }
+    ensures cost { steps.new ≤ steps.old + tree_cost (prices_at scope.now) (around_of around.entry tree.now.heading)
+        (restrict_tree tree.now.place tree.now.heading (read c.now) (read_tree t.now)) }
 {
-    let part = operand(alloc, t, scope)?;
-    operators::restricted(alloc, part.relation(), c)
+    let part = operand(alloc, t, scope, steps)?;
+    surrounded::restriction(alloc, around, &tree.heading, c, part.relation(), steps)
 }
 
 // The operand's rows with the values of the items.
 #[cycle(answer)]
-fn extend(
+fn extend<L: Ledger>(
     alloc: Global,
     tree: &RelTree,
     sets: &Sets,
     t: &RelTree,
+    around: Surrounding<'_>,
     scope: &Scope<'_>,
+    steps: &mut Steps<L>,
 ) -> Result<Relation, Stop>
-    requires { CanEvaluate scope.now (extend_tree tree.now.place tree.now.heading (read_sets sets.now) (read_tree t.now)) }
-    ensures { Answers result (under tree.now.heading (meaning (known_at scope.now) plainly
+    requires can { CanEvaluate scope.now (extend_tree tree.now.place tree.now.heading (read_sets sets.now) (read_tree t.now)) }
+    requires stands { MayStand around (extend_tree tree.now.place tree.now.heading (read_sets sets.now) (read_tree t.now)) }
+    ensures value { Answers result (under tree.now.heading (meaning (known_at scope.now) (around_of around.entry tree.now.heading)
         (extend_tree tree.now.place tree.now.heading (read_sets sets.now) (read_tree t.now)))) }
+    ensures cost { steps.new ≤ steps.old + tree_cost (prices_at scope.now) (around_of around.entry tree.now.heading)
+        (extend_tree tree.now.place tree.now.heading (read_sets sets.now) (read_tree t.now)) }
 {
-    let part = operand(alloc, t, scope)?;
-    operators::extended(alloc, part.relation(), &tree.heading, sets)
+    let part = operand(alloc, t, scope, steps)?;
+    surrounded::extension(alloc, around, &tree.heading, sets, part.relation(), steps)
 }
 
 // A row for each group of the operand's rows.
 #[cycle(answer)]
-fn summarize(
+fn summarize<L: Ledger>(
     alloc: Global,
     tree: &RelTree,
     by: &Positions,
     aggregates: &Aggregates,
     t: &RelTree,
+    around: Surrounding<'_>,
     scope: &Scope<'_>,
+    steps: &mut Steps<L>,
 ) -> Result<Relation, Stop>
-    requires { CanEvaluate scope.now (summarize_tree tree.now.place tree.now.heading by.now (map read_aggregate aggregates.now) (read_tree t.now)) }
-    ensures { Answers result (under tree.now.heading (meaning (known_at scope.now) plainly
+    requires can { CanEvaluate scope.now (summarize_tree tree.now.place tree.now.heading by.now (map read_aggregate aggregates.now) (read_tree t.now)) }
+    requires stands { MayStand around (summarize_tree tree.now.place tree.now.heading by.now (map read_aggregate aggregates.now) (read_tree t.now)) }
+    ensures value { Answers result (under tree.now.heading (meaning (known_at scope.now) (around_of around.entry tree.now.heading)
         (summarize_tree tree.now.place tree.now.heading by.now (map read_aggregate aggregates.now) (read_tree t.now)))) }
+    ensures cost { steps.new ≤ steps.old + tree_cost (prices_at scope.now) (around_of around.entry tree.now.heading)
+        (summarize_tree tree.now.place tree.now.heading by.now (map read_aggregate aggregates.now) (read_tree t.now)) }
 {
-    let part = operand(alloc, t, scope)?;
-    summary::summarized(alloc, part.relation(), &tree.heading, by, aggregates)
+    let part = operand(alloc, t, scope, steps)?;
+    surrounded::grouping(
+        alloc,
+        around,
+        &tree.heading,
+        by,
+        aggregates,
+        part.relation(),
+        steps,
+    )
+}
+
+// The operand packed.
+#[cycle(answer)]
+fn pack<L: Ledger>(
+    alloc: Global,
+    tree: &RelTree,
+    acl: &Positions,
+    t: &RelTree,
+    scope: &Scope<'_>,
+    steps: &mut Steps<L>,
+) -> Result<Relation, Stop>
+    requires { CanEvaluate scope.now (pack_tree tree.now.place tree.now.heading acl.now (read_tree t.now)) }
+    ensures value { Answers result (under tree.now.heading (meaning (known_at scope.now) plainly
+        (pack_tree tree.now.place tree.now.heading acl.now (read_tree t.now)))) }
+    ensures cost { steps.new ≤ steps.old + tree_cost (prices_at scope.now) plainly
+        (pack_tree tree.now.place tree.now.heading acl.now (read_tree t.now)) }
+{
+    let part = operand(alloc, t, scope, steps)?;
+    packed(
+        alloc,
+        tree.place,
+        acl.list.as_slice(),
+        part.relation(),
+        steps,
+    )
+}
+
+// The operand unpacked.
+#[cycle(answer)]
+fn unpack<L: Ledger>(
+    alloc: Global,
+    tree: &RelTree,
+    acl: &Positions,
+    t: &RelTree,
+    scope: &Scope<'_>,
+    steps: &mut Steps<L>,
+) -> Result<Relation, Stop>
+    requires { CanEvaluate scope.now (unpack_tree tree.now.place tree.now.heading acl.now (read_tree t.now)) }
+    ensures value { Answers result (under tree.now.heading (meaning (known_at scope.now) plainly
+        (unpack_tree tree.now.place tree.now.heading acl.now (read_tree t.now)))) }
+    ensures cost { steps.new ≤ steps.old + tree_cost (prices_at scope.now) plainly
+        (unpack_tree tree.now.place tree.now.heading acl.now (read_tree t.now)) }
+{
+    let part = operand(alloc, t, scope, steps)?;
+    unpacked(
+        alloc,
+        tree.place,
+        acl.list.as_slice(),
+        part.relation(),
+        steps,
+    )
+}
+
+// The part under its USING.
+#[cycle(answer)]
+fn using<L: Ledger>(
+    alloc: Global,
+    tree: &RelTree,
+    acl: &Positions,
+    t: &RelTree,
+    scope: &Scope<'_>,
+    steps: &mut Steps<L>,
+) -> Result<Relation, Stop>
+    requires { CanEvaluate scope.now (using_tree tree.now.place tree.now.heading acl.now (read_tree t.now)) }
+    ensures value { Answers result (under tree.now.heading (meaning (known_at scope.now) plainly
+        (using_tree tree.now.place tree.now.heading acl.now (read_tree t.now)))) }
+    ensures cost { steps.new ≤ steps.old + tree_cost (prices_at scope.now) plainly
+        (using_tree tree.now.place tree.now.heading acl.now (read_tree t.now)) }
+{
+    let around = Surrounding::Using(tree.place, acl.list.as_slice());
+    answer(alloc, t, around, scope, steps)
 }
 
 // The scope of the entries before a place.

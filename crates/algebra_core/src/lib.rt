@@ -11,5 +11,7 @@ mod operators;
 mod places;
 mod scope;
 mod summary;
+mod surrounded;
+mod surrounding;
 
 pub use calls::{eval, test};

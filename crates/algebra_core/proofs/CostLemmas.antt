@@ -1,0 +1,76 @@
+-- What names and nodes take, from what their entries and parts take.
+--     known_prices      what names mean beside their prices is what they mean
+--     price_first      the price of a name is that of its entry
+--     paid_at      what follows an operand is paid for its rows
+--     operator_paid, rule_paid      what an operator takes under USING
+use Rattle.std.proofs.Common.{◌≡◌, ℕ, suc, ◌<◌, ◌≤◌, List, [], ◌∷◌, ◌++◌, map, length, take, refl, sym, ap, ◌∙◌, subst, arith, cond, Bool, true, false, Option, Some, None, Ok}
+use Rattle.std.proofs.lemmas.List.{length-map, map-append}
+use Rattle.std.specs.Str.{bytes_eq}
+use Rattle.point_core.specs.declared.fault.Place.{Place}
+use Rattle.value_core.specs.Values.{Name, Row, Heading, Relation}
+use Rattle.scalar_core.specs.Expressions.{Expr}
+use Rattle.relation_core.specs.Answers.{under}
+use Rattle.tree_core.specs.Relvars.{PlainRelvar, base, view, Entries}
+use Rattle.tree_core.specs.Trees.{Tree, read_tree}
+use Rattle.tree_core.specs.declared.tree.RelTree.{RelTree}
+use Rattle.cell_core.specs.Costs.{bound}
+use Rattle.meaning_core.specs.Meanings.{Known, RowsMeant, meaning, plainly, relvar_meaning, names_at}
+use Rattle.meaning_core.specs.Names.{IsFirstAt, each_after, given, given_relvar, with_value}
+use Rattle.using_core.specs.Cells.{cells_of_all}
+use Rattle.using_core.specs.Using.{around, listed}
+use Rattle.algebra_core.specs.Costs.{Priced, Prices, known_of, price_of, paid, operator_cost, rule_cost, relvar_cost, priced}
+use Rattle.algebra_core.specs.Scopes.{all_of, with_of, value_of, known_at, prices_at, stored_cost, up_to}
+use Rattle.algebra_core.specs.declared.scope.Scope.{Scope}
+use Rattle.meaning_core.proofs.EntryLemmas.{found_first, given_first}
+use Rattle.meaning_core.proofs.LookupLemmas.{under_ok}
+
+-- ---- names
+
+pub known_each : (prices : Prices) (entries : Entries) → known_of (each_after priced prices entries) ≡ each_after relvar_meaning (known_of prices) entries
+known_each prices [] = refl
+known_each prices (r ∷ rest) =
+    known_each (prices ++ (r.0, priced prices r.1) ∷ []) rest
+    ∙ ap (λ (k : Known). each_after relvar_meaning k rest) (map-append (λ (p : Name × Priced). (p.0, p.1.0)) prices ((r.0, priced prices r.1) ∷ []))
+
+pub known_prices : (s : Scope) → known_of (prices_at s) ≡ known_at s
+known_prices s = known_each [] (take s.before (given (with_of s) (value_of s) (all_of s)))
+
+cost_with : (prices : Prices) (value : Relation) (r : PlainRelvar) → relvar_cost prices (with_value value r) ≡ relvar_cost prices r
+cost_with prices value (base old constraints) = refl
+cost_with prices value (view t history) = refl
+
+cost_if : (b : Bool) (prices : Prices) (value : Relation) (r : PlainRelvar) → relvar_cost prices (cond b (with_value value r) r) ≡ relvar_cost prices r
+cost_if true prices value r = cost_with prices value r
+cost_if false prices value r = refl
+
+cost_given : (prices : Prices) (with : Option Name) (value : Option Relation) (name : Name) (r : PlainRelvar) → relvar_cost prices (given_relvar with value name r) ≡ relvar_cost prices r
+cost_given prices None value name r = refl
+cost_given prices (Some with) None name r = refl
+cost_given prices (Some with) (Some value) name r = cost_if (bytes_eq name with) prices value r
+
+pub price_first : (s : Scope) (name : Name) (at : ℕ) (x : PlainRelvar) → IsFirstAt (all_of s) name at x → at < s.before → price_of (prices_at s) name ≡ stored_cost s at x
+price_first s name at x first l =
+    ap (λ (p : Priced). p.1)
+    (found_first priced (Ok [], 0) (given (with_of s) (value_of s) (all_of s)) name at s.before (given_relvar (with_of s) (value_of s) name x)
+    (given_first (with_of s) (value_of s) (all_of s) name at x first) l)
+    ∙ cost_given (prices_at (up_to s at)) (with_of s) (value_of s) name x
+
+-- ---- nodes
+
+pub paid_at : (s : Scope) (t : RelTree) (a : Relation) (f : List Row → ℕ) → under t.heading (meaning (known_at s) plainly (read_tree t)) ≡ Ok a
+    → paid (meaning (known_of (prices_at s)) plainly (read_tree t)) f ≡ f a.rows
+paid_at s t a f e =
+    ap (λ (m : RowsMeant). paid m f) (ap (λ (k : Known). meaning k plainly (read_tree t)) (known_prices s) ∙ (under_ok t.heading (meaning (known_at s) plainly (read_tree t)) a e).0)
+
+-- ---- operators under USING
+
+pub operator_paid : (place : Place) (heading : Heading) (acl : List ℕ) (n : ℕ) → operator_cost (around place heading acl) n ≡ bound n (length acl)
+operator_paid place heading acl n = ap (bound n) (length-names heading acl)
+  where
+    length-names : (heading : Heading) (acl : List ℕ) → length (names_at heading acl) ≡ length acl
+    length-names heading [] = refl
+    length-names heading (i ∷ acl) = λ k. suc (length-names heading acl k)
+
+pub rule_paid : (place : Place) (heading from : Heading) (acl : List ℕ) (scalars : List Expr) (rows : List Row)
+    → rule_cost (around place heading acl) from scalars rows ≡ bound (cells_of_all (listed heading acl from) scalars rows) (length acl)
+rule_paid place heading from acl scalars rows = operator_paid place heading acl (cells_of_all (listed heading acl from) scalars rows)
