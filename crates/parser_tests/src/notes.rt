@@ -1,6 +1,6 @@
 // A tree as text: `(head@line:column part part)`.
 use point_core::Place;
-use std::alloc::Global;
+use std::alloc::{AllocError, Global};
 use utd_syntax::{Bytes, Word, Words};
 
 /// The text so far, and whether memory failed for a part of it.
@@ -21,11 +21,11 @@ impl Notes {
     }
 
     /// The text, if memory sufficed.
-    pub fn text(&self) -> Option<&str> {
+    pub fn text(self) -> Result<String, AllocError> {
         if self.failed {
-            None
+            Err(AllocError)
         } else {
-            Some(self.text.as_str())
+            Ok(self.text)
         }
     }
 
