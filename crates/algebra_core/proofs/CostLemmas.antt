@@ -2,23 +2,17 @@
 --     known_prices      what names mean beside their prices is what they mean
 --     price_first      the price of a name is that of its entry
 --     paid_at      what follows an operand is paid for its rows
---     operator_paid, rule_paid      what an operator takes under USING
-use Rattle.std.proofs.Common.{◌≡◌, ℕ, suc, ◌<◌, ◌≤◌, List, [], ◌∷◌, ◌++◌, map, length, take, refl, sym, ap, ◌∙◌, subst, arith, cond, Bool, true, false, Option, Some, None, Ok}
-use Rattle.std.proofs.lemmas.List.{length-map, map-append}
+use Rattle.std.proofs.Common.{◌≡◌, ℕ, ◌<◌, List, [], ◌∷◌, ◌++◌, take, refl, ap, ◌∙◌, cond, Bool, true, false, Option, Some, None, Ok}
+use Rattle.std.proofs.lemmas.List.{map-append}
 use Rattle.std.specs.Str.{bytes_eq}
-use Rattle.point_core.specs.declared.fault.Place.{Place}
-use Rattle.value_core.specs.Values.{Name, Row, Heading, Relation}
-use Rattle.scalar_core.specs.Expressions.{Expr}
+use Rattle.value_core.specs.Values.{Name, Row, Relation}
 use Rattle.relation_core.specs.Answers.{under}
 use Rattle.tree_core.specs.Relvars.{PlainRelvar, base, view, Entries}
-use Rattle.tree_core.specs.Trees.{Tree, read_tree}
+use Rattle.tree_core.specs.Trees.{read_tree}
 use Rattle.tree_core.specs.declared.tree.RelTree.{RelTree}
-use Rattle.cell_core.specs.Costs.{bound}
-use Rattle.meaning_core.specs.Meanings.{Known, RowsMeant, meaning, plainly, relvar_meaning, names_at}
+use Rattle.meaning_core.specs.Meanings.{Known, RowsMeant, meaning, plainly, relvar_meaning}
 use Rattle.meaning_core.specs.Names.{IsFirstAt, each_after, given, given_relvar, with_value}
-use Rattle.using_core.specs.Cells.{cells_of_all}
-use Rattle.using_core.specs.Using.{around, listed}
-use Rattle.algebra_core.specs.Costs.{Priced, Prices, known_of, price_of, paid, operator_cost, rule_cost, relvar_cost, priced}
+use Rattle.algebra_core.specs.Costs.{Priced, Prices, known_of, price_of, paid, relvar_cost, priced}
 use Rattle.algebra_core.specs.Scopes.{all_of, with_of, value_of, known_at, prices_at, stored_cost, up_to}
 use Rattle.algebra_core.specs.declared.scope.Scope.{Scope}
 use Rattle.meaning_core.proofs.EntryLemmas.{found_first, given_first}
@@ -61,16 +55,3 @@ pub paid_at : (s : Scope) (t : RelTree) (a : Relation) (f : List Row → ℕ) �
     → paid (meaning (known_of (prices_at s)) plainly (read_tree t)) f ≡ f a.rows
 paid_at s t a f e =
     ap (λ (m : RowsMeant). paid m f) (ap (λ (k : Known). meaning k plainly (read_tree t)) (known_prices s) ∙ (under_ok t.heading (meaning (known_at s) plainly (read_tree t)) a e).0)
-
--- ---- operators under USING
-
-pub operator_paid : (place : Place) (heading : Heading) (acl : List ℕ) (n : ℕ) → operator_cost (around place heading acl) n ≡ bound n (length acl)
-operator_paid place heading acl n = ap (bound n) (length-names heading acl)
-  where
-    length-names : (heading : Heading) (acl : List ℕ) → length (names_at heading acl) ≡ length acl
-    length-names heading [] = refl
-    length-names heading (i ∷ acl) = λ k. suc (length-names heading acl k)
-
-pub rule_paid : (place : Place) (heading from : Heading) (acl : List ℕ) (scalars : List Expr) (rows : List Row)
-    → rule_cost (around place heading acl) from scalars rows ≡ bound (cells_of_all (listed heading acl from) scalars rows) (length acl)
-rule_paid place heading from acl scalars rows = operator_paid place heading acl (cells_of_all (listed heading acl from) scalars rows)

@@ -3,7 +3,7 @@
 --     value_at, cost_at      the node's rows and its steps, by what is done with that relation
 --     told_at      what is told of its rows
 --     own_heading      the heading of a tree is that of what it is read as
-use Rattle.std.proofs.Common.{◌≡◌, ◌≤◌, ◌+◌, ℕ, List, [], length, refl, sym, ap, ◌∙◌, subst, arith, Result, Ok}
+use Rattle.std.proofs.Common.{◌≡◌, ◌≤◌, ◌+◌, ℕ, List, [], refl, sym, subst, arith, Result, Ok}
 use Rattle.base_core.specs.Outcomes.{then_give}
 use Rattle.point_core.specs.Faults.{OrFault}
 use Rattle.point_core.specs.declared.fault.Stop.{Stop}

@@ -1,8 +1,7 @@
 -- What an operator keeps of the list of the USING that surrounds it, from what its node keeps.
-use Rattle.std.proofs.Common.{◌≡◌, ℕ, List, Bool, true, false, ◌&&◌, IsTrue, refl}
-use Rattle.std.specs.List.{list_any, list_all}
+use Rattle.std.proofs.Common.{ℕ, List, Bool, true, false, ◌&&◌, IsTrue, refl}
 use Rattle.point_core.specs.declared.fault.Place.{Place}
-use Rattle.value_core.specs.Values.{Name, Heading}
+use Rattle.value_core.specs.Values.{Heading}
 use Rattle.scalar_core.specs.Expressions.{Expr}
 use Rattle.tree_core.specs.Trees.{Tree, PlainSets, PlainAggregate, infix_of, project, restrict, extend, summarize, heading_of}
 use Rattle.tree_core.specs.declared.tree.InfixWord.{InfixWord}

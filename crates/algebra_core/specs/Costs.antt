@@ -7,7 +7,7 @@ use Rattle.scalar_core.specs.Expressions.{Expr}
 use Rattle.tree_core.specs.Relvars.{PlainRelvar, base, view, Entries}
 use Rattle.tree_core.specs.Trees.{Tree, named, literal, infix_of, project, rename, restrict, extend, summarize, pack, unpack, using, heading_of, Test, relate, is_empty, is_not_empty}
 use Rattle.cell_core.specs.Costs.{bound}
-use Rattle.meaning_core.specs.Meanings.{Known, RowsMeant, Around, plainly, in_using, list_of, positions_of, names_at, meaning, relvar_meaning}
+use Rattle.meaning_core.specs.Meanings.{Known, RowsMeant, Around, plainly, in_using, positions_of, names_at, meaning, relvar_meaning}
 use Rattle.meaning_core.specs.Names.{found, each_in}
 use Rattle.using_core.specs.Cells.{cells_of_all, scalars_of}
 

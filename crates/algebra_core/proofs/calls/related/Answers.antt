@@ -1,4 +1,4 @@
-use Rattle.std.proofs.Common.{◌≡◌, ◌+◌, length, refl, sym, ◌∙◌, subst, Ok}
+use Rattle.std.proofs.Common.{◌+◌, length, refl, sym, ◌∙◌, subst, Ok}
 use Rattle.base_core.specs.Outcomes.{then_give}
 use Rattle.value_core.specs.Values.{Heading}
 use Rattle.tree_core.specs.Trees.{read_tree}

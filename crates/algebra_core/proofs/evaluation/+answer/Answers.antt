@@ -2,9 +2,8 @@ use Rattle.std.proofs.Common.{◌≡◌, ◌≤◌, ◌+◌, ℕ, List, ◌∷�
 use Rattle.std.specs.List.{All}
 use Rattle.std.specs.Str.{bytes_eq}
 use Rattle.base_core.specs.Outcomes.{then_give}
-use Rattle.value_core.specs.declared.kind.Kind.TheVariants.{Truth}
 use Rattle.value_core.specs.RowPacking.{packed as packed_rows, unpacked as unpacked_rows}
-use Rattle.value_core.specs.Values.{Heading, Row, Relation, Name}
+use Rattle.value_core.specs.Values.{Heading, Relation, Name}
 use Rattle.scalar_core.specs.Expressions.{read}
 use Rattle.relation_core.specs.Answers.{Answers, under}
 use Rattle.relation_core.specs.Groups.{rows_at, summarized}
@@ -13,7 +12,7 @@ use Rattle.relation_core.specs.Parts.{projected}
 use Rattle.scalar_core.specs.declared.tree.Scalar.{Scalar}
 use Rattle.cell_core.specs.Costs.{bound}
 use Rattle.tree_core.specs.Relvars.{read_relvar, relvar_heading}
-use Rattle.tree_core.specs.Trees.{read_tree, read_form, read_sets, read_aggregate, heading_of, infix_of, project, restrict, extend, summarize}
+use Rattle.tree_core.specs.Trees.{read_tree, read_form, read_sets, read_aggregate, heading_of}
 use Rattle.tree_core.specs.declared.relvar.Relvar.{Relvar}
 use Rattle.tree_core.specs.declared.tree.RelForm.{RelForm}
 use Rattle.point_core.specs.Faults.{OrFault}
@@ -26,10 +25,9 @@ use Rattle.using_core.specs.Cells.{scalars_of}
 use Rattle.using_core.specs.Using.{around}
 use Rattle.algebra_core.specs.Costs.{known_of, operator_cost, rule_cost, tree_cost, paid}
 use Rattle.algebra_core.specs.Operands.{held}
-use Rattle.algebra_core.specs.Scopes.{CanEvaluate, CanLookUp, known_at, prices_at, state_of, all_of, work, stored_work, stored_meaning, stored_cost}
-use Rattle.algebra_core.specs.Surroundings.{around_of, MayStand, KeepsList, IsSwept, AreSwept, AreSummed}
+use Rattle.algebra_core.specs.Scopes.{CanEvaluate, CanLookUp, known_at, prices_at, state_of, all_of, work, stored_work, stored_meaning}
+use Rattle.algebra_core.specs.Surroundings.{around_of, KeepsList, IsSwept, AreSwept, AreSummed}
 use Rattle.algebra_core.specs.declared.scope.Scope.{Scope}
-use Rattle.algebra_core.specs.declared.surrounding.Surrounding.{Surrounding}
 use Rattle.meaning_core.proofs.LookupLemmas.{found_at, none_passes}
 use Rattle.algebra_core.proofs.CostLemmas.{price_first}
 use Rattle.algebra_core.proofs.EvalLemmas.{stands_before, can_look_up, work_falls, named_meant, view_can, base_meant, none_named}
