@@ -130,8 +130,8 @@ on-turn-in by s (Takes how more) v x ts h plain_row rest stack load beyond reach
     let whole : verdict by ts (stack_after how load (more ++ stack)) (load_after how load) ≡ Whole = taken-whole _ _ x.place _ e in
     let P : List Symbol → Type 0 = λ xs. (f : Go xs) → GoesIn out xs f → SomeIn out (read ts xs f) in
     subst P (bare-after how load more stack plain_row) (λ f q. rest (stack_after how load (more ++ stack)) (load_after how load) f q whole) _
-        (λ vs q. let parts : AllGood out (inner how ++ more) (split (inner how ++ more) (bare stack) vs).0 × AllGood out (bare stack) (split (inner how ++ more) (bare stack) vs).1 = split-in out (inner how ++ more) (bare stack) vs q in
-            goes _ (h fit (split (inner how ++ more) (bare stack) vs).0 parts.0, parts.1))
+    (λ vs q. let parts : AllGood out (inner how ++ more) (split (inner how ++ more) (bare stack) vs).0 × AllGood out (bare stack) (split (inner how ++ more) (bare stack) vs).1 = split-in out (inner how ++ more) (bare stack) vs q in
+    goes _ (h fit (split (inner how ++ more) (bare stack) vs).0 parts.0, parts.1))
 
 read-at-in : (by : Limits) (x : Piece) (ts : List Piece) → Rest by ts → (stack : List Symbol) (load : Load) (k : Go (bare stack)) → GoesIn by.out_of_range (bare stack) k → taken by (reach stack load x.terminal x.bytes (first ts)) x (verdict by ts) ≡ Whole → SomeIn by.out_of_range (read_at x.terminal (first ts) x.place x.bytes (read ts) (bare stack) k)
 unfolding reach
