@@ -1,2 +1,5 @@
 pub mod Refused
 pub mod ScalarLaws
+pub mod RelationLaws
+pub mod NodeLaws
+pub mod TreeLaws

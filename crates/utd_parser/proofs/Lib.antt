@@ -6,3 +6,4 @@ pub mod Days
 pub mod Verdicts
 pub mod Statements
 pub mod Trees
+pub mod Writings
