@@ -39,6 +39,11 @@ module _ {L : Type 0} (order : L → L → Ordering) (o : IsTotalOrder order) (s
   same_forms : (v w : List Key) → ((x : Key) → Among x v → length x.1 ≡ k) → ((x : Key) → Among x w → length x.1 ≡ k) → (v ≡ w) ↔ (map row v ≡ map row w)
   same_forms v w hv hw = (ap (map row), one_from (key_cmp order) (boxed_cmp order) row Sided keeps (boxed_total o) (key_separates same) v w (sided v hv) (sided w hw))
 
+  -- two forms are one where what they are the forms of packs alike
+  pub same_packed : (v w : List Key) → ((x : Key) → Among x v → length x.1 ≡ k) → ((x : Key) → Among x w → length x.1 ≡ k) → (a b : List (Boxed L)) → map row v ≡ a → map row w ≡ b
+      → (c : Bool) → IsTrue c ↔ (v ≡ w) → IsTrue c ↔ (a ≡ b)
+  same_packed v w lv lw a b ev ew c i = (λ t. sym ev ∙ ap (map row) (i.0 t) ∙ ew, λ q. i.1 ((same_forms v w lv lw).1 (ev ∙ q ∙ sym ew)))
+
   module _ (left right : List (Boxed L)) (hl : AllHave k left) (hr : AllHave k right) (v w : List Key) (lv : (x : Key) → Among x v → length x.1 ≡ k) (lw : (x : Key) → Among x w → length x.1 ≡ k) where
     pub same_answer : map row v ≡ packed_boxes order k left → map row w ≡ packed_boxes order k right → (b : Bool) → IsTrue b ↔ (v ≡ w)
         → b ≡ are_same (boxed_cmp order) (unpacked_boxes order k left) (unpacked_boxes order k right)

@@ -19,7 +19,7 @@ use Rattle.cell_core.specs.Cells.{side_of, grids_of, grid_row, row_numbers, keys
 use Rattle.cell_core.proofs.BackLemmas.{box_length}
 use Rattle.cell_core.proofs.Assembly.{pick_from}
 use Rattle.cell_core.proofs.KeyLemmas.{own_rows, own_fits, both_fit, fit_lengths, own_low, Fit, Low, key_order, packed_form, packed_cells, rows_have}
-use Rattle.cell_core.proofs.AnswerLemmas.{packed_answer, same_answer, within_answer}
+use Rattle.cell_core.proofs.AnswerLemmas.{packed_answer, same_answer, within_answer, same_packed}
 
 module _ {T P : Type 0} (L : Type 0) (n : P → ℤ) (has : T → P → Type 0) (high : T → ℤ) (point : (t : T) → P) (ts : List T) (ss : List (List P × List P × List (ℕ × ℕ))) (left right : List (L × List (P × P))) (len : length ss ≡ length ts)
     (sides : (j : ℕ) (t : T) (d : P × P) (e : List P × List P × List (ℕ × ℕ)) → j < length ts → IsSide n (has (get_or ts j t)) (high (get_or ts j t)) (map (side_of j d) (map (λ r. r.1) left ++ map (λ r. r.1) right)) (get_or ss j e))
@@ -158,3 +158,8 @@ module _ {T P : Type 0} (L : Type 0) (n : P → ℤ) (has : T → P → Type 0) 
             → b ≡ are_same (boxed_cmp order) (unpacked_boxes order k (map (row_numbers n) left)) (unpacked_boxes order k (map (row_numbers n) right))
         same_rows e f b i =
             same_answer order o same k row keeps (map (row_numbers n) left) (map (row_numbers n) right) (rows_have n k left (sided left hl)) (rows_have n k right (sided right hr)) v w form_lengths more_lengths (left_form e) f b i
+
+        -- and whether they are equal packed
+        pub same_packed_rows : own ≡ keys_from 0 left ss → map row w ≡ packed_boxes order k (map (row_numbers n) right) → (b : Bool) → IsTrue b ↔ (v ≡ w)
+            → IsTrue b ↔ (packed_boxes order k (map (row_numbers n) left) ≡ packed_boxes order k (map (row_numbers n) right))
+        same_packed_rows e f b i = same_packed order o same k row keeps v w form_lengths more_lengths (packed_boxes order k (map (row_numbers n) left)) (packed_boxes order k (map (row_numbers n) right)) (left_form e) f b i

@@ -1,10 +1,10 @@
 // Rows over the numbered cells of all sides.
-ghost use Rattle.std.specs.Prelude.{◌≡◌, ℕ, ◌<◌, ◌≤◌, ◌+◌, ◌^◌, ◌++◌, List, map, length, get_or, slice_index_or, OnOk};
+ghost use Rattle.std.specs.Prelude.{◌≡◌, ℕ, ◌<◌, ◌≤◌, ◌+◌, ◌*◌, ◌^◌, ◌++◌, List, map, length, get_or, slice_index_or, OnOk};
 ghost use Rattle.std.specs.Prelude.{IfOk};
 ghost use Rattle.std.specs.List.{All};
 ghost use Rattle.cell_core.specs.Boxes.{IsBox};
 ghost use Rattle.cell_core.specs.Cells.{side_of, keys_from};
-ghost use Rattle.cell_core.specs.Costs.{bound};
+ghost use Rattle.cell_core.specs.Costs.{bound, side_cost};
 ghost use Rattle.cell_core.specs.Numbering.{IsSide};
 
 use crate::boxes::{BoxRow, Sides};
@@ -43,6 +43,7 @@ pub fn numbered<T: PointType, P, L: Ledger>(
         (T.last_number (slice_index_or types.now j t)) (map (side_of j d) (map (λ r. r.1) left.now ++ map (λ r. r.1)
         right.now)) (get_or v.items j e)) }
     ensures cost { steps.new ≤ steps.old + bound (length left.now + length right.now) (length types.now) }
+    ensures numbering { steps.new ≤ steps.old + length types.now * side_cost (length left.now + length right.now) }
 {
     let l = boxes(alloc, left)?;
     let r = boxes(alloc, right)?;

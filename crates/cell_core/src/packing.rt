@@ -1,11 +1,11 @@
 // The packed form of labelled boxes.
-ghost use Rattle.std.specs.Prelude.{◌≡◌, ◌+◌, ◌<◌, ◌≤◌, map, length, Err, IfOk};
+ghost use Rattle.std.specs.Prelude.{◌≡◌, ◌+◌, ◌*◌, ◌<◌, ◌≤◌, map, length, Err, IfOk};
 ghost use Rattle.std.specs.List.{All};
 ghost use Rattle.packing_core.specs.Boxed.{packed_boxes};
 ghost use Rattle.point_core.specs.declared.fault.Fault.{Fault as AnyFault};
 ghost use Rattle.cell_core.specs.Boxes.{IsBox};
 ghost use Rattle.cell_core.specs.Cells.{row_numbers};
-ghost use Rattle.cell_core.specs.Costs.{bound};
+ghost use Rattle.cell_core.specs.Costs.{bound, side_cost};
 ghost use Rattle.cell_core.specs.declared.boxes.CellRefuse.TheVariants.{Op as OfOp, Limit as OfLimit};
 
 use crate::boxes::{BoxRow, CellRefuse};
@@ -28,6 +28,7 @@ pub fn packed_rows<T: PointType, P: Label, L: Ledger>(
         packed_boxes P.order (length types.now) (map (row_numbers T.number_of) rows.now)) }
     ensures boxes { IfOk result (λ v. All (λ r. IsBox T.IsPoint types.now r.1) v.items) }
     ensures cost { steps.new ≤ steps.old + bound (length rows.now) (length types.now) }
+    ensures numbering { steps.new ≤ steps.old + length types.now * side_cost (length rows.now) }
 {
     let none: Vec<BoxRow<T, P>> = Vec::new(alloc);
     let sides = numbered(alloc, types, rows, none.as_slice(), steps)?;
@@ -41,7 +42,7 @@ pub fn packed_rows<T: PointType, P: Label, L: Ledger>(
 /// The packed form of the rows as a set: unpacked on all sides, then packed on the first side, on the second, and so
 /// on; in the order of labels and then of sides.
 ///
-/// `Limit` comes exactly where the packed rows are more than `limit`.
+/// `Limit` comes exactly where the packed rows are more than `limit`. The numbering of the sides alone takes steps.
 pub fn pack<T: PointType, P: Label, L: Ledger>(
     alloc: Global,
     types: &[T],
@@ -58,6 +59,7 @@ pub fn pack<T: PointType, P: Label, L: Ledger>(
     ensures limit { result ≡ Err OfLimit → limit < length (packed_boxes P.order (length types.now) (map (row_numbers
         T.number_of) rows.now)) }
     ensures cost { steps.new ≤ steps.old + bound (length rows.now) (length types.now) }
+    ensures numbering { steps.new ≤ steps.old + length types.now * side_cost (length rows.now) }
 {
     let answer = packed_rows(alloc, types, rows, steps)?;
     if answer.len() > limit {

@@ -1,8 +1,8 @@
 // Labelled boxes compared by their points.
-ghost use Rattle.std.specs.Prelude.{◌≡◌, ◌+◌, ◌≤◌, map, length, IfOk};
+ghost use Rattle.std.specs.Prelude.{◌≡◌, ◌+◌, ◌≤◌, ◌↔◌, map, length, IfOk, IsTrue};
 ghost use Rattle.std.specs.List.{All};
 ghost use Rattle.base_core.specs.Sets.{is_within, are_same};
-ghost use Rattle.packing_core.specs.Boxed.{boxed_cmp, unpacked_boxes};
+ghost use Rattle.packing_core.specs.Boxed.{boxed_cmp, unpacked_boxes, packed_boxes};
 ghost use Rattle.cell_core.specs.Boxes.{IsBox};
 ghost use Rattle.cell_core.specs.Cells.{row_numbers};
 ghost use Rattle.cell_core.specs.Costs.{bound};
@@ -56,6 +56,8 @@ pub fn same_points<T: PointType, P: Label, L: Ledger>(
     ensures answer { IfOk result (λ b. b ≡ are_same (boxed_cmp P.order) (unpacked_boxes P.order (length types.now)
         (map (row_numbers T.number_of) left.now)) (unpacked_boxes P.order (length types.now) (map (row_numbers
         T.number_of) right.now))) }
+    ensures packed { IfOk result (λ b. IsTrue b ↔ (packed_boxes P.order (length types.now) (map (row_numbers T.number_of)
+        left.now) ≡ packed_boxes P.order (length types.now) (map (row_numbers T.number_of) right.now))) }
     ensures cost { steps.new ≤ steps.old + bound (length left.now + length right.now) (length types.now) }
 {
     let sides = numbered(alloc, types, left, right, steps)?;

@@ -5,7 +5,7 @@ use Rattle.cell_core.specs.Boxes.{IsBox}
 use Rattle.cell_core.specs.Cells.{side_of}
 use Rattle.cell_core.specs.Numbering.{IsSide}
 use Rattle.cell_core.proofs.BackLemmas.{boxes_length, boxes_ends}
-use Rattle.cell_core.proofs.StepLemmas.{numbering_bound}
+use Rattle.cell_core.proofs.StepLemmas.{numbering_bound, numbering_steps}
 use Rattle.cell_core.proofs.keys.numbered.Goals as goal
 
 pub all_sides-requires-clause-left : goal.all_sides-requires-clause-left
@@ -50,3 +50,15 @@ returns-in_err-sides-clause-cost g c =
     let l : length c.as_slice.result.now ≡ length c.args.left.now = ap length (c.as_slice.ensures.value ∙ c.in_ok-l.ensures) ∙ length-map c.args.left.now (λ r. r.1) in
     let r : length c.as_slice-2.result.now ≡ length c.args.right.now = ap length (c.as_slice-2.ensures.value ∙ c.in_ok-r.ensures) ∙ length-map c.args.right.now (λ r. r.1) in
     numbering_bound (length c.as_slice.result.now) (length c.as_slice-2.result.now) (length c.args.left.now) (length c.args.right.now) (length c.args.types.now) c.args.steps.now c.all_sides.new.steps l r c.all_sides.ensures.cost
+
+pub returns-clause-numbering : goal.returns-clause-numbering
+returns-clause-numbering g c =
+    let l : length c.as_slice.result.now ≡ length c.args.left.now = ap length (c.as_slice.ensures.value ∙ c.in_ok-l.ensures) ∙ length-map c.args.left.now (λ r. r.1) in
+    let r : length c.as_slice-2.result.now ≡ length c.args.right.now = ap length (c.as_slice-2.ensures.value ∙ c.in_ok-r.ensures) ∙ length-map c.args.right.now (λ r. r.1) in
+    numbering_steps (length c.as_slice.result.now) (length c.as_slice-2.result.now) (length c.args.left.now) (length c.args.right.now) (length c.args.types.now) c.args.steps.now c.all_sides.new.steps l r c.all_sides.ensures.cost
+
+pub returns-in_err-sides-clause-numbering : goal.returns-in_err-sides-clause-numbering
+returns-in_err-sides-clause-numbering g c =
+    let l : length c.as_slice.result.now ≡ length c.args.left.now = ap length (c.as_slice.ensures.value ∙ c.in_ok-l.ensures) ∙ length-map c.args.left.now (λ r. r.1) in
+    let r : length c.as_slice-2.result.now ≡ length c.args.right.now = ap length (c.as_slice-2.ensures.value ∙ c.in_ok-r.ensures) ∙ length-map c.args.right.now (λ r. r.1) in
+    numbering_steps (length c.as_slice.result.now) (length c.as_slice-2.result.now) (length c.args.left.now) (length c.args.right.now) (length c.args.types.now) c.args.steps.now c.all_sides.new.steps l r c.all_sides.ensures.cost

@@ -2,7 +2,7 @@ use Rattle.std.proofs.Common.{◌+◌, ◌≤◌, ◌++◌, length, arith, refl,
 use Rattle.std.proofs.lemmas.Int.{ints}
 use Rattle.std.proofs.lemmas.List.Elements.{All-same}
 use Rattle.cell_core.specs.Cells.{keys_from}
-use Rattle.cell_core.proofs.FormLemmas.{left_full, right_full, left_lengths, right_lengths, right_form, same_rows}
+use Rattle.cell_core.proofs.FormLemmas.{left_full, right_full, left_lengths, right_lengths, right_form, same_rows, same_packed_rows}
 use Rattle.cell_core.proofs.points.same_points.Goals as goal
 
 pub push_keys-requires-clause-full : goal.push_keys-requires-clause-full
@@ -32,6 +32,18 @@ returns-clause-answer g c =
     let a = c.as_slice-3.ensures.value in
     let b = c.as_slice-4.ensures.value in
     same_rows g.row.P.Denot g.T.PointType.number_of g.T.PointType.IsPoint g.T.PointType.last_number (λ t. (g.met.T.PointType.each t (g.T.PointType.first_number t) (omega (arith, ints)) (g.met.T.PointType.nonempty t)).0) c.args.types.now c.in_ok-sides.sides.items c.args.left.now c.args.right.now c.in_ok-sides.ensures.length c.in_ok-sides.ensures.sides c.requires.left c.requires.right
+    g.P.Label.order g.met.P.Label.total g.met.P.Label.separates c.push_keys.new.out.items c.in_ok-left_form.left_form.items c.in_ok-left_form.ensures.rows c.in_ok-left_form.ensures.sorted
+    c.push_keys-2.new.out.items c.in_ok-right_form.right_form.items c.in_ok-right_form.ensures.rows (c.in_ok-push_keys.ensures ∙ (λ i. c.new-l.ensures.items i ++ keys_from 0 c.args.left.now (c.as_slice.ensures.value i)))
+    (right_form g.row.P.Denot g.T.PointType.number_of g.T.PointType.IsPoint g.T.PointType.last_number (λ t. (g.met.T.PointType.each t (g.T.PointType.first_number t) (omega (arith, ints)) (g.met.T.PointType.nonempty t)).0) c.args.types.now c.in_ok-sides.sides.items c.args.left.now c.args.right.now c.in_ok-sides.ensures.length c.in_ok-sides.ensures.sides c.requires.left c.requires.right
+    g.P.Label.order g.met.P.Label.total g.met.P.Label.separates c.push_keys-2.new.out.items c.in_ok-right_form.right_form.items c.in_ok-right_form.ensures.rows c.in_ok-right_form.ensures.sorted
+    (c.in_ok-push_keys-2.ensures ∙ (λ i. c.new-r.ensures.items i ++ keys_from (length c.args.left.now) c.args.right.now (c.as_slice-2.ensures.value i)))) c.same_keys.result
+    (λ t. sym a ∙ c.same_keys.ensures.0 t ∙ b, λ q. c.same_keys.ensures.1 (a ∙ q ∙ sym b))
+
+pub returns-clause-packed : goal.returns-clause-packed
+returns-clause-packed g c =
+    let a = c.as_slice-3.ensures.value in
+    let b = c.as_slice-4.ensures.value in
+    same_packed_rows g.row.P.Denot g.T.PointType.number_of g.T.PointType.IsPoint g.T.PointType.last_number (λ t. (g.met.T.PointType.each t (g.T.PointType.first_number t) (omega (arith, ints)) (g.met.T.PointType.nonempty t)).0) c.args.types.now c.in_ok-sides.sides.items c.args.left.now c.args.right.now c.in_ok-sides.ensures.length c.in_ok-sides.ensures.sides c.requires.left c.requires.right
     g.P.Label.order g.met.P.Label.total g.met.P.Label.separates c.push_keys.new.out.items c.in_ok-left_form.left_form.items c.in_ok-left_form.ensures.rows c.in_ok-left_form.ensures.sorted
     c.push_keys-2.new.out.items c.in_ok-right_form.right_form.items c.in_ok-right_form.ensures.rows (c.in_ok-push_keys.ensures ∙ (λ i. c.new-l.ensures.items i ++ keys_from 0 c.args.left.now (c.as_slice.ensures.value i)))
     (right_form g.row.P.Denot g.T.PointType.number_of g.T.PointType.IsPoint g.T.PointType.last_number (λ t. (g.met.T.PointType.each t (g.T.PointType.first_number t) (omega (arith, ints)) (g.met.T.PointType.nonempty t)).0) c.args.types.now c.in_ok-sides.sides.items c.args.left.now c.args.right.now c.in_ok-sides.ensures.length c.in_ok-sides.ensures.sides c.requires.left c.requires.right
