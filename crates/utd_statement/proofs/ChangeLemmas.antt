@@ -1,58 +1,52 @@
 -- What changes ask for.
-use Rattle.std.specs.Prelude.{List, [], ◌∷◌, ◌++◌, map}
+use Rattle.std.specs.Prelude.{◌≡◌, ◌⊎◌, List, [], ◌∷◌, ◌++◌, map, Option, None, Result, Ok, Err, Vec, IfOk, refl}
+use Rattle.std.specs.Global.{Global}
 use Rattle.std.specs.List.{All}
+use Rattle.std.proofs.Common.{inl, inr, sym, subst}
+use Rattle.std.proofs.lemmas.List.{map-append}
 use Rattle.std.proofs.lemmas.List.Elements.{All-nil, All-head, All-tail, All-append, All-cons}
-use Rattle.value_core.specs.Values.{Name}
-use Rattle.tree_core.specs.Items.{PlainItem, read_item}
+use Rattle.point_core.specs.declared.memory.Memory.{Memory}
+use Rattle.tree_core.specs.Items.{PlainItemForm, set_to, insert, delete, delete_rows, update, terminate, PlainItem, read_item, read_assignment}
+use Rattle.tree_core.specs.Relvars.{State}
+use Rattle.tree_core.specs.Trees.{Tree}
+use Rattle.tree_core.specs.declared.declaration.Assignment.{Assignment}
 use Rattle.tree_core.specs.declared.item.Item.{Item}
-use Rattle.tree_core.specs.Relvars.{State, Entries, PlainRelvar, base, view}
-use Rattle.meaning_core.specs.Declarations.{PlainDeclaration, ordinal_type, base_relvar, view_relvar, with_declaration}
-use Rattle.algebra_core.specs.Plainness.{IsPlainForm}
 use Rattle.meaning_core.specs.Updates.{IsTypedItem, IsTypedAssignment}
 use Rattle.meaning_core.specs.WellMade.{IsWellMade}
-use Rattle.update_core.specs.Updates.{expanded, IsExpandable}
-use Rattle.update_core.proofs.PlainLemmas.{expanded-plain}
-use Rattle.update_core.proofs.TypedLemmas.{form-expandable, expanded-typed}
-use Rattle.assign_core.specs.Assignments.{IsPlainAssignment}
-use Rattle.assign_core.specs.Breaches.{IsBuiltRelvar, AreBuilt}
-use Rattle.assign_core.specs.Databases.{IsKept, CanBecome}
-use Rattle.type_check.specs.Checks.{IsPlainDeclaration, StaysPlain}
-use Rattle.utd_statement.specs.Answers.{assignments_of}
+use Rattle.update_core.specs.Updates.{source_of, assigned_to, expanded, IsExpandable}
+use Rattle.update_core.proofs.TypedLemmas.{expanded-typed}
 
--- ---- declarations
+-- ---- one item
 
-built-more : (es : Entries) (name : Name) (r : PlainRelvar) → AreBuilt es → IsBuiltRelvar r → AreBuilt (es ++ (name, r) ∷ [])
-built-more [] name r h k = (k, tt)
-built-more (e ∷ es) name r h k = (h.0, built-more es name r h.1 k)
+-- TERMINATE alone gives its target no expression of its own
+other-or-none : (form : PlainItemForm) → IsExpandable form ⊎ ((i : PlainItem) → source_of i form ≡ None)
+other-or-none (set_to t) = inl tt
+other-or-none (insert acl t) = inl tt
+other-or-none (delete acl t) = inl tt
+other-or-none (delete_rows change) = inl tt
+other-or-none (update change sets) = inl tt
+other-or-none (terminate at place condition) = inr (λ i. refl)
 
-declared-built : (s : State) (d : PlainDeclaration) → AreBuilt s.relvars → IsPlainDeclaration d → AreBuilt (with_declaration s d).relvars
-declared-built s (ordinal_type name values) h k = h
-declared-built s (base_relvar name heading constraints) h k = built-more s.relvars name (base (record { heading = heading; rows = [] }) constraints) h k
-declared-built s (view_relvar name t history) h k = built-more s.relvars name (view t history) h k
+any-typed : (s : State) (item : PlainItem) → IsWellMade s → IsTypedItem s item → All (IsTypedAssignment s) (expanded item)
+any-typed s item made is = elim (other-or-none item.form) [
+  | inl other ↦ expanded-typed s item made other is
+  | inr none ↦ subst (λ (source : Option Tree). All (IsTypedAssignment s) (assigned_to item source)) (sym (none item)) (All-nil (IsTypedAssignment s))
+]
 
--- a database can become the state with what is declared
-pub can-become : (s : State) (d : PlainDeclaration) → IsKept s → IsWellMade (with_declaration s d) → StaysPlain s d → CanBecome (with_declaration s d)
-can-become s d kept made plain = record { well_made = made; plain = plain.0; built = declared-built s d kept.built plain.1 }
+pub item-typed : (s : State) (item : Item) (answer : Result (Vec Assignment Global) Memory) → IsWellMade s → IsTypedItem s (read_item item)
+    → IfOk answer (λ v. map read_assignment v.items ≡ expanded (read_item item)) → IfOk answer (λ v. All (IsTypedAssignment s) (map read_assignment v.items))
+item-typed s item (Ok v) made is e = subst (All (IsTypedAssignment s)) (sym e) (any-typed s (read_item item) made is)
+item-typed s item (Err memory) made is e = tt
 
--- ---- assignments
+-- ---- all items
 
-pub all-expandable : (s : State) (items : List Item) → All (IsTypedItem s) (map read_item items) → All (λ (i : Item). IsExpandable (read_item i).form) items
-all-expandable s [] h = All-nil (λ (i : Item). IsExpandable (read_item i).form)
-all-expandable s (i ∷ items) h =
-    let first = All-head (IsTypedItem s) (read_item i) (map read_item items) h in
-    All-cons (λ (i : Item). IsExpandable (read_item i).form) i items (form-expandable s i.heading (read_item i).form first.form)
-    (all-expandable s items (All-tail (IsTypedItem s) (read_item i) (map read_item items) h))
+pub each-typed : (s : State) (items : List Item) → All (IsTypedItem s) (map read_item items) → All (λ (i : Item). IsTypedItem s (read_item i)) items
+each-typed s [] h = All-nil (λ (i : Item). IsTypedItem s (read_item i))
+each-typed s (i ∷ items) h =
+    All-cons (λ (i : Item). IsTypedItem s (read_item i)) i items (All-head (IsTypedItem s) (read_item i) (map read_item items) h)
+    (each-typed s items (All-tail (IsTypedItem s) (read_item i) (map read_item items) h))
 
-pub all-typed : (s : State) (items : List PlainItem) → IsWellMade s → All (IsTypedItem s) items → All (IsTypedAssignment s) (assignments_of items)
-all-typed s [] made h = All-nil (IsTypedAssignment s)
-all-typed s (i ∷ items) made h =
-    All-append (IsTypedAssignment s) (expanded i) (assignments_of items) (expanded-typed s i made (All-head (IsTypedItem s) i items h))
-    (all-typed s items made (All-tail (IsTypedItem s) i items h))
-
-pub all-plain : (s : State) (items : List PlainItem) → All (IsTypedItem s) items → All (λ (i : PlainItem). IsPlainForm s.relvars i.form) items → All (IsPlainAssignment s) (assignments_of items)
-all-plain s [] h k = All-nil (IsPlainAssignment s)
-all-plain s (i ∷ items) h k =
-    let P = λ (i : PlainItem). IsPlainForm s.relvars i.form in
-    All-append (IsPlainAssignment s) (expanded i) (assignments_of items)
-    (expanded-plain s.relvars i (All-head (IsTypedItem s) i items h).base (All-head P i items k))
-    (all-plain s items (All-tail (IsTypedItem s) i items h) (All-tail P i items k))
+pub more-typed : (s : State) (list more : List Assignment) → All (IsTypedAssignment s) (map read_assignment list) → All (IsTypedAssignment s) (map read_assignment more)
+    → All (IsTypedAssignment s) (map read_assignment (list ++ more))
+more-typed s list more h k =
+    subst (All (IsTypedAssignment s)) (sym (map-append read_assignment list more)) (All-append (IsTypedAssignment s) (map read_assignment list) (map read_assignment more) h k)

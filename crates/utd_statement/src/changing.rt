@@ -1,16 +1,14 @@
 // What statements change. No memory is taken once the database has changed.
-ghost use Rattle.std.specs.Prelude.{◌≡◌, IfOk, IsTrue, map};
+ghost use Rattle.std.specs.Prelude.{◌≡◌, IfOk, map};
 ghost use Rattle.std.specs.List.{All};
-ghost use Rattle.tree_core.specs.Items.{PlainItem, read_item, read_assignment};
+ghost use Rattle.tree_core.specs.Items.{read_item, read_assignment};
 ghost use Rattle.tree_core.specs.Relvars.{read_relvars};
 ghost use Rattle.meaning_core.specs.Declarations.{read_declaration, with_declaration, without};
-ghost use Rattle.algebra_core.specs.Plainness.{are_plain, IsPlainForm};
-ghost use Rattle.meaning_core.specs.Updates.{IsTypedItem};
+ghost use Rattle.meaning_core.specs.Updates.{IsTypedItem, IsTypedAssignment};
 ghost use Rattle.meaning_core.specs.WellMade.{IsWellMade};
-ghost use Rattle.update_core.specs.Updates.{IsExpandable};
+ghost use Rattle.update_core.specs.Endings.{meant_by};
 ghost use Rattle.assign_core.specs.Assignments.{after_assignments};
 ghost use Rattle.assign_core.specs.Databases.{IsKept};
-ghost use Rattle.type_check.specs.Checks.{StaysPlain};
 ghost use Rattle.utd_statement.specs.Answers.{Changed, assignments_of, unless_refused};
 ghost use Rattle.utd_statement.specs.Replies.{IsPerformed};
 
@@ -18,7 +16,7 @@ use assign_core::Database;
 use point_core::{Memory, Steps};
 use std::alloc::Global;
 use std::sync::ledger::Ledger;
-use tree_core::{Assignment, Declaration, Item, Items};
+use tree_core::{Assignment, Declaration, Item, ItemForm, Items, Relvars};
 use update_core::expand;
 use value_core::{Name, Refuse};
 
@@ -28,9 +26,7 @@ pub fn declared(
     declaration: Declaration,
     database: &mut Database,
 ) -> Result<Vec<u8>, Refuse>
-    requires kept { IsKept (read_relvars database.old) }
     requires well_made { IsWellMade (with_declaration (read_relvars database.old) (read_declaration declaration)) }
-    requires plain { StaysPlain (read_relvars database.old) (read_declaration declaration) }
     ensures { IsPerformed result (read_relvars database.old) (read_relvars database.new)
         (Changed (with_declaration (read_relvars database.old) (read_declaration declaration))) }
 {
@@ -42,21 +38,44 @@ pub fn declared(
 /// Removes the relvar or view of this name.
 pub fn removed(alloc: Global, name: &Name, database: &mut Database) -> Result<Vec<u8>, Refuse>
     requires well_made { IsWellMade (without name.now (read_relvars database.old)) }
-    requires plain { IsTrue (are_plain (without name.now (read_relvars database.old)).relvars) }
     ensures { IsPerformed result (read_relvars database.old) (read_relvars database.new) (Changed (without name.now (read_relvars database.old))) }
 {
     database.remove(name)?;
     Ok(Vec::new(alloc))
 }
 
+// The assignments that an item stands for where these are the relvars and views, each typed for them. TERMINATE is not built yet:
+// it wants memory.
+fn assignments_of_item(
+    alloc: Global,
+    item: &Item,
+    relvars: &Relvars,
+) -> Result<Vec<Assignment>, Memory>
+    requires well_made { IsWellMade (read_relvars relvars.now) }
+    requires typed { IsTypedItem (read_relvars relvars.now) (read_item item.now) }
+    ensures meant { IfOk result (λ v. map read_assignment v.items ≡ meant_by (read_relvars relvars.now).relvars (read_item item.now)) }
+    ensures typed { IfOk result (λ v. All (IsTypedAssignment (read_relvars relvars.now)) (map read_assignment v.items)) }
+{
+    match &item.form {
+        ItemForm::Terminate { .. } => Err(Memory),
+        ItemForm::Set(_)
+        | ItemForm::Insert(_, _)
+        | ItemForm::Delete(_, _)
+        | ItemForm::DeleteRows(_)
+        | ItemForm::Update(_, _) => expand(alloc, item),
+    }
+}
+
 // The assignments that the items stand for, in their order.
-fn assignments(alloc: Global, items: &[Item]) -> Result<Vec<Assignment>, Memory>
-    requires { All (λ (i : Item). IsExpandable (read_item i).form) items.now }
-    ensures { IfOk result (λ v. map read_assignment v.items ≡ assignments_of (map read_item items.now)) }
+fn assignments(alloc: Global, items: &[Item], relvars: &Relvars) -> Result<Vec<Assignment>, Memory>
+    requires well_made { IsWellMade (read_relvars relvars.now) }
+    requires typed { All (λ (i : Item). IsTypedItem (read_relvars relvars.now) (read_item i)) items.now }
+    ensures meant { IfOk result (λ v. map read_assignment v.items ≡ assignments_of (read_relvars relvars.now).relvars (map read_item items.now)) }
+    ensures typed { IfOk result (λ v. All (IsTypedAssignment (read_relvars relvars.now)) (map read_assignment v.items)) }
 {
     let mut list = Vec::new(alloc);
     for item in items {
-        let mut more = expand(alloc, item)?;
+        let mut more = assignments_of_item(alloc, item, relvars)?;
         list.append(&mut more)?;
     }
     Ok(list)
@@ -71,11 +90,10 @@ pub fn assigned<L: Ledger>(
 ) -> Result<Vec<u8>, Refuse>
     requires kept { IsKept (read_relvars database.old) }
     requires typed { All (IsTypedItem (read_relvars database.old)) (map read_item items.now) }
-    requires plain { All (λ (i : PlainItem). IsPlainForm (read_relvars database.old).relvars i.form) (map read_item items.now) }
     ensures { IsPerformed result (read_relvars database.old) (read_relvars database.new)
-        (unless_refused (read_relvars database.old) (after_assignments (read_relvars database.old).relvars (assignments_of (map read_item items.now)))) }
+        (unless_refused (read_relvars database.old) (after_assignments (read_relvars database.old).relvars (assignments_of (read_relvars database.old).relvars (map read_item items.now)))) }
 {
-    let list = assignments(alloc, items.list.as_slice())?;
+    let list = assignments(alloc, items.list.as_slice(), database.relvars())?;
     database.assign(&list, steps)?;
     Ok(Vec::new(alloc))
 }

@@ -1,13 +1,10 @@
 // What a statement is performed as: it writes, or it changes the database.
-ghost use Rattle.std.specs.Prelude.{IsTrue};
 ghost use Rattle.utd_syntax.specs.Read.{read_statement};
 ghost use Rattle.tree_core.specs.Relvars.{read_relvars};
 ghost use Rattle.tree_core.specs.Trees.{read_tree, read_test};
-ghost use Rattle.algebra_core.specs.Plainness.{IsPlain, IsPlainTest};
 ghost use Rattle.meaning_core.specs.WellMade.{IsWellMade, IsTypedFor, IsTypedTestFor};
 ghost use Rattle.assign_core.specs.Databases.{IsKept};
-ghost use Rattle.type_check.specs.Checks.{print, ask, checked, read_checked, IsTypedPlain, IsPlainPlain};
-ghost use Rattle.type_check.specs.Plainness.{is_plain_statement};
+ghost use Rattle.type_check.specs.Checks.{print, ask, checked, read_checked, IsTypedPlain};
 ghost use Rattle.utd_statement.specs.Answers.{of_checked, unless_fault};
 ghost use Rattle.utd_statement.specs.Replies.{IsPerformed};
 
@@ -32,7 +29,6 @@ fn printed<L: Ledger>(
 ) -> Result<Vec<u8>, Refuse>
     requires well_made { IsWellMade (read_relvars relvars.now) }
     requires typed { IsTypedFor (read_relvars relvars.now) (read_tree tree.now) }
-    requires plain { IsPlain (read_relvars relvars.now).relvars (read_tree tree.now) }
     ensures { IsPerformed result (read_relvars relvars.now) (read_relvars relvars.now) (of_checked (read_relvars relvars.now) (print (read_tree tree.now))) }
 {
     let relation = eval(alloc, tree, relvars, None, None, steps)?;
@@ -48,7 +44,6 @@ fn asked<L: Ledger>(
 ) -> Result<Vec<u8>, Refuse>
     requires well_made { IsWellMade (read_relvars relvars.now) }
     requires typed { IsTypedTestFor (read_relvars relvars.now) (read_test question.now) }
-    requires plain { IsPlainTest (read_relvars relvars.now).relvars (read_test question.now) }
     ensures { IsPerformed result (read_relvars relvars.now) (read_relvars relvars.now) (of_checked (read_relvars relvars.now) (ask (read_test question.now))) }
 {
     let holds = test(alloc, question, relvars, steps)?;
@@ -64,7 +59,6 @@ fn performed_typed<L: Ledger>(
 ) -> Result<Vec<u8>, Refuse>
     requires kept { IsKept (read_relvars database.old) }
     requires typed { IsTypedPlain (read_relvars database.old) (read_checked typed) }
-    requires plain { IsPlainPlain (read_relvars database.old) (read_checked typed) }
     ensures { IsPerformed result (read_relvars database.old) (read_relvars database.new) (of_checked (read_relvars database.old) (read_checked typed)) }
 {
     match typed {
@@ -79,7 +73,7 @@ fn performed_typed<L: Ledger>(
     }
 }
 
-/// Performs a statement that is built, and gives what it writes, or its first refusal. Where it is refused, or memory is wanting,
+/// Performs a statement, and gives what it writes, or its first refusal. Where it is refused, or memory is wanting,
 /// the database stays as it is.
 pub fn performed<L: Ledger>(
     alloc: Global,
@@ -87,7 +81,6 @@ pub fn performed<L: Ledger>(
     database: &mut Database,
     steps: &mut Steps<L>,
 ) -> Result<Vec<u8>, Refuse>
-    requires built { IsTrue (is_plain_statement (read_statement statement.now)) }
     ensures { IsPerformed result (read_relvars database.old) (read_relvars database.new)
         (unless_fault (of_checked (read_relvars database.old)) (checked (read_relvars database.old) (read_statement statement.now))) }
 {

@@ -3,7 +3,7 @@ ghost use Rattle.std.specs.Prelude.{◌≡◌, map, true, IfOk, None, Some, IsTr
 ghost use Rattle.point_core.specs.Faults.{fault};
 ghost use Rattle.utd_syntax.specs.Read.{read_statement};
 ghost use Rattle.utd_print.specs.Lines.{HasLine};
-ghost use Rattle.type_check.specs.Plainness.{is_plain_statement};
+ghost use Rattle.utd_statement.specs.Built.{is_plain_statement};
 ghost use Rattle.utd_statement.specs.Rows.{packed_form};
 ghost use Rattle.utd_statement.specs.Table.{table};
 ghost use Rattle.utd_statement.specs.Parsed.{reading_of, HasAnswer};

@@ -1,7 +1,7 @@
 use Rattle.std.proofs.Common.{◌≡◌, drop}
 use Rattle.std.specs.List.{list_all}
 use Rattle.utd_syntax.specs.Read.{read_item_list}
-use Rattle.type_check.specs.Plainness.{is_plain_update}
+use Rattle.utd_statement.specs.Built.{is_plain_update}
 use Rattle.utd_statement.proofs.built.are_plain_updates.Given as goal
 
 abbrev pub invariant-loop-item : goal.invariant-loop-item
