@@ -2,7 +2,8 @@
 ghost use Rattle.std.specs.Prelude.{◌≡◌, ℕ, ℤ, pos, ◌+ℤ◌, ◌≤ℤ◌, ◌<◌, ◌≤◌, ◌⊎◌, ◌+◌, ◌*◌, ◌^◌, map, [], ◌∷◌, ◌++◌, List};
 ghost use Rattle.std.specs.Prelude.{Some, None, Err, get_or, ◌-◌, length, slice_index_or, OnOk, IfOk, ◌↔◌, IsTrue};
 ghost use Rattle.std.specs.List.{All};
-ghost use Rattle.packing_core.specs.Covering.{Among};
+ghost use Rattle.packing_core.specs.Covering.{Among, InCells};
+ghost use Rattle.packing_core.specs.Boxed.{InBoxes, packed_boxes};
 ghost use Rattle.interval_core.specs.Members.{Span, HasEndsIn};
 ghost use Rattle.packing_core.specs.Packed.{no_cells};
 ghost use Rattle.slice_core.specs.Rows.{sides_of, AreRows, own_numbers};
@@ -197,6 +198,8 @@ pub fn back<T: PointType, P: Drop>(
 /// At each point, what the operator gives for the left and right rows that cover it, packed on the first side, then on
 /// the second, and so on; the rows stand in the order of their labels and then of their sides.
 ///
+/// So they are the packed form, as `pack` has it, of any boxes that have at each place the labels that the operator gives there.
+///
 /// `Op` is the least fault of the operator over all covered points, and comes exactly where there is one. `Limit` comes
 /// exactly where there is none and the packed rows are more than `limit`.
 pub fn combine<T: PointType, O: CellOp, L: Ledger>(
@@ -214,6 +217,10 @@ pub fn combine<T: PointType, O: CellOp, L: Ledger>(
         O.CanApply op.now a b }
     ensures rows { IfOk result (λ v. IsPackedForm O.Out.order (length types.now) (O.means op.now) (boxes_of
         T.number_of left.now) (boxes_of T.number_of right.now) (map (row_numbers T.number_of) v.items)) }
+    ensures packed { IfOk result (λ v. (r : List (O.Out × List Span)) → ((x : O.Out × List Span) → Among x r →
+        length x.1 ≡ length types.now) → ((l : O.Out) (place : List ℤ) → InBoxes r l place ↔ InCells (O.means op.now)
+        (boxes_of T.number_of left.now) (boxes_of T.number_of right.now) l place) →
+        map (row_numbers T.number_of) v.items ≡ packed_boxes O.Out.order (length types.now) r) }
     ensures boxes { IfOk result (λ v. All (λ x. IsBox T.IsPoint types.now x.1) v.items) }
     ensures few { IfOk result (λ v. length v.items ≤ limit) }
     ensures no_fault { IfOk result (λ v. IsLeast (HasFault (length types.now) (O.means op.now) (boxes_of T.number_of

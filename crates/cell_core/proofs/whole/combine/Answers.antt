@@ -4,6 +4,7 @@ use Rattle.slice_core.specs.Rows.{AreRows, own_numbers}
 use Rattle.cell_core.specs.Numbering.{IsGrid}
 use Rattle.cell_core.specs.Cells.{boxes_of, IsPackedForm, grids_of, grid_row, row_numbers}
 use Rattle.cell_core.proofs.BackLemmas.{boxes_length, boxes_ends, rows_down}
+use Rattle.cell_core.proofs.CombinedLemmas.{combined_packed}
 use Rattle.cell_core.proofs.whole.combine.Goals as goal
 
 pub find_rows-requires-clause-left : goal.find_rows-requires-clause-left
@@ -51,3 +52,13 @@ returns-clause-few g c =
     let back = grid_row (grids_of n g.T.PointType.last_number c.args.types.now c.as_slice.result.now) in
     let l : length answer ≡ length rows = sym (length-map answer (row_numbers n)) ∙ ap length c.in_ok-answer.ensures.rows ∙ length-map rows back in
     omega arith
+
+pub returns-clause-packed : goal.returns-clause-packed
+returns-clause-packed g c = λ r have same.
+    let n = g.T.PointType.number_of in
+    let high = g.T.PointType.last_number in
+    let rows = c.in_ok-sides.field-0.rows.items in
+    let back : map (row_numbers n) c.in_ok-answer.answer.items ≡ map (grid_row (grids_of n high c.args.types.now c.in_ok-sides.field-0.sides.items)) rows =
+    c.in_ok-answer.ensures.rows ∙ ap (λ ss. map (grid_row (grids_of n high c.args.types.now ss)) rows) c.as_slice.ensures.value in
+    back ∙ combined_packed g.O.Out.Label.order g.met.O.Out.Label.total g.met.O.Out.Label.separates (length c.args.types.now) (g.O.CellOp.means c.args.op.now) (boxes_of n c.args.left.now) (boxes_of n c.args.right.now)
+    (map (grid_row (grids_of n high c.args.types.now c.in_ok-sides.field-0.sides.items)) rows) c.in_ok-sides.ensures.form r have same
