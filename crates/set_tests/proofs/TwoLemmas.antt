@@ -16,7 +16,7 @@ use Rattle.u_set.specs.Boxes.{AreIntervals, type_of}
 
 pub two_are_different : IsDistinct nat_eq (0 ∷ 1 ∷ [])
 unfolding IsDistinct
-two_are_different = ((refl, tt), tt, tt)
+two_are_different = ((refl, tt), (tt, tt))
 
 pub one_is_different : IsDistinct nat_eq (0 ∷ [])
 unfolding IsDistinct

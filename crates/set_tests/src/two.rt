@@ -70,7 +70,7 @@ fn rows_of(alloc: Global, list: &[Ends]) -> Result<Vec<Row>, Memory> {
 }
 
 /// The relations of the intervals D and E.
-pub fn pair(alloc: Global, left: &[Ends], right: &[Ends]) -> Result<Pair, RelationRefuse>
+pub fn relations(alloc: Global, left: &[Ends], right: &[Ends]) -> Result<Pair, RelationRefuse>
     ensures heading { IfOk result (λ p. p.left.heading ≡ p.right.heading) }
     ensures both { IfOk result (λ p. AreIntervals p.left.heading (0 ∷ 1 ∷ [])) }
     ensures first { IfOk result (λ p. AreIntervals p.left.heading (0 ∷ [])) }
@@ -86,7 +86,7 @@ pub fn pair(alloc: Global, left: &[Ends], right: &[Ends]) -> Result<Pair, Relati
 }
 
 // What the operators give under USING of the attributes at the positions.
-fn given<L: Ledger>(
+fn operated<L: Ledger>(
     alloc: Global,
     p: &Pair,
     acl: &[usize],
@@ -120,8 +120,8 @@ pub fn by_both<L: Ledger>(
     requires parts { blank.parts ≡ L.parts }
     requires one { blank.parts ≡ 1 }
 {
-    let p = pair(alloc, left, right)?;
-    given::<L>(alloc, &p, &[0, 1], blank)
+    let p = relations(alloc, left, right)?;
+    operated::<L>(alloc, &p, &[0, 1], blank)
 }
 
 /// Under USING of the first attribute.
@@ -135,8 +135,8 @@ pub fn by_first<L: Ledger>(
     requires parts { blank.parts ≡ L.parts }
     requires one { blank.parts ≡ 1 }
 {
-    let p = pair(alloc, left, right)?;
-    given::<L>(alloc, &p, &[0], blank)
+    let p = relations(alloc, left, right)?;
+    operated::<L>(alloc, &p, &[0], blank)
 }
 
 /// Under USING of no attribute.
@@ -150,8 +150,8 @@ pub fn by_none<L: Ledger>(
     requires parts { blank.parts ≡ L.parts }
     requires one { blank.parts ≡ 1 }
 {
-    let p = pair(alloc, left, right)?;
-    given::<L>(alloc, &p, &[], blank)
+    let p = relations(alloc, left, right)?;
+    operated::<L>(alloc, &p, &[], blank)
 }
 
 /// Whether what the operators gave is what is wanted.
@@ -169,7 +169,7 @@ mod tests {
     fn takes_a_hole_out_of_two_sides(rt: HostRuntime) -> Result<(), Fail> {
         let alloc = rt.alloc();
         let found = by_both::<Brand>(alloc, &[((1, 4), (1, 4))], &[((2, 3), (2, 3))], Blank::new(1));
-        let wanted = pair(
+        let wanted = relations(
             alloc,
             &[((2, 3), (2, 3))],
             &[
@@ -191,7 +191,7 @@ mod tests {
         let alloc = rt.alloc();
         let left = [((1, 4), (1, 1)), ((3, 6), (1, 1)), ((1, 2), (2, 2))];
         let found = by_first::<Brand>(alloc, &left, &[((2, 3), (1, 1)), ((1, 1), (2, 2))], Blank::new(1));
-        let wanted = pair(
+        let wanted = relations(
             alloc,
             &[((2, 3), (1, 1)), ((1, 1), (2, 2))],
             &[((1, 1), (1, 1)), ((4, 6), (1, 1)), ((2, 2), (2, 2))],
@@ -208,7 +208,7 @@ mod tests {
         let alloc = rt.alloc();
         let left = [((1, 4), (1, 1)), ((3, 6), (1, 1))];
         let found = by_none::<Brand>(alloc, &left, &[((1, 4), (1, 1))], Blank::new(1));
-        let wanted = pair(alloc, &[((1, 4), (1, 1))], &[((3, 6), (1, 1))]);
+        let wanted = relations(alloc, &[((1, 4), (1, 1))], &[((3, 6), (1, 1))]);
         match (found, wanted) {
             (Ok(found), Ok(wanted)) => assert!(rt; is_wanted(&found, &wanted)),
             _ => assert!(rt; false),
