@@ -43,7 +43,7 @@ fn is_built_rel(rel: &Rel) -> bool
     ensures { result ≡ is_built_rel (read_rel rel.now) }
 {
     match rel {
-        Rel::Using(using) => is_built_using(using),
+        Rel::Using(whole) => is_built_using(whole),
         Rel::Terms(terms) => is_built_terms(terms),
     }
 }
@@ -111,10 +111,10 @@ fn is_built_summarize(summarize: &Summarize) -> bool
 }
 
 #[cycle(rel)]
-fn is_built_using(using: &Using) -> bool
-    ensures { result ≡ is_built_using (read_using using.now) }
+fn is_built_using(whole: &Using) -> bool
+    ensures { result ≡ is_built_using (read_using whole.now) }
 {
-    let Using::Of(_, _, part) = using;
+    let Using::Of(_, _, part) = whole;
     is_built_operator(part) && are_built_operands(part)
 }
 
