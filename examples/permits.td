@@ -56,5 +56,13 @@ PRINT EXTEND RELATION {
 /* One list cannot be taken from another that has further attributes. */
 PRINT RELATION {TUPLE {WHO 'Ada', AREA 1}} MINUS RELATION {TUPLE {WHO 'Ada'}};
 
-/* On which days was there a permit at all? What looks into intervals day by day does not run yet. */
-PRINT USING (HOLDS): RELATION {TUPLE {WHO 'Ada', HOLDS [DATE '2012-01-10':DATE '2012-02-20']}} {HOLDS};
+/* On which days was there a permit at all? */
+PRINT PACK RELATION {
+  TUPLE {WHO 'Ada',   AREA 1, HOLDS [DATE '2012-01-10':DATE '2012-02-20']},
+  TUPLE {WHO 'Grace', AREA 2, HOLDS [DATE '2012-02-01':DATE '2012-02-29']},
+  TUPLE {WHO 'Kurt',  AREA 2, HOLDS [DATE '2012-03-02':DATE '2012-03-10']}
+} {HOLDS} ON (HOLDS);
+
+/* Ada gives her permit back for ten days. */
+PRINT USING (HOLDS): RELATION {TUPLE {WHO 'Ada', AREA 1, HOLDS [DATE '2012-01-10':DATE '2012-02-20']}}
+  MINUS RELATION {TUPLE {WHO 'Ada', AREA 1, HOLDS [DATE '2012-02-01':DATE '2012-02-10']}};

@@ -10,16 +10,19 @@ use std::alloc::Global;
 use std::{fs, io};
 
 /// The files of data/, by subject.
-const FILES: [&str; 21] = [
+const FILES: [&str; 25] = [
     "ask.txt",
     "assign.txt",
+    "compare.txt",
     "constraint.txt",
     "drop.txt",
     "fault.txt",
     "item.txt",
     "kept.txt",
+    "list.txt",
     "literal.txt",
     "name.txt",
+    "pack.txt",
     "page.txt",
     "relation.txt",
     "relvar.txt",
@@ -31,6 +34,7 @@ const FILES: [&str; 21] = [
     "typing.txt",
     "unbuilt.txt",
     "update.txt",
+    "using.txt",
     "view.txt",
 ];
 

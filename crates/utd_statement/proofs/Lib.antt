@@ -1,10 +1,4 @@
-pub mod PackLemmas
-pub mod AbsorptionLemmas
-pub mod NumberLemmas
-pub mod FormLemmas
-pub mod TableLemmas
 pub mod ReadingLemmas
-pub mod ReplyLemmas
 pub mod TellingLemmas
 pub mod ReadingLaws
 pub mod EmptyLemmas

@@ -13,7 +13,7 @@ use Rattle.meaning_core.specs.Meanings.{meaning_in}
 use Rattle.meaning_core.specs.Names.{given}
 use Rattle.meaning_core.proofs.LookupLemmas.{given_none, operand_heading}
 use Rattle.type_check.specs.Checks.{print}
-use Rattle.utd_print.specs.Tables as printed
+use Rattle.utd_print.specs.Tables.{table}
 use Rattle.utd_statement.specs.Answers.{Answer, Table, unless_fault, relation_in, of_checked, state_after}
 use Rattle.utd_statement.specs.Replies.{IsTextOf, IsPerformed}
 
@@ -38,7 +38,7 @@ module _ {A : Type 0} (f : A → Answer) (state : State) (stays : (v : A) → st
   value_performed v meant text e h = subst (λ m. IsPerformed (Ok text) state state (unless_fault f m)) (sym e) (h, sym (stays v))
 
 pub printed_text : (state : State) (t : RelTree) (r : Relation) (text : Vec ℕ Global) → Answers (Ok r) (under t.heading (meaning_in (given None None state.relvars) (read_tree t)))
-    → text.items ≡ printed.table state.ordinals r → IsPerformed (Ok text) state state (of_checked state (print (read_tree t)))
+    → text.items ≡ table state.ordinals r → IsPerformed (Ok text) state state (of_checked state (print (read_tree t)))
 printed_text state t r text h e = value_performed (Table state.ordinals) state (λ v. refl) r _ text (relation_is state t (Ok r) h) ((λ n. e), refl)
 
 pub printed_stop : (state : State) (t : RelTree) (stop : Stop) → Answers {A = Relation} (Err stop) (under t.heading (meaning_in (given None None state.relvars) (read_tree t)))

@@ -2,10 +2,9 @@
 --     Answer      what is answered
 --     of_tree, answer      to a tree in a state, and to what a statement is read as
 --     text_of, is_accepted, state_after      what an answer writes, whether it accepts, and the state that it leaves
-use Rattle.std.specs.Prelude.{ℕ, Bool, true, false, List, [], ◌∷◌, map, flat_map, if◌then◌else◌, Option, Some, None, Result, Ok, Err}
-use Rattle.std.specs.Int.RustNames.{int_lt}
+use Rattle.std.specs.Prelude.{ℕ, Bool, true, false, List, [], flat_map, Result, Ok, Err}
 use Rattle.point_core.specs.declared.fault.Place.{Place}
-use Rattle.point_core.specs.declared.fault.Code.TheVariants.{E01, E33}
+use Rattle.point_core.specs.declared.fault.Code.TheVariants.{E01}
 use Rattle.point_core.specs.Faults.{OrFault, fault}
 use Rattle.value_core.specs.declared.list.OrdinalNames.{OrdinalNames}
 use Rattle.value_core.specs.declared.refuse.Refuse.{Refuse}
@@ -23,34 +22,19 @@ use Rattle.assign_core.specs.Assignments.{after_assignments}
 use Rattle.utd_syntax.specs.Plain as plain
 use Rattle.utd_syntax.specs.Plain.{StatementP}
 use Rattle.type_check.specs.Checks.{Plain, nothing, declare_ordinal, declare_base, declare_view, remove, assign, print, ask, checked}
-use Rattle.utd_statement.specs.Built.{is_plain_statement}
+use Rattle.utd_statement.specs.Built.{is_built_statement}
 use Rattle.utd_print.specs.Lines.{refusal_line, truth_line}
-use Rattle.utd_print.specs.Tables as printed
-use Rattle.utd_statement.specs.declared.row.Row.{Row}
-use Rattle.utd_statement.specs.declared.row.PlacedRow.{PlacedRow}
-use Rattle.utd_statement.specs.Rows.{packed_form}
-use Rattle.utd_statement.specs.Form.{rows_of}
+use Rattle.utd_print.specs.Tables.{table}
 use Rattle.utd_statement.specs.Readings.{Reading, Tree as TreeOf, Refused}
-use Rattle.utd_statement.specs.Table.{table}
 
--- what is answered to a statement: nothing; a new state; a table of rows; a relation's table with the ordinal types whose values
--- it names; a truth value; or a refusal
+-- what is answered to a statement: nothing; a new state; a relation's table with the ordinal types whose values it names; a truth
+-- value; or a refusal
 pub data Answer : Type 0 where
   Done : Answer
   Changed : State → Answer
-  Rows : List Row → Answer
   Table : List OrdinalNames → Relation → Answer
   Truth : Bool → Answer
   Refusal : Refuse → Answer
-
--- where the first interval stands that has its END before its BEGIN
-abbrev pub first_empty : List PlacedRow → Option Place
-first_empty [] = None
-first_empty (r ∷ rs) = if int_lt r.row.end r.row.begin then Some r.place else first_empty rs
-
-abbrev pub unless_empty : List PlacedRow → Option Place → Answer
-unless_empty rows None = Rows (packed_form (map (λ r. r.row) rows))
-unless_empty rows (Some place) = Refusal (At (fault place E33))
 
 -- the answer to a value, or a fault that comes in its place
 abbrev pub unless_fault : {A : Type 0} → (A → Answer) → OrFault A → Answer
@@ -81,20 +65,15 @@ of_checked state (assign items) = unless_refused state (after_assignments state.
 of_checked state (print t) = unless_fault (Table state.ordinals) (relation_in state t)
 of_checked state (ask t) = unless_fault Truth (truth_in state.relvars t)
 
--- A statement without PACK, UNPACK and USING is typed and performed. One that is not built is refused at its first token
+-- a statement is typed and performed; one that is not built is refused at its first token
 abbrev pub of_built : State → Place → StatementP → Bool → Answer
 of_built state first tree true = unless_fault (of_checked state) (checked state tree)
 of_built state first tree false = Refusal (At (fault first E01))
 
--- the one form with PACK has an answer of its own
-abbrev pub of_form : State → Place → StatementP → Option (List PlacedRow) → Answer
-of_form state first tree None = of_built state first tree (is_plain_statement tree)
-of_form state first tree (Some rows) = unless_empty rows (first_empty rows)
-
 -- the answer to a tree in a state
 unfoldable pub of_tree : State → Place → StatementP → Answer
 of_tree state first plain.Nothing = Done
-of_tree state first tree = of_form state first tree (rows_of tree)
+of_tree state first tree = of_built state first tree (is_built_statement tree)
 
 -- the answer to what a statement is read as, in a state
 abbrev pub answer : State → Reading → Answer
@@ -105,15 +84,13 @@ answer state (Refused refuse) = Refusal refuse
 abbrev pub text_of : ℕ → Answer → List ℕ
 text_of n Done = []
 text_of n (Changed state) = []
-text_of n (Rows rows) = table rows
-text_of n (Table types relation) = printed.table types relation
+text_of n (Table types relation) = table types relation
 text_of n (Truth b) = truth_line b
 text_of n (Refusal refuse) = refusal_line n refuse
 
 abbrev pub is_accepted : Answer → Bool
 is_accepted Done = true
 is_accepted (Changed state) = true
-is_accepted (Rows rows) = true
 is_accepted (Table types relation) = true
 is_accepted (Truth b) = true
 is_accepted (Refusal refuse) = false
@@ -122,7 +99,6 @@ is_accepted (Refusal refuse) = false
 abbrev pub state_after : State → Answer → State
 state_after state (Changed new) = new
 state_after state Done = state
-state_after state (Rows rows) = state
 state_after state (Table types relation) = state
 state_after state (Truth b) = state
 state_after state (Refusal refuse) = state

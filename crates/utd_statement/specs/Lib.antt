@@ -1,8 +1,3 @@
-pub mod Rows
-pub mod Absorption
-pub mod Form
-pub mod Table
-pub mod Texts
 pub mod Readings
 pub mod Parsed
 pub mod Answers

@@ -3,13 +3,9 @@
 
 mod built;
 mod changing;
-mod form;
-mod packing;
 mod performing;
 mod reading;
 mod reply;
-mod row;
-mod table;
 
 pub use reading::{Parsed, Tree, read_text};
 pub use reply::{Reply, answer_to, refusal};

@@ -79,15 +79,14 @@ fn examples() -> [Example; 32] {
         Example {
             // words are longest
             script: b"PRINT PACK RELATION {TUPLE {S1, D [0:0]}} ON (D);PRINT PACK RELATION {TUPLE {S 1, D [0:0]}} ON (D_);",
-            output: b"statement 1 refused: E01 not a statement at 1:31\nstatement 2 refused: E01 not a statement at 1:50\n",
+            output: b"statement 1 refused: E01 not a statement at 1:31\nstatement 2 refused: E14 no such attribute at 1:97\n",
             status: 1,
             ..PLAIN
         },
         Example {
-            // eighteen digits and nineteen, columns as wide as their widest text
-            script: b"PRINT PACK RELATION {TUPLE {S 999999999999999999,D[0:1]},TUPLE{S 3,D[2:2]},TUPLE{S 3,D[3:3]}}ON(D);\tPRINT PACK RELATION {TUPLE {S 1, D [0:1000000000000000000]}} ON (D);",
-            output: b"| D     | S                  |\n| [0:1] | 999999999999999999 |\n| [2:3] | 3                  |\nrows: 2\nstatement 2 refused: E01 not a statement at 1:101\n",
-            status: 1,
+            // columns as wide as their widest text
+            script: b"PRINT PACK RELATION {TUPLE {S 999999999999999999,D[0:1]},TUPLE{S 3,D[2:2]},TUPLE{S 3,D[3:3]}}ON(D);\tPRINT PACK RELATION {TUPLE {S -1, D [-3:10]}} ON (D);",
+            output: b"| D     | S                  |\n| [0:1] | 999999999999999999 |\n| [2:3] | 3                  |\nrows: 2\n| D       | S  |\n| [-3:10] | -1 |\nrows: 1\n",
             ..PLAIN
         },
         Example {
@@ -212,9 +211,9 @@ fn examples() -> [Example; 32] {
             ..PLAIN
         },
         Example {
-            // the first empty interval of two, and a sign
-            script: b"PRINT PACK RELATION {TUPLE {S 1, D [1:2]},\nTUPLE {S 1, D [4:3]}, TUPLE {S 1, D [6:5]}} ON (D);PRINT PACK RELATION {TUPLE {S -1, D [1:2]}} ON (D);",
-            output: b"statement 1 refused: E33 empty interval at 2:15\nstatement 2 refused: E01 not a statement at 2:52\n",
+            // the first empty interval of two, and a list of the wrong kind
+            script: b"PRINT PACK RELATION {TUPLE {S 1, D [1:2]},\nTUPLE {S 1, D [4:3]}, TUPLE {S 1, D [6:5]}} ON (D);PRINT UNPACK RELATION {TUPLE {S -1, D [1:2]}} ON (S);",
+            output: b"statement 1 refused: E33 empty interval at 2:15\nstatement 2 refused: E16 not an interval at 2:102\n",
             status: 1,
             ..PLAIN
         },
@@ -245,9 +244,9 @@ fn examples() -> [Example; 32] {
             ..PLAIN
         },
         Example {
-            // what is not built
-            script: b"ASK USING (D): RELATION {TUPLE {D [1:2]}} = RELATION {TUPLE {D [1:2]}};PRINT (UNPACK RELATION {TUPLE {D [1:2]}} ON (D));VAR R RELATION {D INTERVAL(INTEGER)} PACKED ON (D);",
-            output: b"statement 1 refused: E01 not a statement at 1:1\nstatement 2 refused: E01 not a statement at 1:72\nstatement 3 refused: E01 not a statement at 1:121\n",
+            // what is not built, beside what is
+            script: b"ASK USING (D): RELATION {TUPLE {D [1:2]}} = RELATION {TUPLE {D [1:2]}};PRINT USING (D): RELATION {TUPLE {D [1:2]}} WHERE D = D;VAR R RELATION {D INTERVAL(INTEGER)} PACKED ON (D);",
+            output: b"TRUE\nstatement 2 refused: E01 not a statement at 1:72\nstatement 3 refused: E01 not a statement at 1:128\n",
             status: 1,
             ..PLAIN
         },
@@ -372,12 +371,6 @@ fn long_scripts_come_out(rt: HostRuntime) -> Result<(), Fail> {
             equal_tuples(alloc, 1000)?,
             0,
             b"| D     | S |\n| [1:1] | 1 |\nrows: 1\n",
-            b"",
-        ),
-        (
-            equal_tuples(alloc, 1001)?,
-            1,
-            b"statement 1 refused: E01 not a statement at 1:1\n",
             b"",
         ),
         (
