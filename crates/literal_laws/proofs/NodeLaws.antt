@@ -50,13 +50,13 @@ checked-fine place code other holds f h = then-fine (check place code holds) f (
 
 -- ---- attributes that are named
 
-position-fine : (heading : Heading) (w : Word) → IsNotE06 (position_typed heading w)
+pub position-fine : (heading : Heading) (w : Word) → IsNotE06 (position_typed heading w)
 position-fine heading w = value-fine w.place E14 (λ e. cc) (position_if heading w.bytes)
 
 new-position-fine : (heading : Heading) (before : List ℕ) (w : Word) → IsNotE06 (new_position heading before w)
 new-position-fine heading before w = then-fine (position_typed heading w) _ (position-fine heading w) (λ at. checked-fine w.place E15 (λ e. cc) (not (among before at)) _ (λ u. tt))
 
-positions-fine : (heading : Heading) (before : List ℕ) (words : List Word) → IsNotE06 (positions_typed heading before words)
+pub positions-fine : (heading : Heading) (before : List ℕ) (words : List Word) → IsNotE06 (positions_typed heading before words)
 positions-fine heading before [] = tt
 positions-fine heading before (w ∷ rest) = then-fine (new_position heading before w) _ (new-position-fine heading before w) (λ at. positions-fine heading (before ++ at ∷ []) rest)
 
