@@ -15,6 +15,7 @@ use Rattle.utd_syntax.specs.Plain.{Word, ScalarP, ElementP, Element, SomeElement
 use Rattle.value_core.specs.declared.kind.Kind.{Kind}
 use Rattle.value_core.specs.declared.list.OrdinalNames.{OrdinalNames}
 use Rattle.value_core.specs.Headings.{has_name}
+use Rattle.value_core.specs.Limits.{most_listed}
 use Rattle.value_core.specs.Values.{Name, Heading, attribute_cmp}
 use Rattle.scalar_core.specs.Expressions.{Expr}
 use Rattle.scalar_core.specs.KindOf.{same_kind}
@@ -157,7 +158,7 @@ module _ (types : List OrdinalNames) (ordinals : All IsOrdinalType types) (headi
       then-sound (IsRead (sizes_of types) heading [] (map element_name (first ∷ more)))
       (λ (m : PlainPortion). IsPortionIf (sizes_of types) heading None (Some m) × AreNamed heading (map element_name (first ∷ more)) (attributes_of_portion m))
       (parts_typed types heading [] (first ∷ more)) _ (parts-sound [] (first ∷ more) (none-read (sizes_of types) heading)) (λ m is.
-      then-sound (λ _. IsTrue (nat_le (length m) 3)) (λ (n : PlainPortion). IsPortionIf (sizes_of types) heading None (Some n) × AreNamed heading (map element_name (first ∷ more)) (attributes_of_portion n))
-      (check at E17 (nat_le (length m) 3)) _ (held at E17 (nat_le (length m) 3)) (λ _ few.
+      then-sound (λ _. IsTrue (nat_le (length m) most_listed)) (λ (n : PlainPortion). IsPortionIf (sizes_of types) heading None (Some n) × AreNamed heading (map element_name (first ∷ more)) (attributes_of_portion n))
+      (check at E17 (nat_le (length m) most_listed)) _ (held at E17 (nat_le (length m) most_listed)) (λ _ few.
       let named : AreNamed heading (map element_name (first ∷ more)) (attributes_of_portion m) = record { positions = is.1; known = is.2 } in
-      (as-portion (sizes_of types) heading (element_name first) (map element_name more) m is.0 named (leb-true (length m) 3 few), named)))
+      (as-portion (sizes_of types) heading (element_name first) (map element_name more) m is.0 named (leb-true (length m) most_listed few), named)))

@@ -14,6 +14,7 @@ use Rattle.value_core.specs.declared.kind.Kind.{Kind}
 use Rattle.value_core.specs.declared.kind.Kind.TheVariants.{Truth}
 use Rattle.value_core.specs.declared.list.OrdinalNames.{OrdinalNames}
 use Rattle.value_core.specs.Headings.{has_name}
+use Rattle.value_core.specs.Limits.{most_listed}
 use Rattle.value_core.specs.Values.{Name, Heading, attribute_cmp, is_heading}
 use Rattle.scalar_core.specs.Expressions.{Expr}
 use Rattle.relation_core.specs.Agreement.{names_of, position_of}
@@ -57,7 +58,7 @@ abbrev pub AreSpans : Heading → List Name → Type 0
 AreSpans h names = (name : Name) → In name names → IsTrue (has_name h name) × IsTrue (is_span (kind_named h name))
 
 used-typed : (sizes : List ℕ) (headings : Headings) (place : Place) (names : List Name) (part : Tree) → IsTypedTree sizes headings part → AreSpans (heading_of part) names → IsDistinct bytes_eq names
-    → length names ≤ 3 → IsTrue (is_part names part) → IsTypedTree sizes headings (used place names part)
+    → length names ≤ most_listed → IsTrue (is_part names part) → IsTypedTree sizes headings (used place names part)
 used-typed sizes headings place names part typed known apart few is = (
   typed,
   list-of (heading_of part) names known apart few,
