@@ -3,7 +3,7 @@ use Rattle.std.proofs.Common.{◌≡◌, ℕ, List, Bool, true, false, ◌&&◌,
 use Rattle.point_core.specs.declared.fault.Place.{Place}
 use Rattle.point_core.specs.declared.fault.Code.TheVariants.{E06, E10, E12, E14}
 use Rattle.utd_syntax.specs.declared.terminal.Terminal.TheVariants as t
-use Rattle.utd_syntax.specs.Limits.{value_of, is_date, has_control}
+use Rattle.utd_syntax.specs.Literals.{value_of, is_date, has_control}
 use Rattle.utd_syntax.specs.Plain as syntax
 use Rattle.utd_syntax.specs.Plain.{Word, PointP, ScalarP, ConjP, NegP, CmpP, SumP, ProdP, SignP, PrimaryP}
 use Rattle.utd_syntax.specs.Table.{Plain, Negated, Dated}

@@ -10,7 +10,7 @@ use Rattle.point_core.specs.Faults.{OrFault}
 use Rattle.point_core.specs.Points.{line_of, first_of, last_of}
 use Rattle.utd_syntax.specs.declared.words.ExtremeWord.{ExtremeWord}
 use Rattle.utd_syntax.specs.declared.words.ExtremeWord.TheVariants.{First, Last}
-use Rattle.utd_syntax.specs.Limits.{value_of, is_date}
+use Rattle.utd_syntax.specs.Literals.{value_of, is_date}
 use Rattle.value_core.specs.declared.kind.Kind.TheVariants.{Truth, Char, Point}
 use Rattle.value_core.specs.Limits.{most_text_bytes}
 use Rattle.value_core.specs.Values.{truth, text, point}
