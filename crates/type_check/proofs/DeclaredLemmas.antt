@@ -40,9 +40,6 @@ part-in heading kept within a i =
     subst (λ (z : Name × Kind). In z heading) (sym at.2) (member-at heading at.0 no_attribute (within_by_members (length heading) kept within at.0 at.1))
 
 module _ (sizes : List ℕ) where
-  parts-of : (h : Heading) → IsTrue (is_declared sizes h) → IsTrue (is_heading h) × IsTrue (list_all (λ a. is_kind sizes a.1) h)
-  parts-of h declared = and_parts (is_heading h) (list_all (λ a. is_kind sizes a.1) h) declared
-
   pub declared-heading : (h : Heading) → IsTrue (is_declared sizes h) → IsTrue (is_heading h)
   declared-heading h declared = (and_parts (is_heading h) (list_all (λ a. is_kind sizes a.1) h) declared).0
 

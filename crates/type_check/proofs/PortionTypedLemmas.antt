@@ -21,6 +21,7 @@ use Rattle.scalar_core.specs.Expressions.{Expr}
 use Rattle.scalar_core.specs.KindOf.{same_kind}
 use Rattle.relation_core.specs.Agreement.{position_of}
 use Rattle.relation_core.specs.Parts.{no_attribute, kind_at}
+use Rattle.meaning_core.proofs.PositionLemmas.{position-back}
 use Rattle.scalar_typing.specs.Names.{first_from, attribute_of}
 use Rattle.scalar_typing.specs.Scalars.{typed_scalar}
 use Rattle.scalar_typing.specs.Typings.{value_or}
@@ -33,7 +34,7 @@ use Rattle.meaning_core.specs.Updates.{attributes_of_portion, IsPart, IsPortionI
 use Rattle.meaning_core.specs.WellMade.{sizes_of, IsOrdinalType}
 use Rattle.node_typing.specs.Positions.{check}
 use Rattle.item_typing.specs.Changes.{part_typed, parts_typed, portion_typed, element_name, portion_names}
-use Rattle.type_check.proofs.PositionLemmas.{held, name-is, all-from, named-in, position-at}
+use Rattle.type_check.proofs.PositionLemmas.{held, name-is, all-from, named-in}
 use Rattle.type_check.proofs.ScalarLemmas.{typed-is_scalar}
 use Rattle.type_check.proofs.SetTypedLemmas.{first-in, onward}
 
@@ -61,7 +62,7 @@ found-position heading w up =
     record {
       within = at.0;
       kind = ap (λ (a : Name × Kind). a.1) stands;
-      position = ap (position_of heading) (sym named) ∙ position-at heading found.0 no_attribute up at.0;
+      position = ap (position_of heading) (sym named) ∙ position-back heading found.0 no_attribute up at.0;
       known = named-in heading w.bytes found.1.1 (subst (λ (n : Name). In (n, found.1.1) heading) same h.0);
     }))
 
