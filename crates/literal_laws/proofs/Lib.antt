@@ -3,3 +3,6 @@ pub mod ScalarLaws
 pub mod RelationLaws
 pub mod NodeLaws
 pub mod TreeLaws
+pub mod DeclarationLaws
+pub mod ItemLaws
+pub mod StatementLaws

@@ -13,6 +13,7 @@ use Rattle.value_core.specs.declared.list.OrdinalNames.{OrdinalNames}
 use Rattle.value_core.specs.Attributes.{among}
 use Rattle.relation_core.specs.Parts.{attributes_at}
 use Rattle.value_core.specs.Headings.{has_name}
+use Rattle.value_core.specs.Limits.{most_listed}
 use Rattle.value_core.specs.Values.{Name, Heading}
 use Rattle.scalar_core.specs.Expressions.{Expr}
 use Rattle.scalar_core.specs.KindOf.{same_kind}
@@ -50,13 +51,13 @@ checked-fine place code other holds f h = then-fine (check place code holds) f (
 
 -- ---- attributes that are named
 
-position-fine : (heading : Heading) (w : Word) → IsNotE06 (position_typed heading w)
+pub position-fine : (heading : Heading) (w : Word) → IsNotE06 (position_typed heading w)
 position-fine heading w = value-fine w.place E14 (λ e. cc) (position_if heading w.bytes)
 
 new-position-fine : (heading : Heading) (before : List ℕ) (w : Word) → IsNotE06 (new_position heading before w)
 new-position-fine heading before w = then-fine (position_typed heading w) _ (position-fine heading w) (λ at. checked-fine w.place E15 (λ e. cc) (not (among before at)) _ (λ u. tt))
 
-positions-fine : (heading : Heading) (before : List ℕ) (words : List Word) → IsNotE06 (positions_typed heading before words)
+pub positions-fine : (heading : Heading) (before : List ℕ) (words : List Word) → IsNotE06 (positions_typed heading before words)
 positions-fine heading before [] = tt
 positions-fine heading before (w ∷ rest) = then-fine (new_position heading before w) _ (new-position-fine heading before w) (λ at. positions-fine heading (before ++ at ∷ []) rest)
 
@@ -74,7 +75,7 @@ names-checked-fine left right before (w ∷ rest) = then-fine (name_checked left
 pub list-fine : (left right : Heading) (list : NameListP) → IsNotE06 (list_checked left right list)
 list-fine left right (syntax.NameList at words) =
     then-fine (names_checked left right [] words) _ (names-checked-fine left right [] words) (λ names.
-    checked-fine at E17 (λ e. cc) (nat_le (length names) 3) _ (λ u. tt))
+    checked-fine at E17 (λ e. cc) (nat_le (length names) most_listed) _ (λ u. tt))
 
 -- ---- plain operators
 

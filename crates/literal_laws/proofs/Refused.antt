@@ -36,6 +36,10 @@ pub holds-fine : {X : Type 0} (place : Place) (code : Code) (b : Bool) (x : X) �
 holds-fine place code true x e = tt
 holds-fine place code false x e = cc
 
+pub choice-fine : {X : Type 0} (b : Bool) (x y : OrFault X) → IsNotE06 x → IsNotE06 y → IsNotE06 (if b then x else y)
+choice-fine true x y h g = h
+choice-fine false x y h g = g
+
 -- ---- truth values
 
 pub or-left : (a b : Bool) → (a || b) ≡ false → a ≡ false

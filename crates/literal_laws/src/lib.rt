@@ -1,2 +1,2 @@
-//! What is read has no literal that typing refuses as out of its range: a definition and its law alone.
+//! Typing refuses nothing of what is read as out of its range: a definition and its law alone.
 #![tactic(auto)]
