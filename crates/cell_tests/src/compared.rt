@@ -78,7 +78,7 @@ fn small_of<T: PointNumber>(types: &[T], row: &BoxRow<T, Tag>) -> Small {
 }
 
 // The rows of boxes.
-fn small_rows<T: PointNumber>(
+pub(crate) fn small_rows<T: PointNumber>(
     alloc: Global,
     types: &[T],
     rows: &[BoxRow<T, Tag>],

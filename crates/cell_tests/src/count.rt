@@ -44,7 +44,7 @@ impl CellOp for LeftCount {
 }
 
 // The boxes of the rows.
-fn sides_list(alloc: Global, rows: &[Plain]) -> Result<Vec<Sides<IntType>>, Memory>
+pub(crate) fn sides_list(alloc: Global, rows: &[Plain]) -> Result<Vec<Sides<IntType>>, Memory>
     ensures boxes { IfOk result (λ v. (t : AnyIntType) → All (IsBox (λ _ p. IsWhole p) (t ∷ t ∷ [])) v.items) }
     ensures length { IfOk result (λ v. length v.items ≡ length rows.now) }
 {

@@ -10,6 +10,7 @@ ghost use Rattle.point_core.specs.declared.int_type.IntType.{IntType as AnyIntTy
 mod compared;
 mod count;
 mod definition;
+mod faults;
 mod points;
 mod small;
 mod tag;
@@ -17,6 +18,7 @@ mod tag;
 use cell_core::{BoxRow, CellRefuse, Sides, pack};
 pub use compared::{agrees, boxes_of as small_boxes, count_points};
 pub use count::counted;
+pub use faults::{Faulty, least_fault, list_points};
 use interval_core::Interval;
 use point_core::{IntType, Memory, Steps};
 pub use points::{is_packed_form, same, within};
@@ -120,7 +122,7 @@ pub fn packed<L: Ledger>(
 #[cfg(test)]
 mod tests {
     use super::*;
-    use point_core::OrdinalType;
+    use point_core::{AnyType, Code, DateType, Fault, OrdinalType, Place};
     use std::marker::Brand;
     use std::test::Fail;
 
@@ -202,6 +204,63 @@ mod tests {
     }
 
     #[test]
+    fn counts_up_to_the_limit(rt: HostRuntime) -> Result<(), Fail> {
+        let one = (1, 1);
+        let rows = [plain(7, (1, 3), one), plain(8, (2, 2), one)];
+        match counted::<Brand>(rt.alloc(), &rows, 2, Blank::new(1)) {
+            Err(CellRefuse::Limit) => Ok(()),
+            _ => {
+                assert!(rt; false);
+                Ok(())
+            }
+        }
+    }
+
+    #[test]
+    fn tells_the_least_fault(rt: HostRuntime) -> Result<(), Fail> {
+        let alloc = rt.alloc();
+        let one = (1, 1);
+        let rows = [plain(7, (1, 3), one), plain(8, (2, 2), one)];
+        let first = Fault {
+            place: Place { line: 1, column: 9 },
+            code: Code::E30,
+        };
+        let second = Fault {
+            place: Place { line: 2, column: 1 },
+            code: Code::E30,
+        };
+        let op = Faulty {
+            alone: second,
+            elsewhere: first,
+        };
+        let both = least_fault::<Brand>(alloc, &rows, &op, Blank::new(1))?;
+        assert!(rt; both == Some(first));
+        let alone = least_fault::<Brand>(alloc, &rows[..1], &op, Blank::new(1))?;
+        assert!(rt; alone == Some(second));
+        let none = least_fault::<Brand>(alloc, &[], &op, Blank::new(1))?;
+        assert!(rt; none == None);
+        Ok(())
+    }
+
+    #[test]
+    fn lists_points_up_to_the_limit(rt: HostRuntime) -> Result<(), Fail> {
+        let alloc = rt.alloc();
+        let t = [IntType];
+        let rows = [with_side(bare(1), 0, (4, 6))];
+        match list_points::<IntType, Brand>(alloc, &t, &rows, 3, Blank::new(1)) {
+            Ok(list) => assert_eq!(rt; list.len(), 3),
+            Err(_) => assert!(rt; false),
+        }
+        match list_points::<IntType, Brand>(alloc, &t, &rows, 2, Blank::new(1)) {
+            Err(CellRefuse::Limit) => Ok(()),
+            _ => {
+                assert!(rt; false);
+                Ok(())
+            }
+        }
+    }
+
+    #[test]
     fn packs_in_the_order_of_the_sides(rt: HostRuntime) -> Result<(), Fail> {
         let alloc = rt.alloc();
         let corner = [
@@ -263,6 +322,28 @@ mod tests {
         let types = [IntType, IntType, IntType];
         let range = (i64::MAX - 4, i64::MAX);
         match agrees::<IntType, Brand>(rt.alloc(), &types, range, 90, Blank::new(1)) {
+            Ok(agreed) => assert!(rt; agreed),
+            Err(_) => assert!(rt; false),
+        }
+        Ok(())
+    }
+
+    #[test]
+    fn agrees_on_the_last_days(rt: HostRuntime) -> Result<(), Fail> {
+        let types = [DateType, DateType, DateType];
+        let range = (2_932_890, 2_932_896);
+        match agrees::<DateType, Brand>(rt.alloc(), &types, range, 30, Blank::new(1)) {
+            Ok(agreed) => assert!(rt; agreed),
+            Err(_) => assert!(rt; false),
+        }
+        Ok(())
+    }
+
+    #[test]
+    fn agrees_on_types_of_any_kind(rt: HostRuntime) -> Result<(), Fail> {
+        let ordinal = AnyType::Ordinal { of: 1, last: 4 };
+        let types = [AnyType::Date, ordinal, AnyType::Integer];
+        match agrees::<AnyType, Brand>(rt.alloc(), &types, (0, 4), 30, Blank::new(1)) {
             Ok(agreed) => assert!(rt; agreed),
             Err(_) => assert!(rt; false),
         }

@@ -7,8 +7,8 @@ ghost use Rattle.relation_core.specs.Parts.{projected};
 ghost use Rattle.u_constraints.specs.Constraints.{is_key};
 
 use crate::fronts::{are_first, fronts_ascend};
-use crate::parts::{contains, part, sorted_parts};
 use point_core::Memory;
+use relation_core::{contains, part, sorted_parts};
 use std::alloc::Global;
 use value_core::Relation;
 

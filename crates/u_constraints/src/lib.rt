@@ -4,6 +4,5 @@
 mod constraints;
 mod fronts;
 mod keys;
-mod parts;
 
 pub use constraints::holds;
