@@ -45,7 +45,7 @@ by_from number rows pairs sorted are moved order = record {
   order = λ i j h l. in_order (get_or sorted i (0, 0)) (get_or sorted j (0, 0)) (sorted_far (λ x y. is_lt (pair_cmp x y)) (ranks_by pair_total (λ x. x)) sorted order i j (0, 0) h l);
   from = λ j l.
       let x : ℕ × ℕ = pair_at sorted j in
-      let m = row_among sorted j x (l, refl) in
+      let m = row_among sorted j x (some_row sorted j no_cells l) in
       let w = (are x).0 (contains_among pairs x (Contains-permutation sorted pairs x (IsPermutation-sym pairs sorted moved) (among_contains sorted x m))) in
       ((w.0, w.1), w.2);
   to = λ r w.
@@ -74,7 +74,7 @@ by_number number rows pairs cuts by are r w =
     let v = by.to r w in
     let j : ℕ = v.0 in
     let e : (pair_at pairs j).0 ≡ number r = (by.from j v.1).1 ∙ ap number v.2 in
-    subst (λ c. Among c cuts) e (are (pair_at pairs j) (row_among pairs j (pair_at pairs j) (v.1, refl)))
+    subst (λ c. Among c cuts) e (are (pair_at pairs j) (row_among pairs j (pair_at pairs j) (some_row pairs j no_cells v.1)))
 
 -- what is in two lists of pairs is in the list of their cells, also after a sort
 pub cells_sorted : (starts ends : List (ℕ × ℕ)) (cells sorted : List ℕ) → cells ≡ map (λ (x : ℕ × ℕ). x.0) starts ++ map (λ (x : ℕ × ℕ). x.0) ends → IsPermutation cells sorted

@@ -124,6 +124,9 @@ module _ {P : Type 0} (rows : List (KeyBox P)) (spans : List (ℕ × ℕ)) (are 
 pub marks_none : {P : Type 0} (rows : List (KeyBox P)) (V : P → List Bool → Type 0) → ((k : P) (f : List Bool) → V k f → (r : ℕ) × IsIn f r) → (j : ℕ) → DoneMarks rows 0 V j → ⊥
 marks_none rows V marked j h = let s = marked h.0 h.1 h.4 in let l = h.3 s.0 s.1 in omega arith
 
+pub rows_none : {P R : Type 0} (rows : List (KeyBox P)) (out : List (KeyBox R)) → out ≡ [] → (V : P → List Bool → Type 0) → ((k : P) (f : List Bool) → V k f → (r : ℕ) × IsIn f r) → (l : R) (j : ℕ) → HasRow out l (j ∷ []) ↔ DoneMarks rows 0 V j
+rows_none rows out e V marked l j = (λ h. absurd (subst (Among (l, h.0)) e h.1), λ h. absurd (marks_none rows V marked j h))
+
 pub marks_all : {P : Type 0} (rows : List (KeyBox P)) (n : ℕ) → length rows ≤ n → (V : P → List Bool → Type 0) (j : ℕ) → DoneMarks rows n V j ↔ OfMarked V rows (j ∷ [])
 marks_all rows n all V j = (
   λ h. (h.0, h.1, h.2, h.4),

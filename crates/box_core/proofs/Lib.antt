@@ -14,3 +14,4 @@ pub mod CoveredLemmas
 pub mod TallyLemmas
 pub mod CellLemmas
 pub mod KeyLemmas
+pub mod TotalLemmas

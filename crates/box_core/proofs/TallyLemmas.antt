@@ -16,7 +16,7 @@ use Rattle.box_core.specs.Rows.{KeyBox}
 use Rattle.box_core.specs.Tallies.{IsIn, span_at, pair_at, Within, IsEntered, IsLeft, AreEntered, AreLeft, AreBy, IsKept, boxed, label_in, OfTallied, IsPart}
 use Rattle.box_core.proofs.PlaceLemmas.{span_parts, span_from}
 
-equal_or : (a b : ℕ) → (a ≡ b) ⊎ (a ≢ b)
+pub equal_or : (a b : ℕ) → (a ≡ b) ⊎ (a ≢ b)
 equal_or a b = elim (cases_lt a b) [
   | inl l ↦ inr (λ e. omega arith)
   | inr l ↦ elim (cases_lt b a) [ inl m ↦ inr (λ e. omega arith) | inr m ↦ inl (omega arith) ]
@@ -254,7 +254,7 @@ pub label_is : {P F : Type 0} (x : Result (Option P) F) (l : P) → (label_in x 
 label_is (Ok o) l = (λ h. ap Ok h, λ h. ap label_in h)
 label_is (Err e) l = (λ h. absurd (none_some l h), λ h. ap label_in h)
 
-ok_err : {P F : Type 0} (o : Option P) (e : F) → Ok o ≡ Err e → ⊥
+pub ok_err : {P F : Type 0} (o : Option P) (e : F) → Ok o ≡ Err e → ⊥
 ok_err {P} {F} o e h = true≢false (ap is_ok h)
   where
     is_ok : Result (Option P) F → Bool

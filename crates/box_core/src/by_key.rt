@@ -42,7 +42,8 @@ fn key_at<P>(rows: &[Key<P>], row: usize) -> &P
     requires { row < length rows.now }
     ensures { (x : KeyBox P) → IsRow rows.now row x → result.now ≡ x.0 }
 {
-    &rows[row].label
+    let own = &rows[row];
+    &own.label
 }
 
 // Adds for each cell what the rule gives of the key and of those of its rows, from the first number up to before the

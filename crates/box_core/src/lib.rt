@@ -20,6 +20,7 @@ mod search;
 mod sharing;
 mod tally;
 mod tallying;
+mod total;
 
 pub use apart::are_apart;
 pub use by_key::tallied;
@@ -31,3 +32,4 @@ pub use operators::{intersect, matching, minus, not_matching};
 pub use remaining::rest;
 pub use sharing::shared;
 pub use tally::Tally;
+pub use total::{Total, TotalRule, Totals};

@@ -55,7 +55,10 @@ fn push_label<T: Tally>(
     ensures least { OnOk result ((f : List Bool) → T.IsOf rule.now state.now f → IsLeast (λ e. (least.old ≡ Some e) ⊎ (T.means rule.now key.now f ≡ Err e)) least.new) }
 {
     match rule.label(alloc, key, state) {
-        Ok(label) => push_boxed(alloc, out, label, cells),
+        Ok(label) => {
+            push_boxed(alloc, out, label, cells)?;
+            Ok(())
+        }
         Err(Stop::Fault(e)) => {
             *least = Some(lesser(*least, e));
             Ok(())

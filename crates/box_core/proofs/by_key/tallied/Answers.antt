@@ -10,7 +10,7 @@ use Rattle.box_core.specs.Rows.{IsRow, KeyBox}
 use Rattle.box_core.specs.Tallies.{IsIn, IsPart, OfTallied, IsTallyFault}
 use Rattle.box_core.proofs.CoveredLemmas.{all_from}
 use Rattle.box_core.proofs.GroupLemmas.{split_first, split_more, map_length}
-use Rattle.box_core.proofs.KeyLemmas.{DoneMarks, part_of_row, tallied_more, fault_more, marks_none, marks_all, through}
+use Rattle.box_core.proofs.KeyLemmas.{DoneMarks, part_of_row, tallied_more, fault_more, marks_none, marks_all, rows_none, through}
 use Rattle.box_core.proofs.RowLemmas.{row_there, among_row, row_sides}
 use Rattle.box_core.proofs.TallyLemmas.{some_of_label, some_of_fault}
 use Rattle.box_core.proofs.by_key.tallied.Goals as goal
@@ -26,19 +26,16 @@ loop-first-init g c =
       of = c.in_ok-state.ensures c.in_ok-marks.marks.items c.in_ok-marks.ensures.count c.in_ok-marks.ensures.none;
       count = c.in_ok-marks.ensures.count;
       none = c.in_ok-marks.ensures.none;
-      places = λ t j. (
-        λ h. absurd (subst (Among (t, h.0)) c.new-out.ensures.items h.1),
-        λ h. absurd (marks_none rows (λ k f. m k f ≡ Ok (Some t)) (λ k f q. some_of_label (m k f) f (nothing k f) t q) j h),
-      );
+      places = λ t j. rows_none rows c.new-out.result.items c.new-out.ensures.items (λ k f. m k f ≡ Ok (Some t)) (λ k f q. some_of_label (m k f) f (nothing k f) t q) t j;
       parts = λ z h. absurd (subst (Among z) c.new-out.ensures.items h);
       least = least_kept (λ e. (j : ℕ) × DoneMarks rows 0 (λ k f. m k f ≡ Err e) j) c.args.least.now (λ e h. marks_none rows (λ k f. m k f ≡ Err e) (λ k f q. some_of_fault (m k f) f (nothing k f) e q) h.0 h.1);
     }
 
 pub loop-first-preserved : goal.loop-first-preserved
 loop-first-preserved g c =
-    let o = g.T-Key.Label.order in
-    let total = g.met.T-Key.Label.total in
-    let sep = g.met.T-Key.Label.separates in
+    let o = g.T.Key.Label.order in
+    let total = g.met.T.Key.Label.total in
+    let sep = g.met.T.Key.Label.separates in
     let m = g.T.Tally.means c.args.rule.now in
     let nothing = g.met.T.Tally.nothing c.args.rule.now in
     let rows = c.args.rows.now in
@@ -54,7 +51,7 @@ loop-first-preserved g c =
     let v = c.loop-first.invariant in
     let spans = c.in_ok-spans.spans.items in
     let are = c.in_ok-spans.ensures in
-    let el = c.as_slice-in-loop-first.ensures.value in
+    let el = c.as_slice.ensures.value in
     let key : g.row.T-Key.Denot = c.key_at-key.result.now in
     let ek : key ≡ x0.0 = c.key_at-key.ensures x0 at in
     let old = c.loop-first.out.items in
@@ -64,8 +61,8 @@ loop-first-preserved g c =
     let count : length c.loop-first.marks.items ≡ n = v.count in
     let Places : g.row.T-Key.Denot → List (ℕ × ℕ) → ℕ → Type 0 = λ k ss q. (t : g.row.T-Out.Denot) (j : ℕ) → HasRow new t (j ∷ []) ↔ HasRow old t (j ∷ []) ⊎ OfTallied (λ f. m k f ≡ Ok (Some t)) ss (first, end) q j in
     let Least : g.row.T-Key.Denot → List (ℕ × ℕ) → ℕ → Type 0 = λ k ss q. IsLeast (λ d. (c.loop-first.least ≡ Some d) ⊎ ((j : ℕ) × OfTallied (λ f. m k f ≡ Err d) ss (first, end) q j)) c.tally_key.new.least in
-    let places : Places x0.0 spans n = subst (Places x0.0 spans) count (subst (λ ss. Places x0.0 ss (length c.loop-first.marks.items)) el (subst (λ k. Places k c.as_slice-in-loop-first.result.now (length c.loop-first.marks.items)) ek e.places)) in
-    let least : Least x0.0 spans n = subst (Least x0.0 spans) count (subst (λ ss. Least x0.0 ss (length c.loop-first.marks.items)) el (subst (λ k. Least k c.as_slice-in-loop-first.result.now (length c.loop-first.marks.items)) ek e.least)) in
+    let places : Places x0.0 spans n = subst (Places x0.0 spans) count (subst (λ ss. Places x0.0 ss (length c.loop-first.marks.items)) el (subst (λ k. Places k c.as_slice.result.now (length c.loop-first.marks.items)) ek e.places)) in
+    let least : Least x0.0 spans n = subst (Least x0.0 spans) count (subst (λ ss. Least x0.0 ss (length c.loop-first.marks.items)) el (subst (λ k. Least k c.as_slice.result.now (length c.loop-first.marks.items)) ek e.least)) in
     record {
       within = ens.within;
       split = split_more o total sep rows c.requires.order first end v.split ens.from ens.within x0 at same other;
@@ -85,13 +82,13 @@ loop-first-preserved g c =
 
 pub tally_key-requires-clause-marks : goal.tally_key-requires-clause-marks
 tally_key-requires-clause-marks g c =
-    let a : length c.as_slice-in-loop-first.result.now ≡ length c.args.rows.now = ap length (c.as_slice-in-loop-first.ensures.value ∙ c.in_ok-spans.ensures) ∙ map_length (λ (x : KeyBox _). first_of x.1) c.args.rows.now in
+    let a : length c.as_slice.result.now ≡ length c.args.rows.now = ap length (c.as_slice.ensures.value ∙ c.in_ok-spans.ensures) ∙ map_length (λ (x : KeyBox _). first_of x.1) c.args.rows.now in
     let b : length c.loop-first.marks.items ≡ length c.args.rows.now = c.loop-first.invariant.count in
     omega (arith, a, b)
 
 pub tally_key-requires-clause-within : goal.tally_key-requires-clause-within
 tally_key-requires-clause-within g c =
-    let a : length c.as_slice-in-loop-first.result.now ≡ length c.args.rows.now = ap length (c.as_slice-in-loop-first.ensures.value ∙ c.in_ok-spans.ensures) ∙ map_length (λ (x : KeyBox _). first_of x.1) c.args.rows.now in
+    let a : length c.as_slice.result.now ≡ length c.args.rows.now = ap length (c.as_slice.ensures.value ∙ c.in_ok-spans.ensures) ∙ map_length (λ (x : KeyBox _). first_of x.1) c.args.rows.now in
     let b = c.group_end-end.ensures.within in
     omega (arith, a, b)
 
