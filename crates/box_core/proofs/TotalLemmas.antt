@@ -1,8 +1,10 @@
 -- Counts and sums of marked rows, as rows come and go.
 use Rattle.std.proofs.Common.{◌≡◌, ℕ, zero, suc, ◌+◌, ◌*◌, ◌^◌, ◌<◌, ◌≤◌, Bool, true, false, List, [], ◌∷◌, set, length, get_or, inl, inr, arith, sym, ap, subst, refl, ◌∙◌, ℤ, pos, neg_ℤ, ◌+ℤ◌, ◌-ℤ◌, ◌≤ℤ◌, ◌<ℤ◌}
 use Rattle.std.proofs.lemmas.Bool.{cases_lt, true≢false}
-use Rattle.std.proofs.lemmas.Int.{ints}
-use Rattle.std.proofs.lemmas.List.{get_or-set_other, get_or-set_same, length-set}
+use Rattle.std.specs.Int.{w64}
+use Rattle.std.proofs.lemmas.Int.{ints, to_z-of_z}
+use Rattle.std.proofs.lemmas.List.{get_or-set_other, get_or-set_same, get_or_read, length-set}
+use mir.Val.{SFits, to_z, of_z}
 use Rattle.box_core.specs.Tallies.{IsIn}
 use Rattle.box_core.specs.Totals.{count_of, sum_of, Fit, IsTotal, no_count}
 use Rattle.box_core.proofs.TallyLemmas.{equal_or}
@@ -90,8 +92,8 @@ total_none vs f within short h = record {
   within = within;
   short = short;
   fit = λ r m. absurd (h r m);
-  count = sym (no_count f h);
-  sum = sym (no_sum vs f h);
+  counted = sym (no_count f h);
+  summed = sym (no_sum vs f h);
 }
 
 module _ (vs : List ℤ) (count : ℕ) (sum : ℤ) (f : List Bool) (row : ℕ) (is : IsTotal vs count sum f) (inside : row < length f) where
@@ -99,10 +101,10 @@ module _ (vs : List ℤ) (count : ℕ) (sum : ℤ) (f : List Bool) (row : ℕ) (
   row_value = let w = is.within in omega arith
 
   pub count_room : get_or f row true ≡ false → count + 1 < 2 ^ 64
-  count_room h = let e = is.count in let a = count_less f row inside h in let s = is.short in omega (arith, e)
+  count_room h = let e = is.counted in let a = count_less f row inside h in let s = is.short in omega (arith, e)
 
   pub count_some : get_or f row false ≡ true → 0 < count
-  count_some h = let e = is.count in let a = count_out f row inside h in omega (arith, e, a)
+  count_some h = let e = is.counted in let a = count_out f row inside h in omega (arith, e, a)
 
   fit_in : (neg_ℤ (pos (2 ^ 63)) ≤ℤ get_or vs row (pos 0)) × (get_or vs row (pos 0) ≤ℤ pos (2 ^ 63)) → Fit vs (set f row true)
   fit_in own r m = elim (equal_or r row) [
@@ -121,8 +123,8 @@ module _ (vs : List ℤ) (count : ℕ) (sum : ℤ) (f : List Bool) (row : ℕ) (
     within = let w = is.within in let e : length (set f row true) ≡ length f = length-set f row true in omega (arith, e);
     short = let w = is.short in let e : length (set f row true) ≡ length f = length-set f row true in omega (arith, e);
     fit = fit_in own;
-    count = let a = count_in f row inside h in let b = is.count in omega (arith, a, b, en);
-    sum = ez ∙ ap (λ s. s +ℤ get_or vs row (pos 0)) is.sum ∙ sym (sum_in vs f row inside is.within h);
+    counted = let a = count_in f row inside h in let b = is.counted in omega (arith, a, b, en);
+    summed = ez ∙ ap (λ s. s +ℤ get_or vs row (pos 0)) is.summed ∙ sym (sum_in vs f row inside is.within h);
   }
 
   pub total_out : get_or f row false ≡ true → (n : ℕ) (z : ℤ) → n + 1 ≡ count → z ≡ sum -ℤ get_or vs row (pos 0) → IsTotal vs n z (set f row false)
@@ -130,17 +132,40 @@ module _ (vs : List ℤ) (count : ℕ) (sum : ℤ) (f : List Bool) (row : ℕ) (
     within = let w = is.within in let e : length (set f row false) ≡ length f = length-set f row false in omega (arith, e);
     short = let w = is.short in let e : length (set f row false) ≡ length f = length-set f row false in omega (arith, e);
     fit = fit_out;
-    count = let a = count_out f row inside h in let b = is.count in omega (arith, a, b, en);
-    sum = ez ∙ ap (λ s. s -ℤ get_or vs row (pos 0)) is.sum ∙ sym (sum_out vs f row inside is.within h);
+    counted = let a = count_out f row inside h in let b = is.counted in omega (arith, a, b, en);
+    summed = ez ∙ ap (λ s. s -ℤ get_or vs row (pos 0)) is.summed ∙ sym (sum_out vs f row inside is.within h);
   }
 
   -- the sums before and after are of 128 bits
   pub room_in : get_or f row true ≡ false → (neg_ℤ (pos (2 ^ 63)) ≤ℤ get_or vs row (pos 0)) × (get_or vs row (pos 0) ≤ℤ pos (2 ^ 63)) → InWidth (sum +ℤ get_or vs row (pos 0))
   room_in h own =
       let t = total_in h own (count + 1) (sum +ℤ get_or vs row (pos 0)) refl refl in
-      subst InWidth (sym t.sum) (sum_fits vs (set f row true) t.short t.fit)
+      subst InWidth (sym t.summed) (sum_fits vs (set f row true) t.short t.fit)
 
   pub room_out : get_or f row false ≡ true → (n : ℕ) → n + 1 ≡ count → InWidth (sum -ℤ get_or vs row (pos 0))
   room_out h n en =
       let t = total_out h n (sum -ℤ get_or vs row (pos 0)) en refl in
-      subst InWidth (sym t.sum) (sum_fits vs (set f row false) t.short t.fit)
+      subst InWidth (sym t.summed) (sum_fits vs (set f row false) t.short t.fit)
+
+  module _ (v : ℤ) (fits : SFits w64 v) (read : v ≡ get_or vs row v) where
+    value : to_z w64 (of_z w64 v) ≡ get_or vs row (pos 0)
+    value = to_z-of_z w64 v fits ∙ get_or_read vs row v row_value read (pos 0)
+
+    own : (neg_ℤ (pos (2 ^ 63)) ≤ℤ get_or vs row (pos 0)) × (get_or vs row (pos 0) ≤ℤ pos (2 ^ 63))
+    own = subst (λ z. (neg_ℤ (pos (2 ^ 63)) ≤ℤ z) × (z ≤ℤ pos (2 ^ 63))) (get_or_read vs row v row_value read (pos 0)) (omega (arith, ints, fits), omega (arith, ints, fits))
+
+    pub enter_room : get_or f row true ≡ false → InWidth (sum +ℤ to_z w64 (of_z w64 v))
+    enter_room h = subst (λ z. InWidth (sum +ℤ z)) (sym value) (room_in h own)
+
+    pub leave_room : get_or f row false ≡ true → InWidth (sum -ℤ to_z w64 (of_z w64 v))
+    leave_room h = let n = before count (count_some h) in subst (λ z. InWidth (sum -ℤ z)) (sym value) (room_out h n.0 n.1)
+      where
+        before : (c : ℕ) → 0 < c → (n : ℕ) × (n + 1 ≡ c)
+        before zero l = absurd (omega arith)
+        before (suc n) l = (n, omega arith)
+
+    pub entered_total : get_or f row true ≡ false → (n : ℕ) (z : ℤ) → n ≡ count + 1 → z ≡ sum +ℤ to_z w64 (of_z w64 v) → IsTotal vs n z (set f row true)
+    entered_total h n z en ez = total_in h own n z en (ez ∙ ap (λ s. sum +ℤ s) value)
+
+    pub left_total : get_or f row false ≡ true → (n : ℕ) (z : ℤ) → n + 1 ≡ count → z ≡ sum -ℤ to_z w64 (of_z w64 v) → IsTotal vs n z (set f row false)
+    left_total h n z en ez = total_out h n z en (ez ∙ ap (λ s. sum -ℤ s) value)

@@ -24,8 +24,8 @@ pub record IsTotal (values : List ℤ) (count : ℕ) (sum : ℤ) (f : List Bool)
   pub within : length f ≤ length values
   pub short : length f < 2 ^ 64
   pub fit : Fit values f
-  pub count : count ≡ count_of f
-  pub sum : sum ≡ sum_of values f
+  pub counted : count ≡ count_of f
+  pub summed : sum ≡ sum_of values f
 
 -- none of no rows, and of others what the rule gives
 abbrev pub of_some : {R F : Type 0} → ℕ → Result R F → Result (Option R) F

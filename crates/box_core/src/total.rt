@@ -43,8 +43,8 @@ pub struct Totals<A> {
 // The total with one value more.
 fn with(total: Total, value: i64) -> Total
     requires count { total.count + 1 < 2 ^ 64 }
-    requires least { neg_ℤ (pos (2 ^ 127)) ≤ℤ total.sum +ℤ value }
-    requires most { total.sum +ℤ value <ℤ pos (2 ^ 127) }
+    requires least { neg_ℤ (pos (2 ^ 127)) ≤ℤ (total.sum +ℤ value) }
+    requires most { (total.sum +ℤ value) <ℤ pos (2 ^ 127) }
     ensures count { result.count ≡ total.count + 1 }
     ensures sum { result.sum ≡ total.sum +ℤ value }
 {
@@ -57,8 +57,8 @@ fn with(total: Total, value: i64) -> Total
 // The total with one value less.
 fn without(total: Total, value: i64) -> Total
     requires count { 0 < total.count }
-    requires least { neg_ℤ (pos (2 ^ 127)) ≤ℤ total.sum -ℤ value }
-    requires most { total.sum -ℤ value <ℤ pos (2 ^ 127) }
+    requires least { neg_ℤ (pos (2 ^ 127)) ≤ℤ (total.sum -ℤ value) }
+    requires most { (total.sum -ℤ value) <ℤ pos (2 ^ 127) }
     ensures count { result.count + 1 ≡ total.count }
     ensures sum { result.sum ≡ total.sum -ℤ value }
 {
