@@ -62,7 +62,7 @@ box_is {P} rows r x h =
     let w = map_row (λ (z : KeyBox P). z.1) rows r x h in
     other_default (boxes_in rows) r [] x.1 w.0 ∙ w.1
 
-map_length : {X Y : Type 0} (f : X → Y) (xs : List X) → length (map f xs) ≡ length xs
+pub map_length : {X Y : Type 0} (f : X → Y) (xs : List X) → length (map f xs) ≡ length xs
 map_length f [] = refl
 map_length f (x ∷ xs) = ap suc (map_length f xs)
 
@@ -94,7 +94,7 @@ module _ {P : Type 0} (order : P → P → Ordering) (total : IsTotalOrder order
     (x0 : KeyBox P) (at : IsRow rows first x0)
     (same : (q : ℕ) (y : KeyBox P) → IsRow rows q y → first < q → q < end → order x0.0 y.0 ≡ Equal)
     (other : (y : KeyBox P) → IsRow rows end y → order x0.0 y.0 ≡ Equal → ⊥) where
-  one_key : (q : ℕ) (y : KeyBox P) → IsRow rows q y → first ≤ q → q < end → y.0 ≡ x0.0
+  pub one_key : (q : ℕ) (y : KeyBox P) → IsRow rows q y → first ≤ q → q < end → y.0 ≡ x0.0
   one_key q y h l m = elim (cases_lt first q) [
     | inl w ↦ sym (separates x0.0 y.0 (same q y h w m))
     | inr w ↦
@@ -126,7 +126,7 @@ module _ {P : Type 0} (order : P → P → Ordering) (total : IsTotalOrder order
         ]
   ]
 
-  only : (q : ℕ) (y : KeyBox P) → IsRow rows q y → y.0 ≡ x0.0 → (first ≤ q) × (q < end)
+  pub only : (q : ℕ) (y : KeyBox P) → IsRow rows q y → y.0 ≡ x0.0 → (first ≤ q) × (q < end)
   only q y h e = (
     elim (cases_lt q first) [ inl w ↦ absurd (was q first y x0 w (omega arith) h at e) | inr w ↦ w ],
     elim (cases_lt q end) [ inl w ↦ w | inr w ↦ absurd (split_more first q x0 y some w at h (sym e)) ],

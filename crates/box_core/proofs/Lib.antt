@@ -12,3 +12,6 @@ pub mod ApartLemmas
 pub mod GroupLemmas
 pub mod CoveredLemmas
 pub mod TallyLemmas
+pub mod CellLemmas
+pub mod KeyLemmas
+pub mod TotalLemmas

@@ -7,3 +7,4 @@ pub mod Keys
 pub mod Apartness
 pub mod Groups
 pub mod Tallies
+pub mod Totals

@@ -1,8 +1,8 @@
 -- Rows that are in, as a list of marks.
-use Rattle.std.specs.Prelude.{◌≡◌, ℕ, ◌<◌, ◌≤◌, ◌↔◌, ◌⊎◌, Bool, true, false, List, [], ◌∷◌, length, get_or, Option, Some, None}
-use Rattle.packing_core.specs.Covering.{Among}
-use Rattle.box_core.specs.Rows.{KeyBox}
+use Rattle.std.specs.Prelude.{◌≡◌, ℕ, ◌<◌, ◌≤◌, ◌↔◌, ◌⊎◌, Bool, true, false, List, [], ◌∷◌, length, get_or, Option, Some, None, Result, Ok, Err}
 use Rattle.packing_core.specs.Packed.{no_cells}
+use Rattle.box_core.specs.Common.{At, EndsBy}
+use Rattle.box_core.specs.Rows.{IsRow, KeyBox}
 
 -- the row is marked
 abbrev pub IsIn : List Bool → ℕ → Type 0
@@ -45,26 +45,57 @@ pub record AreLeft (spans ends : List (ℕ × ℕ)) (first n cell : ℕ) (old ne
   pub count : length new ≡ length old
   pub marks : (r : ℕ) → IsIn new r ↔ IsIn old r × ((j : ℕ) → first ≤ j → j < n → (pair_at ends j).1 ≡ r → cell < (span_at spans r).1)
 
+-- r is one of the rows from the first number on, up to before the second
+abbrev pub Within : ℕ × ℕ → ℕ → Type 0
+Within rows r = (rows.0 ≤ r) × (r < rows.1)
+
 -- the rows with a number each, by the number
-pub record AreBy (number : ℕ → ℕ) (rows : List ℕ) (pairs : List (ℕ × ℕ)) : Type 0 where
+pub record AreBy (number : ℕ → ℕ) (rows : ℕ × ℕ) (pairs : List (ℕ × ℕ)) : Type 0 where
   pub order : (i j : ℕ) → i ≤ j → j < length pairs → (pair_at pairs i).0 ≤ (pair_at pairs j).0
-  pub from : (j : ℕ) → j < length pairs → Among (pair_at pairs j).1 rows × ((pair_at pairs j).0 ≡ number (pair_at pairs j).1)
-  pub to : (r : ℕ) → Among r rows → (j : ℕ) × (j < length pairs) × ((pair_at pairs j).1 ≡ r)
+  pub from : (j : ℕ) → j < length pairs → Within rows (pair_at pairs j).1 × ((pair_at pairs j).0 ≡ number (pair_at pairs j).1)
+  pub to : (r : ℕ) → Within rows r → (j : ℕ) × (j < length pairs) × ((pair_at pairs j).1 ≡ r)
 
 -- of the rows by their first cells and by the cells after their last, s and e come before n; and those are marked that have begun before n and do not end before it
-pub record IsKept (spans : List (ℕ × ℕ)) (rows : List ℕ) (starts ends : List (ℕ × ℕ)) (n s e : ℕ) (marks : List Bool) : Type 0 where
+pub record IsKept (spans : List (ℕ × ℕ)) (rows : ℕ × ℕ) (starts ends : List (ℕ × ℕ)) (n s e : ℕ) (marks : List Bool) : Type 0 where
   pub starts_within : s ≤ length starts
   pub ends_within : e ≤ length ends
   pub begun : (j : ℕ) → j < s → (pair_at starts j).0 < n
   pub ended : (j : ℕ) → j < e → (pair_at ends j).0 < n
-  pub marked : (r : ℕ) → IsIn marks r ↔ Among r rows × ((span_at spans r).0 < n) × (n ≤ (span_at spans r).1)
+  pub marked : (r : ℕ) → IsIn marks r ↔ Within rows r × ((span_at spans r).0 < n) × (n ≤ (span_at spans r).1)
 
 -- the cells with the label, if there is one
 abbrev pub boxed : {P : Type 0} → ℕ × ℕ → Option P → List (KeyBox P)
 boxed cells None = []
 boxed cells (Some l) = (l, cells ∷ []) ∷ []
 
--- of just the rows that have the cell, among m rows, the rule gives the label
-abbrev pub IsTallied : {P : Type 0} → (List Bool → Option P) → List (ℕ × ℕ) → List ℕ → ℕ → P → ℕ → Type 0
-IsTallied means spans rows m l j =
-    (f : List Bool) × (length f ≡ m) × ((r : ℕ) → IsIn f r ↔ Among r rows × ((span_at spans r).0 ≤ j) × (j < (span_at spans r).1)) × (means f ≡ Some l)
+-- the label of an answer; a fault has none
+abbrev pub label_in : {P F : Type 0} → Result (Option P) F → Option P
+label_in (Ok o) = o
+label_in (Err e) = None
+
+-- V holds of the marks, among m, of just those rows that have the cell
+abbrev pub OfTallied : (List Bool → Type 0) → List (ℕ × ℕ) → ℕ × ℕ → ℕ → ℕ → Type 0
+OfTallied V spans rows m j =
+    (f : List Bool) × (length f ≡ m) × ((r : ℕ) → IsIn f r ↔ Within rows r × ((span_at spans r).0 ≤ j) × (j < (span_at spans r).1)) × V f
+
+-- z has one side, and ends by some row
+pub record IsPart {P : Type 0} (spans : List (ℕ × ℕ)) (rows : ℕ × ℕ) (z : KeyBox P) : Type 0 where
+  pub side : length z.1 ≡ 1
+  pub row : (r : ℕ) × Within rows r × EndsBy (span_at spans r ∷ []) z.1
+
+-- the marks of just the rows of the key that have the place
+pub record AreMarked {P : Type 0} (rows : List (KeyBox P)) (key : P) (place : List ℕ) (f : List Bool) : Type 0 where
+  pub count : length f ≡ length rows
+  pub marks : (r : ℕ) → IsIn f r ↔ ((x : KeyBox P) × IsRow rows r x × (x.0 ≡ key) × At x.1 place)
+
+-- V holds of some key and of the marks of its rows that have the place
+abbrev pub OfMarked : {P : Type 0} → (P → List Bool → Type 0) → List (KeyBox P) → List ℕ → Type 0
+OfMarked {P} V rows place = (k : P) × (f : List Bool) × AreMarked rows k place f × V k f
+
+-- the rule gives the label of a key and its rows that have the place
+abbrev pub IsTallied : {P R F : Type 0} → (P → List Bool → Result (Option R) F) → List (KeyBox P) → R → List ℕ → Type 0
+IsTallied means rows l place = OfMarked (λ k f. means k f ≡ Ok (Some l)) rows place
+
+-- the rule gives the fault of a key and its rows that have some place of one side
+abbrev pub IsTallyFault : {P R F : Type 0} → (P → List Bool → Result (Option R) F) → List (KeyBox P) → F → Type 0
+IsTallyFault means rows e = (j : ℕ) × OfMarked (λ k f. means k f ≡ Err e) rows (j ∷ [])

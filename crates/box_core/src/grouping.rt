@@ -58,7 +58,7 @@ fn of_one_key<P: Label>(x: &Key<P>, y: &Key<P>) -> bool
 }
 
 // The number of the first row after `first` that is not of its key.
-fn group_end<P: Label>(rows: &[Key<P>], first: usize) -> usize
+pub fn group_end<P: Label>(rows: &[Key<P>], first: usize) -> usize
     requires { first < length rows.now }
     ensures from { first < result }
     ensures within { result ≤ length rows.now }

@@ -1,5 +1,5 @@
 // The marks of the rows of a side, kept from cell to cell.
-ghost use Rattle.std.specs.Prelude.{◌≡◌, ℕ, ◌+◌, ◌<◌, ◌≤◌, List, length, IfOk};
+ghost use Rattle.std.specs.Prelude.{◌≡◌, ℕ, ◌+◌, ◌<◌, ◌≤◌, length, IfOk};
 ghost use Rattle.std.specs.List.{All};
 ghost use Rattle.box_core.specs.Tallies.{span_at, AreEntered, AreLeft, AreBy, IsKept};
 
@@ -76,7 +76,7 @@ pub fn come<T: Tally>(
     requires at { (at.0 ≤ length starts.now) × (at.1 ≤ length ends.now) }
     ensures of { IfOk result (λ v. T.IsOf rule.now v.1 marks.new.items) }
     ensures count { IfOk result (λ v. length marks.new.items ≡ length marks.old.items) }
-    ensures kept { IfOk result (λ v. (rows : List ℕ) (n : ℕ) → AreBy (λ r. (span_at spans.now r).0) rows starts.now → AreBy (λ r. (span_at spans.now r).1) rows ends.now → n ≤ cell + 1 →
+    ensures kept { IfOk result (λ v. (rows : ℕ × ℕ) (n : ℕ) → AreBy (λ r. (span_at spans.now r).0) rows starts.now → AreBy (λ r. (span_at spans.now r).1) rows ends.now → n ≤ cell + 1 →
         IsKept spans.now rows starts.now ends.now n at.0 at.1 marks.old.items → IsKept spans.now rows starts.now ends.now (cell + 1) v.0.0 v.0.1 marks.new.items) }
 {
     let (s, begun) = enter_all(rule, state, marks, spans, starts, at.0, cell)?;

@@ -3,6 +3,8 @@
 #![tactic(auto)]
 
 mod apart;
+mod by_cell;
+mod by_key;
 mod common;
 mod covering;
 mod grouping;
@@ -18,8 +20,10 @@ mod search;
 mod sharing;
 mod tally;
 mod tallying;
+mod total;
 
 pub use apart::are_apart;
+pub use by_key::tallied;
 pub use grouping::grouped;
 pub use joining::{PairRule, join, joined};
 pub use keyed::{Keyed, keys_in_order, rows_in_order};
@@ -28,4 +32,4 @@ pub use operators::{intersect, matching, minus, not_matching};
 pub use remaining::rest;
 pub use sharing::shared;
 pub use tally::Tally;
-pub use tallying::tallied;
+pub use total::{Total, TotalRule, Totals};

@@ -1,13 +1,15 @@
-// What a rule gives of the rows of one side, with a state that is kept from cell to cell.
-ghost use Rattle.std.specs.Prelude.{◌≡◌, ℕ, ◌<◌, ◌≤◌, ◌↔◌, ◌⊎◌, ◌++◌, List, [], ◌∷◌, Bool, length, get_or, OnOk, IfOk};
+// What a rule gives of the rows of one key, with a state that is kept from cell to cell.
+ghost use Rattle.std.specs.Prelude.{◌≡◌, ℕ, ◌<◌, ◌≤◌, ◌↔◌, ◌⊎◌, ◌++◌, List, [], ◌∷◌, Bool, length, get_or, Some, Ok, Err, OnOk, IfOk};
 ghost use Rattle.std.specs.List.{All};
 ghost use Rattle.packing_core.specs.Covering.{Among};
+ghost use Rattle.slice_core.specs.LeastFault.{IsLeast};
 ghost use Rattle.slice_core.specs.PackedRows.{HasRow};
-ghost use Rattle.box_core.specs.Tallies.{IsIn, AreBy, span_at, boxed, IsTallied};
+ghost use Rattle.box_core.specs.Rows.{KeyBox};
+ghost use Rattle.box_core.specs.Tallies.{IsIn, AreBy, Within, span_at, boxed, label_in, OfTallied, IsPart};
 
 use crate::keeping::come;
 use crate::tally::Tally;
-use point_core::Memory;
+use point_core::{Fault, Memory, Stop};
 use slice_core::Key;
 use std::alloc::Global;
 
@@ -28,34 +30,75 @@ fn push_boxed<P: Drop>(
     Ok(())
 }
 
-/// Adds for each cell what the rule gives of the rows that have it. Between two cuts these are the same, so the rule is
-/// asked once there; and a row comes and goes once.
-pub fn tallied<T: Tally>(
+// The lesser of the fault so far and one more.
+fn lesser(least: Option<Fault>, e: Fault) -> Fault
+    ensures { IsLeast (λ d. (least ≡ Some d) ⊎ (e ≡ d)) (Some result) }
+{
+    match least {
+        None => e,
+        Some(d) => d.min(e),
+    }
+}
+
+// Adds the cells with the label of the key and of the rows that the state is of, or takes in the fault.
+fn push_label<T: Tally>(
     alloc: Global,
     out: &mut Vec<Key<T::Out>>,
     rule: &T,
+    key: &T::Key,
+    state: &T::State,
+    cells: (usize, usize),
+    least: &mut Option<Fault>,
+) -> Result<(), Memory>
+    requires { (f : List Bool) × T.IsOf rule.now state.now f }
+    ensures rows { OnOk result ((f : List Bool) → T.IsOf rule.now state.now f → out.new.items ≡ out.old.items ++ boxed cells (label_in (T.means rule.now key.now f))) }
+    ensures least { OnOk result ((f : List Bool) → T.IsOf rule.now state.now f → IsLeast (λ e. (least.old ≡ Some e) ⊎ (T.means rule.now key.now f ≡ Err e)) least.new) }
+{
+    match rule.label(alloc, key, state) {
+        Ok(label) => {
+            push_boxed(alloc, out, label, cells)?;
+            Ok(())
+        }
+        Err(Stop::Fault(e)) => {
+            *least = Some(lesser(*least, e));
+            Ok(())
+        }
+        Err(Stop::Memory) => Err(Memory),
+    }
+}
+
+// Adds for each cell what the rule gives of the key and of its rows that have it. Between two cuts these are the same, so
+// the rule is asked once there; and a row comes and goes once.
+pub fn tally_rows<T: Tally>(
+    alloc: Global,
+    out: &mut Vec<Key<T::Out>>,
+    rule: &T,
+    key: &T::Key,
     state: T::State,
     marks: &mut Vec<bool>,
     spans: &[(usize, usize)],
-    rows: &[usize],
+    rows: (usize, usize),
     starts: &[(usize, usize)],
     ends: &[(usize, usize)],
     cuts: &[usize],
+    least: &mut Option<Fault>,
 ) -> Result<T::State, Memory>
     requires of { T.IsOf rule.now state marks.now.items }
     requires none { (r : ℕ) → IsIn marks.now.items r → ⊥ }
     requires marks { length spans.now ≤ length marks.now.items }
     requires starts { All (λ x. x.1 < length spans.now) starts.now }
     requires ends { All (λ x. x.1 < length spans.now) ends.now }
-    requires by_start { AreBy (λ r. (span_at spans.now r).0) rows.now starts.now }
-    requires by_end { AreBy (λ r. (span_at spans.now r).1) rows.now ends.now }
+    requires by_start { AreBy (λ r. (span_at spans.now r).0) rows starts.now }
+    requires by_end { AreBy (λ r. (span_at spans.now r).1) rows ends.now }
     requires order { (i j : ℕ) → i ≤ j → j < length cuts.now → get_or cuts.now i 0 ≤ get_or cuts.now j 0 }
-    requires cuts { (r : ℕ) → Among r rows.now → Among (span_at spans.now r).0 cuts.now × Among (span_at spans.now r).1 cuts.now }
+    requires cuts { (r : ℕ) → Within rows r → Among (span_at spans.now r).0 cuts.now × Among (span_at spans.now r).1 cuts.now }
     ensures of { IfOk result (λ s. T.IsOf rule.now s marks.new.items) }
     ensures count { IfOk result (λ _. length marks.new.items ≡ length marks.old.items) }
     ensures none { IfOk result (λ _. (r : ℕ) → IsIn marks.new.items r → ⊥) }
     ensures places { IfOk result (λ _. (l : T.Out) (j : ℕ) →
-        HasRow out.new.items l (j ∷ []) ↔ HasRow out.old.items l (j ∷ []) ⊎ IsTallied (T.means rule.now) spans.now rows.now (length marks.old.items) l j) }
+        HasRow out.new.items l (j ∷ []) ↔ HasRow out.old.items l (j ∷ []) ⊎ OfTallied (λ f. T.means rule.now key.now f ≡ Ok (Some l)) spans.now rows (length marks.old.items) j) }
+    ensures parts { IfOk result (λ _. (z : KeyBox T.Out) → Among z out.new.items → Among z out.old.items ⊎ IsPart spans.now rows z) }
+    ensures least { OnOk result (IsLeast (λ e. (least.old ≡ Some e) ⊎ ((j : ℕ) × OfTallied (λ f. T.means rule.now key.now f ≡ Err e) spans.now rows (length marks.old.items) j)) least.new) }
 {
     let mut at = (0, 0);
     let mut kept = state;
@@ -64,8 +107,7 @@ pub fn tallied<T: Tally>(
         let end = cuts[i];
         if begin < end {
             let (next, now) = come(rule, kept, marks, spans, starts, ends, at, begin)?;
-            let label = rule.label(alloc, &now)?;
-            push_boxed(alloc, out, label, (begin, end))?;
+            push_label(alloc, out, rule, key, &now, (begin, end), least)?;
             at = next;
             kept = now;
         }
