@@ -3,3 +3,4 @@ pub mod TellingLemmas
 pub mod ReadingLaws
 pub mod EmptyLemmas
 pub mod ChangeLemmas
+pub mod RangeLaws

@@ -3,3 +3,4 @@ pub mod Parsed
 pub mod Answers
 pub mod Replies
 pub mod Built
+pub mod InRange

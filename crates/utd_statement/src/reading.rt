@@ -9,6 +9,7 @@ ghost use Rattle.utd_syntax.specs.Read.{read_statement};
 ghost use Rattle.utd_parser.specs.Tokens.{pieces};
 ghost use Rattle.utd_statement.specs.Readings as readings;
 ghost use Rattle.utd_statement.specs.Readings.{IsText};
+ghost use Rattle.utd_statement.specs.InRange.{IsInRange};
 ghost use Rattle.utd_statement.specs.Parsed.{reading_of, IsRefusal, HasAnswer};
 
 use point_core::{Memory, Place};
@@ -87,10 +88,13 @@ fn refused(refuse: Refuse) -> Result<Parsed, Memory>
     }
 }
 
-/// The reading of the text from this place on. An empty statement is known without its tokens.
+/// The reading of the text from this place on. An empty statement is known without its tokens. Typing never refuses a tree that is read as
+/// out of range, whatever the state: its text is refused before.
+#[tactic(auto, using(crate::proofs::RangeLaws::text_in_range))]
 pub fn read_text(alloc: Global, text: &[u8], start: Place) -> Result<Parsed, Memory>
     requires { start.line + start.column + length text.now ≤ 2 ^ 32 - 1 }
     ensures read { IfOk result (λ p. IsText start text.now (reading_of p)) }
+    ensures in_range { IfOk result (λ p. IsInRange (reading_of p)) }
     ensures told { IfOk result (λ p. HasAnswer (reading_of p)) }
 {
     if let Some(first) = empty_statement(text, start) {
