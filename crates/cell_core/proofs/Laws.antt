@@ -4,7 +4,6 @@ use Rattle.std.proofs.Common.{◌≡◌, ℕ, ℤ, List, ◌↔◌, Ordering}
 use Rattle.std.specs.Cmp.{IsTotalOrder}
 use Rattle.base_core.proofs.SetLemmas.{Separates}
 use Rattle.base_core.proofs.SetOperatorLemmas.{are_same-≡}
-use Rattle.packing_core.specs.Covering.{Among}
 use Rattle.packing_core.specs.Boxed.{Boxed, boxed_cmp, packed_boxes, unpacked_boxes, InBoxes}
 use Rattle.packing_core.proofs.PackedBoxes.{in_packed_form}
 use Rattle.cell_core.proofs.OrderLemmas.{boxed_total, boxed_separates}

@@ -17,7 +17,7 @@ use Rattle.packing_core.proofs.Whole.{length_box}
 use Rattle.slice_core.specs.Rows.{key_cmp}
 use Rattle.slice_core.specs.PackedRows.{HasRow}
 use Rattle.box_core.specs.Answers.{IsPackedCover, IsBoxOf}
-use Rattle.box_core.specs.Common.{At, EndsBy}
+use Rattle.box_core.specs.Common.{At}
 use Rattle.box_core.proofs.PointLemmas.{OnGrid, point_row, cell_at, row_points, no_points}
 use Rattle.cell_core.specs.Boxes.{IsBox}
 use Rattle.cell_core.specs.CellRows.{AreOverCells}

@@ -6,7 +6,7 @@ use Rattle.std.specs.List.Sorted.{IsStrictlySortedBy}
 use Rattle.std.proofs.lemmas.List.Elements.{recursion_from_All}
 use Rattle.base_core.specs.Sets.{common_of, difference_of}
 use Rattle.base_core.proofs.SetLemmas.{Separates}
-use Rattle.packing_core.specs.Boxed.{Boxed, boxed_cmp, packed_boxes, unpacked_boxes}
+use Rattle.packing_core.specs.Boxed.{boxed_cmp, packed_boxes, unpacked_boxes}
 use Rattle.packing_core.specs.Covering.{Among}
 use Rattle.packing_core.specs.Packed.{no_cells}
 use Rattle.slice_core.specs.Rows.{key_cmp}

@@ -1,5 +1,4 @@
-use Rattle.std.proofs.Common.{◌≡◌, ◌&&◌, not, ◌+◌, ◌≤◌, ◌++◌, length, map, arith, refl, sym, ap, ◌∙◌}
-use Rattle.std.specs.Bool.{IsTrue}
+use Rattle.std.proofs.Common.{◌&&◌, not, ◌+◌, ◌≤◌, ◌++◌, length, arith, refl, sym, ◌∙◌}
 use Rattle.std.proofs.lemmas.Int.{ints}
 use Rattle.std.proofs.lemmas.List.Elements.{All-same}
 use Rattle.value_core.specs.Order.{row_total, row_separates}
