@@ -7,17 +7,19 @@ use Rattle.point_core.specs.declared.fault.Code.TheVariants.{E46}
 use Rattle.point_core.specs.declared.fault.Stop.{Stop}
 use Rattle.point_core.specs.declared.fault.Stop.TheVariants.{Fault as Faulted, Memory as OfMemory}
 use Rattle.point_core.specs.Faults.{OrFault}
+use Rattle.value_core.specs.Limits.{most_rows_in_all}
 use Rattle.value_core.specs.declared.constraint.Constraint.{Constraint}
 use Rattle.value_core.specs.declared.refuse.Refuse.{Refuse}
 use Rattle.value_core.specs.declared.refuse.Refuse.TheVariants.{Plain}
 use Rattle.value_core.specs.Refusals.{refusal_of}
 use Rattle.value_core.specs.Values.{Relation}
+use Rattle.scalar_core.specs.Answers.{Gives}
 use Rattle.tree_core.specs.declared.declaration.Assignment.{Assignment}
 use Rattle.tree_core.specs.Items.{PlainAssignment, read_assignment}
 use Rattle.tree_core.specs.Relvars.{State, PlainRelvar, base, view, Entries}
 use Rattle.assign_core.specs.Assignments.{evaluated, unless_broken, kept_or_refused, of_values, after_assignments, IsRefusedFor}
-use Rattle.assign_core.specs.Breaches.{rows_of_all, most_rows_of_all, first_broken}
-use Rattle.assign_core.specs.Changes.{Changes, AreChanges, changed, Gives}
+use Rattle.assign_core.specs.Breaches.{rows_of_all, first_broken}
+use Rattle.assign_core.specs.Changes.{Changes, AreChanges, changed}
 use Rattle.assign_core.specs.Checks.{IsChecked, AreChecked, AllChecked}
 use Rattle.assign_core.specs.Databases.{IsKept}
 use Rattle.assign_core.proofs.ChangeLemmas.{bare_changed, none_changed}
@@ -29,7 +31,7 @@ use Rattle.meaning_core.proofs.RowlessLemmas.{bare-keeps}
 pub from_none : (es : Entries) (none : Changes) (n : ℕ) (list : List PlainAssignment) → none ≡ replicate n None → evaluated es (changed none es) list ≡ evaluated es es list
 from_none es none n list e = ap (λ (z : Entries). evaluated es z list) (ap (λ (cs : Changes). changed cs es) e ∙ none_changed es n)
 
-pub stopped : (es start last : Entries) (list : List PlainAssignment) (stop : Stop) → evaluated es start list ≡ evaluated es es list → Gives (Err stop) (evaluated es start list) last
+pub stopped : (es start last : Entries) (list : List PlainAssignment) (stop : Stop) → evaluated es start list ≡ evaluated es es list → Gives (λ (done : Unit {0}). last) (Err stop) (evaluated es start list)
     → IsRefusedFor (refusal_of stop) (after_assignments es list)
 stopped es start last list (Faulted f) same told = ap of_values (sym same ∙ told)
 stopped es start last list OfMemory same told = tt
@@ -48,19 +50,19 @@ each_of P (x ∷ xs) h =
 -- ---- what is admitted
 
 abbrev IsFine : Entries → Type 0
-IsFine new = (rows_of_all new ≤ most_rows_of_all) × (first_broken new ≡ None)
+IsFine new = (rows_of_all new ≤ most_rows_in_all) × (first_broken new ≡ None)
 
-unless_known : (n new : Entries) (o : Option Refuse) → first_broken n ≡ o → rows_of_all n ≤ most_rows_of_all → unless_broken n o ≡ Ok new → IsFine new
+unless_known : (n new : Entries) (o : Option Refuse) → first_broken n ≡ o → rows_of_all n ≤ most_rows_in_all → unless_broken n o ≡ Ok new → IsFine new
 unless_known n new (Some refuse) b few e = absurd (cc)
 unless_known n new None b few e = let same : n ≡ new = cc in subst IsFine same (few, b)
 
-few_known : (n new : Entries) (t : Bool) → nat_le (rows_of_all n) most_rows_of_all ≡ t → cond t (unless_broken n (first_broken n)) (Err (Plain E46)) ≡ Ok new → IsFine new
+few_known : (n new : Entries) (t : Bool) → nat_le (rows_of_all n) most_rows_in_all ≡ t → cond t (unless_broken n (first_broken n)) (Err (Plain E46)) ≡ Ok new → IsFine new
 few_known n new false q e = absurd (cc)
-few_known n new true q e = let few : rows_of_all n ≤ most_rows_of_all = grind (arith, nat_tests) in unless_known n new (first_broken n) refl few e
+few_known n new true q e = let few : rows_of_all n ≤ most_rows_in_all = grind (arith, nat_tests) in unless_known n new (first_broken n) refl few e
 
 is_fine : (r : OrFault Entries) (new : Entries) → of_values r ≡ Ok new → IsFine new
 is_fine (Err f) new e = absurd (cc)
-is_fine (Ok n) new e = few_known n new (nat_le (rows_of_all n) most_rows_of_all) refl e
+is_fine (Ok n) new e = few_known n new (nat_le (rows_of_all n) most_rows_in_all) refl e
 
 -- ---- what stays
 

@@ -1,7 +1,6 @@
 -- Constraints checked one after another.
 use Rattle.std.proofs.Common.{◌≡◌, ℕ, zero, suc, ◌+◌, ◌<◌, ◌≤◌, List, [], ◌∷◌, take, drop, length, refl, sym, ap, subst, ◌∙◌, arith, Option, Some, None, option_map, Err}
 use Rattle.std.specs.Prelude.{slice_index_or}
-use Rattle.std.specs.List.{All}
 use Rattle.relation_core.proofs.FilterLemmas.{take_all}
 use Rattle.point_core.specs.declared.fault.Code.{Code}
 use Rattle.value_core.specs.declared.constraint.Constraint.{Constraint}
@@ -12,9 +11,9 @@ use Rattle.value_core.specs.Values.{Name, Row, Relation}
 use Rattle.tree_core.specs.Relvars.{PlainRelvar, base, view, Entries, relvar_named, heading_if}
 use Rattle.meaning_core.specs.WellMade.{IsBase}
 use Rattle.u_constraints.specs.Constraints.{broken, names_relvar, heading_or_none, IsNamed}
-use Rattle.assign_core.specs.Breaches.{value_of, value_if, value_at, rows_named, or_later, breach, first_of, first_in, first_among}
-use Rattle.assign_core.specs.Changes.{newest, changed_relvar, Tells}
-use Rattle.assign_core.specs.Checks.{heading_at, NamesBase, IsChecked, AreChecked, AllChecked}
+use Rattle.assign_core.specs.Breaches.{value_if, value_at, rows_named, or_later, breach, first_of, first_in, first_among}
+use Rattle.assign_core.specs.Changes.{Tells}
+use Rattle.assign_core.specs.Checks.{heading_at, NamesBase, AreChecked, AllChecked}
 use Rattle.assign_core.proofs.DeclaredLemmas.{neither, none_of_two}
 
 -- ---- one constraint
@@ -92,20 +91,6 @@ module _ (all : Entries) (name : Name) (rows : List Row) where
 
   pub all_kept : (i : ℕ) (cs : List Constraint) → length cs ≤ i → first_of all name rows 1 (take i cs) ≡ None → first_of all name rows 1 cs ≡ None
   all_kept i cs l e = ap (first_of all name rows 1) (sym (take_all i cs l)) ∙ e
-
-pub base_checked : (all : Entries) (c : Option Relation) (value : Relation) (cs : List Constraint) → AreChecked all (changed_relvar c (base value cs)) → All (IsChecked all (newest c value).heading) cs
-base_checked all None value cs h = h
-base_checked all (Some new) value cs h = h
-
-pub base_first : (all : Entries) (name : Name) (c : Option Relation) (value : Relation) (cs : List Constraint) → first_of all name (newest c value).rows 1 cs ≡ first_in all name (changed_relvar c (base value cs))
-base_first all name None value cs = refl
-base_first all name (Some new) value cs = refl
-
-pub view_first : (all : Entries) (name : Name) (c : Option Relation) (r : PlainRelvar) → value_of r ≡ None → first_in all name (changed_relvar c r) ≡ None
-view_first all name None (base value cs) e = absurd (cc)
-view_first all name (Some new) (base value cs) e = absurd (cc)
-view_first all name None (view t history) e = refl
-view_first all name (Some new) (view t history) e = refl
 
 -- ---- relvars
 

@@ -1,5 +1,5 @@
 -- The steps that are left at a place of a list.
-use Rattle.std.proofs.Common.{◌≡◌, ℕ, zero, suc, ◌+◌, ◌<◌, ◌≤◌, List, [], ◌∷◌, map, drop, length, replicate, refl, sym, ap, ◌∙◌, arith, Option, Some, None, Ok, Err}
+use Rattle.std.proofs.Common.{◌≡◌, ℕ, zero, suc, ◌+◌, ◌<◌, ◌≤◌, List, [], ◌∷◌, map, drop, length, replicate, refl, sym, ap, ◌∙◌, arith, None, Ok, Err}
 use Rattle.std.specs.Prelude.{slice_index_or}
 use Rattle.base_core.specs.Outcomes.{then_give}
 use Rattle.point_core.specs.Faults.{OrFault}
@@ -7,11 +7,11 @@ use Rattle.value_core.specs.declared.constraint.Constraint.{Constraint}
 use Rattle.value_core.specs.Values.{Name, Row, Relation}
 use Rattle.tree_core.specs.declared.declaration.Assignment.{Assignment}
 use Rattle.tree_core.specs.Items.{PlainAssignment, read_assignment}
-use Rattle.tree_core.specs.Relvars.{PlainRelvar, base, Entries}
+use Rattle.tree_core.specs.Relvars.{PlainRelvar, Entries}
 use Rattle.u_constraints.specs.Constraints.{broken}
 use Rattle.assign_core.specs.Assignments.{source_value, with_target, evaluated}
 use Rattle.assign_core.specs.Breaches.{rows_named, first_in}
-use Rattle.assign_core.specs.Changes.{Changes, newest, changed, changed_relvar}
+use Rattle.assign_core.specs.Changes.{Changes, changed}
 use Rattle.assign_core.specs.Costs.{source_cost, behind, sources_cost, where_kept, cost_over, looked_at, looked_at_in, looked_at_all, constraints_cost, constraints_cost_of, assignments_cost}
 use Rattle.assign_core.proofs.ChangeLemmas.{none_changed}
 
@@ -24,9 +24,6 @@ module _ (all : Entries) (rows : List Row) where
   here_of zero (c ∷ cs) d l = refl
   here_of (suc i) (c ∷ cs) d l = here_of i cs d (omega arith)
 
-  pub one_left : (i : ℕ) (cs : List Constraint) (d : Constraint) → i < length cs → cost_over all rows (slice_index_or cs i d) ≤ looked_at all rows (drop i cs)
-  one_left i cs d l = let here = here_of i cs d l in omega (arith, here)
-
   pub left_kept : (i : ℕ) (cs : List Constraint) (d : Constraint) → i < length cs → None ≡ broken (slice_index_or cs i d) rows (rows_named all (slice_index_or cs i d))
       → looked_at all rows (drop i cs) ≡ cost_over all rows (slice_index_or cs i d) + looked_at all rows (drop (i + 1) cs)
   left_kept i cs d l e =
@@ -36,10 +33,6 @@ module _ (all : Entries) (rows : List Row) where
       ∙ ap (λ m. cost_over all rows (slice_index_or cs i d) + looked_at all rows (drop m cs)) (sym one))
 
 -- ---- the constraints of relvars
-
-pub base_cost : (all : Entries) (c : Option Relation) (value : Relation) (cs : List Constraint) → looked_at all (newest c value).rows cs ≡ looked_at_in all (changed_relvar c (base value cs))
-base_cost all None value cs = refl
-base_cost all (Some new) value cs = refl
 
 module _ (all : Entries) where
   relvar_here : (i : ℕ) (es : Entries) (d : Name × PlainRelvar) → i < length es
@@ -68,10 +61,6 @@ module _ (old : Entries) where
   source_here new i [] d l = absurd (omega arith)
   source_here new zero (x ∷ xs) d l = refl
   source_here new (suc i) (x ∷ xs) d l = source_here new i xs d (omega arith)
-
-  pub source_left : (new : Entries) (i : ℕ) (xs : List Assignment) (d : Assignment) → i < length xs
-      → source_cost old new (read_assignment (slice_index_or xs i d)) ≤ sources_cost old new (map read_assignment (drop i xs))
-  source_left new i xs d l = let here = source_here new i xs d l in omega (arith, here)
 
   behind_value : (new after : Entries) (a : PlainAssignment) (rest : List PlainAssignment) → evaluated old new (a ∷ []) ≡ Ok after
       → behind (source_value old new a) (λ value. sources_cost old (with_target new a.target value) rest) ≡ sources_cost old after rest

@@ -8,6 +8,7 @@ use Rattle.point_core.specs.declared.fault.Stop.TheVariants.{Fault as Faulted, M
 use Rattle.point_core.specs.Faults.{OrFault}
 use Rattle.relation_core.specs.Answers.{Answers, under}
 use Rattle.value_core.specs.Values.{Name, Relation, Heading}
+use Rattle.scalar_core.specs.Answers.{Gives}
 use Rattle.tree_core.specs.declared.declaration.Assignment.{Assignment}
 use Rattle.tree_core.specs.declared.tree.RelTree.{RelTree}
 use Rattle.tree_core.specs.Items.{PlainAssignment, read_assignment}
@@ -19,7 +20,6 @@ use Rattle.meaning_core.specs.WellMade.{IsGiven}
 use Rattle.meaning_core.proofs.LookupLemmas.{operand_heading, under_ok}
 use Rattle.assign_core.specs.Assignments.{seen_by, source_value, with_target, evaluated}
 use Rattle.assign_core.specs.Breaches.{value_if}
-use Rattle.assign_core.specs.Changes.{Gives}
 use Rattle.meaning_core.proofs.RowlessLemmas.{bare_all, own-given, is_given-keeps}
 
 heading_is : (t : RelTree) → t.heading ≡ heading_of (read_tree t)
@@ -64,10 +64,6 @@ pub one_given : (old new after : Entries) (a : PlainAssignment) (value : Relatio
 one_given old new after a value e is =
     ap (λ (r : OrFault Relation). then_give r (λ v. evaluated old (with_target new a.target v) [])) e ∙ ap Ok (sym is)
 
-pub one_failed : (old new after : Entries) (a : PlainAssignment) (stop : Stop) → Answers (Err stop) (source_value old new a) → Gives (Err stop) (evaluated old new (a ∷ [])) after
-one_failed old new after a (Faulted f) told = ap (λ (r : OrFault Relation). then_give r (λ v. evaluated old (with_target new a.target v) [])) told
-one_failed old new after a OfMemory told = tt
-
 -- ---- several sources
 
 pub evaluated_then : (old new mid : Entries) (xs ys : List PlainAssignment) → evaluated old new xs ≡ Ok mid → evaluated old new (xs ++ ys) ≡ evaluated old mid ys
@@ -107,7 +103,7 @@ turn_given old new mid after xs i d l e is =
     ∙ (evaluated_then old new mid (map read_assignment (take i xs)) (read_assignment (slice_index_or xs i d) ∷ []) e ∙ is))
 
 pub turn_failed : (old new mid after last : Entries) (xs : List Assignment) (i : ℕ) (d : Assignment) (stop : Stop) → i < length xs → evaluated old new (map read_assignment (take i xs)) ≡ Ok mid
-    → Gives (Err stop) (evaluated old mid (read_assignment (slice_index_or xs i d) ∷ [])) after → Gives (Err stop) (evaluated old new (map read_assignment xs)) last
+    → Gives (λ (done : Unit {0}). after) (Err stop) (evaluated old mid (read_assignment (slice_index_or xs i d) ∷ [])) → Gives (λ (done : Unit {0}). last) (Err stop) (evaluated old new (map read_assignment xs))
 turn_failed old new mid after last xs i d (Faulted f) l e told =
     ap (evaluated old new) (at_turn xs i d l)
     ∙ (evaluated_then old new mid (map read_assignment (take i xs)) (read_assignment (slice_index_or xs i d) ∷ map read_assignment (drop (suc i) xs)) e

@@ -1,5 +1,6 @@
 -- Constraints that a change cannot break.
-use Rattle.std.proofs.Common.{◌≡◌, ℕ, zero, suc, ◌<◌, Bool, true, false, cond, ◌||◌, List, [], ◌∷◌, map, length, get_or, refl, sym, ap, ◌∙◌, arith, true≢false, Option, Some, None, option_map, is_some}
+use Rattle.std.proofs.Common.{◌≡◌, ℕ, zero, suc, ◌<◌, Bool, true, false, cond, List, [], ◌∷◌, map, length, get_or, refl, sym, ap, ◌∙◌, arith, true≢false, Option, Some, None, option_map, is_some}
+use Rattle.std.proofs.lemmas.Bool.{or_parts}
 use Rattle.std.specs.Prelude.{slice_index_or, slice_get}
 use Rattle.std.specs.List.{All}
 use Rattle.std.specs.Str.{bytes_eq}
@@ -57,14 +58,10 @@ value_stays : (cs : Changes) (es : Entries) (n : Option Name) → is_some (chang
 value_stays cs es None e = refl
 value_stays cs es (Some name) e = ap value_if (named_stays cs es name e)
 
-neither_true : (a b : Bool) → (a || b) ≡ false → (a ≡ false) × (b ≡ false)
-neither_true true b e = absurd (true≢false e)
-neither_true false b e = (refl, e)
-
 -- a constraint that the change cannot break holds after it
 pub unbroken : (a : After) (own : Bool) (rows : List Row) (c : Constraint) → can_break a own c ≡ false → HeldBefore a own rows c → None ≡ broken c rows (rows_named (after a) c)
 unbroken a own rows c e held =
-    let parts = neither_true own (is_some (change_at a.changes.now (before a) (names_relvar c))) e in
+    let parts = or_parts own (is_some (change_at a.changes.now (before a) (names_relvar c))) e in
     let same = value_stays a.changes.now (before a) (names_relvar c) parts.1 in
     sym (held parts.0) ∙ ap (λ (o : Option Relation). broken c rows (rows_or_none o)) (sym same)
 

@@ -7,6 +7,7 @@ use Rattle.base_core.specs.Outcomes.{then_give}
 use Rattle.point_core.specs.declared.fault.Code.TheVariants.{E46}
 use Rattle.point_core.specs.Faults.{OrFault}
 use Rattle.relation_core.specs.Answers.{under}
+use Rattle.value_core.specs.Limits.{most_rows_in_all}
 use Rattle.value_core.specs.declared.refuse.Refuse.{Refuse}
 use Rattle.value_core.specs.declared.refuse.Refuse.TheVariants.{Plain, At, Broken, Memory}
 use Rattle.value_core.specs.Values.{Name, Relation}
@@ -15,7 +16,7 @@ use Rattle.tree_core.specs.Relvars.{Entries, State, relvar_named}
 use Rattle.tree_core.specs.Trees.{heading_of}
 use Rattle.meaning_core.specs.Meanings.{meaning_in}
 use Rattle.meaning_core.specs.Names.{given}
-use Rattle.assign_core.specs.Breaches.{value_if, rows_of_all, most_rows_of_all, first_broken}
+use Rattle.assign_core.specs.Breaches.{value_if, rows_of_all, first_broken}
 
 -- ---- sources
 
@@ -44,7 +45,7 @@ unless_broken new (Some refuse) = Err refuse
 
 -- the relvars, unless they have too many rows together or break a constraint
 abbrev pub kept_or_refused : Entries → Result Entries Refuse
-kept_or_refused new = if nat_le (rows_of_all new) most_rows_of_all then unless_broken new (first_broken new) else Err (Plain E46)
+kept_or_refused new = if nat_le (rows_of_all new) most_rows_in_all then unless_broken new (first_broken new) else Err (Plain E46)
 
 abbrev pub of_values : OrFault Entries → Result Entries Refuse
 of_values (Ok new) = kept_or_refused new

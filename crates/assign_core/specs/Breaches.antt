@@ -28,10 +28,6 @@ abbrev pub rows_of_all : Entries → ℕ
 rows_of_all [] = 0
 rows_of_all (r ∷ rest) = count_of r + rows_of_all rest
 
--- at most as many rows are in the base relvars together
-abbrev pub most_rows_of_all : ℕ
-most_rows_of_all = 200000
-
 -- ---- constraints
 
 -- the relvar that a constraint names, if it names one

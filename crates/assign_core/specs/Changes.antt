@@ -1,11 +1,7 @@
 -- New values that stand ready for base relvars, one place for each relvar and view.
 --     AreChanges      each new value has the heading of its base relvar
 --     changed      the relvars with the values that stand ready for them
---     Gives      what a call answers that evaluates sources
 use Rattle.std.specs.Prelude.{◌≡◌, ℕ, zero, suc, List, [], ◌∷◌, Option, Some, None, Result, Ok, Err}
-use Rattle.point_core.specs.declared.fault.Stop.{Stop}
-use Rattle.point_core.specs.declared.fault.Stop.TheVariants.{Fault as Faulted, Memory as OfMemory}
-use Rattle.point_core.specs.Faults.{OrFault}
 use Rattle.value_core.specs.declared.refuse.Refuse.{Refuse}
 use Rattle.value_core.specs.declared.refuse.Refuse.TheVariants.{Plain, At, Broken, Memory}
 use Rattle.value_core.specs.Values.{Relation}
@@ -41,12 +37,6 @@ abbrev pub changed : Changes → Entries → Entries
 changed [] entries = entries
 changed (c ∷ cs) [] = []
 changed (c ∷ cs) (r ∷ rest) = (r.0, changed_relvar c r.1) ∷ changed cs rest
-
--- the relvars are what sources give, or the fault is theirs
-abbrev pub Gives : Result (Unit {0}) Stop → OrFault Entries → Entries → Type 0
-Gives (Ok done) meant now = meant ≡ Ok now
-Gives (Err (Faulted fault)) meant now = meant ≡ Err fault
-Gives (Err OfMemory) meant now = Unit {0}
 
 -- nothing is broken, or what is told is the first that is
 abbrev pub Tells : Result (Unit {0}) Refuse → Option Refuse → Type 0

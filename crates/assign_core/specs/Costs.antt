@@ -4,6 +4,7 @@
 --     assignments_cost      of both
 use Rattle.std.specs.Prelude.{ℕ, ◌+◌, nat_le, List, [], ◌∷◌, Option, Some, None, Ok, Err, if◌then◌else◌}
 use Rattle.point_core.specs.Faults.{OrFault}
+use Rattle.value_core.specs.Limits.{most_rows_in_all}
 use Rattle.value_core.specs.declared.constraint.Constraint.{Constraint}
 use Rattle.value_core.specs.Values.{Row, Relation}
 use Rattle.tree_core.specs.Items.{PlainAssignment}
@@ -12,7 +13,7 @@ use Rattle.algebra_core.specs.Costs.{cost_in}
 use Rattle.u_constraints.specs.Constraints.{broken}
 use Rattle.u_constraints.specs.Costs.{constraint_cost}
 use Rattle.assign_core.specs.Assignments.{seen_by, source_value, with_target, evaluated}
-use Rattle.assign_core.specs.Breaches.{rows_of_all, most_rows_of_all, rows_named, first_in}
+use Rattle.assign_core.specs.Breaches.{rows_of_all, rows_named, first_in}
 
 -- ---- sources
 
@@ -61,7 +62,7 @@ looked_at_all entries (r ∷ rest) = looked_at_in entries r.1 + where_kept (firs
 
 -- constraints are looked at where the relvars do not have too many rows together
 abbrev pub constraints_cost : Entries → ℕ
-constraints_cost new = if nat_le (rows_of_all new) most_rows_of_all then looked_at_all new new else 0
+constraints_cost new = if nat_le (rows_of_all new) most_rows_in_all then looked_at_all new new else 0
 
 abbrev pub constraints_cost_of : OrFault Entries → ℕ
 constraints_cost_of (Ok new) = constraints_cost new

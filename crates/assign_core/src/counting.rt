@@ -1,23 +1,21 @@
 // How many rows the base relvars have together.
 ghost use Rattle.std.specs.Prelude.{◌≡◌, ◌<◌, length, nat_le, slice_index_or};
+ghost use Rattle.value_core.specs.Limits.{most_rows_in_all};
 ghost use Rattle.value_core.specs.Values.{Name as PlainName};
 ghost use Rattle.tree_core.specs.Relvars.{read_relvars, PlainRelvar};
-ghost use Rattle.assign_core.specs.Breaches.{count_of, rows_of_all, most_rows_of_all};
+ghost use Rattle.assign_core.specs.Breaches.{count_of, rows_of_all};
 ghost use Rattle.assign_core.specs.Changes.{changed};
 
 use crate::changes::newest_at;
 use tree_core::Relvars;
-use value_core::Relation;
+use value_core::{MOST_ROWS_IN_ALL, Relation};
 
-/// The most rows of all base relvars together.
-const MOST_ROWS: usize = 200_000;
-
-/// Whether they have at most 200,000, with the new values.
+/// Whether they have at most as many as may be, with the new values.
 pub(crate) fn are_few(relvars: &Relvars, changes: &[Option<Relation>]) -> bool
     requires { length changes.now ≡ length relvars.now.list.entries }
-    ensures { result ≡ nat_le (rows_of_all (changed changes.now (read_relvars relvars.now).relvars)) most_rows_of_all }
+    ensures { result ≡ nat_le (rows_of_all (changed changes.now (read_relvars relvars.now).relvars)) most_rows_in_all }
 {
-    let mut room = MOST_ROWS;
+    let mut room = MOST_ROWS_IN_ALL;
     for at in 0..changes.len() {
         let count = count_at(relvars, changes, at);
         if count > room {

@@ -2,6 +2,7 @@
 ghost use Rattle.std.specs.Prelude.{◌≡◌, ◌<◌, ◌≤◌, ◌+◌, [], ◌∷◌, map, length};
 ghost use Rattle.std.specs.List.{All};
 ghost use Rattle.relation_core.specs.Answers.{Answers, under};
+ghost use Rattle.scalar_core.specs.Answers.{Gives};
 ghost use Rattle.tree_core.specs.Items.{read_assignment};
 ghost use Rattle.tree_core.specs.Relvars.{read_relvars, PlainRelvar};
 ghost use Rattle.tree_core.specs.Trees.{heading_of, read_tree};
@@ -11,7 +12,7 @@ ghost use Rattle.meaning_core.specs.Updates.{IsTypedAssignment};
 ghost use Rattle.meaning_core.specs.WellMade.{IsTypedFor, IsWellMade};
 ghost use Rattle.algebra_core.specs.Costs.{cost_in};
 ghost use Rattle.assign_core.specs.Assignments.{seen_by, evaluated};
-ghost use Rattle.assign_core.specs.Changes.{AreChanges, changed, Gives};
+ghost use Rattle.assign_core.specs.Changes.{AreChanges, changed};
 ghost use Rattle.assign_core.specs.Costs.{source_cost, sources_cost};
 
 use crate::changes::current;
@@ -34,8 +35,8 @@ pub(crate) fn evaluate<L: Ledger>(
     requires typed { All (λ a. IsTypedAssignment (read_relvars relvars.now) (read_assignment a)) list.now }
     requires changes { AreChanges changes.old.items (read_relvars relvars.now).relvars }
     ensures changes { AreChanges changes.new.items (read_relvars relvars.now).relvars }
-    ensures value { Gives result (evaluated (read_relvars relvars.now).relvars (changed changes.old.items (read_relvars relvars.now).relvars) (map read_assignment list.now))
-        (changed changes.new.items (read_relvars relvars.now).relvars) }
+    ensures value { Gives (λ done. changed changes.new.items (read_relvars relvars.now).relvars) result
+        (evaluated (read_relvars relvars.now).relvars (changed changes.old.items (read_relvars relvars.now).relvars) (map read_assignment list.now)) }
     ensures cost { steps.new ≤ steps.old + sources_cost (read_relvars relvars.now).relvars (changed changes.old.items (read_relvars relvars.now).relvars) (map read_assignment list.now) }
 {
     for assignment in list {
@@ -56,8 +57,8 @@ fn evaluate_one<L: Ledger>(
     requires typed { IsTypedAssignment (read_relvars relvars.now) (read_assignment assignment.now) }
     requires changes { AreChanges changes.old.items (read_relvars relvars.now).relvars }
     ensures changes { AreChanges changes.new.items (read_relvars relvars.now).relvars }
-    ensures value { Gives result (evaluated (read_relvars relvars.now).relvars (changed changes.old.items (read_relvars relvars.now).relvars) (read_assignment assignment.now ∷ []))
-        (changed changes.new.items (read_relvars relvars.now).relvars) }
+    ensures value { Gives (λ done. changed changes.new.items (read_relvars relvars.now).relvars) result
+        (evaluated (read_relvars relvars.now).relvars (changed changes.old.items (read_relvars relvars.now).relvars) (read_assignment assignment.now ∷ [])) }
     ensures cost { steps.new ≤ steps.old + source_cost (read_relvars relvars.now).relvars (changed changes.old.items (read_relvars relvars.now).relvars) (read_assignment assignment.now) }
 {
     let value = source(

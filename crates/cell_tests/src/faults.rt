@@ -1,11 +1,11 @@
 // An operator that has a fault at each place, and unpacked rows that are listed up to a limit.
 ghost use Rattle.std.specs.Prelude.{◌≡◌, ℕ, ◌+◌, ◌<◌, ◌^◌, List, [], ◌∷◌, length, IfOk};
 
+use crate::Plain;
 use crate::compared::{boxes_of, small_rows};
 use crate::count::sides_list;
 use crate::small::Small;
 use crate::tag::Tag;
-use crate::Plain;
 use cell_core::{CellOp, CellRefuse, Sides, combine, unpack};
 use point_core::{Fault, IntType, Memory, PointNumber, Steps, Stop};
 use std::alloc::Global;

@@ -1,4 +1,4 @@
--- What an item other than TERMINATE means in a state is what it stands for in any.
+-- The law that what an item other than TERMINATE means in a state is what it stands for in any.
 use Rattle.std.specs.Prelude.{◌≡◌, refl}
 use Rattle.tree_core.specs.Items.{PlainItemForm, set_to, insert, delete, delete_rows, update, terminate, PlainItem}
 use Rattle.tree_core.specs.Relvars.{Entries}

@@ -1,10 +1,11 @@
 use Rattle.std.proofs.Common.{◌≡◌, ◌<◌, ◌≤◌, ◌+◌, [], ◌∷◌, length, map, subst, arith, Ok, Err}
 use Rattle.std.proofs.lemmas.Result.{err_from_is_err_and}
+use Rattle.scalar_core.specs.Answers.{Gives}
 use Rattle.tree_core.specs.declared.declaration.Assignment.{Assignment}
 use Rattle.tree_core.specs.Items.{read_assignment}
 use Rattle.tree_core.specs.Relvars.{read_entry}
 use Rattle.assign_core.specs.Assignments.{evaluated}
-use Rattle.assign_core.specs.Changes.{changed, Gives}
+use Rattle.assign_core.specs.Changes.{changed}
 use Rattle.assign_core.specs.Costs.{source_cost}
 use Rattle.assign_core.proofs.CostLemmas.{sources_left}
 use Rattle.assign_core.proofs.SourceLemmas.{turn_given, turn_failed}
@@ -17,7 +18,7 @@ returns-in_err-evaluate_one-clause-value g c =
     let mid = changed c.loop-assignment.changes.items es in
     let after = changed c.evaluate_one.new.changes.items es in
     let stop = c.in_err-evaluate_one.field-0.0 in
-    let told = subst (λ (a : Assignment). Gives (Err stop) (evaluated es mid (read_assignment a ∷ [])) after) c.assignment-item.is c.in_err-evaluate_one.ensures.value in
+    let told = subst (λ (a : Assignment). Gives (λ (done : Unit {0}). after) (Err stop) (evaluated es mid (read_assignment a ∷ []))) c.assignment-item.is c.in_err-evaluate_one.ensures.value in
     let p = err_from_is_err_and c.from_residual.result c.from_residual.ensures.1 in
     rw (p.1, p.2) (turn_failed es (changed c.args.changes.now.items es) mid after after c.args.list.now c.loop-assignment.assignment-index c.assignment-item.result stop within
     c.loop-assignment.invariant.value told)
