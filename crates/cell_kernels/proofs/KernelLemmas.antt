@@ -175,13 +175,13 @@ module _ {T P L : Type 0} (n : P → ℤ) (has : T → P → Type 0) (high : T �
         → ((y : List (ℕ × ℕ)) → ((length y ≡ length cuts) × ((s : ℕ) → s < length cuts → (get_or y s no_cells).1 ≤ (get_or cuts s start).count)) → Has (box_of cuts y) p → ⊥) → InBoxes boxes l p → ⊥
     nowhere_else rows on boxes e l p h = subst (λ bs. InBoxes bs l p → ⊥) (same_rows rows ∙ e) (no_points start cuts rows (grid_on rows on) l p h)
 
-    abbrev At_left : List ℤ → L → Type 0
-    At_left p a = InBoxes (map (row_numbers n) left) a p
+    abbrev AtLeft : List ℤ → L → Type 0
+    AtLeft p a = InBoxes (map (row_numbers n) left) a p
 
-    abbrev At_right : List ℤ → L → Type 0
-    At_right p b = InBoxes (map (row_numbers n) right) b p
+    abbrev AtRight : List ℤ → L → Type 0
+    AtRight p b = InBoxes (map (row_numbers n) right) b p
 
-    places : (l : Q) (p : List ℤ) → InBoxes (map (grid_row ns) parts) l p ↔ F (At_left p) (At_right p) l
+    places : (l : Q) (p : List ℤ) → InBoxes (map (grid_row ns) parts) l p ↔ F (AtLeft p) (AtRight p) l
     places l p = elim (cell_at start cuts p) [
       | inl w ↦
           let c : List ℕ = w.0 in
@@ -190,12 +190,12 @@ module _ {T P L : Type 0} (n : P → ℤ) (has : T → P → Type 0) (high : T �
           let x = here parts parts_on (map (grid_row ns) parts) refl l p c w.2 in
           let i = cover.places l c (w.1 ∙ count_sides) in
           let j = are l c (w.1 ∙ count_sides) in (
-            λ h. alike (λ m. HasRow ls m c) (At_left p) (λ m. HasRow rs m c) (At_right p) (λ m. ((a m).1, (a m).0)) (λ m. ((b m).1, (b m).0)) l (j.0 (i.0 (x.0 h))),
-            λ h. x.1 (i.1 (j.1 (alike (At_left p) (λ m. HasRow ls m c) (At_right p) (λ m. HasRow rs m c) a b l h))),
+            λ h. alike (λ m. HasRow ls m c) (AtLeft p) (λ m. HasRow rs m c) (AtRight p) (λ m. ((a m).1, (a m).0)) (λ m. ((b m).1, (b m).0)) l (j.0 (i.0 (x.0 h))),
+            λ h. x.1 (i.1 (j.1 (alike (AtLeft p) (λ m. HasRow ls m c) (AtRight p) (λ m. HasRow rs m c) a b l h))),
           )
       | inr w ↦ (
         λ h. absurd (nowhere_else parts parts_on (map (grid_row ns) parts) refl l p w h),
-        λ h. let v = some (At_left p) (At_right p) l h in absurd (nowhere_else ls left_on (map (row_numbers n) left) left_numbers v.0 p w v.1),
+        λ h. let v = some (AtLeft p) (AtRight p) l h in absurd (nowhere_else ls left_on (map (row_numbers n) left) left_numbers v.0 p w v.1),
       )
     ]
 

@@ -156,7 +156,9 @@ pub fn by_none<L: Ledger>(
 
 /// Whether what the operators gave is what is wanted.
 pub fn is_wanted(given: &Given, wanted: &Pair) -> bool {
-    given.proper && crate::same(&given.common, &wanted.left) && crate::same(&given.difference, &wanted.right)
+    given.proper
+        && crate::same(&given.common, &wanted.left)
+        && crate::same(&given.difference, &wanted.right)
 }
 
 #[cfg(test)]
@@ -168,7 +170,12 @@ mod tests {
     #[test]
     fn takes_a_hole_out_of_two_sides(rt: HostRuntime) -> Result<(), Fail> {
         let alloc = rt.alloc();
-        let found = by_both::<Brand>(alloc, &[((1, 4), (1, 4))], &[((2, 3), (2, 3))], Blank::new(1));
+        let found = by_both::<Brand>(
+            alloc,
+            &[((1, 4), (1, 4))],
+            &[((2, 3), (2, 3))],
+            Blank::new(1),
+        );
         let wanted = relations(
             alloc,
             &[((2, 3), (2, 3))],
@@ -190,7 +197,12 @@ mod tests {
     fn goes_label_by_label(rt: HostRuntime) -> Result<(), Fail> {
         let alloc = rt.alloc();
         let left = [((1, 4), (1, 1)), ((3, 6), (1, 1)), ((1, 2), (2, 2))];
-        let found = by_first::<Brand>(alloc, &left, &[((2, 3), (1, 1)), ((1, 1), (2, 2))], Blank::new(1));
+        let found = by_first::<Brand>(
+            alloc,
+            &left,
+            &[((2, 3), (1, 1)), ((1, 1), (2, 2))],
+            Blank::new(1),
+        );
         let wanted = relations(
             alloc,
             &[((2, 3), (1, 1)), ((1, 1), (2, 2))],

@@ -119,7 +119,7 @@ fn common_form<L: Ledger>(
     )
 }
 
-// The same under USING of one attribute at least.
+// The intersection under USING of one attribute at least, by boxes.
 fn intersected_by_boxes<L: Ledger>(
     alloc: Global,
     left: &Relation,

@@ -120,7 +120,7 @@ fn difference_form<L: Ledger>(
     )
 }
 
-// The same under USING of one attribute at least.
+// The difference under USING of one attribute at least, by boxes.
 fn subtracted_by_boxes<L: Ledger>(
     alloc: Global,
     left: &Relation,

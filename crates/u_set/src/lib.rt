@@ -1,4 +1,4 @@
-//! Relations as labelled boxes and back, and what of the operators point by point needs no more than packing.
+//! Relations as labelled boxes and back, and the operators point by point that keep the labels.
 #![tactic(auto)]
 
 mod boxes;
