@@ -1,5 +1,5 @@
--- The numbers of the statuses, and the line that goes with each.
-use Rattle.std.specs.Prelude.{ℕ, List, [], ◌∷◌, ◌++◌, codes, if◌then◌else◌, ◌==◌}
+-- How a run ends: the number of each status, and the line that goes with it.
+use Rattle.std.specs.Prelude.{◌≡◌, ℕ, List, [], ◌∷◌, ◌++◌, codes}
 use Rattle.utd_session.specs.declared.status.Status.{Status}
 use Rattle.utd_session.specs.declared.status.Status.TheVariants.{AllAccepted, SomeRefused, BadUsage, ReadFailed, WriteFailed, NoMemory, TooLong}
 
@@ -12,11 +12,16 @@ number_of WriteFailed = 4
 number_of NoMemory = 5
 number_of TooLong = 6
 
--- the line that goes with a number
-unfoldable pub line_of : ℕ → List ℕ
-line_of status =
-    if status == 2 then codes "usage: utd [--generate N]" ++ 10 ∷ []
-    else (if status == 3 then codes "utd: read failed" ++ 10 ∷ []
-    else (if status == 4 then codes "utd: write failed" ++ 10 ∷ []
-    else (if status == 5 then codes "utd: out of memory" ++ 10 ∷ []
-    else (if status == 6 then codes "utd: more than 16777216 bytes" ++ 10 ∷ [] else []))))
+-- it is the number of a status
+abbrev pub IsStatus : ℕ → Type 0
+IsStatus answered = (status : Status) × (answered ≡ number_of status)
+
+-- the line that goes with a status
+unfoldable pub line_of : Status → List ℕ
+line_of AllAccepted = []
+line_of SomeRefused = []
+line_of BadUsage = codes "usage: utd [--generate N]" ++ 10 ∷ []
+line_of ReadFailed = codes "utd: read failed" ++ 10 ∷ []
+line_of WriteFailed = codes "utd: write failed" ++ 10 ∷ []
+line_of NoMemory = codes "utd: out of memory" ++ 10 ∷ []
+line_of TooLong = codes "utd: more than 16777216 bytes" ++ 10 ∷ []

@@ -15,6 +15,7 @@ pub enum Status {
 }
 
 impl Status {
+    /// The number that the process ends with.
     pub fn number(self) -> u8
         ensures { result ≡ number_of self }
     {
@@ -32,7 +33,7 @@ impl Status {
     /// The line that goes to the standard error.
     #[tactic(auto, unfolding(crate::specs::Status::line_of))]
     pub fn line(self) -> &'static [u8]
-        ensures { result.now ≡ line_of (number_of self) }
+        ensures { result.now ≡ line_of self }
     {
         match self {
             Status::AllAccepted | Status::SomeRefused => b"",

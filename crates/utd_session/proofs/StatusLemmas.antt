@@ -1,0 +1,43 @@
+-- A number is that of one status.
+use Rattle.std.proofs.Common.{◌≡◌, ℕ, zero, suc, ◌≤◌, List, Option, refl, sym, ap, ◌∙◌, subst, arith}
+use Rattle.utd_session.specs.declared.status.Status.{Status}
+use Rattle.utd_session.specs.declared.status.Status.TheVariants.{AllAccepted, SomeRefused, BadUsage, ReadFailed, WriteFailed, NoMemory, TooLong}
+use Rattle.utd_session.specs.Status.{number_of, IsStatus}
+use Rattle.utd_session.specs.Run.{IsTold}
+
+bound : (s : Status) → number_of s ≤ 6
+bound AllAccepted = omega arith
+bound SomeRefused = omega arith
+bound BadUsage = omega arith
+bound ReadFailed = omega arith
+bound WriteFailed = omega arith
+bound NoMemory = omega arith
+bound TooLong = omega arith
+
+pub most : (answered : ℕ) → IsStatus answered → answered ≤ 6
+most answered (s, e) = omega (arith, e, bound s)
+
+status_at : ℕ → Status
+status_at zero = AllAccepted
+status_at (suc zero) = SomeRefused
+status_at (suc (suc zero)) = BadUsage
+status_at (suc (suc (suc zero))) = ReadFailed
+status_at (suc (suc (suc (suc zero)))) = WriteFailed
+status_at (suc (suc (suc (suc (suc zero))))) = NoMemory
+status_at (suc (suc (suc (suc (suc (suc n)))))) = TooLong
+
+back : (s : Status) → status_at (number_of s) ≡ s
+unfolding status_at
+back AllAccepted = refl
+back SomeRefused = refl
+back BadUsage = refl
+back ReadFailed = refl
+back WriteFailed = refl
+back NoMemory = refl
+back TooLong = refl
+
+-- what is told of a status is told of the one with its number
+pub told_of : (faults faults_now : ℕ) (before now : Option (List ℕ)) (s t : Status) (answered : ℕ) → answered ≡ number_of s → answered ≡ number_of t
+    → IsTold faults faults_now before now s → IsTold faults faults_now before now t
+told_of faults faults_now before now s t answered p q h =
+    subst (IsTold faults faults_now before now) (sym (back s) ∙ ap status_at (sym p ∙ q) ∙ back t) h
