@@ -8,6 +8,7 @@ use Rattle.utd_syntax.specs.Plain.{Word, HeadingP, NamesP, NameListP, SomeNamesP
 use Rattle.utd_ranges.specs.Ranges.{Each, NameIn, SomeNamesIn, HeadingIn, RelIn, ForeignIn, UsedConstraintIn, ConstraintIn, has_no_value}
 use Rattle.value_core.specs.declared.constraint.Constraint.{Constraint}
 use Rattle.value_core.specs.Attributes.{among}
+use Rattle.value_core.specs.Limits.{most_nodes, most_ordinal_types, most_ordinal_values, most_relvars}
 use Rattle.value_core.specs.Values.{Name, Heading}
 use Rattle.relation_core.specs.Agreement.{position_of}
 use Rattle.scalar_core.specs.KindOf.{same_kind}
@@ -37,7 +38,7 @@ free-name-fine : (s : State) (w : Word) → NameIn has_no_value w → IsNotE06 (
 free-name-fine s w h = then-fine (name_typed w) _ (name-fine w h) (λ name. checked-fine w.place E11 (λ e. cc) (not (is_taken s name)) _ (λ free. tt))
 
 room-fine : (s : State) (place : Place) → IsNotE06 (room_for s place)
-room-fine s place = check-fine place E22 (λ e. cc) _
+room-fine s place = check-fine place E22 (λ e. cc) (nat_lt (length s.relvars) most_relvars)
 
 -- ---- ordinal types
 
@@ -49,14 +50,14 @@ values-fine before [] h = tt
 values-fine before (w ∷ rest) h = then-fine (with_value before w) _ (with-value-fine before w h.0) (λ next. values-fine next rest h.1)
 
 few-values-fine : (list : SomeNamesP) → SomeNamesIn has_no_value list → IsNotE06 (few_values list)
-few-values-fine (syntax.SomeNames at first more) h = then-fine (values_typed [] (first ∷ more)) _ (values-fine [] (first ∷ more) h) (λ values. checked-fine at E22 (λ e. cc) _ _ (λ few. tt))
+few-values-fine (syntax.SomeNames at first more) h = then-fine (values_typed [] (first ∷ more)) _ (values-fine [] (first ∷ more) h) (λ values. checked-fine at E22 (λ e. cc) (nat_le (length values) most_ordinal_values) _ (λ few. tt))
 
 pub ordinal-fine : (s : State) (w : Word) (list : SomeNamesP) → NameIn has_no_value w → SomeNamesIn has_no_value list → IsNotE06 (ordinal_declared s w list)
 unfolding ordinal_declared
 ordinal-fine s w list h g =
     then-fine (new_name s w) _ (free-name-fine s w h) (λ name.
     then-fine (few_values list) _ (few-values-fine list g) (λ values.
-    checked-fine w.place E22 (λ e. cc) _ _ (λ room. tt)))
+    checked-fine w.place E22 (λ e. cc) (nat_lt (length s.ordinals) most_ordinal_types) _ (λ room. tt)))
 
 -- ---- constraints
 
@@ -142,7 +143,7 @@ base-relvar-fine s w heading constraints h g k =
     then-fine (room_for s w.place) _ (room-fine s w.place) (λ room. tt)))))
 
 room-for-view-fine : (s : State) (place : Place) (t : Tree) → IsNotE06 (room_for_view s place t)
-room-for-view-fine s place t = checked-fine place E22 (λ e. cc) _ _ (λ few. room-fine s place)
+room-for-view-fine s place t = checked-fine place E22 (λ e. cc) (nat_le (nodes_of s.relvars t) most_nodes) _ (λ few. room-fine s place)
 
 pub view-fine : (s : State) (w : Word) (rel : RelP) → NameIn has_no_value w → RelIn has_no_value rel → IsNotE06 (view_declared s w rel)
 unfolding view_declared

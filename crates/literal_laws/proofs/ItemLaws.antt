@@ -7,6 +7,7 @@ use Rattle.utd_syntax.specs.Plain.{Word, ScalarP, NameListP, SetItemP, SetsP, El
 use Rattle.utd_ranges.specs.Ranges.{Each, NameIn, ScalarIn, SetItemIn, SetsIn, ElementIn, SomeElementsIn, MaybePortionIn, ConditionIn, RelIn, DeletionIn, UsedDeletionIn, UsedItemIn, ItemIn, AssignIn, has_no_value}
 use Rattle.value_core.specs.declared.list.OrdinalNames.{OrdinalNames}
 use Rattle.value_core.specs.Attributes.{among}
+use Rattle.value_core.specs.Limits.{most_listed}
 use Rattle.value_core.specs.Values.{Name, Heading}
 use Rattle.scalar_core.specs.Expressions.{Expr}
 use Rattle.scalar_core.specs.KindOf.{same_kind}
@@ -87,7 +88,7 @@ parts-fine types heading before [] h = tt
 parts-fine types heading before (part ∷ rest) h = then-fine (part_typed types heading before part) _ (part-fine types heading before part h.0) (λ next. parts-fine types heading next rest h.1)
 
 portion-fine : (types : List OrdinalNames) (heading : Heading) (elements : SomeElementsP) → SomeElementsIn has_no_value elements → IsNotE06 (portion_typed types heading elements)
-portion-fine types heading (syntax.SomeElements at first more) h = then-fine (parts_typed types heading [] (first ∷ more)) _ (parts-fine types heading [] (first ∷ more) h) (λ parts. checked-fine at E17 (λ e. cc) _ _ (λ few. tt))
+portion-fine types heading (syntax.SomeElements at first more) h = then-fine (parts_typed types heading [] (first ∷ more)) _ (parts-fine types heading [] (first ∷ more) h) (λ parts. checked-fine at E17 (λ e. cc) (nat_le (length parts) most_listed) _ (λ few. tt))
 
 portion-if-fine : (types : List OrdinalNames) (heading : Heading) (p : MaybePortionP) → MaybePortionIn has_no_value p → IsNotE06 (portion_if types heading p)
 portion-if-fine types heading syntax.NoPortion h = tt
