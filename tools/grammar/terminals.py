@@ -6,7 +6,7 @@ for w, s in WORDS: SP[w] = s
 for t, s in SYMBOLS: SP[t] = s
 SP['Name'] = 'X'; SP['Digits'] = '0'; SP['Quoted'] = ''; SP['Finish'] = ''
 def codes(s): return ' ∷ '.join([str(ord(c)) for c in s] + ['[]'])
-o = ['-- How the terminals are spelled.', 'use Rattle.std.specs.Prelude.{◌≡◌, ℕ, List, [], ◌∷◌, Bool, true, false, ◌&&◌, ◌||◌, not, ◌==◌, nat_le, IsTrue, if◌then◌else◌}', TERM, TV, f'use {CR}.specs.Pieces.{{Piece}}', f'use {CR}.specs.Table.{{same, same_bytes}}', f'use {CR}.specs.Limits.{{is_digit, are_digits}}', '',
+o = ['-- How the terminals are spelled.', 'use Rattle.std.specs.Prelude.{◌≡◌, ℕ, List, [], ◌∷◌, Bool, true, false, ◌&&◌, ◌||◌, not, ◌==◌, nat_le, IsTrue, if◌then◌else◌}', TERM, TV, f'use {CR}.specs.Pieces.{{Piece}}', f'use {CR}.specs.Table.{{same, same_bytes}}', f'use {CR}.specs.Literals.{{is_digit, are_digits}}', '',
  '-- a reserved word and a symbol have one spelling; of a name, an integer and a text this is one', 'abbrev pub spelling : Terminal → List ℕ']
 o += [f'spelling t.{t} = {codes(SP[t])}' for t in TERMINALS] + ['']
 o += ['abbrev pub reserved : List Terminal', 'reserved = ' + ' ∷ '.join([f't.{w}' for w, _ in WORDS] + ['[]']), '', 'abbrev pub symbols : List Terminal', 'symbols = ' + ' ∷ '.join([f't.{x}' for x, _ in SYMBOLS] + ['[]']), '']

@@ -5,6 +5,7 @@ use Rattle.std.proofs.lemmas.Int.{clamps}
 use Rattle.std.proofs.lemmas.Bool.{le-leb, leb-true, true≢false, false_from_ne_true}
 use Rattle.std.specs.Str.{bytes_eq}
 use Rattle.std.proofs.lemmas.List.{map-append}
+use Rattle.value_core.specs.Limits.{most_nodes}
 use Rattle.value_core.specs.Values.{Name}
 use Rattle.tree_core.specs.Relvars.{PlainRelvar, base, view, Entries}
 use Rattle.tree_core.specs.Trees.{Tree, named, literal, infix_of, project, rename, restrict, extend, summarize, pack, unpack, using}
@@ -65,12 +66,12 @@ nodes-capped entries t =
     ap (λ (k : Known). capped (count k t)) (each-capped [] entries) ∙ count-capped (each_in relvar_count entries) t
 
 -- the most there may be are counted
-pub few-capped : (r n : ℕ) → r ≡ capped n → nat_le r 1000 ≡ nat_le n 1000
+pub few-capped : (r n : ℕ) → r ≡ capped n → nat_le r most_nodes ≡ nat_le n most_nodes
 few-capped r n e =
-    (elim (nat_le r 1000) as (λ (b : Bool). nat_le r 1000 ≡ b → b ≡ nat_le n 1000) [
-      | true ↦ λ f. let l = leb-true r 1000 f in sym (le-leb n 1000 (omega (arith, clamps, e, l)))
-      | false ↦ λ f. sym (false_from_ne_true (nat_le n 1000) (λ g.
-          let l = leb-true n 1000 g in
-          let k = le-leb r 1000 (omega (arith, clamps, e, l)) in
+    (elim (nat_le r most_nodes) as (λ (b : Bool). nat_le r most_nodes ≡ b → b ≡ nat_le n most_nodes) [
+      | true ↦ λ f. let l = leb-true r most_nodes f in sym (le-leb n most_nodes (omega (arith, clamps, e, l)))
+      | false ↦ λ f. sym (false_from_ne_true (nat_le n most_nodes) (λ g.
+          let l = leb-true n most_nodes g in
+          let k = le-leb r most_nodes (omega (arith, clamps, e, l)) in
           true≢false (sym k ∙ f)))
     ]) refl

@@ -13,6 +13,7 @@ use Rattle.utd_syntax.specs.Plain as syntax
 use Rattle.utd_syntax.specs.Plain.{Word, NameListP, NamesP, ConstraintP}
 use Rattle.value_core.specs.declared.constraint.Constraint.{Constraint}
 use Rattle.value_core.specs.declared.constraint.Constraint.TheVariants.{Foreign}
+use Rattle.value_core.specs.Limits.{most_listed}
 use Rattle.value_core.specs.Values.{Name, Heading}
 use Rattle.scalar_typing.proofs.SoundLemmas.{then-sound}
 use Rattle.relation_typing.specs.Attributes.{name_typed}
@@ -156,7 +157,7 @@ module _ (s : State) (own : Name) (heading : Heading) (others : List Constraint)
   checked-names : (at : Place) (words : List Word) → IfOk (list_checked heading heading (syntax.NameList at words)) (IsNamed words)
   checked-names at words =
       then-sound (IsNamed words) (IsNamed words) (names_checked heading heading [] words) _ (listed-names heading heading words []) (λ names is.
-      then-sound (λ (_ : Unit {0}). Unit {0}) (IsNamed words) (check at E17 (nat_le (length names) 3)) _ (any-given (check at E17 (nat_le (length names) 3))) (λ _ _. is))
+      then-sound (λ (_ : Unit {0}). Unit {0}) (IsNamed words) (check at E17 (nat_le (length names) most_listed)) _ (any-given (check at E17 (nat_le (length names) most_listed))) (λ _ _. is))
 
   listed-positions : (list : NameListP) → IfOk (list_typed heading list) (IsListOf (words_of list))
   listed-positions (syntax.NameList at words) =

@@ -9,6 +9,7 @@ use Rattle.point_core.specs.declared.fault.Code.TheVariants.{E15, E22}
 use Rattle.utd_syntax.specs.Plain as syntax
 use Rattle.utd_syntax.specs.Plain.{Word, SomeNamesP}
 use Rattle.value_core.specs.declared.list.OrdinalNames.{OrdinalNames}
+use Rattle.value_core.specs.Limits.{most_ordinal_types, most_ordinal_values}
 use Rattle.value_core.specs.Values.{Name}
 use Rattle.scalar_typing.proofs.SoundLemmas.{then-sound}
 use Rattle.relation_typing.specs.Attributes.{name_typed}
@@ -56,8 +57,8 @@ MakeType values = (name : Name) → IsOrdinalType (record { name = name; values 
 few-make : (list : SomeNamesP) → IfOk (few_values list) MakeType
 few-make (syntax.SomeNames at first more) =
     then-sound (AreValues 1) MakeType (values_typed [] (first ∷ more)) _ (some-values first more) (λ values are.
-    then-sound (λ (_ : Unit {0}). IsTrue (nat_le (length values) 1000)) MakeType (check at E22 (nat_le (length values) 1000)) _ (held at E22 (nat_le (length values) 1000)) (λ _ few name.
-    record { some = are.0; few = leb-true (length values) 1000 few; different = are.1 }))
+    then-sound (λ (_ : Unit {0}). IsTrue (nat_le (length values) most_ordinal_values)) MakeType (check at E22 (nat_le (length values) most_ordinal_values)) _ (held at E22 (nat_le (length values) most_ordinal_values)) (λ _ few name.
+    record { some = are.0; few = leb-true (length values) most_ordinal_values few; different = are.1 }))
 
 -- ---- states
 
@@ -74,7 +75,7 @@ names-with s o =
     sym (append_assoc (map (λ (t : OrdinalNames). t.name) s.ordinals) (o.name ∷ []) relvars)
     ∙ ap (λ (names : List Name). names ++ relvars) (sym (map-append (λ (t : OrdinalNames). t.name) s.ordinals (o ∷ [])))
 
-types-more : (s : State) (o : OrdinalNames) → IsWellMade s → IsFree s o.name → IsOrdinalType o → suc (length s.ordinals) ≤ 16 → IsWellMade (with_type s o)
+types-more : (s : State) (o : OrdinalNames) → IsWellMade s → IsFree s o.name → IsOrdinalType o → suc (length s.ordinals) ≤ most_ordinal_types → IsWellMade (with_type s o)
 types-more s o made free is room = record {
   few = let long = length-append s.ordinals (o ∷ []) in omega (arith, long, room);
   ordinals = all-push IsOrdinalType s.ordinals o made.ordinals is;
@@ -93,5 +94,5 @@ module _ (s : State) (w : Word) (list : SomeNamesP) where
   ordinal-kept made =
       then-sound (IsFree s) IsKept (new_name s w) _ (free-name s w) (λ name free.
       then-sound MakeType IsKept (few_values list) _ (few-make list) (λ values make.
-      then-sound (λ (_ : Unit {0}). IsTrue (nat_lt (length s.ordinals) 16)) IsKept (check w.place E22 (nat_lt (length s.ordinals) 16)) _ (held w.place E22 (nat_lt (length s.ordinals) 16)) (λ _ room.
-      types-more s (record { name = name; values = values }) made free (make name) (ltb-true (length s.ordinals) 16 room))))
+      then-sound (λ (_ : Unit {0}). IsTrue (nat_lt (length s.ordinals) most_ordinal_types)) IsKept (check w.place E22 (nat_lt (length s.ordinals) most_ordinal_types)) _ (held w.place E22 (nat_lt (length s.ordinals) most_ordinal_types)) (λ _ room.
+      types-more s (record { name = name; values = values }) made free (make name) (ltb-true (length s.ordinals) most_ordinal_types room))))

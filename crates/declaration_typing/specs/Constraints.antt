@@ -11,6 +11,7 @@ use Rattle.utd_syntax.specs.Plain as syntax
 use Rattle.utd_syntax.specs.Plain.{Word, NamesP, NameListP, KeyP, ForeignP, UsedConstraintP, ConstraintP}
 use Rattle.value_core.specs.declared.constraint.Constraint.{Constraint}
 use Rattle.value_core.specs.declared.constraint.Constraint.TheVariants.{Key, Packed, WhenUnpacked, UKey, Foreign}
+use Rattle.value_core.specs.Limits.{most_constraints}
 use Rattle.value_core.specs.Values.{Name, Heading}
 use Rattle.scalar_core.specs.KindOf.{same_kind}
 use Rattle.scalar_typing.specs.Typings.{◌>>=◌, refused}
@@ -139,10 +140,10 @@ place_of (syntax.PackedOn at list) = at
 place_of (syntax.WhenUnpacked at list key) = at
 place_of (syntax.UsingConstraint at list c) = at
 
--- E22 at the 33rd
+-- E22 at the first behind the most
 abbrev pub refused_at : Option ConstraintP → OrFault (Unit {0})
 refused_at None = Ok tt
 refused_at (Some c) = refused (place_of c) E22
 
 abbrev pub few_constraints : List ConstraintP → OrFault (Unit {0})
-few_constraints constraints = refused_at (slice_get constraints 32)
+few_constraints constraints = refused_at (slice_get constraints most_constraints)

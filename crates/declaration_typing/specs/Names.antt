@@ -8,6 +8,7 @@ use Rattle.point_core.specs.declared.fault.Place.{Place}
 use Rattle.point_core.specs.declared.fault.Code.TheVariants.{E11, E22}
 use Rattle.point_core.specs.Faults.{OrFault}
 use Rattle.utd_syntax.specs.Plain.{Word}
+use Rattle.value_core.specs.Limits.{most_relvars}
 use Rattle.value_core.specs.Values.{Name}
 use Rattle.scalar_typing.specs.Typings.{◌>>=◌}
 use Rattle.relation_typing.specs.Attributes.{name_typed}
@@ -25,6 +26,6 @@ new_name s w = do
   free ← check w.place E11 (not (is_taken s name))
   Ok name
 
--- E22 there above 64 relvars and views
+-- E22 there where there are the most relvars and views
 abbrev pub room_for : State → Place → OrFault (Unit {0})
-room_for s place = check place E22 (nat_lt (length s.relvars) 64)
+room_for s place = check place E22 (nat_lt (length s.relvars) most_relvars)

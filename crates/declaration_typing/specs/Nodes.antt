@@ -2,6 +2,7 @@
 --     nodes_of entries tree      where these are the relvars and views
 --     capped_count      what a name counts for, as far as it is counted
 use Rattle.std.specs.Prelude.{ℕ, ◌+◌, min, List}
+use Rattle.value_core.specs.Limits.{most_nodes}
 use Rattle.value_core.specs.Values.{Name}
 use Rattle.tree_core.specs.Relvars.{PlainRelvar, base, view, Entries}
 use Rattle.tree_core.specs.Trees.{Tree, named, literal, infix_of, project, rename, restrict, extend, summarize, pack, unpack, using}
@@ -31,9 +32,9 @@ nodes_of entries t = count (each_in relvar_count entries) t
 
 -- ---- the same, as far as it is counted
 
--- the number, or 1,001 where it is greater
+-- the number, or one more than the most where it is greater
 abbrev pub capped : ℕ → ℕ
-capped n = min n 1001
+capped n = min n (most_nodes + 1)
 
 abbrev pub capped_count : List (Name × ℕ) → PlainRelvar → ℕ
 capped_count known r = capped (relvar_count known r)

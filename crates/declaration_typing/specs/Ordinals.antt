@@ -5,6 +5,7 @@ use Rattle.point_core.specs.declared.fault.Code.TheVariants.{E15, E22}
 use Rattle.point_core.specs.Faults.{OrFault}
 use Rattle.utd_syntax.specs.Plain as syntax
 use Rattle.utd_syntax.specs.Plain.{Word, SomeNamesP}
+use Rattle.value_core.specs.Limits.{most_ordinal_types, most_ordinal_values}
 use Rattle.value_core.specs.Values.{Name}
 use Rattle.scalar_typing.specs.Typings.{◌>>=◌}
 use Rattle.relation_typing.specs.Attributes.{name_typed}
@@ -28,17 +29,17 @@ values_typed before (w ∷ rest) = do
   next ← with_value before w
   values_typed next rest
 
--- then E22 at `{` above 1,000 values
+-- then E22 at `{` above the most values
 abbrev pub few_values : SomeNamesP → OrFault (List Name)
 few_values (syntax.SomeNames at first more) = do
   values ← values_typed [] (first ∷ more)
-  few ← check at E22 (nat_le (length values) 1000)
+  few ← check at E22 (nat_le (length values) most_ordinal_values)
   Ok values
 
--- E11 at the name, the values, and E22 at the name above 16 types
+-- E11 at the name, the values, and E22 at the name where there are the most types
 unfoldable pub ordinal_declared : State → Word → SomeNamesP → OrFault PlainDeclaration
 ordinal_declared s w list = do
   name ← new_name s w
   values ← few_values list
-  room ← check w.place E22 (nat_lt (length s.ordinals) 16)
+  room ← check w.place E22 (nat_lt (length s.ordinals) most_ordinal_types)
   Ok (ordinal_type name values)

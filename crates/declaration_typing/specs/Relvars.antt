@@ -10,7 +10,8 @@ use Rattle.meaning_core.specs.Declarations.{PlainDeclaration, base_relvar}
 use Rattle.declaration_typing.specs.Constraints.{constraints_typed, few_constraints}
 use Rattle.declaration_typing.specs.Names.{new_name, room_for}
 
--- E11 at the name, the heading, each constraint, E22 at the 33rd of them, and E22 at the name above 64 relvars and views
+-- E11 at the name, the heading, each constraint, E22 at the first of them behind the most, and E22 at the name
+-- where there are the most relvars and views
 unfoldable pub relvar_declared : State → Word → HeadingP → List ConstraintP → OrFault PlainDeclaration
 relvar_declared s w h constraints = do
   name ← new_name s w

@@ -5,6 +5,7 @@ use Rattle.point_core.specs.declared.fault.Place.{Place}
 use Rattle.point_core.specs.declared.fault.Code.TheVariants.{E22}
 use Rattle.point_core.specs.Faults.{OrFault}
 use Rattle.utd_syntax.specs.Plain.{Word, RelP}
+use Rattle.value_core.specs.Limits.{most_nodes}
 use Rattle.scalar_typing.specs.Typings.{◌>>=◌}
 use Rattle.tree_core.specs.Relvars.{State}
 use Rattle.tree_core.specs.Trees.{Tree}
@@ -14,10 +15,10 @@ use Rattle.tree_typing.specs.Trees.{tree_typed}
 use Rattle.declaration_typing.specs.Names.{new_name, room_for}
 use Rattle.declaration_typing.specs.Nodes.{nodes_of}
 
--- E22 there above 1,000 nodes, and above 64 relvars and views
+-- E22 there above the most nodes, and where there are the most relvars and views
 abbrev pub room_for_view : State → Place → Tree → OrFault (Unit {0})
 room_for_view s place t = do
-  few ← check place E22 (nat_le (nodes_of s.relvars t) 1000)
+  few ← check place E22 (nat_le (nodes_of s.relvars t) most_nodes)
   room_for s place
 
 -- E11 at the name, the expression, and E22 at the name

@@ -11,7 +11,7 @@ use std::alloc::Global;
 use tree_core::Relvars;
 use utd_syntax as syntax;
 use utd_syntax::Key;
-use value_core::{Constraint, Constraints, Heading, Name};
+use value_core::{Constraint, Constraints, Heading, MOST_CONSTRAINTS, Name};
 
 /// KEY.
 fn key_typed(alloc: Global, heading: &Heading, key: &Key) -> Result<Constraint, Stop>
@@ -73,11 +73,11 @@ fn place_of(constraint: &syntax::Constraint) -> Place
     }
 }
 
-/// The refusal of a constraint above 32.
+/// The refusal of a constraint above the most.
 pub(crate) fn few_constraints(constraints: &[syntax::Constraint]) -> Result<(), Stop>
     ensures { Gives (λ _. tt) result (rules.few_constraints (read_constraint_list constraints.now)) }
 {
-    match constraints.get(32) {
+    match constraints.get(MOST_CONSTRAINTS) {
         Some(constraint) => Err(Stop::Fault(Fault {
             place: place_of(constraint),
             code: Code::E22,

@@ -14,7 +14,7 @@ use relation_typing::name_typed;
 use std::alloc::Global;
 use tree_core::Relvars;
 use utd_syntax::Word;
-use value_core::{Name, OrdinalTypes};
+use value_core::{MOST_RELVARS, Name, OrdinalTypes};
 
 /// Whether an ordinal type has the name.
 fn is_ordinal(types: &OrdinalTypes, name: &Name) -> bool
@@ -43,5 +43,5 @@ pub(crate) fn new_name(alloc: Global, word: &Word, relvars: &Relvars) -> Result<
 pub(crate) fn room_for(relvars: &Relvars, place: Place) -> Result<(), Stop>
     ensures { Gives (λ _. tt) result (rules.room_for (read_relvars relvars.now) place) }
 {
-    check(place, Code::E22, relvars.list.len() < 64)
+    check(place, Code::E22, relvars.list.len() < MOST_RELVARS)
 }

@@ -1,5 +1,6 @@
 // How many nodes expressions have, those of the views that they name counted in, up to one more than there may be.
 ghost use Rattle.std.specs.Prelude.{◌≡◌, ◌+◌, IfOk, nat_le};
+ghost use Rattle.value_core.specs.Limits.{most_nodes};
 ghost use Rattle.tree_core.specs.Relvars.{read_relvar, read_relvars};
 ghost use Rattle.tree_core.specs.Trees.{read_tree};
 ghost use Rattle.meaning_core.specs.Names.{found, each_in};
@@ -9,10 +10,7 @@ ghost use Rattle.declaration_typing.specs.Nodes.{capped};
 use point_core::Memory;
 use std::alloc::Global;
 use tree_core::{RelForm, RelTree, Relvar, Relvars};
-use value_core::Name;
-
-/// The most nodes of a view.
-const MOST_NODES: usize = 1000;
+use value_core::{MOST_NODES, Name};
 
 /// The number, or one more than there may be.
 fn capped(nodes: usize) -> usize
@@ -86,7 +84,7 @@ fn counts(alloc: Global, relvars: &Relvars) -> Result<Vec<(Name, usize)>, Memory
 
 /// Whether an expression has no more nodes than a view may have.
 pub(crate) fn are_few(alloc: Global, tree: &RelTree, relvars: &Relvars) -> Result<bool, Memory>
-    ensures { IfOk result (λ few. few ≡ nat_le (rules.nodes_of (read_relvars relvars.now).relvars (read_tree tree.now)) 1000) }
+    ensures { IfOk result (λ few. few ≡ nat_le (rules.nodes_of (read_relvars relvars.now).relvars (read_tree tree.now)) most_nodes) }
 {
     let known = counts(alloc, relvars)?;
     Ok(count(known.as_slice(), tree) <= MOST_NODES)

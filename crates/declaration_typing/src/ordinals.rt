@@ -14,7 +14,7 @@ use relation_typing::name_typed;
 use std::alloc::Global;
 use tree_core::{Declaration, Relvars};
 use utd_syntax::{SomeNames, Word};
-use value_core::{Name, Names};
+use value_core::{MOST_ORDINAL_TYPES, MOST_ORDINAL_VALUES, Name, Names};
 
 /// One value more.
 fn with_value(alloc: Global, values: &mut IndexSet<Name>, word: &Word) -> Result<(), Stop>
@@ -51,7 +51,7 @@ fn few_values(alloc: Global, list: &SomeNames) -> Result<Names, Stop>
     ensures { Gives (λ v. v) result (rules.few_values (read_some_names list.now)) }
 {
     let values = values_typed(alloc, &list.first, list.more.list.as_slice())?;
-    check(list.place, Code::E22, values.len() <= 1000)?;
+    check(list.place, Code::E22, values.len() <= MOST_ORDINAL_VALUES)?;
     let names = listed(alloc, values)?;
     Ok(names)
 }
@@ -68,6 +68,7 @@ pub fn type_ordinal(
 {
     let name = new_name(alloc, word, relvars)?;
     let values = few_values(alloc, values)?;
-    check(word.place, Code::E22, relvars.ordinals.list.len() < 16)?;
+    let room = relvars.ordinals.list.len() < MOST_ORDINAL_TYPES;
+    check(word.place, Code::E22, room)?;
     Ok(Declaration::Ordinal(name, values))
 }

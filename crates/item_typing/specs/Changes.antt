@@ -5,6 +5,7 @@ use Rattle.point_core.specs.Faults.{OrFault}
 use Rattle.value_core.specs.Attributes.{among}
 use Rattle.utd_syntax.specs.Plain.{SetItemP, ElementP, Element, SomeElementsP, SomeElements, MaybePortionP, NoPortion, OfPortion, ConditionP, NoCondition, Where}
 use Rattle.value_core.specs.declared.list.OrdinalNames.{OrdinalNames}
+use Rattle.value_core.specs.Limits.{most_listed}
 use Rattle.value_core.specs.Values.{Name, Heading}
 use Rattle.scalar_core.specs.Expressions.{Expr}
 use Rattle.scalar_core.specs.KindOf.{same_kind}
@@ -49,11 +50,11 @@ parts_typed types heading before (part ∷ rest) = do
   next ← part_typed types heading before part
   parts_typed types heading next rest
 
--- then E17 at `{` above three
+-- then E17 at `{` above the most
 abbrev pub portion_typed : List OrdinalNames → Heading → SomeElementsP → OrFault PlainPortion
 portion_typed types heading (SomeElements at first more) = do
   parts ← parts_typed types heading [] (first ∷ more)
-  few ← check at E17 (nat_le (length parts) 3)
+  few ← check at E17 (nat_le (length parts) most_listed)
   Ok parts
 
 abbrev pub portion_if : List OrdinalNames → Heading → MaybePortionP → OrFault (Option PlainPortion)

@@ -13,6 +13,7 @@ use Rattle.value_core.specs.declared.list.OrdinalNames.{OrdinalNames}
 use Rattle.value_core.specs.Attributes.{among}
 use Rattle.relation_core.specs.Parts.{attributes_at}
 use Rattle.value_core.specs.Headings.{has_name}
+use Rattle.value_core.specs.Limits.{most_listed}
 use Rattle.value_core.specs.Values.{Name, Heading}
 use Rattle.scalar_core.specs.Expressions.{Expr}
 use Rattle.scalar_core.specs.KindOf.{same_kind}
@@ -74,7 +75,7 @@ names-checked-fine left right before (w ∷ rest) = then-fine (name_checked left
 pub list-fine : (left right : Heading) (list : NameListP) → IsNotE06 (list_checked left right list)
 list-fine left right (syntax.NameList at words) =
     then-fine (names_checked left right [] words) _ (names-checked-fine left right [] words) (λ names.
-    checked-fine at E17 (λ e. cc) (nat_le (length names) 3) _ (λ u. tt))
+    checked-fine at E17 (λ e. cc) (nat_le (length names) most_listed) _ (λ u. tt))
 
 -- ---- plain operators
 

@@ -7,7 +7,8 @@ use Rattle.utd_syntax.specs.Plain as syntax
 use Rattle.utd_syntax.specs.Plain.{Word, ScalarP, KindP, AttributeP, HeadingP, ElementP, ElementsP, TupleP, LiteralP}
 use Rattle.utd_ranges.specs.Ranges.{Each, NameIn, ScalarIn, AttributeIn, HeadingIn, ElementIn, ElementsIn, TupleIn, LiteralIn, is_utf8, is_unwritten, has_no_value}
 use Rattle.value_core.specs.declared.list.OrdinalNames.{OrdinalNames}
-use Rattle.value_core.specs.Headings.{has_name, most_attributes}
+use Rattle.value_core.specs.Headings.{has_name}
+use Rattle.value_core.specs.Limits.{most_attributes, most_name_bytes}
 use Rattle.value_core.specs.Values.{Heading}
 use Rattle.scalar_typing.specs.Names.{point_type}
 use Rattle.scalar_typing.specs.Scalars.{typed_scalar}
@@ -22,7 +23,7 @@ use Rattle.literal_laws.proofs.ScalarLaws.{not-above, point-fine, scalar-fine}
 
 pub name-fine : (w : Word) → NameIn has_no_value w → IsNotE06 (name_typed w)
 name-fine w h =
-    let short : nat_le (length w.bytes) 64 ≡ true = not-above 64 (length w.bytes) (or-left _ (is_unwritten t.Name w.bytes) h) in
+    let short : nat_le (length w.bytes) most_name_bytes ≡ true = not-above most_name_bytes (length w.bytes) (or-left _ (is_unwritten t.Name w.bytes) h) in
     let written : not (is_utf8 w.bytes && nat_le 1 (length w.bytes)) ≡ false = or-right _ (is_unwritten t.Name w.bytes) h in
     holds-fine w.place E06 (is_name w.bytes) w.bytes
     (and-true (is_utf8 w.bytes) _ (not-left (is_utf8 w.bytes) (nat_le 1 (length w.bytes)) written)

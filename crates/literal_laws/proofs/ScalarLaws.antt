@@ -3,12 +3,13 @@ use Rattle.std.proofs.Common.{◌≡◌, ℕ, List, Bool, true, false, ◌&&◌,
 use Rattle.point_core.specs.declared.fault.Place.{Place}
 use Rattle.point_core.specs.declared.fault.Code.TheVariants.{E06, E10, E12, E14}
 use Rattle.utd_syntax.specs.declared.terminal.Terminal.TheVariants as t
-use Rattle.utd_syntax.specs.Limits.{value_of, is_date, has_control}
+use Rattle.utd_syntax.specs.Literals.{value_of, is_date, has_control}
 use Rattle.utd_syntax.specs.Plain as syntax
 use Rattle.utd_syntax.specs.Plain.{Word, PointP, ScalarP, ConjP, NegP, CmpP, SumP, ProdP, SignP, PrimaryP}
 use Rattle.utd_syntax.specs.Table.{Plain, Negated, Dated}
 use Rattle.utd_ranges.specs.Ranges.{IsIn, NameIn, PointIn, ScalarIn, ConjIn, NegIn, CmpIn, SumIn, ProdIn, SignIn, PrimaryIn, is_utf8, is_unwritten, has_no_value}
 use Rattle.value_core.specs.declared.list.OrdinalNames.{OrdinalNames}
+use Rattle.value_core.specs.Limits.{most_text_bytes}
 use Rattle.value_core.specs.Values.{Heading}
 use Rattle.scalar_core.specs.Expressions.{and_expr, or_expr}
 use Rattle.scalar_typing.specs.Typings.{Typed, ◌>>=◌, value_or}
@@ -32,9 +33,9 @@ negative-fine at digits bytes h = then-fine (value_or digits E06 (negative_of by
 
 text-fine : (at : Place) (bytes : List ℕ) → IsIn has_no_value Plain t.Quoted bytes → IsNotE06 (text_literal at bytes)
 text-fine at bytes h =
-    let short : nat_le (length bytes) 255 ≡ true = not-above 255 (length bytes) (or-left _ (has_control bytes) (or-left _ (is_unwritten t.Quoted bytes) h)) in
+    let short : nat_le (length bytes) most_text_bytes ≡ true = not-above most_text_bytes (length bytes) (or-left _ (has_control bytes) (or-left _ (is_unwritten t.Quoted bytes) h)) in
     let valid : is_utf8 bytes ≡ true = not-left (is_utf8 bytes) _ (or-right _ (is_unwritten t.Quoted bytes) h) in
-    then-fine (value_or at E06 (text_of bytes)) _ (there-fine at E06 _ bytes (and-true (is_utf8 bytes) (nat_le (length bytes) 255) valid short)) (λ b. tt)
+    then-fine (value_or at E06 (text_of bytes)) _ (there-fine at E06 _ bytes (and-true (is_utf8 bytes) (nat_le (length bytes) most_text_bytes) valid short)) (λ b. tt)
 
 date-fine : (at quoted : Place) (bytes : List ℕ) → IsIn has_no_value Dated t.Quoted bytes → IsNotE06 (date_literal at quoted bytes)
 date-fine at quoted bytes h = then-fine (value_or quoted E06 (date_of bytes)) _ (there-fine quoted E06 (is_date bytes) _ (not-false (is_date bytes) (or-left _ (is_unwritten t.Quoted bytes) h))) (λ n. tt)

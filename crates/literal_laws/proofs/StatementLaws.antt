@@ -4,8 +4,9 @@ use Rattle.point_core.specs.Faults.{OrFault}
 use Rattle.utd_syntax.specs.Pieces.{Piece}
 use Rattle.utd_syntax.specs.Plain as syntax
 use Rattle.utd_syntax.specs.Plain.{Word, VarFormP, StatementP}
-use Rattle.utd_syntax.specs.Verdict.{verdict_on, Whole}
+use Rattle.utd_syntax.specs.Verdict.{Whole}
 use Rattle.utd_syntax.specs.Written.{Spells, of_statement}
+use Rattle.utd_ranges.specs.Limits.{verdict_on}
 use Rattle.utd_ranges.specs.Ranges.{NameIn, VarFormIn, AreWritten, has_no_value, HasValues}
 use Rattle.utd_ranges.proofs.RangeLaws.{has-values}
 use Rattle.tree_core.specs.Relvars.{State}

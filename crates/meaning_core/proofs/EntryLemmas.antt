@@ -12,9 +12,6 @@ use Rattle.meaning_core.specs.Names.{IsFirstAt}
 use Rattle.meaning_core.specs.Typing.{heading_named}
 use Rattle.meaning_core.specs.WellMade.{headings_of, IsRelvar, AreRelvars}
 
-abbrev Entry : Type 0
-Entry = Name × PlainRelvar
-
 -- ---- the first of a name among known names
 
 -- a name that is not among the known ones

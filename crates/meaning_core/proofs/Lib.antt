@@ -4,3 +4,4 @@ pub mod LimitLemmas
 pub mod LookupLemmas
 pub mod MadeLemmas
 pub mod RowlessLemmas
+pub mod PositionLemmas

@@ -1,9 +1,8 @@
 -- Operators that make no more rows than they are given stay within the limit. And the heading of a list of attributes is one.
-use Rattle.std.proofs.Common.{◌≡◌, ◌≤◌, ℕ, Bool, List, ◌++◌, length, map, refl, sym, ap, ap₂, ◌∙◌, arith, Ok, Err}
+use Rattle.std.proofs.Common.{◌≡◌, ◌≤◌, ℕ, List, ◌++◌, length, map, refl, sym, ap, ap₂, ◌∙◌, arith, Ok, Err}
 use Rattle.std.proofs.lemmas.Bool.Decides.{nat_tests}
 use Rattle.std.proofs.lemmas.List.{length-map}
 use Rattle.std.proofs.lemmas.List.Sorted.{IsPermutation-sym, IsPermutation-trans}
-use Rattle.std.specs.List.{filter}
 use Rattle.base_core.specs.Outcomes.{then_give, least_of_all}
 use Rattle.base_core.proofs.OutcomeLemmas.{least_of_all-Ok, length-first_of_all}
 use Rattle.base_core.proofs.SetOperatorLemmas.{length-in_order}
@@ -12,9 +11,8 @@ use Rattle.point_core.specs.declared.fault.Place.{Place}
 use Rattle.point_core.specs.contracts.fault.FaultOrd.TheImpl.Laws.{total-law}
 use Rattle.value_core.specs.Headings.{IsHeadingOf}
 use Rattle.value_core.specs.Values.{Name, Row, Heading, Relation, most_rows, rows_of, row_cmp}
-use Rattle.relation_core.proofs.FilterLemmas.{length-filter_at_most}
 use Rattle.relation_core.proofs.HeadingLemmas.{heading_ascends, heading_in_order, projected_few}
-use Rattle.relation_core.specs.Operators.{fault_order, is_true, restricted, extended}
+use Rattle.relation_core.specs.Operators.{fault_order, extended}
 use Rattle.relation_core.specs.Answers.{under}
 use Rattle.relation_core.specs.Parts.{projected, renamed, positions_in, IsRenamed}
 use Rattle.meaning_core.specs.Meanings.{limited, renamed_rows}
@@ -31,12 +29,6 @@ pub unlimited : {X : Type 0} (r : OrFault X) (f : X → List Row) (place : Place
     → then_give (then_give r (λ x. Ok (f x))) (limited place) ≡ then_give r (λ x. Ok (f x))
 unlimited (Ok x) f place h = limited_few place (f x) (h x refl)
 unlimited (Err e) f place h = refl
-
-pub restricted_few : (test : Row → OrFault Bool) (rows : List Row) (place : Place) → length rows ≤ most_rows
-    → then_give (restricted test rows) (limited place) ≡ restricted test rows
-restricted_few test rows place h =
-    unlimited (least_of_all fault_order (map test rows)) (λ _. filter (λ x. is_true (test x)) rows) place
-    (λ _ _. omega (arith, length-filter_at_most (λ (x : Row). is_true (test x)) rows))
 
 pub extended_few : (f : Row → OrFault Row) (rows : List Row) (place : Place) → length rows ≤ most_rows
     → then_give (extended f rows) (limited place) ≡ extended f rows

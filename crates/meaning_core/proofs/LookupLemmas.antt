@@ -1,7 +1,7 @@
 -- Names looked up in a map of relvars and views, and the headings of what expressions mean.
 --     found_at, none_passes      where a map finds a name, and where it finds none
 --     under_ok, operand_heading      what is known of a relation that an expression means
---     unary_meant, binary_meant      what nodes mean, from what their parts mean
+--     unary_meant      what a node means, from what its part means
 --     given_none      no other value is given
 use Rattle.std.proofs.Common.{◌≡◌, ℕ, zero, suc, ◌<◌, ◌≤◌, Bool, true, false, List, [], ◌∷◌, length, map, get_or, refl, sym, ap, ◌∙◌, subst, arith, cond, Option, Some, None, Result, Ok, Err, nat_lt}
 use Rattle.std.specs.List.{position, position_or_len}
@@ -11,7 +11,7 @@ use Rattle.std.specs.Prelude.{slice_get}
 use Rattle.std.specs.Str.{bytes_eq}
 use Rattle.std.proofs.lemmas.Bool.{true≢false}
 use Rattle.std.proofs.lemmas.List.Quantifiers.{position-Some}
-use Rattle.base_core.specs.Outcomes.{then_give, both}
+use Rattle.base_core.specs.Outcomes.{then_give}
 use Rattle.point_core.specs.declared.fault.Place.{Place}
 use Rattle.point_core.specs.declared.fault.Stop.{Stop}
 use Rattle.value_core.specs.Values.{Name, Row, Heading, Relation}
@@ -51,16 +51,11 @@ under_ok h (Err d) a e = absurd (cc)
 pub operand_heading : (t : RelTree) (m : RowsMeant) (a : Relation) → under t.heading m ≡ Ok a → a.heading ≡ heading_of (read_tree t)
 operand_heading t m a e = sym (under_ok t.heading m a e).1 ∙ sym (heading_of_form t.place t.heading t.form)
 
--- ---- one operand, and two
+-- ---- one operand
 
 pub unary_meant : (result : Result Relation Stop) (h from : Heading) (m : RowsMeant) (a : Relation) (f : List Row → RowsMeant)
     → under from m ≡ Ok a → Answers result (under h (f a.rows)) → Answers result (under h (then_give m f))
 unary_meant result h from m a f e told = subst (λ (z : RowsMeant). Answers result (under h (then_give z f))) (sym (under_ok from m a e).0) told
-
-pub binary_meant : (result : Result Relation Stop) (h left right : Heading) (m n : RowsMeant) (a b : Relation) (f : List Row → List Row → RowsMeant)
-    → under left m ≡ Ok a → under right n ≡ Ok b → Answers result (under h (f a.rows b.rows)) → Answers result (under h (both m n f))
-binary_meant result h left right m n a b f d e told =
-    unary_meant result h left m a (λ x. then_give n (f x)) d (unary_meant result h right n b (f a.rows) e told)
 
 -- ---- where a map finds a name
 

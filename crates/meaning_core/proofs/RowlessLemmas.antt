@@ -1,11 +1,10 @@
 -- Whether a state is well made does not turn on the rows of its relvars.
 --     bare, bare_all      relvars without their rows
 --     bare-keeps      a state stays well made where its relvars differ in their rows alone
---     given-keeps, given_each-keeps      other values of the same headings are such a difference
---     headings-keep, heading-keeps ..      the same is looked up in states that differ so
---     nothing-well_made      the state of no relvars is well made
-use Rattle.std.proofs.Common.{◌≡◌, ℕ, Bool, true, false, List, [], ◌∷◌, ◌++◌, map, cond, refl, sym, ap, ap₂, ◌∙◌, subst, arith, true≢false, IsTrue, Option, Some, None, option_map}
-use Rattle.std.specs.List.{All, AllByRecursion, IsDistinct}
+--     heading-keeps, is_base-keeps      the same is looked up in states that differ so
+--     is_given-keeps      and the same may be given in place of a value
+use Rattle.std.proofs.Common.{◌≡◌, ℕ, Bool, true, false, List, [], ◌∷◌, ◌++◌, map, cond, refl, sym, ap, ap₂, ◌∙◌, subst, IsTrue, Option, Some, None, option_map}
+use Rattle.std.specs.List.{All, IsDistinct}
 use Rattle.std.specs.Str.{bytes_eq}
 use Rattle.std.proofs.lemmas.List.{map-append}
 use Rattle.point_core.specs.declared.fault.Place.{Place}
@@ -16,10 +15,9 @@ use Rattle.value_core.specs.Values.{Name, Heading, Relation}
 use Rattle.tree_core.specs.Relvars.{PlainRelvar, base, view, Entries, State, relvar_named, relvar_heading, heading_if, constraints_if}
 use Rattle.tree_core.specs.Trees.{Tree, named}
 use Rattle.meaning_core.specs.Histories.{joined_history, last_point, type_at, name_at}
-use Rattle.meaning_core.specs.Names.{each_after, given, given_relvar, with_value}
+use Rattle.meaning_core.specs.Names.{with_value}
 use Rattle.meaning_core.specs.Typing.{is_declared, IsTypedTree}
-use Rattle.meaning_core.specs.WellMade.{sizes_of, headings_of, all_names, IsBase, FitsHeadings, FitsNamed, IsConstraint, rule_among, IsOfRule, IsHistory, IsRelvar, AreRelvars, IsWellMade, IsGiven}
-use Rattle.meaning_core.proofs.MadeLemmas.{same_name, own_name}
+use Rattle.meaning_core.specs.WellMade.{sizes_of, headings_of, IsBase, FitsHeadings, FitsNamed, IsConstraint, rule_among, IsOfRule, IsHistory, IsRelvar, AreRelvars, IsWellMade, IsGiven}
 
 -- ---- relvars without their rows
 
@@ -127,17 +125,9 @@ AreRelvars-bare sizes before (r ∷ rest) =
 -- ---- states that differ in their rows alone
 
 -- the same is looked up in both
-pub headings-keep : (entries old : Entries) → bare_all entries ≡ bare_all old → headings_of entries ≡ headings_of old
-headings-keep entries old e = sym (headings-bare entries) ∙ (ap headings_of e ∙ headings-bare old)
-
 pub heading-keeps : (entries old : Entries) → bare_all entries ≡ bare_all old → (name : Name) → heading_if (relvar_named entries name) ≡ heading_if (relvar_named old name)
 heading-keeps entries old e name =
     sym (heading_named-bare entries name) ∙ (ap (λ (es : Entries). heading_if (relvar_named es name)) e ∙ heading_named-bare old name)
-
-pub constraints-keep : (entries old : Entries) → bare_all entries ≡ bare_all old → (name : Name)
-    → constraints_if (relvar_named entries name) ≡ constraints_if (relvar_named old name)
-constraints-keep entries old e name =
-    sym (constraints_named-bare entries name) ∙ (ap (λ (es : Entries). constraints_if (relvar_named es name)) e ∙ constraints_named-bare old name)
 
 pub is_base-keeps : (entries old : Entries) → bare_all entries ≡ bare_all old → (name : Name) → IsBase (relvar_named old name) → IsBase (relvar_named entries name)
 is_base-keeps entries old e name h =
@@ -157,78 +147,9 @@ bare-keeps s entries e h =
 
 -- ---- another value of a base relvar
 
--- none of the entries has the name
-abbrev IsUnnamed : Name → Entries → Type 0
-IsUnnamed name [] = Unit {0}
-IsUnnamed name (r ∷ rest) = (bytes_eq r.0 name ≡ false) × IsUnnamed name rest
-
-unnamed-behind : (name own : Name) (rest : Entries) → bytes_eq own name ≡ true → AllByRecursion (λ n. bytes_eq own n ≡ false) (map (λ r. r.0) rest) → IsUnnamed name rest
-unnamed-behind name own [] e h = tt
-unnamed-behind name own (r ∷ rest) e h = (
-  apart (bytes_eq r.0 name) refl,
-  unnamed-behind name own rest e h.1,
-)
-  where
-    apart : (b : Bool) → bytes_eq r.0 name ≡ b → bytes_eq r.0 name ≡ false
-    apart true k =
-        let one : own ≡ r.0 = same_name own name e ∙ sym (same_name r.0 name k) in
-        absurd (true≢false (sym (own_name own) ∙ (ap (bytes_eq own) one ∙ h.0)))
-    apart false k = k
-
-given-unnamed : (name : Name) (value : Relation) (entries : Entries) → IsUnnamed name entries → given (Some name) (Some value) entries ≡ entries
-given-unnamed name value [] h = refl
-given-unnamed name value (r ∷ rest) h =
-    ap₂ (λ (x : PlainRelvar) (es : Entries). (r.0, x) ∷ es) (ap (λ b. cond b (with_value value r.1) r.1) h.0) (given-unnamed name value rest h.1)
-
 pub bare-with_value : (value : Relation) (r : PlainRelvar) → value.heading ≡ relvar_heading r → bare (with_value value r) ≡ bare r
 bare-with_value value (base old constraints) e = ap (λ (h : Heading). base (record { heading = h; rows = [] }) constraints) e
 bare-with_value value (view t history) e = refl
-
-given-first : (name : Name) (value : Relation) (r : Name × PlainRelvar) (rest : Entries) (b : Bool) → bytes_eq r.0 name ≡ b → (b ≡ true → IsUnnamed name rest)
-    → (value.heading ≡ heading_if (relvar_named rest name) → bare_all (given (Some name) (Some value) rest) ≡ bare_all rest)
-    → value.heading ≡ heading_if (relvar_named (r ∷ rest) name) → bare_all (given (Some name) (Some value) (r ∷ rest)) ≡ bare_all (r ∷ rest)
-given-first name value r rest true k new more e =
-    let same : value.heading ≡ relvar_heading r.1 = e ∙ ap (λ b. heading_if (cond b (Some r.1) (relvar_named rest name))) k in
-    let first : bare (given_relvar (Some name) (Some value) r.0 r.1) ≡ bare r.1 = ap (λ b. bare (cond b (with_value value r.1) r.1)) k ∙ bare-with_value value r.1 same in
-    ap₂ (λ (x : PlainRelvar) (es : Entries). (r.0, x) ∷ es) first (ap bare_all (given-unnamed name value rest (new refl)))
-given-first name value r rest false k new more e =
-    let same : value.heading ≡ heading_if (relvar_named rest name) = e ∙ ap (λ b. heading_if (cond b (Some r.1) (relvar_named rest name))) k in
-    let first : bare (given_relvar (Some name) (Some value) r.0 r.1) ≡ bare r.1 = ap (λ b. bare (cond b (with_value value r.1) r.1)) k in
-    ap₂ (λ (x : PlainRelvar) (es : Entries). (r.0, x) ∷ es) first (more same)
-
-pub given-bare : (name : Name) (value : Relation) (entries : Entries) → IsDistinct bytes_eq (map (λ r. r.0) entries) → value.heading ≡ heading_if (relvar_named entries name)
-    → bare_all (given (Some name) (Some value) entries) ≡ bare_all entries
-unfolding IsDistinct
-given-bare name value [] d e = refl
-given-bare name value (r ∷ rest) d e =
-    given-first name value r rest (bytes_eq r.0 name) refl (λ k. unnamed-behind name r.0 rest k d.0) (given-bare name value rest d.1) e
-
-names-behind : (xs ys : List Name) → IsDistinct bytes_eq (xs ++ ys) → IsDistinct bytes_eq ys
-unfolding IsDistinct
-names-behind [] ys d = d
-names-behind (x ∷ xs) ys d = names-behind xs ys d.1
-
--- another value, where it has the relvar's heading
-pub given-same : (s : State) (name : Name) (value : Relation) → IsWellMade s → value.heading ≡ heading_if (relvar_named s.relvars name)
-    → bare_all (given (Some name) (Some value) s.relvars) ≡ bare_all s.relvars
-given-same s name value h e = given-bare name value s.relvars (names-behind (map (λ o. o.name) s.ordinals) (map (λ r. r.0) s.relvars) h.different) e
-
--- a state with another value of a relvar, of its heading, is well made
-pub given-keeps : (s : State) (name : Name) (value : Relation) → IsWellMade s → value.heading ≡ heading_if (relvar_named s.relvars name)
-    → IsWellMade (record s { relvars = given (Some name) (Some value) s.relvars })
-given-keeps s name value h e = bare-keeps s (given (Some name) (Some value) s.relvars) (given-same s name value h e) h
-
-given-nothing : (with : Option Name) (entries : Entries) → given with None entries ≡ entries
-given-nothing with [] = refl
-given-nothing (Some name) (r ∷ rest) = ap (λ (es : Entries). r ∷ es) (given-nothing (Some name) rest)
-given-nothing None (r ∷ rest) = ap (λ (es : Entries). r ∷ es) (given-nothing None rest)
-
-pub given_if-keeps : (s : State) (with : Option Name) (value : Option Relation) → IsWellMade s → IsGiven s.relvars with value
-    → IsWellMade (record s { relvars = given with value s.relvars })
-given_if-keeps s None None h g = subst (λ (es : Entries). IsWellMade (record s { relvars = es })) (sym (given-nothing None s.relvars)) h
-given_if-keeps s None (Some value) h g = absurd g
-given_if-keeps s (Some name) None h g = absurd g
-given_if-keeps s (Some name) (Some value) h g = given-keeps s name value h g.1
 
 -- what is given in one of two states that differ in their rows alone is given in the other
 pub is_given-keeps : (entries old : Entries) → bare_all entries ≡ bare_all old → (with : Option Name) (value : Option Relation) → IsGiven old with value → IsGiven entries with value
@@ -241,42 +162,3 @@ is_given-keeps entries old e (Some name) (Some value) g = (is_base-keeps entries
 pub own-given : (entries : Entries) (name : Name) (value : Relation) (constraints : List Constraint) → relvar_named entries name ≡ Some (base value constraints)
     → IsGiven entries (Some name) (Some value)
 own-given entries name value constraints e = (subst IsBase (sym e) tt, ap heading_if (sym e))
-
--- ---- other values of several relvars, one after another
-
-abbrev pub given_each : List (Name × Relation) → Entries → Entries
-given_each [] entries = entries
-given_each (c ∷ changes) entries = given_each changes (given (Some c.0) (Some c.1) entries)
-
--- each value has the heading of its relvar
-abbrev pub HaveHeadings : Entries → List (Name × Relation) → Type 0
-HaveHeadings entries [] = Unit {0}
-HaveHeadings entries (c ∷ changes) = (c.1.heading ≡ heading_if (relvar_named entries c.0)) × HaveHeadings entries changes
-
-headings-had : (entries old : Entries) (changes : List (Name × Relation)) → bare_all entries ≡ bare_all old → HaveHeadings old changes → HaveHeadings entries changes
-headings-had entries old [] e h = tt
-headings-had entries old (c ∷ changes) e h = (h.0 ∙ sym (heading-keeps entries old e c.0), headings-had entries old changes e h.1)
-
-pub given_each-same : (s : State) (changes : List (Name × Relation)) → IsWellMade s → HaveHeadings s.relvars changes
-    → bare_all (given_each changes s.relvars) ≡ bare_all s.relvars
-given_each-same s [] h g = refl
-given_each-same s (c ∷ changes) h g =
-    let next = given (Some c.0) (Some c.1) s.relvars in
-    let same = given-same s c.0 c.1 h g.0 in
-    given_each-same (record s { relvars = next }) changes (bare-keeps s next same h) (headings-had next s.relvars changes same g.1) ∙ same
-
-pub given_each-keeps : (s : State) (changes : List (Name × Relation)) → IsWellMade s → HaveHeadings s.relvars changes
-    → IsWellMade (record s { relvars = given_each changes s.relvars })
-given_each-keeps s changes h g = bare-keeps s (given_each changes s.relvars) (given_each-same s changes h g) h
-
--- ---- the state of nothing
-
-abbrev pub nothing : State
-nothing = record { ordinals = []; relvars = [] }
-
-nothing-differs : IsDistinct bytes_eq (all_names nothing)
-unfolding IsDistinct
-nothing-differs = tt
-
-pub nothing-well_made : IsWellMade nothing
-nothing-well_made = record { few = omega arith; ordinals = λ k d l. absurd (omega arith); different = nothing-differs; relvars = tt }

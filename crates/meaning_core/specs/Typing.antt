@@ -14,6 +14,7 @@ use Rattle.value_core.specs.declared.kind.Kind.{Kind}
 use Rattle.value_core.specs.declared.kind.Kind.TheVariants.{Truth, Char, Point, Span}
 use Rattle.value_core.specs.Attributes.{among}
 use Rattle.value_core.specs.Headings.{IsHeadingOf, has_name}
+use Rattle.value_core.specs.Limits.{most_attributes, most_listed}
 use Rattle.value_core.specs.Values.{Name, Heading, is_heading}
 use Rattle.scalar_core.specs.Expressions.{Expr, constant, attribute, one, pair, and_expr, or_expr}
 use Rattle.scalar_core.specs.KindOf.{same_kind}
@@ -47,7 +48,7 @@ is_kind sizes Char = true
 is_kind sizes (Point t) = is_type sizes t
 is_kind sizes (Span t) = is_type sizes t
 
--- at most 16 attributes, with different names and of kinds there are
+-- few enough attributes, with different names and of kinds there are
 abbrev pub is_declared : List ℕ → Heading → Bool
 is_declared sizes h = is_heading h && list_all (λ a. is_kind sizes a.1) h
 
@@ -101,7 +102,7 @@ abbrev pub IsInfix : InfixWord → Heading → Heading → Heading → Type 0
 IsInfix Union left right h = (left ≡ right) × (h ≡ left)
 IsInfix Intersect left right h = (left ≡ right) × (h ≡ left)
 IsInfix Minus left right h = (left ≡ right) × (h ≡ left)
-IsInfix Join left right h = HaveEqualKinds left right × (h ≡ joined_heading left right) × (length h ≤ 16)
+IsInfix Join left right h = HaveEqualKinds left right × (h ≡ joined_heading left right) × (length h ≤ most_attributes)
 IsInfix Matching left right h = HaveEqualKinds left right × (h ≡ left)
 IsInfix NotMatching left right h = HaveEqualKinds left right × (h ≡ left)
 
@@ -147,12 +148,12 @@ abbrev pub is_span : Kind → Bool
 is_span (Span t) = true
 is_span _ = false
 
--- different positions of interval attributes, at most three
+-- different positions of interval attributes, and few enough
 pub record IsList (heading : Heading) (acl : List ℕ) : Type 0 where
   pub within : All (λ (i : ℕ). i < length heading) acl
   pub different : IsDistinct nat_eq acl
   pub spans : IsTrue (list_all (λ i. is_span (kind_at heading i)) acl)
-  pub few : length acl ≤ 3
+  pub few : length acl ≤ most_listed
 
 -- the attribute of the name has the same kind in both
 abbrev pub is_alike_at : Heading → Heading → Name → Bool

@@ -10,6 +10,7 @@ use Rattle.value_core.specs.declared.kind.Kind.{Kind}
 use Rattle.value_core.specs.declared.kind.Kind.TheVariants.{Truth, Char, Point, Span}
 use Rattle.value_core.specs.declared.list.OrdinalNames.{OrdinalNames}
 use Rattle.value_core.specs.Attributes.{among}
+use Rattle.value_core.specs.Limits.{most_ordinal_types, most_ordinal_values}
 use Rattle.value_core.specs.Values.{Name, Heading, Relation}
 use Rattle.relation_core.specs.Parts.{kind_at}
 use Rattle.tree_core.specs.Relvars.{PlainRelvar, base, view, Entries, State, relvar_named, relvar_heading, heading_if, constraints_if}
@@ -21,10 +22,10 @@ use Rattle.meaning_core.specs.Typing.{Headings, IsList, is_declared, IsTypedTree
 abbrev pub sizes_of : List OrdinalNames → List ℕ
 sizes_of ordinals = map (λ o. length o.values) ordinals
 
--- 1 to 1,000 different names
+-- different names, one at least and few enough
 pub record IsOrdinalType (o : OrdinalNames) : Type 0 where
   pub some : 1 ≤ length o.values
-  pub few : length o.values ≤ 1000
+  pub few : length o.values ≤ most_ordinal_values
   pub different : IsDistinct bytes_eq o.values
 
 -- the headings of the relvars and views
@@ -125,7 +126,7 @@ AreRelvars sizes before (r ∷ rest) = IsRelvar sizes before r.0 r.1 × AreRelva
 
 -- a well made state
 pub record IsWellMade (s : State) : Type 0 where
-  pub few : length s.ordinals ≤ 16
+  pub few : length s.ordinals ≤ most_ordinal_types
   pub ordinals : All IsOrdinalType s.ordinals
   pub different : IsDistinct bytes_eq (all_names s)
   pub relvars : AreRelvars (sizes_of s.ordinals) [] s.relvars

@@ -49,7 +49,7 @@ agreeing_heading place left right = do
   agree ← check place E12 (kinds_agree left right)
   Ok left
 
--- and E17 above 16 attributes
+-- and E17 above the most attributes
 abbrev pub join_heading : Place → Heading → Heading → OrFault Heading
 join_heading place left right = do
   agree ← check place E12 (kinds_agree left right)

@@ -8,6 +8,7 @@ use Rattle.point_core.specs.declared.fault.Code.TheVariants.{E12, E14, E15, E16,
 use Rattle.point_core.specs.Faults.{OrFault}
 use Rattle.utd_syntax.specs.Plain.{Word, NameListP, NameList}
 use Rattle.value_core.specs.Headings.{has_name}
+use Rattle.value_core.specs.Limits.{most_listed}
 use Rattle.value_core.specs.declared.kind.Kind.{Kind}
 use Rattle.value_core.specs.Values.{Name, Heading}
 use Rattle.scalar_core.specs.KindOf.{same_kind}
@@ -51,9 +52,9 @@ names_checked left right before (w ∷ rest) = do
   checked ← name_checked left right before w
   names_checked left right (before ++ w.bytes ∷ []) rest
 
--- then E17 at `(` above three
+-- then E17 at `(` above the most
 abbrev pub list_checked : Heading → Heading → NameListP → OrFault (List Name)
 list_checked left right (NameList at words) = do
   names ← names_checked left right [] words
-  few ← check at E17 (nat_le (length names) 3)
+  few ← check at E17 (nat_le (length names) most_listed)
   Ok names

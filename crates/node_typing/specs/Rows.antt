@@ -36,7 +36,7 @@ items_typed types from before (SetItem w s ∷ rest) = do
   next ← item_typed types from before w s
   items_typed types from next rest
 
--- then E17 at EXTEND above 16 attributes
+-- then E17 at EXTEND above the most attributes
 abbrev pub extension_made : List OrdinalNames → Place → Heading → SetsP → OrFault Made
 extension_made types place from sets = do
   made ← items_typed types from none_made (item_list sets)

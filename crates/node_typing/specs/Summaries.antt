@@ -81,7 +81,7 @@ groups_typed from (syntax.Names at words) = do
   named ← positions_typed from [] words
   Ok (kept true named from)
 
--- the aggregates beside the groups' attributes, then E17 at SUMMARIZE above 16 attributes
+-- the aggregates beside the groups' attributes, then E17 at SUMMARIZE above the most attributes
 abbrev pub aggregates_made : List OrdinalNames → Place → Heading → List ℕ → AggregatesP → OrFault Summed
 aggregates_made types place from by aggregates = do
   made ← aggregates_typed types from ([], attributes_at by from) (aggregate_list aggregates)

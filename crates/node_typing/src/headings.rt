@@ -3,6 +3,7 @@ ghost use Rattle.std.specs.Prelude.{◌≡◌, ◌<◌, ◌≤◌, ◌++◌, [],
 ghost use Rattle.std.specs.List.{All};
 ghost use Rattle.std.specs.Ordering.{nat_cmp};
 ghost use Rattle.base_core.specs.Sets.{is_set};
+ghost use Rattle.value_core.specs.Limits.{most_attributes};
 ghost use Rattle.relation_core.specs.Joins.{joined_heading};
 ghost use Rattle.relation_core.specs.Parts.{attributes_at};
 ghost use Rattle.scalar_core.specs.Answers.{Gives};
@@ -106,9 +107,9 @@ pub(crate) fn made_beside(
     few_attributes(alloc, place, attributes)
 }
 
-/// The heading of at most 16 attributes.
+/// The heading of the attributes, which are few enough.
 pub(crate) fn heading_of_list(alloc: Global, list: &[(Name, Kind)]) -> Result<Heading, Memory>
-    requires { length list.now ≤ 16 }
+    requires { length list.now ≤ most_attributes }
     ensures { IfOk result (λ h. h ≡ rules.heading_of_list list.now) }
 {
     let attributes = put_both(alloc, list, &[])?;

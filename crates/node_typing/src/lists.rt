@@ -1,6 +1,7 @@
 // Lists of interval attributes.
 ghost use Rattle.std.specs.Prelude.{◌≡◌, [], IfOk, length, nat_le};
 ghost use Rattle.utd_syntax.specs.Read.{read_list, read_name, read_name_list};
+ghost use Rattle.value_core.specs.Limits.{most_listed};
 ghost use Rattle.scalar_core.specs.Answers.{Gives};
 ghost use Rattle.meaning_core.specs.Meanings.{positions_of};
 ghost use Rattle.meaning_core.specs.Typing.{is_span};
@@ -14,7 +15,7 @@ use point_core::{Code, Memory, Stop};
 use scalar_typing::same_kind;
 use std::alloc::Global;
 use utd_syntax::{NameList, Word};
-use value_core::{Heading, Kind, Name, Positions};
+use value_core::{Heading, Kind, MOST_LISTED, Name, Positions};
 
 /// Whether a word has the name.
 pub(crate) fn named_in(words: &[Word], name: &[u8]) -> bool
@@ -70,12 +71,12 @@ fn names_checked(left: &[(Name, Kind)], right: &[(Name, Kind)], words: &[Word]) 
     Ok(())
 }
 
-/// The refusal of a list of more than three names.
+/// The refusal of a list of too many names.
 fn few_names(list: &NameList) -> Result<(), Stop>
-    ensures { Gives (λ _. tt) result (check list.now.place E17 (nat_le (length (names_of_words (read_name_list list.now.names.list.items))) 3)) }
+    ensures { Gives (λ _. tt) result (check list.now.place E17 (nat_le (length (names_of_words (read_name_list list.now.names.list.items))) most_listed)) }
 {
     let words = list.names.list.as_slice();
-    check(list.place, Code::E17, words.len() <= 3)
+    check(list.place, Code::E17, words.len() <= MOST_LISTED)
 }
 
 /// The refusals of a list over the headings of two operands, or twice that of one.

@@ -35,7 +35,7 @@ pub fn infix_named(word: syntax::InfixWord) -> InfixWord
     }
 }
 
-/// An operator between two relations: E13 or E12 at its first word, and E17 there for a join of more than 16 attributes.
+/// An operator between two relations: E13 or E12 at its first word, and E17 there for a join of too many attributes.
 pub fn type_infix(
     alloc: Global,
     place: Place,

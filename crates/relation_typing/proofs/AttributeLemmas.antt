@@ -17,6 +17,7 @@ use Rattle.std.proofs.lemmas.Bool.Decides.{same_from_decides}
 use Rattle.base_core.proofs.SetLemmas.{AllAfter, Ascends, Ascends-from_sorted}
 use Rattle.value_core.specs.declared.kind.Kind.{Kind}
 use Rattle.value_core.specs.Headings.{has_name, IsHeadingOf}
+use Rattle.value_core.specs.Limits.{most_attributes, most_name_bytes}
 use Rattle.value_core.specs.Values.{Name, Heading, name_cmp, attribute_cmp}
 use Rattle.relation_core.proofs.HeadingLemmas.{heading_in_order}
 use Rattle.relation_typing.specs.Attributes.{is_name, heading_if_few}
@@ -35,12 +36,12 @@ not-three false b c bytes h = refl
 pub made-name : {E : Type 0} (bytes text : List ℕ) (r : Result (Option (List ℕ)) E) → text ≡ bytes → IsUtf8 bytes →
     IfOk r (λ o. MatchOption o (IsNameLength text → ⊥) (λ n. (n ≡ text) × IsNameLength text)) → IfOk r (λ n. n ≡ (if is_name bytes then Some bytes else None))
 made-name bytes text (Ok None) same valid h =
-    not-three (is_utf8 bytes) (nat_le 1 (length bytes)) (nat_le (length bytes) 64) bytes
-    (λ least most. h (subst IsNameLength (sym same) (leb-true 1 (length bytes) least, leb-true (length bytes) 64 most)))
+    not-three (is_utf8 bytes) (nat_le 1 (length bytes)) (nat_le (length bytes) most_name_bytes) bytes
+    (λ least most. h (subst IsNameLength (sym same) (leb-true 1 (length bytes) least, leb-true (length bytes) most_name_bytes most)))
 made-name bytes text (Ok (Some n)) same valid h =
     let long : IsNameLength bytes = subst IsNameLength same h.1 in
-    ap Some (h.0 ∙ same) ∙ three (is_utf8 bytes) (nat_le 1 (length bytes)) (nat_le (length bytes) 64) bytes
-    (eq-eqb (utf8_valid_len bytes) (length bytes) (utf8_valid_len-IsUtf8 bytes valid)) (le-leb 1 (length bytes) long.0) (le-leb (length bytes) 64 long.1)
+    ap Some (h.0 ∙ same) ∙ three (is_utf8 bytes) (nat_le 1 (length bytes)) (nat_le (length bytes) most_name_bytes) bytes
+    (eq-eqb (utf8_valid_len bytes) (length bytes) (utf8_valid_len-IsUtf8 bytes valid)) (le-leb 1 (length bytes) long.0) (le-leb (length bytes) most_name_bytes long.1)
 made-name bytes text (Err e) same valid h = tt
 
 -- ---- the attributes of a map
@@ -74,8 +75,8 @@ keys-ascend (a ∷ rest) h = (keys-after a.0 a.1 rest h.0, keys-ascend rest h.1)
 pub in-order : (attributes : Heading) → IsStrictlySortedBy name_cmp (keys_of attributes) → Ascends attribute_cmp attributes
 in-order attributes h = keys-ascend attributes (Ascends-from_sorted name_cmp (keys_of attributes) h)
 
-pub few-made : (attributes heading : Heading) → Ascends attribute_cmp attributes → IsHeadingOf attributes heading → length attributes ≤ 16 →
+pub few-made : (attributes heading : Heading) → Ascends attribute_cmp attributes → IsHeadingOf attributes heading → length attributes ≤ most_attributes →
     Some heading ≡ heading_if_few attributes
 few-made attributes heading up made few =
     let same : heading ≡ attributes = heading_in_order attributes heading up made.same made.ordered in
-    rw (le-leb (length attributes) 16 few) (ap Some same)
+    rw (le-leb (length attributes) most_attributes few) (ap Some same)

@@ -6,7 +6,8 @@ use Rattle.point_core.specs.declared.fault.Code.TheVariants.{E06, E15, E17}
 use Rattle.point_core.specs.Faults.{OrFault}
 use Rattle.utd_syntax.specs.Plain.{Word}
 use Rattle.value_core.specs.declared.kind.Kind.{Kind}
-use Rattle.value_core.specs.Headings.{has_name, most_attributes}
+use Rattle.value_core.specs.Headings.{has_name}
+use Rattle.value_core.specs.Limits.{most_attributes, most_name_bytes}
 use Rattle.value_core.specs.Values.{Name, Heading, name_cmp}
 use Rattle.scalar_typing.specs.Literals.{is_utf8}
 use Rattle.scalar_typing.specs.Typings.{◌>>=◌, refused}
@@ -15,9 +16,9 @@ use Rattle.scalar_typing.specs.Typings.{◌>>=◌, refused}
 abbrev pub with_attribute : Heading → Name → Kind → Heading
 with_attribute attributes name kind = insert_entry name_cmp attributes name kind
 
--- the name that is written; one that is not 1 to 64 bytes of UTF-8 is E06, and the reading of a text lets none through
+-- the name that is written; one that is empty, too long or not UTF-8 is E06, and the reading of a text lets none through
 abbrev pub is_name : Name → Bool
-is_name bytes = is_utf8 bytes && (nat_le 1 (length bytes) && nat_le (length bytes) 64)
+is_name bytes = is_utf8 bytes && (nat_le 1 (length bytes) && nat_le (length bytes) most_name_bytes)
 
 abbrev pub name_typed : Word → OrFault Name
 name_typed w = if is_name w.bytes then Ok w.bytes else refused w.place E06
@@ -32,6 +33,6 @@ new_name attributes w = do
 abbrev pub heading_if_few : Heading → Option Heading
 heading_if_few attributes = if nat_le (length attributes) most_attributes then Some attributes else None
 
--- E17 there above 16 attributes
+-- E17 there above the most attributes
 abbrev pub few_attributes : Place → Heading → OrFault Heading
 few_attributes place attributes = if nat_le (length attributes) most_attributes then Ok attributes else refused place E17

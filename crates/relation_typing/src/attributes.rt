@@ -1,6 +1,7 @@
 // Attributes by their names.
 ghost use Rattle.std.specs.Prelude.{◌≡◌, ◌≤◌, Some, None, IfOk, OnOk, length, if◌then◌else◌};
 ghost use Rattle.value_core.specs.Headings.{has_name};
+ghost use Rattle.value_core.specs.Limits.{most_attributes};
 ghost use Rattle.scalar_core.specs.Answers.{Gives};
 ghost use Rattle.relation_typing.specs.Attributes as rules;
 ghost use Rattle.utd_syntax.specs.Read.{read_name};
@@ -10,7 +11,7 @@ use std::alloc::Global;
 use std::collections::BTreeMap;
 use std::str;
 use utd_syntax::Word;
-use value_core::{Heading, HeadingRefuse, Kind, Name};
+use value_core::{Heading, HeadingRefuse, Kind, MOST_ATTRIBUTES, Name};
 
 /// The kinds of attributes by their names.
 pub type Attributes = BTreeMap<Name, Kind>;
@@ -79,7 +80,7 @@ pub fn listed(alloc: Global, attributes: Attributes) -> Result<Vec<(Name, Kind)>
 fn heading_if_few(alloc: Global, attributes: Attributes) -> Result<Option<Heading>, Memory>
     ensures { IfOk result (λ h. h ≡ rules.heading_if_few attributes.entries) }
 {
-    if attributes.len() > 16 {
+    if attributes.len() > MOST_ATTRIBUTES {
         return Ok(None);
     }
     match Heading::make(alloc, listed(alloc, attributes)?) {
@@ -103,9 +104,9 @@ pub fn few_attributes(alloc: Global, place: Place, attributes: Attributes) -> Re
     }
 }
 
-/// The heading of at most 16 attributes.
+/// The heading of the attributes, which are few enough.
 pub fn heading_of(alloc: Global, attributes: Attributes) -> Result<Heading, Memory>
-    requires { length attributes.entries ≤ 16 }
+    requires { length attributes.entries ≤ most_attributes }
     ensures { IfOk result (λ h. h ≡ attributes.entries) }
 {
     match heading_if_few(alloc, attributes)? {

@@ -3,13 +3,14 @@ use Rattle.std.specs.Prelude.{◌≡◌, ◌≤◌, ◌<◌, ℕ, ◌+◌, ◌-�
 use Rattle.std.proofs.Common.{arith, ◌⊎◌, inl, inr, drop, get_or, sym, ◌∙◌, ap, subst, eq-eqb}
 use Rattle.std.proofs.lemmas.Bool.{le-leb, leb-true, eqb-true}
 use Rattle.point_core.specs.Dates.{IsCalendarDate, IsDateText, date_text, date_number, four_digits, two_digits, days_of_month, month_days, is_leap}
-use Rattle.utd_syntax.specs.Limits.{value_after, value_of, is_digit, are_digits, is_day, is_date}
+use Rattle.utd_syntax.specs.Literals.{value_after, value_of, is_digit, are_digits, is_day, is_date}
 use Rattle.std.specs.Str.{IsUtf8, IsValidUpTo}
 use Rattle.std.specs.Str.Lossy.{utf8_valid_len}
 use Rattle.std.proofs.lemmas.Str.{utf8_valid_len-IsUtf8}
 use Rattle.std.proofs.lemmas.List.{at_drop_more}
 use Rattle.point_core.specs.declared.date_type.Day.{Day}
 use Rattle.value_core.specs.Lengths.{IsTextLength}
+use Rattle.value_core.specs.Limits.{most_text_bytes}
 use Rattle.scalar_typing.specs.Literals.{date_of, number_of_date, text_of, is_utf8}
 
 -- more digits make no less
@@ -209,19 +210,19 @@ less-than : (b : Bool) (m n : ℕ) → m < n → nat_eq m n ≡ b → b ≡ fals
 less-than true m n less e = absurd (omega (arith, eqb-true m n e))
 less-than false m n less e = refl
 
-long-text : (bytes : List ℕ) → (IsTextLength bytes → ⊥) → nat_le (length bytes) 255 ≡ false
-long-text bytes long = above 255 (length bytes) (omega (arith, long))
+long-text : (bytes : List ℕ) → (IsTextLength bytes → ⊥) → nat_le (length bytes) most_text_bytes ≡ false
+long-text bytes long = above most_text_bytes (length bytes) (omega (arith, long))
 
 pub no-text : (bytes : List ℕ) (n : ℕ) → n ≡ utf8_valid_len bytes → IsValidUpTo bytes n → None ≡ text_of bytes
 no-text bytes n e valid =
     let short = valid.short in
-    left-if (is_utf8 bytes) (nat_le (length bytes) 255) bytes (inl (less-than (is_utf8 bytes) (utf8_valid_len bytes) (length bytes) (omega arith) refl))
+    left-if (is_utf8 bytes) (nat_le (length bytes) most_text_bytes) bytes (inl (less-than (is_utf8 bytes) (utf8_valid_len bytes) (length bytes) (omega arith) refl))
 
 pub made-text : {E : Type 0} (bytes text : List ℕ) (r : Result (Option (List ℕ)) E) → text ≡ bytes → IsUtf8 bytes →
     IfOk r (λ o. MatchOption o (IsTextLength text → ⊥) (λ t. (t ≡ text) × IsTextLength text)) → IfOk r (λ t. t ≡ text_of bytes)
 made-text bytes text (Ok None) same valid h =
-    left-if (is_utf8 bytes) (nat_le (length bytes) 255) bytes (inr (long-text bytes (λ short. h (subst IsTextLength (sym same) short))))
+    left-if (is_utf8 bytes) (nat_le (length bytes) most_text_bytes) bytes (inr (long-text bytes (λ short. h (subst IsTextLength (sym same) short))))
 made-text bytes text (Ok (Some t)) same valid h =
-    ap Some (h.0 ∙ same) ∙ taken-if (is_utf8 bytes) (nat_le (length bytes) 255) bytes (valid-utf8 bytes valid)
-    (le-leb (length bytes) 255 (subst IsTextLength same h.1))
+    ap Some (h.0 ∙ same) ∙ taken-if (is_utf8 bytes) (nat_le (length bytes) most_text_bytes) bytes (valid-utf8 bytes valid)
+    (le-leb (length bytes) most_text_bytes (subst IsTextLength same h.1))
 made-text bytes text (Err e) same valid h = tt

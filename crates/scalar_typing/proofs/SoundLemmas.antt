@@ -15,7 +15,7 @@ use Rattle.utd_syntax.specs.declared.words.ExtremeWord.{ExtremeWord}
 use Rattle.utd_syntax.specs.declared.words.ExtremeWord.TheVariants.{First, Last}
 use Rattle.utd_syntax.specs.Plain as syntax
 use Rattle.utd_syntax.specs.Plain.{Word, PointP, ScalarP, ConjP, NegP, CmpP, SumP, ProdP, SignP, PrimaryP}
-use Rattle.utd_syntax.specs.Limits.{is_date}
+use Rattle.utd_syntax.specs.Literals.{is_date}
 use Rattle.value_core.specs.declared.kind.Kind.{Kind}
 use Rattle.value_core.specs.declared.kind.Kind.TheVariants.{Truth}
 use Rattle.value_core.specs.declared.list.OrdinalNames.{OrdinalNames}
@@ -24,6 +24,7 @@ use Rattle.scalar_core.specs.Answers.{Gives}
 use Rattle.scalar_core.specs.Expressions.{and_expr, or_expr, read}
 use Rattle.scalar_core.specs.Kinds.{IsTyped}
 use Rattle.scalar_core.proofs.PointLemmas.{and_right, same_line-self, number-is_number, both_true}
+use Rattle.value_core.specs.Limits.{most_text_bytes}
 use Rattle.scalar_typing.specs.declared.typed.Typed.{Typed as TypedTree}
 use Rattle.scalar_typing.specs.Typings.{Typed, ◌>>=◌, value_or, typed}
 use Rattle.scalar_typing.specs.Literals.{integer_of, negative_of, is_utf8, text_of, number_of_date, date_of, point_constant, integer_literal, text_literal, date_literal, extreme_constant}
@@ -80,8 +81,8 @@ date-sound heading at quoted bytes =
 
 text-sound : (heading : Heading) (at : Place) (bytes : List ℕ) → Sound heading (text_literal at bytes)
 text-sound heading at bytes =
-    then-sound (λ (b : List ℕ). nat_le (length b) 255 ≡ true) (IsTypedPart heading) (value_or at _ (text_of bytes)) _
-    (or-refused (λ (b : List ℕ). nat_le (length b) 255 ≡ true) at _ (text_of bytes) (if-some _ (is_utf8 bytes && nat_le (length bytes) 255) bytes (and_right (is_utf8 bytes) (nat_le (length bytes) 255))))
+    then-sound (λ (b : List ℕ). nat_le (length b) most_text_bytes ≡ true) (IsTypedPart heading) (value_or at _ (text_of bytes)) _
+    (or-refused (λ (b : List ℕ). nat_le (length b) most_text_bytes ≡ true) at _ (text_of bytes) (if-some _ (is_utf8 bytes && nat_le (length bytes) most_text_bytes) bytes (and_right (is_utf8 bytes) (nat_le (length bytes) most_text_bytes))))
     (λ b h. (refl, h))
 
 first-number : (t : AnyType) → IsNumber t (first_of t)

@@ -10,8 +10,9 @@ use Rattle.point_core.specs.Faults.{OrFault}
 use Rattle.point_core.specs.Points.{line_of, first_of, last_of}
 use Rattle.utd_syntax.specs.declared.words.ExtremeWord.{ExtremeWord}
 use Rattle.utd_syntax.specs.declared.words.ExtremeWord.TheVariants.{First, Last}
-use Rattle.utd_syntax.specs.Limits.{value_of, is_date}
+use Rattle.utd_syntax.specs.Literals.{value_of, is_date}
 use Rattle.value_core.specs.declared.kind.Kind.TheVariants.{Truth, Char, Point}
+use Rattle.value_core.specs.Limits.{most_text_bytes}
 use Rattle.value_core.specs.Values.{truth, text, point}
 use Rattle.scalar_core.specs.Expressions.{constant}
 use Rattle.scalar_typing.specs.Typings.{Typed, ◌>>=◌, value_or}
@@ -29,9 +30,9 @@ negative_of digits = if nat_le (value_of digits) 9223372036854775808 then Some (
 abbrev pub is_utf8 : List ℕ → Bool
 is_utf8 bytes = nat_eq (utf8_valid_len bytes) (length bytes)
 
--- a text of at most 255 bytes
+-- a text that is not too long
 abbrev pub text_of : List ℕ → Option (List ℕ)
-text_of bytes = if is_utf8 bytes && nat_le (length bytes) 255 then Some bytes else None
+text_of bytes = if is_utf8 bytes && nat_le (length bytes) most_text_bytes then Some bytes else None
 
 -- the number of the date that is written as YYYY-MM-DD
 abbrev pub number_of_date : List ℕ → ℤ

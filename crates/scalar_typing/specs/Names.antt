@@ -10,6 +10,7 @@ use Rattle.utd_syntax.specs.declared.words.ExtremeWord.{ExtremeWord}
 use Rattle.utd_syntax.specs.Plain.{Word, PointP, IntegerType, DateType, NamedType}
 use Rattle.value_core.specs.declared.kind.Kind.{Kind}
 use Rattle.value_core.specs.declared.list.OrdinalNames.{OrdinalNames}
+use Rattle.value_core.specs.Limits.{most_ordinal_types, most_ordinal_values}
 use Rattle.value_core.specs.Values.{Name, Heading}
 use Rattle.scalar_core.specs.Expressions.{attribute}
 use Rattle.scalar_typing.specs.Typings.{Typed, ◌>>=◌, value_or}
@@ -36,7 +37,7 @@ attribute_typed heading w = do
 
 -- few enough ordinal types and values for the numbers that a point type keeps of them
 abbrev pub AreOrdinals : List OrdinalNames → Type 0
-AreOrdinals types = (length types ≤ 16) × All (λ (o : OrdinalNames). length o.values ≤ 1000) types
+AreOrdinals types = (length types ≤ most_ordinal_types) × All (λ (o : OrdinalNames). length o.values ≤ most_ordinal_values) types
 
 -- the ordinal type of the name and its place among the types, and the number of the value of the name
 abbrev pub ordinal_of : List OrdinalNames → Name → Option (ℕ × OrdinalNames)

@@ -5,7 +5,7 @@ ghost use Rattle.point_core.specs.declared.fault.Code.TheVariants.{E06};
 ghost use Rattle.point_core.specs.Faults.{fault};
 ghost use Rattle.point_core.specs.declared.date_type.Day.{Day};
 ghost use Rattle.point_core.specs.Points.{line, line_of, number};
-ghost use Rattle.utd_syntax.specs.Limits.{value_of};
+ghost use Rattle.utd_syntax.specs.Literals.{value_of};
 ghost use Rattle.scalar_core.specs.Answers.{Gives};
 ghost use Rattle.scalar_typing.specs.Typings.{typed};
 ghost use Rattle.scalar_typing.specs.Literals as literals;

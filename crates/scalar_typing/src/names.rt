@@ -3,6 +3,7 @@ ghost use Rattle.std.specs.Prelude.{◌≡◌, ◌<◌, ◌≤◌, length, optio
 ghost use Rattle.std.specs.Str.{bytes_eq};
 ghost use Rattle.utd_syntax.specs.Read.{read_name, read_point};
 ghost use Rattle.point_core.specs.Faults.{fault};
+ghost use Rattle.value_core.specs.Limits.{most_ordinal_types, most_ordinal_values};
 ghost use Rattle.scalar_core.specs.Answers.{Gives};
 ghost use Rattle.scalar_typing.specs.Typings.{typed};
 ghost use Rattle.scalar_typing.specs.Names as names;
@@ -58,7 +59,7 @@ pub fn attribute_typed(heading: &Heading, word: &Word) -> Result<Typed, Stop>
 fn ordinal_of<'a>(types: &'a OrdinalTypes, name: &[u8]) -> Option<(usize, &'a OrdinalNames)>
     requires { AreOrdinals types.now }
     ensures found { option_map (λ found. (found.0, found.1.now)) result ≡ names.ordinal_of types.now name.now }
-    ensures few { IfSome result (λ found. (found.0 < 16) × (length found.1.now.values ≤ 1000)) }
+    ensures few { IfSome result (λ found. (found.0 < most_ordinal_types) × (length found.1.now.values ≤ most_ordinal_values)) }
 {
     for (at, ordinal) in types.list.iter().enumerate() {
         if is_called(&ordinal.name, name) {
@@ -83,8 +84,8 @@ fn value_of(values: &Names, name: &[u8]) -> Option<usize>
 
 /// The point type of an ordinal type at its place.
 fn ordinal_type(at: usize, ordinal: &OrdinalNames) -> AnyType
-    requires place { at ≤ 16 }
-    requires values { length ordinal.now.values ≤ 1000 }
+    requires place { at ≤ most_ordinal_types }
+    requires values { length ordinal.now.values ≤ most_ordinal_values }
     ensures { result ≡ names.ordinal_type (at, ordinal.now) }
 {
     let last = ordinal.values.list.len().saturating_sub(1);

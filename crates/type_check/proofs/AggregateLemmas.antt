@@ -13,6 +13,7 @@ use Rattle.value_core.specs.declared.kind.Kind.{Kind}
 use Rattle.value_core.specs.declared.kind.Kind.TheVariants.{Truth, Char, Point, Span}
 use Rattle.value_core.specs.declared.list.OrdinalNames.{OrdinalNames}
 use Rattle.value_core.specs.Headings.{has_name, IsHeadingOf}
+use Rattle.value_core.specs.Limits.{most_attributes}
 use Rattle.value_core.specs.Values.{Name, Heading, is_heading}
 use Rattle.scalar_core.specs.Expressions.{Expr}
 use Rattle.scalar_core.specs.KindOf.{is_ordered}
@@ -99,7 +100,7 @@ module _ (types : List OrdinalNames) (ordinals : All IsOrdinalType types) (from 
       (aggregate-sound groups before g h) (λ next is. aggregates-sound groups next rest is)
 
   summary-of : (to : Heading) (by : List ℕ) (aggregates : List PlainAggregate) (attributes : Heading) → ArePositions from by → IsSummed (sizes_of types) from (attributes_at by from) aggregates attributes
-      → to ≡ attributes → length attributes ≤ 16 → IsSummary (sizes_of types) from to by aggregates
+      → to ≡ attributes → length attributes ≤ most_attributes → IsSummary (sizes_of types) from to by aggregates
   summary-of to by aggregates attributes at h is few = record {
     positions = at;
     made = h.made;
@@ -114,7 +115,7 @@ module _ (types : List OrdinalNames) (ordinals : All IsOrdinalType types) (from 
       (aggregates_typed types from ([], attributes_at by from) (aggregate_list aggregates)) _
       (aggregates-sound (attributes_at by from) ([], attributes_at by from) (aggregate_list aggregates)
       (record { made = []; makes = tt; listed = listed-none (attributes_at by from) (part_ascends from by headed at.ascending at.within) })) (λ made is.
-      then-sound (λ (to : Heading). (to ≡ made.1) × (length made.1 ≤ 16)) (λ (m : Summed). IsSummary (sizes_of types) from m.1 by m.0) (few_attributes place made.1) _ (few-is_few place made.1) (λ to few.
+      then-sound (λ (to : Heading). (to ≡ made.1) × (length made.1 ≤ most_attributes)) (λ (m : Summed). IsSummary (sizes_of types) from m.1 by m.0) (few_attributes place made.1) _ (few-is_few place made.1) (λ to few.
       summary-of to by made.0 made.1 at is few.0 few.1))
 
 pub summary-sound : (types : List OrdinalNames) → All IsOrdinalType types → (headings : Headings) (place : Place) (names : NamesP) (aggregates : AggregatesP) (t : Tree)

@@ -1,4 +1,4 @@
--- Typed expressions have headings: at most 16 attributes in order, of kinds there are.
+-- Typed expressions have headings: few enough attributes in order, of kinds there are.
 use Rattle.std.specs.Prelude.{◌≡◌, ◌<◌, ◌≤◌, ℕ, zero, suc, Bool, true, false, not, List, [], ◌∷◌, ◌++◌, length, get_or, Some, IsTrue, refl, if◌then◌else◌}
 use Rattle.std.proofs.Common.{arith, sym, subst, inl, inr}
 use Rattle.std.specs.List.{list_all, list_any, All}
@@ -8,6 +8,7 @@ use Rattle.std.proofs.lemmas.List.{map-append}
 use Rattle.base_core.proofs.SetLemmas.{In, Ascends}
 use Rattle.base_core.proofs.MemberLemmas.{In-filter, In-map}
 use Rattle.value_core.specs.declared.kind.Kind.{Kind}
+use Rattle.value_core.specs.Limits.{most_attributes}
 use Rattle.value_core.specs.Values.{Name, Heading, attribute_cmp, is_heading}
 use Rattle.value_core.proofs.HeadingLemmas.{attribute_total}
 use Rattle.relation_core.specs.Agreement.{names_of}
@@ -39,9 +40,6 @@ part-in heading kept within a i =
     subst (λ (z : Name × Kind). In z heading) (sym at.2) (member-at heading at.0 no_attribute (within_by_members (length heading) kept within at.0 at.1))
 
 module _ (sizes : List ℕ) where
-  parts-of : (h : Heading) → IsTrue (is_declared sizes h) → IsTrue (is_heading h) × IsTrue (list_all (λ a. is_kind sizes a.1) h)
-  parts-of h declared = and_parts (is_heading h) (list_all (λ a. is_kind sizes a.1) h) declared
-
   pub declared-heading : (h : Heading) → IsTrue (is_declared sizes h) → IsTrue (is_heading h)
   declared-heading h declared = (and_parts (is_heading h) (list_all (λ a. is_kind sizes a.1) h) declared).0
 
@@ -56,7 +54,7 @@ module _ (sizes : List ℕ) where
 
   -- ---- by their nodes
 
-  joined-declared : (left right h : Heading) → h ≡ joined_heading left right → length h ≤ 16 → IsTrue (is_declared sizes left) → IsTrue (is_declared sizes right) → IsTrue (is_declared sizes h)
+  joined-declared : (left right h : Heading) → h ≡ joined_heading left right → length h ≤ most_attributes → IsTrue (is_declared sizes left) → IsTrue (is_declared sizes right) → IsTrue (is_declared sizes h)
   joined-declared left right h is few l r =
       let up : Ascends attribute_cmp h = subst (Ascends attribute_cmp) (sym is) (ascends_in_order attribute_cmp attribute_total (left ++ right)) in
       let both : IsTrue (list_all (λ a. is_kind sizes a.1) (left ++ right)) = all-both (λ a. is_kind sizes a.1) left right (declared-kinds left l) (declared-kinds right r) in

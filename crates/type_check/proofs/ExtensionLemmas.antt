@@ -16,6 +16,7 @@ use Rattle.utd_syntax.specs.Plain.{SetItemP, SetItem, SetsP}
 use Rattle.value_core.specs.declared.kind.Kind.{Kind}
 use Rattle.value_core.specs.declared.list.OrdinalNames.{OrdinalNames}
 use Rattle.value_core.specs.Headings.{IsHeadingOf}
+use Rattle.value_core.specs.Limits.{most_attributes}
 use Rattle.value_core.specs.Values.{Name, Heading, attribute_cmp}
 use Rattle.value_core.proofs.HeadingLemmas.{attribute_total}
 use Rattle.relation_core.specs.Agreement.{names_of}
@@ -43,7 +44,7 @@ order-permutes (a ∷ rest) apart =
     (IsPermutation-cons a rest (in_order attribute_cmp rest) (order-permutes rest apart.1))
     (put-permutes attribute_cmp a (in_order attribute_cmp rest) (λ b i. apart.0 b (from_in_order attribute_cmp b rest i)))
 
-pub order-heading : (list : Heading) → Apart attribute_cmp list → length (in_order attribute_cmp list) ≤ 16 → IsHeadingOf list (in_order attribute_cmp list)
+pub order-heading : (list : Heading) → Apart attribute_cmp list → length (in_order attribute_cmp list) ≤ most_attributes → IsHeadingOf list (in_order attribute_cmp list)
 order-heading list apart few =
     heading-of list (in_order attribute_cmp list) (order-permutes list apart) (is-heading (in_order attribute_cmp list) (ascends_in_order attribute_cmp attribute_total list) few)
 
@@ -81,7 +82,7 @@ pub made-permutes : (sizes : List ℕ) (from : Heading) (sets : PlainSets) (attr
 made-permutes sizes from sets attributes h = subst (λ (l : Heading). IsPermutation l attributes) (append-nil h.made) h.listed.same
 
 pub extension-of : (sizes : List ℕ) (from to : Heading) (sets : PlainSets) (attributes : Heading) → Ascends attribute_cmp from → IsMade sizes from sets attributes
-    → to ≡ made_beside attributes from → length (made_beside attributes from) ≤ 16 → IsExtension sizes from to sets
+    → to ≡ made_beside attributes from → length (made_beside attributes from) ≤ most_attributes → IsExtension sizes from to sets
 extension-of sizes from to sets attributes up h is few =
     let headed : IsHeadingOf (attributes ++ not_named (names_of attributes) from) (made_beside attributes from) =
     order-heading (attributes ++ not_named (names_of attributes) from) (beside-apart attributes from h.listed.ascends up) few in
@@ -111,7 +112,7 @@ module _ (types : List OrdinalNames) (ordinals : All IsOrdinalType types) where
   extension-made place from sets up =
       then-sound (λ (m : Made). IsMade (sizes_of types) from m.0 m.1) (λ (m : Made). IsExtension (sizes_of types) from m.1 m.0) (items_typed types from none_made (item_list sets)) _
       (items-made from none_made (item_list sets) (made-none (sizes_of types) from)) (λ made is.
-      then-sound (λ (to : Heading). (to ≡ made_beside made.1 from) × (length (made_beside made.1 from) ≤ 16)) (λ (m : Made). IsExtension (sizes_of types) from m.1 m.0)
+      then-sound (λ (to : Heading). (to ≡ made_beside made.1 from) × (length (made_beside made.1 from) ≤ most_attributes)) (λ (m : Made). IsExtension (sizes_of types) from m.1 m.0)
       (few_attributes place (made_beside made.1 from)) _ (few-is_few place (made_beside made.1 from)) (λ to few.
       extension-of (sizes_of types) from to made.0 made.1 up is few.0 few.1))
 

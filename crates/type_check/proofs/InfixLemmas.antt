@@ -11,6 +11,7 @@ use Rattle.utd_syntax.specs.Plain.{ScalarP, ProjectionP}
 use Rattle.value_core.specs.declared.kind.Kind.{Kind}
 use Rattle.value_core.specs.declared.kind.Kind.TheVariants.{Truth}
 use Rattle.value_core.specs.declared.list.OrdinalNames.{OrdinalNames}
+use Rattle.value_core.specs.Limits.{most_attributes}
 use Rattle.value_core.specs.Values.{Name, Heading}
 use Rattle.scalar_core.specs.Expressions.{Expr}
 use Rattle.scalar_core.specs.KindOf.{same_kind}
@@ -71,9 +72,9 @@ join-sound place left right =
     then-sound (λ _. IsTrue (kinds_agree left right)) (IsInfix Join left right) (check place _ (kinds_agree left right)) _ (held place _ (kinds_agree left right)) (λ _ agree.
     few (few_attributes place (joined_heading left right)) (kinds-agree left right agree) (few-is_few place (joined_heading left right)))
   where
-    few : (r : OrFault Heading) → HaveEqualKinds left right → IfOk r (λ (to : Heading). (to ≡ joined_heading left right) × (length (joined_heading left right) ≤ 16))
-        → IfOk r (λ (h : Heading). HaveEqualKinds left right × (h ≡ joined_heading left right) × (length h ≤ 16))
-    few (Ok to) kinds h = (kinds, h.0, subst (λ (z : Heading). length z ≤ 16) (sym h.0) h.1)
+    few : (r : OrFault Heading) → HaveEqualKinds left right → IfOk r (λ (to : Heading). (to ≡ joined_heading left right) × (length (joined_heading left right) ≤ most_attributes))
+        → IfOk r (λ (h : Heading). HaveEqualKinds left right × (h ≡ joined_heading left right) × (length h ≤ most_attributes))
+    few (Ok to) kinds h = (kinds, h.0, subst (λ (z : Heading). length z ≤ most_attributes) (sym h.0) h.1)
     few (Err e) kinds h = tt
 
 pub infix-heading : (place : Place) (word : InfixWord) (left right : Heading) → IfOk (infix_heading place word left right) (IsInfix word left right)

@@ -53,7 +53,7 @@ listed-more made old attributes name kind h new = record {
 }
 
 -- few of them are a heading
-pub listed-heading : (made old attributes : Heading) → IsListed made old attributes → length attributes ≤ 16 → IsHeadingOf (made ++ old) attributes
+pub listed-heading : (made old attributes : Heading) → IsListed made old attributes → length attributes ≤ most_attributes → IsHeadingOf (made ++ old) attributes
 listed-heading made old attributes h few = heading-of (made ++ old) attributes h.same (is-heading attributes h.ascends few)
 
 -- ---- names and counts
@@ -70,10 +70,10 @@ new-is_new h w =
     fresh name true e = tt
     fresh name false e = e
 
-pub few-is_few : (place : Place) (h : Heading) → IfOk (few_attributes place h) (λ to. (to ≡ h) × (length h ≤ 16))
+pub few-is_few : (place : Place) (h : Heading) → IfOk (few_attributes place h) (λ to. (to ≡ h) × (length h ≤ most_attributes))
 few-is_few place h = by-count (nat_le (length h) most_attributes) refl
   where
-    by-count : (b : Bool) → nat_le (length h) most_attributes ≡ b → IfOk (if b then Ok h else refused place E17) (λ (to : Heading). (to ≡ h) × (length h ≤ 16))
+    by-count : (b : Bool) → nat_le (length h) most_attributes ≡ b → IfOk (if b then Ok h else refused place E17) (λ (to : Heading). (to ≡ h) × (length h ≤ most_attributes))
     by-count true e = (refl, leb-true (length h) most_attributes e)
     by-count false e = tt
 
@@ -112,11 +112,11 @@ makes-kinds sizes from (s ∷ sets) [] kinds h = absurd h
 makes-kinds sizes from (s ∷ sets) (a ∷ made) kinds h =
     and_from (is_kind sizes a.1) (list_all (λ b. is_kind sizes b.1) made) (scalar-kind sizes from s.1 a.1 kinds h.1) (makes-kinds sizes from sets made kinds h.2)
 
-pub made-heading : (sizes : List ℕ) (from : Heading) (sets : PlainSets) (attributes : Heading) (h : IsMade sizes from sets attributes) → length attributes ≤ 16 → IsHeadingOf h.made attributes
+pub made-heading : (sizes : List ℕ) (from : Heading) (sets : PlainSets) (attributes : Heading) (h : IsMade sizes from sets attributes) → length attributes ≤ most_attributes → IsHeadingOf h.made attributes
 made-heading sizes from sets attributes h few =
     subst (λ (l : Heading). IsHeadingOf l attributes) (append-nil h.made) (listed-heading h.made [] attributes h.listed few)
 
--- the heading has at most 16 attributes, of kinds there are
+-- the heading has few enough attributes, of kinds there are
 pub declared-of : (sizes : List ℕ) (list heading : Heading) → IsHeadingOf list heading → IsTrue (list_all (λ a. is_kind sizes a.1) list) → IsTrue (is_declared sizes heading)
 declared-of sizes list heading h kinds =
     and_from (is_heading heading) (list_all (λ a. is_kind sizes a.1) heading) h.ordered (all-moved (λ a. is_kind sizes a.1) list heading h.same kinds)

@@ -17,6 +17,7 @@ use Rattle.utd_syntax.specs.declared.words.EmptinessWord.{EmptinessWord}
 use Rattle.utd_syntax.specs.declared.words.EmptinessWord.TheVariants.{IsEmpty, IsNotEmpty}
 use Rattle.utd_syntax.specs.Plain.{Word, NameListP, NameList}
 use Rattle.value_core.specs.Headings.{has_name}
+use Rattle.value_core.specs.Limits.{most_listed}
 use Rattle.value_core.specs.Values.{Name, Heading}
 use Rattle.scalar_core.specs.KindOf.{same_kind}
 use Rattle.relation_core.specs.Agreement.{position_of}
@@ -47,7 +48,7 @@ pub record IsShared (left right : Heading) (name : Name) : Type 0 where
 pub record AreListed (left right : Heading) (list : NameListP) (names : List Name) : Type 0 where
   pub shared : (name : Name) → In name names → IsShared left right name
   pub different : IsDistinct bytes_eq names
-  pub few : length names ≤ 3
+  pub few : length names ≤ most_listed
   pub written : names ≡ names_of_words (words_of list)
 
 -- names so far
@@ -101,13 +102,13 @@ pub list-sound : (left right : Heading) (list : NameListP) → IfOk (list_checke
 list-sound left right (NameList at words) =
     then-sound (λ (names : List Name). AreSoFar left right names × (names ≡ names_of_words words)) (AreListed left right (NameList at words)) (names_checked left right [] words) _
     (names-sound left right [] words (none-yet left right)) (λ names h.
-    then-sound (λ _. IsTrue (nat_le (length names) 3)) (AreListed left right (NameList at words)) (check at _ (nat_le (length names) 3)) _ (held at _ (nat_le (length names) 3)) (λ _ few.
-    record { shared = h.0.shared; different = h.0.different; few = leb-true (length names) 3 few; written = h.1 }))
+    then-sound (λ _. IsTrue (nat_le (length names) most_listed)) (AreListed left right (NameList at words)) (check at _ (nat_le (length names) most_listed)) _ (held at _ (nat_le (length names) most_listed)) (λ _ few.
+    record { shared = h.0.shared; different = h.0.different; few = leb-true (length names) most_listed few; written = h.1 }))
 
 -- ---- their positions
 
 -- different names of interval attributes of a heading, at most three, stand at a list of positions
-pub list-of : (h : Heading) (names : List Name) → ((name : Name) → In name names → IsTrue (has_name h name) × IsTrue (is_span (kind_named h name))) → IsDistinct bytes_eq names → length names ≤ 3
+pub list-of : (h : Heading) (names : List Name) → ((name : Name) → In name names → IsTrue (has_name h name) × IsTrue (is_span (kind_named h name))) → IsDistinct bytes_eq names → length names ≤ most_listed
     → IsList h (positions_of h names)
 list-of h names known apart few = record {
   within = positions-within h names (λ n i. (known n i).0);

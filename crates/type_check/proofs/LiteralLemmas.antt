@@ -15,6 +15,7 @@ use Rattle.utd_syntax.specs.Plain.{Word, KindP, AttributeP, HeadingP, ElementsP,
 use Rattle.value_core.specs.declared.kind.Kind.{Kind}
 use Rattle.value_core.specs.declared.list.OrdinalNames.{OrdinalNames}
 use Rattle.value_core.specs.Headings.{has_name}
+use Rattle.value_core.specs.Limits.{most_attributes}
 use Rattle.value_core.specs.Values.{Name, Heading, attribute_cmp, is_heading}
 use Rattle.scalar_core.specs.KindOf.{same_kind}
 use Rattle.scalar_typing.specs.Names.{point_type}
@@ -81,7 +82,7 @@ module _ (types : List OrdinalNames) (ordinals : All IsOrdinalType types) where
       → IfOk (few_attributes at all) (λ (h : Heading). IsTrue (is_declared (sizes_of types) h))
   few-declared at all h = weaken (few_attributes at all) (few-is_few at all)
     where
-      weaken : (r : OrFault Heading) → IfOk r (λ (to : Heading). (to ≡ all) × (length all ≤ 16)) → IfOk r (λ (to : Heading). IsTrue (is_declared (sizes_of types) to))
+      weaken : (r : OrFault Heading) → IfOk r (λ (to : Heading). (to ≡ all) × (length all ≤ most_attributes)) → IfOk r (λ (to : Heading). IsTrue (is_declared (sizes_of types) to))
       weaken (Ok to) k = subst (λ (z : Heading). IsTrue (is_declared (sizes_of types) z)) (sym k.0)
           (and_from (is_heading all) (list_all (λ a. is_kind (sizes_of types) a.1) all) (is-heading all h.0 k.1) h.1)
       weaken (Err e) k = tt
@@ -92,7 +93,7 @@ module _ (types : List OrdinalNames) (ordinals : All IsOrdinalType types) where
 
   -- ---- tuples
 
-  tuple-of : (sets : PlainSets) (attributes to : Heading) → IsMade (sizes_of types) [] sets attributes → (to ≡ attributes) × (length attributes ≤ 16)
+  tuple-of : (sets : PlainSets) (attributes to : Heading) → IsMade (sizes_of types) [] sets attributes → (to ≡ attributes) × (length attributes ≤ most_attributes)
       → IsTuple (sizes_of types) to sets × IsTrue (is_declared (sizes_of types) to)
   tuple-of sets attributes to h few =
       let headed = made-heading (sizes_of types) [] sets attributes h few.1 in
@@ -105,7 +106,7 @@ module _ (types : List OrdinalNames) (ordinals : All IsOrdinalType types) where
   elements-tuple (syntax.Elements at list) =
       then-sound (λ (m : Made). IsMade (sizes_of types) [] m.0 m.1) _ (elements_typed types [] none_made list) _
       (elements-made types ordinals [] none_made list (made-none (sizes_of types) [])) (λ made is.
-      then-sound (λ (to : Heading). (to ≡ made.1) × (length made.1 ≤ 16)) _ (few_attributes at made.1) _ (few-is_few at made.1) (λ to few. tuple-of made.0 made.1 to is few))
+      then-sound (λ (to : Heading). (to ≡ made.1) × (length made.1 ≤ most_attributes)) _ (few_attributes at made.1) _ (few-is_few at made.1) (λ to few. tuple-of made.0 made.1 to is few))
 
   tuple-typed : (t : TupleP) → IfOk (tuple_typed types t) (λ (m : Made). IsTuple (sizes_of types) m.1 m.0 × IsTrue (is_declared (sizes_of types) m.1))
   tuple-typed (syntax.Tuple at elements) = elements-tuple elements

@@ -15,11 +15,13 @@ use Rattle.utd_syntax.specs.Plain.{Word, ScalarP, ElementP, Element, SomeElement
 use Rattle.value_core.specs.declared.kind.Kind.{Kind}
 use Rattle.value_core.specs.declared.list.OrdinalNames.{OrdinalNames}
 use Rattle.value_core.specs.Headings.{has_name}
+use Rattle.value_core.specs.Limits.{most_listed}
 use Rattle.value_core.specs.Values.{Name, Heading, attribute_cmp}
 use Rattle.scalar_core.specs.Expressions.{Expr}
 use Rattle.scalar_core.specs.KindOf.{same_kind}
 use Rattle.relation_core.specs.Agreement.{position_of}
 use Rattle.relation_core.specs.Parts.{no_attribute, kind_at}
+use Rattle.meaning_core.proofs.PositionLemmas.{position-back}
 use Rattle.scalar_typing.specs.Names.{first_from, attribute_of}
 use Rattle.scalar_typing.specs.Scalars.{typed_scalar}
 use Rattle.scalar_typing.specs.Typings.{value_or}
@@ -32,7 +34,7 @@ use Rattle.meaning_core.specs.Updates.{attributes_of_portion, IsPart, IsPortionI
 use Rattle.meaning_core.specs.WellMade.{sizes_of, IsOrdinalType}
 use Rattle.node_typing.specs.Positions.{check}
 use Rattle.item_typing.specs.Changes.{part_typed, parts_typed, portion_typed, element_name, portion_names}
-use Rattle.type_check.proofs.PositionLemmas.{held, name-is, all-from, named-in, position-at}
+use Rattle.type_check.proofs.PositionLemmas.{held, name-is, all-from, named-in}
 use Rattle.type_check.proofs.ScalarLemmas.{typed-is_scalar}
 use Rattle.type_check.proofs.SetTypedLemmas.{first-in, onward}
 
@@ -60,7 +62,7 @@ found-position heading w up =
     record {
       within = at.0;
       kind = ap (λ (a : Name × Kind). a.1) stands;
-      position = ap (position_of heading) (sym named) ∙ position-at heading found.0 no_attribute up at.0;
+      position = ap (position_of heading) (sym named) ∙ position-back heading found.0 no_attribute up at.0;
       known = named-in heading w.bytes found.1.1 (subst (λ (n : Name). In (n, found.1.1) heading) same h.0);
     }))
 
@@ -157,7 +159,7 @@ module _ (types : List OrdinalNames) (ordinals : All IsOrdinalType types) (headi
       then-sound (IsRead (sizes_of types) heading [] (map element_name (first ∷ more)))
       (λ (m : PlainPortion). IsPortionIf (sizes_of types) heading None (Some m) × AreNamed heading (map element_name (first ∷ more)) (attributes_of_portion m))
       (parts_typed types heading [] (first ∷ more)) _ (parts-sound [] (first ∷ more) (none-read (sizes_of types) heading)) (λ m is.
-      then-sound (λ _. IsTrue (nat_le (length m) 3)) (λ (n : PlainPortion). IsPortionIf (sizes_of types) heading None (Some n) × AreNamed heading (map element_name (first ∷ more)) (attributes_of_portion n))
-      (check at E17 (nat_le (length m) 3)) _ (held at E17 (nat_le (length m) 3)) (λ _ few.
+      then-sound (λ _. IsTrue (nat_le (length m) most_listed)) (λ (n : PlainPortion). IsPortionIf (sizes_of types) heading None (Some n) × AreNamed heading (map element_name (first ∷ more)) (attributes_of_portion n))
+      (check at E17 (nat_le (length m) most_listed)) _ (held at E17 (nat_le (length m) most_listed)) (λ _ few.
       let named : AreNamed heading (map element_name (first ∷ more)) (attributes_of_portion m) = record { positions = is.1; known = is.2 } in
-      (as-portion (sizes_of types) heading (element_name first) (map element_name more) m is.0 named (leb-true (length m) 3 few), named)))
+      (as-portion (sizes_of types) heading (element_name first) (map element_name more) m is.0 named (leb-true (length m) most_listed few), named)))

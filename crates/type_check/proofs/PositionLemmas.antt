@@ -1,9 +1,8 @@
 -- Attributes by their names and positions.
-use Rattle.std.specs.Prelude.{◌≡◌, ◌<◌, ◌≤◌, ℕ, zero, suc, ◌+◌, Bool, true, false, cond, ◌||◌, List, [], ◌∷◌, length, get_or, nat_eq, IfOk, IsTrue, refl, if◌then◌else◌}
+use Rattle.std.specs.Prelude.{◌≡◌, ◌<◌, ◌≤◌, ℕ, suc, ◌+◌, Bool, true, false, cond, ◌||◌, List, [], ◌∷◌, length, get_or, nat_eq, IfOk, IsTrue, refl, if◌then◌else◌}
 use Rattle.std.proofs.Common.{arith, sym, ◌∙◌, ap, ap₂, subst, inl, inr, lt-ltb, Less, Equal, Greater}
 use Rattle.std.specs.List.{All, AllByRecursion, IsDistinct}
-use Rattle.std.specs.Cmp.Lexicographic.{texts_ties}
-use Rattle.std.specs.Ordering.{nat_cmp, is_eq}
+use Rattle.std.specs.Ordering.{nat_cmp}
 use Rattle.std.specs.Str.{bytes_eq}
 use Rattle.std.proofs.lemmas.Bool.{true≢false, false_from_ne_true, eqb-true}
 use Rattle.std.proofs.lemmas.Cmp.{nat_cmp_total}
@@ -71,16 +70,6 @@ pub kind-is : (h : Heading) (name : Name) (kind : Kind) → Ascends attribute_cm
 kind-is h name kind up i =
     let j = attribute-named h name (named-in h name kind i) in
     ap (λ (a : Name × Kind). a.1) (one_in_order h (name, kind) (name, kind_named h name) up i j (own name))
-
--- the position of the name of the attribute at a position is that position
-pub position-at : (h : Heading) (i : ℕ) (d : Name × Kind) → Ascends attribute_cmp h → i < length h → position_of h (get_or h i d).0 ≡ i
-position-at [] i d up l = absurd (omega arith)
-position-at (a ∷ rest) zero d up l = ap (λ (b : Bool). if b then 0 else suc (position_of rest a.0)) (own a.0)
-position-at (a ∷ rest) (suc i) d up l =
-    let b : Name × Kind = get_or rest i d in
-    let less : attribute_cmp a b ≡ Less = (AllAfter-In attribute_cmp a rest).0 up.0 (get_or rest i d) (member-at rest i d (omega arith)) in
-    let apart : bytes_eq a.0 (get_or rest i d).0 ≡ false = texts_ties a.0 (get_or rest i d).0 ∙ ap is_eq less in
-    ap (λ (t : Bool). if t then 0 else suc (position_of rest (get_or rest i d).0)) apart ∙ ap suc (position-at rest i d up.1 (omega arith))
 
 -- ---- positions of names
 

@@ -16,6 +16,7 @@ use Rattle.base_core.proofs.MemberLemmas.{list_all-In}
 use Rattle.base_core.proofs.SetOperatorLemmas.{In-permutation, is_set-Ascends}
 use Rattle.value_core.specs.declared.kind.Kind.{Kind}
 use Rattle.value_core.specs.Headings.{has_name, repeat_after, IsHeadingOf}
+use Rattle.value_core.specs.Limits.{most_attributes}
 use Rattle.value_core.specs.Values.{Name, Heading, name_cmp, attribute_cmp, is_heading}
 use Rattle.value_core.proofs.HeadingLemmas.{attribute_total}
 use Rattle.relation_core.proofs.HeadingLemmas.{neither, heading_ascends}
@@ -134,9 +135,9 @@ heading-of list heading moved ordered = record {
 }
 
 -- few attributes in order are a heading
-pub is-heading : (heading : Heading) → Ascends attribute_cmp heading → length heading ≤ 16 → IsTrue (is_heading heading)
+pub is-heading : (heading : Heading) → Ascends attribute_cmp heading → length heading ≤ most_attributes → IsTrue (is_heading heading)
 is-heading heading up few =
-    and_from _ (nat_le (length heading) 16) ((is_set-Ascends attribute_cmp attribute_total heading).1 up) (le-leb (length heading) 16 few)
+    and_from _ (nat_le (length heading) most_attributes) ((is_set-Ascends attribute_cmp attribute_total heading).1 up) (le-leb (length heading) most_attributes few)
 
 -- what all attributes of a list have, those of the heading have
 pub all-moved : (p : Name × Kind → Bool) (list heading : Heading) → IsPermutation list heading → IsTrue (list_all p list) → IsTrue (list_all p heading)

@@ -14,6 +14,7 @@ use Rattle.utd_syntax.specs.Plain.{Word, ScalarP, SetItemP, SetItem, SetsP}
 use Rattle.value_core.specs.declared.kind.Kind.{Kind}
 use Rattle.value_core.specs.declared.list.OrdinalNames.{OrdinalNames}
 use Rattle.value_core.specs.Headings.{has_name}
+use Rattle.value_core.specs.Limits.{most_attributes}
 use Rattle.value_core.specs.Values.{Name, Heading, attribute_cmp, is_heading}
 use Rattle.value_core.proofs.HeadingLemmas.{attribute_total}
 use Rattle.scalar_core.specs.Expressions.{Expr}
@@ -135,7 +136,7 @@ own-extension : (sizes : List ℕ) (heading : Heading) (list : List SetItemP) (m
 own-extension sizes heading list m headed h =
     let up = heading_ascends heading headed in
     let same = own-beside m.1 heading h.made.listed.ascends up h.within in
-    extension-of sizes heading heading m.0 m.1 up h.made same (subst (λ (z : Heading). length z ≤ 16) same (few_attributes heading headed))
+    extension-of sizes heading heading m.0 m.1 up h.made same (subst (λ (z : Heading). length z ≤ most_attributes) same (few_attributes heading headed))
 
 -- ---- items
 

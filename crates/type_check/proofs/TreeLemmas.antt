@@ -9,7 +9,6 @@ use Rattle.utd_syntax.specs.Plain.{Word, NameListP, RelP, TermsP, TermP, RelPrim
 use Rattle.value_core.specs.Values.{Name, is_heading}
 use Rattle.relation_core.proofs.HeadingLemmas.{heading_ascends}
 use Rattle.relation_typing.specs.Attributes.{name_typed}
-use Rattle.scalar_typing.specs.Names.{AreOrdinals}
 use Rattle.scalar_typing.specs.Typings.{◌>>=◌, value_or}
 use Rattle.scalar_typing.proofs.SoundLemmas.{then-sound}
 use Rattle.tree_core.specs.Relvars.{PlainRelvar, Entries, State, relvar_named, relvar_heading}
@@ -31,10 +30,6 @@ use Rattle.type_check.proofs.ListLemmas.{packing-sound, comparison-sound, using-
 use Rattle.type_check.proofs.LiteralLemmas.{literal-sound}
 use Rattle.type_check.proofs.RenamingLemmas.{renaming-sound}
 use Rattle.type_check.proofs.UsingLemmas.{using-infix-sound, using-projection-sound, using-restriction-sound, using-extension-sound, using-summary-sound}
-
--- few enough ordinal types and values
-pub are-ordinals : (state : State) → IsWellMade state → AreOrdinals state.ordinals
-are-ordinals state made = (made.few, λ k d l. (made.ordinals k d l).few)
 
 -- the heading of a name is that of its relvar or view
 pub named-heading : (entries : Entries) (name : Name) → heading_named (headings_of entries) name ≡ option_map relvar_heading (relvar_named entries name)

@@ -14,6 +14,7 @@ use Rattle.value_core.specs.declared.kind.Kind.{Kind}
 use Rattle.value_core.specs.declared.kind.Kind.TheVariants.{Truth}
 use Rattle.value_core.specs.declared.list.OrdinalNames.{OrdinalNames}
 use Rattle.value_core.specs.Headings.{has_name}
+use Rattle.value_core.specs.Limits.{most_listed}
 use Rattle.value_core.specs.Values.{Name, Heading, attribute_cmp, is_heading}
 use Rattle.scalar_core.specs.Expressions.{Expr}
 use Rattle.relation_core.specs.Agreement.{names_of, position_of}
@@ -22,6 +23,7 @@ use Rattle.relation_core.specs.Parts.{no_attribute, attributes_at}
 use Rattle.relation_core.proofs.AttributeLemmas.{In-joined, joined_ascends}
 use Rattle.relation_core.proofs.HeadingLemmas.{heading_ascends, within_by_members}
 use Rattle.relation_typing.specs.Items.{Made, none_made}
+use Rattle.meaning_core.proofs.PositionLemmas.{position-back}
 use Rattle.scalar_typing.proofs.SoundLemmas.{then-sound}
 use Rattle.tree_core.specs.Trees.{PlainSets, PlainAggregate, Tree, infix_of, project, restrict, extend, summarize, heading_of}
 use Rattle.tree_core.specs.declared.tree.InfixWord.{InfixWord}
@@ -46,7 +48,7 @@ use Rattle.type_check.proofs.InfixLemmas.{infix-heading, kept-sound, condition-s
 use Rattle.type_check.proofs.ItemLemmas.{any-given}
 use Rattle.type_check.proofs.KeptLemmas.{both-hold, all-alike, all-kept, AreAssigned, AreOthers, others-assigned, others-none, items-assigned, swept-is, sets-swept, aggregates-none}
 use Rattle.type_check.proofs.ListLemmas.{AreListed, list-sound, list-of}
-use Rattle.type_check.proofs.PositionLemmas.{position-at, attribute-named, named-in, kind-is, names-at-positions}
+use Rattle.type_check.proofs.PositionLemmas.{attribute-named, named-in, kind-is, names-at-positions}
 use Rattle.relation_typing.specs.Attributes.{few_attributes}
 use Rattle.node_typing.specs.Headings.{made_beside}
 
@@ -57,7 +59,7 @@ abbrev pub AreSpans : Heading → List Name → Type 0
 AreSpans h names = (name : Name) → In name names → IsTrue (has_name h name) × IsTrue (is_span (kind_named h name))
 
 used-typed : (sizes : List ℕ) (headings : Headings) (place : Place) (names : List Name) (part : Tree) → IsTypedTree sizes headings part → AreSpans (heading_of part) names → IsDistinct bytes_eq names
-    → length names ≤ 3 → IsTrue (is_part names part) → IsTypedTree sizes headings (used place names part)
+    → length names ≤ most_listed → IsTrue (is_part names part) → IsTypedTree sizes headings (used place names part)
 used-typed sizes headings place names part typed known apart few is = (
   typed,
   list-of (heading_of part) names known apart few,
@@ -209,7 +211,7 @@ module _ (types : List OrdinalNames) (ordinals : All IsOrdinalType types) (headi
   among-by from by name up at here =
       let w = (In-map (λ (i : ℕ). get_or from i no_attribute) (name, kind_named (attributes_at by from) name) by).0 (attribute-named (attributes_at by from) name here) in
       let place : position_of from name ≡ w.0 =
-      ap (λ (a : Name × Kind). position_of from a.0) w.2 ∙ position-at from w.0 no_attribute up (within_by_members (length from) by at.within w.0 w.1) in
+      ap (λ (a : Name × Kind). position_of from a.0) w.2 ∙ position-back from w.0 no_attribute up (within_by_members (length from) by at.within w.0 w.1) in
       (list_any-In (nat_eq (position_of from name)) by).1 (w.0, w.1, eq-eqb (position_of from name) w.0 place)
 
   summary-stays : (from to : Heading) (by : List ℕ) (aggregates : List PlainAggregate) (name : Name) → Ascends attribute_cmp from → IsSummary (sizes_of types) from to by aggregates

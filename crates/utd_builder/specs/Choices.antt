@@ -21,26 +21,12 @@ use Rattle.utd_syntax.specs.declared.words.EndBracket.{EndBracket}
 use Rattle.utd_syntax.specs.declared.words.EndBracket.TheVariants as end_brackets
 use Rattle.utd_syntax.specs.declared.words.AggregateWord.{AggregateWord}
 use Rattle.utd_syntax.specs.declared.words.AggregateWord.TheVariants as aggregate_words
-use Rattle.utd_syntax.specs.declared.words.PackWord.{PackWord}
-use Rattle.utd_syntax.specs.declared.words.PackWord.TheVariants as pack_words
-use Rattle.utd_syntax.specs.declared.words.EmptinessWord.{EmptinessWord}
-use Rattle.utd_syntax.specs.declared.words.EmptinessWord.TheVariants as emptinesses
 
 -- the word of an aggregate of a scalar
 abbrev pub aggregate_word_at : Terminal → AggregateWord
 aggregate_word_at t.Sum = aggregate_words.Sum
 aggregate_word_at t.Min = aggregate_words.Min
 aggregate_word_at _ = aggregate_words.Max
-
--- PACK and UNPACK
-abbrev pub pack_word_at : Terminal → PackWord
-pack_word_at t.Pack = pack_words.Pack
-pack_word_at _ = pack_words.Unpack
-
--- the words that ask whether a relation has rows
-abbrev pub emptiness_at : Terminal → EmptinessWord
-emptiness_at t.IsEmpty = emptinesses.IsEmpty
-emptiness_at _ = emptinesses.IsNotEmpty
 
 -- the comparison of relations
 abbrev pub relation_comparison_of : Terminal → RelationComparison

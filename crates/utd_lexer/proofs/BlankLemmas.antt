@@ -4,7 +4,7 @@ use Rattle.std.proofs.lemmas.Bool.{eqb-true, ne_eqb}
 use Rattle.std.proofs.lemmas.Bool.Decides.{eqb_tells}
 use Rattle.utd_lexer.specs.declared.cutter.Mode.{Mode}
 use Rattle.utd_lexer.specs.declared.cutter.Mode.TheVariants.{Between, Slash, Text, Block, Star, Line}
-use Rattle.utd_lexer.specs.Cutting.{is_outside, blank_next, can_be_blank, is_resting, next, run}
+use Rattle.utd_lexer.specs.Cutting.{blank_next, can_be_blank, is_resting, next, run}
 use Rattle.utd_lexer.specs.Parts.{is_space, AllBlank, IsBlank, Part, plain, text, block, line, bytes_of_part, Lacks, LacksEnd, AreParts, bytes_of}
 use Rattle.utd_lexer.proofs.CutLemmas.{run-append, NotSlash, grow, apart-plain, apart-block, apart-line, Lacks-snoc, LacksEnd-snoc, LacksEnd-init, LacksEnd-tail, block_next, star_next, block_ends, line_done}
 
@@ -190,8 +190,3 @@ pub resting-answers : (bytes : List ℕ) (m : Mode) (ok r : Bool) → m ≡ run 
 resting-answers bytes m ok r a b h =
     let e : r ≡ blank_answer bytes = h ∙ ap (λ x. x && is_resting m) b ∙ ap (λ x. can_be_blank Between true bytes && is_resting x) a in
     (λ g. (answers bytes).0 (sym e ∙ g), λ w. e ∙ (answers bytes).1 w)
-
-pub ended_next : (m : Mode) → is_outside m ≡ true → next m 59 ≡ Between
-ended_next Between h = refl
-ended_next Slash h = refl
-ended_next _ h = absurd (false_true h)

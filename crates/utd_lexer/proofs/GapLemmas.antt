@@ -1,10 +1,10 @@
 -- White space and comments at the front of characters.
-use Rattle.std.proofs.Common.{◌≡◌, ◌≢◌, ℕ, ◌+◌, ◌<◌, ◌≤◌, List, [], ◌∷◌, ◌++◌, length, drop, get_or, true, false, Option, Some, None, refl, sym, ◌∙◌, ap, subst, arith, length-append, length-drop, append_assoc, append-nil}
+use Rattle.std.proofs.Common.{◌≡◌, ◌≢◌, ℕ, ◌+◌, ◌<◌, ◌≤◌, List, [], ◌∷◌, ◌++◌, length, drop, get_or, true, Some, None, refl, sym, ◌∙◌, ap, subst, arith, length-append, length-drop, append_assoc, append-nil}
 use Rattle.std.proofs.lemmas.List.{drop_all, get_or_default}
 use Rattle.utd_lexer.specs.Parts.{is_space, Lacks, LacksEnd}
-use Rattle.utd_lexer.specs.Tokens.{Gap, blank, block, line, last, spelling_of_gap}
+use Rattle.utd_lexer.specs.Tokens.{blank, block, line, last}
 use Rattle.utd_lexer.specs.Fronts.{GapFront}
-use Rattle.utd_lexer.proofs.ListLemmas.{same-head, same-tail, nil-cons, drop-at, front-length}
+use Rattle.utd_lexer.proofs.ListLemmas.{same-head, same-tail, drop-at, front-length}
 
 no_space : (c : ℕ) → c ≡ 47 → is_space c ≡ true → ⊥
 no_space c e h = let f : is_space 47 ≡ true = ap is_space (sym e) ∙ h in cc
@@ -19,9 +19,6 @@ NoEnd cs = (bs rest : List ℕ) → cs ≡ bs ++ 42 ∷ (47 ∷ rest) → ⊥
 abbrev pub BlockGoesOn : List ℕ → List ℕ → Type 0
 BlockGoesOn left all = ((bs rest : List ℕ) → LacksEnd bs → left ≡ bs ++ 42 ∷ (47 ∷ rest) → (cs : List ℕ) × LacksEnd cs × (all ≡ cs ++ 42 ∷ (47 ∷ rest)))
     × (NoEnd left → NoEnd all)
-
-pub block-init : (all : List ℕ) → BlockGoesOn all all
-block-init all = (λ bs rest lacks is. (bs, lacks, is), λ h. h)
 
 lacks-more : (x y : ℕ) (xs bs rest : List ℕ) → (x ≡ 42 → y ≡ 47 → ⊥) → y ∷ xs ≡ bs ++ 42 ∷ (47 ∷ rest) → LacksEnd bs → LacksEnd (x ∷ bs)
 lacks-more x y xs [] rest never is h = tt
@@ -83,9 +80,6 @@ abbrev pub LineGoesOn : List ℕ → List ℕ → Type 0
 LineGoesOn left all = ((bs rest : List ℕ) → Lacks 10 bs → left ≡ bs ++ 10 ∷ rest → (cs : List ℕ) × Lacks 10 cs × (all ≡ cs ++ 10 ∷ rest))
     × (Lacks 10 left → Lacks 10 all)
 
-pub line-init : (all : List ℕ) → LineGoesOn all all
-line-init all = (λ bs rest lacks is. (bs, lacks, is), λ h. h)
-
 pub line-step : (all : List ℕ) (n x : ℕ) → n < length all → x ≡ get_or all n x → x ≢ 10 → LineGoesOn (drop n all) all → LineGoesOn (drop (n + 1) all) all
 line-step all n x lt a never on =
     let d : drop n all ≡ x ∷ drop (n + 1) all = drop-at all n x lt a in
@@ -112,37 +106,3 @@ line-open all n within le on =
 
 pub space-found : (cs : List ℕ) (c : ℕ) (rest : List ℕ) → cs ≡ c ∷ rest → is_space c ≡ true → GapFront cs (Some 1)
 space-found cs c rest is h = (blank c, rest, is, h, refl)
-
-pub gap-one : (cs : List ℕ) (c : ℕ) (rest : List ℕ) → cs ≡ c ∷ rest → is_space c ≡ false → rest ≡ [] → GapFront cs None
-gap-one cs c rest is never none (blank d) r e h =
-    let same : c ≡ d = same-head c d rest r (sym is ∙ e) in
-    let t : is_space c ≡ true = ap is_space same ∙ h in cc
-gap-one cs c rest is never none (block bs) r e h = nil-cons 42 _ (sym none ∙ same-tail c 47 rest _ (sym is ∙ e))
-gap-one cs c rest is never none (line bs) r e h = nil-cons 47 _ (sym none ∙ same-tail c 47 rest _ (sym is ∙ e))
-gap-one cs c rest is never none (last bs) r e h = nil-cons 47 _ (sym none ∙ same-tail c 47 rest _ (sym is ∙ e))
-
-pub gap-two : (cs : List ℕ) (c d : ℕ) (rest body : List ℕ) → cs ≡ c ∷ rest → rest ≡ d ∷ body → is_space c ≡ false → (c ≡ 47 → d ≡ 42 → ⊥) → (c ≡ 47 → d ≡ 47 → ⊥) → GapFront cs None
-gap-two cs c d rest body is on never a b (blank x) r e h =
-    let same : c ≡ x = same-head c x rest r (sym is ∙ e) in
-    let t : is_space c ≡ true = ap is_space same ∙ h in cc
-gap-two cs c d rest body is on never a b (block bs) r e h =
-    a (same-head c 47 rest _ (sym is ∙ e)) (same-head d 42 body _ (sym on ∙ same-tail c 47 rest _ (sym is ∙ e)))
-gap-two cs c d rest body is on never a b (line bs) r e h =
-    b (same-head c 47 rest _ (sym is ∙ e)) (same-head d 47 body _ (sym on ∙ same-tail c 47 rest _ (sym is ∙ e)))
-gap-two cs c d rest body is on never a b (last bs) r e h =
-    b (same-head c 47 rest _ (sym is ∙ e)) (same-head d 47 body _ (sym on ∙ same-tail c 47 rest _ (sym is ∙ e)))
-
-pub gap-empty : (cs : List ℕ) → length cs ≡ 0 → GapFront cs None
-gap-empty cs none g rest is h =
-    let n : length cs ≡ length (spelling_of_gap g) + length rest = ap length is ∙ length-append (spelling_of_gap g) rest in
-    some g (omega (arith, n))
-  where
-    some : (g : Gap) → length (spelling_of_gap g) ≡ 0 → ⊥
-    some (blank c) z = omega (arith, z)
-    some (block bs) z = omega (arith, z)
-    some (line bs) z = omega (arith, z)
-    some (last bs) z = omega (arith, z)
-
-pub gap-comment : (cs : List ℕ) (c d : ℕ) (rest body : List ℕ) (o : Option ℕ) → cs ≡ c ∷ rest → rest ≡ d ∷ body → (e : ℕ) → c ≡ 47 → d ≡ e → GapFront (47 ∷ (e ∷ body)) o → GapFront cs o
-gap-comment cs c d rest body o is on e p q h =
-    subst (λ z. GapFront z o) (sym (is ∙ ap (λ z. c ∷ z) on ∙ ap (λ z. z ∷ (d ∷ body)) p ∙ ap (λ z. 47 ∷ (z ∷ body)) q)) h

@@ -20,10 +20,6 @@ same-tail x y xs ys e = ap tail e
 pub nil-cons : (y : ℕ) (ys : List ℕ) → [] ≡ y ∷ ys → ⊥
 nil-cons y ys e = let n : 0 ≡ suc (length ys) = ap length e in omega (arith, n)
 
-pub nil-append : (a : List ℕ) (y : ℕ) (b : List ℕ) → [] ≡ a ++ y ∷ b → ⊥
-nil-append [] y b e = nil-cons y b e
-nil-append (x ∷ a) y b e = nil-cons x (a ++ y ∷ b) e
-
 -- the element at an index, and those behind it
 pub drop-at : (xs : List ℕ) (i x : ℕ) → i < length xs → x ≡ get_or xs i x → drop i xs ≡ x ∷ drop (i + 1) xs
 drop-at xs i x lt is =

@@ -22,14 +22,6 @@ pub fits-after : (p : Place) (bs : List ℕ) (n : ℕ) → Fits p (length bs + n
 fits-after p [] n h = fits-less p n (0 + n) h (omega arith)
 fits-after p (b ∷ bs) n h = fits-after (next_place p b) bs n (fits-next p b (length bs + n) (fits-less p (length bs + n + 1) (suc (length bs) + n) h (omega arith)))
 
--- a byte further
-pub byte-step : (start p : Place) (bs : List ℕ) (i b : ℕ) → i < length bs → b ≡ get_or bs i b → place_after p (drop i bs) ≡ place_after start bs → Fits p (length bs - i)
-    → (place_after (next_place p b) (drop (i + 1) bs) ≡ place_after start bs) × Fits (next_place p b) (length bs - (i + 1))
-byte-step start p bs i b lt is same fits = (
-  ap (place_after p) (sym (drop-at bs i b lt is)) ∙ same,
-  fits-next p b (length bs - (i + 1)) (fits-less p (length bs - (i + 1) + 1) (length bs - i) fits (omega arith)),
-)
-
 -- a character further
 pub char-step : (start p : Place) (cs : List ℕ) (i c : ℕ) → i < length cs → c ≡ get_or cs i c → past p (drop i cs) ≡ past start cs → Fits p (length (encode_utf8_all (drop i cs)))
     → Fits p (length (encode_utf8 c)) × (past (place_after p (encode_utf8 c)) (drop (i + 1) cs) ≡ past start cs) × Fits (place_after p (encode_utf8 c)) (length (encode_utf8_all (drop (i + 1) cs)))

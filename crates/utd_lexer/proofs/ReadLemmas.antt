@@ -23,9 +23,6 @@ pub record SoFar (start : Place) (cs : List ℕ) (at : ℕ) (place : Place) (out
   pub read : (ts : List Token) → Lexed place (drop at cs) ts → Lexed start cs (out ++ ts)
   pub stuck : (q : Place) → Stuck place (drop at cs) q → Stuck start cs q
 
-pub so-far-init : (start : Place) (cs : List ℕ) → Fits start (length (encode_utf8_all cs)) → SoFar start cs 0 start []
-so-far-init start cs fits = record { within = omega arith; fits = fits; read = λ ts h. h; stuck = λ q h. h }
-
 -- the front of what is left, cut off
 record Cut (cs : List ℕ) (at : ℕ) (place : Place) (front rest : List ℕ) (n : ℕ) : Type 0 where
   front_is : take n (drop at cs) ≡ front

@@ -1,14 +1,12 @@
 -- Texts at the front of characters.
-use Rattle.std.proofs.Common.{◌≡◌, ◌≢◌, ℕ, suc, ◌+◌, ◌≤◌, List, [], ◌∷◌, ◌++◌, length, drop, cond, Some, None, refl, sym, ◌∙◌, ap, subst, arith, length-append, length-drop, append_assoc, append-nil, encode_utf8, encode_utf8_all, inl, inr}
-use Rattle.std.proofs.lemmas.List.{drop_all, drop-drop}
+use Rattle.std.proofs.Common.{◌≡◌, ◌≢◌, ℕ, ◌+◌, ◌≤◌, List, [], ◌∷◌, ◌++◌, length, drop, cond, refl, sym, ◌∙◌, ap, subst, arith, length-append, length-drop, append_assoc, append-nil, encode_utf8, encode_utf8_all, inl, inr}
+use Rattle.std.proofs.lemmas.List.{drop-drop}
 use Rattle.std.proofs.lemmas.Bool.{ne_eqb}
 use Rattle.std.proofs.lemmas.Bool.Decides.{eqb_tells}
 use Rattle.std.proofs.lemmas.Str.{encodes-append}
 use Rattle.utd_lexer.specs.declared.token.TokenKind.TheVariants.{Text}
-use Rattle.utd_lexer.specs.declared.front.Front.TheVariants.{Token as OfToken}
 use Rattle.utd_lexer.specs.Tokens.{doubled, EndsAt}
-use Rattle.utd_lexer.specs.Fronts.{TextFront}
-use Rattle.utd_lexer.proofs.ListLemmas.{same-head, same-tail, nil-append, front-length}
+use Rattle.utd_lexer.proofs.ListLemmas.{same-head, same-tail}
 
 -- no text ends in these characters
 abbrev pub NoText : List ℕ → Type 0
@@ -87,23 +85,3 @@ quote-step bytes now all r n le is grows taken on =
       taken-more bytes now all (39 ∷ (39 ∷ [])) n (n + 2) 39 grows refl (is ∙ ap (λ z. 39 ∷ (39 ∷ z)) (sym behind)) taken,
       λ never. on (subst NoText (sym is) (no-quote r (subst NoText behind never))),
     )
-
-pub text-found : (bytes all r : List ℕ) (n : ℕ) → n ≤ length all → drop n all ≡ 39 ∷ r → EndsAt Text [] r → TextTaken bytes n all → TextFront (39 ∷ all) (Some (OfToken Text bytes (n + 2)))
-text-found bytes all r n le is ends (v, encoded, whole) =
-    let behind : drop (n + 1) all ≡ r = drop-one all n 39 r is in
-    let split : all ≡ (doubled v ++ 39 ∷ []) ++ r = whole ∙ ap (λ z. doubled v ++ z) is ∙ sym (append_assoc (doubled v) (39 ∷ []) r) in
-    let one : n + 1 ≤ length all = left-length all r n (39 ∷ []) is le in
-    let len : length (doubled v ++ 39 ∷ []) ≡ n + 1 = front-length all (doubled v ++ 39 ∷ []) r (n + 1) split one (sym behind) in
-    (v, r, ap (λ z. 39 ∷ z) split, (tt, ends-any [] v r ends), omega (arith, len), encoded)
-
-pub text-none : (all : List ℕ) (n : ℕ) → length all ≤ n → (NoText (drop n all) → NoText all) → TextFront (39 ∷ all) None
-text-none all n le on v rest is (kind, ends) =
-    let none : drop n all ≡ [] = drop_all n all le in
-    on (λ w r e h. nil-append (doubled w) 39 r (sym none ∙ e)) v rest (same-tail 39 39 all _ is ∙ append_assoc (doubled v) (39 ∷ []) rest) ends
-
-pub text-other : (cs : List ℕ) (c : ℕ) (rest : List ℕ) → cs ≡ c ∷ rest → c ≢ 39 → TextFront cs None
-text-other cs c rest is never v r e h = never (same-head c 39 rest _ (sym is ∙ e))
-
-pub text-empty : (cs : List ℕ) → length cs ≡ 0 → TextFront cs None
-text-empty cs none v r e h =
-    let n : length cs ≡ suc (length ((doubled v ++ 39 ∷ []) ++ r)) = ap length e in omega (arith, n)

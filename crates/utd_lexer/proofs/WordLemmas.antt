@@ -1,5 +1,5 @@
 -- Words, integers and symbols at the front of characters, and the bytes of characters.
-use Rattle.std.proofs.Common.{◌≡◌, ℕ, ◌+◌, ◌<◌, ◌≤◌, List, [], ◌∷◌, ◌++◌, length, take, get_or, Bool, true, false, cond, eqb, ◌||◌, Some, None, refl, sym, ◌∙◌, ap, subst, arith, length-append, ◌⊎◌, inl, inr, lit<, encode_utf8, encode_utf8_all}
+use Rattle.std.proofs.Common.{◌≡◌, ℕ, ◌+◌, ◌<◌, List, [], ◌∷◌, ◌++◌, length, take, get_or, Bool, true, false, cond, eqb, ◌||◌, Some, refl, sym, ◌∙◌, ap, subst, arith, ◌⊎◌, inl, inr, lit<, encode_utf8, encode_utf8_all}
 use Rattle.std.proofs.lemmas.List.{take_at, take_more}
 use Rattle.std.proofs.lemmas.Bool.{eqb-true}
 use Rattle.std.specs.List.{prefix_len}
@@ -9,8 +9,8 @@ use Rattle.unicode_ident.proofs.IdentLemmas.{is_xid_continue-ascii, is_xid_start
 use Rattle.utd_lexer.specs.declared.token.TokenKind.{TokenKind}
 use Rattle.utd_lexer.specs.declared.token.TokenKind.TheVariants.{Word, Integer, Text, Symbol}
 use Rattle.utd_lexer.specs.declared.front.Front.TheVariants.{Token as OfToken}
-use Rattle.utd_lexer.specs.Tokens.{starts, continues, among, singles, seconds, opens_comment, AllOf, IsOfKind, EndsAt, NoFront, IsToken, spelling}
-use Rattle.utd_lexer.specs.Fronts.{TokenFront, GapFront, PlainFront, FrontIs, TextFront}
+use Rattle.utd_lexer.specs.Tokens.{starts, continues, among, singles, seconds, opens_comment, AllOf, IsOfKind, EndsAt}
+use Rattle.utd_lexer.specs.Fronts.{TokenFront, PlainFront, FrontIs}
 use Rattle.utd_lexer.proofs.ListLemmas.{same-head}
 use Rattle.utd_lexer.proofs.TextLemmas.{encode-snoc}
 
@@ -99,18 +99,3 @@ plain-token cs Text n bytes h e = absurd h
 plain-token cs Word n bytes (v, rest, is, tok, len) e = (v, rest, is, tok, len, same-front cs v rest bytes n is len e)
 plain-token cs Integer n bytes (v, rest, is, tok, len) e = (v, rest, is, tok, len, same-front cs v rest bytes n is len e)
 plain-token cs Symbol n bytes (v, rest, is, tok, len) e = (v, rest, is, tok, len, same-front cs v rest bytes n is len e)
-
-pub plain-fits : (cs : List ℕ) (k : TokenKind) (n : ℕ) → PlainFront cs (Some (k, n)) → n ≤ length cs
-plain-fits cs Text n h = absurd h
-plain-fits cs Word n (v, rest, is, tok, len) = omega (arith, ap length is, length-append v rest, len)
-plain-fits cs Integer n (v, rest, is, tok, len) = omega (arith, ap length is, length-append v rest, len)
-plain-fits cs Symbol n (v, rest, is, tok, len) = omega (arith, ap length is, length-append v rest, len)
-
-no-token : (cs : List ℕ) → TextFront cs None → PlainFront cs None → (k : TokenKind) (v rest : List ℕ) → cs ≡ spelling k v ++ rest → IsToken k v rest → ⊥
-no-token cs t p Text = t
-no-token cs t p Word = p.0
-no-token cs t p Integer = p.1
-no-token cs t p Symbol = p.2
-
-pub nothing-found : (cs : List ℕ) → GapFront cs None → TextFront cs None → PlainFront cs None → NoFront cs
-nothing-found cs g t p = (g, no-token cs t p)

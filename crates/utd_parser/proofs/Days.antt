@@ -1,6 +1,6 @@
 -- The texts of dates by their bytes.
 use Rattle.std.proofs.Common.{◌≡◌, ℕ, List, [], ◌∷◌, Bool, true, length, slice_index_or, refl, sym, ap, ◌∙◌, subst, arith}
-use Rattle.utd_syntax.specs.Limits.{value_of, are_digits, is_day, is_date}
+use Rattle.utd_syntax.specs.Literals.{value_of, are_digits, is_day, is_date}
 
 -- a list of ten is that of its elements
 ten : (xs : List ℕ) → length xs ≡ 10

@@ -1,6 +1,5 @@
 pub mod Values
 pub mod Spellings
-pub mod Rows
 pub mod Stacks
 pub mod Days
 pub mod Verdicts

@@ -10,8 +10,9 @@ use Rattle.utd_syntax.specs.Pieces.{Piece}
 use Rattle.utd_syntax.specs.Plain.{StatementP}
 use Rattle.utd_syntax.specs.Written.{Spells, of_statement}
 use Rattle.utd_syntax.specs.Continues.{Continues, NoStatement}
-use Rattle.utd_syntax.specs.Verdict.{Whole, Refused, limits, at_start, verdict_on}
+use Rattle.utd_syntax.specs.Verdict.{Whole, Refused, at_start}
 use Rattle.utd_syntax.proofs.Laws.{law_a, law_c, e01, limit, whole-without}
+use Rattle.utd_ranges.specs.Limits.{limits, verdict_on}
 use Rattle.utd_parser.specs.Frames.{Comes, IsStatement, RefusedAt}
 
 pub is-statement : (r : Result (Unit {0}) Refuse) (ts : List Piece) → Comes r (verdict_on ts) Whole → IfOk r (λ _. IsStatement ts)

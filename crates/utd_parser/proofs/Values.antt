@@ -1,6 +1,6 @@
 -- The numbers that digits write.
 use Rattle.std.proofs.Common.{◌≡◌, ℕ, ◌+◌, ◌*◌, ◌-◌, ◌≤◌, ◌<◌, List, [], ◌∷◌, true, nat_lt, rules, arith}
-use Rattle.utd_syntax.specs.Limits.{value_after}
+use Rattle.utd_syntax.specs.Literals.{value_after}
 
 -- more digits never make it smaller
 pub grows : (n : ℕ) (ds : List ℕ) → n ≤ value_after n ds

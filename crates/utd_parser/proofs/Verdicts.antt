@@ -7,8 +7,8 @@ use Rattle.utd_syntax.specs.declared.terminal.Terminal.{Terminal}
 use Rattle.utd_syntax.specs.declared.terminal.Terminal.TheVariants.{Finish}
 use Rattle.utd_syntax.specs.Pieces.{Piece, first}
 use Rattle.utd_syntax.specs.Table.{Symbol, Load, Taking}
-use Rattle.utd_syntax.specs.Limits.{is_too_deep, is_out_of_range}
-use Rattle.utd_syntax.specs.Verdict.{Verdict, Refused, Reach, Reaches, limits, verdict, reach, taken, ended, stack_after, load_after}
+use Rattle.utd_syntax.specs.Verdict.{Verdict, Refused, Reach, Reaches, verdict, reach, taken, ended, stack_after, load_after}
+use Rattle.utd_ranges.specs.Limits.{is_too_deep, is_out_of_range, limits}
 use Rattle.utd_parser.specs.Tokens.{seen}
 use Rattle.utd_parser.specs.Frames.{excess_of}
 

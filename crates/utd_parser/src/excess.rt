@@ -1,6 +1,6 @@
 // What refuses a token that the forms allow.
 ghost use Rattle.std.specs.Prelude.{◌≡◌};
-ghost use Rattle.utd_syntax.specs.Limits as limits;
+ghost use Rattle.utd_ranges.specs.Limits as limits;
 ghost use Rattle.utd_parser.specs.Forms.{taking_of};
 ghost use Rattle.utd_parser.specs.Frames.{load_of, excess_of};
 
@@ -10,6 +10,7 @@ use crate::limits::{exceeds, is_bad_text};
 use crate::stack::Load;
 use point_core::Code;
 use utd_syntax::Terminal;
+use value_core::{MOST_LEVELS, MOST_NAME_BYTES, MOST_OPERATORS};
 
 const MOST_INTEGER: u64 = 9_223_372_036_854_775_807;
 
@@ -35,7 +36,7 @@ fn is_out_of_range(how: Taking, terminal: Terminal, bytes: &[u8]) -> bool
     ensures { result ≡ limits.is_out_of_range (taking_of how) terminal bytes.now }
 {
     match terminal {
-        Terminal::Name => bytes.len() > 64,
+        Terminal::Name => bytes.len() > MOST_NAME_BYTES,
         Terminal::Digits => is_wrong_integer(how, bytes),
         Terminal::Quoted => is_wrong_text(how, bytes),
         _ => false,
@@ -46,9 +47,11 @@ fn is_too_deep(how: Taking, load: Load) -> bool
     ensures { result ≡ limits.is_too_deep (taking_of how) (load_of load) }
 {
     match how {
-        Taking::Operator => load.operators >= 256,
-        Taking::Opens(_) => load.levels >= 64,
-        Taking::OperatorOpens(_) => load.levels >= 64 || load.operators >= 256,
+        Taking::Operator => load.operators >= MOST_OPERATORS,
+        Taking::Opens(_) => load.levels >= MOST_LEVELS,
+        Taking::OperatorOpens(_) => {
+            load.levels >= MOST_LEVELS || load.operators >= MOST_OPERATORS
+        }
         _ => false,
     }
 }

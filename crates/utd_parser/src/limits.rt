@@ -1,11 +1,14 @@
 // What a token may be at most.
 ghost use Rattle.std.specs.Prelude.{◌≡◌, nat_lt};
-ghost use Rattle.utd_syntax.specs.Limits as limits;
-ghost use Rattle.utd_syntax.specs.Limits.{value_of};
+ghost use Rattle.utd_syntax.specs.Literals as literals;
+ghost use Rattle.utd_syntax.specs.Literals.{value_of};
+ghost use Rattle.utd_ranges.specs.Limits as limits;
+
+use value_core::MOST_TEXT_BYTES;
 
 // A character below the space. It calls itself once for each byte, so give it no more than a few hundred.
 fn has_control(bytes: &[u8]) -> bool
-    ensures { result ≡ limits.has_control bytes.now }
+    ensures { result ≡ literals.has_control bytes.now }
 {
     match bytes.split_first() {
         None => false,
@@ -13,11 +16,11 @@ fn has_control(bytes: &[u8]) -> bool
     }
 }
 
-/// A text of more than 255 bytes, or with a character below the space.
+/// A text of too many bytes, or with a character below the space.
 pub fn is_bad_text(bytes: &[u8]) -> bool
     ensures { result ≡ limits.is_bad_text bytes.now }
 {
-    bytes.len() > 255 || has_control(bytes)
+    bytes.len() > MOST_TEXT_BYTES || has_control(bytes)
 }
 
 /// The digits write a number above the most.

@@ -1,8 +1,9 @@
 // The forms to come, and how a token is taken over them.
 ghost use Rattle.std.specs.Prelude.{◌≡◌, ◌+◌, ◌<◌, List, ◌∷◌, [], ◌++◌, false, IfOk, IfSome, IsNone, length};
 ghost use Rattle.utd_syntax.specs.Table as table;
-ghost use Rattle.utd_syntax.specs.Limits.{is_too_deep};
 ghost use Rattle.utd_syntax.specs.Verdict as verdict;
+ghost use Rattle.utd_ranges.specs.Limits.{is_too_deep};
+ghost use Rattle.value_core.specs.Limits.{most_levels, most_operators};
 ghost use Rattle.utd_parser.specs.Forms.{forms_of, taking_of};
 ghost use Rattle.utd_parser.specs.Frames.{load_of, symbols_in, stack_of, passed, reach_of};
 
@@ -14,9 +15,9 @@ use utd_syntax::Terminal;
 /// The levels that are open, the operators in force, and those of them that stand outside the innermost level.
 #[derive(Clone, Copy)]
 pub struct Load {
-    pub levels: u32,
-    pub outside: u32,
-    pub operators: u32,
+    pub levels: usize,
+    pub outside: usize,
+    pub operators: usize,
 }
 
 /// Forms to come, or the end of a level with the load outside it.
@@ -142,7 +143,7 @@ pub fn enter(frames: &mut Vec<Frame>, how: Taking, load: Load) -> Result<Load, A
 
 // With one more operator in force.
 fn counted(load: Load) -> Load
-    requires { load.operators < 256 }
+    requires { load.operators < most_operators }
     ensures { load_of result ≡ verdict.counted (load_of load) }
 {
     Load {
@@ -154,7 +155,7 @@ fn counted(load: Load) -> Load
 
 // In one more level.
 fn opened(load: Load) -> Load
-    requires { load.levels < 64 }
+    requires { load.levels < most_levels }
     ensures { load_of result ≡ verdict.opened (load_of load) }
 {
     Load {

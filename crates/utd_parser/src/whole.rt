@@ -9,8 +9,9 @@ ghost use Rattle.utd_syntax.specs.Continues.{Continues, NoStatement};
 ghost use Rattle.utd_syntax.specs.Plain.{StatementP};
 ghost use Rattle.utd_syntax.specs.Read.{read_statement};
 ghost use Rattle.utd_syntax.specs.Table.{TheStatement};
-ghost use Rattle.utd_syntax.specs.Verdict.{Verdict, Whole, Refused, at_start, limits, verdict, verdict_on};
+ghost use Rattle.utd_syntax.specs.Verdict.{Verdict, Whole, Refused, at_start, verdict};
 ghost use Rattle.utd_syntax.specs.Written.{Spells, of_statement};
+ghost use Rattle.utd_ranges.specs.Limits.{limits, verdict_on};
 ghost use Rattle.utd_ranges.specs.Ranges.{HasLiteralsInRange, AreWritten, HasValues};
 ghost use Rattle.utd_builder.specs.Building as building;
 ghost use Rattle.utd_parser.specs.Tokens.{pieces, seen};
@@ -133,7 +134,7 @@ fn judge(alloc: Global, list: &TokenList) -> Result<(), Refuse>
 }
 
 /// Whether the tokens are a statement, and else the first refusal. It is E01 at the first token with which no statement
-/// goes on, or at the end of the text; E05 at a token that opens a 65th level or is a 257th operator in force; E06 at a
+/// goes on, or at the end of the text; E05 at a token that opens a level or is an operator in force beyond the most; E06 at a
 /// token out of its range.
 pub fn accept(alloc: Global, list: &TokenList) -> Result<(), Refuse>
     ensures verdict { Comes result (verdict_on (pieces list.now)) Whole }

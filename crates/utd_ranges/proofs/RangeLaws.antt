@@ -8,13 +8,13 @@ use Rattle.utd_syntax.specs.Pieces.{Piece, first, place_of}
 use Rattle.utd_syntax.specs.Plain.{StatementP}
 use Rattle.utd_syntax.specs.Written.{Spells, of_statement}
 use Rattle.utd_syntax.specs.Table.{Load, Symbol, AfterName, MoreProd, MoreSum, MoreCmp, MoreAnd, MoreOr, MoreAttributes, MoreNames, MoreElements, MoreTuples, MoreSetItems, MoreAggregates, MoreRenamings, MaybePortion, MaybeWhere, MorePostfix, MoreInfix, MoreConstraints, MoreItems, TheStatement, Shut, Taking, Turn, Never, Ends, Takes, Row, on, spelt, before, rows, may_end, same, same_bytes, fits, chosen, find, turn}
-use Rattle.utd_syntax.specs.Limits.{is_too_deep, is_out_of_range}
-use Rattle.utd_syntax.specs.Verdict.{Verdict, Whole, Refused, Limits, limits, verdict, verdict_on, reach, taken, at_form, at_start, Reach, Over, Stuck, Reaches, stack_after, load_after}
+use Rattle.utd_syntax.specs.Verdict.{Verdict, Whole, Refused, Limits, verdict, reach, taken, at_form, at_start, Reach, Over, Stuck, Reaches, stack_after, load_after}
 use Rattle.utd_syntax.proofs.FormValues.{Vals, inner, Case, Make, Makes}
 use Rattle.utd_syntax.proofs.Reader.{Ended, Built, Go, makes, end_value, by_case, made, pick, found_end, found, build, split, on_turn, read_at, on_end, read_end, read}
 use Rattle.utd_syntax.proofs.Accepted.{bare, row, plain, bare-after}
 use Rattle.utd_syntax.proofs.Complete.{statement-reads}
 use Rattle.utd_syntax.proofs.Sound.{number-same, both-left}
+use Rattle.utd_ranges.specs.Limits.{is_too_deep, is_out_of_range, limits, verdict_on}
 use Rattle.utd_ranges.specs.Ranges.{Range, IsIn, StatementIn, HasLiteralsInRange, is_unwritten, AreWritten, has_no_value, HasValues}
 use Rattle.utd_ranges.proofs.RangeForms.{Good, AllGood, CaseIn, RowIn, RowsIn}
 use Rattle.utd_ranges.proofs.StatementRows.{rows-in}

@@ -14,7 +14,8 @@ use Rattle.utd_lexer.specs.Parts.{is_space}
 use Rattle.utd_lexer.specs.Reading.{Reads}
 use Rattle.utd_lexer.specs.Tokens.{next_place, place_after, past, blank, token_at, Lexed, done, gap, token}
 use Rattle.utd_syntax.specs.Plain.{Nothing}
-use Rattle.utd_syntax.specs.Verdict.{verdict_on, Whole, verdict, reach}
+use Rattle.utd_syntax.specs.Verdict.{Whole, verdict, reach}
+use Rattle.utd_ranges.specs.Limits.{verdict_on}
 use Rattle.utd_syntax.specs.Written.{Spells, of_statement}
 use Rattle.utd_parser.specs.Tokens.{pieces}
 use Rattle.utd_statement.specs.Readings.{IsText, Tree}

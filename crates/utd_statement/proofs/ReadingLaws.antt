@@ -9,7 +9,8 @@ use Rattle.utd_lexer.proofs.OneReadingLemmas.{reads-one, refuses-one, reads-refu
 use Rattle.utd_syntax.specs.Pieces.{place_of}
 use Rattle.utd_syntax.specs.Written.{Spells, of_statement}
 use Rattle.utd_syntax.specs.Verdict as verdict
-use Rattle.utd_syntax.specs.Verdict.{verdict_on, Whole}
+use Rattle.utd_syntax.specs.Verdict.{Whole}
+use Rattle.utd_ranges.specs.Limits.{verdict_on}
 use Rattle.utd_syntax.proofs.Laws.{law_c}
 use Rattle.utd_parser.specs.Tokens.{pieces}
 use Rattle.utd_statement.specs.Readings.{Reading, Tree, Refused, IsText}

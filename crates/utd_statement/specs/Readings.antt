@@ -11,7 +11,8 @@ use Rattle.utd_syntax.specs.Pieces.{place_of}
 use Rattle.utd_syntax.specs.Plain.{StatementP}
 use Rattle.utd_syntax.specs.Written.{Spells, of_statement}
 use Rattle.utd_syntax.specs.Verdict as verdict
-use Rattle.utd_syntax.specs.Verdict.{verdict_on, Whole}
+use Rattle.utd_syntax.specs.Verdict.{Whole}
+use Rattle.utd_ranges.specs.Limits.{verdict_on}
 use Rattle.utd_parser.specs.Tokens.{pieces}
 
 -- a syntax tree, with the place of the statement's first token; or a refusal of the text

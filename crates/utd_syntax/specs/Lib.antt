@@ -4,6 +4,6 @@ pub mod Read
 pub mod Written
 pub mod Continues
 pub mod Table
-pub mod Limits
+pub mod Literals
 pub mod Terminals
 pub mod Verdict

@@ -5,7 +5,7 @@ use Rattle.utd_syntax.specs.declared.terminal.Terminal.{Terminal}
 use Rattle.utd_syntax.specs.declared.terminal.Terminal.TheVariants as t
 use Rattle.utd_syntax.specs.Pieces.{Piece}
 use Rattle.utd_syntax.specs.Table.{same, same_bytes}
-use Rattle.utd_syntax.specs.Limits.{is_digit, are_digits}
+use Rattle.utd_syntax.specs.Literals.{is_digit, are_digits}
 
 -- a reserved word and a symbol have one spelling; of a name, an integer and a text this is one
 abbrev pub spelling : Terminal → List ℕ

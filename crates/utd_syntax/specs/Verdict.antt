@@ -1,4 +1,4 @@
--- The first refusal of a text.
+-- The first refusal of a text, under limits.
 use Rattle.std.specs.Prelude.{ℕ, ◌+◌, List, [], ◌∷◌, ◌++◌, Bool, false, if◌then◌else◌}
 use Rattle.point_core.specs.declared.fault.Place.{Place}
 use Rattle.point_core.specs.declared.fault.Code.{Code}
@@ -6,8 +6,7 @@ use Rattle.point_core.specs.declared.fault.Code.TheVariants.{E01, E05, E06}
 use Rattle.utd_syntax.specs.declared.terminal.Terminal.{Terminal}
 use Rattle.utd_syntax.specs.declared.terminal.Terminal.TheVariants.{Finish}
 use Rattle.utd_syntax.specs.Pieces.{Piece, first, place_of}
-use Rattle.utd_syntax.specs.Table.{Load, Symbol, Shut, TheStatement, Taking, Operator, Separator, Opens, OperatorOpens, Turn, Never, Ends, Takes, turn}
-use Rattle.utd_syntax.specs.Limits.{is_too_deep, is_out_of_range}
+use Rattle.utd_syntax.specs.Table.{Load, Symbol, Shut, Taking, Operator, Separator, Opens, OperatorOpens, Turn, Never, Ends, Takes, turn}
 
 -- the tokens are a whole text, or are refused at this place
 pub data Verdict : Type 0 where
@@ -60,9 +59,6 @@ pub record Limits : Type 0 where
   pub too_deep : Taking → Load → Bool
   pub out_of_range : Taking → Terminal → List ℕ → Bool
 
-abbrev pub limits : Limits
-limits = record { too_deep = is_too_deep; out_of_range = is_out_of_range }
-
 -- nothing: what is left is the grammar
 abbrev pub no_limits : Limits
 no_limits = record { too_deep = λ _ _. false; out_of_range = λ _ _ _. false }
@@ -88,7 +84,3 @@ verdict by (t ∷ ts) stack load = taken by (reach stack load t.terminal t.bytes
 -- before the first token nothing is open
 abbrev pub at_start : Load
 at_start = record { levels = 0; outside = 0; operators = 0 }
-
--- the verdict on the tokens of a statement
-abbrev pub verdict_on : List Piece → Verdict
-verdict_on ts = verdict limits ts (TheStatement ∷ []) at_start

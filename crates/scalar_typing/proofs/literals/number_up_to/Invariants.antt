@@ -1,5 +1,5 @@
 use Rattle.std.proofs.Common.{◌≡◌, ◌≤◌, drop}
-use Rattle.utd_syntax.specs.Limits.{value_after, value_of}
+use Rattle.utd_syntax.specs.Literals.{value_after, value_of}
 use Rattle.scalar_typing.proofs.literals.number_up_to.Given as goal
 
 abbrev pub invariant-loop-digit : goal.invariant-loop-digit

@@ -1,5 +1,5 @@
 use Rattle.std.proofs.Common.{arith, sym, ◌∙◌, ap, ◌+◌, ◌*◌, ◌-◌}
-use Rattle.utd_syntax.specs.Limits.{value_after}
+use Rattle.utd_syntax.specs.Literals.{value_after}
 use Rattle.utd_parser.proofs.Values.{above}
 use Rattle.utd_parser.proofs.limits.exceeds.Goals as goal
 

@@ -1,5 +1,5 @@
 use Rattle.std.proofs.Common.{◌≡◌, ◌≤◌, length}
-use Rattle.utd_syntax.specs.Limits.{value_after, value_of}
+use Rattle.utd_syntax.specs.Literals.{value_after, value_of}
 use Rattle.utd_parser.proofs.limits.exceeds.Given as goal
 
 abbrev pub invariant-loop-digit : goal.invariant-loop-digit

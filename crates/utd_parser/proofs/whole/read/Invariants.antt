@@ -1,6 +1,7 @@
 use Rattle.std.proofs.Common.{◌≡◌, length}
 use Rattle.utd_syntax.specs.Pieces.{first}
-use Rattle.utd_syntax.specs.Verdict.{limits, verdict}
+use Rattle.utd_syntax.specs.Verdict.{verdict}
+use Rattle.utd_ranges.specs.Limits.{limits}
 use Rattle.utd_parser.specs.Tokens.{pieces}
 use Rattle.utd_parser.specs.Frames.{load_of, stack_of}
 use Rattle.utd_parser.proofs.whole.read.Given as goal
