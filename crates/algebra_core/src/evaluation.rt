@@ -14,7 +14,7 @@ ghost use Rattle.algebra_core.specs.Surroundings.{around_of, MayStand};
 
 use crate::literal::literal;
 use crate::operand::Operand;
-use crate::operators::{self, MOST_ROWS};
+use crate::operators;
 use crate::scope::Scope;
 use crate::surrounded;
 use crate::surrounding::Surrounding;
@@ -24,7 +24,7 @@ use std::alloc::Global;
 use std::sync::ledger::Ledger;
 use tree_core::{Aggregates, InfixWord, RelForm, RelTree, Relvar, Sets};
 use using_core::{packed, unpacked};
-use value_core::{Heading, Name, Names, Positions, Relation};
+use value_core::{Heading, MOST_ROWS, Name, Names, Positions, Relation};
 
 /// The relation of an expression, or its fault.
 #[cycle(answer)]
