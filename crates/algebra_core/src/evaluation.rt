@@ -14,10 +14,9 @@ ghost use Rattle.algebra_core.specs.Surroundings.{around_of, MayStand};
 
 use crate::literal::literal;
 use crate::operand::Operand;
-use crate::operators;
 use crate::scope::Scope;
-use crate::surrounded;
 use crate::surrounding::Surrounding;
+use crate::{operators, surrounded};
 use point_core::{Fault, Memory, Place, Steps, Stop};
 use scalar_core::Scalar;
 use std::alloc::Global;
@@ -405,7 +404,7 @@ fn newest<'a>(name: &Name, value: &'a Relation, scope: &Scope<'a>) -> &'a Relati
     ensures { result.now ≡ current (with_of scope.now) (value_of scope.now) name.now value.now }
 {
     match (scope.with, scope.value) {
-        (Some(with), Some(given)) if *name == *with => given,
+        (Some(with), Some(given)) => if *name == *with { given } else { value },
         _ => value,
     }
 }
