@@ -14,17 +14,16 @@ ghost use Rattle.algebra_core.specs.Surroundings.{around_of, MayStand};
 
 use crate::literal::literal;
 use crate::operand::Operand;
-use crate::operators::{self, MOST_ROWS};
 use crate::scope::Scope;
-use crate::surrounded;
 use crate::surrounding::Surrounding;
+use crate::{operators, surrounded};
 use point_core::{Fault, Memory, Place, Steps, Stop};
 use scalar_core::Scalar;
 use std::alloc::Global;
 use std::sync::ledger::Ledger;
 use tree_core::{Aggregates, InfixWord, RelForm, RelTree, Relvar, Sets};
 use using_core::{packed, unpacked};
-use value_core::{Heading, Name, Names, Positions, Relation};
+use value_core::{Heading, MOST_ROWS, Name, Names, Positions, Relation};
 
 /// The relation of an expression, or its fault.
 #[cycle(answer)]
@@ -405,7 +404,7 @@ fn newest<'a>(name: &Name, value: &'a Relation, scope: &Scope<'a>) -> &'a Relati
     ensures { result.now ≡ current (with_of scope.now) (value_of scope.now) name.now value.now }
 {
     match (scope.with, scope.value) {
-        (Some(with), Some(given)) if *name == *with => given,
+        (Some(with), Some(given)) => if *name == *with { given } else { value },
         _ => value,
     }
 }

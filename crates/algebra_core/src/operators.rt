@@ -22,10 +22,7 @@ use relation_core::{
 use scalar_core::Scalar;
 use std::alloc::Global;
 use tree_core::{InfixWord, Sets};
-use value_core::{Heading, Name, Names, Positions, Relation, Row, RowsRefuse};
-
-/// The most rows of a relation.
-pub(crate) const MOST_ROWS: usize = 100_000;
+use value_core::{Heading, MOST_ROWS, Name, Names, Positions, Relation, Row, RowsRefuse};
 
 /// The relation, or the fault of too many rows at the place.
 pub(crate) fn told(place: Place, answer: Result<Relation, RowsRefuse>) -> Result<Relation, Stop>
