@@ -1,5 +1,5 @@
 -- Numbers as labels.
-use Rattle.std.specs.Prelude.{◌≡◌, ℕ, List, [], ◌∷◌, Result, Ok, Err}
+use Rattle.std.specs.Prelude.{◌≡◌, ℕ, List, [], ◌∷◌, Result, Ok, Err, ℤ, pos, int_lt, cond}
 use Rattle.std.proofs.Common.{ap, subst, sym}
 use Rattle.std.specs.List.Sorted.{IsStrictlySortedBy}
 use Rattle.std.specs.declared.cmp.Ordering.{Ordering}
@@ -26,3 +26,7 @@ one_in_order order l = (tt, tt)
 -- is in order
 pub one_sorted : {F : Type 0} (l : ℕ) (v : List ℕ) → one_label {F = F} l ≡ Ok v → IsStrictlySortedBy nat_cmp v
 one_sorted l v e = subst (IsStrictlySortedBy nat_cmp) (ap (labels_or []) e) (one_in_order nat_cmp l)
+
+-- the count, where the sum is at most ten
+abbrev pub at_most_ten : {F : Type 0} → F → ℕ → ℤ → Result ℕ F
+at_most_ten e count sum = cond (int_lt (pos 10) sum) (Err e) (Ok count)

@@ -6,6 +6,7 @@ ghost use Rattle.std.specs.Prelude.{ℕ, ◌<◌, ◌≤◌};
 mod count;
 mod small;
 mod tag;
+mod total;
 
 use box_core::{intersect, join, matching, minus, not_matching};
 pub use count::{Count, counted};
@@ -13,6 +14,7 @@ use point_core::Memory;
 pub use small::{Small, keyed_of, keys_of, one_side, small_of};
 use std::alloc::Global;
 pub use tag::{Greater, Tag};
+pub use total::{AtMostTen, totalled};
 
 /// An operator.
 #[derive(Clone, Copy)]
@@ -55,6 +57,7 @@ pub fn answer(
 #[cfg(test)]
 mod tests {
     use super::*;
+    use point_core::{Code, Fault, Place};
     use std::marker::Brand;
     use std::sync::ledger::Blank;
     use std::test::Fail;
@@ -140,6 +143,31 @@ mod tests {
         assert!(rt; counts[1] == one_side(0, 2, (4, 6)));
         assert!(rt; counts[2] == one_side(0, 1, (6, 10)));
         assert!(rt; counts[3] == one_side(0, 1, (3, 5)));
+        Ok(())
+    }
+
+    #[test]
+    fn counts_by_a_kept_state(rt: HostRuntime) -> Result<(), Fail> {
+        let fault = Fault {
+            place: Place { line: 1, column: 2 },
+            code: Code::E30,
+        };
+        let rows = [
+            one_side(1, 9, (2, 6)),
+            one_side(1, 1, (0, 4)),
+            one_side(1, 2, (0, 4)),
+            one_side(2, 6, (0, 3)),
+            one_side(2, 6, (3, 5)),
+        ];
+        let (counts, least) = totalled(rt.alloc(), &rows, fault)?;
+        assert_eq!(rt; counts.len(), 4);
+        assert!(rt; counts[0] == one_side(0, 2, (0, 2)));
+        assert!(rt; counts[1] == one_side(0, 1, (4, 6)));
+        assert!(rt; counts[2] == one_side(0, 1, (0, 3)));
+        assert!(rt; counts[3] == one_side(0, 1, (3, 5)));
+        assert!(rt; least == Some(fault));
+        let (_, none) = totalled(rt.alloc(), &rows[3..], fault)?;
+        assert!(rt; none.is_none());
         Ok(())
     }
 
