@@ -5,14 +5,14 @@ ghost use Rattle.std.specs.Prelude.{ℕ, ◌<◌, ◌≤◌};
 
 mod rows;
 
-use box_tests::{Operator, Small, answer};
-use point_core::Memory;
+use box_tests::{Operator, Small, answer, totalled};
+use point_core::{Code, Fault, Memory, Place};
 use rows::{Kind, drawn};
 use std::alloc::Global;
 use std::time::{Clock, Instant};
 use std::{env, io};
 
-const USAGE: &str = "usage: box_benchmarks one|each|tenth|two NUMBER_OF_ROWS";
+const USAGE: &str = "usage: box_benchmarks one|each|tenth|two|cover|quarter NUMBER_OF_ROWS";
 
 fn wants_memory() -> io::Error {
     io::Error::from(io::ErrorKind::OutOfMemory)
@@ -53,6 +53,18 @@ fn time_of<C: Clock>(
     Ok((spent, rows.len()))
 }
 
+// The time of the counts and sums of the rows at each cell, and how many parts there are.
+fn time_of_counts<C: Clock>(clock: &C, alloc: Global, rows: &[Small]) -> io::Result<(u128, usize)> {
+    let fault = Fault {
+        place: Place { line: 1, column: 1 },
+        code: Code::E30,
+    };
+    let start = Instant::now(clock)?;
+    let (counts, _) = or_error(totalled(alloc, rows, fault))?;
+    let spent = start.elapsed(clock)?.as_nanos();
+    Ok((spent, counts.len()))
+}
+
 // What the words ask for, if they ask for a run.
 fn asked(words: &[String]) -> Option<(Kind, u32)> {
     if words.len() != 2 {
@@ -64,6 +76,8 @@ fn asked(words: &[String]) -> Option<(Kind, u32)> {
         "each" => Some((Kind::Each, count)),
         "tenth" => Some((Kind::Tenth, count)),
         "two" => Some((Kind::Two, count)),
+        "cover" => Some((Kind::Cover, count)),
+        "quarter" => Some((Kind::Quarter, count)),
         _ => None,
     }
 }
@@ -96,6 +110,15 @@ fn tell_all(rt: &HostRuntime, kind: Kind, left: &[Small], right: &[Small]) -> io
     Ok(())
 }
 
+fn tell_counts(rt: &HostRuntime, rows: &[Small]) -> io::Result<()> {
+    let alloc = rt.alloc();
+    let sort = time_of_sort(rt, alloc, rows)?;
+    tell(rt, "sort", (sort, rows.len()), sort)?;
+    let spent = time_of_counts(rt, alloc, rows)?;
+    tell(rt, "counts", spent, sort)?;
+    Ok(())
+}
+
 fn main(rt: HostRuntime) -> io::Result<()> {
     let alloc = rt.alloc();
     let mut words = Vec::new(alloc);
@@ -107,8 +130,11 @@ fn main(rt: HostRuntime) -> io::Result<()> {
         return Ok(());
     };
     let left = or_error(drawn(alloc, kind, count, 1))?;
-    let right = or_error(drawn(alloc, kind, count, 2))?;
     println!(rt; "rows: {count} and {count}")?;
+    if let Kind::Quarter = kind {
+        return tell_counts(&rt, left.as_slice());
+    }
+    let right = or_error(drawn(alloc, kind, count, 2))?;
     tell_all(&rt, kind, left.as_slice(), right.as_slice())?;
     Ok(())
 }

@@ -6,13 +6,15 @@ use point_core::Memory;
 use std::alloc::Global;
 
 /// One key over boxes apart from each other, a key for each row over boxes that all overlap, a tenth as many keys as
-/// rows, or the same on two sides.
+/// rows, the same on two sides, one key of which some forty boxes have each cell, or of which a quarter of all have it.
 #[derive(Clone, Copy)]
 pub enum Kind {
     One,
     Each,
     Tenth,
     Two,
+    Cover,
+    Quarter,
 }
 
 impl Kind {
@@ -40,10 +42,10 @@ fn below(seed: &mut u64, end: u32) -> u32 {
     (*seed >> 33) as u32 % end.max(1)
 }
 
-// At most 20 cells, of which the first is among the first `among`.
-fn short_span(seed: &mut u64, among: u32) -> (usize, usize) {
+// At most `most` cells, of which the first is among the first `among`.
+fn short_span(seed: &mut u64, among: u32, most: u32) -> (usize, usize) {
     let begin = below(seed, among) as usize;
-    let length = below(seed, 20) as usize;
+    let length = below(seed, most) as usize;
     (begin, begin + length + 1)
 }
 
@@ -77,14 +79,26 @@ fn row(seed: &mut u64, kind: Kind, i: u32, count: u32) -> Small {
         Kind::Tenth => Small {
             key: u64::from(below(seed, tenth)),
             label,
-            first: short_span(seed, 300),
+            first: short_span(seed, 300, 20),
             second: (0, 0),
         },
         Kind::Two => Small {
             key: u64::from(below(seed, tenth)),
             label,
-            first: short_span(seed, 60),
-            second: short_span(seed, 60),
+            first: short_span(seed, 60, 20),
+            second: short_span(seed, 60, 20),
+        },
+        Kind::Cover => Small {
+            key: 0,
+            label,
+            first: short_span(seed, count, 80),
+            second: (0, 0),
+        },
+        Kind::Quarter => Small {
+            key: 0,
+            label: 0,
+            first: short_span(seed, count, count / 2),
+            second: (0, 0),
         },
     }
 }
