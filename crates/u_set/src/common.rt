@@ -17,14 +17,14 @@ ghost use Rattle.u_set.specs.Boxes.{AreIntervals, types_at, boxed};
 
 use crate::boxes::to_boxes;
 use crate::positions::types_at;
-use crate::refusals::{MOST_ROWS, refusal};
+use crate::refusals::refusal;
 use crate::rows::from_boxes;
 use box_core::intersect;
 use cell_core::{BoxRow, CellRefuse, CellRows, back, rows_over_cells};
 use point_core::{AnyType, Memory, PointType, Steps};
 use std::alloc::Global;
 use std::sync::ledger::Ledger;
-use value_core::{Relation, Row, RowsRefuse};
+use value_core::{MOST_ROWS, Relation, Row, RowsRefuse};
 
 // What both boxes have in common, packed.
 fn common_boxes<T: PointType, L: Ledger>(

@@ -6,9 +6,6 @@ ghost use Rattle.cell_core.specs.declared.boxes.CellRefuse.TheVariants.{Limit as
 use cell_core::CellRefuse;
 use value_core::RowsRefuse;
 
-/// The most rows of a relation.
-pub(crate) const MOST_ROWS: usize = 100_000;
-
 /// Too many boxes are too many rows.
 pub(crate) fn refusal(refuse: CellRefuse) -> RowsRefuse
     ensures { result ≡ TooMany → refuse ≡ OfLimit }

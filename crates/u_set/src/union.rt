@@ -17,13 +17,13 @@ ghost use Rattle.u_set.specs.Boxes.{AreIntervals, types_at, boxed};
 
 use crate::boxes::to_boxes;
 use crate::positions::types_at;
-use crate::refusals::{MOST_ROWS, refusal};
+use crate::refusals::refusal;
 use crate::rows::from_boxes;
 use cell_core::{BoxRow, CellRefuse, pack};
 use point_core::{AnyType, Label, Memory, PointType, Steps};
 use std::alloc::Global;
 use std::sync::ledger::Ledger;
-use value_core::{Relation, Row, RowsRefuse};
+use value_core::{MOST_ROWS, Relation, Row, RowsRefuse};
 
 // Adds equal boxes.
 fn push_copies<T: PointType>(
