@@ -14,5 +14,7 @@ mod union;
 pub use boxes::to_boxes;
 pub use comparison::{are_same, is_within, u_equal, u_subset};
 pub use packing::{packed, unpacked};
+pub use positions::{is_listed, types_at};
+pub use refusals::{MOST_ROWS, refusal};
 pub use rows::from_boxes;
 pub use union::{u_union, united};

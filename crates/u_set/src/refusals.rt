@@ -7,10 +7,10 @@ use cell_core::CellRefuse;
 use value_core::RowsRefuse;
 
 /// The most rows of a relation.
-pub(crate) const MOST_ROWS: usize = 100_000;
+pub const MOST_ROWS: usize = 100_000;
 
 /// Too many boxes are too many rows.
-pub(crate) fn refusal(refuse: CellRefuse) -> RowsRefuse
+pub fn refusal(refuse: CellRefuse) -> RowsRefuse
     ensures { result ≡ TooMany → refuse ≡ OfLimit }
 {
     match refuse {
