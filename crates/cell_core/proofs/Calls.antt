@@ -4,7 +4,7 @@ use Rattle.std.specs.List.{All, AllByRecursion}
 use Rattle.std.proofs.Common.{inl, inr}
 use Rattle.std.proofs.lemmas.Bool.{cases_lt}
 use Rattle.packing_core.specs.Live.{box, InLive, IsSliceRow}
-use Rattle.cell_core.proofs.Back.{cells_bound, live_inside}
+use Rattle.cell_core.proofs.CellsBack.{cells_bound, live_inside}
 use Rattle.std.proofs.lemmas.List.{length-map, length-append}
 use Rattle.packing_core.specs.Packed.{no_cells}
 use Rattle.slice_core.specs.declared.inward.IndexBox.{IndexBox}

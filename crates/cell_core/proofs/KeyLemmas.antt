@@ -19,7 +19,7 @@ use Rattle.cell_core.specs.Numbering.{Rises, span_at, numbers_of, IsSide}
 use Rattle.cell_core.specs.Cells.{box_numbers, cells_at, side_of, grids_of, grid_box, grid_row, row_numbers, keys_from}
 use Rattle.cell_core.proofs.Theorem.{row_of, box_order}
 use Rattle.cell_core.proofs.Assembly.{cuts_list, box_same, length_cuts, length_grids, grid_at, cut_count, in_grid, get_map, all_rise, pick_from, start}
-use Rattle.cell_core.proofs.Back.{cells_bound, place_in}
+use Rattle.cell_core.proofs.CellsBack.{cells_bound, place_in}
 use Rattle.cell_core.proofs.BackLemmas.{box_back}
 use Rattle.cell_core.proofs.PackedPlaces.{AllHave}
 use Rattle.cell_core.proofs.OnGrid.{packed_on_grid}

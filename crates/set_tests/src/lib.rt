@@ -1,5 +1,7 @@
-//! Relations of one interval attribute, packed, unpacked, united and compared.
+//! Relations of one and of two interval attributes under the operators point by point.
 #![tactic(auto)]
+
+mod two;
 
 ghost use Rattle.std.specs.Prelude.{◌≡◌, [], ◌∷◌, IfOk};
 ghost use Rattle.u_set.specs.Boxes.{AreIntervals};
@@ -26,15 +28,20 @@ fn heading_of_one(alloc: Global) -> Result<Heading, RelationRefuse>
     }
 }
 
-// The row of the one interval, from one end to the other, whichever is less.
-fn row_of(alloc: Global, ends: (i64, i64)) -> Result<Row, Memory> {
+// The interval from one end to the other, whichever is less.
+fn interval_of(ends: (i64, i64)) -> Interval<AnyType> {
     let (begin, end) = if ends.0 <= ends.1 {
         ends
     } else {
         (ends.1, ends.0)
     };
+    Interval::of(AnyPoint::Integer(begin), AnyPoint::Integer(end))
+}
+
+// The row of the one interval.
+fn row_of(alloc: Global, ends: (i64, i64)) -> Result<Row, Memory> {
     let mut values = Vec::new(alloc);
-    values.push(Value::Span(Interval::of(AnyPoint::Integer(begin), AnyPoint::Integer(end))))?;
+    values.push(Value::Span(interval_of(ends)))?;
     Ok(Row::make(values))
 }
 

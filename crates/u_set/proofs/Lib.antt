@@ -6,3 +6,5 @@ pub mod RelationLemmas
 pub mod UnionLemmas
 pub mod ComparisonLemmas
 pub mod PlaceLemmas
+pub mod CommonLemmas
+pub mod CellLemmas

@@ -20,7 +20,7 @@ use Rattle.u_set.proofs.BridgeLemmas.{box_cmp, box_total, box_separates, boxes_h
 use Rattle.u_set.proofs.ImageLemmas.{In-image}
 
 -- a box of points that has a place is the box of this place
-points_are : (y : List Span) (place : List ℤ) → ArePoints y → Has y place → y ≡ map at_point place
+pub points_are : (y : List Span) (place : List ℤ) → ArePoints y → Has y place → y ≡ map at_point place
 points_are [] [] a h = refl
 points_are [] (p ∷ ps) a h = absurd h
 points_are (i ∷ is) [] a h = absurd h

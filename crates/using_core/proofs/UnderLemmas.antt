@@ -5,7 +5,6 @@ use Rattle.point_core.specs.declared.fault.Place.{Place}
 use Rattle.value_core.specs.RowPacking.{packed, unpacked}
 use Rattle.value_core.specs.Values.{Row, Heading, is_heading}
 use Rattle.relation_core.specs.Answers.{under}
-use Rattle.relation_core.specs.Operators.{united}
 use Rattle.meaning_core.specs.Meanings.{limited, opened, closed, positions_of, names_at}
 use Rattle.meaning_core.specs.Typing.{IsList}
 use Rattle.using_core.specs.Using.{around}
@@ -18,8 +17,9 @@ module _ (place : Place) (heading : Heading) (acl : List ℕ) (headed : IsTrue (
   back_in : (from : Heading) → heading ≡ from → acl ≡ positions_of from (names_at heading acl)
   back_in from same = sym back ∙ (λ t. positions_of (same t) (names_at heading acl))
 
-  pub union_meant : (left right : Heading) (r s : List Row) → heading ≡ left → heading ≡ right
-      → under left (limited place (packed acl (united (unpacked acl r) (unpacked acl s))))
-      ≡ under heading (closed (around place heading acl) place heading (united (opened (around place heading acl) left r) (opened (around place heading acl) right s)))
-  union_meant left right r s l m =
-      λ t. under (sym l t) (limited place (packed (sym back t) (united (unpacked (back_in left l t) r) (unpacked (back_in right m t) s))))
+  -- what an operator on sets of rows gives of the unpacked rows of operands with the node's heading, packed
+  pub set_meant : (op : List Row → List Row → List Row) (left right : Heading) (r s : List Row) → heading ≡ left → heading ≡ right
+      → under left (limited place (packed acl (op (unpacked acl r) (unpacked acl s))))
+      ≡ under heading (closed (around place heading acl) place heading (op (opened (around place heading acl) left r) (opened (around place heading acl) right s)))
+  set_meant op left right r s l m =
+      λ t. under (sym l t) (limited place (packed (sym back t) (op (unpacked (back_in left l t) r) (unpacked (back_in right m t) s))))

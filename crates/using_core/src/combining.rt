@@ -1,7 +1,7 @@
 // Operators under USING that look at labels and places alone.
 ghost use Rattle.std.specs.Prelude.{◌≡◌, ◌≤◌, ◌+◌, length, IsTrue};
 ghost use Rattle.relation_core.specs.Answers.{Answers, under};
-ghost use Rattle.relation_core.specs.Operators.{united};
+ghost use Rattle.relation_core.specs.Operators.{united, intersected, subtracted};
 ghost use Rattle.relation_core.specs.Parts.{projected};
 ghost use Rattle.cell_core.specs.Costs.{bound};
 ghost use Rattle.meaning_core.specs.Meanings.{infix_rows, opened, closed};
@@ -13,7 +13,7 @@ use point_core::{Place, Steps, Stop};
 use std::alloc::Global;
 use std::sync::ledger::Ledger;
 use tree_core::InfixWord;
-use u_set::united;
+use u_set::{intersected, subtracted, united};
 use value_core::{Heading, Relation};
 
 /// What the operator gives of two relations under USING, whose place is given, as the heading of its node and the positions of its
@@ -40,6 +40,8 @@ pub fn using_infix<L: Ledger>(
 {
     match word {
         InfixWord::Union => using_union(alloc, place, heading, acl, left, right, steps),
+        InfixWord::Intersect => using_intersection(alloc, place, heading, acl, left, right, steps),
+        InfixWord::Minus => using_difference(alloc, place, heading, acl, left, right, steps),
         _ => Err(Stop::Memory),
     }
 }
@@ -65,6 +67,52 @@ fn using_union<L: Ledger>(
     // The names of a heading are different, so the names at the positions lead back to these.
     let _attributes = heading.attributes();
     told(place, united(alloc, left, right, acl, steps))
+}
+
+// The rows of both relations under USING.
+fn using_intersection<L: Ledger>(
+    alloc: Global,
+    place: Place,
+    heading: &Heading,
+    acl: &[usize],
+    left: &Relation,
+    right: &Relation,
+    steps: &mut Steps<L>,
+) -> Result<Relation, Stop>
+    requires list { IsList heading.now acl.now }
+    requires left { heading.now ≡ left.now.heading }
+    requires right { heading.now ≡ right.now.heading }
+    ensures value { Answers result (under heading.now (closed (around place heading.now acl.now) place heading.now (intersected
+        (opened (around place heading.now acl.now) left.now.heading left.now.rows)
+        (opened (around place heading.now acl.now) right.now.heading right.now.rows)))) }
+    ensures cost { steps.new ≤ steps.old + bound (length left.now.rows + length right.now.rows) (length acl.now) }
+{
+    // The names of a heading are different, so the names at the positions lead back to these.
+    let _attributes = heading.attributes();
+    told(place, intersected(alloc, left, right, acl, steps))
+}
+
+// The rows of the left relation alone under USING.
+fn using_difference<L: Ledger>(
+    alloc: Global,
+    place: Place,
+    heading: &Heading,
+    acl: &[usize],
+    left: &Relation,
+    right: &Relation,
+    steps: &mut Steps<L>,
+) -> Result<Relation, Stop>
+    requires list { IsList heading.now acl.now }
+    requires left { heading.now ≡ left.now.heading }
+    requires right { heading.now ≡ right.now.heading }
+    ensures value { Answers result (under heading.now (closed (around place heading.now acl.now) place heading.now (subtracted
+        (opened (around place heading.now acl.now) left.now.heading left.now.rows)
+        (opened (around place heading.now acl.now) right.now.heading right.now.rows)))) }
+    ensures cost { steps.new ≤ steps.old + bound (length left.now.rows + length right.now.rows) (length acl.now) }
+{
+    // The names of a heading are different, so the names at the positions lead back to these.
+    let _attributes = heading.attributes();
+    told(place, subtracted(alloc, left, right, acl, steps))
 }
 
 /// The parts of a relation's rows at the positions under USING.

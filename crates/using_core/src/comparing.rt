@@ -1,5 +1,5 @@
 // Comparisons of relations under USING.
-ghost use Rattle.std.specs.Prelude.{◌≡◌, ◌≤◌, ◌+◌, length, IfOk};
+ghost use Rattle.std.specs.Prelude.{◌≡◌, ◌&&◌, ◌≤◌, ◌+◌, length, not, IfOk};
 ghost use Rattle.base_core.specs.Sets.{is_within};
 ghost use Rattle.value_core.specs.RowPacking.{unpacked};
 ghost use Rattle.value_core.specs.Values.{row_cmp, same_rows};
@@ -11,7 +11,7 @@ use point_core::{Memory, Steps};
 use std::alloc::Global;
 use std::sync::ledger::Ledger;
 use tree_core::RelateWord;
-use u_set::{are_same, is_within};
+use u_set::{are_same, is_properly_within, is_within};
 use value_core::Relation;
 
 /// Whether two relations of one heading, unpacked on the attributes at the positions, stand as the word says.
@@ -34,9 +34,10 @@ pub fn compared<L: Ledger>(
             let same = equal(alloc, acl, left, right, steps)?;
             Ok(!same)
         }
+        RelateWord::Less => properly_within(alloc, acl, left, right, steps),
         RelateWord::LessEqual => within(alloc, acl, left, right, steps),
+        RelateWord::Greater => properly_holds(alloc, acl, left, right, steps),
         RelateWord::GreaterEqual => within(alloc, acl, right, left, steps),
-        RelateWord::Less | RelateWord::Greater => Err(Memory),
     }
 }
 
@@ -70,4 +71,38 @@ fn within<L: Ledger>(
     ensures cost { steps.new ≤ steps.old + bound (length left.now.rows + length right.now.rows) (length acl.now) }
 {
     is_within(alloc, left, right, acl, steps)
+}
+
+// Whether the left relation, unpacked, is a subset of the right one and not equal to it.
+fn properly_within<L: Ledger>(
+    alloc: Global,
+    acl: &[usize],
+    left: &Relation,
+    right: &Relation,
+    steps: &mut Steps<L>,
+) -> Result<bool, Memory>
+    requires heading { left.now.heading ≡ right.now.heading }
+    requires list { IsList left.now.heading acl.now }
+    ensures answer { IfOk result (λ b. b ≡ (is_within row_cmp (unpacked acl.now left.now.rows) (unpacked acl.now right.now.rows)
+        && not (same_rows (unpacked acl.now left.now.rows) (unpacked acl.now right.now.rows)))) }
+    ensures cost { steps.new ≤ steps.old + bound (length left.now.rows + length right.now.rows) (length acl.now) }
+{
+    is_properly_within(alloc, left, right, acl, steps)
+}
+
+// Whether the right relation, unpacked, is a subset of the left one and not equal to it.
+fn properly_holds<L: Ledger>(
+    alloc: Global,
+    acl: &[usize],
+    left: &Relation,
+    right: &Relation,
+    steps: &mut Steps<L>,
+) -> Result<bool, Memory>
+    requires heading { left.now.heading ≡ right.now.heading }
+    requires list { IsList left.now.heading acl.now }
+    ensures answer { IfOk result (λ b. b ≡ (is_within row_cmp (unpacked acl.now right.now.rows) (unpacked acl.now left.now.rows)
+        && not (same_rows (unpacked acl.now left.now.rows) (unpacked acl.now right.now.rows)))) }
+    ensures cost { steps.new ≤ steps.old + bound (length left.now.rows + length right.now.rows) (length acl.now) }
+{
+    is_properly_within(alloc, right, left, acl, steps)
 }

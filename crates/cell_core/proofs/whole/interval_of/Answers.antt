@@ -1,6 +1,6 @@
 use Rattle.std.proofs.Common.{◌≡◌, ℕ, suc, ◌-◌, List, get_or, arith, ap, ◌∙◌}
 use Rattle.cell_core.specs.Numbering.{numbers_of}
-use Rattle.cell_core.proofs.Back.{in_order, numbers_back}
+use Rattle.cell_core.proofs.CellsBack.{in_order, numbers_back}
 use Rattle.cell_core.proofs.whole.interval_of.Goals as goal
 
 pub of-requires : goal.of-requires

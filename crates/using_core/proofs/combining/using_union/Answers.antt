@@ -4,7 +4,7 @@ use Rattle.value_core.specs.RowPacking.{packed, unpacked}
 use Rattle.value_core.specs.Values.{Relation}
 use Rattle.relation_core.specs.Answers.{Answers}
 use Rattle.relation_core.specs.Operators.{united}
-use Rattle.using_core.proofs.UnderLemmas.{union_meant}
+use Rattle.using_core.proofs.UnderLemmas.{set_meant}
 use Rattle.using_core.proofs.combining.using_union.Goals as goal
 
 pub returns-clause-value : goal.returns-clause-value
@@ -12,6 +12,6 @@ returns-clause-value g c =
     let left = c.args.left.now in
     let right = c.args.right.now in
     let acl = c.args.acl.now in
-    let same = union_meant c.args.place c.args.heading.now acl c.attributes-attributes.ensures.heading c.requires.list left.heading right.heading left.rows right.rows c.requires.left c.requires.right in
+    let same = set_meant c.args.place c.args.heading.now acl c.attributes-attributes.ensures.heading c.requires.list united left.heading right.heading left.rows right.rows c.requires.left c.requires.right in
     subst (λ (m : OrFault Relation). Answers c.told.result m) same
     (c.told.ensures left.heading (packed acl (united (unpacked acl left.rows) (unpacked acl right.rows))) c.united.ensures.rows)

@@ -1,0 +1,163 @@
+// Intersection point by point.
+ghost use Rattle.std.specs.Prelude.{◌≡◌, ◌+◌, ◌<◌, ◌≤◌, map, length, Err, IfOk, MatchResult};
+ghost use Rattle.std.specs.List.{All};
+ghost use Rattle.base_core.specs.Sets.{common_of};
+ghost use Rattle.point_core.specs.Points.{number, IsPointOf};
+ghost use Rattle.point_core.specs.declared.fault.Fault.{Fault as AnyFault};
+ghost use Rattle.packing_core.specs.Boxed.{boxed_cmp, packed_boxes, unpacked_boxes};
+ghost use Rattle.value_core.specs.RowPacking.{packed, unpacked};
+ghost use Rattle.value_core.specs.Values.{IsRelation, row_cmp, most_rows};
+ghost use Rattle.relation_core.specs.Answers.{IsAnswer, IsRefusal};
+ghost use Rattle.relation_core.specs.Operators.{intersected};
+ghost use Rattle.cell_core.specs.Boxes.{IsBox};
+ghost use Rattle.cell_core.specs.Cells.{row_numbers};
+ghost use Rattle.cell_core.specs.Costs.{bound};
+ghost use Rattle.cell_core.specs.declared.boxes.CellRefuse.TheVariants.{Op as OfOp, Limit as OfLimit};
+ghost use Rattle.u_set.specs.Boxes.{AreIntervals, types_at, boxed};
+
+use crate::boxes::to_boxes;
+use crate::positions::types_at;
+use crate::refusals::{MOST_ROWS, refusal};
+use crate::rows::from_boxes;
+use box_core::intersect;
+use cell_core::{BoxRow, CellRefuse, CellRows, back, rows_over_cells};
+use point_core::{AnyType, Memory, PointType, Steps};
+use std::alloc::Global;
+use std::sync::ledger::Ledger;
+use value_core::{Relation, Row, RowsRefuse};
+
+// What both boxes have in common, packed.
+fn common_boxes<T: PointType, L: Ledger>(
+    alloc: Global,
+    types: &[T],
+    left: &[BoxRow<T, Row>],
+    right: &[BoxRow<T, Row>],
+    steps: &mut Steps<L>,
+) -> Result<Vec<BoxRow<T, Row>>, Memory>
+    requires some { 0 < length types.now }
+    requires left { All (λ b. IsBox T.IsPoint types.now b.1) left.now }
+    requires right { All (λ b. IsBox T.IsPoint types.now b.1) right.now }
+    ensures rows { IfOk result (λ v. map (row_numbers T.number_of) v.items ≡ packed_boxes row_cmp (length types.now) (common_of (boxed_cmp row_cmp)
+        (unpacked_boxes row_cmp (length types.now) (map (row_numbers T.number_of) left.now))
+        (unpacked_boxes row_cmp (length types.now) (map (row_numbers T.number_of) right.now)))) }
+    ensures boxes { IfOk result (λ v. All (λ b. IsBox T.IsPoint types.now b.1) v.items) }
+    ensures cost { steps.new ≤ steps.old + bound (length left.now + length right.now) (length types.now) }
+{
+    let CellRows {
+        sides,
+        left: l,
+        right: r,
+    } = rows_over_cells(alloc, types, left, right, steps)?;
+    let form = intersect(alloc, types.len(), l, r)?;
+    let answer = back(alloc, types, sides.as_slice(), form)?;
+    Ok(answer)
+}
+
+/// What both have in common, packed: at each point the labels of both. There is a side at least.
+///
+/// `Limit` comes exactly where the packed boxes are more than `limit`.
+pub fn u_intersect<T: PointType, L: Ledger>(
+    alloc: Global,
+    types: &[T],
+    left: &[BoxRow<T, Row>],
+    right: &[BoxRow<T, Row>],
+    limit: usize,
+    steps: &mut Steps<L>,
+) -> Result<Vec<BoxRow<T, Row>>, CellRefuse>
+    requires some { 0 < length types.now }
+    requires left { All (λ b. IsBox T.IsPoint types.now b.1) left.now }
+    requires right { All (λ b. IsBox T.IsPoint types.now b.1) right.now }
+    ensures rows { IfOk result (λ v. map (row_numbers T.number_of) v.items ≡ packed_boxes row_cmp (length types.now) (common_of (boxed_cmp row_cmp)
+        (unpacked_boxes row_cmp (length types.now) (map (row_numbers T.number_of) left.now))
+        (unpacked_boxes row_cmp (length types.now) (map (row_numbers T.number_of) right.now)))) }
+    ensures boxes { IfOk result (λ v. All (λ b. IsBox T.IsPoint types.now b.1) v.items) }
+    ensures few { IfOk result (λ v. length v.items ≤ limit) }
+    ensures no_fault { (e : AnyFault) → result ≡ Err (OfOp e) → ⊥ }
+    ensures limit { result ≡ Err OfLimit → limit < length (packed_boxes row_cmp (length types.now) (common_of (boxed_cmp row_cmp)
+        (unpacked_boxes row_cmp (length types.now) (map (row_numbers T.number_of) left.now))
+        (unpacked_boxes row_cmp (length types.now) (map (row_numbers T.number_of) right.now)))) }
+    ensures cost { steps.new ≤ steps.old + bound (length left.now + length right.now) (length types.now) }
+{
+    let answer = common_boxes(alloc, types, left, right, steps)?;
+    if answer.len() > limit {
+        return Err(CellRefuse::Limit);
+    }
+    Ok(answer)
+}
+
+// The packed boxes of two relations, on one attribute at least.
+fn common_form<L: Ledger>(
+    alloc: Global,
+    left: &Relation,
+    right: &Relation,
+    acl: &[usize],
+    steps: &mut Steps<L>,
+) -> Result<Vec<BoxRow<AnyType, Row>>, CellRefuse>
+    requires some { 0 < length acl.now }
+    requires heading { left.now.heading ≡ right.now.heading }
+    requires intervals { AreIntervals left.now.heading acl.now }
+    ensures relation { IsRelation left.now }
+    ensures rows { IfOk result (λ v. map (row_numbers number) v.items ≡ packed_boxes row_cmp (length acl.now) (common_of (boxed_cmp row_cmp)
+        (unpacked_boxes row_cmp (length acl.now) (map (boxed acl.now) left.now.rows))
+        (unpacked_boxes row_cmp (length acl.now) (map (boxed acl.now) right.now.rows)))) }
+    ensures boxes { IfOk result (λ v. All (λ b. IsBox IsPointOf (types_at left.now.heading acl.now) b.1) v.items) }
+    ensures limit { result ≡ Err OfLimit → most_rows < length (packed_boxes row_cmp (length acl.now) (common_of (boxed_cmp row_cmp)
+        (unpacked_boxes row_cmp (length acl.now) (map (boxed acl.now) left.now.rows))
+        (unpacked_boxes row_cmp (length acl.now) (map (boxed acl.now) right.now.rows)))) }
+    ensures cost { steps.new ≤ steps.old + bound (length left.now.rows + length right.now.rows) (length acl.now) }
+{
+    let types = types_at(alloc, left.heading().attributes(), acl)?;
+    let l = to_boxes(alloc, left, acl)?;
+    let r = to_boxes(alloc, right, acl)?;
+    u_intersect(
+        alloc,
+        types.as_slice(),
+        l.as_slice(),
+        r.as_slice(),
+        MOST_ROWS,
+        steps,
+    )
+}
+
+// The same under USING of one attribute at least.
+fn intersected_by_boxes<L: Ledger>(
+    alloc: Global,
+    left: &Relation,
+    right: &Relation,
+    acl: &[usize],
+    steps: &mut Steps<L>,
+) -> Result<Relation, RowsRefuse>
+    requires some { 0 < length acl.now }
+    requires heading { left.now.heading ≡ right.now.heading }
+    requires intervals { AreIntervals left.now.heading acl.now }
+    ensures rows { let rows = packed acl.now (intersected (unpacked acl.now left.now.rows) (unpacked acl.now right.now.rows)) in
+        MatchResult result (IsAnswer left.now.heading rows) (IsRefusal rows) }
+    ensures cost { steps.new ≤ steps.old + bound (length left.now.rows + length right.now.rows) (length acl.now) }
+{
+    let heading = right.heading().copy(alloc)?;
+    match common_form(alloc, left, right, acl, steps) {
+        Ok(form) => from_boxes(alloc, heading, acl, form),
+        Err(refuse) => Err(refusal(refuse)),
+    }
+}
+
+/// The intersection of two relations of one heading under USING of the attributes at the positions: the rows of both, both unpacked, are
+/// packed.
+pub fn intersected<L: Ledger>(
+    alloc: Global,
+    left: &Relation,
+    right: &Relation,
+    acl: &[usize],
+    steps: &mut Steps<L>,
+) -> Result<Relation, RowsRefuse>
+    requires heading { left.now.heading ≡ right.now.heading }
+    requires intervals { AreIntervals left.now.heading acl.now }
+    ensures rows { let rows = packed acl.now (intersected (unpacked acl.now left.now.rows) (unpacked acl.now right.now.rows)) in
+        MatchResult result (IsAnswer left.now.heading rows) (IsRefusal rows) }
+    ensures cost { steps.new ≤ steps.old + bound (length left.now.rows + length right.now.rows) (length acl.now) }
+{
+    if acl.is_empty() {
+        return relation_core::intersect(alloc, left, right);
+    }
+    intersected_by_boxes(alloc, left, right, acl, steps)
+}
