@@ -22,7 +22,7 @@ use Rattle.u_set.proofs.CommonLemmas.{places_common, places_difference, common_h
 
 -- boxes of points have a number for each side
 pub numbers_have : {T P L : Type 0} (n : P → ℤ) (has : T → P → Type 0) (ts : List T) (rows : List (L × List (P × P))) → All (λ r. IsBox has ts r.1) rows → AllHave (length ts) (map (row_numbers n) rows)
-numbers_have {L = L} {P = P} n has ts rows h = rows_have n (length ts) rows (recursion_from_All (λ (r : L × List (P × P)). length r.1 ≡ length ts) rows (λ j d l. box_length has ts _ (h j d l)))
+numbers_have {P = P} {L = L} n has ts rows h = rows_have n (length ts) rows (recursion_from_All (λ (r : L × List (P × P)). length r.1 ≡ length ts) rows (λ j d l. box_length has ts _ (h j d l)))
 
 module _ {T P L : Type 0} (n : P → ℤ) (has : T → P → Type 0) (high : T → ℤ) (point : (t : T) → P) (ts : List T) (left right : List (L × List (P × P)))
     (ss : List (List P × List P × List (ℕ × ℕ))) (ls rs : List (L × List (ℕ × ℕ))) (over : AreOverCells n has high ts left right ss ls rs) where

@@ -19,6 +19,13 @@ use std::alloc::Global;
 use std::sync::ledger::Ledger;
 use value_core::{Relation, Row};
 
+// The first, and not the second.
+fn first_alone(first: bool, second: bool) -> bool
+    ensures { result ≡ (first && not second) }
+{
+    first && !second
+}
+
 /// Whether the left boxes, unpacked on all sides, are a subset of the right ones and not equal to them; by one numbering of both.
 pub fn u_proper_subset<T: PointType, L: Ledger>(
     alloc: Global,
@@ -50,7 +57,7 @@ pub fn u_proper_subset<T: PointType, L: Ledger>(
     let right_form = pack_rows(alloc, types.len(), r)?;
     let within = same_keys(all_form.as_slice(), right_form.as_slice());
     let same = same_keys(left_form.as_slice(), right_form.as_slice());
-    Ok(within && !same)
+    Ok(first_alone(within, same))
 }
 
 /// Whether a relation, unpacked on the attributes at the positions, is a subset of another of the same heading, unpacked alike, and not
