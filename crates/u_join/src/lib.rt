@@ -2,13 +2,16 @@
 #![tactic(auto)]
 
 mod joining;
+mod joins;
 mod keys;
 mod labels;
+mod matches;
 mod matching;
 mod names;
 mod places;
 
 pub use joining::u_join;
+pub use joins::joined;
+pub use matches::{matched, unmatched};
 pub use matching::{u_matching, u_not_matching};
 pub use names::position;
-pub use places::{key_places, label_places};

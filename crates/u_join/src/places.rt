@@ -13,7 +13,7 @@ use u_row::inner;
 use value_core::{Kind, Name};
 
 /// Where the values beside the common names that are not listed stand in the labels of a heading's rows.
-pub fn key_places(
+pub(crate) fn key_places(
     alloc: Global,
     heading: &[(Name, Kind)],
     left: &[(Name, Kind)],
@@ -46,7 +46,7 @@ fn both_lists(
 }
 
 /// Where the values of joined rows that are not listed stand among those of a left label, followed by those of a right one.
-pub fn label_places(
+pub(crate) fn label_places(
     alloc: Global,
     left: &[(Name, Kind)],
     right: &[(Name, Kind)],
