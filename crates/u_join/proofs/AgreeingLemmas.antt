@@ -103,11 +103,11 @@ module _ (left right : Heading) (names : List Name) (in_left : (n : Name) → In
     to_both : ((n : Name) → In n common → value_of left x n ≡ value_of right y n) → Both
     to_both h = (
       key_left
-      ∙ map_in (value_of left x) (value_of right y) (new_names here left common) (λ n i. h n ((In-filter (λ m. not (among here (position_of left m))) n common).0 i).0)
-      ∙ sym key_right,
+          ∙ map_in (value_of left x) (value_of right y) (new_names here left common) (λ n i. h n ((In-filter (λ m. not (among here (position_of left m))) n common).0 i).0)
+          ∙ sym key_right,
       sides_by_names left x names
-      ∙ map_in (λ n. span_of (value_of left x n)) (λ n. span_of (value_of right y n)) names (λ n i. ap span_of (h n (to_common n (in_left n i) (in_right n i))))
-      ∙ sym (sides_by_names right y names),
+          ∙ map_in (λ n. span_of (value_of left x n)) (λ n. span_of (value_of right y n)) names (λ n i. ap span_of (h n (to_common n (in_left n i) (in_right n i))))
+          ∙ sym (sides_by_names right y names),
     )
 
     from_both : Both → (n : Name) → In n common → value_of left x n ≡ value_of right y n

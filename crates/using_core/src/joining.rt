@@ -79,7 +79,10 @@ pub(crate) fn using_matching<L: Ledger>(
 {
     let attributes = heading.attributes();
     let there = listed(alloc, attributes, acl, right.heading().attributes())?;
-    told(place, matched(alloc, left, right, acl, there.as_slice(), steps))
+    told(
+        place,
+        matched(alloc, left, right, acl, there.as_slice(), steps),
+    )
 }
 
 /// The rows of the left relation that agree with no row of the right one, under USING.
@@ -104,5 +107,8 @@ pub(crate) fn using_not_matching<L: Ledger>(
 {
     let attributes = heading.attributes();
     let there = listed(alloc, attributes, acl, right.heading().attributes())?;
-    told(place, unmatched(alloc, left, right, acl, there.as_slice(), steps))
+    told(
+        place,
+        unmatched(alloc, left, right, acl, there.as_slice(), steps),
+    )
 }
