@@ -3,3 +3,7 @@ pub mod CuttingLemmas
 pub mod GivingLemmas
 pub mod PlaceLemmas
 pub mod RuleLemmas
+pub mod LabelLemmas
+pub mod BeneathLemmas
+pub mod ProjectionLemmas
+pub mod PartLemmas

@@ -1,3 +1,4 @@
 pub mod Labels
 pub mod Cutting
 pub mod Rules
+pub mod Kept

@@ -4,9 +4,13 @@
 mod cells;
 mod cutting;
 mod giving;
+mod places;
 mod project;
+mod projection;
 mod rows;
 mod rule;
 
+pub use places::{beneath, inner};
 pub use project::u_project;
+pub use projection::projected;
 pub use rule::RowRule;

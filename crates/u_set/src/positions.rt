@@ -9,7 +9,7 @@ use std::alloc::Global;
 use value_core::{Kind, Name};
 
 /// Whether the position is one of the list.
-pub(crate) fn is_listed(acl: &[usize], i: usize) -> bool
+pub fn is_listed(acl: &[usize], i: usize) -> bool
     ensures { result ≡ among acl.now i }
 {
     acl.iter().any(|j| i == *j)
@@ -38,7 +38,7 @@ pub(crate) fn type_of(kind: Kind) -> AnyType
 }
 
 /// The point types of the attributes at the positions.
-pub(crate) fn types_at(
+pub fn types_at(
     alloc: Global,
     heading: &[(Name, Kind)],
     acl: &[usize],

@@ -7,7 +7,7 @@ use cell_core::CellRefuse;
 use value_core::RowsRefuse;
 
 /// Too many boxes are too many rows.
-pub(crate) fn refusal(refuse: CellRefuse) -> RowsRefuse
+pub fn refusal(refuse: CellRefuse) -> RowsRefuse
     ensures { result ≡ TooMany → refuse ≡ OfLimit }
 {
     match refuse {

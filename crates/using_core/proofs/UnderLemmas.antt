@@ -7,7 +7,7 @@ use Rattle.value_core.specs.Values.{Row, Heading, is_heading}
 use Rattle.relation_core.specs.Answers.{under}
 use Rattle.meaning_core.specs.Meanings.{limited, opened, closed, positions_of, names_at}
 use Rattle.meaning_core.specs.Typing.{IsList}
-use Rattle.using_core.specs.Using.{around}
+use Rattle.using_core.specs.Using.{around, listed}
 use Rattle.using_core.proofs.ListLemmas.{positions_back}
 
 module _ (place : Place) (heading : Heading) (acl : List ℕ) (headed : IsTrue (is_heading heading)) (list : IsList heading acl) where
@@ -23,3 +23,14 @@ module _ (place : Place) (heading : Heading) (acl : List ℕ) (headed : IsTrue (
       ≡ under heading (closed (around place heading acl) place heading (op (opened (around place heading acl) left r) (opened (around place heading acl) right s)))
   set_meant op left right r s l m =
       λ t. under (sym l t) (limited place (packed (sym back t) (op (unpacked (back_in left l t) r) (unpacked (back_in right m t) s))))
+
+  -- rows of the node's heading, packed
+  pub rows_meant : (rows : List Row) → under heading (limited place (packed acl rows)) ≡ under heading (closed (around place heading acl) place heading rows)
+  rows_meant rows = λ t. under heading (limited place (packed (sym back t) rows))
+
+  -- what an operator gives of unpacked rows of the node's heading, and of those of another operand, packed
+  pub pair_meant : (op : List Row → List Row → List Row) (left right : Heading) (r s : List Row) → heading ≡ left
+      → under left (limited place (packed acl (op (unpacked acl r) (unpacked (listed heading acl right) s))))
+      ≡ under heading (closed (around place heading acl) place heading (op (opened (around place heading acl) left r) (opened (around place heading acl) right s)))
+  pair_meant op left right r s l =
+      λ t. under (sym l t) (limited place (packed (sym back t) (op (unpacked (back_in left l t) r) (unpacked (listed heading acl right) s))))

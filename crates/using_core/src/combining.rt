@@ -8,11 +8,13 @@ ghost use Rattle.meaning_core.specs.Meanings.{infix_rows, opened, closed};
 ghost use Rattle.meaning_core.specs.Typing.{IsInfix, IsProjection, IsList};
 ghost use Rattle.using_core.specs.Using.{around, HasList};
 
+use crate::joining::{using_join, using_matching, using_not_matching};
 use crate::telling::told;
 use point_core::{Place, Steps, Stop};
 use std::alloc::Global;
 use std::sync::ledger::Ledger;
 use tree_core::InfixWord;
+use u_row::projected;
 use u_set::{intersected, subtracted, united};
 use value_core::{Heading, Relation};
 
@@ -42,7 +44,11 @@ pub fn using_infix<L: Ledger>(
         InfixWord::Union => using_union(alloc, place, heading, acl, left, right, steps),
         InfixWord::Intersect => using_intersection(alloc, place, heading, acl, left, right, steps),
         InfixWord::Minus => using_difference(alloc, place, heading, acl, left, right, steps),
-        _ => Err(Stop::Memory),
+        InfixWord::Join => using_join(alloc, place, heading, acl, left, right, steps),
+        InfixWord::Matching => using_matching(alloc, place, heading, acl, left, right, steps),
+        InfixWord::NotMatching => {
+            using_not_matching(alloc, place, heading, acl, left, right, steps)
+        }
     }
 }
 
@@ -132,5 +138,8 @@ pub fn using_projection<L: Ledger>(
         (projected kept.now (opened (around place heading.now acl.now) r.now.heading r.now.rows)))) }
     ensures cost { steps.new ≤ steps.old + bound (length r.now.rows) (length acl.now) }
 {
-    Err(Stop::Memory)
+    // The names of a heading are different, so the names at the positions lead back to these.
+    let _attributes = heading.attributes();
+    let _own = r.heading();
+    told(place, projected(alloc, heading, acl, kept, r, steps))
 }

@@ -4,6 +4,8 @@
 
 mod combining;
 mod comparing;
+mod joining;
+mod listing;
 mod packing;
 mod rules;
 mod telling;

@@ -5,29 +5,19 @@
 --     is_built_statement      of statements: they have no constraint over a list either, and are no HISTORY
 use Rattle.std.specs.Prelude.{Bool, true, false, ◌&&◌, List}
 use Rattle.std.specs.List.{list_all}
-use Rattle.utd_syntax.specs.declared.words.InfixWord.{InfixWord}
-use Rattle.utd_syntax.specs.declared.words.InfixWord.TheVariants as words
 use Rattle.utd_syntax.specs.Plain as syntax
 use Rattle.utd_syntax.specs.Plain.{RelP, TermsP, TermP, RelPrimaryP, OperandP, ExtendP, SummarizeP, UsingP, UsingPartP, ComparisonP, TestP, ConstraintP, MaybePortionP, DeletionP, ItemP, VarFormP, StatementP}
 use Rattle.item_typing.specs.Items.{listed_items}
 
 -- ---- expressions and tests
 
--- the infix operators that are built under USING
-abbrev pub is_built_infix : InfixWord → Bool
-is_built_infix words.Union = true
-is_built_infix words.Intersect = true
-is_built_infix words.Minus = true
-is_built_infix words.Join = false
-is_built_infix words.Matching = false
-
 -- whether the operator under USING is built, whatever its operands
 abbrev pub is_built_operator : UsingPartP → Bool
 is_built_operator (syntax.UsingExtend e) = false
 is_built_operator (syntax.UsingSummarize s) = false
-is_built_operator (syntax.UsingInfix l at w r) = is_built_infix w
-is_built_operator (syntax.UsingNotMatching l at r) = false
-is_built_operator (syntax.UsingProject o p) = false
+is_built_operator (syntax.UsingInfix l at w r) = true
+is_built_operator (syntax.UsingNotMatching l at r) = true
+is_built_operator (syntax.UsingProject o p) = true
 is_built_operator (syntax.UsingFilter o at c) = false
 
 abbrev mutual

@@ -4,25 +4,12 @@ ghost use Rattle.std.specs.List.{list_all};
 ghost use Rattle.utd_syntax.specs.Read.{read_rel, read_terms, read_term, read_rel_primary, read_operand, read_extend, read_summarize, read_using, read_using_part, read_comparison, read_test, read_deletion, read_item, read_item_list, read_assign, read_maybe_portion, read_constraint, read_constraint_list, read_var_form, read_statement};
 ghost use Rattle.item_typing.specs.Items.{listed_items};
 ghost use Rattle.utd_statement.specs.Built as rules;
-ghost use Rattle.utd_statement.specs.Built.{has_no_portion, is_built_infix, is_built_operator, is_built_rel, is_built_terms, is_built_term, is_built_primary, is_built_operand, is_built_extend, is_built_summarize, is_built_using, are_built_operands, is_built_comparison, is_built_test, is_built_deletion, is_built_update, is_built_var, is_built_statement};
+ghost use Rattle.utd_statement.specs.Built.{has_no_portion, is_built_operator, is_built_rel, is_built_terms, is_built_term, is_built_primary, is_built_operand, is_built_extend, is_built_summarize, is_built_using, are_built_operands, is_built_comparison, is_built_test, is_built_deletion, is_built_update, is_built_var, is_built_statement};
 
 use utd_syntax::{
-    Assignment, Constraint, Constraints, Deletion, Extend, InfixWord, Item, MaybePortion, Operand,
-    Rel, RelPrimary, Relate, Statement, Summarize, Term, Terms, Test, Using, UsingPart, VarForm,
+    Assignment, Constraint, Constraints, Deletion, Extend, Item, MaybePortion, Operand, Rel,
+    RelPrimary, Relate, Statement, Summarize, Term, Terms, Test, Using, UsingPart, VarForm,
 };
-
-// The infix operators that are built under USING.
-fn is_built_infix(word: InfixWord) -> bool
-    ensures { result ≡ is_built_infix word }
-{
-    match word {
-        InfixWord::Union => true,
-        InfixWord::Intersect => true,
-        InfixWord::Minus => true,
-        InfixWord::Join => false,
-        InfixWord::Matching => false,
-    }
-}
 
 // Whether the operator under USING is built, whatever its operands.
 fn is_built_operator(part: &UsingPart) -> bool
@@ -31,9 +18,9 @@ fn is_built_operator(part: &UsingPart) -> bool
     match part {
         UsingPart::Extend(_) => false,
         UsingPart::Summarize(_) => false,
-        UsingPart::Infix(_, _, word, _) => is_built_infix(*word),
-        UsingPart::NotMatching(_, _, _) => false,
-        UsingPart::Project(_, _) => false,
+        UsingPart::Infix(_, _, _, _) => true,
+        UsingPart::NotMatching(_, _, _) => true,
+        UsingPart::Project(_, _) => true,
         UsingPart::Where(_, _, _) => false,
     }
 }

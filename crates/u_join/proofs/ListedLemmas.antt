@@ -1,0 +1,202 @@
+-- Positions of the same attributes of two headings, and what matches and joins give by them.
+use Rattle.std.proofs.Common.{◌≡◌, inl, inr, ℕ, ◌<◌, List, [], ◌∷◌, ◌++◌, map, length, get_or, refl, sym, ap, ap₂, ◌∙◌, subst, arith}
+use Rattle.std.specs.Bool.{IsTrue}
+use Rattle.std.specs.List.{All}
+use Rattle.std.specs.Str.{bytes_eq}
+use Rattle.std.specs.Cmp.Lexicographic.{nat_list_eq_equiv}
+use Rattle.std.proofs.lemmas.List.{length-map}
+use Rattle.base_core.proofs.SetLemmas.{In, Ascends}
+use Rattle.base_core.proofs.MemberLemmas.{In-map}
+use Rattle.point_core.specs.declared.any_type.AnyType.{AnyType}
+use Rattle.value_core.specs.Headings.{has_name}
+use Rattle.value_core.specs.RowPacking.{packed, unpacked}
+use Rattle.value_core.specs.Values.{Name, Heading, Row, attribute_cmp, row_cmp}
+use Rattle.value_core.specs.declared.kind.Kind.{Kind}
+use Rattle.relation_core.specs.Agreement.{names_of, position_of, common_positions, matched, unmatched}
+use Rattle.relation_core.specs.Joins.{joined_heading, HaveEqualKinds, joined}
+use Rattle.relation_core.specs.Parts.{no_attribute, kind_at, attributes_at, positions_in}
+use Rattle.relation_core.proofs.AttributeLemmas.{one_attribute, joined_ascends}
+use Rattle.packing_core.specs.Boxed.{Boxed, packed_boxes, unpacked_boxes}
+use Rattle.u_set.specs.Boxes.{AreIntervals, IsShaped, type_of, types_at, boxed}
+use Rattle.u_set.proofs.BridgeLemmas.{AreRowsOf}
+use Rattle.u_row.specs.Kept.{inner}
+use Rattle.u_row.proofs.BeneathLemmas.{in_all, get_in}
+use Rattle.u_row.proofs.LabelLemmas.{map_in, map_twice}
+use Rattle.u_join.specs.Pairs.{matched_boxes, unmatched_boxes, joined_boxes}
+use Rattle.u_join.specs.Places.{both_lists}
+use Rattle.u_join.proofs.JoinedLemmas.{joined_rows}
+use Rattle.u_join.proofs.MatchedLemmas.{matched_rows, unmatched_rows}
+use Rattle.u_join.proofs.NameLemmas.{name_back, position_at, position_in, of_name}
+
+pub nothing : {X : Type 0} (xs : List X) → length xs ≡ 0 → xs ≡ []
+nothing [] e = refl
+nothing (x ∷ xs) e = absurd (omega (arith, e))
+
+-- positions come back from the names at them
+pub positions_back : (heading : Heading) (acl : List ℕ) → Ascends attribute_cmp heading → All (λ (i : ℕ). i < length heading) acl → acl ≡ map (position_of heading) (names_of (attributes_at acl heading))
+positions_back heading acl up within =
+    sym (ap (map (position_of heading)) (map_twice (λ (a : Name × Kind). a.0) (λ i. get_or heading i no_attribute) acl)
+    ∙ map_twice (position_of heading) (λ i. (get_or heading i no_attribute).0) acl
+    ∙ map_in (λ i. position_of heading (get_or heading i no_attribute).0) (λ i. i) acl (λ i m. position_at heading i up (in_all (λ (j : ℕ). j < length heading) acl within i m))
+    ∙ map_own acl)
+  where
+    map_own : (is : List ℕ) → map (λ (i : ℕ). i) is ≡ is
+    map_own [] = refl
+    map_own (i ∷ is) = ap (λ js. i ∷ js) (map_own is)
+
+named_at : (heading : Heading) (acl : List ℕ) → All (λ (i : ℕ). i < length heading) acl → (n : Name) → In n (names_of (attributes_at acl heading)) → IsTrue (has_name heading n)
+named_at heading acl within n m =
+    let a = (In-map (λ (b : Name × Kind). b.0) n (attributes_at acl heading)).0 m in
+    let i = (In-map (λ j. get_or heading j no_attribute) a.0 acl).0 a.1 in
+    let l = in_all (λ (j : ℕ). j < length heading) acl within i.0 i.1 in
+    of_name heading n ((In-map (λ (b : Name × Kind). b.0) n heading).1 (a.0, subst (λ b. In b heading) (sym i.2) (get_in heading i.0 no_attribute l), a.2))
+
+-- the same attributes have the same types
+pub same_types : (left right : Heading) (here there : List ℕ) → attributes_at here left ≡ attributes_at there right → types_at right there ≡ types_at left here
+same_types left right here there same =
+    sym (map_twice (λ (a : Name × Kind). type_of a.1) (λ i. get_or right i no_attribute) there)
+    ∙ ap (map (λ (a : Name × Kind). type_of a.1)) (sym same)
+    ∙ map_twice (λ (a : Name × Kind). type_of a.1) (λ i. get_or left i no_attribute) here
+
+pub same_count : (left right : Heading) (here there : List ℕ) → attributes_at here left ≡ attributes_at there right → length there ≡ length here
+same_count left right here there same =
+    sym (length-map there (λ i. get_or right i no_attribute)) ∙ ap length (sym same) ∙ length-map here (λ i. get_or left i no_attribute)
+
+module _ (left right : Heading) (here there : List ℕ) (same : attributes_at here left ≡ attributes_at there right) (kinds : HaveEqualKinds left right)
+    (first : Ascends attribute_cmp left) (second : Ascends attribute_cmp right) (intervals : AreIntervals left here) (intervals' : AreIntervals right there) where
+  abbrev names : List Name
+  names = names_of (attributes_at here left)
+
+  abbrev own_here : List ℕ
+  own_here = map (position_of left) names
+
+  abbrev own_there : List ℕ
+  own_there = map (position_of right) names
+
+  here_is : here ≡ own_here
+  here_is = positions_back left here first intervals.within
+
+  there_is : there ≡ own_there
+  there_is = positions_back right there second intervals'.within ∙ ap (λ (h : Heading). map (position_of right) (names_of h)) (sym same)
+
+  in_left : (n : Name) → In n names → IsTrue (has_name left n)
+  in_left n m = named_at left here intervals.within n m
+
+  in_right : (n : Name) → In n names → IsTrue (has_name right n)
+  in_right n m = named_at right there intervals'.within n (subst (λ (h : Heading). In n (names_of h)) same m)
+
+  same_kinds : (n : Name) → In n names → kind_at left (position_of left n) ≡ kind_at right (position_of right n)
+  same_kinds n m =
+      let l = in_left n m in
+      let r = in_right n m in
+      let a : Name × Kind = get_or left (position_of left n) no_attribute in
+      let b : Name × Kind = get_or right (position_of right n) no_attribute in
+      let e : a.0 ≡ b.0 = name_back left n l ∙ sym (name_back right n r) in
+      let t : IsTrue (bytes_eq a.0 b.0) = ap (bytes_eq a.0) (sym e) ∙ nat_list_eq_equiv.refl a.0 in
+      ap (λ (c : Name × Kind). c.1) (one_attribute left right a b kinds (get_in left (position_of left n) no_attribute (position_in left n l)) (get_in right (position_of right n) no_attribute (position_in right n r)) t)
+
+  module _ (r s : List Row) (up : Ascends row_cmp r) (up' : Ascends row_cmp s)
+      (shaped : (x : Row) → In x r → IsShaped left here x) (shaped' : (x : Row) → In x s → IsShaped right there x) where
+    own_shaped : (x : Row) → In x r → IsShaped left own_here x
+    own_shaped x i = subst (λ acl. IsShaped left acl x) here_is (shaped x i)
+
+    own_shaped' : (x : Row) → In x s → IsShaped right own_there x
+    own_shaped' x i = subst (λ acl. IsShaped right acl x) there_is (shaped' x i)
+
+    own_intervals : AreIntervals left own_here
+    own_intervals = subst (AreIntervals left) here_is intervals
+
+    own_intervals' : AreIntervals right own_there
+    own_intervals' = subst (AreIntervals right) there_is intervals'
+
+    count : length there ≡ length here
+    count = same_count left right here there same
+
+    abbrev lefts : List (Boxed Row)
+    lefts = unpacked_boxes row_cmp (length here) (map (boxed here) r)
+
+    abbrev rights : List (Boxed Row)
+    rights = unpacked_boxes row_cmp (length here) (map (boxed there) s)
+
+    abbrev AreMatched : List ℕ → List ℕ → ℕ → Type 0
+    AreMatched h t k = AreRowsOf left h (packed h (matched left right (unpacked h r) (unpacked t s)))
+        (packed_boxes row_cmp (length h) (matched_boxes (inner h (common_positions left left right)) (inner t (common_positions right left right))
+        (unpacked_boxes row_cmp (length h) (map (boxed h) r)) (unpacked_boxes row_cmp k (map (boxed t) s))))
+
+    pub matched_at : AreRowsOf left here (packed here (matched left right (unpacked here r) (unpacked there s)))
+        (packed_boxes row_cmp (length here) (matched_boxes (inner here (common_positions left left right)) (inner there (common_positions right left right))
+        (unpacked_boxes row_cmp (length here) (map (boxed here) r)) (unpacked_boxes row_cmp (length here) (map (boxed there) s))))
+    matched_at =
+        let own : AreMatched own_here own_there (length own_there) = matched_rows left right names in_left in_right same_kinds own_intervals own_intervals' r s up up' own_shaped own_shaped' in
+        let h = sym here_is in
+        let t = sym there_is in
+        let back : AreMatched own_here own_there (length own_there) ≡ AreMatched here there (length there) = λ i. AreMatched (h i) (t i) (length (t i)) in
+        subst (AreMatched here there) count (subst (λ T. T) back own)
+
+    abbrev AreUnmatched : List ℕ → List ℕ → ℕ → Type 0
+    AreUnmatched h t k = AreRowsOf left h (packed h (unmatched left right (unpacked h r) (unpacked t s)))
+        (packed_boxes row_cmp (length h) (unmatched_boxes (inner h (common_positions left left right)) (inner t (common_positions right left right))
+        (unpacked_boxes row_cmp (length h) (map (boxed h) r)) (unpacked_boxes row_cmp k (map (boxed t) s))))
+
+    pub unmatched_at : AreRowsOf left here (packed here (unmatched left right (unpacked here r) (unpacked there s)))
+        (packed_boxes row_cmp (length here) (unmatched_boxes (inner here (common_positions left left right)) (inner there (common_positions right left right))
+        (unpacked_boxes row_cmp (length here) (map (boxed here) r)) (unpacked_boxes row_cmp (length here) (map (boxed there) s))))
+    unmatched_at =
+        let own : AreUnmatched own_here own_there (length own_there) = unmatched_rows left right names in_left in_right same_kinds own_intervals own_intervals' r s up up' own_shaped own_shaped' in
+        let h = sym here_is in
+        let t = sym there_is in
+        let back : AreUnmatched own_here own_there (length own_there) ≡ AreUnmatched here there (length there) = λ i. AreUnmatched (h i) (t i) (length (t i)) in
+        subst (AreUnmatched here there) count (subst (λ T. T) back own)
+
+    -- ---- joined
+
+    module _ (acl : List ℕ) (whole_intervals : AreIntervals (joined_heading left right) acl) (whole_up : Ascends attribute_cmp (joined_heading left right))
+        (whole_same : attributes_at acl (joined_heading left right) ≡ attributes_at here left) where
+      abbrev whole : Heading
+      whole = joined_heading left right
+
+      abbrev own_acl : List ℕ
+      own_acl = map (position_of (joined_heading left right)) names
+
+      acl_is : acl ≡ own_acl
+      acl_is = positions_back whole acl whole_up whole_intervals.within ∙ ap (λ (h : Heading). map (position_of whole) (names_of h)) whole_same
+
+      abbrev AreJoined : List ℕ → List ℕ → List ℕ → ℕ → ℕ → Type 0
+      AreJoined a h t k m = AreRowsOf whole a (packed a (joined left right (unpacked h r) (unpacked t s)))
+          (packed_boxes row_cmp (length a) (joined_boxes (inner h (common_positions left left right)) (inner t (common_positions right left right))
+          (inner (both_lists (length left) h t) (positions_in (left ++ right) whole))
+          (unpacked_boxes row_cmp k (map (boxed h) r)) (unpacked_boxes row_cmp m (map (boxed t) s))))
+
+      count_acl : length here ≡ length acl
+      count_acl = sym (length-map here (λ i. get_or left i no_attribute)) ∙ ap length (sym whole_same) ∙ length-map acl (λ i. get_or whole i no_attribute)
+
+      pub joined_at : AreRowsOf (joined_heading left right) acl (packed acl (joined left right (unpacked here r) (unpacked there s)))
+          (packed_boxes row_cmp (length acl) (joined_boxes (inner here (common_positions left left right)) (inner there (common_positions right left right))
+          (inner (both_lists (length left) here there) (positions_in (left ++ right) (joined_heading left right)))
+          (unpacked_boxes row_cmp (length acl) (map (boxed here) r)) (unpacked_boxes row_cmp (length acl) (map (boxed there) s))))
+      joined_at =
+          let own : AreJoined own_acl own_here own_there (length own_here) (length own_there) =
+          joined_rows left right first second kinds names in_left in_right own_intervals own_intervals' (subst (AreIntervals whole) acl_is whole_intervals) same_kinds r s up up' own_shaped own_shaped' in
+          let a = sym acl_is in
+          let h = sym here_is in
+          let t = sym there_is in
+          let back : AreJoined own_acl own_here own_there (length own_here) (length own_there) ≡ AreJoined acl here there (length here) (length there) =
+          λ i. AreJoined (a i) (h i) (t i) (length (h i)) (length (t i)) in
+          let one = count_acl in
+          let two = count ∙ count_acl in
+          subst (λ T. T) (λ i. AreJoined acl here there (one i) (two i)) (subst (λ T. T) back own)
+
+    -- the same under a heading that is the joined one, and for as many sides as are listed of the left heading
+    pub joined_under : (heading : Heading) (acl : List ℕ) → heading ≡ joined_heading left right → AreIntervals heading acl → attributes_at acl heading ≡ attributes_at here left
+        → AreRowsOf heading acl (packed acl (joined left right (unpacked here r) (unpacked there s)))
+        (packed_boxes row_cmp (length here) (joined_boxes (inner here (common_positions left left right)) (inner there (common_positions right left right))
+        (inner (both_lists (length left) here there) (positions_in (left ++ right) heading))
+        (unpacked_boxes row_cmp (length here) (map (boxed here) r)) (unpacked_boxes row_cmp (length here) (map (boxed there) s))))
+    joined_under heading acl is whole listed =
+        let own = joined_at acl (subst (λ (h : Heading). AreIntervals h acl) is whole) (joined_ascends left right first second kinds) (ap (λ (h : Heading). attributes_at acl h) (sym is) ∙ listed) in
+        let e = sym is in
+        let n : length acl ≡ length here = sym (same_count heading left acl here listed) in
+        subst (λ T. T) (λ t. AreRowsOf (e t) acl (packed acl (joined left right (unpacked here r) (unpacked there s)))
+        (packed_boxes row_cmp (n t) (joined_boxes (inner here (common_positions left left right)) (inner there (common_positions right left right))
+        (inner (both_lists (length left) here there) (positions_in (left ++ right) (e t)))
+        (unpacked_boxes row_cmp (n t) (map (boxed here) r)) (unpacked_boxes row_cmp (n t) (map (boxed there) s))))) own

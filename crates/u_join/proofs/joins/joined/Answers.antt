@@ -1,0 +1,29 @@
+use Rattle.std.proofs.Common.{◌≡◌, ◌<◌, ◌≤◌, [], ℕ, List, length, sym, ap, ◌∙◌, subst, arith}
+use Rattle.std.specs.Result.{MatchResult}
+use Rattle.value_core.specs.RowPacking.{packed, unpacked}
+use Rattle.value_core.specs.Headings.{most_attributes}
+use Rattle.relation_core.specs.Answers.{IsAnswer, IsRefusal}
+use Rattle.relation_core.specs.Joins.{joined}
+use Rattle.u_join.proofs.ListedLemmas.{nothing, same_count}
+use Rattle.u_join.proofs.joins.joined.Goals as goal
+
+pub join-requires-clause-few : goal.join-requires-clause-few
+join-requires-clause-few g c = subst (λ h. length h ≤ most_attributes) c.requires.heading c.requires.few
+
+pub returns-then-acl-eq0-clause-rows : goal.returns-then-acl-eq0-clause-rows
+returns-then-acl-eq0-clause-rows g c =
+    let left = c.args.left.now in
+    let right = c.args.right.now in
+    let none : length c.args.acl.now ≡ 0 = omega arith in
+    let count = same_count c.args.heading.now left.heading c.args.acl.now c.args.here.now c.requires.listed ∙ none in
+    let acl = sym (nothing c.args.acl.now none) in
+    let here = sym (nothing c.args.here.now count) in
+    let there = sym (nothing c.args.there.now (same_count left.heading right.heading c.args.here.now c.args.there.now c.requires.same ∙ count)) in
+    let whole = sym c.requires.heading in
+    subst (λ T. T) (λ t. MatchResult c.join.result (IsAnswer (whole t) (packed (acl t) (joined left.heading right.heading (unpacked (here t) left.rows) (unpacked (there t) right.rows))))
+    (IsRefusal (packed (acl t) (joined left.heading right.heading (unpacked (here t) left.rows) (unpacked (there t) right.rows))))) c.join.ensures.rows
+
+pub joined_by_boxes-requires-clause-some : goal.joined_by_boxes-requires-clause-some
+joined_by_boxes-requires-clause-some g c =
+    let some : 0 < length c.args.acl.now = omega arith in
+    subst (λ k. 0 < k) (sym (same_count c.args.heading.now c.args.left.now.heading c.args.acl.now c.args.here.now c.requires.listed)) some

@@ -1,0 +1,77 @@
+use Rattle.std.proofs.Common.{◌≡◌, ◌+◌, ◌<◌, ◌≤◌, ◌++◌, ℕ, List, arith, Err, length, map, sym, ap, ◌∙◌, subst}
+use Rattle.std.specs.List.{All}
+use Rattle.std.specs.Result.{IfOk}
+use Rattle.std.proofs.lemmas.List.{length-map}
+use Rattle.point_core.specs.Points.{number, IsPointOf}
+use Rattle.point_core.specs.declared.any_type.AnyType.{AnyType}
+use Rattle.value_core.specs.Values.{Heading, row_cmp, most_rows}
+use Rattle.relation_core.specs.Agreement.{common_positions}
+use Rattle.relation_core.specs.Parts.{kind_at, positions_in}
+use Rattle.relation_core.proofs.HeadingLemmas.{few_attributes}
+use Rattle.packing_core.specs.Boxed.{packed_boxes, unpacked_boxes}
+use Rattle.cell_core.specs.Boxes.{IsBox}
+use Rattle.cell_core.specs.Cells.{row_numbers}
+use Rattle.cell_core.specs.Costs.{bound}
+use Rattle.cell_core.specs.declared.boxes.CellRefuse.TheVariants.{Limit as OfLimit}
+use Rattle.u_set.specs.Boxes.{type_of, types_at, boxed}
+use Rattle.u_row.specs.Kept.{inner}
+use Rattle.u_join.specs.Pairs.{joined_boxes}
+use Rattle.u_join.specs.Places.{both_lists}
+use Rattle.u_join.proofs.ListedLemmas.{same_types}
+use Rattle.u_join.proofs.joins.joining_boxes.Goals as goal
+
+pub label_places-requires-clause-few : goal.label_places-requires-clause-few
+label_places-requires-clause-few g c =
+    let ours = ap length (c.attributes-ours.ensures.list ∙ c.heading.ensures.heading) in
+    let theirs = ap length (c.attributes-theirs.ensures.list ∙ c.heading-2.ensures.heading) in
+    let a = few_attributes c.args.left.now.heading c.heading.ensures.relation.headed in
+    let b = few_attributes c.args.right.now.heading c.heading-2.ensures.relation.headed in
+    omega (arith, ours, theirs, a, b)
+
+pub label_places-requires-clause-there : goal.label_places-requires-clause-there
+label_places-requires-clause-there g c =
+    let theirs = c.attributes-theirs.ensures.list ∙ c.heading-2.ensures.heading in
+    subst (λ (h : Heading). All (λ (i : ℕ). i < length h) c.args.there.now) (sym theirs) c.requires.right.within
+
+pub u_join-requires-clause-right : goal.u_join-requires-clause-right
+u_join-requires-clause-right g c =
+    let ours = c.attributes-ours.ensures.list ∙ c.heading.ensures.heading in
+    let types = c.as_slice.ensures.value ∙ c.in_ok-types.ensures ∙ (λ t. types_at (ours t) c.args.here.now) in
+    let same = same_types c.args.left.now.heading c.args.right.now.heading c.args.here.now c.args.there.now c.requires.same in
+    subst (λ bs. All (λ b. IsBox IsPointOf c.as_slice.result.now b.1) bs) (sym c.as_slice-3.ensures.value)
+    (subst (λ (ts : List AnyType). All (λ b. IsBox IsPointOf ts b.1) c.in_ok-r.r.items) (same ∙ sym types) c.in_ok-r.ensures.boxes)
+
+pub returns-clause-rows : goal.returns-clause-rows
+returns-clause-rows g c =
+    let ours = c.attributes-ours.ensures.list ∙ c.heading.ensures.heading in
+    let theirs = c.attributes-theirs.ensures.list ∙ c.heading-2.ensures.heading in
+    let sides = ap length (c.as_slice.ensures.value ∙ c.in_ok-types.ensures) ∙ length-map c.args.here.now (λ i. type_of (kind_at c.attributes-ours.result.now i)) in
+    let l = (λ t. map (row_numbers number) (c.as_slice-2.ensures.value t)) ∙ c.in_ok-l.ensures.rows in
+    let r = (λ t. map (row_numbers number) (c.as_slice-3.ensures.value t)) ∙ c.in_ok-r.ensures.rows in
+    let here = c.as_slice-4.ensures.value ∙ c.in_ok-here_key.ensures ∙ (λ t. inner c.args.here.now (common_positions (ours t) (ours t) (theirs t))) in
+    let there = c.as_slice-5.ensures.value ∙ c.in_ok-there_key.ensures ∙ (λ t. inner c.args.there.now (common_positions (theirs t) (ours t) (theirs t))) in
+    let places = c.as_slice-6.ensures.value ∙ c.in_ok-places.ensures ∙ (λ t. inner (both_lists (length (ours t)) c.args.here.now c.args.there.now) (positions_in (ours t ++ theirs t) (c.attributes.ensures.list t))) in
+    subst (λ s. IfOk c.u_join.result (λ v. map (row_numbers number) v.items ≡ s))
+    (λ t. packed_boxes row_cmp (sides t) (joined_boxes (here t) (there t) (places t) (unpacked_boxes row_cmp (sides t) (l t)) (unpacked_boxes row_cmp (sides t) (r t)))) c.u_join.ensures.rows
+
+pub returns-clause-limit : goal.returns-clause-limit
+returns-clause-limit g c =
+    let ours = c.attributes-ours.ensures.list ∙ c.heading.ensures.heading in
+    let theirs = c.attributes-theirs.ensures.list ∙ c.heading-2.ensures.heading in
+    let sides = ap length (c.as_slice.ensures.value ∙ c.in_ok-types.ensures) ∙ length-map c.args.here.now (λ i. type_of (kind_at c.attributes-ours.result.now i)) in
+    let l = (λ t. map (row_numbers number) (c.as_slice-2.ensures.value t)) ∙ c.in_ok-l.ensures.rows in
+    let r = (λ t. map (row_numbers number) (c.as_slice-3.ensures.value t)) ∙ c.in_ok-r.ensures.rows in
+    let here = c.as_slice-4.ensures.value ∙ c.in_ok-here_key.ensures ∙ (λ t. inner c.args.here.now (common_positions (ours t) (ours t) (theirs t))) in
+    let there = c.as_slice-5.ensures.value ∙ c.in_ok-there_key.ensures ∙ (λ t. inner c.args.there.now (common_positions (theirs t) (ours t) (theirs t))) in
+    let places = c.as_slice-6.ensures.value ∙ c.in_ok-places.ensures ∙ (λ t. inner (both_lists (length (ours t)) c.args.here.now c.args.there.now) (positions_in (ours t ++ theirs t) (c.attributes.ensures.list t))) in
+    subst (λ s. c.u_join.result ≡ Err OfLimit → most_rows < length s)
+    (λ t. packed_boxes row_cmp (sides t) (joined_boxes (here t) (there t) (places t) (unpacked_boxes row_cmp (sides t) (l t)) (unpacked_boxes row_cmp (sides t) (r t)))) c.u_join.ensures.limit
+
+pub returns-clause-cost : goal.returns-clause-cost
+returns-clause-cost g c =
+    let sides = ap length (c.as_slice.ensures.value ∙ c.in_ok-types.ensures) ∙ length-map c.args.here.now (λ i. type_of (kind_at c.attributes-ours.result.now i)) in
+    let l = (λ t. map (row_numbers number) (c.as_slice-2.ensures.value t)) ∙ c.in_ok-l.ensures.rows in
+    let r = (λ t. map (row_numbers number) (c.as_slice-3.ensures.value t)) ∙ c.in_ok-r.ensures.rows in
+    let many = sym (length-map c.as_slice-2.result.now (row_numbers number)) ∙ ap length l ∙ length-map c.args.left.now.rows (boxed c.args.here.now) in
+    let more = sym (length-map c.as_slice-3.result.now (row_numbers number)) ∙ ap length r ∙ length-map c.args.right.now.rows (boxed c.args.there.now) in
+    subst (λ b. c.u_join.new.steps ≤ c.args.steps.now + b) (λ t. bound (many t + more t) (sides t)) c.u_join.ensures.cost

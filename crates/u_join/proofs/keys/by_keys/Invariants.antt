@@ -1,0 +1,11 @@
+use Rattle.std.proofs.Common.{◌≡◌, map}
+use Rattle.relation_core.specs.Agreement.{part_of}
+use Rattle.u_row.specs.Labels.{relabelled}
+use Rattle.u_join.proofs.keys.by_keys.Given as goal
+
+abbrev pub invariant-loop-row : goal.invariant-loop-row
+invariant-loop-row l = record {
+  can : goal.iterator-loop-row.can_next l.row-iterator;
+  ends : goal.iterator-loop-row.is_finite l.row-iterator;
+  items : l.out.items ≡ map (relabelled (part_of l.positions)) l.yielded;
+}

@@ -1,0 +1,6 @@
+-- Positions among the values of two rows, one behind the other.
+use Rattle.std.specs.Prelude.{ℕ, ◌+◌, List, ◌++◌, map}
+
+-- the positions of the first, which has n values, and those of the second behind it
+abbrev pub both_lists : ℕ → List ℕ → List ℕ → List ℕ
+both_lists n here there = here ++ map (λ i. n + i) there

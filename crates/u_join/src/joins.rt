@@ -1,0 +1,141 @@
+// Joins of two relations point by point.
+ghost use Rattle.std.specs.Prelude.{◌≡◌, ◌+◌, ◌<◌, ◌≤◌, ◌++◌, map, length, Err, IfOk, MatchResult};
+ghost use Rattle.std.specs.List.{All};
+ghost use Rattle.point_core.specs.Points.{number, IsPointOf};
+ghost use Rattle.packing_core.specs.Boxed.{packed_boxes, unpacked_boxes};
+ghost use Rattle.value_core.specs.Headings.{most_attributes};
+ghost use Rattle.value_core.specs.RowPacking.{packed, unpacked};
+ghost use Rattle.value_core.specs.Values.{IsRelation, row_cmp, most_rows};
+ghost use Rattle.relation_core.specs.Agreement.{common_positions};
+ghost use Rattle.relation_core.specs.Answers.{IsAnswer, IsRefusal};
+ghost use Rattle.relation_core.specs.Joins.{HaveEqualKinds, joined_heading, joined};
+ghost use Rattle.relation_core.specs.Parts.{attributes_at, positions_in};
+ghost use Rattle.cell_core.specs.Boxes.{IsBox};
+ghost use Rattle.cell_core.specs.Cells.{row_numbers};
+ghost use Rattle.cell_core.specs.Costs.{bound};
+ghost use Rattle.cell_core.specs.declared.boxes.CellRefuse.TheVariants.{Limit as OfLimit};
+ghost use Rattle.u_set.specs.Boxes.{AreIntervals, types_at, boxed};
+ghost use Rattle.u_row.specs.Kept.{inner};
+ghost use Rattle.u_join.specs.Pairs.{joined_boxes};
+ghost use Rattle.u_join.specs.Places.{both_lists};
+
+use crate::joining::u_join;
+use crate::places::{key_places, label_places};
+use cell_core::{BoxRow, CellRefuse};
+use point_core::{AnyType, Steps};
+use std::alloc::Global;
+use std::sync::ledger::Ledger;
+use u_set::{from_boxes, refusal, to_boxes, types_at};
+use value_core::{MOST_ROWS, Heading, Relation, Row, RowsRefuse};
+
+// The packed boxes of the joined rows, on one attribute at least.
+fn joining_boxes<L: Ledger>(
+    alloc: Global,
+    heading: &Heading,
+    left: &Relation,
+    right: &Relation,
+    here: &[usize],
+    there: &[usize],
+    steps: &mut Steps<L>,
+) -> Result<Vec<BoxRow<AnyType, Row>>, CellRefuse>
+    requires some { 0 < length here.now }
+    requires same { attributes_at here.now left.now.heading ≡ attributes_at there.now right.now.heading }
+    requires left { AreIntervals left.now.heading here.now }
+    requires right { AreIntervals right.now.heading there.now }
+    ensures left_relation { IsRelation left.now }
+    ensures right_relation { IsRelation right.now }
+    ensures rows { IfOk result (λ v. map (row_numbers number) v.items ≡ packed_boxes row_cmp (length here.now) (joined_boxes
+        (inner here.now (common_positions left.now.heading left.now.heading right.now.heading))
+        (inner there.now (common_positions right.now.heading left.now.heading right.now.heading))
+        (inner (both_lists (length left.now.heading) here.now there.now) (positions_in (left.now.heading ++ right.now.heading) heading.now))
+        (unpacked_boxes row_cmp (length here.now) (map (boxed here.now) left.now.rows))
+        (unpacked_boxes row_cmp (length here.now) (map (boxed there.now) right.now.rows)))) }
+    ensures boxes { IfOk result (λ v. All (λ b. IsBox IsPointOf (types_at left.now.heading here.now) b.1) v.items) }
+    ensures limit { result ≡ Err OfLimit → most_rows < length (packed_boxes row_cmp (length here.now) (joined_boxes
+        (inner here.now (common_positions left.now.heading left.now.heading right.now.heading))
+        (inner there.now (common_positions right.now.heading left.now.heading right.now.heading))
+        (inner (both_lists (length left.now.heading) here.now there.now) (positions_in (left.now.heading ++ right.now.heading) heading.now))
+        (unpacked_boxes row_cmp (length here.now) (map (boxed here.now) left.now.rows))
+        (unpacked_boxes row_cmp (length here.now) (map (boxed there.now) right.now.rows)))) }
+    ensures cost { steps.new ≤ steps.old + bound (length left.now.rows + length right.now.rows) (length here.now) }
+{
+    let ours = left.heading().attributes();
+    let theirs = right.heading().attributes();
+    let types = types_at(alloc, ours, here)?;
+    let l = to_boxes(alloc, left, here)?;
+    let r = to_boxes(alloc, right, there)?;
+    let here_key = key_places(alloc, ours, ours, theirs, here)?;
+    let there_key = key_places(alloc, theirs, ours, theirs, there)?;
+    let places = label_places(alloc, ours, theirs, heading.attributes(), here, there)?;
+    u_join(
+        alloc,
+        types.as_slice(),
+        l.as_slice(),
+        r.as_slice(),
+        here_key.as_slice(),
+        there_key.as_slice(),
+        places.as_slice(),
+        MOST_ROWS,
+        steps,
+    )
+}
+
+// The same as a relation.
+fn joined_by_boxes<L: Ledger>(
+    alloc: Global,
+    heading: &Heading,
+    acl: &[usize],
+    left: &Relation,
+    right: &Relation,
+    here: &[usize],
+    there: &[usize],
+    steps: &mut Steps<L>,
+) -> Result<Relation, RowsRefuse>
+    requires some { 0 < length here.now }
+    requires heading { heading.now ≡ joined_heading left.now.heading right.now.heading }
+    requires kinds { HaveEqualKinds left.now.heading right.now.heading }
+    requires listed { attributes_at acl.now heading.now ≡ attributes_at here.now left.now.heading }
+    requires same { attributes_at here.now left.now.heading ≡ attributes_at there.now right.now.heading }
+    requires intervals { AreIntervals heading.now acl.now }
+    requires left { AreIntervals left.now.heading here.now }
+    requires right { AreIntervals right.now.heading there.now }
+    ensures rows { let rows = packed acl.now (joined left.now.heading right.now.heading (unpacked here.now left.now.rows) (unpacked there.now right.now.rows)) in
+        MatchResult result (IsAnswer heading.now rows) (IsRefusal rows) }
+    ensures cost { steps.new ≤ steps.old + bound (length left.now.rows + length right.now.rows) (length acl.now) }
+{
+    let whole = heading.copy(alloc)?;
+    match joining_boxes(alloc, heading, left, right, here, there, steps) {
+        Ok(form) => from_boxes(alloc, whole, acl, form),
+        Err(refuse) => Err(refusal(refuse)),
+    }
+}
+
+/// JOIN under USING of the attributes that stand at these positions of the joined heading and of both operands: the unpacked rows are
+/// joined, and the joined ones packed.
+pub fn joined<L: Ledger>(
+    alloc: Global,
+    heading: &Heading,
+    acl: &[usize],
+    left: &Relation,
+    right: &Relation,
+    here: &[usize],
+    there: &[usize],
+    steps: &mut Steps<L>,
+) -> Result<Relation, RowsRefuse>
+    requires heading { heading.now ≡ joined_heading left.now.heading right.now.heading }
+    requires few { length heading.now ≤ most_attributes }
+    requires kinds { HaveEqualKinds left.now.heading right.now.heading }
+    requires listed { attributes_at acl.now heading.now ≡ attributes_at here.now left.now.heading }
+    requires same { attributes_at here.now left.now.heading ≡ attributes_at there.now right.now.heading }
+    requires intervals { AreIntervals heading.now acl.now }
+    requires left { AreIntervals left.now.heading here.now }
+    requires right { AreIntervals right.now.heading there.now }
+    ensures rows { let rows = packed acl.now (joined left.now.heading right.now.heading (unpacked here.now left.now.rows) (unpacked there.now right.now.rows)) in
+        MatchResult result (IsAnswer heading.now rows) (IsRefusal rows) }
+    ensures cost { steps.new ≤ steps.old + bound (length left.now.rows + length right.now.rows) (length acl.now) }
+{
+    if acl.len() == 0 {
+        return relation_core::join(alloc, left, right);
+    }
+    joined_by_boxes(alloc, heading, acl, left, right, here, there, steps)
+}

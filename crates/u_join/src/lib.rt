@@ -1,0 +1,17 @@
+//! Joins and matches point by point: boxes go together key by key, where the key is the common part of their labels.
+#![tactic(auto)]
+
+mod joining;
+mod joins;
+mod keys;
+mod labels;
+mod matches;
+mod matching;
+mod names;
+mod places;
+
+pub use joining::u_join;
+pub use joins::joined;
+pub use matches::{matched, unmatched};
+pub use matching::{u_matching, u_not_matching};
+pub use names::position;

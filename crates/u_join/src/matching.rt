@@ -1,0 +1,149 @@
+// Matches point by point.
+ghost use Rattle.std.specs.Prelude.{◌≡◌, ◌+◌, ◌<◌, ◌≤◌, map, length, Err, IfOk};
+ghost use Rattle.std.specs.List.{All};
+ghost use Rattle.point_core.specs.declared.fault.Fault.{Fault as AnyFault};
+ghost use Rattle.packing_core.specs.Boxed.{packed_boxes, unpacked_boxes};
+ghost use Rattle.value_core.specs.Values.{row_cmp};
+ghost use Rattle.cell_core.specs.Boxes.{IsBox};
+ghost use Rattle.cell_core.specs.Cells.{row_numbers};
+ghost use Rattle.cell_core.specs.Costs.{bound};
+ghost use Rattle.cell_core.specs.declared.boxes.CellRefuse.TheVariants.{Op as OfOp, Limit as OfLimit};
+ghost use Rattle.u_join.specs.Pairs.{matched_boxes, unmatched_boxes};
+
+use crate::keys::{by_keys, with_keys};
+use box_core::{matching, not_matching};
+use cell_core::{BoxRow, CellRefuse, CellRows, back, rows_over_cells};
+use point_core::{Memory, PointType, Steps};
+use std::alloc::Global;
+use std::sync::ledger::Ledger;
+use value_core::Row;
+
+// The left boxes where a right box has their key, packed.
+fn matched_form<T: PointType, L: Ledger>(
+    alloc: Global,
+    types: &[T],
+    left: &[BoxRow<T, Row>],
+    right: &[BoxRow<T, Row>],
+    here: &[usize],
+    there: &[usize],
+    steps: &mut Steps<L>,
+) -> Result<Vec<BoxRow<T, Row>>, Memory>
+    requires some { 0 < length types.now }
+    requires left { All (λ b. IsBox T.IsPoint types.now b.1) left.now }
+    requires right { All (λ b. IsBox T.IsPoint types.now b.1) right.now }
+    ensures rows { IfOk result (λ v. map (row_numbers T.number_of) v.items ≡ packed_boxes row_cmp (length types.now) (matched_boxes here.now there.now
+        (unpacked_boxes row_cmp (length types.now) (map (row_numbers T.number_of) left.now))
+        (unpacked_boxes row_cmp (length types.now) (map (row_numbers T.number_of) right.now)))) }
+    ensures boxes { IfOk result (λ v. All (λ b. IsBox T.IsPoint types.now b.1) v.items) }
+    ensures cost { steps.new ≤ steps.old + bound (length left.now + length right.now) (length types.now) }
+{
+    let CellRows {
+        sides,
+        left: l,
+        right: r,
+    } = rows_over_cells(alloc, types, left, right, steps)?;
+    let lefts = with_keys(alloc, l, here)?;
+    let rights = by_keys(alloc, r, there)?;
+    let form = matching(alloc, types.len(), lefts, rights)?;
+    let answer = back(alloc, types, sides.as_slice(), form)?;
+    Ok(answer)
+}
+
+// The left boxes where no right box has their key, packed.
+fn unmatched_form<T: PointType, L: Ledger>(
+    alloc: Global,
+    types: &[T],
+    left: &[BoxRow<T, Row>],
+    right: &[BoxRow<T, Row>],
+    here: &[usize],
+    there: &[usize],
+    steps: &mut Steps<L>,
+) -> Result<Vec<BoxRow<T, Row>>, Memory>
+    requires some { 0 < length types.now }
+    requires left { All (λ b. IsBox T.IsPoint types.now b.1) left.now }
+    requires right { All (λ b. IsBox T.IsPoint types.now b.1) right.now }
+    ensures rows { IfOk result (λ v. map (row_numbers T.number_of) v.items ≡ packed_boxes row_cmp (length types.now) (unmatched_boxes here.now there.now
+        (unpacked_boxes row_cmp (length types.now) (map (row_numbers T.number_of) left.now))
+        (unpacked_boxes row_cmp (length types.now) (map (row_numbers T.number_of) right.now)))) }
+    ensures boxes { IfOk result (λ v. All (λ b. IsBox T.IsPoint types.now b.1) v.items) }
+    ensures cost { steps.new ≤ steps.old + bound (length left.now + length right.now) (length types.now) }
+{
+    let CellRows {
+        sides,
+        left: l,
+        right: r,
+    } = rows_over_cells(alloc, types, left, right, steps)?;
+    let lefts = with_keys(alloc, l, here)?;
+    let rights = by_keys(alloc, r, there)?;
+    let form = not_matching(alloc, types.len(), lefts, rights)?;
+    let answer = back(alloc, types, sides.as_slice(), form)?;
+    Ok(answer)
+}
+
+/// The left boxes at the points where some right box has the same values at its positions as theirs, packed. There is a side at least.
+///
+/// `Limit` comes exactly where the packed boxes are more than `limit`.
+pub fn u_matching<T: PointType, L: Ledger>(
+    alloc: Global,
+    types: &[T],
+    left: &[BoxRow<T, Row>],
+    right: &[BoxRow<T, Row>],
+    here: &[usize],
+    there: &[usize],
+    limit: usize,
+    steps: &mut Steps<L>,
+) -> Result<Vec<BoxRow<T, Row>>, CellRefuse>
+    requires some { 0 < length types.now }
+    requires left { All (λ b. IsBox T.IsPoint types.now b.1) left.now }
+    requires right { All (λ b. IsBox T.IsPoint types.now b.1) right.now }
+    ensures rows { IfOk result (λ v. map (row_numbers T.number_of) v.items ≡ packed_boxes row_cmp (length types.now) (matched_boxes here.now there.now
+        (unpacked_boxes row_cmp (length types.now) (map (row_numbers T.number_of) left.now))
+        (unpacked_boxes row_cmp (length types.now) (map (row_numbers T.number_of) right.now)))) }
+    ensures boxes { IfOk result (λ v. All (λ b. IsBox T.IsPoint types.now b.1) v.items) }
+    ensures few { IfOk result (λ v. length v.items ≤ limit) }
+    ensures no_fault { (e : AnyFault) → result ≡ Err (OfOp e) → ⊥ }
+    ensures limit { result ≡ Err OfLimit → limit < length (packed_boxes row_cmp (length types.now) (matched_boxes here.now there.now
+        (unpacked_boxes row_cmp (length types.now) (map (row_numbers T.number_of) left.now))
+        (unpacked_boxes row_cmp (length types.now) (map (row_numbers T.number_of) right.now)))) }
+    ensures cost { steps.new ≤ steps.old + bound (length left.now + length right.now) (length types.now) }
+{
+    let answer = matched_form(alloc, types, left, right, here, there, steps)?;
+    if answer.len() > limit {
+        return Err(CellRefuse::Limit);
+    }
+    Ok(answer)
+}
+
+/// The left boxes at the points where no right box has the same values at its positions as theirs, packed. There is a side at least.
+///
+/// `Limit` comes exactly where the packed boxes are more than `limit`.
+pub fn u_not_matching<T: PointType, L: Ledger>(
+    alloc: Global,
+    types: &[T],
+    left: &[BoxRow<T, Row>],
+    right: &[BoxRow<T, Row>],
+    here: &[usize],
+    there: &[usize],
+    limit: usize,
+    steps: &mut Steps<L>,
+) -> Result<Vec<BoxRow<T, Row>>, CellRefuse>
+    requires some { 0 < length types.now }
+    requires left { All (λ b. IsBox T.IsPoint types.now b.1) left.now }
+    requires right { All (λ b. IsBox T.IsPoint types.now b.1) right.now }
+    ensures rows { IfOk result (λ v. map (row_numbers T.number_of) v.items ≡ packed_boxes row_cmp (length types.now) (unmatched_boxes here.now there.now
+        (unpacked_boxes row_cmp (length types.now) (map (row_numbers T.number_of) left.now))
+        (unpacked_boxes row_cmp (length types.now) (map (row_numbers T.number_of) right.now)))) }
+    ensures boxes { IfOk result (λ v. All (λ b. IsBox T.IsPoint types.now b.1) v.items) }
+    ensures few { IfOk result (λ v. length v.items ≤ limit) }
+    ensures no_fault { (e : AnyFault) → result ≡ Err (OfOp e) → ⊥ }
+    ensures limit { result ≡ Err OfLimit → limit < length (packed_boxes row_cmp (length types.now) (unmatched_boxes here.now there.now
+        (unpacked_boxes row_cmp (length types.now) (map (row_numbers T.number_of) left.now))
+        (unpacked_boxes row_cmp (length types.now) (map (row_numbers T.number_of) right.now)))) }
+    ensures cost { steps.new ≤ steps.old + bound (length left.now + length right.now) (length types.now) }
+{
+    let answer = unmatched_form(alloc, types, left, right, here, there, steps)?;
+    if answer.len() > limit {
+        return Err(CellRefuse::Limit);
+    }
+    Ok(answer)
+}

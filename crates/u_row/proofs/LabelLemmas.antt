@@ -1,0 +1,135 @@
+-- The label of a row that is made of values of another stands in the label of that one.
+use Rattle.std.proofs.Common.{◌≡◌, inl, inr, ℕ, zero, suc, ◌+◌, ◌<◌, Bool, true, false, not, List, [], ◌∷◌, map, length, get_or, refl, sym, ap, ap₂, ◌∙◌, subst, arith, if◌then◌else◌}
+use Rattle.std.specs.Bool.{IsTrue}
+use Rattle.std.specs.List.{filter}
+use Rattle.std.proofs.lemmas.Bool.{true≢false}
+use Rattle.base_core.proofs.SetLemmas.{In}
+use Rattle.base_core.proofs.MemberLemmas.{In-map, In-filter}
+use Rattle.value_core.specs.Attributes.{among}
+use Rattle.u_set.specs.Boxes.{unless, others_from, others}
+use Rattle.u_row.specs.Kept.{place_in_label, unlisted, inner}
+
+-- ---- the place of a position, counted from its front
+
+abbrev place_from : ℕ → List ℕ → ℕ → ℕ
+place_from n acl zero = 0
+place_from n acl (suc i) = if among acl n then place_from (suc n) acl i else suc (place_from (suc n) acl i)
+
+abbrev one_more : Bool → ℕ → ℕ
+one_more b m = if b then m else suc m
+
+swapped : (a b : Bool) (m : ℕ) → one_more a (one_more b m) ≡ one_more b (one_more a m)
+swapped true true m = refl
+swapped true false m = refl
+swapped false true m = refl
+swapped false false m = refl
+
+place_last : (n : ℕ) (acl : List ℕ) (i : ℕ) → place_from n acl (suc i) ≡ one_more (among acl (n + i)) (place_from n acl i)
+place_last n acl zero =
+    let z : n ≡ n + 0 = omega arith in
+    ap (λ k. one_more (among acl k) 0) z
+place_last n acl (suc i) =
+    let s : suc n + i ≡ n + suc i = omega arith in
+    ap (one_more (among acl n)) (place_last (suc n) acl i ∙ ap (λ k. one_more (among acl k) (place_from (suc n) acl i)) s)
+    ∙ swapped (among acl n) (among acl (n + suc i)) (place_from (suc n) acl i)
+
+place_is : (acl : List ℕ) (i : ℕ) → place_in_label acl i ≡ place_from 0 acl i
+place_is acl zero = refl
+place_is acl (suc i) =
+    let z : i ≡ 0 + i = omega arith in
+    ap (one_more (among acl i)) (place_is acl i) ∙ ap (λ k. one_more (among acl k) (place_from 0 acl i)) z ∙ sym (place_last 0 acl i)
+
+from_front : (acl : List ℕ) (i : ℕ) → among acl i ≡ false → among acl (0 + i) ≡ false
+from_front acl i e =
+    let z : 0 + i ≡ i = omega arith in
+    ap (among acl) z ∙ e
+
+-- ---- lists made alike
+
+not_true : (b : Bool) → not b ≡ true → b ≡ false
+not_true true e = absurd (true≢false (sym e))
+not_true false e = refl
+
+pub map_in : {Y Z : Type 0} (f g : Y → Z) (ys : List Y) → ((y : Y) → In y ys → f y ≡ g y) → map f ys ≡ map g ys
+map_in f g [] h = refl
+map_in f g (y ∷ ys) h = ap₂ (λ u us. u ∷ us) (h y (inl refl)) (map_in f g ys (λ z i. h z (inr i)))
+
+pub map_twice : {X Y Z : Type 0} (f : Y → X) (g : Z → Y) (ks : List Z) → map f (map g ks) ≡ map (λ k. f (g k)) ks
+map_twice f g [] = refl
+map_twice f g (k ∷ ks) = ap (λ xs. f (g k) ∷ xs) (map_twice f g ks)
+
+-- ---- the value at a place
+
+module _ {X : Type 0} where
+  value_from : (n : ℕ) (acl : List ℕ) (xs : List X) (i : ℕ) (d : X) → among acl (n + i) ≡ false → get_or (others_from n acl xs) (place_from n acl i) d ≡ get_or xs i d
+  value_from n acl [] i d e = refl
+  value_from n acl (x ∷ xs) zero d e =
+      let z : n + 0 ≡ n = omega arith in
+      let here : among acl n ≡ false = ap (among acl) (sym z) ∙ e in
+      ap (λ b. get_or (unless b x (others_from (suc n) acl xs)) 0 d) here
+  value_from n acl (x ∷ xs) (suc i) d e =
+      let s : suc n + i ≡ n + suc i = omega arith in
+      let more = value_from (suc n) acl xs i d (ap (among acl) s ∙ e) in
+      elim (among acl n) as (λ b. get_or (unless b x (others_from (suc n) acl xs)) (if b then place_from (suc n) acl i else suc (place_from (suc n) acl i)) d ≡ get_or xs i d) [
+        | true ↦ more
+        | false ↦ more
+      ]
+
+  -- the label has the value of a position that is not listed at its place
+  pub value_in_label : (acl : List ℕ) (xs : List X) (i : ℕ) (d : X) → among acl i ≡ false → get_or (others acl xs) (place_in_label acl i) d ≡ get_or xs i d
+  value_in_label acl xs i d e = ap (λ k. get_or (others acl xs) k d) (place_is acl i) ∙ value_from 0 acl xs i d (from_front acl i e)
+
+  within_from : (n : ℕ) (acl : List ℕ) (xs : List X) (i : ℕ) → among acl (n + i) ≡ false → i < length xs → place_from n acl i < length (others_from n acl xs)
+  within_from n acl [] i e l = absurd (omega arith)
+  within_from n acl (x ∷ xs) zero e l =
+      let z : n + 0 ≡ n = omega arith in
+      let here : among acl n ≡ false = ap (among acl) (sym z) ∙ e in
+      subst (λ b. 0 < length (unless b x (others_from (suc n) acl xs))) (sym here) (omega arith)
+  within_from n acl (x ∷ xs) (suc i) e l =
+      let s : suc n + i ≡ n + suc i = omega arith in
+      let more = within_from (suc n) acl xs i (ap (among acl) s ∙ e) (omega arith) in
+      elim (among acl n) as (λ b. (if b then place_from (suc n) acl i else suc (place_from (suc n) acl i)) < length (unless b x (others_from (suc n) acl xs))) [
+        | true ↦ more
+        | false ↦ omega (arith, more)
+      ]
+
+  pub place_within : (acl : List ℕ) (xs : List X) (i : ℕ) → among acl i ≡ false → i < length xs → place_in_label acl i < length (others acl xs)
+  place_within acl xs i e l = subst (λ k. k < length (others acl xs)) (sym (place_is acl i)) (within_from 0 acl xs i (from_front acl i e) l)
+
+  -- ---- values at positions
+
+  -- the label's values at the inner places are the row's at the positions that are not listed
+  pub inner_values : (acl kept : List ℕ) (xs : List X) (d : X) → map (λ k. get_or (others acl xs) k d) (inner acl kept) ≡ map (λ k. get_or xs k d) (unlisted acl kept)
+  inner_values acl kept xs d =
+      map_twice (λ k. get_or (others acl xs) k d) (place_in_label acl) (unlisted acl kept)
+      ∙ map_in (λ k. get_or (others acl xs) (place_in_label acl k) d) (λ k. get_or xs k d) (unlisted acl kept) (λ k i.
+      value_in_label acl xs k d (not_true (among acl k) ((In-filter (λ j. not (among acl j)) k kept).0 i).1))
+
+  kept_from : (n : ℕ) (acl listed kept : List ℕ) (f : ℕ → X) → ((m : ℕ) → m < length kept → among acl (n + m) ≡ among listed (get_or kept m 0))
+      → others_from n acl (map f kept) ≡ map f (unlisted listed kept)
+  kept_from n acl listed [] f h = refl
+  kept_from n acl listed (k ∷ kept) f h =
+      let z : n ≡ n + 0 = omega arith in
+      let here : among acl n ≡ among listed k = ap (among acl) z ∙ h 0 (omega arith) in
+      let more : others_from (suc n) acl (map f kept) ≡ map f (unlisted listed kept) =
+      kept_from (suc n) acl listed kept f (λ m l.
+      let s : suc n + m ≡ n + suc m = omega arith in
+      ap (among acl) s ∙ h (suc m) (omega arith)) in
+      ap₂ (λ b xs. unless b (f k) xs) here more
+      ∙ (elim (among listed k) as (λ b. unless b (f k) (map f (unlisted listed kept)) ≡ map f (if not b then k ∷ unlisted listed kept else unlisted listed kept)) [ true ↦ refl | false ↦ refl ])
+
+  -- so the label of the values at positions is made of the label of the whole, where the listed ones among them are those that are
+  -- listed of the whole
+  pub label_of_kept : (acl listed kept : List ℕ) (xs : List X) (d : X) → ((m : ℕ) → m < length kept → among acl m ≡ among listed (get_or kept m 0))
+      → others acl (map (λ k. get_or xs k d) kept) ≡ map (λ k. get_or (others listed xs) k d) (inner listed kept)
+  label_of_kept acl listed kept xs d h =
+      kept_from 0 acl listed kept (λ k. get_or xs k d) (λ m l.
+      let z : 0 + m ≡ m = omega arith in
+      ap (among acl) z ∙ h m l) ∙ sym (inner_values listed kept xs d)
+
+  -- the inner places lie in the label
+  pub inner_within : (acl kept : List ℕ) (xs : List X) → ((i : ℕ) → In i kept → i < length xs) → (i : ℕ) → In i (inner acl kept) → i < length (others acl xs)
+  inner_within acl kept xs h i m =
+      let w = (In-map (place_in_label acl) i (unlisted acl kept)).0 m in
+      let v = (In-filter (λ j. not (among acl j)) w.0 kept).0 w.1 in
+      subst (λ k. k < length (others acl xs)) (sym w.2) (place_within acl xs w.0 (not_true (among acl w.0) v.1) (h w.0 v.0))

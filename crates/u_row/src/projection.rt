@@ -1,0 +1,85 @@
+// Projection of a relation point by point.
+ghost use Rattle.std.specs.Prelude.{◌≡◌, ℕ, ◌+◌, ◌<◌, ◌≤◌, map, length, Err, IfOk, IsTrue, MatchResult};
+ghost use Rattle.std.specs.List.{All};
+ghost use Rattle.std.specs.Ordering.{nat_cmp};
+ghost use Rattle.base_core.specs.Sets.{is_set};
+ghost use Rattle.point_core.specs.Points.{number, IsPointOf};
+ghost use Rattle.packing_core.specs.Boxed.{packed_boxes, unpacked_boxes};
+ghost use Rattle.value_core.specs.RowPacking.{packed, unpacked};
+ghost use Rattle.value_core.specs.Values.{IsRelation, row_cmp, most_rows};
+ghost use Rattle.relation_core.specs.Agreement.{part_of};
+ghost use Rattle.relation_core.specs.Answers.{IsAnswer, IsRefusal};
+ghost use Rattle.relation_core.specs.Parts.{attributes_at, projected};
+ghost use Rattle.cell_core.specs.Boxes.{IsBox};
+ghost use Rattle.cell_core.specs.Cells.{row_numbers};
+ghost use Rattle.cell_core.specs.Costs.{bound};
+ghost use Rattle.cell_core.specs.declared.boxes.CellRefuse.TheVariants.{Limit as OfLimit};
+ghost use Rattle.u_set.specs.Boxes.{AreIntervals, types_at, boxed};
+ghost use Rattle.u_row.specs.Kept.{inner, beneath};
+ghost use Rattle.u_row.specs.Labels.{relabelled};
+
+use crate::places::{beneath, inner};
+use crate::project::u_project;
+use cell_core::{BoxRow, CellRefuse};
+use point_core::{AnyType, Steps};
+use std::alloc::Global;
+use std::sync::ledger::Ledger;
+use u_set::{from_boxes, refusal, to_boxes, types_at};
+use value_core::{MOST_ROWS, Heading, Relation, Row, RowsRefuse};
+
+// The packed boxes of the relation under the parts of their labels.
+fn projected_form<L: Ledger>(
+    alloc: Global,
+    r: &Relation,
+    acl: &[usize],
+    kept: &[usize],
+    steps: &mut Steps<L>,
+) -> Result<Vec<BoxRow<AnyType, Row>>, CellRefuse>
+    requires intervals { AreIntervals r.now.heading acl.now }
+    requires within { All (λ (i : ℕ). i < length r.now.heading) kept.now }
+    ensures relation { IsRelation r.now }
+    ensures rows { IfOk result (λ v. map (row_numbers number) v.items ≡ packed_boxes row_cmp (length acl.now)
+        (map (relabelled (part_of (inner acl.now kept.now))) (unpacked_boxes row_cmp (length acl.now) (map (boxed acl.now) r.now.rows)))) }
+    ensures boxes { IfOk result (λ v. All (λ b. IsBox IsPointOf (types_at r.now.heading acl.now) b.1) v.items) }
+    ensures limit { result ≡ Err OfLimit → most_rows < length (packed_boxes row_cmp (length acl.now)
+        (map (relabelled (part_of (inner acl.now kept.now))) (unpacked_boxes row_cmp (length acl.now) (map (boxed acl.now) r.now.rows)))) }
+    ensures cost { steps.new ≤ steps.old + bound (length r.now.rows) (length acl.now) }
+{
+    let types = types_at(alloc, r.heading().attributes(), acl)?;
+    let boxes = to_boxes(alloc, r, acl)?;
+    let places = inner(alloc, acl, kept)?;
+    u_project(
+        alloc,
+        types.as_slice(),
+        boxes.as_slice(),
+        places.as_slice(),
+        MOST_ROWS,
+        steps,
+    )
+}
+
+/// The parts of a relation's rows at the kept positions, which ascend, under USING of the attributes at positions of the heading of
+/// these parts: the rows, unpacked on these attributes, are cut to their parts, and these are packed.
+pub fn projected<L: Ledger>(
+    alloc: Global,
+    heading: &Heading,
+    acl: &[usize],
+    kept: &[usize],
+    r: &Relation,
+    steps: &mut Steps<L>,
+) -> Result<Relation, RowsRefuse>
+    requires ascending { IsTrue (is_set nat_cmp kept.now) }
+    requires within { All (λ (i : ℕ). i < length r.now.heading) kept.now }
+    requires heading { heading.now ≡ attributes_at kept.now r.now.heading }
+    requires intervals { AreIntervals heading.now acl.now }
+    ensures rows { let rows = packed acl.now (projected kept.now (unpacked (beneath kept.now acl.now) r.now.rows)) in
+        MatchResult result (IsAnswer heading.now rows) (IsRefusal rows) }
+    ensures cost { steps.new ≤ steps.old + bound (length r.now.rows) (length acl.now) }
+{
+    let listed = beneath(alloc, kept, acl)?;
+    let whole = heading.copy(alloc)?;
+    match projected_form(alloc, r, listed.as_slice(), kept, steps) {
+        Ok(form) => from_boxes(alloc, whole, acl, form),
+        Err(refuse) => Err(refusal(refuse)),
+    }
+}

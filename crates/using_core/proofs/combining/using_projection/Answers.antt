@@ -1,0 +1,26 @@
+use Rattle.std.proofs.Common.{◌≡◌, List, ap, ◌∙◌, subst}
+use Rattle.point_core.specs.Faults.{OrFault}
+use Rattle.value_core.specs.RowPacking.{packed, unpacked}
+use Rattle.value_core.specs.Values.{Relation}
+use Rattle.meaning_core.specs.Meanings.{limited}
+use Rattle.relation_core.specs.Answers.{Answers, under}
+use Rattle.relation_core.specs.Parts.{projected}
+use Rattle.u_row.specs.Kept.{beneath}
+use Rattle.u_row.proofs.PartLemmas.{positions_kept}
+use Rattle.using_core.specs.Using.{listed}
+use Rattle.using_core.proofs.ListLemmas.{intervals_of_list}
+use Rattle.using_core.proofs.PartLemmas.{beneath_is}
+use Rattle.using_core.proofs.UnderLemmas.{rows_meant}
+use Rattle.using_core.proofs.combining.using_projection.Goals as goal
+
+pub returns-clause-value : goal.returns-clause-value
+returns-clause-value g c =
+    let h = c.args.heading.now in
+    let r = c.args.r.now in
+    let acl = c.args.acl.now in
+    let kept = c.args.kept.now in
+    let below = positions_kept h r.heading kept acl c.requires.projection.headed (intervals_of_list h acl c.requires.list) in
+    let is = beneath_is h r.heading kept acl c.heading-own.ensures.relation.headed c.requires.projection.headed c.requires.projection.positions.within below in
+    let same = rows_meant c.args.place h acl c.attributes-attributes.ensures.heading c.requires.list (projected kept (unpacked (listed h acl r.heading) r.rows)) in
+    subst (λ (m : OrFault Relation). Answers c.told.result m) (ap (λ ps. under h (limited c.args.place (packed acl (projected kept (unpacked ps r.rows))))) is ∙ same)
+    (c.told.ensures h (packed acl (projected kept (unpacked (beneath kept acl) r.rows))) c.projected.ensures.rows)
