@@ -4,12 +4,13 @@ use Rattle.std.specs.Prelude.{◌≡◌, ℕ, Bool, true, false, List, [], ◌�
 use Rattle.point_core.specs.declared.fault.Place.{Place}
 use Rattle.point_core.specs.declared.fault.Code.TheVariants.{E03, E04}
 use Rattle.value_core.specs.declared.refuse.Refuse.TheVariants as refuses
+use Rattle.value_core.specs.Limits.{most_statement_bytes}
 use Rattle.utd_statement.specs.Readings.{Reading, Refused, IsText}
 use Rattle.utd_session.specs.Statements.{Statement, Complete, Incomplete}
 
 -- the most bytes of a statement, with its `;`
 abbrev pub most_in_statement : ℕ
-most_in_statement = 1048576
+most_in_statement = most_statement_bytes
 
 abbrev pub IsShort : Bool → Place → List ℕ → Reading → Type 0
 IsShort true place bytes reading = IsText place bytes reading

@@ -1,6 +1,7 @@
 -- The statements of a script: each ends at a `;` that stands outside texts and comments.
 use Rattle.std.specs.Prelude.{◌≡◌, ℕ, ◌==◌, Bool, true, ◌&&◌, List, [], ◌∷◌, ◌++◌, length, take, nat_le, if◌then◌else◌}
 use Rattle.point_core.specs.declared.fault.Place.{Place}
+use Rattle.value_core.specs.Limits.{most_script_bytes}
 use Rattle.utd_lexer.specs.declared.cutter.Mode.TheVariants.{Between}
 use Rattle.utd_lexer.specs.Cutting.{run, is_outside, can_be_blank, is_resting}
 use Rattle.utd_lexer.specs.Tokens.{place_after}
@@ -66,7 +67,7 @@ abbrev pub statements : List ℕ → List Statement
 statements bytes = complete_statements bytes ++ incomplete_rest (cut bytes).rest
 
 abbrev pub most_bytes : ℕ
-most_bytes = 16777216
+most_bytes = most_script_bytes
 
 -- the statements that the machine performs: all, or of a text that is too long those that end
 -- within the most bytes

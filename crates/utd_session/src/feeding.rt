@@ -2,6 +2,7 @@
 ghost use Rattle.std.specs.Prelude.{◌≡◌, ℕ, ◌+◌, ◌-◌, ◌^◌, ◌<◌, ◌≤◌, true, ◌&&◌, List, [], ◌∷◌, ◌++◌, length, IfOk, OnOk, OnErr, IfErr, IsOk, MatchOption, IfSome};
 ghost use Rattle.utd_io.specs.Io.{Rose, Gains, GainsPrefix};
 ghost use Rattle.point_core.specs.declared.fault.Place.{Place};
+ghost use Rattle.value_core.specs.Limits.{most_script_bytes};
 ghost use Rattle.utd_lexer.specs.Cutting.{Since};
 ghost use Rattle.utd_lexer.specs.Tokens.{Fits, place_after};
 ghost use Rattle.utd_session.specs.Unfinished.{IsUnfinished};
@@ -45,7 +46,7 @@ pub struct Session {
     number: u32,
     unfinished: Unfinished,
     cutter: Cutter,
-    ghost few: { fed ≤ 16777216 },
+    ghost few: { fed ≤ most_script_bytes },
     ghost numbered: { number + unfinished.size ≤ fed + 1 },
     ghost begun: { (unfinished.start.line ≤ fed + 1) × (unfinished.start.column ≤ fed + 1) },
     ghost placed: { (unfinished.next.line ≤ fed + 1) × (unfinished.next.column ≤ fed + 1) },
@@ -132,7 +133,7 @@ impl Session {
     /// How many bytes were fed.
     pub fn fed(&self) -> u64
         ensures fed { result ≡ fed_of self.now }
-        ensures few { result ≤ 16777216 }
+        ensures few { result ≤ most_script_bytes }
         ensures length { (bytes : List ℕ) (rs : List Reading) → StandsFor self.now bytes rs → result ≡ length bytes }
     {
         self.fed
@@ -140,7 +141,7 @@ impl Session {
 
     // Keeps bytes that end no statement.
     fn keep(self, piece: &[u8], cutter: Cutter) -> Result<Session, Ended>
-        requires { self.fed + length piece.now ≤ 16777216 }
+        requires { self.fed + length piece.now ≤ most_script_bytes }
         ensures fed { IfOk result (λ s. s.fed ≡ self.fed + length piece.now) }
         ensures kept { (bytes : List ℕ) (rs : List Reading) → StandsFor self bytes rs
             → NoEnd (cut bytes).place (cut bytes).rest piece.now → Since cutter ((cut bytes).rest ++ piece.now)
@@ -182,7 +183,7 @@ impl Session {
         steps: &mut Steps<L>,
     ) -> Result<(), SessionFault>
         requires some { 0 < length front.now }
-        requires few { self.old.fed + length front.now ≤ 16777216 }
+        requires few { self.old.fed + length front.now ≤ most_script_bytes }
         ensures fed { OnOk result (self.new.fed ≡ self.old.fed + length front.now) }
         ensures since { OnOk result (Since self.new.cutter []) }
         ensures performed { (bytes : List ℕ) (rs : List Reading) → StandsFor self.old bytes rs
@@ -226,7 +227,7 @@ impl Session {
         out: &mut K,
         steps: &mut Steps<L>,
     ) -> Result<Session, Ended>
-        requires { fed_of self + length piece.now ≤ 16777216 }
+        requires { fed_of self + length piece.now ≤ most_script_bytes }
         ensures fed { IfOk result (λ s. fed_of s ≡ fed_of self + length piece.now) }
         ensures stands { (bytes : List ℕ) (rs : List Reading) → StandsFor self bytes rs
             → IfOk result (λ s. (more : List Reading) × StandsFor s (bytes ++ piece.now) (rs ++ more)

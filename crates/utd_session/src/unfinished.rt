@@ -1,14 +1,13 @@
 // The statement that no `;` has ended yet.
 ghost use Rattle.std.specs.Prelude.{◌≡◌, ℕ, ◌+◌, ◌-◌, ◌^◌, ◌<◌, ◌≤◌, List, [], ◌++◌, length, IfOk, OnOk, OnErr};
+ghost use Rattle.value_core.specs.Limits.{most_statement_bytes};
 ghost use Rattle.utd_lexer.specs.Tokens.{Fits, place_after};
 
 use point_core::{Code, Memory, Place};
 use std::alloc::{AllocError, Global};
 use utd_lexer::place_behind;
 use utd_statement::{Parsed, read_text};
-use value_core::Refuse;
-
-const MOST_BYTES: usize = 1_048_576;
+use value_core::{MOST_STATEMENT_BYTES, Refuse};
 
 /// The statement that is not ended: where it begins, the place of the next byte, its length, and its bytes, or none where
 /// there are too many.
@@ -18,16 +17,16 @@ pub struct Unfinished {
     next: Place,
     size: usize,
     bytes: Vec<u8>,
-    ghost kept: { (length bytes.items ≤ size) × (length bytes.items ≤ 1048576) },
+    ghost kept: { (length bytes.items ≤ size) × (length bytes.items ≤ most_statement_bytes) },
 }
 
 // Keeps the piece behind what is kept, or nothing where all together are too many.
 fn keep(kept: &mut Vec<u8>, size: usize, piece: &[u8]) -> Result<(), AllocError>
-    ensures short { OnOk result (size ≤ 1048576 → kept.new.items ≡ kept.old.items ++ piece.now) }
-    ensures long { OnOk result (1048576 < size → kept.new.items ≡ []) }
+    ensures short { OnOk result (size ≤ most_statement_bytes → kept.new.items ≡ kept.old.items ++ piece.now) }
+    ensures long { OnOk result (most_statement_bytes < size → kept.new.items ≡ []) }
     ensures failed { OnErr result (kept.new.items ≡ kept.old.items) }
 {
-    if size > MOST_BYTES {
+    if size > MOST_STATEMENT_BYTES {
         kept.clear();
         return Ok(());
     }
@@ -89,7 +88,7 @@ impl Unfinished {
             → IfOk result (λ p. IsReading (Complete place bytes) (reading_of p)) }
         ensures told { IfOk result (λ p. HasAnswer (reading_of p)) }
     {
-        if self.size > MOST_BYTES {
+        if self.size > MOST_STATEMENT_BYTES {
             return Ok(Parsed::Refused(Refuse::Plain(Code::E03)));
         }
         read_text(alloc, &self.bytes, self.start)

@@ -1,4 +1,5 @@
 use Rattle.std.proofs.Common.{◌≡◌, ◌-◌, ◌≤◌, length}
+use Rattle.value_core.specs.Limits.{most_script_bytes}
 use Rattle.utd_session.specs.Sessions.{fed_of}
 use Rattle.utd_session.specs.Progress.{MayHaveFed}
 use Rattle.utd_session.proofs.script.run_script.Given as goal
@@ -12,4 +13,4 @@ invariant-script g l = record {
 }
 
 abbrev pub decreases-script : goal.decreases-script
-decreases-script g l = 16777216 - fed_of l.session
+decreases-script g l = most_script_bytes - fed_of l.session
