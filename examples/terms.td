@@ -54,6 +54,23 @@ BILLED := USING (DAYS): BILLED UNION RELATION {TUPLE {CONTRACT 9, DAYS [DATE '20
 PRINT BILLED;
 PRINT USING (DAYS): DUE MINUS BILLED;
 
+/* What a tariff costs changes too. */
+VAR FEES RELATION {TARIFF CHAR, CENTS INTEGER, IN_FORCE INTERVAL(DATE)} KEY {TARIFF, IN_FORCE};
+INSERT FEES RELATION {
+  TUPLE {TARIFF 'basic', CENTS 1900, IN_FORCE [DATE '2011-01-01':DATE '2012-09-30']},
+  TUPLE {TARIFF 'basic', CENTS 2100, IN_FORCE [DATE '2012-10-01':DATE '2012-12-31']},
+  TUPLE {TARIFF 'plus',  CENTS 2900, IN_FORCE [DATE '2013-01-01':DATE '2014-12-31']}
+};
+
+/* The fee of each contract, for as long as contract and fee go together .. */
+PRINT USING (IN_FORCE): TERMS JOIN FEES;
+
+/* .. the terms for which there is no fee .. */
+PRINT USING (IN_FORCE): TERMS NOT MATCHING FEES;
+
+/* .. and the days for which a tariff was in use with a fee, whichever contract had it. */
+PRINT USING (IN_FORCE): (USING (IN_FORCE): TERMS MATCHING FEES) {TARIFF, IN_FORCE};
+
 /* A day in the middle, and an attribute that is no interval. */
 PRINT (TERMS WHERE DATE '2012-12-31' IN IN_FORCE) {CONTRACT, TARIFF};
 PRINT PACK TERMS ON (TARIFF);

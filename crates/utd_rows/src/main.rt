@@ -10,7 +10,7 @@ use std::alloc::Global;
 use std::{fs, io};
 
 /// The files of data/, by subject.
-const FILES: [&str; 25] = [
+const FILES: [&str; 26] = [
     "ask.txt",
     "assign.txt",
     "compare.txt",
@@ -18,6 +18,7 @@ const FILES: [&str; 25] = [
     "drop.txt",
     "fault.txt",
     "item.txt",
+    "join.txt",
     "kept.txt",
     "list.txt",
     "literal.txt",
