@@ -26,7 +26,7 @@ use point_core::{AnyType, Steps};
 use std::alloc::Global;
 use std::sync::ledger::Ledger;
 use u_set::{from_boxes, refusal, to_boxes, types_at};
-use value_core::{MOST_ROWS, Heading, Relation, Row, RowsRefuse};
+use value_core::{Heading, MOST_ROWS, Relation, Row, RowsRefuse};
 
 // The packed boxes of the joined rows, on one attribute at least.
 fn joining_boxes<L: Ledger>(

@@ -25,7 +25,7 @@ use point_core::{AnyType, Steps};
 use std::alloc::Global;
 use std::sync::ledger::Ledger;
 use u_set::{from_boxes, refusal, to_boxes, types_at};
-use value_core::{MOST_ROWS, Heading, Relation, Row, RowsRefuse};
+use value_core::{Heading, MOST_ROWS, Relation, Row, RowsRefuse};
 
 // The packed boxes of the relation under the parts of their labels.
 fn projected_form<L: Ledger>(
