@@ -1,38 +1,48 @@
 #!/usr/bin/env python3
 """using: a script that asks operators under USING of two histories in relvars.
 
-    using.py ROWS tenth|one|each union|intersect|minus|equal|within|less|pack|unpack TIMES > script
+    using.py ROWS tenth|one|each|cover|few OPERATOR TIMES > script
 
-Each relvar gets ROWS rows (at most 100,000) of a key and an interval of integers: a tenth as many keys, one key over intervals that
-all overlap, or a key for each row. The operator is asked TIMES times; a run with 0 is what it costs to read and keep the rows.
+Each relvar gets ROWS rows (at most 100,000) of a key, a value of its own and an interval of integers: a tenth as many keys; one key over
+intervals that all overlap; a key for each row over intervals that all overlap; no common key, and 40 intervals at each point; or a
+fiftieth as many keys. OPERATOR is one of those below; it is asked TIMES times, and what it gives is counted. A run with 0 is what it
+costs to read and keep the rows.
 """
 import random
 import sys
 
-HEAD = 'VAR %s RELATION {K INTEGER, D INTERVAL(INTEGER)} KEY {K, D};\n'
+# the attributes that both have, before the interval
+SHARED = {'tenth': ['K'], 'one': ['K'], 'each': ['K'], 'few': ['K'], 'cover': []}
 COUNTED = 'PRINT SUMMARIZE (%s) BY {}: {N := COUNT()};\n'
-ASKED = 'ASK USING (D): R %s S;\n'
-
-STATEMENTS = {
+# the operators of relations of one heading, and of two
+ALIKE = {
     'union': COUNTED % 'USING (D): R UNION S',
     'intersect': COUNTED % 'USING (D): R INTERSECT S',
     'minus': COUNTED % 'USING (D): R MINUS S',
     'pack': COUNTED % 'PACK R ON (D)',
-    'unpack': COUNTED % 'UNPACK R ON (D)',
-    'equal': ASKED % '=',
-    'within': ASKED % '<=',
-    'less': ASKED % '<',
+    'equal': 'ASK USING (D): R = S;\n',
+    'within': 'ASK USING (D): R <= S;\n',
+    'less': 'ASK USING (D): R < S;\n',
+}
+OTHER = {
+    'join': COUNTED % 'USING (D): R JOIN S',
+    'matching': COUNTED % 'USING (D): R MATCHING S',
+    'not_matching': COUNTED % 'USING (D): R NOT MATCHING S',
+    'project': COUNTED % 'USING (D): R {K, D}',
 }
 
 
 def keys(rows, shape):
-    return {'tenth': max(1, rows // 10), 'one': 1, 'each': rows}[shape]
+    return {'tenth': max(1, rows // 10), 'one': 1, 'each': rows, 'few': max(1, rows // 50), 'cover': 1}[shape]
 
 
 def interval(shape, rows, numbers):
-    if shape == 'tenth':
+    if shape in ('tenth', 'few'):
         begin = numbers.randrange(2000)
         return begin, begin + numbers.randrange(30)
+    if shape == 'cover':
+        begin = numbers.randrange(10 * rows)
+        return begin, begin + 399
     begin = numbers.randrange(rows)
     return begin, rows + numbers.randrange(rows)
 
@@ -45,20 +55,25 @@ def rows_of(rows, shape, numbers):
     return sorted(found, key=lambda _: numbers.random())
 
 
-def inserts(name, rows, write):
+def relvar(name, own, rows, shape, numbers, write):
+    attributes = SHARED[shape] + own
+    write('VAR %s RELATION {%s, D INTERVAL(INTEGER)};\n' % (name, ', '.join(a + ' INTEGER' for a in attributes)))
     for start in range(0, len(rows), 5000):
-        tuples = ', '.join('TUPLE {K %d, D [%d:%d]}' % row for row in rows[start:start + 5000])
-        write('INSERT %s RELATION {%s};\n' % (name, tuples))
+        tuples = []
+        for key, begin, end in rows[start:start + 5000]:
+            values = ['K %d' % key] * len(SHARED[shape]) + ['%s %d' % (a, begin % 97) for a in own]
+            tuples.append('TUPLE {%s, D [%d:%d]}' % (', '.join(values), begin, end))
+        write('INSERT %s RELATION {%s};\n' % (name, ', '.join(tuples)))
 
 
 def main():
     rows, shape, operator, times = int(sys.argv[1]), sys.argv[2], sys.argv[3], int(sys.argv[4])
     numbers = random.Random(1)
     write = sys.stdout.write
-    for name in 'R', 'S':
-        write(HEAD % name)
-        inserts(name, rows_of(rows, shape, numbers), write)
-    write(STATEMENTS[operator] * times)
+    alike = operator in ALIKE
+    for name, own in ('R', 'A'), ('S', 'B'):
+        relvar(name, ['C'] if alike else [own], rows_of(rows, shape, numbers), shape, numbers, write)
+    write((ALIKE if alike else OTHER)[operator] * times)
 
 
 main()
