@@ -1,5 +1,7 @@
 // The program: makes the standard objects, passes the words, and ends with the status.
 ghost use Rattle.std.specs.Prelude.{◌≡◌, ◌↔◌, ◌⊎◌, ◌<◌, length};
+ghost use Rattle.std.specs.IoError.{error_kind};
+ghost use Rattle.std.specs.declared.io.ErrorKind.TheVariants.{OutOfMemory};
 ghost use Rattle.utd_session.specs.Status.{number_of};
 
 use point_core::Steps;
@@ -40,7 +42,9 @@ fn words_after_name(alloc: Global, args: env::Args) -> io::Result<Vec<String>> {
 
 // Why the words can't be had: memory is wanting, or one of them is not UTF-8.
 fn status_of(error: &io::Error) -> Status
-    ensures { (result ≡ Status.NoMemory) ⊎ (result ≡ Status.BadUsage) }
+    ensures answer { (result ≡ Status.NoMemory) ⊎ (result ≡ Status.BadUsage) }
+    ensures memory { result ≡ Status.NoMemory → error_kind error.now ≡ OutOfMemory }
+    ensures usage { result ≡ Status.BadUsage → error_kind error.now ≡ OutOfMemory → ⊥ }
 {
     if error.kind() == io::ErrorKind::OutOfMemory {
         Status::NoMemory
@@ -51,7 +55,9 @@ fn status_of(error: &io::Error) -> Status
 
 // The status where the words can't be had, with its line written. It takes no memory.
 fn status_without_words(error: &io::Error, err: &mut StdErrSink) -> u8
-    ensures { (result ≡ number_of Status.NoMemory) ⊎ (result ≡ number_of Status.BadUsage) }
+    ensures answer { (result ≡ number_of Status.NoMemory) ⊎ (result ≡ number_of Status.BadUsage) }
+    ensures memory { result ≡ number_of Status.NoMemory → error_kind error.now ≡ OutOfMemory }
+    ensures usage { result ≡ number_of Status.BadUsage → error_kind error.now ≡ OutOfMemory → ⊥ }
 {
     let status = status_of(error);
     let _ = write_all(err, status.line());
