@@ -81,10 +81,14 @@ abbrev pub condition_swept : List ℕ → Option Expr → OrFault (Unit {0})
 condition_swept acl None = Ok tt
 condition_swept acl (Some c) = swept acl c
 
--- where attributes are named by USING or a portion: E19 at the first item that assigns one of them, then E18
+-- E19 at the first item that assigns one of the named attributes, then E18
+abbrev pub points_swept : List Name → List ℕ → Option Expr → List SetItemP → PlainSets → OrFault (Unit {0})
+points_swept names acl c items sets = do
+  none ← none_assigned names items
+  condition ← condition_swept acl c
+  sets_swept acl sets
+
+-- asked where attributes are named by USING or a portion
 abbrev pub works_at_points : Heading → Option (List Name) → Option Expr → List SetItemP → PlainSets → OrFault (Unit {0})
 works_at_points heading None c items sets = Ok tt
-works_at_points heading (Some names) c items sets = do
-  none ← none_assigned names items
-  condition ← condition_swept (positions_of heading names) c
-  sets_swept (positions_of heading names) sets
+works_at_points heading (Some names) c items sets = points_swept names (positions_of heading names) c items sets

@@ -5,7 +5,7 @@ use Rattle.point_core.specs.declared.fault.Place.{Place}
 use Rattle.point_core.specs.declared.fault.Code.TheVariants.{E01}
 use Rattle.point_core.specs.Faults.{OrFault}
 use Rattle.utd_syntax.specs.Plain as syntax
-use Rattle.utd_syntax.specs.Plain.{Word, NameListP, RelP, ConditionP, MaybePortionP, SetsP, DeletionP, UsedDeletionP, UsedItemP, ItemP, AssignP}
+use Rattle.utd_syntax.specs.Plain.{Word, NameListP, RelP, ConditionP, MaybePortionP, SomeElementsP, SetsP, DeletionP, UsedDeletionP, UsedItemP, ItemP, AssignP}
 use Rattle.value_core.specs.Values.{Heading}
 use Rattle.scalar_typing.specs.Typings.{◌>>=◌, refused}
 use Rattle.tree_core.specs.Items.{PlainItemForm, set_to, insert, delete, delete_rows, update, PlainItem}
@@ -24,15 +24,19 @@ item_of place target form = record { place = place; target = target.0; heading =
 
 -- ---- over the target's heading
 
-abbrev pub deletion_typed : State → Word → Heading → DeletionP → OrFault PlainItemForm
-deletion_typed state w heading (syntax.DeleteWhere at s) = do
-  c ← condition_typed state.ordinals at heading s
-  Ok (delete_rows (change None None (Some c)))
-deletion_typed state w heading (syntax.DeletePortion (syntax.Portion at elements) condition) = do
+-- the portion, the condition; then E18
+abbrev pub portion_deleted : State → Heading → SomeElementsP → ConditionP → OrFault PlainItemForm
+portion_deleted state heading elements condition = do
   portion ← portion_typed state.ordinals heading elements
   c ← condition_if state.ordinals heading condition
   sweepable ← works_at_points heading (Some (portion_names elements)) c [] []
   Ok (delete_rows (change None (Some portion) c))
+
+abbrev pub deletion_typed : State → Word → Heading → DeletionP → OrFault PlainItemForm
+deletion_typed state w heading (syntax.DeleteWhere at s) = do
+  c ← condition_typed state.ordinals at heading s
+  Ok (delete_rows (change None None (Some c)))
+deletion_typed state w heading (syntax.DeletePortion (syntax.Portion at elements) condition) = portion_deleted state heading elements condition
 deletion_typed state w heading (syntax.DeleteRows rel) = do
   t ← rows_typed state w heading rel
   Ok (delete None t)
@@ -47,16 +51,19 @@ update_typed state heading portion condition sets = do
   Ok (update (change None p c) made)
 
 -- under USING: the list behind the operand, or before the condition
+abbrev pub used_rows_typed : State → Word → Heading → NameListP → RelP → OrFault PlainItemForm
+used_rows_typed state w heading list rel = do
+  t ← rows_typed state w heading rel
+  names ← list_checked heading (heading_of t) list
+  Ok (delete (Some (positions_of heading names)) t)
+
 abbrev pub used_deletion_typed : State → Word → Heading → NameListP → UsedDeletionP → OrFault PlainItemForm
 used_deletion_typed state w heading list (syntax.UsedDeleteWhere at s) = do
   names ← list_checked heading heading list
   c ← condition_typed state.ordinals at heading s
   sweepable ← works_at_points heading (Some names) (Some c) [] []
   Ok (delete_rows (change (Some (positions_of heading names)) None (Some c)))
-used_deletion_typed state w heading list (syntax.UsedDeleteRows rel) = do
-  t ← rows_typed state w heading rel
-  names ← list_checked heading (heading_of t) list
-  Ok (delete (Some (positions_of heading names)) t)
+used_deletion_typed state w heading list (syntax.UsedDeleteRows rel) = used_rows_typed state w heading list rel
 
 abbrev pub used_update_typed : State → Heading → NameListP → ConditionP → SetsP → OrFault PlainItemForm
 used_update_typed state heading list condition sets = do

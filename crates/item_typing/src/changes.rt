@@ -1,19 +1,19 @@
-// Which rows of the target change.
-ghost use Rattle.std.specs.Prelude.{◌≡◌, None, option_map};
+// Which rows of the target change, and at which of their points.
+ghost use Rattle.std.specs.Prelude.{◌≡◌, ◌∷◌, map, None, option_map, Some};
 ghost use Rattle.utd_syntax.specs.Read.{read_condition};
 ghost use Rattle.scalar_core.specs.Answers.{Gives};
 ghost use Rattle.scalar_core.specs.Expressions.{read};
 ghost use Rattle.scalar_typing.specs.Names.{AreOrdinals};
-ghost use Rattle.tree_core.specs.Items.{read_change};
+ghost use Rattle.tree_core.specs.Items.{read_change, read_portion};
 ghost use Rattle.item_typing.specs.Changes as rules;
 
-use node_typing::condition_typed;
+use node_typing::{condition_typed, swept};
 use point_core::Stop;
 use scalar_core::Scalar;
 use std::alloc::Global;
-use tree_core::Change;
+use tree_core::{Change, Portion};
 use utd_syntax::Condition;
-use value_core::{Heading, OrdinalTypes};
+use value_core::{Heading, OrdinalTypes, Positions};
 
 /// The condition, if there is one.
 pub(crate) fn condition_if(
@@ -34,6 +34,16 @@ pub(crate) fn condition_if(
     }
 }
 
+/// The refusal of a condition that is not sweepable.
+pub(crate) fn condition_swept(acl: &[usize], condition: &Option<Scalar>) -> Result<(), Stop>
+    ensures { Gives (λ _. tt) result (rules.condition_swept acl.now (option_map read condition.now)) }
+{
+    match condition {
+        None => Ok(()),
+        Some(c) => swept(acl, c),
+    }
+}
+
 /// A change of the rows that meet the condition, at all of their points.
 pub(crate) fn of_rows(condition: Option<Scalar>) -> Change
     ensures { read_change result ≡ rules.change None None (option_map read condition) }
@@ -41,6 +51,28 @@ pub(crate) fn of_rows(condition: Option<Scalar>) -> Change
     Change {
         acl: None,
         portion: None,
+        condition,
+    }
+}
+
+/// A change, under USING of the listed attributes, of the points that meet the condition.
+pub(crate) fn of_points(acl: Positions, condition: Option<Scalar>) -> Change
+    ensures { read_change result ≡ rules.change (Some acl) None (option_map read condition) }
+{
+    Change {
+        acl: Some(acl),
+        portion: None,
+        condition,
+    }
+}
+
+/// A change of the points in the portion that meet the condition.
+pub(crate) fn of_portion(portion: Portion, condition: Option<Scalar>) -> Change
+    ensures { read_change result ≡ rules.change None (Some (read_portion portion)) (option_map read condition) }
+{
+    Change {
+        acl: None,
+        portion: Some(portion),
         condition,
     }
 }

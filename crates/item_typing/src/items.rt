@@ -1,8 +1,8 @@
 // The items of an assignment, all typed for the same relvars.
 ghost use Rattle.std.specs.Prelude.{◌≡◌, map};
 ghost use Rattle.point_core.specs.declared.fault.Code.TheVariants.{E01};
-ghost use Rattle.utd_syntax.specs.Plain.{NoPortion};
-ghost use Rattle.utd_syntax.specs.Read.{read_assign, read_condition, read_deletion, read_item, read_item_list, read_name, read_rel, read_sets};
+ghost use Rattle.utd_syntax.specs.Plain.{NoPortion, OfPortion, UsedInsert, UsedDelete, UsedUpdate};
+ghost use Rattle.utd_syntax.specs.Read.{read_assign, read_condition, read_deletion, read_item, read_item_list, read_list, read_name, read_rel, read_sets, read_some_elements, read_used_deletion, read_used_item};
 ghost use Rattle.scalar_core.specs.Answers.{Gives};
 ghost use Rattle.scalar_typing.specs.Names.{AreOrdinals};
 ghost use Rattle.scalar_typing.specs.Typings.{refused};
@@ -11,14 +11,18 @@ ghost use Rattle.tree_core.specs.Relvars.{read_relvars};
 ghost use Rattle.item_typing.specs.Items as rules;
 
 use crate::changes::{condition_if, of_rows};
+use crate::points::{portion_deleted, portion_updated, used_deletion, used_update};
 use crate::sets::sets_made;
 use crate::targets::{Target, rows_typed, target_typed};
-use node_typing::condition_typed;
+use node_typing::{condition_typed, listed};
 use point_core::{Code, Fault, Place, Stop};
 use std::alloc::Global;
 use tree_core::{Item, ItemForm, Items, Relvars};
 use utd_syntax as syntax;
-use utd_syntax::{Assignment, Condition, Deletion, MaybePortion, Rel, Sets, Word};
+use utd_syntax::{
+    Assignment, Condition, Deletion, MaybePortion, NameList, Rel, Sets, SomeElements, UsedDeletion,
+    UsedItem, Word,
+};
 use value_core::Heading;
 
 /// An item that changes the target.
@@ -75,7 +79,13 @@ fn type_deleted(
             let c = condition_typed(alloc, &relvars.ordinals, *place, heading, scalar)?;
             Ok(ItemForm::DeleteRows(of_rows(Some(c))))
         }
-        Deletion::Portion(_, _) => Err(Stop::Memory),
+        Deletion::Portion(portion, condition) => portion_deleted(
+            alloc,
+            heading,
+            &portion.elements,
+            condition,
+            relvars,
+        ),
         Deletion::Rows(rel) => {
             let t = rows_typed(alloc, word, heading, rel, relvars)?;
             Ok(ItemForm::Delete(None, t))
@@ -137,6 +147,106 @@ fn type_update(
     Ok(item_of(place, target, form))
 }
 
+/// `"UPDATE" name "PORTION" some_elements condition ":" sets`.
+fn type_portion_update(
+    alloc: Global,
+    place: Place,
+    word: &Word,
+    elements: &SomeElements,
+    condition: &Condition,
+    sets: &Sets,
+    relvars: &Relvars,
+) -> Result<Item, Stop>
+    requires { AreOrdinals (read_relvars relvars.now).ordinals }
+    ensures { (at : Place) → Gives typed.read_item result (rules.update_item_typed (read_relvars relvars.now) place (read_name word.now) (OfPortion at (read_some_elements elements.now)) (read_condition condition.now) (read_sets sets.now)) }
+{
+    let target = target_typed(alloc, word, relvars)?;
+    let form = portion_updated(alloc, &target.heading, elements, condition, sets, relvars)?;
+    Ok(item_of(place, target, form))
+}
+
+/// An INSERT under USING.
+fn type_used_insertion(
+    alloc: Global,
+    place: Place,
+    list: &NameList,
+    word: &Word,
+    rel: &Rel,
+    relvars: &Relvars,
+) -> Result<Item, Stop>
+    requires { AreOrdinals (read_relvars relvars.now).ordinals }
+    ensures { (at : Place) → Gives typed.read_item result (rules.used_item_typed (read_relvars relvars.now) place (read_list list.now) (UsedInsert at (read_name word.now) (read_rel rel.now))) }
+{
+    let target = target_typed(alloc, word, relvars)?;
+    let t = rows_typed(alloc, word, &target.heading, rel, relvars)?;
+    match listed(alloc, &target.heading, &t.heading, list) {
+        Ok(acl) => Ok(item_of(place, target, ItemForm::Insert(Some(acl), t))),
+        Err(stop) => {
+            drop(t);
+            Err(stop)
+        }
+    }
+}
+
+/// A DELETE under USING.
+fn type_used_deletion(
+    alloc: Global,
+    place: Place,
+    list: &NameList,
+    word: &Word,
+    deletion: &UsedDeletion,
+    relvars: &Relvars,
+) -> Result<Item, Stop>
+    requires { AreOrdinals (read_relvars relvars.now).ordinals }
+    ensures { (at : Place) → Gives typed.read_item result (rules.used_item_typed (read_relvars relvars.now) place (read_list list.now) (UsedDelete at (read_name word.now) (read_used_deletion deletion.now))) }
+{
+    let target = target_typed(alloc, word, relvars)?;
+    let form = used_deletion(alloc, word, &target.heading, list, deletion, relvars)?;
+    Ok(item_of(place, target, form))
+}
+
+/// An UPDATE under USING.
+fn type_used_update(
+    alloc: Global,
+    place: Place,
+    list: &NameList,
+    word: &Word,
+    condition: &Condition,
+    sets: &Sets,
+    relvars: &Relvars,
+) -> Result<Item, Stop>
+    requires { AreOrdinals (read_relvars relvars.now).ordinals }
+    ensures { (at : Place) → Gives typed.read_item result (rules.used_item_typed (read_relvars relvars.now) place (read_list list.now) (UsedUpdate at (read_name word.now) (read_condition condition.now) (read_sets sets.now))) }
+{
+    let target = target_typed(alloc, word, relvars)?;
+    let form = used_update(alloc, &target.heading, list, condition, sets, relvars)?;
+    Ok(item_of(place, target, form))
+}
+
+/// An item under USING, whose place is that of the whole.
+fn type_used(
+    alloc: Global,
+    place: Place,
+    list: &NameList,
+    used: &UsedItem,
+    relvars: &Relvars,
+) -> Result<Item, Stop>
+    requires { AreOrdinals (read_relvars relvars.now).ordinals }
+    ensures { Gives typed.read_item result (rules.used_item_typed (read_relvars relvars.now) place (read_list list.now) (read_used_item used.now)) }
+{
+    match used {
+        UsedItem::Insert(_, word, rel) => {
+            type_used_insertion(alloc, place, list, word, rel, relvars)
+        }
+        UsedItem::Delete(_, word, deletion) => {
+            type_used_deletion(alloc, place, list, word, deletion, relvars)
+        }
+        UsedItem::Update(_, word, condition, sets) => {
+            type_used_update(alloc, place, list, word, condition, sets, relvars)
+        }
+    }
+}
+
 /// TERMINATE, which is refused at its first token.
 fn type_ending(place: Place) -> Result<Item, Stop>
     ensures { Gives typed.read_item result (refused place E01) }
@@ -161,9 +271,11 @@ pub fn type_item(alloc: Global, item: &syntax::Item, relvars: &Relvars) -> Resul
         syntax::Item::Update(place, word, MaybePortion::None, condition, sets) => type_update(
             alloc, *place, word, condition, sets, relvars,
         ),
-        syntax::Item::Update(_, _, MaybePortion::Of(_, _), _, _) => Err(Stop::Memory),
+        syntax::Item::Update(place, word, MaybePortion::Of(_, elements), condition, sets) => {
+            type_portion_update(alloc, *place, word, elements, condition, sets, relvars)
+        }
         syntax::Item::Terminate(place, _, _, _, _) => type_ending(*place),
-        syntax::Item::Using(_, _, _) => Err(Stop::Memory),
+        syntax::Item::Using(place, list, used) => type_used(alloc, *place, list, used, relvars),
     }
 }
 

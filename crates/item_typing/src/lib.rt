@@ -3,6 +3,8 @@
 
 mod changes;
 mod items;
+mod points;
+mod portions;
 mod sets;
 mod targets;
 

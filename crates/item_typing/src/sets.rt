@@ -21,7 +21,7 @@ use utd_syntax::{SetItem, Word};
 use value_core::{Heading, Kind, OrdinalTypes};
 
 /// The position and the kind of a named attribute: E14 at the name where there is none.
-fn attribute_named(heading: &Heading, word: &Word) -> Result<(usize, Kind), Fault>
+pub(crate) fn attribute_named(heading: &Heading, word: &Word) -> Result<(usize, Kind), Fault>
     ensures { result ≡ value_or word.now.place E14 (names.attribute_of heading.now (read_name word.now).bytes) }
 {
     match attribute_of(heading, word.bytes.list.as_slice()) {

@@ -16,12 +16,14 @@ mod trees;
 mod usings;
 
 pub use comparisons::{emptiness_test, relation_named, type_comparison, type_using_comparison};
+pub use lists::{is_span, listed};
 pub use nodes::{
     infix_named, type_extension, type_infix, type_packing, type_projection, type_renaming,
     type_restriction, type_summary,
 };
-pub use positions::{check, kind_named, position_typed, positions_typed};
+pub use positions::{check, kind_named, position, position_typed, positions_typed};
 pub use rows::condition_typed;
+pub use sweeps::{none_assigned, sets_swept, swept};
 pub use usings::{
     type_using_extension, type_using_infix, type_using_projection, type_using_restriction,
     type_using_summary,

@@ -30,7 +30,7 @@ pub(crate) fn named_in(words: &[Word], name: &[u8]) -> bool
 }
 
 /// Whether the kind is that of intervals.
-fn is_span(kind: Kind) -> bool
+pub fn is_span(kind: Kind) -> bool
     ensures { result ≡ is_span kind }
 {
     match kind {
@@ -90,7 +90,7 @@ pub(crate) fn list_checked(left: &Heading, right: &Heading, list: &NameList) -> 
 }
 
 /// The positions of the names of a list in the heading of the first operand, behind the refusals of the list.
-pub(crate) fn listed(
+pub fn listed(
     alloc: Global,
     left: &Heading,
     right: &Heading,

@@ -37,7 +37,7 @@ pub(crate) fn has_name(list: &[(Name, Kind)], name: &[u8]) -> bool
 }
 
 /// Where the attribute of the name stands; past the end where there is none.
-pub(crate) fn position(list: &[(Name, Kind)], name: &[u8]) -> usize
+pub fn position(list: &[(Name, Kind)], name: &[u8]) -> usize
     ensures { result ≡ agreement.position_of list.now name.now }
 {
     for (at, attribute) in list.iter().enumerate() {

@@ -41,7 +41,7 @@ fn not_assigned(words: &[Word], item: &SetItem) -> Result<(), Stop>
 }
 
 /// The refusal of the first item that assigns a listed attribute.
-pub(crate) fn none_assigned(words: &[Word], first: &SetItem, more: &[SetItem]) -> Result<(), Stop>
+pub fn none_assigned(words: &[Word], first: &SetItem, more: &[SetItem]) -> Result<(), Stop>
     ensures { Gives (λ _. tt) result (rules.none_assigned (names_of_words (read_name_list words.now)) (read_set_item first.now ∷ read_set_item_list more.now)) }
 {
     not_assigned(words, first)?;
@@ -65,14 +65,14 @@ fn refused_if(place: Option<Place>) -> Result<(), Stop>
 }
 
 /// The refusal of an expression that is not sweepable.
-pub(crate) fn swept(acl: &[usize], e: &Scalar) -> Result<(), Stop>
+pub fn swept(acl: &[usize], e: &Scalar) -> Result<(), Stop>
     ensures { Gives (λ _. tt) result (rules.swept acl.now (read e.now)) }
 {
     refused_if(sweep_fault(e, acl))
 }
 
 /// The refusal of the first item that is not sweepable.
-pub(crate) fn sets_swept(acl: &[usize], sets: &[(Name, Scalar)]) -> Result<(), Stop>
+pub fn sets_swept(acl: &[usize], sets: &[(Name, Scalar)]) -> Result<(), Stop>
     ensures { Gives (λ _. tt) result (rules.sets_swept acl.now (trees.read_sets sets.now)) }
 {
     for set in sets {

@@ -26,7 +26,7 @@ struct HeadedTuple {
 }
 
 /// The heading without attributes.
-fn empty_heading(alloc: Global) -> Result<Heading, Memory>
+pub fn empty_heading(alloc: Global) -> Result<Heading, Memory>
     ensures { IfOk result (λ h. h ≡ []) }
 {
     match Heading::make(alloc, Vec::new(alloc)) {

@@ -1,24 +1,24 @@
 -- Which expressions, tests, items and statements are built, as they are written.
 --     is_built_rel, is_built_test      of expressions and tests
 --     is_built_operator      of the operators under USING
---     is_built_update      of items: they have no USING and no PORTION, and are no TERMINATE
---     is_built_statement      of statements: they have no constraint over a list either, and are no HISTORY
-use Rattle.std.specs.Prelude.{Bool, true, false, ◌&&◌, List}
+--     is_built_update      of items: they are no TERMINATE
+--     is_built_statement      of statements: they are no HISTORY
+use Rattle.std.specs.Prelude.{Bool, true, false, ◌&&◌}
 use Rattle.std.specs.List.{list_all}
 use Rattle.utd_syntax.specs.Plain as syntax
-use Rattle.utd_syntax.specs.Plain.{RelP, TermsP, TermP, RelPrimaryP, OperandP, ExtendP, SummarizeP, UsingP, UsingPartP, ComparisonP, TestP, ConstraintP, MaybePortionP, DeletionP, ItemP, VarFormP, StatementP}
+use Rattle.utd_syntax.specs.Plain.{RelP, TermsP, TermP, RelPrimaryP, OperandP, ExtendP, SummarizeP, UsingP, UsingPartP, ComparisonP, TestP, DeletionP, UsedDeletionP, UsedItemP, ItemP, VarFormP, StatementP}
 use Rattle.item_typing.specs.Items.{listed_items}
 
 -- ---- expressions and tests
 
 -- whether the operator under USING is built, whatever its operands
 abbrev pub is_built_operator : UsingPartP → Bool
-is_built_operator (syntax.UsingExtend e) = false
+is_built_operator (syntax.UsingExtend e) = true
 is_built_operator (syntax.UsingSummarize s) = false
 is_built_operator (syntax.UsingInfix l at w r) = true
 is_built_operator (syntax.UsingNotMatching l at r) = true
 is_built_operator (syntax.UsingProject o p) = true
-is_built_operator (syntax.UsingFilter o at c) = false
+is_built_operator (syntax.UsingFilter o at c) = true
 
 abbrev mutual
   pub is_built_rel : RelP → Bool
@@ -73,42 +73,34 @@ is_built_test (syntax.UsingTest at l c) = is_built_comparison c
 is_built_test (syntax.Emptiness at w r) = is_built_rel r
 is_built_test (syntax.OfComparison c) = is_built_comparison c
 
--- ---- constraints
-
--- KEY, and FOREIGN KEY without USING
-abbrev pub is_built_constraint : ConstraintP → Bool
-is_built_constraint (syntax.KeyOf key) = true
-is_built_constraint (syntax.ForeignOf key) = true
-is_built_constraint (syntax.PackedOn at list) = false
-is_built_constraint (syntax.WhenUnpacked at list key) = false
-is_built_constraint (syntax.UsingConstraint at list c) = false
-
-abbrev pub are_built_constraints : List ConstraintP → Bool
-are_built_constraints constraints = list_all is_built_constraint constraints
-
 -- ---- items
-
-abbrev pub has_no_portion : MaybePortionP → Bool
-has_no_portion syntax.NoPortion = true
-has_no_portion (syntax.OfPortion at elements) = false
 
 abbrev pub is_built_deletion : DeletionP → Bool
 is_built_deletion (syntax.DeleteWhere at c) = true
-is_built_deletion (syntax.DeletePortion p c) = false
+is_built_deletion (syntax.DeletePortion p c) = true
 is_built_deletion (syntax.DeleteRows r) = is_built_rel r
+
+abbrev pub is_built_used_deletion : UsedDeletionP → Bool
+is_built_used_deletion (syntax.UsedDeleteWhere at c) = true
+is_built_used_deletion (syntax.UsedDeleteRows r) = is_built_rel r
+
+abbrev pub is_built_used_item : UsedItemP → Bool
+is_built_used_item (syntax.UsedInsert at w r) = is_built_rel r
+is_built_used_item (syntax.UsedDelete at w d) = is_built_used_deletion d
+is_built_used_item (syntax.UsedUpdate at w c s) = true
 
 abbrev pub is_built_update : ItemP → Bool
 is_built_update (syntax.SetRelvar w r) = is_built_rel r
 is_built_update (syntax.Insert at w r) = is_built_rel r
 is_built_update (syntax.Delete at w d) = is_built_deletion d
-is_built_update (syntax.Update at w p c s) = has_no_portion p
+is_built_update (syntax.Update at w p c s) = true
 is_built_update (syntax.Terminate at w place s c) = false
-is_built_update (syntax.UsingItem at l i) = false
+is_built_update (syntax.UsingItem at l i) = is_built_used_item i
 
 -- ---- statements
 
 abbrev pub is_built_var : VarFormP → Bool
-is_built_var (syntax.BaseRelvar at heading constraints) = are_built_constraints constraints
+is_built_var (syntax.BaseRelvar at heading constraints) = true
 is_built_var (syntax.View at rel) = is_built_rel rel
 
 abbrev pub is_built_statement : StatementP → Bool

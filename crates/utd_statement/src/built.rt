@@ -1,14 +1,13 @@
 // Which statements are built.
 ghost use Rattle.std.specs.Prelude.{◌≡◌, ◌&&◌};
 ghost use Rattle.std.specs.List.{list_all};
-ghost use Rattle.utd_syntax.specs.Read.{read_rel, read_terms, read_term, read_rel_primary, read_operand, read_extend, read_summarize, read_using, read_using_part, read_comparison, read_test, read_deletion, read_item, read_item_list, read_assign, read_maybe_portion, read_constraint, read_constraint_list, read_var_form, read_statement};
+ghost use Rattle.utd_syntax.specs.Read.{read_rel, read_terms, read_term, read_rel_primary, read_operand, read_extend, read_summarize, read_using, read_using_part, read_comparison, read_test, read_deletion, read_item, read_item_list, read_assign, read_used_deletion, read_used_item, read_var_form, read_statement};
 ghost use Rattle.item_typing.specs.Items.{listed_items};
-ghost use Rattle.utd_statement.specs.Built as rules;
-ghost use Rattle.utd_statement.specs.Built.{has_no_portion, is_built_operator, is_built_rel, is_built_terms, is_built_term, is_built_primary, is_built_operand, is_built_extend, is_built_summarize, is_built_using, are_built_operands, is_built_comparison, is_built_test, is_built_deletion, is_built_update, is_built_var, is_built_statement};
+ghost use Rattle.utd_statement.specs.Built.{is_built_operator, is_built_rel, is_built_terms, is_built_term, is_built_primary, is_built_operand, is_built_extend, is_built_summarize, is_built_using, are_built_operands, is_built_comparison, is_built_test, is_built_deletion, is_built_used_deletion, is_built_used_item, is_built_update, is_built_var, is_built_statement};
 
 use utd_syntax::{
-    Assignment, Constraint, Constraints, Deletion, Extend, Item, MaybePortion, Operand, Rel,
-    RelPrimary, Relate, Statement, Summarize, Term, Terms, Test, Using, UsingPart, VarForm,
+    Assignment, Deletion, Extend, Item, Operand, Rel, RelPrimary, Relate, Statement, Summarize,
+    Term, Terms, Test, UsedDeletion, UsedItem, Using, UsingPart, VarForm,
 };
 
 // Whether the operator under USING is built, whatever its operands.
@@ -16,12 +15,12 @@ fn is_built_operator(part: &UsingPart) -> bool
     ensures { result ≡ is_built_operator (read_using_part part.now) }
 {
     match part {
-        UsingPart::Extend(_) => false,
+        UsingPart::Extend(_) => true,
         UsingPart::Summarize(_) => false,
         UsingPart::Infix(_, _, _, _) => true,
         UsingPart::NotMatching(_, _, _) => true,
         UsingPart::Project(_, _) => true,
-        UsingPart::Where(_, _, _) => false,
+        UsingPart::Where(_, _, _) => true,
     }
 }
 
@@ -141,40 +140,27 @@ fn is_built_deletion(deletion: &Deletion) -> bool
 {
     match deletion {
         Deletion::Where(_, _) => true,
-        Deletion::Portion(_, _) => false,
+        Deletion::Portion(_, _) => true,
         Deletion::Rows(rel) => is_built_rel(rel),
     }
 }
 
-fn is_built_constraint(constraint: &Constraint) -> bool
-    ensures { result ≡ rules.is_built_constraint (read_constraint constraint.now) }
+fn is_built_used_deletion(deletion: &UsedDeletion) -> bool
+    ensures { result ≡ is_built_used_deletion (read_used_deletion deletion.now) }
 {
-    match constraint {
-        Constraint::Key(_) => true,
-        Constraint::Foreign(_) => true,
-        Constraint::PackedOn(_, _) => false,
-        Constraint::WhenUnpacked(_, _, _) => false,
-        Constraint::Using(_, _, _) => false,
+    match deletion {
+        UsedDeletion::Where(_, _) => true,
+        UsedDeletion::Rows(rel) => is_built_rel(rel),
     }
 }
 
-fn are_built_constraints(constraints: &Constraints) -> bool
-    ensures { result ≡ rules.are_built_constraints (read_constraint_list constraints.now.list.items) }
+fn is_built_used_item(item: &UsedItem) -> bool
+    ensures { result ≡ is_built_used_item (read_used_item item.now) }
 {
-    for constraint in &constraints.list {
-        if !is_built_constraint(constraint) {
-            return false;
-        }
-    }
-    true
-}
-
-fn has_no_portion(portion: &MaybePortion) -> bool
-    ensures { result ≡ has_no_portion (read_maybe_portion portion.now) }
-{
-    match portion {
-        MaybePortion::None => true,
-        MaybePortion::Of(_, _) => false,
+    match item {
+        UsedItem::Insert(_, _, rel) => is_built_rel(rel),
+        UsedItem::Delete(_, _, deletion) => is_built_used_deletion(deletion),
+        UsedItem::Update(_, _, _, _) => true,
     }
 }
 
@@ -185,9 +171,9 @@ fn is_built_update(item: &Item) -> bool
         Item::Set(_, rel) => is_built_rel(rel),
         Item::Insert(_, _, rel) => is_built_rel(rel),
         Item::Delete(_, _, deletion) => is_built_deletion(deletion),
-        Item::Update(_, _, portion, _, _) => has_no_portion(portion),
+        Item::Update(_, _, _, _, _) => true,
         Item::Terminate(_, _, _, _, _) => false,
-        Item::Using(_, _, _) => false,
+        Item::Using(_, _, item) => is_built_used_item(item),
     }
 }
 
@@ -212,13 +198,12 @@ fn is_built_var(form: &VarForm) -> bool
     ensures { result ≡ is_built_var (read_var_form form.now) }
 {
     match form {
-        VarForm::Relation(_, _, constraints) => are_built_constraints(constraints),
+        VarForm::Relation(_, _, _) => true,
         VarForm::Virtual(_, rel) => is_built_rel(rel),
     }
 }
 
-/// Whether the statement is built: under USING it has UNION, INTERSECT, MINUS and comparisons alone, of constraints KEY and
-/// FOREIGN KEY alone, no update under USING and no PORTION, and it is no HISTORY and no TERMINATE.
+/// Whether the statement is built: it has no SUMMARIZE under USING, and is no HISTORY and no TERMINATE.
 pub fn is_built(statement: &Statement) -> bool
     ensures { result ≡ is_built_statement (read_statement statement.now) }
 {
