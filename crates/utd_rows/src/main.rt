@@ -10,7 +10,7 @@ use std::alloc::Global;
 use std::{fs, io};
 
 /// The files of data/, by subject.
-const FILES: [&str; 26] = [
+const FILES: [&str; 29] = [
     "ask.txt",
     "assign.txt",
     "compare.txt",
@@ -21,15 +21,18 @@ const FILES: [&str; 26] = [
     "join.txt",
     "kept.txt",
     "list.txt",
+    "list_constraint.txt",
     "literal.txt",
     "name.txt",
     "pack.txt",
     "page.txt",
+    "portion.txt",
     "relation.txt",
     "relvar.txt",
     "scalar.txt",
     "script.txt",
     "source.txt",
+    "sweep.txt",
     "text.txt",
     "type.txt",
     "typing.txt",
