@@ -6,7 +6,6 @@ ghost use Rattle.utd_syntax.specs.Read.{read_condition, read_list, read_name, re
 ghost use Rattle.scalar_core.specs.Answers.{Gives};
 ghost use Rattle.scalar_core.specs.Expressions.{read};
 ghost use Rattle.scalar_typing.specs.Names.{AreOrdinals};
-ghost use Rattle.scalar_typing.specs.Typings.{◌>>=◌};
 ghost use Rattle.tree_core.specs.Items as typed;
 ghost use Rattle.tree_core.specs.Items.{insert};
 ghost use Rattle.tree_core.specs.Relvars.{read_relvars};
