@@ -18,23 +18,19 @@ fn is_before<P: Label>(row: &Key<P>, key: &P, cell: usize) -> bool
     }
 }
 
-// How many rows are before the key and the cell, by halving.
-pub fn count_before<P: Label>(rows: &[Key<P>], key: &P, cell: usize) -> usize
+// How many rows are before the key and the cell, of which the first `known` are. It goes on from these row by row: who
+// asks for keys and cells that rise comes past each row once.
+pub fn count_before<P: Label>(rows: &[Key<P>], key: &P, cell: usize, known: usize) -> usize
+    requires within { known ≤ length rows.now }
+    requires known { (i : ℕ) (x : KeyBox P) → IsRow rows.now i x → i < known → IsBefore P.order key.now cell x }
     requires order { Ascend P.order rows.now }
     ensures within { result ≤ length rows.now }
     ensures before { (i : ℕ) (x : KeyBox P) → IsRow rows.now i x → i < result → IsBefore P.order key.now cell x }
     ensures others { (i : ℕ) (x : KeyBox P) → IsRow rows.now i x → result ≤ i → IsBefore P.order key.now cell x → ⊥ }
 {
-    let mut low = 0;
-    let mut high = rows.len();
-    while low < high {
-        let middle = low + (high - low) / 2;
-        let before = is_before(&rows[middle], key, cell);
-        if before {
-            low = middle + 1;
-        } else {
-            high = middle;
-        }
+    let mut count = known;
+    while count < rows.len() && is_before(&rows[count], key, cell) {
+        count += 1;
     }
-    low
+    count
 }
