@@ -7,7 +7,7 @@ use Rattle.std.specs.List.{All, list_all}
 use Rattle.std.specs.List.Sorted.{IsSortedBy, IsPermutation}
 use Rattle.std.proofs.lemmas.Bool.{cases_lt, true≢false}
 use Rattle.std.proofs.lemmas.Bool.Decides.{nat_tests}
-use Rattle.std.proofs.lemmas.Cmp.{tied_back}
+use Rattle.std.proofs.lemmas.Cmp.{tied_back, alike_right}
 use Rattle.std.proofs.lemmas.List.Sorted.{sorted_far, ranks_by, Contains-permutation, IsPermutation-sym}
 use Rattle.packing_core.specs.Covering.{Among}
 use Rattle.packing_core.specs.Live.{box}
@@ -16,8 +16,8 @@ use Rattle.packing_core.proofs.Numbered.{other_default}
 use Rattle.packing_core.proofs.Order.{among_contains, contains_among}
 use Rattle.slice_core.specs.Rows.{pair_cmp, pair_total}
 use Rattle.box_core.specs.Common.{At, first_of, common, has_cell, HaveCells}
-use Rattle.box_core.specs.Rows.{IsRow, Ascend, KeyBox}
-use Rattle.box_core.specs.Meetings.{Met, IsMeeting, IsLater, met, boxes_in, turned, StandByLeft}
+use Rattle.box_core.specs.Rows.{IsRow, IsBefore, Ascend, KeyBox}
+use Rattle.box_core.specs.Meetings.{Met, IsMeeting, IsLater, AreBehind, met, boxes_in, turned, StandByLeft}
 use Rattle.box_core.proofs.RowLemmas.{row_among, among_row, one_row, some_row, map_row, row_sides}
 use Rattle.box_core.proofs.PlaceLemmas.{first_meets, first_common, at_common, cells_from, common_length}
 
@@ -137,6 +137,26 @@ push_turn old out new n first j f made is p =
       ],
     )
 
+-- what is behind a row is behind the next
+pub behind_more : {P : Type 0} (order : P → P → Ordering) → IsTotalOrder order → (strict : Bool) (from rows : List (KeyBox P)) → Ascend order from → (i n : ℕ) (x y : KeyBox P) → IsRow from i x → IsRow from (i + 1) y
+    → AreBehind order strict x rows n → AreBehind order strict y rows n
+behind_more order total strict from rows up i n x y a b old j z h l =
+    elim (up i (i + 1) x y (omega arith) a b) [
+      | inl s ↦ inl (elim (old j z h l) [ inl w ↦ total.trans z.0 x.0 y.0 w s | inr w ↦ total.congr z.0 x.0 y.0 w.0 ∙ s ])
+      | inr s ↦ elim (old j z h l) [
+        | inl w ↦ inl (sym (alike_right total x.0 y.0 z.0 s.0) ∙ w)
+        | inr w ↦ inr (total.congr z.0 x.0 y.0 w.0 ∙ s.0, rises strict (first_of x.1).0 (first_of y.1).0 (first_of z.1).0 s.1 w.1)
+      ]
+    ]
+  where
+    rises : (t : Bool) (c d n : ℕ) → c ≤ d → n < cond t (c + 1) c → n < cond t (d + 1) d
+    rises true c d n k m = omega arith
+    rises false c d n k m = omega arith
+
+-- what is before a cell is before a later one
+pub before_later : {P : Type 0} (order : P → P → Ordering) (key : P) (c d : ℕ) (x : KeyBox P) → c ≤ d → IsBefore order key c x → IsBefore order key d x
+before_later order key c d x l h = elim h [ inl w ↦ inl w | inr w ↦ let k = w.1 in inr (w.0, omega arith) ]
+
 -- one more row with those that begin within it
 pub later_turn : {P : Type 0} (order : P → P → Ordering) (strict : Bool) (from rows : List (KeyBox P)) (i : ℕ) (x : KeyBox P) → IsRow from i x
     → (first end : ℕ) → end ≤ length rows
@@ -175,7 +195,7 @@ module _ {P : Type 0} (order : P → P → Ordering) (total : IsTotalOrder order
   box_is : (rows : List (KeyBox P)) (i : ℕ) (x : KeyBox P) → IsRow rows i x → box (boxes_in rows) i ≡ x.1
   box_is rows i x h = let w = map_row (λ (z : KeyBox P). z.1) rows i x h in other_default (boxes_in rows) i [] x.1 w.0 ∙ w.1
 
-  module _ (k : ℕ) (some : 0 < k) (ls : All (λ x. length x.1 ≡ k) left) (rs : All (λ x. length x.1 ≡ k) right) where
+  module _ (k : ℕ) (ls : All (λ x. length x.1 ≡ k) left) (rs : All (λ x. length x.1 ≡ k) right) where
     pub alike : (i j : ℕ) (x y : KeyBox P) → IsRow left i x → IsRow right j y → length x.1 ≡ length y.1
     alike i j x y a b = let e = row_sides k left ls i x a in let f = row_sides k right rs j y b in omega (arith, e, f)
 
@@ -219,8 +239,7 @@ module _ {P : Type 0} (order : P → P → Ordering) (total : IsTotalOrder order
       meets_pair m h =
           let x = h.0 in
           let y = h.1 in
-          let l = row_sides k left ls m.0.0 x h.2 in
-          let f = first_meets x.1 y.1 (alike m.0.0 m.0.1 x y h.2 h.3) (omega (arith, l)) (subst HaveCells (sym h.5) h.6) in
+          let f = first_meets x.1 y.1 (alike m.0.0 m.0.1 x y h.2 h.3) (subst HaveCells (sym h.5) h.6) in
           (is m.0).1 (elim (cases_lt (first_of y.1).0 (first_of x.1).0) [
             | inl u ↦ inr (y, x, h.3, h.2, h.4, omega arith, f.1)
             | inr u ↦ inl (x, y, h.2, h.3, tied_back total x.0 y.0 h.4, u, f.0)

@@ -7,7 +7,7 @@ use Rattle.packing_core.specs.Covering.{Among}
 use Rattle.packing_core.specs.Live.{box}
 use Rattle.slice_core.specs.PackedRows.{HasRow}
 use Rattle.box_core.specs.Common.{At, first_of, common, has_cell, HaveCells}
-use Rattle.box_core.specs.Rows.{IsRow, KeyBox}
+use Rattle.box_core.specs.Rows.{IsRow, IsBefore, KeyBox}
 
 -- the numbers of two rows, and the box that they have in common
 abbrev pub Met : Type 0
@@ -35,6 +35,11 @@ IsLater {P} order strict from rows p =
     (x : KeyBox P) × (y : KeyBox P) × IsRow from p.0 x × IsRow rows p.1 y
     × (order y.0 x.0 ≡ Equal) × (cond strict ((first_of x.1).0 + 1) (first_of x.1).0 ≤ (first_of y.1).0)
     × ((first_of y.1).0 < (first_of x.1).1)
+
+-- the first n rows are of lesser keys than x, or of its key and begin before it, or, if strict, not after its first cell
+abbrev pub AreBehind : {P : Type 0} → (P → P → Ordering) → Bool → KeyBox P → List (KeyBox P) → ℕ → Type 0
+AreBehind {P} order strict x rows n =
+    (j : ℕ) (y : KeyBox P) → IsRow rows j y → j < n → IsBefore order x.0 (cond strict ((first_of x.1).0 + 1) (first_of x.1).0) y
 
 -- the two numbers the other way round
 abbrev pub turned : ℕ × ℕ → ℕ × ℕ

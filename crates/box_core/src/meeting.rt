@@ -75,15 +75,14 @@ fn meetings<P>(
 /// The pairs of a left and a right row of one key whose boxes meet, each with the box that they have in common.
 ///
 /// The pairs are found on the first side: for a left row the rights that begin within it, and for a right row the lefts
-/// that begin within it and after its first cell, so each pair once. That takes the time of two searches for each row,
-/// and of one sort of the pairs. On one side just the pairs that meet are found.
+/// that begin within it and after its first cell, so each pair once. That takes the time of the rows and of one sort of
+/// the pairs. On one side just the pairs that meet are found.
 pub fn overlaps<P: Label>(
     alloc: Global,
     sides: usize,
     left: &[Key<P>],
     right: &[Key<P>],
 ) -> Result<Vec<Meeting>, Memory>
-    requires some { 0 < sides }
     requires left { All (λ x. length x.1 ≡ sides) left.now }
     requires right { All (λ x. length x.1 ≡ sides) right.now }
     requires left_order { Ascend P.order left.now }

@@ -3,14 +3,19 @@
 
 ghost use Rattle.std.specs.Prelude.{ℕ, ◌<◌, ◌≤◌};
 
+mod compared;
 mod count;
+mod drawn;
+mod plain;
 mod small;
 mod tag;
 mod total;
 
 use box_core::{intersect, join, matching, minus, not_matching};
+pub use compared::{agreed, apart_agreed, counts_agreed};
 pub use count::{Count, counted};
 use point_core::Memory;
+use slice_core::Key;
 pub use small::{Small, keyed_of, keys_of, one_side, small_of};
 use std::alloc::Global;
 pub use tag::{Greater, Tag};
@@ -26,6 +31,48 @@ pub enum Operator {
     Join,
 }
 
+// The answer of an operator that goes by the whole rows.
+fn of_keys(
+    alloc: Global,
+    sides: usize,
+    operator: Operator,
+    left: &[Small],
+    right: &[Small],
+) -> Result<Vec<Key<Tag>>, Memory>
+    requires some { 0 < sides }
+    requires few { sides ≤ 2 }
+{
+    let keys = keys_of(alloc, sides, left)?;
+    let others = keys_of(alloc, sides, right)?;
+    if let Operator::Minus = operator {
+        return minus(alloc, sides, keys, others);
+    }
+    intersect(alloc, sides, keys, others)
+}
+
+// The answer of an operator that goes by keys.
+fn of_keyed(
+    alloc: Global,
+    sides: usize,
+    operator: Operator,
+    left: &[Small],
+    right: &[Small],
+) -> Result<Vec<Key<Tag>>, Memory>
+    requires some { 0 < sides }
+    requires few { sides ≤ 2 }
+{
+    let keyed = keyed_of(alloc, sides, left)?;
+    if let Operator::Join = operator {
+        let rights = keyed_of(alloc, sides, right)?;
+        return join(alloc, sides, keyed, rights, &Greater);
+    }
+    let others = keys_of(alloc, sides, right)?;
+    if let Operator::Matching = operator {
+        return matching(alloc, sides, keyed, others);
+    }
+    not_matching(alloc, sides, keyed, others)
+}
+
 /// The answer of the operator over the rows.
 pub fn answer(
     alloc: Global,
@@ -37,18 +84,9 @@ pub fn answer(
     requires some { 0 < sides }
     requires few { sides ≤ 2 }
 {
-    let keyed = keyed_of(alloc, sides, left)?;
-    let keys = keys_of(alloc, sides, left)?;
-    let others = keys_of(alloc, sides, right)?;
     let rows = match operator {
-        Operator::Intersect => intersect(alloc, sides, keys, others)?,
-        Operator::Minus => minus(alloc, sides, keys, others)?,
-        Operator::Matching => matching(alloc, sides, keyed, others)?,
-        Operator::NotMatching => not_matching(alloc, sides, keyed, others)?,
-        Operator::Join => {
-            let rights = keyed_of(alloc, sides, right)?;
-            join(alloc, sides, keyed, rights, &Greater)?
-        }
+        Operator::Intersect | Operator::Minus => of_keys(alloc, sides, operator, left, right)?,
+        _ => of_keyed(alloc, sides, operator, left, right)?,
     };
     let out = small_of(alloc, rows.as_slice())?;
     Ok(out)
@@ -168,6 +206,46 @@ mod tests {
         assert!(rt; least == Some(fault));
         let (_, none) = totalled(rt.alloc(), &rows[3..], fault)?;
         assert!(rt; none.is_none());
+        Ok(())
+    }
+
+    // Whether all answers are the plain program's, and more than a thousand labels at places are in them.
+    fn all_agreed(alloc: Global, operator: Operator) -> Result<bool, Memory> {
+        let found = agreed(alloc, operator, 1200)?;
+        Ok(found.is_some_and(|n| n > 1000))
+    }
+
+    #[test]
+    fn sets_go_place_by_place(rt: HostRuntime) -> Result<(), Fail> {
+        let both = all_agreed(rt.alloc(), Operator::Intersect)?;
+        assert!(rt; both);
+        let first = all_agreed(rt.alloc(), Operator::Minus)?;
+        assert!(rt; first);
+        Ok(())
+    }
+
+    #[test]
+    fn keys_go_place_by_place(rt: HostRuntime) -> Result<(), Fail> {
+        let met = all_agreed(rt.alloc(), Operator::Matching)?;
+        assert!(rt; met);
+        let unmet = all_agreed(rt.alloc(), Operator::NotMatching)?;
+        assert!(rt; unmet);
+        let joined = all_agreed(rt.alloc(), Operator::Join)?;
+        assert!(rt; joined);
+        Ok(())
+    }
+
+    #[test]
+    fn counts_go_place_by_place(rt: HostRuntime) -> Result<(), Fail> {
+        let found = counts_agreed::<Brand>(rt.alloc(), 1200, Blank::new(1))?;
+        assert!(rt; found.is_some_and(|n| n > 1000));
+        Ok(())
+    }
+
+    #[test]
+    fn rows_are_apart_place_by_place(rt: HostRuntime) -> Result<(), Fail> {
+        let found = apart_agreed(rt.alloc(), 1200)?;
+        assert!(rt; found.is_some_and(|n| n.0 > 50 && n.1 > 50));
         Ok(())
     }
 
