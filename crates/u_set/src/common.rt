@@ -16,11 +16,12 @@ ghost use Rattle.cell_core.specs.declared.boxes.CellRefuse.TheVariants.{Op as Of
 ghost use Rattle.u_set.specs.Boxes.{AreIntervals, types_at, boxed};
 
 use crate::boxes::to_boxes;
+use crate::cells::packed_cells;
 use crate::positions::types_at;
 use crate::refusals::refusal;
 use crate::rows::from_boxes;
 use box_core::intersect;
-use cell_core::{BoxRow, CellRefuse, CellRows, back, rows_over_cells};
+use cell_core::{BoxRow, CellRefuse, CellRows, back};
 use point_core::{AnyType, Memory, PointType, Steps};
 use std::alloc::Global;
 use std::sync::ledger::Ledger;
@@ -47,7 +48,7 @@ fn common_boxes<T: PointType, L: Ledger>(
         sides,
         left: l,
         right: r,
-    } = rows_over_cells(alloc, types, left, right, steps)?;
+    } = packed_cells(alloc, types, left, right, steps)?;
     let form = intersect(alloc, types.len(), l, r)?;
     let answer = back(alloc, types, sides.as_slice(), form)?;
     Ok(answer)
