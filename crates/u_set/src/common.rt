@@ -35,7 +35,6 @@ fn common_boxes<T: PointType, L: Ledger>(
     right: &[BoxRow<T, Row>],
     steps: &mut Steps<L>,
 ) -> Result<Vec<BoxRow<T, Row>>, Memory>
-    requires some { 0 < length types.now }
     requires left { All (λ b. IsBox T.IsPoint types.now b.1) left.now }
     requires right { All (λ b. IsBox T.IsPoint types.now b.1) right.now }
     ensures rows { IfOk result (λ v. map (row_numbers T.number_of) v.items ≡ packed_boxes row_cmp (length types.now) (common_of (boxed_cmp row_cmp)
@@ -54,7 +53,7 @@ fn common_boxes<T: PointType, L: Ledger>(
     Ok(answer)
 }
 
-/// What both have in common, packed: at each point the labels of both. There is a side at least.
+/// What both have in common, packed: at each point the labels of both.
 ///
 /// `Limit` comes exactly where the packed boxes are more than `limit`.
 pub fn u_intersect<T: PointType, L: Ledger>(
@@ -65,7 +64,6 @@ pub fn u_intersect<T: PointType, L: Ledger>(
     limit: usize,
     steps: &mut Steps<L>,
 ) -> Result<Vec<BoxRow<T, Row>>, CellRefuse>
-    requires some { 0 < length types.now }
     requires left { All (λ b. IsBox T.IsPoint types.now b.1) left.now }
     requires right { All (λ b. IsBox T.IsPoint types.now b.1) right.now }
     ensures rows { IfOk result (λ v. map (row_numbers T.number_of) v.items ≡ packed_boxes row_cmp (length types.now) (common_of (boxed_cmp row_cmp)
@@ -86,7 +84,7 @@ pub fn u_intersect<T: PointType, L: Ledger>(
     Ok(answer)
 }
 
-// The packed boxes of two relations, on one attribute at least.
+// The packed boxes of what two relations have in common.
 fn common_form<L: Ledger>(
     alloc: Global,
     left: &Relation,
@@ -94,7 +92,6 @@ fn common_form<L: Ledger>(
     acl: &[usize],
     steps: &mut Steps<L>,
 ) -> Result<Vec<BoxRow<AnyType, Row>>, CellRefuse>
-    requires some { 0 < length acl.now }
     requires heading { left.now.heading ≡ right.now.heading }
     requires intervals { AreIntervals left.now.heading acl.now }
     ensures relation { IsRelation left.now }
@@ -120,7 +117,7 @@ fn common_form<L: Ledger>(
     )
 }
 
-// The intersection under USING of one attribute at least, by boxes.
+// The intersection under USING by boxes.
 fn intersected_by_boxes<L: Ledger>(
     alloc: Global,
     left: &Relation,
@@ -128,7 +125,6 @@ fn intersected_by_boxes<L: Ledger>(
     acl: &[usize],
     steps: &mut Steps<L>,
 ) -> Result<Relation, RowsRefuse>
-    requires some { 0 < length acl.now }
     requires heading { left.now.heading ≡ right.now.heading }
     requires intervals { AreIntervals left.now.heading acl.now }
     ensures rows { let rows = packed acl.now (intersected (unpacked acl.now left.now.rows) (unpacked acl.now right.now.rows)) in
