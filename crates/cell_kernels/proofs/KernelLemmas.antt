@@ -1,10 +1,14 @@
 -- What an operator by keys gives over the cells of a numbering is, by its numbers, the packed form of what it gives at points.
---     grids, lengths, within      what the way back from cells asks for
+--     AreOn, grids, left_on, right_on, mapped_on      rows over the cells of the sides
+--     left_places, right_places, relabelled_places      what they have at points
+--     packed_on, packed_places      the same of their packed form
+--     lengths, within      what the way back from cells asks for
 --     form      the packed form
-use Rattle.std.proofs.Common.{◌≡◌, ℕ, ◌+◌, ◌<◌, ◌≤◌, ℤ, pos, List, [], ◌∷◌, ◌++◌, map, length, get_or, ◌↔◌, inl, inr, arith, sym, ap, subst, refl, ◌∙◌, Ordering}
+use Rattle.std.proofs.Common.{◌≡◌, ℕ, zero, suc, ◌+◌, ◌<◌, ◌≤◌, ℤ, pos, List, [], ◌∷◌, ◌++◌, map, length, get_or, ◌↔◌, inl, inr, arith, sym, ap, subst, refl, ◌∙◌, Ordering}
 use Rattle.std.specs.Cmp.{IsTotalOrder}
 use Rattle.std.specs.List.{All, AllByRecursion}
 use Rattle.std.specs.List.Sorted.{IsStrictlySortedBy}
+use Rattle.std.proofs.lemmas.Bool.{cases_lt}
 use Rattle.std.proofs.lemmas.List.{length-map, length-append, append-nil}
 use Rattle.std.proofs.lemmas.List.Elements.{recursion_from_All}
 use Rattle.base_core.proofs.SetLemmas.{Separates}
@@ -15,7 +19,7 @@ use Rattle.packing_core.proofs.AmongLemmas.{among_map}
 use Rattle.packing_core.proofs.Cells.{Cuts, box_of}
 use Rattle.packing_core.proofs.Whole.{length_box}
 use Rattle.slice_core.specs.Rows.{key_cmp}
-use Rattle.slice_core.specs.PackedRows.{HasRow}
+use Rattle.slice_core.specs.PackedRows.{HasRow, IsPackedOf}
 use Rattle.box_core.specs.Answers.{IsPackedCover, IsBoxOf}
 use Rattle.box_core.specs.Common.{At}
 use Rattle.box_core.proofs.PointLemmas.{OnGrid, point_row, cell_at, row_points, no_points}
@@ -27,7 +31,7 @@ use Rattle.cell_core.proofs.Assembly.{start, pick_from, box_same, length_cuts, l
 use Rattle.cell_core.proofs.BackLemmas.{box_length}
 use Rattle.cell_core.proofs.Calls.{side_grid}
 use Rattle.cell_core.proofs.KeyLemmas.{gs, rising, Fit, Low, own_rows, own_fits, fit_lengths, own_low, packed_form, packed_cells}
-use Rattle.cell_core.proofs.PackedPlaces.{AllHave, packed_from_same}
+use Rattle.cell_core.proofs.PackedPlaces.{AllHave, in_packed_box, from_packed_box, packed_from_same}
 
 -- ---- members of lists
 
@@ -38,6 +42,49 @@ at_member A (y ∷ ys) h x m = elim m [ inl e ↦ subst A e h.0 | inr w ↦ at_m
 of_members : {X : Type 0} (A : X → Type 0) (xs : List X) → ((x : X) → Among x xs → A x) → AllByRecursion A xs
 of_members A [] h = tt
 of_members A (x ∷ xs) h = (h x (inl refl), of_members A xs (λ y m. h y (inr m)))
+
+past_end : {X : Type 0} (xs : List X) (s : ℕ) (d : X) → length xs ≤ s → get_or xs s d ≡ d
+past_end [] s d h = refl
+past_end (x ∷ xs) zero d h = absurd (omega arith)
+past_end (x ∷ xs) (suc s) d h = past_end xs s d (omega arith)
+
+-- ---- rows over the cells of sides
+
+-- no side of the cells ends after the last cell
+abbrev pub IsLow : {P : Type 0} → List (List P × List P × List (ℕ × ℕ)) → List (ℕ × ℕ) → Type 0
+IsLow {P} ss y = (s : ℕ) (e : List P × List P × List (ℕ × ℕ)) → (get_or y s no_cells).1 ≤ length (get_or ss s e).0
+
+-- cells for each of k sides, and no others than the sides have
+abbrev pub AreOn : {X P : Type 0} → ℕ → List (List P × List P × List (ℕ × ℕ)) → List (X × List (ℕ × ℕ)) → Type 0
+AreOn {X} {P} k ss rows = (x : X × List (ℕ × ℕ)) → Among x rows → (length x.1 ≡ k) × IsLow ss x.1
+
+-- rows that keep their cells
+pub mapped_on : {X Y P : Type 0} (k : ℕ) (ss : List (List P × List P × List (ℕ × ℕ))) (f : X × List (ℕ × ℕ) → Y × List (ℕ × ℕ)) → ((x : X × List (ℕ × ℕ)) → (f x).1 ≡ x.1) → (rows : List (X × List (ℕ × ℕ)))
+    → AreOn k ss rows → AreOn k ss (map f rows)
+mapped_on {Y = Y} k ss f same rows on y m =
+    let w = (among_map f y rows).0 m in
+    let e : (w.0).1 ≡ y.1 = sym (same w.0) ∙ ap (λ (z : Y × List (ℕ × ℕ)). z.1) w.2 in
+    subst (λ z. (length z ≡ k) × IsLow ss z) e (on w.0 w.1)
+
+-- under the labels that f makes, rows have at a place of points what f makes of the labels that they had there
+pub relabelled_places : {X Y : Type 0} (ns : List (List ℤ × ℤ)) (f : X → Y) (rows : List (X × List (ℕ × ℕ))) (l : Y) (p : List ℤ)
+    → InBoxes (map (grid_row ns) (map (λ x. (f x.0, x.1)) rows)) l p ↔ ((m : X) × InBoxes (map (grid_row ns) rows) m p × (f m ≡ l))
+relabelled_places {X = X} {Y = Y} ns f rows l p = (
+  λ h.
+      let w = (among_map (grid_row ns) (l, h.0) (map g rows)).0 h.1 in
+      let v = (among_map g w.0 rows).0 w.1 in
+      let label : f (v.0).0 ≡ l = ap (λ (z : Y × List (ℕ × ℕ)). z.0) v.2 ∙ ap (λ (z : Boxed Y). z.0) w.2 in
+      let box : grid_box ns (v.0).1 ≡ h.0 = ap (λ (z : Y × List (ℕ × ℕ)). grid_box ns z.1) v.2 ∙ ap (λ (z : Boxed Y). z.1) w.2 in
+      ((v.0).0, (h.0, (among_map (grid_row ns) ((v.0).0, h.0) rows).1 (v.0, v.1, (λ t. ((v.0).0, box t))), h.2), label),
+  λ h.
+      let w = (among_map (grid_row ns) (h.0, (h.1).0) rows).0 (h.1).1 in
+      let label : f (w.0).0 ≡ l = ap (λ (z : Boxed X). f z.0) w.2 ∙ h.2 in
+      let box : grid_box ns (w.0).1 ≡ (h.1).0 = ap (λ (z : Boxed X). z.1) w.2 in
+      ((h.1).0, (among_map (grid_row ns) (l, (h.1).0) (map g rows)).1 (g w.0, (among_map g (g w.0) rows).1 (w.0, w.1, refl), (λ t. (label t, box t))), (h.1).2),
+)
+  where
+    g : X × List (ℕ × ℕ) → Y × List (ℕ × ℕ)
+    g x = (f x.0, x.1)
 
 module _ {T P L : Type 0} (n : P → ℤ) (has : T → P → Type 0) (high : T → ℤ) (point : (t : T) → P) (ts : List T) (left right : List (L × List (P × P)))
     (ss : List (List P × List P × List (ℕ × ℕ))) (ls rs : List (L × List (ℕ × ℕ))) (over : AreOverCells n has high ts left right ss ls rs) where
@@ -71,25 +118,17 @@ module _ {T P L : Type 0} (n : P → ℤ) (has : T → P → Type 0) (high : T �
 
   -- ---- both rows over cells
 
-  -- no side of the cells ends after the last cell
-  abbrev IsLow : List (ℕ × ℕ) → Type 0
-  IsLow y = (s : ℕ) (e : S) → (get_or y s no_cells).1 ≤ length (get_or ss s e).0
-
-  -- a side of cells for each type, and no others than there are
-  abbrev AreOn : {X : Type 0} → List (X × List (ℕ × ℕ)) → Type 0
-  AreOn {X = X} rows = (x : X × List (ℕ × ℕ)) → Among x rows → (length x.1 ≡ k) × IsLow x.1
-
-  own_on : (first : ℕ) (rows : List (L × List (P × P))) → first + length rows ≤ length all → AreOn (keys_from first rows ss)
+  own_on : (first : ℕ) (rows : List (L × List (P × P))) → first + length rows ≤ length all → AreOn k ss (keys_from first rows ss)
   own_on first rows h x m = (
     at_member (λ (y : L × List (ℕ × ℕ)). length y.1 ≡ k) (keys_from first rows ss) (fit_lengths L n has high point ts ss all over.count over.numbered (keys_from first rows ss) (own_fits L n has high point ts ss all over.count over.numbered first rows h)) x m,
     at_member (Low L n has high point ts ss all over.count over.numbered) (keys_from first rows ss) (own_low L n has high point ts ss all over.count over.numbered first rows h) x m,
   )
 
-  left_on : AreOn ls
-  left_on = subst (λ v. AreOn v) (sym over.lefts) (own_on 0 left (let w = count_all in omega arith))
+  pub left_on : AreOn k ss ls
+  left_on = subst (λ v. AreOn k ss v) (sym over.lefts) (own_on 0 left (let w = count_all in omega arith))
 
-  right_on : AreOn rs
-  right_on = subst (λ v. AreOn v) (sym over.rights) (own_on (length left) right (let w = count_all in omega arith))
+  pub right_on : AreOn k ss rs
+  right_on = subst (λ v. AreOn k ss v) (sym over.rights) (own_on (length left) right (let w = count_all in omega arith))
 
   left_numbers : map (grid_row ns) ls ≡ map (row_numbers n) left
   left_numbers = ap (map (grid_row ns)) over.lefts ∙ own_rows L n has high point ts ss all over.count over.numbered (map (λ (r : L × List (P × P)). r.1) right) 0 [] left refl refl (sided left over.left_boxes)
@@ -100,119 +139,157 @@ module _ {T P L : Type 0} (n : P → ℤ) (has : T → P → Type 0) (high : T �
       ∙ own_rows L n has high point ts ss all over.count over.numbered [] (length left) (map (λ (r : L × List (P × P)). r.1) left) right (sym count_left)
       (ap (λ ys. map (λ (r : L × List (P × P)). r.1) left ++ ys) (sym (append-nil (map (λ (r : L × List (P × P)). r.1) right)))) (sided right over.right_boxes)
 
-  -- ---- an operator: at each place F gives labels of those that the left and the right rows have there
+  -- at points they have what the rows have
+  pub left_places : (l : L) (p : List ℤ) → InBoxes (map (grid_row ns) ls) l p ↔ InBoxes (map (row_numbers n) left) l p
+  left_places l p = subst (λ bs. InBoxes (map (grid_row ns) ls) l p ↔ InBoxes bs l p) left_numbers (λ h. h, λ h. h)
 
-  module _ {Q : Type 0} (F : (L → Type 0) → (L → Type 0) → Q → Type 0)
-      (alike : (A A' B B' : L → Type 0) → ((a : L) → A a ↔ A' a) → ((b : L) → B b ↔ B' b) → (l : Q) → F A B l → F A' B' l)
-      (some : (A B : L → Type 0) (l : Q) → F A B l → (a : L) × A a)
-      (at_cells : Q → List ℕ → Type 0) (are : (l : Q) (place : List ℕ) → length place ≡ k → at_cells l place ↔ F (λ a. HasRow ls a place) (λ b. HasRow rs b place) l)
-      (end : List (ℕ × ℕ) → Type 0) (ended : (y : List (ℕ × ℕ)) → end y → IsBoxOf ls y) (out : List (Q × List (ℕ × ℕ))) (cover : IsPackedCover k at_cells end out) where
+  pub right_places : (l : L) (p : List ℤ) → InBoxes (map (grid_row ns) rs) l p ↔ InBoxes (map (row_numbers n) right) l p
+  right_places l p = subst (λ bs. InBoxes (map (grid_row ns) rs) l p ↔ InBoxes bs l p) right_numbers (λ h. h, λ h. h)
+
+  -- ---- the cuts of the sides, for rows under labels of X
+
+  abbrev cuts : Type 0 → List Cuts
+  cuts X = gs X n has high point ts ss all over.count over.numbered
+
+  count_sides : (X : Type 0) → length (cuts X) ≡ k
+  count_sides X = length_cuts ns (rising X n has high point ts ss all over.count over.numbered) ∙ length_grids n has high ts ss over.count
+
+  count_cells : (X : Type 0) (j : ℕ) → j < k → (e : S) → (get_or (cuts X) j start).count ≡ length (get_or ss j e).0
+  count_cells X j b e =
+      let p = pick_from ts point (omega arith) in
+      let g : length ns ≡ length ts = length_grids n has high ts ss over.count in
+      let l : j < length ns = omega arith in
+      cut_count start ns (rising X n has high point ts ss all over.count over.numbered) j ([], pos 0) l
+      ∙ ap (λ (v : List ℤ × ℤ). length v.0) (grid_at n has high ts ss j p.0 e ([], pos 0) over.count b)
+      ∙ length-map (get_or ss j e).0 n
+
+  below : (X : Type 0) (y : List (ℕ × ℕ)) → IsLow ss y → (j : ℕ) → j < length (cuts X) → (get_or y j no_cells).1 ≤ (get_or (cuts X) j start).count
+  below X y low j b =
+      let e : S = ([], [], []) in
+      let c = count_sides X in
+      let q = count_cells X j (omega arith) e in
+      let w = low j e in
+      omega arith
+
+  fits : {X : Type 0} (rows : List (X × List (ℕ × ℕ))) → AreOn k ss rows → AllByRecursion (Fit X n has high point ts ss all over.count over.numbered) rows
+  fits {X = X} rows on = of_members (Fit X n has high point ts ss all over.count over.numbered) rows (λ z m.
+      let w = on z m in
+      (w.0 ∙ sym (count_sides X), in_grid start (cuts X) z.1 (length (cuts X)) (λ j b. below X z.1 w.1 j b)))
+
+  lows : {X : Type 0} (rows : List (X × List (ℕ × ℕ))) → AreOn k ss rows → AllByRecursion (Low X n has high point ts ss all over.count over.numbered) rows
+  lows {X = X} rows on = of_members (Low X n has high point ts ss all over.count over.numbered) rows (λ z m. (on z m).1)
+
+  -- ---- rows at a place of points
+
+  same_rows : {X : Type 0} (v : List (X × List (ℕ × ℕ))) → map (point_row start (cuts L)) v ≡ map (grid_row ns) v
+  same_rows [] = refl
+  same_rows (x ∷ xs) = λ t. (x.0, box_same ns (rising L n has high point ts ss all over.count over.numbered) x.1 t) ∷ same_rows xs t
+
+  grid_on : {X : Type 0} (rows : List (X × List (ℕ × ℕ))) → AreOn k ss rows → OnGrid start (cuts L) rows
+  grid_on rows on x m = let w = on x m in (w.0 ∙ sym (count_sides L), λ s b. below L x.1 w.1 s b)
+
+  -- they have there what they have at its cells
+  here : {X : Type 0} (rows : List (X × List (ℕ × ℕ))) → AreOn k ss rows → (l : X) (p : List ℤ) (c : List ℕ)
+      → ((y : List (ℕ × ℕ)) → length y ≡ length (cuts L) → Has (box_of (cuts L) y) p ↔ At y c) → InBoxes (map (grid_row ns) rows) l p ↔ HasRow rows l c
+  here rows on l p c h = subst (λ bs. InBoxes bs l p ↔ HasRow rows l c) (same_rows rows) (row_points start (cuts L) rows (grid_on rows on) l p c h)
+
+  nowhere_else : {X : Type 0} (rows : List (X × List (ℕ × ℕ))) → AreOn k ss rows → (l : X) (p : List ℤ)
+      → ((y : List (ℕ × ℕ)) → ((length y ≡ length (cuts L)) × ((s : ℕ) → s < length (cuts L) → (get_or y s no_cells).1 ≤ (get_or (cuts L) s start).count)) → Has (box_of (cuts L) y) p → ⊥) → InBoxes (map (grid_row ns) rows) l p → ⊥
+  nowhere_else rows on l p h = subst (λ bs. InBoxes bs l p → ⊥) (same_rows rows) (no_points start (cuts L) rows (grid_on rows on) l p h)
+
+  pub boxes_have : {X : Type 0} (rows : List (X × List (ℕ × ℕ))) → AreOn k ss rows → AllHave k (map (grid_row ns) rows)
+  boxes_have {X = X} rows on x m =
+      let w = (among_map (grid_row ns) x rows).0 m in
+      let e : grid_box ns (w.0).1 ≡ x.1 = ap (λ (z : Boxed X). z.1) w.2 in
+      ap length (sym e) ∙ ap length (sym (box_same ns (rising L n has high point ts ss all over.count over.numbered) (w.0).1)) ∙ length_box (cuts L) (w.0).1 ((on w.0 w.1).0 ∙ sym (count_sides L)) ∙ count_sides L
+
+  -- ---- the packed form of rows on the sides
+
+  module _ {X : Type 0} (rows v : List (X × List (ℕ × ℕ))) (on : AreOn k ss rows) (packed : (x : X × List (ℕ × ℕ)) → Among x v ↔ (length x.1 ≡ k) × IsPackedOf k rows x) where
+    pub packed_within : (x : X × List (ℕ × ℕ)) → Among x v → (s : ℕ) (e : S) → s < k → ((get_or x.1 s no_cells).0 < (get_or x.1 s no_cells).1) × ((get_or x.1 s no_cells).1 ≤ length (get_or ss s e).0)
+    packed_within x m s e b = packed_cells X n has high point ts ss all over.count over.numbered rows v (fits rows on) packed (lows rows on) x m s e b
+
+    -- it is on the sides
+    pub packed_on : AreOn k ss v
+    packed_on x m =
+        let many = ((packed x).0 m).0 in (
+          many,
+          λ s e. elim (cases_lt s k) [
+            | inl b ↦ (packed_within x m s e b).1
+            | inr b ↦ subst (λ (c : ℕ × ℕ). c.1 ≤ length (get_or ss s e).0) (sym (past_end x.1 s no_cells (omega arith))) (omega arith)
+          ],
+        )
+
+    pub packed_is : (order : X → X → Ordering) → IsTotalOrder order → Separates order → IsStrictlySortedBy (key_cmp order) v → map (grid_row ns) v ≡ packed_boxes order k (map (grid_row ns) rows)
+    packed_is order o same sorted = packed_form X n has high point ts ss all over.count over.numbered rows v (fits rows on) packed order o same sorted
+
+    -- and has at each place of points what the rows have
+    pub packed_places : (order : X → X → Ordering) → IsTotalOrder order → Separates order → IsStrictlySortedBy (key_cmp order) v → (l : X) (p : List ℤ) → InBoxes (map (grid_row ns) v) l p ↔ InBoxes (map (grid_row ns) rows) l p
+    packed_places order o same sorted l p =
+        let e = packed_is order o same sorted in
+        let have = boxes_have rows on in (
+          λ h. from_packed_box order o same k (map (grid_row ns) rows) have l p (subst (λ bs. InBoxes bs l p) e h),
+          λ h. subst (λ bs. InBoxes bs l p) (sym e) (in_packed_box order o same k (map (grid_row ns) rows) have l p h),
+        )
+
+  -- ---- an operator on two lists over the cells: at each place F gives labels of those that they have there
+
+  module _ {L' R' Q : Type 0} (ls' : List (L' × List (ℕ × ℕ))) (rs' : List (R' × List (ℕ × ℕ))) (lo : AreOn k ss ls') (ro : AreOn k ss rs') (F : (L' → Type 0) → (R' → Type 0) → Q → Type 0)
+      (alike : (A A' : L' → Type 0) (B B' : R' → Type 0) → ((a : L') → A a ↔ A' a) → ((b : R') → B b ↔ B' b) → (l : Q) → F A B l → F A' B' l)
+      (some : (A : L' → Type 0) (B : R' → Type 0) (l : Q) → F A B l → (a : L') × A a)
+      (at_cells : Q → List ℕ → Type 0) (are : (l : Q) (place : List ℕ) → length place ≡ k → at_cells l place ↔ F (λ a. HasRow ls' a place) (λ b. HasRow rs' b place) l)
+      (end : List (ℕ × ℕ) → Type 0) (ended : (y : List (ℕ × ℕ)) → end y → IsBoxOf ls' y) (out : List (Q × List (ℕ × ℕ))) (cover : IsPackedCover k at_cells end out) where
     abbrev parts : List (Q × List (ℕ × ℕ))
     parts = cover.parts
 
-    abbrev cuts : List Cuts
-    cuts = gs Q n has high point ts ss all over.count over.numbered
-
-    count_sides : length cuts ≡ k
-    count_sides = length_cuts ns (rising Q n has high point ts ss all over.count over.numbered) ∙ length_grids n has high ts ss over.count
-
-    count_cells : (j : ℕ) → j < k → (e : S) → (get_or cuts j start).count ≡ length (get_or ss j e).0
-    count_cells j b e =
-        let p = pick_from ts point (omega arith) in
-        let g : length ns ≡ length ts = length_grids n has high ts ss over.count in
-        let l : j < length ns = omega arith in
-        cut_count start ns (rising Q n has high point ts ss all over.count over.numbered) j ([], pos 0) l
-        ∙ ap (λ (v : List ℤ × ℤ). length v.0) (grid_at n has high ts ss j p.0 e ([], pos 0) over.count b)
-        ∙ length-map (get_or ss j e).0 n
-
-    below : (y : List (ℕ × ℕ)) → IsLow y → (j : ℕ) → j < length cuts → (get_or y j no_cells).1 ≤ (get_or cuts j start).count
-    below y low j b =
-        let e : S = ([], [], []) in
-        let c = count_sides in
-        let q = count_cells j (omega arith) e in
-        let w = low j e in
-        omega arith
-
-    parts_on : AreOn parts
+    parts_on : AreOn k ss parts
     parts_on z m =
         let w = cover.ends z m in
         let y = ended w.0 w.1 in
-        let low = (left_on (y.0, w.0) y.1).1 in (
+        let low = (lo (y.0, w.0) y.1).1 in (
           at_member (λ (x : Q × List (ℕ × ℕ)). length x.1 ≡ k) parts (recursion_from_All (λ (x : Q × List (ℕ × ℕ)). length x.1 ≡ k) parts cover.sides) z m,
           λ s e. let a = low s e in let b = w.2 s in omega arith,
         )
-
-    fits : AllByRecursion (Fit Q n has high point ts ss all over.count over.numbered) parts
-    fits = of_members (Fit Q n has high point ts ss all over.count over.numbered) parts (λ z m.
-        let w = parts_on z m in
-        (w.0 ∙ sym count_sides, in_grid start cuts z.1 (length cuts) (λ j b. below z.1 w.1 j b)))
-
-    lows : AllByRecursion (Low Q n has high point ts ss all over.count over.numbered) parts
-    lows = of_members (Low Q n has high point ts ss all over.count over.numbered) parts (λ z m. (parts_on z m).1)
 
     pub lengths : (x : Q × List (ℕ × ℕ)) → Among x out → length x.1 ≡ k
     lengths x m = ((cover.packed x).0 m).0
 
     -- each side of the rows has cells, and no others than the side's
     pub within : (x : Q × List (ℕ × ℕ)) → Among x out → (s : ℕ) (e : S) → s < k → ((get_or x.1 s no_cells).0 < (get_or x.1 s no_cells).1) × ((get_or x.1 s no_cells).1 ≤ length (get_or ss s e).0)
-    within x m s e b = packed_cells Q n has high point ts ss all over.count over.numbered parts out fits cover.packed lows x m s e b
+    within x m s e b = packed_within parts out parts_on cover.packed x m s e b
 
-    -- ---- at a place of points
+    abbrev AtLeft : List ℤ → L' → Type 0
+    AtLeft p a = InBoxes (map (grid_row ns) ls') a p
 
-    same_rows : {X : Type 0} (v : List (X × List (ℕ × ℕ))) → map (point_row start cuts) v ≡ map (grid_row ns) v
-    same_rows [] = refl
-    same_rows (x ∷ xs) = λ t. (x.0, box_same ns (rising Q n has high point ts ss all over.count over.numbered) x.1 t) ∷ same_rows xs t
-
-    grid_on : {X : Type 0} (rows : List (X × List (ℕ × ℕ))) → AreOn rows → OnGrid start cuts rows
-    grid_on rows on x m = let w = on x m in (w.0 ∙ sym count_sides, λ s b. below x.1 w.1 s b)
-
-    -- rows over cells have at a place of points what they have at its cells
-    here : {X : Type 0} (rows : List (X × List (ℕ × ℕ))) → AreOn rows → (boxes : List (Boxed X)) → map (grid_row ns) rows ≡ boxes → (l : X) (p : List ℤ) (c : List ℕ)
-        → ((y : List (ℕ × ℕ)) → length y ≡ length cuts → Has (box_of cuts y) p ↔ At y c) → InBoxes boxes l p ↔ HasRow rows l c
-    here rows on boxes e l p c h = subst (λ bs. InBoxes bs l p ↔ HasRow rows l c) (same_rows rows ∙ e) (row_points start cuts rows (grid_on rows on) l p c h)
-
-    nowhere_else : {X : Type 0} (rows : List (X × List (ℕ × ℕ))) → AreOn rows → (boxes : List (Boxed X)) → map (grid_row ns) rows ≡ boxes → (l : X) (p : List ℤ)
-        → ((y : List (ℕ × ℕ)) → ((length y ≡ length cuts) × ((s : ℕ) → s < length cuts → (get_or y s no_cells).1 ≤ (get_or cuts s start).count)) → Has (box_of cuts y) p → ⊥) → InBoxes boxes l p → ⊥
-    nowhere_else rows on boxes e l p h = subst (λ bs. InBoxes bs l p → ⊥) (same_rows rows ∙ e) (no_points start cuts rows (grid_on rows on) l p h)
-
-    abbrev AtLeft : List ℤ → L → Type 0
-    AtLeft p a = InBoxes (map (row_numbers n) left) a p
-
-    abbrev AtRight : List ℤ → L → Type 0
-    AtRight p b = InBoxes (map (row_numbers n) right) b p
+    abbrev AtRight : List ℤ → R' → Type 0
+    AtRight p b = InBoxes (map (grid_row ns) rs') b p
 
     places : (l : Q) (p : List ℤ) → InBoxes (map (grid_row ns) parts) l p ↔ F (AtLeft p) (AtRight p) l
-    places l p = elim (cell_at start cuts p) [
+    places l p = elim (cell_at start (cuts L) p) [
       | inl w ↦
           let c : List ℕ = w.0 in
-          let a = λ (m : L). here ls left_on (map (row_numbers n) left) left_numbers m p c w.2 in
-          let b = λ (m : L). here rs right_on (map (row_numbers n) right) right_numbers m p c w.2 in
-          let x = here parts parts_on (map (grid_row ns) parts) refl l p c w.2 in
-          let i = cover.places l c (w.1 ∙ count_sides) in
-          let j = are l c (w.1 ∙ count_sides) in (
-            λ h. alike (λ m. HasRow ls m c) (AtLeft p) (λ m. HasRow rs m c) (AtRight p) (λ m. ((a m).1, (a m).0)) (λ m. ((b m).1, (b m).0)) l (j.0 (i.0 (x.0 h))),
-            λ h. x.1 (i.1 (j.1 (alike (AtLeft p) (λ m. HasRow ls m c) (AtRight p) (λ m. HasRow rs m c) a b l h))),
+          let a = λ (m : L'). here ls' lo m p c w.2 in
+          let b = λ (m : R'). here rs' ro m p c w.2 in
+          let x = here parts parts_on l p c w.2 in
+          let i = cover.places l c (w.1 ∙ count_sides L) in
+          let j = are l c (w.1 ∙ count_sides L) in (
+            λ h. alike (λ m. HasRow ls' m c) (AtLeft p) (λ m. HasRow rs' m c) (AtRight p) (λ m. ((a m).1, (a m).0)) (λ m. ((b m).1, (b m).0)) l (j.0 (i.0 (x.0 h))),
+            λ h. x.1 (i.1 (j.1 (alike (AtLeft p) (λ m. HasRow ls' m c) (AtRight p) (λ m. HasRow rs' m c) a b l h))),
           )
       | inr w ↦ (
-        λ h. absurd (nowhere_else parts parts_on (map (grid_row ns) parts) refl l p w h),
-        λ h. let v = some (AtLeft p) (AtRight p) l h in absurd (nowhere_else ls left_on (map (row_numbers n) left) left_numbers v.0 p w v.1),
+        λ h. absurd (nowhere_else parts parts_on l p w h),
+        λ h. let v = some (AtLeft p) (AtRight p) l h in absurd (nowhere_else ls' lo v.0 p w v.1),
       )
     ]
-
-    parts_have : AllHave k (map (grid_row ns) parts)
-    parts_have x m =
-        let w = (among_map (grid_row ns) x parts).0 m in
-        let e : grid_box ns (w.0).1 ≡ x.1 = ap (λ (z : Boxed Q). z.1) w.2 in
-        ap length (sym e) ∙ ap length (sym (box_same ns (rising Q n has high point ts ss all over.count over.numbered) (w.0).1)) ∙ length_box cuts (w.0).1 ((parts_on w.0 w.1).0 ∙ sym count_sides) ∙ count_sides
 
     -- by their numbers the rows are the packed form of any boxes that have just these labels at points
     pub form : (order : Q → Q → Ordering) → IsTotalOrder order → Separates order → IsStrictlySortedBy (key_cmp order) out
         → (boxes : List (Boxed Q)) → AllHave k boxes
-        → ((l : Q) (p : List ℤ) → InBoxes boxes l p ↔ F (λ a. InBoxes (map (row_numbers n) left) a p) (λ b. InBoxes (map (row_numbers n) right) b p) l)
+        → ((l : Q) (p : List ℤ) → InBoxes boxes l p ↔ F (λ a. InBoxes (map (grid_row ns) ls') a p) (λ b. InBoxes (map (grid_row ns) rs') b p) l)
         → map (grid_row ns) out ≡ packed_boxes order k boxes
     form order o same sorted boxes have e =
-        packed_form Q n has high point ts ss all over.count over.numbered parts out fits cover.packed order o same sorted
-        ∙ packed_from_same order o same k (map (grid_row ns) parts) boxes parts_have have (λ l p.
+        packed_is parts out parts_on cover.packed order o same sorted
+        ∙ packed_from_same order o same k (map (grid_row ns) parts) boxes (boxes_have parts parts_on) have (λ l p.
         let a = places l p in
         let b = e l p in
         (λ h. b.1 (a.0 h), λ h. a.1 (b.0 h)))
