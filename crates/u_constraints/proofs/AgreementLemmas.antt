@@ -4,10 +4,8 @@ use Rattle.std.specs.Bool.{IsTrue}
 use Rattle.std.specs.List.{IsDistinct}
 use Rattle.base_core.proofs.SetLemmas.{In}
 use Rattle.point_core.specs.Points.{line_of}
-use Rattle.interval_core.specs.Members.{Span}
 use Rattle.value_core.specs.Attributes.{value_at, span_of, among}
 use Rattle.value_core.specs.Values.{Value, Row, Heading, truth, interval}
-use Rattle.value_core.specs.declared.kind.Kind.{Kind}
 use Rattle.relation_core.specs.Agreement.{part_of}
 use Rattle.relation_core.specs.Parts.{kind_at}
 use Rattle.meaning_core.specs.WellMade.{AreAlike, AreAmong}

@@ -1,16 +1,15 @@
 -- Packed boxes of cells under parts of their labels: they are apart exactly where the labels at a place are told apart by their parts.
-use Rattle.std.proofs.Common.{◌≡◌, ℕ, zero, suc, ◌+◌, ◌<◌, ◌≤◌, true, ◌&&◌, ℤ, pos, ◌-ℤ◌, ◌≤ℤ◌, List, [], ◌∷◌, ◌++◌, map, length, get_or, ◌↔◌, inl, inr, arith, refl, sym, ap, ◌∙◌, subst, Ordering}
+use Rattle.std.proofs.Common.{◌≡◌, ℕ, zero, suc, ◌+◌, ◌<◌, ◌≤◌, ℤ, pos, List, [], ◌∷◌, ◌++◌, map, length, get_or, ◌↔◌, inl, inr, arith, refl, sym, ap, ◌∙◌, subst, Ordering}
 use Rattle.std.specs.declared.cmp.Ordering.TheVariants.{Less, Equal}
 use Rattle.std.specs.Cmp.{IsTotalOrder, tied_itself}
 use Rattle.std.specs.List.{All, AllByRecursion, list_all}
 use Rattle.std.specs.List.Sorted.{IsStrictlySortedBy}
-use Rattle.std.proofs.lemmas.Bool.{cases_lt, and_parts, and_from, true≢false}
+use Rattle.std.proofs.lemmas.Bool.{cases_lt, and_parts, and_from}
 use Rattle.std.proofs.lemmas.Int.{ints}
-use Rattle.std.proofs.lemmas.List.{length-map, length-append, append-nil}
+use Rattle.std.proofs.lemmas.List.{length-map, length-append}
 use Rattle.std.proofs.lemmas.List.Elements.{recursion_from_All}
 use Rattle.base_core.proofs.SetLemmas.{In, Ascends, Separates, In-from_Contains, Ascends-from_sorted}
 use Rattle.base_core.proofs.SetOperatorLemmas.{AllAfter-In}
-use Rattle.interval_core.specs.Members.{Span}
 use Rattle.packing_core.specs.Boxed.{Boxed, boxed_cmp, packed_boxes, InBoxes}
 use Rattle.packing_core.specs.Covering.{Among}
 use Rattle.packing_core.specs.Live.{span_has, has_place}
@@ -21,16 +20,15 @@ use Rattle.slice_core.specs.Rows.{key_cmp}
 use Rattle.slice_core.specs.PackedRows.{IsPackedOf}
 use Rattle.box_core.specs.Apartness.{AreApart}
 use Rattle.box_core.specs.Common.{At, has_cell, HaveCells}
-use Rattle.box_core.specs.Rows.{IsRow, KeyBox}
+use Rattle.box_core.specs.Rows.{IsRow}
 use Rattle.box_core.proofs.PlaceLemmas.{span_parts, span_from, cell_from, cell_parts}
 use Rattle.box_core.proofs.PointLemmas.{cell_at, InGrid}
 use Rattle.box_core.proofs.RowLemmas.{row_among, among_row, one_row, map_row, row_map}
-use Rattle.cell_core.specs.Boxes.{IsBox}
 use Rattle.cell_core.specs.CellRows.{AreOverCells}
-use Rattle.cell_core.specs.Cells.{grids_of, grid_box, grid_row, row_numbers, keys_from}
+use Rattle.cell_core.specs.Cells.{grids_of, grid_box, grid_row, row_numbers}
 use Rattle.cell_core.proofs.Assembly.{start, pick_from, box_same, length_cuts, length_grids, cut_count, grid_at}
 use Rattle.cell_core.proofs.BackLemmas.{box_length}
-use Rattle.cell_core.proofs.KeyLemmas.{gs, rising, Fit, Low, own_rows, own_fits, own_low, rows_have, packed_form, packed_cells, packed_lengths, key_order}
+use Rattle.cell_core.proofs.KeyLemmas.{gs, rising, Fit, Low, own_rows, own_fits, own_low, rows_have, packed_form, packed_cells, key_order}
 use Rattle.cell_core.proofs.OneSide.{all_among, among_all}
 use Rattle.cell_core.proofs.OrderLemmas.{boxed_total}
 use Rattle.cell_core.proofs.PackedPlaces.{AllHave, in_packed_box, from_packed_box, one_box}

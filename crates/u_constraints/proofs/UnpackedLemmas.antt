@@ -1,16 +1,13 @@
 -- Keys and references of unpacked rows, by their boxes.
-use Rattle.std.proofs.Common.{◌≡◌, ◌↔◌, ℕ, ◌<◌, ℤ, List, [], ◌∷◌, map, length, refl, sym, ap, ◌∙◌, subst, nat_eq, Bool}
+use Rattle.std.proofs.Common.{◌≡◌, ◌↔◌, ℕ, ℤ, List, [], ◌∷◌, map, length, refl, sym, ap, ◌∙◌, subst, nat_eq, Bool}
 use Rattle.std.specs.Bool.{IsTrue}
-use Rattle.std.specs.List.{All, IsDistinct, list_all}
-use Rattle.std.proofs.lemmas.Bool.{true≢false}
+use Rattle.std.specs.List.{IsDistinct}
 use Rattle.std.proofs.lemmas.List.{length-map}
-use Rattle.std.proofs.lemmas.List.Elements.{Contains-get_or}
-use Rattle.base_core.specs.Sets.{is_within, in_order}
-use Rattle.base_core.proofs.SetLemmas.{In, Ascends, In-in_order, In-from_Contains}
-use Rattle.base_core.proofs.MemberLemmas.{In-map, list_all-In}
+use Rattle.base_core.specs.Sets.{is_within}
+use Rattle.base_core.proofs.SetLemmas.{In, Ascends, In-in_order}
+use Rattle.base_core.proofs.MemberLemmas.{In-map}
 use Rattle.base_core.proofs.SetOperatorLemmas.{same_tests, is_within-In}
 use Rattle.interval_core.specs.Members.{Span, at_point}
-use Rattle.value_core.specs.Attributes.{value_at, span_of}
 use Rattle.value_core.specs.Order.{row_total, row_separates}
 use Rattle.value_core.specs.RowPacking.{unpacked}
 use Rattle.value_core.specs.Values.{Row, Heading, row_cmp}
