@@ -108,13 +108,19 @@ unpacked_typed heading list (syntax.Key at names) = do
   both ← listed_key heading list names
   Ok (WhenUnpacked both.0 both.1)
 
-abbrev pub used_typed : State → Name → Heading → NameListP → UsedConstraintP → OrFault Constraint
-used_typed s own heading list (syntax.UsedKey (syntax.Key at names)) = do
+abbrev pub used_key_typed : Heading → NameListP → KeyP → OrFault Constraint
+used_key_typed heading list (syntax.Key at names) = do
   both ← listed_key heading list names
   Ok (UKey both.0 both.1)
-used_typed s own heading list (syntax.UsedForeign (syntax.Foreign at names w)) = do
+
+abbrev pub used_foreign_typed : State → Name → Heading → NameListP → ForeignP → OrFault Constraint
+used_foreign_typed s own heading list (syntax.Foreign at names w) = do
   both ← listed_key heading list names
   reference_typed s own heading both.0 both.1 names w
+
+abbrev pub used_typed : State → Name → Heading → NameListP → UsedConstraintP → OrFault Constraint
+used_typed s own heading list (syntax.UsedKey key) = used_key_typed heading list key
+used_typed s own heading list (syntax.UsedForeign key) = used_foreign_typed s own heading list key
 
 -- ---- all constraints
 

@@ -1,16 +1,17 @@
 // The constraints that are written with a relvar.
 ghost use Rattle.std.specs.Prelude.{◌≡◌, []};
-ghost use Rattle.utd_syntax.specs.Read.{read_key, read_constraint, read_constraint_list};
+ghost use Rattle.utd_syntax.specs.Read.{read_key, read_list, read_foreign, read_constraint, read_used_constraint, read_constraint_list};
 ghost use Rattle.scalar_core.specs.Answers.{Gives};
 ghost use Rattle.tree_core.specs.Relvars.{read_relvars};
 ghost use Rattle.declaration_typing.specs.Constraints as rules;
 
-use crate::references::{foreign_typed, names_typed};
+use crate::lists::{list_typed, listed_key};
+use crate::references::{foreign_typed, names_typed, reference_typed};
 use point_core::{Code, Fault, Place, Stop};
 use std::alloc::Global;
 use tree_core::Relvars;
 use utd_syntax as syntax;
-use utd_syntax::Key;
+use utd_syntax::{Foreign, Key, NameList, UsedConstraint};
 use value_core::{Constraint, Constraints, Heading, MOST_CONSTRAINTS, Name};
 
 /// KEY.
@@ -19,6 +20,83 @@ fn key_typed(alloc: Global, heading: &Heading, key: &Key) -> Result<Constraint, 
 {
     let positions = names_typed(alloc, heading, &key.names)?;
     Ok(Constraint::Key(positions))
+}
+
+/// PACKED ON.
+fn packed_typed(alloc: Global, heading: &Heading, list: &NameList) -> Result<Constraint, Stop>
+    ensures { Gives (λ c. c) result (rules.packed_typed heading.now (read_list list.now)) }
+{
+    let acl = list_typed(alloc, heading, list)?;
+    Ok(Constraint::Packed(acl))
+}
+
+/// WHEN UNPACKED ON.
+fn unpacked_typed(
+    alloc: Global,
+    heading: &Heading,
+    list: &NameList,
+    key: &Key,
+) -> Result<Constraint, Stop>
+    ensures { Gives (λ c. c) result (rules.unpacked_typed heading.now (read_list list.now) (read_key key.now)) }
+{
+    let (acl, positions) = listed_key(alloc, heading, list, &key.names)?;
+    Ok(Constraint::WhenUnpacked(acl, positions))
+}
+
+/// KEY under USING.
+fn used_key_typed(
+    alloc: Global,
+    heading: &Heading,
+    list: &NameList,
+    key: &Key,
+) -> Result<Constraint, Stop>
+    ensures { Gives (λ c. c) result (rules.used_key_typed heading.now (read_list list.now) (read_key key.now)) }
+{
+    let (acl, positions) = listed_key(alloc, heading, list, &key.names)?;
+    Ok(Constraint::UKey(acl, positions))
+}
+
+/// FOREIGN KEY under USING.
+fn used_foreign_typed(
+    alloc: Global,
+    relvars: &Relvars,
+    own: &Name,
+    heading: &Heading,
+    list: &NameList,
+    foreign: &Foreign,
+) -> Result<Constraint, Stop>
+    ensures { Gives (λ c. c) result (rules.used_foreign_typed (read_relvars relvars.now) own.now heading.now (read_list list.now) (read_foreign foreign.now)) }
+{
+    let (acl, key) = listed_key(alloc, heading, list, &foreign.names)?;
+    reference_typed(
+        alloc,
+        relvars,
+        own,
+        heading,
+        acl,
+        key,
+        &foreign.names,
+        &foreign.relvar,
+    )
+}
+
+/// A constraint under USING.
+fn used_typed(
+    alloc: Global,
+    relvars: &Relvars,
+    own: &Name,
+    heading: &Heading,
+    list: &NameList,
+    constraint: &UsedConstraint,
+) -> Result<Constraint, Stop>
+    ensures { Gives (λ c. c) result (rules.used_typed (read_relvars relvars.now) own.now heading.now (read_list list.now) (read_used_constraint constraint.now)) }
+{
+    match constraint {
+        UsedConstraint::Key(key) => used_key_typed(alloc, heading, list, key),
+        UsedConstraint::Foreign(foreign) => {
+            used_foreign_typed(alloc, relvars, own, heading, list, foreign)
+        }
+    }
 }
 
 /// One constraint.
@@ -36,9 +114,13 @@ fn constraint_typed(
         syntax::Constraint::Foreign(foreign) => foreign_typed(
             alloc, relvars, own, heading, foreign,
         ),
-        syntax::Constraint::PackedOn(_, _) => Err(Stop::Memory),
-        syntax::Constraint::WhenUnpacked(_, _, _) => Err(Stop::Memory),
-        syntax::Constraint::Using(_, _, _) => Err(Stop::Memory),
+        syntax::Constraint::PackedOn(_, list) => packed_typed(alloc, heading, list),
+        syntax::Constraint::WhenUnpacked(_, list, key) => {
+            unpacked_typed(alloc, heading, list, key)
+        }
+        syntax::Constraint::Using(_, list, used) => {
+            used_typed(alloc, relvars, own, heading, list, used)
+        }
     }
 }
 

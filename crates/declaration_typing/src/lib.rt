@@ -3,6 +3,7 @@
 
 mod constraints;
 mod drops;
+mod lists;
 mod names;
 mod nodes;
 mod ordinals;

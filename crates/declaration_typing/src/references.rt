@@ -111,7 +111,7 @@ pub(crate) fn names_typed(
 }
 
 /// The foreign key of these positions.
-fn reference_typed(
+pub(crate) fn reference_typed(
     alloc: Global,
     relvars: &Relvars,
     own: &Name,

@@ -17,8 +17,6 @@ use utd_syntax as syntax;
 use utd_syntax::{Constraints, Word};
 
 /// The base relvar that VAR RELATION declares where these are the relvars, views and ordinal types, or the first refusal.
-///
-/// For now its constraints are KEY and FOREIGN KEY, without USING.
 #[tactic(auto, unfolding(crate::specs::Relvars::relvar_declared))]
 pub fn type_relvar(
     alloc: Global,

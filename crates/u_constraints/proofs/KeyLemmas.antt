@@ -62,7 +62,7 @@ module _ {X : Type 0} (cmp : X → X → Ordering) (o : IsTotalOrder cmp) (same 
 
 -- ---- rows that agree only with themselves
 
-abbrev AgreeOnce : List ℕ → List Row → Type 0
+abbrev pub AgreeOnce : List ℕ → List Row → Type 0
 AgreeOnce k rows = (x y : Row) → In x rows → In y rows → part_of k x ≡ part_of k y → x ≡ y
 
 are_apart-≡ : (k : List ℕ) (x y : Row) → IsTrue (are_apart k x y) ↔ (part_of k x ≡ part_of k y → x ≡ y)
@@ -79,7 +79,7 @@ are_apart-≡ k x y =
       ] refl,
     )
 
-is_key-AgreeOnce : (k : List ℕ) (rows : List Row) → IsTrue (is_key k rows) ↔ AgreeOnce k rows
+pub is_key-AgreeOnce : (k : List ℕ) (rows : List Row) → IsTrue (is_key k rows) ↔ AgreeOnce k rows
 is_key-AgreeOnce k rows =
     let all = list_all-In (λ x. list_all (are_apart k x) rows) rows in (
       λ e x y i j. (are_apart-≡ k x y).0 ((list_all-In (are_apart k x) rows).0 (all.0 e x i) y j),

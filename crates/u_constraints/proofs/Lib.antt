@@ -1,3 +1,11 @@
 pub mod ConstraintLemmas
 pub mod FrontLemmas
 pub mod KeyLemmas
+pub mod OutcomeLemmas
+pub mod PairLemmas
+pub mod PlacedKeyLemmas
+pub mod CounterpartLemmas
+pub mod AgreementLemmas
+pub mod UnpackedLemmas
+pub mod PackedLemmas
+pub mod IntervalLemmas

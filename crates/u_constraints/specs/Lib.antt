@@ -1,3 +1,4 @@
 pub mod Constraints
 pub mod Costs
 pub mod Fronts
+pub mod Places

@@ -1,12 +1,18 @@
 // Constraints of a relvar.
-ghost use Rattle.std.specs.Prelude.{◌≡◌, ◌<◌, ◌≤◌, ◌+◌, ℕ, [], ◌∷◌, length, IfOk, option_map};
-ghost use Rattle.std.specs.List.{All};
+ghost use Rattle.std.specs.Prelude.{◌≡◌, ◌≤◌, ◌+◌, IfOk, option_map};
 ghost use Rattle.std.specs.Result.{result_err};
-ghost use Rattle.meaning_core.specs.WellMade.{FitsHeadings};
-ghost use Rattle.u_constraints.specs.Constraints.{broken, first_failed, heading_or_none, is_referenced as are_referenced, rows_or_none, IsNamed};
+ghost use Rattle.meaning_core.specs.Typing.{IsList};
+ghost use Rattle.meaning_core.specs.WellMade.{AreAlike, AreAmong, AreDifferent, FitsHeadings};
+ghost use Rattle.value_core.specs.Values.{Name};
+ghost use Rattle.value_core.specs.declared.constraint.Constraint.TheVariants.{Foreign};
+ghost use Rattle.u_constraints.specs.Constraints.{broken, heading_or_none, is_referenced as are_referenced, rows_or_none, IsNamed};
 ghost use Rattle.u_constraints.specs.Costs.{constraint_cost};
 
 use crate::keys::{is_key, is_referenced};
+use crate::lines::unless;
+use crate::packed::is_packed;
+use crate::references::is_referenced_unpacked;
+use crate::unpacked::{is_unpacked_key, used_key};
 use point_core::{Code, Memory, Steps};
 use std::alloc::Global;
 use std::sync::ledger::Ledger;
@@ -31,42 +37,52 @@ pub fn holds<L: Ledger>(
             let kept = is_key(alloc, of, key.list.as_slice())?;
             Ok(unless(kept, Code::E40))
         }
+        (Constraint::Packed(acl), _) => {
+            let kept = is_packed(alloc, of, acl.list.as_slice(), steps)?;
+            Ok(unless(kept, Code::E41))
+        }
+        (Constraint::WhenUnpacked(acl, key), _) => {
+            let (acl, key) = (acl.list.as_slice(), key.list.as_slice());
+            let kept = is_unpacked_key(alloc, of, acl, key, steps)?;
+            Ok(unless(kept, Code::E42))
+        }
+        (Constraint::UKey(acl, key), _) => {
+            used_key(alloc, of, acl.list.as_slice(), key.list.as_slice(), steps)
+        }
         (Constraint::Foreign(acl, here, _, there), Some(other)) => {
             let (acl, here, there) = (
                 acl.list.as_slice(),
                 here.list.as_slice(),
                 there.list.as_slice(),
             );
-            let kept = refers(alloc, acl, of, here, other, there)?;
+            let kept = refers(alloc, acl, of, here, other, there, steps)?;
             Ok(unless(kept, Code::E43))
         }
         _ => Err(Memory),
     }
 }
 
-/// Whether the values here of each of the unpacked rows are the values there of one of the other's rows, unpacked alike. Where there is
-/// something to unpack, no answer is given yet but want of memory.
-fn refers(
+/// Whether the values here of each of the unpacked rows are the values there of one of the other's rows, unpacked alike. Where nothing is
+/// unpacked it takes no step.
+fn refers<L: Ledger>(
     alloc: Global,
     acl: &[usize],
     of: &Relation,
     here: &[usize],
     other: &Relation,
     there: &[usize],
+    steps: &mut Steps<L>,
 ) -> Result<bool, Memory>
-    requires here { All (λ (i : ℕ). i < length of.now.heading) here.now }
-    requires there { All (λ (i : ℕ). i < length other.now.heading) there.now }
-    ensures { IfOk result (λ kept. kept ≡ are_referenced acl.now here.now there.now of.now.rows other.now.rows) }
+    requires list { IsList of.now.heading acl.now }
+    requires here { AreDifferent of.now.heading here.now }
+    requires lies { AreAmong here.now acl.now }
+    requires there { AreDifferent other.now.heading there.now }
+    requires alike { AreAlike of.now.heading here.now other.now.heading there.now }
+    ensures answer { IfOk result (λ kept. kept ≡ are_referenced acl.now here.now there.now of.now.rows other.now.rows) }
+    ensures cost { (name : Name) → steps.new ≤ steps.old + constraint_cost (Foreign acl.now here.now name there.now) of.now.rows other.now.rows }
 {
-    match acl {
-        [] => is_referenced(alloc, of, here, other, there),
-        _ => Err(Memory),
+    if acl.is_empty() {
+        return is_referenced(alloc, of, here, other, there);
     }
-}
-
-/// The code, unless the line holds.
-fn unless(kept: bool, code: Code) -> Result<(), Code>
-    ensures { result_err result ≡ first_failed ((kept, code) ∷ []) }
-{
-    if kept { Ok(()) } else { Err(code) }
+    is_referenced_unpacked(alloc, acl, of, here, other, there, steps)
 }

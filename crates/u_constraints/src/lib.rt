@@ -1,8 +1,14 @@
 //! Which constraints of a relvar hold.
 #![tactic(auto)]
 
+mod apart;
 mod constraints;
 mod fronts;
 mod keys;
+mod lines;
+mod packed;
+mod parts;
+mod references;
+mod unpacked;
 
 pub use constraints::holds;

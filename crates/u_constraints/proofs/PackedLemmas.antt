@@ -1,0 +1,45 @@
+-- Rows are packed exactly where their boxes are.
+use Rattle.std.proofs.Common.{◌≡◌, ◌↔◌, ℕ, List, Bool, length, map, refl, sym, subst}
+use Rattle.std.specs.Bool.{IsTrue}
+use Rattle.base_core.specs.Sets.{in_order}
+use Rattle.base_core.proofs.SetLemmas.{In, Ascends, In-in_order, Ascends-in_order}
+use Rattle.base_core.proofs.MemberLemmas.{In-map}
+use Rattle.base_core.proofs.SetOperatorLemmas.{same_tests, are_same-≡}
+use Rattle.value_core.specs.Order.{row_total, row_separates}
+use Rattle.value_core.specs.RowPacking.{attribute, packed}
+use Rattle.value_core.specs.Values.{Row, Heading, row_cmp}
+use Rattle.packing_core.specs.Boxed.{Boxed, packed_boxes, sides_from}
+use Rattle.u_set.specs.Boxes.{AreIntervals, IsShaped, boxed, unboxed}
+use Rattle.u_set.proofs.BoxLemmas.{all_alike, unboxed-boxed}
+use Rattle.u_set.proofs.BridgeLemmas.{box_cmp, box_total, box_separates}
+use Rattle.u_set.proofs.ImageLemmas.{IsImage, Ascends-pack, image-pack, same_alike}
+use Rattle.u_constraints.specs.Constraints.{is_packed}
+
+module _ (heading : Heading) (acl : List ℕ) (intervals : AreIntervals heading acl) (rows : List Row) (up : Ascends row_cmp rows) (shaped : (x : Row) → In x rows → IsShaped heading acl x) where
+  abbrev own : List (Boxed Row)
+  own = in_order box_cmp (map (boxed acl) rows)
+
+  abbrev form : List (Boxed Row)
+  form = packed_boxes row_cmp (length acl) (map (boxed acl) rows)
+
+  image : IsImage (IsShaped heading acl) (boxed acl) rows own
+  image = record {
+    shaped = shaped;
+    to = λ x i. (In-in_order box_cmp box_total box_separates (boxed acl x) (map (boxed acl) rows)).1 ((In-map (boxed acl) (boxed acl x) rows).1 (x, i, refl));
+    from = λ y i. (In-map (boxed acl) y rows).0 ((In-in_order box_cmp box_total box_separates y (map (boxed acl) rows)).0 i);
+  }
+
+  packed_image : IsImage (IsShaped heading acl) (boxed acl) (packed acl rows) form
+  packed_image =
+      image-pack row_cmp row_total row_separates box_cmp box_total box_separates (IsShaped heading acl) (boxed acl) (unboxed heading acl) (unboxed-boxed heading acl intervals)
+      (map attribute acl) (sides_from 0 (length acl)) (all_alike heading acl intervals) rows own image
+
+  pub packed_told : (kept : Bool) → IsTrue kept ↔ (own ≡ form) → kept ≡ is_packed acl rows
+  packed_told kept h =
+      let same =
+      same_alike row_cmp row_total row_separates box_cmp box_total box_separates (IsShaped heading acl) (boxed acl) (unboxed heading acl) (unboxed-boxed heading acl intervals)
+      rows (packed acl rows) own form image packed_image in
+      let own_up : Ascends box_cmp own = Ascends-in_order box_cmp box_total box_separates (map (boxed acl) rows) in
+      let form_up : Ascends box_cmp form = Ascends-pack box_cmp box_total box_separates (sides_from 0 (length acl)) own own_up in
+      let equal = are_same-≡ box_cmp box_total box_separates own form own_up form_up in
+      same_tests kept (is_packed acl rows) (λ t. subst (λ b. IsTrue b) same (equal.1 (h.0 t)), λ t. h.1 (equal.0 (subst (λ b. IsTrue b) (sym same) t)))

@@ -1,0 +1,27 @@
+// Packed rows.
+ghost use Rattle.std.specs.Prelude.{◌≡◌, ◌+◌, ◌≤◌, length, IfOk};
+ghost use Rattle.cell_core.specs.Costs.{bound};
+ghost use Rattle.meaning_core.specs.Typing.{IsList};
+ghost use Rattle.u_constraints.specs.Constraints.{is_packed};
+
+use point_core::{Memory, Steps};
+use std::alloc::Global;
+use std::sync::ledger::Ledger;
+use u_set::{to_boxes, types_at};
+use value_core::Relation;
+
+/// Whether the rows are those that they are packed to on the listed attributes.
+pub(crate) fn is_packed<L: Ledger>(
+    alloc: Global,
+    r: &Relation,
+    acl: &[usize],
+    steps: &mut Steps<L>,
+) -> Result<bool, Memory>
+    requires { IsList r.now.heading acl.now }
+    ensures answer { IfOk result (λ kept. kept ≡ is_packed acl.now r.now.rows) }
+    ensures cost { steps.new ≤ steps.old + bound (length r.now.rows) (length acl.now) }
+{
+    let types = types_at(alloc, r.heading().attributes(), acl)?;
+    let boxes = to_boxes(alloc, r, acl)?;
+    cell_core::is_packed(alloc, types.as_slice(), boxes.as_slice(), steps)
+}

@@ -1,0 +1,94 @@
+// Keys of unpacked rows.
+ghost use Rattle.std.specs.Prelude.{◌≡◌, ◌+◌, ◌*◌, ◌<◌, ◌≤◌, ◌∷◌, [], ℕ, length, IfOk};
+ghost use Rattle.std.specs.List.{All};
+ghost use Rattle.std.specs.Result.{result_err};
+ghost use Rattle.point_core.specs.declared.fault.Code.TheVariants as codes;
+ghost use Rattle.value_core.specs.RowPacking.{unpacked};
+ghost use Rattle.cell_core.specs.Costs.{bound};
+ghost use Rattle.meaning_core.specs.Typing.{IsList};
+ghost use Rattle.meaning_core.specs.WellMade.{AreAmong, AreDifferent};
+ghost use Rattle.u_constraints.specs.Constraints.{first_failed, is_key, is_packed};
+
+use crate::apart::is_key_at;
+use crate::keys::is_key;
+use crate::lines::unless;
+use crate::packed::is_packed;
+use point_core::{Code, Memory, Steps};
+use std::alloc::Global;
+use std::sync::ledger::Ledger;
+use u_row::inner;
+use u_set::{to_boxes, types_at};
+use value_core::Relation;
+
+/// Whether no two different unpacked rows have the same values at the key, by the rows' boxes. Something is unpacked.
+fn is_key_by_boxes<L: Ledger>(
+    alloc: Global,
+    r: &Relation,
+    acl: &[usize],
+    key: &[usize],
+    steps: &mut Steps<L>,
+) -> Result<bool, Memory>
+    requires some { 0 < length acl.now }
+    requires list { IsList r.now.heading acl.now }
+    requires key { AreDifferent r.now.heading key.now }
+    requires lies { AreAmong key.now acl.now }
+    ensures answer { IfOk result (λ kept. kept ≡ is_key key.now (unpacked acl.now r.now.rows)) }
+    ensures cost { steps.new ≤ steps.old + bound (length r.now.rows) (length acl.now) }
+{
+    let types = types_at(alloc, r.heading().attributes(), acl)?;
+    let boxes = to_boxes(alloc, r, acl)?;
+    let places = inner(alloc, acl, key)?;
+    is_key_at(
+        alloc,
+        types.as_slice(),
+        boxes.as_slice(),
+        places.as_slice(),
+        steps,
+    )
+}
+
+/// Whether no two different rows, unpacked on the listed attributes, have the same values at the key, which has all that are listed.
+pub(crate) fn is_unpacked_key<L: Ledger>(
+    alloc: Global,
+    r: &Relation,
+    acl: &[usize],
+    key: &[usize],
+    steps: &mut Steps<L>,
+) -> Result<bool, Memory>
+    requires list { IsList r.now.heading acl.now }
+    requires key { AreDifferent r.now.heading key.now }
+    requires lies { AreAmong key.now acl.now }
+    ensures answer { IfOk result (λ kept. kept ≡ is_key key.now (unpacked acl.now r.now.rows)) }
+    ensures cost { steps.new ≤ steps.old + bound (length r.now.rows) (length acl.now) }
+{
+    if acl.is_empty() {
+        return is_key(alloc, r, key);
+    }
+    is_key_by_boxes(alloc, r, acl, key, steps)
+}
+
+/// The code of the first line that is broken of a key under USING: the rows are packed, then the unpacked rows have the key, and then the
+/// rows themselves.
+pub(crate) fn used_key<L: Ledger>(
+    alloc: Global,
+    r: &Relation,
+    acl: &[usize],
+    key: &[usize],
+    steps: &mut Steps<L>,
+) -> Result<Result<(), Code>, Memory>
+    requires list { IsList r.now.heading acl.now }
+    requires key { AreDifferent r.now.heading key.now }
+    requires lies { AreAmong key.now acl.now }
+    ensures answer { IfOk result (λ answer. result_err answer ≡ first_failed ((is_packed acl.now r.now.rows, codes.E41)
+        ∷ (is_key key.now (unpacked acl.now r.now.rows), codes.E42) ∷ (is_key key.now r.now.rows, codes.E40) ∷ [])) }
+    ensures cost { steps.new ≤ steps.old + 2 * bound (length r.now.rows) (length acl.now) }
+{
+    if !is_packed(alloc, r, acl, steps)? {
+        return Ok(Err(Code::E41));
+    }
+    if !is_unpacked_key(alloc, r, acl, key, steps)? {
+        return Ok(Err(Code::E42));
+    }
+    let kept = is_key(alloc, r, key)?;
+    Ok(unless(kept, Code::E40))
+}
