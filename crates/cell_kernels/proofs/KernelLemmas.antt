@@ -32,6 +32,7 @@ use Rattle.cell_core.proofs.BackLemmas.{box_length}
 use Rattle.cell_core.proofs.Calls.{side_grid}
 use Rattle.cell_core.proofs.KeyLemmas.{gs, rising, Fit, Low, own_rows, own_fits, fit_lengths, own_low, packed_form, packed_cells}
 use Rattle.cell_core.proofs.PackedPlaces.{AllHave, in_packed_box, from_packed_box, packed_from_same}
+use Rattle.cell_kernels.specs.Fewer.{IsSameOrPacked}
 
 -- ---- members of lists
 
@@ -231,6 +232,19 @@ module _ {T P L : Type 0} (n : P → ℤ) (has : T → P → Type 0) (high : T �
           λ h. from_packed_box order o same k (map (grid_row ns) rows) have l p (subst (λ bs. InBoxes bs l p) e h),
           λ h. subst (λ bs. InBoxes bs l p) (sym e) (in_packed_box order o same k (map (grid_row ns) rows) have l p h),
         )
+
+  -- ---- rows on the sides, as they are or packed
+
+  module _ {X : Type 0} (order : X → X → Ordering) (rows v : List (X × List (ℕ × ℕ))) (on : AreOn k ss rows) (fewer : IsSameOrPacked order k rows v) where
+    pub fewer_on : AreOn k ss v
+    fewer_on = elim fewer [ inl e ↦ subst (λ (z : List (X × List (ℕ × ℕ))). AreOn k ss z) (sym e) on | inr w ↦ packed_on rows v on w.members ]
+
+    -- they have at each place of points what the rows have
+    pub fewer_places : IsTotalOrder order → Separates order → (l : X) (p : List ℤ) → InBoxes (map (grid_row ns) v) l p ↔ InBoxes (map (grid_row ns) rows) l p
+    fewer_places o same l p = elim fewer [
+      | inl e ↦ subst (λ (z : List (X × List (ℕ × ℕ))). InBoxes (map (grid_row ns) z) l p ↔ InBoxes (map (grid_row ns) rows) l p) (sym e) (λ h. h, λ h. h)
+      | inr w ↦ packed_places rows v on w.members order o same w.sorted l p
+    ]
 
   -- ---- an operator on two lists over the cells: at each place F gives labels of those that they have there
 

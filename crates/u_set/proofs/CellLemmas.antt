@@ -15,23 +15,19 @@ use Rattle.box_core.specs.Answers.{IsPackedCover, IsBoxOf, InBoth, InFirst}
 use Rattle.cell_core.specs.Boxes.{IsBox}
 use Rattle.cell_core.specs.Cells.{grids_of, grid_row, row_numbers}
 use Rattle.cell_core.specs.Numbering.{IsGrid}
-use Rattle.cell_core.proofs.BackLemmas.{box_length, among_get}
+use Rattle.cell_core.proofs.BackLemmas.{box_length}
 use Rattle.cell_core.proofs.KeyLemmas.{rows_have}
 use Rattle.cell_core.proofs.PackedPlaces.{AllHave}
-use Rattle.cell_kernels.proofs.KernelLemmas.{AreOn, grids, left_on, right_on, left_places, right_places, packed_on, packed_places, within, form}
-use Rattle.u_set.specs.PackedCells.{IsPackedInOrder, ArePackedCells}
+use Rattle.cell_kernels.proofs.KernelLemmas.{AreOn, grids, left_on, right_on, left_places, right_places, fewer_on, fewer_places, within, form}
+use Rattle.u_set.specs.FewerCells.{AreFewerCells}
 use Rattle.u_set.proofs.CommonLemmas.{places_common, places_difference, common_have, difference_have}
 
 -- boxes of points have a number for each side
 pub numbers_have : {T P L : Type 0} (n : P → ℤ) (has : T → P → Type 0) (ts : List T) (rows : List (L × List (P × P))) → All (λ r. IsBox has ts r.1) rows → AllHave (length ts) (map (row_numbers n) rows)
 numbers_have {P = P} {L = L} n has ts rows h = rows_have n (length ts) rows (recursion_from_All (λ (r : L × List (P × P)). length r.1 ≡ length ts) rows (λ j d l. box_length has ts _ (h j d l)))
 
--- each packed row has all sides
-pub packed_sides : {L : Type 0} (order : L → L → Ordering) (k : ℕ) (cells rows : List (L × List (ℕ × ℕ))) → IsPackedInOrder order k cells rows → All (λ x. length x.1 ≡ k) rows
-packed_sides order k cells rows h = λ j d l. ((h.members (get_or rows j d)).0 (among_get rows j d l)).0
-
 module _ {T P L : Type 0} (n : P → ℤ) (has : T → P → Type 0) (high : T → ℤ) (order : L → L → Ordering) (point : (t : T) → P) (ts : List T) (left right : List (L × List (P × P)))
-    (ss : List (List P × List P × List (ℕ × ℕ))) (ls rs : List (L × List (ℕ × ℕ))) (cells : ArePackedCells n has high order ts left right ss ls rs) where
+    (ss : List (List P × List P × List (ℕ × ℕ))) (ls rs : List (L × List (ℕ × ℕ))) (cells : AreFewerCells n has high order ts left right ss ls rs) where
   abbrev S : Type 0
   S = List P × List P × List (ℕ × ℕ)
 
@@ -44,7 +40,7 @@ module _ {T P L : Type 0} (n : P → ℤ) (has : T → P → Type 0) (high : T �
   pub grids_numbered : (j : ℕ) (t : T) (e : S) → j < k → IsGrid n (has (get_or ts j t)) (high (get_or ts j t)) (get_or ss j e)
   grids_numbered j t e h = grids n has high point ts left right ss cells.left_cells cells.right_cells cells.over j t e h
 
-  -- ---- the packed rows
+  -- ---- the rows
 
   on_left : AreOn k ss cells.left_cells
   on_left = left_on n has high point ts left right ss cells.left_cells cells.right_cells cells.over
@@ -53,23 +49,23 @@ module _ {T P L : Type 0} (n : P → ℤ) (has : T → P → Type 0) (high : T �
   on_right = right_on n has high point ts left right ss cells.left_cells cells.right_cells cells.over
 
   lefts_on : AreOn k ss ls
-  lefts_on = packed_on n has high point ts left right ss cells.left_cells cells.right_cells cells.over cells.left_cells ls on_left cells.lefts.members
+  lefts_on = fewer_on n has high point ts left right ss cells.left_cells cells.right_cells cells.over order cells.left_cells ls on_left cells.lefts
 
   rights_on : AreOn k ss rs
-  rights_on = packed_on n has high point ts left right ss cells.left_cells cells.right_cells cells.over cells.right_cells rs on_right cells.rights.members
+  rights_on = fewer_on n has high point ts left right ss cells.left_cells cells.right_cells cells.over order cells.right_cells rs on_right cells.rights
 
   -- at points they have the labels of the boxes
   module _ (o : IsTotalOrder order) (same : Separates order) (l : L) (p : List ℤ) where
     lefts_at : InBoxes (map (row_numbers n) left) l p ↔ InBoxes (map (grid_row ns) ls) l p
     lefts_at =
         let a = left_places n has high point ts left right ss cells.left_cells cells.right_cells cells.over l p in
-        let b = packed_places n has high point ts left right ss cells.left_cells cells.right_cells cells.over cells.left_cells ls on_left cells.lefts.members order o same cells.lefts.sorted l p in
+        let b = fewer_places n has high point ts left right ss cells.left_cells cells.right_cells cells.over order cells.left_cells ls on_left cells.lefts o same l p in
         (λ h. b.1 (a.1 h), λ h. a.0 (b.0 h))
 
     rights_at : InBoxes (map (row_numbers n) right) l p ↔ InBoxes (map (grid_row ns) rs) l p
     rights_at =
         let a = right_places n has high point ts left right ss cells.left_cells cells.right_cells cells.over l p in
-        let b = packed_places n has high point ts left right ss cells.left_cells cells.right_cells cells.over cells.right_cells rs on_right cells.rights.members order o same cells.rights.sorted l p in
+        let b = fewer_places n has high point ts left right ss cells.left_cells cells.right_cells cells.over order cells.right_cells rs on_right cells.rights o same l p in
         (λ h. b.1 (a.1 h), λ h. a.0 (b.0 h))
 
   -- ---- an operator: at each place F gives labels of those that both have there

@@ -16,7 +16,7 @@ ghost use Rattle.cell_core.specs.declared.boxes.CellRefuse.TheVariants.{Op as Of
 ghost use Rattle.u_set.specs.Boxes.{AreIntervals, types_at, boxed};
 
 use crate::boxes::to_boxes;
-use crate::cells::packed_cells;
+use crate::cells::fewer_cells;
 use crate::positions::types_at;
 use crate::refusals::refusal;
 use crate::rows::from_boxes;
@@ -47,7 +47,7 @@ fn difference_boxes<T: PointType, L: Ledger>(
         sides,
         left: l,
         right: r,
-    } = packed_cells(alloc, types, left, right, steps)?;
+    } = fewer_cells(alloc, types, left, right, steps)?;
     let form = minus(alloc, types.len(), l, r)?;
     let answer = back(alloc, types, sides.as_slice(), form)?;
     Ok(answer)
