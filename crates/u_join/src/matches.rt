@@ -18,7 +18,7 @@ ghost use Rattle.u_row.specs.Kept.{inner};
 ghost use Rattle.u_join.specs.Pairs.{matched_boxes, unmatched_boxes};
 
 use crate::matching::{u_matching, u_not_matching};
-use crate::places::key_places;
+use crate::places::key_pairs;
 use cell_core::{BoxRow, CellRefuse};
 use point_core::{AnyType, Steps};
 use std::alloc::Global;
@@ -59,15 +59,13 @@ fn matching_boxes<L: Ledger>(
     let types = types_at(alloc, ours, here)?;
     let l = to_boxes(alloc, left, here)?;
     let r = to_boxes(alloc, right, there)?;
-    let here_key = key_places(alloc, ours, ours, theirs, here)?;
-    let there_key = key_places(alloc, theirs, ours, theirs, there)?;
+    let shared = key_pairs(alloc, ours, theirs, here, there)?;
     u_matching(
         alloc,
         types.as_slice(),
         l.as_slice(),
         r.as_slice(),
-        here_key.as_slice(),
-        there_key.as_slice(),
+        shared.as_slice(),
         MOST_ROWS,
         steps,
     )
@@ -106,15 +104,13 @@ fn not_matching_boxes<L: Ledger>(
     let types = types_at(alloc, ours, here)?;
     let l = to_boxes(alloc, left, here)?;
     let r = to_boxes(alloc, right, there)?;
-    let here_key = key_places(alloc, ours, ours, theirs, here)?;
-    let there_key = key_places(alloc, theirs, ours, theirs, there)?;
+    let shared = key_pairs(alloc, ours, theirs, here, there)?;
     u_not_matching(
         alloc,
         types.as_slice(),
         l.as_slice(),
         r.as_slice(),
-        here_key.as_slice(),
-        there_key.as_slice(),
+        shared.as_slice(),
         MOST_ROWS,
         steps,
     )
