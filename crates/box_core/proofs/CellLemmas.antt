@@ -1,5 +1,5 @@
 -- The rows of a key by a number of each.
-use Rattle.std.proofs.Common.{◌≡◌, ℕ, ◌+◌, ◌<◌, ◌≤◌, true, false, List, [], ◌∷◌, ◌++◌, map, length, get_or, ◌↔◌, ◌⊎◌, inl, inr, arith, sym, ap, subst, refl, ◌∙◌, Ordering}
+use Rattle.std.proofs.Common.{◌≡◌, ℕ, ◌+◌, ◌<◌, ◌≤◌, true, false, List, [], ◌∷◌, ◌++◌, map, get_or, ◌↔◌, ◌⊎◌, inl, inr, arith, sym, ap, subst, refl, ◌∙◌, Ordering}
 use Rattle.std.specs.Ordering.{nat_cmp, ordering_then, is_lt}
 use Rattle.std.specs.List.{All}
 use Rattle.std.specs.List.Sorted.{IsSortedBy, IsPermutation}
@@ -12,7 +12,7 @@ use Rattle.packing_core.proofs.AmongLemmas.{among_append, among_map}
 use Rattle.packing_core.proofs.Numbered.{other_default}
 use Rattle.packing_core.proofs.Order.{among_contains, contains_among}
 use Rattle.slice_core.specs.Rows.{pair_cmp, pair_total}
-use Rattle.box_core.specs.Tallies.{Within, span_at, pair_at, AreBy}
+use Rattle.box_core.specs.Tallies.{Within, pair_at, AreBy}
 use Rattle.box_core.proofs.RowLemmas.{row_among, among_row, some_row}
 
 -- the rows from a up to before z, each with its number

@@ -16,7 +16,7 @@ use Rattle.box_core.specs.Meetings.{Met}
 use Rattle.box_core.specs.Rows.{IsRow}
 use Rattle.box_core.specs.Outside.{HasBox, part, beside, narrowed, outside_to, outside, is_past, past, ahead, IsClear}
 use Rattle.box_core.proofs.RowLemmas.{row_among, one_row, some_row, map_row}
-use Rattle.box_core.proofs.OutsideLemmas.{at_side, has_append, has_one, narrowed_length, outside_places}
+use Rattle.box_core.proofs.OutsideLemmas.{at_first, has_append, has_one, narrowed_length, outside_places}
 
 abbrev Box : Type 0
 Box = List (ℕ × ℕ)
@@ -126,6 +126,13 @@ outside_ends (suc s) y hole z h =
 
 -- ---- one piece and a hole
 
+-- a box that ends before one of as many sides begins has a side
+past_some : (hole y : Box) → length hole ≡ length y → (first_of y).1 ≤ (first_of hole).0 → 0 < length y
+past_some [] [] e l = absurd (omega arith)
+past_some [] (s ∷ ys) e l = omega arith
+past_some (s ∷ hole) [] e l = absurd (omega (arith, e))
+past_some (s ∷ hole) (t ∷ ys) e l = omega arith
+
 module _ (hole y : Box) where
   past_or_ahead : (is_past hole y ≡ true) × ((first_of y).1 ≤ (first_of hole).0) ⊎ (is_past hole y ≡ false)
   past_or_ahead = elim (cases_Bool (is_past hole y)) [ inl e ↦ inl (e, within (first_of y).1 (first_of hole).0 e) | inr e ↦ inr e ]
@@ -179,7 +186,7 @@ module _ (own : Box) (holes : List Met) (first end : ℕ) where
     all = λ place f h c. inr ((has_one own place).1 h);
   }
 
-  module _ (h : ℕ) (from : first ≤ h) (below : h < end) (m : Met) (row : IsRow holes h m) (same : length m.1 ≡ length own) (some : 0 < length own)
+  module _ (h : ℕ) (from : first ≤ h) (below : h < end) (m : Met) (row : IsRow holes h m) (same : length m.1 ≡ length own)
       (order : (r : ℕ) (n : Met) → IsRow holes r n → h ≤ r → r < end → (first_of m.1).0 ≤ (first_of n.1).0)
       (done pieces done' pieces' : List Box) (made : done' ≡ done ++ flat_map (past m.1) pieces) (made' : pieces' ≡ flat_map (ahead m.1) pieces) (old : IsSplit h done pieces) where
     in_done : (z : Box) → Among z done' ↔ Among z done ⊎ ((y : Box) × Among y pieces × Among z (past m.1 y))
@@ -198,14 +205,14 @@ module _ (own : Box) (holes : List Met) (first end : ℕ) where
     clear_ahead : (y : Box) (place : List ℕ) → Fits place → Among y pieces → At y place → (first_of y).1 ≤ (first_of m.1).0 → At own place × IsClear holes first end place
     clear_ahead y place f a g l =
         let w = old.pieces place f (y, a, g) in
-        let u = at_side y place 0 g (omega (arith, f)) in
-        let u1 : get_or place 0 0 < (first_of y).1 = u.1 in (
+        let len = old.sides y a in
+        let some : 0 < length place = let p = past_some m.1 y (same ∙ sym len) l in omega (arith, f, len) in
+        let u1 = (at_first y place g some).1 in (
           w.0,
           λ q n r c d k. elim (cases_lt q h) [
             | inl s ↦ w.1 q n r c s k
             | inr s ↦
-                let v = at_side n.1 place 0 k (omega (arith, f)) in
-                let v0 : (first_of n.1).0 ≤ get_or place 0 0 = v.0 in
+                let v0 = (at_first n.1 place k some).0 in
                 let o = order q n r s d in
                 omega arith
           ],
@@ -276,13 +283,13 @@ module _ (own : Box) (holes : List Met) (first end : ℕ) where
   pub split_start : (done pieces : List IndexBox) → done ≡ [] → sides_of pieces ≡ own ∷ [] → IsSplit own holes first end first (sides_of done) (sides_of pieces)
   split_start done pieces d p = subst (λ ds. IsSplit own holes first end first ds (sides_of pieces)) (sym (ap sides_of d)) (subst (IsSplit own holes first end first []) (sym p) (split_first own holes first end))
 
-  pub split_more : (h : ℕ) → first ≤ h → h < end → (m : Met) → IsRow holes h m → length m.1 ≡ length own → 0 < length own
+  pub split_more : (h : ℕ) → first ≤ h → h < end → (m : Met) → IsRow holes h m → length m.1 ≡ length own
       → ((r : ℕ) (n : Met) → IsRow holes r n → h ≤ r → r < end → (first_of m.1).0 ≤ (first_of n.1).0)
       → (done pieces done' pieces' : List IndexBox)
       → sides_of done' ≡ sides_of done ++ flat_map (λ (x : IndexBox). past m.1 x.sides.items) pieces → sides_of pieces' ≡ flat_map (λ (x : IndexBox). ahead m.1 x.sides.items) pieces
       → IsSplit own holes first end h (sides_of done) (sides_of pieces) → IsSplit own holes first end (h + 1) (sides_of done') (sides_of pieces')
-  split_more h from below m row same some order done pieces done' pieces' made made' old =
-      split_turn own holes first end h from below m row same some order (sides_of done) (sides_of pieces) (sides_of done') (sides_of pieces')
+  split_more h from below m row same order done pieces done' pieces' made made' old =
+      split_turn own holes first end h from below m row same order (sides_of done) (sides_of pieces) (sides_of done') (sides_of pieces')
       (made ∙ ap (λ z. sides_of done ++ z) (flat_of_map (past m.1) (λ (x : IndexBox). x.sides.items) pieces))
       (made' ∙ flat_of_map (ahead m.1) (λ (x : IndexBox). x.sides.items) pieces) old
 

@@ -175,7 +175,7 @@ module _ {P : Type 0} (order : P → P → Ordering) (total : IsTotalOrder order
   box_is : (rows : List (KeyBox P)) (i : ℕ) (x : KeyBox P) → IsRow rows i x → box (boxes_in rows) i ≡ x.1
   box_is rows i x h = let w = map_row (λ (z : KeyBox P). z.1) rows i x h in other_default (boxes_in rows) i [] x.1 w.0 ∙ w.1
 
-  module _ (k : ℕ) (some : 0 < k) (ls : All (λ x. length x.1 ≡ k) left) (rs : All (λ x. length x.1 ≡ k) right) where
+  module _ (k : ℕ) (ls : All (λ x. length x.1 ≡ k) left) (rs : All (λ x. length x.1 ≡ k) right) where
     pub alike : (i j : ℕ) (x y : KeyBox P) → IsRow left i x → IsRow right j y → length x.1 ≡ length y.1
     alike i j x y a b = let e = row_sides k left ls i x a in let f = row_sides k right rs j y b in omega (arith, e, f)
 
@@ -219,8 +219,7 @@ module _ {P : Type 0} (order : P → P → Ordering) (total : IsTotalOrder order
       meets_pair m h =
           let x = h.0 in
           let y = h.1 in
-          let l = row_sides k left ls m.0.0 x h.2 in
-          let f = first_meets x.1 y.1 (alike m.0.0 m.0.1 x y h.2 h.3) (omega (arith, l)) (subst HaveCells (sym h.5) h.6) in
+          let f = first_meets x.1 y.1 (alike m.0.0 m.0.1 x y h.2 h.3) (subst HaveCells (sym h.5) h.6) in
           (is m.0).1 (elim (cases_lt (first_of y.1).0 (first_of x.1).0) [
             | inl u ↦ inr (y, x, h.3, h.2, h.4, omega arith, f.1)
             | inr u ↦ inl (x, y, h.2, h.3, tied_back total x.0 y.0 h.4, u, f.0)

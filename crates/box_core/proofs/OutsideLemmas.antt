@@ -7,7 +7,7 @@ use Rattle.std.proofs.Math.ListN.{length-set}
 use Rattle.packing_core.specs.Live.{span_has, has_place}
 use Rattle.packing_core.specs.Packed.{no_cells}
 use Rattle.packing_core.proofs.AmongLemmas.{among_append}
-use Rattle.box_core.specs.Common.{At, both}
+use Rattle.box_core.specs.Common.{At, both, first_of}
 use Rattle.box_core.specs.Outside.{HasBox, part, beside, narrowed, outside_to, outside}
 use Rattle.box_core.proofs.PlaceLemmas.{span_parts, span_from}
 
@@ -18,6 +18,11 @@ at_side y [] s h l = absurd (omega arith)
 at_side [] (p ∷ ps) s h l = absurd (true≢false (sym h))
 at_side (x ∷ xs) (p ∷ ps) zero h l = span_parts x p (and_parts (span_has x p) (has_place xs ps) h).0
 at_side (x ∷ xs) (p ∷ ps) (suc s) h l = at_side xs ps s (and_parts (span_has x p) (has_place xs ps) h).1 (omega arith)
+
+pub at_first : (y : List (ℕ × ℕ)) (place : List ℕ) → At y place → 0 < length place → ((first_of y).0 ≤ get_or place 0 0) × (get_or place 0 0 < (first_of y).1)
+at_first y [] h l = absurd (omega arith)
+at_first [] (p ∷ ps) h l = absurd (true≢false (sym h))
+at_first (x ∷ xs) (p ∷ ps) h l = span_parts x p (and_parts (span_has x p) (has_place xs ps) h).0
 
 pub at_all : (y : List (ℕ × ℕ)) (place : List ℕ) → length place ≤ length y → ((s : ℕ) → s < length place → ((get_or y s no_cells).0 ≤ get_or place s 0) × (get_or place s 0 < (get_or y s no_cells).1)) → At y place
 at_all y [] e h = refl

@@ -125,10 +125,11 @@ cells_from (x ∷ xs) (p ∷ ps) e h =
     and_from (has_cell x) (list_all has_cell xs) (cell_from x (omega arith)) (cells_from xs ps (omega (arith, e)) w.1)
 
 -- two rows that have a first side with a cell in common
-pub first_meets : (xs ys : List (ℕ × ℕ)) → length xs ≡ length ys → 0 < length xs → HaveCells (common xs ys) → ((first_of ys).0 < (first_of xs).1) × ((first_of xs).0 < (first_of ys).1)
-first_meets [] ys e s h = absurd (omega arith)
-first_meets (x ∷ xs) [] e s h = absurd (omega (arith, e))
-first_meets (x ∷ xs) (y ∷ ys) e s h =
+pub first_meets : (xs ys : List (ℕ × ℕ)) → length xs ≡ length ys → HaveCells (common xs ys) → ((first_of ys).0 < (first_of xs).1) × ((first_of xs).0 < (first_of ys).1)
+first_meets [] [] e h = (omega arith, omega arith)
+first_meets [] (y ∷ ys) e h = absurd (omega (arith, e))
+first_meets (x ∷ xs) [] e h = absurd (omega (arith, e))
+first_meets (x ∷ xs) (y ∷ ys) e h =
     let w = cell_parts (both x y) (and_parts (has_cell (both x y)) (list_all has_cell (common xs ys)) h).0 in
     let l : max x.0 y.0 < min x.1 y.1 = w in
     (omega (arith, clamps), omega (arith, clamps))

@@ -8,9 +8,9 @@ use Rattle.packing_core.specs.Live.{has_place}
 abbrev pub At : List (ℕ × ℕ) → List ℕ → Type 0
 At y place = has_place y place ≡ true
 
--- the first cell of the first side, and the one after its last
+-- the first cell of the first side, and the one after its last; a box without sides, which has one place, is held to have the cell 0
 abbrev pub first_of : List (ℕ × ℕ) → ℕ × ℕ
-first_of y = get_or y 0 no_cells
+first_of y = get_or y 0 (0, 1)
 
 -- the cells of both
 abbrev pub both : ℕ × ℕ → ℕ × ℕ → ℕ × ℕ

@@ -59,7 +59,6 @@ fn are_own(meetings: &[Meeting]) -> bool
 ///
 /// On one side it is enough to look at neighbours. On more sides all meetings are made.
 pub fn are_apart<P: Label>(alloc: Global, sides: usize, rows: &[Key<P>]) -> Result<bool, Memory>
-    requires some { 0 < sides }
     requires sides { All (λ x. length x.1 ≡ sides) rows.now }
     requires cells { All (λ x. HaveCells x.1) rows.now }
     requires order { Ascend P.order rows.now }

@@ -1,11 +1,22 @@
-// The cells that two boxes have in common.
+// The first cells of boxes, and the cells that two boxes have in common.
 ghost use Rattle.std.specs.Prelude.{◌≡◌, ℕ, IfOk, length};
 ghost use Rattle.std.specs.List.{list_all};
-ghost use Rattle.box_core.specs.Common.{both as both_of, common as common_of, has_cell};
+ghost use Rattle.box_core.specs.Common.{both as both_of, common as common_of, first_of, has_cell};
 
 use point_core::Memory;
 use slice_core::Key;
 use std::alloc::Global;
+
+// The first cell of the first side and the cell after its last. A box without sides, which has one place, is held to have
+// the cell 0: so two of one key meet.
+pub fn first_cells(sides: &[(usize, usize)]) -> (usize, usize)
+    ensures { result ≡ first_of sides.now }
+{
+    if sides.is_empty() {
+        return (0, 1);
+    }
+    sides[0]
+}
 
 // The cells of both.
 pub fn both(x: (usize, usize), y: (usize, usize)) -> (usize, usize)

@@ -85,7 +85,6 @@ pub fn joined<K: Label, O: PairRule>(
     rights: &[O::Right],
     rule: &O,
 ) -> Result<Vec<Key<O::Out>>, Memory>
-    requires some { 0 < sides }
     requires left { All (λ x. length x.1 ≡ sides) left.now }
     requires right { All (λ x. length x.1 ≡ sides) right.now }
     requires left_order { Ascend K.order left.now }
@@ -112,7 +111,6 @@ fn packed_joined<K: Label, O: PairRule>(
     rights: &[O::Right],
     rule: &O,
 ) -> Result<Vec<Key<O::Out>>, Memory>
-    requires some { 0 < sides }
     requires left { All (λ x. length x.1 ≡ sides) left.now }
     requires right { All (λ x. length x.1 ≡ sides) right.now }
     requires left_order { Ascend K.order left.now }
@@ -137,7 +135,6 @@ pub fn join<K: Label, O: PairRule>(
     right: Vec<Keyed<K, O::Right>>,
     rule: &O,
 ) -> Result<Vec<Key<O::Out>>, Memory>
-    requires some { 0 < sides }
     requires left { All (λ x. length x.2 ≡ sides) left.items }
     requires right { All (λ x. length x.2 ≡ sides) right.items }
     ensures rows { IfOk result (λ v. (x : KeyBox O.Out) → Among x v.items ↔ IsPackedRow sides (IsJoined (O.means rule.now) left.items right.items) x) }

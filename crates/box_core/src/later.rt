@@ -1,12 +1,12 @@
 // The rows that begin within others of their keys.
 ghost use Rattle.std.specs.Prelude.{◌≡◌, ℕ, ◌+◌, ◌<◌, ◌≤◌, ◌↔◌, ◌⊎◌, length, cond, OnOk, IfOk, ◌++◌, map};
-ghost use Rattle.std.specs.List.{All};
 ghost use Rattle.std.specs.declared.cmp.Ordering.TheVariants.{Equal};
 ghost use Rattle.packing_core.specs.Covering.{Among};
 ghost use Rattle.box_core.specs.Common.{first_of};
 ghost use Rattle.box_core.specs.Rows.{IsRow, Ascend, KeyBox};
 ghost use Rattle.box_core.specs.Meetings.{IsLater, turned};
 
+use crate::common::first_cells;
 use crate::search::count_before;
 use point_core::{Label, Memory};
 use slice_core::Key;
@@ -15,14 +15,12 @@ use std::alloc::Global;
 // The numbers of the rows of the row's key that begin within it, or, if `strict`, within it and after its first cell:
 // from the first up to before the second.
 fn range_within<P: Label>(row: &Key<P>, rows: &[Key<P>], strict: bool) -> (usize, usize)
-    requires side { 0 < length row.now.1 }
-    requires sides { All (λ x. 0 < length x.1) rows.now }
     requires order { Ascend P.order rows.now }
     ensures within { result.1 ≤ length rows.now }
     ensures rows { (j : ℕ) (y : KeyBox P) → IsRow rows.now j y → (result.0 ≤ j) × (j < result.1) ↔
         (P.order y.0 row.now.0 ≡ Equal) × (cond strict ((first_of row.now.1).0 + 1) (first_of row.now.1).0 ≤ (first_of y.1).0) × ((first_of y.1).0 < (first_of row.now.1).1) }
 {
-    let (begin, end) = row.sides[0];
+    let (begin, end) = first_cells(row.sides.as_slice());
     if end <= begin {
         return (0, 0);
     }
@@ -54,8 +52,6 @@ pub fn later<P: Label>(
     rows: &[Key<P>],
     strict: bool,
 ) -> Result<Vec<(usize, usize)>, Memory>
-    requires from { All (λ x. 0 < length x.1) from.now }
-    requires rows { All (λ x. 0 < length x.1) rows.now }
     requires order { Ascend P.order rows.now }
     ensures { IfOk result (λ v. (p : ℕ × ℕ) → Among p v.items ↔ IsLater P.order strict from.now rows.now p) }
 {

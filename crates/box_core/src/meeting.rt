@@ -83,7 +83,6 @@ pub fn overlaps<P: Label>(
     left: &[Key<P>],
     right: &[Key<P>],
 ) -> Result<Vec<Meeting>, Memory>
-    requires some { 0 < sides }
     requires left { All (λ x. length x.1 ≡ sides) left.now }
     requires right { All (λ x. length x.1 ≡ sides) right.now }
     requires left_order { Ascend P.order left.now }

@@ -24,7 +24,6 @@ fn packed_shared<K: Label, P: Label>(
     labels: &[P],
     right: &[Key<K>],
 ) -> Result<Vec<Key<P>>, Memory>
-    requires some { 0 < sides }
     requires left { All (λ x. length x.1 ≡ sides) left.now }
     requires right { All (λ x. length x.1 ≡ sides) right.now }
     requires left_order { Ascend K.order left.now }
@@ -47,7 +46,6 @@ fn packed_rest<K: Label, P: Label>(
     labels: &[P],
     right: &[Key<K>],
 ) -> Result<Vec<Key<P>>, Memory>
-    requires some { 0 < sides }
     requires left { All (λ x. length x.1 ≡ sides) left.now }
     requires right { All (λ x. length x.1 ≡ sides) right.now }
     requires left_order { Ascend K.order left.now }
@@ -69,7 +67,6 @@ pub fn matching<K: Label, P: Label>(
     left: Vec<Keyed<K, P>>,
     right: Vec<Key<K>>,
 ) -> Result<Vec<Key<P>>, Memory>
-    requires some { 0 < sides }
     requires left { All (λ x. length x.2 ≡ sides) left.items }
     requires right { All (λ x. length x.1 ≡ sides) right.items }
     ensures rows { IfOk result (λ v. (x : KeyBox P) → Among x v.items ↔ IsPackedRow sides (IsMatched left.items right.items) x) }
@@ -95,7 +92,6 @@ pub fn not_matching<K: Label, P: Label>(
     left: Vec<Keyed<K, P>>,
     right: Vec<Key<K>>,
 ) -> Result<Vec<Key<P>>, Memory>
-    requires some { 0 < sides }
     requires left { All (λ x. length x.2 ≡ sides) left.items }
     requires right { All (λ x. length x.1 ≡ sides) right.items }
     ensures rows { IfOk result (λ v. (x : KeyBox P) → Among x v.items ↔ IsPackedRow sides (IsUnmatched left.items right.items) x) }
@@ -121,7 +117,6 @@ pub fn intersect<P: Label>(
     left: Vec<Key<P>>,
     right: Vec<Key<P>>,
 ) -> Result<Vec<Key<P>>, Memory>
-    requires some { 0 < sides }
     requires left { All (λ x. length x.1 ≡ sides) left.items }
     requires right { All (λ x. length x.1 ≡ sides) right.items }
     ensures rows { IfOk result (λ v. (x : KeyBox P) → Among x v.items ↔ IsPackedRow sides (InBoth left.items right.items) x) }
@@ -140,7 +135,6 @@ pub fn minus<P: Label>(
     left: Vec<Key<P>>,
     right: Vec<Key<P>>,
 ) -> Result<Vec<Key<P>>, Memory>
-    requires some { 0 < sides }
     requires left { All (λ x. length x.1 ≡ sides) left.items }
     requires right { All (λ x. length x.1 ≡ sides) right.items }
     ensures rows { IfOk result (λ v. (x : KeyBox P) → Among x v.items ↔ IsPackedRow sides (InFirst left.items right.items) x) }

@@ -8,7 +8,7 @@ ghost use Rattle.box_core.specs.Meetings.{Met};
 ghost use Rattle.box_core.specs.Outside.{part, beside, outside, past, ahead, HasBox, IsClear};
 ghost use Rattle.box_core.specs.Rows.{IsRow};
 
-use crate::common::both;
+use crate::common::{both, first_cells};
 use crate::meeting::Meeting;
 use point_core::Memory;
 use slice_core::{IndexBox, Key};
@@ -79,11 +79,10 @@ fn push_piece(
     hole: &Meeting,
 ) -> Result<(), Memory>
     requires same { length piece.sides.items ≡ length hole.now.1 }
-    requires some { 0 < length hole.now.1 }
     ensures done { OnOk result (sides_of done.new.items ≡ sides_of done.old.items ++ past hole.now.1 piece.sides.items) }
     ensures next { OnOk result (sides_of next.new.items ≡ sides_of next.old.items ++ ahead hole.now.1 piece.sides.items) }
 {
-    if piece.sides[0].1 <= hole.sides[0].0 {
+    if first_cells(piece.sides.as_slice()).1 <= first_cells(hole.sides.as_slice()).0 {
         done.push(piece)?;
     } else {
         push_outside(alloc, next, piece, hole)?;
@@ -99,7 +98,6 @@ fn opened(
     hole: &Meeting,
 ) -> Result<Vec<IndexBox>, Memory>
     requires same { All (λ x. length x.sides.items ≡ length hole.now.1) pieces.items }
-    requires some { 0 < length hole.now.1 }
     ensures done { OnOk result (sides_of done.new.items ≡ sides_of done.old.items ++ flat_map (λ x. past hole.now.1 x.sides.items) pieces.items) }
     ensures next { IfOk result (λ v. sides_of v.items ≡ flat_map (λ x. ahead hole.now.1 x.sides.items) pieces.items) }
 {
@@ -142,7 +140,6 @@ pub fn less<P>(
 ) -> Result<Vec<IndexBox>, Memory>
     requires range { first ≤ end }
     requires within { end ≤ length holes.now }
-    requires some { 0 < length row.now.1 }
     requires same { (q : ℕ) (m : Met) → IsRow holes.now q m → first ≤ q → q < end → length m.1 ≡ length row.now.1 }
     requires order { (q r : ℕ) (m n : Met) → IsRow holes.now q m → IsRow holes.now r n → first ≤ q → q ≤ r → r < end → (first_of m.1).0 ≤ (first_of n.1).0 }
     ensures places { IfOk result (λ v. (place : List ℕ) → length place ≡ length row.now.1 →

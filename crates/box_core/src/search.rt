@@ -1,27 +1,25 @@
 // Where rows in order stop being before a key and a cell.
 ghost use Rattle.std.specs.Prelude.{◌≡◌, ℕ, ◌<◌, ◌≤◌, ◌↔◌, length, IsTrue};
-ghost use Rattle.std.specs.List.{All};
 ghost use Rattle.box_core.specs.Rows.{IsRow, IsBefore, Ascend, KeyBox};
 
+use crate::common::first_cells;
 use point_core::Label;
 use slice_core::Key;
 use std::cmp::Ordering;
 
 // Whether the row is of a lesser key, or of the same and begins before the cell.
 fn is_before<P: Label>(row: &Key<P>, key: &P, cell: usize) -> bool
-    requires { 0 < length row.now.1 }
     ensures { IsTrue result ↔ IsBefore P.order key.now cell row.now }
 {
     match row.label.compare(key) {
         Ordering::Less => true,
-        Ordering::Equal => row.sides[0].0 < cell,
+        Ordering::Equal => first_cells(row.sides.as_slice()).0 < cell,
         Ordering::Greater => false,
     }
 }
 
 // How many rows are before the key and the cell, by halving.
 pub fn count_before<P: Label>(rows: &[Key<P>], key: &P, cell: usize) -> usize
-    requires sides { All (λ x. 0 < length x.1) rows.now }
     requires order { Ascend P.order rows.now }
     ensures within { result ≤ length rows.now }
     ensures before { (i : ℕ) (x : KeyBox P) → IsRow rows.now i x → i < result → IsBefore P.order key.now cell x }

@@ -50,7 +50,6 @@ pub fn shared<P: Label, Q: Label>(
     labels: &[Q],
     right: &[Key<P>],
 ) -> Result<Vec<Key<Q>>, Memory>
-    requires some { 0 < sides }
     requires left { All (λ x. length x.1 ≡ sides) left.now }
     requires right { All (λ x. length x.1 ≡ sides) right.now }
     requires left_order { Ascend P.order left.now }

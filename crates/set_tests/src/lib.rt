@@ -1,6 +1,7 @@
 //! Relations of one and of two interval attributes under the operators point by point.
 #![tactic(auto)]
 
+mod boxes;
 mod two;
 
 ghost use Rattle.std.specs.Prelude.{◌≡◌, [], ◌∷◌, IfOk};

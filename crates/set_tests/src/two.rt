@@ -154,6 +154,33 @@ pub fn by_none<L: Ledger>(
     operated::<L>(alloc, &p, &[], blank)
 }
 
+/// Intervals of D under one label: `count` of them, each one point later than the one before.
+pub fn ladder(alloc: Global, first: (i64, i64), count: i64) -> Result<Vec<Ends>, Memory> {
+    let mut out = Vec::new(alloc);
+    for i in 0..count {
+        let ends = (first.0.saturating_add(i), first.1.saturating_add(i));
+        out.push((ends, (1, 1)))?;
+    }
+    Ok(out)
+}
+
+/// Two ladders under USING of the first attribute: where all rows of one label overlap, in both relations.
+pub fn by_ladders<L: Ledger>(
+    alloc: Global,
+    left: (i64, i64),
+    right: (i64, i64),
+    count: i64,
+    blank: Blank,
+) -> Result<Given, RelationRefuse>
+    requires name { blank.name ≡ L.name }
+    requires parts { blank.parts ≡ L.parts }
+    requires one { blank.parts ≡ 1 }
+{
+    let lefts = ladder(alloc, left, count)?;
+    let rights = ladder(alloc, right, count)?;
+    by_first::<L>(alloc, lefts.as_slice(), rights.as_slice(), blank)
+}
+
 /// Whether what the operators gave is what is wanted.
 pub fn is_wanted(given: &Given, wanted: &Pair) -> bool {
     given.proper
@@ -221,6 +248,28 @@ mod tests {
         let left = [((1, 4), (1, 1)), ((3, 6), (1, 1))];
         let found = by_none::<Brand>(alloc, &left, &[((1, 4), (1, 1))], Blank::new(1));
         let wanted = relations(alloc, &[((1, 4), (1, 1))], &[((3, 6), (1, 1))]);
+        match (found, wanted) {
+            (Ok(found), Ok(wanted)) => assert!(rt; is_wanted(&found, &wanted)),
+            _ => assert!(rt; false),
+        }
+        Ok(())
+    }
+
+    #[test]
+    fn meets_many_rows_of_one_label(rt: HostRuntime) -> Result<(), Fail> {
+        let alloc = rt.alloc();
+        let found = by_ladders::<Brand>(
+            alloc,
+            (0, 1_000_000),
+            (500_000, 600_000),
+            50_000,
+            Blank::new(1),
+        );
+        let wanted = relations(
+            alloc,
+            &[((500_000, 649_999), (1, 1))],
+            &[((0, 499_999), (1, 1)), ((650_000, 1_049_999), (1, 1))],
+        );
         match (found, wanted) {
             (Ok(found), Ok(wanted)) => assert!(rt; is_wanted(&found, &wanted)),
             _ => assert!(rt; false),

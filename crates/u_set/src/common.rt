@@ -16,11 +16,12 @@ ghost use Rattle.cell_core.specs.declared.boxes.CellRefuse.TheVariants.{Op as Of
 ghost use Rattle.u_set.specs.Boxes.{AreIntervals, types_at, boxed};
 
 use crate::boxes::to_boxes;
+use crate::cells::packed_cells;
 use crate::positions::types_at;
 use crate::refusals::refusal;
 use crate::rows::from_boxes;
 use box_core::intersect;
-use cell_core::{BoxRow, CellRefuse, CellRows, back, rows_over_cells};
+use cell_core::{BoxRow, CellRefuse, CellRows, back};
 use point_core::{AnyType, Memory, PointType, Steps};
 use std::alloc::Global;
 use std::sync::ledger::Ledger;
@@ -34,7 +35,6 @@ fn common_boxes<T: PointType, L: Ledger>(
     right: &[BoxRow<T, Row>],
     steps: &mut Steps<L>,
 ) -> Result<Vec<BoxRow<T, Row>>, Memory>
-    requires some { 0 < length types.now }
     requires left { All (λ b. IsBox T.IsPoint types.now b.1) left.now }
     requires right { All (λ b. IsBox T.IsPoint types.now b.1) right.now }
     ensures rows { IfOk result (λ v. map (row_numbers T.number_of) v.items ≡ packed_boxes row_cmp (length types.now) (common_of (boxed_cmp row_cmp)
@@ -47,13 +47,13 @@ fn common_boxes<T: PointType, L: Ledger>(
         sides,
         left: l,
         right: r,
-    } = rows_over_cells(alloc, types, left, right, steps)?;
+    } = packed_cells(alloc, types, left, right, steps)?;
     let form = intersect(alloc, types.len(), l, r)?;
     let answer = back(alloc, types, sides.as_slice(), form)?;
     Ok(answer)
 }
 
-/// What both have in common, packed: at each point the labels of both. There is a side at least.
+/// What both have in common, packed: at each point the labels of both.
 ///
 /// `Limit` comes exactly where the packed boxes are more than `limit`.
 pub fn u_intersect<T: PointType, L: Ledger>(
@@ -64,7 +64,6 @@ pub fn u_intersect<T: PointType, L: Ledger>(
     limit: usize,
     steps: &mut Steps<L>,
 ) -> Result<Vec<BoxRow<T, Row>>, CellRefuse>
-    requires some { 0 < length types.now }
     requires left { All (λ b. IsBox T.IsPoint types.now b.1) left.now }
     requires right { All (λ b. IsBox T.IsPoint types.now b.1) right.now }
     ensures rows { IfOk result (λ v. map (row_numbers T.number_of) v.items ≡ packed_boxes row_cmp (length types.now) (common_of (boxed_cmp row_cmp)
@@ -85,7 +84,7 @@ pub fn u_intersect<T: PointType, L: Ledger>(
     Ok(answer)
 }
 
-// The packed boxes of two relations, on one attribute at least.
+// The packed boxes of what two relations have in common.
 fn common_form<L: Ledger>(
     alloc: Global,
     left: &Relation,
@@ -93,7 +92,6 @@ fn common_form<L: Ledger>(
     acl: &[usize],
     steps: &mut Steps<L>,
 ) -> Result<Vec<BoxRow<AnyType, Row>>, CellRefuse>
-    requires some { 0 < length acl.now }
     requires heading { left.now.heading ≡ right.now.heading }
     requires intervals { AreIntervals left.now.heading acl.now }
     ensures relation { IsRelation left.now }
@@ -119,7 +117,7 @@ fn common_form<L: Ledger>(
     )
 }
 
-// The intersection under USING of one attribute at least, by boxes.
+// The intersection under USING by boxes.
 fn intersected_by_boxes<L: Ledger>(
     alloc: Global,
     left: &Relation,
@@ -127,7 +125,6 @@ fn intersected_by_boxes<L: Ledger>(
     acl: &[usize],
     steps: &mut Steps<L>,
 ) -> Result<Relation, RowsRefuse>
-    requires some { 0 < length acl.now }
     requires heading { left.now.heading ≡ right.now.heading }
     requires intervals { AreIntervals left.now.heading acl.now }
     ensures rows { let rows = packed acl.now (intersected (unpacked acl.now left.now.rows) (unpacked acl.now right.now.rows)) in

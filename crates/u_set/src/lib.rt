@@ -2,6 +2,7 @@
 #![tactic(auto)]
 
 mod boxes;
+mod cells;
 mod common;
 mod comparison;
 mod difference;

@@ -1,13 +1,12 @@
-use Rattle.std.proofs.Common.{◌≡◌, ◌<◌, ◌≤◌, ◌↔◌, ◌⊎◌, ℕ, List, [], ◌∷◌, Bool, inl, inr, arith, ap, sym, subst, length, map, ◌∙◌, Some, Ok, Err}
+use Rattle.std.proofs.Common.{◌≡◌, ◌<◌, ◌≤◌, ◌↔◌, ◌⊎◌, ℕ, List, [], ◌∷◌, Bool, inl, inr, arith, ap, subst, length, ◌∙◌, Some, Ok, Err}
 use Rattle.packing_core.specs.Covering.{Among}
-use Rattle.point_core.specs.declared.fault.Fault.{Fault}
 use Rattle.slice_core.specs.LeastFault.{IsLeast}
 use Rattle.slice_core.specs.PackedRows.{HasRow}
 use Rattle.slice_core.proofs.Turns.{least_kept, least_more}
 use Rattle.std.specs.declared.cmp.Ordering.TheVariants.{Equal}
-use Rattle.box_core.specs.Common.{first_of, EndsBy}
+use Rattle.box_core.specs.Common.{first_of}
 use Rattle.box_core.specs.Rows.{IsRow, KeyBox}
-use Rattle.box_core.specs.Tallies.{IsIn, IsPart, OfTallied, IsTallyFault}
+use Rattle.box_core.specs.Tallies.{IsPart, OfTallied, IsTallyFault}
 use Rattle.box_core.proofs.CoveredLemmas.{all_from}
 use Rattle.box_core.proofs.GroupLemmas.{split_first, split_more, map_length}
 use Rattle.box_core.proofs.KeyLemmas.{DoneMarks, part_of_row, tallied_more, fault_more, marks_none, marks_all, rows_none, through}

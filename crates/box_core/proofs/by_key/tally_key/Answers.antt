@@ -1,4 +1,4 @@
-use Rattle.std.proofs.Common.{◌≡◌, ◌<◌, ◌≤◌, ℕ, List, inl, inr, sym, subst, length, get_or}
+use Rattle.std.proofs.Common.{◌<◌, ◌≤◌, ℕ, List, inl, inr, sym, subst, length, get_or}
 use Rattle.std.specs.List.{All}
 use Rattle.packing_core.specs.Covering.{Among}
 use Rattle.box_core.specs.Tallies.{span_at, AreBy}

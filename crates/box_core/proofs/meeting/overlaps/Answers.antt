@@ -14,10 +14,10 @@ meetings-requires-clause-pairs g c =
     let others = subst (λ (xs : List (ℕ × ℕ)). (p : ℕ × ℕ) → Among p xs ↔ IsLater o true right left p) (sym c.as_slice.ensures.value) c.in_ok-others.ensures in
     let is = pairs_are o t left right c.in_ok-pairs.pairs.items c.as_slice.result.now c.push_turned.new.out.items c.sort.new.self.items c.in_ok-push_turned.ensures c.in_ok-sort.ensures.permutation c.in_ok-pairs.ensures others in
     subst (All (λ (p : ℕ × ℕ). (p.0 < length left) × (p.1 < length right))) (sym c.as_slice-2.ensures.value)
-    (pairs_below o t left right c.args.sides c.requires.some c.requires.left c.requires.right c.sort.new.self.items is)
+    (pairs_below o t left right c.args.sides c.requires.left c.requires.right c.sort.new.self.items is)
 
 pub meetings-requires-clause-sides : goal.meetings-requires-clause-sides
-meetings-requires-clause-sides g c = alike g.P.Label.order g.met.P.Label.total c.args.left.now c.args.right.now c.args.sides c.requires.some c.requires.left c.requires.right
+meetings-requires-clause-sides g c = alike g.P.Label.order g.met.P.Label.total c.args.left.now c.args.right.now c.args.sides c.requires.left c.requires.right
 
 pub returns-clause-members : goal.returns-clause-members
 returns-clause-members g c =
@@ -29,7 +29,7 @@ returns-clause-members g c =
     let is = pairs_are o t left right c.in_ok-pairs.pairs.items c.as_slice.result.now c.push_turned.new.out.items c.sort.new.self.items c.in_ok-push_turned.ensures c.in_ok-sort.ensures.permutation c.in_ok-pairs.ensures others in
     let e : c.in_ok-out.out.items ≡ flat_map (met (boxes_in left) (boxes_in right)) c.sort.new.self.items = c.in_ok-out.ensures ∙ ap (flat_map (met (boxes_in left) (boxes_in right))) c.as_slice-2.ensures.value in
     subst (λ (ms : List Met). (m : Met) → Among m ms ↔ IsMeeting o left right m) (sym e)
-    (all_meetings o t left right c.args.sides c.requires.some c.requires.left c.requires.right c.sort.new.self.items is)
+    (all_meetings o t left right c.args.sides c.requires.left c.requires.right c.sort.new.self.items is)
 
 pub returns-clause-order : goal.returns-clause-order
 returns-clause-order g c =
@@ -41,7 +41,7 @@ returns-clause-order g c =
     let is = pairs_are o t left right c.in_ok-pairs.pairs.items c.as_slice.result.now c.push_turned.new.out.items c.sort.new.self.items c.in_ok-push_turned.ensures c.in_ok-sort.ensures.permutation c.in_ok-pairs.ensures others in
     let e : c.in_ok-out.out.items ≡ flat_map (met (boxes_in left) (boxes_in right)) c.sort.new.self.items = c.in_ok-out.ensures ∙ ap (flat_map (met (boxes_in left) (boxes_in right))) c.as_slice-2.ensures.value in
     subst StandByLeft (sym e)
-    (meetings_stand o t left right c.args.sides c.requires.some c.requires.left c.requires.right c.sort.new.self.items is c.requires.right_order c.in_ok-sort.ensures.sorted)
+    (meetings_stand o t left right c.args.sides c.requires.left c.requires.right c.sort.new.self.items is c.requires.right_order c.in_ok-sort.ensures.sorted)
 
 pub returns-clause-places : goal.returns-clause-places
-returns-clause-places g c = meeting_places g.P.Label.order g.met.P.Label.total c.args.left.now c.args.right.now c.args.sides c.requires.some c.requires.left c.requires.right c.in_ok-out.out.items (returns-clause-members g c)
+returns-clause-places g c = meeting_places g.P.Label.order g.met.P.Label.total c.args.left.now c.args.right.now c.args.sides c.requires.left c.requires.right c.in_ok-out.out.items (returns-clause-members g c)

@@ -9,12 +9,12 @@ use Rattle.box_core.proofs.outside.less.Goals as goal
 pub loop-h-init : goal.loop-h-init
 loop-h-init g c = split_start c.args.row.now.1 c.args.holes.now c.args.first c.args.end c.new-done.result.items c.in_ok-pieces.pieces.items c.new-done.ensures.items c.in_ok-pieces.ensures
 
-pub opened-requires-clause-same : goal.opened-requires-clause-same
-opened-requires-clause-same g c =
+pub opened-requires : goal.opened-requires
+opened-requires g c =
     let m = c.index-holes-h.result in
     let row : IsRow c.args.holes.now c.loop-h.h m = (omega arith, sym c.index-holes-h.is) in
     let e = c.requires.same c.loop-h.h m row (omega arith) (omega arith) in
-    subst (λ n. All (λ (x : IndexBox). length x.sides.items ≡ n) c.loop-h.pieces.items) (sym e) (all_sides c.loop-h.pieces.items (length c.args.row.now.1) c.loop-h.invariant.sides)
+    record { same = subst (λ n. All (λ (x : IndexBox). length x.sides.items ≡ n) c.loop-h.pieces.items) (sym e) (all_sides c.loop-h.pieces.items (length c.args.row.now.1) c.loop-h.invariant.sides) }
 
 pub loop-h-preserved : goal.loop-h-preserved
 loop-h-preserved g c =
@@ -22,7 +22,7 @@ loop-h-preserved g c =
     let h : ℕ = c.loop-h.h in
     let row : IsRow c.args.holes.now h m = (omega arith, sym c.index-holes-h.is) in
     let from : c.args.first ≤ h = omega arith in
-    split_more c.args.row.now.1 c.args.holes.now c.args.first c.args.end h from (omega arith) m row (c.requires.same h m row from (omega arith)) c.requires.some
+    split_more c.args.row.now.1 c.args.holes.now c.args.first c.args.end h from (omega arith) m row (c.requires.same h m row from (omega arith))
     (λ r n a b d. c.requires.order h r m n row a from b d)
     c.loop-h.done.items c.loop-h.pieces.items c.opened.new.done.items c.in_ok-pieces-2.pieces.items c.in_ok-pieces-2.ensures.done c.in_ok-pieces-2.ensures.next c.loop-h.invariant
 

@@ -1,4 +1,4 @@
-use Rattle.std.proofs.Common.{◌≡◌, rules}
+use Rattle.std.proofs.Common.{rules}
 use Rattle.std.specs.Int.{w64}
 use mir.Val.{SFits}
 use Rattle.box_core.proofs.TotalLemmas.{count_some, leave_room, left_total}

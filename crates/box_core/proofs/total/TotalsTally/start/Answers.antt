@@ -1,4 +1,4 @@
-use Rattle.std.proofs.Common.{◌≡◌, arith}
+use Rattle.std.proofs.Common.{arith}
 use Rattle.box_core.proofs.TotalLemmas.{total_none}
 use Rattle.box_core.proofs.total.TotalsTally.start.Goals as goal
 
