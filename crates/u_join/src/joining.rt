@@ -34,7 +34,6 @@ fn joined_form<T: PointType, O: PairRule<Left = Row, Right = Row, Out = Row>, L:
     rule: &O,
     steps: &mut Steps<L>,
 ) -> Result<Vec<BoxRow<T, Row>>, Memory>
-    requires some { 0 < length types.now }
     requires left { All (λ b. IsBox T.IsPoint types.now b.1) left.now }
     requires right { All (λ b. IsBox T.IsPoint types.now b.1) right.now }
     ensures rows { IfOk result (λ v. map (row_numbers T.number_of) v.items ≡ packed_boxes row_cmp (length types.now)
@@ -74,7 +73,6 @@ pub(crate) fn joined_in_limit<
     limit: usize,
     steps: &mut Steps<L>,
 ) -> Result<Vec<BoxRow<T, Row>>, CellRefuse>
-    requires some { 0 < length types.now }
     requires left { All (λ b. IsBox T.IsPoint types.now b.1) left.now }
     requires right { All (λ b. IsBox T.IsPoint types.now b.1) right.now }
     ensures rows { IfOk result (λ v. map (row_numbers T.number_of) v.items ≡ packed_boxes row_cmp (length types.now)
@@ -110,7 +108,6 @@ pub fn u_join<T: PointType, L: Ledger>(
     limit: usize,
     steps: &mut Steps<L>,
 ) -> Result<Vec<BoxRow<T, Row>>, CellRefuse>
-    requires some { 0 < length types.now }
     requires left { All (λ b. IsBox T.IsPoint types.now b.1) left.now }
     requires right { All (λ b. IsBox T.IsPoint types.now b.1) right.now }
     ensures rows { IfOk result (λ v. map (row_numbers T.number_of) v.items ≡ packed_boxes row_cmp (length types.now)

@@ -29,7 +29,7 @@ use std::sync::ledger::Ledger;
 use u_set::{from_boxes, refusal, to_boxes, types_at};
 use value_core::{Heading, MOST_ROWS, Relation, Row, RowsRefuse};
 
-// The packed boxes of the joined rows, on one attribute at least. Their labels are in the order of the joined heading.
+// The packed boxes of the joined rows. Their labels are in the order of the joined heading.
 fn joining_boxes<L: Ledger>(
     alloc: Global,
     heading: &Heading,
@@ -39,7 +39,6 @@ fn joining_boxes<L: Ledger>(
     there: &[usize],
     steps: &mut Steps<L>,
 ) -> Result<Vec<BoxRow<AnyType, Row>>, CellRefuse>
-    requires some { 0 < length here.now }
     requires same { attributes_at here.now left.now.heading ≡ attributes_at there.now right.now.heading }
     requires left { AreIntervals left.now.heading here.now }
     requires right { AreIntervals right.now.heading there.now }
@@ -93,7 +92,6 @@ fn joined_by_boxes<L: Ledger>(
     there: &[usize],
     steps: &mut Steps<L>,
 ) -> Result<Relation, RowsRefuse>
-    requires some { 0 < length here.now }
     requires heading { heading.now ≡ joined_heading left.now.heading right.now.heading }
     requires kinds { HaveEqualKinds left.now.heading right.now.heading }
     requires listed { attributes_at acl.now heading.now ≡ attributes_at here.now left.now.heading }

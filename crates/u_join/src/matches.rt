@@ -26,7 +26,7 @@ use std::sync::ledger::Ledger;
 use u_set::{from_boxes, refusal, to_boxes, types_at};
 use value_core::{MOST_ROWS, Relation, Row, RowsRefuse};
 
-// The packed boxes of the left rows that agree with a right one, on one attribute at least.
+// The packed boxes of the left rows that agree with a right one.
 fn matching_boxes<L: Ledger>(
     alloc: Global,
     left: &Relation,
@@ -35,7 +35,6 @@ fn matching_boxes<L: Ledger>(
     there: &[usize],
     steps: &mut Steps<L>,
 ) -> Result<Vec<BoxRow<AnyType, Row>>, CellRefuse>
-    requires some { 0 < length here.now }
     requires same { attributes_at here.now left.now.heading ≡ attributes_at there.now right.now.heading }
     requires left { AreIntervals left.now.heading here.now }
     requires right { AreIntervals right.now.heading there.now }
@@ -71,7 +70,7 @@ fn matching_boxes<L: Ledger>(
     )
 }
 
-// The packed boxes of the left rows that agree with no right one, on one attribute at least.
+// The packed boxes of the left rows that agree with no right one.
 fn not_matching_boxes<L: Ledger>(
     alloc: Global,
     left: &Relation,
@@ -80,7 +79,6 @@ fn not_matching_boxes<L: Ledger>(
     there: &[usize],
     steps: &mut Steps<L>,
 ) -> Result<Vec<BoxRow<AnyType, Row>>, CellRefuse>
-    requires some { 0 < length here.now }
     requires same { attributes_at here.now left.now.heading ≡ attributes_at there.now right.now.heading }
     requires left { AreIntervals left.now.heading here.now }
     requires right { AreIntervals right.now.heading there.now }
@@ -125,7 +123,6 @@ fn matched_by_boxes<L: Ledger>(
     there: &[usize],
     steps: &mut Steps<L>,
 ) -> Result<Relation, RowsRefuse>
-    requires some { 0 < length here.now }
     requires kinds { HaveEqualKinds left.now.heading right.now.heading }
     requires same { attributes_at here.now left.now.heading ≡ attributes_at there.now right.now.heading }
     requires left { AreIntervals left.now.heading here.now }
@@ -150,7 +147,6 @@ fn unmatched_by_boxes<L: Ledger>(
     there: &[usize],
     steps: &mut Steps<L>,
 ) -> Result<Relation, RowsRefuse>
-    requires some { 0 < length here.now }
     requires kinds { HaveEqualKinds left.now.heading right.now.heading }
     requires same { attributes_at here.now left.now.heading ≡ attributes_at there.now right.now.heading }
     requires left { AreIntervals left.now.heading here.now }
