@@ -17,9 +17,9 @@ use value_core::{Row, Value};
 
 /// The values of a label, and the ends of the sides.
 #[derive(Clone, Copy)]
-pub struct Plain<'a> {
-    pub label: &'a [i64],
-    pub sides: &'a [(i64, i64)],
+pub struct Plain {
+    pub label: &'static [i64],
+    pub sides: &'static [(i64, i64)],
 }
 
 /// What is done with left and right boxes.
@@ -33,8 +33,8 @@ pub enum Operator {
 /// Left and right rows, and the positions that their labels share.
 #[derive(Clone, Copy)]
 pub struct Operands<'a> {
-    pub left: &'a [Plain<'a>],
-    pub right: &'a [Plain<'a>],
+    pub left: &'a [Plain],
+    pub right: &'a [Plain],
     pub shared: &'a [(usize, usize)],
 }
 
