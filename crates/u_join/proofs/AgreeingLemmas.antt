@@ -1,17 +1,14 @@
 -- Rows that agree, by their boxes: the common attributes that are listed are sides of the boxes, and the others stand in the labels.
-use Rattle.std.proofs.Common.{◌≡◌, ◌↔◌, inl, inr, ℕ, Bool, true, false, not, List, [], ◌∷◌, map, length, get_or, refl, sym, ap, ap₂, ◌∙◌, subst}
+use Rattle.std.proofs.Common.{◌≡◌, ◌↔◌, ℕ, true, false, not, List, map, length, refl, sym, ap, ◌∙◌}
 use Rattle.std.specs.Bool.{IsTrue}
-use Rattle.std.specs.List.{filter}
 use Rattle.base_core.proofs.SetLemmas.{In}
 use Rattle.base_core.proofs.MemberLemmas.{In-filter, eq_by_cmp-≡}
 use Rattle.base_core.proofs.SetOperatorLemmas.{same_tests}
-use Rattle.interval_core.specs.Members.{Span}
 use Rattle.point_core.specs.Points.{line_of}
 use Rattle.value_core.specs.Attributes.{value_at, span_of, among}
 use Rattle.value_core.specs.Headings.{has_name}
 use Rattle.value_core.specs.Order.{row_total, row_separates}
-use Rattle.value_core.specs.Values.{Name, Value, Heading, Row, interval, truth, row_cmp}
-use Rattle.value_core.specs.declared.kind.Kind.{Kind}
+use Rattle.value_core.specs.Values.{Name, Heading, Row, interval, row_cmp}
 use Rattle.relation_core.specs.Agreement.{names_of, position_of, common_names, common_positions, part_of, agree}
 use Rattle.relation_core.specs.Parts.{kind_at}
 use Rattle.relation_core.proofs.FilterLemmas.{filter_same}
@@ -21,10 +18,9 @@ use Rattle.u_set.proofs.BoxLemmas.{value_at-get}
 use Rattle.u_set.proofs.BridgeLemmas.{box_cmp, box_total, box_separates}
 use Rattle.u_row.specs.Kept.{inner}
 use Rattle.u_row.specs.Labels.{relabelled}
-use Rattle.u_row.proofs.BeneathLemmas.{in_among}
 use Rattle.u_row.proofs.LabelLemmas.{map_in, map_twice}
 use Rattle.u_join.specs.Pairs.{meet}
-use Rattle.u_join.proofs.NameLemmas.{maps_agree, by_names, new_names, label_by_names, listed_name, to_name, of_name}
+use Rattle.u_join.proofs.NameLemmas.{maps_agree, by_names, new_names, count_new, label_by_names, listed_name, to_name, of_name}
 
 -- the sides of a row's box are its values beside the listed names
 pub sides_by_names : (heading : Heading) (row : Row) (names : List Name) → spans_at (map (position_of heading) names) row ≡ map (λ n. span_of (value_of heading row n)) names
@@ -66,6 +62,10 @@ module _ (left right : Heading) (names : List Name) (in_left : (n : Name) → In
       filter_same (λ n. not (among here (position_of left n))) (λ n. not (among there (position_of right n))) common (λ n i.
       let w = in_both n i in
       ap not (listed_alike n w.0 w.1))
+
+  -- both have as many common names that are not listed
+  pub keys_alike : length here_key ≡ length there_key
+  keys_alike = count_new here left common ∙ ap (λ (ns : List Name). length ns) new_alike ∙ sym (count_new there right common)
 
   module _ (kinds : (n : Name) → In n names → kind_at left (position_of left n) ≡ kind_at right (position_of right n))
       (x y : Row) (shaped : IsShaped left here x) (shaped' : IsShaped right there y) where

@@ -1,22 +1,20 @@
 -- Joined unpacked rows, packed, are the joined boxes: a joined row's box is that of its two parts.
-use Rattle.std.proofs.Common.{◌≡◌, ◌↔◌, ◌⊎◌, inl, inr, ℕ, zero, suc, ◌+◌, ◌<◌, Bool, true, false, ◌||◌, List, [], ◌∷◌, ◌++◌, map, length, get_or, refl, sym, ap, ap₂, ◌∙◌, subst, arith}
-use Rattle.std.specs.Prelude.{nat_eq}
+use Rattle.std.proofs.Common.{◌≡◌, ◌↔◌, ◌⊎◌, inl, inr, ℕ, zero, suc, ◌+◌, ◌<◌, true, false, ◌||◌, List, [], ◌∷◌, ◌++◌, map, length, get_or, refl, sym, ap, ap₂, ◌∙◌, subst, arith}
 use Rattle.std.specs.Bool.{IsTrue}
-use Rattle.std.specs.List.{filter, list_any}
+use Rattle.std.specs.List.{filter}
 use Rattle.std.specs.Str.{bytes_eq}
-use Rattle.std.proofs.lemmas.Bool.{true≢false, and_parts, and_from, false_from_ne_true}
-use Rattle.std.proofs.lemmas.List.{get_or-map, length-map, length-append, get_or_append_left}
+use Rattle.std.proofs.lemmas.Bool.{true≢false, and_parts, and_from}
+use Rattle.std.proofs.lemmas.List.{get_or-map, length-map, get_or_append_left}
 use Rattle.std.proofs.lemmas.List.Folds.{list_any-append}
 use Rattle.base_core.proofs.SetLemmas.{In, Ascends, In-in_order, Ascends-in_order}
 use Rattle.base_core.proofs.MemberLemmas.{In-append, In-map, In-flat_map, In-filter}
 use Rattle.base_core.proofs.SetOperatorLemmas.{same_tests}
-use Rattle.interval_core.specs.Members.{Span}
 use Rattle.point_core.specs.Points.{line_of}
 use Rattle.value_core.specs.Attributes.{value_at, span_of, among}
 use Rattle.value_core.specs.Headings.{has_name}
 use Rattle.value_core.specs.Order.{row_total, row_separates}
 use Rattle.value_core.specs.RowPacking.{packed, unpacked}
-use Rattle.value_core.specs.Values.{Name, Value, Heading, Row, truth, interval, fits, fits_heading, attribute_cmp, row_cmp}
+use Rattle.value_core.specs.Values.{Name, Heading, Row, truth, interval, fits, fits_heading, attribute_cmp, row_cmp}
 use Rattle.value_core.specs.declared.kind.Kind.{Kind}
 use Rattle.relation_core.specs.Agreement.{names_of, position_of, common_positions, part_of, agree}
 use Rattle.relation_core.specs.Joins.{joined_heading, HaveEqualKinds, joined_row, joined_pairs, joined}
@@ -32,11 +30,11 @@ use Rattle.u_set.proofs.BoxLemmas.{value_at-get}
 use Rattle.u_set.proofs.BridgeLemmas.{AreRowsOf, boxes_have, unpacked_image, same_places, closed_by_boxes}
 use Rattle.u_row.specs.Kept.{inner}
 use Rattle.u_row.proofs.BeneathLemmas.{among_in, in_among}
-use Rattle.u_row.proofs.LabelLemmas.{map_in, map_twice, label_of_kept, inner_within}
-use Rattle.u_join.specs.Places.{both_lists}
+use Rattle.u_row.proofs.LabelLemmas.{map_in, label_of_kept, inner_within}
+use Rattle.u_join.specs.Places.{positions_of_both}
 use Rattle.u_join.specs.Pairs.{meet, joined_label, joined_box, joined_boxes}
 use Rattle.u_join.proofs.AgreeingLemmas.{sides_by_names, agree_meet}
-use Rattle.u_join.proofs.NameLemmas.{name_back, position_in, position_at, position_front, position_behind, by_names, listed_name, to_name, of_name}
+use Rattle.u_join.proofs.NameLemmas.{name_back, position_in, position_at, position_front, position_behind, listed_name, to_name, of_name}
 use Rattle.u_join.proofs.PairPlaces.{joined_have}
 
 -- ---- positions of two lists, one behind the other
@@ -68,17 +66,17 @@ others_append n acl (x ∷ xs) ys =
     ]
 
 module _ (n : ℕ) (here there : List ℕ) (below : (i : ℕ) → In i here → i < n) where
-  in_lists : (i : ℕ) → IsTrue (among (both_lists n here there) i) ↔ ((IsTrue (among here i)) ⊎ ((j : ℕ) × In j there × (i ≡ n + j)))
+  in_lists : (i : ℕ) → IsTrue (among (positions_of_both n here there) i) ↔ ((IsTrue (among here i)) ⊎ ((j : ℕ) × In j there × (i ≡ n + j)))
   in_lists i = (
-    λ t. elim ((In-append i here (map (λ j. n + j) there)).0 (among_in (both_lists n here there) i t)) [
+    λ t. elim ((In-append i here (map (λ j. n + j) there)).0 (among_in (positions_of_both n here there) i t)) [
       | inl m ↦ inl (in_among here i m)
       | inr m ↦ inr ((In-map (λ j. n + j) i there).0 m)
     ],
-    λ h. in_among (both_lists n here there) i ((In-append i here (map (λ j. n + j) there)).1 (elim h [ inl t ↦ inl (among_in here i t) | inr w ↦ inr ((In-map (λ j. n + j) i there).1 w) ])),
+    λ h. in_among (positions_of_both n here there) i ((In-append i here (map (λ j. n + j) there)).1 (elim h [ inl t ↦ inl (among_in here i t) | inr w ↦ inr ((In-map (λ j. n + j) i there).1 w) ])),
   )
 
-  pub listed_first : (i : ℕ) → i < n → among (both_lists n here there) i ≡ among here i
-  listed_first i l = same_tests (among (both_lists n here there) i) (among here i) (
+  pub listed_first : (i : ℕ) → i < n → among (positions_of_both n here there) i ≡ among here i
+  listed_first i l = same_tests (among (positions_of_both n here there) i) (among here i) (
     λ t. elim ((in_lists i).0 t) [
       | inl h ↦ h
       | inr w ↦ let e = w.2 in absurd (omega (arith, e, l))
@@ -86,8 +84,8 @@ module _ (n : ℕ) (here there : List ℕ) (below : (i : ℕ) → In i here → 
     λ t. (in_lists i).1 (inl t),
   )
 
-  pub listed_second : (j : ℕ) → among (both_lists n here there) (n + j) ≡ among there j
-  listed_second j = same_tests (among (both_lists n here there) (n + j)) (among there j) (
+  pub listed_second : (j : ℕ) → among (positions_of_both n here there) (n + j) ≡ among there j
+  listed_second j = same_tests (among (positions_of_both n here there) (n + j)) (among there j) (
     λ t. elim ((in_lists (n + j)).0 t) [
       | inl h ↦ let b = below (n + j) (among_in here (n + j) h) in absurd (omega (arith, b))
       | inr w ↦
@@ -99,18 +97,18 @@ module _ (n : ℕ) (here there : List ℕ) (below : (i : ℕ) → In i here → 
   )
 
   -- what is not listed of two lists is that of the one, followed by that of the other
-  pub others_both : {X : Type 0} (xs ys : List X) → length xs ≡ n → others (both_lists n here there) (xs ++ ys) ≡ others here xs ++ others there ys
+  pub others_both : {X : Type 0} (xs ys : List X) → length xs ≡ n → others (positions_of_both n here there) (xs ++ ys) ≡ others here xs ++ others there ys
   others_both xs ys e =
-      let front : others_from 0 (both_lists n here there) xs ≡ others_from 0 here xs =
-      others_same 0 0 (both_lists n here there) here xs (λ m l.
+      let front : others_from 0 (positions_of_both n here there) xs ≡ others_from 0 here xs =
+      others_same 0 0 (positions_of_both n here there) here xs (λ m l.
       let z : 0 + m ≡ m = omega arith in
-      ap (among (both_lists n here there)) z ∙ listed_first m (omega (arith, l, e)) ∙ ap (among here) (sym z)) in
-      let back : others_from (0 + length xs) (both_lists n here there) ys ≡ others_from 0 there ys =
-      others_same (0 + length xs) 0 (both_lists n here there) there ys (λ m l.
+      ap (among (positions_of_both n here there)) z ∙ listed_first m (omega (arith, l, e)) ∙ ap (among here) (sym z)) in
+      let back : others_from (0 + length xs) (positions_of_both n here there) ys ≡ others_from 0 there ys =
+      others_same (0 + length xs) 0 (positions_of_both n here there) there ys (λ m l.
       let z : 0 + length xs + m ≡ n + m = omega (arith, e) in
       let y : m ≡ 0 + m = omega arith in
-      ap (among (both_lists n here there)) z ∙ listed_second m ∙ ap (among there) y) in
-      others_append 0 (both_lists n here there) xs ys ∙ ap₂ (λ us vs. us ++ vs) front back
+      ap (among (positions_of_both n here there)) z ∙ listed_second m ∙ ap (among there) y) in
+      others_append 0 (positions_of_both n here there) xs ys ∙ ap₂ (λ us vs. us ++ vs) front back
 
 -- ---- headings
 
@@ -148,7 +146,7 @@ module _ (left right : Heading) (first : Ascends attribute_cmp left) (second : A
   acl = map (position_of whole) names
 
   abbrev both : List ℕ
-  both = both_lists (length left) here there
+  both = positions_of_both (length left) here there
 
   abbrev places : List ℕ
   places = positions_in list whole
@@ -268,7 +266,7 @@ module _ (left right : Heading) (first : Ascends attribute_cmp left) (second : A
         ∙ map_in (λ n. span_of (value_of whole row n)) (λ n. span_of (value_of left x n)) names (λ n i. ap span_of (value_joined n i))
         ∙ sym (sides_by_names left x names)
 
-    pub boxed_joined : boxed acl row ≡ joined_box (inner both places) (boxed here x) (boxed there y)
+    pub boxed_joined : boxed acl row ≡ joined_box (joined_label (inner both places)) (boxed here x) (boxed there y)
     boxed_joined =
         let a = label_joined in
         let b = sides_joined in
@@ -329,7 +327,7 @@ module _ (left right : Heading) (first : Ascends attribute_cmp left) (second : A
     rows = joined left right (unpacked here r) (unpacked there s)
 
     abbrev boxes : List (Boxed Row)
-    boxes = joined_boxes here_key there_key (inner both places) lefts rights
+    boxes = joined_boxes here_key there_key (joined_label (inner both places)) lefts rights
 
     of_pair : (z : Row) → In z rows ↔ ((x : Row) × (y : Row) × In x (unpacked here r) × In y (unpacked there s) × IsTrue (agree left right x y) × (z ≡ joined_row left right x y))
     of_pair z =
@@ -344,16 +342,16 @@ module _ (left right : Heading) (first : Ascends attribute_cmp left) (second : A
           λ h. set.1 (all.1 (h.0, h.2, (In-map (joined_row left right h.0) z (filter (agree left right h.0) (unpacked there s))).1 (h.1, (In-filter (agree left right h.0) h.1 (unpacked there s)).1 (h.3, h.4), h.5))),
         )
 
-    of_boxes : (b : Boxed Row) → In b boxes ↔ ((x : Boxed Row) × (y : Boxed Row) × In x lefts × In y rights × IsTrue (meet here_key there_key x y) × (b ≡ joined_box (inner both places) x y))
+    of_boxes : (b : Boxed Row) → In b boxes ↔ ((x : Boxed Row) × (y : Boxed Row) × In x lefts × In y rights × IsTrue (meet here_key there_key x y) × (b ≡ joined_box (joined_label (inner both places)) x y))
     of_boxes b =
-        let each : Boxed Row → List (Boxed Row) = λ x. map (joined_box (inner both places) x) (filter (meet here_key there_key x) rights) in
+        let each : Boxed Row → List (Boxed Row) = λ x. map (joined_box (joined_label (inner both places)) x) (filter (meet here_key there_key x) rights) in
         let all = In-flat_map each b lefts in (
           λ i.
               let w = all.0 i in
-              let v = (In-map (joined_box (inner both places) w.0) b (filter (meet here_key there_key w.0) rights)).0 w.2 in
+              let v = (In-map (joined_box (joined_label (inner both places)) w.0) b (filter (meet here_key there_key w.0) rights)).0 w.2 in
               let u = (In-filter (meet here_key there_key w.0) v.0 rights).0 v.1 in
               (w.0, v.0, w.1, u.0, u.1, v.2),
-          λ h. all.1 (h.0, h.2, (In-map (joined_box (inner both places) h.0) b (filter (meet here_key there_key h.0) rights)).1 (h.1, (In-filter (meet here_key there_key h.0) h.1 rights).1 (h.3, h.4), h.5)),
+          λ h. all.1 (h.0, h.2, (In-map (joined_box (joined_label (inner both places)) h.0) b (filter (meet here_key there_key h.0) rights)).1 (h.1, (In-filter (meet here_key there_key h.0) h.1 rights).1 (h.3, h.4), h.5)),
         )
 
     members : (b : Boxed Row) → In b (map (boxed acl) rows) ↔ In b boxes
@@ -386,7 +384,7 @@ module _ (left right : Heading) (first : Ascends attribute_cmp left) (second : A
               let goes : IsTrue (meet here_key there_key (boxed here x.0) (boxed there y.0)) = (λ t. meet here_key there_key (sym same_left t) (sym same_right t)) ∙ h.4 in
               let m : In (joined_row left right x.0 y.0) rows =
               (of_pair (joined_row left right x.0 y.0)).1 (x.0, y.0, x.1, y.1, (agree_meet left right names in_left in_right same_kinds x.0 y.0 sx sy).1 goes, refl) in
-              all.1 (joined_row left right x.0 y.0, m, h.5 ∙ (λ t. joined_box (inner both places) (same_left t) (same_right t)) ∙ sym (boxed_joined x.0 y.0 sx sy)),
+              all.1 (joined_row left right x.0 y.0, m, h.5 ∙ (λ t. joined_box (joined_label (inner both places)) (same_left t) (same_right t)) ∙ sym (boxed_joined x.0 y.0 sx sy)),
         )
 
     rows_shaped : (z : Row) → In z rows → IsShaped whole acl z
@@ -404,10 +402,10 @@ module _ (left right : Heading) (first : Ascends attribute_cmp left) (second : A
 
     -- the joined rows, packed, are the joined boxes
     pub joined_rows : AreRowsOf whole acl (packed acl (joined left right (unpacked here r) (unpacked there s)))
-        (packed_boxes row_cmp (length acl) (joined_boxes here_key there_key (inner both places) lefts rights))
+        (packed_boxes row_cmp (length acl) (joined_boxes here_key there_key (joined_label (inner both places)) lefts rights))
     joined_rows =
-        let have = subst (λ k. (x : Boxed Row) → Among x (joined_boxes here_key there_key (inner both places) lefts (unpacked_boxes row_cmp k (map (boxed there) s))) → length x.1 ≡ length here) (sym count_there)
+        let have = subst (λ k. (x : Boxed Row) → Among x (joined_boxes here_key there_key (joined_label (inner both places)) lefts (unpacked_boxes row_cmp k (map (boxed there) s))) → length x.1 ≡ length here) (sym count_there)
         (joined_have here_key there_key (length here) (map (boxed here) r) (map (boxed there) s) (boxes_have left here intervals r)
-        (subst (λ k. AllHave k (map (boxed there) s)) count_there (boxes_have right there intervals' s)) (inner both places)) in
+        (subst (λ k. AllHave k (map (boxed there) s)) count_there (boxes_have right there intervals' s)) (joined_label (inner both places))) in
         closed_by_boxes whole acl whole_intervals rows (Ascends-in_order row_cmp row_total row_separates (joined_pairs left right (unpacked here r) (unpacked there s))) rows_shaped
         boxes (subst (λ k. AllHave k boxes) count_here have) (same_places (map (boxed acl) rows) boxes members)

@@ -1,5 +1,5 @@
 -- Positions of the same attributes of two headings, and what matches and joins give by them.
-use Rattle.std.proofs.Common.{◌≡◌, inl, inr, ℕ, ◌<◌, List, [], ◌∷◌, ◌++◌, map, length, get_or, refl, sym, ap, ap₂, ◌∙◌, subst, arith}
+use Rattle.std.proofs.Common.{◌≡◌, ℕ, ◌<◌, List, [], ◌∷◌, ◌++◌, map, length, get_or, refl, sym, ap, ◌∙◌, subst, arith}
 use Rattle.std.specs.Bool.{IsTrue}
 use Rattle.std.specs.List.{All}
 use Rattle.std.specs.Str.{bytes_eq}
@@ -7,7 +7,6 @@ use Rattle.std.specs.Cmp.Lexicographic.{nat_list_eq_equiv}
 use Rattle.std.proofs.lemmas.List.{length-map}
 use Rattle.base_core.proofs.SetLemmas.{In, Ascends}
 use Rattle.base_core.proofs.MemberLemmas.{In-map}
-use Rattle.point_core.specs.declared.any_type.AnyType.{AnyType}
 use Rattle.value_core.specs.Headings.{has_name}
 use Rattle.value_core.specs.RowPacking.{packed, unpacked}
 use Rattle.value_core.specs.Values.{Name, Heading, Row, attribute_cmp, row_cmp}
@@ -22,8 +21,9 @@ use Rattle.u_set.proofs.BridgeLemmas.{AreRowsOf}
 use Rattle.u_row.specs.Kept.{inner}
 use Rattle.u_row.proofs.BeneathLemmas.{in_all, get_in}
 use Rattle.u_row.proofs.LabelLemmas.{map_in, map_twice}
-use Rattle.u_join.specs.Pairs.{matched_boxes, unmatched_boxes, joined_boxes}
-use Rattle.u_join.specs.Places.{both_lists}
+use Rattle.u_join.specs.Pairs.{matched_boxes, unmatched_boxes, joined_label, joined_boxes}
+use Rattle.u_join.specs.Places.{positions_of_both}
+use Rattle.u_join.proofs.AgreeingLemmas.{keys_alike}
 use Rattle.u_join.proofs.JoinedLemmas.{joined_rows}
 use Rattle.u_join.proofs.MatchedLemmas.{matched_rows, unmatched_rows}
 use Rattle.u_join.proofs.NameLemmas.{name_back, position_at, position_in, of_name}
@@ -61,6 +61,17 @@ same_types left right here there same =
 pub same_count : (left right : Heading) (here there : List ℕ) → attributes_at here left ≡ attributes_at there right → length there ≡ length here
 same_count left right here there same =
     sym (length-map there (λ i. get_or right i no_attribute)) ∙ ap length (sym same) ∙ length-map here (λ i. get_or left i no_attribute)
+
+-- and both keys have as many places in labels
+pub same_keys : (left right : Heading) (here there : List ℕ) → attributes_at here left ≡ attributes_at there right → Ascends attribute_cmp left → Ascends attribute_cmp right
+    → All (λ (i : ℕ). i < length left) here → All (λ (i : ℕ). i < length right) there
+    → length (inner here (common_positions left left right)) ≡ length (inner there (common_positions right left right))
+same_keys left right here there same first second within within' =
+    let names = names_of (attributes_at here left) in
+    let h : here ≡ map (position_of left) names = positions_back left here first within in
+    let t : there ≡ map (position_of right) names = positions_back right there second within' ∙ ap (λ (h : Heading). map (position_of right) (names_of h)) (sym same) in
+    let own = keys_alike left right names (λ n m. named_at left here within n m) (λ n m. named_at right there within' n (subst (λ (h : Heading). In n (names_of h)) same m)) in
+    ap (λ acl. length (inner acl (common_positions left left right))) h ∙ own ∙ sym (ap (λ acl. length (inner acl (common_positions right left right))) t)
 
 module _ (left right : Heading) (here there : List ℕ) (same : attributes_at here left ≡ attributes_at there right) (kinds : HaveEqualKinds left right)
     (first : Ascends attribute_cmp left) (second : Ascends attribute_cmp right) (intervals : AreIntervals left here) (intervals' : AreIntervals right there) where
@@ -164,7 +175,7 @@ module _ (left right : Heading) (here there : List ℕ) (same : attributes_at he
       abbrev AreJoined : List ℕ → List ℕ → List ℕ → ℕ → ℕ → Type 0
       AreJoined a h t k m = AreRowsOf whole a (packed a (joined left right (unpacked h r) (unpacked t s)))
           (packed_boxes row_cmp (length a) (joined_boxes (inner h (common_positions left left right)) (inner t (common_positions right left right))
-          (inner (both_lists (length left) h t) (positions_in (left ++ right) whole))
+          (joined_label (inner (positions_of_both (length left) h t) (positions_in (left ++ right) whole)))
           (unpacked_boxes row_cmp k (map (boxed h) r)) (unpacked_boxes row_cmp m (map (boxed t) s))))
 
       count_acl : length here ≡ length acl
@@ -172,7 +183,7 @@ module _ (left right : Heading) (here there : List ℕ) (same : attributes_at he
 
       pub joined_at : AreRowsOf (joined_heading left right) acl (packed acl (joined left right (unpacked here r) (unpacked there s)))
           (packed_boxes row_cmp (length acl) (joined_boxes (inner here (common_positions left left right)) (inner there (common_positions right left right))
-          (inner (both_lists (length left) here there) (positions_in (left ++ right) (joined_heading left right)))
+          (joined_label (inner (positions_of_both (length left) here there) (positions_in (left ++ right) (joined_heading left right))))
           (unpacked_boxes row_cmp (length acl) (map (boxed here) r)) (unpacked_boxes row_cmp (length acl) (map (boxed there) s))))
       joined_at =
           let own : AreJoined own_acl own_here own_there (length own_here) (length own_there) =
@@ -190,7 +201,7 @@ module _ (left right : Heading) (here there : List ℕ) (same : attributes_at he
     pub joined_under : (heading : Heading) (acl : List ℕ) → heading ≡ joined_heading left right → AreIntervals heading acl → attributes_at acl heading ≡ attributes_at here left
         → AreRowsOf heading acl (packed acl (joined left right (unpacked here r) (unpacked there s)))
         (packed_boxes row_cmp (length here) (joined_boxes (inner here (common_positions left left right)) (inner there (common_positions right left right))
-        (inner (both_lists (length left) here there) (positions_in (left ++ right) heading))
+        (joined_label (inner (positions_of_both (length left) here there) (positions_in (left ++ right) heading)))
         (unpacked_boxes row_cmp (length here) (map (boxed here) r)) (unpacked_boxes row_cmp (length here) (map (boxed there) s))))
     joined_under heading acl is whole listed =
         let own = joined_at acl (subst (λ (h : Heading). AreIntervals h acl) is whole) (joined_ascends left right first second kinds) (ap (λ (h : Heading). attributes_at acl h) (sym is) ∙ listed) in
@@ -198,5 +209,5 @@ module _ (left right : Heading) (here there : List ℕ) (same : attributes_at he
         let n : length acl ≡ length here = sym (same_count heading left acl here listed) in
         subst (λ T. T) (λ t. AreRowsOf (e t) acl (packed acl (joined left right (unpacked here r) (unpacked there s)))
         (packed_boxes row_cmp (n t) (joined_boxes (inner here (common_positions left left right)) (inner there (common_positions right left right))
-        (inner (both_lists (length left) here there) (positions_in (left ++ right) (e t)))
+        (joined_label (inner (positions_of_both (length left) here there) (positions_in (left ++ right) (e t))))
         (unpacked_boxes row_cmp (n t) (map (boxed here) r)) (unpacked_boxes row_cmp (n t) (map (boxed there) s))))) own

@@ -1,5 +1,5 @@
 -- Unpacked rows that agree with an unpacked row of another relation, and those that agree with none: packed, they are those of the boxes.
-use Rattle.std.proofs.Common.{◌≡◌, ◌↔◌, inl, inr, ℕ, Bool, true, false, not, List, [], ◌∷◌, map, length, refl, sym, ap, ◌∙◌, subst}
+use Rattle.std.proofs.Common.{◌≡◌, ◌↔◌, ℕ, Bool, not, List, map, length, sym, ap, ◌∙◌, subst}
 use Rattle.std.specs.Bool.{IsTrue}
 use Rattle.std.specs.List.{filter, list_any}
 use Rattle.base_core.proofs.SetLemmas.{In, Ascends}

@@ -1,25 +1,25 @@
 -- Attributes by their names: where they stand, and which of them are listed.
-use Rattle.std.proofs.Common.{◌≡◌, ◌↔◌, inl, inr, ℕ, zero, suc, ◌+◌, ◌<◌, ◌≤◌, Bool, true, false, not, ◌||◌, List, [], ◌∷◌, ◌++◌, map, length, get_or, refl, sym, ap, ap₂, ◌∙◌, subst, arith, if◌then◌else◌, cond}
-use Rattle.std.specs.declared.cmp.Ordering.TheVariants.{Less}
+use Rattle.std.proofs.Common.{◌≡◌, ◌↔◌, inl, inr, ℕ, zero, suc, ◌+◌, ◌<◌, ◌≤◌, Bool, true, false, not, ◌||◌, List, [], ◌∷◌, ◌++◌, map, length, get_or, refl, sym, ap, ◌∙◌, subst, arith, if◌then◌else◌, cond}
 use Rattle.std.specs.Bool.{IsTrue}
 use Rattle.std.specs.Cmp.Lexicographic.{texts_ties, nat_list_eq_equiv}
 use Rattle.std.specs.List.{filter}
 use Rattle.std.specs.Ordering.{is_eq}
 use Rattle.std.specs.Str.{bytes_eq}
 use Rattle.std.proofs.lemmas.Bool.{true≢false}
+use Rattle.std.proofs.lemmas.List.{length-map}
 use Rattle.base_core.proofs.SetLemmas.{In, Ascends}
-use Rattle.base_core.proofs.MemberLemmas.{In-map, In-filter, list_any-In}
-use Rattle.base_core.proofs.SetOperatorLemmas.{AllAfter-In, same_tests}
+use Rattle.base_core.proofs.MemberLemmas.{In-map, list_any-In}
+use Rattle.base_core.proofs.SetOperatorLemmas.{AllAfter-In}
 use Rattle.value_core.specs.Attributes.{among}
 use Rattle.value_core.specs.Headings.{has_name}
-use Rattle.value_core.specs.Values.{Name, Heading, Row, Value, truth, attribute_cmp}
+use Rattle.value_core.specs.Values.{Name, Heading, Row, truth, attribute_cmp}
 use Rattle.value_core.specs.declared.kind.Kind.{Kind}
 use Rattle.relation_core.specs.Agreement.{names_of, position_of, part_of}
 use Rattle.relation_core.specs.Parts.{no_attribute}
 use Rattle.relation_core.proofs.AttributeLemmas.{name_is, named_In}
 use Rattle.relation_core.proofs.JoinLemmas.{value_of}
 use Rattle.u_set.specs.Boxes.{others}
-use Rattle.u_row.specs.Kept.{unlisted, inner}
+use Rattle.u_row.specs.Kept.{place_in_label, unlisted, inner}
 use Rattle.u_row.proofs.BeneathLemmas.{among_in, in_among}
 use Rattle.u_row.proofs.LabelLemmas.{map_twice, inner_values}
 
@@ -132,6 +132,13 @@ by_names heading row names = map_twice (λ i. get_or row i (truth false)) (posit
 -- the names that are not listed, where the listed ones stand at these positions
 abbrev pub new_names : List ℕ → Heading → List Name → List Name
 new_names acl heading names = filter (λ n. not (among acl (position_of heading n))) names
+
+-- they are as many as their positions that are not listed
+pub count_new : (acl : List ℕ) (heading : Heading) (names : List Name) → length (inner acl (map (position_of heading) names)) ≡ length (new_names acl heading names)
+count_new acl heading names =
+    length-map (unlisted acl (map (position_of heading) names)) (place_in_label acl)
+    ∙ ap (λ (is : List ℕ). length is) (filter_map (λ i. not (among acl i)) (position_of heading) names)
+    ∙ length-map (new_names acl heading names) (position_of heading)
 
 -- the label has the values beside the names that are not listed
 pub label_by_names : (acl : List ℕ) (heading : Heading) (row : Row) (names : List Name)

@@ -2,7 +2,7 @@
 use Rattle.std.proofs.Common.{◌≡◌, ◌↔◌, ℕ, ℤ, Bool, true, false, not, List, length, map, refl, sym, ap, ◌∙◌, subst}
 use Rattle.std.specs.Bool.{IsTrue}
 use Rattle.std.specs.List.{filter, list_any}
-use Rattle.std.proofs.lemmas.Bool.{true≢false, false_from_ne_true}
+use Rattle.std.proofs.lemmas.Bool.{true≢false}
 use Rattle.base_core.proofs.SetLemmas.{In}
 use Rattle.base_core.proofs.MemberLemmas.{In-map, In-filter, In-flat_map, list_any-In, eq_by_cmp-≡}
 use Rattle.interval_core.specs.Members.{Span, at_point}
@@ -109,31 +109,31 @@ module _ (here there : List ℕ) (k : ℕ) (left right : List (Boxed Row)) (hl :
   pub unmatched_have : AllHave k (unmatched_boxes here there lefts rights)
   unmatched_have = filter_have (λ x. not (list_any (meet here there x) rights))
 
-  module _ (places : List ℕ) where
-    in_joined : (x : Boxed Row) → In x (joined_boxes here there places lefts rights)
-        ↔ ((a : Boxed Row) × (b : Boxed Row) × In a lefts × In b rights × IsTrue (meet here there a b) × (x ≡ joined_box places a b))
+  module _ (f : Row → Row → Row) where
+    in_joined : (x : Boxed Row) → In x (joined_boxes here there f lefts rights)
+        ↔ ((a : Boxed Row) × (b : Boxed Row) × In a lefts × In b rights × IsTrue (meet here there a b) × (x ≡ joined_box f a b))
     in_joined x =
-        let each : Boxed Row → List (Boxed Row) = λ a. map (joined_box places a) (filter (meet here there a) rights) in
+        let each : Boxed Row → List (Boxed Row) = λ a. map (joined_box f a) (filter (meet here there a) rights) in
         let all = In-flat_map each x lefts in (
           λ i.
               let w = all.0 i in
-              let v = (In-map (joined_box places w.0) x (filter (meet here there w.0) rights)).0 w.2 in
+              let v = (In-map (joined_box f w.0) x (filter (meet here there w.0) rights)).0 w.2 in
               let u = (In-filter (meet here there w.0) v.0 rights).0 v.1 in
               (w.0, v.0, w.1, u.0, u.1, v.2),
-          λ h. all.1 (h.0, h.2, (In-map (joined_box places h.0) x (filter (meet here there h.0) rights)).1 (h.1, (In-filter (meet here there h.0) h.1 rights).1 (h.3, h.4), h.5)),
+          λ h. all.1 (h.0, h.2, (In-map (joined_box f h.0) x (filter (meet here there h.0) rights)).1 (h.1, (In-filter (meet here there h.0) h.1 rights).1 (h.3, h.4), h.5)),
         )
 
-    pub places_joined : (l : Row) (p : List ℤ) → InBoxes (joined_boxes here there places lefts rights) l p ↔ IsJoinedAt here there places (λ a. InBoxes left a p) (λ b. InBoxes right b p) l
+    pub places_joined : (l : Row) (p : List ℤ) → InBoxes (joined_boxes here there f lefts rights) l p ↔ IsJoinedAt here there f (λ a. InBoxes left a p) (λ b. InBoxes right b p) l
     places_joined l p = (
       λ w.
-          let h = (in_joined (l, w.0)).0 ((among_in (l, w.0) (joined_boxes here there places lefts rights)).0 w.1) in
+          let h = (in_joined (l, w.0)).0 ((among_in (l, w.0) (joined_boxes here there f lefts rights)).0 w.1) in
           let e = (meets h.0 h.1).0 h.4 in
           let sides : w.0 ≡ (h.0).1 = ap (λ (x : Boxed Row). x.1) h.5 in
           let has : Has (h.0).1 p = subst (λ z. Has z p) sides w.2 in
           ((h.0).0, (h.1).0, from_points k left hl (h.0).0 p (h.0).1 h.2 has, from_points k right hr (h.1).0 p (h.1).1 h.3 (subst (λ z. Has z p) e.1 has), e.0, ap (λ (x : Boxed Row). x.0) h.5),
       λ h. (
         map at_point p,
-        (among_in (l, map at_point p) (joined_boxes here there places lefts rights)).1 ((in_joined (l, map at_point p)).1 (
+        (among_in (l, map at_point p) (joined_boxes here there f lefts rights)).1 ((in_joined (l, map at_point p)).1 (
           (h.0, map at_point p),
           (h.1, map at_point p),
           at_points k left hl h.0 p h.2,
@@ -145,7 +145,7 @@ module _ (here there : List ℕ) (k : ℕ) (left right : List (Boxed Row)) (hl :
       ),
     )
 
-    pub joined_have : AllHave k (joined_boxes here there places lefts rights)
+    pub joined_have : AllHave k (joined_boxes here there f lefts rights)
     joined_have x m =
-        let h = (in_joined x).0 ((among_in x (joined_boxes here there places lefts rights)).0 m) in
+        let h = (in_joined x).0 ((among_in x (joined_boxes here there f lefts rights)).0 m) in
         ap (λ (b : Boxed Row). length b.1) h.5 ∙ points_long k left hl h.0 h.2

@@ -1,3 +1,4 @@
 pub mod Pairs
 pub mod Keyed
 pub mod Places
+pub mod Shared

@@ -2,5 +2,5 @@
 use Rattle.std.specs.Prelude.{ℕ, ◌+◌, List, ◌++◌, map}
 
 -- the positions of the first, which has n values, and those of the second behind it
-abbrev pub both_lists : ℕ → List ℕ → List ℕ → List ℕ
-both_lists n here there = here ++ map (λ i. n + i) there
+abbrev pub positions_of_both : ℕ → List ℕ → List ℕ → List ℕ
+positions_of_both n here there = here ++ map (λ i. n + i) there

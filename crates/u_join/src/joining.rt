@@ -9,32 +9,35 @@ ghost use Rattle.cell_core.specs.Cells.{row_numbers};
 ghost use Rattle.cell_core.specs.Costs.{bound};
 ghost use Rattle.cell_core.specs.declared.boxes.CellRefuse.TheVariants.{Op as OfOp, Limit as OfLimit};
 ghost use Rattle.u_join.specs.Pairs.{joined_boxes};
+ghost use Rattle.u_join.specs.Shared.{left_positions, right_positions, joined_by};
 
 use crate::keys::with_keys;
-use crate::labels::{Places, copied};
-use box_core::join;
+use crate::labels::Beside;
+use crate::shared::apart;
+use box_core::{PairRule, join};
 use cell_core::{BoxRow, CellRefuse, CellRows, back, rows_over_cells};
 use point_core::{Memory, PointType, Steps};
+use slice_core::pack_rows;
 use std::alloc::Global;
 use std::sync::ledger::Ledger;
 use value_core::Row;
 
-// What left and right boxes of one key have in common, with the labels of the pairs, packed.
-fn joined_form<T: PointType, L: Ledger>(
+// What left and right boxes of one key have in common, with the labels that the rule gives of pairs, packed. Each operand is packed
+// first: so boxes of one label that overlap, of which many make the same pairs, are looked at once.
+fn joined_form<T: PointType, O: PairRule<Left = Row, Right = Row, Out = Row>, L: Ledger>(
     alloc: Global,
     types: &[T],
     left: &[BoxRow<T, Row>],
     right: &[BoxRow<T, Row>],
     here: &[usize],
     there: &[usize],
-    places: &[usize],
+    rule: &O,
     steps: &mut Steps<L>,
 ) -> Result<Vec<BoxRow<T, Row>>, Memory>
-    requires some { 0 < length types.now }
     requires left { All (λ b. IsBox T.IsPoint types.now b.1) left.now }
     requires right { All (λ b. IsBox T.IsPoint types.now b.1) right.now }
     ensures rows { IfOk result (λ v. map (row_numbers T.number_of) v.items ≡ packed_boxes row_cmp (length types.now)
-        (joined_boxes here.now there.now places.now
+        (joined_boxes here.now there.now (O.means rule.now)
         (unpacked_boxes row_cmp (length types.now) (map (row_numbers T.number_of) left.now))
         (unpacked_boxes row_cmp (length types.now) (map (row_numbers T.number_of) right.now)))) }
     ensures boxes { IfOk result (λ v. All (λ b. IsBox T.IsPoint types.now b.1) v.items) }
@@ -45,16 +48,55 @@ fn joined_form<T: PointType, L: Ledger>(
         left: l,
         right: r,
     } = rows_over_cells(alloc, types, left, right, steps)?;
-    let lefts = with_keys(alloc, l, here)?;
-    let rights = with_keys(alloc, r, there)?;
-    let rule = copied(alloc, places)?;
-    let form = join(alloc, types.len(), lefts, rights, &rule)?;
+    let packed_left = pack_rows(alloc, types.len(), l)?;
+    let packed_right = pack_rows(alloc, types.len(), r)?;
+    let lefts = with_keys(alloc, packed_left, here)?;
+    let rights = with_keys(alloc, packed_right, there)?;
+    let form = join(alloc, types.len(), lefts, rights, rule)?;
     let answer = back(alloc, types, sides.as_slice(), form)?;
     Ok(answer)
 }
 
-/// At each point the values at the places among those of a left label and a right label there that have the same values at their
-/// positions, packed. There is a side at least.
+/// The same where they are no more than the limit.
+pub(crate) fn joined_in_limit<
+    T: PointType,
+    O: PairRule<Left = Row, Right = Row, Out = Row>,
+    L: Ledger,
+>(
+    alloc: Global,
+    types: &[T],
+    left: &[BoxRow<T, Row>],
+    right: &[BoxRow<T, Row>],
+    here: &[usize],
+    there: &[usize],
+    rule: &O,
+    limit: usize,
+    steps: &mut Steps<L>,
+) -> Result<Vec<BoxRow<T, Row>>, CellRefuse>
+    requires left { All (λ b. IsBox T.IsPoint types.now b.1) left.now }
+    requires right { All (λ b. IsBox T.IsPoint types.now b.1) right.now }
+    ensures rows { IfOk result (λ v. map (row_numbers T.number_of) v.items ≡ packed_boxes row_cmp (length types.now)
+        (joined_boxes here.now there.now (O.means rule.now)
+        (unpacked_boxes row_cmp (length types.now) (map (row_numbers T.number_of) left.now))
+        (unpacked_boxes row_cmp (length types.now) (map (row_numbers T.number_of) right.now)))) }
+    ensures boxes { IfOk result (λ v. All (λ b. IsBox T.IsPoint types.now b.1) v.items) }
+    ensures few { IfOk result (λ v. length v.items ≤ limit) }
+    ensures no_fault { (e : AnyFault) → result ≡ Err (OfOp e) → ⊥ }
+    ensures limit { result ≡ Err OfLimit → limit < length (packed_boxes row_cmp (length types.now)
+        (joined_boxes here.now there.now (O.means rule.now)
+        (unpacked_boxes row_cmp (length types.now) (map (row_numbers T.number_of) left.now))
+        (unpacked_boxes row_cmp (length types.now) (map (row_numbers T.number_of) right.now)))) }
+    ensures cost { steps.new ≤ steps.old + bound (length left.now + length right.now) (length types.now) }
+{
+    let answer = joined_form(alloc, types, left, right, here, there, rule, steps)?;
+    if answer.len() > limit {
+        return Err(CellRefuse::Limit);
+    }
+    Ok(answer)
+}
+
+/// JOIN of boxes at each point: of each left label and each right label there that have the same values at the positions that
+/// `shared` pairs, the left label followed by the right one's values outside them; packed. Any positions may be paired.
 ///
 /// `Limit` comes exactly where the packed boxes are more than `limit`.
 pub fn u_join<T: PointType, L: Ledger>(
@@ -62,31 +104,36 @@ pub fn u_join<T: PointType, L: Ledger>(
     types: &[T],
     left: &[BoxRow<T, Row>],
     right: &[BoxRow<T, Row>],
-    here: &[usize],
-    there: &[usize],
-    places: &[usize],
+    shared: &[(usize, usize)],
     limit: usize,
     steps: &mut Steps<L>,
 ) -> Result<Vec<BoxRow<T, Row>>, CellRefuse>
-    requires some { 0 < length types.now }
     requires left { All (λ b. IsBox T.IsPoint types.now b.1) left.now }
     requires right { All (λ b. IsBox T.IsPoint types.now b.1) right.now }
     ensures rows { IfOk result (λ v. map (row_numbers T.number_of) v.items ≡ packed_boxes row_cmp (length types.now)
-        (joined_boxes here.now there.now places.now
+        (joined_boxes (left_positions shared.now) (right_positions shared.now) (joined_by shared.now)
         (unpacked_boxes row_cmp (length types.now) (map (row_numbers T.number_of) left.now))
         (unpacked_boxes row_cmp (length types.now) (map (row_numbers T.number_of) right.now)))) }
     ensures boxes { IfOk result (λ v. All (λ b. IsBox T.IsPoint types.now b.1) v.items) }
     ensures few { IfOk result (λ v. length v.items ≤ limit) }
     ensures no_fault { (e : AnyFault) → result ≡ Err (OfOp e) → ⊥ }
     ensures limit { result ≡ Err OfLimit → limit < length (packed_boxes row_cmp (length types.now)
-        (joined_boxes here.now there.now places.now
+        (joined_boxes (left_positions shared.now) (right_positions shared.now) (joined_by shared.now)
         (unpacked_boxes row_cmp (length types.now) (map (row_numbers T.number_of) left.now))
         (unpacked_boxes row_cmp (length types.now) (map (row_numbers T.number_of) right.now)))) }
     ensures cost { steps.new ≤ steps.old + bound (length left.now + length right.now) (length types.now) }
 {
-    let answer = joined_form(alloc, types, left, right, here, there, places, steps)?;
-    if answer.len() > limit {
-        return Err(CellRefuse::Limit);
-    }
-    Ok(answer)
+    let (here, positions) = apart(alloc, shared)?;
+    let rule = Beside { positions };
+    joined_in_limit(
+        alloc,
+        types,
+        left,
+        right,
+        here.as_slice(),
+        rule.positions.as_slice(),
+        &rule,
+        limit,
+        steps,
+    )
 }

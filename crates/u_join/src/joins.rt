@@ -16,10 +16,11 @@ ghost use Rattle.cell_core.specs.Costs.{bound};
 ghost use Rattle.cell_core.specs.declared.boxes.CellRefuse.TheVariants.{Limit as OfLimit};
 ghost use Rattle.u_set.specs.Boxes.{AreIntervals, types_at, boxed};
 ghost use Rattle.u_row.specs.Kept.{inner};
-ghost use Rattle.u_join.specs.Pairs.{joined_boxes};
-ghost use Rattle.u_join.specs.Places.{both_lists};
+ghost use Rattle.u_join.specs.Pairs.{joined_label, joined_boxes};
+ghost use Rattle.u_join.specs.Places.{positions_of_both};
 
-use crate::joining::u_join;
+use crate::joining::joined_in_limit;
+use crate::labels::Places;
 use crate::places::{key_places, label_places};
 use cell_core::{BoxRow, CellRefuse};
 use point_core::{AnyType, Steps};
@@ -28,7 +29,7 @@ use std::sync::ledger::Ledger;
 use u_set::{from_boxes, refusal, to_boxes, types_at};
 use value_core::{Heading, MOST_ROWS, Relation, Row, RowsRefuse};
 
-// The packed boxes of the joined rows, on one attribute at least.
+// The packed boxes of the joined rows. Their labels are in the order of the joined heading.
 fn joining_boxes<L: Ledger>(
     alloc: Global,
     heading: &Heading,
@@ -38,7 +39,6 @@ fn joining_boxes<L: Ledger>(
     there: &[usize],
     steps: &mut Steps<L>,
 ) -> Result<Vec<BoxRow<AnyType, Row>>, CellRefuse>
-    requires some { 0 < length here.now }
     requires same { attributes_at here.now left.now.heading ≡ attributes_at there.now right.now.heading }
     requires left { AreIntervals left.now.heading here.now }
     requires right { AreIntervals right.now.heading there.now }
@@ -47,14 +47,14 @@ fn joining_boxes<L: Ledger>(
     ensures rows { IfOk result (λ v. map (row_numbers number) v.items ≡ packed_boxes row_cmp (length here.now) (joined_boxes
         (inner here.now (common_positions left.now.heading left.now.heading right.now.heading))
         (inner there.now (common_positions right.now.heading left.now.heading right.now.heading))
-        (inner (both_lists (length left.now.heading) here.now there.now) (positions_in (left.now.heading ++ right.now.heading) heading.now))
+        (joined_label (inner (positions_of_both (length left.now.heading) here.now there.now) (positions_in (left.now.heading ++ right.now.heading) heading.now)))
         (unpacked_boxes row_cmp (length here.now) (map (boxed here.now) left.now.rows))
         (unpacked_boxes row_cmp (length here.now) (map (boxed there.now) right.now.rows)))) }
     ensures boxes { IfOk result (λ v. All (λ b. IsBox IsPointOf (types_at left.now.heading here.now) b.1) v.items) }
     ensures limit { result ≡ Err OfLimit → most_rows < length (packed_boxes row_cmp (length here.now) (joined_boxes
         (inner here.now (common_positions left.now.heading left.now.heading right.now.heading))
         (inner there.now (common_positions right.now.heading left.now.heading right.now.heading))
-        (inner (both_lists (length left.now.heading) here.now there.now) (positions_in (left.now.heading ++ right.now.heading) heading.now))
+        (joined_label (inner (positions_of_both (length left.now.heading) here.now there.now) (positions_in (left.now.heading ++ right.now.heading) heading.now)))
         (unpacked_boxes row_cmp (length here.now) (map (boxed here.now) left.now.rows))
         (unpacked_boxes row_cmp (length here.now) (map (boxed there.now) right.now.rows)))) }
     ensures cost { steps.new ≤ steps.old + bound (length left.now.rows + length right.now.rows) (length here.now) }
@@ -67,14 +67,15 @@ fn joining_boxes<L: Ledger>(
     let here_key = key_places(alloc, ours, ours, theirs, here)?;
     let there_key = key_places(alloc, theirs, ours, theirs, there)?;
     let places = label_places(alloc, ours, theirs, heading.attributes(), here, there)?;
-    u_join(
+    let rule = Places { list: places };
+    joined_in_limit(
         alloc,
         types.as_slice(),
         l.as_slice(),
         r.as_slice(),
         here_key.as_slice(),
         there_key.as_slice(),
-        places.as_slice(),
+        &rule,
         MOST_ROWS,
         steps,
     )
@@ -91,7 +92,6 @@ fn joined_by_boxes<L: Ledger>(
     there: &[usize],
     steps: &mut Steps<L>,
 ) -> Result<Relation, RowsRefuse>
-    requires some { 0 < length here.now }
     requires heading { heading.now ≡ joined_heading left.now.heading right.now.heading }
     requires kinds { HaveEqualKinds left.now.heading right.now.heading }
     requires listed { attributes_at acl.now heading.now ≡ attributes_at here.now left.now.heading }

@@ -9,6 +9,7 @@ mod matches;
 mod matching;
 mod names;
 mod places;
+mod shared;
 
 pub use joining::u_join;
 pub use joins::joined;

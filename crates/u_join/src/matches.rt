@@ -18,7 +18,7 @@ ghost use Rattle.u_row.specs.Kept.{inner};
 ghost use Rattle.u_join.specs.Pairs.{matched_boxes, unmatched_boxes};
 
 use crate::matching::{u_matching, u_not_matching};
-use crate::places::key_places;
+use crate::places::key_pairs;
 use cell_core::{BoxRow, CellRefuse};
 use point_core::{AnyType, Steps};
 use std::alloc::Global;
@@ -26,7 +26,7 @@ use std::sync::ledger::Ledger;
 use u_set::{from_boxes, refusal, to_boxes, types_at};
 use value_core::{MOST_ROWS, Relation, Row, RowsRefuse};
 
-// The packed boxes of the left rows that agree with a right one, on one attribute at least.
+// The packed boxes of the left rows that agree with a right one.
 fn matching_boxes<L: Ledger>(
     alloc: Global,
     left: &Relation,
@@ -35,7 +35,6 @@ fn matching_boxes<L: Ledger>(
     there: &[usize],
     steps: &mut Steps<L>,
 ) -> Result<Vec<BoxRow<AnyType, Row>>, CellRefuse>
-    requires some { 0 < length here.now }
     requires same { attributes_at here.now left.now.heading ≡ attributes_at there.now right.now.heading }
     requires left { AreIntervals left.now.heading here.now }
     requires right { AreIntervals right.now.heading there.now }
@@ -59,21 +58,19 @@ fn matching_boxes<L: Ledger>(
     let types = types_at(alloc, ours, here)?;
     let l = to_boxes(alloc, left, here)?;
     let r = to_boxes(alloc, right, there)?;
-    let here_key = key_places(alloc, ours, ours, theirs, here)?;
-    let there_key = key_places(alloc, theirs, ours, theirs, there)?;
+    let shared = key_pairs(alloc, ours, theirs, here, there)?;
     u_matching(
         alloc,
         types.as_slice(),
         l.as_slice(),
         r.as_slice(),
-        here_key.as_slice(),
-        there_key.as_slice(),
+        shared.as_slice(),
         MOST_ROWS,
         steps,
     )
 }
 
-// The packed boxes of the left rows that agree with no right one, on one attribute at least.
+// The packed boxes of the left rows that agree with no right one.
 fn not_matching_boxes<L: Ledger>(
     alloc: Global,
     left: &Relation,
@@ -82,7 +79,6 @@ fn not_matching_boxes<L: Ledger>(
     there: &[usize],
     steps: &mut Steps<L>,
 ) -> Result<Vec<BoxRow<AnyType, Row>>, CellRefuse>
-    requires some { 0 < length here.now }
     requires same { attributes_at here.now left.now.heading ≡ attributes_at there.now right.now.heading }
     requires left { AreIntervals left.now.heading here.now }
     requires right { AreIntervals right.now.heading there.now }
@@ -106,15 +102,13 @@ fn not_matching_boxes<L: Ledger>(
     let types = types_at(alloc, ours, here)?;
     let l = to_boxes(alloc, left, here)?;
     let r = to_boxes(alloc, right, there)?;
-    let here_key = key_places(alloc, ours, ours, theirs, here)?;
-    let there_key = key_places(alloc, theirs, ours, theirs, there)?;
+    let shared = key_pairs(alloc, ours, theirs, here, there)?;
     u_not_matching(
         alloc,
         types.as_slice(),
         l.as_slice(),
         r.as_slice(),
-        here_key.as_slice(),
-        there_key.as_slice(),
+        shared.as_slice(),
         MOST_ROWS,
         steps,
     )
@@ -129,7 +123,6 @@ fn matched_by_boxes<L: Ledger>(
     there: &[usize],
     steps: &mut Steps<L>,
 ) -> Result<Relation, RowsRefuse>
-    requires some { 0 < length here.now }
     requires kinds { HaveEqualKinds left.now.heading right.now.heading }
     requires same { attributes_at here.now left.now.heading ≡ attributes_at there.now right.now.heading }
     requires left { AreIntervals left.now.heading here.now }
@@ -154,7 +147,6 @@ fn unmatched_by_boxes<L: Ledger>(
     there: &[usize],
     steps: &mut Steps<L>,
 ) -> Result<Relation, RowsRefuse>
-    requires some { 0 < length here.now }
     requires kinds { HaveEqualKinds left.now.heading right.now.heading }
     requires same { attributes_at here.now left.now.heading ≡ attributes_at there.now right.now.heading }
     requires left { AreIntervals left.now.heading here.now }

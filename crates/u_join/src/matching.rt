@@ -9,16 +9,20 @@ ghost use Rattle.cell_core.specs.Cells.{row_numbers};
 ghost use Rattle.cell_core.specs.Costs.{bound};
 ghost use Rattle.cell_core.specs.declared.boxes.CellRefuse.TheVariants.{Op as OfOp, Limit as OfLimit};
 ghost use Rattle.u_join.specs.Pairs.{matched_boxes, unmatched_boxes};
+ghost use Rattle.u_join.specs.Shared.{left_positions, right_positions};
 
 use crate::keys::{by_keys, with_keys};
+use crate::shared::apart;
 use box_core::{matching, not_matching};
 use cell_core::{BoxRow, CellRefuse, CellRows, back, rows_over_cells};
 use point_core::{Memory, PointType, Steps};
+use slice_core::pack_rows;
 use std::alloc::Global;
 use std::sync::ledger::Ledger;
 use value_core::Row;
 
-// The left boxes where a right box has their key, packed.
+// The left boxes where a right box has their key, packed. The left boxes are packed first, and so are the right ones under their keys:
+// then those of one key do not overlap.
 fn matched_form<T: PointType, L: Ledger>(
     alloc: Global,
     types: &[T],
@@ -28,7 +32,6 @@ fn matched_form<T: PointType, L: Ledger>(
     there: &[usize],
     steps: &mut Steps<L>,
 ) -> Result<Vec<BoxRow<T, Row>>, Memory>
-    requires some { 0 < length types.now }
     requires left { All (λ b. IsBox T.IsPoint types.now b.1) left.now }
     requires right { All (λ b. IsBox T.IsPoint types.now b.1) right.now }
     ensures rows { IfOk result (λ v. map (row_numbers T.number_of) v.items ≡ packed_boxes row_cmp (length types.now) (matched_boxes here.now there.now
@@ -42,14 +45,16 @@ fn matched_form<T: PointType, L: Ledger>(
         left: l,
         right: r,
     } = rows_over_cells(alloc, types, left, right, steps)?;
-    let lefts = with_keys(alloc, l, here)?;
-    let rights = by_keys(alloc, r, there)?;
+    let packed_left = pack_rows(alloc, types.len(), l)?;
+    let keys = by_keys(alloc, r, there)?;
+    let lefts = with_keys(alloc, packed_left, here)?;
+    let rights = pack_rows(alloc, types.len(), keys)?;
     let form = matching(alloc, types.len(), lefts, rights)?;
     let answer = back(alloc, types, sides.as_slice(), form)?;
     Ok(answer)
 }
 
-// The left boxes where no right box has their key, packed.
+// The left boxes where no right box has their key, packed. Both operands are packed first, as above.
 fn unmatched_form<T: PointType, L: Ledger>(
     alloc: Global,
     types: &[T],
@@ -59,7 +64,6 @@ fn unmatched_form<T: PointType, L: Ledger>(
     there: &[usize],
     steps: &mut Steps<L>,
 ) -> Result<Vec<BoxRow<T, Row>>, Memory>
-    requires some { 0 < length types.now }
     requires left { All (λ b. IsBox T.IsPoint types.now b.1) left.now }
     requires right { All (λ b. IsBox T.IsPoint types.now b.1) right.now }
     ensures rows { IfOk result (λ v. map (row_numbers T.number_of) v.items ≡ packed_boxes row_cmp (length types.now) (unmatched_boxes here.now there.now
@@ -73,14 +77,17 @@ fn unmatched_form<T: PointType, L: Ledger>(
         left: l,
         right: r,
     } = rows_over_cells(alloc, types, left, right, steps)?;
-    let lefts = with_keys(alloc, l, here)?;
-    let rights = by_keys(alloc, r, there)?;
+    let packed_left = pack_rows(alloc, types.len(), l)?;
+    let keys = by_keys(alloc, r, there)?;
+    let lefts = with_keys(alloc, packed_left, here)?;
+    let rights = pack_rows(alloc, types.len(), keys)?;
     let form = not_matching(alloc, types.len(), lefts, rights)?;
     let answer = back(alloc, types, sides.as_slice(), form)?;
     Ok(answer)
 }
 
-/// The left boxes at the points where some right box has the same values at its positions as theirs, packed. There is a side at least.
+/// MATCHING of boxes at each point: the left boxes where some right label has the same values as theirs at the positions that `shared`
+/// pairs, packed. Any positions may be paired.
 ///
 /// `Limit` comes exactly where the packed boxes are more than `limit`.
 pub fn u_matching<T: PointType, L: Ledger>(
@@ -88,33 +95,41 @@ pub fn u_matching<T: PointType, L: Ledger>(
     types: &[T],
     left: &[BoxRow<T, Row>],
     right: &[BoxRow<T, Row>],
-    here: &[usize],
-    there: &[usize],
+    shared: &[(usize, usize)],
     limit: usize,
     steps: &mut Steps<L>,
 ) -> Result<Vec<BoxRow<T, Row>>, CellRefuse>
-    requires some { 0 < length types.now }
     requires left { All (λ b. IsBox T.IsPoint types.now b.1) left.now }
     requires right { All (λ b. IsBox T.IsPoint types.now b.1) right.now }
-    ensures rows { IfOk result (λ v. map (row_numbers T.number_of) v.items ≡ packed_boxes row_cmp (length types.now) (matched_boxes here.now there.now
+    ensures rows { IfOk result (λ v. map (row_numbers T.number_of) v.items ≡ packed_boxes row_cmp (length types.now) (matched_boxes (left_positions shared.now) (right_positions shared.now)
         (unpacked_boxes row_cmp (length types.now) (map (row_numbers T.number_of) left.now))
         (unpacked_boxes row_cmp (length types.now) (map (row_numbers T.number_of) right.now)))) }
     ensures boxes { IfOk result (λ v. All (λ b. IsBox T.IsPoint types.now b.1) v.items) }
     ensures few { IfOk result (λ v. length v.items ≤ limit) }
     ensures no_fault { (e : AnyFault) → result ≡ Err (OfOp e) → ⊥ }
-    ensures limit { result ≡ Err OfLimit → limit < length (packed_boxes row_cmp (length types.now) (matched_boxes here.now there.now
+    ensures limit { result ≡ Err OfLimit → limit < length (packed_boxes row_cmp (length types.now) (matched_boxes (left_positions shared.now) (right_positions shared.now)
         (unpacked_boxes row_cmp (length types.now) (map (row_numbers T.number_of) left.now))
         (unpacked_boxes row_cmp (length types.now) (map (row_numbers T.number_of) right.now)))) }
     ensures cost { steps.new ≤ steps.old + bound (length left.now + length right.now) (length types.now) }
 {
-    let answer = matched_form(alloc, types, left, right, here, there, steps)?;
+    let (here, there) = apart(alloc, shared)?;
+    let answer = matched_form(
+        alloc,
+        types,
+        left,
+        right,
+        here.as_slice(),
+        there.as_slice(),
+        steps,
+    )?;
     if answer.len() > limit {
         return Err(CellRefuse::Limit);
     }
     Ok(answer)
 }
 
-/// The left boxes at the points where no right box has the same values at its positions as theirs, packed. There is a side at least.
+/// NOT MATCHING of boxes at each point: the left boxes where no right label has the same values as theirs at the positions that `shared`
+/// pairs, packed. Any positions may be paired.
 ///
 /// `Limit` comes exactly where the packed boxes are more than `limit`.
 pub fn u_not_matching<T: PointType, L: Ledger>(
@@ -122,26 +137,33 @@ pub fn u_not_matching<T: PointType, L: Ledger>(
     types: &[T],
     left: &[BoxRow<T, Row>],
     right: &[BoxRow<T, Row>],
-    here: &[usize],
-    there: &[usize],
+    shared: &[(usize, usize)],
     limit: usize,
     steps: &mut Steps<L>,
 ) -> Result<Vec<BoxRow<T, Row>>, CellRefuse>
-    requires some { 0 < length types.now }
     requires left { All (λ b. IsBox T.IsPoint types.now b.1) left.now }
     requires right { All (λ b. IsBox T.IsPoint types.now b.1) right.now }
-    ensures rows { IfOk result (λ v. map (row_numbers T.number_of) v.items ≡ packed_boxes row_cmp (length types.now) (unmatched_boxes here.now there.now
+    ensures rows { IfOk result (λ v. map (row_numbers T.number_of) v.items ≡ packed_boxes row_cmp (length types.now) (unmatched_boxes (left_positions shared.now) (right_positions shared.now)
         (unpacked_boxes row_cmp (length types.now) (map (row_numbers T.number_of) left.now))
         (unpacked_boxes row_cmp (length types.now) (map (row_numbers T.number_of) right.now)))) }
     ensures boxes { IfOk result (λ v. All (λ b. IsBox T.IsPoint types.now b.1) v.items) }
     ensures few { IfOk result (λ v. length v.items ≤ limit) }
     ensures no_fault { (e : AnyFault) → result ≡ Err (OfOp e) → ⊥ }
-    ensures limit { result ≡ Err OfLimit → limit < length (packed_boxes row_cmp (length types.now) (unmatched_boxes here.now there.now
+    ensures limit { result ≡ Err OfLimit → limit < length (packed_boxes row_cmp (length types.now) (unmatched_boxes (left_positions shared.now) (right_positions shared.now)
         (unpacked_boxes row_cmp (length types.now) (map (row_numbers T.number_of) left.now))
         (unpacked_boxes row_cmp (length types.now) (map (row_numbers T.number_of) right.now)))) }
     ensures cost { steps.new ≤ steps.old + bound (length left.now + length right.now) (length types.now) }
 {
-    let answer = unmatched_form(alloc, types, left, right, here, there, steps)?;
+    let (here, there) = apart(alloc, shared)?;
+    let answer = unmatched_form(
+        alloc,
+        types,
+        left,
+        right,
+        here.as_slice(),
+        there.as_slice(),
+        steps,
+    )?;
     if answer.len() > limit {
         return Err(CellRefuse::Limit);
     }

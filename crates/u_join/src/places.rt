@@ -4,9 +4,11 @@ ghost use Rattle.std.specs.List.{All};
 ghost use Rattle.relation_core.specs.Agreement.{common_positions};
 ghost use Rattle.relation_core.specs.Parts.{positions_in};
 ghost use Rattle.u_row.specs.Kept.{inner};
-ghost use Rattle.u_join.specs.Places.{both_lists};
+ghost use Rattle.u_join.specs.Places.{positions_of_both};
+ghost use Rattle.u_join.specs.Shared.{left_positions, right_positions};
 
 use crate::names::{common_positions, joined_places};
+use crate::shared::paired;
 use point_core::Memory;
 use std::alloc::Global;
 use u_row::inner;
@@ -26,8 +28,25 @@ pub(crate) fn key_places(
     inner(alloc, acl, common.as_slice())
 }
 
+/// The same of left and of right rows, in pairs.
+pub(crate) fn key_pairs(
+    alloc: Global,
+    left: &[(Name, Kind)],
+    right: &[(Name, Kind)],
+    here: &[usize],
+    there: &[usize],
+) -> Result<Vec<(usize, usize)>, Memory>
+    requires { length (inner here.now (common_positions left.now left.now right.now)) ≡ length (inner there.now (common_positions right.now left.now right.now)) }
+    ensures left { IfOk result (λ v. left_positions v.items ≡ inner here.now (common_positions left.now left.now right.now)) }
+    ensures right { IfOk result (λ v. right_positions v.items ≡ inner there.now (common_positions right.now left.now right.now)) }
+{
+    let ours = key_places(alloc, left, left, right, here)?;
+    let theirs = key_places(alloc, right, left, right, there)?;
+    paired(alloc, ours.as_slice(), theirs.as_slice())
+}
+
 // The positions of the first, which has so many values, and those of the second behind it.
-fn both_lists(
+fn positions_of_both(
     alloc: Global,
     size: usize,
     here: &[usize],
@@ -35,7 +54,7 @@ fn both_lists(
 ) -> Result<Vec<usize>, Memory>
     requires size { size ≤ 64 }
     requires there { All (λ (i : ℕ). i ≤ 64) there.now }
-    ensures { IfOk result (λ v. v.items ≡ both_lists size here.now there.now) }
+    ensures { IfOk result (λ v. v.items ≡ positions_of_both size here.now there.now) }
 {
     let mut list = Vec::with_capacity(alloc, here.len())?;
     list.extend_from_slice(here)?;
@@ -56,9 +75,9 @@ pub(crate) fn label_places(
 ) -> Result<Vec<usize>, Memory>
     requires few { length left.now + length right.now ≤ 64 }
     requires there { All (λ (i : ℕ). i < length right.now) there.now }
-    ensures { IfOk result (λ v. v.items ≡ inner (both_lists (length left.now) here.now there.now) (positions_in (left.now ++ right.now) heading.now)) }
+    ensures { IfOk result (λ v. v.items ≡ inner (positions_of_both (length left.now) here.now there.now) (positions_in (left.now ++ right.now) heading.now)) }
 {
-    let listed = both_lists(alloc, left.len(), here, there)?;
+    let listed = positions_of_both(alloc, left.len(), here, there)?;
     let places = joined_places(alloc, left, right, heading)?;
     inner(alloc, listed.as_slice(), places.as_slice())
 }

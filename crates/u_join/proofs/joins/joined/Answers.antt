@@ -1,4 +1,4 @@
-use Rattle.std.proofs.Common.{◌≡◌, ◌<◌, ◌≤◌, [], ℕ, List, length, sym, ap, ◌∙◌, subst, arith}
+use Rattle.std.proofs.Common.{◌≡◌, ◌<◌, ◌≤◌, length, sym, ◌∙◌, subst, arith}
 use Rattle.std.specs.Result.{MatchResult}
 use Rattle.value_core.specs.RowPacking.{packed, unpacked}
 use Rattle.value_core.specs.Headings.{most_attributes}
@@ -22,8 +22,3 @@ returns-then-acl-eq0-clause-rows g c =
     let whole = sym c.requires.heading in
     subst (λ T. T) (λ t. MatchResult c.join.result (IsAnswer (whole t) (packed (acl t) (joined left.heading right.heading (unpacked (here t) left.rows) (unpacked (there t) right.rows))))
     (IsRefusal (packed (acl t) (joined left.heading right.heading (unpacked (here t) left.rows) (unpacked (there t) right.rows))))) c.join.ensures.rows
-
-pub joined_by_boxes-requires-clause-some : goal.joined_by_boxes-requires-clause-some
-joined_by_boxes-requires-clause-some g c =
-    let some : 0 < length c.args.acl.now = omega arith in
-    subst (λ k. 0 < k) (sym (same_count c.args.heading.now c.args.left.now.heading c.args.acl.now c.args.here.now c.requires.listed)) some

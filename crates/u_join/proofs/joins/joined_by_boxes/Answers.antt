@@ -1,4 +1,4 @@
-use Rattle.std.proofs.Common.{◌≡◌, ◌+◌, ◌≤◌, ◌++◌, Err, List, length, map, sym, ap, ◌∙◌, subst}
+use Rattle.std.proofs.Common.{◌+◌, ◌≤◌, ◌++◌, Err, List, length, map, sym, ap, ◌∙◌, subst}
 use Rattle.std.specs.Bool.{IsTrue}
 use Rattle.std.specs.List.{All}
 use Rattle.point_core.specs.Points.{IsPointOf}
@@ -16,8 +16,8 @@ use Rattle.cell_core.specs.Costs.{bound}
 use Rattle.u_set.specs.Boxes.{AreIntervals, types_at, others, boxed}
 use Rattle.u_set.proofs.RelationLemmas.{relation_shaped, answer_read, refusal_read, labels_read}
 use Rattle.u_row.specs.Kept.{inner}
-use Rattle.u_join.specs.Pairs.{joined_boxes}
-use Rattle.u_join.specs.Places.{both_lists}
+use Rattle.u_join.specs.Pairs.{joined_label, joined_boxes}
+use Rattle.u_join.specs.Places.{positions_of_both}
 use Rattle.u_join.proofs.ListedLemmas.{same_types, same_count, joined_under}
 use Rattle.u_join.proofs.joins.joined_by_boxes.Goals as goal
 
@@ -43,7 +43,7 @@ from_boxes-requires-clause-labels g c =
     left.rows right.rows (rows_ascend left l) (rows_ascend right r) (relation_shaped left l here c.requires.left) (relation_shaped right r there c.requires.right)
     c.args.heading.now acl c.requires.heading c.requires.intervals c.requires.listed in
     subst (λ (h : Heading). All (λ b. IsTrue (fits_heading (others acl h) b.0)) c.in-Ok.form.items) (sym c.in_ok-whole.ensures)
-    (labels_read c.args.heading.now acl (packed acl (joined left.heading right.heading (unpacked here left.rows) (unpacked there right.rows))) (packed_boxes row_cmp (length here) (joined_boxes (inner here (common_positions left.heading left.heading right.heading)) (inner there (common_positions right.heading left.heading right.heading)) (inner (both_lists (length left.heading) here there) (positions_in (left.heading ++ right.heading) c.args.heading.now)) (unpacked_boxes row_cmp (length here) (map (boxed here) left.rows)) (unpacked_boxes row_cmp (length here) (map (boxed there) right.rows)))) are c.in-Ok.form.items c.in-Ok.ensures.rows)
+    (labels_read c.args.heading.now acl (packed acl (joined left.heading right.heading (unpacked here left.rows) (unpacked there right.rows))) (packed_boxes row_cmp (length here) (joined_boxes (inner here (common_positions left.heading left.heading right.heading)) (inner there (common_positions right.heading left.heading right.heading)) (joined_label (inner (positions_of_both (length left.heading) here there) (positions_in (left.heading ++ right.heading) c.args.heading.now))) (unpacked_boxes row_cmp (length here) (map (boxed here) left.rows)) (unpacked_boxes row_cmp (length here) (map (boxed there) right.rows)))) are c.in-Ok.form.items c.in-Ok.ensures.rows)
 
 pub returns-in-Ok-clause-rows : goal.returns-in-Ok-clause-rows
 returns-in-Ok-clause-rows g c =
@@ -58,7 +58,7 @@ returns-in-Ok-clause-rows g c =
     joined_under left.heading right.heading here there c.requires.same c.requires.kinds (heading_ascends left.heading l.headed) (heading_ascends right.heading r.headed) c.requires.left c.requires.right
     left.rows right.rows (rows_ascend left l) (rows_ascend right r) (relation_shaped left l here c.requires.left) (relation_shaped right r there c.requires.right)
     c.args.heading.now acl c.requires.heading c.requires.intervals c.requires.listed in
-    answer_read c.args.heading.now acl (packed acl (joined left.heading right.heading (unpacked here left.rows) (unpacked there right.rows))) (packed_boxes row_cmp (length here) (joined_boxes (inner here (common_positions left.heading left.heading right.heading)) (inner there (common_positions right.heading left.heading right.heading)) (inner (both_lists (length left.heading) here there) (positions_in (left.heading ++ right.heading) c.args.heading.now)) (unpacked_boxes row_cmp (length here) (map (boxed here) left.rows)) (unpacked_boxes row_cmp (length here) (map (boxed there) right.rows)))) are c.in-Ok.form.items c.in-Ok.ensures.rows c.in_ok-whole.whole c.in_ok-whole.ensures c.from_boxes.result c.from_boxes.ensures
+    answer_read c.args.heading.now acl (packed acl (joined left.heading right.heading (unpacked here left.rows) (unpacked there right.rows))) (packed_boxes row_cmp (length here) (joined_boxes (inner here (common_positions left.heading left.heading right.heading)) (inner there (common_positions right.heading left.heading right.heading)) (joined_label (inner (positions_of_both (length left.heading) here there) (positions_in (left.heading ++ right.heading) c.args.heading.now))) (unpacked_boxes row_cmp (length here) (map (boxed here) left.rows)) (unpacked_boxes row_cmp (length here) (map (boxed there) right.rows)))) are c.in-Ok.form.items c.in-Ok.ensures.rows c.in_ok-whole.whole c.in_ok-whole.ensures c.from_boxes.result c.from_boxes.ensures
 
 pub returns-in-Err-clause-rows : goal.returns-in-Err-clause-rows
 returns-in-Err-clause-rows g c =
@@ -73,7 +73,7 @@ returns-in-Err-clause-rows g c =
     joined_under left.heading right.heading here there c.requires.same c.requires.kinds (heading_ascends left.heading l.headed) (heading_ascends right.heading r.headed) c.requires.left c.requires.right
     left.rows right.rows (rows_ascend left l) (rows_ascend right r) (relation_shaped left l here c.requires.left) (relation_shaped right r there c.requires.right)
     c.args.heading.now acl c.requires.heading c.requires.intervals c.requires.listed in
-    refusal_read c.args.heading.now acl (packed acl (joined left.heading right.heading (unpacked here left.rows) (unpacked there right.rows))) (packed_boxes row_cmp (length here) (joined_boxes (inner here (common_positions left.heading left.heading right.heading)) (inner there (common_positions right.heading left.heading right.heading)) (inner (both_lists (length left.heading) here there) (positions_in (left.heading ++ right.heading) c.args.heading.now)) (unpacked_boxes row_cmp (length here) (map (boxed here) left.rows)) (unpacked_boxes row_cmp (length here) (map (boxed there) right.rows)))) are
+    refusal_read c.args.heading.now acl (packed acl (joined left.heading right.heading (unpacked here left.rows) (unpacked there right.rows))) (packed_boxes row_cmp (length here) (joined_boxes (inner here (common_positions left.heading left.heading right.heading)) (inner there (common_positions right.heading left.heading right.heading)) (joined_label (inner (positions_of_both (length left.heading) here there) (positions_in (left.heading ++ right.heading) c.args.heading.now))) (unpacked_boxes row_cmp (length here) (map (boxed here) left.rows)) (unpacked_boxes row_cmp (length here) (map (boxed there) right.rows)))) are
     c.in-Err.refuse c.refusal.result c.refusal.ensures (λ e. c.in-Err.ensures.limit (ap (λ x. Err x) e))
 
 pub returns-in-Ok-clause-cost : goal.returns-in-Ok-clause-cost

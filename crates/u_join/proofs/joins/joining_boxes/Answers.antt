@@ -15,8 +15,8 @@ use Rattle.cell_core.specs.Costs.{bound}
 use Rattle.cell_core.specs.declared.boxes.CellRefuse.TheVariants.{Limit as OfLimit}
 use Rattle.u_set.specs.Boxes.{type_of, types_at, boxed}
 use Rattle.u_row.specs.Kept.{inner}
-use Rattle.u_join.specs.Pairs.{joined_boxes}
-use Rattle.u_join.specs.Places.{both_lists}
+use Rattle.u_join.specs.Pairs.{joined_label, joined_boxes}
+use Rattle.u_join.specs.Places.{positions_of_both}
 use Rattle.u_join.proofs.ListedLemmas.{same_types}
 use Rattle.u_join.proofs.joins.joining_boxes.Goals as goal
 
@@ -33,8 +33,8 @@ label_places-requires-clause-there g c =
     let theirs = c.attributes-theirs.ensures.list ∙ c.heading-2.ensures.heading in
     subst (λ (h : Heading). All (λ (i : ℕ). i < length h) c.args.there.now) (sym theirs) c.requires.right.within
 
-pub u_join-requires-clause-right : goal.u_join-requires-clause-right
-u_join-requires-clause-right g c =
+pub joined_in_limit-requires-clause-right : goal.joined_in_limit-requires-clause-right
+joined_in_limit-requires-clause-right g c =
     let ours = c.attributes-ours.ensures.list ∙ c.heading.ensures.heading in
     let types = c.as_slice.ensures.value ∙ c.in_ok-types.ensures ∙ (λ t. types_at (ours t) c.args.here.now) in
     let same = same_types c.args.left.now.heading c.args.right.now.heading c.args.here.now c.args.there.now c.requires.same in
@@ -50,9 +50,9 @@ returns-clause-rows g c =
     let r = (λ t. map (row_numbers number) (c.as_slice-3.ensures.value t)) ∙ c.in_ok-r.ensures.rows in
     let here = c.as_slice-4.ensures.value ∙ c.in_ok-here_key.ensures ∙ (λ t. inner c.args.here.now (common_positions (ours t) (ours t) (theirs t))) in
     let there = c.as_slice-5.ensures.value ∙ c.in_ok-there_key.ensures ∙ (λ t. inner c.args.there.now (common_positions (theirs t) (ours t) (theirs t))) in
-    let places = c.as_slice-6.ensures.value ∙ c.in_ok-places.ensures ∙ (λ t. inner (both_lists (length (ours t)) c.args.here.now c.args.there.now) (positions_in (ours t ++ theirs t) (c.attributes.ensures.list t))) in
-    subst (λ s. IfOk c.u_join.result (λ v. map (row_numbers number) v.items ≡ s))
-    (λ t. packed_boxes row_cmp (sides t) (joined_boxes (here t) (there t) (places t) (unpacked_boxes row_cmp (sides t) (l t)) (unpacked_boxes row_cmp (sides t) (r t)))) c.u_join.ensures.rows
+    let places = c.in_ok-places.ensures ∙ (λ t. inner (positions_of_both (length (ours t)) c.args.here.now c.args.there.now) (positions_in (ours t ++ theirs t) (c.attributes.ensures.list t))) in
+    subst (λ s. IfOk c.joined_in_limit.result (λ v. map (row_numbers number) v.items ≡ s))
+    (λ t. packed_boxes row_cmp (sides t) (joined_boxes (here t) (there t) (joined_label (places t)) (unpacked_boxes row_cmp (sides t) (l t)) (unpacked_boxes row_cmp (sides t) (r t)))) c.joined_in_limit.ensures.rows
 
 pub returns-clause-limit : goal.returns-clause-limit
 returns-clause-limit g c =
@@ -63,9 +63,9 @@ returns-clause-limit g c =
     let r = (λ t. map (row_numbers number) (c.as_slice-3.ensures.value t)) ∙ c.in_ok-r.ensures.rows in
     let here = c.as_slice-4.ensures.value ∙ c.in_ok-here_key.ensures ∙ (λ t. inner c.args.here.now (common_positions (ours t) (ours t) (theirs t))) in
     let there = c.as_slice-5.ensures.value ∙ c.in_ok-there_key.ensures ∙ (λ t. inner c.args.there.now (common_positions (theirs t) (ours t) (theirs t))) in
-    let places = c.as_slice-6.ensures.value ∙ c.in_ok-places.ensures ∙ (λ t. inner (both_lists (length (ours t)) c.args.here.now c.args.there.now) (positions_in (ours t ++ theirs t) (c.attributes.ensures.list t))) in
-    subst (λ s. c.u_join.result ≡ Err OfLimit → most_rows < length s)
-    (λ t. packed_boxes row_cmp (sides t) (joined_boxes (here t) (there t) (places t) (unpacked_boxes row_cmp (sides t) (l t)) (unpacked_boxes row_cmp (sides t) (r t)))) c.u_join.ensures.limit
+    let places = c.in_ok-places.ensures ∙ (λ t. inner (positions_of_both (length (ours t)) c.args.here.now c.args.there.now) (positions_in (ours t ++ theirs t) (c.attributes.ensures.list t))) in
+    subst (λ s. c.joined_in_limit.result ≡ Err OfLimit → most_rows < length s)
+    (λ t. packed_boxes row_cmp (sides t) (joined_boxes (here t) (there t) (joined_label (places t)) (unpacked_boxes row_cmp (sides t) (l t)) (unpacked_boxes row_cmp (sides t) (r t)))) c.joined_in_limit.ensures.limit
 
 pub returns-clause-cost : goal.returns-clause-cost
 returns-clause-cost g c =
@@ -74,4 +74,4 @@ returns-clause-cost g c =
     let r = (λ t. map (row_numbers number) (c.as_slice-3.ensures.value t)) ∙ c.in_ok-r.ensures.rows in
     let many = sym (length-map c.as_slice-2.result.now (row_numbers number)) ∙ ap length l ∙ length-map c.args.left.now.rows (boxed c.args.here.now) in
     let more = sym (length-map c.as_slice-3.result.now (row_numbers number)) ∙ ap length r ∙ length-map c.args.right.now.rows (boxed c.args.there.now) in
-    subst (λ b. c.u_join.new.steps ≤ c.args.steps.now + b) (λ t. bound (many t + more t) (sides t)) c.u_join.ensures.cost
+    subst (λ b. c.joined_in_limit.new.steps ≤ c.args.steps.now + b) (λ t. bound (many t + more t) (sides t)) c.joined_in_limit.ensures.cost

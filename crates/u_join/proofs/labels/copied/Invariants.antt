@@ -1,5 +1,6 @@
-use Rattle.std.proofs.Common.{◌≡◌, take}
+use Rattle.std.proofs.Common.{◌≡◌, take, map}
+use Rattle.value_core.specs.Plain.{plain}
 use Rattle.u_join.proofs.labels.copied.Given as goal
 
-abbrev pub invariant-loop-place : goal.invariant-loop-place
-invariant-loop-place l = l.list.items ≡ take l.place-index l.places
+abbrev pub invariant-loop-value : goal.invariant-loop-value
+invariant-loop-value l = map plain l.list.items ≡ map plain (take l.value-index l.values)

@@ -7,7 +7,7 @@ use Rattle.relation_core.specs.Agreement.{common_positions, unmatched}
 use Rattle.relation_core.proofs.FilterLemmas.{rows_ascend}
 use Rattle.relation_core.proofs.HeadingLemmas.{heading_ascends}
 use Rattle.packing_core.specs.Boxed.{packed_boxes, unpacked_boxes}
-use Rattle.u_set.specs.Boxes.{AreIntervals, others, boxed}
+use Rattle.u_set.specs.Boxes.{others, boxed}
 use Rattle.u_set.proofs.RelationLemmas.{relation_shaped, answer_read, refusal_read, labels_read}
 use Rattle.u_row.specs.Kept.{inner}
 use Rattle.u_join.specs.Pairs.{unmatched_boxes}

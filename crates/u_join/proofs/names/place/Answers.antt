@@ -1,4 +1,4 @@
-use Rattle.std.proofs.Common.{◌≡◌, ◌+◌, ◌<◌, ◌≤◌, length, sym, ap, ◌∙◌, subst, arith}
+use Rattle.std.proofs.Common.{◌+◌, ◌<◌, ◌≤◌, length, sym, ap, ◌∙◌, subst, arith}
 use Rattle.relation_core.specs.Agreement.{position_of}
 use Rattle.u_join.proofs.NameLemmas.{position_first, position_second}
 use Rattle.u_join.proofs.names.place.Goals as goal

@@ -1,0 +1,18 @@
+use Rattle.std.proofs.Common.{◌≡◌, map, length, ◌∙◌, subst}
+use Rattle.std.specs.Result.{IfOk}
+use Rattle.value_core.specs.Values.{row_cmp}
+use Rattle.packing_core.specs.Boxed.{packed_boxes, unpacked_boxes}
+use Rattle.cell_core.specs.Cells.{row_numbers}
+use Rattle.u_join.specs.Pairs.{joined_boxes}
+use Rattle.u_join.specs.Shared.{beside}
+use Rattle.u_join.proofs.joining.u_join.Goals as goal
+
+pub returns-clause-rows : goal.returns-clause-rows
+returns-clause-rows g c =
+    let here = c.as_slice.ensures.value ∙ c.in_ok-here.ensures.left in
+    let positions = c.in_ok-here.ensures.right in
+    let there = c.as_slice-2.ensures.value ∙ positions in
+    let left = unpacked_boxes row_cmp (length c.args.types.now) (map (row_numbers g.T.PointType.number_of) c.args.left.now) in
+    let right = unpacked_boxes row_cmp (length c.args.types.now) (map (row_numbers g.T.PointType.number_of) c.args.right.now) in
+    subst (λ s. IfOk c.joined_in_limit.result (λ v. map (row_numbers g.T.PointType.number_of) v.items ≡ s))
+    (λ t. packed_boxes row_cmp (length c.args.types.now) (joined_boxes (here t) (there t) (beside (positions t)) left right)) c.joined_in_limit.ensures.rows
