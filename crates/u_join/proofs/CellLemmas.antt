@@ -1,6 +1,5 @@
 -- The operators over the cells of a numbering: what they give of packed rows with keys, and what that is by its numbers.
 use Rattle.std.proofs.Common.{◌≡◌, ◌↔◌, ℕ, ◌<◌, ◌≤◌, ℤ, List, map, length, get_or, sym, refl, ap, ◌∙◌, subst}
-use Rattle.std.specs.List.{All}
 use Rattle.std.specs.List.Sorted.{IsStrictlySortedBy}
 use Rattle.value_core.specs.Order.{row_total, row_separates}
 use Rattle.value_core.specs.Values.{Row, row_cmp}
@@ -9,17 +8,16 @@ use Rattle.packing_core.specs.Boxed.{Boxed, packed_boxes, unpacked_boxes, InBoxe
 use Rattle.packing_core.specs.Covering.{Among}
 use Rattle.packing_core.specs.Packed.{no_cells}
 use Rattle.packing_core.proofs.AmongLemmas.{among_map}
-use Rattle.packing_core.proofs.PackedBoxes.{among_in}
 use Rattle.slice_core.specs.Rows.{key_cmp}
-use Rattle.slice_core.specs.PackedRows.{HasRow, IsPackedOf}
+use Rattle.slice_core.specs.PackedRows.{HasRow}
 use Rattle.box_core.specs.Answers.{IsPackedCover, IsBoxOf, IsBoxOfKeyed, KeyedBox, HasKeyed, IsMatched, IsUnmatched, IsJoined}
 use Rattle.cell_core.specs.CellRows.{AreOverCells}
 use Rattle.cell_core.specs.Cells.{grids_of, grid_row, row_numbers}
 use Rattle.cell_core.proofs.PackedPlaces.{AllHave}
-use Rattle.cell_kernels.proofs.KernelLemmas.{AreOn, left_on, right_on, mapped_on, left_places, right_places, relabelled_places, packed_on, packed_places, within, form}
+use Rattle.cell_kernels.proofs.KernelLemmas.{AreOn, left_on, right_on, mapped_on, left_places, right_places, relabelled_places, fewer_on, fewer_places, within, form}
+use Rattle.cell_kernels.specs.Fewer.{IsSameOrPacked}
 use Rattle.u_set.proofs.CellLemmas.{numbers_have}
 use Rattle.u_row.specs.Labels.{relabelled}
-use Rattle.u_row.proofs.BeneathLemmas.{all_in}
 use Rattle.u_join.specs.Keyed.{keyed}
 use Rattle.u_join.specs.Pairs.{matched_boxes, unmatched_boxes, joined_boxes, IsJoinedAt}
 use Rattle.u_join.proofs.PairPlaces.{places_matched, places_unmatched, places_joined, matched_have, unmatched_have, joined_have}
@@ -52,10 +50,6 @@ module _ (at : List ℕ) (rows : List Cells) where
       let sides : (w.0).1 ≡ y = ap (λ (x : KeyedBox Row Row). x.2) w.2 in
       let same : w.0 ≡ (h.1, y) = λ t. (label t, sides t) in
       (h.1, subst (λ x. Among x rows) same w.1)
-
--- every packed row has a side for each of the sides
-pub packed_sides : (k : ℕ) (rows v : List Cells) → ((x : Cells) → Among x v ↔ (length x.1 ≡ k) × IsPackedOf k rows x) → All (λ x. length x.1 ≡ k) v
-packed_sides k rows v packed = all_in (λ (x : Cells). length x.1 ≡ k) v (λ x i. ((packed x).0 ((among_in x v).1 i)).0)
 
 -- ---- at a place, where A are the left labels and B the keys of the right ones there
 
@@ -121,8 +115,8 @@ module _ (here : List ℕ) where
 
 module _ {T P : Type 0} (n : P → ℤ) (has : T → P → Type 0) (high : T → ℤ) (point : (t : T) → P) (ts : List T) (left right : List (Row × List (P × P)))
     (ss : List (List P × List P × List (ℕ × ℕ))) (ls rs : List (Row × List (ℕ × ℕ))) (over : AreOverCells n has high ts left right ss ls rs)
-    (here there : List ℕ) (packed_left : List (Row × List (ℕ × ℕ))) (left_packed : (x : Row × List (ℕ × ℕ)) → Among x packed_left ↔ (length x.1 ≡ length ts) × IsPackedOf (length ts) ls x)
-    (left_sorted : IsStrictlySortedBy (key_cmp row_cmp) packed_left) (lefts : List (Row × Row × List (ℕ × ℕ))) (left_keys : lefts ≡ map (keyed (part_of here)) packed_left)
+    (here there : List ℕ) (fewer_left : List (Row × List (ℕ × ℕ))) (left_fewer : IsSameOrPacked row_cmp (length ts) ls fewer_left)
+    (lefts : List (Row × Row × List (ℕ × ℕ))) (left_keys : lefts ≡ map (keyed (part_of here)) fewer_left)
     (out : List (Row × List (ℕ × ℕ))) where
   abbrev k : ℕ
   k = length ts
@@ -145,30 +139,30 @@ module _ {T P : Type 0} (n : P → ℤ) (has : T → P → Type 0) (high : T →
   hr : AllHave k (map (row_numbers n) right)
   hr = numbers_have n has ts right over.right_boxes
 
-  lo : AreOn k ss packed_left
-  lo = packed_on n has high point ts left right ss ls rs over ls packed_left (left_on n has high point ts left right ss ls rs over) left_packed
+  lo : AreOn k ss fewer_left
+  lo = fewer_on n has high point ts left right ss ls rs over row_cmp ls fewer_left (left_on n has high point ts left right ss ls rs over) left_fewer
 
-  -- the packed left rows have at points what the left boxes have
-  left_at : (p : List ℤ) (l : Row) → InBoxes (map (grid_row ns) packed_left) l p ↔ InBoxes (map (row_numbers n) left) l p
+  -- the left rows have at points what the left boxes have
+  left_at : (p : List ℤ) (l : Row) → InBoxes (map (grid_row ns) fewer_left) l p ↔ InBoxes (map (row_numbers n) left) l p
   left_at p l =
-      let a = packed_places n has high point ts left right ss ls rs over ls packed_left (left_on n has high point ts left right ss ls rs over) left_packed row_cmp row_total row_separates left_sorted l p in
+      let a = fewer_places n has high point ts left right ss ls rs over row_cmp ls fewer_left (left_on n has high point ts left right ss ls rs over) left_fewer row_total row_separates l p in
       let b = left_places n has high point ts left right ss ls rs over l p in
       (λ h. b.0 (a.0 h), λ h. a.1 (b.1 h))
 
-  -- ---- the right rows under their keys, packed
+  -- ---- the right rows under their keys
 
   module _ (keys rights : List (Row × List (ℕ × ℕ))) (right_keys : keys ≡ map (relabelled (part_of there)) rs)
-      (right_packed : (x : Row × List (ℕ × ℕ)) → Among x rights ↔ (length x.1 ≡ length ts) × IsPackedOf (length ts) keys x) (right_sorted : IsStrictlySortedBy (key_cmp row_cmp) rights) where
+      (right_fewer : IsSameOrPacked row_cmp (length ts) keys rights) where
     keys_on : AreOn k ss keys
     keys_on = subst (λ (v : List (Row × List (ℕ × ℕ))). AreOn k ss v) (sym right_keys) (mapped_on k ss (relabelled (part_of there)) (λ x. refl) rs (right_on n has high point ts left right ss ls rs over))
 
     ro : AreOn k ss rights
-    ro = packed_on n has high point ts left right ss ls rs over keys rights keys_on right_packed
+    ro = fewer_on n has high point ts left right ss ls rs over row_cmp keys rights keys_on right_fewer
 
     -- they have a key at a point where a right box has a label with it
     keys_at : (p : List ℤ) (key : Row) → InBoxes (map (grid_row ns) rights) key p ↔ ((m : Row) × InBoxes (map (row_numbers n) right) m p × (key ≡ part_of there m))
     keys_at p key =
-        let a = packed_places n has high point ts left right ss ls rs over keys rights keys_on right_packed row_cmp row_total row_separates right_sorted key p in
+        let a = fewer_places n has high point ts left right ss ls rs over row_cmp keys rights keys_on right_fewer row_total row_separates key p in
         let b = relabelled_places ns (part_of there) rs key p in
         let under : InBoxes (map (grid_row ns) keys) key p ≡ InBoxes (map (grid_row ns) (map (relabelled (part_of there)) rs)) key p = λ t. InBoxes (map (grid_row ns) (right_keys t)) key p in (
           λ h.
@@ -178,17 +172,17 @@ module _ {T P : Type 0} (n : P → ℤ) (has : T → P → Type 0) (high : T →
         )
 
     module _ (cover : IsPackedCover k (IsMatched lefts rights) (IsBoxOfKeyed lefts) out) where
-      matched_cover : IsPackedCover k (IsMatched (map (keyed (part_of here)) packed_left) rights) (IsBoxOfKeyed (map (keyed (part_of here)) packed_left)) out
+      matched_cover : IsPackedCover k (IsMatched (map (keyed (part_of here)) fewer_left) rights) (IsBoxOfKeyed (map (keyed (part_of here)) fewer_left)) out
       matched_cover = subst (λ (v : List (KeyedBox Row Row)). IsPackedCover k (IsMatched v rights) (IsBoxOfKeyed v) out) left_keys cover
 
       pub matched_within : WithinCells
-      matched_within = within n has high point ts left right ss ls rs over packed_left rights lo ro (HasKey here) (key_alike here) (key_some here) (IsMatched (map (keyed (part_of here)) packed_left) rights) (λ l p e. matched_cells here packed_left rights l p)
-          (IsBoxOfKeyed (map (keyed (part_of here)) packed_left)) (boxes_keyed here packed_left) out matched_cover
+      matched_within = within n has high point ts left right ss ls rs over fewer_left rights lo ro (HasKey here) (key_alike here) (key_some here) (IsMatched (map (keyed (part_of here)) fewer_left) rights) (λ l p e. matched_cells here fewer_left rights l p)
+          (IsBoxOfKeyed (map (keyed (part_of here)) fewer_left)) (boxes_keyed here fewer_left) out matched_cover
 
       pub matched_form : IsStrictlySortedBy (key_cmp row_cmp) out → map (grid_row (grids_of n high ts ss)) out ≡ packed_boxes row_cmp k (matched_boxes here there lefts_unpacked rights_unpacked)
       matched_form sorted =
-          form n has high point ts left right ss ls rs over packed_left rights lo ro (HasKey here) (key_alike here) (key_some here) (IsMatched (map (keyed (part_of here)) packed_left) rights) (λ l p e. matched_cells here packed_left rights l p)
-          (IsBoxOfKeyed (map (keyed (part_of here)) packed_left)) (boxes_keyed here packed_left) out matched_cover row_cmp row_total row_separates sorted (matched_boxes here there lefts_unpacked rights_unpacked)
+          form n has high point ts left right ss ls rs over fewer_left rights lo ro (HasKey here) (key_alike here) (key_some here) (IsMatched (map (keyed (part_of here)) fewer_left) rights) (λ l p e. matched_cells here fewer_left rights l p)
+          (IsBoxOfKeyed (map (keyed (part_of here)) fewer_left)) (boxes_keyed here fewer_left) out matched_cover row_cmp row_total row_separates sorted (matched_boxes here there lefts_unpacked rights_unpacked)
           (matched_have here there k (map (row_numbers n) left) (map (row_numbers n) right) hl hr) (λ l p.
           let w = places_matched here there k (map (row_numbers n) left) (map (row_numbers n) right) hl hr l p in
           let a = left_at p l in
@@ -198,17 +192,17 @@ module _ {T P : Type 0} (n : P → ℤ) (has : T → P → Type 0) (high : T →
           ))
 
     module _ (cover : IsPackedCover k (IsUnmatched lefts rights) (IsBoxOfKeyed lefts) out) where
-      unmatched_cover : IsPackedCover k (IsUnmatched (map (keyed (part_of here)) packed_left) rights) (IsBoxOfKeyed (map (keyed (part_of here)) packed_left)) out
+      unmatched_cover : IsPackedCover k (IsUnmatched (map (keyed (part_of here)) fewer_left) rights) (IsBoxOfKeyed (map (keyed (part_of here)) fewer_left)) out
       unmatched_cover = subst (λ (v : List (KeyedBox Row Row)). IsPackedCover k (IsUnmatched v rights) (IsBoxOfKeyed v) out) left_keys cover
 
       pub unmatched_within : WithinCells
-      unmatched_within = within n has high point ts left right ss ls rs over packed_left rights lo ro (HasNoKey here) (no_key_alike here) (no_key_some here) (IsUnmatched (map (keyed (part_of here)) packed_left) rights) (λ l p e. unmatched_cells here packed_left rights l p)
-          (IsBoxOfKeyed (map (keyed (part_of here)) packed_left)) (boxes_keyed here packed_left) out unmatched_cover
+      unmatched_within = within n has high point ts left right ss ls rs over fewer_left rights lo ro (HasNoKey here) (no_key_alike here) (no_key_some here) (IsUnmatched (map (keyed (part_of here)) fewer_left) rights) (λ l p e. unmatched_cells here fewer_left rights l p)
+          (IsBoxOfKeyed (map (keyed (part_of here)) fewer_left)) (boxes_keyed here fewer_left) out unmatched_cover
 
       pub unmatched_form : IsStrictlySortedBy (key_cmp row_cmp) out → map (grid_row (grids_of n high ts ss)) out ≡ packed_boxes row_cmp k (unmatched_boxes here there lefts_unpacked rights_unpacked)
       unmatched_form sorted =
-          form n has high point ts left right ss ls rs over packed_left rights lo ro (HasNoKey here) (no_key_alike here) (no_key_some here) (IsUnmatched (map (keyed (part_of here)) packed_left) rights) (λ l p e. unmatched_cells here packed_left rights l p)
-          (IsBoxOfKeyed (map (keyed (part_of here)) packed_left)) (boxes_keyed here packed_left) out unmatched_cover row_cmp row_total row_separates sorted (unmatched_boxes here there lefts_unpacked rights_unpacked)
+          form n has high point ts left right ss ls rs over fewer_left rights lo ro (HasNoKey here) (no_key_alike here) (no_key_some here) (IsUnmatched (map (keyed (part_of here)) fewer_left) rights) (λ l p e. unmatched_cells here fewer_left rights l p)
+          (IsBoxOfKeyed (map (keyed (part_of here)) fewer_left)) (boxes_keyed here fewer_left) out unmatched_cover row_cmp row_total row_separates sorted (unmatched_boxes here there lefts_unpacked rights_unpacked)
           (unmatched_have here there k (map (row_numbers n) left) (map (row_numbers n) right) hl hr) (λ l p.
           let w = places_unmatched here there k (map (row_numbers n) left) (map (row_numbers n) right) hl hr l p in
           let a = left_at p l in
@@ -217,40 +211,40 @@ module _ {T P : Type 0} (n : P → ℤ) (has : T → P → Type 0) (high : T →
             λ h. w.1 (a.0 h.0, λ q. h.1 (b.1 q)),
           ))
 
-  -- ---- the packed right rows, with their keys
+  -- ---- the right rows, with their keys
 
-  module _ (f : Row → Row → Row) (packed_right : List (Row × List (ℕ × ℕ))) (right_packed : (x : Row × List (ℕ × ℕ)) → Among x packed_right ↔ (length x.1 ≡ length ts) × IsPackedOf (length ts) rs x)
-      (right_sorted : IsStrictlySortedBy (key_cmp row_cmp) packed_right) (rights : List (Row × Row × List (ℕ × ℕ))) (right_keys : rights ≡ map (keyed (part_of there)) packed_right)
+  module _ (f : Row → Row → Row) (fewer_right : List (Row × List (ℕ × ℕ))) (right_fewer : IsSameOrPacked row_cmp (length ts) rs fewer_right)
+      (rights : List (Row × Row × List (ℕ × ℕ))) (right_keys : rights ≡ map (keyed (part_of there)) fewer_right)
       (cover : IsPackedCover k (IsJoined f lefts rights) (IsBoxOfKeyed lefts) out) where
-    po : AreOn k ss packed_right
-    po = packed_on n has high point ts left right ss ls rs over rs packed_right (right_on n has high point ts left right ss ls rs over) right_packed
+    po : AreOn k ss fewer_right
+    po = fewer_on n has high point ts left right ss ls rs over row_cmp rs fewer_right (right_on n has high point ts left right ss ls rs over) right_fewer
 
-    right_at : (p : List ℤ) (l : Row) → InBoxes (map (grid_row ns) packed_right) l p ↔ InBoxes (map (row_numbers n) right) l p
+    right_at : (p : List ℤ) (l : Row) → InBoxes (map (grid_row ns) fewer_right) l p ↔ InBoxes (map (row_numbers n) right) l p
     right_at p l =
-        let a = packed_places n has high point ts left right ss ls rs over rs packed_right (right_on n has high point ts left right ss ls rs over) right_packed row_cmp row_total row_separates right_sorted l p in
+        let a = fewer_places n has high point ts left right ss ls rs over row_cmp rs fewer_right (right_on n has high point ts left right ss ls rs over) right_fewer row_total row_separates l p in
         let b = right_places n has high point ts left right ss ls rs over l p in
         (λ h. b.0 (a.0 h), λ h. a.1 (b.1 h))
 
-    joined_cover : IsPackedCover k (IsJoined f (map (keyed (part_of here)) packed_left) (map (keyed (part_of there)) packed_right)) (IsBoxOfKeyed (map (keyed (part_of here)) packed_left)) out
+    joined_cover : IsPackedCover k (IsJoined f (map (keyed (part_of here)) fewer_left) (map (keyed (part_of there)) fewer_right)) (IsBoxOfKeyed (map (keyed (part_of here)) fewer_left)) out
     joined_cover =
         let a = left_keys in
         let b = right_keys in
         subst (λ X. X) (λ t. IsPackedCover k (IsJoined f (a t) (b t)) (IsBoxOfKeyed (a t)) out) cover
 
     pub joined_within : WithinCells
-    joined_within = within n has high point ts left right ss ls rs over packed_left packed_right lo po (IsJoinedAt here there f) (joined_alike here there f) (joined_some here there f) (IsJoined f (map (keyed (part_of here)) packed_left) (map (keyed (part_of there)) packed_right)) (λ l p e. joined_cells here packed_left packed_right there f l p)
-        (IsBoxOfKeyed (map (keyed (part_of here)) packed_left)) (boxes_keyed here packed_left) out joined_cover
+    joined_within = within n has high point ts left right ss ls rs over fewer_left fewer_right lo po (IsJoinedAt here there f) (joined_alike here there f) (joined_some here there f) (IsJoined f (map (keyed (part_of here)) fewer_left) (map (keyed (part_of there)) fewer_right)) (λ l p e. joined_cells here fewer_left fewer_right there f l p)
+        (IsBoxOfKeyed (map (keyed (part_of here)) fewer_left)) (boxes_keyed here fewer_left) out joined_cover
 
     pub joined_form : IsStrictlySortedBy (key_cmp row_cmp) out → map (grid_row (grids_of n high ts ss)) out ≡ packed_boxes row_cmp k (joined_boxes here there f lefts_unpacked rights_unpacked)
     joined_form sorted =
-        form n has high point ts left right ss ls rs over packed_left packed_right lo po (IsJoinedAt here there f) (joined_alike here there f) (joined_some here there f) (IsJoined f (map (keyed (part_of here)) packed_left) (map (keyed (part_of there)) packed_right)) (λ l p e. joined_cells here packed_left packed_right there f l p)
-        (IsBoxOfKeyed (map (keyed (part_of here)) packed_left)) (boxes_keyed here packed_left) out joined_cover row_cmp row_total row_separates sorted (joined_boxes here there f lefts_unpacked rights_unpacked)
+        form n has high point ts left right ss ls rs over fewer_left fewer_right lo po (IsJoinedAt here there f) (joined_alike here there f) (joined_some here there f) (IsJoined f (map (keyed (part_of here)) fewer_left) (map (keyed (part_of there)) fewer_right)) (λ l p e. joined_cells here fewer_left fewer_right there f l p)
+        (IsBoxOfKeyed (map (keyed (part_of here)) fewer_left)) (boxes_keyed here fewer_left) out joined_cover row_cmp row_total row_separates sorted (joined_boxes here there f lefts_unpacked rights_unpacked)
         (joined_have here there k (map (row_numbers n) left) (map (row_numbers n) right) hl hr f) (λ l p.
         let w = places_joined here there k (map (row_numbers n) left) (map (row_numbers n) right) hl hr f l p in
         let A = λ (a : Row). InBoxes (map (row_numbers n) left) a p in
-        let A' = λ (a : Row). InBoxes (map (grid_row ns) packed_left) a p in
+        let A' = λ (a : Row). InBoxes (map (grid_row ns) fewer_left) a p in
         let B = λ (b : Row). InBoxes (map (row_numbers n) right) b p in
-        let B' = λ (b : Row). InBoxes (map (grid_row ns) packed_right) b p in (
+        let B' = λ (b : Row). InBoxes (map (grid_row ns) fewer_right) b p in (
           λ h. joined_alike here there f A A' B B' (λ a. let e = left_at p a in (e.1, e.0)) (λ b. let e = right_at p b in (e.1, e.0)) l (w.0 h),
           λ h. w.1 (joined_alike here there f A' A B' B (left_at p) (right_at p) l h),
         ))

@@ -16,14 +16,14 @@ use crate::labels::Beside;
 use crate::shared::apart;
 use box_core::{PairRule, join};
 use cell_core::{BoxRow, CellRefuse, CellRows, back, rows_over_cells};
+use cell_kernels::fewer_rows;
 use point_core::{Memory, PointType, Steps};
-use slice_core::pack_rows;
 use std::alloc::Global;
 use std::sync::ledger::Ledger;
 use value_core::Row;
 
-// What left and right boxes of one key have in common, with the labels that the rule gives of pairs, packed. Each operand is packed
-// first: so boxes of one label that overlap, of which many make the same pairs, are looked at once.
+// What left and right boxes of one key have in common, with the labels that the rule gives of pairs, packed. Each operand is made fewer
+// first where that can be: so boxes of one label that overlap, of which many make the same pairs, are looked at once.
 fn joined_form<T: PointType, O: PairRule<Left = Row, Right = Row, Out = Row>, L: Ledger>(
     alloc: Global,
     types: &[T],
@@ -48,10 +48,10 @@ fn joined_form<T: PointType, O: PairRule<Left = Row, Right = Row, Out = Row>, L:
         left: l,
         right: r,
     } = rows_over_cells(alloc, types, left, right, steps)?;
-    let packed_left = pack_rows(alloc, types.len(), l)?;
-    let packed_right = pack_rows(alloc, types.len(), r)?;
-    let lefts = with_keys(alloc, packed_left, here)?;
-    let rights = with_keys(alloc, packed_right, there)?;
+    let fewer_left = fewer_rows(alloc, types.len(), l)?;
+    let fewer_right = fewer_rows(alloc, types.len(), r)?;
+    let lefts = with_keys(alloc, fewer_left, here)?;
+    let rights = with_keys(alloc, fewer_right, there)?;
     let form = join(alloc, types.len(), lefts, rights, rule)?;
     let answer = back(alloc, types, sides.as_slice(), form)?;
     Ok(answer)

@@ -15,14 +15,14 @@ use crate::keys::{by_keys, with_keys};
 use crate::shared::apart;
 use box_core::{matching, not_matching};
 use cell_core::{BoxRow, CellRefuse, CellRows, back, rows_over_cells};
+use cell_kernels::fewer_rows;
 use point_core::{Memory, PointType, Steps};
-use slice_core::pack_rows;
 use std::alloc::Global;
 use std::sync::ledger::Ledger;
 use value_core::Row;
 
-// The left boxes where a right box has their key, packed. The left boxes are packed first, and so are the right ones under their keys:
-// then those of one key do not overlap.
+// The left boxes where a right box has their key, packed. The left boxes, and the right ones under their keys, are made fewer first where that
+// can be: then those of one key do not overlap.
 fn matched_form<T: PointType, L: Ledger>(
     alloc: Global,
     types: &[T],
@@ -45,16 +45,16 @@ fn matched_form<T: PointType, L: Ledger>(
         left: l,
         right: r,
     } = rows_over_cells(alloc, types, left, right, steps)?;
-    let packed_left = pack_rows(alloc, types.len(), l)?;
+    let fewer_left = fewer_rows(alloc, types.len(), l)?;
     let keys = by_keys(alloc, r, there)?;
-    let lefts = with_keys(alloc, packed_left, here)?;
-    let rights = pack_rows(alloc, types.len(), keys)?;
+    let lefts = with_keys(alloc, fewer_left, here)?;
+    let rights = fewer_rows(alloc, types.len(), keys)?;
     let form = matching(alloc, types.len(), lefts, rights)?;
     let answer = back(alloc, types, sides.as_slice(), form)?;
     Ok(answer)
 }
 
-// The left boxes where no right box has their key, packed. Both operands are packed first, as above.
+// The left boxes where no right box has their key, packed. Both operands are made fewer first, as above.
 fn unmatched_form<T: PointType, L: Ledger>(
     alloc: Global,
     types: &[T],
@@ -77,10 +77,10 @@ fn unmatched_form<T: PointType, L: Ledger>(
         left: l,
         right: r,
     } = rows_over_cells(alloc, types, left, right, steps)?;
-    let packed_left = pack_rows(alloc, types.len(), l)?;
+    let fewer_left = fewer_rows(alloc, types.len(), l)?;
     let keys = by_keys(alloc, r, there)?;
-    let lefts = with_keys(alloc, packed_left, here)?;
-    let rights = pack_rows(alloc, types.len(), keys)?;
+    let lefts = with_keys(alloc, fewer_left, here)?;
+    let rights = fewer_rows(alloc, types.len(), keys)?;
     let form = not_matching(alloc, types.len(), lefts, rights)?;
     let answer = back(alloc, types, sides.as_slice(), form)?;
     Ok(answer)

@@ -7,11 +7,11 @@ use Rattle.cell_core.specs.Numbering.{IsGrid}
 use Rattle.cell_kernels.proofs.KernelLemmas.{grids}
 use Rattle.u_row.specs.Labels.{relabelled}
 use Rattle.u_join.specs.Keyed.{keyed}
-use Rattle.u_join.proofs.CellLemmas.{packed_sides, unmatched_within, unmatched_form}
+use Rattle.u_join.proofs.CellLemmas.{unmatched_within, unmatched_form}
 use Rattle.u_join.proofs.matching.unmatched_form.Goals as goal
 
-pub pack_rows-requires-2 : goal.pack_rows-requires-2
-pack_rows-requires-2 g c =
+pub fewer_rows-requires-2 : goal.fewer_rows-requires-2
+fewer_rows-requires-2 g c =
     record {
       sides = All-same (λ x. length x.1 ≡ length c.args.types.now) c.in_ok-keys.keys.items (map (relabelled (part_of c.args.there.now)) c.in_ok-sides.field-0.right.items) c.in_ok-keys.ensures
           (All-map (λ x. length x.1 ≡ length c.args.types.now) (relabelled (part_of c.args.there.now)) c.in_ok-sides.field-0.right.items c.in_ok-sides.ensures.right_sides);
@@ -19,11 +19,11 @@ pack_rows-requires-2 g c =
 
 pub not_matching-requires-clause-left : goal.not_matching-requires-clause-left
 not_matching-requires-clause-left g c =
-    All-same (λ x. length x.2 ≡ length c.args.types.now) c.in_ok-lefts.lefts.items (map (keyed (part_of c.args.here.now)) c.in_ok-packed_left.packed_left.items) c.in_ok-lefts.ensures
-    (All-map (λ x. length x.2 ≡ length c.args.types.now) (keyed (part_of c.args.here.now)) c.in_ok-packed_left.packed_left.items (packed_sides (length c.args.types.now) c.in_ok-sides.field-0.left.items c.in_ok-packed_left.packed_left.items c.in_ok-packed_left.ensures.rows))
+    All-same (λ x. length x.2 ≡ length c.args.types.now) c.in_ok-lefts.lefts.items (map (keyed (part_of c.args.here.now)) c.in_ok-fewer_left.fewer_left.items) c.in_ok-lefts.ensures
+    (All-map (λ x. length x.2 ≡ length c.args.types.now) (keyed (part_of c.args.here.now)) c.in_ok-fewer_left.fewer_left.items c.in_ok-fewer_left.ensures.sides)
 
 pub not_matching-requires-clause-right : goal.not_matching-requires-clause-right
-not_matching-requires-clause-right g c = packed_sides (length c.args.types.now) c.in_ok-keys.keys.items c.in_ok-rights.rights.items c.in_ok-rights.ensures.rows
+not_matching-requires-clause-right g c = c.in_ok-rights.ensures.sides
 
 pub back-requires-clause-cells : goal.back-requires-clause-cells
 back-requires-clause-cells g c = λ x m. ((c.in_ok-form.ensures.rows x).0 m).0
@@ -36,11 +36,11 @@ back-requires-clause-grids g c = λ j t e h.
 pub back-requires-clause-within : goal.back-requires-clause-within
 back-requires-clause-within g c = λ x m s e h.
     subst (λ ss. ((get_or {A = ℕ × ℕ} x.1 s (0, 0)).0 < (get_or {A = ℕ × ℕ} x.1 s (0, 0)).1) × ((get_or {A = ℕ × ℕ} x.1 s (0, 0)).1 ≤ length (get_or ss s e).0)) (sym c.as_slice.ensures.value)
-    (unmatched_within g.T.PointType.number_of g.T.PointType.IsPoint g.T.PointType.last_number (λ t. (g.met.T.PointType.each t (g.T.PointType.first_number t) (omega (arith, ints)) (g.met.T.PointType.nonempty t)).0) c.args.types.now c.args.left.now c.args.right.now c.in_ok-sides.field-0.sides.items c.in_ok-sides.field-0.left.items c.in_ok-sides.field-0.right.items c.in_ok-sides.ensures.rows c.args.here.now c.args.there.now c.in_ok-packed_left.packed_left.items c.in_ok-packed_left.ensures.rows c.in_ok-packed_left.ensures.sorted c.in_ok-lefts.lefts.items c.in_ok-lefts.ensures c.in_ok-form.form.items
-    c.in_ok-keys.keys.items c.in_ok-rights.rights.items c.in_ok-keys.ensures c.in_ok-rights.ensures.rows c.in_ok-rights.ensures.sorted c.in_ok-form.ensures.cover x m s e h)
+    (unmatched_within g.T.PointType.number_of g.T.PointType.IsPoint g.T.PointType.last_number (λ t. (g.met.T.PointType.each t (g.T.PointType.first_number t) (omega (arith, ints)) (g.met.T.PointType.nonempty t)).0) c.args.types.now c.args.left.now c.args.right.now c.in_ok-sides.field-0.sides.items c.in_ok-sides.field-0.left.items c.in_ok-sides.field-0.right.items c.in_ok-sides.ensures.rows c.args.here.now c.args.there.now c.in_ok-fewer_left.fewer_left.items c.in_ok-fewer_left.ensures.rows c.in_ok-lefts.lefts.items c.in_ok-lefts.ensures c.in_ok-form.form.items
+    c.in_ok-keys.keys.items c.in_ok-rights.rights.items c.in_ok-keys.ensures c.in_ok-rights.ensures.rows c.in_ok-form.ensures.cover x m s e h)
 
 pub returns-clause-rows : goal.returns-clause-rows
 returns-clause-rows g c =
     c.in_ok-answer.ensures.rows ∙ ap (λ ss. map (grid_row (grids_of g.T.PointType.number_of g.T.PointType.last_number c.args.types.now ss)) c.in_ok-form.form.items) c.as_slice.ensures.value
-    ∙ unmatched_form g.T.PointType.number_of g.T.PointType.IsPoint g.T.PointType.last_number (λ t. (g.met.T.PointType.each t (g.T.PointType.first_number t) (omega (arith, ints)) (g.met.T.PointType.nonempty t)).0) c.args.types.now c.args.left.now c.args.right.now c.in_ok-sides.field-0.sides.items c.in_ok-sides.field-0.left.items c.in_ok-sides.field-0.right.items c.in_ok-sides.ensures.rows c.args.here.now c.args.there.now c.in_ok-packed_left.packed_left.items c.in_ok-packed_left.ensures.rows c.in_ok-packed_left.ensures.sorted c.in_ok-lefts.lefts.items c.in_ok-lefts.ensures c.in_ok-form.form.items
-    c.in_ok-keys.keys.items c.in_ok-rights.rights.items c.in_ok-keys.ensures c.in_ok-rights.ensures.rows c.in_ok-rights.ensures.sorted c.in_ok-form.ensures.cover c.in_ok-form.ensures.sorted
+    ∙ unmatched_form g.T.PointType.number_of g.T.PointType.IsPoint g.T.PointType.last_number (λ t. (g.met.T.PointType.each t (g.T.PointType.first_number t) (omega (arith, ints)) (g.met.T.PointType.nonempty t)).0) c.args.types.now c.args.left.now c.args.right.now c.in_ok-sides.field-0.sides.items c.in_ok-sides.field-0.left.items c.in_ok-sides.field-0.right.items c.in_ok-sides.ensures.rows c.args.here.now c.args.there.now c.in_ok-fewer_left.fewer_left.items c.in_ok-fewer_left.ensures.rows c.in_ok-lefts.lefts.items c.in_ok-lefts.ensures c.in_ok-form.form.items
+    c.in_ok-keys.keys.items c.in_ok-rights.rights.items c.in_ok-keys.ensures c.in_ok-rights.ensures.rows c.in_ok-form.ensures.cover c.in_ok-form.ensures.sorted
