@@ -1,0 +1,6 @@
+use Rattle.std.proofs.Common.{get_or}
+use Rattle.cell_core.proofs.BackLemmas.{among_get}
+use Rattle.cell_kernels.proofs.fewer.fewer_rows.Goals as goal
+
+pub returns-clause-sides : goal.returns-clause-sides
+returns-clause-sides g c = λ j d l. ((c.in_ok-packed.ensures.rows (get_or c.in_ok-packed.packed.items j d)).0 (among_get c.in_ok-packed.packed.items j d l)).0
