@@ -1,6 +1,8 @@
 -- One more cell under the label that a function gives.
 use Rattle.std.proofs.Common.{◌≡◌, ◌⊎◌, ℕ, ◌+◌, ◌<◌, ℤ, List, [], ◌∷◌, ◌++◌, map, take, length, get_or, Result, Ok, Err, Option, Some, None, refl, sym, ap, ◌∙◌, subst, inl, inr}
+use Rattle.std.specs.List.{All}
 use Rattle.std.proofs.lemmas.List.{map-append, map_more}
+use Rattle.std.proofs.lemmas.List.Elements.{All-same, All-push}
 use Rattle.point_core.specs.declared.fault.Fault.{Fault}
 use Rattle.interval_core.specs.Members.{Span}
 use Rattle.packing_core.specs.Covering.{Among}
@@ -23,6 +25,12 @@ numbers_given : {L F P : Type 0} (n : P → ℤ) (r : Result (Option L) F) (s : 
 numbers_given n (Ok (Some l)) s = refl
 numbers_given n (Ok None) s = refl
 numbers_given n (Err e) s = refl
+
+-- one cell more keeps what holds of all
+pub boxes_step : {L F S : Type 0} (Q : S → Type 0) (out new : List (L × S)) (r : Result (Option L) F) (s : S) → new ≡ out ++ given r s → Q s → All (λ b. Q b.1) out → All (λ b. Q b.1) new
+boxes_step Q out new (Ok (Some l)) s e q h = All-same (λ b. Q b.1) new (out ++ (l, s) ∷ []) e (All-push (λ b. Q b.1) out (l, s) h q)
+boxes_step Q out new (Ok None) s e q h = All-same (λ b. Q b.1) new out (e ∙ with_none out) h
+boxes_step Q out new (Err f) s e q h = All-same (λ b. Q b.1) new out (e ∙ with_none out) h
 
 labelled_more : {L F : Type 0} (f : List ℤ → Result (Option L) F) (xs : List (List Span)) (x : List Span) → labelled f (xs ++ x ∷ []) ≡ labelled f xs ++ given (f (firsts x)) x
 labelled_more f [] x = with_none (given (f (firsts x)) x)

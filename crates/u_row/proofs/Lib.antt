@@ -3,6 +3,7 @@ pub mod CuttingLemmas
 pub mod GivingLemmas
 pub mod PlaceLemmas
 pub mod RuleLemmas
+pub mod AllRowsLemmas
 pub mod LabelLemmas
 pub mod BeneathLemmas
 pub mod ProjectionLemmas

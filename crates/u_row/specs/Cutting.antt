@@ -26,6 +26,15 @@ abbrev pub cuts_from : (ℕ → List ℤ) → ℕ → List Span → ℕ
 cuts_from cuts j [] = 0
 cuts_from cuts j (i ∷ is) = length (cuts j) + cuts_from cuts (suc j) is
 
+-- how many cells, and how many cuts, all boxes of a list have, of which the first has the number r
+abbrev pub count_cells : (ℕ → ℕ → List ℤ) → ℕ → List (List Span) → ℕ
+count_cells cuts r [] = 0
+count_cells cuts r (b ∷ bs) = length (cells_of (cuts r) b) + count_cells cuts (suc r) bs
+
+abbrev pub count_cuts : (ℕ → ℕ → List ℤ) → ℕ → List (List Span) → ℕ
+count_cuts cuts r [] = 0
+count_cuts cuts r (b ∷ bs) = cuts_from (cuts r) 0 b + count_cuts cuts (suc r) bs
+
 -- the cuts of each side of the list, of which the first has the number j, lie in the side
 abbrev pub AreCutsFrom : (ℕ → List ℤ) → ℕ → List Span → Type 0
 AreCutsFrom cuts j [] = Unit {0}

@@ -1,7 +1,12 @@
 -- What a rule gives on cells.
-use Rattle.std.specs.Prelude.{◌≡◌, ℕ, ◌<◌, ℤ, List, [], ◌∷◌, flat_map, length, get_or, Result, Ok, Err, Option, Some, None}
+use Rattle.std.specs.Prelude.{◌≡◌, ◌↔◌, ℕ, ◌<◌, ℤ, List, [], ◌∷◌, map, flat_map, length, get_or, Result, Ok, Err, Option, Some, None}
+use Rattle.std.specs.declared.cmp.Ordering.{Ordering}
+use Rattle.std.specs.List.Sorted.{IsStrictlySortedBy}
 use Rattle.interval_core.specs.Members.{Span}
-use Rattle.packing_core.specs.Packed.{Has, firsts}
+use Rattle.packing_core.specs.Boxed.{boxed_cmp}
+use Rattle.packing_core.specs.Covering.{Among}
+use Rattle.packing_core.specs.Packed.{Has, firsts, packs, points_of}
+use Rattle.cell_core.specs.Cells.{box_numbers}
 
 -- the sides under the label that is given, if one is
 abbrev pub given : {L F S : Type 0} → Result (Option L) F → S → List (L × S)
@@ -25,3 +30,14 @@ InRule f boxes l place = (r : ℕ) × (r < length boxes) × Has (get_or boxes r 
 -- the function of some row gives the fault at a place of its box
 abbrev pub HasRuleFault : {L F : Type 0} → (ℕ → List ℤ → Result (Option L) F) → List (List Span) → F → Type 0
 HasRuleFault f boxes e = (r : ℕ) × (place : List ℤ) × (r < length boxes) × Has (get_or boxes r []) place × (f r place ≡ Err e)
+
+-- the boxes of rows, by their numbers
+abbrev pub sides_numbers : {L P : Type 0} → (P → ℤ) → List (L × List (P × P)) → List (List Span)
+sides_numbers n rows = map (λ b. box_numbers n b.1) rows
+
+-- the list has just the boxes over the labels that the functions give at the places of the rows' boxes, packed on the first side, then
+-- the second, up to the k-th, each once and in order; so there is one such list
+pub record IsRuleForm {L F : Type 0} (order : L → L → Ordering) (k : ℕ) (f : ℕ → List ℤ → Result (Option L) F) (boxes : List (List Span))
+    (form : List (L × List Span)) : Type 0 where
+  pub sorted : IsStrictlySortedBy (boxed_cmp order) form
+  pub members : (x : L × List Span) → Among x form ↔ ((length x.1 ≡ k) × packs k (points_of (InRule f boxes x.0)) x.1)

@@ -1,5 +1,6 @@
 // What a rule gives on cells.
 ghost use Rattle.std.specs.Prelude.{◌≡◌, ◌⊎◌, ◌++◌, List, map, Err, Some, OnOk};
+ghost use Rattle.std.specs.List.{All};
 ghost use Rattle.interval_core.specs.Members.{Span};
 ghost use Rattle.packing_core.specs.Covering.{Among};
 ghost use Rattle.packing_core.specs.Packed.{firsts};
@@ -69,6 +70,8 @@ pub(crate) fn give_cells<T: PointType, R: RowRule<T>>(
     ensures rows { OnOk result (map (row_numbers T.number_of) out.new.items ≡ map (row_numbers T.number_of) out.old.items ++ labelled (R.means rule.now row) (boxes_of T.number_of cells.now)) }
     ensures least { OnOk result (IsLeast (λ e. (least.old ≡ Some e) ⊎
         ((cell : List Span) × Among cell (boxes_of T.number_of cells.now) × (R.means rule.now row (firsts cell) ≡ Err e))) least.new) }
+    ensures boxes { (types : List T) → ((s : List (T.Point × T.Point)) → Among s cells.now → IsBox T.IsPoint types s) →
+        OnOk result (All (λ b. IsBox T.IsPoint types b.1) out.old.items → All (λ b. IsBox T.IsPoint types b.1) out.new.items) }
 {
     for cell in cells {
         let sides = cell.copy(alloc)?;

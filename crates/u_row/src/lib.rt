@@ -1,6 +1,7 @@
 //! What is done with each row for itself, at each point: projection, and rules that give a new label, none or a fault.
 #![tactic(auto)]
 
+mod all_rows;
 mod cells;
 mod cutting;
 mod giving;
@@ -10,6 +11,7 @@ mod projection;
 mod rows;
 mod rule;
 
+pub use all_rows::u_rule;
 pub use places::{beneath, inner};
 pub use project::u_project;
 pub use projection::projected;

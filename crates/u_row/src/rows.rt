@@ -1,6 +1,9 @@
 // What a rule gives on a row.
-ghost use Rattle.std.specs.Prelude.{◌≡◌, ◌⊎◌, ◌+◌, ◌≤◌, ◌++◌, ℤ, List, map, Err, Some, OnOk};
+ghost use Rattle.std.specs.Prelude.{◌≡◌, ◌⊎◌, ◌↔◌, ◌+◌, ◌≤◌, ◌++◌, ℤ, List, map, length, Ok, Err, Some, OnOk};
+ghost use Rattle.std.specs.List.{All};
+ghost use Rattle.packing_core.specs.Boxed.{InBoxes};
 ghost use Rattle.packing_core.specs.Packed.{Has};
+ghost use Rattle.value_core.specs.Values.{Row as PlainRow};
 ghost use Rattle.slice_core.specs.LeastFault.{IsLeast};
 ghost use Rattle.cell_core.specs.Boxes.{IsBox};
 ghost use Rattle.cell_core.specs.Cells.{box_numbers, row_numbers};
@@ -33,6 +36,12 @@ pub fn give_row<T: PointType, R: RowRule<T>, L: Ledger>(
     requires boxes { IsBox T.IsPoint types.now sides.now }
     ensures rows { OnOk result (map (row_numbers T.number_of) out.new.items ≡ map (row_numbers T.number_of) out.old.items
         ++ labelled (R.means rule.now row) (cells_of (R.cuts_of rule.now row) (box_numbers T.number_of sides.now))) }
+    ensures places { OnOk result ((l : PlainRow) (place : List ℤ) → InBoxes (map (row_numbers T.number_of) out.new.items) l place ↔
+        InBoxes (map (row_numbers T.number_of) out.old.items) l place ⊎
+        (Has (box_numbers T.number_of sides.now) place × (R.means rule.now row place ≡ Ok (Some l)))) }
+    ensures boxes { OnOk result (All (λ b. IsBox T.IsPoint types.now b.1) out.old.items → All (λ b. IsBox T.IsPoint types.now b.1) out.new.items) }
+    ensures few { OnOk result (length out.new.items ≤ length out.old.items +
+        length (cells_of (R.cuts_of rule.now row) (box_numbers T.number_of sides.now))) }
     ensures least { OnOk result (IsLeast (λ e. (least.old ≡ Some e) ⊎
         ((place : List ℤ) × Has (box_numbers T.number_of sides.now) place × (R.means rule.now row place ≡ Err e))) least.new) }
     ensures cost { steps.new ≤ steps.old + cuts_from (R.cuts_of rule.now row) 0 (box_numbers T.number_of sides.now) }

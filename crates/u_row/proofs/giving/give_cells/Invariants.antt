@@ -1,8 +1,10 @@
 use Rattle.std.proofs.Common.{◌≡◌, ◌⊎◌, ◌++◌, List, map, take, Err, Some}
+use Rattle.std.specs.List.{All}
 use Rattle.interval_core.specs.Members.{Span}
 use Rattle.packing_core.specs.Covering.{Among}
 use Rattle.packing_core.specs.Packed.{firsts}
 use Rattle.slice_core.specs.LeastFault.{IsLeast}
+use Rattle.cell_core.specs.Boxes.{IsBox}
 use Rattle.cell_core.specs.Cells.{boxes_of, row_numbers}
 use Rattle.u_row.specs.Rules.{labelled}
 use Rattle.u_row.proofs.giving.give_cells.Given as goal
@@ -11,4 +13,5 @@ abbrev pub invariant-loop-cell : goal.invariant-loop-cell
 invariant-loop-cell g l = record {
   rows : map (row_numbers g.T.PointType.number_of) l.out.items ≡ map (row_numbers g.T.PointType.number_of) l.fn.out.items ++ labelled (g.R.RowRule.means l.rule l.row) (boxes_of g.T.PointType.number_of (take l.cell-index l.cells));
   least : IsLeast (λ e. (l.fn.least ≡ Some e) ⊎ ((cell : List Span) × Among cell (boxes_of g.T.PointType.number_of (take l.cell-index l.cells)) × (g.R.RowRule.means l.rule l.row (firsts cell) ≡ Err e))) l.least;
+  boxes : (types : List g.row.T.Denot) → ((s : List (g.row.T-Point.Denot × g.row.T-Point.Denot)) → Among s l.cells → IsBox g.T.PointType.IsPoint types s) → All (λ b. IsBox g.T.PointType.IsPoint types b.1) l.fn.out.items → All (λ b. IsBox g.T.PointType.IsPoint types b.1) l.out.items;
 }

@@ -7,6 +7,7 @@ use Rattle.cell_core.specs.Boxes.{IsBox}
 use Rattle.cell_core.specs.Cells.{box_numbers, boxes_of, row_numbers}
 use Rattle.u_row.specs.Cutting.{AreCuts, AreCutsFrom, cells_of}
 use Rattle.u_row.specs.Rules.{labelled}
+use Rattle.u_row.proofs.AllRowsLemmas.{given_places, given_few}
 use Rattle.u_row.proofs.CellLemmas.{are_cuts}
 use Rattle.u_row.proofs.RuleLemmas.{cell_faults, least_same}
 use Rattle.u_row.proofs.rows.give_row.Goals as goal
@@ -30,6 +31,37 @@ pub returns-clause-rows : goal.returns-clause-rows
 returns-clause-rows g c =
     let n = g.T.PointType.number_of in
     c.in_ok-give_cells.ensures.rows ∙ ap (λ ys. map (row_numbers n) c.args.out.now.items ++ labelled (g.R.RowRule.means c.args.rule.now c.args.row) ys) (ap (boxes_of n) c.as_slice.ensures.value ∙ c.in_ok-cells.ensures.cells)
+
+pub returns-clause-boxes : goal.returns-clause-boxes
+returns-clause-boxes g c =
+    c.in_ok-give_cells.ensures.boxes c.args.types.now (λ s m. c.in_ok-cells.ensures.points s (subst (λ xs. Among s xs) c.as_slice.ensures.value m))
+
+pub returns-clause-few : goal.returns-clause-few
+returns-clause-few g c =
+    let n = g.T.PointType.number_of in
+    let f = g.R.RowRule.means c.args.rule.now c.args.row in
+    let cells = cells_of (g.R.RowRule.cuts_of c.args.rule.now c.args.row) (box_numbers n c.args.sides.now) in
+    let all = ap (boxes_of n) c.as_slice.ensures.value ∙ c.in_ok-cells.ensures.cells in
+    given_few n f cells c.args.out.now.items c.give_cells.new.out.items
+    (c.in_ok-give_cells.ensures.rows ∙ ap (λ ys. map (row_numbers n) c.args.out.now.items ++ labelled f ys) all)
+
+pub returns-clause-places : goal.returns-clause-places
+returns-clause-places g c =
+    let n = g.T.PointType.number_of in
+    let rule = c.args.rule.now in
+    let row = c.args.row in
+    let f = g.R.RowRule.means rule row in
+    let cuts = g.R.RowRule.cuts_of rule row in
+    let sides = g.R.RowRule.sides rule row in
+    let all = ap (boxes_of n) c.as_slice.ensures.value ∙ c.in_ok-cells.ensures.cells in
+    let cut : AreCutsFrom cuts 0 (box_numbers n sides) = are_cuts n cuts sides 0 (λ i r d l e.
+    let q : i ≡ r = omega arith in
+    (g.met.R.RowRule.ordered rule row i d c.requires.can l, subst (λ m. AreCuts (n (get_or sides i d).0) (n (get_or sides i d).1) (cuts m)) q (g.met.R.RowRule.inside rule row i d c.requires.can l))) in
+    let h : AreCutsFrom cuts 0 (box_numbers n c.args.sides.now) = subst (λ ss. AreCutsFrom cuts 0 (box_numbers n ss)) c.requires.sides cut in
+    given_places f cuts (box_numbers n c.args.sides.now) h
+    (λ cell ps qs m a b. g.met.R.RowRule.steady rule row cell ps qs c.requires.can (subst (λ ss. Among cell (cells_of cuts (box_numbers n ss))) (sym c.requires.sides) m) a b)
+    (map (row_numbers n) c.args.out.now.items) (map (row_numbers n) c.give_cells.new.out.items)
+    (c.in_ok-give_cells.ensures.rows ∙ ap (λ ys. map (row_numbers n) c.args.out.now.items ++ labelled f ys) all)
 
 pub returns-clause-least : goal.returns-clause-least
 returns-clause-least g c =

@@ -1,0 +1,70 @@
+use Rattle.std.proofs.Common.{◌≡◌, ◌<◌, ◌≤◌, ◌+◌, List, length, map, sym, ap, ◌∙◌, subst, arith}
+use Rattle.std.specs.Result.{IfOk}
+use Rattle.std.proofs.lemmas.List.Elements.{All-same}
+use Rattle.value_core.specs.Order.{row_total, row_separates}
+use Rattle.value_core.specs.Values.{Row, row_cmp}
+use Rattle.packing_core.specs.Boxed.{Boxed, packed_boxes}
+use Rattle.slice_core.specs.LeastFault.{IsLeast}
+use Rattle.cell_core.specs.Boxes.{IsBox}
+use Rattle.cell_core.specs.Cells.{row_numbers}
+use Rattle.u_row.specs.Cutting.{count_cells, count_cuts}
+use Rattle.u_row.specs.Rules.{HasRuleFault, sides_numbers, IsRuleForm}
+use Rattle.u_row.proofs.AllRowsLemmas.{sides_long, cells_have, rule_form, if_ok, rule_bound, no_pack_bound, cuts_below}
+use Rattle.u_row.proofs.all_rows.u_rule.Goals as goal
+
+pub pack-requires : goal.pack-requires
+pack-requires g c = record {
+  rows = All-same (λ r. IsBox g.T.PointType.IsPoint c.args.types.now r.1) c.as_slice.result.now c.in_ok-cells.cells.items c.as_slice.ensures.value c.in_ok-cells.ensures.boxes;
+}
+
+pub returns-in_err-cells-clause-cost : goal.returns-in_err-cells-clause-cost
+returns-in_err-cells-clause-cost g c =
+    let n = g.T.PointType.number_of in
+    let cuts = g.R.RowRule.cuts_of c.args.rule.now in
+    let types = c.args.types.now in
+    let few = cuts_below (length types) cuts 0 (sides_numbers n c.args.rows.now) (sides_long g.T.PointType.IsPoint n types c.args.rows.now c.requires.boxes) in
+    no_pack_bound (count_cells cuts 0 (sides_numbers n c.args.rows.now)) (length types) c.args.steps.now c.give_rows.new.steps (count_cuts cuts 0 (sides_numbers n c.args.rows.now)) c.give_rows.ensures.cost few
+
+pub returns-in-Some-clause-cost : goal.returns-in-Some-clause-cost
+returns-in-Some-clause-cost g c =
+    let n = g.T.PointType.number_of in
+    let cuts = g.R.RowRule.cuts_of c.args.rule.now in
+    let types = c.args.types.now in
+    let few = cuts_below (length types) cuts 0 (sides_numbers n c.args.rows.now) (sides_long g.T.PointType.IsPoint n types c.args.rows.now c.requires.boxes) in
+    no_pack_bound (count_cells cuts 0 (sides_numbers n c.args.rows.now)) (length types) c.args.steps.now c.give_rows.new.steps (count_cuts cuts 0 (sides_numbers n c.args.rows.now)) c.give_rows.ensures.cost few
+
+pub returns-clause-cost : goal.returns-clause-cost
+returns-clause-cost g c =
+    let n = g.T.PointType.number_of in
+    let cuts = g.R.RowRule.cuts_of c.args.rule.now in
+    let types = c.args.types.now in
+    let few = cuts_below (length types) cuts 0 (sides_numbers n c.args.rows.now) (sides_long g.T.PointType.IsPoint n types c.args.rows.now c.requires.boxes) in
+    let cells = subst (λ (xs : List (Row × List _)). length xs ≤ count_cells cuts 0 (sides_numbers n c.args.rows.now)) (sym c.as_slice.ensures.value) c.in_ok-cells.ensures.few in
+    rule_bound (length c.as_slice.result.now) (count_cells cuts 0 (sides_numbers n c.args.rows.now)) (length types) c.args.steps.now c.give_rows.new.steps c.pack.new.steps (count_cuts cuts 0 (sides_numbers n c.args.rows.now))
+    c.give_rows.ensures.cost few cells c.pack.ensures.numbering
+
+pub returns-clause-rows : goal.returns-clause-rows
+returns-clause-rows g c =
+    let n = g.T.PointType.number_of in
+    let types = c.args.types.now in
+    let k = length types in
+    let f = g.R.RowRule.means c.args.rule.now in
+    let boxes = sides_numbers n c.args.rows.now in
+    let cells = c.in_ok-cells.cells.items in
+    let same : packed_boxes row_cmp k (map (row_numbers n) c.as_slice.result.now) ≡ packed_boxes row_cmp k (map (row_numbers n) cells) = λ t. packed_boxes row_cmp k (map (row_numbers n) (c.as_slice.ensures.value t)) in
+    let form = rule_form row_cmp row_total row_separates k f boxes (map (row_numbers n) cells) (cells_have g.T.PointType.IsPoint n types cells c.in_ok-cells.ensures.boxes) c.in_ok-cells.ensures.places in
+    if_ok (λ v. map (row_numbers n) v.items ≡ packed_boxes row_cmp k (map (row_numbers n) c.as_slice.result.now)) (λ v. IsRuleForm row_cmp k f boxes (map (row_numbers n) v.items))
+    (λ v e. subst (IsRuleForm row_cmp k f boxes) (sym (e ∙ same)) form) c.pack.result c.pack.ensures.rows
+
+pub returns-clause-limit : goal.returns-clause-limit
+returns-clause-limit g c = λ e.
+    let n = g.T.PointType.number_of in
+    let types = c.args.types.now in
+    let k = length types in
+    let f = g.R.RowRule.means c.args.rule.now in
+    let boxes = sides_numbers n c.args.rows.now in
+    let cells = c.in_ok-cells.cells.items in
+    let same : packed_boxes row_cmp k (map (row_numbers n) c.as_slice.result.now) ≡ packed_boxes row_cmp k (map (row_numbers n) cells) = λ t. packed_boxes row_cmp k (map (row_numbers n) (c.as_slice.ensures.value t)) in
+    let form = rule_form row_cmp row_total row_separates k f boxes (map (row_numbers n) cells) (cells_have g.T.PointType.IsPoint n types cells c.in_ok-cells.ensures.boxes) c.in_ok-cells.ensures.places in
+    let none = subst (IsLeast (HasRuleFault f boxes)) c.in-None.is c.in_ok-cells.ensures.least in
+    (none, (packed_boxes row_cmp k (map (row_numbers n) cells), form, subst (λ (xs : List (Boxed Row)). c.args.limit < length xs) same (c.pack.ensures.limit e)))
