@@ -1,24 +1,24 @@
 -- Which expressions, tests, items and statements are built, as they are written.
 --     is_built_rel, is_built_test      of expressions and tests
 --     is_built_operator      of the operators under USING
---     is_built_update      of items: they are no TERMINATE
+--     is_built_update      of items: under USING rows are inserted or deleted, and they have no PORTION and are no TERMINATE
 --     is_built_statement      of statements: they are no HISTORY
 use Rattle.std.specs.Prelude.{Bool, true, false, ◌&&◌}
 use Rattle.std.specs.List.{list_all}
 use Rattle.utd_syntax.specs.Plain as syntax
-use Rattle.utd_syntax.specs.Plain.{RelP, TermsP, TermP, RelPrimaryP, OperandP, ExtendP, SummarizeP, UsingP, UsingPartP, ComparisonP, TestP, DeletionP, UsedDeletionP, UsedItemP, ItemP, VarFormP, StatementP}
+use Rattle.utd_syntax.specs.Plain.{RelP, TermsP, TermP, RelPrimaryP, OperandP, ExtendP, SummarizeP, UsingP, UsingPartP, ComparisonP, TestP, MaybePortionP, DeletionP, UsedDeletionP, UsedItemP, ItemP, VarFormP, StatementP}
 use Rattle.item_typing.specs.Items.{listed_items}
 
 -- ---- expressions and tests
 
 -- whether the operator under USING is built, whatever its operands
 abbrev pub is_built_operator : UsingPartP → Bool
-is_built_operator (syntax.UsingExtend e) = true
+is_built_operator (syntax.UsingExtend e) = false
 is_built_operator (syntax.UsingSummarize s) = false
 is_built_operator (syntax.UsingInfix l at w r) = true
 is_built_operator (syntax.UsingNotMatching l at r) = true
 is_built_operator (syntax.UsingProject o p) = true
-is_built_operator (syntax.UsingFilter o at c) = true
+is_built_operator (syntax.UsingFilter o at c) = false
 
 abbrev mutual
   pub is_built_rel : RelP → Bool
@@ -75,25 +75,29 @@ is_built_test (syntax.OfComparison c) = is_built_comparison c
 
 -- ---- items
 
+abbrev pub has_no_portion : MaybePortionP → Bool
+has_no_portion syntax.NoPortion = true
+has_no_portion (syntax.OfPortion at elements) = false
+
 abbrev pub is_built_deletion : DeletionP → Bool
 is_built_deletion (syntax.DeleteWhere at c) = true
-is_built_deletion (syntax.DeletePortion p c) = true
+is_built_deletion (syntax.DeletePortion p c) = false
 is_built_deletion (syntax.DeleteRows r) = is_built_rel r
 
 abbrev pub is_built_used_deletion : UsedDeletionP → Bool
-is_built_used_deletion (syntax.UsedDeleteWhere at c) = true
+is_built_used_deletion (syntax.UsedDeleteWhere at c) = false
 is_built_used_deletion (syntax.UsedDeleteRows r) = is_built_rel r
 
 abbrev pub is_built_used_item : UsedItemP → Bool
 is_built_used_item (syntax.UsedInsert at w r) = is_built_rel r
 is_built_used_item (syntax.UsedDelete at w d) = is_built_used_deletion d
-is_built_used_item (syntax.UsedUpdate at w c s) = true
+is_built_used_item (syntax.UsedUpdate at w c s) = false
 
 abbrev pub is_built_update : ItemP → Bool
 is_built_update (syntax.SetRelvar w r) = is_built_rel r
 is_built_update (syntax.Insert at w r) = is_built_rel r
 is_built_update (syntax.Delete at w d) = is_built_deletion d
-is_built_update (syntax.Update at w p c s) = true
+is_built_update (syntax.Update at w p c s) = has_no_portion p
 is_built_update (syntax.Terminate at w place s c) = false
 is_built_update (syntax.UsingItem at l i) = is_built_used_item i
 

@@ -1,13 +1,13 @@
 // Which statements are built.
 ghost use Rattle.std.specs.Prelude.{◌≡◌, ◌&&◌};
 ghost use Rattle.std.specs.List.{list_all};
-ghost use Rattle.utd_syntax.specs.Read.{read_rel, read_terms, read_term, read_rel_primary, read_operand, read_extend, read_summarize, read_using, read_using_part, read_comparison, read_test, read_deletion, read_item, read_item_list, read_assign, read_used_deletion, read_used_item, read_var_form, read_statement};
+ghost use Rattle.utd_syntax.specs.Read.{read_rel, read_terms, read_term, read_rel_primary, read_operand, read_extend, read_summarize, read_using, read_using_part, read_comparison, read_test, read_deletion, read_item, read_item_list, read_assign, read_maybe_portion, read_used_deletion, read_used_item, read_var_form, read_statement};
 ghost use Rattle.item_typing.specs.Items.{listed_items};
-ghost use Rattle.utd_statement.specs.Built.{is_built_operator, is_built_rel, is_built_terms, is_built_term, is_built_primary, is_built_operand, is_built_extend, is_built_summarize, is_built_using, are_built_operands, is_built_comparison, is_built_test, is_built_deletion, is_built_used_deletion, is_built_used_item, is_built_update, is_built_var, is_built_statement};
+ghost use Rattle.utd_statement.specs.Built.{has_no_portion, is_built_operator, is_built_rel, is_built_terms, is_built_term, is_built_primary, is_built_operand, is_built_extend, is_built_summarize, is_built_using, are_built_operands, is_built_comparison, is_built_test, is_built_deletion, is_built_used_deletion, is_built_used_item, is_built_update, is_built_var, is_built_statement};
 
 use utd_syntax::{
-    Assignment, Deletion, Extend, Item, Operand, Rel, RelPrimary, Relate, Statement, Summarize,
-    Term, Terms, Test, UsedDeletion, UsedItem, Using, UsingPart, VarForm,
+    Assignment, Deletion, Extend, Item, MaybePortion, Operand, Rel, RelPrimary, Relate, Statement,
+    Summarize, Term, Terms, Test, UsedDeletion, UsedItem, Using, UsingPart, VarForm,
 };
 
 // Whether the operator under USING is built, whatever its operands.
@@ -15,12 +15,12 @@ fn is_built_operator(part: &UsingPart) -> bool
     ensures { result ≡ is_built_operator (read_using_part part.now) }
 {
     match part {
-        UsingPart::Extend(_) => true,
+        UsingPart::Extend(_) => false,
         UsingPart::Summarize(_) => false,
         UsingPart::Infix(_, _, _, _) => true,
         UsingPart::NotMatching(_, _, _) => true,
         UsingPart::Project(_, _) => true,
-        UsingPart::Where(_, _, _) => true,
+        UsingPart::Where(_, _, _) => false,
     }
 }
 
@@ -140,7 +140,7 @@ fn is_built_deletion(deletion: &Deletion) -> bool
 {
     match deletion {
         Deletion::Where(_, _) => true,
-        Deletion::Portion(_, _) => true,
+        Deletion::Portion(_, _) => false,
         Deletion::Rows(rel) => is_built_rel(rel),
     }
 }
@@ -149,7 +149,7 @@ fn is_built_used_deletion(deletion: &UsedDeletion) -> bool
     ensures { result ≡ is_built_used_deletion (read_used_deletion deletion.now) }
 {
     match deletion {
-        UsedDeletion::Where(_, _) => true,
+        UsedDeletion::Where(_, _) => false,
         UsedDeletion::Rows(rel) => is_built_rel(rel),
     }
 }
@@ -160,7 +160,16 @@ fn is_built_used_item(item: &UsedItem) -> bool
     match item {
         UsedItem::Insert(_, _, rel) => is_built_rel(rel),
         UsedItem::Delete(_, _, deletion) => is_built_used_deletion(deletion),
-        UsedItem::Update(_, _, _, _) => true,
+        UsedItem::Update(_, _, _, _) => false,
+    }
+}
+
+fn has_no_portion(portion: &MaybePortion) -> bool
+    ensures { result ≡ has_no_portion (read_maybe_portion portion.now) }
+{
+    match portion {
+        MaybePortion::None => true,
+        MaybePortion::Of(_, _) => false,
     }
 }
 
@@ -171,7 +180,7 @@ fn is_built_update(item: &Item) -> bool
         Item::Set(_, rel) => is_built_rel(rel),
         Item::Insert(_, _, rel) => is_built_rel(rel),
         Item::Delete(_, _, deletion) => is_built_deletion(deletion),
-        Item::Update(_, _, _, _, _) => true,
+        Item::Update(_, _, portion, _, _) => has_no_portion(portion),
         Item::Terminate(_, _, _, _, _) => false,
         Item::Using(_, _, item) => is_built_used_item(item),
     }
@@ -203,7 +212,8 @@ fn is_built_var(form: &VarForm) -> bool
     }
 }
 
-/// Whether the statement is built: it has no SUMMARIZE under USING, and is no HISTORY and no TERMINATE.
+/// Whether the statement is built: under USING it has no WHERE, EXTEND, SUMMARIZE and UPDATE, it has no PORTION, and it is no HISTORY and no
+/// TERMINATE.
 pub fn is_built(statement: &Statement) -> bool
     ensures { result ≡ is_built_statement (read_statement statement.now) }
 {
