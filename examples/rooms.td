@@ -25,27 +25,25 @@ INSERT STAYS RELATION {TUPLE {ROOM 2, GUEST 'Alan', NIGHTS [DATE '2012-10-30':DA
 
 INSERT STAYS RELATION {TUPLE {ROOM 1, GUEST 'Alan', NIGHTS [DATE '2012-05-05':DATE '2012-05-06']}};
 
-/* In May every night is dearer by ten in a hundred: a correction of a part of each rate. */
-UPDATE RATES PORTION {NIGHTS [DATE '2012-05-01':DATE '2012-05-31']} : {CENTS := CENTS * 110 / 100};
+/* In May room 1 is dearer. The old rate for these nights goes and the new one comes in one statement: with the first alone the stays would have no rate. */
+USING (NIGHTS): DELETE RATES RELATION {TUPLE {ROOM 1, CENTS 6000, NIGHTS [DATE '2012-05-01':DATE '2012-05-31']}};
+USING (NIGHTS): DELETE RATES RELATION {TUPLE {ROOM 1, CENTS 6000, NIGHTS [DATE '2012-05-01':DATE '2012-05-31']}},
+USING (NIGHTS): INSERT RATES RELATION {TUPLE {ROOM 1, CENTS 6600, NIGHTS [DATE '2012-05-01':DATE '2012-05-31']}};
 PRINT RATES;
 
 /* What does each stay cost? Two lines where the rate changes while a guest is there. */
 PRINT EXTEND (USING (NIGHTS): STAYS JOIN RATES) : {TOTAL := COUNT(NIGHTS) * CENTS};
 
-/* The guests of the first days of May, for these nights alone, and which nights are still free then. */
-VAR MAY VIRTUAL (USING (NIGHTS): STAYS WHERE NIGHTS INCLUDED_IN [DATE '2012-05-01':DATE '2012-05-07']);
-PRINT MAY;
-PRINT USING (NIGHTS): ((USING (NIGHTS): RATES WHERE NIGHTS INCLUDED_IN [DATE '2012-05-01':DATE '2012-05-07']) {ROOM, NIGHTS}) MINUS (MAY {ROOM, NIGHTS});
+/* Which nights of the first week of May are still free? */
+VAR WEEK VIRTUAL (EXTEND (RATES {ROOM}) : {NIGHTS := [DATE '2012-05-01':DATE '2012-05-07']});
+PRINT USING (NIGHTS): WEEK NOT MATCHING STAYS;
 
 /* Ada leaves two nights early; the rate cannot go while somebody pays it. */
-DELETE STAYS PORTION {NIGHTS [DATE '2012-05-03':DATE '2012-05-04']} WHERE GUEST = 'Ada';
-USING (NIGHTS): DELETE RATES WHERE BEGIN(NIGHTS) < DATE '2012-05-03';
+USING (NIGHTS): DELETE STAYS RELATION {TUPLE {ROOM 1, GUEST 'Ada', NIGHTS [DATE '2012-05-03':DATE '2012-05-04']}};
+USING (NIGHTS): DELETE RATES RELATION {TUPLE {ROOM 1, CENTS 6600, NIGHTS [DATE '2012-05-02':DATE '2012-05-02']}};
 
-/* Alan comes a night earlier: his stay stays one row. */
+/* Alan comes a night earlier: his stay stays one row. Without USING it would be two, and is refused. */
+INSERT STAYS RELATION {TUPLE {ROOM 1, GUEST 'Alan', NIGHTS [DATE '2012-05-04':DATE '2012-05-04']}};
 USING (NIGHTS): INSERT STAYS RELATION {TUPLE {ROOM 1, GUEST 'Alan', NIGHTS [DATE '2012-05-04':DATE '2012-05-04']}};
 PRINT STAYS;
-
-/* Whether a night was in spring is asked of nights; how long a stay was is asked of rows, so not under USING. */
-PRINT USING (NIGHTS): EXTEND STAYS : {SPRING := BEGIN(NIGHTS) <= DATE '2012-05-01'};
-PRINT USING (NIGHTS): STAYS WHERE COUNT(NIGHTS) > 2;
-PRINT STAYS WHERE COUNT(NIGHTS) > 2;
+PRINT STAYS WHERE COUNT(NIGHTS) > 3;

@@ -10,7 +10,7 @@ use std::alloc::Global;
 use std::{fs, io};
 
 /// The files of data/, by subject.
-const FILES: [&str; 29] = [
+const FILES: [&str; 28] = [
     "ask.txt",
     "assign.txt",
     "compare.txt",
@@ -26,13 +26,12 @@ const FILES: [&str; 29] = [
     "name.txt",
     "pack.txt",
     "page.txt",
-    "portion.txt",
+    "points.txt",
     "relation.txt",
     "relvar.txt",
     "scalar.txt",
     "script.txt",
     "source.txt",
-    "sweep.txt",
     "text.txt",
     "type.txt",
     "typing.txt",
