@@ -10,7 +10,7 @@ use std::alloc::Global;
 use std::{fs, io};
 
 /// The files of data/, by subject.
-const FILES: [&str; 28] = [
+const FILES: [&str; 29] = [
     "ask.txt",
     "assign.txt",
     "compare.txt",
@@ -39,6 +39,7 @@ const FILES: [&str; 28] = [
     "update.txt",
     "using.txt",
     "view.txt",
+    "where.txt",
 ];
 
 /// Runs each script of a file, tells those that come out wrong, and gives how many come out right.

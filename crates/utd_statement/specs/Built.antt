@@ -1,7 +1,7 @@
 -- Which expressions, tests, items and statements are built, as they are written.
 --     is_built_rel, is_built_test      of expressions and tests
 --     is_built_operator      of the operators under USING
---     is_built_update      of items: under USING rows are inserted or deleted, and they have no PORTION and are no TERMINATE
+--     is_built_update      of items: they are no UPDATE under USING or with a portion, and no TERMINATE
 --     is_built_statement      of statements: they are no HISTORY
 use Rattle.std.specs.Prelude.{Bool, true, false, ◌&&◌}
 use Rattle.std.specs.List.{list_all}
@@ -18,7 +18,7 @@ is_built_operator (syntax.UsingSummarize s) = false
 is_built_operator (syntax.UsingInfix l at w r) = true
 is_built_operator (syntax.UsingNotMatching l at r) = true
 is_built_operator (syntax.UsingProject o p) = true
-is_built_operator (syntax.UsingFilter o at c) = false
+is_built_operator (syntax.UsingFilter o at c) = true
 
 abbrev mutual
   pub is_built_rel : RelP → Bool
@@ -81,11 +81,11 @@ has_no_portion (syntax.OfPortion at elements) = false
 
 abbrev pub is_built_deletion : DeletionP → Bool
 is_built_deletion (syntax.DeleteWhere at c) = true
-is_built_deletion (syntax.DeletePortion p c) = false
+is_built_deletion (syntax.DeletePortion p c) = true
 is_built_deletion (syntax.DeleteRows r) = is_built_rel r
 
 abbrev pub is_built_used_deletion : UsedDeletionP → Bool
-is_built_used_deletion (syntax.UsedDeleteWhere at c) = false
+is_built_used_deletion (syntax.UsedDeleteWhere at c) = true
 is_built_used_deletion (syntax.UsedDeleteRows r) = is_built_rel r
 
 abbrev pub is_built_used_item : UsedItemP → Bool

@@ -20,7 +20,7 @@ fn is_built_operator(part: &UsingPart) -> bool
         UsingPart::Infix(_, _, _, _) => true,
         UsingPart::NotMatching(_, _, _) => true,
         UsingPart::Project(_, _) => true,
-        UsingPart::Where(_, _, _) => false,
+        UsingPart::Where(_, _, _) => true,
     }
 }
 
@@ -140,7 +140,7 @@ fn is_built_deletion(deletion: &Deletion) -> bool
 {
     match deletion {
         Deletion::Where(_, _) => true,
-        Deletion::Portion(_, _) => false,
+        Deletion::Portion(_, _) => true,
         Deletion::Rows(rel) => is_built_rel(rel),
     }
 }
@@ -149,7 +149,7 @@ fn is_built_used_deletion(deletion: &UsedDeletion) -> bool
     ensures { result ≡ is_built_used_deletion (read_used_deletion deletion.now) }
 {
     match deletion {
-        UsedDeletion::Where(_, _) => false,
+        UsedDeletion::Where(_, _) => true,
         UsedDeletion::Rows(rel) => is_built_rel(rel),
     }
 }
@@ -212,8 +212,8 @@ fn is_built_var(form: &VarForm) -> bool
     }
 }
 
-/// Whether the statement is built: under USING it has no WHERE, EXTEND, SUMMARIZE and UPDATE, it has no PORTION, and it is no HISTORY and no
-/// TERMINATE.
+/// Whether the statement is built: it has no EXTEND and SUMMARIZE under USING, no UPDATE under USING or with a portion, and it is no HISTORY and
+/// no TERMINATE.
 pub fn is_built(statement: &Statement) -> bool
     ensures { result ≡ is_built_statement (read_statement statement.now) }
 {
