@@ -51,7 +51,6 @@ fault_given x (Ok true) e = (λ h. absurd cc, λ h. absurd cc)
 fault_given x (Ok false) e = (λ h. absurd cc, λ h. absurd cc)
 fault_given x (Err d) e = (λ h. ap (λ z. Err z) cc, λ h. ap (λ z. Err z) cc)
 
-
 module _ (heading : Heading) (acl : List ℕ) (intervals : AreIntervals heading acl) (rows : List Row) (ascends : Ascends row_cmp rows) (shaped : (x : Row) → In x rows → IsShaped heading acl x) (c : Expr) where
   abbrev pub boxes : List (List Span)
   boxes = map (spans_at acl) rows

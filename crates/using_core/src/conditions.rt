@@ -82,12 +82,7 @@ fn copied(alloc: Global, values: &[Value]) -> Result<Vec<Value>, Memory>
 }
 
 // The row with the first point of each side in place of the interval of its attribute.
-fn row_at(
-    alloc: Global,
-    row: &Row,
-    acl: &[usize],
-    at: &[Interval<AnyType>],
-) -> Result<Row, Memory>
+fn row_at(alloc: Global, row: &Row, acl: &[usize], at: &[Interval<AnyType>]) -> Result<Row, Memory>
     requires count { length at.now ≡ length acl.now }
     requires within { All (λ (i : ℕ). i < length row.now) acl.now }
     requires lines { (j : ℕ) (d : PlainPoint × PlainPoint) → j < length acl.now → value_at row.now (slice_index acl.now j) ≡ interval (line (get_or at.now j d).0) (span_of (value_at row.now (slice_index acl.now j))) }
@@ -102,12 +97,7 @@ fn row_at(
 }
 
 // The values that are not listed, where the condition holds of the row.
-fn label_if(
-    alloc: Global,
-    c: &Scalar,
-    row: &Row,
-    acl: &[usize],
-) -> Result<Option<Row>, Stop>
+fn label_if(alloc: Global, c: &Scalar, row: &Row, acl: &[usize]) -> Result<Option<Row>, Stop>
     requires { IsConditionOver row.now (read c.now) }
     ensures answer { IfOk result (λ o. then_give (met (read c.now) row.now) (labelled_if acl.now) ≡ Ok o) }
     ensures fault { (e : AnyFault) → result ≡ Err (Stop.Fault e) → then_give (met (read c.now) row.now) (labelled_if acl.now) ≡ Err e }
