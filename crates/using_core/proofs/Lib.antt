@@ -7,3 +7,6 @@ pub mod FaultLemmas
 pub mod SweptLemmas
 pub mod WhereLemmas
 pub mod CellCountLemmas
+pub mod ConditionLemmas
+pub mod PlaceFits
+pub mod RestrictionLemmas

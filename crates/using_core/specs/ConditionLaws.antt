@@ -101,14 +101,14 @@ module _ (acl : List ℕ) (c : Expr) (rows : List Row) (boxes : List (Row × Lis
       sym (get_map (row_numbers number) boxes row ([], []) ([], []) (omega (arith, many, below))) ∙ ap (λ (xs : List (Boxed Row)). get_or xs row ([], [])) h.same ∙ get_map (boxed acl) rows row [] ([], []) below in
       ap (λ (x : Boxed Row). x.1) one
 
-  side_there : (side : ℕ) (d : AnyPoint × AnyPoint) → side < length sides → numbers_of number (get_or sides side d) ≡ span_of (value_at own (slice_index acl side))
+  pub side_there : (side : ℕ) (d : AnyPoint × AnyPoint) → side < length sides → numbers_of number (get_or sides side d) ≡ span_of (value_at own (slice_index acl side))
   side_there side d l =
       let e = sides_there in
       let count : length sides ≡ length acl = sym (length-map sides (numbers_of number)) ∙ ap length e ∙ length-map acl (λ i. span_of (value_at own i)) in
       let z : Span = numbers_of number d in
       sym (get_map (numbers_of number) sides side d z l) ∙ ap (λ (is : List Span). get_or is side z) e ∙ get_map (λ i. span_of (value_at own i)) acl side 0 z (omega (arith, l, count))
 
-  own_fits : IsTrue (fits_heading h.heading own)
+  pub own_fits : IsTrue (fits_heading h.heading own)
   own_fits = h.fitting row [] h.below
 
   some_there : (a : ℕ) → IsTrue (among acl a) → (span_of (value_at own a)).0 ≤ℤ (span_of (value_at own a)).1
@@ -125,15 +125,17 @@ module _ (acl : List ℕ) (c : Expr) (rows : List Row) (boxes : List (Row × Lis
   inside_there side d l =
       subst (λ (i : Span). AreCuts i.0 i.1 (swept_cuts acl (c ∷ []) rows row side)) (sym (side_there side d l)) (cuts_inside acl (c ∷ []) own (slice_index acl side))
 
-  own_typed : IsTypedOver own c
+  pub own_typed : IsTypedOver own c
   own_typed = (h.heading, Truth, own_fits, h.typed)
+
+  pub inside_from : AreCutsFrom (swept_cuts acl (c ∷ []) rows row) 0 (box_numbers number sides)
+  inside_from = are_cuts number (swept_cuts acl (c ∷ []) rows row) sides 0 (λ i r d l z.
+      let q : i ≡ r = omega (arith, z) in
+      (ordered_there i d l, subst (λ k. AreCuts (number (get_or sides i d).0) (number (get_or sides i d).1) (swept_cuts acl (c ∷ []) rows row k)) q (inside_there i d l)))
 
   pub steady_there : (cell : List Span) (ps qs : List ℤ) → Among cell (cells_of (swept_cuts acl (c ∷ []) rows row) (box_numbers number sides)) → Has cell ps → Has cell qs
       → swept_rows acl acl (met c) rows row ps ≡ swept_rows acl acl (met c) rows row qs
   steady_there cell ps qs m a b =
       let e = sides_there in
-      let inside : AreCutsFrom (swept_cuts acl (c ∷ []) rows row) 0 (box_numbers number sides) = are_cuts number (swept_cuts acl (c ∷ []) rows row) sides 0 (λ i r d l z.
-      let q : i ≡ r = omega (arith, z) in
-      (ordered_there i d l, subst (λ k. AreCuts (number (get_or sides i d).0) (number (get_or sides i d).1) (swept_cuts acl (c ∷ []) rows row k)) q (inside_there i d l))) in
-      swept_steady acl c own own_typed h.sweepable (subst (AreCutsFrom (swept_cuts acl (c ∷ []) rows row) 0) e inside) cell ps qs
+      swept_steady acl c own own_typed h.sweepable (subst (AreCutsFrom (swept_cuts acl (c ∷ []) rows row) 0) e inside_from) cell ps qs
       (subst (λ (box : List Span). Among cell (cells_of (swept_cuts acl (c ∷ []) rows row) box)) e m) a b

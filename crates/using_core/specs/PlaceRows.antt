@@ -1,12 +1,13 @@
 -- The unpacked rows are the rows at each place of their listed intervals.
 use Rattle.std.proofs.Common.{◌≡◌, ◌↔◌, inl, inr, ℕ, zero, suc, ◌+◌, ◌<◌, ◌||◌, ℤ, ◌≤ℤ◌, Bool, true, false, List, [], ◌∷◌, map, length, get_or, set, refl, sym, ap, ap₂, ◌∙◌, subst, arith}
-use Rattle.std.specs.Prelude.{nat_eq}
+use Rattle.std.specs.Prelude.{nat_eq, slice_index}
 use Rattle.std.specs.Bool.{IsTrue}
 use Rattle.std.specs.List.{All, AllByRecursion, IsDistinct}
-use Rattle.std.proofs.lemmas.Bool.{eqb-true, eqb-false, eq-eqb, or_cases}
+use Rattle.std.proofs.lemmas.Bool.{cases_eq, eqb-true, eqb-false, eq-eqb, or_cases}
 use Rattle.std.proofs.lemmas.Int.{ints}
 use Rattle.base_core.proofs.SetLemmas.{In}
-use Rattle.point_core.specs.Points.{Line}
+use Rattle.point_core.specs.Points.{Line, line}
+use Rattle.point_core.specs.declared.any_type.AnyPoint.{AnyPoint}
 use Rattle.interval_core.specs.Members.{Span, members, at_point}
 use Rattle.interval_core.proofs.MembersLemmas.{In-members}
 use Rattle.value_core.specs.Attributes.{value_at, span_of, with_span, put_span, among}
@@ -186,3 +187,22 @@ pub within_has : (acl : List ℕ) (row : Row) (place : List ℤ) → Has (spans_
 within_has [] row place h = tt
 within_has (a ∷ acl) row [] h = absurd h
 within_has (a ∷ acl) row (p ∷ ps) h = ((h.0, h.1), within_has acl row ps h.2)
+
+-- ---- values with lines
+
+-- the value at each listed position is an interval on the line of the first point of that side
+abbrev pub HaveLines : List ℕ → List (AnyPoint × AnyPoint) → Row → Type 0
+HaveLines acl at row =
+    (j : ℕ) (d : AnyPoint × AnyPoint) → j < length acl → value_at row (slice_index acl j) ≡ interval (line (get_or at j d).0) (span_of (value_at row (slice_index acl j)))
+
+line_kept : (row : Row) (i k : ℕ) (s : Span) (l : Line) → value_at row k ≡ interval l (span_of (value_at row k)) → value_at (put_span row i s) k ≡ interval l (span_of (value_at (put_span row i s) k))
+line_kept row i k s l h = elim (cases_eq k i) [
+  | inl e ↦
+      let here : value_at row i ≡ interval l (span_of (value_at row i)) = subst (λ m. value_at row m ≡ interval l (span_of (value_at row m))) e h in
+      let new : value_at (put_span row i s) i ≡ interval l s = put_there row i s ∙ ap (λ v. with_span v s) here in
+      subst (λ m. value_at (put_span row i s) m ≡ interval l (span_of (value_at (put_span row i s) m))) (sym e) (new ∙ ap (interval l) (sym (ap span_of new)))
+  | inr n ↦ subst (λ v. v ≡ interval l (span_of v)) (sym (set_elsewhere row i k (with_span (value_at row i) s) n)) h
+]
+
+pub lines_kept : (acl : List ℕ) (at : List (AnyPoint × AnyPoint)) (row : Row) (i : ℕ) (s : Span) → HaveLines acl at row → HaveLines acl at (put_span row i s)
+lines_kept acl at row i s h j d l = line_kept row i (slice_index acl j) s (line (get_or at j d).0) (h j d l)

@@ -1,12 +1,12 @@
 // A condition, asked at each point of the listed attributes of rows.
-ghost use Rattle.std.specs.Prelude.{◌≡◌, ℕ, ◌<◌, List, ◌∷◌, [], length, map, get_or, slice_index, Ok, Err, Some, None, IfOk, IsTrue};
+ghost use Rattle.std.specs.Prelude.{◌≡◌, ℕ, ◌<◌, length, map, Ok, Err, IfOk};
 ghost use Rattle.std.specs.List.{All};
 ghost use Rattle.base_core.specs.Outcomes.{then_give};
 ghost use Rattle.point_core.specs.Points.{number, line};
-ghost use Rattle.point_core.specs.declared.any_type.AnyPoint.{AnyPoint as PlainPoint};
 ghost use Rattle.point_core.specs.declared.fault.Fault.{Fault as AnyFault};
 ghost use Rattle.packing_core.specs.Packed.{firsts};
-ghost use Rattle.value_core.specs.Attributes.{value_at, span_of};
+ghost use Rattle.interval_core.specs.Members.{at_point};
+ghost use Rattle.value_core.specs.Attributes.{value_at, span_of, put_span};
 ghost use Rattle.value_core.specs.Plain.{plain};
 ghost use Rattle.value_core.specs.Values.{interval};
 ghost use Rattle.scalar_core.specs.AtPlaces.{at_place};
@@ -14,6 +14,7 @@ ghost use Rattle.scalar_core.specs.Expressions.{read};
 ghost use Rattle.cell_core.specs.Cells.{box_numbers};
 ghost use Rattle.u_set.specs.Boxes.{others};
 ghost use Rattle.meaning_core.specs.Scalars.{IsConditionOver};
+ghost use Rattle.using_core.specs.PlaceRows.{HaveLines};
 ghost use Rattle.using_core.specs.Swept.{labelled_if, met};
 
 use cell_core::BoxRow;
@@ -85,15 +86,24 @@ fn copied(alloc: Global, values: &[Value]) -> Result<Vec<Value>, Memory>
 fn row_at(alloc: Global, row: &Row, acl: &[usize], at: &[Interval<AnyType>]) -> Result<Row, Memory>
     requires count { length at.now ≡ length acl.now }
     requires within { All (λ (i : ℕ). i < length row.now) acl.now }
-    requires lines { (j : ℕ) (d : PlainPoint × PlainPoint) → j < length acl.now → value_at row.now (slice_index acl.now j) ≡ interval (line (get_or at.now j d).0) (span_of (value_at row.now (slice_index acl.now j))) }
+    requires lines { HaveLines acl.now at.now row.now }
     ensures { IfOk result (λ r. r ≡ at_place acl.now (firsts (box_numbers number at.now)) row.now) }
 {
     let mut values = copied(alloc, row.values())?;
     for j in 0..acl.len() {
-        let p = at[j].begin();
-        values[acl[j]] = Value::Span(Interval::of(p, p));
+        put_first(&mut values, acl[j], &at[j]);
     }
     Ok(Row::make(values))
+}
+
+// The first point of the interval in place of the value at the position.
+fn put_first(values: &mut Vec<Value>, i: usize, at: &Interval<AnyType>)
+    requires within { i < length values.old.items }
+    requires line { value_at (map plain values.old.items) i ≡ interval (line at.now.0) (span_of (value_at (map plain values.old.items) i)) }
+    ensures { map plain values.new.items ≡ put_span (map plain values.old.items) i (at_point (number at.now.0)) }
+{
+    let p = at.begin();
+    values[i] = Value::Span(Interval::of(p, p));
 }
 
 // The values that are not listed, where the condition holds of the row.
