@@ -2,7 +2,6 @@
 use Rattle.std.proofs.Common.{◌≡◌, ℕ, ◌<◌, List, map, length, get_or, Err, Option, Some, None, sym, ap, ◌∙◌, subst, refl, arith}
 use Rattle.std.specs.Bool.{IsTrue}
 use Rattle.std.specs.List.{All, filter}
-use Rattle.std.specs.Result.{MatchResult}
 use Rattle.std.proofs.lemmas.List.{length-map}
 use Rattle.std.proofs.lemmas.List.Elements.{Contains-get_or}
 use Rattle.base_core.specs.Outcomes.{then_give}
@@ -14,7 +13,7 @@ use Rattle.point_core.specs.declared.fault.Fault.{Fault}
 use Rattle.point_core.specs.declared.fault.Place.{Place}
 use Rattle.interval_core.specs.Members.{Span}
 use Rattle.value_core.specs.RowPacking.{packed, unpacked}
-use Rattle.value_core.specs.Values.{Row, Relation, IsRelation, row_cmp, fits_heading}
+use Rattle.value_core.specs.Values.{Row, Relation, IsRelation, row_cmp, most_rows, fits_heading}
 use Rattle.value_core.specs.declared.kind.Kind.TheVariants.{Truth}
 use Rattle.scalar_core.specs.Expressions.{Expr}
 use Rattle.scalar_core.specs.Kinds.{IsTyped}
@@ -26,7 +25,7 @@ use Rattle.cell_core.specs.Boxes.{IsBox}
 use Rattle.cell_core.specs.Cells.{row_numbers}
 use Rattle.u_set.specs.Boxes.{AreIntervals, IsShaped, types_at, spans_at, boxed}
 use Rattle.u_set.proofs.BridgeLemmas.{AreRowsOf}
-use Rattle.u_set.proofs.RelationLemmas.{relation_shaped}
+use Rattle.u_set.proofs.RelationLemmas.{relation_shaped, too_many}
 use Rattle.u_row.specs.Rules.{HasRuleFault, IsRuleForm, sides_numbers}
 use Rattle.u_row.proofs.LabelLemmas.{map_twice}
 use Rattle.meaning_core.specs.Meanings.{condition, limited}
@@ -83,3 +82,12 @@ module _ (r : Relation) (is : IsRelation r) (acl : List ℕ) (intervals : AreInt
 
   pub fault_meant : (place : Place) (e : Fault) → IsLeastThere (Some e) → then_give (restricted (condition c) (unpacked acl r.rows)) (λ rows. limited place (packed acl rows)) ≡ Err e
   fault_meant place e h = ap (λ o. then_give o (λ rows. limited place (packed acl rows))) (restricted_fault r.heading acl intervals r.rows ascends shaped c e h)
+
+  -- the form that is too long has as many boxes as the packed rows
+  abbrev pub IsTooLong : Type 0
+  IsTooLong =
+      IsLeastThere None
+      × ((form : List (Boxed Row)) × IsRuleForm {L = Row} {F = Fault} row_cmp (length acl) (swept_rows acl acl (met c) r.rows) (map (spans_at acl) r.rows) form × (most_rows < length form))
+
+  pub too_many_there : IsTooLong → most_rows < length (packed acl holding)
+  too_many_there w = let f = w.1 in too_many r.heading acl (packed acl holding) f.0 (holding_rows f.0 f.1) most_rows f.2
