@@ -14,8 +14,8 @@ use Rattle.packing_core.specs.Covering.{Among}
 use Rattle.packing_core.specs.Packed.{Has, firsts}
 use Rattle.value_core.specs.Attributes.{value_at, span_of, with_span, put_span}
 use Rattle.value_core.specs.Plain.{plain, ends}
-use Rattle.value_core.specs.Values.{Row, Value as PlainValue, truth, text, point, interval, fits, fits_heading, is_interval, same_line}
-use Rattle.value_core.specs.declared.kind.Kind.TheVariants.{Truth, Span as SpanOf}
+use Rattle.value_core.specs.Values.{Row, Value as PlainValue, truth, text, point, interval, fits, is_interval, same_line}
+use Rattle.value_core.specs.declared.kind.Kind.TheVariants.{Span as SpanOf}
 use Rattle.value_core.specs.declared.value.Value.{Value}
 use Rattle.value_core.specs.declared.value.Value.TheVariants.{Span as SpanValue}
 use Rattle.scalar_core.specs.AtPlaces.{at_place, HasSpanAt, AreWithin}
@@ -25,9 +25,9 @@ use Rattle.relation_core.specs.Parts.{kind_at}
 use Rattle.cell_core.specs.Boxes.{IsBox}
 use Rattle.cell_core.specs.Cells.{box_numbers, row_numbers}
 use Rattle.cell_core.specs.Numbering.{numbers_of}
-use Rattle.u_set.specs.Boxes.{AreIntervals, type_of, types_at, spans_at, boxed}
+use Rattle.u_set.specs.Boxes.{type_of, types_at, boxed}
 use Rattle.u_set.proofs.BoxLemmas.{place_listed, span_fits, shaped_from_fit}
-use Rattle.u_row.specs.Cutting.{AreCutsFrom, cells_of}
+use Rattle.u_row.specs.Cutting.{cells_of}
 use Rattle.u_row.proofs.CellLemmas.{cell_in, has_firsts}
 use Rattle.meaning_core.specs.Scalars.{IsConditionOver}
 use Rattle.using_core.specs.ConditionLaws.{sides_there, side_there, own_fits, ordered_there, inside_from}

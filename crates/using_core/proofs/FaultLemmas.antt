@@ -1,18 +1,17 @@
 -- The least of the faults that a function gives of the members of a list.
-use Rattle.std.proofs.Common.{◌≡◌, ◌≢◌, ◌⊎◌, ◌↔◌, inl, inr, ℕ, List, [], ◌∷◌, map, get_or, Result, Ok, Err, Option, Some, None, Ordering, refl, sym, ap, ap₂, ◌∙◌, subst}
+use Rattle.std.proofs.Common.{◌≡◌, ◌≢◌, ◌⊎◌, inl, inr, ℕ, List, [], ◌∷◌, map, get_or, Ok, Err, Option, Some, None, Ordering, refl, sym, ap, ◌∙◌, subst}
 use Rattle.std.specs.declared.cmp.Ordering.TheVariants.{Less, Equal, Greater}
 use Rattle.std.specs.Ordering.{nat_cmp, ordering_then, ordering_reverse}
 use Rattle.std.proofs.lemmas.Cmp.{ranked}
 use Rattle.base_core.specs.Outcomes.{least_of_all, with_lesser, lesser}
 use Rattle.base_core.proofs.SetLemmas.{In}
-use Rattle.point_core.specs.Faults.{OrFault, code_number, place_cmp, fault_cmp}
+use Rattle.point_core.specs.Faults.{OrFault, code_number, place_cmp}
 use Rattle.point_core.specs.FaultLaws.{fault_by_place}
 use Rattle.point_core.specs.Orders.{fault_order}
-use Rattle.point_core.specs.declared.fault.Place.{Place}
 use Rattle.point_core.specs.declared.fault.Fault.{Fault}
 use Rattle.point_core.specs.declared.fault.Code.{Code}
 use Rattle.point_core.specs.declared.fault.Code.TheVariants.{E01, E02, E03, E04, E05, E06, E10, E11, E12, E13, E14, E15, E16, E17, E18, E19, E20, E21, E22, E30, E31, E32, E33, E34, E35, E36, E40, E41, E42, E43, E44, E46}
-use Rattle.slice_core.specs.LeastFault.{fault_total, IsAtMost, IsLeast}
+use Rattle.slice_core.specs.LeastFault.{fault_total, IsLeast}
 use Rattle.slice_core.proofs.LeastFaultLemmas.{least_first, least_min, not_after_itself}
 use Rattle.u_row.proofs.RuleLemmas.{least_chain, least_same}
 

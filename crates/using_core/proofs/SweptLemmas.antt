@@ -1,6 +1,5 @@
 -- What a function of rows gives of the unpacked rows is what it gives at each place of each row.
-use Rattle.std.proofs.Common.{◌≡◌, ◌↔◌, inl, inr, ℕ, zero, suc, ◌<◌, ℤ, Bool, true, false, List, [], ◌∷◌, map, length, get_or, Result, Ok, Err, Option, Some, None, refl, sym, ap, ap₂, ◌∙◌, subst, arith}
-use Rattle.std.specs.Prelude.{option_map}
+use Rattle.std.proofs.Common.{◌≡◌, ◌↔◌, inl, inr, ℕ, zero, suc, ◌<◌, ℤ, List, [], ◌∷◌, map, length, get_or, Ok, Err, Option, Some, None, refl, sym, ap, ◌∙◌, subst, arith}
 use Rattle.std.specs.Bool.{IsTrue}
 use Rattle.base_core.specs.Outcomes.{then_give}
 use Rattle.std.proofs.lemmas.List.Elements.{Contains-get_or}
@@ -14,15 +13,14 @@ use Rattle.value_core.specs.Attributes.{among}
 use Rattle.value_core.specs.RowPacking.{packed, unpacked}
 use Rattle.value_core.specs.Values.{Row, Heading, row_cmp}
 use Rattle.scalar_core.specs.AtPlaces.{at_place}
-use Rattle.packing_core.specs.Boxed.{Boxed, InBoxes, boxed_cmp}
-use Rattle.packing_core.specs.Covering.{Among}
+use Rattle.packing_core.specs.Boxed.{Boxed, InBoxes}
 use Rattle.packing_core.specs.Packed.{Has}
 use Rattle.packing_core.proofs.PackedBoxes.{among_in}
 use Rattle.relation_core.specs.Parts.{kind_at}
 use Rattle.u_set.specs.Boxes.{AreIntervals, type_of, IsShaped, others, spans_at, boxed}
 use Rattle.u_set.proofs.BridgeLemmas.{AreRowsOf, IsFormOf, unpacked_image, closed_by_form, box_cmp}
 use Rattle.u_row.specs.Rules.{InRule, HasRuleFault, IsRuleForm}
-use Rattle.using_core.specs.Swept.{labelled_if, swept, swept_rows}
+use Rattle.using_core.specs.Swept.{labelled_if, swept_rows}
 use Rattle.using_core.specs.PlaceRows.{unpacked_places, HasSpans, among_itself, at_place_spans, point_has}
 
 -- ---- rows by their numbers

@@ -1,9 +1,9 @@
 -- Conditions under USING: the rows for which a condition holds, at each place.
-use Rattle.std.proofs.Common.{◌≡◌, ◌↔◌, inl, inr, ℕ, ℤ, Bool, true, false, List, [], ◌∷◌, map, length, get_or, Result, Ok, Err, Option, Some, None, refl, sym, ap, ◌∙◌, subst}
+use Rattle.std.proofs.Common.{◌≡◌, ◌↔◌, ℕ, ℤ, Bool, true, false, List, map, length, Ok, Err, Option, Some, None, refl, sym, ap, ◌∙◌, subst}
 use Rattle.std.specs.Prelude.{if◌then◌else◌}
 use Rattle.std.specs.Bool.{IsTrue}
 use Rattle.std.specs.List.{filter}
-use Rattle.base_core.specs.Outcomes.{then_give, least_of_all}
+use Rattle.base_core.specs.Outcomes.{then_give}
 use Rattle.base_core.proofs.MemberLemmas.{In-filter}
 use Rattle.base_core.proofs.SetLemmas.{In, Ascends}
 use Rattle.base_core.proofs.SetOperatorLemmas.{Ascends-filter}
@@ -13,7 +13,7 @@ use Rattle.interval_core.specs.Members.{Span}
 use Rattle.value_core.specs.RowPacking.{packed, unpacked}
 use Rattle.value_core.specs.Values.{Row, Heading, row_cmp}
 use Rattle.scalar_core.specs.Expressions.{Expr}
-use Rattle.relation_core.specs.Operators.{restricted, fault_order, is_true}
+use Rattle.relation_core.specs.Operators.{restricted, is_true}
 use Rattle.packing_core.specs.Boxed.{Boxed}
 use Rattle.slice_core.specs.LeastFault.{IsLeast}
 use Rattle.u_set.specs.Boxes.{AreIntervals, IsShaped, spans_at}

@@ -1,5 +1,5 @@
 -- The laws of a condition as a rule on rows.
-use Rattle.std.proofs.Common.{◌≡◌, inl, inr, ℕ, zero, suc, ◌+◌, ◌<◌, ℤ, ◌≤ℤ◌, ◌<ℤ◌, Bool, true, List, [], ◌∷◌, map, length, get_or, refl, sym, ap, ◌∙◌, subst, arith, Less}
+use Rattle.std.proofs.Common.{◌≡◌, inl, inr, ℕ, zero, suc, ◌<◌, ℤ, ◌≤ℤ◌, ◌<ℤ◌, true, List, [], ◌∷◌, map, length, get_or, refl, sym, ap, ◌∙◌, subst, arith, Less}
 use Rattle.std.specs.Prelude.{slice_index, int_lt, int_le, ◌&&◌}
 use Rattle.std.specs.Bool.{IsTrue}
 use Rattle.std.specs.Cmp.{int_cmp_total}
@@ -9,7 +9,6 @@ use Rattle.std.specs.Ordering.{int_cmp}
 use Rattle.std.proofs.lemmas.Bool.{and_parts}
 use Rattle.std.proofs.lemmas.Int.{ints}
 use Rattle.std.proofs.lemmas.List.{length-map}
-use Rattle.base_core.specs.Sets.{in_order}
 use Rattle.base_core.proofs.MemberLemmas.{In-filter}
 use Rattle.base_core.proofs.SetLemmas.{In, Ascends, In-in_order, Ascends-in_order}
 use Rattle.base_core.proofs.SetOperatorLemmas.{AllAfter-In}
@@ -20,7 +19,7 @@ use Rattle.interval_core.specs.Members.{Span}
 use Rattle.packing_core.specs.Covering.{Among}
 use Rattle.packing_core.specs.Packed.{Has}
 use Rattle.value_core.specs.Attributes.{value_at, span_of, among}
-use Rattle.value_core.specs.Values.{Value, Row, Heading, truth, text, point, interval, fits, fits_heading, is_interval, same_line}
+use Rattle.value_core.specs.Values.{Value, Row, truth, text, point, interval, fits, fits_heading, is_interval, same_line}
 use Rattle.value_core.specs.declared.kind.Kind.TheVariants.{Truth, Span as SpanOf}
 use Rattle.scalar_core.specs.Cuts.{cuts, is_inside}
 use Rattle.scalar_core.specs.Expressions.{Expr}
@@ -30,7 +29,7 @@ use Rattle.relation_core.specs.Parts.{kind_at}
 use Rattle.packing_core.specs.Boxed.{Boxed}
 use Rattle.cell_core.specs.Cells.{box_numbers, row_numbers}
 use Rattle.cell_core.specs.Numbering.{numbers_of}
-use Rattle.u_set.specs.Boxes.{AreIntervals, type_of, spans_at, boxed}
+use Rattle.u_set.specs.Boxes.{type_of, spans_at, boxed}
 use Rattle.u_set.proofs.BoxLemmas.{span_fits, place_listed}
 use Rattle.u_row.specs.Cutting.{AreCuts, AreCutsFrom, cells_of}
 use Rattle.u_row.proofs.CellLemmas.{are_cuts}

@@ -2,7 +2,7 @@
 --     swept acl to f row place      the label of what a function gives of the row at the place, or its fault
 --     met c x      the row, where the condition holds of it
 --     CanSweep      a condition can be asked of a row at each place
-use Rattle.std.specs.Prelude.{◌≡◌, ℕ, ◌<◌, ℤ, Bool, List, [], map, length, slice_index, get_or, Ok, Option, Some, None, option_map, IsTrue, if◌then◌else◌}
+use Rattle.std.specs.Prelude.{◌≡◌, ℕ, ◌<◌, ℤ, List, [], map, length, slice_index, get_or, Ok, Option, Some, None, option_map, IsTrue, if◌then◌else◌}
 use Rattle.std.specs.List.{All}
 use Rattle.base_core.specs.Outcomes.{then_give}
 use Rattle.point_core.specs.Faults.{OrFault}

@@ -14,7 +14,7 @@ use Rattle.cell_core.specs.Boxes.{IsBox}
 use Rattle.cell_core.specs.Cells.{row_numbers}
 use Rattle.cell_core.specs.Costs.{bound}
 use Rattle.cell_core.specs.declared.boxes.CellRefuse.TheVariants.{Op as OfOp, Limit as OfLimit}
-use Rattle.u_set.specs.Boxes.{type_of, types_at, spans_at, boxed}
+use Rattle.u_set.specs.Boxes.{type_of, types_at, boxed}
 use Rattle.u_row.specs.Cutting.{count_cells}
 use Rattle.u_row.specs.Rules.{HasRuleFault, IsRuleForm}
 use Rattle.using_core.specs.Swept.{met, swept_cuts, swept_rows}

@@ -1,8 +1,7 @@
-use Rattle.std.proofs.Common.{◌≤◌, ◌+◌, ◌∷◌, [], List, ℕ, length, sym, subst}
+use Rattle.std.proofs.Common.{◌≤◌, ◌+◌, ◌∷◌, [], List, ℕ, length, subst}
 use Rattle.point_core.specs.Faults.{OrFault}
 use Rattle.value_core.specs.Values.{Heading, Relation}
 use Rattle.scalar_core.specs.Expressions.{read}
-use Rattle.scalar_core.specs.Kinds.{IsTyped}
 use Rattle.relation_core.specs.Answers.{Answers}
 use Rattle.relation_core.specs.Operators.{restricted}
 use Rattle.cell_core.specs.Costs.{bound}

@@ -1,4 +1,3 @@
-use Rattle.std.proofs.Common.{get_or}
 use Rattle.scalar_core.specs.Expressions.{read}
 use Rattle.using_core.proofs.ConditionLemmas.{side_below, has_span, fits_there}
 use Rattle.using_core.proofs.conditions.ConditionRowRuleAnyType.cuts.Goals as goal
