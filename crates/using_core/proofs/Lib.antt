@@ -3,3 +3,10 @@ pub mod UnderLemmas
 pub mod SameLemmas
 pub mod PartLemmas
 pub mod OperandLemmas
+pub mod FaultLemmas
+pub mod SweptLemmas
+pub mod WhereLemmas
+pub mod CellCountLemmas
+pub mod ConditionLemmas
+pub mod PlaceFits
+pub mod RestrictionLemmas

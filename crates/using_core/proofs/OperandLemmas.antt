@@ -1,9 +1,9 @@
 -- The listed attributes of an operand: they are those of the node's heading, at positions of intervals.
-use Rattle.std.proofs.Common.{◌≡◌, inl, inr, ℕ, ◌<◌, List, [], ◌∷◌, Bool, true, false, ◌&&◌, get_or, map, refl, sym, ap, ap₂, ◌∙◌, subst, length}
+use Rattle.std.proofs.Common.{◌≡◌, inl, inr, ℕ, ◌<◌, List, [], ◌∷◌, Bool, true, false, get_or, map, refl, sym, ap, ◌∙◌, subst, length}
 use Rattle.std.specs.Prelude.{nat_eq}
 use Rattle.std.specs.Bool.{IsTrue}
-use Rattle.std.specs.List.{All, AllByRecursion, IsDistinct}
-use Rattle.std.proofs.lemmas.Bool.{true≢false, and_parts, eqb-true, eqb-false}
+use Rattle.std.specs.List.{AllByRecursion, IsDistinct}
+use Rattle.std.proofs.lemmas.Bool.{and_parts, eqb-true, eqb-false}
 use Rattle.base_core.proofs.MemberLemmas.{In-map, list_all-In}
 use Rattle.base_core.proofs.SetLemmas.{In}
 use Rattle.point_core.specs.declared.any_type.AnyType.{AnyType}

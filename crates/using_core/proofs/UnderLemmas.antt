@@ -1,13 +1,18 @@
 -- What operators under USING mean, where the operands have the heading of the node: their positions are those of the list.
-use Rattle.std.proofs.Common.{◌≡◌, ℕ, List, sym, ◌∙◌}
+use Rattle.std.proofs.Common.{◌≡◌, ℕ, List, Option, Some, None, refl, sym, ◌∙◌, subst}
+use Rattle.std.specs.Prelude.{is_none}
 use Rattle.std.specs.Bool.{IsTrue}
+use Rattle.base_core.specs.Outcomes.{then_give}
+use Rattle.point_core.specs.Faults.{OrFault}
 use Rattle.point_core.specs.declared.fault.Place.{Place}
 use Rattle.value_core.specs.RowPacking.{packed, unpacked}
 use Rattle.value_core.specs.Values.{Row, Heading, is_heading}
+use Rattle.scalar_core.specs.Expressions.{Expr}
+use Rattle.scalar_core.specs.Sweeping.{sweep_fault, IsSweepable}
 use Rattle.relation_core.specs.Answers.{under}
 use Rattle.meaning_core.specs.Meanings.{limited, opened, closed, positions_of, names_at}
 use Rattle.meaning_core.specs.Typing.{IsList}
-use Rattle.using_core.specs.Using.{around, listed}
+use Rattle.using_core.specs.Using.{around, listed, IsSweptBy}
 use Rattle.using_core.proofs.ListLemmas.{positions_back}
 
 module _ (place : Place) (heading : Heading) (acl : List ℕ) (headed : IsTrue (is_heading heading)) (list : IsList heading acl) where
@@ -34,3 +39,21 @@ module _ (place : Place) (heading : Heading) (acl : List ℕ) (headed : IsTrue (
       ≡ under heading (closed (around place heading acl) place heading (op (opened (around place heading acl) left r) (opened (around place heading acl) right s)))
   pair_meant op left right r s l =
       λ t. under (sym l t) (limited place (packed (sym back t) (op (unpacked (back_in left l t) r) (unpacked (listed heading acl right) s))))
+
+  -- what an operator that may have a fault gives of unpacked rows of the node's heading, packed
+  pub rule_meant : (op : List Row → OrFault (List Row)) (from : Heading) (r : List Row) → heading ≡ from
+      → under from (then_give (op (unpacked acl r)) (λ rows. limited place (packed acl rows)))
+      ≡ under heading (then_give (op (opened (around place heading acl) from r)) (closed (around place heading acl) place heading))
+  rule_meant op from r same =
+      λ t. under (sym same t) (then_give (op (unpacked (back_in from same t) r)) (λ rows. limited place (packed (sym back t) rows)))
+
+  -- the listed attributes of an operand with the node's heading
+  pub listed_back : (from : Heading) → heading ≡ from → acl ≡ listed heading acl from
+  listed_back from same = back_in from same
+
+  pub sweepable_back : (from : Heading) → heading ≡ from → (e : Expr) → IsSweptBy heading acl from e → IsSweepable acl e
+  sweepable_back from same e h = is_not (sweep_fault acl e) (subst (λ ps. IsTrue (is_none (sweep_fault ps e))) (sym (back_in from same)) h)
+    where
+      is_not : {X : Type 0} (o : Option X) → IsTrue (is_none o) → o ≡ None
+      is_not None h = refl
+      is_not (Some x) h = absurd cc

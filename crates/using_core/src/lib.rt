@@ -4,9 +4,11 @@
 
 mod combining;
 mod comparing;
+mod conditions;
 mod joining;
 mod listing;
 mod packing;
+mod restriction;
 mod rules;
 mod telling;
 

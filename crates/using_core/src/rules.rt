@@ -13,6 +13,7 @@ ghost use Rattle.meaning_core.specs.Typing.{IsRestriction, IsExtension, IsSummar
 ghost use Rattle.using_core.specs.Cells.{cells_of_all, scalars_of};
 ghost use Rattle.using_core.specs.Using.{around, listed, HasList, IsSweptBy, AreSweptBy, IsSummedBy};
 
+use crate::restriction::restricted_by_boxes;
 use point_core::{Place, Steps, Stop};
 use scalar_core::Scalar;
 use std::alloc::Global;
@@ -38,7 +39,9 @@ pub fn using_restriction<L: Ledger>(
         (closed (around place heading.now acl.now) place heading.now))) }
     ensures cost { steps.new ≤ steps.old + bound (cells_of_all (listed heading.now acl.now r.now.heading) (read c.now ∷ []) r.now.rows) (length acl.now) }
 {
-    Err(Stop::Memory)
+    // The names of a heading are different, so the names at the positions lead back to these.
+    let _attributes = heading.attributes();
+    restricted_by_boxes(alloc, place, acl, c, r, steps)
 }
 
 /// The relation with the values of the items at each point, or their least fault at any point.

@@ -1,4 +1,4 @@
-use Rattle.std.proofs.Common.{◌≡◌, List, ℕ, sym, ap, ap₂, ◌∙◌, subst}
+use Rattle.std.proofs.Common.{List, ℕ, sym, ap, ap₂, ◌∙◌, subst}
 use Rattle.point_core.specs.Faults.{OrFault}
 use Rattle.value_core.specs.RowPacking.{packed, unpacked}
 use Rattle.value_core.specs.Values.{Heading, Relation}

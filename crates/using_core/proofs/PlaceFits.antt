@@ -1,0 +1,60 @@
+-- The row at a place within its intervals fits the row's heading.
+use Rattle.std.specs.Prelude.{◌≡◌, ℕ, zero, suc, ℤ, ◌≤ℤ◌, ◌&&◌, int_le, IsTrue, List, [], ◌∷◌, Some, slice_get, unwrap_or, false, true, refl}
+use Rattle.std.proofs.Common.{sym, ap, subst, arith}
+use Rattle.std.proofs.lemmas.Int.{ints}
+use Rattle.point_core.specs.declared.any_type.AnyType.{AnyType}
+use Rattle.point_core.specs.Points.{is_number, line_of}
+use Rattle.interval_core.specs.Members.{at_point}
+use Rattle.value_core.specs.declared.kind.Kind.{Kind}
+use Rattle.value_core.specs.declared.kind.Kind.TheVariants.{Truth, Char, Point, Span as SpanOf}
+use Rattle.value_core.specs.Attributes.{with_span, put_span, span_of, value_at}
+use Rattle.value_core.specs.Values.{Value, truth, text, point, interval, Row, Name, Heading, fits, fits_heading, is_interval, same_line}
+use Rattle.scalar_core.specs.AtPlaces.{at_place, IsWithin, AreWithin}
+use Rattle.scalar_core.proofs.KindLemmas.{fits_heading-get, span_of-fits, begin-number, end-number}
+use Rattle.scalar_core.proofs.PointLemmas.{and_left, and_right, both_true, le-int_le, is_number-number, number-is_number}
+
+itself : (p : ℤ) → p ≤ℤ p
+itself p = omega (arith, ints)
+
+point-fits_as : (kind : Kind) (v : Value) (p : ℤ) → IsTrue (fits kind v) → ((t : AnyType) → kind ≡ SpanOf t → is_number t p ≡ true) → IsTrue (fits kind (with_span v (at_point p)))
+point-fits_as kind (truth b) p h n = h
+point-fits_as kind (text bytes) p h n = h
+point-fits_as kind (point l q) p h n = h
+point-fits_as Truth (interval l i) p h n = absurd cc
+point-fits_as Char (interval l i) p h n = absurd cc
+point-fits_as (Point t) (interval l i) p h n = absurd cc
+point-fits_as (SpanOf t) (interval l i) p h n =
+    both_true (same_line l (line_of t)) (is_interval t (at_point p)) (and_left (same_line l (line_of t)) (is_interval t i) h)
+    (both_true (is_number t p) (is_number t p && int_le p p) (n t refl) (both_true (is_number t p) (int_le p p) (n t refl) (le-int_le p p (itself p))))
+
+-- the number is one of the type that the heading has at the position
+abbrev IsNumberAt : Heading → ℕ → ℤ → Type 0
+IsNumberAt heading a p = (name : Name) (t : AnyType) → slice_get heading a ≡ Some (name, SpanOf t) → is_number t p ≡ true
+
+put_span-fits : (heading : Heading) (row : Row) (a : ℕ) (p : ℤ) → IsTrue (fits_heading heading row) → IsNumberAt heading a p → IsTrue (fits_heading heading (put_span row a (at_point p)))
+put_span-fits [] [] a p h n = h
+put_span-fits [] (v ∷ vs) a p h n = absurd cc
+put_span-fits (b ∷ rest) [] a p h n = absurd cc
+put_span-fits (b ∷ rest) (v ∷ vs) zero p h n =
+    both_true (fits b.1 (with_span v (at_point p))) (fits_heading rest vs)
+    (point-fits_as b.1 v p (and_left (fits b.1 v) (fits_heading rest vs) h) (λ t e. n b.0 t (ap (λ (k : Kind). Some (b.0, k)) e)))
+    (and_right (fits b.1 v) (fits_heading rest vs) h)
+put_span-fits (b ∷ rest) (v ∷ vs) (suc a) p h n =
+    both_true (fits b.1 v) (fits_heading rest (put_span vs a (at_point p))) (and_left (fits b.1 v) (fits_heading rest vs) h)
+    (put_span-fits rest vs a p (and_right (fits b.1 v) (fits_heading rest vs) h) n)
+
+within-number : (heading : Heading) (row : Row) (a : ℕ) (p : ℤ) → IsTrue (fits_heading heading row) → IsWithin (span_of (value_at row a)) p → IsNumberAt heading a p
+within-number heading row a p h within name t e =
+    let found = fits_heading-get heading row a name (SpanOf t) h e in
+    let got : value_at row a ≡ found.0 = ap (λ o. unwrap_or o (truth false)) found.1 in
+    let whole : is_interval t (span_of (value_at row a)) ≡ true = span_of-fits t (value_at row a) (subst (λ v. IsTrue (fits (SpanOf t) v)) (sym got) found.2) in
+    let low = (is_number-number t (span_of (value_at row a)).0 (begin-number t (span_of (value_at row a)) whole)).0 in
+    let high = (is_number-number t (span_of (value_at row a)).1 (end-number t (span_of (value_at row a)) whole)).1 in
+    number-is_number t p (omega (arith, ints, within.0), omega (arith, ints, within.1))
+
+pub at_place-fits : (heading : Heading) (row x : Row) (acl : List ℕ) (ps : List ℤ) → IsTrue (fits_heading heading row) → IsTrue (fits_heading heading x) → AreWithin row acl ps →
+    IsTrue (fits_heading heading (at_place acl ps x))
+at_place-fits heading row x [] ps h g within = g
+at_place-fits heading row x (a ∷ acl) [] h g within = absurd within
+at_place-fits heading row x (a ∷ acl) (p ∷ ps) h g within =
+    at_place-fits heading row (put_span x a (at_point p)) acl ps h (put_span-fits heading x a p g (within-number heading row a p h within.0)) within.1

@@ -1,0 +1,104 @@
+// Restriction under USING by boxes.
+ghost use Rattle.std.specs.Prelude.{◌≡◌, ◌+◌, ◌<◌, ◌≤◌, ◌∷◌, [], List, length, map, Some, None, Err, IfOk};
+ghost use Rattle.std.specs.List.{All};
+ghost use Rattle.base_core.specs.Outcomes.{then_give};
+ghost use Rattle.point_core.specs.Points.{number, IsPointOf};
+ghost use Rattle.point_core.specs.declared.fault.Fault.{Fault as AnyFault};
+ghost use Rattle.interval_core.specs.Members.{Span};
+ghost use Rattle.value_core.specs.RowPacking.{packed, unpacked};
+ghost use Rattle.value_core.specs.Values.{IsRelation, Row as PlainRow, row_cmp, most_rows};
+ghost use Rattle.value_core.specs.declared.kind.Kind.TheVariants.{Truth};
+ghost use Rattle.scalar_core.specs.Expressions.{read};
+ghost use Rattle.scalar_core.specs.Kinds.{IsTyped};
+ghost use Rattle.scalar_core.specs.Sweeping.{IsSweepable};
+ghost use Rattle.relation_core.specs.Answers.{Answers, under};
+ghost use Rattle.relation_core.specs.Operators.{restricted};
+ghost use Rattle.slice_core.specs.LeastFault.{IsLeast};
+ghost use Rattle.cell_core.specs.Boxes.{IsBox};
+ghost use Rattle.cell_core.specs.Cells.{row_numbers};
+ghost use Rattle.cell_core.specs.Costs.{bound};
+ghost use Rattle.cell_core.specs.declared.boxes.CellRefuse.TheVariants.{Op as OfOp, Limit as OfLimit};
+ghost use Rattle.u_set.specs.Boxes.{AreIntervals, types_at, spans_at};
+ghost use Rattle.u_row.specs.Rules.{HasRuleFault, IsRuleForm};
+ghost use Rattle.meaning_core.specs.Meanings.{condition, limited};
+ghost use Rattle.using_core.specs.Cells.{cells_of_all};
+ghost use Rattle.using_core.specs.Swept.{met, swept_rows};
+
+use crate::conditions::Condition;
+use crate::telling::told;
+use cell_core::{BoxRow, CellRefuse};
+use point_core::{AnyType, Place, Steps, Stop};
+use scalar_core::Scalar;
+use std::alloc::Global;
+use std::sync::ledger::Ledger;
+use u_row::u_rule;
+use u_set::{from_boxes, to_boxes, types_at};
+use value_core::{MOST_ROWS, Relation, Row, RowsRefuse};
+
+/// The packed boxes of the places of a relation's rows at which the condition holds.
+pub(crate) fn restricted_form<L: Ledger>(
+    alloc: Global,
+    acl: &[usize],
+    c: &Scalar,
+    r: &Relation,
+    steps: &mut Steps<L>,
+) -> Result<Vec<BoxRow<AnyType, Row>>, CellRefuse>
+    requires intervals { AreIntervals r.now.heading acl.now }
+    requires typed { IsTyped r.now.heading (read c.now) Truth }
+    requires sweepable { IsSweepable acl.now (read c.now) }
+    ensures relation { IsRelation r.now }
+    ensures rows { IfOk result (λ v. IsRuleForm row_cmp (length acl.now) (swept_rows acl.now acl.now (met (read c.now)) r.now.rows)
+        (map (spans_at acl.now) r.now.rows) (map (row_numbers number) v.items)) }
+    ensures boxes { IfOk result (λ v. All (λ b. IsBox IsPointOf (types_at r.now.heading acl.now) b.1) v.items) }
+    ensures no_fault { IfOk result (λ v. IsLeast (HasRuleFault (swept_rows acl.now acl.now (met (read c.now)) r.now.rows) (map (spans_at acl.now) r.now.rows)) None) }
+    ensures fault { (e : AnyFault) → result ≡ Err (OfOp e) →
+        IsLeast (HasRuleFault (swept_rows acl.now acl.now (met (read c.now)) r.now.rows) (map (spans_at acl.now) r.now.rows)) (Some e) }
+    ensures limit { result ≡ Err OfLimit →
+        IsLeast (HasRuleFault (swept_rows acl.now acl.now (met (read c.now)) r.now.rows) (map (spans_at acl.now) r.now.rows)) None ×
+        ((form : List (PlainRow × List Span)) × IsRuleForm row_cmp (length acl.now) (swept_rows acl.now acl.now (met (read c.now)) r.now.rows)
+        (map (spans_at acl.now) r.now.rows) form × (most_rows < length form)) }
+    ensures cost { steps.new ≤ steps.old + bound (cells_of_all acl.now (read c.now ∷ []) r.now.rows) (length acl.now) }
+{
+    let types = types_at(alloc, r.heading().attributes(), acl)?;
+    let boxes = to_boxes(alloc, r, acl)?;
+    let rule = Condition {
+        c,
+        acl,
+        rows: r.rows(),
+        boxes: boxes.as_slice(),
+    };
+    u_rule(
+        alloc,
+        types.as_slice(),
+        boxes.as_slice(),
+        &rule,
+        MOST_ROWS,
+        steps,
+    )
+}
+
+/// The relation at the points of which the condition holds, or the least fault of the condition at any point, or that of too many
+/// rows at the place.
+pub(crate) fn restricted_by_boxes<L: Ledger>(
+    alloc: Global,
+    place: Place,
+    acl: &[usize],
+    c: &Scalar,
+    r: &Relation,
+    steps: &mut Steps<L>,
+) -> Result<Relation, Stop>
+    requires intervals { AreIntervals r.now.heading acl.now }
+    requires typed { IsTyped r.now.heading (read c.now) Truth }
+    requires sweepable { IsSweepable acl.now (read c.now) }
+    ensures value { Answers result (under r.now.heading
+        (then_give (restricted (condition (read c.now)) (unpacked acl.now r.now.rows)) (λ rows. limited place (packed acl.now rows)))) }
+    ensures cost { steps.new ≤ steps.old + bound (cells_of_all acl.now (read c.now ∷ []) r.now.rows) (length acl.now) }
+{
+    let whole = r.heading().copy(alloc)?;
+    match restricted_form(alloc, acl, c, r, steps) {
+        Ok(form) => told(place, from_boxes(alloc, whole, acl, form)),
+        Err(CellRefuse::Limit) => told(place, Err(RowsRefuse::TooMany)),
+        Err(CellRefuse::Op(fault)) => Err(Stop::Fault(fault)),
+        Err(CellRefuse::Memory) => Err(Stop::Memory),
+    }
+}
