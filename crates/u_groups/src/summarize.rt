@@ -69,7 +69,7 @@ fn in_limit<T: PointType>(
 /// At each point the rows whose boxes have it are grouped by their labels' values at the positions `by`; of rows with equal labels only
 /// the first is in its group. The rule is given the ascending numbers of a group, and the row that it gives is the whole new label there.
 /// The answer is packed on the first side, then on the second, and so on; the rows stand in the order of their labels and then of their
-/// sides.
+/// sides. Any positions may be given: where a label is shorter its value there counts as FALSE.
 ///
 /// `Op` is the least fault of the rule over all points and groups, and comes exactly where there is one. `Limit` comes exactly where there
 /// is none and the packed rows are more than `limit`.
