@@ -1,0 +1,4 @@
+pub mod AskedLemmas
+pub mod CellGroups
+pub mod NumberedLemmas
+pub mod PointGroups

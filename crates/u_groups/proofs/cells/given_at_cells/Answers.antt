@@ -1,0 +1,61 @@
+use Rattle.std.proofs.Common.{◌≡◌, ◌≢◌, ◌↔◌, ◌<◌, ℕ, List, [], length, sym, subst}
+use Rattle.std.specs.List.{All}
+use Rattle.value_core.specs.Values.{Row, row_cmp}
+use Rattle.packing_core.specs.Covering.{Among}
+use Rattle.slice_core.specs.LeastFault.{IsLeast}
+use Rattle.slice_core.specs.PackedRows.{HasRow}
+use Rattle.slice_core.specs.Rows.{AreRows}
+use Rattle.slice_core.proofs.Turns.{least_iff}
+use Rattle.box_core.specs.Groups.{IsGrouped, IsGroupFault}
+use Rattle.box_core.specs.Rows.{Ascend, KeyBox}
+use Rattle.u_groups.specs.Asked.{asked, first_ones, numbers_at, HasCellFault}
+use Rattle.u_groups.specs.Groups.{labels_in}
+use Rattle.u_groups.proofs.CellGroups.{cell_places, cell_faults, cell_ends, can_ask}
+use Rattle.u_groups.proofs.NumberedLemmas.{numbered_sides}
+use Rattle.u_groups.proofs.cells.given_at_cells.Goals as goal
+
+pub given_of_keys-requires-clause-sides : goal.given_of_keys-requires-clause-sides
+given_of_keys-requires-clause-sides g c =
+    subst (All (λ (x : KeyBox Row). length x.1 ≡ c.args.sides)) (sym c.as_slice.ensures.value)
+    (c.in_ok-keys.ensures.sides c.args.sides (numbered_sides c.args.by.now c.args.rows.now c.args.sides c.requires.sides c.in_ok-entries.entries.items c.in_ok-entries.ensures))
+
+pub given_of_keys-requires-clause-order : goal.given_of_keys-requires-clause-order
+given_of_keys-requires-clause-order g c = subst (Ascend row_cmp) (sym c.as_slice.ensures.value) c.in_ok-keys.ensures.order
+
+pub given_of_keys-requires-clause-can : goal.given_of_keys-requires-clause-can
+given_of_keys-requires-clause-can g c =
+    let rows = c.args.rows.now in
+    let C : List ℕ → Type 0 = g.G.GroupRule.CanApply c.args.rule.now in
+    let own : (a : List ℕ) → AreRows 0 (length c.in_ok-keys.keys.items) a → (a ≢ [] → C (first_ones (labels_in rows) (numbers_at c.in_ok-keys.numbers.items a))) × All (λ (i : ℕ). i < length c.in_ok-keys.numbers.items) a × All (λ (i : ℕ). i < length rows) c.in_ok-keys.numbers.items =
+    can_ask c.args.by.now rows c.in_ok-entries.entries.items c.in_ok-entries.ensures c.in_ok-keys.keys.items c.in_ok-keys.numbers.items c.in_ok-keys.ensures.paired C c.requires.can in
+    let ek = sym c.as_slice.ensures.value in
+    let en = sym c.as_slice-2.ensures.value in
+    subst (λ T. T) (λ t. (a : List ℕ) → AreRows 0 (length (ek t)) a → (a ≢ [] → C (first_ones (labels_in rows) (numbers_at (en t) a))) × All (λ (i : ℕ). i < length (en t)) a × All (λ (i : ℕ). i < length rows) (en t)) own
+
+pub returns-clause-places : goal.returns-clause-places
+returns-clause-places g c = λ l place e.
+    let rows = c.args.rows.now in
+    let f = g.G.GroupRule.means c.args.rule.now in
+    let ek = c.as_slice.ensures.value in
+    let en = c.as_slice-2.ensures.value in
+    let a : HasRow c.in_ok-given.given.0.items l place ↔ IsGrouped (λ a b. asked f (labels_in rows) c.in_ok-keys.numbers.items a) c.in_ok-keys.keys.items l place =
+    subst (λ T. T) (λ t. HasRow c.in_ok-given.given.0.items l place ↔ IsGrouped (λ a b. asked f (labels_in rows) (en t) a) (ek t) l place) (c.in_ok-given.ensures.places l place e) in
+    let b = cell_places c.args.by.now rows c.in_ok-entries.entries.items c.in_ok-entries.ensures c.in_ok-keys.keys.items c.in_ok-keys.numbers.items c.in_ok-keys.ensures.paired f l place in
+    (λ h. b.0 (a.0 h), λ h. a.1 (b.1 h))
+
+pub returns-clause-ends : goal.returns-clause-ends
+returns-clause-ends g c = λ z m.
+    let w = c.in_ok-given.ensures.ends z m in
+    cell_ends c.args.by.now c.args.rows.now c.in_ok-entries.entries.items c.in_ok-entries.ensures c.in_ok-keys.keys.items c.in_ok-keys.numbers.items c.in_ok-keys.ensures.paired w.0 z (subst (Among w.0) c.as_slice.ensures.value w.1) w.2
+
+pub returns-clause-least : goal.returns-clause-least
+returns-clause-least g c =
+    let rows = c.args.rows.now in
+    let f = g.G.GroupRule.means c.args.rule.now in
+    let k : ℕ = c.args.sides in
+    let ek = c.as_slice.ensures.value in
+    let en = c.as_slice-2.ensures.value in
+    let own : IsLeast (IsGroupFault k (λ a b. asked f (labels_in rows) c.in_ok-keys.numbers.items a) c.in_ok-keys.keys.items) c.in_ok-given.given.1 =
+    subst (λ T. T) (λ t. IsLeast (IsGroupFault k (λ a b. asked f (labels_in rows) (en t) a) (ek t)) c.in_ok-given.given.1) c.in_ok-given.ensures.least in
+    least_iff (IsGroupFault k (λ a b. asked f (labels_in rows) c.in_ok-keys.numbers.items a) c.in_ok-keys.keys.items) (HasCellFault k f c.args.by.now rows) c.in_ok-given.given.1
+    (cell_faults c.args.by.now rows c.in_ok-entries.entries.items c.in_ok-entries.ensures c.in_ok-keys.keys.items c.in_ok-keys.numbers.items c.in_ok-keys.ensures.paired k f) own
