@@ -1,0 +1,4 @@
+pub mod NameLemmas
+pub mod HeadingLemmas
+pub mod JoinableLemmas
+pub mod RoomLemmas
