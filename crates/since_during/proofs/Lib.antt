@@ -2,3 +2,4 @@ pub mod NameLemmas
 pub mod HeadingLemmas
 pub mod JoinableLemmas
 pub mod RoomLemmas
+pub mod HistoryLaws

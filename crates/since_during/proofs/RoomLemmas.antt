@@ -1,5 +1,5 @@
 -- There is room for the point and the interval of a history beside the attributes of its facts.
-use Rattle.std.specs.Prelude.{◌≡◌, ◌≤◌, ◌∷◌, length}
+use Rattle.std.specs.Prelude.{◌≤◌, ◌∷◌, length}
 use Rattle.std.proofs.Common.{arith}
 use Rattle.base_core.proofs.SetOperatorLemmas.{length-in_order}
 use Rattle.value_core.specs.declared.kind.Kind.{Kind}

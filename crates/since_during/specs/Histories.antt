@@ -8,7 +8,7 @@ use Rattle.value_core.specs.declared.constraint.Constraint.TheVariants.{Key, UKe
 use Rattle.value_core.specs.declared.constraint.HistoryRule.{HistoryRule}
 use Rattle.value_core.specs.declared.kind.Kind.TheVariants.{Point, Span}
 use Rattle.value_core.specs.Headings.{has_name}
-use Rattle.value_core.specs.Values.{Name, Heading}
+use Rattle.value_core.specs.Values.{Heading}
 use Rattle.relation_core.specs.Agreement.{names_of, position_of}
 use Rattle.tree_core.specs.declared.declaration.HistoryData.{HistoryData}
 use Rattle.tree_core.specs.Trees.{Tree, named}

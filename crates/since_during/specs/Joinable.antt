@@ -2,7 +2,7 @@
 --     IsEndingForm      of items that are a TERMINATE
 --     IsJoinable      the relvars are base relvars, the rule names attributes of theirs, and there is room for the interval
 --     AreJoinable      so it is of the history of a view, if it is one and has its rule
-use Rattle.std.specs.Prelude.{ℕ, ◌<◌, ◌≤◌, Option, Some, None, length}
+use Rattle.std.specs.Prelude.{◌<◌, ◌≤◌, Option, Some, None, length}
 use Rattle.value_core.specs.declared.constraint.HistoryRule.{HistoryRule}
 use Rattle.value_core.specs.declared.kind.Kind.TheVariants.{Span}
 use Rattle.value_core.specs.Limits.{most_attributes}

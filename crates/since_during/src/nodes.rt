@@ -3,7 +3,7 @@ ghost use Rattle.std.specs.Prelude.{◌≡◌, [], ◌∷◌, IfOk, option_map};
 ghost use Rattle.interval_core.specs.declared.selector.Ends.TheVariants.{Closed as ClosedEnds};
 ghost use Rattle.scalar_core.specs.declared.operators.PairOp.TheVariants.{Select as SelectOp};
 ghost use Rattle.scalar_core.specs.Expressions.{attribute, pair, read, read_left, read_right};
-ghost use Rattle.tree_core.specs.Trees.{infix_of, named, project, read_form, read_set, read_sets, read_tree, restrict, extend, using as using_of};
+ghost use Rattle.tree_core.specs.Trees.{infix_of, named, project, read_form, read_sets, read_tree, restrict, extend, using as using_of};
 ghost use Rattle.update_core.specs.Updates.{condition_of, negated};
 
 use interval_core::Ends;
