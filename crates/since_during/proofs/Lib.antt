@@ -1,0 +1,5 @@
+pub mod NameLemmas
+pub mod HeadingLemmas
+pub mod JoinableLemmas
+pub mod RoomLemmas
+pub mod HistoryLaws

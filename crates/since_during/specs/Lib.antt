@@ -1,0 +1,4 @@
+pub mod Sides
+pub mod Joinable
+pub mod Ended
+pub mod Histories

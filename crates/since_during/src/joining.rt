@@ -1,0 +1,85 @@
+// The view of a history, over any expression of its since relvar's heading.
+ghost use Rattle.std.specs.Prelude.{◌≡◌, IfOk};
+ghost use Rattle.scalar_core.specs.Expressions.{read};
+ghost use Rattle.tree_core.specs.Trees.{read_tree};
+ghost use Rattle.since_during.specs.Sides.{ended, joined, lasting, narrowed, IsNarrow};
+
+use crate::headings::{all_but, position, with_attribute};
+use crate::nodes;
+use point_core::{AnyType, Memory, Place};
+use scalar_core::Scalar;
+use std::alloc::Global;
+use tree_core::RelTree;
+use value_core::{Heading, Kind, Name};
+
+/// The two relvars of a history as its view joins them: their headings, the attribute of the since relvar's points and that
+/// of the during relvar's intervals, the type of the points, the during relvar's name, and the place of the nodes.
+#[derive(Clone, Copy)]
+pub(crate) struct Sides<'a> {
+    pub(crate) place: Place,
+    pub(crate) over: AnyType,
+    pub(crate) point: &'a Name,
+    pub(crate) span: &'a Name,
+    pub(crate) during_name: &'a Name,
+    pub(crate) since: &'a Heading,
+    pub(crate) during: &'a Heading,
+}
+
+/// The interval from the since relvar's point up to the given one.
+fn lasting(alloc: Global, sides: Sides<'_>, at: Place, end: Scalar) -> Result<Scalar, Memory>
+    ensures { IfOk result (λ e. read e ≡ lasting sides.entry at (read end)) }
+{
+    let from = position(sides.since.attributes(), sides.point);
+    nodes::interval(alloc, at, sides.over, from, end)
+}
+
+/// The rows with these intervals, without the points.
+fn narrowed(
+    alloc: Global,
+    sides: Sides<'_>,
+    wide: &Heading,
+    e: Scalar,
+    t: RelTree,
+) -> Result<RelTree, Memory>
+    ensures { IfOk result (λ r. read_tree r ≡ narrowed sides.entry wide.now (read e) (read_tree t)) }
+{
+    let rows = nodes::extend(alloc, sides.place, wide, sides.span, e, t)?;
+    let kept = all_but(alloc, position(wide.attributes(), sides.point), wide)?;
+    nodes::project(alloc, sides.place, sides.during, kept, rows)
+}
+
+/// The rows of an expression of the since relvar's heading as rows of the during relvar's: each lasts up to the end.
+fn ended(
+    alloc: Global,
+    sides: Sides<'_>,
+    at: Place,
+    end: Scalar,
+    t: RelTree,
+) -> Result<RelTree, Memory>
+    requires { IsNarrow sides }
+    ensures { IfOk result (λ r. read_tree r ≡ ended sides.entry at (read end) (read_tree t)) }
+{
+    let wide = with_attribute(alloc, sides.since, sides.span, Kind::Span(sides.over))?;
+    let e = lasting(alloc, sides, at, end)?;
+    let rows = narrowed(alloc, sides, &wide, e, t)?;
+    Ok(rows)
+}
+
+/// The during relvar's rows, and those of an expression of the since relvar's heading, which last up to the end.
+pub(crate) fn joined_history(
+    alloc: Global,
+    sides: Sides<'_>,
+    at: Place,
+    end: Scalar,
+    t: RelTree,
+) -> Result<RelTree, Memory>
+    requires { IsNarrow sides }
+    ensures { IfOk result (λ r. read_tree r ≡ joined sides.entry at (read end) (read_tree t)) }
+{
+    let more = ended(alloc, sides, at, end, t)?;
+    let own = nodes::named(alloc, sides.place, sides.during, sides.during_name)?;
+    let rows = nodes::union(alloc, sides.place, sides.during, own, more)?;
+    let swept = position(sides.during.attributes(), sides.span);
+    let rows = nodes::using(alloc, sides.place, sides.during, swept, rows)?;
+    Ok(rows)
+}
