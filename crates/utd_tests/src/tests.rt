@@ -244,9 +244,9 @@ fn examples() -> [Example; 32] {
             ..PLAIN
         },
         Example {
-            // what is not built, beside what is
+            // points of intervals, and a condition that cannot be asked of them
             script: b"ASK USING (D): RELATION {TUPLE {D [1:2]}} = RELATION {TUPLE {D [1:2]}};PRINT USING (D): RELATION {TUPLE {D [1:2]}} WHERE D = D;VAR R RELATION {D INTERVAL(INTEGER)} PACKED ON (D);",
-            output: b"TRUE\nstatement 2 refused: E01 not a statement at 1:72\nstatement 3 refused: E01 not a statement at 1:128\n",
+            output: b"TRUE\nstatement 2 refused: E18 not sweepable at 1:122\n",
             status: 1,
             ..PLAIN
         },
