@@ -23,6 +23,7 @@ ALIKE = {
     'equal': 'ASK USING (D): R = S;\n',
     'within': 'ASK USING (D): R <= S;\n',
     'less': 'ASK USING (D): R < S;\n',
+    'where': COUNTED % 'USING (D): R WHERE BEGIN(D) <> ROWS',
 }
 OTHER = {
     'join': COUNTED % 'USING (D): R JOIN S',
@@ -73,7 +74,7 @@ def main():
     alike = operator in ALIKE
     for name, own in ('R', 'A'), ('S', 'B'):
         relvar(name, ['C'] if alike else [own], rows_of(rows, shape, numbers), shape, numbers, write)
-    write((ALIKE if alike else OTHER)[operator] * times)
+    write((ALIKE if alike else OTHER)[operator].replace('ROWS', str(rows)) * times)
 
 
 main()
