@@ -1,9 +1,7 @@
 pub mod CostLemmas
 pub mod EvalLemmas
-pub mod ItemLemmas
 pub mod LiteralLemmas
 pub mod NodeLemmas
 pub mod OperandLemmas
-pub mod SummaryLemmas
 pub mod SurroundingLemmas
 pub mod TruthLemmas

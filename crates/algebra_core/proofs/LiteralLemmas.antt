@@ -16,7 +16,7 @@ use Rattle.tree_core.specs.Trees.{PlainSets}
 use Rattle.meaning_core.specs.Places.{places}
 use Rattle.meaning_core.specs.Rows.{set_names, literal_row}
 use Rattle.meaning_core.specs.Typing.{IsTuple}
-use Rattle.algebra_core.proofs.ItemLemmas.{calls_fault}
+use Rattle.row_making.proofs.ItemLemmas.{calls_fault}
 use Rattle.meaning_core.proofs.MadeLemmas.{extended_fits, tuple_extends}
 
 pub all_at : {A B : Type 0} (P : B → Type 0) (f : A → B) (xs : List A) (i : ℕ) (x : A) → All P (map f xs) → i < length xs → x ≡ get_or xs i x → P (f x)

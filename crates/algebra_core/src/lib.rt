@@ -1,14 +1,11 @@
 //! What typed relational expressions and tests mean in a state of relvars and views, and their evaluation.
 #![tactic(auto)]
 
-mod aggregates;
 mod calls;
 mod evaluation;
-mod items;
 mod literal;
 mod operand;
 mod operators;
-mod places;
 mod scope;
 mod summary;
 mod surrounded;

@@ -14,11 +14,11 @@ ghost use Rattle.value_core.specs.declared.kind.Kind.TheVariants.{Truth};
 ghost use Rattle.scalar_core.specs.Kinds.{IsTyped};
 ghost use Rattle.meaning_core.specs.Typing.{IsInfix, IsProjection, IsRenaming, IsExtension};
 
-use crate::items::{extended_row, holds, set_places};
 use point_core::{Code, Fault, Memory, Place, Stop};
 use relation_core::{
     extend, intersect, join, matching, minus, not_matching, project, rename, restrict, union,
 };
+use row_making::{extended_row, holds, set_places};
 use scalar_core::Scalar;
 use std::alloc::Global;
 use tree_core::{InfixWord, Sets};

@@ -6,7 +6,7 @@ use Rattle.tree_core.specs.Trees.{read_sets}
 use Rattle.relation_core.specs.Answers.{Answers}
 use Rattle.meaning_core.specs.Rows.{literal_row}
 use Rattle.meaning_core.specs.Typing.{IsTuple}
-use Rattle.algebra_core.proofs.ItemLemmas.{calls_more}
+use Rattle.row_making.proofs.ItemLemmas.{calls_more}
 use Rattle.algebra_core.proofs.LiteralLemmas.{all_at, answers_end}
 use Rattle.algebra_core.proofs.literal.tuple_rows.Goals as goal
 

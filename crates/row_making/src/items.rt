@@ -1,0 +1,87 @@
+// The values of items on a row.
+ghost use Rattle.std.specs.Prelude.{◌≡◌, ◌++◌, map, IfOk};
+ghost use Rattle.value_core.specs.Plain.{plain};
+ghost use Rattle.scalar_core.specs.Answers.{Gives};
+ghost use Rattle.scalar_core.specs.Expressions.{read};
+ghost use Rattle.relation_core.specs.Agreement.{names_of};
+ghost use Rattle.relation_core.specs.Answers.{Answers};
+ghost use Rattle.tree_core.specs.Trees.{read_sets};
+ghost use Rattle.meaning_core.specs.Meanings.{condition};
+ghost use Rattle.meaning_core.specs.Places.{places};
+ghost use Rattle.meaning_core.specs.Rows.{extended_at, set_names, values_on};
+ghost use Rattle.meaning_core.specs.Scalars.{AreTypedOver, IsConditionOver};
+
+use crate::places::{pick, places, with_names};
+use point_core::{Memory, Stop};
+use scalar_core::{Scalar, eval};
+use std::alloc::Global;
+use value_core::{Kind, Name, Row, Value};
+
+/// Whether the condition holds of the row.
+pub fn holds(alloc: Global, c: &Scalar, row: &Row) -> Result<bool, Stop>
+    requires { IsConditionOver row.now (read c.now) }
+    ensures { Answers result (condition (read c.now) row.now) }
+{
+    let value = eval(alloc, c, row)?;
+    match value {
+        Value::Truth(b) => Ok(b),
+        _ => unreachable!(),
+    }
+}
+
+/// For each attribute of a heading, where its name stands among those of the items and then of another heading.
+pub fn set_places(
+    alloc: Global,
+    sets: &[(Name, Scalar)],
+    from: &[(Name, Kind)],
+    to: &[(Name, Kind)],
+) -> Result<Vec<usize>, Memory>
+    ensures { IfOk result (λ list. list.items ≡ places (set_names (read_sets sets.now) ++ names_of from.now) to.now) }
+{
+    let made = set_names(alloc, sets)?;
+    let names = with_names(made, alloc, from)?;
+    let list = places(alloc, names.as_slice(), to)?;
+    Ok(list)
+}
+
+/// The names of the items.
+fn set_names(alloc: Global, sets: &[(Name, Scalar)]) -> Result<Vec<Name>, Memory>
+    ensures { IfOk result (λ names. names.items ≡ set_names (read_sets sets.now)) }
+{
+    let mut names = Vec::with_capacity(alloc, sets.len())?;
+    for set in sets {
+        names.push(set.0.copy(alloc)?)?;
+    }
+    Ok(names)
+}
+
+/// The values of the items on the row, or their first fault.
+fn values_on(
+    alloc: Global,
+    row: &Row,
+    sets: &[(Name, Scalar)],
+) -> Result<Vec<Value>, Stop>
+    requires { AreTypedOver row.now (read_sets sets.now) }
+    ensures { Gives (λ values. map plain values.items) result (values_on row.now (read_sets sets.now)) }
+{
+    let mut values = Vec::with_capacity(alloc, sets.len())?;
+    for set in sets {
+        values.push(eval(alloc, &set.1, row)?)?;
+    }
+    Ok(values)
+}
+
+/// The row with the values of the items at their places, and its own values at the others.
+pub fn extended_row(
+    alloc: Global,
+    places: &[usize],
+    sets: &[(Name, Scalar)],
+    row: &Row,
+) -> Result<Row, Stop>
+    requires { AreTypedOver row.now (read_sets sets.now) }
+    ensures { Answers result (extended_at places.now (read_sets sets.now) row.now) }
+{
+    let made = values_on(alloc, row, sets)?;
+    let row = pick(alloc, places, made.as_slice(), row.values())?;
+    Ok(row)
+}

@@ -1,0 +1,10 @@
+//! Rows that nodes make: of the values of items on a row, and of aggregates over a group.
+#![tactic(auto)]
+
+mod aggregates;
+mod groups;
+mod items;
+mod places;
+
+pub use groups::{Making, aggregate_places, group_row};
+pub use items::{extended_row, holds, set_places};
