@@ -7,6 +7,10 @@ pub mod FaultLemmas
 pub mod SweptLemmas
 pub mod WhereLemmas
 pub mod CellCountLemmas
-pub mod ConditionLemmas
+pub mod CellRowLemmas
 pub mod PlaceFits
 pub mod RestrictionLemmas
+pub mod ExtensionLemmas
+pub mod MadeRowLemmas
+pub mod ItemLemmas
+pub mod ItemCutLemmas

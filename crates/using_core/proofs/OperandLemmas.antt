@@ -65,16 +65,16 @@ module _ (heading : Heading) (acl : List ℕ) (headed : IsTrue (is_heading headi
   abbrev name : ℕ → Name
   name i = (get_or heading i no_attribute).0
 
-  below : (i : ℕ) → In i acl → i < length heading
+  pub below : (i : ℕ) → In i acl → i < length heading
   below i m = in_all (λ (j : ℕ). j < length heading) acl list.within i m
 
-  own_position : (i : ℕ) → In i acl → position_of heading (name i) ≡ i
+  pub own_position : (i : ℕ) → In i acl → position_of heading (name i) ≡ i
   own_position i m = position_back heading i (heading_ascends heading headed) (below i m)
 
   alike : (i : ℕ) → In i acl → IsTrue (is_alike_at heading from (name i))
   alike i m = (list_all-In (is_alike_at heading from) (names_at heading acl)).0 held (name i) ((In-map name (name i) acl).1 (i, m, refl))
 
-  held_name : (i : ℕ) → In i acl → IsTrue (has_name from (name i))
+  pub held_name : (i : ℕ) → In i acl → IsTrue (has_name from (name i))
   held_name i m = (and_parts (has_name from (name i)) _ (and_parts (has_name heading (name i)) _ (alike i m)).1).0
 
   held_kind : (i : ℕ) → In i acl → kind_at from (position_of from (name i)) ≡ kind_at heading i
@@ -88,7 +88,7 @@ module _ (heading : Heading) (acl : List ℕ) (headed : IsTrue (is_heading headi
       let k = held_kind i m in
       λ t. (n t, k t)
 
-  listed_is : listed heading acl from ≡ map (λ i. position_of from (name i)) acl
+  pub listed_is : listed heading acl from ≡ map (λ i. position_of from (name i)) acl
   listed_is = map_twice (position_of from) name acl
 
   -- they are the attributes that are listed of the node's heading

@@ -28,28 +28,31 @@ use Rattle.u_set.proofs.RelationLemmas.{relation_shaped, too_many}
 use Rattle.u_row.specs.Rules.{HasRuleFault, IsRuleForm, sides_numbers}
 use Rattle.u_row.proofs.LabelLemmas.{map_twice}
 use Rattle.meaning_core.specs.Meanings.{condition, limited}
-use Rattle.using_core.specs.Swept.{CanSweep, met, swept_rows}
+use Rattle.using_core.specs.Swept.{AreBoxed, CanSweep, met, swept_rows}
 use Rattle.using_core.proofs.WhereLemmas.{restricted_rows, restricted_fault, restricted_given}
 
 -- ---- the boxes of a relation
 
-pub can_sweep : (r : Relation) (acl : List ℕ) (c : Expr) → IsRelation r → AreIntervals r.heading acl → IsTyped r.heading c Truth → IsSweepable acl c
+abbrev pub are_boxed : (r : Relation) (acl : List ℕ) → IsRelation r → AreIntervals r.heading acl
     → (boxes : List (Row × List (AnyPoint × AnyPoint))) → map (row_numbers number) boxes ≡ map (boxed acl) r.rows → All (λ b. IsBox IsPointOf (types_at r.heading acl) b.1) boxes
-    → (rows : List Row) → rows ≡ r.rows → (i : ℕ) → i < length boxes → CanSweep acl c rows boxes i
-can_sweep r acl c is intervals typed sweepable boxes same points rows e i l =
+    → (rows : List Row) → rows ≡ r.rows → (i : ℕ) → i < length boxes → AreBoxed acl rows boxes i
+are_boxed r acl is intervals boxes same points rows e i l =
     let here : map (row_numbers number) boxes ≡ map (boxed acl) rows = same ∙ ap (map (boxed acl)) (sym e) in
     let many : length boxes ≡ length rows = sym (length-map boxes (row_numbers number)) ∙ ap length here ∙ length-map rows (boxed acl) in
     record {
       heading = r.heading;
       intervals = intervals;
-      typed = typed;
-      sweepable = sweepable;
       fitting = subst (λ (rs : List Row). All (λ x. IsTrue (fits_heading r.heading x)) rs) (sym e) (λ j d m.
           (list_all-In (fits_heading r.heading) r.rows).0 is.fitting (get_or r.rows j d) (In-from_Contains r.rows (get_or r.rows j d) (Contains-get_or r.rows j d m)));
       same = here;
       points = points;
       below = omega (arith, l, many);
     }
+
+pub can_sweep : (r : Relation) (acl : List ℕ) (c : Expr) → IsRelation r → AreIntervals r.heading acl → IsTyped r.heading c Truth → IsSweepable acl c
+    → (boxes : List (Row × List (AnyPoint × AnyPoint))) → map (row_numbers number) boxes ≡ map (boxed acl) r.rows → All (λ b. IsBox IsPointOf (types_at r.heading acl) b.1) boxes
+    → (rows : List Row) → rows ≡ r.rows → (i : ℕ) → i < length boxes → CanSweep acl c rows boxes i
+can_sweep r acl c is intervals typed sweepable boxes same points rows e i l = record { boxed = are_boxed r acl is intervals boxes same points rows e i l; typed = typed; sweepable = sweepable }
 
 pub all_sides : (acl : List ℕ) (rows : List Row) (boxes : List (Row × List (AnyPoint × AnyPoint))) → map (row_numbers number) boxes ≡ map (boxed acl) rows
     → sides_numbers number boxes ≡ map (spans_at acl) rows

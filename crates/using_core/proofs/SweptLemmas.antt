@@ -100,17 +100,17 @@ module _ (from : Heading) (acl : List ℕ) (intervals : AreIntervals from acl) (
 
   module _ (heading : Heading) (here : AreIntervals heading to) (same_count : length to ≡ length acl) (given : List Row) (up : Ascends row_cmp given)
       (is : (y : Row) → In y given ↔ ((x : Row) × In x (unpacked acl rows) × (f x ≡ Ok (Some y))))
-      (made : (x y : Row) → IsShaped from acl x → f x ≡ Ok (Some y) → IsShaped heading to y × (spans_at to y ≡ spans_at acl x)) where
+      (made : (x y : Row) → In x (unpacked acl rows) → IsShaped from acl x → f x ≡ Ok (Some y) → IsShaped heading to y × (spans_at to y ≡ spans_at acl x)) where
     image_shaped : (x : Row) → In x (unpacked acl rows) → IsShaped from acl x
     image_shaped x m = (unpacked_image from acl intervals rows ascends shaped).shaped x m
 
     given_shaped : (y : Row) → In y given → IsShaped heading to y
-    given_shaped y m = let w = (is y).0 m in (made w.0 y (image_shaped w.0 w.1) w.2).0
+    given_shaped y m = let w = (is y).0 m in (made w.0 y w.1 (image_shaped w.0 w.1) w.2).0
 
     spans_given : (row : Row) (place : List ℤ) → In row rows → Has (spans_at acl row) place → (y : Row) → In (at_place acl place row) (unpacked acl rows) → f (at_place acl place row) ≡ Ok (Some y)
         → spans_at to y ≡ map at_point place
     spans_given row place m h y n e =
-        (made (at_place acl place row) y (image_shaped (at_place acl place row) n) e).1
+        (made (at_place acl place row) y n (image_shaped (at_place acl place row) n) e).1
         ∙ at_place_spans acl row place intervals.different (has_spans row (shaped row m)) h
 
     -- they have at each place the labels that are given there

@@ -70,8 +70,8 @@ module _ (heading : Heading) (acl : List ℕ) (intervals : AreIntervals heading 
             all.1 (subst (λ z. In z (unpacked acl rows)) g.1 w.1, subst (λ z. IsTrue (is_true (condition c z))) g.1 g.0),
       )
 
-  made : (x y : Row) → IsShaped heading acl x → met c x ≡ Ok (Some y) → IsShaped heading acl y × (spans_at acl y ≡ spans_at acl x)
-  made x y h e =
+  made : (x y : Row) → In x (unpacked acl rows) → IsShaped heading acl x → met c x ≡ Ok (Some y) → IsShaped heading acl y × (spans_at acl y ≡ spans_at acl x)
+  made x y m h e =
       let g = gives_row x y (condition c x) (sym (met_from c x (condition c x) refl) ∙ e) in
       (subst (IsShaped heading acl) g.1 h, ap (spans_at acl) (sym g.1))
 

@@ -1,5 +1,8 @@
+pub mod BoxedLaws
 pub mod Cells
 pub mod ConditionLaws
+pub mod Extended
+pub mod ExtensionLaws
 pub mod PlaceRows
 pub mod SteadyLaws
 pub mod Swept

@@ -68,7 +68,7 @@ piece_beside b e (c ∷ cs) h s m p q p0 p1 q0 q1 = elim m [
     ]
 
 -- two places of a cell have no cut between them on any side
-cell_beside : (cuts : ℕ → List ℤ) (own : ℕ → List ℤ) (s : ℕ → Span) (j : ℕ) (acl : List ℕ) → ((i : ℕ) → i < length acl → cuts (j + i) ≡ own (get_or acl i 0)) → AreCutsFrom cuts j (map s acl)
+pub cell_beside : (cuts : ℕ → List ℤ) (own : ℕ → List ℤ) (s : ℕ → Span) (j : ℕ) (acl : List ℕ) → ((i : ℕ) → i < length acl → cuts (j + i) ≡ own (get_or acl i 0)) → AreCutsFrom cuts j (map s acl)
     → (cell : List Span) → Among cell (cells_from cuts j (map s acl)) → (ps qs : List ℤ) → Has cell ps → Has cell qs → AreBeside own acl ps qs
 cell_beside cuts own s j [] same h cell m ps qs hp hq = tt
 cell_beside cuts own s j (a ∷ acl) same h cell m ps qs hp hq =

@@ -1,6 +1,7 @@
 -- What a row gives at a place: at one point of each listed attribute.
 --     swept acl to f row place      the label of what a function gives of the row at the place, or its fault
 --     met c x      the row, where the condition holds of it
+--     AreBoxed      rows with their boxes
 --     CanSweep      a condition can be asked of a row at each place
 use Rattle.std.specs.Prelude.{◌≡◌, ℕ, ◌<◌, ℤ, List, [], map, length, slice_index, get_or, Ok, Option, Some, None, option_map, IsTrue, if◌then◌else◌}
 use Rattle.std.specs.List.{All}
@@ -38,14 +39,17 @@ swept_cuts acl scalars rows r side = cuts_of_all acl scalars (get_or rows r []) 
 abbrev pub met : Expr → Row → OrFault (Option Row)
 met c x = then_give (condition c x) (λ b. Ok (if b then Some x else None))
 
--- the condition can be asked of a row at each place of its box: the rows have a heading for which it is typed, the boxes are theirs, and
--- its cuts part what it gives
-pub record CanSweep (acl : List ℕ) (c : Expr) (rows : List Row) (boxes : List (Row × List (AnyPoint × AnyPoint))) (row : ℕ) : Type 0 where
+-- the rows have a heading with intervals at the positions, the boxes are theirs, and there is a row of the number
+pub record AreBoxed (acl : List ℕ) (rows : List Row) (boxes : List (Row × List (AnyPoint × AnyPoint))) (row : ℕ) : Type 0 where
   pub heading : Heading
   pub intervals : AreIntervals heading acl
-  pub typed : IsTyped heading c Truth
-  pub sweepable : IsSweepable acl c
   pub fitting : All (λ x. IsTrue (fits_heading heading x)) rows
   pub same : map (row_numbers number) boxes ≡ map (boxed acl) rows
   pub points : All (λ b. IsBox IsPointOf (types_at heading acl) b.1) boxes
   pub below : row < length rows
+
+-- the condition can be asked of a row at each place of its box: it is typed for the rows, and its cuts part what it gives
+pub record CanSweep (acl : List ℕ) (c : Expr) (rows : List Row) (boxes : List (Row × List (AnyPoint × AnyPoint))) (row : ℕ) : Type 0 where
+  pub boxed : AreBoxed acl rows boxes row
+  pub typed : IsTyped boxed.heading c Truth
+  pub sweepable : IsSweepable acl c

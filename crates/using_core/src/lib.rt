@@ -2,9 +2,12 @@
 //! unpacked operands, packed again, and works on the ends of intervals alone.
 #![tactic(auto, using(crate::proofs::ListLemmas::intervals_of_list))]
 
+mod cell_rows;
 mod combining;
 mod comparing;
 mod conditions;
+mod extension;
+mod extensions;
 mod joining;
 mod listing;
 mod packing;
@@ -15,4 +18,4 @@ mod telling;
 pub use combining::{using_infix, using_projection};
 pub use comparing::compared;
 pub use packing::{packed, unpacked};
-pub use rules::{using_extension, using_restriction, using_summary};
+pub use rules::{using_extension, using_restriction};

@@ -1,24 +1,26 @@
 // Operators under USING that ask an expression at each point.
-ghost use Rattle.std.specs.Prelude.{ℕ, ◌≤◌, ◌+◌, ◌∷◌, [], List, length, map, IsTrue};
+ghost use Rattle.std.specs.Prelude.{ℕ, ◌≤◌, ◌+◌, ◌∷◌, [], List, length};
 ghost use Rattle.base_core.specs.Outcomes.{then_give};
 ghost use Rattle.scalar_core.specs.Expressions.{read};
 ghost use Rattle.relation_core.specs.Answers.{Answers, under};
-ghost use Rattle.relation_core.specs.Groups.{rows_at, summarized};
 ghost use Rattle.relation_core.specs.Operators.{restricted, extended};
-ghost use Rattle.tree_core.specs.Trees.{read_sets, read_aggregate};
+ghost use Rattle.tree_core.specs.Trees.{read_sets};
 ghost use Rattle.cell_core.specs.Costs.{bound};
 ghost use Rattle.meaning_core.specs.Meanings.{condition, opened, closed};
-ghost use Rattle.meaning_core.specs.Rows.{extended_row, group_row};
-ghost use Rattle.meaning_core.specs.Typing.{IsRestriction, IsExtension, IsSummary, IsList};
+ghost use Rattle.meaning_core.specs.Rows.{extended_row};
+ghost use Rattle.meaning_core.specs.Typing.{IsRestriction, IsExtension, IsList};
 ghost use Rattle.using_core.specs.Cells.{cells_of_all, scalars_of};
-ghost use Rattle.using_core.specs.Using.{around, listed, HasList, IsSweptBy, AreSweptBy, IsSummedBy};
+ghost use Rattle.using_core.specs.Using.{around, listed, HasList, IsSweptBy, AreSweptBy};
 
+use crate::extension::{Items, extended_by_boxes};
+use crate::listing::listed;
 use crate::restriction::restricted_by_boxes;
 use point_core::{Place, Steps, Stop};
+use row_making::set_places;
 use scalar_core::Scalar;
 use std::alloc::Global;
 use std::sync::ledger::Ledger;
-use tree_core::{Aggregates, Sets};
+use tree_core::Sets;
 use value_core::{Heading, Relation};
 
 /// The relation at the points of which the condition holds, or the least fault of the condition at any point.
@@ -63,31 +65,17 @@ pub fn using_extension<L: Ledger>(
         (closed (around place heading.now acl.now) place heading.now))) }
     ensures cost { steps.new ≤ steps.old + bound (cells_of_all (listed heading.now acl.now r.now.heading) (scalars_of (read_sets sets.now)) r.now.rows) (length acl.now) }
 {
-    Err(Stop::Memory)
-}
-
-/// A row for each group of the relation's rows at each point, or the least fault of an aggregate.
-pub fn using_summary<L: Ledger>(
-    alloc: Global,
-    place: Place,
-    heading: &Heading,
-    acl: &[usize],
-    by: &[usize],
-    aggregates: &Aggregates,
-    r: &Relation,
-    steps: &mut Steps<L>,
-) -> Result<Relation, Stop>
-    requires summary { (sizes : List ℕ) × IsSummary sizes r.now.heading heading.now by.now (map read_aggregate aggregates.now) }
-    requires list { IsList heading.now acl.now }
-    requires listed { HasList heading.now acl.now r.now.heading }
-    requires summed { IsSummedBy heading.now acl.now r.now.heading by.now (map read_aggregate aggregates.now) }
-    ensures value { Answers result (under heading.now
-        (then_give (summarized by.now
-        (λ numbers. group_row r.now.heading heading.now (map read_aggregate aggregates.now)
-        (rows_at (opened (around place heading.now acl.now) r.now.heading r.now.rows) numbers))
-        (opened (around place heading.now acl.now) r.now.heading r.now.rows))
-        (closed (around place heading.now acl.now) place heading.now))) }
-    ensures cost { steps.new ≤ steps.old + bound (length r.now.rows) (length acl.now) }
-{
-    Err(Stop::Memory)
+    // The names of a heading are different, so the names at the positions lead back to these.
+    let attributes = heading.attributes();
+    let from = r.heading().attributes();
+    let acl_there = listed(alloc, attributes, acl, from)?;
+    let list = sets.list.as_slice();
+    let places = set_places(alloc, list, from, attributes)?;
+    let items = Items {
+        acl: acl_there.as_slice(),
+        to: acl,
+        places: places.as_slice(),
+        sets: list,
+    };
+    extended_by_boxes(alloc, place, heading, items, r, steps)
 }

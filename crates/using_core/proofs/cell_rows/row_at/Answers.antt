@@ -3,8 +3,8 @@ use Rattle.point_core.specs.Points.{number}
 use Rattle.interval_core.specs.Members.{at_point}
 use Rattle.value_core.specs.Attributes.{put_span}
 use Rattle.value_core.specs.Plain.{plain}
-use Rattle.using_core.proofs.ConditionLemmas.{ArePut, more_put}
-use Rattle.using_core.proofs.conditions.row_at.Goals as goal
+use Rattle.using_core.proofs.CellRowLemmas.{ArePut, more_put}
+use Rattle.using_core.proofs.cell_rows.row_at.Goals as goal
 
 pub loop-j-preserved : goal.loop-j-preserved
 loop-j-preserved c =

@@ -1,4 +1,4 @@
--- Rows at the first points of a cell, and what a condition asks of them.
+-- Rows at the first points of a cell.
 use Rattle.std.proofs.Common.{◌≡◌, ℕ, zero, suc, ◌<◌, ℤ, pos, ◌≤ℤ◌, ◌&&◌, true, List, [], ◌∷◌, map, drop, length, get_or, set, refl, sym, ap, ◌∙◌, subst, arith}
 use Rattle.std.specs.Prelude.{slice_index, int_le, if◌then◌else◌}
 use Rattle.std.specs.Bool.{IsTrue}
@@ -14,7 +14,7 @@ use Rattle.packing_core.specs.Covering.{Among}
 use Rattle.packing_core.specs.Packed.{Has, firsts}
 use Rattle.value_core.specs.Attributes.{value_at, span_of, with_span, put_span}
 use Rattle.value_core.specs.Plain.{plain, ends}
-use Rattle.value_core.specs.Values.{Row, Value as PlainValue, truth, text, point, interval, fits, is_interval, same_line}
+use Rattle.value_core.specs.Values.{Row, Value as PlainValue, truth, text, point, interval, fits, fits_heading, is_interval, same_line}
 use Rattle.value_core.specs.declared.kind.Kind.TheVariants.{Span as SpanOf}
 use Rattle.value_core.specs.declared.value.Value.{Value}
 use Rattle.value_core.specs.declared.value.Value.TheVariants.{Span as SpanValue}
@@ -29,10 +29,9 @@ use Rattle.u_set.specs.Boxes.{type_of, types_at, boxed}
 use Rattle.u_set.proofs.BoxLemmas.{place_listed, span_fits, shaped_from_fit}
 use Rattle.u_row.specs.Cutting.{cells_of}
 use Rattle.u_row.proofs.CellLemmas.{cell_in, has_firsts}
-use Rattle.meaning_core.specs.Scalars.{IsConditionOver}
-use Rattle.using_core.specs.ConditionLaws.{sides_there, side_there, own_fits, ordered_there, inside_from}
+use Rattle.using_core.specs.BoxedLaws.{sides_there, side_there, own_fits, ordered_there, inside_from}
 use Rattle.using_core.specs.PlaceRows.{HaveLines, lines_kept, within_has}
-use Rattle.using_core.specs.Swept.{CanSweep, swept_cuts}
+use Rattle.using_core.specs.Swept.{AreBoxed, swept_cuts}
 use Rattle.using_core.proofs.PlaceFits.{at_place-fits}
 
 -- ---- one point in place of a value
@@ -122,9 +121,9 @@ ends_fit t i s h e l =
     (both_true (is_number t b) (int_le a b) (number-is_number t b (h.1).1) (le-int_le a b l)) in
     both_true (same_line (line_of t) (line_of t)) (is_interval t s) (same_line-self (line_of t)) (subst (λ (r : Span). is_interval t r ≡ true) e inside)
 
--- ---- a row of which a condition can be asked
+-- ---- a row with its box
 
-module _ (acl : List ℕ) (c : Expr) (rows : List Row) (boxes : List (Row × List (AnyPoint × AnyPoint))) (row : ℕ) (h : CanSweep acl c rows boxes row) where
+module _ (acl : List ℕ) (rows : List Row) (boxes : List (Row × List (AnyPoint × AnyPoint))) (row : ℕ) (h : AreBoxed acl rows boxes row) where
   abbrev own : Row
   own = get_or rows row []
 
@@ -133,11 +132,15 @@ module _ (acl : List ℕ) (c : Expr) (rows : List Row) (boxes : List (Row × Lis
 
   count : length sides ≡ length acl
   count =
-      let e = sides_there acl c rows boxes row h in
+      let e = sides_there acl rows boxes row h in
       sym (length-map sides (numbers_of number)) ∙ ap length e ∙ length-map acl (λ i. span_of (value_at own i))
 
-  own_is : (d : Row) → get_or rows row d ≡ own
+  pub own_is : (d : Row) → get_or rows row d ≡ own
   own_is d = get_or_default rows row d [] h.below
+
+  -- a row at its number has the heading
+  pub own_row : (e : Row) → IsTrue (fits_heading h.heading (get_or rows row e))
+  own_row e = subst (λ (x : Row). IsTrue (fits_heading h.heading x)) (sym (own_is e)) (own_fits acl rows boxes row h)
 
   -- whatever stands behind the rows, the row is its own
   pub own_place : (e : Row) (ps : List ℤ) → at_place acl ps (get_or rows row e) ≡ at_place acl ps own
@@ -147,7 +150,7 @@ module _ (acl : List ℕ) (c : Expr) (rows : List Row) (boxes : List (Row × Lis
   side_below side l = let n = count in omega (arith, l, n)
 
   span_at : (side : ℕ) → side < length acl → IsTrue (fits (SpanOf (type_of (kind_at h.heading (slice_index acl side)))) (value_at own (slice_index acl side)))
-  span_at side l = span_fits h.heading acl h.intervals own (own_fits acl c rows boxes row h) (slice_index acl side) (place_listed acl side l)
+  span_at side l = span_fits h.heading acl h.intervals own (own_fits acl rows boxes row h) (slice_index acl side) (place_listed acl side l)
 
   pub has_span : (side : ℕ) (d : Row) → side < length sides → HasSpanAt (get_or rows row d) (slice_index acl side)
   has_span side d l =
@@ -174,7 +177,7 @@ module _ (acl : List ℕ) (c : Expr) (rows : List Row) (boxes : List (Row × Lis
       let known = side_ends side d l in
       let lines : line_of u ≡ line_of t = sym (known.0).0 ∙ (ends.0).0 in
       let is : v ≡ interval (line_of t) (span_of v) = interval_that_fits u v (span_at side (side_below side l)) ∙ ap (λ (m : Line). interval m (span_of v)) lines in
-      let new = ends_fit t (get_or sides side d) (span_of v) ends (side_there acl c rows boxes row h side d l) (ordered_there acl c rows boxes row h side d l) in
+      let new = ends_fit t (get_or sides side d) (span_of v) ends (side_there acl rows boxes row h side d l) (ordered_there acl rows boxes row h side d l) in
       subst (λ (x : Row). IsTrue (fits (SpanOf t) (value_at x a))) (sym (own_is e)) (subst (λ w. IsTrue (fits (SpanOf t) w)) (sym is) new)
 
   module _ (at : List (AnyPoint × AnyPoint)) (types : List AnyType) (here : IsBox IsPointOf types sides) (there : IsBox IsPointOf types at) where
@@ -183,7 +186,7 @@ module _ (acl : List ℕ) (c : Expr) (rows : List Row) (boxes : List (Row × Lis
 
     pub all_within : (e : Row) → All (λ (i : ℕ). i < length (get_or rows row e)) acl
     all_within e = λ j d l.
-        let long = (shaped_from_fit h.heading acl h.intervals own (own_fits acl c rows boxes row h)).long in
+        let long = (shaped_from_fit h.heading acl h.intervals own (own_fits acl rows boxes row h)).long in
         let w = h.intervals.within j d l in
         subst (λ (x : Row). get_or acl j d < length x) (sym (own_is e)) (omega (arith, long, w))
 
@@ -199,14 +202,15 @@ module _ (acl : List ℕ) (c : Expr) (rows : List Row) (boxes : List (Row × Lis
         let own_ends = box_at types sides here j d Integer s in
         interval_that_fits t v (fits_there t j d e s own_ends) ∙ ap (λ (k : Line). interval k (span_of v)) (sym (ends.0).0)
 
-    pub condition_there : (e x : Row) → Among (box_numbers number at) (cells_of (swept_cuts acl (c ∷ []) rows row) (box_numbers number sides)) → x ≡ at_place acl (firsts (box_numbers number at)) (get_or rows row e)
-        → IsConditionOver x c
-    condition_there e x m is =
+    -- the row at a place of a cell has the heading
+    pub fits_at : (scalars : List Expr) (e x : Row) → Among (box_numbers number at) (cells_of (swept_cuts acl scalars rows row) (box_numbers number sides))
+        → x ≡ at_place acl (firsts (box_numbers number at)) (get_or rows row e) → IsTrue (fits_heading h.heading x)
+    fits_at scalars e x m is =
         let cell : List Span = box_numbers number at in
-        let inside = inside_from acl c rows boxes row h in
-        let first : Has cell (firsts cell) = has_firsts (swept_cuts acl (c ∷ []) rows row) 0 (box_numbers number sides) inside cell m in
-        let in_box : Has (box_numbers number sides) (firsts cell) = cell_in (swept_cuts acl (c ∷ []) rows row) 0 (box_numbers number sides) inside cell m (firsts cell) first in
-        let in_row : AreWithin own acl (firsts cell) = within_has acl own (firsts cell) (subst (λ (b : List Span). Has b (firsts cell)) (sides_there acl c rows boxes row h) in_box) in
-        let fit = own_fits acl c rows boxes row h in
+        let inside = inside_from acl rows boxes row h scalars in
+        let first : Has cell (firsts cell) = has_firsts (swept_cuts acl scalars rows row) 0 (box_numbers number sides) inside cell m in
+        let in_box : Has (box_numbers number sides) (firsts cell) = cell_in (swept_cuts acl scalars rows row) 0 (box_numbers number sides) inside cell m (firsts cell) first in
+        let in_row : AreWithin own acl (firsts cell) = within_has acl own (firsts cell) (subst (λ (b : List Span). Has b (firsts cell)) (sides_there acl rows boxes row h) in_box) in
+        let fit = own_fits acl rows boxes row h in
         let place : x ≡ at_place acl (firsts cell) own = is ∙ ap (at_place acl (firsts cell)) (own_is e) in
-        subst (λ (y : Row). IsConditionOver y c) (sym place) (record { heading = h.heading; fits = at_place-fits h.heading own own acl (firsts cell) fit fit in_row; typed = h.typed })
+        subst (λ (y : Row). IsTrue (fits_heading h.heading y)) (sym place) (at_place-fits h.heading own own acl (firsts cell) fit fit in_row)

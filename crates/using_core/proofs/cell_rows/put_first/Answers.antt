@@ -1,8 +1,8 @@
 use Rattle.std.proofs.Common.{◌≡◌, ◌∙◌, map, set}
 use Rattle.value_core.specs.Plain.{plain}
 use Rattle.value_core.specs.declared.value.Value.TheVariants.{Span as SpanValue}
-use Rattle.using_core.proofs.ConditionLemmas.{point_put}
-use Rattle.using_core.proofs.conditions.put_first.Goals as goal
+use Rattle.using_core.proofs.CellRowLemmas.{point_put}
+use Rattle.using_core.proofs.cell_rows.put_first.Goals as goal
 
 pub returns : goal.returns
 returns c =

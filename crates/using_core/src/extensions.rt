@@ -1,0 +1,130 @@
+// Items, asked at each point of the listed attributes of rows.
+ghost use Rattle.std.specs.Prelude.{◌≡◌, ◌<◌, length, map, flat_map, slice_index, Ok, Err, IsTrue, IfOk};
+ghost use Rattle.std.specs.List.{All};
+ghost use Rattle.base_core.specs.Outcomes.{then_give};
+ghost use Rattle.base_core.specs.Sets.{in_order};
+ghost use Rattle.point_core.specs.Orders.{point_cmp};
+ghost use Rattle.point_core.specs.Points.{number, IsPointOf};
+ghost use Rattle.point_core.specs.declared.any_type.AnyType.{AnyType as AnyTypeSpec};
+ghost use Rattle.point_core.specs.declared.fault.Fault.{Fault as AnyFault};
+ghost use Rattle.value_core.specs.Attributes.{value_at};
+ghost use Rattle.value_core.specs.Values.{fits};
+ghost use Rattle.value_core.specs.declared.kind.Kind.TheVariants as kind;
+ghost use Rattle.scalar_core.specs.AtPlaces.{HasSpanAt};
+ghost use Rattle.scalar_core.specs.Cuts.{inner_cuts};
+ghost use Rattle.tree_core.specs.Trees.{read_sets};
+ghost use Rattle.meaning_core.specs.Scalars.{AreTypedOver};
+ghost use Rattle.using_core.specs.Extended.{made_of, AreSweepable};
+ghost use Rattle.using_core.specs.Swept.{labelled_if};
+
+use crate::cell_rows::{label_of, row_at};
+use cell_core::BoxRow;
+use interval_core::Interval;
+use point_core::{AnyPoint, AnyType, Memory, Stop};
+use row_making::extended_row;
+use scalar_core::{Scalar, cuts};
+use std::alloc::Global;
+use u_row::RowRule;
+use value_core::{Name, Row};
+
+/// Items on rows, whose boxes are given, at points of the listed attributes: `places` tells where the values of the new rows come
+/// from, and `to` which attributes of these are listed.
+#[derive(Drop)]
+pub(crate) struct Extension<'a> {
+    pub sets: &'a [(Name, Scalar)],
+    pub places: &'a [usize],
+    pub acl: &'a [usize],
+    pub to: &'a [usize],
+    pub rows: &'a [Row],
+    pub boxes: &'a [BoxRow<AnyType, Row>],
+}
+
+impl RowRule<AnyType> for Extension<'_> {
+    ghost use Rattle.std.specs.Prelude.{ℕ, List, [], get_or};
+    ghost use Rattle.tree_core.specs.Trees.{read_sets};
+    ghost use Rattle.using_core.specs.Cells.{scalars_of};
+    ghost use Rattle.using_core.specs.Extended.{CanExtend, made_of};
+    ghost use Rattle.using_core.specs.Swept.{swept_cuts, swept_rows};
+    ghost use Rattle.using_core.specs.BoxedLaws.{ordered_there, inside_there};
+    ghost use Rattle.using_core.specs.ExtensionLaws.{extended_there};
+
+    ghost CanApply = { λ rule row. CanExtend rule.acl.now rule.to.now (read_sets rule.sets.now) rule.places.now rule.rows.now rule.boxes.now row };
+
+    ghost sides = { λ rule row. (get_or rule.boxes.now row ([], [])).1 };
+
+    ghost cuts_of = { λ rule row side. swept_cuts rule.acl.now (scalars_of (read_sets rule.sets.now)) rule.rows.now row side };
+
+    ghost means = { λ rule row place. swept_rows rule.acl.now rule.to.now (made_of rule.places.now (read_sets rule.sets.now)) rule.rows.now row place };
+
+    fn cuts(&self, alloc: Global, row: usize, side: usize) -> Result<Vec<AnyPoint>, Memory> {
+        let all = all_cuts(alloc, self.sets, &self.rows[row], self.acl, side)?;
+        let points = in_order(all)?;
+        Ok(points)
+    }
+
+    fn apply(
+        &self,
+        alloc: Global,
+        row: usize,
+        at: &[Interval<AnyType>],
+    ) -> Result<Option<Row>, Stop> {
+        let there = row_at(alloc, &self.rows[row], self.acl, at)?;
+        made_label(alloc, self.sets, self.places, &there, self.to)
+    }
+
+    ghost ordered = { λ rule row side d h l. ordered_there rule.acl.now rule.rows.now rule.boxes.now row h.boxed side d l };
+
+    ghost inside = { λ rule row side d h l. inside_there rule.acl.now rule.rows.now rule.boxes.now row h.boxed (scalars_of (read_sets rule.sets.now)) side d l };
+
+    ghost steady = { λ rule row cell ps qs h m a b. extended_there rule.acl.now rule.to.now (read_sets rule.sets.now) rule.places.now rule.rows.now rule.boxes.now row h cell ps qs m a b };
+}
+
+// The cuts of the listed attribute at `side` by each item, one after the other.
+fn all_cuts(
+    alloc: Global,
+    sets: &[(Name, Scalar)],
+    row: &Row,
+    acl: &[usize],
+    side: usize,
+) -> Result<Vec<AnyPoint>, Memory>
+    requires typed { AreTypedOver row.now (read_sets sets.now) }
+    requires sweepable { AreSweepable acl.now (read_sets sets.now) }
+    requires side { side < length acl.now }
+    requires interval { HasSpanAt row.now (slice_index acl.now side) }
+    ensures cuts { IfOk result (λ v. map number v.items ≡ flat_map (λ s. inner_cuts acl.now (slice_index acl.now side) s.1 row.now) (read_sets sets.now)) }
+    ensures points { (t : AnyTypeSpec) → IsTrue (fits (kind.Span t) (value_at row.now (slice_index acl.now side))) → IfOk result (λ v. All (IsPointOf t) v.items) }
+{
+    let mut all = Vec::new(alloc);
+    for set in sets {
+        let mut own = cuts(alloc, &set.1, row, acl, side)?;
+        all.append(&mut own)?;
+    }
+    Ok(all)
+}
+
+// The points in order, each once.
+fn in_order(points: Vec<AnyPoint>) -> Result<Vec<AnyPoint>, Memory>
+    ensures { IfOk result (λ v. v.items ≡ in_order point_cmp points.items) }
+{
+    let mut list = points;
+    list.sort()?;
+    list.dedup();
+    Ok(list)
+}
+
+// The values that are not listed of the row that the items make.
+fn made_label(
+    alloc: Global,
+    sets: &[(Name, Scalar)],
+    places: &[usize],
+    row: &Row,
+    to: &[usize],
+) -> Result<Option<Row>, Stop>
+    requires { AreTypedOver row.now (read_sets sets.now) }
+    ensures answer { IfOk result (λ o. then_give (made_of places.now (read_sets sets.now) row.now) (labelled_if to.now) ≡ Ok o) }
+    ensures fault { (e : AnyFault) → result ≡ Err (Stop.Fault e) → then_give (made_of places.now (read_sets sets.now) row.now) (labelled_if to.now) ≡ Err e }
+{
+    let made = extended_row(alloc, places, sets, row)?;
+    let label = label_of(alloc, made.values(), to)?;
+    Ok(Some(label))
+}
