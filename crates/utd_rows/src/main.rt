@@ -10,13 +10,16 @@ use std::alloc::Global;
 use std::{fs, io};
 
 /// The files of data/, by subject.
-const FILES: [&str; 29] = [
+const FILES: [&str; 34] = [
     "ask.txt",
     "assign.txt",
     "compare.txt",
     "constraint.txt",
     "drop.txt",
+    "extend.txt",
     "fault.txt",
+    "history.txt",
+    "inside.txt",
     "item.txt",
     "join.txt",
     "kept.txt",
@@ -27,15 +30,17 @@ const FILES: [&str; 29] = [
     "pack.txt",
     "page.txt",
     "points.txt",
+    "portion.txt",
     "relation.txt",
     "relvar.txt",
     "scalar.txt",
     "script.txt",
     "source.txt",
+    "summarize.txt",
+    "terminate.txt",
     "text.txt",
     "type.txt",
     "typing.txt",
-    "unbuilt.txt",
     "update.txt",
     "using.txt",
     "view.txt",

@@ -1,0 +1,56 @@
+// How many permits were in force at each time, and what was owed for contracts.
+
+VAR PERMITS RELATION {PERMIT INTEGER, AREA CHAR, VALID INTERVAL(DATE)} USING (VALID): KEY {PERMIT, VALID};
+
+INSERT PERMITS RELATION {
+  TUPLE {PERMIT 1, AREA 'north', VALID [DATE '2012-01-10':DATE '2012-02-20']},
+  TUPLE {PERMIT 2, AREA 'north', VALID [DATE '2012-02-01':DATE '2012-03-10']},
+  TUPLE {PERMIT 3, AREA 'south', VALID [DATE '2012-02-15':DATE '2012-02-29']},
+  TUPLE {PERMIT 3, AREA 'south', VALID [DATE '2012-03-05':DATE '2012-03-31']}
+};
+
+/* At each time, in all areas; days without a permit have no row. */
+PRINT USING (VALID): SUMMARIZE PERMITS BY {VALID} : {NUMBER := COUNT()};
+
+/* In each area. */
+PRINT USING (VALID): SUMMARIZE PERMITS BY {AREA, VALID} : {NUMBER := COUNT()};
+
+/* How many were there at most, and when? */
+VAR LOAD VIRTUAL (USING (VALID): SUMMARIZE PERMITS BY {VALID} : {NUMBER := COUNT()});
+VAR MOST VIRTUAL (SUMMARIZE LOAD BY {} : {NUMBER := MAX(NUMBER)});
+PRINT LOAD JOIN MOST;
+
+/* Was there ever a day with more than three? */
+ASK IS_EMPTY(LOAD WHERE NUMBER > 3);
+
+/* Each day of the quarter, with 0 where there is no permit. */
+PRINT USING (VALID): (USING (VALID): SUMMARIZE PERMITS BY {VALID} : {NUMBER := COUNT()})
+  UNION (USING (VALID): RELATION {TUPLE {NUMBER 0, VALID [DATE '2012-01-01':DATE '2012-03-31']}}
+    NOT MATCHING (PERMITS {VALID}));
+
+/* Without USING the intervals themselves are the groups, which tells nothing about days. */
+PRINT SUMMARIZE PERMITS BY {VALID} : {NUMBER := COUNT()};
+
+/* What a contract costs a day, and for whom. */
+VAR FEES RELATION {CONTRACT INTEGER, CUSTOMER CHAR, CENTS INTEGER, DURING INTERVAL(DATE)} USING (DURING): KEY {CONTRACT, DURING};
+INSERT FEES RELATION {
+  TUPLE {CONTRACT 7, CUSTOMER 'Ada',   CENTS 60, DURING [DATE '2012-01-01':DATE '2012-12-31']},
+  TUPLE {CONTRACT 8, CUSTOMER 'Ada',   CENTS 60, DURING [DATE '2012-04-01':DATE '2012-09-30']},
+  TUPLE {CONTRACT 9, CUSTOMER 'Grace', CENTS 80, DURING [DATE '2012-03-01':DATE '2012-06-30']},
+  TUPLE {CONTRACT 9, CUSTOMER 'Grace', CENTS 95, DURING [DATE '2012-07-01':DATE '2012-12-31']}
+};
+
+/* What was owed a day, by each customer and by all of them, with the dearest contract. */
+PRINT USING (DURING): SUMMARIZE FEES BY {CUSTOMER, DURING} : {A_DAY := SUM(CENTS), CONTRACTS := COUNT()};
+PRINT USING (DURING): SUMMARIZE FEES BY {DURING} : {A_DAY := SUM(CENTS), DEAREST := MAX(CENTS)};
+
+/* And for the whole year? */
+PRINT SUMMARIZE (EXTEND FEES : {OWED := CENTS * COUNT(DURING)}) BY {CUSTOMER} : {OWED := SUM(OWED)};
+
+/* On which days was it 150 and more? */
+PRINT (USING (DURING): EXTEND (USING (DURING): SUMMARIZE FEES BY {DURING} : {A_DAY := SUM(CENTS)})
+  : {MUCH := A_DAY >= 150, SUMMER := DURING OVERLAPS [DATE '2012-06-01':DATE '2012-08-31']}) WHERE MUCH;
+
+/* The days are what one groups by, so they stay; and nothing else may be asked of them. */
+PRINT USING (DURING): SUMMARIZE FEES BY {CUSTOMER} : {A_DAY := SUM(CENTS)};
+PRINT USING (DURING): SUMMARIZE FEES BY {DURING} : {OWED := SUM(CENTS * COUNT(DURING))};
