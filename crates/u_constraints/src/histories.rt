@@ -32,7 +32,10 @@ fn is_overrun(
     ensures answer { IfOk result (λ b. b ≡ is_overrun rule.now of.now.rows other.now.rows) }
     ensures relation { IsRelation of.now }
 {
-    let (here, there) = (rule.key_here.list.as_slice(), rule.key_there.list.as_slice());
+    let (here, there) = (
+        rule.key_here.list.as_slice(),
+        rule.key_there.list.as_slice(),
+    );
     let ends = sorted_ends(alloc, of, here, rule.span_here)?;
     let begins = begins(alloc, other, there, rule.point_there, false)?;
     Ok(is_any_reached(begins.as_slice(), ends.as_slice()))
@@ -48,8 +51,16 @@ fn is_touched(
     requires { FitsHeadings of.now.heading other.now.heading (constraint.History rule.now) }
     ensures { IfOk result (λ b. b ≡ is_touched rule.now of.now.rows other.now.rows) }
 {
-    let here = joined(alloc, rule.key_here.list.as_slice(), rule.all_here.list.as_slice())?;
-    let there = joined(alloc, rule.key_there.list.as_slice(), rule.all_there.list.as_slice())?;
+    let here = joined(
+        alloc,
+        rule.key_here.list.as_slice(),
+        rule.all_here.list.as_slice(),
+    )?;
+    let there = joined(
+        alloc,
+        rule.key_there.list.as_slice(),
+        rule.all_there.list.as_slice(),
+    )?;
     let ends = sorted_ends(alloc, of, here.as_slice(), rule.span_here)?;
     let begins = begins(alloc, other, there.as_slice(), rule.point_there, true)?;
     Ok(is_any_reached(begins.as_slice(), ends.as_slice()))

@@ -45,12 +45,7 @@ fn begun(touching: bool, n: i64) -> i64
 }
 
 /// The row's part, with the last number of its interval.
-fn end_mark(
-    alloc: Global,
-    row: &Row,
-    positions: &[usize],
-    at: usize,
-) -> Result<(Row, i64), Memory>
+fn end_mark(alloc: Global, row: &Row, positions: &[usize], at: usize) -> Result<(Row, i64), Memory>
     requires within { All (λ (i : ℕ). i < length row.now) positions.now }
     requires at { at < length row.now }
     requires interval { (t : AnyType) × IsTrue (fits (kind.Span t) (value_at row.now at)) }

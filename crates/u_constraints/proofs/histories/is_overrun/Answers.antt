@@ -1,4 +1,4 @@
-use Rattle.std.proofs.Common.{◌≡◌, ◌∙◌, ap, false}
+use Rattle.std.proofs.Common.{◌∙◌, ap, false}
 use Rattle.value_core.specs.declared.constraint.HistoryRule.{HistoryRule}
 use Rattle.u_constraints.proofs.HistoryLemmas.{over_at, told_of_rows}
 use Rattle.u_constraints.proofs.histories.is_overrun.Goals as goal

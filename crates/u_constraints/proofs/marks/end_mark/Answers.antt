@@ -1,4 +1,4 @@
-use Rattle.std.proofs.Common.{◌≡◌, ℤ, ◌<◌, length, sym, ap, ◌∙◌, arith, rules, to_z, of_z, w64}
+use Rattle.std.proofs.Common.{◌≡◌, length, sym, ap, ◌∙◌, arith, rules, to_z, of_z, w64}
 use Rattle.std.proofs.lemmas.List.{length-map}
 use Rattle.value_core.specs.Attributes.{value_at, span_of}
 use Rattle.value_core.specs.Plain.{plain}
