@@ -1,6 +1,9 @@
 pub mod ConstraintLemmas
+pub mod FitLemmas
 pub mod FrontLemmas
+pub mod HistoryLemmas
 pub mod KeyLemmas
+pub mod MarkLemmas
 pub mod OutcomeLemmas
 pub mod PairLemmas
 pub mod PlacedKeyLemmas

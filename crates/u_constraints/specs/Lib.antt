@@ -1,4 +1,5 @@
 pub mod Constraints
 pub mod Costs
 pub mod Fronts
+pub mod Marks
 pub mod Places

@@ -8,6 +8,7 @@ ghost use Rattle.value_core.specs.declared.constraint.Constraint.TheVariants.{Fo
 ghost use Rattle.u_constraints.specs.Constraints.{broken, heading_or_none, is_referenced as are_referenced, rows_or_none, IsNamed};
 ghost use Rattle.u_constraints.specs.Costs.{constraint_cost};
 
+use crate::histories::keeps_history;
 use crate::keys::{is_key, is_referenced};
 use crate::lines::unless;
 use crate::packed::is_packed;
@@ -58,7 +59,12 @@ pub fn holds<L: Ledger>(
             let kept = refers(alloc, acl, of, here, other, there, steps)?;
             Ok(unless(kept, Code::E43))
         }
-        _ => Err(Memory),
+        (Constraint::History(rule), Some(other)) => {
+            let kept = keeps_history(alloc, rule, of, other)?;
+            Ok(unless(kept, Code::E44))
+        }
+        (Constraint::Foreign(..), None) => unreachable!(),
+        (Constraint::History(_), None) => unreachable!(),
     }
 }
 

@@ -4,8 +4,10 @@
 mod apart;
 mod constraints;
 mod fronts;
+mod histories;
 mod keys;
 mod lines;
+mod marks;
 mod packed;
 mod parts;
 mod references;
