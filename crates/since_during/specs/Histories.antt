@@ -102,7 +102,7 @@ IsFreeIn s name = AllByRecursion (λ (n : Name). bytes_eq n name ≡ false) (all
 
 -- kinds that there are, and names that nothing has
 pub record IsTypedHistory (s : State) (h : HistoryData) : Type 0 where
-  pub data : IsHistoryData h
+  pub given : IsHistoryData h
   pub declared : IsTrue (is_declared (sizes_of s.ordinals) h.heading)
   pub over : IsTrue (is_type (sizes_of s.ordinals) h.over)
   pub view : IsFreeIn s h.view
