@@ -22,7 +22,7 @@ use Rattle.since_during.specs.Joinable.{IsJoinableIf, AreJoinable}
 -- ---- names
 
 -- a name keeps what it stands for when more is declared
-named-more : (before more : Entries) (name : Name) (x : PlainRelvar) → relvar_named before name ≡ Some x → relvar_named (before ++ more) name ≡ Some x
+pub named-more : (before more : Entries) (name : Name) (x : PlainRelvar) → relvar_named before name ≡ Some x → relvar_named (before ++ more) name ≡ Some x
 named-more [] more name x e = absurd (cc)
 named-more (k ∷ before) more name x e = by-test (bytes_eq k.0 name) e (named-more before more name x)
   where

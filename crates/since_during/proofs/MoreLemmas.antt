@@ -51,7 +51,7 @@ stands (b ∷ rest) a up i = elim i [
 -- ---- one attribute more
 
 module _ (h : Heading) (n : Name) (k : Kind) (new : has_name h n ≡ false) where
-  not-there : (b : Attribute) → In b h → bytes_eq n b.0 ≡ true → ⊥
+  pub not-there : (b : Attribute) → In b h → bytes_eq n b.0 ≡ true → ⊥
   not-there b i e =
       let same : n ≡ b.0 = name_is n b.0 e in
       true≢false (sym (subst (λ (m : Name). IsTrue (has_name h m)) (sym same) (named_In h b i)) ∙ new)
