@@ -9,3 +9,4 @@ pub mod JoinedLemmas
 pub mod StateLemmas
 pub mod HistoryTypes
 pub mod HistoryMade
+pub mod EndedLemmas
