@@ -1,5 +1,5 @@
 -- The assignments of a TERMINATE that is typed for a well made state are typed for it.
-use Rattle.std.specs.Prelude.{◌≡◌, ℕ, ◌<◌, ◌∷◌, [], List, get_or, length, Option, Some, None, IsTrue, refl}
+use Rattle.std.specs.Prelude.{◌≡◌, ℕ, ◌∷◌, [], List, Option, Some, None, refl}
 use Rattle.std.proofs.Common.{sym, ap, ◌∙◌, subst}
 use Rattle.std.specs.List.{list_all, All}
 use Rattle.std.proofs.lemmas.Bool.{and_parts}
@@ -18,13 +18,13 @@ use Rattle.relation_core.specs.Agreement.{position_of}
 use Rattle.relation_core.specs.Parts.{no_attribute, kind_at}
 use Rattle.relation_core.proofs.HeadingLemmas.{heading_ascends}
 use Rattle.tree_core.specs.Items.{PlainItemForm, set_to, insert, delete, delete_rows, update, terminate, PlainItem, PlainAssignment}
-use Rattle.tree_core.specs.Relvars.{PlainRelvar, base, view, Entries, State, relvar_named, heading_if, constraints_if}
+use Rattle.tree_core.specs.Relvars.{PlainRelvar, base, view, State, relvar_named, heading_if, constraints_if}
 use Rattle.tree_core.specs.Trees.{Tree, named, restrict}
-use Rattle.meaning_core.specs.Endings.{history_if, history_of, rule_if}
+use Rattle.meaning_core.specs.Endings.{history_if, rule_if}
 use Rattle.meaning_core.specs.Histories.{joined_history, last_point, type_at, name_at}
-use Rattle.meaning_core.specs.Typing.{IsScalar, IsTypedTree, heading_named, is_declared, is_kind}
+use Rattle.meaning_core.specs.Typing.{IsScalar, IsTypedTree, is_kind}
 use Rattle.meaning_core.specs.Updates.{IsEnding, IsTypedForm, IsTypedItem, IsTypedAssignment}
-use Rattle.meaning_core.specs.WellMade.{sizes_of, headings_of, rule_among, IsBase, IsOfRule, IsTypedFor, IsWellMade}
+use Rattle.meaning_core.specs.WellMade.{sizes_of, headings_of, rule_among, IsOfRule, IsTypedFor, IsWellMade}
 use Rattle.meaning_core.proofs.PositionLemmas.{position-back}
 use Rattle.update_core.specs.Endings.{ended, ended_in, meant_by, meant_by_form}
 use Rattle.update_core.specs.Updates.{condition_of, negated}

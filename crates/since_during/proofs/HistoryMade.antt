@@ -1,25 +1,23 @@
 -- What a typed HISTORY declares keeps a well made state well made.
-use Rattle.std.specs.Prelude.{◌≡◌, ℕ, false, List, [], ◌∷◌, ◌++◌, Some, IsTrue, refl}
+use Rattle.std.specs.Prelude.{◌≡◌, ℕ, List, [], ◌∷◌, ◌++◌, Some, IsTrue, refl}
 use Rattle.std.proofs.Common.{arith, sym, ap, ◌∙◌, subst}
-use Rattle.std.specs.List.{list_all, All}
-use Rattle.std.specs.Str.{bytes_eq}
+use Rattle.std.specs.List.{list_all}
 use Rattle.std.proofs.lemmas.Bool.{and_parts, and_from}
 use Rattle.std.proofs.lemmas.Int.{ints}
 use Rattle.std.proofs.lemmas.List.Elements.{All-cons, All-nil}
 use Rattle.point_core.specs.Points.{IsNumber, is_number, line_of, last_of}
 use Rattle.point_core.specs.declared.any_type.AnyType.{AnyType}
 use Rattle.point_core.specs.declared.any_type.AnyType.TheVariants.{Integer, Date, Ordinal}
-use Rattle.value_core.specs.declared.constraint.Constraint.{Constraint}
 use Rattle.value_core.specs.declared.constraint.Constraint.TheVariants.{Key, UKey, History}
 use Rattle.value_core.specs.declared.kind.Kind.TheVariants.{Point}
 use Rattle.value_core.specs.Values.{Heading, Relation, is_heading, same_line}
 use Rattle.scalar_core.proofs.PointLemmas.{same_line-self, number-is_number}
 use Rattle.tree_core.specs.declared.declaration.HistoryData.{HistoryData}
-use Rattle.tree_core.specs.Relvars.{State, PlainRelvar, base, view, Entries, relvar_named, heading_if}
+use Rattle.tree_core.specs.Relvars.{State, PlainRelvar, base, view, relvar_named, heading_if}
 use Rattle.tree_core.specs.Trees.{named}
 use Rattle.meaning_core.specs.Declarations.{with_relvar}
 use Rattle.meaning_core.specs.Histories.{last_point}
-use Rattle.meaning_core.specs.Typing.{IsScalar, IsTypedTree, is_declared, is_kind}
+use Rattle.meaning_core.specs.Typing.{IsScalar, IsTypedTree, is_kind}
 use Rattle.meaning_core.specs.WellMade.{sizes_of, headings_of, FitsHeadings, FitsNamed, IsBase, IsConstraint, IsWellMade}
 use Rattle.meaning_core.proofs.MadeLemmas.{own_name}
 use Rattle.update_core.proofs.NameLemmas.{base-heading}
@@ -119,6 +117,7 @@ module _ (s : State) (h : HistoryData) (made : IsWellMade s) (is : IsTypedHistor
 
 pub history-made : (s : State) (h : HistoryData) → IsWellMade s → IsTypedHistory s h → IsWellMade (declared_in s (declared_history h))
 history-made s h made is =
-    with-relvar (second s h made is) h.view (view (view_of h) (Some (h.since, h.during))) (second-made s h made is) (view-free s h made is)
-    (view-typed s h made is,
-    view-fits h (headed s h made is) is.given (second s h made is).relvars (empty (since_heading h)) (empty (during_heading h)) (since_constraints h) (since-second s h made is) refl (during-second s h made is) refl)
+    with-relvar (second s h made is) h.view (view (view_of h) (Some (h.since, h.during))) (second-made s h made is) (view-free s h made is) (
+      view-typed s h made is,
+      view-fits h (headed s h made is) is.given (second s h made is).relvars (empty (since_heading h)) (empty (during_heading h)) (since_constraints h) (since-second s h made is) refl (during-second s h made is) refl,
+    )

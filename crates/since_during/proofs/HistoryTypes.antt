@@ -1,7 +1,7 @@
 -- What HISTORY declares is typed: the headings of its relvars are declared, their constraints fit, and its view joins them.
-use Rattle.std.specs.Prelude.{◌≡◌, ℕ, ◌<◌, ◌≤◌, Bool, true, false, not, ◌&&◌, ◌||◌, List, [], ◌∷◌, ◌++◌, length, map, nat_le, nat_eq, Some, slice_get, IsTrue, refl}
-use Rattle.std.proofs.Common.{arith, sym, ap, ap₂, ◌∙◌, subst, inl, inr, Ordering, Less, Equal, Greater}
-use Rattle.std.specs.List.{list_all, list_any, All, AllByRecursion, IsDistinct}
+use Rattle.std.specs.Prelude.{◌≡◌, ℕ, ◌<◌, ◌≤◌, Bool, true, false, not, ◌&&◌, ◌||◌, List, [], ◌∷◌, ◌++◌, length, nat_le, nat_eq, Some, slice_get, IsTrue, refl}
+use Rattle.std.proofs.Common.{arith, sym, ap, ◌∙◌, subst, inl, inr, Ordering, Less, Equal, Greater}
+use Rattle.std.specs.List.{list_all, list_any, IsDistinct}
 use Rattle.std.specs.List.Sorted.{IsPermutation}
 use Rattle.std.specs.Ordering.{nat_cmp}
 use Rattle.std.specs.Str.{bytes_eq}
@@ -26,7 +26,7 @@ use Rattle.value_core.specs.Values.{Name, Heading, attribute_cmp, is_heading}
 use Rattle.value_core.proofs.HeadingLemmas.{attribute_total}
 use Rattle.relation_core.specs.Agreement.{names_of, position_of}
 use Rattle.relation_core.specs.Parts.{no_attribute, kind_at, attributes_at}
-use Rattle.relation_core.proofs.ApartLemmas.{Apart, apart_ascending, ascends_in_order}
+use Rattle.relation_core.proofs.ApartLemmas.{apart_ascending, ascends_in_order}
 use Rattle.relation_core.proofs.AttributeLemmas.{same_name, apart_no_repeat}
 use Rattle.relation_core.proofs.FilterLemmas.{filter_all}
 use Rattle.relation_core.proofs.HeadingLemmas.{heading_ascends}
@@ -35,11 +35,11 @@ use Rattle.tree_core.specs.declared.tree.InfixWord.TheVariants.{Union}
 use Rattle.tree_core.specs.Trees.{named}
 use Rattle.meaning_core.specs.Histories.{with_attribute, all_but}
 use Rattle.meaning_core.specs.Meanings.{positions_of, names_at}
-use Rattle.meaning_core.specs.Typing.{IsList, IsProjection, are_in, is_declared, is_kind, is_span, is_type, not_named}
+use Rattle.meaning_core.specs.Typing.{IsList, are_in, is_declared, is_kind, is_span, is_type, not_named}
 use Rattle.meaning_core.specs.WellMade.{AreAlike, AreDifferent, FitsHeadings, IsOver}
 use Rattle.meaning_core.proofs.MadeLemmas.{Attribute}
 use Rattle.update_core.proofs.PartLemmas.{infix-part}
-use Rattle.since_during.specs.Histories.{IsHistoryData, since_heading, during_heading, key_in, all_in, span_of, rule_between}
+use Rattle.since_during.specs.Histories.{IsHistoryData, since_heading, during_heading, key_in, span_of, rule_between}
 use Rattle.since_during.proofs.HeadingLemmas.{put-in-order}
 use Rattle.since_during.proofs.JoinedLemmas.{AreJoined}
 use Rattle.since_during.proofs.MoreLemmas.{stands, not-there, from-more, old-more, own-more, more-other, all_but-ascends, all_but-within, without-one}
@@ -232,9 +232,15 @@ module _ (h : HistoryData) (headed : IsTrue (is_heading h.heading)) (given : IsH
 
   pub rule-fits : FitsHeadings during since (History (rule_between h since during))
   rule-fits = (
-    during-key, since-key, key-alike,
-    are-different during during-up h.heading during-in (all-named h.heading up), are-different since since-up h.heading since-in (all-named h.heading up), alike during since during-up since-up h.heading during-in since-in,
-    span-within, point-at.0, over-point,
+    during-key,
+    since-key,
+    key-alike,
+    are-different during during-up h.heading during-in (all-named h.heading up),
+    are-different since since-up h.heading since-in (all-named h.heading up),
+    alike during since during-up since-up h.heading during-in since-in,
+    span-within,
+    point-at.0,
+    over-point,
   )
     where
       over-point : IsOver (kind_at during (span_of h)) (kind_at since (position_of since h.point))

@@ -2,8 +2,8 @@
 --     AreJoined      how the headings of the two relvars belong together
 --     joined-typed      then the expression is typed, over any rows of the since relvar's heading and up to any point
 --     joined-from      it is typed only then
-use Rattle.std.specs.Prelude.{◌≡◌, ℕ, Bool, ◌&&◌, List, [], ◌∷◌, ◌++◌, Some, slice_get, IsTrue, refl}
-use Rattle.std.proofs.Common.{sym, ap, ◌∙◌, subst}
+use Rattle.std.specs.Prelude.{◌≡◌, ℕ, List, [], ◌∷◌, ◌++◌, Some, slice_get, IsTrue, refl}
+use Rattle.std.proofs.Common.{sym, ap, subst}
 use Rattle.std.proofs.lemmas.Bool.{and_parts, and_from}
 use Rattle.interval_core.specs.declared.selector.Ends.TheVariants.{Closed}
 use Rattle.point_core.specs.declared.any_type.AnyType.{AnyType}
@@ -14,7 +14,6 @@ use Rattle.value_core.specs.Headings.{IsHeadingOf}
 use Rattle.value_core.specs.Values.{Name, Heading}
 use Rattle.scalar_core.specs.declared.operators.PairOp.TheVariants.{Select}
 use Rattle.scalar_core.specs.Expressions.{Expr, attribute, pair}
-use Rattle.scalar_core.specs.Kinds.{IsTyped}
 use Rattle.relation_core.specs.Agreement.{names_of, position_of}
 use Rattle.tree_core.specs.Trees.{Tree, heading_of}
 use Rattle.meaning_core.specs.Histories.{joined_history, with_attribute, all_but}

@@ -1,9 +1,9 @@
 -- A heading with one attribute more: its attributes, where they stand, and what is left without one of them.
---     stands      where an attribute stands
---     old-more, own-more, from-more, more-other      the attributes of a heading with one more
---     indices-ascend, all_but-ascends, all_but-within      the positions but one
+--     member-at, stands      where an attribute stands
+--     not-there, old-more, own-more, from-more, more-other      the attributes of a heading with one more
+--     all_but-ascends, all_but-within      the positions but one
 --     without-one      what is left of a heading with two more without the first of them
-use Rattle.std.proofs.Common.{◌≡◌, ◌⊎◌, inl, inr, ℕ, zero, suc, ◌<◌, Bool, true, false, cond, not, List, [], ◌∷◌, length, map, filter, get_or, refl, sym, ap, ap₂, ◌∙◌, subst, arith, nat_eq, Less, Equal, IsTrue, lt-ltb, Greater}
+use Rattle.std.proofs.Common.{◌≡◌, ◌⊎◌, inl, inr, ℕ, zero, suc, ◌<◌, Bool, true, false, cond, not, List, [], ◌∷◌, length, map, get_or, refl, sym, ap, ap₂, ◌∙◌, subst, arith, nat_eq, Less, Equal, IsTrue, lt-ltb, Greater}
 use Rattle.std.specs.Cmp.Lexicographic.{texts_ties}
 use Rattle.std.specs.Ordering.{is_eq, nat_cmp}
 use Rattle.std.specs.Str.{bytes_eq}
@@ -19,7 +19,7 @@ use Rattle.value_core.proofs.HeadingLemmas.{attribute_total}
 use Rattle.relation_core.specs.Agreement.{names_of, position_of}
 use Rattle.relation_core.specs.Parts.{no_attribute, attributes_at}
 use Rattle.relation_core.proofs.ApartLemmas.{Tells, from_in_order, into_in_order, tells_ascending, ascends_in_order}
-use Rattle.relation_core.proofs.AttributeLemmas.{name_is, same_name, ties_by_name, named_In}
+use Rattle.relation_core.proofs.AttributeLemmas.{name_is, same_name, named_In}
 use Rattle.relation_core.proofs.HeadingLemmas.{one_list, attributes_ascend}
 use Rattle.meaning_core.specs.Histories.{with_attribute, all_but}
 use Rattle.meaning_core.specs.Meanings.{positions_of}
