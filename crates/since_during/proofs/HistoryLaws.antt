@@ -1,5 +1,5 @@
 -- The view that HISTORY declares is the one that a well made state asks for, over its two relvars and the rule between them.
-use Rattle.std.specs.Prelude.{◌≡◌, ℕ, suc, Bool, true, false, cond, List, [], ◌∷◌, Option, Some, IsTrue, refl, slice_index_or}
+use Rattle.std.specs.Prelude.{◌≡◌, ℕ, suc, false, cond, List, [], ◌∷◌, Option, Some, IsTrue, refl, slice_index_or}
 use Rattle.std.proofs.Common.{sym, ap, ◌∙◌, subst, Less, Equal, Greater}
 use Rattle.std.specs.Cmp.Lexicographic.{texts_ties, nat_list_eq_equiv}
 use Rattle.std.specs.Ordering.{is_eq}

@@ -22,7 +22,7 @@ use Rattle.since_during.specs.Joinable.{IsJoinableIf, AreJoinable}
 -- ---- names
 
 -- a name keeps what it stands for when more is declared
-named-more : (before more : Entries) (name : Name) (x : PlainRelvar) → relvar_named before name ≡ Some x → relvar_named (before ++ more) name ≡ Some x
+pub named-more : (before more : Entries) (name : Name) (x : PlainRelvar) → relvar_named before name ≡ Some x → relvar_named (before ++ more) name ≡ Some x
 named-more [] more name x e = absurd (cc)
 named-more (k ∷ before) more name x e = by-test (bytes_eq k.0 name) e (named-more before more name x)
   where
@@ -44,14 +44,14 @@ some-rule r q e = cc
 -- ---- where a relvar stands
 
 -- it is well made behind the entries before it
-record IsMadeIn (sizes : List ℕ) (whole : Entries) (r : PlainRelvar) : Type 0 where
+pub record IsMadeIn (sizes : List ℕ) (whole : Entries) (r : PlainRelvar) : Type 0 where
   pub front : Entries
   pub own : Name
   pub back : Entries
   pub split : whole ≡ front ++ (own, r) ∷ back
   pub made : IsRelvar sizes front own r
 
-made-in : (sizes : List ℕ) (before es : Entries) (name : Name) (r : PlainRelvar) → AreRelvars sizes before es → relvar_named es name ≡ Some r → IsMadeIn sizes (before ++ es) r
+pub made-in : (sizes : List ℕ) (before es : Entries) (name : Name) (r : PlainRelvar) → AreRelvars sizes before es → relvar_named es name ≡ Some r → IsMadeIn sizes (before ++ es) r
 made-in sizes before [] name r are e = absurd (cc)
 made-in sizes before (k ∷ rest) name r are e = by-test (bytes_eq k.0 name) e (made-in sizes (before ++ k ∷ []) rest name r are.1)
   where
@@ -105,10 +105,10 @@ module _ (s : State) (made : IsWellMade s) where
       (fits.1.6, subst (λ (o : Option PlainRelvar). rule.point_there < length (heading_if o)) (sym whole) fits.1.7)
 
   module _ (names : Name × Name) (t : Tree) (m : IsMadeIn (sizes_of s.ordinals) s.relvars (view t (Some names))) where
-    whole-since : relvar_named s.relvars names.0 ≡ relvar_named m.front names.0
+    pub whole-since : relvar_named s.relvars names.0 ≡ relvar_named m.front names.0
     whole-since = named-whole s.relvars m.front m.own (view t (Some names)) m.back m.split names.0 m.made.1.0
 
-    whole-during : relvar_named s.relvars names.1 ≡ relvar_named m.front names.1
+    pub whole-during : relvar_named s.relvars names.1 ≡ relvar_named m.front names.1
     whole-during = named-whole s.relvars m.front m.own (view t (Some names)) m.back m.split names.1 m.made.1.1
 
     by-rule : (q : Option HistoryRule) → rule_among (constraints_if (relvar_named m.front names.1)) ≡ q → IsOfRule m.front names.0 names.1 t q
@@ -122,7 +122,7 @@ module _ (s : State) (made : IsWellMade s) where
         let both = subst (λ (o : Option PlainRelvar). Points o during rule) whole-since there in
         (m.made.1.0, m.made.1.1, both, few_attributes _ typed.0.1.0.1.headed.ordered)
 
-    of-view : AreJoinable s.relvars (Some names)
+    pub of-view : AreJoinable s.relvars (Some names)
     of-view =
         let front = by-rule (rule_among (constraints_if (relvar_named m.front names.1))) refl m.made.1.2 in
         let since = subst (λ (o : Option PlainRelvar). Joins o (relvar_named m.front names.1) (rule_among (constraints_if (relvar_named m.front names.1)))) (sym whole-since) front in

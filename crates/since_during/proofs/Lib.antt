@@ -3,3 +3,10 @@ pub mod HeadingLemmas
 pub mod JoinableLemmas
 pub mod RoomLemmas
 pub mod HistoryLaws
+pub mod MoreLemmas
+pub mod PlaceLemmas
+pub mod JoinedLemmas
+pub mod StateLemmas
+pub mod HistoryTypes
+pub mod HistoryMade
+pub mod EndedLemmas

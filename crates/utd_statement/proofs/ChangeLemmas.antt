@@ -1,5 +1,5 @@
 -- What changes ask for.
-use Rattle.std.specs.Prelude.{◌≡◌, ◌⊎◌, List, [], ◌∷◌, ◌++◌, map, Option, None, Result, Ok, Err, Vec, IfOk, refl}
+use Rattle.std.specs.Prelude.{◌≡◌, ◌⊎◌, List, [], ◌∷◌, ◌++◌, map, Result, Ok, Err, Vec, IfOk}
 use Rattle.std.specs.Global.{Global}
 use Rattle.std.specs.List.{All}
 use Rattle.std.proofs.Common.{inl, inr, sym, subst}
@@ -8,34 +8,37 @@ use Rattle.std.proofs.lemmas.List.Elements.{All-nil, All-head, All-tail, All-app
 use Rattle.point_core.specs.declared.memory.Memory.{Memory}
 use Rattle.tree_core.specs.Items.{PlainItemForm, set_to, insert, delete, delete_rows, update, terminate, PlainItem, read_item, read_assignment}
 use Rattle.tree_core.specs.Relvars.{State}
-use Rattle.tree_core.specs.Trees.{Tree}
 use Rattle.tree_core.specs.declared.declaration.Assignment.{Assignment}
 use Rattle.tree_core.specs.declared.item.Item.{Item}
 use Rattle.meaning_core.specs.Updates.{IsTypedItem, IsTypedAssignment}
 use Rattle.meaning_core.specs.WellMade.{IsWellMade}
-use Rattle.update_core.specs.Updates.{source_of, assigned_to, expanded, IsExpandable}
+use Rattle.update_core.specs.Endings.{meant_by}
+use Rattle.update_core.specs.Updates.{IsExpandable}
+use Rattle.update_core.proofs.EndingLemmas.{expanded-meant}
 use Rattle.update_core.proofs.TypedLemmas.{expanded-typed}
+use Rattle.since_during.specs.Joinable.{IsEndingForm}
+use Rattle.since_during.proofs.EndedLemmas.{ended-typed}
 
 -- ---- one item
 
--- TERMINATE alone gives its target no expression of its own
-other-or-none : (form : PlainItemForm) → IsExpandable form ⊎ ((i : PlainItem) → source_of i form ≡ None)
-other-or-none (set_to t) = inl tt
-other-or-none (insert acl t) = inl tt
-other-or-none (delete acl t) = inl tt
-other-or-none (delete_rows change) = inl tt
-other-or-none (update change sets) = inl tt
-other-or-none (terminate at place condition) = inr (λ i. refl)
+-- what ends facts, and what does not
+ends-or-not : (form : PlainItemForm) → IsExpandable form ⊎ IsEndingForm form
+ends-or-not (set_to t) = inl tt
+ends-or-not (insert acl t) = inl tt
+ends-or-not (delete acl t) = inl tt
+ends-or-not (delete_rows change) = inl tt
+ends-or-not (update change sets) = inl tt
+ends-or-not (terminate at place condition) = inr tt
 
-any-typed : (s : State) (item : PlainItem) → IsWellMade s → IsTypedItem s item → All (IsTypedAssignment s) (expanded item)
-any-typed s item made is = elim (other-or-none item.form) [
-  | inl other ↦ expanded-typed s item made other is
-  | inr none ↦ subst (λ (source : Option Tree). All (IsTypedAssignment s) (assigned_to item source)) (sym (none item)) (All-nil (IsTypedAssignment s))
+meant-typed : (s : State) (item : PlainItem) → IsWellMade s → IsTypedItem s item → All (IsTypedAssignment s) (meant_by s.relvars item)
+meant-typed s item made is = elim (ends-or-not item.form) [
+  | inl other ↦ subst (All (IsTypedAssignment s)) (sym (expanded-meant s.relvars item other)) (expanded-typed s item made other is)
+  | inr ending ↦ ended-typed s item made ending is
 ]
 
 pub item-typed : (s : State) (item : Item) (answer : Result (Vec Assignment Global) Memory) → IsWellMade s → IsTypedItem s (read_item item)
-    → IfOk answer (λ v. map read_assignment v.items ≡ expanded (read_item item)) → IfOk answer (λ v. All (IsTypedAssignment s) (map read_assignment v.items))
-item-typed s item (Ok v) made is e = subst (All (IsTypedAssignment s)) (sym e) (any-typed s (read_item item) made is)
+    → IfOk answer (λ v. map read_assignment v.items ≡ meant_by s.relvars (read_item item)) → IfOk answer (λ v. All (IsTypedAssignment s) (map read_assignment v.items))
+item-typed s item (Ok v) made is e = subst (All (IsTypedAssignment s)) (sym e) (meant-typed s (read_item item) made is)
 item-typed s item (Err memory) made is e = tt
 
 -- ---- all items

@@ -7,6 +7,7 @@ ghost use Rattle.meaning_core.specs.Declarations.{read_declaration, with_declara
 ghost use Rattle.meaning_core.specs.Updates.{IsTypedItem, IsTypedAssignment};
 ghost use Rattle.meaning_core.specs.WellMade.{IsWellMade};
 ghost use Rattle.update_core.specs.Endings.{meant_by};
+ghost use Rattle.since_during.specs.Histories.{declared_history, declared_in, IsTypedHistory};
 ghost use Rattle.assign_core.specs.Assignments.{after_assignments};
 ghost use Rattle.assign_core.specs.Databases.{IsKept};
 ghost use Rattle.utd_statement.specs.Answers.{Changed, assignments_of, unless_refused};
@@ -14,9 +15,10 @@ ghost use Rattle.utd_statement.specs.Replies.{IsPerformed};
 
 use assign_core::Database;
 use point_core::{Memory, Steps};
+use since_during::{declare_history, terminate};
 use std::alloc::Global;
 use std::sync::ledger::Ledger;
-use tree_core::{Assignment, Declaration, Item, ItemForm, Items, Relvars};
+use tree_core::{Assignment, Declaration, HistoryData, Item, ItemForm, Items, Relvars};
 use update_core::expand;
 use value_core::{Name, Refuse};
 
@@ -35,6 +37,22 @@ pub fn declared(
     Ok(Vec::new(alloc))
 }
 
+/// Declares the relvars and the view of a history, all three or none.
+pub fn history_declared(
+    alloc: Global,
+    history: &HistoryData,
+    database: &mut Database,
+) -> Result<Vec<u8>, Refuse>
+    requires kept { IsKept (read_relvars database.old) }
+    requires typed { IsTypedHistory (read_relvars database.old) history.now }
+    ensures { IsPerformed result (read_relvars database.old) (read_relvars database.new)
+        (Changed (declared_in (read_relvars database.old) (declared_history history.now))) }
+{
+    let list = declare_history(alloc, history)?;
+    database.declare(list)?;
+    Ok(Vec::new(alloc))
+}
+
 /// Removes the relvar or view of this name.
 pub fn removed(alloc: Global, name: &Name, database: &mut Database) -> Result<Vec<u8>, Refuse>
     requires well_made { IsWellMade (without name.now (read_relvars database.old)) }
@@ -44,8 +62,22 @@ pub fn removed(alloc: Global, name: &Name, database: &mut Database) -> Result<Ve
     Ok(Vec::new(alloc))
 }
 
-// The assignments that an item stands for where these are the relvars and views, each typed for them. TERMINATE is not built yet:
-// it wants memory.
+// The assignments that an item stands for where these are the relvars and views.
+fn meant(alloc: Global, item: &Item, relvars: &Relvars) -> Result<Vec<Assignment>, Memory>
+    requires well_made { IsWellMade (read_relvars relvars.now) }
+    ensures { IfOk result (λ v. map read_assignment v.items ≡ meant_by (read_relvars relvars.now).relvars (read_item item.now)) }
+{
+    match &item.form {
+        ItemForm::Terminate { .. } => terminate(alloc, item, relvars),
+        ItemForm::Set(_)
+        | ItemForm::Insert(_, _)
+        | ItemForm::Delete(_, _)
+        | ItemForm::DeleteRows(_)
+        | ItemForm::Update(_, _) => expand(alloc, item),
+    }
+}
+
+// These are typed.
 fn assignments_of_item(
     alloc: Global,
     item: &Item,
@@ -56,14 +88,7 @@ fn assignments_of_item(
     ensures meant { IfOk result (λ v. map read_assignment v.items ≡ meant_by (read_relvars relvars.now).relvars (read_item item.now)) }
     ensures typed { IfOk result (λ v. All (IsTypedAssignment (read_relvars relvars.now)) (map read_assignment v.items)) }
 {
-    match &item.form {
-        ItemForm::Terminate { .. } => Err(Memory),
-        ItemForm::Set(_)
-        | ItemForm::Insert(_, _)
-        | ItemForm::Delete(_, _)
-        | ItemForm::DeleteRows(_)
-        | ItemForm::Update(_, _) => expand(alloc, item),
-    }
+    meant(alloc, item, relvars)
 }
 
 // The assignments that the items stand for, in their order.
