@@ -20,7 +20,7 @@ use Rattle.meaning_core.specs.Typing.{is_type, is_declared}
 use Rattle.meaning_core.specs.WellMade.{sizes_of, all_names, AreDifferent}
 use Rattle.node_typing.specs.Positions.{check}
 use Rattle.declaration_typing.specs.Constraints.{names_typed}
-use Rattle.declaration_typing.specs.Histories.{relvars_named, brace_of, key_names, facts_typed, attributes_named, room_for_three, history_declared}
+use Rattle.declaration_typing.specs.Histories.{relvars_named, brace_of, facts_typed, attributes_named, room_for_three, history_declared}
 use Rattle.declaration_typing.specs.Names.{new_name}
 use Rattle.declaration_typing.proofs.FitLemmas.{any-given}
 use Rattle.declaration_typing.proofs.PositionLemmas.{held, AreAt, key-at}
