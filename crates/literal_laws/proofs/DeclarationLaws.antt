@@ -181,11 +181,11 @@ attributes-named-fine heading p i h g =
 pub history-fine : (s : State) (place : Place) (v : Word) (h : HeadingP) (key : KeyP) (b p d i : Word) (t : PointP) → NameIn has_no_value v → HeadingIn has_no_value h → NameIn has_no_value b
     → NameIn has_no_value p → NameIn has_no_value d → NameIn has_no_value i → IsNotE06 (history_declared s place v h key b p d i t)
 unfolding history_declared
-history-fine s place v h key b p d i t view heading since point during span =
-    then-fine (relvars_named s v b d) _ (relvars-named-fine s v b d view since during) (λ names.
-    then-fine (facts_typed s.ordinals h key) _ (facts-fine s.ordinals h key heading) (λ facts.
+history-fine s place v h key b p d i t first facts second point third span =
+    then-fine (relvars_named s v b d) _ (relvars-named-fine s v b d first second third) (λ names.
+    then-fine (facts_typed s.ordinals h key) _ (facts-fine s.ordinals h key facts) (λ of.
     then-fine (point_type s.ordinals t) _ (point-fine s.ordinals t) (λ over.
-    then-fine (attributes_named facts.0 p i) _ (attributes-named-fine facts.0 p i point span) (λ ends.
+    then-fine (attributes_named of.0 p i) _ (attributes-named-fine of.0 p i point span) (λ ends.
     then-fine (room_for_three s v.place) _ (check-fine v.place E22 (λ e. cc) (nat_le (length s.relvars) (most_relvars - 3))) (λ room. tt)))))
 
 pub dropped-fine : (s : State) (w : Word) → NameIn has_no_value w → IsNotE06 (dropped s w)

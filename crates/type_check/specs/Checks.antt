@@ -15,7 +15,7 @@ use Rattle.tree_core.specs.declared.declaration.HistoryData.{HistoryData}
 use Rattle.tree_core.specs.Items.{PlainItem, read_item}
 use Rattle.tree_core.specs.Relvars.{State}
 use Rattle.tree_core.specs.Trees.{Tree, Test, read_tree, read_test}
-use Rattle.meaning_core.specs.Declarations.{PlainDeclaration, ordinal_type, base_relvar, view_relvar, read_declaration, with_declaration, without}
+use Rattle.meaning_core.specs.Declarations.{PlainDeclaration, read_declaration, with_declaration, without}
 use Rattle.meaning_core.specs.Updates.{IsTypedItem}
 use Rattle.meaning_core.specs.WellMade.{IsWellMade, IsTypedFor, IsTypedTestFor}
 use Rattle.since_during.specs.Histories.{IsTypedHistory}
