@@ -3,3 +3,4 @@ pub mod HeadingLemmas
 pub mod JoinableLemmas
 pub mod RoomLemmas
 pub mod HistoryLaws
+pub mod MoreLemmas

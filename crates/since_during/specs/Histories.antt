@@ -1,21 +1,26 @@
 -- What HISTORY declares: a relvar of what is so since a point, a relvar of what was so during an interval, and their view.
 --     IsHistoryData      what a HISTORY is to have: room for two attributes more, and different names
 --     declared_history      the two relvars with their constraints, and the view
-use Rattle.std.specs.Prelude.{◌≡◌, ℕ, ◌≤◌, false, List, [], ◌∷◌, ◌++◌, length, Some}
+--     declared_in      the state with what a list declares
+--     IsTypedHistory      of what a HISTORY is to have, the part that the state tells: kinds that there are, and free names
+use Rattle.std.specs.Prelude.{◌≡◌, ℕ, ◌≤◌, false, List, [], ◌∷◌, ◌++◌, length, fold, Some, IsTrue}
+use Rattle.std.specs.List.{AllByRecursion}
 use Rattle.std.specs.Str.{bytes_eq}
 use Rattle.value_core.specs.declared.constraint.Constraint.{Constraint}
 use Rattle.value_core.specs.declared.constraint.Constraint.TheVariants.{Key, UKey, History}
 use Rattle.value_core.specs.declared.constraint.HistoryRule.{HistoryRule}
 use Rattle.value_core.specs.declared.kind.Kind.TheVariants.{Point, Span}
 use Rattle.value_core.specs.Headings.{has_name}
-use Rattle.value_core.specs.Values.{Heading}
+use Rattle.value_core.specs.Values.{Name, Heading}
 use Rattle.relation_core.specs.Agreement.{names_of, position_of}
 use Rattle.tree_core.specs.declared.declaration.HistoryData.{HistoryData}
+use Rattle.tree_core.specs.Relvars.{State}
 use Rattle.tree_core.specs.Trees.{Tree, named}
-use Rattle.meaning_core.specs.Declarations.{PlainDeclaration, base_relvar, view_relvar}
+use Rattle.meaning_core.specs.Declarations.{PlainDeclaration, base_relvar, view_relvar, with_declaration}
 use Rattle.meaning_core.specs.Histories.{joined_history, last_point, with_attribute}
 use Rattle.meaning_core.specs.Meanings.{names_at, positions_of}
-use Rattle.meaning_core.specs.WellMade.{AreDifferent}
+use Rattle.meaning_core.specs.Typing.{is_declared, is_type}
+use Rattle.meaning_core.specs.WellMade.{sizes_of, all_names, AreDifferent}
 
 -- the most attributes of the facts of a history
 abbrev pub most_facts : ℕ
@@ -84,3 +89,22 @@ declared_history h =
     ∷ base_relvar h.during (during_heading h) (during_constraints h)
     ∷ view_relvar h.view (view_of h) (Some (h.since, h.during))
     ∷ []
+
+-- ---- in a state
+
+-- the state with all that is declared, in the order of the list
+abbrev pub declared_in : State → List PlainDeclaration → State
+declared_in s list = fold with_declaration s list
+
+-- no ordinal type, relvar or view has the name
+abbrev pub IsFreeIn : State → Name → Type 0
+IsFreeIn s name = AllByRecursion (λ (n : Name). bytes_eq n name ≡ false) (all_names s)
+
+-- kinds that there are, and names that nothing has
+pub record IsTypedHistory (s : State) (h : HistoryData) : Type 0 where
+  pub given : IsHistoryData h
+  pub declared : IsTrue (is_declared (sizes_of s.ordinals) h.heading)
+  pub over : IsTrue (is_type (sizes_of s.ordinals) h.over)
+  pub view : IsFreeIn s h.view
+  pub since : IsFreeIn s h.since
+  pub during : IsFreeIn s h.during
