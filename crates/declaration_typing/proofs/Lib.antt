@@ -5,6 +5,7 @@ mod PositionLemmas
 mod FitLemmas
 mod StateLemmas
 pub mod RelvarLaws
+pub mod HistoryLaws
 mod MoreTypes
 pub mod OrdinalLaws
 pub mod ViewLaws

@@ -5,3 +5,4 @@ pub mod Relvars
 pub mod Drops
 pub mod Nodes
 pub mod Views
+pub mod Histories

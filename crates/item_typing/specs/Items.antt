@@ -2,12 +2,11 @@
 --     item_typed state x, items_typed state before items
 use Rattle.std.specs.Prelude.{List, [], ◌∷◌, ◌++◌, Ok, Some, None}
 use Rattle.point_core.specs.declared.fault.Place.{Place}
-use Rattle.point_core.specs.declared.fault.Code.TheVariants.{E01}
 use Rattle.point_core.specs.Faults.{OrFault}
 use Rattle.utd_syntax.specs.Plain as syntax
 use Rattle.utd_syntax.specs.Plain.{Word, NameListP, RelP, ConditionP, MaybePortionP, SomeElementsP, SetsP, DeletionP, UsedDeletionP, UsedItemP, ItemP, AssignP}
 use Rattle.value_core.specs.Values.{Heading}
-use Rattle.scalar_typing.specs.Typings.{◌>>=◌, refused}
+use Rattle.scalar_typing.specs.Typings.{◌>>=◌}
 use Rattle.tree_core.specs.Items.{PlainItemForm, set_to, insert, delete, delete_rows, update, PlainItem}
 use Rattle.tree_core.specs.Relvars.{State}
 use Rattle.tree_core.specs.Trees.{heading_of}
@@ -15,12 +14,9 @@ use Rattle.meaning_core.specs.Meanings.{positions_of}
 use Rattle.node_typing.specs.Lists.{list_checked}
 use Rattle.node_typing.specs.Rows.{item_list, condition_typed}
 use Rattle.item_typing.specs.Changes.{change, condition_if, portion_typed, portion_if, portion_names, names_if, works_at_points}
+use Rattle.item_typing.specs.Endings.{ending_typed}
 use Rattle.item_typing.specs.Sets.{sets_made}
-use Rattle.item_typing.specs.Targets.{Target, target_typed, rows_typed}
-
--- an item at the place of its first token
-abbrev pub item_of : Place → Target → PlainItemForm → PlainItem
-item_of place target form = record { place = place; target = target.0; heading = target.1; form = form }
+use Rattle.item_typing.specs.Targets.{item_of, target_typed, rows_typed}
 
 -- ---- over the target's heading
 
@@ -114,13 +110,12 @@ update_item_typed state place w portion condition sets = do
   form ← update_typed state target.1 portion condition sets
   Ok (item_of place target form)
 
--- TERMINATE is not typed yet, and is refused at its first token
 abbrev pub item_typed : State → ItemP → OrFault PlainItem
 item_typed state (syntax.SetRelvar w rel) = setting_typed state w rel
 item_typed state (syntax.Insert at w rel) = insertion_typed state at w rel
 item_typed state (syntax.Delete at w deletion) = deletion_item_typed state at w deletion
 item_typed state (syntax.Update at w p c sets) = update_item_typed state at w p c sets
-item_typed state (syntax.Terminate at w at_place s c) = refused at E01
+item_typed state (syntax.Terminate place w at s c) = ending_typed state place w at s c
 item_typed state (syntax.UsingItem at list item) = used_item_typed state at list item
 
 -- the items behind those so far, in the order of the text

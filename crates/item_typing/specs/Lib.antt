@@ -1,4 +1,5 @@
 pub mod Targets
 pub mod Sets
 pub mod Changes
+pub mod Endings
 pub mod Items

@@ -1,6 +1,7 @@
 -- The relvars that items change, and the rows that items give them.
 --     target_typed state w      the base relvar of the name, with its heading
 --     rows_typed state w heading rel      an expression of the target's heading
+--     item_of place target form      the item that changes a target
 use Rattle.std.specs.Prelude.{Ok}
 use Rattle.point_core.specs.declared.fault.Place.{Place}
 use Rattle.point_core.specs.declared.fault.Code.TheVariants.{E10, E13, E20}
@@ -8,6 +9,7 @@ use Rattle.point_core.specs.Faults.{OrFault}
 use Rattle.utd_syntax.specs.Plain.{Word, RelP}
 use Rattle.value_core.specs.Values.{Name, Heading}
 use Rattle.scalar_typing.specs.Typings.{◌>>=◌, refused, value_or}
+use Rattle.tree_core.specs.Items.{PlainItemForm, PlainItem}
 use Rattle.tree_core.specs.Relvars.{PlainRelvar, base, view, State, relvar_named}
 use Rattle.tree_core.specs.Trees.{Tree, heading_of}
 use Rattle.relation_typing.specs.Attributes.{name_typed}
@@ -38,3 +40,7 @@ rows_typed state w heading rel = do
   t ← tree_typed state rel
   same ← check w.place E13 (same_heading (heading_of t) heading)
   Ok t
+
+-- an item at the place of its first token
+abbrev pub item_of : Place → Target → PlainItemForm → PlainItem
+item_of place target form = record { place = place; target = target.0; heading = target.1; form = form }

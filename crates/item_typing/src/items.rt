@@ -1,21 +1,20 @@
 // The items of an assignment, all typed for the same relvars.
-ghost use Rattle.std.specs.Prelude.{◌≡◌, map};
-ghost use Rattle.point_core.specs.declared.fault.Code.TheVariants.{E01};
+ghost use Rattle.std.specs.Prelude.{map};
 ghost use Rattle.utd_syntax.specs.Plain.{NoPortion, OfPortion, UsedInsert, UsedDelete, UsedUpdate};
 ghost use Rattle.utd_syntax.specs.Read.{read_assign, read_condition, read_deletion, read_item, read_item_list, read_list, read_name, read_rel, read_sets, read_some_elements, read_used_deletion, read_used_item};
 ghost use Rattle.scalar_core.specs.Answers.{Gives};
 ghost use Rattle.scalar_typing.specs.Names.{AreOrdinals};
-ghost use Rattle.scalar_typing.specs.Typings.{refused};
 ghost use Rattle.tree_core.specs.Items as typed;
 ghost use Rattle.tree_core.specs.Relvars.{read_relvars};
 ghost use Rattle.item_typing.specs.Items as rules;
 
 use crate::changes::{condition_if, of_rows};
+use crate::endings::type_ending;
 use crate::points::{portion_deleted, portion_updated, used_deletion, used_update};
 use crate::sets::sets_made;
-use crate::targets::{Target, rows_typed, target_typed};
+use crate::targets::{item_of, rows_typed, target_typed};
 use node_typing::{condition_typed, listed};
-use point_core::{Code, Fault, Place, Stop};
+use point_core::{Place, Stop};
 use std::alloc::Global;
 use tree_core::{Item, ItemForm, Items, Relvars};
 use utd_syntax as syntax;
@@ -24,18 +23,6 @@ use utd_syntax::{
     UsedItem, Word,
 };
 use value_core::Heading;
-
-/// An item that changes the target.
-fn item_of(place: Place, target: Target, form: ItemForm) -> Item
-    ensures { typed.read_item result ≡ rules.item_of place (target.name, target.heading) (typed.read_item_form form) }
-{
-    Item {
-        place,
-        target: target.name,
-        heading: target.heading,
-        form,
-    }
-}
 
 /// `name ":=" rel`.
 fn type_setting(alloc: Global, word: &Word, rel: &Rel, relvars: &Relvars) -> Result<Item, Stop>
@@ -247,16 +234,6 @@ fn type_used(
     }
 }
 
-/// TERMINATE, which is refused at its first token.
-fn type_ending(place: Place) -> Result<Item, Stop>
-    ensures { Gives typed.read_item result (refused place E01) }
-{
-    Err(Stop::Fault(Fault {
-        place,
-        code: Code::E01,
-    }))
-}
-
 /// The typed item where these are the relvars, views and ordinal types, or its first refusal with its place.
 pub fn type_item(alloc: Global, item: &syntax::Item, relvars: &Relvars) -> Result<Item, Stop>
     requires { AreOrdinals (read_relvars relvars.now).ordinals }
@@ -274,7 +251,9 @@ pub fn type_item(alloc: Global, item: &syntax::Item, relvars: &Relvars) -> Resul
         syntax::Item::Update(place, word, MaybePortion::Of(_, elements), condition, sets) => {
             type_portion_update(alloc, *place, word, elements, condition, sets, relvars)
         }
-        syntax::Item::Terminate(place, _, _, _, _) => type_ending(*place),
+        syntax::Item::Terminate(place, word, at, scalar, condition) => type_ending(
+            alloc, *place, word, *at, scalar, condition, relvars,
+        ),
         syntax::Item::Using(place, list, used) => type_used(alloc, *place, list, used, relvars),
     }
 }

@@ -2,6 +2,7 @@
 #![tactic(auto)]
 
 mod changes;
+mod endings;
 mod items;
 mod points;
 mod portions;

@@ -3,6 +3,7 @@ ghost use Rattle.std.specs.Prelude.{◌≡◌};
 ghost use Rattle.utd_syntax.specs.Read.{read_name, read_rel};
 ghost use Rattle.scalar_core.specs.Answers.{Gives, seen};
 ghost use Rattle.scalar_typing.specs.Names.{AreOrdinals};
+ghost use Rattle.tree_core.specs.Items.{read_item, read_item_form};
 ghost use Rattle.tree_core.specs.Relvars.{read_relvar, read_relvars, relvar_named};
 ghost use Rattle.tree_core.specs.Trees.{read_tree};
 ghost use Rattle.point_core.specs.declared.fault.Code.TheVariants.{E10};
@@ -13,13 +14,17 @@ use node_typing::check;
 use point_core::{Code, Fault, Place, Stop};
 use relation_typing::{name_typed, same_heading};
 use std::alloc::Global;
-use tree_core::{RelTree, Relvar, Relvars};
+use tree_core::{Item, ItemForm, RelTree, Relvar, Relvars};
 use tree_typing::{relvar_of, type_tree};
 use utd_syntax::{Rel, Word};
 use value_core::{Heading, Name};
 
 /// The relvar or view of the name: E10 at it where there is none.
-fn known_relvar<'a>(relvars: &'a Relvars, name: &Name, place: Place) -> Result<&'a Relvar, Fault>
+pub(crate) fn known_relvar<'a>(
+    relvars: &'a Relvars,
+    name: &Name,
+    place: Place,
+) -> Result<&'a Relvar, Fault>
     ensures { seen (λ r. read_relvar r.now) result ≡ value_or place E10 (relvar_named (read_relvars relvars.now).relvars name.now) }
 {
     match relvar_of(relvars, name) {
@@ -55,6 +60,18 @@ fn base_heading(place: Place, relvar: &Relvar) -> Result<&Heading, Fault>
 pub(crate) struct Target {
     pub(crate) name: Name,
     pub(crate) heading: Heading,
+}
+
+/// An item that changes the target.
+pub(crate) fn item_of(place: Place, target: Target, form: ItemForm) -> Item
+    ensures { read_item result ≡ rules.item_of place (target.name, target.heading) (read_item_form form) }
+{
+    Item {
+        place,
+        target: target.name,
+        heading: target.heading,
+        form,
+    }
 }
 
 /// The base relvar of the name. A name out of its length is E06; the reading of a text lets none through.

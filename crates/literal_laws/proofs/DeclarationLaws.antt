@@ -1,20 +1,22 @@
 -- The same of declarations and removals.
-use Rattle.std.proofs.Common.{◌≡◌, ℕ, List, [], ◌∷◌, ◌++◌, Bool, ◌||◌, not, nat_le, nat_lt, length, is_some, Option, Some, None, Ok, slice_get, if◌then◌else◌}
+use Rattle.std.proofs.Common.{◌≡◌, ℕ, ◌-◌, List, [], ◌∷◌, ◌++◌, Bool, ◌||◌, not, nat_le, nat_lt, length, is_some, Option, Some, None, Ok, slice_get, if◌then◌else◌}
 use Rattle.std.specs.Str.{bytes_eq}
 use Rattle.point_core.specs.declared.fault.Place.{Place}
-use Rattle.point_core.specs.declared.fault.Code.TheVariants.{E06, E10, E11, E12, E15, E19, E20, E21, E22}
+use Rattle.point_core.specs.declared.fault.Code.TheVariants.{E06, E10, E11, E12, E15, E17, E19, E20, E21, E22}
 use Rattle.utd_syntax.specs.Plain as syntax
-use Rattle.utd_syntax.specs.Plain.{Word, HeadingP, NamesP, NameListP, SomeNamesP, RelP, KeyP, ForeignP, UsedConstraintP, ConstraintP}
+use Rattle.utd_syntax.specs.Plain.{Word, PointP, HeadingP, NamesP, NameListP, SomeNamesP, RelP, KeyP, ForeignP, UsedConstraintP, ConstraintP}
 use Rattle.utd_ranges.specs.Ranges.{Each, NameIn, SomeNamesIn, HeadingIn, RelIn, ForeignIn, UsedConstraintIn, ConstraintIn, has_no_value}
 use Rattle.value_core.specs.declared.constraint.Constraint.{Constraint}
+use Rattle.value_core.specs.declared.list.OrdinalNames.{OrdinalNames}
 use Rattle.value_core.specs.Attributes.{among}
-use Rattle.value_core.specs.Limits.{most_nodes, most_ordinal_types, most_ordinal_values, most_relvars}
+use Rattle.value_core.specs.Limits.{most_attributes, most_nodes, most_ordinal_types, most_ordinal_values, most_relvars}
 use Rattle.value_core.specs.Values.{Name, Heading}
 use Rattle.relation_core.specs.Agreement.{position_of}
 use Rattle.scalar_core.specs.KindOf.{same_kind}
 use Rattle.tree_core.specs.Relvars.{State, PlainRelvar, base, view, relvar_named}
 use Rattle.tree_core.specs.Trees.{Tree}
-use Rattle.relation_typing.specs.Attributes.{name_typed}
+use Rattle.scalar_typing.specs.Names.{point_type}
+use Rattle.relation_typing.specs.Attributes.{name_typed, new_name as new_attribute}
 use Rattle.relation_typing.specs.Headings.{heading_typed}
 use Rattle.node_typing.specs.Positions.{check, position_typed}
 use Rattle.node_typing.specs.Lists.{named_in, kind_named, list_checked, words_of}
@@ -25,10 +27,12 @@ use Rattle.declaration_typing.specs.Constraints.{names_typed, key_words, base_he
 use Rattle.declaration_typing.specs.Relvars.{relvar_declared}
 use Rattle.declaration_typing.specs.Nodes.{nodes_of}
 use Rattle.declaration_typing.specs.Views.{room_for_view, view_declared}
+use Rattle.declaration_typing.specs.Histories.{relvars_named, brace_of, key_names, facts_typed, attributes_named, room_for_three, history_declared}
 use Rattle.declaration_typing.specs.Drops.{is_used, dropped}
 use Rattle.literal_laws.specs.Refusals.{IsNotE06}
 use Rattle.literal_laws.proofs.Refused.{then-fine, choice-fine}
-use Rattle.literal_laws.proofs.RelationLaws.{name-fine, heading-fine}
+use Rattle.literal_laws.proofs.ScalarLaws.{point-fine}
+use Rattle.literal_laws.proofs.RelationLaws.{name-fine, new-name-fine, heading-fine}
 use Rattle.literal_laws.proofs.NodeLaws.{check-fine, checked-fine, position-fine, positions-fine, list-fine}
 use Rattle.literal_laws.proofs.TreeLaws.{tree-fine}
 
@@ -151,6 +155,38 @@ view-fine s w rel h g =
     then-fine (new_name s w) _ (free-name-fine s w h) (λ name.
     then-fine (tree_typed s rel) _ (tree-fine s rel g) (λ t.
     then-fine (room_for_view s w.place t) _ (room-for-view-fine s w.place t) (λ room. tt)))
+
+-- ---- histories
+
+relvars-named-fine : (s : State) (v b d : Word) → NameIn has_no_value v → NameIn has_no_value b → NameIn has_no_value d → IsNotE06 (relvars_named s v b d)
+relvars-named-fine s v b d h g k =
+    then-fine (new_name s v) _ (free-name-fine s v h) (λ view.
+    then-fine (new_name s b) _ (free-name-fine s b g) (λ since.
+    checked-fine b.place E11 (λ e. cc) (not (bytes_eq view since)) _ (λ second.
+    then-fine (new_name s d) _ (free-name-fine s d k) (λ during.
+    checked-fine d.place E11 (λ e. cc) (not (bytes_eq view during || bytes_eq since during)) _ (λ third. tt)))))
+
+facts-fine : (types : List OrdinalNames) (h : HeadingP) (key : KeyP) → HeadingIn has_no_value h → IsNotE06 (facts_typed types h key)
+facts-fine types h key g =
+    then-fine (heading_typed types h) _ (heading-fine types h g) (λ heading.
+    checked-fine (brace_of h) E17 (λ e. cc) (nat_le (length heading) (most_attributes - 2)) _ (λ room.
+    then-fine (names_typed heading (key_names key)) _ (names-fine heading (key_names key)) (λ positions. tt)))
+
+attributes-named-fine : (heading : Heading) (p i : Word) → NameIn has_no_value p → NameIn has_no_value i → IsNotE06 (attributes_named heading p i)
+attributes-named-fine heading p i h g =
+    then-fine (new_attribute heading p) _ (new-name-fine heading p h) (λ point.
+    then-fine (new_attribute heading i) _ (new-name-fine heading i g) (λ span.
+    checked-fine i.place E15 (λ e. cc) (not (bytes_eq point span)) _ (λ apart. tt)))
+
+pub history-fine : (s : State) (place : Place) (v : Word) (h : HeadingP) (key : KeyP) (b p d i : Word) (t : PointP) → NameIn has_no_value v → HeadingIn has_no_value h → NameIn has_no_value b
+    → NameIn has_no_value p → NameIn has_no_value d → NameIn has_no_value i → IsNotE06 (history_declared s place v h key b p d i t)
+unfolding history_declared
+history-fine s place v h key b p d i t first facts second point third span =
+    then-fine (relvars_named s v b d) _ (relvars-named-fine s v b d first second third) (λ names.
+    then-fine (facts_typed s.ordinals h key) _ (facts-fine s.ordinals h key facts) (λ of.
+    then-fine (point_type s.ordinals t) _ (point-fine s.ordinals t) (λ over.
+    then-fine (attributes_named of.0 p i) _ (attributes-named-fine of.0 p i point span) (λ ends.
+    then-fine (room_for_three s v.place) _ (check-fine v.place E22 (λ e. cc) (nat_le (length s.relvars) (most_relvars - 3))) (λ room. tt)))))
 
 pub dropped-fine : (s : State) (w : Word) → NameIn has_no_value w → IsNotE06 (dropped s w)
 unfolding dropped

@@ -5,6 +5,7 @@ use Rattle.point_core.specs.declared.fault.Code.TheVariants.{E06, E10, E12, E13,
 use Rattle.utd_syntax.specs.Plain as syntax
 use Rattle.utd_syntax.specs.Plain.{Word, ScalarP, NameListP, SetItemP, SetsP, ElementP, SomeElementsP, MaybePortionP, ConditionP, RelP, DeletionP, UsedDeletionP, UsedItemP, ItemP, AssignP}
 use Rattle.utd_ranges.specs.Ranges.{Each, NameIn, ScalarIn, SetItemIn, SetsIn, ElementIn, SomeElementsIn, MaybePortionIn, ConditionIn, RelIn, DeletionIn, UsedDeletionIn, UsedItemIn, ItemIn, AssignIn, has_no_value}
+use Rattle.value_core.specs.declared.kind.Kind.{Kind}
 use Rattle.value_core.specs.declared.list.OrdinalNames.{OrdinalNames}
 use Rattle.value_core.specs.Attributes.{among}
 use Rattle.value_core.specs.Limits.{most_listed}
@@ -17,6 +18,7 @@ use Rattle.scalar_typing.specs.Typings.{value_or}
 use Rattle.tree_core.specs.Items.{PlainPortion, PlainItem}
 use Rattle.tree_core.specs.Relvars.{State, PlainRelvar, base, view, relvar_named}
 use Rattle.tree_core.specs.Trees.{PlainSets, heading_of}
+use Rattle.meaning_core.specs.Endings.{history_if, rule_if}
 use Rattle.meaning_core.specs.Meanings.{positions_of}
 use Rattle.meaning_core.specs.Typing.{is_span}
 use Rattle.meaning_core.specs.Updates.{attributes_of_portion}
@@ -30,6 +32,7 @@ use Rattle.tree_typing.specs.Trees.{tree_typed}
 use Rattle.item_typing.specs.Targets.{base_heading, target_typed, rows_typed}
 use Rattle.item_typing.specs.Sets.{set_typed, sets_typed, sets_made}
 use Rattle.item_typing.specs.Changes.{condition_if, part_typed, parts_typed, portion_typed, portion_if, portion_names, names_if, condition_swept, works_at_points}
+use Rattle.item_typing.specs.Endings.{Facts, since_typed, facts_of, point_typed, end_typed, ending_typed}
 use Rattle.item_typing.specs.Items.{deletion_typed, update_typed, used_deletion_typed, used_update_typed, used_item_typed, setting_typed, insertion_typed, deletion_item_typed, update_item_typed, item_typed, items_typed, listed_items, assignment_typed}
 use Rattle.literal_laws.specs.Refusals.{IsNotE06}
 use Rattle.literal_laws.proofs.Refused.{then-fine, value-fine}
@@ -172,12 +175,40 @@ update-item-fine state place w p c sets h g k l =
     then-fine (target_typed state w) _ (target-fine state w h) (λ target.
     then-fine (update_typed state target.1 p c sets) _ (update-fine state target.1 p c sets g k l) (λ form. tt))
 
+-- ---- what ends
+
+since-fine : (state : State) (place : Place) (name : Name) → IsNotE06 (since_typed state place name)
+since-fine state place name = then-fine (value_or place E20 (relvar_named state.relvars name)) _ (value-fine place E20 (λ e. cc) (relvar_named state.relvars name)) (λ since. tt)
+
+facts-fine : (state : State) (place : Place) (found : PlainRelvar) → IsNotE06 (facts_of state place found)
+facts-fine state place found =
+    then-fine (value_or place E20 (history_if (Some found))) _ (value-fine place E20 (λ e. cc) (history_if (Some found))) (λ names.
+    then-fine (value_or place E20 (rule_if state.relvars (Some names))) _ (value-fine place E20 (λ e. cc) (rule_if state.relvars (Some names))) (λ rule.
+    then-fine (since_typed state place names.0) _ (since-fine state place names.0) (λ heading. tt)))
+
+point-fine : (types : List OrdinalNames) (point : Kind) (at : Place) (s : ScalarP) → ScalarIn has_no_value s → IsNotE06 (point_typed types point at s)
+point-fine types point at s h = then-fine (typed_scalar types [] s) _ (scalar-fine types [] s h) (λ e. checked-fine at E12 (λ q. cc) (same_kind e.1 point) _ (λ same. tt))
+
+end-fine : (state : State) (facts : Facts) (at : Place) (s : ScalarP) (c : ConditionP) → ScalarIn has_no_value s → ConditionIn has_no_value c → IsNotE06 (end_typed state facts at s c)
+end-fine state facts at s c h g =
+    then-fine (point_typed state.ordinals facts.1 at s) _ (point-fine state.ordinals facts.1 at s h) (λ e.
+    then-fine (condition_if state.ordinals facts.0 c) _ (condition-if-fine state.ordinals facts.0 c g) (λ condition. tt))
+
+ending-fine : (state : State) (place : Place) (w : Word) (at : Place) (s : ScalarP) (c : ConditionP) → NameIn has_no_value w → ScalarIn has_no_value s → ConditionIn has_no_value c → IsNotE06 (ending_typed state place w at s c)
+ending-fine state place w at s c h g k =
+    then-fine (name_typed w) _ (name-fine w h) (λ name.
+    then-fine (value_or w.place E10 (relvar_named state.relvars name)) _ (value-fine w.place E10 (λ e. cc) (relvar_named state.relvars name)) (λ found.
+    then-fine (facts_of state w.place found) _ (facts-fine state w.place found) (λ facts.
+    then-fine (end_typed state facts at s c) _ (end-fine state facts at s c g k) (λ form. tt))))
+
+-- ---- all items
+
 typed-item-fine : (state : State) (x : ItemP) → ItemIn has_no_value x → IsNotE06 (item_typed state x)
 typed-item-fine state (syntax.SetRelvar w rel) h = setting-fine state w rel h.0 h.1
 typed-item-fine state (syntax.Insert at w rel) h = insertion-fine state at w rel h.0 h.1
 typed-item-fine state (syntax.Delete at w d) h = deletion-item-fine state at w d h.0 h.1
 typed-item-fine state (syntax.Update at w p c sets) h = update-item-fine state at w p c sets h.0 h.1 h.2 h.3
-typed-item-fine state (syntax.Terminate at w place s c) h = λ e. cc
+typed-item-fine state (syntax.Terminate place w at s c) h = ending-fine state place w at s c h.0 h.1 h.2
 typed-item-fine state (syntax.UsingItem at list item) h = used-item-fine state at list item h.1
 
 items-fine : (state : State) (before : List PlainItem) (list : List ItemP) → Each (ItemIn has_no_value) list → IsNotE06 (items_typed state before list)

@@ -14,13 +14,14 @@ use Rattle.tree_typing.specs.Trees.{tree_typed, test_typed}
 use Rattle.declaration_typing.specs.Ordinals.{ordinal_declared}
 use Rattle.declaration_typing.specs.Relvars.{relvar_declared}
 use Rattle.declaration_typing.specs.Views.{view_declared}
+use Rattle.declaration_typing.specs.Histories.{history_declared}
 use Rattle.declaration_typing.specs.Drops.{dropped}
 use Rattle.item_typing.specs.Items.{assignment_typed}
 use Rattle.type_check.specs.Checks.{Plain, giving, checked_var, checked}
 use Rattle.literal_laws.specs.Refusals.{IsNotE06}
 use Rattle.literal_laws.proofs.Refused.{then-fine}
 use Rattle.literal_laws.proofs.TreeLaws.{tree-fine, test-fine}
-use Rattle.literal_laws.proofs.DeclarationLaws.{ordinal-fine, base-relvar-fine, view-fine, dropped-fine}
+use Rattle.literal_laws.proofs.DeclarationLaws.{ordinal-fine, base-relvar-fine, view-fine, history-fine, dropped-fine}
 use Rattle.literal_laws.proofs.ItemLaws.{assignment-fine}
 
 giving-fine : {A : Type 0} (f : A → Plain) (typed : OrFault A) → IsNotE06 typed → IsNotE06 (giving f typed)
@@ -35,7 +36,9 @@ pub statement-fine : (state : State) (s : StatementP) → HasValues s → IsNotE
 statement-fine state syntax.Nothing h = tt
 statement-fine state (syntax.DeclareOrdinal at w values) h = giving-fine _ (ordinal_declared state w values) (ordinal-fine state w values h.0 h.1)
 statement-fine state (syntax.DeclareRelvar at w form) h = var-fine state w form h.0 h.1
-statement-fine state (syntax.DeclareHistory at w heading key since began during lasted point) h = λ e. cc
+statement-fine state (syntax.DeclareHistory at w heading key since began during lasted point) h =
+    giving-fine _ (history_declared state at w heading key since began during lasted point)
+    (history-fine state at w heading key since began during lasted point h.0 h.1 h.3 h.4 h.5 h.6)
 statement-fine state (syntax.Drop at w) h = giving-fine _ (dropped state w) (dropped-fine state w h)
 statement-fine state (syntax.Print at rel) h = giving-fine _ (tree_typed state rel) (tree-fine state rel h)
 statement-fine state (syntax.Ask at test) h = giving-fine _ (test_typed state test) (test-fine state test h)

@@ -1,24 +1,31 @@
--- What declarations and drops make of a well made state is well made.
+-- What declarations and drops make of a well made state is well made, and a history that is declared is typed for it.
 use Rattle.std.specs.Prelude.{List, Ok, Err, IfOk}
 use Rattle.point_core.specs.Faults.{OrFault}
-use Rattle.utd_syntax.specs.Plain.{Word, NameListP, SomeNamesP, HeadingP, ConstraintP, RelP}
+use Rattle.point_core.specs.declared.fault.Place.{Place}
+use Rattle.utd_syntax.specs.Plain.{Word, PointP, NameListP, SomeNamesP, HeadingP, KeyP, ConstraintP, RelP}
 use Rattle.value_core.specs.Values.{Name, Heading}
+use Rattle.tree_core.specs.declared.declaration.HistoryData.{HistoryData}
 use Rattle.tree_core.specs.Relvars.{State}
 use Rattle.meaning_core.specs.Declarations.{with_declaration, without}
 use Rattle.meaning_core.specs.Meanings.{positions_of}
 use Rattle.meaning_core.specs.Typing.{IsList}
 use Rattle.meaning_core.specs.WellMade.{IsWellMade}
+use Rattle.since_during.specs.Histories.{IsTypedHistory}
 use Rattle.node_typing.specs.Lists.{list_checked}
 use Rattle.declaration_typing.specs.Drops.{dropped}
+use Rattle.declaration_typing.specs.Histories.{history_declared}
 use Rattle.declaration_typing.specs.Ordinals.{ordinal_declared}
 use Rattle.declaration_typing.specs.Relvars.{relvar_declared}
 use Rattle.declaration_typing.specs.Views.{view_declared}
 use Rattle.declaration_typing.proofs.DropLaws.{dropped-kept}
+use Rattle.declaration_typing.proofs.HistoryLaws.{IsHistoryOf, history-kept}
 use Rattle.declaration_typing.proofs.OrdinalLaws.{ordinal-kept}
 use Rattle.declaration_typing.proofs.RelvarLaws.{relvar-kept}
 use Rattle.declaration_typing.proofs.ViewLaws.{view-kept}
 use Rattle.type_check.proofs.ListLemmas.{AreListed, list-sound, left-list}
 use Rattle.type_check.proofs.LiteralLemmas.{heading-declared}
+use Rattle.type_check.proofs.ScalarLemmas.{point-declared}
+use Rattle.type_check.proofs.SetTypedLemmas.{onward}
 use Rattle.type_check.proofs.TreeLemmas.{tree-sound}
 
 -- a list over one heading
@@ -38,6 +45,21 @@ module _ (state : State) (made : IsWellMade state) where
 
   pub view-made : (w : Word) (rel : RelP) → IfOk (view_declared state w rel) (λ d. IsWellMade (with_declaration state d))
   view-made w rel = view-kept state w rel made (tree-sound state made rel)
+
+  pub history-made : (place : Place) (v : Word) (h : HeadingP) (key : KeyP) (b p d i : Word) (t : PointP) → IfOk (history_declared state place v h key b p d i t) (IsTypedHistory state)
+  history-made place v h key b p d i t =
+      onward (IsHistoryOf state) (IsTypedHistory state) (history_declared state place v h key b p d i t)
+      (history-kept state place v h key b p d i t (heading-declared state.ordinals made.ordinals h) (point-declared state.ordinals t made.ordinals)) (λ h is. as-typed h is)
+    where
+      as-typed : (h : HistoryData) → IsHistoryOf state h → IsTypedHistory state h
+      as-typed h is = record {
+        given = record { few = is.few; point = is.point; span = is.span; apart = is.apart; key = is.key; since = is.since; during = is.during; both = is.both };
+        declared = is.declared;
+        over = is.over;
+        view = is.free_view;
+        since = is.free_since;
+        during = is.free_during;
+      }
 
   pub drop-made : (w : Word) → IfOk (dropped state w) (λ name. IsWellMade (without name state))
   drop-made w = dropped-kept state w made

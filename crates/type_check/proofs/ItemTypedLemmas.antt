@@ -11,7 +11,7 @@ use Rattle.point_core.specs.declared.fault.Code.TheVariants.{E10, E13}
 use Rattle.point_core.specs.Faults.{OrFault}
 use Rattle.value_core.specs.Attributes.{among}
 use Rattle.utd_syntax.specs.Plain as syntax
-use Rattle.utd_syntax.specs.Plain.{Word, RelP, ScalarP, SetItemP, SetsP, NameListP, DeletionP, UsedDeletionP, UsedItemP, MaybePortionP, ConditionP, ItemP, AssignP}
+use Rattle.utd_syntax.specs.Plain.{Word, RelP, SetItemP, SetsP, NameListP, DeletionP, UsedDeletionP, UsedItemP, MaybePortionP, ConditionP, ItemP, AssignP}
 use Rattle.value_core.specs.declared.kind.Kind.TheVariants.{Truth}
 use Rattle.value_core.specs.Headings.{has_name}
 use Rattle.value_core.specs.Values.{Name, Heading, is_heading}
@@ -36,10 +36,11 @@ use Rattle.node_typing.specs.Rows.{item_list, condition_typed}
 use Rattle.node_typing.specs.Sweeps.{none_assigned, sets_swept}
 use Rattle.tree_typing.specs.Trees.{tree_typed}
 use Rattle.item_typing.specs.Changes.{change, condition_if, portion_typed, portion_if, portion_names, condition_swept, works_at_points}
-use Rattle.item_typing.specs.Items.{item_of, deletion_typed, update_typed, used_deletion_typed, used_update_typed, used_item_typed, setting_typed, insertion_typed, item_typed, items_typed, listed_items, assignment_typed}
+use Rattle.item_typing.specs.Items.{deletion_typed, update_typed, used_deletion_typed, used_update_typed, used_item_typed, setting_typed, insertion_typed, item_typed, items_typed, listed_items, assignment_typed}
 use Rattle.item_typing.specs.Sets.{sets_made}
-use Rattle.item_typing.specs.Targets.{Target, base_heading, target_typed, rows_typed}
+use Rattle.item_typing.specs.Targets.{Target, base_heading, item_of, target_typed, rows_typed}
 use Rattle.type_check.proofs.DeclaredLemmas.{declared-heading, typed-declared}
+use Rattle.type_check.proofs.EndingTypedLemmas.{condition-if-sound, ending-sound}
 use Rattle.type_check.proofs.InfixLemmas.{condition-sound}
 use Rattle.type_check.proofs.ItemLemmas.{any-given}
 use Rattle.type_check.proofs.KeptLemmas.{AreAssigned, AreOthers, others-assigned, swept-is, sets-swept}
@@ -125,12 +126,6 @@ module _ (state : State) (made : IsWellMade state) where
       then-sound (λ _. IsTrue (same_heading (heading_of t) heading)) _ (check w.place E13 (same_heading (heading_of t) heading)) _ (held w.place E13 (same_heading (heading_of t) heading))
       (λ _ same. (typed, same_heading-same (heading_of t) heading same)))
 
-  condition-if-sound : (heading : Heading) (c : ConditionP) → IfOk (condition_if state.ordinals heading c) (IsConditionIf (sizes_of state.ordinals) heading)
-  condition-if-sound heading syntax.NoCondition = tt
-  condition-if-sound heading (syntax.Where at s) =
-      then-sound (λ (c : Expr). IsScalar (sizes_of state.ordinals) heading c Truth) (IsConditionIf (sizes_of state.ordinals) heading) (condition_typed state.ordinals at heading s) _
-      (condition-sound state.ordinals made.ordinals at heading s) (λ c is. is)
-
   -- a change of the points of a portion
   portion-change : (heading : Heading) (names : List Name) (m : PlainPortion) (c : Option Expr) (sets : PlainSets) → IsPortionIf (sizes_of state.ordinals) heading None (Some m)
       → AreNamed heading names (attributes_of_portion m) → IsConditionIf (sizes_of state.ordinals) heading c → WorksAtPoints heading names c sets
@@ -169,7 +164,7 @@ module _ (state : State) (made : IsWellMade state) where
   deletion-sound w name heading (syntax.DeletePortion (syntax.Portion at elements) condition) there headed =
       then-sound (λ (m : PlainPortion). IsPortionIf (sizes_of state.ordinals) heading None (Some m) × AreNamed heading (portion_names elements) (attributes_of_portion m)) (IsTypedForm state name heading)
       (portion_typed state.ordinals heading elements) _ (portion-sound state.ordinals made.ordinals heading (heading_ascends heading headed) elements) (λ m portion.
-      then-sound (IsConditionIf (sizes_of state.ordinals) heading) (IsTypedForm state name heading) (condition_if state.ordinals heading condition) _ (condition-if-sound heading condition) (λ c h.
+      then-sound (IsConditionIf (sizes_of state.ordinals) heading) (IsTypedForm state name heading) (condition_if state.ordinals heading condition) _ (condition-if-sound state made heading condition) (λ c h.
       then-sound (λ _. WorksAtPoints heading (portion_names elements) c []) (IsTypedForm state name heading) (works_at_points heading (Some (portion_names elements)) c [] []) _
       (points-sound heading (portion_names elements) c [] [] portion.1.known (λ s i. absurd i) (λ s i. absurd i))
       (λ _ swept. (there, (portion-change heading (portion_names elements) m c [] portion.0 portion.1 h swept).0))))
@@ -178,7 +173,7 @@ module _ (state : State) (made : IsWellMade state) where
 
   update-sound : (name : Name) (heading : Heading) (p : MaybePortionP) (c : ConditionP) (sets : SetsP) → IsBaseOf state name heading → IsTrue (is_heading heading) → IfOk (update_typed state heading p c sets) (IsTypedForm state name heading)
   update-sound name heading syntax.NoPortion c sets there headed =
-      then-sound (IsConditionIf (sizes_of state.ordinals) heading) (IsTypedForm state name heading) (condition_if state.ordinals heading c) _ (condition-if-sound heading c) (λ e condition.
+      then-sound (IsConditionIf (sizes_of state.ordinals) heading) (IsTypedForm state name heading) (condition_if state.ordinals heading c) _ (condition-if-sound state made heading c) (λ e condition.
       then-sound (IsUpdate (sizes_of state.ordinals) heading (item_list sets)) (IsTypedForm state name heading) (sets_made state.ordinals heading sets) _
       (sets-made-sound state.ordinals made.ordinals heading sets headed) (λ s is. (there, plain-change (sizes_of state.ordinals) heading e condition, is.extension, refl)))
   update-sound name heading (syntax.OfPortion at elements) c sets there headed =
@@ -186,7 +181,7 @@ module _ (state : State) (made : IsWellMade state) where
       (then-sound (λ (m : PlainPortion). IsPortionIf (sizes_of state.ordinals) heading None (Some m) × AreNamed heading (portion_names elements) (attributes_of_portion m))
       (IsPortionOf heading (portion_names elements)) (portion_typed state.ordinals heading elements) _ (portion-sound state.ordinals made.ordinals heading (heading_ascends heading headed) elements)
       (λ m portion. portion)) (λ o portion.
-      then-sound (IsConditionIf (sizes_of state.ordinals) heading) (IsTypedForm state name heading) (condition_if state.ordinals heading c) _ (condition-if-sound heading c) (λ e condition.
+      then-sound (IsConditionIf (sizes_of state.ordinals) heading) (IsTypedForm state name heading) (condition_if state.ordinals heading c) _ (condition-if-sound state made heading c) (λ e condition.
       then-sound (IsUpdate (sizes_of state.ordinals) heading (item_list sets)) (IsTypedForm state name heading) (sets_made state.ordinals heading sets) _
       (sets-made-sound state.ordinals made.ordinals heading sets headed) (λ s is.
       then-sound (λ _. WorksAtPoints heading (portion_names elements) e s) (IsTypedForm state name heading) (works_at_points heading (Some (portion_names elements)) e (item_list sets) s) _
@@ -217,7 +212,7 @@ module _ (state : State) (made : IsWellMade state) where
       → IfOk (used_update_typed state heading list c sets) (IsTypedForm state name heading)
   used-update-sound name heading list c sets there headed =
       then-sound (AreListed heading heading list) (IsTypedForm state name heading) (list_checked heading heading list) _ (list-sound heading heading list) (λ names is.
-      then-sound (IsConditionIf (sizes_of state.ordinals) heading) (IsTypedForm state name heading) (condition_if state.ordinals heading c) _ (condition-if-sound heading c) (λ e condition.
+      then-sound (IsConditionIf (sizes_of state.ordinals) heading) (IsTypedForm state name heading) (condition_if state.ordinals heading c) _ (condition-if-sound state made heading c) (λ e condition.
       then-sound (IsUpdate (sizes_of state.ordinals) heading (item_list sets)) (IsTypedForm state name heading) (sets_made state.ordinals heading sets) _
       (sets-made-sound state.ordinals made.ordinals heading sets headed) (λ s update.
       then-sound (λ _. WorksAtPoints heading names e s) (IsTypedForm state name heading) (works_at_points heading (Some names) e (item_list sets) s) _
@@ -258,7 +253,7 @@ module _ (state : State) (made : IsWellMade state) where
   item-sound (syntax.Insert at w rel) = insertion-sound at w rel
   item-sound (syntax.Delete at w d) = item-by at w (λ target. deletion_typed state w target.1 d) (λ target is. deletion-sound w target.0 target.1 d is (target-heading at target is))
   item-sound (syntax.Update at w p c sets) = item-by at w (λ target. update_typed state target.1 p c sets) (λ target is. update-sound target.0 target.1 p c sets is (target-heading at target is))
-  item-sound (syntax.Terminate at w at_place s c) = tt
+  item-sound (syntax.Terminate place w at s c) = ending-sound state made place w at s c
   item-sound (syntax.UsingItem at list u) = used-item-sound at list u
 
   -- and so are all items

@@ -4,22 +4,24 @@
 --     IsTypedPlain      what is given can be performed
 use Rattle.std.specs.Prelude.{◌≡◌, List, map, Result, Ok, Err}
 use Rattle.std.specs.List.{All}
-use Rattle.point_core.specs.declared.fault.Code.TheVariants.{E01}
 use Rattle.point_core.specs.Faults.{OrFault}
 use Rattle.utd_syntax.specs.Plain as syntax
 use Rattle.utd_syntax.specs.Plain.{Word, VarFormP, StatementP}
 use Rattle.value_core.specs.declared.refuse.Refuse.{Refuse}
 use Rattle.value_core.specs.declared.refuse.Refuse.TheVariants as refuses
 use Rattle.value_core.specs.Values.{Name}
-use Rattle.scalar_typing.specs.Typings.{◌>>=◌, refused}
+use Rattle.scalar_typing.specs.Typings.{◌>>=◌}
+use Rattle.tree_core.specs.declared.declaration.HistoryData.{HistoryData}
 use Rattle.tree_core.specs.Items.{PlainItem, read_item}
 use Rattle.tree_core.specs.Relvars.{State}
 use Rattle.tree_core.specs.Trees.{Tree, Test, read_tree, read_test}
-use Rattle.meaning_core.specs.Declarations.{PlainDeclaration, ordinal_type, base_relvar, view_relvar, read_declaration, with_declaration, without}
+use Rattle.meaning_core.specs.Declarations.{PlainDeclaration, read_declaration, with_declaration, without}
 use Rattle.meaning_core.specs.Updates.{IsTypedItem}
 use Rattle.meaning_core.specs.WellMade.{IsWellMade, IsTypedFor, IsTypedTestFor}
+use Rattle.since_during.specs.Histories.{IsTypedHistory}
 use Rattle.tree_typing.specs.Trees.{tree_typed, test_typed}
 use Rattle.declaration_typing.specs.Drops.{dropped}
+use Rattle.declaration_typing.specs.Histories.{history_declared}
 use Rattle.declaration_typing.specs.Ordinals.{ordinal_declared}
 use Rattle.declaration_typing.specs.Relvars.{relvar_declared}
 use Rattle.declaration_typing.specs.Views.{view_declared}
@@ -27,13 +29,14 @@ use Rattle.item_typing.specs.Items.{assignment_typed}
 use Rattle.type_check.specs.declared.checked.Checked.{Checked}
 use Rattle.type_check.specs.declared.checked.Checked.TheVariants as variants
 
--- nothing; an ordinal type, a base relvar or a view that is declared; a relvar or view that goes; items of an assignment;
+-- nothing; an ordinal type, a base relvar, a view or a history that is declared; a relvar or view that goes; items of an assignment;
 -- a relation to be printed; a test whose truth is asked for
 pub data Plain : Type 0 where
   nothing : Plain
   declare_ordinal : PlainDeclaration → Plain
   declare_base : PlainDeclaration → Plain
   declare_view : PlainDeclaration → Plain
+  declare_history : HistoryData → Plain
   remove : Name → Plain
   assign : List PlainItem → Plain
   print : Tree → Plain
@@ -44,6 +47,7 @@ read_checked variants.Nothing = nothing
 read_checked (variants.Ordinal d) = declare_ordinal (read_declaration d)
 read_checked (variants.Base d) = declare_base (read_declaration d)
 read_checked (variants.View d) = declare_view (read_declaration d)
+read_checked (variants.History h) = declare_history h
 read_checked (variants.Remove name) = remove name
 read_checked (variants.Assign items) = assign (map read_item items)
 read_checked (variants.Print t) = print (read_tree t)
@@ -61,7 +65,6 @@ abbrev pub checked_var : State → Word → VarFormP → OrFault Plain
 checked_var state w (syntax.BaseRelvar at heading constraints) = giving declare_base (relvar_declared state w heading constraints)
 checked_var state w (syntax.View at rel) = giving declare_view (view_declared state w rel)
 
--- HISTORY is not typed yet, and is refused at its first token
 abbrev pub checked : State → StatementP → OrFault Plain
 checked state syntax.Nothing = Ok nothing
 checked state (syntax.DeclareOrdinal at w values) = giving declare_ordinal (ordinal_declared state w values)
@@ -70,7 +73,7 @@ checked state (syntax.Drop at w) = giving remove (dropped state w)
 checked state (syntax.Assignment assignment) = giving assign (assignment_typed state assignment)
 checked state (syntax.Print at rel) = giving print (tree_typed state rel)
 checked state (syntax.Ask at test) = giving ask (test_typed state test)
-checked state (syntax.DeclareHistory at w h key since began during lasted point) = refused at E01
+checked state (syntax.DeclareHistory at w h key since began during lasted point) = giving declare_history (history_declared state at w h key since began during lasted point)
 
 -- the answer is what is meant, or want of memory; a refusal has its place
 abbrev pub Checks : Result Checked Refuse → OrFault Plain → Type 0
@@ -82,12 +85,13 @@ Checks (Err (refuses.Broken code relvar number)) meant = ⊥
 
 -- ---- what is given can be performed
 
--- what is given is typed for the state, and what it makes of the state is well made
+-- what is given is typed for the state, and what it makes of the state is well made; so is what a typed history makes of it
 abbrev pub IsTypedPlain : State → Plain → Type 0
 IsTypedPlain state nothing = Unit {0}
 IsTypedPlain state (declare_ordinal d) = IsWellMade (with_declaration state d)
 IsTypedPlain state (declare_base d) = IsWellMade (with_declaration state d)
 IsTypedPlain state (declare_view d) = IsWellMade (with_declaration state d)
+IsTypedPlain state (declare_history h) = IsTypedHistory state h
 IsTypedPlain state (remove name) = IsWellMade (without name state)
 IsTypedPlain state (assign items) = All (IsTypedItem state) items
 IsTypedPlain state (print t) = IsTypedFor state t

@@ -6,16 +6,15 @@ ghost use Rattle.tree_core.specs.Relvars.{read_relvars};
 ghost use Rattle.meaning_core.specs.WellMade.{IsWellMade};
 ghost use Rattle.type_check.specs.Checks.{Checks, checked, read_checked, IsTypedPlain};
 
-use declaration_typing::{type_drop, type_ordinal, type_relvar, type_view};
+use declaration_typing::{type_drop, type_history, type_ordinal, type_relvar, type_view};
 use item_typing::type_items;
-use point_core::{Code, Fault};
 use std::alloc::Global;
-use tree_core::{Declaration, Items, RelTest, RelTree, Relvars};
+use tree_core::{Declaration, HistoryData, Items, RelTest, RelTree, Relvars};
 use tree_typing::{type_test, type_tree};
 use utd_syntax::{Statement, VarForm};
 use value_core::{Name, Refuse};
 
-/// What a statement does: nothing, declare an ordinal type, a base relvar or a view, remove a relvar or view, assign, print a
+/// What a statement does: nothing, declare an ordinal type, a base relvar, a view or a history, remove a relvar or view, assign, print a
 /// relation, or tell whether a test holds.
 #[derive(Drop)]
 pub enum Checked {
@@ -23,6 +22,7 @@ pub enum Checked {
     Ordinal(Declaration),
     Base(Declaration),
     View(Declaration),
+    History(HistoryData),
     Remove(Name),
     Assign(Items),
     Print(RelTree),
@@ -52,10 +52,10 @@ fn type_statement(
             let declaration = type_view(alloc, word, rel, relvars)?;
             Ok(Checked::View(declaration))
         }
-        Statement::History(history) => Err(Refuse::At(Fault {
-            place: history.place,
-            code: Code::E01,
-        })),
+        Statement::History(history) => {
+            let declared = type_history(alloc, history, relvars)?;
+            Ok(Checked::History(declared))
+        }
         Statement::Drop(_, word) => {
             let name = type_drop(alloc, word, relvars)?;
             Ok(Checked::Remove(name))
