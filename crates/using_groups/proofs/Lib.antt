@@ -1,0 +1,9 @@
+pub mod OrderLemmas
+pub mod FaultsAlike
+pub mod AggregateLemmas
+pub mod HeadingLemmas
+pub mod RowLemmas
+pub mod FirstLemmas
+pub mod PlaceGroups
+pub mod SummaryLemmas
+pub mod CallLemmas

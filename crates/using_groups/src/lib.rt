@@ -1,0 +1,10 @@
+//! Summaries under USING on relations: at each point of the listed attributes the rows are grouped, and each group gives a row.
+#![tactic(auto)]
+
+mod boxes;
+mod listing;
+mod rule;
+mod summary;
+mod telling;
+
+pub use summary::using_summary;
