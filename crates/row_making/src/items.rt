@@ -56,11 +56,7 @@ fn set_names(alloc: Global, sets: &[(Name, Scalar)]) -> Result<Vec<Name>, Memory
 }
 
 /// The values of the items on the row, or their first fault.
-fn values_on(
-    alloc: Global,
-    row: &Row,
-    sets: &[(Name, Scalar)],
-) -> Result<Vec<Value>, Stop>
+fn values_on(alloc: Global, row: &Row, sets: &[(Name, Scalar)]) -> Result<Vec<Value>, Stop>
     requires { AreTypedOver row.now (read_sets sets.now) }
     ensures { Gives (λ values. map plain values.items) result (values_on row.now (read_sets sets.now)) }
 {

@@ -1,8 +1,6 @@
 -- Items under USING: the rows that they make, at each place.
-use Rattle.std.proofs.Common.{◌≡◌, ◌↔◌, inl, inr, ℕ, zero, suc, ◌+◌, ◌<◌, ℤ, false, List, [], ◌∷◌, ◌++◌, map, length, get_or, Ok, Err, Option, Some, None, refl, sym, ap, ap₂, ◌∙◌, subst, arith}
-use Rattle.std.specs.Prelude.{slice_index}
+use Rattle.std.proofs.Common.{◌≡◌, ◌↔◌, ℕ, suc, ◌+◌, ◌<◌, ℤ, false, List, [], ◌∷◌, ◌++◌, map, length, get_or, Ok, Err, Option, Some, None, refl, sym, ap, ap₂, ◌∙◌, subst, arith}
 use Rattle.std.specs.Bool.{IsTrue}
-use Rattle.std.specs.List.{All}
 use Rattle.std.proofs.lemmas.List.{length-map, get_or-map}
 use Rattle.base_core.specs.Outcomes.{then_give, least_of_all}
 use Rattle.base_core.proofs.MemberLemmas.{In-map}
@@ -15,7 +13,6 @@ use Rattle.value_core.specs.Attributes.{value_at, span_of}
 use Rattle.value_core.specs.Order.{row_total, row_separates}
 use Rattle.value_core.specs.RowPacking.{packed, unpacked}
 use Rattle.value_core.specs.Values.{Name, Row, Value, Heading, truth, row_cmp, rows_of, fits_heading}
-use Rattle.scalar_core.specs.AtPlaces.{at_place}
 use Rattle.scalar_core.specs.Expressions.{Expr}
 use Rattle.scalar_core.specs.ScalarValues.{value}
 use Rattle.slice_core.specs.LeastFault.{fault_total, IsLeast}
@@ -24,7 +21,7 @@ use Rattle.relation_core.specs.Operators.{extended, fault_order}
 use Rattle.tree_core.specs.Trees.{PlainSets}
 use Rattle.packing_core.specs.Boxed.{Boxed}
 use Rattle.slice_core.specs.LeastFault.{IsLeast}
-use Rattle.u_set.specs.Boxes.{AreIntervals, IsShaped, spans_at}
+use Rattle.u_set.specs.Boxes.{IsShaped, spans_at}
 use Rattle.u_set.proofs.BoxLemmas.{shaped_from_fit, value_at-get}
 use Rattle.u_set.proofs.BridgeLemmas.{AreRowsOf}
 use Rattle.u_row.specs.Rules.{HasRuleFault, IsRuleForm}

@@ -4,7 +4,6 @@ use Rattle.std.specs.Bool.{IsTrue}
 use Rattle.std.specs.Cmp.{int_cmp_total}
 use Rattle.std.specs.FinMap.{int_cmp-IsAntisymmetric}
 use Rattle.std.specs.List.{All, filter, flat_map}
-use Rattle.std.specs.List.{dedup}
 use Rattle.std.specs.List.Retain.{IsFiltered, DiffersFromLast}
 use Rattle.std.specs.List.Sorted.{IsPermutation, IsSorted}
 use Rattle.std.specs.Cmp.{tied_itself, Equal-is}
@@ -17,7 +16,6 @@ use Rattle.base_core.specs.Sets.{in_order}
 use Rattle.base_core.proofs.MemberLemmas.{In-map}
 use Rattle.base_core.proofs.SetLemmas.{In, Ascends, In-in_order, Ascends-in_order, same_by_members, In-from_Contains, Contains-from_In, in_order_of_sorted}
 use Rattle.base_core.proofs.SetOperatorLemmas.{AllAfter-In, in_order-flat_map_in_order, same_tests}
-use Rattle.interval_core.specs.Members.{Span}
 use Rattle.point_core.specs.Orders.{point_cmp, point_eq}
 use Rattle.point_core.specs.Points.{Line, line, number, IsPointOf}
 use Rattle.point_core.specs.declared.any_type.AnyPoint.{AnyPoint}
@@ -52,10 +50,10 @@ ordered_numbers ps l lines =
     (numbers_ascend set l (λ q m. lines q ((back q).0 m)) (Ascends-in_order point_cmp point_total point_same ps))
     (Ascends-in_order int_cmp int_cmp_total int_cmp-IsAntisymmetric (map number ps))
     (λ n.
-        let all = In-in_order int_cmp int_cmp_total int_cmp-IsAntisymmetric n (map number ps) in (
-          λ m. let w = (In-map number n set).0 m in all.1 ((In-map number n ps).1 (w.0, (back w.0).0 w.1, w.2)),
-          λ m. let w = (In-map number n ps).0 (all.0 m) in (In-map number n set).1 (w.0, (back w.0).1 w.1, w.2),
-        ))
+    let all = In-in_order int_cmp int_cmp_total int_cmp-IsAntisymmetric n (map number ps) in (
+      λ m. let w = (In-map number n set).0 m in all.1 ((In-map number n ps).1 (w.0, (back w.0).0 w.1, w.2)),
+      λ m. let w = (In-map number n ps).0 (all.0 m) in (In-map number n set).1 (w.0, (back w.0).1 w.1, w.2),
+    ))
 
 -- ---- of items
 

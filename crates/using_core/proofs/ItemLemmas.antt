@@ -1,14 +1,13 @@
 -- Typed and sweepable items of an extension, at positions of a heading: what a rule by boxes asks of them.
 use Rattle.std.proofs.Common.{◌≡◌, ◌⊎◌, inl, inr, ℕ, zero, suc, ◌+◌, ◌<◌, List, [], ◌∷◌, ◌++◌, Bool, true, false, Option, Some, None, get_or, map, length, refl, sym, ap, ◌∙◌, subst, cond, not, arith}
-use Rattle.std.specs.Prelude.{nat_eq, ◌||◌, is_none, if◌then◌else◌}
+use Rattle.std.specs.Prelude.{nat_eq, ◌||◌, is_none}
 use Rattle.std.specs.Bool.{IsTrue}
-use Rattle.std.specs.List.{list_any, list_all}
+use Rattle.std.specs.List.{list_any}
 use Rattle.std.specs.Str.{bytes_eq}
 use Rattle.std.proofs.lemmas.Bool.{true≢false, eqb-true}
 use Rattle.std.proofs.lemmas.List.{length-map, get_or-map}
 use Rattle.base_core.proofs.MemberLemmas.{In-map, list_all-In, list_any-In}
 use Rattle.base_core.proofs.SetLemmas.{In}
-use Rattle.point_core.specs.declared.any_type.AnyType.{AnyType}
 use Rattle.value_core.specs.Attributes.{among}
 use Rattle.value_core.specs.Headings.{has_name}
 use Rattle.value_core.specs.Values.{Name, Heading, is_heading}
@@ -138,8 +137,11 @@ module _ (heading : Heading) (acl : List ℕ) (headed : IsTrue (is_heading headi
         let e = place_at j l in
         let k = set_many in
         inl (omega (arith, q, e, k))
-    | inr q ↦ inr (position_of from (name j), place_at j l ∙ q ∙ ap (λ k. k + place_among (names_of from) (name j)) set_many ∙ ap (λ k. length sets + k) (place-position from (name j)),
-        not_true (among (listed heading acl from) (position_of from (name j))) apart)
+    | inr q ↦ inr (
+      position_of from (name j),
+      place_at j l ∙ q ∙ ap (λ k. k + place_among (names_of from) (name j)) set_many ∙ ap (λ k. length sets + k) (place-position from (name j)),
+      not_true (among (listed heading acl from) (position_of from (name j))) apart,
+    )
   ]
     where
       apart : among (listed heading acl from) (position_of from (name j)) ≡ true → ⊥

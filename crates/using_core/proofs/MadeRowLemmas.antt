@@ -1,5 +1,5 @@
 -- The rows that items make of a relation, packed.
-use Rattle.std.proofs.Common.{◌≡◌, ℕ, ◌<◌, List, map, length, Ok, Err, Option, Some, None, sym, ap, ◌∙◌}
+use Rattle.std.proofs.Common.{◌≡◌, ℕ, ◌<◌, List, map, length, Ok, Err, Option, Some, None, sym, ap}
 use Rattle.std.specs.Bool.{IsTrue}
 use Rattle.base_core.specs.Outcomes.{then_give, least_of_all}
 use Rattle.base_core.proofs.MemberLemmas.{list_all-In}

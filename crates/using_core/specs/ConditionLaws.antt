@@ -1,5 +1,5 @@
 -- The law of a condition as a rule on rows.
-use Rattle.std.proofs.Common.{◌≡◌, ℕ, ℤ, List, [], ◌∷◌, get_or, sym, subst}
+use Rattle.std.proofs.Common.{◌≡◌, ℕ, ℤ, List, [], ◌∷◌, get_or, subst}
 use Rattle.interval_core.specs.Members.{Span}
 use Rattle.point_core.specs.Points.{number}
 use Rattle.point_core.specs.declared.any_type.AnyPoint.{AnyPoint}
@@ -11,7 +11,7 @@ use Rattle.scalar_core.specs.Expressions.{Expr}
 use Rattle.scalar_core.specs.Kinds.{IsTypedOver}
 use Rattle.cell_core.specs.Cells.{box_numbers}
 use Rattle.u_row.specs.Cutting.{AreCutsFrom, cells_of}
-use Rattle.using_core.specs.BoxedLaws.{own, sides, sides_there, own_fits, inside_from}
+use Rattle.using_core.specs.BoxedLaws.{sides_there, own_fits, inside_from}
 use Rattle.using_core.specs.Swept.{CanSweep, met, swept_cuts, swept_rows}
 use Rattle.using_core.specs.SteadyLaws.{swept_steady}
 

@@ -1,7 +1,6 @@
 -- The law of items as a rule on rows: what they make is the same at all places of a cell.
-use Rattle.std.proofs.Common.{◌≡◌, ◌↔◌, inl, inr, ℕ, zero, suc, ◌+◌, ◌<◌, ℤ, ◌≤ℤ◌, true, false, Bool, List, [], ◌∷◌, ◌++◌, map, length, get_or, Ok, Err, Option, Some, None, refl, sym, ap, ap₂, ◌∙◌, subst, arith}
+use Rattle.std.proofs.Common.{◌≡◌, ◌↔◌, inl, inr, ℕ, zero, suc, ◌+◌, ◌<◌, ℤ, ◌≤ℤ◌, true, false, Bool, List, [], ◌∷◌, ◌++◌, map, length, get_or, Ok, Err, Some, refl, sym, ap, ap₂, ◌∙◌, subst, arith}
 use Rattle.std.specs.Prelude.{slice_index}
-use Rattle.std.specs.Bool.{IsTrue}
 use Rattle.std.specs.Cmp.{int_cmp_total}
 use Rattle.std.specs.FinMap.{int_cmp-IsAntisymmetric}
 use Rattle.std.specs.List.{filter, flat_map}
@@ -19,7 +18,7 @@ use Rattle.packing_core.specs.Covering.{Among}
 use Rattle.packing_core.specs.Packed.{Has}
 use Rattle.value_core.specs.Attributes.{among, value_at, span_of}
 use Rattle.value_core.specs.Values.{Name, Row, Value, truth}
-use Rattle.scalar_core.specs.AtPlaces.{at_place, AreBeside, AreWithin}
+use Rattle.scalar_core.specs.AtPlaces.{at_place, AreBeside}
 use Rattle.scalar_core.specs.Cuts.{IsBeside, inner_cuts, cuts, is_inside}
 use Rattle.scalar_core.specs.Expressions.{Expr}
 use Rattle.scalar_core.specs.Kinds.{IsTypedOver}
@@ -33,7 +32,7 @@ use Rattle.u_set.proofs.BoxLemmas.{value_at-get}
 use Rattle.u_row.specs.Cutting.{AreCutsFrom, cells_of}
 use Rattle.u_row.proofs.CellLemmas.{cell_in}
 use Rattle.u_row.proofs.LabelLemmas.{map_in}
-use Rattle.meaning_core.specs.Rows.{values_on, extended_at}
+use Rattle.meaning_core.specs.Rows.{values_on}
 use Rattle.meaning_core.specs.Scalars.{AreTypedOver}
 use Rattle.using_core.specs.BoxedLaws.{sides_there, own_fits, inside_from}
 use Rattle.using_core.specs.Cells.{scalars_of, cuts_of_all}

@@ -30,7 +30,12 @@ fn copied(alloc: Global, values: &[Value]) -> Result<Vec<Value>, Memory>
 }
 
 /// The row with the first point of each side in place of the interval of its attribute.
-pub(crate) fn row_at(alloc: Global, row: &Row, acl: &[usize], at: &[Interval<AnyType>]) -> Result<Row, Memory>
+pub(crate) fn row_at(
+    alloc: Global,
+    row: &Row,
+    acl: &[usize],
+    at: &[Interval<AnyType>],
+) -> Result<Row, Memory>
     requires count { length at.now ≡ length acl.now }
     requires within { All (λ (i : ℕ). i < length row.now) acl.now }
     requires lines { HaveLines acl.now at.now row.now }

@@ -1,5 +1,3 @@
-use Rattle.point_core.specs.Orders.{point_cmp}
-use Rattle.point_core.proofs.OrderLemmas.{point_total, point_same}
 use Rattle.using_core.proofs.ItemCutLemmas.{points_from_sort}
 use Rattle.using_core.proofs.extensions.in_order.Goals as goal
 

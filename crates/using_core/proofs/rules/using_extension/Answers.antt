@@ -1,24 +1,22 @@
-use Rattle.std.proofs.Common.{◌≡◌, ◌++◌, ◌≤◌, ◌+◌, List, ℕ, length, map, sym, ap, ap₂, ◌∙◌, subst}
+use Rattle.std.proofs.Common.{◌++◌, ◌≤◌, ◌+◌, List, ℕ, length, sym, ap, ap₂, ◌∙◌, subst}
 use Rattle.base_core.specs.Outcomes.{then_give}
 use Rattle.point_core.specs.Faults.{OrFault}
 use Rattle.value_core.specs.RowPacking.{packed, unpacked}
-use Rattle.value_core.specs.Values.{Name, Row, Heading, Relation}
-use Rattle.value_core.specs.declared.kind.Kind.{Kind}
+use Rattle.value_core.specs.Values.{Name, Heading, Relation}
 use Rattle.scalar_core.specs.declared.tree.Scalar.{Scalar}
 use Rattle.relation_core.specs.Agreement.{names_of}
 use Rattle.relation_core.specs.Answers.{Answers, under}
 use Rattle.relation_core.specs.Operators.{extended}
 use Rattle.tree_core.specs.Trees.{read_sets}
 use Rattle.cell_core.specs.Costs.{bound}
-use Rattle.meaning_core.specs.Meanings.{limited, positions_of, names_at}
+use Rattle.meaning_core.specs.Meanings.{limited}
 use Rattle.meaning_core.specs.Places.{places}
-use Rattle.meaning_core.specs.Rows.{set_names, extended_at, extended_row}
+use Rattle.meaning_core.specs.Rows.{set_names, extended_at}
 use Rattle.using_core.specs.Cells.{cells_of_all, scalars_of}
 use Rattle.using_core.specs.Extended.{AreItems}
 use Rattle.using_core.specs.Using.{listed}
 use Rattle.using_core.proofs.ItemLemmas.{items_of}
 use Rattle.using_core.proofs.ListLemmas.{positions_back}
-use Rattle.using_core.proofs.OperandLemmas.{listed_is}
 use Rattle.using_core.proofs.rules.using_extension.Goals as goal
 
 pub extended_by_boxes-requires : goal.extended_by_boxes-requires
@@ -29,7 +27,7 @@ extended_by_boxes-requires g c =
     let sets = c.as_slice-list.ensures.value ∙ c.sets.view_is in
     let there = c.as_slice.ensures.value ∙ c.in_ok-acl_there.ensures ∙ ap₂ (λ (u v : Heading). listed u acl v) c.attributes-attributes.ensures.list (c.attributes-from.ensures.list ∙ c.heading.ensures.heading) in
     let at = c.as_slice-2.ensures.value ∙ c.in_ok-places.ensures
-        ∙ (λ t. places (set_names (read_sets (sets t)) ++ names_of ((c.attributes-from.ensures.list ∙ c.heading.ensures.heading) t)) (c.attributes-attributes.ensures.list t)) in
+    ∙ (λ t. places (set_names (read_sets (sets t)) ++ names_of ((c.attributes-from.ensures.list ∙ c.heading.ensures.heading) t)) (c.attributes-attributes.ensures.list t)) in
     let given = items_of h acl c.attributes-attributes.ensures.heading c.requires.list from c.heading.ensures.relation.headed c.requires.listed (read_sets c.args.sets.now) c.requires.swept c.requires.extension.0 c.requires.extension.1 in
     record { items = subst (λ (w : List ℕ × List ℕ × List (Name × Scalar)). AreItems from h w.0 acl (read_sets w.2) w.1) (λ t. (sym there t, sym at t, sym sets t)) given }
 
@@ -41,7 +39,7 @@ returns-clause-value g c =
     let sets = c.as_slice-list.ensures.value ∙ c.sets.view_is in
     let there = c.as_slice.ensures.value ∙ c.in_ok-acl_there.ensures ∙ ap₂ (λ (u v : Heading). listed u acl v) c.attributes-attributes.ensures.list (c.attributes-from.ensures.list ∙ c.heading.ensures.heading) in
     let at = c.as_slice-2.ensures.value ∙ c.in_ok-places.ensures
-        ∙ (λ t. places (set_names (read_sets (sets t)) ++ names_of ((c.attributes-from.ensures.list ∙ c.heading.ensures.heading) t)) (c.attributes-attributes.ensures.list t)) in
+    ∙ (λ t. places (set_names (read_sets (sets t)) ++ names_of ((c.attributes-from.ensures.list ∙ c.heading.ensures.heading) t)) (c.attributes-attributes.ensures.list t)) in
     let back = positions_back h acl c.attributes-attributes.ensures.heading c.requires.list in
     subst (λ (m : OrFault Relation). Answers c.extended_by_boxes.result m)
     (λ t. under h (then_give (extended (extended_at (at t) (read_sets (sets t))) (unpacked (there t) c.args.r.now.rows)) (λ rows. limited c.args.place (packed (sym back t) rows)))) c.extended_by_boxes.ensures.value

@@ -1,4 +1,4 @@
-use Rattle.std.proofs.Common.{◌≡◌, ◌∷◌, [], Ok, Err, ◌∙◌, subst}
+use Rattle.std.proofs.Common.{◌≡◌, Ok, Err, ◌∙◌, subst}
 use Rattle.std.specs.Result.{IfOk}
 use Rattle.base_core.specs.Outcomes.{then_give}
 use Rattle.point_core.specs.Points.{number}

@@ -1,11 +1,10 @@
-use Rattle.std.proofs.Common.{List, map, get_or, sym, ap, ◌∙◌, subst}
+use Rattle.std.proofs.Common.{map, get_or, sym, ap, ◌∙◌, subst}
 use Rattle.std.specs.List.{All}
 use Rattle.std.specs.Prelude.{slice_index}
 use Rattle.std.specs.Ordering.{int_cmp}
 use Rattle.base_core.specs.Sets.{in_order}
-use Rattle.base_core.proofs.SetLemmas.{In, In-in_order}
+use Rattle.base_core.proofs.SetLemmas.{In-in_order}
 use Rattle.point_core.specs.Orders.{point_cmp}
-use Rattle.point_core.specs.declared.any_type.AnyPoint.{AnyPoint}
 use Rattle.point_core.proofs.OrderLemmas.{point_total, point_same}
 use Rattle.point_core.specs.Points.{number, line_of, IsPointOf}
 use Rattle.value_core.specs.Values.{Row}
