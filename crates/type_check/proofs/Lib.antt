@@ -2,6 +2,7 @@ pub mod AggregateLemmas
 pub mod CheckLemmas
 pub mod DeclarationLemmas
 pub mod DeclaredLemmas
+pub mod EndingLaws
 pub mod EndingTypedLemmas
 pub mod ExtensionLemmas
 pub mod InfixLemmas
