@@ -21,9 +21,8 @@ use scalar_core::Scalar;
 use std::alloc::Global;
 use std::sync::ledger::Ledger;
 use tree_core::{Aggregates, InfixWord, Sets};
-use using_core::{
-    using_extension, using_infix, using_projection, using_restriction, using_summary,
-};
+use using_core::{using_extension, using_infix, using_projection, using_restriction};
+use using_groups::using_summary;
 use value_core::{Heading, Positions, Relation};
 
 /// What the operator gives of two relations.

@@ -3,9 +3,7 @@
 --     of_tree, answer      to a tree in a state, and to what a statement is read as
 --     text_of, is_accepted, state_after      what an answer writes, whether it accepts, and the state that it leaves
 use Rattle.std.specs.Prelude.{ℕ, Bool, true, false, List, [], flat_map, Result, Ok, Err}
-use Rattle.point_core.specs.declared.fault.Place.{Place}
-use Rattle.point_core.specs.declared.fault.Code.TheVariants.{E01}
-use Rattle.point_core.specs.Faults.{OrFault, fault}
+use Rattle.point_core.specs.Faults.{OrFault}
 use Rattle.value_core.specs.declared.list.OrdinalNames.{OrdinalNames}
 use Rattle.value_core.specs.declared.refuse.Refuse.{Refuse}
 use Rattle.value_core.specs.declared.refuse.Refuse.TheVariants.{At}
@@ -19,10 +17,9 @@ use Rattle.meaning_core.specs.Meanings.{meaning_in}
 use Rattle.meaning_core.specs.Truths.{truth_in}
 use Rattle.update_core.specs.Endings.{meant_by}
 use Rattle.assign_core.specs.Assignments.{after_assignments}
-use Rattle.utd_syntax.specs.Plain as plain
+use Rattle.since_during.specs.Histories.{declared_history, declared_in}
 use Rattle.utd_syntax.specs.Plain.{StatementP}
-use Rattle.type_check.specs.Checks.{Plain, nothing, declare_ordinal, declare_base, declare_view, remove, assign, print, ask, checked}
-use Rattle.utd_statement.specs.Built.{is_built_statement}
+use Rattle.type_check.specs.Checks.{Plain, nothing, declare_ordinal, declare_base, declare_view, declare_history, remove, assign, print, ask, checked}
 use Rattle.utd_print.specs.Lines.{refusal_line, truth_line}
 use Rattle.utd_print.specs.Tables.{table}
 use Rattle.utd_statement.specs.Readings.{Reading, Tree as TreeOf, Refused}
@@ -60,24 +57,19 @@ of_checked state nothing = Done
 of_checked state (declare_ordinal d) = Changed (with_declaration state d)
 of_checked state (declare_base d) = Changed (with_declaration state d)
 of_checked state (declare_view d) = Changed (with_declaration state d)
+of_checked state (declare_history h) = Changed (declared_in state (declared_history h))
 of_checked state (remove name) = Changed (without name state)
 of_checked state (assign items) = unless_refused state (after_assignments state.relvars (assignments_of state.relvars items))
 of_checked state (print t) = unless_fault (Table state.ordinals) (relation_in state t)
 of_checked state (ask t) = unless_fault Truth (truth_in state.relvars t)
 
--- a statement is typed and performed; one that is not built is refused at its first token
-abbrev pub of_built : State → Place → StatementP → Bool → Answer
-of_built state first tree true = unless_fault (of_checked state) (checked state tree)
-of_built state first tree false = Refusal (At (fault first E01))
-
--- the answer to a tree in a state
-unfoldable pub of_tree : State → Place → StatementP → Answer
-of_tree state first plain.Nothing = Done
-of_tree state first tree = of_built state first tree (is_built_statement tree)
+-- the answer to a tree in a state: the statement is typed, and performed
+abbrev pub of_tree : State → StatementP → Answer
+of_tree state tree = unless_fault (of_checked state) (checked state tree)
 
 -- the answer to what a statement is read as, in a state
 abbrev pub answer : State → Reading → Answer
-answer state (TreeOf first tree) = of_tree state first tree
+answer state (TreeOf first tree) = of_tree state tree
 answer state (Refused refuse) = Refusal refuse
 
 -- the n-th statement's output

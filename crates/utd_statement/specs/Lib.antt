@@ -2,5 +2,4 @@ pub mod Readings
 pub mod Parsed
 pub mod Answers
 pub mod Replies
-pub mod Built
 pub mod InRange

@@ -1,7 +1,6 @@
 //! One statement: what its text is read as, what is answered to it, and what it makes of the database.
 #![tactic(auto)]
 
-mod built;
 mod changing;
 mod performing;
 mod reading;

@@ -8,7 +8,7 @@ ghost use Rattle.type_check.specs.Checks.{print, ask, checked, read_checked, IsT
 ghost use Rattle.utd_statement.specs.Answers.{of_checked, unless_fault};
 ghost use Rattle.utd_statement.specs.Replies.{IsPerformed};
 
-use crate::changing::{assigned, declared, removed};
+use crate::changing::{assigned, declared, history_declared, removed};
 use algebra_core::{eval, test};
 use assign_core::Database;
 use point_core::Steps;
@@ -66,6 +66,7 @@ fn performed_typed<L: Ledger>(
         Checked::Ordinal(declaration) => declared(alloc, declaration, database),
         Checked::Base(declaration) => declared(alloc, declaration, database),
         Checked::View(declaration) => declared(alloc, declaration, database),
+        Checked::History(history) => history_declared(alloc, &history, database),
         Checked::Remove(name) => removed(alloc, &name, database),
         Checked::Assign(items) => assigned(alloc, &items, database, steps),
         Checked::Print(tree) => printed(alloc, &tree, database.relvars(), steps),

@@ -2,21 +2,18 @@
 ghost use Rattle.std.specs.Prelude.{IfOk};
 ghost use Rattle.utd_syntax.specs.Read.{read_statement};
 ghost use Rattle.utd_print.specs.Lines.{HasLine};
-ghost use Rattle.utd_statement.specs.Built.{is_built_statement};
 ghost use Rattle.utd_statement.specs.Parsed.{reading_of, HasAnswer};
-ghost use Rattle.utd_statement.specs.Answers.{Answer, Refusal, of_built, of_tree, answer};
+ghost use Rattle.utd_statement.specs.Answers.{Answer, Refusal, of_tree, answer};
 ghost use Rattle.tree_core.specs.Relvars.{read_relvars, State};
 ghost use Rattle.utd_statement.specs.Replies.{IsReply, IsAnswered, IsPerformed};
 
-use crate::built::is_built;
 use crate::performing::performed;
 use crate::reading::{Parsed, Tree};
 use assign_core::Database;
-use point_core::{Code, Fault, Memory, Steps};
+use point_core::{Memory, Steps};
 use std::alloc::Global;
 use std::sync::ledger::Ledger;
 use utd_print::refusal_line;
-use utd_syntax::Statement;
 use value_core::Refuse;
 
 /// What a statement writes, and whether it is accepted.
@@ -52,27 +49,7 @@ fn told(alloc: Global, number: u32, written: Result<Vec<u8>, Refuse>) -> Result<
     }
 }
 
-// The answer to a statement other than the empty one. One that is not built is refused at its first token.
-fn answer_to_built<L: Ledger>(
-    alloc: Global,
-    database: &mut Database,
-    number: u32,
-    tree: &Tree,
-    steps: &mut Steps<L>,
-) -> Result<Reply, Memory>
-    ensures { IsAnswered result number (read_relvars database.old) (read_relvars database.new)
-        (of_built (read_relvars database.old) tree.now.first (read_statement tree.now.statement) (is_built_statement (read_statement tree.now.statement))) }
-{
-    if !is_built(&tree.statement) {
-        let place = tree.first;
-        let code = Code::E01;
-        return refusal(alloc, number, &Refuse::At(Fault { place, code }));
-    }
-    let written = performed(alloc, &tree.statement, database, steps);
-    told(alloc, number, written)
-}
-
-#[tactic(auto, unfolding(crate::specs::Answers::of_tree))]
+// The answer to the tree of a statement.
 fn answer_to_tree<L: Ledger>(
     alloc: Global,
     database: &mut Database,
@@ -81,15 +58,10 @@ fn answer_to_tree<L: Ledger>(
     steps: &mut Steps<L>,
 ) -> Result<Reply, Memory>
     ensures { IsAnswered result number (read_relvars database.old) (read_relvars database.new)
-        (of_tree (read_relvars database.old) tree.now.first (read_statement tree.now.statement)) }
+        (of_tree (read_relvars database.old) (read_statement tree.now.statement)) }
 {
-    if let Statement::Nothing = &tree.statement {
-        return Ok(Reply {
-            text: Vec::new(alloc),
-            accepted: true,
-        });
-    }
-    answer_to_built(alloc, database, number, tree, steps)
+    let written = performed(alloc, &tree.statement, database, steps);
+    told(alloc, number, written)
 }
 
 /// The answer to what a statement is read as, and what the statement makes of the database. For want of memory the database
