@@ -1,15 +1,14 @@
 // The first rows of their labels.
-ghost use Rattle.std.specs.Prelude.{◌≡◌, ◌++◌, ℕ, ◌<◌, [], ◌∷◌, length, map, not, filter, get_or, IfOk, OnOk};
-ghost use Rattle.std.specs.List.{All, list_any};
+ghost use Rattle.std.specs.Prelude.{◌≡◌, ℕ, ◌<◌, length, map, get_or, IfOk};
+ghost use Rattle.std.specs.List.{All, dedup};
+ghost use Rattle.std.specs.List.Sorted.{IsStrictlySortedBy};
 ghost use Rattle.std.specs.Ordering.{nat_cmp};
 ghost use Rattle.base_core.specs.Sets.{in_order};
-ghost use Rattle.u_groups.specs.Asked.{numbers_at, is_lower, first_ones};
-ghost use Rattle.u_groups.specs.Groups.{labels_in};
+ghost use Rattle.slice_core.specs.Rows.{pair_cmp};
+ghost use Rattle.u_groups.specs.Asked.{numbers_at, ranked, have_one_rank, first_ones};
 
-use point_core::{Label, Memory};
-use slice_core::Key;
+use point_core::Memory;
 use std::alloc::Global;
-use value_core::Row;
 
 // The numbers in order, each once.
 fn distinct(numbers: Vec<usize>) -> Result<Vec<usize>, Memory>
@@ -47,61 +46,66 @@ pub(crate) fn numbers_at(
     Ok(set)
 }
 
-// Whether the one is lower, and of the same label.
-fn is_lower(rows: &[Key<Row>], r: usize, s: usize) -> bool
-    requires number { r < length rows.now }
-    requires other { s < length rows.now }
-    ensures { result ≡ is_lower (labels_in rows.now) r s }
-{
-    let one = &rows[s];
-    let other = &rows[r];
-    s < r && one.label.compare(&other.label).is_eq()
-}
-
-// Whether one of the numbers is lower, and of the same label.
-fn has_lower(rows: &[Key<Row>], numbers: &[usize], r: usize) -> bool
-    requires number { r < length rows.now }
-    requires numbers { All (λ (i : ℕ). i < length rows.now) numbers.now }
-    ensures { result ≡ list_any (is_lower (labels_in rows.now) r) numbers.now }
-{
-    for s in numbers {
-        if is_lower(rows, r, *s) {
-            return true;
-        }
-    }
-    false
-}
-
-// Adds the number, where no lower one is of its label.
-fn push_first(
-    out: &mut Vec<usize>,
-    rows: &[Key<Row>],
+// The numbers with their ranks.
+fn with_ranks(
+    alloc: Global,
+    ranks: &[usize],
     numbers: &[usize],
-    r: usize,
-) -> Result<(), Memory>
-    requires number { r < length rows.now }
-    requires numbers { All (λ (i : ℕ). i < length rows.now) numbers.now }
-    ensures { OnOk result (out.new.items ≡ out.old.items ++ filter (λ r. not (list_any (is_lower (labels_in rows.now) r) numbers.now)) (r ∷ [])) }
+) -> Result<Vec<(usize, usize)>, Memory>
+    requires { All (λ (i : ℕ). i < length ranks.now) numbers.now }
+    ensures { IfOk result (λ v. v.items ≡ ranked ranks.now numbers.now) }
 {
-    if has_lower(rows, numbers, r) {
-        return Ok(());
+    let mut list = Vec::with_capacity(alloc, numbers.len())?;
+    for number in numbers {
+        list.push((ranks[*number], *number))?;
     }
-    out.push(r)?;
-    Ok(())
+    Ok(list)
 }
 
-/// Those of the numbers of which no lower one is of the same label.
+// The pairs in order, each once.
+fn distinct_pairs(pairs: Vec<(usize, usize)>) -> Result<Vec<(usize, usize)>, Memory>
+    ensures { IfOk result (λ v. v.items ≡ in_order pair_cmp pairs.items) }
+{
+    let mut list = pairs;
+    list.sort()?;
+    list.dedup();
+    Ok(list)
+}
+
+// The first of the pairs of each rank that stand together.
+fn first_of_each(pairs: Vec<(usize, usize)>) -> Vec<(usize, usize)>
+    ensures { result.items ≡ dedup have_one_rank pairs.items }
+{
+    let mut list = pairs;
+    list.dedup_by(|a: &mut (usize, usize), b: &mut (usize, usize)| a.0 == b.0);
+    list
+}
+
+// The numbers without their ranks.
+fn without_ranks(alloc: Global, pairs: &[(usize, usize)]) -> Result<Vec<usize>, Memory>
+    ensures { IfOk result (λ v. v.items ≡ map (λ x. x.1) pairs.now) }
+{
+    let mut list = Vec::with_capacity(alloc, pairs.len())?;
+    for pair in pairs {
+        list.push(pair.1)?;
+    }
+    Ok(list)
+}
+
+/// Those of the numbers of which no lower one is of the same rank.
 pub(crate) fn first_ones(
     alloc: Global,
-    rows: &[Key<Row>],
+    ranks: &[usize],
     numbers: &[usize],
 ) -> Result<Vec<usize>, Memory>
-    requires { All (λ (i : ℕ). i < length rows.now) numbers.now }
-    ensures { IfOk result (λ v. v.items ≡ first_ones (labels_in rows.now) numbers.now) }
+    requires numbers { All (λ (i : ℕ). i < length ranks.now) numbers.now }
+    requires order { IsStrictlySortedBy nat_cmp numbers.now }
+    ensures { IfOk result (λ v. v.items ≡ first_ones ranks.now numbers.now) }
 {
-    let mut out = Vec::new(alloc);
-    for r in numbers {
-        push_first(&mut out, rows, numbers, *r)?;
-    }
-    Ok(out)
+    let all = with_ranks(alloc, ranks, numbers)?;
+    let pairs = distinct_pairs(all)?;
+    let firsts = first_of_each(pairs);
+    let list = without_ranks(alloc, firsts.as_slice())?;
+    let set = distinct(list)?;
+    Ok(set)
 }
