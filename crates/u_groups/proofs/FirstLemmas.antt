@@ -5,7 +5,7 @@ use Rattle.std.specs.Prelude.{ltb, eqb}
 use Rattle.std.specs.declared.cmp.Ordering.TheVariants.{Less, Equal, Greater}
 use Rattle.std.specs.List.{list_any, dedup, dedup_from}
 use Rattle.std.specs.List.Retain.{IsFiltered, DiffersFromLast}
-use Rattle.std.specs.List.Sorted.{IsPermutation, IsSorted, IsStrictlySortedBy}
+use Rattle.std.specs.List.Sorted.{IsPermutation, IsSorted}
 use Rattle.std.specs.Ordering.{nat_cmp, eq_by_cmp, ordering_then}
 use Rattle.std.proofs.lemmas.Bool.{and_parts, and_from, true≢false}
 use Rattle.std.proofs.lemmas.Bool.Decides.{nat_tests}
@@ -13,13 +13,13 @@ use Rattle.std.proofs.lemmas.Cmp.{nat_cmp_total}
 use Rattle.std.proofs.lemmas.List.Filters.{dedup_is}
 use Rattle.base_core.specs.Sets.{in_order}
 use Rattle.base_core.proofs.MemberLemmas.{list_any-In}
-use Rattle.base_core.proofs.SetLemmas.{Separates, Ascends, AllAfter, In-in_order, Ascends-in_order, Ascends-from_sorted, in_order_of_sorted, same_by_members, in_after}
+use Rattle.base_core.proofs.SetLemmas.{Separates, Ascends, AllAfter, In-in_order, Ascends-in_order, in_order_of_sorted, same_by_members, in_after}
 use Rattle.base_core.proofs.SetOperatorLemmas.{Ascends-filter}
 use Rattle.packing_core.specs.Covering.{Among}
 use Rattle.packing_core.proofs.AmongLemmas.{among_map, among_filter}
 use Rattle.slice_core.specs.Rows.{pair_cmp, pair_total}
-use Rattle.u_groups.specs.Asked.{is_lower, first_ones, ranked, have_one_rank}
-use Rattle.u_groups.proofs.AskedLemmas.{nat_separates, in_among}
+use Rattle.u_groups.specs.Asked.{numbers_at, is_lower, first_ones, ranked, have_one_rank}
+use Rattle.u_groups.proofs.AskedLemmas.{nat_separates, in_among, from_places, to_places}
 
 -- ---- tests of numbers and of lists
 
@@ -225,39 +225,48 @@ heads (x ∷ xs) up z = heads_from xs x up.0 up.1 z
 
 -- ---- numbers with their ranks
 
-module _ (ranks numbers : List ℕ) where
+module _ (ranks numbers places : List ℕ) where
   abbrev rank : ℕ → ℕ
   rank r = get_or ranks r 0
 
+  abbrev all : List ℕ
+  all = numbers_at numbers places
+
   abbrev pairs : List (ℕ × ℕ)
-  pairs = in_order pair_cmp (ranked ranks numbers)
+  pairs = in_order pair_cmp (ranked ranks numbers places)
 
   abbrev chosen : List ℕ
   chosen = map (λ x. x.1) (dedup have_one_rank pairs)
 
-  in_pairs : (x : ℕ × ℕ) → Among x pairs ↔ (x.0 ≡ rank x.1) × Among x.1 numbers
+  in_pairs : (x : ℕ × ℕ) → Among x pairs ↔ (x.0 ≡ rank x.1) × Among x.1 all
   in_pairs x =
-      let a = In-in_order pair_cmp pair_total pair_separates x (ranked ranks numbers) in
-      let m = among_map (λ (r : ℕ). (rank r, r)) x numbers in (
+      let list = ranked ranks numbers places in
+      let a = In-in_order pair_cmp pair_total pair_separates x list in
+      let m = among_map (λ (i : ℕ). (rank (get_or numbers i 0), get_or numbers i 0)) x places in (
         λ h.
-            let w = m.0 ((in_among x (ranked ranks numbers)).0 (a.0 ((in_among x pairs).1 h))) in
-            let e : w.0 ≡ x.1 = second_is (rank w.0, w.0) x w.2 in
-            (sym (first_is (rank w.0, w.0) x w.2) ∙ ap rank e, subst (λ r. Among r numbers) e w.1),
-        λ h. (in_among x pairs).0 (a.1 ((in_among x (ranked ranks numbers)).1 (m.1 (x.1, h.1, λ t. (sym h.0 t, x.1))))),
+            let w = m.0 ((in_among x list).0 (a.0 ((in_among x pairs).1 h))) in
+            let e : get_or numbers w.0 0 ≡ x.1 = ap (λ (p : ℕ × ℕ). p.1) w.2 in
+            let f : rank (get_or numbers w.0 0) ≡ x.0 = ap (λ (p : ℕ × ℕ). p.0) w.2 in
+            (sym f ∙ ap rank e, to_places numbers places x.1 w.0 w.1 e),
+        λ h.
+            let w = from_places numbers places x.1 h.1 in
+            let f : rank (get_or numbers w.0 0) ≡ x.0 = ap rank w.2 ∙ sym h.0 in
+            let e : get_or numbers w.0 0 ≡ x.1 = w.2 in
+            (in_among x pairs).0 (a.1 ((in_among x list).1 (m.1 (w.0, w.1, λ t. (f t, e t))))),
       )
 
-  in_chosen : (r : ℕ) → Among r chosen ↔ Among r (first_ones ranks numbers)
+  in_chosen : (r : ℕ) → Among r chosen ↔ Among r (first_ones ranks all)
   in_chosen r =
-      let f = first_among ranks r numbers in
+      let f = first_among ranks r all in
       let m = among_map (λ (x : ℕ × ℕ). x.1) r (dedup have_one_rank pairs) in
-      let up = Ascends-in_order pair_cmp pair_total pair_separates (ranked ranks numbers) in (
+      let up = Ascends-in_order pair_cmp pair_total pair_separates (ranked ranks numbers places) in (
         λ h.
             let w = m.0 h in
             let head = (heads pairs up w.0).0 w.1 in
             let own = (in_pairs w.0).0 head.0 in
             let rank_is : w.0.0 ≡ rank r = own.0 ∙ ap rank w.2 in
             f.1 (
-              subst (λ s. Among s numbers) w.2 own.1,
+              subst (λ s. Among s all) w.2 own.1,
               λ s n l q. let e = w.2 in head.1 (rank s, s) ((in_pairs (rank s, s)).1 (refl, n)) (q ∙ sym rank_is) (omega (arith, l, e)),
             ),
         λ h.
@@ -272,11 +281,11 @@ module _ (ranks numbers : List ℕ) where
             ),
       )
 
-  pub first_numbers : IsStrictlySortedBy nat_cmp numbers → in_order nat_cmp chosen ≡ first_ones ranks numbers
-  first_numbers up =
-      let firsts = first_ones ranks numbers in
+  pub first_numbers : in_order nat_cmp chosen ≡ first_ones ranks all
+  first_numbers =
+      let firsts = first_ones ranks all in
       same_by_members nat_cmp nat_cmp_total nat_separates (in_order nat_cmp chosen) firsts (Ascends-in_order nat_cmp nat_cmp_total nat_separates chosen)
-      (Ascends-filter nat_cmp (λ r. not (list_any (is_lower ranks r) numbers)) numbers (Ascends-from_sorted nat_cmp numbers up))
+      (Ascends-filter nat_cmp (λ r. not (list_any (is_lower ranks r) all)) all (Ascends-in_order nat_cmp nat_cmp_total nat_separates (map (λ i. get_or numbers i 0) places)))
       (λ r.
       let a = In-in_order nat_cmp nat_cmp_total nat_separates r chosen in
       let c = in_among r chosen in

@@ -5,13 +5,15 @@
 --     packed_groups      the packed form
 --     many_cells      there are as many rows over cells as rows
 use Rattle.std.proofs.Common.{◌≡◌, ◌↔◌, inl, inr, ℕ, zero, suc, ◌<◌, ◌≤◌, ℤ, pos, List, [], ◌∷◌, ◌++◌, map, length, get_or, Result, Ok, Err, Ordering, arith, refl, sym, ap, ◌∙◌, subst}
+use Rattle.std.specs.declared.cmp.Ordering.TheVariants.{Less}
 use Rattle.std.specs.Cmp.{IsTotalOrder}
 use Rattle.std.specs.List.{All, AllByRecursion}
+use Rattle.std.specs.List.Sorted.{IsStrictlySortedBy}
 use Rattle.std.proofs.lemmas.Bool.{and_parts, and_from}
 use Rattle.std.proofs.lemmas.Int.{ints}
 use Rattle.std.proofs.lemmas.List.{length-map}
 use Rattle.std.proofs.lemmas.List.Elements.{recursion_from_All}
-use Rattle.base_core.proofs.SetLemmas.{Separates}
+use Rattle.base_core.proofs.SetLemmas.{AllAfter, Ascends, Separates}
 use Rattle.value_core.specs.Values.{Row}
 use Rattle.packing_core.specs.Boxed.{Boxed, boxed_cmp, packed_boxes, InBoxes}
 use Rattle.packing_core.specs.Covering.{Among}
@@ -38,7 +40,7 @@ use Rattle.cell_core.proofs.Theorem.{packs-iff, points-iff}
 use Rattle.cell_kernels.proofs.KernelLemmas.{AreOn, IsLow, left_on}
 use Rattle.u_groups.specs.Asked.{HasCells, InCellGroup, HasCellFault}
 use Rattle.u_groups.specs.Groups.{AreFirsts, OfFirsts, labels_in, sides_in, HasPlace, InGroupRule, HasGroupFault, IsGroupForm}
-use Rattle.u_groups.proofs.AskedLemmas.{get_in, sorted_ascends}
+use Rattle.u_groups.proofs.AskedLemmas.{get_in}
 
 -- ---- groups of rows that have alike places
 
@@ -244,6 +246,15 @@ module _ {T P : Type 0} (n : P → ℤ) (has : T → P → Type 0) (high : T →
     ]
 
 -- ---- the packed form
+
+sorted_ascends : {X : Type 0} (cmp : X → X → Ordering) (xs : List X) → Ascends cmp xs → IsStrictlySortedBy cmp xs
+unfolding IsStrictlySortedBy
+sorted_ascends cmp [] h = tt
+sorted_ascends cmp (x ∷ xs) h = (each xs h.0, sorted_ascends cmp xs h.1)
+  where
+    each : (ys : List _) → AllAfter cmp x ys → AllByRecursion (λ y. cmp x y ≡ Less) ys
+    each [] a = tt
+    each (y ∷ ys) a = (a.0, each ys a.1)
 
 pub packed_groups : {F : Type 0} (order : Row → Row → Ordering) → IsTotalOrder order → Separates order → (k : ℕ) (f : List ℕ → Result Row F) (by : List ℕ) (rows cells : List (Boxed Row)) → AllHave k cells
     → ((l : Row) (place : List ℤ) → InBoxes cells l place ↔ InGroupRule f by rows l place) → IsGroupForm order k f by rows (packed_boxes order k cells)

@@ -3,7 +3,7 @@
 --     number_in      the number of a label in a list
 --     AreRanks      numbers of rows that are equal just where their labels are
 --     is_lower, first_ones      of numbers in order those of which none before has the same rank
---     ranked, have_one_rank      numbers with their ranks, and whether two have the same
+--     ranked, have_one_rank      numbers at places with their ranks, and whether two have the same
 --     asked, asked_order      what the rule gives of the rows of a key that have a cell, and that this is in order
 --     IsNumbered      a row with its number, under the part of its label
 --     InCellGroup, HasCellFault      what the rule gives at places of cells
@@ -41,9 +41,9 @@ is_lower ranks r s = ltb s r && eqb (get_or ranks s 0) (get_or ranks r 0)
 abbrev pub first_ones : List ℕ → List ℕ → List ℕ
 first_ones ranks numbers = filter (λ r. not (list_any (is_lower ranks r) numbers)) numbers
 
--- the numbers with their ranks
-abbrev pub ranked : List ℕ → List ℕ → List (ℕ × ℕ)
-ranked ranks numbers = map (λ r. (get_or ranks r 0, r)) numbers
+-- the numbers at the places with their ranks
+abbrev pub ranked : List ℕ → List ℕ → List ℕ → List (ℕ × ℕ)
+ranked ranks numbers places = map (λ i. (get_or ranks (get_or numbers i 0) 0, get_or numbers i 0)) places
 
 -- whether the two have the same rank
 abbrev pub have_one_rank : ℕ × ℕ → ℕ × ℕ → Bool

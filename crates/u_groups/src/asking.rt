@@ -1,7 +1,7 @@
 // A rule of groups, asked at cells.
 ghost use Rattle.std.specs.Prelude.{◌≡◌, ℕ, List};
 
-use crate::firsts::{first_ones, numbers_at};
+use crate::firsts::firsts_at;
 use crate::rule::GroupRule;
 use point_core::{Steps, Stop};
 use slice_core::CellOp;
@@ -41,8 +41,7 @@ impl<'a, G: GroupRule> CellOp for Asking<'a, G> {
         if left.is_empty() {
             return Ok(list);
         }
-        let numbers = numbers_at(alloc, self.numbers, left)?;
-        let firsts = first_ones(alloc, self.ranks, numbers.as_slice())?;
+        let firsts = firsts_at(alloc, self.ranks, self.numbers, left)?;
         let label = self.rule.apply(alloc, firsts.as_slice())?;
         list.push(label)?;
         Ok(list)

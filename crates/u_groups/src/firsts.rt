@@ -1,7 +1,6 @@
 // The first rows of their labels.
-ghost use Rattle.std.specs.Prelude.{◌≡◌, ℕ, ◌<◌, length, map, get_or, IfOk};
+ghost use Rattle.std.specs.Prelude.{◌≡◌, ℕ, ◌<◌, length, map, IfOk};
 ghost use Rattle.std.specs.List.{All, dedup};
-ghost use Rattle.std.specs.List.Sorted.{IsStrictlySortedBy};
 ghost use Rattle.std.specs.Ordering.{nat_cmp};
 ghost use Rattle.base_core.specs.Sets.{in_order};
 ghost use Rattle.slice_core.specs.Rows.{pair_cmp};
@@ -20,44 +19,21 @@ fn distinct(numbers: Vec<usize>) -> Result<Vec<usize>, Memory>
     Ok(list)
 }
 
-// The number at each place.
-fn at_places(alloc: Global, numbers: &[usize], places: &[usize]) -> Result<Vec<usize>, Memory>
-    requires { All (λ (i : ℕ). i < length numbers.now) places.now }
-    ensures { IfOk result (λ v. v.items ≡ map (λ i. get_or numbers.now i 0) places.now) }
-{
-    let mut list = Vec::with_capacity(alloc, places.len())?;
-    for place in places {
-        list.push(numbers[*place])?;
-    }
-    Ok(list)
-}
-
-/// The numbers at the places, in order.
-pub(crate) fn numbers_at(
-    alloc: Global,
-    numbers: &[usize],
-    places: &[usize],
-) -> Result<Vec<usize>, Memory>
-    requires { All (λ (i : ℕ). i < length numbers.now) places.now }
-    ensures { IfOk result (λ v. v.items ≡ numbers_at numbers.now places.now) }
-{
-    let list = at_places(alloc, numbers, places)?;
-    let set = distinct(list)?;
-    Ok(set)
-}
-
-// The numbers with their ranks.
-fn with_ranks(
+// The numbers at the places with their ranks.
+fn ranked(
     alloc: Global,
     ranks: &[usize],
     numbers: &[usize],
+    places: &[usize],
 ) -> Result<Vec<(usize, usize)>, Memory>
-    requires { All (λ (i : ℕ). i < length ranks.now) numbers.now }
-    ensures { IfOk result (λ v. v.items ≡ ranked ranks.now numbers.now) }
+    requires places { All (λ (i : ℕ). i < length numbers.now) places.now }
+    requires numbers { All (λ (i : ℕ). i < length ranks.now) numbers.now }
+    ensures { IfOk result (λ v. v.items ≡ ranked ranks.now numbers.now places.now) }
 {
-    let mut list = Vec::with_capacity(alloc, numbers.len())?;
-    for number in numbers {
-        list.push((ranks[*number], *number))?;
+    let mut list = Vec::with_capacity(alloc, places.len())?;
+    for place in places {
+        let number = numbers[*place];
+        list.push((ranks[number], number))?;
     }
     Ok(list)
 }
@@ -92,17 +68,18 @@ fn without_ranks(alloc: Global, pairs: &[(usize, usize)]) -> Result<Vec<usize>, 
     Ok(list)
 }
 
-/// Those of the numbers of which no lower one is of the same rank.
-pub(crate) fn first_ones(
+/// Those of the numbers at the places of which no lower one is of the same rank, in order.
+pub(crate) fn firsts_at(
     alloc: Global,
     ranks: &[usize],
     numbers: &[usize],
+    places: &[usize],
 ) -> Result<Vec<usize>, Memory>
+    requires places { All (λ (i : ℕ). i < length numbers.now) places.now }
     requires numbers { All (λ (i : ℕ). i < length ranks.now) numbers.now }
-    requires order { IsStrictlySortedBy nat_cmp numbers.now }
-    ensures { IfOk result (λ v. v.items ≡ first_ones ranks.now numbers.now) }
+    ensures { IfOk result (λ v. v.items ≡ first_ones ranks.now (numbers_at numbers.now places.now)) }
 {
-    let all = with_ranks(alloc, ranks, numbers)?;
+    let all = ranked(alloc, ranks, numbers, places)?;
     let pairs = distinct_pairs(all)?;
     let firsts = first_of_each(pairs);
     let list = without_ranks(alloc, firsts.as_slice())?;
