@@ -6,6 +6,8 @@ mod counting;
 mod entries;
 mod rule;
 mod summarize;
+mod sums;
 
 pub use rule::GroupTally;
 pub use summarize::u_tally;
+pub use sums::{Column, Columns, SumRule};
