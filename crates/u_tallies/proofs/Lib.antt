@@ -1,0 +1,5 @@
+pub mod EntryLemmas
+pub mod CountLemmas
+pub mod CellTallies
+pub mod SumLemmas
+pub mod PickedLemmas

@@ -1,0 +1,4 @@
+pub mod Picked
+pub mod Counts
+pub mod Entries
+pub mod Sums

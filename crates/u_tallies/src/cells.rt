@@ -1,0 +1,51 @@
+// What a rule gives of groups at cells of one side.
+ghost use Rattle.std.specs.Prelude.{◌≡◌, ◌↔◌, ℕ, List, length, IfOk};
+ghost use Rattle.std.specs.List.{All};
+ghost use Rattle.packing_core.specs.Covering.{Among};
+ghost use Rattle.value_core.specs.Values.{Row as PlainRow};
+ghost use Rattle.slice_core.specs.LeastFault.{IsLeast};
+ghost use Rattle.slice_core.specs.PackedRows.{HasRow};
+ghost use Rattle.box_core.specs.Common.{EndsBy};
+ghost use Rattle.box_core.specs.Rows.{KeyBox};
+ghost use Rattle.u_groups.specs.Asked.{InCellGroup, HasCellFault};
+ghost use Rattle.u_groups.specs.Groups.{labels_in};
+
+use crate::counting::Counting;
+use crate::entries::entries;
+use crate::rule::GroupTally;
+use box_core::{keys_in_order, tallied};
+use point_core::{Fault, Memory};
+use slice_core::Key;
+use std::alloc::Global;
+use value_core::Row;
+
+/// What the rule gives of the groups at cells, in boxes, and its least fault. A group is of the rows whose labels have the same values
+/// at the positions; of those with one label only the first is in it. There is one side.
+pub(crate) fn given_at_cells<G: GroupTally>(
+    alloc: Global,
+    sides: usize,
+    rows: &[Key<Row>],
+    by: &[usize],
+    rule: &G,
+) -> Result<(Vec<Key<Row>>, Option<Fault>), Memory>
+    requires one { sides ≡ 1 }
+    requires sides { All (λ x. length x.1 ≡ sides) rows.now }
+    requires takes { G.Takes rule.now (length rows.now) }
+    requires fits { G.Fits rule.now by.now (labels_in rows.now) }
+    ensures places { IfOk result (λ v. (l : PlainRow) (place : List ℕ) → length place ≡ sides →
+        HasRow v.0.items l place ↔ InCellGroup (G.means rule.now) by.now rows.now l place) }
+    ensures lengths { IfOk result (λ v. All (λ x. length x.1 ≡ sides) v.0.items) }
+    ensures ends { IfOk result (λ v. (z : KeyBox PlainRow) → Among z v.0.items → (x : KeyBox PlainRow) × Among x rows.now × EndsBy x.1 z.1) }
+    ensures least { IfOk result (λ v. IsLeast (HasCellFault sides (G.means rule.now) by.now rows.now) v.1) }
+{
+    let list = entries(alloc, rows, by)?;
+    let (keys, numbers) = keys_in_order(alloc, list)?;
+    let tally = Counting {
+        rule,
+        numbers,
+        rows: rows.len(),
+    };
+    let mut least = None;
+    let out = tallied(alloc, keys.as_slice(), &tally, &mut least)?;
+    Ok((out, least))
+}
