@@ -30,8 +30,8 @@ use Rattle.cell_core.specs.Cells.{rows_from, keys_from}
 use Rattle.cell_core.proofs.Calls.{are_rows}
 use Rattle.u_groups.specs.Asked.{HasCells, InCellGroup, HasCellFault}
 use Rattle.u_groups.specs.Groups.{AreFirsts, OfFirsts, labels_in, sides_in}
-use Rattle.u_groups.proofs.AskedLemmas.{in_among}
-use Rattle.u_groups.proofs.CellGroups.{get_in, least_alone}
+use Rattle.u_groups.proofs.AskedLemmas.{get_in, in_among}
+use Rattle.u_groups.proofs.CellGroups.{least_alone}
 use Rattle.u_tallies.specs.Counts.{weigh, any, image, counted_means}
 use Rattle.u_tallies.specs.Entries.{row_at, AreKeyed}
 use Rattle.u_tallies.specs.Picked.{ArePicked}
