@@ -7,3 +7,4 @@ pub mod FirstLemmas
 pub mod PlaceGroups
 pub mod SummaryLemmas
 pub mod CallLemmas
+pub mod SumGroups
