@@ -8,3 +8,4 @@ pub mod PlaceGroups
 pub mod SummaryLemmas
 pub mod CallLemmas
 pub mod SumGroups
+pub mod ColumnLemmas

@@ -1,6 +1,7 @@
 -- The aggregates of a group by the sums of columns over marks that stand for the labels of its rows.
 --     aggregates_by_sums      they are the same
-use Rattle.std.proofs.Common.{◌≡◌, ℕ, zero, suc, ◌+◌, ◌^◌, ◌<◌, ◌≤◌, ℤ, pos, ◌+ℤ◌, Bool, true, false, if◌then◌else◌, List, [], ◌∷◌, map, length, get_or, Ok, Err, inl, inr, refl, sym, ap, ap₂, ◌∙◌, subst, arith}
+--     label_by_sums      and so is the label
+use Rattle.std.proofs.Common.{◌≡◌, ◌≢◌, ℕ, zero, suc, ◌+◌, ◌^◌, ◌<◌, ◌≤◌, ℤ, pos, ◌+ℤ◌, Bool, true, false, if◌then◌else◌, List, [], ◌∷◌, ◌++◌, map, length, get_or, Ok, Err, inl, inr, refl, sym, ap, ap₂, ◌∙◌, subst, arith}
 use Rattle.std.proofs.lemmas.Int.{ints}
 use Rattle.std.proofs.lemmas.List.{length-map}
 use Rattle.base_core.specs.Outcomes.{then_give, both, first_of_all, least_of_all, with_lesser}
@@ -19,6 +20,8 @@ use Rattle.slice_core.proofs.Turns.{all_below}
 use Rattle.scalar_core.specs.Expressions.{Expr}
 use Rattle.scalar_core.specs.Operations.{integer, number_of}
 use Rattle.scalar_core.specs.ScalarValues.{value}
+use Rattle.relation_core.specs.Agreement.{part_of}
+use Rattle.u_set.specs.Boxes.{others}
 use Rattle.relation_core.specs.Groups.{rows_at}
 use Rattle.tree_core.specs.Trees.{PlainAggregateForm, count_rows, sum_of, min_of, max_of, PlainAggregate}
 use Rattle.u_summary.specs.Summaries.{total}
@@ -27,7 +30,8 @@ use Rattle.box_core.specs.Totals.{sum_of as sum_marked}
 use Rattle.u_tallies.specs.Picked.{ArePicked}
 use Rattle.u_tallies.specs.Sums.{sums_of}
 use Rattle.u_tallies.proofs.PickedLemmas.{over, picked_sum}
-use Rattle.using_groups.specs.Columns.{HasNumbers, IsColumn, AreColumns, sum_values}
+use Rattle.using_groups.specs.Columns.{HasNumbers, IsColumn, AreColumns, sum_values, sums_label, AreSummable}
+use Rattle.using_groups.specs.Labels.{group_label}
 use Rattle.using_groups.proofs.OrderLemmas.{weights, total_is}
 
 module _ (rows : List Row) where
@@ -101,3 +105,40 @@ module _ (rows : List Row) where
         ap₂ (λ (m : OrFault Value) (ms : OrFault (List Value)). both m ms (λ v vs. Ok (v ∷ vs)))
         (one_value g.place g.form c h.1 (by_sum c h.0 (alike c (inl refl))))
         (aggregates_by_sums gs cs h.2 (λ d m. alike d (inr m)))
+
+-- ---- the label of a group
+
+made_long : (aggregates : List PlainAggregate) (zs : List ℤ) (made : List Value) → length zs ≡ length aggregates → sum_values aggregates zs ≡ Ok made → length made ≡ length aggregates
+made_long [] zs made n e = let q : [] ≡ made = cc in ap length (sym q)
+made_long (g ∷ gs) [] made n e = absurd (omega (arith, n))
+made_long (g ∷ gs) (z ∷ zs) made n e = go (integer g.place z) (sum_values gs zs) (λ ws q. made_long gs zs ws (omega (arith, n)) q) e
+  where
+    go : (m : OrFault Value) (ms : OrFault (List Value)) → ((ws : List Value) → ms ≡ Ok ws → length ws ≡ length gs) → both m ms (λ v vs. Ok (v ∷ vs)) ≡ Ok made → length made ≡ suc (length gs)
+    go (Ok v) (Ok vs) h q = let w : v ∷ vs ≡ made = cc in ap length (sym w) ∙ ap suc (h vs refl)
+    go (Ok v) (Err d) h q = absurd cc
+    go (Err c) ms h q = absurd cc
+
+long_columns : (rows : List Row) (aggregates : List PlainAggregate) (cs : List (List ℤ)) → AreColumns rows aggregates cs → length cs ≡ length aggregates
+long_columns rows [] [] h = refl
+long_columns rows [] (c ∷ cs) h = absurd h
+long_columns rows (g ∷ gs) [] h = absurd h
+long_columns rows (g ∷ gs) (c ∷ cs) h = ap suc (long_columns rows gs cs h.2)
+
+-- what a group gives is what its sums give
+pub label_by_sums : (spots to at by : List ℕ) (aggregates : List PlainAggregate) (rows labels : List Row) (cs : List (List ℤ)) → AreSummable spots to at by aggregates rows labels cs
+    → (key : Row) (a : List ℕ) (f : List Bool) → a ≢ [] → ArePicked by labels key a f → group_label to at aggregates rows a ≡ sums_label spots aggregates key (sums_of cs f)
+label_by_sums spots to at by aggregates rows labels cs is key [] f n p = absurd (n refl)
+label_by_sums spots to at by aggregates rows labels cs is key (r ∷ rs) f n p =
+    let e = aggregates_by_sums rows by labels key (r ∷ rs) f p is.count is.few aggregates cs is.columns
+        (λ c m x y lx ly q. is.alike c m x y (subst (λ k. x < k) is.count lx) (subst (λ k. y < k) is.count ly) q) in
+    ap (λ (m : OrFault (List Value)). then_give (then_give m (λ made. Ok (part_of at (made ++ get_or rows r [])))) (λ row. Ok (others to row))) e
+    ∙ go (sum_values aggregates (sums_of cs f)) (λ made q. made_long aggregates (sums_of cs f) made (length-map cs (λ c. sum_marked c f) ∙ long_columns rows aggregates cs is.columns) q)
+  where
+    inside : r < length rows
+    inside = low rows by labels key (r ∷ rs) f p is.count is.few r (inl refl)
+
+    go : (m : OrFault (List Value)) → ((made : List Value) → m ≡ Ok made → length made ≡ length aggregates)
+        → then_give (then_give m (λ made. Ok (part_of at (made ++ get_or rows r [])))) (λ row. Ok (others to row)) ≡ then_give m (λ made. Ok (part_of spots (made ++ key)))
+    go (Ok made) h =
+        ap (λ (x : Row). Ok x) (is.places made r (h made refl) inside ∙ ap (λ k. part_of spots (made ++ k)) (p.part r (inl refl)))
+    go (Err d) h = refl
