@@ -9,3 +9,4 @@ pub mod SummaryLemmas
 pub mod CallLemmas
 pub mod SumGroups
 pub mod ColumnLemmas
+pub mod AlikeColumns
