@@ -1,12 +1,9 @@
 -- Rows of one label have the same values in columns of expressions that name no listed attribute.
-use Rattle.std.proofs.Common.{◌≡◌, inl, inr, ℕ, ◌<◌, ℤ, pos, false, List, [], ◌∷◌, map, length, get_or, Ok, arith, refl, sym, ap, ◌∙◌, subst}
+use Rattle.std.proofs.Common.{◌≡◌, inl, inr, ℕ, ◌<◌, ℤ, pos, false, List, [], ◌∷◌, map, length, get_or, Ok, sym, ap, ◌∙◌, subst}
 use Rattle.std.specs.Bool.{IsTrue}
 use Rattle.std.specs.List.{list_all}
 use Rattle.std.proofs.lemmas.Bool.{and_parts}
 use Rattle.std.proofs.lemmas.List.{length-map}
-use Rattle.packing_core.specs.Covering.{Among}
-use Rattle.packing_core.proofs.Numbered.{other_default}
-use Rattle.point_core.specs.Faults.{OrFault}
 use Rattle.value_core.specs.Attributes.{value_at, among}
 use Rattle.value_core.specs.Values.{Value, truth, Row}
 use Rattle.scalar_core.specs.Expressions.{Expr}
@@ -20,7 +17,7 @@ use Rattle.u_set.proofs.BoxLemmas.{value_at-get}
 use Rattle.u_row.specs.Kept.{place_in_label}
 use Rattle.u_row.proofs.LabelLemmas.{value_in_label}
 use Rattle.u_groups.proofs.CellGroups.{get_in}
-use Rattle.using_groups.specs.Columns.{HasNumbers, IsColumn, AreColumns, AreAlike}
+use Rattle.using_groups.specs.Columns.{IsColumn, AreColumns, AreAlike}
 use Rattle.using_groups.proofs.AggregateLemmas.{unnamed, is_not}
 
 module _ (acl : List ℕ) (rows : List Row) where

@@ -1,11 +1,11 @@
 -- Columns of values, one row and one aggregate after the other.
-use Rattle.std.proofs.Common.{◌≡◌, inl, inr, ℕ, zero, suc, ◌+◌, ◌<◌, ◌≤◌, ℤ, pos, List, [], ◌∷◌, ◌++◌, map, take, length, get_or, arith, refl, sym, ap, ◌∙◌, subst}
+use Rattle.std.proofs.Common.{◌≡◌, inl, inr, ℕ, zero, suc, ◌+◌, ◌<◌, ℤ, pos, List, [], ◌∷◌, ◌++◌, map, take, length, get_or, arith, refl, sym, ap, ◌∙◌, subst}
 use Rattle.std.proofs.lemmas.Bool.{cases_lt}
 use Rattle.value_core.specs.Values.{Row}
 use Rattle.scalar_core.specs.Expressions.{Expr}
-use Rattle.tree_core.specs.Trees.{PlainAggregate, read_aggregate, read_aggregate_form}
+use Rattle.tree_core.specs.Trees.{read_aggregate, read_aggregate_form}
 use Rattle.tree_core.specs.declared.tree.Aggregate.{Aggregate}
-use Rattle.using_groups.specs.Columns.{HasNumber, HasNumbers, IsColumn, AreColumns}
+use Rattle.using_groups.specs.Columns.{HasNumber, IsColumn, AreColumns}
 
 abbrev pub HasNumbersBelow : ℕ → List Row → Expr → List ℤ → Type 0
 HasNumbersBelow n rows e column = (r : ℕ) → r < n → HasNumber (get_or rows r []) e (get_or column r (pos 0))

@@ -10,3 +10,4 @@ pub mod CallLemmas
 pub mod SumGroups
 pub mod ColumnLemmas
 pub mod AlikeColumns
+pub mod SumValueLemmas

@@ -1,10 +1,10 @@
 -- The aggregates of a group by the sums of columns over marks that stand for the labels of its rows.
 --     aggregates_by_sums      they are the same
 --     label_by_sums      and so is the label
-use Rattle.std.proofs.Common.{◌≡◌, ◌≢◌, ℕ, zero, suc, ◌+◌, ◌^◌, ◌<◌, ◌≤◌, ℤ, pos, ◌+ℤ◌, Bool, true, false, if◌then◌else◌, List, [], ◌∷◌, ◌++◌, map, length, get_or, Ok, Err, inl, inr, refl, sym, ap, ap₂, ◌∙◌, subst, arith}
+use Rattle.std.proofs.Common.{◌≡◌, ◌≢◌, ℕ, suc, ◌+◌, ◌^◌, ◌<◌, ◌≤◌, ℤ, pos, ◌+ℤ◌, Bool, true, if◌then◌else◌, List, [], ◌∷◌, ◌++◌, map, length, get_or, Ok, Err, inl, inr, refl, sym, ap, ap₂, ◌∙◌, subst, arith}
 use Rattle.std.proofs.lemmas.Int.{ints}
 use Rattle.std.proofs.lemmas.List.{length-map}
-use Rattle.base_core.specs.Outcomes.{then_give, both, first_of_all, least_of_all, with_lesser}
+use Rattle.base_core.specs.Outcomes.{then_give, both, with_lesser}
 use Rattle.point_core.specs.Faults.{OrFault, fault}
 use Rattle.point_core.specs.declared.any_type.AnyType.TheVariants.{Integer}
 use Rattle.point_core.specs.declared.fault.Code.TheVariants.{E30}
@@ -19,7 +19,6 @@ use Rattle.slice_core.specs.Rows.{AreRows}
 use Rattle.slice_core.proofs.Turns.{all_below}
 use Rattle.scalar_core.specs.Expressions.{Expr}
 use Rattle.scalar_core.specs.Operations.{integer, number_of}
-use Rattle.scalar_core.specs.ScalarValues.{value}
 use Rattle.relation_core.specs.Agreement.{part_of}
 use Rattle.u_set.specs.Boxes.{others}
 use Rattle.relation_core.specs.Groups.{rows_at}
@@ -130,7 +129,7 @@ pub label_by_sums : (spots to at by : List ℕ) (aggregates : List PlainAggregat
 label_by_sums spots to at by aggregates rows labels cs is key [] f n p = absurd (n refl)
 label_by_sums spots to at by aggregates rows labels cs is key (r ∷ rs) f n p =
     let e = aggregates_by_sums rows by labels key (r ∷ rs) f p is.count is.few aggregates cs is.columns
-        (λ c m x y lx ly q. is.alike c m x y (subst (λ k. x < k) is.count lx) (subst (λ k. y < k) is.count ly) q) in
+    (λ c m x y lx ly q. is.alike c m x y (subst (λ k. x < k) is.count lx) (subst (λ k. y < k) is.count ly) q) in
     ap (λ (m : OrFault (List Value)). then_give (then_give m (λ made. Ok (part_of at (made ++ get_or rows r [])))) (λ row. Ok (others to row))) e
     ∙ go (sum_values aggregates (sums_of cs f)) (λ made q. made_long aggregates (sums_of cs f) made (length-map cs (λ c. sum_marked c f) ∙ long_columns rows aggregates cs is.columns) q)
   where

@@ -6,6 +6,7 @@ mod columns;
 mod listing;
 mod rule;
 mod summary;
+mod sums;
 mod telling;
 
 pub use summary::using_summary;

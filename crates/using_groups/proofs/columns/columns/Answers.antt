@@ -1,4 +1,4 @@
-use Rattle.std.proofs.Common.{◌≡◌, ℤ, List, ◌<◌, ◌≤◌, [], length, map, take, arith, sym, ap, ◌∙◌, subst}
+use Rattle.std.proofs.Common.{◌≡◌, ◌<◌, length, map, arith, subst}
 use Rattle.std.specs.Option.{IfSome}
 use Rattle.relation_core.proofs.FilterLemmas.{take_all}
 use Rattle.tree_core.specs.Trees.{read_aggregate, read_aggregate_form}

@@ -1,4 +1,4 @@
-use Rattle.std.proofs.Common.{◌≡◌, ℤ, ◌<◌, ◌≤◌, ◌+◌, [], length, arith, sym, ◌∙◌, subst, rules}
+use Rattle.std.proofs.Common.{ℤ, ◌<◌, [], length, arith, sym, ◌∙◌, subst, rules}
 use Rattle.std.specs.Int.{w64}
 use Rattle.std.specs.Option.{IfSome}
 use Rattle.std.proofs.lemmas.Int.{to_z-of_z}
