@@ -24,6 +24,10 @@ ALIKE = {
     'within': 'ASK USING (D): R <= S;\n',
     'less': 'ASK USING (D): R < S;\n',
     'where': COUNTED % 'USING (D): R WHERE BEGIN(D) <> ROWS',
+    'extend': COUNTED % 'USING (D): EXTEND R : {C := 1, E := BEGIN(D) < ROWS}',
+    'counts': COUNTED % 'USING (D): SUMMARIZE R BY {D} : {M := COUNT(), T := SUM(C)}',
+    'counts_by_key': COUNTED % 'USING (D): SUMMARIZE R BY {K, D} : {M := COUNT(), T := SUM(C)}',
+    'extremes': COUNTED % 'USING (D): SUMMARIZE R BY {D} : {L := MIN(C), G := MAX(C)}',
 }
 OTHER = {
     'join': COUNTED % 'USING (D): R JOIN S',

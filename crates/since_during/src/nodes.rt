@@ -2,7 +2,7 @@
 ghost use Rattle.std.specs.Prelude.{◌≡◌, [], ◌∷◌, IfOk, option_map};
 ghost use Rattle.interval_core.specs.declared.selector.Ends.TheVariants.{Closed as ClosedEnds};
 ghost use Rattle.scalar_core.specs.declared.operators.PairOp.TheVariants.{Select as SelectOp};
-ghost use Rattle.scalar_core.specs.Expressions.{attribute, pair, read, read_left, read_right};
+ghost use Rattle.scalar_core.specs.Expressions.{attribute, pair, read};
 ghost use Rattle.tree_core.specs.Trees.{infix_of, named, project, read_form, read_sets, read_tree, restrict, extend, using as using_of};
 ghost use Rattle.update_core.specs.Updates.{condition_of, negated};
 
@@ -133,16 +133,6 @@ pub(crate) fn using(
     )?)
 }
 
-/// Two parts.
-fn parts(alloc: Global, left: Scalar, right: Scalar) -> Result<Parts, Memory>
-    ensures left { IfOk result (λ p. read_left p ≡ read left) }
-    ensures right { IfOk result (λ p. read_right p ≡ read right) }
-{
-    let left = Box::new(alloc, left)?;
-    let right = Box::new(alloc, right)?;
-    Ok(Parts { left, right })
-}
-
 /// The interval from the point of an attribute up to another, both ends in it.
 pub(crate) fn interval(
     alloc: Global,
@@ -153,14 +143,15 @@ pub(crate) fn interval(
 ) -> Result<Scalar, Memory>
     ensures { IfOk result (λ e. read e ≡ pair (SelectOp ClosedEnds over) place (attribute place from) (read to)) }
 {
+    let right = Box::new(alloc, to)?;
     let begin = Scalar {
         place,
         form: ScalarForm::Attribute(from),
     };
-    let parts = parts(alloc, begin, to)?;
+    let left = Box::new(alloc, begin)?;
     Ok(Scalar {
         place,
-        form: ScalarForm::Select(Ends::Closed, over, parts),
+        form: ScalarForm::Select(Ends::Closed, over, Parts { left, right }),
     })
 }
 
@@ -169,7 +160,7 @@ pub(crate) fn condition(alloc: Global, place: Place, c: &Option<Scalar>) -> Resu
     ensures { IfOk result (λ e. read e ≡ condition_of place (option_map read c.now)) }
 {
     match c {
-        Some(c) => Ok(c.copy(alloc)?),
+        Some(c) => c.copy(alloc),
         None => Ok(Scalar {
             place,
             form: ScalarForm::Constant(Kind::Truth, Value::Truth(true)),

@@ -1,5 +1,5 @@
 -- What a rule is asked at cells: the numbers in order, and the first of each label.
-use Rattle.std.proofs.Common.{◌≡◌, ◌↔◌, ◌<◌, List, [], ◌∷◌, map, length, get_or, inl, inr, arith, sym, ◌∙◌}
+use Rattle.std.proofs.Common.{◌≡◌, ◌↔◌, zero, suc, ◌<◌, refl, List, [], ◌∷◌, map, length, get_or, inl, inr, arith, sym, ◌∙◌}
 use Rattle.std.specs.Prelude.{ℕ, eqb}
 use Rattle.std.specs.List.{All}
 use Rattle.std.specs.List.Retain.{IsFiltered, DiffersFromLast}
@@ -12,11 +12,15 @@ use Rattle.packing_core.specs.Covering.{Among}
 use Rattle.packing_core.proofs.AmongLemmas.{among_map}
 use Rattle.packing_core.proofs.Numbered.{other_default}
 use Rattle.box_core.specs.Rows.{IsRow}
-use Rattle.box_core.proofs.CoveredLemmas.{all_from}
 use Rattle.box_core.proofs.RowLemmas.{among_row, row_all}
 use Rattle.u_groups.specs.Asked.{numbers_at}
 use Rattle.base_core.specs.Sets.{in_order}
 use Rattle.base_core.proofs.SetLemmas.{Separates, In, In-in_order, in_order_of_sorted}
+
+pub get_in : {X Y : Type 0} (f : X → Y) (xs : List X) (i : ℕ) (d : X) → get_or (map f xs) i (f d) ≡ f (get_or xs i d)
+get_in f [] i d = refl
+get_in f (x ∷ xs) zero d = refl
+get_in f (x ∷ xs) (suc i) d = get_in f xs i d
 
 pub nat_separates : Separates nat_cmp
 nat_separates x y e = grind (arith, nat_tests)
@@ -55,8 +59,3 @@ placed numbers a inside i m h e =
     let w = among_row a i h in
     let b : i < length numbers = row_all (λ (z : ℕ). z < length numbers) a inside w.0 i w.1 in
     (b, other_default numbers i m 0 b ∙ e)
-
-pub numbers_within : (numbers a : List ℕ) (n : ℕ) → All (λ (i : ℕ). i < length numbers) a → All (λ (i : ℕ). i < n) numbers → All (λ (i : ℕ). i < n) (numbers_at numbers a)
-numbers_within numbers a n inside all = all_from (λ (i : ℕ). i < n) (numbers_at numbers a) (λ m h.
-    let w = from_places numbers a m h in
-    row_all (λ (z : ℕ). z < n) numbers all w.0 m (placed numbers a inside w.0 m w.1 w.2))

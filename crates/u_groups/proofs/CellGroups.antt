@@ -3,16 +3,13 @@
 --     cell_places, cell_faults      what it gives at places of cells
 --     cell_ends      where that ends
 --     can_ask      it can be called on them
-use Rattle.std.proofs.Common.{◌≡◌, ◌≢◌, ◌↔◌, ◌⊎◌, inl, inr, ℕ, zero, suc, ◌+◌, ◌<◌, ◌≤◌, Bool, true, false, not, ◌&&◌, List, [], ◌∷◌, map, filter, length, get_or, Result, Ok, Err, Option, Some, None, arith, refl, sym, ap, ◌∙◌, subst}
-use Rattle.std.specs.Prelude.{ltb}
-use Rattle.std.specs.declared.cmp.Ordering.TheVariants.{Less}
+use Rattle.std.proofs.Common.{◌≡◌, ◌≢◌, ◌↔◌, ◌⊎◌, inl, inr, ℕ, zero, suc, ◌+◌, ◌<◌, ◌≤◌, Bool, true, not, ◌&&◌, List, [], ◌∷◌, map, filter, length, get_or, Result, Ok, Err, Option, Some, None, arith, refl, sym, ap, ◌∙◌, subst}
 use Rattle.std.specs.List.{All, list_any}
 use Rattle.std.specs.Ordering.{nat_cmp, eq_by_cmp}
-use Rattle.std.proofs.lemmas.Bool.{cases_lt, and_parts, and_from, true≢false}
-use Rattle.std.proofs.lemmas.Bool.Decides.{nat_tests}
+use Rattle.std.proofs.lemmas.Bool.{cases_lt, and_parts, and_from}
 use Rattle.std.proofs.lemmas.Cmp.{nat_cmp_total}
 use Rattle.std.proofs.lemmas.List.{length-map}
-use Rattle.base_core.proofs.MemberLemmas.{list_any-In, eq_by_cmp-≡}
+use Rattle.base_core.proofs.MemberLemmas.{eq_by_cmp-≡}
 use Rattle.base_core.proofs.SetLemmas.{Ascends, Ascends-in_order, in_after}
 use Rattle.value_core.specs.Order.{row_total, row_separates}
 use Rattle.value_core.specs.Values.{Row, row_cmp}
@@ -36,25 +33,12 @@ use Rattle.box_core.proofs.CoveredLemmas.{some_from, all_from}
 use Rattle.box_core.proofs.RowLemmas.{some_row, among_row, row_among, row_there}
 use Rattle.cell_core.specs.Cells.{rows_from}
 use Rattle.cell_core.proofs.Calls.{are_rows}
-use Rattle.u_groups.specs.Asked.{numbers_at, is_lower, first_ones, alone, asked, IsNumbered, HasCells, InCellGroup, HasCellFault}
+use Rattle.u_groups.specs.Asked.{numbers_at, AreRanks, is_lower, first_ones, alone, asked, IsNumbered, HasCells, InCellGroup, HasCellFault}
 use Rattle.u_groups.specs.Groups.{AreFirsts, OfFirsts, labels_in, sides_in}
-use Rattle.u_groups.proofs.AskedLemmas.{nat_separates, in_among, from_places, to_places, placed}
+use Rattle.u_groups.proofs.AskedLemmas.{nat_separates, get_in, in_among, from_places, to_places, placed}
+use Rattle.u_groups.proofs.FirstLemmas.{less_from, first_among}
 
 -- ---- lists
-
-pub get_in : {X Y : Type 0} (f : X → Y) (xs : List X) (i : ℕ) (d : X) → get_or (map f xs) i (f d) ≡ f (get_or xs i d)
-get_in f [] i d = refl
-get_in f (x ∷ xs) zero d = refl
-get_in f (x ∷ xs) (suc i) d = get_in f xs i d
-
-less_from : (x y : ℕ) → nat_cmp x y ≡ Less → x < y
-less_from x y e = grind (arith, nat_tests)
-
-below_from : (x y : ℕ) → ltb x y ≡ true → x < y
-below_from x y e = grind (arith, nat_tests)
-
-below_test : (x y : ℕ) → x < y → ltb x y ≡ true
-below_test x y l = grind (arith, nat_tests)
 
 order_rows : (n a : ℕ) (xs : List ℕ) → Ascends nat_cmp xs → ((x : ℕ) → Among x xs → (a ≤ x) × (x < n)) → AreRows a n xs
 order_rows n a [] up h = tt
@@ -78,51 +62,19 @@ among_from (suc n) a r =
       λ h. let k = h.0 in let l = h.1 in elim (cases_lt a r) [ inl w ↦ inr (ih.1 (omega (arith, w), omega (arith, l))) | inr w ↦ inl (omega (arith, k, w)) ],
     )
 
--- ---- tests of lists
+-- ---- the first of each rank
 
-none_any : (t : ℕ → Bool) (xs : List ℕ) → not (list_any t xs) ≡ true → (x : ℕ) → Among x xs → t x ≡ true → ⊥
-none_any t xs h x m e =
-    let a : list_any t xs ≡ true = (list_any-In t xs).1 (x, (in_among x xs).1 m, e) in
-    true≢false (sym h ∙ ap not a)
-
-any_none : (t : ℕ → Bool) (xs : List ℕ) → ((x : ℕ) → Among x xs → t x ≡ true → ⊥) → not (list_any t xs) ≡ true
-any_none t xs h =
-    elim (list_any t xs) as (λ b. list_any t xs ≡ b → not b ≡ true) [
-      | true ↦ λ e. let w = (list_any-In t xs).0 e in absurd (h w.0 ((in_among w.0 xs).0 w.1) w.2)
-      | false ↦ λ e. refl
-    ] refl
-
--- ---- the first of each label
-
-module _ (labels : List Row) where
-  lower_parts : (r s : ℕ) → is_lower labels r s ≡ true → (s < r) × (get_or labels s [] ≡ get_or labels r [])
-  lower_parts r s h =
-      let w = and_parts (ltb s r) (eq_by_cmp row_cmp (get_or labels s []) (get_or labels r [])) h in
-      (below_from s r w.0, (eq_by_cmp-≡ row_cmp row_total row_separates (get_or labels s []) (get_or labels r [])).0 w.1)
-
-  lower_from : (r s : ℕ) → s < r → get_or labels s [] ≡ get_or labels r [] → is_lower labels r s ≡ true
-  lower_from r s l e =
-      and_from (ltb s r) (eq_by_cmp row_cmp (get_or labels s []) (get_or labels r [])) (below_test s r l)
-      ((eq_by_cmp-≡ row_cmp row_total row_separates (get_or labels s []) (get_or labels r [])).1 e)
-
-  first_among : (r : ℕ) (b : List ℕ) → Among r (first_ones labels b) ↔ (Among r b × ((s : ℕ) → Among s b → s < r → get_or labels s [] ≡ get_or labels r [] → ⊥))
-  first_among r b =
-      let f = among_filter (λ q. not (list_any (is_lower labels q) b)) r b in (
-        λ h. let w = f.0 h in (w.0, λ s m l e. none_any (is_lower labels r) b w.1 s m (lower_from r s l e)),
-        λ h. f.1 (h.0, any_none (is_lower labels r) b (λ s m t. let v = lower_parts r s t in h.1 s m v.0 v.1)),
-      )
-
-  first_some : (b : List ℕ) → b ≢ [] → Ascends nat_cmp b → first_ones labels b ≢ []
-  first_some [] n up = absurd (n refl)
-  first_some (x ∷ xs) n up = λ e.
-      let m : Among x (first_ones labels (x ∷ xs)) = (first_among x (x ∷ xs)).1 (
-        inl refl,
-        λ s m l q. elim m [
-          | inl i ↦ absurd (omega (arith, i, l))
-          | inr w ↦ let k : x < s = less_from x s (in_after nat_cmp nat_cmp_total nat_separates x s xs up.0 ((in_among s xs).1 w)) in absurd (omega (arith, k, l))
-        ],
-      ) in
-      subst (Among x) e m
+first_some : (ranks b : List ℕ) → b ≢ [] → Ascends nat_cmp b → first_ones ranks b ≢ []
+first_some ranks [] n up = absurd (n refl)
+first_some ranks (x ∷ xs) n up = λ e.
+    let m : Among x (first_ones ranks (x ∷ xs)) = (first_among ranks x (x ∷ xs)).1 (
+      inl refl,
+      λ s m l q. elim m [
+        | inl i ↦ absurd (omega (arith, i, l))
+        | inr w ↦ let k : x < s = less_from x s (in_after nat_cmp nat_cmp_total nat_separates x s xs up.0 ((in_among s xs).1 w)) in absurd (omega (arith, k, l))
+      ],
+    ) in
+    subst (Among x) e m
 
 -- one part has one group at a place
 first_one : (by : List ℕ) (labels : List Row) (H : ℕ → Type 0) (key : Row) (a c : List ℕ) → AreFirsts by labels H key a → AreFirsts by labels H key c → a ≡ c
@@ -151,7 +103,7 @@ alone_fault (Err d) e = (λ q. ap Err (ap (err_or d) q), λ q. ap Err (ap (err_o
 -- ---- rows by their keys
 
 module _ (by : List ℕ) (rows : List (KeyBox Row)) (entries : List (KeyedBox Row ℕ)) (are : (z : KeyedBox Row ℕ) → Among z entries ↔ IsNumbered by rows z)
-    (keys : List (KeyBox Row)) (numbers : List ℕ) (paired : ArePaired entries keys numbers) where
+    (keys : List (KeyBox Row)) (numbers : List ℕ) (paired : ArePaired entries keys numbers) (ranks : List ℕ) (ranking : AreRanks (labels_in rows) ranks) where
   abbrev none : KeyBox Row
   none = ([], [])
 
@@ -193,22 +145,25 @@ module _ (by : List ℕ) (rows : List (KeyBox Row)) (entries : List (KeyedBox Ro
   numbers_up : (a : List ℕ) → Ascends nat_cmp (numbers_at numbers a)
   numbers_up a = Ascends-in_order nat_cmp nat_cmp_total nat_separates (map at a)
 
-  pub firsts_of : (key : Row) (place a : List ℕ) → IsGroup keys key place a → AreFirsts by labels (HasCells rows place) key (first_ones labels (numbers_at numbers a))
+  pub firsts_of : (key : Row) (place a : List ℕ) → IsGroup keys key place a → AreFirsts by labels (HasCells rows place) key (first_ones ranks (numbers_at numbers a))
   firsts_of key place a g =
       let b = numbers_at numbers a in
       let is = numbered_at key place a g in
       let count = many in
       record {
-        order = AreRows-filter (λ r. not (list_any (is_lower labels r) b)) 0 (length labels) b (order_rows (length labels) 0 b (numbers_up a) (λ n m. let l = ((is n).0 m).0 in (omega arith, omega (arith, l, count))));
+        order = AreRows-filter (λ r. not (list_any (is_lower ranks r) b)) 0 (length labels) b (order_rows (length labels) 0 b (numbers_up a) (λ n m. let l = ((is n).0 m).0 in (omega arith, omega (arith, l, count))));
         members = λ r. (
           λ h.
-              let w = (first_among labels r b).0 h in
+              let w = (first_among ranks r b).0 h in
               let v = (is r).0 w.0 in
               let l = v.0 in
-              ((omega (arith, l, count), v.2, λ s k has e. w.1 s ((is s).1 (omega (arith, l, k), ap (part_of by) e ∙ v.1, has)) k e), v.1),
+              let long : r < length labels = omega (arith, l, count) in (
+                (long, v.2, λ s k has e. w.1 s ((is s).1 (omega (arith, l, k), ap (part_of by) e ∙ v.1, has)) k ((ranking.alike s r (omega (arith, long, k)) long).1 e)),
+                v.1,
+              ),
           λ h.
               let l = (h.0).0 in
-              (first_among labels r b).1 ((is r).1 (omega (arith, l, count), h.1, (h.0).1), λ s m k e. (h.0).2 s k ((is s).0 m).2 e),
+              (first_among ranks r b).1 ((is r).1 (omega (arith, l, count), h.1, (h.0).1), λ s m k e. (h.0).2 s k ((is s).0 m).2 ((ranking.alike s r (omega (arith, l, k)) l).0 e)),
         );
       }
 
@@ -217,8 +172,8 @@ module _ (by : List ℕ) (rows : List (KeyBox Row)) (entries : List (KeyedBox Ro
       let w = some_from a n in
       subst (Among (at w.0)) e (to_places numbers a (at w.0) w.0 w.1 refl)
 
-  some_firsts : (a : List ℕ) → a ≢ [] → first_ones labels (numbers_at numbers a) ≢ []
-  some_firsts a n = first_some labels (numbers_at numbers a) (some_numbers a n) (numbers_up a)
+  some_firsts : (a : List ℕ) → a ≢ [] → first_ones ranks (numbers_at numbers a) ≢ []
+  some_firsts a n = first_some ranks (numbers_at numbers a) (some_numbers a n) (numbers_up a)
 
   -- each key has a group at each place, which may be empty
   group_there : (key : Row) (place : List ℕ) → (a : List ℕ) × IsGroup keys key place a
@@ -252,33 +207,33 @@ module _ (by : List ℕ) (rows : List (KeyBox Row)) (entries : List (KeyedBox Ro
       t : ℕ → Bool
       t i = eq_by_cmp row_cmp (get_or keys i none).0 key && has_place (get_or keys i none).1 place
 
-  of_groups : (W V : List ℕ → Type 0) → ((a : List ℕ) → a ≢ [] → W a ↔ V (first_ones labels (numbers_at numbers a))) → (place : List ℕ) → OfGroup W keys place ↔ OfFirsts by labels (HasCells rows place) V
+  of_groups : (W V : List ℕ → Type 0) → ((a : List ℕ) → a ≢ [] → W a ↔ V (first_ones ranks (numbers_at numbers a))) → (place : List ℕ) → OfGroup W keys place ↔ OfFirsts by labels (HasCells rows place) V
   of_groups W V same place = (
-    λ h. (h.0, first_ones labels (numbers_at numbers h.1), firsts_of h.0 place h.1 h.2, some_firsts h.1 h.3, (same h.1 h.3).0 h.4),
+    λ h. (h.0, first_ones ranks (numbers_at numbers h.1), firsts_of h.0 place h.1 h.2, some_firsts h.1 h.3, (same h.1 h.3).0 h.4),
     λ h.
         let t = group_there h.0 place in
-        let e : first_ones labels (numbers_at numbers t.0) ≡ h.1 = first_one by labels (HasCells rows place) h.0 _ h.1 (firsts_of h.0 place t.0 t.1) h.2 in
-        let n : t.0 ≢ [] = λ q. h.3 (sym e ∙ ap (λ a. first_ones labels (numbers_at numbers a)) q) in
+        let e : first_ones ranks (numbers_at numbers t.0) ≡ h.1 = first_one by labels (HasCells rows place) h.0 _ h.1 (firsts_of h.0 place t.0 t.1) h.2 in
+        let n : t.0 ≢ [] = λ q. h.3 (sym e ∙ ap (λ a. first_ones ranks (numbers_at numbers a)) q) in
         (h.0, t.0, t.1, n, (same t.0 n).1 (subst V (sym e) h.4)),
   )
 
-  asked_gives : {F : Type 0} (f : List ℕ → Result Row F) (l : Row) (a : List ℕ) → a ≢ [] → Gives (asked f labels numbers a) l ↔ (f (first_ones labels (numbers_at numbers a)) ≡ Ok l)
+  asked_gives : {F : Type 0} (f : List ℕ → Result Row F) (l : Row) (a : List ℕ) → a ≢ [] → Gives (asked f ranks numbers a) l ↔ (f (first_ones ranks (numbers_at numbers a)) ≡ Ok l)
   asked_gives f l [] n = absurd (n refl)
-  asked_gives f l (i ∷ is) n = alone_gives (f (first_ones labels (numbers_at numbers (i ∷ is)))) l
+  asked_gives f l (i ∷ is) n = alone_gives (f (first_ones ranks (numbers_at numbers (i ∷ is)))) l
 
-  asked_fault : {F : Type 0} (f : List ℕ → Result Row F) (e : F) (a : List ℕ) → a ≢ [] → (asked f labels numbers a ≡ Err e) ↔ (f (first_ones labels (numbers_at numbers a)) ≡ Err e)
+  asked_fault : {F : Type 0} (f : List ℕ → Result Row F) (e : F) (a : List ℕ) → a ≢ [] → (asked f ranks numbers a ≡ Err e) ↔ (f (first_ones ranks (numbers_at numbers a)) ≡ Err e)
   asked_fault f e [] n = absurd (n refl)
-  asked_fault f e (i ∷ is) n = alone_fault (f (first_ones labels (numbers_at numbers (i ∷ is)))) e
+  asked_fault f e (i ∷ is) n = alone_fault (f (first_ones ranks (numbers_at numbers (i ∷ is)))) e
 
   -- ---- what the rule gives
 
-  pub cell_places : {F : Type 0} (f : List ℕ → Result Row F) (l : Row) (place : List ℕ) → IsGrouped (λ a b. asked f labels numbers a) keys l place ↔ InCellGroup f by rows l place
-  cell_places f l place = of_groups (λ a. Gives (asked f labels numbers a) l) (λ a. f a ≡ Ok l) (asked_gives f l) place
+  pub cell_places : {F : Type 0} (f : List ℕ → Result Row F) (l : Row) (place : List ℕ) → IsGrouped (λ a b. asked f ranks numbers a) keys l place ↔ InCellGroup f by rows l place
+  cell_places f l place = of_groups (λ a. Gives (asked f ranks numbers a) l) (λ a. f a ≡ Ok l) (asked_gives f l) place
 
-  pub cell_faults : {F : Type 0} (k : ℕ) (f : List ℕ → Result Row F) (e : F) → IsGroupFault k (λ a b. asked f labels numbers a) keys e ↔ HasCellFault k f by rows e
+  pub cell_faults : {F : Type 0} (k : ℕ) (f : List ℕ → Result Row F) (e : F) → IsGroupFault k (λ a b. asked f ranks numbers a) keys e ↔ HasCellFault k f by rows e
   cell_faults k f e = (
-    λ h. (h.0, h.1, (of_groups (λ a. asked f labels numbers a ≡ Err e) (λ a. f a ≡ Err e) (asked_fault f e) h.0).0 h.2),
-    λ h. (h.0, h.1, (of_groups (λ a. asked f labels numbers a ≡ Err e) (λ a. f a ≡ Err e) (asked_fault f e) h.0).1 h.2),
+    λ h. (h.0, h.1, (of_groups (λ a. asked f ranks numbers a ≡ Err e) (λ a. f a ≡ Err e) (asked_fault f e) h.0).0 h.2),
+    λ h. (h.0, h.1, (of_groups (λ a. asked f ranks numbers a ≡ Err e) (λ a. f a ≡ Err e) (asked_fault f e) h.0).1 h.2),
   )
 
   -- ---- and it can be called
@@ -291,16 +246,16 @@ module _ (by : List ℕ) (rows : List (KeyBox Row)) (entries : List (KeyedBox Ro
       ((are ((x.0).0, n, (x.0).1)).0 (paired.from i x.0 n x.1 h)).0
 
   pub can_ask : (C : List ℕ → Type 0) → ((a : List ℕ) → a ≢ [] → AreRows 0 (length rows) a → C a) → (a : List ℕ) → AreRows 0 (length keys) a
-      → (a ≢ [] → C (first_ones labels (numbers_at numbers a))) × All (λ (i : ℕ). i < length numbers) a × All (λ (i : ℕ). i < length rows) numbers
+      → (a ≢ [] → C (first_ones ranks (numbers_at numbers a))) × All (λ (i : ℕ). i < length numbers) a × All (λ (i : ℕ). i < length ranks) numbers
   can_ask C can a r =
       let c = paired.count in
       let inside : All (λ (i : ℕ). i < length numbers) a = subst (λ m. All (λ (i : ℕ). i < m) a) (sym c) (all_below (length keys) a r) in (
-        λ n. can (first_ones labels (numbers_at numbers a)) (some_firsts a n)
-            (AreRows-filter (λ q. not (list_any (is_lower labels q) (numbers_at numbers a))) 0 (length rows) (numbers_at numbers a) (order_rows (length rows) 0 (numbers_at numbers a) (numbers_up a) (λ m h.
+        λ n. can (first_ones ranks (numbers_at numbers a)) (some_firsts a n)
+            (AreRows-filter (λ q. not (list_any (is_lower ranks q) (numbers_at numbers a))) 0 (length rows) (numbers_at numbers a) (order_rows (length rows) 0 (numbers_at numbers a) (numbers_up a) (λ m h.
             let w = from_places numbers a m h in
             (omega arith, numbers_below w.0 m (placed numbers a inside w.0 m w.1 w.2))))),
         inside,
-        all_from (λ (i : ℕ). i < length rows) numbers (λ n m. let w = among_row numbers n m in numbers_below w.0 n w.1),
+        all_from (λ (i : ℕ). i < length ranks) numbers (λ n m. let w = among_row numbers n m in subst (λ k. n < k) (sym (ranking.count ∙ many)) (numbers_below w.0 n w.1)),
       )
 
   -- ---- what it gives ends by rows

@@ -40,7 +40,7 @@ use Rattle.cell_core.proofs.Theorem.{packs-iff, points-iff}
 use Rattle.cell_kernels.proofs.KernelLemmas.{AreOn, IsLow, left_on}
 use Rattle.u_groups.specs.Asked.{HasCells, InCellGroup, HasCellFault}
 use Rattle.u_groups.specs.Groups.{AreFirsts, OfFirsts, labels_in, sides_in, HasPlace, InGroupRule, HasGroupFault, IsGroupForm}
-use Rattle.u_groups.proofs.CellGroups.{get_in}
+use Rattle.u_groups.proofs.AskedLemmas.{get_in}
 
 -- ---- groups of rows that have alike places
 

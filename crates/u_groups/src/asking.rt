@@ -1,19 +1,19 @@
 // A rule of groups, asked at cells.
 ghost use Rattle.std.specs.Prelude.{◌≡◌, ℕ, List};
 
-use crate::firsts::{first_ones, numbers_at};
+use crate::firsts::firsts_at;
 use crate::rule::GroupRule;
 use point_core::{Steps, Stop};
-use slice_core::{CellOp, Key};
+use slice_core::CellOp;
 use std::alloc::Global;
 use std::sync::ledger::Ledger;
 use value_core::Row;
 
-/// What a rule gives of rows that stand by their keys: of each the number among the caller's rows.
+/// What a rule gives of rows that stand by their keys: of each the number among the caller's rows, and of each of these its label's rank.
 #[derive(Clone, Copy)]
 pub(crate) struct Asking<'a, G: GroupRule> {
     pub rule: &'a G,
-    pub rows: &'a [Key<Row>],
+    pub ranks: &'a [usize],
     pub numbers: &'a [usize],
 }
 
@@ -21,14 +21,13 @@ impl<'a, G: GroupRule> CellOp for Asking<'a, G> {
     ghost use Rattle.std.specs.Prelude.{◌≡◌, ◌≢◌, ℕ, ◌<◌, List, [], length};
     ghost use Rattle.std.specs.List.{All};
     ghost use Rattle.u_groups.specs.Asked.{asked, asked_order, first_ones, numbers_at};
-    ghost use Rattle.u_groups.specs.Groups.{labels_in};
 
     type Out = Row;
 
-    ghost CanApply = { λ op a b. (a ≢ [] → G.CanApply op.rule.now (first_ones (labels_in op.rows.now) (numbers_at op.numbers.now a)))
-        × All (λ (i : ℕ). i < length op.numbers.now) a × All (λ (i : ℕ). i < length op.rows.now) op.numbers.now };
+    ghost CanApply = { λ op a b. (a ≢ [] → G.CanApply op.rule.now (first_ones op.ranks.now (numbers_at op.numbers.now a)))
+        × All (λ (i : ℕ). i < length op.numbers.now) a × All (λ (i : ℕ). i < length op.ranks.now) op.numbers.now };
 
-    ghost means = { λ op a b. asked (G.means op.rule.now) (labels_in op.rows.now) op.numbers.now a };
+    ghost means = { λ op a b. asked (G.means op.rule.now) op.ranks.now op.numbers.now a };
 
     fn apply<L: Ledger>(
         &self,
@@ -42,12 +41,11 @@ impl<'a, G: GroupRule> CellOp for Asking<'a, G> {
         if left.is_empty() {
             return Ok(list);
         }
-        let numbers = numbers_at(alloc, self.numbers, left)?;
-        let firsts = first_ones(alloc, self.rows, numbers.as_slice())?;
+        let firsts = firsts_at(alloc, self.ranks, self.numbers, left)?;
         let label = self.rule.apply(alloc, firsts.as_slice())?;
         list.push(label)?;
         Ok(list)
     }
 
-    ghost in_order = { λ op a b v h e. asked_order (G.means op.rule.now) (labels_in op.rows.now) op.numbers.now a v e };
+    ghost in_order = { λ op a b v h e. asked_order (G.means op.rule.now) op.ranks.now op.numbers.now a v e };
 }

@@ -10,10 +10,10 @@ ghost use Rattle.box_core.specs.Common.{EndsBy};
 ghost use Rattle.box_core.specs.Groups.{IsGrouped, IsGroupFault};
 ghost use Rattle.box_core.specs.Rows.{Ascend, KeyBox};
 ghost use Rattle.u_groups.specs.Asked.{asked, first_ones, numbers_at, InCellGroup, HasCellFault};
-ghost use Rattle.u_groups.specs.Groups.{labels_in};
 
 use crate::asking::Asking;
 use crate::numbered::numbered;
+use crate::ranks::ranks_of;
 use crate::rule::GroupRule;
 use box_core::{grouped, keys_in_order};
 use point_core::{Fault, Memory, Steps};
@@ -26,7 +26,7 @@ use value_core::Row;
 fn given_of_keys<G: GroupRule, L: Ledger>(
     alloc: Global,
     sides: usize,
-    rows: &[Key<Row>],
+    ranks: &[usize],
     keys: &[Key<Row>],
     numbers: &[usize],
     rule: &G,
@@ -34,17 +34,17 @@ fn given_of_keys<G: GroupRule, L: Ledger>(
 ) -> Result<(Vec<Key<Row>>, Option<Fault>), Memory>
     requires sides { All (λ x. length x.1 ≡ sides) keys.now }
     requires order { Ascend row_cmp keys.now }
-    requires can { (a : List ℕ) → AreRows 0 (length keys.now) a → (a ≢ [] → G.CanApply rule.now (first_ones (labels_in rows.now) (numbers_at numbers.now a)))
-        × All (λ (i : ℕ). i < length numbers.now) a × All (λ (i : ℕ). i < length rows.now) numbers.now }
+    requires can { (a : List ℕ) → AreRows 0 (length keys.now) a → (a ≢ [] → G.CanApply rule.now (first_ones ranks.now (numbers_at numbers.now a)))
+        × All (λ (i : ℕ). i < length numbers.now) a × All (λ (i : ℕ). i < length ranks.now) numbers.now }
     ensures places { IfOk result (λ v. (l : PlainRow) (place : List ℕ) → length place ≡ sides →
-        HasRow v.0.items l place ↔ IsGrouped (λ a b. asked (G.means rule.now) (labels_in rows.now) numbers.now a) keys.now l place) }
+        HasRow v.0.items l place ↔ IsGrouped (λ a b. asked (G.means rule.now) ranks.now numbers.now a) keys.now l place) }
     ensures lengths { IfOk result (λ v. All (λ x. length x.1 ≡ sides) v.0.items) }
     ensures ends { IfOk result (λ v. (z : KeyBox PlainRow) → Among z v.0.items → (x : KeyBox PlainRow) × Among x keys.now × EndsBy x.1 z.1) }
-    ensures least { IfOk result (λ v. IsLeast (IsGroupFault sides (λ a b. asked (G.means rule.now) (labels_in rows.now) numbers.now a) keys.now) v.1) }
+    ensures least { IfOk result (λ v. IsLeast (IsGroupFault sides (λ a b. asked (G.means rule.now) ranks.now numbers.now a) keys.now) v.1) }
 {
     let op = Asking {
         rule,
-        rows,
+        ranks,
         numbers,
     };
     let mut least = None;
@@ -72,10 +72,11 @@ pub(crate) fn given_at_cells<G: GroupRule, L: Ledger>(
 {
     let entries = numbered(alloc, rows, by)?;
     let (keys, numbers) = keys_in_order(alloc, entries)?;
+    let ranks = ranks_of(alloc, rows)?;
     let given = given_of_keys(
         alloc,
         sides,
-        rows,
+        ranks.as_slice(),
         keys.as_slice(),
         numbers.as_slice(),
         rule,

@@ -6,6 +6,7 @@ mod cells;
 mod firsts;
 mod numbered;
 mod own_counter;
+mod ranks;
 mod rule;
 mod summarize;
 

@@ -1,10 +1,9 @@
 -- What changes ask for.
-use Rattle.std.specs.Prelude.{◌≡◌, ◌⊎◌, List, [], ◌∷◌, ◌++◌, map, Result, Ok, Err, Vec, IfOk}
+use Rattle.std.specs.Prelude.{◌≡◌, ◌⊎◌, List, [], ◌∷◌, map, Result, Ok, Err, Vec, IfOk}
 use Rattle.std.specs.Global.{Global}
 use Rattle.std.specs.List.{All}
 use Rattle.std.proofs.Common.{inl, inr, sym, subst}
-use Rattle.std.proofs.lemmas.List.{map-append}
-use Rattle.std.proofs.lemmas.List.Elements.{All-nil, All-head, All-tail, All-append, All-cons}
+use Rattle.std.proofs.lemmas.List.Elements.{All-nil, All-head, All-tail, All-cons}
 use Rattle.point_core.specs.declared.memory.Memory.{Memory}
 use Rattle.tree_core.specs.Items.{PlainItemForm, set_to, insert, delete, delete_rows, update, terminate, PlainItem, read_item, read_assignment}
 use Rattle.tree_core.specs.Relvars.{State}
@@ -48,8 +47,3 @@ each-typed s [] h = All-nil (λ (i : Item). IsTypedItem s (read_item i))
 each-typed s (i ∷ items) h =
     All-cons (λ (i : Item). IsTypedItem s (read_item i)) i items (All-head (IsTypedItem s) (read_item i) (map read_item items) h)
     (each-typed s items (All-tail (IsTypedItem s) (read_item i) (map read_item items) h))
-
-pub more-typed : (s : State) (list more : List Assignment) → All (IsTypedAssignment s) (map read_assignment list) → All (IsTypedAssignment s) (map read_assignment more)
-    → All (IsTypedAssignment s) (map read_assignment (list ++ more))
-more-typed s list more h k =
-    subst (All (IsTypedAssignment s)) (sym (map-append read_assignment list more)) (All-append (IsTypedAssignment s) (map read_assignment list) (map read_assignment more) h k)

@@ -64,10 +64,10 @@ semicolon-spelled : (p : Place) → Spells (of_statement Nothing) (pieces (semic
 unfolding Spells lib.Utf8.encode
 semicolon-spelled p = (refl, refl)
 
-pub empty-text : (p : Place) (front bytes : List ℕ) → list_all is_space front ≡ true → bytes ≡ front ++ 59 ∷ [] → IsText p bytes (Tree (place_after p front) Nothing)
+pub empty-text : (p : Place) (front bytes : List ℕ) → list_all is_space front ≡ true → bytes ≡ front ++ 59 ∷ [] → IsText p bytes (Tree Nothing)
 empty-text p front bytes h e =
     let ascii = IsAscii-from_all (front ++ 59 ∷ []) (All-append (λ b. b < 128) front (59 ∷ []) (are-ascii front h) (All-cons (λ b. b < 128) 59 [] (omega arith) (All-nil (λ b. b < 128)))) in
     let q = place_after p front in
     let lexed = behind-space p front (59 ∷ []) (semicolon q ∷ []) h (semicolon-lexed q) in
     let reads : Reads p (front ++ 59 ∷ []) (semicolon q ∷ []) = (IsUtf8-from_ascii (front ++ 59 ∷ []) ascii, subst (λ cs. Lexed p cs (semicolon q ∷ [])) (sym (chars-IsAscii (front ++ 59 ∷ []) ascii)) lexed) in
-    (semicolon q ∷ [], subst (λ bs. Reads p bs (semicolon q ∷ [])) (sym e) reads, refl, semicolon-whole q, semicolon-spelled q)
+    (semicolon q ∷ [], subst (λ bs. Reads p bs (semicolon q ∷ [])) (sym e) reads, semicolon-whole q, semicolon-spelled q)

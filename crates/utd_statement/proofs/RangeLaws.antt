@@ -11,7 +11,7 @@ use Rattle.utd_statement.specs.Readings.{Reading, Tree, Refused, IsText}
 use Rattle.utd_statement.specs.InRange.{IsInRange}
 
 pub text_in_range : (place : Place) (bytes : List ℕ) (reading : Reading) → IsText place bytes reading → IsInRange reading
-text_in_range place bytes (Tree first tree) (tokens, reads, at, whole, spelled) = λ state. written-fine state (pieces tokens) tree (are-written place bytes tokens reads) whole spelled
+text_in_range place bytes (Tree tree) (tokens, reads, whole, spelled) = λ state. written-fine state (pieces tokens) tree (are-written place bytes tokens reads) whole spelled
 text_in_range place bytes (Refused refuse) h = tt
 
 pub in_range_ok : (place : Place) (bytes : List ℕ) (r : Result Parsed Memory) → IfOk r (λ p. IsText place bytes (reading_of p)) → IfOk r (λ p. IsInRange (reading_of p))

@@ -6,7 +6,6 @@ use Rattle.point_core.specs.declared.fault.Code.{Code}
 use Rattle.value_core.specs.declared.refuse.Refuse.TheVariants as refuses
 use Rattle.utd_lexer.specs.declared.token.Token.{Token}
 use Rattle.utd_lexer.proofs.OneReadingLemmas.{reads-one, refuses-one, reads-refuses}
-use Rattle.utd_syntax.specs.Pieces.{place_of}
 use Rattle.utd_syntax.specs.Written.{Spells, of_statement}
 use Rattle.utd_syntax.specs.Verdict as verdict
 use Rattle.utd_syntax.specs.Verdict.{Whole}
@@ -26,16 +25,14 @@ refused_one a b e =
     λ i. record { place = p i; code = c i }
 
 pub text_one : (place : Place) (bytes : List ℕ) (a b : Reading) → IsText place bytes a → IsText place bytes b → a ≡ b
-text_one place bytes (Tree p x) (Tree q y) (ts, rt, ft, wt, st) (us, ru, fu, wu, su) =
+text_one place bytes (Tree x) (Tree y) (ts, rt, wt, st) (us, ru, wu, su) =
     let e : us ≡ ts = reads-one place bytes ts us rt ru in
-    let trees : x ≡ y = law_c x y (pieces ts) st (subst (λ z. Spells (of_statement y) (pieces z) []) e su) in
-    let places : p ≡ q = ft ∙ ap (λ z. place_of (pieces z)) (sym e) ∙ sym fu in
-    λ i. Tree (places i) (trees i)
-text_one place bytes (Tree p x) (Refused (refuses.At f)) (ts, rt, ft, wt, st) h = elim h [
+    ap Tree (law_c x y (pieces ts) st (subst (λ z. Spells (of_statement y) (pieces z) []) e su))
+text_one place bytes (Tree x) (Refused (refuses.At f)) (ts, rt, wt, st) h = elim h [
   | inl r ↦ absurd (reads-refuses place bytes ts f rt r)
   | inr k ↦ absurd (no_whole ts k.0 f.code f.place (reads-one place bytes ts k.0 rt k.1) wt k.2)
 ]
-text_one place bytes (Refused (refuses.At f)) (Tree p x) h (ts, rt, ft, wt, st) = elim h [
+text_one place bytes (Refused (refuses.At f)) (Tree x) h (ts, rt, wt, st) = elim h [
   | inl r ↦ absurd (reads-refuses place bytes ts f rt r)
   | inr k ↦ absurd (no_whole ts k.0 f.code f.place (reads-one place bytes ts k.0 rt k.1) wt k.2)
 ]

@@ -69,7 +69,7 @@ of_tree state tree = unless_fault (of_checked state) (checked state tree)
 
 -- the answer to what a statement is read as, in a state
 abbrev pub answer : State → Reading → Answer
-answer state (TreeOf first tree) = of_tree state tree
+answer state (TreeOf tree) = of_tree state tree
 answer state (Refused refuse) = Refusal refuse
 
 -- the n-th statement's output

@@ -6,5 +6,5 @@ use Rattle.literal_laws.specs.Refusals.{IsNotE06}
 use Rattle.utd_statement.specs.Readings.{Reading, Tree, Refused}
 
 abbrev pub IsInRange : Reading → Type 0
-IsInRange (Tree first tree) = (state : State) → IsNotE06 (checked state tree)
+IsInRange (Tree tree) = (state : State) → IsNotE06 (checked state tree)
 IsInRange (Refused refuse) = Unit {0}

@@ -11,7 +11,7 @@ use Rattle.utd_statement.specs.Readings.{Reading, Tree, Refused, IsText}
 
 -- the tree without where its parts lie in memory
 abbrev pub reading_of : Parsed → Reading
-reading_of (parsed.Tree tree) = Tree tree.first (read_statement tree.statement)
+reading_of (parsed.Tree statement) = Tree (read_statement statement)
 reading_of (parsed.Refused refuse) = Refused refuse
 
 -- the text is refused so, or memory ran out
@@ -23,5 +23,5 @@ IsRefusal place bytes (refuses.Broken code relvar number) = IsText place bytes (
 
 -- a refusal has a line
 abbrev pub HasAnswer : Reading → Type 0
-HasAnswer (Tree first tree) = Unit {0}
+HasAnswer (Tree tree) = Unit {0}
 HasAnswer (Refused refuse) = HasLine refuse

@@ -7,7 +7,6 @@ use Rattle.value_core.specs.declared.refuse.Refuse.{Refuse}
 use Rattle.value_core.specs.declared.refuse.Refuse.TheVariants as refuses
 use Rattle.utd_lexer.specs.declared.token.Token.{Token}
 use Rattle.utd_lexer.specs.Reading.{Reads, Refuses}
-use Rattle.utd_syntax.specs.Pieces.{place_of}
 use Rattle.utd_syntax.specs.Plain.{StatementP}
 use Rattle.utd_syntax.specs.Written.{Spells, of_statement}
 use Rattle.utd_syntax.specs.Verdict as verdict
@@ -15,17 +14,16 @@ use Rattle.utd_syntax.specs.Verdict.{Whole}
 use Rattle.utd_ranges.specs.Limits.{verdict_on}
 use Rattle.utd_parser.specs.Tokens.{pieces}
 
--- a syntax tree, with the place of the statement's first token; or a refusal of the text
+-- a syntax tree, or a refusal of the text
 pub data Reading : Type 0 where
-  Tree : Place → StatementP → Reading
+  Tree : StatementP → Reading
   Refused : Refuse → Reading
 
 -- The bytes from this place on are read as this. They are refused as they are, or by their tokens; else the tree writes
 -- the tokens.
 abbrev pub IsText : Place → List ℕ → Reading → Type 0
-IsText place bytes (Tree first tree) =
-    (tokens : List Token) × Reads place bytes tokens × (first ≡ place_of (pieces tokens))
-    × (verdict_on (pieces tokens) ≡ Whole) × Spells (of_statement tree) (pieces tokens) []
+IsText place bytes (Tree tree) =
+    (tokens : List Token) × Reads place bytes tokens × (verdict_on (pieces tokens) ≡ Whole) × Spells (of_statement tree) (pieces tokens) []
 IsText place bytes (Refused (refuses.At fault)) =
     Refuses place bytes (refuses.At fault)
     ⊎ ((tokens : List Token) × Reads place bytes tokens × (verdict_on (pieces tokens) ≡ verdict.Refused fault.code fault.place))

@@ -6,5 +6,5 @@ mod performing;
 mod reading;
 mod reply;
 
-pub use reading::{Parsed, Tree, read_text};
+pub use reading::{Parsed, read_text};
 pub use reply::{Reply, answer_to, refusal};

@@ -1,12 +1,10 @@
 // What a statement's text is read as.
-ghost use Rattle.std.specs.Prelude.{◌≡◌, ◌+◌, ◌-◌, ◌^◌, ◌≤◌, length, IfOk, IfErr, IfSome};
+ghost use Rattle.std.specs.Prelude.{◌≡◌, ◌+◌, ◌-◌, ◌^◌, ◌≤◌, true, length, IfOk, IfErr};
 ghost use Rattle.std.specs.List.{list_all};
 ghost use Rattle.value_core.specs.declared.refuse.Refuse.TheVariants as refuses;
 ghost use Rattle.utd_lexer.specs.Parts.{is_space};
-ghost use Rattle.utd_syntax.specs.Pieces.{place_of};
 ghost use Rattle.utd_syntax.specs.Plain.{Nothing};
 ghost use Rattle.utd_syntax.specs.Read.{read_statement};
-ghost use Rattle.utd_parser.specs.Tokens.{pieces};
 ghost use Rattle.utd_statement.specs.Readings as readings;
 ghost use Rattle.utd_statement.specs.Readings.{IsText};
 ghost use Rattle.utd_statement.specs.InRange.{IsInRange};
@@ -14,43 +12,26 @@ ghost use Rattle.utd_statement.specs.Parsed.{reading_of, IsRefusal, HasAnswer};
 
 use point_core::{Memory, Place};
 use std::alloc::Global;
-use utd_lexer::{TokenList, place_behind, tokens};
+use utd_lexer::tokens;
 use utd_parser::parse;
 use utd_syntax::Statement;
 use value_core::Refuse;
 
-/// The tree of a statement, and the place of its first token.
-#[derive(Drop)]
-pub struct Tree {
-    pub first: Place,
-    pub statement: Statement,
-}
-
 /// The tree of a statement, or the refusal of its text.
 #[derive(Drop)]
 pub enum Parsed {
-    Tree(Tree),
+    Tree(Statement),
     Refused(Refuse),
 }
 
-fn first_place(list: &TokenList) -> Place
-    ensures { result ≡ place_of (pieces list.now) }
-{
-    match list.list.as_slice().split_first() {
-        None => Place { line: 0, column: 0 },
-        Some((token, _)) => token.place,
-    }
-}
-
-fn tree_of(alloc: Global, text: &[u8], start: Place) -> Result<Tree, Refuse>
+fn tree_of(alloc: Global, text: &[u8], start: Place) -> Result<Statement, Refuse>
     requires { start.line + start.column + length text.now ≤ 2 ^ 32 - 1 }
-    ensures read { IfOk result (λ t. IsText start text.now (readings.Tree t.first (read_statement t.statement))) }
+    ensures read { IfOk result (λ statement. IsText start text.now (readings.Tree (read_statement statement))) }
     ensures refused { IfErr result (λ refuse. IsRefusal start text.now refuse) }
 {
     let list = tokens(alloc, text, start)?;
     let statement = parse(alloc, &list)?;
-    let first = first_place(&list);
-    Ok(Tree { first, statement })
+    Ok(statement)
 }
 
 fn are_spaces(bytes: &[u8]) -> bool
@@ -64,16 +45,13 @@ fn are_spaces(bytes: &[u8]) -> bool
     true
 }
 
-// The place of the semicolon, where white space is all that stands before it.
-fn empty_statement(text: &[u8], start: Place) -> Option<Place>
-    requires { start.line + start.column + length text.now ≤ 2 ^ 32 - 1 }
-    ensures { IfSome result (λ first. IsText start text.now (readings.Tree first Nothing)) }
+// Whether white space is all that stands before the semicolon.
+fn is_empty_statement(text: &[u8]) -> bool
+    ensures { (start : Place) → result ≡ true → IsText start text.now (readings.Tree Nothing) }
 {
-    let (last, front) = text.split_last()?;
-    if *last == b';' && are_spaces(front) {
-        Some(place_behind(start, front))
-    } else {
-        None
+    match text.split_last() {
+        None => false,
+        Some((last, front)) => *last == b';' && are_spaces(front),
     }
 }
 
@@ -97,12 +75,11 @@ pub fn read_text(alloc: Global, text: &[u8], start: Place) -> Result<Parsed, Mem
     ensures in_range { IfOk result (λ p. IsInRange (reading_of p)) }
     ensures told { IfOk result (λ p. HasAnswer (reading_of p)) }
 {
-    if let Some(first) = empty_statement(text, start) {
-        let statement = Statement::Nothing;
-        return Ok(Parsed::Tree(Tree { first, statement }));
+    if is_empty_statement(text) {
+        return Ok(Parsed::Tree(Statement::Nothing));
     }
     match tree_of(alloc, text, start) {
-        Ok(tree) => Ok(Parsed::Tree(tree)),
+        Ok(statement) => Ok(Parsed::Tree(statement)),
         Err(refuse) => refused(refuse),
     }
 }

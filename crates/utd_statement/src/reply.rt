@@ -8,12 +8,13 @@ ghost use Rattle.tree_core.specs.Relvars.{read_relvars, State};
 ghost use Rattle.utd_statement.specs.Replies.{IsReply, IsAnswered, IsPerformed};
 
 use crate::performing::performed;
-use crate::reading::{Parsed, Tree};
+use crate::reading::Parsed;
 use assign_core::Database;
 use point_core::{Memory, Steps};
 use std::alloc::Global;
 use std::sync::ledger::Ledger;
 use utd_print::refusal_line;
+use utd_syntax::Statement;
 use value_core::Refuse;
 
 /// What a statement writes, and whether it is accepted.
@@ -54,13 +55,13 @@ fn answer_to_tree<L: Ledger>(
     alloc: Global,
     database: &mut Database,
     number: u32,
-    tree: &Tree,
+    statement: &Statement,
     steps: &mut Steps<L>,
 ) -> Result<Reply, Memory>
     ensures { IsAnswered result number (read_relvars database.old) (read_relvars database.new)
-        (of_tree (read_relvars database.old) (read_statement tree.now.statement)) }
+        (of_tree (read_relvars database.old) (read_statement statement.now)) }
 {
-    let written = performed(alloc, &tree.statement, database, steps);
+    let written = performed(alloc, statement, database, steps);
     told(alloc, number, written)
 }
 
@@ -77,7 +78,7 @@ pub fn answer_to<L: Ledger>(
     ensures { IsAnswered result number (read_relvars database.old) (read_relvars database.new) (answer (read_relvars database.old) (reading_of parsed.now)) }
 {
     match parsed {
-        Parsed::Tree(tree) => answer_to_tree(alloc, database, number, tree, steps),
+        Parsed::Tree(statement) => answer_to_tree(alloc, database, number, statement, steps),
         Parsed::Refused(refuse) => refusal(alloc, number, refuse),
     }
 }

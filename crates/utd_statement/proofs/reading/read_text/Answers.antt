@@ -10,4 +10,4 @@ returns-in-Err c =
     record { read = both.0; in_range = in_range_ok c.args.start c.args.text.now c.refused.result both.0; told = both.1 }
 
 pub returns-in-Ok-clause-in_range : goal.returns-in-Ok-clause-in_range
-returns-in-Ok-clause-in_range c = text_in_range c.args.start c.args.text.now (Tree c.in-Ok.tree.first (read_statement c.in-Ok.tree.statement)) c.in-Ok.ensures.read
+returns-in-Ok-clause-in_range c = text_in_range c.args.start c.args.text.now (Tree (read_statement c.in-Ok.statement)) c.in-Ok.ensures.read
