@@ -3,7 +3,7 @@ use Rattle.std.proofs.Common.{◌≡◌, inl, inr, ℕ, ◌<◌, ℤ, pos, false
 use Rattle.std.specs.Bool.{IsTrue}
 use Rattle.std.specs.List.{list_all}
 use Rattle.std.proofs.lemmas.Bool.{and_parts}
-use Rattle.std.proofs.lemmas.List.{length-map}
+use Rattle.std.proofs.lemmas.List.{length-map, get_or-map}
 use Rattle.value_core.specs.Attributes.{value_at, among}
 use Rattle.value_core.specs.Values.{Value, truth, Row}
 use Rattle.scalar_core.specs.Expressions.{Expr}
@@ -16,13 +16,12 @@ use Rattle.u_set.specs.Boxes.{others}
 use Rattle.u_set.proofs.BoxLemmas.{value_at-get}
 use Rattle.u_row.specs.Kept.{place_in_label}
 use Rattle.u_row.proofs.LabelLemmas.{value_in_label}
-use Rattle.u_groups.proofs.CellGroups.{get_in}
 use Rattle.using_groups.specs.Columns.{IsColumn, AreColumns, AreAlike}
 use Rattle.using_groups.proofs.AggregateLemmas.{unnamed, is_not}
 
 module _ (acl : List ℕ) (rows : List Row) where
-  label_of : (r : ℕ) → get_or (map (others acl) rows) r [] ≡ others acl (get_or rows r [])
-  label_of r = get_in (others acl) rows r []
+  label_of : (r : ℕ) → r < length rows → get_or (map (others acl) rows) r [] ≡ others acl (get_or rows r [])
+  label_of r l = get_or-map (others acl) rows r [] [] l
 
   values_same : (x y : Row) → others acl x ≡ others acl y → (i : ℕ) → among acl i ≡ false → value_at x i ≡ value_at y i
   values_same x y e i n =
@@ -53,6 +52,8 @@ module _ (acl : List ℕ) (rows : List Row) where
       elim m [
         | inl e ↦ λ r s k l q.
             subst (λ b. get_or b r (pos 0) ≡ get_or b s (pos 0)) e
-            (column_alike g.form w.0 d h.1 r s (subst (λ j. r < j) many k) (subst (λ j. s < j) many l) (sym (label_of r) ∙ q ∙ label_of s))
+            (let i = subst (λ j. r < j) many k in
+            let j = subst (λ j. s < j) many l in
+            column_alike g.form w.0 d h.1 r s i j (sym (label_of r i) ∙ q ∙ label_of s j))
         | inr i ↦ columns_alike gs w.1 ds h.2 c i
       ]

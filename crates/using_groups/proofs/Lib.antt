@@ -11,3 +11,5 @@ pub mod SumGroups
 pub mod ColumnLemmas
 pub mod AlikeColumns
 pub mod SumValueLemmas
+pub mod SpotLemmas
+pub mod PartLemmas

@@ -4,7 +4,9 @@
 mod boxes;
 mod columns;
 mod listing;
+mod parts;
 mod rule;
+mod spots;
 mod summary;
 mod sums;
 mod telling;
