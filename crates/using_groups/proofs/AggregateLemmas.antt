@@ -86,7 +86,7 @@ aggregates_same aggregates xs ys d c h = ap first_of_all (each aggregates)
 
 -- ---- attributes that are not named
 
-unnamed : (acl : List ℕ) (row x : Row) (e : Expr) → ((i : ℕ) → among acl i ≡ false → value_at x i ≡ value_at row i) → names_any acl e ≡ false → value e x ≡ value e row
+pub unnamed : (acl : List ℕ) (row x : Row) (e : Expr) → ((i : ℕ) → among acl i ≡ false → value_at x i ≡ value_at row i) → names_any acl e ≡ false → value e x ≡ value e row
 unnamed acl row x (constant place kind v) same h = refl
 unnamed acl row x (attribute place i) same h = ap (λ v. Ok v) (same i h)
 unnamed acl row x (one op place e) same h = ap (λ m. then_give m (one_of op place)) (unnamed acl row x e same h)
@@ -100,7 +100,7 @@ unnamed acl row x (or_expr place l r) same h =
     let parts = or_parts (names_any acl l) (names_any acl r) h in
     ap₂ (λ m n. then_give m (λ a. if is_true a then Ok a else n)) (unnamed acl row x l same parts.0) (unnamed acl row x r same parts.1)
 
-is_not : (b : Bool) → IsTrue (not b) → b ≡ false
+pub is_not : (b : Bool) → IsTrue (not b) → b ≡ false
 is_not true h = absurd cc
 is_not false h = refl
 

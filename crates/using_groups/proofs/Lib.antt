@@ -7,3 +7,9 @@ pub mod FirstLemmas
 pub mod PlaceGroups
 pub mod SummaryLemmas
 pub mod CallLemmas
+pub mod SumGroups
+pub mod ColumnLemmas
+pub mod AlikeColumns
+pub mod SumValueLemmas
+pub mod SpotLemmas
+pub mod PartLemmas

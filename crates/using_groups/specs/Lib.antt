@@ -1,1 +1,3 @@
 pub mod Labels
+pub mod Columns
+pub mod Spots

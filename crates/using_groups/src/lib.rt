@@ -2,9 +2,13 @@
 #![tactic(auto)]
 
 mod boxes;
+mod columns;
 mod listing;
+mod parts;
 mod rule;
+mod spots;
 mod summary;
+mod sums;
 mod telling;
 
 pub use summary::using_summary;

@@ -17,7 +17,7 @@ use Rattle.meaning_core.specs.Scalars.{AreSummedOver}
 use Rattle.u_set.specs.Boxes.{type_of, boxed}
 use Rattle.u_groups.specs.Groups.{HasGroupFault, IsGroupForm}
 use Rattle.using_groups.specs.Labels.{group_label}
-use Rattle.using_groups.proofs.boxes.summary_form.Goals as goal
+use Rattle.using_groups.proofs.boxes.grouped_form.Goals as goal
 
 pub u_summarize-requires-clause-can : goal.u_summarize-requires-clause-can
 u_summarize-requires-clause-can g c =

@@ -1,0 +1,48 @@
+use Rattle.std.proofs.Common.{inl, inr, ◌<◌, List, ◌∷◌, [], map, arith, Ok, sym, ap, ◌∙◌, rules, Vec, Global}
+use Rattle.std.specs.Int.{w128}
+use Rattle.std.proofs.lemmas.Int.{to_z-of_z}
+use Rattle.std.proofs.lemmas.List.{map-append}
+use Rattle.std.proofs.lemmas.Result.{err_from_is_err_and}
+use mir.Val.{SFits, to_z, of_z}
+use Rattle.value_core.specs.Plain.{plain}
+use Rattle.value_core.specs.Values.{Value as PlainValue}
+use Rattle.value_core.specs.declared.value.Value.{Value}
+use Rattle.using_groups.proofs.SumValueLemmas.{sums_more, sums_end, sums_all}
+use Rattle.using_groups.proofs.sums.sum_values.Goals as goal
+
+pub returns-in_err-value : goal.returns-in_err-value
+returns-in_err-value c =
+    let i = c.loop-i.i in
+    let k : i < c.shorter-many.result = c.loop-i-test.true in
+    let a = c.shorter-many.ensures.one in
+    let b = c.shorter-many.ensures.other in
+    let z = c.sum_at-sum.result in
+    let fits : SFits w128 z = search rules in
+    let p = err_from_is_err_and c.from_residual.result c.from_residual.ensures.1 in
+    rw (p.1, p.2) (sums_end c.index-aggregates-i.result (to_z w128 (of_z w128 z)) (λ (values : Vec Value Global). map plain values.items) plain c.args.aggregates.now c.args.sums.now i (map plain c.loop-i.values.items) c.in_err-value.field-0.0
+    (omega (arith, k, a)) (omega (arith, k, b)) c.index-aggregates-i.is (to_z-of_z w128 z fits ∙ c.sum_at-sum.ensures) c.loop-i.invariant.made c.in_err-value.ensures)
+
+pub loop-i-preserved : goal.loop-i-preserved
+loop-i-preserved c =
+    let i = c.loop-i.i in
+    let k : i < c.shorter-many.result = c.loop-i-test.true in
+    let a = c.shorter-many.ensures.one in
+    let b = c.shorter-many.ensures.other in
+    let z = c.sum_at-sum.result in
+    let fits : SFits w128 z = search rules in
+    record {
+      within = omega (arith, k);
+      made =
+          sums_more c.index-aggregates-i.result (to_z w128 (of_z w128 z)) c.args.aggregates.now c.args.sums.now i (map plain c.loop-i.values.items) (plain c.in_ok-value.value)
+          (omega (arith, k, a)) (omega (arith, k, b)) c.index-aggregates-i.is (to_z-of_z w128 z fits ∙ c.sum_at-sum.ensures) c.loop-i.invariant.made c.in_ok-value.ensures
+          ∙ ap (λ (us : List PlainValue). Ok us) (sym (map-append plain c.loop-i.values.items (c.in_ok-value.value ∷ [])) ∙ ap (map plain) (sym c.in_ok-push.ensures.items));
+    }
+
+pub returns : goal.returns
+returns c =
+    let w = c.loop-i.invariant.within in
+    let t = c.loop-i-test.false in
+    let a = c.shorter-many.ensures.one in
+    let b = c.shorter-many.ensures.other in
+    sums_all c.args.aggregates.now c.args.sums.now c.loop-i.i (map plain c.loop-i.values.items) (omega (arith, w, a)) (omega (arith, w, b))
+    (elim c.shorter-many.ensures.all [ inl e ↦ inl (omega (arith, e, t)) | inr e ↦ inr (omega (arith, e, t)) ]) c.loop-i.invariant.made
