@@ -18,7 +18,7 @@ pub struct Place {
 /// The codes of the refusals, each with what it is printed as and what brings it. Codes are in the order of their numbers.
 #[derive(Clone, Copy, Debug, PartialEq, Eq, PartialOrd, Ord)]
 pub enum Code {
-    /// Not a statement: a character that begins no token, a token with which no statement goes on, or a form that does not run yet.
+    /// Not a statement: a character that begins no token, or a token with which no statement goes on.
     E01,
     /// Not UTF-8: bytes that are not UTF-8.
     E02,
