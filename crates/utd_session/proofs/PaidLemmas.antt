@@ -1,9 +1,10 @@
 -- The steps of a session's calls and of a run, and how far a run reads.
-use Rattle.std.proofs.Common.{◌≡◌, inl, inr, ℕ, ◌+◌, ◌<◌, ◌≤◌, List, [], ◌∷◌, ◌++◌, length, take, drop, Option, Some, None, IfSome, Result, Ok, Err, IfOk, IfErr, MatchResult, refl, sym, ap, ◌∙◌, subst, arith, append_assoc, append-nil, length-append, length-take}
+use Rattle.std.proofs.Common.{◌≡◌, inl, inr, ℕ, ◌+◌, ◌<◌, ◌≤◌, List, [], ◌∷◌, ◌++◌, length, take, drop, Option, Some, None, IfSome, Result, Ok, Err, IfOk, IfErr, MatchResult, refl, sym, ap, ◌∙◌, subst, arith, append_assoc, append-nil, length-append, length-take, take_all}
 use Rattle.std.proofs.lemmas.List.{take-append-le}
 use Rattle.utd_io.specs.Io.{Gives}
 use Rattle.tree_core.specs.Relvars.{State}
 use Rattle.tree_core.specs.declared.relvar.Relvars.{Relvars as Database}
+use Rattle.assign_core.specs.Databases.{no_relvars}
 use Rattle.utd_statement.specs.Readings.{Reading}
 use Rattle.utd_session.specs.declared.feeding.Session.{Session}
 use Rattle.utd_session.specs.declared.feeding.Ended.{Ended}
@@ -19,11 +20,11 @@ use Rattle.utd_session.specs.Feeding.{HasReading}
 use Rattle.utd_session.specs.Costs.{cost_of, cost_after, TakesAtMost, IsWithinCost, IsPaid}
 use Rattle.utd_session.specs.Sessions.{StandsFor, fed_of, state_in}
 use Rattle.utd_session.specs.Progress.{HasFed, MayHaveFed, ComesNext}
-use Rattle.utd_session.proofs.StatementLemmas.{by_le, front_more, within_front}
+use Rattle.utd_session.proofs.StatementLemmas.{by_le, front_more, within_front, within_long}
 use Rattle.utd_session.proofs.MachineLemmas.{readings-length, readings-push, readings-front, readings-within}
-use Rattle.utd_session.proofs.CostLemmas.{cost_of-append, cost_after-push, takes-of}
+use Rattle.utd_session.proofs.CostLemmas.{cost_of-append, cost_after-push, cost-first, takes-of}
 use Rattle.utd_session.proofs.SessionLemmas.{IsFed, more_statements, next_ended}
-use Rattle.utd_session.proofs.ProgressLemmas.{next_front, comes_next}
+use Rattle.utd_session.proofs.ProgressLemmas.{take-take, next_front, comes_next}
 
 -- ---- what a session's call takes
 
@@ -130,6 +131,35 @@ paid_in_piece all left after before now session piece front k start mid steps st
     paid all after (n + length piece) (n + length front) rs start steps (next.within, next.left_is) (omega arith) short
     (subst (λ b. AreReadings (take (length rs) (complete_statements b)) rs) f.joined w.read)
     (omega (arith, h.cost, w.cost, cost_of-append h.readings (w.more ++ w.begun)))
+
+-- ---- what the statements of a script cost all together
+
+-- no less than what a run of it takes
+pub paid_for_all : (all : List ℕ) (left : Option (List ℕ)) (before now : ℕ) (us : List Reading) → IsPaid all left before now → AreReadings (statements_within all) us → now ≤ before + cost_of us
+paid_for_all all left before now us p h = omega (arith, p.cost, cost-first no_relvars (statements_within all) p.readings us p.first h)
+
+-- the bytes that were read have the same first statements
+first_of_taken : (all : List ℕ) (n m : ℕ) → n ≤ length all → m ≤ length (complete_statements (take n all)) → take m (statements_within all) ≡ take m (statements_within (take n all))
+first_of_taken all n m fits few = by_le n most_bytes
+  (λ l.
+    let bytes : List ℕ = take n all in
+    let ended : List Statement = complete_statements bytes in
+    let same : take n bytes ≡ bytes = take_all n bytes (omega (arith, length-take {A = ℕ} n all)) in
+    let w = within_front all n l fits in
+    let v = within_front bytes n l (omega (arith, length-take {A = ℕ} n all)) in
+    let here : take m (statements_within all) ≡ take m ended = ap (take m) w.1 ∙ take-append-le m ended w.0 few in
+    let there : take m (statements_within bytes) ≡ take m ended = ap (take m) (v.1 ∙ ap (λ b. complete_statements b ++ v.0) same) ∙ take-append-le m ended v.0 few in
+    here ∙ sym there)
+  (λ l.
+    let longer : most_bytes < length (take n all) = omega (arith, length-take {A = ℕ} n all) in
+    let same : take most_bytes (take n all) ≡ take most_bytes all = take-take most_bytes n all (omega arith) in
+    ap (take m) (within_long all (omega arith) ∙ sym (within_long (take n all) longer ∙ ap complete_statements same)))
+
+-- nor less than what the statements of the bytes that were read cost
+pub paid_for_taken : (all : List ℕ) (left : Option (List ℕ)) (before now : ℕ) (us : List Reading) (p : IsPaid all left before now) → AreReadings (statements_within (take p.taken all)) us → now ≤ before + cost_of us
+paid_for_taken all left before now us p h =
+    let first : AreReadings (take (length p.readings) (statements_within (take p.taken all))) p.readings = subst (λ ss. AreReadings ss p.readings) (first_of_taken all p.taken (length p.readings) p.were_read.0 p.ended) p.first in
+    omega (arith, p.cost, cost-first no_relvars (statements_within (take p.taken all)) p.readings us first h)
 
 -- ---- what a run takes, where the source tells its bytes
 

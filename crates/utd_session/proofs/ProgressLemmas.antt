@@ -1,10 +1,16 @@
 -- How a script is read piece by piece.
-use Rattle.std.proofs.Common.{◌≡◌, ℕ, zero, suc, ◌+◌, ◌≤◌, List, [], ◌∷◌, ◌++◌, length, take, drop, Option, Some, sym, ap, ◌∙◌, subst, arith, length-drop, length-take, take-add}
+use Rattle.std.proofs.Common.{◌≡◌, ℕ, zero, suc, ◌+◌, ◌≤◌, List, [], ◌∷◌, ◌++◌, length, take, drop, Option, Some, refl, sym, ap, ◌∙◌, subst, arith, length-drop, length-take, take-add}
 use Rattle.std.proofs.lemmas.List.{drop-drop}
 use Rattle.utd_io.specs.Io.{Gives}
 use Rattle.utd_session.specs.declared.feeding.Session.{Session}
 use Rattle.utd_session.specs.Sessions.{fed_of}
 use Rattle.utd_session.specs.Progress.{HasFed, ComesNext}
+
+pub take-take : (k m : ℕ) (xs : List ℕ) → k ≤ m → take k (take m xs) ≡ take k xs
+take-take zero m xs l = refl
+take-take (suc k) zero xs l = absurd (omega arith)
+take-take (suc k) (suc m) [] l = refl
+take-take (suc k) (suc m) (x ∷ xs) l = ap (λ ys. x ∷ ys) (take-take k m xs (omega arith))
 
 -- a front of the next piece
 pub record NextFront (all : List ℕ) (n : ℕ) (piece front : List ℕ) : Type 0 where
@@ -19,12 +25,6 @@ next_front all n k piece front left next is l =
       joined = ap (λ x. take n all ++ x) same ∙ sym (take-add n k all) ∙ ap (λ m. take (n + m) all) (sym len);
       within = omega (arith, next.within, len, l);
     }
-  where
-    take-take : (k m : ℕ) (xs : List ℕ) → k ≤ m → take k (take m xs) ≡ take k xs
-    take-take zero m xs l = refl
-    take-take (suc k) zero xs l = absurd (omega arith)
-    take-take (suc k) (suc m) [] l = refl
-    take-take (suc k) (suc m) (x ∷ xs) l = ap (λ ys. x ∷ ys) (take-take k m xs (omega arith))
 
 -- what was read comes next
 pub comes_next : (all : List ℕ) (mid after before now : Option (List ℕ)) (session : Session) (paid steps : ℕ) (buffer piece : List ℕ) (n : ℕ) → HasFed all mid session before now paid steps → Gives mid n buffer after → piece ≡ take n buffer → ComesNext all (fed_of session) piece after
