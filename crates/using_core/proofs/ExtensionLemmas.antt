@@ -31,6 +31,7 @@ use Rattle.meaning_core.proofs.MadeLemmas.{split_ok}
 use Rattle.using_core.specs.Extended.{made_of, AreItems}
 use Rattle.using_core.specs.PlaceRows.{unpacked_places, within_has}
 use Rattle.using_core.specs.Swept.{swept_rows}
+use Rattle.using_core.specs.ExtensionLaws.{behind}
 use Rattle.using_core.proofs.FaultLemmas.{least_over}
 use Rattle.using_core.proofs.PlaceFits.{at_place-fits}
 use Rattle.using_core.proofs.SweptLemmas.{fault_there, swept_rows_of}
@@ -71,12 +72,6 @@ same_maps h k [] [] n e = refl
 same_maps h k [] (a ∷ acl) n e = absurd (omega (arith, n))
 same_maps h k (t ∷ to) [] n e = absurd (omega (arith, n))
 same_maps h k (t ∷ to) (a ∷ acl) n e = ap₂ (λ x xs. x ∷ xs) (e 0 (omega arith)) (same_maps h k to acl (omega (arith, n)) (λ j l. e (suc j) (omega (arith, l))))
-
-behind : (made x : Row) (a : ℕ) → get_or (made ++ x) (length made + a) (truth false) ≡ get_or x a (truth false)
-behind [] x a = let z : 0 + a ≡ a = omega arith in ap (λ k. get_or x k (truth false)) z
-behind (v ∷ made) x a =
-    let z : suc (length made) + a ≡ suc (length made + a) = omega arith in
-    ap (λ k. get_or (v ∷ (made ++ x)) k (truth false)) z ∙ behind made x a
 
 module _ (from heading : Heading) (acl to : List ℕ) (sets : PlainSets) (at : List ℕ) (items : AreItems from heading acl to sets at) (rows : List Row)
     (ascends : Ascends row_cmp rows) (shaped : (x : Row) → In x rows → IsShaped from acl x) (fitting : (x : Row) → In x rows → IsTrue (fits_heading from x)) where

@@ -95,7 +95,7 @@ others_alike n to f g (p ∷ at) h =
         listed true q = rest
 
 -- a value of the items, or one of a row
-behind : (made x : Row) (a : ℕ) → get_or (made ++ x) (length made + a) (truth false) ≡ get_or x a (truth false)
+pub behind : (made x : Row) (a : ℕ) → get_or (made ++ x) (length made + a) (truth false) ≡ get_or x a (truth false)
 behind [] x a = let z : 0 + a ≡ a = omega arith in ap (λ k. get_or x k (truth false)) z
 behind (v ∷ made) x a =
     let z : suc (length made) + a ≡ suc (length made + a) = omega arith in
