@@ -32,7 +32,7 @@ use Rattle.using_core.specs.Extended.{made_of, AreItems}
 use Rattle.using_core.specs.PlaceRows.{unpacked_places, within_has}
 use Rattle.using_core.specs.Swept.{swept_rows}
 use Rattle.using_core.proofs.FaultLemmas.{least_over}
-use Rattle.using_core.proofs.PlaceFits.{at_place-fits}
+use Rattle.scalar_core.proofs.AtPlaceLemmas.{at_place-fits}
 use Rattle.using_core.proofs.SweptLemmas.{fault_there, swept_rows_of}
 
 -- ---- one row

@@ -26,7 +26,7 @@ use Rattle.using_core.specs.PlaceRows.{unpacked_places, HasSpans, among_itself, 
 
 -- ---- rows by their numbers
 
-numbered : {X : Type 0} (xs : List X) (x d : X) → In x xs → (r : ℕ) × (r < length xs) × (get_or xs r d ≡ x)
+pub numbered : {X : Type 0} (xs : List X) (x d : X) → In x xs → (r : ℕ) × (r < length xs) × (get_or xs r d ≡ x)
 numbered [] x d m = absurd m
 numbered (y ∷ xs) x d m = elim m [
   | inl e ↦ (0, omega arith, sym e)
@@ -45,7 +45,7 @@ given_fault to (Ok (Some y)) e h = absurd cc
 given_fault to (Ok None) e h = absurd cc
 given_fault to (Err d) e h = h
 
-shaped_spans : (from : Heading) (all acl : List ℕ) (x : Row) → IsShaped from all x → ((a : ℕ) → In a acl → IsTrue (among all a)) → HasSpans acl x
+pub shaped_spans : (from : Heading) (all acl : List ℕ) (x : Row) → IsShaped from all x → ((a : ℕ) → In a acl → IsTrue (among all a)) → HasSpans acl x
 shaped_spans from all [] x h m = tt
 shaped_spans from all (a ∷ acl) x h m = ((line_of (type_of (kind_at from a)), h.spans a (m a (inl refl))), shaped_spans from all acl x h (λ k n. m k (inr n)))
 
