@@ -11,9 +11,8 @@ ghost use Rattle.meaning_core.specs.Meanings.{limited, literal_rows};
 ghost use Rattle.meaning_core.specs.Rows.{literal_row};
 ghost use Rattle.meaning_core.specs.Typing.{IsTuple};
 
-use crate::operators::told;
 use point_core::{Memory, Place, Stop};
-use row_making::{extended_row, set_places};
+use row_making::{extended_row, set_places, told};
 use scalar_core::Scalar;
 use std::alloc::Global;
 use tree_core::Sets;

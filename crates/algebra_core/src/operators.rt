@@ -1,9 +1,9 @@
 // The plain operators of nodes, with the limit of rows told at their places.
-ghost use Rattle.std.specs.Prelude.{◌≡◌, ℕ, List, MatchResult, Ok, IsTrue};
+ghost use Rattle.std.specs.Prelude.{◌≡◌, ℕ, List, Ok, IsTrue};
 ghost use Rattle.base_core.specs.Outcomes.{then_give};
 ghost use Rattle.value_core.specs.Values.{Heading as PlainHeading, Row as PlainRow, fits_heading};
 ghost use Rattle.scalar_core.specs.Expressions.{read};
-ghost use Rattle.relation_core.specs.Answers.{Answers, IsAnswer, IsRefusal, under};
+ghost use Rattle.relation_core.specs.Answers.{Answers, under};
 ghost use Rattle.relation_core.specs.Operators.{restricted, extended};
 ghost use Rattle.relation_core.specs.Parts.{projected};
 ghost use Rattle.tree_core.specs.Trees.{read_sets};
@@ -14,31 +14,15 @@ ghost use Rattle.value_core.specs.declared.kind.Kind.TheVariants.{Truth};
 ghost use Rattle.scalar_core.specs.Kinds.{IsTyped};
 ghost use Rattle.meaning_core.specs.Typing.{IsInfix, IsProjection, IsRenaming, IsExtension};
 
-use point_core::{Code, Fault, Memory, Place, Stop};
+use point_core::{Place, Stop};
 use relation_core::{
     extend, intersect, join, matching, minus, not_matching, project, rename, restrict, union,
 };
-use row_making::{extended_row, holds, set_places};
+use row_making::{extended_row, holds, set_places, told};
 use scalar_core::Scalar;
 use std::alloc::Global;
 use tree_core::{InfixWord, Sets};
-use value_core::{Heading, MOST_ROWS, Name, Names, Positions, Relation, Row, RowsRefuse};
-
-/// The relation, or the fault of too many rows at the place.
-pub(crate) fn told(place: Place, answer: Result<Relation, RowsRefuse>) -> Result<Relation, Stop>
-    requires { (heading : PlainHeading) × (rows : List PlainRow) × MatchResult answer (IsAnswer heading rows) (IsRefusal rows) }
-    ensures { (heading : PlainHeading) (rows : List PlainRow) → MatchResult answer (IsAnswer heading rows) (IsRefusal rows)
-        → Answers result (under heading (limited place rows)) }
-{
-    match answer {
-        Ok(relation) => Ok(relation),
-        Err(RowsRefuse::TooMany) => Err(Stop::Fault(Fault {
-            place,
-            code: Code::E35,
-        })),
-        Err(RowsRefuse::Memory) => Err(Stop::Memory),
-    }
-}
+use value_core::{Heading, MOST_ROWS, Name, Names, Positions, Relation, Row};
 
 /// What the operator gives of two relations, or the fault of too many rows.
 pub(crate) fn infix(

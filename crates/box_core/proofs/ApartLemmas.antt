@@ -11,7 +11,8 @@ use Rattle.box_core.specs.Apartness.{AreApart, Follows, AllFollow, AreOwn}
 use Rattle.box_core.specs.Common.{At, first_of, common, has_cell, HaveCells}
 use Rattle.box_core.specs.Meetings.{Met, IsMeeting}
 use Rattle.box_core.specs.Rows.{IsRow, Ascend, KeyBox}
-use Rattle.box_core.proofs.PlaceLemmas.{span_parts, span_from, at_common, common_length, cells_from, cell_parts}
+use Rattle.box_core.proofs.PlaceLemmas.{span_from, at_common, common_length, cells_from, cell_parts}
+use Rattle.slice_core.proofs.Sweeping.{cell_has}
 use Rattle.box_core.proofs.RowLemmas.{row_among, among_row, one_row, row_all, row_sides}
 
 module _ {P : Type 0} (order : P → P → Ordering) (total : IsTotalOrder order) (rows : List (KeyBox P)) (up : Ascend order rows) where
@@ -63,8 +64,8 @@ module _ {P : Type 0} (order : P → P → Ordering) (total : IsTotalOrder order
     follows_apart [] y l (p ∷ ps) e a b = absurd (true≢false (sym a))
     follows_apart (s ∷ x) [] l (p ∷ ps) e a b = absurd (true≢false (sym b))
     follows_apart (s ∷ x) (t ∷ y) l (p ∷ ps) e a b =
-        let u = (span_parts s p (and_parts (span_has s p) (has_place x ps) a).0).1 in
-        let v = (span_parts t p (and_parts (span_has t p) (has_place y ps) b).0).0 in
+        let u = (cell_has s p (and_parts (span_has s p) (has_place x ps) a).0).1 in
+        let v = (cell_has t p (and_parts (span_has t p) (has_place y ps) b).0).0 in
         omega arith
 
     at_one : (x : List (ℕ × ℕ)) (p : ℕ) → length x ≡ 1 → (first_of x).0 ≤ p → p < (first_of x).1 → At x (p ∷ [])

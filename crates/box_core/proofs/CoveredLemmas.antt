@@ -18,13 +18,11 @@ use Rattle.slice_core.proofs.UnitedLemmas.{IsBeside}
 use Rattle.box_core.specs.Common.{At, EndsBy}
 use Rattle.box_core.specs.Groups.{longer}
 use Rattle.box_core.specs.Rows.{KeyBox}
-use Rattle.box_core.proofs.PlaceLemmas.{span_parts, span_from}
+use Rattle.box_core.proofs.PlaceLemmas.{span_from}
+use Rattle.slice_core.proofs.Sweeping.{cell_has}
+use Rattle.slice_core.proofs.LabelRows.{some_of}
 
 -- ---- lists
-
-pub some_from : (xs : List ℕ) → xs ≢ [] → (r : ℕ) × Among r xs
-some_from [] h = absurd (h refl)
-some_from (x ∷ xs) h = (x, inl refl)
 
 pub all_from : {X : Type 0} (Q : X → Type 0) (xs : List X) → ((x : X) → Among x xs → Q x) → All Q xs
 all_from {X} Q xs h = All-from_recursion Q xs (go xs h)
@@ -87,7 +85,7 @@ turn_places {P} S k a z up old new rows made lens is same before l place j e =
         | inl w ↦ let v = b.0 (h.0, w, h.2) in let u = v.0 in (omega arith, v.1)
         | inr w ↦
             let v = m.0 (h.0, w, h.2) in
-            let u = span_parts (a, z) j v.1 in
+            let u = cell_has (a, z) j v.1 in
             (u.1, subst (λ U. U) (sym (same l place j u.0 u.1)) (i.0 v.0))
       ],
       λ h. elim (cases_lt j a) [
@@ -144,7 +142,7 @@ turn_ends {P} boxes live side a z cut old new rows made lens inner before y m =
           let u = inner x v.1 in
           let r : ℕ = u.0 in
           let f = (among_filter (side_has boxes side a) r live).0 u.1 in
-          let has = span_parts (span_of boxes side r) a f.1 in
+          let has = cell_has (span_of boxes side r) a f.1 in
           let end : z ≤ (span_of boxes side r).1 = elim (cut (span_of boxes side r).1 (cut_among boxes side live r f.0)) [ inl q ↦ (let p = has.1 in absurd (omega arith)) | inr q ↦ q ] in
           let here : z ≤ (get_or (box boxes r) (length x.1) no_cells).1 = subst (λ n. z ≤ (get_or (box boxes r) n no_cells).1) (sym (lens x v.1)) end in
           (r, f.0, subst (λ (q : KeyBox P). EndsBy (box boxes r) q.1) v.2 (ends_longer (box boxes r) x.1 (a, z) u.2 here))
@@ -203,7 +201,7 @@ module _ {P F : Type 0} (m : List ℕ → List ℕ → Result (List P) F) (boxes
 
     pub leaf_ends : (x : KeyBox P) → Among x rows → (r : ℕ) × Among r live × EndsBy (box boxes r) x.1
     leaf_ends x h =
-        let s = some_from live some in
+        let s = some_of live some in
         let e : x.1 ≡ [] = nil_from x.1 (leaf_lengths x h ∙ z) in
         (s.0, s.1, subst (EndsBy (box boxes s.0)) (sym e) (λ t. omega arith))
 

@@ -1,5 +1,5 @@
 -- Rows key by key.
-use Rattle.std.proofs.Common.{◌≡◌, ◌≢◌, ℕ, suc, ◌+◌, ◌<◌, ◌≤◌, List, [], ◌∷◌, ◌++◌, map, length, ◌↔◌, ◌⊎◌, inl, inr, arith, sym, ap, subst, refl, ◌∙◌, Ordering, Option, Some}
+use Rattle.std.proofs.Common.{◌≡◌, ◌≢◌, ℕ, suc, ◌+◌, ◌<◌, ◌≤◌, List, [], ◌∷◌, ◌++◌, length, ◌↔◌, ◌⊎◌, inl, inr, arith, sym, ap, subst, refl, ◌∙◌, Ordering, Option, Some}
 use Rattle.std.specs.declared.cmp.Ordering.TheVariants.{Less, Equal}
 use Rattle.std.specs.Cmp.{IsTotalOrder}
 use Rattle.std.specs.Ordering.{nat_cmp, is_lt}
@@ -23,8 +23,9 @@ use Rattle.box_core.specs.Common.{At, EndsBy}
 use Rattle.box_core.specs.Groups.{IsGroup, OfGroup}
 use Rattle.box_core.specs.Meetings.{boxes_in}
 use Rattle.box_core.specs.Rows.{Ascend, IsRow, KeyBox}
-use Rattle.box_core.proofs.CoveredLemmas.{some_from, all_from}
+use Rattle.box_core.proofs.CoveredLemmas.{all_from}
 use Rattle.box_core.proofs.RowLemmas.{row_among, among_row, one_row, row_sides, row_there, map_row}
+use Rattle.slice_core.proofs.LabelRows.{map_length, some_of}
 
 -- no row before n is of the key of one from n on
 abbrev pub Split : {P : Type 0} → List (KeyBox P) → ℕ → Type 0
@@ -61,10 +62,6 @@ pub box_is : {P : Type 0} (rows : List (KeyBox P)) (r : ℕ) (x : KeyBox P) → 
 box_is {P} rows r x h =
     let w = map_row (λ (z : KeyBox P). z.1) rows r x h in
     other_default (boxes_in rows) r [] x.1 w.0 ∙ w.1
-
-pub map_length : {X Y : Type 0} (f : X → Y) (xs : List X) → length (map f xs) ≡ length xs
-map_length f [] = refl
-map_length f (x ∷ xs) = ap suc (map_length f xs)
 
 module _ {P : Type 0} (bs : List IndexBox) (rows : List (KeyBox P)) (are : sides_of bs ≡ boxes_in rows) where
   boxes_count : length bs ≡ length rows
@@ -160,7 +157,7 @@ module _ {P : Type 0} (order : P → P → Ordering) (total : IsTotalOrder order
         | inr w ↦ (x0.0, here place, group_is place, elim w.0 [ inl n ↦ n | inr n ↦ absurd (n refl) ], (λ r m. ((members r).0 ((among_filter (λ r. has_place (box (boxes_in rows) r) place) r live).0 m).0).1), w.1)
       ],
       λ h.
-          let s = some_from h.1 h.3 in
+          let s = some_of h.1 h.3 in
           let w = (h.2.members s.0).0 s.1 in
           elim (cases_lt s.0 first) [
             | inl l ↦ inl (h.0, h.1, h.2, h.3, (λ r m. let v = (h.2.members r).0 m in elim (cases_lt r first) [ inl q ↦ q | inr q ↦ absurd (was s.0 r w.0 v.0 l q w.1 v.1 (w.2 ∙ sym v.2)) ]), h.5)
@@ -178,7 +175,7 @@ pub split_first : {P : Type 0} (rows : List (KeyBox P)) → Split rows 0
 split_first rows i j x y l m h g e = omega arith
 
 pub done_none : {P : Type 0} (rows : List (KeyBox P)) (V : List ℕ → Type 0) (place : List ℕ) → Done rows 0 V place → ⊥
-done_none rows V place h = let s = some_from h.1 h.3 in let l = h.4 s.0 s.1 in omega arith
+done_none rows V place h = let s = some_of h.1 h.3 in let l = h.4 s.0 s.1 in omega arith
 
 rows_under : (a z : ℕ) (xs : List ℕ) → AreRows a z xs → (r : ℕ) → Among r xs → r < z
 rows_under a z [] h r m = absurd m

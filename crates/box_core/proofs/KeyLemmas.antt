@@ -15,7 +15,8 @@ use Rattle.box_core.specs.Common.{At, EndsBy, first_of}
 use Rattle.box_core.specs.Rows.{Ascend, IsRow, KeyBox}
 use Rattle.box_core.specs.Tallies.{IsIn, Within, span_at, OfTallied, IsPart, AreMarked, OfMarked}
 use Rattle.box_core.proofs.GroupLemmas.{Split, one_key, only, least_all}
-use Rattle.box_core.proofs.PlaceLemmas.{span_parts, span_from}
+use Rattle.box_core.proofs.PlaceLemmas.{span_from}
+use Rattle.slice_core.proofs.Sweeping.{cell_has}
 use Rattle.box_core.proofs.RowLemmas.{row_among, row_sides, row_there, map_row}
 
 -- V holds of some key and of the marks of its rows that have the cell, and these are before n
@@ -26,7 +27,7 @@ DoneMarks {P} rows n V j = (k : P) × (f : List Bool) × AreMarked rows k (j ∷
 
 at_one : (y : List (ℕ × ℕ)) (j : ℕ) → length y ≡ 1 → At y (j ∷ []) ↔ ((first_of y).0 ≤ j) × (j < (first_of y).1)
 at_one [] j e = absurd (omega (arith, e))
-at_one (s ∷ []) j e = (λ h. span_parts s j (and_parts (span_has s j) true h).0, λ h. and_from (span_has s j) true (span_from s j h.0 h.1) refl)
+at_one (s ∷ []) j e = (λ h. cell_has s j (and_parts (span_has s j) true h).0, λ h. and_from (span_has s j) true (span_from s j h.0 h.1) refl)
 at_one (s ∷ t ∷ ys) j e = absurd (omega (arith, e))
 
 one_side : (y : List (ℕ × ℕ)) → length y ≡ 1 → first_of y ∷ [] ≡ y

@@ -21,6 +21,7 @@ use Rattle.box_core.specs.Meetings.{IsShared}
 use Rattle.box_core.specs.Outside.{IsRest}
 use Rattle.box_core.specs.Rows.{IsRow, Ascend, KeyBox}
 use Rattle.box_core.proofs.RowLemmas.{row_among, among_row, one_row, row_there, map_row, row_map, in_order}
+use Rattle.slice_core.proofs.LabelRows.{map_length}
 
 -- ---- packed rows of sets that are alike at the places of all sides
 
@@ -93,15 +94,11 @@ has_alike rows others e l place = (
 
 -- ---- rows with a key and a label, by their numbers
 
-map_count : {X Y : Type 0} (f : X → Y) (xs : List X) → length (map f xs) ≡ length xs
-map_count f [] = refl
-map_count f (x ∷ xs) = ap suc (map_count f xs)
-
 module _ {K P : Type 0} (order : K → K → Ordering) (total : IsTotalOrder order) (rows sorted : List (KeyedBox K P)) (moved : IsPermutation rows sorted)
     (keys : List (KeyBox K)) (labels : List P) (ks : keys ≡ map key_of sorted) (ls : labels ≡ map label_of sorted) where
   pub paired : ArePaired rows keys labels
   paired = record {
-    count = ap length ls ∙ map_count label_of sorted ∙ sym (ap length ks ∙ map_count key_of sorted);
+    count = ap length ls ∙ map_length label_of sorted ∙ sym (ap length ks ∙ map_length key_of sorted);
     from = λ i x l a b.
         let v = row_map key_of sorted i x (subst (λ zs. IsRow zs i x) ks a) in
         let w = row_map label_of sorted i l (subst (λ zs. IsRow zs i l) ls b) in

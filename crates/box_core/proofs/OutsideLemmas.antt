@@ -9,20 +9,21 @@ use Rattle.packing_core.specs.Packed.{no_cells}
 use Rattle.packing_core.proofs.AmongLemmas.{among_append}
 use Rattle.box_core.specs.Common.{At, both, first_of}
 use Rattle.box_core.specs.Outside.{HasBox, part, beside, narrowed, outside_to, outside}
-use Rattle.box_core.proofs.PlaceLemmas.{span_parts, span_from}
+use Rattle.box_core.proofs.PlaceLemmas.{span_from}
+use Rattle.slice_core.proofs.Sweeping.{cell_has}
 
 -- ---- a place side by side
 
 pub at_side : (y : List (ℕ × ℕ)) (place : List ℕ) (s : ℕ) → At y place → s < length place → ((get_or y s no_cells).0 ≤ get_or place s 0) × (get_or place s 0 < (get_or y s no_cells).1)
 at_side y [] s h l = absurd (omega arith)
 at_side [] (p ∷ ps) s h l = absurd (true≢false (sym h))
-at_side (x ∷ xs) (p ∷ ps) zero h l = span_parts x p (and_parts (span_has x p) (has_place xs ps) h).0
+at_side (x ∷ xs) (p ∷ ps) zero h l = cell_has x p (and_parts (span_has x p) (has_place xs ps) h).0
 at_side (x ∷ xs) (p ∷ ps) (suc s) h l = at_side xs ps s (and_parts (span_has x p) (has_place xs ps) h).1 (omega arith)
 
 pub at_first : (y : List (ℕ × ℕ)) (place : List ℕ) → At y place → 0 < length place → ((first_of y).0 ≤ get_or place 0 0) × (get_or place 0 0 < (first_of y).1)
 at_first y [] h l = absurd (omega arith)
 at_first [] (p ∷ ps) h l = absurd (true≢false (sym h))
-at_first (x ∷ xs) (p ∷ ps) h l = span_parts x p (and_parts (span_has x p) (has_place xs ps) h).0
+at_first (x ∷ xs) (p ∷ ps) h l = cell_has x p (and_parts (span_has x p) (has_place xs ps) h).0
 
 pub at_all : (y : List (ℕ × ℕ)) (place : List ℕ) → length place ≤ length y → ((s : ℕ) → s < length place → ((get_or y s no_cells).0 ≤ get_or place s 0) × (get_or place s 0 < (get_or y s no_cells).1)) → At y place
 at_all y [] e h = refl
@@ -44,7 +45,7 @@ at_set y [] s v h l m a b = absurd (omega arith)
 at_set [] (p ∷ ps) s v h l m a b = absurd (omega arith)
 at_set (x ∷ xs) (p ∷ ps) zero v h l m a b =
     let w = and_parts (span_has v p) (has_place xs ps) h in
-    let u = span_parts v p w.0 in
+    let u = cell_has v p w.0 in
     let c = u.0 in
     let d = u.1 in
     (and_from (span_has x p) (has_place xs ps) (span_from x p (omega arith) (omega arith)) w.1, c, d)

@@ -8,17 +8,9 @@ use Rattle.std.proofs.lemmas.List.{take_all}
 use Rattle.packing_core.specs.Live.{span_has, has_place}
 use Rattle.packing_core.specs.Packed.{no_cells}
 use Rattle.box_core.specs.Common.{At, EndsBy, both, common, has_cell, HaveCells, first_of}
+use Rattle.slice_core.proofs.Sweeping.{cell_has}
 
 -- ---- cells
-
-pub span_parts : (s : ℕ × ℕ) (i : ℕ) → span_has s i ≡ true → (s.0 ≤ i) × (i < s.1)
-span_parts s i e = let w = and_parts (leb s.0 i) (ltb i s.1) e in (first s.0 w.0, last s.1 w.1)
-  where
-    first : (a : ℕ) → leb a i ≡ true → a ≤ i
-    first a h = grind (arith, nat_tests)
-
-    last : (z : ℕ) → ltb i z ≡ true → i < z
-    last z h = grind (arith, nat_tests)
 
 pub span_from : (s : ℕ × ℕ) (i : ℕ) → s.0 ≤ i → i < s.1 → span_has s i ≡ true
 span_from s i l m = within s.0 s.1 l m
@@ -28,15 +20,15 @@ span_from s i l m = within s.0 s.1 l m
 
 both_parts : (x y : ℕ × ℕ) (i : ℕ) → span_has (both x y) i ≡ true → (span_has x i ≡ true) × (span_has y i ≡ true)
 both_parts x y i h =
-    let w = span_parts (both x y) i h in
+    let w = cell_has (both x y) i h in
     let a : max x.0 y.0 ≤ i = w.0 in
     let b : i < min x.1 y.1 = w.1 in
     (span_from x i (omega (arith, clamps)) (omega (arith, clamps)), span_from y i (omega (arith, clamps)) (omega (arith, clamps)))
 
 both_from : (x y : ℕ × ℕ) (i : ℕ) → span_has x i ≡ true → span_has y i ≡ true → span_has (both x y) i ≡ true
 both_from x y i h g =
-    let a = span_parts x i h in
-    let b = span_parts y i g in
+    let a = cell_has x i h in
+    let b = cell_has y i g in
     let p = a.0 in
     let q = a.1 in
     let r = b.0 in
@@ -119,7 +111,7 @@ cells_from [] place e h = refl
 cells_from (x ∷ xs) [] e h = absurd (omega (arith, e))
 cells_from (x ∷ xs) (p ∷ ps) e h =
     let w = and_parts (span_has x p) (has_place xs ps) h in
-    let v = span_parts x p w.0 in
+    let v = cell_has x p w.0 in
     let a = v.0 in
     let b = v.1 in
     and_from (has_cell x) (list_all has_cell xs) (cell_from x (omega arith)) (cells_from xs ps (omega (arith, e)) w.1)

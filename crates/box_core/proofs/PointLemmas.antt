@@ -13,7 +13,8 @@ use Rattle.packing_core.proofs.Whole.{cells_back, cuts_back}
 use Rattle.slice_core.specs.PackedRows.{HasRow}
 use Rattle.box_core.specs.Common.{At, EndsBy}
 use Rattle.box_core.specs.Rows.{KeyBox}
-use Rattle.box_core.proofs.PlaceLemmas.{span_parts, span_from}
+use Rattle.box_core.proofs.PlaceLemmas.{span_from}
+use Rattle.slice_core.proofs.Sweeping.{cell_has}
 
 -- ---- boxes that end by others stay on the grid
 
@@ -57,7 +58,7 @@ module _ (d : Cuts) where
         let m : i < x.1 = order_of_cells g i x.1 (omega (arith, ints)) in
         span_from x i (omega arith) m,
     λ h.
-        let w = span_parts x i h in
+        let w = cell_has x i h in
         let f = rises_far g x.0 i w.0 in
         let k = rises_far g (suc i) x.1 w.1 in
         (omega (arith, ints), omega (arith, ints)),

@@ -14,7 +14,8 @@ use Rattle.slice_core.proofs.UnitedLemmas.{IsBeside}
 use Rattle.box_core.specs.Common.{At}
 use Rattle.box_core.specs.Rows.{KeyBox}
 use Rattle.box_core.specs.Tallies.{IsIn, span_at, pair_at, Within, IsEntered, IsLeft, AreEntered, AreLeft, AreBy, IsKept, boxed, label_in, OfTallied, IsPart}
-use Rattle.box_core.proofs.PlaceLemmas.{span_parts, span_from}
+use Rattle.box_core.proofs.PlaceLemmas.{span_from}
+use Rattle.slice_core.proofs.Sweeping.{cell_has}
 
 pub equal_or : (a b : ℕ) → (a ≡ b) ⊎ (a ≢ b)
 equal_or a b = elim (cases_lt a b) [
@@ -239,7 +240,7 @@ has_boxed {P} a z (Some k) l j = (
   λ h. elim h.1 [
     | inl e ↦
         let y : (a, z) ∷ [] ≡ h.0 = ap (λ (x : KeyBox P). x.1) e in
-        let s = span_parts (a, z) j (and_parts (span_has (a, z) j) true (subst (λ y. At y (j ∷ [])) (sym y) h.2)).0 in
+        let s = cell_has (a, z) j (and_parts (span_has (a, z) j) true (subst (λ y. At y (j ∷ [])) (sym y) h.2)).0 in
         (ap Some (ap (λ (x : KeyBox P). x.0) e), s.0, s.1)
     | inr w ↦ absurd w
   ],

@@ -81,7 +81,7 @@ sum_fits vs f short fit =
 
 -- ---- totals
 
-no_sum : (vs : List ℤ) (f : List Bool) → ((r : ℕ) → IsIn f r → ⊥) → sum_of vs f ≡ pos 0
+pub no_sum : (vs : List ℤ) (f : List Bool) → ((r : ℕ) → IsIn f r → ⊥) → sum_of vs f ≡ pos 0
 no_sum [] f h = refl
 no_sum (v ∷ vs) [] h = refl
 no_sum (v ∷ vs) (true ∷ fs) h = absurd (h 0 refl)

@@ -18,6 +18,7 @@ use Rattle.cell_core.specs.Numbering.{cut_at, Rises, span_at, numbers_of, IsSide
 use Rattle.cell_core.specs.Cells.{box_numbers, boxes_of, IsPackedForm, HasFault, rows_from, cells_at, side_of, grids_of, grid_box, grid_row}
 use Rattle.cell_core.proofs.Numbers.{rises_next}
 use Rattle.cell_core.proofs.Theorem.{row_of, rows_in_order, members, faults}
+use Rattle.slice_core.proofs.LabelRows.{map_at}
 
 -- the cuts as the mathematics has them
 abbrev pub cuts_list : (ns : List (List ℤ × ℤ)) → AllByRecursion (λ g. Rises g.0 g.1) ns → List Cuts
@@ -46,11 +47,6 @@ cut_count d (g ∷ ns) a (suc j) e h = cut_count d ns a.1 j e (omega arith)
 pub in_grid : (d : Cuts) (gs : List Cuts) (y : List (ℕ × ℕ)) (j : ℕ) → ((i : ℕ) → i < j → (get_or y i no_cells).1 ≤ (get_or gs i d).count) → IsInGrid (cuts_back d j gs) (cells_back j y)
 in_grid d gs y zero h = tt
 in_grid d gs y (suc j) h = (h j (omega arith), in_grid d gs y j (λ i l. h i (omega arith)))
-
-pub get_map : {X Y : Type 0} (f : X → Y) (xs : List X) (i : ℕ) (d : X) (e : Y) → i < length xs → get_or (map f xs) i e ≡ f (get_or xs i d)
-get_map f [] i d e h = absurd (omega arith)
-get_map f (x ∷ xs) zero d e h = refl
-get_map f (x ∷ xs) (suc i) d e h = get_map f xs i d e (omega arith)
 
 module _ {T P : Type 0} (n : P → ℤ) (has : T → P → Type 0) (high : T → ℤ) where
   abbrev S : Type 0
@@ -97,7 +93,7 @@ module _ {T P : Type 0} (n : P → ℤ) (has : T → P → Type 0) (high : T →
     both (x ∷ xs) ys a b = (a.0, both xs ys a.1 b)
 
     cell_of_side : (r j : ℕ) → r < length all → j < length ts → get_or (map (cells_at r) ss) j no_cells ≡ get_or (get_or ss j s0).2 r no_cells
-    cell_of_side r j h l = get_map (cells_at r) ss j s0 no_cells (omega arith)
+    cell_of_side r j h l = map_at (cells_at r) ss j s0 no_cells (omega arith)
 
     total : length all ≡ length left + length right
     total = length-append left right
@@ -120,15 +116,15 @@ module _ {T P : Type 0} (n : P → ℤ) (has : T → P → Type 0) (high : T →
         let jg : j < length (grids_of n high ts ss) = (let w = length_grids ts ss len in omega arith) in
         let in_row : j < length row = omega arith in
         let in_map : r < length (map (side_of j d0) all) = (let w = length-map all (side_of j d0) in omega arith) in
-        get_map (numbers_of n) row j d0 nowhere in_row
-        ∙ ap (numbers_of n) (sym (get_map (side_of j d0) all r [] d0 b2))
+        map_at (numbers_of n) row j d0 nowhere in_row
+        ∙ ap (numbers_of n) (sym (map_at (side_of j d0) all r [] d0 b2))
         ∙ sym (s.cells r d0 in_map)
         ∙ ap (λ x. span_at (map n (get_or ss j s0).0) (high (get_or ts j t0) +ℤ pos 1) x) (sym (cell_of_side r j b2 j'))
         ∙ ap (λ (w : List ℤ × ℤ). span_at w.0 w.1 (get_or (map (cells_at r) ss) j no_cells)) (sym g)
         ∙ sym (cut_span c0 (grids_of n high ts ss) rises j ([], pos 0) (get_or (map (cells_at r) ss) j no_cells) jg) in
         let q : map (numbers_of n) row ≡ box_of gs (map (cells_at r) ss) =
         same_box c0 gs (map (numbers_of n) row) (map (cells_at r) ss) (length-map row (numbers_of n) ∙ rl ∙ sym count) cl point in
-        ap (box_of gs) (cells r b') ∙ sym q ∙ sym (get_map (box_numbers n) all r [] [] b2) ∙ ap (λ ys. get_or ys r []) (map_both left right)
+        ap (box_of gs) (cells r b') ∙ sym q ∙ sym (map_at (box_numbers n) all r [] [] b2) ∙ ap (λ ys. get_or ys r []) (map_both left right)
       where
         map_both : (xs ys : List (List (P × P))) → map (box_numbers n) (xs ++ ys) ≡ boxes_of n xs ++ boxes_of n ys
         map_both [] ys = refl

@@ -11,7 +11,8 @@ use Rattle.slice_core.specs.declared.inward.IndexBox.{IndexBox}
 use Rattle.slice_core.specs.Rows.{sides_of, AreRows}
 use Rattle.cell_core.specs.Numbering.{IsSide, IsGrid}
 use Rattle.cell_core.specs.Cells.{rows_from, cells_at, side_of}
-use Rattle.cell_core.proofs.Assembly.{get_map, pick_from}
+use Rattle.cell_core.proofs.Assembly.{pick_from}
+use Rattle.slice_core.proofs.LabelRows.{map_at}
 
 pub are_rows : (a n z : ℕ) → a + n ≤ z → AreRows a z (rows_from a n)
 are_rows a zero z h = tt
@@ -38,7 +39,7 @@ module _ {T P : Type 0} (n : P → ℤ) (has : T → P → Type 0) (high : T →
 
   module _ (boxes : List IndexBox) (counts : List ℕ) (all : length boxes ≡ length left + length right) (cells : (r : ℕ) → r < length left + length right → get_or (sides_of boxes) r [] ≡ map (cells_at r) ss) (same : counts ≡ map (λ s. length s.0) ss) where
     own : (k : ℕ) (d : IndexBox) → k < length boxes → (get_or boxes k d).sides.items ≡ map (cells_at k) ss
-    own k d h = sym (get_map (λ (x : IndexBox). x.sides.items) boxes k d [] h) ∙ cells k (omega arith)
+    own k d h = sym (map_at (λ (x : IndexBox). x.sides.items) boxes k d [] h) ∙ cells k (omega arith)
 
     count_length : length counts ≡ length ss
     count_length = ap length same ∙ length-map ss (λ (s : S). length s.0)
@@ -51,8 +52,8 @@ module _ {T P : Type 0} (n : P → ℤ) (has : T → P → Type 0) (high : T →
         let e : S = ([], [], []) in
         let z = count_length in
         let l' : s < length ss = omega arith in
-        let a : get_or (get_or boxes k d).sides.items s (0, 0) ≡ get_or (get_or ss s e).2 k no_cells = ap (λ ys. get_or ys s (0, 0)) (own k d h) ∙ get_map (cells_at k) ss s e (0, 0) l' in
-        let b : get_or counts s 0 ≡ length (get_or ss s e).0 = ap (λ ys. get_or ys s 0) same ∙ get_map (λ (w : S). length w.0) ss s e 0 l' in
+        let a : get_or (get_or boxes k d).sides.items s (0, 0) ≡ get_or (get_or ss s e).2 k no_cells = ap (λ ys. get_or ys s (0, 0)) (own k d h) ∙ map_at (cells_at k) ss s e (0, 0) l' in
+        let b : get_or counts s 0 ≡ length (get_or ss s e).0 = ap (λ ys. get_or ys s 0) same ∙ map_at (λ (w : S). length w.0) ss s e 0 l' in
         let w = (at s e (omega arith)).2 k (omega arith) in
         subst (λ (x : ℕ × ℕ). x.1 ≤ get_or counts s 0) (sym a) (subst (λ m. (get_or (get_or ss s e).2 k no_cells).1 ≤ m) (sym b) w)
 
@@ -63,7 +64,7 @@ module _ {T P : Type 0} (n : P → ℤ) (has : T → P → Type 0) (high : T →
 
   live_counts : (e : S) (r : ℕ) → r < length left + length right → (s : ℕ) → (get_or (map (cells_at r) ss) s no_cells).1 ≤ length (get_or ss s e).0
   live_counts e r b s = elim (cases_lt s (length ss)) [
-    | inl l ↦ subst (λ (x : ℕ × ℕ). x.1 ≤ length (get_or ss s e).0) (sym (get_map (cells_at r) ss s e no_cells l)) ((at s e (omega arith)).2 r b)
+    | inl l ↦ subst (λ (x : ℕ × ℕ). x.1 ≤ length (get_or ss s e).0) (sym (map_at (cells_at r) ss s e no_cells l)) ((at s e (omega arith)).2 r b)
     | inr l ↦ subst (λ (x : ℕ × ℕ). x.1 ≤ length (get_or ss s e).0) (sym (past ss r s l)) (omega arith)
   ]
 

@@ -18,7 +18,8 @@ use Rattle.slice_core.specs.PackedRows.{HasRow, IsPackedOf}
 use Rattle.cell_core.specs.Numbering.{Rises, span_at, numbers_of, IsSide}
 use Rattle.cell_core.specs.Cells.{box_numbers, cells_at, side_of, grids_of, grid_box, grid_row, row_numbers, keys_from}
 use Rattle.cell_core.proofs.Theorem.{row_of, box_order}
-use Rattle.cell_core.proofs.Assembly.{cuts_list, box_same, length_cuts, length_grids, grid_at, cut_count, in_grid, get_map, all_rise, pick_from, start}
+use Rattle.cell_core.proofs.Assembly.{cuts_list, box_same, length_cuts, length_grids, grid_at, cut_count, in_grid, all_rise, pick_from, start}
+use Rattle.slice_core.proofs.LabelRows.{map_at}
 use Rattle.cell_core.proofs.CellsBack.{cells_bound, place_in}
 use Rattle.cell_core.proofs.BackLemmas.{box_back}
 use Rattle.cell_core.proofs.PackedPlaces.{AllHave}
@@ -107,10 +108,10 @@ module _ {T P : Type 0} (L : Type 0) (n : P → ℤ) (has : T → P → Type 0) 
   own_side : (r : ℕ) (s : List (P × P)) → r < length all → get_or all r s ≡ s → (j : ℕ) (t : T) (d : P × P) (e : S) → j < length ts
       → numbers_of n (get_or s j d) ≡ span_at (map n (get_or ss j e).0) (high (get_or ts j t) +ℤ pos 1) (get_or (map (cells_at r) ss) j (0, 0))
   own_side r s h q j t d e l =
-      let a : get_or (map (side_of j d) all) r d ≡ get_or s j d = get_map (side_of j d) all r s d h ∙ ap (side_of j d) q in
+      let a : get_or (map (side_of j d) all) r d ≡ get_or s j d = map_at (side_of j d) all r s d h ∙ ap (side_of j d) q in
       let many : length (map (side_of j d) all) ≡ length all = length-map all (side_of j d) in
       let w = sides j t d e l in
-      ap (numbers_of n) (sym a) ∙ sym (w.cells r d (omega arith)) ∙ ap (span_at (map n (get_or ss j e).0) (high (get_or ts j t) +ℤ pos 1)) (sym (get_map (cells_at r) ss j e (0, 0) (omega arith)))
+      ap (numbers_of n) (sym a) ∙ sym (w.cells r d (omega arith)) ∙ ap (span_at (map n (get_or ss j e).0) (high (get_or ts j t) +ℤ pos 1)) (sym (map_at (cells_at r) ss j e (0, 0) (omega arith)))
 
   own_box : (r : ℕ) (s : List (P × P)) → r < length all → get_or all r s ≡ s → length s ≡ length ts → grid_box ns (map (cells_at r) ss) ≡ box_numbers n s
   own_box r s h q m = sym (box_back n high ts ss (map (cells_at r) ss) s len (length-map ss (cells_at r) ∙ len) m (own_side r s h q))
@@ -137,7 +138,7 @@ module _ {T P : Type 0} (L : Type 0) (n : P → ℤ) (has : T → P → Type 0) 
       let p = pick_from ts point (omega arith) in
       let w = sides j p.0 p.1 e l in
       let many : length (map (side_of j p.1) all) ≡ length all = length-map all (side_of j p.1) in
-      subst (λ (x : ℕ × ℕ). x.1 ≤ length (get_or ss j e).0) (sym (get_map (cells_at r) ss j e no_cells (omega arith))) (w.within r (omega arith))
+      subst (λ (x : ℕ × ℕ). x.1 ≤ length (get_or ss j e).0) (sym (map_at (cells_at r) ss j e no_cells (omega arith))) (w.within r (omega arith))
 
   one_fits : (l : L) (r : ℕ) → r < length all → Fit (l, map (cells_at r) ss)
   one_fits l r h = (

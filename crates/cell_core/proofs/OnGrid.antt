@@ -17,7 +17,7 @@ use Rattle.packing_core.proofs.Cells.{Cuts, box_of}
 use Rattle.packing_core.proofs.Chain.{Fits, InPlaces, slices_are_packed, packed_some}
 use Rattle.packing_core.proofs.Covered.{IsInGrid}
 use Rattle.packing_core.proofs.Joined.{IsIndexRun-iff}
-use Rattle.packing_core.proofs.PackedBoxes.{packed_form_is}
+use Rattle.packing_core.proofs.PackedBoxes.{packed_form_is, true_le}
 use Rattle.packing_core.proofs.Whole.{cells_back, cuts_back, length_box}
 use Rattle.slice_core.specs.Rows.{key_cmp}
 use Rattle.slice_core.specs.PackedRows.{HasRow, IsPackedOf}
@@ -27,9 +27,6 @@ use Rattle.cell_core.proofs.OrderLemmas.{boxed_total, boxed_separates}
 
 le_true : (a b : ℤ) → a ≤ℤ b → int_le a b ≡ true
 le_true a b h = grind (arith, ints)
-
-true_le : (a b : ℤ) → int_le a b ≡ true → a ≤ℤ b
-true_le a b h = omega (arith, ints)
 
 has_is : (x : List Span) (ps : List ℤ) → (has x ps ≡ true) ↔ Has x ps
 has_is [] [] = (λ h. tt, λ h. refl)

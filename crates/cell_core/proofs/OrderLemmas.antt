@@ -13,21 +13,17 @@ use Rattle.interval_core.specs.Members.{Span}
 use Rattle.packing_core.specs.Boxed.{Boxed, boxed_cmp, span_cmp}
 use Rattle.slice_core.specs.Rows.{key_cmp, pair_cmp}
 use Rattle.cell_core.specs.Places.{Placed, placed_cmp}
+use Rattle.slice_core.proofs.Steps.{both_equal}
 
 pub equal_of : (r : Ordering) → is_eq r ≡ true → r ≡ Equal
 equal_of Less e = absurd (true≢false (sym e))
 equal_of Equal e = refl
 equal_of Greater e = absurd (true≢false (sym e))
 
-then_same : (r s : Ordering) → ordering_then r s ≡ Equal → (r ≡ Equal) × (s ≡ Equal)
-then_same Less s e = cc
-then_same Equal s e = (refl, e)
-then_same Greater s e = cc
-
 -- pairs and lists that tie are equal, where their parts are
 then_separates : {X Y : Type 0} {one : X → X → Ordering} {two : Y → Y → Ordering} → Separates one → Separates two → (x y : X × Y) → ordering_then (one x.0 y.0) (two x.1 y.1) ≡ Equal → x ≡ y
 then_separates {one = one} {two = two} f g x y e =
-    let h = then_same (one x.0 y.0) (two x.1 y.1) e in
+    let h = both_equal (one x.0 y.0) (two x.1 y.1) e in
     let p = f x.0 y.0 h.0 in
     let q = g x.1 y.1 h.1 in
     λ i. (p i, q i)
@@ -37,7 +33,7 @@ list_separates same [] [] e = refl
 list_separates same [] (y ∷ b) e = cc
 list_separates same (x ∷ a) [] e = cc
 list_separates {cmp = cmp} same (x ∷ a) (y ∷ b) e =
-    let h = then_same (cmp x y) (slice_cmp cmp a b) e in
+    let h = both_equal (cmp x y) (slice_cmp cmp a b) e in
     let p = same x y h.0 in
     let q = list_separates same a b h.1 in
     λ i. p i ∷ q i

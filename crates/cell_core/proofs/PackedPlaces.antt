@@ -1,5 +1,5 @@
 -- Each place of labelled boxes lies in just one box of their packed form; and what that tells of the packed forms of two lists.
-use Rattle.std.proofs.Common.{◌≡◌, ℕ, zero, suc, ◌+◌, ◌<◌, ◌≤◌, ℤ, pos, ◌≤ℤ◌, List, [], ◌∷◌, ◌++◌, take, length, get_or, ◌↔◌, inl, inr, arith, sym, ap, subst, refl, ◌∙◌, Ordering}
+use Rattle.std.proofs.Common.{◌≡◌, ℕ, zero, suc, ◌+◌, ◌≤◌, ℤ, pos, ◌≤ℤ◌, List, [], ◌∷◌, ◌++◌, take, length, get_or, ◌↔◌, inl, inr, arith, sym, ap, subst, refl, ◌∙◌, Ordering}
 use Rattle.std.specs.declared.cmp.Ordering.TheVariants.{Less, Equal, Greater}
 use Rattle.std.specs.Cmp.{IsTotalOrder}
 use Rattle.std.proofs.lemmas.Int.{ints, by_lt_z}
@@ -15,6 +15,7 @@ use Rattle.packing_core.proofs.Runs.{IsPacked-points, IsPacked-one}
 use Rattle.packing_core.proofs.PackedBoxes.{in_packed_form, packed_ascends, packed_form_is}
 use Rattle.cell_core.proofs.Theorem.{packs-iff, points-iff, onto_twice, length_onto}
 use Rattle.cell_core.proofs.OrderLemmas.{boxed_total, boxed_separates}
+use Rattle.packing_core.proofs.Chain.{take_last, take_all, onto_last}
 
 -- ---- turned round
 
@@ -38,15 +39,6 @@ length_turn : (is : List Span) → length (turn is) ≡ length is
 length_turn [] = refl
 length_turn (i ∷ is) = longer (turn is) i ∙ ap suc (length_turn is)
 
-take_last : (y : List Span) (j : ℕ) → j < length y → take (suc j) y ≡ take j y ++ get_or y j nowhere ∷ []
-take_last [] j h = absurd (omega arith)
-take_last (x ∷ xs) zero h = refl
-take_last (x ∷ xs) (suc j) h = ap (λ zs. x ∷ zs) (take_last xs j (omega arith))
-
-take_all : (y : List Span) → take (length y) y ≡ y
-take_all [] = refl
-take_all (x ∷ xs) = ap (λ zs. x ∷ zs) (take_all xs)
-
 turn_take : (j : ℕ) (y : List Span) → j ≤ length y → sides_back j y ≡ turn (take j y)
 turn_take zero y h = refl
 turn_take (suc j) y h =
@@ -54,14 +46,6 @@ turn_take (suc j) y h =
 
 turned_sides : (y : List Span) → sides_back (length y) y ≡ turn y
 turned_sides y = turn_take (length y) y (omega arith) ∙ ap turn (take_all y)
-
-onto_last : (ps rest : List ℤ) → onto ps rest ≡ onto ps [] ++ rest
-onto_last [] rest = refl
-onto_last (p ∷ ps) rest = onto_last ps (p ∷ rest) ∙ sym (assoc (onto ps []) (p ∷ []) rest) ∙ ap (λ qs. qs ++ rest) (sym (onto_last ps (p ∷ [])))
-  where
-    assoc : (a b c : List ℤ) → (a ++ b) ++ c ≡ a ++ (b ++ c)
-    assoc [] b c = refl
-    assoc (x ∷ a) b c = ap (λ z. x ∷ z) (assoc a b c)
 
 has_end : (is : List Span) (ps : List ℤ) (i : Span) (p : ℤ) → Has is ps → i.0 ≤ℤ p → p ≤ℤ i.1 → Has (is ++ i ∷ []) (ps ++ p ∷ [])
 has_end [] [] i p h a b = (a, b, tt)

@@ -24,6 +24,7 @@ use Rattle.packing_core.proofs.Chain.{Fits, InPlaces, on, same, slices_are_packe
 use Rattle.slice_core.specs.Rows.{own_numbers, GivesLabel, GivesFault, key_cmp, pair_cmp}
 use Rattle.cell_core.specs.Cells.{IsPackedRow, HasFault, rows_from}
 use Rattle.packing_core.specs.Boxed.{boxed_cmp, span_cmp}
+use Rattle.slice_core.proofs.Steps.{below_less}
 
 -- ---- numbers of rows
 
@@ -142,9 +143,6 @@ int_same x y h = go (int_cmp x y) refl
     go Equal e = sym e
     go Greater e = let w : y <ℤ x = int_ranked x y Greater e in absurd (omega (arith, ints))
 
-nat_less : (a b : ℕ) → a < b → nat_cmp a b ≡ Less
-nat_less a b h = grind (arith, nat_tests)
-
 nat_more : (a b : ℕ) → b < a → nat_cmp a b ≡ Greater
 nat_more a b h = grind (arith, nat_tests)
 
@@ -154,7 +152,7 @@ nat_same a b h = grind (arith, nat_tests)
 at_cmp : (g : Cuts) (a b : ℕ) (c : ℤ) → int_cmp (g.at a -ℤ c) (g.at b -ℤ c) ≡ nat_cmp a b
 at_cmp g a b c =
     elim (cases_lt a b) [
-      | inl l ↦ let f = rises_far g (suc a) b l in let r = g.rises a in int_less (g.at a -ℤ c) (g.at b -ℤ c) (omega (arith, ints)) ∙ sym (nat_less a b l)
+      | inl l ↦ let f = rises_far g (suc a) b l in let r = g.rises a in int_less (g.at a -ℤ c) (g.at b -ℤ c) (omega (arith, ints)) ∙ sym (below_less a b l)
       | inr l ↦ elim (cases_lt b a) [
         | inl m ↦ let f = rises_far g (suc b) a m in let r = g.rises b in int_more (g.at a -ℤ c) (g.at b -ℤ c) (omega (arith, ints)) ∙ sym (nat_more a b m)
         | inr m ↦ let e : a ≡ b = omega arith in int_same (g.at a -ℤ c) (g.at b -ℤ c) (ap (λ i. g.at i -ℤ c) e) ∙ sym (nat_same a b e)

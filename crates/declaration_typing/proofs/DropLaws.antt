@@ -13,7 +13,7 @@ use Rattle.value_core.specs.declared.constraint.Constraint.{Constraint}
 use Rattle.value_core.specs.declared.constraint.Constraint.TheVariants.{Key, Packed, WhenUnpacked, UKey, Foreign, History}
 use Rattle.value_core.specs.declared.constraint.HistoryRule.{HistoryRule}
 use Rattle.value_core.specs.Values.{Name, Heading}
-use Rattle.scalar_typing.proofs.SoundLemmas.{then-sound}
+use Rattle.scalar_typing.proofs.SoundLemmas.{then-sound, any-given}
 use Rattle.relation_typing.specs.Attributes.{name_typed}
 use Rattle.tree_core.specs.Relvars.{State, PlainRelvar, base, view, Entries, relvar_named, relvar_heading, heading_if, constraints_if}
 use Rattle.tree_core.specs.Trees.{Tree, named, literal, infix_of, project, rename, restrict, extend, summarize, pack, unpack, using}
@@ -24,7 +24,6 @@ use Rattle.meaning_core.specs.WellMade.{sizes_of, headings_of, FitsHeadings, IsB
 use Rattle.meaning_core.proofs.MadeLemmas.{same_name}
 use Rattle.node_typing.specs.Positions.{check}
 use Rattle.declaration_typing.specs.Drops.{names_in, references, relvar_names, is_used, dropped}
-use Rattle.declaration_typing.proofs.FitLemmas.{any-given}
 use Rattle.tree_typing.proofs.NameLemmas.{either-side}
 use Rattle.declaration_typing.proofs.PositionLemmas.{held}
 

@@ -15,7 +15,7 @@ use Rattle.value_core.specs.declared.constraint.Constraint.{Constraint}
 use Rattle.value_core.specs.declared.constraint.Constraint.TheVariants.{Foreign}
 use Rattle.value_core.specs.Limits.{most_listed}
 use Rattle.value_core.specs.Values.{Name, Heading}
-use Rattle.scalar_typing.proofs.SoundLemmas.{then-sound}
+use Rattle.scalar_typing.proofs.SoundLemmas.{then-sound, any-given}
 use Rattle.relation_typing.specs.Attributes.{name_typed}
 use Rattle.relation_core.specs.Agreement.{position_of}
 use Rattle.tree_core.specs.Relvars.{State, PlainRelvar, base, view, Entries, relvar_named, heading_if}
@@ -29,11 +29,7 @@ use Rattle.declaration_typing.specs.Constraints.{base_heading, heading_there, po
 use Rattle.declaration_typing.proofs.DistinctLemmas.{no-distinct, all-push}
 use Rattle.declaration_typing.proofs.PositionLemmas.{held, positions_at, AreAt, key-at, AreThere, there-from, are-alike, different-there}
 
-pub any-given : {X : Type 0} (r : OrFault X) → IfOk r (λ _. Unit {0})
-any-given (Ok x) = tt
-any-given (Err e) = tt
-
-both-hold : {X : Type 0} (P Q : X → Type 0) (r : OrFault X) → IfOk r P → IfOk r Q → IfOk r (λ x. P x × Q x)
+pub both-hold : {X : Type 0} (P Q : X → Type 0) (r : OrFault X) → IfOk r P → IfOk r Q → IfOk r (λ x. P x × Q x)
 both-hold P Q (Ok x) h k = (h, k)
 both-hold P Q (Err e) h k = tt
 

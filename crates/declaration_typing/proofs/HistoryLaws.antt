@@ -11,7 +11,7 @@ use Rattle.value_core.specs.Limits.{most_attributes}
 use Rattle.value_core.specs.Values.{Name, Heading}
 use Rattle.scalar_typing.specs.Names.{point_type}
 use Rattle.scalar_typing.specs.Typings.{refused}
-use Rattle.scalar_typing.proofs.SoundLemmas.{then-sound}
+use Rattle.scalar_typing.proofs.SoundLemmas.{then-sound, any-given}
 use Rattle.relation_typing.specs.Attributes.{name_typed, new_name as new_attribute}
 use Rattle.relation_typing.specs.Headings.{heading_typed}
 use Rattle.tree_core.specs.declared.declaration.HistoryData.{HistoryData}
@@ -22,7 +22,6 @@ use Rattle.node_typing.specs.Positions.{check}
 use Rattle.declaration_typing.specs.Constraints.{names_typed}
 use Rattle.declaration_typing.specs.Histories.{relvars_named, brace_of, facts_typed, attributes_named, room_for_three, history_declared}
 use Rattle.declaration_typing.specs.Names.{new_name}
-use Rattle.declaration_typing.proofs.FitLemmas.{any-given}
 use Rattle.declaration_typing.proofs.PositionLemmas.{held, AreAt, key-at}
 use Rattle.declaration_typing.proofs.StateLemmas.{AreOther, other-both, IsFree, free-name}
 

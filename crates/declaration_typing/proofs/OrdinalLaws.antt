@@ -11,7 +11,7 @@ use Rattle.utd_syntax.specs.Plain.{Word, SomeNamesP}
 use Rattle.value_core.specs.declared.list.OrdinalNames.{OrdinalNames}
 use Rattle.value_core.specs.Limits.{most_ordinal_types, most_ordinal_values}
 use Rattle.value_core.specs.Values.{Name}
-use Rattle.scalar_typing.proofs.SoundLemmas.{then-sound}
+use Rattle.scalar_typing.proofs.SoundLemmas.{then-sound, any-given}
 use Rattle.relation_typing.specs.Attributes.{name_typed}
 use Rattle.tree_core.specs.Relvars.{State}
 use Rattle.meaning_core.specs.Declarations.{PlainDeclaration, with_declaration}
@@ -21,7 +21,6 @@ use Rattle.node_typing.specs.Positions.{check}
 use Rattle.declaration_typing.specs.Names.{new_name}
 use Rattle.declaration_typing.specs.Ordinals.{with_value, values_typed, few_values, ordinal_declared}
 use Rattle.declaration_typing.proofs.DistinctLemmas.{distinct-push, distinct-between, no-distinct, none-named, all-push}
-use Rattle.declaration_typing.proofs.FitLemmas.{any-given}
 use Rattle.declaration_typing.proofs.MoreTypes.{relvars-more}
 use Rattle.tree_typing.proofs.NameLemmas.{either-side}
 use Rattle.declaration_typing.proofs.PositionLemmas.{held}

@@ -14,7 +14,7 @@ use Rattle.utd_syntax.specs.Plain.{Word}
 use Rattle.value_core.specs.Headings.{has_name}
 use Rattle.value_core.specs.Values.{Name, Heading}
 use Rattle.scalar_core.specs.KindOf.{same_kind}
-use Rattle.scalar_typing.proofs.TypedLemmas.{same_kind-same}
+use Rattle.scalar_core.proofs.KindOfLemmas.{same_kind-same}
 use Rattle.scalar_typing.specs.Typings.{value_or}
 use Rattle.scalar_typing.proofs.SoundLemmas.{then-sound}
 use Rattle.relation_core.specs.Agreement.{position_of}

@@ -5,7 +5,7 @@ use Rattle.point_core.specs.Faults.{OrFault}
 use Rattle.utd_syntax.specs.Plain.{Word, HeadingP, ConstraintP}
 use Rattle.value_core.specs.declared.constraint.Constraint.{Constraint}
 use Rattle.value_core.specs.Values.{Name, Heading}
-use Rattle.scalar_typing.proofs.SoundLemmas.{then-sound}
+use Rattle.scalar_typing.proofs.SoundLemmas.{then-sound, any-given}
 use Rattle.relation_typing.specs.Headings.{heading_typed}
 use Rattle.tree_core.specs.Relvars.{State, base}
 use Rattle.meaning_core.specs.Declarations.{PlainDeclaration, with_declaration}
@@ -14,7 +14,7 @@ use Rattle.meaning_core.specs.WellMade.{sizes_of, IsConstraint, IsWellMade}
 use Rattle.declaration_typing.specs.Constraints.{constraints_typed, few_constraints}
 use Rattle.declaration_typing.specs.Names.{new_name, room_for}
 use Rattle.declaration_typing.specs.Relvars.{relvar_declared}
-use Rattle.declaration_typing.proofs.FitLemmas.{any-given, ListsAreSound, constraints-fit}
+use Rattle.declaration_typing.proofs.FitLemmas.{ListsAreSound, constraints-fit}
 use Rattle.declaration_typing.proofs.StateLemmas.{IsFree, free-name, with-relvar}
 
 module _ (s : State) (w : Word) (h : HeadingP) (list : List ConstraintP) where

@@ -9,7 +9,7 @@ use Rattle.point_core.specs.declared.fault.Code.TheVariants.{E11}
 use Rattle.utd_syntax.specs.Plain.{Word}
 use Rattle.value_core.specs.declared.list.OrdinalNames.{OrdinalNames}
 use Rattle.value_core.specs.Values.{Name}
-use Rattle.scalar_typing.proofs.SoundLemmas.{then-sound}
+use Rattle.scalar_typing.proofs.SoundLemmas.{then-sound, any-given}
 use Rattle.relation_typing.specs.Attributes.{name_typed}
 use Rattle.tree_core.specs.Relvars.{State, PlainRelvar, Entries, relvar_named}
 use Rattle.meaning_core.specs.Declarations.{with_relvar}
@@ -17,7 +17,6 @@ use Rattle.meaning_core.specs.WellMade.{sizes_of, all_names, IsRelvar, AreRelvar
 use Rattle.node_typing.specs.Positions.{check}
 use Rattle.declaration_typing.specs.Names.{is_taken, new_name}
 use Rattle.declaration_typing.proofs.DistinctLemmas.{distinct-push}
-use Rattle.declaration_typing.proofs.FitLemmas.{any-given}
 use Rattle.tree_typing.proofs.NameLemmas.{either-side}
 use Rattle.declaration_typing.proofs.PositionLemmas.{held}
 

@@ -1,14 +1,13 @@
 -- What VAR VIRTUAL declares keeps a state well made.
 use Rattle.std.specs.Prelude.{None, IfOk}
 use Rattle.utd_syntax.specs.Plain.{Word, RelP}
-use Rattle.scalar_typing.proofs.SoundLemmas.{then-sound}
+use Rattle.scalar_typing.proofs.SoundLemmas.{then-sound, any-given}
 use Rattle.tree_core.specs.Relvars.{State, view}
 use Rattle.meaning_core.specs.Declarations.{PlainDeclaration, with_declaration}
 use Rattle.meaning_core.specs.WellMade.{IsTypedFor, IsWellMade}
 use Rattle.tree_typing.specs.Trees.{tree_typed}
 use Rattle.declaration_typing.specs.Names.{new_name}
 use Rattle.declaration_typing.specs.Views.{room_for_view, view_declared}
-use Rattle.declaration_typing.proofs.FitLemmas.{any-given}
 use Rattle.declaration_typing.proofs.StateLemmas.{IsFree, free-name, with-relvar}
 
 module _ (s : State) (w : Word) (rel : RelP) where

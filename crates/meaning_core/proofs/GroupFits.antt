@@ -110,7 +110,7 @@ aggregates_fit sizes from (g ∷ aggregates) (a ∷ made) group values h fit l f
     (and_from (fits a.1 parts.0) (fits_heading made parts.1) (aggregate_fits sizes from g.place g.form a.1 group parts.0 h.1 fit l few parts.2)
     (aggregates_fit sizes from aggregates made group parts.1 h.2 fit l few parts.3))
 
-sum_names : (sizes : List ℕ) (from : Heading) (aggregates : List PlainAggregate) (made : Heading) → Sums sizes from aggregates made → aggregate_names aggregates ≡ names_of made
+pub sum_names : (sizes : List ℕ) (from : Heading) (aggregates : List PlainAggregate) (made : Heading) → Sums sizes from aggregates made → aggregate_names aggregates ≡ names_of made
 sum_names sizes from [] [] h = refl
 sum_names sizes from [] (a ∷ made) h = absurd h
 sum_names sizes from (g ∷ aggregates) [] h = absurd h

@@ -6,6 +6,7 @@ use Rattle.interval_core.specs.Members.{Span}
 use Rattle.packing_core.specs.Packed.{IsRun, IsPacked, IsIndexRun, IsIndexPacked}
 use Rattle.packing_core.proofs.Runs.{IsPacked-iff}
 use Rattle.packing_core.proofs.Joined.{IsIndexRun-iff}
+use Rattle.packing_core.proofs.Exists.{some_place}
 
 -- the cell i goes from `at i` up to before `at (i + 1)`; from `count` on no row covers a cell
 pub record Cuts : Type 0 where
@@ -132,11 +133,6 @@ box_of (g ∷ gs) (x ∷ xs) = span_of g x ∷ box_of gs xs
 abbrev pub OnGrid : List Cuts → (List ℤ → Type 0) → Type 0
 OnGrid [] S = Unit {0}
 OnGrid (g ∷ gs) S = ((ps : List ℤ) → OnCells g (λ p. S (p ∷ ps))) × ((p : ℤ) → OnGrid gs (λ ps. S (p ∷ ps)))
-
--- a packed row has a place
-some_place : (S : List ℤ → Type 0) (is : List Span) → IsPacked S is → (ps : List ℤ) × S ps
-some_place S [] h = ([], h)
-some_place S (i ∷ is) h = let some = h.some in let w = some_place _ is (h.each i.0 (omega (arith, ints)) some) in (i.0 ∷ w.0, w.1)
 
 -- what the packed form of slices is on the cells of the last side
 on_slices : (g : Cuts) (S : List ℤ → Type 0) (is : List Span) → ((ps : List ℤ) → OnCells g (λ p. S (p ∷ ps))) → OnCells g (λ p. IsPacked (λ ps. S (p ∷ ps)) is)

@@ -14,7 +14,7 @@ use Rattle.packing_core.proofs.Whole.{whole_some, onto_cells, cells_back, cuts_b
 
 -- ---- a place turned round
 
-onto_last : (ps rest : List ℤ) → onto ps rest ≡ onto ps [] ++ rest
+pub onto_last : (ps rest : List ℤ) → onto ps rest ≡ onto ps [] ++ rest
 onto_last [] rest = refl
 onto_last (p ∷ ps) rest = onto_last ps (p ∷ rest) ∙ sym (assoc (onto ps []) (p ∷ []) rest) ∙ ap (λ qs. qs ++ rest) (sym (onto_last ps (p ∷ [])))
   where
@@ -54,7 +54,7 @@ has_end [] x (q ∷ ps) p = ap (λ b. int_le x.0 q && (int_le q x.1 && b)) (none
 has_end (y ∷ xs) x [] p = ap (λ b. int_le y.0 p && (int_le p y.1 && b)) (has_none xs x) ∙ and_false _ _ ∙ sym (and_false _ _)
 has_end (y ∷ xs) x (q ∷ ps) p = ap (one_has y q) (has_end xs x ps p) ∙ move (int_le y.0 q) (int_le q y.1) (int_le x.0 p) (int_le p x.1) (has xs ps)
 
-take_last : (y : List Span) (j : ℕ) → j < length y → take (suc j) y ≡ take j y ++ get_or y j nowhere ∷ []
+pub take_last : (y : List Span) (j : ℕ) → j < length y → take (suc j) y ≡ take j y ++ get_or y j nowhere ∷ []
 take_last [] j h = absurd (omega arith)
 take_last (x ∷ xs) zero h = refl
 take_last (x ∷ xs) (suc j) h = ap (λ zs. x ∷ zs) (take_last xs j (omega arith))
@@ -69,7 +69,7 @@ has_back (suc j) y (p ∷ ps) h =
     ∙ has_end (take j y) (get_or y j nowhere) (onto ps []) p
     ∙ ap (one_has (get_or y j nowhere) p) (has_back j y ps (omega arith))
 
-take_all : (y : List Span) → take (length y) y ≡ y
+pub take_all : (y : List Span) → take (length y) y ≡ y
 take_all [] = refl
 take_all (x ∷ xs) = ap (λ zs. x ∷ zs) (take_all xs)
 

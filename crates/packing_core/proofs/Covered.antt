@@ -7,6 +7,7 @@ use Rattle.std.proofs.lemmas.Bool.{and_parts, cases_Bool}
 use Rattle.std.proofs.lemmas.Bool.Decides.{nat_tests}
 use Rattle.packing_core.specs.Covering.{has, passing}
 use Rattle.packing_core.proofs.Cells.{Cuts, OnGrid, box_of, rises_far, order_of_cells}
+use Rattle.packing_core.proofs.PackedBoxes.{true_le}
 
 -- each side is of cells below the count
 abbrev pub IsInGrid : List Cuts → List (ℕ × ℕ) → Type 0
@@ -21,9 +22,6 @@ same_bool false false f g = refl
 
 le_true : (a b : ℤ) → a ≤ℤ b → int_le a b ≡ true
 le_true a b h = grind (arith, ints)
-
-true_le : (a b : ℤ) → int_le a b ≡ true → a ≤ℤ b
-true_le a b h = omega (arith, ints)
 
 -- the span of cells has a number of the cell i exactly where it has i
 pub first_test : (g : Cuts) (x : ℕ × ℕ) (i : ℕ) (p : ℤ) → g.at i ≤ℤ p → p <ℤ g.at (suc i) → int_le (g.at x.0) p ≡ leb x.0 i

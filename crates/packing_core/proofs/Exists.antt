@@ -102,7 +102,7 @@ abbrev pub IsWithin : List Span → (List ℤ → Type 0) → Type 0
 IsWithin [] S = (p : ℤ) (ps : List ℤ) → ¬ (S (p ∷ ps))
 IsWithin (b ∷ bs) S = (¬ (S [])) × ((p : ℤ) (ps : List ℤ) → S (p ∷ ps) → (b.0 ≤ℤ p) × (p ≤ℤ b.1)) × ((p : ℤ) → IsWithin bs (λ ps. S (p ∷ ps)))
 
-some_place : (S : List ℤ → Type 0) (is : List Span) → IsPacked S is → (ps : List ℤ) × S ps
+pub some_place : (S : List ℤ → Type 0) (is : List Span) → IsPacked S is → (ps : List ℤ) × S ps
 some_place S [] h = ([], h)
 some_place S (i ∷ is) h = let some = h.some in let w = some_place _ is (h.each i.0 (omega (arith, ints)) some) in (i.0 ∷ w.0, w.1)
 

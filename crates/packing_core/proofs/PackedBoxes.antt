@@ -44,7 +44,7 @@ get_set (x ∷ xs) (suc j) v h = get_set xs j v (omega arith)
 le_true : (a b : ℤ) → a ≤ℤ b → int_le a b ≡ true
 le_true a b h = grind (arith, ints)
 
-true_le : (a b : ℤ) → int_le a b ≡ true → a ≤ℤ b
+pub true_le : (a b : ℤ) → int_le a b ≡ true → a ≤ℤ b
 true_le a b h = omega (arith, ints)
 
 not_both : (b : Bool) → not b ≡ true → b ≡ true → ⊥

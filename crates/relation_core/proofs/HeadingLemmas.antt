@@ -81,7 +81,7 @@ no_repeat list up = none_new [] list 0 (λ a i. refl) up
 
 -- ---- members at ascending positions
 
-In-get_or : {X : Type 0} (xs : List X) (i : ℕ) (d : X) → i < length xs → In (get_or xs i d) xs
+pub In-get_or : {X : Type 0} (xs : List X) (i : ℕ) (d : X) → i < length xs → In (get_or xs i d) xs
 In-get_or [] i d l = absurd (omega arith)
 In-get_or (x ∷ xs) zero d l = inl refl
 In-get_or (x ∷ xs) (suc i) d l = inr (In-get_or xs i d (omega arith))
@@ -92,7 +92,7 @@ before cmp (x ∷ xs) i zero d h k l = absurd (omega arith)
 before cmp (x ∷ xs) zero (suc j) d h k l = (AllAfter-In cmp x xs).0 h.0 (get_or xs j d) (In-get_or xs j d (omega arith))
 before cmp (x ∷ xs) (suc i) (suc j) d h k l = before cmp xs i j d h.1 (omega arith) (omega arith)
 
-less_than : (i j : ℕ) → nat_cmp i j ≡ Less → i < j
+pub less_than : (i j : ℕ) → nat_cmp i j ≡ Less → i < j
 less_than i j e = ranked i j Less (sym e)
 
 pub attributes_ascend : (heading : Heading) (kept : List ℕ) → Ascends attribute_cmp heading → Ascends nat_cmp kept → ((i : ℕ) → In i kept → i < length heading) → Ascends attribute_cmp (attributes_at kept heading)

@@ -94,7 +94,7 @@ value_of_both (a ∷ rest) right (v ∷ vs) y name e =
 
 -- ---- what fits
 
-fits_both : (left right : Heading) (x y : Row) → IsTrue (fits_heading left x) → IsTrue (fits_heading right y) → IsTrue (fits_heading (left ++ right) (x ++ y))
+pub fits_both : (left right : Heading) (x y : Row) → IsTrue (fits_heading left x) → IsTrue (fits_heading right y) → IsTrue (fits_heading (left ++ right) (x ++ y))
 fits_both [] right [] y e f = f
 fits_both [] right (v ∷ vs) y e f = absurd (true≢false (sym e))
 fits_both (a ∷ rest) right [] y e f = absurd (true≢false (sym e))

@@ -141,13 +141,13 @@ fn integers(alloc: Global, values: &[Value]) -> Result<Vec<i64>, Memory>
 {
     let mut list = Vec::with_capacity(alloc, values.len())?;
     for value in values {
-        list.push(number(value))?;
+        list.push(point_number(value))?;
     }
     Ok(list)
 }
 
 /// The number of a point; of other values, 0.
-fn number(value: &Value) -> i64
+pub fn point_number(value: &Value) -> i64
     ensures { result ≡ number_of (plain value.now) }
 {
     match value {

@@ -5,6 +5,10 @@ mod aggregates;
 mod groups;
 mod items;
 mod places;
+mod telling;
 
+pub use aggregates::point_number;
 pub use groups::{Making, aggregate_places, group_row};
 pub use items::{extended_row, holds, set_places};
+pub use places::pick;
+pub use telling::told;

@@ -51,12 +51,7 @@ fn place_among(names: &[Name], name: &Name) -> usize
 }
 
 /// The row of the values at the places: first the made ones, then those of another row.
-pub(crate) fn pick(
-    alloc: Global,
-    places: &[usize],
-    made: &[Value],
-    row: &[Value],
-) -> Result<Row, Memory>
+pub fn pick(alloc: Global, places: &[usize], made: &[Value], row: &[Value]) -> Result<Row, Memory>
     ensures { IfOk result (λ r. r ≡ part_of places.now (map plain made.now ++ map plain row.now)) }
 {
     let mut values = Vec::with_capacity(alloc, places.len())?;

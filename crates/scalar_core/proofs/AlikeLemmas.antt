@@ -25,6 +25,7 @@ use Rattle.scalar_core.specs.Operations.{compared, related, begin_of, end_of, pa
 use Rattle.scalar_core.specs.Sweeping.{is_comparison}
 use Rattle.scalar_core.proofs.NearLemmas.{NearPoint, NearSpan, one, before_it, between, behind_it, near_point, near_span, near_begin, near_end, span_back, alike_tests, cmp-alike_left, cmp-alike_right, member-alike_left, member-alike_right}
 use Rattle.scalar_core.proofs.PointLemmas.{and_right, int_le-le}
+use Rattle.scalar_core.proofs.AtPlaceLemmas.{itself}
 
 -- ---- comparisons of intervals
 
@@ -97,9 +98,6 @@ moved_right Begins j p q m near h =
 moved_right Ends j p q m near h =
     let h0 = h.0 in let h1 = h.1 in
     elim near [ one e ↦ (omega (arith, ints), omega (arith, ints)) | before_it a b ↦ absurd (omega (arith, ints)) | between a b c d ↦ absurd (omega (arith, ints)) | behind_it a b ↦ absurd (omega (arith, ints)) ]
-
-itself : (p : ℤ) → p ≤ℤ p
-itself p = omega (arith, ints)
 
 related-alike_left : (w : AllenWord) (j : Span) (p q : ℤ) → j.0 ≤ℤ j.1 → NearSpan j p q → related w (p, p) j ≡ related w (q, q) j
 related-alike_left w j p q m near =

@@ -15,10 +15,10 @@ use Rattle.scalar_core.specs.Kinds.{IsTypedOver}
 use Rattle.scalar_core.proofs.KindLemmas.{fits_heading-get, span_of-fits, begin-number, end-number}
 use Rattle.scalar_core.proofs.PointLemmas.{and_left, and_right, both_true, le-int_le, is_number-number, number-is_number}
 
-itself : (p : ℤ) → p ≤ℤ p
+pub itself : (p : ℤ) → p ≤ℤ p
 itself p = omega (arith, ints)
 
-point-fits_as : (kind : Kind) (v : Value) (p : ℤ) → IsTrue (fits kind v) → ((t : AnyType) → kind ≡ SpanOf t → is_number t p ≡ true) → IsTrue (fits kind (with_span v (at_point p)))
+pub point-fits_as : (kind : Kind) (v : Value) (p : ℤ) → IsTrue (fits kind v) → ((t : AnyType) → kind ≡ SpanOf t → is_number t p ≡ true) → IsTrue (fits kind (with_span v (at_point p)))
 point-fits_as kind (truth b) p h n = h
 point-fits_as kind (text bytes) p h n = h
 point-fits_as kind (point l q) p h n = h
@@ -30,10 +30,10 @@ point-fits_as (SpanOf t) (interval l i) p h n =
     (both_true (is_number t p) (is_number t p && int_le p p) (n t refl) (both_true (is_number t p) (int_le p p) (n t refl) (le-int_le p p (itself p))))
 
 -- the number is one of the type that the heading has at the position
-abbrev IsNumberAt : Heading → ℕ → ℤ → Type 0
+abbrev pub IsNumberAt : Heading → ℕ → ℤ → Type 0
 IsNumberAt heading a p = (name : Name) (t : AnyType) → slice_get heading a ≡ Some (name, SpanOf t) → is_number t p ≡ true
 
-put_span-fits : (heading : Heading) (row : Row) (a : ℕ) (p : ℤ) → IsTrue (fits_heading heading row) → IsNumberAt heading a p → IsTrue (fits_heading heading (put_span row a (at_point p)))
+pub put_span-fits : (heading : Heading) (row : Row) (a : ℕ) (p : ℤ) → IsTrue (fits_heading heading row) → IsNumberAt heading a p → IsTrue (fits_heading heading (put_span row a (at_point p)))
 put_span-fits [] [] a p h n = h
 put_span-fits [] (v ∷ vs) a p h n = absurd cc
 put_span-fits (b ∷ rest) [] a p h n = absurd cc
@@ -45,7 +45,7 @@ put_span-fits (b ∷ rest) (v ∷ vs) (suc a) p h n =
     both_true (fits b.1 v) (fits_heading rest (put_span vs a (at_point p))) (and_left (fits b.1 v) (fits_heading rest vs) h)
     (put_span-fits rest vs a p (and_right (fits b.1 v) (fits_heading rest vs) h) n)
 
-within-number : (heading : Heading) (row : Row) (a : ℕ) (p : ℤ) → IsTrue (fits_heading heading row) → IsWithin (span_of (value_at row a)) p → IsNumberAt heading a p
+pub within-number : (heading : Heading) (row : Row) (a : ℕ) (p : ℤ) → IsTrue (fits_heading heading row) → IsWithin (span_of (value_at row a)) p → IsNumberAt heading a p
 within-number heading row a p h within name t e =
     let found = fits_heading-get heading row a name (SpanOf t) h e in
     let got : value_at row a ≡ found.0 = ap (λ o. unwrap_or o (truth false)) found.1 in
@@ -54,7 +54,7 @@ within-number heading row a p h within name t e =
     let high = (is_number-number t (span_of (value_at row a)).1 (end-number t (span_of (value_at row a)) whole)).1 in
     number-is_number t p (omega (arith, ints, within.0), omega (arith, ints, within.1))
 
-at_place-fits : (heading : Heading) (row x : Row) (acl : List ℕ) (ps : List ℤ) → IsTrue (fits_heading heading row) → IsTrue (fits_heading heading x) → AreWithin row acl ps →
+pub at_place-fits : (heading : Heading) (row x : Row) (acl : List ℕ) (ps : List ℤ) → IsTrue (fits_heading heading row) → IsTrue (fits_heading heading x) → AreWithin row acl ps →
     IsTrue (fits_heading heading (at_place acl ps x))
 at_place-fits heading row x [] ps h g within = g
 at_place-fits heading row x (a ∷ acl) [] h g within = absurd within

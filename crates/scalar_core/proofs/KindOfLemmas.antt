@@ -18,7 +18,7 @@ use Rattle.scalar_core.specs.Kinds.{IsOrdered, Compares, OneKinds, PairKinds, Ar
 use Rattle.scalar_core.specs.KindOf.{same_type, same_kind, is_ordered, compares, point_kind, only, one_kind, are_of, two_kind, truth_kind, of_both, of_one, kind_of}
 use Rattle.scalar_core.proofs.PointLemmas.{and_left, and_right}
 
-same_type-same : (t u : AnyType) → same_type t u ≡ true → t ≡ u
+pub same_type-same : (t u : AnyType) → same_type t u ≡ true → t ≡ u
 same_type-same Integer Integer h = refl
 same_type-same Date Date h = refl
 same_type-same (Ordinal of last) (Ordinal at end) h =
@@ -27,7 +27,7 @@ same_type-same (Ordinal of last) (Ordinal at end) h =
     cc
 same_type-same _ _ h = absurd cc
 
-same_kind-same : (j k : Kind) → same_kind j k ≡ true → j ≡ k
+pub same_kind-same : (j k : Kind) → same_kind j k ≡ true → j ≡ k
 same_kind-same Truth Truth h = refl
 same_kind-same Char Char h = refl
 same_kind-same (Point t) (Point u) h = ap Point (same_type-same t u h)
@@ -44,7 +44,7 @@ point_kind-some Truth kind e = absurd cc
 point_kind-some Char kind e = absurd cc
 point_kind-some (Point t) kind e = absurd cc
 
-ordered : (kind : Kind) → is_ordered kind ≡ true → IsOrdered kind
+pub ordered : (kind : Kind) → is_ordered kind ≡ true → IsOrdered kind
 ordered Truth h = absurd cc
 ordered Char h = tt
 ordered (Point t) h = tt
@@ -157,7 +157,7 @@ same_type-self Integer = refl
 same_type-self Date = refl
 same_type-self (Ordinal of last) = both_true (nat_eq of of) (nat_eq last last) (eq-eqb of of refl) (eq-eqb last last refl)
 
-same_kind-self : (k : Kind) → same_kind k k ≡ true
+pub same_kind-self : (k : Kind) → same_kind k k ≡ true
 same_kind-self Truth = refl
 same_kind-self Char = refl
 same_kind-self (Point t) = same_type-self t

@@ -53,7 +53,7 @@ fewer acl cs ds row x y less h =
 
 -- ---- expressions that name no listed attribute
 
-unnamed : (acl : List ℕ) (row x : Row) (e : Expr) → ((i : ℕ) → among acl i ≡ false → value_at x i ≡ value_at row i) → names_any acl e ≡ false → value e x ≡ value e row
+pub unnamed : (acl : List ℕ) (row x : Row) (e : Expr) → ((i : ℕ) → among acl i ≡ false → value_at x i ≡ value_at row i) → names_any acl e ≡ false → value e x ≡ value e row
 unnamed acl row x (constant place kind v) same h = refl
 unnamed acl row x (attribute place i) same h = ap (λ v. Ok v) (same i h)
 unnamed acl row x (one op place e) same h = ap (λ m. then_give m (one_of op place)) (unnamed acl row x e same h)
@@ -223,7 +223,7 @@ alike acl row x y (or_expr place l r) typed none h =
 
 -- ---- the row at a place
 
-span_there : (row : Row) (i : ℕ) (s : Span) → value_at (put_span row i s) i ≡ with_span (value_at row i) s
+pub span_there : (row : Row) (i : ℕ) (s : Span) → value_at (put_span row i s) i ≡ with_span (value_at row i) s
 span_there [] i s = refl
 span_there (v ∷ row) zero s = refl
 span_there (v ∷ row) (suc i) s = span_there row i s

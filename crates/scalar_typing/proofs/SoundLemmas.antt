@@ -49,7 +49,7 @@ anything : {X : Type 0} (o : Option X) → IfSome o (λ _. Unit {0})
 anything None = tt
 anything (Some x) = tt
 
-any-given : {X : Type 0} (r : OrFault X) → IfOk r (λ _. Unit {0})
+pub any-given : {X : Type 0} (r : OrFault X) → IfOk r (λ _. Unit {0})
 any-given (Ok x) = tt
 any-given (Err e) = tt
 

@@ -1,11 +1,10 @@
 -- What the rules give is typed for the heading.
-use Rattle.std.specs.Prelude.{◌≡◌, Bool, true, false, ◌&&◌, nat_eq, Option, Some, None, IfOk, IfSome, option_map, if◌then◌else◌, refl}
+use Rattle.std.specs.Prelude.{◌≡◌, Bool, true, false, ◌&&◌, Option, Some, None, IfOk, IfSome, option_map, if◌then◌else◌, refl}
 use Rattle.std.proofs.Common.{sym, ◌∙◌, ap, subst}
-use Rattle.std.proofs.lemmas.Bool.{eqb-true}
 use Rattle.point_core.specs.declared.fault.Place.{Place}
 use Rattle.point_core.specs.declared.fault.Code.{Code}
 use Rattle.point_core.specs.declared.any_type.AnyType.{AnyType}
-use Rattle.point_core.specs.declared.any_type.AnyType.TheVariants.{Integer, Date, Ordinal}
+use Rattle.point_core.specs.declared.any_type.AnyType.TheVariants.{Integer}
 use Rattle.point_core.specs.Faults.{OrFault}
 use Rattle.utd_syntax.specs.declared.words.ComparisonWord.{ComparisonWord}
 use Rattle.utd_syntax.specs.declared.words.ComparisonWord.TheVariants as word
@@ -28,29 +27,14 @@ use Rattle.scalar_core.specs.declared.tree.CompareWord.{CompareWord}
 use Rattle.scalar_core.specs.declared.tree.CompareWord.TheVariants as compare
 use Rattle.scalar_core.specs.declared.tree.AllenWord.{AllenWord}
 use Rattle.scalar_core.specs.declared.tree.AllenWord.TheVariants as allen
-use Rattle.scalar_core.specs.KindOf.{same_type, same_kind, compares, is_ordered}
-use Rattle.scalar_core.specs.Kinds.{IsOrdered, Compares, OneKinds, PairKinds, IsTyped}
+use Rattle.scalar_core.specs.KindOf.{same_type, same_kind, compares}
+use Rattle.scalar_core.specs.Kinds.{Compares, OneKinds, PairKinds, IsTyped}
 use Rattle.scalar_core.proofs.PointLemmas.{and_left, and_right}
 use Rattle.scalar_typing.specs.Typings.{Typed, value_or}
 use Rattle.scalar_typing.specs.Operators.{OneRule, PairRule, when, both_are, span_type, point_type, common, two_spans, two_points, point_and_span, not_rule, negate_rule, argument_type, function_on, function_rule, sum_rule, product_rule, compare_rule, allen_rule, member_rule, comparison_rule, pairing_on, pairing_rule, selector_rule, one_on, one_typed, pair_on, pair_typed}
+use Rattle.scalar_core.proofs.KindOfLemmas.{same_type-same, same_kind-same, ordered}
 
 -- ---- kinds that are one
-
-same_type-same : (t u : AnyType) → same_type t u ≡ true → t ≡ u
-same_type-same Integer Integer h = refl
-same_type-same Date Date h = refl
-same_type-same (Ordinal of last) (Ordinal at end) h =
-    let first : of ≡ at = eqb-true of at (and_left (nat_eq of at) (nat_eq last end) h) in
-    let second : last ≡ end = eqb-true last end (and_right (nat_eq of at) (nat_eq last end) h) in
-    cc
-same_type-same _ _ h = absurd cc
-
-pub same_kind-same : (j k : Kind) → same_kind j k ≡ true → j ≡ k
-same_kind-same Truth Truth h = refl
-same_kind-same Char Char h = refl
-same_kind-same (Point t) (Point u) h = ap Point (same_type-same t u h)
-same_kind-same (Span t) (Span u) h = ap Span (same_type-same t u h)
-same_kind-same _ _ h = absurd cc
 
 pub both-are : (kind l r : Kind) → both_are kind l r ≡ true → (l ≡ kind) × (r ≡ kind)
 both-are kind l r h =
@@ -76,12 +60,6 @@ in-common : (o p : Option AnyType) (t : AnyType) → common o p ≡ Some t → (
 in-common None p t e = absurd cc
 in-common (Some u) None t e = absurd cc
 in-common (Some u) (Some v) t e = common-if (same_type u v) u v t refl e
-
-ordered : (kind : Kind) → is_ordered kind ≡ true → IsOrdered kind
-ordered Truth h = absurd cc
-ordered Char h = tt
-ordered (Point t) h = tt
-ordered (Span t) h = absurd cc
 
 compared : (w : CompareWord) (kind : Kind) → compares w kind ≡ true → Compares w kind
 compared compare.Equal kind h = tt

@@ -60,7 +60,7 @@ kinds-more sizes h n k new old kind =
       | inr j ↦ (list_all-In (λ (b : Attribute). is_kind sizes b.1) h).0 old a j
     ])
 
-put-permutes : {X : Type 0} (cmp : X → X → Ordering) (x : X) (xs : List X) → ((y : X) → In y xs → cmp x y ≡ Equal → ⊥) → IsPermutation (x ∷ xs) (put cmp x xs)
+pub put-permutes : {X : Type 0} (cmp : X → X → Ordering) (x : X) (xs : List X) → ((y : X) → In y xs → cmp x y ≡ Equal → ⊥) → IsPermutation (x ∷ xs) (put cmp x xs)
 put-permutes cmp x [] h = IsPermutation-refl (x ∷ [])
 put-permutes cmp x (y ∷ ys) h =
     elim (cmp x y) as (λ r. cmp x y ≡ r → IsPermutation (x ∷ y ∷ ys) (placed r x y ys (put cmp x ys))) [

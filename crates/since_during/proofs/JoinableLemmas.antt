@@ -31,7 +31,7 @@ named-more (k ∷ before) more name x e = by-test (bytes_eq k.0 name) e (named-m
     by-test true f h = f
     by-test false f h = h f
 
-some-base : (o : Option PlainRelvar) → IsBase o → (r : PlainRelvar) × (o ≡ Some r)
+pub some-base : (o : Option PlainRelvar) → IsBase o → (r : PlainRelvar) × (o ≡ Some r)
 some-base None is = absurd is
 some-base (Some r) is = (r, refl)
 

@@ -1,14 +1,13 @@
 -- A heading with one attribute more: its attributes, where they stand, and what is left without one of them.
---     member-at, stands      where an attribute stands
+--     In-get_or, stands      where an attribute stands
 --     not-there, old-more, own-more, from-more, more-other      the attributes of a heading with one more
 --     all_but-ascends, all_but-within      the positions but one
 --     without-one      what is left of a heading with two more without the first of them
-use Rattle.std.proofs.Common.{◌≡◌, ◌⊎◌, inl, inr, ℕ, zero, suc, ◌<◌, Bool, true, false, cond, not, List, [], ◌∷◌, length, map, get_or, refl, sym, ap, ap₂, ◌∙◌, subst, arith, nat_eq, Less, Equal, IsTrue, lt-ltb, Greater}
+use Rattle.std.proofs.Common.{◌≡◌, ◌⊎◌, inl, inr, ℕ, suc, ◌<◌, Bool, true, false, cond, not, List, [], ◌∷◌, length, map, get_or, refl, sym, ap, ap₂, ◌∙◌, subst, arith, nat_eq, Less, Equal, IsTrue, lt-ltb, Greater}
 use Rattle.std.specs.Cmp.Lexicographic.{texts_ties}
 use Rattle.std.specs.Ordering.{is_eq, nat_cmp}
 use Rattle.std.specs.Str.{bytes_eq}
 use Rattle.std.proofs.lemmas.Bool.{true≢false, false_from_ne_true, eqb-true, eq-eqb, not-true, not_from_false}
-use Rattle.std.proofs.lemmas.Cmp.{ranked}
 use Rattle.base_core.proofs.MemberLemmas.{In-map, In-filter, list_any-In}
 use Rattle.base_core.proofs.SetLemmas.{In, AllAfter, Ascends}
 use Rattle.base_core.proofs.SetOperatorLemmas.{AllAfter-In, Ascends-filter, Ascends-map}
@@ -20,18 +19,13 @@ use Rattle.relation_core.specs.Agreement.{names_of, position_of}
 use Rattle.relation_core.specs.Parts.{no_attribute, attributes_at}
 use Rattle.relation_core.proofs.ApartLemmas.{Tells, from_in_order, into_in_order, tells_ascending, ascends_in_order}
 use Rattle.relation_core.proofs.AttributeLemmas.{name_is, same_name, named_In}
-use Rattle.relation_core.proofs.HeadingLemmas.{one_list, attributes_ascend}
+use Rattle.relation_core.proofs.HeadingLemmas.{one_list, attributes_ascend, In-get_or, less_than}
 use Rattle.meaning_core.specs.Histories.{with_attribute, all_but}
 use Rattle.meaning_core.specs.Meanings.{positions_of}
 use Rattle.meaning_core.proofs.MadeLemmas.{Attribute, own_name}
 use Rattle.meaning_core.proofs.PositionLemmas.{position-back}
 
 -- ---- where an attribute stands
-
-pub member-at : {X : Type 0} (xs : List X) (i : ℕ) (d : X) → i < length xs → In (get_or xs i d) xs
-member-at [] i d l = absurd (omega arith)
-member-at (x ∷ xs) zero d l = inl refl
-member-at (x ∷ xs) (suc i) d l = inr (member-at xs i d (omega arith))
 
 abbrev StandsAt : Heading → Attribute → ℕ → Type 0
 StandsAt g a j = (j < length g) × (get_or g j no_attribute ≡ a)
@@ -108,14 +102,11 @@ positions-all [] up = refl
 positions-all (a ∷ rest) up =
     ap₂ (λ (t : Bool) (l : List ℕ). cond t 0 (suc (position_of rest a.0)) ∷ l) (own_name a.0) (positions-behind a rest rest up.0 ∙ ap (map suc) (positions-all rest up.1))
 
-less-by : (i j : ℕ) → i < j → nat_cmp i j ≡ Less
+pub less-by : (i j : ℕ) → i < j → nat_cmp i j ≡ Less
 less-by i j l = ap (λ (b : Bool). cond b Less (cond (nat_eq i j) Equal Greater)) (lt-ltb i j l)
 
-less-of : (i j : ℕ) → nat_cmp i j ≡ Less → i < j
-less-of i j e = ranked i j Less (sym e)
-
 less-more : (i j : ℕ) → nat_cmp i j ≡ Less → nat_cmp (suc i) (suc j) ≡ Less
-less-more i j e = let l = less-of i j e in less-by (suc i) (suc j) (omega (arith, l))
+less-more i j e = let l = less_than i j e in less-by (suc i) (suc j) (omega (arith, l))
 
 first-of-all : (is : List ℕ) → AllAfter nat_cmp 0 (map suc is)
 first-of-all [] = tt
@@ -175,7 +166,7 @@ module _ (h : Heading) (p i : Name) (point span : Kind) (up : Ascends attribute_
       let parts = (In-filter (λ l. not (nat_eq (position_of wide p) l)) j (positions_of wide (names_of wide))).0 m in
       let l = all_but-within wide wide-up (position_of wide p) j m in
       let back : position_of wide a.0 ≡ j = ap (λ (z : Attribute). position_of wide z.0) e ∙ position-back wide j no_attribute wide-up l in
-      let there : In a wide = subst (λ (z : Attribute). In z wide) (sym e) (member-at wide j no_attribute l) in
+      let there : In a wide = subst (λ (z : Attribute). In z wide) (sym e) (In-get_or wide j no_attribute l) in
       elim (from-more since i span since-other a there) [
         | inl q ↦ subst (λ (z : Attribute). In z during) (sym q) (own-more h i span no-span up)
         | inr s ↦ elim (from-more h p point no-point a s) [

@@ -17,12 +17,12 @@ use Rattle.value_core.specs.Values.{Name, Heading, attribute_cmp}
 use Rattle.relation_core.specs.Agreement.{names_of, position_of}
 use Rattle.relation_core.specs.Parts.{no_attribute, attributes_at}
 use Rattle.relation_core.proofs.AttributeLemmas.{name_is}
-use Rattle.relation_core.proofs.HeadingLemmas.{within_by_members}
+use Rattle.relation_core.proofs.HeadingLemmas.{within_by_members, In-get_or}
 use Rattle.meaning_core.specs.Meanings.{positions_of, names_at}
 use Rattle.meaning_core.specs.WellMade.{AreDifferent, AreAlike}
 use Rattle.meaning_core.proofs.MadeLemmas.{Attribute, own_name}
 use Rattle.meaning_core.proofs.PositionLemmas.{position-back}
-use Rattle.since_during.proofs.MoreLemmas.{member-at, stands}
+use Rattle.since_during.proofs.MoreLemmas.{stands}
 
 -- ---- lists
 
@@ -71,7 +71,7 @@ module _ (h : Heading) (up : Ascends attribute_cmp h) where
   pub part-in : (key : List ℕ) → All (λ (i : ℕ). i < length h) key → (a : Attribute) → In a (attributes_at key h) → In a h
   part-in key within a m =
       let w = (In-map (λ (i : ℕ). get_or h i no_attribute) a key).0 m in
-      subst (λ (z : Attribute). In z h) (sym w.2) (member-at h w.0 no_attribute (within_by_members (length h) key within w.0 w.1))
+      subst (λ (z : Attribute). In z h) (sym w.2) (In-get_or h w.0 no_attribute (within_by_members (length h) key within w.0 w.1))
 
   abbrev AreWithin : List ℕ → Type 0
   AreWithin key = (i : ℕ) → In i key → i < length h

@@ -61,7 +61,7 @@ pub map_length : {X Y : Type 0} (f : X → Y) (xs : List X) → length (map f xs
 map_length f [] = refl
 map_length f (x ∷ xs) = ap suc (map_length f xs)
 
-some_of : (xs : List ℕ) → xs ≢ [] → (r : ℕ) × Among r xs
+pub some_of : (xs : List ℕ) → xs ≢ [] → (r : ℕ) × Among r xs
 some_of [] h = absurd (h refl)
 some_of (x ∷ xs) h = (x, inl refl)
 

@@ -20,7 +20,7 @@ use Rattle.slice_core.specs.Rows.{pair_cmp, key_cmp, key_total, tag, with_last, 
 
 -- ---- the order of keys
 
-both_equal : (r s : Ordering) → ordering_then r s ≡ Equal → (r ≡ Equal) × (s ≡ Equal)
+pub both_equal : (r s : Ordering) → ordering_then r s ≡ Equal → (r ≡ Equal) × (s ≡ Equal)
 both_equal Less s e = cc
 both_equal Equal s e = (refl, e)
 both_equal Greater s e = cc
@@ -49,7 +49,7 @@ slice_cmp_end [] (b ∷ ys) x y e = absurd (omega arith)
 slice_cmp_end (a ∷ xs) [] x y e = absurd (omega arith)
 slice_cmp_end (a ∷ xs) (b ∷ ys) x y e = ap (ordering_then (pair_cmp a b)) (slice_cmp_end xs ys x y (omega arith)) ∙ sym (then_assoc (pair_cmp a b) _ _)
 
-below_less : (a b : ℕ) → a < b → nat_cmp a b ≡ Less
+pub below_less : (a b : ℕ) → a < b → nat_cmp a b ≡ Less
 below_less a b h = grind (arith, nat_tests)
 
 pub split_at : {X : Type 0} (y : List X) (n : ℕ) → length y ≡ suc n → (z : List X) × (v : X) × (length z ≡ n) × (z ++ v ∷ [] ≡ y)

@@ -105,7 +105,7 @@ settled t rows here sorted done made moved order left a z all are same =
 
 -- ---- come to a cell
 
-cell_has : (s : ℕ × ℕ) (i : ℕ) → span_has s i ≡ true → (s.0 ≤ i) × (i < s.1)
+pub cell_has : (s : ℕ × ℕ) (i : ℕ) → span_has s i ≡ true → (s.0 ≤ i) × (i < s.1)
 cell_has s i e = let w = and_parts (leb s.0 i) (ltb i s.1) e in (first s.0 w.0, last s.1 w.1)
   where
     first : (a : ℕ) → leb a i ≡ true → a ≤ i
@@ -114,7 +114,7 @@ cell_has s i e = let w = and_parts (leb s.0 i) (ltb i s.1) e in (first s.0 w.0, 
     last : (z : ℕ) → ltb i z ≡ true → i < z
     last z h = grind (arith, nat_tests)
 
-has_cell : (s : ℕ × ℕ) (i : ℕ) → s.0 ≤ i → i < s.1 → span_has s i ≡ true
+pub has_cell : (s : ℕ × ℕ) (i : ℕ) → s.0 ≤ i → i < s.1 → span_has s i ≡ true
 has_cell s i l m = within s.0 s.1 l m
   where
     within : (a z : ℕ) → a ≤ i → i < z → (leb a i && ltb i z) ≡ true

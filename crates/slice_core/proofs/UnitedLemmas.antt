@@ -3,7 +3,7 @@ use Rattle.std.proofs.Common.{◌≡◌, ℕ, suc, ◌<◌, ◌≤◌, Bool, tru
 use Rattle.std.specs.declared.cmp.Ordering.TheVariants.{Equal}
 use Rattle.std.specs.List.{All, AllByRecursion, filter, flat_map}
 use Rattle.std.specs.Prelude.{◌==◌}
-use Rattle.std.proofs.lemmas.Bool.{cases_lt, and_parts, true≢false}
+use Rattle.std.proofs.lemmas.Bool.{cases_lt, true≢false}
 use Rattle.std.proofs.lemmas.Bool.Decides.{nat_tests}
 use Rattle.std.proofs.lemmas.List.Elements.{recursion_from_All, All-from_recursion}
 use Rattle.packing_core.specs.Pieces.{Covers, AreApart}
@@ -22,6 +22,7 @@ use Rattle.slice_core.specs.PackedRows.{AnyLabel, IsUnitedRow, bare, span_of, cu
 use Rattle.slice_core.specs.Rows.{sides_of, key_cmp, key_total, no_sides, tag, with_last}
 use Rattle.slice_core.proofs.Steps.{one_key, covers_append, rows_answer, rows_sorted, covers_all, covers_step}
 use Rattle.slice_core.proofs.Turns.{rows_all, filter_none, side_none, live_alone, nil_from, none_row}
+use Rattle.slice_core.proofs.Sweeping.{cell_has, has_cell}
 
 -- ---- cuts
 
@@ -151,21 +152,6 @@ bare_key k e = ap (λ (y : Row). y.1) (sym (one_key order total separates (no_si
 
 key_bare : (k : Row) → k.1 ≡ [] → R (no_sides bare) k ≡ Equal
 key_bare k e = subst (λ y. R (no_sides bare) (k.0, y) ≡ Equal) (sym e) refl
-
-has_cell : (s : ℕ × ℕ) (i : ℕ) → s.0 ≤ i → i < s.1 → span_has s i ≡ true
-has_cell s i l m = within s.0 s.1 l m
-  where
-    within : (a z : ℕ) → a ≤ i → i < z → (leb a i && ltb i z) ≡ true
-    within a z f g = grind (arith, nat_tests)
-
-cell_has : (s : ℕ × ℕ) (i : ℕ) → span_has s i ≡ true → (s.0 ≤ i) × (i < s.1)
-cell_has s i e = let w = and_parts (leb s.0 i) (ltb i s.1) e in (first s.0 w.0, last s.1 w.1)
-  where
-    first : (a : ℕ) → leb a i ≡ true → a ≤ i
-    first a h = grind (arith, nat_tests)
-
-    last : (z : ℕ) → ltb i z ≡ true → i < z
-    last z h = grind (arith, nat_tests)
 
 covers_alone : (s : ℕ × ℕ) (k : Row) (i : ℕ) → Covers R (alone (no_sides bare) s) k i ↔ (k.1 ≡ []) × (span_has s i ≡ true)
 covers_alone s k i =

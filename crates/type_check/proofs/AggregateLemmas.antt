@@ -22,16 +22,17 @@ use Rattle.relation_core.specs.Parts.{attributes_at}
 use Rattle.relation_core.proofs.HeadingLemmas.{part_ascends}
 use Rattle.relation_typing.specs.Attributes.{with_attribute, new_name, few_attributes}
 use Rattle.scalar_typing.specs.Scalars.{typed_scalar}
-use Rattle.scalar_typing.proofs.SoundLemmas.{then-sound}
-use Rattle.scalar_typing.proofs.TypedLemmas.{same_kind-same}
+use Rattle.scalar_typing.proofs.SoundLemmas.{then-sound, any-given}
+use Rattle.scalar_core.proofs.KindOfLemmas.{same_kind-same}
 use Rattle.tree_core.specs.Trees.{PlainAggregate, Tree, heading_of}
 use Rattle.meaning_core.specs.Typing.{IsScalar, HasKind, Sums, ArePositions, IsSummary, Headings, IsTypedTree}
 use Rattle.meaning_core.specs.WellMade.{sizes_of, IsOrdinalType}
 use Rattle.node_typing.specs.Nodes.{summary_rule}
 use Rattle.node_typing.specs.Positions.{check, positions_typed}
 use Rattle.node_typing.specs.Summaries.{FormMade, takes, form_over, form_typed, Summed, aggregate_of, aggregate_typed, aggregates_typed, aggregate_list, groups_typed, aggregates_made, form_place}
-use Rattle.type_check.proofs.ItemLemmas.{any-given, new-is_new, few-is_few, IsListed, listed-none, listed-more, listed-heading}
-use Rattle.type_check.proofs.PositionLemmas.{held, kept-positions}
+use Rattle.type_check.proofs.ItemLemmas.{new-is_new, few-is_few, IsListed, listed-none, listed-more, listed-heading}
+use Rattle.type_check.proofs.PositionLemmas.{kept-positions}
+use Rattle.declaration_typing.proofs.PositionLemmas.{held}
 use Rattle.type_check.proofs.ScalarLemmas.{typed-is_scalar}
 
 -- ---- what an aggregate counts

@@ -1,6 +1,6 @@
 -- Typed expressions have headings: few enough attributes in order, of kinds there are.
-use Rattle.std.specs.Prelude.{◌≡◌, ◌<◌, ◌≤◌, ℕ, zero, suc, Bool, true, false, not, List, [], ◌∷◌, ◌++◌, length, get_or, Some, IsTrue, refl, if◌then◌else◌}
-use Rattle.std.proofs.Common.{arith, sym, subst, inl, inr}
+use Rattle.std.specs.Prelude.{◌≡◌, ◌<◌, ◌≤◌, ℕ, Bool, true, false, not, List, [], ◌∷◌, ◌++◌, length, get_or, Some, IsTrue, refl, if◌then◌else◌}
+use Rattle.std.proofs.Common.{sym, subst}
 use Rattle.std.specs.List.{list_all, list_any, All}
 use Rattle.std.specs.Str.{bytes_eq}
 use Rattle.std.proofs.lemmas.Bool.{and_parts, and_from}
@@ -15,7 +15,7 @@ use Rattle.relation_core.specs.Agreement.{names_of}
 use Rattle.relation_core.specs.Joins.{joined_heading}
 use Rattle.relation_core.specs.Parts.{no_attribute, attributes_at, renamed}
 use Rattle.relation_core.proofs.ApartLemmas.{from_in_order, ascends_in_order}
-use Rattle.relation_core.proofs.HeadingLemmas.{part_ascends, part_is_few, within_by_members}
+use Rattle.relation_core.proofs.HeadingLemmas.{part_ascends, part_is_few, within_by_members, In-get_or}
 use Rattle.tree_core.specs.Relvars.{PlainRelvar, base, view, Entries, State, relvar_heading}
 use Rattle.tree_core.specs.Trees.{PlainAggregateForm, count_rows, sum_of, min_of, max_of, PlainAggregate, Tree, named, literal, infix_of, project, rename, restrict, extend, summarize, pack, unpack, using, heading_of}
 use Rattle.tree_core.specs.declared.tree.InfixWord.{InfixWord}
@@ -28,16 +28,11 @@ use Rattle.type_check.proofs.ItemLemmas.{makes-kinds, declared-of}
 
 -- ---- parts of declared headings
 
-pub member-at : {X : Type 0} (xs : List X) (i : ℕ) (d : X) → i < length xs → In (get_or xs i d) xs
-member-at [] i d l = absurd (omega arith)
-member-at (x ∷ xs) zero d l = inl refl
-member-at (x ∷ xs) (suc i) d l = inr (member-at xs i d (omega arith))
-
 -- attributes at positions in the heading are attributes of it
 pub part-in : (heading : Heading) (kept : List ℕ) → All (λ (i : ℕ). i < length heading) kept → (a : Name × Kind) → In a (attributes_at kept heading) → In a heading
 part-in heading kept within a i =
     let at = (In-map (λ j. get_or heading j no_attribute) a kept).0 i in
-    subst (λ (z : Name × Kind). In z heading) (sym at.2) (member-at heading at.0 no_attribute (within_by_members (length heading) kept within at.0 at.1))
+    subst (λ (z : Name × Kind). In z heading) (sym at.2) (In-get_or heading at.0 no_attribute (within_by_members (length heading) kept within at.0 at.1))
 
 module _ (sizes : List ℕ) where
   pub declared-heading : (h : Heading) → IsTrue (is_declared sizes h) → IsTrue (is_heading h)

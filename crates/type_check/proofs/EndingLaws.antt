@@ -13,6 +13,7 @@ use Rattle.tree_core.specs.Trees.{Tree}
 use Rattle.meaning_core.specs.Endings.{rule_if}
 use Rattle.meaning_core.specs.WellMade.{sizes_of, rule_among, IsBase, IsOfRule, IsRelvar, AreRelvars, IsWellMade}
 use Rattle.item_typing.specs.Endings.{Facts, facts_of}
+use Rattle.since_during.proofs.JoinableLemmas.{named-more, some-base}
 
 -- ---- where a relvar or view stands
 
@@ -33,20 +34,6 @@ made-in sizes before (k ∷ rest) name r are e = by-test (bytes_eq k.0 name) e (
     by-test true f more =
         subst (λ (x : PlainRelvar). IsMadeIn sizes (before ++ k ∷ rest) x) (let same : k.1 ≡ r = cc in same) (record { front = before; own = k.0; back = rest; split = refl; made = are.0 })
     by-test false f more = subst (λ (es : Entries). IsMadeIn sizes es r) (append_assoc before (k ∷ []) rest) (more f)
-
--- a name keeps what it stands for where entries are behind
-named-more : (before more : Entries) (name : Name) (x : PlainRelvar) → relvar_named before name ≡ Some x → relvar_named (before ++ more) name ≡ Some x
-named-more [] more name x e = absurd (cc)
-named-more (k ∷ before) more name x e = by-test (bytes_eq k.0 name) e (named-more before more name x)
-  where
-    by-test : (b : Bool) → (if b then Some k.1 else relvar_named before name) ≡ Some x → (relvar_named before name ≡ Some x → relvar_named (before ++ more) name ≡ Some x)
-        → (if b then Some k.1 else relvar_named (before ++ more) name) ≡ Some x
-    by-test true f h = f
-    by-test false f h = h f
-
-some-base : (o : Option PlainRelvar) → IsBase o → (r : PlainRelvar) × (o ≡ Some r)
-some-base None is = absurd is
-some-base (Some r) is = (r, refl)
 
 -- a base relvar before it is the one of its name
 named-whole : (sizes : List ℕ) (whole : Entries) (r : PlainRelvar) (m : IsMadeIn sizes whole r) (name : Name) → IsBase (relvar_named m.front name) → relvar_named whole name ≡ relvar_named m.front name

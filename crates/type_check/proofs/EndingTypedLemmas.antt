@@ -15,8 +15,8 @@ use Rattle.scalar_core.specs.KindOf.{same_kind}
 use Rattle.relation_core.specs.Parts.{kind_at}
 use Rattle.scalar_typing.specs.Scalars.{typed_scalar}
 use Rattle.scalar_typing.specs.Typings.{value_or}
-use Rattle.scalar_typing.proofs.SoundLemmas.{then-sound}
-use Rattle.scalar_typing.proofs.TypedLemmas.{same_kind-same}
+use Rattle.scalar_typing.proofs.SoundLemmas.{then-sound, any-given}
+use Rattle.scalar_core.proofs.KindOfLemmas.{same_kind-same}
 use Rattle.relation_typing.specs.Attributes.{name_typed}
 use Rattle.tree_core.specs.Relvars.{PlainRelvar, State, relvar_named, relvar_heading, heading_if}
 use Rattle.meaning_core.specs.Endings.{history_if, rule_if, history_of, rule_of}
@@ -28,8 +28,7 @@ use Rattle.node_typing.specs.Rows.{condition_typed}
 use Rattle.item_typing.specs.Changes.{condition_if}
 use Rattle.item_typing.specs.Endings.{Facts, since_typed, facts_of, point_typed, end_typed, ending_typed}
 use Rattle.type_check.proofs.InfixLemmas.{condition-sound}
-use Rattle.type_check.proofs.ItemLemmas.{any-given}
-use Rattle.type_check.proofs.PositionLemmas.{held}
+use Rattle.declaration_typing.proofs.PositionLemmas.{held}
 use Rattle.type_check.proofs.ScalarLemmas.{typed-is_scalar}
 
 some-found : {X : Type 0} (place : Place) (code : Code) (o : Option X) → IfOk (value_or place code o) (λ x. o ≡ Some x)

@@ -21,8 +21,8 @@ use Rattle.tree_core.specs.declared.tree.InfixWord.{InfixWord}
 use Rattle.tree_core.specs.declared.tree.InfixWord.TheVariants.{Union, Intersect, Minus, Join, Matching, NotMatching}
 use Rattle.scalar_typing.specs.Typings.{◌>>=◌}
 use Rattle.scalar_typing.specs.Scalars.{typed_scalar}
-use Rattle.scalar_typing.proofs.SoundLemmas.{then-sound}
-use Rattle.scalar_typing.proofs.TypedLemmas.{same_kind-same}
+use Rattle.scalar_typing.proofs.SoundLemmas.{then-sound, any-given}
+use Rattle.scalar_core.proofs.KindOfLemmas.{same_kind-same}
 use Rattle.relation_typing.specs.Attributes.{few_attributes}
 use Rattle.relation_typing.specs.Headings.{same_heading}
 use Rattle.meaning_core.specs.Typing.{IsScalar, IsInfix, ArePositions, Headings, IsTypedTree}
@@ -32,9 +32,10 @@ use Rattle.node_typing.specs.Nodes.{infix_rule, projection_rule, restriction_rul
 use Rattle.node_typing.specs.Positions.{check, positions_typed}
 use Rattle.node_typing.specs.Projections.{projection_words, projection_kept}
 use Rattle.node_typing.specs.Rows.{condition_typed}
-use Rattle.type_check.proofs.ItemLemmas.{any-given, few-is_few}
+use Rattle.type_check.proofs.ItemLemmas.{few-is_few}
 use Rattle.type_check.proofs.LiteralLemmas.{same_heading-same}
-use Rattle.type_check.proofs.PositionLemmas.{held, kept-positions}
+use Rattle.type_check.proofs.PositionLemmas.{kept-positions}
+use Rattle.declaration_typing.proofs.PositionLemmas.{held}
 use Rattle.type_check.proofs.ScalarLemmas.{typed-is_scalar}
 
 -- ---- kinds that agree

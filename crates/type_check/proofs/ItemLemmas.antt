@@ -1,5 +1,5 @@
 -- What items make: attributes in order, of scalars over a heading.
-use Rattle.std.specs.Prelude.{◌≡◌, ◌≤◌, ℕ, Bool, true, false, List, [], ◌∷◌, ◌++◌, length, nat_le, Ok, Err, IfOk, IsTrue, refl, if◌then◌else◌}
+use Rattle.std.specs.Prelude.{◌≡◌, ◌≤◌, ℕ, Bool, true, false, List, [], ◌∷◌, ◌++◌, length, nat_le, Ok, IfOk, IsTrue, refl, if◌then◌else◌}
 use Rattle.std.proofs.Common.{sym, subst}
 use Rattle.std.specs.List.{list_all, All}
 use Rattle.std.specs.List.Sorted.{IsPermutation}
@@ -9,7 +9,6 @@ use Rattle.std.proofs.lemmas.List.Sorted.{IsPermutation-refl, IsPermutation-tran
 use Rattle.base_core.proofs.SetLemmas.{Ascends}
 use Rattle.point_core.specs.declared.fault.Place.{Place}
 use Rattle.point_core.specs.declared.fault.Code.TheVariants.{E15, E17}
-use Rattle.point_core.specs.Faults.{OrFault}
 use Rattle.utd_syntax.specs.Plain.{Word, ScalarP, ElementP, Element}
 use Rattle.value_core.specs.declared.kind.Kind.{Kind}
 use Rattle.value_core.specs.declared.list.OrdinalNames.{OrdinalNames}
@@ -18,7 +17,7 @@ use Rattle.value_core.specs.Values.{Name, Heading, attribute_cmp, is_heading}
 use Rattle.scalar_core.specs.Expressions.{Expr}
 use Rattle.scalar_typing.specs.Typings.{refused}
 use Rattle.scalar_typing.specs.Scalars.{typed_scalar}
-use Rattle.scalar_typing.proofs.SoundLemmas.{then-sound}
+use Rattle.scalar_typing.proofs.SoundLemmas.{then-sound, any-given}
 use Rattle.relation_typing.specs.Attributes.{with_attribute, name_typed, new_name, few_attributes}
 use Rattle.relation_typing.specs.Items.{Made, item_typed, elements_typed}
 use Rattle.tree_core.specs.Trees.{PlainSets}
@@ -57,10 +56,6 @@ pub listed-heading : (made old attributes : Heading) → IsListed made old attri
 listed-heading made old attributes h few = heading-of (made ++ old) attributes h.same (is-heading attributes h.ascends few)
 
 -- ---- names and counts
-
-pub any-given : {X : Type 0} (r : OrFault X) → IfOk r (λ _. Unit {0})
-any-given (Ok x) = tt
-any-given (Err e) = tt
 
 pub new-is_new : (h : Heading) (w : Word) → IfOk (new_name h w) (λ name. has_name h name ≡ false)
 new-is_new h w =

@@ -22,7 +22,7 @@ use Rattle.relation_core.proofs.HeadingLemmas.{heading_ascends}
 use Rattle.relation_typing.specs.Attributes.{name_typed}
 use Rattle.relation_typing.specs.Headings.{same_heading}
 use Rattle.scalar_typing.specs.Typings.{◌>>=◌, value_or}
-use Rattle.scalar_typing.proofs.SoundLemmas.{then-sound}
+use Rattle.scalar_typing.proofs.SoundLemmas.{then-sound, any-given}
 use Rattle.tree_core.specs.Relvars.{PlainRelvar, base, view, State, relvar_named, relvar_heading, heading_if}
 use Rattle.tree_core.specs.Trees.{PlainSets, named, heading_of}
 use Rattle.tree_core.specs.Items.{PlainPortion, PlainItemForm, update, PlainItem}
@@ -42,11 +42,12 @@ use Rattle.item_typing.specs.Targets.{Target, base_heading, item_of, target_type
 use Rattle.type_check.proofs.DeclaredLemmas.{declared-heading, typed-declared}
 use Rattle.type_check.proofs.EndingTypedLemmas.{condition-if-sound, ending-sound}
 use Rattle.type_check.proofs.InfixLemmas.{condition-sound}
-use Rattle.type_check.proofs.ItemLemmas.{any-given}
 use Rattle.type_check.proofs.KeptLemmas.{AreAssigned, AreOthers, others-assigned, swept-is, sets-swept}
 use Rattle.type_check.proofs.ListLemmas.{AreListed, list-sound, left-list}
 use Rattle.type_check.proofs.LiteralLemmas.{same_heading-same}
-use Rattle.type_check.proofs.PositionLemmas.{held, own, all-from, position-named}
+use Rattle.type_check.proofs.PositionLemmas.{all-from, position-named}
+use Rattle.declaration_typing.proofs.PositionLemmas.{held}
+use Rattle.meaning_core.proofs.MadeLemmas.{own_name as own}
 use Rattle.type_check.proofs.TreeLemmas.{named-heading, tree-sound}
 use Rattle.type_check.proofs.SetTypedLemmas.{onward, IsUpdate, sets-made-sound}
 use Rattle.type_check.proofs.PortionTypedLemmas.{AreNamed, portion-sound}

@@ -13,7 +13,6 @@ use Rattle.point_core.specs.Faults.{OrFault}
 use Rattle.value_core.specs.Attributes.{among}
 use Rattle.utd_syntax.specs.Plain.{Word, ScalarP, SetItemP, SetItem}
 use Rattle.value_core.specs.declared.kind.Kind.{Kind}
-use Rattle.value_core.specs.declared.kind.Kind.TheVariants.{Truth, Char, Point, Span}
 use Rattle.value_core.specs.declared.list.OrdinalNames.{OrdinalNames}
 use Rattle.value_core.specs.Headings.{has_name}
 use Rattle.value_core.specs.Values.{Name, Heading}
@@ -23,7 +22,7 @@ use Rattle.relation_typing.specs.Attributes.{new_name, name_typed}
 use Rattle.relation_typing.specs.Items.{Made, item_typed}
 use Rattle.scalar_typing.specs.Scalars.{typed_scalar}
 use Rattle.scalar_typing.specs.Typings.{refused}
-use Rattle.scalar_typing.proofs.SoundLemmas.{then-sound}
+use Rattle.scalar_typing.proofs.SoundLemmas.{then-sound, any-given}
 use Rattle.tree_core.specs.Trees.{PlainSets, PlainAggregateForm, count_rows, sum_of, min_of, max_of, PlainAggregate}
 use Rattle.scalar_core.specs.Sweeping.{first_place, named_places, names_any, sweep_fault}
 use Rattle.meaning_core.specs.Typing.{is_alike_at, are_in, is_swept, names_none}
@@ -31,15 +30,11 @@ use Rattle.node_typing.specs.Lists.{names_of_words, named_in, kind_named}
 use Rattle.node_typing.specs.Positions.{check}
 use Rattle.node_typing.specs.Rows.{items_typed}
 use Rattle.node_typing.specs.Sweeps.{all_kept, none_assigned, refused_if, swept, sets_swept, names_no, form_names_no, aggregates_name_no}
-use Rattle.type_check.proofs.ItemLemmas.{any-given}
-use Rattle.type_check.proofs.PositionLemmas.{held, own, name-is}
+use Rattle.declaration_typing.proofs.PositionLemmas.{held}
+use Rattle.meaning_core.proofs.MadeLemmas.{own_name as own, same_name}
 use Rattle.type_check.proofs.RenamingLemmas.{word-typed}
 use Rattle.point_core.specs.declared.fault.Code.TheVariants.{E15, E18}
-
--- two things that hold of what is given
-pub both-hold : {X : Type 0} (P Q : X → Type 0) (r : OrFault X) → IfOk r P → IfOk r Q → IfOk r (λ x. P x × Q x)
-both-hold P Q (Ok x) h k = (h, k)
-both-hold P Q (Err e) h k = tt
+use Rattle.scalar_core.proofs.KindOfLemmas.{same_kind-self}
 
 -- ---- attributes of one kind
 
@@ -47,12 +42,6 @@ same_type-self : (t : AnyType) → same_type t t ≡ true
 same_type-self Integer = refl
 same_type-self Date = refl
 same_type-self (Ordinal of last) = and_from (nat_eq of of) (nat_eq last last) (eq-eqb of of refl) (eq-eqb last last refl)
-
-pub same_kind-self : (k : Kind) → same_kind k k ≡ true
-same_kind-self Truth = refl
-same_kind-self Char = refl
-same_kind-self (Point t) = same_type-self t
-same_kind-self (Span t) = same_type-self t
 
 alike : (h g : Heading) (name : Name) → IsTrue (has_name h name) → IsTrue (has_name g name) → kind_named h name ≡ kind_named g name → IsTrue (is_alike_at h g name)
 alike h g name here there same =
@@ -108,7 +97,7 @@ others-assigned names list sets assigned = onward (none_assigned names list) (no
   where
     onward : (r : OrFault (Unit {0})) → IfOk r (λ _. (name : Name) → Assigns list name → named_in names name ≡ false) → IfOk r (λ _. AreOthers names sets)
     onward (Ok u) k = λ name s i j e.
-        let one : name ≡ s.0 = name-is name s.0 e in
+        let one : name ≡ s.0 = same_name name s.0 e in
         let named : IsTrue (named_in names s.0) = (list_any-In (bytes_eq s.0) names).1 (name, i, subst (λ (n : Name). bytes_eq s.0 n ≡ true) (sym one) (own s.0)) in
         true≢false (sym named ∙ k s.0 (assigned s j))
     onward (Err e) k = tt

@@ -24,7 +24,7 @@ use Rattle.relation_core.specs.Agreement.{position_of}
 use Rattle.relation_core.specs.Parts.{kind_at}
 use Rattle.relation_typing.specs.Headings.{same_heading}
 use Rattle.scalar_typing.proofs.SoundLemmas.{then-sound}
-use Rattle.scalar_typing.proofs.TypedLemmas.{same_kind-same}
+use Rattle.scalar_core.proofs.KindOfLemmas.{same_kind-same}
 use Rattle.tree_core.specs.Trees.{Tree, heading_of}
 use Rattle.tree_core.specs.declared.test.RelateWord.{RelateWord}
 use Rattle.meaning_core.specs.Meanings.{positions_of}
@@ -33,7 +33,8 @@ use Rattle.node_typing.specs.Lists.{words_of, names_of_words, named_in, kind_nam
 use Rattle.node_typing.specs.Nodes.{packed_by, packing_rule, comparison_rule, using_comparison_rule, emptiness_test}
 use Rattle.node_typing.specs.Positions.{check}
 use Rattle.type_check.proofs.LiteralLemmas.{same_heading-same}
-use Rattle.type_check.proofs.PositionLemmas.{held, positions-within, positions-differ}
+use Rattle.type_check.proofs.PositionLemmas.{positions-within, positions-differ}
+use Rattle.declaration_typing.proofs.PositionLemmas.{held}
 
 -- ---- names of a list
 

@@ -21,7 +21,7 @@ use Rattle.scalar_core.specs.KindOf.{same_kind}
 use Rattle.scalar_typing.specs.Names.{point_type}
 use Rattle.scalar_typing.specs.Typings.{refused}
 use Rattle.scalar_typing.proofs.SoundLemmas.{then-sound}
-use Rattle.scalar_typing.proofs.TypedLemmas.{same_kind-same}
+use Rattle.scalar_core.proofs.KindOfLemmas.{same_kind-same}
 use Rattle.relation_typing.specs.Attributes.{with_attribute, new_name, few_attributes}
 use Rattle.relation_typing.specs.Headings.{kind_typed, attributes_typed, heading_typed, same_attribute, same_heading}
 use Rattle.relation_typing.specs.Items.{Made, none_made, elements_typed}

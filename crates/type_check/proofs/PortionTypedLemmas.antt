@@ -26,7 +26,8 @@ use Rattle.scalar_typing.specs.Names.{first_from, attribute_of}
 use Rattle.scalar_typing.specs.Scalars.{typed_scalar}
 use Rattle.scalar_typing.specs.Typings.{value_or}
 use Rattle.scalar_typing.proofs.SoundLemmas.{then-sound, found-at}
-use Rattle.scalar_typing.proofs.TypedLemmas.{same_kind-same, mapped, or-refused}
+use Rattle.scalar_typing.proofs.TypedLemmas.{mapped, or-refused}
+use Rattle.scalar_core.proofs.KindOfLemmas.{same_kind-same}
 use Rattle.tree_core.specs.Items.{PlainPortion}
 use Rattle.meaning_core.specs.Meanings.{positions_of}
 use Rattle.meaning_core.specs.Typing.{IsScalar, is_span}
@@ -34,7 +35,9 @@ use Rattle.meaning_core.specs.Updates.{attributes_of_portion, IsPart, IsPortionI
 use Rattle.meaning_core.specs.WellMade.{sizes_of, IsOrdinalType}
 use Rattle.node_typing.specs.Positions.{check}
 use Rattle.item_typing.specs.Changes.{part_typed, parts_typed, portion_typed, element_name, portion_names}
-use Rattle.type_check.proofs.PositionLemmas.{held, name-is, all-from, named-in}
+use Rattle.type_check.proofs.PositionLemmas.{all-from, named-in}
+use Rattle.declaration_typing.proofs.PositionLemmas.{held}
+use Rattle.meaning_core.proofs.MadeLemmas.{same_name}
 use Rattle.type_check.proofs.ScalarLemmas.{typed-is_scalar}
 use Rattle.type_check.proofs.SetTypedLemmas.{first-in, onward}
 
@@ -56,7 +59,7 @@ found-position heading w up =
     (mapped (IsFound heading w) (first_from (λ a. bytes_eq a.0 w.bytes) 0 heading) _ (λ found e.
     let at = found-at (λ (a : Name × Kind). bytes_eq a.0 w.bytes) heading found.0 found.1 e in
     let h = first-in (λ (a : Name × Kind). bytes_eq a.0 w.bytes) 0 heading found.0 found.1 e in
-    let same : found.1.0 ≡ w.bytes = name-is found.1.0 w.bytes h.1 in
+    let same : found.1.0 ≡ w.bytes = same_name found.1.0 w.bytes h.1 in
     let stands : get_or heading found.0 no_attribute ≡ found.1 = get-of heading found.0 found.1 no_attribute at.1 in
     let named : (get_or heading found.0 no_attribute).0 ≡ w.bytes = ap (λ (a : Name × Kind). a.0) stands ∙ same in
     record {

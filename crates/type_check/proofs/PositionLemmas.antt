@@ -1,6 +1,6 @@
 -- Attributes by their names and positions.
-use Rattle.std.specs.Prelude.{◌≡◌, ◌<◌, ◌≤◌, ℕ, suc, ◌+◌, Bool, true, false, cond, ◌||◌, List, [], ◌∷◌, length, get_or, nat_eq, IfOk, IsTrue, refl, if◌then◌else◌}
-use Rattle.std.proofs.Common.{arith, sym, ◌∙◌, ap, ap₂, subst, inl, inr, lt-ltb, Less, Equal, Greater}
+use Rattle.std.specs.Prelude.{◌≡◌, ◌<◌, ◌≤◌, ℕ, suc, ◌+◌, Bool, true, false, ◌||◌, List, [], ◌∷◌, length, get_or, nat_eq, IsTrue, refl, if◌then◌else◌}
+use Rattle.std.proofs.Common.{arith, sym, ◌∙◌, ap, ap₂, subst, inl, inr}
 use Rattle.std.specs.List.{All, AllByRecursion, IsDistinct}
 use Rattle.std.specs.Ordering.{nat_cmp}
 use Rattle.std.specs.Str.{bytes_eq}
@@ -10,8 +10,6 @@ use Rattle.std.proofs.lemmas.Slice.Eq.{bytes_eq-Decides}
 use Rattle.base_core.proofs.SetLemmas.{In, AllAfter, Ascends}
 use Rattle.base_core.proofs.MemberLemmas.{In-map, list_any-In}
 use Rattle.base_core.proofs.SetOperatorLemmas.{AllAfter-In, is_set-Ascends}
-use Rattle.point_core.specs.declared.fault.Place.{Place}
-use Rattle.point_core.specs.declared.fault.Code.{Code}
 use Rattle.value_core.specs.declared.kind.Kind.{Kind}
 use Rattle.value_core.specs.Attributes.{among}
 use Rattle.value_core.specs.Headings.{has_name}
@@ -20,24 +18,14 @@ use Rattle.relation_core.specs.Agreement.{position_of, as_wanted}
 use Rattle.relation_core.specs.Parts.{no_attribute}
 use Rattle.meaning_core.specs.Meanings.{positions_of, names_at}
 use Rattle.meaning_core.specs.Typing.{ArePositions}
-use Rattle.meaning_core.proofs.MadeLemmas.{one_in_order}
+use Rattle.meaning_core.proofs.MadeLemmas.{one_in_order, same_name, own_name}
 use Rattle.node_typing.specs.Lists.{kind_named}
-use Rattle.node_typing.specs.Positions.{check, kept_from, kept}
-use Rattle.type_check.proofs.DeclaredLemmas.{member-at}
-
--- what is checked holds
-pub held : (place : Place) (code : Code) (b : Bool) → IfOk (check place code b) (λ _. IsTrue b)
-held place code true = refl
-held place code false = tt
-
-pub name-is : (a b : Name) → bytes_eq a b ≡ true → a ≡ b
-name-is a b e = (bytes_eq-Decides a b).0 e
-
-pub own : (a : Name) → bytes_eq a a ≡ true
-own a = (bytes_eq-Decides a a).1 refl
+use Rattle.node_typing.specs.Positions.{kept_from, kept}
+use Rattle.relation_core.proofs.HeadingLemmas.{In-get_or}
+use Rattle.since_during.proofs.MoreLemmas.{less-by}
 
 pub all-from : {X : Type 0} (P : X → Type 0) (xs : List X) → ((x : X) → In x xs → P x) → All P xs
-all-from P xs h k d l = h (get_or xs k d) (member-at xs k d l)
+all-from P xs h k d l = h (get_or xs k d) (In-get_or xs k d l)
 
 -- ---- the attribute of a name
 
@@ -51,7 +39,7 @@ position-named (a ∷ rest) name e =
         → (IsTrue (has_name rest name) → (position_of rest name < length rest) × ((get_or rest (position_of rest name) no_attribute).0 ≡ name))
         → IsTrue (b || has_name rest name)
         → ((if b then 0 else suc (position_of rest name)) < length (a ∷ rest)) × ((get_or (a ∷ rest) (if b then 0 else suc (position_of rest name)) no_attribute).0 ≡ name)
-    by-test true f more e = (omega arith, name-is a.0 name f)
+    by-test true f more e = (omega arith, same_name a.0 name f)
     by-test false f more e = let h = more e in (omega (arith, h.0), h.1)
 
 -- a name with its kind is an attribute
@@ -60,16 +48,16 @@ attribute-named h name e =
     let at = position-named h name e in
     let a : Name × Kind = get_or h (position_of h name) no_attribute in
     let same : a ≡ (name, kind_named h name) = ap (λ (n : Name). (n, (get_or h (position_of h name) no_attribute).1)) at.1 in
-    subst (λ (z : Name × Kind). In z h) same (member-at h (position_of h name) no_attribute at.0)
+    subst (λ (z : Name × Kind). In z h) same (In-get_or h (position_of h name) no_attribute at.0)
 
 pub named-in : (h : Heading) (name : Name) (kind : Kind) → In (name, kind) h → IsTrue (has_name h name)
-named-in h name kind i = (list_any-In (λ (b : Name × Kind). bytes_eq b.0 name) h).1 ((name, kind), i, own name)
+named-in h name kind i = (list_any-In (λ (b : Name × Kind). bytes_eq b.0 name) h).1 ((name, kind), i, own_name name)
 
 -- an attribute of a heading is the one of its name
 pub kind-is : (h : Heading) (name : Name) (kind : Kind) → Ascends attribute_cmp h → In (name, kind) h → kind_named h name ≡ kind
 kind-is h name kind up i =
     let j = attribute-named h name (named-in h name kind i) in
-    ap (λ (a : Name × Kind). a.1) (one_in_order h (name, kind) (name, kind_named h name) up i j (own name))
+    ap (λ (a : Name × Kind). a.1) (one_in_order h (name, kind) (name, kind_named h name) up i j (own_name name))
 
 -- ---- positions of names
 
@@ -116,9 +104,6 @@ kept-within wanted named n (a ∷ rest) i m =
       | inr j ↦ more j
     ]
     by-test false more m = more m
-
-less-by : (i j : ℕ) → i < j → nat_cmp i j ≡ Less
-less-by i j l = ap (λ (b : Bool). cond b Less (cond (nat_eq i j) Equal Greater)) (lt-ltb i j l)
 
 kept-ascends : (wanted : Bool) (named : List ℕ) (n : ℕ) (h : Heading) → Ascends nat_cmp (kept_from wanted named n h)
 kept-ascends wanted named n [] = tt

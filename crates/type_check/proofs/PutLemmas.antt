@@ -1,5 +1,5 @@
 -- Attributes that are put one by one into a heading: the list of them makes the heading.
-use Rattle.std.proofs.Common.{◌≡◌, inl, inr, ℕ, ◌+◌, ◌≤◌, Bool, true, false, ◌||◌, List, [], ◌∷◌, ◌++◌, length, refl, sym, ap, ◌∙◌, subst, Some, None, IsTrue, Ordering, Less, Equal, Greater, if◌then◌else◌, nat_le}
+use Rattle.std.proofs.Common.{◌≡◌, inl, inr, ℕ, ◌+◌, ◌≤◌, Bool, true, false, ◌||◌, [], ◌∷◌, ◌++◌, length, refl, sym, ap, ◌∙◌, subst, Some, None, IsTrue, Less, Equal, Greater, if◌then◌else◌, nat_le}
 use Rattle.std.specs.BTreeMap.{insert_entry}
 use Rattle.std.specs.Cmp.Lexicographic.{texts_ties, nat_list_eq_equiv}
 use Rattle.std.specs.List.{AllByRecursion, IsDistinct, list_all}
@@ -8,7 +8,7 @@ use Rattle.std.specs.Ordering.{is_eq, match_ordering, ordering_reverse}
 use Rattle.std.specs.Str.{bytes_eq}
 use Rattle.std.proofs.lemmas.Bool.{true≢false, and_from, and_parts, le-leb}
 use Rattle.std.proofs.lemmas.List.Folds.{list_any-append}
-use Rattle.std.proofs.lemmas.List.Sorted.{IsPermutation-refl, IsPermutation-sym, IsPermutation-trans, IsPermutation-cons, IsPermutation-middle}
+use Rattle.std.proofs.lemmas.List.Sorted.{IsPermutation-sym}
 use Rattle.std.proofs.lemmas.Map.Keys.{IsDistinct-IsPermutation}
 use Rattle.base_core.specs.Sets.{placed, put}
 use Rattle.base_core.proofs.SetLemmas.{In, AllAfter, Ascends}
@@ -20,18 +20,9 @@ use Rattle.value_core.specs.Limits.{most_attributes}
 use Rattle.value_core.specs.Values.{Name, Heading, name_cmp, attribute_cmp, is_heading}
 use Rattle.value_core.proofs.HeadingLemmas.{attribute_total}
 use Rattle.relation_core.proofs.HeadingLemmas.{neither, heading_ascends}
+use Rattle.since_during.proofs.HistoryTypes.{put-permutes}
 
 -- ---- put into its place, nothing is lost
-
-pub put-permutes : {X : Type 0} (cmp : X → X → Ordering) (x : X) (xs : List X) → ((y : X) → In y xs → cmp x y ≡ Equal → ⊥) → IsPermutation (x ∷ xs) (put cmp x xs)
-put-permutes cmp x [] h = IsPermutation-refl (x ∷ [])
-put-permutes cmp x (y ∷ ys) h =
-    elim (cmp x y) as (λ r. cmp x y ≡ r → IsPermutation (x ∷ y ∷ ys) (placed r x y ys (put cmp x ys))) [
-      | Less ↦ λ e. IsPermutation-refl (x ∷ y ∷ ys)
-      | Equal ↦ λ e. absurd (h y (inl refl) e)
-      | Greater ↦ λ e. IsPermutation-trans (x ∷ y ∷ ys) (y ∷ x ∷ ys) (y ∷ put cmp x ys)
-          (IsPermutation-middle (x ∷ []) y ys) (IsPermutation-cons y (x ∷ ys) (put cmp x ys) (put-permutes cmp x ys (λ z i. h z (inr i))))
-    ] refl
 
 after-placed : (a b : Name × Kind) (xs : Heading) → attribute_cmp b a ≡ Less → AllAfter attribute_cmp b xs → AllAfter attribute_cmp b (put attribute_cmp a xs)
 after-placed a b [] l h = (l, tt)

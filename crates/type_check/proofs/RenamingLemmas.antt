@@ -22,7 +22,7 @@ use Rattle.relation_core.proofs.HeadingLemmas.{heading_ascends, few_attributes}
 use Rattle.relation_core.proofs.RenamingLemmas.{length-renamed}
 use Rattle.relation_typing.specs.Attributes.{is_name, name_typed}
 use Rattle.scalar_typing.specs.Typings.{refused}
-use Rattle.scalar_typing.proofs.SoundLemmas.{then-sound}
+use Rattle.scalar_typing.proofs.SoundLemmas.{then-sound, any-given}
 use Rattle.tree_core.specs.Trees.{Tree, heading_of}
 use Rattle.meaning_core.specs.Typing.{IsRenaming, Headings, IsTypedTree}
 use Rattle.node_typing.specs.Headings.{heading_of_list}
@@ -30,8 +30,9 @@ use Rattle.node_typing.specs.Nodes.{renaming_rule}
 use Rattle.node_typing.specs.Positions.{check, new_position}
 use Rattle.node_typing.specs.Projections.{NewNames, renamed_positions, renaming_typed, renamings_typed, name_behind, names_from, stands_once, new_names_once, renaming_list, renaming_names}
 use Rattle.type_check.proofs.ExtensionLemmas.{order-heading}
-use Rattle.type_check.proofs.ItemLemmas.{any-given}
-use Rattle.type_check.proofs.PositionLemmas.{held, own, name-is}
+use Rattle.declaration_typing.proofs.PositionLemmas.{held}
+use Rattle.meaning_core.proofs.MadeLemmas.{own_name as own, same_name as name-is}
+use Rattle.since_during.proofs.PlaceLemmas.{each-from}
 
 -- ---- new names are written ones
 
@@ -145,10 +146,6 @@ behind-in list pairs n (a ∷ rest) y w i = elim i [
   ]
 ]
 
-all-by : {X : Type 0} (P : X → Type 0) (xs : List X) → ((x : X) → In x xs → P x) → AllByRecursion P xs
-all-by P [] h = tt
-all-by P (x ∷ xs) h = (h x (inl refl), all-by P xs (λ y i. h y (inr i)))
-
 -- a new name that stands in front stands no more
 twice : (x y : Name) (xs : List Name) → times x (x ∷ xs) ≤ 1 → In y xs → x ≡ y → ⊥
 twice x y xs few i e =
@@ -177,7 +174,7 @@ names-differ : (list : List RenamingP) (pairs : NewNames) (n : ℕ) (h : Heading
 unfolding IsDistinct
 names-differ list pairs n [] w up once = tt
 names-differ list pairs n (a ∷ rest) w up once = (
-  all-by (λ (y : Name). bytes_eq (name_behind pairs n a.0) y ≡ false) (names_from pairs (n + 1) rest) (λ y i.
+  each-from (λ (y : Name). bytes_eq (name_behind pairs n a.0) y ≡ false) (names_from pairs (n + 1) rest) (λ y i.
       new-apart list a rest (name_behind pairs n a.0) y (names_from pairs (n + 1) rest) up once (behind list pairs n a.0 w) i (behind-in list pairs (n + 1) rest y w i)),
   names-differ list pairs (n + 1) rest w up.1 (λ name g. let tail = times-tail name (name_behind pairs n a.0) (names_from pairs (n + 1) rest) in omega (arith, once name g, tail)),
 )

@@ -28,11 +28,12 @@ use Rattle.scalar_typing.specs.Names.{first_from, attribute_of}
 use Rattle.scalar_typing.specs.Scalars.{typed_scalar}
 use Rattle.scalar_typing.specs.Typings.{value_or}
 use Rattle.scalar_typing.proofs.SoundLemmas.{then-sound}
-use Rattle.scalar_typing.proofs.TypedLemmas.{same_kind-same, mapped, or-refused}
+use Rattle.scalar_typing.proofs.TypedLemmas.{mapped, or-refused}
+use Rattle.scalar_core.proofs.KindOfLemmas.{same_kind-same}
 use Rattle.tree_core.specs.Trees.{PlainSets}
 use Rattle.meaning_core.specs.Typing.{IsScalar, IsExtension, not_named}
 use Rattle.meaning_core.specs.WellMade.{sizes_of, IsOrdinalType}
-use Rattle.meaning_core.proofs.MadeLemmas.{one_in_order}
+use Rattle.meaning_core.proofs.MadeLemmas.{one_in_order, own_name as own, same_name}
 use Rattle.node_typing.specs.Headings.{made_beside}
 use Rattle.node_typing.specs.Positions.{check}
 use Rattle.node_typing.specs.Rows.{item_list}
@@ -40,8 +41,10 @@ use Rattle.item_typing.specs.Sets.{set_typed, sets_typed, sets_made}
 use Rattle.type_check.proofs.PutLemmas.{insert-permutes}
 use Rattle.type_check.proofs.ItemLemmas.{new-is_new, IsMade, made-none, made-more}
 use Rattle.type_check.proofs.ExtensionLemmas.{order-permutes, beside-apart, extension-of}
-use Rattle.type_check.proofs.KeptLemmas.{both-hold, Assigns, AreAssigned, new-word}
-use Rattle.type_check.proofs.PositionLemmas.{held, own, name-is, named-in}
+use Rattle.type_check.proofs.KeptLemmas.{Assigns, AreAssigned, new-word}
+use Rattle.declaration_typing.proofs.FitLemmas.{both-hold}
+use Rattle.type_check.proofs.PositionLemmas.{named-in}
+use Rattle.declaration_typing.proofs.PositionLemmas.{held}
 use Rattle.type_check.proofs.ScalarLemmas.{typed-is_scalar}
 
 -- what follows from what is given is given
@@ -67,7 +70,7 @@ found-attribute heading w =
     or-refused (λ (found : ℕ × Kind). In (w.bytes, found.1) heading) w.place _ (attribute_of heading w.bytes)
     (mapped (λ (found : ℕ × Kind). In (w.bytes, found.1) heading) (first_from (λ a. bytes_eq a.0 w.bytes) 0 heading) _ (λ found e.
     let h = first-in (λ (a : Name × Kind). bytes_eq a.0 w.bytes) 0 heading found.0 found.1 e in
-    let same : found.1.0 ≡ w.bytes = name-is found.1.0 w.bytes h.1 in
+    let same : found.1.0 ≡ w.bytes = same_name found.1.0 w.bytes h.1 in
     subst (λ (n : Name). In (n, found.1.1) heading) same h.0))
 
 -- ---- items so far
@@ -112,7 +115,7 @@ own-beside attributes from up up' within =
     listed a true e i =
         let w = (list_any-In (bytes_eq a.0) (names_of attributes)).0 e in
         let b = (In-map (λ (c : Name × Kind). c.0) w.0 attributes).0 w.1 in
-        let named : bytes_eq b.0.0 a.0 ≡ true = subst (λ (n : Name). bytes_eq n a.0 ≡ true) (name-is a.0 w.0 w.2 ∙ b.2) (own a.0) in
+        let named : bytes_eq b.0.0 a.0 ≡ true = subst (λ (n : Name). bytes_eq n a.0 ≡ true) (same_name a.0 w.0 w.2 ∙ b.2) (own a.0) in
         let same : b.0 ≡ a = one_in_order from a b.0 up' i (within b.0 b.1) named in
         (In-append a attributes (not_named (names_of attributes) from)).1 (inl (subst (λ (z : Name × Kind). In z attributes) same b.1))
     listed a false e i =

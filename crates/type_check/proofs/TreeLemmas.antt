@@ -10,7 +10,7 @@ use Rattle.value_core.specs.Values.{Name, is_heading}
 use Rattle.relation_core.proofs.HeadingLemmas.{heading_ascends}
 use Rattle.relation_typing.specs.Attributes.{name_typed}
 use Rattle.scalar_typing.specs.Typings.{◌>>=◌, value_or}
-use Rattle.scalar_typing.proofs.SoundLemmas.{then-sound}
+use Rattle.scalar_typing.proofs.SoundLemmas.{then-sound, any-given}
 use Rattle.tree_core.specs.Relvars.{PlainRelvar, Entries, State, relvar_named, relvar_heading}
 use Rattle.tree_core.specs.Trees.{Tree, named, heading_of}
 use Rattle.tree_core.specs.declared.tree.InfixWord.{InfixWord}
@@ -25,7 +25,6 @@ use Rattle.type_check.proofs.AggregateLemmas.{summary-sound}
 use Rattle.type_check.proofs.DeclaredLemmas.{declared-heading, typed-declared}
 use Rattle.type_check.proofs.ExtensionLemmas.{extension-sound}
 use Rattle.type_check.proofs.InfixLemmas.{infix-sound, projection-sound, restriction-sound}
-use Rattle.type_check.proofs.ItemLemmas.{any-given}
 use Rattle.type_check.proofs.ListLemmas.{packing-sound, comparison-sound, using-comparison-sound, emptiness-sound}
 use Rattle.type_check.proofs.LiteralLemmas.{literal-sound}
 use Rattle.type_check.proofs.RenamingLemmas.{renaming-sound}

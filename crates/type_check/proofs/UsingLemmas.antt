@@ -24,7 +24,7 @@ use Rattle.relation_core.proofs.AttributeLemmas.{In-joined, joined_ascends}
 use Rattle.relation_core.proofs.HeadingLemmas.{heading_ascends, within_by_members}
 use Rattle.relation_typing.specs.Items.{Made, none_made}
 use Rattle.meaning_core.proofs.PositionLemmas.{position-back}
-use Rattle.scalar_typing.proofs.SoundLemmas.{then-sound}
+use Rattle.scalar_typing.proofs.SoundLemmas.{then-sound, any-given}
 use Rattle.tree_core.specs.Trees.{PlainSets, PlainAggregate, Tree, infix_of, project, restrict, extend, summarize, heading_of}
 use Rattle.tree_core.specs.declared.tree.InfixWord.{InfixWord}
 use Rattle.tree_core.specs.declared.tree.InfixWord.TheVariants.{Union, Intersect, Minus, Join, Matching, NotMatching}
@@ -45,8 +45,8 @@ use Rattle.type_check.proofs.AggregateLemmas.{groups-sound, aggregates-made}
 use Rattle.type_check.proofs.DeclaredLemmas.{part-in}
 use Rattle.type_check.proofs.ExtensionLemmas.{extension-made}
 use Rattle.type_check.proofs.InfixLemmas.{infix-heading, kept-sound, condition-sound}
-use Rattle.type_check.proofs.ItemLemmas.{any-given}
-use Rattle.type_check.proofs.KeptLemmas.{both-hold, all-alike, all-kept, AreAssigned, AreOthers, others-assigned, others-none, items-assigned, swept-is, sets-swept, aggregates-none}
+use Rattle.type_check.proofs.KeptLemmas.{all-alike, all-kept, AreAssigned, AreOthers, others-assigned, others-none, items-assigned, swept-is, sets-swept, aggregates-none}
+use Rattle.declaration_typing.proofs.FitLemmas.{both-hold}
 use Rattle.type_check.proofs.ListLemmas.{AreListed, list-sound, list-of}
 use Rattle.type_check.proofs.PositionLemmas.{attribute-named, named-in, kind-is, names-at-positions}
 use Rattle.relation_typing.specs.Attributes.{few_attributes}

@@ -31,6 +31,7 @@ use Rattle.meaning_core.specs.WellMade.{AreAlike, IsOver}
 use Rattle.u_constraints.specs.Constraints.{agree_on, contradict, keeps_history}
 use Rattle.u_constraints.proofs.FitLemmas.{value_fits, span_that_fits}
 use Rattle.u_constraints.specs.Marks.{Mark, reaches, is_any_reached, begun, begin_mark, end_mark, is_overrun, is_touched}
+use Rattle.relation_core.proofs.AgreementLemmas.{list_any-map}
 
 -- ---- parts at two lists of positions
 
@@ -114,13 +115,9 @@ any_or : {X : Type 0} (p q : X → Bool) (xs : List X) → list_any (λ x. p x |
 any_or p q [] = refl
 any_or p q (x ∷ xs) = ap (λ b. (p x || q x) || b) (any_or p q xs) ∙ four (p x) (q x) (list_any p xs) (list_any q xs)
 
-any_map : {X Y : Type 0} (p : Y → Bool) (f : X → Y) (xs : List X) → list_any p (map f xs) ≡ list_any (λ x. p (f x)) xs
-any_map p f [] = refl
-any_map p f (x ∷ xs) = ap (λ b. p (f x) || b) (any_map p f xs)
-
 reached_rows : (b e : Row → Mark) (others rows : List Row) → is_any_reached (map b others) (map e rows) ≡ list_any (λ x. list_any (λ y. reaches (b x) (e y)) rows) others
 reached_rows b e others rows =
-    any_map (λ m. list_any (reaches m) (map e rows)) b others ∙ (λ t. list_any (λ x. any_map (reaches (b x)) e rows t) others)
+    list_any-map (λ m. list_any (reaches m) (map e rows)) b others ∙ (λ t. list_any (λ x. list_any-map (reaches (b x)) e rows t) others)
 
 -- ends in another order reach the same
 reached_moved : (begins ends moved : List Mark) → IsPermutation ends moved → is_any_reached begins moved ≡ is_any_reached begins ends

@@ -21,7 +21,8 @@ use Rattle.slice_core.specs.PackedRows.{IsPackedOf}
 use Rattle.box_core.specs.Apartness.{AreApart}
 use Rattle.box_core.specs.Common.{At, has_cell, HaveCells}
 use Rattle.box_core.specs.Rows.{IsRow}
-use Rattle.box_core.proofs.PlaceLemmas.{span_parts, span_from, cell_from, cell_parts}
+use Rattle.box_core.proofs.PlaceLemmas.{span_from, cell_from, cell_parts}
+use Rattle.slice_core.proofs.Sweeping.{cell_has}
 use Rattle.box_core.proofs.PointLemmas.{cell_at, InGrid}
 use Rattle.box_core.proofs.RowLemmas.{row_among, among_row, one_row, map_row, row_map}
 use Rattle.cell_core.specs.CellRows.{AreOverCells}
@@ -62,7 +63,7 @@ has_begins (g ∷ rest) [] y e f h = absurd (omega (arith, e))
 has_begins (g ∷ rest) (i ∷ is) [] e f h = absurd (omega (arith, f))
 has_begins (g ∷ rest) (i ∷ is) (x ∷ xs) e f h =
     let u = and_parts (span_has x i) (has_place xs is) h in
-    let w = span_parts x i u.0 in
+    let w = cell_has x i u.0 in
     let a = rises_far g x.0 i w.0 in
     let b = rises_far g (suc i) x.1 w.1 in
     let r = g.rises i in

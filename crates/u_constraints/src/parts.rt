@@ -9,16 +9,8 @@ use point_core::{Memory, PointType};
 use relation_core::part;
 use slice_core::Key;
 use std::alloc::Global;
+use u_set::copied_cells;
 use value_core::Row;
-
-/// The same cells in memory of their own.
-fn copied(alloc: Global, cells: &[(usize, usize)]) -> Result<Vec<(usize, usize)>, Memory>
-    ensures { IfOk result (λ v. v.items ≡ cells.now) }
-{
-    let mut copy = Vec::with_capacity(alloc, cells.len())?;
-    copy.extend_from_slice(cells)?;
-    Ok(copy)
-}
 
 /// The boxes of cells under their labels' values at the positions.
 pub(crate) fn cells_of_parts(
@@ -32,7 +24,7 @@ pub(crate) fn cells_of_parts(
     let mut out = Vec::with_capacity(alloc, rows.len())?;
     for row in rows {
         let label = part(alloc, &row.label, positions)?;
-        let sides = copied(alloc, row.sides.as_slice())?;
+        let sides = copied_cells(alloc, row.sides.as_slice())?;
         out.push(Key { label, sides })?;
     }
     Ok(out)

@@ -29,7 +29,8 @@ use Rattle.box_core.specs.Common.{At, EndsBy}
 use Rattle.box_core.specs.Groups.{IsGroup, OfGroup, IsGrouped, IsGroupFault}
 use Rattle.box_core.specs.Keys.{ArePaired}
 use Rattle.box_core.specs.Rows.{IsRow, KeyBox}
-use Rattle.box_core.proofs.CoveredLemmas.{some_from, all_from}
+use Rattle.box_core.proofs.CoveredLemmas.{all_from}
+use Rattle.slice_core.proofs.LabelRows.{some_of}
 use Rattle.box_core.proofs.RowLemmas.{some_row, among_row, row_among, row_there}
 use Rattle.cell_core.specs.Cells.{rows_from}
 use Rattle.cell_core.proofs.Calls.{are_rows}
@@ -51,7 +52,7 @@ order_rows n a (x ∷ xs) up h =
           (omega (arith, l), (h y (inr m)).1)),
     )
 
-among_from : (n a r : ℕ) → Among r (rows_from a n) ↔ ((a ≤ r) × (r < a + n))
+pub among_from : (n a r : ℕ) → Among r (rows_from a n) ↔ ((a ≤ r) × (r < a + n))
 among_from zero a r = (λ h. absurd h, λ h. let k = h.0 in let l = h.1 in absurd (omega (arith, k, l)))
 among_from (suc n) a r =
     let ih = among_from n (suc a) r in (
@@ -169,7 +170,7 @@ module _ (by : List ℕ) (rows : List (KeyBox Row)) (entries : List (KeyedBox Ro
 
   some_numbers : (a : List ℕ) → a ≢ [] → numbers_at numbers a ≢ []
   some_numbers a n = λ e.
-      let w = some_from a n in
+      let w = some_of a n in
       subst (Among (at w.0)) e (to_places numbers a (at w.0) w.0 w.1 refl)
 
   some_firsts : (a : List ℕ) → a ≢ [] → first_ones ranks (numbers_at numbers a) ≢ []

@@ -41,12 +41,12 @@ equal_test x y e = grind (arith, nat_tests)
 unequal_from : (x y : ℕ) → eqb x y ≡ false → x ≡ y → ⊥
 unequal_from x y f e = true≢false (sym (equal_test x y e) ∙ f)
 
-none_any : (t : ℕ → Bool) (xs : List ℕ) → not (list_any t xs) ≡ true → (x : ℕ) → Among x xs → t x ≡ true → ⊥
+pub none_any : (t : ℕ → Bool) (xs : List ℕ) → not (list_any t xs) ≡ true → (x : ℕ) → Among x xs → t x ≡ true → ⊥
 none_any t xs h x m e =
     let a : list_any t xs ≡ true = (list_any-In t xs).1 (x, (in_among x xs).1 m, e) in
     true≢false (sym h ∙ ap not a)
 
-any_none : (t : ℕ → Bool) (xs : List ℕ) → ((x : ℕ) → Among x xs → t x ≡ true → ⊥) → not (list_any t xs) ≡ true
+pub any_none : (t : ℕ → Bool) (xs : List ℕ) → ((x : ℕ) → Among x xs → t x ≡ true → ⊥) → not (list_any t xs) ≡ true
 any_none t xs h =
     elim (list_any t xs) as (λ b. list_any t xs ≡ b → not b ≡ true) [
       | true ↦ λ e. let w = (list_any-In t xs).0 e in absurd (h w.0 ((in_among w.0 xs).0 w.1) w.2)

@@ -5,15 +5,13 @@
 --     packed_groups      the packed form
 --     many_cells      there are as many rows over cells as rows
 use Rattle.std.proofs.Common.{◌≡◌, ◌↔◌, inl, inr, ℕ, zero, suc, ◌<◌, ◌≤◌, ℤ, pos, List, [], ◌∷◌, ◌++◌, map, length, get_or, Result, Ok, Err, Ordering, arith, refl, sym, ap, ◌∙◌, subst}
-use Rattle.std.specs.declared.cmp.Ordering.TheVariants.{Less}
 use Rattle.std.specs.Cmp.{IsTotalOrder}
 use Rattle.std.specs.List.{All, AllByRecursion}
-use Rattle.std.specs.List.Sorted.{IsStrictlySortedBy}
 use Rattle.std.proofs.lemmas.Bool.{and_parts, and_from}
 use Rattle.std.proofs.lemmas.Int.{ints}
 use Rattle.std.proofs.lemmas.List.{length-map}
 use Rattle.std.proofs.lemmas.List.Elements.{recursion_from_All}
-use Rattle.base_core.proofs.SetLemmas.{AllAfter, Ascends, Separates}
+use Rattle.base_core.proofs.SetLemmas.{Separates}
 use Rattle.value_core.specs.Values.{Row}
 use Rattle.packing_core.specs.Boxed.{Boxed, boxed_cmp, packed_boxes, InBoxes}
 use Rattle.packing_core.specs.Covering.{Among}
@@ -24,8 +22,9 @@ use Rattle.packing_core.proofs.PackedBoxes.{in_packed_form, packed_ascends}
 use Rattle.slice_core.specs.PackedRows.{HasRow}
 use Rattle.box_core.specs.Common.{At, EndsBy}
 use Rattle.box_core.specs.Rows.{KeyBox}
-use Rattle.box_core.proofs.CoveredLemmas.{some_from}
-use Rattle.box_core.proofs.PlaceLemmas.{span_parts, span_from}
+use Rattle.slice_core.proofs.LabelRows.{some_of}
+use Rattle.box_core.proofs.PlaceLemmas.{span_from}
+use Rattle.slice_core.proofs.Sweeping.{cell_has}
 use Rattle.box_core.proofs.PointLemmas.{InGrid, OnGrid, point_row, cell_at, row_points, no_points}
 use Rattle.box_core.proofs.RowLemmas.{row_all, among_row}
 use Rattle.cell_core.specs.Boxes.{IsBox}
@@ -41,6 +40,7 @@ use Rattle.cell_kernels.proofs.KernelLemmas.{AreOn, IsLow, left_on}
 use Rattle.u_groups.specs.Asked.{HasCells, InCellGroup, HasCellFault}
 use Rattle.u_groups.specs.Groups.{AreFirsts, OfFirsts, labels_in, sides_in, HasPlace, InGroupRule, HasGroupFault, IsGroupForm}
 use Rattle.u_groups.proofs.AskedLemmas.{get_in}
+use Rattle.u_row.proofs.AllRowsLemmas.{sorted_ascends}
 
 -- ---- groups of rows that have alike places
 
@@ -65,7 +65,7 @@ module _ (by : List ℕ) (labels : List Row) (H H' : ℕ → Type 0) (alike : (r
 -- where no row has the place there is none
 pub none_there : (by : List ℕ) (labels : List Row) (H : ℕ → Type 0) (V : List ℕ → Type 0) → ((r : ℕ) → r < length labels → H r → ⊥) → OfFirsts by labels H V → ⊥
 none_there by labels H V empty h =
-    let w = some_from h.1 h.3 in
+    let w = some_of h.1 h.3 in
     let f = (h.2.members w.0).0 w.1 in
     empty w.0 (f.0).0 (f.0).1
 
@@ -87,7 +87,7 @@ cell_place (g ∷ gs) (i ∷ is) e (x ∷ xs) q =
           and_from (span_has x i) (has_place xs is) (span_from x i (omega (arith, l)) m) (b.0 h.2),
       λ h.
           let u = and_parts (span_has x i) (has_place xs is) h in
-          let w = span_parts x i u.0 in
+          let w = cell_has x i u.0 in
           let f = rises_far g x.0 i w.0 in
           let k = rises_far g (suc i) x.1 w.1 in
           (f, omega (arith, ints), b.1 u.1),
@@ -246,15 +246,6 @@ module _ {T P : Type 0} (n : P → ℤ) (has : T → P → Type 0) (high : T →
     ]
 
 -- ---- the packed form
-
-sorted_ascends : {X : Type 0} (cmp : X → X → Ordering) (xs : List X) → Ascends cmp xs → IsStrictlySortedBy cmp xs
-unfolding IsStrictlySortedBy
-sorted_ascends cmp [] h = tt
-sorted_ascends cmp (x ∷ xs) h = (each xs h.0, sorted_ascends cmp xs h.1)
-  where
-    each : (ys : List _) → AllAfter cmp x ys → AllByRecursion (λ y. cmp x y ≡ Less) ys
-    each [] a = tt
-    each (y ∷ ys) a = (a.0, each ys a.1)
 
 pub packed_groups : {F : Type 0} (order : Row → Row → Ordering) → IsTotalOrder order → Separates order → (k : ℕ) (f : List ℕ → Result Row F) (by : List ℕ) (rows cells : List (Boxed Row)) → AllHave k cells
     → ((l : Row) (place : List ℤ) → InBoxes cells l place ↔ InGroupRule f by rows l place) → IsGroupForm order k f by rows (packed_boxes order k cells)

@@ -1,8 +1,7 @@
 // Rows with their numbers.
-ghost use Rattle.std.specs.Prelude.{◌≡◌, ◌↔◌, ℕ, false, map, slice_index_or, IfOk};
+ghost use Rattle.std.specs.Prelude.{◌≡◌, ◌↔◌, ℕ, IfOk};
 ghost use Rattle.packing_core.specs.Covering.{Among};
-ghost use Rattle.value_core.specs.Plain.{plain};
-ghost use Rattle.value_core.specs.Values.{Row as PlainRow, truth};
+ghost use Rattle.value_core.specs.Values.{Row as PlainRow};
 ghost use Rattle.relation_core.specs.Agreement.{part_of};
 ghost use Rattle.box_core.specs.Answers.{KeyedBox};
 ghost use Rattle.u_groups.specs.Asked.{IsNumbered};
@@ -11,40 +10,8 @@ use box_core::Keyed;
 use point_core::Memory;
 use slice_core::Key;
 use std::alloc::Global;
-use value_core::{Row, Value};
-
-// The value at the position, and FALSE past the end.
-fn value_or_false(alloc: Global, values: &[Value], position: usize) -> Result<Value, Memory>
-    ensures { IfOk result (λ v. plain v ≡ slice_index_or (map plain values.now) position (truth false)) }
-{
-    if position < values.len() {
-        let value = values[position].copy(alloc)?;
-        return Ok(value);
-    }
-    Ok(Value::Truth(false))
-}
-
-// The label's values at the positions.
-fn key_of(alloc: Global, label: &Row, positions: &[usize]) -> Result<Row, Memory>
-    ensures { IfOk result (λ r. r ≡ part_of positions.now label.now) }
-{
-    let all = label.values();
-    let mut values = Vec::with_capacity(alloc, positions.len())?;
-    for position in positions {
-        let value = value_or_false(alloc, all, *position)?;
-        values.push(value)?;
-    }
-    Ok(Row::make(values))
-}
-
-// The same cells in memory of their own.
-fn copied(alloc: Global, cells: &[(usize, usize)]) -> Result<Vec<(usize, usize)>, Memory>
-    ensures { IfOk result (λ v. v.items ≡ cells.now) }
-{
-    let mut copy = Vec::with_capacity(alloc, cells.len())?;
-    copy.extend_from_slice(cells)?;
-    Ok(copy)
-}
+use u_set::{copied_cells, part_of_label};
+use value_core::Row;
 
 // The row with its number, under the part of its label.
 fn numbered_row(
@@ -55,8 +22,8 @@ fn numbered_row(
 ) -> Result<Keyed<Row, usize>, Memory>
     ensures { IfOk result (λ z. z ≡ (part_of by.now row.now.0, number, row.now.1)) }
 {
-    let key = key_of(alloc, &row.label, by)?;
-    let sides = copied(alloc, row.sides.as_slice())?;
+    let key = part_of_label(alloc, &row.label, by)?;
+    let sides = copied_cells(alloc, row.sides.as_slice())?;
     Ok(Keyed {
         key,
         label: number,

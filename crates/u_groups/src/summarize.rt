@@ -19,6 +19,7 @@ use point_core::{Fault, Memory, PointType, Steps};
 use slice_core::pack_rows;
 use std::alloc::Global;
 use std::sync::ledger::Ledger;
+use u_set::in_limit;
 use value_core::Row;
 
 // The packed form of the labels that the rule gives, and its least fault.
@@ -48,22 +49,6 @@ fn group_form<T: PointType, G: GroupRule, L: Ledger>(
     let form = pack_rows(alloc, types.len(), parts)?;
     let answer = back(alloc, types, sides.as_slice(), form)?;
     Ok((answer, least))
-}
-
-// The rows, where they are no more than the limit.
-fn in_limit<T: PointType>(
-    form: Vec<BoxRow<T, Row>>,
-    limit: usize,
-) -> Result<Vec<BoxRow<T, Row>>, CellRefuse>
-    ensures same { IfOk result (λ v. v.items ≡ form.items) }
-    ensures few { IfOk result (λ v. length v.items ≤ limit) }
-    ensures no_fault { (e : AnyFault) → result ≡ Err (OfOp e) → ⊥ }
-    ensures limit { result ≡ Err OfLimit → limit < length form.items }
-{
-    if form.len() > limit {
-        return Err(CellRefuse::Limit);
-    }
-    Ok(form)
 }
 
 /// At each point the rows whose boxes have it are grouped by their labels' values at the positions `by`; of rows with equal labels only

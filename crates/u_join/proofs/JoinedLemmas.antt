@@ -3,7 +3,6 @@ use Rattle.std.proofs.Common.{◌≡◌, ◌↔◌, ◌⊎◌, inl, inr, ℕ, ze
 use Rattle.std.specs.Bool.{IsTrue}
 use Rattle.std.specs.List.{filter}
 use Rattle.std.specs.Str.{bytes_eq}
-use Rattle.std.proofs.lemmas.Bool.{true≢false, and_parts, and_from}
 use Rattle.std.proofs.lemmas.List.{get_or-map, length-map, get_or_append_left}
 use Rattle.std.proofs.lemmas.List.Folds.{list_any-append}
 use Rattle.base_core.proofs.SetLemmas.{In, Ascends, In-in_order, Ascends-in_order}
@@ -21,7 +20,7 @@ use Rattle.relation_core.specs.Joins.{joined_heading, HaveEqualKinds, joined_row
 use Rattle.relation_core.specs.Parts.{no_attribute, kind_at, attributes_at, positions_in}
 use Rattle.relation_core.proofs.AttributeLemmas.{ties_by_name, both_tell, In-joined, joined_ascends}
 use Rattle.relation_core.proofs.HeadingLemmas.{part_fits}
-use Rattle.relation_core.proofs.JoinLemmas.{value_of, value_of_part}
+use Rattle.relation_core.proofs.JoinLemmas.{value_of, value_of_part, fits_both}
 use Rattle.packing_core.specs.Boxed.{Boxed, packed_boxes, unpacked_boxes}
 use Rattle.packing_core.specs.Covering.{Among}
 use Rattle.cell_core.proofs.PackedPlaces.{AllHave}
@@ -111,14 +110,6 @@ module _ (n : ℕ) (here there : List ℕ) (below : (i : ℕ) → In i here → 
       others_append 0 (positions_of_both n here there) xs ys ∙ ap₂ (λ us vs. us ++ vs) front back
 
 -- ---- headings
-
-fits_both : (left right : Heading) (x y : Row) → IsTrue (fits_heading left x) → IsTrue (fits_heading right y) → IsTrue (fits_heading (left ++ right) (x ++ y))
-fits_both [] right [] y e f = f
-fits_both [] right (v ∷ vs) y e f = absurd (true≢false (sym e))
-fits_both (a ∷ rest) right [] y e f = absurd (true≢false (sym e))
-fits_both (a ∷ rest) right (v ∷ vs) y e f =
-    let both = and_parts (fits a.1 v) (fits_heading rest vs) e in
-    and_from (fits a.1 v) (fits_heading (rest ++ right) (vs ++ y)) both.0 (fits_both rest right vs y both.1 f)
 
 get_in : {X : Type 0} (xs : List X) (j : ℕ) (d : X) → j < length xs → In (get_or xs j d) xs
 get_in [] j d l = absurd (omega arith)

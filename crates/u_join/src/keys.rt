@@ -4,11 +4,11 @@ ghost use Rattle.relation_core.specs.Agreement.{part_of};
 ghost use Rattle.u_row.specs.Labels.{relabelled};
 ghost use Rattle.u_join.specs.Keyed.{keyed};
 
-use crate::labels::key_of;
 use box_core::Keyed;
 use point_core::Memory;
 use slice_core::Key;
 use std::alloc::Global;
+use u_set::part_of_label;
 use value_core::Row;
 
 /// The rows with the parts of their labels at the positions as keys.
@@ -21,7 +21,7 @@ pub(crate) fn with_keys(
 {
     let mut out = Vec::new(alloc);
     for row in rows {
-        let key = key_of(alloc, &row.label, positions)?;
+        let key = part_of_label(alloc, &row.label, positions)?;
         out.push(Keyed {
             key,
             label: row.label,
@@ -41,7 +41,7 @@ pub(crate) fn by_keys(
 {
     let mut out = Vec::new(alloc);
     for row in rows {
-        let label = key_of(alloc, &row.label, positions)?;
+        let label = part_of_label(alloc, &row.label, positions)?;
         out.push(Key {
             label,
             sides: row.sides,

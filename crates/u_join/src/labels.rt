@@ -9,19 +9,8 @@ use box_core::PairRule;
 use point_core::Memory;
 use std::alloc::Global;
 use std::marker::Model;
-use u_set::is_listed;
+use u_set::{is_listed, value_or_false};
 use value_core::{Row, Value};
-
-// The value at the position, and FALSE past the end.
-fn value_or_false(alloc: Global, values: &[Value], position: usize) -> Result<Value, Memory>
-    ensures { IfOk result (λ v. plain v ≡ slice_index_or (map plain values.now) position (truth false)) }
-{
-    if position < values.len() {
-        let value = values[position].copy(alloc)?;
-        return Ok(value);
-    }
-    Ok(Value::Truth(false))
-}
 
 // The value at the position of the one list, followed by the other.
 fn value_of_both(
@@ -36,19 +25,6 @@ fn value_of_both(
         return value_or_false(alloc, ours, position);
     }
     value_or_false(alloc, theirs, position - ours.len())
-}
-
-/// The label's values at the positions.
-pub(crate) fn key_of(alloc: Global, label: &Row, positions: &[usize]) -> Result<Row, Memory>
-    ensures { IfOk result (λ r. r ≡ part_of positions.now label.now) }
-{
-    let all = label.values();
-    let mut values = Vec::with_capacity(alloc, positions.len())?;
-    for position in positions {
-        let value = value_or_false(alloc, all, *position)?;
-        values.push(value)?;
-    }
-    Ok(Row::make(values))
 }
 
 /// The rule of labels by places: the values at places among those of a left and a right label.

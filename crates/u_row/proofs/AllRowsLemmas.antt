@@ -247,7 +247,7 @@ cells_have has n types cells h =
 
 -- ---- the packed form
 
-sorted_ascends : {X : Type 0} (cmp : X → X → Ordering) (xs : List X) → Ascends cmp xs → IsStrictlySortedBy cmp xs
+pub sorted_ascends : {X : Type 0} (cmp : X → X → Ordering) (xs : List X) → Ascends cmp xs → IsStrictlySortedBy cmp xs
 unfolding IsStrictlySortedBy
 sorted_ascends cmp [] h = tt
 sorted_ascends cmp (x ∷ xs) h = (each xs h.0, sorted_ascends cmp xs h.1)

@@ -1,12 +1,10 @@
 -- The positions of an operand that positions of its part stand for.
 use Rattle.std.proofs.Common.{◌≡◌, inl, inr, ℕ, zero, suc, ◌<◌, Bool, true, false, List, [], ◌∷◌, map, length, get_or, refl, sym, ap, ap₂, ◌∙◌, subst, arith}
 use Rattle.std.specs.Prelude.{nat_eq}
-use Rattle.std.specs.declared.cmp.Ordering.TheVariants.{Less}
 use Rattle.std.specs.Bool.{IsTrue}
 use Rattle.std.specs.List.{All, AllByRecursion, IsDistinct}
 use Rattle.std.specs.Ordering.{nat_cmp}
 use Rattle.std.proofs.lemmas.Bool.{true≢false, eqb-true, eqb-false, eq-eqb}
-use Rattle.std.proofs.lemmas.Cmp.{ranked}
 use Rattle.std.proofs.lemmas.List.{get_or-map}
 use Rattle.std.proofs.lemmas.List.Elements.{Contains-get_or, All-from_recursion}
 use Rattle.base_core.proofs.SetLemmas.{In, Ascends, In-from_Contains}
@@ -19,11 +17,9 @@ use Rattle.value_core.specs.declared.kind.Kind.TheVariants.{Span as SpanOf}
 use Rattle.relation_core.specs.Parts.{no_attribute, kind_at, attributes_at}
 use Rattle.u_set.specs.Boxes.{AreIntervals, type_of}
 use Rattle.u_row.specs.Kept.{beneath}
+use Rattle.relation_core.proofs.HeadingLemmas.{less_than}
 
 -- ---- ascending positions differ
-
-at_least : (i j : ℕ) → nat_cmp i j ≡ Less → i < j
-at_least i j e = ranked i j Less (sym e)
 
 pub get_in : {X : Type 0} (xs : List X) (j : ℕ) (d : X) → j < length xs → In (get_or xs j d) xs
 get_in xs j d l = In-from_Contains xs (get_or xs j d) (Contains-get_or xs j d l)
@@ -32,10 +28,10 @@ pub one_position : (kept : List ℕ) (i j : ℕ) → Ascends nat_cmp kept → i 
 one_position [] i j up l m e = absurd (omega arith)
 one_position (k ∷ kept) zero zero up l m e = refl
 one_position (k ∷ kept) zero (suc j) up l m e =
-    let less : k < get_or kept j 0 = at_least k (get_or kept j 0) ((AllAfter-In nat_cmp k kept).0 up.0 (get_or kept j 0) (get_in kept j 0 (omega arith))) in
+    let less : k < get_or kept j 0 = less_than k (get_or kept j 0) ((AllAfter-In nat_cmp k kept).0 up.0 (get_or kept j 0) (get_in kept j 0 (omega arith))) in
     absurd (omega (arith, less, e))
 one_position (k ∷ kept) (suc i) zero up l m e =
-    let less : k < get_or kept i 0 = at_least k (get_or kept i 0) ((AllAfter-In nat_cmp k kept).0 up.0 (get_or kept i 0) (get_in kept i 0 (omega arith))) in
+    let less : k < get_or kept i 0 = less_than k (get_or kept i 0) ((AllAfter-In nat_cmp k kept).0 up.0 (get_or kept i 0) (get_in kept i 0 (omega arith))) in
     absurd (omega (arith, less, e))
 one_position (k ∷ kept) (suc i) (suc j) up l m e = ap suc (one_position kept i j up.1 (omega arith) (omega arith) e)
 

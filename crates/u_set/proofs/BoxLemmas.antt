@@ -78,7 +78,7 @@ unboxed_others n acl (a ∷ heading) (v ∷ row) spans l h =
 
 -- ---- another interval at a listed position
 
-others-set : {X : Type 0} (n : ℕ) (acl : List ℕ) (xs : List X) (i : ℕ) (v : X) → IsTrue (among acl (n + i)) → others_from n acl (set xs i v) ≡ others_from n acl xs
+pub others-set : {X : Type 0} (n : ℕ) (acl : List ℕ) (xs : List X) (i : ℕ) (v : X) → IsTrue (among acl (n + i)) → others_from n acl (set xs i v) ≡ others_from n acl xs
 others-set n acl [] i v h = refl
 others-set n acl (x ∷ xs) zero v h =
     let z : n + 0 ≡ n = omega arith in

@@ -42,3 +42,12 @@ pub(crate) fn fewer_cells<T: PointType, L: Ledger>(
         right: rights,
     })
 }
+
+/// The same cells in memory of their own.
+pub fn copied_cells(alloc: Global, cells: &[(usize, usize)]) -> Result<Vec<(usize, usize)>, Memory>
+    ensures { IfOk result (λ v. v.items ≡ cells.now) }
+{
+    let mut copy = Vec::with_capacity(alloc, cells.len())?;
+    copy.extend_from_slice(cells)?;
+    Ok(copy)
+}

@@ -16,12 +16,14 @@ mod strict;
 mod union;
 
 pub use boxes::to_boxes;
+pub use cells::copied_cells;
 pub use common::{intersected, u_intersect};
 pub use comparison::{are_same, is_within, u_equal, u_subset};
 pub use difference::{subtracted, u_minus};
+pub use labels::{label_of, part_of_label, value_or_false};
 pub use packing::{packed, unpacked};
 pub use positions::{is_listed, types_at};
-pub use refusals::refusal;
+pub use refusals::{in_limit, refusal};
 pub use rows::from_boxes;
 pub use strict::{is_properly_within, u_proper_subset};
 pub use union::{u_union, united};

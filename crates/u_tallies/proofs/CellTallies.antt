@@ -2,12 +2,12 @@
 --     picked      the marked rows stand for the labels of the group
 --     tallied_places, tallied_faults      what it gives at places of cells
 --     tallied_ends      where that ends
-use Rattle.std.proofs.Common.{◌≡◌, ◌≢◌, ◌↔◌, ◌⊎◌, inl, inr, ℕ, zero, suc, ◌+◌, ◌<◌, ◌≤◌, Bool, true, false, not, ◌&&◌, List, [], ◌∷◌, map, filter, length, get_or, Result, Ok, Err, Option, Some, None, arith, refl, sym, ap, ◌∙◌, subst}
+use Rattle.std.proofs.Common.{◌≡◌, ◌≢◌, ◌↔◌, ◌⊎◌, inl, inr, ℕ, zero, suc, ◌<◌, ◌≤◌, Bool, true, false, not, ◌&&◌, List, [], ◌∷◌, map, filter, length, get_or, Result, Ok, Err, Option, Some, None, arith, refl, sym, ap, ◌∙◌, subst}
 use Rattle.std.specs.List.{All, list_any}
 use Rattle.std.specs.Ordering.{eq_by_cmp}
 use Rattle.std.proofs.lemmas.Bool.{cases_lt, and_parts, and_from, true≢false}
 use Rattle.std.proofs.lemmas.List.{length-map}
-use Rattle.base_core.proofs.MemberLemmas.{list_any-In, eq_by_cmp-≡}
+use Rattle.base_core.proofs.MemberLemmas.{eq_by_cmp-≡}
 use Rattle.value_core.specs.Order.{row_total, row_separates}
 use Rattle.value_core.specs.Values.{Row, row_cmp}
 use Rattle.relation_core.specs.Agreement.{part_of}
@@ -24,43 +24,22 @@ use Rattle.box_core.specs.Keys.{ArePaired}
 use Rattle.box_core.specs.Rows.{KeyBox}
 use Rattle.box_core.specs.Tallies.{IsIn, AreMarked, OfMarked, IsTallied, IsTallyFault}
 use Rattle.box_core.specs.Totals.{of_some}
-use Rattle.box_core.proofs.CoveredLemmas.{some_from, all_from}
+use Rattle.box_core.proofs.CoveredLemmas.{all_from}
+use Rattle.slice_core.proofs.LabelRows.{some_of}
 use Rattle.box_core.proofs.RowLemmas.{row_all, some_row, among_row, row_among, row_there}
 use Rattle.cell_core.specs.Cells.{rows_from, keys_from}
 use Rattle.cell_core.proofs.Calls.{are_rows}
 use Rattle.u_groups.specs.Asked.{HasCells, InCellGroup, HasCellFault}
 use Rattle.u_groups.specs.Groups.{AreFirsts, OfFirsts, labels_in, sides_in}
-use Rattle.u_groups.proofs.AskedLemmas.{get_in, in_among}
-use Rattle.u_groups.proofs.CellGroups.{least_alone}
+use Rattle.u_groups.proofs.AskedLemmas.{get_in}
+use Rattle.u_groups.proofs.CellGroups.{least_alone, among_from}
 use Rattle.u_tallies.specs.Counts.{weigh, any, image, counted_means}
 use Rattle.u_tallies.specs.Entries.{row_at, AreKeyed}
 use Rattle.u_tallies.specs.Picked.{ArePicked}
 use Rattle.u_tallies.proofs.CountLemmas.{weigh_some, some_weigh, in_image, length_tests}
+use Rattle.u_groups.proofs.FirstLemmas.{none_any, any_none}
 
 -- ---- tests of lists
-
-pub none_any : (t : ℕ → Bool) (xs : List ℕ) → not (list_any t xs) ≡ true → (x : ℕ) → Among x xs → t x ≡ true → ⊥
-none_any t xs h x m e =
-    let a : list_any t xs ≡ true = (list_any-In t xs).1 (x, (in_among x xs).1 m, e) in
-    true≢false (sym h ∙ ap not a)
-
-pub any_none : (t : ℕ → Bool) (xs : List ℕ) → ((x : ℕ) → Among x xs → t x ≡ true → ⊥) → not (list_any t xs) ≡ true
-any_none t xs h =
-    elim (list_any t xs) as (λ b. list_any t xs ≡ b → not b ≡ true) [
-      | true ↦ λ e. let w = (list_any-In t xs).0 e in absurd (h w.0 ((in_among w.0 xs).0 w.1) w.2)
-      | false ↦ λ e. refl
-    ] refl
-
-among_from : (n a r : ℕ) → Among r (rows_from a n) ↔ ((a ≤ r) × (r < a + n))
-among_from zero a r = (λ h. absurd h, λ h. let k = h.0 in let l = h.1 in absurd (omega (arith, k, l)))
-among_from (suc n) a r =
-    let ih = among_from n (suc a) r in (
-      λ h. elim h [
-        | inl e ↦ (omega (arith, e), omega (arith, e))
-        | inr m ↦ let v = ih.0 m in let k = v.0 in let l = v.1 in (omega (arith, k), omega (arith, l))
-      ],
-      λ h. let k = h.0 in let l = h.1 in elim (cases_lt a r) [ inl w ↦ inr (ih.1 (omega (arith, w), omega (arith, l))) | inr w ↦ inl (omega (arith, k, w)) ],
-    )
 
 -- the least number that passes a test, where one does
 least_below : (t : ℕ → Bool) (n : ℕ) → ((s : ℕ) → s < n → t s ≡ true → ⊥) ⊎ ((r : ℕ) × (r < n) × (t r ≡ true) × ((s : ℕ) → s < r → t s ≡ true → ⊥))
@@ -270,7 +249,7 @@ module _ (by : List ℕ) (rows : List (KeyBox Row)) (entries : List (KeyedBox Ro
         -- some row is in the group just where some is marked
         pub some_weight : a ≢ [] → 0 < weigh any numbers f
         some_weight h =
-            let r = some_from a h in
+            let r = some_of a h in
             let w = in_group r.0 r.1 in
             let m = marked_to r.0 w.0 w.1 in
             let i = (in_image n numbers f m.0).0 m.1 in

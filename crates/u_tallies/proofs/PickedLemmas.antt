@@ -12,6 +12,7 @@ use Rattle.box_core.specs.Tallies.{IsIn}
 use Rattle.box_core.specs.Totals.{sum_of}
 use Rattle.box_core.proofs.TallyLemmas.{equal_or}
 use Rattle.u_tallies.specs.Picked.{ArePicked}
+use Rattle.box_core.proofs.TotalLemmas.{no_sum}
 
 abbrev pub over : (ℕ → ℤ) → List ℕ → ℤ
 over w [] = pos 0
@@ -24,12 +25,6 @@ sum_less (v ∷ vs) (true ∷ fs) zero l n h = refl
 sum_less (v ∷ vs) (false ∷ fs) zero l n h = absurd (true≢false (sym h))
 sum_less (v ∷ vs) (true ∷ fs) (suc row) l n h = let e = sum_less vs fs row (omega (arith, l)) (omega (arith, n)) h in omega (arith, ints, e)
 sum_less (v ∷ vs) (false ∷ fs) (suc row) l n h = sum_less vs fs row (omega (arith, l)) (omega (arith, n)) h
-
-sum_none : (vs : List ℤ) (f : List Bool) → ((r : ℕ) → IsIn f r → ⊥) → sum_of vs f ≡ pos 0
-sum_none [] f h = refl
-sum_none (v ∷ vs) [] h = refl
-sum_none (v ∷ vs) (true ∷ fs) h = absurd (h 0 refl)
-sum_none (v ∷ vs) (false ∷ fs) h = sum_none vs fs (λ r. h (suc r))
 
 marked_below : (f : List Bool) (r : ℕ) → IsIn f r → r < length f
 marked_below [] r h = absurd (true≢false (sym h))
@@ -58,7 +53,7 @@ other_mark f row s h ne = get_or-set_other f row s false false ne ∙ h
 
 matched_sum : (label : ℕ → Row) (vs : List ℤ) (a : List ℕ) (f : List Bool) → length f ≤ length vs → Matched label a f
     → ((r s : ℕ) → Among r a → IsIn f s → label r ≡ label s → get_or vs r (pos 0) ≡ get_or vs s (pos 0)) → over (λ r. get_or vs r (pos 0)) a ≡ sum_of vs f
-matched_sum label vs [] f n m same = sym (sum_none vs f (λ s h. let w = m.from s h in w.1))
+matched_sum label vs [] f n m same = sym (no_sum vs f (λ s h. let w = m.from s h in w.1))
 matched_sum label vs (r ∷ rs) f n m same =
     let w = m.to r (inl refl) in
     let s = w.0 in

@@ -1,8 +1,7 @@
 // Rows with the numbers that stand for their labels, under the parts of these.
-ghost use Rattle.std.specs.Prelude.{◌≡◌, ◌<◌, ◌+◌, ◌≤◌, ℕ, false, length, get_or, map, slice_index_or, IsTrue, ◌↔◌, IfOk};
+ghost use Rattle.std.specs.Prelude.{◌≡◌, ◌<◌, ◌+◌, ℕ, length, IfOk};
 ghost use Rattle.std.specs.Ordering.{eq_by_cmp};
-ghost use Rattle.value_core.specs.Plain.{plain};
-ghost use Rattle.value_core.specs.Values.{Row as PlainRow, row_cmp, truth};
+ghost use Rattle.value_core.specs.Values.{row_cmp};
 ghost use Rattle.relation_core.specs.Agreement.{part_of};
 ghost use Rattle.u_tallies.specs.Entries.{Listed, labelled_row, standing, keyed_row, row_at, AreKeyed};
 
@@ -10,47 +9,15 @@ use box_core::{Keyed, keys_in_order};
 use point_core::{Label, Memory};
 use slice_core::Key;
 use std::alloc::Global;
-use value_core::{Row, Value};
-
-// The value at the position, and FALSE past the end.
-fn value_or_false(alloc: Global, values: &[Value], position: usize) -> Result<Value, Memory>
-    ensures { IfOk result (λ v. plain v ≡ slice_index_or (map plain values.now) position (truth false)) }
-{
-    if position < values.len() {
-        let value = values[position].copy(alloc)?;
-        return Ok(value);
-    }
-    Ok(Value::Truth(false))
-}
-
-// The label's values at the positions.
-fn part_of_label(alloc: Global, label: &Row, positions: &[usize]) -> Result<Row, Memory>
-    ensures { IfOk result (λ r. r ≡ part_of positions.now label.now) }
-{
-    let all = label.values();
-    let mut values = Vec::with_capacity(alloc, positions.len())?;
-    for position in positions {
-        let value = value_or_false(alloc, all, *position)?;
-        values.push(value)?;
-    }
-    Ok(Row::make(values))
-}
-
-// The same cells in memory of their own.
-fn copied(alloc: Global, cells: &[(usize, usize)]) -> Result<Vec<(usize, usize)>, Memory>
-    ensures { IfOk result (λ v. v.items ≡ cells.now) }
-{
-    let mut copy = Vec::with_capacity(alloc, cells.len())?;
-    copy.extend_from_slice(cells)?;
-    Ok(copy)
-}
+use u_set::{copied_cells, part_of_label};
+use value_core::Row;
 
 // The row with its number, under its label.
 fn with_label(alloc: Global, row: &Key<Row>, number: usize) -> Result<Keyed<Row, usize>, Memory>
     ensures { IfOk result (λ z. z ≡ (row.now.0, number, row.now.1)) }
 {
     let key = row.label.copy(alloc)?;
-    let sides = copied(alloc, row.sides.as_slice())?;
+    let sides = copied_cells(alloc, row.sides.as_slice())?;
     Ok(Keyed {
         key,
         label: number,
@@ -104,7 +71,7 @@ fn with_part(
     ensures { IfOk result (λ z. z ≡ (part_of by.now row.now.0, number, row.now.1)) }
 {
     let key = part_of_label(alloc, &row.label, by)?;
-    let sides = copied(alloc, row.sides.as_slice())?;
+    let sides = copied_cells(alloc, row.sides.as_slice())?;
     Ok(Keyed {
         key,
         label: number,

@@ -1,5 +1,5 @@
 // Labels for groups of rows, at each point.
-ghost use Rattle.std.specs.Prelude.{◌≡◌, ℕ, ◌<◌, ◌≤◌, ◌+◌, List, map, length, Some, None, Err, IfOk};
+ghost use Rattle.std.specs.Prelude.{◌≡◌, ◌<◌, ◌≤◌, ◌+◌, List, map, length, Some, None, Err, IfOk};
 ghost use Rattle.std.specs.List.{All};
 ghost use Rattle.point_core.specs.declared.fault.Fault.{Fault as AnyFault};
 ghost use Rattle.packing_core.specs.Boxed.{Boxed};
@@ -18,6 +18,7 @@ use point_core::{Fault, Memory, PointType, Steps};
 use slice_core::pack_rows;
 use std::alloc::Global;
 use std::sync::ledger::Ledger;
+use u_set::in_limit;
 use value_core::Row;
 
 // The packed form of the labels that the rule gives, and its least fault.
@@ -49,22 +50,6 @@ fn group_form<T: PointType, G: GroupTally, L: Ledger>(
     let form = pack_rows(alloc, types.len(), parts)?;
     let answer = back(alloc, types, sides.as_slice(), form)?;
     Ok((answer, least))
-}
-
-// The rows, where they are no more than the limit.
-fn in_limit<T: PointType>(
-    form: Vec<BoxRow<T, Row>>,
-    limit: usize,
-) -> Result<Vec<BoxRow<T, Row>>, CellRefuse>
-    ensures same { IfOk result (λ v. v.items ≡ form.items) }
-    ensures few { IfOk result (λ v. length v.items ≤ limit) }
-    ensures no_fault { (e : AnyFault) → result ≡ Err (OfOp e) → ⊥ }
-    ensures limit { result ≡ Err OfLimit → limit < length form.items }
-{
-    if form.len() > limit {
-        return Err(CellRefuse::Limit);
-    }
-    Ok(form)
 }
 
 /// At each point the rows whose boxes have it are grouped by their labels' values at the positions `by`; of rows with equal labels only

@@ -32,7 +32,7 @@ use Rattle.u_row.proofs.CellLemmas.{cell_in, has_firsts}
 use Rattle.using_core.specs.BoxedLaws.{sides_there, side_there, own_fits, ordered_there, inside_from}
 use Rattle.using_core.specs.PlaceRows.{HaveLines, lines_kept, within_has}
 use Rattle.using_core.specs.Swept.{AreBoxed, swept_cuts}
-use Rattle.using_core.proofs.PlaceFits.{at_place-fits}
+use Rattle.scalar_core.proofs.AtPlaceLemmas.{at_place-fits}
 
 -- ---- one point in place of a value
 

@@ -1,7 +1,7 @@
 -- Items under USING: the rows that they make, at each place.
 use Rattle.std.proofs.Common.{◌≡◌, ◌↔◌, ℕ, suc, ◌+◌, ◌<◌, ℤ, false, List, [], ◌∷◌, ◌++◌, map, length, get_or, Ok, Err, Option, Some, None, refl, sym, ap, ap₂, ◌∙◌, subst, arith}
 use Rattle.std.specs.Bool.{IsTrue}
-use Rattle.std.proofs.lemmas.List.{length-map, get_or-map}
+use Rattle.std.proofs.lemmas.List.{length-map, get_or-map, get_or-append-add}
 use Rattle.base_core.specs.Outcomes.{then_give, least_of_all}
 use Rattle.base_core.proofs.MemberLemmas.{In-map}
 use Rattle.base_core.proofs.OutcomeLemmas.{length-first_of_all, first_of_all-Ok, least_of_all-Ok}
@@ -32,7 +32,7 @@ use Rattle.using_core.specs.Extended.{made_of, AreItems}
 use Rattle.using_core.specs.PlaceRows.{unpacked_places, within_has}
 use Rattle.using_core.specs.Swept.{swept_rows}
 use Rattle.using_core.proofs.FaultLemmas.{least_over}
-use Rattle.using_core.proofs.PlaceFits.{at_place-fits}
+use Rattle.scalar_core.proofs.AtPlaceLemmas.{at_place-fits}
 use Rattle.using_core.proofs.SweptLemmas.{fault_there, swept_rows_of}
 
 -- ---- one row
@@ -72,12 +72,6 @@ same_maps h k [] (a ∷ acl) n e = absurd (omega (arith, n))
 same_maps h k (t ∷ to) [] n e = absurd (omega (arith, n))
 same_maps h k (t ∷ to) (a ∷ acl) n e = ap₂ (λ x xs. x ∷ xs) (e 0 (omega arith)) (same_maps h k to acl (omega (arith, n)) (λ j l. e (suc j) (omega (arith, l))))
 
-behind : (made x : Row) (a : ℕ) → get_or (made ++ x) (length made + a) (truth false) ≡ get_or x a (truth false)
-behind [] x a = let z : 0 + a ≡ a = omega arith in ap (λ k. get_or x k (truth false)) z
-behind (v ∷ made) x a =
-    let z : suc (length made) + a ≡ suc (length made + a) = omega arith in
-    ap (λ k. get_or (v ∷ (made ++ x)) k (truth false)) z ∙ behind made x a
-
 module _ (from heading : Heading) (acl to : List ℕ) (sets : PlainSets) (at : List ℕ) (items : AreItems from heading acl to sets at) (rows : List Row)
     (ascends : Ascends row_cmp rows) (shaped : (x : Row) → In x rows → IsShaped from acl x) (fitting : (x : Row) → In x rows → IsTrue (fits_heading from x)) where
   abbrev pub boxes : List (List Span)
@@ -106,7 +100,7 @@ module _ (from heading : Heading) (acl to : List ℕ) (sets : PlainSets) (at : L
       sym (ap (λ (r : Row). value_at r (get_or to j 0)) p.2)
       ∙ value_at-get (part_of at (made ++ x)) (get_or to j 0)
       ∙ get_or-map (λ i. get_or (made ++ x) i (truth false)) at (get_or to j 0) 0 (truth false) (omega (arith, w, n))
-      ∙ ap (λ m. get_or (made ++ x) m (truth false)) k ∙ behind made x (get_or acl j 0) ∙ sym (value_at-get x (get_or acl j 0))
+      ∙ ap (λ m. get_or (made ++ x) m (truth false)) k ∙ get_or-append-add made x (get_or acl j 0) (truth false) ∙ sym (value_at-get x (get_or acl j 0))
 
   made : (x y : Row) → In x (unpacked acl rows) → IsShaped from acl x → made_of at sets x ≡ Ok (Some y) → IsShaped heading to y × (spans_at to y ≡ spans_at acl x)
   made x y m h e =

@@ -97,18 +97,18 @@ one_least Q (Some d) (Some e) ha hb =
 
 -- ---- of a list
 
-abbrev err_of : {X : Type 0} → OrFault X → Option Fault
+abbrev pub err_of : {X : Type 0} → OrFault X → Option Fault
 err_of (Ok x) = None
 err_of (Err e) = Some e
 
-some_is : (d e : Fault) → Some d ≡ Some e → d ≡ e
+pub some_is : (d e : Fault) → Some d ≡ Some e → d ≡ e
 some_is d e h = cc
 
 err_is : {X : Type 0} (d e : Fault) → (r s : OrFault X) → r ≡ Err d → s ≡ Err e → r ≡ s → d ≡ e
 err_is d e r s p q h = cc
 
 -- one member more
-one_more : {X : Type 0} (a : OrFault X) (r : OrFault (List X)) → IsLeast (λ e. (err_of r ≡ Some e) ⊎ (a ≡ Err e)) (err_of (with_lesser fault_order a r))
+pub one_more : {X : Type 0} (a : OrFault X) (r : OrFault (List X)) → IsLeast (λ e. (err_of r ≡ Some e) ⊎ (a ≡ Err e)) (err_of (with_lesser fault_order a r))
 one_more (Ok v) (Ok vs) = record { comes = λ e q. absurd cc; below = λ d w. elim w [ inl p ↦ absurd cc | inr p ↦ absurd cc ] }
 one_more (Ok v) (Err d) = record {
   comes = λ e q. inl q;
@@ -123,7 +123,7 @@ one_more (Err c) (Err d) =
     (λ e. (λ w. elim w [ inl p ↦ inr (ap (λ x. Err x) (some_is c e p)) | inr p ↦ inl (ap (λ x. Some x) p) ], λ w. elim w [ inl p ↦ inr (some_is d e p) | inr p ↦ inl cc ]))
     (least_min (Some c) c d refl)
 
-least_given : {X Y : Type 0} (g : X → OrFault Y) (xs : List X) → IsLeast (λ e. (x : X) × In x xs × (g x ≡ Err e)) (err_of (least_of_all fault_order (map g xs)))
+pub least_given : {X Y : Type 0} (g : X → OrFault Y) (xs : List X) → IsLeast (λ e. (x : X) × In x xs × (g x ≡ Err e)) (err_of (least_of_all fault_order (map g xs)))
 least_given g [] = record { comes = λ e q. absurd cc; below = λ d w. absurd w.1 }
 least_given {X = X} g (x ∷ xs) =
     let r = least_of_all fault_order (map g xs) in

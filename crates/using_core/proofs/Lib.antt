@@ -8,7 +8,7 @@ pub mod SweptLemmas
 pub mod WhereLemmas
 pub mod CellCountLemmas
 pub mod CellRowLemmas
-pub mod PlaceFits
+pub mod RelationBoxes
 pub mod RestrictionLemmas
 pub mod ExtensionLemmas
 pub mod MadeRowLemmas

@@ -9,10 +9,10 @@ use Rattle.base_core.proofs.SetLemmas.{In}
 use Rattle.point_core.specs.declared.any_type.AnyType.{AnyType}
 use Rattle.point_core.specs.declared.any_type.AnyType.TheVariants.{Integer, Date, Ordinal}
 use Rattle.value_core.specs.declared.kind.Kind.{Kind}
-use Rattle.value_core.specs.declared.kind.Kind.TheVariants.{Truth, Char, Point, Span}
+use Rattle.value_core.specs.declared.kind.Kind.TheVariants.{Span}
 use Rattle.value_core.specs.Headings.{has_name}
 use Rattle.value_core.specs.Values.{Name, Heading, is_heading}
-use Rattle.scalar_core.specs.KindOf.{same_type, same_kind}
+use Rattle.scalar_core.specs.KindOf.{same_type}
 use Rattle.relation_core.specs.Agreement.{position_of}
 use Rattle.relation_core.specs.Parts.{no_attribute, kind_at, attributes_at}
 use Rattle.relation_core.proofs.HeadingLemmas.{heading_ascends}
@@ -24,6 +24,7 @@ use Rattle.u_row.proofs.LabelLemmas.{map_in, map_twice}
 use Rattle.u_join.proofs.NameLemmas.{name_back, one_name, position_in}
 use Rattle.using_core.specs.Using.{listed, HasList}
 use Rattle.using_core.proofs.ListLemmas.{intervals_of_list, position_back}
+use Rattle.scalar_core.proofs.KindOfLemmas.{same_kind-same}
 
 -- ---- kinds that are one
 
@@ -36,13 +37,6 @@ same_type-same (Ordinal of last) (Ordinal at end) h =
     let second : last ≡ end = eqb-true last end w.1 in
     cc
 same_type-same _ _ h = absurd cc
-
-same_kind-same : (j k : Kind) → same_kind j k ≡ true → j ≡ k
-same_kind-same Truth Truth h = refl
-same_kind-same Char Char h = refl
-same_kind-same (Point t) (Point u) h = ap Point (same_type-same t u h)
-same_kind-same (Span t) (Span u) h = ap Span (same_type-same t u h)
-same_kind-same _ _ h = absurd cc
 
 -- ---- different positions under a function that tells them apart
 

@@ -1,18 +1,14 @@
 -- A condition can be asked of the rows of a relation, and what its packed form says of them.
-use Rattle.std.proofs.Common.{◌≡◌, ℕ, ◌<◌, List, map, length, get_or, Err, Option, Some, None, sym, ap, ◌∙◌, subst, arith}
-use Rattle.std.specs.Bool.{IsTrue}
+use Rattle.std.proofs.Common.{◌≡◌, ℕ, ◌<◌, List, map, length, Err, Option, Some, None, sym, ap}
 use Rattle.std.specs.List.{All, filter}
-use Rattle.std.proofs.lemmas.List.{length-map}
-use Rattle.std.proofs.lemmas.List.Elements.{Contains-get_or}
 use Rattle.base_core.specs.Outcomes.{then_give}
-use Rattle.base_core.proofs.MemberLemmas.{list_all-In}
-use Rattle.base_core.proofs.SetLemmas.{In, Ascends, In-from_Contains, Ascends-from_sorted}
+use Rattle.base_core.proofs.SetLemmas.{In, Ascends, Ascends-from_sorted}
 use Rattle.point_core.specs.Points.{number, IsPointOf}
 use Rattle.point_core.specs.declared.any_type.AnyPoint.{AnyPoint}
 use Rattle.point_core.specs.declared.fault.Fault.{Fault}
 use Rattle.point_core.specs.declared.fault.Place.{Place}
 use Rattle.value_core.specs.RowPacking.{packed, unpacked}
-use Rattle.value_core.specs.Values.{Row, Relation, IsRelation, row_cmp, most_rows, fits_heading}
+use Rattle.value_core.specs.Values.{Row, Relation, IsRelation, row_cmp, most_rows}
 use Rattle.value_core.specs.declared.kind.Kind.TheVariants.{Truth}
 use Rattle.scalar_core.specs.Expressions.{Expr}
 use Rattle.scalar_core.specs.Kinds.{IsTyped}
@@ -25,39 +21,18 @@ use Rattle.cell_core.specs.Cells.{row_numbers}
 use Rattle.u_set.specs.Boxes.{AreIntervals, IsShaped, types_at, spans_at, boxed}
 use Rattle.u_set.proofs.BridgeLemmas.{AreRowsOf}
 use Rattle.u_set.proofs.RelationLemmas.{relation_shaped, too_many}
-use Rattle.u_row.specs.Rules.{HasRuleFault, IsRuleForm, sides_numbers}
-use Rattle.u_row.proofs.LabelLemmas.{map_twice}
+use Rattle.u_row.specs.Rules.{HasRuleFault, IsRuleForm}
 use Rattle.meaning_core.specs.Meanings.{condition, limited}
-use Rattle.using_core.specs.Swept.{AreBoxed, CanSweep, met, swept_rows}
+use Rattle.using_core.specs.Swept.{CanSweep, met, swept_rows}
+use Rattle.using_core.proofs.RelationBoxes.{are_boxed}
 use Rattle.using_core.proofs.WhereLemmas.{restricted_rows, restricted_fault, restricted_given}
 
 -- ---- the boxes of a relation
-
-abbrev pub are_boxed : (r : Relation) (acl : List ℕ) → IsRelation r → AreIntervals r.heading acl
-    → (boxes : List (Row × List (AnyPoint × AnyPoint))) → map (row_numbers number) boxes ≡ map (boxed acl) r.rows → All (λ b. IsBox IsPointOf (types_at r.heading acl) b.1) boxes
-    → (rows : List Row) → rows ≡ r.rows → (i : ℕ) → i < length boxes → AreBoxed acl rows boxes i
-are_boxed r acl is intervals boxes same points rows e i l =
-    let here : map (row_numbers number) boxes ≡ map (boxed acl) rows = same ∙ ap (map (boxed acl)) (sym e) in
-    let many : length boxes ≡ length rows = sym (length-map boxes (row_numbers number)) ∙ ap length here ∙ length-map rows (boxed acl) in
-    record {
-      heading = r.heading;
-      intervals = intervals;
-      fitting = subst (λ (rs : List Row). All (λ x. IsTrue (fits_heading r.heading x)) rs) (sym e) (λ j d m.
-          (list_all-In (fits_heading r.heading) r.rows).0 is.fitting (get_or r.rows j d) (In-from_Contains r.rows (get_or r.rows j d) (Contains-get_or r.rows j d m)));
-      same = here;
-      points = points;
-      below = omega (arith, l, many);
-    }
 
 pub can_sweep : (r : Relation) (acl : List ℕ) (c : Expr) → IsRelation r → AreIntervals r.heading acl → IsTyped r.heading c Truth → IsSweepable acl c
     → (boxes : List (Row × List (AnyPoint × AnyPoint))) → map (row_numbers number) boxes ≡ map (boxed acl) r.rows → All (λ b. IsBox IsPointOf (types_at r.heading acl) b.1) boxes
     → (rows : List Row) → rows ≡ r.rows → (i : ℕ) → i < length boxes → CanSweep acl c rows boxes i
 can_sweep r acl c is intervals typed sweepable boxes same points rows e i l = record { boxed = are_boxed r acl is intervals boxes same points rows e i l; typed = typed; sweepable = sweepable }
-
-pub all_sides : (acl : List ℕ) (rows : List Row) (boxes : List (Row × List (AnyPoint × AnyPoint))) → map (row_numbers number) boxes ≡ map (boxed acl) rows
-    → sides_numbers number boxes ≡ map (spans_at acl) rows
-all_sides acl rows boxes same =
-    sym (map_twice (λ (x : Boxed Row). x.1) (row_numbers number) boxes) ∙ ap (map (λ (x : Boxed Row). x.1)) same ∙ map_twice (λ (x : Boxed Row). x.1) (boxed acl) rows
 
 -- ---- what is meant
 

@@ -1,7 +1,8 @@
 -- What a function of rows gives of the unpacked rows is what it gives at each place of each row.
-use Rattle.std.proofs.Common.{◌≡◌, ◌↔◌, inl, inr, ℕ, zero, suc, ◌<◌, ℤ, List, [], ◌∷◌, map, length, get_or, Ok, Err, Option, Some, None, refl, sym, ap, ◌∙◌, subst, arith}
+use Rattle.std.proofs.Common.{◌≡◌, ◌↔◌, inl, inr, ℕ, suc, ◌<◌, ℤ, List, [], ◌∷◌, map, length, get_or, Ok, Err, Option, Some, None, refl, sym, ap, ◌∙◌, subst, arith}
 use Rattle.std.specs.Bool.{IsTrue}
 use Rattle.base_core.specs.Outcomes.{then_give}
+use Rattle.std.proofs.lemmas.List.{length-map, get_or-map}
 use Rattle.std.proofs.lemmas.List.Elements.{Contains-get_or}
 use Rattle.base_core.proofs.SetLemmas.{In, Ascends, In-from_Contains, Ascends-from_sorted}
 use Rattle.base_core.proofs.MemberLemmas.{In-map}
@@ -25,21 +26,12 @@ use Rattle.using_core.specs.PlaceRows.{unpacked_places, HasSpans, among_itself, 
 
 -- ---- rows by their numbers
 
-numbered : {X : Type 0} (xs : List X) (x d : X) → In x xs → (r : ℕ) × (r < length xs) × (get_or xs r d ≡ x)
+pub numbered : {X : Type 0} (xs : List X) (x d : X) → In x xs → (r : ℕ) × (r < length xs) × (get_or xs r d ≡ x)
 numbered [] x d m = absurd m
 numbered (y ∷ xs) x d m = elim m [
   | inl e ↦ (0, omega arith, sym e)
   | inr n ↦ let w = numbered xs x d n in let l = w.1 in (suc w.0, omega (arith, l), w.2)
 ]
-
-get_map : {X Y : Type 0} (f : X → Y) (xs : List X) (r : ℕ) (d : X) (e : Y) → r < length xs → get_or (map f xs) r e ≡ f (get_or xs r d)
-get_map f [] r d e l = absurd (omega arith)
-get_map f (x ∷ xs) zero d e l = refl
-get_map f (x ∷ xs) (suc r) d e l = get_map f xs r d e (omega arith)
-
-length_map : {X Y : Type 0} (f : X → Y) (xs : List X) → length (map f xs) ≡ length xs
-length_map f [] = refl
-length_map f (x ∷ xs) = ap suc (length_map f xs)
 
 -- ---- what is given at a place
 
@@ -53,7 +45,7 @@ given_fault to (Ok (Some y)) e h = absurd cc
 given_fault to (Ok None) e h = absurd cc
 given_fault to (Err d) e h = h
 
-shaped_spans : (from : Heading) (all acl : List ℕ) (x : Row) → IsShaped from all x → ((a : ℕ) → In a acl → IsTrue (among all a)) → HasSpans acl x
+pub shaped_spans : (from : Heading) (all acl : List ℕ) (x : Row) → IsShaped from all x → ((a : ℕ) → In a acl → IsTrue (among all a)) → HasSpans acl x
 shaped_spans from all [] x h m = tt
 shaped_spans from all (a ∷ acl) x h m = ((line_of (type_of (kind_at from a)), h.spans a (m a (inl refl))), shaped_spans from all acl x h (λ k n. m k (inr n)))
 
@@ -69,14 +61,14 @@ module _ (from : Heading) (acl : List ℕ) (intervals : AreIntervals from acl) (
   row_at x m =
       let w = numbered rows x [] m in
       let l = w.1 in
-      let n = length_map (spans_at acl) rows in
-      (w.0, omega (arith, l, n), w.2, get_map (spans_at acl) rows w.0 [] [] l ∙ ap (spans_at acl) w.2)
+      let n = length-map rows (spans_at acl) in
+      (w.0, omega (arith, l, n), w.2, get_or-map (spans_at acl) rows w.0 [] [] l ∙ ap (spans_at acl) w.2)
 
   row_of : (r : ℕ) → r < length boxes → In (get_or rows r []) rows × (get_or boxes r [] ≡ spans_at acl (get_or rows r []))
   row_of r l =
-      let n = length_map (spans_at acl) rows in
+      let n = length-map rows (spans_at acl) in
       let below : r < length rows = omega (arith, l, n) in
-      (In-from_Contains rows (get_or rows r []) (Contains-get_or rows r [] below), get_map (spans_at acl) rows r [] [] below)
+      (In-from_Contains rows (get_or rows r []) (Contains-get_or rows r [] below), get_or-map (spans_at acl) rows r [] [] below)
 
   has_spans : (x : Row) → IsShaped from acl x → HasSpans acl x
   has_spans x h = shaped_spans from acl acl x h (among_itself acl)

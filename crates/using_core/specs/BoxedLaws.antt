@@ -1,5 +1,5 @@
 -- The cuts of rows part their boxes.
-use Rattle.std.proofs.Common.{◌≡◌, inl, inr, ℕ, zero, suc, ◌<◌, ℤ, ◌≤ℤ◌, ◌<ℤ◌, true, List, [], ◌∷◌, map, length, get_or, refl, sym, ap, ◌∙◌, subst, arith, Less}
+use Rattle.std.proofs.Common.{◌≡◌, inl, inr, ℕ, ◌<◌, ℤ, ◌≤ℤ◌, ◌<ℤ◌, true, List, [], ◌∷◌, length, get_or, refl, sym, ap, ◌∙◌, subst, arith, Less}
 use Rattle.std.specs.Prelude.{slice_index, int_lt, int_le, ◌&&◌}
 use Rattle.std.specs.Bool.{IsTrue}
 use Rattle.std.specs.Cmp.{int_cmp_total}
@@ -8,7 +8,7 @@ use Rattle.std.specs.List.{filter, flat_map}
 use Rattle.std.specs.Ordering.{int_cmp}
 use Rattle.std.proofs.lemmas.Bool.{and_parts}
 use Rattle.std.proofs.lemmas.Int.{ints}
-use Rattle.std.proofs.lemmas.List.{length-map}
+use Rattle.std.proofs.lemmas.List.{length-map, get_or-map}
 use Rattle.base_core.proofs.MemberLemmas.{In-filter}
 use Rattle.base_core.proofs.SetLemmas.{In, Ascends, In-in_order, Ascends-in_order}
 use Rattle.base_core.proofs.SetOperatorLemmas.{AllAfter-In}
@@ -76,11 +76,6 @@ some_point t (interval l i) h =
 
 -- ---- the row of a number and its sides
 
-get_map : {X Y : Type 0} (f : X → Y) (xs : List X) (r : ℕ) (d : X) (e : Y) → r < length xs → get_or (map f xs) r e ≡ f (get_or xs r d)
-get_map f [] r d e l = absurd (omega arith)
-get_map f (x ∷ xs) zero d e l = refl
-get_map f (x ∷ xs) (suc r) d e l = get_map f xs r d e (omega arith)
-
 module _ (acl : List ℕ) (rows : List Row) (boxes : List (Row × List (AnyPoint × AnyPoint))) (row : ℕ) (h : AreBoxed acl rows boxes row) where
   abbrev pub own : Row
   own = get_or rows row []
@@ -93,7 +88,7 @@ module _ (acl : List ℕ) (rows : List Row) (boxes : List (Row × List (AnyPoint
       let many : length boxes ≡ length rows = sym (length-map boxes (row_numbers number)) ∙ ap length h.same ∙ length-map rows (boxed acl) in
       let below = h.below in
       let one : row_numbers number (get_or boxes row ([], [])) ≡ boxed acl own =
-      sym (get_map (row_numbers number) boxes row ([], []) ([], []) (omega (arith, many, below))) ∙ ap (λ (xs : List (Boxed Row)). get_or xs row ([], [])) h.same ∙ get_map (boxed acl) rows row [] ([], []) below in
+      sym (get_or-map (row_numbers number) boxes row ([], []) ([], []) (omega (arith, many, below))) ∙ ap (λ (xs : List (Boxed Row)). get_or xs row ([], [])) h.same ∙ get_or-map (boxed acl) rows row [] ([], []) below in
       ap (λ (x : Boxed Row). x.1) one
 
   pub side_there : (side : ℕ) (d : AnyPoint × AnyPoint) → side < length sides → numbers_of number (get_or sides side d) ≡ span_of (value_at own (slice_index acl side))
@@ -101,7 +96,7 @@ module _ (acl : List ℕ) (rows : List Row) (boxes : List (Row × List (AnyPoint
       let e = sides_there in
       let count : length sides ≡ length acl = sym (length-map sides (numbers_of number)) ∙ ap length e ∙ length-map acl (λ i. span_of (value_at own i)) in
       let z : Span = numbers_of number d in
-      sym (get_map (numbers_of number) sides side d z l) ∙ ap (λ (is : List Span). get_or is side z) e ∙ get_map (λ i. span_of (value_at own i)) acl side 0 z (omega (arith, l, count))
+      sym (get_or-map (numbers_of number) sides side d z l) ∙ ap (λ (is : List Span). get_or is side z) e ∙ get_or-map (λ i. span_of (value_at own i)) acl side 0 z (omega (arith, l, count))
 
   pub own_fits : IsTrue (fits_heading h.heading own)
   own_fits = h.fitting row [] h.below

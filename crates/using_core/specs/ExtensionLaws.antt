@@ -5,7 +5,7 @@ use Rattle.std.specs.Cmp.{int_cmp_total}
 use Rattle.std.specs.FinMap.{int_cmp-IsAntisymmetric}
 use Rattle.std.specs.List.{filter, flat_map}
 use Rattle.std.specs.Ordering.{int_cmp}
-use Rattle.std.proofs.lemmas.List.{length-map}
+use Rattle.std.proofs.lemmas.List.{length-map, get_or-append-add}
 use Rattle.base_core.specs.Outcomes.{then_give, first_of_all}
 use Rattle.base_core.proofs.MemberLemmas.{In-filter, In-flat_map, In-map}
 use Rattle.base_core.proofs.OutcomeLemmas.{length-first_of_all}
@@ -95,12 +95,6 @@ others_alike n to f g (p ∷ at) h =
         listed true q = rest
 
 -- a value of the items, or one of a row
-behind : (made x : Row) (a : ℕ) → get_or (made ++ x) (length made + a) (truth false) ≡ get_or x a (truth false)
-behind [] x a = let z : 0 + a ≡ a = omega arith in ap (λ k. get_or x k (truth false)) z
-behind (v ∷ made) x a =
-    let z : suc (length made) + a ≡ suc (length made + a) = omega arith in
-    ap (λ k. get_or (v ∷ (made ++ x)) k (truth false)) z ∙ behind made x a
-
 before : (made x y : Row) (p : ℕ) → p < length made → get_or (made ++ x) p (truth false) ≡ get_or (made ++ y) p (truth false)
 before [] x y p l = absurd (omega (arith, l))
 before (v ∷ made) x y zero l = refl
@@ -111,7 +105,7 @@ free_same : (acl : List ℕ) (made x y : Row) (p : ℕ) → ((a : ℕ) → among
 free_same acl made x y p same h = elim h [
   | inl l ↦ before made x y p l
   | inr w ↦
-      ap (λ k. get_or (made ++ x) k (truth false)) w.1 ∙ behind made x w.0 ∙ sym (value_at-get x w.0) ∙ same w.0 w.2 ∙ value_at-get y w.0 ∙ sym (behind made y w.0) ∙ sym (ap (λ k. get_or (made ++ y) k (truth false)) w.1)
+      ap (λ k. get_or (made ++ x) k (truth false)) w.1 ∙ get_or-append-add made x w.0 (truth false) ∙ sym (value_at-get x w.0) ∙ same w.0 w.2 ∙ value_at-get y w.0 ∙ sym (get_or-append-add made y w.0 (truth false)) ∙ sym (ap (λ k. get_or (made ++ y) k (truth false)) w.1)
 ]
 
 -- ---- what is made at places of a cell

@@ -15,17 +15,13 @@ use Rattle.value_core.specs.Order.{row_total, row_separates}
 use Rattle.value_core.specs.RowPacking.{attribute, unpacked}
 use Rattle.value_core.specs.Values.{Value, Row, interval, row_cmp}
 use Rattle.scalar_core.specs.AtPlaces.{at_place, AreWithin}
-use Rattle.scalar_core.proofs.SweepLemmas.{at_place-other}
+use Rattle.scalar_core.proofs.SweepLemmas.{at_place-other, span_there}
 use Rattle.packing_core.specs.Packed.{Has}
-use Rattle.u_set.specs.Boxes.{unless, others_from, others, spans_at}
+use Rattle.u_set.specs.Boxes.{others, spans_at}
 use Rattle.u_set.proofs.ImageLemmas.{In-unpack1}
+use Rattle.u_set.proofs.BoxLemmas.{others-set}
 
 -- ---- another interval at a position
-
-put_there : (row : Row) (i : ℕ) (s : Span) → value_at (put_span row i s) i ≡ with_span (value_at row i) s
-put_there [] i s = refl
-put_there (v ∷ row) zero s = refl
-put_there (v ∷ row) (suc i) s = put_there row i s
 
 set_elsewhere : (row : Row) (i k : ℕ) (v : Value) → (k ≡ i → ⊥) → value_at (set row i v) k ≡ value_at row k
 set_elsewhere [] i k v other = refl
@@ -121,21 +117,10 @@ at_place_spans (a ∷ acl) row [] d h p = absurd p
 at_place_spans (a ∷ acl) row (q ∷ ps) d h p =
     let next : Row = put_span row a (at_point q) in
     let same = spans_put acl row a (at_point q) d.0 in
-    let there : value_at (at_place acl ps next) a ≡ with_span (value_at row a) (at_point q) = at_place-other acl ps next a (not_among a acl d.0) ∙ put_there row a (at_point q) in
+    let there : value_at (at_place acl ps next) a ≡ with_span (value_at row a) (at_point q) = at_place-other acl ps next a (not_among a acl d.0) ∙ span_there row a (at_point q) in
     let one : span_of (value_at (at_place acl ps next) a) ≡ at_point q = ap span_of there ∙ ap (λ v. span_of (with_span v (at_point q))) (h.0).1 in
     let rest = at_place_spans acl next ps d.1 (spans_kept acl row a (at_point q) d.0 h.1) (subst (λ (is : List Span). Has is ps) (sym same) p.2) in
     ap₂ (λ (i : Span) (is : List Span). i ∷ is) one rest
-
--- and the other values of the row
-others_put : {X : Type 0} (n : ℕ) (acl : List ℕ) (xs : List X) (i : ℕ) (v : X) → IsTrue (among acl (n + i)) → others_from n acl (set xs i v) ≡ others_from n acl xs
-others_put n acl [] i v h = refl
-others_put n acl (x ∷ xs) zero v h =
-    let z : n + 0 ≡ n = omega arith in
-    let e : among acl n ≡ true = subst (λ k. IsTrue (among acl k)) z h in
-    ap (λ b. unless b v (others_from (suc n) acl xs)) e ∙ sym (ap (λ b. unless b x (others_from (suc n) acl xs)) e)
-others_put n acl (x ∷ xs) (suc i) v h =
-    let s : n + suc i ≡ suc n + i = omega arith in
-    ap (unless (among acl n) x) (others_put (suc n) acl xs i v (subst (λ k. IsTrue (among acl k)) s h))
 
 others_places : (all acl : List ℕ) (place : List ℤ) (row : Row) → ((a : ℕ) → In a acl → IsTrue (among all a)) → others all (at_place acl place row) ≡ others all row
 others_places all [] place row h = refl
@@ -143,7 +128,7 @@ others_places all (a ∷ acl) [] row h = refl
 others_places all (a ∷ acl) (p ∷ ps) row h =
     let z : a ≡ 0 + a = omega arith in
     others_places all acl ps (put_span row a (at_point p)) (λ k m. h k (inr m))
-    ∙ others_put 0 all row a (with_span (value_at row a) (at_point p)) (subst (λ k. IsTrue (among all k)) z (h a (inl refl)))
+    ∙ others-set 0 all row a (with_span (value_at row a) (at_point p)) (subst (λ k. IsTrue (among all k)) z (h a (inl refl)))
 
 pub among_itself : (acl : List ℕ) (a : ℕ) → In a acl → IsTrue (among acl a)
 among_itself [] a m = absurd m
@@ -199,7 +184,7 @@ line_kept : (row : Row) (i k : ℕ) (s : Span) (l : Line) → value_at row k ≡
 line_kept row i k s l h = elim (cases_eq k i) [
   | inl e ↦
       let here : value_at row i ≡ interval l (span_of (value_at row i)) = subst (λ m. value_at row m ≡ interval l (span_of (value_at row m))) e h in
-      let new : value_at (put_span row i s) i ≡ interval l s = put_there row i s ∙ ap (λ v. with_span v s) here in
+      let new : value_at (put_span row i s) i ≡ interval l s = span_there row i s ∙ ap (λ v. with_span v s) here in
       subst (λ m. value_at (put_span row i s) m ≡ interval l (span_of (value_at (put_span row i s) m))) (sym e) (new ∙ ap (interval l) (sym (ap span_of new)))
   | inr n ↦ subst (λ v. v ≡ interval l (span_of v)) (sym (set_elsewhere row i k (with_span (value_at row i) s) n)) h
 ]

@@ -1,4 +1,4 @@
-// Rows at the first points of a cell, and the labels of rows.
+// Rows at the first points of a cell.
 ghost use Rattle.std.specs.Prelude.{◌≡◌, ℕ, ◌<◌, length, map, IfOk};
 ghost use Rattle.std.specs.List.{All};
 ghost use Rattle.point_core.specs.Points.{number, line};
@@ -9,13 +9,11 @@ ghost use Rattle.value_core.specs.Plain.{plain};
 ghost use Rattle.value_core.specs.Values.{interval};
 ghost use Rattle.scalar_core.specs.AtPlaces.{at_place};
 ghost use Rattle.cell_core.specs.Cells.{box_numbers};
-ghost use Rattle.u_set.specs.Boxes.{others};
 ghost use Rattle.using_core.specs.PlaceRows.{HaveLines};
 
 use interval_core::Interval;
 use point_core::{AnyType, Memory};
 use std::alloc::Global;
-use u_set::is_listed;
 use value_core::{Row, Value};
 
 // The same values.
@@ -56,17 +54,4 @@ fn put_first(values: &mut Vec<Value>, i: usize, at: &Interval<AnyType>)
 {
     let p = at.begin();
     values[i] = Value::Span(Interval::of(p, p));
-}
-
-/// The values at none of the positions, in their order.
-pub(crate) fn label_of(alloc: Global, values: &[Value], acl: &[usize]) -> Result<Row, Memory>
-    ensures { IfOk result (λ r. r ≡ others acl.now (map plain values.now)) }
-{
-    let mut label = Vec::new(alloc);
-    for (i, value) in values.iter().enumerate() {
-        if !is_listed(acl, i) {
-            label.push(value.copy(alloc)?)?;
-        }
-    }
-    Ok(Row::make(label))
 }

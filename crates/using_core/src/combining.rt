@@ -9,8 +9,8 @@ ghost use Rattle.meaning_core.specs.Typing.{IsInfix, IsProjection, IsList};
 ghost use Rattle.using_core.specs.Using.{around, HasList};
 
 use crate::joining::{using_join, using_matching, using_not_matching};
-use crate::telling::told;
 use point_core::{Place, Steps, Stop};
+use row_making::told;
 use std::alloc::Global;
 use std::sync::ledger::Ledger;
 use tree_core::InfixWord;

@@ -6,14 +6,16 @@ ghost use Rattle.scalar_core.specs.Expressions.{read};
 ghost use Rattle.meaning_core.specs.Scalars.{IsConditionOver};
 ghost use Rattle.using_core.specs.Swept.{labelled_if, met};
 
-use crate::cell_rows::{label_of, row_at};
+use crate::cell_rows::row_at;
 use cell_core::BoxRow;
 use interval_core::Interval;
 use point_core::{AnyPoint, AnyType, Memory, Stop};
-use scalar_core::{Scalar, cuts, eval};
+use row_making::holds;
+use scalar_core::{Scalar, cuts};
 use std::alloc::Global;
 use u_row::RowRule;
-use value_core::{Row, Value};
+use u_set::label_of;
+use value_core::Row;
 
 /// A condition on rows, whose boxes are given, at points of the listed attributes.
 #[derive(Drop)]
@@ -67,12 +69,9 @@ fn label_if(alloc: Global, c: &Scalar, row: &Row, acl: &[usize]) -> Result<Optio
     ensures answer { IfOk result (λ o. then_give (met (read c.now) row.now) (labelled_if acl.now) ≡ Ok o) }
     ensures fault { (e : AnyFault) → result ≡ Err (Stop.Fault e) → then_give (met (read c.now) row.now) (labelled_if acl.now) ≡ Err e }
 {
-    match eval(alloc, c, row)? {
-        Value::Truth(true) => {
-            let label = label_of(alloc, row.values(), acl)?;
-            Ok(Some(label))
-        }
-        Value::Truth(false) => Ok(None),
-        _ => unreachable!(),
+    if !holds(alloc, c, row)? {
+        return Ok(None);
     }
+    let label = label_of(alloc, row.values(), acl)?;
+    Ok(Some(label))
 }

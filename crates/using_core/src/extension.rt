@@ -10,7 +10,6 @@ ghost use Rattle.value_core.specs.Values.{IsRelation, Heading as PlainHeading, r
 ghost use Rattle.relation_core.specs.Answers.{Answers, under};
 ghost use Rattle.relation_core.specs.Operators.{extended};
 ghost use Rattle.tree_core.specs.Trees.{read_sets};
-ghost use Rattle.packing_core.specs.Boxed.{Boxed};
 ghost use Rattle.slice_core.specs.LeastFault.{IsLeast};
 ghost use Rattle.cell_core.specs.Boxes.{IsBox};
 ghost use Rattle.cell_core.specs.Cells.{row_numbers};
@@ -25,26 +24,15 @@ ghost use Rattle.using_core.specs.Cells.{cells_of_all, scalars_of};
 ghost use Rattle.using_core.specs.Extended.{made_of, AreItems};
 ghost use Rattle.using_core.specs.Swept.{swept_rows};
 
-use crate::extensions::Extension;
-use crate::telling::told;
+use crate::items::{Extension, Items};
 use cell_core::{BoxRow, CellRefuse};
 use point_core::{AnyType, Place, Steps, Stop};
-use scalar_core::Scalar;
+use row_making::told;
 use std::alloc::Global;
 use std::sync::ledger::Ledger;
 use u_row::u_rule;
 use u_set::{from_boxes, to_boxes, types_at};
-use value_core::{Heading, MOST_ROWS, Name, Relation, Row, RowsRefuse};
-
-/// Items, and where the values of the rows that they make come from: the listed attributes of the rows, those of the new rows, and
-/// the places of all values of these among those of the items and then of a row.
-#[derive(Clone, Copy)]
-pub(crate) struct Items<'a> {
-    pub acl: &'a [usize],
-    pub to: &'a [usize],
-    pub places: &'a [usize],
-    pub sets: &'a [(Name, Scalar)],
-}
+use value_core::{Heading, MOST_ROWS, Relation, Row, RowsRefuse};
 
 /// The packed boxes of the rows that the items make at the places of a relation's rows.
 pub(crate) fn extended_form<L: Ledger>(
@@ -70,10 +58,7 @@ pub(crate) fn extended_form<L: Ledger>(
     let types = types_at(alloc, r.heading().attributes(), items.acl)?;
     let boxes = to_boxes(alloc, r, items.acl)?;
     let rule = Extension {
-        sets: items.sets,
-        places: items.places,
-        acl: items.acl,
-        to: items.to,
+        items,
         rows: r.rows(),
         boxes: boxes.as_slice(),
     };

@@ -10,8 +10,8 @@ ghost use Rattle.meaning_core.specs.Typing.{IsList};
 ghost use Rattle.using_core.specs.Using.{around, HasList};
 
 use crate::listing::listed;
-use crate::telling::told;
 use point_core::{Place, Steps, Stop};
+use row_making::told;
 use std::alloc::Global;
 use std::sync::ledger::Ledger;
 use u_join::{joined, matched, unmatched};

@@ -7,15 +7,15 @@ mod combining;
 mod comparing;
 mod conditions;
 mod extension;
-mod extensions;
+mod items;
 mod joining;
 mod listing;
 mod packing;
 mod restriction;
 mod rules;
-mod telling;
 
 pub use combining::{using_infix, using_projection};
 pub use comparing::compared;
+pub use listing::listed;
 pub use packing::{packed, unpacked};
 pub use rules::{using_extension, using_restriction};

@@ -9,7 +9,7 @@ use u_join::position;
 use value_core::{Kind, Name};
 
 /// The positions among an operand's attributes of those that are listed by their positions in a heading.
-pub(crate) fn listed(
+pub fn listed(
     alloc: Global,
     heading: &[(Name, Kind)],
     acl: &[usize],

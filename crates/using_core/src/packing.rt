@@ -6,8 +6,8 @@ ghost use Rattle.cell_core.specs.Costs.{bound};
 ghost use Rattle.meaning_core.specs.Meanings.{limited};
 ghost use Rattle.meaning_core.specs.Typing.{IsList};
 
-use crate::telling::told;
 use point_core::{Place, Steps, Stop};
+use row_making::told;
 use std::alloc::Global;
 use std::sync::ledger::Ledger;
 use value_core::Relation;

@@ -25,9 +25,9 @@ ghost use Rattle.using_core.specs.Cells.{cells_of_all};
 ghost use Rattle.using_core.specs.Swept.{met, swept_rows};
 
 use crate::conditions::Condition;
-use crate::telling::told;
 use cell_core::{BoxRow, CellRefuse};
 use point_core::{AnyType, Place, Steps, Stop};
+use row_making::told;
 use scalar_core::Scalar;
 use std::alloc::Global;
 use std::sync::ledger::Ledger;

@@ -12,7 +12,8 @@ ghost use Rattle.meaning_core.specs.Typing.{IsRestriction, IsExtension, IsList};
 ghost use Rattle.using_core.specs.Cells.{cells_of_all, scalars_of};
 ghost use Rattle.using_core.specs.Using.{around, listed, HasList, IsSweptBy, AreSweptBy};
 
-use crate::extension::{Items, extended_by_boxes};
+use crate::extension::extended_by_boxes;
+use crate::items::Items;
 use crate::listing::listed;
 use crate::restriction::restricted_by_boxes;
 use point_core::{Place, Steps, Stop};

@@ -2,29 +2,29 @@
 use Rattle.std.proofs.Common.{◌≡◌, ℕ, ℤ, pos, Bool, true, false, not, if◌then◌else◌, List, [], ◌∷◌, map, Ok, Err, Some, None, refl, sym, ap, ap₂, ◌∙◌}
 use Rattle.std.specs.Bool.{IsTrue}
 use Rattle.std.specs.List.{list_all}
-use Rattle.std.proofs.lemmas.Bool.{or_parts, and_parts}
+use Rattle.std.proofs.lemmas.Bool.{and_parts}
 use Rattle.std.proofs.lemmas.List.{length-map}
-use Rattle.base_core.specs.Outcomes.{then_give, both, first_of_all, least_of_all, with_lesser}
+use Rattle.base_core.specs.Outcomes.{then_give, first_of_all, least_of_all, with_lesser}
 use Rattle.point_core.specs.Faults.{OrFault}
 use Rattle.point_core.specs.Orders.{fault_order}
 use Rattle.point_core.specs.Points.{integers}
 use Rattle.point_core.specs.declared.fault.Fault.{Fault}
 use Rattle.point_core.specs.declared.fault.Place.{Place}
-use Rattle.value_core.specs.Attributes.{value_at, among}
 use Rattle.value_core.specs.Order.{row_total, row_separates}
 use Rattle.value_core.specs.Values.{Value, truth, point, Row, row_cmp}
 use Rattle.scalar_core.specs.AtPlaces.{at_place}
-use Rattle.scalar_core.specs.Expressions.{Expr, constant, attribute, one, pair, and_expr, or_expr}
-use Rattle.scalar_core.specs.Operations.{integer, number_of, is_true, one_of, pair_of}
+use Rattle.scalar_core.specs.Expressions.{Expr}
+use Rattle.scalar_core.specs.Operations.{integer, number_of}
 use Rattle.scalar_core.specs.ScalarValues.{value}
 use Rattle.scalar_core.specs.Sweeping.{names_any}
-use Rattle.scalar_core.proofs.SweepLemmas.{at_place-other}
+use Rattle.scalar_core.proofs.SweepLemmas.{at_place-other, unnamed}
 use Rattle.tree_core.specs.Trees.{PlainAggregateForm, count_rows, sum_of, min_of, max_of, PlainAggregate}
 use Rattle.u_summary.specs.Summaries.{total, is_before}
 use Rattle.meaning_core.specs.Rows.{extreme, values_over, aggregate_value, aggregates_on}
 use Rattle.meaning_core.specs.Typing.{names_none}
 use Rattle.using_groups.proofs.OrderLemmas.{AreApart, HaveSame, weights, total_is, counted, weights_same, extreme_same, before_ties, before_ranks, after_ranks, map_same}
-use Rattle.using_groups.proofs.FaultsAlike.{err_of, faults_alike}
+use Rattle.using_groups.proofs.FaultsAlike.{faults_alike}
+use Rattle.using_core.proofs.FaultLemmas.{err_of}
 
 -- ---- the values of an expression
 
@@ -85,20 +85,6 @@ aggregates_same aggregates xs ys d c h = ap first_of_all (each aggregates)
     each (g ∷ gs) = ap₂ (λ (r : OrFault Value) (rs : List (OrFault Value)). r ∷ rs) (aggregate_same g.place g.form xs ys d c h) (each gs)
 
 -- ---- attributes that are not named
-
-pub unnamed : (acl : List ℕ) (row x : Row) (e : Expr) → ((i : ℕ) → among acl i ≡ false → value_at x i ≡ value_at row i) → names_any acl e ≡ false → value e x ≡ value e row
-unnamed acl row x (constant place kind v) same h = refl
-unnamed acl row x (attribute place i) same h = ap (λ v. Ok v) (same i h)
-unnamed acl row x (one op place e) same h = ap (λ m. then_give m (one_of op place)) (unnamed acl row x e same h)
-unnamed acl row x (pair op place l r) same h =
-    let parts = or_parts (names_any acl l) (names_any acl r) h in
-    ap₂ (λ m n. both m n (pair_of op place)) (unnamed acl row x l same parts.0) (unnamed acl row x r same parts.1)
-unnamed acl row x (and_expr place l r) same h =
-    let parts = or_parts (names_any acl l) (names_any acl r) h in
-    ap₂ (λ m n. then_give m (λ a. if is_true a then n else Ok a)) (unnamed acl row x l same parts.0) (unnamed acl row x r same parts.1)
-unnamed acl row x (or_expr place l r) same h =
-    let parts = or_parts (names_any acl l) (names_any acl r) h in
-    ap₂ (λ m n. then_give m (λ a. if is_true a then Ok a else n)) (unnamed acl row x l same parts.0) (unnamed acl row x r same parts.1)
 
 pub is_not : (b : Bool) → IsTrue (not b) → b ≡ false
 is_not true h = absurd cc

@@ -17,7 +17,8 @@ use Rattle.u_set.proofs.BoxLemmas.{value_at-get}
 use Rattle.u_row.specs.Kept.{place_in_label}
 use Rattle.u_row.proofs.LabelLemmas.{value_in_label}
 use Rattle.using_groups.specs.Columns.{IsColumn, AreColumns, AreAlike}
-use Rattle.using_groups.proofs.AggregateLemmas.{unnamed, is_not}
+use Rattle.using_groups.proofs.AggregateLemmas.{is_not}
+use Rattle.scalar_core.proofs.SweepLemmas.{unnamed}
 
 module _ (acl : List ℕ) (rows : List Row) where
   label_of : (r : ℕ) → r < length rows → get_or (map (others acl) rows) r [] ≡ others acl (get_or rows r [])

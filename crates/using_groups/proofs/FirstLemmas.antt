@@ -17,6 +17,7 @@ use Rattle.value_core.specs.Order.{row_total, row_separates}
 use Rattle.value_core.specs.Values.{Row, row_cmp}
 use Rattle.relation_core.specs.Agreement.{part_of}
 use Rattle.u_groups.specs.Groups.{IsFirst, AreFirsts}
+use Rattle.using_groups.proofs.HeadingLemmas.{tested}
 
 -- ---- a box that has a place
 
@@ -43,10 +44,6 @@ has_tested (i ∷ is) (p ∷ ps) =
     )
 
 -- ---- the least number that passes a test, and numbers that pass it
-
-tested : (b : Bool) → (b ≡ true) ⊎ (b ≡ false)
-tested true = inl refl
-tested false = inr refl
 
 least_passing : (t : ℕ → Bool) (n : ℕ) → ((r : ℕ) × (r < n) × (t r ≡ true) × ((s : ℕ) → s < r → t s ≡ true → ⊥)) ⊎ ((s : ℕ) → s < n → t s ≡ true → ⊥)
 least_passing t zero = inr (λ s l e. absurd (omega (arith, l)))

@@ -1,6 +1,6 @@
 -- Where the values of a group's row come from: from the aggregates or from attributes of the groups, and the listed ones from those
 -- that are listed of the operand.
-use Rattle.std.proofs.Common.{◌≡◌, ◌⊎◌, inl, inr, ℕ, suc, ◌+◌, ◌<◌, Bool, true, false, List, [], ◌∷◌, ◌++◌, map, length, get_or, refl, sym, ap, ap₂, ◌∙◌, subst}
+use Rattle.std.proofs.Common.{◌≡◌, ◌⊎◌, inl, inr, ℕ, suc, ◌+◌, ◌<◌, Bool, true, false, List, [], ◌∷◌, ◌++◌, map, length, get_or, refl, sym, ap, ◌∙◌, subst}
 use Rattle.std.specs.Bool.{IsTrue}
 use Rattle.std.specs.Cmp.Lexicographic.{texts_ties, nat_list_eq_equiv}
 use Rattle.std.specs.List.{AllByRecursion, IsDistinct, list_all}
@@ -30,12 +30,7 @@ use Rattle.meaning_core.proofs.MadeLemmas.{place-position}
 use Rattle.u_row.proofs.BeneathLemmas.{get_in}
 use Rattle.u_row.proofs.LabelLemmas.{map_twice}
 use Rattle.u_join.proofs.NameLemmas.{position_in, position_at, position_front, position_behind, maps_agree}
-
-sum_names : (sizes : List ℕ) (from : Heading) (aggregates : List PlainAggregate) (made : Heading) → Sums sizes from aggregates made → aggregate_names aggregates ≡ names_of made
-sum_names sizes from [] [] h = refl
-sum_names sizes from [] (a ∷ made) h = absurd h
-sum_names sizes from (g ∷ aggregates) [] h = absurd h
-sum_names sizes from (g ∷ aggregates) (a ∷ made) h = ap₂ (λ (n : Name) (ns : List Name). n ∷ ns) h.0 (sum_names sizes from aggregates made h.2)
+use Rattle.meaning_core.proofs.GroupFits.{sum_names}
 
 pub sum_count : (sizes : List ℕ) (from : Heading) (aggregates : List PlainAggregate) (made : Heading) → Sums sizes from aggregates made → length aggregates ≡ length made
 sum_count sizes from [] [] h = refl
@@ -69,7 +64,7 @@ both_sides (c ∷ left) right b a d i j = elim i [
   | inr k ↦ both_sides left right b a d.1 k j
 ]
 
-tested : (b : Bool) → (b ≡ true) ⊎ (b ≡ false)
+pub tested : (b : Bool) → (b ≡ true) ⊎ (b ≡ false)
 tested true = inl refl
 tested false = inr refl
 

@@ -4,7 +4,6 @@
 --     group_apart      and no row stands twice
 --     group_of      each unpacked row is in a group
 use Rattle.std.proofs.Common.{◌≡◌, inl, inr, ℕ, suc, ◌<◌, ◌≤◌, ℤ, List, [], ◌∷◌, map, filter, length, get_or, refl, sym, ap, ◌∙◌, subst, arith}
-use Rattle.std.specs.Bool.{IsTrue}
 use Rattle.std.proofs.lemmas.List.{get_or-map, length-map}
 use Rattle.base_core.proofs.MemberLemmas.{In-map, In-filter, eq_by_cmp-≡}
 use Rattle.base_core.proofs.SetLemmas.{In, Ascends}
@@ -14,37 +13,24 @@ use Rattle.packing_core.specs.Covering.{Among}
 use Rattle.packing_core.specs.Packed.{Has}
 use Rattle.packing_core.proofs.PackedBoxes.{among_in}
 use Rattle.slice_core.specs.Rows.{AreRows}
-use Rattle.point_core.specs.Points.{line_of}
-use Rattle.value_core.specs.Attributes.{among}
 use Rattle.value_core.specs.Order.{row_total, row_separates}
 use Rattle.value_core.specs.RowPacking.{unpacked}
 use Rattle.value_core.specs.Values.{Row, Heading, row_cmp}
 use Rattle.scalar_core.specs.AtPlaces.{at_place}
 use Rattle.relation_core.specs.Agreement.{part_of}
 use Rattle.relation_core.specs.Groups.{rows_at, has_part}
-use Rattle.relation_core.specs.Parts.{kind_at}
-use Rattle.u_set.specs.Boxes.{AreIntervals, IsShaped, type_of, others, spans_at, boxed, unboxed}
+use Rattle.u_set.specs.Boxes.{AreIntervals, IsShaped, others, spans_at, boxed, unboxed}
 use Rattle.u_set.proofs.BoxLemmas.{unboxed-boxed}
 use Rattle.u_set.proofs.BridgeLemmas.{unpacked_image}
 use Rattle.u_row.specs.Kept.{inner}
 use Rattle.u_row.proofs.BeneathLemmas.{get_in}
 use Rattle.u_row.proofs.LabelLemmas.{map_twice}
 use Rattle.u_groups.specs.Groups.{AreFirsts, labels_in, sides_in, HasPlace}
-use Rattle.using_core.specs.PlaceRows.{unpacked_places, HasSpans, among_itself, at_place_spans, at_place_others, point_has}
+use Rattle.using_core.specs.PlaceRows.{unpacked_places, among_itself, at_place_spans, at_place_others, point_has}
 use Rattle.using_groups.proofs.OrderLemmas.{AreApart, HaveSame}
 use Rattle.using_groups.proofs.RowLemmas.{inner_part, whole_part, listed_part}
 use Rattle.using_groups.proofs.FirstLemmas.{first_alike, firsts_there}
-
-numbered : {X : Type 0} (xs : List X) (x d : X) → In x xs → (r : ℕ) × (r < length xs) × (get_or xs r d ≡ x)
-numbered [] x d m = absurd m
-numbered (y ∷ xs) x d m = elim m [
-  | inl e ↦ (0, omega arith, sym e)
-  | inr n ↦ let w = numbered xs x d n in let l = w.1 in (suc w.0, omega (arith, l), w.2)
-]
-
-shaped_spans : (from : Heading) (all acl : List ℕ) (x : Row) → IsShaped from all x → ((a : ℕ) → In a acl → IsTrue (among all a)) → HasSpans acl x
-shaped_spans from all [] x h m = tt
-shaped_spans from all (a ∷ acl) x h m = ((line_of (type_of (kind_at from a)), h.spans a (m a (inl refl))), shaped_spans from all acl x h (λ k n. m k (inr n)))
+use Rattle.using_core.proofs.SweptLemmas.{numbered, shaped_spans}
 
 at_least : (b z : ℕ) (xs : List ℕ) (s : ℕ) → AreRows b z xs → In s xs → b ≤ s
 at_least b z [] s h i = absurd i

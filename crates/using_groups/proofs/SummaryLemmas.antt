@@ -46,7 +46,7 @@ use Rattle.u_row.proofs.RuleLemmas.{least_same}
 use Rattle.u_groups.specs.Groups.{AreFirsts, labels_in, HasPlace, InGroupRule, HasGroupFault, IsGroupForm}
 use Rattle.using_core.specs.PlaceRows.{unpacked_places, point_has, within_has}
 use Rattle.using_core.proofs.FaultLemmas.{least_over}
-use Rattle.using_core.proofs.PlaceFits.{at_place-fits}
+use Rattle.scalar_core.proofs.AtPlaceLemmas.{at_place-fits}
 use Rattle.using_groups.specs.Labels.{group_label}
 use Rattle.using_groups.proofs.OrderLemmas.{AreApart, HaveSame, counted, weights_same}
 use Rattle.using_groups.proofs.AggregateLemmas.{aggregates_same, aggregates_placed}

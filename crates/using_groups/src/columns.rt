@@ -1,29 +1,18 @@
 // The values that aggregates count and sum, a row each.
 ghost use Rattle.std.specs.Prelude.{◌≡◌, ℕ, ◌<◌, pos, map, length, get_or, IfOk, IfSome};
-ghost use Rattle.value_core.specs.Plain.{plain};
 ghost use Rattle.scalar_core.specs.Expressions.{read};
 ghost use Rattle.scalar_core.specs.Kinds.{IsTypedOver};
-ghost use Rattle.scalar_core.specs.Operations.{number_of};
 ghost use Rattle.tree_core.specs.Trees.{read_aggregate, read_aggregate_form};
 ghost use Rattle.meaning_core.specs.Scalars.{AllOver, AreSummedOver, IsSummedOver};
 ghost use Rattle.using_groups.specs.Columns.{HasNumber, HasNumbers, IsColumn, AreColumns};
 
 use point_core::{Memory, Stop};
+use row_making::point_number;
 use scalar_core::{Scalar, eval};
 use std::alloc::Global;
 use tree_core::{Aggregate, AggregateForm};
 use u_tallies::Column;
-use value_core::{Row, Value};
-
-// The number of a point; of other values, 0.
-fn number(value: &Value) -> i64
-    ensures { result ≡ number_of (plain value.now) }
-{
-    match value {
-        Value::Point(p) => p.number(),
-        _ => 0,
-    }
-}
+use value_core::Row;
 
 // The number of the expression's value on the row, where it has one.
 fn number_on(alloc: Global, e: &Scalar, row: &Row) -> Result<Option<i64>, Memory>
@@ -31,7 +20,7 @@ fn number_on(alloc: Global, e: &Scalar, row: &Row) -> Result<Option<i64>, Memory
     ensures { IfOk result (λ o. IfSome o (λ n. HasNumber row.now (read e.now) n)) }
 {
     match eval(alloc, e, row) {
-        Ok(value) => Ok(Some(number(&value))),
+        Ok(value) => Ok(Some(point_number(&value))),
         Err(Stop::Fault(_)) => Ok(None),
         Err(Stop::Memory) => Err(Memory),
     }

@@ -3,12 +3,10 @@
 
 mod boxes;
 mod columns;
-mod listing;
 mod parts;
 mod rule;
 mod spots;
 mod summary;
 mod sums;
-mod telling;
 
 pub use summary::using_summary;

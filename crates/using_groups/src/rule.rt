@@ -1,14 +1,10 @@
 // The rule of a summary: what a group of rows gives.
-ghost use Rattle.std.specs.Prelude.{◌≡◌, map, IfOk};
-ghost use Rattle.value_core.specs.Plain.{plain};
-ghost use Rattle.u_set.specs.Boxes.{others};
-
-use point_core::{Memory, Stop};
+use point_core::Stop;
 use row_making::{Making, group_row};
 use std::alloc::Global;
 use u_groups::GroupRule;
-use u_set::is_listed;
-use value_core::{Row, Value};
+use u_set::label_of;
+use value_core::Row;
 
 /// The rows of groups, without the values at some positions of theirs.
 #[derive(Clone, Copy)]
@@ -34,17 +30,4 @@ impl GroupRule for Summary<'_> {
         let label = label_of(alloc, row.values(), self.to)?;
         Ok(label)
     }
-}
-
-// The values at none of the positions, in their order.
-fn label_of(alloc: Global, values: &[Value], acl: &[usize]) -> Result<Row, Memory>
-    ensures { IfOk result (λ r. r ≡ others acl.now (map plain values.now)) }
-{
-    let mut label = Vec::new(alloc);
-    for (i, value) in values.iter().enumerate() {
-        if !is_listed(acl, i) {
-            label.push(value.copy(alloc)?)?;
-        }
-    }
-    Ok(Row::make(label))
 }

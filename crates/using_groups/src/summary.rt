@@ -13,15 +13,14 @@ ghost use Rattle.meaning_core.specs.Typing.{IsSummary, IsList};
 ghost use Rattle.using_core.specs.Using.{around, listed, HasList, IsSummedBy};
 
 use crate::boxes::summary_form;
-use crate::listing::listed;
-use crate::telling::told;
 use cell_core::CellRefuse;
 use point_core::{Place, Steps, Stop};
-use row_making::aggregate_places;
+use row_making::{aggregate_places, told};
 use std::alloc::Global;
 use std::sync::ledger::Ledger;
 use tree_core::{Aggregate, Aggregates};
 use u_set::from_boxes;
+use using_core::listed;
 use value_core::{Heading, Relation, RowsRefuse};
 
 /// A row for each group of the relation's rows at each point, or the least fault of an aggregate.

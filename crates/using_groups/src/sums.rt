@@ -1,15 +1,14 @@
 // The labels of groups by sums of columns.
-ghost use Rattle.std.specs.Prelude.{◌≡◌, ◌<◌, ◌≤◌, ◌⊎◌, ◌++◌, pos, map, length, get_or, IfOk, slice_index_or, false};
+ghost use Rattle.std.specs.Prelude.{◌≡◌, ◌<◌, ◌≤◌, ◌⊎◌, pos, map, length, get_or};
 ghost use Rattle.value_core.specs.Plain.{plain};
-ghost use Rattle.value_core.specs.Values.{truth};
 ghost use Rattle.scalar_core.specs.Answers.{Gives};
 ghost use Rattle.scalar_core.specs.Operations.{integer};
-ghost use Rattle.relation_core.specs.Agreement.{part_of};
 ghost use Rattle.tree_core.specs.Trees.{read_aggregate};
 ghost use Rattle.using_groups.specs.Columns.{sum_values};
 
 use crate::rule::Summary;
-use point_core::{AnyPoint, Code, Fault, Memory, Place, Stop};
+use point_core::{AnyPoint, Code, Fault, Place, Stop};
+use row_making::pick;
 use std::alloc::Global;
 use tree_core::Aggregate;
 use u_tallies::SumRule;
@@ -71,30 +70,6 @@ fn sum_values(alloc: Global, aggregates: &[Aggregate], sums: &[i128]) -> Result<
     Ok(values)
 }
 
-// The value at the place, among the made ones and then those of a part; FALSE past the end.
-fn value_at(alloc: Global, made: &[Value], part: &[Value], place: usize) -> Result<Value, Memory>
-    ensures { IfOk result (λ v. plain v ≡ slice_index_or (map plain made.now ++ map plain part.now) place (truth false)) }
-{
-    if place < made.len() {
-        return made[place].copy(alloc);
-    }
-    match part.get(place - made.len()) {
-        Some(value) => value.copy(alloc),
-        None => Ok(Value::Truth(false)),
-    }
-}
-
-// The row of the values at the places.
-fn picked(alloc: Global, places: &[usize], made: &[Value], part: &[Value]) -> Result<Row, Memory>
-    ensures { IfOk result (λ r. r ≡ part_of places.now (map plain made.now ++ map plain part.now)) }
-{
-    let mut values = Vec::with_capacity(alloc, places.len())?;
-    for place in places {
-        values.push(value_at(alloc, made, part, *place)?)?;
-    }
-    Ok(Row::make(values))
-}
-
 impl SumRule for SumSummary<'_> {
     ghost use Rattle.std.specs.Prelude.{◌≡◌, ◌≢◌, ℕ, Bool, List, [], map};
     ghost use Rattle.value_core.specs.Values.{Row as PlainRow};
@@ -114,7 +89,7 @@ impl SumRule for SumSummary<'_> {
 
     fn label(&self, alloc: Global, key: &Row, sums: &[i128]) -> Result<Row, Stop> {
         let made = sum_values(alloc, self.summary.making.aggregates, sums)?;
-        let row = picked(alloc, self.places.as_slice(), made.as_slice(), key.values())?;
+        let row = pick(alloc, self.places.as_slice(), made.as_slice(), key.values())?;
         Ok(row)
     }
 

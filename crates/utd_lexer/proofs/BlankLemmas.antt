@@ -1,5 +1,5 @@
 -- Blank bytes.
-use Rattle.std.proofs.Common.{◌≡◌, ◌≢◌, ◌↔◌, ℕ, List, [], ◌∷◌, ◌++◌, Bool, true, false, ◌&&◌, ◌||◌, eqb, refl, sym, ◌∙◌, ap, subst, arith, append_assoc, append-nil, ◌⊎◌, inl, inr}
+use Rattle.std.proofs.Common.{◌≡◌, ◌≢◌, ◌↔◌, ℕ, List, [], ◌∷◌, ◌++◌, Bool, true, false, ◌&&◌, ◌||◌, eqb, refl, sym, ◌∙◌, ap, subst, arith, append_assoc, append-nil, inl, inr}
 use Rattle.std.proofs.lemmas.Bool.{eqb-true, ne_eqb}
 use Rattle.std.proofs.lemmas.Bool.Decides.{eqb_tells}
 use Rattle.utd_lexer.specs.declared.cutter.Mode.{Mode}
@@ -7,6 +7,7 @@ use Rattle.utd_lexer.specs.declared.cutter.Mode.TheVariants.{Between, Slash, Tex
 use Rattle.utd_lexer.specs.Cutting.{blank_next, can_be_blank, is_resting, next, run}
 use Rattle.utd_lexer.specs.Parts.{is_space, AllBlank, IsBlank, Part, plain, text, block, line, bytes_of_part, Lacks, LacksEnd, AreParts, bytes_of}
 use Rattle.utd_lexer.proofs.CutLemmas.{run-append, NotSlash, grow, apart-plain, apart-block, apart-line, Lacks-snoc, LacksEnd-snoc, LacksEnd-init, LacksEnd-tail, block_next, star_next, block_ends, line_done}
+use Rattle.utd_lexer.proofs.WordLemmas.{or-cases}
 
 false_true : false ≡ true → ⊥
 false_true e = cc
@@ -18,10 +19,6 @@ and-left false b h = h
 and-right : (a b : Bool) → (a && b) ≡ true → b ≡ true
 and-right true b h = h
 and-right false b h = absurd (false_true h)
-
-or-cases : (a b : Bool) → (a || b) ≡ true → (a ≡ true) ⊎ (b ≡ true)
-or-cases true b h = inl refl
-or-cases false b h = inr h
 
 space-no_slash : (b : ℕ) → is_space b ≡ true → b ≢ 47
 space-no_slash b h e = false_true (sym (ap is_space e) ∙ h)

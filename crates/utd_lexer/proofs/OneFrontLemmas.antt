@@ -1,5 +1,5 @@
 -- At most one gap or token stands at the front of characters.
-use Rattle.std.proofs.Common.{◌≡◌, ◌≢◌, ℕ, ◌<◌, List, [], ◌∷◌, ◌++◌, Bool, true, false, cond, ◌||◌, eqb, refl, sym, ◌∙◌, ap, subst, arith, lit<, append_assoc, append-nil, ◌⊎◌, inl, inr}
+use Rattle.std.proofs.Common.{◌≡◌, ◌≢◌, ℕ, ◌<◌, List, [], ◌∷◌, ◌++◌, Bool, true, false, cond, ◌||◌, eqb, refl, sym, ◌∙◌, ap, subst, arith, lit<, append_assoc, append-nil, inl, inr}
 use Rattle.std.proofs.lemmas.List.{append_cancel_left}
 use Rattle.std.proofs.lemmas.Bool.{eqb-true}
 use Rattle.std.proofs.lemmas.Bool.Decides.{eqb_tells, nat_tests}
@@ -12,7 +12,7 @@ use Rattle.utd_lexer.specs.Tokens.{starts, continues, among, singles, seconds, o
 use Rattle.utd_lexer.proofs.CutLemmas.{LacksEnd-tail}
 use Rattle.utd_lexer.proofs.ListLemmas.{same-head, same-tail, nil-cons}
 use Rattle.utd_lexer.proofs.TextLemmas.{ends-any}
-use Rattle.utd_lexer.proofs.WordLemmas.{Stops}
+use Rattle.utd_lexer.proofs.WordLemmas.{Stops, or-cases}
 
 -- ---- what begins a token of each kind
 
@@ -355,10 +355,6 @@ block-same (x ∷ []) [] r s h g e = let f : 42 ≡ 47 = same-head 42 47 _ _ (sa
 block-same (x ∷ (z ∷ a)) [] r s h g e = absurd (h.0 (same-head x 42 _ _ e) (same-head z 47 _ _ (same-tail x 42 _ _ e)))
 block-same (x ∷ a) (y ∷ b) r s h g e =
     ap (λ z. z ∷ a) (same-head x y _ _ e) ∙ ap (λ z. y ∷ z) (block-same a b r s (LacksEnd-tail x a h) (LacksEnd-tail y b g) (same-tail x y _ _ e))
-
-or-cases : (a b : Bool) → (a || b) ≡ true → (a ≡ true) ⊎ (b ≡ true)
-or-cases true b h = inl refl
-or-cases false b h = inr h
 
 space-cases : (P : ℕ → Type 0) → P 9 → P 10 → P 13 → P 32 → (c : ℕ) → is_space c ≡ true → P c
 space-cases P nine ten thirteen space c h =

@@ -32,7 +32,7 @@ taken : (p : ℕ → Bool) (xs : List ℕ) (n : ℕ) → n ≡ prefix_len p xs �
 taken p [] n e = ([], [], refl, tt, tt, sym e)
 taken p (x ∷ xs) n e = taken-go p x xs n (p x) refl e (taken p xs (prefix_len p xs) refl)
 
-or-cases : (a b : Bool) → (a || b) ≡ true → (a ≡ true) ⊎ (b ≡ true)
+pub or-cases : (a b : Bool) → (a || b) ≡ true → (a ≡ true) ⊎ (b ≡ true)
 or-cases true b h = inl refl
 or-cases false b h = inr h
 

@@ -8,7 +8,8 @@ use Rattle.box_core.specs.Common.{first_of}
 use Rattle.box_core.specs.Rows.{IsRow, KeyBox}
 use Rattle.box_core.specs.Tallies.{IsPart, OfTallied, IsTallyFault}
 use Rattle.box_core.proofs.CoveredLemmas.{all_from}
-use Rattle.box_core.proofs.GroupLemmas.{split_first, split_more, map_length}
+use Rattle.box_core.proofs.GroupLemmas.{split_first, split_more}
+use Rattle.slice_core.proofs.LabelRows.{map_length}
 use Rattle.box_core.proofs.KeyLemmas.{DoneMarks, part_of_row, tallied_more, fault_more, marks_none, marks_all, rows_none, through}
 use Rattle.box_core.proofs.RowLemmas.{row_there, among_row, row_sides}
 use Rattle.box_core.proofs.TallyLemmas.{some_of_label, some_of_fault}

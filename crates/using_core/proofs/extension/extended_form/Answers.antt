@@ -21,7 +21,7 @@ use Rattle.using_core.specs.Cells.{scalars_of}
 use Rattle.using_core.specs.Extended.{made_of}
 use Rattle.using_core.specs.Swept.{swept_cuts, swept_rows}
 use Rattle.using_core.proofs.CellCountLemmas.{cells_counted}
-use Rattle.using_core.proofs.RestrictionLemmas.{are_boxed, all_sides}
+use Rattle.using_core.proofs.RelationBoxes.{are_boxed, all_sides}
 use Rattle.using_core.proofs.extension.extended_form.Goals as goal
 
 pub u_rule-requires-clause-can : goal.u_rule-requires-clause-can

@@ -19,7 +19,8 @@ use Rattle.u_row.specs.Cutting.{count_cells}
 use Rattle.u_row.specs.Rules.{HasRuleFault, IsRuleForm}
 use Rattle.using_core.specs.Swept.{met, swept_cuts, swept_rows}
 use Rattle.using_core.proofs.CellCountLemmas.{cells_counted}
-use Rattle.using_core.proofs.RestrictionLemmas.{can_sweep, all_sides}
+use Rattle.using_core.proofs.RelationBoxes.{all_sides}
+use Rattle.using_core.proofs.RestrictionLemmas.{can_sweep}
 use Rattle.using_core.proofs.restriction.restricted_form.Goals as goal
 
 pub u_rule-requires-clause-can : goal.u_rule-requires-clause-can

@@ -2,7 +2,7 @@ use Rattle.std.specs.Prelude.{slice_index}
 use Rattle.tree_core.specs.Trees.{read_set}
 use Rattle.row_making.proofs.ItemLemmas.{typed_at}
 use Rattle.using_core.proofs.ItemCutLemmas.{item_in, more_cut, all_cut}
-use Rattle.using_core.proofs.extensions.all_cuts.Goals as goal
+use Rattle.using_core.proofs.items.all_cuts.Goals as goal
 
 pub cuts-requires-clause-typed : goal.cuts-requires-clause-typed
 cuts-requires-clause-typed c = typed_at c.args.row.now c.args.sets.now c.loop-set.set-index c.set-item.result c.requires.typed c.loop-set-test.true c.set-item.is

@@ -8,7 +8,7 @@ use point_core::{Code, Fault, Place, Stop};
 use value_core::{Relation, RowsRefuse};
 
 /// The relation, or the fault of too many rows at the place.
-pub(crate) fn told(place: Place, answer: Result<Relation, RowsRefuse>) -> Result<Relation, Stop>
+pub fn told(place: Place, answer: Result<Relation, RowsRefuse>) -> Result<Relation, Stop>
     requires { (heading : PlainHeading) × (rows : List PlainRow) × MatchResult answer (IsAnswer heading rows) (IsRefusal rows) }
     ensures { (heading : PlainHeading) (rows : List PlainRow) → MatchResult answer (IsAnswer heading rows) (IsRefusal rows)
         → Answers result (under heading (limited place rows)) }

@@ -17,7 +17,7 @@ ghost use Rattle.meaning_core.specs.Scalars.{AreTypedOver};
 ghost use Rattle.using_core.specs.Extended.{made_of, AreSweepable};
 ghost use Rattle.using_core.specs.Swept.{labelled_if};
 
-use crate::cell_rows::{label_of, row_at};
+use crate::cell_rows::row_at;
 use cell_core::BoxRow;
 use interval_core::Interval;
 use point_core::{AnyPoint, AnyType, Memory, Stop};
@@ -25,16 +25,23 @@ use row_making::extended_row;
 use scalar_core::{Scalar, cuts};
 use std::alloc::Global;
 use u_row::RowRule;
+use u_set::label_of;
 use value_core::{Name, Row};
 
-/// Items on rows, whose boxes are given, at points of the listed attributes: `places` tells where the values of the new rows come
-/// from, and `to` which attributes of these are listed.
-#[derive(Drop)]
-pub(crate) struct Extension<'a> {
-    pub sets: &'a [(Name, Scalar)],
-    pub places: &'a [usize],
+/// Items, and where the values of the rows that they make come from: the listed attributes of the rows, those of the new rows, and
+/// the places of all values of these among those of the items and then of a row.
+#[derive(Clone, Copy)]
+pub(crate) struct Items<'a> {
     pub acl: &'a [usize],
     pub to: &'a [usize],
+    pub places: &'a [usize],
+    pub sets: &'a [(Name, Scalar)],
+}
+
+/// Items on rows, whose boxes are given, at points of the listed attributes.
+#[derive(Drop)]
+pub(crate) struct Extension<'a> {
+    pub items: Items<'a>,
     pub rows: &'a [Row],
     pub boxes: &'a [BoxRow<AnyType, Row>],
 }
@@ -48,16 +55,22 @@ impl RowRule<AnyType> for Extension<'_> {
     ghost use Rattle.using_core.specs.BoxedLaws.{ordered_there, inside_there};
     ghost use Rattle.using_core.specs.ExtensionLaws.{extended_there};
 
-    ghost CanApply = { λ rule row. CanExtend rule.acl.now rule.to.now (read_sets rule.sets.now) rule.places.now rule.rows.now rule.boxes.now row };
+    ghost CanApply = { λ rule row. CanExtend rule.items.acl.now rule.items.to.now (read_sets rule.items.sets.now) rule.items.places.now rule.rows.now rule.boxes.now row };
 
     ghost sides = { λ rule row. (get_or rule.boxes.now row ([], [])).1 };
 
-    ghost cuts_of = { λ rule row side. swept_cuts rule.acl.now (scalars_of (read_sets rule.sets.now)) rule.rows.now row side };
+    ghost cuts_of = { λ rule row side. swept_cuts rule.items.acl.now (scalars_of (read_sets rule.items.sets.now)) rule.rows.now row side };
 
-    ghost means = { λ rule row place. swept_rows rule.acl.now rule.to.now (made_of rule.places.now (read_sets rule.sets.now)) rule.rows.now row place };
+    ghost means = { λ rule row place. swept_rows rule.items.acl.now rule.items.to.now (made_of rule.items.places.now (read_sets rule.items.sets.now)) rule.rows.now row place };
 
     fn cuts(&self, alloc: Global, row: usize, side: usize) -> Result<Vec<AnyPoint>, Memory> {
-        let all = all_cuts(alloc, self.sets, &self.rows[row], self.acl, side)?;
+        let all = all_cuts(
+            alloc,
+            self.items.sets,
+            &self.rows[row],
+            self.items.acl,
+            side,
+        )?;
         let points = in_order(all)?;
         Ok(points)
     }
@@ -68,15 +81,21 @@ impl RowRule<AnyType> for Extension<'_> {
         row: usize,
         at: &[Interval<AnyType>],
     ) -> Result<Option<Row>, Stop> {
-        let there = row_at(alloc, &self.rows[row], self.acl, at)?;
-        made_label(alloc, self.sets, self.places, &there, self.to)
+        let there = row_at(alloc, &self.rows[row], self.items.acl, at)?;
+        made_label(
+            alloc,
+            self.items.sets,
+            self.items.places,
+            &there,
+            self.items.to,
+        )
     }
 
-    ghost ordered = { λ rule row side d h l. ordered_there rule.acl.now rule.rows.now rule.boxes.now row h.boxed side d l };
+    ghost ordered = { λ rule row side d h l. ordered_there rule.items.acl.now rule.rows.now rule.boxes.now row h.boxed side d l };
 
-    ghost inside = { λ rule row side d h l. inside_there rule.acl.now rule.rows.now rule.boxes.now row h.boxed (scalars_of (read_sets rule.sets.now)) side d l };
+    ghost inside = { λ rule row side d h l. inside_there rule.items.acl.now rule.rows.now rule.boxes.now row h.boxed (scalars_of (read_sets rule.items.sets.now)) side d l };
 
-    ghost steady = { λ rule row cell ps qs h m a b. extended_there rule.acl.now rule.to.now (read_sets rule.sets.now) rule.places.now rule.rows.now rule.boxes.now row h cell ps qs m a b };
+    ghost steady = { λ rule row cell ps qs h m a b. extended_there rule.items.acl.now rule.items.to.now (read_sets rule.items.sets.now) rule.items.places.now rule.rows.now rule.boxes.now row h cell ps qs m a b };
 }
 
 // The cuts of the listed attribute at `side` by each item, one after the other.
