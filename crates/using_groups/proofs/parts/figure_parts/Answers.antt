@@ -5,10 +5,10 @@ use Rattle.value_core.specs.Values.{Row, most_rows}
 use Rattle.tree_core.specs.Trees.{read_aggregate}
 use Rattle.u_set.specs.Boxes.{others}
 use Rattle.u_row.specs.Kept.{inner}
-use Rattle.using_groups.specs.Columns.{AreColumns, ArePlaces, AreSummable}
-use Rattle.using_groups.proofs.PartLemmas.{summable}
+use Rattle.using_groups.specs.Columns.{AreColumns, ArePlaces, AreFigured}
+use Rattle.using_groups.proofs.PartLemmas.{figured}
 use Rattle.using_groups.proofs.SpotLemmas.{if_some, if_ok}
-use Rattle.using_groups.proofs.parts.sum_parts.Goals as goal
+use Rattle.using_groups.proofs.parts.figure_parts.Goals as goal
 
 pub returns-in-Some : goal.returns-in-Some
 returns-in-Some c =
@@ -26,11 +26,11 @@ returns-in-Some c =
     let count = length-map c.args.aggregates.now read_aggregate in
     let there : ArePlaces places to at part (length gs) rows labels = subst (λ n. ArePlaces places to at part n rows labels) (sym count) (spots rows) in
     if_ok (λ o. IfSome o (λ p. AreColumns c.rows-rows.result.now gs p.columns.items × (p.places.items ≡ places)))
-    (λ o. IfSome o (λ p. (length acl ≡ 1) × AreSummable p.places.items to at part gs rows labels p.columns.items)) c.with_columns.result
+    (λ o. IfSome o (λ p. (length acl ≡ 1) × AreFigured p.places.items to at part gs rows labels p.columns.items)) c.with_columns.result
     (λ o. if_some (λ p. AreColumns c.rows-rows.result.now gs p.columns.items × (p.places.items ≡ places))
-    (λ p. (length acl ≡ 1) × AreSummable p.places.items to at part gs rows labels p.columns.items) o
+    (λ p. (length acl ≡ 1) × AreFigured p.places.items to at part gs rows labels p.columns.items) o
     (λ p h. (
       c.if-acl-ne1.false,
-      summable acl p.places.items to at part gs rows p.columns.items c.requires.unnamed few
+      figured acl p.places.items to at part gs rows p.columns.items c.requires.unnamed few
           (subst (λ (rs : List Row). AreColumns rs gs p.columns.items) c.rows-rows.ensures.rows h.0) (subst (λ ps. ArePlaces ps to at part (length gs) rows labels) (sym h.1) there),
     ))) c.with_columns.ensures

@@ -16,7 +16,7 @@ use Rattle.u_row.specs.Kept.{inner}
 use Rattle.u_groups.specs.Groups.{HasGroupFault, IsGroupForm, labels_in}
 use Rattle.using_groups.specs.Labels.{group_label}
 use Rattle.using_groups.proofs.PartLemmas.{all_long, labels_of_boxes, fits_labels}
-use Rattle.using_groups.proofs.boxes.summed_form.Goals as goal
+use Rattle.using_groups.proofs.boxes.figured_form.Goals as goal
 
 pub u_tally-requires-clause-side : goal.u_tally-requires-clause-side
 u_tally-requires-clause-side g c =
@@ -29,7 +29,7 @@ u_tally-requires-clause-takes g c =
     let acl = c.args.acl.now in
     let same = (λ t. map (row_numbers number) (c.as_slice-2.ensures.value t)) ∙ c.in_ok-boxes.ensures.rows in
     let many : length c.as_slice-2.result.now ≡ length r.rows = sym (length-map c.as_slice-2.result.now (row_numbers number)) ∙ ap length same ∙ length-map r.rows (boxed acl) in
-    all_long r.rows (map read_aggregate c.args.aggregates.now) c.args.parts.columns.items (length c.as_slice-2.result.now) c.requires.summable.columns (sym many)
+    all_long r.rows (map read_aggregate c.args.aggregates.now) c.args.parts.columns.items (length c.as_slice-2.result.now) c.requires.figured.columns (sym many)
 
 pub u_tally-requires-clause-fits : goal.u_tally-requires-clause-fits
 u_tally-requires-clause-fits g c =
@@ -39,9 +39,9 @@ u_tally-requires-clause-fits g c =
     let same = (λ t. map (row_numbers number) (c.as_slice-2.ensures.value t)) ∙ c.in_ok-boxes.ensures.rows in
     let labels = labels_of_boxes acl r.rows c.as_slice-2.result.now same in
     let count : length (labels_in c.as_slice-2.result.now) ≡ length r.rows = ap length labels ∙ length-map r.rows (others acl) in (
-      fits_labels acl c.args.parts.places.items c.args.to.now c.args.at.now (inner acl c.args.by.now) c.as_slice-3.result.now gs r.rows c.rows.result.now (labels_in c.as_slice-2.result.now) c.args.parts.columns.items c.requires.summable
+      fits_labels acl c.args.parts.places.items c.args.to.now c.args.at.now (inner acl c.args.by.now) c.as_slice-3.result.now gs r.rows c.rows.result.now (labels_in c.as_slice-2.result.now) c.args.parts.columns.items c.requires.figured
           (c.as_slice-3.ensures.value ∙ c.in_ok-keys.ensures) c.rows.ensures.rows labels,
-      all_long r.rows gs c.args.parts.columns.items (length (labels_in c.as_slice-2.result.now)) c.requires.summable.columns (sym count),
+      all_long r.rows gs c.args.parts.columns.items (length (labels_in c.as_slice-2.result.now)) c.requires.figured.columns (sym count),
     )
 
 pub returns-clause-rows : goal.returns-clause-rows
