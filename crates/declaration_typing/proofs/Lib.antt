@@ -1,8 +1,8 @@
 mod ConstraintLemmas
 mod CountLemmas
 mod DistinctLemmas
-mod PositionLemmas
-mod FitLemmas
+pub mod PositionLemmas
+pub mod FitLemmas
 mod StateLemmas
 pub mod RelvarLaws
 pub mod HistoryLaws

@@ -2,7 +2,7 @@
 use Rattle.std.proofs.Common.{◌≡◌, ◌↔◌, ℕ, zero, suc, ◌<◌, Bool, false, List, [], ◌∷◌, length, map, get_or, refl, sym, ap, ◌∙◌, subst, arith, Option, Some, None, IsNone, IfSome}
 use Rattle.std.specs.Cmp.{IsStrictWeakOrder}
 use Rattle.std.specs.List.{IsFirstBest}
-use Rattle.std.proofs.lemmas.List.MinMax.{ranks_by, IsFirstBest-unique, IsFirstBest-from_best_of}
+use Rattle.std.proofs.lemmas.List.MinMax.{ranks_by, IsStrictWeakOrder-flip, IsFirstBest-unique, IsFirstBest-from_best_of}
 use Rattle.point_core.specs.Faults.{OrFault}
 use Rattle.base_core.specs.Outcomes.{least_of_all}
 use Rattle.value_core.specs.declared.value.Value.{Value}
@@ -23,6 +23,9 @@ use Rattle.meaning_core.specs.Scalars.{AreSummedOver, IsSummedOver}
 
 pub before_ranks : IsStrictWeakOrder is_before
 before_ranks = ranks_by value_total (λ (v : PlainValue). v)
+
+pub after_ranks : IsStrictWeakOrder (λ v w. is_before w v)
+after_ranks = IsStrictWeakOrder-flip is_before before_ranks
 
 any_default : {X : Type 0} (xs : List X) (i : ℕ) (d e : X) → i < length xs → get_or xs i d ≡ get_or xs i e
 any_default [] i d e l = absurd (omega arith)

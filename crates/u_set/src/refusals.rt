@@ -1,5 +1,5 @@
 // How boxes are refused, and how such a refusal is told of the rows of a relation.
-ghost use Rattle.std.specs.Prelude.{◌≡◌, ◌<◌, ◌≤◌, ⊥, length, Err, IfOk};
+ghost use Rattle.std.specs.Prelude.{◌≡◌, ◌<◌, ◌≤◌, length, Err, IfOk};
 ghost use Rattle.point_core.specs.declared.fault.Fault.{Fault as AnyFault};
 ghost use Rattle.value_core.specs.declared.refuse.RowsRefuse.TheVariants.{TooMany};
 ghost use Rattle.cell_core.specs.declared.boxes.CellRefuse.TheVariants.{Op as OfOp, Limit as OfLimit};

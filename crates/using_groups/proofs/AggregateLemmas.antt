@@ -22,8 +22,7 @@ use Rattle.tree_core.specs.Trees.{PlainAggregateForm, count_rows, sum_of, min_of
 use Rattle.u_summary.specs.Summaries.{total, is_before}
 use Rattle.meaning_core.specs.Rows.{extreme, values_over, aggregate_value, aggregates_on}
 use Rattle.meaning_core.specs.Typing.{names_none}
-use Rattle.using_groups.proofs.OrderLemmas.{AreApart, HaveSame, weights, total_is, counted, weights_same, extreme_same, before_ties, map_same}
-use Rattle.u_summary.proofs.ExtremeLemmas.{before_ranks, after_ranks}
+use Rattle.using_groups.proofs.OrderLemmas.{AreApart, HaveSame, weights, total_is, counted, weights_same, extreme_same, before_ties, before_ranks, after_ranks, map_same}
 use Rattle.using_groups.proofs.FaultsAlike.{faults_alike}
 use Rattle.using_core.proofs.FaultLemmas.{err_of}
 

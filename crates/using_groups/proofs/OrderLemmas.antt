@@ -9,7 +9,7 @@ use Rattle.std.specs.List.{best_of, IsFirstBest}
 use Rattle.std.specs.Ordering.{is_lt, ordering_reverse}
 use Rattle.std.proofs.lemmas.Int.{ints}
 use Rattle.std.proofs.lemmas.List.{get_or_default}
-use Rattle.std.proofs.lemmas.List.MinMax.{IsFirstBest-from_best_of}
+use Rattle.std.proofs.lemmas.List.MinMax.{ranks_by, IsStrictWeakOrder-flip, IsFirstBest-from_best_of}
 use Rattle.base_core.specs.Sets.{placed, put, in_order}
 use Rattle.base_core.proofs.SetLemmas.{In, Separates, In-in_order, in_order_by_members, Contains-from_In}
 use Rattle.base_core.proofs.MemberLemmas.{In-map}
@@ -116,6 +116,12 @@ before_ties a b e f =
     by Less q = absurd (let z : true ≡ false = ap is_lt (sym q) ∙ e in cc)
     by Equal q = value_separates a b q
     by Greater q = absurd (let z : true ≡ false = ap is_lt (sym (value_total.antisymm b a ∙ ap ordering_reverse q)) ∙ f in cc)
+
+pub before_ranks : IsStrictWeakOrder is_before
+before_ranks = ranks_by value_total (λ v. v)
+
+pub after_ranks : IsStrictWeakOrder (λ v w. is_before w v)
+after_ranks = IsStrictWeakOrder-flip is_before before_ranks
 
 pub map_same : {X Y : Type 0} (f : X → Y) (xs ys : List X) → HaveSame xs ys → HaveSame (map f xs) (map f ys)
 map_same f xs ys h y = (

@@ -1,21 +1,25 @@
 -- What the tree that was built says of the statement.
-use Rattle.std.proofs.Common.{◌≡◌, List, [], ◌∷◌, ◌++◌, Some, refl, sym, ◌∙◌, ap, subst, append_assoc, append-nil, length, arith}
+use Rattle.std.proofs.Common.{◌≡◌, List, [], ◌∷◌, ◌++◌, Option, Some, None, refl, sym, ◌∙◌, ap, subst, append_assoc, append-nil, length, arith}
 use Rattle.utd_syntax.specs.Pieces.{Piece}
 use Rattle.utd_syntax.specs.Plain.{StatementP}
 use Rattle.utd_syntax.specs.Table.{TheStatement}
 use Rattle.utd_syntax.specs.Written.{Spells, of_statement}
 use Rattle.utd_syntax.proofs.Reader.{read}
-use Rattle.utd_syntax.proofs.Complete.{statement-reads, some_or}
+use Rattle.utd_syntax.proofs.Complete.{statement-reads}
 use Rattle.utd_builder.specs.declared.cursor.Lexeme.{Lexeme}
 use Rattle.utd_builder.specs.Building as building
 use Rattle.utd_lexer.specs.declared.token.Token.{Token}
 use Rattle.utd_parser.specs.Frames.{IsStatement}
 use Rattle.utd_parser.specs.Tokens.{piece, pieces}
 
+or_else : StatementP → Option StatementP → StatementP
+or_else x None = x
+or_else x (Some y) = y
+
 -- what is read where no form is to come
 last : (ts : List Piece) (v x : StatementP) → read ts [] (λ vs. v) ≡ Some x → v ≡ x
-unfolding some_or
-last [] v x e = ap (some_or v) e
+unfolding or_else
+last [] v x e = ap (or_else v) e
 last (t ∷ ts) v x e = cc
 
 -- the tree is the statement
