@@ -1,8 +1,8 @@
 -- What is kept of columns, one after the other.
 --     AreTurned      what is kept of the first columns is of the new marks, and of the others of the old
-use Rattle.std.proofs.Common.{◌≡◌, ℕ, zero, suc, ◌+◌, ◌<◌, ◌≤◌, Bool, List, [], ◌∷◌, ◌++◌, map, take, set, length, get_or, inl, inr, arith, refl, sym, ap, ap₂, subst, ◌∙◌, ℤ, pos}
+use Rattle.std.proofs.Common.{◌≡◌, ℕ, zero, suc, ◌+◌, ◌<◌, ◌≤◌, Bool, List, [], ◌∷◌, ◌++◌, take, set, length, get_or, inl, inr, arith, refl, sym, ap, ap₂, subst, ◌∙◌}
 use Rattle.std.proofs.lemmas.Bool.{cases_lt}
-use Rattle.std.proofs.lemmas.List.{get_or_default, get_or-set_other, get_or-set_same, length-set}
+use Rattle.std.proofs.lemmas.List.{get_or-set_other, get_or-set_same, length-set}
 use Rattle.u_tallies.specs.Figures.{PlainColumn, IsKept, AreKept, column_at, kept_at, figure_of, figures_of}
 use Rattle.u_tallies.specs.declared.keeping.Kept.{Kept}
 use Rattle.u_tallies.specs.declared.values.Figure.{Figure}

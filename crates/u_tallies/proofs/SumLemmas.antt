@@ -1,14 +1,9 @@
 -- The sum of a column, as rows come and go.
-use Rattle.std.proofs.Common.{◌≡◌, ℕ, zero, suc, ◌+◌, ◌^◌, ◌<◌, ◌≤◌, Bool, true, false, List, [], ◌∷◌, set, map, length, get_or, inl, inr, arith, sym, ap, subst, refl, ◌∙◌, ℤ, pos, ◌+ℤ◌, ◌-ℤ◌}
+use Rattle.std.proofs.Common.{◌≡◌, ℕ, zero, suc, ◌+◌, ◌<◌, Bool, true, false, List, set, length, get_or, arith, subst, refl, ℤ, ◌+ℤ◌, ◌-ℤ◌}
 use Rattle.std.specs.Int.{w64}
-use Rattle.std.specs.List.{All}
-use Rattle.std.proofs.lemmas.Bool.{cases_lt}
-use Rattle.std.proofs.lemmas.List.{get_or-set_other, get_or-set_same, length-set}
 use mir.Val.{SFits, to_z, of_z}
-use Rattle.box_core.specs.Tallies.{IsIn}
-use Rattle.box_core.specs.Totals.{count_of, sum_of, IsTotal}
-use Rattle.box_core.proofs.TotalLemmas.{total_none, entered_total, left_total, count_some}
-use Rattle.box_core.proofs.TallyLemmas.{equal_or}
+use Rattle.box_core.specs.Totals.{count_of, IsTotal}
+use Rattle.box_core.proofs.TotalLemmas.{entered_total, left_total, count_some}
 
 pub sum_entered : (vs : List ℤ) (sum : ℤ) (f : List Bool) (row : ℕ) → IsTotal vs (count_of f) sum f → (inside : row < length f) (v : ℤ) → SFits w64 v → v ≡ get_or vs row v → get_or f row true ≡ false
     → (z : ℤ) → z ≡ sum +ℤ to_z w64 (of_z w64 v) → IsTotal vs (count_of (set f row true)) z (set f row true)
