@@ -24,7 +24,10 @@ use Rattle.utd_session.specs.Readings.{IsReading, AreReadings}
 use Rattle.utd_session.specs.Databases.{state_of}
 use Rattle.utd_session.specs.Machine.{performed, performed_after}
 use Rattle.utd_session.specs.Run.{IsPrefixOf}
+use Rattle.utd_session.specs.Feeding.{HasReading}
+use Rattle.utd_session.specs.Costs.{cost_after, TakesAtMost}
 use Rattle.utd_session.specs.Sessions.{StandsFor, GoesOn, IsCutOff, IsFinished}
+use Rattle.utd_session.proofs.CostLemmas.{cost_after-push, takes-of}
 use Rattle.utd_session.proofs.StatementLemmas.{place_bound, ends_is, is_blank_is, cut-end, cut-keep, cut-more}
 use Rattle.utd_session.proofs.MachineLemmas.{state-push, output-push, output-one, accepted-push, readings-push, readings-front}
 
@@ -53,32 +56,35 @@ step-ends old new Ends b bytes piece s e is h = ((ends_is (bytes ++ piece) b).1 
 step-ends old new Inside b bytes piece s e is h = absurd (let f : Inside ≡ Ends = is in cc)
 
 -- a session that was fed a front of the piece
-pub record IsFed (session : Session) (cutter : Cutter) (piece rest bytes : List ℕ) (rs : List Reading) (before now : Option (List ℕ)) : Type 0 where
+pub record IsFed (session : Session) (cutter : Cutter) (piece rest bytes : List ℕ) (rs : List Reading) (before now : Option (List ℕ)) (paid steps : ℕ) : Type 0 where
   pub done : List ℕ
   pub split : piece ≡ done ++ rest
   pub more : List Reading
   pub stands : StandsFor session (bytes ++ done) (rs ++ more)
   pub gained : Gains before (performed_after rs more).output now
   pub since : Since cutter (cut (bytes ++ done)).rest
+  pub cost : steps ≤ paid + cost_after rs more
 
-pub fed-nothing : (session : Session) (cutter : Cutter) (piece bytes : List ℕ) (rs : List Reading) (before : Option (List ℕ)) → cutter ≡ session.cutter → StandsFor session bytes rs → IsFed session cutter piece piece bytes rs before before
-fed-nothing session cutter piece bytes rs before e h = record {
+pub fed-nothing : (session : Session) (cutter : Cutter) (piece bytes : List ℕ) (rs : List Reading) (before : Option (List ℕ)) (paid : ℕ) → cutter ≡ session.cutter → StandsFor session bytes rs → IsFed session cutter piece piece bytes rs before before paid paid
+fed-nothing session cutter piece bytes rs before paid e h = record {
   done = [];
   split = refl;
   more = [];
   stands = subst (λ b. StandsFor session b (rs ++ [])) (sym (append-nil bytes)) (subst (λ q. StandsFor session bytes q) (sym (append-nil rs)) h);
   gained = Gains-none before;
   since = subst (λ b. Since cutter (cut b).rest) (sym (append-nil bytes)) (subst (λ k. Since k (cut bytes).rest) (sym e) h.since);
+  cost = omega arith;
 }
 
 -- one statement more
-pub fed-more : (session next : Session) (cutter cutter' : Cutter) (piece rest front behind bytes : List ℕ) (rs : List Reading) (before mid now : Option (List ℕ)) (i : IsFed session cutter piece rest bytes rs before mid)
+pub fed-more : (session next : Session) (cutter cutter' : Cutter) (piece rest front behind bytes : List ℕ) (rs : List Reading) (before mid now : Option (List ℕ)) (paid steps steps' : ℕ) (i : IsFed session cutter piece rest bytes rs before mid paid steps)
     → rest ≡ front ++ behind
     → EndsOne (cut (bytes ++ i.done)).place (cut (bytes ++ i.done)).rest front
-    → ((r : Reading) × StandsFor next ((bytes ++ i.done) ++ front) ((rs ++ i.more) ++ r ∷ []) × Gains mid (text_of (length (rs ++ i.more) + 1) (answer (performed (rs ++ i.more)).state r)) now)
+    → HasReading (bytes ++ i.done) front (λ r. StandsFor next ((bytes ++ i.done) ++ front) ((rs ++ i.more) ++ r ∷ []) × Gains mid (text_of (length (rs ++ i.more) + 1) (answer (performed (rs ++ i.more)).state r)) now)
+    → TakesAtMost (Complete (cut (bytes ++ i.done)).place ((cut (bytes ++ i.done)).rest ++ front)) (performed (rs ++ i.more)).state steps steps'
     → Since cutter' []
-    → IsFed next cutter' piece behind bytes rs before now
-fed-more session next cutter cutter' piece rest front behind bytes rs before mid now i e one (r, stands, gained) since =
+    → IsFed next cutter' piece behind bytes rs before now paid steps'
+fed-more session next cutter cutter' piece rest front behind bytes rs before mid now paid steps steps' i e one (r, is, (stands, gained)) takes since =
     let same : (bytes ++ i.done) ++ front ≡ bytes ++ (i.done ++ front) = append_assoc bytes i.done front in
     let out : (performed_after rs (i.more ++ r ∷ [])).output ≡ (performed_after rs i.more).output ++ text_of (length (rs ++ i.more) + 1) (answer (performed (rs ++ i.more)).state r) = output-push rs i.more r in
     let rest_is : (cut (bytes ++ (i.done ++ front))).rest ≡ [] = ap (λ b. (cut b).rest) (sym same) ∙ ap (λ (c : Cut). c.rest) (cut-end (bytes ++ i.done) front one) in
@@ -89,18 +95,28 @@ fed-more session next cutter cutter' piece rest front behind bytes rs before mid
       stands = subst (λ b. StandsFor next b (rs ++ (i.more ++ r ∷ []))) same (subst (λ q. StandsFor next ((bytes ++ i.done) ++ front) q) (append_assoc rs i.more (r ∷ [])) stands);
       gained = subst (λ t. Gains before t now) (sym out) (Gains-more before mid now _ _ i.gained gained);
       since = subst (Since cutter') (sym rest_is) since;
+      cost = omega (arith, i.cost, takes-of _ (performed (rs ++ i.more)).state steps steps' r takes is, cost_after-push rs i.more r);
     }
 
 -- what the statements that end in more bytes begin with
-more_statements : (bytes done rest : List ℕ) (piece : List ℕ) → piece ≡ done ++ rest → (more : List Statement) × (complete_statements (bytes ++ piece) ≡ complete_statements (bytes ++ done) ++ more)
+pub more_statements : (bytes done rest : List ℕ) (piece : List ℕ) → piece ≡ done ++ rest → (more : List Statement) × (complete_statements (bytes ++ piece) ≡ complete_statements (bytes ++ done) ++ more)
 more_statements bytes done rest piece e =
     let m = cut-more (bytes ++ done) rest in
     (m.0, ap (λ x. complete_statements (bytes ++ x)) e ∙ ap complete_statements (sym (append_assoc bytes done rest)) ∙ m.1)
 
+-- one of them ends in the next bytes, and others may be behind it
+pub next_ended : (bytes done front behind rest piece : List ℕ) → piece ≡ done ++ rest → rest ≡ front ++ behind → EndsOne (cut (bytes ++ done)).place (cut (bytes ++ done)).rest front
+    → (more : List Statement) × (complete_statements (bytes ++ piece) ≡ (complete_statements (bytes ++ done) ++ Complete (cut (bytes ++ done)).place ((cut (bytes ++ done)).rest ++ front) ∷ []) ++ more)
+next_ended bytes done front behind rest piece parts e one =
+    let split : piece ≡ (done ++ front) ++ behind = parts ∙ ap (λ x. done ++ x) e ∙ sym (append_assoc done front behind) in
+    let m = more_statements bytes (done ++ front) behind piece split in
+    let ended = ap complete_statements (sym (append_assoc bytes done front)) ∙ ap (λ (c : Cut). c.ended) (cut-end (bytes ++ done) front one) in
+    (m.0, m.1 ∙ ap (λ x. x ++ m.0) ended)
+
 -- memory ran out behind some of them
-pub fed-stop : (session : Session) (cutter : Cutter) (piece rest bytes : List ℕ) (rs : List Reading) (before mid now : Option (List ℕ)) (database : Database) → state_of database ≡ state_of session.database → IsFed session cutter piece rest bytes rs before mid → now ≡ mid
+pub fed-stop : (session : Session) (cutter : Cutter) (piece rest bytes : List ℕ) (rs : List Reading) (before mid now : Option (List ℕ)) (paid steps : ℕ) (database : Database) → state_of database ≡ state_of session.database → IsFed session cutter piece rest bytes rs before mid paid steps → now ≡ mid
     → (more : List Reading) × GoesOn (complete_statements (bytes ++ piece)) rs more before now (state_of database)
-fed-stop session cutter piece rest bytes rs before mid now database kept i e =
+fed-stop session cutter piece rest bytes rs before mid now paid steps database kept i e =
     let m = more_statements bytes i.done rest piece i.split in (
       i.more,
       record {
@@ -134,18 +150,14 @@ cut-off ss front more s rs new r before mid now database left e read is gained p
       },
     )
 
-pub fed-cut-off : (session : Session) (cutter : Cutter) (piece rest front behind bytes : List ℕ) (rs : List Reading) (before mid now : Option (List ℕ)) (database : Database) (i : IsFed session cutter piece rest bytes rs before mid)
+pub fed-cut-off : (session : Session) (cutter : Cutter) (piece rest front behind bytes : List ℕ) (rs : List Reading) (before mid now : Option (List ℕ)) (paid steps : ℕ) (database : Database) (i : IsFed session cutter piece rest bytes rs before mid paid steps)
     → rest ≡ front ++ behind
     → EndsOne (cut (bytes ++ i.done)).place (cut (bytes ++ i.done)).rest front
-    → ((r : Reading) × IsReading (Complete (cut (bytes ++ i.done)).place ((cut (bytes ++ i.done)).rest ++ front)) r
-    × (GainsPrefix mid (text_of (length (rs ++ i.more) + 1) (answer (performed (rs ++ i.more)).state r)) now × (state_of database ≡ (performed ((rs ++ i.more) ++ r ∷ [])).state)))
+    → HasReading (bytes ++ i.done) front (λ r. GainsPrefix mid (text_of (length (rs ++ i.more) + 1) (answer (performed (rs ++ i.more)).state r)) now × (state_of database ≡ (performed ((rs ++ i.more) ++ r ∷ [])).state))
     → (more : List Reading) × (r : Reading) × (text : List ℕ) × IsCutOff (complete_statements (bytes ++ piece)) rs more r text before now (state_of database)
-fed-cut-off session cutter piece rest front behind bytes rs before mid now database i e one (r, is, (prefix, left)) =
-    let split : piece ≡ (i.done ++ front) ++ behind = i.split ∙ ap (λ x. i.done ++ x) e ∙ sym (append_assoc i.done front behind) in
-    let m = more_statements bytes (i.done ++ front) behind piece split in
-    let done : complete_statements (bytes ++ (i.done ++ front)) ≡ complete_statements (bytes ++ i.done) ++ Complete (cut (bytes ++ i.done)).place ((cut (bytes ++ i.done)).rest ++ front) ∷ [] =
-    ap complete_statements (sym (append_assoc bytes i.done front)) ∙ ap (λ (c : Cut). c.ended) (cut-end (bytes ++ i.done) front one) in
-    let k = cut-off (complete_statements (bytes ++ piece)) (complete_statements (bytes ++ i.done)) m.0 (Complete (cut (bytes ++ i.done)).place ((cut (bytes ++ i.done)).rest ++ front)) rs i.more r before mid now database left (m.1 ∙ ap (λ x. x ++ m.0) done) i.stands.read is i.gained prefix in
+fed-cut-off session cutter piece rest front behind bytes rs before mid now paid steps database i e one (r, is, (prefix, left)) =
+    let m = next_ended bytes i.done front behind rest piece i.split e one in
+    let k = cut-off (complete_statements (bytes ++ piece)) (complete_statements (bytes ++ i.done)) m.0 (Complete (cut (bytes ++ i.done)).place ((cut (bytes ++ i.done)).rest ++ front)) rs i.more r before mid now database left m.1 i.stands.read is i.gained prefix in
     (i.more, r, k.0, k.1)
 
 -- the state after one statement more
@@ -199,6 +211,11 @@ with_more s u front size start next =
 pub text_is : (s : Session) (bytes : List ℕ) (rs : List Reading) (r : Reading) → StandsFor s bytes rs → text_of s.number (answer (state_of s.database) r) ≡ text_of (length rs + 1) (answer (performed rs).state r)
 text_is s bytes rs r h = λ i. text_of (h.number i) (answer (h.state_is i) r)
 
+-- what the next statement takes
+pub taken_in : (s : Session) (bytes : List ℕ) (rs : List Reading) (front : List ℕ) (before now : ℕ) → StandsFor s bytes rs → TakesAtMost (Complete (cut bytes).place ((cut bytes).rest ++ front)) (state_of s.database) before now
+    → TakesAtMost (Complete (cut bytes).place ((cut bytes).rest ++ front)) (performed rs).state before now
+taken_in s bytes rs front before now h takes = subst (λ state. TakesAtMost (Complete (cut bytes).place ((cut bytes).rest ++ front)) state before now) h.state_is takes
+
 -- what a session stands for after bytes that end nothing
 pub record IsKept (s : Session) (bytes piece : List ℕ) (rs : List Reading) : Type 0 where
   pub read : AreReadings (complete_statements (bytes ++ piece)) rs
@@ -217,18 +234,18 @@ is_kept s bytes piece rs h none =
     }
 
 -- the piece is at its end
-pub fed-end : (session : Session) (cutter : Cutter) (piece rest bytes : List ℕ) (rs : List Reading) (before now : Option (List ℕ)) (r : Result Session Ended) (i : IsFed session cutter piece rest bytes rs before now)
+pub fed-end : (session : Session) (cutter : Cutter) (piece rest bytes : List ℕ) (rs : List Reading) (before now : Option (List ℕ)) (paid steps : ℕ) (r : Result Session Ended) (i : IsFed session cutter piece rest bytes rs before now paid steps)
     → IfOk r (λ s. StandsFor s ((bytes ++ i.done) ++ rest) (rs ++ i.more))
     → IfOk r (λ s. (more : List Reading) × StandsFor s (bytes ++ piece) (rs ++ more) × Gains before (performed_after rs more).output now)
-fed-end session cutter piece rest bytes rs before now (Ok s) i h =
+fed-end session cutter piece rest bytes rs before now paid steps (Ok s) i h =
     let same : (bytes ++ i.done) ++ rest ≡ bytes ++ piece = append_assoc bytes i.done rest ∙ ap (λ x. bytes ++ x) (sym i.split) in
     (i.more, subst (λ b. StandsFor s b (rs ++ i.more)) same h, i.gained)
-fed-end session cutter piece rest bytes rs before now (Err e) i h = tt
+fed-end session cutter piece rest bytes rs before now paid steps (Err e) i h = tt
 
-pub fed-stop-at-end : (session : Session) (cutter : Cutter) (piece rest bytes : List ℕ) (rs : List Reading) (before now : Option (List ℕ)) (r : Result Session Ended) → IsFed session cutter piece rest bytes rs before now → IfErr r (λ e. e.database ≡ session.database)
+pub fed-stop-at-end : (session : Session) (cutter : Cutter) (piece rest bytes : List ℕ) (rs : List Reading) (before now : Option (List ℕ)) (paid steps : ℕ) (r : Result Session Ended) → IsFed session cutter piece rest bytes rs before now paid steps → IfErr r (λ e. e.database ≡ session.database)
     → IfErr r (λ e. e.why ≡ Memory → (more : List Reading) × GoesOn (complete_statements (bytes ++ piece)) rs more before now (state_of e.database))
-fed-stop-at-end session cutter piece rest bytes rs before now (Ok s) i kept = tt
-fed-stop-at-end session cutter piece rest bytes rs before now (Err e) i kept = λ why. fed-stop session cutter piece rest bytes rs before now now e.database (ap state_of kept) i refl
+fed-stop-at-end session cutter piece rest bytes rs before now paid steps (Ok s) i kept = tt
+fed-stop-at-end session cutter piece rest bytes rs before now paid steps (Err e) i kept = λ why. fed-stop session cutter piece rest bytes rs before now now paid steps e.database (ap state_of kept) i refl
 
 -- ---- the end of a script
 

@@ -106,6 +106,17 @@ pub within_long : (all : List ℕ) → most_bytes < length all → statements_wi
 unfolding statements_within
 within_long all l = ap (λ t. cond t (statements all) (complete_statements (take most_bytes all))) (not_le (length all) most_bytes l)
 
+pub by_le : (a b : ℕ) {P : Type 0} → (a ≤ b → P) → (b < a → P) → P
+by_le a b {P} f g = elim (nat_le a b) as (λ t. nat_le a b ≡ t → P) [ true ↦ λ e. f (leb-true a b e) | false ↦ λ e. g (leb-false a b e) ] refl
+
+-- the statements that end in the first bytes are the first of those that end in more of them
+pub front_more : (all : List ℕ) (n m : ℕ) → n ≤ m → (more : List Statement) × (complete_statements (take m all) ≡ complete_statements (take n all) ++ more)
+front_more all n m l =
+    let rest : List ℕ = take (m - n) (drop n all) in
+    let parts : take m all ≡ take n all ++ rest = let e : m ≡ n + (m - n) = omega arith in ap (λ i. take i all) e ∙ take-add n (m - n) all in
+    let k = cut-more (take n all) rest in
+    (k.0, ap complete_statements parts ∙ k.1)
+
 -- the statements that end in the first bytes are the first of those that are performed
 pub within_front : (all : List ℕ) (n : ℕ) → n ≤ most_bytes → n ≤ length all → (more : List Statement) × (statements_within all ≡ complete_statements (take n all) ++ more)
 within_front all n short fits =
@@ -113,15 +124,7 @@ within_front all n short fits =
     let m = cut-more (take n all) (drop n all) in
     by_le (length all) most_bytes
     (λ l. (m.0 ++ incomplete_rest (cut all).rest, within_short all l ∙ ap (λ ss. ss ++ incomplete_rest (cut all).rest) (ap complete_statements whole ∙ m.1) ∙ append_assoc (complete_statements (take n all)) m.0 (incomplete_rest (cut all).rest)))
-    (λ l. (let p = parts all n most_bytes short in let k = cut-more (take n all) p.0 in (k.0, within_long all l ∙ ap complete_statements p.1 ∙ k.1)))
-  where
-    by_le : (a b : ℕ) {P : Type 0} → (a ≤ b → P) → (b < a → P) → P
-    by_le a b {P} f g = elim (nat_le a b) as (λ t. nat_le a b ≡ t → P) [ true ↦ λ e. f (leb-true a b e) | false ↦ λ e. g (leb-false a b e) ] refl
-
-    parts : (all : List ℕ) (n m : ℕ) → n ≤ m → (rest : List ℕ) × (take m all ≡ take n all ++ rest)
-    parts all n m l =
-        let e : m ≡ n + (m - n) = omega arith in
-        (take (m - n) (drop n all), ap (λ i. take i all) e ∙ take-add n (m - n) all)
+    (λ l. (let k = front_more all n most_bytes short in (k.0, within_long all l ∙ k.1)))
 
 pub cut-nil : cut [] ≡ record { ended = []; place = first_place; rest = [] }
 unfolding cut_from

@@ -16,6 +16,10 @@ use Rattle.utd_session.specs.Run.{IsPrefixOf}
 abbrev pub fed_of : Session → ℕ
 fed_of s = s.fed
 
+-- the state that it has come to
+abbrev pub state_in : Session → State
+state_in s = state_of s.database
+
 -- A session stands for these bytes, whose statements are read as these. Of the statement that is not ended it keeps
 -- where it begins, the place behind it, its length, and unless it is too long its bytes.
 pub record StandsFor (s : Session) (bytes : List ℕ) (rs : List Reading) : Type 0 where

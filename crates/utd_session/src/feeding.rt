@@ -1,5 +1,5 @@
 // A session: a script that comes in pieces.
-ghost use Rattle.std.specs.Prelude.{◌≡◌, ℕ, ◌+◌, ◌-◌, ◌^◌, ◌<◌, ◌≤◌, true, ◌&&◌, List, [], ◌∷◌, ◌++◌, length, IfOk, OnOk, OnErr, IfErr, IsOk, MatchOption, IfSome};
+ghost use Rattle.std.specs.Prelude.{◌≡◌, ℕ, ◌+◌, ◌-◌, ◌^◌, ◌<◌, ◌≤◌, true, ◌&&◌, List, [], ◌∷◌, ◌++◌, length, IfOk, OnOk, OnErr, IfErr, IsOk, MatchOption, MatchResult, IfSome};
 ghost use Rattle.utd_io.specs.Io.{Rose, Gains, GainsPrefix};
 ghost use Rattle.point_core.specs.declared.fault.Place.{Place};
 ghost use Rattle.value_core.specs.Limits.{most_script_bytes};
@@ -9,6 +9,7 @@ ghost use Rattle.utd_session.specs.Unfinished.{IsUnfinished};
 ghost use Rattle.utd_session.specs.Statements.{Complete, NoEnd, EndsOne};
 ghost use Rattle.utd_session.specs.Databases.{state_of};
 ghost use Rattle.utd_session.specs.Feeding.{IsReplyTo};
+ghost use Rattle.utd_session.specs.Costs.{TakesAtMost};
 
 use crate::fault::SessionFault;
 use crate::unfinished::Unfinished;
@@ -73,6 +74,8 @@ fn reply_to_end<L: Ledger>(
     ensures size { unfinished.new.size ≡ unfinished.old.size + length front.now }
     ensures start { unfinished.new.start ≡ unfinished.old.start }
     ensures next { unfinished.new.next ≡ place_after unfinished.old.next front.now }
+    ensures cost { (place : Place) (bytes : List ℕ) → IsUnfinished unfinished.old place bytes
+        → TakesAtMost (Complete place (bytes ++ front.now)) (state_of database.old) steps.old steps.new }
 {
     unfinished.extend(front)?;
     let parsed = unfinished.read(alloc)?;
@@ -112,7 +115,9 @@ impl Session {
     ghost use Rattle.utd_statement.specs.Answers.{text_of, answer};
     ghost use Rattle.utd_session.specs.Machine.{performed, performed_after};
     ghost use Rattle.utd_session.specs.Feeding.{HasReading};
-    ghost use Rattle.utd_session.specs.Sessions.{StandsFor, GoesOn, IsCutOff, IsFinished, fed_of};
+    ghost use Rattle.utd_session.specs.Unfinished.{kept_of};
+    ghost use Rattle.utd_session.specs.Costs.{IsWithinCost};
+    ghost use Rattle.utd_session.specs.Sessions.{StandsFor, GoesOn, IsCutOff, IsFinished, fed_of, state_in};
 
     /// A session that stands for nothing yet. It takes no memory.
     pub fn new(alloc: Global) -> Session
@@ -137,6 +142,13 @@ impl Session {
         ensures length { (bytes : List ℕ) (rs : List Reading) → StandsFor self.now bytes rs → result ≡ length bytes }
     {
         self.fed
+    }
+
+    /// The bytes of the statement that is not ended, or none where they are more than 1,048,576. It takes no memory.
+    pub fn held(&self) -> &[u8]
+        ensures { (bytes : List ℕ) (rs : List Reading) → StandsFor self.now bytes rs → result.now ≡ kept_of (cut bytes).rest }
+    {
+        self.unfinished.held()
     }
 
     // Keeps bytes that end no statement.
@@ -188,8 +200,8 @@ impl Session {
         ensures since { OnOk result (Since self.new.cutter []) }
         ensures performed { (bytes : List ℕ) (rs : List Reading) → StandsFor self.old bytes rs
             → EndsOne (cut bytes).place (cut bytes).rest front.now
-            → OnOk result ((r : Reading) × StandsFor self.new (bytes ++ front.now) (rs ++ r ∷ [])
-            × Gains (K.written out.old) (text_of (length rs + 1) (answer (performed rs).state r)) (K.written out.new)) }
+            → OnOk result (HasReading bytes front.now (λ r. StandsFor self.new (bytes ++ front.now) (rs ++ r ∷ [])
+            × Gains (K.written out.old) (text_of (length rs + 1) (answer (performed rs).state r)) (K.written out.new))) }
         ensures memory { IfErr result (λ why. why ≡ SessionFault.Memory
             → (K.written out.new ≡ K.written out.old) × (state_of self.new.database ≡ state_of self.old.database)) }
         ensures write { (bytes : List ℕ) (rs : List Reading) → StandsFor self.old bytes rs
@@ -198,6 +210,8 @@ impl Session {
             × (state_of self.new.database ≡ (performed (rs ++ r ∷ [])).state))) }
         ensures count { K.faults out.old ≤ K.faults out.new }
         ensures cause { IfErr result (λ why. why ≡ SessionFault.Write → Rose (K.faults out.old) (K.faults out.new)) }
+        ensures cost { (bytes : List ℕ) (rs : List Reading) → StandsFor self.old bytes rs
+            → TakesAtMost (Complete (cut bytes).place ((cut bytes).rest ++ front.now)) (performed rs).state steps.old steps.new }
     {
         self.fed += front.len() as u64;
         let Ok(reply) = reply_to_end(
@@ -243,6 +257,10 @@ impl Session {
             (K.written out.old) (K.written out.new) (state_of e.database)) }
         ensures count { K.faults out.old ≤ K.faults out.new }
         ensures cause { IfErr result (λ e. e.why ≡ SessionFault.Write → Rose (K.faults out.old) (K.faults out.new)) }
+        // At most the steps of the statements that are performed or begun.
+        ensures cost { (bytes : List ℕ) (rs : List Reading) → StandsFor self bytes rs → MatchResult result
+            (λ s. IsWithinCost (complete_statements (bytes ++ piece.now)) rs (state_in s) steps.old steps.new)
+            (λ e. IsWithinCost (complete_statements (bytes ++ piece.now)) rs (state_of e.database) steps.old steps.new) }
     {
         let mut cutter = self.cutter;
         let mut session = self;
@@ -280,6 +298,7 @@ impl Session {
             (K.written out.old) (K.written out.new) (state_of e.database)) }
         ensures count { K.faults out.old ≤ K.faults out.new }
         ensures cause { IfErr result (λ e. e.why ≡ SessionFault.Write → Rose (K.faults out.old) (K.faults out.new)) }
+        ensures cost { _steps.new ≡ _steps.old }
     {
         let Session {
             alloc,

@@ -34,7 +34,7 @@ fn keep(kept: &mut Vec<u8>, size: usize, piece: &[u8]) -> Result<(), AllocError>
 }
 
 impl Unfinished {
-    ghost use Rattle.utd_session.specs.Unfinished.{IsUnfinished};
+    ghost use Rattle.utd_session.specs.Unfinished.{IsUnfinished, kept_of};
     ghost use Rattle.utd_session.specs.Statements.{Complete, first_place};
     ghost use Rattle.utd_session.specs.Readings.{IsReading};
     ghost use Rattle.utd_statement.specs.Parsed.{reading_of, HasAnswer};
@@ -79,6 +79,13 @@ impl Unfinished {
         self.start = self.next;
         self.size = 0;
         self.bytes.clear();
+    }
+
+    /// The bytes that are kept.
+    pub fn held(&self) -> &[u8]
+        ensures { (place : Place) (bytes : List ℕ) → IsUnfinished self.now place bytes → result.now ≡ kept_of bytes }
+    {
+        self.bytes.as_slice()
     }
 
     /// What its bytes are read as, where they end with its `;`.

@@ -4,3 +4,4 @@ pub mod ReadingLaws
 pub mod EmptyLemmas
 pub mod ChangeLemmas
 pub mod RangeLaws
+pub mod CostLemmas

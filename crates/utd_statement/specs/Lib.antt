@@ -3,3 +3,4 @@ pub mod Parsed
 pub mod Answers
 pub mod Replies
 pub mod InRange
+pub mod Costs

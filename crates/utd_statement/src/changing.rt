@@ -1,5 +1,5 @@
 // What statements change. No memory is taken once the database has changed.
-ghost use Rattle.std.specs.Prelude.{◌≡◌, IfOk, map};
+ghost use Rattle.std.specs.Prelude.{◌≡◌, ◌≤◌, ◌+◌, IfOk, map};
 ghost use Rattle.std.specs.List.{All};
 ghost use Rattle.tree_core.specs.Items.{read_item, read_assignment};
 ghost use Rattle.tree_core.specs.Relvars.{read_relvars};
@@ -9,6 +9,7 @@ ghost use Rattle.meaning_core.specs.WellMade.{IsWellMade};
 ghost use Rattle.update_core.specs.Endings.{meant_by};
 ghost use Rattle.since_during.specs.Histories.{declared_history, declared_in, IsTypedHistory};
 ghost use Rattle.assign_core.specs.Assignments.{after_assignments};
+ghost use Rattle.assign_core.specs.Costs.{assignments_cost};
 ghost use Rattle.assign_core.specs.Databases.{IsKept};
 ghost use Rattle.utd_statement.specs.Answers.{Changed, assignments_of, unless_refused};
 ghost use Rattle.utd_statement.specs.Replies.{IsPerformed};
@@ -115,8 +116,9 @@ pub fn assigned<L: Ledger>(
 ) -> Result<Vec<u8>, Refuse>
     requires kept { IsKept (read_relvars database.old) }
     requires typed { All (IsTypedItem (read_relvars database.old)) (map read_item items.now) }
-    ensures { IsPerformed result (read_relvars database.old) (read_relvars database.new)
+    ensures performed { IsPerformed result (read_relvars database.old) (read_relvars database.new)
         (unless_refused (read_relvars database.old) (after_assignments (read_relvars database.old).relvars (assignments_of (read_relvars database.old).relvars (map read_item items.now)))) }
+    ensures cost { steps.new ≤ steps.old + assignments_cost (read_relvars database.old).relvars (assignments_of (read_relvars database.old).relvars (map read_item items.now)) }
 {
     let list = assignments(alloc, items.list.as_slice(), database.relvars())?;
     database.assign(&list, steps)?;

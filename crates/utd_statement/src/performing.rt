@@ -1,4 +1,5 @@
 // What a statement is performed as: it writes, or it changes the database.
+ghost use Rattle.std.specs.Prelude.{◌≤◌, ◌+◌};
 ghost use Rattle.utd_syntax.specs.Read.{read_statement};
 ghost use Rattle.tree_core.specs.Relvars.{read_relvars};
 ghost use Rattle.tree_core.specs.Trees.{read_tree, read_test};
@@ -6,6 +7,7 @@ ghost use Rattle.meaning_core.specs.WellMade.{IsWellMade, IsTypedFor, IsTypedTes
 ghost use Rattle.assign_core.specs.Databases.{IsKept};
 ghost use Rattle.type_check.specs.Checks.{print, ask, checked, read_checked, IsTypedPlain};
 ghost use Rattle.utd_statement.specs.Answers.{of_checked, unless_fault};
+ghost use Rattle.utd_statement.specs.Costs.{cost_of_checked, cost_of_tree};
 ghost use Rattle.utd_statement.specs.Replies.{IsPerformed};
 
 use crate::changing::{assigned, declared, history_declared, removed};
@@ -29,7 +31,8 @@ fn printed<L: Ledger>(
 ) -> Result<Vec<u8>, Refuse>
     requires well_made { IsWellMade (read_relvars relvars.now) }
     requires typed { IsTypedFor (read_relvars relvars.now) (read_tree tree.now) }
-    ensures { IsPerformed result (read_relvars relvars.now) (read_relvars relvars.now) (of_checked (read_relvars relvars.now) (print (read_tree tree.now))) }
+    ensures performed { IsPerformed result (read_relvars relvars.now) (read_relvars relvars.now) (of_checked (read_relvars relvars.now) (print (read_tree tree.now))) }
+    ensures cost { steps.new ≤ steps.old + cost_of_checked (read_relvars relvars.now) (print (read_tree tree.now)) }
 {
     let relation = eval(alloc, tree, relvars, None, None, steps)?;
     Ok(table(alloc, &relation, &relvars.ordinals)?)
@@ -44,7 +47,8 @@ fn asked<L: Ledger>(
 ) -> Result<Vec<u8>, Refuse>
     requires well_made { IsWellMade (read_relvars relvars.now) }
     requires typed { IsTypedTestFor (read_relvars relvars.now) (read_test question.now) }
-    ensures { IsPerformed result (read_relvars relvars.now) (read_relvars relvars.now) (of_checked (read_relvars relvars.now) (ask (read_test question.now))) }
+    ensures performed { IsPerformed result (read_relvars relvars.now) (read_relvars relvars.now) (of_checked (read_relvars relvars.now) (ask (read_test question.now))) }
+    ensures cost { steps.new ≤ steps.old + cost_of_checked (read_relvars relvars.now) (ask (read_test question.now)) }
 {
     let holds = test(alloc, question, relvars, steps)?;
     Ok(Vec::from_slice(alloc, truth_line(holds))?)
@@ -59,7 +63,8 @@ fn performed_typed<L: Ledger>(
 ) -> Result<Vec<u8>, Refuse>
     requires kept { IsKept (read_relvars database.old) }
     requires typed { IsTypedPlain (read_relvars database.old) (read_checked typed) }
-    ensures { IsPerformed result (read_relvars database.old) (read_relvars database.new) (of_checked (read_relvars database.old) (read_checked typed)) }
+    ensures performed { IsPerformed result (read_relvars database.old) (read_relvars database.new) (of_checked (read_relvars database.old) (read_checked typed)) }
+    ensures cost { steps.new ≤ steps.old + cost_of_checked (read_relvars database.old) (read_checked typed) }
 {
     match typed {
         Checked::Nothing => Ok(Vec::new(alloc)),
@@ -82,8 +87,9 @@ pub fn performed<L: Ledger>(
     database: &mut Database,
     steps: &mut Steps<L>,
 ) -> Result<Vec<u8>, Refuse>
-    ensures { IsPerformed result (read_relvars database.old) (read_relvars database.new)
+    ensures performed { IsPerformed result (read_relvars database.old) (read_relvars database.new)
         (unless_fault (of_checked (read_relvars database.old)) (checked (read_relvars database.old) (read_statement statement.now))) }
+    ensures cost { steps.new ≤ steps.old + cost_of_tree (read_relvars database.old) (read_statement statement.now) }
 {
     let typed = check(alloc, statement, database.relvars())?;
     performed_typed(alloc, typed, database, steps)

@@ -1,9 +1,10 @@
 // What is answered to one statement.
-ghost use Rattle.std.specs.Prelude.{IfOk};
+ghost use Rattle.std.specs.Prelude.{◌≤◌, ◌+◌, IfOk};
 ghost use Rattle.utd_syntax.specs.Read.{read_statement};
 ghost use Rattle.utd_print.specs.Lines.{HasLine};
 ghost use Rattle.utd_statement.specs.Parsed.{reading_of, HasAnswer};
 ghost use Rattle.utd_statement.specs.Answers.{Answer, Refusal, of_tree, answer};
+ghost use Rattle.utd_statement.specs.Costs.{cost_of_tree, statement_cost};
 ghost use Rattle.tree_core.specs.Relvars.{read_relvars, State};
 ghost use Rattle.utd_statement.specs.Replies.{IsReply, IsAnswered, IsPerformed};
 
@@ -58,8 +59,9 @@ fn answer_to_tree<L: Ledger>(
     statement: &Statement,
     steps: &mut Steps<L>,
 ) -> Result<Reply, Memory>
-    ensures { IsAnswered result number (read_relvars database.old) (read_relvars database.new)
+    ensures answered { IsAnswered result number (read_relvars database.old) (read_relvars database.new)
         (of_tree (read_relvars database.old) (read_statement statement.now)) }
+    ensures cost { steps.new ≤ steps.old + cost_of_tree (read_relvars database.old) (read_statement statement.now) }
 {
     let written = performed(alloc, statement, database, steps);
     told(alloc, number, written)
@@ -75,7 +77,8 @@ pub fn answer_to<L: Ledger>(
     steps: &mut Steps<L>,
 ) -> Result<Reply, Memory>
     requires { HasAnswer (reading_of parsed.now) }
-    ensures { IsAnswered result number (read_relvars database.old) (read_relvars database.new) (answer (read_relvars database.old) (reading_of parsed.now)) }
+    ensures answered { IsAnswered result number (read_relvars database.old) (read_relvars database.new) (answer (read_relvars database.old) (reading_of parsed.now)) }
+    ensures cost { steps.new ≤ steps.old + statement_cost (read_relvars database.old) (reading_of parsed.now) }
 {
     match parsed {
         Parsed::Tree(statement) => answer_to_tree(alloc, database, number, statement, steps),

@@ -1,6 +1,7 @@
 use super::*;
 use std::marker::Brand;
 use std::test::Fail;
+use utd_io::Source;
 
 const PACK: &[u8] =
     b"PRINT PACK RELATION {TUPLE {S 1, D [4:6]}, TUPLE {S 1, D [1:3]}, TUPLE {S 1, D [8:9]}} ON (D);";
@@ -397,5 +398,39 @@ fn long_scripts_come_out(rt: HostRuntime) -> Result<(), Fail> {
         assert_eq!(rt; out.bytes(), output);
         assert_eq!(rt; err.bytes(), line);
     }
+    Ok(())
+}
+
+/// How many bytes the source gives until it has none, up to 16 MiB.
+fn count_left(input: &mut MemorySource) -> usize {
+    let mut buffer = [0u8; 65_536];
+    let mut left: usize = 0;
+    for _turn in 0..256 {
+        if let Ok(n) = input.read(&mut buffer) {
+            left = left.saturating_add(n);
+        }
+    }
+    left
+}
+
+#[test]
+fn no_more_is_read_where_writing_fails(rt: HostRuntime) -> Result<(), Fail> {
+    let alloc = rt.alloc();
+    let mut script = Vec::new(alloc);
+    // 10 MiB
+    for _statement in 0..499_322 {
+        script.extend_from_slice(b"PRINT RELATION {} {};")?;
+    }
+    let count = script.len();
+    let mut input = MemorySource::new(script, MOST_BYTES, Vec::new(alloc));
+    let mut out = MemorySink::new(vec![in alloc; 0u8; 100]?, 100, [1u64].to_vec(alloc)?);
+    let mut err = MemorySink::new(vec![in alloc; 0u8; 100]?, 100, Vec::new(alloc));
+    let status = status::<Brand>(alloc, &mut input, &mut out, &mut err, Blank::new(1));
+    assert_eq!(rt; status, 4);
+    assert!(rt; out.bytes().is_empty());
+    assert!(rt; are_same(err.bytes(), b"utd: write failed\n"));
+    let left = count_left(&mut input);
+    assert!(rt; 10 * 1024 * 1024 <= count);
+    assert!(rt; count <= left.saturating_add(65_536));
     Ok(())
 }

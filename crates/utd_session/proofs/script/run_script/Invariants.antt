@@ -6,7 +6,7 @@ use Rattle.utd_session.proofs.script.run_script.Given as goal
 
 abbrev pub invariant-script : goal.invariant-script
 invariant-script g l = record {
-  fed : MayHaveFed (g.S.Source.left l.initial.input) (g.S.Source.left l.input) l.session (g.K.Sink.written l.initial.out) (g.K.Sink.written l.out);
+  fed : MayHaveFed (g.S.Source.left l.initial.input) (g.S.Source.left l.input) l.session (g.K.Sink.written l.initial.out) (g.K.Sink.written l.out) l.initial.steps l.steps;
   full : length l.buffer ≡ 65536;
   reads : g.S.Source.faults l.initial.input ≤ g.S.Source.faults l.input;
   writes : g.K.Sink.faults l.initial.out ≤ g.K.Sink.faults l.out;

@@ -6,7 +6,7 @@ use Rattle.utd_session.specs.Databases.{state_of}
 use Rattle.utd_session.specs.Unfinished.{IsUnfinished}
 use Rattle.utd_session.specs.Statements.{cut}
 use Rattle.utd_statement.specs.Readings.{Reading}
-use Rattle.utd_session.proofs.SessionLemmas.{with_more, is_end, after_one, text_is}
+use Rattle.utd_session.proofs.SessionLemmas.{with_more, is_end, after_one, text_is, taken_in}
 use Rattle.utd_session.proofs.feeding.Session.end.Goals as goal
 
 pub invariant_of-self : goal.invariant_of-self
@@ -60,14 +60,26 @@ returns-clause-performed g c bytes rs h ends =
     let text = q.2.0 ∙ text_is old bytes rs r h in
     let w = c.restart.ensures.next (cut bytes).place ((cut bytes).rest ++ front) u in (
       r,
-      record {
-        read = e.read;
-        state_is = e.left;
-        accepted = c.both-self.ensures ∙ e.accepted;
-        number = e.number;
-        unfinished = subst (λ p. IsUnfinished new p (cut (bytes ++ front)).rest) (sym e.place_is) (subst (IsUnfinished new _) (sym e.rest_is) w);
-        since = subst (Since c.new-self.result) (sym e.rest_is) c.new-self.ensures;
-        fed = e.fed;
-      },
-      subst (λ t. Gains (g.K.Sink.written c.args.out.now) t (g.K.Sink.written c.write_all.new.sink)) (c.deref.ensures.value ∙ text) c.in-Ok-write_all.ensures.bytes,
+      q.1,
+      (
+        record {
+          read = e.read;
+          state_is = e.left;
+          accepted = c.both-self.ensures ∙ e.accepted;
+          number = e.number;
+          unfinished = subst (λ p. IsUnfinished new p (cut (bytes ++ front)).rest) (sym e.place_is) (subst (IsUnfinished new _) (sym e.rest_is) w);
+          since = subst (Since c.new-self.result) (sym e.rest_is) c.new-self.ensures;
+          fed = e.fed;
+        },
+        subst (λ t. Gains (g.K.Sink.written c.args.out.now) t (g.K.Sink.written c.write_all.new.sink)) (c.deref.ensures.value ∙ text) c.in-Ok-write_all.ensures.bytes,
+      ),
     )
+
+pub returns-in_default-clause-cost : goal.returns-in_default-clause-cost
+returns-in_default-clause-cost g c bytes rs h = taken_in c.args.self.now bytes rs c.args.front.now _ _ h (c.reply_to_end.ensures.cost (cut bytes).place (cut bytes).rest h.unfinished)
+
+pub returns-in_default-write_all-clause-cost : goal.returns-in_default-write_all-clause-cost
+returns-in_default-write_all-clause-cost g c bytes rs h = taken_in c.args.self.now bytes rs c.args.front.now _ _ h (c.reply_to_end.ensures.cost (cut bytes).place (cut bytes).rest h.unfinished)
+
+pub returns-clause-cost : goal.returns-clause-cost
+returns-clause-cost g c bytes rs h = taken_in c.args.self.now bytes rs c.args.front.now _ _ h (c.reply_to_end.ensures.cost (cut bytes).place (cut bytes).rest h.unfinished)

@@ -11,4 +11,5 @@ returns-clause-more c place bytes h =
       next = c.place_behind-self.ensures ∙ ap (λ p. place_after p piece) h.next ∙ sym (place_after-append place bytes piece);
       size = omega (arith, h.size, length-append bytes piece);
       kept = λ l. c.in_ok-keep.ensures.short l ∙ ap (λ b. b ++ piece) (h.kept (omega arith));
+      none = c.in_ok-keep.ensures.long;
     }

@@ -1,0 +1,37 @@
+-- How many steps a statement may take in a state: a bound by numbers of rows and not of points.
+--     cost_of_checked      of a typed statement
+--     statement_cost      of what a statement is read as
+use Rattle.std.specs.Prelude.{ℕ, Ok, Err}
+use Rattle.point_core.specs.Faults.{OrFault}
+use Rattle.tree_core.specs.Relvars.{State}
+use Rattle.algebra_core.specs.Costs.{cost_in, test_cost}
+use Rattle.assign_core.specs.Costs.{assignments_cost}
+use Rattle.utd_syntax.specs.Plain.{StatementP}
+use Rattle.type_check.specs.Checks.{Plain, nothing, declare_ordinal, declare_base, declare_view, declare_history, remove, assign, print, ask, checked}
+use Rattle.utd_statement.specs.Answers.{assignments_of}
+use Rattle.utd_statement.specs.Readings.{Reading, Tree, Refused}
+
+-- the steps of the expression that is printed, of the test that is asked, or of the sources and the constraints of assignments
+abbrev pub cost_of_checked : State → Plain → ℕ
+cost_of_checked state nothing = 0
+cost_of_checked state (declare_ordinal d) = 0
+cost_of_checked state (declare_base d) = 0
+cost_of_checked state (declare_view d) = 0
+cost_of_checked state (declare_history h) = 0
+cost_of_checked state (remove name) = 0
+cost_of_checked state (assign items) = assignments_cost state.relvars (assignments_of state.relvars items)
+cost_of_checked state (print t) = cost_in state.relvars t
+cost_of_checked state (ask t) = test_cost state.relvars t
+
+-- what typing refuses takes none
+abbrev pub cost_if_typed : State → OrFault Plain → ℕ
+cost_if_typed state (Ok typed) = cost_of_checked state typed
+cost_if_typed state (Err fault) = 0
+
+abbrev pub cost_of_tree : State → StatementP → ℕ
+cost_of_tree state tree = cost_if_typed state (checked state tree)
+
+-- a text that is refused takes none
+abbrev pub statement_cost : State → Reading → ℕ
+statement_cost state (Tree tree) = cost_of_tree state tree
+statement_cost state (Refused refuse) = 0
