@@ -18,6 +18,7 @@ use Rattle.clap.specs.Walk.{Rule, rule_of, is_empty, one_of}
 use Rattle.clap.specs.Simple.{App, app_of, is_simple, matches_of, HasMatchesOf}
 use Rattle.clap.specs.Faults.{fault_of, is_simple_and_free}
 use Rattle.clap.specs.Kinds.{Kinds, HasKind}
+use Rattle.clap.proofs.OnLiterals.{clap_on_literals}
 use Rattle.clap.proofs.WalkLemmas.{one_text-rows}
 use Rattle.clap.proofs.CallerLemmas.{entry_by_id, same_rules_by_id}
 use Rattle.clap.specs.declared.builder.arg.Arg.{Arg}
@@ -212,3 +213,18 @@ not_taken c e words is kinds other =
     go : (ks : Kinds) → HasKind ks e → None ≡ unless_fault ks (script_by (generate_value words))
     go [] h = elim h [ inl is_other ↦ absurd (other is_other) | inr bad ↦ absurd bad ]
     go (k ∷ ks) h = refl
+
+-- ---- words that are written out
+
+no_fault : fault_of utd_command [] ≡ []
+unfolding clap_on_literals
+no_fault = refl
+
+no_value : generate_value [] ≡ None
+unfolding clap_on_literals
+no_value = refl
+
+-- no word asks for the script of the input
+pub asked_by_none : asked [] ≡ Some OfInput
+unfolding asked
+asked_by_none = ap (λ kinds. unless_fault kinds (script_by (generate_value []))) no_fault ∙ ap (λ value. Some (script_by value)) no_value

@@ -1,5 +1,5 @@
 // What the words ask for.
-ghost use Rattle.std.specs.Prelude.{◌≡◌, List, ℕ, None, Some, IfOk, map, string_bytes};
+ghost use Rattle.std.specs.Prelude.{◌≡◌, List, [], ℕ, None, Some, IfOk, map, string_bytes};
 ghost use Rattle.clap.specs.Words.{found_of, one_text};
 ghost use Rattle.clap.specs.Values.{IsUnsignedIn};
 ghost use Rattle.utd_words.specs.Words.{IsInRange, generate, number_in, asked};
@@ -32,9 +32,13 @@ fn script_in(matches: &ArgMatches) -> Script
 }
 
 /// The script that the words ask for, or `None` where `clap` refuses them.
+#[tactic(auto, using(crate::proofs::WordsLemmas::asked_by_none))]
 pub fn read_words(alloc: Global, words: &[String]) -> Result<Option<Script>, Memory>
     ensures asked { IfOk result (λ script. script ≡ asked (map string_bytes words.now)) }
     ensures range { IfOk result IsInRange }
+
+    // No word asks for the script of the input.
+    ensures no_words { asked [] ≡ Some Script.OfInput }
 {
     let command = utd_command(alloc)?;
     match command.try_get_matches_from(words) {
