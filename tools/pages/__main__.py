@@ -1,0 +1,104 @@
+"""Holds the pages to the rows of crates/utd_rows: python3 tools/pages [--rows PAGE]
+
+Every script of README.md and of docs/, which is fenced as utd and has what it prints fenced behind it, and every examples/NAME.td with its NAME.out, has
+to stand among the rows that the gate runs, byte for byte; each row of README.md, docs/ and examples/ is still one of theirs; and every code of a
+refusal has a line that says what to do about it. Ends with status 1 where something differs, and names it.
+
+With --rows PAGE it writes the rows of a page as crates/utd_rows/data/ has them, to be looked at and kept there.
+"""
+import glob
+import os
+import re
+import sys
+
+ROOT = os.path.dirname(os.path.dirname(os.path.dirname(os.path.abspath(__file__))))
+# a script, and what it prints
+SCRIPT = re.compile(r'^```utd\n(.*?)^```\n(?:\nprints\n\n```\n(.*?)^```\n)?', re.S | re.M)
+HEADING = re.compile(r'^#+ (.*)$', re.M)
+REFUSED = re.compile(r'^statement [0-9]+ refused: (E[0-9][0-9])', re.M)
+LANGUAGE = 'docs/language.md'
+
+
+def text_of(path):
+    with open(f'{ROOT}/{path}', encoding='utf-8', newline='') as file:
+        return file.read()
+
+
+def paths_of(pattern):
+    return sorted(os.path.relpath(path, ROOT) for path in glob.glob(f'{ROOT}/{pattern}'))
+
+
+def scripts_of(page):
+    """The heading, the script and the output of each script of a page; no output where none stands behind it."""
+    text = text_of(page)
+    found = []
+    for match in SCRIPT.finditer(text):
+        above = [heading[1] for heading in HEADING.finditer(text, 0, match.start())]
+        found.append((above[-1], match[1], match[2]))
+    return found
+
+
+def status_of(output):
+    return 1 if REFUSED.search(output) else 0
+
+
+def row_of(title, script, output):
+    """A row of crates/utd_rows/data/: the script's last line end is that of the empty line."""
+    return f'=== {title}\n{script}\n--- {status_of(output)}\n{output}'
+
+
+def rows_of(path):
+    """The rows of a file: whole, without their titles."""
+    return [row.split('\n', 1)[1] for row in re.split('^=== ', text_of(path), flags=re.M)[1:]]
+
+
+def wanted():
+    """What has to stand among the rows: the place, the script and the output."""
+    found = []
+    for page in ['README.md', *paths_of('docs/*.md')]:
+        found += [(f'{page}, under "{heading}"', script, output) for heading, script, output in scripts_of(page)]
+    for example in paths_of('examples/*.td'):
+        found.append((example, text_of(example), text_of(example[:-3] + '.out')))
+    return found
+
+
+def lacking(scripts):
+    rows = {row for path in paths_of('crates/utd_rows/data/*.txt') for row in rows_of(path)}
+    faults = []
+    for place, script, output in scripts:
+        if output is None:
+            faults.append(f'{place}: a script without what it prints')
+        elif row_of('', script, output).split('\n', 1)[1] not in rows:
+            faults.append(f'{place}: this script with this output is no row of crates/utd_rows/data')
+    return faults
+
+
+def codes_without_advice():
+    """The codes of the table of refusals that no line says what to do about, and those of which only that is said."""
+    text = text_of(LANGUAGE)
+    told, _, advised = text.partition('### What to do about it')
+    codes, advice = (set(re.findall(r'^\| (E[0-9][0-9]) \|', part, re.M)) for part in (told, advised.split('\n## ')[0]))
+    return [f'{LANGUAGE}: {code} has {"no line" if code in codes else "only a line"} that says what to do about it' for code in sorted(codes ^ advice)]
+
+
+def check():
+    scripts = wanted()
+    faults = lacking(scripts) + codes_without_advice()
+    for fault in faults:
+        print(fault)
+    if not faults:
+        print(f'{len(scripts)} scripts of the pages and examples are among the rows')
+    return 1 if faults else 0
+
+
+def main(words):
+    if len(words) == 2 and words[0] == '--rows':
+        sys.stdout.write(''.join(row_of(f'under "{heading}"', script, output) for heading, script, output in scripts_of(words[1])))
+        return 0
+    if words:
+        print(__doc__.strip(), file=sys.stderr)
+        return 2
+    return check()
+
+
+sys.exit(main(sys.argv[1:]))
