@@ -163,9 +163,8 @@ def processors():
 def announce(crates):
     number = processors()
     about = max(CHAIN_MINUTES, PROCESSOR_MINUTES // number)
-    tell(f'proving and building the program, which is done once: {len(crates)} crates, about {about} minutes on {number} processors that have nothing else to do, '
-         f'and less where earlier runs on this machine proved some')
-    tell(f'what it says stands in {shown(LOG)}; what is proved is kept, also after an interrupt; UTD_UNPROVED=1 runs the program at once without its proofs')
+    tell(f'proving and building the program, once: {len(crates)} crates, about {about} minutes on {number} idle processors, less where some are proved already')
+    tell(f'the log is {shown(LOG)}; what is proved is kept, also after an interrupt; UTD_UNPROVED=1 runs the program without its proofs')
 
 
 def put(made, began):
@@ -234,6 +233,8 @@ def run_unproved(words):
         tell(f'the program gave no answer; {shown(LOG)} says why:')
         print('\n'.join(said.splitlines()[-8:]), file=sys.stderr)
         return NO_PROGRAM
+    # what the program itself said comes first
+    sys.stderr.write(re.split(r'^(?:interpreter|checked|races|run=|rt:)', said, maxsplit=1, flags=re.M)[0])
     return int(ended[1])
 
 

@@ -1,8 +1,8 @@
 """Holds the pages to the rows of crates/utd_rows: python3 tools/pages [--rows PAGE]
 
 Every script of README.md and of docs/, which is fenced as utd and has what it prints fenced behind it, and every examples/NAME.td with its NAME.out, has
-to stand among the rows that the gate runs, byte for byte; each row of README.md, docs/ and examples/ is still one of theirs; and every code of a
-refusal has a line that says what to do about it. Ends with status 1 where something differs, and names it.
+to stand among the rows that the gate runs, byte for byte. Every code of a refusal has a line that says what to do about it, docs/README.md names every
+page, and links lead somewhere. Ends with status 1 where something differs, and names it.
 
 With --rows PAGE it writes the rows of a page as crates/utd_rows/data/ has them, to be looked at and kept there.
 """
@@ -55,7 +55,7 @@ def rows_of(path):
 def wanted():
     """What has to stand among the rows: the place, the script and the output."""
     found = []
-    for page in ['README.md', *paths_of('docs/*.md')]:
+    for page in pages():
         found += [(f'{page}, under "{heading}"', script, output) for heading, script, output in scripts_of(page)]
     for example in paths_of('examples/*.td'):
         found.append((example, text_of(example), text_of(example[:-3] + '.out')))
@@ -81,9 +81,37 @@ def codes_without_advice():
     return [f'{LANGUAGE}: {code} has {"no line" if code in codes else "only a line"} that says what to do about it' for code in sorted(codes ^ advice)]
 
 
+def pages():
+    return ['README.md', *paths_of('*/*.md'), *paths_of('tools/*/*.md')]
+
+
+def unlisted():
+    """The pages of docs/ that its index does not name."""
+    index = text_of('docs/README.md')
+    names = [os.path.basename(page) for page in paths_of('docs/*.md')]
+    return [f'docs/README.md does not name {name}' for name in names if name != 'README.md' and f'`{name}`' not in index]
+
+
+def anchor_of(heading):
+    return re.sub(r'[^\w -]', '', heading.lower()).replace(' ', '-')
+
+
+def leading_nowhere():
+    """The links of the pages that name no file, or no heading of one."""
+    faults = []
+    for page in pages():
+        for link in re.findall(r'\]\(([^)\s]*)\)', text_of(page)):
+            path, _, anchor = link.partition('#')
+            to = os.path.normpath(f'{os.path.dirname(page)}/{path}') if path else page
+            is_there = os.path.exists(f'{ROOT}/{to}')
+            if not is_there or anchor and anchor not in [anchor_of(heading[1]) for heading in HEADING.finditer(text_of(to))]:
+                faults.append(f'{page}: the link {link} leads nowhere')
+    return faults
+
+
 def check():
     scripts = wanted()
-    faults = lacking(scripts) + codes_without_advice()
+    faults = lacking(scripts) + codes_without_advice() + unlisted() + leading_nowhere()
     for fault in faults:
         print(fault)
     if not faults:
