@@ -1,7 +1,7 @@
 """Holds the pages to the rows of crates/utd_rows: python3 tools/pages [--rows PAGE]
 
 Every script of README.md and of docs/, which is fenced as utd and has what it prints fenced behind it, and every examples/NAME.td with its NAME.out, has
-to stand among the rows that the gate runs, byte for byte. Every code of a refusal has a line that says what to do about it, docs/README.md names every
+to stand among the rows that the gate runs, byte for byte; crates/utd_rows runs every file of rows. Every code of a refusal has a line that says what to do about it, docs/README.md names every
 page, and links lead somewhere. Ends with status 1 where something differs, and names it.
 
 With --rows PAGE it writes the rows of a page as crates/utd_rows/data/ has them, to be looked at and kept there.
@@ -17,6 +17,7 @@ SCRIPT = re.compile(r'^```utd\n(.*?)^```\n(?:\nprints\n\n```\n(.*?)^```\n)?', re
 HEADING = re.compile(r'^#+ (.*)$', re.M)
 REFUSED = re.compile(r'^statement [0-9]+ refused: (E[0-9][0-9])', re.M)
 LANGUAGE = 'docs/language.md'
+ROWS = 'crates/utd_rows'
 
 
 def text_of(path):
@@ -62,14 +63,23 @@ def wanted():
     return found
 
 
+def unrun():
+    """The files of rows that the program does not run, and their number where it is not the one that is wanted of it."""
+    run = re.findall(r'^    "(.*)",$', text_of(f'{ROWS}/src/main.rt'), re.M)
+    paths = paths_of(f'{ROWS}/data/*.txt')
+    faults = [f'{path}: src/main.rt does not name it' for path in paths if os.path.basename(path) not in run]
+    number = f'{sum(len(rows_of(path)) for path in paths)} scripts agree\n'
+    return faults + ([] if text_of(f'{ROWS}/stdout') == number else [f'{ROWS}/stdout: there are {number}'.rstrip()])
+
+
 def lacking(scripts):
-    rows = {row for path in paths_of('crates/utd_rows/data/*.txt') for row in rows_of(path)}
+    rows = {row for path in paths_of(f'{ROWS}/data/*.txt') for row in rows_of(path)}
     faults = []
     for place, script, output in scripts:
         if output is None:
             faults.append(f'{place}: a script without what it prints')
         elif row_of('', script, output).split('\n', 1)[1] not in rows:
-            faults.append(f'{place}: this script with this output is no row of crates/utd_rows/data')
+            faults.append(f'{place}: this script with this output is no row of {ROWS}/data')
     return faults
 
 
@@ -111,7 +121,7 @@ def leading_nowhere():
 
 def check():
     scripts = wanted()
-    faults = lacking(scripts) + codes_without_advice() + unlisted() + leading_nowhere()
+    faults = unrun() + lacking(scripts) + codes_without_advice() + unlisted() + leading_nowhere()
     for fault in faults:
         print(fault)
     if not faults:
