@@ -1,8 +1,8 @@
 """Holds the pages to the rows of crates/utd_rows: python3 tools/pages [--rows PAGE]
 
-Every script of README.md and of docs/, which is fenced as utd and has what it prints fenced behind it, and every examples/NAME.td with its NAME.out, has
-to stand among the rows that the gate runs, byte for byte; crates/utd_rows runs every file of rows. Every code of a refusal has a line that says what to do about it, docs/README.md names every
-page, and links lead somewhere. Ends with status 1 where something differs, and names it.
+Every script of the pages, which is fenced as utd and has what it prints fenced behind it, and every examples/NAME.td with its NAME.out, has to stand
+among the rows that the gate runs, byte for byte; crates/utd_rows names every file of rows, and how many rows there are. Every code of a refusal has a line
+that says what to do about it, docs/README.md names every page of docs/, and links lead somewhere. Ends with status 1 where something differs, and names it.
 
 With --rows PAGE it writes the rows of a page as crates/utd_rows/data/ has them, to be looked at and kept there.
 """
