@@ -40,7 +40,7 @@ fn with_columns(
     }
 }
 
-/// What the labels of groups are made of, where one attribute is listed and sums of columns give them.
+/// What the labels of groups are made of, where one attribute is listed and figures of columns give them.
 pub(crate) fn figure_parts(
     alloc: Global,
     acl: &[usize],
