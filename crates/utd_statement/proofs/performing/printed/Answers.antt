@@ -12,3 +12,12 @@ returns-in_err-relation-clause-performed g c =
 
 pub returns-clause-performed : goal.returns-clause-performed
 returns-clause-performed g c = printed_text (read_relvars c.args.relvars.now) c.args.tree.now c.in_ok-relation.relation c.in_ok-table.field-0 c.in_ok-relation.ensures.value c.in_ok-table.ensures
+
+pub returns-in_err-relation-clause-cost : goal.returns-in_err-relation-clause-cost
+returns-in_err-relation-clause-cost g c = printed_cost (read_relvars c.args.relvars.now) (read_tree c.args.tree.now) _ _ c.in_err-relation.ensures.cost
+
+pub returns-in_err-table-clause-cost : goal.returns-in_err-table-clause-cost
+returns-in_err-table-clause-cost g c = printed_cost (read_relvars c.args.relvars.now) (read_tree c.args.tree.now) _ _ c.in_ok-relation.ensures.cost
+
+pub returns-clause-cost : goal.returns-clause-cost
+returns-clause-cost g c = printed_cost (read_relvars c.args.relvars.now) (read_tree c.args.tree.now) _ _ c.in_ok-relation.ensures.cost
