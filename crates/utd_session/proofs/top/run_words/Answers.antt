@@ -1,0 +1,15 @@
+use Rattle.std.proofs.Common.{ap}
+use Rattle.utd_session.specs.Status.{number_of}
+use Rattle.utd_session.proofs.GeneratedLemmas.{may_run_not, generates_not}
+use Rattle.utd_session.proofs.top.run_words.Goals as goal
+
+pub returns-in-Err-clause-machine : goal.returns-in-Err-clause-machine
+returns-in-Err-clause-machine g c of_input =
+    let nothing = c.without_memory in
+    let left = g.S.Source.left c.args.input.now in
+    may_run_not left left (g.K.Sink.written c.args.out.now) nothing.result.database (number_of nothing.result.status) (ap number_of nothing.ensures.status) nothing.ensures.empty
+
+pub returns-in-Err-clause-generated : goal.returns-in-Err-clause-generated
+returns-in-Err-clause-generated g c number generated =
+    let nothing = c.without_memory in
+    generates_not number (g.K.Sink.written c.args.out.now) nothing.result.database (number_of nothing.result.status) (ap number_of nothing.ensures.status) nothing.ensures.empty
