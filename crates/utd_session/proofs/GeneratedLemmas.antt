@@ -1,6 +1,5 @@
--- A run that wants memory before its first statement.
-use Rattle.std.proofs.Common.{◌≡◌, ◌⊎◌, inl, inr, ℕ, ◌-◌, ◌^◌, ◌<◌, ◌≤◌, List, [], refl, sym, ap, ◌∙◌, subst, arith, Option, Some, None, IfSome}
-use Rattle.utd_io.specs.Io.{Rose}
+-- A run that wants memory before its first statement: nothing was read, performed or paid.
+use Rattle.std.proofs.Common.{◌≡◌, ℕ, List, [], refl, arith, Option, Some, None, IfSome}
 use Rattle.utd_io.proofs.Gained.{Gains-none}
 use Rattle.utd_gen.specs.Script.{script_of}
 use Rattle.tree_core.specs.declared.relvar.Relvars.{Relvars as Database}
