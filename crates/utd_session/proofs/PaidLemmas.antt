@@ -6,16 +6,16 @@ use Rattle.tree_core.specs.Relvars.{State}
 use Rattle.tree_core.specs.declared.relvar.Relvars.{Relvars as Database}
 use Rattle.assign_core.specs.Databases.{no_relvars}
 use Rattle.utd_statement.specs.Readings.{Reading}
+use Rattle.utd_lexer.specs.declared.cutter.Cutter.{Cutter}
 use Rattle.utd_session.specs.declared.feeding.Session.{Session}
 use Rattle.utd_session.specs.declared.feeding.Ended.{Ended}
 use Rattle.utd_session.specs.declared.fault.SessionFault.{SessionFault}
 use Rattle.utd_session.specs.declared.fault.SessionFault.TheVariants.{Write, Memory}
-use Rattle.utd_session.specs.declared.script.Ran.{Ran}
 use Rattle.utd_session.specs.Statements.{Statement, Complete, cut, complete_statements, most_bytes, statements_within, EndsOne}
 use Rattle.utd_session.specs.Readings.{AreReadings}
 use Rattle.utd_session.specs.Databases.{state_of}
 use Rattle.utd_session.specs.Machine.{performed}
-use Rattle.utd_session.specs.Run.{WasRead, IsReadFor, EndsBehind, most_at_once}
+use Rattle.utd_session.specs.Run.{WasRead, IsReadFor, most_at_once}
 use Rattle.utd_session.specs.Feeding.{HasReading}
 use Rattle.utd_session.specs.Costs.{cost_of, cost_after, TakesAtMost, IsWithinCost, IsPaid}
 use Rattle.utd_session.specs.Sessions.{StandsFor, fed_of, state_in}
@@ -73,25 +73,25 @@ fed-within session cutter piece rest front behind bytes rs before mid paid steps
     let m = next_ended bytes i.done front behind rest piece i.split e one in
     by_why why
     (λ w.
-      let k = write w in
-      let r : Reading = k.0 in
-      let same : (rs ++ i.more) ++ r ∷ [] ≡ rs ++ (i.more ++ r ∷ []) = append_assoc rs i.more (r ∷ []) in
-      within_done ss (ended ++ s ∷ []) m.0 rs (i.more ++ r ∷ []) (state_of database) paid steps' m.1
-      (subst (AreReadings (ended ++ s ∷ [])) same (readings-push ended s (rs ++ i.more) r i.stands.read k.1))
-      (k.2 ∙ ap (λ q. (performed q).state) same)
-      (omega (arith, i.cost, takes-of s (performed (rs ++ i.more)).state steps steps' r takes k.1, cost_after-push rs i.more r)))
+    let k = write w in
+    let r : Reading = k.0 in
+    let same : (rs ++ i.more) ++ r ∷ [] ≡ rs ++ (i.more ++ r ∷ []) = append_assoc rs i.more (r ∷ []) in
+    within_done ss (ended ++ s ∷ []) m.0 rs (i.more ++ r ∷ []) (state_of database) paid steps' m.1
+    (subst (AreReadings (ended ++ s ∷ [])) same (readings-push ended s (rs ++ i.more) r i.stands.read k.1))
+    (k.2 ∙ ap (λ q. (performed q).state) same)
+    (omega (arith, i.cost, takes-of s (performed (rs ++ i.more)).state steps steps' r takes k.1, cost_after-push rs i.more r)))
     (λ w.
-      let left : state_of database ≡ (performed (rs ++ i.more)).state = memory w ∙ i.stands.state_is in
-      elim takes [
-        | inl none ↦ within_at_end session piece rest bytes i.done rs i.more (state_of database) paid steps' i.split i.stands.read left (omega (arith, i.cost, none))
-        | inr k ↦ (
+    let left : state_of database ≡ (performed (rs ++ i.more)).state = memory w ∙ i.stands.state_is in
+    elim takes [
+      | inl none ↦ within_at_end session piece rest bytes i.done rs i.more (state_of database) paid steps' i.split i.stands.read left (omega (arith, i.cost, none))
+      | inr k ↦ (
           let r : Reading = k.0 in
           let same : (rs ++ i.more) ++ r ∷ [] ≡ rs ++ (i.more ++ r ∷ []) = append_assoc rs i.more (r ∷ []) in
           within ss (ended ++ s ∷ []) m.0 rs i.more (r ∷ []) (state_of database) paid steps' m.1
           (subst (AreReadings (ended ++ s ∷ [])) same (readings-push ended s (rs ++ i.more) r i.stands.read k.1))
           (omega arith) left
           (omega (arith, i.cost, k.2, cost_after-push rs i.more r)))
-      ])
+    ])
 
 -- ---- what a run takes
 
@@ -141,7 +141,7 @@ paid_for_all all left before now us p h = omega (arith, p.cost, cost-first no_re
 -- the bytes that were read have the same first statements
 first_of_taken : (all : List ℕ) (n m : ℕ) → n ≤ length all → m ≤ length (complete_statements (take n all)) → take m (statements_within all) ≡ take m (statements_within (take n all))
 first_of_taken all n m fits few = by_le n most_bytes
-  (λ l.
+    (λ l.
     let bytes : List ℕ = take n all in
     let ended : List Statement = complete_statements bytes in
     let same : take n bytes ≡ bytes = take_all n bytes (omega (arith, length-take {A = ℕ} n all)) in
@@ -150,7 +150,7 @@ first_of_taken all n m fits few = by_le n most_bytes
     let here : take m (statements_within all) ≡ take m ended = ap (take m) w.1 ∙ take-append-le m ended w.0 few in
     let there : take m (statements_within bytes) ≡ take m ended = ap (take m) (v.1 ∙ ap (λ b. complete_statements b ++ v.0) same) ∙ take-append-le m ended v.0 few in
     here ∙ sym there)
-  (λ l.
+    (λ l.
     let longer : most_bytes < length (take n all) = omega (arith, length-take {A = ℕ} n all) in
     let same : take most_bytes (take n all) ≡ take most_bytes all = take-take most_bytes n all (omega arith) in
     ap (take m) (within_long all (omega arith) ∙ sym (within_long (take n all) longer ∙ ap complete_statements same)))

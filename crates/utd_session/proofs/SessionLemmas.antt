@@ -95,7 +95,7 @@ fed-more session next cutter cutter' piece rest front behind bytes rs before mid
       stands = subst (λ b. StandsFor next b (rs ++ (i.more ++ r ∷ []))) same (subst (λ q. StandsFor next ((bytes ++ i.done) ++ front) q) (append_assoc rs i.more (r ∷ [])) stands);
       gained = subst (λ t. Gains before t now) (sym out) (Gains-more before mid now _ _ i.gained gained);
       since = subst (Since cutter') (sym rest_is) since;
-      cost = omega (arith, i.cost, takes-of _ (performed (rs ++ i.more)).state steps steps' r takes is, cost_after-push rs i.more r);
+      cost = omega (arith, i.cost, takes-of (Complete (cut (bytes ++ i.done)).place ((cut (bytes ++ i.done)).rest ++ front)) (performed (rs ++ i.more)).state steps steps' r takes is, cost_after-push rs i.more r);
     }
 
 -- what the statements that end in more bytes begin with
