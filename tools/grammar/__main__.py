@@ -22,6 +22,7 @@ def write_all():
     split.split()
     importlib.import_module('rows')
     importlib.import_module('builder')
+    importlib.import_module('editors')
 
 
 def check():
@@ -32,7 +33,7 @@ def check():
         print(f'{path}: not what tools/grammar writes')
     if paths:
         return 1
-    print(f'{len(files.WRITTEN)} files are what tools/grammar writes')
+    print(f'{len(files.whole_texts())} files are what tools/grammar writes')
     return 0
 
 

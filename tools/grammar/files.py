@@ -3,13 +3,15 @@ import os
 import re
 
 HEAD = 'Written by tools/grammar; change it there.'
-COMMENT = {'.antt': '--', '.rt': '//'}
+COMMENT = {'.antt': '--', '.rt': '//', '.vim': '"'}
 WIDTH = 100
 # a call's arguments and an array's items stand on one line up to this width
 SHORT = 60
 
 # (crate, path in the crate) -> text, without the head line
 WRITTEN = {}
+# path from the repository's root, for what is of no crate -> text, without the head line
+APART = {}
 
 
 def text_of(name):
@@ -31,12 +33,15 @@ def writer(crate):
 
 
 def head_line(path):
-    return f'{COMMENT[os.path.splitext(path)[1]]} {HEAD}\n'
+    """The line that says that a file is written; JSON has no comments."""
+    kind = os.path.splitext(path)[1]
+    return f'{COMMENT[kind]} {HEAD}\n' if kind in COMMENT else ''
 
 
 def whole_texts():
     """Path from the repository's root -> text, head line included."""
-    return {f'crates/{crate}/{path}': head_line(path) + text for (crate, path), text in WRITTEN.items()}
+    texts = {f'crates/{crate}/{path}': text for (crate, path), text in WRITTEN.items()} | APART
+    return {path: head_line(path) + text for path, text in texts.items()}
 
 
 def put(root):

@@ -1,7 +1,8 @@
--- The sum over the rows of a group is that over the marks that stand for their labels.
+-- What is asked of the rows of a group is the same of the marks that stand for their labels.
 --     over      a sum over the rows of a list
 --     picked_sum      it is that over the marks
-use Rattle.std.proofs.Common.{◌≡◌, ℕ, zero, suc, ◌<◌, ◌≤◌, Bool, true, false, List, [], ◌∷◌, set, length, get_or, inl, inr, arith, sym, ap, subst, refl, ◌∙◌, ℤ, pos, ◌+ℤ◌}
+--     picked_best      and so is the number of a row that no other one beats
+use Rattle.std.proofs.Common.{◌≡◌, ℕ, zero, suc, ◌<◌, ◌≤◌, Bool, true, false, List, [], ◌∷◌, set, length, get_or, Some, inl, inr, arith, sym, ap, subst, refl, ◌∙◌, ℤ, pos, ◌+ℤ◌}
 use Rattle.std.proofs.lemmas.Bool.{true≢false}
 use Rattle.std.proofs.lemmas.Int.{ints}
 use Rattle.std.proofs.lemmas.List.{get_or-set_other, get_or-set_same, length-set}
@@ -11,7 +12,9 @@ use Rattle.slice_core.specs.Rows.{AreRows}
 use Rattle.box_core.specs.Tallies.{IsIn}
 use Rattle.box_core.specs.Totals.{sum_of}
 use Rattle.box_core.proofs.TallyLemmas.{equal_or}
+use Rattle.u_tallies.specs.Extremes.{best_marked}
 use Rattle.u_tallies.specs.Picked.{ArePicked}
+use Rattle.u_tallies.proofs.ExtremeLemmas.{best_is}
 use Rattle.box_core.proofs.TotalLemmas.{no_sum}
 
 abbrev pub over : (ℕ → ℤ) → List ℕ → ℤ
@@ -101,3 +104,14 @@ picked_sum by labels key a f p vs long same =
     matched_sum (λ r. get_or labels r []) vs a f (omega (arith, count, long))
     (record { apart = rows_apart (λ r. get_or labels r []) (length labels) 0 a p.order p.apart; once = p.once; to = p.to; from = p.from })
     (λ r s m h e. same r s m (subst (λ k. s < k) count (marked_below f s h)) e)
+
+-- where rows of one label have one value
+pub picked_best : (by : List ℕ) (labels : List Row) (key : Row) (a : List ℕ) (f : List Bool) → ArePicked by labels key a f → (beats : ℤ → ℤ → Bool) → ((v w : ℤ) → beats v w ≡ false → beats w v ≡ false → v ≡ w)
+    → (vs : List ℤ) → length vs ≡ length labels → ((r s : ℕ) → Among r a → s < length labels → get_or labels r [] ≡ get_or labels s [] → get_or vs r (pos 0) ≡ get_or vs s (pos 0))
+    → (z : ℤ) (r : ℕ) → Among r a → z ≡ get_or vs r (pos 0) → ((s : ℕ) → Among s a → beats (get_or vs s (pos 0)) z ≡ false) → best_marked beats vs f ≡ Some z
+picked_best by labels key a f p beats tie vs long same z r m e top =
+    let count = p.count in
+    let low : (s : ℕ) → IsIn f s → s < length labels = λ s h. subst (λ k. s < k) count (marked_below f s h) in
+    let w = p.to r m in
+    best_is beats tie vs f (omega (arith, count, long)) z w.0 w.1 (e ∙ same r w.0 m (low w.0 w.1) (sym w.2))
+    (λ s h. let q = p.from s h in ap (λ v. beats v z) (sym (same q.0 s q.1 (low s h) q.2)) ∙ top q.0 q.1)

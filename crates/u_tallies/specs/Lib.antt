@@ -1,4 +1,5 @@
 pub mod Picked
 pub mod Counts
 pub mod Entries
-pub mod Sums
+pub mod Extremes
+pub mod Figures

@@ -1,11 +1,13 @@
 -- Rows of one label have the same values in columns of expressions that name no listed attribute.
-use Rattle.std.proofs.Common.{◌≡◌, inl, inr, ℕ, ◌<◌, ℤ, pos, false, List, [], ◌∷◌, map, length, get_or, Ok, sym, ap, ◌∙◌, subst}
+use Rattle.std.proofs.Common.{◌≡◌, inl, inr, ℕ, ◌<◌, ℤ, pos, false, not, List, [], ◌∷◌, map, length, get_or, Ok, sym, ap, ◌∙◌, subst}
 use Rattle.std.specs.Bool.{IsTrue}
 use Rattle.std.specs.List.{list_all}
 use Rattle.std.proofs.lemmas.Bool.{and_parts}
 use Rattle.std.proofs.lemmas.List.{length-map, get_or-map}
+use Rattle.point_core.specs.Points.{line_of}
+use Rattle.point_core.specs.declared.any_type.AnyType.{AnyType}
 use Rattle.value_core.specs.Attributes.{value_at, among}
-use Rattle.value_core.specs.Values.{Value, truth, Row}
+use Rattle.value_core.specs.Values.{Value, truth, point, Row}
 use Rattle.scalar_core.specs.Expressions.{Expr}
 use Rattle.scalar_core.specs.Operations.{number_of}
 use Rattle.scalar_core.specs.ScalarValues.{value}
@@ -16,7 +18,8 @@ use Rattle.u_set.specs.Boxes.{others}
 use Rattle.u_set.proofs.BoxLemmas.{value_at-get}
 use Rattle.u_row.specs.Kept.{place_in_label}
 use Rattle.u_row.proofs.LabelLemmas.{value_in_label}
-use Rattle.using_groups.specs.Columns.{IsColumn, AreColumns, AreAlike}
+use Rattle.u_tallies.specs.Figures.{PlainColumn}
+use Rattle.using_groups.specs.Columns.{HasPoints, IsColumn, AreColumns, AreAlike}
 use Rattle.using_groups.proofs.AggregateLemmas.{is_not}
 use Rattle.scalar_core.proofs.SweepLemmas.{unnamed}
 
@@ -32,18 +35,22 @@ module _ (acl : List ℕ) (rows : List Row) where
   number_is : (e : Expr) (x y : Row) (v w : Value) → value e x ≡ Ok v → value e y ≡ Ok w → value e x ≡ value e y → number_of v ≡ number_of w
   number_is e x y v w a b same = let q : Ok v ≡ Ok w = sym a ∙ same ∙ b in let p : v ≡ w = cc in ap number_of p
 
-  column_alike : (form : PlainAggregateForm) → IsTrue (names_none acl form) → (c : List ℤ) → IsColumn rows form c → (r s : ℕ) → r < length rows → s < length rows → others acl (get_or rows r []) ≡ others acl (get_or rows s [])
+  points_alike : (x : Expr) → IsTrue (not (names_any acl x)) → (t : AnyType) (c : List ℤ) → HasPoints rows x t c → (r s : ℕ) → r < length rows → s < length rows → others acl (get_or rows r []) ≡ others acl (get_or rows s [])
       → get_or c r (pos 0) ≡ get_or c s (pos 0)
-  column_alike count_rows n c h r s k l e = h r k ∙ sym (h s l)
-  column_alike (sum_of x) n c h r s k l e =
+  points_alike x n t c h r s k l e =
       let u = h r k in
       let v = h s l in
       let same = unnamed acl (get_or rows s []) (get_or rows r []) x (values_same (get_or rows r []) (get_or rows s []) e) (is_not (names_any acl x) n) in
-      sym u.2 ∙ number_is x (get_or rows r []) (get_or rows s []) u.0 v.0 u.1 v.1 same ∙ v.2
-  column_alike (min_of x) n c h r s k l e = absurd h
-  column_alike (max_of x) n c h r s k l e = absurd h
+      number_is x (get_or rows r []) (get_or rows s []) (point (line_of t) (get_or c r (pos 0))) (point (line_of t) (get_or c s (pos 0))) u.0 v.0 same
 
-  pub columns_alike : (aggregates : List PlainAggregate) → IsTrue (list_all (λ a. names_none acl a.form) aggregates) → (cs : List (List ℤ)) → AreColumns rows aggregates cs → AreAlike (map (others acl) rows) cs
+  column_alike : (form : PlainAggregateForm) → IsTrue (names_none acl form) → (c : PlainColumn) → IsColumn rows form c → (r s : ℕ) → r < length rows → s < length rows → others acl (get_or rows r []) ≡ others acl (get_or rows s [])
+      → get_or c.2 r (pos 0) ≡ get_or c.2 s (pos 0)
+  column_alike count_rows n c h r s k l e = h.2 r k ∙ sym (h.2 s l)
+  column_alike (sum_of x) n c h r s k l e = points_alike x n c.1 c.2 h.2 r s k l e
+  column_alike (min_of x) n c h r s k l e = points_alike x n c.1 c.2 h.1 r s k l e
+  column_alike (max_of x) n c h r s k l e = points_alike x n c.1 c.2 h.1 r s k l e
+
+  pub columns_alike : (aggregates : List PlainAggregate) → IsTrue (list_all (λ a. names_none acl a.form) aggregates) → (cs : List PlainColumn) → AreColumns rows aggregates cs → AreAlike (map (others acl) rows) cs
   columns_alike [] n [] h c m = absurd m
   columns_alike [] n (d ∷ ds) h c m = absurd h
   columns_alike (g ∷ gs) n [] h c m = absurd h
@@ -52,7 +59,7 @@ module _ (acl : List ℕ) (rows : List Row) where
       let many = length-map rows (others acl) in
       elim m [
         | inl e ↦ λ r s k l q.
-            subst (λ b. get_or b r (pos 0) ≡ get_or b s (pos 0)) e
+            subst (λ (b : PlainColumn). get_or b.2 r (pos 0) ≡ get_or b.2 s (pos 0)) e
             (let i = subst (λ j. r < j) many k in
             let j = subst (λ j. s < j) many l in
             column_alike g.form w.0 d h.1 r s i j (sym (label_of r i) ∙ q ∙ label_of s j))

@@ -7,9 +7,9 @@ pub mod FirstLemmas
 pub mod PlaceGroups
 pub mod SummaryLemmas
 pub mod CallLemmas
-pub mod SumGroups
+pub mod FigureGroups
 pub mod ColumnLemmas
 pub mod AlikeColumns
-pub mod SumValueLemmas
+pub mod FigureValueLemmas
 pub mod SpotLemmas
 pub mod PartLemmas

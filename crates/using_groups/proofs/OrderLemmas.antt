@@ -81,7 +81,7 @@ module _ {X : Type 0} (cmp : X → X → Ordering) (o : IsTotalOrder cmp) (same 
 -- ---- extreme values
 
 -- the extreme value is one of them, and no other one beats it
-extreme_is : (beats : Value → Value → Bool) → IsStrictWeakOrder beats → (vs : List Value) (x : Value) → In x vs
+pub extreme_is : (beats : Value → Value → Bool) → IsStrictWeakOrder beats → (vs : List Value) (x : Value) → In x vs
     → In (extreme beats vs) vs × ((y : Value) → In y vs → beats y (extreme beats vs) ≡ false)
 extreme_is beats o [] x m = absurd m
 extreme_is beats o (v ∷ vs) x m =

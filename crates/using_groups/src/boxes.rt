@@ -16,12 +16,12 @@ ghost use Rattle.meaning_core.specs.Typing.{names_none};
 ghost use Rattle.u_set.specs.Boxes.{AreIntervals, types_at, boxed, others};
 ghost use Rattle.u_row.specs.Kept.{inner};
 ghost use Rattle.u_groups.specs.Groups.{HasGroupFault, IsGroupForm};
-ghost use Rattle.using_groups.specs.Columns.{AreSummable};
+ghost use Rattle.using_groups.specs.Columns.{AreFigured};
 ghost use Rattle.using_groups.specs.Labels.{group_label};
 
-use crate::parts::{SumParts, sum_parts};
+use crate::figures::FigureSummary;
+use crate::parts::{FigureParts, figure_parts};
 use crate::rule::Summary;
-use crate::sums::SumSummary;
 use cell_core::{BoxRow, CellRefuse};
 use point_core::{AnyType, Steps};
 use row_making::Making;
@@ -62,27 +62,27 @@ pub(crate) fn summary_form<L: Ledger>(
         (inner acl.now by.now) (map (boxed acl.now) r.now.rows) form × (most_rows < length form)) }
     ensures cost { steps.new ≤ steps.old + bound (length r.now.rows) (length acl.now) }
 {
-    match sum_parts(alloc, acl, to, at, by, aggregates, r)? {
-        Some(parts) => summed_form(alloc, acl, to, at, by, aggregates, parts, r, steps),
+    match figure_parts(alloc, acl, to, at, by, aggregates, r)? {
+        Some(parts) => figured_form(alloc, acl, to, at, by, aggregates, parts, r, steps),
         None => grouped_form(alloc, acl, to, at, by, aggregates, r, steps),
     }
 }
 
-// The same by sums of columns that are kept from cell to cell.
-fn summed_form<L: Ledger>(
+// The same by figures of columns that are kept from cell to cell.
+fn figured_form<L: Ledger>(
     alloc: Global,
     acl: &[usize],
     to: &[usize],
     at: &[usize],
     by: &[usize],
     aggregates: &[Aggregate],
-    parts: SumParts,
+    parts: FigureParts,
     r: &Relation,
     steps: &mut Steps<L>,
 ) -> Result<Vec<BoxRow<AnyType, Row>>, CellRefuse>
     requires intervals { AreIntervals r.now.heading acl.now }
     requires side { length acl.now ≡ 1 }
-    requires summable { AreSummable parts.places.items to.now at.now (inner acl.now by.now) (map read_aggregate aggregates.now)
+    requires figured { AreFigured parts.places.items to.now at.now (inner acl.now by.now) (map read_aggregate aggregates.now)
         r.now.rows (map (others acl.now) r.now.rows) parts.columns.items }
     ensures rows { IfOk result (λ v. IsGroupForm row_cmp (length acl.now) (group_label to.now at.now (map read_aggregate aggregates.now) r.now.rows)
         (inner acl.now by.now) (map (boxed acl.now) r.now.rows) (map (row_numbers number) v.items)) }
@@ -100,14 +100,14 @@ fn summed_form<L: Ledger>(
     let types = types_at(alloc, r.heading().attributes(), acl)?;
     let boxes = to_boxes(alloc, r, acl)?;
     let keys = inner(alloc, acl, by)?;
-    let SumParts { columns, places } = parts;
+    let FigureParts { columns, places } = parts;
     let making = Making {
         at,
         aggregates,
         rows: r.rows(),
     };
     let summary = Summary { making, to };
-    let labels = SumSummary { summary, places };
+    let labels = FigureSummary { summary, places };
     let rule = Columns {
         columns,
         rule: labels,

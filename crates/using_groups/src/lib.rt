@@ -3,10 +3,10 @@
 
 mod boxes;
 mod columns;
+mod figures;
 mod parts;
 mod rule;
 mod spots;
 mod summary;
-mod sums;
 
 pub use summary::using_summary;

@@ -1,4 +1,4 @@
-// What the labels of groups are made of where sums of columns give them.
+// What the labels of groups are made of where figures of columns give them.
 ghost use Rattle.std.specs.Prelude.{◌≡◌, ◌<◌, map, length, IfOk, IfSome, IsTrue};
 ghost use Rattle.std.specs.List.{list_all};
 ghost use Rattle.u_set.specs.Boxes.{others};
@@ -6,7 +6,7 @@ ghost use Rattle.tree_core.specs.Trees.{read_aggregate};
 ghost use Rattle.meaning_core.specs.Scalars.{AreSummedOver};
 ghost use Rattle.meaning_core.specs.Typing.{names_none};
 ghost use Rattle.u_row.specs.Kept.{inner};
-ghost use Rattle.using_groups.specs.Columns.{AreColumns, AreSummable};
+ghost use Rattle.using_groups.specs.Columns.{AreColumns, AreFigured};
 
 use crate::columns::columns;
 use crate::spots::label_spots;
@@ -16,10 +16,10 @@ use tree_core::Aggregate;
 use u_tallies::Column;
 use value_core::{Relation, Row};
 
-/// What aggregates count and sum, a row each, and where the values of a label stand among those of the aggregates and then those
-/// of its part.
+/// What aggregates count, sum and compare, a row each, and where the values of a label stand among those of the aggregates and then
+/// those of its part.
 #[derive(Drop)]
-pub(crate) struct SumParts {
+pub(crate) struct FigureParts {
     pub columns: Vec<Column>,
     pub places: Vec<usize>,
 }
@@ -30,18 +30,18 @@ fn with_columns(
     aggregates: &[Aggregate],
     rows: &[Row],
     places: Vec<usize>,
-) -> Result<Option<SumParts>, Memory>
+) -> Result<Option<FigureParts>, Memory>
     requires { AreSummedOver rows.now (map read_aggregate aggregates.now) }
     ensures { IfOk result (λ o. IfSome o (λ p. AreColumns rows.now (map read_aggregate aggregates.now) p.columns.items × (p.places.items ≡ places.items))) }
 {
     match columns(alloc, aggregates, rows)? {
-        Some(columns) => Ok(Some(SumParts { columns, places })),
+        Some(columns) => Ok(Some(FigureParts { columns, places })),
         None => Ok(None),
     }
 }
 
-/// What the labels of groups are made of, where one attribute is listed and sums of columns give them.
-pub(crate) fn sum_parts(
+/// What the labels of groups are made of, where one attribute is listed and figures of columns give them.
+pub(crate) fn figure_parts(
     alloc: Global,
     acl: &[usize],
     to: &[usize],
@@ -49,10 +49,10 @@ pub(crate) fn sum_parts(
     by: &[usize],
     aggregates: &[Aggregate],
     r: &Relation,
-) -> Result<Option<SumParts>, Memory>
+) -> Result<Option<FigureParts>, Memory>
     requires typed { AreSummedOver r.now.rows (map read_aggregate aggregates.now) }
     requires unnamed { IsTrue (list_all (λ a. names_none acl.now a.form) (map read_aggregate aggregates.now)) }
-    ensures { IfOk result (λ o. IfSome o (λ p. (length acl.now ≡ 1) × AreSummable p.places.items to.now at.now (inner acl.now by.now)
+    ensures { IfOk result (λ o. IfSome o (λ p. (length acl.now ≡ 1) × AreFigured p.places.items to.now at.now (inner acl.now by.now)
         (map read_aggregate aggregates.now) r.now.rows (map (others acl.now) r.now.rows) p.columns.items)) }
 {
     let rows = r.rows();

@@ -1,7 +1,8 @@
 // The program: makes the standard objects, passes the words, and ends with the status.
-ghost use Rattle.std.specs.Prelude.{◌≡◌, ◌↔◌, ◌⊎◌, ◌<◌, length};
+ghost use Rattle.std.specs.Prelude.{◌≡◌, ◌⊎◌, None, map, string_bytes};
 ghost use Rattle.std.specs.IoError.{error_kind};
 ghost use Rattle.std.specs.declared.io.ErrorKind.TheVariants.{OutOfMemory};
+ghost use Rattle.utd_words.specs.Words.{asked};
 ghost use Rattle.utd_session.specs.Status.{number_of};
 
 use point_core::Steps;
@@ -25,7 +26,9 @@ fn status<L: Ledger>(
     requires name { blank.name ≡ L.name }
     requires parts { blank.parts ≡ L.parts }
     requires one { blank.parts ≡ 1 }
-    ensures { (result ≡ number_of Status.BadUsage) ↔ (0 < length words.now) }
+    ensures refused { result ≡ number_of Status.BadUsage → asked (map string_bytes words.now) ≡ None }
+    ensures refuses { asked (map string_bytes words.now) ≡ None
+        → (result ≡ number_of Status.BadUsage) ⊎ (result ≡ number_of Status.NoMemory) }
 {
     let mut steps = Steps::<L>::new(blank);
     run(alloc, words, input, out, err, &mut steps).status

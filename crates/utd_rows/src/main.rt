@@ -10,7 +10,7 @@ use std::alloc::Global;
 use std::{fs, io};
 
 /// The files of data/, by subject.
-const FILES: [&str; 34] = [
+const FILES: [&str; 36] = [
     "ask.txt",
     "assign.txt",
     "compare.txt",
@@ -18,6 +18,7 @@ const FILES: [&str; 34] = [
     "drop.txt",
     "extend.txt",
     "fault.txt",
+    "from_sql.txt",
     "history.txt",
     "inside.txt",
     "item.txt",
@@ -31,6 +32,7 @@ const FILES: [&str; 34] = [
     "page.txt",
     "points.txt",
     "portion.txt",
+    "questions.txt",
     "relation.txt",
     "relvar.txt",
     "scalar.txt",

@@ -17,7 +17,7 @@ loop-i-preserved c =
     record {
       within = omega (arith, l);
       columns = columns_more rows c.args.aggregates.now c.loop-i.i c.index-aggregates-i.result c.loop-i.list.items c.push.new.self.items _ l c.index-aggregates-i.is c.loop-i.invariant.columns
-          (subst (λ o. IfSome o (λ k. (length k ≡ length rows) × IsColumn rows (read_aggregate_form c.index-aggregates-i.result.form) k)) c.in-Some.is c.in_ok-own.ensures) c.in_ok-push-in-Some.ensures.items;
+          (subst (λ o. IfSome o (λ k. (length k.2 ≡ length rows) × IsColumn rows (read_aggregate_form c.index-aggregates-i.result.form) k)) c.in-Some.is c.in_ok-own.ensures) c.in_ok-push-in-Some.ensures.items;
     }
 
 pub returns : goal.returns

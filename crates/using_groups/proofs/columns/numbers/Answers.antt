@@ -7,7 +7,7 @@ use Rattle.packing_core.proofs.Numbered.{other_default}
 use Rattle.value_core.specs.Values.{Row}
 use Rattle.scalar_core.specs.Expressions.{read}
 use Rattle.scalar_core.specs.Kinds.{IsTypedOver}
-use Rattle.using_groups.specs.Columns.{HasNumber}
+use Rattle.using_groups.specs.Columns.{HasPoint}
 use Rattle.using_groups.proofs.ColumnLemmas.{length_more, numbers_more}
 use Rattle.using_groups.proofs.columns.numbers.Goals as goal
 
@@ -24,13 +24,13 @@ loop-i-preserved c =
     let long = c.in_ok-push-in-Some.ensures.items in
     let count = c.loop-i.invariant.count in
     let n : ℤ = c.in-Some.n in
-    let own : HasNumber c.index-rows-i.result (read c.args.e.now) n = subst (λ o. IfSome o (λ m. HasNumber c.index-rows-i.result (read c.args.e.now) m)) c.in-Some.is c.in_ok-n.ensures in
+    let own : HasPoint c.index-rows-i.result (read c.args.e.now) c.args.of n = subst (λ o. IfSome o (λ m. HasPoint c.index-rows-i.result (read c.args.e.now) c.args.of m)) c.in-Some.is c.in_ok-n.ensures in
     let fits : SFits w64 n = search rules in
     record {
       within = omega (arith, l);
-      count = length_more c.loop-i.values.items c.push.new.self.items (to_z w64 (of_z w64 n)) i count long;
-      numbers = numbers_more i rows (read c.args.e.now) c.loop-i.values.items c.push.new.self.items c.index-rows-i.result (to_z w64 (of_z w64 n)) count c.loop-i.invariant.numbers
-          (c.index-rows-i.is ∙ other_default rows i c.index-rows-i.result [] l) (subst (HasNumber c.index-rows-i.result (read c.args.e.now)) (sym (to_z-of_z w64 n fits)) own) long;
+      count = length_more c.loop-i.numbers.items c.push.new.self.items (to_z w64 (of_z w64 n)) i count long;
+      points = numbers_more i rows (read c.args.e.now) c.args.of c.loop-i.numbers.items c.push.new.self.items c.index-rows-i.result (to_z w64 (of_z w64 n)) count c.loop-i.invariant.points
+          (c.index-rows-i.is ∙ other_default rows i c.index-rows-i.result [] l) (subst (HasPoint c.index-rows-i.result (read c.args.e.now) c.args.of) (sym (to_z-of_z w64 n fits)) own) long;
     }
 
 pub returns : goal.returns
@@ -38,4 +38,4 @@ returns c =
     let w = c.loop-i.invariant.within in
     let count = c.loop-i.invariant.count in
     let t = c.loop-i-test.false in
-    (omega (arith, w, t, count), λ r l. c.loop-i.invariant.numbers r (omega (arith, t, l)))
+    (omega (arith, w, t, count), λ r l. c.loop-i.invariant.points r (omega (arith, t, l)))

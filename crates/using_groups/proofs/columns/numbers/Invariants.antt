@@ -1,11 +1,11 @@
 use Rattle.std.proofs.Common.{◌≡◌, ◌≤◌, length}
 use Rattle.scalar_core.specs.Expressions.{read}
-use Rattle.using_groups.proofs.ColumnLemmas.{HasNumbersBelow}
+use Rattle.using_groups.proofs.ColumnLemmas.{HasPointsBelow}
 use Rattle.using_groups.proofs.columns.numbers.Given as goal
 
 abbrev pub invariant-loop-i : goal.invariant-loop-i
 invariant-loop-i l = record {
   within : l.i ≤ length l.rows;
-  count : length l.values.items ≡ l.i;
-  numbers : HasNumbersBelow l.i l.rows (read l.e) l.values.items;
+  count : length l.numbers.items ≡ l.i;
+  points : HasPointsBelow l.i l.rows (read l.e) l.of l.numbers.items;
 }

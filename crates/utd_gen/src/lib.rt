@@ -1,0 +1,6 @@
+//! The generated script: a script of any size whose answers are known.
+#![tactic(auto)]
+
+mod script;
+
+pub use script::script_of;

@@ -1,0 +1,7 @@
+//! The words of the command line, read with `clap`.
+#![tactic(auto)]
+
+mod command;
+mod words;
+
+pub use words::{Script, read_words};
