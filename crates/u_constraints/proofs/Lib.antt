@@ -10,5 +10,6 @@ pub mod PlacedKeyLemmas
 pub mod CounterpartLemmas
 pub mod AgreementLemmas
 pub mod UnpackedLemmas
+pub mod WholeKeyLemmas
 pub mod PackedLemmas
 pub mod IntervalLemmas

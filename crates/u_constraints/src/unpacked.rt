@@ -1,8 +1,9 @@
 // Keys of unpacked rows.
-ghost use Rattle.std.specs.Prelude.{◌≡◌, ◌+◌, ◌*◌, ◌<◌, ◌≤◌, ◌∷◌, [], ℕ, length, IfOk};
+ghost use Rattle.std.specs.Prelude.{◌≡◌, ◌+◌, ◌*◌, ◌<◌, ◌≤◌, ◌∷◌, [], ℕ, true, length, IfOk};
 ghost use Rattle.std.specs.List.{All};
 ghost use Rattle.std.specs.Result.{result_err};
 ghost use Rattle.point_core.specs.declared.fault.Code.TheVariants as codes;
+ghost use Rattle.value_core.specs.Attributes.{among};
 ghost use Rattle.value_core.specs.RowPacking.{unpacked};
 ghost use Rattle.cell_core.specs.Costs.{bound};
 ghost use Rattle.meaning_core.specs.Typing.{IsList};
@@ -17,7 +18,7 @@ use point_core::{Code, Memory, Steps};
 use std::alloc::Global;
 use std::sync::ledger::Ledger;
 use u_row::inner;
-use u_set::{to_boxes, types_at};
+use u_set::{is_listed, to_boxes, types_at};
 use value_core::Relation;
 
 /// Whether no two different unpacked rows have the same values at the key, by the rows' boxes. Something is unpacked.
@@ -47,7 +48,20 @@ fn is_key_by_boxes<L: Ledger>(
     )
 }
 
+// Whether all of so many positions are among these.
+fn are_all(positions: &[usize], many: usize) -> bool
+    ensures { result ≡ true → (i : ℕ) → i < many → among positions.now i ≡ true }
+{
+    for i in 0..many {
+        if !is_listed(positions, i) {
+            return false;
+        }
+    }
+    true
+}
+
 /// Whether no two different rows, unpacked on the listed attributes, have the same values at the key, which has all that are listed.
+/// A key of all attributes needs no look at the rows.
 pub(crate) fn is_unpacked_key<L: Ledger>(
     alloc: Global,
     r: &Relation,
@@ -63,6 +77,9 @@ pub(crate) fn is_unpacked_key<L: Ledger>(
 {
     if acl.is_empty() {
         return is_key(alloc, r, key);
+    }
+    if are_all(key, r.heading().attributes().len()) {
+        return Ok(true);
     }
     is_key_by_boxes(alloc, r, acl, key, steps)
 }

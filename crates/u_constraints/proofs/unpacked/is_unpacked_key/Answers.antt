@@ -1,0 +1,16 @@
+use Rattle.std.proofs.Common.{◌<◌, length, sym, ◌∙◌, subst}
+use Rattle.value_core.specs.Values.{Heading}
+use Rattle.relation_core.proofs.FilterLemmas.{rows_ascend}
+use Rattle.u_set.proofs.RelationLemmas.{relation_shaped}
+use Rattle.u_constraints.proofs.IntervalLemmas.{intervals_of_list}
+use Rattle.u_constraints.proofs.WholeKeyLemmas.{whole_key}
+use Rattle.u_constraints.proofs.unpacked.is_unpacked_key.Goals as goal
+
+pub returns-then-are_all-clause-answer : goal.returns-then-are_all-clause-answer
+returns-then-are_all-clause-answer g c =
+    let r = c.args.r.now in
+    let acl = c.args.acl.now in
+    let is = c.heading.ensures.relation in
+    let intervals = intervals_of_list r.heading acl c.requires.list in
+    whole_key r.heading acl intervals r.rows (rows_ascend r is) (relation_shaped r is acl intervals) c.args.key.now (λ i below.
+    c.are_all.ensures c.if-are_all.true i (subst (λ (h : Heading). i < length h) (sym (c.attributes.ensures.list ∙ c.heading.ensures.heading)) below))
