@@ -24,7 +24,7 @@ ROOT = os.path.dirname(os.path.dirname(os.path.dirname(os.path.abspath(__file__)
 LOG = f'{ROOT}/out/build.log'
 PROGRAM = f'{ROOT}/crates/utd/out/utd'
 # the price of the proofs from nothing, and of the longest chain of crates that wait for one another: docs/benchmarks.md
-PROCESSOR_MINUTES = 150
+PROCESSOR_MINUTES = 120
 CHAIN_MINUTES = 45
 NO_PROGRAM = 70
 INTERRUPTED = 130
