@@ -14,7 +14,7 @@ const MOST_BYTES: usize = 16_777_216;
 #[derive(Clone, Copy)]
 struct Example {
     script: &'static [u8],
-    word_count: usize,
+    words: &'static [&'static str],
     read_piece: usize,
     failing_read: u64,
     write_piece: usize,
@@ -27,7 +27,7 @@ struct Example {
 
 const PLAIN: Example = Example {
     script: b"",
-    word_count: 0,
+    words: &[],
     read_piece: 4096,
     failing_read: 0,
     write_piece: 4096,
@@ -38,7 +38,7 @@ const PLAIN: Example = Example {
     status: 0,
 };
 
-fn examples() -> [Example; 32] {
+fn examples() -> [Example; 34] {
     [
         Example {
             // an empty script
@@ -113,7 +113,7 @@ fn examples() -> [Example; 32] {
         Example {
             // a word
             script: PACK,
-            word_count: 1,
+            words: &["--help"],
             line: b"usage: utd [--generate N]\n",
             status: 2,
             ..PLAIN
@@ -121,9 +121,21 @@ fn examples() -> [Example; 32] {
         Example {
             // a line that fails
             script: PACK,
-            word_count: 1,
+            words: &["--help"],
             failing_line: 1,
             status: 2,
+            ..PLAIN
+        },
+        Example {
+            // the generated script, whatever the input has
+            script: PACK,
+            words: &["--generate", "3"],
+            output: b"| N |\n| 3 |\nrows: 1\n| N |\n| 7 |\nrows: 1\n| D      |\n| [0:10] |\nrows: 1\n",
+            ..PLAIN
+        },
+        Example {
+            words: &["--generate", "30000"],
+            output: b"| N     |\n| 30000 |\nrows: 1\n| N     |\n| 89998 |\nrows: 1\n| D         |\n| [0:90001] |\nrows: 1\n",
             ..PLAIN
         },
         Example {
@@ -292,8 +304,8 @@ fn examples_come_out(rt: HostRuntime) -> Result<(), Fail> {
     let alloc = rt.alloc();
     for (index, example) in examples().iter().enumerate() {
         let mut words: Vec<String> = Vec::new(alloc);
-        for _word in 0..example.word_count {
-            words.push(format!(in alloc; "--help")?)?;
+        for word in example.words {
+            words.push(format!(in alloc; "{}", word)?)?;
         }
         let mut input = MemorySource::new(
             example.script.to_vec(alloc)?,
