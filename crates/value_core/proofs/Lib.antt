@@ -1,4 +1,5 @@
 pub mod FitLemmas
 pub mod HeadingLemmas
 pub mod OrderLemmas
+pub mod PlacingLemmas
 pub mod RelationLemmas

@@ -54,7 +54,7 @@ module _ {X : Type 0} (cmp : X → X → Ordering) (o : IsTotalOrder cmp) where
             rw here (omega arith)
       ] refl
 
-  rising : (xs : List X) (x : X) → IsStrictlySortedBy cmp xs → IsNonDecreasingBy (λ y. ordering_index (cmp y x)) xs
+  pub rising : (xs : List X) (x : X) → IsStrictlySortedBy cmp xs → IsNonDecreasingBy (λ y. ordering_index (cmp y x)) xs
   rising xs x up i j d le within =
       elim (eq-or-lt_of_le le) [
         | inl e ↦ subst (λ m. ordering_index (cmp (get_or xs i d) x) ≤ ordering_index (cmp (get_or xs m d) x)) e (omega arith)
@@ -107,7 +107,7 @@ each_after : (x : Row) (ys : List Row) → AllAfter row_cmp x ys → AllByRecurs
 each_after x [] h = tt
 each_after x (y ∷ ys) h = (h.0, each_after x ys h.1)
 
-sorted_from_ascending : (xs : List Row) → Ascends row_cmp xs → IsStrictlySortedBy row_cmp xs
+pub sorted_from_ascending : (xs : List Row) → Ascends row_cmp xs → IsStrictlySortedBy row_cmp xs
 unfolding IsStrictlySortedBy
 sorted_from_ascending [] h = tt
 sorted_from_ascending (x ∷ xs) h = (each_after x xs h.0, sorted_from_ascending xs h.1)
