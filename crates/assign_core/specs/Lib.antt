@@ -4,4 +4,5 @@ pub mod Changes
 pub mod Checks
 pub mod Costs
 pub mod Databases
+pub mod Growth
 pub mod Parts

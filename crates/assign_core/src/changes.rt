@@ -58,6 +58,22 @@ pub(crate) fn newest_of<'a>(
     }
 }
 
+/// The value of a base relvar; none of a view.
+pub(crate) fn value_of(relvar: &Relvar) -> Option<&Relation>
+    ensures { option_map (λ v. v.now) result ≡ value_of (read_relvar relvar.now) }
+{
+    match relvar {
+        Relvar::Base {
+            value,
+            constraints: _,
+        } => Some(value),
+        Relvar::View {
+            tree: _,
+            history: _,
+        } => None,
+    }
+}
+
 /// The new value, or the old one where there is none.
 pub(crate) fn newer<'a>(change: &'a Option<Relation>, old: &'a Relation) -> &'a Relation
     ensures { result.now ≡ newest change.now old.now }

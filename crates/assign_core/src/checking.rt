@@ -192,8 +192,8 @@ fn named<'a>(new: After<'a>, constraint: &Constraint) -> Option<&'a Relation>
     }
 }
 
-// What is refused where a constraint of the relvar is broken, by its index; or want of memory.
-fn breach(alloc: Global, code: Code, name: &Name, at: usize) -> Refuse
+/// What is refused where a constraint of the relvar is broken, by its index; or want of memory.
+pub(crate) fn breach(alloc: Global, code: Code, name: &Name, at: usize) -> Refuse
     requires { at + 1 < 2 ^ 64 }
     ensures { Tells (Err result) (Some (Broken code name.now (at + 1))) }
 {

@@ -1,6 +1,5 @@
 // How many rows the base relvars have together.
 ghost use Rattle.std.specs.Prelude.{◌≡◌, ◌<◌, length, nat_le, slice_index_or};
-ghost use Rattle.value_core.specs.Limits.{most_rows_in_all};
 ghost use Rattle.value_core.specs.Values.{Name as PlainName};
 ghost use Rattle.tree_core.specs.Relvars.{read_relvars, PlainRelvar};
 ghost use Rattle.assign_core.specs.Breaches.{count_of, rows_of_all};
@@ -8,14 +7,14 @@ ghost use Rattle.assign_core.specs.Changes.{changed};
 
 use crate::changes::newest_at;
 use tree_core::Relvars;
-use value_core::{MOST_ROWS_IN_ALL, Relation};
+use value_core::Relation;
 
-/// Whether they have at most as many as may be, with the new values.
-pub(crate) fn are_few(relvars: &Relvars, changes: &[Option<Relation>]) -> bool
+/// Whether they have at most so many, with the new values.
+pub(crate) fn are_few(relvars: &Relvars, changes: &[Option<Relation>], most: usize) -> bool
     requires { length changes.now ≡ length relvars.now.list.entries }
-    ensures { result ≡ nat_le (rows_of_all (changed changes.now (read_relvars relvars.now).relvars)) most_rows_in_all }
+    ensures { result ≡ nat_le (rows_of_all (changed changes.now (read_relvars relvars.now).relvars)) most }
 {
-    let mut room = MOST_ROWS_IN_ALL;
+    let mut room = most;
     for at in 0..changes.len() {
         let count = count_at(relvars, changes, at);
         if count > room {

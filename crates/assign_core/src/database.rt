@@ -11,8 +11,8 @@ ghost use Rattle.assign_core.specs.Costs.{assignments_cost};
 ghost use Rattle.assign_core.specs.Databases.{no_relvars, declared, IsKept};
 
 use crate::appending::append_all;
-use crate::exchange::exchange_all;
-use crate::preparing::prepare;
+use crate::exchange::{exchange_all, gain};
+use crate::preparing::{Ready, prepare};
 use indexmap::IndexMap;
 use point_core::{Memory, Steps};
 use std::alloc::Global;
@@ -97,9 +97,16 @@ impl Database {
         ensures assigned { IsAssigned result (read_relvars self.old) (read_relvars self.new) (map read_assignment list.now) }
         ensures cost { steps.new ≤ steps.old + assignments_cost (read_relvars self.old).relvars (map read_assignment list.now) }
     {
-        let changes = prepare(self.alloc, list, &self.relvars, steps)?;
-        exchange_all(&mut self.relvars, changes);
-        Ok(())
+        match prepare(self.alloc, list, &self.relvars, steps)? {
+            Ready::Values(changes) => {
+                exchange_all(&mut self.relvars, changes);
+                Ok(())
+            }
+            Ready::Rows(at, rows) => {
+                gain(&mut self.relvars, at, rows)?;
+                Ok(())
+            }
+        }
     }
 
     /// Removes the relvar or view of this name. The others keep their order.

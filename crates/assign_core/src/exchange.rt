@@ -1,9 +1,11 @@
 // The exchange of values.
-ghost use Rattle.std.specs.Prelude.{◌≡◌, ◌<◌, length, map};
+ghost use Rattle.std.specs.Prelude.{◌≡◌, ◌<◌, length, map, OnOk, OnErr};
 ghost use Rattle.tree_core.specs.Relvars.{read_entry, read_relvar};
 ghost use Rattle.meaning_core.specs.Names.{with_value};
 ghost use Rattle.assign_core.specs.Changes.{changed, changed_at};
+ghost use Rattle.assign_core.specs.Growth.{gained, gained_at, IsGain, MayGain};
 
+use point_core::Memory;
 use tree_core::{Relvar, Relvars};
 use value_core::Relation;
 
@@ -45,5 +47,34 @@ fn put(relvar: &mut Relvar, new: Relation)
     } = relvar
     {
         drop(std::mem::replace(value, new));
+    }
+}
+
+/// Puts the rows among those of the base relvar at a place. For want of memory nothing changes.
+pub(crate) fn gain(relvars: &mut Relvars, at: usize, rows: Relation) -> Result<(), Memory>
+    requires { IsGain at rows (map read_entry relvars.old.list.entries) }
+    ensures list { OnOk result (map read_entry relvars.new.list.entries ≡ gained_at at rows.rows (map read_entry relvars.old.list.entries)) }
+    ensures err { OnErr result (map read_entry relvars.new.list.entries ≡ map read_entry relvars.old.list.entries) }
+    ensures ordinals { relvars.new.ordinals ≡ relvars.old.ordinals }
+{
+    let (_, relvar) = relvars.list.pair_mut(at);
+    take_in(relvar, rows)
+}
+
+// Puts the rows among those of a base relvar.
+fn take_in(relvar: &mut Relvar, rows: Relation) -> Result<(), Memory>
+    requires { MayGain rows (read_relvar relvar.old) }
+    ensures ok { OnOk result (read_relvar relvar.new ≡ gained rows.rows (read_relvar relvar.old)) }
+    ensures err { OnErr result (read_relvar relvar.new ≡ read_relvar relvar.old) }
+{
+    match relvar {
+        Relvar::Base {
+            value,
+            constraints: _,
+        } => value.insert(rows),
+        Relvar::View {
+            tree: _,
+            history: _,
+        } => Ok(drop(rows)),
     }
 }

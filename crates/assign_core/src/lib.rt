@@ -7,6 +7,8 @@ mod checking;
 mod counting;
 mod database;
 mod exchange;
+mod growth;
+mod insertion;
 mod preparing;
 mod sources;
 

@@ -10,19 +10,55 @@ ghost use Rattle.assign_core.specs.Changes.{AreChanges, changed};
 ghost use Rattle.assign_core.specs.Checks.{AllChecked};
 ghost use Rattle.assign_core.specs.Costs.{assignments_cost, constraints_cost};
 ghost use Rattle.assign_core.specs.Databases.{IsKept};
+ghost use Rattle.assign_core.specs.Growth.{with_ready, IsReady};
 
 use crate::changes::none_yet;
 use crate::checking::{After, check};
 use crate::counting::are_few;
+use crate::insertion::{insertion, prepare_rows};
 use crate::sources::evaluate;
 use point_core::{Code, Steps};
 use std::alloc::Global;
 use std::sync::ledger::Ledger;
 use tree_core::{Assignment, Relvars};
-use value_core::{Refuse, Relation};
+use value_core::{MOST_ROWS_IN_ALL, Refuse, Relation};
 
-/// The new values of all targets, or why the assignments are refused.
+/// What stands ready before anything changes: new values, one place for each relvar and view, or rows that come to the base relvar
+/// at a place.
+#[derive(Drop)]
+pub(crate) enum Ready {
+    Values(Vec<Option<Relation>>),
+    Rows(usize, Relation),
+}
+
+/// What stands ready for all targets, or why the assignments are refused. An insertion moves no row that is there already.
 pub(crate) fn prepare<L: Ledger>(
+    alloc: Global,
+    list: &[Assignment],
+    relvars: &Relvars,
+    steps: &mut Steps<L>,
+) -> Result<Ready, Refuse>
+    requires kept { IsKept (read_relvars relvars.now) }
+    requires typed { All (λ a. IsTypedAssignment (read_relvars relvars.now) (read_assignment a)) list.now }
+    ensures ready { IfOk result (λ r. IsReady r (read_relvars relvars.now).relvars) }
+    ensures meant { IfOk result (λ r. after_assignments (read_relvars relvars.now).relvars (map read_assignment list.now) ≡ Ok (with_ready r (read_relvars relvars.now).relvars)) }
+    ensures refused { IfErr result (λ refuse. IsRefusedFor refuse (after_assignments (read_relvars relvars.now).relvars (map read_assignment list.now))) }
+    ensures cost { steps.new ≤ steps.old + assignments_cost (read_relvars relvars.now).relvars (map read_assignment list.now) }
+{
+    match insertion(list) {
+        Some(insertion) => {
+            let (at, rows) = prepare_rows(alloc, insertion, relvars, steps)?;
+            Ok(Ready::Rows(at, rows))
+        }
+        None => {
+            let changes = prepare_values(alloc, list, relvars, steps)?;
+            Ok(Ready::Values(changes))
+        }
+    }
+}
+
+// The new values of all targets, or why the assignments are refused.
+fn prepare_values<L: Ledger>(
     alloc: Global,
     list: &[Assignment],
     relvars: &Relvars,
@@ -54,7 +90,7 @@ fn admit<L: Ledger>(
     ensures admitted { IsAdmitted result (changed changes.now (read_relvars relvars.now).relvars) }
     ensures cost { steps.new ≤ steps.old + constraints_cost (changed changes.now (read_relvars relvars.now).relvars) }
 {
-    if !are_few(relvars, changes) {
+    if !are_few(relvars, changes, MOST_ROWS_IN_ALL) {
         return Err(Refuse::Plain(Code::E46));
     }
     check(alloc, After { relvars, changes }, steps)

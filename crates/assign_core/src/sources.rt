@@ -74,8 +74,8 @@ fn evaluate_one<L: Ledger>(
     Ok(())
 }
 
-// The value of a source that sees the old relvars, the one of this name alone with its newest value.
-fn source<L: Ledger>(
+/// The value of a source that sees the old relvars, the one of this name alone with its newest value.
+pub(crate) fn source<L: Ledger>(
     alloc: Global,
     tree: &RelTree,
     name: &Name,

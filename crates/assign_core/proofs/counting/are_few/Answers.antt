@@ -1,5 +1,4 @@
 use Rattle.std.proofs.Common.{◌<◌, ◌≤◌, [], length, map, sym, ◌∙◌, arith}
-use Rattle.value_core.specs.Limits.{most_rows_in_all}
 use Rattle.value_core.specs.Values.{Name}
 use Rattle.tree_core.specs.Relvars.{PlainRelvar, read_entry}
 use Rattle.assign_core.specs.Changes.{changed}
@@ -21,7 +20,7 @@ returns-then-count-room c =
     let at : c.loop-at.at < length c.args.changes.now = omega arith in
     let within : c.loop-at.at < length es = omega (arith, long, before, same, at) in
     let more : c.loop-at.room < c.count_at-count.result = omega arith in
-    too_many es c.loop-at.at none c.loop-at.room c.count_at-count.result most_rows_in_all within c.loop-at.invariant (c.count_at-count.ensures none) more
+    too_many es c.loop-at.at none c.loop-at.room c.count_at-count.result c.args.most within c.loop-at.invariant (c.count_at-count.ensures none) more
 
 pub loop-at-preserved : goal.loop-at-preserved
 loop-at-preserved c =
@@ -33,7 +32,7 @@ loop-at-preserved c =
     let at : c.loop-at.at < length c.args.changes.now = omega arith in
     let within : c.loop-at.at < length es = omega (arith, long, before, same, at) in
     let less : c.count_at-count.result ≤ c.loop-at.room = omega arith in
-    next_room es c.loop-at.at none c.loop-at.room c.count_at-count.result most_rows_in_all within c.loop-at.invariant (c.count_at-count.ensures none) less
+    next_room es c.loop-at.at none c.loop-at.room c.count_at-count.result c.args.most within c.loop-at.invariant (c.count_at-count.ensures none) less
 
 pub returns : goal.returns
 returns c =
@@ -43,4 +42,4 @@ returns c =
     let before = entries_length raw in
     let same = c.requires in
     let end : length c.args.changes.now ≤ c.loop-at.at = omega arith in
-    few_enough es c.loop-at.at c.loop-at.room most_rows_in_all (omega (arith, long, before, same, end)) c.loop-at.invariant
+    few_enough es c.loop-at.at c.loop-at.room c.args.most (omega (arith, long, before, same, end)) c.loop-at.invariant

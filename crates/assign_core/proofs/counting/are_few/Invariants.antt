@@ -1,9 +1,8 @@
 use Rattle.std.proofs.Common.{◌≡◌, ◌+◌, take}
-use Rattle.value_core.specs.Limits.{most_rows_in_all}
 use Rattle.tree_core.specs.Relvars.{read_relvars}
 use Rattle.assign_core.specs.Breaches.{rows_of_all}
 use Rattle.assign_core.specs.Changes.{changed}
 use Rattle.assign_core.proofs.counting.are_few.Given as goal
 
 abbrev pub invariant-loop-at : goal.invariant-loop-at
-invariant-loop-at l = l.room + rows_of_all (take l.at (changed l.changes (read_relvars l.relvars).relvars)) ≡ most_rows_in_all
+invariant-loop-at l = l.room + rows_of_all (take l.at (changed l.changes (read_relvars l.relvars).relvars)) ≡ l.initial.most

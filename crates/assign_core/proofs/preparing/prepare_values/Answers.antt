@@ -9,7 +9,7 @@ use Rattle.assign_core.specs.Costs.{constraints_cost}
 use Rattle.assign_core.proofs.AssignedLemmas.{from_none, stopped, not_admitted, admitted, kept_checked}
 use Rattle.assign_core.proofs.ChangeLemmas.{none_are}
 use Rattle.assign_core.proofs.CostLemmas.{cost_from_none, cost_of_both}
-use Rattle.assign_core.proofs.preparing.prepare.Goals as goal
+use Rattle.assign_core.proofs.preparing.prepare_values.Goals as goal
 
 pub evaluate-requires-clause-changes : goal.evaluate-requires-clause-changes
 evaluate-requires-clause-changes g c =
