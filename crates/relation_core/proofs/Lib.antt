@@ -4,6 +4,7 @@ pub mod AttributeLemmas
 pub mod FaultLemmas
 pub mod FilterLemmas
 pub mod GroupLemmas
+pub mod GrowthLemmas
 pub mod HeadingLemmas
 pub mod JoinLemmas
 pub mod MergeLemmas

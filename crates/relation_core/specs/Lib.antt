@@ -2,6 +2,7 @@ pub mod Agreement
 pub mod Answers
 pub mod Faults
 pub mod Groups
+pub mod Growth
 pub mod Joins
 pub mod Keys
 pub mod Merged

@@ -58,7 +58,7 @@ fn agreeing(
 }
 
 /// The rows for which it is as wanted whether their part is among the keys.
-fn rows_by_keys(
+pub(crate) fn rows_by_keys(
     alloc: Global,
     r: &Relation,
     positions: &[usize],

@@ -5,6 +5,7 @@ mod agreement;
 mod answers;
 mod attributes;
 mod extension;
+mod growth;
 mod headings;
 mod joining;
 mod keys;
@@ -20,6 +21,7 @@ mod summary;
 
 pub use agreement::{matching, not_matching};
 pub use extension::extend;
+pub use growth::{absent, touched};
 pub use joining::join;
 pub use parts::{contains, part, sorted_parts};
 pub use projection::project;
