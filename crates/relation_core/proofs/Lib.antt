@@ -9,5 +9,6 @@ pub mod HeadingLemmas
 pub mod JoinLemmas
 pub mod MergeLemmas
 pub mod PairLemmas
+pub mod PartOrderLemmas
 pub mod RenamingLemmas
 pub mod RunLemmas

@@ -9,7 +9,7 @@ ghost use Rattle.relation_core.specs.Answers.{IsAnswer, IsRefusal};
 
 use crate::merging::keep;
 use crate::names::common_positions;
-use crate::parts::{contains, part, sorted_parts};
+use crate::parts::{contains_part, sorted_parts};
 use point_core::Memory;
 use std::alloc::Global;
 use value_core::{Relation, Row, RowsRefuse};
@@ -73,8 +73,7 @@ pub(crate) fn rows_by_keys(
     let given = r.rows();
     let mut rows = Vec::new(alloc);
     for row in given {
-        let key = part(alloc, row, positions)?;
-        let kept = as_wanted(wanted, contains(keys, &key));
+        let kept = as_wanted(wanted, contains_part(keys, row, positions));
         keep(alloc, &mut rows, row, kept)?;
     }
     Ok(rows)

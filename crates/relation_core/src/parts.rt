@@ -9,6 +9,7 @@ ghost use Rattle.relation_core.specs.Parts.{projected};
 
 use point_core::Memory;
 use std::alloc::Global;
+use std::cmp::Ordering;
 use value_core::{Relation, Row};
 
 /// The row's values at the positions.
@@ -57,4 +58,32 @@ pub fn contains(rows: &[Row], row: &Row) -> bool
     ensures { result ≡ has row_cmp rows.now row.now }
 {
     rows.binary_search(row).is_ok()
+}
+
+/// Whether the row's values at the positions are among the rows, which are in order.
+pub(crate) fn contains_part(rows: &[Row], row: &Row, positions: &[usize]) -> bool
+    requires sorted { IsStrictlySortedBy row_cmp rows.now }
+    requires within { All (λ (i : ℕ). i < length row.now) positions.now }
+    ensures { result ≡ has row_cmp rows.now (part_of positions.now row.now) }
+{
+    rows.binary_search_by(|key| compare_part(key, row, positions))
+        .is_ok()
+}
+
+/// How the key stands to the row's values at the positions.
+fn compare_part(key: &Row, row: &Row, positions: &[usize]) -> Ordering
+    requires { All (λ (i : ℕ). i < length row.now) positions.now }
+    ensures { result ≡ row_cmp key.now (part_of positions.now row.now) }
+{
+    let (left, right) = (key.values(), row.values());
+    for (at, position) in positions.iter().enumerate() {
+        if at == left.len() {
+            return Ordering::Less;
+        }
+        let order = left[at].cmp(&right[*position]);
+        if !order.is_eq() {
+            return order;
+        }
+    }
+    left.len().cmp(&positions.len())
 }

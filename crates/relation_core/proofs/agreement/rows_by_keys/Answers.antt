@@ -1,13 +1,13 @@
-use Rattle.std.proofs.Common.{◌<◌, List, length, arith, sym, ap, ◌∙◌, subst, IsTrue}
+use Rattle.std.proofs.Common.{◌<◌, List, length, arith, refl, sym, ap, ◌∙◌, subst, IsTrue}
 use Rattle.std.specs.List.{list_all}
 use Rattle.value_core.specs.Values.{Row, fits_heading}
-use Rattle.relation_core.specs.Agreement.{as_wanted}
+use Rattle.relation_core.specs.Agreement.{as_wanted, part_of}
 use Rattle.relation_core.proofs.AgreementLemmas.{length_of_fit, keys_more}
 use Rattle.relation_core.proofs.FilterLemmas.{passes_at}
 use Rattle.relation_core.proofs.agreement.rows_by_keys.Goals as goal
 
-pub part-requires : goal.part-requires
-part-requires c k d within =
+pub contains_part-requires-clause-within : goal.contains_part-requires-clause-within
+contains_part-requires-clause-within c k d within =
     let lt : c.loop-row.row-index < length c.rows-given.result.now = omega arith in
     let fits : IsTrue (fits_heading c.args.r.now.heading c.row-item.result) =
     subst (λ (z : Row). IsTrue (fits_heading c.args.r.now.heading z)) (sym c.row-item.is)
@@ -20,5 +20,5 @@ part-requires c k d within =
 pub loop-row-preserved : goal.loop-row-preserved
 loop-row-preserved c =
     let lt : c.loop-row.row-index < length c.rows-given.result.now = omega arith in
-    let kept = c.as_wanted-kept.ensures ∙ ap (as_wanted c.args.wanted) c.contains.ensures in
-    keys_more c.args.wanted c.args.keys.now c.args.positions.now c.rows-given.result.now c.loop-row.row-index c.row-item.result c.in_ok-key.key _ _ _ lt c.row-item.is c.in_ok-key.ensures kept c.loop-row.invariant c.in_ok-keep.ensures
+    let kept = c.as_wanted-kept.ensures ∙ ap (as_wanted c.args.wanted) c.contains_part.ensures in
+    keys_more c.args.wanted c.args.keys.now c.args.positions.now c.rows-given.result.now c.loop-row.row-index c.row-item.result (part_of c.args.positions.now c.row-item.result) _ _ _ lt c.row-item.is refl kept c.loop-row.invariant c.in_ok-keep.ensures
