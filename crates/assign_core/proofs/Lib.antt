@@ -5,6 +5,8 @@ pub mod CostLemmas
 pub mod CountLemmas
 pub mod DeclaredLemmas
 pub mod ExchangeLemmas
+pub mod GrowthLemmas
+pub mod InsertionLemmas
 pub mod NameLemmas
 pub mod RemovedLemmas
 pub mod SourceLemmas

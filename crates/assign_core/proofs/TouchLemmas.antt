@@ -71,7 +71,7 @@ none_broken : (code : Option Code) (name : Name) (n : ℕ) → option_map (λ z.
 none_broken None name n e = refl
 none_broken (Some z) name n e = absurd (cc)
 
-held_list : (all : Entries) (name : Name) (rows : List Row) (n : ℕ) (cs : List Constraint) → first_of all name rows n cs ≡ None → All (λ c. broken c rows (rows_named all c) ≡ None) cs
+pub held_list : (all : Entries) (name : Name) (rows : List Row) (n : ℕ) (cs : List Constraint) → first_of all name rows n cs ≡ None → All (λ c. broken c rows (rows_named all c) ≡ None) cs
 held_list all name rows n [] e = All-nil (λ c. broken c rows (rows_named all c) ≡ None)
 held_list all name rows n (c ∷ cs) e =
     let parts = neither (breach all name rows n c) (first_of all name rows (suc n) cs) e in

@@ -34,7 +34,7 @@ pub(crate) struct Insertion<'a> {
 }
 
 /// The insertion that the list consists of, where it is one.
-pub(crate) fn insertion(list: &[Assignment]) -> Option<Insertion<'_>>
+pub(crate) fn find_insertion(list: &[Assignment]) -> Option<Insertion<'_>>
     ensures alone { IfSome result (λ i. map read_assignment list.now ≡ read_assignment i.assignment.now ∷ []) }
     ensures is { IfSome result IsInsertion }
 {

@@ -15,7 +15,7 @@ ghost use Rattle.assign_core.specs.Growth.{with_ready, IsReady};
 use crate::changes::none_yet;
 use crate::checking::{After, check};
 use crate::counting::are_few;
-use crate::insertion::{insertion, prepare_rows};
+use crate::insertion::{find_insertion, prepare_rows};
 use crate::sources::evaluate;
 use point_core::{Code, Steps};
 use std::alloc::Global;
@@ -45,7 +45,7 @@ pub(crate) fn prepare<L: Ledger>(
     ensures refused { IfErr result (λ refuse. IsRefusedFor refuse (after_assignments (read_relvars relvars.now).relvars (map read_assignment list.now))) }
     ensures cost { steps.new ≤ steps.old + assignments_cost (read_relvars relvars.now).relvars (map read_assignment list.now) }
 {
-    match insertion(list) {
+    match find_insertion(list) {
         Some(insertion) => {
             let (at, rows) = prepare_rows(alloc, insertion, relvars, steps)?;
             Ok(Ready::Rows(at, rows))

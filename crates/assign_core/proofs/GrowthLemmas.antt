@@ -1,0 +1,220 @@
+-- Rows that come to one base relvar.
+--     united_new, long_new      what comes is what the relvar does not have
+--     gained_given      the relvars after the growth are those in which the target has the larger value
+--     entry_grown      what an entry is after the growth
+--     named_grown, named_apart      what a name stands for after the growth
+--     rows_grown      how many rows there are after the growth
+use Rattle.std.proofs.Common.{◌≡◌, ◌⊎◌, inl, inr, ℕ, zero, suc, ◌+◌, ◌<◌, ◌≤◌, Bool, true, false, cond, List, [], ◌∷◌, ◌++◌, map, length, refl, sym, ap, ap₂, subst, ◌∙◌, arith, true≢false, Option, Some, None, nat_eq, IsTrue}
+use Rattle.std.specs.Prelude.{slice_get, slice_index_or}
+use Rattle.std.specs.List.{IsDistinct, AllByRecursion}
+use Rattle.std.specs.Str.{bytes_eq}
+use Rattle.base_core.specs.Sets.{in_order, has, union_of, difference_of}
+use Rattle.base_core.proofs.SetLemmas.{In, Ascends, in_order_by_members}
+use Rattle.base_core.proofs.MemberLemmas.{In-append, has-In}
+use Rattle.base_core.proofs.SetOperatorLemmas.{In-difference_of, Ascends-difference_of}
+use Rattle.value_core.specs.declared.constraint.Constraint.{Constraint}
+use Rattle.value_core.specs.Values.{Name, Row, Relation, row_cmp, most_rows}
+use Rattle.value_core.specs.Order.{row_total, row_separates}
+use Rattle.relation_core.specs.Operators.{united, subtracted}
+use Rattle.relation_core.proofs.ApartLemmas.{Apart, length_apart, Apart-append, apart_ascending}
+use Rattle.tree_core.specs.declared.relvar.Relvar.{Relvar}
+use Rattle.indexmap.specs.IndexMap.{set_value_at}
+use Rattle.tree_core.specs.Trees.{Tree}
+use Rattle.tree_core.specs.Relvars.{PlainRelvar, base, view, Entries, relvar_named, read_entry, read_relvar}
+use Rattle.meaning_core.specs.Names.{IsFirstAt, given, with_value}
+use Rattle.meaning_core.proofs.MadeLemmas.{same_name, own_name}
+use Rattle.meaning_core.proofs.EntryLemmas.{named_first}
+use Rattle.assign_core.specs.Breaches.{count_of, rows_of_all, value_if, value_at, first_of, first_in}
+use Rattle.assign_core.specs.Costs.{looked_at, looked_at_in}
+use Rattle.assign_core.specs.Growth.{enlarged, gained, gained_at, grown, not_grown, names_grown, rows_after, IsGrowth, MayGain, IsGain}
+use Rattle.assign_core.specs.declared.growth.Growth.{Growth}
+use Rattle.assign_core.specs.Parts.{names_in}
+use Rattle.assign_core.proofs.NameLemmas.{turned}
+
+-- ---- what is new
+
+-- the rows that are new make the same union as all of them
+pub united_new : (value rows : List Row) → united value (subtracted rows value) ≡ united value rows
+united_new value rows = in_order_by_members row_cmp row_total row_separates (value ++ subtracted rows value) (value ++ rows) (λ x.
+    let here = In-append x value (subtracted rows value) in
+    let there = In-append x value rows in
+    let new = In-difference_of row_cmp row_total row_separates x rows value in
+    let known = has-In row_cmp row_total row_separates value x in
+    let by : (b : Bool) → has row_cmp value x ≡ b → In x rows → In x value ⊎ In x (subtracted rows value) =
+        λ b. elim b as (λ b. has row_cmp value x ≡ b → In x rows → In x value ⊎ In x (subtracted rows value)) [
+          | true ↦ λ e i. inl (known.0 e)
+          | false ↦ λ e i. inr (new.1 (i, λ j. true≢false (sym (known.1 j) ∙ e)))
+        ] in (
+      λ i. there.1 (elim (here.0 i) [ inl j ↦ inl j | inr j ↦ inr (new.0 j).0 ]),
+      λ i. here.1 (elim (there.0 i) [ inl j ↦ inl j | inr j ↦ by (has row_cmp value x) refl j ]),
+    ))
+
+-- and there are as many more
+pub long_new : (value rows : List Row) → Ascends row_cmp value → Ascends row_cmp rows
+    → length (united value (subtracted rows value)) ≡ length value + length (subtracted rows value)
+long_new value rows a b =
+    let new = subtracted rows value in
+    let apart = Apart-append row_cmp value new (apart_ascending row_cmp value a) (apart_ascending row_cmp new (Ascends-difference_of row_cmp row_total row_separates rows value b))
+        (λ x y i j e. ((In-difference_of row_cmp row_total row_separates y rows value).0 j).1 (subst (λ z. In z value) (row_separates x y e) i)) in
+    length_apart row_cmp (value ++ new) apart ∙ long value new
+  where
+    long : (xs ys : List Row) → length (xs ++ ys) ≡ length xs + length ys
+    long [] ys = refl
+    long (x ∷ xs) ys = ap suc (long xs ys)
+
+-- ---- entries
+
+apart_stays : (es : Entries) (own name : Name) (value : Relation) → bytes_eq own name ≡ true → AllByRecursion (λ n. bytes_eq own n ≡ false) (names_in es) → es ≡ given (Some name) (Some value) es
+apart_stays [] own name value e h = refl
+apart_stays (r ∷ es) own name value e h =
+    let other : bytes_eq r.0 name ≡ false = turned name r.0 (ap (λ (n : Name). bytes_eq n r.0) (sym (same_name own name e)) ∙ h.0) in
+    ap₂ (λ (x : PlainRelvar) (z : Entries). (r.0, x) ∷ z) (sym (ap (λ (b : Bool). cond b (with_value value r.1) r.1) other)) (apart_stays es own name value e h.1)
+
+-- the relvars after the growth are those in which the target has the larger value
+pub gained_given : (es : Entries) (name : Name) (i : ℕ) (value : Relation) (constraints : List Constraint) (rows : List Row) → IsDistinct bytes_eq (names_in es) → IsFirstAt es name i (base value constraints)
+    → gained_at i rows es ≡ given (Some name) (Some (enlarged value rows)) es
+unfolding IsDistinct
+gained_given [] name i value constraints rows d first = absurd first
+gained_given (e ∷ es) name zero value constraints rows d first =
+    ap₂ (λ (x : PlainRelvar) (z : Entries). (e.0, x) ∷ z)
+    (ap (gained rows) first.1 ∙ (sym (ap (with_value (enlarged value rows)) first.1) ∙ sym (ap (λ (b : Bool). cond b (with_value (enlarged value rows) e.1) e.1) first.0)))
+    (apart_stays es e.0 name (enlarged value rows) first.0 d.0)
+gained_given (e ∷ es) name (suc i) value constraints rows d first =
+    ap₂ (λ (x : PlainRelvar) (z : Entries). (e.0, x) ∷ z)
+    (sym (ap (λ (b : Bool). cond b (with_value (enlarged value rows) e.1) e.1) first.0)) (gained_given es name i value constraints rows d.1 first.1)
+
+-- what an entry is before it
+pub entry_left : (es : List (Name × Relvar)) (i : ℕ) (k : Name) (r : Relvar) (d : Name × PlainRelvar) → slice_get es i ≡ Some (k, r) → (k, read_relvar r) ≡ slice_index_or (map read_entry es) i d
+entry_left [] i k r d is = absurd (cc)
+entry_left (x ∷ es) zero k r d is = let same : (k, r) ≡ x = cc in ap read_entry same
+entry_left (x ∷ es) (suc i) k r d is = entry_left es i k r d is
+
+-- what an entry is after the growth
+pub entry_grown : (es : List (Name × Relvar)) (at i : ℕ) (rows : List Row) (k : Name) (r : Relvar) (d : Name × PlainRelvar) → slice_get es i ≡ Some (k, r)
+    → (k, cond (nat_eq i at) (gained rows (read_relvar r)) (read_relvar r)) ≡ slice_index_or (gained_at at rows (map read_entry es)) i d
+entry_grown [] at i rows k r d is = absurd (cc)
+entry_grown (x ∷ es) zero zero rows k r d is =
+    let same : (k, r) ≡ x = cc in
+    ap (λ (z : Name × Relvar). (z.0, gained rows (read_relvar z.1))) same
+entry_grown (x ∷ es) zero (suc i) rows k r d is = entry_left es i k r d is
+entry_grown (x ∷ es) (suc at) zero rows k r d is =
+    let same : (k, r) ≡ x = cc in
+    ap read_entry same
+entry_grown (x ∷ es) (suc at) (suc i) rows k r d is = entry_grown es at i rows k r d is
+
+-- the entry at the place is the first of its name there
+pub first_entry : (es : List (Name × Relvar)) (name : Name) (at : ℕ) (x : PlainRelvar) (k : Name) (r : Relvar) → IsFirstAt (map read_entry es) name at x → slice_get es at ≡ Some (k, r)
+    → read_relvar r ≡ x
+first_entry [] name at x k r first is = absurd first
+first_entry (e ∷ es) name zero x k r first is = let same : (k, r) ≡ e = cc in ap (λ (z : Name × Relvar). read_relvar z.1) same ∙ first.1
+first_entry (e ∷ es) name (suc at) x k r first is = first_entry es name at x k r first.1 is
+
+pub length_grown : (es : Entries) (i : ℕ) (rows : List Row) → length (gained_at i rows es) ≡ length es
+length_grown [] i rows = refl
+length_grown (x ∷ es) zero rows = refl
+length_grown (x ∷ es) (suc i) rows = ap suc (length_grown es i rows)
+
+-- ---- names
+
+-- the name of the relvar that grows
+pub named_grown : (es : Entries) (name other : Name) (i : ℕ) (value : Relation) (constraints : List Constraint) (rows : List Row) → IsFirstAt es name i (base value constraints) → bytes_eq name other ≡ true
+    → relvar_named (gained_at i rows es) other ≡ Some (base (enlarged value rows) constraints)
+named_grown [] name other i value constraints rows first e = absurd first
+named_grown (r ∷ es) name other zero value constraints rows first e =
+    let here : bytes_eq r.0 other ≡ true = ap (λ (n : Name). bytes_eq r.0 n) (sym (same_name name other e)) ∙ first.0 in
+    ap (λ (b : Bool). cond b (Some (gained rows r.1)) (relvar_named es other)) here ∙ ap (λ (x : PlainRelvar). Some (gained rows x)) first.1
+named_grown (r ∷ es) name other (suc i) value constraints rows first e =
+    let there : bytes_eq r.0 other ≡ false = ap (λ (n : Name). bytes_eq r.0 n) (sym (same_name name other e)) ∙ first.0 in
+    ap (λ (b : Bool). cond b (Some r.1) (relvar_named (gained_at i rows es) other)) there ∙ named_grown es name other i value constraints rows first.1 e
+
+-- another name
+pub named_apart : (es : Entries) (name other : Name) (i : ℕ) (x : PlainRelvar) (rows : List Row) → IsFirstAt es name i x → bytes_eq name other ≡ false
+    → relvar_named (gained_at i rows es) other ≡ relvar_named es other
+named_apart [] name other i x rows first e = refl
+named_apart (r ∷ es) name other zero x rows first e =
+    let there : bytes_eq r.0 other ≡ false = ap (λ (n : Name). bytes_eq n other) (same_name r.0 name first.0) ∙ e in
+    ap (λ (b : Bool). cond b (Some (gained rows r.1)) (relvar_named es other)) there ∙ sym (ap (λ (b : Bool). cond b (Some r.1) (relvar_named es other)) there)
+named_apart (r ∷ es) name other (suc i) x rows first e =
+    ap (λ (z : Option PlainRelvar). cond (bytes_eq r.0 other) (Some r.1) z) (named_apart es name other i x rows first.1 e)
+
+-- ---- how many rows
+
+pub rows_grown : (es : Entries) (name : Name) (i : ℕ) (value : Relation) (constraints : List Constraint) (rows : List Row) → IsFirstAt es name i (base value constraints)
+    → length (united value.rows rows) ≡ length value.rows + length rows → rows_of_all (gained_at i rows es) ≡ rows_of_all es + length rows
+rows_grown [] name i value constraints rows first long = absurd first
+rows_grown (r ∷ es) name zero value constraints rows first long =
+    let before : count_of r ≡ length value.rows = ap (λ (x : PlainRelvar). count_of (r.0, x)) first.1 in
+    let after : count_of (r.0, gained rows r.1) ≡ length (united value.rows rows) = ap (λ (x : PlainRelvar). count_of (r.0, gained rows x)) first.1 in
+    omega (arith, before, after, long)
+rows_grown (r ∷ es) name (suc i) value constraints rows first long =
+    let ih = rows_grown es name i value constraints rows first.1 long in
+    omega (arith, ih)
+
+-- ---- what is put there
+
+pub is_gain : (es : Entries) (name : Name) (i : ℕ) (value : Relation) (constraints : List Constraint) (rows : Relation) → IsFirstAt es name i (base value constraints) → rows.heading ≡ value.heading
+    → length (united value.rows rows.rows) ≤ most_rows → IsGain i rows es
+is_gain [] name i value constraints rows first headed few = absurd first
+is_gain (r ∷ es) name zero value constraints rows first headed few = subst (MayGain rows) (sym first.1) (headed, few)
+is_gain (r ∷ es) name (suc i) value constraints rows first headed few = is_gain es name i value constraints rows first.1 headed few
+
+pub may_gain : (es : List (Name × Relvar)) (i : ℕ) (rows : Relation) (k : Name) (r : Relvar) → IsGain i rows (map read_entry es) → slice_get es i ≡ Some (k, r) → MayGain rows (read_relvar r)
+may_gain [] i rows k r h is = absurd h
+may_gain (x ∷ es) zero rows k r h is = let same : x ≡ (k, r) = cc in subst (λ (z : Name × Relvar). MayGain rows (read_relvar z.1)) same h
+may_gain (x ∷ es) (suc i) rows k r h is = may_gain es i rows k r h is
+
+pub within_gain : (es : Entries) (i : ℕ) (rows : Relation) → IsGain i rows es → i < length es
+within_gain [] i rows h = absurd h
+within_gain (r ∷ es) zero rows h = omega arith
+within_gain (r ∷ es) (suc i) rows h = let ih = within_gain es i rows h in omega (arith, ih)
+
+-- ---- what is put in place
+
+pub set_gained : (es : List (Name × Relvar)) (i : ℕ) (w : Relvar) (rows : List Row) (k : Name) (r : Relvar) → slice_get es i ≡ Some (k, r) → read_relvar w ≡ gained rows (read_relvar r)
+    → map read_entry (set_value_at es i w) ≡ gained_at i rows (map read_entry es)
+set_gained [] i w rows k r is e = refl
+set_gained (x ∷ es) zero w rows k r is e =
+    let same : (k, r) ≡ x = cc in
+    ap (λ (z : PlainRelvar). (x.0, z) ∷ map read_entry es) (e ∙ ap (λ (z : Name × Relvar). gained rows (read_relvar z.1)) same)
+set_gained (x ∷ es) (suc i) w rows k r is e = ap (λ (z : Entries). read_entry x ∷ z) (set_gained es i w rows k r is e)
+
+pub set_same : (es : List (Name × Relvar)) (i : ℕ) (w : Relvar) (k : Name) (r : Relvar) → slice_get es i ≡ Some (k, r) → read_relvar w ≡ read_relvar r
+    → map read_entry (set_value_at es i w) ≡ map read_entry es
+set_same [] i w k r is e = refl
+set_same (x ∷ es) zero w k r is e =
+    let same : (k, r) ≡ x = cc in
+    ap (λ (z : PlainRelvar). (x.0, z) ∷ map read_entry es) (e ∙ ap (λ (z : Name × Relvar). read_relvar z.1) same)
+set_same (x ∷ es) (suc i) w k r is e = ap (λ (z : Entries). read_entry x ∷ z) (set_same es i w k r is e)
+
+-- ---- what a constraint names
+
+module _ (g : Growth) (growth : IsGrowth g) where
+  pub named_value : (n : Option Name) → names_grown g n ≡ true → value_at (not_grown g) n ≡ Some g.value.now
+  named_value None e = absurd (true≢false (sym e))
+  named_value (Some name) e =
+      ap (λ (k : Name). value_if (relvar_named (not_grown g) k)) (sym (same_name g.name.now name e))
+      ∙ ap value_if (named_first (not_grown g) g.name.now g.at (base g.value.now growth.constraints) growth.first)
+
+  pub grown_value : (n : Option Name) → names_grown g n ≡ true → value_at (grown g) n ≡ Some (enlarged g.value.now g.rows.now.rows)
+  grown_value None e = absurd (true≢false (sym e))
+  grown_value (Some name) e = ap value_if (named_grown (not_grown g) g.name.now name g.at g.value.now growth.constraints g.rows.now.rows growth.first e)
+
+  pub other_value : (n : Option Name) → names_grown g n ≡ false → value_at (grown g) n ≡ value_at (not_grown g) n
+  other_value None e = refl
+  other_value (Some name) e = ap value_if (named_apart (not_grown g) g.name.now name g.at (base g.value.now growth.constraints) g.rows.now.rows growth.first e)
+
+  -- ---- the constraints of a relvar
+
+  pub first_after : (own : Bool) (name : Name) (value : Relation) (constraints : List Constraint)
+      → first_of (grown g) name (rows_after g own value.rows) 1 constraints ≡ first_in (grown g) name (cond own (gained g.rows.now.rows (base value constraints)) (base value constraints))
+  first_after true name value constraints = refl
+  first_after false name value constraints = refl
+
+  pub looked_after : (own : Bool) (value : Relation) (constraints : List Constraint)
+      → looked_at (grown g) (rows_after g own value.rows) constraints ≡ looked_at_in (grown g) (cond own (gained g.rows.now.rows (base value constraints)) (base value constraints))
+  looked_after true value constraints = refl
+  looked_after false value constraints = refl
+
+  pub view_after : (own : Bool) (name : Name) (t : Tree) (history : Option (Name × Name)) → first_in (grown g) name (cond own (gained g.rows.now.rows (view t history)) (view t history)) ≡ None
+  view_after true name t history = refl
+  view_after false name t history = refl

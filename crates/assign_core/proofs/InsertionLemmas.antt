@@ -1,0 +1,92 @@
+-- What an insertion means: the target's rows and those of the operand, or the fault that comes in their place.
+--     insertion_told      its value, from that of its operand
+--     insertion_failed      the fault of its operand
+--     operand_cost      what its operand takes
+use Rattle.std.proofs.Common.{◌≡◌, ℕ, ◌+◌, ◌≤◌, List, [], ◌∷◌, length, refl, sym, ap, subst, ◌∙◌, arith, Option, Some, None, Ok, Err}
+use Rattle.base_core.specs.Outcomes.{then_give}
+use Rattle.point_core.specs.Faults.{OrFault}
+use Rattle.point_core.specs.declared.fault.Fault.{Fault}
+use Rattle.point_core.specs.declared.fault.Place.{Place}
+use Rattle.value_core.specs.declared.constraint.Constraint.{Constraint}
+use Rattle.value_core.specs.Values.{Name, Heading, Row, Relation, most_rows}
+use Rattle.relation_core.specs.Answers.{under}
+use Rattle.relation_core.specs.Operators.{united}
+use Rattle.relation_core.proofs.FilterLemmas.{take_all}
+use Rattle.tree_core.specs.Items.{PlainAssignment}
+use Rattle.tree_core.specs.Relvars.{PlainRelvar, base, Entries, relvar_named}
+use Rattle.tree_core.specs.Trees.{Tree, named, heading_of}
+use Rattle.tree_core.specs.declared.tree.InfixWord.TheVariants.{Union}
+use Rattle.meaning_core.specs.Meanings.{RowsMeant, Known, at_name, limited, meaning, meaning_in, plainly, relvar_meaning, known_in, closed, opened}
+use Rattle.meaning_core.specs.Names.{IsFirstAt, found, each_in, given, given_relvar, with_value}
+use Rattle.meaning_core.proofs.EntryLemmas.{found_first, given_first, named_first}
+use Rattle.meaning_core.proofs.LimitLemmas.{limited_few}
+use Rattle.meaning_core.proofs.LookupLemmas.{under_ok}
+use Rattle.meaning_core.proofs.MadeLemmas.{own_name}
+use Rattle.algebra_core.specs.Costs.{tree_cost, prices_in, cost_in, paid, known_of}
+use Rattle.algebra_core.proofs.CostLemmas.{known_each}
+use Rattle.assign_core.specs.Assignments.{seen_by, source_value}
+use Rattle.assign_core.specs.Breaches.{value_if}
+use Rattle.assign_core.specs.Costs.{source_cost}
+use Rattle.assign_core.specs.Growth.{insertion_of}
+
+module _ (es : Entries) (target : Name) (at : ℕ) (value : Relation) (constraints : List Constraint) (first : IsFirstAt es target at (base value constraints)) where
+  -- what the source sees
+  seen : Entries
+  seen = seen_by es es target
+
+  seen_is : seen ≡ given (Some target) (Some value) es
+  seen_is = ap (λ (o : Option PlainRelvar). given (Some target) (value_if o) es) (named_first es target at (base value constraints) first)
+
+  within : (xs : Entries) (name : Name) (i : ℕ) (x : PlainRelvar) → IsFirstAt xs name i x → i + 1 ≤ length xs
+  within [] name i x h = absurd h
+  within (y ∷ ys) name zero x h = omega arith
+  within (y ∷ ys) name (suc i) x h = let ih = within ys name i x h.1 in omega (arith, ih)
+
+  -- the target's name means the target's rows
+  target_meant : found (Ok []) (known_in seen) target ≡ Ok value.rows
+  target_meant =
+      let there = given (Some target) (Some value) es in
+      let x = given_relvar (Some target) (Some value) target (base value constraints) in
+      let stands : IsFirstAt there target at x = given_first (Some target) (Some value) es target at (base value constraints) first in
+      let in_all = within there target at x stands in
+      let whole = take_all (length there) there (omega arith) in
+      ap (λ (s : Entries). found (Ok []) (known_in s) target) seen_is
+      ∙ (ap (λ (s : Entries). found (Ok []) (each_in relvar_meaning s) target) (sym whole)
+      ∙ (found_first relvar_meaning (Ok []) there target at (length there) x stands (omega (arith, in_all))
+      ∙ own_value (own_name target)))
+    where
+      own_value : {known : Known} {b : _} → b ≡ true → relvar_meaning known (cond b (with_value value (base value constraints)) (base value constraints)) ≡ Ok value.rows
+      own_value e = rw e refl
+
+  module _ (place here : Place) (heading left : Heading) (operand : Tree) (few : length value.rows ≤ most_rows) where
+    a : PlainAssignment
+    a = insertion_of place heading here left target operand
+
+    name_meant : meaning (known_in seen) plainly (named here left target) ≡ Ok value.rows
+    name_meant = ap (λ (m : RowsMeant). then_give (at_name here m) (limited here)) target_meant ∙ limited_few here value.rows few
+
+    -- its value, from the rows of its operand
+    pub insertion_told : (rows : Relation) → under (heading_of operand) (meaning_in seen operand) ≡ Ok rows
+        → source_value es es a ≡ under heading (limited place (united value.rows rows.rows))
+    insertion_told rows told =
+        ap (λ (m : RowsMeant). under heading (then_give m (λ r. then_give (meaning (known_in seen) plainly operand) (λ s. limited place (united r s))))) name_meant
+        ∙ ap (λ (m : RowsMeant). under heading (then_give m (λ s. limited place (united value.rows s)))) (under_ok (heading_of operand) (meaning_in seen operand) rows told).0
+
+    -- the fault of its operand
+    pub insertion_failed : (f : Fault) → under (heading_of operand) (meaning_in seen operand) ≡ Err f → source_value es es a ≡ Err f
+    insertion_failed f told =
+        ap (λ (m : RowsMeant). under heading (then_give m (λ r. then_give (meaning (known_in seen) plainly operand) (λ s. limited place (united r s))))) name_meant
+        ∙ failed (meaning_in seen operand) told
+      where
+        failed : (m : RowsMeant) → under (heading_of operand) m ≡ Err f → under heading (then_give m (λ s. limited place (united value.rows s))) ≡ Err f
+        failed (Ok rows) e = absurd (cc)
+        failed (Err g) e = cc
+
+    -- what its operand takes
+    pub operand_cost : cost_in seen operand ≤ source_cost es es a
+    operand_cost =
+        let prices = prices_in seen in
+        let known : meaning (known_of prices) plainly (named here left target) ≡ Ok value.rows = ap (λ (k : Known). meaning k plainly (named here left target)) (known_each [] seen) ∙ name_meant in
+        let more : source_cost es es a ≡ tree_cost prices plainly (named here left target) + (tree_cost prices plainly operand + paid (meaning (known_of prices) plainly operand) (λ b. 0)) =
+            ap (λ (m : RowsMeant). tree_cost prices plainly (named here left target) + paid m (λ r. tree_cost prices plainly operand + paid (meaning (known_of prices) plainly operand) (λ b. 0))) known in
+        omega (arith, more)
