@@ -1,14 +1,13 @@
 -- How a key stands to a part of a row, from a place on.
-use Rattle.std.proofs.Common.{◌≡◌, ℕ, zero, suc, ◌+◌, ◌<◌, ◌≤◌, List, [], ◌∷◌, length, get_or, drop, map, refl, sym, ap, ap₂, ◌∙◌, arith, true, false, Ordering, Less, Equal, Greater}
+use Rattle.std.proofs.Common.{◌≡◌, ℕ, zero, suc, ◌<◌, ◌≤◌, List, [], ◌∷◌, length, drop, map, refl, ap, ap₂, ◌∙◌, arith, Ordering, Less, Equal, Greater}
 use Rattle.std.proofs.Math.Seq.{drop-cons}
-use Rattle.std.specs.Ordering.{ordering_then, nat_cmp, MatchOrdering}
+use Rattle.std.specs.Ordering.{nat_cmp, MatchOrdering}
 use Rattle.std.specs.Cmp.{nat_cmp_is}
-use Rattle.value_core.specs.Values.{Row, truth, value_cmp, row_cmp}
+use Rattle.value_core.specs.Values.{Row, row_cmp}
 use Rattle.value_core.specs.Plain.{plain}
 use Rattle.value_core.specs.declared.value.Value.{Value}
 use Rattle.relation_core.specs.Agreement.{part_of}
-use Rattle.relation_core.proofs.AgreementLemmas.{get_or-plain}
-use Rattle.relation_core.proofs.FilterLemmas.{head_of, ended}
+use Rattle.relation_core.proofs.FilterLemmas.{ended}
 
 -- how the key's values from the place on stand to the row's values at the positions from the place on
 abbrev pub rest_cmp : List Value → Row → List ℕ → ℕ → Ordering

@@ -1,4 +1,4 @@
-use Rattle.std.proofs.Common.{◌≡◌, List, sym, ap, ◌∙◌, subst, true}
+use Rattle.std.proofs.Common.{◌≡◌, sym, ap, ◌∙◌, subst, true}
 use Rattle.std.specs.List.{list_all}
 use Rattle.value_core.specs.Values.{Heading, Relation, fits_heading}
 use Rattle.relation_core.proofs.GrowthLemmas.{selection_fits, selection_few, selection_is}
