@@ -68,6 +68,24 @@ sides_bound (suc m) k old a h =
     let s : k * side_cost n + k * n ≡ 2 * k * n * (binary_digits (2 * n) + 3) = omega arith in
     omega arith
 
+-- a look at neighbours on one side, and then the numbering
+pub looked_bound : (n old mid new : ℕ) → mid ≤ old + 2 * n → new ≤ mid + 1 * side_cost n → new ≤ old + bound n 1
+looked_bound zero old mid new h g = let z : 1 * side_cost 0 ≡ 0 = omega arith in omega arith
+looked_bound (suc m) old mid new h g =
+    let n : ℕ = suc m in
+    let e : bound n 1 ≡ 2 * 1 * n * (binary_digits (2 * n) + 3) + (2 * n) ^ 1 = bound_of n 1 (omega arith) in
+    let z : (2 * n) ^ 0 ≡ 1 = pow-zero (2 * n) in
+    let p : (2 * n) ^ 1 ≡ 2 * n * (2 * n) ^ 0 = pow-succ' (2 * n) 0 in
+    let q : 2 * n * (2 * n) ^ 0 ≡ 2 * n * 1 = ap (λ x. 2 * n * x) z in
+    let s : 1 * side_cost n + n ≡ 2 * 1 * n * (binary_digits (2 * n) + 3) = omega arith in
+    omega arith
+
+pub look_bound : (n old new : ℕ) → new ≤ old + 2 * n → new ≤ old + bound n 1
+look_bound n old new h = looked_bound n old new new h (omega arith)
+
+pub form_bound : (n k old new : ℕ) → new ≤ old + k * side_cost n → new ≤ old + bound n k
+form_bound n k old new h = let w = sides_bound n k old new h in omega arith
+
 -- the numbering alone is within the whole bound
 pub numbering_bound : (a b m n k old new : ℕ) → a ≡ m → b ≡ n → new ≤ old + k * side_cost (a + b) → new ≤ old + bound (m + n) k
 numbering_bound a b m n k old new e f h =

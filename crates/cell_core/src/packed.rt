@@ -1,13 +1,14 @@
 // Whether labelled boxes are their packed form.
-ghost use Rattle.std.specs.Prelude.{◌≡◌, ◌+◌, ◌≤◌, ◌↔◌, map, length, IfOk, IsTrue};
+ghost use Rattle.std.specs.Prelude.{◌≡◌, ◌+◌, ◌≤◌, ◌*◌, ◌↔◌, map, length, IfOk, IsTrue};
 ghost use Rattle.std.specs.List.{All};
 ghost use Rattle.base_core.specs.Sets.{in_order};
 ghost use Rattle.packing_core.specs.Boxed.{boxed_cmp, packed_boxes};
 ghost use Rattle.slice_core.specs.Rows.{key_cmp};
 ghost use Rattle.cell_core.specs.Boxes.{IsBox};
 ghost use Rattle.cell_core.specs.Cells.{row_numbers};
-ghost use Rattle.cell_core.specs.Costs.{bound};
+ghost use Rattle.cell_core.specs.Costs.{bound, side_cost};
 
+use crate::apart::are_apart;
 use crate::boxes::BoxRow;
 use crate::keys::{numbered, push_keys};
 use point_core::{Label, Memory, PointType, Steps};
@@ -32,7 +33,33 @@ pub fn same_keys<P: Label>(a: &[Key<P>], b: &[Key<P>]) -> bool
     a.cmp(b).is_eq()
 }
 
+// Whether the rows, as a set, are their packed form, by making this.
+fn is_form<T: PointType, P: Label, L: Ledger>(
+    alloc: Global,
+    types: &[T],
+    rows: &[BoxRow<T, P>],
+    steps: &mut Steps<L>,
+) -> Result<bool, Memory>
+    requires rows { All (λ r. IsBox T.IsPoint types.now r.1) rows.now }
+    ensures answer { IfOk result (λ b. IsTrue b ↔ (in_order (boxed_cmp P.order) (map (row_numbers T.number_of)
+        rows.now) ≡ packed_boxes P.order (length types.now) (map (row_numbers T.number_of) rows.now))) }
+    ensures cost { steps.new ≤ steps.old + length types.now * side_cost (length rows.now) }
+{
+    let none: Vec<BoxRow<T, P>> = Vec::new(alloc);
+    let sides = numbered(alloc, types, rows, none.as_slice(), steps)?;
+    let mut own = Vec::new(alloc);
+    push_keys(alloc, &mut own, rows, 0, sides.as_slice())?;
+    let mut list = Vec::new(alloc);
+    push_keys(alloc, &mut list, rows, 0, sides.as_slice())?;
+    let form = pack_rows(alloc, types.len(), own)?;
+    let set = distinct_keys(list)?;
+    Ok(same_keys(set.as_slice(), form.as_slice()))
+}
+
 /// Whether the rows, as a set, are their packed form.
+///
+/// On one side it is first looked whether neighbours of one label are apart in the order in which the rows come. Then no
+/// packed form is made.
 pub fn is_packed<T: PointType, P: Label, L: Ledger>(
     alloc: Global,
     types: &[T],
@@ -44,13 +71,12 @@ pub fn is_packed<T: PointType, P: Label, L: Ledger>(
         rows.now) ≡ packed_boxes P.order (length types.now) (map (row_numbers T.number_of) rows.now))) }
     ensures cost { steps.new ≤ steps.old + bound (length rows.now) (length types.now) }
 {
-    let none: Vec<BoxRow<T, P>> = Vec::new(alloc);
-    let sides = numbered(alloc, types, rows, none.as_slice(), steps)?;
-    let mut own = Vec::new(alloc);
-    push_keys(alloc, &mut own, rows, 0, sides.as_slice())?;
-    let mut list = Vec::new(alloc);
-    push_keys(alloc, &mut list, rows, 0, sides.as_slice())?;
-    let form = pack_rows(alloc, types.len(), own)?;
-    let set = distinct_keys(list)?;
-    Ok(same_keys(set.as_slice(), form.as_slice()))
+    if types.len() != 1 {
+        return is_form(alloc, types, rows, steps);
+    }
+    let apart = are_apart(alloc, &types[0], rows, steps)?;
+    if apart {
+        return Ok(true);
+    }
+    is_form(alloc, types, rows, steps)
 }
