@@ -80,12 +80,6 @@ looked_bound (suc m) old mid new h g =
     let s : 1 * side_cost n + n ≡ 2 * 1 * n * (binary_digits (2 * n) + 3) = omega arith in
     omega arith
 
-pub look_bound : (n old new : ℕ) → new ≤ old + 2 * n → new ≤ old + bound n 1
-look_bound n old new h = looked_bound n old new new h (omega arith)
-
-pub form_bound : (n k old new : ℕ) → new ≤ old + k * side_cost n → new ≤ old + bound n k
-form_bound n k old new h = let w = sides_bound n k old new h in omega arith
-
 -- the numbering alone is within the whole bound
 pub numbering_bound : (a b m n k old new : ℕ) → a ≡ m → b ≡ n → new ≤ old + k * side_cost (a + b) → new ≤ old + bound (m + n) k
 numbering_bound a b m n k old new e f h =

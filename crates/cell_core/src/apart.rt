@@ -132,7 +132,7 @@ fn stand_apart<T: PointType, P: Label, L: Ledger>(
 
 // Whether the rows on one side, by label and else as they stand, are each beyond the one before it; then they are their
 // packed form.
-pub fn are_apart<T: PointType, P: Label, L: Ledger>(
+pub(crate) fn are_apart<T: PointType, P: Label, L: Ledger>(
     alloc: Global,
     t: &T,
     rows: &[BoxRow<T, P>],
