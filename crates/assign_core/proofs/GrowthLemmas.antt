@@ -11,7 +11,7 @@ use Rattle.std.specs.Str.{bytes_eq}
 use Rattle.base_core.specs.Sets.{in_order, has, union_of, difference_of}
 use Rattle.base_core.proofs.SetLemmas.{In, Ascends, in_order_by_members}
 use Rattle.base_core.proofs.MemberLemmas.{In-append, has-In}
-use Rattle.base_core.proofs.SetOperatorLemmas.{In-difference_of, Ascends-difference_of}
+use Rattle.base_core.proofs.SetOperatorLemmas.{In-difference_of}
 use Rattle.value_core.specs.declared.constraint.Constraint.{Constraint}
 use Rattle.value_core.specs.Values.{Name, Row, Relation, row_cmp, most_rows}
 use Rattle.value_core.specs.Order.{row_total, row_separates}
@@ -50,12 +50,10 @@ united_new value rows = in_order_by_members row_cmp row_total row_separates (val
     ))
 
 -- and there are as many more
-pub long_new : (value rows : List Row) → Ascends row_cmp value → Ascends row_cmp rows
-    → length (united value (subtracted rows value)) ≡ length value + length (subtracted rows value)
-long_new value rows a b =
-    let new = subtracted rows value in
-    let apart = Apart-append row_cmp value new (apart_ascending row_cmp value a) (apart_ascending row_cmp new (Ascends-difference_of row_cmp row_total row_separates rows value b))
-        (λ x y i j e. ((In-difference_of row_cmp row_total row_separates y rows value).0 j).1 (subst (λ z. In z value) (row_separates x y e) i)) in
+pub long_new : (value rows new : List Row) → Ascends row_cmp value → Ascends row_cmp new → new ≡ subtracted rows value → length (united value new) ≡ length value + length new
+long_new value rows new a b is =
+    let apart = Apart-append row_cmp value new (apart_ascending row_cmp value a) (apart_ascending row_cmp new b) (λ x y i j e.
+        ((In-difference_of row_cmp row_total row_separates y rows value).0 (subst (λ zs. In y zs) is j)).1 (subst (λ z. In z value) (row_separates x y e) i)) in
     length_apart row_cmp (value ++ new) apart ∙ long value new
   where
     long : (xs ys : List Row) → length (xs ++ ys) ≡ length xs + length ys

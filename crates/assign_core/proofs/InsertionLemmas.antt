@@ -1,16 +1,25 @@
 -- What an insertion means: the target's rows and those of the operand, or the fault that comes in their place.
 --     insertion_told      its value, from that of its operand
 --     insertion_failed      the fault of its operand
---     operand_cost      what its operand takes
-use Rattle.std.proofs.Common.{◌≡◌, ℕ, ◌+◌, ◌≤◌, List, [], ◌∷◌, length, refl, sym, ap, subst, ◌∙◌, arith, Option, Some, None, Ok, Err}
+--     operand_cost, sources_cost_operand      what its operand takes
+--     insertion_ready, insertion_over, insertion_stopped      what is made of it, and why it is refused
+use Rattle.std.proofs.Common.{◌≡◌, ℕ, zero, suc, cond, ◌+◌, ◌<◌, ◌≤◌, List, [], ◌∷◌, length, refl, sym, ap, subst, ◌∙◌, arith, Option, Some, None, Ok, Err}
+use Rattle.std.proofs.lemmas.Bool.Decides.{nat_tests}
+use Rattle.std.specs.List.{IsDistinct}
+use Rattle.std.specs.Str.{bytes_eq}
 use Rattle.base_core.specs.Outcomes.{then_give}
-use Rattle.point_core.specs.Faults.{OrFault}
+use Rattle.point_core.specs.Faults.{OrFault, fault}
+use Rattle.point_core.specs.declared.fault.Code.TheVariants.{E35}
 use Rattle.point_core.specs.declared.fault.Fault.{Fault}
 use Rattle.point_core.specs.declared.fault.Place.{Place}
+use Rattle.point_core.specs.declared.fault.Stop.{Stop}
+use Rattle.point_core.specs.declared.fault.Stop.TheVariants.{Fault as Faulted, Memory as OfMemory}
 use Rattle.value_core.specs.declared.constraint.Constraint.{Constraint}
 use Rattle.value_core.specs.Values.{Name, Heading, Row, Relation, most_rows}
-use Rattle.relation_core.specs.Answers.{under}
-use Rattle.relation_core.specs.Operators.{united}
+use Rattle.value_core.specs.declared.refuse.Refuse.TheVariants.{At}
+use Rattle.value_core.specs.Refusals.{refusal_of}
+use Rattle.relation_core.specs.Answers.{Answers, under}
+use Rattle.relation_core.specs.Operators.{united, subtracted}
 use Rattle.relation_core.proofs.FilterLemmas.{take_all}
 use Rattle.tree_core.specs.Items.{PlainAssignment}
 use Rattle.tree_core.specs.Relvars.{PlainRelvar, base, Entries, relvar_named}
@@ -24,10 +33,13 @@ use Rattle.meaning_core.proofs.LookupLemmas.{under_ok}
 use Rattle.meaning_core.proofs.MadeLemmas.{own_name}
 use Rattle.algebra_core.specs.Costs.{tree_cost, prices_in, cost_in, paid, known_of}
 use Rattle.algebra_core.proofs.CostLemmas.{known_each}
-use Rattle.assign_core.specs.Assignments.{seen_by, source_value}
+use Rattle.assign_core.specs.Assignments.{seen_by, source_value, with_target, evaluated, of_values, after_assignments, IsRefusedFor}
 use Rattle.assign_core.specs.Breaches.{value_if}
-use Rattle.assign_core.specs.Costs.{source_cost}
-use Rattle.assign_core.specs.Growth.{insertion_of}
+use Rattle.assign_core.specs.Costs.{source_cost, sources_cost}
+use Rattle.assign_core.specs.Growth.{enlarged, gained_at, insertion_of}
+use Rattle.assign_core.specs.Parts.{names_in}
+use Rattle.assign_core.proofs.GrowthLemmas.{united_new, gained_given}
+use Rattle.assign_core.proofs.SourceLemmas.{one_given}
 
 module _ (es : Entries) (target : Name) (at : ℕ) (value : Relation) (constraints : List Constraint) (first : IsFirstAt es target at (base value constraints)) where
   -- what the source sees
@@ -90,3 +102,43 @@ module _ (es : Entries) (target : Name) (at : ℕ) (value : Relation) (constrain
         let more : source_cost es es a ≡ tree_cost prices plainly (named here left target) + (tree_cost prices plainly operand + paid (meaning (known_of prices) plainly operand) (λ b. 0)) =
             ap (λ (m : RowsMeant). tree_cost prices plainly (named here left target) + paid m (λ r. tree_cost prices plainly operand + paid (meaning (known_of prices) plainly operand) (λ b. 0))) known in
         omega (arith, more)
+
+    -- ---- what is made of it
+
+    -- the target gains the rows that are new, where they are not too many
+    pub insertion_ready : (operand_value rows : Relation) → heading ≡ value.heading → under (heading_of operand) (meaning_in seen operand) ≡ Ok operand_value
+        → rows.rows ≡ subtracted operand_value.rows value.rows → length (united value.rows rows.rows) ≤ most_rows → IsDistinct bytes_eq (names_in es)
+        → evaluated es es (a ∷ []) ≡ Ok (gained_at at rows.rows es)
+    insertion_ready operand_value rows headed told new fits different =
+        let larger = enlarged value rows.rows in
+        let united_is : united value.rows rows.rows ≡ united value.rows operand_value.rows = ap (united value.rows) new ∙ united_new value.rows operand_value.rows in
+        let meant : source_value es es a ≡ Ok larger =
+            insertion_told operand_value told
+            ∙ (ap (λ (rs : List Row). under heading (limited place rs)) (sym united_is)
+            ∙ (ap (under heading) (limited_few place (united value.rows rows.rows) fits)
+            ∙ ap (λ (h : Heading). Ok (record { heading = h; rows = united value.rows rows.rows })) headed)) in
+        one_given es es (gained_at at rows.rows es) a larger meant (gained_given es target at value constraints rows.rows different first)
+
+    -- and is refused where they are
+    pub insertion_over : (operand_value rows : Relation) → under (heading_of operand) (meaning_in seen operand) ≡ Ok operand_value
+        → rows.rows ≡ subtracted operand_value.rows value.rows → most_rows < length (united value.rows rows.rows)
+        → after_assignments es (a ∷ []) ≡ Err (At (fault place E35))
+    insertion_over operand_value rows told new over =
+        let united_is : united value.rows rows.rows ≡ united value.rows operand_value.rows = ap (united value.rows) new ∙ united_new value.rows operand_value.rows in
+        let many : limited place (united value.rows rows.rows) ≡ Err (fault place E35) = limited_many (united value.rows rows.rows) over in
+        let meant : source_value es es a ≡ Err (fault place E35) =
+            insertion_told operand_value told
+            ∙ (ap (λ (rs : List Row). under heading (limited place rs)) (sym united_is)
+            ∙ ap (under heading) many) in
+        ap (λ (r : OrFault Relation). of_values (then_give r (λ v. evaluated es (with_target es target v) []))) meant
+      where
+        limited_many : (rows : List Row) → most_rows < length rows → limited place rows ≡ Err (fault place E35)
+        limited_many rows h = grind (arith, nat_tests)
+
+    -- why its operand has no value
+    pub insertion_stopped : (stop : Stop) → Answers {Relation} (Err stop) (under (heading_of operand) (meaning_in seen operand)) → IsRefusedFor (refusal_of stop) (after_assignments es (a ∷ []))
+    insertion_stopped (Faulted f) told = ap (λ (r : OrFault Relation). of_values (then_give r (λ v. evaluated es (with_target es target v) []))) (insertion_failed f told)
+    insertion_stopped OfMemory told = tt
+
+    pub sources_cost_operand : cost_in seen operand ≤ sources_cost es es (a ∷ [])
+    sources_cost_operand = let w = operand_cost in omega (arith, w)
