@@ -19,10 +19,10 @@ use Rattle.u_constraints.proofs.CounterpartLemmas.{Beside, beside_more, beside_b
 
 -- ---- lists made alike
 
-abbrev no_value : Value
+abbrev pub no_value : Value
 no_value = truth false
 
-abbrev at : Row → ℕ → Value
+abbrev pub at : Row → ℕ → Value
 at row i = get_or row i no_value
 
 abbrev first : {X : Type 0} → X → List X → X
@@ -34,7 +34,7 @@ rest [] = []
 rest (x ∷ xs) = xs
 
 -- what two functions make of a list is the same of each of its members
-same_of : {X Y : Type 0} (f g : X → Y) (d : Y) (xs : List X) → map f xs ≡ map g xs → (x : X) → In x xs → f x ≡ g x
+pub same_of : {X Y : Type 0} (f g : X → Y) (d : Y) (xs : List X) → map f xs ≡ map g xs → (x : X) → In x xs → f x ≡ g x
 same_of f g d [] e x m = absurd m
 same_of f g d (z ∷ zs) e x m = elim m [
   | inl q ↦ ap f q ∙ ap (first d) e ∙ sym (ap g q)

@@ -13,3 +13,10 @@ pub mod UnpackedLemmas
 pub mod WholeKeyLemmas
 pub mod PackedLemmas
 pub mod IntervalLemmas
+pub mod TouchedLemmas
+pub mod OpenedLemmas
+pub mod BoundLemmas
+pub mod GrownKeyLemmas
+pub mod GrownPackedLemmas
+pub mod GrowthLemmas
+pub mod TellingLemmas

@@ -34,12 +34,16 @@ module _ (heading : Heading) (acl : List ℕ) (intervals : AreIntervals heading 
       image-pack row_cmp row_total row_separates box_cmp box_total box_separates (IsShaped heading acl) (boxed acl) (unboxed heading acl) (unboxed-boxed heading acl intervals)
       (map attribute acl) (sides_from 0 (length acl)) (all_alike heading acl intervals) rows own image
 
-  pub packed_told : (kept : Bool) → IsTrue kept ↔ (own ≡ form) → kept ≡ is_packed acl rows
-  packed_told kept h =
+  -- rows are packed exactly where their boxes are
+  pub packed_iff : IsTrue (is_packed acl rows) ↔ (own ≡ form)
+  packed_iff =
       let same =
       same_alike row_cmp row_total row_separates box_cmp box_total box_separates (IsShaped heading acl) (boxed acl) (unboxed heading acl) (unboxed-boxed heading acl intervals)
       rows (packed acl rows) own form image packed_image in
       let own_up : Ascends box_cmp own = Ascends-in_order box_cmp box_total box_separates (map (boxed acl) rows) in
       let form_up : Ascends box_cmp form = Ascends-pack box_cmp box_total box_separates (sides_from 0 (length acl)) own own_up in
       let equal = are_same-≡ box_cmp box_total box_separates own form own_up form_up in
-      same_tests kept (is_packed acl rows) (λ t. subst (λ b. IsTrue b) same (equal.1 (h.0 t)), λ t. h.1 (equal.0 (subst (λ b. IsTrue b) (sym same) t)))
+      (λ t. equal.0 (subst (λ b. IsTrue b) (sym same) t), λ e. subst (λ b. IsTrue b) same (equal.1 e))
+
+  pub packed_told : (kept : Bool) → IsTrue kept ↔ (own ≡ form) → kept ≡ is_packed acl rows
+  packed_told kept h = same_tests kept (is_packed acl rows) (λ t. packed_iff.1 (h.0 t), λ t. h.1 (packed_iff.0 t))

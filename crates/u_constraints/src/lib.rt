@@ -4,13 +4,16 @@
 mod apart;
 mod constraints;
 mod fronts;
+mod growth;
 mod histories;
 mod keys;
 mod lines;
 mod marks;
 mod packed;
 mod parts;
+mod positions;
 mod references;
 mod unpacked;
 
 pub use constraints::holds;
+pub use growth::{holds_beside, holds_with};

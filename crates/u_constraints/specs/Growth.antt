@@ -1,0 +1,28 @@
+-- Which rows tell whether a constraint that holds still holds where rows are added.
+--     is_history      whether a constraint is that of a history
+--     outside_below      the positions below a number that are not unpacked
+--     telling      the positions whose values tell which rows a new one is held against
+use Rattle.std.specs.Prelude.{ℕ, zero, suc, Bool, true, false, List, [], ◌∷◌, ◌++◌, Option, Some, None, if◌then◌else◌}
+use Rattle.value_core.specs.Attributes.{among}
+use Rattle.value_core.specs.declared.constraint.Constraint.{Constraint}
+use Rattle.value_core.specs.declared.constraint.Constraint.TheVariants.{Key, Packed, WhenUnpacked, UKey, Foreign, History}
+use Rattle.u_row.specs.Kept.{unlisted}
+
+abbrev pub is_history : Constraint → Bool
+is_history (History h) = true
+is_history _ = false
+
+-- the positions below the number that are not unpacked
+abbrev pub outside_below : List ℕ → ℕ → List ℕ
+outside_below acl zero = []
+outside_below acl (suc n) = if among acl n then outside_below acl n else outside_below acl n ++ n ∷ []
+
+-- of a relvar with so many attributes, positions where rows have the same values that the constraint holds against one another: those of
+-- its key, or else all, without what is unpacked. None where it holds rows against those of another relvar
+abbrev pub telling : Constraint → ℕ → Option (List ℕ)
+telling (Key k) many = Some k
+telling (Packed acl) many = Some (outside_below acl many)
+telling (WhenUnpacked acl k) many = Some (unlisted acl k)
+telling (UKey acl k) many = Some (unlisted acl k)
+telling (Foreign acl here name there) many = None
+telling (History h) many = None

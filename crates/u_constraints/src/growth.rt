@@ -1,0 +1,121 @@
+// Constraints that hold, and whether they hold still where rows are added.
+ghost use Rattle.std.specs.Prelude.{◌≡◌, ◌≤◌, ◌+◌, None, Some, length, IfOk, option_map};
+ghost use Rattle.std.specs.Result.{result_err};
+ghost use Rattle.meaning_core.specs.WellMade.{FitsHeadings};
+ghost use Rattle.value_core.specs.Values.{most_rows, IsRelation};
+ghost use Rattle.relation_core.specs.Operators.{united};
+ghost use Rattle.u_constraints.specs.Constraints.{broken, heading_or_none, rows_or_none, IsNamed};
+ghost use Rattle.u_constraints.specs.Costs.{constraint_cost};
+ghost use Rattle.u_constraints.specs.Growth.{is_history, telling as telling_of};
+
+use crate::constraints::holds;
+use crate::positions::telling;
+use point_core::{Code, Memory, Steps};
+use relation_core::{touched, union};
+use std::alloc::Global;
+use std::sync::ledger::Ledger;
+use value_core::{Constraint, Relation, RowsRefuse};
+
+/// The rows of either relation, which have one heading and few enough rows.
+fn joined(alloc: Global, left: &Relation, right: &Relation) -> Result<Relation, Memory>
+    requires heading { left.now.heading ≡ right.now.heading }
+    requires few { length (united left.now.rows right.now.rows) ≤ most_rows }
+    ensures { IfOk result (λ r. (r.heading ≡ left.now.heading) × (r.rows ≡ united left.now.rows right.now.rows)) }
+{
+    match union(alloc, left, right) {
+        Ok(rows) => Ok(rows),
+        Err(RowsRefuse::Memory) => Err(Memory),
+        Err(RowsRefuse::TooMany) => unreachable!(),
+    }
+}
+
+/// Whether the constraint, which holds of the rows of `of`, holds still where those of `come` are added. It is asked of the rows with the
+/// values of those that come at the positions.
+fn holds_by<L: Ledger>(
+    alloc: Global,
+    c: &Constraint,
+    of: &Relation,
+    come: &Relation,
+    positions: &[usize],
+    other: Option<&Relation>,
+    steps: &mut Steps<L>,
+) -> Result<Result<(), Code>, Memory>
+    requires relation { IsRelation of.now }
+    requires relation_come { IsRelation come.now }
+    requires heading { come.now.heading ≡ of.now.heading }
+    requires few { length (united of.now.rows come.now.rows) ≤ most_rows }
+    requires fits { FitsHeadings of.now.heading (heading_or_none (option_map (λ r. r.now) other)) c.now }
+    requires named { IsNamed c.now (option_map (λ r. r.now) other) }
+    requires held { broken c.now of.now.rows (rows_or_none (option_map (λ r. r.now) other)) ≡ None }
+    requires telling { Some positions.now ≡ telling_of c.now (length of.now.heading) }
+    ensures answer { IfOk result (λ answer. result_err answer ≡ broken c.now (united of.now.rows come.now.rows) (rows_or_none (option_map (λ r. r.now) other.entry))) }
+    ensures cost { steps.new ≤ steps.old + constraint_cost c.now (united of.now.rows come.now.rows) (rows_or_none (option_map (λ r. r.now) other.entry)) }
+{
+    let part = touched(alloc, of, come, positions)?;
+    let small = joined(alloc, &part, come)?;
+    holds(alloc, c, &small, other, steps)
+}
+
+/// Whether the constraint, which holds of the rows of `of`, holds still where those of `come` are added; if not, the code of the first of
+/// its lines that is then broken. `other` is the relvar that the constraint names, if it names one, which is not the one that grows.
+///
+/// Only rows that a row of `come` is held against are looked at: those with its values at the attributes of a key, say.
+pub fn holds_with<L: Ledger>(
+    alloc: Global,
+    c: &Constraint,
+    of: &Relation,
+    come: &Relation,
+    other: Option<&Relation>,
+    steps: &mut Steps<L>,
+) -> Result<Result<(), Code>, Memory>
+    requires heading { come.now.heading ≡ of.now.heading }
+    requires few { length (united of.now.rows come.now.rows) ≤ most_rows }
+    requires fits { FitsHeadings of.now.heading (heading_or_none (option_map (λ r. r.now) other)) c.now }
+    requires named { IsNamed c.now (option_map (λ r. r.now) other) }
+    requires held { broken c.now of.now.rows (rows_or_none (option_map (λ r. r.now) other)) ≡ None }
+    ensures answer { IfOk result (λ answer. result_err answer ≡ broken c.now (united of.now.rows come.now.rows) (rows_or_none (option_map (λ r. r.now) other.entry))) }
+    ensures cost { steps.new ≤ steps.old + constraint_cost c.now (united of.now.rows come.now.rows) (rows_or_none (option_map (λ r. r.now) other.entry)) }
+{
+    let many = of.heading().attributes().len();
+    if come.rows().is_empty() {
+        return Ok(Ok(()));
+    }
+    match telling(alloc, c, many)? {
+        Some(positions) => {
+            let positions = positions.list.as_slice();
+            holds_by(alloc, c, of, come, positions, other, steps)
+        }
+        None => holds(alloc, c, come, other, steps),
+    }
+}
+
+/// Whether the constraint of `of`, which holds, holds still where the rows of `come` are added to `other`, the relvar that it names. More
+/// rows there break no constraint but that of a history.
+pub fn holds_beside<L: Ledger>(
+    alloc: Global,
+    c: &Constraint,
+    of: &Relation,
+    other: &Relation,
+    come: &Relation,
+    steps: &mut Steps<L>,
+) -> Result<Result<(), Code>, Memory>
+    requires heading { come.now.heading ≡ other.now.heading }
+    requires few { length (united other.now.rows come.now.rows) ≤ most_rows }
+    requires fits { FitsHeadings of.now.heading other.now.heading c.now }
+    requires named { IsNamed c.now (Some other.now) }
+    requires held { broken c.now of.now.rows other.now.rows ≡ None }
+    ensures answer { IfOk result (λ answer. result_err answer ≡ broken c.now of.now.rows (united other.now.rows come.now.rows)) }
+    ensures cost { steps.new ≤ steps.old + constraint_cost c.now of.now.rows (united other.now.rows come.now.rows) }
+{
+    if !is_history(c) {
+        return Ok(Ok(()));
+    }
+    holds(alloc, c, of, Some(come), steps)
+}
+
+/// Whether the constraint is that of a history.
+fn is_history(c: &Constraint) -> bool
+    ensures { result ≡ is_history c.now }
+{
+    matches!(c, Constraint::History(_))
+}

@@ -1,0 +1,63 @@
+// Positions whose values tell which rows a new one is held against.
+ghost use Rattle.std.specs.Prelude.{◌≡◌, IfOk};
+ghost use Rattle.u_row.specs.Kept.{unlisted};
+ghost use Rattle.u_constraints.specs.Growth.{outside_below, telling};
+
+use point_core::Memory;
+use std::alloc::Global;
+use u_set::is_listed;
+use value_core::{Constraint, Positions};
+
+/// The positions that are not unpacked.
+fn unlisted(alloc: Global, acl: &[usize], positions: &[usize]) -> Result<Vec<usize>, Memory>
+    ensures { IfOk result (λ v. v.items ≡ unlisted acl.now positions.now) }
+{
+    let mut list = Vec::new(alloc);
+    for i in positions {
+        if !is_listed(acl, *i) {
+            list.push(*i)?;
+        }
+    }
+    Ok(list)
+}
+
+/// The positions below the number that are not unpacked.
+fn outside_below(alloc: Global, acl: &[usize], many: usize) -> Result<Vec<usize>, Memory>
+    ensures { IfOk result (λ v. v.items ≡ outside_below acl.now many) }
+{
+    let mut list = Vec::new(alloc);
+    for i in 0..many {
+        if !is_listed(acl, i) {
+            list.push(i)?;
+        }
+    }
+    Ok(list)
+}
+
+/// Of a relvar with so many attributes, positions where rows have the same values that the constraint holds against one another. None where
+/// it holds rows against those of another relvar.
+pub(crate) fn telling(
+    alloc: Global,
+    c: &Constraint,
+    many: usize,
+) -> Result<Option<Positions>, Memory>
+    ensures { IfOk result (λ p. p ≡ telling c.now many) }
+{
+    match c {
+        Constraint::Key(key) => Ok(Some(key.copy(alloc)?)),
+        Constraint::Packed(acl) => {
+            let list = outside_below(alloc, acl.list.as_slice(), many)?;
+            Ok(Some(Positions { list }))
+        }
+        Constraint::WhenUnpacked(acl, key) => {
+            let list = unlisted(alloc, acl.list.as_slice(), key.list.as_slice())?;
+            Ok(Some(Positions { list }))
+        }
+        Constraint::UKey(acl, key) => {
+            let list = unlisted(alloc, acl.list.as_slice(), key.list.as_slice())?;
+            Ok(Some(Positions { list }))
+        }
+        Constraint::Foreign(..) => Ok(None),
+        Constraint::History(_) => Ok(None),
+    }
+}
