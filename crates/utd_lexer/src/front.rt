@@ -208,6 +208,10 @@ fn gap_len(chars: &[char]) -> Option<usize>
 fn push_char(bytes: &mut Vec<u8>, c: char) -> Result<(), Memory>
     ensures { OnOk result (bytes.new.items ≡ bytes.old.items ++ encode_utf8 c) }
 {
+    if c < '\u{80}' {
+        bytes.push(c as u8)?;
+        return Ok(());
+    }
     let mut space = [0u8; 4];
     bytes.extend_from_slice(c.encode_utf8(&mut space).as_bytes())?;
     Ok(())
@@ -217,7 +221,7 @@ fn push_char(bytes: &mut Vec<u8>, c: char) -> Result<(), Memory>
 fn encoded(alloc: Global, chars: &[char]) -> Result<TokenBytes, Memory>
     ensures { IfOk result (λ b. b ≡ encode_utf8_all chars.now) }
 {
-    let mut list = Vec::new(alloc);
+    let mut list = Vec::with_capacity(alloc, chars.len())?;
     for c in chars {
         push_char(&mut list, *c)?;
     }

@@ -1,5 +1,5 @@
 // The tokens of a statement, and their places.
-ghost use Rattle.std.specs.Prelude.{◌≡◌, ◌+◌, ◌-◌, ◌^◌, ◌≤◌, length, IfOk, IfErr, encode_utf8_all};
+ghost use Rattle.std.specs.Prelude.{◌≡◌, ◌+◌, ◌-◌, ◌^◌, ◌≤◌, length, IfOk, IfErr, encode_utf8, encode_utf8_all};
 ghost use Rattle.std.specs.Str.{chars};
 ghost use Rattle.utd_lexer.specs.Tokens.{Fits, next_place, place_after, past, Lexed};
 ghost use Rattle.utd_lexer.specs.Reading.{Stops, Reads, Refuses, IsOnlyReading, RefusesOnly};
@@ -40,6 +40,18 @@ pub fn place_behind(start: Place, bytes: &[u8]) -> Place
     place
 }
 
+/// The place of the byte behind this character.
+fn place_past_one(place: Place, c: char) -> Place
+    requires { Fits place (length (encode_utf8 c)) }
+    ensures { result ≡ place_after place (encode_utf8 c) }
+{
+    if c < '\u{80}' {
+        return next_place(place, c as u8);
+    }
+    let mut space = [0u8; 4];
+    place_behind(place, c.encode_utf8(&mut space).as_bytes())
+}
+
 /// The place of the byte behind these characters.
 fn place_past(start: Place, chars: &[char]) -> Place
     requires { Fits start (length (encode_utf8_all chars.now)) }
@@ -47,8 +59,7 @@ fn place_past(start: Place, chars: &[char]) -> Place
 {
     let mut place = start;
     for c in chars {
-        let mut space = [0u8; 4];
-        place = place_behind(place, c.encode_utf8(&mut space).as_bytes());
+        place = place_past_one(place, *c);
     }
     place
 }

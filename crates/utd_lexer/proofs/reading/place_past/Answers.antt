@@ -7,8 +7,7 @@ pub loop-c-preserved : goal.loop-c-preserved
 loop-c-preserved c =
     let i = c.loop-c.invariant in
     let s = char-step c.args.start c.loop-c.place c.args.chars.now c.loop-c.c-index c.c-item.result c.loop-c-test.true c.c-item.is i.same i.fits in
-    let e : c.place_behind-place.result ≡ place_after c.loop-c.place (encode_utf8 c.c-item.result) =
-    c.place_behind-place.ensures ∙ ap (place_after c.loop-c.place) (c.as_bytes.ensures.value ∙ c.encode_utf8.ensures.value) in
+    let e : c.place_past_one-place.result ≡ place_after c.loop-c.place (encode_utf8 c.c-item.result) = c.place_past_one-place.ensures in
     record {
       same = ap (λ p. past p (drop (c.loop-c.c-index + 1) c.args.chars.now)) e ∙ s.1;
       fits = subst (λ p. Fits p (length (encode_utf8_all (drop (c.loop-c.c-index + 1) c.args.chars.now)))) (sym e) s.2;
