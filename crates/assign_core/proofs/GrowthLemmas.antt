@@ -4,28 +4,37 @@
 --     entry_grown      what an entry is after the growth
 --     named_grown, named_apart      what a name stands for after the growth
 --     rows_grown      how many rows there are after the growth
-use Rattle.std.proofs.Common.{◌≡◌, ◌⊎◌, inl, inr, ℕ, zero, suc, ◌+◌, ◌<◌, ◌≤◌, Bool, true, false, cond, List, [], ◌∷◌, ◌++◌, map, length, refl, sym, ap, ap₂, subst, ◌∙◌, arith, true≢false, Option, Some, None, nat_eq, IsTrue}
+use Rattle.std.proofs.Common.{◌≡◌, ◌⊎◌, inl, inr, ℕ, zero, suc, ◌+◌, ◌<◌, ◌≤◌, Bool, true, false, cond, List, [], ◌∷◌, ◌++◌, map, length, refl, sym, ap, ap₂, subst, ◌∙◌, arith, true≢false, Option, Some, None, Result, Ok, Err, nat_eq, nat_le, ◌-◌}
+use Rattle.std.proofs.lemmas.Bool.Decides.{nat_tests}
 use Rattle.std.specs.Prelude.{slice_get, slice_index_or}
 use Rattle.std.specs.List.{IsDistinct, AllByRecursion}
 use Rattle.std.specs.Str.{bytes_eq}
-use Rattle.base_core.specs.Sets.{in_order, has, union_of, difference_of}
+use Rattle.base_core.specs.Sets.{has}
 use Rattle.base_core.proofs.SetLemmas.{In, Ascends, in_order_by_members}
 use Rattle.base_core.proofs.MemberLemmas.{In-append, has-In}
 use Rattle.base_core.proofs.SetOperatorLemmas.{In-difference_of}
+use Rattle.point_core.specs.declared.fault.Code.TheVariants.{E46}
+use Rattle.value_core.specs.Limits.{most_rows_in_all}
 use Rattle.value_core.specs.declared.constraint.Constraint.{Constraint}
+use Rattle.value_core.specs.declared.refuse.Refuse.{Refuse}
+use Rattle.value_core.specs.declared.refuse.Refuse.TheVariants.{Plain, At, Broken, Memory}
 use Rattle.value_core.specs.Values.{Name, Row, Relation, row_cmp, most_rows}
 use Rattle.value_core.specs.Order.{row_total, row_separates}
 use Rattle.relation_core.specs.Operators.{united, subtracted}
-use Rattle.relation_core.proofs.ApartLemmas.{Apart, length_apart, Apart-append, apart_ascending}
+use Rattle.relation_core.proofs.ApartLemmas.{length_apart, Apart-append, apart_ascending}
 use Rattle.tree_core.specs.declared.relvar.Relvar.{Relvar}
 use Rattle.indexmap.specs.IndexMap.{set_value_at}
 use Rattle.tree_core.specs.Trees.{Tree}
-use Rattle.tree_core.specs.Relvars.{PlainRelvar, base, view, Entries, relvar_named, read_entry, read_relvar}
+use Rattle.tree_core.specs.Relvars.{PlainRelvar, base, view, Entries, relvar_named, heading_if, read_entry, read_relvar}
 use Rattle.meaning_core.specs.Names.{IsFirstAt, given, with_value}
-use Rattle.meaning_core.proofs.MadeLemmas.{same_name, own_name}
+use Rattle.meaning_core.proofs.MadeLemmas.{same_name}
 use Rattle.meaning_core.proofs.EntryLemmas.{named_first}
-use Rattle.assign_core.specs.Breaches.{count_of, rows_of_all, value_if, value_at, first_of, first_in}
-use Rattle.assign_core.specs.Costs.{looked_at, looked_at_in}
+use Rattle.u_constraints.specs.Constraints.{rows_or_none}
+use Rattle.assign_core.specs.Assignments.{unless_broken, kept_or_refused, IsAdmitted}
+use Rattle.assign_core.specs.Breaches.{count_of, rows_of_all, value_if, value_at, first_of, first_in, first_broken}
+use Rattle.assign_core.specs.Changes.{Tells}
+use Rattle.assign_core.specs.Checks.{heading_at}
+use Rattle.assign_core.specs.Costs.{looked_at, looked_at_in, looked_at_all, constraints_cost}
 use Rattle.assign_core.specs.Growth.{enlarged, gained, gained_at, grown, not_grown, names_grown, rows_after, IsGrowth, MayGain, IsGain}
 use Rattle.assign_core.specs.declared.growth.Growth.{Growth}
 use Rattle.assign_core.specs.Parts.{names_in}
@@ -41,10 +50,10 @@ united_new value rows = in_order_by_members row_cmp row_total row_separates (val
     let new = In-difference_of row_cmp row_total row_separates x rows value in
     let known = has-In row_cmp row_total row_separates value x in
     let by : (b : Bool) → has row_cmp value x ≡ b → In x rows → In x value ⊎ In x (subtracted rows value) =
-        λ b. elim b as (λ b. has row_cmp value x ≡ b → In x rows → In x value ⊎ In x (subtracted rows value)) [
-          | true ↦ λ e i. inl (known.0 e)
-          | false ↦ λ e i. inr (new.1 (i, λ j. true≢false (sym (known.1 j) ∙ e)))
-        ] in (
+    λ b. elim b as (λ b. has row_cmp value x ≡ b → In x rows → In x value ⊎ In x (subtracted rows value)) [
+      | true ↦ λ e i. inl (known.0 e)
+      | false ↦ λ e i. inr (new.1 (i, λ j. true≢false (sym (known.1 j) ∙ e)))
+    ] in (
       λ i. there.1 (elim (here.0 i) [ inl j ↦ inl j | inr j ↦ inr (new.0 j).0 ]),
       λ i. here.1 (elim (there.0 i) [ inl j ↦ inl j | inr j ↦ by (has row_cmp value x) refl j ]),
     ))
@@ -53,12 +62,12 @@ united_new value rows = in_order_by_members row_cmp row_total row_separates (val
 pub long_new : (value rows new : List Row) → Ascends row_cmp value → Ascends row_cmp new → new ≡ subtracted rows value → length (united value new) ≡ length value + length new
 long_new value rows new a b is =
     let apart = Apart-append row_cmp value new (apart_ascending row_cmp value a) (apart_ascending row_cmp new b) (λ x y i j e.
-        ((In-difference_of row_cmp row_total row_separates y rows value).0 (subst (λ zs. In y zs) is j)).1 (subst (λ z. In z value) (row_separates x y e) i)) in
+    ((In-difference_of row_cmp row_total row_separates y rows value).0 (subst (λ zs. In y zs) is j)).1 (subst (λ z. In z value) (row_separates x y e) i)) in
     length_apart row_cmp (value ++ new) apart ∙ long value new
   where
     long : (xs ys : List Row) → length (xs ++ ys) ≡ length xs + length ys
-    long [] ys = refl
-    long (x ∷ xs) ys = ap suc (long xs ys)
+    long [] ys = omega arith
+    long (x ∷ xs) ys = let ih = long xs ys in omega (arith, ih)
 
 -- ---- entries
 
@@ -88,17 +97,29 @@ entry_left (x ∷ es) zero k r d is = let same : (k, r) ≡ x = cc in ap read_en
 entry_left (x ∷ es) (suc i) k r d is = entry_left es i k r d is
 
 -- what an entry is after the growth
+entry_gained : (es : List (Name × Relvar)) (i : ℕ) (rows : List Row) (k : Name) (r : Relvar) (d : Name × PlainRelvar) → slice_get es i ≡ Some (k, r)
+    → (k, gained rows (read_relvar r)) ≡ slice_index_or (gained_at i rows (map read_entry es)) i d
+entry_gained [] i rows k r d is = absurd (cc)
+entry_gained (x ∷ es) zero rows k r d is = let same : (k, r) ≡ x = cc in ap (λ (z : Name × Relvar). (z.0, gained rows (read_relvar z.1))) same
+entry_gained (x ∷ es) (suc i) rows k r d is = entry_gained es i rows k r d is
+
+entry_apart : (es : List (Name × Relvar)) (at i : ℕ) (rows : List Row) (k : Name) (r : Relvar) (d : Name × PlainRelvar) → ((i ≡ at) → ⊥) → slice_get es i ≡ Some (k, r)
+    → (k, read_relvar r) ≡ slice_index_or (gained_at at rows (map read_entry es)) i d
+entry_apart [] at i rows k r d apart is = absurd (cc)
+entry_apart (x ∷ es) zero zero rows k r d apart is = absurd (apart refl)
+entry_apart (x ∷ es) zero (suc i) rows k r d apart is = entry_left es i k r d is
+entry_apart (x ∷ es) (suc at) zero rows k r d apart is = let same : (k, r) ≡ x = cc in ap read_entry same
+entry_apart (x ∷ es) (suc at) (suc i) rows k r d apart is = entry_apart es at i rows k r d (λ e. apart (ap suc e)) is
+
 pub entry_grown : (es : List (Name × Relvar)) (at i : ℕ) (rows : List Row) (k : Name) (r : Relvar) (d : Name × PlainRelvar) → slice_get es i ≡ Some (k, r)
     → (k, cond (nat_eq i at) (gained rows (read_relvar r)) (read_relvar r)) ≡ slice_index_or (gained_at at rows (map read_entry es)) i d
-entry_grown [] at i rows k r d is = absurd (cc)
-entry_grown (x ∷ es) zero zero rows k r d is =
-    let same : (k, r) ≡ x = cc in
-    ap (λ (z : Name × Relvar). (z.0, gained rows (read_relvar z.1))) same
-entry_grown (x ∷ es) zero (suc i) rows k r d is = entry_left es i k r d is
-entry_grown (x ∷ es) (suc at) zero rows k r d is =
-    let same : (k, r) ≡ x = cc in
-    ap read_entry same
-entry_grown (x ∷ es) (suc at) (suc i) rows k r d is = entry_grown es at i rows k r d is
+entry_grown es at i rows k r d is = by (nat_eq i at) refl
+  where
+    by : (b : Bool) → nat_eq i at ≡ b → (k, cond b (gained rows (read_relvar r)) (read_relvar r)) ≡ slice_index_or (gained_at at rows (map read_entry es)) i d
+    by true e =
+        let same : i ≡ at = grind (arith, nat_tests) in
+        entry_gained es i rows k r d is ∙ ap (λ (j : ℕ). slice_index_or (gained_at j rows (map read_entry es)) i d) same
+    by false e = entry_apart es at i rows k r d (λ same. let yes : nat_eq i at ≡ true = grind (arith, nat_tests) in true≢false (sym yes ∙ e)) is
 
 -- the entry at the place is the first of its name there
 pub first_entry : (es : List (Name × Relvar)) (name : Name) (at : ℕ) (x : PlainRelvar) (k : Name) (r : Relvar) → IsFirstAt (map read_entry es) name at x → slice_get es at ≡ Some (k, r)
@@ -201,6 +222,12 @@ module _ (g : Growth) (growth : IsGrowth g) where
   other_value None e = refl
   other_value (Some name) e = ap value_if (named_apart (not_grown g) g.name.now name g.at (base g.value.now growth.constraints) g.rows.now.rows growth.first e)
 
+  pub named_heading : (n : Option Name) → names_grown g n ≡ true → heading_at (not_grown g) n ≡ g.value.now.heading
+  named_heading None e = absurd (true≢false (sym e))
+  named_heading (Some name) e =
+      ap (λ (k : Name). heading_if (relvar_named (not_grown g) k)) (sym (same_name g.name.now name e))
+      ∙ ap heading_if (named_first (not_grown g) g.name.now g.at (base g.value.now growth.constraints) growth.first)
+
   -- ---- the constraints of a relvar
 
   pub first_after : (own : Bool) (name : Name) (value : Relation) (constraints : List Constraint)
@@ -216,3 +243,40 @@ module _ (g : Growth) (growth : IsGrowth g) where
   pub view_after : (own : Bool) (name : Name) (t : Tree) (history : Option (Name × Name)) → first_in (grown g) name (cond own (gained g.rows.now.rows (view t history)) (view t history)) ≡ None
   view_after true name t history = refl
   view_after false name t history = refl
+
+-- what is said of the rows after the growth, and of those of the relvar that the constraint names
+pub after_growth : (P : List Row → List Row → Type 0) (g : Growth) (own is : Bool) (rows : List Row) (before after : Option Relation) → own ≡ is → before ≡ after
+    → P (rows_after g is rows) (rows_or_none before) → P (rows_after g own rows) (rows_or_none after)
+after_growth P g own is rows before after same there told =
+    subst (λ (o : Option Relation). P (rows_after g own rows) (rows_or_none o)) there (subst (λ (b : Bool). P (rows_after g b rows) (rows_or_none before)) (sym same) told)
+
+-- ---- what is admitted
+
+pub few_grown : (before after n most : ℕ) (t : Bool) → after ≡ before + n → n ≤ most → t ≡ nat_le before (most - n) → t ≡ nat_le after most
+few_grown before after n most true e l q =
+    let few : before ≤ most - n = grind (arith, nat_tests) in
+    let there : after ≤ most = omega (arith, e, l, few) in
+    grind (arith, nat_tests)
+few_grown before after n most false e l q =
+    let over : most - n < before = grind (arith, nat_tests) in
+    let there : most < after = omega (arith, e, l, over) in
+    grind (arith, nat_tests)
+
+pub over_admitted : (new : Entries) → false ≡ nat_le (rows_of_all new) most_rows_in_all → kept_or_refused new ≡ Err (Plain E46)
+over_admitted new e = ap (λ (t : Bool). cond t (unless_broken new (first_broken new)) (Err (Plain E46))) (sym e)
+
+pub told_admitted : (new : Entries) (result : Result (Unit {0}) Refuse) → true ≡ nat_le (rows_of_all new) most_rows_in_all → Tells result (first_broken new) → IsAdmitted result new
+told_admitted new result e told = by result told
+  where
+    here : kept_or_refused new ≡ unless_broken new (first_broken new)
+    here = ap (λ (t : Bool). cond t (unless_broken new (first_broken new)) (Err (Plain E46))) (sym e)
+
+    by : (result : Result (Unit {0}) Refuse) → Tells result (first_broken new) → IsAdmitted result new
+    by (Ok done) t = here ∙ ap (unless_broken new) t
+    by (Err (Plain code)) t = absurd t
+    by (Err (At f)) t = absurd t
+    by (Err (Broken code relvar number)) t = here ∙ ap (unless_broken new) t
+    by (Err Memory) t = tt
+
+pub cost_admitted : (new : Entries) → true ≡ nat_le (rows_of_all new) most_rows_in_all → constraints_cost new ≡ looked_at_all new new
+cost_admitted new e = ap (λ (t : Bool). cond t (looked_at_all new new) 0) (sym e)

@@ -5,6 +5,7 @@ pub mod CostLemmas
 pub mod CountLemmas
 pub mod DeclaredLemmas
 pub mod ExchangeLemmas
+pub mod GainedLemmas
 pub mod GrowthLemmas
 pub mod InsertionLemmas
 pub mod NameLemmas

@@ -118,8 +118,8 @@ fn check_list<L: Ledger>(
     requires own { own.grows ≡ true → own.of.now ≡ growth.value.now }
     requires checked { All (IsChecked (not_grown growth) own.of.now.heading) list.now }
     requires held { All (λ c. broken c own.of.now.rows (rows_named (not_grown growth) c) ≡ None) list.now }
-    ensures told { Tells result (first_of (grown growth.entry) name.now (rows_after growth.entry own.grows own.entry.of.now.rows) 1 list.now) }
-    ensures cost { steps.new ≤ steps.old + looked_at (grown growth.entry) (rows_after growth.entry own.grows own.entry.of.now.rows) list.now }
+    ensures told { Tells result (first_of (grown growth.entry) name.now (rows_after growth.entry own.entry.grows own.entry.of.now.rows) 1 list.now) }
+    ensures cost { steps.new ≤ steps.old + looked_at (grown growth.entry) (rows_after growth.entry own.entry.grows own.entry.of.now.rows) list.now }
 {
     for (at, constraint) in list.iter().enumerate() {
         let answer = check_one(alloc, growth, own, constraint, steps)?;
@@ -142,8 +142,8 @@ fn check_one<L: Ledger>(
     requires own { own.grows ≡ true → own.of.now ≡ growth.value.now }
     requires checked { IsChecked (not_grown growth) own.of.now.heading constraint.now }
     requires held { broken constraint.now own.of.now.rows (rows_named (not_grown growth) constraint.now) ≡ None }
-    ensures answer { IfOk result (λ answer. result_err answer ≡ broken constraint.now (rows_after growth.entry own.grows own.entry.of.now.rows) (rows_named (grown growth.entry) constraint.now)) }
-    ensures cost { steps.new ≤ steps.old + cost_over (grown growth.entry) (rows_after growth.entry own.grows own.entry.of.now.rows) constraint.now }
+    ensures answer { IfOk result (λ answer. result_err answer ≡ broken constraint.now (rows_after growth.entry own.entry.grows own.entry.of.now.rows) (rows_named (grown growth.entry) constraint.now)) }
+    ensures cost { steps.new ≤ steps.old + cost_over (grown growth.entry) (rows_after growth.entry own.entry.grows own.entry.of.now.rows) constraint.now }
 {
     match (own.grows, names_grown(growth, constraint)) {
         (true, true) => holds_within(alloc, growth, constraint, steps),
@@ -178,7 +178,7 @@ fn holds_within<L: Ledger>(
 // The value of the relvar that grows, with the rows that come.
 fn enlarged(alloc: Global, growth: Growth<'_>) -> Result<Relation, Memory>
     requires { IsGrowth growth }
-    ensures { IfOk result (λ r. r ≡ enlarged growth.value.now growth.rows.now.rows) }
+    ensures { IfOk result (λ r. r ≡ enlarged growth.entry.value.now growth.entry.rows.now.rows) }
 {
     let mut all = growth.value.copy(alloc)?;
     let rows = growth.rows.copy(alloc)?;
@@ -188,7 +188,7 @@ fn enlarged(alloc: Global, growth: Growth<'_>) -> Result<Relation, Memory>
 
 // Whether a constraint names the relvar that grows.
 fn names_grown(growth: Growth<'_>, constraint: &Constraint) -> bool
-    ensures { result ≡ names_grown growth (names_relvar constraint.now) }
+    ensures { result ≡ names_grown growth.entry (names_relvar constraint.now) }
 {
     match constraint {
         Constraint::Foreign(_, _, name, _) => growth.name == name,

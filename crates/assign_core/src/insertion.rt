@@ -5,6 +5,7 @@ ghost use Rattle.value_core.specs.declared.constraint.Constraint.{Constraint};
 ghost use Rattle.relation_core.specs.Operators.{united};
 ghost use Rattle.tree_core.specs.Items.{read_assignment};
 ghost use Rattle.tree_core.specs.Relvars.{read_relvars, base};
+ghost use Rattle.tree_core.specs.Trees.{infix_of, read_tree};
 ghost use Rattle.meaning_core.specs.Names.{IsFirstAt};
 ghost use Rattle.meaning_core.specs.Updates.{IsTypedAssignment};
 ghost use Rattle.meaning_core.specs.WellMade.{IsWellMade};
@@ -49,11 +50,25 @@ fn as_insertion(assignment: &Assignment) -> Option<Insertion<'_>>
     ensures same { IfSome result (λ i. i.assignment.now ≡ assignment.now) }
     ensures is { IfSome result IsInsertion }
 {
-    let RelForm::Infix(InfixWord::Union, left, operand) = &assignment.tree.form else {
-        return None;
-    };
-    match &left.form {
-        RelForm::Named(name) if *name == assignment.target => Some(Insertion {
+    match &assignment.tree.form {
+        RelForm::Infix(word, left, operand) => with_operand(assignment, *word, left, operand),
+        _ => None,
+    }
+}
+
+// The assignment of two operands as an insertion, where it is one: the union of its target and the right one.
+fn with_operand<'a>(
+    assignment: &'a Assignment,
+    word: InfixWord,
+    left: &RelTree,
+    operand: &'a RelTree,
+) -> Option<Insertion<'a>>
+    requires { read_tree assignment.now.tree ≡ infix_of assignment.now.tree.place assignment.now.tree.heading word (read_tree left.now) (read_tree operand.now) }
+    ensures same { IfSome result (λ i. i.assignment.now ≡ assignment.now) }
+    ensures is { IfSome result IsInsertion }
+{
+    match (word, &left.form) {
+        (InfixWord::Union, RelForm::Named(name)) if *name == assignment.target => Some(Insertion {
             assignment,
             operand,
         }),
@@ -109,12 +124,13 @@ fn new_rows<'a, L: Ledger>(
     ensures cost { steps.new ≤ steps.old + sources_cost (read_relvars relvars.now).relvars (read_relvars relvars.now).relvars (read_assignment insertion.entry.assignment.now ∷ []) }
 {
     let assignment = insertion.assignment;
+    let (at, value) = base_at(relvars, assignment);
+    let room = MOST_ROWS - value.rows().len();
     let (operand, target) = (insertion.operand, &assignment.target);
     let operand = source(alloc, operand, target, relvars, none, steps)?;
-    let (at, value) = base_at(relvars, assignment);
     let rows = absent(alloc, &operand, value)?;
     drop(operand);
-    if value.rows().len() + rows.rows().len() > MOST_ROWS {
+    if rows.rows().len() > room {
         return Err(Refuse::At(Fault {
             place: assignment.tree.place,
             code: Code::E35,
@@ -129,22 +145,26 @@ fn base_at<'a>(relvars: &'a Relvars, assignment: &Assignment) -> (usize, &'a Rel
     ensures { (constraints : List Constraint) × IsFirstAt (read_relvars relvars.now).relvars assignment.now.target result.0 (base result.1.now constraints) }
 {
     match relvars.list.get_full(&assignment.target) {
-        Some((
-            at,
-            _,
-            Relvar::Base {
-                value,
-                constraints: _,
-            },
-        )) => (at, value),
-        Some((
-            _,
-            _,
-            Relvar::View {
-                tree: _,
-                history: _,
-            },
-        )) => unreachable!(),
+        Some(
+            (
+                at,
+                _,
+                Relvar::Base {
+                    value,
+                    constraints: _,
+                },
+            ),
+        ) => (at, value),
+        Some(
+            (
+                _,
+                _,
+                Relvar::View {
+                    tree: _,
+                    history: _,
+                },
+            ),
+        ) => unreachable!(),
         None => unreachable!(),
     }
 }

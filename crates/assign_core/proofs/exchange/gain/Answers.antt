@@ -1,11 +1,12 @@
-use Rattle.std.proofs.Common.{map, sym, ◌∙◌, length, arith, ◌<◌}
+use Rattle.std.proofs.Common.{map, arith}
+use Rattle.std.proofs.lemmas.Result.{on_ok_weaker, on_err_weaker}
 use Rattle.tree_core.specs.Relvars.{read_entry}
 use Rattle.assign_core.proofs.ChangeLemmas.{entries_length}
 use Rattle.assign_core.proofs.GrowthLemmas.{set_gained, set_same, may_gain, within_gain}
 use Rattle.assign_core.proofs.exchange.gain.Goals as goal
 
-pub pair_mut-requires : goal.pair_mut-requires
-pair_mut-requires c =
+pub pair_mut-relvar-requires : goal.pair_mut-relvar-requires
+pair_mut-relvar-requires c =
     let es = c.args.relvars.now.list.entries in
     let within = within_gain (map read_entry es) c.args.at c.args.rows c.requires in
     let long = entries_length es in
@@ -17,7 +18,15 @@ take_in-requires c =
     may_gain es c.args.at c.args.rows c.pair_mut-relvar.result.0.now c.pair_mut-relvar.result.1.now c.requires c.pair_mut-relvar.ensures.value
 
 pub returns-clause-list : goal.returns-clause-list
-returns-clause-list c = ?
+returns-clause-list c =
+    let es = c.args.relvars.now.list.entries in
+    on_ok_weaker c.take_in.result
+    (set_gained es c.args.at c.take_in.new.relvar c.args.rows.rows c.pair_mut-relvar.result.0.now c.pair_mut-relvar.result.1.now c.pair_mut-relvar.ensures.value)
+    c.take_in.ensures.ok
 
 pub returns-clause-err : goal.returns-clause-err
-returns-clause-err c = ?
+returns-clause-err c =
+    let es = c.args.relvars.now.list.entries in
+    on_err_weaker c.take_in.result
+    (set_same es c.args.at c.take_in.new.relvar c.pair_mut-relvar.result.0.now c.pair_mut-relvar.result.1.now c.pair_mut-relvar.ensures.value)
+    c.take_in.ensures.err

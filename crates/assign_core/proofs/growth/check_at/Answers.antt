@@ -1,8 +1,8 @@
-use Rattle.std.proofs.Common.{◌≡◌, ◌≤◌, ◌+◌, ◌<◌, [], length, subst, sym, ap, ◌∙◌, map, arith, true, nat_eq, Some}
+use Rattle.std.proofs.Common.{◌≡◌, ◌≤◌, ◌+◌, [], subst, sym, ap, ◌∙◌, map, arith}
 use Rattle.std.proofs.lemmas.Bool.Decides.{nat_tests}
 use Rattle.std.specs.Prelude.{slice_get}
 use Rattle.value_core.specs.Values.{Name}
-use Rattle.tree_core.specs.Relvars.{PlainRelvar, base, read_entry, read_relvar}
+use Rattle.tree_core.specs.Relvars.{PlainRelvar, base, read_entry}
 use Rattle.assign_core.specs.Breaches.{first_in, value_of}
 use Rattle.assign_core.specs.Changes.{Tells}
 use Rattle.assign_core.specs.Checks.{AreChecked}

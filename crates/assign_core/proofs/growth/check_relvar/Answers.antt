@@ -1,15 +1,11 @@
-use Rattle.std.proofs.Common.{◌≡◌, ◌≤◌, ◌+◌, List, None, Some, sym, subst, ap, ◌∙◌, true, Option}
+use Rattle.std.proofs.Common.{◌≡◌, List, None, Some, sym, subst, ◌∙◌}
 use Rattle.std.specs.List.{All}
 use Rattle.value_core.specs.declared.constraint.Constraint.{Constraint}
-use Rattle.value_core.specs.declared.refuse.Refuse.{Refuse}
-use Rattle.value_core.specs.Values.{Relation}
 use Rattle.tree_core.specs.declared.relvar.Relvar.{Relvar}
 use Rattle.tree_core.specs.Relvars.{read_relvar}
 use Rattle.u_constraints.specs.Constraints.{broken}
 use Rattle.assign_core.specs.Breaches.{first_in, rows_named, value_of}
-use Rattle.assign_core.specs.Changes.{Tells}
 use Rattle.assign_core.specs.Growth.{not_grown}
-use Rattle.assign_core.proofs.GrowthLemmas.{first_after, looked_after, view_after}
 use Rattle.assign_core.proofs.TouchLemmas.{held_list}
 use Rattle.assign_core.proofs.growth.check_relvar.Goals as goal
 

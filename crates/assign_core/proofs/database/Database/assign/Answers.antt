@@ -1,12 +1,16 @@
-use Rattle.std.proofs.Common.{map, sym, subst, ◌∙◌}
+use Rattle.std.proofs.Common.{◌≡◌, map, sym, subst, ◌∙◌, Ok}
 use Rattle.std.specs.List.{All}
 use Rattle.tree_core.specs.declared.relvar.Relvars.{Relvars}
 use Rattle.tree_core.specs.Items.{read_assignment}
 use Rattle.tree_core.specs.Relvars.{read_relvars, read_entry}
 use Rattle.meaning_core.specs.Updates.{IsTypedAssignment}
+use Rattle.assign_core.specs.Assignments.{after_assignments}
 use Rattle.assign_core.specs.Databases.{IsKept}
+use Rattle.assign_core.specs.Growth.{IsReady, with_ready}
+use Rattle.assign_core.specs.declared.preparing.Ready.{Ready}
 use Rattle.assign_core.proofs.AssignedLemmas.{each_of, assigned_kept}
 use Rattle.assign_core.proofs.ChangeLemmas.{same_length, entries_length}
+use Rattle.assign_core.proofs.GainedLemmas.{gained_kept}
 use Rattle.assign_core.proofs.database.Database.assign.Goals as goal
 
 pub prepare-requires-clause-typed : goal.prepare-requires-clause-typed
@@ -18,10 +22,23 @@ prepare-requires-clause-typed g c =
 pub exchange_all-requires : goal.exchange_all-requires
 exchange_all-requires g c =
     let raw = c.self.inside.relvars.list.entries in
-    same_length c.in_ok-changes.changes.items (map read_entry raw) c.in_ok-changes.ensures.changes ∙ entries_length raw
+    let ready = subst (λ (r : Ready). IsReady r (map read_entry raw)) c.in-Values.is c.in_ok-changes.ensures.ready in
+    same_length c.in-Values.changes.items (map read_entry raw) ready ∙ entries_length raw
 
 pub invariant_of-self : goal.invariant_of-self
 invariant_of-self g c =
     let s = read_relvars c.self.inside.relvars in
+    let list = map read_assignment c.args.list.now in
+    let ready = subst (λ (r : Ready). IsReady r s.relvars) c.in-Values.is c.in_ok-changes.ensures.ready in
+    let meant = subst (λ (r : Ready). after_assignments s.relvars list ≡ Ok (with_ready r s.relvars)) c.in-Values.is c.in_ok-changes.ensures.meant in
     subst IsKept (λ i. record { ordinals = sym c.exchange_all.ensures.ordinals i; relvars = sym c.exchange_all.ensures.list i })
-    (assigned_kept s c.in_ok-changes.changes.items (map read_assignment c.args.list.now) c.self.invariant c.in_ok-changes.ensures.changes c.in_ok-changes.ensures.ready)
+    (assigned_kept s c.in-Values.changes.items list c.self.invariant ready meant)
+
+pub invariant_of-self-in-Rows : goal.invariant_of-self-in-Rows
+invariant_of-self-in-Rows g c =
+    let s = read_relvars c.self.inside.relvars in
+    let list = map read_assignment c.args.list.now in
+    let ready = subst (λ (r : Ready). IsReady r s.relvars) c.in-Rows.is c.in_ok-changes.ensures.ready in
+    let meant = subst (λ (r : Ready). after_assignments s.relvars list ≡ Ok (with_ready r s.relvars)) c.in-Rows.is c.in_ok-changes.ensures.meant in
+    subst IsKept (λ i. record { ordinals = sym c.gain.ensures.ordinals i; relvars = sym c.in_ok-gain-in-Rows.ensures.list i })
+    (gained_kept s c.in-Rows.at c.in-Rows.rows list c.self.invariant ready meant)
