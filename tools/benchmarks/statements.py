@@ -1,15 +1,16 @@
 #!/usr/bin/env python3
 """statements: a script that puts rows into a relvar with a key, many or few in a statement.
 
-    statements.py ROWS EACH [--count MORE] > script
+    statements.py ROWS EACH [--count MORE] [--using] > script
 
 ROWS rows, EACH of them in an INSERT, in no order; the last statement counts them. With --count, MORE statements with one row each
-follow.
+follow. With --using the key is one under USING of the interval, so that rows are packed and keys are asked at each point.
 """
 import random
 import sys
 
-HEAD = 'VAR R RELATION {K INTEGER, T CHAR, D INTERVAL(DATE)} KEY {K};\n'
+HEAD = 'VAR R RELATION {K INTEGER, T CHAR, D INTERVAL(DATE)} %s;\n'
+KEY, KEY_USING = 'KEY {K}', 'USING (D): KEY {K, D}'
 TAIL = 'PRINT SUMMARIZE R BY {}: {N := COUNT()};\n'
 
 
@@ -30,7 +31,7 @@ def main():
     numbers = list(range(rows + more))
     random.Random(1).shuffle(numbers)
     write = sys.stdout.write
-    write(HEAD)
+    write(HEAD % (KEY_USING if '--using' in sys.argv[3:] else KEY))
     inserts(numbers[:rows], each, write)
     inserts(numbers[rows:], 1, write)
     write(TAIL)
