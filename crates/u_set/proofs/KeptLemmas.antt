@@ -106,9 +106,6 @@ module _ (heading : Heading) (at : ℕ) (intervals : AreIntervals heading (at �
       in_at (x ∷ xs) (suc i) l = inr (in_at xs i (omega arith))
 
   module _ (rows : List Row) (shaped : (x : Row) → In x rows → IsShaped heading acl x) where
-
-
-
     own_packed : IsChain label at One rows → in_order box_cmp (map box rows) ≡ packed_boxes row_cmp 1 (map box rows)
     own_packed chain =
         apart_packed row_cmp row_total box_total box_separates (map box rows) (map box chain.list) (IsPermutation-map box rows chain.list chain.moved)

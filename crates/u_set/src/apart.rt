@@ -159,12 +159,7 @@ fn stand_apart(rows: &[&Row], label: &[usize], at: usize, gap: Gap) -> bool
 }
 
 // Whether the rows are apart, by one sort.
-fn sorted_apart(
-    rows: Vec<&Row>,
-    label: &[usize],
-    at: usize,
-    gap: Gap,
-) -> Result<bool, Memory>
+fn sorted_apart(rows: Vec<&Row>, label: &[usize], at: usize, gap: Gap) -> Result<bool, Memory>
     requires { All (λ r. HasInterval at r.now) rows.items }
     ensures { IfOk result (λ b. b ≡ true → IsChain label.now at gap (map (λ r. r.now) rows.entry.items)) }
 {
