@@ -45,7 +45,7 @@ pub fn name_typed(alloc: Global, word: &Word) -> Result<Name, Stop>
 }
 
 /// The name of these bytes.
-fn name_of(alloc: Global, bytes: &[u8]) -> Result<Option<Name>, Memory>
+pub(crate) fn name_of(alloc: Global, bytes: &[u8]) -> Result<Option<Name>, Memory>
     ensures { IfOk result (λ n. n ≡ (if rules.is_name bytes.now then Some bytes.now else None)) }
 {
     match str::from_utf8(bytes) {

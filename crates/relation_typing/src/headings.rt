@@ -71,7 +71,7 @@ fn same_attribute(a: &(Name, Kind), b: &(Name, Kind)) -> bool
 }
 
 /// Whether two lists of attributes are one.
-fn same_attributes(a: &[(Name, Kind)], b: &[(Name, Kind)]) -> bool
+pub(crate) fn same_attributes(a: &[(Name, Kind)], b: &[(Name, Kind)]) -> bool
     ensures { result ≡ rules.same_heading a.now b.now }
 {
     match a.split_first() {

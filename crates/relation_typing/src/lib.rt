@@ -5,6 +5,7 @@ mod attributes;
 mod headings;
 mod items;
 mod literals;
+mod shapes;
 
 pub use attributes::{Attributes, few_attributes, heading_of, listed, name_typed, new_name, put};
 pub use headings::{heading_typed, kind_typed, same_heading};

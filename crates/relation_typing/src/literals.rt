@@ -7,16 +7,18 @@ ghost use Rattle.tree_core.specs.Trees as trees;
 ghost use Rattle.tree_core.specs.Trees.{read_sets, read_tree};
 ghost use Rattle.relation_typing.specs.Literals as rules;
 ghost use Rattle.relation_typing.specs.Literals.{headed};
+ghost use Rattle.relation_typing.specs.Shapes.{IsShape};
 
 use crate::attributes::few_attributes;
 use crate::headings::{heading_typed, same_heading};
 use crate::items::elements_typed;
+use crate::shapes::{shape_of, tuple_like};
 use point_core::{Code, Fault, Memory, Place, Stop};
 use std::alloc::Global;
 use tree_core::{RelForm, RelTree, Sets};
 use utd_syntax as syntax;
 use utd_syntax::{Elements, Literal, Tuple};
-use value_core::{Heading, HeadingRefuse, ListOf, OrdinalTypes};
+use value_core::{Heading, HeadingRefuse, Kind, ListOf, Name, OrdinalTypes};
 
 /// A tuple with the heading that it makes.
 #[derive(Drop)]
@@ -67,8 +69,8 @@ fn under_heading(place: Place, heading: &Heading, made: HeadedTuple) -> Result<S
     }
 }
 
-/// A tuple that is to have the heading.
-fn next_tuple(
+/// A tuple that is to have the heading, whatever its names and their order.
+fn any_tuple(
     alloc: Global,
     types: &OrdinalTypes,
     heading: &Heading,
@@ -81,22 +83,56 @@ fn next_tuple(
     under_heading(tuple.place, heading, made)
 }
 
+/// A tuple that is to have the heading. Most tuples of a literal are of one shape.
+fn next_tuple(
+    alloc: Global,
+    types: &OrdinalTypes,
+    heading: &Heading,
+    shape: &[(Name, Kind)],
+    tuple: &Tuple,
+) -> Result<Sets, Stop>
+    requires ordinals { AreOrdinals types.now }
+    requires shape { IsShape heading.now shape.now }
+    ensures { Gives read_sets result (rules.next_tuple types.now heading.now (read_tuple tuple.now)) }
+{
+    match tuple_like(alloc, types, heading, shape, tuple)? {
+        Some(sets) => Ok(sets),
+        None => any_tuple(alloc, types, heading, tuple),
+    }
+}
+
 /// The tuples behind those so far.
 fn tuples_typed(
     alloc: Global,
     types: &OrdinalTypes,
     heading: &Heading,
+    shape: &[(Name, Kind)],
     before: Vec<Sets>,
     tuples: &[Tuple],
 ) -> Result<Vec<Sets>, Stop>
-    requires { AreOrdinals types.now }
+    requires ordinals { AreOrdinals types.now }
+    requires shape { IsShape heading.now shape.now }
     ensures { Gives (λ v. map read_sets v.items) result (rules.tuples_typed types.now heading.now (map read_sets before.items) (read_tuple_list tuples.now)) }
 {
     let mut list = before;
     for tuple in tuples {
-        list.push(next_tuple(alloc, types, heading, tuple)?)?;
+        list.push(next_tuple(alloc, types, heading, shape, tuple)?)?;
     }
     Ok(list)
+}
+
+/// The shape of the first of the tuples.
+fn first_shape(
+    alloc: Global,
+    heading: &Heading,
+    tuples: &[Tuple],
+) -> Result<Vec<(Name, Kind)>, Memory>
+    ensures { IfOk result (λ shape. IsShape heading.now shape.items) }
+{
+    match tuples.first() {
+        Some(tuple) => shape_of(alloc, heading, tuple.elements.elements.list.as_slice()),
+        None => Ok(Vec::new(alloc)),
+    }
 }
 
 /// A literal with a written heading.
@@ -111,7 +147,15 @@ fn headed_typed(
     ensures { Gives read_tree result (rules.headed_typed types.now place (read_heading heading.now) (read_tuple_list tuples.now)) }
 {
     let heading = heading_typed(alloc, types, heading)?;
-    let list = tuples_typed(alloc, types, &heading, Vec::new(alloc), tuples)?;
+    let shape = first_shape(alloc, &heading, tuples)?;
+    let list = tuples_typed(
+        alloc,
+        types,
+        &heading,
+        shape.as_slice(),
+        Vec::new(alloc),
+        tuples,
+    )?;
     Ok(literal(place, heading, list))
 }
 
@@ -130,7 +174,8 @@ fn first_typed(
     let heading = made.heading;
     let mut before = Vec::new(alloc);
     before.push(made.sets)?;
-    let list = tuples_typed(alloc, types, &heading, before, more)?;
+    let shape = shape_of(alloc, &heading, first.elements.elements.list.as_slice())?;
+    let list = tuples_typed(alloc, types, &heading, shape.as_slice(), before, more)?;
     Ok(literal(place, heading, list))
 }
 
