@@ -1,3 +1,4 @@
+pub mod AdditionLemmas
 pub mod AssignedLemmas
 pub mod ChangeLemmas
 pub mod CheckLemmas

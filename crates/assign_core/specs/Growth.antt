@@ -2,21 +2,15 @@
 --     gained_at      the relvars after rows have come to the one at a place
 --     IsGrowth      what is asked of rows that stand ready for a base relvar
 --     grown      the relvars after they have come
---     IsInsertion      an assignment that adds the rows of an expression to its own target
 --     IsReady, with_ready      what stands ready, and the relvars with it
 use Rattle.std.specs.Prelude.{◌≡◌, ℕ, zero, suc, ◌+◌, ◌≤◌, Bool, false, List, [], ◌∷◌, length, Option, Some, None, if◌then◌else◌}
 use Rattle.std.specs.Str.{bytes_eq}
 use Rattle.value_core.specs.declared.constraint.Constraint.{Constraint}
-use Rattle.value_core.specs.Values.{Name, Heading, Row, Relation, most_rows}
-use Rattle.point_core.specs.declared.fault.Place.{Place}
+use Rattle.value_core.specs.Values.{Name, Row, Relation, most_rows}
 use Rattle.relation_core.specs.Operators.{united}
-use Rattle.tree_core.specs.declared.tree.InfixWord.TheVariants.{Union}
-use Rattle.tree_core.specs.Items.{PlainAssignment, read_assignment}
 use Rattle.tree_core.specs.Relvars.{PlainRelvar, base, view, Entries, read_relvars}
-use Rattle.tree_core.specs.Trees.{Tree, named, infix_of, read_tree}
 use Rattle.meaning_core.specs.Names.{IsFirstAt}
 use Rattle.assign_core.specs.declared.growth.Growth.{Growth}
-use Rattle.assign_core.specs.declared.insertion.Insertion.{Insertion}
 use Rattle.assign_core.specs.declared.preparing.Ready.{Ready}
 use Rattle.assign_core.specs.declared.preparing.Ready.TheVariants.{Values, Rows}
 use Rattle.assign_core.specs.Changes.{AreChanges, changed}
@@ -73,18 +67,6 @@ rows_after g own rows = if own then united rows g.rows.now.rows else rows
 abbrev pub names_grown : Growth → Option Name → Bool
 names_grown g None = false
 names_grown g (Some name) = bytes_eq g.name.now name
-
--- ---- insertions
-
--- the target, united with the rows of an expression
-abbrev pub insertion_of : Place → Heading → Place → Heading → Name → Tree → PlainAssignment
-insertion_of place heading at h target t = record { target = target; tree = infix_of place heading Union (named at h target) t }
-
--- the assignment adds the operand's rows to its target
-pub record IsInsertion (i : Insertion) : Type 0 where
-  pub at : Place
-  pub headed : Heading
-  pub is : read_assignment i.assignment.now ≡ insertion_of i.assignment.now.tree.place i.assignment.now.tree.heading at headed i.assignment.now.target (read_tree i.operand.now)
 
 -- ---- what stands ready
 

@@ -5,4 +5,5 @@ pub mod Checks
 pub mod Costs
 pub mod Databases
 pub mod Growth
+pub mod Insertions
 pub mod Parts

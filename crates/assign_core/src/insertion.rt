@@ -1,36 +1,31 @@
 // Assignments that add rows to their own targets.
-ghost use Rattle.std.specs.Prelude.{◌≡◌, ◌+◌, ◌≤◌, ℕ, [], ◌∷◌, List, length, map, replicate, IfSome, IfOk, IfErr, Ok, None};
-ghost use Rattle.value_core.specs.Values.{most_rows};
+ghost use Rattle.std.specs.Prelude.{◌≡◌, ◌+◌, ◌≤◌, [], ◌∷◌, List, length, map, option_map, replicate, IfSome, IfOk, IfErr, None};
 ghost use Rattle.value_core.specs.declared.constraint.Constraint.{Constraint};
-ghost use Rattle.relation_core.specs.Operators.{united};
+ghost use Rattle.value_core.specs.Values.{Heading as PlainHeading};
+ghost use Rattle.point_core.specs.declared.fault.Place.{Place};
 ghost use Rattle.tree_core.specs.Items.{read_assignment};
 ghost use Rattle.tree_core.specs.Relvars.{read_relvars, base};
-ghost use Rattle.tree_core.specs.Trees.{infix_of, read_tree};
+ghost use Rattle.tree_core.specs.Trees.{using, read_tree};
 ghost use Rattle.meaning_core.specs.Names.{IsFirstAt};
 ghost use Rattle.meaning_core.specs.Updates.{IsTypedAssignment};
 ghost use Rattle.meaning_core.specs.WellMade.{IsWellMade};
-ghost use Rattle.assign_core.specs.Assignments.{after_assignments, evaluated, IsRefusedFor, IsAdmitted};
-ghost use Rattle.assign_core.specs.Breaches.{first_broken};
-ghost use Rattle.assign_core.specs.Checks.{AllChecked};
-ghost use Rattle.assign_core.specs.Costs.{assignments_cost, sources_cost, constraints_cost};
-ghost use Rattle.assign_core.specs.Databases.{IsKept};
-ghost use Rattle.assign_core.specs.Growth.{gained_at, grown, not_grown, IsGain, IsGained, IsGrowth, IsInsertion};
+ghost use Rattle.assign_core.specs.Assignments.{after_assignments, IsRefusedFor};
+ghost use Rattle.assign_core.specs.Costs.{sources_cost};
+ghost use Rattle.assign_core.specs.Insertions.{joined_under, list_in, united_cost, IsInsertion, IsSumOf};
 
-use crate::changes::none_yet;
-use crate::counting::are_few;
-use crate::growth::{Growth, check_growth};
 use crate::sources::source;
-use point_core::{Code, Fault, Steps};
-use relation_core::absent;
+use point_core::Steps;
 use std::alloc::Global;
 use std::sync::ledger::Ledger;
 use tree_core::{Assignment, InfixWord, RelForm, RelTree, Relvar, Relvars};
-use value_core::{MOST_ROWS, MOST_ROWS_IN_ALL, Refuse, Relation};
+use value_core::{Positions, Refuse, Relation};
 
-/// An assignment that adds the rows of an operand to its own target.
+/// An assignment that adds the rows of an operand to its own target, point by point for the attributes of a list where it stands
+/// under USING.
 #[derive(Clone, Copy)]
 pub(crate) struct Insertion<'a> {
     pub assignment: &'a Assignment,
+    pub list: Option<&'a Positions>,
     pub operand: &'a RelTree,
 }
 
@@ -51,7 +46,26 @@ fn as_insertion(assignment: &Assignment) -> Option<Insertion<'_>>
     ensures is { IfSome result IsInsertion }
 {
     match &assignment.tree.form {
-        RelForm::Infix(word, left, operand) => with_operand(assignment, *word, left, operand),
+        RelForm::Infix(word, left, operand) => with_operand(assignment, None, *word, left, operand),
+        RelForm::Using(acl, part) => under_list(assignment, acl, part),
+        _ => None,
+    }
+}
+
+// The assignment of an expression under USING as an insertion, where it is one.
+fn under_list<'a>(
+    assignment: &'a Assignment,
+    acl: &'a Positions,
+    part: &'a RelTree,
+) -> Option<Insertion<'a>>
+    requires { read_tree assignment.now.tree ≡ using assignment.now.tree.place assignment.now.tree.heading acl.now (read_tree part.now) }
+    ensures same { IfSome result (λ i. i.assignment.now ≡ assignment.now) }
+    ensures is { IfSome result IsInsertion }
+{
+    match &part.form {
+        RelForm::Infix(word, left, operand) => {
+            with_operand(assignment, Some(acl), *word, left, operand)
+        }
         _ => None,
     }
 }
@@ -59,84 +73,51 @@ fn as_insertion(assignment: &Assignment) -> Option<Insertion<'_>>
 // The assignment of two operands as an insertion, where it is one: the union of its target and the right one.
 fn with_operand<'a>(
     assignment: &'a Assignment,
+    list: Option<&'a Positions>,
     word: InfixWord,
     left: &RelTree,
     operand: &'a RelTree,
 ) -> Option<Insertion<'a>>
-    requires { read_tree assignment.now.tree ≡ infix_of assignment.now.tree.place assignment.now.tree.heading word (read_tree left.now) (read_tree operand.now) }
+    requires { (at : Place) × (headed : PlainHeading) × (read_tree assignment.now.tree ≡ joined_under assignment.now.tree.place assignment.now.tree.heading
+        (option_map (λ l. l.now) list) at headed word (read_tree left.now) (read_tree operand.now)) }
     ensures same { IfSome result (λ i. i.assignment.now ≡ assignment.now) }
     ensures is { IfSome result IsInsertion }
 {
     match (word, &left.form) {
         (InfixWord::Union, RelForm::Named(name)) if *name == assignment.target => Some(Insertion {
             assignment,
+            list,
             operand,
         }),
         _ => None,
     }
 }
 
-/// The place of the target and the rows that come to it, or why the insertion is refused.
-pub(crate) fn prepare_rows<L: Ledger>(
-    alloc: Global,
-    insertion: Insertion<'_>,
-    relvars: &Relvars,
-    steps: &mut Steps<L>,
-) -> Result<(usize, Relation), Refuse>
-    requires kept { IsKept (read_relvars relvars.now) }
-    requires insertion { IsInsertion insertion }
-    requires typed { IsTypedAssignment (read_relvars relvars.now) (read_assignment insertion.assignment.now) }
-    ensures gain { IfOk result (λ r. IsGain r.0 r.1 (read_relvars relvars.now).relvars) }
-    ensures ready { IfOk result (λ r. after_assignments (read_relvars relvars.now).relvars (read_assignment insertion.entry.assignment.now ∷ [])
-        ≡ Ok (gained_at r.0 r.1.rows (read_relvars relvars.now).relvars)) }
-    ensures refused { IfErr result (λ refuse. IsRefusedFor refuse (after_assignments (read_relvars relvars.now).relvars (read_assignment insertion.entry.assignment.now ∷ []))) }
-    ensures cost { steps.new ≤ steps.old + assignments_cost (read_relvars relvars.now).relvars (read_assignment insertion.entry.assignment.now ∷ []) }
-{
-    let none = none_yet(alloc, relvars)?;
-    let (at, value, rows) = new_rows(alloc, insertion, relvars, none.as_slice(), steps)?;
-    let growth = Growth {
-        relvars,
-        at,
-        name: &insertion.assignment.target,
-        value,
-        rows: &rows,
-    };
-    admit_growth(alloc, growth, none.as_slice(), steps)?;
-    Ok((at, rows))
-}
-
-// The place of the target, its value, and the operand's rows that it does not have; or the first fault.
-fn new_rows<'a, L: Ledger>(
+/// The place of the target, its value, and the rows of the operand; or the operand's fault.
+pub(crate) fn evaluate_operand<'a, L: Ledger>(
     alloc: Global,
     insertion: Insertion<'_>,
     relvars: &'a Relvars,
     none: &[Option<Relation>],
     steps: &mut Steps<L>,
 ) -> Result<(usize, &'a Relation, Relation), Refuse>
-    requires kept { IsKept (read_relvars relvars.now) }
+    requires well_made { IsWellMade (read_relvars relvars.now) }
     requires none { none.now ≡ replicate (length relvars.now.list.entries) None }
     requires insertion { IsInsertion insertion }
     requires typed { IsTypedAssignment (read_relvars relvars.now) (read_assignment insertion.assignment.now) }
-    ensures gained { IfOk result (λ r. IsGained (read_relvars relvars.now).relvars insertion.entry.assignment.now.target r.0 r.1.now r.2) }
-    ensures ready { IfOk result (λ r. evaluated (read_relvars relvars.now).relvars (read_relvars relvars.now).relvars (read_assignment insertion.entry.assignment.now ∷ [])
-        ≡ Ok (gained_at r.0 r.2.rows (read_relvars relvars.now).relvars)) }
+    ensures sum { IfOk result (λ r. IsSumOf (read_relvars relvars.now).relvars insertion.entry r.0 r.1.now r.2) }
     ensures refused { IfErr result (λ refuse. IsRefusedFor refuse (after_assignments (read_relvars relvars.now).relvars (read_assignment insertion.entry.assignment.now ∷ []))) }
     ensures cost { steps.new ≤ steps.old + sources_cost (read_relvars relvars.now).relvars (read_relvars relvars.now).relvars (read_assignment insertion.entry.assignment.now ∷ []) }
+    ensures left { IfOk result (λ r. steps.new + united_cost (list_in insertion.entry) (length r.1.now.rows + length r.2.rows)
+        ≤ steps.old + sources_cost (read_relvars relvars.now).relvars (read_relvars relvars.now).relvars (read_assignment insertion.entry.assignment.now ∷ [])) }
 {
     let assignment = insertion.assignment;
     let (at, value) = base_at(relvars, assignment);
-    let room = MOST_ROWS - value.rows().len();
+    // A relation has few rows, and its heading is one.
+    let _rows = value.rows();
     let (operand, target) = (insertion.operand, &assignment.target);
     let operand = source(alloc, operand, target, relvars, none, steps)?;
-    let rows = absent(alloc, &operand, value)?;
-    drop(operand);
-    if rows.rows().len() > room {
-        return Err(Refuse::At(Fault {
-            place: assignment.tree.place,
-            code: Code::E35,
-        }));
-    }
-    Ok((at, value, rows))
+    Ok((at, value, operand))
 }
 
 // The place of the target, and its value.
@@ -167,25 +148,4 @@ fn base_at<'a>(relvars: &'a Relvars, assignment: &Assignment) -> (usize, &'a Rel
         ) => unreachable!(),
         None => unreachable!(),
     }
-}
-
-// Refuses too many rows of all relvars, and then a broken constraint.
-fn admit_growth<L: Ledger>(
-    alloc: Global,
-    growth: Growth<'_>,
-    none: &[Option<Relation>],
-    steps: &mut Steps<L>,
-) -> Result<(), Refuse>
-    requires growth { IsGrowth growth }
-    requires none { none.now ≡ replicate (length growth.relvars.now.list.entries) None }
-    requires checked { AllChecked (not_grown growth) (not_grown growth) }
-    requires held { first_broken (not_grown growth) ≡ None }
-    ensures admitted { IsAdmitted result (grown growth.entry) }
-    ensures cost { steps.new ≤ steps.old + constraints_cost (grown growth.entry) }
-{
-    let most = MOST_ROWS_IN_ALL - growth.rows.rows().len();
-    if !are_few(growth.relvars, none, most) {
-        return Err(Refuse::Plain(Code::E46));
-    }
-    check_growth(alloc, growth, steps)
 }

@@ -1,6 +1,7 @@
 //! The database: relvars that keep their constraints, changed all together or not at all.
 #![tactic(auto)]
 
+mod addition;
 mod appending;
 mod changes;
 mod checking;

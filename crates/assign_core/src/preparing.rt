@@ -1,5 +1,5 @@
 // What stands ready before anything changes.
-ghost use Rattle.std.specs.Prelude.{◌≡◌, ◌≤◌, ◌+◌, map, None, Ok, IfOk, IfErr};
+ghost use Rattle.std.specs.Prelude.{◌≡◌, ◌≤◌, ◌+◌, [], ◌∷◌, length, map, replicate, None, Ok, IfOk, IfErr};
 ghost use Rattle.std.specs.List.{All};
 ghost use Rattle.tree_core.specs.Items.{read_assignment};
 ghost use Rattle.tree_core.specs.Relvars.{read_relvars};
@@ -8,14 +8,16 @@ ghost use Rattle.assign_core.specs.Assignments.{after_assignments, IsRefusedFor,
 ghost use Rattle.assign_core.specs.Breaches.{first_broken};
 ghost use Rattle.assign_core.specs.Changes.{AreChanges, changed};
 ghost use Rattle.assign_core.specs.Checks.{AllChecked};
-ghost use Rattle.assign_core.specs.Costs.{assignments_cost, constraints_cost};
+ghost use Rattle.assign_core.specs.Costs.{assignments_cost, constraints_cost, constraints_cost_of};
 ghost use Rattle.assign_core.specs.Databases.{IsKept};
 ghost use Rattle.assign_core.specs.Growth.{with_ready, IsReady};
+ghost use Rattle.assign_core.specs.Insertions.{addition_cost, entries_of, outcome, sum_of, IsAddition, IsInsertion};
 
+use crate::addition::{Addition, is_plain, prepare_rows, put_united};
 use crate::changes::none_yet;
 use crate::checking::{After, check};
 use crate::counting::are_few;
-use crate::insertion::{find_insertion, prepare_rows};
+use crate::insertion::{Insertion, evaluate_operand, find_insertion};
 use crate::sources::evaluate;
 use point_core::{Code, Steps};
 use std::alloc::Global;
@@ -46,15 +48,83 @@ pub(crate) fn prepare<L: Ledger>(
     ensures cost { steps.new ≤ steps.old + assignments_cost (read_relvars relvars.now).relvars (map read_assignment list.now) }
 {
     match find_insertion(list) {
-        Some(insertion) => {
-            let (at, rows) = prepare_rows(alloc, insertion, relvars, steps)?;
-            Ok(Ready::Rows(at, rows))
-        }
+        Some(insertion) => prepare_insertion(alloc, insertion, relvars, steps),
         None => {
             let changes = prepare_values(alloc, list, relvars, steps)?;
             Ok(Ready::Values(changes))
         }
     }
+}
+
+// What stands ready for the target of an insertion, or why it is refused.
+fn prepare_insertion<L: Ledger>(
+    alloc: Global,
+    insertion: Insertion<'_>,
+    relvars: &Relvars,
+    steps: &mut Steps<L>,
+) -> Result<Ready, Refuse>
+    requires kept { IsKept (read_relvars relvars.now) }
+    requires insertion { IsInsertion insertion }
+    requires typed { IsTypedAssignment (read_relvars relvars.now) (read_assignment insertion.assignment.now) }
+    ensures ready { IfOk result (λ r. IsReady r (read_relvars relvars.now).relvars) }
+    ensures meant { IfOk result (λ r. after_assignments (read_relvars relvars.now).relvars (read_assignment insertion.entry.assignment.now ∷ [])
+        ≡ Ok (with_ready r (read_relvars relvars.now).relvars)) }
+    ensures refused { IfErr result (λ refuse. IsRefusedFor refuse (after_assignments (read_relvars relvars.now).relvars (read_assignment insertion.entry.assignment.now ∷ []))) }
+    ensures cost { steps.new ≤ steps.old + assignments_cost (read_relvars relvars.now).relvars (read_assignment insertion.entry.assignment.now ∷ []) }
+{
+    let none = none_yet(alloc, relvars)?;
+    let (at, value, operand) = evaluate_operand(alloc, insertion, relvars, none.as_slice(), steps)?;
+    let addition = Addition {
+        insertion,
+        relvars,
+        at,
+        value,
+        operand: &operand,
+    };
+    prepare_addition(alloc, addition, none.as_slice(), steps)
+}
+
+// What stands ready once the operand has a value, or why the insertion is refused.
+fn prepare_addition<L: Ledger>(
+    alloc: Global,
+    addition: Addition<'_>,
+    none: &[Option<Relation>],
+    steps: &mut Steps<L>,
+) -> Result<Ready, Refuse>
+    requires kept { IsKept (read_relvars addition.relvars.now) }
+    requires none { none.now ≡ replicate (length addition.relvars.now.list.entries) None }
+    requires addition { IsAddition addition }
+    ensures ready { IfOk result (λ r. IsReady r (entries_of addition.entry)) }
+    ensures meant { IfOk result (λ r. outcome addition.entry ≡ Ok (with_ready r (entries_of addition.entry))) }
+    ensures refused { IfErr result (λ refuse. IsRefusedFor refuse (outcome addition.entry)) }
+    ensures cost { steps.new ≤ steps.old + (addition_cost addition.entry + constraints_cost_of (sum_of addition.entry)) }
+{
+    if is_plain(alloc, addition)? {
+        let rows = prepare_rows(alloc, addition, none, steps)?;
+        Ok(Ready::Rows(addition.at, rows))
+    } else {
+        let changes = prepare_united(alloc, addition, steps)?;
+        Ok(Ready::Values(changes))
+    }
+}
+
+// The target's new value, of the rows of both; or why the insertion is refused.
+fn prepare_united<L: Ledger>(
+    alloc: Global,
+    addition: Addition<'_>,
+    steps: &mut Steps<L>,
+) -> Result<Vec<Option<Relation>>, Refuse>
+    requires kept { IsKept (read_relvars addition.relvars.now) }
+    requires addition { IsAddition addition }
+    ensures changes { IfOk result (λ v. AreChanges v.items (entries_of addition.entry)) }
+    ensures ready { IfOk result (λ v. outcome addition.entry ≡ Ok (changed v.items (entries_of addition.entry))) }
+    ensures refused { IfErr result (λ refuse. IsRefusedFor refuse (outcome addition.entry)) }
+    ensures cost { steps.new ≤ steps.old + (addition_cost addition.entry + constraints_cost_of (sum_of addition.entry)) }
+{
+    let mut changes = none_yet(alloc, addition.relvars)?;
+    put_united(alloc, addition, &mut changes, steps)?;
+    admit(alloc, addition.relvars, changes.as_slice(), steps)?;
+    Ok(changes)
 }
 
 // The new values of all targets, or why the assignments are refused.

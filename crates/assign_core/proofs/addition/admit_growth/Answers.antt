@@ -7,7 +7,7 @@ use Rattle.assign_core.specs.Changes.{Changes, changed}
 use Rattle.assign_core.specs.Growth.{grown, not_grown}
 use Rattle.assign_core.proofs.ChangeLemmas.{none_changed}
 use Rattle.assign_core.proofs.GrowthLemmas.{rows_grown, few_grown, over_admitted, told_admitted, cost_admitted}
-use Rattle.assign_core.proofs.insertion.admit_growth.Goals as goal
+use Rattle.assign_core.proofs.addition.admit_growth.Goals as goal
 
 pub returns-then-not-are_few-clause-admitted : goal.returns-then-not-are_few-clause-admitted
 returns-then-not-are_few-clause-admitted g c =

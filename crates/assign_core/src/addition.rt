@@ -1,0 +1,157 @@
+// What an insertion makes of its target.
+ghost use Rattle.std.specs.Prelude.{◌≡◌, ◌+◌, ◌≤◌, true, length, replicate, IfOk, IfErr, Ok, None};
+ghost use Rattle.relation_core.specs.Answers.{Answers};
+ghost use Rattle.scalar_core.specs.Answers.{Gives};
+ghost use Rattle.tree_core.specs.Relvars.{read_relvars};
+ghost use Rattle.meaning_core.specs.WellMade.{IsWellMade};
+ghost use Rattle.assign_core.specs.Assignments.{IsRefusedFor, IsAdmitted};
+ghost use Rattle.assign_core.specs.Breaches.{first_broken};
+ghost use Rattle.assign_core.specs.Changes.{AreChanges, changed};
+ghost use Rattle.assign_core.specs.Checks.{AllChecked};
+ghost use Rattle.assign_core.specs.Costs.{constraints_cost, constraints_cost_of};
+ghost use Rattle.assign_core.specs.Databases.{IsKept};
+ghost use Rattle.assign_core.specs.Growth.{gained_at, grown, not_grown, IsGain, IsGained, IsGrowth};
+ghost use Rattle.assign_core.specs.Insertions.{addition_cost, entries_of, outcome, sum_of, value_meant, IsAddition, IsPlain};
+
+use crate::counting::are_few;
+use crate::growth::{Growth, check_growth};
+use crate::insertion::Insertion;
+use point_core::{Code, Fault, Memory, Steps, Stop};
+use relation_core::{absent, union};
+use row_making::told;
+use std::alloc::Global;
+use std::sync::ledger::Ledger;
+use tree_core::Relvars;
+use u_set::{stay_apart, united};
+use value_core::{MOST_ROWS, MOST_ROWS_IN_ALL, Refuse, Relation};
+
+/// An insertion with the place and the value of its target, and the rows of its operand.
+#[derive(Clone, Copy)]
+pub(crate) struct Addition<'a> {
+    pub insertion: Insertion<'a>,
+    pub relvars: &'a Relvars,
+    pub at: usize,
+    pub value: &'a Relation,
+    pub operand: &'a Relation,
+}
+
+/// Whether the rows of both stay as they are: there is no list, or no row of the one has to do with the points of another.
+pub(crate) fn is_plain(alloc: Global, addition: Addition<'_>) -> Result<bool, Memory>
+    requires { IsAddition addition }
+    ensures { IfOk result (λ b. b ≡ true → IsPlain addition.entry) }
+{
+    match addition.insertion.list {
+        Some(acl) => stay_apart(alloc, addition.value, addition.operand, acl.list.as_slice()),
+        None => Ok(true),
+    }
+}
+
+/// The rows that come to the target, or why the insertion is refused.
+pub(crate) fn prepare_rows<L: Ledger>(
+    alloc: Global,
+    addition: Addition<'_>,
+    none: &[Option<Relation>],
+    steps: &mut Steps<L>,
+) -> Result<Relation, Refuse>
+    requires kept { IsKept (read_relvars addition.relvars.now) }
+    requires none { none.now ≡ replicate (length addition.relvars.now.list.entries) None }
+    requires addition { IsAddition addition }
+    requires plain { IsPlain addition }
+    ensures gain { IfOk result (λ r. IsGain addition.entry.at r (entries_of addition.entry)) }
+    ensures ready { IfOk result (λ r. outcome addition.entry ≡ Ok (gained_at addition.entry.at r.rows (entries_of addition.entry))) }
+    ensures refused { IfErr result (λ refuse. IsRefusedFor refuse (outcome addition.entry)) }
+    ensures cost { steps.new ≤ steps.old + constraints_cost_of (sum_of addition.entry) }
+{
+    let rows = new_rows(alloc, addition)?;
+    let growth = Growth {
+        relvars: addition.relvars,
+        at: addition.at,
+        name: &addition.insertion.assignment.target,
+        value: addition.value,
+        rows: &rows,
+    };
+    admit_growth(alloc, growth, none, steps)?;
+    Ok(rows)
+}
+
+// The operand's rows that the target does not have, or the fault of too many rows.
+fn new_rows(alloc: Global, addition: Addition<'_>) -> Result<Relation, Refuse>
+    requires kept { IsKept (read_relvars addition.relvars.now) }
+    requires addition { IsAddition addition }
+    requires plain { IsPlain addition }
+    ensures gained { IfOk result (λ r. IsGained (entries_of addition.entry) addition.entry.insertion.assignment.now.target addition.entry.at addition.entry.value.now r) }
+    ensures ready { IfOk result (λ r. sum_of addition.entry ≡ Ok (gained_at addition.entry.at r.rows (entries_of addition.entry))) }
+    ensures refused { IfErr result (λ refuse. IsRefusedFor refuse (outcome addition.entry)) }
+{
+    let room = MOST_ROWS - addition.value.rows().len();
+    let rows = absent(alloc, addition.operand, addition.value)?;
+    if rows.rows().len() > room {
+        return Err(Refuse::At(Fault {
+            place: addition.insertion.assignment.tree.place,
+            code: Code::E35,
+        }));
+    }
+    Ok(rows)
+}
+
+// Refuses too many rows of all relvars, and then a broken constraint.
+fn admit_growth<L: Ledger>(
+    alloc: Global,
+    growth: Growth<'_>,
+    none: &[Option<Relation>],
+    steps: &mut Steps<L>,
+) -> Result<(), Refuse>
+    requires growth { IsGrowth growth }
+    requires none { none.now ≡ replicate (length growth.relvars.now.list.entries) None }
+    requires checked { AllChecked (not_grown growth) (not_grown growth) }
+    requires held { first_broken (not_grown growth) ≡ None }
+    ensures admitted { IsAdmitted result (grown growth.entry) }
+    ensures cost { steps.new ≤ steps.old + constraints_cost (grown growth.entry) }
+{
+    let most = MOST_ROWS_IN_ALL - growth.rows.rows().len();
+    if !are_few(growth.relvars, none, most) {
+        return Err(Refuse::Plain(Code::E46));
+    }
+    check_growth(alloc, growth, steps)
+}
+
+/// Puts the rows of both, united under the list, in place as the target's new value.
+pub(crate) fn put_united<L: Ledger>(
+    alloc: Global,
+    addition: Addition<'_>,
+    changes: &mut Vec<Option<Relation>>,
+    steps: &mut Steps<L>,
+) -> Result<(), Stop>
+    requires well_made { IsWellMade (read_relvars addition.relvars.now) }
+    requires addition { IsAddition addition }
+    requires none { changes.old.items ≡ replicate (length addition.relvars.now.list.entries) None }
+    requires changes { AreChanges changes.old.items (entries_of addition) }
+    ensures changes { AreChanges changes.new.items (entries_of addition.entry) }
+    ensures value { Gives (λ done. changed changes.new.items (entries_of addition.entry)) result (sum_of addition.entry) }
+    ensures cost { steps.new ≤ steps.old + addition_cost addition.entry }
+{
+    let value = unite(alloc, addition, steps)?;
+    changes[addition.at] = Some(value);
+    Ok(())
+}
+
+// The rows of both, united under the list; or the fault of too many rows.
+fn unite<L: Ledger>(
+    alloc: Global,
+    addition: Addition<'_>,
+    steps: &mut Steps<L>,
+) -> Result<Relation, Stop>
+    requires { IsAddition addition }
+    ensures value { Answers result (value_meant addition.entry) }
+    ensures cost { steps.new ≤ steps.old + addition_cost addition.entry }
+{
+    let place = addition.insertion.assignment.tree.place;
+    let (value, operand) = (addition.value, addition.operand);
+    match addition.insertion.list {
+        Some(acl) => told(
+            place,
+            united(alloc, value, operand, acl.list.as_slice(), steps),
+        ),
+        None => told(place, union(alloc, value, operand)),
+    }
+}
