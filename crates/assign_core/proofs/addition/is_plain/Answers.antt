@@ -17,4 +17,4 @@ returns-in-Some c =
     let a = c.args.addition in
     let is : list_in a.insertion ≡ Some c.as_slice.result.now = (λ t. option_map (λ l. l.now) (c.in-Some.is t)) ∙ ap Some (sym (c.as_slice.ensures.value ∙ c.acl.view_is)) in
     subst (λ (l : Option (List ℕ)). IfOk c.stay_apart.result (λ (b : Bool). b ≡ true → united_in l a.value.now.rows a.operand.now.rows ≡ united a.value.now.rows a.operand.now.rows)) (sym is)
-    c.stay_apart.ensures.answer
+    c.stay_apart.ensures
