@@ -3,6 +3,7 @@ pub mod FitLemmas
 pub mod FrontLemmas
 pub mod HistoryLemmas
 pub mod KeyLemmas
+pub mod SearchLemmas
 pub mod MarkLemmas
 pub mod OutcomeLemmas
 pub mod PairLemmas
