@@ -1,2 +1,3 @@
 pub mod ItemLemmas
+pub mod PlaceLemmas
 pub mod SummaryLemmas

@@ -6,12 +6,12 @@ ghost use Rattle.relation_core.specs.Agreement.{names_of, part_of};
 ghost use Rattle.relation_core.specs.Answers.{Answers};
 ghost use Rattle.relation_core.specs.Groups.{rows_at};
 ghost use Rattle.tree_core.specs.Trees.{read_aggregate};
-ghost use Rattle.meaning_core.specs.Places.{places};
+ghost use Rattle.meaning_core.specs.Places.{place_among, places};
 ghost use Rattle.meaning_core.specs.Rows.{aggregate_names, first_row, group_at};
 ghost use Rattle.meaning_core.specs.Scalars.{AreSummedOver};
 
 use crate::aggregates::aggregates_on;
-use crate::places::{pick, places, with_names};
+use crate::places::{pick, place_behind};
 use point_core::{Memory, Stop};
 use std::alloc::Global;
 use tree_core::Aggregate;
@@ -64,19 +64,32 @@ pub fn aggregate_places(
 ) -> Result<Vec<usize>, Memory>
     ensures { IfOk result (λ list. list.items ≡ places (aggregate_names (map read_aggregate aggregates.now) ++ names_of from.now) to.now) }
 {
-    let made = aggregate_names(alloc, aggregates)?;
-    let names = with_names(made, alloc, from)?;
-    let list = places(alloc, names.as_slice(), to)?;
+    let mut list = Vec::with_capacity(alloc, to.len())?;
+    for attribute in to {
+        list.push(aggregate_place(aggregates, from, &attribute.0)?)?;
+    }
     Ok(list)
 }
 
-/// The names of the aggregates.
-fn aggregate_names(alloc: Global, aggregates: &[Aggregate]) -> Result<Vec<Name>, Memory>
-    ensures { IfOk result (λ names. names.items ≡ aggregate_names (map read_aggregate aggregates.now)) }
+/// Where the name stands among those of the aggregates and then of a heading.
+fn aggregate_place(
+    aggregates: &[Aggregate],
+    from: &[(Name, Kind)],
+    name: &Name,
+) -> Result<usize, Memory>
+    ensures { IfOk result (λ place. place ≡ place_among (aggregate_names (map read_aggregate aggregates.now) ++ names_of from.now) name.now) }
 {
-    let mut names = Vec::with_capacity(alloc, aggregates.len())?;
-    for aggregate in aggregates {
-        names.push(aggregate.name.copy(alloc)?)?;
+    place_behind(place_made(aggregates, name), aggregates.len(), from, name)
+}
+
+/// Where the name stands among those of the aggregates; past their end where it does not.
+fn place_made(aggregates: &[Aggregate], name: &Name) -> usize
+    ensures { result ≡ place_among (aggregate_names (map read_aggregate aggregates.now)) name.now }
+{
+    for (at, aggregate) in aggregates.iter().enumerate() {
+        if aggregate.name == *name {
+            return at;
+        }
     }
-    Ok(names)
+    aggregates.len()
 }

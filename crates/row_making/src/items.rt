@@ -7,11 +7,11 @@ ghost use Rattle.relation_core.specs.Agreement.{names_of};
 ghost use Rattle.relation_core.specs.Answers.{Answers};
 ghost use Rattle.tree_core.specs.Trees.{read_sets};
 ghost use Rattle.meaning_core.specs.Meanings.{condition};
-ghost use Rattle.meaning_core.specs.Places.{places};
+ghost use Rattle.meaning_core.specs.Places.{place_among, places};
 ghost use Rattle.meaning_core.specs.Rows.{extended_at, set_names, values_on};
 ghost use Rattle.meaning_core.specs.Scalars.{AreTypedOver, IsConditionOver};
 
-use crate::places::{pick, places, with_names};
+use crate::places::{pick, place_behind};
 use point_core::{Memory, Stop};
 use scalar_core::{Scalar, eval};
 use std::alloc::Global;
@@ -38,21 +38,30 @@ pub fn set_places(
 ) -> Result<Vec<usize>, Memory>
     ensures { IfOk result (λ list. list.items ≡ places (set_names (read_sets sets.now) ++ names_of from.now) to.now) }
 {
-    let made = set_names(alloc, sets)?;
-    let names = with_names(made, alloc, from)?;
-    let list = places(alloc, names.as_slice(), to)?;
+    let mut list = Vec::with_capacity(alloc, to.len())?;
+    for attribute in to {
+        list.push(set_place(sets, from, &attribute.0)?)?;
+    }
     Ok(list)
 }
 
-/// The names of the items.
-fn set_names(alloc: Global, sets: &[(Name, Scalar)]) -> Result<Vec<Name>, Memory>
-    ensures { IfOk result (λ names. names.items ≡ set_names (read_sets sets.now)) }
+/// Where the name stands among those of the items and then of a heading.
+fn set_place(sets: &[(Name, Scalar)], from: &[(Name, Kind)], name: &Name) -> Result<usize, Memory>
+    ensures { IfOk result (λ place. place ≡ place_among (set_names (read_sets sets.now) ++ names_of from.now) name.now) }
 {
-    let mut names = Vec::with_capacity(alloc, sets.len())?;
-    for set in sets {
-        names.push(set.0.copy(alloc)?)?;
+    place_behind(place_made(sets, name), sets.len(), from, name)
+}
+
+/// Where the name stands among those of the items; past their end where it does not.
+fn place_made(sets: &[(Name, Scalar)], name: &Name) -> usize
+    ensures { result ≡ place_among (set_names (read_sets sets.now)) name.now }
+{
+    for (at, set) in sets.iter().enumerate() {
+        if set.0 == *name {
+            return at;
+        }
     }
-    Ok(names)
+    sets.len()
 }
 
 /// The values of the items on the row, or their first fault.

@@ -1,53 +1,39 @@
 // Rows of made values and of the values of another row, by the names of a heading.
-ghost use Rattle.std.specs.Prelude.{◌≡◌, ◌++◌, map, IfOk, slice_index_or, false};
+ghost use Rattle.std.specs.Prelude.{◌≡◌, ◌+◌, ◌++◌, map, nat_lt, if◌then◌else◌, IfOk, slice_index_or, false};
 ghost use Rattle.value_core.specs.Plain.{plain};
 ghost use Rattle.value_core.specs.Values.{truth};
 ghost use Rattle.relation_core.specs.Agreement.{names_of, part_of};
-ghost use Rattle.meaning_core.specs.Places.{place_among, places};
+ghost use Rattle.meaning_core.specs.Places.{place_among};
 
 use point_core::Memory;
 use std::alloc::Global;
 use value_core::{Kind, Name, Row, Value};
 
-/// For each attribute of a heading, where its name stands among the names.
-pub(crate) fn places(
-    alloc: Global,
-    names: &[Name],
-    to: &[(Name, Kind)],
-) -> Result<Vec<usize>, Memory>
-    ensures { IfOk result (λ list. list.items ≡ places names.now to.now) }
-{
-    let mut list = Vec::with_capacity(alloc, to.len())?;
-    for attribute in to {
-        list.push(place_among(names, &attribute.0))?;
-    }
-    Ok(list)
-}
-
-/// The made names, and then those of a heading.
-pub(crate) fn with_names(
-    mut names: Vec<Name>,
-    alloc: Global,
+/// Where a name stands among made ones and then those of a heading, by its place among the made ones and their number.
+pub(crate) fn place_behind(
+    at: usize,
+    made: usize,
     from: &[(Name, Kind)],
-) -> Result<Vec<Name>, Memory>
-    ensures { IfOk result (λ list. list.items ≡ names.items ++ names_of from.now) }
+    name: &Name,
+) -> Result<usize, Memory>
+    ensures { IfOk result (λ place. place ≡ (if nat_lt at made then at else made + place_among (names_of from.now) name.now)) }
 {
-    for attribute in from {
-        names.push(attribute.0.copy(alloc)?)?;
+    if at < made {
+        return Ok(at);
     }
-    Ok(names)
+    made.checked_add(place_in(from, name)).ok_or(Memory)
 }
 
-/// Where the name stands among the names; past their end where it does not.
-fn place_among(names: &[Name], name: &Name) -> usize
-    ensures { result ≡ place_among names.now name.now }
+/// Where the name stands among those of a heading; past their end where it does not.
+fn place_in(from: &[(Name, Kind)], name: &Name) -> usize
+    ensures { result ≡ place_among (names_of from.now) name.now }
 {
-    for (at, other) in names.iter().enumerate() {
-        if *other == *name {
+    for (at, attribute) in from.iter().enumerate() {
+        if attribute.0 == *name {
             return at;
         }
     }
-    names.len()
+    from.len()
 }
 
 /// The row of the values at the places: first the made ones, then those of another row.

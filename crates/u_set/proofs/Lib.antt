@@ -1,3 +1,4 @@
+pub mod ApartLemmas
 pub mod ImageLemmas
 pub mod BoxLemmas
 pub mod RowLemmas
@@ -8,3 +9,4 @@ pub mod ComparisonLemmas
 pub mod PlaceLemmas
 pub mod CommonLemmas
 pub mod CellLemmas
+pub mod KeptLemmas

@@ -1,12 +1,14 @@
 //! Relations as labelled boxes and back, and the operators point by point that keep the labels.
 #![tactic(auto)]
 
+mod apart;
 mod boxes;
 mod cells;
 mod common;
 mod comparison;
 mod difference;
 mod intervals;
+mod kept;
 mod labels;
 mod packing;
 mod positions;
@@ -15,11 +17,13 @@ mod rows;
 mod strict;
 mod union;
 
+pub use apart::{Gap, are_apart};
 pub use boxes::to_boxes;
 pub use cells::copied_cells;
 pub use common::{intersected, u_intersect};
 pub use comparison::{are_same, is_within, u_equal, u_subset};
 pub use difference::{subtracted, u_minus};
+pub use kept::{is_apart, stay_apart};
 pub use labels::{label_of, part_of_label, value_or_false};
 pub use packing::{packed, unpacked};
 pub use positions::{is_listed, types_at};

@@ -16,6 +16,7 @@ ghost use Rattle.cell_core.specs.declared.boxes.CellRefuse.TheVariants.{Op as Of
 ghost use Rattle.u_set.specs.Boxes.{AreIntervals, types_at, boxed};
 
 use crate::boxes::to_boxes;
+use crate::kept::stay_apart;
 use crate::positions::types_at;
 use crate::refusals::refusal;
 use crate::rows::from_boxes;
@@ -104,9 +105,8 @@ fn united_form<L: Ledger>(
     )
 }
 
-/// The union of two relations of one heading under USING of the attributes at the positions: the rows of either, both unpacked, are
-/// packed.
-pub fn united<L: Ledger>(
+// The union under USING, by the boxes of all rows.
+fn united_by_boxes<L: Ledger>(
     alloc: Global,
     left: &Relation,
     right: &Relation,
@@ -124,4 +124,28 @@ pub fn united<L: Ledger>(
         Ok(form) => from_boxes(alloc, heading, acl, form),
         Err(refuse) => Err(refusal(refuse)),
     }
+}
+
+/// The union of two relations of one heading under USING of the attributes at the positions: the rows of either, both unpacked, are
+/// packed.
+///
+/// Rows that are apart stay as they are, so that there is no more to do than to merge them.
+pub fn united<L: Ledger>(
+    alloc: Global,
+    left: &Relation,
+    right: &Relation,
+    acl: &[usize],
+    steps: &mut Steps<L>,
+) -> Result<Relation, RowsRefuse>
+    requires heading { left.now.heading ≡ right.now.heading }
+    requires intervals { AreIntervals left.now.heading acl.now }
+    ensures rows { let rows = packed acl.now (united (unpacked acl.now left.now.rows) (unpacked acl.now right.now.rows)) in
+        MatchResult result (IsAnswer left.now.heading rows) (IsRefusal rows) }
+    ensures cost { steps.new ≤ steps.old + bound (length left.now.rows + length right.now.rows) (length acl.now) }
+{
+    let apart = stay_apart(alloc, left, right, acl)?;
+    if apart {
+        return relation_core::union(alloc, left, right);
+    }
+    united_by_boxes(alloc, left, right, acl, steps)
 }

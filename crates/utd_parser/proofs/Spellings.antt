@@ -1,8 +1,16 @@
 -- Which terminal is spelled so.
-use Rattle.std.proofs.Common.{◌≡◌, ℕ, List, ◌∷◌, true, false, cond, sym, ap, subst}
+use Rattle.std.proofs.Common.{◌≡◌, ℕ, List, [], ◌∷◌, ◌==◌, ◌&&◌, true, false, cond, refl, sym, ap, subst}
+use Rattle.std.specs.Cmp.Lexicographic.{pointwise}
 use Rattle.utd_syntax.specs.declared.terminal.Terminal.{Terminal}
 use Rattle.utd_syntax.specs.Table.{same_bytes}
 use Rattle.utd_syntax.specs.Terminals.{spelling, spelled_among}
+
+-- bytes that are the same one by one
+pub same-pointwise : (xs ys : List ℕ) → pointwise (λ x y. x == y) xs ys ≡ same_bytes xs ys
+same-pointwise [] [] = refl
+same-pointwise [] (y ∷ ys) = refl
+same-pointwise (x ∷ xs) [] = refl
+same-pointwise (x ∷ xs) (y ∷ ys) = ap (λ b. (x == y) && b) (same-pointwise xs ys)
 
 -- the first of them, and one behind it
 pub among-first : (list : List Terminal) (x : Terminal) (xs : List Terminal) (other : Terminal) (b : List ℕ) → list ≡ x ∷ xs → same_bytes (spelling x) b ≡ true → x ≡ spelled_among list other b

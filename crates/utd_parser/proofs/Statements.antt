@@ -15,20 +15,20 @@ use Rattle.utd_syntax.proofs.Laws.{law_a, law_c, e01, limit, whole-without}
 use Rattle.utd_ranges.specs.Limits.{limits, verdict_on}
 use Rattle.utd_parser.specs.Frames.{Comes, IsStatement, RefusedAt}
 
-pub is-statement : (r : Result (Unit {0}) Refuse) (ts : List Piece) → Comes r (verdict_on ts) Whole → IfOk r (λ _. IsStatement ts)
+pub is-statement : {A : Type 0} → (r : Result A Refuse) (ts : List Piece) → Comes r (verdict_on ts) Whole → IfOk r (λ _. IsStatement ts)
 is-statement (Ok u) ts h =
     let w : (x : StatementP) × Spells (of_statement x) ts [] = (law_a ts at_start).1 (whole-without limits ts _ at_start h) in
     (w.0, w.1, λ y g. law_c y w.0 ts g w.1)
 is-statement (Err e) ts h = tt
 
-pub no-statement : (r : Result (Unit {0}) Refuse) (ts : List Piece) → Comes r (verdict_on ts) Whole → (place : Place) → RefusedAt r E01 place → NoStatement ts place
+pub no-statement : {A : Type 0} → (r : Result A Refuse) (ts : List Piece) → Comes r (verdict_on ts) Whole → (place : Place) → RefusedAt r E01 place → NoStatement ts place
 no-statement (Ok u) ts h place at = absurd at
 no-statement (Err (At fault)) ts h place at = e01 limits ts at_start place (h ∙ ap (λ c. Refused c fault.place) at.0 ∙ ap (Refused E01) at.1)
 no-statement (Err (Plain code)) ts h place at = absurd at
 no-statement (Err (Broken code relvar number)) ts h place at = absurd at
 no-statement (Err Memory) ts h place at = absurd at
 
-pub at-limit : (r : Result (Unit {0}) Refuse) (ts : List Piece) → Comes r (verdict_on ts) Whole → (code : Code) (place : Place) → RefusedAt r code place → (E01 ≡ code → ⊥) → Continues ts place
+pub at-limit : {A : Type 0} → (r : Result A Refuse) (ts : List Piece) → Comes r (verdict_on ts) Whole → (code : Code) (place : Place) → RefusedAt r code place → (E01 ≡ code → ⊥) → Continues ts place
 at-limit (Ok u) ts h code place at other = absurd at
 at-limit (Err (At fault)) ts h code place at other = limit limits ts at_start code place other (h ∙ ap (λ c. Refused c fault.place) at.0 ∙ ap (Refused code) at.1)
 at-limit (Err (Plain c)) ts h code place at other = absurd at

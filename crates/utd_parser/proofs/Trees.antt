@@ -1,5 +1,5 @@
 -- What the tree that was built says of the statement.
-use Rattle.std.proofs.Common.{◌≡◌, List, [], ◌∷◌, ◌++◌, Option, Some, None, refl, sym, ◌∙◌, ap, subst, append_assoc, append-nil, length, arith}
+use Rattle.std.proofs.Common.{◌≡◌, ℕ, zero, suc, ◌+◌, List, [], ◌∷◌, ◌++◌, Option, Some, None, refl, sym, ◌∙◌, ap, subst, append_assoc, append-nil, drop, length, arith}
 use Rattle.utd_syntax.specs.Pieces.{Piece}
 use Rattle.utd_syntax.specs.Plain.{StatementP}
 use Rattle.utd_syntax.specs.Table.{TheStatement}
@@ -48,3 +48,15 @@ pieces-end xs (t ∷ ts) all none h = absurd (omega (arith, none))
 
 pub read-from : (ts old new : List Piece) (v : StatementP) → old ≡ ts → building.Read TheStatement old new v → building.Read TheStatement ts new v
 read-from ts old new v e r = subst (λ z. building.Read TheStatement z new v) e r
+
+-- the tokens behind the first of those that are left
+behind-next : (ls : List Lexeme) (n : ℕ) → building.behind (building.pieces (drop n ls)) ≡ building.pieces (drop (suc n) ls)
+behind-next [] zero = refl
+behind-next [] (suc n) = refl
+behind-next (x ∷ xs) zero = refl
+behind-next (x ∷ xs) (suc n) = behind-next xs n
+
+pub behind-first : (ls rest : List Lexeme) (n : ℕ) → rest ≡ drop n ls → building.behind (building.pieces rest) ≡ building.pieces (drop (n + 1) ls)
+behind-first ls rest n is =
+    let on : suc n ≡ n + 1 = omega arith in
+    ap (λ z. building.behind (building.pieces z)) is ∙ behind-next ls n ∙ ap (λ m. building.pieces (drop m ls)) on

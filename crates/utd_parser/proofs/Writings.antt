@@ -1,9 +1,8 @@
 -- The tokens of a text are ones that a text writes: their bytes are UTF-8, and words have some.
-use Rattle.std.proofs.Common.{◌≡◌, ℕ, List, [], ◌∷◌, ◌++◌, Bool, true, false, cond, ◌&&◌, ◌||◌, ◌==◌, not, nat_le, length, refl, sym, ap, subst, arith, encode_utf8_all}
+use Rattle.std.proofs.Common.{◌≡◌, ℕ, List, [], ◌∷◌, ◌++◌, Bool, true, false, cond, ◌&&◌, ◌||◌, ◌==◌, not, nat_le, length, refl, sym, subst, arith, encode_utf8_all}
 use Rattle.std.proofs.Math.Utf8.{scalar, scalars}
 use Rattle.std.proofs.lemmas.Bool.{eq-eqb, eqb-true, le-leb}
 use Rattle.std.proofs.lemmas.Str.{scalars-chars, utf8_valid_len-IsUtf8, length-le-encodes}
-use Rattle.std.specs.Str.{chars}
 use Rattle.std.specs.Str.Lossy.{utf8_valid_len}
 use Rattle.point_core.specs.declared.fault.Place.{Place}
 use Rattle.utd_syntax.specs.declared.terminal.Terminal.{Terminal}

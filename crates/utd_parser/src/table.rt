@@ -33,28 +33,28 @@ fn spelled_as(word: PlaceWord) -> &'static [u8]
 }
 
 // What the row does with its token before this one.
-fn chosen(row: Row, behind: Terminal) -> Turn
-    ensures { turn_of result ≡ table.chosen (row_of row) behind }
+fn chosen(row: &Row, behind: Terminal) -> Turn
+    ensures { turn_of result ≡ table.chosen (row_of row.now) behind }
 {
     match row {
-        Row::On(_, how, next) => Turn::Takes(how, next),
+        Row::On(_, how, next) => Turn::Takes(*how, *next),
         Row::Before(_, this, how, next, other_how, other_next) => {
-            if is(this, behind) {
-                Turn::Takes(how, next)
+            if is(*this, behind) {
+                Turn::Takes(*how, *next)
             } else {
-                Turn::Takes(other_how, other_next)
+                Turn::Takes(*other_how, *other_next)
             }
         }
     }
 }
 
 // The token that the row is for.
-fn terminal_of(row: Row) -> Terminal
-    ensures { (x : Terminal) (bytes : List ℕ) → table.fits (row_of row) x bytes ≡ table.same result x }
+fn terminal_of(row: &Row) -> Terminal
+    ensures { (x : Terminal) (bytes : List ℕ) → table.fits (row_of row.now) x bytes ≡ table.same result x }
 {
     match row {
-        Row::On(terminal, _, _) => terminal,
-        Row::Before(terminal, _, _, _, _, _) => terminal,
+        Row::On(terminal, _, _) => *terminal,
+        Row::Before(terminal, _, _, _, _, _) => *terminal,
     }
 }
 
@@ -65,8 +65,8 @@ fn find(rows: &'static [Row], ends: bool, terminal: Terminal, behind: Terminal) 
     match rows.split_first() {
         None => { if ends { Turn::Ends } else { Turn::Never } }
         Some((row, rest)) => {
-            if is(terminal_of(*row), terminal) {
-                chosen(*row, behind)
+            if is(terminal_of(row), terminal) {
+                chosen(row, behind)
             } else {
                 find(rest, ends, terminal, behind)
             }

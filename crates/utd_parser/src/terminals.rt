@@ -120,13 +120,7 @@ fn spelling(terminal: Terminal) -> &'static [u8]
 pub fn is_same(left: &[u8], right: &[u8]) -> bool
     ensures { result ≡ same_bytes left.now right.now }
 {
-    match left.split_first() {
-        None => right.is_empty(),
-        Some((first, more)) => match right.split_first() {
-            None => false,
-            Some((other, rest)) => *first == *other && is_same(more, rest),
-        },
-    }
+    left == right
 }
 
 // The one of these that is spelled so, or the other.

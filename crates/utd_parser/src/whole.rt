@@ -36,12 +36,12 @@ struct Reading {
 }
 
 // What the first of these tokens is to the grammar.
-fn first_of(tokens: &[Token]) -> Terminal
-    ensures { result ≡ first (pieces tokens.now) }
+fn first_of(tokens: &[Lexeme]) -> Terminal
+    ensures { result ≡ first (building.pieces tokens.now) }
 {
     match tokens.split_first() {
         None => Terminal::Finish,
-        Some((token, _)) => terminal_of(token),
+        Some((token, _)) => token.terminal,
     }
 }
 
@@ -75,6 +75,18 @@ impl Reading {
         }
     }
 
+    // Past the first of these tokens.
+    fn pass(&mut self, tokens: &[Lexeme]) -> Result<(), Refuse>
+        ensures { Comes result (verdict limits (building.pieces tokens.now) (stack_of self.old.frames.items) (load_of self.old.load)) (verdict limits (building.behind (building.pieces tokens.now)) (stack_of self.new.frames.items) (load_of self.new.load)) }
+    {
+        match tokens.split_first() {
+            None => Ok(()),
+            Some((token, more)) => {
+                self.take(token.terminal, token.place, token.bytes, first_of(more))
+            }
+        }
+    }
+
     // At the end of the text.
     fn end(&mut self) -> Result<(), Refuse>
         ensures { Comes result (verdict limits [] (stack_of self.old.frames.items) (load_of self.old.load)) Whole }
@@ -94,17 +106,14 @@ impl Reading {
 }
 
 // Past all of these tokens, and to the end of the text.
-fn read(reading: Reading, tokens: &[Token]) -> Result<(), Refuse>
-    ensures { Comes result (verdict limits (pieces tokens.now) (stack_of reading.frames.items) (load_of reading.load)) Whole }
+fn read(reading: Reading, tokens: &[Lexeme]) -> Result<(), Refuse>
+    ensures { Comes result (verdict limits (building.pieces tokens.now) (stack_of reading.frames.items) (load_of reading.load)) Whole }
 {
     let mut reading = reading;
-    let mut rest = tokens;
-    let mut terminal = first_of(tokens);
-    while let Some((token, more)) = rest.split_first() {
-        let behind = first_of(more);
-        reading.take(terminal, token.place, bytes_of(token), behind)?;
-        rest = more;
-        terminal = behind;
+    let mut at = 0;
+    'token: while at < tokens.len() {
+        reading.pass(tokens.split_at(at).1)?;
+        at += 1;
     }
     reading.end()
 }
@@ -126,30 +135,18 @@ fn at_start(alloc: Global) -> Result<Reading, Refuse>
 }
 
 // The verdict on the tokens.
-fn judge(alloc: Global, list: &TokenList) -> Result<(), Refuse>
-    ensures { Comes result (verdict_on (pieces list.now)) Whole }
+fn judge(alloc: Global, tokens: &[Lexeme]) -> Result<(), Refuse>
+    ensures { Comes result (verdict_on (building.pieces tokens.now)) Whole }
 {
     let reading = at_start(alloc)?;
-    read(reading, list.list.as_slice())
-}
-
-/// Whether the tokens are a statement, and else the first refusal. It is E01 at the first token with which no statement
-/// goes on, or at the end of the text; E05 at a token that opens a level or is an operator in force beyond the most; E06 at a
-/// token out of its range.
-pub fn accept(alloc: Global, list: &TokenList) -> Result<(), Refuse>
-    ensures verdict { Comes result (verdict_on (pieces list.now)) Whole }
-    ensures read { IfOk result (λ _. IsStatement (pieces list.now)) }
-    ensures no_statement { (place : Place) → RefusedAt result E01 place → NoStatement (pieces list.now) place }
-    ensures limit { (code : Code) (place : Place) → RefusedAt result code place → (E01 ≡ code → ⊥) → Continues (pieces list.now) place }
-{
-    judge(alloc, list)
+    read(reading, tokens)
 }
 
 // The tokens as the grammar sees them.
 fn lexemes<'a>(alloc: Global, tokens: &'a [Token]) -> Result<Vec<Lexeme<'a>>, AllocError>
     ensures { IfOk result (λ l. building.pieces l.items ≡ pieces tokens.now) }
 {
-    let mut list = Vec::new(alloc);
+    let mut list = Vec::with_capacity(alloc, tokens.len())?;
     let mut rest = tokens;
     while let Some((token, more)) = rest.split_first() {
         list.push(Lexeme {
@@ -168,6 +165,40 @@ fn lexemes_of<'a>(alloc: Global, list: &'a TokenList) -> Result<Vec<Lexeme<'a>>,
     lexemes(alloc, list.list.as_slice())
 }
 
+// The tokens as the grammar sees them, if the verdict on them is that they are whole.
+fn judged<'a>(alloc: Global, list: &'a TokenList) -> Result<Vec<Lexeme<'a>>, Refuse>
+    ensures verdict { Comes result (verdict_on (pieces list.now)) Whole }
+    ensures seen { IfOk result (λ l. building.pieces l.items ≡ pieces list.now) }
+{
+    let seen = lexemes_of(alloc, list)?;
+    judge(alloc, seen.as_slice())?;
+    Ok(seen)
+}
+
+// The tokens as the grammar sees them, if they are a statement, and else the first refusal.
+fn accepted<'a>(alloc: Global, list: &'a TokenList) -> Result<Vec<Lexeme<'a>>, Refuse>
+    ensures verdict { Comes result (verdict_on (pieces list.now)) Whole }
+    ensures seen { IfOk result (λ l. building.pieces l.items ≡ pieces list.now) }
+    ensures read { IfOk result (λ _. IsStatement (pieces list.now)) }
+    ensures no_statement { (place : Place) → RefusedAt result E01 place → NoStatement (pieces list.now) place }
+    ensures limit { (code : Code) (place : Place) → RefusedAt result code place → (E01 ≡ code → ⊥) → Continues (pieces list.now) place }
+{
+    judged(alloc, list)
+}
+
+/// Whether the tokens are a statement, and else the first refusal. It is E01 at the first token with which no statement
+/// goes on, or at the end of the text; E05 at a token that opens a level or is an operator in force beyond the most; E06 at a
+/// token out of its range.
+pub fn accept(alloc: Global, list: &TokenList) -> Result<(), Refuse>
+    ensures verdict { Comes result (verdict_on (pieces list.now)) Whole }
+    ensures read { IfOk result (λ _. IsStatement (pieces list.now)) }
+    ensures no_statement { (place : Place) → RefusedAt result E01 place → NoStatement (pieces list.now) place }
+    ensures limit { (code : Code) (place : Place) → RefusedAt result code place → (E01 ≡ code → ⊥) → Continues (pieces list.now) place }
+{
+    accepted(alloc, list)?;
+    Ok(())
+}
+
 /// The statement that the tokens are, and else the refusal of `accept`: the tree writes these tokens, and no other tree
 /// does. Its names and literals are in range; where the tokens are ones that a text writes, each stands for a name or a value.
 pub fn parse(alloc: Global, list: &TokenList) -> Result<Statement, Refuse>
@@ -179,8 +210,7 @@ pub fn parse(alloc: Global, list: &TokenList) -> Result<Statement, Refuse>
     ensures no_statement { (place : Place) → RefusedAt result E01 place → NoStatement (pieces list.now) place }
     ensures limit { (code : Code) (place : Place) → RefusedAt result code place → (E01 ≡ code → ⊥) → Continues (pieces list.now) place }
 {
-    accept(alloc, list)?;
-    let seen = lexemes_of(alloc, list)?;
+    let seen = accepted(alloc, list)?;
     let cursor = Cursor {
         rest: seen.as_slice(),
     };

@@ -10,7 +10,7 @@ use std::alloc::Global;
 use std::{fs, io};
 
 /// The files of data/, by subject.
-const FILES: [&str; 36] = [
+const FILES: [&str; 37] = [
     "ask.txt",
     "assign.txt",
     "compare.txt",
@@ -21,6 +21,7 @@ const FILES: [&str; 36] = [
     "from_sql.txt",
     "history.txt",
     "inside.txt",
+    "insertion.txt",
     "item.txt",
     "join.txt",
     "kept.txt",
