@@ -3,7 +3,7 @@
 --     found      the rows with the first values of some rows are those that have these rows' parts
 --     all_sought      whether each of some rows' parts is the first values of a row
 use Rattle.std.proofs.Common.{◌≡◌, ◌⊎◌, ◌↔◌, inl, inr, ℕ, zero, suc, ◌+◌, ◌<◌, ◌≤◌, ◌==◌, List, [], ◌∷◌, ◌++◌, length, get_or, take, map, refl, sym, ap, ap₂, ◌∙◌, subst, arith, eq-eqb, Bool, true, false, not, Ordering}
-use Rattle.std.specs.declared.cmp.Ordering.TheVariants.{Less, Equal, Greater}
+use Rattle.std.specs.declared.cmp.Ordering.TheVariants.{Less, Equal}
 use Rattle.std.specs.Bool.{IsTrue}
 use Rattle.std.specs.List.{All, filter, flat_map, list_any, list_all}
 use Rattle.std.specs.List.Sorted.{IsStrictlySortedBy, IsSortedByKey}
@@ -29,7 +29,8 @@ use Rattle.u_constraints.proofs.FrontLemmas.{few_first, fronts_of_less, part_is_
 not_back : (r s : Ordering) → r ≡ ordering_reverse s → (s ≡ Less) ⊎ (s ≡ Equal) → is_lt r ≡ false
 not_back r s e h = elim h [ inl w ↦ ap is_lt (e ∙ ap ordering_reverse w) | inr w ↦ ap is_lt (e ∙ ap ordering_reverse w) ]
 
-front_step : (k : ℕ) (rows : List Row) → Ascends row_cmp rows → (i : ℕ) (d : Row) → suc i < length rows → is_lt (row_cmp (take k (get_or rows (suc i) d)) (take k (get_or rows i d))) ≡ false
+front_step : (k : ℕ) (rows : List Row) → Ascends row_cmp rows → (i : ℕ) (d : Row) → suc i < length rows
+    → is_lt (row_cmp (take k (get_or rows (suc i) d)) (take k (get_or rows i d))) ≡ false
 front_step k [] a i d l = absurd (omega (arith, l))
 front_step k (x ∷ []) a i d l = absurd (omega (arith, l))
 front_step k (x ∷ y ∷ rows) a zero d l = not_back _ (row_cmp (take k x) (take k y)) (row_total.antisymm (take k y) (take k x)) (fronts_of_less k x y a.0.0)
@@ -162,7 +163,8 @@ module _ (positions : List ℕ) (many : Relation) (few fronts rows : List Row) (
       omega (arith, less, size, most)
 
 -- and fit the heading
-pub found_fit : (heading : Heading) (many : Relation) (fronts rows : List Row) → IsRelation many → heading ≡ many.heading → rows ≡ flat_map (λ values. filter (begins_with values) many.rows) fronts
+pub found_fit : (heading : Heading) (many : Relation) (fronts rows : List Row) → IsRelation many → heading ≡ many.heading
+    → rows ≡ flat_map (λ values. filter (begins_with values) many.rows) fronts
     → IsTrue (list_all (fits_heading heading) rows)
 found_fit heading many fronts rows is same all =
     subst (λ (h : Heading). IsTrue (list_all (fits_heading h) rows)) (sym same) ((list_all-In (fits_heading many.heading) rows).1 (λ x i.
@@ -170,12 +172,13 @@ found_fit heading many fronts rows is same all =
     (list_all-In (fits_heading many.heading) many.rows).0 is.fitting x ((In-filter (begins_with w.0) x many.rows).0 w.2).0))
 
 -- each of the parts is the first values of a row exactly where it is among the others' parts
-pub all_sought : (here there : List ℕ) (rows keys others' : List Row) (other : Relation) → IsRelation other → others' ≡ other.rows → counts_from 0 there ≡ true → All (λ (i : ℕ). i < length other.heading) there
+pub all_sought : (here there : List ℕ) (rows keys others' : List Row) (other : Relation) → IsRelation other → others' ≡ other.rows
+    → counts_from 0 there ≡ true → All (λ (i : ℕ). i < length other.heading) there
     → length here ≡ length there → keys ≡ projected here rows
     → list_all (λ values. list_any (begins_with values) others') keys ≡ is_within row_cmp (projected here rows) (projected there other.rows)
 all_sought here there rows keys others' other is same first within size are =
     let each : (k : Row) → In k (projected here rows) → list_any (begins_with k) other.rows ≡ has row_cmp (projected there other.rows) k = λ k i.
-        sought there (length other.heading) first (within_heading there other first within) other.rows k (long_rows other is) (part_length here k rows i ∙ size) in
+    sought there (length other.heading) first (within_heading there other first within) other.rows k (long_rows other is) (part_length here k rows i ∙ size) in
     let mine = list_all-In (λ values. list_any (begins_with values) other.rows) (projected here rows) in
     let theirs = list_all-In (has row_cmp (projected there other.rows)) (projected here rows) in
     ap₂ (λ (os ks : List Row). list_all (λ values. list_any (begins_with values) os) ks) same are

@@ -22,5 +22,5 @@ returns c =
     let are : c.as_slice.result.now ≡ projected c.args.positions.now c.args.few.now.rows = c.as_slice.ensures.value ∙ c.in_ok-fronts.ensures.parts in (
       ap (λ (r : Relation). r.heading) c.in_ok-relation.ensures ∙ (c.in_ok-heading.ensures ∙ c.heading.ensures.heading),
       ap (λ (r : Relation). r.rows) c.in_ok-relation.ensures
-      ∙ found c.args.positions.now c.args.many.now c.args.few.now.rows c.as_slice.result.now c.in_ok-rows.rows.items c.heading.ensures.relation c.requires.first c.requires.within are c.in_ok-rows.ensures.rows,
+          ∙ found c.args.positions.now c.args.many.now c.args.few.now.rows c.as_slice.result.now c.in_ok-rows.rows.items c.heading.ensures.relation c.requires.first c.requires.within are c.in_ok-rows.ensures.rows,
     )
