@@ -18,6 +18,7 @@ pub mod TouchedLemmas
 pub mod OpenedLemmas
 pub mod BoundLemmas
 pub mod GrownKeyLemmas
+pub mod PartedKeyLemmas
 pub mod GrownPackedLemmas
 pub mod GrowthLemmas
 pub mod TellingLemmas

@@ -92,7 +92,8 @@ module _ (positions : List ℕ) (size : ℕ) (first : counts_from 0 positions �
       → rows ≡ flat_map (λ values. filter (begins_with values) many) fronts → rows_of rows ≡ touched positions few many
   found_rows many few fronts rows long up are is =
       let test : Row → Bool = λ x. has row_cmp (projected positions few) (part_of positions x) in
-      same_by_members row_cmp row_total row_separates (rows_of rows) (filter test many) (Ascends-in_order row_cmp row_total row_separates rows) (Ascends-filter row_cmp test many up) (λ x.
+      same_by_members row_cmp row_total row_separates (rows_of rows) (filter test many)
+      (Ascends-in_order row_cmp row_total row_separates rows) (Ascends-filter row_cmp test many up) (λ x.
       let set = In-in_order row_cmp row_total row_separates x rows in
       let all = In-flat_map (λ (values : Row). filter (begins_with values) many) x fronts in
       let kept = In-filter test x many in
@@ -143,7 +144,8 @@ fronts_more many given list i values old more new l at same so_far these all =
 long_rows : (r : Relation) → IsRelation r → (x : Row) → In x r.rows → length x ≡ length r.heading
 long_rows r is x i = length_of_fit r.heading x ((list_all-In (fits_heading r.heading) r.rows).0 is.fitting x i)
 
-within_heading : (positions : List ℕ) (r : Relation) → counts_from 0 positions ≡ true → All (λ (i : ℕ). i < length r.heading) positions → length positions ≤ length r.heading
+within_heading : (positions : List ℕ) (r : Relation) → counts_from 0 positions ≡ true → All (λ (i : ℕ). i < length r.heading) positions
+    → length positions ≤ length r.heading
 within_heading positions r first within = let few = few_first 0 (length r.heading) positions first (omega arith) within in omega (arith, few)
 
 module _ (positions : List ℕ) (many : Relation) (few fronts rows : List Row) (is : IsRelation many) (first : counts_from 0 positions ≡ true)
