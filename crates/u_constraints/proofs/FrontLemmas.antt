@@ -28,7 +28,7 @@ front_from n (i ∷ is) row e l =
     ap₂ (λ (v : Value) (vs : Row). v ∷ vs) (ap (λ k. get_or row k (truth false)) here) (front_from (suc n) is row w.1 (omega (arith, l)))
     ∙ sym (ap (λ (vs : Row). take (suc (length is)) vs) (drop-cons row n (truth false) within))
 
-part_is_front : (positions : List ℕ) (row : Row) → counts_from 0 positions ≡ true → length positions ≤ length row → part_of positions row ≡ take (length positions) row
+pub part_is_front : (positions : List ℕ) (row : Row) → counts_from 0 positions ≡ true → length positions ≤ length row → part_of positions row ≡ take (length positions) row
 part_is_front positions row e l = front_from 0 positions row e (omega (arith, l))
 
 -- the parts of all rows, each long enough
@@ -46,7 +46,7 @@ then_less Less s t e h = inl refl
 then_less Equal s t e h = h e
 then_less Greater s t e h = cc
 
-fronts_of_less : (k : ℕ) (x y : Row) → row_cmp x y ≡ Less → (row_cmp (take k x) (take k y) ≡ Less) ⊎ (row_cmp (take k x) (take k y) ≡ Equal)
+pub fronts_of_less : (k : ℕ) (x y : Row) → row_cmp x y ≡ Less → (row_cmp (take k x) (take k y) ≡ Less) ⊎ (row_cmp (take k x) (take k y) ≡ Equal)
 fronts_of_less zero x y e = inr refl
 fronts_of_less (suc k) [] [] e = inr refl
 fronts_of_less (suc k) [] (w ∷ y) e = inl refl
@@ -85,7 +85,7 @@ key_by_fronts positions size rows a e l each =
 -- ---- the rows of a relation
 
 -- so many first positions lie in the heading
-few_first : (n size : ℕ) (positions : List ℕ) → counts_from n positions ≡ true → n ≤ size → All (λ (i : ℕ). i < size) positions → n + length positions ≤ size
+pub few_first : (n size : ℕ) (positions : List ℕ) → counts_from n positions ≡ true → n ≤ size → All (λ (i : ℕ). i < size) positions → n + length positions ≤ size
 few_first n size [] e l within = omega (arith, l)
 few_first n size (i ∷ is) e l within =
     let w = and_parts (nat_eq i n) (counts_from (suc n) is) e in

@@ -61,7 +61,7 @@ module _ (positions : List ℕ) (come of : List Row) where
 
 -- ---- unpacked
 
-rows_keep : (acl positions : List ℕ) → ((i : ℕ) → In i positions → In i acl → ⊥) → AllKeep (part_of positions) (map attribute acl)
+pub rows_keep : (acl positions : List ℕ) → ((i : ℕ) → In i positions → In i acl → ⊥) → AllKeep (part_of positions) (map attribute acl)
 rows_keep [] positions apart = tt
 rows_keep (a ∷ acl) positions apart = (
   λ x s. map_in (at (put_span x a s)) (at x) positions (λ i m. get_or-set_other x a i (with_span (value_at x a) s) no_value (λ e. apart i m (inl e))),

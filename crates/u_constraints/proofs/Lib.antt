@@ -3,6 +3,7 @@ pub mod FitLemmas
 pub mod FrontLemmas
 pub mod HistoryLemmas
 pub mod KeyLemmas
+pub mod SearchLemmas
 pub mod MarkLemmas
 pub mod OutcomeLemmas
 pub mod PairLemmas
@@ -17,6 +18,7 @@ pub mod TouchedLemmas
 pub mod OpenedLemmas
 pub mod BoundLemmas
 pub mod GrownKeyLemmas
+pub mod PartedKeyLemmas
 pub mod GrownPackedLemmas
 pub mod GrowthLemmas
 pub mod TellingLemmas

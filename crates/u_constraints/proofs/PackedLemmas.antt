@@ -1,19 +1,24 @@
 -- Rows are packed exactly where their boxes are.
-use Rattle.std.proofs.Common.{◌≡◌, ◌↔◌, ℕ, List, Bool, length, map, refl, sym, subst}
+--     packed_already      rows that packing leaves as they are
+use Rattle.std.proofs.Common.{◌≡◌, ◌↔◌, ◌∙◌, ℕ, List, Bool, true, length, map, refl, sym, ap, subst}
 use Rattle.std.specs.Bool.{IsTrue}
 use Rattle.base_core.specs.Sets.{in_order}
 use Rattle.base_core.proofs.SetLemmas.{In, Ascends, In-in_order, Ascends-in_order}
 use Rattle.base_core.proofs.MemberLemmas.{In-map}
-use Rattle.base_core.proofs.SetOperatorLemmas.{same_tests, are_same-≡}
+use Rattle.base_core.proofs.SetOperatorLemmas.{same_tests, are_same-In, are_same-≡}
 use Rattle.value_core.specs.Order.{row_total, row_separates}
 use Rattle.value_core.specs.RowPacking.{attribute, packed}
-use Rattle.value_core.specs.Values.{Row, Heading, row_cmp}
+use Rattle.value_core.specs.Values.{Row, Heading, row_cmp, same_rows}
 use Rattle.packing_core.specs.Boxed.{Boxed, packed_boxes, sides_from}
 use Rattle.u_set.specs.Boxes.{AreIntervals, IsShaped, boxed, unboxed}
 use Rattle.u_set.proofs.BoxLemmas.{all_alike, unboxed-boxed}
 use Rattle.u_set.proofs.BridgeLemmas.{box_cmp, box_total, box_separates}
 use Rattle.u_set.proofs.ImageLemmas.{IsImage, Ascends-pack, image-pack, same_alike}
 use Rattle.u_constraints.specs.Constraints.{is_packed}
+
+-- rows that packing leaves as they are
+pub packed_already : (acl : List ℕ) (rows : List Row) → packed acl rows ≡ rows → true ≡ is_packed acl rows
+packed_already acl rows e = sym (ap (same_rows rows) e ∙ (are_same-In row_cmp row_total row_separates rows rows).1 (λ x. (λ i. i, λ i. i)))
 
 module _ (heading : Heading) (acl : List ℕ) (intervals : AreIntervals heading acl) (rows : List Row) (up : Ascends row_cmp rows) (shaped : (x : Row) → In x rows → IsShaped heading acl x) where
   abbrev own : List (Boxed Row)

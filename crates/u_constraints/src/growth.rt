@@ -10,8 +10,9 @@ ghost use Rattle.u_constraints.specs.Growth.{is_history, telling as telling_of};
 
 use crate::constraints::holds;
 use crate::positions::telling;
+use crate::search::touched_by;
 use point_core::{Code, Memory, Steps};
-use relation_core::{touched, union};
+use relation_core::union;
 use std::alloc::Global;
 use std::sync::ledger::Ledger;
 use value_core::{Constraint, Relation, RowsRefuse};
@@ -51,7 +52,7 @@ fn holds_by<L: Ledger>(
     ensures answer { IfOk result (λ answer. result_err answer ≡ broken c.now (united of.now.rows come.now.rows) (rows_or_none (option_map (λ r. r.now) other.entry))) }
     ensures cost { steps.new ≤ steps.old + constraint_cost c.now (united of.now.rows come.now.rows) (rows_or_none (option_map (λ r. r.now) other.entry)) }
 {
-    let part = touched(alloc, of, come, positions)?;
+    let part = touched_by(alloc, of, come, positions)?;
     let small = joined(alloc, &part, come)?;
     holds(alloc, c, &small, other, steps)
 }

@@ -1,12 +1,14 @@
 // Keys and foreign keys on relations as they are.
-ghost use Rattle.std.specs.Prelude.{◌≡◌, ◌<◌, ℕ, length, IfOk};
+ghost use Rattle.std.specs.Prelude.{◌≡◌, ◌<◌, ℕ, true, length, IfOk};
 ghost use Rattle.std.specs.List.{All};
 ghost use Rattle.base_core.specs.Sets.{is_within};
 ghost use Rattle.value_core.specs.Values.{row_cmp, IsRelation};
 ghost use Rattle.relation_core.specs.Parts.{projected};
 ghost use Rattle.u_constraints.specs.Constraints.{is_key};
+ghost use Rattle.u_constraints.specs.Fronts.{counts_from};
 
 use crate::fronts::{are_first, fronts_ascend};
+use crate::search::{are_few, are_fronts};
 use point_core::Memory;
 use relation_core::{contains, part, sorted_parts};
 use std::alloc::Global;
@@ -26,8 +28,46 @@ pub(crate) fn is_key(alloc: Global, r: &Relation, positions: &[usize]) -> Result
     Ok(keys.len() == rows.len())
 }
 
-/// Whether the values of each row here, at its positions, are those of some row there.
+/// Whether the values of each row here, at its positions, are those of some row there. Few rows are sought among the rows there, which
+/// stand in the order of their first values; else the parts of all rows there are sorted.
 pub(crate) fn is_referenced(
+    alloc: Global,
+    r: &Relation,
+    here: &[usize],
+    other: &Relation,
+    there: &[usize],
+) -> Result<bool, Memory>
+    requires here { All (λ (i : ℕ). i < length r.now.heading) here.now }
+    requires there { All (λ (i : ℕ). i < length other.now.heading) there.now }
+    ensures { IfOk result (λ kept. kept ≡ is_within row_cmp (projected here.now r.now.rows) (projected there.now other.now.rows)) }
+{
+    if are_few(r, other) && here.len() == there.len() && are_first(there) {
+        return are_in_front(alloc, r, here, other, there);
+    }
+    are_sought(alloc, r, here, other, there)
+}
+
+/// Whether the values of each row here are the first values of some row there.
+fn are_in_front(
+    alloc: Global,
+    r: &Relation,
+    here: &[usize],
+    other: &Relation,
+    there: &[usize],
+) -> Result<bool, Memory>
+    requires here { All (λ (i : ℕ). i < length r.now.heading) here.now }
+    requires there { All (λ (i : ℕ). i < length other.now.heading) there.now }
+    requires size { length here.now ≡ length there.now }
+    requires first { counts_from 0 there.now ≡ true }
+    ensures { IfOk result (λ kept. kept ≡ is_within row_cmp (projected here.now r.now.rows) (projected there.now other.now.rows)) }
+{
+    let rows = other.rows();
+    let keys = sorted_parts(alloc, r, here)?;
+    Ok(are_fronts(rows, keys.as_slice()))
+}
+
+/// Whether the values of each row here are those of some row there, sought among the sorted parts of all rows there.
+fn are_sought(
     alloc: Global,
     r: &Relation,
     here: &[usize],

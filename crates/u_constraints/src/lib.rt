@@ -13,6 +13,7 @@ mod packed;
 mod parts;
 mod positions;
 mod references;
+mod search;
 mod unpacked;
 
 pub use constraints::holds;

@@ -7,11 +7,11 @@ ghost use Rattle.u_constraints.specs.Constraints.{is_packed};
 use point_core::{Memory, Steps};
 use std::alloc::Global;
 use std::sync::ledger::Ledger;
-use u_set::{to_boxes, types_at};
+use u_set::{is_apart, to_boxes, types_at};
 use value_core::Relation;
 
-/// Whether the rows are those that they are packed to on the listed attributes.
-pub(crate) fn is_packed<L: Ledger>(
+/// Whether the rows are those that they are packed to on the listed attributes, by their boxes.
+fn is_packed_by_boxes<L: Ledger>(
     alloc: Global,
     r: &Relation,
     acl: &[usize],
@@ -24,4 +24,22 @@ pub(crate) fn is_packed<L: Ledger>(
     let types = types_at(alloc, r.heading().attributes(), acl)?;
     let boxes = to_boxes(alloc, r, acl)?;
     cell_core::is_packed(alloc, types.as_slice(), boxes.as_slice(), steps)
+}
+
+/// Whether the rows are those that they are packed to on the listed attributes. Where one is listed and rows with the same values else
+/// have intervals that neither meet nor follow one another, one sort tells it; and else their boxes do.
+pub(crate) fn is_packed<L: Ledger>(
+    alloc: Global,
+    r: &Relation,
+    acl: &[usize],
+    steps: &mut Steps<L>,
+) -> Result<bool, Memory>
+    requires { IsList r.now.heading acl.now }
+    ensures answer { IfOk result (λ kept. kept ≡ is_packed acl.now r.now.rows) }
+    ensures cost { steps.new ≤ steps.old + bound (length r.now.rows) (length acl.now) }
+{
+    if is_apart(alloc, r, acl)? {
+        return Ok(true);
+    }
+    is_packed_by_boxes(alloc, r, acl, steps)
 }

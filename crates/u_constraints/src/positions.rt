@@ -9,7 +9,11 @@ use u_set::is_listed;
 use value_core::{Constraint, Positions};
 
 /// The positions that are not unpacked.
-fn unlisted(alloc: Global, acl: &[usize], positions: &[usize]) -> Result<Vec<usize>, Memory>
+pub(crate) fn unlisted(
+    alloc: Global,
+    acl: &[usize],
+    positions: &[usize],
+) -> Result<Vec<usize>, Memory>
     ensures { IfOk result (λ v. v.items ≡ unlisted acl.now positions.now) }
 {
     let mut list = Vec::new(alloc);

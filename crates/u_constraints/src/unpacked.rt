@@ -14,11 +14,12 @@ use crate::apart::is_key_at;
 use crate::keys::is_key;
 use crate::lines::unless;
 use crate::packed::is_packed;
+use crate::positions::unlisted;
 use point_core::{Code, Memory, Steps};
 use std::alloc::Global;
 use std::sync::ledger::Ledger;
 use u_row::inner;
-use u_set::{is_listed, to_boxes, types_at};
+use u_set::{Gap, are_apart, is_listed, to_boxes, types_at};
 use value_core::Relation;
 
 /// Whether no two different unpacked rows have the same values at the key, by the rows' boxes. Something is unpacked.
@@ -60,8 +61,23 @@ fn are_all(positions: &[usize], many: usize) -> bool
     true
 }
 
+/// Whether one attribute alone is listed, and the rows are seen to have no point of it in common where they have the same values at the
+/// rest of the key.
+fn are_parted(alloc: Global, r: &Relation, acl: &[usize], key: &[usize]) -> Result<bool, Memory>
+    requires list { IsList r.now.heading acl.now }
+    requires lies { AreAmong key.now acl.now }
+    ensures { IfOk result (λ b. b ≡ true → is_key key.now (unpacked acl.now r.now.rows) ≡ true) }
+{
+    if acl.len() != 1 {
+        return Ok(false);
+    }
+    let label = unlisted(alloc, acl, key)?;
+    let apart = are_apart(alloc, r, label.as_slice(), acl[0], Gap::Zero)?;
+    Ok(apart)
+}
+
 /// Whether no two different rows, unpacked on the listed attributes, have the same values at the key, which has all that are listed.
-/// A key of all attributes needs no look at the rows.
+/// A key of all attributes needs no look at the rows. Where one attribute is listed, one sort may tell it; and else the rows' boxes do.
 pub(crate) fn is_unpacked_key<L: Ledger>(
     alloc: Global,
     r: &Relation,
@@ -79,6 +95,9 @@ pub(crate) fn is_unpacked_key<L: Ledger>(
         return is_key(alloc, r, key);
     }
     if are_all(key, r.heading().attributes().len()) {
+        return Ok(true);
+    }
+    if are_parted(alloc, r, acl, key)? {
         return Ok(true);
     }
     is_key_by_boxes(alloc, r, acl, key, steps)

@@ -7,8 +7,8 @@ use Rattle.u_constraints.proofs.GrowthLemmas.{same_break, few_rows, few_enough, 
 use Rattle.u_constraints.proofs.TellingLemmas.{told_within, told_relate}
 use Rattle.u_constraints.proofs.growth.holds_by.Goals as goal
 
-pub touched-requires-clause-within : goal.touched-requires-clause-within
-touched-requires-clause-within g c = told_within c.args.c.now c.args.of.now.heading _ c.args.positions.now c.requires.fits c.requires.telling
+pub touched_by-requires-clause-within : goal.touched_by-requires-clause-within
+touched_by-requires-clause-within g c = told_within c.args.c.now c.args.of.now.heading _ c.args.positions.now c.requires.fits c.requires.telling
 
 pub joined-requires-clause-few : goal.joined-requires-clause-few
 joined-requires-clause-few g c =

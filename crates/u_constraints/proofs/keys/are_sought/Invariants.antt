@@ -3,7 +3,7 @@ use Rattle.std.specs.List.{list_all}
 use Rattle.base_core.specs.Sets.{has}
 use Rattle.value_core.specs.Values.{row_cmp}
 use Rattle.relation_core.specs.Agreement.{part_of}
-use Rattle.u_constraints.proofs.keys.is_referenced.Given as goal
+use Rattle.u_constraints.proofs.keys.are_sought.Given as goal
 
 -- the rows so far have their values among the keys
 abbrev pub invariant-loop-row : goal.invariant-loop-row

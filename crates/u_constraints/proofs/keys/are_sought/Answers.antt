@@ -5,7 +5,7 @@ use Rattle.value_core.specs.Values.{Row, row_cmp}
 use Rattle.relation_core.specs.Agreement.{part_of}
 use Rattle.relation_core.proofs.FilterLemmas.{take_all}
 use Rattle.u_constraints.proofs.KeyLemmas.{positions_within, found_so_far, not_found, searched}
-use Rattle.u_constraints.proofs.keys.is_referenced.Goals as goal
+use Rattle.u_constraints.proofs.keys.are_sought.Goals as goal
 
 pub part-requires : goal.part-requires
 part-requires c k d l =

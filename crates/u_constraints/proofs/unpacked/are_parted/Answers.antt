@@ -1,0 +1,21 @@
+use Rattle.std.proofs.Common.{◌≡◌, length, refl, arith, ◌∙◌}
+use Rattle.std.proofs.lemmas.Bool.Decides.{nat_tests}
+use Rattle.u_set.proofs.KeptLemmas.{one_intervals}
+use Rattle.u_set.proofs.RelationLemmas.{relation_shaped}
+use Rattle.u_constraints.proofs.IntervalLemmas.{intervals_of_list}
+use Rattle.u_constraints.proofs.PartedKeyLemmas.{parted_key}
+use Rattle.u_constraints.proofs.unpacked.are_parted.Goals as goal
+
+pub are_apart-requires : goal.are_apart-requires
+are_apart-requires c =
+    let one : length c.args.acl.now ≡ 1 = grind (arith, nat_tests) in
+    one_intervals c.args.r.now.heading c.args.acl.now _ one refl (intervals_of_list c.args.r.now.heading c.args.acl.now c.requires.list)
+
+pub returns : goal.returns
+returns c = λ t.
+    let r = c.args.r.now in
+    let acl = c.args.acl.now in
+    let intervals = intervals_of_list r.heading acl c.requires.list in
+    let one : length acl ≡ 1 = grind (arith, nat_tests) in
+    parted_key r.heading acl r.rows (relation_shaped r c.in_ok-apart.ensures.relation acl intervals) _ one refl c.args.key.now c.requires.lies
+    c.as_slice.result.now (c.as_slice.ensures.value ∙ c.in_ok-label.ensures) (c.in_ok-apart.ensures.answer t)

@@ -1,0 +1,124 @@
+// Rows found by their first values, among rows in order.
+ghost use Rattle.std.specs.Prelude.{◌≡◌, ◌++◌, ◌<◌, ◌≤◌, ℕ, true, filter, length, IfOk, IsTrue, OnOk};
+ghost use Rattle.std.specs.List.{All, flat_map, list_all, list_any};
+ghost use Rattle.std.specs.List.Sorted.{IsStrictlySortedBy};
+ghost use Rattle.value_core.specs.Relations.{all_fit, relation_of};
+ghost use Rattle.value_core.specs.Values.{most_rows, row_cmp, rows_of, IsRelation};
+ghost use Rattle.relation_core.specs.Growth.{touched};
+ghost use Rattle.u_constraints.specs.Fronts.{begins_with, counts_from};
+
+use crate::fronts::{are_first, begins_below, begins_with};
+use point_core::{Label, Memory};
+use relation_core::{sorted_parts, touched};
+use std::alloc::Global;
+use value_core::{Heading, Relation, Row, RowsRefuse};
+
+/// The rows with these first values, which stand together.
+fn with_front<'a>(rows: &'a [Row], values: &Row) -> &'a [Row]
+    requires { IsStrictlySortedBy row_cmp rows.now }
+    ensures { result.now ≡ filter (begins_with values.now) rows.now }
+{
+    let begin = rows.partition_point(|row| begins_below(row, values));
+    let rest = rows.split_at(begin).1;
+    let count = rest.partition_point(|row| begins_with(row, values));
+    rest.split_at(count).0
+}
+
+/// Whether some row has these first values. The rows are in order.
+fn is_front(rows: &[Row], values: &Row) -> bool
+    requires { IsStrictlySortedBy row_cmp rows.now }
+    ensures { result ≡ list_any (begins_with values.now) rows.now }
+{
+    !with_front(rows, values).is_empty()
+}
+
+/// Whether each of the lists of values is the first values of some row. The rows are in order.
+pub(crate) fn are_fronts(rows: &[Row], list: &[Row]) -> bool
+    requires { IsStrictlySortedBy row_cmp rows.now }
+    ensures { result ≡ list_all (λ values. list_any (begins_with values) rows.now) list.now }
+{
+    for values in list {
+        if !is_front(rows, values) {
+            return false;
+        }
+    }
+    true
+}
+
+/// Adds copies of the rows.
+fn add_copies(alloc: Global, rows: &mut Vec<Row>, more: &[Row]) -> Result<(), Memory>
+    ensures { OnOk result (rows.new.items ≡ rows.old.items ++ more.now) }
+{
+    for row in more {
+        rows.push(row.copy(alloc)?)?;
+    }
+    Ok(())
+}
+
+/// The rows with the first values of one of the lists, list by list.
+fn rows_with_fronts(alloc: Global, r: &Relation, list: &[Row]) -> Result<Vec<Row>, Memory>
+    ensures rows { IfOk result (λ rows. rows.items ≡ flat_map (λ values. filter (begins_with values) r.now.rows) list.now) }
+    ensures relation { IsRelation r.now }
+{
+    let given = r.rows();
+    let mut rows = Vec::new(alloc);
+    for values in list {
+        add_copies(alloc, &mut rows, with_front(given, values))?;
+    }
+    Ok(rows)
+}
+
+/// The relation of the heading with these rows, which are known to fit it and to be few enough where each is counted once.
+fn relation_of(heading: Heading, rows: Vec<Row>) -> Result<Relation, Memory>
+    requires fitting { IsTrue (all_fit heading rows.items) }
+    requires few { length (rows_of rows.items) ≤ most_rows }
+    ensures { IfOk result (λ r. r ≡ relation_of heading rows.items) }
+{
+    match Relation::of_fitting(heading, rows) {
+        Ok(relation) => Ok(relation),
+        Err(RowsRefuse::Memory) => Err(Memory),
+        Err(RowsRefuse::TooMany) => unreachable!(),
+    }
+}
+
+/// The rows of many whose values at the positions are those of some row of few. The positions are the first ones, in order, so that these
+/// rows are found by search.
+fn touched_in_front(
+    alloc: Global,
+    many: &Relation,
+    few: &Relation,
+    positions: &[usize],
+) -> Result<Relation, Memory>
+    requires heading { few.now.heading ≡ many.now.heading }
+    requires within { All (λ (i : ℕ). i < length many.now.heading) positions.now }
+    requires first { counts_from 0 positions.now ≡ true }
+    ensures { IfOk result (λ r. (r.heading ≡ many.now.heading) × (r.rows ≡ touched positions.now few.now.rows many.now.rows)) }
+{
+    let fronts = sorted_parts(alloc, few, positions)?;
+    let rows = rows_with_fronts(alloc, many, fronts.as_slice())?;
+    let heading = many.heading().copy(alloc)?;
+    let relation = relation_of(heading, rows)?;
+    Ok(relation)
+}
+
+/// Whether the rows of few are so few that searching many for each of them is cheaper than passing over many.
+pub(crate) fn are_few(few: &Relation, many: &Relation) -> bool {
+    few.rows().len() < many.rows().len() / 16
+}
+
+/// The rows of many whose values at the positions are those of some row of few: by search, where the positions are the first ones.
+pub(crate) fn touched_by(
+    alloc: Global,
+    many: &Relation,
+    few: &Relation,
+    positions: &[usize],
+) -> Result<Relation, Memory>
+    requires heading { few.now.heading ≡ many.now.heading }
+    requires within { All (λ (i : ℕ). i < length many.now.heading) positions.now }
+    ensures { IfOk result (λ r. (r.heading ≡ many.now.heading) × (r.rows ≡ touched positions.now few.now.rows many.now.rows)) }
+{
+    if are_few(few, many) && are_first(positions) {
+        return touched_in_front(alloc, many, few, positions);
+    }
+    touched(alloc, many, few, positions)
+}
