@@ -1,39 +1,47 @@
 #!/usr/bin/env python3
 """statements: a script that puts rows into a relvar with a key, many or few in a statement.
 
-    statements.py ROWS EACH [--count MORE] [--using] > script
+    statements.py ROWS EACH [--count MORE] [--front] [--key-using] [--insert-using] > script
 
 ROWS rows, EACH of them in an INSERT, in no order; the last statement counts them. With --count, MORE statements with one row each
-follow. With --using the key is one under USING of the interval, so that rows are packed and keys are asked at each point.
+follow. With --front the key's attribute is the first by its name, so that rows stand in the order of the key. With --key-using the key is one
+under USING of the interval, so that rows are packed and keys are asked at each point; with --insert-using the INSERTs are under USING.
 """
+import argparse
 import random
 import sys
 
-HEAD = 'VAR R RELATION {K INTEGER, T CHAR, D INTERVAL(DATE)} %s;\n'
-KEY, KEY_USING = 'KEY {K}', 'USING (D): KEY {K, D}'
+HEAD = 'VAR R RELATION {%s INTEGER, T CHAR, D INTERVAL(DATE)} %s;\n'
 TAIL = 'PRINT SUMMARIZE R BY {}: {N := COUNT()};\n'
 
 
-def tuple_of(number):
+def tuple_of(number, key):
     day = number % 28 + 1
     month = number // 28 % 12 + 1
-    return "TUPLE {K %d, T 'row %d', D [DATE '2012-%02d-%02d':DATE '2013-12-31']}" % (number, number % 97, month, day)
+    return "TUPLE {%s %d, T 'row %d', D [DATE '2012-%02d-%02d':DATE '2013-12-31']}" % (key, number, number % 97, month, day)
 
 
-def inserts(numbers, each, write):
+def inserts(numbers, each, key, insert, write):
     for start in range(0, len(numbers), each):
-        write('INSERT R RELATION {%s};\n' % ', '.join(map(tuple_of, numbers[start:start + each])))
+        write('%s R RELATION {%s};\n' % (insert, ', '.join(tuple_of(number, key) for number in numbers[start:start + each])))
 
 
 def main():
-    rows, each = int(sys.argv[1]), int(sys.argv[2])
-    more = int(sys.argv[4]) if sys.argv[3:4] == ['--count'] else 0
-    numbers = list(range(rows + more))
+    words = argparse.ArgumentParser()
+    words.add_argument('rows', type=int)
+    words.add_argument('each', type=int)
+    words.add_argument('--count', type=int, default=0)
+    for name in '--front', '--key-using', '--insert-using':
+        words.add_argument(name, action='store_true')
+    asked = words.parse_args()
+    key = 'A' if asked.front else 'K'
+    insert = 'USING (D): INSERT' if asked.insert_using else 'INSERT'
+    numbers = list(range(asked.rows + asked.count))
     random.Random(1).shuffle(numbers)
     write = sys.stdout.write
-    write(HEAD % (KEY_USING if '--using' in sys.argv[3:] else KEY))
-    inserts(numbers[:rows], each, write)
-    inserts(numbers[rows:], 1, write)
+    write(HEAD % (key, ('USING (D): KEY {%s, D}' if asked.key_using else 'KEY {%s}') % key))
+    inserts(numbers[:asked.rows], asked.each, key, insert, write)
+    inserts(numbers[asked.rows:], 1, key, insert, write)
     write(TAIL)
 
 
