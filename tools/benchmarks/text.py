@@ -9,6 +9,7 @@ reads the rows of the first two from INSERT statements of as many rows each, int
 start falls out. The program is crates/utd/out/utd, as the gate leaves it.
 """
 import os
+import subprocess
 import sys
 import tempfile
 
@@ -17,6 +18,8 @@ PROGRAM = f'{ROOT}/crates/utd/out/utd'
 HEAD = 'VAR R RELATION {K INTEGER, D INTERVAL(INTEGER)} KEY {K};\n'
 TABLE = 'CREATE TABLE r (k INTEGER PRIMARY KEY, b INTEGER, e INTEGER);\n'
 SQLITE = "import sqlite3, sys; sqlite3.connect(':memory:').executescript(sys.stdin.read())"
+# the word before those of a run that is to be measured
+MEASURE = '--measure'
 # so many rows of some 40 bytes make a literal of 1 MB, the most that a statement may have
 IN_A_LITERAL = 25_000
 LITERALS = 15
@@ -52,20 +55,28 @@ def small(size):
     return one * (size // len(one))
 
 
+def measure(words):
+    """Runs the words on standard input, and prints the seconds of processor and the megabytes of the run."""
+    child = os.fork()
+    if child == 0:
+        nowhere = os.open(os.devnull, os.O_WRONLY)
+        os.dup2(nowhere, 1)
+        os.execv(words[0], words)
+    _, status, used = os.wait4(child, 0)
+    print(used.ru_utime + used.ru_stime, used.ru_maxrss / 1024)
+    return os.waitstatus_to_exitcode(status)
+
+
 def run(words, script):
-    """The seconds of processor and the megabytes of a run."""
-    with tempfile.TemporaryFile() as file, open(os.devnull, 'wb') as nowhere:
+    """The seconds of processor and the megabytes of a run, started by a process of its own, which is small: what forks counts as memory of the run."""
+    with tempfile.TemporaryFile() as file:
         file.write(script.encode())
         file.seek(0)
-        child = os.fork()
-        if child == 0:
-            os.dup2(file.fileno(), 0)
-            os.dup2(nowhere.fileno(), 1)
-            os.execv(words[0], words)
-        _, status, used = os.wait4(child, 0)
-    if os.waitstatus_to_exitcode(status) != 0:
-        sys.exit(f'text: {words[0]} ended with status {os.waitstatus_to_exitcode(status)}')
-    return used.ru_utime + used.ru_stime, used.ru_maxrss / 1024
+        done = subprocess.run([sys.executable, __file__, MEASURE, *words], stdin=file, stdout=subprocess.PIPE, check=False)
+    if done.returncode != 0:
+        sys.exit(f'text: {words[0]} ended with status {done.returncode}')
+    seconds, size = done.stdout.split()
+    return float(seconds), float(size)
 
 
 def least(times, words, script):
@@ -74,8 +85,8 @@ def least(times, words, script):
     return min(seconds for seconds, _ in runs), max(size for _, size in runs)
 
 
-def told(name, seconds, size):
-    print(f'{name:<34} {1000 * seconds:7.0f} ms {size:7.0f} MB')
+def told(name, seconds, size=None):
+    print(f'{name:<34} {1000 * seconds:7.0f} ms' + (f' {size:7.0f} MB' if size else ''))
 
 
 def main():
@@ -89,10 +100,12 @@ def main():
     start = least(times, python, '')[0]
     for name, script, sql in ('a literal', one, in_sql(rows[:IN_A_LITERAL], IN_A_LITERAL)), ('literals in 15 statements', many, in_sql(rows, IN_A_LITERAL)):
         told(f'{name}, {len(script) / 1e6:.1f} MB', *least(times, [PROGRAM], script))
-        told('  SQLite', least(times, sqlite, sql)[0] - start, 0)
+        told('  SQLite', least(times, sqlite, sql)[0] - start)
     told('small statements, 16 MB', *least(times, [PROGRAM], small(16_000_000)))
     once, twice = (least(times, [PROGRAM], printed + 'PRINT R;\n' * n) for n in (1, 2))
     told('a table of 100,000 rows', twice[0] - once[0], twice[1])
 
 
+if sys.argv[1:2] == [MEASURE]:
+    sys.exit(measure(sys.argv[2:]))
 main()
