@@ -29,6 +29,7 @@ pub enum Gap {
 fn push_rows<'a>(list: &mut Vec<&'a Row>, rows: &'a [Row]) -> Result<(), Memory>
     ensures { OnOk result (map (λ r. r.now) list.new.items ≡ map (λ r. r.now) list.old.items ++ rows.now) }
 {
+    list.reserve(rows.len())?;
     for row in rows {
         list.push(row)?;
     }
@@ -67,19 +68,23 @@ fn compare_at(x: &Row, y: &Row, positions: &[usize]) -> Ordering
     Ordering::Equal
 }
 
-// The order of rows by their values at the label's positions and then by that at another one.
+// The order of rows by their values at the label's positions and then by that at another one. Where these are all the values that a row
+// has, rows in their own order need the label alone: a stable sort leaves those of one label as they are.
 fn compare_rows(x: &Row, y: &Row, label: &[usize], at: usize) -> Ordering {
-    match compare_at(x, y, label) {
-        Ordering::Equal => compare_at(x, y, &[at]),
-        order => order,
+    let order = compare_at(x, y, label);
+    if order.is_eq() && label.len() + 1 < x.values().len() {
+        return compare_at(x, y, &[at]);
     }
+    order
 }
 
-// The rows by their values at the label's positions and then by that at another one.
+// The rows by their values at the label's positions and then by that at another one. Those of two relations, one after the other, are
+// merged first.
 fn by_label<'a>(rows: Vec<&'a Row>, label: &[usize], at: usize) -> Result<Vec<&'a Row>, Memory>
     ensures { IfOk result (λ v. IsPermutation (map (λ r. r.now) rows.entry.items) (map (λ r. r.now) v.items)) }
 {
     let mut list = rows;
+    list.sort_by(|x: &&Row, y: &&Row| x.cmp(y))?;
     list.sort_by(|x: &&Row, y: &&Row| compare_rows(x, y, label, at))?;
     Ok(list)
 }

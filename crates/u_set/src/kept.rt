@@ -11,8 +11,8 @@ use point_core::Memory;
 use std::alloc::Global;
 use value_core::{Kind, Name, Relation};
 
-// The positions of the heading's attributes that are not listed.
-fn outside(alloc: Global, heading: &[(Name, Kind)], acl: &[usize]) -> Result<Vec<usize>, Memory>
+/// The positions of the heading's attributes that are not listed: those of a row's label.
+pub fn outside(alloc: Global, heading: &[(Name, Kind)], acl: &[usize]) -> Result<Vec<usize>, Memory>
     ensures { IfOk result (λ v. v.items ≡ outside acl.now heading.now) }
 {
     let mut list = Vec::new(alloc);
