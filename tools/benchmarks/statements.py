@@ -1,11 +1,13 @@
 #!/usr/bin/env python3
 """statements: a script that puts rows into a relvar with a key, many or few in a statement.
 
-    statements.py ROWS EACH [--count MORE] [--front] [--key-using] [--insert-using] > script
+    statements.py ROWS EACH [--count MORE] [--change FORM] [--front] [--key-using] [--insert-using] > script
 
 ROWS rows, EACH of them in an INSERT, in no order; the last statement counts them. With --count, MORE statements with one row each
 follow. With --front the key's attribute is the first by its name, so that rows stand in the order of the key. With --key-using the key is one
 under USING of the interval, so that rows are packed and keys are asked at each point; with --insert-using the INSERTs are under USING.
+With --change the statements that follow are changes of one key each in place of insertions: delete, update, portion-delete, portion-update, or
+meet, an INSERT under USING of a row that goes on where one that is there ends.
 """
 import argparse
 import random
@@ -26,22 +28,35 @@ def inserts(numbers, each, key, insert, write):
         write('%s R RELATION {%s};\n' % (insert, ', '.join(tuple_of(number, key) for number in numbers[start:start + each])))
 
 
+# What changes the rows of one key.
+CHANGES = {
+    'delete': 'DELETE R WHERE {key} = {number};\n',
+    'update': "UPDATE R WHERE {key} = {number}: {{T := 'changed'}};\n",
+    'portion-delete': "DELETE R PORTION {{D [DATE '2013-03-01':DATE '2013-03-31']}} WHERE {key} = {number};\n",
+    'portion-update': "UPDATE R PORTION {{D [DATE '2013-03-01':DATE '2013-03-31']}} WHERE {key} = {number}: {{T := 'changed'}};\n",
+    'meet': "USING (D): INSERT R RELATION {{TUPLE {{{key} {number}, T 'row {name}', D [DATE '2014-01-01':DATE '2014-01-31']}}}};\n",
+}
+
+
 def main():
     words = argparse.ArgumentParser()
     words.add_argument('rows', type=int)
     words.add_argument('each', type=int)
     words.add_argument('--count', type=int, default=0)
+    words.add_argument('--change', choices=CHANGES)
     for name in '--front', '--key-using', '--insert-using':
         words.add_argument(name, action='store_true')
     asked = words.parse_args()
     key = 'A' if asked.front else 'K'
     insert = 'USING (D): INSERT' if asked.insert_using else 'INSERT'
-    numbers = list(range(asked.rows + asked.count))
+    numbers = list(range(asked.rows + (0 if asked.change else asked.count)))
     random.Random(1).shuffle(numbers)
     write = sys.stdout.write
     write(HEAD % (key, ('USING (D): KEY {%s, D}' if asked.key_using else 'KEY {%s}') % key))
     inserts(numbers[:asked.rows], asked.each, key, insert, write)
     inserts(numbers[asked.rows:], 1, key, insert, write)
+    for number in numbers[:asked.count if asked.change else 0]:
+        write(CHANGES[asked.change].format(key=key, number=number, name=number % 97))
     write(TAIL)
 
 
