@@ -10,12 +10,13 @@ use std::alloc::Global;
 use std::{fs, io};
 
 /// The files of data/, by subject.
-const FILES: [&str; 37] = [
+const FILES: [&str; 38] = [
     "ask.txt",
     "assign.txt",
     "compare.txt",
     "constraint.txt",
     "drop.txt",
+    "exchange.txt",
     "extend.txt",
     "fault.txt",
     "from_sql.txt",
