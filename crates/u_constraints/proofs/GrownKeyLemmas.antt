@@ -1,15 +1,16 @@
--- A key that holds, of more rows: those with the parts of the rows that come tell whether it holds still.
---     rows_touched      the rows with the parts of those that come, among all
+-- A key that holds, of other rows: those with the parts of the rows that come tell whether it holds still.
+--     In-exchanged      the rows after some have come and others gone
+--     rows_touched      those of them with the parts of the rows that come
 --     opened_touched      and the unpacked rows
 --     key_of_touched      a key of positions that are those parts' or more
-use Rattle.std.proofs.Common.{◌≡◌, inl, inr, ℕ, Bool, true, List, [], ◌∷◌, map, refl, sym, ◌∙◌}
+use Rattle.std.proofs.Common.{◌≡◌, ◌↔◌, ◌⊎◌, inl, inr, ℕ, Bool, true, List, [], ◌∷◌, map, refl, sym, ◌∙◌}
 use Rattle.std.specs.Bool.{IsTrue}
 use Rattle.std.proofs.lemmas.Bool.{true≢false}
 use Rattle.std.proofs.lemmas.List.{get_or-set_other}
 use Rattle.base_core.specs.Sets.{has}
 use Rattle.base_core.proofs.SetLemmas.{In, In-in_order}
 use Rattle.base_core.proofs.MemberLemmas.{In-map, In-filter, has-In}
-use Rattle.base_core.proofs.SetOperatorLemmas.{same_tests, In-union_of}
+use Rattle.base_core.proofs.SetOperatorLemmas.{same_tests, In-union_of, In-difference_of}
 use Rattle.value_core.specs.Attributes.{value_at, with_span, put_span}
 use Rattle.value_core.specs.Order.{row_total, row_separates}
 use Rattle.value_core.specs.RowPacking.{attribute, unpacked}
@@ -20,6 +21,7 @@ use Rattle.relation_core.specs.Operators.{united}
 use Rattle.relation_core.specs.Parts.{projected}
 use Rattle.u_row.proofs.LabelLemmas.{map_in}
 use Rattle.u_constraints.specs.Constraints.{is_key}
+use Rattle.u_constraints.specs.Growth.{exchanged}
 use Rattle.u_constraints.proofs.AgreementLemmas.{at, no_value, same_of}
 use Rattle.u_constraints.proofs.KeyLemmas.{is_key-AgreeOnce}
 use Rattle.u_constraints.proofs.OpenedLemmas.{AllKeep, touched_unpack}
@@ -29,31 +31,36 @@ use Rattle.u_constraints.proofs.TouchedLemmas.{IsTouched, each_of_all}
 abbrev pub comes : List ℕ → List Row → Row → Bool
 comes positions come part = has row_cmp (projected positions come) part
 
-module _ (positions : List ℕ) (come of : List Row) where
+pub In-exchanged : (of gone come : List Row) (x : Row) → In x (exchanged of gone come) ↔ ((In x of ⊎ In x come) × (In x gone → ⊥))
+In-exchanged of gone come x =
+    let left = In-difference_of row_cmp row_total row_separates x (united of come) gone in
+    let all = In-union_of row_cmp row_total row_separates x of come in
+    (λ i. let w = left.0 i in (all.0 w.0, w.1), λ w. left.1 (all.1 w.0, w.1))
+
+module _ (positions : List ℕ) (come of gone : List Row) where
   came : (x : Row) → In x come → IsTrue (comes positions come (part_of positions x))
   came x i =
       (has-In row_cmp row_total row_separates (projected positions come) (part_of positions x)).1
       ((In-in_order row_cmp row_total row_separates (part_of positions x) (map (part_of positions) come)).1
       ((In-map (part_of positions) (part_of positions x) come).1 (x, i, refl)))
 
-  -- the rows with the parts of those that come, among all
-  pub rows_touched : IsTouched (part_of positions) (comes positions come) of (united of come) (united (touched positions come of) come)
+  -- the rows with the parts of those that come, among all that are left
+  pub rows_touched : IsTouched (part_of positions) (comes positions come) of (exchanged of gone come) (exchanged (touched positions come of) gone come)
   rows_touched = record {
     touched = λ x.
-        let few = In-union_of row_cmp row_total row_separates x (touched positions come of) come in
-        let all = In-union_of row_cmp row_total row_separates x of come in
+        let few = In-exchanged (touched positions come of) gone come x in
+        let all = In-exchanged of gone come x in
         let kept = In-filter (λ y. comes positions come (part_of positions y)) x of in (
-          λ i. elim (few.0 i) [
-            | inl w ↦ (all.1 (inl (kept.0 w).0), (kept.0 w).1)
-            | inr w ↦ (all.1 (inr w), came x w)
+          λ i. let v = few.0 i in elim v.0 [
+            | inl w ↦ (all.1 (inl (kept.0 w).0, v.1), (kept.0 w).1)
+            | inr w ↦ (all.1 (inr w, v.1), came x w)
           ],
-          λ t. elim (all.0 t.0) [
-            | inl w ↦ few.1 (inl (kept.1 (w, t.1)))
-            | inr w ↦ few.1 (inr w)
+          λ t. let v = all.0 t.0 in elim v.0 [
+            | inl w ↦ few.1 (inl (kept.1 (w, t.1)), v.1)
+            | inr w ↦ few.1 (inr w, v.1)
           ],
         );
-    kept = λ x i. (In-union_of row_cmp row_total row_separates x of come).1 (inl i);
-    rest = λ x i t. elim ((In-union_of row_cmp row_total row_separates x of come).0 i) [
+    rest = λ x i t. elim ((In-exchanged of gone come x).0 i).0 [
       | inl w ↦ w
       | inr w ↦ absurd (true≢false (sym (came x w) ∙ t))
     ];

@@ -1,17 +1,20 @@
--- Rows that are packed, and more rows: those with the parts of the rows that come tell whether they still are. Boxes are packed label by
--- label, and the parts are the labels' or less.
+-- Rows that are packed, and other rows: those with the parts of the rows that come tell whether they still are. Boxes are packed label by
+-- label, and the parts are the labels' or less. Some of the packed boxes of a label are packed.
 use Rattle.std.proofs.Common.{◌≡◌, ◌↔◌, inl, inr, ℕ, zero, suc, Bool, true, false, not, List, [], ◌∷◌, map, length, get_or, set, refl, sym, ap, ◌∙◌, subst, arith, if◌then◌else◌}
 use Rattle.std.specs.Bool.{IsTrue}
 use Rattle.std.proofs.lemmas.Bool.{true≢false}
 use Rattle.std.proofs.lemmas.Int.{ints}
 use Rattle.base_core.specs.Sets.{in_order}
 use Rattle.base_core.proofs.SetLemmas.{In, Ascends, In-in_order, Ascends-in_order, same_by_members}
+use Rattle.base_core.proofs.MemberLemmas.{In-map}
 use Rattle.base_core.proofs.SetOperatorLemmas.{same_tests}
 use Rattle.interval_core.specs.Members.{Span, at_point}
 use Rattle.value_core.specs.Attributes.{among}
+use Rattle.value_core.specs.Order.{row_total, row_separates}
 use Rattle.value_core.specs.Values.{Row, Heading, row_cmp}
 use Rattle.relation_core.specs.Agreement.{part_of}
 use Rattle.packing_core.specs.Boxed.{Boxed, packed_boxes, InBoxes}
+use Rattle.packing_core.specs.Covering.{Among}
 use Rattle.packing_core.specs.Packed.{nowhere, packs, points_of}
 use Rattle.packing_core.proofs.PackedBoxes.{among_in, packs-iff, in_packed_form, packed_ascends}
 use Rattle.cell_core.proofs.PackedPlaces.{AllHave}
@@ -21,13 +24,14 @@ use Rattle.u_row.specs.Kept.{unlisted, inner}
 use Rattle.u_row.proofs.LabelLemmas.{inner_values}
 use Rattle.u_constraints.specs.Constraints.{is_packed}
 use Rattle.u_constraints.proofs.AgreementLemmas.{no_value}
+use Rattle.u_constraints.proofs.FewerLemmas.{fewer_packed}
 use Rattle.u_constraints.proofs.PackedLemmas.{packed_iff}
 use Rattle.u_constraints.proofs.TouchedLemmas.{IsTouched, touched_map}
 
 -- ---- boxes, label by label
 
 -- nothing is packed of nothing
-no_packs : (k : ℕ) (r : List Span → Type 0) → ((z : List Span) → r z → ⊥) → (y : List Span) → packs k r y → ⊥
+pub no_packs : (k : ℕ) (r : List Span → Type 0) → ((z : List Span) → r z → ⊥) → (y : List Span) → packs k r y → ⊥
 no_packs zero r none y h = none y h
 no_packs (suc k) r none y h =
     let i : Span = get_or y k nowhere in
@@ -69,6 +73,18 @@ module _ (k : ℕ) where
     λ i. (own s l y).1 ((h y).0 ((own r l y).0 ((f y).1 (into_packed l s r hs hr (turned l r s h) y i)))),
   )
 
+  -- some of the packed boxes of a label are packed
+  fixed_fewer : (l : Row) (r s : List (Boxed Row)) → AllHave k r → AllHave k s → ((y : List Span) → In (l, y) s → In (l, y) r) → IsFixed l r → IsFixed l s
+  fixed_fewer l r s hr hs within f y =
+      let here : (z : List Span) (q : List (Boxed Row)) → Among (l, z) q ↔ In (l, z) q = λ z q. among_in (l, z) q in
+      let form : List (Boxed Row) → List (Boxed Row) = packed_boxes row_cmp k in
+      let some = fewer_packed row_cmp row_total row_separates k l r s hr hs
+      (λ z i. (here z r).1 (within z ((here z s).0 i)))
+      (λ z i. (here z (form r)).1 ((f z).0 ((own r l z).1 ((here z r).0 i)))) y in (
+        λ i. (here y (form s)).0 (some.0 ((here y s).1 ((own s l y).0 i))),
+        λ i. (own s l y).1 ((here y s).0 (some.1 ((here y (form s)).1 i))),
+      )
+
   none_fixed : (l : Row) (r : List (Boxed Row)) → AllHave k r → ((y : List Span) → In (l, y) r → ⊥) → IsFixed l r
   none_fixed l r have none y = (
     λ i. absurd (none y ((own r l y).0 i)),
@@ -87,13 +103,14 @@ module _ (k : ℕ) where
       same_by_members box_cmp box_total box_separates (in_order box_cmp r) (packed_boxes row_cmp k r)
       (Ascends-in_order box_cmp box_total box_separates r) (packed_ascends box_cmp box_total box_separates k r) (λ x. f x.0 x.1)
 
+  -- some of packed boxes are packed
+  pub fewer_boxes : (r s : List (Boxed Row)) → AllHave k r → AllHave k s → ((x : Boxed Row) → In x s → In x r) → ArePacked r → ArePacked s
+  fewer_boxes r s hr hs within e = all_fixed s (λ l. fixed_fewer l r s hr hs (λ y i. within (l, y) i) (each_fixed r e l))
+
   module _ {Y : Type 0} (g : Row → Y) (test : Y → Bool) (old all few : List (Boxed Row)) (is : IsTouched (λ (b : Boxed Row). g b.0) test old all few)
       (have_old : AllHave k old) (have_all : AllHave k all) (have_few : AllHave k few) (held : ArePacked old) where
     same_few : (l : Row) → test (g l) ≡ true → SameAt l few all
     same_few l t y = (λ i. ((is.touched (l, y)).0 i).0, λ i. (is.touched (l, y)).1 (i, t))
-
-    same_old : (l : Row) → test (g l) ≡ false → SameAt l old all
-    same_old l t y = (is.kept (l, y), λ i. is.rest (l, y) i t)
 
     -- where the old boxes are packed, all are exactly where the touched ones are
     pub boxes_of_touched : ArePacked all ↔ ArePacked few
@@ -104,7 +121,7 @@ module _ (k : ℕ) where
       ] refl),
       λ e. all_fixed all (λ l. elim (test (g l)) as (λ b. test (g l) ≡ b → IsFixed l all) [
         | true ↦ λ t. fixed_moves l few all have_few have_all (same_few l t) (each_fixed few e l)
-        | false ↦ λ t. fixed_moves l old all have_old have_all (same_old l t) (each_fixed old held l)
+        | false ↦ λ t. fixed_fewer l old all have_old have_all (λ y i. is.rest (l, y) i t) (each_fixed old held l)
       ] refl),
     )
 
@@ -115,18 +132,29 @@ unlisted_all acl [] outside = refl
 unlisted_all acl (i ∷ positions) outside =
     ap (λ b. if not b then i ∷ unlisted acl positions else unlisted acl positions) (outside i (inl refl)) ∙ ap (λ (is : List ℕ). i ∷ is) (unlisted_all acl positions (λ k m. outside k (inr m)))
 
+abbrev IsSet : Heading → List ℕ → List Row → Type 0
+IsSet heading acl rows = Ascends row_cmp rows × ((x : Row) → In x rows → IsShaped heading acl x)
+
+-- some of packed rows are packed
+pub fewer_rows : (heading : Heading) (acl : List ℕ) → AreIntervals heading acl → (old rows : List Row) → IsSet heading acl old → IsSet heading acl rows → ((x : Row) → In x rows → In x old)
+    → is_packed acl old ≡ true → is_packed acl rows ≡ true
+fewer_rows heading acl intervals old rows so sr within held =
+    let have = boxes_have heading acl intervals in
+    let boxes : (b : Boxed Row) → In b (map (boxed acl) rows) → In b (map (boxed acl) old) = λ b i.
+    let w = (In-map (boxed acl) b rows).0 i in
+    (In-map (boxed acl) b old).1 (w.0, within w.0 w.1, w.2) in
+    (packed_iff heading acl intervals rows sr.0 sr.1).1
+    (fewer_boxes (length acl) (map (boxed acl) old) (map (boxed acl) rows) (have old) (have rows) boxes ((packed_iff heading acl intervals old so.0 so.1).0 held))
+
 module _ (heading : Heading) (acl : List ℕ) (intervals : AreIntervals heading acl) (positions : List ℕ) (outside : (i : ℕ) → In i positions → among acl i ≡ false) (test : Row → Bool) where
   -- a part of other positions is one of the label
   label_part : (x : Row) → part_of (inner acl positions) (others acl x) ≡ part_of positions x
   label_part x = inner_values acl positions x no_value ∙ ap (λ (is : List ℕ). part_of is x) (unlisted_all acl positions outside)
 
-  abbrev IsSet : List Row → Type 0
-  IsSet rows = Ascends row_cmp rows × ((x : Row) → In x rows → IsShaped heading acl x)
-
   -- where the old rows are packed, all are exactly where the touched ones are
-  pub packed_of_touched : (old all few : List Row) → IsSet old → IsSet all → IsSet few → IsTouched (part_of positions) test old all few → is_packed acl old ≡ true → is_packed acl all ≡ is_packed acl few
+  pub packed_of_touched : (old all few : List Row) → IsSet heading acl old → IsSet heading acl all → IsSet heading acl few → IsTouched (part_of positions) test old all few → is_packed acl old ≡ true → is_packed acl all ≡ is_packed acl few
   packed_of_touched old all few so sa sf is held =
-      let told : (rows : List Row) → IsSet rows → IsTrue (is_packed acl rows) ↔ ArePacked (length acl) (map (boxed acl) rows) = λ rows s. packed_iff heading acl intervals rows s.0 s.1 in
+      let told : (rows : List Row) → IsSet heading acl rows → IsTrue (is_packed acl rows) ↔ ArePacked (length acl) (map (boxed acl) rows) = λ rows s. packed_iff heading acl intervals rows s.0 s.1 in
       let both = boxes_of_touched (length acl) (part_of (inner acl positions)) test (map (boxed acl) old) (map (boxed acl) all) (map (boxed acl) few)
       (touched_map (part_of positions) test old all few is (boxed acl) (λ b. part_of (inner acl positions) b.0) label_part)
       (boxes_have heading acl intervals old) (boxes_have heading acl intervals all) (boxes_have heading acl intervals few) ((told old so).0 held) in

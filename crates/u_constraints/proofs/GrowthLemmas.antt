@@ -1,4 +1,5 @@
--- A constraint that holds, of more rows: some of them tell whether it holds still.
+-- A constraint that holds, of other rows: some of them tell whether it holds still.
+--     fewer_hold      where some rows have gone it holds
 --     same_break      the rows with the parts of those that come, for constraints of a relvar alone
 --     came_break      the rows that come, for constraints that name another relvar
 --     beside_break, beside_holds      where rows are added to the relvar that is named
@@ -8,12 +9,12 @@ use Rattle.std.specs.Bool.{IsTrue}
 use Rattle.std.specs.List.{list_any}
 use Rattle.std.specs.Prelude.{Result, IfOk, ◌==◌}
 use Rattle.std.specs.Result.{result_err}
-use Rattle.std.proofs.lemmas.Bool.{true≢false}
+use Rattle.std.proofs.lemmas.Bool.{true≢false, both_ways, not-true}
 use Rattle.std.proofs.lemmas.Bool.Decides.{nat_tests}
 use Rattle.std.proofs.lemmas.List.Folds.{list_any-append}
-use Rattle.base_core.proofs.SetLemmas.{In, Ascends, In-in_order, Ascends-from_sorted, same_by_members}
-use Rattle.base_core.proofs.MemberLemmas.{In-map, list_all-In}
-use Rattle.base_core.proofs.SetOperatorLemmas.{same_tests, In-union_of, Ascends-union_of, is_within-In, list_any-in_order}
+use Rattle.base_core.proofs.SetLemmas.{In, Ascends, In-in_order, Ascends-from_sorted}
+use Rattle.base_core.proofs.MemberLemmas.{In-map, In-filter, list_all-In, list_any-In}
+use Rattle.base_core.proofs.SetOperatorLemmas.{same_tests, In-union_of, In-difference_of, Ascends-union_of, Ascends-difference_of, is_within-In, list_any-in_order}
 use Rattle.point_core.specs.declared.fault.Code.{Code}
 use Rattle.point_core.specs.declared.fault.Code.TheVariants.{E40, E41, E42, E43, E44}
 use Rattle.value_core.specs.Attributes.{among}
@@ -25,7 +26,7 @@ use Rattle.value_core.specs.declared.constraint.Constraint.TheVariants.{Key, Pac
 use Rattle.value_core.specs.declared.constraint.HistoryRule.{HistoryRule}
 use Rattle.relation_core.specs.Agreement.{part_of}
 use Rattle.relation_core.specs.Growth.{touched}
-use Rattle.relation_core.specs.Operators.{united}
+use Rattle.relation_core.specs.Operators.{subtracted, united}
 use Rattle.relation_core.specs.Parts.{projected}
 use Rattle.meaning_core.specs.Typing.{IsList}
 use Rattle.meaning_core.specs.WellMade.{AreAmong, FitsHeadings}
@@ -34,13 +35,13 @@ use Rattle.u_set.proofs.RelationLemmas.{relation_shaped, shaped_under}
 use Rattle.u_row.proofs.BeneathLemmas.{among_in, in_among}
 use Rattle.u_constraints.specs.Constraints.{is_key, is_packed, is_referenced, counterpart, contradict, keeps_history, first_failed, broken}
 use Rattle.u_constraints.specs.Costs.{constraint_cost}
-use Rattle.u_constraints.specs.Growth.{is_history}
+use Rattle.u_constraints.specs.Growth.{exchanged, is_history}
 use Rattle.u_constraints.proofs.BoundLemmas.{bound_grows}
-use Rattle.u_constraints.proofs.GrownKeyLemmas.{comes, rows_touched, opened_touched, key_of_touched}
-use Rattle.u_constraints.proofs.GrownPackedLemmas.{packed_of_touched}
-use Rattle.u_constraints.proofs.HistoryLemmas.{any_or}
+use Rattle.u_constraints.proofs.GrownKeyLemmas.{In-exchanged, comes, rows_touched, opened_touched, key_of_touched}
+use Rattle.u_constraints.proofs.GrownPackedLemmas.{fewer_rows, packed_of_touched}
 use Rattle.u_constraints.proofs.IntervalLemmas.{intervals_of_list}
-use Rattle.u_constraints.proofs.OpenedLemmas.{in_unpack}
+use Rattle.u_constraints.proofs.KeyLemmas.{is_key-AgreeOnce}
+use Rattle.u_constraints.proofs.OpenedLemmas.{in_unpack, unpack_within}
 use Rattle.u_constraints.proofs.TellingLemmas.{AreOutside, Relate, Names}
 use Rattle.u_constraints.proofs.TouchedLemmas.{IsTouched, within_length}
 
@@ -74,24 +75,22 @@ outside_apart acl positions h i m n = true≢false (sym (in_among acl i n) ∙ o
 In-united : (a b : List Row) (x : Row) → In x (united a b) ↔ (In x a ⊎ In x b)
 In-united a b x = In-union_of row_cmp row_total row_separates x a b
 
--- what is unpacked of the rows of either is unpacked of one of them
-opened_either : (acl : List ℕ) (a b : List Row) (y : Row) → In y (unpacked acl (united a b)) ↔ (In y (unpacked acl a) ⊎ In y (unpacked acl b))
-opened_either acl a b y =
-    let opens = in_unpack row_cmp row_total row_separates (map attribute acl) in (
-      λ i.
-          let w = (opens (united a b) y).0 i in
-          elim ((In-united a b w.0).0 w.1) [ inl l ↦ inl ((opens a y).1 (w.0, l, w.2)) | inr r ↦ inr ((opens b y).1 (w.0, r, w.2)) ],
-      λ s. elim s [
-        | inl i ↦ let w = (opens a y).0 i in (opens (united a b) y).1 (w.0, (In-united a b w.0).1 (inl w.1), w.2)
-        | inr i ↦ let w = (opens b y).0 i in (opens (united a b) y).1 (w.0, (In-united a b w.0).1 (inr w.1), w.2)
-      ],
-    )
-
 In-projected : (positions : List ℕ) (rows : List Row) (z : Row) → In z (projected positions rows) ↔ ((x : Row) × In x rows × (z ≡ part_of positions x))
 In-projected positions rows z =
     let set = In-in_order row_cmp row_total row_separates z (map (part_of positions) rows) in
     let all = In-map (part_of positions) z rows in
     (λ i. all.0 (set.0 i), λ w. set.1 (all.1 w))
+
+-- the parts of unpacked rows, of fewer rows
+part_within : (acl positions : List ℕ) (rows all : List Row) → ((x : Row) → In x rows → In x all) → (z : Row) → In z (projected positions (unpacked acl rows)) → In z (projected positions (unpacked acl all))
+part_within acl positions rows all less z i =
+    let w = (In-projected positions (unpacked acl rows) z).0 i in
+    (In-projected positions (unpacked acl all) z).1 (w.0, unpack_within row_cmp row_total row_separates (map attribute acl) rows all less w.0 w.1, w.2)
+
+-- the few are rows of all, and the others of all are old
+record IsOldOrFew (old all few : List Row) : Type 0 where
+  few : (x : Row) → In x few → In x all
+  each : (x : Row) → In x all → In x old ⊎ In x few
 
 -- ---- references
 
@@ -102,27 +101,29 @@ module _ (acl here there : List ℕ) where
   within : (rows others : List Row) → IsTrue (is_referenced acl here there rows others) ↔ ((z : Row) → In z (projected here (unpacked acl rows)) → In z (projected there (unpacked back others)))
   within rows others = is_within-In row_cmp row_total row_separates (projected here (unpacked acl rows)) (projected there (unpacked back others))
 
+  -- rows that are referenced still are, where there are fewer
+  referenced_fewer : (rows all others : List Row) → ((x : Row) → In x rows → In x all) → is_referenced acl here there all others ≡ true → is_referenced acl here there rows others ≡ true
+  referenced_fewer rows all others less held = (within rows others).1 (λ z i. (within all others).0 held z (part_within acl here rows all less z i))
+
   -- the rows that come tell
-  referenced_came : (of come others : List Row) → is_referenced acl here there of others ≡ true → is_referenced acl here there (united of come) others ≡ is_referenced acl here there come others
-  referenced_came of come others held =
+  referenced_came : (of all few others : List Row) → IsOldOrFew of all few → is_referenced acl here there of others ≡ true → is_referenced acl here there all others ≡ is_referenced acl here there few others
+  referenced_came of all few others is held =
+      let opens = in_unpack row_cmp row_total row_separates (map attribute acl) in
       same_tests _ _ (
-        λ t. (within come others).1 (λ z i.
-            let w = (In-projected here (unpacked acl come) z).0 i in
-            (within (united of come) others).0 t z ((In-projected here (unpacked acl (united of come)) z).1 (w.0, (opened_either acl of come w.0).1 (inr w.1), w.2))),
-        λ t. (within (united of come) others).1 (λ z i.
-            let w = (In-projected here (unpacked acl (united of come)) z).0 i in
-            elim ((opened_either acl of come w.0).0 w.1) [
-              | inl l ↦ (within of others).0 held z ((In-projected here (unpacked acl of) z).1 (w.0, l, w.2))
-              | inr r ↦ (within come others).0 t z ((In-projected here (unpacked acl come) z).1 (w.0, r, w.2))
+        λ t. referenced_fewer few all others is.few t,
+        λ t. (within all others).1 (λ z i.
+            let w = (In-projected here (unpacked acl all) z).0 i in
+            let v = (opens all w.0).0 w.1 in
+            elim (is.each v.0 v.1) [
+              | inl l ↦ (within of others).0 held z ((In-projected here (unpacked acl of) z).1 (w.0, (opens of w.0).1 (v.0, l, v.2), w.2))
+              | inr r ↦ (within few others).0 t z ((In-projected here (unpacked acl few) z).1 (w.0, (opens few w.0).1 (v.0, r, v.2), w.2))
             ]),
       )
 
-  -- rows that are referenced still are, where there are more
+  -- and where there are more to be referenced
   referenced_more : (rows others come : List Row) → is_referenced acl here there rows others ≡ true → is_referenced acl here there rows (united others come) ≡ true
   referenced_more rows others come held =
-      (within rows (united others come)).1 (λ z i.
-      let w = (In-projected there (unpacked back others) z).0 ((within rows others).0 held z i) in
-      (In-projected there (unpacked back (united others come)) z).1 (w.0, (opened_either back others come w.0).1 (inl w.1), w.2))
+      (within rows (united others come)).1 (λ z i. part_within back there others (united others come) (λ x j. (In-united others come x).1 (inl j)) z ((within rows others).0 held z i))
 
 -- ---- histories
 
@@ -133,31 +134,95 @@ none_before : (a b : Bool) → not a ≡ true → not (a || b) ≡ not b
 none_before true b e = absurd (true≢false (sym e))
 none_before false b e = refl
 
-history_came : (h : HistoryRule) (of come others : List Row) → keeps_history h of others ≡ true → keeps_history h (united of come) others ≡ keeps_history h come others
-history_came h of come others held =
-    (λ t. not (list_any (λ x. any_united (contradict h x) of come t) others))
-    ∙ ap not (any_or (λ x. list_any (contradict h x) of) (λ x. list_any (contradict h x) come) others)
-    ∙ none_before (list_any (λ x. list_any (contradict h x) of) others) (list_any (λ x. list_any (contradict h x) come) others) held
+module _ (h : HistoryRule) where
+  abbrev contradicts : List Row → List Row → Bool
+  contradicts rows others = list_any (λ x. list_any (contradict h x) rows) others
+
+  one_contradicts : (rows others : List Row) → IsTrue (contradicts rows others) ↔ ((x y : Row) × In x others × In y rows × IsTrue (contradict h x y))
+  one_contradicts rows others =
+      let all = list_any-In (λ x. list_any (contradict h x) rows) others in (
+        λ t. let w = all.0 t in let v = (list_any-In (contradict h w.0) rows).0 w.2 in (w.0, v.0, w.1, v.1, v.2),
+        λ w. all.1 (w.0, w.2, (list_any-In (contradict h w.0) rows).1 (w.1, w.3, w.4)),
+      )
+
+  never : (rows others : List Row) → keeps_history h rows others ≡ true → IsTrue (contradicts rows others) → ⊥
+  never rows others held t = both_ways (contradicts rows others) (not-true (contradicts rows others) held) t
+
+  -- rows that contradict no other do not, where there are fewer
+  history_fewer : (rows all others : List Row) → ((x : Row) → In x rows → In x all) → keeps_history h all others ≡ true → keeps_history h rows others ≡ true
+  history_fewer rows all others less held =
+      elim (contradicts rows others) as (λ b. contradicts rows others ≡ b → not b ≡ true) [
+        | true ↦ λ t. let w = (one_contradicts rows others).0 t in absurd (never all others held ((one_contradicts all others).1 (w.0, w.1, w.2, less w.1 w.3, w.4)))
+        | false ↦ λ t. refl
+      ] refl
+
+  history_came : (of all few others : List Row) → IsOldOrFew of all few → keeps_history h of others ≡ true → keeps_history h all others ≡ keeps_history h few others
+  history_came of all few others is held =
+      ap not (same_tests (contradicts all others) (contradicts few others) (
+        λ t.
+            let w = (one_contradicts all others).0 t in
+            elim (is.each w.1 w.3) [
+              | inl l ↦ absurd (never of others held ((one_contradicts of others).1 (w.0, w.1, w.2, l, w.4)))
+              | inr r ↦ (one_contradicts few others).1 (w.0, w.1, w.2, r, w.4)
+            ],
+        λ t. let w = (one_contradicts few others).0 t in (one_contradicts all others).1 (w.0, w.1, w.2, is.few w.1 w.3, w.4),
+      ))
 
 history_beside : (h : HistoryRule) (rows others come : List Row) → keeps_history h rows others ≡ true → keeps_history h rows (united others come) ≡ keeps_history h rows come
 history_beside h rows others come held =
     ap not (any_united (λ x. list_any (contradict h x) rows) others come)
     ∙ none_before (list_any (λ x. list_any (contradict h x) rows) others) (list_any (λ x. list_any (contradict h x) rows) come) held
 
+-- ---- fewer rows
+
+-- where a key, fewer rows have it
+key_fewer : (key : List ℕ) (rows all : List Row) → ((x : Row) → In x rows → In x all) → is_key key all ≡ true → is_key key rows ≡ true
+key_fewer key rows all less held = (is_key-AgreeOnce key rows).1 (λ x y i j e. (is_key-AgreeOnce key all).0 held x y (less x i) (less y j) e)
+
+opened_fewer : (acl key : List ℕ) (rows all : List Row) → ((x : Row) → In x rows → In x all) → is_key key (unpacked acl all) ≡ true → is_key key (unpacked acl rows) ≡ true
+opened_fewer acl key rows all less held = key_fewer key (unpacked acl rows) (unpacked acl all) (unpack_within row_cmp row_total row_separates (map attribute acl) rows all less) held
+
+module _ (of : Relation) (is : IsRelation of) (rows : List Row) (up : Ascends row_cmp rows) (less : (x : Row) → In x rows → In x of.rows) where
+  packed_fewer : (acl : List ℕ) → IsList of.heading acl → is_packed acl of.rows ≡ true → is_packed acl rows ≡ true
+  packed_fewer acl list held =
+      let intervals = intervals_of_list of.heading acl list in
+      let shaped = relation_shaped of is acl intervals in
+      fewer_rows of.heading acl intervals of.rows rows (Ascends-from_sorted row_cmp of.rows is.ascending, shaped) (up, λ x i. shaped x (less x i)) less held
+
+  -- where some rows have gone it holds
+  pub fewer_hold : (c : Constraint) (g : Heading) (others : List Row) → FitsHeadings of.heading g c → broken c of.rows others ≡ None → broken c rows others ≡ None
+  fewer_hold (Key k) g others fits held = ap (λ b. first_failed ((b, E40) ∷ [])) (key_fewer k rows of.rows less (one_line (is_key k of.rows) E40 held))
+  fewer_hold (Packed acl) g others fits held = ap (λ b. first_failed ((b, E41) ∷ [])) (packed_fewer acl fits (one_line (is_packed acl of.rows) E41 held))
+  fewer_hold (WhenUnpacked acl k) g others fits held =
+      ap (λ b. first_failed ((b, E42) ∷ [])) (opened_fewer acl k rows of.rows less (one_line (is_key k (unpacked acl of.rows)) E42 held))
+  fewer_hold (UKey acl k) g others fits held =
+      let first = lines_hold (is_packed acl of.rows) E41 ((is_key k (unpacked acl of.rows), E42) ∷ (is_key k of.rows, E40) ∷ []) held in
+      let second = lines_hold (is_key k (unpacked acl of.rows)) E42 ((is_key k of.rows, E40) ∷ []) first.1 in
+      let packed = packed_fewer acl fits.0 first.0 in
+      let opened = opened_fewer acl k rows of.rows less second.0 in
+      let keyed = key_fewer k rows of.rows less (one_line (is_key k of.rows) E40 second.1) in
+      λ t. first_failed ((packed t, E41) ∷ (opened t, E42) ∷ (keyed t, E40) ∷ [])
+  fewer_hold (Foreign acl here name there) g others fits held =
+      ap (λ b. first_failed ((b, E43) ∷ [])) (referenced_fewer acl here there rows of.rows others less (one_line (is_referenced acl here there of.rows others) E43 held))
+  fewer_hold (History h) g others fits held = ap (λ b. first_failed ((b, E44) ∷ [])) (history_fewer h rows of.rows others less (one_line (keeps_history h of.rows others) E44 held))
+
 -- ---- constraints of a relvar alone
 
-module _ (of come : Relation) (is : IsRelation of) (is' : IsRelation come) (heading : come.heading ≡ of.heading) (positions : List ℕ) where
+exchanged_ascends : (of gone come : List Row) → Ascends row_cmp (exchanged of gone come)
+exchanged_ascends of gone come = Ascends-difference_of row_cmp row_total row_separates (united of come) gone (Ascends-union_of row_cmp row_total row_separates of come)
+
+module _ (of come : Relation) (gone : List Row) (is : IsRelation of) (is' : IsRelation come) (heading : come.heading ≡ of.heading) (positions : List ℕ) where
   abbrev all : List Row
-  all = united of.rows come.rows
+  all = exchanged of.rows gone come.rows
 
   abbrev few : List Row
-  few = united (touched positions come.rows of.rows) come.rows
+  few = exchanged (touched positions come.rows of.rows) gone come.rows
 
   abbrev told : IsTouched (part_of positions) (comes positions come.rows) of.rows all few
-  told = rows_touched positions come.rows of.rows
+  told = rows_touched positions come.rows of.rows gone
 
   shaped : (acl : List ℕ) → AreIntervals of.heading acl → (x : Row) → In x all → IsShaped of.heading acl x
-  shaped acl intervals x i = elim ((In-united of.rows come.rows x).0 i) [
+  shaped acl intervals x i = elim ((In-exchanged of.rows gone come.rows x).0 i).0 [
     | inl w ↦ relation_shaped of is acl intervals x w
     | inr w ↦ shaped_under of.heading come (sym heading) is' acl intervals x w
   ]
@@ -168,8 +233,8 @@ module _ (of come : Relation) (is : IsRelation of) (is' : IsRelation come) (head
       let intervals = intervals_of_list of.heading acl list in
       packed_of_touched of.heading acl intervals positions (outside_false acl positions outside) (comes positions come.rows) of.rows all few
       (Ascends-from_sorted row_cmp of.rows is.ascending, relation_shaped of is acl intervals)
-      (Ascends-union_of row_cmp row_total row_separates of.rows come.rows, shaped acl intervals)
-      (Ascends-union_of row_cmp row_total row_separates (touched positions come.rows of.rows) come.rows, λ x i. shaped acl intervals x ((told.touched x).0 i).0)
+      (exchanged_ascends of.rows gone come.rows, shaped acl intervals)
+      (exchanged_ascends (touched positions come.rows of.rows) gone come.rows, λ x i. shaped acl intervals x ((told.touched x).0 i).0)
       told held
 
   key_line : (key : List ℕ) → AreAmong key positions → is_key key of.rows ≡ true → is_key key all ≡ is_key key few
@@ -198,25 +263,47 @@ module _ (of come : Relation) (is : IsRelation of) (is' : IsRelation come) (head
 
   pub few_rows : length few ≤ length all
   few_rows =
-      within_length row_cmp row_total row_separates few all (Ascends-union_of row_cmp row_total row_separates (touched positions come.rows of.rows) come.rows)
-      (Ascends-union_of row_cmp row_total row_separates of.rows come.rows) (λ x i. ((told.touched x).0 i).0)
+      within_length row_cmp row_total row_separates few all (exchanged_ascends (touched positions come.rows of.rows) gone come.rows)
+      (exchanged_ascends of.rows gone come.rows) (λ x i. ((told.touched x).0 i).0)
+
+-- the touched rows are no more, where others come to them
+pub joined_rows : (positions : List ℕ) (come of : List Row) → length (united (touched positions come of) come) ≤ length (united of come)
+joined_rows positions come of =
+    let part : List Row = touched positions come of in
+    within_length row_cmp row_total row_separates (united part come) (united of come) (Ascends-union_of row_cmp row_total row_separates part come)
+    (Ascends-union_of row_cmp row_total row_separates of come) (λ x i.
+    (In-united of come x).1 (elim ((In-united part come x).0 i) [ inl w ↦ inl ((In-filter (λ y. comes positions come (part_of positions y)) x of).0 w).0 | inr w ↦ inr w ]))
 
 -- ---- constraints that name another relvar
 
--- the rows that come break what all break
-pub came_break : (c : Constraint) (of come others : List Row) → Names c → broken c of others ≡ None → broken c come others ≡ broken c (united of come) others
-came_break (Key k) of come others names held = absurd names
-came_break (Packed acl) of come others names held = absurd names
-came_break (WhenUnpacked acl k) of come others names held = absurd names
-came_break (UKey acl k) of come others names held = absurd names
-came_break (Foreign acl here name there) of come others names held =
-    ap (λ b. first_failed ((b, E43) ∷ [])) (sym (referenced_came acl here there of come others (one_line (is_referenced acl here there of others) E43 held)))
-came_break (History h) of come others names held =
-    ap (λ b. first_failed ((b, E44) ∷ [])) (sym (history_came h of come others (one_line (keeps_history h of others) E44 held)))
+-- the rows that come and do not go
+came_alone : (of gone come : List Row) → IsOldOrFew of (exchanged of gone come) (subtracted come gone)
+came_alone of gone come =
+    let left : (x : Row) → In x (subtracted come gone) ↔ (In x come × (In x gone → ⊥)) = λ x. In-difference_of row_cmp row_total row_separates x come gone in
+    record {
+      few = λ x i. let w = (left x).0 i in (In-exchanged of gone come x).1 (inr w.0, w.1);
+      each = λ x i. let w = (In-exchanged of gone come x).0 i in elim w.0 [ inl l ↦ inl l | inr r ↦ inr ((left x).1 (r, w.1)) ];
+    }
 
-pub came_rows : (of come : List Row) → Ascends row_cmp come → length come ≤ length (united of come)
-came_rows of come up =
-    within_length row_cmp row_total row_separates come (united of come) up (Ascends-union_of row_cmp row_total row_separates of come) (λ x i. (In-united of come x).1 (inr i))
+-- the rows that come break what all break
+pub came_break : (c : Constraint) (of gone come others : List Row) → Names c → broken c of others ≡ None → broken c (subtracted come gone) others ≡ broken c (exchanged of gone come) others
+came_break (Key k) of gone come others names held = absurd names
+came_break (Packed acl) of gone come others names held = absurd names
+came_break (WhenUnpacked acl k) of gone come others names held = absurd names
+came_break (UKey acl k) of gone come others names held = absurd names
+came_break (Foreign acl here name there) of gone come others names held =
+    let alone = came_alone of gone come in
+    let same = referenced_came acl here there of (exchanged of gone come) (subtracted come gone) others alone (one_line (is_referenced acl here there of others) E43 held) in
+    ap (λ b. first_failed ((b, E43) ∷ [])) (sym same)
+came_break (History h) of gone come others names held =
+    let alone = came_alone of gone come in
+    let same = history_came h of (exchanged of gone come) (subtracted come gone) others alone (one_line (keeps_history h of others) E44 held) in
+    ap (λ b. first_failed ((b, E44) ∷ [])) (sym same)
+
+came_rows : (of gone come : List Row) → Ascends row_cmp come → length (subtracted come gone) ≤ length (exchanged of gone come)
+came_rows of gone come up =
+    within_length row_cmp row_total row_separates (subtracted come gone) (exchanged of gone come) (Ascends-difference_of row_cmp row_total row_separates come gone up)
+    (exchanged_ascends of gone come) (came_alone of gone come).few
 
 -- ---- where the named relvar grows
 
@@ -259,13 +346,6 @@ cost_beside (UKey acl k) rows others more is = absurd (true≢false (sym is))
 cost_beside (Foreign acl here name there) rows others more is = absurd (true≢false (sym is))
 cost_beside (History rule) rows others more is = omega arith
 
--- without rows that come all is as it was
-pub none_came : (r : Relation) (come : List Row) → IsRelation r → 0 ≡ length come → united r.rows come ≡ r.rows
-none_came r [] is e =
-    same_by_members row_cmp row_total row_separates (united r.rows []) r.rows (Ascends-union_of row_cmp row_total row_separates r.rows []) (Ascends-from_sorted row_cmp r.rows is.ascending)
-    (λ x. (λ i. elim ((In-united r.rows [] x).0 i) [ inl w ↦ w | inr w ↦ absurd w ], λ i. (In-united r.rows [] x).1 (inl i)))
-none_came r (x ∷ come) is e = absurd (omega (arith, e))
-
 -- ---- what a call answers
 
 module _ (c : Constraint) (rows few all others : List Row) (same : rows ≡ few) where
@@ -290,19 +370,24 @@ beside_answer c rows come others result e h = subst (λ o. IfOk result (λ answe
 zero_long : (n : ℕ) → (n == 0) ≡ true → 0 ≡ n
 zero_long n e = grind (arith, nat_tests)
 
+none_in : (come : List Row) → 0 ≡ length come → (x : Row) → In x come → ⊥
+none_in [] e x i = i
+none_in (y ∷ come) e x i = absurd (omega (arith, e))
+
 -- where none come, nothing is broken
-pub none_broken : (c : Constraint) (of : Relation) (come others rows : List Row) (b : Bool) → IsRelation of → rows ≡ come → b ≡ (length rows == 0) → b ≡ true → broken c of.rows others ≡ None
-    → None ≡ broken c (united of.rows come) others
-none_broken c of come others rows b is same empty found held =
+pub none_broken : (c : Constraint) (of : Relation) (gone come others rows : List Row) (g : Heading) (b : Bool) → IsRelation of → FitsHeadings of.heading g c → rows ≡ come → b ≡ (length rows == 0) → b ≡ true
+    → broken c of.rows others ≡ None → None ≡ broken c (exchanged of.rows gone come) others
+none_broken c of gone come others rows g b is fits same empty found held =
     let none : 0 ≡ length come = zero_long (length rows) (sym empty ∙ found) ∙ ap (λ (rs : List Row). length rs) same in
-    sym (ap (λ (rs : List Row). broken c rs others) (none_came of come is none) ∙ held)
+    let less : (x : Row) → In x (exchanged of.rows gone come) → In x of.rows = λ x i.
+    elim ((In-exchanged of.rows gone come x).0 i).0 [ inl w ↦ w | inr w ↦ absurd (none_in come none x w) ] in
+    sym (fewer_hold of is (exchanged of.rows gone come) (exchanged_ascends of.rows gone come) less c g others fits held)
 
 -- what the rows that come answer, and in how many steps
-module _ (c : Constraint) (of come : Relation) (others : List Row) (names : Names c) (held : broken c of.rows others ≡ None) where
-  pub came_answer : {X E : Type 0} (result : Result (Result X Code) E) → IfOk result (λ answer. result_err answer ≡ broken c come.rows others)
-      → IfOk result (λ answer. result_err answer ≡ broken c (united of.rows come.rows) others)
-  came_answer result h = moved_answer c come.rows come.rows (united of.rows come.rows) others refl result (came_break c of.rows come.rows others names held) h
+module _ (c : Constraint) (of gone come others left : List Row) (same : left ≡ subtracted come gone) where
+  pub came_answer : {X E : Type 0} (result : Result (Result X Code) E) → Names c → broken c of others ≡ None → IfOk result (λ answer. result_err answer ≡ broken c left others)
+      → IfOk result (λ answer. result_err answer ≡ broken c (exchanged of gone come) others)
+  came_answer result names held h = moved_answer c left (subtracted come gone) (exchanged of gone come) others same result (came_break c of gone come others names held) h
 
-pub came_cost : (c : Constraint) (of come : Relation) (others : List Row) → IsRelation come → (old new : ℕ) → new ≤ old + constraint_cost c come.rows others → new ≤ old + constraint_cost c (united of.rows come.rows) others
-came_cost c of come others is old new h =
-    moved_cost c come.rows come.rows (united of.rows come.rows) others refl old new (came_rows of.rows come.rows (Ascends-from_sorted row_cmp come.rows is.ascending)) h
+  pub came_cost : Ascends row_cmp come → (old new : ℕ) → new ≤ old + constraint_cost c left others → new ≤ old + constraint_cost c (exchanged of gone come) others
+  came_cost up old new h = moved_cost c left (subtracted come gone) (exchanged of gone come) others same old new (came_rows of gone come up) h

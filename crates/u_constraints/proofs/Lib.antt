@@ -17,6 +17,7 @@ pub mod IntervalLemmas
 pub mod TouchedLemmas
 pub mod OpenedLemmas
 pub mod BoundLemmas
+pub mod FewerLemmas
 pub mod GrownKeyLemmas
 pub mod PartedKeyLemmas
 pub mod GrownPackedLemmas

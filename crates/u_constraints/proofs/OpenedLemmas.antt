@@ -1,6 +1,7 @@
 -- Unpacking takes each member for itself, and keeps what its sides do not change.
 --     Opens      the one is the other at a point of each side
 --     in_unpack      what is in an unpacked list
+--     unpack_within      what is in a greater one
 --     AllKeep      what no side changes
 --     touched_unpack      unpacked, what is touched is touched
 use Rattle.std.proofs.Common.{◌≡◌, ◌↔◌, ℤ, Bool, List, [], ◌∷◌, refl, sym, ap, ◌∙◌, subst, Ordering}
@@ -39,6 +40,9 @@ module _ {X : Type 0} (cmp : X → X → Ordering) (o : IsTotalOrder cmp) (same 
             more.1 (z, (In-unpack1 cmp o same a r z).1 (w.0, w.2.0, w.1, w.2.1, refl), w.2.2),
       )
 
+  pub unpack_within : (sides : List (Side X)) (r s : List X) → ((x : X) → In x r → In x s) → (y : X) → In y (unpack cmp sides r) → In y (unpack cmp sides s)
+  unpack_within sides r s h y i = let w = (in_unpack sides r y).0 i in (in_unpack sides s y).1 (w.0, h w.0 w.1, w.2)
+
   -- unpacked, what is touched is touched
   pub touched_unpack : {Y : Type 0} (f : X → Y) (test : Y → Bool) (sides : List (Side X)) → AllKeep f sides → (old all few : List X) → IsTouched f test old all few
       → IsTouched f test (unpack cmp sides old) (unpack cmp sides all) (unpack cmp sides few)
@@ -52,7 +56,6 @@ module _ {X : Type 0} (cmp : X → X → Ordering) (o : IsTotalOrder cmp) (same 
           let w = (in_unpack sides all y).0 t.0 in
           (in_unpack sides few y).1 (w.0, (is.touched w.0).1 (w.1, ap test (sym (opens_keeps f sides keep w.0 y w.2)) ∙ t.1), w.2),
     );
-    kept = λ y i. let w = (in_unpack sides old y).0 i in (in_unpack sides all y).1 (w.0, is.kept w.0 w.1, w.2);
     rest = λ y i t.
         let w = (in_unpack sides all y).0 i in
         (in_unpack sides old y).1 (w.0, is.rest w.0 w.1 (ap test (sym (opens_keeps f sides keep w.0 y w.2)) ∙ t), w.2);

@@ -1,4 +1,4 @@
--- Lists that grow: the members whose parts pass a test, and the others, which are old.
+-- Lists that change: the members whose parts pass a test, and the others, which are old.
 --     IsTouched      few are the members of all whose parts pass the test, and what does not pass it is old
 --     touched_map      so it is of what a function makes of the members
 --     within_length      a set within another has no more members
@@ -14,7 +14,6 @@ use Rattle.base_core.proofs.SetOperatorLemmas.{Ascends-filter}
 -- few are the members of all whose parts pass the test, and what does not pass it is old
 pub record IsTouched {X Y : Type 0} (f : X → Y) (test : Y → Bool) (old all few : List X) : Type 0 where
   pub touched : (x : X) → In x few ↔ (In x all × IsTrue (test (f x)))
-  pub kept : (x : X) → In x old → In x all
   pub rest : (x : X) → In x all → test (f x) ≡ false → In x old
 
 module _ {X Y : Type 0} (f : X → Y) (test : Y → Bool) (old all few : List X) (is : IsTouched f test old all few) where
@@ -39,7 +38,6 @@ module _ {X Y : Type 0} (f : X → Y) (test : Y → Bool) (old all few : List X)
           let w = (In-map h z all).0 t.0 in
           (In-map h z few).1 (w.0, (is.touched w.0).1 (w.1, ap test (sym (same w.0) ∙ ap g (sym w.2)) ∙ t.1), w.2),
     );
-    kept = λ z i. let w = (In-map h z old).0 i in (In-map h z all).1 (w.0, is.kept w.0 w.1, w.2);
     rest = λ z i t.
         let w = (In-map h z all).0 i in
         (In-map h z old).1 (w.0, is.rest w.0 w.1 (ap test (sym (same w.0) ∙ ap g (sym w.2)) ∙ t), w.2);

@@ -1,4 +1,5 @@
--- Which rows tell whether a constraint that holds still holds where rows are added.
+-- Which rows tell whether a constraint that holds still holds where rows come and others go.
+--     exchanged      the rows after some have come and then others have gone
 --     is_history      whether a constraint is that of a history
 --     outside_below      the positions below a number that are not unpacked
 --     telling      the positions whose values tell which rows a new one is held against
@@ -6,7 +7,13 @@ use Rattle.std.specs.Prelude.{ℕ, zero, suc, Bool, true, false, List, [], ◌�
 use Rattle.value_core.specs.Attributes.{among}
 use Rattle.value_core.specs.declared.constraint.Constraint.{Constraint}
 use Rattle.value_core.specs.declared.constraint.Constraint.TheVariants.{Key, Packed, WhenUnpacked, UKey, Foreign, History}
+use Rattle.value_core.specs.Values.{Row}
+use Rattle.relation_core.specs.Operators.{subtracted, united}
 use Rattle.u_row.specs.Kept.{unlisted}
+
+-- the rows after some have come and then others have gone
+abbrev pub exchanged : List Row → List Row → List Row → List Row
+exchanged rows gone come = subtracted (united rows come) gone
 
 abbrev pub is_history : Constraint → Bool
 is_history (History h) = true

@@ -1,18 +1,18 @@
-// Constraints that hold, and whether they hold still where rows are added.
+// Constraints that hold, and whether they hold still where rows come and go.
 ghost use Rattle.std.specs.Prelude.{◌≡◌, ◌≤◌, ◌+◌, None, Some, length, IfOk, option_map};
 ghost use Rattle.std.specs.Result.{result_err};
 ghost use Rattle.meaning_core.specs.WellMade.{FitsHeadings};
 ghost use Rattle.value_core.specs.Values.{most_rows, IsRelation};
-ghost use Rattle.relation_core.specs.Operators.{united};
+ghost use Rattle.relation_core.specs.Operators.{subtracted, united};
 ghost use Rattle.u_constraints.specs.Constraints.{broken, heading_or_none, rows_or_none, IsNamed};
 ghost use Rattle.u_constraints.specs.Costs.{constraint_cost};
-ghost use Rattle.u_constraints.specs.Growth.{is_history, telling as telling_of};
+ghost use Rattle.u_constraints.specs.Growth.{exchanged, is_history, telling as telling_of};
 
 use crate::constraints::holds;
 use crate::positions::telling;
 use crate::search::touched_by;
 use point_core::{Code, Memory, Steps};
-use relation_core::union;
+use relation_core::{minus, union};
 use std::alloc::Global;
 use std::sync::ledger::Ledger;
 use value_core::{Constraint, Relation, RowsRefuse};
@@ -30,12 +30,25 @@ fn joined(alloc: Global, left: &Relation, right: &Relation) -> Result<Relation, 
     }
 }
 
-/// Whether the constraint, which holds of the rows of `of`, holds still where those of `come` are added. It is asked of the rows with the
-/// values of those that come at the positions.
+/// The rows of the left relation that are not of the right one.
+fn rest(alloc: Global, left: &Relation, right: &Relation) -> Result<Relation, Memory>
+    requires heading { right.now.heading ≡ left.now.heading }
+    ensures { IfOk result (λ r. (r.heading ≡ left.now.heading) × (r.rows ≡ subtracted left.now.rows right.now.rows)) }
+{
+    match minus(alloc, left, right) {
+        Ok(rows) => Ok(rows),
+        Err(RowsRefuse::Memory) => Err(Memory),
+        Err(RowsRefuse::TooMany) => unreachable!(),
+    }
+}
+
+/// Whether the constraint, which holds of the rows of `of`, holds still where those of `come` are added and those of `gone` taken away. It
+/// is asked of the rows with the values of those that come at the positions.
 fn holds_by<L: Ledger>(
     alloc: Global,
     c: &Constraint,
     of: &Relation,
+    gone: &Relation,
     come: &Relation,
     positions: &[usize],
     other: Option<&Relation>,
@@ -44,38 +57,43 @@ fn holds_by<L: Ledger>(
     requires relation { IsRelation of.now }
     requires relation_come { IsRelation come.now }
     requires heading { come.now.heading ≡ of.now.heading }
+    requires gone { gone.now.heading ≡ of.now.heading }
     requires few { length (united of.now.rows come.now.rows) ≤ most_rows }
     requires fits { FitsHeadings of.now.heading (heading_or_none (option_map (λ r. r.now) other)) c.now }
     requires named { IsNamed c.now (option_map (λ r. r.now) other) }
     requires held { broken c.now of.now.rows (rows_or_none (option_map (λ r. r.now) other)) ≡ None }
     requires telling { Some positions.now ≡ telling_of c.now (length of.now.heading) }
-    ensures answer { IfOk result (λ answer. result_err answer ≡ broken c.now (united of.now.rows come.now.rows) (rows_or_none (option_map (λ r. r.now) other.entry))) }
-    ensures cost { steps.new ≤ steps.old + constraint_cost c.now (united of.now.rows come.now.rows) (rows_or_none (option_map (λ r. r.now) other.entry)) }
+    ensures answer { IfOk result (λ answer. result_err answer ≡ broken c.now (exchanged of.now.rows gone.now.rows come.now.rows) (rows_or_none (option_map (λ r. r.now) other.entry))) }
+    ensures cost { steps.new ≤ steps.old + constraint_cost c.now (exchanged of.now.rows gone.now.rows come.now.rows) (rows_or_none (option_map (λ r. r.now) other.entry)) }
 {
     let part = touched_by(alloc, of, come, positions)?;
-    let small = joined(alloc, &part, come)?;
+    let all = joined(alloc, &part, come)?;
+    let small = rest(alloc, &all, gone)?;
     holds(alloc, c, &small, other, steps)
 }
 
-/// Whether the constraint, which holds of the rows of `of`, holds still where those of `come` are added; if not, the code of the first of
-/// its lines that is then broken. `other` is the relvar that the constraint names, if it names one, which is not the one that grows.
+/// Whether the constraint, which holds of the rows of `of`, holds still where those of `come` are added and then those of `gone` taken
+/// away; if not, the code of the first of its lines that is then broken. `other` is the relvar that the constraint names, if it names one,
+/// which is not the one that changes.
 ///
 /// Only rows that a row of `come` is held against are looked at: those with its values at the attributes of a key, say.
 pub fn holds_with<L: Ledger>(
     alloc: Global,
     c: &Constraint,
     of: &Relation,
+    gone: &Relation,
     come: &Relation,
     other: Option<&Relation>,
     steps: &mut Steps<L>,
 ) -> Result<Result<(), Code>, Memory>
     requires heading { come.now.heading ≡ of.now.heading }
+    requires gone { gone.now.heading ≡ of.now.heading }
     requires few { length (united of.now.rows come.now.rows) ≤ most_rows }
     requires fits { FitsHeadings of.now.heading (heading_or_none (option_map (λ r. r.now) other)) c.now }
     requires named { IsNamed c.now (option_map (λ r. r.now) other) }
     requires held { broken c.now of.now.rows (rows_or_none (option_map (λ r. r.now) other)) ≡ None }
-    ensures answer { IfOk result (λ answer. result_err answer ≡ broken c.now (united of.now.rows come.now.rows) (rows_or_none (option_map (λ r. r.now) other.entry))) }
-    ensures cost { steps.new ≤ steps.old + constraint_cost c.now (united of.now.rows come.now.rows) (rows_or_none (option_map (λ r. r.now) other.entry)) }
+    ensures answer { IfOk result (λ answer. result_err answer ≡ broken c.now (exchanged of.now.rows gone.now.rows come.now.rows) (rows_or_none (option_map (λ r. r.now) other.entry))) }
+    ensures cost { steps.new ≤ steps.old + constraint_cost c.now (exchanged of.now.rows gone.now.rows come.now.rows) (rows_or_none (option_map (λ r. r.now) other.entry)) }
 {
     let many = of.heading().attributes().len();
     if come.rows().is_empty() {
@@ -84,9 +102,12 @@ pub fn holds_with<L: Ledger>(
     match telling(alloc, c, many)? {
         Some(positions) => {
             let positions = positions.list.as_slice();
-            holds_by(alloc, c, of, come, positions, other, steps)
+            holds_by(alloc, c, of, gone, come, positions, other, steps)
         }
-        None => holds(alloc, c, come, other, steps),
+        None => {
+            let left = rest(alloc, come, gone)?;
+            holds(alloc, c, &left, other, steps)
+        }
     }
 }
 

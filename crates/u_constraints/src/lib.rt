@@ -18,3 +18,4 @@ mod unpacked;
 
 pub use constraints::holds;
 pub use growth::{holds_beside, holds_with};
+pub use search::touched_by;

@@ -107,7 +107,7 @@ pub(crate) fn are_few(few: &Relation, many: &Relation) -> bool {
 }
 
 /// The rows of many whose values at the positions are those of some row of few: by search, where the positions are the first ones.
-pub(crate) fn touched_by(
+pub fn touched_by(
     alloc: Global,
     many: &Relation,
     few: &Relation,

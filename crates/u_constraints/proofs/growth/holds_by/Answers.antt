@@ -1,9 +1,10 @@
 use Rattle.std.proofs.Common.{◌≡◌, ◌∙◌, List, ap, option_map}
 use Rattle.value_core.specs.Values.{Row, most_rows}
 use Rattle.relation_core.specs.Growth.{touched}
-use Rattle.relation_core.specs.Operators.{united}
+use Rattle.relation_core.specs.Operators.{subtracted, united}
 use Rattle.u_constraints.specs.Constraints.{rows_or_none}
-use Rattle.u_constraints.proofs.GrowthLemmas.{same_break, few_rows, few_enough, moved_answer, moved_cost}
+use Rattle.u_constraints.specs.Growth.{exchanged}
+use Rattle.u_constraints.proofs.GrowthLemmas.{same_break, few_rows, joined_rows, few_enough, moved_answer, moved_cost}
 use Rattle.u_constraints.proofs.TellingLemmas.{told_within, told_relate}
 use Rattle.u_constraints.proofs.growth.holds_by.Goals as goal
 
@@ -11,26 +12,29 @@ pub touched_by-requires-clause-within : goal.touched_by-requires-clause-within
 touched_by-requires-clause-within g c = told_within c.args.c.now c.args.of.now.heading _ c.args.positions.now c.requires.fits c.requires.telling
 
 pub joined-requires-clause-few : goal.joined-requires-clause-few
-joined-requires-clause-few g c =
-    few_enough most_rows _ _ _ _ c.in_ok-part.ensures.1 (few_rows c.args.of.now c.args.come.now c.requires.relation c.requires.relation_come c.requires.heading c.args.positions.now) c.requires.few
+joined-requires-clause-few g c = few_enough most_rows _ _ _ _ c.in_ok-part.ensures.1 (joined_rows c.args.positions.now c.args.come.now.rows c.args.of.now.rows) c.requires.few
 
 pub returns-clause-answer : goal.returns-clause-answer
 returns-clause-answer g c =
     let of = c.args.of.now.rows in
     let come = c.args.come.now.rows in
-    let few = united (touched c.args.positions.now come of) come in
+    let gone = c.args.gone.now.rows in
+    let few = exchanged (touched c.args.positions.now come of) gone come in
     let others = rows_or_none (option_map (λ r. r.now) c.args.other) in
-    let rows : c.in_ok-small.small.rows ≡ few = c.in_ok-small.ensures.1 ∙ ap (λ (rs : List Row). united rs come) c.in_ok-part.ensures.1 in
+    let rows : c.in_ok-small.small.rows ≡ few =
+    c.in_ok-small.ensures.1 ∙ ap (λ (rs : List Row). subtracted rs gone) c.in_ok-all.ensures.1 ∙ ap (λ (rs : List Row). subtracted (united rs come) gone) c.in_ok-part.ensures.1 in
     let relate = told_relate c.args.c.now _ c.args.positions.now c.requires.telling in
-    let same = same_break c.args.of.now c.args.come.now c.requires.relation c.requires.relation_come c.requires.heading c.args.positions.now c.args.c.now _ others c.requires.fits relate c.requires.held in
-    moved_answer c.args.c.now c.in_ok-small.small.rows few (united of come) others rows c.holds.result same c.holds.ensures.answer
+    let same = same_break c.args.of.now c.args.come.now gone c.requires.relation c.requires.relation_come c.requires.heading c.args.positions.now c.args.c.now _ others c.requires.fits relate c.requires.held in
+    moved_answer c.args.c.now c.in_ok-small.small.rows few (exchanged of gone come) others rows c.holds.result same c.holds.ensures.answer
 
 pub returns-clause-cost : goal.returns-clause-cost
 returns-clause-cost g c =
     let of = c.args.of.now.rows in
     let come = c.args.come.now.rows in
-    let few = united (touched c.args.positions.now come of) come in
+    let gone = c.args.gone.now.rows in
+    let few = exchanged (touched c.args.positions.now come of) gone come in
     let others = rows_or_none (option_map (λ r. r.now) c.args.other) in
-    let rows : c.in_ok-small.small.rows ≡ few = c.in_ok-small.ensures.1 ∙ ap (λ (rs : List Row). united rs come) c.in_ok-part.ensures.1 in
-    let less = few_rows c.args.of.now c.args.come.now c.requires.relation c.requires.relation_come c.requires.heading c.args.positions.now in
-    moved_cost c.args.c.now c.in_ok-small.small.rows few (united of come) others rows _ _ less c.holds.ensures.cost
+    let rows : c.in_ok-small.small.rows ≡ few =
+    c.in_ok-small.ensures.1 ∙ ap (λ (rs : List Row). subtracted rs gone) c.in_ok-all.ensures.1 ∙ ap (λ (rs : List Row). subtracted (united rs come) gone) c.in_ok-part.ensures.1 in
+    let less = few_rows c.args.of.now c.args.come.now gone c.requires.relation c.requires.relation_come c.requires.heading c.args.positions.now in
+    moved_cost c.args.c.now c.in_ok-small.small.rows few (exchanged of gone come) others rows _ _ less c.holds.ensures.cost
