@@ -8,7 +8,7 @@ use Rattle.base_core.proofs.SetLemmas.{Separates}
 use Rattle.interval_core.specs.Members.{Span}
 use Rattle.packing_core.specs.Boxed.{Boxed, boxed_cmp, packed_boxes, InBoxes}
 use Rattle.packing_core.specs.Covering.{Among}
-use Rattle.packing_core.specs.Packed.{IsRun, IsPacked, Has, nowhere, onto, packs, points_of, sides_back}
+use Rattle.packing_core.specs.Packed.{IsPacked, Has, nowhere, onto, packs, points_of, sides_back}
 use Rattle.packing_core.proofs.Commute.{packs_is}
 use Rattle.packing_core.proofs.PackedBoxes.{in_packed_form}
 use Rattle.packing_core.proofs.Runs.{IsPacked-iff, IsPacked-one}

@@ -4,7 +4,7 @@
 --     came_break      the rows that come, for constraints that name another relvar
 --     beside_break, beside_holds      where rows are added to the relvar that is named
 --     cost_grows      more rows cost no less
-use Rattle.std.proofs.Common.{◌≡◌, ◌↔◌, ◌⊎◌, inl, inr, ℕ, ◌+◌, ◌≤◌, Bool, true, false, not, ◌||◌, List, [], ◌∷◌, ◌++◌, map, length, arith, None, refl, sym, ap, ◌∙◌, subst}
+use Rattle.std.proofs.Common.{◌≡◌, ◌↔◌, ◌⊎◌, inl, inr, ℕ, ◌+◌, ◌<◌, ◌≤◌, Bool, true, false, not, ◌||◌, List, [], ◌∷◌, ◌++◌, map, length, arith, None, refl, sym, ap, ◌∙◌, subst}
 use Rattle.std.specs.Bool.{IsTrue}
 use Rattle.std.specs.List.{list_any}
 use Rattle.std.specs.Prelude.{Result, IfOk, ◌==◌}
@@ -12,6 +12,7 @@ use Rattle.std.specs.Result.{result_err}
 use Rattle.std.proofs.lemmas.Bool.{true≢false, both_ways, not-true}
 use Rattle.std.proofs.lemmas.Bool.Decides.{nat_tests}
 use Rattle.std.proofs.lemmas.List.Folds.{list_any-append}
+use Rattle.base_core.specs.Sets.{has}
 use Rattle.base_core.proofs.SetLemmas.{In, Ascends, In-in_order, Ascends-from_sorted}
 use Rattle.base_core.proofs.MemberLemmas.{In-map, In-filter, list_all-In, list_any-In}
 use Rattle.base_core.proofs.SetOperatorLemmas.{same_tests, In-union_of, In-difference_of, Ascends-union_of, Ascends-difference_of, is_within-In, list_any-in_order}
@@ -43,7 +44,7 @@ use Rattle.u_constraints.proofs.IntervalLemmas.{intervals_of_list}
 use Rattle.u_constraints.proofs.KeyLemmas.{is_key-AgreeOnce}
 use Rattle.u_constraints.proofs.OpenedLemmas.{in_unpack, unpack_within}
 use Rattle.u_constraints.proofs.TellingLemmas.{AreOutside, Relate, Names}
-use Rattle.u_constraints.proofs.TouchedLemmas.{IsTouched, within_length}
+use Rattle.u_constraints.proofs.TouchedLemmas.{IsTouched, fewer, within_length}
 
 -- ---- lines
 
@@ -89,7 +90,7 @@ part_within acl positions rows all less z i =
 
 -- the few are rows of all, and the others of all are old
 record IsOldOrFew (old all few : List Row) : Type 0 where
-  few : (x : Row) → In x few → In x all
+  among : (x : Row) → In x few → In x all
   each : (x : Row) → In x all → In x old ⊎ In x few
 
 -- ---- references
@@ -110,7 +111,7 @@ module _ (acl here there : List ℕ) where
   referenced_came of all few others is held =
       let opens = in_unpack row_cmp row_total row_separates (map attribute acl) in
       same_tests _ _ (
-        λ t. referenced_fewer few all others is.few t,
+        λ t. referenced_fewer few all others is.among t,
         λ t. (within all others).1 (λ z i.
             let w = (In-projected here (unpacked acl all) z).0 i in
             let v = (opens all w.0).0 w.1 in
@@ -165,7 +166,7 @@ module _ (h : HistoryRule) where
               | inl l ↦ absurd (never of others held ((one_contradicts of others).1 (w.0, w.1, w.2, l, w.4)))
               | inr r ↦ (one_contradicts few others).1 (w.0, w.1, w.2, r, w.4)
             ],
-        λ t. let w = (one_contradicts few others).0 t in (one_contradicts all others).1 (w.0, w.1, w.2, is.few w.1 w.3, w.4),
+        λ t. let w = (one_contradicts few others).0 t in (one_contradicts all others).1 (w.0, w.1, w.2, is.among w.1 w.3, w.4),
       ))
 
 history_beside : (h : HistoryRule) (rows others come : List Row) → keeps_history h rows others ≡ true → keeps_history h rows (united others come) ≡ keeps_history h rows come
@@ -281,7 +282,7 @@ came_alone : (of gone come : List Row) → IsOldOrFew of (exchanged of gone come
 came_alone of gone come =
     let left : (x : Row) → In x (subtracted come gone) ↔ (In x come × (In x gone → ⊥)) = λ x. In-difference_of row_cmp row_total row_separates x come gone in
     record {
-      few = λ x i. let w = (left x).0 i in (In-exchanged of gone come x).1 (inr w.0, w.1);
+      among = λ x i. let w = (left x).0 i in (In-exchanged of gone come x).1 (inr w.0, w.1);
       each = λ x i. let w = (In-exchanged of gone come x).0 i in elim w.0 [ inl l ↦ inl l | inr r ↦ inr ((left x).1 (r, w.1)) ];
     }
 
@@ -303,7 +304,7 @@ came_break (History h) of gone come others names held =
 came_rows : (of gone come : List Row) → Ascends row_cmp come → length (subtracted come gone) ≤ length (exchanged of gone come)
 came_rows of gone come up =
     within_length row_cmp row_total row_separates (subtracted come gone) (exchanged of gone come) (Ascends-difference_of row_cmp row_total row_separates come gone up)
-    (exchanged_ascends of gone come) (came_alone of gone come).few
+    (exchanged_ascends of gone come) (came_alone of gone come).among
 
 -- ---- where the named relvar grows
 
@@ -346,6 +347,9 @@ cost_beside (UKey acl k) rows others more is = absurd (true≢false (sym is))
 cost_beside (Foreign acl here name there) rows others more is = absurd (true≢false (sym is))
 cost_beside (History rule) rows others more is = omega arith
 
+pub fewer_left : (most : ℕ) (rows gone : List Row) → length rows ≤ most → most < length (subtracted rows gone) → ⊥
+fewer_left most rows gone few many = let less = fewer (λ x. not (has row_cmp gone x)) rows in omega (arith, few, many, less)
+
 -- ---- what a call answers
 
 module _ (c : Constraint) (rows few all others : List Row) (same : rows ≡ few) where
@@ -359,9 +363,11 @@ module _ (c : Constraint) (rows few all others : List Row) (same : rows ≡ few)
       let here : new ≤ old + constraint_cost c few others = subst (λ (rs : List Row). new ≤ old + constraint_cost c rs others) same h in
       omega (arith, grows, here)
 
+pub all_few : (most : ℕ) (rows few all : List Row) → rows ≡ few → length few ≤ length all → length all ≤ most → length rows ≤ most
+all_few most rows few all same less most_all = subst (λ (rs : List Row). length rs ≤ most) (sym same) (omega (arith, less, most_all))
+
 pub few_enough : (most : ℕ) (part touched_rows come all : List Row) → part ≡ touched_rows → length (united touched_rows come) ≤ length all → length all ≤ most → length (united part come) ≤ most
-few_enough most part rows come all same less few =
-    subst (λ (rs : List Row). length (united rs come) ≤ most) (sym same) (omega (arith, less, few))
+few_enough most part rows come all same less few = all_few most (united part come) (united rows come) all (ap (λ (rs : List Row). united rs come) same) less few
 
 pub beside_answer : {X E : Type 0} (c : Constraint) (rows come others : List Row) (result : Result (Result X Code) E) → broken c rows come ≡ broken c rows others
     → IfOk result (λ answer. result_err answer ≡ broken c rows come) → IfOk result (λ answer. result_err answer ≡ broken c rows others)

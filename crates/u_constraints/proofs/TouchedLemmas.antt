@@ -43,6 +43,16 @@ module _ {X Y : Type 0} (f : X → Y) (test : Y → Bool) (old all few : List X)
         (In-map h z old).1 (w.0, is.rest w.0 w.1 (ap test (sym (same w.0) ∙ ap g (sym w.2)) ∙ t), w.2);
   }
 
+-- the members that pass a test are no more
+pub fewer : {X : Type 0} (p : X → Bool) (zs : List X) → length (filter p zs) ≤ length zs
+fewer p [] = omega arith
+fewer p (z ∷ zs) =
+    let more = fewer p zs in
+    elim (p z) as (λ b. length (if b then z ∷ filter p zs else filter p zs) ≤ length (z ∷ zs)) [
+      | true ↦ omega (arith, more)
+      | false ↦ omega (arith, more)
+    ]
+
 -- a set within another has no more members
 pub within_length : {X : Type 0} (cmp : X → X → Ordering) → IsTotalOrder cmp → Separates cmp → (xs ys : List X) → Ascends cmp xs → Ascends cmp ys → ((x : X) → In x xs → In x ys) → length xs ≤ length ys
 within_length {X = X} cmp o same xs ys up up' within =
@@ -55,12 +65,3 @@ within_length {X = X} cmp o same xs ys up up' within =
     let few = fewer p ys in
     let long = ap (λ (zs : List X). length zs) is in
     omega (arith, few, long)
-  where
-    fewer : (p : X → Bool) (zs : List X) → length (filter p zs) ≤ length zs
-    fewer p [] = omega arith
-    fewer p (z ∷ zs) =
-        let more = fewer p zs in
-        elim (p z) as (λ b. length (if b then z ∷ filter p zs else filter p zs) ≤ length (z ∷ zs)) [
-          | true ↦ omega (arith, more)
-          | false ↦ omega (arith, more)
-        ]

@@ -30,9 +30,10 @@ fn joined(alloc: Global, left: &Relation, right: &Relation) -> Result<Relation, 
     }
 }
 
-/// The rows of the left relation that are not of the right one.
+/// The rows of the left relation, which are few enough, that are not of the right one.
 fn rest(alloc: Global, left: &Relation, right: &Relation) -> Result<Relation, Memory>
     requires heading { right.now.heading ≡ left.now.heading }
+    requires few { length left.now.rows ≤ most_rows }
     ensures { IfOk result (λ r. (r.heading ≡ left.now.heading) × (r.rows ≡ subtracted left.now.rows right.now.rows)) }
 {
     match minus(alloc, left, right) {

@@ -4,7 +4,7 @@ use Rattle.relation_core.specs.Growth.{touched}
 use Rattle.relation_core.specs.Operators.{subtracted, united}
 use Rattle.u_constraints.specs.Constraints.{rows_or_none}
 use Rattle.u_constraints.specs.Growth.{exchanged}
-use Rattle.u_constraints.proofs.GrowthLemmas.{same_break, few_rows, joined_rows, few_enough, moved_answer, moved_cost}
+use Rattle.u_constraints.proofs.GrowthLemmas.{same_break, few_rows, joined_rows, few_enough, all_few, moved_answer, moved_cost}
 use Rattle.u_constraints.proofs.TellingLemmas.{told_within, told_relate}
 use Rattle.u_constraints.proofs.growth.holds_by.Goals as goal
 
@@ -13,6 +13,13 @@ touched_by-requires-clause-within g c = told_within c.args.c.now c.args.of.now.h
 
 pub joined-requires-clause-few : goal.joined-requires-clause-few
 joined-requires-clause-few g c = few_enough most_rows _ _ _ _ c.in_ok-part.ensures.1 (joined_rows c.args.positions.now c.args.come.now.rows c.args.of.now.rows) c.requires.few
+
+pub rest-requires-clause-few : goal.rest-requires-clause-few
+rest-requires-clause-few g c =
+    let of = c.args.of.now.rows in
+    let come = c.args.come.now.rows in
+    let all : c.in_ok-all.all.rows ≡ united (touched c.args.positions.now come of) come = c.in_ok-all.ensures.1 ∙ ap (λ (rs : List Row). united rs come) c.in_ok-part.ensures.1 in
+    all_few most_rows _ _ (united of come) all (joined_rows c.args.positions.now come of) c.requires.few
 
 pub returns-clause-answer : goal.returns-clause-answer
 returns-clause-answer g c =
