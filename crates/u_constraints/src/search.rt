@@ -102,7 +102,9 @@ fn touched_in_front(
 }
 
 /// Whether the rows of few are so few that searching many for each of them is cheaper than passing over many.
-pub(crate) fn are_few(few: &Relation, many: &Relation) -> bool {
+pub(crate) fn are_few(few: &Relation, many: &Relation) -> bool
+    ensures { IsRelation few.now × IsRelation many.now }
+{
     few.rows().len() < many.rows().len() / 16
 }
 
@@ -115,7 +117,8 @@ pub fn touched_by(
 ) -> Result<Relation, Memory>
     requires heading { few.now.heading ≡ many.now.heading }
     requires within { All (λ (i : ℕ). i < length many.now.heading) positions.now }
-    ensures { IfOk result (λ r. (r.heading ≡ many.now.heading) × (r.rows ≡ touched positions.now few.now.rows many.now.rows)) }
+    ensures rows { IfOk result (λ r. (r.heading ≡ many.now.heading) × (r.rows ≡ touched positions.now few.now.rows many.now.rows)) }
+    ensures relations { IsRelation few.now × IsRelation many.now }
 {
     if are_few(few, many) && are_first(positions) {
         return touched_in_front(alloc, many, few, positions);
