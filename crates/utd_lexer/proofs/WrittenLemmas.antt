@@ -24,7 +24,7 @@ text-written body bytes r n is at ends h =
     let rest : behind ≡ 39 ∷ r = sym (ap (drop n) split ∙ drop_at front behind n len) ∙ at in
     let same : doubled front ≡ front = same-doubled front all in
     let written : body ≡ (doubled front ++ 39 ∷ []) ++ r =
-        split ∙ ap (λ z. front ++ z) rest ∙ ap (λ z. z ++ 39 ∷ r) (sym same) ∙ sym (append_assoc (doubled front) (39 ∷ []) r) in
+    split ∙ ap (λ z. front ++ z) rest ∙ ap (λ z. z ++ 39 ∷ r) (sym same) ∙ sym (append_assoc (doubled front) (39 ∷ []) r) in
     let more : length (doubled front ++ 39 ∷ []) ≡ length (doubled front) + 1 = length-append (doubled front) (39 ∷ []) in
     let as_long : length (doubled front) ≡ length front = ap length same in
     (front, r, ap (λ z. 39 ∷ z) written, (tt, ends-any [] front r ends), omega (arith, more, as_long, len), h ∙ ap encode_utf8_all first)

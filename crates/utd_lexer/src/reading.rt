@@ -41,9 +41,23 @@ pub fn place_behind(start: Place, bytes: &[u8]) -> Place
     place
 }
 
+fn chars_of_ascii(alloc: Global, bytes: &[u8]) -> Result<Vec<char>, AllocError>
+    ensures { IfOk result (λ v. v.items ≡ bytes.now) }
+{
+    let mut list = Vec::with_capacity(alloc, bytes.len())?;
+    for byte in bytes {
+        list.push(char::from(*byte))?;
+    }
+    Ok(list)
+}
+
 fn chars_of(alloc: Global, text: &str) -> Result<Vec<char>, AllocError>
     ensures { IfOk result (λ v. v.items ≡ chars text.now) }
 {
+    if text.is_ascii() {
+        let list = chars_of_ascii(alloc, text.as_bytes())?;
+        return Ok(list);
+    }
     text.chars().collect(alloc)
 }
 

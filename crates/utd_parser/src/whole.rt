@@ -28,6 +28,9 @@ use utd_lexer::{Token, TokenList};
 use utd_syntax::{Statement, Terminal};
 use value_core::Refuse;
 
+// Room for the forms to come in most statements.
+const ROOM: usize = 32;
+
 // The forms to come, and the load.
 #[derive(Drop)]
 struct Reading {
@@ -122,7 +125,7 @@ fn at_start(alloc: Global) -> Result<Reading, Refuse>
     ensures start { IfOk result (λ r. (stack_of r.frames.items ≡ TheStatement ∷ []) × (load_of r.load ≡ at_start)) }
     ensures memory { IfErr result (λ e. e ≡ refuses.Memory) }
 {
-    let mut frames = Vec::new(alloc);
+    let mut frames = Vec::with_capacity(alloc, ROOM)?;
     frames.push(Frame::Forms(&[Form::TheStatement]))?;
     Ok(Reading {
         frames,
