@@ -1,5 +1,6 @@
 pub mod BlankLemmas
 pub mod CutLemmas
+pub mod EncodingLemmas
 pub mod GapLemmas
 pub mod ListLemmas
 pub mod OneFrontLemmas
@@ -8,3 +9,4 @@ pub mod PlaceLemmas
 pub mod ReadLemmas
 pub mod TextLemmas
 pub mod WordLemmas
+pub mod WrittenLemmas

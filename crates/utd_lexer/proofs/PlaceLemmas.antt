@@ -1,9 +1,8 @@
 -- Places behind bytes, and that they fit.
-use Rattle.std.proofs.Common.{◌≡◌, ℕ, suc, ◌+◌, ◌-◌, ◌<◌, ◌≤◌, List, [], ◌∷◌, ◌++◌, length, drop, get_or, refl, sym, ◌∙◌, ap, subst, arith, length-append, inl, inr, encode_utf8, encode_utf8_all}
+use Rattle.std.proofs.Common.{◌≡◌, ℕ, suc, ◌+◌, ◌≤◌, List, [], ◌∷◌, ◌++◌, length, refl, ◌∙◌, ap, subst, arith, length-append, inl, inr, encode_utf8_all}
 use Rattle.std.proofs.lemmas.Bool.Decides.{eqb_tells}
 use Rattle.point_core.specs.declared.fault.Place.{Place}
 use Rattle.utd_lexer.specs.Tokens.{Fits, next_place, place_after, past}
-use Rattle.utd_lexer.proofs.ListLemmas.{drop-at}
 
 pub place_after-append : (p : Place) (a b : List ℕ) → place_after p (a ++ b) ≡ place_after (place_after p a) b
 place_after-append p [] b = refl
@@ -21,20 +20,6 @@ fits-next p b n h = elim (eqb_tells b 10) [
 pub fits-after : (p : Place) (bs : List ℕ) (n : ℕ) → Fits p (length bs + n) → Fits (place_after p bs) n
 fits-after p [] n h = fits-less p n (0 + n) h (omega arith)
 fits-after p (b ∷ bs) n h = fits-after (next_place p b) bs n (fits-next p b (length bs + n) (fits-less p (length bs + n + 1) (suc (length bs) + n) h (omega arith)))
-
--- a character further
-pub char-step : (start p : Place) (cs : List ℕ) (i c : ℕ) → i < length cs → c ≡ get_or cs i c → past p (drop i cs) ≡ past start cs → Fits p (length (encode_utf8_all (drop i cs)))
-    → Fits p (length (encode_utf8 c)) × (past (place_after p (encode_utf8 c)) (drop (i + 1) cs) ≡ past start cs) × Fits (place_after p (encode_utf8 c)) (length (encode_utf8_all (drop (i + 1) cs)))
-char-step start p cs i c lt is same fits =
-    let d : drop i cs ≡ c ∷ drop (i + 1) cs = drop-at cs i c lt is in
-    let rest : List ℕ = encode_utf8_all (drop (i + 1) cs) in
-    let bytes : encode_utf8_all (drop i cs) ≡ encode_utf8 c ++ rest = ap encode_utf8_all d in
-    let len : length (encode_utf8_all (drop i cs)) ≡ length (encode_utf8 c) + length rest = ap length bytes ∙ length-append (encode_utf8 c) rest in
-    let all : Fits p (length (encode_utf8 c) + length rest) = subst (Fits p) len fits in (
-      fits-less p (length (encode_utf8 c)) (length (encode_utf8 c) + length rest) all (omega arith),
-      sym (place_after-append p (encode_utf8 c) rest) ∙ ap (place_after p) (sym bytes) ∙ same,
-      fits-after p (encode_utf8 c) (length rest) all,
-    )
 
 -- characters further
 pub chars-step : (p : Place) (cs front rest : List ℕ) → cs ≡ front ++ rest → encode_utf8_all cs ≡ encode_utf8_all front ++ encode_utf8_all rest → Fits p (length (encode_utf8_all cs))

@@ -112,6 +112,10 @@ text-fits start cs bytes is utf h =
     let e : length (encode_utf8_all cs) ≡ length bytes = ap length (ap encode_utf8_all is ∙ encodes-chars bytes utf) in
     (omega (arith, e, h), omega (arith, e, h))
 
+-- the bytes are those of their characters
+pub text-encoded : (cs bytes : List ℕ) → cs ≡ chars bytes → IsUtf8 bytes → bytes ≡ encode_utf8_all cs
+text-encoded cs bytes is utf = sym (ap encode_utf8_all is ∙ encodes-chars bytes utf)
+
 -- the characters' answer is the text's
 pub read-text : (start : Place) (cs bytes : List ℕ) (r : Result (List Token) Refuse) → cs ≡ chars bytes → IsUtf8 bytes → IfOk r (λ list. Lexed start cs list) → IfOk r (λ list. Reads start bytes list)
 read-text start cs bytes (Ok list) is utf h = (utf, subst (λ z. Lexed start z list) is h)
@@ -126,3 +130,10 @@ refused-chars start cs bytes (Broken code relvar number) is utf h = h
 pub refused-text : (start : Place) (cs bytes : List ℕ) (r : Result (List Token) Refuse) → cs ≡ chars bytes → IsUtf8 bytes → IfErr r (λ e. Stops start cs e) → IfErr r (λ e. Refuses start bytes e)
 refused-text start cs bytes (Ok list) is utf h = tt
 refused-text start cs bytes (Err e) is utf h = refused-chars start cs bytes e is utf h
+
+-- the bytes of the front of what is left, and those behind it
+pub bytes-here : (cs rest front : List ℕ) (at n : ℕ) → rest ≡ drop at cs → front ≡ encode_utf8_all (take n rest) → front ≡ encode_utf8_all (take n (drop at cs))
+bytes-here cs rest front at n is e = e ∙ ap (λ z. encode_utf8_all (take n z)) is
+
+pub bytes-left : (cs rest behind : List ℕ) (at n : ℕ) → rest ≡ drop at cs → behind ≡ encode_utf8_all (drop n rest) → behind ≡ encode_utf8_all (drop (at + n) cs)
+bytes-left cs rest behind at n is e = e ∙ ap (λ z. encode_utf8_all (drop n z)) is ∙ ap encode_utf8_all (drop-drop n at cs)

@@ -1,6 +1,6 @@
--- Words, integers and symbols at the front of characters, and the bytes of characters.
-use Rattle.std.proofs.Common.{◌≡◌, ℕ, ◌+◌, ◌<◌, List, [], ◌∷◌, ◌++◌, length, take, get_or, Bool, true, false, cond, eqb, ◌||◌, Some, refl, sym, ◌∙◌, ap, subst, arith, ◌⊎◌, inl, inr, lit<, encode_utf8, encode_utf8_all}
-use Rattle.std.proofs.lemmas.List.{take_at, take_more}
+-- Words, integers and symbols at the front of characters.
+use Rattle.std.proofs.Common.{◌≡◌, ℕ, ◌+◌, ◌<◌, List, [], ◌∷◌, ◌++◌, length, take, Bool, true, false, cond, eqb, ◌||◌, Some, refl, sym, ◌∙◌, ap, subst, arith, ◌⊎◌, inl, inr, lit<, encode_utf8_all}
+use Rattle.std.proofs.lemmas.List.{take_at}
 use Rattle.std.proofs.lemmas.Bool.{eqb-true}
 use Rattle.std.specs.List.{prefix_len}
 use Rattle.std.specs.Char.{is_ascii_digit}
@@ -12,7 +12,6 @@ use Rattle.utd_lexer.specs.declared.front.Front.TheVariants.{Token as OfToken}
 use Rattle.utd_lexer.specs.Tokens.{starts, continues, among, singles, seconds, opens_comment, AllOf, IsOfKind, EndsAt}
 use Rattle.utd_lexer.specs.Fronts.{TokenFront, PlainFront, FrontIs}
 use Rattle.utd_lexer.proofs.ListLemmas.{same-head}
-use Rattle.utd_lexer.proofs.TextLemmas.{encode-snoc}
 
 -- the first of these does not pass
 abbrev pub Stops : (ℕ → Bool) → List ℕ → Type 0
@@ -20,7 +19,7 @@ Stops p [] = Unit {0}
 Stops p (x ∷ xs) = p x ≡ false
 
 -- the longest front all of which pass
-abbrev Taken : (ℕ → Bool) → List ℕ → ℕ → Type 0
+abbrev pub Taken : (ℕ → Bool) → List ℕ → ℕ → Type 0
 Taken p xs n = (front : List ℕ) × (rest : List ℕ) × (xs ≡ front ++ rest) × AllOf p front × Stops p rest × (length front ≡ n)
 
 taken-go : (p : ℕ → Bool) (x : ℕ) (xs : List ℕ) (n : ℕ) (b : Bool) → p x ≡ b → n ≡ cond b (1 + prefix_len p xs) 0 → Taken p xs (prefix_len p xs) → Taken p (x ∷ xs) n
@@ -28,7 +27,7 @@ taken-go p x xs n true is e (front, rest, split, all, stop, len) =
     (x ∷ front, rest, ap (λ z. x ∷ z) split, (is, all), stop, omega (arith, len, e))
 taken-go p x xs n false is e r = ([], x ∷ xs, refl, tt, is, sym e)
 
-taken : (p : ℕ → Bool) (xs : List ℕ) (n : ℕ) → n ≡ prefix_len p xs → Taken p xs n
+pub taken : (p : ℕ → Bool) (xs : List ℕ) (n : ℕ) → n ≡ prefix_len p xs → Taken p xs n
 taken p [] n e = ([], [], refl, tt, tt, sym e)
 taken p (x ∷ xs) n e = taken-go p x xs n (p x) refl e (taken p xs (prefix_len p xs) refl)
 
@@ -84,12 +83,6 @@ pub single-found : (cs : List ℕ) (c d : ℕ) (rest body : List ℕ) → cs ≡
 single-found cs c d rest body is on h p o =
     let ends : (among d (seconds c) || opens_comment c d) ≡ false = ap (λ b. b || opens_comment c d) p ∙ o in
     (c ∷ [], d ∷ body, is ∙ ap (λ z. c ∷ z) on, (h, ends), refl)
-
--- the bytes of one more character
-pub encoded-more : (items now xs : List ℕ) (i x : ℕ) → i < length xs → x ≡ get_or xs i x → items ≡ encode_utf8_all (take i xs) → now ≡ items ++ encode_utf8 x → now ≡ encode_utf8_all (take (i + 1) xs)
-encoded-more items now xs i x lt is h grows =
-    let last : take (i + 1) xs ≡ take i xs ++ x ∷ [] = take_more xs i x lt ∙ ap (λ z. take i xs ++ z ∷ []) (sym is) in
-    grows ∙ ap (λ z. z ++ encode_utf8 x) h ∙ sym (encode-snoc (take i xs) x) ∙ ap encode_utf8_all (sym last)
 
 same-front : (cs v rest bytes : List ℕ) (n : ℕ) → cs ≡ v ++ rest → length v ≡ n → bytes ≡ encode_utf8_all (take n cs) → bytes ≡ encode_utf8_all v
 same-front cs v rest bytes n is len h = h ∙ ap (λ z. encode_utf8_all (take n z)) is ∙ ap encode_utf8_all (take_at v rest n len)

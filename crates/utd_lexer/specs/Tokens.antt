@@ -1,5 +1,5 @@
 -- A statement's characters as tokens, white space and comments in turn.
-use Rattle.std.specs.Prelude.{◌≡◌, ℕ, ◌+◌, ◌≤◌, ◌^◌, ◌-◌, List, [], ◌∷◌, ◌++◌, Bool, true, false, ◌==◌, ◌||◌, ◌&&◌, if◌then◌else◌, encode_utf8_all}
+use Rattle.std.specs.Prelude.{◌≡◌, ℕ, ◌+◌, ◌≤◌, ◌^◌, ◌-◌, List, [], ◌∷◌, ◌++◌, Bool, true, false, ◌==◌, ◌||◌, ◌&&◌, not, if◌then◌else◌, encode_utf8_all}
 use Rattle.std.specs.Char.{is_ascii_digit}
 use Rattle.unicode_ident.specs.Ident.{is_xid_start, is_xid_continue}
 use Rattle.point_core.specs.declared.fault.Place.{Place}
@@ -27,6 +27,10 @@ starts c = is_xid_start c || (c == 95)
 
 abbrev pub continues : ℕ → Bool
 continues c = is_xid_continue c
+
+-- a character that is no quote
+abbrev pub unquoted : ℕ → Bool
+unquoted c = not (c == 39)
 
 abbrev pub among : ℕ → List ℕ → Bool
 among c [] = false

@@ -1,20 +1,22 @@
 // The token, or the white space or comment, at the front of characters.
-ghost use Rattle.std.specs.Prelude.{◌≡◌, ◌+◌, ◌<◌, ◌∷◌, ◌++◌, length, IfOk, OnOk, encode_utf8, encode_utf8_all};
+ghost use Rattle.std.specs.Prelude.{◌≡◌, ◌+◌, ◌<◌, ◌∷◌, ◌++◌, length, IfOk, IfSome, OnOk, encode_utf8, encode_utf8_all};
 ghost use Rattle.std.specs.List.{prefix_len};
 ghost use Rattle.std.specs.Char.{is_ascii_digit};
 ghost use Rattle.utd_lexer.specs.Parts.{is_space};
-ghost use Rattle.utd_lexer.specs.Tokens.{starts, continues, singles, seconds, among, opens_comment};
+ghost use Rattle.utd_lexer.specs.Tokens.{starts, continues, unquoted, singles, seconds, among, opens_comment};
 ghost use Rattle.utd_lexer.specs.Fronts.{TokenFront, GapFront, PlainFront, FrontIs, TextFront, TurnIs};
 
+use crate::encoding::split_behind;
 use crate::token::{TokenBytes, TokenKind};
 use point_core::Memory;
 use std::alloc::Global;
+use std::borrow::CowSlice;
 
 /// What stands at the front, with its number of characters.
 #[derive(Drop)]
-pub(crate) enum Front {
+pub(crate) enum Front<'a> {
     Gap(usize),
-    Token(TokenKind, TokenBytes, usize),
+    Token(TokenKind, TokenBytes<'a>, usize),
     Nothing,
 }
 
@@ -217,17 +219,6 @@ fn push_char(bytes: &mut Vec<u8>, c: char) -> Result<(), Memory>
     Ok(())
 }
 
-/// The bytes of characters.
-fn encoded(alloc: Global, chars: &[char]) -> Result<TokenBytes, Memory>
-    ensures { IfOk result (λ b. b ≡ encode_utf8_all chars.now) }
-{
-    let mut list = Vec::with_capacity(alloc, chars.len())?;
-    for c in chars {
-        push_char(&mut list, *c)?;
-    }
-    Ok(TokenBytes { list })
-}
-
 fn next_turn(rest: &[char]) -> Turn
     requires { 0 < length rest.now }
     ensures { TurnIs rest.now result }
@@ -244,8 +235,42 @@ fn next_turn(rest: &[char]) -> Turn
     }
 }
 
+fn is_unquoted(c: char) -> bool
+    ensures { result ≡ unquoted c }
+{
+    c != '\''
+}
+
+fn before_quote(chars: &[char]) -> usize
+    ensures { result ≡ prefix_len unquoted chars.now }
+{
+    let mut n = 0;
+    'plain: while n < chars.len() && is_unquoted(chars[n]) {
+        n += 1;
+    }
+    n
+}
+
+/// The text with these characters behind its first quote, where no quote in it is doubled.
+fn text_as_written<'a>(body: &[char], bytes: &'a [u8]) -> Option<Front<'a>>
+    requires { bytes.now ≡ encode_utf8_all body.now }
+    ensures { IfSome result (λ f. FrontIs (39 ∷ body.now) f) }
+{
+    let n = before_quote(body);
+    if n >= body.len() {
+        return None;
+    }
+    match next_turn(body.split_at(n).1) {
+        Turn::Ends => {
+            let list = CowSlice::Borrowed(split_behind(body, n, bytes).0);
+            Some(Front::Token(TokenKind::Text, TokenBytes { list }, n + 2))
+        }
+        _ => None,
+    }
+}
+
 /// The text with these characters behind its first quote.
-fn text_behind(alloc: Global, body: &[char]) -> Result<Option<Front>, Memory>
+fn text_behind<'a>(alloc: Global, body: &[char]) -> Result<Option<Front<'a>>, Memory>
     ensures { IfOk result (λ f. TextFront (39 ∷ body.now) f) }
 {
     let mut list = Vec::new(alloc);
@@ -253,6 +278,7 @@ fn text_behind(alloc: Global, body: &[char]) -> Result<Option<Front>, Memory>
     'body: while n < body.len() {
         match next_turn(body.split_at(n).1) {
             Turn::Ends => {
+                let list = CowSlice::Owned(list);
                 let bytes = TokenBytes { list };
                 return Ok(Some(Front::Token(TokenKind::Text, bytes, n + 2)));
             }
@@ -269,7 +295,8 @@ fn text_behind(alloc: Global, body: &[char]) -> Result<Option<Front>, Memory>
     Ok(None)
 }
 
-fn text(alloc: Global, chars: &[char]) -> Result<Option<Front>, Memory>
+fn text<'a>(alloc: Global, chars: &[char], bytes: &'a [u8]) -> Result<Option<Front<'a>>, Memory>
+    requires { bytes.now ≡ encode_utf8_all chars.now }
     ensures { IfOk result (λ f. TextFront chars.now f) }
 {
     let Some((first, body)) = chars.split_first() else {
@@ -278,24 +305,32 @@ fn text(alloc: Global, chars: &[char]) -> Result<Option<Front>, Memory>
     if *first != '\'' {
         return Ok(None);
     }
+    if let Some(found) = text_as_written(body, split_behind(chars, 1, bytes).1) {
+        return Ok(Some(found));
+    }
     let found = text_behind(alloc, body)?;
     Ok(found)
 }
 
-/// What stands at the front of the characters.
-pub(crate) fn front_of(alloc: Global, chars: &[char]) -> Result<Front, Memory>
+/// What stands at the front of the characters, which have these bytes.
+pub(crate) fn front_of<'a>(
+    alloc: Global,
+    chars: &[char],
+    bytes: &'a [u8],
+) -> Result<Front<'a>, Memory>
+    requires { bytes.now ≡ encode_utf8_all chars.now }
     ensures { IfOk result (λ f. FrontIs chars.now f) }
 {
     if let Some(n) = gap_len(chars) {
         return Ok(Front::Gap(n));
     }
-    if let Some(found) = text(alloc, chars)? {
+    if let Some(found) = text(alloc, chars, bytes)? {
         return Ok(found);
     }
     match plain_len(chars) {
         Some((kind, n)) => {
-            let bytes = encoded(alloc, chars.split_at(n).0)?;
-            Ok(Front::Token(kind, bytes, n))
+            let list = CowSlice::Borrowed(split_behind(chars, n, bytes).0);
+            Ok(Front::Token(kind, TokenBytes { list }, n))
         }
         None => Ok(Front::Nothing),
     }

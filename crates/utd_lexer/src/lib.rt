@@ -2,6 +2,7 @@
 #![tactic(auto)]
 
 mod cutter;
+mod encoding;
 mod front;
 mod reading;
 mod token;

@@ -1,9 +1,10 @@
 // The tokens of a statement, and their places.
-ghost use Rattle.std.specs.Prelude.{◌≡◌, ◌+◌, ◌-◌, ◌^◌, ◌≤◌, length, IfOk, IfErr, encode_utf8, encode_utf8_all};
+ghost use Rattle.std.specs.Prelude.{◌≡◌, ◌+◌, ◌-◌, ◌^◌, ◌≤◌, length, IfOk, IfErr, encode_utf8_all};
 ghost use Rattle.std.specs.Str.{chars};
-ghost use Rattle.utd_lexer.specs.Tokens.{Fits, next_place, place_after, past, Lexed};
+ghost use Rattle.utd_lexer.specs.Tokens.{Fits, next_place, place_after, Lexed};
 ghost use Rattle.utd_lexer.specs.Reading.{Stops, Reads, Refuses, IsOnlyReading, RefusesOnly};
 
+use crate::encoding::split_behind;
 use crate::front::{Front, front_of};
 use crate::token::{Token, TokenList};
 use point_core::{Code, Fault, Place};
@@ -40,54 +41,55 @@ pub fn place_behind(start: Place, bytes: &[u8]) -> Place
     place
 }
 
-/// The place of the byte behind this character.
-fn place_past_one(place: Place, c: char) -> Place
-    requires { Fits place (length (encode_utf8 c)) }
-    ensures { result ≡ place_after place (encode_utf8 c) }
+fn chars_of_ascii(alloc: Global, bytes: &[u8]) -> Result<Vec<char>, AllocError>
+    ensures { IfOk result (λ v. v.items ≡ bytes.now) }
 {
-    if c < '\u{80}' {
-        return next_place(place, c as u8);
+    let mut list = Vec::with_capacity(alloc, bytes.len())?;
+    for byte in bytes {
+        list.push(char::from(*byte))?;
     }
-    let mut space = [0u8; 4];
-    place_behind(place, c.encode_utf8(&mut space).as_bytes())
-}
-
-/// The place of the byte behind these characters.
-fn place_past(start: Place, chars: &[char]) -> Place
-    requires { Fits start (length (encode_utf8_all chars.now)) }
-    ensures { result ≡ past start chars.now }
-{
-    let mut place = start;
-    for c in chars {
-        place = place_past_one(place, *c);
-    }
-    place
+    Ok(list)
 }
 
 fn chars_of(alloc: Global, text: &str) -> Result<Vec<char>, AllocError>
     ensures { IfOk result (λ v. v.items ≡ chars text.now) }
 {
+    if text.is_ascii() {
+        let list = chars_of_ascii(alloc, text.as_bytes())?;
+        return Ok(list);
+    }
     text.chars().collect(alloc)
 }
 
-fn read_all(alloc: Global, chars: &[char], start: Place) -> Result<TokenList, Refuse>
-    requires { Fits start (length (encode_utf8_all chars.now)) }
+fn read_all<'a>(
+    alloc: Global,
+    chars: &[char],
+    text: &'a [u8],
+    start: Place,
+) -> Result<TokenList<'a>, Refuse>
+    requires encoded { text.now ≡ encode_utf8_all chars.now }
+    requires fits { Fits start (length (encode_utf8_all chars.now)) }
     ensures read { IfOk result (λ list. Lexed start chars.now list) }
     ensures refused { IfErr result (λ refuse. Stops start chars.now refuse) }
 {
     let mut list = Vec::new(alloc);
     let mut at = 0;
+    let mut left = text;
     let mut place = start;
     'text: while at < chars.len() {
         let rest = chars.split_at(at).1;
-        match front_of(alloc, rest)? {
+        match front_of(alloc, rest, left)? {
             Front::Gap(n) => {
-                place = place_past(place, rest.split_at(n).0);
+                let (front, behind) = split_behind(rest, n, left);
+                place = place_behind(place, front);
+                left = behind;
                 at += n;
             }
             Front::Token(kind, bytes, n) => {
                 list.push(Token { kind, place, bytes })?;
-                place = place_past(place, rest.split_at(n).0);
+                let (front, behind) = split_behind(rest, n, left);
+                place = place_behind(place, front);
+                left = behind;
                 at += n;
             }
             Front::Nothing => {
@@ -104,7 +106,7 @@ fn read_all(alloc: Global, chars: &[char], start: Place) -> Result<TokenList, Re
 /// refused with E02 behind the longest front that is; else, where at some character neither a token nor
 /// white space nor a comment begins, with E01 there. Bytes have one reading: no other tokens, no other
 /// refusal, and never both.
-pub fn tokens(alloc: Global, text: &[u8], start: Place) -> Result<TokenList, Refuse>
+pub fn tokens(alloc: Global, text: &[u8], start: Place) -> Result<TokenList<'_>, Refuse>
     requires { start.line + start.column + length text.now ≤ 2 ^ 32 - 1 }
     ensures read { IfOk result (λ list. Reads start text.now list) }
     ensures only { IfOk result (λ list. IsOnlyReading start text.now list) }
@@ -112,9 +114,9 @@ pub fn tokens(alloc: Global, text: &[u8], start: Place) -> Result<TokenList, Ref
     ensures refused_only { IfErr result (λ refuse. RefusesOnly start text.now refuse) }
 {
     match str::from_utf8(text) {
-        Ok(text) => {
-            let characters = chars_of(alloc, text)?;
-            read_all(alloc, &characters, start)
+        Ok(written) => {
+            let characters = chars_of(alloc, written)?;
+            read_all(alloc, &characters, text, start)
         }
         Err(error) => {
             let place = place_behind(start, text.split_at(error.valid_up_to()).0);

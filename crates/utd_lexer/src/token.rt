@@ -1,5 +1,6 @@
 // What a token is.
 use point_core::Place;
+use std::borrow::CowSlice;
 use std::marker::Model;
 
 /// What a token is: a word, reserved or a name, an integer, a text, or a symbol.
@@ -12,35 +13,36 @@ pub enum TokenKind {
 }
 
 /// The characters of a token in UTF-8. Of a text they are those between its quotes, a doubled quote
-/// among them being one.
+/// among them being one: the bytes are copied where there is such a quote, and borrowed from the text else.
 #[derive(Debug, Drop)]
-pub struct TokenBytes {
-    pub list: Vec<u8>,
+pub struct TokenBytes<'a> {
+    pub list: CowSlice<'a, u8>,
 }
 
-impl Model for TokenBytes {
+impl<'a> Model for TokenBytes<'a> {
     ghost use Rattle.std.specs.Prelude.{ℕ, List};
+    ghost use Rattle.std.specs.Cow.{cow_slice_items};
 
     ghost Value = { List ℕ };
 
-    ghost view = { λ b. b.list.items };
+    ghost view = { λ b. cow_slice_items b.list };
 }
 
 /// A token, and the place of its first byte.
 #[derive(Debug, Drop)]
-pub struct Token {
+pub struct Token<'a> {
     pub kind: TokenKind,
     pub place: Place,
-    pub bytes: TokenBytes,
+    pub bytes: TokenBytes<'a>,
 }
 
 /// The tokens of a statement, in the order of the text.
 #[derive(Debug, Drop)]
-pub struct TokenList {
-    pub list: Vec<Token>,
+pub struct TokenList<'a> {
+    pub list: Vec<Token<'a>>,
 }
 
-impl Model for TokenList {
+impl<'a> Model for TokenList<'a> {
     ghost use Rattle.std.specs.Prelude.{List};
     ghost use Rattle.utd_lexer.specs.declared.token.Token.{Token as AnyToken};
 

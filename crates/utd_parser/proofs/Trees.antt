@@ -1,5 +1,6 @@
 -- What the tree that was built says of the statement.
-use Rattle.std.proofs.Common.{◌≡◌, ℕ, zero, suc, ◌+◌, List, [], ◌∷◌, ◌++◌, Option, Some, None, refl, sym, ◌∙◌, ap, subst, append_assoc, append-nil, drop, length, arith}
+use Rattle.std.proofs.Common.{◌≡◌, ℕ, zero, suc, ◌+◌, ◌<◌, List, [], ◌∷◌, ◌++◌, Option, Some, None, refl, sym, ◌∙◌, ap, subst, take, drop, get_or, length, arith}
+use Rattle.std.proofs.lemmas.List.{take_more}
 use Rattle.utd_syntax.specs.Pieces.{Piece}
 use Rattle.utd_syntax.specs.Plain.{StatementP}
 use Rattle.utd_syntax.specs.Table.{TheStatement}
@@ -32,19 +33,20 @@ tree-spells ts v h e = subst (λ z. Spells (of_statement z) ts []) (sym e) h.1
 pub tree-sole : (ts : List Piece) (v : StatementP) → (h : IsStatement ts) → v ≡ h.0 → (y : StatementP) → Spells (of_statement y) ts [] → y ≡ v
 tree-sole ts v h e y g = h.2 y g ∙ sym e
 
--- the pieces of two lists of tokens
+-- the pieces of lists of tokens with one more
 pub pieces-push : (xs : List Lexeme) (x : Lexeme) → building.pieces (xs ++ x ∷ []) ≡ building.pieces xs ++ building.piece x ∷ []
 pieces-push [] x = refl
 pieces-push (y ∷ xs) x = ap (λ z. building.piece y ∷ z) (pieces-push xs x)
 
--- one more token is seen, and all of them are
-pub pieces-next : (xs ys : List Lexeme) (x : Lexeme) (rest ts : List Token) (t : Token) (all : List Piece) → rest ≡ t ∷ ts → all ≡ building.pieces xs ++ pieces rest → building.piece x ≡ piece t → ys ≡ xs ++ x ∷ [] → all ≡ building.pieces ys ++ pieces ts
-pieces-next xs ys x rest ts t all is h e more =
-    h ∙ ap (λ z. building.pieces xs ++ pieces z) is ∙ ap (λ z. building.pieces xs ++ z ∷ pieces ts) (sym e) ∙ sym (append_assoc (building.pieces xs) (building.piece x ∷ []) (pieces ts)) ∙ ap (λ z. z ++ pieces ts) (sym (pieces-push xs x)) ∙ ap (λ z. building.pieces z ++ pieces ts) (sym more)
+tokens-push : (ts : List Token) (t : Token) → pieces (ts ++ t ∷ []) ≡ pieces ts ++ piece t ∷ []
+tokens-push [] t = refl
+tokens-push (s ∷ ts) t = ap (λ z. piece s ∷ z) (tokens-push ts t)
 
-pub pieces-end : (xs : List Lexeme) (rest : List Token) (all : List Piece) → length rest ≡ 0 → all ≡ building.pieces xs ++ pieces rest → building.pieces xs ≡ all
-pieces-end xs [] all none h = sym (h ∙ append-nil (building.pieces xs))
-pieces-end xs (t ∷ ts) all none h = absurd (omega (arith, none))
+-- one more token is seen
+pub pieces-more : (xs ys : List Lexeme) (x : Lexeme) (ts : List Token) (i : ℕ) (t : Token) → i < length ts → t ≡ get_or ts i t → building.pieces xs ≡ pieces (take i ts) → building.piece x ≡ piece t → ys ≡ xs ++ x ∷ [] → building.pieces ys ≡ pieces (take (i + 1) ts)
+pieces-more xs ys x ts i t lt is h e more =
+    let last : take (i + 1) ts ≡ take i ts ++ t ∷ [] = take_more ts i t lt ∙ ap (λ z. take i ts ++ z ∷ []) (sym is) in
+    ap building.pieces more ∙ pieces-push xs x ∙ ap (λ z. z ++ building.piece x ∷ []) h ∙ ap (λ z. pieces (take i ts) ++ z ∷ []) e ∙ sym (tokens-push (take i ts) t) ∙ ap pieces (sym last)
 
 pub read-from : (ts old new : List Piece) (v : StatementP) → old ≡ ts → building.Read TheStatement old new v → building.Read TheStatement ts new v
 read-from ts old new v e r = subst (λ z. building.Read TheStatement z new v) e r

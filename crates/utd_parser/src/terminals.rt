@@ -278,14 +278,14 @@ fn terminal_by(kind: TokenKind, bytes: &[u8]) -> Terminal
 }
 
 /// What a token is to the grammar.
-pub fn terminal_of(token: &Token) -> Terminal
+pub fn terminal_of(token: &Token<'_>) -> Terminal
     ensures { result ≡ tokens.terminal_of token.now.kind token.now.bytes }
 {
     terminal_by(token.kind, token.bytes.list.as_slice())
 }
 
 /// The bytes of a token.
-pub fn bytes_of(token: &Token) -> &[u8]
+pub fn bytes_of<'a>(token: &'a Token<'_>) -> &'a [u8]
     ensures { result.now ≡ token.now.bytes }
 {
     token.bytes.list.as_slice()

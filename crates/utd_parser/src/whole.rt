@@ -28,6 +28,9 @@ use utd_lexer::{Token, TokenList};
 use utd_syntax::{Statement, Terminal};
 use value_core::Refuse;
 
+// Room for the forms to come in most statements.
+const ROOM: usize = 32;
+
 // The forms to come, and the load.
 #[derive(Drop)]
 struct Reading {
@@ -122,7 +125,7 @@ fn at_start(alloc: Global) -> Result<Reading, Refuse>
     ensures start { IfOk result (λ r. (stack_of r.frames.items ≡ TheStatement ∷ []) × (load_of r.load ≡ at_start)) }
     ensures memory { IfErr result (λ e. e ≡ refuses.Memory) }
 {
-    let mut frames = Vec::new(alloc);
+    let mut frames = Vec::with_capacity(alloc, ROOM)?;
     frames.push(Frame::Forms(&[Form::TheStatement]))?;
     Ok(Reading {
         frames,
@@ -143,30 +146,28 @@ fn judge(alloc: Global, tokens: &[Lexeme]) -> Result<(), Refuse>
 }
 
 // The tokens as the grammar sees them.
-fn lexemes<'a>(alloc: Global, tokens: &'a [Token]) -> Result<Vec<Lexeme<'a>>, AllocError>
+fn lexemes<'a>(alloc: Global, tokens: &'a [Token<'_>]) -> Result<Vec<Lexeme<'a>>, AllocError>
     ensures { IfOk result (λ l. building.pieces l.items ≡ pieces tokens.now) }
 {
     let mut list = Vec::with_capacity(alloc, tokens.len())?;
-    let mut rest = tokens;
-    while let Some((token, more)) = rest.split_first() {
+    for token in tokens {
         list.push(Lexeme {
             terminal: terminal_of(token),
             place: token.place,
             bytes: bytes_of(token),
         })?;
-        rest = more;
     }
     Ok(list)
 }
 
-fn lexemes_of<'a>(alloc: Global, list: &'a TokenList) -> Result<Vec<Lexeme<'a>>, AllocError>
+fn lexemes_of<'a>(alloc: Global, list: &'a TokenList<'_>) -> Result<Vec<Lexeme<'a>>, AllocError>
     ensures { IfOk result (λ l. building.pieces l.items ≡ pieces list.now) }
 {
     lexemes(alloc, list.list.as_slice())
 }
 
 // The tokens as the grammar sees them, if the verdict on them is that they are whole.
-fn judged<'a>(alloc: Global, list: &'a TokenList) -> Result<Vec<Lexeme<'a>>, Refuse>
+fn judged<'a>(alloc: Global, list: &'a TokenList<'_>) -> Result<Vec<Lexeme<'a>>, Refuse>
     ensures verdict { Comes result (verdict_on (pieces list.now)) Whole }
     ensures seen { IfOk result (λ l. building.pieces l.items ≡ pieces list.now) }
 {
@@ -176,7 +177,7 @@ fn judged<'a>(alloc: Global, list: &'a TokenList) -> Result<Vec<Lexeme<'a>>, Ref
 }
 
 // The tokens as the grammar sees them, if they are a statement, and else the first refusal.
-fn accepted<'a>(alloc: Global, list: &'a TokenList) -> Result<Vec<Lexeme<'a>>, Refuse>
+fn accepted<'a>(alloc: Global, list: &'a TokenList<'_>) -> Result<Vec<Lexeme<'a>>, Refuse>
     ensures verdict { Comes result (verdict_on (pieces list.now)) Whole }
     ensures seen { IfOk result (λ l. building.pieces l.items ≡ pieces list.now) }
     ensures read { IfOk result (λ _. IsStatement (pieces list.now)) }
@@ -189,7 +190,7 @@ fn accepted<'a>(alloc: Global, list: &'a TokenList) -> Result<Vec<Lexeme<'a>>, R
 /// Whether the tokens are a statement, and else the first refusal. It is E01 at the first token with which no statement
 /// goes on, or at the end of the text; E05 at a token that opens a level or is an operator in force beyond the most; E06 at a
 /// token out of its range.
-pub fn accept(alloc: Global, list: &TokenList) -> Result<(), Refuse>
+pub fn accept(alloc: Global, list: &TokenList<'_>) -> Result<(), Refuse>
     ensures verdict { Comes result (verdict_on (pieces list.now)) Whole }
     ensures read { IfOk result (λ _. IsStatement (pieces list.now)) }
     ensures no_statement { (place : Place) → RefusedAt result E01 place → NoStatement (pieces list.now) place }
@@ -201,7 +202,7 @@ pub fn accept(alloc: Global, list: &TokenList) -> Result<(), Refuse>
 
 /// The statement that the tokens are, and else the refusal of `accept`: the tree writes these tokens, and no other tree
 /// does. Its names and literals are in range; where the tokens are ones that a text writes, each stands for a name or a value.
-pub fn parse(alloc: Global, list: &TokenList) -> Result<Statement, Refuse>
+pub fn parse(alloc: Global, list: &TokenList<'_>) -> Result<Statement, Refuse>
     ensures verdict { Comes result (verdict_on (pieces list.now)) Whole }
     ensures read { IfOk result (λ s. Spells (of_statement (read_statement s)) (pieces list.now) []) }
     ensures range { IfOk result (λ s. HasLiteralsInRange (read_statement s)) }

@@ -1,11 +1,16 @@
 use Rattle.std.proofs.Common.{◌≡◌, ap, ◌∙◌}
 use Rattle.std.specs.Str.{chars}
-use Rattle.utd_lexer.proofs.ReadLemmas.{text-fits, read-text, refused-text}
+use Rattle.utd_lexer.proofs.ReadLemmas.{text-encoded, text-fits, read-text, refused-text}
 use Rattle.utd_lexer.proofs.OneReadingLemmas.{only-list, only-refusal}
 use Rattle.utd_lexer.proofs.reading.tokens.Goals as goal
 
 pub read_all-requires : goal.read_all-requires
-read_all-requires c = text-fits c.args.start c.deref.result.now c.args.text.now (c.deref.ensures.value ∙ c.in_ok-characters-in-Ok.ensures ∙ ap chars c.in-Ok.ensures.cases.0) c.in-Ok.ensures.cases.1 c.requires
+read_all-requires c =
+    let is : c.deref.result.now ≡ chars c.args.text.now = c.deref.ensures.value ∙ c.in_ok-characters-in-Ok.ensures ∙ ap chars c.in-Ok.ensures.cases.0 in
+    record {
+      encoded = text-encoded c.deref.result.now c.args.text.now is c.in-Ok.ensures.cases.1;
+      fits = text-fits c.args.start c.deref.result.now c.args.text.now is c.in-Ok.ensures.cases.1 c.requires;
+    }
 
 pub returns-in_ok-characters-in-Ok-clause-only : goal.returns-in_ok-characters-in-Ok-clause-only
 returns-in_ok-characters-in-Ok-clause-only c =
