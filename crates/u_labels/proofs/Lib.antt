@@ -1,0 +1,3 @@
+pub mod LabelLemmas
+pub mod ExchangeLemmas
+pub mod InsertionLemmas
