@@ -1,9 +1,9 @@
 -- What is left of a row at one position, and of all rows.
-use Rattle.std.proofs.Common.{◌≡◌, ◌↔◌, ◌⊎◌, inl, inr, ℕ, zero, suc, ◌+◌, ◌<◌, ℤ, ◌≤ℤ◌, Bool, true, false, List, [], ◌∷◌, ◌++◌, map, take, length, get_or, Ok, Err, Option, Some, None, refl, sym, ap, ◌∙◌, subst, arith}
+use Rattle.std.proofs.Common.{◌≡◌, ◌↔◌, ◌⊎◌, inl, inr, ℕ, zero, suc, ◌+◌, ◌<◌, ℤ, ◌≤ℤ◌, Bool, true, false, List, [], ◌∷◌, ◌++◌, map, take, length, get_or, Ok, Err, Option, Some, refl, sym, ap, ◌∙◌, subst, arith}
 use Rattle.std.specs.Prelude.{pos, int_le, ◌&&◌}
 use Rattle.std.specs.Bool.{IsTrue}
 use Rattle.std.specs.List.{All}
-use Rattle.std.proofs.lemmas.List.{map-append, map_more, length-map, get_or-map}
+use Rattle.std.proofs.lemmas.List.{map-append, map_more}
 use Rattle.base_core.specs.Outcomes.{then_give}
 use Rattle.base_core.proofs.MemberLemmas.{In-append, list_all-In}
 use Rattle.point_core.specs.Faults.{OrFault}
@@ -11,11 +11,10 @@ use Rattle.point_core.specs.Points.{Line, number, line, line_of, is_number, IsPo
 use Rattle.point_core.specs.declared.any_type.AnyPoint.{AnyPoint}
 use Rattle.point_core.specs.declared.any_type.AnyType.{AnyType}
 use Rattle.point_core.specs.declared.fault.Fault.{Fault}
-use Rattle.interval_core.specs.Members.{Span, at_point, HasEndsIn}
+use Rattle.interval_core.specs.Members.{Span, HasEndsIn}
 use Rattle.packing_core.specs.Boxed.{Boxed, InBoxes}
 use Rattle.packing_core.specs.Covering.{Among}
 use Rattle.packing_core.specs.Packed.{Has}
-use Rattle.packing_core.proofs.AmongLemmas.{among_map}
 use Rattle.value_core.specs.Attributes.{value_at, span_of, with_span, put_span, among}
 use Rattle.value_core.specs.Relations.{all_fit}
 use Rattle.value_core.specs.Values.{Value, Row, Heading, truth, text, point, interval, fits, fits_heading, is_interval, same_line}
@@ -24,7 +23,6 @@ use Rattle.value_core.specs.declared.kind.Kind.TheVariants.{Truth, Char, Point, 
 use Rattle.scalar_core.specs.AtPlaces.{IsWithin, IsSteady}
 use Rattle.scalar_core.specs.Cuts.{IsBeside, inner_cuts}
 use Rattle.scalar_core.specs.Expressions.{Expr}
-use Rattle.scalar_core.specs.Kinds.{IsTypedOver}
 use Rattle.scalar_core.specs.Operations.{is_true}
 use Rattle.scalar_core.proofs.AtPlaceLemmas.{at_place-fits}
 use Rattle.scalar_core.proofs.PointLemmas.{and_left, and_right, both_true, le-int_le, number-is_number}

@@ -1,7 +1,6 @@
 use Rattle.std.proofs.Common.{sym, subst}
 use Rattle.std.specs.Bool.{IsTrue}
 use Rattle.point_core.specs.Points.{IsPointOf}
-use Rattle.point_core.specs.declared.any_type.AnyPoint.{AnyPoint}
 use Rattle.interval_core.specs.Members.{HasEndsIn}
 use Rattle.value_core.specs.Values.{Row, fits_heading}
 use Rattle.relation_core.specs.Parts.{kind_at}

@@ -1,4 +1,4 @@
-use Rattle.std.proofs.Common.{◌≡◌, ◌↔◌, ◌+◌, ◌∷◌, [], ℕ, ℤ, List, Err, Option, None, Some, length, map, get_or, refl, arith, ap, ◌∙◌, subst}
+use Rattle.std.proofs.Common.{◌≡◌, ◌↔◌, ◌∷◌, [], ℕ, ℤ, List, Err, length, map, get_or, refl, arith, ap, ◌∙◌, subst}
 use Rattle.std.proofs.lemmas.Bool.Decides.{nat_tests}
 use Rattle.packing_core.specs.Boxed.{InBoxes}
 use Rattle.value_core.specs.Relations.{IsRelationOf}
@@ -10,7 +10,7 @@ use Rattle.u_set.specs.Boxes.{boxed, spans_at}
 use Rattle.u_set.proofs.KeptLemmas.{one_listed}
 use Rattle.u_row.specs.Rules.{InRule, HasRuleFault}
 use Rattle.using_core.specs.Swept.{met, swept_rows}
-use Rattle.using_core.proofs.LeftLemmas.{IsLeastOfAll, fault_left, relation_left, if_some, fault_is}
+use Rattle.using_core.proofs.LeftLemmas.{fault_left, relation_left, if_some, fault_is}
 use Rattle.using_core.proofs.in_place.restricted_in_place.Goals as goal
 
 pub returns-in-Some-clause-fault : goal.returns-in-Some-clause-fault

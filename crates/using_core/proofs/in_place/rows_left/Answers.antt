@@ -1,11 +1,10 @@
-use Rattle.std.proofs.Common.{◌≡◌, ◌↔◌, ◌<◌, ◌+◌, ◌∷◌, [], List, ℤ, map, length, get_or, arith, ap, sym, ◌∙◌, subst}
+use Rattle.std.proofs.Common.{◌≡◌, ◌↔◌, ◌<◌, ◌∷◌, [], map, length, arith, sym, subst}
 use Rattle.std.proofs.lemmas.List.{length-map}
 use Rattle.packing_core.specs.Boxed.{InBoxes}
-use Rattle.value_core.specs.Values.{Row}
 use Rattle.scalar_core.specs.Expressions.{read}
 use Rattle.slice_core.specs.LeastFault.{IsLeast}
 use Rattle.u_set.specs.Boxes.{boxed, spans_at}
-use Rattle.u_row.proofs.AllRowsLemmas.{InRuleBelow, HasFaultBelow, places_step, fault_step}
+use Rattle.u_row.proofs.AllRowsLemmas.{InRuleBelow, HasFaultBelow}
 use Rattle.using_core.specs.Swept.{met, swept_rows}
 use Rattle.using_core.specs.Holding.{CanAsk}
 use Rattle.using_core.proofs.LeftLemmas.{row_places, row_least}

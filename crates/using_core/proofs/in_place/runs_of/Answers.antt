@@ -1,4 +1,4 @@
-use Rattle.std.proofs.Common.{◌≡◌, ◌↔◌, ◌⊎◌, ℤ, List, Some, sym, subst}
+use Rattle.std.proofs.Common.{◌≡◌, ◌↔◌, ◌⊎◌, List, Some, sym, subst}
 use Rattle.point_core.specs.Points.{number, IsPointOf}
 use Rattle.point_core.specs.declared.any_type.AnyPoint.{AnyPoint}
 use Rattle.interval_core.specs.Members.{HasEndsIn}

@@ -1,4 +1,4 @@
-use Rattle.std.proofs.Common.{◌≡◌, ◌-◌, ◌<◌, length, arith, ◌∷◌, [], ◌++◌, ◌∙◌, ap, subst}
+use Rattle.std.proofs.Common.{◌-◌, arith, ◌∷◌, [], ◌++◌, ◌∙◌, ap}
 use Rattle.std.proofs.lemmas.List.Elements.{All-same, All-push}
 use Rattle.point_core.specs.Points.{IsPointOf}
 use Rattle.interval_core.specs.Members.{HasEndsIn}
