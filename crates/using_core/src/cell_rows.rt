@@ -20,7 +20,7 @@ use value_core::{Row, Value};
 pub(crate) fn copied(alloc: Global, values: &[Value]) -> Result<Vec<Value>, Memory>
     ensures { IfOk result (λ v. v.items ≡ values.now) }
 {
-    let mut out = Vec::new(alloc);
+    let mut out = Vec::with_capacity(alloc, values.len())?;
     for value in values {
         out.push(value.copy(alloc)?)?;
     }

@@ -43,12 +43,7 @@ use u_set::is_apart;
 use value_core::{Heading, Kind, Name, Relation, Row, RowsRefuse, Value};
 
 // The row with another interval at the position.
-fn with_interval(
-    alloc: Global,
-    row: &Row,
-    at: usize,
-    i: &Interval<AnyType>,
-) -> Result<Row, Memory>
+fn with_interval(alloc: Global, row: &Row, at: usize, i: &Interval<AnyType>) -> Result<Row, Memory>
     requires within { at < length row.now }
     requires first { value_at row.now at ≡ interval (line i.now.0) (span_of (value_at row.now at)) }
     requires last { line i.now.1 ≡ line i.now.0 }
