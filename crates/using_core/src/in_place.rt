@@ -267,9 +267,9 @@ fn if_apart(
     }
 }
 
-/// The relation at the points of which the condition holds, made row by row, or the least fault of the condition at any point. None
-/// where this is not seen to be packed, as it is not where the rows are not.
-pub(crate) fn restricted_in_place(
+// The relation at the points of which the condition holds, made row by row, or the least fault of the condition at any point. None
+// where this is not seen to be packed.
+fn restricted_in_place(
     alloc: Global,
     acl: &[usize],
     c: &Scalar,
@@ -294,4 +294,25 @@ pub(crate) fn restricted_in_place(
             Ok(relation)
         }
     }
+}
+
+/// The relation at the points of which the condition holds, or the least fault of the condition at any point, where the rows are seen
+/// to be apart. Then what is left of them is apart too, and packed as it stands. None where that is not seen.
+pub(crate) fn restricted_if_apart(
+    alloc: Global,
+    acl: &[usize],
+    c: &Scalar,
+    r: &Relation,
+) -> Result<Option<Relation>, Stop>
+    requires intervals { AreIntervals r.now.heading acl.now }
+    requires typed { IsTyped r.now.heading (read c.now) Truth }
+    requires sweepable { IsSweepable acl.now (read c.now) }
+    ensures value { IfOk result (λ o. IfSome o (λ x. (place : PlainPlace) → under r.now.heading
+        (then_give (restricted (condition (read c.now)) (unpacked acl.now r.now.rows)) (λ rows. limited place (packed acl.now rows))) ≡ Ok x)) }
+    ensures fault { (e : AnyFault) → result ≡ Err (Stop.Fault e) → restricted (condition (read c.now)) (unpacked acl.now r.now.rows) ≡ Err e }
+{
+    if !is_apart(alloc, r, acl)? {
+        return Ok(None);
+    }
+    restricted_in_place(alloc, acl, c, r)
 }

@@ -25,7 +25,7 @@ ghost use Rattle.using_core.specs.Cells.{cells_of_all};
 ghost use Rattle.using_core.specs.Swept.{met, swept_rows};
 
 use crate::conditions::Condition;
-use crate::in_place::restricted_in_place;
+use crate::in_place::restricted_if_apart;
 use cell_core::{BoxRow, CellRefuse};
 use point_core::{AnyType, Place, Steps, Stop};
 use row_making::told;
@@ -121,7 +121,7 @@ pub(crate) fn restricted_by_boxes<L: Ledger>(
         (then_give (restricted (condition (read c.now)) (unpacked acl.now r.now.rows)) (λ rows. limited place (packed acl.now rows)))) }
     ensures cost { steps.new ≤ steps.old + bound (cells_of_all acl.now (read c.now ∷ []) r.now.rows) (length acl.now) }
 {
-    match restricted_in_place(alloc, acl, c, r) {
+    match restricted_if_apart(alloc, acl, c, r) {
         Ok(Some(relation)) => Ok(relation),
         Ok(None) => restricted_and_packed(alloc, place, acl, c, r, steps),
         Err(stop) => Err(stop),
