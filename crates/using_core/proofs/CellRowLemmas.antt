@@ -51,6 +51,15 @@ point_put values i p h =
     ap (interval (line p)) (point_ends p) ∙ sym (ap (λ v. with_span v (at_point (number p))) h) in
     map_set plain values i (SpanValue (p, p)) ∙ ap (set (map plain values) i) new
 
+-- another interval on the same line
+pub interval_put : (values : List Value) (i : ℕ) (x : AnyPoint × AnyPoint) → value_at (map plain values) i ≡ interval (line x.0) (span_of (value_at (map plain values) i)) → line x.1 ≡ line x.0
+    → map plain (set values i (SpanValue x)) ≡ put_span (map plain values) i (numbers_of number x)
+interval_put values i x h e =
+    let same : ends x ≡ numbers_of number x = (λ t. if same_line (line x.0) (e t) then numbers_of number x else (pos 1, pos 0)) ∙ ap (λ b. if b then numbers_of number x else (pos 1, pos 0)) (same_line-self (line x.0)) in
+    let new : interval (line x.0) (ends x) ≡ with_span (value_at (map plain values) i) (numbers_of number x) =
+    ap (interval (line x.0)) same ∙ sym (ap (λ v. with_span v (numbers_of number x)) h) in
+    map_set plain values i (SpanValue x) ∙ ap (set (map plain values) i) new
+
 -- ---- all of them
 
 -- the first j points are put

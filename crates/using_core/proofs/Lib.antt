@@ -14,3 +14,6 @@ pub mod ExtensionLemmas
 pub mod MadeRowLemmas
 pub mod ItemLemmas
 pub mod ItemCutLemmas
+pub mod RunLemmas
+pub mod InPlaceLemmas
+pub mod LeftLemmas

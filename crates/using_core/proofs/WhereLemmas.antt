@@ -14,16 +14,16 @@ use Rattle.value_core.specs.RowPacking.{packed, unpacked}
 use Rattle.value_core.specs.Values.{Row, Heading, row_cmp}
 use Rattle.scalar_core.specs.Expressions.{Expr}
 use Rattle.relation_core.specs.Operators.{restricted, is_true}
-use Rattle.packing_core.specs.Boxed.{Boxed}
+use Rattle.packing_core.specs.Boxed.{Boxed, InBoxes}
 use Rattle.slice_core.specs.LeastFault.{IsLeast}
-use Rattle.u_set.specs.Boxes.{AreIntervals, IsShaped, spans_at}
-use Rattle.u_set.proofs.BridgeLemmas.{AreRowsOf, unpacked_ascends}
-use Rattle.u_row.specs.Rules.{HasRuleFault, IsRuleForm}
+use Rattle.u_set.specs.Boxes.{AreIntervals, IsShaped, spans_at, boxed}
+use Rattle.u_set.proofs.BridgeLemmas.{AreRowsOf, unpacked_ascends, unpacked_image, boxes_have, packed_rows, closed_by_boxes}
+use Rattle.u_row.specs.Rules.{InRule, HasRuleFault, IsRuleForm}
 use Rattle.u_row.proofs.RuleLemmas.{least_same}
 use Rattle.meaning_core.specs.Meanings.{condition}
 use Rattle.using_core.specs.Swept.{met, swept_rows}
 use Rattle.using_core.proofs.FaultLemmas.{least_over}
-use Rattle.using_core.proofs.SweptLemmas.{fault_there, swept_rows_of}
+use Rattle.using_core.proofs.SweptLemmas.{fault_there, labels_there, swept_rows_of}
 
 -- ---- one row
 
@@ -81,6 +81,23 @@ module _ (heading : Heading) (acl : List ℕ) (intervals : AreIntervals heading 
       swept_rows_of heading acl intervals rows ascends shaped (met c) acl heading intervals refl given
       (Ascends-filter row_cmp (λ x. is_true (condition c x)) (unpacked acl rows) (unpacked_ascends heading acl intervals rows ascends shaped))
       members made form h
+
+  given_ascends : Ascends row_cmp given
+  given_ascends = Ascends-filter row_cmp (λ x. is_true (condition c x)) (unpacked acl rows) (unpacked_ascends heading acl intervals rows ascends shaped)
+
+  given_shaped : (y : Row) → In y given → IsShaped heading acl y
+  given_shaped y m = (unpacked_image heading acl intervals rows ascends shaped).shaped y ((In-filter (λ x. is_true (condition c x)) y (unpacked acl rows)).0 m).0
+
+  -- rows with the labels that are given at places pack to the same
+  pub held_packed : (kept : List Row) → Ascends row_cmp kept → ((x : Row) → In x kept → IsShaped heading acl x)
+      → ((l : Row) (place : List ℤ) → InBoxes (map (boxed acl) kept) l place ↔ InRule means boxes l place) → packed acl given ≡ packed acl kept
+  held_packed kept up own h =
+      let labels = labels_there heading acl intervals rows ascends shaped (met c) acl heading intervals refl given given_ascends members made in
+      let first = closed_by_boxes heading acl intervals given given_ascends given_shaped (map (boxed acl) kept) (boxes_have heading acl intervals kept) (λ l place. (
+        λ w. (h l place).1 ((labels l place).0 w),
+        λ w. (labels l place).1 ((h l place).0 w),
+      )) in
+      first.are ∙ sym (packed_rows heading acl intervals kept up own).are
 
   least_there : (o : Option Fault) → IsLeast (HasRuleFault means boxes) o → IsLeast (λ e. (x : Row) × In x (unpacked acl rows) × (condition c x ≡ Err e)) o
   least_there o h =

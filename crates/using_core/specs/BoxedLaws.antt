@@ -52,7 +52,7 @@ ascending_cuts b e (c ∷ cs) up h =
     let here = h c (inl refl) in
     (here.0, here.1, ascending_cuts c e cs up.1 (λ d m. (after_less c d ((AllAfter-In int_cmp c cs).0 up.0 d m), (h d (inr m)).1)))
 
-cuts_inside : (acl : List ℕ) (scalars : List Expr) (row : Row) (a : ℕ) → AreCuts (span_of (value_at row a)).0 (span_of (value_at row a)).1 (cuts_of_all acl scalars row a)
+pub cuts_inside : (acl : List ℕ) (scalars : List Expr) (row : Row) (a : ℕ) → AreCuts (span_of (value_at row a)).0 (span_of (value_at row a)).1 (cuts_of_all acl scalars row a)
 cuts_inside acl scalars row a =
     let i : Span = span_of (value_at row a) in
     let all : List ℤ = flat_map (λ e. cuts acl a e row) scalars in
@@ -61,7 +61,7 @@ cuts_inside acl scalars row a =
 
 -- ---- an interval has a point
 
-some_point : (t : AnyType) (v : Value) → IsTrue (fits (SpanOf t) v) → (span_of v).0 ≤ℤ (span_of v).1
+pub some_point : (t : AnyType) (v : Value) → IsTrue (fits (SpanOf t) v) → (span_of v).0 ≤ℤ (span_of v).1
 some_point t (truth b) h = absurd cc
 some_point t (text bytes) h = absurd cc
 some_point t (point l p) h = absurd cc

@@ -3,6 +3,7 @@ pub mod Cells
 pub mod ConditionLaws
 pub mod Extended
 pub mod ExtensionLaws
+pub mod Holding
 pub mod PlaceRows
 pub mod SteadyLaws
 pub mod Swept

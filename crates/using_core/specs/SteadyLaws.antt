@@ -44,7 +44,7 @@ before_all b e (c ∷ cs) p q h l m =
 itself : (n : ℤ) → n ≤ℤ n
 itself n = omega (arith, ints)
 
-piece_beside : (b e : ℤ) (cs : List ℤ) → AreCuts b e cs → (s : Span) → Among s (pieces b e cs) → (p q : ℤ) → s.0 ≤ℤ p → p ≤ℤ s.1 → s.0 ≤ℤ q → q ≤ℤ s.1 → IsBeside cs p q
+pub piece_beside : (b e : ℤ) (cs : List ℤ) → AreCuts b e cs → (s : Span) → Among s (pieces b e cs) → (p q : ℤ) → s.0 ≤ℤ p → p ≤ℤ s.1 → s.0 ≤ℤ q → q ≤ℤ s.1 → IsBeside cs p q
 piece_beside b e [] h s m p q p0 p1 q0 q1 = tt
 piece_beside b e (c ∷ cs) h s m p q p0 p1 q0 q1 = elim m [
   | inl t ↦
@@ -93,11 +93,11 @@ cell_beside cuts own s j (a ∷ acl) same h cell m ps qs hp hq =
 pub one_cuts : (acl : List ℕ) (c : Expr) (row : Row) (a : ℕ) → cuts_of_all acl (c ∷ []) row a ≡ inner_cuts acl a c row
 one_cuts acl c row a = ap (λ (cs : List ℤ). in_order int_cmp (filter (is_inside (span_of (value_at row a))) cs)) (append-nil (cuts acl a c row))
 
-abbrev kept_label : Row → Bool → OrFault (Option Row)
+abbrev pub kept_label : Row → Bool → OrFault (Option Row)
 kept_label l true = Ok (Some l)
 kept_label l false = Ok None
 
-label_from : (acl : List ℕ) (x : Row) (r : OrFault Bool) → then_give (then_give r (λ b. Ok (if b then Some x else None))) (labelled_if acl) ≡ then_give r (kept_label (others acl x))
+pub label_from : (acl : List ℕ) (x : Row) (r : OrFault Bool) → then_give (then_give r (λ b. Ok (if b then Some x else None))) (labelled_if acl) ≡ then_give r (kept_label (others acl x))
 label_from acl x (Ok true) = refl
 label_from acl x (Ok false) = refl
 label_from acl x (Err e) = refl

@@ -16,11 +16,11 @@ use point_core::{AnyType, Memory};
 use std::alloc::Global;
 use value_core::{Row, Value};
 
-// The same values.
-fn copied(alloc: Global, values: &[Value]) -> Result<Vec<Value>, Memory>
+/// The same values.
+pub(crate) fn copied(alloc: Global, values: &[Value]) -> Result<Vec<Value>, Memory>
     ensures { IfOk result (λ v. v.items ≡ values.now) }
 {
-    let mut out = Vec::new(alloc);
+    let mut out = Vec::with_capacity(alloc, values.len())?;
     for value in values {
         out.push(value.copy(alloc)?)?;
     }

@@ -7,12 +7,14 @@ mod combining;
 mod comparing;
 mod conditions;
 mod extension;
+mod in_place;
 mod items;
 mod joining;
 mod listing;
 mod packing;
 mod restriction;
 mod rules;
+mod runs;
 
 pub use combining::{using_infix, using_projection};
 pub use comparing::compared;

@@ -25,6 +25,7 @@ ghost use Rattle.using_core.specs.Cells.{cells_of_all};
 ghost use Rattle.using_core.specs.Swept.{met, swept_rows};
 
 use crate::conditions::Condition;
+use crate::in_place::restricted_if_apart;
 use cell_core::{BoxRow, CellRefuse};
 use point_core::{AnyType, Place, Steps, Stop};
 use row_making::told;
@@ -77,9 +78,9 @@ pub(crate) fn restricted_form<L: Ledger>(
     )
 }
 
-/// The relation at the points of which the condition holds, or the least fault of the condition at any point, or that of too many
-/// rows at the place.
-pub(crate) fn restricted_by_boxes<L: Ledger>(
+// The relation at the points of which the condition holds, or the least fault of the condition at any point, or that of too many
+// rows at the place, by the boxes of all rows.
+fn restricted_and_packed<L: Ledger>(
     alloc: Global,
     place: Place,
     acl: &[usize],
@@ -100,5 +101,29 @@ pub(crate) fn restricted_by_boxes<L: Ledger>(
         Err(CellRefuse::Limit) => told(place, Err(RowsRefuse::TooMany)),
         Err(CellRefuse::Op(fault)) => Err(Stop::Fault(fault)),
         Err(CellRefuse::Memory) => Err(Stop::Memory),
+    }
+}
+
+/// The relation at the points of which the condition holds, or the least fault of the condition at any point, or that of too many
+/// rows at the place.
+pub(crate) fn restricted_by_boxes<L: Ledger>(
+    alloc: Global,
+    place: Place,
+    acl: &[usize],
+    c: &Scalar,
+    r: &Relation,
+    steps: &mut Steps<L>,
+) -> Result<Relation, Stop>
+    requires intervals { AreIntervals r.now.heading acl.now }
+    requires typed { IsTyped r.now.heading (read c.now) Truth }
+    requires sweepable { IsSweepable acl.now (read c.now) }
+    ensures value { Answers result (under r.now.heading
+        (then_give (restricted (condition (read c.now)) (unpacked acl.now r.now.rows)) (λ rows. limited place (packed acl.now rows)))) }
+    ensures cost { steps.new ≤ steps.old + bound (cells_of_all acl.now (read c.now ∷ []) r.now.rows) (length acl.now) }
+{
+    match restricted_if_apart(alloc, acl, c, r) {
+        Ok(Some(relation)) => Ok(relation),
+        Ok(None) => restricted_and_packed(alloc, place, acl, c, r, steps),
+        Err(stop) => Err(stop),
     }
 }
