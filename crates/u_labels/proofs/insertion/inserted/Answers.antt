@@ -127,5 +127,5 @@ returns-clause-exchange g c =
       come = ap (λ (r : Relation). r.heading) c.in_ok-come.ensures.is ∙ new_heading;
       gone = ap (λ (r : Relation). r.heading) c.in_ok-gone.ensures.is ∙ heading;
       counted = insertion_counted value operand c.heading.ensures.relation c.touched_by.ensures.relations.0 c.requires.heading acl c.requires.intervals c.as_slice.result.now label
-    c.in_ok-part.part.rows c.in_ok-part.ensures.rows.1 c.in_ok-new.new.rows new c.in_ok-come.come.rows c.in_ok-gone.gone.rows come gone;
+          c.in_ok-part.part.rows c.in_ok-part.ensures.rows.1 c.in_ok-new.new.rows new c.in_ok-come.come.rows c.in_ok-gone.gone.rows come gone;
     }
