@@ -5,32 +5,32 @@ ghost use Rattle.tree_core.specs.Items.{read_assignment};
 ghost use Rattle.tree_core.specs.Relvars.{read_relvars};
 ghost use Rattle.meaning_core.specs.Updates.{IsTypedAssignment};
 ghost use Rattle.assign_core.specs.Assignments.{after_assignments, IsRefusedFor, IsAdmitted};
-ghost use Rattle.assign_core.specs.Breaches.{first_broken};
 ghost use Rattle.assign_core.specs.Changes.{AreChanges, changed};
-ghost use Rattle.assign_core.specs.Checks.{AllChecked};
 ghost use Rattle.assign_core.specs.Costs.{assignments_cost, constraints_cost, constraints_cost_of};
 ghost use Rattle.assign_core.specs.Databases.{IsKept};
-ghost use Rattle.assign_core.specs.Growth.{with_ready, IsReady};
+ghost use Rattle.assign_core.specs.Turnovers.{with_ready, IsReady};
 ghost use Rattle.assign_core.specs.Insertions.{addition_cost, entries_of, outcome, sum_of, IsAddition, IsInsertion};
 
 use crate::addition::{Addition, is_plain, prepare_rows, put_united};
 use crate::changes::none_yet;
-use crate::checking::{After, check};
+use crate::checking::After;
 use crate::counting::are_few;
+use crate::differences::check_changes;
 use crate::insertion::{Insertion, evaluate_operand, find_insertion};
 use crate::sources::evaluate;
 use point_core::{Code, Steps};
 use std::alloc::Global;
 use std::sync::ledger::Ledger;
 use tree_core::{Assignment, Relvars};
+use u_labels::Exchange;
 use value_core::{MOST_ROWS_IN_ALL, Refuse, Relation};
 
-/// What stands ready before anything changes: new values, one place for each relvar and view, or rows that come to the base relvar
+/// What stands ready before anything changes: new values, one place for each relvar and view, or an exchange of rows of the base relvar
 /// at a place.
 #[derive(Drop)]
 pub(crate) enum Ready {
     Values(Vec<Option<Relation>>),
-    Rows(usize, Relation),
+    Rows(usize, Exchange),
 }
 
 /// What stands ready for all targets, or why the assignments are refused. An insertion moves no row that is there already.
@@ -154,14 +154,13 @@ fn admit<L: Ledger>(
     changes: &[Option<Relation>],
     steps: &mut Steps<L>,
 ) -> Result<(), Refuse>
+    requires kept { IsKept (read_relvars relvars.now) }
     requires changes { AreChanges changes.now (read_relvars relvars.now).relvars }
-    requires checked { AllChecked (changed changes.now (read_relvars relvars.now).relvars) (changed changes.now (read_relvars relvars.now).relvars) }
-    requires held { first_broken (read_relvars relvars.now).relvars ≡ None }
     ensures admitted { IsAdmitted result (changed changes.now (read_relvars relvars.now).relvars) }
     ensures cost { steps.new ≤ steps.old + constraints_cost (changed changes.now (read_relvars relvars.now).relvars) }
 {
     if !are_few(relvars, changes, MOST_ROWS_IN_ALL) {
         return Err(Refuse::Plain(Code::E46));
     }
-    check(alloc, After { relvars, changes }, steps)
+    check_changes(alloc, After { relvars, changes }, steps)
 }

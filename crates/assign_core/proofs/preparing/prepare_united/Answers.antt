@@ -1,14 +1,13 @@
 use Rattle.std.proofs.Common.{◌≡◌, ◌≤◌, ◌+◌, arith, refl, map, sym, ap, subst, Ok, [], ◌∷◌}
 use Rattle.std.proofs.lemmas.Result.{err_from_is_err_and}
 use Rattle.tree_core.specs.Items.{read_assignment}
-use Rattle.tree_core.specs.Relvars.{Entries, read_entry, read_relvars}
+use Rattle.tree_core.specs.Relvars.{Entries, read_entry}
 use Rattle.point_core.specs.Faults.{OrFault}
 use Rattle.assign_core.specs.Assignments.{kept_or_refused, IsRefusedFor}
 use Rattle.assign_core.specs.Changes.{Changes, AreChanges, changed}
-use Rattle.assign_core.specs.Checks.{AllChecked}
 use Rattle.assign_core.specs.Costs.{constraints_cost, constraints_cost_of}
 use Rattle.assign_core.specs.Insertions.{entries_of, sum_of}
-use Rattle.assign_core.proofs.AssignedLemmas.{stopped, not_admitted, admitted, kept_checked}
+use Rattle.assign_core.proofs.AssignedLemmas.{stopped, not_admitted, admitted}
 use Rattle.assign_core.proofs.ChangeLemmas.{none_are}
 use Rattle.assign_core.proofs.preparing.prepare_united.Goals as goal
 
@@ -23,12 +22,6 @@ returns-in_err-put_united-clause-refused g c =
     let list = read_assignment c.args.addition.insertion.assignment.now ∷ [] in
     let p = err_from_is_err_and c.from_residual-in_err-put_united.result c.from_residual-in_err-put_united.ensures.1 in
     rw (p.1, p.2) (stopped es es (changed c.put_united.new.changes.items es) list c.in_err-put_united.field-0.0 refl c.in_err-put_united.ensures.value)
-
-pub admit-requires-clause-checked : goal.admit-requires-clause-checked
-admit-requires-clause-checked g c =
-    let es = entries_of c.args.addition in
-    subst (λ (cs : Changes). AllChecked (changed cs es) (changed cs es)) (sym c.as_slice.ensures.value)
-    (kept_checked (read_relvars c.args.addition.relvars.now) c.put_united.new.changes.items c.requires.kept c.put_united.ensures.changes)
 
 pub returns-in_err-admit-clause-refused : goal.returns-in_err-admit-clause-refused
 returns-in_err-admit-clause-refused g c =
