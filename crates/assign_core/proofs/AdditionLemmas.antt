@@ -10,10 +10,13 @@ use Rattle.base_core.specs.Outcomes.{then_give}
 use Rattle.point_core.specs.Faults.{OrFault, fault}
 use Rattle.point_core.specs.declared.fault.Code.TheVariants.{E35}
 use Rattle.point_core.specs.declared.fault.Place.{Place}
+use Rattle.point_core.specs.declared.fault.Stop.{Stop}
+use Rattle.point_core.specs.declared.fault.Stop.TheVariants.{Fault as Faulted, Memory as OfMemory}
+use Rattle.value_core.specs.Refusals.{refusal_of}
 use Rattle.value_core.specs.declared.constraint.Constraint.{Constraint}
 use Rattle.value_core.specs.declared.refuse.Refuse.TheVariants.{At}
 use Rattle.value_core.specs.Values.{Row, Relation, most_rows}
-use Rattle.relation_core.specs.Answers.{under}
+use Rattle.relation_core.specs.Answers.{Answers, under}
 use Rattle.relation_core.specs.Operators.{united, subtracted}
 use Rattle.u_constraints.specs.Growth.{exchanged}
 use Rattle.u_labels.specs.declared.exchange.Exchange.{Exchange}
@@ -22,13 +25,22 @@ use Rattle.tree_core.specs.Relvars.{base, Entries}
 use Rattle.meaning_core.specs.Meanings.{limited}
 use Rattle.meaning_core.specs.Names.{IsFirstAt, given}
 use Rattle.meaning_core.proofs.LimitLemmas.{limited_few}
-use Rattle.assign_core.specs.Assignments.{source_value, with_target, evaluated, of_values, after_assignments}
+use Rattle.assign_core.specs.Assignments.{source_value, with_target, evaluated, of_values, after_assignments, IsRefusedFor}
 use Rattle.assign_core.specs.Changes.{Changes, AreChanges, changed}
 use Rattle.assign_core.specs.Turnovers.{renewed, renewed_at}
 use Rattle.assign_core.specs.Parts.{names_in}
 use Rattle.assign_core.proofs.ChangeLemmas.{none_changed, put_given}
 use Rattle.assign_core.proofs.TurnoverLemmas.{united_new, none_go, renewed_given}
 use Rattle.assign_core.proofs.SourceLemmas.{one_given}
+
+-- rows that are too many
+pub limited_over : (place : Place) (rs : List Row) → most_rows < length rs → limited place rs ≡ Err (fault place E35)
+limited_over place rs h = grind (arith, nat_tests)
+
+-- the value that an assignment has not
+pub value_refused : (es : Entries) (a : PlainAssignment) (stop : Stop) → Answers {A = Relation} (Err stop) (source_value es es a) → IsRefusedFor (refusal_of stop) (after_assignments es (a ∷ []))
+value_refused es a (Faulted f) told = ap (λ (r : OrFault Relation). of_values (then_give r (λ v. evaluated es (with_target es a.target v) []))) told
+value_refused es a OfMemory told = tt
 
 module _ (es : Entries) (a : PlainAssignment) (at : ℕ) (value : Relation) (constraints : List Constraint) (first : IsFirstAt es a.target at (base value constraints)) where
   module _ (place : Place) (x : Exchange) where
@@ -52,10 +64,7 @@ module _ (es : Entries) (a : PlainAssignment) (at : ℕ) (value : Relation) (con
       -- and the insertion is refused where they are
       pub sum_over : most_rows < length all → after_assignments es (a ∷ []) ≡ Err (At (fault place E35))
       sum_over over =
-          ap (λ (r : OrFault Relation). of_values (then_give r (λ v. evaluated es (with_target es a.target v) []))) (meant ∙ ap (under value.heading) (limited_many all over))
-        where
-          limited_many : (rs : List Row) → most_rows < length rs → limited place rs ≡ Err (fault place E35)
-          limited_many rs h = grind (arith, nat_tests)
+          ap (λ (r : OrFault Relation). of_values (then_give r (λ v. evaluated es (with_target es a.target v) []))) (meant ∙ ap (under value.heading) (limited_over place all over))
 
   -- a value that is put in place of the target's
   pub union_ready : (cs : Changes) (count : ℕ) (v : Relation) → cs ≡ replicate count None → AreChanges cs es → source_value es es a ≡ Ok v → IsDistinct bytes_eq (names_in es)

@@ -11,6 +11,7 @@ pub mod RenewedLemmas
 pub mod TurnoverLemmas
 pub mod InsertionLemmas
 pub mod NameLemmas
+pub mod PackingLemmas
 pub mod RemovalLemmas
 pub mod RemovedLemmas
 pub mod SourceLemmas

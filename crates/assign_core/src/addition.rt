@@ -1,7 +1,6 @@
 // What an insertion makes of its target.
 ghost use Rattle.std.specs.Prelude.{◌≡◌, ◌+◌, ◌≤◌, [], true, length, replicate, IfOk, IfErr, Ok, None};
 ghost use Rattle.relation_core.specs.Answers.{Answers};
-ghost use Rattle.scalar_core.specs.Answers.{Gives};
 ghost use Rattle.tree_core.specs.Relvars.{read_relvars};
 ghost use Rattle.meaning_core.specs.WellMade.{IsWellMade};
 ghost use Rattle.assign_core.specs.Assignments.{IsRefusedFor, IsAdmitted};
@@ -64,15 +63,33 @@ pub(crate) fn prepare_rows<L: Ledger>(
     ensures cost { steps.new ≤ steps.old + constraints_cost_of (sum_of addition.entry) }
 {
     let rows = new_rows(alloc, addition)?;
+    admit_rows(alloc, addition, &rows, none, steps)?;
+    Ok(rows)
+}
+
+/// Refuses too many rows of all relvars after an exchange of rows of the target, and then a broken constraint.
+pub(crate) fn admit_rows<L: Ledger>(
+    alloc: Global,
+    addition: Addition<'_>,
+    rows: &Exchange,
+    none: &[Option<Relation>],
+    steps: &mut Steps<L>,
+) -> Result<(), Refuse>
+    requires kept { IsKept (read_relvars addition.relvars.now) }
+    requires none { none.now ≡ replicate (length addition.relvars.now.list.entries) None }
+    requires turnover { IsTurnoverOf (entries_of addition) addition.insertion.assignment.now.target addition.at addition.value.now rows.now }
+    requires counted { IsCounted addition.value.now rows.now }
+    ensures admitted { IsAdmitted result (renewed_at addition.entry.at rows.now (entries_of addition.entry)) }
+    ensures cost { steps.new ≤ steps.old + constraints_cost (renewed_at addition.entry.at rows.now (entries_of addition.entry)) }
+{
     let turnover = Turnover {
         relvars: addition.relvars,
         at: addition.at,
         name: &addition.insertion.assignment.target,
         value: addition.value,
-        rows: &rows,
+        rows,
     };
-    admit_turnover(alloc, turnover, none, steps)?;
-    Ok(rows)
+    admit_turnover(alloc, turnover, none, steps)
 }
 
 // The operand's rows that the target does not have, and none that go; or the fault of too many rows.
@@ -129,28 +146,25 @@ fn admit_turnover<L: Ledger>(
     check_turnover(alloc, turnover, steps)
 }
 
-/// Puts the rows of both, united under the list, in place as the target's new value.
-pub(crate) fn put_united<L: Ledger>(
-    alloc: Global,
+/// Puts the value in place as the target's new one.
+pub(crate) fn put_value(
     addition: Addition<'_>,
     changes: &mut Vec<Option<Relation>>,
-    steps: &mut Steps<L>,
-) -> Result<(), Stop>
+    value: Relation,
+)
     requires well_made { IsWellMade (read_relvars addition.relvars.now) }
     requires addition { IsAddition addition }
     requires none { changes.old.items ≡ replicate (length addition.relvars.now.list.entries) None }
     requires changes { AreChanges changes.old.items (entries_of addition) }
+    requires meant { value_meant addition ≡ Ok value }
     ensures changes { AreChanges changes.new.items (entries_of addition.entry) }
-    ensures value { Gives (λ done. changed changes.new.items (entries_of addition.entry)) result (sum_of addition.entry) }
-    ensures cost { steps.new ≤ steps.old + addition_cost addition.entry }
+    ensures value { sum_of addition.entry ≡ Ok (changed changes.new.items (entries_of addition.entry)) }
 {
-    let value = unite(alloc, addition, steps)?;
     changes[addition.at] = Some(value);
-    Ok(())
 }
 
-// The rows of both, united under the list; or the fault of too many rows.
-fn unite<L: Ledger>(
+/// The rows of both, united under the list; or the fault of too many rows.
+pub(crate) fn unite<L: Ledger>(
     alloc: Global,
     addition: Addition<'_>,
     steps: &mut Steps<L>,

@@ -10,6 +10,7 @@ mod database;
 mod differences;
 mod exchange;
 mod insertion;
+mod packing;
 mod preparing;
 mod removal;
 mod sources;
