@@ -5,11 +5,14 @@ pub mod CheckLemmas
 pub mod CostLemmas
 pub mod CountLemmas
 pub mod DeclaredLemmas
+pub mod DifferenceLemmas
 pub mod ExchangeLemmas
-pub mod GainedLemmas
-pub mod GrowthLemmas
+pub mod RenewedLemmas
+pub mod TurnoverLemmas
 pub mod InsertionLemmas
 pub mod NameLemmas
+pub mod PackingLemmas
+pub mod RemovalLemmas
 pub mod RemovedLemmas
 pub mod SourceLemmas
 pub mod TouchLemmas

@@ -3,20 +3,24 @@
 --     united_in, united_cost      the rows of both, point by point where there is a list, and the steps that they take
 --     IsSumOf, IsAddition      what an insertion makes of its target, once its operand has a value
 --     IsPlain      the rows of both are united as they are
-use Rattle.std.specs.Prelude.{◌≡◌, ℕ, ◌+◌, List, [], ◌∷◌, length, Option, Some, None, option_map, Result}
+--     IsPackedOn      the target is packed on the list of the insertion
+use Rattle.std.specs.Prelude.{◌≡◌, ℕ, ◌+◌, Bool, false, nat_eq, List, [], ◌∷◌, length, Option, Some, None, option_map, Result}
+use Rattle.std.specs.Cmp.Lexicographic.{pointwise}
+use Rattle.std.specs.List.{list_any}
 use Rattle.point_core.specs.declared.fault.Place.{Place}
 use Rattle.point_core.specs.Faults.{OrFault}
 use Rattle.value_core.specs.RowPacking.{packed, unpacked}
 use Rattle.value_core.specs.declared.constraint.Constraint.{Constraint}
+use Rattle.value_core.specs.declared.constraint.Constraint.TheVariants.{Packed, UKey}
 use Rattle.value_core.specs.declared.refuse.Refuse.{Refuse}
-use Rattle.value_core.specs.Values.{Name, Heading, Row, Relation}
+use Rattle.value_core.specs.Values.{Name, Heading, Row, Relation, IsRelation}
 use Rattle.relation_core.specs.Answers.{under}
 use Rattle.relation_core.specs.Operators.{united}
 use Rattle.cell_core.specs.Costs.{bound}
 use Rattle.tree_core.specs.declared.tree.InfixWord.{InfixWord}
 use Rattle.tree_core.specs.declared.tree.InfixWord.TheVariants.{Union}
 use Rattle.tree_core.specs.Items.{PlainAssignment, read_assignment}
-use Rattle.tree_core.specs.Relvars.{base, Entries, read_relvars}
+use Rattle.tree_core.specs.Relvars.{PlainRelvar, base, view, Entries, read_relvars}
 use Rattle.tree_core.specs.Trees.{Tree, named, infix_of, using, read_tree}
 use Rattle.meaning_core.specs.Meanings.{limited}
 use Rattle.meaning_core.specs.Names.{IsFirstAt}
@@ -72,6 +76,7 @@ pub record IsSumOf (entries : Entries) (i : Insertion) (at : ℕ) (value operand
   pub constraints : List Constraint
   pub first : IsFirstAt entries i.assignment.now.target at (base value constraints)
   pub headed : value.heading ≡ operand.heading
+  pub relation : IsRelation value
   pub listed : IsListIf value.heading (list_in i)
   pub meant : source_value entries entries (read_assignment i.assignment.now)
       ≡ under value.heading (limited i.assignment.now.tree.place (united_in (list_in i) value.rows operand.rows))
@@ -86,6 +91,22 @@ IsAddition a = IsSumOf (entries_of a) a.insertion a.at a.value.now a.operand.now
 -- the rows of both are united as they are
 abbrev pub IsPlain : Addition → Type 0
 IsPlain a = united_in (list_in a.insertion) a.value.now.rows a.operand.now.rows ≡ united a.value.now.rows a.operand.now.rows
+
+-- whether a constraint keeps the rows of its relvar packed on a list
+abbrev pub keeps_packed : List ℕ → Constraint → Bool
+keeps_packed acl (Packed own) = pointwise nat_eq own acl
+keeps_packed acl (UKey own k) = pointwise nat_eq own acl
+keeps_packed acl _ = false
+
+-- whether one of those of a base relvar does
+abbrev pub is_kept_packed : List ℕ → PlainRelvar → Bool
+is_kept_packed acl (base value constraints) = list_any (keeps_packed acl) constraints
+is_kept_packed acl (view t history) = false
+
+-- the insertion stands under the list, and the target is packed on it
+pub record IsPackedOn (a : Addition) (acl : List ℕ) : Type 0 where
+  pub listed : list_in a.insertion ≡ Some acl
+  pub same : packed acl a.value.now.rows ≡ a.value.now.rows
 
 -- the steps that their rows take, united under the list
 abbrev pub addition_cost : Addition → ℕ

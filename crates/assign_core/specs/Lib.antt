@@ -4,6 +4,7 @@ pub mod Changes
 pub mod Checks
 pub mod Costs
 pub mod Databases
-pub mod Growth
+pub mod Differences
+pub mod Turnovers
 pub mod Insertions
 pub mod Parts

@@ -1,7 +1,6 @@
 // What an insertion makes of its target.
-ghost use Rattle.std.specs.Prelude.{◌≡◌, ◌+◌, ◌≤◌, true, length, replicate, IfOk, IfErr, Ok, None};
+ghost use Rattle.std.specs.Prelude.{◌≡◌, ◌+◌, ◌≤◌, [], true, length, replicate, IfOk, IfErr, Ok, None};
 ghost use Rattle.relation_core.specs.Answers.{Answers};
-ghost use Rattle.scalar_core.specs.Answers.{Gives};
 ghost use Rattle.tree_core.specs.Relvars.{read_relvars};
 ghost use Rattle.meaning_core.specs.WellMade.{IsWellMade};
 ghost use Rattle.assign_core.specs.Assignments.{IsRefusedFor, IsAdmitted};
@@ -10,18 +9,19 @@ ghost use Rattle.assign_core.specs.Changes.{AreChanges, changed};
 ghost use Rattle.assign_core.specs.Checks.{AllChecked};
 ghost use Rattle.assign_core.specs.Costs.{constraints_cost, constraints_cost_of};
 ghost use Rattle.assign_core.specs.Databases.{IsKept};
-ghost use Rattle.assign_core.specs.Growth.{gained_at, grown, not_grown, IsGain, IsGained, IsGrowth};
+ghost use Rattle.assign_core.specs.Turnovers.{renewed_at, after_turnover, before_turnover, IsCounted, IsExchangeAt, IsTurnover, IsTurnoverOf};
 ghost use Rattle.assign_core.specs.Insertions.{addition_cost, entries_of, outcome, sum_of, value_meant, IsAddition, IsPlain};
 
 use crate::counting::are_few;
-use crate::growth::{Growth, check_growth};
 use crate::insertion::Insertion;
+use crate::turnover::{Turnover, check_turnover};
 use point_core::{Code, Fault, Memory, Steps, Stop};
 use relation_core::{absent, union};
 use row_making::told;
 use std::alloc::Global;
 use std::sync::ledger::Ledger;
 use tree_core::Relvars;
+use u_labels::Exchange;
 use u_set::{stay_apart, united};
 use value_core::{MOST_ROWS, MOST_ROWS_IN_ALL, Refuse, Relation};
 
@@ -52,91 +52,119 @@ pub(crate) fn prepare_rows<L: Ledger>(
     addition: Addition<'_>,
     none: &[Option<Relation>],
     steps: &mut Steps<L>,
-) -> Result<Relation, Refuse>
+) -> Result<Exchange, Refuse>
     requires kept { IsKept (read_relvars addition.relvars.now) }
     requires none { none.now ≡ replicate (length addition.relvars.now.list.entries) None }
     requires addition { IsAddition addition }
     requires plain { IsPlain addition }
-    ensures gain { IfOk result (λ r. IsGain addition.entry.at r (entries_of addition.entry)) }
-    ensures ready { IfOk result (λ r. outcome addition.entry ≡ Ok (gained_at addition.entry.at r.rows (entries_of addition.entry))) }
+    ensures exchange { IfOk result (λ r. IsExchangeAt addition.entry.at r (entries_of addition.entry)) }
+    ensures ready { IfOk result (λ r. outcome addition.entry ≡ Ok (renewed_at addition.entry.at r (entries_of addition.entry))) }
     ensures refused { IfErr result (λ refuse. IsRefusedFor refuse (outcome addition.entry)) }
     ensures cost { steps.new ≤ steps.old + constraints_cost_of (sum_of addition.entry) }
 {
     let rows = new_rows(alloc, addition)?;
-    let growth = Growth {
+    admit_rows(alloc, addition, &rows, none, steps)?;
+    Ok(rows)
+}
+
+/// Refuses too many rows of all relvars after an exchange of rows of the target, and then a broken constraint.
+pub(crate) fn admit_rows<L: Ledger>(
+    alloc: Global,
+    addition: Addition<'_>,
+    rows: &Exchange,
+    none: &[Option<Relation>],
+    steps: &mut Steps<L>,
+) -> Result<(), Refuse>
+    requires kept { IsKept (read_relvars addition.relvars.now) }
+    requires none { none.now ≡ replicate (length addition.relvars.now.list.entries) None }
+    requires turnover { IsTurnoverOf (entries_of addition) addition.insertion.assignment.now.target addition.at addition.value.now rows.now }
+    requires counted { IsCounted addition.value.now rows.now }
+    ensures admitted { IsAdmitted result (renewed_at addition.entry.at rows.now (entries_of addition.entry)) }
+    ensures cost { steps.new ≤ steps.old + constraints_cost (renewed_at addition.entry.at rows.now (entries_of addition.entry)) }
+{
+    let turnover = Turnover {
         relvars: addition.relvars,
         at: addition.at,
         name: &addition.insertion.assignment.target,
         value: addition.value,
-        rows: &rows,
+        rows,
     };
-    admit_growth(alloc, growth, none, steps)?;
-    Ok(rows)
+    admit_turnover(alloc, turnover, none, steps)
 }
 
-// The operand's rows that the target does not have, or the fault of too many rows.
-fn new_rows(alloc: Global, addition: Addition<'_>) -> Result<Relation, Refuse>
+// The operand's rows that the target does not have, and none that go; or the fault of too many rows.
+fn new_rows(alloc: Global, addition: Addition<'_>) -> Result<Exchange, Refuse>
     requires kept { IsKept (read_relvars addition.relvars.now) }
     requires addition { IsAddition addition }
     requires plain { IsPlain addition }
-    ensures gained { IfOk result (λ r. IsGained (entries_of addition.entry) addition.entry.insertion.assignment.now.target addition.entry.at addition.entry.value.now r) }
-    ensures ready { IfOk result (λ r. sum_of addition.entry ≡ Ok (gained_at addition.entry.at r.rows (entries_of addition.entry))) }
+    ensures turnover { IfOk result (λ r. IsTurnoverOf (entries_of addition.entry) addition.entry.insertion.assignment.now.target addition.entry.at addition.entry.value.now r) }
+    ensures counted { IfOk result (λ r. IsCounted addition.entry.value.now r) }
+    ensures ready { IfOk result (λ r. sum_of addition.entry ≡ Ok (renewed_at addition.entry.at r (entries_of addition.entry))) }
     ensures refused { IfErr result (λ refuse. IsRefusedFor refuse (outcome addition.entry)) }
 {
     let room = MOST_ROWS - addition.value.rows().len();
-    let rows = absent(alloc, addition.operand, addition.value)?;
-    if rows.rows().len() > room {
+    let come = absent(alloc, addition.operand, addition.value)?;
+    if come.rows().len() > room {
         return Err(Refuse::At(Fault {
             place: addition.insertion.assignment.tree.place,
             code: Code::E35,
         }));
     }
-    Ok(rows)
+    let gone = no_rows(alloc, addition.value)?;
+    Ok(Exchange { come, gone })
+}
+
+// No rows, under the heading of a relation.
+fn no_rows(alloc: Global, value: &Relation) -> Result<Relation, Memory>
+    ensures { IfOk result (λ r. r ≡ record { heading = value.now.heading; rows = [] }) }
+{
+    let heading = value.heading().copy(alloc)?;
+    let none = Relation::of_few(heading, Vec::new(alloc))?;
+    Ok(none)
 }
 
 // Refuses too many rows of all relvars, and then a broken constraint.
-fn admit_growth<L: Ledger>(
+fn admit_turnover<L: Ledger>(
     alloc: Global,
-    growth: Growth<'_>,
+    turnover: Turnover<'_>,
     none: &[Option<Relation>],
     steps: &mut Steps<L>,
 ) -> Result<(), Refuse>
-    requires growth { IsGrowth growth }
-    requires none { none.now ≡ replicate (length growth.relvars.now.list.entries) None }
-    requires checked { AllChecked (not_grown growth) (not_grown growth) }
-    requires held { first_broken (not_grown growth) ≡ None }
-    ensures admitted { IsAdmitted result (grown growth.entry) }
-    ensures cost { steps.new ≤ steps.old + constraints_cost (grown growth.entry) }
+    requires turnover { IsTurnover turnover }
+    requires counted { IsCounted turnover.value.now turnover.rows.now }
+    requires none { none.now ≡ replicate (length turnover.relvars.now.list.entries) None }
+    requires checked { AllChecked (before_turnover turnover) (before_turnover turnover) }
+    requires held { first_broken (before_turnover turnover) ≡ None }
+    ensures admitted { IsAdmitted result (after_turnover turnover.entry) }
+    ensures cost { steps.new ≤ steps.old + constraints_cost (after_turnover turnover.entry) }
 {
-    let most = MOST_ROWS_IN_ALL - growth.rows.rows().len();
-    if !are_few(growth.relvars, none, most) {
+    let Exchange { come, gone } = turnover.rows;
+    let most = MOST_ROWS_IN_ALL + gone.rows().len() - come.rows().len();
+    if !are_few(turnover.relvars, none, most) {
         return Err(Refuse::Plain(Code::E46));
     }
-    check_growth(alloc, growth, steps)
+    check_turnover(alloc, turnover, steps)
 }
 
-/// Puts the rows of both, united under the list, in place as the target's new value.
-pub(crate) fn put_united<L: Ledger>(
-    alloc: Global,
+/// Puts the value in place as the target's new one.
+pub(crate) fn put_value(
     addition: Addition<'_>,
     changes: &mut Vec<Option<Relation>>,
-    steps: &mut Steps<L>,
-) -> Result<(), Stop>
+    value: Relation,
+)
     requires well_made { IsWellMade (read_relvars addition.relvars.now) }
     requires addition { IsAddition addition }
     requires none { changes.old.items ≡ replicate (length addition.relvars.now.list.entries) None }
     requires changes { AreChanges changes.old.items (entries_of addition) }
+    requires meant { value_meant addition ≡ Ok value }
     ensures changes { AreChanges changes.new.items (entries_of addition.entry) }
-    ensures value { Gives (λ done. changed changes.new.items (entries_of addition.entry)) result (sum_of addition.entry) }
-    ensures cost { steps.new ≤ steps.old + addition_cost addition.entry }
+    ensures value { sum_of addition.entry ≡ Ok (changed changes.new.items (entries_of addition.entry)) }
 {
-    let value = unite(alloc, addition, steps)?;
     changes[addition.at] = Some(value);
-    Ok(())
 }
 
-// The rows of both, united under the list; or the fault of too many rows.
-fn unite<L: Ledger>(
+/// The rows of both, united under the list; or the fault of too many rows.
+pub(crate) fn unite<L: Ledger>(
     alloc: Global,
     addition: Addition<'_>,
     steps: &mut Steps<L>,

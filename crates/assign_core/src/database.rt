@@ -11,7 +11,7 @@ ghost use Rattle.assign_core.specs.Costs.{assignments_cost};
 ghost use Rattle.assign_core.specs.Databases.{no_relvars, declared, IsKept};
 
 use crate::appending::append_all;
-use crate::exchange::{exchange_all, gain};
+use crate::exchange::{exchange_all, exchange_rows};
 use crate::preparing::{Ready, prepare};
 use indexmap::IndexMap;
 use point_core::{Memory, Steps};
@@ -103,7 +103,7 @@ impl Database {
                 Ok(())
             }
             Ready::Rows(at, rows) => {
-                gain(&mut self.relvars, at, rows)?;
+                exchange_rows(&mut self.relvars, self.alloc, at, rows)?;
                 Ok(())
             }
         }

@@ -1,12 +1,17 @@
-// The exchange of values.
-ghost use Rattle.std.specs.Prelude.{◌≡◌, ◌<◌, length, map, OnOk, OnErr};
+// The exchange of values, and of rows.
+ghost use Rattle.std.specs.Prelude.{◌≡◌, ◌<◌, ◌≤◌, length, map, OnOk, OnErr};
+ghost use Rattle.value_core.specs.Values.{most_rows};
+ghost use Rattle.relation_core.specs.Operators.{united};
 ghost use Rattle.tree_core.specs.Relvars.{read_entry, read_relvar};
 ghost use Rattle.meaning_core.specs.Names.{with_value};
 ghost use Rattle.assign_core.specs.Changes.{changed, changed_at};
-ghost use Rattle.assign_core.specs.Growth.{gained, gained_at, IsGain, MayGain};
+ghost use Rattle.assign_core.specs.Turnovers.{renewed, renewed_at, renewed_relvar, IsExchangeAt, MayExchange};
 
+use crate::removal::remove;
 use point_core::Memory;
+use std::alloc::Global;
 use tree_core::{Relvar, Relvars};
+use u_labels::Exchange;
 use value_core::Relation;
 
 /// Puts the values that stand ready in place of the old ones. It takes no memory.
@@ -50,31 +55,50 @@ fn put(relvar: &mut Relvar, new: Relation)
     }
 }
 
-/// Puts the rows among those of the base relvar at a place. For want of memory nothing changes.
-pub(crate) fn gain(relvars: &mut Relvars, at: usize, rows: Relation) -> Result<(), Memory>
-    requires { IsGain at rows (map read_entry relvars.old.list.entries) }
-    ensures list { OnOk result (map read_entry relvars.new.list.entries ≡ gained_at at rows.rows (map read_entry relvars.old.list.entries)) }
+/// Puts the rows that come among those of the base relvar at a place, and then takes out those that go. For want of memory nothing
+/// changes.
+pub(crate) fn exchange_rows(
+    relvars: &mut Relvars,
+    alloc: Global,
+    at: usize,
+    rows: Exchange,
+) -> Result<(), Memory>
+    requires { IsExchangeAt at rows (map read_entry relvars.old.list.entries) }
+    ensures list { OnOk result (map read_entry relvars.new.list.entries ≡ renewed_at at rows (map read_entry relvars.old.list.entries)) }
     ensures err { OnErr result (map read_entry relvars.new.list.entries ≡ map read_entry relvars.old.list.entries) }
     ensures ordinals { relvars.new.ordinals ≡ relvars.old.ordinals }
 {
     let (_, relvar) = relvars.list.pair_mut(at);
-    take_in(relvar, rows)
+    renew(relvar, alloc, rows)
 }
 
-// Puts the rows among those of a base relvar.
-fn take_in(relvar: &mut Relvar, rows: Relation) -> Result<(), Memory>
-    requires { MayGain rows (read_relvar relvar.old) }
-    ensures ok { OnOk result (read_relvar relvar.new ≡ gained rows.rows (read_relvar relvar.old)) }
+// Exchanges rows of a base relvar.
+fn renew(relvar: &mut Relvar, alloc: Global, rows: Exchange) -> Result<(), Memory>
+    requires { MayExchange rows (read_relvar relvar.old) }
+    ensures ok { OnOk result (read_relvar relvar.new ≡ renewed_relvar rows (read_relvar relvar.old)) }
     ensures err { OnErr result (read_relvar relvar.new ≡ read_relvar relvar.old) }
 {
     match relvar {
         Relvar::Base {
             value,
             constraints: _,
-        } => value.insert(rows),
+        } => put_and_remove(value, alloc, rows),
         Relvar::View {
             tree: _,
             history: _,
         } => Ok(drop(rows)),
     }
+}
+
+// Puts the rows that come among those of a relation, and takes out those that go.
+fn put_and_remove(value: &mut Relation, alloc: Global, rows: Exchange) -> Result<(), Memory>
+    requires heading { rows.come.heading ≡ value.old.heading }
+    requires few { length (united value.old.rows rows.come.rows) ≤ most_rows }
+    ensures ok { OnOk result (value.new ≡ renewed value.old rows) }
+    ensures err { OnErr result (value.new ≡ value.old) }
+{
+    let Exchange { come, gone } = rows;
+    value.insert(come)?;
+    remove(value, alloc, &gone);
+    Ok(())
 }

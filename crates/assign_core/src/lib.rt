@@ -7,10 +7,13 @@ mod changes;
 mod checking;
 mod counting;
 mod database;
+mod differences;
 mod exchange;
-mod growth;
 mod insertion;
+mod packing;
 mod preparing;
+mod removal;
 mod sources;
+mod turnover;
 
 pub use database::Database;

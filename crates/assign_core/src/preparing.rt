@@ -5,32 +5,34 @@ ghost use Rattle.tree_core.specs.Items.{read_assignment};
 ghost use Rattle.tree_core.specs.Relvars.{read_relvars};
 ghost use Rattle.meaning_core.specs.Updates.{IsTypedAssignment};
 ghost use Rattle.assign_core.specs.Assignments.{after_assignments, IsRefusedFor, IsAdmitted};
-ghost use Rattle.assign_core.specs.Breaches.{first_broken};
 ghost use Rattle.assign_core.specs.Changes.{AreChanges, changed};
-ghost use Rattle.assign_core.specs.Checks.{AllChecked};
 ghost use Rattle.assign_core.specs.Costs.{assignments_cost, constraints_cost, constraints_cost_of};
 ghost use Rattle.assign_core.specs.Databases.{IsKept};
-ghost use Rattle.assign_core.specs.Growth.{with_ready, IsReady};
-ghost use Rattle.assign_core.specs.Insertions.{addition_cost, entries_of, outcome, sum_of, IsAddition, IsInsertion};
+ghost use Rattle.assign_core.specs.Turnovers.{with_ready, IsReady};
+ghost use Rattle.assign_core.specs.Insertions.{addition_cost, entries_of, outcome, sum_of, value_meant, IsAddition, IsInsertion, IsPackedOn};
 
-use crate::addition::{Addition, is_plain, prepare_rows, put_united};
+use crate::addition::{Addition, admit_rows, is_plain, prepare_rows, put_value, unite};
 use crate::changes::none_yet;
-use crate::checking::{After, check};
+use crate::checking::After;
 use crate::counting::are_few;
+use crate::differences::check_changes;
 use crate::insertion::{Insertion, evaluate_operand, find_insertion};
+use crate::packing::{exchange_of, packed_list, whole};
 use crate::sources::evaluate;
+use crate::turnover::have_room;
 use point_core::{Code, Steps};
 use std::alloc::Global;
 use std::sync::ledger::Ledger;
 use tree_core::{Assignment, Relvars};
-use value_core::{MOST_ROWS_IN_ALL, Refuse, Relation};
+use u_labels::Exchange;
+use value_core::{MOST_ROWS_IN_ALL, Positions, Refuse, Relation};
 
-/// What stands ready before anything changes: new values, one place for each relvar and view, or rows that come to the base relvar
+/// What stands ready before anything changes: new values, one place for each relvar and view, or an exchange of rows of the base relvar
 /// at a place.
 #[derive(Drop)]
 pub(crate) enum Ready {
     Values(Vec<Option<Relation>>),
-    Rows(usize, Relation),
+    Rows(usize, Exchange),
 }
 
 /// What stands ready for all targets, or why the assignments are refused. An insertion moves no row that is there already.
@@ -99,30 +101,81 @@ fn prepare_addition<L: Ledger>(
     ensures refused { IfErr result (λ refuse. IsRefusedFor refuse (outcome addition.entry)) }
     ensures cost { steps.new ≤ steps.old + (addition_cost addition.entry + constraints_cost_of (sum_of addition.entry)) }
 {
+    match packed_list(addition) {
+        Some(acl) => prepare_packed(alloc, addition, acl, none, steps),
+        None => prepare_any(alloc, addition, none, steps),
+    }
+}
+
+// What stands ready where the target is kept packed on the list: rows of the labels that come are exchanged.
+fn prepare_packed<L: Ledger>(
+    alloc: Global,
+    addition: Addition<'_>,
+    acl: &Positions,
+    none: &[Option<Relation>],
+    steps: &mut Steps<L>,
+) -> Result<Ready, Refuse>
+    requires kept { IsKept (read_relvars addition.relvars.now) }
+    requires none { none.now ≡ replicate (length addition.relvars.now.list.entries) None }
+    requires addition { IsAddition addition }
+    requires packed { IsPackedOn addition acl.now }
+    ensures ready { IfOk result (λ r. IsReady r (entries_of addition.entry)) }
+    ensures meant { IfOk result (λ r. outcome addition.entry ≡ Ok (with_ready r (entries_of addition.entry))) }
+    ensures refused { IfErr result (λ refuse. IsRefusedFor refuse (outcome addition.entry)) }
+    ensures cost { steps.new ≤ steps.old + (addition_cost addition.entry + constraints_cost_of (sum_of addition.entry)) }
+{
+    let rows = exchange_of(alloc, addition, acl, steps)?;
+    if !have_room(addition.value, &rows) {
+        let value = whole(alloc, addition, &rows)?;
+        let changes = prepare_value(alloc, addition, value, steps)?;
+        return Ok(Ready::Values(changes));
+    }
+    admit_rows(alloc, addition, &rows, none, steps)?;
+    Ok(Ready::Rows(addition.at, rows))
+}
+
+// What stands ready where the target's rows may be any.
+fn prepare_any<L: Ledger>(
+    alloc: Global,
+    addition: Addition<'_>,
+    none: &[Option<Relation>],
+    steps: &mut Steps<L>,
+) -> Result<Ready, Refuse>
+    requires kept { IsKept (read_relvars addition.relvars.now) }
+    requires none { none.now ≡ replicate (length addition.relvars.now.list.entries) None }
+    requires addition { IsAddition addition }
+    ensures ready { IfOk result (λ r. IsReady r (entries_of addition.entry)) }
+    ensures meant { IfOk result (λ r. outcome addition.entry ≡ Ok (with_ready r (entries_of addition.entry))) }
+    ensures refused { IfErr result (λ refuse. IsRefusedFor refuse (outcome addition.entry)) }
+    ensures cost { steps.new ≤ steps.old + (addition_cost addition.entry + constraints_cost_of (sum_of addition.entry)) }
+{
     if is_plain(alloc, addition)? {
         let rows = prepare_rows(alloc, addition, none, steps)?;
         Ok(Ready::Rows(addition.at, rows))
     } else {
-        let changes = prepare_united(alloc, addition, steps)?;
+        let value = unite(alloc, addition, steps)?;
+        let changes = prepare_value(alloc, addition, value, steps)?;
         Ok(Ready::Values(changes))
     }
 }
 
-// The target's new value, of the rows of both; or why the insertion is refused.
-fn prepare_united<L: Ledger>(
+// The target's new value, or why the insertion is refused.
+fn prepare_value<L: Ledger>(
     alloc: Global,
     addition: Addition<'_>,
+    value: Relation,
     steps: &mut Steps<L>,
 ) -> Result<Vec<Option<Relation>>, Refuse>
     requires kept { IsKept (read_relvars addition.relvars.now) }
     requires addition { IsAddition addition }
+    requires meant { value_meant addition ≡ Ok value }
     ensures changes { IfOk result (λ v. AreChanges v.items (entries_of addition.entry)) }
     ensures ready { IfOk result (λ v. outcome addition.entry ≡ Ok (changed v.items (entries_of addition.entry))) }
     ensures refused { IfErr result (λ refuse. IsRefusedFor refuse (outcome addition.entry)) }
-    ensures cost { steps.new ≤ steps.old + (addition_cost addition.entry + constraints_cost_of (sum_of addition.entry)) }
+    ensures cost { steps.new ≤ steps.old + constraints_cost_of (sum_of addition.entry) }
 {
     let mut changes = none_yet(alloc, addition.relvars)?;
-    put_united(alloc, addition, &mut changes, steps)?;
+    put_value(addition, &mut changes, value);
     admit(alloc, addition.relvars, changes.as_slice(), steps)?;
     Ok(changes)
 }
@@ -154,14 +207,13 @@ fn admit<L: Ledger>(
     changes: &[Option<Relation>],
     steps: &mut Steps<L>,
 ) -> Result<(), Refuse>
+    requires kept { IsKept (read_relvars relvars.now) }
     requires changes { AreChanges changes.now (read_relvars relvars.now).relvars }
-    requires checked { AllChecked (changed changes.now (read_relvars relvars.now).relvars) (changed changes.now (read_relvars relvars.now).relvars) }
-    requires held { first_broken (read_relvars relvars.now).relvars ≡ None }
     ensures admitted { IsAdmitted result (changed changes.now (read_relvars relvars.now).relvars) }
     ensures cost { steps.new ≤ steps.old + constraints_cost (changed changes.now (read_relvars relvars.now).relvars) }
 {
     if !are_few(relvars, changes, MOST_ROWS_IN_ALL) {
         return Err(Refuse::Plain(Code::E46));
     }
-    check(alloc, After { relvars, changes }, steps)
+    check_changes(alloc, After { relvars, changes }, steps)
 }

@@ -63,6 +63,7 @@ returns-clause-sum g c =
       headed =
           headed_told es t.target at value c.base_at-at.ensures.0 first t.tree.place t.tree.heading i.nodes operand few c.args.none.now (length raw) c.requires.none list
           (read_assignment t) i.is c.in_ok-operand.operand fit told;
+      relation = c.rows-rows.ensures.relation;
       listed = listed_if value.heading i.nodes list fit.listed;
       meant =
           meant_told es t.target at value c.base_at-at.ensures.0 first t.tree.place t.tree.heading i.nodes operand few c.args.none.now (length raw) c.requires.none list

@@ -1,12 +1,11 @@
 use Rattle.std.proofs.Common.{◌≡◌, ◌≤◌, ◌+◌, arith, length, map, sym, subst, ◌∙◌, Ok}
 use Rattle.std.proofs.lemmas.Result.{err_from_is_err_and}
 use Rattle.tree_core.specs.Items.{read_assignment}
-use Rattle.tree_core.specs.Relvars.{read_entry, read_relvars}
+use Rattle.tree_core.specs.Relvars.{read_entry}
 use Rattle.assign_core.specs.Assignments.{kept_or_refused, IsRefusedFor}
 use Rattle.assign_core.specs.Changes.{Changes, AreChanges, changed}
-use Rattle.assign_core.specs.Checks.{AllChecked}
 use Rattle.assign_core.specs.Costs.{constraints_cost}
-use Rattle.assign_core.proofs.AssignedLemmas.{from_none, stopped, not_admitted, admitted, kept_checked}
+use Rattle.assign_core.proofs.AssignedLemmas.{from_none, stopped, not_admitted, admitted}
 use Rattle.assign_core.proofs.ChangeLemmas.{none_are}
 use Rattle.assign_core.proofs.CostLemmas.{cost_from_none, cost_of_both}
 use Rattle.assign_core.proofs.preparing.prepare_values.Goals as goal
@@ -32,12 +31,6 @@ returns-in_err-evaluate-clause-cost g c =
     let same = cost_from_none (map read_entry raw) c.in_ok-changes.changes.items (length raw) (map read_assignment c.args.list.now) c.in_ok-changes.ensures in
     let sources = c.evaluate.ensures.cost in
     omega (arith, same, sources)
-
-pub admit-requires-clause-checked : goal.admit-requires-clause-checked
-admit-requires-clause-checked g c =
-    let es = map read_entry c.args.relvars.now.list.entries in
-    subst (λ (cs : Changes). AllChecked (changed cs es) (changed cs es)) (sym c.as_slice.ensures.value)
-    (kept_checked (read_relvars c.args.relvars.now) c.evaluate.new.changes.items c.requires.kept c.evaluate.ensures.changes)
 
 pub returns-in_err-admit-clause-refused : goal.returns-in_err-admit-clause-refused
 returns-in_err-admit-clause-refused g c =

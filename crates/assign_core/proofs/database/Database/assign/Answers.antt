@@ -6,11 +6,11 @@ use Rattle.tree_core.specs.Relvars.{read_relvars, read_entry}
 use Rattle.meaning_core.specs.Updates.{IsTypedAssignment}
 use Rattle.assign_core.specs.Assignments.{after_assignments}
 use Rattle.assign_core.specs.Databases.{IsKept}
-use Rattle.assign_core.specs.Growth.{IsReady, with_ready}
+use Rattle.assign_core.specs.Turnovers.{IsReady, with_ready}
 use Rattle.assign_core.specs.declared.preparing.Ready.{Ready}
 use Rattle.assign_core.proofs.AssignedLemmas.{each_of, assigned_kept}
 use Rattle.assign_core.proofs.ChangeLemmas.{same_length, entries_length}
-use Rattle.assign_core.proofs.GainedLemmas.{gained_kept}
+use Rattle.assign_core.proofs.RenewedLemmas.{renewed_kept}
 use Rattle.assign_core.proofs.database.Database.assign.Goals as goal
 
 pub prepare-requires-clause-typed : goal.prepare-requires-clause-typed
@@ -40,5 +40,5 @@ invariant_of-self-in-Rows g c =
     let list = map read_assignment c.args.list.now in
     let ready = subst (λ (r : Ready). IsReady r s.relvars) c.in-Rows.is c.in_ok-changes.ensures.ready in
     let meant = subst (λ (r : Ready). after_assignments s.relvars list ≡ Ok (with_ready r s.relvars)) c.in-Rows.is c.in_ok-changes.ensures.meant in
-    subst IsKept (λ i. record { ordinals = sym c.gain.ensures.ordinals i; relvars = sym c.in_ok-gain-in-Rows.ensures.list i })
-    (gained_kept s c.in-Rows.at c.in-Rows.rows list c.self.invariant ready meant)
+    subst IsKept (λ i. record { ordinals = sym c.exchange_rows.ensures.ordinals i; relvars = sym c.in_ok-exchange_rows-in-Rows.ensures.list i })
+    (renewed_kept s c.in-Rows.at c.in-Rows.rows list c.self.invariant ready meant)

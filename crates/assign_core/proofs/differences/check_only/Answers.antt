@@ -1,0 +1,56 @@
+use Rattle.std.proofs.Common.{◌≤◌, ◌+◌, length, map, subst, sym, replicate, None}
+use Rattle.tree_core.specs.Relvars.{Entries, read_entry, read_relvars}
+use Rattle.assign_core.specs.Breaches.{first_broken}
+use Rattle.assign_core.specs.Changes.{Changes, Tells}
+use Rattle.assign_core.specs.Checks.{before, AllChecked}
+use Rattle.assign_core.specs.Costs.{looked_at_all}
+use Rattle.assign_core.specs.Parts.{names_in}
+use Rattle.assign_core.proofs.AssignedLemmas.{kept_checked}
+use Rattle.assign_core.proofs.ChangeLemmas.{none_are, none_changed}
+use Rattle.assign_core.proofs.DifferenceLemmas.{changed_only, first_placed, headed_placed}
+use Rattle.assign_core.proofs.NameLemmas.{distinct_later}
+use Rattle.assign_core.proofs.differences.check_only.Goals as goal
+
+pub difference-requires : goal.difference-requires
+difference-requires g c =
+    let o = c.args.only in
+    headed_placed c.args.new.changes.now (before c.args.new) o.at o c.requires.only.constraints c.requires.changes c.requires.only.placed
+
+pub check-requires-clause-checked : goal.check-requires-clause-checked
+check-requires-clause-checked g c = kept_checked (read_relvars c.args.new.relvars.now) c.args.new.changes.now c.requires.kept c.requires.changes
+
+pub check_turnover-requires-clause-turnover : goal.check_turnover-requires-clause-turnover
+check_turnover-requires-clause-turnover g c =
+    let o = c.args.only in
+    let k = c.requires.only in
+    let different = distinct_later (map (λ z. z.name) c.args.new.relvars.now.ordinals) (names_in (before c.args.new)) c.requires.kept.well_made.different in
+    let d = c.in_ok-rows.ensures in
+    record {
+      constraints = k.constraints;
+      first = first_placed c.args.new.changes.now (before c.args.new) o.at o k.constraints different k.placed;
+      come = d.come;
+      gone = d.gone;
+      few = c.is_small.ensures c.if-not-is_small.false;
+    }
+
+pub check_turnover-requires-clause-checked : goal.check_turnover-requires-clause-checked
+check_turnover-requires-clause-checked g c =
+    let s = c.args.new.relvars.now in
+    let raw = s.list.entries in
+    let es = map read_entry raw in
+    let none : Changes = replicate (length raw) None in
+    subst (λ (z : Entries). AllChecked z z) (none_changed es (length raw)) (kept_checked (read_relvars s) none c.requires.kept (none_are raw))
+
+pub returns-clause-told : goal.returns-clause-told
+returns-clause-told g c =
+    let o = c.args.only in
+    let k = c.requires.only in
+    let same = changed_only c.args.new.changes.now (before c.args.new) o.at o k.constraints c.in_ok-rows.rows k.alone k.placed c.in_ok-rows.ensures.is in
+    subst (λ (z : Entries). Tells c.check_turnover.result (first_broken z)) (sym same) c.check_turnover.ensures.told
+
+pub returns-clause-cost : goal.returns-clause-cost
+returns-clause-cost g c =
+    let o = c.args.only in
+    let k = c.requires.only in
+    let same = changed_only c.args.new.changes.now (before c.args.new) o.at o k.constraints c.in_ok-rows.rows k.alone k.placed c.in_ok-rows.ensures.is in
+    subst (λ (z : Entries). c.check_turnover.new.steps ≤ c.args.steps.now + looked_at_all z z) (sym same) c.check_turnover.ensures.cost

@@ -1,0 +1,49 @@
+use Rattle.std.proofs.Common.{◌≡◌, ◌≤◌, ◌+◌, ℕ, List, length, Option, Some, sym, ap, subst, ◌∙◌}
+use Rattle.value_core.specs.RowPacking.{packed, unpacked}
+use Rattle.value_core.specs.Values.{Row}
+use Rattle.relation_core.specs.Answers.{under, IsRefusal}
+use Rattle.relation_core.specs.Operators.{united}
+use Rattle.meaning_core.specs.Meanings.{limited}
+use Rattle.meaning_core.specs.Typing.{IsListIf}
+use Rattle.using_core.proofs.ListLemmas.{intervals_of_list}
+use Rattle.assign_core.specs.Insertions.{list_in, united_in, united_cost}
+use Rattle.assign_core.proofs.AdditionLemmas.{limited_over}
+use Rattle.assign_core.proofs.packing.exchange_of.Goals as goal
+
+pub inserted-requires-clause-intervals : goal.inserted-requires-clause-intervals
+inserted-requires-clause-intervals g c =
+    let a = c.args.addition in
+    let is : list_in a.insertion ≡ Some c.as_slice-list.result.now = c.requires.packed.listed ∙ ap Some (sym (c.as_slice-list.ensures.value ∙ c.acl.view_is)) in
+    intervals_of_list a.value.now.heading c.as_slice-list.result.now (subst (λ (l : Option (List ℕ)). IsListIf a.value.now.heading l) is c.requires.addition.listed)
+
+pub inserted-requires-clause-packed : goal.inserted-requires-clause-packed
+inserted-requires-clause-packed g c =
+    let rows = c.args.addition.value.now.rows in
+    subst (λ (l : List ℕ). packed l rows ≡ rows) (sym (c.as_slice-list.ensures.value ∙ c.acl.view_is)) c.requires.packed.same
+
+pub returns-in-Ok-clause-meant : goal.returns-in-Ok-clause-meant
+returns-in-Ok-clause-meant g c =
+    let a = c.args.addition in
+    let acl = c.as_slice-list.result.now in
+    let is : list_in a.insertion ≡ Some acl = c.requires.packed.listed ∙ ap Some (sym (c.as_slice-list.ensures.value ∙ c.acl.view_is)) in
+    let place = a.insertion.assignment.now.tree.place in
+    c.requires.addition.meant
+    ∙ (ap (λ (l : Option (List ℕ)). under a.value.now.heading (limited place (united_in l a.value.now.rows a.operand.now.rows))) is
+    ∙ ap (λ (rows : List Row). under a.value.now.heading (limited place rows)) (sym c.in-Ok.ensures.rows))
+
+pub returns-in-Err-TooMany-clause-refused : goal.returns-in-Err-TooMany-clause-refused
+returns-in-Err-TooMany-clause-refused g c =
+    let a = c.args.addition in
+    let acl = c.as_slice-list.result.now in
+    let is : list_in a.insertion ≡ Some acl = c.requires.packed.listed ∙ ap Some (sym (c.as_slice-list.ensures.value ∙ c.acl.view_is)) in
+    let place = a.insertion.assignment.now.tree.place in
+    let rows = packed acl (united (unpacked acl a.value.now.rows) (unpacked acl a.operand.now.rows)) in
+    c.requires.addition.meant
+    ∙ (ap (λ (l : Option (List ℕ)). under a.value.now.heading (limited place (united_in l a.value.now.rows a.operand.now.rows))) is
+    ∙ ap (under a.value.now.heading) (limited_over place rows (subst (IsRefusal rows) c.in-Err-TooMany.field-0-is c.in-Err-TooMany.ensures.rows)))
+
+pub returns-in-Ok-clause-cost : goal.returns-in-Ok-clause-cost
+returns-in-Ok-clause-cost g c =
+    let a = c.args.addition in
+    let is : list_in a.insertion ≡ Some c.as_slice-list.result.now = c.requires.packed.listed ∙ ap Some (sym (c.as_slice-list.ensures.value ∙ c.acl.view_is)) in
+    subst (λ (l : Option (List ℕ)). c.inserted.new.steps ≤ c.args.steps.now + united_cost l (length a.value.now.rows + length a.operand.now.rows)) (sym is) c.inserted.ensures.cost

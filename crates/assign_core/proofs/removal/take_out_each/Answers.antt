@@ -1,0 +1,24 @@
+use Rattle.std.proofs.Common.{List, [], ◌∷◌, take, sym, ap, subst, ◌∙◌}
+use Rattle.std.specs.List.Sorted.{IsStrictlySortedBy}
+use Rattle.value_core.specs.Values.{Row, row_cmp}
+use Rattle.relation_core.specs.Operators.{subtracted}
+use Rattle.assign_core.proofs.RemovalLemmas.{none_taken, taken_turn, sorted_taken, one_more}
+use Rattle.assign_core.proofs.removal.take_out_each.Goals as goal
+
+pub loop-row-init : goal.loop-row-init
+loop-row-init c = none_taken c.args.rows.now.items
+
+pub take_out_one-requires : goal.take_out_one-requires
+take_out_one-requires c =
+    subst (λ (r : List Row). IsStrictlySortedBy row_cmp r) (sym c.loop-row.invariant) (sorted_taken c.args.rows.now.items (take c.loop-row.row-index c.args.gone.now) c.requires)
+
+pub loop-row-preserved : goal.loop-row-preserved
+loop-row-preserved c =
+    let rows = c.args.rows.now.items in
+    let gone = c.args.gone.now in
+    let i = c.loop-row.row-index in
+    let row = c.row-item.result in
+    c.take_out_one.ensures
+    ∙ (ap (λ (rs : List Row). subtracted rs (row ∷ [])) c.loop-row.invariant
+    ∙ (taken_turn rows (take i gone) row c.requires
+    ∙ ap (subtracted rows) (one_more gone i row c.loop-row-test.true c.row-item.is)))

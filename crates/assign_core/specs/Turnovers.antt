@@ -1,0 +1,87 @@
+-- Rows that come to a base relvar and others that go.
+--     renewed_at      the relvars after an exchange of rows of the one at a place
+--     IsTurnover      what is asked of an exchange that stands ready for a base relvar
+--     after_turnover      the relvars after it
+--     IsReady, with_ready      what stands ready, and the relvars with it
+use Rattle.std.specs.Prelude.{◌≡◌, ℕ, zero, suc, ◌+◌, ◌≤◌, Bool, false, List, [], ◌∷◌, length, Option, Some, None, if◌then◌else◌}
+use Rattle.std.specs.Str.{bytes_eq}
+use Rattle.value_core.specs.declared.constraint.Constraint.{Constraint}
+use Rattle.value_core.specs.Values.{Name, Row, Relation, most_rows}
+use Rattle.relation_core.specs.Operators.{united}
+use Rattle.tree_core.specs.Relvars.{PlainRelvar, base, view, Entries, read_relvars}
+use Rattle.meaning_core.specs.Names.{IsFirstAt}
+use Rattle.u_constraints.specs.Growth.{exchanged}
+use Rattle.u_labels.specs.declared.exchange.Exchange.{Exchange}
+use Rattle.assign_core.specs.declared.turnover.Turnover.{Turnover}
+use Rattle.assign_core.specs.declared.preparing.Ready.{Ready}
+use Rattle.assign_core.specs.declared.preparing.Ready.TheVariants.{Values, Rows}
+use Rattle.assign_core.specs.Changes.{AreChanges, changed}
+
+-- a relation after an exchange of rows
+abbrev pub renewed : Relation → Exchange → Relation
+renewed value x = record { heading = value.heading; rows = exchanged value.rows x.gone.rows x.come.rows }
+
+abbrev pub renewed_relvar : Exchange → PlainRelvar → PlainRelvar
+renewed_relvar x (base value constraints) = base (renewed value x) constraints
+renewed_relvar x (view t history) = view t history
+
+-- the relvars after an exchange of rows of the one at a place
+abbrev pub renewed_at : ℕ → Exchange → Entries → Entries
+renewed_at i x [] = []
+renewed_at zero x (r ∷ rest) = (r.0, renewed_relvar x r.1) ∷ rest
+renewed_at (suc i) x (r ∷ rest) = r ∷ renewed_at i x rest
+
+-- what is asked where rows are put among those of a relvar: they have its heading, and are few enough with its own
+abbrev pub MayExchange : Exchange → PlainRelvar → Type 0
+MayExchange x (base value constraints) = (x.come.heading ≡ value.heading) × (length (united value.rows x.come.rows) ≤ most_rows)
+MayExchange x (view t history) = ⊥
+
+-- the same of the relvar at a place
+abbrev pub IsExchangeAt : ℕ → Exchange → Entries → Type 0
+IsExchangeAt i x [] = ⊥
+IsExchangeAt zero x (r ∷ rest) = MayExchange x r.1
+IsExchangeAt (suc i) x (r ∷ rest) = IsExchangeAt i x rest
+
+-- ---- a turnover
+
+abbrev pub before_turnover : Turnover → Entries
+before_turnover t = (read_relvars t.relvars.now).relvars
+
+abbrev pub after_turnover : Turnover → Entries
+after_turnover t = renewed_at t.at t.rows.now (before_turnover t)
+
+-- the rows are of the base relvar at the place, which is the first of its name and has the value, and are few enough with its own
+pub record IsTurnoverOf (entries : Entries) (name : Name) (at : ℕ) (value : Relation) (rows : Exchange) : Type 0 where
+  pub constraints : List Constraint
+  pub first : IsFirstAt entries name at (base value constraints)
+  pub come : rows.come.heading ≡ value.heading
+  pub gone : rows.gone.heading ≡ value.heading
+  pub few : length (united value.rows rows.come.rows) ≤ most_rows
+
+abbrev pub IsTurnover : Turnover → Type 0
+IsTurnover t = IsTurnoverOf (before_turnover t) t.name.now t.at t.value.now t.rows.now
+
+-- each row that comes is new, and each that goes was there
+abbrev pub IsCounted : Relation → Exchange → Type 0
+IsCounted value x = length (exchanged value.rows x.gone.rows x.come.rows) + length x.gone.rows ≡ length value.rows + length x.come.rows
+
+-- the rows of a relvar after the turnover, where it is the one that changes
+abbrev pub rows_after : Turnover → Bool → List Row → List Row
+rows_after t own rows = if own then exchanged rows t.rows.now.gone.rows t.rows.now.come.rows else rows
+
+-- whether this is the name of the relvar that changes
+abbrev pub names_changed : Turnover → Option Name → Bool
+names_changed t None = false
+names_changed t (Some name) = bytes_eq t.name.now name
+
+-- ---- what stands ready
+
+-- the values or the rows that stand ready are of base relvars
+abbrev pub IsReady : Ready → Entries → Type 0
+IsReady (Values changes) entries = AreChanges changes.items entries
+IsReady (Rows at rows) entries = IsExchangeAt at rows entries
+
+-- the relvars with what stands ready for them
+abbrev pub with_ready : Ready → Entries → Entries
+with_ready (Values changes) entries = changed changes.items entries
+with_ready (Rows at rows) entries = renewed_at at rows entries

@@ -1,0 +1,135 @@
+// Insertions under USING into a value that its own constraints keep packed on the very list.
+ghost use Rattle.std.specs.Prelude.{◌≡◌, ◌+◌, ◌≤◌, true, IfSome, IfOk, IfErr, Err, nat_eq};
+ghost use Rattle.std.specs.Cmp.Lexicographic.{pointwise};
+ghost use Rattle.std.specs.List.{list_any};
+ghost use Rattle.value_core.specs.RowPacking.{packed};
+ghost use Rattle.value_core.specs.Values.{Relation as PlainRelation};
+ghost use Rattle.relation_core.specs.Answers.{Answers, under};
+ghost use Rattle.tree_core.specs.Relvars.{read_relvar, read_relvars};
+ghost use Rattle.meaning_core.specs.Meanings.{limited};
+ghost use Rattle.u_constraints.specs.Growth.{exchanged};
+ghost use Rattle.u_labels.specs.Exchanges.{IsExchange};
+ghost use Rattle.assign_core.specs.Databases.{IsKept};
+ghost use Rattle.assign_core.specs.Insertions.{addition_cost, is_kept_packed, keeps_packed, value_meant, IsAddition, IsPackedOn};
+
+use crate::addition::Addition;
+use point_core::{Code, Fault, Steps, Stop};
+use relation_core::{absent, union};
+use row_making::told;
+use std::alloc::Global;
+use std::sync::ledger::Ledger;
+use tree_core::Relvar;
+use u_labels::{Exchange, inserted};
+use value_core::{Constraint, Positions, Relation, RowsRefuse};
+
+/// The list of the insertion's USING, where a constraint of the target keeps its rows packed on the very list.
+pub(crate) fn packed_list(addition: Addition<'_>) -> Option<&Positions>
+    requires kept { IsKept (read_relvars addition.relvars.now) }
+    requires addition { IsAddition addition }
+    ensures { IfSome result (λ l. IsPackedOn addition.entry l.now) }
+{
+    match addition.insertion.list {
+        Some(acl) if is_packed_on(addition, acl) => Some(acl),
+        _ => None,
+    }
+}
+
+// Whether a constraint of the target keeps its rows packed on the list.
+fn is_packed_on(addition: Addition<'_>, acl: &Positions) -> bool
+    requires kept { IsKept (read_relvars addition.relvars.now) }
+    requires addition { IsAddition addition }
+    ensures { result ≡ true → packed acl.now addition.entry.value.now.rows ≡ addition.entry.value.now.rows }
+{
+    match addition.relvars.list.get_index(addition.at) {
+        Some((_, relvar)) => is_kept_packed(relvar, acl),
+        None => false,
+    }
+}
+
+// Whether a constraint of the relvar keeps its rows packed on the list.
+fn is_kept_packed(relvar: &Relvar, acl: &Positions) -> bool
+    ensures { result ≡ is_kept_packed acl.now (read_relvar relvar.now) }
+{
+    match relvar {
+        Relvar::Base {
+            value: _,
+            constraints,
+        } => keep_packed(constraints.list.as_slice(), acl),
+        Relvar::View {
+            tree: _,
+            history: _,
+        } => false,
+    }
+}
+
+// Whether one of the constraints keeps rows packed on the list.
+fn keep_packed(list: &[Constraint], acl: &Positions) -> bool
+    ensures { result ≡ list_any (keeps_packed acl.now) list.now }
+{
+    list.iter().any(|c| keeps_packed(c, acl))
+}
+
+// Whether the constraint keeps rows packed on the list.
+fn keeps_packed(constraint: &Constraint, acl: &Positions) -> bool
+    ensures { result ≡ keeps_packed acl.now constraint.now }
+{
+    match constraint {
+        Constraint::Packed(own) => are_same(own, acl),
+        Constraint::UKey(own, _) => are_same(own, acl),
+        Constraint::Key(_)
+        | Constraint::WhenUnpacked(_, _)
+        | Constraint::Foreign(_, _, _, _)
+        | Constraint::History(_) => false,
+    }
+}
+
+// Whether both lists are the same.
+fn are_same(left: &Positions, right: &Positions) -> bool
+    ensures { result ≡ pointwise nat_eq left.now right.now }
+{
+    *left.list.as_slice() == *right.list.as_slice()
+}
+
+/// The rows that the target gains and loses where it is packed on the list, or the fault of too many rows.
+pub(crate) fn exchange_of<L: Ledger>(
+    alloc: Global,
+    addition: Addition<'_>,
+    acl: &Positions,
+    steps: &mut Steps<L>,
+) -> Result<Exchange, Stop>
+    requires addition { IsAddition addition }
+    requires packed { IsPackedOn addition acl.now }
+    ensures exchange { IfOk result (IsExchange addition.entry.value.now) }
+    ensures meant { IfOk result (λ x. value_meant addition.entry
+        ≡ under addition.entry.value.now.heading (limited addition.entry.insertion.assignment.now.tree.place (exchanged addition.entry.value.now.rows x.gone.rows x.come.rows))) }
+    ensures refused { IfErr result (λ stop. Answers {A = PlainRelation} (Err stop) (value_meant addition.entry)) }
+    ensures cost { steps.new ≤ steps.old + addition_cost addition.entry }
+{
+    let list = acl.list.as_slice();
+    match inserted(alloc, addition.value, addition.operand, list, steps) {
+        Ok(rows) => Ok(rows),
+        Err(RowsRefuse::TooMany) => Err(Stop::Fault(Fault {
+            place: addition.insertion.assignment.tree.place,
+            code: Code::E35,
+        })),
+        Err(RowsRefuse::Memory) => Err(Stop::Memory),
+    }
+}
+
+/// The target's value after an exchange of rows, or the fault of too many rows.
+pub(crate) fn whole(
+    alloc: Global,
+    addition: Addition<'_>,
+    rows: &Exchange,
+) -> Result<Relation, Stop>
+    requires exchange { IsExchange addition.value.now rows.now }
+    ensures { Answers result (under addition.entry.value.now.heading (limited addition.entry.insertion.assignment.now.tree.place
+        (exchanged addition.entry.value.now.rows rows.now.gone.rows rows.now.come.rows))) }
+{
+    let left = absent(alloc, addition.value, &rows.gone)?;
+    let come = absent(alloc, &rows.come, &rows.gone)?;
+    told(
+        addition.insertion.assignment.tree.place,
+        union(alloc, &left, &come),
+    )
+}
