@@ -3,7 +3,7 @@
 --     IsTurnover      what is asked of an exchange that stands ready for a base relvar
 --     after_turnover      the relvars after it
 --     IsReady, with_ready      what stands ready, and the relvars with it
-use Rattle.std.specs.Prelude.{◌≡◌, ℕ, zero, suc, ◌+◌, ◌≤◌, Bool, false, List, [], ◌∷◌, length, Option, Some, None, if◌then◌else◌}
+use Rattle.std.specs.Prelude.{◌≡◌, ℕ, zero, suc, ◌+◌, ◌≤◌, Bool, false, List, [], ◌∷◌, length, Option, Some, None, IfSome, if◌then◌else◌}
 use Rattle.std.specs.Str.{bytes_eq}
 use Rattle.value_core.specs.declared.constraint.Constraint.{Constraint}
 use Rattle.value_core.specs.Values.{Name, Row, Relation, most_rows}
@@ -60,6 +60,10 @@ pub record IsTurnoverOf (entries : Entries) (name : Name) (at : ℕ) (value : Re
 
 abbrev pub IsTurnover : Turnover → Type 0
 IsTurnover t = IsTurnoverOf (before_turnover t) t.name.now t.at t.value.now t.rows.now
+
+-- the new value, where it stands ready, is that after the exchange
+abbrev pub IsMade : Turnover → Type 0
+IsMade t = IfSome t.new (λ v. v.now ≡ renewed t.value.now t.rows.now)
 
 -- each row that comes is new, and each that goes was there
 abbrev pub IsCounted : Relation → Exchange → Type 0

@@ -9,7 +9,7 @@ ghost use Rattle.assign_core.specs.Changes.{AreChanges, changed};
 ghost use Rattle.assign_core.specs.Checks.{AllChecked};
 ghost use Rattle.assign_core.specs.Costs.{constraints_cost, constraints_cost_of};
 ghost use Rattle.assign_core.specs.Databases.{IsKept};
-ghost use Rattle.assign_core.specs.Turnovers.{renewed_at, after_turnover, before_turnover, IsCounted, IsExchangeAt, IsTurnover, IsTurnoverOf};
+ghost use Rattle.assign_core.specs.Turnovers.{renewed_at, after_turnover, before_turnover, IsCounted, IsExchangeAt, IsMade, IsTurnover, IsTurnoverOf};
 ghost use Rattle.assign_core.specs.Insertions.{addition_cost, entries_of, outcome, sum_of, value_meant, IsAddition, IsPlain};
 
 use crate::counting::are_few;
@@ -68,10 +68,10 @@ pub(crate) fn prepare_rows<L: Ledger>(
 }
 
 /// Refuses too many rows of all relvars after an exchange of rows of the target, and then a broken constraint.
-pub(crate) fn admit_rows<L: Ledger>(
+pub(crate) fn admit_rows<'a, L: Ledger>(
     alloc: Global,
-    addition: Addition<'_>,
-    rows: &Exchange,
+    addition: Addition<'a>,
+    rows: &'a Exchange,
     none: &[Option<Relation>],
     steps: &mut Steps<L>,
 ) -> Result<(), Refuse>
@@ -88,6 +88,7 @@ pub(crate) fn admit_rows<L: Ledger>(
         name: &addition.insertion.assignment.target,
         value: addition.value,
         rows,
+        new: None,
     };
     admit_turnover(alloc, turnover, none, steps)
 }
@@ -131,6 +132,7 @@ fn admit_turnover<L: Ledger>(
     steps: &mut Steps<L>,
 ) -> Result<(), Refuse>
     requires turnover { IsTurnover turnover }
+    requires made { IsMade turnover }
     requires counted { IsCounted turnover.value.now turnover.rows.now }
     requires none { none.now ≡ replicate (length turnover.relvars.now.list.entries) None }
     requires checked { AllChecked (before_turnover turnover) (before_turnover turnover) }

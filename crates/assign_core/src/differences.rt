@@ -49,10 +49,10 @@ pub(crate) fn check_changes<L: Ledger>(
 }
 
 // Tells the first broken constraint where one relvar alone changes.
-fn check_only<L: Ledger>(
+fn check_only<'a, L: Ledger>(
     alloc: Global,
-    new: After<'_>,
-    only: Only<'_>,
+    new: After<'a>,
+    only: Only<'a>,
     steps: &mut Steps<L>,
 ) -> Result<(), Refuse>
     requires kept { IsKept (read_relvars new.relvars.now) }
@@ -71,6 +71,7 @@ fn check_only<L: Ledger>(
         name: only.name,
         value: only.old,
         rows: &rows,
+        new: Some(only.new),
     };
     check_turnover(alloc, turnover, steps)
 }

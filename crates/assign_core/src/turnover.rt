@@ -11,7 +11,7 @@ ghost use Rattle.assign_core.specs.Breaches.{first_broken, first_in, first_of, r
 ghost use Rattle.assign_core.specs.Changes.{Tells};
 ghost use Rattle.assign_core.specs.Checks.{AllChecked, AreChecked, IsChecked};
 ghost use Rattle.assign_core.specs.Costs.{cost_over, looked_at, looked_at_in, looked_at_all};
-ghost use Rattle.assign_core.specs.Turnovers.{renewed, renewed_relvar, after_turnover, before_turnover, names_changed, rows_after, IsTurnover};
+ghost use Rattle.assign_core.specs.Turnovers.{renewed, renewed_relvar, after_turnover, before_turnover, names_changed, rows_after, IsMade, IsTurnover};
 
 use crate::changes::value_of;
 use crate::checking::breach;
@@ -24,7 +24,8 @@ use u_constraints::{holds, holds_beside, holds_with};
 use u_labels::Exchange;
 use value_core::{Constraint, MOST_ROWS, Name, Refuse, Relation};
 
-/// Rows that a base relvar is to gain, and rows that it is then to lose: the place and the name of the relvar, its value, and the rows.
+/// Rows that a base relvar is to gain, and rows that it is then to lose: the place and the name of the relvar, its value, the rows, and
+/// the new value where it is made already.
 #[derive(Clone, Copy)]
 pub(crate) struct Turnover<'a> {
     pub relvars: &'a Relvars,
@@ -32,6 +33,7 @@ pub(crate) struct Turnover<'a> {
     pub name: &'a Name,
     pub value: &'a Relation,
     pub rows: &'a Exchange,
+    pub new: Option<&'a Relation>,
 }
 
 /// Whether there is room for the rows that come beside those that are there.
@@ -55,6 +57,7 @@ pub(crate) fn check_turnover<L: Ledger>(
     steps: &mut Steps<L>,
 ) -> Result<(), Refuse>
     requires turnover { IsTurnover turnover }
+    requires made { IsMade turnover }
     requires checked { AllChecked (before_turnover turnover) (before_turnover turnover) }
     requires held { first_broken (before_turnover turnover) ≡ None }
     ensures told { Tells result (first_broken (after_turnover turnover.entry)) }
@@ -74,6 +77,7 @@ fn check_at<L: Ledger>(
     steps: &mut Steps<L>,
 ) -> Result<(), Refuse>
     requires turnover { IsTurnover turnover }
+    requires made { IsMade turnover }
     requires within { at < length turnover.relvars.now.list.entries }
     requires checked { AllChecked (before_turnover turnover) (before_turnover turnover) }
     requires held { first_broken (before_turnover turnover) ≡ None }
@@ -98,6 +102,7 @@ fn check_relvar<L: Ledger>(
     steps: &mut Steps<L>,
 ) -> Result<(), Refuse>
     requires turnover { IsTurnover turnover }
+    requires made { IsMade turnover }
     requires own { changes ≡ true → value_of (read_relvar relvar.now) ≡ Some turnover.value.now }
     requires checked { AreChecked (before_turnover turnover) (read_relvar relvar.now) }
     requires held { first_in (before_turnover turnover) name.now (read_relvar relvar.now) ≡ None }
@@ -133,6 +138,7 @@ fn check_list<L: Ledger>(
     steps: &mut Steps<L>,
 ) -> Result<(), Refuse>
     requires turnover { IsTurnover turnover }
+    requires made { IsMade turnover }
     requires own { own.changes ≡ true → own.of.now ≡ turnover.value.now }
     requires checked { All (IsChecked (before_turnover turnover) own.of.now.heading) list.now }
     requires held { All (λ c. broken c own.of.now.rows (rows_named (before_turnover turnover) c) ≡ None) list.now }
@@ -157,6 +163,7 @@ fn check_one<L: Ledger>(
     steps: &mut Steps<L>,
 ) -> Result<Result<(), Code>, Memory>
     requires turnover { IsTurnover turnover }
+    requires made { IsMade turnover }
     requires own { own.changes ≡ true → own.of.now ≡ turnover.value.now }
     requires checked { IsChecked (before_turnover turnover) own.of.now.heading constraint.now }
     requires held { broken constraint.now own.of.now.rows (rows_named (before_turnover turnover) constraint.now) ≡ None }
@@ -183,13 +190,19 @@ fn holds_within<L: Ledger>(
     steps: &mut Steps<L>,
 ) -> Result<Result<(), Code>, Memory>
     requires turnover { IsTurnover turnover }
+    requires made { IsMade turnover }
     requires names { names_changed turnover (names_relvar constraint.now) ≡ true }
     requires checked { IsChecked (before_turnover turnover) turnover.value.now.heading constraint.now }
     ensures answer { IfOk result (λ answer. result_err answer ≡ broken constraint.now (rows_after turnover.entry true turnover.entry.value.now.rows) (rows_named (after_turnover turnover.entry) constraint.now)) }
     ensures cost { steps.new ≤ steps.old + cost_over (after_turnover turnover.entry) (rows_after turnover.entry true turnover.entry.value.now.rows) constraint.now }
 {
-    let all = renewed(alloc, turnover)?;
-    holds(alloc, constraint, &all, Some(&all), steps)
+    match turnover.new {
+        Some(all) => holds(alloc, constraint, all, Some(all), steps),
+        None => {
+            let all = renewed(alloc, turnover)?;
+            holds(alloc, constraint, &all, Some(&all), steps)
+        }
+    }
 }
 
 // Whether a constraint of another relvar, which names the one that changes, holds after the turnover. Where rows go it is looked at whole.
@@ -201,6 +214,7 @@ fn holds_of_other<L: Ledger>(
     steps: &mut Steps<L>,
 ) -> Result<Result<(), Code>, Memory>
     requires turnover { IsTurnover turnover }
+    requires made { IsMade turnover }
     requires names { names_changed turnover (names_relvar constraint.now) ≡ true }
     requires checked { IsChecked (before_turnover turnover) of.now.heading constraint.now }
     requires held { broken constraint.now of.now.rows (rows_named (before_turnover turnover) constraint.now) ≡ None }
@@ -211,8 +225,13 @@ fn holds_of_other<L: Ledger>(
     if gone.rows().is_empty() {
         return holds_beside(alloc, constraint, of, turnover.value, come, steps);
     }
-    let all = renewed(alloc, turnover)?;
-    holds(alloc, constraint, of, Some(&all), steps)
+    match turnover.new {
+        Some(all) => holds(alloc, constraint, of, Some(all), steps),
+        None => {
+            let all = renewed(alloc, turnover)?;
+            holds(alloc, constraint, of, Some(&all), steps)
+        }
+    }
 }
 
 // The value of the relvar that changes, after the turnover.
