@@ -3,10 +3,9 @@ use Rattle.std.proofs.lemmas.Result.{err_from_is_err_and}
 use Rattle.value_core.specs.RowPacking.{packed, unpacked}
 use Rattle.value_core.specs.Values.{Row, Heading, Relation}
 use Rattle.relation_core.specs.Answers.{IsRefusal}
-use Rattle.relation_core.specs.Operators.{subtracted, united}
+use Rattle.relation_core.specs.Operators.{united}
 use Rattle.u_set.specs.Apart.{outside}
 use Rattle.u_constraints.specs.Growth.{exchanged}
-use Rattle.u_labels.specs.Exchanges.{IsExchange}
 use Rattle.u_labels.proofs.InsertionLemmas.{outside_within, refused_new, refused_come, refused_gone, insertion_cost, insertion_counted, insertion_rows}
 use Rattle.u_labels.proofs.insertion.inserted.Goals as goal
 
@@ -127,5 +126,5 @@ returns-clause-exchange g c =
       come = ap (λ (r : Relation). r.heading) c.in_ok-come.ensures.is ∙ new_heading;
       gone = ap (λ (r : Relation). r.heading) c.in_ok-gone.ensures.is ∙ heading;
       counted = insertion_counted value operand c.heading.ensures.relation c.touched_by.ensures.relations.0 c.requires.heading acl c.requires.intervals c.as_slice.result.now label
-    c.in_ok-part.part.rows c.in_ok-part.ensures.rows.1 c.in_ok-new.new.rows new c.in_ok-come.come.rows c.in_ok-gone.gone.rows come gone;
+          c.in_ok-part.part.rows c.in_ok-part.ensures.rows.1 c.in_ok-new.new.rows new c.in_ok-come.come.rows c.in_ok-gone.gone.rows come gone;
     }
