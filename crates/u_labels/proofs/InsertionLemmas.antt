@@ -2,7 +2,7 @@
 --     outside_within      the positions of a label are some of the heading
 --     refused_new, refused_come, refused_gone      a refusal on the way is one of all
 --     insertion_cost, insertion_counted, insertion_rows
-use Rattle.std.proofs.Common.{◌≡◌, inl, inr, ℕ, suc, ◌+◌, ◌<◌, ◌≤◌, true, false, List, [], ◌∷◌, length, refl, sym, ap, ap₂, ◌∙◌, subst, arith}
+use Rattle.std.proofs.Common.{◌≡◌, inl, inr, ℕ, suc, ◌+◌, ◌<◌, ◌≤◌, true, false, List, [], ◌∷◌, length, sym, ap, ap₂, ◌∙◌, subst, arith}
 use Rattle.std.specs.List.{All}
 use Rattle.base_core.proofs.SetLemmas.{In, Ascends-from_sorted}
 use Rattle.value_core.specs.Attributes.{among}

@@ -4,7 +4,6 @@
 --     packed_known      where only rows with such labels are taken, there are no others
 use Rattle.std.proofs.Common.{◌≡◌, ◌↔◌, ◌⊎◌, inl, inr, ℕ, ℤ, Bool, true, false, List, length, map, refl, sym, ap, ◌∙◌, subst}
 use Rattle.std.specs.Bool.{IsTrue}
-use Rattle.std.specs.List.{filter}
 use Rattle.std.proofs.lemmas.Bool.{true≢false}
 use Rattle.base_core.specs.Sets.{has, in_order}
 use Rattle.base_core.proofs.SetLemmas.{In, Ascends, In-in_order}
@@ -25,7 +24,7 @@ use Rattle.packing_core.proofs.PackedBoxes.{among_in, packs-iff, in_packed_form}
 use Rattle.u_set.specs.Apart.{outside}
 use Rattle.u_set.specs.Boxes.{AreIntervals, IsShaped, others, boxed, unboxed}
 use Rattle.u_set.proofs.BoxLemmas.{all_alike, unboxed-boxed}
-use Rattle.u_set.proofs.BridgeLemmas.{box_cmp, box_total, box_separates, boxes_have, opened_places, unpacked_ascends, unpacked_image}
+use Rattle.u_set.proofs.BridgeLemmas.{box_cmp, box_total, box_separates, boxes_have, opened_places, unpacked_image}
 use Rattle.u_set.proofs.ImageLemmas.{IsImage, Ascends-pack, image-pack}
 use Rattle.u_set.proofs.KeptLemmas.{part_outside}
 use Rattle.u_constraints.proofs.GrownPackedLemmas.{no_packs}

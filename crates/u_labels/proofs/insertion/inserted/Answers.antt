@@ -3,10 +3,9 @@ use Rattle.std.proofs.lemmas.Result.{err_from_is_err_and}
 use Rattle.value_core.specs.RowPacking.{packed, unpacked}
 use Rattle.value_core.specs.Values.{Row, Heading, Relation}
 use Rattle.relation_core.specs.Answers.{IsRefusal}
-use Rattle.relation_core.specs.Operators.{subtracted, united}
+use Rattle.relation_core.specs.Operators.{united}
 use Rattle.u_set.specs.Apart.{outside}
 use Rattle.u_constraints.specs.Growth.{exchanged}
-use Rattle.u_labels.specs.Exchanges.{IsExchange}
 use Rattle.u_labels.proofs.InsertionLemmas.{outside_within, refused_new, refused_come, refused_gone, insertion_cost, insertion_counted, insertion_rows}
 use Rattle.u_labels.proofs.insertion.inserted.Goals as goal
 
