@@ -1,10 +1,10 @@
--- The rule fits the headings of the histories that are tested.
+-- The rule fits the headings of the histories that are tested, and a key of the facts does.
 use Rattle.std.proofs.Common.{◌≡◌, ℕ, ◌<◌, List, [], ◌∷◌, length, refl, sym, ◌∙◌, subst, arith}
 use Rattle.std.specs.List.{All, IsDistinct}
 use Rattle.std.specs.Prelude.{nat_eq}
 use Rattle.std.proofs.lemmas.List.Elements.{All-cons, All-nil}
 use Rattle.point_core.specs.declared.any_type.AnyType.TheVariants.{Integer}
-use Rattle.value_core.specs.declared.constraint.Constraint.TheVariants.{History}
+use Rattle.value_core.specs.declared.constraint.Constraint.TheVariants.{Key, History}
 use Rattle.value_core.specs.declared.constraint.HistoryRule.{HistoryRule}
 use Rattle.value_core.specs.declared.kind.Kind.{Kind}
 use Rattle.value_core.specs.declared.kind.Kind.TheVariants.{Point, Span}
@@ -20,6 +20,10 @@ one_is_different = (tt, tt)
 two_are_different : IsDistinct nat_eq (0 ∷ 1 ∷ [])
 unfolding IsDistinct
 two_are_different = ((refl, tt), (tt, tt))
+
+fact_is_different : IsDistinct nat_eq (1 ∷ [])
+unfolding IsDistinct
+fact_is_different = (tt, tt)
 
 module _ (h : Heading) (long : length h ≡ 3) where
   within_second : All (λ (i : ℕ). i < length h) (1 ∷ [])
@@ -57,3 +61,7 @@ rule_fits h g r a b is =
       below_three g r.point_there b.long is.point,
       over_by h g r.span_here r.point_there is.span is.point a.when b.when,
     )
+
+-- a key of the facts
+pub fact_fits : (h : Heading) (positions : List ℕ) → IsOfThree (Point Integer) h → positions ≡ 1 ∷ [] → FitsHeadings h [] (Key positions)
+fact_fits h positions is same = subst (AreDifferent h) (sym same) (record { within = within_second h is.long; different = fact_is_different })

@@ -1,10 +1,12 @@
-//! The constraint of a history over a few rows.
+//! The constraint of a history over a few rows, and a key that does not stand in front.
 #![tactic(auto)]
 
+mod facts;
 mod relations;
 
 ghost use Rattle.std.specs.Prelude.{◌≡◌};
 
+pub use facts::{broken_after, keys_of_fact};
 use point_core::{Code, Steps};
 use relations::{during, rule, since};
 pub use relations::{Lasted, Started};
@@ -35,6 +37,7 @@ pub fn broken<L: Ledger>(
 #[cfg(test)]
 mod tests {
     use super::*;
+    use point_core::Memory;
     use std::marker::Brand;
     use std::test::Fail;
 
@@ -152,6 +155,63 @@ mod tests {
             Blank::new(1),
         );
         assert!(rt; touching);
+        Ok(())
+    }
+
+    // What is so of each key below the number: a fact of its own.
+    fn facts(alloc: Global, many: i64) -> Result<Vec<Started>, Memory> {
+        let mut list = Vec::new(alloc);
+        for key in 0..many {
+            list.push(started(key, many.saturating_sub(key)))?;
+        }
+        Ok(list)
+    }
+
+    // A fact about a key that is so since the point 1.
+    fn started(key: i64, fact: i64) -> Started {
+        Started { key, fact, at: 1 }
+    }
+
+    // Whether the facts still are a key where one comes and others go.
+    fn stays<L: Ledger>(
+        alloc: Global,
+        held: &[Started],
+        gone: &[Started],
+        come: Started,
+        blank: Blank,
+    ) -> bool
+        requires name { blank.name ≡ L.name }
+        requires parts { blank.parts ≡ L.parts }
+        requires one { blank.parts ≡ 1 }
+    {
+        matches!(
+            broken_after::<L>(alloc, held, gone, &[come], blank),
+            Ok(None)
+        )
+    }
+
+    #[test]
+    fn a_key_holds_where_the_row_with_its_values_goes(rt: HostRuntime) -> Result<(), Fail> {
+        let alloc = rt.alloc();
+        let held = facts(alloc, 40)?;
+        let new = stays::<Brand>(alloc, held.as_slice(), &[], started(9, 41), Blank::new(1));
+        assert!(rt; new);
+        let known = stays::<Brand>(alloc, held.as_slice(), &[], started(9, 5), Blank::new(1));
+        assert!(rt; !known);
+        let gone = [started(35, 5)];
+        let freed = stays::<Brand>(alloc, held.as_slice(), &gone, started(9, 5), Blank::new(1));
+        assert!(rt; freed);
+        Ok(())
+    }
+
+    #[test]
+    fn rows_with_a_fact_are_found_by_marks(rt: HostRuntime) -> Result<(), Fail> {
+        let alloc = rt.alloc();
+        let held = facts(alloc, 40)?;
+        let one = matches!(keys_of_fact(alloc, held.as_slice(), 5), Ok(1));
+        assert!(rt; one);
+        let none = matches!(keys_of_fact(alloc, held.as_slice(), 41), Ok(0));
+        assert!(rt; none);
         Ok(())
     }
 

@@ -122,10 +122,8 @@ pub(crate) fn during(alloc: Global, list: &[Lasted]) -> Result<Relation, Relatio
     Ok(relation)
 }
 
-/// The relation of what is so since a point.
-pub(crate) fn since(alloc: Global, list: &[Started]) -> Result<Relation, RelationRefuse>
-    ensures { IfOk result (λ r. IsOfThree (kind.Point Integer) r.heading) }
-{
+// The rows of what is so since a point.
+fn since_rows(alloc: Global, list: &[Started]) -> Result<Vec<Row>, Memory> {
     let mut rows = Vec::new(alloc);
     for one in list {
         rows.push(row(
@@ -135,6 +133,28 @@ pub(crate) fn since(alloc: Global, list: &[Started]) -> Result<Relation, Relatio
             Value::Point(AnyPoint::Integer(one.at)),
         )?)?;
     }
+    Ok(rows)
+}
+
+/// The relation of what is so since a point, under the heading of another one.
+pub(crate) fn since_beside(
+    alloc: Global,
+    other: &Relation,
+    list: &[Started],
+) -> Result<Relation, RelationRefuse>
+    ensures { IfOk result (λ r. r.heading ≡ other.now.heading) }
+{
+    let rows = since_rows(alloc, list)?;
+    let heading = other.heading().copy(alloc)?;
+    let relation = Relation::from_rows(alloc, heading, rows)?;
+    Ok(relation)
+}
+
+/// The relation of what is so since a point.
+pub(crate) fn since(alloc: Global, list: &[Started]) -> Result<Relation, RelationRefuse>
+    ensures { IfOk result (λ r. IsOfThree (kind.Point Integer) r.heading) }
+{
+    let rows = since_rows(alloc, list)?;
     let heading = heading(alloc, Kind::Point(AnyType::Integer))?;
     if !is_of_since(heading.attributes()) {
         return Err(RelationRefuse::Misfit);

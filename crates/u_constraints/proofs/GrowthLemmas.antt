@@ -389,6 +389,20 @@ none_broken c of gone come others rows g b is fits same empty found held =
     elim ((In-exchanged of.rows gone come x).0 i).0 [ inl w ↦ w | inr w ↦ absurd (none_in come none x w) ] in
     sym (fewer_hold of is (exchanged of.rows gone come) (exchanged_ascends of.rows gone come) less c g others fits held)
 
+-- where none goes, all are left
+all_left : (rows : List Row) → rows ≡ subtracted rows []
+all_left [] = refl
+all_left (x ∷ rows) = ap (λ (rs : List Row). x ∷ rs) (all_left rows)
+
+no_rows : (rows : List Row) → 0 ≡ length rows → [] ≡ rows
+no_rows [] e = refl
+no_rows (x ∷ rows) e = absurd (omega (arith, e))
+
+pub none_gone : (all gone rows : List Row) (b : Bool) → rows ≡ gone → b ≡ (length rows == 0) → b ≡ true → all ≡ subtracted all gone
+none_gone all gone rows b same empty found =
+    let none : 0 ≡ length gone = zero_long (length rows) (sym empty ∙ found) ∙ ap (λ (rs : List Row). length rs) same in
+    all_left all ∙ ap (subtracted all) (no_rows gone none)
+
 -- what the rows that come answer, and in how many steps
 module _ (c : Constraint) (of gone come others left : List Row) (same : left ≡ subtracted come gone) where
   pub came_answer : {X E : Type 0} (result : Result (Result X Code) E) → Names c → broken c of others ≡ None → IfOk result (λ answer. result_err answer ≡ broken c left others)

@@ -2,10 +2,12 @@
 use Rattle.std.proofs.Common.{◌≡◌, inl, inr, ℕ, ◌<◌, true, false, List, [], ◌∷◌, map, length, get_or, drop, sym, ap, ◌∙◌, subst}
 use Rattle.std.proofs.lemmas.List.{same_lists, get_or_default}
 use Rattle.base_core.proofs.SetLemmas.{In, Ascends}
+use Rattle.base_core.proofs.MemberLemmas.{list_all-In}
 use Rattle.value_core.specs.Attributes.{among}
 use Rattle.value_core.specs.RowPacking.{unpacked}
-use Rattle.value_core.specs.Values.{Row, Heading, truth, row_cmp}
+use Rattle.value_core.specs.Values.{Row, Heading, Relation, IsRelation, fits_heading, truth, row_cmp}
 use Rattle.relation_core.specs.Agreement.{part_of}
+use Rattle.relation_core.proofs.AgreementLemmas.{length_of_fit}
 use Rattle.u_set.specs.Boxes.{AreIntervals, IsShaped}
 use Rattle.u_set.proofs.PlaceLemmas.{opened_shaped}
 use Rattle.u_row.proofs.BeneathLemmas.{among_in}
@@ -29,8 +31,12 @@ module _ (n : ℕ) (key : List ℕ) (all : (i : ℕ) → i < n → among key i �
       alike_at (λ k. get_or x k (truth false)) (λ k. get_or y k (truth false)) key i e (among_in key i (all i (subst (λ m. i < m) long below))) in
       get_or_default x i d (truth false) below ∙ at ∙ get_or_default y i (truth false) d (subst (λ m. i < m) (long ∙ sym also) below))
 
-  agree_once : (rows : List Row) → ((x : Row) → In x rows → length x ≡ n) → AgreeOnce key rows
+  pub agree_once : (rows : List Row) → ((x : Row) → In x rows → length x ≡ n) → AgreeOnce key rows
   agree_once rows long x y i j e = same_rows x y (long x i) (long y j) e
+
+pub whole_key_of_rows : (r : Relation) → IsRelation r → (key : List ℕ) → ((i : ℕ) → i < length r.heading → among key i ≡ true) → true ≡ is_key key r.rows
+whole_key_of_rows r is key all =
+    sym ((is_key-AgreeOnce key r.rows).1 (agree_once (length r.heading) key all r.rows (λ x i. length_of_fit r.heading x ((list_all-In (fits_heading r.heading) r.rows).0 is.fitting x i))))
 
 pub whole_key : (heading : Heading) (acl : List ℕ) → AreIntervals heading acl → (rows : List Row) → Ascends row_cmp rows → ((x : Row) → In x rows → IsShaped heading acl x)
     → (key : List ℕ) → ((i : ℕ) → i < length heading → among key i ≡ true) → true ≡ is_key key (unpacked acl rows)

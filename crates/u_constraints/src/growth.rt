@@ -1,18 +1,21 @@
 // Constraints that hold, and whether they hold still where rows come and go.
 ghost use Rattle.std.specs.Prelude.{◌≡◌, ◌≤◌, ◌+◌, None, Some, length, IfOk, option_map};
+ghost use Rattle.std.specs.List.{All};
 ghost use Rattle.std.specs.Result.{result_err};
 ghost use Rattle.meaning_core.specs.WellMade.{FitsHeadings};
 ghost use Rattle.value_core.specs.Values.{most_rows, IsRelation};
 ghost use Rattle.relation_core.specs.Operators.{subtracted, united};
+ghost use Rattle.row_marks.specs.Marks.{AreMarksOf};
 ghost use Rattle.u_constraints.specs.Constraints.{broken, heading_or_none, rows_or_none, IsNamed};
 ghost use Rattle.u_constraints.specs.Costs.{constraint_cost};
 ghost use Rattle.u_constraints.specs.Growth.{exchanged, is_history, telling as telling_of};
 
 use crate::constraints::holds;
 use crate::positions::telling;
-use crate::search::touched_by;
+use crate::search::touched_with;
 use point_core::{Code, Memory, Steps};
 use relation_core::{minus, union};
+use row_marks::Marks;
 use std::alloc::Global;
 use std::sync::ledger::Ledger;
 use value_core::{Constraint, Relation, RowsRefuse};
@@ -43,12 +46,25 @@ fn rest(alloc: Global, left: &Relation, right: &Relation) -> Result<Relation, Me
     }
 }
 
+/// The rows of the relation, which are few enough, that are not of those that go. Where none goes, no row is copied.
+fn left_of(alloc: Global, all: Relation, gone: &Relation) -> Result<Relation, Memory>
+    requires heading { gone.now.heading ≡ all.heading }
+    requires few { length all.rows ≤ most_rows }
+    ensures { IfOk result (λ r. (r.heading ≡ all.heading) × (r.rows ≡ subtracted all.rows gone.now.rows)) }
+{
+    if gone.rows().is_empty() {
+        return Ok(all);
+    }
+    rest(alloc, &all, gone)
+}
+
 /// Whether the constraint, which holds of the rows of `of`, holds still where those of `come` are added and those of `gone` taken away. It
 /// is asked of the rows with the values of those that come at the positions.
 fn holds_by<L: Ledger>(
     alloc: Global,
     c: &Constraint,
     of: &Relation,
+    marks: &[Marks],
     gone: &Relation,
     come: &Relation,
     positions: &[usize],
@@ -58,6 +74,7 @@ fn holds_by<L: Ledger>(
     requires relation { IsRelation of.now }
     requires relation_come { IsRelation come.now }
     requires heading { come.now.heading ≡ of.now.heading }
+    requires marks { All (AreMarksOf of.now.rows) marks.now }
     requires gone { gone.now.heading ≡ of.now.heading }
     requires few { length (united of.now.rows come.now.rows) ≤ most_rows }
     requires fits { FitsHeadings of.now.heading (heading_or_none (option_map (λ r. r.now) other)) c.now }
@@ -67,9 +84,9 @@ fn holds_by<L: Ledger>(
     ensures answer { IfOk result (λ answer. result_err answer ≡ broken c.now (exchanged of.now.rows gone.now.rows come.now.rows) (rows_or_none (option_map (λ r. r.now) other.entry))) }
     ensures cost { steps.new ≤ steps.old + constraint_cost c.now (exchanged of.now.rows gone.now.rows come.now.rows) (rows_or_none (option_map (λ r. r.now) other.entry)) }
 {
-    let part = touched_by(alloc, of, come, positions)?;
+    let part = touched_with(alloc, of, come, positions, marks)?;
     let all = joined(alloc, &part, come)?;
-    let small = rest(alloc, &all, gone)?;
+    let small = left_of(alloc, all, gone)?;
     holds(alloc, c, &small, other, steps)
 }
 
@@ -77,17 +94,20 @@ fn holds_by<L: Ledger>(
 /// away; if not, the code of the first of its lines that is then broken. `other` is the relvar that the constraint names, if it names one,
 /// which is not the one that changes.
 ///
-/// Only rows that a row of `come` is held against are looked at: those with its values at the attributes of a key, say.
+/// Only rows that a row of `come` is held against are looked at: those with its values at the attributes of a key, say. They are found by
+/// the marks, which are those of the rows of `of`, where some are for these attributes.
 pub fn holds_with<L: Ledger>(
     alloc: Global,
     c: &Constraint,
     of: &Relation,
+    marks: &[Marks],
     gone: &Relation,
     come: &Relation,
     other: Option<&Relation>,
     steps: &mut Steps<L>,
 ) -> Result<Result<(), Code>, Memory>
     requires heading { come.now.heading ≡ of.now.heading }
+    requires marks { All (AreMarksOf of.now.rows) marks.now }
     requires gone { gone.now.heading ≡ of.now.heading }
     requires few { length (united of.now.rows come.now.rows) ≤ most_rows }
     requires fits { FitsHeadings of.now.heading (heading_or_none (option_map (λ r. r.now) other)) c.now }
@@ -103,7 +123,7 @@ pub fn holds_with<L: Ledger>(
     match telling(alloc, c, many)? {
         Some(positions) => {
             let positions = positions.list.as_slice();
-            holds_by(alloc, c, of, gone, come, positions, other, steps)
+            holds_by(alloc, c, of, marks, gone, come, positions, other, steps)
         }
         None => {
             let left = rest(alloc, come, gone)?;

@@ -8,19 +8,23 @@ ghost use Rattle.u_constraints.specs.Constraints.{is_key};
 ghost use Rattle.u_constraints.specs.Fronts.{counts_from};
 
 use crate::fronts::{are_first, fronts_ascend};
+use crate::positions::are_all;
 use crate::search::{are_few, are_fronts};
 use point_core::Memory;
 use relation_core::{contains, part, sorted_parts};
 use std::alloc::Global;
 use value_core::Relation;
 
-/// Whether no two different rows have the same values at the positions. The rows stand in the order of their first values already;
-/// values at other positions are sorted.
+/// Whether no two different rows have the same values at the positions. A key of all attributes needs no look at the rows. The rows stand
+/// in the order of their first values already; values at other positions are sorted.
 pub(crate) fn is_key(alloc: Global, r: &Relation, positions: &[usize]) -> Result<bool, Memory>
     requires { All (λ (i : ℕ). i < length r.now.heading) positions.now }
     ensures { IfOk result (λ kept. kept ≡ is_key positions.now r.now.rows) }
 {
     let rows = r.rows();
+    if are_all(positions, r.heading().attributes().len()) {
+        return Ok(true);
+    }
     if are_first(positions) {
         return Ok(fronts_ascend(rows, positions.len()));
     }

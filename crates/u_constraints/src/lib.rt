@@ -18,4 +18,5 @@ mod unpacked;
 
 pub use constraints::holds;
 pub use growth::{holds_beside, holds_with};
-pub use search::touched_by;
+pub use positions::are_all;
+pub use search::{touched_by, touched_with};

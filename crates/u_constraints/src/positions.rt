@@ -1,5 +1,6 @@
-// Positions whose values tell which rows a new one is held against.
-ghost use Rattle.std.specs.Prelude.{◌≡◌, IfOk};
+// Lists of positions: whether all are listed, and those whose values tell which rows a new one is held against.
+ghost use Rattle.std.specs.Prelude.{◌≡◌, ◌<◌, ℕ, true, IfOk};
+ghost use Rattle.value_core.specs.Attributes.{among};
 ghost use Rattle.u_row.specs.Kept.{unlisted};
 ghost use Rattle.u_constraints.specs.Growth.{outside_below, telling};
 
@@ -7,6 +8,18 @@ use point_core::Memory;
 use std::alloc::Global;
 use u_set::is_listed;
 use value_core::{Constraint, Positions};
+
+/// Whether all of so many positions are among these.
+pub fn are_all(positions: &[usize], many: usize) -> bool
+    ensures { result ≡ true → (i : ℕ) → i < many → among positions.now i ≡ true }
+{
+    for i in 0..many {
+        if !is_listed(positions, i) {
+            return false;
+        }
+    }
+    true
+}
 
 /// The positions that are not unpacked.
 pub(crate) fn unlisted(

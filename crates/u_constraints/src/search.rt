@@ -1,15 +1,17 @@
-// Rows found by their first values, among rows in order.
+// Rows found by their first values, among rows in order, or by marks.
 ghost use Rattle.std.specs.Prelude.{◌≡◌, ◌++◌, ◌<◌, ◌≤◌, ℕ, true, filter, length, IfOk, IsTrue, OnOk};
 ghost use Rattle.std.specs.List.{All, flat_map, list_all, list_any};
 ghost use Rattle.std.specs.List.Sorted.{IsStrictlySortedBy};
 ghost use Rattle.value_core.specs.Relations.{all_fit, relation_of};
 ghost use Rattle.value_core.specs.Values.{most_rows, row_cmp, rows_of, IsRelation};
 ghost use Rattle.relation_core.specs.Growth.{touched};
+ghost use Rattle.row_marks.specs.Marks.{AreMarksOf};
 ghost use Rattle.u_constraints.specs.Fronts.{begins_with, counts_from};
 
 use crate::fronts::{are_first, begins_below, begins_with};
 use point_core::{Label, Memory};
 use relation_core::{sorted_parts, touched};
+use row_marks::{Marks, touched_by_marks};
 use std::alloc::Global;
 use value_core::{Heading, Relation, Row, RowsRefuse};
 
@@ -124,4 +126,54 @@ pub fn touched_by(
         return touched_in_front(alloc, many, few, positions);
     }
     touched(alloc, many, few, positions)
+}
+
+/// Whether the marks are for these positions.
+fn are_for(marks: &Marks, positions: &[usize]) -> bool
+    ensures { result ≡ true → marks.now.positions ≡ positions.now }
+{
+    *marks.positions() == *positions
+}
+
+/// The rows of many whose values at the positions are those of some row of few: by marks, where some are for these positions.
+fn touched_by_some(
+    alloc: Global,
+    many: &Relation,
+    few: &Relation,
+    positions: &[usize],
+    marks: &[Marks],
+) -> Result<Relation, Memory>
+    requires heading { few.now.heading ≡ many.now.heading }
+    requires within { All (λ (i : ℕ). i < length many.now.heading) positions.now }
+    requires marks { All (AreMarksOf many.now.rows) marks.now }
+    ensures { IfOk result (λ r. (r.heading ≡ many.now.heading) × (r.rows ≡ touched positions.now few.now.rows many.now.rows)) }
+{
+    for own in marks {
+        if are_for(own, positions) {
+            return touched_by_marks(alloc, many, few, own);
+        }
+    }
+    touched_by(alloc, many, few, positions)
+}
+
+/// The rows of many whose values at the positions are those of some row of few, as `touched_by` gives them. Where the rows of few are
+/// few, the positions are not the first ones, and some of the marks, which are those of the rows of many, are for these positions, the
+/// rows are found by them.
+pub fn touched_with(
+    alloc: Global,
+    many: &Relation,
+    few: &Relation,
+    positions: &[usize],
+    marks: &[Marks],
+) -> Result<Relation, Memory>
+    requires heading { few.now.heading ≡ many.now.heading }
+    requires within { All (λ (i : ℕ). i < length many.now.heading) positions.now }
+    requires marks { All (AreMarksOf many.now.rows) marks.now }
+    ensures rows { IfOk result (λ r. (r.heading ≡ many.now.heading) × (r.rows ≡ touched positions.now few.now.rows many.now.rows)) }
+    ensures relations { IsRelation few.now × IsRelation many.now }
+{
+    if !are_few(few, many) || are_first(positions) {
+        return touched_by(alloc, many, few, positions);
+    }
+    touched_by_some(alloc, many, few, positions, marks)
 }

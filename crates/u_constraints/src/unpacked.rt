@@ -3,7 +3,6 @@ ghost use Rattle.std.specs.Prelude.{◌≡◌, ◌+◌, ◌*◌, ◌<◌, ◌≤
 ghost use Rattle.std.specs.List.{All};
 ghost use Rattle.std.specs.Result.{result_err};
 ghost use Rattle.point_core.specs.declared.fault.Code.TheVariants as codes;
-ghost use Rattle.value_core.specs.Attributes.{among};
 ghost use Rattle.value_core.specs.RowPacking.{unpacked};
 ghost use Rattle.cell_core.specs.Costs.{bound};
 ghost use Rattle.meaning_core.specs.Typing.{IsList};
@@ -14,12 +13,12 @@ use crate::apart::is_key_at;
 use crate::keys::is_key;
 use crate::lines::unless;
 use crate::packed::is_packed;
-use crate::positions::unlisted;
+use crate::positions::{are_all, unlisted};
 use point_core::{Code, Memory, Steps};
 use std::alloc::Global;
 use std::sync::ledger::Ledger;
 use u_row::inner;
-use u_set::{Gap, are_apart, is_listed, to_boxes, types_at};
+use u_set::{Gap, are_apart, to_boxes, types_at};
 use value_core::Relation;
 
 /// Whether no two different unpacked rows have the same values at the key, by the rows' boxes. Something is unpacked.
@@ -47,18 +46,6 @@ fn is_key_by_boxes<L: Ledger>(
         places.as_slice(),
         steps,
     )
-}
-
-// Whether all of so many positions are among these.
-fn are_all(positions: &[usize], many: usize) -> bool
-    ensures { result ≡ true → (i : ℕ) → i < many → among positions.now i ≡ true }
-{
-    for i in 0..many {
-        if !is_listed(positions, i) {
-            return false;
-        }
-    }
-    true
 }
 
 /// Whether one attribute alone is listed, and the rows are seen to have no point of it in common where they have the same values at the

@@ -8,14 +8,14 @@ use Rattle.u_constraints.proofs.GrowthLemmas.{same_break, few_rows, joined_rows,
 use Rattle.u_constraints.proofs.TellingLemmas.{told_within, told_relate}
 use Rattle.u_constraints.proofs.growth.holds_by.Goals as goal
 
-pub touched_by-requires-clause-within : goal.touched_by-requires-clause-within
-touched_by-requires-clause-within g c = told_within c.args.c.now c.args.of.now.heading _ c.args.positions.now c.requires.fits c.requires.telling
+pub touched_with-requires-clause-within : goal.touched_with-requires-clause-within
+touched_with-requires-clause-within g c = told_within c.args.c.now c.args.of.now.heading _ c.args.positions.now c.requires.fits c.requires.telling
 
 pub joined-requires-clause-few : goal.joined-requires-clause-few
 joined-requires-clause-few g c = few_enough most_rows _ _ _ _ c.in_ok-part.ensures.rows.1 (joined_rows c.args.positions.now c.args.come.now.rows c.args.of.now.rows) c.requires.few
 
-pub rest-requires-clause-few : goal.rest-requires-clause-few
-rest-requires-clause-few g c =
+pub left_of-requires-clause-few : goal.left_of-requires-clause-few
+left_of-requires-clause-few g c =
     let of = c.args.of.now.rows in
     let come = c.args.come.now.rows in
     let all : c.in_ok-all.all.rows ≡ united (touched c.args.positions.now come of) come = c.in_ok-all.ensures.1 ∙ ap (λ (rs : List Row). united rs come) c.in_ok-part.ensures.rows.1 in

@@ -1,10 +1,18 @@
-use Rattle.std.proofs.Common.{◌≡◌, ◌∙◌, length, refl, rules, true}
+use Rattle.std.proofs.Common.{◌≡◌, ◌∙◌, ◌<◌, ℕ, length, refl, rules, subst, sym, true}
 use Rattle.base_core.proofs.SetLemmas.{Ascends-from_sorted}
-use Rattle.value_core.specs.Values.{row_cmp}
+use Rattle.value_core.specs.Attributes.{among}
+use Rattle.value_core.specs.Values.{Heading, row_cmp}
 use Rattle.u_constraints.specs.Fronts.{counts_from}
 use Rattle.u_constraints.proofs.FrontLemmas.{key_of_relation}
 use Rattle.u_constraints.proofs.KeyLemmas.{counted}
+use Rattle.u_constraints.proofs.WholeKeyLemmas.{whole_key_of_rows}
 use Rattle.u_constraints.proofs.keys.is_key.Goals as goal
+
+pub returns-then-are_all : goal.returns-then-are_all
+returns-then-are_all c =
+    let all : (i : ℕ) → i < length c.args.r.now.heading → among c.args.positions.now i ≡ true = λ i below.
+    c.are_all.ensures c.if-are_all.true i (subst (λ (h : Heading). i < length h) (sym (c.attributes.ensures.list ∙ c.heading.ensures.heading)) below) in
+    whole_key_of_rows c.args.r.now c.rows-rows.ensures.relation c.args.positions.now all
 
 pub returns-then-are_first : goal.returns-then-are_first
 returns-then-are_first c =

@@ -1,0 +1,116 @@
+// Rows found by their marks.
+ghost use Rattle.std.specs.Prelude.{◌≡◌, ◌<◌, ◌++◌, [], ◌∷◌, ℕ, true, filter, length, map, IfOk, IsTrue, OnOk, if◌then◌else◌};
+ghost use Rattle.std.specs.List.{All};
+ghost use Rattle.std.specs.List.Sorted.{IsStrictlySortedBy};
+ghost use Rattle.std.specs.Ordering.{nat_cmp};
+ghost use Rattle.base_core.specs.Sets.{has, in_order};
+ghost use Rattle.value_core.specs.Values.{Row as PlainRow, row_cmp, IsRelation};
+ghost use Rattle.relation_core.specs.Agreement.{part_of};
+ghost use Rattle.relation_core.specs.Growth.{touched, IsSelection};
+ghost use Rattle.row_marks.specs.Marks.{mark_of, AreMarksOf};
+
+use crate::list::{Marks, row_marks};
+use point_core::{Label, Memory};
+use relation_core::{contains, part, sorted_parts};
+use std::alloc::Global;
+use value_core::{Relation, Row};
+
+/// The different marks of the rows, in order.
+fn sorted_marks(alloc: Global, r: &Relation, positions: &[usize]) -> Result<Vec<u64>, Memory>
+    requires { All (λ (i : ℕ). i < length r.now.heading) positions.now }
+    ensures marks { IfOk result (λ list. list.items ≡ in_order nat_cmp (map (mark_of positions.now) r.now.rows)) }
+    ensures sorted { IfOk result (λ list. IsStrictlySortedBy nat_cmp list.items) }
+{
+    let mut list = row_marks(alloc, r, positions)?;
+    list.sort()?;
+    list.dedup();
+    Ok(list)
+}
+
+/// Whether the mark is one of those that are sought, which are in order. Mostly there is one.
+fn is_sought(sought: &[u64], mark: u64) -> bool
+    requires { IsStrictlySortedBy nat_cmp sought.now }
+    ensures { result ≡ has nat_cmp sought.now mark }
+{
+    if sought.len() == 1 {
+        return sought[0] == mark;
+    }
+    sought.binary_search(&mark).is_ok()
+}
+
+/// Adds a copy of the row, if its part is one of the keys, which are in order.
+fn keep(
+    alloc: Global,
+    rows: &mut Vec<Row>,
+    row: &Row,
+    positions: &[usize],
+    keys: &[Row],
+) -> Result<(), Memory>
+    requires within { All (λ (i : ℕ). i < length row.now) positions.now }
+    requires sorted { IsStrictlySortedBy row_cmp keys.now }
+    ensures { OnOk result (rows.new.items ≡ rows.old.items ++ (if has row_cmp keys.now (part_of positions.now row.now) then row.now ∷ [] else [])) }
+{
+    let own = part(alloc, row, positions)?;
+    if contains(keys, &own) {
+        rows.push(row.copy(alloc)?)?;
+    }
+    Ok(())
+}
+
+/// The rows whose part is one of the keys. Only those whose mark is sought are looked at.
+fn marked_rows(
+    alloc: Global,
+    many: &Relation,
+    marks: &Marks,
+    keys: &[Row],
+    sought: &[u64],
+) -> Result<Vec<Row>, Memory>
+    requires marks { AreMarksOf many.now.rows marks.now }
+    requires within { All (λ (i : ℕ). i < length many.now.heading) marks.now.positions }
+    requires sorted { IsStrictlySortedBy row_cmp keys.now }
+    requires order { IsStrictlySortedBy nat_cmp sought.now }
+    requires sought { (x : PlainRow) → IsTrue (has row_cmp keys.now (part_of marks.now.positions x)) → IsTrue (has nat_cmp sought.now (mark_of marks.now.positions x)) }
+    ensures rows { IfOk result (λ rows. rows.items ≡ filter (λ x. has row_cmp keys.now (part_of marks.now.positions x)) many.now.rows) }
+    ensures relation { IsRelation many.now }
+{
+    let given = many.rows();
+    let positions = marks.positions();
+    let mut rows = Vec::new(alloc);
+    for (at, mark) in marks.list().iter().enumerate() {
+        if is_sought(sought, *mark) {
+            keep(alloc, &mut rows, &given[at], positions, keys)?;
+        }
+    }
+    Ok(rows)
+}
+
+/// The relation with the heading of another one and some of its rows.
+fn selection(alloc: Global, r: &Relation, rows: Vec<Row>) -> Result<Relation, Memory>
+    requires { IsSelection r.now.rows rows.items }
+    ensures { IfOk result (λ x. (x.heading ≡ r.now.heading) × (x.rows ≡ rows.items)) }
+{
+    let heading = r.heading().copy(alloc)?;
+    let relation = Relation::of_few(heading, rows)?;
+    Ok(relation)
+}
+
+/// The rows of many whose values at the marks' positions are those of some row of few. The marks are passed over; rows are looked at
+/// alone where one of few has their mark.
+pub fn touched_by_marks(
+    alloc: Global,
+    many: &Relation,
+    few: &Relation,
+    marks: &Marks,
+) -> Result<Relation, Memory>
+    requires heading { few.now.heading ≡ many.now.heading }
+    requires within { All (λ (i : ℕ). i < length many.now.heading) marks.now.positions }
+    requires marks { AreMarksOf many.now.rows marks.now }
+    ensures { IfOk result (λ r. (r.heading ≡ many.now.heading) × (r.rows ≡ touched marks.now.positions few.now.rows many.now.rows)) }
+{
+    let positions = marks.positions();
+    let keys = sorted_parts(alloc, few, positions)?;
+    let sought = sorted_marks(alloc, few, positions)?;
+    let rows = marked_rows(alloc, many, marks, keys.as_slice(), sought.as_slice())?;
+    let relation = selection(alloc, many, rows)?;
+    Ok(relation)
+}
