@@ -22,7 +22,7 @@ use Rattle.u_labels.proofs.LabelLemmas.{IsSet, packed_set, both, both_set, knows
 
 -- ---- how many
 
-In-subtracted : (a b : List Row) (x : Row) → In x (subtracted a b) ↔ (In x a × (In x b → ⊥))
+pub In-subtracted : (a b : List Row) (x : Row) → In x (subtracted a b) ↔ (In x a × (In x b → ⊥))
 In-subtracted a b x = In-difference_of row_cmp row_total row_separates x a b
 
 -- members that pass a test, and those that do not
@@ -49,7 +49,7 @@ left_over all gone up up' within =
     omega (arith, both, long)
 
 -- a set and what comes to it
-joined : (old come : List Row) → Ascends row_cmp old → Ascends row_cmp come → ((x : Row) → In x come → In x old → ⊥) → length (united old come) ≡ length old + length come
+pub joined : (old come : List Row) → Ascends row_cmp old → Ascends row_cmp come → ((x : Row) → In x come → In x old → ⊥) → length (united old come) ≡ length old + length come
 joined old come up up' apart =
     let all : List Row = united old come in
     let member = λ (x : Row). In-union_of row_cmp row_total row_separates x old come in
@@ -64,7 +64,7 @@ joined old come up up' apart =
     let long = ap (λ (zs : List Row). length zs) rest in
     omega (arith, both, long)
 
-counted : (old gone come : List Row) → Ascends row_cmp old → Ascends row_cmp gone → Ascends row_cmp come → ((x : Row) → In x gone → In x old) → ((x : Row) → In x come → In x old → ⊥)
+pub counted : (old gone come : List Row) → Ascends row_cmp old → Ascends row_cmp gone → Ascends row_cmp come → ((x : Row) → In x gone → In x old) → ((x : Row) → In x come → In x old → ⊥)
     → length (exchanged old gone come) + length gone ≡ length old + length come
 counted old gone come up up' up'' within apart =
     let all : List Row = united old come in
@@ -74,7 +74,7 @@ counted old gone come up up' up'' within apart =
 
 -- ---- rows with some labels, packed anew
 
-either : (b : Bool) → IsTrue b ⊎ (b ≡ false)
+pub either : (b : Bool) → IsTrue b ⊎ (b ≡ false)
 either true = inl refl
 either false = inr refl
 

@@ -41,11 +41,11 @@ outside_within acl heading positions same =
 
 -- ---- what the calls come to
 
-smaller_refused : (few all : List Row) → length few ≤ length all → (e : RowsRefuse) → IsRefusal few e → IsRefusal all e
+pub smaller_refused : (few all : List Row) → length few ≤ length all → (e : RowsRefuse) → IsRefusal few e → IsRefusal all e
 smaller_refused few all less TooMany h = omega (arith, less, h)
 smaller_refused few all less Memory h = h
 
-not_refused : (few all whole : List Row) → length few ≤ length all → length all ≤ most_rows → (e : RowsRefuse) → IsRefusal few e → IsRefusal whole e
+pub not_refused : (few all whole : List Row) → length few ≤ length all → length all ≤ most_rows → (e : RowsRefuse) → IsRefusal few e → IsRefusal whole e
 not_refused few all whole less most TooMany h = absurd (omega (arith, less, most, h))
 not_refused few all whole less most Memory h = h
 

@@ -45,7 +45,7 @@ module _ (heading : Heading) (acl : List ℕ) (intervals : AreIntervals heading 
 
   -- ---- one relation
 
-  packed_image : (rows : List Row) → IsSet rows → IsImage (IsShaped heading acl) box (packed acl rows) (form rows)
+  pub packed_image : (rows : List Row) → IsSet rows → IsImage (IsShaped heading acl) box (packed acl rows) (form rows)
   packed_image rows set =
       image-pack row_cmp row_total row_separates box_cmp box_total box_separates (IsShaped heading acl) box (unboxed heading acl) (unboxed-boxed heading acl intervals)
       (map attribute acl) (sides_from 0 (length acl)) (all_alike heading acl intervals) rows (in_order box_cmp (map box rows))
@@ -109,7 +109,7 @@ module _ (heading : Heading) (acl : List ℕ) (intervals : AreIntervals heading 
     ],
   )
 
-  box_among : (rows : List Row) (l : Row) (y : List Span) → Among (l, y) (map box rows) ↔ ((x : Row) × In x rows × ((l, y) ≡ box x))
+  pub box_among : (rows : List Row) (l : Row) (y : List Span) → Among (l, y) (map box rows) ↔ ((x : Row) × In x rows × ((l, y) ≡ box x))
   box_among rows l y =
       let a = among_in (l, y) (map box rows) in
       let m = In-map box (l, y) rows in
@@ -177,7 +177,7 @@ module _ (heading : Heading) (acl : List ℕ) (intervals : AreIntervals heading 
     label_of l y x e = ap (λ (b : Boxed Row). b.0) e
 
     -- the places of the few have known labels
-    place_known : (l : Row) (place : List ℤ) → HasPlace few l place → IsTrue (knows l)
+    pub place_known : (l : Row) (place : List ℤ) → HasPlace few l place → IsTrue (knows l)
     place_known l place h =
         let w = (box_among few l h.0).0 h.1 in
         ap knows (label_of l h.0 w.0 w.2) ∙ few_known w.0 w.1

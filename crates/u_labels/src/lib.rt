@@ -3,6 +3,8 @@
 
 mod exchange;
 mod insertion;
+mod replacement;
 
 pub use exchange::Exchange;
 pub use insertion::inserted;
+pub use replacement::{replaced, replaced_and_inserted};

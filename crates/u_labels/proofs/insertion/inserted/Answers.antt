@@ -9,8 +9,8 @@ use Rattle.u_constraints.specs.Growth.{exchanged}
 use Rattle.u_labels.proofs.InsertionLemmas.{outside_within, refused_new, refused_come, refused_gone, insertion_cost, insertion_counted, insertion_rows}
 use Rattle.u_labels.proofs.insertion.inserted.Goals as goal
 
-pub touched_by-requires-clause-within : goal.touched_by-requires-clause-within
-touched_by-requires-clause-within g c k d l =
+pub touched_with-requires-clause-within : goal.touched_with-requires-clause-within
+touched_with-requires-clause-within g c k d l =
     let acl = c.args.acl.now in
     let label : c.as_slice.result.now ≡ outside acl c.args.value.now.heading =
     c.as_slice.ensures.value ∙ c.in_ok-label.ensures ∙ ap (λ (h : Heading). outside acl h) (c.attributes.ensures.list ∙ c.heading.ensures.heading) in
@@ -25,7 +25,7 @@ returns-in_err-new-clause-rows g c =
     c.as_slice.ensures.value ∙ c.in_ok-label.ensures ∙ ap (λ (h : Heading). outside acl h) (c.attributes.ensures.list ∙ c.heading.ensures.heading) in
     let whole : List Row = packed acl (united (unpacked acl value.rows) (unpacked acl operand.rows)) in
     let p = err_from_is_err_and c.from_residual-in_err-new.result c.from_residual-in_err-new.ensures.1 in
-    let refused = refused_new value operand c.heading.ensures.relation c.touched_by.ensures.relations.0 c.requires.heading acl c.requires.intervals c.as_slice.result.now label
+    let refused = refused_new value operand c.heading.ensures.relation c.touched_with.ensures.relations.0 c.requires.heading acl c.requires.intervals c.as_slice.result.now label
     c.in_ok-part.part.rows c.in_ok-part.ensures.rows.1 p.0 (subst (IsRefusal _) (sym p.2) c.in_err-new.ensures.rows) in
     subst (λ z. MatchResult z (λ x. exchanged value.rows x.gone.rows x.come.rows ≡ whole) (IsRefusal whole)) (sym p.1) refused
 
@@ -36,7 +36,7 @@ returns-in_err-new-clause-cost g c =
     let operand = c.args.operand.now in
     let label : c.as_slice.result.now ≡ outside acl value.heading =
     c.as_slice.ensures.value ∙ c.in_ok-label.ensures ∙ ap (λ (h : Heading). outside acl h) (c.attributes.ensures.list ∙ c.heading.ensures.heading) in
-    insertion_cost value operand c.heading.ensures.relation c.touched_by.ensures.relations.0 c.requires.heading acl c.requires.intervals c.as_slice.result.now label
+    insertion_cost value operand c.heading.ensures.relation c.touched_with.ensures.relations.0 c.requires.heading acl c.requires.intervals c.as_slice.result.now label
     c.in_ok-part.part.rows c.in_ok-part.ensures.rows.1 _ _ c.united.ensures.cost
 
 pub returns-in_err-come-clause-rows : goal.returns-in_err-come-clause-rows
@@ -49,7 +49,7 @@ returns-in_err-come-clause-rows g c =
     let new = ap (λ (r : Relation). r.rows) c.in_ok-new.ensures.rows.is in
     let whole : List Row = packed acl (united (unpacked acl value.rows) (unpacked acl operand.rows)) in
     let p = err_from_is_err_and c.from_residual-in_err-come.result c.from_residual-in_err-come.ensures.1 in
-    let refused = refused_come value operand c.heading.ensures.relation c.touched_by.ensures.relations.0 c.requires.heading acl c.requires.intervals c.as_slice.result.now label
+    let refused = refused_come value operand c.heading.ensures.relation c.touched_with.ensures.relations.0 c.requires.heading acl c.requires.intervals c.as_slice.result.now label
     c.in_ok-part.part.rows c.in_ok-part.ensures.rows.1 c.in_ok-new.new.rows new p.0 (subst (IsRefusal _) (sym p.2) c.in_err-come.ensures) in
     subst (λ z. MatchResult z (λ x. exchanged value.rows x.gone.rows x.come.rows ≡ whole) (IsRefusal whole)) (sym p.1) refused
 
@@ -60,7 +60,7 @@ returns-in_err-come-clause-cost g c =
     let operand = c.args.operand.now in
     let label : c.as_slice.result.now ≡ outside acl value.heading =
     c.as_slice.ensures.value ∙ c.in_ok-label.ensures ∙ ap (λ (h : Heading). outside acl h) (c.attributes.ensures.list ∙ c.heading.ensures.heading) in
-    insertion_cost value operand c.heading.ensures.relation c.touched_by.ensures.relations.0 c.requires.heading acl c.requires.intervals c.as_slice.result.now label
+    insertion_cost value operand c.heading.ensures.relation c.touched_with.ensures.relations.0 c.requires.heading acl c.requires.intervals c.as_slice.result.now label
     c.in_ok-part.part.rows c.in_ok-part.ensures.rows.1 _ _ c.united.ensures.cost
 
 pub returns-in_err-gone-clause-rows : goal.returns-in_err-gone-clause-rows
@@ -73,7 +73,7 @@ returns-in_err-gone-clause-rows g c =
     let new = ap (λ (r : Relation). r.rows) c.in_ok-new.ensures.rows.is in
     let whole : List Row = packed acl (united (unpacked acl value.rows) (unpacked acl operand.rows)) in
     let p = err_from_is_err_and c.from_residual-in_err-gone.result c.from_residual-in_err-gone.ensures.1 in
-    let refused = refused_gone value operand c.heading.ensures.relation c.touched_by.ensures.relations.0 c.requires.heading acl c.requires.intervals c.as_slice.result.now label
+    let refused = refused_gone value operand c.heading.ensures.relation c.touched_with.ensures.relations.0 c.requires.heading acl c.requires.intervals c.as_slice.result.now label
     c.in_ok-part.part.rows c.in_ok-part.ensures.rows.1 c.in_ok-new.new.rows new p.0 (subst (IsRefusal _) (sym p.2) c.in_err-gone.ensures) in
     subst (λ z. MatchResult z (λ x. exchanged value.rows x.gone.rows x.come.rows ≡ whole) (IsRefusal whole)) (sym p.1) refused
 
@@ -84,7 +84,7 @@ returns-in_err-gone-clause-cost g c =
     let operand = c.args.operand.now in
     let label : c.as_slice.result.now ≡ outside acl value.heading =
     c.as_slice.ensures.value ∙ c.in_ok-label.ensures ∙ ap (λ (h : Heading). outside acl h) (c.attributes.ensures.list ∙ c.heading.ensures.heading) in
-    insertion_cost value operand c.heading.ensures.relation c.touched_by.ensures.relations.0 c.requires.heading acl c.requires.intervals c.as_slice.result.now label
+    insertion_cost value operand c.heading.ensures.relation c.touched_with.ensures.relations.0 c.requires.heading acl c.requires.intervals c.as_slice.result.now label
     c.in_ok-part.part.rows c.in_ok-part.ensures.rows.1 _ _ c.united.ensures.cost
 
 pub returns-clause-cost : goal.returns-clause-cost
@@ -94,7 +94,7 @@ returns-clause-cost g c =
     let operand = c.args.operand.now in
     let label : c.as_slice.result.now ≡ outside acl value.heading =
     c.as_slice.ensures.value ∙ c.in_ok-label.ensures ∙ ap (λ (h : Heading). outside acl h) (c.attributes.ensures.list ∙ c.heading.ensures.heading) in
-    insertion_cost value operand c.heading.ensures.relation c.touched_by.ensures.relations.0 c.requires.heading acl c.requires.intervals c.as_slice.result.now label
+    insertion_cost value operand c.heading.ensures.relation c.touched_with.ensures.relations.0 c.requires.heading acl c.requires.intervals c.as_slice.result.now label
     c.in_ok-part.part.rows c.in_ok-part.ensures.rows.1 _ _ c.united.ensures.cost
 
 pub returns-clause-rows : goal.returns-clause-rows
@@ -107,7 +107,7 @@ returns-clause-rows g c =
     let new = ap (λ (r : Relation). r.rows) c.in_ok-new.ensures.rows.is in
     let come = ap (λ (r : Relation). r.rows) c.in_ok-come.ensures.is in
     let gone = ap (λ (r : Relation). r.rows) c.in_ok-gone.ensures.is in
-    insertion_rows value operand c.heading.ensures.relation c.touched_by.ensures.relations.0 c.requires.heading acl c.requires.intervals c.as_slice.result.now label
+    insertion_rows value operand c.heading.ensures.relation c.touched_with.ensures.relations.0 c.requires.heading acl c.requires.intervals c.as_slice.result.now label
     c.in_ok-part.part.rows c.in_ok-part.ensures.rows.1 c.in_ok-new.new.rows new c.in_ok-come.come.rows c.in_ok-gone.gone.rows come gone c.requires.packed
 
 pub returns-clause-exchange : goal.returns-clause-exchange
@@ -125,6 +125,6 @@ returns-clause-exchange g c =
     record {
       come = ap (λ (r : Relation). r.heading) c.in_ok-come.ensures.is ∙ new_heading;
       gone = ap (λ (r : Relation). r.heading) c.in_ok-gone.ensures.is ∙ heading;
-      counted = insertion_counted value operand c.heading.ensures.relation c.touched_by.ensures.relations.0 c.requires.heading acl c.requires.intervals c.as_slice.result.now label
+      counted = insertion_counted value operand c.heading.ensures.relation c.touched_with.ensures.relations.0 c.requires.heading acl c.requires.intervals c.as_slice.result.now label
           c.in_ok-part.part.rows c.in_ok-part.ensures.rows.1 c.in_ok-new.new.rows new c.in_ok-come.come.rows c.in_ok-gone.gone.rows come gone;
     }
