@@ -1,0 +1,4 @@
+pub mod FrontLemmas
+pub mod GuardLemmas
+pub mod PlaceLemmas
+pub mod PartLemmas

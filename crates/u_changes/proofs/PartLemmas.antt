@@ -1,0 +1,222 @@
+-- The rows with the labels of some rows, and what a guard tells of the others.
+--     outside_within      the positions of a label are some of the heading
+--     touched_closed      the rows with the labels of some rows have all rows with their labels
+--     others_told      of the others the guard is FALSE
+--     told_false, told_both      then the condition is FALSE at all of their points
+use Rattle.std.proofs.Common.{◌≡◌, ◌↔◌, inl, inr, ℕ, suc, ◌+◌, ◌<◌, Bool, true, false, List, [], ◌∷◌, ◌++◌, Ok, Err, Option, Some, None, map, length, get_or, take, option_map, refl, sym, ap, ◌∙◌, subst, arith, if◌then◌else◌}
+use Rattle.std.specs.Prelude.{Result, IfOk, IfSome}
+use Rattle.std.specs.Bool.{IsTrue}
+use Rattle.std.specs.List.{All, filter}
+use Rattle.std.proofs.lemmas.List.Elements.{filter_more}
+use Rattle.std.proofs.lemmas.Bool.{true≢false}
+use Rattle.base_core.specs.Outcomes.{then_give}
+use Rattle.base_core.specs.Sets.{has}
+use Rattle.base_core.proofs.SetLemmas.{In, Ascends, In-in_order, same_by_members, Contains-from_In}
+use Rattle.base_core.proofs.MemberLemmas.{In-map, In-filter, has-In, list_all-In}
+use Rattle.base_core.proofs.SetOperatorLemmas.{In-difference_of, Ascends-filter}
+use Rattle.point_core.specs.Faults.{OrFault}
+use Rattle.point_core.specs.declared.fault.Place.{Place}
+use Rattle.point_core.specs.declared.memory.Memory.{Memory}
+use Rattle.value_core.specs.declared.kind.Kind.TheVariants.{Truth}
+use Rattle.value_core.specs.Attributes.{among}
+use Rattle.value_core.specs.Order.{row_total, row_separates}
+use Rattle.value_core.specs.RowPacking.{unpacked}
+use Rattle.value_core.specs.Values.{Row, Heading, Relation, IsRelation, row_cmp, fits_heading}
+use Rattle.scalar_core.specs.Expressions.{Expr, read}
+use Rattle.scalar_core.specs.declared.tree.Scalar.{Scalar}
+use Rattle.scalar_core.specs.Kinds.{IsTyped}
+use Rattle.scalar_core.specs.Operations.{is_true}
+use Rattle.scalar_core.specs.ScalarValues.{value}
+use Rattle.scalar_core.specs.Sweeping.{names_any}
+use Rattle.scalar_core.proofs.SweepLemmas.{unnamed}
+use Rattle.relation_core.specs.Agreement.{part_of}
+use Rattle.relation_core.specs.Growth.{touched}
+use Rattle.relation_core.specs.Operators.{subtracted}
+use Rattle.relation_core.specs.Parts.{projected}
+use Rattle.relation_core.proofs.FilterLemmas.{filter_all, rows_ascend}
+use Rattle.meaning_core.specs.Meanings.{condition}
+use Rattle.meaning_core.specs.Scalars.{IsConditionOver}
+use Rattle.u_set.specs.Apart.{outside_from, outside}
+use Rattle.u_set.specs.Boxes.{unless}
+use Rattle.u_row.proofs.BeneathLemmas.{all_in}
+use Rattle.u_changes.specs.Concerned.{AreFalse, IsClosedPart}
+use Rattle.u_changes.specs.Guards.{stays, AreTold, guard, guard_of_both}
+use Rattle.u_changes.proofs.GuardLemmas.{AllGuard, AllGuardBoth, guard_is, guard_of_both_is}
+use Rattle.u_changes.proofs.PlaceLemmas.{opened_from}
+
+-- ---- the positions of a label
+
+in_outside : (n : ℕ) (acl : List ℕ) (heading : Heading) (i : ℕ) → In i (outside_from n acl heading) → i < n + length heading
+in_outside n acl [] i m = absurd m
+in_outside n acl (a ∷ heading) i m =
+    let rest : List ℕ = outside_from (suc n) acl heading in
+    let more : In i rest → i < n + suc (length heading) = λ j. let l = in_outside (suc n) acl heading i j in omega (arith, l) in
+    elim (among acl n) as (λ b. In i (unless b n rest) → i < n + suc (length heading)) [
+      | true ↦ more
+      | false ↦ λ j. elim j [ inl e ↦ omega (arith, e) | inr k ↦ more k ]
+    ] m
+
+pub outside_within : (acl : List ℕ) (heading : Heading) (positions : List ℕ) → positions ≡ outside acl heading → All (λ (i : ℕ). i < length heading) positions
+outside_within acl heading positions same =
+    subst (All (λ (i : ℕ). i < length heading)) (sym same) (all_in (λ (i : ℕ). i < length heading) (outside acl heading) (λ i m. let l = in_outside 0 acl heading i m in omega (arith, l)))
+
+-- ---- rows with the labels of some rows
+
+-- a part of some rows is that of one of them
+In-projected : (positions : List ℕ) (rows : List Row) (x : Row) → IsTrue (has row_cmp (projected positions rows) (part_of positions x)) ↔ ((y : Row) × In y rows × (part_of positions x ≡ part_of positions y))
+In-projected positions rows x =
+    let told = has-In row_cmp row_total row_separates (projected positions rows) (part_of positions x) in
+    let set = In-in_order row_cmp row_total row_separates (part_of positions x) (map (part_of positions) rows) in
+    let parts = In-map (part_of positions) (part_of positions x) rows in
+    (λ h. parts.0 (set.0 (told.0 h)), λ w. told.1 (set.1 (parts.1 w)))
+
+In-touched : (positions : List ℕ) (few many : List Row) (x : Row) → In x (touched positions few many) ↔ (In x many × ((y : Row) × In y few × (part_of positions x ≡ part_of positions y)))
+In-touched positions few many x =
+    let kept = In-filter (λ z. has row_cmp (projected positions few) (part_of positions z)) x many in
+    let parts = In-projected positions few x in
+    (λ i. let w = kept.0 i in (w.0, parts.0 w.1), λ w. kept.1 (w.0, parts.1 w.1))
+
+pub touched_closed : (positions : List ℕ) (few many : List Row) → Ascends row_cmp many → touched positions few many ≡ touched positions (touched positions few many) many
+touched_closed positions few many up =
+    let part : List Row = touched positions few many in
+    same_by_members row_cmp row_total row_separates part (touched positions part many)
+    (Ascends-filter row_cmp (λ z. has row_cmp (projected positions few) (part_of positions z)) many up)
+    (Ascends-filter row_cmp (λ z. has row_cmp (projected positions part) (part_of positions z)) many up) (λ x.
+    let here = In-touched positions few many x in
+    let there = In-touched positions part many x in (
+      λ i. there.1 ((here.0 i).0, (x, i, refl)),
+      λ i.
+          let w = there.0 i in
+          let v = (In-touched positions few many w.1.0).0 w.1.1 in
+          here.1 (w.0, (v.1.0, v.1.1, w.1.2 ∙ v.1.2)),
+    ))
+
+-- all rows have all rows with their labels
+touched_all : (positions : List ℕ) (rows : List Row) → rows ≡ touched positions rows rows
+touched_all positions rows =
+    sym (filter_all (λ z. has row_cmp (projected positions rows) (part_of positions z)) rows (λ z i. (In-projected positions rows z).1 (z, i, refl)))
+
+pub all_closed : (acl : List ℕ) (value : Relation) → IsClosedPart acl value value
+all_closed acl value = record { heading = refl; closed = touched_all (outside acl value.heading) value.rows }
+
+pub part_closed : (acl : List ℕ) (value part : Relation) (label : List ℕ) (few : List Row) → IsRelation value → label ≡ outside acl value.heading → part.heading ≡ value.heading → part.rows ≡ touched label few value.rows
+    → IsClosedPart acl value part
+part_closed acl value part label few is at heading rows =
+    let own : part.rows ≡ touched (outside acl value.heading) few value.rows = rows ∙ ap (λ (l : List ℕ). touched l few value.rows) at in
+    record {
+      heading = heading;
+      closed = own ∙ touched_closed (outside acl value.heading) few value.rows (rows_ascend value is) ∙ ap (λ (zs : List Row). touched (outside acl value.heading) zs value.rows) (sym own);
+    }
+
+-- ---- what is told of the others
+
+In-subtracted : (a b : List Row) (x : Row) → In x (subtracted a b) ↔ (In x a × (In x b → ⊥))
+In-subtracted a b x = In-difference_of row_cmp row_total row_separates x a b
+
+not_staying : (r : OrFault Bool) → stays r ≡ false → r ≡ Ok false
+not_staying (Ok b) h = ap (λ (t : Bool). Ok t) h
+not_staying (Err e) h = absurd (true≢false h)
+
+-- a row that is not in the part is not in the few, so that the guard does not stay
+pub others_told : (g : Expr) (label : List ℕ) (value few part : List Row) → few ≡ filter (λ row. stays (condition g row)) value → part ≡ touched label few value → All (λ (row : Row). condition g row ≡ Ok false) (subtracted value part)
+others_told g label rows few part chosen is =
+    all_in (λ (row : Row). condition g row ≡ Ok false) (subtracted rows part) (λ x i.
+    let w = (In-subtracted rows part x).0 i in
+    elim (stays (condition g x)) as (λ b. stays (condition g x) ≡ b → condition g x ≡ Ok false) [
+      | true ↦ λ e.
+          let among : In x few = subst (λ (zs : List Row). In x zs) (sym chosen) ((In-filter (λ row. stays (condition g row)) x rows).1 (w.0, e)) in
+          absurd (w.1 (subst (λ (zs : List Row). In x zs) (sym is) ((In-touched label few rows x).1 (w.0, (x, among, refl)))))
+      | false ↦ λ e. not_staying (condition g x) e
+    ] refl)
+
+none_left : (rows : List Row) → subtracted rows rows ≡ []
+none_left rows = no_members (subtracted rows rows) (λ x i. let w = (In-subtracted rows rows x).0 i in w.1 w.0)
+  where
+    no_members : (zs : List Row) → ((x : Row) → In x zs → ⊥) → zs ≡ []
+    no_members [] h = refl
+    no_members (z ∷ zs) h = absurd (h z (inl refl))
+
+pub none_untold : (value part : List Row) → part ≡ value → subtracted value part ≡ []
+none_untold rows part same = ap (λ (zs : List Row). subtracted rows zs) same ∙ none_left rows
+
+-- ---- a copy is the whole
+
+pub copied_closed : (acl : List ℕ) (value : Relation) (r : Result Relation Memory) → IfOk r (λ p. p ≡ value) → IfOk r (IsClosedPart acl value)
+copied_closed acl value (Ok p) same = subst (IsClosedPart acl value) (sym same) (all_closed acl value)
+copied_closed acl value (Err e) same = tt
+
+pub copied_told : (o : Option Scalar) (value : Relation) (r : Result Relation Memory) → o ≡ None → IfOk r (λ p. p ≡ value) → IfOk r (λ p. AreTold (option_map read o) (subtracted value.rows p.rows))
+copied_told o value (Ok p) none same =
+    subst (λ (q : Option Scalar). AreTold (option_map read q) (subtracted value.rows p.rows)) (sym none) (none_untold value.rows p.rows (ap (λ (q : Relation). q.rows) same))
+copied_told o value (Err e) none same = tt
+
+-- ---- at all points
+
+-- nothing is unpacked from nothing
+opened_none : (acl : List ℕ) (rows : List Row) → rows ≡ [] → (x : Row) → In x (unpacked acl rows) → ⊥
+opened_none acl rows none x i = let w = opened_from acl rows x i in subst (λ (zs : List Row). In w.0 zs) none w.1
+
+in_all : (P : Row → Type 0) (rows : List Row) → All P rows → (x : Row) → In x rows → P x
+in_all P rows h x i = let c = Contains-from_In rows x i in subst P c.2 (h c.0 x c.1)
+
+-- what the guard tells of a row holds at all of its points
+guarded : (acl : List ℕ) (c g : Expr) (rows : List Row) → names_any acl g ≡ false → ((x : Row) → condition g x ≡ Ok false → condition c x ≡ Ok false) → All (λ (row : Row). condition g row ≡ Ok false) rows → AreFalse acl c rows
+guarded acl c g rows none tells told =
+    all_in (λ (y : Row). condition c y ≡ Ok false) (unpacked acl rows) (λ x i.
+    let w = opened_from acl rows x i in
+    let same : value g x ≡ value g w.0 = unnamed acl w.0 x g w.2 none in
+    tells x (ap (λ r. then_give r (λ v. Ok (is_true v))) same ∙ in_all (λ (row : Row). condition g row ≡ Ok false) rows told w.0 w.1))
+
+none_false : (acl : List ℕ) (c : Expr) (rows : List Row) → rows ≡ [] → AreFalse acl c rows
+none_false acl c rows none = all_in (λ (y : Row). condition c y ≡ Ok false) (unpacked acl rows) (λ x i. absurd (opened_none acl rows none x i))
+
+told_by : (acl : List ℕ) (c : Expr) (o : Option Expr) (rows : List Row) → AllGuard acl c o → AreTold o rows → AreFalse acl c rows
+told_by acl c None rows is told = none_false acl c rows told
+told_by acl c (Some g) rows is told = guarded acl c g rows is.unnamed is.tells told
+
+pub told_false : (acl : List ℕ) (c : Expr) (o : Option Expr) (rows : List Row) → o ≡ guard acl c → AreTold o rows → AreFalse acl c rows
+told_false acl c o rows same told = told_by acl c o rows (subst (AllGuard acl c) (sym same) (guard_is acl c)) told
+
+told_by_both : (acl : List ℕ) (c d : Expr) (o : Option Expr) (rows : List Row) → AllGuardBoth acl c d o → AreTold o rows → AreFalse acl c rows × AreFalse acl d rows
+told_by_both acl c d None rows is told = (none_false acl c rows told, none_false acl d rows told)
+told_by_both acl c d (Some g) rows is told = (guarded acl c g rows is.unnamed is.first told, guarded acl d g rows is.unnamed is.second told)
+
+pub told_both : (acl : List ℕ) (place : Place) (c d : Expr) (o : Option Expr) (rows : List Row) → o ≡ guard_of_both place (guard acl c) (guard acl d) → AreTold o rows → AreFalse acl c rows × AreFalse acl d rows
+told_both acl place c d o rows same told = told_by_both acl c d o rows (subst (AllGuardBoth acl c d) (sym same) (guard_of_both_is acl place c d)) told
+
+-- ---- typed conditions
+
+pub all_over : (r : Relation) (rows : List Row) (g : Expr) → IsRelation r → rows ≡ r.rows → IsTyped r.heading g Truth → All (λ (row : Row). IsConditionOver row g) rows
+all_over r rows g is same typed =
+    subst (All (λ (row : Row). IsConditionOver row g)) (sym same) (all_in (λ (row : Row). IsConditionOver row g) r.rows (λ x i.
+    record {
+      heading = r.heading;
+      fits = (list_all-In (fits_heading r.heading) r.rows).0 is.fitting x i;
+      typed = typed;
+    }))
+
+-- the guard is a condition for the heading
+pub guard_typed : (acl : List ℕ) (heading : Heading) (c : Expr) (o : Option Scalar) → option_map read o ≡ guard acl c → IsTyped heading c Truth → IfSome o (λ e. IsTyped heading (read e) Truth)
+guard_typed acl heading c None same t = tt
+guard_typed acl heading c (Some e) same t =
+    let is : AllGuard acl c (Some (read e)) = subst (AllGuard acl c) (sym same) (guard_is acl c) in
+    is.typed heading t
+
+pub both_typed : (acl : List ℕ) (heading : Heading) (place : Place) (c d : Expr) (o : Option Scalar) → option_map read o ≡ guard_of_both place (guard acl c) (guard acl d) → IsTyped heading c Truth → IsTyped heading d Truth
+    → IfSome o (λ e. IsTyped heading (read e) Truth)
+both_typed acl heading place c d None same t u = tt
+both_typed acl heading place c d (Some e) same t u =
+    let is : AllGuardBoth acl c d (Some (read e)) = subst (AllGuardBoth acl c d) (sym same) (guard_of_both_is acl place c d) in
+    is.typed heading t u
+
+-- ---- a pass over rows
+
+pub stays_more : (g : Expr) (rows : List Row) (i : ℕ) (row : Row) (s : Bool) (old new : List Row) → i < length rows → row ≡ get_or rows i row → s ≡ stays (condition g row)
+    → old ≡ filter (λ x. stays (condition g x)) (take i rows) → new ≡ old ++ (if s then row ∷ [] else []) → new ≡ filter (λ x. stays (condition g x)) (take (i + 1) rows)
+stays_more g rows i row s old new l at same so_far is =
+    let p : Row → Bool = λ x. stays (condition g x) in
+    let front : List Row = filter p (take i rows) in
+    is
+    ∙ (ap (λ (b : List Row). b ++ (if s then row ∷ [] else [])) so_far
+    ∙ (ap (λ (k : Bool). front ++ (if k then row ∷ [] else [])) same
+    ∙ (ap (λ (z : Row). front ++ (if p z then z ∷ [] else [])) at ∙ sym (filter_more p rows i row l))))

@@ -1,0 +1,3 @@
+pub mod Concerned
+pub mod Guards
+pub mod Fronts

@@ -1,0 +1,135 @@
+// The rows of a relation of which a guard is not FALSE, with all rows that have their labels.
+ghost use Rattle.std.specs.Prelude.{◌≡◌, ◌++◌, ◌∷◌, [], Some, filter, IfOk, IfSome, OnOk, option_map, if◌then◌else◌};
+ghost use Rattle.std.specs.List.{All};
+ghost use Rattle.value_core.specs.declared.kind.Kind.TheVariants.{Truth};
+ghost use Rattle.scalar_core.specs.Expressions.{read};
+ghost use Rattle.scalar_core.specs.Kinds.{IsTyped};
+ghost use Rattle.relation_core.specs.Growth.{IsSelection};
+ghost use Rattle.relation_core.specs.Operators.{subtracted};
+ghost use Rattle.meaning_core.specs.Meanings.{condition};
+ghost use Rattle.meaning_core.specs.Scalars.{IsConditionOver};
+ghost use Rattle.u_set.specs.Boxes.{AreIntervals};
+ghost use Rattle.u_changes.specs.Concerned.{IsClosedPart};
+ghost use Rattle.u_changes.specs.Fronts.{front};
+ghost use Rattle.u_changes.specs.Guards.{stays, AreTold};
+
+use crate::fronts::front;
+use crate::searching::with_front;
+use point_core::{Label, Memory, Stop};
+use row_making::holds;
+use scalar_core::Scalar;
+use std::alloc::Global;
+use u_constraints::touched_by;
+use u_set::outside;
+use value_core::{Relation, Row};
+
+/// Whether the condition is other than FALSE of the row.
+fn stays(alloc: Global, g: &Scalar, row: &Row) -> Result<bool, Memory>
+    requires { IsConditionOver row.now (read g.now) }
+    ensures { IfOk result (λ b. b ≡ stays (condition (read g.now) row.now)) }
+{
+    match holds(alloc, g, row) {
+        Ok(b) => Ok(b),
+        Err(Stop::Fault(_)) => Ok(true),
+        Err(Stop::Memory) => Err(Memory),
+    }
+}
+
+/// Adds a copy of the row, if it is kept.
+fn keep(alloc: Global, rows: &mut Vec<Row>, row: &Row, kept: bool) -> Result<(), Memory>
+    ensures { OnOk result (rows.new.items ≡ rows.old.items ++ (if kept then row.now ∷ [] else [])) }
+{
+    if kept {
+        rows.push(row.copy(alloc)?)?;
+    }
+    Ok(())
+}
+
+/// The rows of which the condition is other than FALSE.
+fn rows_that_stay(alloc: Global, g: &Scalar, rows: &[Row]) -> Result<Vec<Row>, Memory>
+    requires { All (λ row. IsConditionOver row (read g.now)) rows.now }
+    ensures { IfOk result (λ v. v.items ≡ filter (λ row. stays (condition (read g.now) row)) rows.now) }
+{
+    let mut kept = Vec::new(alloc);
+    for row in rows {
+        let row_stays = stays(alloc, g, row)?;
+        keep(alloc, &mut kept, row, row_stays)?;
+    }
+    Ok(kept)
+}
+
+/// The rows of the relation of which the condition is other than FALSE, sought among those that begin with these values: of the others
+/// it is FALSE.
+fn rows_found(alloc: Global, g: &Scalar, value: &Relation, values: &Row) -> Result<Vec<Row>, Memory>
+    requires typed { IsTyped value.now.heading (read g.now) Truth }
+    requires front { front (read g.now) ≡ Some values.now }
+    ensures { IfOk result (λ v. v.items ≡ filter (λ row. stays (condition (read g.now) row)) value.now.rows) }
+{
+    let given = value.rows();
+    let found = with_front(given, values);
+    let kept = rows_that_stay(alloc, g, found)?;
+    Ok(kept)
+}
+
+/// The rows of the relation of which the condition is other than FALSE.
+fn rows_suspected(alloc: Global, g: &Scalar, value: &Relation) -> Result<Vec<Row>, Memory>
+    requires { IsTyped value.now.heading (read g.now) Truth }
+    ensures { IfOk result (λ v. v.items ≡ filter (λ row. stays (condition (read g.now) row)) value.now.rows) }
+{
+    let first = front(alloc, g)?;
+    match first {
+        Some(values) => rows_found(alloc, g, value, &values),
+        None => rows_that_stay(alloc, g, value.rows()),
+    }
+}
+
+/// The relation with the heading of another one and some of its rows.
+fn selection(alloc: Global, r: &Relation, rows: Vec<Row>) -> Result<Relation, Memory>
+    requires { IsSelection r.now.rows rows.items }
+    ensures { IfOk result (λ x. (x.heading ≡ r.now.heading) × (x.rows ≡ rows.items)) }
+{
+    let heading = r.heading().copy(alloc)?;
+    let relation = Relation::of_few(heading, rows)?;
+    Ok(relation)
+}
+
+/// The rows of the relation of which the condition is other than FALSE.
+fn suspects(alloc: Global, value: &Relation, g: &Scalar) -> Result<Relation, Memory>
+    requires { IsTyped value.now.heading (read g.now) Truth }
+    ensures { IfOk result (λ r. (r.heading ≡ value.now.heading) × (r.rows ≡ filter (λ row. stays (condition (read g.now) row)) value.now.rows)) }
+{
+    let rows = rows_suspected(alloc, g, value)?;
+    let relation = selection(alloc, value, rows)?;
+    Ok(relation)
+}
+
+/// The rows of the relation that have the label of a row of which the condition is other than FALSE.
+fn part_by(alloc: Global, value: &Relation, acl: &[usize], g: &Scalar) -> Result<Relation, Memory>
+    requires intervals { AreIntervals value.now.heading acl.now }
+    requires typed { IsTyped value.now.heading (read g.now) Truth }
+    ensures part { IfOk result (IsClosedPart acl.now value.now) }
+    ensures others { IfOk result (λ p. AreTold (Some (read g.now)) (subtracted value.now.rows p.rows)) }
+{
+    let label = outside(alloc, value.heading().attributes(), acl)?;
+    let few = suspects(alloc, value, g)?;
+    let part = touched_by(alloc, value, &few, label.as_slice())?;
+    Ok(part)
+}
+
+/// The rows of the relation that have the label of a row of which the guard is other than FALSE; all rows where there is no guard.
+pub(crate) fn part_told(
+    alloc: Global,
+    value: &Relation,
+    acl: &[usize],
+    g: &Option<Scalar>,
+) -> Result<Relation, Memory>
+    requires intervals { AreIntervals value.now.heading acl.now }
+    requires typed { IfSome g.now (λ e. IsTyped value.now.heading (read e) Truth) }
+    ensures part { IfOk result (IsClosedPart acl.now value.now) }
+    ensures others { IfOk result (λ p. AreTold (option_map read g.now) (subtracted value.now.rows p.rows)) }
+{
+    match g {
+        Some(g) => part_by(alloc, value, acl, g),
+        None => value.copy(alloc),
+    }
+}
