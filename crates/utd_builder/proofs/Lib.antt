@@ -4,3 +4,5 @@ pub mod PartRows
 pub mod RelationRows
 pub mod StatementRows
 pub mod Paths
+pub mod Closed
+pub mod OneToken

@@ -8,7 +8,9 @@ ghost use Rattle.utd_builder.specs.Building.{Builds, Turns, left};
 ghost use Rattle.utd_builder.specs.Choices.{end_bracket_at};
 
 use crate::choices::{comparison_word, function_word, pair_word, product_word, sum_word};
+use crate::closing::closes;
 use crate::cursor::Cursor;
+use crate::lone::lone_integer;
 use std::alloc::{AllocError, Global};
 use utd_syntax::{
     BeginBracket, Comparison, Conjunction, EndBracket, ExtremeWord, FunctionWord, Negation,
@@ -18,6 +20,21 @@ use utd_syntax::{
 /// A scalar, in a box: the trees hold it in one.
 #[cycle(scalars)]
 pub fn scalar<'a>(
+    alloc: Global,
+    cursor: Cursor<'a>,
+) -> Result<(Box<Scalar>, Cursor<'a>), AllocError>
+    ensures { Builds TheScalar (λ tree. read_scalar tree.value) (left cursor.entry) result }
+{
+    if let Terminal::Digits = cursor.terminal() {
+        if closes(cursor.skip().terminal()) {
+            return lone_integer(alloc, cursor);
+        }
+    }
+    disjunction(alloc, cursor)
+}
+
+#[cycle(scalars)]
+fn disjunction<'a>(
     alloc: Global,
     cursor: Cursor<'a>,
 ) -> Result<(Box<Scalar>, Cursor<'a>), AllocError>

@@ -1,6 +1,7 @@
 pub mod Values
 pub mod Spellings
 pub mod Stacks
+pub mod Closed
 pub mod Days
 pub mod Verdicts
 pub mod Statements

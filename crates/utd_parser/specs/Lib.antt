@@ -1,3 +1,4 @@
 pub mod Tokens
 pub mod Forms
 pub mod Frames
+pub mod Closing

@@ -1,15 +1,17 @@
 // The forms to come, and how a token is taken over them.
-ghost use Rattle.std.specs.Prelude.{◌≡◌, ◌+◌, ◌<◌, List, ◌∷◌, [], ◌++◌, false, IfOk, IfSome, IsNone, length};
+ghost use Rattle.std.specs.Prelude.{◌≡◌, ◌+◌, ◌<◌, ℕ, List, ◌∷◌, [], ◌++◌, false, IfOk, IfSome, IsNone, length, true};
 ghost use Rattle.utd_syntax.specs.Table as table;
 ghost use Rattle.utd_syntax.specs.Verdict as verdict;
 ghost use Rattle.utd_ranges.specs.Limits.{is_too_deep};
 ghost use Rattle.value_core.specs.Limits.{most_levels, most_operators};
+ghost use Rattle.utd_builder.specs.Closing.{closes};
 ghost use Rattle.utd_parser.specs.Forms.{forms_of, taking_of};
 ghost use Rattle.utd_parser.specs.Frames.{load_of, symbols_in, stack_of, passed, reach_of};
 
 use crate::form::{Form, Taking, Turn};
-use crate::table::turn;
+use crate::table::{ends_at_closing, turn};
 use std::alloc::AllocError;
+use utd_builder::closes;
 use utd_syntax::Terminal;
 
 /// The levels that are open, the operators in force, and those of them that stand outside the innermost level.
@@ -69,18 +71,44 @@ fn pop(frames: &mut Vec<Frame>) -> Option<Frame>
     frames.pop()
 }
 
+// Past the forms at the front that end before every token that closes.
+fn behind_closed(forms: &'static [Form]) -> &'static [Form]
+    ensures { (x : Terminal) → closes x ≡ true → (base : List table.Symbol) (load : table.Load) (bytes : List ℕ) (behind : Terminal) → verdict.reach (forms_of forms.now ++ base) load x bytes behind ≡ verdict.reach (forms_of result.now ++ base) load x bytes behind }
+{
+    let mut rest = forms;
+    while let Some((form, more)) = rest.split_first() {
+        if !ends_at_closing(*form) {
+            return rest;
+        }
+        rest = more;
+    }
+    rest
+}
+
+// The forms that may take the token: where it closes, those behind the ones that end before each such token.
+fn left_for(forms: &'static [Form], terminal: Terminal) -> &'static [Form]
+    ensures { (base : List table.Symbol) (load : table.Load) (bytes : List ℕ) (behind : Terminal) → verdict.reach (forms_of forms.now ++ base) load terminal bytes behind ≡ verdict.reach (forms_of result.now ++ base) load terminal bytes behind }
+{
+    if closes(terminal) {
+        behind_closed(forms)
+    } else {
+        forms
+    }
+}
+
 // The forms of a frame that end before the token are passed.
 fn pass(forms: &'static [Form], terminal: Terminal, bytes: &[u8], behind: Terminal) -> Passing
     ensures { (base : List table.Symbol) (load : table.Load) → verdict.reach (forms_of forms.now ++ base) load terminal bytes.now behind ≡ passed result base load terminal bytes.now behind }
 {
-    match forms.split_first() {
-        None => Passing::Passed,
-        Some((form, rest)) => match turn(*form, terminal, bytes, behind) {
-            Turn::Never => Passing::Stuck,
-            Turn::Ends => pass(rest, terminal, bytes, behind),
-            Turn::Takes(how, next) => Passing::Takes(how, next, rest),
-        },
+    let mut rest = left_for(forms, terminal);
+    while let Some((form, more)) = rest.split_first() {
+        match turn(*form, terminal, bytes, behind) {
+            Turn::Never => return Passing::Stuck,
+            Turn::Ends => rest = more,
+            Turn::Takes(how, next) => return Passing::Takes(how, next, more),
+        }
     }
+    Passing::Passed
 }
 
 /// The forms that end before the token are passed, and the others are what is left.

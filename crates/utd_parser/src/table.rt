@@ -1,6 +1,7 @@
 // What the next token does where a form may stand.
 ghost use Rattle.std.specs.Prelude.{◌≡◌, ℕ, List, [], if◌then◌else◌};
 ghost use Rattle.utd_syntax.specs.Table as table;
+ghost use Rattle.utd_parser.specs.Closing.{ends_at_closing};
 ghost use Rattle.utd_parser.specs.Forms.{form_of, rows_of, row_of, spelled_as, turn_of};
 
 use crate::form::{Form, PlaceWord, Row, Taking, Turn};
@@ -62,16 +63,14 @@ fn terminal_of(row: &Row) -> Terminal
 fn find(rows: &'static [Row], ends: bool, terminal: Terminal, behind: Terminal) -> Turn
     ensures { (bytes : List ℕ) → turn_of result ≡ table.find (rows_of rows.now) ends terminal bytes behind }
 {
-    match rows.split_first() {
-        None => { if ends { Turn::Ends } else { Turn::Never } }
-        Some((row, rest)) => {
-            if is(terminal_of(row), terminal) {
-                chosen(row, behind)
-            } else {
-                find(rest, ends, terminal, behind)
-            }
+    let mut rest = rows;
+    while let Some((row, more)) = rest.split_first() {
+        if is(terminal_of(row), terminal) {
+            return chosen(row, behind);
         }
+        rest = more;
     }
+    if ends { Turn::Ends } else { Turn::Never }
 }
 
 // What is done with a single token, if it is the one.
@@ -95,5 +94,25 @@ pub fn turn(form: Form, terminal: Terminal, bytes: &[u8], behind: Terminal) -> T
             single(is(Terminal::Name, terminal) && is_same(spelled_as(word), bytes))
         }
         _ => find(rows_at(form), may_end(form), terminal, behind),
+    }
+}
+
+/// The form ends before every token that closes.
+pub fn ends_at_closing(form: Form) -> bool
+    ensures { result ≡ ends_at_closing form }
+{
+    match form {
+        Form::AfterName
+        | Form::MoreProd
+        | Form::MoreSum
+        | Form::MoreCmp
+        | Form::MoreAnd
+        | Form::MoreOr
+        | Form::MaybePortion
+        | Form::MaybeWhere
+        | Form::MorePostfix
+        | Form::MoreInfix
+        | Form::MoreConstraints => true,
+        _ => false,
     }
 }

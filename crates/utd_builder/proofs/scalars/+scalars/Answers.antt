@@ -159,23 +159,23 @@ primary-returns-in-True u c = record { shorter = omega (arith, no-more (left c.a
 pub primary-returns-in_default-terminal : goal.primary-returns-in_default-terminal
 primary-returns-in_default-terminal u c = record { shorter = omega (arith, no-more (left c.args.cursor) (left c.skip-in_default-terminal.result) c.skip-in_default-terminal.ensures); goes_on = λ stack k x h. step-ThePrimary _ _ (left c.args.cursor) (left c.skip-in_default-terminal.result) _ k x (ap function_at (sym c.terminal-terminal.ensures) ∙ sym c.function_word.ensures ∙ c.in_default.is) (ap pair_function_at (sym c.terminal-terminal.ensures) ∙ sym c.pair_word.ensures ∙ c.in_default-pair_word.is) (λ e. c.in_default-terminal.not-Open (c.terminal-terminal.ensures ∙ e)) (λ e. c.in_default-terminal.not-OpenBracket (c.terminal-terminal.ensures ∙ e)) (λ e. c.in_default-terminal.not-First (c.terminal-terminal.ensures ∙ e)) (λ e. c.in_default-terminal.not-Last (c.terminal-terminal.ensures ∙ e)) (λ e. c.in_default-terminal.not-Name (c.terminal-terminal.ensures ∙ e)) (λ e. c.in_default-terminal.not-Digits (c.terminal-terminal.ensures ∙ e)) (λ e. c.in_default-terminal.not-Quoted (c.terminal-terminal.ensures ∙ e)) (λ e. c.in_default-terminal.not-Date (c.terminal-terminal.ensures ∙ e)) (λ e. c.in_default-terminal.not-True (c.terminal-terminal.ensures ∙ e)) c.place-in_default-terminal.ensures refl c.skip-in_default-terminal.ensures h }
 
-pub scalar-conjunction-requires : goal.scalar-conjunction-requires
-scalar-conjunction-requires u c = (omega arith, tt)
+pub disjunction-conjunction-requires : goal.disjunction-conjunction-requires
+disjunction-conjunction-requires u c = (omega arith, tt)
 
-pub scalar-chain-init : goal.scalar-chain-init
-scalar-chain-init u c = rw c.in_ok-tree.ensures.ok ((λ stack k x h. let h1 = scalar-to-conj (left c.args.cursor) _ k x h in c.in_ok-first.ensures.goes_on _ _ x h1), c.in_ok-first.ensures.shorter)
+pub disjunction-chain-init : goal.disjunction-chain-init
+disjunction-chain-init u c = rw c.in_ok-tree.ensures.ok ((λ stack k x h. let h1 = scalar-to-conj (left c.args.cursor) _ k x h in c.in_ok-first.ensures.goes_on _ _ x h1), c.in_ok-first.ensures.shorter)
 
-pub scalar-disjoined-requires : goal.scalar-disjoined-requires
-scalar-disjoined-requires u c = (omega (arith, c.chain.invariant.1), (sym c.terminal.ensures ∙ c.in-Or.is))
+pub disjunction-disjoined-requires : goal.disjunction-disjoined-requires
+disjunction-disjoined-requires u c = (omega (arith, c.chain.invariant.1), (sym c.terminal.ensures ∙ c.in-Or.is))
 
-pub scalar-chain-smaller : goal.scalar-chain-smaller
-scalar-chain-smaller u c = omega (arith, c.in_ok-so_far.ensures.shorter)
+pub disjunction-chain-smaller : goal.disjunction-chain-smaller
+disjunction-chain-smaller u c = omega (arith, c.in_ok-so_far.ensures.shorter)
 
-pub scalar-chain-preserved : goal.scalar-chain-preserved
-scalar-chain-preserved u c = ((λ stack k x h. c.in_ok-so_far.ensures.goes_on stack (λ w. k (w.0, w.1)) x (c.chain.invariant.0 stack k x h)), omega (arith, c.chain.invariant.1, c.in_ok-so_far.ensures.shorter))
+pub disjunction-chain-preserved : goal.disjunction-chain-preserved
+disjunction-chain-preserved u c = ((λ stack k x h. c.in_ok-so_far.ensures.goes_on stack (λ w. k (w.0, w.1)) x (c.chain.invariant.0 stack k x h)), omega (arith, c.chain.invariant.1, c.in_ok-so_far.ensures.shorter))
 
-pub scalar-returns : goal.scalar-returns
-scalar-returns u c = record { shorter = c.chain.invariant.1; goes_on = λ stack k x h. done-MoreOr (left c.chain.so_far.1) _ _ x (λ e. c.in_default.not-Or (c.terminal.ensures ∙ e)) (c.chain.invariant.0 stack k x h) }
+pub disjunction-returns : goal.disjunction-returns
+disjunction-returns u c = record { shorter = c.chain.invariant.1; goes_on = λ stack k x h. done-MoreOr (left c.chain.so_far.1) _ _ x (λ e. c.in_default.not-Or (c.terminal.ensures ∙ e)) (c.chain.invariant.0 stack k x h) }
 
 pub disjoined-conjunction-requires : goal.disjoined-conjunction-requires
 disjoined-conjunction-requires u c = (omega (arith, less t.Or (left c.args.cursor) (left c.skip.result) c.requires refl c.skip.ensures), tt)

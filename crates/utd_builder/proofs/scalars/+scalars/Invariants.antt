@@ -6,7 +6,10 @@ use Rattle.utd_builder.proofs.Paths.{Path}
 use Rattle.utd_builder.proofs.scalars.+scalars.Given as goal
 
 abbrev pub decreases-scalar : goal.decreases-scalar
-decreases-scalar l = 16 * length (left l.cursor) + 9
+decreases-scalar l = 16 * length (left l.cursor) + 10
+
+abbrev pub decreases-disjunction : goal.decreases-disjunction
+decreases-disjunction l = 16 * length (left l.cursor) + 9
 
 abbrev pub decreases-conjunction : goal.decreases-conjunction
 decreases-conjunction l = 16 * length (left l.cursor) + 8
@@ -47,11 +50,11 @@ decreases-pair l = 16 * length (left l.cursor) + 1
 abbrev pub decreases-disjoined : goal.decreases-disjoined
 decreases-disjoined l = 16 * length (left l.cursor) + 8
 
-abbrev pub invariant-scalar-chain : goal.invariant-scalar-chain
-invariant-scalar-chain l = Path TheScalar MoreOr (λ f. f (read_scalar l.so_far.0.value)) (left l.fn.cursor) (left l.so_far.1) × (length (left l.so_far.1) ≤ length (left l.fn.cursor))
+abbrev pub invariant-disjunction-chain : goal.invariant-disjunction-chain
+invariant-disjunction-chain l = Path TheScalar MoreOr (λ f. f (read_scalar l.so_far.0.value)) (left l.fn.cursor) (left l.so_far.1) × (length (left l.so_far.1) ≤ length (left l.fn.cursor))
 
-abbrev pub decreases-scalar-chain : goal.decreases-scalar-chain
-decreases-scalar-chain l = length (left l.so_far.1)
+abbrev pub decreases-disjunction-chain : goal.decreases-disjunction-chain
+decreases-disjunction-chain l = length (left l.so_far.1)
 
 abbrev pub decreases-conjoined : goal.decreases-conjoined
 decreases-conjoined l = 16 * length (left l.cursor) + 7
