@@ -97,7 +97,7 @@ module _ (es : Entries) (target : Name) (at : ℕ) (value : Relation) (constrain
   seen_is = ap (λ (o : Option PlainRelvar). given (Some target) (value_if o) es) (named_first es target at (base value constraints) first)
 
   -- the target's name means the target's rows
-  target_meant : found (Ok []) (known_in seen) target ≡ Ok value.rows
+  pub target_meant : found (Ok []) (known_in seen) target ≡ Ok value.rows
   target_meant =
       let there = given (Some target) (Some value) es in
       let x = given_relvar (Some target) (Some value) target (base value constraints) in

@@ -9,10 +9,17 @@ pub mod DifferenceLemmas
 pub mod ExchangeLemmas
 pub mod RenewedLemmas
 pub mod TurnoverLemmas
+pub mod MarkedLemmas
 pub mod InsertionLemmas
 pub mod NameLemmas
 pub mod PackingLemmas
+pub mod DeletionLemmas
+pub mod PortionLemmas
+pub mod ReductionLemmas
+pub mod RenewalLemmas
+pub mod RevisionLemmas
 pub mod RemovalLemmas
 pub mod RemovedLemmas
 pub mod SourceLemmas
+pub mod ToldLemmas
 pub mod TouchLemmas

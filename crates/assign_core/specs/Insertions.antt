@@ -27,6 +27,7 @@ use Rattle.meaning_core.specs.Names.{IsFirstAt}
 use Rattle.meaning_core.specs.Typing.{IsListIf}
 use Rattle.assign_core.specs.declared.addition.Addition.{Addition}
 use Rattle.assign_core.specs.declared.insertion.Insertion.{Insertion}
+use Rattle.assign_core.specs.declared.target.Target.{Target}
 use Rattle.assign_core.specs.Assignments.{source_value, evaluated, of_values}
 
 -- ---- insertions
@@ -84,6 +85,10 @@ pub record IsSumOf (entries : Entries) (i : Insertion) (at : ℕ) (value operand
 -- the relvars before the insertion
 abbrev pub entries_of : Addition → Entries
 entries_of a = (read_relvars a.relvars.now).relvars
+
+-- the target of the insertion
+abbrev pub target_of : Addition → Target
+target_of a = record { relvars = a.relvars; assignment = a.insertion.assignment; at = a.at; value = a.value }
 
 abbrev pub IsAddition : Addition → Type 0
 IsAddition a = IsSumOf (entries_of a) a.insertion a.at a.value.now a.operand.now

@@ -5,6 +5,12 @@ pub mod Checks
 pub mod Costs
 pub mod Databases
 pub mod Differences
+pub mod Marked
 pub mod Turnovers
 pub mod Insertions
 pub mod Parts
+pub mod Portions
+pub mod Reductions
+pub mod Renewals
+pub mod Revisions
+pub mod Targets

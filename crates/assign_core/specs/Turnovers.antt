@@ -2,16 +2,21 @@
 --     renewed_at      the relvars after an exchange of rows of the one at a place
 --     IsTurnover      what is asked of an exchange that stands ready for a base relvar
 --     after_turnover      the relvars after it
+--     IsKnown      what is known of the rows before it and after it
 --     IsReady, with_ready      what stands ready, and the relvars with it
-use Rattle.std.specs.Prelude.{◌≡◌, ℕ, zero, suc, ◌+◌, ◌≤◌, Bool, false, List, [], ◌∷◌, length, Option, Some, None, IfSome, if◌then◌else◌}
+use Rattle.std.specs.Prelude.{◌≡◌, ℕ, zero, suc, ◌+◌, ◌≤◌, Bool, false, List, [], ◌∷◌, length, Option, Some, None, option_map, IfSome, if◌then◌else◌}
+use Rattle.std.specs.List.{All}
 use Rattle.std.specs.Str.{bytes_eq}
+use Rattle.value_core.specs.RowPacking.{packed}
 use Rattle.value_core.specs.declared.constraint.Constraint.{Constraint}
 use Rattle.value_core.specs.Values.{Name, Row, Relation, most_rows}
 use Rattle.relation_core.specs.Operators.{united}
+use Rattle.row_marks.specs.Marks.{AreMarksOf}
 use Rattle.tree_core.specs.Relvars.{PlainRelvar, base, view, Entries, read_relvars}
 use Rattle.meaning_core.specs.Names.{IsFirstAt}
 use Rattle.u_constraints.specs.Growth.{exchanged}
 use Rattle.u_labels.specs.declared.exchange.Exchange.{Exchange}
+use Rattle.assign_core.specs.declared.turnover.Known.{Known}
 use Rattle.assign_core.specs.declared.turnover.Turnover.{Turnover}
 use Rattle.assign_core.specs.declared.preparing.Ready.{Ready}
 use Rattle.assign_core.specs.declared.preparing.Ready.TheVariants.{Values, Rows}
@@ -64,6 +69,16 @@ IsTurnover t = IsTurnoverOf (before_turnover t) t.name.now t.at t.value.now t.ro
 -- the new value, where it stands ready, is that after the exchange
 abbrev pub IsMade : Turnover → Type 0
 IsMade t = IfSome t.new (λ v. v.now ≡ renewed t.value.now t.rows.now)
+
+-- rows are packed on a list, if one is given
+abbrev pub ArePackedIf : Option (List ℕ) → List Row → Type 0
+ArePackedIf None rows = Unit {0}
+ArePackedIf (Some acl) rows = packed acl rows ≡ rows
+
+-- the marks are those of a relation's rows, and its rows after the exchange are packed on the list, if one is told
+pub record IsKnown (value : Relation) (x : Exchange) (k : Known) : Type 0 where
+  pub marked : All (AreMarksOf value.rows) k.marks.now
+  pub packed : ArePackedIf (option_map (λ l. l.now) k.packed) (renewed value x).rows
 
 -- each row that comes is new, and each that goes was there
 abbrev pub IsCounted : Relation → Exchange → Type 0

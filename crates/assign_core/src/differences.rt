@@ -1,5 +1,5 @@
 // The rows by which the only new value differs from the old one, and constraints asked of them alone.
-ghost use Rattle.std.specs.Prelude.{◌≡◌, ◌+◌, ◌<◌, ◌≤◌, true, length, IfSome, IfOk};
+ghost use Rattle.std.specs.Prelude.{◌≡◌, ◌+◌, ◌<◌, ◌≤◌, true, length, None, Some, IfSome, IfOk};
 ghost use Rattle.value_core.specs.Values.{most_rows, IsRelation};
 ghost use Rattle.relation_core.specs.Operators.{subtracted, united};
 ghost use Rattle.tree_core.specs.Relvars.{read_relvar, read_relvars};
@@ -12,9 +12,10 @@ ghost use Rattle.assign_core.specs.Differences.{HasBoth, IsDifference, IsOnly, I
 
 use crate::changes::value_of;
 use crate::checking::{After, check};
-use crate::turnover::{Turnover, check_turnover, have_room};
+use crate::turnover::{Known, Turnover, check_turnover, have_room};
 use point_core::{Memory, Steps};
 use relation_core::minus;
+use row_marks::Marks;
 use std::alloc::Global;
 use std::sync::ledger::Ledger;
 use tree_core::Relvar;
@@ -65,15 +66,40 @@ fn check_only<'a, L: Ledger>(
     if !is_small(only, &rows) {
         return check(alloc, new, steps);
     }
-    let turnover = Turnover {
+    let marks = Vec::new(alloc);
+    let turnover = turnover_of(new, only, &rows, marks.as_slice());
+    check_turnover(alloc, turnover, steps)
+}
+
+// The turnover that the rows are, with marks of those before.
+fn turnover_of<'a>(
+    new: After<'a>,
+    only: Only<'a>,
+    rows: &'a Exchange,
+    marks: &'a [Marks],
+) -> Turnover<'a>
+    ensures { result ≡ record {
+      relvars = new.entry.relvars;
+      at = only.entry.at;
+      name = only.entry.name;
+      value = only.entry.old;
+      rows = rows.entry;
+      new = Some only.entry.new;
+      known = record { marks = marks.entry; packed = None };
+    } }
+{
+    Turnover {
         relvars: new.relvars,
         at: only.at,
         name: only.name,
         value: only.old,
-        rows: &rows,
+        rows,
         new: Some(only.new),
-    };
-    check_turnover(alloc, turnover, steps)
+        known: Known {
+            marks,
+            packed: None,
+        },
+    }
 }
 
 // The rows that come and those that go.

@@ -5,10 +5,14 @@ ghost use Rattle.relation_core.specs.Operators.{united};
 ghost use Rattle.tree_core.specs.Relvars.{read_entry, read_relvar};
 ghost use Rattle.meaning_core.specs.Names.{with_value};
 ghost use Rattle.assign_core.specs.Changes.{changed, changed_at};
+ghost use Rattle.assign_core.specs.Marked.{AreMarked, AreMarksIn};
 ghost use Rattle.assign_core.specs.Turnovers.{renewed, renewed_at, renewed_relvar, IsExchangeAt, MayExchange};
 
+use crate::marked::{Marked, no_marks, take_marks};
+use crate::marking::exchange_marked;
 use crate::removal::remove;
 use point_core::Memory;
+use row_marks::Marks;
 use std::alloc::Global;
 use tree_core::{Relvar, Relvars};
 use u_labels::Exchange;
@@ -55,9 +59,65 @@ fn put(relvar: &mut Relvar, new: Relation)
     }
 }
 
+/// So many rows at most, of those that come and those that go together, are put in and taken out one by one with their marks.
+const FEW_ROWS: usize = 16;
+
 /// Puts the rows that come among those of the base relvar at a place, and then takes out those that go. For want of memory nothing
-/// changes.
+/// changes. Where they are few the marks are those of this relvar from now on; where they are many no marks are kept.
 pub(crate) fn exchange_rows(
+    relvars: &mut Relvars,
+    marked: &mut Marked,
+    alloc: Global,
+    at: usize,
+    rows: Exchange,
+) -> Result<(), Memory>
+    requires may { IsExchangeAt at rows (map read_entry relvars.old.list.entries) }
+    requires marked { AreMarked marked.old (map read_entry relvars.old.list.entries) }
+    ensures list { OnOk result (map read_entry relvars.new.list.entries ≡ renewed_at at rows (map read_entry relvars.old.list.entries)) }
+    ensures err { OnErr result (map read_entry relvars.new.list.entries ≡ map read_entry relvars.old.list.entries) }
+    ensures ordinals { relvars.new.ordinals ≡ relvars.old.ordinals }
+    ensures marked { AreMarked marked.new (map read_entry relvars.new.list.entries) }
+{
+    if are_few(&rows) {
+        return exchange_few(relvars, marked, alloc, at, rows);
+    }
+    *marked = no_marks(alloc);
+    exchange_many(relvars, alloc, at, rows)
+}
+
+// Whether the rows that come and those that go are few together.
+fn are_few(rows: &Exchange) -> bool {
+    rows.come
+        .rows()
+        .len()
+        .saturating_add(rows.gone.rows().len())
+        <= FEW_ROWS
+}
+
+// Exchanges rows of the base relvar at a place, and keeps its marks.
+fn exchange_few(
+    relvars: &mut Relvars,
+    marked: &mut Marked,
+    alloc: Global,
+    at: usize,
+    rows: Exchange,
+) -> Result<(), Memory>
+    requires may { IsExchangeAt at rows (map read_entry relvars.old.list.entries) }
+    requires marked { AreMarked marked.old (map read_entry relvars.old.list.entries) }
+    ensures list { OnOk result (map read_entry relvars.new.list.entries ≡ renewed_at at rows (map read_entry relvars.old.list.entries)) }
+    ensures err { OnErr result (map read_entry relvars.new.list.entries ≡ map read_entry relvars.old.list.entries) }
+    ensures ordinals { relvars.new.ordinals ≡ relvars.old.ordinals }
+    ensures marked { AreMarked marked.new (map read_entry relvars.new.list.entries) }
+{
+    let mut list = take_marks(marked, alloc, at);
+    let (_, relvar) = relvars.list.pair_mut(at);
+    let result = renew_marked(relvar, &mut list, alloc, rows);
+    *marked = Marked { at, list };
+    result
+}
+
+// Exchanges rows of the base relvar at a place.
+fn exchange_many(
     relvars: &mut Relvars,
     alloc: Global,
     at: usize,
@@ -70,6 +130,31 @@ pub(crate) fn exchange_rows(
 {
     let (_, relvar) = relvars.list.pair_mut(at);
     renew(relvar, alloc, rows)
+}
+
+// Exchanges rows of a base relvar, and keeps their marks.
+fn renew_marked(
+    relvar: &mut Relvar,
+    marks: &mut Vec<Marks>,
+    alloc: Global,
+    rows: Exchange,
+) -> Result<(), Memory>
+    requires may { MayExchange rows (read_relvar relvar.old) }
+    requires marks { AreMarksIn marks.old.items (read_relvar relvar.old) }
+    ensures ok { OnOk result (read_relvar relvar.new ≡ renewed_relvar rows (read_relvar relvar.old)) }
+    ensures err { OnErr result (read_relvar relvar.new ≡ read_relvar relvar.old) }
+    ensures marks { AreMarksIn marks.new.items (read_relvar relvar.new) }
+{
+    match relvar {
+        Relvar::Base {
+            value,
+            constraints: _,
+        } => exchange_marked(value, marks, alloc, rows),
+        Relvar::View {
+            tree: _,
+            history: _,
+        } => Ok(drop(rows)),
+    }
 }
 
 // Exchanges rows of a base relvar.

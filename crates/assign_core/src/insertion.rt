@@ -120,8 +120,8 @@ pub(crate) fn evaluate_operand<'a, L: Ledger>(
     Ok((at, value, operand))
 }
 
-// The place of the target, and its value.
-fn base_at<'a>(relvars: &'a Relvars, assignment: &Assignment) -> (usize, &'a Relation)
+/// The place of the target, and its value.
+pub(crate) fn base_at<'a>(relvars: &'a Relvars, assignment: &Assignment) -> (usize, &'a Relation)
     requires { IsTypedAssignment (read_relvars relvars.now) (read_assignment assignment.now) }
     ensures { (constraints : List Constraint) × IsFirstAt (read_relvars relvars.now).relvars assignment.now.target result.0 (base result.1.now constraints) }
 {

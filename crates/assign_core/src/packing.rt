@@ -1,7 +1,8 @@
 // Insertions under USING into a value that its own constraints keep packed on the very list.
 ghost use Rattle.std.specs.Prelude.{◌≡◌, ◌+◌, ◌≤◌, true, IfSome, IfOk, IfErr, Err, nat_eq};
 ghost use Rattle.std.specs.Cmp.Lexicographic.{pointwise};
-ghost use Rattle.std.specs.List.{list_any};
+ghost use Rattle.std.specs.List.{All, list_any};
+ghost use Rattle.row_marks.specs.Marks.{AreMarksOf};
 ghost use Rattle.value_core.specs.RowPacking.{packed};
 ghost use Rattle.value_core.specs.Values.{Relation as PlainRelation};
 ghost use Rattle.relation_core.specs.Answers.{Answers, under};
@@ -10,10 +11,11 @@ ghost use Rattle.meaning_core.specs.Meanings.{limited};
 ghost use Rattle.u_constraints.specs.Growth.{exchanged};
 ghost use Rattle.u_labels.specs.Exchanges.{IsExchange};
 ghost use Rattle.assign_core.specs.Databases.{IsKept};
-ghost use Rattle.assign_core.specs.Insertions.{addition_cost, is_kept_packed, keeps_packed, value_meant, IsAddition, IsPackedOn};
+ghost use Rattle.assign_core.specs.Insertions.{addition_cost, is_kept_packed, keeps_packed, list_in, value_meant, IsAddition, IsPackedOn};
+ghost use Rattle.assign_core.specs.Turnovers.{ArePackedIf};
 
 use crate::addition::Addition;
-use point_core::{Code, Fault, Steps, Stop};
+use point_core::{Code, Fault, Place, Steps, Stop};
 use relation_core::{absent, union};
 use row_making::told;
 use std::alloc::Global;
@@ -46,8 +48,8 @@ fn is_packed_on(addition: Addition<'_>, acl: &Positions) -> bool
     }
 }
 
-// Whether a constraint of the relvar keeps its rows packed on the list.
-fn is_kept_packed(relvar: &Relvar, acl: &Positions) -> bool
+/// Whether a constraint of the relvar keeps its rows packed on the list.
+pub(crate) fn is_kept_packed(relvar: &Relvar, acl: &Positions) -> bool
     ensures { result ≡ is_kept_packed acl.now (read_relvar relvar.now) }
 {
     match relvar {
@@ -83,8 +85,8 @@ fn keeps_packed(constraint: &Constraint, acl: &Positions) -> bool
     }
 }
 
-// Whether both lists are the same.
-fn are_same(left: &Positions, right: &Positions) -> bool
+/// Whether both lists are the same.
+pub(crate) fn are_same(left: &Positions, right: &Positions) -> bool
     ensures { result ≡ pointwise nat_eq left.now right.now }
 {
     *left.list.as_slice() == *right.list.as_slice()
@@ -98,15 +100,26 @@ pub(crate) fn exchange_of<L: Ledger>(
     steps: &mut Steps<L>,
 ) -> Result<Exchange, Stop>
     requires addition { IsAddition addition }
+    requires marked { All (AreMarksOf addition.value.now.rows) addition.marks.now }
     requires packed { IsPackedOn addition acl.now }
     ensures exchange { IfOk result (IsExchange addition.entry.value.now) }
+    ensures packed { IfOk result (λ x. ArePackedIf (list_in addition.entry.insertion) (exchanged addition.entry.value.now.rows x.gone.rows x.come.rows)) }
     ensures meant { IfOk result (λ x. value_meant addition.entry
         ≡ under addition.entry.value.now.heading (limited addition.entry.insertion.assignment.now.tree.place (exchanged addition.entry.value.now.rows x.gone.rows x.come.rows))) }
     ensures refused { IfErr result (λ stop. Answers {A = PlainRelation} (Err stop) (value_meant addition.entry)) }
     ensures cost { steps.new ≤ steps.old + addition_cost addition.entry }
 {
+    // Each row has the values of its heading.
+    let _rows = addition.value.rows();
+    let _more = addition.operand.rows();
     let list = acl.list.as_slice();
-    match inserted(alloc, addition.value, addition.operand, list, steps) {
+    let Addition {
+        value,
+        marks,
+        operand,
+        ..
+    } = addition;
+    match inserted(alloc, value, marks, operand, list, steps) {
         Ok(rows) => Ok(rows),
         Err(RowsRefuse::TooMany) => Err(Stop::Fault(Fault {
             place: addition.insertion.assignment.tree.place,
@@ -116,20 +129,17 @@ pub(crate) fn exchange_of<L: Ledger>(
     }
 }
 
-/// The target's value after an exchange of rows, or the fault of too many rows.
+/// A relation after an exchange of its rows, or the fault of too many rows at the place.
 pub(crate) fn whole(
     alloc: Global,
-    addition: Addition<'_>,
+    value: &Relation,
+    place: Place,
     rows: &Exchange,
 ) -> Result<Relation, Stop>
-    requires exchange { IsExchange addition.value.now rows.now }
-    ensures { Answers result (under addition.entry.value.now.heading (limited addition.entry.insertion.assignment.now.tree.place
-        (exchanged addition.entry.value.now.rows rows.now.gone.rows rows.now.come.rows))) }
+    requires exchange { IsExchange value.now rows.now }
+    ensures { Answers result (under value.now.heading (limited place (exchanged value.now.rows rows.now.gone.rows rows.now.come.rows))) }
 {
-    let left = absent(alloc, addition.value, &rows.gone)?;
+    let left = absent(alloc, value, &rows.gone)?;
     let come = absent(alloc, &rows.come, &rows.gone)?;
-    told(
-        addition.insertion.assignment.tree.place,
-        union(alloc, &left, &come),
-    )
+    told(place, union(alloc, &left, &come))
 }

@@ -1,31 +1,54 @@
 // What stands ready before anything changes.
 ghost use Rattle.std.specs.Prelude.{◌≡◌, ◌≤◌, ◌+◌, [], ◌∷◌, length, map, replicate, None, Ok, IfOk, IfErr};
 ghost use Rattle.std.specs.List.{All};
+ghost use Rattle.relation_core.specs.Answers.{under};
+ghost use Rattle.row_marks.specs.Marks.{AreMarksOf};
 ghost use Rattle.tree_core.specs.Items.{read_assignment};
 ghost use Rattle.tree_core.specs.Relvars.{read_relvars};
+ghost use Rattle.meaning_core.specs.Meanings.{limited};
 ghost use Rattle.meaning_core.specs.Updates.{IsTypedAssignment};
+ghost use Rattle.u_constraints.specs.Growth.{exchanged};
+ghost use Rattle.u_labels.specs.Exchanges.{IsExchange};
 ghost use Rattle.assign_core.specs.Assignments.{after_assignments, IsRefusedFor, IsAdmitted};
 ghost use Rattle.assign_core.specs.Changes.{AreChanges, changed};
 ghost use Rattle.assign_core.specs.Costs.{assignments_cost, constraints_cost, constraints_cost_of};
 ghost use Rattle.assign_core.specs.Databases.{IsKept};
-ghost use Rattle.assign_core.specs.Turnovers.{with_ready, IsReady};
-ghost use Rattle.assign_core.specs.Insertions.{addition_cost, entries_of, outcome, sum_of, value_meant, IsAddition, IsInsertion, IsPackedOn};
+ghost use Rattle.assign_core.specs.Turnovers.{with_ready, IsKnown, IsReady};
+ghost use Rattle.assign_core.specs.Marked.{AreMarked};
+ghost use Rattle.assign_core.specs.Insertions.{addition_cost, entries_of, outcome, sum_of, IsAddition, IsInsertion, IsPackedOn, IsPlain};
+ghost use Rattle.assign_core.specs.Portions.{IsDeletion};
+ghost use Rattle.assign_core.specs.Reductions.{reduced_target, IsReduction};
+ghost use Rattle.assign_core.specs.Renewals.{renewed_target, IsRenewal};
+ghost use Rattle.assign_core.specs.Revisions.{IsRevision};
+ghost use Rattle.assign_core.specs.Targets.{entries_before, entries_given, result_given, value_given, IsTarget};
 
-use crate::addition::{Addition, admit_rows, is_plain, prepare_rows, put_value, unite};
+use crate::addition::{
+    Addition, admit_rows, is_plain, known_of, prepare_rows, put_value, target_of, unite,
+};
 use crate::changes::none_yet;
 use crate::checking::After;
 use crate::counting::are_few;
 use crate::differences::check_changes;
 use crate::insertion::{Insertion, evaluate_operand, find_insertion};
+use crate::marked::{Marked, marks_at};
 use crate::packing::{exchange_of, packed_list, whole};
+use crate::portion::{Deletion, find_deletion};
+use crate::reduction::{Reduction, deleted, deleted_part, deletion_at};
+use crate::renewal::{Renewal, revised, revised_part, revision_at};
+use crate::revision::{Revision, find_revision};
 use crate::sources::evaluate;
-use crate::turnover::have_room;
-use point_core::{Code, Steps};
+use crate::target::Target;
+use crate::turnover::{Known, have_room};
+use point_core::{Code, Place, Steps};
+use row_marks::Marks;
 use std::alloc::Global;
 use std::sync::ledger::Ledger;
 use tree_core::{Assignment, Relvars};
 use u_labels::Exchange;
 use value_core::{MOST_ROWS_IN_ALL, Positions, Refuse, Relation};
+
+/// So many rows that are there, or fewer, for each one that comes are looked at all.
+const ROWS_FOR_ONE: usize = 32;
 
 /// What stands ready before anything changes: new values, one place for each relvar and view, or an exchange of rows of the base relvar
 /// at a place.
@@ -40,6 +63,137 @@ pub(crate) fn prepare<L: Ledger>(
     alloc: Global,
     list: &[Assignment],
     relvars: &Relvars,
+    marked: &Marked,
+    steps: &mut Steps<L>,
+) -> Result<Ready, Refuse>
+    requires kept { IsKept (read_relvars relvars.now) }
+    requires marked { AreMarked marked.now (read_relvars relvars.now).relvars }
+    requires typed { All (λ a. IsTypedAssignment (read_relvars relvars.now) (read_assignment a)) list.now }
+    ensures ready { IfOk result (λ r. IsReady r (read_relvars relvars.now).relvars) }
+    ensures meant { IfOk result (λ r. after_assignments (read_relvars relvars.now).relvars (map read_assignment list.now) ≡ Ok (with_ready r (read_relvars relvars.now).relvars)) }
+    ensures refused { IfErr result (λ refuse. IsRefusedFor refuse (after_assignments (read_relvars relvars.now).relvars (map read_assignment list.now))) }
+    ensures cost { steps.new ≤ steps.old + assignments_cost (read_relvars relvars.now).relvars (map read_assignment list.now) }
+{
+    match find_insertion(list) {
+        Some(insertion) => prepare_insertion(alloc, insertion, relvars, marked, steps),
+        None => prepare_change(alloc, list, relvars, marked, steps),
+    }
+}
+
+// What stands ready for all targets, or why the assignments are refused. A deletion by a condition looks at the rows that this concerns,
+// where they are few.
+fn prepare_change<L: Ledger>(
+    alloc: Global,
+    list: &[Assignment],
+    relvars: &Relvars,
+    marked: &Marked,
+    steps: &mut Steps<L>,
+) -> Result<Ready, Refuse>
+    requires kept { IsKept (read_relvars relvars.now) }
+    requires marked { AreMarked marked.now (read_relvars relvars.now).relvars }
+    requires typed { All (λ a. IsTypedAssignment (read_relvars relvars.now) (read_assignment a)) list.now }
+    ensures ready { IfOk result (λ r. IsReady r (read_relvars relvars.now).relvars) }
+    ensures meant { IfOk result (λ r. after_assignments (read_relvars relvars.now).relvars (map read_assignment list.now) ≡ Ok (with_ready r (read_relvars relvars.now).relvars)) }
+    ensures refused { IfErr result (λ refuse. IsRefusedFor refuse (after_assignments (read_relvars relvars.now).relvars (map read_assignment list.now))) }
+    ensures cost { steps.new ≤ steps.old + assignments_cost (read_relvars relvars.now).relvars (map read_assignment list.now) }
+{
+    match find_deletion(list) {
+        Some(deletion) => prepare_deletion(alloc, deletion, list, relvars, marked, steps),
+        None => prepare_update(alloc, list, relvars, marked, steps),
+    }
+}
+
+// What stands ready for all targets, or why the assignments are refused. A revision by conditions looks at the rows that these concern,
+// where they are few.
+fn prepare_update<L: Ledger>(
+    alloc: Global,
+    list: &[Assignment],
+    relvars: &Relvars,
+    marked: &Marked,
+    steps: &mut Steps<L>,
+) -> Result<Ready, Refuse>
+    requires kept { IsKept (read_relvars relvars.now) }
+    requires marked { AreMarked marked.now (read_relvars relvars.now).relvars }
+    requires typed { All (λ a. IsTypedAssignment (read_relvars relvars.now) (read_assignment a)) list.now }
+    ensures ready { IfOk result (λ r. IsReady r (read_relvars relvars.now).relvars) }
+    ensures meant { IfOk result (λ r. after_assignments (read_relvars relvars.now).relvars (map read_assignment list.now) ≡ Ok (with_ready r (read_relvars relvars.now).relvars)) }
+    ensures refused { IfErr result (λ refuse. IsRefusedFor refuse (after_assignments (read_relvars relvars.now).relvars (map read_assignment list.now))) }
+    ensures cost { steps.new ≤ steps.old + assignments_cost (read_relvars relvars.now).relvars (map read_assignment list.now) }
+{
+    match find_revision(list) {
+        Some(revision) => prepare_revision(alloc, revision, list, relvars, marked, steps),
+        None => prepare_all(alloc, list, relvars, steps),
+    }
+}
+
+// What stands ready for the target of a revision, or why it is refused.
+fn prepare_revision<L: Ledger>(
+    alloc: Global,
+    revision: Revision<'_>,
+    list: &[Assignment],
+    relvars: &Relvars,
+    marked: &Marked,
+    steps: &mut Steps<L>,
+) -> Result<Ready, Refuse>
+    requires kept { IsKept (read_relvars relvars.now) }
+    requires marked { AreMarked marked.now (read_relvars relvars.now).relvars }
+    requires revision { IsRevision revision }
+    requires alone { map read_assignment list.now ≡ read_assignment revision.assignment.now ∷ [] }
+    requires typed { All (λ a. IsTypedAssignment (read_relvars relvars.now) (read_assignment a)) list.now }
+    ensures ready { IfOk result (λ r. IsReady r (read_relvars relvars.now).relvars) }
+    ensures meant { IfOk result (λ r. after_assignments (read_relvars relvars.now).relvars (map read_assignment list.now) ≡ Ok (with_ready r (read_relvars relvars.now).relvars)) }
+    ensures refused { IfErr result (λ refuse. IsRefusedFor refuse (after_assignments (read_relvars relvars.now).relvars (map read_assignment list.now))) }
+    ensures cost { steps.new ≤ steps.old + assignments_cost (read_relvars relvars.now).relvars (map read_assignment list.now) }
+{
+    let (at, value) = revision_at(relvars, revision);
+    match revised_part(alloc, relvars, revision, at, value)? {
+        Some(part) => {
+            let renewal = Renewal {
+                relvars,
+                revision,
+                at,
+                value,
+                part: &part,
+            };
+            prepare_renewal(alloc, renewal, marks_at(marked, at), steps)
+        }
+        None => prepare_all(alloc, list, relvars, steps),
+    }
+}
+
+// What stands ready for the target of a revision that concerns few rows, or why it is refused.
+fn prepare_renewal<L: Ledger>(
+    alloc: Global,
+    renewal: Renewal<'_>,
+    marks: &[Marks],
+    steps: &mut Steps<L>,
+) -> Result<Ready, Refuse>
+    requires kept { IsKept (read_relvars renewal.relvars.now) }
+    requires renewal { IsRenewal renewal }
+    requires marked { All (AreMarksOf renewal.value.now.rows) marks.now }
+    ensures ready { IfOk result (λ r. IsReady r (entries_before (renewed_target renewal.entry))) }
+    ensures meant { IfOk result (λ r. result_given (renewed_target renewal.entry) ≡ Ok (with_ready r (entries_before (renewed_target renewal.entry)))) }
+    ensures refused { IfErr result (λ refuse. IsRefusedFor refuse (result_given (renewed_target renewal.entry))) }
+    ensures cost { steps.new ≤ steps.old + assignments_cost (entries_before (renewed_target renewal.entry)) (read_assignment renewal.entry.revision.assignment.now ∷ []) }
+{
+    let none = none_yet(alloc, renewal.relvars)?;
+    let rows = revised(alloc, renewal, steps)?;
+    let target = Target {
+        relvars: renewal.relvars,
+        assignment: renewal.revision.assignment,
+        at: renewal.at,
+        value: renewal.value,
+    };
+    let place = renewal.revision.assignment.tree.place;
+    let known = marked_alone(marks);
+    prepare_exchange(alloc, target, place, rows, known, none.as_slice(), steps)
+}
+
+// What stands ready for all targets, whose values are made whole.
+fn prepare_all<L: Ledger>(
+    alloc: Global,
+    list: &[Assignment],
+    relvars: &Relvars,
     steps: &mut Steps<L>,
 ) -> Result<Ready, Refuse>
     requires kept { IsKept (read_relvars relvars.now) }
@@ -49,12 +203,80 @@ pub(crate) fn prepare<L: Ledger>(
     ensures refused { IfErr result (λ refuse. IsRefusedFor refuse (after_assignments (read_relvars relvars.now).relvars (map read_assignment list.now))) }
     ensures cost { steps.new ≤ steps.old + assignments_cost (read_relvars relvars.now).relvars (map read_assignment list.now) }
 {
-    match find_insertion(list) {
-        Some(insertion) => prepare_insertion(alloc, insertion, relvars, steps),
-        None => {
-            let changes = prepare_values(alloc, list, relvars, steps)?;
-            Ok(Ready::Values(changes))
+    let changes = prepare_values(alloc, list, relvars, steps)?;
+    Ok(Ready::Values(changes))
+}
+
+// What stands ready for the target of a deletion, or why it is refused.
+fn prepare_deletion<L: Ledger>(
+    alloc: Global,
+    deletion: Deletion<'_>,
+    list: &[Assignment],
+    relvars: &Relvars,
+    marked: &Marked,
+    steps: &mut Steps<L>,
+) -> Result<Ready, Refuse>
+    requires kept { IsKept (read_relvars relvars.now) }
+    requires marked { AreMarked marked.now (read_relvars relvars.now).relvars }
+    requires deletion { IsDeletion deletion }
+    requires alone { map read_assignment list.now ≡ read_assignment deletion.assignment.now ∷ [] }
+    requires typed { All (λ a. IsTypedAssignment (read_relvars relvars.now) (read_assignment a)) list.now }
+    ensures ready { IfOk result (λ r. IsReady r (read_relvars relvars.now).relvars) }
+    ensures meant { IfOk result (λ r. after_assignments (read_relvars relvars.now).relvars (map read_assignment list.now) ≡ Ok (with_ready r (read_relvars relvars.now).relvars)) }
+    ensures refused { IfErr result (λ refuse. IsRefusedFor refuse (after_assignments (read_relvars relvars.now).relvars (map read_assignment list.now))) }
+    ensures cost { steps.new ≤ steps.old + assignments_cost (read_relvars relvars.now).relvars (map read_assignment list.now) }
+{
+    let (at, value) = deletion_at(relvars, deletion);
+    match deleted_part(alloc, relvars, deletion, at, value)? {
+        Some(part) => {
+            let reduction = Reduction {
+                relvars,
+                deletion,
+                at,
+                value,
+                part: &part,
+            };
+            prepare_reduction(alloc, reduction, marks_at(marked, at), steps)
         }
+        None => prepare_all(alloc, list, relvars, steps),
+    }
+}
+
+// What stands ready for the target of a deletion that concerns few rows, or why it is refused.
+fn prepare_reduction<L: Ledger>(
+    alloc: Global,
+    reduction: Reduction<'_>,
+    marks: &[Marks],
+    steps: &mut Steps<L>,
+) -> Result<Ready, Refuse>
+    requires kept { IsKept (read_relvars reduction.relvars.now) }
+    requires reduction { IsReduction reduction }
+    requires marked { All (AreMarksOf reduction.value.now.rows) marks.now }
+    ensures ready { IfOk result (λ r. IsReady r (entries_before (reduced_target reduction.entry))) }
+    ensures meant { IfOk result (λ r. result_given (reduced_target reduction.entry) ≡ Ok (with_ready r (entries_before (reduced_target reduction.entry)))) }
+    ensures refused { IfErr result (λ refuse. IsRefusedFor refuse (result_given (reduced_target reduction.entry))) }
+    ensures cost { steps.new ≤ steps.old + assignments_cost (entries_before (reduced_target reduction.entry)) (read_assignment reduction.entry.deletion.assignment.now ∷ []) }
+{
+    let none = none_yet(alloc, reduction.relvars)?;
+    let rows = deleted(alloc, reduction, steps)?;
+    let target = Target {
+        relvars: reduction.relvars,
+        assignment: reduction.deletion.assignment,
+        at: reduction.at,
+        value: reduction.value,
+    };
+    let place = reduction.deletion.kept.place;
+    let known = marked_alone(marks);
+    prepare_exchange(alloc, target, place, rows, known, none.as_slice(), steps)
+}
+
+// The marks of rows, where nothing is known of those that come after them.
+fn marked_alone(marks: &[Marks]) -> Known<'_>
+    ensures { result ≡ record { marks = marks.entry; packed = None } }
+{
+    Known {
+        marks,
+        packed: None,
     }
 }
 
@@ -63,9 +285,11 @@ fn prepare_insertion<L: Ledger>(
     alloc: Global,
     insertion: Insertion<'_>,
     relvars: &Relvars,
+    marked: &Marked,
     steps: &mut Steps<L>,
 ) -> Result<Ready, Refuse>
     requires kept { IsKept (read_relvars relvars.now) }
+    requires marked { AreMarked marked.now (read_relvars relvars.now).relvars }
     requires insertion { IsInsertion insertion }
     requires typed { IsTypedAssignment (read_relvars relvars.now) (read_assignment insertion.assignment.now) }
     ensures ready { IfOk result (λ r. IsReady r (read_relvars relvars.now).relvars) }
@@ -81,6 +305,7 @@ fn prepare_insertion<L: Ledger>(
         relvars,
         at,
         value,
+        marks: marks_at(marked, at),
         operand: &operand,
     };
     prepare_addition(alloc, addition, none.as_slice(), steps)
@@ -96,6 +321,7 @@ fn prepare_addition<L: Ledger>(
     requires kept { IsKept (read_relvars addition.relvars.now) }
     requires none { none.now ≡ replicate (length addition.relvars.now.list.entries) None }
     requires addition { IsAddition addition }
+    requires marked { All (AreMarksOf addition.value.now.rows) addition.marks.now }
     ensures ready { IfOk result (λ r. IsReady r (entries_of addition.entry)) }
     ensures meant { IfOk result (λ r. outcome addition.entry ≡ Ok (with_ready r (entries_of addition.entry))) }
     ensures refused { IfErr result (λ refuse. IsRefusedFor refuse (outcome addition.entry)) }
@@ -107,7 +333,13 @@ fn prepare_addition<L: Ledger>(
     }
 }
 
-// What stands ready where the target is kept packed on the list: rows of the labels that come are exchanged.
+// Whether the rows that come are so many that a look at all rows that are there is cheap beside reading them.
+fn comes_in_bulk(addition: Addition<'_>) -> bool {
+    addition.operand.rows().len() > addition.value.rows().len() / ROWS_FOR_ONE
+}
+
+// What stands ready where the target is kept packed on the list: rows of the labels that come are exchanged. Many rows that come are first
+// held against all others: where they have nothing to do with each other's points, no label is packed anew.
 fn prepare_packed<L: Ledger>(
     alloc: Global,
     addition: Addition<'_>,
@@ -118,20 +350,50 @@ fn prepare_packed<L: Ledger>(
     requires kept { IsKept (read_relvars addition.relvars.now) }
     requires none { none.now ≡ replicate (length addition.relvars.now.list.entries) None }
     requires addition { IsAddition addition }
+    requires marked { All (AreMarksOf addition.value.now.rows) addition.marks.now }
     requires packed { IsPackedOn addition acl.now }
     ensures ready { IfOk result (λ r. IsReady r (entries_of addition.entry)) }
     ensures meant { IfOk result (λ r. outcome addition.entry ≡ Ok (with_ready r (entries_of addition.entry))) }
     ensures refused { IfErr result (λ refuse. IsRefusedFor refuse (outcome addition.entry)) }
     ensures cost { steps.new ≤ steps.old + (addition_cost addition.entry + constraints_cost_of (sum_of addition.entry)) }
 {
+    if comes_in_bulk(addition) && is_plain(alloc, addition)? {
+        return prepare_plain(alloc, addition, none, steps);
+    }
     let rows = exchange_of(alloc, addition, acl, steps)?;
-    if !have_room(addition.value, &rows) {
-        let value = whole(alloc, addition, &rows)?;
-        let changes = prepare_value(alloc, addition, value, steps)?;
+    let place = addition.insertion.assignment.tree.place;
+    let known = known_of(addition);
+    prepare_exchange(alloc, target_of(addition), place, rows, known, none, steps)
+}
+
+// What stands ready where rows of the target are exchanged, or why that is refused.
+fn prepare_exchange<L: Ledger>(
+    alloc: Global,
+    target: Target<'_>,
+    place: Place,
+    rows: Exchange,
+    known: Known<'_>,
+    none: &[Option<Relation>],
+    steps: &mut Steps<L>,
+) -> Result<Ready, Refuse>
+    requires kept { IsKept (read_relvars target.relvars.now) }
+    requires none { none.now ≡ replicate (length target.relvars.now.list.entries) None }
+    requires target { IsTarget target }
+    requires exchange { IsExchange target.value.now rows }
+    requires known { IsKnown target.value.now rows known }
+    requires meant { value_given target ≡ under target.value.now.heading (limited place (exchanged target.value.now.rows rows.gone.rows rows.come.rows)) }
+    ensures ready { IfOk result (λ r. IsReady r (entries_before target.entry)) }
+    ensures meant { IfOk result (λ r. result_given target.entry ≡ Ok (with_ready r (entries_before target.entry))) }
+    ensures refused { IfErr result (λ refuse. IsRefusedFor refuse (result_given target.entry)) }
+    ensures cost { steps.new ≤ steps.old + constraints_cost_of (entries_given target.entry) }
+{
+    if !have_room(target.value, &rows) {
+        let value = whole(alloc, target.value, place, &rows)?;
+        let changes = prepare_value(alloc, target, value, steps)?;
         return Ok(Ready::Values(changes));
     }
-    admit_rows(alloc, addition, &rows, none, steps)?;
-    Ok(Ready::Rows(addition.at, rows))
+    admit_rows(alloc, target, &rows, known, none, steps)?;
+    Ok(Ready::Rows(target.at, rows))
 }
 
 // What stands ready where the target's rows may be any.
@@ -144,39 +406,60 @@ fn prepare_any<L: Ledger>(
     requires kept { IsKept (read_relvars addition.relvars.now) }
     requires none { none.now ≡ replicate (length addition.relvars.now.list.entries) None }
     requires addition { IsAddition addition }
+    requires marked { All (AreMarksOf addition.value.now.rows) addition.marks.now }
     ensures ready { IfOk result (λ r. IsReady r (entries_of addition.entry)) }
     ensures meant { IfOk result (λ r. outcome addition.entry ≡ Ok (with_ready r (entries_of addition.entry))) }
     ensures refused { IfErr result (λ refuse. IsRefusedFor refuse (outcome addition.entry)) }
     ensures cost { steps.new ≤ steps.old + (addition_cost addition.entry + constraints_cost_of (sum_of addition.entry)) }
 {
     if is_plain(alloc, addition)? {
-        let rows = prepare_rows(alloc, addition, none, steps)?;
-        Ok(Ready::Rows(addition.at, rows))
-    } else {
-        let value = unite(alloc, addition, steps)?;
-        let changes = prepare_value(alloc, addition, value, steps)?;
-        Ok(Ready::Values(changes))
+        return prepare_plain(alloc, addition, none, steps);
     }
+    let value = unite(alloc, addition, steps)?;
+    let changes = prepare_value(alloc, target_of(addition), value, steps)?;
+    Ok(Ready::Values(changes))
 }
 
-// The target's new value, or why the insertion is refused.
-fn prepare_value<L: Ledger>(
+// What stands ready where the rows of both stay as they are: those that come are put among those that are there.
+fn prepare_plain<L: Ledger>(
     alloc: Global,
     addition: Addition<'_>,
+    none: &[Option<Relation>],
+    steps: &mut Steps<L>,
+) -> Result<Ready, Refuse>
+    requires kept { IsKept (read_relvars addition.relvars.now) }
+    requires none { none.now ≡ replicate (length addition.relvars.now.list.entries) None }
+    requires addition { IsAddition addition }
+    requires marked { All (AreMarksOf addition.value.now.rows) addition.marks.now }
+    requires plain { IsPlain addition }
+    ensures ready { IfOk result (λ r. IsReady r (entries_of addition.entry)) }
+    ensures meant { IfOk result (λ r. outcome addition.entry ≡ Ok (with_ready r (entries_of addition.entry))) }
+    ensures refused { IfErr result (λ refuse. IsRefusedFor refuse (outcome addition.entry)) }
+    ensures cost { steps.new ≤ steps.old + (addition_cost addition.entry + constraints_cost_of (sum_of addition.entry)) }
+{
+    let rows = prepare_rows(alloc, addition, none, steps)?;
+    Ok(Ready::Rows(addition.at, rows))
+}
+
+// The target's new value, or why it is refused.
+fn prepare_value<L: Ledger>(
+    alloc: Global,
+    target: Target<'_>,
     value: Relation,
     steps: &mut Steps<L>,
 ) -> Result<Vec<Option<Relation>>, Refuse>
-    requires kept { IsKept (read_relvars addition.relvars.now) }
-    requires addition { IsAddition addition }
-    requires meant { value_meant addition ≡ Ok value }
-    ensures changes { IfOk result (λ v. AreChanges v.items (entries_of addition.entry)) }
-    ensures ready { IfOk result (λ v. outcome addition.entry ≡ Ok (changed v.items (entries_of addition.entry))) }
-    ensures refused { IfErr result (λ refuse. IsRefusedFor refuse (outcome addition.entry)) }
-    ensures cost { steps.new ≤ steps.old + constraints_cost_of (sum_of addition.entry) }
+    requires kept { IsKept (read_relvars target.relvars.now) }
+    requires target { IsTarget target }
+    requires headed { value.heading ≡ target.value.now.heading }
+    requires meant { value_given target ≡ Ok value }
+    ensures changes { IfOk result (λ v. AreChanges v.items (entries_before target.entry)) }
+    ensures ready { IfOk result (λ v. result_given target.entry ≡ Ok (changed v.items (entries_before target.entry))) }
+    ensures refused { IfErr result (λ refuse. IsRefusedFor refuse (result_given target.entry)) }
+    ensures cost { steps.new ≤ steps.old + constraints_cost_of (entries_given target.entry) }
 {
-    let mut changes = none_yet(alloc, addition.relvars)?;
-    put_value(addition, &mut changes, value);
-    admit(alloc, addition.relvars, changes.as_slice(), steps)?;
+    let mut changes = none_yet(alloc, target.relvars)?;
+    put_value(target, &mut changes, value);
+    admit(alloc, target.relvars, changes.as_slice(), steps)?;
     Ok(changes)
 }
 

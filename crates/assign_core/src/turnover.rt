@@ -1,9 +1,9 @@
 // Constraints after rows have come to one base relvar and others have gone: those of its touched keys, and those of the relvars that
 // name it.
-ghost use Rattle.std.specs.Prelude.{◌≡◌, ◌+◌, ◌<◌, ◌≤◌, length, option_map, slice_index_or, true, None, Some, IfOk, if◌then◌else◌};
+ghost use Rattle.std.specs.Prelude.{◌≡◌, ◌+◌, ◌<◌, ◌≤◌, List, length, option_map, slice_index_or, true, None, Some, IfOk, if◌then◌else◌};
 ghost use Rattle.std.specs.List.{All};
 ghost use Rattle.std.specs.Result.{result_err};
-ghost use Rattle.value_core.specs.Values.{Name as PlainName, most_rows};
+ghost use Rattle.value_core.specs.Values.{Name as PlainName, Row, most_rows};
 ghost use Rattle.relation_core.specs.Operators.{united};
 ghost use Rattle.tree_core.specs.Relvars.{read_relvars, read_relvar, relvar_named, PlainRelvar};
 ghost use Rattle.u_constraints.specs.Constraints.{broken, names_relvar};
@@ -11,21 +11,30 @@ ghost use Rattle.assign_core.specs.Breaches.{first_broken, first_in, first_of, r
 ghost use Rattle.assign_core.specs.Changes.{Tells};
 ghost use Rattle.assign_core.specs.Checks.{AllChecked, AreChecked, IsChecked};
 ghost use Rattle.assign_core.specs.Costs.{cost_over, looked_at, looked_at_in, looked_at_all};
-ghost use Rattle.assign_core.specs.Turnovers.{renewed, renewed_relvar, after_turnover, before_turnover, names_changed, rows_after, IsMade, IsTurnover};
+ghost use Rattle.assign_core.specs.Turnovers.{renewed, renewed_relvar, after_turnover, before_turnover, names_changed, rows_after, IsKnown, IsMade, IsTurnover};
 
 use crate::changes::value_of;
 use crate::checking::breach;
+use crate::packing::are_same;
 use crate::removal::remove;
 use point_core::{Code, Memory, Steps};
+use row_marks::Marks;
 use std::alloc::Global;
 use std::sync::ledger::Ledger;
 use tree_core::{Relvar, Relvars};
-use u_constraints::{holds, holds_beside, holds_with};
+use u_constraints::{are_all, holds, holds_beside, holds_with};
 use u_labels::Exchange;
-use value_core::{Constraint, MOST_ROWS, Name, Refuse, Relation};
+use value_core::{Constraint, MOST_ROWS, Name, Positions, Refuse, Relation};
+
+/// What is known of a relation whose rows are exchanged: marks of those before, and the list on which those after are packed, if one is.
+#[derive(Clone, Copy)]
+pub(crate) struct Known<'a> {
+    pub marks: &'a [Marks],
+    pub packed: Option<&'a Positions>,
+}
 
 /// Rows that a base relvar is to gain, and rows that it is then to lose: the place and the name of the relvar, its value, the rows, and
-/// the new value where it is made already.
+/// the new value where it is made already, and what else is known.
 #[derive(Clone, Copy)]
 pub(crate) struct Turnover<'a> {
     pub relvars: &'a Relvars,
@@ -34,6 +43,7 @@ pub(crate) struct Turnover<'a> {
     pub value: &'a Relation,
     pub rows: &'a Exchange,
     pub new: Option<&'a Relation>,
+    pub known: Known<'a>,
 }
 
 /// Whether there is room for the rows that come beside those that are there.
@@ -58,6 +68,7 @@ pub(crate) fn check_turnover<L: Ledger>(
 ) -> Result<(), Refuse>
     requires turnover { IsTurnover turnover }
     requires made { IsMade turnover }
+    requires known { IsKnown turnover.value.now turnover.rows.now turnover.known }
     requires checked { AllChecked (before_turnover turnover) (before_turnover turnover) }
     requires held { first_broken (before_turnover turnover) ≡ None }
     ensures told { Tells result (first_broken (after_turnover turnover.entry)) }
@@ -78,6 +89,7 @@ fn check_at<L: Ledger>(
 ) -> Result<(), Refuse>
     requires turnover { IsTurnover turnover }
     requires made { IsMade turnover }
+    requires known { IsKnown turnover.value.now turnover.rows.now turnover.known }
     requires within { at < length turnover.relvars.now.list.entries }
     requires checked { AllChecked (before_turnover turnover) (before_turnover turnover) }
     requires held { first_broken (before_turnover turnover) ≡ None }
@@ -103,6 +115,7 @@ fn check_relvar<L: Ledger>(
 ) -> Result<(), Refuse>
     requires turnover { IsTurnover turnover }
     requires made { IsMade turnover }
+    requires known { IsKnown turnover.value.now turnover.rows.now turnover.known }
     requires own { changes ≡ true → value_of (read_relvar relvar.now) ≡ Some turnover.value.now }
     requires checked { AreChecked (before_turnover turnover) (read_relvar relvar.now) }
     requires held { first_in (before_turnover turnover) name.now (read_relvar relvar.now) ≡ None }
@@ -139,6 +152,7 @@ fn check_list<L: Ledger>(
 ) -> Result<(), Refuse>
     requires turnover { IsTurnover turnover }
     requires made { IsMade turnover }
+    requires known { IsKnown turnover.value.now turnover.rows.now turnover.known }
     requires own { own.changes ≡ true → own.of.now ≡ turnover.value.now }
     requires checked { All (IsChecked (before_turnover turnover) own.of.now.heading) list.now }
     requires held { All (λ c. broken c own.of.now.rows (rows_named (before_turnover turnover) c) ≡ None) list.now }
@@ -164,6 +178,7 @@ fn check_one<L: Ledger>(
 ) -> Result<Result<(), Code>, Memory>
     requires turnover { IsTurnover turnover }
     requires made { IsMade turnover }
+    requires known { IsKnown turnover.value.now turnover.rows.now turnover.known }
     requires own { own.changes ≡ true → own.of.now ≡ turnover.value.now }
     requires checked { IsChecked (before_turnover turnover) own.of.now.heading constraint.now }
     requires held { broken constraint.now own.of.now.rows (rows_named (before_turnover turnover) constraint.now) ≡ None }
@@ -172,13 +187,36 @@ fn check_one<L: Ledger>(
 {
     match (own.changes, names_changed(turnover, constraint)) {
         (true, true) => holds_within(alloc, turnover, constraint, steps),
+        (true, false) if is_told(turnover, own.of, constraint) => Ok(Ok(())),
         (true, false) => {
             let other = named(turnover.relvars, constraint);
             let Exchange { come, gone } = turnover.rows;
-            holds_with(alloc, constraint, own.of, gone, come, other, steps)
+            let marks = turnover.known.marks;
+            holds_with(alloc, constraint, own.of, marks, gone, come, other, steps)
         }
         (false, true) => holds_of_other(alloc, turnover, own.of, constraint, steps),
         (false, false) => Ok(Ok(())),
+    }
+}
+
+// Whether a constraint of the relvar that changes holds after the turnover by the list alone on which its rows are then packed: it asks
+// that they are, or for a key of all attributes besides.
+fn is_told(turnover: Turnover<'_>, of: &Relation, constraint: &Constraint) -> bool
+    requires turnover { IsTurnover turnover }
+    requires known { IsKnown turnover.value.now turnover.rows.now turnover.known }
+    requires own { of.now ≡ turnover.value.now }
+    requires checked { IsChecked (before_turnover turnover) of.now.heading constraint.now }
+    ensures { result ≡ true → (others : List Row) → broken constraint.now (rows_after turnover.entry true of.now.rows) others ≡ None }
+{
+    // Each row has a value of each attribute.
+    let _come = turnover.rows.come.rows();
+    let many = of.heading().attributes().len();
+    match (turnover.known.packed, constraint) {
+        (Some(acl), Constraint::Packed(own)) => are_same(own, acl),
+        (Some(acl), Constraint::UKey(own, key)) => {
+            are_same(own, acl) && are_all(key.list.as_slice(), many)
+        }
+        _ => false,
     }
 }
 

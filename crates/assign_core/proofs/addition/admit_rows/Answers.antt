@@ -8,7 +8,7 @@ use Rattle.assign_core.proofs.addition.admit_rows.Goals as goal
 
 pub admit_turnover-requires-clause-checked : goal.admit_turnover-requires-clause-checked
 admit_turnover-requires-clause-checked g c =
-    let s = c.args.addition.relvars.now in
+    let s = c.args.target.relvars.now in
     let raw = s.list.entries in
     let es = map read_entry raw in
     let none : Changes = replicate (length raw) None in

@@ -2,15 +2,17 @@ use Rattle.std.proofs.Common.{◌≡◌, ◌≤◌, ◌<◌, List, [], length, m
 use Rattle.base_core.proofs.SetLemmas.{Ascends-from_sorted}
 use Rattle.value_core.specs.Values.{row_cmp, Row, Relation, most_rows}
 use Rattle.relation_core.specs.Answers.{under}
+use Rattle.relation_core.specs.Operators.{united}
 use Rattle.tree_core.specs.Items.{read_assignment}
 use Rattle.meaning_core.specs.Meanings.{limited}
 use Rattle.u_constraints.specs.Growth.{exchanged}
 use Rattle.u_labels.specs.declared.exchange.Exchange.{Exchange}
-use Rattle.assign_core.specs.Insertions.{entries_of}
+use Rattle.assign_core.specs.Insertions.{entries_of, list_in, united_in}
 use Rattle.assign_core.specs.Parts.{names_in}
 use Rattle.assign_core.proofs.AdditionLemmas.{by_new, sum_ready, sum_over}
-use Rattle.assign_core.proofs.TurnoverLemmas.{long_new, long_exchanged}
+use Rattle.assign_core.proofs.TurnoverLemmas.{long_new, long_exchanged, none_go, united_new}
 use Rattle.assign_core.proofs.NameLemmas.{distinct_later}
+use Rattle.assign_core.proofs.ToldLemmas.{are_packed}
 use Rattle.assign_core.proofs.addition.new_rows.Goals as goal
 
 pub returns-then-rows-room-clause-refused : goal.returns-then-rows-room-clause-refused
@@ -85,3 +87,16 @@ returns-clause-ready c =
     let different = distinct_later (map (λ o. o.name) a.relvars.now.ordinals) (names_in es) c.requires.kept.well_made.different in
     let meant = k.meant ∙ ap (λ (r : List Row). under value.heading (limited t.tree.place r)) c.requires.plain in
     sum_ready es (read_assignment t) a.at value k.constraints k.first t.tree.place x (by_new es (read_assignment t) a.at value k.constraints k.first t.tree.place x a.operand.now.rows meant new none) fits different
+
+pub returns-clause-packed : goal.returns-clause-packed
+returns-clause-packed c =
+    let a = c.args.addition in
+    let k = c.requires.addition in
+    let value = a.value.now in
+    let operand = a.operand.now in
+    let come = c.in_ok-come.come in
+    let none : c.in_ok-gone.gone.rows ≡ [] = ap (λ (r : Relation). r.rows) c.in_ok-gone.ensures in
+    let rows : List Row = exchanged value.rows c.in_ok-gone.gone.rows come.rows in
+    let e : rows ≡ united_in (list_in a.insertion) value.rows operand.rows =
+    ap (λ (rs : List Row). exchanged value.rows rs come.rows) none ∙ none_go value.rows come.rows ∙ ap (united value.rows) c.in_ok-come.ensures.1 ∙ united_new value.rows operand.rows ∙ sym c.requires.plain in
+    are_packed value operand c.rows.ensures.relation c.rows-rows.ensures.relation (sym k.headed) (list_in a.insertion) k.listed rows e

@@ -6,8 +6,10 @@ use Rattle.relation_core.specs.Operators.{united}
 use Rattle.meaning_core.specs.Meanings.{limited}
 use Rattle.meaning_core.specs.Typing.{IsListIf}
 use Rattle.using_core.proofs.ListLemmas.{intervals_of_list}
+use Rattle.u_constraints.specs.Growth.{exchanged}
 use Rattle.assign_core.specs.Insertions.{list_in, united_in, united_cost}
 use Rattle.assign_core.proofs.AdditionLemmas.{limited_over}
+use Rattle.assign_core.proofs.ToldLemmas.{are_packed}
 use Rattle.assign_core.proofs.packing.exchange_of.Goals as goal
 
 pub inserted-requires-clause-intervals : goal.inserted-requires-clause-intervals
@@ -47,3 +49,15 @@ returns-in-Ok-clause-cost g c =
     let a = c.args.addition in
     let is : list_in a.insertion ≡ Some c.as_slice-list.result.now = c.requires.packed.listed ∙ ap Some (sym (c.as_slice-list.ensures.value ∙ c.acl.view_is)) in
     subst (λ (l : Option (List ℕ)). c.inserted.new.steps ≤ c.args.steps.now + united_cost l (length a.value.now.rows + length a.operand.now.rows)) (sym is) c.inserted.ensures.cost
+
+pub returns-in-Ok-clause-packed : goal.returns-in-Ok-clause-packed
+returns-in-Ok-clause-packed g c =
+    let a = c.args.addition in
+    let value = a.value.now in
+    let operand = a.operand.now in
+    let k = c.requires.addition in
+    let x = c.in-Ok.rows in
+    let rows : List Row = exchanged value.rows x.gone.rows x.come.rows in
+    let is : list_in a.insertion ≡ Some c.as_slice-list.result.now = c.requires.packed.listed ∙ ap Some (sym (c.as_slice-list.ensures.value ∙ c.acl.view_is)) in
+    let e : rows ≡ united_in (list_in a.insertion) value.rows operand.rows = c.in-Ok.ensures.rows ∙ ap (λ (l : Option (List ℕ)). united_in l value.rows operand.rows) (sym is) in
+    are_packed value operand c.rows-rows.ensures.relation c.rows-more.ensures.relation (sym k.headed) (list_in a.insertion) k.listed rows e

@@ -11,10 +11,10 @@ union-requires c = c.in_ok-left.ensures.0 ∙ sym (c.in_ok-come.ensures.0 ∙ c.
 
 pub returns : goal.returns
 returns c =
-    let a = c.args.addition in
+    let value = c.args.value.now in
     let x = c.args.rows.now in
-    let rows : united c.in_ok-left.left.rows c.in_ok-come.come.rows ≡ exchanged a.value.now.rows x.gone.rows x.come.rows =
-    ap₂ united c.in_ok-left.ensures.1 c.in_ok-come.ensures.1 ∙ exchanged_apart a.value.now.rows x.gone.rows x.come.rows in
+    let rows : united c.in_ok-left.left.rows c.in_ok-come.come.rows ≡ exchanged value.rows x.gone.rows x.come.rows =
+    ap₂ united c.in_ok-left.ensures.1 c.in_ok-come.ensures.1 ∙ exchanged_apart value.rows x.gone.rows x.come.rows in
     let made = subst (λ (h : Heading). MatchResult c.union.result (IsAnswer h (united c.in_ok-left.left.rows c.in_ok-come.come.rows)) (IsRefusal (united c.in_ok-left.left.rows c.in_ok-come.come.rows))) c.in_ok-left.ensures.0 c.union.ensures in
-    let there = subst (λ (rs : List Row). MatchResult c.union.result (IsAnswer a.value.now.heading rs) (IsRefusal rs)) rows made in
-    c.told.ensures a.value.now.heading (exchanged a.value.now.rows x.gone.rows x.come.rows) there
+    let there = subst (λ (rs : List Row). MatchResult c.union.result (IsAnswer value.heading rs) (IsRefusal rs)) rows made in
+    c.told.ensures value.heading (exchanged value.rows x.gone.rows x.come.rows) there

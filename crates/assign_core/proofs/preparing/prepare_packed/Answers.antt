@@ -1,114 +1,20 @@
-use Rattle.std.proofs.Common.{◌≡◌, ◌≤◌, [], ◌∷◌, length, map, Err, sym, ap, subst, ◌∙◌, arith}
+use Rattle.std.proofs.Common.{sym, subst}
 use Rattle.std.proofs.lemmas.Result.{err_from_is_err_and}
-use Rattle.point_core.specs.Faults.{OrFault}
-use Rattle.value_core.specs.Values.{Relation, most_rows}
-use Rattle.relation_core.specs.Answers.{Answers}
 use Rattle.tree_core.specs.Items.{read_assignment}
-use Rattle.tree_core.specs.Relvars.{Entries}
-use Rattle.u_constraints.specs.Growth.{exchanged}
-use Rattle.assign_core.specs.Costs.{constraints_cost, constraints_cost_of}
-use Rattle.assign_core.specs.Insertions.{entries_of, sum_of}
-use Rattle.assign_core.specs.Parts.{names_in}
-use Rattle.assign_core.specs.Turnovers.{renewed_at}
-use Rattle.assign_core.proofs.AdditionLemmas.{value_refused, sum_ready}
-use Rattle.assign_core.proofs.AssignedLemmas.{admitted, not_admitted}
-use Rattle.assign_core.proofs.NameLemmas.{distinct_later}
-use Rattle.assign_core.proofs.PackingLemmas.{few_left}
-use Rattle.assign_core.proofs.TurnoverLemmas.{is_exchange_at}
+use Rattle.assign_core.specs.Insertions.{entries_of}
+use Rattle.assign_core.specs.declared.target.Target.{Target}
+use Rattle.assign_core.specs.Turnovers.{IsKnown}
+use Rattle.assign_core.proofs.AdditionLemmas.{value_refused}
 use Rattle.assign_core.proofs.preparing.prepare_packed.Goals as goal
 
 pub returns-in_err-rows-clause-refused : goal.returns-in_err-rows-clause-refused
 returns-in_err-rows-clause-refused g c =
     let a = c.args.addition in
-    let p = err_from_is_err_and c.from_residual.result c.from_residual.ensures.1 in
+    let p = err_from_is_err_and c.from_residual-in_err-rows.result c.from_residual-in_err-rows.ensures.1 in
     rw (p.1, p.2) (value_refused (entries_of a) (read_assignment a.insertion.assignment.now) c.in_err-rows.field-0.0 c.in_err-rows.ensures.refused)
 
-pub returns-in_err-value-clause-refused : goal.returns-in_err-value-clause-refused
-returns-in_err-value-clause-refused g c =
+pub prepare_exchange-requires-clause-known : goal.prepare_exchange-requires-clause-known
+prepare_exchange-requires-clause-known g c =
     let a = c.args.addition in
-    let stop = c.in_err-value.field-0.0 in
-    let p = err_from_is_err_and c.from_residual-in_err-value.result c.from_residual-in_err-value.ensures.1 in
-    rw (p.1, p.2) (value_refused (entries_of a) (read_assignment a.insertion.assignment.now) stop
-    (subst (λ (m : OrFault Relation). Answers {A = Relation} (Err stop) m) (sym c.in_ok-rows.ensures.meant) c.in_err-value.ensures))
-
-pub prepare_value-requires-clause-meant : goal.prepare_value-requires-clause-meant
-prepare_value-requires-clause-meant g c = c.in_ok-rows.ensures.meant ∙ c.in_ok-value.ensures
-
-pub admit_rows-requires-clause-turnover : goal.admit_rows-requires-clause-turnover
-admit_rows-requires-clause-turnover g c =
-    let k = c.requires.addition in
-    let x = c.in_ok-rows.ensures.exchange in
-    record {
-      constraints = k.constraints;
-      first = k.first;
-      come = x.come;
-      gone = x.gone;
-      few = c.have_room.ensures c.if-not-have_room.false;
-    }
-
-pub returns-in_err-admit_rows-clause-refused : goal.returns-in_err-admit_rows-clause-refused
-returns-in_err-admit_rows-clause-refused g c =
-    let a = c.args.addition in
-    let k = c.requires.addition in
-    let t = read_assignment a.insertion.assignment.now in
-    let es = entries_of a in
-    let x = c.in_ok-rows.rows in
-    let room = c.have_room.ensures c.if-not-have_room.false in
-    let fits : length (exchanged a.value.now.rows x.gone.rows x.come.rows) ≤ most_rows = few_left a.value.now.rows x.gone.rows x.come.rows most_rows room in
-    let different = distinct_later (map (λ o. o.name) a.relvars.now.ordinals) (names_in es) c.requires.kept.well_made.different in
-    let made = sum_ready es t a.at a.value.now k.constraints k.first a.insertion.assignment.now.tree.place x c.in_ok-rows.ensures.meant fits different in
-    let refuse = c.in_err-admit_rows.field-0.0 in
-    let p = err_from_is_err_and c.from_residual-in_err-admit_rows.result c.from_residual-in_err-admit_rows.ensures.1 in
-    rw (p.1, p.2) (not_admitted es (renewed_at a.at x es) (t ∷ []) refuse made c.in_err-admit_rows.ensures.admitted)
-
-pub returns-in_err-admit_rows-clause-cost : goal.returns-in_err-admit_rows-clause-cost
-returns-in_err-admit_rows-clause-cost g c =
-    let a = c.args.addition in
-    let k = c.requires.addition in
-    let t = read_assignment a.insertion.assignment.now in
-    let es = entries_of a in
-    let x = c.in_ok-rows.rows in
-    let room = c.have_room.ensures c.if-not-have_room.false in
-    let fits : length (exchanged a.value.now.rows x.gone.rows x.come.rows) ≤ most_rows = few_left a.value.now.rows x.gone.rows x.come.rows most_rows room in
-    let different = distinct_later (map (λ o. o.name) a.relvars.now.ordinals) (names_in es) c.requires.kept.well_made.different in
-    let made = sum_ready es t a.at a.value.now k.constraints k.first a.insertion.assignment.now.tree.place x c.in_ok-rows.ensures.meant fits different in
-    let both : constraints_cost_of (sum_of a) ≡ constraints_cost (renewed_at a.at x es) = ap (λ (r : OrFault Entries). constraints_cost_of r) made in
-    let sources = c.exchange_of.ensures.cost in
-    let constraints = c.admit_rows.ensures.cost in
-    omega (arith, both, sources, constraints)
-
-pub returns-clause-ready : goal.returns-clause-ready
-returns-clause-ready g c =
-    let a = c.args.addition in
-    let k = c.requires.addition in
-    let x = c.in_ok-rows.ensures.exchange in
-    is_exchange_at (entries_of a) a.insertion.assignment.now.target a.at a.value.now k.constraints c.in_ok-rows.rows k.first x.come (c.have_room.ensures c.if-not-have_room.false)
-
-pub returns-clause-meant : goal.returns-clause-meant
-returns-clause-meant g c =
-    let a = c.args.addition in
-    let k = c.requires.addition in
-    let t = read_assignment a.insertion.assignment.now in
-    let es = entries_of a in
-    let x = c.in_ok-rows.rows in
-    let room = c.have_room.ensures c.if-not-have_room.false in
-    let fits : length (exchanged a.value.now.rows x.gone.rows x.come.rows) ≤ most_rows = few_left a.value.now.rows x.gone.rows x.come.rows most_rows room in
-    let different = distinct_later (map (λ o. o.name) a.relvars.now.ordinals) (names_in es) c.requires.kept.well_made.different in
-    let made = sum_ready es t a.at a.value.now k.constraints k.first a.insertion.assignment.now.tree.place x c.in_ok-rows.ensures.meant fits different in
-    admitted es (renewed_at a.at x es) (t ∷ []) made c.in_ok-admit_rows.ensures.admitted
-
-pub returns-clause-cost : goal.returns-clause-cost
-returns-clause-cost g c =
-    let a = c.args.addition in
-    let k = c.requires.addition in
-    let t = read_assignment a.insertion.assignment.now in
-    let es = entries_of a in
-    let x = c.in_ok-rows.rows in
-    let room = c.have_room.ensures c.if-not-have_room.false in
-    let fits : length (exchanged a.value.now.rows x.gone.rows x.come.rows) ≤ most_rows = few_left a.value.now.rows x.gone.rows x.come.rows most_rows room in
-    let different = distinct_later (map (λ o. o.name) a.relvars.now.ordinals) (names_in es) c.requires.kept.well_made.different in
-    let made = sum_ready es t a.at a.value.now k.constraints k.first a.insertion.assignment.now.tree.place x c.in_ok-rows.ensures.meant fits different in
-    let both : constraints_cost_of (sum_of a) ≡ constraints_cost (renewed_at a.at x es) = ap (λ (r : OrFault Entries). constraints_cost_of r) made in
-    let sources = c.exchange_of.ensures.cost in
-    let constraints = c.admit_rows.ensures.cost in
-    omega (arith, both, sources, constraints)
+    subst (λ (t : Target). IsKnown t.value.now c.in_ok-rows.rows c.known_of-known.result) (sym c.target_of.ensures)
+    (subst (IsKnown a.value.now c.in_ok-rows.rows) (sym c.known_of-known.ensures) (record { marked = c.requires.marked; packed = c.in_ok-rows.ensures.packed }))

@@ -26,19 +26,26 @@ exchange_all-requires g c =
     same_length c.in-Values.changes.items (map read_entry raw) ready ∙ entries_length raw
 
 pub invariant_of-self : goal.invariant_of-self
-invariant_of-self g c =
+invariant_of-self g c = (c.self.invariant.0, c.fill.ensures)
+
+pub invariant_of-self-in-Values : goal.invariant_of-self-in-Values
+invariant_of-self-in-Values g c =
     let s = read_relvars c.self.inside.relvars in
     let list = map read_assignment c.args.list.now in
     let ready = subst (λ (r : Ready). IsReady r s.relvars) c.in-Values.is c.in_ok-changes.ensures.ready in
-    let meant = subst (λ (r : Ready). after_assignments s.relvars list ≡ Ok (with_ready r s.relvars)) c.in-Values.is c.in_ok-changes.ensures.meant in
-    subst IsKept (λ i. record { ordinals = sym c.exchange_all.ensures.ordinals i; relvars = sym c.exchange_all.ensures.list i })
-    (assigned_kept s c.in-Values.changes.items list c.self.invariant ready meant)
+    let meant = subst (λ (r : Ready). after_assignments s.relvars list ≡ Ok (with_ready r s.relvars)) c.in-Values.is c.in_ok-changes.ensures.meant in (
+      subst IsKept (λ i. record { ordinals = sym c.exchange_all.ensures.ordinals i; relvars = sym c.exchange_all.ensures.list i })
+          (assigned_kept s c.in-Values.changes.items list c.self.invariant.0 ready meant),
+      c.no_marks.ensures.marked _,
+    )
 
 pub invariant_of-self-in-Rows : goal.invariant_of-self-in-Rows
 invariant_of-self-in-Rows g c =
     let s = read_relvars c.self.inside.relvars in
     let list = map read_assignment c.args.list.now in
     let ready = subst (λ (r : Ready). IsReady r s.relvars) c.in-Rows.is c.in_ok-changes.ensures.ready in
-    let meant = subst (λ (r : Ready). after_assignments s.relvars list ≡ Ok (with_ready r s.relvars)) c.in-Rows.is c.in_ok-changes.ensures.meant in
-    subst IsKept (λ i. record { ordinals = sym c.exchange_rows.ensures.ordinals i; relvars = sym c.in_ok-exchange_rows-in-Rows.ensures.list i })
-    (renewed_kept s c.in-Rows.at c.in-Rows.rows list c.self.invariant ready meant)
+    let meant = subst (λ (r : Ready). after_assignments s.relvars list ≡ Ok (with_ready r s.relvars)) c.in-Rows.is c.in_ok-changes.ensures.meant in (
+      subst IsKept (λ i. record { ordinals = sym c.exchange_rows.ensures.ordinals i; relvars = sym c.in_ok-exchange_rows-in-Rows.ensures.list i })
+          (renewed_kept s c.in-Rows.at c.in-Rows.rows list c.self.invariant.0 ready meant),
+      c.exchange_rows.ensures.marked,
+    )

@@ -13,7 +13,7 @@ use Rattle.assign_core.proofs.database.Database.remove.Goals as goal
 left_is : (c : goal.After-drop) → read_relvars (record { list = c.shift_remove.new.self; ordinals = c.self.inside.relvars.ordinals }) ≡ without c.args.name.now (read_relvars c.self.inside.relvars)
 left_is c =
     let es = c.self.inside.relvars.list.entries in
-    let different = distinct_later (map (λ o. o.name) c.self.inside.relvars.ordinals) (names_in (map read_entry es)) c.self.invariant.well_made.different in
+    let different = distinct_later (map (λ o. o.name) c.self.inside.relvars.ordinals) (names_in (map read_entry es)) c.self.invariant.0.well_made.different in
     ap (λ (z : Entries). record { ordinals = c.self.inside.relvars.ordinals; relvars = z })
     (ap (map read_entry) c.shift_remove.ensures.entries ∙ shift_filter es c.args.name.now (subst (IsDistinct bytes_eq) (names_of_keys es) different))
 
@@ -24,6 +24,8 @@ returns-clause-state c =
 
 pub invariant_of-self : goal.invariant_of-self
 invariant_of-self c =
-    let made = subst (λ (r : Relvars). IsWellMade (without c.args.name.now (read_relvars r))) (sym c.self.view_is) c.requires.well_made in
-    removed_kept (read_relvars c.self.inside.relvars) (read_relvars (record { list = c.shift_remove.new.self; ordinals = c.self.inside.relvars.ordinals })) c.args.name.now
-    (left_is c) c.self.invariant made
+    let made = subst (λ (r : Relvars). IsWellMade (without c.args.name.now (read_relvars r))) (sym c.self.view_is) c.requires.well_made in (
+      removed_kept (read_relvars c.self.inside.relvars) (read_relvars (record { list = c.shift_remove.new.self; ordinals = c.self.inside.relvars.ordinals })) c.args.name.now
+          (left_is c) c.self.invariant.0 made,
+      c.no_marks.ensures.marked _,
+    )

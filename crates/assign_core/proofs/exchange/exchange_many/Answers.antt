@@ -3,7 +3,7 @@ use Rattle.std.proofs.lemmas.Result.{on_ok_weaker, on_err_weaker}
 use Rattle.tree_core.specs.Relvars.{read_entry}
 use Rattle.assign_core.proofs.ChangeLemmas.{entries_length}
 use Rattle.assign_core.proofs.TurnoverLemmas.{set_renewed, set_same, may_exchange, within_exchange}
-use Rattle.assign_core.proofs.exchange.exchange_rows.Goals as goal
+use Rattle.assign_core.proofs.exchange.exchange_many.Goals as goal
 
 pub pair_mut-relvar-requires : goal.pair_mut-relvar-requires
 pair_mut-relvar-requires c =

@@ -1,0 +1,43 @@
+use Rattle.std.proofs.Common.{map, arith}
+use Rattle.std.proofs.lemmas.Result.{on_ok_weaker, on_err_weaker}
+use Rattle.tree_core.specs.Relvars.{read_entry}
+use Rattle.assign_core.proofs.ChangeLemmas.{entries_length}
+use Rattle.assign_core.proofs.MarkedLemmas.{marks_entry, set_marked}
+use Rattle.assign_core.proofs.TurnoverLemmas.{set_renewed, set_same, may_exchange, within_exchange}
+use Rattle.assign_core.proofs.exchange.exchange_few.Goals as goal
+
+pub pair_mut-relvar-requires : goal.pair_mut-relvar-requires
+pair_mut-relvar-requires c =
+    let es = c.args.relvars.now.list.entries in
+    let within = within_exchange (map read_entry es) c.args.at c.args.rows c.requires.may in
+    let long = entries_length es in
+    omega (arith, within, long)
+
+pub renew_marked-result-requires-clause-may : goal.renew_marked-result-requires-clause-may
+renew_marked-result-requires-clause-may c =
+    let es = c.args.relvars.now.list.entries in
+    may_exchange es c.args.at c.args.rows c.pair_mut-relvar.result.0.now c.pair_mut-relvar.result.1.now c.requires.may c.pair_mut-relvar.ensures.value
+
+pub renew_marked-result-requires-clause-marks : goal.renew_marked-result-requires-clause-marks
+renew_marked-result-requires-clause-marks c =
+    let es = c.args.relvars.now.list.entries in
+    marks_entry es c.args.at c.pair_mut-relvar.result.0.now c.pair_mut-relvar.result.1.now c.take_marks-list.result.items c.pair_mut-relvar.ensures.value
+    (c.take_marks-list.ensures.list (map read_entry es) c.requires.marked)
+
+pub returns-clause-list : goal.returns-clause-list
+returns-clause-list c =
+    let es = c.args.relvars.now.list.entries in
+    on_ok_weaker c.renew_marked-result.result
+    (set_renewed es c.args.at c.renew_marked-result.new.relvar c.args.rows c.pair_mut-relvar.result.0.now c.pair_mut-relvar.result.1.now c.pair_mut-relvar.ensures.value)
+    c.renew_marked-result.ensures.ok
+
+pub returns-clause-err : goal.returns-clause-err
+returns-clause-err c =
+    let es = c.args.relvars.now.list.entries in
+    on_err_weaker c.renew_marked-result.result
+    (set_same es c.args.at c.renew_marked-result.new.relvar c.pair_mut-relvar.result.0.now c.pair_mut-relvar.result.1.now c.pair_mut-relvar.ensures.value)
+    c.renew_marked-result.ensures.err
+
+pub returns-clause-marked : goal.returns-clause-marked
+returns-clause-marked c =
+    set_marked c.args.relvars.now.list.entries c.args.at c.renew_marked-result.new.relvar c.renew_marked-result.new.marks.items c.renew_marked-result.ensures.marks

@@ -1,0 +1,40 @@
+-- Revisions by conditions that concern some rows of a packed target alone.
+--     IsRenewal      a revision, its target, and the rows that its conditions concern
+--     IsLeft, AreAdded      what is left of these rows, and what is added
+use Rattle.std.specs.Prelude.{◌≡◌, ℕ, ◌+◌, ◌≤◌, length, Ok}
+use Rattle.base_core.specs.Outcomes.{then_give}
+use Rattle.value_core.specs.Values.{Relation, most_rows}
+use Rattle.scalar_core.specs.Expressions.{read}
+use Rattle.relation_core.specs.Growth.{touched}
+use Rattle.relation_core.specs.Operators.{subtracted, united}
+use Rattle.cell_core.specs.Costs.{bound}
+use Rattle.u_set.specs.Apart.{outside}
+use Rattle.assign_core.specs.declared.renewal.Renewal.{Renewal}
+use Rattle.assign_core.specs.declared.target.Target.{Target}
+use Rattle.assign_core.specs.Portions.{IsConcerned}
+use Rattle.assign_core.specs.Revisions.{left_of, taken_of, added_of, IsRevisionOf}
+use Rattle.assign_core.specs.Targets.{entries_before}
+
+-- the target of the revision
+abbrev pub renewed_target : Renewal → Target
+renewed_target r = record { relvars = r.relvars; assignment = r.revision.assignment; at = r.at; value = r.value }
+
+pub record IsRenewal (r : Renewal) : Type 0 where
+  pub revision : IsRevisionOf (entries_before (renewed_target r)) r.revision r.at r.value.now
+  pub gone : IsConcerned r.revision.acl.now (read r.revision.gone.now) r.value.now r.part.now
+  pub changed : IsConcerned r.revision.acl.now (read r.revision.changed.portion.condition.now) r.value.now r.part.now
+
+-- with the other rows, it is what is left of the target; it has labels of the part
+pub record IsLeft (r : Renewal) (left : Relation) : Type 0 where
+  pub heading : left.heading ≡ r.value.now.heading
+  pub meant : left_of r.revision r.value.now.rows ≡ Ok (united (subtracted r.value.now.rows r.part.now.rows) left.rows)
+  pub few : length (united (subtracted r.value.now.rows r.part.now.rows) left.rows) ≤ most_rows
+  pub labels : touched (outside r.revision.acl.now r.value.now.heading) r.part.now.rows left.rows ≡ left.rows
+
+pub record AreAdded (r : Renewal) (added : Relation) : Type 0 where
+  pub heading : added.heading ≡ r.value.now.heading
+  pub meant : then_give (taken_of r.revision r.value.now.rows) (added_of r.value.now.heading r.revision) ≡ Ok added.rows
+
+-- the steps of both together
+abbrev pub after_left : Renewal → Relation → Relation → ℕ
+after_left r left added = bound (length (united (subtracted r.value.now.rows r.part.now.rows) left.rows) + length added.rows) (length r.revision.acl.now)

@@ -1,0 +1,140 @@
+// Deletions by a condition that concern few rows of a target that its own constraints keep packed on the very list.
+ghost use Rattle.std.specs.Prelude.{◌≡◌, ◌+◌, ◌≤◌, true, List, IfSome, IfOk, IfErr, Err};
+ghost use Rattle.value_core.specs.RowPacking.{packed};
+ghost use Rattle.value_core.specs.Values.{Name as PlainName, Relation as PlainRelation, IsRelation};
+ghost use Rattle.value_core.specs.declared.constraint.Constraint.{Constraint};
+ghost use Rattle.scalar_core.specs.Expressions.{read};
+ghost use Rattle.relation_core.specs.Answers.{Answers, under};
+ghost use Rattle.tree_core.specs.Items.{read_assignment};
+ghost use Rattle.tree_core.specs.Relvars.{base, read_relvars};
+ghost use Rattle.meaning_core.specs.Meanings.{limited};
+ghost use Rattle.meaning_core.specs.Names.{IsFirstAt};
+ghost use Rattle.meaning_core.specs.Updates.{IsTypedAssignment};
+ghost use Rattle.u_constraints.specs.Growth.{exchanged};
+ghost use Rattle.u_labels.specs.Exchanges.{IsExchange};
+ghost use Rattle.assign_core.specs.Costs.{source_cost};
+ghost use Rattle.assign_core.specs.Databases.{IsKept};
+ghost use Rattle.assign_core.specs.Portions.{portion_cost, portion_rows, IsConcerned, IsDeletion, IsDeletionOf, IsPortionFor};
+ghost use Rattle.assign_core.specs.Reductions.{reduced_target, IsReduction};
+ghost use Rattle.assign_core.specs.Targets.{entries_before, value_given};
+
+use crate::insertion::base_at;
+use crate::packing::is_kept_packed;
+use crate::portion::{Deletion, Portion};
+use point_core::{Memory, Steps, Stop};
+use std::alloc::Global;
+use std::sync::ledger::Ledger;
+use tree_core::Relvars;
+use u_changes::concerned;
+use u_labels::{Exchange, replaced};
+use using_core::using_restriction;
+use value_core::{Positions, Relation};
+
+/// A deletion with the place and the value of its target, and the rows that its condition concerns.
+#[derive(Clone, Copy)]
+pub(crate) struct Reduction<'a> {
+    pub relvars: &'a Relvars,
+    pub deletion: Deletion<'a>,
+    pub at: usize,
+    pub value: &'a Relation,
+    pub part: &'a Relation,
+}
+
+/// The place of the target, and its value.
+pub(crate) fn deletion_at<'a>(relvars: &'a Relvars, deletion: Deletion<'_>) -> (usize, &'a Relation)
+    requires deletion { IsDeletion deletion }
+    requires typed { IsTypedAssignment (read_relvars relvars.now) (read_assignment deletion.assignment.now) }
+    ensures { IsDeletionOf (read_relvars relvars.now).relvars deletion.entry result.0 result.1.now }
+{
+    let (at, value) = base_at(relvars, deletion.assignment);
+    // A relation has few rows, and its heading is one.
+    let _rows = value.rows();
+    (at, value)
+}
+
+/// The rows that the deletion's condition concerns, where they are few beside all of a target that is kept packed on the list.
+pub(crate) fn deleted_part(
+    alloc: Global,
+    relvars: &Relvars,
+    deletion: Deletion<'_>,
+    at: usize,
+    value: &Relation,
+) -> Result<Option<Relation>, Memory>
+    requires kept { IsKept (read_relvars relvars.now) }
+    requires deletion { IsDeletionOf (read_relvars relvars.now).relvars deletion at value.now }
+    ensures { IfOk result (λ o. IfSome o (IsConcerned deletion.entry.kept.acl.now (read deletion.entry.gone.now) value.now)) }
+{
+    if !is_packed_at(relvars, at, deletion.kept.acl) {
+        return Ok(None);
+    }
+    let acl = deletion.kept.acl;
+    let list = acl.list.as_slice();
+    let part = concerned(alloc, value, list, deletion.gone)?;
+    Ok(if_few(part, value))
+}
+
+/// Whether a constraint of the base relvar at the place keeps its rows packed on the list.
+pub(crate) fn is_packed_at(relvars: &Relvars, at: usize, acl: &Positions) -> bool
+    requires { IsKept (read_relvars relvars.now) }
+    ensures { (target : PlainName) (value : PlainRelation) (constraints : List Constraint) → IsFirstAt (read_relvars relvars.now).relvars target at (base value constraints)
+        → IsRelation value → result ≡ true → packed acl.now value.rows ≡ value.rows }
+{
+    match relvars.list.get_index(at) {
+        Some((_, relvar)) => is_kept_packed(relvar, acl),
+        None => false,
+    }
+}
+
+/// The part, where it has at most a quarter of the rows.
+pub(crate) fn if_few(part: Relation, value: &Relation) -> Option<Relation>
+    ensures { IfSome result (λ p. p ≡ part) }
+{
+    if part.rows().len() <= value.rows().len() / 4 {
+        Some(part)
+    } else {
+        None
+    }
+}
+
+/// The relation's rows at the points of the portion, or the least fault of its condition at any point, or that of too many rows.
+pub(crate) fn portion_rows<L: Ledger>(
+    alloc: Global,
+    portion: Portion<'_>,
+    of: &Relation,
+    steps: &mut Steps<L>,
+) -> Result<Relation, Stop>
+    requires { IsPortionFor of.now.heading portion }
+    ensures value { Answers result (under of.now.heading (portion_rows portion.entry.place portion.entry.acl.now (read portion.entry.condition.now) of.now.rows)) }
+    ensures cost { steps.new ≤ steps.old + portion_cost portion.entry.acl.now (read portion.entry.condition.now) of.now.rows }
+{
+    let heading = of.heading();
+    let acl = portion.acl;
+    let list = acl.list.as_slice();
+    using_restriction(
+        alloc,
+        portion.place,
+        heading,
+        list,
+        portion.condition,
+        of,
+        steps,
+    )
+}
+
+/// The rows that the target gains and loses, or the fault of the condition.
+pub(crate) fn deleted<L: Ledger>(
+    alloc: Global,
+    reduction: Reduction<'_>,
+    steps: &mut Steps<L>,
+) -> Result<Exchange, Stop>
+    requires { IsReduction reduction }
+    ensures exchange { IfOk result (IsExchange reduction.entry.value.now) }
+    ensures meant { IfOk result (λ x. value_given (reduced_target reduction.entry)
+        ≡ under reduction.entry.value.now.heading (limited reduction.entry.deletion.kept.place (exchanged reduction.entry.value.now.rows x.gone.rows x.come.rows))) }
+    ensures refused { IfErr result (λ stop. Answers {A = PlainRelation} (Err stop) (value_given (reduced_target reduction.entry))) }
+    ensures cost { steps.new ≤ steps.old + source_cost (entries_before (reduced_target reduction.entry)) (entries_before (reduced_target reduction.entry)) (read_assignment reduction.entry.deletion.assignment.now) }
+{
+    let left = portion_rows(alloc, reduction.deletion.kept, reduction.part, steps)?;
+    let rows = replaced(alloc, reduction.value, reduction.part, &left)?;
+    Ok(rows)
+}

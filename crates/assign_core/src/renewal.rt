@@ -1,0 +1,188 @@
+// Revisions by conditions that concern few rows of a target that its own constraints keep packed on the very list.
+ghost use Rattle.std.specs.Prelude.{◌≡◌, ◌+◌, ◌≤◌, IfSome, IfOk, IfErr, Err};
+ghost use Rattle.base_core.specs.Outcomes.{then_give};
+ghost use Rattle.value_core.specs.Values.{Relation as PlainRelation};
+ghost use Rattle.scalar_core.specs.Expressions.{read};
+ghost use Rattle.relation_core.specs.Answers.{Answers, under};
+ghost use Rattle.tree_core.specs.Items.{read_assignment};
+ghost use Rattle.tree_core.specs.Relvars.{read_relvars};
+ghost use Rattle.tree_core.specs.Trees.{read_sets};
+ghost use Rattle.meaning_core.specs.Meanings.{limited};
+ghost use Rattle.meaning_core.specs.Updates.{IsTypedAssignment};
+ghost use Rattle.u_constraints.specs.Growth.{exchanged};
+ghost use Rattle.u_labels.specs.Exchanges.{IsExchange};
+ghost use Rattle.algebra_core.specs.Costs.{paid};
+ghost use Rattle.assign_core.specs.Costs.{source_cost};
+ghost use Rattle.assign_core.specs.Databases.{IsKept};
+ghost use Rattle.assign_core.specs.Portions.{portion_cost, portion_rows, IsConcerned};
+ghost use Rattle.assign_core.specs.Renewals.{after_left, renewed_target, AreAdded, IsLeft, IsRenewal};
+ghost use Rattle.assign_core.specs.Revisions.{changed_cost, changed_rows, left_of, IsChangedFor, IsRevision, IsRevisionOf};
+ghost use Rattle.assign_core.specs.Targets.{entries_before, value_given};
+
+use crate::insertion::base_at;
+use crate::reduction::{if_few, is_packed_at, portion_rows};
+use crate::revision::{Changed, Revision};
+use point_core::{Code, Fault, Memory, Steps, Stop};
+use row_marks::Marks;
+use std::alloc::Global;
+use std::sync::ledger::Ledger;
+use tree_core::Relvars;
+use u_changes::concerned_by_both;
+use u_labels::{Exchange, replaced, replaced_and_inserted};
+use using_core::using_extension;
+use value_core::{MOST_ROWS, Relation, RowsRefuse};
+
+/// A revision with the place and the value of its target, and the rows that its conditions concern.
+#[derive(Clone, Copy)]
+pub(crate) struct Renewal<'a> {
+    pub relvars: &'a Relvars,
+    pub revision: Revision<'a>,
+    pub at: usize,
+    pub value: &'a Relation,
+    pub part: &'a Relation,
+}
+
+/// The place of the target, and its value.
+pub(crate) fn revision_at<'a>(relvars: &'a Relvars, revision: Revision<'_>) -> (usize, &'a Relation)
+    requires revision { IsRevision revision }
+    requires typed { IsTypedAssignment (read_relvars relvars.now) (read_assignment revision.assignment.now) }
+    ensures { IsRevisionOf (read_relvars relvars.now).relvars revision.entry result.0 result.1.now }
+{
+    let (at, value) = base_at(relvars, revision.assignment);
+    // A relation has few rows, and its heading is one.
+    let _rows = value.rows();
+    (at, value)
+}
+
+/// The rows that the revision's conditions concern, where they are few beside all of a target that is kept packed on the list.
+pub(crate) fn revised_part(
+    alloc: Global,
+    relvars: &Relvars,
+    revision: Revision<'_>,
+    at: usize,
+    value: &Relation,
+) -> Result<Option<Relation>, Memory>
+    requires kept { IsKept (read_relvars relvars.now) }
+    requires revision { IsRevisionOf (read_relvars relvars.now).relvars revision at value.now }
+    ensures gone { IfOk result (λ o. IfSome o (IsConcerned revision.entry.acl.now (read revision.entry.gone.now) value.now)) }
+    ensures changed { IfOk result (λ o. IfSome o (IsConcerned revision.entry.acl.now (read revision.entry.changed.portion.condition.now) value.now)) }
+{
+    let acl = revision.acl;
+    if !is_packed_at(relvars, at, acl) {
+        return Ok(None);
+    }
+    let list = acl.list.as_slice();
+    let condition = revision.changed.portion.condition;
+    let part = concerned_by_both(alloc, value, list, revision.gone, condition)?;
+    Ok(if_few(part, value))
+}
+
+// What is left of the rows that the conditions concern, or the fault of the condition, or that of too many rows with the others.
+fn left_rows<L: Ledger>(
+    alloc: Global,
+    renewal: Renewal<'_>,
+    steps: &mut Steps<L>,
+) -> Result<Relation, Stop>
+    requires { IsRenewal renewal }
+    ensures left { IfOk result (IsLeft renewal.entry) }
+    ensures refused { IfErr result (λ stop. Answers {A = PlainRelation} (Err stop) (under renewal.entry.value.now.heading (left_of renewal.entry.revision renewal.entry.value.now.rows))) }
+    ensures cost { steps.new ≤ steps.old + portion_cost renewal.entry.revision.acl.now (read renewal.entry.revision.kept.condition.now) renewal.entry.value.now.rows }
+{
+    let (value, part) = (renewal.value, renewal.part);
+    let left = portion_rows(alloc, renewal.revision.kept, part, steps)?;
+    let rows = replaced(alloc, value, part, &left)?;
+    let all = value.rows().len() + rows.come.rows().len() - rows.gone.rows().len();
+    if all > MOST_ROWS {
+        return Err(Stop::Fault(Fault {
+            place: renewal.revision.kept.place,
+            code: Code::E35,
+        }));
+    }
+    Ok(left)
+}
+
+// The relation's rows with new values at each point, or the least fault of these at any point, or that of too many rows.
+fn with_new_values<L: Ledger>(
+    alloc: Global,
+    changed: Changed<'_>,
+    of: &Relation,
+    steps: &mut Steps<L>,
+) -> Result<Relation, Stop>
+    requires { IsChangedFor of.now.heading changed }
+    ensures value { Answers result (under of.now.heading (changed_rows of.now.heading changed.entry.place changed.entry.acl.now (read_sets changed.entry.sets.now) of.now.rows)) }
+    ensures cost { steps.new ≤ steps.old + changed_cost changed.entry.acl.now (read_sets changed.entry.sets.now) of.now.rows }
+{
+    let heading = of.heading();
+    let acl = changed.acl;
+    let list = acl.list.as_slice();
+    using_extension(alloc, changed.place, heading, list, changed.sets, of, steps)
+}
+
+// The rows of the relation at the points of a portion, with new values.
+fn added_rows<L: Ledger>(
+    alloc: Global,
+    changed: Changed<'_>,
+    of: &Relation,
+    steps: &mut Steps<L>,
+) -> Result<Relation, Stop>
+    requires { IsChangedFor of.now.heading changed }
+    ensures value { Answers result (under of.now.heading (then_give
+        (portion_rows changed.entry.portion.place changed.entry.portion.acl.now (read changed.entry.portion.condition.now) of.now.rows)
+        (changed_rows of.now.heading changed.entry.place changed.entry.acl.now (read_sets changed.entry.sets.now)))) }
+    ensures cost { steps.new ≤ steps.old + (portion_cost changed.entry.portion.acl.now (read changed.entry.portion.condition.now) of.now.rows
+        + paid (portion_rows changed.entry.portion.place changed.entry.portion.acl.now (read changed.entry.portion.condition.now) of.now.rows)
+        (changed_cost changed.entry.acl.now (read_sets changed.entry.sets.now))) }
+{
+    let some = portion_rows(alloc, changed.portion, of, steps)?;
+    with_new_values(alloc, changed, &some, steps)
+}
+
+// The rows that the target gains and loses where these are left and added, or the fault of too many rows.
+fn exchange_with<L: Ledger>(
+    alloc: Global,
+    renewal: Renewal<'_>,
+    left: &Relation,
+    added: &Relation,
+    steps: &mut Steps<L>,
+) -> Result<Exchange, Stop>
+    requires renewal { IsRenewal renewal }
+    requires left { IsLeft renewal left.now }
+    requires added { AreAdded renewal added.now }
+    ensures exchange { IfOk result (IsExchange renewal.entry.value.now) }
+    ensures meant { IfOk result (λ x. value_given (renewed_target renewal.entry)
+        ≡ under renewal.entry.value.now.heading (limited renewal.entry.revision.assignment.now.tree.place (exchanged renewal.entry.value.now.rows x.gone.rows x.come.rows))) }
+    ensures refused { IfErr result (λ stop. Answers {A = PlainRelation} (Err stop) (value_given (renewed_target renewal.entry))) }
+    ensures cost { steps.new ≤ steps.old + after_left renewal.entry left.now added.now }
+{
+    let acl = renewal.revision.acl;
+    let list = acl.list.as_slice();
+    let (value, part) = (renewal.value, renewal.part);
+    let no_marks: Vec<Marks> = Vec::new(alloc);
+    let marks = no_marks.as_slice();
+    match replaced_and_inserted(alloc, value, marks, part, left, added, list, steps) {
+        Ok(rows) => Ok(rows),
+        Err(RowsRefuse::TooMany) => Err(Stop::Fault(Fault {
+            place: renewal.revision.assignment.tree.place,
+            code: Code::E35,
+        })),
+        Err(RowsRefuse::Memory) => Err(Stop::Memory),
+    }
+}
+
+/// The rows that the target gains and loses, or the fault that comes in the place of its value.
+pub(crate) fn revised<L: Ledger>(
+    alloc: Global,
+    renewal: Renewal<'_>,
+    steps: &mut Steps<L>,
+) -> Result<Exchange, Stop>
+    requires { IsRenewal renewal }
+    ensures exchange { IfOk result (IsExchange renewal.entry.value.now) }
+    ensures meant { IfOk result (λ x. value_given (renewed_target renewal.entry)
+        ≡ under renewal.entry.value.now.heading (limited renewal.entry.revision.assignment.now.tree.place (exchanged renewal.entry.value.now.rows x.gone.rows x.come.rows))) }
+    ensures refused { IfErr result (λ stop. Answers {A = PlainRelation} (Err stop) (value_given (renewed_target renewal.entry))) }
+    ensures cost { steps.new ≤ steps.old + source_cost (entries_before (renewed_target renewal.entry)) (entries_before (renewed_target renewal.entry)) (read_assignment renewal.entry.revision.assignment.now) }
+{
+    let left = left_rows(alloc, renewal, steps)?;
+    let added = added_rows(alloc, renewal.revision.changed, renewal.part, steps)?;
+    exchange_with(alloc, renewal, &left, &added, steps)
+}
