@@ -10,10 +10,11 @@ use std::alloc::Global;
 use std::{fs, io};
 
 /// The files of data/, by subject.
-const FILES: [&str; 38] = [
+const FILES: [&str; 39] = [
     "ask.txt",
     "assign.txt",
     "compare.txt",
+    "concerned.txt",
     "constraint.txt",
     "drop.txt",
     "exchange.txt",
