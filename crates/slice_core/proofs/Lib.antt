@@ -4,3 +4,5 @@ pub mod LeastFaultLemmas
 pub mod UnitedLemmas
 pub mod LabelRows
 pub mod Sweeping
+pub mod OneSideLemmas
+pub mod PartedLemmas

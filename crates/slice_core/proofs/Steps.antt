@@ -90,11 +90,11 @@ module _ {K : Type 0} (R : K → K → Ordering) (o : IsTotalOrder R) (one : (a 
         λ h. elim h [ inl w ↦ c.1 (inl w) | inr w ↦ c.1 (inr (b.1 w)) ],
       )
 
-  piece_by : (ps : List (Piece K)) (k : K) (a z : ℕ) → HasPiece R ps k a z → (p : Piece K) × Among p ps × (p.key ≡ k) × (p.begin ≡ a) × (p.end ≡ z)
+  pub piece_by : (ps : List (Piece K)) (k : K) (a z : ℕ) → HasPiece R ps k a z → (p : Piece K) × Among p ps × (p.key ≡ k) × (p.begin ≡ a) × (p.end ≡ z)
   piece_by [] k a z h = absurd h
   piece_by (p ∷ ps) k a z h = elim h [ inl w ↦ (p, inl refl, one p.key k w.0, w.1, w.2) | inr w ↦ let v = piece_by ps k a z w in (v.0, inr v.1, v.2, v.3, v.4) ]
 
-  piece_from : (ps : List (Piece K)) (p : Piece K) → Among p ps → HasPiece R ps p.key p.begin p.end
+  pub piece_from : (ps : List (Piece K)) (p : Piece K) → Among p ps → HasPiece R ps p.key p.begin p.end
   piece_from [] p h = absurd h
   piece_from (q ∷ ps) p h = elim h [
     | inl e ↦ inl (subst (λ k. R q.key k ≡ Equal) (ap (λ (w : Piece K). w.key) e) (tied_itself o q.key), ap (λ (w : Piece K). w.begin) e, ap (λ (w : Piece K). w.end) e)
@@ -144,7 +144,7 @@ module _ {P : Type 0} (order : P → P → Ordering) (total : IsTotalOrder order
   all_less j p [] e s n a = tt
   all_less j p (q ∷ qs) e s n a = (apart_less p q (e ∙ sym n.0) s a.0, all_less j p qs e s n.1 a.1)
 
-  sorted_last : (j : ℕ) (ps : List (Piece Key)) → AllByRecursion (λ q. length q.key.1 ≡ j) ps → AreApart R ps → IsStrictlySortedBy R (map with_last ps)
+  pub sorted_last : (j : ℕ) (ps : List (Piece Key)) → AllByRecursion (λ q. length q.key.1 ≡ j) ps → AreApart R ps → IsStrictlySortedBy R (map with_last ps)
   unfolding IsStrictlySortedBy
   sorted_last j [] n a = tt
   sorted_last j (p ∷ ps) n a = (all_less j p ps n.0 a.0 n.1 a.1, sorted_last j ps n.1 a.2)

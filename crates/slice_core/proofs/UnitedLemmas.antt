@@ -103,7 +103,7 @@ pub none_united : (sides : ℕ) (boxes : List (List (ℕ × ℕ))) (live : List 
 none_united sides boxes live x e h = none_row sides AnyLabel boxes live [] x.0 x.1 e refl h
 
 -- the row of no sides is there where some row is live
-united_alone : (boxes : List (List (ℕ × ℕ))) (live : List ℕ) (x : Row) → IsUnitedRow 0 boxes live x ↔ ((r : ℕ) × Among r live)
+pub united_alone : (boxes : List (List (ℕ × ℕ))) (live : List ℕ) (x : Row) → IsUnitedRow 0 boxes live x ↔ ((r : ℕ) × Among r live)
 united_alone boxes live x =
     let same = live_alone {P = Bare} AnyLabel boxes live [] x.0 in (
       λ h. elim (subst (λ U. U) same h).0 [ inl w ↦ some_from live w | inr w ↦ absurd (w refl) ],

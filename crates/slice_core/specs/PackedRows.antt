@@ -5,6 +5,7 @@ use Rattle.packing_core.specs.Live.{has_place, box, IsSliceRow}
 use Rattle.packing_core.specs.Packed.{IsIndexPackedTo, no_cells}
 use Rattle.packing_core.specs.declared.Piece.{Piece}
 use Rattle.slice_core.specs.declared.bare.Bare.{Bare}
+use Rattle.slice_core.specs.Rows.{no_sides}
 
 -- some row of the label has the place
 abbrev pub HasRow : {P : Type 0} → List (P × List (ℕ × ℕ)) → P → List ℕ → Type 0
@@ -37,6 +38,10 @@ cuts_of boxes side r = (span_of boxes side r).0 ∷ (span_of boxes side r).1 ∷
 -- cells of a key that stands for itself, as a piece; none where there are no cells
 abbrev pub alone : {K : Type 0} → K → ℕ × ℕ → List (Piece K)
 alone k s = cond (nat_lt s.0 s.1) (record { key = k; begin = s.0; end = s.1 } ∷ []) []
+
+-- the row's cells on its first side, as a piece of its label; none where there are no cells
+abbrev pub own_piece : {P : Type 0} → P × List (ℕ × ℕ) → List (Piece (P × List (ℕ × ℕ)))
+own_piece x = alone (no_sides x.0) (get_or x.1 0 no_cells)
 
 -- a row with the label
 abbrev pub labelled : {P Q : Type 0} → P → Q × List (ℕ × ℕ) → P × List (ℕ × ℕ)

@@ -1,4 +1,4 @@
-// Rows over numbered cells, packed label by label.
+// Rows over numbered cells, packed: on one side all at once, else label by label.
 ghost use Rattle.std.specs.Prelude.{◌≡◌, ◌≢◌, ℕ, ◌<◌, ◌≤◌, ◌↔◌, ◌++◌, length, map, slice_index_or, IfOk, OnOk, List};
 ghost use Rattle.std.specs.List.{All};
 ghost use Rattle.std.specs.List.Sorted.{IsStrictlySortedBy};
@@ -10,7 +10,8 @@ ghost use Rattle.slice_core.specs.Rows.{key_cmp, sides_of, AreRows};
 use crate::bare::Bare;
 use crate::inward::IndexBox;
 use crate::key::Key;
-use crate::united::united;
+use crate::one_side::on_first_side;
+use crate::parted::packed_group;
 use point_core::{Label, Memory};
 use std::alloc::Global;
 
@@ -86,6 +87,10 @@ pub fn pack_rows<P: Label>(
     ensures rows { IfOk result (λ v. (x : P × List (ℕ × ℕ)) → Among x v.items ↔ (length x.1 ≡ sides) × IsPackedOf sides rows.items x) }
     ensures sorted { IfOk result (λ v. IsStrictlySortedBy (key_cmp P.order) v.items) }
 {
+    if sides == 1 {
+        let whole = on_first_side(alloc, rows)?;
+        return Ok(whole);
+    }
     let mut sorted = rows;
     sorted.sort()?;
     let (labels, boxes) = apart(alloc, sorted)?;
@@ -94,7 +99,7 @@ pub fn pack_rows<P: Label>(
     while first < labels.len() {
         let end = label_end(labels.as_slice(), first);
         let live = numbers(alloc, first, end)?;
-        let packed = united(alloc, sides, boxes.as_slice(), live.as_slice())?;
+        let packed = packed_group(alloc, sides, boxes.as_slice(), live.as_slice())?;
         push_labelled(alloc, &mut out, &labels[first], packed)?;
         first = end;
     }

@@ -7,6 +7,8 @@ mod cell_op;
 mod inward;
 mod key;
 mod live;
+mod one_side;
+mod parted;
 mod united;
 
 pub use by_label::pack_rows;

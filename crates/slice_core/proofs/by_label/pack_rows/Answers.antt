@@ -3,13 +3,18 @@ use Rattle.std.specs.List.{All}
 use Rattle.std.specs.declared.cmp.Ordering.TheVariants.{Equal}
 use Rattle.packing_core.specs.Covering.{Among}
 use Rattle.slice_core.specs.declared.inward.IndexBox.{IndexBox}
-use Rattle.slice_core.specs.PackedRows.{IsUnitedRow}
+use Rattle.slice_core.specs.PackedRows.{IsPackedOf, IsUnitedRow}
 use Rattle.slice_core.specs.Rows.{sides_of, AreRows}
 use Rattle.slice_core.proofs.Turns.{AreRows-wider}
 use Rattle.slice_core.proofs.Steps.{sorted_nil}
 use Rattle.slice_core.proofs.UnitedLemmas.{Row}
 use Rattle.slice_core.proofs.LabelRows.{IsAt, no_cut, none_done, group_cut, rows_turn, sorted_turn, sorted_ascends, all_done, boxes_length, boxes_sides}
 use Rattle.slice_core.proofs.by_label.pack_rows.Goals as goal
+
+pub returns-then-sides-eq1-clause-rows : goal.returns-then-sides-eq1-clause-rows
+returns-then-sides-eq1-clause-rows g c =
+    let one : 1 ≡ c.args.sides = sym c.if-sides-eq1.true in
+    subst (λ n. (x : _ × List (ℕ × ℕ)) → Among x c.in_ok-whole.whole.items ↔ (length x.1 ≡ n) × IsPackedOf n c.args.rows.items x) one c.in_ok-whole.ensures.rows
 
 pub loop-first-init : goal.loop-first-init
 loop-first-init g c =
@@ -25,16 +30,16 @@ loop-first-init g c =
       sorted = sorted_nil o t s c.new-out.result.items c.new-out.ensures.items;
     }
 
-pub united-requires-clause-rows : goal.united-requires-clause-rows
-united-requires-clause-rows g c =
+pub packed_group-requires-clause-rows : goal.packed_group-requires-clause-rows
+packed_group-requires-clause-rows g c =
     let n : length c.in_ok-labels.boxes.items ≡ length c.in_ok-labels.labels.items = boxes_length c.in_ok-labels.labels.items c.in_ok-labels.boxes.items c.sort.new.self.items c.in_ok-labels.ensures.labels c.in_ok-labels.ensures.boxes in
     let w : c.label_end-end.result ≤ length c.in_ok-labels.labels.items = subst (λ xs. c.label_end-end.result ≤ length xs) c.as_slice.ensures.value c.label_end-end.ensures.within in
     subst (λ (xs : List IndexBox). AreRows 0 (length xs) c.as_slice-in-loop-first-2.result.now) (sym c.as_slice-in-loop-first.ensures.value)
     (subst (AreRows 0 (length c.in_ok-labels.boxes.items)) (sym c.as_slice-in-loop-first-2.ensures.value)
     (AreRows-wider 0 c.loop-first.first c.label_end-end.result (length c.in_ok-labels.boxes.items) c.in_ok-live.live.items (omega arith) (omega arith) c.in_ok-live.ensures.order))
 
-pub united-requires-clause-sides : goal.united-requires-clause-sides
-united-requires-clause-sides g c =
+pub packed_group-requires-clause-sides : goal.packed_group-requires-clause-sides
+packed_group-requires-clause-sides g c =
     subst (All (λ (x : IndexBox). c.args.sides ≤ length x.sides.items)) (sym c.as_slice-in-loop-first.ensures.value)
     (boxes_sides c.in_ok-labels.labels.items c.in_ok-labels.boxes.items c.sort.new.self.items c.in_ok-labels.ensures.labels c.in_ok-labels.ensures.boxes
     g.P.Label.order g.met.P.Label.total g.met.P.Label.separates c.args.rows.items c.in_ok-sort.ensures.permutation c.args.sides c.requires.sides)
