@@ -1,5 +1,6 @@
 pub mod RowLemmas
 pub mod PlaceLemmas
+pub mod SideLemmas
 pub mod MeetingLemmas
 pub mod OutsideLemmas
 pub mod LessLemmas

@@ -1,25 +1,25 @@
 -- Rows of one key that meet, from the pairs of which one begins within the other.
-use Rattle.std.proofs.Common.{◌≡◌, ℕ, zero, suc, ◌+◌, ◌<◌, ◌≤◌, Bool, true, false, cond, flat_map, List, [], ◌∷◌, ◌++◌, map, length, get_or, ◌↔◌, ◌⊎◌, inl, inr, arith, sym, ap, subst, refl, ◌∙◌, Ordering}
+use Rattle.std.proofs.Common.{◌≡◌, ℕ, zero, suc, ◌+◌, ◌<◌, ◌≤◌, Bool, true, false, cond, flat_map, List, [], ◌∷◌, ◌++◌, length, get_or, ◌↔◌, ◌⊎◌, inl, inr, arith, sym, ap, subst, refl, ◌∙◌, Ordering}
 use Rattle.std.specs.declared.cmp.Ordering.TheVariants.{Less, Equal}
 use Rattle.std.specs.Cmp.{IsTotalOrder}
 use Rattle.std.specs.Ordering.{nat_cmp, ordering_then, is_lt}
 use Rattle.std.specs.List.{All, list_all}
-use Rattle.std.specs.List.Sorted.{IsSortedBy, IsPermutation}
+use Rattle.std.specs.List.Sorted.{IsSortedBy}
 use Rattle.std.proofs.lemmas.Bool.{cases_lt, true≢false}
 use Rattle.std.proofs.lemmas.Bool.Decides.{nat_tests}
-use Rattle.std.proofs.lemmas.Cmp.{tied_back, alike_right}
-use Rattle.std.proofs.lemmas.List.Sorted.{sorted_far, ranks_by, Contains-permutation, IsPermutation-sym}
+use Rattle.std.proofs.lemmas.Cmp.{alike_right}
+use Rattle.std.proofs.lemmas.List.Sorted.{sorted_far, ranks_by}
 use Rattle.packing_core.specs.Covering.{Among}
 use Rattle.packing_core.specs.Live.{box}
-use Rattle.packing_core.proofs.AmongLemmas.{among_append, among_map, among_flat}
+use Rattle.packing_core.proofs.AmongLemmas.{among_append, among_flat}
 use Rattle.packing_core.proofs.Numbered.{other_default}
-use Rattle.packing_core.proofs.Order.{among_contains, contains_among}
 use Rattle.slice_core.specs.Rows.{pair_cmp, pair_total}
 use Rattle.box_core.specs.Common.{At, first_of, common, has_cell, HaveCells}
 use Rattle.box_core.specs.Rows.{IsRow, IsBefore, Ascend, KeyBox}
-use Rattle.box_core.specs.Meetings.{Met, IsMeeting, IsLater, AreBehind, met, boxes_in, turned, StandByLeft}
+use Rattle.box_core.specs.Meetings.{Met, IsMeeting, IsLater, AreBehind, met, boxes_in, StandByLeft}
+use Rattle.box_core.specs.Sides.{AreCandidates}
 use Rattle.box_core.proofs.RowLemmas.{row_among, among_row, one_row, some_row, map_row, row_sides}
-use Rattle.box_core.proofs.PlaceLemmas.{first_meets, first_common, at_common, cells_from, common_length}
+use Rattle.box_core.proofs.PlaceLemmas.{first_common, at_common, cells_from, common_length}
 
 -- each stands so to those after it
 abbrev pub Stand : {X : Type 0} → (X → X → Type 0) → List X → Type 0
@@ -217,33 +217,19 @@ module _ {P : Type 0} (order : P → P → Ordering) (total : IsTotalOrder order
               (b, (is ((i, j), b)).1 (x, y, a, c, e, refl, cells), here),
         )
 
-    module _ (pairs : List (ℕ × ℕ)) (is : (p : ℕ × ℕ) → Among p pairs ↔ IsLater order false left right p ⊎ IsLater order true right left (turned p)) where
-      -- two rows of the pair's numbers, of one key
-      rows_of : (p : ℕ × ℕ) → Among p pairs → (x : KeyBox P) × (y : KeyBox P) × IsRow left p.0 x × IsRow right p.1 y × (order x.0 y.0 ≡ Equal)
-      rows_of p h = elim ((is p).0 h) [
-        | inl w ↦ (w.0, w.1, w.2, w.3, tied_back total w.1.0 w.0.0 w.4)
-        | inr w ↦ (w.1, w.0, w.3, w.2, w.4)
-      ]
-
+    module _ (pairs : List (ℕ × ℕ)) (is : AreCandidates order left right pairs) where
       pub pairs_below : All (λ (p : ℕ × ℕ). (p.0 < length left) × (p.1 < length right)) pairs
-      pairs_below i d h = let w = rows_of (get_or pairs i d) (row_among pairs i (get_or pairs i d) (some_row pairs i d h)) in (w.2.0, w.3.0)
+      pairs_below i d h = let w = is.keys (get_or pairs i d) (row_among pairs i (get_or pairs i d) (some_row pairs i d h)) in (w.2.0, w.3.0)
 
       met_meets : (p : ℕ × ℕ) (m : Met) → Among p pairs → Among m (met (boxes_in left) (boxes_in right) p) → IsMeeting order left right m
       met_meets p m h g =
           let w = met_is (boxes_in left) (boxes_in right) p m g in
-          let r = rows_of p h in
+          let r = is.keys p h in
           let e : common r.0.1 r.1.1 ≡ m.1 = λ t. (ap (λ (z : List (ℕ × ℕ)). common z r.1.1) (sym (box_is left p.0 r.0 r.2)) ∙ ap (common (box (boxes_in left) p.0)) (sym (box_is right p.1 r.1 r.3)) ∙ w.1) t in
           (r.0, r.1, subst (λ q. IsRow left q.0 r.0) w.0 r.2, subst (λ q. IsRow right q.1 r.1) w.0 r.3, r.4, e, w.2)
 
       meets_pair : (m : Met) → IsMeeting order left right m → Among m.0 pairs
-      meets_pair m h =
-          let x = h.0 in
-          let y = h.1 in
-          let f = first_meets x.1 y.1 (alike m.0.0 m.0.1 x y h.2 h.3) (subst HaveCells (sym h.5) h.6) in
-          (is m.0).1 (elim (cases_lt (first_of y.1).0 (first_of x.1).0) [
-            | inl u ↦ inr (y, x, h.3, h.2, h.4, omega arith, f.1)
-            | inr u ↦ inl (x, y, h.2, h.3, tied_back total x.0 y.0 h.4, u, f.0)
-          ])
+      meets_pair m h = is.all m.0.0 m.0.1 h.0 h.1 h.2 h.3 h.4 (subst HaveCells (sym h.5) h.6)
 
       pub all_meetings : (m : Met) → Among m (flat_map (met (boxes_in left) (boxes_in right)) pairs) ↔ IsMeeting order left right m
       all_meetings m =
@@ -283,21 +269,3 @@ module _ {P : Type 0} (order : P → P → Ordering) (total : IsTotalOrder order
       meetings_stand up s =
           let ms = flat_map (met (boxes_in left) (boxes_in right)) pairs in
           stand_rows ByLeft (λ m. inr (refl, omega arith)) ms (stand_weaker (λ (m n : Met). PairsStand m.0 n.0) ByLeft ms (λ m n a b. by_left up m n ((all_meetings m).0 a) ((all_meetings n).0 b)) (stand_flat (boxes_in left) (boxes_in right) pairs (pairs_stand pairs s)))
-
-  -- the pairs of both kinds together, sorted
-  pub pairs_are : (lefts rights all sorted : List (ℕ × ℕ)) → all ≡ lefts ++ map turned rights → IsPermutation all sorted
-      → ((p : ℕ × ℕ) → Among p lefts ↔ IsLater order false left right p) → ((p : ℕ × ℕ) → Among p rights ↔ IsLater order true right left p)
-      → (p : ℕ × ℕ) → Among p sorted ↔ IsLater order false left right p ⊎ IsLater order true right left (turned p)
-  pairs_are lefts rights all sorted made moved ls rs p =
-      let a = among_append p lefts (map turned rights) in
-      let m = among_map turned p rights in (
-        λ h.
-            let g = subst (Among p) made (contains_among all p (Contains-permutation sorted all p (IsPermutation-sym all sorted moved) (among_contains sorted p h))) in
-            elim (a.0 g) [
-              | inl w ↦ inl ((ls p).0 w)
-              | inr w ↦ let v = m.0 w in inr (subst (IsLater order true right left) (ap turned v.2) ((rs v.0).0 v.1))
-            ],
-        λ h.
-            let g : Among p all = subst (Among p) (sym made) (a.1 (elim h [ inl w ↦ inl ((ls p).1 w) | inr w ↦ inr (m.1 (turned p, (rs (turned p)).1 w, refl)) ])) in
-            contains_among sorted p (Contains-permutation all sorted p moved (among_contains all p g)),
-      )

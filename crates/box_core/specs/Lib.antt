@@ -8,3 +8,4 @@ pub mod Apartness
 pub mod Groups
 pub mod Tallies
 pub mod Totals
+pub mod Sides

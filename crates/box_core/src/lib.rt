@@ -5,6 +5,7 @@
 mod apart;
 mod by_cell;
 mod by_key;
+mod by_side;
 mod common;
 mod covering;
 mod grouping;

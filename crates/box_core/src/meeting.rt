@@ -7,8 +7,8 @@ ghost use Rattle.box_core.specs.Common.{At};
 ghost use Rattle.box_core.specs.Meetings.{IsMeeting, StandByLeft, Met, met, boxes_in};
 ghost use Rattle.box_core.specs.Rows.{Ascend, IsRow, KeyBox};
 
-use crate::common::{common, have_cells};
-use crate::later::{later, push_turned};
+use crate::by_side::pairs_on_best_side;
+use crate::common::{common, meet};
 use point_core::{Label, Memory};
 use slice_core::Key;
 use std::alloc::Global;
@@ -43,8 +43,8 @@ fn push_meeting<P>(
     requires sides { (x y : KeyBox P) → IsRow left.now pair.0 x → IsRow right.now pair.1 y → length x.1 ≡ length y.1 }
     ensures { OnOk result (out.new.items ≡ out.old.items ++ met (boxes_in left.now) (boxes_in right.now) pair) }
 {
-    let sides = common(alloc, &left[pair.0], &right[pair.1])?;
-    if have_cells(sides.as_slice()) {
+    if meet(&left[pair.0], &right[pair.1]) {
+        let sides = common(alloc, &left[pair.0], &right[pair.1])?;
         out.push(Meeting {
             left: pair.0,
             right: pair.1,
@@ -74,9 +74,11 @@ fn meetings<P>(
 
 /// The pairs of a left and a right row of one key whose boxes meet, each with the box that they have in common.
 ///
-/// The pairs are found on the first side: for a left row the rights that begin within it, and for a right row the lefts
-/// that begin within it and after its first cell, so each pair once. That takes the time of the rows and of one sort of
-/// the pairs. On one side just the pairs that meet are found.
+/// The pairs are found on one side: for a left row the rights that begin within it there, and for a right row the lefts
+/// that begin within it and after its first cell, so each pair once. It is the side on which the rows are shortest for the
+/// length of the axis, since there the fewest overlap; on one side just the pairs that meet are found. That takes the time
+/// of a sort of the rows and of one of the pairs that overlap on that side. In the worst case, where many rows of one key
+/// overlap on every side and yet few meet, these pairs are as many as the left rows times the right rows of the key.
 pub fn overlaps<P: Label>(
     alloc: Global,
     sides: usize,
@@ -92,9 +94,7 @@ pub fn overlaps<P: Label>(
         ((b : List (ℕ × ℕ)) × Among ((i, j), b) v.items × At b place) ↔ At x.1 place × At y.1 place) }
     ensures order { IfOk result (λ v. StandByLeft v.items) }
 {
-    let mut pairs = later(alloc, left, right, false)?;
-    let others = later(alloc, right, left, true)?;
-    push_turned(&mut pairs, others.as_slice())?;
+    let mut pairs = pairs_on_best_side(alloc, sides, left, right)?;
     pairs.sort()?;
     let out = meetings(alloc, left, right, pairs.as_slice())?;
     Ok(out)

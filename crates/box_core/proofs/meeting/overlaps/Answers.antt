@@ -1,8 +1,9 @@
-use Rattle.std.proofs.Common.{◌≡◌, ℕ, ◌<◌, ◌↔◌, true, List, length, flat_map, sym, subst, ◌∙◌, ap}
+use Rattle.std.proofs.Common.{◌≡◌, ℕ, ◌<◌, ◌↔◌, List, length, flat_map, sym, subst, ◌∙◌, ap}
 use Rattle.std.specs.List.{All}
 use Rattle.packing_core.specs.Covering.{Among}
-use Rattle.box_core.specs.Meetings.{Met, met, boxes_in, IsMeeting, IsLater, StandByLeft}
-use Rattle.box_core.proofs.MeetingLemmas.{meeting_places, alike, pairs_are, pairs_below, all_meetings, meetings_stand}
+use Rattle.box_core.specs.Meetings.{Met, met, boxes_in, IsMeeting, StandByLeft}
+use Rattle.box_core.proofs.MeetingLemmas.{meeting_places, alike, pairs_below, all_meetings, meetings_stand}
+use Rattle.box_core.proofs.SideLemmas.{sorted_candidates}
 use Rattle.box_core.proofs.meeting.overlaps.Goals as goal
 
 pub meetings-requires-clause-pairs : goal.meetings-requires-clause-pairs
@@ -11,9 +12,8 @@ meetings-requires-clause-pairs g c =
     let t = g.met.P.Label.total in
     let left = c.args.left.now in
     let right = c.args.right.now in
-    let others = subst (λ (xs : List (ℕ × ℕ)). (p : ℕ × ℕ) → Among p xs ↔ IsLater o true right left p) (sym c.as_slice.ensures.value) c.in_ok-others.ensures in
-    let is = pairs_are o t left right c.in_ok-pairs.pairs.items c.as_slice.result.now c.push_turned.new.out.items c.sort.new.self.items c.in_ok-push_turned.ensures c.in_ok-sort.ensures.permutation c.in_ok-pairs.ensures others in
-    subst (All (λ (p : ℕ × ℕ). (p.0 < length left) × (p.1 < length right))) (sym c.as_slice-2.ensures.value)
+    let is = sorted_candidates o t left right c.in_ok-pairs.pairs.items c.sort.new.self.items c.in_ok-sort.ensures.permutation c.in_ok-pairs.ensures in
+    subst (All (λ (p : ℕ × ℕ). (p.0 < length left) × (p.1 < length right))) (sym c.as_slice.ensures.value)
     (pairs_below o t left right c.args.sides c.requires.left c.requires.right c.sort.new.self.items is)
 
 pub meetings-requires-clause-sides : goal.meetings-requires-clause-sides
@@ -25,9 +25,8 @@ returns-clause-members g c =
     let t = g.met.P.Label.total in
     let left = c.args.left.now in
     let right = c.args.right.now in
-    let others = subst (λ (xs : List (ℕ × ℕ)). (p : ℕ × ℕ) → Among p xs ↔ IsLater o true right left p) (sym c.as_slice.ensures.value) c.in_ok-others.ensures in
-    let is = pairs_are o t left right c.in_ok-pairs.pairs.items c.as_slice.result.now c.push_turned.new.out.items c.sort.new.self.items c.in_ok-push_turned.ensures c.in_ok-sort.ensures.permutation c.in_ok-pairs.ensures others in
-    let e : c.in_ok-out.out.items ≡ flat_map (met (boxes_in left) (boxes_in right)) c.sort.new.self.items = c.in_ok-out.ensures ∙ ap (flat_map (met (boxes_in left) (boxes_in right))) c.as_slice-2.ensures.value in
+    let is = sorted_candidates o t left right c.in_ok-pairs.pairs.items c.sort.new.self.items c.in_ok-sort.ensures.permutation c.in_ok-pairs.ensures in
+    let e : c.in_ok-out.out.items ≡ flat_map (met (boxes_in left) (boxes_in right)) c.sort.new.self.items = c.in_ok-out.ensures ∙ ap (flat_map (met (boxes_in left) (boxes_in right))) c.as_slice.ensures.value in
     subst (λ (ms : List Met). (m : Met) → Among m ms ↔ IsMeeting o left right m) (sym e)
     (all_meetings o t left right c.args.sides c.requires.left c.requires.right c.sort.new.self.items is)
 
@@ -37,9 +36,8 @@ returns-clause-order g c =
     let t = g.met.P.Label.total in
     let left = c.args.left.now in
     let right = c.args.right.now in
-    let others = subst (λ (xs : List (ℕ × ℕ)). (p : ℕ × ℕ) → Among p xs ↔ IsLater o true right left p) (sym c.as_slice.ensures.value) c.in_ok-others.ensures in
-    let is = pairs_are o t left right c.in_ok-pairs.pairs.items c.as_slice.result.now c.push_turned.new.out.items c.sort.new.self.items c.in_ok-push_turned.ensures c.in_ok-sort.ensures.permutation c.in_ok-pairs.ensures others in
-    let e : c.in_ok-out.out.items ≡ flat_map (met (boxes_in left) (boxes_in right)) c.sort.new.self.items = c.in_ok-out.ensures ∙ ap (flat_map (met (boxes_in left) (boxes_in right))) c.as_slice-2.ensures.value in
+    let is = sorted_candidates o t left right c.in_ok-pairs.pairs.items c.sort.new.self.items c.in_ok-sort.ensures.permutation c.in_ok-pairs.ensures in
+    let e : c.in_ok-out.out.items ≡ flat_map (met (boxes_in left) (boxes_in right)) c.sort.new.self.items = c.in_ok-out.ensures ∙ ap (flat_map (met (boxes_in left) (boxes_in right))) c.as_slice.ensures.value in
     subst StandByLeft (sym e)
     (meetings_stand o t left right c.args.sides c.requires.left c.requires.right c.sort.new.self.items is c.requires.right_order c.in_ok-sort.ensures.sorted)
 
