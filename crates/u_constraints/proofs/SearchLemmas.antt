@@ -2,7 +2,9 @@
 --     fronts_sorted      rows in order stand in the order of their first values
 --     found      the rows with the first values of some rows are those that have these rows' parts
 --     all_sought      whether each of some rows' parts is the first values of a row
-use Rattle.std.proofs.Common.{◌≡◌, ◌⊎◌, ◌↔◌, inl, inr, ℕ, zero, suc, ◌+◌, ◌<◌, ◌≤◌, ◌==◌, List, [], ◌∷◌, ◌++◌, length, get_or, take, map, refl, sym, ap, ap₂, ◌∙◌, subst, arith, eq-eqb, Bool, true, false, not, Ordering}
+--     none_selected, none_touched      of relations without rows
+use Rattle.std.proofs.Common.{◌≡◌, ◌⊎◌, ◌↔◌, inl, inr, ℕ, zero, suc, ◌+◌, ◌<◌, ◌≤◌, ◌==◌, List, [], ◌∷◌, ◌++◌, length, get_or, take, map, refl, sym, ap, ap₂, ◌∙◌, subst, arith, eq-eqb, Bool, true, false, not, Ok, Err, Ordering}
+use Rattle.std.specs.Prelude.{Result, IfOk}
 use Rattle.std.specs.declared.cmp.Ordering.TheVariants.{Less, Equal}
 use Rattle.std.specs.Bool.{IsTrue}
 use Rattle.std.specs.List.{All, filter, flat_map, list_any, list_all}
@@ -14,10 +16,11 @@ use Rattle.base_core.specs.Sets.{has, is_within}
 use Rattle.base_core.proofs.SetLemmas.{In, Ascends, Ascends-from_sorted, In-in_order, Ascends-in_order, same_by_members}
 use Rattle.base_core.proofs.MemberLemmas.{In-map, In-filter, In-flat_map, has-In, list_any-In, list_all-In, eq_by_cmp-≡}
 use Rattle.base_core.proofs.SetOperatorLemmas.{Ascends-filter, same_tests}
+use Rattle.point_core.specs.declared.memory.Memory.{Memory}
 use Rattle.value_core.specs.Values.{Row, Relation, Heading, IsRelation, fits_heading, row_cmp, rows_of, most_rows}
 use Rattle.value_core.specs.Order.{row_total, row_separates}
 use Rattle.relation_core.specs.Agreement.{part_of}
-use Rattle.relation_core.specs.Growth.{touched}
+use Rattle.relation_core.specs.Growth.{touched, IsSelection}
 use Rattle.relation_core.specs.Parts.{projected}
 use Rattle.relation_core.proofs.AgreementLemmas.{length_of_fit}
 use Rattle.relation_core.proofs.FilterLemmas.{length-filter_at_most, rows_ascend}
@@ -188,3 +191,27 @@ all_sought here there rows keys others' other is same first within size are =
       λ e. theirs.1 (λ k i. sym (each k i) ∙ mine.0 e k i),
       λ e. mine.1 (λ k i. each k i ∙ theirs.0 e k i),
     )
+
+-- ---- where there are no rows
+
+pub none_selected : (all rows : List Row) → rows ≡ [] → IsSelection all rows
+none_selected all rows none = ((λ x. false), none ∙ sym (of_none all))
+  where
+    of_none : (zs : List Row) → filter (λ (x : Row). false) zs ≡ []
+    of_none [] = refl
+    of_none (z ∷ zs) = of_none zs
+
+by_none : (positions : List ℕ) (many : List Row) → touched positions [] many ≡ []
+by_none positions [] = refl
+by_none positions (x ∷ many) = by_none positions many
+
+none_in : (positions : List ℕ) (few many : List Row) → (few ≡ []) ⊎ (many ≡ []) → touched positions few many ≡ []
+none_in positions few many none = elim none [
+  | inl e ↦ ap (λ (zs : List Row). touched positions zs many) e ∙ by_none positions many
+  | inr e ↦ ap (λ (zs : List Row). touched positions few zs) e
+]
+
+pub none_touched : (positions : List ℕ) (few many : Relation) (r : Result Relation Memory) → (few.rows ≡ []) ⊎ (many.rows ≡ [])
+    → IfOk r (λ x. (x.heading ≡ many.heading) × (x.rows ≡ [])) → IfOk r (λ x. (x.heading ≡ many.heading) × (x.rows ≡ touched positions few.rows many.rows))
+none_touched positions few many (Ok x) none is = (is.0, is.1 ∙ sym (none_in positions few.rows many.rows none))
+none_touched positions few many (Err e) none is = tt

@@ -2,6 +2,7 @@
 #![tactic(auto)]
 
 mod apart;
+mod beginning;
 mod constraints;
 mod fronts;
 mod growth;
@@ -16,6 +17,7 @@ mod references;
 mod search;
 mod unpacked;
 
+pub use beginning::with_front;
 pub use constraints::holds;
 pub use growth::{holds_beside, holds_with};
 pub use positions::are_all;

@@ -1,5 +1,5 @@
 // Rows found by their first values, among rows in order, or by marks.
-ghost use Rattle.std.specs.Prelude.{◌≡◌, ◌++◌, ◌<◌, ◌≤◌, ℕ, true, filter, length, IfOk, IsTrue, OnOk};
+ghost use Rattle.std.specs.Prelude.{◌≡◌, ◌⊎◌, ◌++◌, ◌<◌, ◌≤◌, [], ℕ, true, filter, length, IfOk, IsTrue, OnOk};
 ghost use Rattle.std.specs.List.{All, flat_map, list_all, list_any};
 ghost use Rattle.std.specs.List.Sorted.{IsStrictlySortedBy};
 ghost use Rattle.value_core.specs.Relations.{all_fit, relation_of};
@@ -8,23 +8,13 @@ ghost use Rattle.relation_core.specs.Growth.{touched};
 ghost use Rattle.row_marks.specs.Marks.{AreMarksOf};
 ghost use Rattle.u_constraints.specs.Fronts.{begins_with, counts_from};
 
-use crate::fronts::{are_first, begins_below, begins_with};
+use crate::beginning::with_front;
+use crate::fronts::are_first;
 use point_core::{Label, Memory};
 use relation_core::{sorted_parts, touched};
-use row_marks::{Marks, touched_by_marks};
+use row_marks::{Marks, selection, touched_by_marks};
 use std::alloc::Global;
 use value_core::{Heading, Relation, Row, RowsRefuse};
-
-/// The rows with these first values, which stand together.
-fn with_front<'a>(rows: &'a [Row], values: &Row) -> &'a [Row]
-    requires { IsStrictlySortedBy row_cmp rows.now }
-    ensures { result.now ≡ filter (begins_with values.now) rows.now }
-{
-    let begin = rows.partition_point(|row| begins_below(row, values));
-    let rest = rows.split_at(begin).1;
-    let count = rest.partition_point(|row| begins_with(row, values));
-    rest.split_at(count).0
-}
 
 /// Whether some row has these first values. The rows are in order.
 fn is_front(rows: &[Row], values: &Row) -> bool
@@ -110,7 +100,24 @@ pub(crate) fn are_few(few: &Relation, many: &Relation) -> bool
     few.rows().len() < many.rows().len() / 16
 }
 
-/// The rows of many whose values at the positions are those of some row of few: by search, where the positions are the first ones.
+/// Whether one of the relations has no rows, so that no row of the one has values of a row of the other.
+fn is_either_empty(few: &Relation, many: &Relation) -> bool
+    ensures empty { result ≡ true → (few.now.rows ≡ []) ⊎ (many.now.rows ≡ []) }
+    ensures relations { IsRelation few.now × IsRelation many.now }
+{
+    let (few, many) = (few.rows(), many.rows());
+    few.is_empty() || many.is_empty()
+}
+
+/// The relation with the heading of another one and no rows.
+fn without_rows(alloc: Global, r: &Relation) -> Result<Relation, Memory>
+    ensures { IfOk result (λ x. (x.heading ≡ r.now.heading) × (x.rows ≡ [])) }
+{
+    selection(alloc, r, Vec::new(alloc))
+}
+
+/// The rows of many whose values at the positions are those of some row of few: by search, where the positions are the first ones. Where
+/// one of the relations has no rows, nothing is sorted or sought.
 pub fn touched_by(
     alloc: Global,
     many: &Relation,
@@ -122,6 +129,9 @@ pub fn touched_by(
     ensures rows { IfOk result (λ r. (r.heading ≡ many.now.heading) × (r.rows ≡ touched positions.now few.now.rows many.now.rows)) }
     ensures relations { IsRelation few.now × IsRelation many.now }
 {
+    if is_either_empty(few, many) {
+        return without_rows(alloc, many);
+    }
     if are_few(few, many) && are_first(positions) {
         return touched_in_front(alloc, many, few, positions);
     }
@@ -172,6 +182,9 @@ pub fn touched_with(
     ensures rows { IfOk result (λ r. (r.heading ≡ many.now.heading) × (r.rows ≡ touched positions.now few.now.rows many.now.rows)) }
     ensures relations { IsRelation few.now × IsRelation many.now }
 {
+    if is_either_empty(few, many) {
+        return without_rows(alloc, many);
+    }
     if !are_few(few, many) || are_first(positions) {
         return touched_by(alloc, many, few, positions);
     }

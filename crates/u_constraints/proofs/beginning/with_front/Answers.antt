@@ -6,7 +6,7 @@ use Rattle.value_core.specs.Values.{Row, row_cmp}
 use Rattle.relation_core.proofs.RunLemmas.{below_partitions, at_partitions, run_is, not_below}
 use Rattle.u_constraints.specs.Fronts.{begins_with}
 use Rattle.u_constraints.proofs.SearchLemmas.{fronts_sorted}
-use Rattle.u_constraints.proofs.search.with_front.Goals as goal
+use Rattle.u_constraints.proofs.beginning.with_front.Goals as goal
 
 pub returns : goal.returns
 returns c =

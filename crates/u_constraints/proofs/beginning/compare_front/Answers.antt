@@ -3,7 +3,7 @@ use Rattle.std.proofs.lemmas.List.{length-map}
 use Rattle.value_core.specs.Plain.{plain}
 use Rattle.value_core.specs.Values.{Row, row_cmp, value_cmp}
 use Rattle.value_core.proofs.OrderLemmas.{slice_cmp-map}
-use Rattle.u_constraints.proofs.fronts.compare_front.Goals as goal
+use Rattle.u_constraints.proofs.beginning.compare_front.Goals as goal
 
 pub returns : goal.returns
 returns c =
