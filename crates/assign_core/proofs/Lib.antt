@@ -13,6 +13,9 @@ pub mod MarkedLemmas
 pub mod InsertionLemmas
 pub mod NameLemmas
 pub mod PackingLemmas
+pub mod PlainLemmas
+pub mod PlainRenewalLemmas
+pub mod PointLemmas
 pub mod DeletionLemmas
 pub mod PortionLemmas
 pub mod ReductionLemmas

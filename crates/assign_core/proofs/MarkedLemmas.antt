@@ -3,12 +3,17 @@
 --     none_marked      no marks are right for each relvar
 --     marks_entry, marks_put, set_marked      marks for an entry, and for what is put in its place
 --     first_marks, marks_of_first      marks for the first entry of a name
-use Rattle.std.proofs.Common.{◌≡◌, ℕ, zero, suc, ◌<◌, ◌≤◌, List, [], ◌∷◌, map, length, get_or, refl, sym, ap, subst, ◌∙◌, arith, Some, true, nat_lt}
+--     marked_there, unmarked      where marks of a place stand, and where there are none
+--     marked_removed, others_marked      those that are left, and those of other places than the one that changes
+use Rattle.std.proofs.Common.{◌≡◌, ◌≢◌, ℕ, zero, suc, ◌<◌, ◌≤◌, List, [], ◌∷◌, map, length, take, drop, get_or, refl, sym, ap, subst, ◌∙◌, arith, Some, None, Bool, true, false, nat_eq, nat_lt}
 use Rattle.std.proofs.lemmas.Bool.Decides.{nat_tests}
 use Rattle.std.proofs.lemmas.List.{length-map}
-use Rattle.std.proofs.lemmas.List.Elements.{All-nil, All-weaker}
+use Rattle.std.proofs.lemmas.List.Elements.{All-nil, All-weaker, All-append, All-take, All-drop}
+use Rattle.std.proofs.lemmas.List.Quantifiers.{position-Some}
+use Rattle.std.proofs.lemmas.List.Sums.{fails_before_first}
+use Rattle.std.proofs.lemmas.Grind.{common_steps}
 use Rattle.std.specs.Prelude.{slice_get}
-use Rattle.std.specs.List.{All, insert, remove, list_all}
+use Rattle.std.specs.List.{All, insert, remove, list_all, position, position_or_len}
 use Rattle.std.specs.Bool.{IsTrue}
 use Rattle.indexmap.specs.IndexMap.{set_value_at}
 use Rattle.value_core.specs.declared.constraint.Constraint.{Constraint}
@@ -22,7 +27,9 @@ use Rattle.row_marks.specs.Marks.{MarkList, AreMarksOf, mark_of}
 use Rattle.tree_core.specs.declared.relvar.Relvar.{Relvar}
 use Rattle.tree_core.specs.Relvars.{PlainRelvar, base, view, Entries, read_entry, read_relvar}
 use Rattle.meaning_core.specs.Names.{IsFirstAt}
-use Rattle.assign_core.specs.Marked.{IsMarksOf, AreMarksIn, AreMarksAt}
+use Rattle.assign_core.specs.declared.marked.Marked.{Marked}
+use Rattle.assign_core.specs.declared.marked.MarkedRelvar.{MarkedRelvar}
+use Rattle.assign_core.specs.Marked.{IsMarksOf, AreMarksIn, AreMarksAt, IsMarked, AreMarked, IsUnmarkedAt}
 use Rattle.assign_core.proofs.RemovalLemmas.{fewer_relation}
 
 -- ---- one row
@@ -130,3 +137,38 @@ pub marks_of_first : (es : Entries) (name : Name) (i : ℕ) (value : Relation) (
     → All (AreMarksOf value.rows) ms
 marks_of_first es name i value constraints ms first h =
     All-weaker (IsMarksOf value.heading value.rows) (AreMarksOf value.rows) (λ m is. is.are) ms (first_marks es name i value constraints ms first h)
+
+-- ---- several relvars
+
+-- those that stand where the place is found
+pub marked_there : (rs : List MarkedRelvar) (at i : ℕ) (r : MarkedRelvar) (es : Entries) → position (λ (z : MarkedRelvar). nat_eq z.at at) rs ≡ Some i → r ≡ get_or rs i r → All (IsMarked es) rs → AreMarksAt at r.list.items es
+marked_there rs at i r es found is h =
+    let there = position-Some (λ (z : MarkedRelvar). nat_eq z.at at) rs i r found in
+    let test : nat_eq (get_or rs i r).at at ≡ true = there.1 in
+    let same : (get_or rs i r).at ≡ at = grind (arith, nat_tests) in
+    subst (λ (z : MarkedRelvar). AreMarksAt at z.list.items es) (sym is)
+    (subst (λ (k : ℕ). AreMarksAt k (get_or rs i r).list.items es) same (h i r there.0))
+
+-- there are none where it isn't found
+pub unmarked : (rs : List MarkedRelvar) (at : ℕ) → position (λ (z : MarkedRelvar). nat_eq z.at at) rs ≡ None → All (λ (z : MarkedRelvar). z.at ≢ at) rs
+unmarked rs at none i d l same =
+    let p : MarkedRelvar → Bool = λ z. nat_eq z.at at in
+    let all : length rs ≤ position_or_len p rs = grind (arith, common_steps) in
+    let fails : nat_eq (get_or rs i d).at at ≡ false = fails_before_first p rs i d (omega (arith, all, l)) in
+    grind (arith, nat_tests)
+
+pub marked_removed : (rs : List MarkedRelvar) (i : ℕ) (es : Entries) → All (IsMarked es) rs → All (IsMarked es) (remove rs i)
+marked_removed rs i es h = All-append (IsMarked es) (take i rs) (drop (suc i) rs) (All-take (IsMarked es) i rs h) (All-drop (IsMarked es) (suc i) rs h)
+
+-- a relvar's marks are right after another one changes
+set_other : (es : List (Name × Relvar)) (i j : ℕ) (w : Relvar) (ms : List MarkList) → j ≢ i → AreMarksAt j ms (map read_entry es) → AreMarksAt j ms (map read_entry (set_value_at es i w))
+set_other [] i j w ms other h = h
+set_other (x ∷ es) zero zero w ms other h = absurd (other refl)
+set_other (x ∷ es) zero (suc j) w ms other h = h
+set_other (x ∷ es) (suc i) zero w ms other h = h
+set_other (x ∷ es) (suc i) (suc j) w ms other h = set_other es i j w ms (λ same. other (ap suc same)) h
+
+pub others_marked : (es : List (Name × Relvar)) (i : ℕ) (w : Relvar) (m : Marked) → IsUnmarkedAt i m → AreMarked m (map read_entry es) → AreMarked m (map read_entry (set_value_at es i w))
+others_marked es i w m other h k d l =
+    let r = get_or m.entries.items k d in
+    set_other es i r.at w r.list.items (other k d l) (h k d l)

@@ -43,6 +43,7 @@ use Rattle.assign_core.specs.Assignments.{seen_by, source_value}
 use Rattle.assign_core.specs.Costs.{source_cost}
 use Rattle.assign_core.specs.Portions.{PortionNodes, portion_of, portion_rows, portion_cost, deletion_of, IsNegation, IsPortionFor, IsDeletion, IsDeletionOf}
 use Rattle.assign_core.proofs.InsertionLemmas.{target_meant}
+use Rattle.assign_core.proofs.PointLemmas.{point_least}
 
 -- the nodes have the heading of the target
 pub record AreNodesOf (h : Heading) (n : PortionNodes) : Type 0 where
@@ -73,11 +74,14 @@ module _ (h : Heading) (acl : List ℕ) (one : IsTrue (is_heading h)) (list : Is
         ∙ rule_rows place (restricted (condition c)) rows)
 
     pub portion_paid : (prices : Prices) → ((at : Place) → meaning (known_of prices) plainly (named at h target) ≡ Ok rows)
-        → tree_cost prices plainly (portion_of place acl n c target) ≡ price_of prices target + portion_cost acl c rows
+        → portion_cost acl c rows ≤ tree_cost prices plainly (portion_of place acl n c target)
     portion_paid prices stands =
+        let e : tree_cost prices plainly (portion_of place acl n c target) ≡ price_of prices target + bound (cells_of_all acl (c ∷ []) rows) (length acl) =
         ap₂ (λ (a b : Heading). tree_cost prices plainly (using place n.heading acl (restrict n.at a c (named n.from b target)))) fit.headed fit.given
         ∙ (ap (λ (m : RowsMeant). price_of prices target + paid m (rule_cost (around place h acl) h (c ∷ []))) (stands n.from)
-        ∙ ap (λ (k : ℕ). price_of prices target + k) (rule_paid place (c ∷ []) rows))
+        ∙ ap (λ (k : ℕ). price_of prices target + k) (rule_paid place (c ∷ []) rows)) in
+        let least = point_least acl (cells_of_all acl (c ∷ []) rows) in
+        omega (arith, e, least)
 
 -- ---- what is typed
 

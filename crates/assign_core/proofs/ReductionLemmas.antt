@@ -31,13 +31,13 @@ use Rattle.u_set.specs.Apart.{outside}
 use Rattle.u_set.specs.Boxes.{AreIntervals}
 use Rattle.u_set.proofs.BridgeLemmas.{unpacked_ascends}
 use Rattle.u_row.proofs.BeneathLemmas.{all_in, in_all}
-use Rattle.u_constraints.proofs.BoundLemmas.{bound_grows}
 use Rattle.u_labels.proofs.LabelLemmas.{IsSet}
 use Rattle.u_labels.proofs.ChangeLemmas.{part_set, kept_law, dropped_law, packed_law, labels_law, count_law}
 use Rattle.u_changes.specs.Concerned.{AreFalse}
 use Rattle.using_core.specs.Cells.{cells_of_row, cells_of_all}
 use Rattle.assign_core.specs.Portions.{portion_cost, IsNegation}
 use Rattle.assign_core.proofs.AdditionLemmas.{limited_over}
+use Rattle.assign_core.proofs.PointLemmas.{point_grows}
 
 -- ---- conditions
 
@@ -55,14 +55,14 @@ negated_passes acl e c rows negates fails =
 
 -- ---- rows within the limit
 
-limited_told : (place : Place) (rows left : List Row) → limited place rows ≡ Ok left → rows ≡ left
+pub limited_told : (place : Place) (rows left : List Row) → limited place rows ≡ Ok left → rows ≡ left
 limited_told place rows left e = by (nat_le (length rows) most_rows) e
   where
     by : (b : Bool) → cond b (Ok rows) (Err (fault place E35)) ≡ Ok left → rows ≡ left
     by true f = cc
     by false f = absurd (cc)
 
-limited_failed : (place : Place) (rows : List Row) (e : Fault) → limited place rows ≡ Err e → (most_rows < length rows) × (fault place E35 ≡ e)
+pub limited_failed : (place : Place) (rows : List Row) (e : Fault) → limited place rows ≡ Err e → (most_rows < length rows) × (fault place E35 ≡ e)
 limited_failed place rows e told = by (nat_le (length rows) most_rows) refl told
   where
     by : (b : Bool) → nat_le (length rows) most_rows ≡ b → cond b (Ok rows) (Err (fault place E35)) ≡ Err e → (most_rows < length rows) × (fault place E35 ≡ e)
@@ -178,5 +178,5 @@ pub fewer_paid : (heading : Heading) (acl : List ℕ) (c : Expr) (value part : L
 fewer_paid heading acl c value part closed =
     let p : Row → Bool = λ x. has row_cmp (projected (outside acl heading) part) (part_of (outside acl heading) x) in
     let less : cells_of_all acl (c ∷ []) (filter p value) ≤ cells_of_all acl (c ∷ []) value = fewer_sum (cells_of_row acl (c ∷ [])) p value in
-    bound_grows (cells_of_all acl (c ∷ []) part) (cells_of_all acl (c ∷ []) value) (length acl)
+    point_grows acl (cells_of_all acl (c ∷ []) part) (cells_of_all acl (c ∷ []) value)
     (subst (λ (rows : List Row). cells_of_all acl (c ∷ []) rows ≤ cells_of_all acl (c ∷ []) value) (sym closed) less)

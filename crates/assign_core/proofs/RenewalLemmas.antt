@@ -20,7 +20,6 @@ use Rattle.value_core.specs.Values.{Row, Heading, Relation, row_cmp, is_heading,
 use Rattle.scalar_core.specs.Expressions.{Expr, read}
 use Rattle.relation_core.specs.Answers.{Answers, under}
 use Rattle.relation_core.specs.Operators.{subtracted, united}
-use Rattle.cell_core.specs.Costs.{bound}
 use Rattle.tree_core.specs.Items.{read_assignment}
 use Rattle.tree_core.specs.Relvars.{Entries}
 use Rattle.tree_core.specs.Trees.{PlainSets, read_sets}
@@ -37,7 +36,7 @@ use Rattle.using_core.proofs.ListLemmas.{intervals_of_list}
 use Rattle.algebra_core.specs.Costs.{paid}
 use Rattle.assign_core.specs.declared.renewal.Renewal.{Renewal}
 use Rattle.assign_core.specs.Costs.{source_cost}
-use Rattle.assign_core.specs.Portions.{portion_rows, portion_cost}
+use Rattle.assign_core.specs.Portions.{portion_rows, point_cost, portion_cost}
 use Rattle.assign_core.specs.Renewals.{renewed_target, after_left, AreAdded, IsLeft, IsRenewal}
 use Rattle.assign_core.specs.Revisions.{changed_rows, changed_cost, left_of, taken_of, added_of, revised_rows, IsChangedFor}
 use Rattle.assign_core.specs.Targets.{entries_before, value_given}
@@ -55,7 +54,7 @@ changed_told result place h g acl l op rows one list same are told =
     (subst (λ (k : List ℕ). Answers result (under h (then_give (op h (opened (around place h k) h rows)) (closed (around place h k) place h)))) are
     (subst (λ (k : Heading). Answers result (under k (then_give (op k (opened (around place k l) h rows)) (closed (around place k l) place k)))) same told))
 
-under_failed : (h : Heading) (m : RowsMeant) (e : Fault) → under h m ≡ Err e → m ≡ Err e
+pub under_failed : (h : Heading) (m : RowsMeant) (e : Fault) → under h m ≡ Err e → m ≡ Err e
 under_failed h (Ok rows) e told = absurd (cc)
 under_failed h (Err g) e told = cc
 
@@ -226,7 +225,7 @@ module _ (r : Renewal) (k : IsRenewal r) where
     pub first_paid : first_cost ≤ source_cost es es (read_assignment r.revision.assignment.now)
     first_paid =
         let known = ap (λ (m : RowsMeant). portion_cost acl not_c own + paid m (λ a. (portion_cost acl d own + paid (taken_of r.revision own) (changed_cost acl sets))
-        + paid added_all (λ b. bound (length a + length b) (length acl)))) is.meant in
+        + paid added_all (λ b. point_cost acl (length a + length b)))) is.meant in
         let steps = k.revision.steps in
         omega (arith, known, steps)
 
@@ -237,8 +236,8 @@ module _ (r : Renewal) (k : IsRenewal r) where
       pub all_paid : first_cost + after_left r left added ≤ source_cost es es (read_assignment r.revision.assignment.now)
       all_paid =
           let known = ap (λ (m : RowsMeant). portion_cost acl not_c own + paid m (λ a. (portion_cost acl d own + paid (taken_of r.revision own) (changed_cost acl sets))
-          + paid added_all (λ b. bound (length a + length b) (length acl)))) is.meant in
-          let last : paid added_all (λ b. bound (length (united rest left.rows) + length b) (length acl)) ≡ after_left r left added =
-          ap (λ (m : RowsMeant). paid m (λ b. bound (length (united rest left.rows) + length b) (length acl))) are.meant in
+          + paid added_all (λ b. point_cost acl (length a + length b)))) is.meant in
+          let last : paid added_all (λ b. point_cost acl (length (united rest left.rows) + length b)) ≡ after_left r left added =
+          ap (λ (m : RowsMeant). paid m (λ b. point_cost acl (length (united rest left.rows) + length b))) are.meant in
           let steps = k.revision.steps in
           omega (arith, known, last, steps)

@@ -34,8 +34,9 @@ use Rattle.assign_core.specs.declared.revision.Changed.{Changed}
 use Rattle.assign_core.specs.declared.revision.Revision.{Revision}
 use Rattle.assign_core.specs.Assignments.{seen_by, source_value}
 use Rattle.assign_core.specs.Costs.{source_cost}
-use Rattle.assign_core.specs.Portions.{PortionNodes, portion_of, portion_cost, IsPortionFor}
+use Rattle.assign_core.specs.Portions.{PortionNodes, portion_of, point_cost, portion_cost, IsPortionFor}
 use Rattle.assign_core.specs.Revisions.{ChangedNodes, RevisionNodes, changed_of, changed_rows, changed_cost, revision_of, changed_tree, left_of, taken_of, added_of, revised_rows, revision_cost, IsChangedFor, IsRevision, IsRevisionOf}
+use Rattle.assign_core.proofs.PointLemmas.{point_least}
 use Rattle.assign_core.proofs.PortionLemmas.{AreNodesOf, portion_meant, portion_paid, portion_nodes, portion_for, name_stands, name_priced, headed_as}
 
 -- ---- steps
@@ -58,9 +59,13 @@ module _ (h : Heading) (acl : List ℕ) (one : IsTrue (is_heading h)) (list : Is
     changed_meant known is =
         λ i. then_give (is i) (λ r. then_give (extended (extended_row (q i) (p i) sets) (unpacked (places_at n.headed (heading_of t) p q i) r)) (λ points. limited place (packed (places_at n.headed n.headed p p i) points)))
 
-    pub changed_paid : (prices : Prices) → meaning (known_of prices) plainly t ≡ mine → tree_cost prices plainly (changed_of place acl n sets t) ≡ tree_cost prices plainly t + paid mine (changed_cost acl sets)
+    pub changed_paid : (prices : Prices) → meaning (known_of prices) plainly t ≡ mine → tree_cost prices plainly t + paid mine (changed_cost acl sets) ≤ tree_cost prices plainly (changed_of place acl n sets t)
     changed_paid prices is =
-        λ i. tree_cost prices plainly t + paid (is i) (λ rows. bound (cells_of_all (places_at n.headed (heading_of t) p q i) (scalars_of sets) rows) (names_count n.headed i))
+        let whole : List Row → ℕ = λ rows. bound (cells_of_all acl (scalars_of sets) rows) (length acl) in
+        let e : tree_cost prices plainly (changed_of place acl n sets t) ≡ tree_cost prices plainly t + paid mine whole =
+        λ i. tree_cost prices plainly t + paid (is i) (λ rows. bound (cells_of_all (places_at n.headed (heading_of t) p q i) (scalars_of sets) rows) (names_count n.headed i)) in
+        let less = paid_more mine (changed_cost acl sets) whole (λ rows. point_least acl (cells_of_all acl (scalars_of sets) rows)) in
+        omega (arith, e, less)
 
   module _ (place at : Place) (heading headed : Heading) (l r : Tree) (mine yours : RowsMeant) (p : headed ≡ h) (q : heading_of l ≡ h) (s : heading_of r ≡ h) where
     pub union_meant : (known : Known) → meaning known plainly l ≡ mine → meaning known plainly r ≡ yours
@@ -70,10 +75,17 @@ module _ (h : Heading) (acl : List ℕ) (one : IsTrue (is_heading h)) (list : Is
         limited place (packed (places_at headed headed p p i) (united (unpacked (places_at headed (heading_of l) p q i) a) (unpacked (places_at headed (heading_of r) p s i) b)))))
 
     pub union_paid : (prices : Prices) → meaning (known_of prices) plainly l ≡ mine → meaning (known_of prices) plainly r ≡ yours
-        → tree_cost prices plainly (using place heading acl (infix_of at headed Union l r))
-        ≡ tree_cost prices plainly l + paid mine (λ a. tree_cost prices plainly r + paid yours (λ b. bound (length a + length b) (length acl)))
+        → tree_cost prices plainly l + paid mine (λ a. tree_cost prices plainly r + paid yours (λ b. point_cost acl (length a + length b)))
+        ≤ tree_cost prices plainly (using place heading acl (infix_of at headed Union l r))
     union_paid prices is has =
-        λ i. tree_cost prices plainly l + paid (is i) (λ a. tree_cost prices plainly r + paid (has i) (λ b. bound (length a + length b) (names_count headed i)))
+        let some : List Row → ℕ = λ a. tree_cost prices plainly r + paid yours (λ b. point_cost acl (length a + length b)) in
+        let whole : List Row → ℕ = λ a. tree_cost prices plainly r + paid yours (λ b. bound (length a + length b) (length acl)) in
+        let e : tree_cost prices plainly (using place heading acl (infix_of at headed Union l r)) ≡ tree_cost prices plainly l + paid mine whole =
+        λ i. tree_cost prices plainly l + paid (is i) (λ a. tree_cost prices plainly r + paid (has i) (λ b. bound (length a + length b) (names_count headed i))) in
+        let less = paid_more mine some whole (λ a.
+        let last = paid_more yours (λ b. point_cost acl (length a + length b)) (λ b. bound (length a + length b) (length acl)) (λ b. point_least acl (length a + length b)) in
+        omega (arith, last)) in
+        omega (arith, e, less)
 
 -- ---- what is typed
 
@@ -81,7 +93,7 @@ both_true : (a b : Bool) → IsTrue (a && b) → IsTrue a × IsTrue b
 both_true true b h = (refl, h)
 both_true false b h = absurd (cc)
 
-one_given : (o : Option Heading) (a b : Heading) → o ≡ Some a → o ≡ Some b → a ≡ b
+pub one_given : (o : Option Heading) (a b : Heading) → o ≡ Some a → o ≡ Some b → a ≡ b
 one_given o a b e f = cc
 
 module _ (s : State) (h : Heading) (target : Name) where
@@ -235,10 +247,10 @@ module _ (s : State) (r : Revision) (at : ℕ) (value : Relation) (constraints :
 
     -- what follows the rows that are left, by what is known of the others
     abbrev follows : List Row → ℕ
-    follows a = (portion_cost acl d value.rows + paid (taken_of r value.rows) (changed_cost acl sets)) + paid (then_give (taken_of r value.rows) (added_of h r)) (λ b. bound (length a + length b) (length acl))
+    follows a = (portion_cost acl d value.rows + paid (taken_of r value.rows) (changed_cost acl sets)) + paid (then_give (taken_of r value.rows) (added_of h r)) (λ b. point_cost acl (length a + length b))
 
     abbrev own : List Row → ℕ
-    own a = tree_cost prices plainly more + paid (then_give (taken_of r value.rows) (added_of h r)) (λ b. bound (length a + length b) (length acl))
+    own a = tree_cost prices plainly more + paid (then_give (taken_of r value.rows) (added_of h r)) (λ b. point_cost acl (length a + length b))
 
     whole_paid : revision_cost h r value.rows ≤ tree_cost prices plainly (using place top acl (infix_of n.at n.headed Union left more))
     whole_paid =

@@ -2,7 +2,7 @@
 --     packed_told      that they are packed on it
 --     key_told      a key under USING of all attributes
 --     are_packed      rows that a list has packed are packed on it
-use Rattle.std.proofs.Common.{◌≡◌, inl, inr, ℕ, ◌<◌, true, List, [], ◌∷◌, map, length, Option, Some, None, sym, ap, ◌∙◌, subst, nat_eq}
+use Rattle.std.proofs.Common.{◌≡◌, inl, inr, ℕ, ◌<◌, true, List, [], ◌∷◌, length, Option, Some, None, sym, ap, ◌∙◌, subst, nat_eq}
 use Rattle.std.specs.Cmp.Lexicographic.{pointwise}
 use Rattle.base_core.proofs.SetLemmas.{In, Ascends-from_sorted}
 use Rattle.base_core.proofs.MemberLemmas.{list_all-In}
@@ -20,7 +20,7 @@ use Rattle.meaning_core.proofs.MadeLemmas.{same_name}
 use Rattle.using_core.proofs.ListLemmas.{intervals_of_list}
 use Rattle.u_set.specs.Boxes.{AreIntervals}
 use Rattle.u_set.proofs.RelationLemmas.{relation_shaped, shaped_under}
-use Rattle.u_constraints.specs.Constraints.{broken, first_failed, is_key, is_packed}
+use Rattle.u_constraints.specs.Constraints.{broken, first_failed, is_packed}
 use Rattle.u_constraints.specs.Growth.{exchanged}
 use Rattle.u_constraints.proofs.GrownKeyLemmas.{In-exchanged}
 use Rattle.u_constraints.proofs.KeyLemmas.{is_key-AgreeOnce}

@@ -9,6 +9,7 @@ pub mod Marked
 pub mod Turnovers
 pub mod Insertions
 pub mod Parts
+pub mod PlainChanges
 pub mod Portions
 pub mod Reductions
 pub mod Renewals

@@ -1,13 +1,15 @@
--- Marks of the rows of one base relvar, which are kept beside the relvars.
+-- Marks of the rows of base relvars, which are kept beside the relvars.
 --     IsMarksOf      what is asked of marks of a relation's rows
 --     AreMarksIn, AreMarksAt      the same of marks for a relvar, and for the one at a place
---     AreMarked      the marks that are kept are those of the rows of the relvar at their place
-use Rattle.std.specs.Prelude.{ℕ, zero, suc, ◌<◌, List, [], ◌∷◌, length}
+--     IsMarked      marks that are kept are those of the rows of the relvar at their place
+--     AreMarked, IsUnmarkedAt      the same of all marks that are kept, and that none are kept for a place
+use Rattle.std.specs.Prelude.{◌≢◌, ℕ, zero, suc, ◌<◌, List, [], ◌∷◌, length}
 use Rattle.std.specs.List.{All}
 use Rattle.value_core.specs.Values.{Row, Heading}
 use Rattle.tree_core.specs.Relvars.{PlainRelvar, base, view, Entries}
 use Rattle.row_marks.specs.Marks.{MarkList, AreMarksOf}
 use Rattle.assign_core.specs.declared.marked.Marked.{Marked}
+use Rattle.assign_core.specs.declared.marked.MarkedRelvar.{MarkedRelvar}
 
 -- a mark for each row, in their order, at positions of the heading
 pub record IsMarksOf (heading : Heading) (rows : List Row) (m : MarkList) : Type 0 where
@@ -25,5 +27,11 @@ AreMarksAt i ms [] = Unit {0}
 AreMarksAt zero ms (r ∷ rest) = AreMarksIn ms r.1
 AreMarksAt (suc i) ms (r ∷ rest) = AreMarksAt i ms rest
 
+abbrev pub IsMarked : Entries → MarkedRelvar → Type 0
+IsMarked es r = AreMarksAt r.at r.list.items es
+
 abbrev pub AreMarked : Marked → Entries → Type 0
-AreMarked m es = AreMarksAt m.at m.list.items es
+AreMarked m es = All (IsMarked es) m.entries.items
+
+abbrev pub IsUnmarkedAt : ℕ → Marked → Type 0
+IsUnmarkedAt i m = All (λ (r : MarkedRelvar). r.at ≢ i) m.entries.items

@@ -1,8 +1,9 @@
 -- Assignments that leave their target's rows at the points where a condition does not hold.
 --     portion_of, portion_rows      the rows of a target at the points where a condition holds: as an expression, and what it means
+--     point_cost      the steps of what is asked at points
 --     IsDeletion, IsDeletionOf      an assignment of this form, and what it makes of its target
 --     IsConcerned      rows of a packed relation that a condition concerns, with all that have their labels
-use Rattle.std.specs.Prelude.{◌≡◌, ℕ, ◌≤◌, List, [], ◌∷◌, length}
+use Rattle.std.specs.Prelude.{◌≡◌, ℕ, suc, ◌≤◌, List, [], ◌∷◌, length}
 use Rattle.base_core.specs.Outcomes.{then_give}
 use Rattle.point_core.specs.declared.fault.Place.{Place}
 use Rattle.value_core.specs.RowPacking.{packed, unpacked}
@@ -60,9 +61,14 @@ pub record IsPortionFor (heading : Heading) (p : Portion) : Type 0 where
 abbrev pub IsNegation : Expr → Expr → Type 0
 IsNegation e c = (place : Place) × (e ≡ one Not place c)
 
+-- the steps of what is asked at the points of rows with n cells; where no attribute is listed, rows are asked as they are
+abbrev pub point_cost : List ℕ → ℕ → ℕ
+point_cost [] n = 0
+point_cost (i ∷ acl) n = bound n (suc (length acl))
+
 -- the steps that a portion takes
 abbrev pub portion_cost : List ℕ → Expr → List Row → ℕ
-portion_cost acl c rows = bound (cells_of_all acl (c ∷ []) rows) (length acl)
+portion_cost acl c rows = point_cost acl (cells_of_all acl (c ∷ []) rows)
 
 -- ---- deletions
 

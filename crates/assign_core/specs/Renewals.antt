@@ -1,17 +1,18 @@
 -- Revisions by conditions that concern some rows of a packed target alone.
---     IsRenewal      a revision, its target, and the rows that its conditions concern
+--     IsRenewal      a revision, its target with the marks of its rows, and the rows that its conditions concern
 --     IsLeft, AreAdded      what is left of these rows, and what is added
 use Rattle.std.specs.Prelude.{◌≡◌, ℕ, ◌+◌, ◌≤◌, length, Ok}
+use Rattle.std.specs.List.{All}
 use Rattle.base_core.specs.Outcomes.{then_give}
 use Rattle.value_core.specs.Values.{Relation, most_rows}
 use Rattle.scalar_core.specs.Expressions.{read}
 use Rattle.relation_core.specs.Growth.{touched}
 use Rattle.relation_core.specs.Operators.{subtracted, united}
-use Rattle.cell_core.specs.Costs.{bound}
+use Rattle.row_marks.specs.Marks.{AreMarksOf}
 use Rattle.u_set.specs.Apart.{outside}
 use Rattle.assign_core.specs.declared.renewal.Renewal.{Renewal}
 use Rattle.assign_core.specs.declared.target.Target.{Target}
-use Rattle.assign_core.specs.Portions.{IsConcerned}
+use Rattle.assign_core.specs.Portions.{point_cost, IsConcerned}
 use Rattle.assign_core.specs.Revisions.{left_of, taken_of, added_of, IsRevisionOf}
 use Rattle.assign_core.specs.Targets.{entries_before}
 
@@ -23,6 +24,7 @@ pub record IsRenewal (r : Renewal) : Type 0 where
   pub revision : IsRevisionOf (entries_before (renewed_target r)) r.revision r.at r.value.now
   pub gone : IsConcerned r.revision.acl.now (read r.revision.gone.now) r.value.now r.part.now
   pub changed : IsConcerned r.revision.acl.now (read r.revision.changed.portion.condition.now) r.value.now r.part.now
+  pub marked : All (AreMarksOf r.value.now.rows) r.marks.now
 
 -- with the other rows, it is what is left of the target; it has labels of the part
 pub record IsLeft (r : Renewal) (left : Relation) : Type 0 where
@@ -37,4 +39,4 @@ pub record AreAdded (r : Renewal) (added : Relation) : Type 0 where
 
 -- the steps of both together
 abbrev pub after_left : Renewal → Relation → Relation → ℕ
-after_left r left added = bound (length (united (subtracted r.value.now.rows r.part.now.rows) left.rows) + length added.rows) (length r.revision.acl.now)
+after_left r left added = point_cost r.revision.acl.now (length (united (subtracted r.value.now.rows r.part.now.rows) left.rows) + length added.rows)

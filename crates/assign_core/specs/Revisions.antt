@@ -12,7 +12,6 @@ use Rattle.value_core.specs.Values.{Name, Heading, Row, Relation, IsRelation}
 use Rattle.scalar_core.specs.Expressions.{read}
 use Rattle.relation_core.specs.Answers.{under}
 use Rattle.relation_core.specs.Operators.{extended, united}
-use Rattle.cell_core.specs.Costs.{bound}
 use Rattle.tree_core.specs.declared.tree.InfixWord.TheVariants.{Union}
 use Rattle.tree_core.specs.Items.{PlainAssignment, read_assignment}
 use Rattle.tree_core.specs.Relvars.{base, Entries}
@@ -28,7 +27,7 @@ use Rattle.assign_core.specs.declared.revision.Changed.{Changed}
 use Rattle.assign_core.specs.declared.revision.Revision.{Revision}
 use Rattle.assign_core.specs.Assignments.{source_value}
 use Rattle.assign_core.specs.Costs.{source_cost}
-use Rattle.assign_core.specs.Portions.{PortionNodes, portion_of, portion_rows, portion_cost, IsNegation, IsPortionFor}
+use Rattle.assign_core.specs.Portions.{PortionNodes, portion_of, portion_rows, point_cost, portion_cost, IsNegation, IsPortionFor}
 
 -- ---- changed rows
 
@@ -48,7 +47,7 @@ abbrev pub changed_rows : Heading → Place → List ℕ → PlainSets → List 
 changed_rows h place acl sets rows = then_give (extended (extended_row h h sets) (unpacked acl rows)) (λ points. limited place (packed acl points))
 
 abbrev pub changed_cost : List ℕ → PlainSets → List Row → ℕ
-changed_cost acl sets rows = bound (cells_of_all acl (scalars_of sets) rows) (length acl)
+changed_cost acl sets rows = point_cost acl (cells_of_all acl (scalars_of sets) rows)
 
 pub record IsChanged (x : Changed) (target : Name) (t : Tree) : Type 0 where
   pub nodes : ChangedNodes
@@ -118,7 +117,7 @@ revision_cost h r rows =
     portion_cost r.acl.now (read r.kept.condition.now) rows
     + paid (left_of r rows) (λ left.
     (portion_cost r.acl.now (read r.changed.portion.condition.now) rows + paid (taken_of r rows) (changed_cost r.acl.now (read_sets r.changed.sets.now)))
-    + paid (then_give (taken_of r rows) (added_of h r)) (λ added. bound (length left + length added) (length r.acl.now)))
+    + paid (then_give (taken_of r rows) (added_of h r)) (λ added. point_cost r.acl.now (length left + length added)))
 
 -- the target is the base relvar at the place, which is the first of its name and has the value; it gets the rows that are left and added
 pub record IsRevisionOf (entries : Entries) (r : Revision) (at : ℕ) (value : Relation) : Type 0 where

@@ -109,8 +109,7 @@ impl Database {
         fill(self.alloc, list, &self.relvars, &mut self.marked)?;
         match prepare(self.alloc, list, &self.relvars, &self.marked, steps)? {
             Ready::Values(changes) => {
-                exchange_all(&mut self.relvars, changes);
-                self.marked = no_marks(self.alloc);
+                exchange_all(&mut self.relvars, &mut self.marked, self.alloc, changes);
                 Ok(())
             }
             Ready::Rows(at, rows) => {

@@ -8,7 +8,7 @@ ghost use Rattle.assign_core.specs.Changes.{changed, changed_at};
 ghost use Rattle.assign_core.specs.Marked.{AreMarked, AreMarksIn};
 ghost use Rattle.assign_core.specs.Turnovers.{renewed, renewed_at, renewed_relvar, IsExchangeAt, MayExchange};
 
-use crate::marked::{Marked, no_marks, take_marks};
+use crate::marked::{Marked, MarkedRelvar, put_marks, take_marks};
 use crate::marking::exchange_marked;
 use crate::removal::remove;
 use point_core::Memory;
@@ -18,27 +18,43 @@ use tree_core::{Relvar, Relvars};
 use u_labels::Exchange;
 use value_core::Relation;
 
-/// Puts the values that stand ready in place of the old ones. It takes no memory.
-pub(crate) fn exchange_all(relvars: &mut Relvars, changes: Vec<Option<Relation>>)
-    requires { length changes.items ≡ length relvars.old.list.entries }
+/// Puts the values that stand ready in place of the old ones. It takes no memory. The marks of the relvars that change are dropped.
+pub(crate) fn exchange_all(
+    relvars: &mut Relvars,
+    marked: &mut Marked,
+    alloc: Global,
+    changes: Vec<Option<Relation>>,
+)
+    requires long { length changes.items ≡ length relvars.old.list.entries }
+    requires marked { AreMarked marked.old (map read_entry relvars.old.list.entries) }
     ensures list { map read_entry relvars.new.list.entries ≡ changed changes.items (map read_entry relvars.old.list.entries) }
     ensures ordinals { relvars.new.ordinals ≡ relvars.old.ordinals }
+    ensures marked { AreMarked marked.new (map read_entry relvars.new.list.entries) }
 {
     let mut changes = changes;
     while let Some(change) = changes.pop() {
         let at = changes.len();
-        exchange_at(relvars, at, change);
+        exchange_at(relvars, marked, alloc, at, change);
     }
 }
 
-// Puts the value that stands ready for the relvar at a place, if there is one, in place of the old one.
-fn exchange_at(relvars: &mut Relvars, at: usize, change: Option<Relation>)
-    requires { at < length relvars.old.list.entries }
+// Puts the value that stands ready for the relvar at a place, if there is one, in place of the old one, and drops its marks.
+fn exchange_at(
+    relvars: &mut Relvars,
+    marked: &mut Marked,
+    alloc: Global,
+    at: usize,
+    change: Option<Relation>,
+)
+    requires at { at < length relvars.old.list.entries }
+    requires marked { AreMarked marked.old (map read_entry relvars.old.list.entries) }
     ensures list { map read_entry relvars.new.list.entries ≡ changed_at at change (map read_entry relvars.old.list.entries) }
     ensures ordinals { relvars.new.ordinals ≡ relvars.old.ordinals }
+    ensures marked { AreMarked marked.new (map read_entry relvars.new.list.entries) }
 {
     match change {
         Some(value) => {
+            drop(take_marks(marked, alloc, at));
             let (_, relvar) = relvars.list.pair_mut(at);
             put(relvar, value);
         }
@@ -63,7 +79,7 @@ fn put(relvar: &mut Relvar, new: Relation)
 const FEW_ROWS: usize = 16;
 
 /// Puts the rows that come among those of the base relvar at a place, and then takes out those that go. For want of memory nothing
-/// changes. Where they are few the marks are those of this relvar from now on; where they are many no marks are kept.
+/// changes. Where they are few the relvar has marks from now on; where they are many its marks are dropped. Those of the others stay.
 pub(crate) fn exchange_rows(
     relvars: &mut Relvars,
     marked: &mut Marked,
@@ -81,8 +97,7 @@ pub(crate) fn exchange_rows(
     if are_few(&rows) {
         return exchange_few(relvars, marked, alloc, at, rows);
     }
-    *marked = no_marks(alloc);
-    exchange_many(relvars, alloc, at, rows)
+    exchange_many(relvars, marked, alloc, at, rows)
 }
 
 // Whether the rows that come and those that go are few together.
@@ -112,22 +127,26 @@ fn exchange_few(
     let mut list = take_marks(marked, alloc, at);
     let (_, relvar) = relvars.list.pair_mut(at);
     let result = renew_marked(relvar, &mut list, alloc, rows);
-    *marked = Marked { at, list };
+    put_marks(marked, MarkedRelvar { at, list });
     result
 }
 
-// Exchanges rows of the base relvar at a place.
+// Exchanges rows of the base relvar at a place, and drops its marks.
 fn exchange_many(
     relvars: &mut Relvars,
+    marked: &mut Marked,
     alloc: Global,
     at: usize,
     rows: Exchange,
 ) -> Result<(), Memory>
-    requires { IsExchangeAt at rows (map read_entry relvars.old.list.entries) }
+    requires may { IsExchangeAt at rows (map read_entry relvars.old.list.entries) }
+    requires marked { AreMarked marked.old (map read_entry relvars.old.list.entries) }
     ensures list { OnOk result (map read_entry relvars.new.list.entries ≡ renewed_at at rows (map read_entry relvars.old.list.entries)) }
     ensures err { OnErr result (map read_entry relvars.new.list.entries ≡ map read_entry relvars.old.list.entries) }
     ensures ordinals { relvars.new.ordinals ≡ relvars.old.ordinals }
+    ensures marked { AreMarked marked.new (map read_entry relvars.new.list.entries) }
 {
+    drop(take_marks(marked, alloc, at));
     let (_, relvar) = relvars.list.pair_mut(at);
     renew(relvar, alloc, rows)
 }

@@ -4,7 +4,7 @@ ghost use Rattle.std.specs.List.{All, list_all};
 ghost use Rattle.tree_core.specs.Relvars.{read_entry, read_relvar};
 ghost use Rattle.assign_core.specs.Marked.{AreMarked, AreMarksIn, IsMarksOf};
 
-use crate::marked::Marked;
+use crate::marked::{Marked, MarkedRelvar, has_marks, put_marks, take_marks};
 use crate::marking::keep;
 use point_core::Memory;
 use row_marks::{Marks, marks_of};
@@ -16,7 +16,7 @@ use value_core::{Constraint, Name, Relation};
 /// Rows are marked where there are so many.
 const MANY_ROWS: usize = 256;
 
-/// Where the only target is the relvar that has marks, marks its rows for those of its constraints for which they are not marked.
+/// Where the only target is a relvar that has marks, marks its rows for those of its constraints for which they are not marked.
 pub(crate) fn fill(
     alloc: Global,
     list: &[Assignment],
@@ -35,7 +35,7 @@ pub(crate) fn fill(
     fill_target(alloc, &assignment.target, relvars, marked)
 }
 
-// Marks the rows of the relvar that has marks, if it has the name.
+// Marks the rows of the relvar of the name, if it has marks.
 fn fill_target(
     alloc: Global,
     target: &Name,
@@ -45,12 +45,15 @@ fn fill_target(
     requires { AreMarked marked.old (map read_entry relvars.now.list.entries) }
     ensures { AreMarked marked.new (map read_entry relvars.now.list.entries) }
 {
-    match relvars.list.get_index(marked.at) {
-        Some((name, relvar)) => {
-            if *name == *target {
-                return fill_relvar(alloc, relvar, &mut marked.list);
+    match relvars.list.get_full(target) {
+        Some((at, _, relvar)) => {
+            if !has_marks(marked, at) {
+                return Ok(());
             }
-            Ok(())
+            let mut list = take_marks(marked, alloc, at);
+            let result = fill_relvar(alloc, relvar, &mut list);
+            put_marks(marked, MarkedRelvar { at, list });
+            result
         }
         None => Ok(()),
     }

@@ -3,6 +3,7 @@
 
 mod addition;
 mod appending;
+mod by_condition;
 mod changes;
 mod checking;
 mod counting;
@@ -10,10 +11,13 @@ mod database;
 mod differences;
 mod exchange;
 mod filling;
+mod finding;
 mod insertion;
 mod marked;
 mod marking;
 mod packing;
+mod plain;
+mod plain_rows;
 mod portion;
 mod preparing;
 mod reduction;

@@ -1,7 +1,6 @@
-// Assignments that leave their target's rows at the points where a condition does not hold.
-ghost use Rattle.std.specs.Prelude.{◌≡◌, [], ◌∷◌, true, map, IfSome};
+// Assignments under USING that leave their target's rows at the points where a condition does not hold.
+ghost use Rattle.std.specs.Prelude.{◌≡◌, true, IfSome};
 ghost use Rattle.scalar_core.specs.Expressions.{read};
-ghost use Rattle.tree_core.specs.Items.{read_assignment};
 ghost use Rattle.tree_core.specs.Trees.{named, using, read_tree};
 ghost use Rattle.assign_core.specs.Portions.{IsDeletion, IsNegation, IsPortion};
 
@@ -10,7 +9,8 @@ use scalar_core::{Scalar, ScalarForm};
 use tree_core::{Assignment, RelForm, RelTree};
 use value_core::{Name, Positions};
 
-/// The rows of a target at the points where a condition holds. The place is that of the USING.
+/// The rows of a target at the points where a condition holds, or as they are where no attribute is listed. The place is that where too
+/// many rows are told.
 #[derive(Clone, Copy)]
 pub(crate) struct Portion<'a> {
     pub place: Place,
@@ -26,19 +26,8 @@ pub(crate) struct Deletion<'a> {
     pub gone: &'a Scalar,
 }
 
-/// The deletion that the list consists of, where it is one.
-pub(crate) fn find_deletion(list: &[Assignment]) -> Option<Deletion<'_>>
-    ensures alone { IfSome result (λ d. map read_assignment list.now ≡ read_assignment d.assignment.now ∷ []) }
-    ensures is { IfSome result IsDeletion }
-{
-    match list.split_first() {
-        Some((assignment, rest)) if rest.is_empty() => as_deletion(assignment),
-        _ => None,
-    }
-}
-
-// The assignment as a deletion, where it is one.
-fn as_deletion(assignment: &Assignment) -> Option<Deletion<'_>>
+/// The assignment as a deletion under USING, where it is one.
+pub(crate) fn as_deletion(assignment: &Assignment) -> Option<Deletion<'_>>
     ensures same { IfSome result (λ d. d.assignment.now ≡ assignment.now) }
     ensures is { IfSome result IsDeletion }
 {
@@ -91,8 +80,8 @@ fn restricted_under<'a>(
     }
 }
 
-// Whether the expression is the target's name.
-fn is_target(tree: &RelTree, target: &Name) -> bool
+/// Whether the expression is the target's name.
+pub(crate) fn is_target(tree: &RelTree, target: &Name) -> bool
     ensures { result ≡ true → read_tree tree.now ≡ named tree.now.place tree.now.heading target.now }
 {
     match &tree.form {

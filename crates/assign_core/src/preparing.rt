@@ -16,15 +16,12 @@ ghost use Rattle.assign_core.specs.Databases.{IsKept};
 ghost use Rattle.assign_core.specs.Turnovers.{with_ready, IsKnown, IsReady};
 ghost use Rattle.assign_core.specs.Marked.{AreMarked};
 ghost use Rattle.assign_core.specs.Insertions.{addition_cost, entries_of, outcome, sum_of, IsAddition, IsInsertion, IsPackedOn, IsPlain};
-ghost use Rattle.assign_core.specs.Portions.{IsDeletion};
-ghost use Rattle.assign_core.specs.Reductions.{reduced_target, IsReduction};
-ghost use Rattle.assign_core.specs.Renewals.{renewed_target, IsRenewal};
-ghost use Rattle.assign_core.specs.Revisions.{IsRevision};
 ghost use Rattle.assign_core.specs.Targets.{entries_before, entries_given, result_given, value_given, IsTarget};
 
 use crate::addition::{
     Addition, admit_rows, is_plain, known_of, prepare_rows, put_value, target_of, unite,
 };
+use crate::by_condition::prepare_change;
 use crate::changes::none_yet;
 use crate::checking::After;
 use crate::counting::are_few;
@@ -32,10 +29,6 @@ use crate::differences::check_changes;
 use crate::insertion::{Insertion, evaluate_operand, find_insertion};
 use crate::marked::{Marked, marks_at};
 use crate::packing::{exchange_of, packed_list, whole};
-use crate::portion::{Deletion, find_deletion};
-use crate::reduction::{Reduction, deleted, deleted_part, deletion_at};
-use crate::renewal::{Renewal, revised, revised_part, revision_at};
-use crate::revision::{Revision, find_revision};
 use crate::sources::evaluate;
 use crate::target::Target;
 use crate::turnover::{Known, have_room};
@@ -80,117 +73,8 @@ pub(crate) fn prepare<L: Ledger>(
     }
 }
 
-// What stands ready for all targets, or why the assignments are refused. A deletion by a condition looks at the rows that this concerns,
-// where they are few.
-fn prepare_change<L: Ledger>(
-    alloc: Global,
-    list: &[Assignment],
-    relvars: &Relvars,
-    marked: &Marked,
-    steps: &mut Steps<L>,
-) -> Result<Ready, Refuse>
-    requires kept { IsKept (read_relvars relvars.now) }
-    requires marked { AreMarked marked.now (read_relvars relvars.now).relvars }
-    requires typed { All (λ a. IsTypedAssignment (read_relvars relvars.now) (read_assignment a)) list.now }
-    ensures ready { IfOk result (λ r. IsReady r (read_relvars relvars.now).relvars) }
-    ensures meant { IfOk result (λ r. after_assignments (read_relvars relvars.now).relvars (map read_assignment list.now) ≡ Ok (with_ready r (read_relvars relvars.now).relvars)) }
-    ensures refused { IfErr result (λ refuse. IsRefusedFor refuse (after_assignments (read_relvars relvars.now).relvars (map read_assignment list.now))) }
-    ensures cost { steps.new ≤ steps.old + assignments_cost (read_relvars relvars.now).relvars (map read_assignment list.now) }
-{
-    match find_deletion(list) {
-        Some(deletion) => prepare_deletion(alloc, deletion, list, relvars, marked, steps),
-        None => prepare_update(alloc, list, relvars, marked, steps),
-    }
-}
-
-// What stands ready for all targets, or why the assignments are refused. A revision by conditions looks at the rows that these concern,
-// where they are few.
-fn prepare_update<L: Ledger>(
-    alloc: Global,
-    list: &[Assignment],
-    relvars: &Relvars,
-    marked: &Marked,
-    steps: &mut Steps<L>,
-) -> Result<Ready, Refuse>
-    requires kept { IsKept (read_relvars relvars.now) }
-    requires marked { AreMarked marked.now (read_relvars relvars.now).relvars }
-    requires typed { All (λ a. IsTypedAssignment (read_relvars relvars.now) (read_assignment a)) list.now }
-    ensures ready { IfOk result (λ r. IsReady r (read_relvars relvars.now).relvars) }
-    ensures meant { IfOk result (λ r. after_assignments (read_relvars relvars.now).relvars (map read_assignment list.now) ≡ Ok (with_ready r (read_relvars relvars.now).relvars)) }
-    ensures refused { IfErr result (λ refuse. IsRefusedFor refuse (after_assignments (read_relvars relvars.now).relvars (map read_assignment list.now))) }
-    ensures cost { steps.new ≤ steps.old + assignments_cost (read_relvars relvars.now).relvars (map read_assignment list.now) }
-{
-    match find_revision(list) {
-        Some(revision) => prepare_revision(alloc, revision, list, relvars, marked, steps),
-        None => prepare_all(alloc, list, relvars, steps),
-    }
-}
-
-// What stands ready for the target of a revision, or why it is refused.
-fn prepare_revision<L: Ledger>(
-    alloc: Global,
-    revision: Revision<'_>,
-    list: &[Assignment],
-    relvars: &Relvars,
-    marked: &Marked,
-    steps: &mut Steps<L>,
-) -> Result<Ready, Refuse>
-    requires kept { IsKept (read_relvars relvars.now) }
-    requires marked { AreMarked marked.now (read_relvars relvars.now).relvars }
-    requires revision { IsRevision revision }
-    requires alone { map read_assignment list.now ≡ read_assignment revision.assignment.now ∷ [] }
-    requires typed { All (λ a. IsTypedAssignment (read_relvars relvars.now) (read_assignment a)) list.now }
-    ensures ready { IfOk result (λ r. IsReady r (read_relvars relvars.now).relvars) }
-    ensures meant { IfOk result (λ r. after_assignments (read_relvars relvars.now).relvars (map read_assignment list.now) ≡ Ok (with_ready r (read_relvars relvars.now).relvars)) }
-    ensures refused { IfErr result (λ refuse. IsRefusedFor refuse (after_assignments (read_relvars relvars.now).relvars (map read_assignment list.now))) }
-    ensures cost { steps.new ≤ steps.old + assignments_cost (read_relvars relvars.now).relvars (map read_assignment list.now) }
-{
-    let (at, value) = revision_at(relvars, revision);
-    match revised_part(alloc, relvars, revision, at, value)? {
-        Some(part) => {
-            let renewal = Renewal {
-                relvars,
-                revision,
-                at,
-                value,
-                part: &part,
-            };
-            prepare_renewal(alloc, renewal, marks_at(marked, at), steps)
-        }
-        None => prepare_all(alloc, list, relvars, steps),
-    }
-}
-
-// What stands ready for the target of a revision that concerns few rows, or why it is refused.
-fn prepare_renewal<L: Ledger>(
-    alloc: Global,
-    renewal: Renewal<'_>,
-    marks: &[Marks],
-    steps: &mut Steps<L>,
-) -> Result<Ready, Refuse>
-    requires kept { IsKept (read_relvars renewal.relvars.now) }
-    requires renewal { IsRenewal renewal }
-    requires marked { All (AreMarksOf renewal.value.now.rows) marks.now }
-    ensures ready { IfOk result (λ r. IsReady r (entries_before (renewed_target renewal.entry))) }
-    ensures meant { IfOk result (λ r. result_given (renewed_target renewal.entry) ≡ Ok (with_ready r (entries_before (renewed_target renewal.entry)))) }
-    ensures refused { IfErr result (λ refuse. IsRefusedFor refuse (result_given (renewed_target renewal.entry))) }
-    ensures cost { steps.new ≤ steps.old + assignments_cost (entries_before (renewed_target renewal.entry)) (read_assignment renewal.entry.revision.assignment.now ∷ []) }
-{
-    let none = none_yet(alloc, renewal.relvars)?;
-    let rows = revised(alloc, renewal, steps)?;
-    let target = Target {
-        relvars: renewal.relvars,
-        assignment: renewal.revision.assignment,
-        at: renewal.at,
-        value: renewal.value,
-    };
-    let place = renewal.revision.assignment.tree.place;
-    let known = marked_alone(marks);
-    prepare_exchange(alloc, target, place, rows, known, none.as_slice(), steps)
-}
-
-// What stands ready for all targets, whose values are made whole.
-fn prepare_all<L: Ledger>(
+/// What stands ready for all targets, whose values are made whole.
+pub(crate) fn prepare_all<L: Ledger>(
     alloc: Global,
     list: &[Assignment],
     relvars: &Relvars,
@@ -205,79 +89,6 @@ fn prepare_all<L: Ledger>(
 {
     let changes = prepare_values(alloc, list, relvars, steps)?;
     Ok(Ready::Values(changes))
-}
-
-// What stands ready for the target of a deletion, or why it is refused.
-fn prepare_deletion<L: Ledger>(
-    alloc: Global,
-    deletion: Deletion<'_>,
-    list: &[Assignment],
-    relvars: &Relvars,
-    marked: &Marked,
-    steps: &mut Steps<L>,
-) -> Result<Ready, Refuse>
-    requires kept { IsKept (read_relvars relvars.now) }
-    requires marked { AreMarked marked.now (read_relvars relvars.now).relvars }
-    requires deletion { IsDeletion deletion }
-    requires alone { map read_assignment list.now ≡ read_assignment deletion.assignment.now ∷ [] }
-    requires typed { All (λ a. IsTypedAssignment (read_relvars relvars.now) (read_assignment a)) list.now }
-    ensures ready { IfOk result (λ r. IsReady r (read_relvars relvars.now).relvars) }
-    ensures meant { IfOk result (λ r. after_assignments (read_relvars relvars.now).relvars (map read_assignment list.now) ≡ Ok (with_ready r (read_relvars relvars.now).relvars)) }
-    ensures refused { IfErr result (λ refuse. IsRefusedFor refuse (after_assignments (read_relvars relvars.now).relvars (map read_assignment list.now))) }
-    ensures cost { steps.new ≤ steps.old + assignments_cost (read_relvars relvars.now).relvars (map read_assignment list.now) }
-{
-    let (at, value) = deletion_at(relvars, deletion);
-    match deleted_part(alloc, relvars, deletion, at, value)? {
-        Some(part) => {
-            let reduction = Reduction {
-                relvars,
-                deletion,
-                at,
-                value,
-                part: &part,
-            };
-            prepare_reduction(alloc, reduction, marks_at(marked, at), steps)
-        }
-        None => prepare_all(alloc, list, relvars, steps),
-    }
-}
-
-// What stands ready for the target of a deletion that concerns few rows, or why it is refused.
-fn prepare_reduction<L: Ledger>(
-    alloc: Global,
-    reduction: Reduction<'_>,
-    marks: &[Marks],
-    steps: &mut Steps<L>,
-) -> Result<Ready, Refuse>
-    requires kept { IsKept (read_relvars reduction.relvars.now) }
-    requires reduction { IsReduction reduction }
-    requires marked { All (AreMarksOf reduction.value.now.rows) marks.now }
-    ensures ready { IfOk result (λ r. IsReady r (entries_before (reduced_target reduction.entry))) }
-    ensures meant { IfOk result (λ r. result_given (reduced_target reduction.entry) ≡ Ok (with_ready r (entries_before (reduced_target reduction.entry)))) }
-    ensures refused { IfErr result (λ refuse. IsRefusedFor refuse (result_given (reduced_target reduction.entry))) }
-    ensures cost { steps.new ≤ steps.old + assignments_cost (entries_before (reduced_target reduction.entry)) (read_assignment reduction.entry.deletion.assignment.now ∷ []) }
-{
-    let none = none_yet(alloc, reduction.relvars)?;
-    let rows = deleted(alloc, reduction, steps)?;
-    let target = Target {
-        relvars: reduction.relvars,
-        assignment: reduction.deletion.assignment,
-        at: reduction.at,
-        value: reduction.value,
-    };
-    let place = reduction.deletion.kept.place;
-    let known = marked_alone(marks);
-    prepare_exchange(alloc, target, place, rows, known, none.as_slice(), steps)
-}
-
-// The marks of rows, where nothing is known of those that come after them.
-fn marked_alone(marks: &[Marks]) -> Known<'_>
-    ensures { result ≡ record { marks = marks.entry; packed = None } }
-{
-    Known {
-        marks,
-        packed: None,
-    }
 }
 
 // What stands ready for the target of an insertion, or why it is refused.
@@ -366,8 +177,8 @@ fn prepare_packed<L: Ledger>(
     prepare_exchange(alloc, target_of(addition), place, rows, known, none, steps)
 }
 
-// What stands ready where rows of the target are exchanged, or why that is refused.
-fn prepare_exchange<L: Ledger>(
+/// What stands ready where rows of the target are exchanged, or why that is refused.
+pub(crate) fn prepare_exchange<L: Ledger>(
     alloc: Global,
     target: Target<'_>,
     place: Place,

@@ -1,27 +1,34 @@
-// Deletions by a condition that concern few rows of a target that its own constraints keep packed on the very list.
-ghost use Rattle.std.specs.Prelude.{◌≡◌, ◌+◌, ◌≤◌, true, List, IfSome, IfOk, IfErr, Err};
+// Deletions by a condition that concern few rows of a target, which its own constraints keep packed on the very list.
+ghost use Rattle.std.specs.Prelude.{◌≡◌, ◌+◌, ◌≤◌, [], ◌∷◌, length, true, List, IfSome, IfOk, IfErr, Err};
+ghost use Rattle.std.specs.List.{All};
 ghost use Rattle.value_core.specs.RowPacking.{packed};
 ghost use Rattle.value_core.specs.Values.{Name as PlainName, Relation as PlainRelation, IsRelation};
 ghost use Rattle.value_core.specs.declared.constraint.Constraint.{Constraint};
 ghost use Rattle.scalar_core.specs.Expressions.{read};
 ghost use Rattle.relation_core.specs.Answers.{Answers, under};
+ghost use Rattle.row_marks.specs.Marks.{AreMarksOf};
+ghost use Rattle.cell_core.specs.Costs.{bound};
 ghost use Rattle.tree_core.specs.Items.{read_assignment};
 ghost use Rattle.tree_core.specs.Relvars.{base, read_relvars};
 ghost use Rattle.meaning_core.specs.Meanings.{limited};
 ghost use Rattle.meaning_core.specs.Names.{IsFirstAt};
 ghost use Rattle.meaning_core.specs.Updates.{IsTypedAssignment};
 ghost use Rattle.u_constraints.specs.Growth.{exchanged};
+ghost use Rattle.using_core.specs.Cells.{cells_of_all};
 ghost use Rattle.u_labels.specs.Exchanges.{IsExchange};
 ghost use Rattle.assign_core.specs.Costs.{source_cost};
 ghost use Rattle.assign_core.specs.Databases.{IsKept};
-ghost use Rattle.assign_core.specs.Portions.{portion_cost, portion_rows, IsConcerned, IsDeletion, IsDeletionOf, IsPortionFor};
+ghost use Rattle.assign_core.specs.PlainChanges.{IsAnyDeletion};
+ghost use Rattle.assign_core.specs.Portions.{portion_cost, portion_rows, IsConcerned, IsDeletionOf, IsPortionFor};
 ghost use Rattle.assign_core.specs.Reductions.{reduced_target, IsReduction};
 ghost use Rattle.assign_core.specs.Targets.{entries_before, value_given};
 
 use crate::insertion::base_at;
 use crate::packing::is_kept_packed;
+use crate::plain_rows::{lists_none, restricted};
 use crate::portion::{Deletion, Portion};
 use point_core::{Memory, Steps, Stop};
+use row_marks::Marks;
 use std::alloc::Global;
 use std::sync::ledger::Ledger;
 use tree_core::Relvars;
@@ -42,7 +49,7 @@ pub(crate) struct Reduction<'a> {
 
 /// The place of the target, and its value.
 pub(crate) fn deletion_at<'a>(relvars: &'a Relvars, deletion: Deletion<'_>) -> (usize, &'a Relation)
-    requires deletion { IsDeletion deletion }
+    requires deletion { IsAnyDeletion deletion }
     requires typed { IsTypedAssignment (read_relvars relvars.now) (read_assignment deletion.assignment.now) }
     ensures { IsDeletionOf (read_relvars relvars.now).relvars deletion.entry result.0 result.1.now }
 {
@@ -59,9 +66,11 @@ pub(crate) fn deleted_part(
     deletion: Deletion<'_>,
     at: usize,
     value: &Relation,
+    marks: &[Marks],
 ) -> Result<Option<Relation>, Memory>
     requires kept { IsKept (read_relvars relvars.now) }
     requires deletion { IsDeletionOf (read_relvars relvars.now).relvars deletion at value.now }
+    requires marked { All (AreMarksOf value.now.rows) marks.now }
     ensures { IfOk result (λ o. IfSome o (IsConcerned deletion.entry.kept.acl.now (read deletion.entry.gone.now) value.now)) }
 {
     if !is_packed_at(relvars, at, deletion.kept.acl) {
@@ -69,16 +78,21 @@ pub(crate) fn deleted_part(
     }
     let acl = deletion.kept.acl;
     let list = acl.list.as_slice();
-    let part = concerned(alloc, value, list, deletion.gone)?;
-    Ok(if_few(part, value))
+    match concerned(alloc, value, list, deletion.gone, marks)? {
+        Some(part) => Ok(if_few(part, value)),
+        None => Ok(None),
+    }
 }
 
-/// Whether a constraint of the base relvar at the place keeps its rows packed on the list.
+/// Whether a constraint of the base relvar at the place keeps its rows packed on the list. Without an attribute there is nothing to pack.
 pub(crate) fn is_packed_at(relvars: &Relvars, at: usize, acl: &Positions) -> bool
     requires { IsKept (read_relvars relvars.now) }
     ensures { (target : PlainName) (value : PlainRelation) (constraints : List Constraint) → IsFirstAt (read_relvars relvars.now).relvars target at (base value constraints)
         → IsRelation value → result ≡ true → packed acl.now value.rows ≡ value.rows }
 {
+    if lists_none(acl) {
+        return true;
+    }
     match relvars.list.get_index(at) {
         Some((_, relvar)) => is_kept_packed(relvar, acl),
         None => false,
@@ -106,6 +120,23 @@ pub(crate) fn portion_rows<L: Ledger>(
     requires { IsPortionFor of.now.heading portion }
     ensures value { Answers result (under of.now.heading (portion_rows portion.entry.place portion.entry.acl.now (read portion.entry.condition.now) of.now.rows)) }
     ensures cost { steps.new ≤ steps.old + portion_cost portion.entry.acl.now (read portion.entry.condition.now) of.now.rows }
+{
+    if lists_none(portion.acl) {
+        return restricted(alloc, of, portion.condition);
+    }
+    rows_at_points(alloc, portion, of, steps)
+}
+
+// The same under USING.
+fn rows_at_points<L: Ledger>(
+    alloc: Global,
+    portion: Portion<'_>,
+    of: &Relation,
+    steps: &mut Steps<L>,
+) -> Result<Relation, Stop>
+    requires { IsPortionFor of.now.heading portion }
+    ensures value { Answers result (under of.now.heading (portion_rows portion.entry.place portion.entry.acl.now (read portion.entry.condition.now) of.now.rows)) }
+    ensures cost { steps.new ≤ steps.old + bound (cells_of_all portion.entry.acl.now (read portion.entry.condition.now ∷ []) of.now.rows) (length portion.entry.acl.now) }
 {
     let heading = of.heading();
     let acl = portion.acl;

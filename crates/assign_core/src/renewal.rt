@@ -1,9 +1,13 @@
-// Revisions by conditions that concern few rows of a target that its own constraints keep packed on the very list.
-ghost use Rattle.std.specs.Prelude.{◌≡◌, ◌+◌, ◌≤◌, IfSome, IfOk, IfErr, Err};
+// Revisions by conditions that concern few rows of a target, which its own constraints keep packed on the very list.
+ghost use Rattle.std.specs.Prelude.{◌≡◌, ◌+◌, ◌≤◌, [], length, IfSome, IfOk, IfErr, Err};
+ghost use Rattle.std.specs.List.{All};
 ghost use Rattle.base_core.specs.Outcomes.{then_give};
 ghost use Rattle.value_core.specs.Values.{Relation as PlainRelation};
 ghost use Rattle.scalar_core.specs.Expressions.{read};
 ghost use Rattle.relation_core.specs.Answers.{Answers, under};
+ghost use Rattle.relation_core.specs.Operators.{subtracted, united};
+ghost use Rattle.row_marks.specs.Marks.{AreMarksOf};
+ghost use Rattle.cell_core.specs.Costs.{bound};
 ghost use Rattle.tree_core.specs.Items.{read_assignment};
 ghost use Rattle.tree_core.specs.Relvars.{read_relvars};
 ghost use Rattle.tree_core.specs.Trees.{read_sets};
@@ -11,18 +15,23 @@ ghost use Rattle.meaning_core.specs.Meanings.{limited};
 ghost use Rattle.meaning_core.specs.Updates.{IsTypedAssignment};
 ghost use Rattle.u_constraints.specs.Growth.{exchanged};
 ghost use Rattle.u_labels.specs.Exchanges.{IsExchange};
+ghost use Rattle.using_core.specs.Cells.{cells_of_all, scalars_of};
 ghost use Rattle.algebra_core.specs.Costs.{paid};
 ghost use Rattle.assign_core.specs.Costs.{source_cost};
 ghost use Rattle.assign_core.specs.Databases.{IsKept};
+ghost use Rattle.assign_core.specs.PlainChanges.{IsAnyRevision};
 ghost use Rattle.assign_core.specs.Portions.{portion_cost, portion_rows, IsConcerned};
 ghost use Rattle.assign_core.specs.Renewals.{after_left, renewed_target, AreAdded, IsLeft, IsRenewal};
-ghost use Rattle.assign_core.specs.Revisions.{changed_cost, changed_rows, left_of, IsChangedFor, IsRevision, IsRevisionOf};
+ghost use Rattle.assign_core.specs.Revisions.{changed_cost, changed_rows, left_of, IsChangedFor, IsRevisionOf};
 ghost use Rattle.assign_core.specs.Targets.{entries_before, value_given};
 
 use crate::insertion::base_at;
+use crate::plain_rows::{extended, lists_none};
 use crate::reduction::{if_few, is_packed_at, portion_rows};
 use crate::revision::{Changed, Revision};
 use point_core::{Code, Fault, Memory, Steps, Stop};
+use relation_core::union;
+use row_making::told;
 use row_marks::Marks;
 use std::alloc::Global;
 use std::sync::ledger::Ledger;
@@ -32,19 +41,20 @@ use u_labels::{Exchange, replaced, replaced_and_inserted};
 use using_core::using_extension;
 use value_core::{MOST_ROWS, Relation, RowsRefuse};
 
-/// A revision with the place and the value of its target, and the rows that its conditions concern.
+/// A revision with the place, the value and the marks of its target, and the rows that its conditions concern.
 #[derive(Clone, Copy)]
 pub(crate) struct Renewal<'a> {
     pub relvars: &'a Relvars,
     pub revision: Revision<'a>,
     pub at: usize,
     pub value: &'a Relation,
+    pub marks: &'a [Marks],
     pub part: &'a Relation,
 }
 
 /// The place of the target, and its value.
 pub(crate) fn revision_at<'a>(relvars: &'a Relvars, revision: Revision<'_>) -> (usize, &'a Relation)
-    requires revision { IsRevision revision }
+    requires revision { IsAnyRevision revision }
     requires typed { IsTypedAssignment (read_relvars relvars.now) (read_assignment revision.assignment.now) }
     ensures { IsRevisionOf (read_relvars relvars.now).relvars revision.entry result.0 result.1.now }
 {
@@ -61,9 +71,11 @@ pub(crate) fn revised_part(
     revision: Revision<'_>,
     at: usize,
     value: &Relation,
+    marks: &[Marks],
 ) -> Result<Option<Relation>, Memory>
     requires kept { IsKept (read_relvars relvars.now) }
     requires revision { IsRevisionOf (read_relvars relvars.now).relvars revision at value.now }
+    requires marked { All (AreMarksOf value.now.rows) marks.now }
     ensures gone { IfOk result (λ o. IfSome o (IsConcerned revision.entry.acl.now (read revision.entry.gone.now) value.now)) }
     ensures changed { IfOk result (λ o. IfSome o (IsConcerned revision.entry.acl.now (read revision.entry.changed.portion.condition.now) value.now)) }
 {
@@ -73,8 +85,10 @@ pub(crate) fn revised_part(
     }
     let list = acl.list.as_slice();
     let condition = revision.changed.portion.condition;
-    let part = concerned_by_both(alloc, value, list, revision.gone, condition)?;
-    Ok(if_few(part, value))
+    match concerned_by_both(alloc, value, list, revision.gone, condition, marks)? {
+        Some(part) => Ok(if_few(part, value)),
+        None => Ok(None),
+    }
 }
 
 // What is left of the rows that the conditions concern, or the fault of the condition, or that of too many rows with the others.
@@ -111,6 +125,23 @@ fn with_new_values<L: Ledger>(
     requires { IsChangedFor of.now.heading changed }
     ensures value { Answers result (under of.now.heading (changed_rows of.now.heading changed.entry.place changed.entry.acl.now (read_sets changed.entry.sets.now) of.now.rows)) }
     ensures cost { steps.new ≤ steps.old + changed_cost changed.entry.acl.now (read_sets changed.entry.sets.now) of.now.rows }
+{
+    if lists_none(changed.acl) {
+        return extended(alloc, of, of.heading(), changed.sets);
+    }
+    new_values_at_points(alloc, changed, of, steps)
+}
+
+// The same under USING.
+fn new_values_at_points<L: Ledger>(
+    alloc: Global,
+    changed: Changed<'_>,
+    of: &Relation,
+    steps: &mut Steps<L>,
+) -> Result<Relation, Stop>
+    requires { IsChangedFor of.now.heading changed }
+    ensures value { Answers result (under of.now.heading (changed_rows of.now.heading changed.entry.place changed.entry.acl.now (read_sets changed.entry.sets.now) of.now.rows)) }
+    ensures cost { steps.new ≤ steps.old + bound (cells_of_all changed.entry.acl.now (scalars_of (read_sets changed.entry.sets.now)) of.now.rows) (length changed.entry.acl.now) }
 {
     let heading = of.heading();
     let acl = changed.acl;
@@ -154,11 +185,55 @@ fn exchange_with<L: Ledger>(
     ensures refused { IfErr result (λ stop. Answers {A = PlainRelation} (Err stop) (value_given (renewed_target renewal.entry))) }
     ensures cost { steps.new ≤ steps.old + after_left renewal.entry left.now added.now }
 {
+    if lists_none(renewal.revision.acl) {
+        return exchange_plainly(alloc, renewal, left, added);
+    }
+    exchange_at_points(alloc, renewal, left, added, steps)
+}
+
+// The same without USING.
+fn exchange_plainly(
+    alloc: Global,
+    renewal: Renewal<'_>,
+    left: &Relation,
+    added: &Relation,
+) -> Result<Exchange, Stop>
+    requires renewal { IsRenewal renewal }
+    requires none { renewal.revision.acl.now ≡ [] }
+    requires left { IsLeft renewal left.now }
+    requires added { AreAdded renewal added.now }
+    ensures exchange { IfOk result (IsExchange renewal.entry.value.now) }
+    ensures meant { IfOk result (λ x. value_given (renewed_target renewal.entry)
+        ≡ under renewal.entry.value.now.heading (limited renewal.entry.revision.assignment.now.tree.place (exchanged renewal.entry.value.now.rows x.gone.rows x.come.rows))) }
+    ensures refused { IfErr result (λ stop. Answers {A = PlainRelation} (Err stop) (value_given (renewed_target renewal.entry))) }
+{
+    let place = renewal.revision.assignment.tree.place;
+    let new = told(place, union(alloc, left, added))?;
+    let rows = replaced(alloc, renewal.value, renewal.part, &new)?;
+    Ok(rows)
+}
+
+// The same under USING.
+fn exchange_at_points<L: Ledger>(
+    alloc: Global,
+    renewal: Renewal<'_>,
+    left: &Relation,
+    added: &Relation,
+    steps: &mut Steps<L>,
+) -> Result<Exchange, Stop>
+    requires renewal { IsRenewal renewal }
+    requires left { IsLeft renewal left.now }
+    requires added { AreAdded renewal added.now }
+    ensures exchange { IfOk result (IsExchange renewal.entry.value.now) }
+    ensures meant { IfOk result (λ x. value_given (renewed_target renewal.entry)
+        ≡ under renewal.entry.value.now.heading (limited renewal.entry.revision.assignment.now.tree.place (exchanged renewal.entry.value.now.rows x.gone.rows x.come.rows))) }
+    ensures refused { IfErr result (λ stop. Answers {A = PlainRelation} (Err stop) (value_given (renewed_target renewal.entry))) }
+    ensures cost { steps.new ≤ steps.old + bound (length (united (subtracted renewal.entry.value.now.rows renewal.entry.part.now.rows) left.now.rows) + length added.now.rows)
+        (length renewal.entry.revision.acl.now) }
+{
     let acl = renewal.revision.acl;
     let list = acl.list.as_slice();
-    let (value, part) = (renewal.value, renewal.part);
-    let no_marks: Vec<Marks> = Vec::new(alloc);
-    let marks = no_marks.as_slice();
+    let (value, marks, part) = (renewal.value, renewal.marks, renewal.part);
     match replaced_and_inserted(alloc, value, marks, part, left, added, list, steps) {
         Ok(rows) => Ok(rows),
         Err(RowsRefuse::TooMany) => Err(Stop::Fault(Fault {

@@ -1,7 +1,6 @@
-// Assignments that leave their target's rows at the points where a condition does not hold, and add those of another condition with new
-// values.
-ghost use Rattle.std.specs.Prelude.{◌≡◌, [], ◌∷◌, map, IfSome};
-ghost use Rattle.tree_core.specs.Items.{read_assignment};
+// Assignments under USING that leave their target's rows at the points where a condition does not hold, and add those of another
+// condition with new values.
+ghost use Rattle.std.specs.Prelude.{◌≡◌, IfSome};
 ghost use Rattle.tree_core.specs.Trees.{extend, infix_of, using, read_sets, read_tree};
 ghost use Rattle.tree_core.specs.declared.tree.InfixWord.TheVariants.{Union as UnionOf};
 ghost use Rattle.assign_core.specs.Revisions.{IsChanged, IsRevision};
@@ -13,7 +12,7 @@ use scalar_core::Scalar;
 use tree_core::{Assignment, InfixWord, RelForm, RelTree, Sets};
 use value_core::{Name, Positions};
 
-/// The rows of a target at the points where a condition holds, with new values. The place is that of the USING.
+/// The rows of a target at the points where a condition holds, with new values. The place is that where too many rows are told.
 #[derive(Clone, Copy)]
 pub(crate) struct Changed<'a> {
     pub place: Place,
@@ -33,19 +32,8 @@ pub(crate) struct Revision<'a> {
     pub changed: Changed<'a>,
 }
 
-/// The revision that the list consists of, where it is one.
-pub(crate) fn find_revision(list: &[Assignment]) -> Option<Revision<'_>>
-    ensures alone { IfSome result (λ r. map read_assignment list.now ≡ read_assignment r.assignment.now ∷ []) }
-    ensures is { IfSome result IsRevision }
-{
-    match list.split_first() {
-        Some((assignment, rest)) if rest.is_empty() => as_revision(assignment),
-        _ => None,
-    }
-}
-
-// The assignment as a revision, where it is one.
-fn as_revision(assignment: &Assignment) -> Option<Revision<'_>>
+/// The assignment as a revision under USING, where it is one.
+pub(crate) fn as_revision(assignment: &Assignment) -> Option<Revision<'_>>
     ensures same { IfSome result (λ r. r.assignment.now ≡ assignment.now) }
     ensures is { IfSome result IsRevision }
 {

@@ -4,7 +4,7 @@
 --     others_told      of the others the guard is FALSE
 --     told_false, told_both      then the condition is FALSE at all of their points
 use Rattle.std.proofs.Common.{◌≡◌, ◌↔◌, inl, inr, ℕ, suc, ◌+◌, ◌<◌, Bool, true, false, List, [], ◌∷◌, ◌++◌, Ok, Err, Option, Some, None, map, length, get_or, take, option_map, refl, sym, ap, ◌∙◌, subst, arith, if◌then◌else◌}
-use Rattle.std.specs.Prelude.{Result, IfOk, IfSome}
+use Rattle.std.specs.Prelude.{IfSome}
 use Rattle.std.specs.Bool.{IsTrue}
 use Rattle.std.specs.List.{All, filter}
 use Rattle.std.proofs.lemmas.List.Elements.{filter_more}
@@ -16,7 +16,6 @@ use Rattle.base_core.proofs.MemberLemmas.{In-map, In-filter, has-In, list_all-In
 use Rattle.base_core.proofs.SetOperatorLemmas.{In-difference_of, Ascends-filter}
 use Rattle.point_core.specs.Faults.{OrFault}
 use Rattle.point_core.specs.declared.fault.Place.{Place}
-use Rattle.point_core.specs.declared.memory.Memory.{Memory}
 use Rattle.value_core.specs.declared.kind.Kind.TheVariants.{Truth}
 use Rattle.value_core.specs.Attributes.{among}
 use Rattle.value_core.specs.Order.{row_total, row_separates}
@@ -33,7 +32,7 @@ use Rattle.relation_core.specs.Agreement.{part_of}
 use Rattle.relation_core.specs.Growth.{touched}
 use Rattle.relation_core.specs.Operators.{subtracted}
 use Rattle.relation_core.specs.Parts.{projected}
-use Rattle.relation_core.proofs.FilterLemmas.{filter_all, rows_ascend}
+use Rattle.relation_core.proofs.FilterLemmas.{rows_ascend}
 use Rattle.meaning_core.specs.Meanings.{condition}
 use Rattle.meaning_core.specs.Scalars.{IsConditionOver}
 use Rattle.u_set.specs.Apart.{outside_from, outside}
@@ -91,14 +90,6 @@ touched_closed positions few many up =
           here.1 (w.0, (v.1.0, v.1.1, w.1.2 ∙ v.1.2)),
     ))
 
--- all rows have all rows with their labels
-touched_all : (positions : List ℕ) (rows : List Row) → rows ≡ touched positions rows rows
-touched_all positions rows =
-    sym (filter_all (λ z. has row_cmp (projected positions rows) (part_of positions z)) rows (λ z i. (In-projected positions rows z).1 (z, i, refl)))
-
-pub all_closed : (acl : List ℕ) (value : Relation) → IsClosedPart acl value value
-all_closed acl value = record { heading = refl; closed = touched_all (outside acl value.heading) value.rows }
-
 pub part_closed : (acl : List ℕ) (value part : Relation) (label : List ℕ) (few : List Row) → IsRelation value → label ≡ outside acl value.heading → part.heading ≡ value.heading → part.rows ≡ touched label few value.rows
     → IsClosedPart acl value part
 part_closed acl value part label few is at heading rows =
@@ -128,27 +119,6 @@ others_told g label rows few part chosen is =
           absurd (w.1 (subst (λ (zs : List Row). In x zs) (sym is) ((In-touched label few rows x).1 (w.0, (x, among, refl)))))
       | false ↦ λ e. not_staying (condition g x) e
     ] refl)
-
-none_left : (rows : List Row) → subtracted rows rows ≡ []
-none_left rows = no_members (subtracted rows rows) (λ x i. let w = (In-subtracted rows rows x).0 i in w.1 w.0)
-  where
-    no_members : (zs : List Row) → ((x : Row) → In x zs → ⊥) → zs ≡ []
-    no_members [] h = refl
-    no_members (z ∷ zs) h = absurd (h z (inl refl))
-
-pub none_untold : (value part : List Row) → part ≡ value → subtracted value part ≡ []
-none_untold rows part same = ap (λ (zs : List Row). subtracted rows zs) same ∙ none_left rows
-
--- ---- a copy is the whole
-
-pub copied_closed : (acl : List ℕ) (value : Relation) (r : Result Relation Memory) → IfOk r (λ p. p ≡ value) → IfOk r (IsClosedPart acl value)
-copied_closed acl value (Ok p) same = subst (IsClosedPart acl value) (sym same) (all_closed acl value)
-copied_closed acl value (Err e) same = tt
-
-pub copied_told : (o : Option Scalar) (value : Relation) (r : Result Relation Memory) → o ≡ None → IfOk r (λ p. p ≡ value) → IfOk r (λ p. AreTold (option_map read o) (subtracted value.rows p.rows))
-copied_told o value (Ok p) none same =
-    subst (λ (q : Option Scalar). AreTold (option_map read q) (subtracted value.rows p.rows)) (sym none) (none_untold value.rows p.rows (ap (λ (q : Relation). q.rows) same))
-copied_told o value (Err e) none same = tt
 
 -- ---- at all points
 

@@ -5,7 +5,6 @@ mod finding;
 mod fronts;
 mod guards;
 mod safety;
-mod searching;
 mod telling;
 
 pub use finding::{concerned, concerned_by_both};

@@ -4,8 +4,8 @@ ghost use Rattle.std.specs.List.{All};
 ghost use Rattle.value_core.specs.declared.kind.Kind.TheVariants.{Truth};
 ghost use Rattle.scalar_core.specs.Expressions.{read};
 ghost use Rattle.scalar_core.specs.Kinds.{IsTyped};
-ghost use Rattle.relation_core.specs.Growth.{IsSelection};
 ghost use Rattle.relation_core.specs.Operators.{subtracted};
+ghost use Rattle.row_marks.specs.Marks.{AreMarksOf};
 ghost use Rattle.meaning_core.specs.Meanings.{condition};
 ghost use Rattle.meaning_core.specs.Scalars.{IsConditionOver};
 ghost use Rattle.u_set.specs.Boxes.{AreIntervals};
@@ -14,14 +14,17 @@ ghost use Rattle.u_changes.specs.Fronts.{front};
 ghost use Rattle.u_changes.specs.Guards.{stays, AreTold};
 
 use crate::fronts::front;
-use crate::searching::with_front;
 use point_core::{Label, Memory, Stop};
 use row_making::holds;
+use row_marks::{Marks, selection};
 use scalar_core::Scalar;
 use std::alloc::Global;
-use u_constraints::touched_by;
+use u_constraints::{touched_with, with_front};
 use u_set::outside;
 use value_core::{Relation, Row};
+
+/// So many rows are tried to see whether a change concerns few.
+const MOST_TRIED: usize = 64;
 
 /// Whether the condition is other than FALSE of the row.
 fn stays(alloc: Global, g: &Scalar, row: &Row) -> Result<bool, Memory>
@@ -83,16 +86,6 @@ fn rows_suspected(alloc: Global, g: &Scalar, value: &Relation) -> Result<Vec<Row
     }
 }
 
-/// The relation with the heading of another one and some of its rows.
-fn selection(alloc: Global, r: &Relation, rows: Vec<Row>) -> Result<Relation, Memory>
-    requires { IsSelection r.now.rows rows.items }
-    ensures { IfOk result (λ x. (x.heading ≡ r.now.heading) × (x.rows ≡ rows.items)) }
-{
-    let heading = r.heading().copy(alloc)?;
-    let relation = Relation::of_few(heading, rows)?;
-    Ok(relation)
-}
-
 /// The rows of the relation of which the condition is other than FALSE.
 fn suspects(alloc: Global, value: &Relation, g: &Scalar) -> Result<Relation, Memory>
     requires { IsTyped value.now.heading (read g.now) Truth }
@@ -103,33 +96,89 @@ fn suspects(alloc: Global, value: &Relation, g: &Scalar) -> Result<Relation, Mem
     Ok(relation)
 }
 
-/// The rows of the relation that have the label of a row of which the condition is other than FALSE.
-fn part_by(alloc: Global, value: &Relation, acl: &[usize], g: &Scalar) -> Result<Relation, Memory>
+/// The rows of the relation that have the label of a row of which the condition is other than FALSE: by the marks of the relation's rows,
+/// where some are for the positions of the label.
+fn part_by(
+    alloc: Global,
+    value: &Relation,
+    acl: &[usize],
+    g: &Scalar,
+    marks: &[Marks],
+) -> Result<Relation, Memory>
     requires intervals { AreIntervals value.now.heading acl.now }
     requires typed { IsTyped value.now.heading (read g.now) Truth }
+    requires marks { All (AreMarksOf value.now.rows) marks.now }
     ensures part { IfOk result (IsClosedPart acl.now value.now) }
     ensures others { IfOk result (λ p. AreTold (Some (read g.now)) (subtracted value.now.rows p.rows)) }
 {
     let label = outside(alloc, value.heading().attributes(), acl)?;
     let few = suspects(alloc, value, g)?;
-    let part = touched_by(alloc, value, &few, label.as_slice())?;
+    let part = touched_with(alloc, value, &few, label.as_slice(), marks)?;
     Ok(part)
 }
 
-/// The rows of the relation that have the label of a row of which the guard is other than FALSE; all rows where there is no guard.
+/// Whether the condition is other than FALSE of the row at a place, if there is one.
+fn stays_at(alloc: Global, g: &Scalar, rows: &[Row], at: usize) -> Result<bool, Memory>
+    requires { All (λ row. IsConditionOver row (read g.now)) rows.now }
+{
+    if at < rows.len() {
+        return stays(alloc, g, &rows[at]);
+    }
+    Ok(false)
+}
+
+/// Whether the condition is other than FALSE of more than a quarter of the rows, by a few that stand evenly among them: an estimate.
+fn seem_many(alloc: Global, g: &Scalar, rows: &[Row]) -> Result<bool, Memory>
+    requires { All (λ row. IsConditionOver row (read g.now)) rows.now }
+{
+    let step = (rows.len() / MOST_TRIED).max(1);
+    let mut many: usize = 0;
+    for number in 0..MOST_TRIED {
+        if stays_at(alloc, g, rows, step.saturating_mul(number))? {
+            many = many.saturating_add(1);
+        }
+    }
+    Ok(many > rows.len().min(MOST_TRIED) / 4)
+}
+
+/// The rows of the relation that have the label of a row of which the condition is other than FALSE, unless these seem to be many.
+fn part_where(
+    alloc: Global,
+    value: &Relation,
+    acl: &[usize],
+    g: &Scalar,
+    marks: &[Marks],
+) -> Result<Option<Relation>, Memory>
+    requires intervals { AreIntervals value.now.heading acl.now }
+    requires typed { IsTyped value.now.heading (read g.now) Truth }
+    requires marks { All (AreMarksOf value.now.rows) marks.now }
+    ensures part { IfOk result (λ o. IfSome o (IsClosedPart acl.now value.now)) }
+    ensures others { IfOk result (λ o. IfSome o (λ p. AreTold (Some (read g.now)) (subtracted value.now.rows p.rows))) }
+{
+    if seem_many(alloc, g, value.rows())? {
+        return Ok(None);
+    }
+    let part = part_by(alloc, value, acl, g, marks)?;
+    Ok(Some(part))
+}
+
+/// The rows of the relation that have the label of a row of which the guard is other than FALSE, where there is a guard, and these do not
+/// seem to be many.
 pub(crate) fn part_told(
     alloc: Global,
     value: &Relation,
     acl: &[usize],
     g: &Option<Scalar>,
-) -> Result<Relation, Memory>
+    marks: &[Marks],
+) -> Result<Option<Relation>, Memory>
     requires intervals { AreIntervals value.now.heading acl.now }
     requires typed { IfSome g.now (λ e. IsTyped value.now.heading (read e) Truth) }
-    ensures part { IfOk result (IsClosedPart acl.now value.now) }
-    ensures others { IfOk result (λ p. AreTold (option_map read g.now) (subtracted value.now.rows p.rows)) }
+    requires marks { All (AreMarksOf value.now.rows) marks.now }
+    ensures part { IfOk result (λ o. IfSome o (IsClosedPart acl.now value.now)) }
+    ensures others { IfOk result (λ o. IfSome o (λ p. AreTold (option_map read g.now) (subtracted value.now.rows p.rows))) }
 {
     match g {
-        Some(g) => part_by(alloc, value, acl, g),
-        None => value.copy(alloc),
+        Some(g) => part_where(alloc, value, acl, g, marks),
+        None => Ok(None),
     }
 }

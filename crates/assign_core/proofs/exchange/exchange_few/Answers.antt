@@ -1,8 +1,9 @@
 use Rattle.std.proofs.Common.{map, arith}
 use Rattle.std.proofs.lemmas.Result.{on_ok_weaker, on_err_weaker}
+use Rattle.indexmap.specs.IndexMap.{set_value_at}
 use Rattle.tree_core.specs.Relvars.{read_entry}
 use Rattle.assign_core.proofs.ChangeLemmas.{entries_length}
-use Rattle.assign_core.proofs.MarkedLemmas.{marks_entry, set_marked}
+use Rattle.assign_core.proofs.MarkedLemmas.{marks_entry, set_marked, others_marked}
 use Rattle.assign_core.proofs.TurnoverLemmas.{set_renewed, set_same, may_exchange, within_exchange}
 use Rattle.assign_core.proofs.exchange.exchange_few.Goals as goal
 
@@ -40,4 +41,8 @@ returns-clause-err c =
 
 pub returns-clause-marked : goal.returns-clause-marked
 returns-clause-marked c =
-    set_marked c.args.relvars.now.list.entries c.args.at c.renew_marked-result.new.relvar c.renew_marked-result.new.marks.items c.renew_marked-result.ensures.marks
+    let es = c.args.relvars.now.list.entries in
+    let w = c.renew_marked-result.new.relvar in
+    c.put_marks.ensures (map read_entry (set_value_at es c.args.at w))
+    (others_marked es c.args.at w c.take_marks-list.new.marked c.take_marks-list.ensures.taken (c.take_marks-list.ensures.left (map read_entry es) c.requires.marked))
+    (set_marked es c.args.at w c.renew_marked-result.new.marks.items c.renew_marked-result.ensures.marks)

@@ -1,7 +1,9 @@
-use Rattle.std.proofs.Common.{◌≡◌, ℕ, List, sym, subst, ◌∙◌}
+use Rattle.std.proofs.Common.{◌≡◌, ℕ, List, IfSome, sym, subst, ◌∙◌}
 use Rattle.std.proofs.lemmas.Option.{IfSome_then}
 use Rattle.scalar_core.specs.Expressions.{read}
+use Rattle.relation_core.specs.Operators.{subtracted}
 use Rattle.meaning_core.specs.Typing.{IsList}
+use Rattle.u_changes.specs.Concerned.{AreFalse, IsClosedPart}
 use Rattle.using_core.proofs.ListLemmas.{intervals_of_list}
 use Rattle.assign_core.proofs.DeletionLemmas.{concerned_told}
 use Rattle.assign_core.proofs.PortionLemmas.{negated_typed}
@@ -18,11 +20,15 @@ concerned-requires-clause-typed c =
     let k = c.requires.deletion in
     negated_typed c.args.value.now.heading (read c.args.deletion.kept.condition.now) (read c.args.deletion.gone.now) k.negates k.kept.condition.typed
 
-pub returns : goal.returns
-returns c =
+pub returns-in-Some : goal.returns-in-Some
+returns-in-Some c =
     let k = c.requires.deletion in
     let d = c.args.deletion in
-    let same : c.as_slice-list.result.now ≡ d.kept.acl.now = c.as_slice-list.ensures.value ∙ c.acl.view_is in
-    let are = c.is_packed_at.ensures d.assignment.now.target c.args.value.now k.constraints k.first k.relation c.if-not-is_packed_at.false in
+    let value = c.args.value.now in
+    let list = c.as_slice-list.result.now in
+    let same : list ≡ d.kept.acl.now = c.as_slice-list.ensures.value ∙ c.acl.view_is in
+    let are = c.is_packed_at.ensures d.assignment.now.target value k.constraints k.first k.relation c.if-not-is_packed_at.false in
+    let closed = subst (λ o. IfSome o (IsClosedPart list value)) c.in-Some.is c.in_ok-part.ensures.part in
+    let others = subst (λ o. IfSome o (λ p. AreFalse list (read d.gone.now) (subtracted value.rows p.rows))) c.in-Some.is c.in_ok-part.ensures.others in
     IfSome_then c.if_few.result c.if_few.ensures (λ some is.
-    concerned_told d.kept.acl.now c.as_slice-list.result.now (read d.gone.now) c.args.value.now c.in_ok-part.part some same are c.in_ok-part.ensures.part c.in_ok-part.ensures.others is)
+    concerned_told d.kept.acl.now list (read d.gone.now) value c.in-Some.part some same are closed others is)

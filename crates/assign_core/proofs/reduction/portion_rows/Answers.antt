@@ -1,42 +1,24 @@
-use Rattle.std.proofs.Common.{ℕ, List, [], ◌∷◌, sym, subst, ◌∙◌}
-use Rattle.value_core.specs.Values.{Heading}
+use Rattle.std.proofs.Common.{ℕ, List, [], ◌∷◌, sym, subst, arith}
 use Rattle.scalar_core.specs.Expressions.{read}
-use Rattle.relation_core.specs.Operators.{restricted}
-use Rattle.meaning_core.specs.Meanings.{condition}
-use Rattle.meaning_core.specs.Typing.{IsList}
-use Rattle.using_core.specs.Using.{IsSweptBy}
-use Rattle.assign_core.proofs.DeletionLemmas.{portion_told, portion_taken}
+use Rattle.relation_core.specs.Answers.{Answers, under}
+use Rattle.using_core.specs.Cells.{cells_of_all}
+use Rattle.assign_core.specs.Portions.{portion_rows}
 use Rattle.assign_core.proofs.reduction.portion_rows.Goals as goal
 
-pub using_restriction-requires-clause-restriction : goal.using_restriction-requires-clause-restriction
-using_restriction-requires-clause-restriction g c =
-    let k = c.requires in
-    (k.sizes, record { condition = k.condition; headed = c.heading-heading.ensures.heading })
+pub restricted-requires : goal.restricted-requires
+restricted-requires g c = c.requires.condition.typed
 
-pub using_restriction-requires-clause-list : goal.using_restriction-requires-clause-list
-using_restriction-requires-clause-list g c =
-    let same = c.as_slice-list.ensures.value ∙ c.acl.view_is in
-    subst (λ (h : Heading). IsList h c.as_slice-list.result.now) (sym c.heading-heading.ensures.heading)
-    (subst (λ (l : List ℕ). IsList c.args.of.now.heading l) (sym same) c.requires.list)
-
-pub using_restriction-requires-clause-swept : goal.using_restriction-requires-clause-swept
-using_restriction-requires-clause-swept g c =
-    let same = c.as_slice-list.ensures.value ∙ c.acl.view_is in
-    let e = read c.args.portion.condition.now in
-    let from = c.args.of.now.heading in
-    subst (λ (h : Heading). IsSweptBy h c.as_slice-list.result.now from e) (sym c.heading-heading.ensures.heading)
-    (subst (λ (l : List ℕ). IsSweptBy from l from e) (sym same) c.requires.swept)
-
-pub returns-clause-value : goal.returns-clause-value
-returns-clause-value g c =
+pub returns-then-lists_none-clause-value : goal.returns-then-lists_none-clause-value
+returns-then-lists_none-clause-value g c =
     let p = c.args.portion in
     let of = c.args.of.now in
-    portion_told c.using_restriction.result p.place of.heading c.heading-heading.result.now p.acl.now c.as_slice-list.result.now (restricted (condition (read p.condition.now))) of.rows
-    c.heading-heading.ensures.relation.headed c.requires.list c.heading-heading.ensures.heading (c.as_slice-list.ensures.value ∙ c.acl.view_is) c.using_restriction.ensures.value
+    subst (λ (l : List ℕ). Answers c.restricted.result (under of.heading (portion_rows p.place l (read p.condition.now) of.rows))) (sym (c.lists_none.ensures.none c.if-lists_none.true))
+    (c.restricted.ensures p.place)
 
 pub returns-clause-cost : goal.returns-clause-cost
 returns-clause-cost g c =
     let p = c.args.portion in
     let of = c.args.of.now in
-    portion_taken c.args.steps.now c.using_restriction.new.steps of.heading c.heading-heading.result.now p.acl.now c.as_slice-list.result.now (read p.condition.now ∷ []) of.rows
-    c.heading-heading.ensures.relation.headed c.requires.list c.heading-heading.ensures.heading (c.as_slice-list.ensures.value ∙ c.acl.view_is) c.using_restriction.ensures.cost
+    let same = c.lists_none.ensures.some c.if-lists_none.false (cells_of_all p.acl.now (read p.condition.now ∷ []) of.rows) in
+    let taken = c.rows_at_points.ensures.cost in
+    omega (arith, same, taken)

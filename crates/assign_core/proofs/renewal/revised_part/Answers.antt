@@ -1,7 +1,9 @@
-use Rattle.std.proofs.Common.{◌≡◌, ℕ, List, sym, subst, ◌∙◌}
+use Rattle.std.proofs.Common.{◌≡◌, ℕ, List, IfSome, sym, subst, ◌∙◌}
 use Rattle.std.proofs.lemmas.Option.{IfSome_then}
 use Rattle.scalar_core.specs.Expressions.{read}
+use Rattle.relation_core.specs.Operators.{subtracted}
 use Rattle.meaning_core.specs.Typing.{IsList}
+use Rattle.u_changes.specs.Concerned.{AreFalse, IsClosedPart}
 use Rattle.using_core.proofs.ListLemmas.{intervals_of_list}
 use Rattle.assign_core.proofs.DeletionLemmas.{concerned_told}
 use Rattle.assign_core.proofs.PortionLemmas.{negated_typed}
@@ -22,21 +24,28 @@ concerned_by_both-requires-clause-first c =
 pub concerned_by_both-requires-clause-second : goal.concerned_by_both-requires-clause-second
 concerned_by_both-requires-clause-second c = c.requires.revision.changed.portion.condition.typed
 
-pub returns-clause-gone : goal.returns-clause-gone
-returns-clause-gone c =
+pub returns-in-Some-clause-gone : goal.returns-in-Some-clause-gone
+returns-in-Some-clause-gone c =
     let k = c.requires.revision in
     let r = c.args.revision in
-    let same : c.as_slice-list.result.now ≡ r.acl.now = c.as_slice-list.ensures.value ∙ c.acl.view_is in
-    let are = c.is_packed_at.ensures r.assignment.now.target c.args.value.now k.constraints k.first k.relation c.if-not-is_packed_at.false in
+    let value = c.args.value.now in
+    let list = c.as_slice-list.result.now in
+    let same : list ≡ r.acl.now = c.as_slice-list.ensures.value ∙ c.acl.view_is in
+    let are = c.is_packed_at.ensures r.assignment.now.target value k.constraints k.first k.relation c.if-not-is_packed_at.false in
+    let closed = subst (λ o. IfSome o (IsClosedPart list value)) c.in-Some.is c.in_ok-part.ensures.part in
+    let others = subst (λ o. IfSome o (λ p. AreFalse list (read r.gone.now) (subtracted value.rows p.rows) × AreFalse list (read r.changed.portion.condition.now) (subtracted value.rows p.rows))) c.in-Some.is c.in_ok-part.ensures.others in
     IfSome_then c.if_few.result c.if_few.ensures (λ some is.
-    concerned_told r.acl.now c.as_slice-list.result.now (read r.gone.now) c.args.value.now c.in_ok-part.part some same are c.in_ok-part.ensures.part c.in_ok-part.ensures.others.0 is)
+    concerned_told r.acl.now list (read r.gone.now) value c.in-Some.part some same are closed others.0 is)
 
-pub returns-clause-changed : goal.returns-clause-changed
-returns-clause-changed c =
+pub returns-in-Some-clause-changed : goal.returns-in-Some-clause-changed
+returns-in-Some-clause-changed c =
     let k = c.requires.revision in
     let r = c.args.revision in
-    let same : c.as_slice-list.result.now ≡ r.acl.now = c.as_slice-list.ensures.value ∙ c.acl.view_is in
-    let are = c.is_packed_at.ensures r.assignment.now.target c.args.value.now k.constraints k.first k.relation c.if-not-is_packed_at.false in
+    let value = c.args.value.now in
+    let list = c.as_slice-list.result.now in
+    let same : list ≡ r.acl.now = c.as_slice-list.ensures.value ∙ c.acl.view_is in
+    let are = c.is_packed_at.ensures r.assignment.now.target value k.constraints k.first k.relation c.if-not-is_packed_at.false in
+    let closed = subst (λ o. IfSome o (IsClosedPart list value)) c.in-Some.is c.in_ok-part.ensures.part in
+    let others = subst (λ o. IfSome o (λ p. AreFalse list (read r.gone.now) (subtracted value.rows p.rows) × AreFalse list (read r.changed.portion.condition.now) (subtracted value.rows p.rows))) c.in-Some.is c.in_ok-part.ensures.others in
     IfSome_then c.if_few.result c.if_few.ensures (λ some is.
-    concerned_told r.acl.now c.as_slice-list.result.now (read r.changed.portion.condition.now) c.args.value.now c.in_ok-part.part some same are c.in_ok-part.ensures.part
-    c.in_ok-part.ensures.others.1 is)
+    concerned_told r.acl.now list (read r.changed.portion.condition.now) value c.in-Some.part some same are closed others.1 is)

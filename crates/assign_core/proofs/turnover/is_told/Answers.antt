@@ -1,4 +1,4 @@
-use Rattle.std.proofs.Common.{◌≡◌, ◌<◌, ℕ, true, None, List, length, Option, Some, Bor, option_map, sym, ap, ◌∙◌, subst, nat_eq}
+use Rattle.std.proofs.Common.{◌≡◌, ◌<◌, ℕ, true, None, List, length, Option, Bor, option_map, sym, ap, ◌∙◌, subst, nat_eq}
 use Rattle.std.specs.Cmp.Lexicographic.{pointwise}
 use Rattle.value_core.specs.Attributes.{among}
 use Rattle.value_core.specs.RowPacking.{packed}

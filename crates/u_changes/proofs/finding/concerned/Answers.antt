@@ -1,4 +1,5 @@
 use Rattle.std.proofs.Common.{option_map}
+use Rattle.std.proofs.lemmas.Option.{IfSome_then}
 use Rattle.value_core.specs.declared.kind.Kind.TheVariants.{Truth}
 use Rattle.scalar_core.specs.Expressions.{read}
 use Rattle.relation_core.specs.Operators.{subtracted}
@@ -14,4 +15,5 @@ part_told-requires-clause-typed c =
 
 pub returns-clause-others : goal.returns-clause-others
 returns-clause-others c =
-    told_false c.args.acl.now (read c.args.c.now) (option_map read c.in_ok-g.g) (subtracted c.args.value.now.rows c.in_ok-part.part.rows) c.in_ok-g.ensures c.in_ok-part.ensures.others
+    IfSome_then c.in_ok-part.part c.in_ok-part.ensures.others (λ p told.
+    told_false c.args.acl.now (read c.args.c.now) (option_map read c.in_ok-g.g) (subtracted c.args.value.now.rows p.rows) c.in_ok-g.ensures told)

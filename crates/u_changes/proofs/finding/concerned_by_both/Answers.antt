@@ -1,4 +1,5 @@
 use Rattle.std.proofs.Common.{Option, option_map, ap₂, ◌∙◌}
+use Rattle.std.proofs.lemmas.Option.{IfSome_then}
 use Rattle.value_core.specs.declared.kind.Kind.TheVariants.{Truth}
 use Rattle.scalar_core.specs.Expressions.{Expr, read}
 use Rattle.relation_core.specs.Operators.{subtracted}
@@ -19,5 +20,6 @@ part_told-requires-clause-typed c =
 
 pub returns-clause-others : goal.returns-clause-others
 returns-clause-others c =
-    told_both c.args.acl.now c.args.c.now.place (read c.args.c.now) (read c.args.d.now) (option_map read c.in_ok-g.g) (subtracted c.args.value.now.rows c.in_ok-part.part.rows)
-    (c.in_ok-g.ensures ∙ ap₂ (λ (f g : Option Expr). guard_of_both c.args.c.now.place f g) c.in_ok-first.ensures c.in_ok-second.ensures) c.in_ok-part.ensures.others
+    IfSome_then c.in_ok-part.part c.in_ok-part.ensures.others (λ p told.
+    told_both c.args.acl.now c.args.c.now.place (read c.args.c.now) (read c.args.d.now) (option_map read c.in_ok-g.g) (subtracted c.args.value.now.rows p.rows)
+    (c.in_ok-g.ensures ∙ ap₂ (λ (f g : Option Expr). guard_of_both c.args.c.now.place f g) c.in_ok-first.ensures c.in_ok-second.ensures) told)

@@ -5,8 +5,8 @@ use Rattle.u_set.specs.Apart.{outside}
 use Rattle.u_changes.proofs.PartLemmas.{outside_within, part_closed, others_told}
 use Rattle.u_changes.proofs.telling.part_by.Goals as goal
 
-pub touched_by-requires-clause-within : goal.touched_by-requires-clause-within
-touched_by-requires-clause-within c =
+pub touched_with-requires-clause-within : goal.touched_with-requires-clause-within
+touched_with-requires-clause-within c =
     let at : c.as_slice.result.now ≡ outside c.args.acl.now c.args.value.now.heading =
     c.as_slice.ensures.value ∙ (c.in_ok-label.ensures ∙ ap (λ (h : Heading). outside c.args.acl.now h) (c.attributes.ensures.list ∙ c.heading.ensures.heading)) in
     outside_within c.args.acl.now c.args.value.now.heading c.as_slice.result.now at

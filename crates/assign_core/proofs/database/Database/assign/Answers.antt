@@ -19,8 +19,8 @@ prepare-requires-clause-typed g c =
     each_of (IsTypedAssignment (read_relvars c.self.inside.relvars)) c.args.list.now
     (subst (λ (r : Relvars). All (IsTypedAssignment (read_relvars r)) list) (sym c.self.view_is) c.requires.typed)
 
-pub exchange_all-requires : goal.exchange_all-requires
-exchange_all-requires g c =
+pub exchange_all-requires-clause-long : goal.exchange_all-requires-clause-long
+exchange_all-requires-clause-long g c =
     let raw = c.self.inside.relvars.list.entries in
     let ready = subst (λ (r : Ready). IsReady r (map read_entry raw)) c.in-Values.is c.in_ok-changes.ensures.ready in
     same_length c.in-Values.changes.items (map read_entry raw) ready ∙ entries_length raw
@@ -36,7 +36,7 @@ invariant_of-self-in-Values g c =
     let meant = subst (λ (r : Ready). after_assignments s.relvars list ≡ Ok (with_ready r s.relvars)) c.in-Values.is c.in_ok-changes.ensures.meant in (
       subst IsKept (λ i. record { ordinals = sym c.exchange_all.ensures.ordinals i; relvars = sym c.exchange_all.ensures.list i })
           (assigned_kept s c.in-Values.changes.items list c.self.invariant.0 ready meant),
-      c.no_marks.ensures.marked _,
+      c.exchange_all.ensures.marked,
     )
 
 pub invariant_of-self-in-Rows : goal.invariant_of-self-in-Rows

@@ -5,7 +5,7 @@ use Rattle.assign_core.specs.Reductions.{reduced_target}
 use Rattle.assign_core.specs.Targets.{entries_before}
 use Rattle.assign_core.specs.Turnovers.{IsKnown}
 use Rattle.assign_core.proofs.AdditionLemmas.{value_refused}
-use Rattle.assign_core.proofs.preparing.prepare_reduction.Goals as goal
+use Rattle.assign_core.proofs.by_condition.prepare_reduction.Goals as goal
 
 pub returns-in_err-rows-clause-refused : goal.returns-in_err-rows-clause-refused
 returns-in_err-rows-clause-refused g c =

@@ -5,7 +5,7 @@ use Rattle.assign_core.specs.Renewals.{renewed_target}
 use Rattle.assign_core.specs.Targets.{entries_before}
 use Rattle.assign_core.specs.Turnovers.{IsKnown}
 use Rattle.assign_core.proofs.AdditionLemmas.{value_refused}
-use Rattle.assign_core.proofs.preparing.prepare_renewal.Goals as goal
+use Rattle.assign_core.proofs.by_condition.prepare_renewal.Goals as goal
 
 pub returns-in_err-rows-clause-refused : goal.returns-in_err-rows-clause-refused
 returns-in_err-rows-clause-refused g c =
@@ -26,4 +26,4 @@ returns-clause-cost g c =
 
 pub prepare_exchange-requires-clause-known : goal.prepare_exchange-requires-clause-known
 prepare_exchange-requires-clause-known g c =
-    subst (IsKnown c.args.renewal.value.now c.in_ok-rows.rows) (sym c.marked_alone-known.ensures) (record { marked = c.requires.marked; packed = tt })
+    subst (IsKnown c.args.renewal.value.now c.in_ok-rows.rows) (sym c.marked_alone-known.ensures) (record { marked = c.requires.renewal.marked; packed = tt })

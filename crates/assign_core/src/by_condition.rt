@@ -1,0 +1,218 @@
+// What stands ready for changes by a condition: where this concerns few rows, only these are looked at.
+ghost use Rattle.std.specs.Prelude.{◌≡◌, ◌≤◌, ◌+◌, [], ◌∷◌, map, None, Ok, IfOk, IfErr};
+ghost use Rattle.std.specs.List.{All};
+ghost use Rattle.row_marks.specs.Marks.{AreMarksOf};
+ghost use Rattle.tree_core.specs.Items.{read_assignment};
+ghost use Rattle.tree_core.specs.Relvars.{read_relvars};
+ghost use Rattle.meaning_core.specs.Updates.{IsTypedAssignment};
+ghost use Rattle.assign_core.specs.Assignments.{after_assignments, IsRefusedFor};
+ghost use Rattle.assign_core.specs.Costs.{assignments_cost};
+ghost use Rattle.assign_core.specs.Databases.{IsKept};
+ghost use Rattle.assign_core.specs.Marked.{AreMarked};
+ghost use Rattle.assign_core.specs.PlainChanges.{IsAnyDeletion, IsAnyRevision};
+ghost use Rattle.assign_core.specs.Reductions.{reduced_target, IsReduction};
+ghost use Rattle.assign_core.specs.Renewals.{renewed_target, IsRenewal};
+ghost use Rattle.assign_core.specs.Targets.{entries_before, result_given};
+ghost use Rattle.assign_core.specs.Turnovers.{with_ready, IsReady};
+
+use crate::changes::none_yet;
+use crate::finding::{find_deletion, find_revision, no_positions};
+use crate::marked::{Marked, marks_at};
+use crate::portion::Deletion;
+use crate::preparing::{Ready, prepare_all, prepare_exchange};
+use crate::reduction::{Reduction, deleted, deleted_part, deletion_at};
+use crate::renewal::{Renewal, revised, revised_part, revision_at};
+use crate::revision::Revision;
+use crate::target::Target;
+use crate::turnover::Known;
+use point_core::Steps;
+use row_marks::Marks;
+use std::alloc::Global;
+use std::sync::ledger::Ledger;
+use tree_core::{Assignment, Relvars};
+use value_core::Refuse;
+
+/// What stands ready for all targets, or why the assignments are refused. A deletion by a condition looks at the rows that this concerns,
+/// where they are few.
+pub(crate) fn prepare_change<L: Ledger>(
+    alloc: Global,
+    list: &[Assignment],
+    relvars: &Relvars,
+    marked: &Marked,
+    steps: &mut Steps<L>,
+) -> Result<Ready, Refuse>
+    requires kept { IsKept (read_relvars relvars.now) }
+    requires marked { AreMarked marked.now (read_relvars relvars.now).relvars }
+    requires typed { All (λ a. IsTypedAssignment (read_relvars relvars.now) (read_assignment a)) list.now }
+    ensures ready { IfOk result (λ r. IsReady r (read_relvars relvars.now).relvars) }
+    ensures meant { IfOk result (λ r. after_assignments (read_relvars relvars.now).relvars (map read_assignment list.now) ≡ Ok (with_ready r (read_relvars relvars.now).relvars)) }
+    ensures refused { IfErr result (λ refuse. IsRefusedFor refuse (after_assignments (read_relvars relvars.now).relvars (map read_assignment list.now))) }
+    ensures cost { steps.new ≤ steps.old + assignments_cost (read_relvars relvars.now).relvars (map read_assignment list.now) }
+{
+    let none = no_positions(alloc);
+    match find_deletion(list, &none) {
+        Some(deletion) => prepare_deletion(alloc, deletion, list, relvars, marked, steps),
+        None => prepare_update(alloc, list, relvars, marked, steps),
+    }
+}
+
+// What stands ready for the target of a deletion, or why it is refused.
+fn prepare_deletion<L: Ledger>(
+    alloc: Global,
+    deletion: Deletion<'_>,
+    list: &[Assignment],
+    relvars: &Relvars,
+    marked: &Marked,
+    steps: &mut Steps<L>,
+) -> Result<Ready, Refuse>
+    requires kept { IsKept (read_relvars relvars.now) }
+    requires marked { AreMarked marked.now (read_relvars relvars.now).relvars }
+    requires deletion { IsAnyDeletion deletion }
+    requires alone { map read_assignment list.now ≡ read_assignment deletion.assignment.now ∷ [] }
+    requires typed { All (λ a. IsTypedAssignment (read_relvars relvars.now) (read_assignment a)) list.now }
+    ensures ready { IfOk result (λ r. IsReady r (read_relvars relvars.now).relvars) }
+    ensures meant { IfOk result (λ r. after_assignments (read_relvars relvars.now).relvars (map read_assignment list.now) ≡ Ok (with_ready r (read_relvars relvars.now).relvars)) }
+    ensures refused { IfErr result (λ refuse. IsRefusedFor refuse (after_assignments (read_relvars relvars.now).relvars (map read_assignment list.now))) }
+    ensures cost { steps.new ≤ steps.old + assignments_cost (read_relvars relvars.now).relvars (map read_assignment list.now) }
+{
+    let (at, value) = deletion_at(relvars, deletion);
+    let marks = marks_at(marked, at);
+    match deleted_part(alloc, relvars, deletion, at, value, marks)? {
+        Some(part) => {
+            let reduction = Reduction {
+                relvars,
+                deletion,
+                at,
+                value,
+                part: &part,
+            };
+            prepare_reduction(alloc, reduction, marks, steps)
+        }
+        None => prepare_all(alloc, list, relvars, steps),
+    }
+}
+
+// What stands ready for the target of a deletion that concerns few rows, or why it is refused.
+fn prepare_reduction<L: Ledger>(
+    alloc: Global,
+    reduction: Reduction<'_>,
+    marks: &[Marks],
+    steps: &mut Steps<L>,
+) -> Result<Ready, Refuse>
+    requires kept { IsKept (read_relvars reduction.relvars.now) }
+    requires reduction { IsReduction reduction }
+    requires marked { All (AreMarksOf reduction.value.now.rows) marks.now }
+    ensures ready { IfOk result (λ r. IsReady r (entries_before (reduced_target reduction.entry))) }
+    ensures meant { IfOk result (λ r. result_given (reduced_target reduction.entry) ≡ Ok (with_ready r (entries_before (reduced_target reduction.entry)))) }
+    ensures refused { IfErr result (λ refuse. IsRefusedFor refuse (result_given (reduced_target reduction.entry))) }
+    ensures cost { steps.new ≤ steps.old + assignments_cost (entries_before (reduced_target reduction.entry)) (read_assignment reduction.entry.deletion.assignment.now ∷ []) }
+{
+    let none = none_yet(alloc, reduction.relvars)?;
+    let rows = deleted(alloc, reduction, steps)?;
+    let target = Target {
+        relvars: reduction.relvars,
+        assignment: reduction.deletion.assignment,
+        at: reduction.at,
+        value: reduction.value,
+    };
+    let place = reduction.deletion.kept.place;
+    let known = marked_alone(marks);
+    prepare_exchange(alloc, target, place, rows, known, none.as_slice(), steps)
+}
+
+// What stands ready for all targets, or why the assignments are refused. A revision by conditions looks at the rows that these concern,
+// where they are few.
+fn prepare_update<L: Ledger>(
+    alloc: Global,
+    list: &[Assignment],
+    relvars: &Relvars,
+    marked: &Marked,
+    steps: &mut Steps<L>,
+) -> Result<Ready, Refuse>
+    requires kept { IsKept (read_relvars relvars.now) }
+    requires marked { AreMarked marked.now (read_relvars relvars.now).relvars }
+    requires typed { All (λ a. IsTypedAssignment (read_relvars relvars.now) (read_assignment a)) list.now }
+    ensures ready { IfOk result (λ r. IsReady r (read_relvars relvars.now).relvars) }
+    ensures meant { IfOk result (λ r. after_assignments (read_relvars relvars.now).relvars (map read_assignment list.now) ≡ Ok (with_ready r (read_relvars relvars.now).relvars)) }
+    ensures refused { IfErr result (λ refuse. IsRefusedFor refuse (after_assignments (read_relvars relvars.now).relvars (map read_assignment list.now))) }
+    ensures cost { steps.new ≤ steps.old + assignments_cost (read_relvars relvars.now).relvars (map read_assignment list.now) }
+{
+    let none = no_positions(alloc);
+    match find_revision(list, &none) {
+        Some(revision) => prepare_revision(alloc, revision, list, relvars, marked, steps),
+        None => prepare_all(alloc, list, relvars, steps),
+    }
+}
+
+// What stands ready for the target of a revision, or why it is refused.
+fn prepare_revision<L: Ledger>(
+    alloc: Global,
+    revision: Revision<'_>,
+    list: &[Assignment],
+    relvars: &Relvars,
+    marked: &Marked,
+    steps: &mut Steps<L>,
+) -> Result<Ready, Refuse>
+    requires kept { IsKept (read_relvars relvars.now) }
+    requires marked { AreMarked marked.now (read_relvars relvars.now).relvars }
+    requires revision { IsAnyRevision revision }
+    requires alone { map read_assignment list.now ≡ read_assignment revision.assignment.now ∷ [] }
+    requires typed { All (λ a. IsTypedAssignment (read_relvars relvars.now) (read_assignment a)) list.now }
+    ensures ready { IfOk result (λ r. IsReady r (read_relvars relvars.now).relvars) }
+    ensures meant { IfOk result (λ r. after_assignments (read_relvars relvars.now).relvars (map read_assignment list.now) ≡ Ok (with_ready r (read_relvars relvars.now).relvars)) }
+    ensures refused { IfErr result (λ refuse. IsRefusedFor refuse (after_assignments (read_relvars relvars.now).relvars (map read_assignment list.now))) }
+    ensures cost { steps.new ≤ steps.old + assignments_cost (read_relvars relvars.now).relvars (map read_assignment list.now) }
+{
+    let (at, value) = revision_at(relvars, revision);
+    let marks = marks_at(marked, at);
+    match revised_part(alloc, relvars, revision, at, value, marks)? {
+        Some(part) => {
+            let renewal = Renewal {
+                relvars,
+                revision,
+                at,
+                value,
+                marks,
+                part: &part,
+            };
+            prepare_renewal(alloc, renewal, steps)
+        }
+        None => prepare_all(alloc, list, relvars, steps),
+    }
+}
+
+// What stands ready for the target of a revision that concerns few rows, or why it is refused.
+fn prepare_renewal<L: Ledger>(
+    alloc: Global,
+    renewal: Renewal<'_>,
+    steps: &mut Steps<L>,
+) -> Result<Ready, Refuse>
+    requires kept { IsKept (read_relvars renewal.relvars.now) }
+    requires renewal { IsRenewal renewal }
+    ensures ready { IfOk result (λ r. IsReady r (entries_before (renewed_target renewal.entry))) }
+    ensures meant { IfOk result (λ r. result_given (renewed_target renewal.entry) ≡ Ok (with_ready r (entries_before (renewed_target renewal.entry)))) }
+    ensures refused { IfErr result (λ refuse. IsRefusedFor refuse (result_given (renewed_target renewal.entry))) }
+    ensures cost { steps.new ≤ steps.old + assignments_cost (entries_before (renewed_target renewal.entry)) (read_assignment renewal.entry.revision.assignment.now ∷ []) }
+{
+    let none = none_yet(alloc, renewal.relvars)?;
+    let rows = revised(alloc, renewal, steps)?;
+    let target = Target {
+        relvars: renewal.relvars,
+        assignment: renewal.revision.assignment,
+        at: renewal.at,
+        value: renewal.value,
+    };
+    let place = renewal.revision.assignment.tree.place;
+    let known = marked_alone(renewal.marks);
+    prepare_exchange(alloc, target, place, rows, known, none.as_slice(), steps)
+}
+
+// The marks of rows, where nothing is known of those that come after them.
+fn marked_alone(marks: &[Marks]) -> Known<'_>
+    ensures { result ≡ record { marks = marks.entry; packed = None } }
+{
+    Known {
+        marks,
+        packed: None,
+    }
+}
