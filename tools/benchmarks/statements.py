@@ -1,13 +1,14 @@
 #!/usr/bin/env python3
 """statements: a script that puts rows into a relvar with a key, many or few in a statement.
 
-    statements.py ROWS EACH [--count MORE] [--change FORM] [--front] [--key-using] [--insert-using] > script
+    statements.py ROWS EACH [--count MORE] [--change FORM] [--front] [--key-using] [--insert-using] [--turn] > script
 
 ROWS rows, EACH of them in an INSERT, in no order; the last statement counts them. With --count, MORE statements with one row each
 follow. With --front the key's attribute is the first by its name, so that rows stand in the order of the key. With --key-using the key is one
 under USING of the interval, so that rows are packed and keys are asked at each point; with --insert-using the INSERTs are under USING.
 With --change the statements that follow are changes of one key each in place of insertions: delete, update, portion-delete, portion-update, or
-meet, an INSERT under USING of a row that goes on where one that is there ends.
+meet, an INSERT under USING of a row that goes on where one that is there ends. With --turn there is a second relvar with the same rows, and
+each statement that follows is asked of both in turn.
 """
 import argparse
 import random
@@ -23,9 +24,14 @@ def tuple_of(number, key):
     return "TUPLE {%s %d, T 'row %d', D [DATE '2012-%02d-%02d':DATE '2013-12-31']}" % (key, number, number % 97, month, day)
 
 
-def inserts(numbers, each, key, insert, write):
+def inserts(numbers, each, key, insert):
     for start in range(0, len(numbers), each):
-        write('%s R RELATION {%s};\n' % (insert, ', '.join(tuple_of(number, key) for number in numbers[start:start + each])))
+        yield '%s R RELATION {%s};\n' % (insert, ', '.join(tuple_of(number, key) for number in numbers[start:start + each]))
+
+
+# The same statement of the second relvar.
+def of_second(statement):
+    return statement.replace(' R ', ' S ', 1)
 
 
 # What changes the rows of one key.
@@ -44,7 +50,7 @@ def main():
     words.add_argument('each', type=int)
     words.add_argument('--count', type=int, default=0)
     words.add_argument('--change', choices=CHANGES)
-    for name in '--front', '--key-using', '--insert-using':
+    for name in '--front', '--key-using', '--insert-using', '--turn':
         words.add_argument(name, action='store_true')
     asked = words.parse_args()
     key = 'A' if asked.front else 'K'
@@ -52,11 +58,17 @@ def main():
     numbers = list(range(asked.rows + (0 if asked.change else asked.count)))
     random.Random(1).shuffle(numbers)
     write = sys.stdout.write
-    write(HEAD % (key, ('USING (D): KEY {%s, D}' if asked.key_using else 'KEY {%s}') % key))
-    inserts(numbers[:asked.rows], asked.each, key, insert, write)
-    inserts(numbers[asked.rows:], 1, key, insert, write)
+    head = HEAD % (key, ('USING (D): KEY {%s, D}' if asked.key_using else 'KEY {%s}') % key)
+    write(head)
+    for statement in inserts(numbers[:asked.rows], asked.each, key, insert):
+        write(statement)
+    if asked.turn:
+        write(of_second(head) + 'S := R;\n')
+    more = list(inserts(numbers[asked.rows:], 1, key, insert))
     for number in numbers[:asked.count if asked.change else 0]:
-        write(CHANGES[asked.change].format(key=key, number=number, name=number % 97))
+        more.append(CHANGES[asked.change].format(key=key, number=number, name=number % 97))
+    for statement in more:
+        write(statement + (of_second(statement) if asked.turn else ''))
     write(TAIL)
 
 
