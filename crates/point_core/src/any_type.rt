@@ -130,11 +130,11 @@ impl PointType for AnyType {
 
     fn sort<L: Ledger>(
         &self,
-        _alloc: Global,
+        alloc: Global,
         list: &mut Vec<(AnyPoint, usize)>,
         steps: &mut Steps<L>,
     ) -> Result<(), Memory> {
-        sort_pairs(list, steps)
+        sort_pairs(alloc, list, steps)
     }
 }
 

@@ -101,11 +101,11 @@ impl PointType for DateType {
 
     fn sort<L: Ledger>(
         &self,
-        _alloc: Global,
+        alloc: Global,
         list: &mut Vec<(Day, usize)>,
         steps: &mut Steps<L>,
     ) -> Result<(), Memory> {
-        sort_pairs(list, steps)
+        sort_pairs(alloc, list, steps)
     }
 }
 

@@ -69,11 +69,11 @@ impl PointType for IntType {
 
     fn sort<L: Ledger>(
         &self,
-        _alloc: Global,
+        alloc: Global,
         list: &mut Vec<(i64, usize)>,
         steps: &mut Steps<L>,
     ) -> Result<(), Memory> {
-        sort_pairs(list, steps)
+        sort_pairs(alloc, list, steps)
     }
 }
 

@@ -73,11 +73,11 @@ impl PointType for OrdinalType {
 
     fn sort<L: Ledger>(
         &self,
-        _alloc: Global,
+        alloc: Global,
         list: &mut Vec<(u16, usize)>,
         steps: &mut Steps<L>,
     ) -> Result<(), Memory> {
-        sort_pairs(list, steps)
+        sort_pairs(alloc, list, steps)
     }
 }
 

@@ -14,6 +14,6 @@ mod united;
 pub use by_label::pack_rows;
 pub use cell_op::CellOp;
 pub use inward::{IndexBox, leaf, slices};
-pub use key::Key;
+pub use key::{Key, cell_number};
 pub use live::{Sweep, advance, sweep_of};
 pub use united::cuts_at;

@@ -7,6 +7,7 @@ mod kind;
 mod limits;
 mod list;
 mod name;
+mod numbers;
 mod refuse;
 mod relation;
 mod row;
