@@ -43,6 +43,17 @@ key_step first rows ss i x old out new label cells h e inv push el ec =
     let s : suc i ≡ i + 1 = omega arith in
     push ∙ (λ t. inv t ++ (el t, ec t) ∷ []) ∙ append_assoc old (keys_from first (take i rows) ss) ((x.0, map (cells_at (first + i)) ss) ∷ []) ∙ ap (λ ks. old ++ ks) (sym (one_more_key first rows ss i x h e)) ∙ ap (λ m. old ++ keys_from first (take m rows) ss) s
 
+keys_more : {L X P : Type 0} (first : ℕ) (rows : List (L × X)) (x : L × X) (ss : List (P × P × List (ℕ × ℕ))) → keys_from first (rows ++ x ∷ []) ss ≡ keys_from first rows ss ++ (x.0, map (cells_at (first + length rows)) ss) ∷ []
+keys_more first [] x ss = let e : first ≡ first + 0 = omega arith in ap (λ m. (x.0, map (cells_at m) ss) ∷ []) e
+keys_more first (y ∷ ys) x ss =
+    let z : suc first + length ys ≡ first + suc (length ys) = omega arith in
+    ap (λ ks. (y.0, map (cells_at first) ss) ∷ ks) (keys_more (suc first) ys x ss ∙ ap (λ m. keys_from (suc first) ys ss ++ (x.0, map (cells_at m) ss) ∷ []) z)
+
+pub key_moved : {L X P : Type 0} (first : ℕ) (rows : List (L × X)) (ss : List (P × P × List (ℕ × ℕ))) (at : ℕ) (x : L × X) (old out new : List (L × List (ℕ × ℕ))) (label : L) (cells : List (ℕ × ℕ)) → at ≡ first + length rows
+    → out ≡ old ++ keys_from first rows ss → new ≡ out ++ (label, cells) ∷ [] → label ≡ x.0 → cells ≡ map (cells_at at) ss → new ≡ old ++ keys_from first (rows ++ x ∷ []) ss
+key_moved first rows ss at x old out new label cells e inv push el ec =
+    push ∙ (λ t. inv t ++ (el t, (ec ∙ ap (λ m. map (cells_at m) ss) e) t) ∷ []) ∙ append_assoc old (keys_from first rows ss) ((x.0, map (cells_at (first + length rows)) ss) ∷ []) ∙ ap (λ ks. old ++ ks) (sym (keys_more first rows x ss))
+
 pub take_whole : {X : Type 0} (xs : List X) (r : ℕ) → length xs ≤ r → take r xs ≡ xs
 take_whole [] zero h = refl
 take_whole [] (suc r) h = refl

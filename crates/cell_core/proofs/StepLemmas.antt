@@ -87,9 +87,6 @@ numbering_bound a b m n k old new e f h =
     let w : new ≤ old + (bound (m + n) k - k * (m + n)) = sides_bound (m + n) k old new l in
     omega arith
 
-pub numbering_steps : (a b m n k old new : ℕ) → a ≡ m → b ≡ n → new ≤ old + k * side_cost (a + b) → new ≤ old + k * side_cost (m + n)
-numbering_steps a b m n k old new e f h = subst (λ z. new ≤ old + k * side_cost z) (λ t. e t + f t) h
-
 -- both together, of some rows; without rows the cells take no step
 pub whole_bound : (n k old a b v : ℕ) → a ≤ old + k * side_cost n → b ≤ a + v → (n ≡ 0 → b ≤ a) → v ≤ (2 * n) ^ k → b ≤ old + (bound n k - k * n)
 whole_bound zero k old a b v h g z l = let w = z refl in sides_bound zero k old b (omega (arith, w))

@@ -20,7 +20,7 @@ fn by_label<'a, T: PointType, P: Label>(
 ) -> Result<Vec<&'a BoxRow<T, P>>, Memory>
     ensures { IfOk result (λ v. IsPermutation rows.now (map (λ r. r.now) v.items)) }
 {
-    let mut list = Vec::new(alloc);
+    let mut list = Vec::with_capacity(alloc, rows.len())?;
     for row in rows {
         list.push(row)?;
     }

@@ -26,7 +26,7 @@ impl<T: PointType> Sides<T> {
     pub fn copy(&self, alloc: Global) -> Result<Sides<T>, Memory>
         ensures { IfOk result (λ v. v ≡ self.now) }
     {
-        let mut list = Vec::new(alloc);
+        let mut list = Vec::with_capacity(alloc, self.list.len())?;
         for side in &self.list {
             let interval = side.copy();
             list.push(interval)?;

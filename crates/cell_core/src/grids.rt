@@ -19,7 +19,7 @@ pub fn row_range(alloc: Global, first: usize, count: usize) -> Result<Vec<usize>
     requires { first + count < 2 ^ 62 }
     ensures { IfOk result (λ v. v.items ≡ rows_from first count) }
 {
-    let mut out = Vec::new(alloc);
+    let mut out = Vec::with_capacity(alloc, count)?;
     for r in 0..count {
         out.push(first + r)?;
     }
@@ -27,7 +27,7 @@ pub fn row_range(alloc: Global, first: usize, count: usize) -> Result<Vec<usize>
 }
 
 // The ends of one side.
-fn ends_at<T: PointType>(sides: &Sides<T>, side: usize) -> (T::Point, T::Point)
+pub fn ends_at<T: PointType>(sides: &Sides<T>, side: usize) -> (T::Point, T::Point)
     requires { side < length sides.now }
     ensures { (d : T.Point × T.Point) → result ≡ side_of side d sides.now }
 {
@@ -62,7 +62,7 @@ pub fn one_box<T: PointType>(
     requires { All (λ s. row < length s.2) sides.now }
     ensures { IfOk result (λ b. b.sides.items ≡ map (cells_at row) sides.now) }
 {
-    let mut list = Vec::new(alloc);
+    let mut list = Vec::with_capacity(alloc, sides.len())?;
     for s in sides {
         list.push(s.cells[row])?;
     }
@@ -80,7 +80,7 @@ pub fn cell_boxes<T: PointType>(
     ensures boxes { IfOk result (λ v. (r : ℕ) → r < count → get_or (sides_of v.items) r [] ≡
         map (cells_at r) sides.now) }
 {
-    let mut out = Vec::new(alloc);
+    let mut out = Vec::with_capacity(alloc, count)?;
     for r in 0..count {
         let b = one_box(alloc, sides, r)?;
         out.push(b)?;
@@ -92,7 +92,7 @@ pub fn cell_boxes<T: PointType>(
 pub fn cell_counts<T: PointType>(alloc: Global, sides: &[Side<T>]) -> Result<Vec<usize>, Memory>
     ensures { IfOk result (λ v. v.items ≡ map (λ s. length s.0) sides.now) }
 {
-    let mut out = Vec::new(alloc);
+    let mut out = Vec::with_capacity(alloc, sides.len())?;
     for s in sides {
         out.push(s.cuts.len())?;
     }
@@ -118,7 +118,7 @@ fn one_side<T: PointType, L: Ledger>(
         IsSide T.number_of (T.IsPoint t.now) (T.last_number t.now) (map (side_of side d) (left.now ++ right.now)) v) }
     ensures cost { steps.new ≤ steps.old + side_cost (length left.now + length right.now) }
 {
-    let mut spans = Vec::new(alloc);
+    let mut spans = Vec::with_capacity(alloc, left.len() + right.len())?;
     push_sides(left, side, &mut spans)?;
     push_sides(right, side, &mut spans)?;
     let v = numbering(alloc, t, spans.as_slice(), steps)?;
@@ -148,7 +148,7 @@ pub fn all_sides<T: PointType, L: Ledger>(
         e)) }
     ensures cost { steps.new ≤ steps.old + length types.now * side_cost (length left.now + length right.now) }
 {
-    let mut out = Vec::new(alloc);
+    let mut out = Vec::with_capacity(alloc, types.len())?;
     for j in 0..types.len() {
         let side = one_side(alloc, &types[j], left, right, j, steps)?;
         out.push(side)?;

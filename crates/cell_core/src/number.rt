@@ -51,7 +51,7 @@ fn ends_list<T: PointType, L: Ledger>(
     ensures count { IfOk result (λ v. length v.items ≤ 2 * length spans.now) }
     ensures cost { steps.new ≤ steps.old + length spans.now }
 {
-    let mut list = Vec::new(alloc);
+    let mut list = Vec::with_capacity(alloc, 2 * spans.len())?;
     for r in 0..spans.len() {
         let span = spans[r];
         list.push((span.0, 2 * r))?;
@@ -118,7 +118,7 @@ fn ranks_of<T: PointType, L: Ledger>(
     ensures count { OnOk result (length cuts.new.items ≤ length list.now) }
     ensures cost { steps.new ≤ steps.old + length list.now }
 {
-    let mut cells = Vec::new(alloc);
+    let mut cells = Vec::with_capacity(alloc, list.len())?;
     for x in list {
         add(t, cuts, x.0, steps)?;
         cells.push((cuts.len() - 1, x.1))?;
@@ -152,7 +152,7 @@ fn cell_pairs(alloc: Global, count: usize, table: &[usize]) -> Result<Vec<(usize
     ensures pairs { IfOk result (λ v. (r : ℕ) (d : ℕ × ℕ) → r < count → get_or v.items r d ≡
         (get_or table.now (2 * r) 0, get_or table.now (2 * r + 1) 0)) }
 {
-    let mut out = Vec::new(alloc);
+    let mut out = Vec::with_capacity(alloc, count)?;
     for r in 0..count {
         out.push((table[2 * r], table[2 * r + 1]))?;
     }
@@ -197,7 +197,7 @@ fn lasts<T: PointType, L: Ledger>(
         cut_at (map T.number_of cuts.now) (T.last_number t.now +ℤ pos 1) (suc i)) }
     ensures cost { steps.new ≤ steps.old + length cuts.now }
 {
-    let mut out = Vec::new(alloc);
+    let mut out = Vec::with_capacity(alloc, cuts.len())?;
     for i in 0..cuts.len() {
         let p = last_before(t, cuts, i, steps);
         out.push(p)?;

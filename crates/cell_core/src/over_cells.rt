@@ -6,8 +6,9 @@ ghost use Rattle.cell_core.specs.CellRows.{AreOverCells};
 ghost use Rattle.cell_core.specs.Costs.{bound, side_cost};
 
 use crate::boxes::BoxRow;
-use crate::keys::{numbered, push_keys};
+use crate::keys::{push_keys, push_moved_keys};
 use crate::number::Side;
+use crate::row_sides::numbered;
 use point_core::{Label, Memory, PointType, Steps};
 use slice_core::Key;
 use std::alloc::Global;
@@ -44,6 +45,38 @@ pub fn rows_over_cells<T: PointType, P: Label, L: Ledger>(
     push_keys(alloc, &mut l, left, 0, sides.as_slice())?;
     let mut r = Vec::new(alloc);
     push_keys(alloc, &mut r, right, left.len(), sides.as_slice())?;
+    let rows = CellRows {
+        sides,
+        left: l,
+        right: r,
+    };
+    Ok(rows)
+}
+
+/// The left and the right rows over the cells of one numbering of their sides, as `rows_over_cells` gives them, with
+/// labels that are moved and not copied. The numbering alone takes steps.
+pub fn moved_over_cells<T: PointType, P: Drop, L: Ledger>(
+    alloc: Global,
+    types: &[T],
+    left: Vec<BoxRow<T, P>>,
+    right: Vec<BoxRow<T, P>>,
+    steps: &mut Steps<L>,
+) -> Result<CellRows<T, P>, Memory>
+    requires left { All (λ r. IsBox T.IsPoint types.now r.1) left.items }
+    requires right { All (λ r. IsBox T.IsPoint types.now r.1) right.items }
+    ensures rows { IfOk result (λ v. AreOverCells T.number_of T.IsPoint T.last_number types.now left.items right.items
+        v.sides.items v.left.items v.right.items) }
+    ensures left_sides { IfOk result (λ v. All (λ x. length x.1 ≡ length types.now) v.left.items) }
+    ensures right_sides { IfOk result (λ v. All (λ x. length x.1 ≡ length types.now) v.right.items) }
+    ensures cost { steps.new ≤ steps.old + bound (length left.items + length right.items) (length types.now) }
+    ensures numbering { steps.new ≤ steps.old + length types.now * side_cost (length left.items + length right.items) }
+{
+    let sides = numbered(alloc, types, left.as_slice(), right.as_slice(), steps)?;
+    let count = left.len();
+    let mut l = Vec::new(alloc);
+    push_moved_keys(alloc, &mut l, left, 0, sides.as_slice())?;
+    let mut r = Vec::new(alloc);
+    push_moved_keys(alloc, &mut r, right, count, sides.as_slice())?;
     let rows = CellRows {
         sides,
         left: l,

@@ -10,7 +10,8 @@ ghost use Rattle.cell_core.specs.Costs.{bound, side_cost};
 
 use crate::apart::are_apart;
 use crate::boxes::BoxRow;
-use crate::keys::{numbered, push_keys};
+use crate::keys::push_keys;
+use crate::row_sides::numbered;
 use point_core::{Label, Memory, PointType, Steps};
 use slice_core::{Key, pack_rows};
 use std::alloc::Global;

@@ -9,7 +9,8 @@ ghost use Rattle.cell_core.specs.Costs.{bound, side_cost};
 ghost use Rattle.cell_core.specs.declared.boxes.CellRefuse.TheVariants.{Op as OfOp, Limit as OfLimit};
 
 use crate::boxes::{BoxRow, CellRefuse};
-use crate::keys::{numbered, push_keys};
+use crate::keys::push_keys;
+use crate::row_sides::numbered;
 use crate::whole::back;
 use point_core::{Label, Memory, PointType, Steps};
 use slice_core::pack_rows;

@@ -8,8 +8,9 @@ ghost use Rattle.cell_core.specs.Cells.{row_numbers};
 ghost use Rattle.cell_core.specs.Costs.{bound};
 
 use crate::boxes::BoxRow;
-use crate::keys::{numbered, push_keys};
+use crate::keys::push_keys;
 use crate::packed::same_keys;
+use crate::row_sides::numbered;
 use point_core::{Label, Memory, PointType, Steps};
 use slice_core::pack_rows;
 use std::alloc::Global;

@@ -40,7 +40,7 @@ fn spans_of<T: PointNumber>(
     ensures numbers { IfOk result (λ v. v.items ≡ box_numbers T.number_of sides.now) }
     ensures ordered { IfOk result (λ v. All (λ i. i.0 ≤ℤ i.1) v.items) }
 {
-    let mut out = Vec::new(alloc);
+    let mut out = Vec::with_capacity(alloc, types.len())?;
     for j in 0..types.len() {
         out.push(span_of(&types[j], &sides.list[j]))?;
     }
@@ -99,7 +99,7 @@ fn box_at<T: PointNumber>(alloc: Global, types: &[T], numbers: &Numbers) -> Resu
     ensures numbers { IfOk result (λ v. box_numbers T.number_of v ≡ map at_point numbers.now) }
     ensures points { IfOk result (λ v. IsBox T.IsPoint types.now v) }
 {
-    let mut list = Vec::new(alloc);
+    let mut list = Vec::with_capacity(alloc, types.len())?;
     for j in 0..types.len() {
         list.push(at_number(&types[j], &numbers.list[j]))?;
     }
@@ -116,7 +116,7 @@ fn point_rows<T: PointNumber, P: Label>(
     ensures rows { IfOk result (λ v. map (row_numbers T.number_of) v.items ≡ map point_row list.items) }
     ensures boxes { IfOk result (λ v. All (λ r. IsBox T.IsPoint types.now r.1) v.items) }
 {
-    let mut out = Vec::new(alloc);
+    let mut out = Vec::with_capacity(alloc, list.len())?;
     for place in list {
         let sides = box_at(alloc, types, &place.numbers)?;
         out.push(BoxRow {

@@ -134,7 +134,7 @@ fn sides_of_cells<T: PointType>(
         span_at (map T.number_of (get_or sides.now j e).0) (T.last_number (slice_index_or types.now j t) +ℤ pos 1)
         (get_or cells.now j (0, 0))) }
 {
-    let mut list = Vec::new(alloc);
+    let mut list = Vec::with_capacity(alloc, types.len())?;
     for j in 0..types.len() {
         let i = interval_of(&types[j], &sides[j], cells[j]);
         list.push(i)?;
@@ -187,7 +187,7 @@ pub fn back<T: PointType, P: Drop>(
         map (grid_row (grids_of T.number_of T.last_number types.now sides.now)) rows.items) }
     ensures boxes { IfOk result (λ v. All (λ x. IsBox T.IsPoint types.now x.1) v.items) }
 {
-    let mut out = Vec::new(alloc);
+    let mut out = Vec::with_capacity(alloc, rows.len())?;
     for row in rows {
         let x = row_of_cells(alloc, types, sides, row)?;
         out.push(x)?;

@@ -16,8 +16,8 @@ loop-x-init g c =
       points = All-same has c.args.cuts.now.items [] none (All-nil has);
       rises = subst (λ xs. Rises (map n xs) top) (sym none) tt;
       next = λ d h. subst (λ xs. Rises (map n xs) (n (get_or c.args.list.now 0 d).0 +ℤ pos 1)) (sym none) tt;
-      cells = ap (map (of_cell (map n c.args.cuts.now.items) top)) c.new-cells.ensures.items;
-      within = All-same (λ (y : ℕ × ℕ). y.0 < length c.args.cuts.now.items) c.new-cells.result.items [] c.new-cells.ensures.items (All-nil (λ (y : ℕ × ℕ). y.0 < length c.args.cuts.now.items));
+      cells = ap (map (of_cell (map n c.args.cuts.now.items) top)) c.in_ok-cells.ensures.items;
+      within = All-same (λ (y : ℕ × ℕ). y.0 < length c.args.cuts.now.items) c.in_ok-cells.cells.items [] c.in_ok-cells.ensures.items (All-nil (λ (y : ℕ × ℕ). y.0 < length c.args.cuts.now.items));
       count = omega arith;
       cost = omega arith;
     }
