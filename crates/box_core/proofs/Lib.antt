@@ -16,3 +16,4 @@ pub mod TallyLemmas
 pub mod CellLemmas
 pub mod KeyLemmas
 pub mod TotalLemmas
+pub mod NumberLemmas

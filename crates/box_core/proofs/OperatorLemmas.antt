@@ -124,6 +124,14 @@ module _ {K P : Type 0} (order : K → K → Ordering) (total : IsTotalOrder ord
   pub keys_sides : (k : ℕ) → All (λ (x : KeyedBox K P). length x.2 ≡ k) rows → All (λ (x : KeyBox K). length x.1 ≡ k) keys
   keys_sides k h = All-same (λ (x : KeyBox K). length x.1 ≡ k) keys (map key_of sorted) ks (All-map (λ (x : KeyBox K). length x.1 ≡ k) key_of sorted (All-permutation (λ (x : KeyedBox K P). length x.2 ≡ k) rows sorted moved h))
 
+-- the same of rows in another order
+pub paired_moved : {K P : Type 0} (rows others : List (KeyedBox K P)) → IsPermutation rows others → (keys : List (KeyBox K)) (labels : List P) → ArePaired others keys labels → ArePaired rows keys labels
+paired_moved rows others moved keys labels p = record {
+  count = p.count;
+  from = λ i x l a b. (among_moved rows others moved (x.0, l, x.1)).0 (p.from i x l a b);
+  to = λ z h. p.to z ((among_moved rows others moved z).1 h);
+}
+
 module _ {K P : Type 0} (rows : List (KeyedBox K P)) (keys : List (KeyBox K)) (labels : List P) (pairs : ArePaired rows keys labels) where
   -- a box of the keys is one of the rows
   pub box_of_keyed : (y : List (ℕ × ℕ)) → IsBoxOf keys y → IsBoxOfKeyed rows y

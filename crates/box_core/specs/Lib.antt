@@ -4,6 +4,7 @@ pub mod Meetings
 pub mod Outside
 pub mod Answers
 pub mod Keys
+pub mod KeyNumbers
 pub mod Apartness
 pub mod Groups
 pub mod Tallies

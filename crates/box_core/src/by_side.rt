@@ -8,7 +8,7 @@ ghost use Rattle.box_core.specs.Meetings.{IsLater, turned};
 ghost use Rattle.box_core.specs.Rows.{Ascend};
 ghost use Rattle.box_core.specs.Sides.{AreCandidates, IsOnSide, AreOnSide, renumbered as renumbered_as};
 
-use crate::keyed::{Keyed, keys_in_order};
+use crate::keyed::{Keyed, keys_sorted};
 use crate::later::{later, push_turned};
 use point_core::{Label, Memory};
 use slice_core::Key;
@@ -126,7 +126,7 @@ fn side_in_order<P: Label>(
     ensures order { IfOk result (λ v. Ascend P.order v.0.items) }
 {
     let numbered = rows_on_side(alloc, rows, side)?;
-    let (keys, numbers) = keys_in_order(alloc, numbered)?;
+    let (keys, numbers) = keys_sorted(alloc, numbered)?;
     Ok((keys, numbers))
 }
 

@@ -12,6 +12,8 @@ ghost use Rattle.box_core.specs.Rows.{Ascend, IsRow, KeyBox};
 
 use crate::keyed::{Keyed, keys_in_order};
 use crate::meeting::{Meeting, overlaps};
+use crate::numbering::numbered;
+use number_order::Numbers;
 use point_core::{Label, Memory};
 use slice_core::{Key, pack_rows};
 use std::alloc::Global;
@@ -128,7 +130,7 @@ fn packed_joined<K: Label, O: PairRule>(
 }
 
 /// The packed form of the labels that the rule gives of the left and right rows of one key.
-pub fn join<K: Label, O: PairRule>(
+pub fn join<K: Label + Numbers, O: PairRule>(
     alloc: Global,
     sides: usize,
     left: Vec<Keyed<K, O::Left>>,
@@ -143,12 +145,13 @@ pub fn join<K: Label, O: PairRule>(
 {
     let (left_keys, lefts) = keys_in_order(alloc, left)?;
     let (right_keys, rights) = keys_in_order(alloc, right)?;
+    let (left_rows, right_rows) = numbered(alloc, left_keys, right_keys)?;
     let out = packed_joined(
         alloc,
         sides,
-        left_keys.as_slice(),
+        left_rows.as_slice(),
         lefts.as_slice(),
-        right_keys.as_slice(),
+        right_rows.as_slice(),
         rights.as_slice(),
         rule,
     )?;

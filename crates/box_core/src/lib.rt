@@ -14,6 +14,7 @@ mod keeping;
 mod keyed;
 mod later;
 mod meeting;
+mod numbering;
 mod operators;
 mod outside;
 mod remaining;

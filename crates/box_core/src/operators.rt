@@ -10,8 +10,10 @@ ghost use Rattle.box_core.specs.Outside.{IsRest};
 ghost use Rattle.box_core.specs.Rows.{Ascend, KeyBox};
 
 use crate::keyed::{Keyed, keys_in_order, rows_in_order, with_own_keys};
+use crate::numbering::numbered;
 use crate::remaining::rest;
 use crate::sharing::shared;
+use number_order::Numbers;
 use point_core::{Label, Memory};
 use slice_core::{Key, pack_rows};
 use std::alloc::Global;
@@ -61,7 +63,7 @@ fn packed_rest<K: Label, P: Label>(
 }
 
 /// The packed form of the labels of the left rows where a right row has their key.
-pub fn matching<K: Label, P: Label>(
+pub fn matching<K: Label + Numbers, P: Label>(
     alloc: Global,
     sides: usize,
     left: Vec<Keyed<K, P>>,
@@ -74,11 +76,12 @@ pub fn matching<K: Label, P: Label>(
     ensures sorted { IfOk result (λ v. IsStrictlySortedBy (key_cmp P.order) v.items) }
 {
     let (keys, labels) = keys_in_order(alloc, left)?;
-    let rights = rows_in_order(right)?;
+    let others = rows_in_order(alloc, right)?;
+    let (lefts, rights) = numbered(alloc, keys, others)?;
     let out = packed_shared(
         alloc,
         sides,
-        keys.as_slice(),
+        lefts.as_slice(),
         labels.as_slice(),
         rights.as_slice(),
     )?;
@@ -86,7 +89,7 @@ pub fn matching<K: Label, P: Label>(
 }
 
 /// The packed form of the labels of the left rows where no right row has their key.
-pub fn not_matching<K: Label, P: Label>(
+pub fn not_matching<K: Label + Numbers, P: Label>(
     alloc: Global,
     sides: usize,
     left: Vec<Keyed<K, P>>,
@@ -99,11 +102,12 @@ pub fn not_matching<K: Label, P: Label>(
     ensures sorted { IfOk result (λ v. IsStrictlySortedBy (key_cmp P.order) v.items) }
 {
     let (keys, labels) = keys_in_order(alloc, left)?;
-    let rights = rows_in_order(right)?;
+    let others = rows_in_order(alloc, right)?;
+    let (lefts, rights) = numbered(alloc, keys, others)?;
     let out = packed_rest(
         alloc,
         sides,
-        keys.as_slice(),
+        lefts.as_slice(),
         labels.as_slice(),
         rights.as_slice(),
     )?;
@@ -111,7 +115,7 @@ pub fn not_matching<K: Label, P: Label>(
 }
 
 /// The packed form of the labels that both have.
-pub fn intersect<P: Label>(
+pub fn intersect<P: Label + Numbers>(
     alloc: Global,
     sides: usize,
     left: Vec<Key<P>>,
@@ -129,7 +133,7 @@ pub fn intersect<P: Label>(
 }
 
 /// The packed form of the labels that the left rows have and the right rows have not.
-pub fn minus<P: Label>(
+pub fn minus<P: Label + Numbers>(
     alloc: Global,
     sides: usize,
     left: Vec<Key<P>>,

@@ -96,7 +96,7 @@ fn counted_once<L: Ledger>(
     steps: &mut Steps<L>,
 ) -> Result<Option<usize>, Memory> {
     let keys = draw_keys(alloc, seed, sides)?;
-    let ordered = rows_in_order(keys)?;
+    let ordered = rows_in_order(alloc, keys)?;
     let mut least = None;
     let counts = grouped(alloc, sides, ordered.as_slice(), &Count, &mut least, steps)?;
     let own = plain::labels_of(alloc, sides, counts.as_slice())?;
@@ -153,7 +153,7 @@ fn all_have_cells(rows: &[Key<Tag>]) -> bool
 // Whether the rows of the seed are apart, and whether the plain program says so, if they have cells.
 fn apart_once(alloc: Global, sides: usize, seed: u64) -> Result<Option<(bool, bool)>, Memory> {
     let keys = draw_keys(alloc, seed, sides)?;
-    let ordered = rows_in_order(keys)?;
+    let ordered = rows_in_order(alloc, keys)?;
     let boxes = ordered.as_slice();
     if !all_have_cells(boxes) {
         return Ok(None);

@@ -56,7 +56,7 @@ pub fn counted<L: Ledger>(
     let mut steps = Steps::<L>::new(blank);
     let mut least = None;
     let keys = keys_of(alloc, sides, rows)?;
-    let ordered = rows_in_order(keys)?;
+    let ordered = rows_in_order(alloc, keys)?;
     let counts = grouped(
         alloc,
         sides,

@@ -2,6 +2,7 @@
 ghost use Rattle.std.specs.Prelude.{◌≡◌, IfOk};
 
 use box_core::PairRule;
+use number_order::Numbers;
 use point_core::{Label, Memory};
 use std::alloc::Global;
 use std::cmp::Ordering;
@@ -39,6 +40,16 @@ impl Label for Tag {
     ghost total = { nat_cmp_total };
 
     ghost separates = { separates_numbers };
+}
+
+impl Numbers for Tag {
+    fn count(&self) -> usize {
+        1
+    }
+
+    fn number_at(&self, _place: usize) -> u64 {
+        self.value
+    }
 }
 
 /// The greater of a left and a right number.

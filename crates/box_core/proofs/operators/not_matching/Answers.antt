@@ -1,34 +1,40 @@
 use Rattle.std.proofs.Common.{◌≡◌, ℕ, ◌↔◌, List, length, subst, sym, ap, ◌∙◌}
 use Rattle.std.specs.List.{All}
+use Rattle.std.specs.Ordering.{nat_cmp}
 use Rattle.packing_core.specs.Covering.{Among}
 use Rattle.box_core.specs.Answers.{IsUnmatched, IsPackedRow, IsPackedCover, IsBoxOf, IsBoxOfKeyed}
 use Rattle.box_core.specs.Outside.{IsRest}
 use Rattle.box_core.specs.Rows.{Ascend, KeyBox}
-use Rattle.box_core.proofs.OperatorLemmas.{packed_same, cover_same, box_of_keyed, is_unmatched}
+use Rattle.box_core.proofs.NumberLemmas.{count_numbered, sides_numbered, numbered_box, numbered_unmatched}
+use Rattle.box_core.proofs.OperatorLemmas.{packed_same, cover_same}
 use Rattle.box_core.proofs.operators.not_matching.Goals as goal
 
 pub packed_rest-requires-clause-left : goal.packed_rest-requires-clause-left
-packed_rest-requires-clause-left g c = subst (All (λ (x : KeyBox _). length x.1 ≡ c.args.sides)) (sym c.as_slice.ensures.value) (c.in_ok-keys.ensures.sides c.args.sides c.requires.left)
+packed_rest-requires-clause-left g c = subst (All (λ (x : KeyBox _). length x.1 ≡ c.args.sides)) (sym c.as_slice.ensures.value) (sides_numbered c.args.sides c.in_ok-keys.keys.items c.in_ok-lefts.lefts.items c.in_ok-lefts.ensures.left_boxes (c.in_ok-keys.ensures.sides c.args.sides c.requires.left))
 
 pub packed_rest-requires-clause-right : goal.packed_rest-requires-clause-right
-packed_rest-requires-clause-right g c = subst (All (λ (x : KeyBox _). length x.1 ≡ c.args.sides)) (sym c.as_slice-3.ensures.value) (c.in_ok-rights.ensures.sides c.args.sides c.requires.right)
+packed_rest-requires-clause-right g c = subst (All (λ (x : KeyBox _). length x.1 ≡ c.args.sides)) (sym c.as_slice-3.ensures.value) (sides_numbered c.args.sides c.in_ok-others.others.items c.in_ok-lefts.rights.items c.in_ok-lefts.ensures.right_boxes (c.in_ok-others.ensures.sides c.args.sides c.requires.right))
 
 pub packed_rest-requires-clause-left_order : goal.packed_rest-requires-clause-left_order
-packed_rest-requires-clause-left_order g c = subst (Ascend g.K.Label.order) (sym c.as_slice.ensures.value) c.in_ok-keys.ensures.order
+packed_rest-requires-clause-left_order g c = subst (Ascend nat_cmp) (sym c.as_slice.ensures.value) c.in_ok-lefts.ensures.left_order
 
 pub packed_rest-requires-clause-right_order : goal.packed_rest-requires-clause-right_order
-packed_rest-requires-clause-right_order g c = subst (Ascend g.K.Label.order) (sym c.as_slice-3.ensures.value) c.in_ok-rights.ensures.order
+packed_rest-requires-clause-right_order g c = subst (Ascend nat_cmp) (sym c.as_slice-3.ensures.value) c.in_ok-lefts.ensures.right_order
 
 pub packed_rest-requires-clause-labels : goal.packed_rest-requires-clause-labels
-packed_rest-requires-clause-labels g c = ap length c.as_slice-2.ensures.value ∙ c.in_ok-keys.ensures.paired.count ∙ sym (ap length c.as_slice.ensures.value)
+packed_rest-requires-clause-labels g c = ap length c.as_slice-2.ensures.value ∙ c.in_ok-keys.ensures.paired.count ∙ count_numbered c.in_ok-keys.keys.items c.in_ok-lefts.lefts.items c.in_ok-lefts.ensures.left_boxes ∙ sym (ap length c.as_slice.ensures.value)
 
 pub returns-clause-rows : goal.returns-clause-rows
 returns-clause-rows g c =
     let keys = c.in_ok-keys.keys.items in
     let labels = c.in_ok-keys.labels.items in
-    let rights = c.in_ok-rights.rights.items in
+    let others = c.in_ok-others.others.items in
+    let lefts = c.in_ok-lefts.lefts.items in
+    let rights = c.in_ok-lefts.rights.items in
+    let pairs = c.in_ok-keys.ensures.paired in
+    let are = c.in_ok-lefts.ensures in
     let k : ℕ = c.args.sides in
-    packed_same k (IsRest keys labels rights) (IsUnmatched c.args.left.items c.args.right.items) c.in_ok-out.out.items (is_unmatched c.args.left.items keys labels c.in_ok-keys.ensures.paired c.args.right.items rights c.in_ok-rights.ensures.same)
+    packed_same k (IsRest lefts labels rights) (IsUnmatched c.args.left.items c.args.right.items) c.in_ok-out.out.items (numbered_unmatched c.args.left.items keys labels pairs lefts rights c.args.right.items others c.in_ok-others.ensures.same are)
     (subst (λ (ks : List (KeyBox _)). (x : KeyBox _) → Among x c.in_ok-out.out.items ↔ IsPackedRow k (IsRest ks labels rights) x) c.as_slice.ensures.value
     (subst (λ (ls : List _). (x : KeyBox _) → Among x c.in_ok-out.out.items ↔ IsPackedRow k (IsRest c.as_slice.result.now ls rights) x) c.as_slice-2.ensures.value
     (subst (λ (rs : List (KeyBox _)). (x : KeyBox _) → Among x c.in_ok-out.out.items ↔ IsPackedRow k (IsRest c.as_slice.result.now c.as_slice-2.result.now rs) x) c.as_slice-3.ensures.value c.in_ok-out.ensures.rows)))
@@ -37,11 +43,15 @@ pub returns-clause-cover : goal.returns-clause-cover
 returns-clause-cover g c =
     let keys = c.in_ok-keys.keys.items in
     let labels = c.in_ok-keys.labels.items in
-    let rights = c.in_ok-rights.rights.items in
+    let others = c.in_ok-others.others.items in
+    let lefts = c.in_ok-lefts.lefts.items in
+    let rights = c.in_ok-lefts.rights.items in
+    let pairs = c.in_ok-keys.ensures.paired in
+    let are = c.in_ok-lefts.ensures in
     let k : ℕ = c.args.sides in
     let out = c.in_ok-out.out.items in
-    cover_same k (IsRest keys labels rights) (IsUnmatched c.args.left.items c.args.right.items) (IsBoxOf keys) (IsBoxOfKeyed c.args.left.items) out
-    (is_unmatched c.args.left.items keys labels c.in_ok-keys.ensures.paired c.args.right.items rights c.in_ok-rights.ensures.same) (box_of_keyed c.args.left.items keys labels c.in_ok-keys.ensures.paired)
+    cover_same k (IsRest lefts labels rights) (IsUnmatched c.args.left.items c.args.right.items) (IsBoxOf lefts) (IsBoxOfKeyed c.args.left.items) out
+    (numbered_unmatched c.args.left.items keys labels pairs lefts rights c.args.right.items others c.in_ok-others.ensures.same are) (numbered_box c.args.left.items keys labels pairs lefts rights others are)
     (subst (λ (ks : List (KeyBox _)). IsPackedCover k (IsRest ks labels rights) (IsBoxOf ks) out) c.as_slice.ensures.value
     (subst (λ (ls : List _). IsPackedCover k (IsRest c.as_slice.result.now ls rights) (IsBoxOf c.as_slice.result.now) out) c.as_slice-2.ensures.value
     (subst (λ (rs : List (KeyBox _)). IsPackedCover k (IsRest c.as_slice.result.now c.as_slice-2.result.now rs) (IsBoxOf c.as_slice.result.now) out) c.as_slice-3.ensures.value c.in_ok-out.ensures.cover)))

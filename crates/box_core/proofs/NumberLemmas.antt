@@ -1,0 +1,308 @@
+-- Numbers that stand for the keys of rows.
+use Rattle.std.proofs.Common.{◌≡◌, ℕ, zero, suc, ◌+◌, ◌<◌, ◌≤◌, false, List, [], ◌∷◌, ◌++◌, map, length, ◌↔◌, ◌⊎◌, inl, inr, arith, sym, ap, subst, refl, ◌∙◌, Ordering}
+use Rattle.std.specs.declared.cmp.Ordering.TheVariants.{Less, Equal, Greater}
+use Rattle.std.specs.Cmp.{IsTotalOrder}
+use Rattle.std.specs.Ordering.{nat_cmp, ordering_reverse, is_lt}
+use Rattle.std.specs.List.{All}
+use Rattle.std.proofs.lemmas.Bool.{cases_lt, true≢false}
+use Rattle.std.proofs.lemmas.Cmp.{tied_itself, tied_back, alike_right, nat_cmp_total, by_ranked, ranked}
+use Rattle.std.proofs.lemmas.List.{get_or_append_left, get_or_at, length-append}
+use Rattle.packing_core.specs.Covering.{Among}
+use Rattle.slice_core.specs.PackedRows.{HasRow}
+use Rattle.box_core.specs.Answers.{IsBoxOf, IsBoxOfKeyed, IsMatched, IsUnmatched, IsJoined, KeyedBox}
+use Rattle.box_core.specs.Common.{At, first_of}
+use Rattle.box_core.specs.Keys.{ArePaired}
+use Rattle.box_core.specs.KeyNumbers.{AreNumbered, HaveNumbers, Begins, IsCount, IsNumber}
+use Rattle.box_core.specs.Meetings.{boxes_in, IsShared, IsPair}
+use Rattle.box_core.specs.Outside.{IsRest}
+use Rattle.box_core.specs.Rows.{IsRow, Ascend, KeyBox}
+use Rattle.box_core.proofs.CoveredLemmas.{all_from}
+use Rattle.box_core.proofs.JoinLemmas.{is_joined}
+use Rattle.box_core.proofs.OperatorLemmas.{box_of_keyed, is_matched, is_unmatched}
+use Rattle.box_core.proofs.RowLemmas.{row_among, among_row, one_row, row_there, row_sides, map_row, row_map}
+use Rattle.slice_core.proofs.LabelRows.{map_length}
+
+-- ---- one item more
+
+-- an item is the last one or one of the old
+pub row_cases : {X : Type 0} (old new : List X) (x : X) → new ≡ old ++ x ∷ [] → (i : ℕ) (y : X) → IsRow new i y → IsRow old i y ⊎ ((i ≡ length old) × (x ≡ y))
+row_cases old new x e i y h = go (subst (λ zs. IsRow zs i y) e h)
+  where
+    go : IsRow (old ++ x ∷ []) i y → IsRow old i y ⊎ ((i ≡ length old) × (x ≡ y))
+    go g = elim (cases_lt i (length old)) [
+      | inl l ↦ inl (l, sym (get_or_append_left old (x ∷ []) y i l) ∙ g.1)
+      | inr l ↦
+          let m = g.0 in
+          let n : length (old ++ x ∷ []) ≡ length old + 1 = length-append old (x ∷ []) in
+          let f : i ≡ length old = omega (arith, n) in
+          inr (f, sym (get_or_at old x [] y i (sym f)) ∙ g.1)
+    ]
+
+pub length_more : {X : Type 0} (old new : List X) (x : X) (n : ℕ) → new ≡ old ++ x ∷ [] → length old ≡ n → length new ≡ n + 1
+length_more old new x n e f = let g : length new ≡ length old + 1 = ap length e ∙ length-append old (x ∷ []) in omega (arith, f, g)
+
+module _ {K : Type 0} (order : K → K → Ordering) (total : IsTotalOrder order) where
+  less_tied : (a b : K) → order a b ≡ Less → order a b ≡ Equal → ⊥
+  less_tied a b l e = true≢false (ap is_lt (sym l ∙ e))
+
+  -- lesser than what is not after b
+  less_on : (a b c : K) → order a b ≡ Less → (order b c ≡ Less) ⊎ (order b c ≡ Equal) → order a c ≡ Less
+  less_on a b c l h = elim h [ inl m ↦ total.trans a b c l m | inr e ↦ sym (alike_right total b c a e) ∙ l ]
+
+  upward : (rows : List (KeyBox K)) → Ascend order rows → (i j : ℕ) (x y : KeyBox K) → i ≤ j → IsRow rows i x → IsRow rows j y → (order x.0 y.0 ≡ Less) ⊎ (order x.0 y.0 ≡ Equal)
+  upward rows up i j x y l a b = elim (up i j x y l a b) [ inl m ↦ inl m | inr m ↦ inr m.0 ]
+
+  not_less : (a b : K) → (order a b ≡ Less) ⊎ (order a b ≡ Equal) → order b a ≡ Less → ⊥
+  not_less a b h l = less_tied b b (less_on b a b l h) (tied_itself total b)
+
+  -- ---- how many rows are of lesser keys
+
+  -- none, where none is left or the next one is not of a lesser key
+  pub count_is : (rows : List (KeyBox K)) → Ascend order rows → (key : K) (c : ℕ) → c ≤ length rows → ((i : ℕ) (x : KeyBox K) → IsRow rows i x → i < c → order x.0 key ≡ Less) → ((x : KeyBox K) → IsRow rows c x → order x.0 key ≡ Less → ⊥) → IsCount order rows key c
+  count_is rows up key c within before not = record {
+    within = within;
+    lesser = before;
+    others = λ i y h l m.
+        let n = h.0 in
+        let t = row_there rows c (omega arith) in
+        let w = upward rows up c i t.0 y l t.1 h in
+        not t.0 t.1 (elim w [ inl q ↦ total.trans (t.0).0 y.0 key q m | inr q ↦ total.congr (t.0).0 y.0 key q ∙ m ]);
+  }
+
+  count_alike : (rows : List (KeyBox K)) (a b : K) (c : ℕ) → order a b ≡ Equal → IsCount order rows a c → IsCount order rows b c
+  count_alike rows a b c e is = record {
+    within = is.within;
+    lesser = λ i x h l. sym (alike_right total a b x.0 e) ∙ is.lesser i x h l;
+    others = λ i x h l m. is.others i x h l (alike_right total a b x.0 e ∙ m);
+  }
+
+  -- as many as for the row before, if that is of the same key
+  pub count_kept : (rows others : List (KeyBox K)) (first next : ℕ) (x : KeyBox K) → IsRow rows next x → first < next → Begins order rows first (next + 1) → (c : ℕ)
+      → ((q : ℕ) (y : KeyBox K) → q + 1 ≡ next → IsRow rows q y → IsCount order others y.0 c) → IsCount order others x.0 c
+  count_kept rows others first zero x at l begins c counted = absurd (omega arith)
+  count_kept rows others first (suc q) x at l begins c counted =
+      let m = at.0 in
+      let b = row_there rows first (omega arith) in
+      let y = row_there rows q (omega arith) in
+      let e : order (b.0).0 (y.0).0 ≡ Equal = begins.same q y.0 b.0 y.1 b.1 (omega arith) (omega arith) in
+      let f : order (b.0).0 x.0 ≡ Equal = begins.same (suc q) x b.0 at b.1 (omega arith) (omega arith) in
+      count_alike others (y.0).0 x.0 c (sym (total.congr (b.0).0 (y.0).0 x.0 e) ∙ f) (counted q y.0 (omega arith) y.1)
+
+  pub counted_now : (rows others : List (KeyBox K)) (next : ℕ) (x : KeyBox K) → IsRow rows next x → (c : ℕ) → IsCount order others x.0 c → (q : ℕ) (y : KeyBox K) → q + 1 ≡ next + 1 → IsRow rows q y → IsCount order others y.0 c
+  counted_now rows others next x at c is q y e h =
+      let f : q ≡ next = omega (arith, e) in
+      subst (λ (z : KeyBox K). IsCount order others z.0 c) (one_row rows next x y at (subst (λ i. IsRow rows i y) f h)) is
+
+  -- of later rows they are lesser too
+  pub lesser_on : (rows others : List (KeyBox K)) → Ascend order rows → (next : ℕ) (x : KeyBox K) → IsRow rows next x → (c : ℕ) → IsCount order others x.0 c
+      → (i q : ℕ) (y z : KeyBox K) → IsRow others i y → i < c → IsRow rows q z → next + 1 ≤ q → order y.0 z.0 ≡ Less
+  lesser_on rows others up next x at c is i q y z hy l hz m = less_on y.0 x.0 z.0 (is.lesser i y hy l) (upward rows up next q x z (omega arith) at hz)
+
+  module _ (rows : List (KeyBox K)) (up : Ascend order rows) where
+    -- so many rows are of lesser keys than the last of them
+    pub begins_count : (first next : ℕ) (x : KeyBox K) → IsRow rows next x → first ≤ next → Begins order rows first (next + 1) → IsCount order rows x.0 first
+    begins_count first next x hx within is =
+        let l = hx.0 in
+        let t = row_there rows first (omega arith) in
+        let e : order (t.0).0 x.0 ≡ Equal = is.same next x t.0 hx t.1 within (omega arith) in
+        count_is rows up x.0 first (omega arith) (λ i y hy n. less_on y.0 (t.0).0 x.0 (is.lesser i y t.0 hy t.1 n) (inr e)) (λ y hy m. less_tied y.0 x.0 m (subst (λ (z : KeyBox K). order z.0 x.0 ≡ Equal) (one_row rows first t.0 y t.1 hy) e))
+
+    pub numbers_more : (others : List (KeyBox K)) (old new : List ℕ) (n next : ℕ) (x : KeyBox K) → IsRow rows next x → length old ≡ next → new ≡ old ++ n ∷ [] → IsNumber order rows others x.0 n → HaveNumbers order rows others old → HaveNumbers order rows others new
+    numbers_more others old new n next x at count made is was i y m hy hm = elim (row_cases old new n made i m hm) [
+      | inl h ↦ was i y m hy h
+      | inr h ↦
+          let e : x ≡ y = one_row rows next x y at (subst (λ q. IsRow rows q y) (h.0 ∙ count) hy) in
+          subst (λ (z : KeyBox K). IsNumber order rows others z.0 m) e (subst (IsNumber order rows others x.0) h.1 is)
+    ]
+
+  -- ---- numbers rise with the keys
+
+  count_rises : (rows : List (KeyBox K)) (a b : K) (c d : ℕ) → IsCount order rows a c → IsCount order rows b d → (order a b ≡ Less) ⊎ (order a b ≡ Equal) → c ≤ d
+  count_rises rows a b c d at bt h = elim (cases_lt d c) [
+    | inl l ↦
+        let w = at.within in
+        let t = row_there rows d (omega arith) in
+        absurd (bt.others d t.0 t.1 (omega arith) (less_on (t.0).0 a b (at.lesser d t.0 t.1 l) h))
+    | inr l ↦ l
+  ]
+
+  -- and more so where a row has the lesser key
+  count_more : (rows : List (KeyBox K)) (i : ℕ) (x : KeyBox K) → IsRow rows i x → (b : K) (c d : ℕ) → IsCount order rows x.0 c → IsCount order rows b d → order x.0 b ≡ Less → c < d
+  count_more rows i x h b c d at bt l =
+      let low : c ≤ i = elim (cases_lt i c) [ inl w ↦ absurd (less_tied x.0 x.0 (at.lesser i x h w) (tied_itself total x.0)) | inr w ↦ w ] in
+      let high : i < d = elim (cases_lt i d) [ inl w ↦ w | inr w ↦ absurd (bt.others i x h w l) ] in
+      omega arith
+
+  module _ (left right : List (KeyBox K)) where
+    number_rises : (a b : K) (m n : ℕ) → IsNumber order left right a m → IsNumber order left right b n → (order a b ≡ Less) ⊎ (order a b ≡ Equal) → m ≤ n
+    number_rises a b m n p q h =
+        let u = count_rises left a b p.0 q.0 p.2 q.2 h in
+        let v = count_rises right a b p.1 q.1 p.3 q.3 h in
+        let e = p.4 in
+        let f = q.4 in
+        omega (arith, e, f)
+
+    number_tied : (a b : K) (m n : ℕ) → IsNumber order left right a m → IsNumber order left right b n → order a b ≡ Equal → m ≡ n
+    number_tied a b m n p q h =
+        let u = number_rises a b m n p q (inr h) in
+        let v = number_rises b a n m q p (inr (tied_back total a b h)) in
+        omega arith
+
+    abbrev IsKeyed : K → Type 0
+    IsKeyed a = ((i : ℕ) × (x : KeyBox K) × IsRow left i x × (x.0 ≡ a)) ⊎ ((i : ℕ) × (x : KeyBox K) × IsRow right i x × (x.0 ≡ a))
+
+    number_more : (a b : K) (m n : ℕ) → IsKeyed a → IsNumber order left right a m → IsNumber order left right b n → order a b ≡ Less → m < n
+    number_more a b m n k p q l =
+        let u = count_rises left a b p.0 q.0 p.2 q.2 (inl l) in
+        let v = count_rises right a b p.1 q.1 p.3 q.3 (inl l) in
+        let e = p.4 in
+        let f = q.4 in
+        elim k [
+          | inl w ↦ let s = count_more left w.0 w.1 w.2 b p.0 q.0 (subst (λ z. IsCount order left z p.0) (sym w.3) p.2) q.2 (subst (λ z. order z b ≡ Less) (sym w.3) l) in omega (arith, e, f)
+          | inr w ↦ let s = count_more right w.0 w.1 w.2 b p.1 q.1 (subst (λ z. IsCount order right z p.1) (sym w.3) p.3) q.3 (subst (λ z. order z b ≡ Less) (sym w.3) l) in omega (arith, e, f)
+        ]
+
+    number_same : ((a b : K) → order a b ≡ Equal → a ≡ b) → (a b : K) (m n : ℕ) → IsKeyed a → IsKeyed b → IsNumber order left right a m → IsNumber order left right b n → (a ≡ b) ↔ (m ≡ n)
+    number_same separates a b m n ka kb p q = (
+      λ e. number_tied a b m n p q (subst (λ z. order a z ≡ Equal) e (tied_itself total a)),
+      λ e. go (order a b) refl e,
+    )
+      where
+        go : (r : Ordering) → order a b ≡ r → m ≡ n → a ≡ b
+        go Less h e = let l = number_more a b m n ka p q h in absurd (omega (arith, e))
+        go Equal h e = separates a b h
+        go Greater h e = let l = number_more b a n m kb q p (total.antisymm b a ∙ ap ordering_reverse h) in absurd (omega (arith, e))
+
+-- the two lists the other way round
+number_turned : {K : Type 0} (order : K → K → Ordering) (left right : List (KeyBox K)) (a : K) (n : ℕ) → IsNumber order right left a n → IsNumber order left right a n
+number_turned order left right a n p = (p.1, p.0, p.3, p.2, let e = p.4 in omega (arith, e))
+
+-- ---- rows with the numbers for keys
+
+-- the row of one number has the same box
+same_box : {K L : Type 0} (rows : List (KeyBox K)) (withs : List (KeyBox L)) → boxes_in withs ≡ boxes_in rows → (i : ℕ) (w : KeyBox L) → IsRow withs i w → (x : KeyBox K) × IsRow rows i x × (x.1 ≡ w.1)
+same_box {K} {L} rows withs e i w h = row_map (λ (z : KeyBox K). z.1) rows i w.1 (subst (λ bs. IsRow bs i w.1) e (map_row (λ (z : KeyBox L). z.1) withs i w h))
+
+own_number : (withs : List (KeyBox ℕ)) (ns : List ℕ) → map (λ (x : KeyBox ℕ). x.0) withs ≡ ns → (i : ℕ) (w : KeyBox ℕ) → IsRow withs i w → IsRow ns i w.0
+own_number withs ns e i w h = subst (λ zs. IsRow zs i w.0) e (map_row (λ (z : KeyBox ℕ). z.0) withs i w h)
+
+by_number : (m n : ℕ) → m < n → nat_cmp m n ≡ Less
+by_number m n l = by_ranked (m < n) (m ≡ n) (n < m) (nat_cmp m n) (ranked m n (nat_cmp m n) refl) (λ e p. e) (λ e p. absurd (omega (arith, p))) (λ e p. absurd (omega (arith, p)))
+
+module _ {K : Type 0} (order : K → K → Ordering) (total : IsTotalOrder order) (separates : (a b : K) → order a b ≡ Equal → a ≡ b) (left right : List (KeyBox K)) where
+  -- rows of either list ascend with the numbers for keys
+  numbers_ascend : (rows : List (KeyBox K)) → Ascend order rows → ((i : ℕ) (x : KeyBox K) → IsRow rows i x → IsKeyed order total left right x.0) → (ns : List ℕ) → ((i : ℕ) (x : KeyBox K) (n : ℕ) → IsRow rows i x → IsRow ns i n → IsNumber order left right x.0 n)
+      → (withs : List (KeyBox ℕ)) → map (λ (x : KeyBox ℕ). x.0) withs ≡ ns → boxes_in withs ≡ boxes_in rows → Ascend nat_cmp withs
+  numbers_ascend rows up keyed ns have withs ks bs i j v w l hv hw =
+      let x = same_box rows withs bs i v hv in
+      let y = same_box rows withs bs j w hw in
+      let p = have i x.0 v.0 x.1 (own_number withs ns ks i v hv) in
+      let q = have j y.0 w.0 y.1 (own_number withs ns ks j w hw) in
+      elim (up i j x.0 y.0 l x.1 y.1) [
+        | inl m ↦ inl (by_number v.0 w.0 (number_more order total left right (x.0).0 (y.0).0 v.0 w.0 (keyed i x.0 x.1) p q m))
+        | inr m ↦
+            let e : v.0 ≡ w.0 = number_tied order total left right (x.0).0 (y.0).0 v.0 w.0 p q m.0 in
+            let s : (first_of (x.0).1).0 ≤ (first_of (y.0).1).0 = m.1 in
+            inr (subst (λ n. nat_cmp v.0 n ≡ Equal) e (tied_itself nat_cmp_total v.0), subst (λ z. (first_of v.1).0 ≤ (first_of z).0) y.2 (subst (λ z. (first_of z).0 ≤ (first_of (y.0).1).0) x.2 s))
+      ]
+
+  pub are_numbered : Ascend order left → Ascend order right → (ln rn : List ℕ) → HaveNumbers order left right ln → HaveNumbers order right left rn → (lefts rights : List (KeyBox ℕ))
+      → map (λ (x : KeyBox ℕ). x.0) lefts ≡ ln → boxes_in lefts ≡ boxes_in left → map (λ (x : KeyBox ℕ). x.0) rights ≡ rn → boxes_in rights ≡ boxes_in right → AreNumbered left right lefts rights
+  are_numbered lup rup ln rn ls rs lefts rights lk lb rk rb =
+      let turned = λ (i : ℕ) (y : KeyBox K) (n : ℕ) (a : IsRow right i y) (b : IsRow rn i n). number_turned order left right y.0 n (rs i y n a b) in
+      record {
+        left_boxes = lb;
+        right_boxes = rb;
+        same = λ i j x y v w hx hy hv hw.
+            number_same order total left right separates x.0 y.0 v.0 w.0 (inl (i, x, hx, refl)) (inr (j, y, hy, refl)) (ls i x v.0 hx (own_number lefts ln lk i v hv)) (turned j y w.0 hy (own_number rights rn rk j w hw));
+        left_order = numbers_ascend left lup (λ i x h. inl (i, x, h, refl)) ln ls lefts lk lb;
+        right_order = numbers_ascend right rup (λ i x h. inr (i, x, h, refl)) rn turned rights rk rb;
+      }
+
+-- ---- what rows with numbers for keys have at places
+
+module _ {K : Type 0} (left right : List (KeyBox K)) (lefts rights : List (KeyBox ℕ)) (are : AreNumbered left right lefts rights) where
+  -- a right row of the key has the place where one of its number does
+  has_number : (i : ℕ) (x : KeyBox K) (v : KeyBox ℕ) → IsRow left i x → IsRow lefts i v → (place : List ℕ) → HasRow rights v.0 place ↔ HasRow right x.0 place
+  has_number i x v hx hv place = (
+    λ h.
+        let w : KeyBox ℕ = (v.0, h.0) in
+        let j = among_row rights w h.1 in
+        let y = same_box right rights are.right_boxes j.0 w j.1 in
+        let e : x.0 ≡ (y.0).0 = (are.same i j.0 x y.0 v w hx y.1 hv j.1).1 refl in
+        ((y.0).1, subst (λ k. Among (k, (y.0).1) right) (sym e) (row_among right j.0 y.0 y.1), subst (λ z. At z place) (sym y.2) h.2),
+    λ h.
+        let y : KeyBox K = (x.0, h.0) in
+        let j = among_row right y h.1 in
+        let w = same_box rights right (sym are.right_boxes) j.0 y j.1 in
+        let e : v.0 ≡ (w.0).0 = (are.same i j.0 x y v w.0 hx j.1 hv w.1).0 refl in
+        ((w.0).1, subst (λ k. Among (k, (w.0).1) rights) (sym e) (row_among rights j.0 w.0 w.1), subst (λ z. At z place) (sym w.2) h.2),
+  )
+
+  module _ {P : Type 0} (labels : List P) where
+    pub shared_numbered : (l : P) (place : List ℕ) → IsShared lefts labels rights l place ↔ IsShared left labels right l place
+    shared_numbered l place = (
+      λ h. let x = same_box left lefts are.left_boxes h.0 h.1 h.2 in (h.0, x.0, x.1, h.3, subst (λ z. At z place) (sym x.2) h.4, (has_number h.0 x.0 h.1 x.1 h.2 place).0 h.5),
+      λ h. let v = same_box lefts left (sym are.left_boxes) h.0 h.1 h.2 in (h.0, v.0, v.1, h.3, subst (λ z. At z place) (sym v.2) h.4, (has_number h.0 h.1 v.0 h.2 v.1 place).1 h.5),
+    )
+
+    pub rest_numbered : (l : P) (place : List ℕ) → IsRest lefts labels rights l place ↔ IsRest left labels right l place
+    rest_numbered l place = (
+      λ h. let x = same_box left lefts are.left_boxes h.0 h.1 h.2 in (h.0, x.0, x.1, h.3, subst (λ z. At z place) (sym x.2) h.4, λ g. h.5 ((has_number h.0 x.0 h.1 x.1 h.2 place).1 g)),
+      λ h. let v = same_box lefts left (sym are.left_boxes) h.0 h.1 h.2 in (h.0, v.0, v.1, h.3, subst (λ z. At z place) (sym v.2) h.4, λ g. h.5 ((has_number h.0 h.1 v.0 h.2 v.1 place).0 g)),
+    )
+
+  pub pair_numbered : {A B R : Type 0} (means : A → B → R) (a_labels : List A) (b_labels : List B) (l : R) (place : List ℕ) → IsPair means lefts a_labels rights b_labels l place ↔ IsPair means left a_labels right b_labels l place
+  pair_numbered means a_labels b_labels l place = (
+    λ h.
+        let x = same_box left lefts are.left_boxes h.0 h.2 h.6 in
+        let y = same_box right rights are.right_boxes h.1 h.3 h.7 in
+        (h.0, h.1, x.0, y.0, h.4, h.5, x.1, y.1, h.8, h.9, (are.same h.0 h.1 x.0 y.0 h.2 h.3 x.1 y.1 h.6 h.7).1 h.10, subst (λ z. At z place) (sym x.2) h.11, subst (λ z. At z place) (sym y.2) h.12, h.13),
+    λ h.
+        let v = same_box lefts left (sym are.left_boxes) h.0 h.2 h.6 in
+        let w = same_box rights right (sym are.right_boxes) h.1 h.3 h.7 in
+        (h.0, h.1, v.0, w.0, h.4, h.5, v.1, w.1, h.8, h.9, (are.same h.0 h.1 h.2 h.3 v.0 w.0 h.6 h.7 v.1 w.1).0 h.10, subst (λ z. At z place) (sym v.2) h.11, subst (λ z. At z place) (sym w.2) h.12, h.13),
+  )
+
+  pub box_numbered : (y : List (ℕ × ℕ)) → IsBoxOf lefts y → IsBoxOf left y
+  box_numbered y h =
+      let i = among_row lefts (h.0, y) h.1 in
+      let x = same_box left lefts are.left_boxes i.0 (h.0, y) i.1 in
+      ((x.0).0, subst (λ z. Among ((x.0).0, z) left) x.2 (row_among left i.0 x.0 x.1))
+
+-- ---- the same with the rows from which the keys come
+
+module _ {K P : Type 0} (rows : List (KeyedBox K P)) (keys : List (KeyBox K)) (labels : List P) (pairs : ArePaired rows keys labels) (lefts rights : List (KeyBox ℕ)) where
+  module _ (right others : List (KeyBox K)) (same : (x : KeyBox K) → Among x others ↔ Among x right) (are : AreNumbered keys others lefts rights) where
+    pub numbered_matched : (l : P) (place : List ℕ) → IsShared lefts labels rights l place ↔ IsMatched rows right l place
+    numbered_matched l place =
+        let a = shared_numbered keys others lefts rights are labels l place in
+        let b = is_matched rows keys labels pairs right others same l place in
+        (λ h. b.0 (a.0 h), λ h. a.1 (b.1 h))
+
+    pub numbered_unmatched : (l : P) (place : List ℕ) → IsRest lefts labels rights l place ↔ IsUnmatched rows right l place
+    numbered_unmatched l place =
+        let a = rest_numbered keys others lefts rights are labels l place in
+        let b = is_unmatched rows keys labels pairs right others same l place in
+        (λ h. b.0 (a.0 h), λ h. a.1 (b.1 h))
+
+  pub numbered_box : (others : List (KeyBox K)) → AreNumbered keys others lefts rights → (y : List (ℕ × ℕ)) → IsBoxOf lefts y → IsBoxOfKeyed rows y
+  numbered_box others are y h = box_of_keyed rows keys labels pairs y (box_numbered keys others lefts rights are y h)
+
+  pub numbered_joined : {Q R : Type 0} (means : P → Q → R) (right : List (KeyedBox K Q)) (right_keys : List (KeyBox K)) (right_labels : List Q) → ArePaired right right_keys right_labels → AreNumbered keys right_keys lefts rights
+      → (l : R) (place : List ℕ) → IsPair means lefts labels rights right_labels l place ↔ IsJoined means rows right l place
+  numbered_joined means right right_keys right_labels q are l place =
+      let a = pair_numbered keys right_keys lefts rights are means labels right_labels l place in
+      let b = is_joined means rows right keys labels right_keys right_labels pairs q l place in
+      (λ h. b.0 (a.0 h), λ h. a.1 (b.1 h))
+
+-- ---- as many rows, and as many sides
+
+pub count_numbered : {K : Type 0} (rows : List (KeyBox K)) (withs : List (KeyBox ℕ)) → boxes_in withs ≡ boxes_in rows → length rows ≡ length withs
+count_numbered {K} rows withs e = sym (map_length (λ (x : KeyBox K). x.1) rows) ∙ sym (ap length e) ∙ map_length (λ (x : KeyBox ℕ). x.1) withs
+
+pub sides_numbered : {K : Type 0} (k : ℕ) (rows : List (KeyBox K)) (withs : List (KeyBox ℕ)) → boxes_in withs ≡ boxes_in rows → All (λ x. length x.1 ≡ k) rows → All (λ x. length x.1 ≡ k) withs
+sides_numbered {K} k rows withs e a = all_from (λ (x : KeyBox ℕ). length x.1 ≡ k) withs (λ w h.
+    let i = among_row withs w h in
+    let x = same_box rows withs e i.0 w i.1 in
+    sym (ap length x.2) ∙ row_sides k rows a i.0 x.0 x.1)
