@@ -1,1 +1,2 @@
 pub mod KernelLemmas
+pub mod MovedLemmas

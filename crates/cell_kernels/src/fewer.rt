@@ -3,13 +3,14 @@ ghost use Rattle.std.specs.Prelude.{◌≡◌, length, IfOk};
 ghost use Rattle.std.specs.List.{All};
 ghost use Rattle.cell_kernels.specs.Fewer.{IsSameOrPacked};
 
+use number_order::{Numbers, arrange};
 use point_core::{Label, Memory};
 use slice_core::{Key, pack_rows};
 use std::alloc::Global;
 
 /// On one side the rows packed label by label: they are no more than before, and no two of one label overlap, so an operator by keys meets few
 /// pairs of them. On more sides the packed form may be far longer than the rows, and they stay as they are.
-pub fn fewer_rows<P: Label>(
+pub fn fewer_rows<P: Label + Numbers>(
     alloc: Global,
     sides: usize,
     rows: Vec<Key<P>>,
@@ -21,6 +22,8 @@ pub fn fewer_rows<P: Label>(
     if sides != 1 {
         return Ok(rows);
     }
-    let packed = pack_rows(alloc, sides, rows)?;
+    let mut arranged = rows;
+    arrange(alloc, &mut arranged)?;
+    let packed = pack_rows(alloc, sides, arranged)?;
     Ok(packed)
 }

@@ -13,7 +13,7 @@ use Rattle.value_core.specs.Attributes.{value_at, span_of, among}
 use Rattle.value_core.specs.Headings.{has_name}
 use Rattle.value_core.specs.Order.{row_total, row_separates}
 use Rattle.value_core.specs.RowPacking.{packed, unpacked}
-use Rattle.value_core.specs.Values.{Name, Heading, Row, truth, interval, fits, fits_heading, attribute_cmp, row_cmp}
+use Rattle.value_core.specs.Values.{Name, Heading, Row, truth, interval, fits_heading, attribute_cmp, row_cmp}
 use Rattle.value_core.specs.declared.kind.Kind.{Kind}
 use Rattle.relation_core.specs.Agreement.{names_of, position_of, common_positions, part_of, agree}
 use Rattle.relation_core.specs.Joins.{joined_heading, HaveEqualKinds, joined_row, joined_pairs, joined}

@@ -15,11 +15,12 @@ use crate::keys::with_keys;
 use crate::labels::Beside;
 use crate::shared::apart;
 use box_core::{PairRule, join};
-use cell_core::{BoxRow, CellRefuse, CellRows, back, rows_over_cells};
+use cell_core::{BoxRow, CellRefuse, CellRows, back, moved_over_cells};
 use cell_kernels::fewer_rows;
 use point_core::{Memory, PointType, Steps};
 use std::alloc::Global;
 use std::sync::ledger::Ledger;
+use u_set::copied_boxes;
 use value_core::Row;
 
 // What left and right boxes of one key have in common, with the labels that the rule gives of pairs, packed. Each operand is made fewer
@@ -27,27 +28,27 @@ use value_core::Row;
 fn joined_form<T: PointType, O: PairRule<Left = Row, Right = Row, Out = Row>, L: Ledger>(
     alloc: Global,
     types: &[T],
-    left: &[BoxRow<T, Row>],
-    right: &[BoxRow<T, Row>],
+    left: Vec<BoxRow<T, Row>>,
+    right: Vec<BoxRow<T, Row>>,
     here: &[usize],
     there: &[usize],
     rule: &O,
     steps: &mut Steps<L>,
 ) -> Result<Vec<BoxRow<T, Row>>, Memory>
-    requires left { All (λ b. IsBox T.IsPoint types.now b.1) left.now }
-    requires right { All (λ b. IsBox T.IsPoint types.now b.1) right.now }
+    requires left { All (λ b. IsBox T.IsPoint types.now b.1) left.items }
+    requires right { All (λ b. IsBox T.IsPoint types.now b.1) right.items }
     ensures rows { IfOk result (λ v. map (row_numbers T.number_of) v.items ≡ packed_boxes row_cmp (length types.now)
         (joined_boxes here.now there.now (O.means rule.now)
-        (unpacked_boxes row_cmp (length types.now) (map (row_numbers T.number_of) left.now))
-        (unpacked_boxes row_cmp (length types.now) (map (row_numbers T.number_of) right.now)))) }
+        (unpacked_boxes row_cmp (length types.now) (map (row_numbers T.number_of) left.items))
+        (unpacked_boxes row_cmp (length types.now) (map (row_numbers T.number_of) right.items)))) }
     ensures boxes { IfOk result (λ v. All (λ b. IsBox T.IsPoint types.now b.1) v.items) }
-    ensures cost { steps.new ≤ steps.old + bound (length left.now + length right.now) (length types.now) }
+    ensures cost { steps.new ≤ steps.old + bound (length left.items + length right.items) (length types.now) }
 {
     let CellRows {
         sides,
         left: l,
         right: r,
-    } = rows_over_cells(alloc, types, left, right, steps)?;
+    } = moved_over_cells(alloc, types, left, right, steps)?;
     let fewer_left = fewer_rows(alloc, types.len(), l)?;
     let fewer_right = fewer_rows(alloc, types.len(), r)?;
     let lefts = with_keys(alloc, fewer_left, here)?;
@@ -65,28 +66,28 @@ pub(crate) fn joined_in_limit<
 >(
     alloc: Global,
     types: &[T],
-    left: &[BoxRow<T, Row>],
-    right: &[BoxRow<T, Row>],
+    left: Vec<BoxRow<T, Row>>,
+    right: Vec<BoxRow<T, Row>>,
     here: &[usize],
     there: &[usize],
     rule: &O,
     limit: usize,
     steps: &mut Steps<L>,
 ) -> Result<Vec<BoxRow<T, Row>>, CellRefuse>
-    requires left { All (λ b. IsBox T.IsPoint types.now b.1) left.now }
-    requires right { All (λ b. IsBox T.IsPoint types.now b.1) right.now }
+    requires left { All (λ b. IsBox T.IsPoint types.now b.1) left.items }
+    requires right { All (λ b. IsBox T.IsPoint types.now b.1) right.items }
     ensures rows { IfOk result (λ v. map (row_numbers T.number_of) v.items ≡ packed_boxes row_cmp (length types.now)
         (joined_boxes here.now there.now (O.means rule.now)
-        (unpacked_boxes row_cmp (length types.now) (map (row_numbers T.number_of) left.now))
-        (unpacked_boxes row_cmp (length types.now) (map (row_numbers T.number_of) right.now)))) }
+        (unpacked_boxes row_cmp (length types.now) (map (row_numbers T.number_of) left.items))
+        (unpacked_boxes row_cmp (length types.now) (map (row_numbers T.number_of) right.items)))) }
     ensures boxes { IfOk result (λ v. All (λ b. IsBox T.IsPoint types.now b.1) v.items) }
     ensures few { IfOk result (λ v. length v.items ≤ limit) }
     ensures no_fault { (e : AnyFault) → result ≡ Err (OfOp e) → ⊥ }
     ensures limit { result ≡ Err OfLimit → limit < length (packed_boxes row_cmp (length types.now)
         (joined_boxes here.now there.now (O.means rule.now)
-        (unpacked_boxes row_cmp (length types.now) (map (row_numbers T.number_of) left.now))
-        (unpacked_boxes row_cmp (length types.now) (map (row_numbers T.number_of) right.now)))) }
-    ensures cost { steps.new ≤ steps.old + bound (length left.now + length right.now) (length types.now) }
+        (unpacked_boxes row_cmp (length types.now) (map (row_numbers T.number_of) left.items))
+        (unpacked_boxes row_cmp (length types.now) (map (row_numbers T.number_of) right.items)))) }
+    ensures cost { steps.new ≤ steps.old + bound (length left.items + length right.items) (length types.now) }
 {
     let answer = joined_form(alloc, types, left, right, here, there, rule, steps)?;
     if answer.len() > limit {
@@ -123,13 +124,15 @@ pub fn u_join<T: PointType, L: Ledger>(
         (unpacked_boxes row_cmp (length types.now) (map (row_numbers T.number_of) right.now)))) }
     ensures cost { steps.new ≤ steps.old + bound (length left.now + length right.now) (length types.now) }
 {
+    let l = copied_boxes(alloc, left)?;
+    let r = copied_boxes(alloc, right)?;
     let (here, positions) = apart(alloc, shared)?;
     let rule = Beside { positions };
     joined_in_limit(
         alloc,
         types,
-        left,
-        right,
+        l,
+        r,
         here.as_slice(),
         rule.positions.as_slice(),
         &rule,

@@ -71,8 +71,8 @@ fn joining_boxes<L: Ledger>(
     joined_in_limit(
         alloc,
         types.as_slice(),
-        l.as_slice(),
-        r.as_slice(),
+        l,
+        r,
         here_key.as_slice(),
         there_key.as_slice(),
         &rule,

@@ -19,7 +19,7 @@ pub(crate) fn with_keys(
 ) -> Result<Vec<Keyed<Row, Row>>, Memory>
     ensures { IfOk result (λ v. v.items ≡ map (keyed (part_of positions.now)) rows.items) }
 {
-    let mut out = Vec::new(alloc);
+    let mut out = Vec::with_capacity(alloc, rows.len())?;
     for row in rows {
         let key = part_of_label(alloc, &row.label, positions)?;
         out.push(Keyed {
@@ -39,7 +39,7 @@ pub(crate) fn by_keys(
 ) -> Result<Vec<Key<Row>>, Memory>
     ensures { IfOk result (λ v. v.items ≡ map (relabelled (part_of positions.now)) rows.items) }
 {
-    let mut out = Vec::new(alloc);
+    let mut out = Vec::with_capacity(alloc, rows.len())?;
     for row in rows {
         let label = part_of_label(alloc, &row.label, positions)?;
         out.push(Key {

@@ -17,7 +17,7 @@ ghost use Rattle.u_set.specs.Boxes.{AreIntervals, types_at, boxed};
 ghost use Rattle.u_row.specs.Kept.{inner};
 ghost use Rattle.u_join.specs.Pairs.{matched_boxes, unmatched_boxes};
 
-use crate::matching::{u_matching, u_not_matching};
+use crate::matching::{matched_in_limit, unmatched_in_limit};
 use crate::places::key_pairs;
 use cell_core::{BoxRow, CellRefuse};
 use point_core::{AnyType, Steps};
@@ -59,11 +59,11 @@ fn matching_boxes<L: Ledger>(
     let l = to_boxes(alloc, left, here)?;
     let r = to_boxes(alloc, right, there)?;
     let shared = key_pairs(alloc, ours, theirs, here, there)?;
-    u_matching(
+    matched_in_limit(
         alloc,
         types.as_slice(),
-        l.as_slice(),
-        r.as_slice(),
+        l,
+        r,
         shared.as_slice(),
         MOST_ROWS,
         steps,
@@ -103,11 +103,11 @@ fn not_matching_boxes<L: Ledger>(
     let l = to_boxes(alloc, left, here)?;
     let r = to_boxes(alloc, right, there)?;
     let shared = key_pairs(alloc, ours, theirs, here, there)?;
-    u_not_matching(
+    unmatched_in_limit(
         alloc,
         types.as_slice(),
-        l.as_slice(),
-        r.as_slice(),
+        l,
+        r,
         shared.as_slice(),
         MOST_ROWS,
         steps,

@@ -14,11 +14,12 @@ ghost use Rattle.u_join.specs.Shared.{left_positions, right_positions};
 use crate::keys::{by_keys, with_keys};
 use crate::shared::apart;
 use box_core::{matching, not_matching};
-use cell_core::{BoxRow, CellRefuse, CellRows, back, rows_over_cells};
+use cell_core::{BoxRow, CellRefuse, CellRows, back, moved_over_cells};
 use cell_kernels::fewer_rows;
 use point_core::{Memory, PointType, Steps};
 use std::alloc::Global;
 use std::sync::ledger::Ledger;
+use u_set::copied_boxes;
 use value_core::Row;
 
 // The left boxes where a right box has their key, packed. The left boxes, and the right ones under their keys, are made fewer first where that
@@ -26,25 +27,25 @@ use value_core::Row;
 fn matched_form<T: PointType, L: Ledger>(
     alloc: Global,
     types: &[T],
-    left: &[BoxRow<T, Row>],
-    right: &[BoxRow<T, Row>],
+    left: Vec<BoxRow<T, Row>>,
+    right: Vec<BoxRow<T, Row>>,
     here: &[usize],
     there: &[usize],
     steps: &mut Steps<L>,
 ) -> Result<Vec<BoxRow<T, Row>>, Memory>
-    requires left { All (λ b. IsBox T.IsPoint types.now b.1) left.now }
-    requires right { All (λ b. IsBox T.IsPoint types.now b.1) right.now }
+    requires left { All (λ b. IsBox T.IsPoint types.now b.1) left.items }
+    requires right { All (λ b. IsBox T.IsPoint types.now b.1) right.items }
     ensures rows { IfOk result (λ v. map (row_numbers T.number_of) v.items ≡ packed_boxes row_cmp (length types.now) (matched_boxes here.now there.now
-        (unpacked_boxes row_cmp (length types.now) (map (row_numbers T.number_of) left.now))
-        (unpacked_boxes row_cmp (length types.now) (map (row_numbers T.number_of) right.now)))) }
+        (unpacked_boxes row_cmp (length types.now) (map (row_numbers T.number_of) left.items))
+        (unpacked_boxes row_cmp (length types.now) (map (row_numbers T.number_of) right.items)))) }
     ensures boxes { IfOk result (λ v. All (λ b. IsBox T.IsPoint types.now b.1) v.items) }
-    ensures cost { steps.new ≤ steps.old + bound (length left.now + length right.now) (length types.now) }
+    ensures cost { steps.new ≤ steps.old + bound (length left.items + length right.items) (length types.now) }
 {
     let CellRows {
         sides,
         left: l,
         right: r,
-    } = rows_over_cells(alloc, types, left, right, steps)?;
+    } = moved_over_cells(alloc, types, left, right, steps)?;
     let fewer_left = fewer_rows(alloc, types.len(), l)?;
     let keys = by_keys(alloc, r, there)?;
     let lefts = with_keys(alloc, fewer_left, here)?;
@@ -58,31 +59,111 @@ fn matched_form<T: PointType, L: Ledger>(
 fn unmatched_form<T: PointType, L: Ledger>(
     alloc: Global,
     types: &[T],
-    left: &[BoxRow<T, Row>],
-    right: &[BoxRow<T, Row>],
+    left: Vec<BoxRow<T, Row>>,
+    right: Vec<BoxRow<T, Row>>,
     here: &[usize],
     there: &[usize],
     steps: &mut Steps<L>,
 ) -> Result<Vec<BoxRow<T, Row>>, Memory>
-    requires left { All (λ b. IsBox T.IsPoint types.now b.1) left.now }
-    requires right { All (λ b. IsBox T.IsPoint types.now b.1) right.now }
+    requires left { All (λ b. IsBox T.IsPoint types.now b.1) left.items }
+    requires right { All (λ b. IsBox T.IsPoint types.now b.1) right.items }
     ensures rows { IfOk result (λ v. map (row_numbers T.number_of) v.items ≡ packed_boxes row_cmp (length types.now) (unmatched_boxes here.now there.now
-        (unpacked_boxes row_cmp (length types.now) (map (row_numbers T.number_of) left.now))
-        (unpacked_boxes row_cmp (length types.now) (map (row_numbers T.number_of) right.now)))) }
+        (unpacked_boxes row_cmp (length types.now) (map (row_numbers T.number_of) left.items))
+        (unpacked_boxes row_cmp (length types.now) (map (row_numbers T.number_of) right.items)))) }
     ensures boxes { IfOk result (λ v. All (λ b. IsBox T.IsPoint types.now b.1) v.items) }
-    ensures cost { steps.new ≤ steps.old + bound (length left.now + length right.now) (length types.now) }
+    ensures cost { steps.new ≤ steps.old + bound (length left.items + length right.items) (length types.now) }
 {
     let CellRows {
         sides,
         left: l,
         right: r,
-    } = rows_over_cells(alloc, types, left, right, steps)?;
+    } = moved_over_cells(alloc, types, left, right, steps)?;
     let fewer_left = fewer_rows(alloc, types.len(), l)?;
     let keys = by_keys(alloc, r, there)?;
     let lefts = with_keys(alloc, fewer_left, here)?;
     let rights = fewer_rows(alloc, types.len(), keys)?;
     let form = not_matching(alloc, types.len(), lefts, rights)?;
     let answer = back(alloc, types, sides.as_slice(), form)?;
+    Ok(answer)
+}
+
+/// The left boxes where some right label has the same values at the positions that `shared` pairs, packed, where they are no more than
+/// the limit.
+pub(crate) fn matched_in_limit<T: PointType, L: Ledger>(
+    alloc: Global,
+    types: &[T],
+    left: Vec<BoxRow<T, Row>>,
+    right: Vec<BoxRow<T, Row>>,
+    shared: &[(usize, usize)],
+    limit: usize,
+    steps: &mut Steps<L>,
+) -> Result<Vec<BoxRow<T, Row>>, CellRefuse>
+    requires left { All (λ b. IsBox T.IsPoint types.now b.1) left.items }
+    requires right { All (λ b. IsBox T.IsPoint types.now b.1) right.items }
+    ensures rows { IfOk result (λ v. map (row_numbers T.number_of) v.items ≡ packed_boxes row_cmp (length types.now) (matched_boxes (left_positions shared.now) (right_positions shared.now)
+        (unpacked_boxes row_cmp (length types.now) (map (row_numbers T.number_of) left.items))
+        (unpacked_boxes row_cmp (length types.now) (map (row_numbers T.number_of) right.items)))) }
+    ensures boxes { IfOk result (λ v. All (λ b. IsBox T.IsPoint types.now b.1) v.items) }
+    ensures few { IfOk result (λ v. length v.items ≤ limit) }
+    ensures no_fault { (e : AnyFault) → result ≡ Err (OfOp e) → ⊥ }
+    ensures limit { result ≡ Err OfLimit → limit < length (packed_boxes row_cmp (length types.now) (matched_boxes (left_positions shared.now) (right_positions shared.now)
+        (unpacked_boxes row_cmp (length types.now) (map (row_numbers T.number_of) left.items))
+        (unpacked_boxes row_cmp (length types.now) (map (row_numbers T.number_of) right.items)))) }
+    ensures cost { steps.new ≤ steps.old + bound (length left.items + length right.items) (length types.now) }
+{
+    let (here, there) = apart(alloc, shared)?;
+    let answer = matched_form(
+        alloc,
+        types,
+        left,
+        right,
+        here.as_slice(),
+        there.as_slice(),
+        steps,
+    )?;
+    if answer.len() > limit {
+        return Err(CellRefuse::Limit);
+    }
+    Ok(answer)
+}
+
+/// The left boxes where no right label has the same values at the positions that `shared` pairs, packed, where they are no more than the
+/// limit.
+pub(crate) fn unmatched_in_limit<T: PointType, L: Ledger>(
+    alloc: Global,
+    types: &[T],
+    left: Vec<BoxRow<T, Row>>,
+    right: Vec<BoxRow<T, Row>>,
+    shared: &[(usize, usize)],
+    limit: usize,
+    steps: &mut Steps<L>,
+) -> Result<Vec<BoxRow<T, Row>>, CellRefuse>
+    requires left { All (λ b. IsBox T.IsPoint types.now b.1) left.items }
+    requires right { All (λ b. IsBox T.IsPoint types.now b.1) right.items }
+    ensures rows { IfOk result (λ v. map (row_numbers T.number_of) v.items ≡ packed_boxes row_cmp (length types.now) (unmatched_boxes (left_positions shared.now) (right_positions shared.now)
+        (unpacked_boxes row_cmp (length types.now) (map (row_numbers T.number_of) left.items))
+        (unpacked_boxes row_cmp (length types.now) (map (row_numbers T.number_of) right.items)))) }
+    ensures boxes { IfOk result (λ v. All (λ b. IsBox T.IsPoint types.now b.1) v.items) }
+    ensures few { IfOk result (λ v. length v.items ≤ limit) }
+    ensures no_fault { (e : AnyFault) → result ≡ Err (OfOp e) → ⊥ }
+    ensures limit { result ≡ Err OfLimit → limit < length (packed_boxes row_cmp (length types.now) (unmatched_boxes (left_positions shared.now) (right_positions shared.now)
+        (unpacked_boxes row_cmp (length types.now) (map (row_numbers T.number_of) left.items))
+        (unpacked_boxes row_cmp (length types.now) (map (row_numbers T.number_of) right.items)))) }
+    ensures cost { steps.new ≤ steps.old + bound (length left.items + length right.items) (length types.now) }
+{
+    let (here, there) = apart(alloc, shared)?;
+    let answer = unmatched_form(
+        alloc,
+        types,
+        left,
+        right,
+        here.as_slice(),
+        there.as_slice(),
+        steps,
+    )?;
+    if answer.len() > limit {
+        return Err(CellRefuse::Limit);
+    }
     Ok(answer)
 }
 
@@ -112,20 +193,9 @@ pub fn u_matching<T: PointType, L: Ledger>(
         (unpacked_boxes row_cmp (length types.now) (map (row_numbers T.number_of) right.now)))) }
     ensures cost { steps.new ≤ steps.old + bound (length left.now + length right.now) (length types.now) }
 {
-    let (here, there) = apart(alloc, shared)?;
-    let answer = matched_form(
-        alloc,
-        types,
-        left,
-        right,
-        here.as_slice(),
-        there.as_slice(),
-        steps,
-    )?;
-    if answer.len() > limit {
-        return Err(CellRefuse::Limit);
-    }
-    Ok(answer)
+    let l = copied_boxes(alloc, left)?;
+    let r = copied_boxes(alloc, right)?;
+    matched_in_limit(alloc, types, l, r, shared, limit, steps)
 }
 
 /// NOT MATCHING of boxes at each point: the left boxes where no right label has the same values as theirs at the positions that `shared`
@@ -154,18 +224,7 @@ pub fn u_not_matching<T: PointType, L: Ledger>(
         (unpacked_boxes row_cmp (length types.now) (map (row_numbers T.number_of) right.now)))) }
     ensures cost { steps.new ≤ steps.old + bound (length left.now + length right.now) (length types.now) }
 {
-    let (here, there) = apart(alloc, shared)?;
-    let answer = unmatched_form(
-        alloc,
-        types,
-        left,
-        right,
-        here.as_slice(),
-        there.as_slice(),
-        steps,
-    )?;
-    if answer.len() > limit {
-        return Err(CellRefuse::Limit);
-    }
-    Ok(answer)
+    let l = copied_boxes(alloc, left)?;
+    let r = copied_boxes(alloc, right)?;
+    unmatched_in_limit(alloc, types, l, r, shared, limit, steps)
 }

@@ -1,10 +1,9 @@
 -- Rows that are each beyond the one before it are apart.
-use Rattle.std.proofs.Common.{◌≡◌, ◌⊎◌, inl, inr, ℕ, zero, suc, ◌+◌, ◌-◌, ◌<◌, ◌≤◌, ℤ, pos, ◌+ℤ◌, ◌≤ℤ◌, ◌<ℤ◌, true, false, ◌&&◌, List, [], ◌∷◌, ◌++◌, map, drop, length, get_or, refl, sym, ap, ◌∙◌, subst, arith, Ordering}
+use Rattle.std.proofs.Common.{◌≡◌, ◌⊎◌, inl, inr, ℕ, zero, suc, ◌+◌, ◌-◌, ◌<◌, ◌≤◌, ℤ, pos, ◌+ℤ◌, ◌≤ℤ◌, ◌<ℤ◌, true, false, ◌&&◌, List, [], ◌∷◌, map, drop, length, get_or, refl, sym, ap, ◌∙◌, subst, arith, Ordering}
 use Rattle.std.proofs.Math.Seq.{drop-cons}
 use Rattle.std.specs.Prelude.{Result, Ok, Err, IfOk, int_le, slice_index_or}
 use Rattle.std.specs.Ordering.{is_eq, ordering_then}
 use Rattle.std.specs.Bool.{IsTrue}
-use Rattle.std.specs.Cmp.{IsTotalOrder}
 use Rattle.std.specs.List.{All, AllByRecursion}
 use Rattle.std.specs.List.Sorted.{IsPermutation}
 use Rattle.std.specs.declared.cmp.Ordering.TheVariants.{Less, Equal, Greater}
@@ -12,19 +11,17 @@ use Rattle.std.proofs.lemmas.Bool.{true≢false, and_parts, cases_lt}
 use Rattle.std.proofs.lemmas.Cmp.{tied_itself, alike_right}
 use Rattle.std.proofs.lemmas.Float.{T_from_true}
 use Rattle.std.proofs.lemmas.Int.{ints}
-use Rattle.std.proofs.lemmas.List.{length-map, get_or-map, get_or_default}
-use Rattle.std.proofs.lemmas.List.Elements.{All-map, All-same, Contains-get_or}
+use Rattle.std.proofs.lemmas.List.{length-map, get_or-map}
+use Rattle.std.proofs.lemmas.List.Elements.{All-map, Contains-get_or}
 use Rattle.base_core.proofs.SetLemmas.{In, In-from_Contains}
-use Rattle.base_core.proofs.MemberLemmas.{In-append, In-map, list_all-In}
+use Rattle.base_core.proofs.MemberLemmas.{In-map, list_all-In}
 use Rattle.base_core.proofs.SetOperatorLemmas.{In-permutation}
 use Rattle.point_core.specs.declared.any_type.AnyType.{AnyType}
 use Rattle.point_core.specs.Points.{line_of, is_number}
-use Rattle.interval_core.specs.Members.{Span}
-use Rattle.packing_core.specs.Covering.{Among}
 use Rattle.packing_core.proofs.PackedBoxes.{among_in}
 use Rattle.value_core.specs.declared.kind.Kind.TheVariants.{Span as SpanOf}
 use Rattle.value_core.specs.declared.value.Value.{Value as Held}
-use Rattle.value_core.specs.Attributes.{value_at, span_of, among}
+use Rattle.value_core.specs.Attributes.{value_at, span_of}
 use Rattle.value_core.specs.Order.{row_total}
 use Rattle.value_core.specs.Plain.{plain}
 use Rattle.value_core.specs.Values.{Value, Row, Heading, Relation, IsRelation, truth, text, point, interval, same_line, is_interval, value_cmp, row_cmp, fits, fits_heading}
@@ -32,7 +29,7 @@ use Rattle.relation_core.specs.Agreement.{part_of}
 use Rattle.relation_core.specs.Parts.{kind_at}
 use Rattle.u_set.specs.declared.apart.Gap.{Gap}
 use Rattle.u_set.specs.declared.apart.Gap.TheVariants.{Zero, One}
-use Rattle.u_set.specs.Apart.{gap_of, span_in, HasInterval, AreParted, AreApart, IsBeyond, AreBeyond, IsChain}
+use Rattle.u_set.specs.Apart.{gap_of, span_in, HasInterval, AreApart, IsBeyond, AreBeyond, IsChain}
 use Rattle.u_set.specs.Boxes.{AreIntervals, type_of}
 use Rattle.cell_core.proofs.ApartLemmas.{moved_all}
 use Rattle.u_set.proofs.BoxLemmas.{place_listed, span_fits, value_at-get}

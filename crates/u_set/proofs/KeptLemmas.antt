@@ -1,15 +1,13 @@
 -- Rows that stand apart are the rows that they are packed to.
-use Rattle.std.proofs.Common.{◌≡◌, inl, inr, ℕ, zero, suc, ◌+◌, ◌<◌, ◌≤ℤ◌, true, false, List, [], ◌∷◌, ◌++◌, map, length, get_or, refl, sym, ap, ◌∙◌, subst, arith}
+use Rattle.std.proofs.Common.{◌≡◌, inl, inr, ℕ, zero, suc, ◌+◌, ◌<◌, true, false, List, [], ◌∷◌, ◌++◌, map, length, get_or, refl, sym, ap, ◌∙◌, subst, arith}
 use Rattle.std.specs.Prelude.{slice_index_or}
-use Rattle.std.specs.Bool.{IsTrue}
 use Rattle.std.proofs.lemmas.List.{map-append, get_or-map, length-map}
 use Rattle.std.proofs.lemmas.List.Sorted.{IsPermutation-map, IsPermutation-sym}
 use Rattle.base_core.specs.Sets.{in_order, union_of}
 use Rattle.base_core.proofs.SetLemmas.{In, Ascends, In-in_order, in_order_by_members, in_order_of_ascending}
 use Rattle.base_core.proofs.MemberLemmas.{In-append, In-map}
 use Rattle.base_core.proofs.SetOperatorLemmas.{In-permutation}
-use Rattle.interval_core.specs.Members.{Span}
-use Rattle.value_core.specs.Attributes.{value_at, among}
+use Rattle.value_core.specs.Attributes.{among}
 use Rattle.value_core.specs.Order.{row_total, row_separates}
 use Rattle.value_core.specs.RowPacking.{packed, unpacked}
 use Rattle.value_core.specs.Values.{Row, Heading, Relation, IsRelation, truth, row_cmp, rows_of}
@@ -20,11 +18,11 @@ use Rattle.packing_core.specs.Boxed.{Boxed, packed_boxes, unpacked_boxes}
 use Rattle.cell_core.specs.Apart.{HasOneSide, IsBeyond as IsBoxBeyond, AreBeyond as AreBoxesBeyond}
 use Rattle.cell_core.proofs.ApartLemmas.{apart_packed}
 use Rattle.u_set.specs.declared.apart.Gap.TheVariants.{One}
-use Rattle.u_set.specs.Apart.{span_in, HasInterval, IsBeyond, AreBeyond, IsChain, outside_from, outside}
+use Rattle.u_set.specs.Apart.{IsBeyond, AreBeyond, IsChain, outside_from, outside}
 use Rattle.u_set.specs.Boxes.{AreIntervals, IsShaped, unless, others_from, others, boxed, unboxed}
 use Rattle.u_set.proofs.ApartLemmas.{span_ordered}
 use Rattle.u_set.proofs.BoxLemmas.{unboxed-boxed}
-use Rattle.u_set.proofs.BridgeLemmas.{box_cmp, box_total, box_separates, AreRowsOf, boxes_have, packed_rows}
+use Rattle.u_set.proofs.BridgeLemmas.{box_cmp, box_total, box_separates, boxes_have, packed_rows}
 use Rattle.u_set.proofs.RelationLemmas.{relation_shaped, shaped_under}
 use Rattle.u_set.proofs.UnionLemmas.{packed_union, united_rows}
 

@@ -11,7 +11,7 @@ ghost use Rattle.u_set.specs.Boxes.{AreIntervals, types_at, spans_at, boxed};
 use crate::intervals::interval_of;
 use crate::labels::label_of;
 use cell_core::{BoxRow, Sides};
-use point_core::{AnyType, Memory};
+use point_core::{AnyType, Label, Memory, PointType};
 use std::alloc::Global;
 use value_core::{Kind, Name, Relation, Row, Value};
 
@@ -27,7 +27,7 @@ fn sides_of(
     ensures numbers { IfOk result (λ s. box_numbers number s ≡ spans_at acl.now (map plain values.now)) }
     ensures points { IfOk result (λ s. IsBox IsPointOf (types_at heading.now acl.now) s) }
 {
-    let mut list = Vec::new(alloc);
+    let mut list = Vec::with_capacity(alloc, acl.len())?;
     for i in acl {
         let side = interval_of(&values[*i]);
         list.push(side)?;
@@ -72,4 +72,28 @@ pub fn to_boxes(
         list.push(b)?;
     }
     Ok(list)
+}
+
+// The same box with the same label.
+fn copied_box<T: PointType>(alloc: Global, row: &BoxRow<T, Row>) -> Result<BoxRow<T, Row>, Memory>
+    ensures { IfOk result (λ b. b ≡ row.now) }
+{
+    let label = row.label.copy(alloc)?;
+    let sides = row.sides.copy(alloc)?;
+    Ok(BoxRow { label, sides })
+}
+
+/// The same boxes with the same labels.
+pub fn copied_boxes<T: PointType>(
+    alloc: Global,
+    rows: &[BoxRow<T, Row>],
+) -> Result<Vec<BoxRow<T, Row>>, Memory>
+    ensures { IfOk result (λ v. v.items ≡ rows.now) }
+{
+    let mut copy = Vec::with_capacity(alloc, rows.len())?;
+    for row in rows {
+        let own = copied_box(alloc, row)?;
+        copy.push(own)?;
+    }
+    Ok(copy)
 }

@@ -6,7 +6,7 @@ ghost use Rattle.cell_core.specs.Boxes.{IsBox};
 ghost use Rattle.cell_core.specs.Costs.{bound};
 ghost use Rattle.u_set.specs.FewerCells.{AreFewerCells};
 
-use cell_core::{BoxRow, CellRows, rows_over_cells};
+use cell_core::{BoxRow, CellRows, moved_over_cells};
 use cell_kernels::fewer_rows;
 use point_core::{Memory, PointType, Steps};
 use std::alloc::Global;
@@ -18,22 +18,22 @@ use value_core::Row;
 pub(crate) fn fewer_cells<T: PointType, L: Ledger>(
     alloc: Global,
     types: &[T],
-    left: &[BoxRow<T, Row>],
-    right: &[BoxRow<T, Row>],
+    left: Vec<BoxRow<T, Row>>,
+    right: Vec<BoxRow<T, Row>>,
     steps: &mut Steps<L>,
 ) -> Result<CellRows<T, Row>, Memory>
-    requires left { All (λ b. IsBox T.IsPoint types.now b.1) left.now }
-    requires right { All (λ b. IsBox T.IsPoint types.now b.1) right.now }
-    ensures rows { IfOk result (λ v. AreFewerCells T.number_of T.IsPoint T.last_number row_cmp types.now left.now right.now v.sides.items v.left.items v.right.items) }
+    requires left { All (λ b. IsBox T.IsPoint types.now b.1) left.items }
+    requires right { All (λ b. IsBox T.IsPoint types.now b.1) right.items }
+    ensures rows { IfOk result (λ v. AreFewerCells T.number_of T.IsPoint T.last_number row_cmp types.now left.items right.items v.sides.items v.left.items v.right.items) }
     ensures left_sides { IfOk result (λ v. All (λ x. length x.1 ≡ length types.now) v.left.items) }
     ensures right_sides { IfOk result (λ v. All (λ x. length x.1 ≡ length types.now) v.right.items) }
-    ensures cost { steps.new ≤ steps.old + bound (length left.now + length right.now) (length types.now) }
+    ensures cost { steps.new ≤ steps.old + bound (length left.items + length right.items) (length types.now) }
 {
     let CellRows {
         sides,
         left: l,
         right: r,
-    } = rows_over_cells(alloc, types, left, right, steps)?;
+    } = moved_over_cells(alloc, types, left, right, steps)?;
     let lefts = fewer_rows(alloc, types.len(), l)?;
     let rights = fewer_rows(alloc, types.len(), r)?;
     Ok(CellRows {

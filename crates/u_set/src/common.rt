@@ -15,10 +15,10 @@ ghost use Rattle.cell_core.specs.Costs.{bound};
 ghost use Rattle.cell_core.specs.declared.boxes.CellRefuse.TheVariants.{Op as OfOp, Limit as OfLimit};
 ghost use Rattle.u_set.specs.Boxes.{AreIntervals, types_at, boxed};
 
-use crate::boxes::to_boxes;
+use crate::boxes::{copied_boxes, to_boxes};
 use crate::cells::fewer_cells;
 use crate::positions::types_at;
-use crate::refusals::refusal;
+use crate::refusals::{in_limit, refusal};
 use crate::rows::from_boxes;
 use box_core::intersect;
 use cell_core::{BoxRow, CellRefuse, CellRows, back};
@@ -31,17 +31,17 @@ use value_core::{MOST_ROWS, Relation, Row, RowsRefuse};
 fn common_boxes<T: PointType, L: Ledger>(
     alloc: Global,
     types: &[T],
-    left: &[BoxRow<T, Row>],
-    right: &[BoxRow<T, Row>],
+    left: Vec<BoxRow<T, Row>>,
+    right: Vec<BoxRow<T, Row>>,
     steps: &mut Steps<L>,
 ) -> Result<Vec<BoxRow<T, Row>>, Memory>
-    requires left { All (λ b. IsBox T.IsPoint types.now b.1) left.now }
-    requires right { All (λ b. IsBox T.IsPoint types.now b.1) right.now }
+    requires left { All (λ b. IsBox T.IsPoint types.now b.1) left.items }
+    requires right { All (λ b. IsBox T.IsPoint types.now b.1) right.items }
     ensures rows { IfOk result (λ v. map (row_numbers T.number_of) v.items ≡ packed_boxes row_cmp (length types.now) (common_of (boxed_cmp row_cmp)
-        (unpacked_boxes row_cmp (length types.now) (map (row_numbers T.number_of) left.now))
-        (unpacked_boxes row_cmp (length types.now) (map (row_numbers T.number_of) right.now)))) }
+        (unpacked_boxes row_cmp (length types.now) (map (row_numbers T.number_of) left.items))
+        (unpacked_boxes row_cmp (length types.now) (map (row_numbers T.number_of) right.items)))) }
     ensures boxes { IfOk result (λ v. All (λ b. IsBox T.IsPoint types.now b.1) v.items) }
-    ensures cost { steps.new ≤ steps.old + bound (length left.now + length right.now) (length types.now) }
+    ensures cost { steps.new ≤ steps.old + bound (length left.items + length right.items) (length types.now) }
 {
     let CellRows {
         sides,
@@ -77,7 +77,9 @@ pub fn u_intersect<T: PointType, L: Ledger>(
         (unpacked_boxes row_cmp (length types.now) (map (row_numbers T.number_of) right.now)))) }
     ensures cost { steps.new ≤ steps.old + bound (length left.now + length right.now) (length types.now) }
 {
-    let answer = common_boxes(alloc, types, left, right, steps)?;
+    let l = copied_boxes(alloc, left)?;
+    let r = copied_boxes(alloc, right)?;
+    let answer = common_boxes(alloc, types, l, r, steps)?;
     if answer.len() > limit {
         return Err(CellRefuse::Limit);
     }
@@ -107,14 +109,8 @@ fn common_form<L: Ledger>(
     let types = types_at(alloc, left.heading().attributes(), acl)?;
     let l = to_boxes(alloc, left, acl)?;
     let r = to_boxes(alloc, right, acl)?;
-    u_intersect(
-        alloc,
-        types.as_slice(),
-        l.as_slice(),
-        r.as_slice(),
-        MOST_ROWS,
-        steps,
-    )
+    let form = common_boxes(alloc, types.as_slice(), l, r, steps)?;
+    in_limit(form, MOST_ROWS)
 }
 
 // The intersection under USING by boxes.

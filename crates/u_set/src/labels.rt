@@ -14,7 +14,7 @@ use value_core::{Row, Value};
 pub fn label_of(alloc: Global, values: &[Value], acl: &[usize]) -> Result<Row, Memory>
     ensures { IfOk result (λ r. r ≡ others acl.now (map plain values.now)) }
 {
-    let mut label = Vec::new(alloc);
+    let mut label = Vec::with_capacity(alloc, values.len().saturating_sub(acl.len()))?;
     for (i, value) in values.iter().enumerate() {
         if !is_listed(acl, i) {
             label.push(value.copy(alloc)?)?;

@@ -18,7 +18,7 @@ mod strict;
 mod union;
 
 pub use apart::{Gap, are_apart};
-pub use boxes::to_boxes;
+pub use boxes::{copied_boxes, to_boxes};
 pub use cells::copied_cells;
 pub use common::{intersected, u_intersect};
 pub use comparison::{are_same, is_within, u_equal, u_subset};

@@ -45,7 +45,7 @@ fn to_row(
     ensures fits { IfOk result (λ r. IsTrue (fits_heading heading.now r)) }
 {
     let label = b.label.values();
-    let mut values = Vec::new(alloc);
+    let mut values = Vec::with_capacity(alloc, heading.len())?;
     let mut used = 0;
     for i in 0..heading.len() {
         if is_listed(acl, i) {

@@ -12,7 +12,9 @@ returns-clause-rows g c =
     let here = c.as_slice.ensures.value ∙ c.in_ok-here.ensures.left in
     let positions = c.in_ok-here.ensures.right in
     let there = c.as_slice-2.ensures.value ∙ positions in
-    let left = unpacked_boxes row_cmp (length c.args.types.now) (map (row_numbers g.T.PointType.number_of) c.args.left.now) in
-    let right = unpacked_boxes row_cmp (length c.args.types.now) (map (row_numbers g.T.PointType.number_of) c.args.right.now) in
+    let l = c.in_ok-l.ensures in
+    let r = c.in_ok-r.ensures in
     subst (λ s. IfOk c.joined_in_limit.result (λ v. map (row_numbers g.T.PointType.number_of) v.items ≡ s))
-    (λ t. packed_boxes row_cmp (length c.args.types.now) (joined_boxes (here t) (there t) (beside (positions t)) left right)) c.joined_in_limit.ensures.rows
+    (λ t. packed_boxes row_cmp (length c.args.types.now) (joined_boxes (here t) (there t) (beside (positions t))
+    (unpacked_boxes row_cmp (length c.args.types.now) (map (row_numbers g.T.PointType.number_of) (l t)))
+    (unpacked_boxes row_cmp (length c.args.types.now) (map (row_numbers g.T.PointType.number_of) (r t))))) c.joined_in_limit.ensures.rows

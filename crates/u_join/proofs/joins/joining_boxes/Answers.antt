@@ -38,18 +38,17 @@ joined_in_limit-requires-clause-right g c =
     let ours = c.attributes-ours.ensures.list ∙ c.heading.ensures.heading in
     let types = c.as_slice.ensures.value ∙ c.in_ok-types.ensures ∙ (λ t. types_at (ours t) c.args.here.now) in
     let same = same_types c.args.left.now.heading c.args.right.now.heading c.args.here.now c.args.there.now c.requires.same in
-    subst (λ bs. All (λ b. IsBox IsPointOf c.as_slice.result.now b.1) bs) (sym c.as_slice-3.ensures.value)
-    (subst (λ (ts : List AnyType). All (λ b. IsBox IsPointOf ts b.1) c.in_ok-r.r.items) (same ∙ sym types) c.in_ok-r.ensures.boxes)
+    subst (λ (ts : List AnyType). All (λ b. IsBox IsPointOf ts b.1) c.in_ok-r.r.items) (same ∙ sym types) c.in_ok-r.ensures.boxes
 
 pub returns-clause-rows : goal.returns-clause-rows
 returns-clause-rows g c =
     let ours = c.attributes-ours.ensures.list ∙ c.heading.ensures.heading in
     let theirs = c.attributes-theirs.ensures.list ∙ c.heading-2.ensures.heading in
     let sides = ap length (c.as_slice.ensures.value ∙ c.in_ok-types.ensures) ∙ length-map c.args.here.now (λ i. type_of (kind_at c.attributes-ours.result.now i)) in
-    let l = (λ t. map (row_numbers number) (c.as_slice-2.ensures.value t)) ∙ c.in_ok-l.ensures.rows in
-    let r = (λ t. map (row_numbers number) (c.as_slice-3.ensures.value t)) ∙ c.in_ok-r.ensures.rows in
-    let here = c.as_slice-4.ensures.value ∙ c.in_ok-here_key.ensures ∙ (λ t. inner c.args.here.now (common_positions (ours t) (ours t) (theirs t))) in
-    let there = c.as_slice-5.ensures.value ∙ c.in_ok-there_key.ensures ∙ (λ t. inner c.args.there.now (common_positions (theirs t) (ours t) (theirs t))) in
+    let l = c.in_ok-l.ensures.rows in
+    let r = c.in_ok-r.ensures.rows in
+    let here = c.as_slice-2.ensures.value ∙ c.in_ok-here_key.ensures ∙ (λ t. inner c.args.here.now (common_positions (ours t) (ours t) (theirs t))) in
+    let there = c.as_slice-3.ensures.value ∙ c.in_ok-there_key.ensures ∙ (λ t. inner c.args.there.now (common_positions (theirs t) (ours t) (theirs t))) in
     let places = c.in_ok-places.ensures ∙ (λ t. inner (positions_of_both (length (ours t)) c.args.here.now c.args.there.now) (positions_in (ours t ++ theirs t) (c.attributes.ensures.list t))) in
     subst (λ s. IfOk c.joined_in_limit.result (λ v. map (row_numbers number) v.items ≡ s))
     (λ t. packed_boxes row_cmp (sides t) (joined_boxes (here t) (there t) (joined_label (places t)) (unpacked_boxes row_cmp (sides t) (l t)) (unpacked_boxes row_cmp (sides t) (r t)))) c.joined_in_limit.ensures.rows
@@ -59,10 +58,10 @@ returns-clause-limit g c =
     let ours = c.attributes-ours.ensures.list ∙ c.heading.ensures.heading in
     let theirs = c.attributes-theirs.ensures.list ∙ c.heading-2.ensures.heading in
     let sides = ap length (c.as_slice.ensures.value ∙ c.in_ok-types.ensures) ∙ length-map c.args.here.now (λ i. type_of (kind_at c.attributes-ours.result.now i)) in
-    let l = (λ t. map (row_numbers number) (c.as_slice-2.ensures.value t)) ∙ c.in_ok-l.ensures.rows in
-    let r = (λ t. map (row_numbers number) (c.as_slice-3.ensures.value t)) ∙ c.in_ok-r.ensures.rows in
-    let here = c.as_slice-4.ensures.value ∙ c.in_ok-here_key.ensures ∙ (λ t. inner c.args.here.now (common_positions (ours t) (ours t) (theirs t))) in
-    let there = c.as_slice-5.ensures.value ∙ c.in_ok-there_key.ensures ∙ (λ t. inner c.args.there.now (common_positions (theirs t) (ours t) (theirs t))) in
+    let l = c.in_ok-l.ensures.rows in
+    let r = c.in_ok-r.ensures.rows in
+    let here = c.as_slice-2.ensures.value ∙ c.in_ok-here_key.ensures ∙ (λ t. inner c.args.here.now (common_positions (ours t) (ours t) (theirs t))) in
+    let there = c.as_slice-3.ensures.value ∙ c.in_ok-there_key.ensures ∙ (λ t. inner c.args.there.now (common_positions (theirs t) (ours t) (theirs t))) in
     let places = c.in_ok-places.ensures ∙ (λ t. inner (positions_of_both (length (ours t)) c.args.here.now c.args.there.now) (positions_in (ours t ++ theirs t) (c.attributes.ensures.list t))) in
     subst (λ s. c.joined_in_limit.result ≡ Err OfLimit → most_rows < length s)
     (λ t. packed_boxes row_cmp (sides t) (joined_boxes (here t) (there t) (joined_label (places t)) (unpacked_boxes row_cmp (sides t) (l t)) (unpacked_boxes row_cmp (sides t) (r t)))) c.joined_in_limit.ensures.limit
@@ -70,8 +69,8 @@ returns-clause-limit g c =
 pub returns-clause-cost : goal.returns-clause-cost
 returns-clause-cost g c =
     let sides = ap length (c.as_slice.ensures.value ∙ c.in_ok-types.ensures) ∙ length-map c.args.here.now (λ i. type_of (kind_at c.attributes-ours.result.now i)) in
-    let l = (λ t. map (row_numbers number) (c.as_slice-2.ensures.value t)) ∙ c.in_ok-l.ensures.rows in
-    let r = (λ t. map (row_numbers number) (c.as_slice-3.ensures.value t)) ∙ c.in_ok-r.ensures.rows in
-    let many = sym (length-map c.as_slice-2.result.now (row_numbers number)) ∙ ap length l ∙ length-map c.args.left.now.rows (boxed c.args.here.now) in
-    let more = sym (length-map c.as_slice-3.result.now (row_numbers number)) ∙ ap length r ∙ length-map c.args.right.now.rows (boxed c.args.there.now) in
+    let l = c.in_ok-l.ensures.rows in
+    let r = c.in_ok-r.ensures.rows in
+    let many = sym (length-map c.in_ok-l.l.items (row_numbers number)) ∙ ap length l ∙ length-map c.args.left.now.rows (boxed c.args.here.now) in
+    let more = sym (length-map c.in_ok-r.r.items (row_numbers number)) ∙ ap length r ∙ length-map c.args.right.now.rows (boxed c.args.there.now) in
     subst (λ b. c.joined_in_limit.new.steps ≤ c.args.steps.now + b) (λ t. bound (many t + more t) (sides t)) c.joined_in_limit.ensures.cost

@@ -1,6 +1,5 @@
-use Rattle.std.proofs.Common.{◌≡◌, ◌++◌, inl, inr, refl, map, ◌∙◌}
+use Rattle.std.proofs.Common.{◌++◌, inl, inr, refl, map, ◌∙◌}
 use Rattle.base_core.proofs.MemberLemmas.{In-append}
-use Rattle.value_core.specs.Values.{Row}
 use Rattle.u_set.specs.Apart.{HasInterval}
 use Rattle.u_set.proofs.ApartLemmas.{held_all, rows_have_spans}
 use Rattle.u_set.proofs.apart.are_both_apart.Goals as goal

@@ -1,5 +1,3 @@
-use Rattle.std.proofs.Common.{map}
-use Rattle.u_set.specs.Apart.{HasInterval}
 use Rattle.u_set.proofs.ApartLemmas.{moved_spans, moved_chain}
 use Rattle.u_set.proofs.apart.sorted_apart.Goals as goal
 

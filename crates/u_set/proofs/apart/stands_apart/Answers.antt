@@ -1,4 +1,4 @@
-use Rattle.std.proofs.Common.{◌≡◌, ◌<◌, ◌-◌, ℕ, suc, length, arith}
+use Rattle.std.proofs.Common.{◌<◌, ◌-◌, length, arith}
 use Rattle.u_set.proofs.ApartLemmas.{span_at, beyond_at}
 use Rattle.u_set.proofs.apart.stands_apart.Goals as goal
 

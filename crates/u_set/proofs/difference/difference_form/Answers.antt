@@ -1,5 +1,5 @@
-use Rattle.std.proofs.Common.{◌≡◌, ◌+◌, ◌<◌, ◌≤◌, Err, length, map, sym, ap, ◌∙◌, subst}
-use Rattle.std.specs.Result.{IfOk}
+use Rattle.std.proofs.Common.{◌≡◌, ◌<◌, length, map, sym, ap, ◌∙◌, subst}
+use Rattle.std.proofs.lemmas.Result.{IfOk-weaker}
 use Rattle.std.proofs.lemmas.List.{length-map}
 use Rattle.base_core.specs.Sets.{difference_of}
 use Rattle.point_core.specs.Points.{number}
@@ -7,35 +7,23 @@ use Rattle.value_core.specs.Values.{row_cmp, most_rows}
 use Rattle.relation_core.specs.Parts.{kind_at}
 use Rattle.packing_core.specs.Boxed.{boxed_cmp, packed_boxes, unpacked_boxes}
 use Rattle.cell_core.specs.Cells.{row_numbers}
-use Rattle.cell_core.specs.Costs.{bound}
-use Rattle.cell_core.specs.declared.boxes.CellRefuse.TheVariants.{Limit as OfLimit}
-use Rattle.u_set.specs.Boxes.{type_of, boxed}
+use Rattle.u_set.specs.Boxes.{type_of}
 use Rattle.u_set.proofs.difference.difference_form.Goals as goal
 
 pub returns-clause-rows : goal.returns-clause-rows
 returns-clause-rows g c =
     let acl = c.args.acl.now in
     let sides = ap length (c.as_slice.ensures.value ∙ c.in_ok-types.ensures) ∙ length-map acl (λ i. type_of (kind_at c.attributes.result.now i)) in
-    let l = (λ t. map (row_numbers number) (c.as_slice-2.ensures.value t)) ∙ c.in_ok-l.ensures.rows in
-    let r = (λ t. map (row_numbers number) (c.as_slice-3.ensures.value t)) ∙ c.in_ok-r.ensures.rows in
-    subst (λ s. IfOk c.u_minus.result (λ v. map (row_numbers number) v.items ≡ s))
-    (λ t. packed_boxes row_cmp (sides t) (difference_of (boxed_cmp row_cmp) (unpacked_boxes row_cmp (sides t) (l t)) (unpacked_boxes row_cmp (sides t) (r t)))) c.u_minus.ensures.rows
+    let l = c.in_ok-l.ensures.rows in
+    let r = c.in_ok-r.ensures.rows in
+    let e = c.in_ok-form.ensures.rows ∙ (λ t. packed_boxes row_cmp (sides t) (difference_of (boxed_cmp row_cmp) (unpacked_boxes row_cmp (sides t) (l t)) (unpacked_boxes row_cmp (sides t) (r t)))) in
+    IfOk-weaker c.in_limit.result (λ v. v.items ≡ c.in_ok-form.form.items) _ (λ v same. ap (map (row_numbers number)) same ∙ e) c.in_limit.ensures.same
 
 pub returns-clause-limit : goal.returns-clause-limit
 returns-clause-limit g c =
     let acl = c.args.acl.now in
     let sides = ap length (c.as_slice.ensures.value ∙ c.in_ok-types.ensures) ∙ length-map acl (λ i. type_of (kind_at c.attributes.result.now i)) in
-    let l = (λ t. map (row_numbers number) (c.as_slice-2.ensures.value t)) ∙ c.in_ok-l.ensures.rows in
-    let r = (λ t. map (row_numbers number) (c.as_slice-3.ensures.value t)) ∙ c.in_ok-r.ensures.rows in
-    subst (λ s. c.u_minus.result ≡ Err OfLimit → most_rows < length s)
-    (λ t. packed_boxes row_cmp (sides t) (difference_of (boxed_cmp row_cmp) (unpacked_boxes row_cmp (sides t) (l t)) (unpacked_boxes row_cmp (sides t) (r t)))) c.u_minus.ensures.limit
-
-pub returns-clause-cost : goal.returns-clause-cost
-returns-clause-cost g c =
-    let acl = c.args.acl.now in
-    let sides = ap length (c.as_slice.ensures.value ∙ c.in_ok-types.ensures) ∙ length-map acl (λ i. type_of (kind_at c.attributes.result.now i)) in
-    let l = (λ t. map (row_numbers number) (c.as_slice-2.ensures.value t)) ∙ c.in_ok-l.ensures.rows in
-    let r = (λ t. map (row_numbers number) (c.as_slice-3.ensures.value t)) ∙ c.in_ok-r.ensures.rows in
-    let many = sym (length-map c.as_slice-2.result.now (row_numbers number)) ∙ ap length l ∙ length-map c.args.left.now.rows (boxed acl) in
-    let more = sym (length-map c.as_slice-3.result.now (row_numbers number)) ∙ ap length r ∙ length-map c.args.right.now.rows (boxed acl) in
-    subst (λ b. c.u_minus.new.steps ≤ c.args.steps.now + b) (λ t. bound (many t + more t) (sides t)) c.u_minus.ensures.cost
+    let l = c.in_ok-l.ensures.rows in
+    let r = c.in_ok-r.ensures.rows in
+    let e = c.in_ok-form.ensures.rows ∙ (λ t. packed_boxes row_cmp (sides t) (difference_of (boxed_cmp row_cmp) (unpacked_boxes row_cmp (sides t) (l t)) (unpacked_boxes row_cmp (sides t) (r t)))) in
+    λ h. subst (λ n. most_rows < n) (sym (length-map c.in_ok-form.form.items (row_numbers number)) ∙ ap length e) (c.in_limit.ensures.limit h)
