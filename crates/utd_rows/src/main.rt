@@ -10,7 +10,8 @@ use std::alloc::Global;
 use std::{fs, io};
 
 /// The files of data/, by subject.
-const FILES: [&str; 39] = [
+const FILES: [&str; 40] = [
+    "arranged.txt",
     "ask.txt",
     "assign.txt",
     "compare.txt",
