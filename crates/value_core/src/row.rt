@@ -44,6 +44,13 @@ impl Row {
     {
         self.values.as_slice()
     }
+
+    /// The row's values themselves, left to right.
+    pub fn into_values(self) -> Vec<Value>
+        ensures { map plain result.items ≡ self }
+    {
+        self.values
+    }
 }
 
 impl PartialEq for Row {

@@ -144,6 +144,7 @@ impl Ord for Value {
 
     fn cmp(&self, other: &Value) -> Ordering {
         match (self, other) {
+            (Value::Point(AnyPoint::Integer(a)), Value::Point(AnyPoint::Integer(b))) => a.cmp(b),
             (Value::Truth(a), Value::Truth(b)) => a.cmp(b),
             (Value::Truth(_), _) => Ordering::Less,
             (_, Value::Truth(_)) => Ordering::Greater,
