@@ -6,3 +6,4 @@ pub mod LabelRows
 pub mod Sweeping
 pub mod OneSideLemmas
 pub mod PartedLemmas
+pub mod MovedLemmas

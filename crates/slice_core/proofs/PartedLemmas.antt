@@ -15,7 +15,7 @@ use Rattle.packing_core.proofs.Inward.{HasSides, slice_at}
 use Rattle.packing_core.proofs.Joined.{IsIndexRun-iff, IsIndexRun-one}
 use Rattle.packing_core.proofs.AmongLemmas.{among_filter, among_map}
 use Rattle.slice_core.specs.declared.bare.Bare.{Bare}
-use Rattle.slice_core.specs.PackedRows.{AnyLabel, IsUnitedRow, bare, span_of}
+use Rattle.slice_core.specs.PackedRows.{AnyLabel, IsUnitedRow, bare, labelled, span_of}
 use Rattle.slice_core.specs.Rows.{pair_cmp, pair_total}
 use Rattle.slice_core.specs.Parted.{IsGap, AreParted, HasCells, ComesBefore, EndsBefore, AreApartRows, live_row}
 use Rattle.slice_core.proofs.Sweeping.{cell_has, has_cell}
@@ -37,6 +37,11 @@ same_list [] [] e h = refl
 same_list [] (y ∷ ys) e h = absurd (omega arith)
 same_list (x ∷ xs) [] e h = absurd (omega arith)
 same_list (x ∷ xs) (y ∷ ys) e h = λ t. h 0 (omega arith) t ∷ same_list xs ys (omega arith) (λ s l. h (suc s) (omega arith)) t
+
+-- boxes with a label are those without one, labelled
+pub labelled_boxes : {P : Type 0} (l : P) (boxes : List (List (ℕ × ℕ))) (rs : List ℕ) → map (λ r. (l, box boxes r)) rs ≡ map (labelled l) (map (λ r. (bare, box boxes r)) rs)
+labelled_boxes l boxes [] = refl
+labelled_boxes l boxes (r ∷ rs) = λ t. (l, box boxes r) ∷ labelled_boxes l boxes rs t
 
 -- ---- gaps
 

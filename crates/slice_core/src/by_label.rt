@@ -1,17 +1,16 @@
 // Rows over numbered cells, packed: on one side all at once, else label by label.
-ghost use Rattle.std.specs.Prelude.{◌≡◌, ◌≢◌, ℕ, ◌<◌, ◌≤◌, ◌↔◌, ◌++◌, length, map, slice_index_or, IfOk, OnOk, List};
+ghost use Rattle.std.specs.Prelude.{◌≡◌, ◌≢◌, ℕ, ◌<◌, ◌≤◌, ◌↔◌, length, map, slice_index_or, IfOk, OnOk, List};
 ghost use Rattle.std.specs.List.{All};
 ghost use Rattle.std.specs.List.Sorted.{IsStrictlySortedBy};
 ghost use Rattle.std.specs.declared.cmp.Ordering.TheVariants.{Equal};
 ghost use Rattle.packing_core.specs.Covering.{Among};
-ghost use Rattle.slice_core.specs.PackedRows.{IsPackedOf, labelled};
+ghost use Rattle.slice_core.specs.PackedRows.{IsPackedOf};
 ghost use Rattle.slice_core.specs.Rows.{key_cmp, sides_of, AreRows};
 
-use crate::bare::Bare;
 use crate::inward::IndexBox;
 use crate::key::Key;
 use crate::one_side::on_first_side;
-use crate::parted::packed_group;
+use crate::parted::push_packed;
 use point_core::{Label, Memory};
 use std::alloc::Global;
 
@@ -20,8 +19,8 @@ fn apart<P: Drop>(alloc: Global, rows: Vec<Key<P>>) -> Result<(Vec<P>, Vec<Index
     ensures labels { IfOk result (λ v. v.0.items ≡ map (λ x. x.0) rows.items) }
     ensures boxes { IfOk result (λ v. sides_of v.1.items ≡ map (λ x. x.1) rows.items) }
 {
-    let mut labels = Vec::new(alloc);
-    let mut boxes = Vec::new(alloc);
+    let mut labels = Vec::with_capacity(alloc, rows.len())?;
+    let mut boxes = Vec::with_capacity(alloc, rows.len())?;
     for row in rows {
         labels.push(row.label)?;
         boxes.push(IndexBox { sides: row.sides })?;
@@ -44,34 +43,15 @@ fn label_end<P: Label>(labels: &[P], first: usize) -> usize
     end
 }
 
-// The numbers from `first` up to before `end`.
-fn numbers(alloc: Global, first: usize, end: usize) -> Result<Vec<usize>, Memory>
+// Makes the list that of the numbers from `first` up to before `end`. Its room is kept from turn to turn.
+fn number(list: &mut Vec<usize>, first: usize, end: usize) -> Result<(), Memory>
     requires { first ≤ end }
-    ensures members { IfOk result (λ v. (r : ℕ) → Among r v.items ↔ (first ≤ r) × (r < end)) }
-    ensures order { IfOk result (λ v. AreRows first end v.items) }
+    ensures members { OnOk result ((r : ℕ) → Among r list.new.items ↔ (first ≤ r) × (r < end)) }
+    ensures order { OnOk result (AreRows first end list.new.items) }
 {
-    let mut out = Vec::new(alloc);
+    list.clear();
     for r in first..end {
-        out.push(r)?;
-    }
-    Ok(out)
-}
-
-// The rows, each with the label.
-fn push_labelled<P: Label>(
-    alloc: Global,
-    out: &mut Vec<Key<P>>,
-    label: &P,
-    rows: Vec<Key<Bare>>,
-) -> Result<(), Memory>
-    ensures { OnOk result (out.new.items ≡ out.old.items ++ map (labelled label.now) rows.items) }
-{
-    for row in rows {
-        let own = label.copy(alloc)?;
-        out.push(Key {
-            label: own,
-            sides: row.sides,
-        })?;
+        list.push(r)?;
     }
     Ok(())
 }
@@ -95,12 +75,19 @@ pub fn pack_rows<P: Label>(
     sorted.sort()?;
     let (labels, boxes) = apart(alloc, sorted)?;
     let mut out = Vec::new(alloc);
+    let mut live = Vec::new(alloc);
     let mut first = 0;
     while first < labels.len() {
         let end = label_end(labels.as_slice(), first);
-        let live = numbers(alloc, first, end)?;
-        let packed = packed_group(alloc, sides, boxes.as_slice(), live.as_slice())?;
-        push_labelled(alloc, &mut out, &labels[first], packed)?;
+        number(&mut live, first, end)?;
+        push_packed(
+            alloc,
+            sides,
+            &mut out,
+            &labels[first],
+            boxes.as_slice(),
+            live.as_slice(),
+        )?;
         first = end;
     }
     Ok(out)

@@ -1,6 +1,7 @@
 //! Packed rows over numbered cells, from the last side inward.
 #![tactic(auto)]
 
+mod arranged;
 mod bare;
 mod by_label;
 mod cell_op;
@@ -11,9 +12,10 @@ mod one_side;
 mod parted;
 mod united;
 
+pub use arranged::pack_arranged;
 pub use by_label::pack_rows;
 pub use cell_op::CellOp;
 pub use inward::{IndexBox, leaf, slices};
-pub use key::{Key, cell_number};
+pub use key::{Key, put_cells};
 pub use live::{Sweep, advance, sweep_of};
 pub use united::cuts_at;

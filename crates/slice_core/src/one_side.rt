@@ -39,7 +39,7 @@ fn push_piece<P: Drop>(out: &mut Vec<Piece<Key<P>>>, row: Key<P>) -> Result<(), 
 fn pieces_of<P: Drop>(alloc: Global, rows: Vec<Key<P>>) -> Result<Vec<Piece<Key<P>>>, Memory>
     ensures { IfOk result (λ v. v.items ≡ flat_map own_piece rows.items) }
 {
-    let mut out = Vec::new(alloc);
+    let mut out = Vec::with_capacity(alloc, rows.len())?;
     for row in rows {
         push_piece(&mut out, row)?;
     }

@@ -1,10 +1,10 @@
 // Boxes with a cell between any two of them are their own packed form.
-ghost use Rattle.std.specs.Prelude.{◌≡◌, ℕ, suc, true, ◌<◌, ◌≤◌, ◌↔◌, List, length, map, IfOk};
+ghost use Rattle.std.specs.Prelude.{◌≡◌, ℕ, suc, true, ◌<◌, ◌≤◌, ◌↔◌, ◌++◌, List, length, map, IfOk, OnOk};
 ghost use Rattle.std.specs.List.{All};
 ghost use Rattle.std.specs.List.Sorted.{IsStrictlySortedBy};
 ghost use Rattle.packing_core.specs.Covering.{Among};
 ghost use Rattle.packing_core.specs.Live.{box};
-ghost use Rattle.slice_core.specs.PackedRows.{IsUnitedRow, bare, span_of};
+ghost use Rattle.slice_core.specs.PackedRows.{IsUnitedRow, labelled, span_of};
 ghost use Rattle.slice_core.specs.Parted.{IsGap, AreParted, HasCells, ComesBefore, EndsBefore, IsClear, StandsApart, AreApartRows, live_row};
 ghost use Rattle.slice_core.specs.Rows.{sides_of, key_cmp, AreRows};
 ghost use Rattle.slice_core.specs.declared.bare.Bare.{Bare as AnyBare};
@@ -165,36 +165,65 @@ fn copied_sides(alloc: Global, sides: &[(usize, usize)]) -> Result<Vec<(usize, u
     Ok(copy)
 }
 
-// The live boxes.
-fn copies(alloc: Global, boxes: &[IndexBox], live: &[usize]) -> Result<Vec<Key<Bare>>, Memory>
-    requires rows { All (λ r. r < length boxes.now) live.now }
-    ensures { IfOk result (λ v. v.items ≡ map (λ r. (bare, box (sides_of boxes.now) r)) live.now) }
-{
-    let mut out = Vec::with_capacity(alloc, live.len())?;
-    for r in live {
-        let sides = copied_sides(alloc, boxes[*r].sides.as_slice())?;
-        out.push(Key { label: Bare, sides })?;
-    }
-    Ok(out)
-}
-
-// The packed form of the live boxes on their first sides: they themselves, where they are seen to be apart; else made
-// from slices.
-pub fn packed_group(
+// Adds the live boxes, each with the label.
+fn push_copies<P: Label>(
     alloc: Global,
-    sides: usize,
+    out: &mut Vec<Key<P>>,
+    label: &P,
     boxes: &[IndexBox],
     live: &[usize],
-) -> Result<Vec<Key<Bare>>, Memory>
+) -> Result<(), Memory>
+    requires rows { All (λ r. r < length boxes.now) live.now }
+    ensures { OnOk result (out.new.items ≡ out.old.items ++ map (λ r. (label.now, box (sides_of boxes.now) r)) live.now) }
+{
+    for r in live {
+        let own = label.copy(alloc)?;
+        let sides = copied_sides(alloc, boxes[*r].sides.as_slice())?;
+        out.push(Key { label: own, sides })?;
+    }
+    Ok(())
+}
+
+// Adds the rows, each with the label.
+fn push_labelled<P: Label>(
+    alloc: Global,
+    out: &mut Vec<Key<P>>,
+    label: &P,
+    rows: Vec<Key<Bare>>,
+) -> Result<(), Memory>
+    ensures { OnOk result (out.new.items ≡ out.old.items ++ map (labelled label.now) rows.items) }
+{
+    for row in rows {
+        let own = label.copy(alloc)?;
+        out.push(Key {
+            label: own,
+            sides: row.sides,
+        })?;
+    }
+    Ok(())
+}
+
+// Adds the packed form of the live boxes on their first sides, each row with the label: they themselves, where they are
+// seen to be apart; else made from slices.
+pub fn push_packed<P: Label>(
+    alloc: Global,
+    sides: usize,
+    out: &mut Vec<Key<P>>,
+    label: &P,
+    boxes: &[IndexBox],
+    live: &[usize],
+) -> Result<(), Memory>
     requires rows { AreRows 0 (length boxes.now) live.now }
     requires sides { All (λ x. sides ≤ length x.sides.items) boxes.now }
-    ensures rows { IfOk result (λ v. (x : AnyBare × List (ℕ × ℕ)) → Among x v.items ↔ (length x.1 ≡ sides) × IsUnitedRow sides (sides_of boxes.now) live.now x) }
-    ensures sorted { IfOk result (λ v. IsStrictlySortedBy (key_cmp ⟦<Bare as Label>⟧.order) v.items) }
+    ensures { OnOk result ((rows : List (AnyBare × List (ℕ × ℕ))) × (out.new.items ≡ out.old.items ++ map (labelled label.now) rows) ×
+        ((x : AnyBare × List (ℕ × ℕ)) → Among x rows ↔ (length x.1 ≡ sides) × IsUnitedRow sides (sides_of boxes.now) live.now x) ×
+        IsStrictlySortedBy (key_cmp ⟦<Bare as Label>⟧.order) rows) }
 {
     if are_apart(boxes, sides, live) {
-        let rows = copies(alloc, boxes, live)?;
-        return Ok(rows);
+        push_copies(alloc, out, label, boxes, live)?;
+        return Ok(());
     }
     let rows = united(alloc, sides, boxes, live)?;
-    Ok(rows)
+    push_labelled(alloc, out, label, rows)?;
+    Ok(())
 }

@@ -30,16 +30,16 @@ loop-first-init g c =
       sorted = sorted_nil o t s c.new-out.result.items c.new-out.ensures.items;
     }
 
-pub packed_group-requires-clause-rows : goal.packed_group-requires-clause-rows
-packed_group-requires-clause-rows g c =
+pub push_packed-requires-clause-rows : goal.push_packed-requires-clause-rows
+push_packed-requires-clause-rows g c =
     let n : length c.in_ok-labels.boxes.items ≡ length c.in_ok-labels.labels.items = boxes_length c.in_ok-labels.labels.items c.in_ok-labels.boxes.items c.sort.new.self.items c.in_ok-labels.ensures.labels c.in_ok-labels.ensures.boxes in
     let w : c.label_end-end.result ≤ length c.in_ok-labels.labels.items = subst (λ xs. c.label_end-end.result ≤ length xs) c.as_slice.ensures.value c.label_end-end.ensures.within in
     subst (λ (xs : List IndexBox). AreRows 0 (length xs) c.as_slice-in-loop-first-2.result.now) (sym c.as_slice-in-loop-first.ensures.value)
     (subst (AreRows 0 (length c.in_ok-labels.boxes.items)) (sym c.as_slice-in-loop-first-2.ensures.value)
-    (AreRows-wider 0 c.loop-first.first c.label_end-end.result (length c.in_ok-labels.boxes.items) c.in_ok-live.live.items (omega arith) (omega arith) c.in_ok-live.ensures.order))
+    (AreRows-wider 0 c.loop-first.first c.label_end-end.result (length c.in_ok-labels.boxes.items) c.number.new.list.items (omega arith) (omega arith) c.in_ok-number.ensures.order))
 
-pub packed_group-requires-clause-sides : goal.packed_group-requires-clause-sides
-packed_group-requires-clause-sides g c =
+pub push_packed-requires-clause-sides : goal.push_packed-requires-clause-sides
+push_packed-requires-clause-sides g c =
     subst (All (λ (x : IndexBox). c.args.sides ≤ length x.sides.items)) (sym c.as_slice-in-loop-first.ensures.value)
     (boxes_sides c.in_ok-labels.labels.items c.in_ok-labels.boxes.items c.sort.new.self.items c.in_ok-labels.ensures.labels c.in_ok-labels.ensures.boxes
     g.P.Label.order g.met.P.Label.total g.met.P.Label.separates c.args.rows.items c.in_ok-sort.ensures.permutation c.args.sides c.requires.sides)
@@ -64,16 +64,17 @@ loop-first-preserved g c =
     let ascends = sorted_ascends o t s labels boxes c.args.rows.items c.sort.new.self.items c.in_ok-sort.ensures.permutation c.in_ok-labels.ensures.labels c.in_ok-labels.ensures.boxes c.in_ok-sort.ensures.sorted in
     let same = subst (λ xs. (j : ℕ) (d e : _) → first ≤ j → j < end → o (slice_index_or xs first d) (slice_index_or xs j e) ≡ Equal) v c.label_end-end.ensures.same in
     let other = subst (λ xs. (d e : _) → end < length xs → o (slice_index_or xs first d) (slice_index_or xs end e) ≢ Equal) v c.label_end-end.ensures.other in
-    let live = c.in_ok-live.live.items in
-    let packed = c.in_ok-packed.packed.items in
+    let live = c.number.new.list.items in
+    let pushed = c.in_ok-push_packed.ensures in
+    let packed : List Row = pushed.0 in
     let is : (x : Row) → Among x packed ↔ (length x.1 ≡ n) × IsUnitedRow n boxes live x =
     subst (λ m. (x : Row) → Among x packed ↔ (length x.1 ≡ n) × IsUnitedRow n boxes m x) c.as_slice-in-loop-first-2.ensures.value
-    (subst (λ (bs : List IndexBox). (x : Row) → Among x packed ↔ (length x.1 ≡ n) × IsUnitedRow n (sides_of bs) c.as_slice-in-loop-first-2.result.now x) c.as_slice-in-loop-first.ensures.value c.in_ok-packed.ensures.rows) in
+    (subst (λ (bs : List IndexBox). (x : Row) → Among x packed ↔ (length x.1 ≡ n) × IsUnitedRow n (sides_of bs) c.as_slice-in-loop-first-2.result.now x) c.as_slice-in-loop-first.ensures.value pushed.2) in
     record {
       within = within;
       cut = group_cut o t s labels boxes first end within after l0 at0 cut ascends same other;
-      rows = rows_turn o t s labels boxes first end within after l0 at0 cut ascends same other live c.in_ok-live.ensures.members n c.loop-first.out.items c.push_labelled.new.out.items packed c.in_ok-push_labelled.ensures is c.loop-first.invariant.rows;
-      sorted = sorted_turn o t s labels boxes first end within after l0 at0 cut ascends same other live c.in_ok-live.ensures.members n c.loop-first.out.items c.push_labelled.new.out.items packed c.in_ok-push_labelled.ensures is c.loop-first.invariant.rows c.loop-first.invariant.sorted c.in_ok-packed.ensures.sorted;
+      rows = rows_turn o t s labels boxes first end within after l0 at0 cut ascends same other live c.in_ok-number.ensures.members n c.loop-first.out.items c.push_packed.new.out.items packed pushed.1 is c.loop-first.invariant.rows;
+      sorted = sorted_turn o t s labels boxes first end within after l0 at0 cut ascends same other live c.in_ok-number.ensures.members n c.loop-first.out.items c.push_packed.new.out.items packed pushed.1 is c.loop-first.invariant.rows c.loop-first.invariant.sorted pushed.3;
     }
 
 pub returns-clause-rows : goal.returns-clause-rows

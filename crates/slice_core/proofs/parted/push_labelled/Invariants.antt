@@ -1,6 +1,6 @@
 use Rattle.std.proofs.Common.{◌≡◌, ◌++◌, map}
 use Rattle.slice_core.specs.PackedRows.{labelled}
-use Rattle.slice_core.proofs.by_label.push_labelled.Given as goal
+use Rattle.slice_core.proofs.parted.push_labelled.Given as goal
 
 abbrev pub invariant-loop-row : goal.invariant-loop-row
 invariant-loop-row g l = record {

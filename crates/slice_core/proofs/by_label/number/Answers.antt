@@ -4,11 +4,11 @@ use Rattle.packing_core.specs.Covering.{Among}
 use Rattle.packing_core.proofs.AmongLemmas.{among_append}
 use Rattle.slice_core.specs.Rows.{AreRows}
 use Rattle.slice_core.proofs.Turns.{AreRows-push, AreRows-wider}
-use Rattle.slice_core.proofs.by_label.numbers.Goals as goal
+use Rattle.slice_core.proofs.by_label.number.Goals as goal
 
 pub loop-r-preserved : goal.loop-r-preserved
 loop-r-preserved c =
-    let out = c.loop-r.out.items in
+    let out = c.loop-r.list.items in
     let low : c.args.first ≤ c.loop-r.r = omega arith in
     record {
       members = λ n.
@@ -35,4 +35,4 @@ returns-clause-members c = λ n.
     )
 
 pub returns-clause-order : goal.returns-clause-order
-returns-clause-order c = AreRows-wider c.args.first c.args.first c.loop-r.r c.args.end c.loop-r.out.items (omega arith) (omega arith) c.loop-r.invariant.order
+returns-clause-order c = AreRows-wider c.args.first c.args.first c.loop-r.r c.args.end c.loop-r.list.items (omega arith) (omega arith) c.loop-r.invariant.order

@@ -1,10 +1,10 @@
 use Rattle.std.proofs.Common.{ℕ, ◌<◌, ◌≤◌, ◌↔◌}
 use Rattle.packing_core.specs.Covering.{Among}
 use Rattle.slice_core.specs.Rows.{AreRows}
-use Rattle.slice_core.proofs.by_label.numbers.Given as goal
+use Rattle.slice_core.proofs.by_label.number.Given as goal
 
 abbrev pub invariant-loop-r : goal.invariant-loop-r
 invariant-loop-r l = record {
-  members : (n : ℕ) → Among n l.out.items ↔ (l.fn.first ≤ n) × (n < l.r);
-  order : AreRows l.fn.first l.r l.out.items;
+  members : (n : ℕ) → Among n l.list.items ↔ (l.fn.first ≤ n) × (n < l.r);
+  order : AreRows l.fn.first l.r l.list.items;
 }
