@@ -283,6 +283,10 @@ module _ (own : Box) (holes : List Met) (first end : ℕ) where
   pub split_start : (done pieces : List IndexBox) → done ≡ [] → sides_of pieces ≡ own ∷ [] → IsSplit own holes first end first (sides_of done) (sides_of pieces)
   split_start done pieces d p = subst (λ ds. IsSplit own holes first end first ds (sides_of pieces)) (sym (ap sides_of d)) (subst (IsSplit own holes first end first []) (sym p) (split_first own holes first end))
 
+  -- with no holes the box is whole
+  pub whole : (pieces : List IndexBox) → sides_of pieces ≡ own ∷ [] → first ≡ end → IsSplit own holes first end end [] (sides_of pieces)
+  whole pieces p e = subst (λ n. IsSplit own holes first end n [] (sides_of pieces)) e (split_start [] pieces refl p)
+
   pub split_more : (h : ℕ) → first ≤ h → h < end → (m : Met) → IsRow holes h m → length m.1 ≡ length own
       → ((r : ℕ) (n : Met) → IsRow holes r n → h ≤ r → r < end → (first_of m.1).0 ≤ (first_of n.1).0)
       → (done pieces done' pieces' : List IndexBox)

@@ -1,5 +1,5 @@
 -- Numbers that stand for the keys of rows.
-use Rattle.std.proofs.Common.{◌≡◌, ℕ, zero, suc, ◌+◌, ◌<◌, ◌≤◌, false, List, [], ◌∷◌, ◌++◌, map, length, ◌↔◌, ◌⊎◌, inl, inr, arith, sym, ap, subst, refl, ◌∙◌, Ordering}
+use Rattle.std.proofs.Common.{◌≡◌, ℕ, zero, suc, ◌+◌, ◌<◌, ◌≤◌, List, [], ◌∷◌, ◌++◌, map, length, ◌↔◌, ◌⊎◌, inl, inr, arith, sym, ap, subst, refl, ◌∙◌, Ordering}
 use Rattle.std.specs.declared.cmp.Ordering.TheVariants.{Less, Equal, Greater}
 use Rattle.std.specs.Cmp.{IsTotalOrder}
 use Rattle.std.specs.Ordering.{nat_cmp, ordering_reverse, is_lt}
@@ -9,7 +9,7 @@ use Rattle.std.proofs.lemmas.Cmp.{tied_itself, tied_back, alike_right, nat_cmp_t
 use Rattle.std.proofs.lemmas.List.{get_or_append_left, get_or_at, length-append}
 use Rattle.packing_core.specs.Covering.{Among}
 use Rattle.slice_core.specs.PackedRows.{HasRow}
-use Rattle.box_core.specs.Answers.{IsBoxOf, IsBoxOfKeyed, IsMatched, IsUnmatched, IsJoined, KeyedBox}
+use Rattle.box_core.specs.Answers.{IsBoxOf, IsBoxOfKeyed, InBoth, InFirst, IsMatched, IsUnmatched, IsJoined, KeyedBox}
 use Rattle.box_core.specs.Common.{At, first_of}
 use Rattle.box_core.specs.Keys.{ArePaired}
 use Rattle.box_core.specs.KeyNumbers.{AreNumbered, HaveNumbers, Begins, IsCount, IsNumber}
@@ -18,7 +18,7 @@ use Rattle.box_core.specs.Outside.{IsRest}
 use Rattle.box_core.specs.Rows.{IsRow, Ascend, KeyBox}
 use Rattle.box_core.proofs.CoveredLemmas.{all_from}
 use Rattle.box_core.proofs.JoinLemmas.{is_joined}
-use Rattle.box_core.proofs.OperatorLemmas.{box_of_keyed, is_matched, is_unmatched}
+use Rattle.box_core.proofs.OperatorLemmas.{box_of_keyed, has_alike, is_matched, is_unmatched}
 use Rattle.box_core.proofs.RowLemmas.{row_among, among_row, one_row, row_there, row_sides, map_row, row_map}
 use Rattle.slice_core.proofs.LabelRows.{map_length}
 
@@ -296,10 +296,57 @@ module _ {K P : Type 0} (rows : List (KeyedBox K P)) (keys : List (KeyBox K)) (l
       let b = is_joined means rows right keys labels right_keys right_labels pairs q l place in
       (λ h. b.0 (a.0 h), λ h. a.1 (b.1 h))
 
--- ---- as many rows, and as many sides
+-- ---- as many rows
 
 pub count_numbered : {K : Type 0} (rows : List (KeyBox K)) (withs : List (KeyBox ℕ)) → boxes_in withs ≡ boxes_in rows → length rows ≡ length withs
 count_numbered {K} rows withs e = sym (map_length (λ (x : KeyBox K). x.1) rows) ∙ sym (ap length e) ∙ map_length (λ (x : KeyBox ℕ). x.1) withs
+
+-- ---- rows whose key is their label
+
+module _ {P : Type 0} (left right sorted others : List (KeyBox P)) (ls : (x : KeyBox P) → Among x sorted ↔ Among x left) (rs : (x : KeyBox P) → Among x others ↔ Among x right)
+    (labels : List P) (own : labels ≡ map (λ (x : KeyBox P). x.0) sorted) (lefts rights : List (KeyBox ℕ)) (are : AreNumbered sorted others lefts rights) where
+  own_label : (i : ℕ) (x : KeyBox P) (l : P) → IsRow sorted i x → IsRow labels i l → x.0 ≡ l
+  own_label i x l h g =
+      let w = row_map (λ (z : KeyBox P). z.0) sorted i l (subst (λ zs. IsRow zs i l) own g) in
+      subst (λ (z : KeyBox P). z.0 ≡ l) (one_row sorted i w.0 x w.1 h) w.2
+
+  -- some row of the label has the place, and R holds of the label
+  some_own : (R : P → Type 0) (l : P) (place : List ℕ) → ((i : ℕ) × (x : KeyBox P) × IsRow sorted i x × IsRow labels i l × At x.1 place × R x.0) ↔ HasRow left l place × R l
+  some_own R l place = (
+    λ h.
+        let e = own_label h.0 h.1 l h.2 h.3 in
+        ((h.1.1, (ls (l, h.1.1)).0 (subst (λ k. Among (k, h.1.1) sorted) e (row_among sorted h.0 h.1 h.2)), h.4), subst R e h.5),
+    λ h.
+        let x : KeyBox P = (l, h.0.0) in
+        let i = among_row sorted x ((ls x).1 h.0.1) in
+        (i.0, x, i.1, subst (λ zs. IsRow zs i.0 l) (sym own) (map_row (λ (z : KeyBox P). z.0) sorted i.0 x i.1), h.0.2, h.1),
+  )
+
+  pub numbered_both : (l : P) (place : List ℕ) → IsShared lefts labels rights l place ↔ InBoth left right l place
+  numbered_both l place =
+      let a = shared_numbered sorted others lefts rights are labels l place in
+      let b = some_own (λ k. HasRow others k place) l place in
+      let s = has_alike right others rs l place in (
+        λ h. let w = b.0 (a.0 h) in (w.0, s.0 w.1),
+        λ h. a.1 (b.1 (h.0, s.1 h.1)),
+      )
+
+  pub numbered_first : (l : P) (place : List ℕ) → IsRest lefts labels rights l place ↔ InFirst left right l place
+  numbered_first l place =
+      let a = rest_numbered sorted others lefts rights are labels l place in
+      let b = some_own (λ k. HasRow others k place → ⊥) l place in
+      let s = has_alike right others rs l place in (
+        λ h. let w = b.0 (a.0 h) in (w.0, λ g. w.1 (s.1 g)),
+        λ h. a.1 (b.1 (h.0, λ g. h.1 (s.0 g))),
+      )
+
+  pub numbered_box_of : (y : List (ℕ × ℕ)) → IsBoxOf lefts y → IsBoxOf left y
+  numbered_box_of y h = let w = box_numbered sorted others lefts rights are y h in (w.0, (ls (w.0, y)).0 w.1)
+
+  pub numbered_count : length labels ≡ length lefts
+  numbered_count = ap length own ∙ map_length (λ (x : KeyBox P). x.0) sorted ∙ count_numbered sorted lefts are.left_boxes
+
+-- ---- as many sides
 
 pub sides_numbered : {K : Type 0} (k : ℕ) (rows : List (KeyBox K)) (withs : List (KeyBox ℕ)) → boxes_in withs ≡ boxes_in rows → All (λ x. length x.1 ≡ k) rows → All (λ x. length x.1 ≡ k) withs
 sides_numbered {K} k rows withs e a = all_from (λ (x : KeyBox ℕ). length x.1 ≡ k) withs (λ w h.

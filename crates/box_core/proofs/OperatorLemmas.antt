@@ -1,38 +1,26 @@
 -- Operators by what their parts have at each place.
-use Rattle.std.proofs.Common.{◌≡◌, ℕ, zero, suc, ◌+◌, false, List, [], ◌∷◌, map, length, get_or, ◌↔◌, arith, sym, ap, subst, refl, ◌∙◌, Ordering}
+use Rattle.std.proofs.Common.{◌≡◌, ℕ, false, List, [], map, length, get_or, ◌↔◌, arith, sym, ap, subst, ◌∙◌, Ordering}
 use Rattle.std.specs.Cmp.{IsTotalOrder}
 use Rattle.std.specs.Ordering.{is_lt}
 use Rattle.std.specs.List.{All}
 use Rattle.std.specs.List.Sorted.{IsSortedBy, IsPermutation}
 use Rattle.std.proofs.lemmas.List.Elements.{All-same, All-map}
-use Rattle.std.proofs.lemmas.List.Sorted.{All-permutation, Contains-permutation, IsPermutation-sym, sorted_far, ranks_by}
+use Rattle.std.proofs.lemmas.List.Sorted.{All-permutation, sorted_far, ranks_by}
 use Rattle.packing_core.specs.Covering.{Among}
-use Rattle.packing_core.specs.Packed.{IsIndexPackedTo, no_cells}
-use Rattle.packing_core.proofs.AmongLemmas.{among_map}
-use Rattle.packing_core.proofs.Joined.{IsIndexRun-iff}
 use Rattle.packing_core.proofs.Numbered.{other_default}
-use Rattle.packing_core.proofs.Order.{among_contains, contains_among}
 use Rattle.slice_core.specs.PackedRows.{HasRow, IsPackedOf}
 use Rattle.slice_core.specs.Rows.{key_cmp, key_total}
-use Rattle.box_core.specs.Answers.{IsPackedRow, IsPackedCover, IsBoxOf, IsBoxOfKeyed, InBoth, InFirst, IsMatched, IsUnmatched, KeyedBox, HasKeyed}
+use Rattle.box_core.specs.Answers.{IsPackedRow, IsPackedCover, IsBoxOf, IsBoxOfKeyed, IsMatched, IsUnmatched, KeyedBox, HasKeyed}
 use Rattle.box_core.specs.Common.{At, EndsBy}
-use Rattle.box_core.specs.Keys.{key_of, label_of, doubled, keyed_cmp, ArePaired}
+use Rattle.box_core.specs.Keys.{key_of, label_of, keyed_cmp, ArePaired}
 use Rattle.box_core.specs.Meetings.{IsShared}
 use Rattle.box_core.specs.Outside.{IsRest}
 use Rattle.box_core.specs.Rows.{IsRow, Ascend, KeyBox}
 use Rattle.box_core.proofs.RowLemmas.{row_among, among_row, one_row, row_there, map_row, row_map, in_order}
 use Rattle.slice_core.proofs.LabelRows.{map_length}
+use Rattle.slice_core.proofs.MovedLemmas.{packed_alike, among_moved}
 
 -- ---- packed rows of sets that are alike at the places of all sides
-
-packed_alike : (k : ℕ) (S S' : List ℕ → Type 0) → ((place : List ℕ) → length place ≡ k → S place ↔ S' place) → (j : ℕ) (y : List (ℕ × ℕ)) (rest : List ℕ) → j + length rest ≡ k → IsIndexPackedTo j S y rest ↔ IsIndexPackedTo j S' y rest
-packed_alike k S S' e zero y rest f = e rest (omega (arith, f))
-packed_alike k S S' e (suc j) y rest f =
-    let at = get_or y j no_cells in
-    let ih = λ (i : ℕ). packed_alike k S S' e j y (i ∷ rest) (omega (arith, f)) in (
-      IsIndexRun-iff (λ i. IsIndexPackedTo j S y (i ∷ rest)) (λ i. IsIndexPackedTo j S' y (i ∷ rest)) ih at.0 at.1,
-      IsIndexRun-iff (λ i. IsIndexPackedTo j S' y (i ∷ rest)) (λ i. IsIndexPackedTo j S y (i ∷ rest)) (λ i. let w = ih i in (w.1, w.0)) at.0 at.1,
-    )
 
 -- the packed parts are the packed form of what they have at each place
 pub packed_rows : {P : Type 0} (k : ℕ) (S : P → List ℕ → Type 0) (parts out : List (KeyBox P)) → ((l : P) (place : List ℕ) → length place ≡ k → HasRow parts l place ↔ S l place)
@@ -80,13 +68,7 @@ cover_same k S S' B B' out e f c = record {
 
 -- ---- rows in another order
 
-pub among_moved : {X : Type 0} (xs ys : List X) → IsPermutation xs ys → (x : X) → Among x ys ↔ Among x xs
-among_moved xs ys p x = (
-  λ h. contains_among xs x (Contains-permutation ys xs x (IsPermutation-sym xs ys p) (among_contains ys x h)),
-  λ h. contains_among ys x (Contains-permutation xs ys x p (among_contains xs x h)),
-)
-
-has_alike : {P : Type 0} (rows others : List (KeyBox P)) → ((x : KeyBox P) → Among x others ↔ Among x rows) → (l : P) (place : List ℕ) → HasRow others l place ↔ HasRow rows l place
+pub has_alike : {P : Type 0} (rows others : List (KeyBox P)) → ((x : KeyBox P) → Among x others ↔ Among x rows) → (l : P) (place : List ℕ) → HasRow others l place ↔ HasRow rows l place
 has_alike rows others e l place = (
   λ h. (h.0, (e (l, h.0)).0 h.1, h.2),
   λ h. (h.0, (e (l, h.0)).1 h.1, h.2),
@@ -162,39 +144,3 @@ module _ {K P : Type 0} (rows : List (KeyedBox K P)) (keys : List (KeyBox K)) (l
           λ h. let w = a.0 h in (w.0, w.1, λ g. w.2 ((has_alike right others same w.0 place).1 g)),
           λ h. a.1 (h.0, h.1, λ g. h.2 ((has_alike right others same h.0 place).0 g)),
         )
-
--- ---- rows whose key is their label
-
-module _ {P : Type 0} (rows right : List (KeyBox P)) where
-  has_doubled : (k l : P) (place : List ℕ) → HasKeyed (map doubled rows) k l place ↔ (k ≡ l) × HasRow rows l place
-  has_doubled k l place = (
-    λ h.
-        let w = (among_map doubled (k, l, h.0) rows).0 h.1 in
-        let a : (w.0).0 ≡ k = ap (λ (z : KeyedBox P P). z.0) w.2 in
-        let b : (w.0).0 ≡ l = ap (λ (z : KeyedBox P P). z.1) w.2 in
-        let c : (w.0).1 ≡ h.0 = ap (λ (z : KeyedBox P P). z.2) w.2 in
-        let e : w.0 ≡ (l, h.0) = λ t. (b t, c t) in
-        (sym a ∙ b, (h.0, subst (λ z. Among z rows) e w.1, h.2)),
-    λ h. (h.1.0, (among_map doubled (k, l, h.1.0) rows).1 ((l, h.1.0), h.1.1, λ t. (sym h.0 t, l, h.1.0)), h.1.2),
-  )
-
-  pub in_both : (l : P) (place : List ℕ) → IsMatched (map doubled rows) right l place ↔ InBoth rows right l place
-  in_both l place = (
-    λ h. let w = (has_doubled h.0 l place).0 h.1 in (w.1, subst (λ z. HasRow right z place) w.0 h.2),
-    λ h. (l, (has_doubled l l place).1 (refl, h.0), h.1),
-  )
-
-  pub in_first : (l : P) (place : List ℕ) → IsUnmatched (map doubled rows) right l place ↔ InFirst rows right l place
-  in_first l place = (
-    λ h. let w = (has_doubled h.0 l place).0 h.1 in (w.1, subst (λ z. HasRow right z place → ⊥) w.0 h.2),
-    λ h. (l, (has_doubled l l place).1 (refl, h.0), h.1),
-  )
-
-  pub doubled_sides : (k : ℕ) → All (λ (x : KeyBox P). length x.1 ≡ k) rows → All (λ (x : KeyedBox P P). length x.2 ≡ k) (map doubled rows)
-  doubled_sides k h = All-map (λ (x : KeyedBox P P). length x.2 ≡ k) doubled rows h
-
-  pub box_of_doubled : (y : List (ℕ × ℕ)) → IsBoxOfKeyed (map doubled rows) y → IsBoxOf rows y
-  box_of_doubled y h =
-      let w = (among_map doubled (h.0, h.1, y) rows).0 h.2 in
-      let e : (w.0).1 ≡ y = ap (λ (z : KeyedBox P P). z.2) w.2 in
-      ((w.0).0, subst (λ z. Among ((w.0).0, z) rows) e w.1)

@@ -1,5 +1,5 @@
 -- Left boxes less the right boxes of their keys.
-use Rattle.std.proofs.Common.{◌≡◌, ℕ, ◌+◌, ◌<◌, ◌≤◌, List, ◌++◌, length, get_or, map, ◌↔◌, inl, inr, arith, sym, ap, subst, refl, ◌∙◌, Ordering}
+use Rattle.std.proofs.Common.{◌≡◌, ℕ, zero, suc, ◌+◌, ◌<◌, ◌≤◌, List, [], ◌∷◌, ◌++◌, drop, length, get_or, map, ◌↔◌, inl, inr, arith, sym, ap, subst, refl, ◌∙◌, Ordering}
 use Rattle.std.specs.declared.cmp.Ordering.TheVariants.{Equal}
 use Rattle.std.specs.Cmp.{IsTotalOrder}
 use Rattle.std.specs.List.{All}
@@ -17,6 +17,15 @@ use Rattle.box_core.specs.Meetings.{Met, IsMeeting, StandByLeft}
 use Rattle.box_core.specs.Outside.{HasBox, IsClear}
 use Rattle.box_core.proofs.RowLemmas.{row_among, among_row, one_row, some_row, row_sides}
 use Rattle.box_core.proofs.PlaceLemmas.{at_common, common_length, cells_from}
+
+-- the rows from one on are that one and the later ones
+pub drop_row : {X : Type 0} (xs : List X) (i : ℕ) (x : X) → IsRow xs i x → drop i xs ≡ x ∷ drop (i + 1) xs
+drop_row xs i x h = let q : suc i ≡ i + 1 = omega arith in subst (λ n. drop i xs ≡ x ∷ drop n xs) q (more xs i x h)
+  where
+    more : {X : Type 0} (xs : List X) (i : ℕ) (x : X) → IsRow xs i x → drop i xs ≡ x ∷ drop (suc i) xs
+    more [] i x h = absurd (let l = h.0 in omega arith)
+    more (y ∷ ys) zero x h = ap (λ z. z ∷ ys) h.1
+    more (y ∷ ys) (suc i) x h = more ys i x (let l = h.0 in omega arith, h.1)
 
 -- the holes before `first` are in left rows before this one, and the others are not
 pub record IsFrom (holes : List Met) (row first : ℕ) : Type 0 where

@@ -22,10 +22,6 @@ keyed_cmp order a b = key_cmp order (key_of a) (key_of b)
 pub keyed_total : {K P : Type 0} {order : K → K → Ordering} → IsTotalOrder order → IsTotalOrder (keyed_cmp {K = K} {P = P} order)
 keyed_total {K} {P} o = on_total (λ (x : KeyedBox K P). key_of x) (key_total o)
 
--- with the label as its key too
-abbrev pub doubled : {P : Type 0} → KeyBox P → KeyedBox P P
-doubled x = (x.0, x.0, x.1)
-
 -- the key and the label of one number are those of one row, and each row has its number
 pub record ArePaired {K P : Type 0} (rows : List (KeyedBox K P)) (keys : List (KeyBox K)) (labels : List P) : Type 0 where
   pub count : length labels ≡ length keys

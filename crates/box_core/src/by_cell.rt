@@ -16,7 +16,7 @@ pub fn by_first(
     requires within { rows.1 ≤ length spans.now }
     ensures { IfOk result (λ v. AreBy (λ r. (span_at spans.now r).0) rows v.items) }
 {
-    let mut out = Vec::new(alloc);
+    let mut out = Vec::with_capacity(alloc, rows.1 - rows.0)?;
     for r in rows.0..rows.1 {
         out.push((spans[r].0, r))?;
     }
@@ -34,7 +34,7 @@ pub fn by_end(
     requires within { rows.1 ≤ length spans.now }
     ensures { IfOk result (λ v. AreBy (λ r. (span_at spans.now r).1) rows v.items) }
 {
-    let mut out = Vec::new(alloc);
+    let mut out = Vec::with_capacity(alloc, rows.1 - rows.0)?;
     for r in rows.0..rows.1 {
         out.push((spans[r].1, r))?;
     }
@@ -61,7 +61,7 @@ pub fn cells_of(
     ensures order { IfOk result (λ v. (i j : ℕ) → i ≤ j → j < length v.items → get_or v.items i 0 ≤ get_or v.items j 0) }
     ensures cuts { IfOk result (λ v. (x : ℕ × ℕ) → Among x starts.now ⊎ Among x ends.now → Among x.0 v.items) }
 {
-    let mut cuts = Vec::new(alloc);
+    let mut cuts = Vec::with_capacity(alloc, starts.len().saturating_add(ends.len()))?;
     push_cells(&mut cuts, starts)?;
     push_cells(&mut cuts, ends)?;
     cuts.sort()?;

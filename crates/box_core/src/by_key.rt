@@ -21,7 +21,7 @@ fn first_sides<P>(alloc: Global, rows: &[Key<P>]) -> Result<Vec<(usize, usize)>,
     requires { All (λ x. 0 < length x.1) rows.now }
     ensures { IfOk result (λ v. v.items ≡ map (λ x. first_of x.1) rows.now) }
 {
-    let mut out = Vec::new(alloc);
+    let mut out = Vec::with_capacity(alloc, rows.len())?;
     for row in rows {
         out.push(row.sides[0])?;
     }

@@ -41,8 +41,21 @@ fn are_shorter(first: (u128, u128), second: (u128, u128)) -> bool {
     first.0.saturating_mul(second.1) < second.0.saturating_mul(first.1)
 }
 
+// Whether they are at most half as long.
+fn are_half(first: (u128, u128), second: (u128, u128)) -> bool {
+    let twice = first.0.saturating_mul(2);
+    twice.saturating_mul(second.1) <= second.0.saturating_mul(first.1)
+}
+
+// Whether rows of the lengths are to be sought on their side, where on the first side they have the second lengths, and
+// on the best side so far the third.
+fn are_better(lengths: (u128, u128), first: (u128, u128), least: (u128, u128)) -> bool {
+    are_half(lengths, first) && are_shorter(lengths, least)
+}
+
 // The side on which the rows are shortest for the length of the axis, the first of these: the fewest overlap there where
-// they are spread alike. This is an estimate; any side would do.
+// they are spread alike. Another side than the first costs a sort of its own, since the rows stand in the order of the
+// first: so only one where they are at most half as long as there. This is an estimate; any side would do.
 fn best_side<P>(sides: usize, left: &[Key<P>], right: &[Key<P>]) -> usize
     ensures { (result ≡ 0) ⊎ (result < sides) }
 {
@@ -50,10 +63,11 @@ fn best_side<P>(sides: usize, left: &[Key<P>], right: &[Key<P>]) -> usize
         return 0;
     }
     let mut best = 0;
-    let mut least = lengths_on(right, 0, lengths_on(left, 0, (0, 0)));
+    let first = lengths_on(right, 0, lengths_on(left, 0, (0, 0)));
+    let mut least = first;
     for side in 1..sides {
         let lengths = lengths_on(right, side, lengths_on(left, side, (0, 0)));
-        if are_shorter(lengths, least) {
+        if are_better(lengths, first, least) {
             best = side;
             least = lengths;
         }
@@ -91,7 +105,7 @@ fn row_on_side<P: Label>(
 {
     let key = row.label.copy(alloc)?;
     let cells = cells_on(row.sides.as_slice(), side);
-    let mut sides = Vec::new(alloc);
+    let mut sides = Vec::with_capacity(alloc, 1)?;
     sides.push(cells)?;
     Ok(Keyed {
         key,
@@ -108,7 +122,7 @@ fn rows_on_side<P: Label>(
 ) -> Result<Vec<Keyed<P, usize>>, Memory>
     ensures { IfOk result (λ v. (z : KeyedBox P ℕ) → Among z v.items ↔ IsOnSide side rows.now z) }
 {
-    let mut out = Vec::new(alloc);
+    let mut out = Vec::with_capacity(alloc, rows.len())?;
     for i in 0..rows.len() {
         let row = row_on_side(alloc, &rows[i], i, side)?;
         out.push(row)?;
@@ -140,7 +154,7 @@ fn renumbered(
     requires { All (λ p. (p.0 < length lefts.now) × (p.1 < length rights.now)) pairs.now }
     ensures { IfOk result (λ v. v.items ≡ map (renumbered_as lefts.now rights.now) pairs.now) }
 {
-    let mut out = Vec::new(alloc);
+    let mut out = Vec::with_capacity(alloc, pairs.len())?;
     for p in pairs {
         out.push((lefts[p.0], rights[p.1]))?;
     }
@@ -170,7 +184,8 @@ fn pairs_on_side<P: Label>(
     Ok(out)
 }
 
-// Pairs of rows of one key, among them all that meet: those that overlap on the side on which that seems to be fewest.
+// Pairs of rows of one key, among them all that meet: those that overlap on the first side, or on another where that seems
+// to be far fewer.
 pub fn pairs_on_best_side<P: Label>(
     alloc: Global,
     sides: usize,

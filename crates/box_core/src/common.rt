@@ -31,7 +31,7 @@ pub fn common<P>(alloc: Global, x: &Key<P>, y: &Key<P>) -> Result<Vec<(usize, us
     requires { length x.now.1 ≡ length y.now.1 }
     ensures { IfOk result (λ v. v.items ≡ common_of x.now.1 y.now.1) }
 {
-    let mut out = Vec::new(alloc);
+    let mut out = Vec::with_capacity(alloc, x.sides.len())?;
     for s in 0..x.sides.len() {
         let cells = both(x.sides[s], y.sides[s]);
         out.push(cells)?;

@@ -21,7 +21,7 @@ use std::sync::ledger::Ledger;
 fn box_of<P>(alloc: Global, row: &Key<P>) -> Result<IndexBox, Memory>
     ensures { IfOk result (λ b. b.sides.items ≡ row.now.1) }
 {
-    let mut sides = Vec::new(alloc);
+    let mut sides = Vec::with_capacity(alloc, row.sides.len())?;
     sides.extend_from_slice(row.sides.as_slice())?;
     Ok(IndexBox { sides })
 }
@@ -30,7 +30,7 @@ fn box_of<P>(alloc: Global, row: &Key<P>) -> Result<IndexBox, Memory>
 fn boxes_of<P>(alloc: Global, rows: &[Key<P>]) -> Result<Vec<IndexBox>, Memory>
     ensures { IfOk result (λ v. sides_of v.items ≡ boxes_in rows.now) }
 {
-    let mut out = Vec::new(alloc);
+    let mut out = Vec::with_capacity(alloc, rows.len())?;
     for row in rows {
         let own = box_of(alloc, row)?;
         out.push(own)?;
@@ -44,7 +44,7 @@ fn numbers(alloc: Global, first: usize, end: usize) -> Result<Vec<usize>, Memory
     ensures order { IfOk result (λ v. AreRows first end v.items) }
     ensures members { IfOk result (λ v. (r : ℕ) → Among r v.items ↔ (first ≤ r) × (r < end)) }
 {
-    let mut out = Vec::new(alloc);
+    let mut out = Vec::with_capacity(alloc, end - first)?;
     for r in first..end {
         out.push(r)?;
     }

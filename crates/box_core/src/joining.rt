@@ -15,7 +15,7 @@ use crate::meeting::{Meeting, overlaps};
 use crate::numbering::numbered;
 use number_order::Numbers;
 use point_core::{Label, Memory};
-use slice_core::{Key, pack_rows};
+use slice_core::{Key, pack_arranged};
 use std::alloc::Global;
 
 /// The label that a left and a right label give together.
@@ -24,7 +24,7 @@ pub trait PairRule {
 
     type Right: Label;
 
-    type Out: Label;
+    type Out: Label + Numbers;
 
     ghost means: { Self → Self.Left → Self.Right → Self.Out };
 
@@ -69,7 +69,7 @@ fn with_pair_labels<O: PairRule>(
     requires right { (m : Met) → Among m meetings.items → m.0.1 < length rights.now }
     ensures { IfOk result (λ v. (z : KeyBox O.Out) → Among z v.items ↔ IsPairLabelled (O.means rule.now) lefts.now rights.now meetings.items z) }
 {
-    let mut out = Vec::new(alloc);
+    let mut out = Vec::with_capacity(alloc, meetings.len())?;
     for m in meetings {
         let row = with_pair_label(alloc, lefts, rights, m, rule)?;
         out.push(row)?;
@@ -125,7 +125,7 @@ fn packed_joined<K: Label, O: PairRule>(
     ensures sorted { IfOk result (λ v. IsStrictlySortedBy (key_cmp O.Out.order) v.items) }
 {
     let parts = joined(alloc, sides, left, lefts, right, rights, rule)?;
-    let out = pack_rows(alloc, sides, parts)?;
+    let out = pack_arranged(alloc, sides, parts)?;
     Ok(out)
 }
 

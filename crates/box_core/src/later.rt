@@ -81,6 +81,7 @@ pub fn later<P: Label>(
 pub fn push_turned(out: &mut Vec<(usize, usize)>, pairs: &[(usize, usize)]) -> Result<(), Memory>
     ensures { OnOk result (out.new.items ≡ out.old.items ++ map turned pairs.now) }
 {
+    out.reserve(pairs.len())?;
     for p in pairs {
         out.push((p.1, p.0))?;
     }

@@ -75,10 +75,12 @@ fn meetings<P>(
 /// The pairs of a left and a right row of one key whose boxes meet, each with the box that they have in common.
 ///
 /// The pairs are found on one side: for a left row the rights that begin within it there, and for a right row the lefts
-/// that begin within it and after its first cell, so each pair once. It is the side on which the rows are shortest for the
-/// length of the axis, since there the fewest overlap; on one side just the pairs that meet are found. That takes the time
-/// of a sort of the rows and of one of the pairs that overlap on that side. In the worst case, where many rows of one key
-/// overlap on every side and yet few meet, these pairs are as many as the left rows times the right rows of the key.
+/// that begin within it and after its first cell, so each pair once. It is the first side, by which the rows stand, unless
+/// they are at most half as long for the length of the axis on another one: then it is the side on which they are shortest
+/// so, since there the fewest overlap, and the rows are sorted by that side. On one side just the pairs that meet are
+/// found. That takes the time of a sort of the rows, where it is another side than the first, and of one of the pairs that
+/// overlap on that side. In the worst case, where many rows of one key overlap on every side and yet few meet, these pairs
+/// are as many as the left rows times the right rows of the key.
 pub fn overlaps<P: Label>(
     alloc: Global,
     sides: usize,

@@ -128,7 +128,7 @@ fn numbers_of<K: Label>(
     ensures count { IfOk result (λ v. length v.items ≡ length rows.now) }
     ensures numbers { IfOk result (λ v. HaveNumbers K.order rows.now others.now v.items) }
 {
-    let mut numbers = Vec::new(alloc);
+    let mut numbers = Vec::with_capacity(alloc, rows.len())?;
     let mut first = 0;
     let mut known = 0;
     for next in 0..rows.len() {
@@ -150,7 +150,7 @@ fn with_numbers<K: Drop>(
     ensures numbers { IfOk result (λ v. map (λ x. x.0) v.items ≡ numbers.now) }
     ensures boxes { IfOk result (λ v. boxes_in v.items ≡ boxes_in rows.items) }
 {
-    let mut out: Vec<Key<Number>> = Vec::new(alloc);
+    let mut out: Vec<Key<Number>> = Vec::with_capacity(alloc, rows.len())?;
     for row in rows {
         let value = numbers[out.len()];
         out.push(Key {
@@ -159,6 +159,30 @@ fn with_numbers<K: Drop>(
         })?;
     }
     Ok(out)
+}
+
+// The rows with the numbers as their keys, and the keys that they had.
+fn keys_apart<K: Drop>(
+    alloc: Global,
+    rows: Vec<Key<K>>,
+    numbers: &[usize],
+) -> Result<(Vec<Key<Number>>, Vec<K>), Memory>
+    requires { length numbers.now ≡ length rows.items }
+    ensures numbers { IfOk result (λ v. map (λ x. x.0) v.0.items ≡ numbers.now) }
+    ensures boxes { IfOk result (λ v. boxes_in v.0.items ≡ boxes_in rows.items) }
+    ensures keys { IfOk result (λ v. v.1.items ≡ map (λ x. x.0) rows.items) }
+{
+    let mut out: Vec<Key<Number>> = Vec::with_capacity(alloc, rows.len())?;
+    let mut keys = Vec::with_capacity(alloc, rows.len())?;
+    for row in rows {
+        let value = numbers[out.len()];
+        keys.push(row.label)?;
+        out.push(Key {
+            label: Number { value },
+            sides: row.sides,
+        })?;
+    }
+    Ok((out, keys))
 }
 
 // Rows in order with numbers for keys, which rise as the keys do.
@@ -176,4 +200,22 @@ pub fn numbered<K: Label>(
     let lefts = with_numbers(alloc, left, left_numbers.as_slice())?;
     let rights = with_numbers(alloc, right, right_numbers.as_slice())?;
     Ok((lefts, rights))
+}
+
+// The same, with the keys of the left rows: for rows whose key is their label.
+pub fn numbered_apart<K: Label>(
+    alloc: Global,
+    left: Vec<Key<K>>,
+    right: Vec<Key<K>>,
+) -> Result<(Vec<Key<Number>>, Vec<K>, Vec<Key<Number>>), Memory>
+    requires left { Ascend K.order left.items }
+    requires right { Ascend K.order right.items }
+    ensures numbers { IfOk result (λ v. AreNumbered left.items right.items v.0.items v.2.items) }
+    ensures keys { IfOk result (λ v. v.1.items ≡ map (λ x. x.0) left.items) }
+{
+    let left_numbers = numbers_of(alloc, left.as_slice(), right.as_slice())?;
+    let right_numbers = numbers_of(alloc, right.as_slice(), left.as_slice())?;
+    let (lefts, keys) = keys_apart(alloc, left, left_numbers.as_slice())?;
+    let rights = with_numbers(alloc, right, right_numbers.as_slice())?;
+    Ok((lefts, keys, rights))
 }

@@ -9,17 +9,17 @@ ghost use Rattle.box_core.specs.Meetings.{IsShared};
 ghost use Rattle.box_core.specs.Outside.{IsRest};
 ghost use Rattle.box_core.specs.Rows.{Ascend, KeyBox};
 
-use crate::keyed::{Keyed, keys_in_order, rows_in_order, with_own_keys};
-use crate::numbering::numbered;
+use crate::keyed::{Keyed, keys_in_order, rows_in_order};
+use crate::numbering::{numbered, numbered_apart};
 use crate::remaining::rest;
 use crate::sharing::shared;
 use number_order::Numbers;
 use point_core::{Label, Memory};
-use slice_core::{Key, pack_rows};
+use slice_core::{Key, pack_arranged};
 use std::alloc::Global;
 
 // What the left boxes have in common with the right boxes of their keys, packed.
-fn packed_shared<K: Label, P: Label>(
+fn packed_shared<K: Label, P: Label + Numbers>(
     alloc: Global,
     sides: usize,
     left: &[Key<K>],
@@ -36,34 +36,34 @@ fn packed_shared<K: Label, P: Label>(
     ensures sorted { IfOk result (λ v. IsStrictlySortedBy (key_cmp P.order) v.items) }
 {
     let parts = shared(alloc, sides, left, labels, right)?;
-    let out = pack_rows(alloc, sides, parts)?;
+    let out = pack_arranged(alloc, sides, parts)?;
     Ok(out)
 }
 
 // What of the left boxes is outside the right boxes of their keys, packed.
-fn packed_rest<K: Label, P: Label>(
+fn packed_rest<K: Label, P: Label + Numbers>(
     alloc: Global,
     sides: usize,
-    left: &[Key<K>],
-    labels: &[P],
+    left: Vec<Key<K>>,
+    labels: Vec<P>,
     right: &[Key<K>],
 ) -> Result<Vec<Key<P>>, Memory>
-    requires left { All (λ x. length x.1 ≡ sides) left.now }
+    requires left { All (λ x. length x.1 ≡ sides) left.items }
     requires right { All (λ x. length x.1 ≡ sides) right.now }
-    requires left_order { Ascend K.order left.now }
+    requires left_order { Ascend K.order left.items }
     requires right_order { Ascend K.order right.now }
-    requires labels { length labels.now ≡ length left.now }
-    ensures rows { IfOk result (λ v. (x : KeyBox P) → Among x v.items ↔ IsPackedRow sides (IsRest left.now labels.now right.now) x) }
-    ensures cover { IfOk result (λ v. IsPackedCover sides (IsRest left.now labels.now right.now) (IsBoxOf left.now) v.items) }
+    requires labels { length labels.items ≡ length left.items }
+    ensures rows { IfOk result (λ v. (x : KeyBox P) → Among x v.items ↔ IsPackedRow sides (IsRest left.items labels.items right.now) x) }
+    ensures cover { IfOk result (λ v. IsPackedCover sides (IsRest left.items labels.items right.now) (IsBoxOf left.items) v.items) }
     ensures sorted { IfOk result (λ v. IsStrictlySortedBy (key_cmp P.order) v.items) }
 {
     let parts = rest(alloc, sides, left, labels, right)?;
-    let out = pack_rows(alloc, sides, parts)?;
+    let out = pack_arranged(alloc, sides, parts)?;
     Ok(out)
 }
 
 /// The packed form of the labels of the left rows where a right row has their key.
-pub fn matching<K: Label + Numbers, P: Label>(
+pub fn matching<K: Label + Numbers, P: Label + Numbers>(
     alloc: Global,
     sides: usize,
     left: Vec<Keyed<K, P>>,
@@ -89,7 +89,7 @@ pub fn matching<K: Label + Numbers, P: Label>(
 }
 
 /// The packed form of the labels of the left rows where no right row has their key.
-pub fn not_matching<K: Label + Numbers, P: Label>(
+pub fn not_matching<K: Label + Numbers, P: Label + Numbers>(
     alloc: Global,
     sides: usize,
     left: Vec<Keyed<K, P>>,
@@ -104,13 +104,7 @@ pub fn not_matching<K: Label + Numbers, P: Label>(
     let (keys, labels) = keys_in_order(alloc, left)?;
     let others = rows_in_order(alloc, right)?;
     let (lefts, rights) = numbered(alloc, keys, others)?;
-    let out = packed_rest(
-        alloc,
-        sides,
-        lefts.as_slice(),
-        labels.as_slice(),
-        rights.as_slice(),
-    )?;
+    let out = packed_rest(alloc, sides, lefts, labels, rights.as_slice())?;
     Ok(out)
 }
 
@@ -127,8 +121,16 @@ pub fn intersect<P: Label + Numbers>(
     ensures cover { IfOk result (λ v. IsPackedCover sides (InBoth left.items right.items) (IsBoxOf left.items) v.items) }
     ensures sorted { IfOk result (λ v. IsStrictlySortedBy (key_cmp P.order) v.items) }
 {
-    let lefts = with_own_keys(alloc, left)?;
-    let out = matching(alloc, sides, lefts, right)?;
+    let lefts = rows_in_order(alloc, left)?;
+    let others = rows_in_order(alloc, right)?;
+    let (keys, labels, rights) = numbered_apart(alloc, lefts, others)?;
+    let out = packed_shared(
+        alloc,
+        sides,
+        keys.as_slice(),
+        labels.as_slice(),
+        rights.as_slice(),
+    )?;
     Ok(out)
 }
 
@@ -145,7 +147,9 @@ pub fn minus<P: Label + Numbers>(
     ensures cover { IfOk result (λ v. IsPackedCover sides (InFirst left.items right.items) (IsBoxOf left.items) v.items) }
     ensures sorted { IfOk result (λ v. IsStrictlySortedBy (key_cmp P.order) v.items) }
 {
-    let lefts = with_own_keys(alloc, left)?;
-    let out = not_matching(alloc, sides, lefts, right)?;
+    let lefts = rows_in_order(alloc, left)?;
+    let others = rows_in_order(alloc, right)?;
+    let (keys, labels, rights) = numbered_apart(alloc, lefts, others)?;
+    let out = packed_rest(alloc, sides, keys, labels, rights.as_slice())?;
     Ok(out)
 }

@@ -11,7 +11,7 @@ ghost use Rattle.box_core.specs.Rows.{IsRow};
 use crate::common::{both, first_cells};
 use crate::meeting::Meeting;
 use point_core::Memory;
-use slice_core::{IndexBox, Key};
+use slice_core::IndexBox;
 use std::alloc::Global;
 
 // Adds the piece with other cells on the side, if they are any.
@@ -26,7 +26,7 @@ fn push_part(
     ensures { OnOk result (sides_of out.new.items ≡ sides_of out.old.items ++ part piece.now.sides.items side cells) }
 {
     if cells.0 < cells.1 {
-        let mut sides = Vec::new(alloc);
+        let mut sides = Vec::with_capacity(alloc, piece.sides.len())?;
         sides.extend_from_slice(piece.sides.as_slice())?;
         sides[side] = cells;
         out.push(IndexBox { sides })?;
@@ -108,13 +108,11 @@ fn opened(
     Ok(next)
 }
 
-// The box of the row, alone.
-fn own_box<P>(alloc: Global, row: &Key<P>) -> Result<Vec<IndexBox>, Memory>
-    ensures { IfOk result (λ v. sides_of v.items ≡ row.now.1 ∷ []) }
+// The box of the sides, alone.
+fn one_box(alloc: Global, sides: Vec<(usize, usize)>) -> Result<Vec<IndexBox>, Memory>
+    ensures { IfOk result (λ v. sides_of v.items ≡ sides.items ∷ []) }
 {
-    let mut sides = Vec::new(alloc);
-    sides.extend_from_slice(row.sides.as_slice())?;
-    let mut out = Vec::new(alloc);
+    let mut out = Vec::with_capacity(alloc, 1)?;
     out.push(IndexBox { sides })?;
     Ok(out)
 }
@@ -129,26 +127,29 @@ fn push_all(out: &mut Vec<IndexBox>, boxes: Vec<IndexBox>) -> Result<(), Memory>
     Ok(())
 }
 
-// What of the row's box is outside the holes from `first` up to before `end`, which stand by their first cells. So a
-// piece that ends before a hole begins is not looked at again; on one side two pieces are open at most.
-pub fn less<P>(
+// What of the box of the sides is outside the holes from `first` up to before `end`, which stand by their first cells. So
+// a piece that ends before a hole begins is not looked at again; on one side two pieces are open at most.
+pub fn less(
     alloc: Global,
-    row: &Key<P>,
+    sides: Vec<(usize, usize)>,
     holes: &[Meeting],
     first: usize,
     end: usize,
 ) -> Result<Vec<IndexBox>, Memory>
     requires range { first ≤ end }
     requires within { end ≤ length holes.now }
-    requires same { (q : ℕ) (m : Met) → IsRow holes.now q m → first ≤ q → q < end → length m.1 ≡ length row.now.1 }
+    requires same { (q : ℕ) (m : Met) → IsRow holes.now q m → first ≤ q → q < end → length m.1 ≡ length sides.items }
     requires order { (q r : ℕ) (m n : Met) → IsRow holes.now q m → IsRow holes.now r n → first ≤ q → q ≤ r → r < end → (first_of m.1).0 ≤ (first_of n.1).0 }
-    ensures places { IfOk result (λ v. (place : List ℕ) → length place ≡ length row.now.1 →
-        HasBox (sides_of v.items) place ↔ At row.now.1 place × IsClear holes.now first end place) }
-    ensures lengths { IfOk result (λ v. All (λ x. length x.sides.items ≡ length row.now.1) v.items) }
-    ensures ends { IfOk result (λ v. (z : List (ℕ × ℕ)) → Among z (sides_of v.items) → EndsBy row.now.1 z) }
+    ensures places { IfOk result (λ v. (place : List ℕ) → length place ≡ length sides.items →
+        HasBox (sides_of v.items) place ↔ At sides.items place × IsClear holes.now first end place) }
+    ensures lengths { IfOk result (λ v. All (λ x. length x.sides.items ≡ length sides.items) v.items) }
+    ensures ends { IfOk result (λ v. (z : List (ℕ × ℕ)) → Among z (sides_of v.items) → EndsBy sides.items z) }
 {
+    let mut pieces = one_box(alloc, sides)?;
+    if first == end {
+        return Ok(pieces);
+    }
     let mut done = Vec::new(alloc);
-    let mut pieces = own_box(alloc, row)?;
     for h in first..end {
         pieces = opened(alloc, &mut done, pieces, &holes[h])?;
     }

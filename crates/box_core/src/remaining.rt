@@ -1,6 +1,7 @@
 // Left boxes less the right boxes of their keys.
-ghost use Rattle.std.specs.Prelude.{◌≡◌, ℕ, ◌<◌, ◌≤◌, ◌↔◌, ◌++◌, List, length, map, IsTrue, OnOk, IfOk};
+ghost use Rattle.std.specs.Prelude.{◌≡◌, ℕ, ◌<◌, ◌≤◌, ◌↔◌, ◌++◌, List, ◌∷◌, length, map, IsTrue, OnOk, IfOk};
 ghost use Rattle.std.specs.List.{All};
+ghost use Rattle.std.specs.Vec.Iter.{into_iter_items};
 ghost use Rattle.packing_core.specs.Covering.{Among};
 ghost use Rattle.slice_core.specs.PackedRows.{HasRow};
 ghost use Rattle.box_core.specs.Common.{EndsBy};
@@ -13,6 +14,7 @@ use crate::outside::less;
 use point_core::{Label, Memory};
 use slice_core::{IndexBox, Key};
 use std::alloc::Global;
+use std::vec::IntoIter;
 
 fn is_in(hole: &Meeting, row: usize) -> bool
     ensures { IsTrue result ↔ (hole.now.0.0 ≡ row) }
@@ -35,8 +37,8 @@ fn holes_end(holes: &[Meeting], first: usize, row: usize) -> usize
     end
 }
 
-// The parts, each with the label.
-fn push_labelled<Q: Label>(
+// Adds the parts, each with a copy of the label.
+fn push_copies<Q: Label>(
     alloc: Global,
     out: &mut Vec<Key<Q>>,
     label: &Q,
@@ -54,37 +56,72 @@ fn push_labelled<Q: Label>(
     Ok(())
 }
 
+// Adds the parts with the label: the last one gets the label itself, and the others get copies.
+fn push_labelled<Q: Label>(
+    alloc: Global,
+    out: &mut Vec<Key<Q>>,
+    label: Q,
+    parts: Vec<IndexBox>,
+) -> Result<(), Memory>
+    ensures { OnOk result (out.new.items ≡ out.old.items ++ map (λ x. (label, x.sides.items)) parts.items) }
+{
+    let mut others = parts;
+    if let Some(last) = others.pop() {
+        push_copies(alloc, out, &label, others)?;
+        out.push(Key {
+            label,
+            sides: last.sides,
+        })?;
+    }
+    Ok(())
+}
+
+// The sides of the next row.
+fn next_sides<P: Drop>(alloc: Global, rows: &mut IntoIter<Key<P>, Global>) -> Vec<(usize, usize)>
+    ensures { (x : KeyBox P) (xs : List (KeyBox P)) → into_iter_items rows.old ≡ x ∷ xs → (result.items ≡ x.1) × (into_iter_items rows.new ≡ xs) }
+{
+    match rows.next() {
+        Some(row) => row.sides,
+        None => Vec::new(alloc),
+    }
+}
+
 /// What of the left boxes is outside the right boxes of their keys, in boxes with the labels of the left rows.
 ///
 /// From a left box the holes that it has in common with rights are taken out in the order of their first cells. On one
 /// side that takes, after `overlaps`, the time of the holes and of the parts; rights of a key that are packed leave a
-/// part between each two of them, so these are not more than the rows and the answer together.
+/// part between each two of them, so these are not more than the rows and the answer together. A left box that stays
+/// whole is moved, and so is its label.
 pub fn rest<P: Label, Q: Label>(
     alloc: Global,
     sides: usize,
-    left: &[Key<P>],
-    labels: &[Q],
+    left: Vec<Key<P>>,
+    labels: Vec<Q>,
     right: &[Key<P>],
 ) -> Result<Vec<Key<Q>>, Memory>
-    requires left { All (λ x. length x.1 ≡ sides) left.now }
+    requires left { All (λ x. length x.1 ≡ sides) left.items }
     requires right { All (λ x. length x.1 ≡ sides) right.now }
-    requires left_order { Ascend P.order left.now }
+    requires left_order { Ascend P.order left.items }
     requires right_order { Ascend P.order right.now }
-    requires labels { length labels.now ≡ length left.now }
+    requires labels { length labels.items ≡ length left.items }
     ensures places { IfOk result (λ v. (l : Q) (place : List ℕ) → length place ≡ sides →
-        HasRow v.items l place ↔ IsRest left.now labels.now right.now l place) }
+        HasRow v.items l place ↔ IsRest left.items labels.items right.now l place) }
     ensures lengths { IfOk result (λ v. All (λ x. length x.1 ≡ sides) v.items) }
-    ensures ends { IfOk result (λ v. (z : KeyBox Q) → Among z v.items → (x : KeyBox P) × Among x left.now × EndsBy x.1 z.1) }
+    ensures ends { IfOk result (λ v. (z : KeyBox Q) → Among z v.items → (x : KeyBox P) × Among x left.items × EndsBy x.1 z.1) }
 {
-    let meetings = overlaps(alloc, sides, left, right)?;
+    let meetings = overlaps(alloc, sides, left.as_slice(), right)?;
     let holes = meetings.as_slice();
-    let mut out = Vec::new(alloc);
+    let mut out = Vec::with_capacity(alloc, left.len())?;
+    let mut rows = left.into_iter();
     let mut first = 0;
-    for row in 0..left.len() {
+    let mut row = 0;
+    for label in labels {
         let end = holes_end(holes, first, row);
-        let parts = less(alloc, &left[row], holes, first, end)?;
-        push_labelled(alloc, &mut out, &labels[row], parts)?;
+        let own = next_sides(alloc, &mut rows);
+        let parts = less(alloc, own, holes, first, end)?;
+        push_labelled(alloc, &mut out, label, parts)?;
         first = end;
+        row += 1;
     }
     Ok(out)
 }

@@ -34,7 +34,7 @@ fn with_left_labels<Q: Label>(
     requires { (m : Met) → Among m meetings.items → m.0.0 < length labels.now }
     ensures { IfOk result (λ v. (z : KeyBox Q) → Among z v.items ↔ IsLabelled labels.now meetings.items z) }
 {
-    let mut out = Vec::new(alloc);
+    let mut out = Vec::with_capacity(alloc, meetings.len())?;
     for m in meetings {
         let row = with_left_label(alloc, labels, m)?;
         out.push(row)?;

@@ -23,7 +23,7 @@ fn push_boxed<P: Drop>(
     ensures { OnOk result (out.new.items ≡ out.old.items ++ boxed cells label) }
 {
     if let Some(own) = label {
-        let mut sides = Vec::new(alloc);
+        let mut sides = Vec::with_capacity(alloc, 1)?;
         sides.push(cells)?;
         out.push(Key { label: own, sides })?;
     }

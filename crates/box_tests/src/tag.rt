@@ -2,7 +2,7 @@
 ghost use Rattle.std.specs.Prelude.{◌≡◌, IfOk};
 
 use box_core::PairRule;
-use number_order::Numbers;
+use number_order::{Lines, Numbers};
 use point_core::{Label, Memory};
 use std::alloc::Global;
 use std::cmp::Ordering;
@@ -43,12 +43,8 @@ impl Label for Tag {
 }
 
 impl Numbers for Tag {
-    fn count(&self) -> usize {
-        1
-    }
-
-    fn number_at(&self, _place: usize) -> u64 {
-        self.value
+    fn put_numbers(&self, lines: &mut Lines) {
+        lines.put(self.value);
     }
 }
 

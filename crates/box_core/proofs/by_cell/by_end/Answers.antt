@@ -6,7 +6,7 @@ use Rattle.box_core.proofs.by_cell.by_end.Goals as goal
 pub loop-r-init : goal.loop-r-init
 loop-r-init c =
     let number : ℕ → ℕ = λ r. (span_at c.args.spans.now r).1 in
-    subst (ArePairs number c.args.rows.0 c.args.rows.0) (sym c.new-out.ensures.items) (pairs_none number c.args.rows.0)
+    subst (ArePairs number c.args.rows.0 c.args.rows.0) (sym c.in_ok-out.ensures.items) (pairs_none number c.args.rows.0)
 
 pub loop-r-preserved : goal.loop-r-preserved
 loop-r-preserved c = pairs_more (λ r. (span_at c.args.spans.now r).1) c.args.rows.0 c.loop-r.r c.loop-r.out.items c.push.new.self.items (omega arith) c.in_ok-push.ensures.items c.loop-r.invariant

@@ -10,6 +10,6 @@ pub returns-clause-cuts : goal.returns-clause-cuts
 returns-clause-cuts c =
     let starts = c.args.starts.now in
     let ends = c.args.ends.now in
-    let first : c.push_cells.new.out.items ≡ map (λ (x : ℕ × ℕ). x.0) starts = c.in_ok-push_cells.ensures ∙ ap (λ (xs : List ℕ). xs ++ map (λ (x : ℕ × ℕ). x.0) starts) c.new-cuts.ensures.items in
+    let first : c.push_cells.new.out.items ≡ map (λ (x : ℕ × ℕ). x.0) starts = c.in_ok-push_cells.ensures ∙ ap (λ (xs : List ℕ). xs ++ map (λ (x : ℕ × ℕ). x.0) starts) c.in_ok-cuts.ensures.items in
     let both = c.in_ok-push_cells-2.ensures ∙ ap (λ (xs : List ℕ). xs ++ map (λ (x : ℕ × ℕ). x.0) ends) first in
     cells_sorted starts ends c.push_cells-2.new.out.items c.sort.new.self.items both c.in_ok-sort.ensures.permutation

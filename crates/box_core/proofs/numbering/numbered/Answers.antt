@@ -1,4 +1,4 @@
-use Rattle.std.proofs.Common.{ℕ, List, subst, ◌∙◌}
+use Rattle.std.proofs.Common.{List, subst, ◌∙◌}
 use Rattle.box_core.specs.KeyNumbers.{HaveNumbers}
 use Rattle.box_core.specs.Rows.{KeyBox}
 use Rattle.box_core.proofs.NumberLemmas.{are_numbered}

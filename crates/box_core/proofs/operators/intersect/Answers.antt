@@ -1,26 +1,78 @@
-use Rattle.std.proofs.Common.{◌≡◌, ℕ, ◌↔◌, List, length, map, subst, sym}
+use Rattle.std.proofs.Common.{◌≡◌, ℕ, ◌↔◌, List, length, subst, sym, ap, ◌∙◌}
 use Rattle.std.specs.List.{All}
+use Rattle.std.specs.Ordering.{nat_cmp}
 use Rattle.packing_core.specs.Covering.{Among}
-use Rattle.box_core.specs.Answers.{IsMatched, InBoth, IsPackedRow, IsPackedCover, IsBoxOf, IsBoxOfKeyed, KeyedBox}
-use Rattle.box_core.specs.Keys.{doubled}
-use Rattle.box_core.specs.Rows.{KeyBox}
-use Rattle.box_core.proofs.OperatorLemmas.{packed_same, cover_same, doubled_sides, box_of_doubled, in_both}
+use Rattle.box_core.specs.Answers.{InBoth, IsPackedRow, IsPackedCover, IsBoxOf}
+use Rattle.box_core.specs.Meetings.{IsShared}
+use Rattle.box_core.specs.Rows.{Ascend, KeyBox}
+use Rattle.box_core.proofs.NumberLemmas.{sides_numbered, numbered_count, numbered_box_of, numbered_both}
+use Rattle.box_core.proofs.OperatorLemmas.{packed_same, cover_same}
 use Rattle.box_core.proofs.operators.intersect.Goals as goal
 
-pub matching-requires-clause-left : goal.matching-requires-clause-left
-matching-requires-clause-left g c = subst (All (λ (x : KeyedBox _ _). length x.2 ≡ c.args.sides)) (sym c.in_ok-lefts.ensures) (doubled_sides c.args.left.items c.args.right.items c.args.sides c.requires.left)
+pub packed_shared-requires-clause-left : goal.packed_shared-requires-clause-left
+packed_shared-requires-clause-left g c = subst (All (λ (x : KeyBox _). length x.1 ≡ c.args.sides)) (sym c.as_slice.ensures.value) (sides_numbered c.args.sides c.in_ok-lefts.lefts.items c.in_ok-keys.keys.items c.in_ok-keys.ensures.numbers.left_boxes (c.in_ok-lefts.ensures.sides c.args.sides c.requires.left))
+
+pub packed_shared-requires-clause-right : goal.packed_shared-requires-clause-right
+packed_shared-requires-clause-right g c = subst (All (λ (x : KeyBox _). length x.1 ≡ c.args.sides)) (sym c.as_slice-3.ensures.value) (sides_numbered c.args.sides c.in_ok-others.others.items c.in_ok-keys.rights.items c.in_ok-keys.ensures.numbers.right_boxes (c.in_ok-others.ensures.sides c.args.sides c.requires.right))
+
+pub packed_shared-requires-clause-left_order : goal.packed_shared-requires-clause-left_order
+packed_shared-requires-clause-left_order g c = subst (Ascend nat_cmp) (sym c.as_slice.ensures.value) c.in_ok-keys.ensures.numbers.left_order
+
+pub packed_shared-requires-clause-right_order : goal.packed_shared-requires-clause-right_order
+packed_shared-requires-clause-right_order g c = subst (Ascend nat_cmp) (sym c.as_slice-3.ensures.value) c.in_ok-keys.ensures.numbers.right_order
+
+pub packed_shared-requires-clause-labels : goal.packed_shared-requires-clause-labels
+packed_shared-requires-clause-labels g c =
+    let left = c.args.left.items in
+    let right = c.args.right.items in
+    let sorted = c.in_ok-lefts.lefts.items in
+    let others = c.in_ok-others.others.items in
+    let ls = c.in_ok-lefts.ensures.same in
+    let rs = c.in_ok-others.ensures.same in
+    let keys = c.in_ok-keys.keys.items in
+    let labels = c.in_ok-keys.labels.items in
+    let rights = c.in_ok-keys.rights.items in
+    let own = c.in_ok-keys.ensures.keys in
+    let are = c.in_ok-keys.ensures.numbers in
+    ap length c.as_slice-2.ensures.value ∙ numbered_count left right sorted others ls rs labels own keys rights are ∙ sym (ap length c.as_slice.ensures.value)
 
 pub returns-clause-rows : goal.returns-clause-rows
 returns-clause-rows g c =
+    let left = c.args.left.items in
+    let right = c.args.right.items in
+    let sorted = c.in_ok-lefts.lefts.items in
+    let others = c.in_ok-others.others.items in
+    let ls = c.in_ok-lefts.ensures.same in
+    let rs = c.in_ok-others.ensures.same in
+    let keys = c.in_ok-keys.keys.items in
+    let labels = c.in_ok-keys.labels.items in
+    let rights = c.in_ok-keys.rights.items in
+    let own = c.in_ok-keys.ensures.keys in
+    let are = c.in_ok-keys.ensures.numbers in
     let k : ℕ = c.args.sides in
-    packed_same k (IsMatched (map doubled c.args.left.items) c.args.right.items) (InBoth c.args.left.items c.args.right.items) c.in_ok-out.out.items (in_both c.args.left.items c.args.right.items)
-    (subst (λ (ls : List (KeyedBox _ _)). (x : KeyBox _) → Among x c.in_ok-out.out.items ↔ IsPackedRow k (IsMatched ls c.args.right.items) x) c.in_ok-lefts.ensures c.in_ok-out.ensures.rows)
+    let out = c.in_ok-out.out.items in
+    packed_same k (IsShared keys labels rights) (InBoth left right) out (numbered_both left right sorted others ls rs labels own keys rights are)
+    (subst (λ (ks : List (KeyBox _)). (x : KeyBox _) → Among x out ↔ IsPackedRow k (IsShared ks labels rights) x) c.as_slice.ensures.value
+    (subst (λ (ns : List _). (x : KeyBox _) → Among x out ↔ IsPackedRow k (IsShared c.as_slice.result.now ns rights) x) c.as_slice-2.ensures.value
+    (subst (λ (os : List (KeyBox _)). (x : KeyBox _) → Among x out ↔ IsPackedRow k (IsShared c.as_slice.result.now c.as_slice-2.result.now os) x) c.as_slice-3.ensures.value c.in_ok-out.ensures.rows)))
 
 pub returns-clause-cover : goal.returns-clause-cover
 returns-clause-cover g c =
-    let k : ℕ = c.args.sides in
     let left = c.args.left.items in
     let right = c.args.right.items in
+    let sorted = c.in_ok-lefts.lefts.items in
+    let others = c.in_ok-others.others.items in
+    let ls = c.in_ok-lefts.ensures.same in
+    let rs = c.in_ok-others.ensures.same in
+    let keys = c.in_ok-keys.keys.items in
+    let labels = c.in_ok-keys.labels.items in
+    let rights = c.in_ok-keys.rights.items in
+    let own = c.in_ok-keys.ensures.keys in
+    let are = c.in_ok-keys.ensures.numbers in
+    let k : ℕ = c.args.sides in
     let out = c.in_ok-out.out.items in
-    cover_same k (IsMatched (map doubled left) right) (InBoth left right) (IsBoxOfKeyed (map doubled left)) (IsBoxOf left) out (in_both left right) (box_of_doubled left right)
-    (subst (λ (ls : List (KeyedBox _ _)). IsPackedCover k (IsMatched ls right) (IsBoxOfKeyed ls) out) c.in_ok-lefts.ensures c.in_ok-out.ensures.cover)
+    cover_same k (IsShared keys labels rights) (InBoth left right) (IsBoxOf keys) (IsBoxOf left) out
+    (numbered_both left right sorted others ls rs labels own keys rights are) (numbered_box_of left right sorted others ls rs labels own keys rights are)
+    (subst (λ (ks : List (KeyBox _)). IsPackedCover k (IsShared ks labels rights) (IsBoxOf ks) out) c.as_slice.ensures.value
+    (subst (λ (ns : List _). IsPackedCover k (IsShared c.as_slice.result.now ns rights) (IsBoxOf c.as_slice.result.now) out) c.as_slice-2.ensures.value
+    (subst (λ (os : List (KeyBox _)). IsPackedCover k (IsShared c.as_slice.result.now c.as_slice-2.result.now os) (IsBoxOf c.as_slice.result.now) out) c.as_slice-3.ensures.value c.in_ok-out.ensures.cover)))

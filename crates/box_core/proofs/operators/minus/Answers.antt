@@ -1,26 +1,74 @@
-use Rattle.std.proofs.Common.{◌≡◌, ℕ, ◌↔◌, List, length, map, subst, sym}
+use Rattle.std.proofs.Common.{◌≡◌, ℕ, ◌↔◌, List, length, subst, sym}
 use Rattle.std.specs.List.{All}
+use Rattle.std.specs.Ordering.{nat_cmp}
 use Rattle.packing_core.specs.Covering.{Among}
-use Rattle.box_core.specs.Answers.{IsUnmatched, InFirst, IsPackedRow, IsPackedCover, IsBoxOf, IsBoxOfKeyed, KeyedBox}
-use Rattle.box_core.specs.Keys.{doubled}
-use Rattle.box_core.specs.Rows.{KeyBox}
-use Rattle.box_core.proofs.OperatorLemmas.{packed_same, cover_same, doubled_sides, box_of_doubled, in_first}
+use Rattle.box_core.specs.Answers.{InFirst, IsPackedRow, IsPackedCover, IsBoxOf}
+use Rattle.box_core.specs.Outside.{IsRest}
+use Rattle.box_core.specs.Rows.{Ascend, KeyBox}
+use Rattle.box_core.proofs.NumberLemmas.{sides_numbered, numbered_count, numbered_box_of, numbered_first}
+use Rattle.box_core.proofs.OperatorLemmas.{packed_same, cover_same}
 use Rattle.box_core.proofs.operators.minus.Goals as goal
 
-pub not_matching-requires-clause-left : goal.not_matching-requires-clause-left
-not_matching-requires-clause-left g c = subst (All (λ (x : KeyedBox _ _). length x.2 ≡ c.args.sides)) (sym c.in_ok-lefts.ensures) (doubled_sides c.args.left.items c.args.right.items c.args.sides c.requires.left)
+pub packed_rest-requires-clause-left : goal.packed_rest-requires-clause-left
+packed_rest-requires-clause-left g c = sides_numbered c.args.sides c.in_ok-lefts.lefts.items c.in_ok-keys.keys.items c.in_ok-keys.ensures.numbers.left_boxes (c.in_ok-lefts.ensures.sides c.args.sides c.requires.left)
+
+pub packed_rest-requires-clause-right : goal.packed_rest-requires-clause-right
+packed_rest-requires-clause-right g c = subst (All (λ (x : KeyBox _). length x.1 ≡ c.args.sides)) (sym c.as_slice.ensures.value) (sides_numbered c.args.sides c.in_ok-others.others.items c.in_ok-keys.rights.items c.in_ok-keys.ensures.numbers.right_boxes (c.in_ok-others.ensures.sides c.args.sides c.requires.right))
+
+pub packed_rest-requires-clause-left_order : goal.packed_rest-requires-clause-left_order
+packed_rest-requires-clause-left_order g c = c.in_ok-keys.ensures.numbers.left_order
+
+pub packed_rest-requires-clause-right_order : goal.packed_rest-requires-clause-right_order
+packed_rest-requires-clause-right_order g c = subst (Ascend nat_cmp) (sym c.as_slice.ensures.value) c.in_ok-keys.ensures.numbers.right_order
+
+pub packed_rest-requires-clause-labels : goal.packed_rest-requires-clause-labels
+packed_rest-requires-clause-labels g c =
+    let left = c.args.left.items in
+    let right = c.args.right.items in
+    let sorted = c.in_ok-lefts.lefts.items in
+    let others = c.in_ok-others.others.items in
+    let ls = c.in_ok-lefts.ensures.same in
+    let rs = c.in_ok-others.ensures.same in
+    let keys = c.in_ok-keys.keys.items in
+    let labels = c.in_ok-keys.labels.items in
+    let rights = c.in_ok-keys.rights.items in
+    let own = c.in_ok-keys.ensures.keys in
+    let are = c.in_ok-keys.ensures.numbers in
+    numbered_count left right sorted others ls rs labels own keys rights are
 
 pub returns-clause-rows : goal.returns-clause-rows
 returns-clause-rows g c =
+    let left = c.args.left.items in
+    let right = c.args.right.items in
+    let sorted = c.in_ok-lefts.lefts.items in
+    let others = c.in_ok-others.others.items in
+    let ls = c.in_ok-lefts.ensures.same in
+    let rs = c.in_ok-others.ensures.same in
+    let keys = c.in_ok-keys.keys.items in
+    let labels = c.in_ok-keys.labels.items in
+    let rights = c.in_ok-keys.rights.items in
+    let own = c.in_ok-keys.ensures.keys in
+    let are = c.in_ok-keys.ensures.numbers in
     let k : ℕ = c.args.sides in
-    packed_same k (IsUnmatched (map doubled c.args.left.items) c.args.right.items) (InFirst c.args.left.items c.args.right.items) c.in_ok-out.out.items (in_first c.args.left.items c.args.right.items)
-    (subst (λ (ls : List (KeyedBox _ _)). (x : KeyBox _) → Among x c.in_ok-out.out.items ↔ IsPackedRow k (IsUnmatched ls c.args.right.items) x) c.in_ok-lefts.ensures c.in_ok-out.ensures.rows)
+    let out = c.in_ok-out.out.items in
+    packed_same k (IsRest keys labels rights) (InFirst left right) out (numbered_first left right sorted others ls rs labels own keys rights are)
+    (subst (λ (os : List (KeyBox _)). (x : KeyBox _) → Among x out ↔ IsPackedRow k (IsRest keys labels os) x) c.as_slice.ensures.value c.in_ok-out.ensures.rows)
 
 pub returns-clause-cover : goal.returns-clause-cover
 returns-clause-cover g c =
-    let k : ℕ = c.args.sides in
     let left = c.args.left.items in
     let right = c.args.right.items in
+    let sorted = c.in_ok-lefts.lefts.items in
+    let others = c.in_ok-others.others.items in
+    let ls = c.in_ok-lefts.ensures.same in
+    let rs = c.in_ok-others.ensures.same in
+    let keys = c.in_ok-keys.keys.items in
+    let labels = c.in_ok-keys.labels.items in
+    let rights = c.in_ok-keys.rights.items in
+    let own = c.in_ok-keys.ensures.keys in
+    let are = c.in_ok-keys.ensures.numbers in
+    let k : ℕ = c.args.sides in
     let out = c.in_ok-out.out.items in
-    cover_same k (IsUnmatched (map doubled left) right) (InFirst left right) (IsBoxOfKeyed (map doubled left)) (IsBoxOf left) out (in_first left right) (box_of_doubled left right)
-    (subst (λ (ls : List (KeyedBox _ _)). IsPackedCover k (IsUnmatched ls right) (IsBoxOfKeyed ls) out) c.in_ok-lefts.ensures c.in_ok-out.ensures.cover)
+    cover_same k (IsRest keys labels rights) (InFirst left right) (IsBoxOf keys) (IsBoxOf left) out
+    (numbered_first left right sorted others ls rs labels own keys rights are) (numbered_box_of left right sorted others ls rs labels own keys rights are)
+    (subst (λ (os : List (KeyBox _)). IsPackedCover k (IsRest keys labels os) (IsBoxOf keys) out) c.as_slice.ensures.value c.in_ok-out.ensures.cover)

@@ -1,4 +1,4 @@
-use Rattle.std.proofs.Common.{◌≡◌, ℕ, ◌↔◌, List, length, subst, sym, ap, ◌∙◌}
+use Rattle.std.proofs.Common.{◌≡◌, ℕ, ◌↔◌, List, length, subst, sym, ◌∙◌}
 use Rattle.std.specs.List.{All}
 use Rattle.std.specs.Ordering.{nat_cmp}
 use Rattle.packing_core.specs.Covering.{Among}
@@ -10,19 +10,19 @@ use Rattle.box_core.proofs.OperatorLemmas.{packed_same, cover_same}
 use Rattle.box_core.proofs.operators.not_matching.Goals as goal
 
 pub packed_rest-requires-clause-left : goal.packed_rest-requires-clause-left
-packed_rest-requires-clause-left g c = subst (All (λ (x : KeyBox _). length x.1 ≡ c.args.sides)) (sym c.as_slice.ensures.value) (sides_numbered c.args.sides c.in_ok-keys.keys.items c.in_ok-lefts.lefts.items c.in_ok-lefts.ensures.left_boxes (c.in_ok-keys.ensures.sides c.args.sides c.requires.left))
+packed_rest-requires-clause-left g c = sides_numbered c.args.sides c.in_ok-keys.keys.items c.in_ok-lefts.lefts.items c.in_ok-lefts.ensures.left_boxes (c.in_ok-keys.ensures.sides c.args.sides c.requires.left)
 
 pub packed_rest-requires-clause-right : goal.packed_rest-requires-clause-right
-packed_rest-requires-clause-right g c = subst (All (λ (x : KeyBox _). length x.1 ≡ c.args.sides)) (sym c.as_slice-3.ensures.value) (sides_numbered c.args.sides c.in_ok-others.others.items c.in_ok-lefts.rights.items c.in_ok-lefts.ensures.right_boxes (c.in_ok-others.ensures.sides c.args.sides c.requires.right))
+packed_rest-requires-clause-right g c = subst (All (λ (x : KeyBox _). length x.1 ≡ c.args.sides)) (sym c.as_slice.ensures.value) (sides_numbered c.args.sides c.in_ok-others.others.items c.in_ok-lefts.rights.items c.in_ok-lefts.ensures.right_boxes (c.in_ok-others.ensures.sides c.args.sides c.requires.right))
 
 pub packed_rest-requires-clause-left_order : goal.packed_rest-requires-clause-left_order
-packed_rest-requires-clause-left_order g c = subst (Ascend nat_cmp) (sym c.as_slice.ensures.value) c.in_ok-lefts.ensures.left_order
+packed_rest-requires-clause-left_order g c = c.in_ok-lefts.ensures.left_order
 
 pub packed_rest-requires-clause-right_order : goal.packed_rest-requires-clause-right_order
-packed_rest-requires-clause-right_order g c = subst (Ascend nat_cmp) (sym c.as_slice-3.ensures.value) c.in_ok-lefts.ensures.right_order
+packed_rest-requires-clause-right_order g c = subst (Ascend nat_cmp) (sym c.as_slice.ensures.value) c.in_ok-lefts.ensures.right_order
 
 pub packed_rest-requires-clause-labels : goal.packed_rest-requires-clause-labels
-packed_rest-requires-clause-labels g c = ap length c.as_slice-2.ensures.value ∙ c.in_ok-keys.ensures.paired.count ∙ count_numbered c.in_ok-keys.keys.items c.in_ok-lefts.lefts.items c.in_ok-lefts.ensures.left_boxes ∙ sym (ap length c.as_slice.ensures.value)
+packed_rest-requires-clause-labels g c = c.in_ok-keys.ensures.paired.count ∙ count_numbered c.in_ok-keys.keys.items c.in_ok-lefts.lefts.items c.in_ok-lefts.ensures.left_boxes
 
 pub returns-clause-rows : goal.returns-clause-rows
 returns-clause-rows g c =
@@ -35,9 +35,7 @@ returns-clause-rows g c =
     let are = c.in_ok-lefts.ensures in
     let k : ℕ = c.args.sides in
     packed_same k (IsRest lefts labels rights) (IsUnmatched c.args.left.items c.args.right.items) c.in_ok-out.out.items (numbered_unmatched c.args.left.items keys labels pairs lefts rights c.args.right.items others c.in_ok-others.ensures.same are)
-    (subst (λ (ks : List (KeyBox _)). (x : KeyBox _) → Among x c.in_ok-out.out.items ↔ IsPackedRow k (IsRest ks labels rights) x) c.as_slice.ensures.value
-    (subst (λ (ls : List _). (x : KeyBox _) → Among x c.in_ok-out.out.items ↔ IsPackedRow k (IsRest c.as_slice.result.now ls rights) x) c.as_slice-2.ensures.value
-    (subst (λ (rs : List (KeyBox _)). (x : KeyBox _) → Among x c.in_ok-out.out.items ↔ IsPackedRow k (IsRest c.as_slice.result.now c.as_slice-2.result.now rs) x) c.as_slice-3.ensures.value c.in_ok-out.ensures.rows)))
+    (subst (λ (rs : List (KeyBox _)). (x : KeyBox _) → Among x c.in_ok-out.out.items ↔ IsPackedRow k (IsRest lefts labels rs) x) c.as_slice.ensures.value c.in_ok-out.ensures.rows)
 
 pub returns-clause-cover : goal.returns-clause-cover
 returns-clause-cover g c =
@@ -52,6 +50,4 @@ returns-clause-cover g c =
     let out = c.in_ok-out.out.items in
     cover_same k (IsRest lefts labels rights) (IsUnmatched c.args.left.items c.args.right.items) (IsBoxOf lefts) (IsBoxOfKeyed c.args.left.items) out
     (numbered_unmatched c.args.left.items keys labels pairs lefts rights c.args.right.items others c.in_ok-others.ensures.same are) (numbered_box c.args.left.items keys labels pairs lefts rights others are)
-    (subst (λ (ks : List (KeyBox _)). IsPackedCover k (IsRest ks labels rights) (IsBoxOf ks) out) c.as_slice.ensures.value
-    (subst (λ (ls : List _). IsPackedCover k (IsRest c.as_slice.result.now ls rights) (IsBoxOf c.as_slice.result.now) out) c.as_slice-2.ensures.value
-    (subst (λ (rs : List (KeyBox _)). IsPackedCover k (IsRest c.as_slice.result.now c.as_slice-2.result.now rs) (IsBoxOf c.as_slice.result.now) out) c.as_slice-3.ensures.value c.in_ok-out.ensures.cover)))
+    (subst (λ (rs : List (KeyBox _)). IsPackedCover k (IsRest lefts labels rs) (IsBoxOf lefts) out) c.as_slice.ensures.value c.in_ok-out.ensures.cover)

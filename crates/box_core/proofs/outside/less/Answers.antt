@@ -1,45 +1,63 @@
-use Rattle.std.proofs.Common.{◌≡◌, ℕ, ◌≤◌, length, arith, subst, sym}
+use Rattle.std.proofs.Common.{◌≡◌, ℕ, ◌≤◌, [], length, arith, subst, sym, refl}
 use Rattle.std.specs.List.{All}
 use Rattle.slice_core.specs.Rows.{sides_of}
 use Rattle.slice_core.specs.declared.inward.IndexBox.{IndexBox}
 use Rattle.box_core.specs.Rows.{IsRow}
-use Rattle.box_core.proofs.LessLemmas.{IsSplit, all_sides, split_start, split_more, split_places, split_sides, split_ends}
+use Rattle.box_core.proofs.LessLemmas.{IsSplit, all_sides, split_start, split_more, split_places, split_sides, split_ends, whole}
 use Rattle.box_core.proofs.outside.less.Goals as goal
 
 pub loop-h-init : goal.loop-h-init
-loop-h-init g c = split_start c.args.row.now.1 c.args.holes.now c.args.first c.args.end c.new-done.result.items c.in_ok-pieces.pieces.items c.new-done.ensures.items c.in_ok-pieces.ensures
+loop-h-init c = split_start c.args.sides.items c.args.holes.now c.args.first c.args.end c.new-done.result.items c.in_ok-pieces.pieces.items c.new-done.ensures.items c.in_ok-pieces.ensures
 
 pub opened-requires : goal.opened-requires
-opened-requires g c =
+opened-requires c =
     let m = c.index-holes-h.result in
     let row : IsRow c.args.holes.now c.loop-h.h m = (omega arith, sym c.index-holes-h.is) in
     let e = c.requires.same c.loop-h.h m row (omega arith) (omega arith) in
-    record { same = subst (λ n. All (λ (x : IndexBox). length x.sides.items ≡ n) c.loop-h.pieces.items) (sym e) (all_sides c.loop-h.pieces.items (length c.args.row.now.1) c.loop-h.invariant.sides) }
+    record { same = subst (λ n. All (λ (x : IndexBox). length x.sides.items ≡ n) c.loop-h.pieces.items) (sym e) (all_sides c.loop-h.pieces.items (length c.args.sides.items) c.loop-h.invariant.sides) }
 
 pub loop-h-preserved : goal.loop-h-preserved
-loop-h-preserved g c =
+loop-h-preserved c =
     let m = c.index-holes-h.result in
     let h : ℕ = c.loop-h.h in
     let row : IsRow c.args.holes.now h m = (omega arith, sym c.index-holes-h.is) in
     let from : c.args.first ≤ h = omega arith in
-    split_more c.args.row.now.1 c.args.holes.now c.args.first c.args.end h from (omega arith) m row (c.requires.same h m row from (omega arith))
+    split_more c.args.sides.items c.args.holes.now c.args.first c.args.end h from (omega arith) m row (c.requires.same h m row from (omega arith))
     (λ r n a b d. c.requires.order h r m n row a from b d)
     c.loop-h.done.items c.loop-h.pieces.items c.opened.new.done.items c.in_ok-pieces-2.pieces.items c.in_ok-pieces-2.ensures.done c.in_ok-pieces-2.ensures.next c.loop-h.invariant
 
+pub returns-then-first-end-clause-places : goal.returns-then-first-end-clause-places
+returns-then-first-end-clause-places c =
+    let own = c.args.sides.items in
+    let pieces = c.in_ok-pieces.pieces.items in
+    split_places own c.args.holes.now c.args.first c.args.end [] pieces pieces refl (whole own c.args.holes.now c.args.first c.args.end pieces c.in_ok-pieces.ensures c.if-first-end.true)
+
+pub returns-then-first-end-clause-lengths : goal.returns-then-first-end-clause-lengths
+returns-then-first-end-clause-lengths c =
+    let own = c.args.sides.items in
+    let pieces = c.in_ok-pieces.pieces.items in
+    split_sides own c.args.holes.now c.args.first c.args.end [] pieces pieces refl (whole own c.args.holes.now c.args.first c.args.end pieces c.in_ok-pieces.ensures c.if-first-end.true)
+
+pub returns-then-first-end-clause-ends : goal.returns-then-first-end-clause-ends
+returns-then-first-end-clause-ends c =
+    let own = c.args.sides.items in
+    let pieces = c.in_ok-pieces.pieces.items in
+    split_ends own c.args.holes.now c.args.first c.args.end [] pieces pieces refl (whole own c.args.holes.now c.args.first c.args.end pieces c.in_ok-pieces.ensures c.if-first-end.true)
+
 pub returns-clause-places : goal.returns-clause-places
-returns-clause-places g c =
+returns-clause-places c =
     let e : c.loop-h.h ≡ c.args.end = omega arith in
-    split_places c.args.row.now.1 c.args.holes.now c.args.first c.args.end c.loop-h.done.items c.loop-h.pieces.items c.push_all.new.out.items c.in_ok-push_all.ensures
-    (subst (λ n. IsSplit c.args.row.now.1 c.args.holes.now c.args.first c.args.end n (sides_of c.loop-h.done.items) (sides_of c.loop-h.pieces.items)) e c.loop-h.invariant)
+    split_places c.args.sides.items c.args.holes.now c.args.first c.args.end c.loop-h.done.items c.loop-h.pieces.items c.push_all.new.out.items c.in_ok-push_all.ensures
+    (subst (λ n. IsSplit c.args.sides.items c.args.holes.now c.args.first c.args.end n (sides_of c.loop-h.done.items) (sides_of c.loop-h.pieces.items)) e c.loop-h.invariant)
 
 pub returns-clause-lengths : goal.returns-clause-lengths
-returns-clause-lengths g c =
+returns-clause-lengths c =
     let e : c.loop-h.h ≡ c.args.end = omega arith in
-    split_sides c.args.row.now.1 c.args.holes.now c.args.first c.args.end c.loop-h.done.items c.loop-h.pieces.items c.push_all.new.out.items c.in_ok-push_all.ensures
-    (subst (λ n. IsSplit c.args.row.now.1 c.args.holes.now c.args.first c.args.end n (sides_of c.loop-h.done.items) (sides_of c.loop-h.pieces.items)) e c.loop-h.invariant)
+    split_sides c.args.sides.items c.args.holes.now c.args.first c.args.end c.loop-h.done.items c.loop-h.pieces.items c.push_all.new.out.items c.in_ok-push_all.ensures
+    (subst (λ n. IsSplit c.args.sides.items c.args.holes.now c.args.first c.args.end n (sides_of c.loop-h.done.items) (sides_of c.loop-h.pieces.items)) e c.loop-h.invariant)
 
 pub returns-clause-ends : goal.returns-clause-ends
-returns-clause-ends g c =
+returns-clause-ends c =
     let e : c.loop-h.h ≡ c.args.end = omega arith in
-    split_ends c.args.row.now.1 c.args.holes.now c.args.first c.args.end c.loop-h.done.items c.loop-h.pieces.items c.push_all.new.out.items c.in_ok-push_all.ensures
-    (subst (λ n. IsSplit c.args.row.now.1 c.args.holes.now c.args.first c.args.end n (sides_of c.loop-h.done.items) (sides_of c.loop-h.pieces.items)) e c.loop-h.invariant)
+    split_ends c.args.sides.items c.args.holes.now c.args.first c.args.end c.loop-h.done.items c.loop-h.pieces.items c.push_all.new.out.items c.in_ok-push_all.ensures
+    (subst (λ n. IsSplit c.args.sides.items c.args.holes.now c.args.first c.args.end n (sides_of c.loop-h.done.items) (sides_of c.loop-h.pieces.items)) e c.loop-h.invariant)

@@ -3,4 +3,4 @@ use Rattle.box_core.proofs.LessLemmas.{IsSplit}
 use Rattle.box_core.proofs.outside.less.Given as goal
 
 abbrev pub invariant-loop-h : goal.invariant-loop-h
-invariant-loop-h g l = IsSplit l.row.1 l.holes l.first l.end l.h (sides_of l.done.items) (sides_of l.pieces.items)
+invariant-loop-h l = IsSplit l.fn.sides.items l.holes l.first l.end l.h (sides_of l.done.items) (sides_of l.pieces.items)

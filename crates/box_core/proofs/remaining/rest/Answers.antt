@@ -1,52 +1,116 @@
-use Rattle.std.proofs.Common.{◌↔◌, List, arith, subst, sym}
+use Rattle.std.proofs.Common.{◌≡◌, ℕ, ◌+◌, ◌↔◌, List, ◌∷◌, ◌++◌, [], length, drop, arith, rules, subst, sym, ap, ◌∙◌}
+use Rattle.std.proofs.lemmas.Iterator.Adapters.{YieldsList-from_vec}
+use Rattle.std.proofs.lemmas.Iterator.Consumers.{YieldsList-turn, YieldsList-end}
+use Rattle.std.proofs.lemmas.List.{length_push}
+use Rattle.std.specs.List.{All}
 use Rattle.packing_core.specs.Covering.{Among}
+use Rattle.slice_core.specs.Rows.{sides_of}
+use Rattle.slice_core.specs.declared.inward.IndexBox.{IndexBox}
+use Rattle.box_core.specs.Common.{At, EndsBy}
 use Rattle.box_core.specs.Meetings.{Met, IsMeeting, StandByLeft}
-use Rattle.box_core.specs.Rows.{IsRow}
-use Rattle.box_core.proofs.RestLemmas.{from_more, hole_sides, rest_turn, rest_sides, rest_ends}
+use Rattle.box_core.specs.Outside.{HasBox, IsClear}
+use Rattle.box_core.specs.Rows.{IsRow, KeyBox}
+use Rattle.box_core.proofs.RestLemmas.{from_more, hole_sides, hole_order, rest_turn, rest_sides, rest_ends, drop_row}
+use Rattle.box_core.proofs.RowLemmas.{row_there}
+use Rattle.box_core.proofs.SharedLemmas.{map_same}
 use Rattle.box_core.proofs.remaining.rest.Goals as goal
 
 pub less-requires-clause-same : goal.less-requires-clause-same
 less-requires-clause-same g c =
     let o = g.P.Label.order in
-    let left = c.args.left.now in
+    let t = g.met.P.Label.total in
+    let s = g.met.P.Label.separates in
+    let left = c.args.left.items in
+    let labels = c.args.labels.items in
     let right = c.args.right.now in
     let holes = c.as_slice-holes.result.now in
-    let is = subst (λ (ms : List Met). (m : Met) → Among m ms ↔ IsMeeting o left right m) (sym c.as_slice-holes.ensures.value) c.in_ok-meetings.ensures.members in
+    let met = subst (λ (ls : List (KeyBox _)). (m : Met) → Among m c.in_ok-meetings.meetings.items ↔ IsMeeting o ls right m) c.as_slice.ensures.value c.in_ok-meetings.ensures.members in
+    let is = subst (λ (ms : List Met). (m : Met) → Among m ms ↔ IsMeeting o left right m) (sym c.as_slice-holes.ensures.value) met in
     let stand = subst StandByLeft (sym c.as_slice-holes.ensures.value) c.in_ok-meetings.ensures.order in
-    let x = c.index-left-row.result in
-    let at : IsRow left c.loop-row.row x = (omega arith, sym c.index-left-row.is) in
+    let l0 = c.in-Some.label in
+    let turn = YieldsList-turn (YieldsList-from_vec {s = c.into_iter-label-iterator.result} labels (search rules) (search rules)) c.loop-label.yielded c.loop-label.label-iterator c.loop-label.yielded_by c.next.result c.next.new.self l0 c.in-Some.is c.next.ensures.steps in
+    let row : ℕ = c.loop-label.row in
+    let named : IsRow labels row l0 = subst (λ n. IsRow labels n l0) (sym c.loop-label.invariant.count) (turn.0, sym turn.1) in
+    let low = named.0 in
+    let there = row_there left row (omega (arith, c.requires.labels)) in
+    let x = there.0 in
+    let at = there.1 in
     let e = c.holes_end-end.ensures in
-    hole_sides o g.met.P.Label.total g.met.P.Label.separates left right c.args.sides c.requires.left c.requires.right holes is stand
-    c.loop-row.row c.loop-row.first c.holes_end-end.result c.loop-row.invariant.from e.from e.within e.same e.other x at
+    let own = c.next_sides-own.ensures x (drop (row + 1) left) (c.loop-label.invariant.rows ∙ drop_row left row x at) in
+    let sides : c.next_sides-own.result.items ≡ x.1 = own.0 in
+    λ q m h a b. hole_sides o t s left right c.args.sides c.requires.left c.requires.right holes is stand row c.loop-label.first c.holes_end-end.result c.loop-label.invariant.from e.from e.within e.same e.other x at q m h a b ∙ sym (ap length sides)
 
-pub loop-row-preserved : goal.loop-row-preserved
-loop-row-preserved g c =
+pub less-requires-clause-order : goal.less-requires-clause-order
+less-requires-clause-order g c =
     let o = g.P.Label.order in
     let t = g.met.P.Label.total in
     let s = g.met.P.Label.separates in
-    let left = c.args.left.now in
+    let left = c.args.left.items in
+    let labels = c.args.labels.items in
     let right = c.args.right.now in
     let holes = c.as_slice-holes.result.now in
-    let is = subst (λ (ms : List Met). (m : Met) → Among m ms ↔ IsMeeting o left right m) (sym c.as_slice-holes.ensures.value) c.in_ok-meetings.ensures.members in
+    let met = subst (λ (ls : List (KeyBox _)). (m : Met) → Among m c.in_ok-meetings.meetings.items ↔ IsMeeting o ls right m) c.as_slice.ensures.value c.in_ok-meetings.ensures.members in
+    let is = subst (λ (ms : List Met). (m : Met) → Among m ms ↔ IsMeeting o left right m) (sym c.as_slice-holes.ensures.value) met in
     let stand = subst StandByLeft (sym c.as_slice-holes.ensures.value) c.in_ok-meetings.ensures.order in
-    let x = c.index-left-row.result in
-    let at : IsRow left c.loop-row.row x = (omega arith, sym c.index-left-row.is) in
-    let l0 = c.index-labels-row.result in
-    let named : IsRow c.args.labels.now c.loop-row.row l0 = (omega arith, sym c.index-labels-row.is) in
+    let l0 = c.in-Some.label in
+    let turn = YieldsList-turn (YieldsList-from_vec {s = c.into_iter-label-iterator.result} labels (search rules) (search rules)) c.loop-label.yielded c.loop-label.label-iterator c.loop-label.yielded_by c.next.result c.next.new.self l0 c.in-Some.is c.next.ensures.steps in
+    let row : ℕ = c.loop-label.row in
+    let named : IsRow labels row l0 = subst (λ n. IsRow labels n l0) (sym c.loop-label.invariant.count) (turn.0, sym turn.1) in
+    let low = named.0 in
+    let there = row_there left row (omega (arith, c.requires.labels)) in
+    let x = there.0 in
+    let at = there.1 in
     let e = c.holes_end-end.ensures in
+    let own = c.next_sides-own.ensures x (drop (row + 1) left) (c.loop-label.invariant.rows ∙ drop_row left row x at) in
+    let sides : c.next_sides-own.result.items ≡ x.1 = own.0 in
+    hole_order o t s left right c.args.sides c.requires.left c.requires.right holes is stand row c.loop-label.first c.holes_end-end.result c.loop-label.invariant.from e.from e.within e.same e.other x at
+
+pub loop-label-preserved : goal.loop-label-preserved
+loop-label-preserved g c =
+    let o = g.P.Label.order in
+    let t = g.met.P.Label.total in
+    let s = g.met.P.Label.separates in
+    let left = c.args.left.items in
+    let labels = c.args.labels.items in
+    let right = c.args.right.now in
+    let holes = c.as_slice-holes.result.now in
+    let met = subst (λ (ls : List (KeyBox _)). (m : Met) → Among m c.in_ok-meetings.meetings.items ↔ IsMeeting o ls right m) c.as_slice.ensures.value c.in_ok-meetings.ensures.members in
+    let is = subst (λ (ms : List Met). (m : Met) → Among m ms ↔ IsMeeting o left right m) (sym c.as_slice-holes.ensures.value) met in
+    let stand = subst StandByLeft (sym c.as_slice-holes.ensures.value) c.in_ok-meetings.ensures.order in
+    let l0 = c.in-Some.label in
+    let turn = YieldsList-turn (YieldsList-from_vec {s = c.into_iter-label-iterator.result} labels (search rules) (search rules)) c.loop-label.yielded c.loop-label.label-iterator c.loop-label.yielded_by c.next.result c.next.new.self l0 c.in-Some.is c.next.ensures.steps in
+    let row : ℕ = c.loop-label.row in
+    let named : IsRow labels row l0 = subst (λ n. IsRow labels n l0) (sym c.loop-label.invariant.count) (turn.0, sym turn.1) in
+    let low = named.0 in
+    let there = row_there left row (omega (arith, c.requires.labels)) in
+    let x = there.0 in
+    let at = there.1 in
+    let e = c.holes_end-end.ensures in
+    let own = c.next_sides-own.ensures x (drop (row + 1) left) (c.loop-label.invariant.rows ∙ drop_row left row x at) in
+    let sides : c.next_sides-own.result.items ≡ x.1 = own.0 in
+    let longer : length (c.loop-label.yielded ++ l0 ∷ []) ≡ length c.loop-label.yielded + 1 = length_push c.loop-label.yielded l0 in
+    let parts = c.in_ok-parts.parts.items in
+    let places = subst (λ y. (place : List ℕ) → length place ≡ length y → HasBox (sides_of parts) place ↔ At y place × IsClear holes c.loop-label.first c.holes_end-end.result place) sides c.in_ok-parts.ensures.places in
+    let lengths = subst (λ (y : List (ℕ × ℕ)). All (λ (z : IndexBox). length z.sides.items ≡ length y) parts) sides c.in_ok-parts.ensures.lengths in
+    let ends = subst (λ y. (z : List (ℕ × ℕ)) → Among z (sides_of parts) → EndsBy y z) sides c.in_ok-parts.ensures.ends in
+    let made = c.in_ok-push_labelled.ensures in
     record {
-      from = from_more o t s left right c.args.sides c.requires.left c.requires.right holes is stand c.loop-row.row c.loop-row.first c.holes_end-end.result c.loop-row.invariant.from e.from e.within e.same e.other;
-      places = rest_turn o t s left right c.args.sides c.requires.left c.requires.right holes is stand c.loop-row.row c.loop-row.first c.holes_end-end.result c.loop-row.invariant.from e.from e.within e.same e.other x at
-          c.args.labels.now l0 named c.in_ok-parts.parts.items c.loop-row.out.items c.push_labelled.new.out.items c.in_ok-push_labelled.ensures c.in_ok-parts.ensures.places c.loop-row.invariant.places;
-      ends = rest_ends o t s left right c.args.sides c.requires.left c.requires.right holes is stand c.loop-row.row c.loop-row.first c.holes_end-end.result c.loop-row.invariant.from e.from e.within e.same e.other x at
-          c.args.labels.now l0 named c.in_ok-parts.parts.items c.loop-row.out.items c.push_labelled.new.out.items c.in_ok-push_labelled.ensures c.in_ok-parts.ensures.places c.loop-row.invariant.ends c.in_ok-parts.ensures.ends;
-      lengths = rest_sides o t s left right c.args.sides c.requires.left c.requires.right holes is stand c.loop-row.row c.loop-row.first c.holes_end-end.result c.loop-row.invariant.from e.from e.within e.same e.other x at
-          c.args.labels.now l0 named c.in_ok-parts.parts.items c.loop-row.out.items c.push_labelled.new.out.items c.in_ok-push_labelled.ensures c.in_ok-parts.ensures.places c.loop-row.invariant.lengths c.in_ok-parts.ensures.lengths;
+      can = search rules;
+      finite = search rules;
+      count = omega (arith, longer, c.loop-label.invariant.count);
+      rows = own.1;
+      from = from_more o t s left right c.args.sides c.requires.left c.requires.right holes is stand row c.loop-label.first c.holes_end-end.result c.loop-label.invariant.from e.from e.within e.same e.other;
+      places = rest_turn o t s left right c.args.sides c.requires.left c.requires.right holes is stand row c.loop-label.first c.holes_end-end.result c.loop-label.invariant.from e.from e.within e.same e.other x at labels l0 named parts c.loop-label.out.items c.push_labelled.new.out.items made places c.loop-label.invariant.places;
+      box_ends = rest_ends o t s left right c.args.sides c.requires.left c.requires.right holes is stand row c.loop-label.first c.holes_end-end.result c.loop-label.invariant.from e.from e.within e.same e.other x at labels l0 named parts c.loop-label.out.items c.push_labelled.new.out.items made places c.loop-label.invariant.box_ends ends;
+      lengths = rest_sides o t s left right c.args.sides c.requires.left c.requires.right holes is stand row c.loop-label.first c.holes_end-end.result c.loop-label.invariant.from e.from e.within e.same e.other x at labels l0 named parts c.loop-label.out.items c.push_labelled.new.out.items made places c.loop-label.invariant.lengths lengths;
     }
 
 pub returns-clause-places : goal.returns-clause-places
 returns-clause-places g c = λ l place f.
-    let v = c.loop-row.invariant.places l place f in (
+    let labels = c.args.labels.items in
+    let t = YieldsList-end (YieldsList-from_vec {s = c.into_iter-label-iterator.result} labels (search rules) (search rules)) c.loop-label.yielded c.loop-label.label-iterator c.loop-label.yielded_by c.next.result c.next.new.self c.in-None.is c.next.ensures.steps in
+    let all : length c.loop-label.yielded ≡ length labels = ap length (sym (map_same c.loop-label.yielded) ∙ t.0) in
+    let v = c.loop-label.invariant.places l place f in (
       λ h. let w = v.0 h in (w.0, w.2, w.3, w.4, w.5, w.6),
-      λ h. let w = h.2.0 in v.1 (h.0, omega arith, h.1, h.2, h.3, h.4, h.5),
+      λ h. let w = h.2.0 in v.1 (h.0, omega (arith, all, c.loop-label.invariant.count), h.1, h.2, h.3, h.4, h.5),
     )
