@@ -1,2 +1,1 @@
 pub mod KernelLemmas
-pub mod MovedLemmas

@@ -3,9 +3,9 @@ ghost use Rattle.std.specs.Prelude.{◌≡◌, length, IfOk};
 ghost use Rattle.std.specs.List.{All};
 ghost use Rattle.cell_kernels.specs.Fewer.{IsSameOrPacked};
 
-use number_order::{Numbers, arrange};
+use number_order::Numbers;
 use point_core::{Label, Memory};
-use slice_core::{Key, pack_rows};
+use slice_core::{Key, pack_arranged};
 use std::alloc::Global;
 
 /// On one side the rows packed label by label: they are no more than before, and no two of one label overlap, so an operator by keys meets few
@@ -22,8 +22,6 @@ pub fn fewer_rows<P: Label + Numbers>(
     if sides != 1 {
         return Ok(rows);
     }
-    let mut arranged = rows;
-    arrange(alloc, &mut arranged)?;
-    let packed = pack_rows(alloc, sides, arranged)?;
+    let packed = pack_arranged(alloc, sides, rows)?;
     Ok(packed)
 }

@@ -65,6 +65,11 @@ fits_push (b ∷ h) (w ∷ row) a v f g =
     let p = and_parts (fits b.1 w) (fits_heading h row) f in
     and_from (fits b.1 w) (fits_heading (h ++ a ∷ []) (row ++ v ∷ [])) p.0 (fits_push h row a v p.1 g)
 
+-- a list that has elements is its first one and the rest
+pub first_and_rest : {X : Type 0} (xs : List X) (d : X) → 0 < length xs → xs ≡ get_or xs 0 d ∷ drop 1 xs
+first_and_rest [] d h = absurd (omega arith)
+first_and_rest (x ∷ xs) d h = refl
+
 module _ (heading : Heading) (acl : List ℕ) (i : ℕ) (l : i < length heading) where
   abbrev here : Name × Kind
   here = get_or heading i ([], Truth)

@@ -1,10 +1,12 @@
 // The rows of boxes, as a relation.
-ghost use Rattle.std.specs.Prelude.{◌≡◌, ℕ, List, drop, get_or, slice_index_or, map, IfOk, IsTrue, MatchResult};
+ghost use Rattle.std.specs.Prelude.{◌≡◌, ℕ, List, ◌∷◌, drop, get_or, slice_index_or, map, IfOk, IsTrue, MatchResult};
+ghost use Rattle.std.specs.Vec.Iter.{into_iter_items};
 ghost use Rattle.std.specs.List.{All};
 ghost use Rattle.point_core.specs.Points.{line_of, number, IsPointOf};
 ghost use Rattle.value_core.specs.Attributes.{among};
 ghost use Rattle.packing_core.specs.Packed.{nowhere};
 ghost use Rattle.value_core.specs.Plain.{plain};
+ghost use Rattle.value_core.specs.declared.value.Value.{Value as Held};
 ghost use Rattle.value_core.specs.Relations.{all_fit};
 ghost use Rattle.value_core.specs.Values.{interval, fits, fits_heading, rows_of};
 ghost use Rattle.relation_core.specs.Answers.{IsAnswer, IsRefusal};
@@ -18,6 +20,7 @@ use crate::positions::{is_listed, place_of, type_of};
 use cell_core::{BoxRow, Sides};
 use point_core::{AnyType, Memory};
 use std::alloc::Global;
+use std::vec::IntoIter;
 use value_core::{Heading, Kind, Name, Relation, Row, RowsRefuse, Value};
 
 // The value of a listed attribute.
@@ -31,28 +34,37 @@ fn side_value(heading: &[(Name, Kind)], acl: &[usize], i: usize, sides: &Sides<A
     value_of(type_of(heading[i].1), &sides.list[place_of(acl, i)])
 }
 
-// The row of a box.
+// The next of the values; FALSE where there is none.
+fn next_value(values: &mut IntoIter<Value, Global>) -> Value
+    ensures { (x : Held) (xs : List Held) → into_iter_items values.old ≡ x ∷ xs → (result ≡ x) × (into_iter_items values.new ≡ xs) }
+{
+    match values.next() {
+        Some(value) => value,
+        None => Value::Truth(false),
+    }
+}
+
+// The row of the intervals and of the other values, which are moved.
 fn to_row(
     alloc: Global,
     heading: &[(Name, Kind)],
     acl: &[usize],
-    b: &BoxRow<AnyType, Row>,
+    label: Vec<Value>,
+    sides: &Sides<AnyType>,
 ) -> Result<Row, Memory>
     requires intervals { AreIntervals heading.now acl.now }
-    requires sides { IsBox IsPointOf (types_at heading.now acl.now) b.now.1 }
-    requires label { IsTrue (fits_heading (others acl.now heading.now) b.now.0) }
-    ensures row { IfOk result (λ r. r ≡ unboxed heading.now acl.now (row_numbers number b.now)) }
+    requires sides { IsBox IsPointOf (types_at heading.now acl.now) sides.now }
+    requires label { IsTrue (fits_heading (others acl.now heading.now) (map plain label.items)) }
+    ensures row { IfOk result (λ r. r ≡ unboxed heading.now acl.now (map plain label.items, box_numbers number sides.now)) }
     ensures fits { IfOk result (λ r. IsTrue (fits_heading heading.now r)) }
 {
-    let label = b.label.values();
+    let mut rest = label.into_iter();
     let mut values = Vec::with_capacity(alloc, heading.len())?;
-    let mut used = 0;
     for i in 0..heading.len() {
         if is_listed(acl, i) {
-            values.push(side_value(heading, acl, i, &b.sides))?;
+            values.push(side_value(heading, acl, i, sides))?;
         } else {
-            values.push(label[used].copy(alloc)?)?;
-            used += 1;
+            values.push(next_value(&mut rest))?;
         }
     }
     Ok(Row::make(values))
@@ -63,17 +75,18 @@ fn to_rows(
     alloc: Global,
     heading: &[(Name, Kind)],
     acl: &[usize],
-    boxes: &[BoxRow<AnyType, Row>],
+    boxes: Vec<BoxRow<AnyType, Row>>,
 ) -> Result<Vec<Row>, Memory>
     requires intervals { AreIntervals heading.now acl.now }
-    requires sides { All (λ b. IsBox IsPointOf (types_at heading.now acl.now) b.1) boxes.now }
-    requires labels { All (λ b. IsTrue (fits_heading (others acl.now heading.now) b.0)) boxes.now }
-    ensures rows { IfOk result (λ v. v.items ≡ map (unboxed heading.now acl.now) (map (row_numbers number) boxes.now)) }
+    requires sides { All (λ b. IsBox IsPointOf (types_at heading.now acl.now) b.1) boxes.items }
+    requires labels { All (λ b. IsTrue (fits_heading (others acl.now heading.now) b.0)) boxes.items }
+    ensures rows { IfOk result (λ v. v.items ≡ map (unboxed heading.now acl.now) (map (row_numbers number) boxes.items)) }
     ensures fits { IfOk result (λ v. IsTrue (all_fit heading.now v.items)) }
 {
     let mut rows = Vec::with_capacity(alloc, boxes.len())?;
     for b in boxes {
-        let row = to_row(alloc, heading, acl, b)?;
+        let label = b.label.into_values();
+        let row = to_row(alloc, heading, acl, label, &b.sides)?;
         rows.push(row)?;
     }
     Ok(rows)
@@ -93,6 +106,6 @@ pub fn from_boxes(
     ensures { let rows = rows_of (map (unboxed heading acl.now) (map (row_numbers number) boxes.items)) in
         MatchResult result (IsAnswer heading rows) (IsRefusal rows) }
 {
-    let rows = to_rows(alloc, heading.attributes(), acl, boxes.as_slice())?;
+    let rows = to_rows(alloc, heading.attributes(), acl, boxes)?;
     Relation::of_fitting(heading, rows)
 }
