@@ -8,6 +8,7 @@ mod labels;
 mod matches;
 mod matching;
 mod names;
+mod needed;
 mod places;
 mod shared;
 

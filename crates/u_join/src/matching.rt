@@ -12,6 +12,7 @@ ghost use Rattle.u_join.specs.Pairs.{matched_boxes, unmatched_boxes};
 ghost use Rattle.u_join.specs.Shared.{left_positions, right_positions};
 
 use crate::keys::{by_keys, with_keys};
+use crate::needed::fewer_where_many;
 use crate::shared::apart;
 use box_core::{matching, not_matching};
 use cell_core::{BoxRow, CellRefuse, CellRows, back, moved_over_cells};
@@ -22,8 +23,8 @@ use std::sync::ledger::Ledger;
 use u_set::copied_boxes;
 use value_core::Row;
 
-// The left boxes where a right box has their key, packed. The left boxes, and the right ones under their keys, are made fewer first where that
-// can be: then those of one key do not overlap.
+// The left boxes where a right box has their key, packed. The right boxes under their keys are made fewer first where that can be, and the left
+// ones where many rights begin within them: then those of one key do not overlap.
 fn matched_form<T: PointType, L: Ledger>(
     alloc: Global,
     types: &[T],
@@ -46,10 +47,10 @@ fn matched_form<T: PointType, L: Ledger>(
         left: l,
         right: r,
     } = moved_over_cells(alloc, types, left, right, steps)?;
-    let fewer_left = fewer_rows(alloc, types.len(), l)?;
     let keys = by_keys(alloc, r, there)?;
-    let lefts = with_keys(alloc, fewer_left, here)?;
     let rights = fewer_rows(alloc, types.len(), keys)?;
+    let fewer_left = fewer_where_many(alloc, types.len(), l, here, rights.as_slice())?;
+    let lefts = with_keys(alloc, fewer_left, here)?;
     let form = matching(alloc, types.len(), lefts, rights)?;
     let answer = back(alloc, types, sides.as_slice(), form)?;
     Ok(answer)
@@ -78,10 +79,10 @@ fn unmatched_form<T: PointType, L: Ledger>(
         left: l,
         right: r,
     } = moved_over_cells(alloc, types, left, right, steps)?;
-    let fewer_left = fewer_rows(alloc, types.len(), l)?;
     let keys = by_keys(alloc, r, there)?;
-    let lefts = with_keys(alloc, fewer_left, here)?;
     let rights = fewer_rows(alloc, types.len(), keys)?;
+    let fewer_left = fewer_where_many(alloc, types.len(), l, here, rights.as_slice())?;
+    let lefts = with_keys(alloc, fewer_left, here)?;
     let form = not_matching(alloc, types.len(), lefts, rights)?;
     let answer = back(alloc, types, sides.as_slice(), form)?;
     Ok(answer)

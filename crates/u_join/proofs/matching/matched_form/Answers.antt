@@ -10,8 +10,8 @@ use Rattle.u_join.specs.Keyed.{keyed}
 use Rattle.u_join.proofs.CellLemmas.{matched_within, matched_form}
 use Rattle.u_join.proofs.matching.matched_form.Goals as goal
 
-pub fewer_rows-requires-2 : goal.fewer_rows-requires-2
-fewer_rows-requires-2 g c =
+pub fewer_rows-requires : goal.fewer_rows-requires
+fewer_rows-requires g c =
     record {
       sides = All-same (λ x. length x.1 ≡ length c.args.types.now) c.in_ok-keys.keys.items (map (relabelled (part_of c.args.there.now)) c.in_ok-sides.field-0.right.items) c.in_ok-keys.ensures
           (All-map (λ x. length x.1 ≡ length c.args.types.now) (relabelled (part_of c.args.there.now)) c.in_ok-sides.field-0.right.items c.in_ok-sides.ensures.right_sides);
@@ -30,17 +30,17 @@ back-requires-clause-cells g c = λ x m. ((c.in_ok-form.ensures.rows x).0 m).0
 
 pub back-requires-clause-grids : goal.back-requires-clause-grids
 back-requires-clause-grids g c = λ j t e h.
-    subst (λ ss. IsGrid g.T.PointType.number_of (g.T.PointType.IsPoint (get_or c.args.types.now j t)) (g.T.PointType.last_number (get_or c.args.types.now j t)) (get_or ss j e)) (sym c.as_slice.ensures.value)
+    subst (λ ss. IsGrid g.T.PointType.number_of (g.T.PointType.IsPoint (get_or c.args.types.now j t)) (g.T.PointType.last_number (get_or c.args.types.now j t)) (get_or ss j e)) (sym c.as_slice-2.ensures.value)
     (grids g.T.PointType.number_of g.T.PointType.IsPoint g.T.PointType.last_number (λ t. (g.met.T.PointType.each t (g.T.PointType.first_number t) (omega (arith, ints)) (g.met.T.PointType.nonempty t)).0) c.args.types.now c.args.left.items c.args.right.items c.in_ok-sides.field-0.sides.items c.in_ok-sides.field-0.left.items c.in_ok-sides.field-0.right.items c.in_ok-sides.ensures.rows j t e h)
 
 pub back-requires-clause-within : goal.back-requires-clause-within
 back-requires-clause-within g c = λ x m s e h.
-    subst (λ ss. ((get_or {A = ℕ × ℕ} x.1 s (0, 0)).0 < (get_or {A = ℕ × ℕ} x.1 s (0, 0)).1) × ((get_or {A = ℕ × ℕ} x.1 s (0, 0)).1 ≤ length (get_or ss s e).0)) (sym c.as_slice.ensures.value)
+    subst (λ ss. ((get_or {A = ℕ × ℕ} x.1 s (0, 0)).0 < (get_or {A = ℕ × ℕ} x.1 s (0, 0)).1) × ((get_or {A = ℕ × ℕ} x.1 s (0, 0)).1 ≤ length (get_or ss s e).0)) (sym c.as_slice-2.ensures.value)
     (matched_within g.T.PointType.number_of g.T.PointType.IsPoint g.T.PointType.last_number (λ t. (g.met.T.PointType.each t (g.T.PointType.first_number t) (omega (arith, ints)) (g.met.T.PointType.nonempty t)).0) c.args.types.now c.args.left.items c.args.right.items c.in_ok-sides.field-0.sides.items c.in_ok-sides.field-0.left.items c.in_ok-sides.field-0.right.items c.in_ok-sides.ensures.rows c.args.here.now c.args.there.now c.in_ok-fewer_left.fewer_left.items c.in_ok-fewer_left.ensures.rows c.in_ok-lefts.lefts.items c.in_ok-lefts.ensures c.in_ok-form.form.items
     c.in_ok-keys.keys.items c.in_ok-rights.rights.items c.in_ok-keys.ensures c.in_ok-rights.ensures.rows c.in_ok-form.ensures.cover x m s e h)
 
 pub returns-clause-rows : goal.returns-clause-rows
 returns-clause-rows g c =
-    c.in_ok-answer.ensures.rows ∙ ap (λ ss. map (grid_row (grids_of g.T.PointType.number_of g.T.PointType.last_number c.args.types.now ss)) c.in_ok-form.form.items) c.as_slice.ensures.value
+    c.in_ok-answer.ensures.rows ∙ ap (λ ss. map (grid_row (grids_of g.T.PointType.number_of g.T.PointType.last_number c.args.types.now ss)) c.in_ok-form.form.items) c.as_slice-2.ensures.value
     ∙ matched_form g.T.PointType.number_of g.T.PointType.IsPoint g.T.PointType.last_number (λ t. (g.met.T.PointType.each t (g.T.PointType.first_number t) (omega (arith, ints)) (g.met.T.PointType.nonempty t)).0) c.args.types.now c.args.left.items c.args.right.items c.in_ok-sides.field-0.sides.items c.in_ok-sides.field-0.left.items c.in_ok-sides.field-0.right.items c.in_ok-sides.ensures.rows c.args.here.now c.args.there.now c.in_ok-fewer_left.fewer_left.items c.in_ok-fewer_left.ensures.rows c.in_ok-lefts.lefts.items c.in_ok-lefts.ensures c.in_ok-form.form.items
     c.in_ok-keys.keys.items c.in_ok-rights.rights.items c.in_ok-keys.ensures c.in_ok-rights.ensures.rows c.in_ok-form.ensures.cover c.in_ok-form.ensures.sorted
