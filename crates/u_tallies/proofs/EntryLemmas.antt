@@ -20,9 +20,6 @@ use Rattle.u_tallies.specs.Entries.{Listed, row_at, labelled_row, standing, keye
 
 -- ---- lists that are made one by one
 
-pub listed_none : {Z : Type 0} (f : ℕ → Z) (old : List Z) → old ≡ [] → Listed f 0 old
-listed_none f old e z = (λ h. absurd (subst (Among z) e h), λ h. let l = h.1 in absurd (omega (arith, l)))
-
 pub listed_more : {Z : Type 0} (f : ℕ → Z) (old new : List Z) (r : ℕ) (y : Z) → y ≡ f r → new ≡ old ++ y ∷ [] → Listed f r old → Listed f (r + 1) new
 listed_more f old new r y made e is z =
     let a = among_append z old (y ∷ []) in
@@ -41,9 +38,6 @@ listed_more f old new r y made e is z =
             | inr w ↦ let n : h.0 ≡ r = omega (arith, l, w) in inr (inl (made ∙ ap f (sym n) ∙ sym h.2))
           ])),
     )
-
-pub listed_all : {Z : Type 0} (f : ℕ → Z) (old : List Z) (r n : ℕ) → r ≤ n → n ≤ r → Listed f r old → Listed f n old
-listed_all f old r n w d is = let e : r ≡ n = omega (arith, w, d) in subst (λ m. Listed f m old) e is
 
 pub labelled_is : (rows : List (KeyBox Row)) (r : ℕ) (x : KeyBox Row) (y : KeyedBox Row ℕ) → get_or rows r ([], []) ≡ x → y ≡ (x.0, r, x.1) → y ≡ labelled_row rows r
 labelled_is rows r x y at made = made ∙ ap (λ (w : KeyBox Row). (w.0, r, w.1)) (sym at)

@@ -24,26 +24,27 @@ use value_core::Row;
 pub(crate) fn given_at_cells<G: GroupTally>(
     alloc: Global,
     sides: usize,
-    rows: &[Key<Row>],
+    rows: Vec<Key<Row>>,
     by: &[usize],
     rule: &G,
 ) -> Result<(Vec<Key<Row>>, Option<Fault>), Memory>
     requires one { sides ≡ 1 }
-    requires sides { All (λ x. length x.1 ≡ sides) rows.now }
-    requires takes { G.Takes rule.now (length rows.now) }
-    requires fits { G.Fits rule.now by.now (labels_in rows.now) }
+    requires sides { All (λ x. length x.1 ≡ sides) rows.items }
+    requires takes { G.Takes rule.now (length rows.items) }
+    requires fits { G.Fits rule.now by.now (labels_in rows.items) }
     ensures places { IfOk result (λ v. (l : PlainRow) (place : List ℕ) → length place ≡ sides →
-        HasRow v.0.items l place ↔ InCellGroup (G.means rule.now) by.now rows.now l place) }
+        HasRow v.0.items l place ↔ InCellGroup (G.means rule.now) by.now rows.items l place) }
     ensures lengths { IfOk result (λ v. All (λ x. length x.1 ≡ sides) v.0.items) }
-    ensures ends { IfOk result (λ v. (z : KeyBox PlainRow) → Among z v.0.items → (x : KeyBox PlainRow) × Among x rows.now × EndsBy x.1 z.1) }
-    ensures least { IfOk result (λ v. IsLeast (HasCellFault sides (G.means rule.now) by.now rows.now) v.1) }
+    ensures ends { IfOk result (λ v. (z : KeyBox PlainRow) → Among z v.0.items → (x : KeyBox PlainRow) × Among x rows.items × EndsBy x.1 z.1) }
+    ensures least { IfOk result (λ v. IsLeast (HasCellFault sides (G.means rule.now) by.now rows.items) v.1) }
 {
+    let count = rows.len();
     let list = entries(alloc, rows, by)?;
     let (keys, numbers) = keys_in_order(alloc, list)?;
     let tally = Counting {
         rule,
         numbers,
-        rows: rows.len(),
+        rows: count,
     };
     let mut least = None;
     let out = tallied(alloc, keys.as_slice(), &tally, &mut least)?;

@@ -1,5 +1,5 @@
 // Rows with the numbers that stand for their labels, under the parts of these.
-ghost use Rattle.std.specs.Prelude.{◌≡◌, ◌<◌, ◌+◌, ℕ, length, IfOk};
+ghost use Rattle.std.specs.Prelude.{◌≡◌, ◌<◌, ◌+◌, ℕ, length, get_or, IfOk};
 ghost use Rattle.std.specs.Ordering.{eq_by_cmp};
 ghost use Rattle.value_core.specs.Values.{row_cmp};
 ghost use Rattle.relation_core.specs.Agreement.{part_of};
@@ -9,31 +9,21 @@ use box_core::{Keyed, keys_in_order};
 use point_core::{Label, Memory};
 use slice_core::Key;
 use std::alloc::Global;
-use u_set::{copied_cells, part_of_label};
+use u_set::part_of_label;
 use value_core::Row;
 
-// The row with its number, under its label.
-fn with_label(alloc: Global, row: &Key<Row>, number: usize) -> Result<Keyed<Row, usize>, Memory>
-    ensures { IfOk result (λ z. z ≡ (row.now.0, number, row.now.1)) }
+// The rows with their numbers, moved under their labels.
+fn labelled(alloc: Global, rows: Vec<Key<Row>>) -> Result<Vec<Keyed<Row, usize>>, Memory>
+    ensures { IfOk result (λ v. Listed (labelled_row rows.items) (length rows.items) v.items) }
 {
-    let key = row.label.copy(alloc)?;
-    let sides = copied_cells(alloc, row.sides.as_slice())?;
-    Ok(Keyed {
-        key,
-        label: number,
-        sides,
-    })
-}
-
-// The rows with their numbers, under their labels.
-fn labelled(alloc: Global, rows: &[Key<Row>]) -> Result<Vec<Keyed<Row, usize>>, Memory>
-    ensures { IfOk result (λ v. Listed (labelled_row rows.now) (length rows.now) v.items) }
-{
-    let mut out = Vec::new(alloc);
-    for r in 0..rows.len() {
-        let row = &rows[r];
-        let entry = with_label(alloc, row, r)?;
-        out.push(entry)?;
+    let mut out = Vec::with_capacity(alloc, rows.len())?;
+    for row in rows {
+        let number = out.len();
+        out.push(Keyed {
+            key: row.label,
+            label: number,
+            sides: row.sides,
+        })?;
     }
     Ok(out)
 }
@@ -61,56 +51,73 @@ fn next_standing(keys: &[Key<Row>], numbers: &[usize], i: usize, before: usize) 
     numbers[i]
 }
 
-// The row with the number that stands for its label, under the part of this.
-fn with_part(
+// The numbers that stand for the labels of the rows.
+fn numbers_standing(
     alloc: Global,
-    row: &Key<Row>,
-    by: &[usize],
-    number: usize,
-) -> Result<Keyed<Row, usize>, Memory>
-    ensures { IfOk result (λ z. z ≡ (part_of by.now row.now.0, number, row.now.1)) }
-{
-    let key = part_of_label(alloc, &row.label, by)?;
-    let sides = copied_cells(alloc, row.sides.as_slice())?;
-    Ok(Keyed {
-        key,
-        label: number,
-        sides,
-    })
-}
-
-// The rows by their labels, with the numbers that stand for these, under the parts of them.
-fn with_parts(
-    alloc: Global,
-    by: &[usize],
     keys: &[Key<Row>],
     numbers: &[usize],
-) -> Result<Vec<Keyed<Row, usize>>, Memory>
+) -> Result<Vec<usize>, Memory>
     requires { length numbers.now ≡ length keys.now }
-    ensures { IfOk result (λ v. Listed (keyed_row by.now keys.now numbers.now) (length keys.now) v.items) }
+    ensures many { IfOk result (λ v. length v.items ≡ length keys.now) }
+    ensures each { IfOk result (λ v. (i : ℕ) → i < length keys.now → get_or v.items i 0 ≡ standing keys.now numbers.now i) }
 {
-    let mut out = Vec::new(alloc);
+    let mut out = Vec::with_capacity(alloc, keys.len())?;
     let mut before = 0;
     for i in 0..keys.len() {
         let number = next_standing(keys, numbers, i, before);
-        let row = &keys[i];
-        let entry = with_part(alloc, row, by, number)?;
-        out.push(entry)?;
+        out.push(number)?;
         before = number;
     }
     Ok(out)
 }
 
-/// The rows under the parts of their labels, with one number for each label: that of a row that has it.
+// The row with the number that stands for its label, moved under the part of this.
+fn with_part(
+    alloc: Global,
+    row: Key<Row>,
+    by: &[usize],
+    number: usize,
+) -> Result<Keyed<Row, usize>, Memory>
+    ensures { IfOk result (λ z. z ≡ (part_of by.now row.0, number, row.1)) }
+{
+    let key = part_of_label(alloc, &row.label, by)?;
+    Ok(Keyed {
+        key,
+        label: number,
+        sides: row.sides,
+    })
+}
+
+// The rows by their labels, with the numbers that stand for these, moved under the parts of them.
+fn with_parts(
+    alloc: Global,
+    by: &[usize],
+    keys: Vec<Key<Row>>,
+    numbers: &[usize],
+) -> Result<Vec<Keyed<Row, usize>>, Memory>
+    requires { length numbers.now ≡ length keys.items }
+    ensures { IfOk result (λ v. Listed (keyed_row by.now keys.items numbers.now) (length keys.items) v.items) }
+{
+    let standing = numbers_standing(alloc, keys.as_slice(), numbers)?;
+    let mut out = Vec::with_capacity(alloc, keys.len())?;
+    for row in keys {
+        let number = standing[out.len()];
+        let entry = with_part(alloc, row, by, number)?;
+        out.push(entry)?;
+    }
+    Ok(out)
+}
+
+/// The rows under the parts of their labels, with one number for each label: that of a row that has it. Their cells are moved.
 pub(crate) fn entries(
     alloc: Global,
-    rows: &[Key<Row>],
+    rows: Vec<Key<Row>>,
     by: &[usize],
 ) -> Result<Vec<Keyed<Row, usize>>, Memory>
-    ensures { IfOk result (λ v. AreKeyed by.now rows.now v.items) }
+    ensures { IfOk result (λ v. AreKeyed by.now rows.items v.items) }
 {
     let given = labelled(alloc, rows)?;
     let (keys, numbers) = keys_in_order(alloc, given)?;
-    let list = with_parts(alloc, by, keys.as_slice(), numbers.as_slice())?;
+    let list = with_parts(alloc, by, keys, numbers.as_slice())?;
     Ok(list)
 }

@@ -13,7 +13,7 @@ ghost use Rattle.u_groups.specs.Groups.{HasGroupFault, IsGroupForm, labels_in};
 
 use crate::cells::given_at_cells;
 use crate::rule::GroupTally;
-use cell_core::{BoxRow, CellRefuse, CellRows, back, rows_over_cells};
+use cell_core::{BoxRow, CellRefuse, CellRows, back, moved_over_cells};
 use point_core::{Fault, Memory, PointType, Steps};
 use slice_core::pack_rows;
 use std::alloc::Global;
@@ -25,28 +25,28 @@ use value_core::Row;
 fn group_form<T: PointType, G: GroupTally, L: Ledger>(
     alloc: Global,
     types: &[T],
-    rows: &[BoxRow<T, Row>],
+    rows: Vec<BoxRow<T, Row>>,
     by: &[usize],
     rule: &G,
     steps: &mut Steps<L>,
 ) -> Result<(Vec<BoxRow<T, Row>>, Option<Fault>), Memory>
     requires side { length types.now ≡ 1 }
-    requires takes { G.Takes rule.now (length rows.now) }
-    requires fits { G.Fits rule.now by.now (labels_in rows.now) }
-    requires boxes { All (λ b. IsBox T.IsPoint types.now b.1) rows.now }
-    ensures rows { IfOk result (λ v. IsGroupForm row_cmp (length types.now) (G.means rule.now) by.now (map (row_numbers T.number_of) rows.now)
+    requires takes { G.Takes rule.now (length rows.items) }
+    requires fits { G.Fits rule.now by.now (labels_in rows.items) }
+    requires boxes { All (λ b. IsBox T.IsPoint types.now b.1) rows.items }
+    ensures rows { IfOk result (λ v. IsGroupForm row_cmp (length types.now) (G.means rule.now) by.now (map (row_numbers T.number_of) rows.items)
         (map (row_numbers T.number_of) v.0.items)) }
     ensures boxes { IfOk result (λ v. All (λ b. IsBox T.IsPoint types.now b.1) v.0.items) }
-    ensures least { IfOk result (λ v. IsLeast (HasGroupFault (G.means rule.now) by.now (map (row_numbers T.number_of) rows.now)) v.1) }
-    ensures cost { steps.new ≤ steps.old + bound (length rows.now) (length types.now) }
+    ensures least { IfOk result (λ v. IsLeast (HasGroupFault (G.means rule.now) by.now (map (row_numbers T.number_of) rows.items)) v.1) }
+    ensures cost { steps.new ≤ steps.old + bound (length rows.items) (length types.now) }
 {
     let none: Vec<BoxRow<T, Row>> = Vec::new(alloc);
     let CellRows {
         sides,
         left,
         right: _,
-    } = rows_over_cells(alloc, types, rows, none.as_slice(), steps)?;
-    let (parts, least) = given_at_cells(alloc, types.len(), left.as_slice(), by, rule)?;
+    } = moved_over_cells(alloc, types, rows, none, steps)?;
+    let (parts, least) = given_at_cells(alloc, types.len(), left, by, rule)?;
     let form = pack_rows(alloc, types.len(), parts)?;
     let answer = back(alloc, types, sides.as_slice(), form)?;
     Ok((answer, least))
@@ -62,27 +62,27 @@ fn group_form<T: PointType, G: GroupTally, L: Ledger>(
 pub fn u_tally<T: PointType, G: GroupTally, L: Ledger>(
     alloc: Global,
     types: &[T],
-    rows: &[BoxRow<T, Row>],
+    rows: Vec<BoxRow<T, Row>>,
     by: &[usize],
     rule: &G,
     limit: usize,
     steps: &mut Steps<L>,
 ) -> Result<Vec<BoxRow<T, Row>>, CellRefuse>
     requires side { length types.now ≡ 1 }
-    requires takes { G.Takes rule.now (length rows.now) }
-    requires fits { G.Fits rule.now by.now (labels_in rows.now) }
-    requires boxes { All (λ b. IsBox T.IsPoint types.now b.1) rows.now }
-    ensures rows { IfOk result (λ v. IsGroupForm row_cmp (length types.now) (G.means rule.now) by.now (map (row_numbers T.number_of) rows.now)
+    requires takes { G.Takes rule.now (length rows.items) }
+    requires fits { G.Fits rule.now by.now (labels_in rows.items) }
+    requires boxes { All (λ b. IsBox T.IsPoint types.now b.1) rows.items }
+    ensures rows { IfOk result (λ v. IsGroupForm row_cmp (length types.now) (G.means rule.now) by.now (map (row_numbers T.number_of) rows.items)
         (map (row_numbers T.number_of) v.items)) }
     ensures boxes { IfOk result (λ v. All (λ b. IsBox T.IsPoint types.now b.1) v.items) }
     ensures few { IfOk result (λ v. length v.items ≤ limit) }
-    ensures no_fault { IfOk result (λ v. IsLeast (HasGroupFault (G.means rule.now) by.now (map (row_numbers T.number_of) rows.now)) None) }
+    ensures no_fault { IfOk result (λ v. IsLeast (HasGroupFault (G.means rule.now) by.now (map (row_numbers T.number_of) rows.items)) None) }
     ensures fault { (e : AnyFault) → result ≡ Err (OfOp e) →
-        IsLeast (HasGroupFault (G.means rule.now) by.now (map (row_numbers T.number_of) rows.now)) (Some e) }
-    ensures limit { result ≡ Err OfLimit → IsLeast (HasGroupFault (G.means rule.now) by.now (map (row_numbers T.number_of) rows.now)) None ×
+        IsLeast (HasGroupFault (G.means rule.now) by.now (map (row_numbers T.number_of) rows.items)) (Some e) }
+    ensures limit { result ≡ Err OfLimit → IsLeast (HasGroupFault (G.means rule.now) by.now (map (row_numbers T.number_of) rows.items)) None ×
         ((form : List (Boxed PlainRow)) ×
-        IsGroupForm row_cmp (length types.now) (G.means rule.now) by.now (map (row_numbers T.number_of) rows.now) form × (limit < length form)) }
-    ensures cost { steps.new ≤ steps.old + bound (length rows.now) (length types.now) }
+        IsGroupForm row_cmp (length types.now) (G.means rule.now) by.now (map (row_numbers T.number_of) rows.items) form × (limit < length form)) }
+    ensures cost { steps.new ≤ steps.old + bound (length rows.items) (length types.now) }
 {
     let (form, least) = group_form(alloc, types, rows, by, rule, steps)?;
     match least {

@@ -115,7 +115,7 @@ fn figured_form<L: Ledger>(
     u_tally(
         alloc,
         types.as_slice(),
-        boxes.as_slice(),
+        boxes,
         keys.as_slice(),
         &rule,
         MOST_ROWS,

@@ -11,5 +11,5 @@ returns c =
     let numbers = c.in_ok-keys.numbers.items in
     let by = c.args.by.now in
     let made : Listed (keyed_row by keys numbers) (length keys) c.in_ok-list.list.items =
-    subst (λ (w : List (KeyBox Row) × List ℕ). Listed (keyed_row by w.0 w.1) (length w.0) c.in_ok-list.list.items) (λ t. (c.as_slice.ensures.value t, c.as_slice-2.ensures.value t)) c.in_ok-list.ensures in
-    keyed c.args.rows.now c.in_ok-given.given.items c.in_ok-given.ensures keys numbers c.in_ok-keys.ensures.paired c.in_ok-keys.ensures.order by c.in_ok-list.list.items made
+    subst (λ (w : List (KeyBox Row) × List ℕ). Listed (keyed_row by w.0 w.1) (length w.0) c.in_ok-list.list.items) (λ t. (keys, c.as_slice.ensures.value t)) c.in_ok-list.ensures in
+    keyed c.args.rows.items c.in_ok-given.given.items c.in_ok-given.ensures keys numbers c.in_ok-keys.ensures.paired c.in_ok-keys.ensures.order by c.in_ok-list.list.items made

@@ -1,24 +1,33 @@
-use Rattle.std.proofs.Common.{◌<◌, [], length, arith, sym, ◌∙◌}
+use Rattle.std.proofs.Common.{◌≡◌, ◌+◌, [], ◌∷◌, ◌++◌, length, rules, arith, sym, ap, ◌∙◌, subst}
+use Rattle.std.proofs.lemmas.Iterator.Adapters.{YieldsList-from_vec}
+use Rattle.std.proofs.lemmas.Iterator.Consumers.{YieldsList-turn, YieldsList-end}
+use Rattle.std.proofs.lemmas.List.{length_push}
 use Rattle.packing_core.proofs.Numbered.{other_default}
-use Rattle.u_tallies.specs.Entries.{labelled_row}
-use Rattle.u_tallies.proofs.EntryLemmas.{listed_none, listed_more, listed_all, labelled_is}
+use Rattle.u_tallies.specs.Entries.{Listed, labelled_row}
+use Rattle.u_tallies.proofs.EntryLemmas.{listed_more, labelled_is}
 use Rattle.u_tallies.proofs.entries.labelled.Goals as goal
 
-pub loop-r-init : goal.loop-r-init
-loop-r-init c = record {
-  within = omega arith;
-  members = listed_none (labelled_row c.args.rows.now) c.new-out.result.items c.new-out.ensures.items;
-}
-
-pub loop-r-preserved : goal.loop-r-preserved
-loop-r-preserved c =
-    let rows = c.args.rows.now in
-    let lt : c.loop-r.r < length rows = c.loop-r-test.true in
+pub loop-row-preserved : goal.loop-row-preserved
+loop-row-preserved c =
+    let rows = c.args.rows.items in
+    let x = c.in-Some.row in
+    let done = c.loop-row.yielded in
+    let t = YieldsList-turn (YieldsList-from_vec {s = c.into_iter-row-iterator.result} rows (search rules) (search rules)) done c.loop-row.row-iterator c.loop-row.yielded_by c.next.result c.next.new.self x c.in-Some.is c.next.ensures.steps in
+    let n = length_push done x in
+    let m : length done + 1 ≡ length (done ++ x ∷ []) = omega (arith, n) in
+    let number : c.len-number.result ≡ length done = omega (arith, c.len-number.ensures, c.loop-row.invariant.count) in
     record {
-      within = omega (arith, lt);
-      members = listed_more (labelled_row rows) c.loop-r.out.items c.push.new.self.items c.loop-r.r c.in_ok-entry.entry
-          (labelled_is rows c.loop-r.r c.index-rows-r.result c.in_ok-entry.entry (other_default rows c.loop-r.r ([], []) c.index-rows-r.result lt ∙ sym c.index-rows-r.is) c.in_ok-entry.ensures) c.in_ok-push.ensures.items c.loop-r.invariant.members;
+      can = tt;
+      ends = tt;
+      count = ap length c.in_ok-push.ensures.items ∙ length_push c.loop-row.out.items _ ∙ (let i = c.loop-row.invariant.count in omega (arith, i, n));
+      members = subst (λ k. Listed (labelled_row rows) k c.push.new.self.items) m
+          (listed_more (labelled_row rows) c.loop-row.out.items c.push.new.self.items (length done) (c.row.inside.label, c.len-number.result, c.row.inside.sides.items)
+          (labelled_is rows (length done) x (c.row.inside.label, c.len-number.result, c.row.inside.sides.items) (other_default rows (length done) ([], []) x t.0 ∙ sym t.1) (λ i. ((c.row.view_is i).0, number i, (c.row.view_is i).1)))
+          c.in_ok-push.ensures.items c.loop-row.invariant.members);
     }
 
 pub returns : goal.returns
-returns c = listed_all (labelled_row c.args.rows.now) c.loop-r.out.items c.loop-r.r (length c.args.rows.now) c.loop-r.invariant.within (let l = c.loop-r-test.false in omega (arith, l)) c.loop-r.invariant.members
+returns c =
+    let rows = c.args.rows.items in
+    let t = YieldsList-end (YieldsList-from_vec {s = c.into_iter-row-iterator.result} rows (search rules) (search rules)) c.loop-row.yielded c.loop-row.row-iterator c.loop-row.yielded_by c.next.result c.next.new.self c.in-None.is c.next.ensures.steps in
+    subst (λ k. Listed (labelled_row rows) k c.loop-row.out.items) t.1 c.loop-row.invariant.members

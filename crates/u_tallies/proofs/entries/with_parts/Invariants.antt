@@ -1,10 +1,11 @@
-use Rattle.std.proofs.Common.{◌≡◌, ◌≤◌, ◌+◌, ℕ, length}
-use Rattle.u_tallies.specs.Entries.{Listed, keyed_row, standing}
+use Rattle.std.proofs.Common.{◌≡◌, length}
+use Rattle.u_tallies.specs.Entries.{Listed, keyed_row}
 use Rattle.u_tallies.proofs.entries.with_parts.Given as goal
 
-abbrev pub invariant-loop-i : goal.invariant-loop-i
-invariant-loop-i l = record {
-  within : l.i ≤ length l.keys;
-  before : (j : ℕ) → l.i ≡ j + 1 → l.before ≡ standing l.keys l.numbers j;
-  members : Listed (keyed_row l.by l.keys l.numbers) l.i l.out.items;
+abbrev pub invariant-loop-row : goal.invariant-loop-row
+invariant-loop-row l = record {
+  can : (goal.iterator-loop-row).can_next l.row-iterator;
+  ends : (goal.iterator-loop-row).is_finite l.row-iterator;
+  count : length l.out.items ≡ length l.yielded;
+  members : Listed (keyed_row l.by l.fn.keys.items l.numbers) (length l.yielded) l.out.items;
 }

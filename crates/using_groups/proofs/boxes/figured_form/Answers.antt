@@ -27,45 +27,45 @@ pub u_tally-requires-clause-takes : goal.u_tally-requires-clause-takes
 u_tally-requires-clause-takes g c =
     let r = c.args.r.now in
     let acl = c.args.acl.now in
-    let same = (λ t. map (row_numbers number) (c.as_slice-2.ensures.value t)) ∙ c.in_ok-boxes.ensures.rows in
-    let many : length c.as_slice-2.result.now ≡ length r.rows = sym (length-map c.as_slice-2.result.now (row_numbers number)) ∙ ap length same ∙ length-map r.rows (boxed acl) in
-    all_long r.rows (map read_aggregate c.args.aggregates.now) c.args.parts.columns.items (length c.as_slice-2.result.now) c.requires.figured.columns (sym many)
+    let same = c.in_ok-boxes.ensures.rows in
+    let many : length c.in_ok-boxes.boxes.items ≡ length r.rows = sym (length-map c.in_ok-boxes.boxes.items (row_numbers number)) ∙ ap length same ∙ length-map r.rows (boxed acl) in
+    all_long r.rows (map read_aggregate c.args.aggregates.now) c.args.parts.columns.items (length c.in_ok-boxes.boxes.items) c.requires.figured.columns (sym many)
 
 pub u_tally-requires-clause-fits : goal.u_tally-requires-clause-fits
 u_tally-requires-clause-fits g c =
     let r = c.args.r.now in
     let acl = c.args.acl.now in
     let gs = map read_aggregate c.args.aggregates.now in
-    let same = (λ t. map (row_numbers number) (c.as_slice-2.ensures.value t)) ∙ c.in_ok-boxes.ensures.rows in
-    let labels = labels_of_boxes acl r.rows c.as_slice-2.result.now same in
-    let count : length (labels_in c.as_slice-2.result.now) ≡ length r.rows = ap length labels ∙ length-map r.rows (others acl) in (
-      fits_labels acl c.args.parts.places.items c.args.to.now c.args.at.now (inner acl c.args.by.now) c.as_slice-3.result.now gs r.rows c.rows.result.now (labels_in c.as_slice-2.result.now) c.args.parts.columns.items c.requires.figured
-          (c.as_slice-3.ensures.value ∙ c.in_ok-keys.ensures) c.rows.ensures.rows labels,
-      all_long r.rows gs c.args.parts.columns.items (length (labels_in c.as_slice-2.result.now)) c.requires.figured.columns (sym count),
+    let same = c.in_ok-boxes.ensures.rows in
+    let labels = labels_of_boxes acl r.rows c.in_ok-boxes.boxes.items same in
+    let count : length (labels_in c.in_ok-boxes.boxes.items) ≡ length r.rows = ap length labels ∙ length-map r.rows (others acl) in (
+      fits_labels acl c.args.parts.places.items c.args.to.now c.args.at.now (inner acl c.args.by.now) c.as_slice-2.result.now gs r.rows c.rows.result.now (labels_in c.in_ok-boxes.boxes.items) c.args.parts.columns.items c.requires.figured
+          (c.as_slice-2.ensures.value ∙ c.in_ok-keys.ensures) c.rows.ensures.rows labels,
+      all_long r.rows gs c.args.parts.columns.items (length (labels_in c.in_ok-boxes.boxes.items)) c.requires.figured.columns (sym count),
     )
 
 pub returns-clause-rows : goal.returns-clause-rows
 returns-clause-rows g c =
     let acl = c.args.acl.now in
     let many = ap length (c.as_slice.ensures.value ∙ c.in_ok-types.ensures) ∙ length-map acl (λ i. type_of (kind_at c.attributes.result.now i)) in
-    let same = (λ t. map (row_numbers number) (c.as_slice-2.ensures.value t)) ∙ c.in_ok-boxes.ensures.rows in
-    let keys = c.as_slice-3.ensures.value ∙ c.in_ok-keys.ensures in
+    let same = c.in_ok-boxes.ensures.rows in
+    let keys = c.as_slice-2.ensures.value ∙ c.in_ok-keys.ensures in
     subst (λ (w : ℕ × List Row × List ℕ × List (Boxed Row)). IfOk c.u_tally.result (λ v.
     IsGroupForm {F = Fault} row_cmp w.0 (group_label c.args.to.now c.args.at.now (map read_aggregate c.args.aggregates.now) w.1) w.2 w.3 (map (row_numbers number) v.items)))
     (λ t. (many t, c.rows.ensures.rows t, keys t, same t)) c.u_tally.ensures.rows
 
 pub returns-clause-no_fault : goal.returns-clause-no_fault
 returns-clause-no_fault g c =
-    let same = (λ t. map (row_numbers number) (c.as_slice-2.ensures.value t)) ∙ c.in_ok-boxes.ensures.rows in
-    let keys = c.as_slice-3.ensures.value ∙ c.in_ok-keys.ensures in
+    let same = c.in_ok-boxes.ensures.rows in
+    let keys = c.as_slice-2.ensures.value ∙ c.in_ok-keys.ensures in
     subst (λ (w : List Row × List ℕ × List (Boxed Row)). IfOk c.u_tally.result (λ v.
     IsLeast (HasGroupFault (group_label c.args.to.now c.args.at.now (map read_aggregate c.args.aggregates.now) w.0) w.1 w.2) None))
     (λ t. (c.rows.ensures.rows t, keys t, same t)) c.u_tally.ensures.no_fault
 
 pub returns-clause-fault : goal.returns-clause-fault
 returns-clause-fault g c =
-    let same = (λ t. map (row_numbers number) (c.as_slice-2.ensures.value t)) ∙ c.in_ok-boxes.ensures.rows in
-    let keys = c.as_slice-3.ensures.value ∙ c.in_ok-keys.ensures in
+    let same = c.in_ok-boxes.ensures.rows in
+    let keys = c.as_slice-2.ensures.value ∙ c.in_ok-keys.ensures in
     subst (λ (w : List Row × List ℕ × List (Boxed Row)). (e : Fault) → c.u_tally.result ≡ Err (OfOp e) →
     IsLeast (HasGroupFault (group_label c.args.to.now c.args.at.now (map read_aggregate c.args.aggregates.now) w.0) w.1 w.2) (Some e))
     (λ t. (c.rows.ensures.rows t, keys t, same t)) c.u_tally.ensures.fault
@@ -74,8 +74,8 @@ pub returns-clause-limit : goal.returns-clause-limit
 returns-clause-limit g c =
     let acl = c.args.acl.now in
     let many = ap length (c.as_slice.ensures.value ∙ c.in_ok-types.ensures) ∙ length-map acl (λ i. type_of (kind_at c.attributes.result.now i)) in
-    let same = (λ t. map (row_numbers number) (c.as_slice-2.ensures.value t)) ∙ c.in_ok-boxes.ensures.rows in
-    let keys = c.as_slice-3.ensures.value ∙ c.in_ok-keys.ensures in
+    let same = c.in_ok-boxes.ensures.rows in
+    let keys = c.as_slice-2.ensures.value ∙ c.in_ok-keys.ensures in
     subst (λ (w : ℕ × List Row × List ℕ × List (Boxed Row)). c.u_tally.result ≡ Err OfLimit →
     IsLeast (HasGroupFault (group_label c.args.to.now c.args.at.now (map read_aggregate c.args.aggregates.now) w.1) w.2 w.3) None
     × ((form : List (Boxed Row)) × IsGroupForm {F = Fault} row_cmp w.0 (group_label c.args.to.now c.args.at.now (map read_aggregate c.args.aggregates.now) w.1) w.2 w.3 form × (most_rows < length form)))
@@ -86,6 +86,6 @@ returns-clause-cost g c =
     let r = c.args.r.now in
     let acl = c.args.acl.now in
     let many = ap length (c.as_slice.ensures.value ∙ c.in_ok-types.ensures) ∙ length-map acl (λ i. type_of (kind_at c.attributes.result.now i)) in
-    let same = (λ t. map (row_numbers number) (c.as_slice-2.ensures.value t)) ∙ c.in_ok-boxes.ensures.rows in
-    let rows : length c.as_slice-2.result.now ≡ length r.rows = sym (length-map c.as_slice-2.result.now (row_numbers number)) ∙ ap length same ∙ length-map r.rows (boxed acl) in
+    let same = c.in_ok-boxes.ensures.rows in
+    let rows : length c.in_ok-boxes.boxes.items ≡ length r.rows = sym (length-map c.in_ok-boxes.boxes.items (row_numbers number)) ∙ ap length same ∙ length-map r.rows (boxed acl) in
     subst (λ (w : ℕ × ℕ). c.u_tally.new.steps ≤ c.args.steps.now + bound w.0 w.1) (λ t. (rows t, many t)) c.u_tally.ensures.cost
