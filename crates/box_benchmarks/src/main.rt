@@ -1,69 +1,19 @@
-// How long operators over labelled boxes take, key by key, against one sort of the same rows in the same run.
+// How long operators over labelled boxes take, key by key, against one sort of the same rows in the same run. The labels are rows of values, as
+// those of relations are.
 #![tactic(auto)]
 
 ghost use Rattle.std.specs.Prelude.{ℕ, ◌<◌, ◌≤◌};
 
+mod histories;
 mod rows;
+mod timing;
 
-use box_tests::{Operator, Small, answer, totalled};
-use point_core::{Code, Fault, Memory, Place};
+use box_tests::{Operator, Small};
 use rows::{Kind, drawn};
-use std::alloc::Global;
-use std::time::{Clock, Instant};
 use std::{env, io};
+use timing::{or_error, time_of, time_of_counts, time_of_sort};
 
 const USAGE: &str = "usage: box_benchmarks one|each|tenth|two|cover|quarter NUMBER_OF_ROWS";
-
-fn wants_memory() -> io::Error {
-    io::Error::from(io::ErrorKind::OutOfMemory)
-}
-
-fn or_error<T: Drop>(answer: Result<T, Memory>) -> io::Result<T> {
-    match answer {
-        Ok(value) => Ok(value),
-        Err(_) => Err(wants_memory()),
-    }
-}
-
-// The time of one sort of the rows.
-fn time_of_sort<C: Clock>(clock: &C, alloc: Global, rows: &[Small]) -> io::Result<u128> {
-    let mut list = Vec::new(alloc);
-    list.extend_from_slice(rows)?;
-    let start = Instant::now(clock)?;
-    list.sort()?;
-    let spent = start.elapsed(clock)?.as_nanos();
-    Ok(spent)
-}
-
-// The time of the operator, and how many rows it gives.
-fn time_of<C: Clock>(
-    clock: &C,
-    alloc: Global,
-    sides: usize,
-    operator: Operator,
-    left: &[Small],
-    right: &[Small],
-) -> io::Result<(u128, usize)>
-    requires some { 0 < sides }
-    requires few { sides ≤ 2 }
-{
-    let start = Instant::now(clock)?;
-    let rows = or_error(answer(alloc, sides, operator, left, right))?;
-    let spent = start.elapsed(clock)?.as_nanos();
-    Ok((spent, rows.len()))
-}
-
-// The time of the counts and sums of the rows at each cell, and how many parts there are.
-fn time_of_counts<C: Clock>(clock: &C, alloc: Global, rows: &[Small]) -> io::Result<(u128, usize)> {
-    let fault = Fault {
-        place: Place { line: 1, column: 1 },
-        code: Code::E30,
-    };
-    let start = Instant::now(clock)?;
-    let (counts, _) = or_error(totalled(alloc, rows, fault))?;
-    let spent = start.elapsed(clock)?.as_nanos();
-    Ok((spent, counts.len()))
-}
 
 // What the words ask for, if they ask for a run.
 fn asked(words: &[String]) -> Option<(Kind, u32)> {
@@ -95,27 +45,31 @@ fn tell(rt: &HostRuntime, name: &str, spent: (u128, usize), sort: u128) -> io::R
 fn tell_all(rt: &HostRuntime, kind: Kind, left: &[Small], right: &[Small]) -> io::Result<()> {
     let alloc = rt.alloc();
     let sides = kind.sides();
-    let sort = time_of_sort(rt, alloc, left)?;
-    tell(rt, "sort", (sort, left.len()), sort)?;
+    let sort = time_of_sort(rt, alloc, sides, left, right)?;
+    tell(rt, "sort", sort, sort.0)?;
+    if let Kind::Cover = kind {
+        let spent = time_of(rt, alloc, sides, Operator::Join, left, right)?;
+        return tell(rt, "join", spent, sort.0);
+    }
     let spent = time_of(rt, alloc, sides, Operator::Intersect, left, right)?;
-    tell(rt, "intersect", spent, sort)?;
+    tell(rt, "intersect", spent, sort.0)?;
     let spent = time_of(rt, alloc, sides, Operator::Minus, left, right)?;
-    tell(rt, "minus", spent, sort)?;
+    tell(rt, "minus", spent, sort.0)?;
     let spent = time_of(rt, alloc, sides, Operator::Matching, left, right)?;
-    tell(rt, "matching", spent, sort)?;
+    tell(rt, "matching", spent, sort.0)?;
     let spent = time_of(rt, alloc, sides, Operator::NotMatching, left, right)?;
-    tell(rt, "not_matching", spent, sort)?;
+    tell(rt, "not_matching", spent, sort.0)?;
     let spent = time_of(rt, alloc, sides, Operator::Join, left, right)?;
-    tell(rt, "join", spent, sort)?;
+    tell(rt, "join", spent, sort.0)?;
     Ok(())
 }
 
 fn tell_counts(rt: &HostRuntime, rows: &[Small]) -> io::Result<()> {
     let alloc = rt.alloc();
-    let sort = time_of_sort(rt, alloc, rows)?;
-    tell(rt, "sort", (sort, rows.len()), sort)?;
+    let sort = time_of_sort(rt, alloc, 1, rows, &[])?;
+    tell(rt, "sort", sort, sort.0)?;
     let spent = time_of_counts(rt, alloc, rows)?;
-    tell(rt, "counts", spent, sort)?;
+    tell(rt, "counts", spent, sort.0)?;
     Ok(())
 }
 

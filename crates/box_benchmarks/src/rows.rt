@@ -103,13 +103,25 @@ fn row(seed: &mut u64, kind: Kind, i: u32, count: u32) -> Small {
     }
 }
 
-/// The rows of a run.
+// Exchanges the row with one before it, or with itself.
+fn exchange(rows: &mut [Small], at: usize, seed: &mut u64) {
+    let most = u32::try_from(at).unwrap_or(0).saturating_add(1);
+    let other = below(seed, most) as usize;
+    if at < rows.len() && other < rows.len() {
+        rows.swap(at, other);
+    }
+}
+
+/// The rows of a run, in no order.
 pub fn drawn(alloc: Global, kind: Kind, count: u32, first: u64) -> Result<Vec<Small>, Memory> {
     let mut out = Vec::new(alloc);
     let mut seed = first;
     for i in 0..count {
         let x = row(&mut seed, kind, i, count);
         out.push(x)?;
+    }
+    for at in 0..out.len() {
+        exchange(out.as_mut_slice(), at, &mut seed);
     }
     Ok(out)
 }
