@@ -2,6 +2,7 @@ pub mod Steps
 pub mod Turns
 pub mod LeastFaultLemmas
 pub mod UnitedLemmas
+pub mod TwoSidesLemmas
 pub mod LabelRows
 pub mod Sweeping
 pub mod OneSideLemmas

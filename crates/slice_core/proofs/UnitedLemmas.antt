@@ -166,7 +166,7 @@ covers_alone s k i =
     empty : (a z : ℕ) → ltb a z ≡ false → a ≤ i → i < z → ⊥
     empty a z e l m = grind (arith, nat_tests)
 
-abbrev spans : List (List (ℕ × ℕ)) → List ℕ → List (Piece Row)
+abbrev pub spans : List (List (ℕ × ℕ)) → List ℕ → List (Piece Row)
 spans boxes live = flat_map (λ r. alone (no_sides bare) (span_of boxes 0 r)) live
 
 spans_cover : (boxes : List (List (ℕ × ℕ))) (live : List ℕ) (k : Row) (i : ℕ) → Covers R (spans boxes live) k i ↔ (k.1 ≡ []) × ((r : ℕ) × Among r live × (side_has boxes 0 i r ≡ true))

@@ -3,3 +3,4 @@ pub mod LeastFault
 pub mod PackedRows
 pub mod Sweeps
 pub mod Parted
+pub mod TwoSides

@@ -7,7 +7,7 @@ use std::alloc::Global;
 use std::cmp::Ordering;
 
 // The one label of rows that have none.
-#[derive(Drop)]
+#[derive(PartialEq, Eq, PartialOrd, Ord, Drop)]
 pub struct Bare;
 
 impl Label for Bare {

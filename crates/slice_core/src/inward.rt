@@ -39,7 +39,7 @@ pub fn live_at(
     requires sides { All (λ x. side < length x.sides.items) boxes.now }
     ensures { IfOk result (λ v. v.items ≡ filter (side_has (sides_of boxes.now) side cell) live.now) }
 {
-    let mut out = Vec::new(alloc);
+    let mut out = Vec::with_capacity(alloc, live.len())?;
     for r in live {
         let here = has(boxes[*r].sides[side], cell);
         if here {
@@ -99,7 +99,7 @@ fn with_side<P: Drop>(p: Piece<Key<P>>) -> Result<Key<P>, Memory>
 pub fn with_sides<P: Drop>(alloc: Global, pieces: Vec<Piece<Key<P>>>) -> Result<Vec<Key<P>>, Memory>
     ensures { IfOk result (λ v. v.items ≡ map with_last pieces.items) }
 {
-    let mut out = Vec::new(alloc);
+    let mut out = Vec::with_capacity(alloc, pieces.len())?;
     for p in pieces {
         let row = with_side(p)?;
         out.push(row)?;

@@ -31,7 +31,7 @@ fn first_cells(
     requires sides { All (λ x. side < length x.sides.items) boxes.now }
     ensures { IfOk result (λ v. v.items ≡ map (λ r. ((span_of (sides_of boxes.now) side r).0, r)) rows.now) }
 {
-    let mut out = Vec::new(alloc);
+    let mut out = Vec::with_capacity(alloc, rows.len())?;
     for r in rows {
         let span = boxes[*r].sides[side];
         out.push((span.0, *r))?;

@@ -16,7 +16,7 @@ use Rattle.slice_core.proofs.Steps.{sorted_nil}
 use Rattle.slice_core.proofs.Turns.{not_below_zero, all_below, AreRows-filter}
 use Rattle.slice_core.proofs.Sweeping.{sweep_later, starts_below, live_below}
 use Rattle.slice_core.proofs.UnitedLemmas.{Row, R, order, total, separates, none_united, is_nil, is_not_nil, one_sorted, one_row_united, united_rows, united_sorted, covers_below, united_turn, IsBeside, beside, all_passed}
-use Rattle.slice_core.proofs.united.+united.Goals.{then-begin-end+in_ok-sweep-2+in_ok-rows-3+in_ok-push_pieces, else-begin-end}
+use Rattle.slice_core.proofs.united.+united.Goals.{then-begin-end+in_ok-sweep-2+in_ok-rows-4+in_ok-push_pieces, else-begin-end}
 use Rattle.slice_core.proofs.united.+united.Goals as goal
 
 pub returns-then-is_empty-clause-rows : goal.returns-then-is_empty-clause-rows
@@ -89,23 +89,23 @@ loop-i-preserved t c =
     let P : Piece Row → Type 0 = λ x. x.begin < x.end in
     record {
       some = elim c.if-begin-end.branch [
-        | then-begin-end+in_ok-sweep-2+in_ok-rows-3+in_ok-push_pieces w ↦
-            let q : c.if-begin-end.pieces.items ≡ c.loop-i.pieces.items ++ map (tag a z) w.in_ok-rows-3.rows.items = ap (λ (v : Vec (Piece (Key Bare)) Global). v.items) w.pieces-is ∙ w.in_ok-push_pieces.ensures in
+        | then-begin-end+in_ok-sweep-2+in_ok-rows-4+in_ok-push_pieces w ↦
+            let q : c.if-begin-end.pieces.items ≡ c.loop-i.pieces.items ++ map (tag a z) w.in_ok-rows-4.rows.items = ap (λ (v : Vec (Piece (Key Bare)) Global). v.items) w.pieces-is ∙ w.in_ok-push_pieces.ensures in
             let less : a < z = w.if-begin-end.true in
-            All-same P c.if-begin-end.pieces.items (c.loop-i.pieces.items ++ map (tag a z) w.in_ok-rows-3.rows.items) q
-            (All-append P c.loop-i.pieces.items (map (tag a z) w.in_ok-rows-3.rows.items) c.loop-i.invariant.some (All-map P (tag a z) w.in_ok-rows-3.rows.items (λ k d m. less)))
+            All-same P c.if-begin-end.pieces.items (c.loop-i.pieces.items ++ map (tag a z) w.in_ok-rows-4.rows.items) q
+            (All-append P c.loop-i.pieces.items (map (tag a z) w.in_ok-rows-4.rows.items) c.loop-i.invariant.some (All-map P (tag a z) w.in_ok-rows-4.rows.items (λ k d m. less)))
         | else-begin-end w ↦
             let q : c.if-begin-end.pieces.items ≡ c.loop-i.pieces.items = ap (λ (v : Vec (Piece (Key Bare)) Global). v.items) w.pieces-is in
             All-same P c.if-begin-end.pieces.items c.loop-i.pieces.items q c.loop-i.invariant.some
       ];
       covers = elim c.if-begin-end.branch [
-        | then-begin-end+in_ok-sweep-2+in_ok-rows-3+in_ok-push_pieces w ↦
-            let q : c.if-begin-end.pieces.items ≡ c.loop-i.pieces.items ++ map (tag a z) w.in_ok-rows-3.rows.items = ap (λ (v : Vec (Piece (Key Bare)) Global). v.items) w.pieces-is ∙ w.in_ok-push_pieces.ensures in
+        | then-begin-end+in_ok-sweep-2+in_ok-rows-4+in_ok-push_pieces w ↦
+            let q : c.if-begin-end.pieces.items ≡ c.loop-i.pieces.items ++ map (tag a z) w.in_ok-rows-4.rows.items = ap (λ (v : Vec (Piece (Key Bare)) Global). v.items) w.pieces-is ∙ w.in_ok-push_pieces.ensures in
             let less : a < z = w.if-begin-end.true in
             let cut : (m : ℕ) → Among m (flat_map (cuts_of b side) live) → IsBeside a z m = λ m h. subst (λ v. IsBeside a v m) e (beside cuts a i l order c.loop-i.invariant.passed m (c.in_ok-cuts.ensures.cuts m h)) in
-            let rows : (k : Row) → Among k w.in_ok-rows-3.rows.items ↔ (length k.1 ≡ side) × IsUnitedRow side b (filter (side_has b side a) live) k = λ k.
-            subst (λ m. Among k w.in_ok-rows-3.rows.items ↔ (length k.1 ≡ side) × IsUnitedRow side b m k) (w.as_slice.ensures.value ∙ w.in_ok-sweep-2.ensures.live 0 (length c.args.boxes.now) a live c.requires.rows (omega arith) c.loop-i.invariant.sweep) (w.in_ok-rows-3.ensures.rows k) in
-            united_turn c.args.boxes.now c.args.sides side below live c.requires.sides (all_below (length c.args.boxes.now) c.args.live.now c.requires.rows) a z (omega arith) cut c.loop-i.pieces.items c.if-begin-end.pieces.items w.in_ok-rows-3.rows.items q rows c.loop-i.invariant.covers
+            let rows : (k : Row) → Among k w.in_ok-rows-4.rows.items ↔ (length k.1 ≡ side) × IsUnitedRow side b (filter (side_has b side a) live) k = λ k.
+            subst (λ m. Among k w.in_ok-rows-4.rows.items ↔ (length k.1 ≡ side) × IsUnitedRow side b m k) (w.as_slice.ensures.value ∙ w.in_ok-sweep-2.ensures.live 0 (length c.args.boxes.now) a live c.requires.rows (omega arith) c.loop-i.invariant.sweep) (w.in_ok-rows-4.ensures.rows k) in
+            united_turn c.args.boxes.now c.args.sides side below live c.requires.sides (all_below (length c.args.boxes.now) c.args.live.now c.requires.rows) a z (omega arith) cut c.loop-i.pieces.items c.if-begin-end.pieces.items w.in_ok-rows-4.rows.items q rows c.loop-i.invariant.covers
         | else-begin-end w ↦
             let q : c.if-begin-end.pieces.items ≡ c.loop-i.pieces.items = ap (λ (v : Vec (Piece (Key Bare)) Global). v.items) w.pieces-is in
             let more : z ≤ a = w.if-begin-end.false in
@@ -114,7 +114,7 @@ loop-i-preserved t c =
             subst (covered c.if-begin-end.pieces.items) same (subst (λ ps. covered ps a) (sym q) c.loop-i.invariant.covers)
       ];
       sweep = elim c.if-begin-end.branch [
-        | then-begin-end+in_ok-sweep-2+in_ok-rows-3+in_ok-push_pieces w ↦
+        | then-begin-end+in_ok-sweep-2+in_ok-rows-4+in_ok-push_pieces w ↦
             let less : a < z = w.if-begin-end.true in
             subst (λ (s : Sweep). IsSweep b side live z s) (sym w.sweep-is)
             (sweep_later b side live a w.in_ok-sweep-2.sweep (w.in_ok-sweep-2.ensures.sweep 0 (length c.args.boxes.now) a live c.requires.rows (omega arith) c.loop-i.invariant.sweep) z (omega arith))
@@ -137,12 +137,12 @@ returns-clause-rows t c =
     let cuts = c.in_ok-cuts.cuts.items in
     let e : suc side ≡ c.args.sides = omega arith in
     let end : length cuts ≤ c.loop-i.i = omega arith in
-    subst (λ s. (x : Row) → Among x c.in_ok-rows-4.rows.items ↔ (length x.1 ≡ s) × IsUnitedRow s b c.args.live.now x) e
-    (united_rows c.args.boxes.now c.args.sides side below c.args.live.now c.requires.sides (all_below (length c.args.boxes.now) c.args.live.now c.requires.rows) c.loop-i.pieces.items c.in_ok-runs.runs.items c.in_ok-rows-4.rows.items
+    subst (λ s. (x : Row) → Among x c.in_ok-rows-5.rows.items ↔ (length x.1 ≡ s) × IsUnitedRow s b c.args.live.now x) e
+    (united_rows c.args.boxes.now c.args.sides side below c.args.live.now c.requires.sides (all_below (length c.args.boxes.now) c.args.live.now c.requires.rows) c.loop-i.pieces.items c.in_ok-runs.runs.items c.in_ok-rows-5.rows.items
     (covers_below c.args.boxes.now c.args.sides side below c.args.live.now c.requires.sides (all_below (length c.args.boxes.now) c.args.live.now c.requires.rows) c.loop-i.begin
     (λ m h. all_passed cuts c.loop-i.begin (λ j q. c.loop-i.invariant.passed j (omega arith)) m (c.in_ok-cuts.ensures.cuts m h))
     c.loop-i.pieces.items c.loop-i.invariant.covers)
-    c.in_ok-runs.ensures.apart c.in_ok-runs.ensures.covers c.in_ok-rows-4.ensures)
+    c.in_ok-runs.ensures.apart c.in_ok-runs.ensures.covers c.in_ok-rows-5.ensures)
 
 pub returns-clause-sorted : goal.returns-clause-sorted
 returns-clause-sorted t c =
@@ -150,8 +150,8 @@ returns-clause-sorted t c =
     let below : side < c.args.sides = omega arith in
     let cuts = c.in_ok-cuts.cuts.items in
     let end : length cuts ≤ c.loop-i.i = omega arith in
-    united_sorted c.args.boxes.now c.args.sides side below c.args.live.now c.requires.sides (all_below (length c.args.boxes.now) c.args.live.now c.requires.rows) c.loop-i.pieces.items c.in_ok-runs.runs.items c.in_ok-rows-4.rows.items
+    united_sorted c.args.boxes.now c.args.sides side below c.args.live.now c.requires.sides (all_below (length c.args.boxes.now) c.args.live.now c.requires.rows) c.loop-i.pieces.items c.in_ok-runs.runs.items c.in_ok-rows-5.rows.items
     (covers_below c.args.boxes.now c.args.sides side below c.args.live.now c.requires.sides (all_below (length c.args.boxes.now) c.args.live.now c.requires.rows) c.loop-i.begin
     (λ m h. all_passed cuts c.loop-i.begin (λ j q. c.loop-i.invariant.passed j (omega arith)) m (c.in_ok-cuts.ensures.cuts m h))
     c.loop-i.pieces.items c.loop-i.invariant.covers)
-    c.in_ok-runs.ensures.apart c.in_ok-runs.ensures.covers c.in_ok-rows-4.ensures
+    c.in_ok-runs.ensures.apart c.in_ok-runs.ensures.covers c.in_ok-rows-5.ensures

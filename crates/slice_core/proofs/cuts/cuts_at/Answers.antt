@@ -2,7 +2,7 @@ use Rattle.std.proofs.Common.{subst, sym}
 use Rattle.std.proofs.lemmas.List.Sorted.{Contains-permutation, IsNonDecreasingBy-from_sort}
 use Rattle.packing_core.specs.Covering.{Among}
 use Rattle.packing_core.proofs.Order.{among_contains, contains_among}
-use Rattle.slice_core.proofs.united.cuts_at.Goals as goal
+use Rattle.slice_core.proofs.cuts.cuts_at.Goals as goal
 
 pub returns-clause-order : goal.returns-clause-order
 returns-clause-order c = λ i j h l. IsNonDecreasingBy-from_sort (λ x. x) c.sort.new.self.items c.in_ok-sort.ensures.sorted i j 0 h l
