@@ -51,7 +51,7 @@ pub fn merge<K: Ord + Drop>(
     ensures apart { IfOk result (λ out. AreApart K.cmp out.items) }
     ensures covers { IfOk result (λ out. (k : _) (i : ℕ) → Covers K.cmp out.items k i ↔ Covers K.cmp pieces.items k i) }
 {
-    let mut out: Vec<Piece<K>> = Vec::new(alloc);
+    let mut out: Vec<Piece<K>> = Vec::with_capacity(alloc, pieces.len())?;
     for x in pieces {
         add(&mut out, x)?;
     }
