@@ -179,21 +179,6 @@ module _ (boxes : List (List (ℕ × ℕ))) (side : ℕ) (rows : List ℕ) (star
       early : (j : ℕ) → j < n → (get_or starts j (0, 0)).0 ≤ cell
       early j l = elim (cases_lt j first) [ inl w ↦ let p = was.passed j w in omega arith | inr w ↦ passed j w l ]
 
-pub begun_below : (starts : List (ℕ × ℕ)) (m first n : ℕ) (live begun : List ℕ) → n ≤ length starts → All (λ (x : ℕ × ℕ). x.1 < m) starts → All (λ r. r < m) live
-    → ((r : ℕ) → Among r begun ↔ Among r live ⊎ ((j : ℕ) × (first ≤ j) × (j < n) × ((get_or starts j (0, 0)).1 ≡ r)))
-    → All (λ r. r < m) begun
-begun_below starts m first n live begun within low live_low is = All-from_recursion (λ r. r < m) begun (each begun (λ r h. below r ((is r).0 h)))
-  where
-    each : (xs : List ℕ) → ((r : ℕ) → Among r xs → r < m) → AllByRecursion (λ r. r < m) xs
-    each [] h = tt
-    each (x ∷ xs) h = (h x (inl refl), each xs (λ r k. h r (inr k)))
-
-    below : (r : ℕ) → Among r live ⊎ ((j : ℕ) × (first ≤ j) × (j < n) × ((get_or starts j (0, 0)).1 ≡ r)) → r < m
-    below r h = elim h [
-      | inl w ↦ let c = among_contains live r w in subst (λ q. q < m) c.2 (live_low c.0 r c.1)
-      | inr w ↦ let l = w.2 in subst (λ q. q < m) w.3 (low w.0 (0, 0) (omega arith))
-    ]
-
 -- ---- what holds of all rows holds of those of a sweep
 
 module _ (boxes : List (List (ℕ × ℕ))) (side : ℕ) (rows : List ℕ) (cell : ℕ) (s : Sweep) (is : IsSweep boxes side rows cell s) where

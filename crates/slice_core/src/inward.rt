@@ -1,9 +1,9 @@
 // Slices from the last side inward.
 ghost use Rattle.std.specs.Prelude.{◌≡◌, ℕ, ◌<◌, ◌≤◌, ◌↔◌, ◌⊎◌, length, slice_index_or, slice_index, OnOk, OnErr, IfOk, ◌+◌, ◌-◌, ◌^◌, ◌∷◌, ◌++◌, [], map, Some, true, false, vec_len, List};
-ghost use Rattle.std.specs.List.{All, filter};
+ghost use Rattle.std.specs.List.{All};
 ghost use Rattle.std.specs.List.Sorted.{IsStrictlySortedBy};
 ghost use Rattle.packing_core.specs.Covering.{Among};
-ghost use Rattle.packing_core.specs.Live.{side_has, span_has, IsSliceRow, IsSomewhere};
+ghost use Rattle.packing_core.specs.Live.{IsSliceRow, IsSomewhere};
 ghost use Rattle.slice_core.specs.LeastFault.{IsLeast};
 ghost use Rattle.slice_core.specs.Rows.{sides_of, key_cmp, tag, with_last, no_sides, own_numbers as own_numbers_of, AreRows, labels_of, GivesLabel, GivesFault, volume};
 
@@ -19,34 +19,6 @@ use std::sync::ledger::Ledger;
 #[derive(Drop)]
 pub struct IndexBox {
     pub sides: Vec<(usize, usize)>,
-}
-
-fn has(span: (usize, usize), cell: usize) -> bool
-    ensures { result ≡ span_has span cell }
-{
-    span.0 <= cell && cell < span.1
-}
-
-// The live rows whose side has the cell.
-pub fn live_at(
-    alloc: Global,
-    boxes: &[IndexBox],
-    live: &[usize],
-    side: usize,
-    cell: usize,
-) -> Result<Vec<usize>, Memory>
-    requires rows { All (λ r. r < length boxes.now) live.now }
-    requires sides { All (λ x. side < length x.sides.items) boxes.now }
-    ensures { IfOk result (λ v. v.items ≡ filter (side_has (sides_of boxes.now) side cell) live.now) }
-{
-    let mut out = Vec::with_capacity(alloc, live.len())?;
-    for r in live {
-        let here = has(boxes[*r].sides[side], cell);
-        if here {
-            out.push(*r)?;
-        }
-    }
-    Ok(out)
 }
 
 // Each number less `by`.
@@ -200,8 +172,8 @@ pub fn slices<O: CellOp, L: Ledger>(
     let mut lefts = sweep_of(alloc, boxes, left, side)?;
     let mut rights = sweep_of(alloc, boxes, right, side)?;
     for cell in 0..counts[side] {
-        lefts = advance(alloc, lefts, boxes, side, cell)?;
-        rights = advance(alloc, rights, boxes, side, cell)?;
+        lefts = advance(lefts, boxes, side, cell)?;
+        rights = advance(rights, boxes, side, cell)?;
         let l = lefts.live.as_slice();
         let r = rights.live.as_slice();
         let rows = slices(alloc, side, counts, boxes, l, r, split, op, least, steps)?;

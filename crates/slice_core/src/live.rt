@@ -2,12 +2,12 @@
 ghost use Rattle.std.specs.Prelude.{◌≡◌, ℕ, ◌<◌, ◌≤◌, ◌↔◌, ◌⊎◌, List, length, slice_index_or, map, IfOk};
 ghost use Rattle.std.specs.List.{All, filter};
 ghost use Rattle.packing_core.specs.Covering.{Among};
-ghost use Rattle.packing_core.specs.Live.{side_has};
+ghost use Rattle.packing_core.specs.Live.{span_has, side_has};
 ghost use Rattle.slice_core.specs.PackedRows.{span_of};
 ghost use Rattle.slice_core.specs.Rows.{sides_of};
 ghost use Rattle.slice_core.specs.Sweeps.{AreStarts, AreLive, ComesTo, IsSweep};
 
-use crate::inward::{IndexBox, live_at};
+use crate::inward::IndexBox;
 use point_core::Memory;
 use std::alloc::Global;
 
@@ -97,32 +97,37 @@ fn begun(
     Ok((next, rows))
 }
 
+fn has(span: (usize, usize), cell: usize) -> bool
+    ensures { result ≡ span_has span cell }
+{
+    span.0 <= cell && cell < span.1
+}
+
+// Whether the side of the row has the cell; it has none where there is no such row or side.
+fn side_has_cell(boxes: &[IndexBox], row: usize, side: usize, cell: usize) -> bool
+    ensures { result ≡ side_has (sides_of boxes.now) side cell row }
+{
+    row < boxes.len() && side < boxes[row].sides.len() && has(boxes[row].sides[side], cell)
+}
+
 // The rows that have the cell, in order, each once.
 fn in_order_at(
-    alloc: Global,
     boxes: &[IndexBox],
-    rows: &[usize],
+    rows: Vec<usize>,
     side: usize,
     cell: usize,
 ) -> Result<Vec<usize>, Memory>
-    requires rows { All (λ r. r < length boxes.now) rows.now }
-    requires sides { All (λ x. side < length x.sides.items) boxes.now }
-    ensures { IfOk result (λ v. AreLive (sides_of boxes.now) side cell rows.now v.items) }
+    ensures { IfOk result (λ v. AreLive (sides_of boxes.now) side cell rows.items v.items) }
 {
-    let mut here = live_at(alloc, boxes, rows, side, cell)?;
+    let mut here = rows;
+    here.retain(|row: &usize| side_has_cell(boxes, *row, side, cell));
     here.sort()?;
     here.dedup();
     Ok(here)
 }
 
 // The sweep, come to the cell.
-pub fn advance(
-    alloc: Global,
-    sweep: Sweep,
-    boxes: &[IndexBox],
-    side: usize,
-    cell: usize,
-) -> Result<Sweep, Memory>
+pub fn advance(sweep: Sweep, boxes: &[IndexBox], side: usize, cell: usize) -> Result<Sweep, Memory>
     requires starts { All (λ x. x.1 < length boxes.now) sweep.starts.items }
     requires within { sweep.next ≤ length sweep.starts.items }
     requires live { All (λ r. r < length boxes.now) sweep.live.items }
@@ -132,6 +137,6 @@ pub fn advance(
 {
     let Sweep { starts, next, live } = sweep;
     let (next, rows) = begun(starts.as_slice(), next, live, cell)?;
-    let live = in_order_at(alloc, boxes, rows.as_slice(), side, cell)?;
+    let live = in_order_at(boxes, rows, side, cell)?;
     Ok(Sweep { starts, next, live })
 }

@@ -77,7 +77,7 @@ pub fn on_two_sides(
     for i in 0..cuts.len() {
         let end = cuts[i];
         if begin < end {
-            sweep = advance(alloc, sweep, boxes, 1, begin)?;
+            sweep = advance(sweep, boxes, 1, begin)?;
             let runs = first_runs(alloc, boxes, sweep.live.as_slice())?;
             push_slab(&mut pieces, runs.as_slice(), begin, end)?;
         }

@@ -65,7 +65,7 @@ pub fn united(
     for i in 0..cuts.len() {
         let end = cuts[i];
         if begin < end {
-            sweep = advance(alloc, sweep, boxes, side, begin)?;
+            sweep = advance(sweep, boxes, side, begin)?;
             let rows = united(alloc, side, boxes, sweep.live.as_slice())?;
             push_pieces(&mut pieces, rows, begin, end)?;
         }

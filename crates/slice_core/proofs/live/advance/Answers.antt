@@ -3,16 +3,8 @@ use Rattle.std.specs.List.{All}
 use Rattle.packing_core.specs.Covering.{Among}
 use Rattle.slice_core.specs.Rows.{sides_of}
 use Rattle.slice_core.specs.Sweeps.{AreStarts, AreOpen}
-use Rattle.slice_core.proofs.Sweeping.{same_live, open_now, begun_below}
+use Rattle.slice_core.proofs.Sweeping.{same_live, open_now}
 use Rattle.slice_core.proofs.live.advance.Goals as goal
-
-pub in_order_at-requires-clause-rows : goal.in_order_at-requires-clause-rows
-in_order_at-requires-clause-rows c =
-    let n = c.in_ok-next.ensures in
-    let starts = c.as_slice.result.now in
-    subst (All (λ r. r < length c.args.boxes.now)) (sym c.as_slice-2.ensures.value)
-    (begun_below starts (length c.args.boxes.now) c.args.sweep.next c.in_ok-next.next c.args.sweep.live.items c.in_ok-next.rows.items n.within
-    (subst (All (λ (x : ℕ × ℕ). x.1 < length c.args.boxes.now)) (sym c.as_slice.ensures.value) c.requires.starts) c.requires.live n.rows)
 
 pub returns-clause-live : goal.returns-clause-live
 returns-clause-live c = λ a z b rows are up is.
@@ -24,8 +16,7 @@ returns-clause-live c = λ a z b rows are up is.
     let s = subst (AreStarts boxes side rows) (sym e) is.0 in
     let w = subst (λ (xs : List (ℕ × ℕ)). AreOpen boxes side rows b xs c.args.sweep.next c.args.sweep.live.items) (sym e) is.1 in
     c.in_ok-live.ensures a z rows are (λ r h.
-    subst (λ xs. Among r xs ↔ Among r rows) (sym c.as_slice-2.ensures.value)
-    (same_live boxes side rows starts b c.args.cell c.args.sweep.next c.in_ok-next.next c.args.sweep.live.items c.in_ok-next.rows.items up s w n.from n.within n.passed n.ahead n.rows r h))
+    same_live boxes side rows starts b c.args.cell c.args.sweep.next c.in_ok-next.next c.args.sweep.live.items c.in_ok-next.rows.items up s w n.from n.within n.passed n.ahead n.rows r h)
 
 pub returns-clause-sweep : goal.returns-clause-sweep
 returns-clause-sweep c = λ a z b rows are up is.

@@ -1,4 +1,6 @@
 use Rattle.std.specs.Prelude.{eqb}
+use Rattle.std.proofs.Common.{rules, ℕ, sym, subst}
+use Rattle.std.proofs.lemmas.Fn.{filter_same}
 use Rattle.std.proofs.lemmas.List.Filters.{dedup_is}
 use Rattle.packing_core.specs.Live.{side_has}
 use Rattle.slice_core.specs.Rows.{sides_of}
@@ -7,5 +9,7 @@ use Rattle.slice_core.proofs.live.in_order_at.Goals as goal
 
 pub returns : goal.returns
 returns c =
-    settled (side_has (sides_of c.args.boxes.now) c.args.side c.args.cell) c.args.rows.now c.in_ok-here.here.items c.sort.new.self.items c.dedup.new.self.items
-    c.in_ok-here.ensures c.in_ok-sort.ensures.permutation c.in_ok-sort.ensures.sorted (dedup_is eqb c.sort.new.self.items c.dedup.new.self.items c.dedup.ensures.filtered)
+    let b = sides_of c.args.boxes.now in
+    let kept = filter_same _ (side_has b c.args.side c.args.cell) _ (λ x a f' k. search rules) _ _ c.retain.ensures.filtered in
+    settled (side_has b c.args.side c.args.cell) c.args.rows.items c.retain.new.self.items c.sort.new.self.items c.dedup.new.self.items
+    kept c.in_ok-sort.ensures.permutation c.in_ok-sort.ensures.sorted (dedup_is eqb c.sort.new.self.items c.dedup.new.self.items c.dedup.ensures.filtered)
