@@ -17,3 +17,4 @@ pub mod CellLemmas
 pub mod KeyLemmas
 pub mod TotalLemmas
 pub mod NumberLemmas
+pub mod FirstLemmas

@@ -12,7 +12,7 @@ use Rattle.slice_core.specs.PackedRows.{HasRow}
 use Rattle.box_core.specs.Answers.{IsBoxOf, IsBoxOfKeyed, InBoth, InFirst, IsMatched, IsUnmatched, IsJoined, KeyedBox}
 use Rattle.box_core.specs.Common.{At, first_of}
 use Rattle.box_core.specs.Keys.{ArePaired}
-use Rattle.box_core.specs.KeyNumbers.{AreNumbered, HaveNumbers, Begins, IsCount, IsNumber}
+use Rattle.box_core.specs.KeyNumbers.{AreNumbered, HaveNumbers, Begins, IsCount, IsNumber, RiseAlike}
 use Rattle.box_core.specs.Meetings.{boxes_in, IsShared, IsPair}
 use Rattle.box_core.specs.Outside.{IsRest}
 use Rattle.box_core.specs.Rows.{IsRow, Ascend, KeyBox}
@@ -41,15 +41,24 @@ row_cases old new x e i y h = go (subst (λ zs. IsRow zs i y) e h)
 pub length_more : {X : Type 0} (old new : List X) (x : X) (n : ℕ) → new ≡ old ++ x ∷ [] → length old ≡ n → length new ≡ n + 1
 length_more old new x n e f = let g : length new ≡ length old + 1 = ap length e ∙ length-append old (x ∷ []) in omega (arith, f, g)
 
+by_number : (m n : ℕ) → m < n → nat_cmp m n ≡ Less
+by_number m n l = by_ranked (m < n) (m ≡ n) (n < m) (nat_cmp m n) (ranked m n (nat_cmp m n) refl) (λ e p. e) (λ e p. absurd (omega (arith, p))) (λ e p. absurd (omega (arith, p)))
+
+-- what stands as two numbers do
+pub same_order : (r : Ordering) (m n : ℕ) → (r ≡ Less → m < n) → (r ≡ Equal → m ≡ n) → (r ≡ Greater → n < m) → r ≡ nat_cmp m n
+same_order Less m n l e g = sym (by_number m n (l refl))
+same_order Equal m n l e g = sym (subst (λ k. nat_cmp m k ≡ Equal) (e refl) (tied_itself nat_cmp_total m))
+same_order Greater m n l e g = sym (nat_cmp_total.antisymm m n ∙ ap ordering_reverse (by_number n m (g refl)))
+
 module _ {K : Type 0} (order : K → K → Ordering) (total : IsTotalOrder order) where
-  less_tied : (a b : K) → order a b ≡ Less → order a b ≡ Equal → ⊥
+  pub less_tied : (a b : K) → order a b ≡ Less → order a b ≡ Equal → ⊥
   less_tied a b l e = true≢false (ap is_lt (sym l ∙ e))
 
   -- lesser than what is not after b
   less_on : (a b c : K) → order a b ≡ Less → (order b c ≡ Less) ⊎ (order b c ≡ Equal) → order a c ≡ Less
   less_on a b c l h = elim h [ inl m ↦ total.trans a b c l m | inr e ↦ sym (alike_right total b c a e) ∙ l ]
 
-  upward : (rows : List (KeyBox K)) → Ascend order rows → (i j : ℕ) (x y : KeyBox K) → i ≤ j → IsRow rows i x → IsRow rows j y → (order x.0 y.0 ≡ Less) ⊎ (order x.0 y.0 ≡ Equal)
+  pub upward : (rows : List (KeyBox K)) → Ascend order rows → (i j : ℕ) (x y : KeyBox K) → i ≤ j → IsRow rows i x → IsRow rows j y → (order x.0 y.0 ≡ Less) ⊎ (order x.0 y.0 ≡ Equal)
   upward rows up i j x y l a b = elim (up i j x y l a b) [ inl m ↦ inl m | inr m ↦ inr m.0 ]
 
   not_less : (a b : K) → (order a b ≡ Less) ⊎ (order a b ≡ Equal) → order b a ≡ Less → ⊥
@@ -117,7 +126,7 @@ module _ {K : Type 0} (order : K → K → Ordering) (total : IsTotalOrder order
 
   -- ---- numbers rise with the keys
 
-  count_rises : (rows : List (KeyBox K)) (a b : K) (c d : ℕ) → IsCount order rows a c → IsCount order rows b d → (order a b ≡ Less) ⊎ (order a b ≡ Equal) → c ≤ d
+  pub count_rises : (rows : List (KeyBox K)) (a b : K) (c d : ℕ) → IsCount order rows a c → IsCount order rows b d → (order a b ≡ Less) ⊎ (order a b ≡ Equal) → c ≤ d
   count_rises rows a b c d at bt h = elim (cases_lt d c) [
     | inl l ↦
         let w = at.within in
@@ -127,7 +136,7 @@ module _ {K : Type 0} (order : K → K → Ordering) (total : IsTotalOrder order
   ]
 
   -- and more so where a row has the lesser key
-  count_more : (rows : List (KeyBox K)) (i : ℕ) (x : KeyBox K) → IsRow rows i x → (b : K) (c d : ℕ) → IsCount order rows x.0 c → IsCount order rows b d → order x.0 b ≡ Less → c < d
+  pub count_more : (rows : List (KeyBox K)) (i : ℕ) (x : KeyBox K) → IsRow rows i x → (b : K) (c d : ℕ) → IsCount order rows x.0 c → IsCount order rows b d → order x.0 b ≡ Less → c < d
   count_more rows i x h b c d at bt l =
       let low : c ≤ i = elim (cases_lt i c) [ inl w ↦ absurd (less_tied x.0 x.0 (at.lesser i x h w) (tied_itself total x.0)) | inr w ↦ w ] in
       let high : i < d = elim (cases_lt i d) [ inl w ↦ w | inr w ↦ absurd (bt.others i x h w l) ] in
@@ -173,6 +182,12 @@ module _ {K : Type 0} (order : K → K → Ordering) (total : IsTotalOrder order
         go Equal h e = separates a b h
         go Greater h e = let l = number_more b a n m kb q p (total.antisymm b a ∙ ap ordering_reverse h) in absurd (omega (arith, e))
 
+    number_order : (a b : K) (m n : ℕ) → IsKeyed a → IsKeyed b → IsNumber order left right a m → IsNumber order left right b n → order a b ≡ nat_cmp m n
+    number_order a b m n ka kb p q = same_order (order a b) m n
+        (λ l. number_more a b m n ka p q l)
+        (λ e. number_tied a b m n p q e)
+        (λ g. number_more b a n m kb q p (total.antisymm b a ∙ ap ordering_reverse g))
+
 -- the two lists the other way round
 number_turned : {K : Type 0} (order : K → K → Ordering) (left right : List (KeyBox K)) (a : K) (n : ℕ) → IsNumber order right left a n → IsNumber order left right a n
 number_turned order left right a n p = (p.1, p.0, p.3, p.2, let e = p.4 in omega (arith, e))
@@ -185,9 +200,6 @@ same_box {K} {L} rows withs e i w h = row_map (λ (z : KeyBox K). z.1) rows i w.
 
 own_number : (withs : List (KeyBox ℕ)) (ns : List ℕ) → map (λ (x : KeyBox ℕ). x.0) withs ≡ ns → (i : ℕ) (w : KeyBox ℕ) → IsRow withs i w → IsRow ns i w.0
 own_number withs ns e i w h = subst (λ zs. IsRow zs i w.0) e (map_row (λ (z : KeyBox ℕ). z.0) withs i w h)
-
-by_number : (m n : ℕ) → m < n → nat_cmp m n ≡ Less
-by_number m n l = by_ranked (m < n) (m ≡ n) (n < m) (nat_cmp m n) (ranked m n (nat_cmp m n) refl) (λ e p. e) (λ e p. absurd (omega (arith, p))) (λ e p. absurd (omega (arith, p)))
 
 module _ {K : Type 0} (order : K → K → Ordering) (total : IsTotalOrder order) (separates : (a b : K) → order a b ≡ Equal → a ≡ b) (left right : List (KeyBox K)) where
   -- rows of either list ascend with the numbers for keys
@@ -218,6 +230,15 @@ module _ {K : Type 0} (order : K → K → Ordering) (total : IsTotalOrder order
         left_order = numbers_ascend left lup (λ i x h. inl (i, x, h, refl)) ln ls lefts lk lb;
         right_order = numbers_ascend right rup (λ i x h. inr (i, x, h, refl)) rn turned rights rk rb;
       }
+
+  pub labels_rise : (ln : List ℕ) → HaveNumbers order left right ln → (lefts : List (KeyBox ℕ)) → map (λ (x : KeyBox ℕ). x.0) lefts ≡ ln → boxes_in lefts ≡ boxes_in left → (labels : List K) → labels ≡ map (λ (x : KeyBox K). x.0) left → RiseAlike order lefts labels
+  labels_rise ln ls lefts lk lb labels own i j v w a b hv hw ha hb =
+      let x = row_map (λ (z : KeyBox K). z.0) left i a (subst (λ zs. IsRow zs i a) own ha) in
+      let y = row_map (λ (z : KeyBox K). z.0) left j b (subst (λ zs. IsRow zs j b) own hb) in
+      let p = ls i x.0 v.0 x.1 (own_number lefts ln lk i v hv) in
+      let q = ls j y.0 w.0 y.1 (own_number lefts ln lk j w hw) in
+      let e = number_order order total left right (x.0).0 (y.0).0 v.0 w.0 (inl (i, x.0, x.1, refl)) (inl (j, y.0, y.1, refl)) p q in
+      subst (λ z. order a z ≡ nat_cmp v.0 w.0) y.2 (subst (λ z. order z (y.0).0 ≡ nat_cmp v.0 w.0) x.2 e)
 
 -- ---- what rows with numbers for keys have at places
 

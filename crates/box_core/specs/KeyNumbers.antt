@@ -1,5 +1,5 @@
 -- Numbers that stand for the keys of rows.
-use Rattle.std.specs.Prelude.{◌≡◌, ℕ, ◌+◌, ◌<◌, ◌≤◌, ◌↔◌, List, length}
+use Rattle.std.specs.Prelude.{◌≡◌, ℕ, ◌+◌, ◌<◌, ◌≤◌, ◌↔◌, List, length, get_or}
 use Rattle.std.specs.declared.cmp.Ordering.{Ordering}
 use Rattle.std.specs.declared.cmp.Ordering.TheVariants.{Less, Equal}
 use Rattle.std.specs.Ordering.{nat_cmp}
@@ -38,3 +38,16 @@ HaveNumbers {K} order rows others numbers = (i : ℕ) (y : KeyBox K) (n : ℕ) �
 pub record Begins {K : Type 0} (order : K → K → Ordering) (rows : List (KeyBox K)) (first end : ℕ) : Type 0 where
   pub lesser : (i : ℕ) (x y : KeyBox K) → IsRow rows i x → IsRow rows first y → i < first → order x.0 y.0 ≡ Less
   pub same : (i : ℕ) (x y : KeyBox K) → IsRow rows i x → IsRow rows first y → first ≤ i → i < end → order y.0 x.0 ≡ Equal
+
+-- each row has the number of the first row of its key: so many rows are of lesser keys
+abbrev pub HaveFirsts : {K : Type 0} → (K → K → Ordering) → List (KeyBox K) → List ℕ → Type 0
+HaveFirsts {K} order rows firsts = (i : ℕ) (y : KeyBox K) (n : ℕ) → IsRow rows i y → IsRow firsts i n → IsCount order rows y.0 n
+
+-- labels of rows with numbers for keys stand to each other as the numbers do
+abbrev pub RiseAlike : {P : Type 0} → (P → P → Ordering) → List (KeyBox ℕ) → List P → Type 0
+RiseAlike {P} order rows labels =
+    (i j : ℕ) (v w : KeyBox ℕ) (a b : P) → IsRow rows i v → IsRow rows j w → IsRow labels i a → IsRow labels j b → order a b ≡ nat_cmp v.0 w.0
+
+-- the box under the label of its number
+abbrev pub named : {P : Type 0} → List P → P → KeyBox ℕ → KeyBox P
+named labels d x = (get_or labels x.0 d, x.1)

@@ -12,6 +12,7 @@ mod grouping;
 mod joining;
 mod keeping;
 mod keyed;
+mod labelling;
 mod later;
 mod meeting;
 mod numbering;

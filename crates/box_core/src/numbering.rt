@@ -1,7 +1,7 @@
 // Numbers in place of keys, so that what compares keys again and again compares numbers.
 ghost use Rattle.std.specs.Prelude.{◌≡◌, ℕ, ◌+◌, ◌<◌, ◌≤◌, ◌↔◌, length, map, IfOk, IsTrue};
 ghost use Rattle.std.specs.declared.cmp.Ordering.TheVariants.{Less};
-ghost use Rattle.box_core.specs.KeyNumbers.{AreNumbered, HaveNumbers, Begins, IsCount};
+ghost use Rattle.box_core.specs.KeyNumbers.{AreNumbered, HaveNumbers, Begins, IsCount, RiseAlike};
 ghost use Rattle.box_core.specs.Meetings.{boxes_in};
 ghost use Rattle.box_core.specs.Rows.{Ascend, IsRow, KeyBox};
 
@@ -14,7 +14,7 @@ use std::marker::Model;
 // What stands for a key.
 #[derive(Drop)]
 pub struct Number {
-    value: usize,
+    pub value: usize,
 }
 
 impl Model for Number {
@@ -71,7 +71,7 @@ fn count_lesser<K: Label>(rows: &[Key<K>], other: &Key<K>, known: usize) -> usiz
 }
 
 // The first row of the key of the next row, where `first` is that of the row before it.
-fn first_of_key<K: Label>(rows: &[Key<K>], first: usize, next: usize) -> usize
+pub fn first_of_key<K: Label>(rows: &[Key<K>], first: usize, next: usize) -> usize
     requires order { Ascend K.order rows.now }
     requires begins { Begins K.order rows.now first next }
     requires first { first ≤ next }
@@ -202,7 +202,7 @@ pub fn numbered<K: Label>(
     Ok((lefts, rights))
 }
 
-// The same, with the keys of the left rows: for rows whose key is their label.
+// The same, with the keys of the left rows, to which the numbers stand alike: for rows whose key is their label.
 pub fn numbered_apart<K: Label>(
     alloc: Global,
     left: Vec<Key<K>>,
@@ -212,6 +212,7 @@ pub fn numbered_apart<K: Label>(
     requires right { Ascend K.order right.items }
     ensures numbers { IfOk result (λ v. AreNumbered left.items right.items v.0.items v.2.items) }
     ensures keys { IfOk result (λ v. v.1.items ≡ map (λ x. x.0) left.items) }
+    ensures alike { IfOk result (λ v. RiseAlike K.order v.0.items v.1.items) }
 {
     let left_numbers = numbers_of(alloc, left.as_slice(), right.as_slice())?;
     let right_numbers = numbers_of(alloc, right.as_slice(), left.as_slice())?;

@@ -4,18 +4,21 @@ ghost use Rattle.std.specs.List.{All};
 ghost use Rattle.std.specs.List.Sorted.{IsStrictlySortedBy};
 ghost use Rattle.packing_core.specs.Covering.{Among};
 ghost use Rattle.slice_core.specs.Rows.{key_cmp};
+ghost use Rattle.std.specs.Ordering.{nat_cmp};
 ghost use Rattle.box_core.specs.Answers.{IsPackedRow, IsPackedCover, IsBoxOf, IsBoxOfKeyed, InBoth, InFirst, IsMatched, IsUnmatched};
+ghost use Rattle.box_core.specs.KeyNumbers.{RiseAlike};
 ghost use Rattle.box_core.specs.Meetings.{IsShared};
 ghost use Rattle.box_core.specs.Outside.{IsRest};
 ghost use Rattle.box_core.specs.Rows.{Ascend, KeyBox};
 
 use crate::keyed::{Keyed, keys_in_order, rows_in_order};
-use crate::numbering::{numbered, numbered_apart};
+use crate::labelling::{first_rows, with_labels};
+use crate::numbering::{Number, numbered, numbered_apart};
 use crate::remaining::rest;
 use crate::sharing::shared;
 use number_order::Numbers;
 use point_core::{Label, Memory};
-use slice_core::{Key, pack_arranged};
+use slice_core::{Key, pack_arranged, pack_rows};
 use std::alloc::Global;
 
 // What the left boxes have in common with the right boxes of their keys, packed.
@@ -60,6 +63,55 @@ fn packed_rest<K: Label, P: Label + Numbers>(
     let parts = rest(alloc, sides, left, labels, right)?;
     let out = pack_arranged(alloc, sides, parts)?;
     Ok(out)
+}
+
+// The same for labels that stand as the keys do: the parts are under numbers until they are packed.
+fn labelled_rest<P: Label>(
+    alloc: Global,
+    sides: usize,
+    left: Vec<Key<Number>>,
+    labels: &[P],
+    right: &[Key<Number>],
+) -> Result<Vec<Key<P>>, Memory>
+    requires left { All (λ x. length x.1 ≡ sides) left.items }
+    requires right { All (λ x. length x.1 ≡ sides) right.now }
+    requires left_order { Ascend nat_cmp left.items }
+    requires right_order { Ascend nat_cmp right.now }
+    requires labels { length labels.now ≡ length left.items }
+    requires alike { RiseAlike P.order left.items labels.now }
+    ensures rows { IfOk result (λ v. (x : KeyBox P) → Among x v.items ↔ IsPackedRow sides (IsRest left.items labels.now right.now) x) }
+    ensures cover { IfOk result (λ v. IsPackedCover sides (IsRest left.items labels.now right.now) (IsBoxOf left.items) v.items) }
+    ensures sorted { IfOk result (λ v. IsStrictlySortedBy (key_cmp P.order) v.items) }
+{
+    let firsts = first_rows(alloc, left.as_slice())?;
+    let parts = rest(alloc, sides, left, firsts, right)?;
+    let packed = pack_rows(alloc, sides, parts)?;
+    let out = with_labels(alloc, labels, packed)?;
+    Ok(out)
+}
+
+// The same in the way that takes less time: on one side labels that are moved are packed quickly.
+fn own_rest<P: Label + Numbers>(
+    alloc: Global,
+    sides: usize,
+    left: Vec<Key<Number>>,
+    labels: Vec<P>,
+    right: &[Key<Number>],
+) -> Result<Vec<Key<P>>, Memory>
+    requires left { All (λ x. length x.1 ≡ sides) left.items }
+    requires right { All (λ x. length x.1 ≡ sides) right.now }
+    requires left_order { Ascend nat_cmp left.items }
+    requires right_order { Ascend nat_cmp right.now }
+    requires labels { length labels.items ≡ length left.items }
+    requires alike { RiseAlike P.order left.items labels.items }
+    ensures rows { IfOk result (λ v. (x : KeyBox P) → Among x v.items ↔ IsPackedRow sides (IsRest left.items labels.items right.now) x) }
+    ensures cover { IfOk result (λ v. IsPackedCover sides (IsRest left.items labels.items right.now) (IsBoxOf left.items) v.items) }
+    ensures sorted { IfOk result (λ v. IsStrictlySortedBy (key_cmp P.order) v.items) }
+{
+    if sides == 1 {
+        return packed_rest(alloc, sides, left, labels, right);
+    }
+    labelled_rest(alloc, sides, left, labels.as_slice(), right)
 }
 
 /// The packed form of the labels of the left rows where a right row has their key.
@@ -150,6 +202,6 @@ pub fn minus<P: Label + Numbers>(
     let lefts = rows_in_order(alloc, left)?;
     let others = rows_in_order(alloc, right)?;
     let (keys, labels, rights) = numbered_apart(alloc, lefts, others)?;
-    let out = packed_rest(alloc, sides, keys, labels, rights.as_slice())?;
+    let out = own_rest(alloc, sides, keys, labels, rights.as_slice())?;
     Ok(out)
 }

@@ -9,20 +9,20 @@ use Rattle.box_core.proofs.NumberLemmas.{sides_numbered, numbered_count, numbere
 use Rattle.box_core.proofs.OperatorLemmas.{packed_same, cover_same}
 use Rattle.box_core.proofs.operators.minus.Goals as goal
 
-pub packed_rest-requires-clause-left : goal.packed_rest-requires-clause-left
-packed_rest-requires-clause-left g c = sides_numbered c.args.sides c.in_ok-lefts.lefts.items c.in_ok-keys.keys.items c.in_ok-keys.ensures.numbers.left_boxes (c.in_ok-lefts.ensures.sides c.args.sides c.requires.left)
+pub own_rest-requires-clause-left : goal.own_rest-requires-clause-left
+own_rest-requires-clause-left g c = sides_numbered c.args.sides c.in_ok-lefts.lefts.items c.in_ok-keys.keys.items c.in_ok-keys.ensures.numbers.left_boxes (c.in_ok-lefts.ensures.sides c.args.sides c.requires.left)
 
-pub packed_rest-requires-clause-right : goal.packed_rest-requires-clause-right
-packed_rest-requires-clause-right g c = subst (All (λ (x : KeyBox _). length x.1 ≡ c.args.sides)) (sym c.as_slice.ensures.value) (sides_numbered c.args.sides c.in_ok-others.others.items c.in_ok-keys.rights.items c.in_ok-keys.ensures.numbers.right_boxes (c.in_ok-others.ensures.sides c.args.sides c.requires.right))
+pub own_rest-requires-clause-right : goal.own_rest-requires-clause-right
+own_rest-requires-clause-right g c = subst (All (λ (x : KeyBox _). length x.1 ≡ c.args.sides)) (sym c.as_slice.ensures.value) (sides_numbered c.args.sides c.in_ok-others.others.items c.in_ok-keys.rights.items c.in_ok-keys.ensures.numbers.right_boxes (c.in_ok-others.ensures.sides c.args.sides c.requires.right))
 
-pub packed_rest-requires-clause-left_order : goal.packed_rest-requires-clause-left_order
-packed_rest-requires-clause-left_order g c = c.in_ok-keys.ensures.numbers.left_order
+pub own_rest-requires-clause-left_order : goal.own_rest-requires-clause-left_order
+own_rest-requires-clause-left_order g c = c.in_ok-keys.ensures.numbers.left_order
 
-pub packed_rest-requires-clause-right_order : goal.packed_rest-requires-clause-right_order
-packed_rest-requires-clause-right_order g c = subst (Ascend nat_cmp) (sym c.as_slice.ensures.value) c.in_ok-keys.ensures.numbers.right_order
+pub own_rest-requires-clause-right_order : goal.own_rest-requires-clause-right_order
+own_rest-requires-clause-right_order g c = subst (Ascend nat_cmp) (sym c.as_slice.ensures.value) c.in_ok-keys.ensures.numbers.right_order
 
-pub packed_rest-requires-clause-labels : goal.packed_rest-requires-clause-labels
-packed_rest-requires-clause-labels g c =
+pub own_rest-requires-clause-labels : goal.own_rest-requires-clause-labels
+own_rest-requires-clause-labels g c =
     let left = c.args.left.items in
     let right = c.args.right.items in
     let sorted = c.in_ok-lefts.lefts.items in
