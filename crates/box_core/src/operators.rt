@@ -43,6 +43,55 @@ fn packed_shared<K: Label, P: Label + Numbers>(
     Ok(out)
 }
 
+// The same for labels that stand as the keys do: the parts are under numbers until they are packed.
+fn labelled_shared<P: Label>(
+    alloc: Global,
+    sides: usize,
+    left: &[Key<Number>],
+    labels: &[P],
+    right: &[Key<Number>],
+) -> Result<Vec<Key<P>>, Memory>
+    requires left { All (λ x. length x.1 ≡ sides) left.now }
+    requires right { All (λ x. length x.1 ≡ sides) right.now }
+    requires left_order { Ascend nat_cmp left.now }
+    requires right_order { Ascend nat_cmp right.now }
+    requires labels { length labels.now ≡ length left.now }
+    requires alike { RiseAlike P.order left.now labels.now }
+    ensures rows { IfOk result (λ v. (x : KeyBox P) → Among x v.items ↔ IsPackedRow sides (IsShared left.now labels.now right.now) x) }
+    ensures cover { IfOk result (λ v. IsPackedCover sides (IsShared left.now labels.now right.now) (IsBoxOf left.now) v.items) }
+    ensures sorted { IfOk result (λ v. IsStrictlySortedBy (key_cmp P.order) v.items) }
+{
+    let firsts = first_rows(alloc, left)?;
+    let parts = shared(alloc, sides, left, firsts.as_slice(), right)?;
+    let packed = pack_rows(alloc, sides, parts)?;
+    let out = with_labels(alloc, labels, packed)?;
+    Ok(out)
+}
+
+// The same in the way that takes less time: on one side labels are packed quickly.
+fn own_shared<P: Label + Numbers>(
+    alloc: Global,
+    sides: usize,
+    left: &[Key<Number>],
+    labels: &[P],
+    right: &[Key<Number>],
+) -> Result<Vec<Key<P>>, Memory>
+    requires left { All (λ x. length x.1 ≡ sides) left.now }
+    requires right { All (λ x. length x.1 ≡ sides) right.now }
+    requires left_order { Ascend nat_cmp left.now }
+    requires right_order { Ascend nat_cmp right.now }
+    requires labels { length labels.now ≡ length left.now }
+    requires alike { RiseAlike P.order left.now labels.now }
+    ensures rows { IfOk result (λ v. (x : KeyBox P) → Among x v.items ↔ IsPackedRow sides (IsShared left.now labels.now right.now) x) }
+    ensures cover { IfOk result (λ v. IsPackedCover sides (IsShared left.now labels.now right.now) (IsBoxOf left.now) v.items) }
+    ensures sorted { IfOk result (λ v. IsStrictlySortedBy (key_cmp P.order) v.items) }
+{
+    if sides == 1 {
+        return packed_shared(alloc, sides, left, labels, right);
+    }
+    labelled_shared(alloc, sides, left, labels, right)
+}
+
 // What of the left boxes is outside the right boxes of their keys, packed.
 fn packed_rest<K: Label, P: Label + Numbers>(
     alloc: Global,
@@ -176,7 +225,7 @@ pub fn intersect<P: Label + Numbers>(
     let lefts = rows_in_order(alloc, left)?;
     let others = rows_in_order(alloc, right)?;
     let (keys, labels, rights) = numbered_apart(alloc, lefts, others)?;
-    let out = packed_shared(
+    let out = own_shared(
         alloc,
         sides,
         keys.as_slice(),

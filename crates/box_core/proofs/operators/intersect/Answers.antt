@@ -3,26 +3,27 @@ use Rattle.std.specs.List.{All}
 use Rattle.std.specs.Ordering.{nat_cmp}
 use Rattle.packing_core.specs.Covering.{Among}
 use Rattle.box_core.specs.Answers.{InBoth, IsPackedRow, IsPackedCover, IsBoxOf}
+use Rattle.box_core.specs.KeyNumbers.{RiseAlike}
 use Rattle.box_core.specs.Meetings.{IsShared}
 use Rattle.box_core.specs.Rows.{Ascend, KeyBox}
 use Rattle.box_core.proofs.NumberLemmas.{sides_numbered, numbered_count, numbered_box_of, numbered_both}
 use Rattle.box_core.proofs.OperatorLemmas.{packed_same, cover_same}
 use Rattle.box_core.proofs.operators.intersect.Goals as goal
 
-pub packed_shared-requires-clause-left : goal.packed_shared-requires-clause-left
-packed_shared-requires-clause-left g c = subst (All (λ (x : KeyBox _). length x.1 ≡ c.args.sides)) (sym c.as_slice.ensures.value) (sides_numbered c.args.sides c.in_ok-lefts.lefts.items c.in_ok-keys.keys.items c.in_ok-keys.ensures.numbers.left_boxes (c.in_ok-lefts.ensures.sides c.args.sides c.requires.left))
+pub own_shared-requires-clause-left : goal.own_shared-requires-clause-left
+own_shared-requires-clause-left g c = subst (All (λ (x : KeyBox _). length x.1 ≡ c.args.sides)) (sym c.as_slice.ensures.value) (sides_numbered c.args.sides c.in_ok-lefts.lefts.items c.in_ok-keys.keys.items c.in_ok-keys.ensures.numbers.left_boxes (c.in_ok-lefts.ensures.sides c.args.sides c.requires.left))
 
-pub packed_shared-requires-clause-right : goal.packed_shared-requires-clause-right
-packed_shared-requires-clause-right g c = subst (All (λ (x : KeyBox _). length x.1 ≡ c.args.sides)) (sym c.as_slice-3.ensures.value) (sides_numbered c.args.sides c.in_ok-others.others.items c.in_ok-keys.rights.items c.in_ok-keys.ensures.numbers.right_boxes (c.in_ok-others.ensures.sides c.args.sides c.requires.right))
+pub own_shared-requires-clause-right : goal.own_shared-requires-clause-right
+own_shared-requires-clause-right g c = subst (All (λ (x : KeyBox _). length x.1 ≡ c.args.sides)) (sym c.as_slice-3.ensures.value) (sides_numbered c.args.sides c.in_ok-others.others.items c.in_ok-keys.rights.items c.in_ok-keys.ensures.numbers.right_boxes (c.in_ok-others.ensures.sides c.args.sides c.requires.right))
 
-pub packed_shared-requires-clause-left_order : goal.packed_shared-requires-clause-left_order
-packed_shared-requires-clause-left_order g c = subst (Ascend nat_cmp) (sym c.as_slice.ensures.value) c.in_ok-keys.ensures.numbers.left_order
+pub own_shared-requires-clause-left_order : goal.own_shared-requires-clause-left_order
+own_shared-requires-clause-left_order g c = subst (Ascend nat_cmp) (sym c.as_slice.ensures.value) c.in_ok-keys.ensures.numbers.left_order
 
-pub packed_shared-requires-clause-right_order : goal.packed_shared-requires-clause-right_order
-packed_shared-requires-clause-right_order g c = subst (Ascend nat_cmp) (sym c.as_slice-3.ensures.value) c.in_ok-keys.ensures.numbers.right_order
+pub own_shared-requires-clause-right_order : goal.own_shared-requires-clause-right_order
+own_shared-requires-clause-right_order g c = subst (Ascend nat_cmp) (sym c.as_slice-3.ensures.value) c.in_ok-keys.ensures.numbers.right_order
 
-pub packed_shared-requires-clause-labels : goal.packed_shared-requires-clause-labels
-packed_shared-requires-clause-labels g c =
+pub own_shared-requires-clause-labels : goal.own_shared-requires-clause-labels
+own_shared-requires-clause-labels g c =
     let left = c.args.left.items in
     let right = c.args.right.items in
     let sorted = c.in_ok-lefts.lefts.items in
@@ -35,6 +36,13 @@ packed_shared-requires-clause-labels g c =
     let own = c.in_ok-keys.ensures.keys in
     let are = c.in_ok-keys.ensures.numbers in
     ap length c.as_slice-2.ensures.value ∙ numbered_count left right sorted others ls rs labels own keys rights are ∙ sym (ap length c.as_slice.ensures.value)
+
+pub own_shared-requires-clause-alike : goal.own_shared-requires-clause-alike
+own_shared-requires-clause-alike g c =
+    let o = g.P.Label.order in
+    let keys = c.in_ok-keys.keys.items in
+    subst (λ (ks : List (KeyBox ℕ)). RiseAlike o ks c.as_slice-2.result.now) (sym c.as_slice.ensures.value)
+    (subst (λ (ns : List _). RiseAlike o keys ns) (sym c.as_slice-2.ensures.value) c.in_ok-keys.ensures.alike)
 
 pub returns-clause-rows : goal.returns-clause-rows
 returns-clause-rows g c =
