@@ -1,9 +1,12 @@
 -- What of a box is outside a hole, and outside holes.
-use Rattle.std.specs.Prelude.{ℕ, zero, suc, ◌<◌, ◌≤◌, max, min, nat_lt, nat_le, Bool, cond, List, [], ◌∷◌, ◌++◌, get_or, set, length}
+use Rattle.std.specs.Prelude.{ℕ, zero, suc, ◌<◌, ◌≤◌, max, min, nat_lt, nat_le, Bool, cond, List, [], ◌∷◌, ◌++◌, get_or, set, length, map, ◌≡◌, ◌↔◌}
+use Rattle.std.specs.List.{All}
 use Rattle.packing_core.specs.Covering.{Among}
 use Rattle.packing_core.specs.Packed.{no_cells}
 use Rattle.slice_core.specs.PackedRows.{HasRow}
-use Rattle.box_core.specs.Common.{At, both, first_of}
+use Rattle.slice_core.specs.Rows.{sides_of}
+use Rattle.slice_core.specs.declared.inward.IndexBox.{IndexBox}
+use Rattle.box_core.specs.Common.{At, EndsBy, both, first_of}
 use Rattle.box_core.specs.Meetings.{Met}
 use Rattle.box_core.specs.Rows.{IsRow, KeyBox}
 
@@ -54,3 +57,11 @@ IsClear holes first end place = (q : ℕ) (m : Met) → IsRow holes q m → firs
 abbrev pub IsRest : {P Q : Type 0} → List (KeyBox P) → List Q → List (KeyBox P) → Q → List ℕ → Type 0
 IsRest {P} left labels right l place =
     (i : ℕ) × (x : KeyBox P) × IsRow left i x × IsRow labels i l × At x.1 place × (HasRow right x.0 place → ⊥)
+
+-- rows with the label were added whose boxes are together what of the box is outside the holes from `first` up to before `end`
+pub record LeavesParts {Q : Type 0} (label : Q) (own : List (ℕ × ℕ)) (holes : List Met) (first end : ℕ) (old new : List (KeyBox Q)) : Type 0 where
+  pub parts : List IndexBox
+  pub made : new ≡ old ++ map (λ x. (label, x.sides.items)) parts
+  pub places : (place : List ℕ) → length place ≡ length own → HasBox (sides_of parts) place ↔ At own place × IsClear holes first end place
+  pub lengths : All (λ x. length x.sides.items ≡ length own) parts
+  pub ends : (z : List (ℕ × ℕ)) → Among z (sides_of parts) → EndsBy own z

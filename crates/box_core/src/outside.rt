@@ -5,7 +5,7 @@ ghost use Rattle.packing_core.specs.Covering.{Among};
 ghost use Rattle.slice_core.specs.Rows.{sides_of};
 ghost use Rattle.box_core.specs.Common.{At, EndsBy, first_of};
 ghost use Rattle.box_core.specs.Meetings.{Met};
-ghost use Rattle.box_core.specs.Outside.{part, beside, outside, past, ahead, HasBox, IsClear};
+ghost use Rattle.box_core.specs.Outside.{part, beside, narrowed, outside_to, outside, past, ahead, HasBox, IsClear};
 ghost use Rattle.box_core.specs.Rows.{IsRow};
 
 use crate::common::{both, first_cells};
@@ -51,7 +51,71 @@ fn push_beside(
     Ok(())
 }
 
-// Adds what of the piece is outside the hole: side after side what is beside it there and within it on the sides before.
+// Adds the piece itself with other cells on the side, if they are any.
+fn move_part(
+    out: &mut Vec<IndexBox>,
+    piece: IndexBox,
+    side: usize,
+    cells: (usize, usize),
+) -> Result<(), Memory>
+    requires { side < length piece.sides.items }
+    ensures { OnOk result (sides_of out.new.items ≡ sides_of out.old.items ++ part piece.sides.items side cells) }
+{
+    if cells.0 < cells.1 {
+        let mut sides = piece.sides;
+        sides[side] = cells;
+        out.push(IndexBox { sides })?;
+    }
+    Ok(())
+}
+
+// Adds the same as `push_beside`, the last of it in the piece's own list.
+fn move_beside(
+    alloc: Global,
+    out: &mut Vec<IndexBox>,
+    piece: IndexBox,
+    side: usize,
+    cells: (usize, usize),
+) -> Result<(), Memory>
+    requires { side < length piece.sides.items }
+    ensures { OnOk result (sides_of out.new.items ≡ sides_of out.old.items ++ beside piece.sides.items side cells) }
+{
+    let (begin, end) = piece.sides[side];
+    let after = (begin.max(cells.1), end);
+    if after.0 < after.1 {
+        push_part(alloc, out, &piece, side, (begin, end.min(cells.0)))?;
+        move_part(out, piece, side, after)?;
+    } else {
+        move_part(out, piece, side, (begin, end.min(cells.0)))?;
+    }
+    Ok(())
+}
+
+// Adds what of the piece is outside the hole on the first sides: side after side what is beside it there and within it on
+// the sides before. Gives what of the piece is within the hole on these sides.
+fn within_first(
+    alloc: Global,
+    out: &mut Vec<IndexBox>,
+    piece: IndexBox,
+    hole: &Meeting,
+    count: usize,
+) -> Result<IndexBox, Memory>
+    requires same { length piece.sides.items ≡ length hole.now.1 }
+    requires within { count ≤ length hole.now.1 }
+    ensures out { OnOk result (sides_of out.new.items ≡ sides_of out.old.items ++ outside_to count piece.sides.items hole.now.1) }
+    ensures rest { IfOk result (λ v. v.sides.items ≡ narrowed count piece.sides.items hole.now.1) }
+    ensures sides { IfOk result (λ v. length v.sides.items ≡ length hole.now.1) }
+{
+    let mut rest = piece;
+    for s in 0..count {
+        let cells = hole.sides[s];
+        push_beside(alloc, out, &rest, s, cells)?;
+        rest.sides[s] = both(rest.sides[s], cells);
+    }
+    Ok(rest)
+}
+
+// Adds what of the piece is outside the hole. What is beside it on the last side has the piece's own list.
 fn push_outside(
     alloc: Global,
     out: &mut Vec<IndexBox>,
@@ -61,12 +125,13 @@ fn push_outside(
     requires { length piece.sides.items ≡ length hole.now.1 }
     ensures { OnOk result (sides_of out.new.items ≡ sides_of out.old.items ++ outside hole.now.1 piece.sides.items) }
 {
-    let mut rest = piece;
-    for s in 0..hole.sides.len() {
-        let cells = hole.sides[s];
-        push_beside(alloc, out, &rest, s, cells)?;
-        rest.sides[s] = both(rest.sides[s], cells);
+    if hole.sides.len() == 0 {
+        return Ok(());
     }
+    let last = hole.sides.len() - 1;
+    let rest = within_first(alloc, out, piece, hole, last)?;
+    let cells = hole.sides[last];
+    move_beside(alloc, out, rest, last, cells)?;
     Ok(())
 }
 
@@ -146,9 +211,6 @@ pub fn less(
     ensures ends { IfOk result (λ v. (z : List (ℕ × ℕ)) → Among z (sides_of v.items) → EndsBy sides.items z) }
 {
     let mut pieces = one_box(alloc, sides)?;
-    if first == end {
-        return Ok(pieces);
-    }
     let mut done = Vec::new(alloc);
     for h in first..end {
         pieces = opened(alloc, &mut done, pieces, &holes[h])?;

@@ -4,9 +4,9 @@ ghost use Rattle.std.specs.List.{All};
 ghost use Rattle.std.specs.Vec.Iter.{into_iter_items};
 ghost use Rattle.packing_core.specs.Covering.{Among};
 ghost use Rattle.slice_core.specs.PackedRows.{HasRow};
-ghost use Rattle.box_core.specs.Common.{EndsBy};
+ghost use Rattle.box_core.specs.Common.{EndsBy, first_of};
 ghost use Rattle.box_core.specs.Meetings.{Met};
-ghost use Rattle.box_core.specs.Outside.{IsRest};
+ghost use Rattle.box_core.specs.Outside.{IsRest, LeavesParts};
 ghost use Rattle.box_core.specs.Rows.{Ascend, IsRow, KeyBox};
 
 use crate::meeting::{Meeting, overlaps};
@@ -76,6 +76,32 @@ fn push_labelled<Q: Label>(
     Ok(())
 }
 
+// Adds what of the box of the sides is outside the holes from `first` up to before `end`, with the label. A box without a
+// hole is added as it is.
+fn push_rest<Q: Label>(
+    alloc: Global,
+    out: &mut Vec<Key<Q>>,
+    label: Q,
+    sides: Vec<(usize, usize)>,
+    holes: &[Meeting],
+    first: usize,
+    end: usize,
+) -> Result<(), Memory>
+    requires range { first ≤ end }
+    requires within { end ≤ length holes.now }
+    requires same { (q : ℕ) (m : Met) → IsRow holes.now q m → first ≤ q → q < end → length m.1 ≡ length sides.items }
+    requires order { (q r : ℕ) (m n : Met) → IsRow holes.now q m → IsRow holes.now r n → first ≤ q → q ≤ r → r < end → (first_of m.1).0 ≤ (first_of n.1).0 }
+    ensures { OnOk result (LeavesParts label sides.items holes.now first end out.old.items out.new.items) }
+{
+    if first == end {
+        out.push(Key { label, sides })?;
+        return Ok(());
+    }
+    let parts = less(alloc, sides, holes, first, end)?;
+    push_labelled(alloc, out, label, parts)?;
+    Ok(())
+}
+
 // The sides of the next row.
 fn next_sides<P: Drop>(alloc: Global, rows: &mut IntoIter<Key<P>, Global>) -> Vec<(usize, usize)>
     ensures { (x : KeyBox P) (xs : List (KeyBox P)) → into_iter_items rows.old ≡ x ∷ xs → (result.items ≡ x.1) × (into_iter_items rows.new ≡ xs) }
@@ -118,8 +144,7 @@ pub fn rest<P: Label, Q: Label>(
     for label in labels {
         let end = holes_end(holes, first, row);
         let own = next_sides(alloc, &mut rows);
-        let parts = less(alloc, own, holes, first, end)?;
-        push_labelled(alloc, &mut out, label, parts)?;
+        push_rest(alloc, &mut out, label, own, holes, first, end)?;
         first = end;
         row += 1;
     }

@@ -1,9 +1,9 @@
-use Rattle.std.proofs.Common.{◌≡◌, ℕ, ◌≤◌, [], length, arith, subst, sym, refl}
+use Rattle.std.proofs.Common.{◌≡◌, ℕ, ◌≤◌, length, arith, subst, sym}
 use Rattle.std.specs.List.{All}
 use Rattle.slice_core.specs.Rows.{sides_of}
 use Rattle.slice_core.specs.declared.inward.IndexBox.{IndexBox}
 use Rattle.box_core.specs.Rows.{IsRow}
-use Rattle.box_core.proofs.LessLemmas.{IsSplit, all_sides, split_start, split_more, split_places, split_sides, split_ends, whole}
+use Rattle.box_core.proofs.LessLemmas.{IsSplit, all_sides, split_start, split_more, split_places, split_sides, split_ends}
 use Rattle.box_core.proofs.outside.less.Goals as goal
 
 pub loop-h-init : goal.loop-h-init
@@ -25,24 +25,6 @@ loop-h-preserved c =
     split_more c.args.sides.items c.args.holes.now c.args.first c.args.end h from (omega arith) m row (c.requires.same h m row from (omega arith))
     (λ r n a b d. c.requires.order h r m n row a from b d)
     c.loop-h.done.items c.loop-h.pieces.items c.opened.new.done.items c.in_ok-pieces-2.pieces.items c.in_ok-pieces-2.ensures.done c.in_ok-pieces-2.ensures.next c.loop-h.invariant
-
-pub returns-then-first-end-clause-places : goal.returns-then-first-end-clause-places
-returns-then-first-end-clause-places c =
-    let own = c.args.sides.items in
-    let pieces = c.in_ok-pieces.pieces.items in
-    split_places own c.args.holes.now c.args.first c.args.end [] pieces pieces refl (whole own c.args.holes.now c.args.first c.args.end pieces c.in_ok-pieces.ensures c.if-first-end.true)
-
-pub returns-then-first-end-clause-lengths : goal.returns-then-first-end-clause-lengths
-returns-then-first-end-clause-lengths c =
-    let own = c.args.sides.items in
-    let pieces = c.in_ok-pieces.pieces.items in
-    split_sides own c.args.holes.now c.args.first c.args.end [] pieces pieces refl (whole own c.args.holes.now c.args.first c.args.end pieces c.in_ok-pieces.ensures c.if-first-end.true)
-
-pub returns-then-first-end-clause-ends : goal.returns-then-first-end-clause-ends
-returns-then-first-end-clause-ends c =
-    let own = c.args.sides.items in
-    let pieces = c.in_ok-pieces.pieces.items in
-    split_ends own c.args.holes.now c.args.first c.args.end [] pieces pieces refl (whole own c.args.holes.now c.args.first c.args.end pieces c.in_ok-pieces.ensures c.if-first-end.true)
 
 pub returns-clause-places : goal.returns-clause-places
 returns-clause-places c =

@@ -1,24 +1,20 @@
-use Rattle.std.proofs.Common.{◌≡◌, ℕ, ◌<◌, ◌+◌, length, get_or, slice_set, arith, rules, subst, sym}
+use Rattle.std.proofs.Common.{◌≡◌, ℕ, ◌<◌, ◌+◌, ◌-◌, ◌++◌, length, get_or, arith, rules, subst}
 use Rattle.slice_core.specs.Rows.{sides_of}
-use Rattle.box_core.specs.Outside.{narrowed}
-use Rattle.box_core.proofs.LessLemmas.{narrowed_turn, outside_turn}
+use Rattle.box_core.specs.Outside.{outside_to}
+use Rattle.box_core.proofs.LessLemmas.{outside_turn}
 use Rattle.box_core.proofs.outside.push_outside.Goals as goal
 
-pub loop-s-preserved : goal.loop-s-preserved
-loop-s-preserved c =
+pub returns : goal.returns
+returns c =
     let y = c.args.piece.sides.items in
     let hole = c.args.hole.now.1 in
-    let rest = c.loop-s.rest.sides.items in
-    let s : ℕ = c.loop-s.s in
+    let rest = c.in_ok-rest.rest.sides.items in
     let same : c.hole.inside.sides.items ≡ hole = cc in
-    let cells : c.index-cells.result.now ≡ get_or hole s c.index-cells.result.now = subst (λ xs. c.index-cells.result.now ≡ get_or xs s c.index-cells.result.now) same c.index-cells.ensures in
-    let sides = c.loop-s.invariant.sides in
-    let test = c.loop-s-test.true in
-    let len = c.len-s-end.ensures in
-    let l : s < length hole = search rules in
-    let k : s < length rest = omega (arith, sides) in
-    record {
-      sides = search rules;
-      rest = subst (λ z. slice_set rest s z ≡ narrowed (s + 1) y hole) (sym c.both.ensures) (narrowed_turn y hole rest s c.index.result.now c.index-cells.result.now c.loop-s.invariant.rest k l c.index.ensures cells);
-      out = outside_turn y hole rest s c.index-cells.result.now (sides_of c.args.out.now.items) (sides_of c.loop-s.out.items) (sides_of c.push_beside.new.out.items) c.loop-s.invariant.rest l cells c.loop-s.invariant.out c.in_ok-push_beside.ensures;
-    }
+    let len : c.len-last.result ≡ length hole = search rules in
+    let low : 0 < length hole = search rules in
+    let last : ℕ = c.len-last.result - 1 in
+    let more : last + 1 ≡ length hole = omega (arith, len, low) in
+    let below : last < length hole = omega (arith, more) in
+    let cells : c.index-cells.result.now ≡ get_or hole last c.index-cells.result.now = subst (λ xs. c.index-cells.result.now ≡ get_or xs last c.index-cells.result.now) same c.index-cells.ensures in
+    subst (λ n. sides_of c.move_beside.new.out.items ≡ sides_of c.args.out.now.items ++ outside_to n y hole) more
+    (outside_turn y hole rest last c.index-cells.result.now (sides_of c.args.out.now.items) (sides_of c.within_first.new.out.items) (sides_of c.move_beside.new.out.items) c.in_ok-rest.ensures.rest below cells c.in_ok-rest.ensures.out c.in_ok-move_beside.ensures)

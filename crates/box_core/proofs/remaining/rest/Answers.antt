@@ -15,8 +15,8 @@ use Rattle.box_core.proofs.RowLemmas.{row_there}
 use Rattle.box_core.proofs.SharedLemmas.{map_same}
 use Rattle.box_core.proofs.remaining.rest.Goals as goal
 
-pub less-requires-clause-same : goal.less-requires-clause-same
-less-requires-clause-same g c =
+pub push_rest-requires-clause-same : goal.push_rest-requires-clause-same
+push_rest-requires-clause-same g c =
     let o = g.P.Label.order in
     let t = g.met.P.Label.total in
     let s = g.met.P.Label.separates in
@@ -40,8 +40,8 @@ less-requires-clause-same g c =
     let sides : c.next_sides-own.result.items ≡ x.1 = own.0 in
     λ q m h a b. hole_sides o t s left right c.args.sides c.requires.left c.requires.right holes is stand row c.loop-label.first c.holes_end-end.result c.loop-label.invariant.from e.from e.within e.same e.other x at q m h a b ∙ sym (ap length sides)
 
-pub less-requires-clause-order : goal.less-requires-clause-order
-less-requires-clause-order g c =
+pub push_rest-requires-clause-order : goal.push_rest-requires-clause-order
+push_rest-requires-clause-order g c =
     let o = g.P.Label.order in
     let t = g.met.P.Label.total in
     let s = g.met.P.Label.separates in
@@ -89,20 +89,21 @@ loop-label-preserved g c =
     let own = c.next_sides-own.ensures x (drop (row + 1) left) (c.loop-label.invariant.rows ∙ drop_row left row x at) in
     let sides : c.next_sides-own.result.items ≡ x.1 = own.0 in
     let longer : length (c.loop-label.yielded ++ l0 ∷ []) ≡ length c.loop-label.yielded + 1 = length_push c.loop-label.yielded l0 in
-    let parts = c.in_ok-parts.parts.items in
-    let places = subst (λ y. (place : List ℕ) → length place ≡ length y → HasBox (sides_of parts) place ↔ At y place × IsClear holes c.loop-label.first c.holes_end-end.result place) sides c.in_ok-parts.ensures.places in
-    let lengths = subst (λ (y : List (ℕ × ℕ)). All (λ (z : IndexBox). length z.sides.items ≡ length y) parts) sides c.in_ok-parts.ensures.lengths in
-    let ends = subst (λ y. (z : List (ℕ × ℕ)) → Among z (sides_of parts) → EndsBy y z) sides c.in_ok-parts.ensures.ends in
-    let made = c.in_ok-push_labelled.ensures in
+    let leaves = c.in_ok-push_rest.ensures in
+    let parts = leaves.parts in
+    let places = subst (λ y. (place : List ℕ) → length place ≡ length y → HasBox (sides_of parts) place ↔ At y place × IsClear holes c.loop-label.first c.holes_end-end.result place) sides leaves.places in
+    let lengths = subst (λ (y : List (ℕ × ℕ)). All (λ (z : IndexBox). length z.sides.items ≡ length y) parts) sides leaves.lengths in
+    let ends = subst (λ y. (z : List (ℕ × ℕ)) → Among z (sides_of parts) → EndsBy y z) sides leaves.ends in
+    let made = leaves.made in
     record {
       can = search rules;
       finite = search rules;
       count = omega (arith, longer, c.loop-label.invariant.count);
       rows = own.1;
       from = from_more o t s left right c.args.sides c.requires.left c.requires.right holes is stand row c.loop-label.first c.holes_end-end.result c.loop-label.invariant.from e.from e.within e.same e.other;
-      places = rest_turn o t s left right c.args.sides c.requires.left c.requires.right holes is stand row c.loop-label.first c.holes_end-end.result c.loop-label.invariant.from e.from e.within e.same e.other x at labels l0 named parts c.loop-label.out.items c.push_labelled.new.out.items made places c.loop-label.invariant.places;
-      box_ends = rest_ends o t s left right c.args.sides c.requires.left c.requires.right holes is stand row c.loop-label.first c.holes_end-end.result c.loop-label.invariant.from e.from e.within e.same e.other x at labels l0 named parts c.loop-label.out.items c.push_labelled.new.out.items made places c.loop-label.invariant.box_ends ends;
-      lengths = rest_sides o t s left right c.args.sides c.requires.left c.requires.right holes is stand row c.loop-label.first c.holes_end-end.result c.loop-label.invariant.from e.from e.within e.same e.other x at labels l0 named parts c.loop-label.out.items c.push_labelled.new.out.items made places c.loop-label.invariant.lengths lengths;
+      places = rest_turn o t s left right c.args.sides c.requires.left c.requires.right holes is stand row c.loop-label.first c.holes_end-end.result c.loop-label.invariant.from e.from e.within e.same e.other x at labels l0 named parts c.loop-label.out.items c.push_rest.new.out.items made places c.loop-label.invariant.places;
+      box_ends = rest_ends o t s left right c.args.sides c.requires.left c.requires.right holes is stand row c.loop-label.first c.holes_end-end.result c.loop-label.invariant.from e.from e.within e.same e.other x at labels l0 named parts c.loop-label.out.items c.push_rest.new.out.items made places c.loop-label.invariant.box_ends ends;
+      lengths = rest_sides o t s left right c.args.sides c.requires.left c.requires.right holes is stand row c.loop-label.first c.holes_end-end.result c.loop-label.invariant.from e.from e.within e.same e.other x at labels l0 named parts c.loop-label.out.items c.push_rest.new.out.items made places c.loop-label.invariant.lengths lengths;
     }
 
 pub returns-clause-places : goal.returns-clause-places

@@ -1,7 +1,7 @@
 use Rattle.std.proofs.Common.{◌≡◌, ◌++◌, length}
 use Rattle.slice_core.specs.Rows.{sides_of}
 use Rattle.box_core.specs.Outside.{narrowed, outside_to}
-use Rattle.box_core.proofs.outside.push_outside.Given as goal
+use Rattle.box_core.proofs.outside.within_first.Given as goal
 
 abbrev pub invariant-loop-s : goal.invariant-loop-s
 invariant-loop-s l = record {
