@@ -77,7 +77,7 @@ pub fn covered<O: CellOp, L: Ledger>(
     for i in 0..cuts.len() {
         let end = cuts[i];
         if begin < end {
-            sweep = advance(alloc, sweep, boxes, side, begin)?;
+            sweep = advance(sweep, boxes, side, begin)?;
             let rows = covered(alloc, side, boxes, sweep.live.as_slice(), op, least, steps)?;
             push_longer(&mut out, rows, (begin, end))?;
         }
