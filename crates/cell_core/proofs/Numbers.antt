@@ -3,8 +3,8 @@ use Rattle.std.proofs.Common.{◌≡◌, ℕ, zero, suc, ◌+◌, ◌*◌, ◌<�
 use Rattle.std.proofs.lemmas.Int.{ints, by_lt_z}
 use Rattle.std.proofs.lemmas.Bool.{cases_lt, cases_eq}
 use Rattle.std.proofs.lemmas.List.{take_more, get_or-set_same, get_or-set_other, get_or_default, length-map, length_push}
-use Rattle.std.proofs.lemmas.List.Elements.{All-same, All-push, recursion_from_All}
-use Rattle.std.specs.List.{All, AllByRecursion}
+use Rattle.std.proofs.lemmas.List.Elements.{All-same, All-push}
+use Rattle.std.specs.List.{All}
 use Rattle.std.specs.Option.{IsSome, IsNone}
 use Rattle.std.specs.Ordering.{int_cmp, is_eq}
 use Rattle.std.specs.FinMap.{int_cmp-IsAntisymmetric}
@@ -12,7 +12,7 @@ use Rattle.std.proofs.lemmas.Cmp.{int_cmp_total, tied_itself}
 use Rattle.std.specs.declared.cmp.Ordering.TheVariants.{Less, Equal, Greater}
 use Rattle.point_core.specs.Pairs.{InOrder}
 use Rattle.packing_core.specs.Covering.{Among}
-use Rattle.cell_core.specs.Numbering.{cut_at, Rises, ends, IsLastOf, HasTag, IsPlaced, IsPut, IsAdded, IsAtTag, of_cell, of_point}
+use Rattle.cell_core.specs.Numbering.{cut_at, Rises, ends, IsLastOf, HasTag, IsPlaced, IsPut, IsAdded, IsCellAt, AreEnds}
 
 pub cut_get : (ns : List ℤ) (top : ℤ) (i : ℕ) (d : ℤ) → i < length ns → cut_at ns top i ≡ get_or ns i d
 cut_get [] top i d h = absurd (omega arith)
@@ -126,31 +126,6 @@ module _ {P : Type 0} (n : P → ℤ) where
     | inr w ↦ ap (λ xs. cut_at xs top i) (ap (map n) w.0 ∙ map_push old p) ∙ cut_push (map n old) (n p) top i (let m = length-map old n in omega arith)
   ]
 
-  added_cells : (p : P) (old new : List P) (top : ℤ) → IsAdded n p old new → (cells : List (ℕ × ℕ)) → AllByRecursion (λ x. x.0 < length old) cells → map (of_cell (map n new) top) cells ≡ map (of_cell (map n old) top) cells
-  added_cells p old new top h [] a = refl
-  added_cells p old new top h (x ∷ xs) a = λ t. (added_cut p old new top x.0 h a.0 t, x.1) ∷ added_cells p old new top h xs a.1 t
-
-  cells_push : (ns : List ℤ) (top : ℤ) (cells : List (ℕ × ℕ)) (x : ℕ × ℕ) → map (of_cell ns top) (cells ++ x ∷ []) ≡ map (of_cell ns top) cells ++ of_cell ns top x ∷ []
-  cells_push ns top [] x = refl
-  cells_push ns top (y ∷ ys) x = ap (λ zs. of_cell ns top y ∷ zs) (cells_push ns top ys x)
-
-  points_push : (xs : List (P × ℕ)) (x : P × ℕ) → map (of_point n) (xs ++ x ∷ []) ≡ map (of_point n) xs ++ of_point n x ∷ []
-  points_push [] x = refl
-  points_push (y ∷ ys) x = ap (λ zs. of_point n y ∷ zs) (points_push ys x)
-
-  -- one pair more
-  pub cells_step : (x : P × ℕ) (old new : List P) (top : ℤ) (cells more : List (ℕ × ℕ)) (c : ℕ) (list : List (P × ℕ)) (i : ℕ) → IsAdded n x.0 old new → All (λ y. y.0 < length old) cells
-      → suc c ≡ length new → more ≡ cells ++ (c, x.1) ∷ [] → i < length list → x ≡ get_or list i x
-      → map (of_cell (map n old) top) cells ≡ map (of_point n) (take i list) → map (of_cell (map n new) top) more ≡ map (of_point n) (take (i + 1) list)
-  cells_step x old new top cells more c list i h a e m l q k =
-      let last : cut_at (map n new) top c ≡ n x.0 = cut_last (map n new) top (n x.0) c (added_last x.0 old new h) (e ∙ sym (length-map new n)) in
-      ap (map (of_cell (map n new) top)) m
-      ∙ cells_push (map n new) top cells (c, x.1)
-      ∙ (λ t. (added_cells x.0 old new top h cells (recursion_from_All (λ (y : ℕ × ℕ). y.0 < length old) cells a) ∙ k) t ++ (last t, x.1) ∷ [])
-      ∙ ap (λ y. map (of_point n) (take i list) ++ of_point n y ∷ []) q
-      ∙ sym (points_push (take i list) (get_or list i x))
-      ∙ ap (map (of_point n)) (sym (take_more list i x l))
-
   pub next_rises : (list : List (P × ℕ)) (i : ℕ) (x d : P × ℕ) (ns : List ℤ) → InOrder n list → i + 1 < length list → x ≡ get_or list i x → Rises ns (n x.0 +ℤ pos 1) → Rises ns (n (get_or list (i + 1) d).0 +ℤ pos 1)
   next_rises list i x d ns o l q r =
       let e : n x.0 ≡ n (get_or list i d).0 = ap (λ (y : P × ℕ). n y.0) (q ∙ get_or_default list i x d (omega arith)) in
@@ -247,21 +222,42 @@ module _ {P : Type 0} (n : P → ℤ) (has : P → Type 0) (high : ℤ) (spans :
         | inr w ↦ let k : length new ≡ length mid = ap length w.0 in omega arith
       ]
 
--- one cell more in the table
-pub table_step : (cells : List (ℕ × ℕ)) (i last count : ℕ) (x : ℕ × ℕ) (old new : List ℕ) → i < length cells → x ≡ get_or cells i x → length old ≡ count → new ≡ set old x.1 x.0
-    → ((tag : ℕ) → tag < count → IsAtTag (take i cells) last tag (get_or old tag 0)) → (tag : ℕ) → tag < count → IsAtTag (take (i + 1) cells) last tag (get_or new tag 0)
-table_step cells i last count x old new l q len e h tag b =
-    let more : take (i + 1) cells ≡ take i cells ++ x ∷ [] = take_more cells i x l ∙ ap (λ y. take i cells ++ y ∷ []) (sym q) in
-    subst (λ ys. IsAtTag ys last tag (get_or new tag 0)) (sym more)
+  pub ends_step : has x.0 → AreEnds n has high spans r old → AreEnds n has high spans (r + 1) new
+  ends_step h ends = record {
+    placed = placed_step h ends.placed;
+    found = found_step ends.found;
+    count = count_step ends.count;
+  }
+
+pub ends_none : {P : Type 0} (n : P → ℤ) (has : P → Type 0) (high : ℤ) (spans : List (P × P)) (list : List (P × ℕ)) → list ≡ [] → AreEnds n has high spans 0 list
+ends_none n has high spans list e = record {
+  placed = λ x h. absurd (subst (Among x) e h);
+  found = λ tag h. absurd (omega arith);
+  count = let z : length list ≡ 0 = ap length e in omega arith;
+}
+
+-- one point more in the table
+pub table_step : {P : Type 0} (n : P → ℤ) (x : P × ℕ) (old new : List P) (top : ℤ) (list : List (P × ℕ)) (i rest count c : ℕ) (before after : List ℕ)
+    → IsAdded n x.0 old new → suc c ≡ length new → i < length list → x ≡ get_or list i x → length before ≡ count → after ≡ set before x.1 c
+    → ((tag : ℕ) → tag < count → IsCellAt n old top rest (take i list) tag (get_or before tag 0))
+    → (tag : ℕ) → tag < count → IsCellAt n new top rest (take (i + 1) list) tag (get_or after tag 0)
+table_step n x old new top list i rest count c before after added e l q len w h tag b =
+    let more : take (i + 1) list ≡ take i list ++ x ∷ [] = take_more list i x l ∙ ap (λ y. take i list ++ y ∷ []) (sym q) in
+    let longer = (added_length n x.0 old new added).0 in
+    subst (λ ys. IsCellAt n new top rest ys tag (get_or after tag 0)) (sym more)
     (elim (cases_eq x.1 tag) [
       | inl s ↦
-          let v : get_or new tag 0 ≡ x.0 = ap (λ ys. get_or ys tag 0) e ∙ ap (λ m. get_or (set old m x.0) tag 0) s ∙ get_or-set_same old tag x.0 0 (omega arith) in
-          inl (subst (λ c. Among (c, tag) (take i cells ++ x ∷ [])) (sym v) (subst (λ m. Among (x.0, m) (take i cells ++ x ∷ [])) s (among_end (take i cells) x)))
+          let v : get_or after tag 0 ≡ c = ap (λ ys. get_or ys tag 0) w ∙ ap (λ m. get_or (set before m c) tag 0) s ∙ get_or-set_same before tag c 0 (omega arith) in
+          let last : cut_at (map n new) top c ≡ n x.0 = cut_last (map n new) top (n x.0) c (added_last n x.0 old new added) (e ∙ sym (length-map new n)) in
+          subst (IsCellAt n new top rest (take i list ++ x ∷ []) tag) (sym v)
+          (inl (x.0, subst (λ m. Among (x.0, m) (take i list ++ x ∷ [])) s (among_end (take i list) x), last, omega arith))
       | inr s ↦
-          let v : get_or new tag 0 ≡ get_or old tag 0 = ap (λ ys. get_or ys tag 0) e ∙ get_or-set_other old x.1 tag x.0 0 (λ w. s (sym w)) in
-          subst (IsAtTag (take i cells ++ x ∷ []) last tag) (sym v) (elim (h tag b) [
-            | inl w ↦ inl (among_front (take i cells) _ _ w)
-            | inr w ↦ inr (w.0, λ k. elim (tag_push (take i cells) x tag k) [ inl u ↦ w.1 u | inr u ↦ s u ])
+          let v : get_or after tag 0 ≡ get_or before tag 0 = ap (λ ys. get_or ys tag 0) w ∙ get_or-set_other before x.1 tag c 0 (λ z. s (sym z)) in
+          subst (IsCellAt n new top rest (take i list ++ x ∷ []) tag) (sym v) (elim (h tag b) [
+            | inl u ↦
+                let inside : get_or before tag 0 < length old = u.3 in
+                inl (u.0, among_front (take i list) _ _ u.1, added_cut n x.0 old new top (get_or before tag 0) added inside ∙ u.2, omega arith)
+            | inr u ↦ inr (u.0, λ k. elim (tag_push (take i list) x tag k) [ inl y ↦ u.1 y | inr y ↦ s y ])
           ])
     ])
 

@@ -1,7 +1,7 @@
 -- The numbering of a side, from its steps.
-use Rattle.std.proofs.Common.{◌≡◌, ℕ, ◌+◌, ◌*◌, ◌<◌, ◌≤◌, ℤ, pos, ◌+ℤ◌, ◌-ℤ◌, List, [], ◌∷◌, map, length, get_or, ◌⊎◌, inl, inr, arith, sym, ap, subst, refl, ◌∙◌}
+use Rattle.std.proofs.Common.{◌≡◌, ℕ, ◌+◌, ◌*◌, ◌<◌, ◌≤◌, min, ℤ, pos, ◌+ℤ◌, ◌-ℤ◌, List, [], ◌∷◌, map, length, get_or, inl, inr, arith, sym, ap, subst, refl, ◌∙◌}
 use Rattle.std.proofs.lemmas.Int.{ints}
-use Rattle.std.specs.List.{All, AllByRecursion, Contains}
+use Rattle.std.specs.List.{All, AllByRecursion}
 use Rattle.std.specs.List.Sorted.{IsPermutation}
 use Rattle.std.proofs.lemmas.List.{length-map}
 use Rattle.std.proofs.lemmas.List.Elements.{All-from_recursion, recursion_from_All}
@@ -9,7 +9,7 @@ use Rattle.std.proofs.lemmas.List.Sorted.{Contains-permutation, IsPermutation-sy
 use Rattle.packing_core.specs.Packed.{no_cells}
 use Rattle.packing_core.specs.Covering.{Among}
 use Rattle.packing_core.proofs.Order.{among_contains, contains_among}
-use Rattle.cell_core.specs.Numbering.{cut_at, span_at, numbers_of, ends, HasTag, IsPlaced, IsAtTag, of_cell, of_point}
+use Rattle.cell_core.specs.Numbering.{cut_at, span_at, numbers_of, ends, HasTag, AreEnds, IsCellAt}
 use Rattle.cell_core.proofs.Numbers.{cut_end, length_ends, ends_even, ends_odd}
 
 pub all_among : {X : Type 0} (P : X → Type 0) (xs : List X) → ((x : X) → Among x xs → P x) → All P xs
@@ -29,6 +29,9 @@ among_all P xs x a h = go xs (recursion_from_All P xs a) h
 pub among_moved : {X : Type 0} (xs ys : List X) → IsPermutation xs ys → (x : X) → Among x xs → Among x ys
 among_moved xs ys p x h = contains_among ys x (Contains-permutation xs ys x p (among_contains xs x h))
 
+pub all_moved : {X : Type 0} (P : X → Type 0) (xs ys : List X) → IsPermutation xs ys → All P xs → All P ys
+all_moved P xs ys p a = all_among P ys (λ x h. among_all P xs x a (among_moved ys xs (IsPermutation-sym xs ys p) x h))
+
 tag_by : {X : Type 0} (xs : List (X × ℕ)) (tag : ℕ) → HasTag xs tag → (x : X × ℕ) × Among x xs × (x.1 ≡ tag)
 tag_by [] tag h = absurd h
 tag_by (x ∷ xs) tag h = elim h [ inl e ↦ (x, inl refl, e) | inr w ↦ let v = tag_by xs tag w in (v.0, inr v.1, v.2) ]
@@ -40,86 +43,47 @@ tag_from (y ∷ ys) x h = elim h [ inl e ↦ inl (ap (λ (z : _ × ℕ). z.1) e)
 tag_moved : {X : Type 0} (xs ys : List (X × ℕ)) → IsPermutation xs ys → (tag : ℕ) → HasTag xs tag → HasTag ys tag
 tag_moved xs ys p tag h = let w = tag_by xs tag h in subst (HasTag ys) w.2 (tag_from ys w.0 (among_moved xs ys p w.0 w.1))
 
-module _ {P : Type 0} (n : P → ℤ) (has : P → Type 0) (high : ℤ) (spans : List (P × P)) (list sorted : List (P × ℕ)) (moved : IsPermutation list sorted)
-    (placed : (x : P × ℕ) → Among x list → IsPlaced n has spans x) where
-  pub has_listed : (x : P × ℕ) → Contains list x → has x.0
-  has_listed x h = (placed x (contains_among list x h)).2
+module _ {P : Type 0} (n : P → ℤ) (has : P → Type 0) (high : ℤ) (spans : List (P × P)) (list : List (P × ℕ)) (all : AreEnds n has high spans (length spans) list) where
+  pub points_listed : All (λ x. has x.0) list
+  points_listed = all_among (λ x. has x.0) list (λ x h. (all.placed x h).2)
 
-  placed_sorted : (x : P × ℕ) → Among x sorted → IsPlaced n has spans x
-  placed_sorted x h = placed x (among_moved sorted list (IsPermutation-sym list sorted moved) x h)
+  pub places_listed : All (λ x. x.1 < 2 * length spans) list
+  places_listed = all_among (λ x. x.1 < 2 * length spans) list (λ x h. let p = (all.placed x h).0 in let l = length_ends n spans in omega arith)
 
-  pub has_sorted : All (λ x. has x.0) sorted
-  has_sorted = all_among (λ x. has x.0) sorted (λ x h. (placed_sorted x h).2)
-
-  module _ (cuts : List P) (ranks : List (ℕ × ℕ)) (same : map (of_cell (map n cuts) (high +ℤ pos 1)) ranks ≡ map (of_point n) sorted) where
+  module _ (sorted : List (P × ℕ)) (moved : IsPermutation list sorted) (cuts : List P) (table : List ℕ) (rest last : ℕ) (is_last : last ≡ length cuts) (below : length cuts ≤ rest)
+      (at : (tag : ℕ) → tag < 2 * length spans → IsCellAt n cuts (high +ℤ pos 1) rest sorted tag (get_or table tag 0)) where
     abbrev top : ℤ
     top = high +ℤ pos 1
 
-    point_of : (rs : List (ℕ × ℕ)) (ps : List (P × ℕ)) → map (of_cell (map n cuts) top) rs ≡ map (of_point n) ps → (x : ℕ × ℕ) → Among x rs → (y : P × ℕ) × Among y ps × (of_cell (map n cuts) top x ≡ of_point n y)
-    point_of [] ps e x h = absurd h
-    point_of (r ∷ rs) [] e x h = cc
-    point_of (r ∷ rs) (p ∷ ps) e x h =
-        let a : of_cell (map n cuts) top r ≡ of_point n p = cc in
-        let b : map (of_cell (map n cuts) top) rs ≡ map (of_point n) ps = cc in
-        elim h [
-          | inl q ↦ (p, inl refl, ap (of_cell (map n cuts) top) (sym q) ∙ a)
-          | inr w ↦ let v = point_of rs ps b x w in (v.0, inr v.1, v.2)
+    at_tag : (tag : ℕ) → tag < 2 * length spans → (cut_at (map n cuts) top (min (get_or table tag 0) last) ≡ get_or (ends n spans) tag (pos 0)) × (min (get_or table tag 0) last ≤ length cuts)
+    at_tag tag h =
+        let c : ℕ = get_or table tag 0 in
+        elim (at tag h) [
+          | inl w ↦
+              let p = all.placed (w.0, tag) (among_moved sorted list (IsPermutation-sym list sorted moved) (w.0, tag) w.1) in
+              let b : c < length cuts = w.3 in
+              let e : min c last ≡ c = omega arith in
+              (ap (cut_at (map n cuts) top) e ∙ w.2 ∙ sym p.1, omega arith)
+          | inr w ↦
+              let b : c ≡ rest = w.0 in
+              let e : min c last ≡ length cuts = omega arith in (
+                elim (all.found tag h) [
+                  | inl v ↦ absurd (w.1 (tag_moved list sorted moved tag v))
+                  | inr v ↦ ap (cut_at (map n cuts) top) (e ∙ sym (length-map cuts n)) ∙ cut_end (map n cuts) top ∙ sym v
+                ],
+                omega arith,
+              )
         ]
 
-    tag_of : (rs : List (ℕ × ℕ)) (ps : List (P × ℕ)) → map (of_cell (map n cuts) top) rs ≡ map (of_point n) ps → (tag : ℕ) → HasTag ps tag → HasTag rs tag
-    tag_of [] [] e tag h = h
-    tag_of [] (p ∷ ps) e tag h = cc
-    tag_of (r ∷ rs) [] e tag h = absurd h
-    tag_of (r ∷ rs) (p ∷ ps) e tag h =
-        let a : of_cell (map n cuts) top r ≡ of_point n p = cc in
-        let b : map (of_cell (map n cuts) top) rs ≡ map (of_point n) ps = cc in
-        elim h [
-          | inl q ↦ inl (ap (λ (z : ℤ × ℕ). z.1) a ∙ q)
-          | inr w ↦ inr (tag_of rs ps b tag w)
-        ]
+    module _ (cells : List (ℕ × ℕ)) (pairs : (r : ℕ) (d : ℕ × ℕ) → r < length spans → get_or cells r d ≡ (min (get_or table (2 * r) 0) last, min (get_or table (2 * r + 1) 0) last)) where
+      pub spans_of : (r : ℕ) (d : P × P) → r < length spans → span_at (map n cuts) top (get_or cells r no_cells) ≡ numbers_of n (get_or spans r d)
+      spans_of r d h =
+          let a = (at_tag (2 * r) (omega arith)).0 ∙ ends_even n spans r d h in
+          let b = (at_tag (2 * r + 1) (omega arith)).0 ∙ ends_odd n spans r d h in
+          let e : cut_at (map n cuts) top (min (get_or table (2 * r + 1) 0) last) -ℤ pos 1 ≡ n (get_or spans r d).1 = omega (arith, ints) in
+          ap (span_at (map n cuts) top) (pairs r no_cells h) ∙ (λ t. (a t, e t))
 
-    pub tags_fit : (count : ℕ) → count ≡ 2 * length spans → All (λ x. x.1 < count) ranks
-    tags_fit count e = all_among (λ x. x.1 < count) ranks (λ x h.
-        let w = point_of ranks sorted same x h in
-        let p = (placed_sorted w.0 w.1).0 in
-        let q : x.1 ≡ (w.0).1 = ap (λ (z : ℤ × ℕ). z.1) w.2 in
-        let l = length_ends n spans in
-        omega arith)
-
-    module _ (found : (tag : ℕ) → tag < length (ends n spans) → HasTag list tag ⊎ (get_or (ends n spans) tag (pos 0) ≡ top))
-        (inside : All (λ x. x.0 < length cuts) ranks) (table : List ℕ) (last count : ℕ) (is_last : last ≡ length cuts) (is_count : count ≡ 2 * length spans)
-        (at : (tag : ℕ) → tag < count → IsAtTag ranks last tag (get_or table tag 0)) where
-      at_tag : (tag : ℕ) → tag < count → (cut_at (map n cuts) top (get_or table tag 0) ≡ get_or (ends n spans) tag (pos 0)) × (get_or table tag 0 ≤ length cuts)
-      at_tag tag h =
-          let c : ℕ = get_or table tag 0 in
-          elim (at tag h) [
-            | inl w ↦
-                let v = point_of ranks sorted same (c, tag) w in
-                let y : P × ℕ = v.0 in
-                let p = placed_sorted y v.1 in
-                let q : tag ≡ y.1 = ap (λ (z : ℤ × ℕ). z.1) v.2 in
-                let b : c < length cuts = among_all (λ x. x.0 < length cuts) ranks (c, tag) inside w in
-                (ap (λ (z : ℤ × ℕ). z.0) v.2 ∙ sym p.1 ∙ ap (λ m. get_or (ends n spans) m (pos 0)) (sym q), omega arith)
-            | inr w ↦
-                let e : c ≡ length cuts = w.0 ∙ is_last in
-                let l = length_ends n spans in (
-                  elim (found tag (omega arith)) [
-                    | inl v ↦ absurd (w.1 (tag_of ranks sorted same tag (tag_moved list sorted moved tag v)))
-                    | inr v ↦ ap (cut_at (map n cuts) top) (e ∙ sym (length-map cuts n)) ∙ cut_end (map n cuts) top ∙ sym v
-                  ],
-                  omega arith,
-                )
-          ]
-
-      module _ (cells : List (ℕ × ℕ)) (pairs : (r : ℕ) (d : ℕ × ℕ) → r < length spans → get_or cells r d ≡ (get_or table (2 * r) 0, get_or table (2 * r + 1) 0)) where
-        pub cells_of : (r : ℕ) (d : P × P) → r < length spans → span_at (map n cuts) top (get_or cells r no_cells) ≡ numbers_of n (get_or spans r d)
-        cells_of r d h =
-            let a = (at_tag (2 * r) (omega arith)).0 ∙ ends_even n spans r d h in
-            let b = (at_tag (2 * r + 1) (omega arith)).0 ∙ ends_odd n spans r d h in
-            let e : cut_at (map n cuts) top (get_or table (2 * r + 1) 0) -ℤ pos 1 ≡ n (get_or spans r d).1 = omega (arith, ints) in
-            ap (span_at (map n cuts) top) (pairs r no_cells h) ∙ (λ t. (a t, e t))
-
-        pub cells_within : (r : ℕ) → r < length spans → (get_or cells r no_cells).1 ≤ length cuts
-        cells_within r h =
-            let b = (at_tag (2 * r + 1) (omega arith)).1 in
-            subst (λ (x : ℕ × ℕ). x.1 ≤ length cuts) (sym (pairs r no_cells h)) b
+      pub cells_within : (r : ℕ) → r < length spans → (get_or cells r no_cells).1 ≤ length cuts
+      cells_within r h =
+          let b = (at_tag (2 * r + 1) (omega arith)).1 in
+          subst (λ (x : ℕ × ℕ). x.1 ≤ length cuts) (sym (pairs r no_cells h)) b

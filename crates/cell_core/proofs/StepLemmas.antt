@@ -33,9 +33,9 @@ sort_within m n h =
     let b : m * binary_digits (2 * n) ≤ 2 * n * binary_digits (2 * n) = mul-le-mul_right (binary_digits (2 * n)) h in
     omega arith
 
--- the parts of the numbering of a side: the ends, their sort, their cells, and the last points of the cells
-pub side_within : (n m k old a b c d : ℕ) → m ≤ 2 * n → k ≤ m → a ≤ old + n → b ≡ a + m * binary_digits m → c ≤ b + m → d ≤ c + k → d ≤ old + side_cost n
-side_within n m k old a b c d h l p q r s =
+-- the parts of the numbering of a side: the sort of the ends, their cells, and the last points of the cells
+pub side_within : (n m k old b c d : ℕ) → m ≤ 2 * n → k ≤ m → b ≡ old + m * binary_digits m → c ≤ b + m → d ≤ c + k → d + n ≤ old + side_cost n
+side_within n m k old b c d h l q r s =
     let w : m * binary_digits m ≤ 2 * n * binary_digits (2 * n) = sort_within m n h in
     omega (arith, w)
 

@@ -53,17 +53,18 @@ abbrev pub IsAdded : {P : Type 0} → (P → ℤ) → P → List P → List P �
 IsAdded n p old new =
     ((new ≡ old) × IsLastOf (map n old) (n p)) ⊎ ((new ≡ old ++ p ∷ []) × ¬ (IsLastOf (map n old) (n p)))
 
--- the cell at a place of the table: the one that stands in the list with this place, else `last`
-abbrev pub IsAtTag : List (ℕ × ℕ) → ℕ → ℕ → ℕ → Type 0
-IsAtTag cells last tag c = Among (c, tag) cells ⊎ ((c ≡ last) × ¬ (HasTag cells tag))
+-- the list has the ends of the first r spans with their places
+pub record AreEnds {P : Type 0} (n : P → ℤ) (has : P → Type 0) (high : ℤ) (spans : List (P × P)) (r : ℕ)
+    (list : List (P × ℕ)) : Type 0 where
+  pub placed : (x : P × ℕ) → Among x list → IsPlaced n has spans x
+  pub found : (tag : ℕ) → tag < 2 * r → HasTag list tag ⊎ (get_or (ends n spans) tag (pos 0) ≡ high +ℤ pos 1)
+  pub count : length list ≤ 2 * r
 
--- the number of the cell's first point, with the place
-abbrev pub of_cell : List ℤ → ℤ → ℕ × ℕ → ℤ × ℕ
-of_cell cuts top x = (cut_at cuts top x.0, x.1)
-
--- the point's number, with the place
-abbrev pub of_point : {P : Type 0} → (P → ℤ) → P × ℕ → ℤ × ℕ
-of_point n x = (n x.0, x.1)
+-- the cell at a place of the table: the one that begins at the point with this place in the list, else `rest`
+abbrev pub IsCellAt : {P : Type 0} → (P → ℤ) → List P → ℤ → ℕ → List (P × ℕ) → ℕ → ℕ → Type 0
+IsCellAt {P} n cuts top rest list tag c =
+    ((p : P) × Among (p, tag) list × (cut_at (map n cuts) top c ≡ n p) × (c < length cuts))
+    ⊎ ((c ≡ rest) × ¬ (HasTag list tag))
 
 -- what the numbering of a side gives: the cuts, the last point of each cell, and the cells of each span
 pub record IsSide {P : Type 0} (n : P → ℤ) (has : P → Type 0) (high : ℤ) (spans : List (P × P))

@@ -1,11 +1,9 @@
 // The numbering of the cuts of one side, and the way back.
-ghost use Rattle.std.specs.Prelude.{◌≡◌, ℕ, ℤ, pos, ◌+ℤ◌, ◌-ℤ◌, ◌≤ℤ◌, ◌<ℤ◌, ◌<◌, ◌≤◌, ◌⊎◌, ◌*◌, ◌+◌, ◌^◌, suc, true};
-ghost use Rattle.std.specs.Prelude.{false, map, [], get_or, length, slice_index_or, OnOk, IfOk};
+ghost use Rattle.std.specs.Prelude.{◌≡◌, ℕ, ℤ, pos, ◌+ℤ◌, ◌-ℤ◌, ◌≤ℤ◌, ◌<ℤ◌, ◌<◌, ◌≤◌, ◌*◌, ◌+◌, ◌^◌, suc, min, true};
+ghost use Rattle.std.specs.Prelude.{false, map, [], List, get_or, length, slice_index_or, OnOk, IfOk};
 ghost use Rattle.std.specs.List.{All};
 ghost use Rattle.point_core.specs.Pairs.{InOrder};
-ghost use Rattle.packing_core.specs.Covering.{Among};
-ghost use Rattle.cell_core.specs.Numbering.{cut_at, Rises, span_at, numbers_of, ends, IsLastOf, HasTag, IsPlaced};
-ghost use Rattle.cell_core.specs.Numbering.{IsPut, IsAdded, IsAtTag, of_cell, of_point, IsSide};
+ghost use Rattle.cell_core.specs.Numbering.{cut_at, Rises, IsLastOf, IsPut, IsAdded, IsCellAt, AreEnds, IsSide};
 ghost use Rattle.cell_core.specs.Costs.{side_cost};
 
 use point_core::{Memory, PointType, Steps};
@@ -35,7 +33,28 @@ fn put_after<T: PointType, L: Ledger>(
     }
 }
 
-// The ends of the spans with their places: 2r for the begin of r, 2r + 1 for the point after its end.
+// Adds the ends of the span at the place r with their places: 2r for its begin, 2r + 1 for the point after its end.
+pub fn put_ends<T: PointType, L: Ledger>(
+    t: &T,
+    span: (T::Point, T::Point),
+    r: usize,
+    list: &mut Vec<(T::Point, usize)>,
+    steps: &mut Steps<L>,
+) -> Result<(), Memory>
+    requires few { r < 2 ^ 61 }
+    requires begin { T.IsPoint t.now span.0 }
+    requires end { T.IsPoint t.now span.1 }
+    ensures ends { OnOk result ((spans : List (T.Point × T.Point)) → r < length spans → span ≡ get_or spans r span →
+        AreEnds T.number_of (T.IsPoint t.now) (T.last_number t.now) spans r list.old.items →
+        AreEnds T.number_of (T.IsPoint t.now) (T.last_number t.now) spans (r + 1) list.new.items) }
+    ensures cost { steps.new ≤ steps.old + 1 }
+{
+    list.push((span.0, 2 * r))?;
+    put_after(t, span.1, 2 * r + 1, list, steps)?;
+    Ok(())
+}
+
+// The ends of the spans with their places.
 fn ends_list<T: PointType, L: Ledger>(
     alloc: Global,
     t: &T,
@@ -45,17 +64,14 @@ fn ends_list<T: PointType, L: Ledger>(
     requires few { length spans.now < 2 ^ 61 }
     requires begins { All (λ x. T.IsPoint t.now x.0) spans.now }
     requires ends { All (λ x. T.IsPoint t.now x.1) spans.now }
-    ensures placed { IfOk result (λ v. (x : _) → Among x v.items → IsPlaced T.number_of (T.IsPoint t.now) spans.now x) }
-    ensures found { IfOk result (λ v. (tag : ℕ) → tag < length (ends T.number_of spans.now) → HasTag v.items tag ⊎
-        (get_or (ends T.number_of spans.now) tag (pos 0) ≡ T.last_number t.now +ℤ pos 1)) }
-    ensures count { IfOk result (λ v. length v.items ≤ 2 * length spans.now) }
+    ensures ends { IfOk result (λ v. AreEnds T.number_of (T.IsPoint t.now) (T.last_number t.now) spans.now
+        (length spans.now) v.items) }
     ensures cost { steps.new ≤ steps.old + length spans.now }
 {
     let mut list = Vec::with_capacity(alloc, 2 * spans.len())?;
     for r in 0..spans.len() {
         let span = spans[r];
-        list.push((span.0, 2 * r))?;
-        put_after(t, span.1, 2 * r + 1, &mut list, steps)?;
+        put_ends(t, span, r, &mut list, steps)?;
     }
     Ok(list)
 }
@@ -99,62 +115,51 @@ fn add<T: PointType, L: Ledger>(
     Ok(())
 }
 
-// The different points of an ordered list, and each pair's cell and place.
-fn ranks_of<T: PointType, L: Ledger>(
+// The different points of an ordered list, and the cell of each place; `count` where the list hasn't the place.
+fn cells_of<T: PointType, L: Ledger>(
     alloc: Global,
     t: &T,
     list: &[(T::Point, usize)],
+    count: usize,
     cuts: &mut Vec<T::Point>,
     steps: &mut Steps<L>,
-) -> Result<Vec<(usize, usize)>, Memory>
+) -> Result<Vec<usize>, Memory>
     requires points { All (λ x. T.IsPoint t.now x.0) list.now }
+    requires places { All (λ x. x.1 < count) list.now }
     requires order { InOrder T.number_of list.now }
     requires none { cuts.old.items ≡ [] }
     ensures points { OnOk result (All (T.IsPoint t.now) cuts.new.items) }
     ensures rises { OnOk result (Rises (map T.number_of cuts.new.items) (T.last_number t.now +ℤ pos 1)) }
-    ensures cells { IfOk result (λ v. map (of_cell (map T.number_of cuts.new.items) (T.last_number t.now +ℤ pos 1))
-        v.items ≡ map (of_point T.number_of) list.now) }
-    ensures within { IfOk result (λ v. All (λ x. x.0 < length cuts.new.items) v.items) }
+    ensures length { IfOk result (λ v. length v.items ≡ count) }
+    ensures cells { IfOk result (λ v. (tag : ℕ) → tag < count → IsCellAt T.number_of cuts.new.items
+        (T.last_number t.now +ℤ pos 1) count list.now tag (get_or v.items tag 0)) }
     ensures count { OnOk result (length cuts.new.items ≤ length list.now) }
     ensures cost { steps.new ≤ steps.old + length list.now }
 {
-    let mut cells = Vec::with_capacity(alloc, list.len())?;
+    let mut table = vec![in alloc; count; count]?;
     for x in list {
         add(t, cuts, x.0, steps)?;
-        cells.push((cuts.len() - 1, x.1))?;
-    }
-    Ok(cells)
-}
-
-// The cell of each place; `last` where the list has none.
-fn table(
-    alloc: Global,
-    count: usize,
-    last: usize,
-    cells: &[(usize, usize)],
-) -> Result<Vec<usize>, Memory>
-    requires tags { All (λ x. x.1 < count) cells.now }
-    ensures length { IfOk result (λ v. length v.items ≡ count) }
-    ensures cells { IfOk result (λ v. (tag : ℕ) → tag < count → IsAtTag cells.now last tag (get_or v.items tag 0)) }
-{
-    let mut table = vec![in alloc; last; count]?;
-    for x in cells {
-        table[x.1] = x.0;
+        table[x.1] = cuts.len() - 1;
     }
     Ok(table)
 }
 
-// The two cells of each span.
-fn cell_pairs(alloc: Global, count: usize, table: &[usize]) -> Result<Vec<(usize, usize)>, Memory>
+// The two cells of each span; `last` for a place without a cell, whose stand-in in the table is no less.
+fn cell_pairs(
+    alloc: Global,
+    count: usize,
+    last: usize,
+    table: &[usize],
+) -> Result<Vec<(usize, usize)>, Memory>
     requires few { count < 2 ^ 61 }
     requires length { length table.now ≡ 2 * count }
     ensures length { IfOk result (λ v. length v.items ≡ count) }
     ensures pairs { IfOk result (λ v. (r : ℕ) (d : ℕ × ℕ) → r < count → get_or v.items r d ≡
-        (get_or table.now (2 * r) 0, get_or table.now (2 * r + 1) 0)) }
+        (min (get_or table.now (2 * r) 0) last, min (get_or table.now (2 * r + 1) 0) last)) }
 {
     let mut out = Vec::with_capacity(alloc, count)?;
     for r in 0..count {
-        out.push((table[2 * r], table[2 * r + 1]))?;
+        out.push((table[2 * r].min(last), table[2 * r + 1].min(last)))?;
     }
     Ok(out)
 }
@@ -221,6 +226,36 @@ impl<T: PointType> Model for Side<T> {
     ghost view = { λ s. (s.cuts.items, s.lasts.items, s.cells.items) };
 }
 
+// The numbering of one side by the ends of its `count` spans, which are put in order.
+pub fn side_by_ends<T: PointType, L: Ledger>(
+    alloc: Global,
+    t: &T,
+    count: usize,
+    list: &mut Vec<(T::Point, usize)>,
+    steps: &mut Steps<L>,
+) -> Result<Side<T>, Memory>
+    requires few { count < 2 ^ 61 }
+    requires points { All (λ x. T.IsPoint t.now x.0) list.old.items }
+    requires places { All (λ x. x.1 < 2 * count) list.old.items }
+    requires count { length list.old.items ≤ 2 * count }
+    ensures side { IfOk result (λ s. (spans : List (T.Point × T.Point)) → length spans ≡ count →
+        AreEnds T.number_of (T.IsPoint t.now) (T.last_number t.now) spans count list.old.items →
+        IsSide T.number_of (T.IsPoint t.now) (T.last_number t.now) spans s) }
+    ensures cost { steps.new + count ≤ steps.old + side_cost count }
+{
+    let mut cuts = Vec::with_capacity(alloc, list.len())?;
+    t.sort(alloc, list, steps)?;
+    let table = cells_of(alloc, t, list.as_slice(), 2 * count, &mut cuts, steps)?;
+    let cells = cell_pairs(alloc, count, cuts.len(), table.as_slice())?;
+    let ends = lasts(alloc, t, cuts.as_slice(), steps)?;
+    let side = Side {
+        cuts,
+        lasts: ends,
+        cells,
+    };
+    Ok(side)
+}
+
 // The numbering of one side.
 pub fn numbering<T: PointType, L: Ledger>(
     alloc: Global,
@@ -235,16 +270,6 @@ pub fn numbering<T: PointType, L: Ledger>(
     ensures cost { steps.new ≤ steps.old + side_cost (length spans.now) }
 {
     let mut list = ends_list(alloc, t, spans, steps)?;
-    t.sort(alloc, &mut list, steps)?;
-    let mut cuts = Vec::new(alloc);
-    let ranks = ranks_of(alloc, t, list.as_slice(), &mut cuts, steps)?;
-    let tags = table(alloc, 2 * spans.len(), cuts.len(), ranks.as_slice())?;
-    let cells = cell_pairs(alloc, spans.len(), tags.as_slice())?;
-    let ends = lasts(alloc, t, cuts.as_slice(), steps)?;
-    let side = Side {
-        cuts,
-        lasts: ends,
-        cells,
-    };
+    let side = side_by_ends(alloc, t, spans.len(), &mut list, steps)?;
     Ok(side)
 }

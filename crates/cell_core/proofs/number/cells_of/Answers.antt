@@ -1,9 +1,10 @@
-use Rattle.std.proofs.Common.{◌≡◌, ℕ, suc, pos, ◌+ℤ◌, ◌≤ℤ◌, ◌-◌, ◌<◌, [], ◌∷◌, ◌++◌, map, length, get_or, arith, subst, sym, ap}
+use Rattle.std.proofs.Common.{◌≡◌, ℕ, suc, pos, ◌+ℤ◌, ◌≤ℤ◌, ◌-◌, [], map, replicate, length, get_or, set, arith, subst, sym, ap, refl, ◌∙◌, inr}
 use Rattle.std.proofs.lemmas.Int.{ints}
-use Rattle.std.proofs.lemmas.List.Elements.{All-get_or, All-same, All-nil, All-push}
-use Rattle.cell_core.specs.Numbering.{Rises, of_cell}
-use Rattle.cell_core.proofs.Numbers.{added_rises, added_points, added_length, added_some, cells_step, next_rises, rises_mono}
-use Rattle.cell_core.proofs.number.ranks_of.Goals as goal
+use Rattle.std.proofs.lemmas.List.{length-set, take_all, length-replicate, get_or-replicate}
+use Rattle.std.proofs.lemmas.List.Elements.{All-get_or, All-same, All-nil}
+use Rattle.cell_core.specs.Numbering.{Rises, IsCellAt}
+use Rattle.cell_core.proofs.Numbers.{added_rises, added_points, added_length, added_some, table_step, next_rises, rises_mono}
+use Rattle.cell_core.proofs.number.cells_of.Goals as goal
 
 pub loop-x-init : goal.loop-x-init
 loop-x-init g c =
@@ -12,12 +13,13 @@ loop-x-init g c =
     let top = g.T.PointType.last_number c.args.t.now +ℤ pos 1 in
     let none = c.requires.none in
     let len : length c.args.cuts.now.items ≡ 0 = ap length none in
+    let blank : c.in_ok-table.table.items ≡ replicate c.args.count c.args.count = c.in_ok-table.ensures.items_if_clones_equal (λ y e. e) in
     record {
       points = All-same has c.args.cuts.now.items [] none (All-nil has);
       rises = subst (λ xs. Rises (map n xs) top) (sym none) tt;
       next = λ d h. subst (λ xs. Rises (map n xs) (n (get_or c.args.list.now 0 d).0 +ℤ pos 1)) (sym none) tt;
-      cells = ap (map (of_cell (map n c.args.cuts.now.items) top)) c.in_ok-cells.ensures.items;
-      within = All-same (λ (y : ℕ × ℕ). y.0 < length c.args.cuts.now.items) c.in_ok-cells.cells.items [] c.in_ok-cells.ensures.items (All-nil (λ (y : ℕ × ℕ). y.0 < length c.args.cuts.now.items));
+      length = ap length blank ∙ length-replicate c.args.count c.args.count;
+      cells = λ tag h. inr (ap (λ ys. get_or ys tag 0) blank ∙ get_or-replicate c.args.count tag c.args.count 0 h, λ k. k);
       count = omega arith;
       cost = omega arith;
     }
@@ -53,8 +55,14 @@ loop-x-preserved g c =
       points = added_points n has x.0 old new added h c.loop-x.invariant.points;
       rises = rises_mono (map n new) (n x.0 +ℤ pos 1) top (omega (arith, ints)) r;
       next = λ d l. next_rises n c.args.list.now i x d (map n new) c.requires.order l c.x-item.is r;
-      cells = cells_step n x old new top c.loop-x.cells.items c.push.new.self.items z c.args.list.now i added c.loop-x.invariant.within e c.in_ok-push.ensures.items c.loop-x-test.true c.x-item.is c.loop-x.invariant.cells;
-      within = All-same (λ (y : ℕ × ℕ). y.0 < length new) c.push.new.self.items (c.loop-x.cells.items ++ (c.len.result - 1, x.1) ∷ []) c.in_ok-push.ensures.items (All-push (λ (y : ℕ × ℕ). y.0 < length new) c.loop-x.cells.items (z, x.1) (λ k d b. let v = c.loop-x.invariant.within k d b in omega arith) (omega arith));
+      length = length-set c.loop-x.table.items x.1 z ∙ c.loop-x.invariant.length;
+      cells = table_step n x old new top c.args.list.now i c.args.count c.args.count z c.loop-x.table.items (set c.loop-x.table.items x.1 z) added e c.loop-x-test.true c.x-item.is c.loop-x.invariant.length refl c.loop-x.invariant.cells;
       count = omega arith;
       cost = omega arith;
     }
+
+pub returns-clause-cells : goal.returns-clause-cells
+returns-clause-cells g c = λ tag h.
+    let n = g.T.PointType.number_of in
+    let top = g.T.PointType.last_number c.args.t.now +ℤ pos 1 in
+    subst (λ ys. IsCellAt n c.loop-x.cuts.items top c.args.count ys tag (get_or c.loop-x.table.items tag 0)) (take_all c.loop-x.x-index c.args.list.now c.loop-x-test.false) (c.loop-x.invariant.cells tag h)

@@ -1,7 +1,7 @@
-use Rattle.std.proofs.Common.{◌≡◌, ◌<◌, ◌≤◌, ◌+◌, pos, ◌+ℤ◌, get_or, length, map, take}
+use Rattle.std.proofs.Common.{◌≡◌, ℕ, ◌<◌, ◌≤◌, ◌+◌, pos, ◌+ℤ◌, get_or, length, map, take}
 use Rattle.std.specs.List.{All}
-use Rattle.cell_core.specs.Numbering.{of_cell, of_point, Rises}
-use Rattle.cell_core.proofs.number.ranks_of.Given as goal
+use Rattle.cell_core.specs.Numbering.{IsCellAt, Rises}
+use Rattle.cell_core.proofs.number.cells_of.Given as goal
 
 abbrev pub invariant-loop-x : goal.invariant-loop-x
 invariant-loop-x g l =
@@ -11,8 +11,8 @@ invariant-loop-x g l =
       points : All (g.T.PointType.IsPoint l.t) l.cuts.items;
       rises : Rises (map n l.cuts.items) top;
       next : (d : _) → l.x-index < length l.list → Rises (map n l.cuts.items) (n (get_or l.list l.x-index d).0 +ℤ pos 1);
-      cells : map (of_cell (map n l.cuts.items) top) l.cells.items ≡ map (of_point n) (take l.x-index l.list);
-      within : All (λ x. x.0 < length l.cuts.items) l.cells.items;
+      cells : (tag : ℕ) → tag < l.count → IsCellAt n l.cuts.items top l.count (take l.x-index l.list) tag (get_or l.table.items tag 0);
       count : length l.cuts.items ≤ l.x-index;
+      length : length l.table.items ≡ l.count;
       cost : l.steps ≤ l.fn.steps + l.x-index;
     }
