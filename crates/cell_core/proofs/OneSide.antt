@@ -43,13 +43,13 @@ tag_from (y ∷ ys) x h = elim h [ inl e ↦ inl (ap (λ (z : _ × ℕ). z.1) e)
 tag_moved : {X : Type 0} (xs ys : List (X × ℕ)) → IsPermutation xs ys → (tag : ℕ) → HasTag xs tag → HasTag ys tag
 tag_moved xs ys p tag h = let w = tag_by xs tag h in subst (HasTag ys) w.2 (tag_from ys w.0 (among_moved xs ys p w.0 w.1))
 
+pub points_listed : {P : Type 0} (n : P → ℤ) (has : P → Type 0) (high : ℤ) (spans : List (P × P)) (count : ℕ) (list : List (P × ℕ)) → AreEnds n has high spans count list → All (λ x. has x.0) list
+points_listed n has high spans count list ends = all_among (λ x. has x.0) list (λ x h. (ends.placed x h).2)
+
+pub places_listed : {P : Type 0} (n : P → ℤ) (has : P → Type 0) (high : ℤ) (spans : List (P × P)) (count : ℕ) (list : List (P × ℕ)) → length spans ≡ count → AreEnds n has high spans count list → All (λ x. x.1 < 2 * count) list
+places_listed n has high spans count list e ends = all_among (λ x. x.1 < 2 * count) list (λ x h. let p = (ends.placed x h).0 in let l = length_ends n spans in omega arith)
+
 module _ {P : Type 0} (n : P → ℤ) (has : P → Type 0) (high : ℤ) (spans : List (P × P)) (list : List (P × ℕ)) (all : AreEnds n has high spans (length spans) list) where
-  pub points_listed : All (λ x. has x.0) list
-  points_listed = all_among (λ x. has x.0) list (λ x h. (all.placed x h).2)
-
-  pub places_listed : All (λ x. x.1 < 2 * length spans) list
-  places_listed = all_among (λ x. x.1 < 2 * length spans) list (λ x h. let p = (all.placed x h).0 in let l = length_ends n spans in omega arith)
-
   module _ (sorted : List (P × ℕ)) (moved : IsPermutation list sorted) (cuts : List P) (table : List ℕ) (rest last : ℕ) (is_last : last ≡ length cuts) (below : length cuts ≤ rest)
       (at : (tag : ℕ) → tag < 2 * length spans → IsCellAt n cuts (high +ℤ pos 1) rest sorted tag (get_or table tag 0)) where
     abbrev top : ℤ

@@ -1,56 +1,22 @@
-use Rattle.std.proofs.Common.{◌≡◌, ◌++◌, ◌+◌, ◌≤◌, length, map, arith, subst, ap, ◌∙◌}
-use Rattle.std.proofs.lemmas.List.Elements.{All-same}
-use Rattle.cell_core.specs.Costs.{side_cost}
-use Rattle.cell_core.specs.Numbering.{IsSide}
+use Rattle.std.proofs.Common.{◌+◌, ◌*◌, ◌++◌, length, map}
 use Rattle.cell_core.specs.Cells.{side_of}
-use Rattle.cell_core.proofs.Gather.{gather_both, all_gathered}
+use Rattle.cell_core.proofs.Gather.{by_first, length_rows}
+use Rattle.cell_core.proofs.OneSide.{points_listed, places_listed}
 use Rattle.cell_core.proofs.row_sides.row_side.Goals as goal
 
-pub numbering-requires-clause-begins : goal.numbering-requires-clause-begins
-numbering-requires-clause-begins g c = λ k d h.
-    let left = map (λ r. r.1) c.args.left.now in
-    let right = map (λ r. r.1) c.args.right.now in
-    let e = c.as_slice.ensures.value ∙ gather_both c.args.side d left right c.in_ok-spans.spans.items c.push_ends.new.out.items c.push_ends-2.new.out.items c.in_ok-spans.ensures.items (c.in_ok-push_ends.ensures.items d) (c.in_ok-push_ends-2.ensures.items d) in
-    All-same (λ x. g.T.PointType.IsPoint c.args.t.now x.0) c.as_slice.result.now (map (side_of c.args.side d) (left ++ right)) e
-    (all_gathered (λ x. g.T.PointType.IsPoint c.args.t.now x.0) c.args.side d left right (λ i s l. (c.requires.left_points i s l d).0) (λ i s l. (c.requires.right_points i s l d).0)) k d h
+pub side_by_ends-requires-clause-points : goal.side_by_ends-requires-clause-points
+side_by_ends-requires-clause-points g c = λ i x h.
+    let spans = map (side_of c.args.side (x.0, x.0)) (map (λ r. r.1) c.args.left.now ++ map (λ r. r.1) c.args.right.now) in
+    points_listed g.T.PointType.number_of (g.T.PointType.IsPoint c.args.t.now) (g.T.PointType.last_number c.args.t.now) spans (length c.args.left.now + length c.args.right.now) c.in_ok-list.list.items (c.in_ok-list.ensures.ends (x.0, x.0)) i x h
 
-pub numbering-requires-clause-ends : goal.numbering-requires-clause-ends
-numbering-requires-clause-ends g c = λ k d h.
-    let left = map (λ r. r.1) c.args.left.now in
-    let right = map (λ r. r.1) c.args.right.now in
-    let e = c.as_slice.ensures.value ∙ gather_both c.args.side d left right c.in_ok-spans.spans.items c.push_ends.new.out.items c.push_ends-2.new.out.items c.in_ok-spans.ensures.items (c.in_ok-push_ends.ensures.items d) (c.in_ok-push_ends-2.ensures.items d) in
-    All-same (λ x. g.T.PointType.IsPoint c.args.t.now x.1) c.as_slice.result.now (map (side_of c.args.side d) (left ++ right)) e
-    (all_gathered (λ x. g.T.PointType.IsPoint c.args.t.now x.1) c.args.side d left right (λ i s l. (c.requires.left_points i s l d).1) (λ i s l. (c.requires.right_points i s l d).1)) k d h
+pub side_by_ends-requires-clause-places : goal.side_by_ends-requires-clause-places
+side_by_ends-requires-clause-places g c = λ i x h.
+    let spans = map (side_of c.args.side (x.0, x.0)) (map (λ r. r.1) c.args.left.now ++ map (λ r. r.1) c.args.right.now) in
+    places_listed g.T.PointType.number_of (g.T.PointType.IsPoint c.args.t.now) (g.T.PointType.last_number c.args.t.now) spans (length c.args.left.now + length c.args.right.now) c.in_ok-list.list.items (length_rows c.args.side (x.0, x.0) c.args.left.now c.args.right.now) (c.in_ok-list.ensures.ends (x.0, x.0)) i x h
+
+pub side_by_ends-requires-clause-count : goal.side_by_ends-requires-clause-count
+side_by_ends-requires-clause-count g c = by_first c.in_ok-list.list.items (2 * (length c.args.left.now + length c.args.right.now)) (λ d. (c.in_ok-list.ensures.ends d).count)
 
 pub returns-clause-side : goal.returns-clause-side
 returns-clause-side g c = λ d.
-    let left = map (λ r. r.1) c.args.left.now in
-    let right = map (λ r. r.1) c.args.right.now in
-    let e = c.as_slice.ensures.value ∙ gather_both c.args.side d left right c.in_ok-spans.spans.items c.push_ends.new.out.items c.push_ends-2.new.out.items c.in_ok-spans.ensures.items (c.in_ok-push_ends.ensures.items d) (c.in_ok-push_ends-2.ensures.items d) in
-    subst (λ spans. IsSide g.T.PointType.number_of (g.T.PointType.IsPoint c.args.t.now) (g.T.PointType.last_number c.args.t.now) spans c.in_ok-v.v) e c.in_ok-v.ensures.side
-
-pub numbering-requires-clause-few : goal.numbering-requires-clause-few
-numbering-requires-clause-few g c =
-    let a = c.in_ok-push_ends.ensures.length in
-    let b = c.in_ok-push_ends-2.ensures.length in
-    let z = ap length c.in_ok-spans.ensures.items in
-    let e = ap length c.as_slice.ensures.value in
-    omega arith
-
-pub returns-in_err-v-clause-cost : goal.returns-in_err-v-clause-cost
-returns-in_err-v-clause-cost g c =
-    let a = c.in_ok-push_ends.ensures.length in
-    let b = c.in_ok-push_ends-2.ensures.length in
-    let z = ap length c.in_ok-spans.ensures.items in
-    let e = ap length c.as_slice.ensures.value in
-    let l : length c.as_slice.result.now ≡ length c.args.left.now + length c.args.right.now = omega arith in
-    subst (λ m. c.numbering.new.steps ≤ c.args.steps.now + side_cost m) l c.in_err-v.ensures.cost
-
-pub returns-clause-cost : goal.returns-clause-cost
-returns-clause-cost g c =
-    let a = c.in_ok-push_ends.ensures.length in
-    let b = c.in_ok-push_ends-2.ensures.length in
-    let z = ap length c.in_ok-spans.ensures.items in
-    let e = ap length c.as_slice.ensures.value in
-    let l : length c.as_slice.result.now ≡ length c.args.left.now + length c.args.right.now = omega arith in
-    subst (λ m. c.numbering.new.steps ≤ c.args.steps.now + side_cost m) l c.in_ok-v.ensures.cost
+    c.in_ok-v.ensures.side (map (side_of c.args.side d) (map (λ r. r.1) c.args.left.now ++ map (λ r. r.1) c.args.right.now)) (length_rows c.args.side d c.args.left.now c.args.right.now) (c.in_ok-list.ensures.ends d)
