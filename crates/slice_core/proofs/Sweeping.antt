@@ -103,6 +103,33 @@ settled t rows here sorted done made moved order left a z all are same =
           subst (Among r) (sym left) (contains_among (dedup eqb sorted) r c),
     ))
 
+-- numbers of which each is less than the next one
+pub rising : (xs : List ℕ) → ((i : ℕ) → suc i < length xs → get_or xs i 0 < get_or xs (suc i) 0) → IsStrictlySortedBy nat_cmp xs
+unfolding IsStrictlySortedBy
+rising [] h = tt
+rising (x ∷ []) h = (tt, tt)
+rising (x ∷ y ∷ ys) h =
+    let rest = rising (y ∷ ys) (λ i l. h (suc i) (omega (arith, l))) in
+    let first : x < y = h 0 (omega arith) in
+    let below : nat_cmp x y ≡ Less = less x y first in
+    ((below, after ys rest.0 below), rest)
+  where
+    less : (a b : ℕ) → a < b → nat_cmp a b ≡ Less
+    less a b l = grind (arith, nat_tests)
+
+    after : (zs : List ℕ) → AllByRecursion (λ z. nat_cmp y z ≡ Less) zs → nat_cmp x y ≡ Less → AllByRecursion (λ z. nat_cmp x z ≡ Less) zs
+    after [] a b = tt
+    after (z ∷ zs) a b = (nat_cmp_total.trans x y z b a.0, after zs a.1 b)
+
+pub settled_rising : (t : ℕ → Bool) (rows here : List ℕ) → here ≡ filter t rows → IsStrictlySortedBy nat_cmp here
+    → (a z : ℕ) (all : List ℕ) → AreRows a z all → ((r : ℕ) → t r ≡ true → Among r rows ↔ Among r all) → here ≡ filter t all
+settled_rising t rows here made sorted a z all are same =
+    same_sorted nat_cmp nat_cmp_total here (filter t all) sorted (ascending a z (filter t all) (AreRows-filter t a z all are))
+    (λ r. (
+      λ m. let w = (among_filter t r rows).0 (subst (Among r) made m) in (among_filter t r all).1 ((same r w.1).0 w.0, w.1),
+      λ m. let w = (among_filter t r all).0 m in subst (Among r) (sym made) ((among_filter t r rows).1 ((same r w.1).1 w.0, w.1)),
+    ))
+
 -- ---- come to a cell
 
 pub cell_has : (s : ℕ × ℕ) (i : ℕ) → span_has s i ≡ true → (s.0 ≤ i) × (i < s.1)

@@ -1,15 +1,16 @@
 -- Pieces whose keys stand for rows, and pieces of two sides as such.
-use Rattle.std.proofs.Common.{◌≡◌, ℕ, ◌<◌, Bool, true, false, cond, ltb, List, [], ◌∷◌, ◌++◌, map, ◌↔◌, inl, inr, sym, ap, subst, refl, ◌∙◌, Ordering}
+use Rattle.std.proofs.Common.{◌≡◌, ℕ, zero, suc, ◌+◌, ◌-◌, ◌<◌, ◌≤◌, Bool, true, false, cond, ltb, List, [], ◌∷◌, ◌++◌, map, length, get_or, ◌↔◌, inl, inr, arith, sym, ap, subst, refl, ◌∙◌, Ordering}
 use Rattle.std.specs.declared.cmp.Ordering.TheVariants.{Less, Equal, Greater}
 use Rattle.std.specs.Ordering.{ordering_then}
 use Rattle.std.specs.List.{All, AllByRecursion, flat_map}
 use Rattle.std.proofs.lemmas.List.Elements.{recursion_from_All, All-from_recursion}
 use Rattle.packing_core.specs.Pieces.{Covers, Apart, AreApart}
 use Rattle.packing_core.specs.declared.Piece.{Piece}
+use Rattle.packing_core.proofs.Numbered.{other_default}
 use Rattle.slice_core.specs.declared.bare.Bare.{Bare}
 use Rattle.slice_core.specs.PackedRows.{bare, span_of, alone}
 use Rattle.slice_core.specs.Rows.{pair_cmp, no_sides, tag, with_last}
-use Rattle.slice_core.specs.TwoSides.{run_row, slab, slab_row}
+use Rattle.slice_core.specs.TwoSides.{run_row, slab, slab_row, bare_cmp, BeginInTurn}
 use Rattle.slice_core.proofs.Steps.{one_key}
 use Rattle.slice_core.proofs.UnitedLemmas.{Row, R, order, total, separates, spans, spans_some}
 
@@ -54,9 +55,6 @@ module _ {K : Type 0} (C : K → K → Ordering) (g : K → Row) (same : (a b : 
 
 -- ---- runs of one side
 
-abbrev pub bare_cmp : Bare → Bare → Ordering
-bare_cmp a b = Equal
-
 pub same_bare : (a b : Bare) → R (no_sides a) (no_sides b) ≡ bare_cmp a b
 same_bare a b = refl
 
@@ -88,6 +86,14 @@ bare_some boxes live =
 pub run_rows : (ps : List (Piece Bare)) → map run_row ps ≡ map with_last (map (lifted no_sides) ps)
 run_rows [] = refl
 run_rows (p ∷ ps) = ap (λ xs. run_row p ∷ xs) (run_rows ps)
+
+-- pieces of which none begins before the one before it
+pub in_turn : (ps : List (Piece Bare)) → ((i : ℕ) (d e : Piece Bare) → suc i < length ps → (get_or ps i d).begin ≤ (get_or ps (suc i) e).begin) → BeginInTurn ps
+in_turn ps h i j d e l m = go (j - i) i (omega (arith, l)) d
+  where
+    go : (n i : ℕ) → i + n ≡ j → (d : Piece Bare) → (get_or ps i d).begin ≤ (get_or ps j e).begin
+    go zero i q d = let s : i ≡ j = omega (arith, q) in let k = other_default ps j d e m in subst (λ r. (get_or ps r d).begin ≤ (get_or ps j e).begin) (sym s) (let b = ap (λ (p : Piece Bare). p.begin) k in omega (arith, b))
+    go (suc n) i q d = let a = h i d d (omega (arith, q, m)) in let b = go n (suc i) (omega (arith, q)) d in omega (arith, a, b)
 
 -- ---- slabs of two sides
 

@@ -1,6 +1,8 @@
 // The rows that are live, kept up to date from cell to cell of a side.
-ghost use Rattle.std.specs.Prelude.{◌≡◌, ℕ, ◌<◌, ◌≤◌, ◌↔◌, ◌⊎◌, List, length, slice_index_or, map, IfOk};
+ghost use Rattle.std.specs.Prelude.{◌≡◌, ℕ, ◌<◌, ◌≤◌, ◌↔◌, ◌⊎◌, List, length, slice_index_or, map, IfOk, true};
 ghost use Rattle.std.specs.List.{All, filter};
+ghost use Rattle.std.specs.List.Sorted.{IsStrictlySortedBy};
+ghost use Rattle.std.specs.Ordering.{nat_cmp};
 ghost use Rattle.packing_core.specs.Covering.{Among};
 ghost use Rattle.packing_core.specs.Live.{span_has, side_has};
 ghost use Rattle.slice_core.specs.PackedRows.{span_of};
@@ -110,6 +112,17 @@ fn side_has_cell(boxes: &[IndexBox], row: usize, side: usize, cell: usize) -> bo
     row < boxes.len() && side < boxes[row].sides.len() && has(boxes[row].sides[side], cell)
 }
 
+// Whether each number is less than the next one.
+fn rise(numbers: &[usize]) -> bool
+    ensures { result ≡ true → IsStrictlySortedBy nat_cmp numbers.now }
+{
+    let mut at = 1;
+    while at < numbers.len() && numbers[at - 1] < numbers[at] {
+        at += 1;
+    }
+    at >= numbers.len()
+}
+
 // The rows that have the cell, in order, each once.
 fn in_order_at(
     boxes: &[IndexBox],
@@ -121,6 +134,9 @@ fn in_order_at(
 {
     let mut here = rows;
     here.retain(|row: &usize| side_has_cell(boxes, *row, side, cell));
+    if rise(here.as_slice()) {
+        return Ok(here);
+    }
     here.sort()?;
     here.dedup();
     Ok(here)

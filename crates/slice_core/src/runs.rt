@@ -1,17 +1,18 @@
 // The longest runs of cells of boxes on their first side.
-ghost use Rattle.std.specs.Prelude.{◌≡◌, ℕ, ◌<◌, ◌↔◌, List, length, ◌++◌, map, flat_map, IfOk, OnOk};
+ghost use Rattle.std.specs.Prelude.{◌≡◌, ℕ, ◌<◌, ◌↔◌, List, length, ◌++◌, map, flat_map, IfOk, OnOk, true};
 ghost use Rattle.std.specs.List.{All};
 ghost use Rattle.std.specs.List.Sorted.{IsStrictlySortedBy};
 ghost use Rattle.packing_core.specs.Covering.{Among};
+ghost use Rattle.packing_core.specs.Pieces.{AreApart, Covers};
 ghost use Rattle.slice_core.specs.PackedRows.{IsUnitedRow, bare, span_of, alone};
-ghost use Rattle.slice_core.specs.TwoSides.{run_row};
+ghost use Rattle.slice_core.specs.TwoSides.{run_row, bare_cmp, BeginInTurn};
 ghost use Rattle.slice_core.specs.Rows.{sides_of, key_cmp};
 ghost use Rattle.slice_core.specs.declared.bare.Bare.{Bare as AnyBare};
 
 use crate::bare::Bare;
 use crate::inward::IndexBox;
 use crate::key::Key;
-use packing_core::{Piece, join};
+use packing_core::{Piece, join, merge};
 use point_core::{Label, Memory};
 use std::alloc::Global;
 
@@ -46,6 +47,31 @@ fn first_spans(
     Ok(out)
 }
 
+// Whether no piece begins before the one before it.
+fn begin_in_turn(pieces: &[Piece<Bare>]) -> bool
+    ensures { result ≡ true → BeginInTurn pieces.now }
+{
+    let mut at = 1;
+    while at < pieces.len() && pieces[at - 1].begin <= pieces[at].begin {
+        at += 1;
+    }
+    at >= pieces.len()
+}
+
+// The longest runs that the pieces cover. Those that begin in turn, as mostly rows do, are not sorted.
+fn runs_of(alloc: Global, pieces: Vec<Piece<Bare>>) -> Result<Vec<Piece<Bare>>, Memory>
+    requires { All (λ x. x.begin < x.end) pieces.items }
+    ensures apart { IfOk result (λ v. AreApart bare_cmp v.items) }
+    ensures covers { IfOk result (λ v. (k : AnyBare) (i : ℕ) → Covers bare_cmp v.items k i ↔ Covers bare_cmp pieces.items k i) }
+{
+    if begin_in_turn(pieces.as_slice()) {
+        let runs = merge(alloc, pieces)?;
+        return Ok(runs);
+    }
+    let runs = join(alloc, pieces)?;
+    Ok(runs)
+}
+
 // The longest runs of cells of the live rows on their first side.
 pub fn first_runs(
     alloc: Global,
@@ -58,7 +84,7 @@ pub fn first_runs(
     ensures sorted { IfOk result (λ v. IsStrictlySortedBy (key_cmp ⟦<Bare as Label>⟧.order) (map run_row v.items)) }
 {
     let pieces = first_spans(alloc, boxes, live)?;
-    let runs = join(alloc, pieces)?;
+    let runs = runs_of(alloc, pieces)?;
     Ok(runs)
 }
 

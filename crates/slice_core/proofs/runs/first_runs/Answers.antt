@@ -6,13 +6,13 @@ use Rattle.packing_core.specs.declared.Piece.{Piece}
 use Rattle.slice_core.specs.declared.bare.Bare.{Bare}
 use Rattle.slice_core.specs.PackedRows.{IsUnitedRow}
 use Rattle.slice_core.specs.Rows.{sides_of, no_sides}
-use Rattle.slice_core.specs.TwoSides.{run_row}
+use Rattle.slice_core.specs.TwoSides.{run_row, bare_cmp}
 use Rattle.slice_core.proofs.UnitedLemmas.{Row, R, covers_spans, united_rows, united_sorted}
-use Rattle.slice_core.proofs.TwoSidesLemmas.{lifted, covers_lifted, apart_lifted, bare_cmp, same_bare, lifted_spans, bare_some, run_rows}
+use Rattle.slice_core.proofs.TwoSidesLemmas.{lifted, covers_lifted, apart_lifted, same_bare, lifted_spans, bare_some, run_rows}
 use Rattle.slice_core.proofs.runs.first_runs.Goals as goal
 
-pub join-requires : goal.join-requires
-join-requires c = subst (All (λ (x : Piece Bare). x.begin < x.end)) (sym c.in_ok-pieces.ensures) (bare_some (sides_of c.args.boxes.now) c.args.live.now)
+pub runs_of-requires : goal.runs_of-requires
+runs_of-requires c = subst (All (λ (x : Piece Bare). x.begin < x.end)) (sym c.in_ok-pieces.ensures) (bare_some (sides_of c.args.boxes.now) c.args.live.now)
 
 pub returns-clause-rows : goal.returns-clause-rows
 returns-clause-rows c =
