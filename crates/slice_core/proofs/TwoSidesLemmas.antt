@@ -95,6 +95,12 @@ in_turn ps h i j d e l m = go (j - i) i (omega (arith, l)) d
     go zero i q d = let s : i ≡ j = omega (arith, q) in let k = other_default ps j d e m in subst (λ r. (get_or ps r d).begin ≤ (get_or ps j e).begin) (sym s) (let b = ap (λ (p : Piece Bare). p.begin) k in omega (arith, b))
     go (suc n) i q d = let a = h i d d (omega (arith, q, m)) in let b = go n (suc i) (omega (arith, q)) d in omega (arith, a, b)
 
+-- one piece is apart from the others
+pub few_apart : (ps : List (Piece Bare)) → length ps < 2 → All (λ x. x.begin < x.end) ps → AreApart bare_cmp ps
+few_apart [] n h = tt
+few_apart (p ∷ []) n h = (h 0 p (omega arith), tt, tt)
+few_apart (p ∷ q ∷ ps) n h = absurd (omega (arith, n))
+
 -- ---- slabs of two sides
 
 abbrev pub span_row : ℕ × ℕ → Row

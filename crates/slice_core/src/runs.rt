@@ -64,6 +64,9 @@ fn runs_of(alloc: Global, pieces: Vec<Piece<Bare>>) -> Result<Vec<Piece<Bare>>, 
     ensures apart { IfOk result (λ v. AreApart bare_cmp v.items) }
     ensures covers { IfOk result (λ v. (k : AnyBare) (i : ℕ) → Covers bare_cmp v.items k i ↔ Covers bare_cmp pieces.items k i) }
 {
+    if pieces.len() < 2 {
+        return Ok(pieces);
+    }
     if begin_in_turn(pieces.as_slice()) {
         let runs = merge(alloc, pieces)?;
         return Ok(runs);
