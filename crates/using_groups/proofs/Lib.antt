@@ -13,3 +13,4 @@ pub mod AlikeColumns
 pub mod FigureValueLemmas
 pub mod SpotLemmas
 pub mod PartLemmas
+pub mod TurnLemmas

@@ -1,5 +1,5 @@
 // The labels of groups by figures of columns.
-ghost use Rattle.std.specs.Prelude.{◌≡◌, ◌<◌, ◌≤◌, ◌⊎◌, map, length, get_or, Ok, Err, None, IfSome};
+ghost use Rattle.std.specs.Prelude.{◌≡◌, ◌<◌, ◌≤◌, ◌⊎◌, ℕ, true, ◌++◌, map, length, get_or, Ok, Err, None, IfOk, IfSome};
 ghost use Rattle.point_core.specs.Faults.{fault};
 ghost use Rattle.point_core.specs.Points.{line, number};
 ghost use Rattle.point_core.specs.declared.fault.Code.TheVariants.{E30 as CodeE30};
@@ -7,11 +7,12 @@ ghost use Rattle.point_core.specs.declared.fault.Place.{Place as AnyPlace};
 ghost use Rattle.value_core.specs.Plain.{plain};
 ghost use Rattle.value_core.specs.Values.{point};
 ghost use Rattle.scalar_core.specs.Answers.{Gives};
+ghost use Rattle.relation_core.specs.Agreement.{part_of};
 ghost use Rattle.tree_core.specs.Trees.{read_aggregate};
 ghost use Rattle.using_groups.specs.Columns.{point_at, figure_values};
 
 use crate::rule::Summary;
-use point_core::{AnyPoint, Code, Fault, Place, PointNumber, Stop};
+use point_core::{AnyPoint, Code, Fault, Memory, Place, PointNumber, Stop};
 use row_making::pick;
 use std::alloc::Global;
 use tree_core::Aggregate;
@@ -89,6 +90,30 @@ fn figure_values(
     Ok(values)
 }
 
+// Whether the places are those from the first on, so many of them.
+fn are_in_turn(places: &[usize], count: usize) -> bool
+    ensures many { result ≡ true → length places.now ≡ count }
+    ensures each { result ≡ true → (i : ℕ) → i < length places.now → get_or places.now i 0 ≡ i }
+{
+    let mut turn = 0;
+    while turn < places.len() && places[turn] == turn {
+        turn += 1;
+    }
+    turn == places.len() && turn == count
+}
+
+// The row of the values at the places: first the made ones, then those of the key. Where they are the made ones in turn, these
+// are moved.
+fn picked(alloc: Global, places: &[usize], made: Vec<Value>, key: &Row) -> Result<Row, Memory>
+    ensures { IfOk result (λ r. r ≡ part_of places.now (map plain made.items ++ key.now)) }
+{
+    if are_in_turn(places, made.len()) {
+        return Ok(Row::make(made));
+    }
+    let row = pick(alloc, places, made.as_slice(), key.values())?;
+    Ok(row)
+}
+
 impl FigureRule for FigureSummary<'_> {
     ghost use Rattle.std.specs.Prelude.{◌≡◌, ◌≢◌, ℕ, Bool, List, [], map};
     ghost use Rattle.value_core.specs.Values.{Row as PlainRow};
@@ -108,7 +133,7 @@ impl FigureRule for FigureSummary<'_> {
 
     fn label(&self, alloc: Global, key: &Row, figures: &[Figure]) -> Result<Row, Stop> {
         let made = figure_values(alloc, self.summary.making.aggregates, figures)?;
-        let row = pick(alloc, self.places.as_slice(), made.as_slice(), key.values())?;
+        let row = picked(alloc, self.places.as_slice(), made, key)?;
         Ok(row)
     }
 
