@@ -5,3 +5,4 @@ pub mod PairPlaces
 pub mod JoinedLemmas
 pub mod ListedLemmas
 pub mod CellLemmas
+pub mod PickLemmas

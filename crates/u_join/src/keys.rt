@@ -4,6 +4,7 @@ ghost use Rattle.relation_core.specs.Agreement.{part_of};
 ghost use Rattle.u_row.specs.Labels.{relabelled};
 ghost use Rattle.u_join.specs.Keyed.{keyed};
 
+use crate::picked::part_in_place;
 use box_core::Keyed;
 use point_core::Memory;
 use slice_core::Key;
@@ -41,7 +42,7 @@ pub(crate) fn by_keys(
 {
     let mut out = Vec::with_capacity(alloc, rows.len())?;
     for row in rows {
-        let label = part_of_label(alloc, &row.label, positions)?;
+        let label = part_in_place(alloc, row.label, positions)?;
         out.push(Key {
             label,
             sides: row.sides,

@@ -9,6 +9,7 @@ mod matches;
 mod matching;
 mod names;
 mod needed;
+mod picked;
 mod places;
 mod shared;
 
