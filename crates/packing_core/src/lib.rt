@@ -1,4 +1,4 @@
-// A spike: packed boxes.
+//! Pieces of cells under keys, and the longest runs that they cover.
 #![tactic(auto)]
 
 ghost use Rattle.std.specs.Prelude.{◌≡◌, ℕ, ◌<◌, ◌≤◌, ◌↔◌, ◌⊎◌, length, slice_index_or, OnOk, OnErr, IfOk, ◌+◌, ◌-◌, IsTrue};
@@ -7,7 +7,7 @@ ghost use Rattle.packing_core.specs.Pieces.{AreApart, Covers, CoversOne, NotAfte
 
 use std::alloc::{AllocError, Global};
 
-// A key, the first cell, and the one after the last.
+/// A key, the first cell, and the one after the last.
 #[derive(PartialEq, Eq, PartialOrd, Ord, Drop)]
 pub struct Piece<K> {
     pub key: K,
@@ -22,8 +22,8 @@ fn meets<K: Ord>(last: &Piece<K>, x: &Piece<K>) -> bool
     last.key.cmp(&x.key).is_eq() && x.begin <= last.end
 }
 
-// One more piece, which begins at or after the last one.
-fn add<K: Ord + Drop>(out: &mut Vec<Piece<K>>, x: Piece<K>) -> Result<(), AllocError>
+/// Adds a piece that begins at or after the last one: to that one, if it has the same key and meets it.
+pub fn add<K: Ord + Drop>(out: &mut Vec<Piece<K>>, x: Piece<K>) -> Result<(), AllocError>
     requires apart { AreApart K.cmp out.old.items }
     requires some { x.begin < x.end }
     requires order { AllNotAfter K.cmp out.old.items x }
@@ -41,7 +41,7 @@ fn add<K: Ord + Drop>(out: &mut Vec<Piece<K>>, x: Piece<K>) -> Result<(), AllocE
     Ok(())
 }
 
-// The longest runs that the pieces cover.
+/// The longest runs that the pieces, which stand in order, cover.
 pub fn merge<K: Ord + Drop>(
     alloc: Global,
     pieces: Vec<Piece<K>>,
@@ -58,7 +58,7 @@ pub fn merge<K: Ord + Drop>(
     Ok(out)
 }
 
-// The longest runs that pieces in any order cover.
+/// The longest runs that pieces in any order cover.
 pub fn join<K: Ord + Drop>(
     alloc: Global,
     pieces: Vec<Piece<K>>,

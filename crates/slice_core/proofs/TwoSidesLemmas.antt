@@ -1,18 +1,22 @@
 -- Pieces whose keys stand for rows, and pieces of two sides as such.
-use Rattle.std.proofs.Common.{◌≡◌, ℕ, zero, suc, ◌+◌, ◌-◌, ◌<◌, ◌≤◌, Bool, true, false, cond, ltb, List, [], ◌∷◌, ◌++◌, map, length, get_or, ◌↔◌, inl, inr, arith, sym, ap, subst, refl, ◌∙◌, Ordering}
+use Rattle.std.proofs.Common.{◌≡◌, ℕ, zero, suc, ◌+◌, ◌-◌, ◌<◌, ◌≤◌, true, false, cond, ltb, List, [], ◌∷◌, ◌++◌, map, length, get_or, take, ◌↔◌, ◌⊎◌, inl, inr, arith, sym, ap, subst, refl, ◌∙◌, Ordering}
 use Rattle.std.specs.declared.cmp.Ordering.TheVariants.{Less, Equal, Greater}
 use Rattle.std.specs.Ordering.{ordering_then}
-use Rattle.std.specs.List.{All, AllByRecursion, flat_map}
+use Rattle.std.specs.List.{All, AllByRecursion, filter}
+use Rattle.std.specs.List.Sorted.{IsStrictlySortedBy}
 use Rattle.std.proofs.lemmas.List.Elements.{recursion_from_All, All-from_recursion}
+use Rattle.packing_core.specs.Covering.{Among}
+use Rattle.packing_core.specs.Live.{side_has}
 use Rattle.packing_core.specs.Pieces.{Covers, Apart, AreApart}
 use Rattle.packing_core.specs.declared.Piece.{Piece}
 use Rattle.packing_core.proofs.Numbered.{other_default}
 use Rattle.slice_core.specs.declared.bare.Bare.{Bare}
-use Rattle.slice_core.specs.PackedRows.{bare, span_of, alone}
-use Rattle.slice_core.specs.Rows.{pair_cmp, no_sides, tag, with_last}
-use Rattle.slice_core.specs.TwoSides.{run_row, slab, slab_row, bare_cmp, BeginInTurn}
-use Rattle.slice_core.proofs.Steps.{one_key}
-use Rattle.slice_core.proofs.UnitedLemmas.{Row, R, order, total, separates, spans, spans_some}
+use Rattle.slice_core.specs.declared.inward.IndexBox.{IndexBox}
+use Rattle.slice_core.specs.PackedRows.{IsUnitedRow, bare, span_of, alone}
+use Rattle.slice_core.specs.Rows.{sides_of, pair_cmp, no_sides, tag, with_last}
+use Rattle.slice_core.specs.TwoSides.{run_row, slab, slab_row, bare_cmp, bare_spans}
+use Rattle.slice_core.proofs.Steps.{one_key, covers_append}
+use Rattle.slice_core.proofs.UnitedLemmas.{Row, R, order, total, separates, spans, spans_some, covers_spans, united_rows, united_sorted}
 
 -- the piece under the row that its key stands for
 abbrev pub lifted : {K : Type 0} → (K → Row) → Piece K → Piece Row
@@ -58,9 +62,6 @@ module _ {K : Type 0} (C : K → K → Ordering) (g : K → Row) (same : (a b : 
 pub same_bare : (a b : Bare) → R (no_sides a) (no_sides b) ≡ bare_cmp a b
 same_bare a b = refl
 
-abbrev pub bare_spans : List (List (ℕ × ℕ)) → List ℕ → List (Piece Bare)
-bare_spans boxes live = flat_map (λ r. alone bare (span_of boxes 0 r)) live
-
 lifted_alone : (s : ℕ × ℕ) (ps : List (Piece Bare)) → map (lifted no_sides) (alone bare s ++ ps) ≡ alone (no_sides bare) s ++ map (lifted no_sides) ps
 lifted_alone s ps = elim (ltb s.0 s.1) as (λ b. map (lifted no_sides) (cond b (record { key = bare; begin = s.0; end = s.1 } ∷ []) [] ++ ps) ≡ cond b (record { key = no_sides bare; begin = s.0; end = s.1 } ∷ []) [] ++ map (lifted no_sides) ps) [
   | true ↦ refl
@@ -87,19 +88,54 @@ pub run_rows : (ps : List (Piece Bare)) → map run_row ps ≡ map with_last (ma
 run_rows [] = refl
 run_rows (p ∷ ps) = ap (λ xs. run_row p ∷ xs) (run_rows ps)
 
--- pieces of which none begins before the one before it
-pub in_turn : (ps : List (Piece Bare)) → ((i : ℕ) (d e : Piece Bare) → suc i < length ps → (get_or ps i d).begin ≤ (get_or ps (suc i) e).begin) → BeginInTurn ps
-in_turn ps h i j d e l m = go (j - i) i (omega (arith, l)) d
+covers_more : (boxes : List (List (ℕ × ℕ))) (rows : List ℕ) (n d : ℕ) → n < length rows → (k : Bare) (i : ℕ)
+    → Covers bare_cmp (bare_spans boxes (take (suc n) rows)) k i ↔ Covers bare_cmp (bare_spans boxes (take n rows)) k i ⊎ Covers bare_cmp (alone bare (span_of boxes 0 (get_or rows n d))) k i
+covers_more boxes [] n d l k i = absurd (omega arith)
+covers_more boxes (r ∷ rs) zero d l k i =
+    let a = covers_append bare_cmp total separates (alone bare (span_of boxes 0 r)) [] k i in (
+      λ h. elim (a.0 h) [ inl w ↦ inr w | inr w ↦ absurd w ],
+      λ h. elim h [ inl w ↦ absurd w | inr w ↦ a.1 (inl w) ],
+    )
+covers_more boxes (r ∷ rs) (suc n) d l k i =
+    let a = covers_append bare_cmp total separates (alone bare (span_of boxes 0 r)) (bare_spans boxes (take (suc n) rs)) k i in
+    let b = covers_append bare_cmp total separates (alone bare (span_of boxes 0 r)) (bare_spans boxes (take n rs)) k i in
+    let ih = covers_more boxes rs n d (omega arith) k i in (
+      λ h. elim (a.0 h) [ inl w ↦ inl (b.1 (inl w)) | inr w ↦ elim (ih.0 w) [ inl v ↦ inl (b.1 (inr v)) | inr v ↦ inr v ] ],
+      λ h. elim h [ inl w ↦ elim (b.0 w) [ inl v ↦ a.1 (inl v) | inr v ↦ a.1 (inr (ih.1 (inl v))) ] | inr w ↦ a.1 (inr (ih.1 (inr w))) ],
+    )
+
+-- the spans of one row more
+pub covers_next : (boxes : List (List (ℕ × ℕ))) (rows : List ℕ) (n d : ℕ) → n < length rows → (k : Bare) (i : ℕ)
+    → Covers bare_cmp (bare_spans boxes (take (n + 1) rows)) k i ↔ Covers bare_cmp (bare_spans boxes (take n rows)) k i ⊎ Covers bare_cmp (alone bare (span_of boxes 0 (get_or rows n d))) k i
+covers_next boxes rows n d l k i =
+    let e : suc n ≡ n + 1 = omega arith in
+    subst (λ m. Covers bare_cmp (bare_spans boxes (take m rows)) k i ↔ Covers bare_cmp (bare_spans boxes (take n rows)) k i ⊎ Covers bare_cmp (alone bare (span_of boxes 0 (get_or rows n d))) k i) e (covers_more boxes rows n d l k i)
+
+-- numbers of which none is greater than the next one
+pub in_turn : (f : ℕ → ℕ) (xs : List ℕ) → ((i : ℕ) (d e : ℕ) → suc i < length xs → f (get_or xs i d) ≤ f (get_or xs (suc i) e)) → (i j : ℕ) (d e : ℕ) → i ≤ j → j < length xs → f (get_or xs i d) ≤ f (get_or xs j e)
+in_turn f xs h i j d e l m = go (j - i) i (omega (arith, l)) d
   where
-    go : (n i : ℕ) → i + n ≡ j → (d : Piece Bare) → (get_or ps i d).begin ≤ (get_or ps j e).begin
-    go zero i q d = let s : i ≡ j = omega (arith, q) in let k = other_default ps j d e m in subst (λ r. (get_or ps r d).begin ≤ (get_or ps j e).begin) (sym s) (let b = ap (λ (p : Piece Bare). p.begin) k in omega (arith, b))
+    go : (n i : ℕ) → i + n ≡ j → (d : ℕ) → f (get_or xs i d) ≤ f (get_or xs j e)
+    go zero i q d = let s : i ≡ j = omega (arith, q) in let k = other_default xs j d e m in subst (λ r. f (get_or xs r d) ≤ f (get_or xs j e)) (sym s) (let b = ap f k in omega (arith, b))
     go (suc n) i q d = let a = h i d d (omega (arith, q, m)) in let b = go n (suc i) (omega (arith, q)) d in omega (arith, a, b)
 
--- one piece is apart from the others
-pub few_apart : (ps : List (Piece Bare)) → length ps < 2 → All (λ x. x.begin < x.end) ps → AreApart bare_cmp ps
-few_apart [] n h = tt
-few_apart (p ∷ []) n h = (h 0 p (omega arith), tt, tt)
-few_apart (p ∷ q ∷ ps) n h = absurd (omega (arith, n))
+-- runs that cover what the spans of the live rows cover are their packed form on one side
+module _ (bs : List IndexBox) (live : List ℕ) (h : All (λ x. 1 ≤ length x.sides.items) bs) (l : All (λ r. r < length bs) live)
+    (runs : List (Piece Bare)) (apart : AreApart bare_cmp runs)
+    (same : (k : Bare) (i : ℕ) → Covers bare_cmp runs k i ↔ Covers bare_cmp (bare_spans (sides_of bs) live) k i) where
+  abbrev pieces : List (Piece Row)
+  pieces = map (lifted no_sides) (bare_spans (sides_of bs) live)
+
+  covers_live : (k : Row) (i : ℕ) → Covers R pieces k i ↔ (length k.1 ≡ 0) × IsUnitedRow 0 (sides_of bs) (filter (side_has (sides_of bs) 0 i) live) k
+  covers_live = subst (λ (qs : List (Piece Row)). (k : Row) (i : ℕ) → Covers R qs k i ↔ (length k.1 ≡ 0) × IsUnitedRow 0 (sides_of bs) (filter (side_has (sides_of bs) 0 i) live) k) (sym (lifted_spans (sides_of bs) live)) (covers_spans (sides_of bs) live)
+
+  pub runs_rows : (x : Row) → Among x (map run_row runs) ↔ (length x.1 ≡ 1) × IsUnitedRow 1 (sides_of bs) live x
+  runs_rows = united_rows bs 1 0 (omega arith) live h l pieces (map (lifted no_sides) runs) (map run_row runs) covers_live
+      (apart_lifted bare_cmp no_sides same_bare runs apart) (covers_lifted bare_cmp no_sides same_bare runs (bare_spans (sides_of bs) live) same) (run_rows runs)
+
+  pub runs_sorted : IsStrictlySortedBy R (map run_row runs)
+  runs_sorted = united_sorted bs 1 0 (omega arith) live h l pieces (map (lifted no_sides) runs) (map run_row runs) covers_live
+      (apart_lifted bare_cmp no_sides same_bare runs apart) (covers_lifted bare_cmp no_sides same_bare runs (bare_spans (sides_of bs) live) same) (run_rows runs)
 
 -- ---- slabs of two sides
 

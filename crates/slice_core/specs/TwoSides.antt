@@ -1,9 +1,11 @@
 -- Cells of two sides as pieces of the second one, whose keys are runs of the first.
-use Rattle.std.specs.Prelude.{◌≡◌, ℕ, ◌<◌, ◌≤◌, List, [], ◌∷◌, length, get_or}
+use Rattle.std.specs.Prelude.{ℕ, ◌<◌, ◌≤◌, List, [], ◌∷◌, length, get_or, flat_map}
 use Rattle.std.specs.declared.cmp.Ordering.{Ordering}
 use Rattle.std.specs.declared.cmp.Ordering.TheVariants.{Equal}
+use Rattle.packing_core.specs.Pieces.{AllNotAfter}
 use Rattle.packing_core.specs.declared.Piece.{Piece}
 use Rattle.slice_core.specs.declared.bare.Bare.{Bare}
+use Rattle.slice_core.specs.PackedRows.{bare, span_of, alone}
 
 -- a run of cells as a row of one side
 abbrev pub run_row : Piece Bare → Bare × List (ℕ × ℕ)
@@ -21,6 +23,14 @@ slab_row p = (record {}, p.key ∷ (p.begin, p.end) ∷ [])
 abbrev pub bare_cmp : Bare → Bare → Ordering
 bare_cmp a b = Equal
 
--- no piece begins before one that stands before it
-abbrev pub BeginInTurn : List (Piece Bare) → Type 0
-BeginInTurn ps = (i j : ℕ) (d e : Piece Bare) → i ≤ j → j < length ps → (get_or ps i d).begin ≤ (get_or ps j e).begin
+-- the cells of the rows on their first side, as pieces
+abbrev pub bare_spans : List (List (ℕ × ℕ)) → List ℕ → List (Piece Bare)
+bare_spans boxes rows = flat_map (λ r. alone bare (span_of boxes 0 r)) rows
+
+-- no row begins before one that stands before it, on their first side
+abbrev pub BeginInTurn : List (List (ℕ × ℕ)) → List ℕ → Type 0
+BeginInTurn boxes rows = (i j : ℕ) (d e : ℕ) → i ≤ j → j < length rows → (span_of boxes 0 (get_or rows i d)).0 ≤ (span_of boxes 0 (get_or rows j e)).0
+
+-- no piece begins after the cell
+abbrev pub NoneAfter : ℕ → List (Piece Bare) → Type 0
+NoneAfter n ps = AllNotAfter bare_cmp ps (record { key = bare; begin = n; end = n })

@@ -1,18 +1,18 @@
 // The longest runs of cells of boxes on their first side.
-ghost use Rattle.std.specs.Prelude.{◌≡◌, ℕ, ◌<◌, ◌↔◌, List, length, ◌++◌, map, flat_map, IfOk, OnOk, true};
+ghost use Rattle.std.specs.Prelude.{◌≡◌, ℕ, ◌<◌, ◌≤◌, ◌↔◌, ◌⊎◌, List, length, ◌++◌, map, IfOk, OnOk, true};
 ghost use Rattle.std.specs.List.{All};
 ghost use Rattle.std.specs.List.Sorted.{IsStrictlySortedBy};
 ghost use Rattle.packing_core.specs.Covering.{Among};
 ghost use Rattle.packing_core.specs.Pieces.{AreApart, Covers};
 ghost use Rattle.slice_core.specs.PackedRows.{IsUnitedRow, bare, span_of, alone};
-ghost use Rattle.slice_core.specs.TwoSides.{run_row, bare_cmp, BeginInTurn};
+ghost use Rattle.slice_core.specs.TwoSides.{run_row, bare_cmp, bare_spans, BeginInTurn, NoneAfter};
 ghost use Rattle.slice_core.specs.Rows.{sides_of, key_cmp};
 ghost use Rattle.slice_core.specs.declared.bare.Bare.{Bare as AnyBare};
 
 use crate::bare::Bare;
 use crate::inward::IndexBox;
 use crate::key::Key;
-use packing_core::{Piece, join, merge};
+use packing_core::{Piece, add, join};
 use point_core::{Label, Memory};
 use std::alloc::Global;
 
@@ -30,6 +30,24 @@ fn push_span(out: &mut Vec<Piece<Bare>>, span: (usize, usize)) -> Result<(), Mem
     Ok(())
 }
 
+// The cells of the row on its first side.
+fn first_span(boxes: &[IndexBox], row: usize) -> (usize, usize)
+    requires row { row < length boxes.now }
+    requires sides { All (λ x. 0 < length x.sides.items) boxes.now }
+    ensures { result ≡ span_of (sides_of boxes.now) 0 row }
+{
+    boxes[row].sides[0]
+}
+
+// The first of them.
+fn begin_of(boxes: &[IndexBox], row: usize) -> usize
+    requires row { row < length boxes.now }
+    requires sides { All (λ x. 0 < length x.sides.items) boxes.now }
+    ensures { result ≡ (span_of (sides_of boxes.now) 0 row).0 }
+{
+    first_span(boxes, row).0
+}
+
 // The cells of the live rows on their first side.
 fn first_spans(
     alloc: Global,
@@ -38,46 +56,96 @@ fn first_spans(
 ) -> Result<Vec<Piece<Bare>>, Memory>
     requires rows { All (λ r. r < length boxes.now) live.now }
     requires sides { All (λ x. 0 < length x.sides.items) boxes.now }
-    ensures { IfOk result (λ v. v.items ≡ flat_map (λ r. alone bare (span_of (sides_of boxes.now) 0 r)) live.now) }
+    ensures { IfOk result (λ v. v.items ≡ bare_spans (sides_of boxes.now) live.now) }
 {
     let mut out = Vec::with_capacity(alloc, live.len())?;
     for r in live {
-        push_span(&mut out, boxes[*r].sides[0])?;
+        push_span(&mut out, first_span(boxes, *r))?;
     }
     Ok(out)
 }
 
-// Whether no piece begins before the one before it.
-fn begin_in_turn(pieces: &[Piece<Bare>]) -> bool
-    ensures { result ≡ true → BeginInTurn pieces.now }
+// Whether none of the rows begins before the one before it on their first side.
+fn begin_in_turn(boxes: &[IndexBox], rows: &[usize]) -> bool
+    requires rows { All (λ r. r < length boxes.now) rows.now }
+    requires sides { All (λ x. 0 < length x.sides.items) boxes.now }
+    ensures { result ≡ true → BeginInTurn (sides_of boxes.now) rows.now }
 {
     let mut at = 1;
-    while at < pieces.len() && pieces[at - 1].begin <= pieces[at].begin {
+    while at < rows.len() && begin_of(boxes, rows[at - 1]) <= begin_of(boxes, rows[at]) {
         at += 1;
     }
-    at >= pieces.len()
+    at >= rows.len()
 }
 
-// The longest runs that the pieces cover. Those that begin in turn, as mostly rows do, are not sorted.
-fn runs_of(alloc: Global, pieces: Vec<Piece<Bare>>) -> Result<Vec<Piece<Bare>>, Memory>
-    requires { All (λ x. x.begin < x.end) pieces.items }
-    ensures apart { IfOk result (λ v. AreApart bare_cmp v.items) }
-    ensures covers { IfOk result (λ v. (k : AnyBare) (i : ℕ) → Covers bare_cmp v.items k i ↔ Covers bare_cmp pieces.items k i) }
+// Adds the cells, if they are any, to runs of which none begins after them.
+fn add_span(runs: &mut Vec<Piece<Bare>>, span: (usize, usize)) -> Result<(), Memory>
+    requires apart { AreApart bare_cmp runs.old.items }
+    requires order { NoneAfter span.0 runs.old.items }
+    ensures apart { OnOk result (AreApart bare_cmp runs.new.items) }
+    ensures covers { OnOk result ((k : AnyBare) (i : ℕ) → Covers bare_cmp runs.new.items k i ↔ Covers bare_cmp runs.old.items k i ⊎ Covers bare_cmp (alone bare span) k i) }
+    ensures order { OnOk result ((n : ℕ) → span.0 ≤ n → NoneAfter n runs.old.items → NoneAfter n runs.new.items) }
 {
-    if pieces.len() < 2 {
-        return Ok(pieces);
+    if span.0 < span.1 {
+        add(
+            runs,
+            Piece {
+                key: Bare,
+                begin: span.0,
+                end: span.1,
+            },
+        )?;
     }
-    if begin_in_turn(pieces.as_slice()) {
-        let runs = merge(alloc, pieces)?;
+    Ok(())
+}
+
+// The longest runs of cells of rows that begin in turn, in the memory of the list.
+fn runs_in_turn(
+    memory: Vec<Piece<Bare>>,
+    boxes: &[IndexBox],
+    rows: &[usize],
+) -> Result<Vec<Piece<Bare>>, Memory>
+    requires rows { All (λ r. r < length boxes.now) rows.now }
+    requires sides { All (λ x. 0 < length x.sides.items) boxes.now }
+    requires turn { BeginInTurn (sides_of boxes.now) rows.now }
+    ensures apart { IfOk result (λ v. AreApart bare_cmp v.items) }
+    ensures covers { IfOk result (λ v. (k : AnyBare) (i : ℕ) → Covers bare_cmp v.items k i ↔ Covers bare_cmp (bare_spans (sides_of boxes.now) rows.now) k i) }
+{
+    let mut runs = memory;
+    runs.clear();
+    for r in rows {
+        let span = first_span(boxes, *r);
+        add_span(&mut runs, span)?;
+    }
+    Ok(runs)
+}
+
+// The longest runs of cells of the live rows on their first side. Those that begin in turn, as rows mostly do, take no
+// memory but that of the list.
+fn runs_of(
+    alloc: Global,
+    memory: Vec<Piece<Bare>>,
+    boxes: &[IndexBox],
+    live: &[usize],
+) -> Result<Vec<Piece<Bare>>, Memory>
+    requires rows { All (λ r. r < length boxes.now) live.now }
+    requires sides { All (λ x. 0 < length x.sides.items) boxes.now }
+    ensures apart { IfOk result (λ v. AreApart bare_cmp v.items) }
+    ensures covers { IfOk result (λ v. (k : AnyBare) (i : ℕ) → Covers bare_cmp v.items k i ↔ Covers bare_cmp (bare_spans (sides_of boxes.now) live.now) k i) }
+{
+    if begin_in_turn(boxes, live) {
+        let runs = runs_in_turn(memory, boxes, live)?;
         return Ok(runs);
     }
+    let pieces = first_spans(alloc, boxes, live)?;
     let runs = join(alloc, pieces)?;
     Ok(runs)
 }
 
-// The longest runs of cells of the live rows on their first side.
+// The same, as rows of one side.
 pub fn first_runs(
     alloc: Global,
+    memory: Vec<Piece<Bare>>,
     boxes: &[IndexBox],
     live: &[usize],
 ) -> Result<Vec<Piece<Bare>>, Memory>
@@ -86,8 +154,7 @@ pub fn first_runs(
     ensures rows { IfOk result (λ v. (x : AnyBare × List (ℕ × ℕ)) → Among x (map run_row v.items) ↔ (length x.1 ≡ 1) × IsUnitedRow 1 (sides_of boxes.now) live.now x) }
     ensures sorted { IfOk result (λ v. IsStrictlySortedBy (key_cmp ⟦<Bare as Label>⟧.order) (map run_row v.items)) }
 {
-    let pieces = first_spans(alloc, boxes, live)?;
-    let runs = runs_of(alloc, pieces)?;
+    let runs = runs_of(alloc, memory, boxes, live)?;
     Ok(runs)
 }
 
@@ -123,7 +190,7 @@ pub fn on_one_side(
     ensures rows { IfOk result (λ v. (x : AnyBare × List (ℕ × ℕ)) → Among x v.items ↔ (length x.1 ≡ 1) × IsUnitedRow 1 (sides_of boxes.now) live.now x) }
     ensures sorted { IfOk result (λ v. IsStrictlySortedBy (key_cmp ⟦<Bare as Label>⟧.order) v.items) }
 {
-    let runs = first_runs(alloc, boxes, live)?;
+    let runs = first_runs(alloc, Vec::new(alloc), boxes, live)?;
     let rows = rows_of(alloc, runs.as_slice())?;
     Ok(rows)
 }

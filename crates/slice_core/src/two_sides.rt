@@ -73,17 +73,18 @@ pub fn on_two_sides(
     let cuts = cuts_at(alloc, boxes, live, 1)?;
     let mut pieces: Vec<Piece<(usize, usize)>> = Vec::new(alloc);
     let mut sweep = sweep_of(alloc, boxes, live, 1)?;
+    let mut runs = Vec::new(alloc);
     let mut begin = 0;
     for i in 0..cuts.len() {
         let end = cuts[i];
         if begin < end {
             sweep = advance(sweep, boxes, 1, begin)?;
-            let runs = first_runs(alloc, boxes, sweep.live.as_slice())?;
+            runs = first_runs(alloc, runs, boxes, sweep.live.as_slice())?;
             push_slab(&mut pieces, runs.as_slice(), begin, end)?;
         }
         begin = end;
     }
-    let runs = join(alloc, pieces)?;
-    let rows = rows_of(alloc, runs.as_slice())?;
+    let packed = join(alloc, pieces)?;
+    let rows = rows_of(alloc, packed.as_slice())?;
     Ok(rows)
 }

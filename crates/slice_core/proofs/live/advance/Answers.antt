@@ -1,6 +1,4 @@
-use Rattle.std.proofs.Common.{ℕ, ◌<◌, ◌↔◌, List, length, sym, subst}
-use Rattle.std.specs.List.{All}
-use Rattle.packing_core.specs.Covering.{Among}
+use Rattle.std.proofs.Common.{ℕ, List, sym, subst}
 use Rattle.slice_core.specs.Rows.{sides_of}
 use Rattle.slice_core.specs.Sweeps.{AreStarts, AreOpen}
 use Rattle.slice_core.proofs.Sweeping.{same_live, open_now}

@@ -116,13 +116,13 @@ returns-clause-rows c =
     let cuts = c.in_ok-cuts.cuts.items in
     let end : length cuts ≤ c.loop-i.i = omega arith in
     let ps : List (Piece (ℕ × ℕ)) = c.loop-i.pieces.items in
-    let rs : List (Piece (ℕ × ℕ)) = c.in_ok-runs-2.runs.items in
+    let rs : List (Piece (ℕ × ℕ)) = c.in_ok-packed.packed.items in
     let made = c.in_ok-rows.ensures ∙ ap (map slab_row) c.as_slice-2.ensures.value ∙ slab_rows rs in
     united_rows c.args.boxes.now 2 1 below c.args.live.now c.requires.sides (all_below (length c.args.boxes.now) c.args.live.now c.requires.rows) (map (lifted span_row) ps) (map (lifted span_row) rs) c.in_ok-rows.rows.items
     (covers_below c.args.boxes.now 2 1 below c.args.live.now c.requires.sides (all_below (length c.args.boxes.now) c.args.live.now c.requires.rows) c.loop-i.begin
     (λ m h. all_passed cuts c.loop-i.begin (λ j q. c.loop-i.invariant.passed j (omega arith)) m (c.in_ok-cuts.ensures.cuts m h))
     (map (lifted span_row) ps) c.loop-i.invariant.covers)
-    (apart_lifted pair_cmp span_row same_span rs c.in_ok-runs-2.ensures.apart) (covers_lifted pair_cmp span_row same_span rs ps c.in_ok-runs-2.ensures.covers) made
+    (apart_lifted pair_cmp span_row same_span rs c.in_ok-packed.ensures.apart) (covers_lifted pair_cmp span_row same_span rs ps c.in_ok-packed.ensures.covers) made
 
 pub returns-clause-sorted : goal.returns-clause-sorted
 returns-clause-sorted c =
@@ -130,10 +130,10 @@ returns-clause-sorted c =
     let cuts = c.in_ok-cuts.cuts.items in
     let end : length cuts ≤ c.loop-i.i = omega arith in
     let ps : List (Piece (ℕ × ℕ)) = c.loop-i.pieces.items in
-    let rs : List (Piece (ℕ × ℕ)) = c.in_ok-runs-2.runs.items in
+    let rs : List (Piece (ℕ × ℕ)) = c.in_ok-packed.packed.items in
     let made = c.in_ok-rows.ensures ∙ ap (map slab_row) c.as_slice-2.ensures.value ∙ slab_rows rs in
     united_sorted c.args.boxes.now 2 1 below c.args.live.now c.requires.sides (all_below (length c.args.boxes.now) c.args.live.now c.requires.rows) (map (lifted span_row) ps) (map (lifted span_row) rs) c.in_ok-rows.rows.items
     (covers_below c.args.boxes.now 2 1 below c.args.live.now c.requires.sides (all_below (length c.args.boxes.now) c.args.live.now c.requires.rows) c.loop-i.begin
     (λ m h. all_passed cuts c.loop-i.begin (λ j q. c.loop-i.invariant.passed j (omega arith)) m (c.in_ok-cuts.ensures.cuts m h))
     (map (lifted span_row) ps) c.loop-i.invariant.covers)
-    (apart_lifted pair_cmp span_row same_span rs c.in_ok-runs-2.ensures.apart) (covers_lifted pair_cmp span_row same_span rs ps c.in_ok-runs-2.ensures.covers) made
+    (apart_lifted pair_cmp span_row same_span rs c.in_ok-packed.ensures.apart) (covers_lifted pair_cmp span_row same_span rs ps c.in_ok-packed.ensures.covers) made
