@@ -3,20 +3,21 @@ use Rattle.std.proofs.Common.{◌≡◌, ℕ, zero, suc, ◌+◌, ◌<◌, ◌�
 use Rattle.std.specs.declared.cmp.Ordering.TheVariants.{Less, Equal}
 use Rattle.std.specs.Cmp.{IsTotalOrder}
 use Rattle.std.specs.Ordering.{nat_cmp, ordering_then, is_lt}
-use Rattle.std.specs.List.{All, list_all}
+use Rattle.std.specs.List.{All, filter, list_all}
 use Rattle.std.specs.List.Sorted.{IsSortedBy}
 use Rattle.std.proofs.lemmas.Bool.{cases_lt, true≢false}
 use Rattle.std.proofs.lemmas.Bool.Decides.{nat_tests}
 use Rattle.std.proofs.lemmas.Cmp.{alike_right}
+use Rattle.std.proofs.lemmas.List.{get_or_past, length-map}
 use Rattle.std.proofs.lemmas.List.Sorted.{sorted_far, ranks_by}
 use Rattle.packing_core.specs.Covering.{Among}
 use Rattle.packing_core.specs.Live.{box}
-use Rattle.packing_core.proofs.AmongLemmas.{among_append, among_flat}
+use Rattle.packing_core.proofs.AmongLemmas.{among_append, among_filter, among_flat}
 use Rattle.packing_core.proofs.Numbered.{other_default}
 use Rattle.slice_core.specs.Rows.{pair_cmp, pair_total}
 use Rattle.box_core.specs.Common.{At, first_of, common, has_cell, HaveCells}
 use Rattle.box_core.specs.Rows.{IsRow, IsBefore, Ascend, KeyBox}
-use Rattle.box_core.specs.Meetings.{Met, IsMeeting, IsLater, AreBehind, met, boxes_in, StandByLeft}
+use Rattle.box_core.specs.Meetings.{Met, IsMeeting, IsLater, AreBehind, meets, met, boxes_in, StandByLeft}
 use Rattle.box_core.specs.Sides.{AreCandidates}
 use Rattle.box_core.proofs.RowLemmas.{row_among, among_row, one_row, some_row, map_row, row_sides}
 use Rattle.box_core.proofs.PlaceLemmas.{first_common, at_common, cells_from, common_length}
@@ -73,6 +74,23 @@ pairs_stand pairs s = stand_from PairsStand pairs (λ i j x y h a b.
         ]
 
 -- ---- what meets of a pair
+
+-- without a row a pair is held to meet
+pub meets_no_left : {P : Type 0} (left right : List (KeyBox P)) (p : ℕ × ℕ) → length left ≤ p.0 → true ≡ meets (boxes_in left) (boxes_in right) p
+meets_no_left left right p l =
+    let n : length (boxes_in left) ≡ length left = length-map left (λ x. x.1) in
+    let e : box (boxes_in left) p.0 ≡ [] = get_or_past (boxes_in left) p.0 [] (omega (arith, n)) in
+    λ t. list_all has_cell (common (sym e t) (box (boxes_in right) p.1))
+
+pub meets_no_right : {P : Type 0} (left right : List (KeyBox P)) (p : ℕ × ℕ) → length right ≤ p.1 → true ≡ meets (boxes_in left) (boxes_in right) p
+meets_no_right left right p l =
+    let n : length (boxes_in right) ≡ length right = length-map right (λ x. x.1) in
+    let e : box (boxes_in right) p.1 ≡ [] = get_or_past (boxes_in right) p.1 [] (omega (arith, n)) in
+    no_side (box (boxes_in left) p.0) ∙ (λ t. list_all has_cell (common (box (boxes_in left) p.0) (sym e t)))
+  where
+    no_side : (xs : List (ℕ × ℕ)) → true ≡ list_all has_cell (common xs [])
+    no_side [] = refl
+    no_side (x ∷ xs) = refl
 
 met_is : (lefts rights : List (List (ℕ × ℕ))) (p : ℕ × ℕ) (m : Met) → Among m (met lefts rights p) → (p ≡ m.0) × (common (box lefts p.0) (box rights p.1) ≡ m.1) × HaveCells m.1
 met_is lefts rights p m h = go (common (box lefts p.0) (box rights p.1)) (list_all has_cell (common (box lefts p.0) (box rights p.1))) refl h
@@ -194,6 +212,17 @@ later_turn {P = P} order strict from rows i x at first end within range old new 
 module _ {P : Type 0} (order : P → P → Ordering) (total : IsTotalOrder order) (left right : List (KeyBox P)) where
   box_is : (rows : List (KeyBox P)) (i : ℕ) (x : KeyBox P) → IsRow rows i x → box (boxes_in rows) i ≡ x.1
   box_is rows i x h = let w = map_row (λ (z : KeyBox P). z.1) rows i x h in other_default (boxes_in rows) i [] x.1 w.0 ∙ w.1
+
+  -- candidates without the pairs that do not meet
+  pub kept_candidates : (pairs kept : List (ℕ × ℕ)) → kept ≡ filter (meets (boxes_in left) (boxes_in right)) pairs → AreCandidates order left right pairs → AreCandidates order left right kept
+  kept_candidates pairs kept made is =
+      let test = meets (boxes_in left) (boxes_in right) in
+      subst (AreCandidates order left right) (sym made) record {
+        keys = λ p h. is.keys p ((among_filter test p pairs).0 h).0;
+        all = λ i j x y a b e c.
+            let here : meets (boxes_in left) (boxes_in right) (i, j) ≡ true = subst HaveCells (λ t. common (sym (box_is left i x a) t) (sym (box_is right j y b) t)) c in
+            (among_filter test (i, j) pairs).1 (is.all i j x y a b e c, here);
+      }
 
   module _ (k : ℕ) (ls : All (λ x. length x.1 ≡ k) left) (rs : All (λ x. length x.1 ≡ k) right) where
     pub alike : (i j : ℕ) (x y : KeyBox P) → IsRow left i x → IsRow right j y → length x.1 ≡ length y.1

@@ -54,6 +54,15 @@ take_common xs ys s e l = let q : suc s ≡ s + 1 = omega arith in subst (λ n. 
 pub all_common : (xs ys : List (ℕ × ℕ)) (s : ℕ) → length xs ≡ length ys → length xs ≤ s → take s (common xs ys) ≡ common xs ys
 all_common xs ys s e l = take_all s (common xs ys) (let f = common_length xs ys e in omega (arith, f))
 
+common_within : (xs ys : List (ℕ × ℕ)) → length (common xs ys) ≤ min (length xs) (length ys)
+common_within [] ys = omega arith
+common_within (x ∷ xs) [] = omega arith
+common_within (x ∷ xs) (y ∷ ys) = let h = common_within xs ys in omega (arith, clamps, h)
+
+-- the sides that both have are all that they have in common
+pub whole_common : (xs ys : List (ℕ × ℕ)) (s : ℕ) → min (length xs) (length ys) ≤ s → take s (common xs ys) ≡ common xs ys
+whole_common xs ys s l = take_all s (common xs ys) (let h = common_within xs ys in omega (arith, l, h))
+
 -- a place is in what two boxes have in common exactly where both have it
 pub at_common : (xs ys : List (ℕ × ℕ)) (place : List ℕ) → length xs ≡ length ys → At (common xs ys) place ↔ At xs place × At ys place
 at_common xs ys [] e = (λ h. (refl, refl), λ h. refl)
@@ -106,30 +115,30 @@ cell_parts s h = within s.0 s.1 h
     within a z l = grind (arith, nat_tests)
 
 -- a side without a cell in common
-pub none_meet : (xs ys : List (ℕ × ℕ)) (s : ℕ) → length xs ≡ length ys → s < length xs → (both (get_or xs s no_cells) (get_or ys s no_cells)).1 ≤ (both (get_or xs s no_cells) (get_or ys s no_cells)).0 → false ≡ list_all has_cell (common xs ys)
-none_meet [] ys s e l h = absurd (omega arith)
-none_meet (x ∷ xs) [] s e l h = absurd (omega (arith, e))
-none_meet (x ∷ xs) (y ∷ ys) zero e l h = ap (λ t. t && list_all has_cell (common xs ys)) (empty (both x y).0 (both x y).1 h)
+pub none_meet : (xs ys : List (ℕ × ℕ)) (s : ℕ) → s < length xs → s < length ys → (both (get_or xs s no_cells) (get_or ys s no_cells)).1 ≤ (both (get_or xs s no_cells) (get_or ys s no_cells)).0 → false ≡ list_all has_cell (common xs ys)
+none_meet [] ys s l m h = absurd (omega arith)
+none_meet (x ∷ xs) [] s l m h = absurd (omega arith)
+none_meet (x ∷ xs) (y ∷ ys) zero l m h = ap (λ t. t && list_all has_cell (common xs ys)) (empty (both x y).0 (both x y).1 h)
   where
     empty : (a z : ℕ) → z ≤ a → false ≡ ltb a z
     empty a z l = grind (arith, nat_tests)
-none_meet (x ∷ xs) (y ∷ ys) (suc s) e l h = later (has_cell (both x y)) (list_all has_cell (common xs ys)) (none_meet xs ys s (omega (arith, e)) (omega arith) h)
+none_meet (x ∷ xs) (y ∷ ys) (suc s) l m h = later (has_cell (both x y)) (list_all has_cell (common xs ys)) (none_meet xs ys s (omega arith) (omega arith) h)
   where
     later : (a b : Bool) → false ≡ b → false ≡ (a && b)
     later true b h = h
     later false b h = refl
 
 -- one more side with one
-pub meet_more : (xs ys : List (ℕ × ℕ)) (s : ℕ) → length xs ≡ length ys → s < length xs → list_all has_cell (take s (common xs ys)) ≡ true → (both (get_or xs s no_cells) (get_or ys s no_cells)).0 < (both (get_or xs s no_cells) (get_or ys s no_cells)).1 → list_all has_cell (take (s + 1) (common xs ys)) ≡ true
-meet_more xs ys s e l h c = let q : suc s ≡ s + 1 = omega arith in subst (λ n. list_all has_cell (take n (common xs ys)) ≡ true) q (more xs ys s e l h c)
+pub meet_more : (xs ys : List (ℕ × ℕ)) (s : ℕ) → s < length xs → s < length ys → list_all has_cell (take s (common xs ys)) ≡ true → (both (get_or xs s no_cells) (get_or ys s no_cells)).0 < (both (get_or xs s no_cells) (get_or ys s no_cells)).1 → list_all has_cell (take (s + 1) (common xs ys)) ≡ true
+meet_more xs ys s l m h c = let q : suc s ≡ s + 1 = omega arith in subst (λ n. list_all has_cell (take n (common xs ys)) ≡ true) q (more xs ys s l m h c)
   where
-    more : (xs ys : List (ℕ × ℕ)) (s : ℕ) → length xs ≡ length ys → s < length xs → list_all has_cell (take s (common xs ys)) ≡ true → (both (get_or xs s no_cells) (get_or ys s no_cells)).0 < (both (get_or xs s no_cells) (get_or ys s no_cells)).1 → list_all has_cell (take (suc s) (common xs ys)) ≡ true
-    more [] ys s e l h c = absurd (omega arith)
-    more (x ∷ xs) [] s e l h c = absurd (omega (arith, e))
-    more (x ∷ xs) (y ∷ ys) zero e l h c = and_from (has_cell (both x y)) true (cell_from (both x y) c) refl
-    more (x ∷ xs) (y ∷ ys) (suc s) e l h c =
+    more : (xs ys : List (ℕ × ℕ)) (s : ℕ) → s < length xs → s < length ys → list_all has_cell (take s (common xs ys)) ≡ true → (both (get_or xs s no_cells) (get_or ys s no_cells)).0 < (both (get_or xs s no_cells) (get_or ys s no_cells)).1 → list_all has_cell (take (suc s) (common xs ys)) ≡ true
+    more [] ys s l m h c = absurd (omega arith)
+    more (x ∷ xs) [] s l m h c = absurd (omega arith)
+    more (x ∷ xs) (y ∷ ys) zero l m h c = and_from (has_cell (both x y)) true (cell_from (both x y) c) refl
+    more (x ∷ xs) (y ∷ ys) (suc s) l m h c =
         let w = and_parts (has_cell (both x y)) (list_all has_cell (take s (common xs ys))) h in
-        and_from (has_cell (both x y)) (list_all has_cell (take (suc s) (common xs ys))) w.0 (more xs ys s (omega (arith, e)) (omega arith) w.1 c)
+        and_from (has_cell (both x y)) (list_all has_cell (take (suc s) (common xs ys))) w.0 (more xs ys s (omega arith) (omega arith) w.1 c)
 
 -- a box that has a place of all its sides has a cell on each
 pub cells_from : (y : List (ℕ × ℕ)) (place : List ℕ) → length place ≡ length y → At y place → HaveCells y

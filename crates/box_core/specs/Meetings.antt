@@ -23,11 +23,13 @@ IsMeeting {P} order left right m =
 abbrev pub boxes_in : {P : Type 0} → List (KeyBox P) → List (List (ℕ × ℕ))
 boxes_in rows = map (λ x. x.1) rows
 
+-- whether the boxes of those numbers have a cell in common on each side that both have; a row that is not there has no side
+abbrev pub meets : List (List (ℕ × ℕ)) → List (List (ℕ × ℕ)) → ℕ × ℕ → Bool
+meets lefts rights p = list_all has_cell (common (box lefts p.0) (box rights p.1))
+
 -- the pair with what the boxes of those numbers have in common, if that has a cell
 abbrev pub met : List (List (ℕ × ℕ)) → List (List (ℕ × ℕ)) → ℕ × ℕ → List Met
-met lefts rights p =
-    let b = common (box lefts p.0) (box rights p.1) in
-    cond (list_all has_cell b) ((p, b) ∷ []) []
+met lefts rights p = cond (meets lefts rights p) ((p, common (box lefts p.0) (box rights p.1)) ∷ []) []
 
 -- the row p.1 of `rows` begins within the row p.0 of `from`, or strictly after its first cell and within it
 abbrev pub IsLater : {P : Type 0} → (P → P → Ordering) → Bool → List (KeyBox P) → List (KeyBox P) → ℕ × ℕ → Type 0

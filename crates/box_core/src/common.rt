@@ -39,13 +39,13 @@ pub fn common<P>(alloc: Global, x: &Key<P>, y: &Key<P>) -> Result<Vec<(usize, us
     Ok(out)
 }
 
-// Whether the boxes have a cell in common on each side.
-#[tactic(auto, using(crate::proofs::PlaceLemmas::none_meet, crate::proofs::PlaceLemmas::meet_more, crate::proofs::PlaceLemmas::all_common))]
+// Whether the boxes have a cell in common on each side that both have.
+#[tactic(auto, using(crate::proofs::PlaceLemmas::none_meet, crate::proofs::PlaceLemmas::meet_more, crate::proofs::PlaceLemmas::whole_common))]
 pub fn meet<P>(x: &Key<P>, y: &Key<P>) -> bool
-    requires { length x.now.1 ≡ length y.now.1 }
     ensures { result ≡ list_all has_cell (common_of x.now.1 y.now.1) }
 {
-    for s in 0..x.sides.len() {
+    let sides = x.sides.len().min(y.sides.len());
+    for s in 0..sides {
         let cells = both(x.sides[s], y.sides[s]);
         if cells.1 <= cells.0 {
             return false;

@@ -4,8 +4,9 @@ ghost use Rattle.std.specs.List.{All};
 ghost use Rattle.std.specs.declared.cmp.Ordering.TheVariants.{Equal};
 ghost use Rattle.packing_core.specs.Covering.{Among};
 ghost use Rattle.box_core.specs.Common.{At};
-ghost use Rattle.box_core.specs.Meetings.{IsMeeting, StandByLeft, Met, met, boxes_in};
+ghost use Rattle.box_core.specs.Meetings.{IsMeeting, StandByLeft, Met, met, meets, boxes_in};
 ghost use Rattle.box_core.specs.Rows.{Ascend, IsRow, KeyBox};
+ghost use Rattle.box_core.specs.Sides.{AreCandidates};
 
 use crate::by_side::pairs_on_best_side;
 use crate::common::{common, meet};
@@ -28,6 +29,35 @@ impl Model for Meeting {
     ghost Value = { (ℕ × ℕ) × List (ℕ × ℕ) };
 
     ghost view = { λ m. ((m.left, m.right), m.sides.items) };
+}
+
+// Whether the boxes of the pair have a cell in common on each side. A pair without rows is let through.
+#[tactic(auto, using(crate::proofs::MeetingLemmas::meets_no_left, crate::proofs::MeetingLemmas::meets_no_right))]
+fn pair_meets<P>(left: &[Key<P>], right: &[Key<P>], pair: (usize, usize)) -> bool
+    ensures { result ≡ meets (boxes_in left.now) (boxes_in right.now) pair }
+{
+    if pair.0 >= left.len() || pair.1 >= right.len() {
+        return true;
+    }
+    meet(&left[pair.0], &right[pair.1])
+}
+
+// The pairs, where there is more than one side without those that do not meet. On one side they are left as they are, since
+// all that were found there meet.
+fn those_that_meet<P: Label>(
+    sides: usize,
+    left: &[Key<P>],
+    right: &[Key<P>],
+    pairs: Vec<(usize, usize)>,
+) -> Vec<(usize, usize)>
+    ensures { AreCandidates P.order left.now right.now pairs.items → AreCandidates P.order left.now right.now result.items }
+{
+    if sides <= 1 {
+        return pairs;
+    }
+    let mut kept = pairs;
+    kept.retain(|pair: &(usize, usize)| pair_meets(left, right, *pair));
+    kept
 }
 
 // Adds the pair with what its rows have in common, if that has a cell.
@@ -78,9 +108,10 @@ fn meetings<P>(
 /// that begin within it and after its first cell, so each pair once. It is the first side, by which the rows stand, unless
 /// they are at most half as long for the length of the axis on another one: then it is the side on which they are shortest
 /// so, since there the fewest overlap, and the rows are sorted by that side. On one side just the pairs that meet are
-/// found. That takes the time of a sort of the rows, where it is another side than the first, and of one of the pairs that
-/// overlap on that side. In the worst case, where many rows of one key overlap on every side and yet few meet, these pairs
-/// are as many as the left rows times the right rows of the key.
+/// found; on more, those that do not meet are left out before the pairs are sorted. That takes the time of a sort of the
+/// rows, where it is another side than the first, of a look at each pair that overlaps on that side, and of a sort of the
+/// pairs that meet. In the worst case, where many rows of one key overlap on every side and yet few meet, the pairs to be
+/// looked at are as many as the left rows times the right rows of the key.
 pub fn overlaps<P: Label>(
     alloc: Global,
     sides: usize,
@@ -96,8 +127,9 @@ pub fn overlaps<P: Label>(
         ((b : List (ℕ × ℕ)) × Among ((i, j), b) v.items × At b place) ↔ At x.1 place × At y.1 place) }
     ensures order { IfOk result (λ v. StandByLeft v.items) }
 {
-    let mut pairs = pairs_on_best_side(alloc, sides, left, right)?;
-    pairs.sort()?;
-    let out = meetings(alloc, left, right, pairs.as_slice())?;
+    let pairs = pairs_on_best_side(alloc, sides, left, right)?;
+    let mut kept = those_that_meet(sides, left, right, pairs);
+    kept.sort()?;
+    let out = meetings(alloc, left, right, kept.as_slice())?;
     Ok(out)
 }

@@ -12,7 +12,7 @@ meetings-requires-clause-pairs g c =
     let t = g.met.P.Label.total in
     let left = c.args.left.now in
     let right = c.args.right.now in
-    let is = sorted_candidates o t left right c.in_ok-pairs.pairs.items c.sort.new.self.items c.in_ok-sort.ensures.permutation c.in_ok-pairs.ensures in
+    let is = sorted_candidates o t left right c.those_that_meet-kept.result.items c.sort.new.self.items c.in_ok-sort.ensures.permutation (c.those_that_meet-kept.ensures c.in_ok-pairs.ensures) in
     subst (All (λ (p : ℕ × ℕ). (p.0 < length left) × (p.1 < length right))) (sym c.as_slice.ensures.value)
     (pairs_below o t left right c.args.sides c.requires.left c.requires.right c.sort.new.self.items is)
 
@@ -25,7 +25,7 @@ returns-clause-members g c =
     let t = g.met.P.Label.total in
     let left = c.args.left.now in
     let right = c.args.right.now in
-    let is = sorted_candidates o t left right c.in_ok-pairs.pairs.items c.sort.new.self.items c.in_ok-sort.ensures.permutation c.in_ok-pairs.ensures in
+    let is = sorted_candidates o t left right c.those_that_meet-kept.result.items c.sort.new.self.items c.in_ok-sort.ensures.permutation (c.those_that_meet-kept.ensures c.in_ok-pairs.ensures) in
     let e : c.in_ok-out.out.items ≡ flat_map (met (boxes_in left) (boxes_in right)) c.sort.new.self.items = c.in_ok-out.ensures ∙ ap (flat_map (met (boxes_in left) (boxes_in right))) c.as_slice.ensures.value in
     subst (λ (ms : List Met). (m : Met) → Among m ms ↔ IsMeeting o left right m) (sym e)
     (all_meetings o t left right c.args.sides c.requires.left c.requires.right c.sort.new.self.items is)
@@ -36,7 +36,7 @@ returns-clause-order g c =
     let t = g.met.P.Label.total in
     let left = c.args.left.now in
     let right = c.args.right.now in
-    let is = sorted_candidates o t left right c.in_ok-pairs.pairs.items c.sort.new.self.items c.in_ok-sort.ensures.permutation c.in_ok-pairs.ensures in
+    let is = sorted_candidates o t left right c.those_that_meet-kept.result.items c.sort.new.self.items c.in_ok-sort.ensures.permutation (c.those_that_meet-kept.ensures c.in_ok-pairs.ensures) in
     let e : c.in_ok-out.out.items ≡ flat_map (met (boxes_in left) (boxes_in right)) c.sort.new.self.items = c.in_ok-out.ensures ∙ ap (flat_map (met (boxes_in left) (boxes_in right))) c.as_slice.ensures.value in
     subst StandByLeft (sym e)
     (meetings_stand o t left right c.args.sides c.requires.left c.requires.right c.sort.new.self.items is c.requires.right_order c.in_ok-sort.ensures.sorted)
