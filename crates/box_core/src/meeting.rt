@@ -95,7 +95,7 @@ fn meetings<P>(
     requires sides { (i j : ℕ) (x y : KeyBox P) → IsRow left.now i x → IsRow right.now j y → length x.1 ≡ length y.1 }
     ensures { IfOk result (λ v. v.items ≡ flat_map (met (boxes_in left.now) (boxes_in right.now)) pairs.now) }
 {
-    let mut out = Vec::new(alloc);
+    let mut out = Vec::with_capacity(alloc, pairs.len())?;
     for pair in pairs {
         push_meeting(alloc, &mut out, left, right, *pair)?;
     }

@@ -69,10 +69,11 @@ pub fn sweep_of(
     ensures { IfOk result (λ s. IsSweep (sides_of boxes.now) side rows.now 0 s) }
 {
     let starts = starts_of(alloc, boxes, rows, side)?;
+    let live = Vec::with_capacity(alloc, rows.len())?;
     Ok(Sweep {
         starts,
         next: 0,
-        live: Vec::new(alloc),
+        live,
     })
 }
 

@@ -71,7 +71,7 @@ pub fn on_two_sides(
     ensures sorted { IfOk result (λ v. IsStrictlySortedBy (key_cmp ⟦<Bare as Label>⟧.order) v.items) }
 {
     let cuts = cuts_at(alloc, boxes, live, 1)?;
-    let mut pieces: Vec<Piece<(usize, usize)>> = Vec::new(alloc);
+    let mut pieces: Vec<Piece<(usize, usize)>> = Vec::with_capacity(alloc, cuts.len())?;
     let mut sweep = sweep_of(alloc, boxes, live, 1)?;
     let mut runs = Vec::new(alloc);
     let mut begin = 0;

@@ -21,8 +21,8 @@ use Rattle.slice_core.proofs.two_sides.on_two_sides.Goals as goal
 
 pub loop-i-init : goal.loop-i-init
 loop-i-init c = record {
-  some = All-same (λ (x : Piece (ℕ × ℕ)). x.begin < x.end) c.new-pieces.result.items [] c.new-pieces.ensures.items (All-nil (λ (x : Piece (ℕ × ℕ)). x.begin < x.end));
-  covers = λ k i. (λ h. absurd (subst (λ ps. Covers R (map (lifted span_row) ps) k i) c.new-pieces.ensures.items h), λ h. absurd (not_below_zero i h.0));
+  some = All-same (λ (x : Piece (ℕ × ℕ)). x.begin < x.end) c.in_ok-pieces.pieces.items [] c.in_ok-pieces.ensures.items (All-nil (λ (x : Piece (ℕ × ℕ)). x.begin < x.end));
+  covers = λ k i. (λ h. absurd (subst (λ ps. Covers R (map (lifted span_row) ps) k i) c.in_ok-pieces.ensures.items h), λ h. absurd (not_below_zero i h.0));
   sweep = c.in_ok-sweep.ensures;
   passed = λ j h. absurd (not_below_zero j h);
   ahead = λ j h l. omega arith;
