@@ -1,0 +1,220 @@
+"""The kinds of the language: how a field of a file is written as a value of one, or why it is none."""
+import datetime
+import re
+
+KEYWORDS = set('''
+    ALL AFTER AND AS ASK BEFORE BEGIN BEGINS BOOLEAN BUT BY CHAR CONSTRAINT COUNT DATE DELETE DROP END ENDS EXTEND FALSE FIRST FOREIGN HISTORY
+    IN INCLUDED_IN INCLUDES INSERT INTEGER INTERSECT INTERVAL IS_EMPTY IS_NOT_EMPTY JOIN KEY LAST MATCHING MAX MEETS MERGES MIN MINUS MOMENT
+    NEXT NOT ON OR OVERLAPS PACK PACKED PORTION POST PRE PRINT PRIOR REFERENCES RELATION RENAME SUM SUMMARIZE TERMINATE THEN TRUE TUPLE TYPE
+    UNION UNPACK UNPACKED UPDATE USING VAR VIRTUAL WHEN WHERE
+'''.split())
+NAME_BYTES = 64
+TEXT_BYTES = 255
+INTEGERS = (-2**63, 2**63 - 1)
+DAYS = (datetime.date.min.toordinal(), datetime.date.max.toordinal())
+DAY_MINUTES = 24 * 60
+TRUTHS = {**dict.fromkeys(('true', 't', 'yes', 'y', '1'), 'TRUE'), **dict.fromkeys(('false', 'f', 'no', 'n', '0'), 'FALSE')}
+RANGE = re.compile(r'([\[(])(.*)([\])])')
+
+
+class Fault(Exception):
+    """Why a field, a word or a file is refused, in a few words."""
+
+
+def shown(text):
+    """A text as a message has it: in quotes, on one line, and not too long."""
+    return repr(text) if len(text) <= 60 else f'{text[:60]!r}..'
+
+
+def why_no_name(word):
+    """Why the word cannot be a name of the language, or None."""
+    if not word.isidentifier():
+        return f'{shown(word)} is no name'
+    if word in KEYWORDS:
+        return f'{word} is a reserved word'
+    if len(word.encode()) > NAME_BYTES:
+        return f'the name {shown(word)} has more than {NAME_BYTES} bytes'
+    return None
+
+
+def check_name(word):
+    why = why_no_name(word)
+    if why:
+        raise Fault(why)
+    return word
+
+
+# ---------------------------------------------------------------- values that stand alone
+
+class Char:
+    """CHAR: the field as it stands, spaces too."""
+    name = 'CHAR'
+
+    def literal(self, text):
+        control = next((mark for mark in text if mark < ' '), None)
+        if control is not None:
+            raise Fault(f'{shown(text)} has a control character, {control!r}')
+        if len(text.encode()) > TEXT_BYTES:
+            raise Fault(f'{shown(text)} has {len(text.encode())} bytes; a text has at most {TEXT_BYTES}')
+        return "'" + text.replace("'", "''") + "'"
+
+
+class Boolean:
+    name = 'BOOLEAN'
+
+    def literal(self, text):
+        truth = TRUTHS.get(text.strip().lower())
+        if not truth:
+            raise Fault(f'{shown(text)} is no truth value')
+        return truth
+
+
+# ---------------------------------------------------------------- points
+
+class Point:
+    """A kind whose values follow one another. A point is a number here, or None where its number is not known."""
+
+    def literal(self, text):
+        return self.read(text.strip())[0]
+
+    def ends(self):
+        """The literals of the first and the last point, each with its number."""
+        first, last = self.numbers()
+        return (f'FIRST({self.name})', first), (f'LAST({self.name})', last)
+
+
+class Integer(Point):
+    name = 'INTEGER'
+
+    def numbers(self):
+        return INTEGERS
+
+    def read(self, text):
+        if not re.fullmatch('[+-]?[0-9]+', text):
+            raise Fault(f'{shown(text)} is no integer')
+        # some thousand digits are too many for int
+        digits = text.lstrip('+-').lstrip('0') or '0'
+        number = 0 if len(digits) > 19 else int(digits) * (-1 if text[0] == '-' else 1)
+        if len(digits) > 19 or not INTEGERS[0] <= number <= INTEGERS[1]:
+            raise Fault(f'{shown(text)} is beyond 64 bits')
+        return str(number), number
+
+
+class Decimal(Integer):
+    """A number with at most `places` digits behind its point, as the integer of its smallest unit: of two places, 4.5 is 450."""
+
+    def __init__(self, places):
+        self.places = places
+
+    def read(self, text):
+        parts = re.fullmatch('([+-]?)([0-9]+)(?:[.]([0-9]*))?', text)
+        behind = (parts[3] or '').rstrip('0') if parts else ''
+        if not parts or len(behind) > self.places:
+            raise Fault(f'{shown(text)} is no number with at most {self.places} digits behind the point')
+        return super().read(parts[1] + parts[2] + behind.ljust(self.places, '0'))
+
+    def written(self, text):
+        number = int(text)
+        digits = str(abs(number)).rjust(self.places + 1, '0')
+        at = len(digits) - self.places
+        return f'{"-" if number < 0 else ""}{digits[:at]}.{digits[at:]}'
+
+
+class Minutes(Integer):
+    """A time of day from 00:00 to 24:00, as the number of minutes since midnight."""
+
+    def read(self, text):
+        parts = re.fullmatch('([0-9]{1,2}):([0-5][0-9])(?::00)?', text)
+        number = int(parts[1]) * 60 + int(parts[2]) if parts else -1
+        if not 0 <= number <= DAY_MINUTES:
+            raise Fault(f'{shown(text)} is no time of day as HH:MM')
+        return str(number), number
+
+    def written(self, text):
+        number = int(text)
+        if not 0 <= number <= DAY_MINUTES:
+            raise Fault(f'{text} is no number of minutes since midnight')
+        return f'{number // 60:02}:{number % 60:02}'
+
+
+class Date(Point):
+    name = 'DATE'
+
+    def __init__(self, form=None):
+        self.form = form
+
+    def numbers(self):
+        return DAYS
+
+    def read(self, text):
+        try:
+            if self.form:
+                time = datetime.datetime.strptime(text, self.form)
+                if time.time() != datetime.time.min:
+                    raise Fault(f'{shown(text)} has a time of day')
+                day = time.date()
+            elif re.fullmatch('[0-9]{4}-[0-9]{2}-[0-9]{2}', text, re.ASCII):
+                day = datetime.date.fromisoformat(text)
+            else:
+                raise ValueError
+        except ValueError:
+            raise Fault(f'{shown(text)} is no date of the form {self.form or "YYYY-MM-DD"}') from None
+        return f"DATE '{day.isoformat()}'", day.toordinal()
+
+
+class Ordinal(Point):
+    """An ordinal type; of one whose values were not told any name is taken."""
+
+    def __init__(self, name, values=None):
+        self.name, self.values = name, values
+
+    def numbers(self):
+        return (0, len(self.values) - 1) if self.values else (None, None)
+
+    def read(self, text):
+        if self.values and text not in self.values:
+            raise Fault(f'{shown(text)} is no value of {self.name}')
+        check_name(text)
+        return f'{self.name}.{text}', self.values.index(text) if self.values else None
+
+
+# ---------------------------------------------------------------- intervals
+
+class Interval:
+    """INTERVAL of a point kind. What stands for its first or its last point is told by `first` and `last`, two sets of texts."""
+
+    def __init__(self, point, first=(), last=()):
+        self.point, self.first, self.last = point, first, last
+        self.name = f'INTERVAL({point.name})'
+
+    def literal(self, text):
+        """The interval of one field, as [b:e] or [b,e)."""
+        parts = RANGE.fullmatch(text.strip())
+        ends = parts[2].split(',' if ',' in parts[2] else ':') if parts else ()
+        if len(ends) != 2:
+            raise Fault(f'{shown(text)} is no interval as [b:e] or [b,e)')
+        return self.between(ends[0], ends[1], parts[1], parts[3])
+
+    def between(self, begin, end, left='[', right=']'):
+        """The interval of these two texts; a bracket is square where the end is told by `first` or `last`."""
+        begin, end = begin.strip(), end.strip()
+        first, last = self.point.ends()
+        low, high = self.end_of(begin, self.first, first), self.end_of(end, self.last, last)
+        if begin in self.first:
+            left = '['
+        if end in self.last:
+            right = ']'
+        if not self.has_point(low[1], high[1], left, right) or low == high and left + right != '[]':
+            raise Fault(f'there is no {self.point.name} in {left}{begin}:{end}{right}')
+        return f'{left}{low[0]}:{high[0]}{right}'
+
+    def end_of(self, text, names, named):
+        if text in names:
+            return named
+        if not text:
+            raise Fault('an end of the interval is empty')
+        return self.point.read(text)
+
+    @staticmethod
+    def has_point(low, high, left, right):
+        return low is None or high is None or low + (left == '(') <= high - (right == ')')
