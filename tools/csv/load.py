@@ -109,7 +109,7 @@ class Rows:
 
     def tuple_of(self, record):
         if len(record) != self.width:
-            raise Fault(f'{len(record)} fields, and not {self.width}')
+            raise Fault(f'the number of fields is {len(record)}, and not {self.width}')
         return 'TUPLE {' + ', '.join(f'{column.name} {self.value_of(column, record)}' for column in self.wanted) + '}'
 
 

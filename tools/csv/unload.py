@@ -66,7 +66,7 @@ class Reader:
             self.width, self.rows = len(cells), 0
             self.sink.begin(cells)
         elif len(cells) != self.width:
-            raise Fault(f'{len(cells)} entries, and not {self.width}')
+            raise Fault(f'the number of entries is {len(cells)}, and not {self.width}')
         else:
             self.rows += 1
             self.all_rows += 1
@@ -75,7 +75,7 @@ class Reader:
 
     def end(self, number):
         if number != self.rows:
-            raise Fault(f'{self.rows} rows stand before it')
+            raise Fault(f'the number of rows before it is {self.rows}')
         self.width = None
         self.sink.end()
 
