@@ -9,11 +9,13 @@ program prints and writes its tables. A column is an attribute, its kind, and th
     NAME=KIND                           in the field NAME
     NAME=KIND:FIELD                     in another one
     NAME=INTERVAL(POINT):FIELD          an interval in one field, as [b:e] or [b,e)
+    NAME=INTERVAL(POINT):[FIELD)        the same, which `out` writes as [b,e), as PostgreSQL has ranges
     NAME=INTERVAL(POINT):FIRST,LAST     in two fields, the last point taken in
     NAME=INTERVAL(POINT):[FIRST,LAST)   in two fields, the last one left out
 
-A KIND is INTEGER, CHAR, BOOLEAN, DATE, an ordinal type or an INTERVAL of a point kind. DECIMAL(2) is an INTEGER of hundredths that stands as 4.50, and
-TIME(MINUTES) one of minutes since midnight that stands as 08:30. A field name with a comma stands in double quotes.
+A KIND is INTEGER, CHAR, BOOLEAN, DATE, an ordinal type or an INTERVAL of a point kind. Some INTEGERs stand otherwise in a file: DECIMAL(2) is one of
+hundredths that stands as 4.50, TIME(MINUTES) one of minutes since midnight that stands as 08:30, and TIMESTAMP(MINUTES) or TIMESTAMP(SECONDS) one since the
+beginning of 1970 that stands as 2023-02-01 08:30. A field name with a comma stands in double quotes.
 
 Neither writes anything on standard error but refusals, and on a terminal a line that says how far it is. The status is 0 where nothing was refused; 1 where
 something in the file was, so that `in` wrote nothing, or a statement by the program, whose line `out` passes on to standard error; 2 where the words are

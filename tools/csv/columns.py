@@ -10,12 +10,14 @@ ATTRIBUTES = 16
 
 
 class Column(typing.NamedTuple):
-    """An attribute of this kind, and the fields of a file in which it stands: two for the ends of an interval, else one."""
+    """An attribute of this kind, and the fields of a file in which it stands: two for the ends of an interval, else one. Of an interval the brackets, and whether
+    they were named."""
     name: str
     kind: object
     fields: list
     left: str = '['
     right: str = ']'
+    is_bracketed: bool = False
 
     def literal(self, texts):
         """The value of the texts of the fields, as a script writes it."""
@@ -46,6 +48,8 @@ class Kinds:
             return kinds.Date(self.date_format)
         if text == 'TIME(MINUTES)':
             return kinds.Minutes()
+        if text in ('TIMESTAMP(MINUTES)', 'TIMESTAMP(SECONDS)'):
+            return kinds.Timestamp(60 if 'MINUTES' in text else 1)
         places = re.fullmatch(r'DECIMAL\(([1-9]|1[0-8])\)', text)
         if places:
             return kinds.Decimal(int(places[1]))
@@ -64,19 +68,19 @@ def type_of(word):
 
 
 def column_of(word, known):
-    """NAME=KIND, NAME=KIND:FIELD, or of an interval also NAME=KIND:FIELD,FIELD and the same in brackets."""
+    """NAME=KIND, NAME=KIND:FIELD, or of an interval also NAME=KIND:FIELD,FIELD, and its fields in brackets."""
     name, equals, rest = word.partition('=')
     if not equals:
         raise Fault(f'{shown(word)} is no NAME=KIND:FIELD')
     named, _, fields = rest.partition(':')
     kind = known.kind_of(named)
-    brackets = re.fullmatch(r'([\[(])(.*,.*)([\])])', fields)
+    is_interval = isinstance(kind, kinds.Interval)
+    brackets = re.fullmatch(r'([\[(])(.*)([\])])', fields) if is_interval else None
     found = next(csv.reader([brackets[2] if brackets else fields], strict=True), None) or [name]
-    if len(found) > (2 if isinstance(kind, kinds.Interval) else 1):
+    if len(found) > (2 if is_interval else 1):
         raise Fault(f'{shown(word)} names too many fields')
-    if brackets and len(found) == 2:
-        return Column(kinds.check_name(name), kind, found, brackets[1], brackets[3])
-    return Column(kinds.check_name(name), kind, found)
+    left, right = (brackets[1], brackets[3]) if brackets else ('[', ']')
+    return Column(kinds.check_name(name), kind, found, left, right, bool(brackets))
 
 
 def columns_of(words, known):

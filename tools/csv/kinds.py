@@ -13,6 +13,8 @@ TEXT_BYTES = 255
 INTEGERS = (-2**63, 2**63 - 1)
 DAYS = (datetime.date.min.toordinal(), datetime.date.max.toordinal())
 DAY_MINUTES = 24 * 60
+EPOCH = datetime.datetime(1970, 1, 1)
+STAMP = re.compile('[0-9]{4}-[0-9]{2}-[0-9]{2}[ T][0-9]{2}:[0-9]{2}(?::[0-9]{2}(?:[.]0*)?)?')
 TRUTHS = {**dict.fromkeys(('true', 't', 'yes', 'y', '1'), 'TRUE'), **dict.fromkeys(('false', 'f', 'no', 'n', '0'), 'FALSE')}
 RANGE = re.compile(r'([\[(])(.*)([\])])')
 
@@ -86,6 +88,11 @@ class Point:
 class Integer(Point):
     name = 'INTEGER'
 
+    @staticmethod
+    def written(text):
+        """How a file has the integer that the program prints so."""
+        return text
+
     def numbers(self):
         return INTEGERS
 
@@ -135,6 +142,32 @@ class Minutes(Integer):
         if not 0 <= number <= DAY_MINUTES:
             raise Fault(f'{text} is no number of minutes since midnight')
         return f'{number // 60:02}:{number % 60:02}'
+
+
+class Timestamp(Integer):
+    """A day and a time of day without a zone, as the number of units of so many seconds since the beginning of 1970."""
+
+    def __init__(self, seconds):
+        self.seconds = seconds
+
+    def read(self, text):
+        try:
+            if not STAMP.fullmatch(text):
+                raise ValueError
+            since = datetime.datetime.fromisoformat(text.partition('.')[0]) - EPOCH
+        except ValueError:
+            raise Fault(f'{shown(text)} is no day and time as YYYY-MM-DD HH:MM') from None
+        number, rest = divmod(since // datetime.timedelta(seconds=1), self.seconds)
+        if rest:
+            raise Fault(f'{shown(text)} has seconds')
+        return str(number), number
+
+    def written(self, text):
+        try:
+            time = EPOCH + datetime.timedelta(seconds=int(text) * self.seconds)
+        except OverflowError:
+            raise Fault(f'{text} is no time of the years 1 to 9999') from None
+        return time.isoformat(' ', 'minutes' if self.seconds == 60 else 'seconds')
 
 
 class Date(Point):

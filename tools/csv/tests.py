@@ -146,6 +146,14 @@ class In(unittest.TestCase):
         self.refuses(['R', 'a=TIME(MINUTES)'], 'a\n24:01\n08:30:05\n', "line 2, column 1 (a): '24:01' is no time of day as HH:MM",
                      "line 3, column 1 (a): '08:30:05' is no time of day as HH:MM")
 
+    def test_timestamps(self):
+        self.loads(['R', 'a=INTERVAL(TIMESTAMP(MINUTES)):[b,e)'], 'b,e\n1970-01-02 00:00,2023-02-01T08:30:00.000\n', 'a [1440:27920670)')
+        self.loads(['R', 'a=TIMESTAMP(SECONDS)'], 'a\n1969-12-31 23:59:59\n', 'a -1')
+        self.refuses(['R', 'a=TIMESTAMP(MINUTES)'], 'a\n2023-02-01\n2023-02-01 08:30:05\n2023-02-30 08:30\n2023-02-01 08:30+01:00\n', *(
+            f"line {line}, column 1 (a): '{text}' {why}" for line, text, why in (
+                (2, '2023-02-01', 'is no day and time as YYYY-MM-DD HH:MM'), (3, '2023-02-01 08:30:05', 'has seconds'),
+                (4, '2023-02-30 08:30', 'is no day and time as YYYY-MM-DD HH:MM'), (5, '2023-02-01 08:30+01:00', 'is no day and time as YYYY-MM-DD HH:MM'))))
+
     def test_truth_values(self):
         for text, truth in (('t', 'TRUE'), ('TRUE', 'TRUE'), ('Yes', 'TRUE'), ('1', 'TRUE'), ('f', 'FALSE'), ('no', 'FALSE'), ('0', 'FALSE')):
             self.loads(['R', 'a=BOOLEAN'], f'a\n{text}\n', f'a {truth}')
@@ -290,10 +298,18 @@ class Out(unittest.TestCase):
         self.gives(['D=INTERVAL(DATE):from,to'], '| D |\nrows: 0\n', 'from,to\n')
         self.gives(['D=INTERVAL(INTEGER):(b,e]', 'N=INTEGER'], '| D     |\n| [1:2] |\nrows: 1\n', 'b,e\n0,2\n')
 
+    def test_intervals_in_one_field(self):
+        given = '| D     |\n| [1:2] |\nrows: 1\n'
+        for column, wanted in (('D=INTERVAL(INTEGER)', 'D\n[1:2]\n'), ('D=INTERVAL(INTEGER):[d)', 'd\n"[1,3)"\n'), ('D=INTERVAL(INTEGER):[]', 'D\n"[1,2]"\n')):
+            self.gives([column], given, wanted)
+
     def test_points(self):
         self.gives(['A=DECIMAL(2):price', 'B=INTERVAL(TIME(MINUTES)):[b,e)'], '| A  | B         |\n| -5 | [510:1439] |\nrows: 1\n', 'price,b,e\n-0.05,08:30,24:00\n')
         self.gives(['--date-format', '%d.%m.%Y'], '| A          | B                       |\n| 2023-02-01 | [2023-02-01:2023-02-02] |\nrows: 1\n',
                    'A,B\n01.02.2023,[01.02.2023:02.02.2023]\n')
+        self.gives(['A=TIMESTAMP(SECONDS)', 'B=INTERVAL(TIMESTAMP(MINUTES)):[b,e)'], '| A  | B               |\n| -1 | [1440:27920669] |\nrows: 1\n',
+                   'A,b,e\n1969-12-31 23:59:59,1970-01-02 00:00,2023-02-01 08:30\n')
+        self.gives(['--last', '', 'A=INTERVAL(TIME(MINUTES)):a'], '| A                         |\n| [510:9223372036854775807] |\nrows: 1\n', 'a\n"[08:30,]"\n')
         sizes = '| A     |\n| [S:M] |\nrows: 1\n'
         self.gives(['--type', 'SIZE=S,M,L', 'A=INTERVAL(SIZE):[b,e)'], sizes, 'b,e\nS,L\n')
         self.gives(['A=INTERVAL(SIZE):b,e'], sizes, 'b,e\nS,M\n')
@@ -356,8 +372,8 @@ class Out(unittest.TestCase):
 
 class Both(unittest.TestCase):
     COLUMNS = ['A=CHAR:text', 'B=INTEGER:number', 'C=INTERVAL(DATE):[from,to)', 'D=BOOLEAN:truth', 'E=INTERVAL(INTEGER):range', 'F=DECIMAL(2):price',
-               'G=DATE:day', 'H=SIZE:size']
-    HEADER = ['text', 'number', 'from', 'to', 'truth', 'range', 'price', 'day', 'size']
+               'G=DATE:day', 'H=SIZE:size', 'I=TIMESTAMP(MINUTES):stamp', 'J=INTERVAL(TIME(MINUTES)):times']
+    HEADER = ['text', 'number', 'from', 'to', 'truth', 'range', 'price', 'day', 'size', 'stamp', 'times']
 
     def row(self, chance):
         """A random row of the fields."""
@@ -366,7 +382,7 @@ class Both(unittest.TestCase):
         to = '' if chance.random() < 0.2 else (day + kinds.datetime.timedelta(1 + more)).isoformat()
         text = ''.join(chance.choice('ab\'",|;é :[]{}/*') for _ in range(chance.randrange(8)))
         return [text, str(begin), day.isoformat(), to, chance.choice(['TRUE', 'FALSE']), f'[{begin}:{begin + more}]', f'{chance.randrange(-999, 999) / 100:.2f}',
-                day.isoformat(), chance.choice('SML')]
+                day.isoformat(), chance.choice('SML'), f'{day} 08:{more:02}', f'[08:{more:02},{9 + more % 9:02}:00]']
 
     def test_round_trips(self):
         chance = random.Random(1)

@@ -12,6 +12,7 @@ from progress import Progress
 
 CELL = re.compile(r" (?:('(?:[^']|'')*')|([^'|]*?)) *\|")
 DATE = re.compile('[0-9]{4}-[0-9]{2}-[0-9]{2}')
+INTEGER = re.compile('-?[0-9]+')
 INTERVAL = re.compile(r'\[([^:]*):([^:]*)\]')
 REFUSED = re.compile('statement [0-9]+ refused: ')
 ROWS = re.compile('rows: ([0-9]+)')
@@ -108,15 +109,15 @@ class Values:
         if not parts:
             return [self.point_of(cell, kind)]
         if column is None:
-            return [self.interval_of(parts[1], parts[2], None)]
+            return [f'[{self.text_of(parts[1], None)}:{self.text_of(parts[2], None)}]']
         if not isinstance(kind, kinds.Interval):
             raise Fault(f'{name}: {cell} is an interval')
-        if len(column.fields) == 1:
-            return [self.interval_of(parts[1], parts[2], kind.point)]
-        return [self.begin_of(parts[1], kind.point, column.left), self.end_of(parts[2], kind.point, column.right)]
-
-    def interval_of(self, begin, end, kind):
-        return f'[{self.text_of(begin, kind)}:{self.text_of(end, kind)}]'
+        begin, end = self.begin_of(parts[1], kind.point, column.left), self.end_of(parts[2], kind.point, column.right)
+        if len(column.fields) == 2:
+            return [begin, end]
+        # with a comma where a colon would not be told from one of an end
+        between = ',' if column.is_bracketed or ':' in begin + end else ':'
+        return [f'{column.left}{begin}{between}{end}{column.right}']
 
     def point_of(self, cell, kind):
         """The value of an entry that is no interval, for JSON of its type."""
@@ -125,11 +126,11 @@ class Values:
         text = self.text_of(cell, kind)
         if self.is_json and cell in ('TRUE', 'FALSE'):
             return cell == 'TRUE'
-        return int(text) if self.is_json and re.fullmatch('-?[0-9]+', text) else text
+        return int(text) if self.is_json and INTEGER.fullmatch(text) else text
 
     def text_of(self, cell, kind):
-        if isinstance(kind, (kinds.Decimal, kinds.Minutes)):
-            if not re.fullmatch('-?[0-9]+', cell):
+        if isinstance(kind, kinds.Integer):
+            if not INTEGER.fullmatch(cell):
                 raise Fault(f'{cell} is no integer')
             return kind.written(cell)
         if self.date_format and DATE.fullmatch(cell):
