@@ -76,10 +76,12 @@ def parser():
     into.add_argument('--var', action='store_true', help='write a VAR statement first, and a TYPE statement for each --type')
     into.add_argument('relvar', metavar='RELVAR')
     into.add_argument('columns', nargs='+', metavar='COLUMN')
+    into.set_defaults(parser=into)
     out = ways.add_parser('out', parents=[both], allow_abbrev=False, help='tables into CSV or JSON lines')
     out.add_argument('--json', action='store_true', help='write each row as a JSON object on a line of its own')
     out.add_argument('--into', metavar='FOLDER', help='write each table to a file of its own in this folder')
     out.add_argument('columns', nargs='*', metavar='COLUMN')
+    out.set_defaults(parser=out)
     return whole
 
 
@@ -101,12 +103,11 @@ def checked(options):
 
 def run(words, source, sink, errors):
     """Does what the words ask for, between streams of bytes and of text; gives the status."""
-    parse = parser()
-    options = parse.parse_args(words)
+    options = parser().parse_args(words)
     try:
         found, known = checked(options)
     except (kinds.Fault, csv.Error) as fault:
-        parse.error(str(fault))
+        options.parser.error(str(fault))
     try:
         if options.way == 'in':
             return load.load(options, found, known, source, sink, errors)

@@ -10,8 +10,8 @@ ATTRIBUTES = 16
 
 
 class Column(typing.NamedTuple):
-    """An attribute of this kind, and the fields of a file in which it stands: two for the ends of an interval, else one. Of an interval the brackets, and whether
-    they were named."""
+    """An attribute of this kind, and the fields of a file in which it stands: two for the ends of an interval, else one. Of an interval also the brackets,
+    and whether they were named."""
     name: str
     kind: object
     fields: list
@@ -30,6 +30,8 @@ class Kinds:
     """The kinds that a call can name, with what its options say of dates, of ordinal types and of the ends of intervals."""
 
     def __init__(self, date_format=None, types=(), first=(), last=()):
+        if date_format and not kinds.tells_days(date_format):
+            raise Fault(f'{shown(date_format)} is no format that tells the day')
         self.date_format, self.first, self.last = date_format, frozenset(first), frozenset(last)
         self.types = dict(type_of(word) for word in types)
 

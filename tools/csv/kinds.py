@@ -46,6 +46,15 @@ def check_name(word):
     return word
 
 
+def tells_days(form):
+    """Whether a date that is written in this format can be read again."""
+    day = datetime.datetime(2011, 10, 9)
+    try:
+        return datetime.datetime.strptime(day.strftime(form), form) == day
+    except (ValueError, re.error):
+        return False
+
+
 # ---------------------------------------------------------------- values that stand alone
 
 class Char:
@@ -233,12 +242,12 @@ class Interval:
         begin, end = begin.strip(), end.strip()
         first, last = self.point.ends()
         low, high = self.end_of(begin, self.first, first), self.end_of(end, self.last, last)
-        if begin in self.first:
-            left = '['
-        if end in self.last:
-            right = ']'
+        left = '[' if begin in self.first else left
+        right = ']' if end in self.last else right
         if not self.has_point(low[1], high[1], left, right) or low == high and left + right != '[]':
             raise Fault(f'there is no {self.point.name} in {left}{begin}:{end}{right}')
+        if right == ')' and high[1] == last[1] and not isinstance(self.point, Ordinal):
+            raise Fault(f'{end} would be left out; --last {end} takes it for the last point')
         return f'{left}{low[0]}:{high[0]}{right}'
 
     def end_of(self, text, names, named):

@@ -182,7 +182,9 @@ class In(unittest.TestCase):
         self.loads(['--last', '9999-12-31', *words], 'b,e\n2023-01-01,9999-12-31\n', "V [DATE '2023-01-01':LAST(DATE)]")
         self.loads(['--first=-infinity', '--last', 'infinity', *words], 'b,e\n-infinity,infinity\n', 'V [FIRST(DATE):LAST(DATE)]')
         self.loads(['--first', '', 'R', 'V=INTERVAL(INTEGER):(b,e]'], 'b,e\n,5\n', 'V [FIRST(INTEGER):5]')
-        self.loads(words, 'b,e\n2023-01-01,9999-12-31\n', "V [DATE '2023-01-01':DATE '9999-12-31')")
+        self.loads(['R', 'V=INTERVAL(DATE):b,e'], 'b,e\n2023-01-01,9999-12-31\n', "V [DATE '2023-01-01':DATE '9999-12-31']")
+        self.refuses(words, 'b,e\n2023-01-01,9999-12-31\n',
+                     'line 2, column 1 (b) and 2 (e): 9999-12-31 would be left out; --last 9999-12-31 takes it for the last point')
         self.loads(['--empty', 'e=2023-12-31', *words], 'b,e\n2023-01-01,\n', "V [DATE '2023-01-01':DATE '2023-12-31')")
         self.refuses(words, 'b,e\n2023-01-01,\n,2023-01-01\n2023-01-01,2023-01-01\n2023-01-02,2023-01-01\n', 'line 2, column 2 (e): the field is empty',
                      'line 3, column 1 (b): the field is empty', 'line 4, column 1 (b) and 2 (e): there is no DATE in [2023-01-01:2023-01-01)',
@@ -264,7 +266,8 @@ class In(unittest.TestCase):
                 (['--rows', '0', 'R', 'a=CHAR'], 'no number of rows'), (['--rows', 'x', 'R', 'a=CHAR'], 'no number of rows'),
                 (['--empty', 'a', 'R', 'a=CHAR'], "'a' is no FIELD=TEXT"), (['--delimiter', ';;', 'R', 'a=CHAR'], 'one character'),
                 (['--type', 'S=A,A', 'R', 'a=CHAR'], 'a value of S stands twice'), (['--type', 'S', 'R', 'a=CHAR'], "'' is no name"),
-                (['--using', 'b', 'R', 'a=CHAR'], '--using names b'), (['--what', 'R', 'a=CHAR'], 'unrecognized'), (['R', 'a=CHAR:"b'], 'unexpected end of data')):
+                (['--using', 'b', 'R', 'a=CHAR'], '--using names b'), (['--what', 'R', 'a=CHAR'], 'unrecognized'),
+                (['--date-format', '%d.%m.', 'R', 'a=DATE'], "'%d.%m.' is no format that tells the day"), (['R', 'a=CHAR:"b'], 'unexpected end of data')):
             with self.subTest(words=words):
                 self.is_wrong(words, wanted)
         self.assertEqual(call([], '')[0], 2)
@@ -304,10 +307,12 @@ class Out(unittest.TestCase):
             self.gives([column], given, wanted)
 
     def test_points(self):
-        self.gives(['A=DECIMAL(2):price', 'B=INTERVAL(TIME(MINUTES)):[b,e)'], '| A  | B         |\n| -5 | [510:1439] |\nrows: 1\n', 'price,b,e\n-0.05,08:30,24:00\n')
+        self.gives(['A=DECIMAL(2):price', 'B=INTERVAL(TIME(MINUTES)):[b,e)'],
+                   '| A  | B         |\n| -5 | [510:1439] |\nrows: 1\n', 'price,b,e\n-0.05,08:30,24:00\n')
         self.gives(['--date-format', '%d.%m.%Y'], '| A          | B                       |\n| 2023-02-01 | [2023-02-01:2023-02-02] |\nrows: 1\n',
                    'A,B\n01.02.2023,[01.02.2023:02.02.2023]\n')
-        self.gives(['A=TIMESTAMP(SECONDS)', 'B=INTERVAL(TIMESTAMP(MINUTES)):[b,e)'], '| A  | B               |\n| -1 | [1440:27920669] |\nrows: 1\n',
+        self.gives(['A=TIMESTAMP(SECONDS)', 'B=INTERVAL(TIMESTAMP(MINUTES)):[b,e)'],
+                   '| A  | B               |\n| -1 | [1440:27920669] |\nrows: 1\n',
                    'A,b,e\n1969-12-31 23:59:59,1970-01-02 00:00,2023-02-01 08:30\n')
         self.gives(['--last', '', 'A=INTERVAL(TIME(MINUTES)):a'], '| A                         |\n| [510:9223372036854775807] |\nrows: 1\n', 'a\n"[08:30,]"\n')
         sizes = '| A     |\n| [S:M] |\nrows: 1\n'
@@ -424,7 +429,8 @@ class Both(unittest.TestCase):
         self.assertEqual((status, script, told), (0, "INSERT R RELATION {\n  TUPLE {a 'é'}\n};\n", ''))
         self.assertEqual(run([sys.executable, 'tools/csv', 'out'], "| a   |\n| 'é' |\nrows: 1\nstatement 2 refused: E46 database full\n"),
                          (1, 'a\né\n', 'statement 2 refused: E46 database full\n'))
-        self.assertEqual(run(['bash', '-c', 'python3 tools/csv out > /dev/full'], '| a |\nrows: 0\n'), (4, '', 'csv out: [Errno 28] No space left on device\n'))
+        self.assertEqual(run(['bash', '-c', 'python3 tools/csv out > /dev/full'], '| a |\nrows: 0\n'),
+                         (4, '', 'csv out: [Errno 28] No space left on device\n'))
         self.assertEqual(run([sys.executable, 'tools/csv', 'out', '--into', '/dev/null/x'], '| a |\nrows: 0\n')[0], 4)
 
 
@@ -447,7 +453,8 @@ class Where(unittest.TestCase):
     def test_what_does_not_end(self):
         self.assertEqual(where(2, "PRINT R;\nINSERT R {TUPLE {A 'b}};\nPRINT R WHERE A = 'x';\n")[1],
                          "statement 2 begins at 2:1\nINSERT R {TUPLE {A 'b}};\nthe text that begins at 2:20 does not end on its line\n")
-        self.assertEqual(where(1, "PRINT R WHERE A = 'x")[1], "statement 1 begins at 1:1\nPRINT R WHERE A = 'x\nthe text that begins at 1:19 does not end on its line\n")
+        self.assertEqual(where(1, "PRINT R WHERE A = 'x")[1],
+                         "statement 1 begins at 1:1\nPRINT R WHERE A = 'x\nthe text that begins at 1:19 does not end on its line\n")
         self.assertEqual(where(2, 'PRINT R; /* ;')[1], 'statement 2 begins at 1:10\n/* ;\nthe comment that begins at 1:10 does not end\n')
 
     def test_wrong_words(self):
