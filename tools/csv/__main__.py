@@ -111,7 +111,7 @@ def run(words, source, sink, errors):
     try:
         if options.way == 'in':
             return load.load(options, found, known, source, sink, errors)
-        return unload.unload(options, found, known, source, sink, errors)
+        return unload.unload(options, found, source, sink, errors)
     except OSError as error:
         print(f'csv {options.way}: {error}', file=errors)
         return CANNOT_WRITE

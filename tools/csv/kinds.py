@@ -1,4 +1,7 @@
-"""The kinds of the language: how a field of a file is written as a value of one, or why it is none."""
+"""The kinds of the language: how a field of a file is written as a value of one, or why it is none.
+
+Each says by `printed` what the program prints of its values.
+"""
 import datetime
 import re
 
@@ -46,6 +49,11 @@ def check_name(word):
     return word
 
 
+def day_in(form, day):
+    """The day in this format, its year with four digits."""
+    return day.strftime(re.sub('%(.)', lambda part: f'{day.year:04}' if part[1] == 'Y' else part[0], form))
+
+
 def tells_days(form):
     """Whether a date that is written in this format can be read again."""
     day = datetime.datetime(2011, 10, 9)
@@ -59,7 +67,7 @@ def tells_days(form):
 
 class Char:
     """CHAR: the field as it stands, spaces too."""
-    name = 'CHAR'
+    name, printed = 'CHAR', re.compile("'.*'")
 
     def literal(self, text):
         control = next((mark for mark in text if mark < ' '), None)
@@ -71,7 +79,7 @@ class Char:
 
 
 class Boolean:
-    name = 'BOOLEAN'
+    name, printed = 'BOOLEAN', re.compile('TRUE|FALSE')
 
     def literal(self, text):
         truth = TRUTHS.get(text.strip().lower())
@@ -95,7 +103,7 @@ class Point:
 
 
 class Integer(Point):
-    name = 'INTEGER'
+    name, printed = 'INTEGER', re.compile('-?[0-9]+')
 
     @staticmethod
     def written(text):
@@ -180,7 +188,7 @@ class Timestamp(Integer):
 
 
 class Date(Point):
-    name = 'DATE'
+    name, printed = 'DATE', re.compile('[0-9]{4}-[0-9]{2}-[0-9]{2}')
 
     def __init__(self, form=None):
         self.form = form
@@ -195,7 +203,7 @@ class Date(Point):
                 if time.time() != datetime.time.min:
                     raise Fault(f'{shown(text)} has a time of day')
                 day = time.date()
-            elif re.fullmatch('[0-9]{4}-[0-9]{2}-[0-9]{2}', text, re.ASCII):
+            elif self.printed.fullmatch(text):
                 day = datetime.date.fromisoformat(text)
             else:
                 raise ValueError
@@ -206,6 +214,7 @@ class Date(Point):
 
 class Ordinal(Point):
     """An ordinal type; of one whose values were not told any name is taken."""
+    printed = re.compile(r'[^\W\d]\w*')
 
     def __init__(self, name, values=None):
         self.name, self.values = name, values

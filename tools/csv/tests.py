@@ -315,17 +315,20 @@ class Out(unittest.TestCase):
                    '| A  | B               |\n| -1 | [1440:27920669] |\nrows: 1\n',
                    'A,b,e\n1969-12-31 23:59:59,1970-01-02 00:00,2023-02-01 08:30\n')
         self.gives(['--last', '', 'A=INTERVAL(TIME(MINUTES)):a'], '| A                         |\n| [510:9223372036854775807] |\nrows: 1\n', 'a\n"[08:30,]"\n')
+        self.gives(['--date-format', '%Y/%m/%d'], '| A                       |\n| [0001-01-01:0999-12-31] |\nrows: 1\n', 'A\n[0001/01/01:0999/12/31]\n')
         sizes = '| A     |\n| [S:M] |\nrows: 1\n'
         self.gives(['--type', 'SIZE=S,M,L', 'A=INTERVAL(SIZE):[b,e)'], sizes, 'b,e\nS,L\n')
         self.gives(['A=INTERVAL(SIZE):b,e'], sizes, 'b,e\nS,M\n')
-        self.breaks(['A=INTERVAL(SIZE):[b,e)'], sizes, 'line 2: the values of SIZE are not known; tell them by --type')
+        self.breaks(['A=INTERVAL(SIZE):[b,e)'], sizes, 'line 2: A: the values of SIZE are not known; tell them by --type')
         self.breaks(['--type', 'SIZE=S,M', 'A=INTERVAL(SIZE):[b,e)'], sizes,
-                    'line 2: the interval has the last SIZE, and no bound beyond it; --last says what to write')
+                    'line 2: A: the interval has the last SIZE, and no bound beyond it; --last says what to write')
 
     def test_json(self):
         wanted = ('{"A": "x | y", "B": "it\'s", "from": "2023-01-01", "to": "2023-06-30", "N": -1}\n'
                   '{"A": "", "B": "a, \\"b\\"", "from": "2023-03-01", "to": "9999-12-31", "N": 2}\n')
         self.gives(['--json', 'D=INTERVAL(DATE):from,to'], TABLE, wanted)
+        self.gives(['--json', '--date-format', '%Y%m%d', 'B=DECIMAL(1):B'],
+                   '| A          | B |\n| 2023-02-01 | 5 |\nrows: 1\n', '{"A": "20230201", "B": "0.5"}\n')
         self.gives(['--json'], "| A    | B   | C    | é     |\n| TRUE | '1' | S    | [1:2] |\nrows: 1\n", '{"A": true, "B": "1", "C": "S", "é": "[1:2]"}\n')
 
     def test_several_tables_and_answers(self):
@@ -349,10 +352,13 @@ class Out(unittest.TestCase):
         self.breaks([], '| A |\n| 1 | 2 |\nrows: 1\n', 'line 2: the number of entries is 2, and not 1')
         self.breaks([], "| A |\n| 'x |\nrows: 1\n", 'line 2: this is no line of a table')
         self.breaks(['A=INTERVAL(DATE):b,e'], '| A |\n| 1 |\nrows: 1\n', 'line 2: A: 1 is no interval')
-        self.breaks(['A=INTEGER'], '| A     |\n| [1:2] |\nrows: 1\n', 'line 2: A: [1:2] is an interval')
-        self.breaks(['D=INTERVAL(DATE):[b,e)'], TABLE, 'line 3: the interval has the last DATE, and no bound beyond it; --last says what to write')
+        self.breaks(['A=INTEGER'], '| A     |\n| [1:2] |\nrows: 1\n', 'line 2: A: [1:2] is no INTEGER')
+        self.breaks(['D=INTERVAL(DATE):[b,e)'], TABLE, 'line 3: D: the interval has the last DATE, and no bound beyond it; --last says what to write')
         self.breaks(['A=CHAR:B'], '| A | B |\nrows: 0\n', 'line 1: two fields have the same name')
-        self.breaks(['A=DECIMAL(2)'], "| A   |\n| S   |\nrows: 1\n", 'line 2: S is no integer')
+        self.breaks(['A=DECIMAL(2)'], "| A   |\n| S   |\nrows: 1\n", 'line 2: A: S is no INTEGER')
+        self.breaks(['D=INTERVAL(INTEGER):b,e'], TABLE, 'line 2: D: 2023-01-01 is no INTEGER')
+        self.breaks(['A=TIME(MINUTES)'], '| A    |\n| 1441 |\nrows: 1\n', 'line 2: A: 1441 is no number of minutes since midnight')
+        self.breaks(['A=TIMESTAMP(MINUTES)'], '| A            |\n| 999999999999 |\nrows: 1\n', 'line 2: A: 999999999999 is no time of the years 1 to 9999')
 
     def test_files(self):
         given = "| A |\n| 1 |\nrows: 1\n| _        |\n| 'prices' |\nrows: 1\n| B |\n| 2 |\nrows: 1\nTRUE\n"
@@ -360,6 +366,9 @@ class Out(unittest.TestCase):
             self.gives(['--into', f'{folder}/new'], given, '')
             found = {name: open(f'{folder}/new/{name}', encoding='utf-8').read() for name in os.listdir(f'{folder}/new')}
             self.assertEqual(found, {'1.csv': 'A\n1\n', 'prices.csv': 'B\n2\n', '3.csv': 'ANSWER\nTRUE\n'})
+            refused = 'statement 3 refused: E10 unknown name at 3:7\n'
+            self.gives(['--into', folder], f"| _   |\n| 'x' |\nrows: 1\n{refused}| C |\nrows: 0\n", '', 1, refused)
+            self.assertEqual(sorted(os.listdir(folder)), ['1.csv', 'new'])
             self.gives(['--json', '--into', folder], '| A |\n| 1 |\nrows: 1\n', '')
             self.assertEqual(open(f'{folder}/1.jsonl', encoding='utf-8').read(), '{"A": 1}\n')
             label = "| _ |\n| '{}' |\nrows: 1\n| A |\nrows: 0\n"
@@ -386,8 +395,9 @@ class Both(unittest.TestCase):
         day = kinds.datetime.date(2023, 1, 1) + kinds.datetime.timedelta(chance.randrange(700))
         to = '' if chance.random() < 0.2 else (day + kinds.datetime.timedelta(1 + more)).isoformat()
         text = ''.join(chance.choice('ab\'",|;é :[]{}/*') for _ in range(chance.randrange(8)))
-        return [text, str(begin), day.isoformat(), to, chance.choice(['TRUE', 'FALSE']), f'[{begin}:{begin + more}]', f'{chance.randrange(-999, 999) / 100:.2f}',
-                day.isoformat(), chance.choice('SML'), f'{day} 08:{more:02}', f'[08:{more:02},{9 + more % 9:02}:00]']
+        price = f'{chance.randrange(-999, 999) / 100:.2f}'
+        return [text, str(begin), day.isoformat(), to, chance.choice(['TRUE', 'FALSE']), f'[{begin}:{begin + more}]', price, day.isoformat(),
+                chance.choice('SML'), f'{day} 08:{more:02}', f'[08:{more:02},{9 + more % 9:02}:00]']
 
     def test_round_trips(self):
         chance = random.Random(1)

@@ -11,8 +11,6 @@ from kinds import Fault, shown
 from progress import Progress
 
 CELL = re.compile(r" (?:('(?:[^']|'')*')|([^'|]*?)) *\|")
-DATE = re.compile('[0-9]{4}-[0-9]{2}-[0-9]{2}')
-INTEGER = re.compile('-?[0-9]+')
 INTERVAL = re.compile(r'\[([^:]*):([^:]*)\]')
 REFUSED = re.compile('statement [0-9]+ refused: ')
 ROWS = re.compile('rows: ([0-9]+)')
@@ -57,6 +55,7 @@ class Reader:
             self.sink.end()
         elif REFUSED.match(line):
             self.is_refused = True
+            self.sink.forget()
             self.progress.clear()
             print(line, file=self.errors, flush=True)
         else:
@@ -90,9 +89,9 @@ class Reader:
 class Values:
     """Writes entries as fields, by the columns that were named; the others as they stand."""
 
-    def __init__(self, wanted, options, is_json):
+    def __init__(self, wanted, options):
         self.columns = {column.name: column for column in wanted}
-        self.date_format, self.is_json = options.date_format, is_json
+        self.date_format, self.is_json = options.date_format, options.json
         self.first, self.last = (given[-1] if given else None for given in (options.first, options.last))
 
     def fields_of(self, name):
@@ -101,18 +100,20 @@ class Values:
 
     def values_of(self, name, cell):
         """What stands in these fields for the entry."""
-        column = self.columns.get(name)
-        kind = column.kind if column else None
-        parts = INTERVAL.fullmatch(cell)
-        if isinstance(kind, kinds.Interval) and not parts:
-            raise Fault(f'{name}: {cell} is no interval')
-        if not parts:
-            return [self.point_of(cell, kind)]
-        if column is None:
-            return [f'[{self.text_of(parts[1], None)}:{self.text_of(parts[2], None)}]']
-        if not isinstance(kind, kinds.Interval):
-            raise Fault(f'{name}: {cell} is an interval')
-        begin, end = self.begin_of(parts[1], kind.point, column.left), self.end_of(parts[2], kind.point, column.right)
+        column, parts = self.columns.get(name), INTERVAL.fullmatch(cell)
+        try:
+            if column is None:
+                return [f'[{self.text_of(parts[1], None)}:{self.text_of(parts[2], None)}]' if parts else self.point_of(cell, None)]
+            if not isinstance(column.kind, kinds.Interval):
+                return [self.point_of(cell, column.kind)]
+            if not parts:
+                raise Fault(f'{cell} is no interval')
+            return self.interval_of(parts[1], parts[2], column)
+        except Fault as fault:
+            raise Fault(f'{name}: {fault}') from None
+
+    def interval_of(self, begin, end, column):
+        begin, end = self.begin_of(begin, column.kind.point, column.left), self.end_of(end, column.kind.point, column.right)
         if len(column.fields) == 2:
             return [begin, end]
         # with a comma where a colon would not be told from one of an end
@@ -121,20 +122,21 @@ class Values:
 
     def point_of(self, cell, kind):
         """The value of an entry that is no interval, for JSON of its type."""
-        if cell.startswith("'"):
-            return cell[1:-1].replace("''", "'")
         text = self.text_of(cell, kind)
+        if cell.startswith("'"):
+            return text[1:-1].replace("''", "'")
         if self.is_json and cell in ('TRUE', 'FALSE'):
             return cell == 'TRUE'
-        return int(text) if self.is_json and INTEGER.fullmatch(text) else text
+        return int(cell) if self.is_json and cell == text and kinds.Integer.printed.fullmatch(cell) else text
 
     def text_of(self, cell, kind):
+        """How a file has a value that the program prints so."""
+        if kind is not None and not kind.printed.fullmatch(cell):
+            raise Fault(f'{cell} is no {kind.name}')
         if isinstance(kind, kinds.Integer):
-            if not INTEGER.fullmatch(cell):
-                raise Fault(f'{cell} is no integer')
             return kind.written(cell)
-        if self.date_format and DATE.fullmatch(cell):
-            return datetime.date.fromisoformat(cell).strftime(self.date_format)
+        if self.date_format and kinds.Date.printed.fullmatch(cell):
+            return kinds.day_in(self.date_format, datetime.date.fromisoformat(cell))
         return cell
 
     def begin_of(self, cell, kind, bracket):
@@ -154,6 +156,8 @@ class Values:
 
 def number_of(cell, kind):
     """The number of a point as the program prints it."""
+    if not kind.printed.fullmatch(cell):
+        raise Fault(f'{cell} is no {kind.name}')
     if isinstance(kind, kinds.Integer):
         return int(cell)
     if isinstance(kind, kinds.Date):
@@ -179,9 +183,9 @@ class Tables:
     """Writes the tables one after the other, to one stream or each to a file of its own in a folder."""
 
     def __init__(self, values, options, stream):
-        self.values, self.options, self.stream = values, options, stream
-        self.number, self.label, self.names, self.taken = 0, None, [], set()
-        self.is_label, self.file = False, None
+        self.values, self.options, self.stream, self.file = values, options, stream, stream
+        self.number, self.names, self.fields, self.taken = 0, [], [], set()
+        self.label, self.is_label = None, False
 
     def begin(self, names):
         self.names = names
@@ -189,7 +193,8 @@ class Tables:
         if self.is_label:
             return
         self.number += 1
-        self.file = self.opened() if self.options.into else self.stream
+        if self.options.into:
+            self.file = self.opened()
         self.fields = [field for name in names for field in self.values.fields_of(name)]
         if len(set(self.fields)) < len(self.fields):
             raise Fault('two fields have the same name')
@@ -213,9 +218,17 @@ class Tables:
         csv.writer(self.file, delimiter=self.options.delimiter, lineterminator='\n').writerow(found)
 
     def end(self):
-        if self.options.into and not self.is_label:
+        if not self.is_label:
+            self.forget()
+            self.close()
+
+    def forget(self):
+        """Takes the label from the table that comes next."""
+        self.label = None
+
+    def close(self):
+        if self.file is not self.stream:
             self.file.close()
-            self.label = None
 
     def opened(self):
         """The file of the next table, named by its label or else by its number."""
@@ -228,10 +241,11 @@ class Tables:
         return open(path, 'w', encoding='utf-8', newline='')
 
 
-def unload(options, wanted, _known, source, sink, errors):
+def unload(options, wanted, source, sink, errors):
     """Writes the tables that are read; gives the status."""
     progress = Progress(errors, 'csv out')
-    reader = Reader(Tables(Values(wanted, options, options.json), options, sink), errors, progress)
+    tables = Tables(Values(wanted, options), options, sink)
+    reader = Reader(tables, errors, progress)
     number = 0
     try:
         for number, line in enumerate(io.TextIOWrapper(source, encoding='utf-8', newline='\n'), 1):
@@ -242,6 +256,8 @@ def unload(options, wanted, _known, source, sink, errors):
         progress.clear()
         print(f'csv out: line {number}: {fault}', file=errors)
         status = NOT_UNDERSTOOD
+    finally:
+        tables.close()
     progress.clear()
     sink.flush()
     return status
