@@ -214,7 +214,7 @@ class Date(Point):
 
 class Ordinal(Point):
     """An ordinal type; of one whose values were not told any name is taken."""
-    printed = re.compile(r'[^\W\d]\w*')
+    printed = re.compile(r"[^\W\d][^ '|:\[\]]*")
 
     def __init__(self, name, values=None):
         self.name, self.values = name, values
