@@ -418,8 +418,8 @@ class Both(unittest.TestCase):
 
     def test_reserved_words_are_those_of_the_language(self):
         with open(f'{ROOT}/docs/language.md', encoding='utf-8') as file:
-            told = file.read().partition('The reserved words:\n')[2].partition('\n## ')[0]
-        self.assertEqual(kinds.KEYWORDS, set(told.split()))
+            told = re.search(r'^The reserved words:\n\n((?:    .*\n)+)', file.read(), re.M)
+        self.assertEqual(kinds.KEYWORDS, set(told[1].split()))
 
     def test_progress_is_told_on_terminals(self):
         terminal = io.StringIO()
