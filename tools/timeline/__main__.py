@@ -22,7 +22,7 @@ sys.dont_write_bytecode = True
 
 from picture import Picture, page  # noqa: E402
 from points import is_of_dates  # noqa: E402
-from tables import NotPrinted, read  # noqa: E402
+from tables import read  # noqa: E402
 
 
 def count(word):
@@ -87,7 +87,7 @@ def main(words):
     try:
         tables, refusals = read(sys.stdin.buffer.read().decode())
         write(pictures_of(tables, words), words.svg)
-    except (NotPrinted, UnicodeDecodeError, OSError) as fault:
+    except (ValueError, OSError) as fault:
         tell(f'tools/timeline: {fault}')
         return 3
     for line in refusals:

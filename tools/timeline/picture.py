@@ -1,16 +1,16 @@
 """Draws a table with an interval attribute as an SVG: a line for rows that have the other values in common, on which each row is a bar."""
 import html
 import re
-import unicodedata
 from dataclasses import dataclass
 
 from points import DATE, Axis, kind_of
 from tables import ANSWERS, shown
+from widths import characters, cut, wrapped
 
 WIDTH, MARGIN = 880, 16
 # the width of a character of labels and of ticks, in a font whose characters are equally wide
 CHARACTER, TICK_CHARACTER, TITLE_CHARACTER = 7.5, 6.9, 8.1
-FEWEST, MOST = 12, 56  # characters of all labels of a line
+FEWEST, MOST = 12, 56  # characters of the labels of a line; more only where each column has its fewest
 FEWEST_OF_COLUMN, BETWEEN = 3, 2  # characters of a column, and between two of them
 BAR, LANE, LINE_GAP, LEAST, ARROW = 14, 18, 8, 4, 9
 MOST_TOLD = 40  # lines that the text alternative tells
@@ -34,34 +34,7 @@ STYLE = '''.timeline { color-scheme: light dark; font: 12px ui-monospace, 'DejaV
 }'''
 
 
-# ---------------------------------------------------------------- text
-
-def characters(text):
-    """How many characters wide a text is: two for a wide one of East Asia, none for one that is put on another."""
-    return sum(0 if unicodedata.category(character) in ('Mn', 'Me', 'Cf') else 2 if unicodedata.east_asian_width(character) in 'WF' else 1
-               for character in text)
-
-
-def cut(text, most):
-    """A text in so many characters, the last of them an ellipsis where it has more."""
-    if characters(text) <= most:
-        return text
-    while characters(text) > most - 1:
-        text = text[:-1]
-    return text + '…'
-
-
-def wrapped(text, most):
-    """The lines of a text, cut between words, or within one that is too long."""
-    lines = ['']
-    for word in text.split():
-        word = cut(word, most)
-        if lines[-1] and characters(f'{lines[-1]} {word}') > most:
-            lines.append(word)
-        else:
-            lines[-1] = f'{lines[-1]} {word}'.strip()
-    return lines
-
+# ---------------------------------------------------------------- XML
 
 def marked(text, quote=False):
     """A text as XML has it, without the characters that XML cannot have."""
@@ -138,11 +111,11 @@ def widths_of(names, lines):
 
 
 class Picture:
-    """A table as an SVG. It is drawn by the attribute at the place; what is not said by the picture itself is in remarks."""
+    """A table as an SVG: it is drawn by the interval attribute at this place, and the values of the others are its labels."""
 
     def __init__(self, table, place, title=None, orders=(), most=500):
         self.table, self.place, self.rows = table, place, table.rows[:most]
-        self.kind, self.is_order_told = kind_of(self.rows, place, orders, characters)
+        self.kind, self.is_order_told = kind_of(self.rows, place, orders)
         self.lines = lines_of(self.rows, place, self.kind)
         self.names = [name for at, name in enumerate(table.names) if at != place]
         self.title, self.name = title, table.names[place]
@@ -209,7 +182,7 @@ class Picture:
         levels = [level for level in (self.axis.above, self.axis.ticks) if level]
         top = self.y
         self.top = top + 16 * len(levels) + 2
-        bottom = self.top + sum(line.height for line in self.lines)
+        bottom = self.bottom = self.top + sum(line.height for line in self.lines)
         self.add(*(element('path', class_='rule', d=f'M{short(x)} {short(top + 2)}V{short(bottom)}') for x in (self.left, self.right)))
         for level in reversed(levels):
             at = top if level is levels[0] else top + 16
@@ -284,7 +257,6 @@ class Picture:
         self.parts, self.y = [], MARGIN
         self.head()
         self.scale()
-        self.bottom = self.top + sum(line.height for line in self.lines)
         self.labels()
         self.bars()
         self.foot()

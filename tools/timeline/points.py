@@ -6,15 +6,18 @@ which an axis may go: of each the fewest points between two ticks, the character
 import re
 from datetime import date
 
+from widths import characters, cut
+
 DATE = '[0-9]{4}-[0-9]{2}-[0-9]{2}'
+MOST_OF_VALUE = 24  # characters of the label of an ordinal value
 MONTHS = ('Jan', 'Feb', 'Mar', 'Apr', 'May', 'Jun', 'Jul', 'Aug', 'Sep', 'Oct', 'Nov', 'Dec')
 
 
 class Step:
     """Ticks at some starts, and above them perhaps those of a larger unit: starts(low, high) are numbers from low on that are below high."""
 
-    def __init__(self, fewest, characters, starts, label, above=None):
-        self.fewest, self.characters, self.starts, self.label, self.above = fewest, characters, starts, label, above
+    def __init__(self, fewest, widest, starts, label, above=None):
+        self.fewest, self.widest, self.starts, self.label, self.above = fewest, widest, starts, label, above
 
     def ticks(self, low, high):
         return [(at, self.label(at)) for at in self.starts(low, high)]
@@ -93,25 +96,26 @@ class Integers:
         return int(value)
 
     def steps(self, low, high):
-        characters = max(len(str(low)), len(str(high)))
+        widest = max(len(str(low)), len(str(high)))
         for every in round_numbers():
-            yield Step(every, characters, multiples(every), str)
+            yield Step(every, widest, multiples(every), str)
 
 
 class Ordinals:
     """The values of an ordinal type in this order. Which are its first and last is not known, so no interval is drawn with an arrow."""
     first = last = None
 
-    def __init__(self, values, width):
-        self.values, self.numbers = values, {value: number for number, value in enumerate(values)}
-        self.characters = max(map(width, values))
+    def __init__(self, values):
+        self.labels = [cut(value, MOST_OF_VALUE) for value in values]
+        self.numbers = {value: number for number, value in enumerate(values)}
 
     def number(self, value):
         return self.numbers[value]
 
     def steps(self, low, high):
+        widest = max(characters(label) for label in self.labels[low:high])
         for every in round_numbers():
-            yield Step(every, self.characters, multiples(every), self.values.__getitem__)
+            yield Step(every, widest, multiples(every), self.labels.__getitem__)
 
 
 def order_of(rows, place):
@@ -126,8 +130,8 @@ def order_of(rows, place):
             before[pair[differing]].add(pair_above[differing])
     left, order = dict.fromkeys(before), []
     while left:
-        # the first that waits for no other; values of two types that cannot be ordered do not occur in one attribute
-        following = next(value for value in left if not any(other in left for other in before[value] - {value}))
+        # the first that waits for no other
+        following = next((value for value in left if not any(other in left for other in before[value] - {value})), next(iter(left)))
         order.append(following)
         del left[following]
     return order
@@ -137,7 +141,7 @@ def is_of_dates(interval):
     return re.match(rf'\[{DATE}:', interval) is not None
 
 
-def kind_of(rows, place, orders, width):
+def kind_of(rows, place, orders):
     """The kind of the points of an interval attribute, and whether their order is told: orders are the values of ordinal types."""
     values = {value for row in rows for value in row[place][1:-1].split(':')}
     if is_of_dates(rows[0][place]):
@@ -146,8 +150,8 @@ def kind_of(rows, place, orders, width):
         return Integers(), True
     for order in orders:
         if values <= set(order):
-            return Ordinals(order, width), True
-    return Ordinals(order_of(rows, place), width), False
+            return Ordinals(order), True
+    return Ordinals(order_of(rows, place)), False
 
 
 # ---------------------------------------------------------------- the axis
@@ -167,7 +171,7 @@ class Axis:
         self.above = self.of_larger_unit()
 
     def has_room(self, low, high, room):
-        return self.step.fewest * room >= (self.step.characters + 1.5) * (high - low)
+        return self.step.fewest * room >= (self.step.widest + 1.5) * (high - low)
 
     def widened(self, low, high):
         """The range from tick to tick, where these are not far away."""

@@ -8,7 +8,7 @@ ANSWERS = ('TRUE', 'FALSE')
 REFUSAL = re.compile(r'statement [0-9]+ refused: ')
 
 
-class NotPrinted(Exception):
+class NotPrinted(ValueError):
     """Text that utd does not print."""
 
 

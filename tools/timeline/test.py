@@ -1,7 +1,7 @@
 """Tests tools/timeline: python3 tools/timeline/test.py [--renew]
 
-The pictures of every examples/NAME.out have the sums of examples.txt, and those of docs/images are what the tool writes; other texts are drawn, read as
-XML, and measured. With --renew it writes examples.txt and docs/images instead; git diff shows what changed.
+The page of every examples/NAME.out has the sum that examples.txt tells, and the pictures of docs/images are what the tool writes. Other texts are drawn,
+read as XML and measured. With --renew it writes examples.txt and docs/images instead; git diff shows what changed.
 """
 import glob
 import hashlib
@@ -63,14 +63,9 @@ def examples():
 
 
 def sums():
-    """A line for each example: how many pictures it has, and the sum of these and of their page."""
-    lines = []
-    for name in examples():
-        text = read(f'{ROOT}/examples/{name}.out')
-        pictures = files_of(text)
-        whole = ''.join([*pictures.values(), run(text)[0]])
-        lines.append(f'{name} {len(pictures)} {hashlib.sha256(whole.encode()).hexdigest()}\n')
-    return ''.join(lines)
+    """A line for each example: how many pictures its page has, and the sum of the page."""
+    pages = [(name, run(read(f'{ROOT}/examples/{name}.out'))[0]) for name in examples()]
+    return ''.join(f'{name} {page.count("<figure>")} {hashlib.sha256(page.encode()).hexdigest()}\n' for name, page in pages)
 
 
 def images():
@@ -160,7 +155,8 @@ class Measured(unittest.TestCase):
 
     def wild(self):
         names = [f'A{number}' for number in range(15)]
-        for value in ("'x'", "'" + 'long ' * 50 + "'", "'" + '日本語' * 28 + "'", "'<&>\"'' | ''\u0301\u202e\x7f\uffff'", '-9223372036854775808', 'FALSE'):
+        texts = ['x', 'long ' * 50, '日本語' * 28, '<&>"\'\' | \'\'\u0301\u202e\x7f\uffff']
+        for value in [*(f"'{text}'" for text in texts), '-9223372036854775808', 'FALSE']:
             for interval in ('[2012-01-01:9999-12-31]', '[0001-01-01:9999-12-31]', '[-9223372036854775808:9223372036854775807]', '[1:1]',
                              '[-9223372036854775807:9223372036854775806]', f'[{"N" * 64}:M]'):
                 for many in (1, 3, 15):
@@ -168,8 +164,9 @@ class Measured(unittest.TestCase):
 
     def test_texts_stay_in_their_places(self):
         sys.path.insert(0, TOOL)
-        from picture import CHARACTER, TICK_CHARACTER, TITLE_CHARACTER, Picture, characters
+        from picture import CHARACTER, TICK_CHARACTER, TITLE_CHARACTER, Picture
         from tables import read as read_tables
+        from widths import characters
         sizes = {'title': TITLE_CHARACTER, 'tick': TICK_CHARACTER, 'note': TICK_CHARACTER}
         for text in [*self.wild(), *(read(f'{ROOT}/examples/{name}.out') for name in examples())]:
             for table in read_tables(text)[0]:
@@ -221,7 +218,8 @@ class Told(unittest.TestCase):
             self.assertTrue(faults.startswith('usage: tools/timeline'))
 
     def test_wrong_input(self):
-        for text in ('hello\n', '| N |\n| 1 |\n', '| N |\n| 1 |\nrows: 2\n', '| N |\n| 1 | 2 |\nrows: 1\n', 'TRUE', "| N |\n| 'a |\nrows: 1\n"):
+        for text in ('hello\n', '| N |\n| 1 |\n', '| N |\n| 1 |\nrows: 2\n', '| N |\n| 1 | 2 |\nrows: 1\n', 'TRUE', "| N |\n| 'a |\nrows: 1\n",
+                     '| N |\n| [2023-02-30:2023-03-01] |\nrows: 1\n', '| N |\n| [1:2] |\n| 3 |\nrows: 2\n'):
             self.assertEqual((run(text)[0], run(text)[2]), ('', 3), text)
         self.assertEqual(run(OPEN, '--svg', '/nowhere/picture')[2], 3)
 
