@@ -24,6 +24,8 @@ from picture import Picture, page  # noqa: E402
 from points import is_of_dates  # noqa: E402
 from tables import read  # noqa: E402
 
+USAGE = 'tools/timeline [--svg PREFIX] [--title TEXT].. [--by NAME].. [--order A,B,C].. [--most N] < OUTPUT'
+
 
 def count(word):
     number = int(word)
@@ -33,7 +35,8 @@ def count(word):
 
 
 def words_of(words):
-    parser = argparse.ArgumentParser(prog='tools/timeline', add_help=False, allow_abbrev=False)
+    parser = argparse.ArgumentParser(prog='tools/timeline', usage=USAGE, description=__doc__, allow_abbrev=False,
+                                     formatter_class=argparse.RawDescriptionHelpFormatter)
     parser.add_argument('--svg', metavar='PREFIX')
     parser.add_argument('--title', metavar='TEXT', action='append', default=[])
     parser.add_argument('--by', metavar='NAME', action='append', default=[])

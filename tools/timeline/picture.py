@@ -277,9 +277,9 @@ class Picture:
 
 PAGE_STYLE = '''html { color-scheme: light dark; font: 14px sans-serif; background: #ffffff; color: #1f2328 }
 body { max-width: 880px; margin: 24px auto; padding: 0 12px }
-figure { margin: 0 0 28px }
+figure { margin: 0 0 28px; overflow-x: auto }
 details { margin: 6px 0 }
-svg.timeline { max-width: 100%; height: auto }
+svg.timeline { display: block; max-width: 100%; min-width: 640px; height: auto; overflow: visible }
 pre { overflow-x: auto }
 @media (prefers-color-scheme: dark) { html { background: #010409; color: #e6edf3 } }'''
 
