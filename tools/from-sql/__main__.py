@@ -29,7 +29,7 @@ ROOT = os.path.dirname(os.path.dirname(os.path.dirname(os.path.abspath(__file__)
 PAGE = 'docs/from-sql.md'
 FILE = 'docs/from-sql.sql'
 # the folders of a server's programs, of one version or several
-FOLDERS = '/usr/lib/postgresql/[1-9]*/bin'
+FOLDERS = '/usr/lib/postgresql/[1-9][0-9]/bin'
 # what psql writes behind the answer to each statement
 BEHIND = '@@ the next statement @@\n'
 # lines up to one that ends with a semicolon, and the comment directly behind it
@@ -123,6 +123,7 @@ class Server:
 
     def __init__(self, programs):
         self.programs = programs
+        self.folder = ''
         self.account = account()
 
     def run(self, program, *words):
