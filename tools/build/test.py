@@ -1,4 +1,4 @@
-"""Tries ./utd with a stub in place of tools/build, and the forecast of tools/build: python3 tools/build/test.py
+"""Tries ./utd with a stub in place of tools/build, tools/build with one in place of rt, its forecast, and tools/prices: python3 tools/build/test.py
 
 It proves and compiles nothing. It says nothing where all is well, and ends with status 1 where something is not.
 """
@@ -9,6 +9,8 @@ import subprocess
 import sys
 import tempfile
 import unittest
+
+from forecast import Forecast
 
 ROOT = os.path.dirname(os.path.dirname(os.path.dirname(os.path.abspath(__file__))))
 USAGE = 'usage: utd [--generate N]'
@@ -29,6 +31,43 @@ os.makedirs(os.path.dirname(program), exist_ok=True)
 with open(program, 'w') as file:
     file.write('#!/bin/sh\\necho "program:$*"\\ncat\\nexit 3\\n')
 os.chmod(program, 0o755)
+'''
+# what stands for rt: it says of two crates that they are proved, of one that it is kept, and makes the program; or runs one unproved
+RT = f'''#!{sys.executable}
+import os, sys, time
+if sys.argv[1] == 'try':
+    print(sys.argv[2:], sys.stdin.read())
+    print('utd: of the program', file=sys.stderr)
+    print('run=ended status=1 proved=no', file=sys.stderr)
+    sys.exit(1)
+assert sys.argv[1:] == ['ci'], sys.argv
+if 'RT_STATUS' in os.environ:
+    print('rt: low NOT PROVED')
+    sys.exit(int(os.environ['RT_STATUS']))
+for crate, what in ('low', 'is kept: an earlier run'), ('middle', 'proved'), ('utd', 'proved'):
+    os.makedirs(f'crates/{{crate}}/out')
+    time.sleep(0.05)
+    print('rt:', crate, what, flush=True)
+assert not os.path.exists('crates/other') and not os.path.exists('crates/utd/must-fail')
+with open('crates/utd/out/utd', 'w') as file:
+    file.write('#!/bin/sh\\necho program\\n')
+os.chmod('crates/utd/out/utd', 0o755)
+'''
+RECORD = '''(piece) 0.250
+    100.0     90   0 low build /tmp/rt-copy-7-x/repo/crates/low pid=10 parent=7
+     30.0     20   0 low build /tmp/rt-copy-7-x/repo/crates/low pid=11 parent=10
+     40.4     90   0 low build --test /tmp/rt-copy-7-x/repo/crates/low pid=12 parent=7
+     50.0     90   0 low check --incremental /tmp/rt-edit-7-x pid=13 parent=7
+      9.0     90   0 utd check /tmp/rt-copy-7-x/repo/crates/utd pid=14 parent=7
+      6.0     90   0 utd build --crate-checked /tmp/rt-copy-7-x/repo/crates/utd pid=15 parent=7
+     70.0     90   0 low check --incremental /home/somebody/crates/low pid=16 parent=8
+      0.3      1   0 ? fmt /tmp/rt-copy-7-x/repo/crates/low pid=17 parent=7
+'''
+PRICES = '''| Crate | Proof | Wrong bodies | Tests | Compiled | All |
+|---|---|---|---|---|---|
+| `low` | 100 | 50 | 40 |  | 190 |
+| the other 1 | 9 |  |  | 6 | 15 |
+| all | 109 | 50 | 40 | 6 | 205 |
 '''
 TAKEN = [
     [], ['--'], ['--generate', '1'], ['--generate', '30000'], ['--generate=30000'], ['--generate', '+3'], ['--generate=+003'],
@@ -136,6 +175,114 @@ class Wrapper(unittest.TestCase):
         for process in (first, second):
             self.assertEqual(process.communicate(b'', timeout=60), (b'program:\n', b''))
             self.assertEqual(process.returncode, 3)
+
+
+class Building(unittest.TestCase):
+    """tools/build and tools/prices in a repository of three crates and one beside them."""
+
+    def setUp(self):
+        self.folder = tempfile.mkdtemp(prefix='utd-test-')
+        self.addCleanup(shutil.rmtree, self.folder)
+        self.root = f'{self.folder}/root'
+        for tool in ('build', 'prices'):
+            shutil.copytree(f'{ROOT}/tools/{tool}', f'{self.root}/tools/{tool}', ignore=shutil.ignore_patterns('__pycache__'))
+        for crate in ('low', 'middle', 'other', 'utd'):
+            os.makedirs(f'{self.root}/crates/{crate}/must-fail')
+        with open(f'{ROOT}/tools/build/forecast.py', encoding='utf-8') as file:
+            # a small piece of work is enough here
+            self.write('root/tools/build/forecast.py', file.read().replace('range(150_000)', 'range(150)'))
+        self.write('root/HANDLES', '')
+        self.write('root/crates.txt', '# lowest first\nlow:\nother: low\nmiddle: low\nutd: low middle\n')
+        self.write('root/tools/build/seconds.txt', '# seconds\n(piece) 0.1\n(unproved) 30\nlow 120\nutd 60\n')
+        self.write('bin/rt', RT)
+        os.chmod(f'{self.folder}/bin/rt', 0o755)
+
+    def write(self, path, text):
+        os.makedirs(os.path.dirname(f'{self.folder}/{path}'), exist_ok=True)
+        with open(f'{self.folder}/{path}', 'w', encoding='utf-8') as file:
+            file.write(text)
+
+    def run_it(self, tool, *words, path=None, **variables):
+        environment = {**os.environ, 'PATH': f'{path or self.folder}/bin:{os.environ["PATH"]}', 'TMPDIR': self.folder, **variables}
+        how = {'input': 'PRINT', 'capture_output': True, 'text': True, 'timeout': 60, 'cwd': self.root}
+        ran = subprocess.run([sys.executable, f'tools/{tool}', *words], env=environment, **how)
+        return ran.stdout, ran.stderr, ran.returncode
+
+    def test_build(self):
+        output, errors, status = self.run_it('build')
+        self.assertEqual((output, status), ('', 0))
+        self.assertRegex(errors, r'^utd: proving and building the program, once: 3 crates\nutd: about (a minute|[0-9]+ minutes) on this machine')
+        self.assertTrue(errors.endswith('utd: proved and built in 0:01 min\n'), errors)
+        self.assertEqual(subprocess.run([f'{self.root}/crates/utd/out/utd'], capture_output=True).stdout, b'program\n')
+        self.assertEqual(sorted(os.listdir(self.folder)), ['bin', 'root'])
+
+    def test_build_that_fails(self):
+        output, errors, status = self.run_it('build', RT_STATUS='1')
+        self.assertEqual((output, status), ('', 70))
+        self.assertTrue(errors.endswith('out/build.log says why:\nrt: low NOT PROVED\n'), errors)
+        self.assertFalse(os.path.exists(f'{self.root}/crates/utd/out'))
+
+    def test_unproved(self):
+        output, errors, status = self.run_it('build', '--unproved')
+        self.assertEqual((output, status), ("['--steps', '1', '--seconds', '86400'] PRINT\n", 1))
+        price = r'utd: unproved: compiling the program without its proofs takes about .* here, at this and at each further run\n'
+        self.assertRegex(errors, f'^{price}utd: .*, once; then runs start at once\nutd: of the program\nutd: unproved: compiled and run in 0:0[0-9] min\n$')
+
+    def test_no_kit(self):
+        os.remove(f'{self.folder}/bin/rt')
+        os.symlink(sys.executable, f'{self.folder}/bin/python3')
+        ran = subprocess.run([f'{self.folder}/bin/python3', 'tools/build'], env={'PATH': f'{self.folder}/bin'}, capture_output=True, cwd=self.root)
+        self.assertEqual((ran.returncode, ran.stderr.count(b'\n')), (70, 1))
+
+    def test_prices(self):
+        self.write('record', RECORD)
+        output, errors, status = self.run_it('prices', 'table', '../record', '--most', '1')
+        self.assertEqual((output[:len(PRICES)], errors, status), (PRICES, '', 0))
+        self.assertEqual(self.run_it('prices', 'seconds', '../record'), ('', '', 0))
+        with open(f'{self.root}/tools/build/seconds.txt', encoding='utf-8') as file:
+            lines = [line for line in file.read().splitlines() if not line.startswith('#')]
+        self.assertEqual(lines, ['(piece) 0.250', '(unproved) 75', 'low 100', 'utd 9'])
+
+    def test_watch(self):
+        output, errors, status = self.run_it('prices', 'watch', '../record', '1000000000')
+        self.assertEqual((output, errors, status), ('', '', 0))
+        self.assertEqual(self.run_it('prices', 'table', '../record')[1:], ('tools/prices: ../record has no check of the gate\n', 1))
+        self.assertEqual(self.run_it('prices', 'watch')[2], 2)
+
+
+class Forecasts(unittest.TestCase):
+    BELOW = {'low': [], 'left': ['low'], 'right': ['low'], 'top': ['left', 'right']}
+    TABLE = {'low': 100, 'left': 400, 'right': 100, 'top': 100, 'elsewhere': 9}
+
+    def test_longest_chain(self):
+        self.assertEqual(Forecast(self.BELOW, self.TABLE, 4, 0.5).left, 300)
+
+    def test_few_processors(self):
+        self.assertEqual(Forecast(self.BELOW, self.TABLE, 1, 0.5).left, 350)
+
+    def test_crate_that_the_table_lacks(self):
+        self.assertEqual(Forecast({**self.BELOW, 'new': ['top']}, self.TABLE, 4, 1).left, 700)
+
+    def test_slower_than_was_measured(self):
+        forecast = Forecast(self.BELOW, self.TABLE, 4, 1)
+        forecast.note(200, set(), {'low'}, {'left': 0, 'right': 0})
+        self.assertTrue(800 < forecast.left < 1000, forecast.left)
+        self.assertAlmostEqual(forecast.done, 1 / 6)
+        forecast.note(1200, set(), {'low', 'left', 'right', 'top'}, {})
+        self.assertEqual((forecast.left, forecast.done), (0, 1))
+
+    def test_kept_crates_are_no_work(self):
+        forecast = Forecast(self.BELOW, self.TABLE, 4, 1)
+        forecast.note(1, {'low', 'left'}, set(), {'right': 1})
+        self.assertTrue(195 < forecast.left < 205, forecast.left)
+        forecast.note(2, set(self.BELOW), set(), {})
+        self.assertEqual((forecast.left, forecast.done), (0, 1))
+
+    def test_crate_that_takes_long(self):
+        forecast = Forecast(self.BELOW, self.TABLE, 4, 1)
+        for second in range(0, 4000, 10):
+            forecast.note(second, set(), set(), {'low': second})
+        self.assertTrue(forecast.left > 4000, forecast.left)
 
 
 def main():
