@@ -10,6 +10,7 @@ program's status.
 What the two commands say stands in out/build.log; what is told of them goes to standard error. Ends with 70 where there is no program, with 130 at an
 interrupt; then nothing half done is left.
 """
+import contextlib
 import os
 import re
 import shutil
@@ -144,9 +145,10 @@ def prove(room, progress):
         ear = threading.Thread(target=listen, args=(rt, log, progress), daemon=True)
         ear.start()
         try:
-            while rt.poll() is None:
+            while rt.returncode is None:
                 progress.show()
-                time.sleep(1)
+                with contextlib.suppress(subprocess.TimeoutExpired):
+                    rt.wait(1)
             ear.join(10)
         finally:
             end(rt)
@@ -168,7 +170,14 @@ def end(rt):
 # ---------------------------------------------------------------- building
 
 def processors():
-    return len(os.sched_getaffinity(0))
+    """How many there are to use: those that this process may run on, or fewer by the quota of its control group."""
+    number = len(os.sched_getaffinity(0))
+    try:
+        with open('/sys/fs/cgroup/cpu.max', encoding='utf-8') as file:
+            quota, period = file.read().split()
+        return max(1, min(number, int(quota) // int(period)))
+    except (OSError, ValueError):
+        return number
 
 
 def pace(table):
@@ -250,6 +259,9 @@ def tell_the_price():
 
 
 def run_unproved(words):
+    if words[-1:] == ['--']:
+        # it asks for nothing, and so the script is read
+        words = words[:-1]
     tell_the_price()
     began = time.monotonic()
     command = ['rt', 'try', '--steps', '1', '--seconds', '86400', *(['--', *words] if words else [])]

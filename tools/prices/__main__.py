@@ -44,7 +44,7 @@ HEAD = f"""# Seconds of processor of each crate's proof from nothing, as `python
 # ---------------------------------------------------------------- watching
 
 def read_processes():
-    """What /proc says of each process: by number, the parent, when it began, the niceness and its seconds of processor, those of its ended children too."""
+    """What /proc says of each living process: by number, the parent, when it began, the niceness and the seconds of processor, those of its ended children too."""
     found = {}
     for number in filter(str.isdigit, os.listdir('/proc')):
         try:
@@ -52,7 +52,8 @@ def read_processes():
                 words = file.read().rsplit(')', 1)[1].split()
         except OSError:
             continue
-        found[int(number)] = (int(words[1]), int(words[19]), int(words[16]), sum(map(int, words[11:15])) / TICK)
+        if words[0] != 'Z':
+            found[int(number)] = (int(words[1]), int(words[19]), int(words[16]), sum(map(int, words[11:15])) / TICK)
     return found
 
 
@@ -84,6 +85,7 @@ class Watch:
         return number == self.above
 
     def look(self):
+        """Notes what there is now, and says whether there is more to come."""
         processes, found = read_processes(), {}
         for number in processes:
             said = read_check(number)
@@ -116,12 +118,13 @@ def watch(path, above):
         signal.signal(number, signal.default_int_handler)
     noted, began = Watch(above), time.monotonic()
     try:
-        goes_on = True
-        while goes_on:
+        while True:
             if time.monotonic() - began >= SECONDS_BETWEEN_PIECES * len(noted.pieces):
                 noted.pieces.append(time_piece(time.process_time))
             goes_on = noted.look()
             noted.write(path)
+            if not goes_on:
+                break
             time.sleep(1)
     except KeyboardInterrupt:
         pass
