@@ -135,10 +135,14 @@ class Wrapper(unittest.TestCase):
         self.assertEqual(self.run_it(), ('program:\nPRINT\n', '', 3))
 
     def test_newer_source_is_built(self):
-        self.make_program()
-        later = os.stat(self.program).st_mtime + 5
-        os.utime(f'{self.root}/crates/utd/src/main.rt', (later, later))
-        self.assertEqual(self.run_it()[1], 'BUILD\n')
+        for path, is_source in (('crates/utd/src/main.rt', True), ('crates.txt', True), ('crates/utd/out/log', False)):
+            with self.subTest(path=path):
+                self.make_program()
+                open(f'{self.root}/{path}', 'a').close()
+                later = os.stat(self.program).st_mtime + 5
+                os.utime(f'{self.root}/{path}', (later, later))
+                self.assertEqual(self.run_it()[1], 'BUILD\n' if is_source else '')
+                os.utime(f'{self.root}/{path}', (0, 0))
 
     def test_build_that_fails(self):
         self.assertEqual(self.run_it(STUB_STATUS='70'), ('', 'BUILD\n', 70))
