@@ -10,6 +10,7 @@ program's status.
 What the two commands say stands in out/build.log; what is told of them goes to standard error. Ends with 70 where there is no program, with 130 at an
 interrupt; then nothing half done is left.
 """
+import contextlib
 import os
 import re
 import shutil
@@ -20,12 +21,14 @@ import tempfile
 import threading
 import time
 
+from crates import lines_of_crates, names_below
+from forecast import PIECE, UNPROVED, Forecast, minutes, read_table, seconds_here
+
 ROOT = os.path.dirname(os.path.dirname(os.path.dirname(os.path.abspath(__file__))))
 LOG = f'{ROOT}/out/build.log'
 PROGRAM = f'{ROOT}/crates/utd/out/utd'
-# the price of the proofs from nothing, and of the longest chain of crates that wait for one another: docs/benchmarks.md
-PROCESSOR_MINUTES = 120
-CHAIN_MINUTES = 45
+# where no line can be written over, the part of the work after which a second forecast is told, once
+FIRST_PART = 0.1
 NO_PROGRAM = 70
 INTERRUPTED = 130
 
@@ -40,6 +43,10 @@ def shown(path):
     return path if near.startswith('..') else near
 
 
+def clock(seconds):
+    return f'{int(seconds) // 60}:{int(seconds) % 60:02}'
+
+
 def interrupt(_number, _frame):
     raise KeyboardInterrupt
 
@@ -47,20 +54,10 @@ def interrupt(_number, _frame):
 # ---------------------------------------------------------------- the copy
 
 def crates_below(name):
-    """The crate and those of the repository that it stands on, lowest first, each with its line of crates.txt."""
-    lines = {}
-    with open(f'{ROOT}/crates.txt', encoding='utf-8') as file:
-        for line in file:
-            crate, found, below = line.split('#')[0].partition(':')
-            if found:
-                lines[crate.split()[0]] = (line, below.split())
-    wanted, left = set(), [name]
-    while left:
-        crate = left.pop()
-        if crate in lines and crate not in wanted:
-            wanted.add(crate)
-            left += lines[crate][1]
-    return {crate: line for crate, (line, _) in lines.items() if crate in wanted}
+    """The crate and those of the repository that it stands on, lowest first, each with its line of crates.txt and the names on it."""
+    lines = lines_of_crates()
+    wanted = names_below(name, lines)
+    return {crate: said for crate, said in lines.items() if crate in wanted}
 
 
 def copy_to(room, crates):
@@ -70,7 +67,7 @@ def copy_to(room, crates):
         shutil.copytree(f'{ROOT}/crates/{crate}', f'{room}/crates/{crate}', symlinks=True, ignore=shutil.ignore_patterns('out', 'must-fail'))
     shutil.copyfile(f'{ROOT}/HANDLES', f'{room}/HANDLES')
     with open(f'{room}/crates.txt', 'w', encoding='utf-8') as file:
-        file.writelines(crates.values())
+        file.writelines(line for line, _ in crates.values())
 
 
 def sweep(folder):
@@ -86,30 +83,45 @@ def sweep(folder):
 class Progress:
     """One line that says how far a build is, written over itself on a terminal."""
 
-    def __init__(self, room, crates):
-        self.room, self.crates, self.done = room, crates, set()
+    def __init__(self, room, crates, forecast):
+        self.room, self.crates, self.forecast = room, crates, forecast
+        self.proved, self.kept, self.at_work, self.is_told = set(), set(), {}, False
         self.began, self.is_terminal = time.monotonic(), sys.stderr.isatty()
 
     def hear(self, line):
         """A line that rt ci said."""
-        of = re.match(r'rt: (\w+) (proved$|is kept: )', line)
+        of = re.match(r'rt: (\w+) (?:(proved)$|is kept: )', line)
         if of:
-            self.done.add(of[1])
+            (self.proved if of[2] else self.kept).add(of[1])
 
-    def minutes(self):
-        seconds = int(time.monotonic() - self.began)
-        return f'{seconds // 60}:{seconds % 60:02}'
+    def look(self):
+        """Notes which crates are at work, and mends the forecast."""
+        done, now = self.proved | self.kept, time.monotonic()
+        for crate in self.crates:
+            if crate in done:
+                self.at_work.pop(crate, None)
+            elif os.path.isdir(f'{self.room}/crates/{crate}/out'):
+                self.at_work.setdefault(crate, now)
+        since = {crate: now - began for crate, began in self.at_work.items()}
+        self.forecast.note(now - self.began, self.kept, self.proved, since)
+
+    def elapsed(self):
+        return time.monotonic() - self.began
 
     def text(self):
-        at_work = [crate for crate in self.crates if crate not in self.done and os.path.isdir(f'{self.room}/crates/{crate}/out')]
-        line = f'utd: {len(self.done)} of {len(self.crates)} crates proved, {self.minutes()} min'
-        return f'{line}; now {" ".join(at_work)}' if at_work else line
+        number = len(self.proved) + len(self.kept)
+        line = f'utd: {number} of {len(self.crates)} crates proved, {clock(self.elapsed())} min, about {minutes(self.forecast.left)} more'
+        return f'{line}; now {" ".join(self.at_work)}' if self.at_work else line
 
     def show(self):
+        self.look()
         if self.is_terminal:
             width = shutil.get_terminal_size().columns
             sys.stderr.write(f'\r\033[K{self.text()[:width - 1]}')
             sys.stderr.flush()
+        elif not self.is_told and self.proved and self.forecast.done > FIRST_PART:
+            tell(f'by what the first crates took about {minutes(self.forecast.left)} more')
+            self.is_told = True
 
     def clear(self):
         if self.is_terminal:
@@ -133,9 +145,10 @@ def prove(room, progress):
         ear = threading.Thread(target=listen, args=(rt, log, progress), daemon=True)
         ear.start()
         try:
-            while rt.poll() is None:
+            while rt.returncode is None:
                 progress.show()
-                time.sleep(1)
+                with contextlib.suppress(subprocess.TimeoutExpired):
+                    rt.wait(1)
             ear.join(10)
         finally:
             end(rt)
@@ -157,14 +170,33 @@ def end(rt):
 # ---------------------------------------------------------------- building
 
 def processors():
-    return len(os.sched_getaffinity(0))
+    """How many there are to use: those that this process may run on, or fewer by the quota of its control group."""
+    number = len(os.sched_getaffinity(0))
+    try:
+        with open('/sys/fs/cgroup/cpu.max', encoding='utf-8') as file:
+            quota, period = file.read().split()
+        return max(1, min(number, int(quota) // int(period)))
+    except (OSError, ValueError):
+        return number
 
 
-def announce(crates):
-    number = processors()
-    about = max(CHAIN_MINUTES, PROCESSOR_MINUTES // number)
-    tell(f'proving and building the program, once: {len(crates)} crates, about {about} minutes on {number} idle processors, less where some are proved already')
-    tell(f'the log is {shown(LOG)}; what is proved is kept, also after an interrupt; UTD_UNPROVED=1 runs the program without its proofs')
+def pace(table):
+    """Seconds on the clock that one of the table takes on this machine, as busy as it is."""
+    return seconds_here(processors()) / table[PIECE]
+
+
+def forecast_of(crates):
+    below = {crate: [name for name in names if name in crates] for crate, (_, names) in crates.items()}
+    table = read_table()
+    return Forecast(below, table, processors(), pace(table))
+
+
+def announce(crates, forecast):
+    about = minutes(forecast.left)
+    tell(f'proving and building the program, once: {len(crates)} crates')
+    tell(f'about {about} on this machine, as busy as it is now; less where some are proved already')
+    tell(f'the log is {shown(LOG)}; what is proved is kept, also after an interrupt')
+    tell('UTD_UNPROVED=1 runs the program without its proofs')
 
 
 def put(made, began):
@@ -187,20 +219,21 @@ def build():
     began = time.time()
     sweep(tempfile.gettempdir())
     crates = crates_below('utd')
-    announce(crates)
+    forecast = forecast_of(crates)
+    announce(crates, forecast)
     folder = tempfile.mkdtemp(prefix=f'utd-build-{os.getpid()}-')
     try:
         room = f'{folder}/utd'
         copy_to(room, crates)
-        progress = Progress(room, crates)
+        progress = Progress(room, crates, forecast)
         status = prove(room, progress)
         made = f'{room}/crates/utd/out/utd'
         if status or not os.path.isfile(made):
-            tell(f'not built, after {progress.minutes()} min; {shown(LOG)} says why:')
+            tell(f'not built, after {clock(progress.elapsed())} min; {shown(LOG)} says why:')
             print('\n'.join(why_not()), file=sys.stderr)
             return NO_PROGRAM
         put(made, began)
-        tell(f'proved and built in {progress.minutes()} min')
+        tell(f'proved and built in {clock(progress.elapsed())} min')
         return 0
     finally:
         shutil.rmtree(folder, ignore_errors=True)
@@ -217,8 +250,20 @@ def given(words):
     return file
 
 
+def tell_the_price():
+    """What a run without proofs costs, and what it costs to do without such runs."""
+    table, forecast = read_table(), forecast_of(crates_below('utd'))
+    once = minutes(table[UNPROVED] * forecast.measured)
+    tell(f'unproved: compiling the program without its proofs takes about {once} here, at this and at each further run')
+    tell(f'./utd without UTD_UNPROVED proves and builds it in about {minutes(forecast.left)}, once; then runs start at once')
+
+
 def run_unproved(words):
-    tell('unproved: compiling the program without its proofs, which takes a minute or two each time, and running it')
+    if words[-1:] == ['--']:
+        # it asks for nothing, and so the script is read
+        words = words[:-1]
+    tell_the_price()
+    began = time.monotonic()
     command = ['rt', 'try', '--steps', '1', '--seconds', '86400', *(['--', *words] if words else [])]
     with given(words) as script, open(LOG, 'w+b') as log:
         rt = subprocess.Popen(command, cwd=f'{ROOT}/crates/utd', stdin=script, stderr=log, start_new_session=True)
@@ -233,8 +278,9 @@ def run_unproved(words):
         tell(f'the program gave no answer; {shown(LOG)} says why:')
         print('\n'.join(said.splitlines()[-8:]), file=sys.stderr)
         return NO_PROGRAM
-    # what the program itself said comes first
+    # what the program itself said comes first, before what rt says of it
     sys.stderr.write(re.split(r'^(?:interpreter|checked|races|run=|rt:)', said, maxsplit=1, flags=re.M)[0])
+    tell(f'unproved: compiled and run in {clock(time.monotonic() - began)} min')
     return int(ended[1])
 
 
