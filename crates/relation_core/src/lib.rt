@@ -25,6 +25,8 @@ pub use growth::{absent, touched};
 pub use joining::join;
 pub use parts::{contains, part, sorted_parts};
 pub use projection::project;
+pub use merging::keep;
+pub use names::common_positions;
 pub use renaming::rename;
 pub use restriction::restrict;
 pub use sets::{intersect, minus, union};

@@ -17,4 +17,3 @@ pub use joining::u_join;
 pub use joins::joined;
 pub use matches::{matched, unmatched};
 pub use matching::{u_matching, u_not_matching};
-pub use names::position;

@@ -7,9 +7,10 @@ ghost use Rattle.u_row.specs.Kept.{inner};
 ghost use Rattle.u_join.specs.Places.{positions_of_both};
 ghost use Rattle.u_join.specs.Shared.{left_positions, right_positions};
 
-use crate::names::{common_positions, joined_places};
+use crate::names::joined_places;
 use crate::shared::paired;
 use point_core::Memory;
+use relation_core::common_positions;
 use std::alloc::Global;
 use u_row::inner;
 use value_core::{Kind, Name};
