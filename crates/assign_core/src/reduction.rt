@@ -25,10 +25,11 @@ ghost use Rattle.assign_core.specs.Targets.{entries_before, value_given};
 
 use crate::insertion::base_at;
 use crate::packing::is_kept_packed;
-use crate::plain_rows::{lists_none, restricted};
+use crate::plain_rows::lists_none;
 use crate::portion::{Deletion, Portion};
 use point_core::{Memory, Steps, Stop};
 use row_marks::Marks;
+use row_making::restricted;
 use std::alloc::Global;
 use std::sync::ledger::Ledger;
 use tree_core::Relvars;

@@ -10,7 +10,7 @@ use Rattle.meaning_core.specs.Places.{places}
 use Rattle.meaning_core.specs.Rows.{set_names, extended_at}
 use Rattle.meaning_core.proofs.LimitLemmas.{extension_meant}
 use Rattle.meaning_core.proofs.MadeLemmas.{given_typed, extended_fits}
-use Rattle.algebra_core.proofs.operators.extended.Goals as goal
+use Rattle.row_making.proofs.plain_rows.extended.Goals as goal
 
 pub extended_at-requires-clause-typed : goal.extended_at-requires-clause-typed
 extended_at-requires-clause-typed c = λ x fit.
