@@ -13,6 +13,7 @@ ghost use Rattle.node_typing.specs.Lists.{kind_named};
 ghost use Rattle.node_typing.specs.Positions as rules;
 
 use point_core::{Code, Fault, Memory, Place, Stop};
+use relation_core::as_wanted;
 use std::alloc::Global;
 use utd_syntax::Word;
 use value_core::{Kind, Name};
@@ -123,13 +124,6 @@ pub fn positions_typed(
         positions.push(at)?;
     }
     Ok(positions)
-}
-
-/// The truth value, or its opposite.
-fn as_wanted(wanted: bool, found: bool) -> bool
-    ensures { result ≡ agreement.as_wanted wanted found }
-{
-    if wanted { found } else { !found }
 }
 
 /// The positions that are among the named ones, or those that are not, ascending.

@@ -26,7 +26,7 @@ pub fn rename(alloc: Global, r: &Relation, names: &[Name]) -> Result<Relation, M
 }
 
 /// The attributes with the new names.
-fn renamed(
+pub fn renamed(
     alloc: Global,
     names: &[Name],
     attributes: &[(Name, Kind)],

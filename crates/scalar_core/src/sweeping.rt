@@ -113,7 +113,7 @@ fn if_among(i: usize, acl: &[usize]) -> Option<usize>
 }
 
 /// Whether the expression names a listed attribute.
-pub(crate) fn names_any(e: &Scalar, acl: &[usize]) -> bool
+pub fn names_any(e: &Scalar, acl: &[usize]) -> bool
     ensures { result ≡ rules.names_any acl.now (read e.now) }
 {
     first_named(e, acl).is_some()

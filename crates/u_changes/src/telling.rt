@@ -15,8 +15,9 @@ ghost use Rattle.u_changes.specs.Guards.{stays, AreTold};
 
 use crate::fronts::front;
 use point_core::{Label, Memory, Stop};
+use relation_core::{keep, selection};
 use row_making::holds;
-use row_marks::{Marks, selection};
+use row_marks::Marks;
 use scalar_core::Scalar;
 use std::alloc::Global;
 use u_constraints::{touched_with, with_front};
@@ -36,16 +37,6 @@ fn stays(alloc: Global, g: &Scalar, row: &Row) -> Result<bool, Memory>
         Err(Stop::Fault(_)) => Ok(true),
         Err(Stop::Memory) => Err(Memory),
     }
-}
-
-/// Adds a copy of the row, if it is kept.
-fn keep(alloc: Global, rows: &mut Vec<Row>, row: &Row, kept: bool) -> Result<(), Memory>
-    ensures { OnOk result (rows.new.items ≡ rows.old.items ++ (if kept then row.now ∷ [] else [])) }
-{
-    if kept {
-        rows.push(row.copy(alloc)?)?;
-    }
-    Ok(())
 }
 
 /// The rows of which the condition is other than FALSE.

@@ -11,8 +11,8 @@ ghost use Rattle.u_constraints.specs.Fronts.{begins_with, counts_from};
 use crate::beginning::with_front;
 use crate::fronts::are_first;
 use point_core::{Label, Memory};
-use relation_core::{sorted_parts, touched};
-use row_marks::{Marks, selection, touched_by_marks};
+use relation_core::{selection, sorted_parts, touched};
+use row_marks::{Marks, touched_by_marks};
 use std::alloc::Global;
 use value_core::{Heading, Relation, Row, RowsRefuse};
 
