@@ -1,6 +1,6 @@
 use Rattle.std.proofs.Common.{arith}
-use Rattle.scalar_typing.proofs.LiteralLemmas.{too-great}
-use Rattle.scalar_typing.proofs.literals.number_up_to.Goals as goal
+use Rattle.utd_syntax.proofs.DigitLemmas.{too-great}
+use Rattle.utd_syntax.proofs.literals.number_up_to.Goals as goal
 
 pub returns-then-value-from : goal.returns-then-value-from
 returns-then-value-from c =
