@@ -161,7 +161,7 @@ fn named_in_parts(p: &Parts, acl: &[usize]) -> Option<Place>
 }
 
 /// Whether the position is one of these.
-fn among(positions: &[usize], at: usize) -> bool
+pub fn among(positions: &[usize], at: usize) -> bool
     ensures { result ≡ among positions.now at }
 {
     positions.iter().any(|position| at == *position)
