@@ -16,6 +16,9 @@ use row_marks::{Marks, touched_by_marks};
 use std::alloc::Global;
 use value_core::{Heading, Relation, Row, RowsRefuse};
 
+/// To seek one row costs about as much as to pass over so many.
+pub const ROWS_PASSED_FOR_ONE_SOUGHT: usize = 16;
+
 /// Whether some row has these first values. The rows are in order.
 fn is_front(rows: &[Row], values: &Row) -> bool
     requires { IsStrictlySortedBy row_cmp rows.now }
@@ -97,7 +100,7 @@ fn touched_in_front(
 pub(crate) fn are_few(few: &Relation, many: &Relation) -> bool
     ensures { IsRelation few.now × IsRelation many.now }
 {
-    few.rows().len() < many.rows().len() / 16
+    few.rows().len() < many.rows().len() / ROWS_PASSED_FOR_ONE_SOUGHT
 }
 
 /// Whether one of the relations has no rows, so that no row of the one has values of a row of the other.

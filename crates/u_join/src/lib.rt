@@ -12,6 +12,7 @@ mod needed;
 mod picked;
 mod places;
 mod shared;
+mod tuning;
 
 pub use joining::u_join;
 pub use joins::joined;

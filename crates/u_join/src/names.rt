@@ -2,6 +2,7 @@
 ghost use Rattle.std.specs.Prelude.{◌≡◌, ◌++◌, ◌+◌, ◌≤◌, length, IfOk};
 ghost use Rattle.value_core.specs.Headings.{position_of};
 ghost use Rattle.relation_core.specs.Parts.{positions_in};
+ghost use Rattle.u_join.specs.Places.{most_of_both};
 
 use point_core::Memory;
 use std::alloc::Global;
@@ -9,7 +10,7 @@ use value_core::{Kind, Name, position};
 
 // Where the name stands among the attributes of the one, followed by those of the other.
 fn place(left: &[(Name, Kind)], right: &[(Name, Kind)], name: &Name) -> usize
-    requires { length left.now + length right.now ≤ 64 }
+    requires { length left.now + length right.now ≤ most_of_both }
     ensures { result ≡ position_of (left.now ++ right.now) name.now }
 {
     let at = position(left, name);
@@ -26,7 +27,7 @@ pub(crate) fn joined_places(
     right: &[(Name, Kind)],
     heading: &[(Name, Kind)],
 ) -> Result<Vec<usize>, Memory>
-    requires { length left.now + length right.now ≤ 64 }
+    requires { length left.now + length right.now ≤ most_of_both }
     ensures { IfOk result (λ places. places.items ≡ positions_in (left.now ++ right.now) heading.now) }
 {
     let mut list = Vec::with_capacity(alloc, heading.len())?;
