@@ -1,22 +1,21 @@
 // The relations of literals.
-ghost use Rattle.std.specs.Prelude.{ℕ, List, map, IsTrue, MatchResult};
+ghost use Rattle.std.specs.Prelude.{ℕ, List, map};
 ghost use Rattle.std.specs.List.{All};
 ghost use Rattle.base_core.specs.Outcomes.{then_give, first_of_all};
-ghost use Rattle.value_core.specs.Relations.{all_fit};
-ghost use Rattle.value_core.specs.Values.{rows_of};
 ghost use Rattle.scalar_core.specs.Answers.{Gives};
-ghost use Rattle.relation_core.specs.Answers.{Answers, IsAnswer, IsRefusal, under};
+ghost use Rattle.relation_core.specs.Answers.{Answers, under};
 ghost use Rattle.tree_core.specs.Trees.{read_sets};
 ghost use Rattle.meaning_core.specs.Meanings.{limited, literal_rows};
 ghost use Rattle.meaning_core.specs.Rows.{literal_row};
 ghost use Rattle.meaning_core.specs.Typing.{IsTuple};
 
-use point_core::{Memory, Place, Stop};
+use point_core::{Place, Stop};
+use relation_core::relation;
 use row_making::{extended_row, set_places, told};
 use scalar_core::Scalar;
 use std::alloc::Global;
 use tree_core::Sets;
-use value_core::{Heading, Kind, Name, Relation, Row, RowsRefuse};
+use value_core::{Heading, Kind, Name, Relation, Row};
 
 /// The relation of a literal, its first fault, or that of too many rows.
 pub(crate) fn literal(
@@ -30,15 +29,6 @@ pub(crate) fn literal(
 {
     let rows = tuple_rows(alloc, heading.attributes(), tuples)?;
     told(place, relation(alloc, heading, rows))
-}
-
-/// The relation of the heading with the rows.
-fn relation(alloc: Global, heading: &Heading, rows: Vec<Row>) -> Result<Relation, RowsRefuse>
-    requires { IsTrue (all_fit heading.now rows.items) }
-    ensures { MatchResult result (IsAnswer heading.now (rows_of rows.items)) (IsRefusal (rows_of rows.items)) }
-{
-    let heading = heading.copy(alloc)?;
-    Relation::of_fitting(heading, rows)
 }
 
 /// The rows of the tuples, or their first fault.

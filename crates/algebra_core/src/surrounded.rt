@@ -96,7 +96,7 @@ pub(crate) fn restriction<L: Ledger>(
     ensures cost { steps.new ≤ steps.old + rule_cost (around_of around.entry heading.now) r.now.heading (read c.now ∷ []) r.now.rows }
 {
     match around {
-        Surrounding::Plainly => operators::restricted(alloc, r, c),
+        Surrounding::Plainly => row_making::restricted(alloc, r, c),
         Surrounding::Using(at, acl) => using_restriction(alloc, at, heading, acl, c, r, steps),
     }
 }
@@ -120,7 +120,7 @@ pub(crate) fn extension<L: Ledger>(
     ensures cost { steps.new ≤ steps.old + rule_cost (around_of around.entry heading.now) r.now.heading (scalars_of (read_sets sets.now)) r.now.rows }
 {
     match around {
-        Surrounding::Plainly => operators::extended(alloc, r, heading, sets),
+        Surrounding::Plainly => row_making::extended(alloc, r, heading, sets),
         Surrounding::Using(at, acl) => using_extension(alloc, at, heading, acl, sets, r, steps),
     }
 }

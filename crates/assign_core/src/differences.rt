@@ -12,6 +12,7 @@ ghost use Rattle.assign_core.specs.Differences.{HasBoth, IsDifference, IsOnly, I
 
 use crate::changes::value_of;
 use crate::checking::{After, check};
+use crate::tuning::SMALL_PART_DIVISOR;
 use crate::turnover::{Known, Turnover, check_turnover, have_room};
 use point_core::{Memory, Steps};
 use relation_core::minus;
@@ -127,11 +128,12 @@ fn rest(alloc: Global, left: &Relation, right: &Relation) -> Result<Relation, Me
     }
 }
 
-// Whether at most a quarter of the new value's rows come, and there is room for them beside the old ones.
+// Whether a small part of the new value's rows come, and there is room for them beside the old ones.
 fn is_small(only: Only<'_>, rows: &Exchange) -> bool
     ensures { result ≡ true → length (united only.entry.old.now.rows rows.now.come.rows) ≤ most_rows }
 {
-    have_room(only.old, rows) && rows.come.rows().len() <= only.new.rows().len() / 4
+    have_room(only.old, rows)
+        && rows.come.rows().len() <= only.new.rows().len() / SMALL_PART_DIVISOR
 }
 
 // The base relvar with a new value, where no other one has one.

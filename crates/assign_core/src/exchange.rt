@@ -11,6 +11,7 @@ ghost use Rattle.assign_core.specs.Turnovers.{renewed, renewed_at, renewed_relva
 use crate::marked::{Marked, MarkedRelvar, put_marks, take_marks};
 use crate::marking::exchange_marked;
 use crate::removal::remove;
+use crate::tuning::MOST_ROWS_ONE_BY_ONE;
 use point_core::Memory;
 use row_marks::Marks;
 use std::alloc::Global;
@@ -75,9 +76,6 @@ fn put(relvar: &mut Relvar, new: Relation)
     }
 }
 
-/// So many rows at most, of those that come and those that go together, are put in and taken out one by one with their marks.
-const FEW_ROWS: usize = 16;
-
 /// Puts the rows that come among those of the base relvar at a place, and then takes out those that go. For want of memory nothing
 /// changes. Where they are few the relvar has marks from now on; where they are many its marks are dropped. Those of the others stay.
 pub(crate) fn exchange_rows(
@@ -106,7 +104,7 @@ fn are_few(rows: &Exchange) -> bool {
         .rows()
         .len()
         .saturating_add(rows.gone.rows().len())
-        <= FEW_ROWS
+        <= MOST_ROWS_ONE_BY_ONE
 }
 
 // Exchanges rows of the base relvar at a place, and keeps its marks.

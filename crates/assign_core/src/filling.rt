@@ -6,15 +6,13 @@ ghost use Rattle.assign_core.specs.Marked.{AreMarked, AreMarksIn, IsMarksOf};
 
 use crate::marked::{Marked, MarkedRelvar, has_marks, put_marks, take_marks};
 use crate::marking::keep;
+use crate::tuning::FEWEST_MARKED_ROWS;
 use point_core::Memory;
 use row_marks::{Marks, marks_of};
 use std::alloc::Global;
 use tree_core::{Assignment, Relvar, Relvars};
 use u_set::{is_listed, outside};
 use value_core::{Constraint, Name, Relation};
-
-/// Rows are marked where there are so many.
-const MANY_ROWS: usize = 256;
 
 /// Where the only target is a relvar that has marks, marks its rows for those of its constraints for which they are not marked.
 pub(crate) fn fill(
@@ -85,7 +83,7 @@ fn fill_value(
     requires { All (IsMarksOf value.now.heading value.now.rows) marks.old.items }
     ensures { All (IsMarksOf value.now.heading value.now.rows) marks.new.items }
 {
-    if value.rows().len() < MANY_ROWS {
+    if value.rows().len() < FEWEST_MARKED_ROWS {
         return Ok(());
     }
     for constraint in constraints {

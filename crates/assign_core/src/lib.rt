@@ -26,6 +26,7 @@ mod renewal;
 mod revision;
 mod sources;
 mod target;
+mod tuning;
 mod turnover;
 
 pub use database::Database;

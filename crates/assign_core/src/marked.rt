@@ -4,6 +4,7 @@ ghost use Rattle.std.specs.List.{position};
 ghost use Rattle.tree_core.specs.Relvars.{Entries};
 ghost use Rattle.assign_core.specs.Marked.{AreMarked, AreMarksAt, IsMarked, IsUnmarkedAt};
 
+use crate::tuning::MOST_MARKED_RELVARS;
 use row_marks::Marks;
 use std::alloc::Global;
 
@@ -19,9 +20,6 @@ pub(crate) struct MarkedRelvar {
 pub(crate) struct Marked {
     pub entries: Vec<MarkedRelvar>,
 }
-
-// So many relvars at most have marks.
-const MOST_RELVARS: usize = 8;
 
 /// No marks, of no relvar. It takes no memory.
 pub(crate) fn no_marks(alloc: Global) -> Marked
@@ -75,7 +73,7 @@ pub(crate) fn take_marks(marked: &mut Marked, alloc: Global, at: usize) -> Vec<M
 pub(crate) fn put_marks(marked: &mut Marked, own: MarkedRelvar)
     ensures { (es : Entries) → AreMarked marked.old es → IsMarked es own → AreMarked marked.new es }
 {
-    if marked.entries.len() >= MOST_RELVARS {
+    if marked.entries.len() >= MOST_MARKED_RELVARS {
         drop(marked.entries.remove(0));
     }
     match marked.entries.push(own) {

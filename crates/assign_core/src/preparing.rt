@@ -31,6 +31,7 @@ use crate::marked::{Marked, marks_at};
 use crate::packing::{exchange_of, packed_list, whole};
 use crate::sources::evaluate;
 use crate::target::Target;
+use crate::tuning::ROWS_LOOKED_AT_FOR_ONE;
 use crate::turnover::{Known, have_room};
 use point_core::{Code, Place, Steps};
 use row_marks::Marks;
@@ -39,9 +40,6 @@ use std::sync::ledger::Ledger;
 use tree_core::{Assignment, Relvars};
 use u_labels::Exchange;
 use value_core::{MOST_ROWS_IN_ALL, Positions, Refuse, Relation};
-
-/// So many rows that are there, or fewer, for each one that comes are looked at all.
-const ROWS_FOR_ONE: usize = 32;
 
 /// What stands ready before anything changes: new values, one place for each relvar and view, or an exchange of rows of the base relvar
 /// at a place.
@@ -146,7 +144,7 @@ fn prepare_addition<L: Ledger>(
 
 // Whether the rows that come are so many that a look at all rows that are there is cheap beside reading them.
 fn comes_in_bulk(addition: Addition<'_>) -> bool {
-    addition.operand.rows().len() > addition.value.rows().len() / ROWS_FOR_ONE
+    addition.operand.rows().len() > addition.value.rows().len() / ROWS_LOOKED_AT_FOR_ONE
 }
 
 // What stands ready where the target is kept packed on the list: rows of the labels that come are exchanged. Many rows that come are first

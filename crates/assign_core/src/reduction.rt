@@ -25,9 +25,11 @@ ghost use Rattle.assign_core.specs.Targets.{entries_before, value_given};
 
 use crate::insertion::base_at;
 use crate::packing::is_kept_packed;
-use crate::plain_rows::{lists_none, restricted};
+use crate::plain_rows::lists_none;
 use crate::portion::{Deletion, Portion};
+use crate::tuning::SMALL_PART_DIVISOR;
 use point_core::{Memory, Steps, Stop};
+use row_making::restricted;
 use row_marks::Marks;
 use std::alloc::Global;
 use std::sync::ledger::Ledger;
@@ -99,11 +101,11 @@ pub(crate) fn is_packed_at(relvars: &Relvars, at: usize, acl: &Positions) -> boo
     }
 }
 
-/// The part, where it has at most a quarter of the rows.
+/// The part, where it is a small one of the rows.
 pub(crate) fn if_few(part: Relation, value: &Relation) -> Option<Relation>
     ensures { IfSome result (λ p. p ≡ part) }
 {
-    if part.rows().len() <= value.rows().len() / 4 {
+    if part.rows().len() <= value.rows().len() / SMALL_PART_DIVISOR {
         Some(part)
     } else {
         None

@@ -26,12 +26,12 @@ ghost use Rattle.assign_core.specs.Revisions.{changed_cost, changed_rows, left_o
 ghost use Rattle.assign_core.specs.Targets.{entries_before, value_given};
 
 use crate::insertion::base_at;
-use crate::plain_rows::{extended, lists_none};
+use crate::plain_rows::lists_none;
 use crate::reduction::{if_few, is_packed_at, portion_rows};
 use crate::revision::{Changed, Revision};
 use point_core::{Code, Fault, Memory, Steps, Stop};
 use relation_core::union;
-use row_making::told;
+use row_making::{extended, told};
 use row_marks::Marks;
 use std::alloc::Global;
 use std::sync::ledger::Ledger;

@@ -9,7 +9,7 @@ use Rattle.packing_core.specs.Packed.{no_cells}
 use Rattle.packing_core.proofs.AmongLemmas.{among_append, among_map, among_filter}
 use Rattle.packing_core.proofs.Inward.{HasSides, in_live_last}
 use Rattle.point_core.specs.declared.fault.Fault.{Fault}
-use Rattle.slice_core.specs.LeastFault.{IsLeast}
+use Rattle.point_core.specs.LeastFault.{IsLeast}
 use Rattle.slice_core.specs.PackedRows.{HasRow, span_of, cuts_of}
 use Rattle.slice_core.specs.Rows.{no_sides, own_numbers, labels_of, GivesLabel, GivesFault}
 use Rattle.slice_core.proofs.Steps.{split_at}

@@ -13,7 +13,7 @@ use Rattle.packing_core.proofs.AmongLemmas.{among_append, among_map, among_filte
 use Rattle.packing_core.proofs.Numbered.{other_default}
 use Rattle.packing_core.proofs.Same.{same_sorted}
 use Rattle.point_core.specs.declared.fault.Fault.{Fault}
-use Rattle.slice_core.specs.LeastFault.{IsLeast}
+use Rattle.point_core.specs.LeastFault.{IsLeast}
 use Rattle.slice_core.specs.PackedRows.{HasRow}
 use Rattle.slice_core.specs.Rows.{sides_of, AreRows}
 use Rattle.slice_core.specs.declared.inward.IndexBox.{IndexBox}

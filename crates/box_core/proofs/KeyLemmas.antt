@@ -9,7 +9,7 @@ use Rattle.packing_core.specs.Live.{span_has}
 use Rattle.packing_core.specs.Packed.{no_cells}
 use Rattle.packing_core.proofs.Numbered.{other_default}
 use Rattle.point_core.specs.declared.fault.Fault.{Fault}
-use Rattle.slice_core.specs.LeastFault.{IsLeast}
+use Rattle.point_core.specs.LeastFault.{IsLeast}
 use Rattle.slice_core.specs.PackedRows.{HasRow}
 use Rattle.box_core.specs.Common.{At, EndsBy, first_of}
 use Rattle.box_core.specs.Rows.{Ascend, IsRow, KeyBox}

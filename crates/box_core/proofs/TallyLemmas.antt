@@ -7,7 +7,7 @@ use Rattle.packing_core.specs.Live.{span_has}
 use Rattle.packing_core.proofs.AmongLemmas.{among_append}
 use Rattle.packing_core.specs.Packed.{no_cells}
 use Rattle.point_core.specs.declared.fault.Fault.{Fault}
-use Rattle.slice_core.specs.LeastFault.{IsLeast}
+use Rattle.point_core.specs.LeastFault.{IsLeast}
 use Rattle.slice_core.specs.PackedRows.{HasRow}
 use Rattle.slice_core.proofs.Turns.{least_then, least_more}
 use Rattle.slice_core.proofs.UnitedLemmas.{IsBeside}

@@ -2,7 +2,7 @@
 ghost use Rattle.std.specs.Prelude.{◌≡◌, ℕ, ◌<◌, ◌≤◌, ◌↔◌, ◌⊎◌, List, [], ◌∷◌, length, map, Some, Ok, Err, OnOk, IfOk};
 ghost use Rattle.std.specs.List.{All};
 ghost use Rattle.packing_core.specs.Covering.{Among};
-ghost use Rattle.slice_core.specs.LeastFault.{IsLeast};
+ghost use Rattle.point_core.specs.LeastFault.{IsLeast};
 ghost use Rattle.slice_core.specs.PackedRows.{HasRow};
 ghost use Rattle.box_core.specs.Common.{EndsBy, first_of};
 ghost use Rattle.box_core.specs.Rows.{Ascend, IsRow, KeyBox};

@@ -3,7 +3,7 @@ ghost use Rattle.std.specs.Prelude.{◌≡◌, ℕ, ◌<◌, ◌≤◌, ◌↔�
 ghost use Rattle.std.specs.List.{All};
 ghost use Rattle.std.specs.declared.cmp.Ordering.TheVariants.{Equal};
 ghost use Rattle.packing_core.specs.Covering.{Among};
-ghost use Rattle.slice_core.specs.LeastFault.{IsLeast};
+ghost use Rattle.point_core.specs.LeastFault.{IsLeast};
 ghost use Rattle.slice_core.specs.PackedRows.{HasRow};
 ghost use Rattle.slice_core.specs.Rows.{sides_of, AreRows};
 ghost use Rattle.box_core.specs.Common.{EndsBy};

@@ -2,7 +2,7 @@
 ghost use Rattle.std.specs.Prelude.{◌≡◌, ℕ, ◌<◌, ◌≤◌, ◌↔◌, ◌⊎◌, ◌++◌, List, [], ◌∷◌, Bool, length, get_or, Some, Ok, Err, OnOk, IfOk};
 ghost use Rattle.std.specs.List.{All};
 ghost use Rattle.packing_core.specs.Covering.{Among};
-ghost use Rattle.slice_core.specs.LeastFault.{IsLeast};
+ghost use Rattle.point_core.specs.LeastFault.{IsLeast};
 ghost use Rattle.slice_core.specs.PackedRows.{HasRow};
 ghost use Rattle.box_core.specs.Rows.{KeyBox};
 ghost use Rattle.box_core.specs.Tallies.{IsIn, AreBy, Within, span_at, boxed, label_in, OfTallied, IsPart};
@@ -30,16 +30,6 @@ fn push_boxed<P: Drop>(
     Ok(())
 }
 
-// The lesser of the fault so far and one more.
-fn lesser(least: Option<Fault>, e: Fault) -> Fault
-    ensures { IsLeast (λ d. (least ≡ Some d) ⊎ (e ≡ d)) (Some result) }
-{
-    match least {
-        None => e,
-        Some(d) => d.min(e),
-    }
-}
-
 // Adds the cells with the label of the key and of the rows that the state is of, or takes in the fault.
 fn push_label<T: Tally>(
     alloc: Global,
@@ -60,7 +50,7 @@ fn push_label<T: Tally>(
             Ok(())
         }
         Err(Stop::Fault(e)) => {
-            *least = Some(lesser(*least, e));
+            *least = Some(Fault::least_of(*least, e));
             Ok(())
         }
         Err(Stop::Memory) => Err(Memory),

@@ -12,7 +12,7 @@ use Rattle.packing_core.proofs.Cells.{Cuts, box_of, span_of}
 use Rattle.packing_core.proofs.Covered.{IsInGrid}
 use Rattle.packing_core.proofs.Whole.{cells_back, cuts_back, same_box}
 use Rattle.point_core.specs.declared.fault.Fault.{Fault}
-use Rattle.slice_core.specs.LeastFault.{IsLeast}
+use Rattle.point_core.specs.LeastFault.{IsLeast}
 use Rattle.slice_core.specs.Rows.{GivesLabel, GivesFault, key_cmp}
 use Rattle.cell_core.specs.Numbering.{cut_at, Rises, span_at, numbers_of, IsSide}
 use Rattle.cell_core.specs.Cells.{box_numbers, boxes_of, IsPackedForm, HasFault, rows_from, cells_at, side_of, grids_of, grid_box, grid_row}

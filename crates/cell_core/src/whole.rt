@@ -7,7 +7,7 @@ ghost use Rattle.packing_core.specs.Boxed.{InBoxes, packed_boxes};
 ghost use Rattle.interval_core.specs.Members.{Span, HasEndsIn};
 ghost use Rattle.packing_core.specs.Packed.{no_cells};
 ghost use Rattle.slice_core.specs.Rows.{sides_of, AreRows, own_numbers};
-ghost use Rattle.slice_core.specs.LeastFault.{IsLeast};
+ghost use Rattle.point_core.specs.LeastFault.{IsLeast};
 ghost use Rattle.point_core.specs.declared.fault.Fault.{Fault as AnyFault};
 ghost use Rattle.cell_core.specs.Numbering.{IsSide, IsGrid, numbers_of, span_at};
 ghost use Rattle.cell_core.specs.Cells.{rows_from, cells_at, side_of, boxes_of, IsPackedForm, HasFault, grids_of};

@@ -3,7 +3,6 @@ ghost use Rattle.std.specs.Prelude.{◌≡◌};
 ghost use Rattle.scalar_core.specs.Answers.{Gives};
 ghost use Rattle.scalar_typing.specs.Names.{AreOrdinals};
 ghost use Rattle.utd_syntax.specs.Read.{read_heading, read_key, read_name, read_point};
-ghost use Rattle.value_core.specs.Headings.{has_name};
 ghost use Rattle.relation_typing.specs.Attributes as attributes;
 ghost use Rattle.tree_core.specs.Relvars.{read_relvars};
 ghost use Rattle.declaration_typing.specs.Histories as rules;
@@ -18,7 +17,7 @@ use std::alloc::Global;
 use tree_core::{HistoryData, Relvars};
 use utd_syntax as syntax;
 use utd_syntax::{History, Key, Word};
-use value_core::{Heading, Kind, MOST_ATTRIBUTES, MOST_RELVARS, Name, OrdinalTypes, Positions};
+use value_core::{Heading, MOST_ATTRIBUTES, MOST_RELVARS, Name, OrdinalTypes, Positions, has_name};
 
 /// The names of the view, the since relvar and the during relvar, which nothing has, and which differ.
 fn relvars_named(
@@ -54,13 +53,6 @@ fn facts_typed(
     check(heading.place, Code::E17, room)?;
     let positions = names_typed(alloc, &typed, &key.names)?;
     Ok((typed, positions))
-}
-
-/// Whether an attribute has the name.
-fn has_name(attributes: &[(Name, Kind)], name: &Name) -> bool
-    ensures { result ≡ has_name attributes.now name.now }
-{
-    attributes.iter().any(|attribute| attribute.0 == *name)
 }
 
 /// The name of an attribute that the heading has not.

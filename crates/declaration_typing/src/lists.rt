@@ -1,13 +1,13 @@
 // The lists of interval attributes that constraints name.
 ghost use Rattle.std.specs.Prelude.{◌≡◌};
 ghost use Rattle.utd_syntax.specs.Read.{read_list, read_name_list, read_names};
-ghost use Rattle.value_core.specs.Attributes.{among};
 ghost use Rattle.scalar_core.specs.Answers.{Gives};
 ghost use Rattle.declaration_typing.specs.Constraints as rules;
 
 use crate::references::names_typed;
 use node_typing::{check, listed, position};
 use point_core::{Code, Stop};
+use scalar_core::among;
 use std::alloc::Global;
 use utd_syntax::{NameList, Names, Word};
 use value_core::{Heading, Kind, Name, Positions};
@@ -22,13 +22,6 @@ pub(crate) fn list_typed(
 {
     let positions = listed(alloc, heading, heading, list)?;
     Ok(positions)
-}
-
-/// Whether the position is one of these.
-fn among(positions: &[usize], at: usize) -> bool
-    ensures { result ≡ among positions.now at }
-{
-    positions.iter().any(|position| at == *position)
 }
 
 /// The refusal of the first listed name that is not of the key.

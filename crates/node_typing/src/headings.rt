@@ -11,27 +11,11 @@ ghost use Rattle.relation_typing.specs.Attributes.{few_attributes};
 ghost use Rattle.node_typing.specs.Headings as rules;
 
 use point_core::{Memory, Place, Stop};
+use relation_core::attributes_at;
 use relation_typing::{Attributes, few_attributes, heading_of, listed, put};
 use std::alloc::Global;
 use std::collections::BTreeMap;
 use value_core::{Heading, HeadingRefuse, Kind, Name};
-
-/// The attributes at the positions.
-fn attributes_at(
-    alloc: Global,
-    list: &[(Name, Kind)],
-    positions: &[usize],
-) -> Result<Vec<(Name, Kind)>, Memory>
-    requires { All (λ (i : ℕ). i < length list.now) positions.now }
-    ensures { IfOk result (λ attributes. attributes.items ≡ attributes_at positions.now list.now) }
-{
-    let mut attributes = Vec::with_capacity(alloc, positions.len())?;
-    for position in positions {
-        let attribute = &list[*position];
-        attributes.push((attribute.0.copy(alloc)?, attribute.1))?;
-    }
-    Ok(attributes)
-}
 
 /// The heading of the attributes at ascending positions.
 pub(crate) fn heading_at(

@@ -3,7 +3,6 @@ ghost use Rattle.std.specs.Prelude.{◌≡◌, ◌<◌, ℕ, List, IfOk, length,
 ghost use Rattle.std.specs.List.{All};
 ghost use Rattle.std.specs.Ordering.{nat_cmp};
 ghost use Rattle.base_core.specs.Sets.{is_set};
-ghost use Rattle.value_core.specs.Attributes.{among};
 ghost use Rattle.relation_core.specs.Parts.{kind_at};
 ghost use Rattle.utd_syntax.specs.Read.{read_name, read_name_list};
 ghost use Rattle.value_core.specs.Headings.{has_name};
@@ -13,6 +12,8 @@ ghost use Rattle.node_typing.specs.Lists.{kind_named};
 ghost use Rattle.node_typing.specs.Positions as rules;
 
 use point_core::{Code, Fault, Memory, Place, Stop};
+use relation_core::as_wanted;
+use scalar_core::among;
 use std::alloc::Global;
 use utd_syntax::Word;
 use value_core::{Kind, Name};
@@ -89,13 +90,6 @@ pub fn position_typed(list: &[(Name, Kind)], word: &Word) -> Result<usize, Stop>
     }
 }
 
-/// Whether the position is one of these.
-pub(crate) fn among(positions: &[usize], at: usize) -> bool
-    ensures { result ≡ among positions.now at }
-{
-    positions.iter().any(|position| at == *position)
-}
-
 /// The position of a named attribute that was not named before.
 pub(crate) fn new_position(
     list: &[(Name, Kind)],
@@ -123,13 +117,6 @@ pub fn positions_typed(
         positions.push(at)?;
     }
     Ok(positions)
-}
-
-/// The truth value, or its opposite.
-fn as_wanted(wanted: bool, found: bool) -> bool
-    ensures { result ≡ agreement.as_wanted wanted found }
-{
-    if wanted { found } else { !found }
 }
 
 /// The positions that are among the named ones, or those that are not, ascending.

@@ -12,6 +12,7 @@ ghost use Rattle.node_typing.specs.Projections as rules;
 use crate::headings::heading_of_list;
 use crate::positions::{check, new_position};
 use point_core::{Code, Memory, Stop};
+use relation_core::renamed;
 use relation_typing::name_typed;
 use std::alloc::Global;
 use utd_syntax::{Renaming, Renamings};
@@ -142,22 +143,6 @@ pub(crate) fn renaming_names(
     let list = names_behind(alloc, pairs.as_slice(), heading.attributes())?;
     new_names_once(list.as_slice(), &renamings.first, more)?;
     Ok(Names { list })
-}
-
-/// The attributes with the new names.
-fn renamed(
-    alloc: Global,
-    names: &[Name],
-    attributes: &[(Name, Kind)],
-) -> Result<Vec<(Name, Kind)>, Memory>
-    requires { length names.now ≡ length attributes.now }
-    ensures { IfOk result (λ list. list.items ≡ renamed names.now attributes.now) }
-{
-    let mut list = Vec::with_capacity(alloc, names.len())?;
-    for (at, name) in names.iter().enumerate() {
-        list.push((name.copy(alloc)?, attributes[at].1))?;
-    }
-    Ok(list)
 }
 
 /// The heading of the attributes with the new names.

@@ -3,6 +3,7 @@ pub mod DayLaws
 pub mod Digits
 pub mod FaultLaws
 pub mod Faults
+pub mod LeastFault
 pub mod Orders
 pub mod Pairs
 pub mod PointLaws

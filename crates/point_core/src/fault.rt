@@ -1,6 +1,7 @@
 // Why a statement or an evaluation is refused, and where.
-ghost use Rattle.std.specs.Prelude.{◌≡◌};
+ghost use Rattle.std.specs.Prelude.{◌≡◌, ◌⊎◌, Some};
 ghost use Rattle.point_core.specs.Faults.{fault_cmp};
+ghost use Rattle.point_core.specs.LeastFault.{IsLeast, lesser_of};
 ghost use Rattle.point_core.specs.Orders.{fault_order};
 ghost use Rattle.point_core.specs.declared.fault.Stop.TheVariants.{Memory as OfMemory};
 
@@ -101,6 +102,17 @@ impl Fault {
         ensures derived { result ≡ fault_order self other }
     {
         self.cmp(&other)
+    }
+
+    /// The lesser of the least fault so far, where there is one, and one more.
+    pub fn least_of(so_far: Option<Fault>, next: Fault) -> Fault
+        ensures lesser { Some result ≡ lesser_of so_far (Some next) }
+        ensures least { IsLeast (λ fault. (so_far ≡ Some fault) ⊎ (next ≡ fault)) (Some result) }
+    {
+        match so_far {
+            None => next,
+            Some(least) => least.min(next),
+        }
     }
 }
 

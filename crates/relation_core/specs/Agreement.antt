@@ -3,21 +3,16 @@
 --     part_of      a row's values at positions
 --     agree      whether rows of two headings have the same values at all common names
 --     matched, unmatched      the rows that agree with some row of another relation, and the others
-use Rattle.std.specs.Prelude.{ℕ, suc, Bool, false, not, List, [], ◌∷◌, map, filter, slice_index_or, if◌then◌else◌}
+use Rattle.std.specs.Prelude.{ℕ, Bool, false, not, List, map, filter, slice_index_or, if◌then◌else◌}
 use Rattle.std.specs.List.{list_any}
 use Rattle.std.specs.Ordering.{eq_by_cmp}
-use Rattle.std.specs.Str.{bytes_eq}
 use Rattle.value_core.specs.Values.{Name, Row, Heading, truth, row_cmp}
 use Rattle.value_core.specs.Headings.{has_name}
+pub use Rattle.value_core.specs.Headings.{position_of}
 
 -- the names of the attributes
 abbrev pub names_of : Heading → List Name
 names_of heading = map (λ a. a.0) heading
-
--- where the name stands in the heading; past its end where it does not
-abbrev pub position_of : Heading → Name → ℕ
-position_of [] name = 0
-position_of (a ∷ rest) name = if bytes_eq a.0 name then 0 else suc (position_of rest name)
 
 -- the names that stand in both headings
 abbrev pub common_names : Heading → Heading → List Name

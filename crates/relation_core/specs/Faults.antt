@@ -1,20 +1,12 @@
 -- Values and faults so far.
 use Rattle.std.specs.Prelude.{Option, Some, None, Ok, Err, List, [], ◌∷◌}
-use Rattle.base_core.specs.Outcomes.{lesser}
 use Rattle.point_core.specs.Faults.{OrFault}
 use Rattle.point_core.specs.declared.fault.Fault.{Fault}
-use Rattle.relation_core.specs.Operators.{fault_order}
 
 -- the fault in a value's place
 abbrev pub fault_of : {X : Type 0} → OrFault X → Option Fault
 fault_of (Ok v) = None
 fault_of (Err e) = Some e
-
--- the lesser of two faults, where there are two
-abbrev pub lesser_of : Option Fault → Option Fault → Option Fault
-lesser_of None b = b
-lesser_of (Some a) None = Some a
-lesser_of (Some a) (Some b) = Some (lesser fault_order a b)
 
 -- the values
 abbrev pub values_of : {X : Type 0} → List (OrFault X) → List X

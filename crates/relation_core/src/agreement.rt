@@ -80,7 +80,7 @@ pub(crate) fn rows_by_keys(
 }
 
 /// The truth value, or its opposite.
-fn as_wanted(wanted: bool, found: bool) -> bool
+pub fn as_wanted(wanted: bool, found: bool) -> bool
     ensures { result ≡ as_wanted wanted found }
 {
     if wanted { found } else { !found }

@@ -8,11 +8,7 @@ use std::alloc::Global;
 use value_core::{Heading, Relation, Row, RowsRefuse};
 
 /// The relation of the heading with the rows.
-pub(crate) fn relation(
-    alloc: Global,
-    heading: &Heading,
-    rows: Vec<Row>,
-) -> Result<Relation, RowsRefuse>
+pub fn relation(alloc: Global, heading: &Heading, rows: Vec<Row>) -> Result<Relation, RowsRefuse>
     requires { IsTrue (all_fit heading.now rows.items) }
     ensures { MatchResult result (IsAnswer heading.now (rows_of rows.items)) (IsRefusal (rows_of rows.items)) }
 {

@@ -7,11 +7,10 @@ ghost use Rattle.relation_core.specs.Joins.{joined_heading, HaveEqualKinds};
 ghost use Rattle.relation_core.specs.Parts.{positions_in};
 
 use crate::headings::heading_of;
-use crate::names::has_name;
 use crate::renaming::positions_in;
 use point_core::Memory;
 use std::alloc::Global;
-use value_core::{Heading, Kind, Name};
+use value_core::{Heading, Kind, Name, has_name};
 
 /// The heading of the attributes of both.
 pub(crate) fn joined_heading(

@@ -4,10 +4,10 @@ ghost use Rattle.std.specs.Fn.{FnReturnsAt};
 ghost use Rattle.point_core.specs.Faults.{OrFault};
 ghost use Rattle.value_core.specs.Values.{Row as PlainRow, fits_heading};
 ghost use Rattle.relation_core.specs.Answers.{Answers, under};
-ghost use Rattle.relation_core.specs.Faults.{fault_of, lesser_of, values_of};
+ghost use Rattle.point_core.specs.LeastFault.{lesser_of};
+ghost use Rattle.relation_core.specs.Faults.{fault_of, values_of};
 ghost use Rattle.relation_core.specs.Operators.{extended};
 
-use crate::restriction::lesser;
 use point_core::{Fault, Memory, Stop};
 use std::alloc::Global;
 use value_core::{Heading, Relation, Row};
@@ -57,7 +57,7 @@ pub(crate) fn take_given(
         }
         Err(Stop::Memory) => Err(Memory),
         Err(Stop::Fault(fault)) => {
-            *least = Some(lesser(*least, fault));
+            *least = Some(Fault::least_of(*least, fault));
             Ok(())
         }
     }

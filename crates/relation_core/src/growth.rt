@@ -49,8 +49,9 @@ fn rows_absent(alloc: Global, few: &Relation, many: &Relation) -> Result<Vec<Row
     Ok(rows)
 }
 
-/// The relation with the heading of another one and some of its rows.
-fn selection(alloc: Global, r: &Relation, rows: Vec<Row>) -> Result<Relation, Memory>
+/// The relation with the heading of another one and some of its rows, in their order: they fit the heading and are few enough, so that
+/// nothing is tested.
+pub fn selection(alloc: Global, r: &Relation, rows: Vec<Row>) -> Result<Relation, Memory>
     requires { IsSelection r.now.rows rows.items }
     ensures { IfOk result (λ x. (x.heading ≡ r.now.heading) × (x.rows ≡ rows.items)) }
 {

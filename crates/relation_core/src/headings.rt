@@ -23,7 +23,7 @@ pub(crate) fn heading_of(alloc: Global, list: Vec<(Name, Kind)>) -> Result<Headi
 }
 
 /// The attributes at the positions.
-pub(crate) fn attributes_at(
+pub fn attributes_at(
     alloc: Global,
     list: &[(Name, Kind)],
     positions: &[usize],

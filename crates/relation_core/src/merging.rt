@@ -54,7 +54,7 @@ pub(crate) fn merge(
 }
 
 /// Adds the row, if it is kept.
-pub(crate) fn keep(alloc: Global, rows: &mut Vec<Row>, row: &Row, kept: bool) -> Result<(), Memory>
+pub fn keep(alloc: Global, rows: &mut Vec<Row>, row: &Row, kept: bool) -> Result<(), Memory>
     ensures { OnOk result (rows.new.items ≡ rows.old.items ++ (if kept then row.now ∷ [] else [])) }
 {
     if kept {

@@ -5,11 +5,10 @@ ghost use Rattle.std.specs.Str.{bytes_eq};
 ghost use Rattle.relation_core.specs.Parts.{renamed, positions_in, IsRenamed};
 
 use crate::headings::heading_of;
-use crate::names::position;
 use crate::parts::sorted_parts;
 use point_core::Memory;
 use std::alloc::Global;
-use value_core::{Kind, Name, Relation};
+use value_core::{Kind, Name, Relation, position};
 
 /// The relation with new names: one for each attribute, in the order of the old ones, and all different.
 pub fn rename(alloc: Global, r: &Relation, names: &[Name]) -> Result<Relation, Memory>
@@ -27,7 +26,7 @@ pub fn rename(alloc: Global, r: &Relation, names: &[Name]) -> Result<Relation, M
 }
 
 /// The attributes with the new names.
-fn renamed(
+pub fn renamed(
     alloc: Global,
     names: &[Name],
     attributes: &[(Name, Kind)],

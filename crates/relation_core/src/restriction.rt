@@ -4,12 +4,12 @@ ghost use Rattle.std.specs.Fn.{FnReturnsAt};
 ghost use Rattle.point_core.specs.Faults.{OrFault};
 ghost use Rattle.value_core.specs.Values.{Row as PlainRow, fits_heading};
 ghost use Rattle.relation_core.specs.Answers.{Answers, under};
-ghost use Rattle.relation_core.specs.Faults.{fault_of, lesser_of};
+ghost use Rattle.point_core.specs.LeastFault.{lesser_of};
+ghost use Rattle.relation_core.specs.Faults.{fault_of};
 ghost use Rattle.relation_core.specs.Operators.{is_true, restricted};
 
 use point_core::{Fault, Label, Memory, Stop};
 use std::alloc::Global;
-use std::cmp::Ordering;
 use value_core::{Relation, Row};
 
 /// The rows for which the test gives true. Where it has faults, the least one of all rows is the answer.
@@ -59,24 +59,8 @@ fn take_row(
         Ok(false) => Ok(()),
         Err(Stop::Memory) => Err(Memory),
         Err(Stop::Fault(fault)) => {
-            *least = Some(lesser(*least, fault));
+            *least = Some(Fault::least_of(*least, fault));
             Ok(())
-        }
-    }
-}
-
-/// The lesser of the least fault so far and one more.
-pub(crate) fn lesser(least: Option<Fault>, fault: Fault) -> Fault
-    ensures { Some result ≡ lesser_of least (Some fault) }
-{
-    match least {
-        None => fault,
-        Some(before) => {
-            if fault.compare(before) == Ordering::Less {
-                fault
-            } else {
-                before
-            }
         }
     }
 }

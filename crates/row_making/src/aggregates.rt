@@ -9,7 +9,8 @@ ghost use Rattle.value_core.specs.Values.{Value as PlainValue, point};
 ghost use Rattle.scalar_core.specs.Answers.{Gives};
 ghost use Rattle.scalar_core.specs.Expressions.{read};
 ghost use Rattle.scalar_core.specs.Operations.{number_of, integer};
-ghost use Rattle.relation_core.specs.Faults.{fault_of, lesser_of, values_of};
+ghost use Rattle.point_core.specs.LeastFault.{lesser_of};
+ghost use Rattle.relation_core.specs.Faults.{fault_of, values_of};
 ghost use Rattle.relation_core.specs.Groups.{rows_at};
 ghost use Rattle.tree_core.specs.Trees.{read_aggregate, read_aggregate_form};
 ghost use Rattle.meaning_core.specs.Rows.{picked, values_over, aggregate_value, aggregates_on, extreme};
@@ -19,7 +20,6 @@ ghost use Rattle.u_summary.specs.Summaries.{total, is_before};
 use point_core::{AnyPoint, Code, Fault, Memory, Place, Stop};
 use scalar_core::{Scalar, eval};
 use std::alloc::Global;
-use std::cmp::Ordering;
 use tree_core::{Aggregate, AggregateForm};
 use u_summary::{greatest, least, sum};
 use value_core::{Row, Value};
@@ -195,24 +195,8 @@ fn take_value(
         }
         Err(Stop::Memory) => Err(Memory),
         Err(Stop::Fault(fault)) => {
-            *least = Some(lesser(*least, fault));
+            *least = Some(Fault::least_of(*least, fault));
             Ok(())
-        }
-    }
-}
-
-/// The lesser of the least fault so far and one more.
-fn lesser(least: Option<Fault>, fault: Fault) -> Fault
-    ensures { Some result ≡ lesser_of least (Some fault) }
-{
-    match least {
-        None => fault,
-        Some(before) => {
-            if fault.cmp(&before) == Ordering::Less {
-                fault
-            } else {
-                before
-            }
         }
     }
 }

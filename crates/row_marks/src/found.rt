@@ -11,7 +11,7 @@ ghost use Rattle.row_marks.specs.Marks.{mark_of, AreMarksOf};
 
 use crate::list::{Marks, row_marks};
 use point_core::{Label, Memory};
-use relation_core::{contains, part, sorted_parts};
+use relation_core::{contains, part, selection, sorted_parts};
 use std::alloc::Global;
 use value_core::{Relation, Row};
 
@@ -82,17 +82,6 @@ fn marked_rows(
         }
     }
     Ok(rows)
-}
-
-/// The relation with the heading of another one and some of its rows, in their order: they fit the heading and are few enough, so that
-/// nothing is tested.
-pub fn selection(alloc: Global, r: &Relation, rows: Vec<Row>) -> Result<Relation, Memory>
-    requires { IsSelection r.now.rows rows.items }
-    ensures { IfOk result (λ x. (x.heading ≡ r.now.heading) × (x.rows ≡ rows.items)) }
-{
-    let heading = r.heading().copy(alloc)?;
-    let relation = Relation::of_few(heading, rows)?;
-    Ok(relation)
 }
 
 /// The rows of many whose values at the marks' positions are those of some row of few. The marks are passed over; rows are looked at

@@ -6,5 +6,5 @@ mod found;
 mod list;
 mod numbers;
 
-pub use found::{selection, touched_by_marks};
+pub use found::touched_by_marks;
 pub use list::{Marks, marks_of};

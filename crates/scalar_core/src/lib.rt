@@ -15,5 +15,5 @@ mod tree;
 
 pub use cutting::cuts;
 pub use evaluation::eval;
-pub use sweeping::{first_named, is_sweepable, sweep_fault};
+pub use sweeping::{among, first_named, is_sweepable, names_any, sweep_fault};
 pub use tree::{AllenWord, CompareWord, Parts, Scalar, ScalarForm};

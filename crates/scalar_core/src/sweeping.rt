@@ -113,7 +113,7 @@ fn if_among(i: usize, acl: &[usize]) -> Option<usize>
 }
 
 /// Whether the expression names a listed attribute.
-pub(crate) fn names_any(e: &Scalar, acl: &[usize]) -> bool
+pub fn names_any(e: &Scalar, acl: &[usize]) -> bool
     ensures { result ≡ rules.names_any acl.now (read e.now) }
 {
     first_named(e, acl).is_some()
@@ -161,7 +161,7 @@ fn named_in_parts(p: &Parts, acl: &[usize]) -> Option<Place>
 }
 
 /// Whether the position is one of these.
-fn among(positions: &[usize], at: usize) -> bool
+pub fn among(positions: &[usize], at: usize) -> bool
     ensures { result ≡ among positions.now at }
 {
     positions.iter().any(|position| at == *position)

@@ -32,7 +32,7 @@ use Rattle.scalar_typing.specs.Names.{first_from, attribute_of, attribute_typed,
 use Rattle.scalar_typing.specs.Operators.{when, both_are, function_rule, sum_rule, product_rule, comparison_rule, pairing_rule, ends_of, selector_rule, not_rule, negate_rule, logic_typed}
 use Rattle.scalar_typing.specs.Scalars.{typed_scalar, typed_conj, typed_neg, typed_cmp, typed_sum, typed_prod, typed_sign, typed_primary}
 use Rattle.scalar_typing.proofs.DayLemmas.{is-day}
-use Rattle.scalar_typing.proofs.LiteralLemmas.{undated}
+use Rattle.utd_syntax.proofs.DateLemmas.{undated}
 use Rattle.scalar_typing.proofs.NameLemmas.{first-stands}
 use Rattle.scalar_typing.proofs.TypedLemmas.{IsTypedPart, Sound, or-refused, mapped, when-holds, one-part, two-parts, both-are, not-sound, negate-sound, function-sound, sum-sound, product-sound, comparison-sound, pairing-sound, selector-sound}
 

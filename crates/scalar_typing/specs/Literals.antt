@@ -5,12 +5,12 @@ use Rattle.point_core.specs.declared.fault.Place.{Place}
 use Rattle.point_core.specs.declared.fault.Code.TheVariants.{E06}
 use Rattle.point_core.specs.declared.any_type.AnyType.{AnyType}
 use Rattle.point_core.specs.declared.any_type.AnyType.TheVariants.{Integer, Date}
-use Rattle.point_core.specs.Dates.{date_number}
 use Rattle.point_core.specs.Faults.{OrFault}
 use Rattle.point_core.specs.Points.{line_of, first_of, last_of}
 use Rattle.utd_syntax.specs.declared.words.ExtremeWord.{ExtremeWord}
 use Rattle.utd_syntax.specs.declared.words.ExtremeWord.TheVariants.{First, Last}
 use Rattle.utd_syntax.specs.Literals.{value_of, is_date}
+pub use Rattle.utd_syntax.specs.Literals.{number_of_date}
 use Rattle.value_core.specs.declared.kind.Kind.TheVariants.{Truth, Char, Point}
 use Rattle.value_core.specs.Limits.{most_text_bytes}
 use Rattle.value_core.specs.Values.{truth, text, point}
@@ -33,12 +33,6 @@ is_utf8 bytes = nat_eq (utf8_valid_len bytes) (length bytes)
 -- a text that is not too long
 abbrev pub text_of : List ℕ → Option (List ℕ)
 text_of bytes = if is_utf8 bytes && nat_le (length bytes) most_text_bytes then Some bytes else None
-
--- the number of the date that is written as YYYY-MM-DD
-abbrev pub number_of_date : List ℕ → ℤ
-number_of_date (a ∷ b ∷ c ∷ d ∷ dash ∷ e ∷ f ∷ dash' ∷ g ∷ h ∷ []) =
-    date_number (value_of (a ∷ b ∷ c ∷ d ∷ [])) (value_of (e ∷ f ∷ [])) (value_of (g ∷ h ∷ []))
-number_of_date _ = pos 0
 
 abbrev pub date_of : List ℕ → Option ℤ
 date_of bytes = if is_date bytes then Some (number_of_date bytes) else None

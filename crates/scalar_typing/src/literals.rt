@@ -1,11 +1,10 @@
 // What literals stand for.
-ghost use Rattle.std.specs.Prelude.{◌≡◌, ◌≤◌, ◌^◌, Some, None, nat_le, option_map, if◌then◌else◌, IfOk};
+ghost use Rattle.std.specs.Prelude.{◌≡◌, option_map, IfOk};
 ghost use Rattle.point_core.specs.declared.fault.Stop.TheVariants.{Fault as Faulted};
 ghost use Rattle.point_core.specs.declared.fault.Code.TheVariants.{E06};
 ghost use Rattle.point_core.specs.Faults.{fault};
 ghost use Rattle.point_core.specs.declared.date_type.Day.{Day};
 ghost use Rattle.point_core.specs.Points.{line, line_of, number};
-ghost use Rattle.utd_syntax.specs.Literals.{value_of};
 ghost use Rattle.scalar_core.specs.Answers.{Gives};
 ghost use Rattle.scalar_typing.specs.Typings.{typed};
 ghost use Rattle.scalar_typing.specs.Literals as literals;
@@ -15,23 +14,8 @@ use point_core::{AnyPoint, AnyType, Code, Day, Fault, Memory, Place, PointType, 
 use scalar_core::ScalarForm;
 use std::alloc::Global;
 use std::str;
-use utd_syntax::ExtremeWord;
+use utd_syntax::{ExtremeWord, number_up_to};
 use value_core::{Kind, Text, Value};
-
-/// The number that the digits write, where it is at most that.
-fn number_up_to(most: u64, digits: &[u8]) -> Option<u64>
-    requires { most ≤ 2 ^ 63 }
-    ensures { result ≡ (if nat_le (value_of digits.now) most then Some (value_of digits.now) else None) }
-{
-    let mut value: u128 = 0;
-    for digit in digits {
-        value = 10 * value + u128::from(digit.saturating_sub(48));
-        if value > u128::from(most) {
-            return None;
-        }
-    }
-    Some(value as u64)
-}
 
 /// The integer of these digits.
 pub fn integer_of(digits: &[u8]) -> Option<i64>

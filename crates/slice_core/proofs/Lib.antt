@@ -1,6 +1,5 @@
 pub mod Steps
 pub mod Turns
-pub mod LeastFaultLemmas
 pub mod UnitedLemmas
 pub mod TwoSidesLemmas
 pub mod LabelRows

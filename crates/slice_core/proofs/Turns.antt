@@ -12,9 +12,9 @@ use Rattle.packing_core.specs.Live.{span_has, box, side_has, IsSliceRow, IsSomew
 use Rattle.packing_core.proofs.Inward.{HasSides, in_live_last, some_place}
 use Rattle.packing_core.proofs.AmongLemmas.{among_map}
 use Rattle.point_core.specs.declared.fault.Fault.{Fault}
-use Rattle.slice_core.proofs.LeastFaultLemmas.{not_after_itself, not_after_both}
+use Rattle.point_core.proofs.LeastFaultLemmas.{not_after_itself, not_after_both}
 use Rattle.point_core.specs.Orders.{fault_order}
-use Rattle.slice_core.specs.LeastFault.{fault_total, IsAtMost, IsLeast}
+use Rattle.point_core.specs.LeastFault.{fault_total, IsAtMost, IsLeast}
 use Rattle.slice_core.specs.declared.inward.IndexBox.{IndexBox}
 use Rattle.slice_core.specs.Rows.{sides_of, no_sides, own_numbers, AreRows, labels_of, GivesLabel, GivesFault, volume}
 use Rattle.slice_core.proofs.Steps.{split_at}

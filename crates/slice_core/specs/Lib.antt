@@ -1,5 +1,4 @@
 pub mod Rows
-pub mod LeastFault
 pub mod PackedRows
 pub mod Sweeps
 pub mod Parted

@@ -4,7 +4,7 @@ ghost use Rattle.std.specs.List.{All};
 ghost use Rattle.std.specs.List.Sorted.{IsStrictlySortedBy};
 ghost use Rattle.packing_core.specs.Covering.{Among};
 ghost use Rattle.packing_core.specs.Live.{IsSliceRow, IsSomewhere};
-ghost use Rattle.slice_core.specs.LeastFault.{IsLeast};
+ghost use Rattle.point_core.specs.LeastFault.{IsLeast};
 ghost use Rattle.slice_core.specs.Rows.{sides_of, key_cmp, tag, with_last, no_sides, own_numbers as own_numbers_of, AreRows, labels_of, GivesLabel, GivesFault, volume};
 
 use crate::cell_op::CellOp;
@@ -93,16 +93,6 @@ fn bare_keys<P: Drop>(alloc: Global, labels: Vec<P>) -> Result<Vec<Key<P>>, Memo
     Ok(out)
 }
 
-// The lesser of the fault so far and one more.
-fn lesser(least: Option<Fault>, e: Fault) -> Fault
-    ensures { IsLeast (λ d. (least ≡ Some d) ⊎ (e ≡ d)) (Some result) }
-{
-    match least {
-        None => e,
-        Some(d) => d.min(e),
-    }
-}
-
 // The labels at a place of no sides.
 pub fn leaf<O: CellOp, L: Ledger>(
     alloc: Global,
@@ -126,7 +116,7 @@ pub fn leaf<O: CellOp, L: Ledger>(
             Ok(rows)
         }
         Err(Stop::Fault(e)) => {
-            *least = Some(lesser(*least, e));
+            *least = Some(Fault::least_of(*least, e));
             Ok(Vec::new(alloc))
         }
         Err(Stop::Memory) => Err(Memory),

@@ -1,21 +1,13 @@
 // Guards of conditions: conditions that tell of a row that another one is FALSE at all of its points.
 ghost use Rattle.std.specs.Prelude.{◌≡◌, IfOk, option_map};
 ghost use Rattle.scalar_core.specs.Expressions.{read, read_left, read_right, and_expr, or_expr};
-ghost use Rattle.scalar_core.specs.Sweeping.{names_any};
 ghost use Rattle.u_changes.specs.Guards as rules;
 ghost use Rattle.u_changes.specs.Guards.{IsTypedSomewhere};
 
 use crate::safety::is_safe;
 use point_core::{Memory, Place};
-use scalar_core::{Parts, Scalar, ScalarForm, first_named};
+use scalar_core::{Parts, Scalar, ScalarForm, names_any};
 use std::alloc::Global;
-
-/// Whether the expression names a listed attribute.
-fn names_any(e: &Scalar, acl: &[usize]) -> bool
-    ensures { result ≡ names_any acl.now (read e.now) }
-{
-    first_named(e, acl).is_some()
-}
 
 /// Two parts.
 fn parts(alloc: Global, left: Scalar, right: Scalar) -> Result<Parts, Memory>

@@ -15,16 +15,20 @@ ghost use Rattle.u_changes.specs.Guards.{stays, AreTold};
 
 use crate::fronts::front;
 use point_core::{Label, Memory, Stop};
+use relation_core::{keep, selection};
 use row_making::holds;
-use row_marks::{Marks, selection};
+use row_marks::Marks;
 use scalar_core::Scalar;
 use std::alloc::Global;
 use u_constraints::{touched_with, with_front};
 use u_set::outside;
 use value_core::{Relation, Row};
 
-/// So many rows are tried to see whether a change concerns few.
-const MOST_TRIED: usize = 64;
+/// So many rows at most are tried to see whether a change concerns few.
+const MOST_TRIED_ROWS: usize = 64;
+
+/// The rows that a change concerns seem to be many where they are more than one of so many that are tried.
+const TRIED_ROWS_FOR_ONE: usize = 4;
 
 /// Whether the condition is other than FALSE of the row.
 fn stays(alloc: Global, g: &Scalar, row: &Row) -> Result<bool, Memory>
@@ -36,16 +40,6 @@ fn stays(alloc: Global, g: &Scalar, row: &Row) -> Result<bool, Memory>
         Err(Stop::Fault(_)) => Ok(true),
         Err(Stop::Memory) => Err(Memory),
     }
-}
-
-/// Adds a copy of the row, if it is kept.
-fn keep(alloc: Global, rows: &mut Vec<Row>, row: &Row, kept: bool) -> Result<(), Memory>
-    ensures { OnOk result (rows.new.items ≡ rows.old.items ++ (if kept then row.now ∷ [] else [])) }
-{
-    if kept {
-        rows.push(row.copy(alloc)?)?;
-    }
-    Ok(())
 }
 
 /// The rows of which the condition is other than FALSE.
@@ -131,14 +125,14 @@ fn stays_at(alloc: Global, g: &Scalar, rows: &[Row], at: usize) -> Result<bool, 
 fn seem_many(alloc: Global, g: &Scalar, rows: &[Row]) -> Result<bool, Memory>
     requires { All (λ row. IsConditionOver row (read g.now)) rows.now }
 {
-    let step = (rows.len() / MOST_TRIED).max(1);
+    let step = (rows.len() / MOST_TRIED_ROWS).max(1);
     let mut many: usize = 0;
-    for number in 0..MOST_TRIED {
+    for number in 0..MOST_TRIED_ROWS {
         if stays_at(alloc, g, rows, step.saturating_mul(number))? {
             many = many.saturating_add(1);
         }
     }
-    Ok(many > rows.len().min(MOST_TRIED) / 4)
+    Ok(many > rows.len().min(MOST_TRIED_ROWS) / TRIED_ROWS_FOR_ONE)
 }
 
 /// The rows of the relation that have the label of a row of which the condition is other than FALSE, unless these seem to be many.

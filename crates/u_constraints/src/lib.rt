@@ -21,4 +21,4 @@ pub use beginning::with_front;
 pub use constraints::holds;
 pub use growth::{holds_beside, holds_with};
 pub use positions::are_all;
-pub use search::{touched_by, touched_with};
+pub use search::{ROWS_PASSED_FOR_ONE_SOUGHT, touched_by, touched_with};

@@ -11,10 +11,13 @@ ghost use Rattle.u_constraints.specs.Fronts.{begins_with, counts_from};
 use crate::beginning::with_front;
 use crate::fronts::are_first;
 use point_core::{Label, Memory};
-use relation_core::{sorted_parts, touched};
-use row_marks::{Marks, selection, touched_by_marks};
+use relation_core::{selection, sorted_parts, touched};
+use row_marks::{Marks, touched_by_marks};
 use std::alloc::Global;
 use value_core::{Heading, Relation, Row, RowsRefuse};
+
+/// To seek one row costs about as much as to pass over so many.
+pub const ROWS_PASSED_FOR_ONE_SOUGHT: usize = 16;
 
 /// Whether some row has these first values. The rows are in order.
 fn is_front(rows: &[Row], values: &Row) -> bool
@@ -97,7 +100,7 @@ fn touched_in_front(
 pub(crate) fn are_few(few: &Relation, many: &Relation) -> bool
     ensures { IsRelation few.now × IsRelation many.now }
 {
-    few.rows().len() < many.rows().len() / 16
+    few.rows().len() < many.rows().len() / ROWS_PASSED_FOR_ONE_SOUGHT
 }
 
 /// Whether one of the relations has no rows, so that no row of the one has values of a row of the other.

@@ -20,7 +20,7 @@ use Rattle.packing_core.specs.Live.{has_place}
 use Rattle.packing_core.proofs.AmongLemmas.{among_filter}
 use Rattle.packing_core.proofs.Numbered.{other_default}
 use Rattle.packing_core.proofs.Same.{same_sorted}
-use Rattle.slice_core.specs.LeastFault.{IsLeast}
+use Rattle.point_core.specs.LeastFault.{IsLeast}
 use Rattle.slice_core.specs.Rows.{AreRows}
 use Rattle.slice_core.proofs.Sweeping.{ascending}
 use Rattle.slice_core.proofs.Turns.{AreRows-filter, all_below, least_iff}

@@ -4,7 +4,7 @@ ghost use Rattle.std.specs.List.{All};
 ghost use Rattle.point_core.specs.declared.fault.Fault.{Fault as AnyFault};
 ghost use Rattle.packing_core.specs.Boxed.{Boxed};
 ghost use Rattle.value_core.specs.Values.{Row as PlainRow, row_cmp};
-ghost use Rattle.slice_core.specs.LeastFault.{IsLeast};
+ghost use Rattle.point_core.specs.LeastFault.{IsLeast};
 ghost use Rattle.slice_core.specs.Rows.{AreRows};
 ghost use Rattle.cell_core.specs.Boxes.{IsBox};
 ghost use Rattle.cell_core.specs.Cells.{row_numbers};

@@ -12,9 +12,9 @@ mod needed;
 mod picked;
 mod places;
 mod shared;
+mod tuning;
 
 pub use joining::u_join;
 pub use joins::joined;
 pub use matches::{matched, unmatched};
 pub use matching::{u_matching, u_not_matching};
-pub use names::position;

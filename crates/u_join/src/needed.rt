@@ -4,6 +4,7 @@ ghost use Rattle.std.specs.List.{All};
 ghost use Rattle.value_core.specs.Values.{row_cmp};
 ghost use Rattle.cell_kernels.specs.Fewer.{IsSameOrPacked};
 
+use crate::tuning::{FEW_RIGHTS, FEWEST_TRIED, MANY_LABELS, TRIED_ROWS};
 use cell_kernels::fewer_rows;
 use point_core::{Label, Memory};
 use slice_core::Key;
@@ -11,17 +12,6 @@ use std::alloc::Global;
 use std::cmp::Ordering;
 use u_set::part_of_label;
 use value_core::Row;
-
-// So many rows are tried, drawn at random; so many rights within one of them are few, and so many labels of them tell that there
-// are hundreds.
-const TRIED: usize = 64;
-
-const FEW: usize = 4;
-
-const MANY_LABELS: usize = 60;
-
-// Of fewer rows than these none is tried.
-const FEWEST: usize = 512;
 
 // The cells on the first side.
 fn first_cells(row: &Key<Row>) -> (usize, usize) {
@@ -55,9 +45,9 @@ fn next(seed: u64) -> u64 {
 
 // The places of the rows that are tried, of so many.
 fn tried(alloc: Global, count: usize) -> Result<Vec<usize>, Memory> {
-    let mut places = Vec::with_capacity(alloc, TRIED)?;
+    let mut places = Vec::with_capacity(alloc, TRIED_ROWS)?;
     let mut seed = 1;
-    for _turn in 0..TRIED {
+    for _turn in 0..TRIED_ROWS {
         seed = next(seed);
         places.push((seed >> 33) as usize % count.max(1))?;
     }
@@ -95,7 +85,7 @@ fn meet_few(
             found = found.saturating_add(own);
         }
     }
-    Ok(found <= TRIED * FEW)
+    Ok(found <= TRIED_ROWS * FEW_RIGHTS)
 }
 
 // Whether the left rows seem to have many labels and to meet few rights.
@@ -127,7 +117,7 @@ pub(crate) fn fewer_where_many(
     ensures rows { IfOk result (λ v. IsSameOrPacked row_cmp sides lefts.items v.items) }
     ensures sides { IfOk result (λ v. All (λ x. length x.1 ≡ sides) v.items) }
 {
-    if sides == 1 && lefts.len() >= FEWEST {
+    if sides == 1 && lefts.len() >= FEWEST_TRIED {
         let few = seem_few(alloc, lefts.as_slice(), positions, rights)?;
         if few {
             return Ok(lefts);

@@ -4,12 +4,13 @@ ghost use Rattle.std.specs.List.{All};
 ghost use Rattle.relation_core.specs.Agreement.{common_positions};
 ghost use Rattle.relation_core.specs.Parts.{positions_in};
 ghost use Rattle.u_row.specs.Kept.{inner};
-ghost use Rattle.u_join.specs.Places.{positions_of_both};
+ghost use Rattle.u_join.specs.Places.{most_of_both, positions_of_both};
 ghost use Rattle.u_join.specs.Shared.{left_positions, right_positions};
 
-use crate::names::{common_positions, joined_places};
+use crate::names::joined_places;
 use crate::shared::paired;
 use point_core::Memory;
+use relation_core::common_positions;
 use std::alloc::Global;
 use u_row::inner;
 use value_core::{Kind, Name};
@@ -52,8 +53,8 @@ fn positions_of_both(
     here: &[usize],
     there: &[usize],
 ) -> Result<Vec<usize>, Memory>
-    requires size { size ≤ 64 }
-    requires there { All (λ (i : ℕ). i ≤ 64) there.now }
+    requires size { size ≤ most_of_both }
+    requires there { All (λ (i : ℕ). i ≤ most_of_both) there.now }
     ensures { IfOk result (λ v. v.items ≡ positions_of_both size here.now there.now) }
 {
     let mut list = Vec::with_capacity(alloc, here.len())?;
@@ -73,7 +74,7 @@ pub(crate) fn label_places(
     here: &[usize],
     there: &[usize],
 ) -> Result<Vec<usize>, Memory>
-    requires few { length left.now + length right.now ≤ 64 }
+    requires few { length left.now + length right.now ≤ most_of_both }
     requires there { All (λ (i : ℕ). i < length right.now) there.now }
     ensures { IfOk result (λ v. v.items ≡ inner (positions_of_both (length left.now) here.now there.now) (positions_in (left.now ++ right.now) heading.now)) }
 {

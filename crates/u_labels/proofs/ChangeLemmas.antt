@@ -18,7 +18,8 @@ use Rattle.point_core.specs.Faults.{OrFault}
 use Rattle.value_core.specs.Order.{row_total, row_separates}
 use Rattle.value_core.specs.RowPacking.{packed, unpacked}
 use Rattle.value_core.specs.Values.{Row, Heading, row_cmp}
-use Rattle.relation_core.specs.Faults.{fault_of, lesser_of}
+use Rattle.point_core.specs.LeastFault.{lesser_of}
+use Rattle.relation_core.specs.Faults.{fault_of}
 use Rattle.relation_core.specs.Growth.{touched}
 use Rattle.relation_core.specs.Operators.{fault_order, is_true, restricted, subtracted, united}
 use Rattle.packing_core.specs.Packed.{firsts}

@@ -20,7 +20,7 @@ use relation_core::{absent, minus, union};
 use row_marks::Marks;
 use std::alloc::Global;
 use std::sync::ledger::Ledger;
-use u_constraints::touched_with;
+use u_constraints::{ROWS_PASSED_FOR_ONE_SOUGHT, touched_with};
 use u_set::{outside, united};
 use value_core::{Relation, RowsRefuse};
 
@@ -87,7 +87,7 @@ fn without(alloc: Global, left: &Relation, right: &Relation) -> Result<Relation,
     ensures rows { IfOk result (λ r. (r.heading ≡ left.now.heading) × (r.rows ≡ subtracted left.now.rows right.now.rows)) }
     ensures relations { IsRelation left.now × IsRelation right.now }
 {
-    if left.rows().len() < right.rows().len() / 16 {
+    if left.rows().len() < right.rows().len() / ROWS_PASSED_FOR_ONE_SOUGHT {
         return absent(alloc, left, right);
     }
     // some rows of a relation are not too many

@@ -19,7 +19,7 @@ use Rattle.packing_core.specs.Covering.{Among}
 use Rattle.packing_core.specs.Packed.{Has, firsts, points_of}
 use Rattle.packing_core.proofs.AmongLemmas.{among_append}
 use Rattle.packing_core.proofs.PackedBoxes.{in_packed_form, packed_ascends}
-use Rattle.slice_core.specs.LeastFault.{IsLeast}
+use Rattle.point_core.specs.LeastFault.{IsLeast}
 use Rattle.cell_core.specs.Boxes.{IsBox}
 use Rattle.cell_core.specs.Cells.{box_numbers, row_numbers}
 use Rattle.cell_core.specs.Costs.{bound, side_cost}

@@ -8,7 +8,7 @@ use Rattle.interval_core.specs.Members.{Span}
 use Rattle.packing_core.specs.Covering.{Among}
 use Rattle.packing_core.specs.Packed.{firsts}
 use Rattle.packing_core.proofs.AmongLemmas.{among_append}
-use Rattle.slice_core.specs.LeastFault.{IsLeast}
+use Rattle.point_core.specs.LeastFault.{IsLeast}
 use Rattle.cell_core.specs.Cells.{box_numbers, boxes_of, row_numbers}
 use Rattle.u_row.specs.Rules.{given, labelled}
 use Rattle.u_row.proofs.RuleLemmas.{least_chain, least_same}

@@ -5,7 +5,7 @@ ghost use Rattle.point_core.specs.declared.fault.Fault.{Fault as AnyFault};
 ghost use Rattle.interval_core.specs.Members.{Span};
 ghost use Rattle.packing_core.specs.Boxed.{InBoxes};
 ghost use Rattle.value_core.specs.Values.{Row as PlainRow, row_cmp};
-ghost use Rattle.slice_core.specs.LeastFault.{IsLeast};
+ghost use Rattle.point_core.specs.LeastFault.{IsLeast};
 ghost use Rattle.cell_core.specs.Boxes.{IsBox};
 ghost use Rattle.cell_core.specs.Cells.{row_numbers};
 ghost use Rattle.cell_core.specs.Costs.{bound};

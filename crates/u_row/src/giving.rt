@@ -4,7 +4,7 @@ ghost use Rattle.std.specs.List.{All};
 ghost use Rattle.interval_core.specs.Members.{Span};
 ghost use Rattle.packing_core.specs.Covering.{Among};
 ghost use Rattle.packing_core.specs.Packed.{firsts};
-ghost use Rattle.slice_core.specs.LeastFault.{IsLeast};
+ghost use Rattle.point_core.specs.LeastFault.{IsLeast};
 ghost use Rattle.cell_core.specs.Boxes.{IsBox};
 ghost use Rattle.cell_core.specs.Cells.{box_numbers, boxes_of, row_numbers};
 ghost use Rattle.u_row.specs.Cutting.{cells_of};
@@ -15,16 +15,6 @@ use cell_core::{BoxRow, Sides};
 use point_core::{Fault, Memory, PointType, Stop};
 use std::alloc::Global;
 use value_core::Row;
-
-// The lesser of the fault so far and one more.
-fn lesser(least: Option<Fault>, e: Fault) -> Fault
-    ensures { IsLeast (λ d. (least ≡ Some d) ⊎ (e ≡ d)) (Some result) }
-{
-    match least {
-        None => e,
-        Some(d) => d.min(e),
-    }
-}
 
 /// Adds the cell under the label that the rule gives on it, if it gives one. A fault counts where it is the least.
 fn give_cell<T: PointType, R: RowRule<T>>(
@@ -48,7 +38,7 @@ fn give_cell<T: PointType, R: RowRule<T>>(
         }
         Ok(None) => Ok(()),
         Err(Stop::Fault(e)) => {
-            *least = Some(lesser(*least, e));
+            *least = Some(Fault::least_of(*least, e));
             Ok(())
         }
         Err(Stop::Memory) => Err(Memory),

@@ -4,7 +4,7 @@ ghost use Rattle.std.specs.List.{All};
 ghost use Rattle.packing_core.specs.Boxed.{InBoxes};
 ghost use Rattle.packing_core.specs.Packed.{Has};
 ghost use Rattle.value_core.specs.Values.{Row as PlainRow};
-ghost use Rattle.slice_core.specs.LeastFault.{IsLeast};
+ghost use Rattle.point_core.specs.LeastFault.{IsLeast};
 ghost use Rattle.cell_core.specs.Boxes.{IsBox};
 ghost use Rattle.cell_core.specs.Cells.{box_numbers, row_numbers};
 ghost use Rattle.u_row.specs.Cutting.{cells_of, cuts_from};

@@ -16,7 +16,7 @@ use Rattle.packing_core.specs.Live.{has_place}
 use Rattle.packing_core.proofs.AmongLemmas.{among_filter}
 use Rattle.packing_core.proofs.Numbered.{other_default}
 use Rattle.slice_core.proofs.Turns.{AreRows-filter, least_iff}
-use Rattle.slice_core.specs.LeastFault.{IsLeast}
+use Rattle.point_core.specs.LeastFault.{IsLeast}
 use Rattle.point_core.specs.declared.fault.Fault.{Fault}
 use Rattle.box_core.specs.Answers.{KeyedBox}
 use Rattle.box_core.specs.Common.{At, EndsBy}

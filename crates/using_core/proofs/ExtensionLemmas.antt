@@ -15,12 +15,12 @@ use Rattle.value_core.specs.RowPacking.{packed, unpacked}
 use Rattle.value_core.specs.Values.{Name, Row, Value, Heading, truth, row_cmp, rows_of, fits_heading}
 use Rattle.scalar_core.specs.Expressions.{Expr}
 use Rattle.scalar_core.specs.ScalarValues.{value}
-use Rattle.slice_core.specs.LeastFault.{fault_total, IsLeast}
+use Rattle.point_core.specs.LeastFault.{fault_total, IsLeast}
 use Rattle.relation_core.specs.Agreement.{part_of}
 use Rattle.relation_core.specs.Operators.{extended, fault_order}
 use Rattle.tree_core.specs.Trees.{PlainSets}
 use Rattle.packing_core.specs.Boxed.{Boxed}
-use Rattle.slice_core.specs.LeastFault.{IsLeast}
+use Rattle.point_core.specs.LeastFault.{IsLeast}
 use Rattle.u_set.specs.Boxes.{IsShaped, spans_at}
 use Rattle.u_set.proofs.BoxLemmas.{shaped_from_fit, value_at-get}
 use Rattle.u_set.proofs.BridgeLemmas.{AreRowsOf}

@@ -11,8 +11,8 @@ use Rattle.point_core.specs.Orders.{fault_order}
 use Rattle.point_core.specs.declared.fault.Fault.{Fault}
 use Rattle.point_core.specs.declared.fault.Code.{Code}
 use Rattle.point_core.specs.declared.fault.Code.TheVariants.{E01, E02, E03, E04, E05, E06, E10, E11, E12, E13, E14, E15, E16, E17, E18, E19, E20, E21, E22, E30, E31, E32, E33, E34, E35, E36, E40, E41, E42, E43, E44, E46}
-use Rattle.slice_core.specs.LeastFault.{fault_total, IsLeast}
-use Rattle.slice_core.proofs.LeastFaultLemmas.{least_first, least_min, not_after_itself}
+use Rattle.point_core.specs.LeastFault.{fault_total, IsLeast}
+use Rattle.point_core.proofs.LeastFaultLemmas.{least_first, least_min, not_after_itself}
 use Rattle.u_row.proofs.RuleLemmas.{least_chain, least_same}
 
 -- ---- faults that tie are one

@@ -27,7 +27,7 @@ use Rattle.scalar_core.specs.Operations.{is_true}
 use Rattle.scalar_core.proofs.AtPlaceLemmas.{at_place-fits}
 use Rattle.scalar_core.proofs.PointLemmas.{and_left, and_right, both_true, le-int_le, number-is_number}
 use Rattle.scalar_core.proofs.SweepLemmas.{span_there}
-use Rattle.slice_core.specs.LeastFault.{IsLeast}
+use Rattle.point_core.specs.LeastFault.{IsLeast}
 use Rattle.relation_core.specs.Parts.{kind_at}
 use Rattle.cell_core.specs.Cells.{box_numbers}
 use Rattle.cell_core.specs.Numbering.{numbers_of}

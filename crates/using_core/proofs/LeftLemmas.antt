@@ -23,7 +23,7 @@ use Rattle.value_core.specs.Values.{Row, Heading, Relation, IsRelation, row_cmp,
 use Rattle.scalar_core.specs.Expressions.{Expr}
 use Rattle.relation_core.specs.Answers.{Answers, under}
 use Rattle.relation_core.specs.Operators.{restricted}
-use Rattle.slice_core.specs.LeastFault.{IsLeast}
+use Rattle.point_core.specs.LeastFault.{IsLeast}
 use Rattle.u_set.specs.Boxes.{AreIntervals, IsShaped, boxed, spans_at}
 use Rattle.u_set.proofs.BoxLemmas.{shaped_from_fit}
 use Rattle.u_set.proofs.BridgeLemmas.{same_places}

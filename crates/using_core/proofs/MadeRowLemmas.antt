@@ -11,7 +11,7 @@ use Rattle.value_core.specs.Values.{Row, Heading, Relation, IsRelation, row_cmp,
 use Rattle.relation_core.specs.Operators.{extended, fault_order}
 use Rattle.tree_core.specs.Trees.{PlainSets}
 use Rattle.packing_core.specs.Boxed.{Boxed}
-use Rattle.slice_core.specs.LeastFault.{IsLeast}
+use Rattle.point_core.specs.LeastFault.{IsLeast}
 use Rattle.u_set.specs.Boxes.{IsShaped, spans_at}
 use Rattle.u_set.proofs.BridgeLemmas.{AreRowsOf}
 use Rattle.u_set.proofs.RelationLemmas.{relation_shaped, too_many}

@@ -15,7 +15,7 @@ use Rattle.scalar_core.specs.Kinds.{IsTyped}
 use Rattle.scalar_core.specs.Sweeping.{IsSweepable}
 use Rattle.relation_core.specs.Operators.{restricted, is_true}
 use Rattle.packing_core.specs.Boxed.{Boxed}
-use Rattle.slice_core.specs.LeastFault.{IsLeast}
+use Rattle.point_core.specs.LeastFault.{IsLeast}
 use Rattle.cell_core.specs.Boxes.{IsBox}
 use Rattle.cell_core.specs.Cells.{row_numbers}
 use Rattle.u_set.specs.Boxes.{AreIntervals, IsShaped, types_at, spans_at, boxed}

@@ -15,7 +15,7 @@ use Rattle.value_core.specs.Values.{Row}
 use Rattle.scalar_core.specs.AtPlaces.{IsWithin}
 use Rattle.scalar_core.specs.Cuts.{IsBeside}
 use Rattle.scalar_core.specs.Expressions.{Expr}
-use Rattle.slice_core.specs.LeastFault.{IsLeast}
+use Rattle.point_core.specs.LeastFault.{IsLeast}
 use Rattle.cell_core.specs.Cells.{box_numbers}
 use Rattle.cell_core.specs.Numbering.{numbers_of}
 use Rattle.u_row.specs.Cutting.{AreCuts, pieces}

@@ -15,7 +15,7 @@ use Rattle.value_core.specs.Values.{Row, Heading, row_cmp}
 use Rattle.scalar_core.specs.Expressions.{Expr}
 use Rattle.relation_core.specs.Operators.{restricted, is_true}
 use Rattle.packing_core.specs.Boxed.{Boxed, InBoxes}
-use Rattle.slice_core.specs.LeastFault.{IsLeast}
+use Rattle.point_core.specs.LeastFault.{IsLeast}
 use Rattle.u_set.specs.Boxes.{AreIntervals, IsShaped, spans_at, boxed}
 use Rattle.u_set.proofs.BridgeLemmas.{AreRowsOf, unpacked_ascends, unpacked_image, boxes_have, packed_rows, closed_by_boxes}
 use Rattle.u_row.specs.Rules.{InRule, HasRuleFault, IsRuleForm}

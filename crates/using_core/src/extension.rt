@@ -10,7 +10,7 @@ ghost use Rattle.value_core.specs.Values.{IsRelation, Heading as PlainHeading, r
 ghost use Rattle.relation_core.specs.Answers.{Answers, under};
 ghost use Rattle.relation_core.specs.Operators.{extended};
 ghost use Rattle.tree_core.specs.Trees.{read_sets};
-ghost use Rattle.slice_core.specs.LeastFault.{IsLeast};
+ghost use Rattle.point_core.specs.LeastFault.{IsLeast};
 ghost use Rattle.cell_core.specs.Boxes.{IsBox};
 ghost use Rattle.cell_core.specs.Cells.{row_numbers};
 ghost use Rattle.cell_core.specs.Costs.{bound};

@@ -22,7 +22,7 @@ ghost use Rattle.scalar_core.specs.Sweeping.{IsSweepable};
 ghost use Rattle.relation_core.specs.Answers.{under};
 ghost use Rattle.relation_core.specs.Operators.{restricted};
 ghost use Rattle.relation_core.specs.Parts.{kind_at};
-ghost use Rattle.slice_core.specs.LeastFault.{IsLeast};
+ghost use Rattle.point_core.specs.LeastFault.{IsLeast};
 ghost use Rattle.cell_core.specs.Cells.{box_numbers};
 ghost use Rattle.cell_core.specs.Numbering.{numbers_of};
 ghost use Rattle.scalar_core.specs.AtPlaces.{HasSpanAt, IsWithin};
@@ -56,16 +56,6 @@ fn with_interval(alloc: Global, row: &Row, at: usize, i: &Interval<AnyType>) -> 
     Ok(Row::make(values))
 }
 
-// The lesser of the fault so far and one more.
-fn lesser(least: Option<Fault>, e: Fault) -> Fault
-    ensures { IsLeast (λ d. (least ≡ Some d) ⊎ (e ≡ d)) (Some result) }
-{
-    match least {
-        None => e,
-        Some(d) => d.min(e),
-    }
-}
-
 // Adds the part to the runs where the condition holds at its first point. A fault there counts where it is the least.
 fn ask(
     alloc: Global,
@@ -89,7 +79,7 @@ fn ask(
         Ok(true) => add_part(runs, part),
         Ok(false) => Ok(()),
         Err(Stop::Fault(e)) => {
-            *least = Some(lesser(*least, e));
+            *least = Some(Fault::least_of(*least, e));
             Ok(())
         }
         Err(Stop::Memory) => Err(Memory),

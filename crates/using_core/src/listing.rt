@@ -5,8 +5,7 @@ ghost use Rattle.using_core.specs.Using.{listed};
 
 use point_core::Memory;
 use std::alloc::Global;
-use u_join::position;
-use value_core::{Kind, Name};
+use value_core::{Kind, Name, position};
 
 /// The positions among an operand's attributes of those that are listed by their positions in a heading.
 pub fn listed(

@@ -13,7 +13,7 @@ ghost use Rattle.scalar_core.specs.Kinds.{IsTyped};
 ghost use Rattle.scalar_core.specs.Sweeping.{IsSweepable};
 ghost use Rattle.relation_core.specs.Answers.{Answers, under};
 ghost use Rattle.relation_core.specs.Operators.{restricted};
-ghost use Rattle.slice_core.specs.LeastFault.{IsLeast};
+ghost use Rattle.point_core.specs.LeastFault.{IsLeast};
 ghost use Rattle.cell_core.specs.Boxes.{IsBox};
 ghost use Rattle.cell_core.specs.Cells.{row_numbers};
 ghost use Rattle.cell_core.specs.Costs.{bound};

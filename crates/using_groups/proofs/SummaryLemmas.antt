@@ -20,7 +20,7 @@ use Rattle.interval_core.specs.Members.{Span, at_point}
 use Rattle.packing_core.specs.Boxed.{Boxed, InBoxes}
 use Rattle.packing_core.specs.Packed.{Has}
 use Rattle.packing_core.proofs.PackedBoxes.{among_in}
-use Rattle.slice_core.specs.LeastFault.{fault_total, IsLeast}
+use Rattle.point_core.specs.LeastFault.{fault_total, IsLeast}
 use Rattle.slice_core.specs.Rows.{AreRows}
 use Rattle.value_core.specs.Attributes.{among}
 use Rattle.value_core.specs.Order.{row_total, row_separates}

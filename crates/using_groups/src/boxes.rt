@@ -6,7 +6,7 @@ ghost use Rattle.point_core.specs.declared.fault.Fault.{Fault as AnyFault};
 ghost use Rattle.packing_core.specs.Boxed.{Boxed};
 ghost use Rattle.value_core.specs.Values.{IsRelation, Row as PlainRow, row_cmp, most_rows};
 ghost use Rattle.tree_core.specs.Trees.{read_aggregate};
-ghost use Rattle.slice_core.specs.LeastFault.{IsLeast};
+ghost use Rattle.point_core.specs.LeastFault.{IsLeast};
 ghost use Rattle.cell_core.specs.Boxes.{IsBox};
 ghost use Rattle.cell_core.specs.Cells.{row_numbers};
 ghost use Rattle.cell_core.specs.Costs.{bound};

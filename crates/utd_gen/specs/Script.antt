@@ -2,9 +2,14 @@
 --     tuple_text      the tuple of a number
 --     insert_line     the line that inserts the tuples of consecutive numbers
 --     script_of       the script of a number
+--     most_tuples     the greatest number of a script, the constant of the code that has its name in capitals
 use Rattle.std.specs.Prelude.{ℕ, ◌+◌, ◌-◌, ◌*◌, ◌%◌, min, List, ◌∷◌, ◌++◌, codes, decimal}
 use Rattle.std.specs.Int.{div_ceil}
 use Rattle.std.specs.List.{flat_map, join_by, range_with_len}
+use Rattle.utd_gen.specs.declared.script.TheConstants as constants
+
+abbrev pub most_tuples : ℕ
+most_tuples = constants.MOST_TUPLES
 
 abbrev pub interval_text : ℕ → ℕ → List ℕ
 interval_text begin end = 91 ∷ decimal begin ++ 58 ∷ decimal end ++ codes "]"

@@ -3,4 +3,4 @@
 
 mod script;
 
-pub use script::script_of;
+pub use script::{MOST_TUPLES, script_of};

@@ -2,11 +2,14 @@
 ghost use Rattle.std.specs.Prelude.{◌≡◌, ◌<◌, ◌≤◌, ◌++◌, IfOk, OnOk, decimal};
 ghost use Rattle.std.specs.List.{flat_map, range_with_len};
 ghost use Rattle.utd_gen.specs.Script.{interval_text, tuple_text, tuples_text, insert_line};
-ghost use Rattle.utd_gen.specs.Script.{thousand_line, thousands, script_of};
+ghost use Rattle.utd_gen.specs.Script.{most_tuples, thousand_line, thousands, script_of};
 
 use itoa::Buffer;
 use point_core::Memory;
 use std::alloc::Global;
+
+/// The most tuples of a generated script.
+pub const MOST_TUPLES: u16 = 30_000;
 
 /// Writes a number.
 fn put_number(out: &mut Vec<u8>, number: u32) -> Result<(), Memory>
@@ -32,7 +35,7 @@ fn put_interval(out: &mut Vec<u8>, begin: u32, end: u32) -> Result<(), Memory>
 /// Writes the tuple of a number.
 #[tactic(auto, unfolding(crate::specs::Script::tuple_text))]
 fn put_tuple(out: &mut Vec<u8>, number: u32) -> Result<(), Memory>
-    requires { number < 30000 }
+    requires { number < most_tuples }
     ensures { OnOk result (out.new.items ≡ out.old.items ++ tuple_text number) }
 {
     out.extend_from_slice(b"TUPLE {K ")?;
@@ -47,7 +50,7 @@ fn put_tuple(out: &mut Vec<u8>, number: u32) -> Result<(), Memory>
 #[tactic(auto, unfolding(crate::specs::Script::tuples_text))]
 fn put_tuples(out: &mut Vec<u8>, begin: u32, end: u32) -> Result<(), Memory>
     requires some { begin < end }
-    requires most { end ≤ 30000 }
+    requires most { end ≤ most_tuples }
     ensures { OnOk result (out.new.items ≡ out.old.items ++ tuples_text begin end) }
 {
     put_tuple(out, begin)?;
@@ -62,7 +65,7 @@ fn put_tuples(out: &mut Vec<u8>, begin: u32, end: u32) -> Result<(), Memory>
 #[tactic(auto, unfolding(crate::specs::Script::insert_line))]
 fn put_insert(out: &mut Vec<u8>, begin: u32, end: u32) -> Result<(), Memory>
     requires some { begin < end }
-    requires most { end ≤ 30000 }
+    requires most { end ≤ most_tuples }
     ensures { OnOk result (out.new.items ≡ out.old.items ++ insert_line begin end) }
 {
     out.extend_from_slice(b"USING (D): INSERT GEN RELATION {")?;
@@ -73,7 +76,7 @@ fn put_insert(out: &mut Vec<u8>, begin: u32, end: u32) -> Result<(), Memory>
 
 /// Writes the lines that insert the tuples of the numbers below `n`.
 fn put_inserts(out: &mut Vec<u8>, n: u32) -> Result<(), Memory>
-    requires { n ≤ 30000 }
+    requires { n ≤ most_tuples }
     ensures { OnOk result (out.new.items ≡
         out.old.items ++ flat_map (thousand_line n) (range_with_len 0 (thousands n))) }
 {
@@ -88,7 +91,7 @@ fn put_inserts(out: &mut Vec<u8>, n: u32) -> Result<(), Memory>
 /// statements ask how many there are, how many pairs of them meet, and when there is any.
 #[tactic(auto, unfolding(crate::specs::Script::script_of))]
 pub fn script_of(alloc: Global, n: u32) -> Result<Vec<u8>, Memory>
-    requires { n ≤ 30000 }
+    requires { n ≤ most_tuples }
     ensures { IfOk result (λ script. script.items ≡ script_of n) }
 {
     let mut out = Vec::from_slice(

@@ -1,7 +1,9 @@
 // The cut of a script's bytes into statements.
 ghost use Rattle.std.specs.Prelude.{◌≡◌, ◌↔◌, ℕ, List, [], ◌∷◌, ◌++◌, true};
-ghost use Rattle.utd_lexer.specs.Parts.{IsWhole, is_space, IsBlank};
+ghost use Rattle.utd_lexer.specs.Parts.{IsWhole, IsBlank};
 ghost use Rattle.utd_lexer.specs.Cutting.{next, is_outside, blank_next, is_resting, Since, since_then};
+
+use crate::space::is_space;
 
 /// What a byte does to the statement that it stands in.
 #[derive(Clone, Copy, Debug, PartialEq, Eq)]
@@ -24,12 +26,6 @@ enum Mode {
     Line,
 }
 
-fn is_space_byte(byte: u8) -> bool
-    ensures { result ≡ is_space byte }
-{
-    byte == 9 || byte == 10 || byte == 13 || byte == 32
-}
-
 impl Mode {
     fn is_resting(self) -> bool
         ensures { result ≡ is_resting self }
@@ -42,7 +38,7 @@ impl Mode {
         ensures { result ≡ blank_next self blank byte }
     {
         match self {
-            Mode::Between => blank && (is_space_byte(byte) || byte == b'/'),
+            Mode::Between => blank && (is_space(byte) || byte == b'/'),
             Mode::Slash => blank && (byte == b'*' || byte == b'/'),
             _ => blank,
         }

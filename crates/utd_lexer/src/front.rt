@@ -7,6 +7,7 @@ ghost use Rattle.utd_lexer.specs.Tokens.{starts, continues, unquoted, singles, s
 ghost use Rattle.utd_lexer.specs.Fronts.{TokenFront, GapFront, PlainFront, FrontIs, TextFront, TurnIs};
 
 use crate::encoding::split_behind;
+use crate::space::is_space;
 use crate::token::{TokenBytes, TokenKind};
 use point_core::Memory;
 use std::alloc::Global;
@@ -31,7 +32,7 @@ enum Turn {
 fn is_space_char(c: char) -> bool
     ensures { result ≡ is_space c }
 {
-    c == '\t' || c == '\n' || c == '\r' || c == ' '
+    c.is_ascii() && is_space(c as u8)
 }
 
 fn is_start(c: char) -> bool

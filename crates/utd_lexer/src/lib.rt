@@ -5,8 +5,10 @@ mod cutter;
 mod encoding;
 mod front;
 mod reading;
+mod space;
 mod token;
 
 pub use cutter::{Cut, Cutter};
 pub use reading::{place_behind, tokens};
+pub use space::is_space;
 pub use token::{Token, TokenBytes, TokenKind, TokenList};

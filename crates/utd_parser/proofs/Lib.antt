@@ -1,8 +1,6 @@
-pub mod Values
 pub mod Spellings
 pub mod Stacks
 pub mod Closed
-pub mod Days
 pub mod Verdicts
 pub mod Statements
 pub mod Trees

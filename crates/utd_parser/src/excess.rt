@@ -4,12 +4,11 @@ ghost use Rattle.utd_ranges.specs.Limits as limits;
 ghost use Rattle.utd_parser.specs.Forms.{taking_of};
 ghost use Rattle.utd_parser.specs.Frames.{load_of, excess_of};
 
-use crate::dates::is_date;
 use crate::form::Taking;
-use crate::limits::{exceeds, is_bad_text};
+use crate::limits::is_bad_text;
 use crate::stack::Load;
 use point_core::Code;
-use utd_syntax::Terminal;
+use utd_syntax::{Terminal, exceeds, is_date};
 use value_core::{MOST_LEVELS, MOST_NAME_BYTES, MOST_OPERATORS};
 
 const MOST_INTEGER: u64 = 9_223_372_036_854_775_807;

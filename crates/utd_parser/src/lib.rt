@@ -1,7 +1,6 @@
 //! Whether a statement's tokens are a statement of the grammar, and else the first that refuses them.
 #![tactic(auto)]
 
-mod dates;
 mod excess;
 mod form;
 mod limits;
@@ -16,6 +15,6 @@ mod table;
 mod terminals;
 mod whole;
 
-pub use limits::{exceeds, is_bad_text};
+pub use limits::is_bad_text;
 pub use terminals::terminal_of;
 pub use whole::{accept, parse};

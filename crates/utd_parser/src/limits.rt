@@ -1,7 +1,6 @@
 // What a token may be at most.
-ghost use Rattle.std.specs.Prelude.{◌≡◌, nat_lt};
+ghost use Rattle.std.specs.Prelude.{◌≡◌};
 ghost use Rattle.utd_syntax.specs.Literals as literals;
-ghost use Rattle.utd_syntax.specs.Literals.{value_of};
 ghost use Rattle.utd_ranges.specs.Limits as limits;
 
 use value_core::MOST_TEXT_BYTES;
@@ -21,20 +20,4 @@ pub fn is_bad_text(bytes: &[u8]) -> bool
     ensures { result ≡ limits.is_bad_text bytes.now }
 {
     bytes.len() > MOST_TEXT_BYTES || has_control(bytes)
-}
-
-/// The digits write a number above the most.
-pub fn exceeds(digits: &[u8], most: u64) -> bool
-    ensures { result ≡ nat_lt most (value_of digits.now) }
-{
-    let mut value: u128 = 0;
-    let mut rest = digits;
-    while let Some((digit, more)) = rest.split_first() {
-        value = 10 * value + u128::from(digit.saturating_sub(48));
-        if value > u128::from(most) {
-            return true;
-        }
-        rest = more;
-    }
-    false
 }

@@ -12,7 +12,7 @@ ghost use Rattle.utd_statement.specs.Parsed.{reading_of, IsRefusal, HasAnswer};
 
 use point_core::{Memory, Place};
 use std::alloc::Global;
-use utd_lexer::tokens;
+use utd_lexer::{is_space, tokens};
 use utd_parser::parse;
 use utd_syntax::Statement;
 use value_core::Refuse;
@@ -38,7 +38,7 @@ fn are_spaces(bytes: &[u8]) -> bool
     ensures { result ≡ list_all is_space bytes.now }
 {
     for byte in bytes {
-        if !matches!(*byte, b'\t' | b'\n' | b'\r' | b' ') {
+        if !is_space(*byte) {
             return false;
         }
     }

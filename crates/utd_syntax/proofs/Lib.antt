@@ -14,3 +14,5 @@ pub mod GoodStatements
 pub mod Refused
 pub mod Laws
 pub mod Trees
+pub mod DateLemmas
+pub mod DigitLemmas

@@ -1,6 +1,6 @@
 -- What the bytes of literals write: numbers, dates and texts.
-use Rattle.std.specs.Prelude.{ℕ, ◌+◌, ◌-◌, ◌*◌, List, [], ◌∷◌, Bool, true, false, ◌&&◌, ◌||◌, ◌==◌, nat_lt, nat_le}
-use Rattle.point_core.specs.Dates.{days_of_month}
+use Rattle.std.specs.Prelude.{ℕ, ℤ, pos, ◌+◌, ◌-◌, ◌*◌, List, [], ◌∷◌, Bool, true, false, ◌&&◌, ◌||◌, ◌==◌, nat_lt, nat_le}
+use Rattle.point_core.specs.Dates.{date_number, days_of_month}
 
 -- the number that decimal digits write
 abbrev pub value_after : ℕ → List ℕ → ℕ
@@ -27,6 +27,12 @@ is_date (a ∷ b ∷ c ∷ d ∷ dash ∷ e ∷ f ∷ dash' ∷ g ∷ h ∷ []) 
     are_digits (a ∷ b ∷ c ∷ d ∷ e ∷ f ∷ g ∷ h ∷ []) && (dash == 45) && (dash' == 45) &&
     is_day (value_of (a ∷ b ∷ c ∷ d ∷ [])) (value_of (e ∷ f ∷ [])) (value_of (g ∷ h ∷ []))
 is_date _ = false
+
+-- the number of the date that is written as YYYY-MM-DD
+abbrev pub number_of_date : List ℕ → ℤ
+number_of_date (a ∷ b ∷ c ∷ d ∷ dash ∷ e ∷ f ∷ dash' ∷ g ∷ h ∷ []) =
+    date_number (value_of (a ∷ b ∷ c ∷ d ∷ [])) (value_of (e ∷ f ∷ [])) (value_of (g ∷ h ∷ []))
+number_of_date _ = pos 0
 
 -- a character below the space
 abbrev pub has_control : List ℕ → Bool

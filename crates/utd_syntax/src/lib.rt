@@ -1,6 +1,7 @@
 //! The grammar of the language: the syntax tree, the tokens that a tree is written as, and what refuses a text.
 #![tactic(auto)]
 
+mod literals;
 mod parts;
 mod relation;
 mod scalar;
@@ -9,6 +10,7 @@ mod terminal;
 mod word;
 mod words;
 
+pub use literals::{exceeds, is_date, number_up_to};
 pub use parts::{
     Aggregate, AggregateForm, AggregateList, Aggregates, Attribute, Attributes, Condition, Element,
     ElementList, Elements, Heading, Kind, Literal, MaybePortion, NameList, Names, Portion,

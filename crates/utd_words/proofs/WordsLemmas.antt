@@ -30,6 +30,7 @@ use Rattle.clap.specs.declared.builder.value_parser.Reading.{Reading}
 use Rattle.clap.specs.declared.builder.value_parser.Reading.TheVariants.{AsWritten}
 use Rattle.clap.specs.declared.parser.matches.ArgMatches.{ArgMatches}
 use Rattle.clap.specs.declared.parser.matches.MatchedArg.{MatchedArg}
+use Rattle.utd_gen.specs.Script.{most_tuples}
 use Rattle.utd_words.specs.declared.words.Script.{Script}
 use Rattle.utd_words.specs.declared.words.Script.TheVariants.{OfInput, Generated}
 use Rattle.utd_words.specs.Words.{generate, generate_option, utd_command, number_in, script_by, generate_value, unless_fault, asked, IsInRange}
@@ -107,43 +108,43 @@ not_auto t is (inr e) =
 -- an argument of that id has the parser of the option
 parser_is : (c : Command) (m : ArgMatches) (p : IsParsedFrom c m) → app_of c ≡ utd_command
     → (j : ℕ) (y : Arg) → j < length (args_of p.built) → slice_index_or (args_of p.built) j y ≡ y → bytes_eq y.id.now generate ≡ true
-    → parser_of y ≡ Unsigned 1 30000
+    → parser_of y ≡ Unsigned 1 most_tuples
 parser_is c m p is j y within at same =
     let o = option_of c is in
     let first : slice_index_or (args_of c) 0 y ≡ o.arg = ap (λ (xs : List Arg). slice_index_or xs 0 y) o.args in
     let id : (slice_index_or (args_of c) 0 y).id.now ≡ generate = ap (λ (a : Arg). a.id.now) first ∙ ap (λ (r : Rule). r.id) o.rule in
-    let parser : (slice_index_or (args_of c) 0 y).value_parser ≡ Some (Unsigned 1 30000) = ap (λ (a : Arg). a.value_parser) first ∙ ap (λ (r : Rule). r.parser) o.rule in
+    let parser : (slice_index_or (args_of c) 0 y).value_parser ≡ Some (Unsigned 1 most_tuples) = ap (λ (a : Arg). a.value_parser) first ∙ ap (λ (r : Rule). r.parser) o.rule in
     let count : length (args_of c) ≡ 1 = ap length o.args in
     let rules = same_rules_by_id c m p 0 y (omega arith) (λ i e low _. omega arith) (not_auto _ id) j y within at
     (subst (λ (w : List ℕ). bytes_eq y.id.now w ≡ true) (sym id) same) in
-    ap parser_of_value (rules.parser (Unsigned 1 30000) parser)
+    ap parser_of_value (rules.parser (Unsigned 1 most_tuples) parser)
 
 -- ---- its value
 
 -- the text that is read of the option is a number that the command takes
 pub value_in_range : (c : Command) (m : ArgMatches) (t : List ℕ) → app_of c ≡ utd_command → IsParsedFrom c m
-    → one_text (found_of m) generate ≡ Some t → IsUnsignedIn 1 30000 t
+    → one_text (found_of m) generate ≡ Some t → IsUnsignedIn 1 most_tuples t
 value_in_range c m t is p text = go (matched_of (found_of m) generate) refl
   where
     built : Command
     built = p.built
 
-    passes : (v : List ℕ) → PassesArg built generate v → IsUnsignedIn 1 30000 v
+    passes : (v : List ℕ) → PassesArg built generate v → IsUnsignedIn 1 most_tuples v
     passes v h = subst (λ (q : ValueParser). Accepts h.1.ignore_case q v) (parser_is c m p is h.0 h.1 h.2 h.3 h.4.0) h.4.1
 
     reads : (how : Reading) → HasReading built generate how → how ≡ AsWritten
     reads how h = sym h.4.1 ∙ ap reading_of (parser_is c m p is h.0 h.1 h.2 h.3 h.4.0)
 
     first : (how : Reading) (vs : List (Bor (List ℕ))) → how ≡ AsWritten → All (λ v. PassesArg built generate v.now) vs
-        → option_map (λ s. read_as how s.now) (slice_get vs 0) ≡ Some t → IsUnsignedIn 1 30000 t
+        → option_map (λ s. read_as how s.now) (slice_get vs 0) ≡ Some t → IsUnsignedIn 1 most_tuples t
     first how [] written all e = cc
     first how (v ∷ vs) written all e =
         let same : Some v.now ≡ Some t = subst (λ (w : Reading). Some (read_as w v.now) ≡ Some t) written e in
         let one : v.now ≡ t = ap (λ (x : Option (List ℕ)). unwrap_or x t) same in
-        subst (IsUnsignedIn 1 30000) one (passes v.now (All-get_or (λ w. PassesArg built generate w.now) (v ∷ vs) 0 v (omega arith) all))
+        subst (IsUnsignedIn 1 most_tuples) one (passes v.now (All-get_or (λ w. PassesArg built generate w.now) (v ∷ vs) 0 v (omega arith) all))
 
     at_entry : (x : MatchedArg) (e : Entry) → e.1 ≡ x → e.0.now ≡ generate → EntryPasses built e
-        → option_map (λ s. read_as x.reading s.now) (slice_get x.vals.items 0) ≡ Some t → IsUnsignedIn 1 30000 t
+        → option_map (λ s. read_as x.reading s.now) (slice_get x.vals.items 0) ≡ Some t → IsUnsignedIn 1 most_tuples t
     at_entry x e same key pass text =
         let no_groups : groups_of built ≡ [] = (p.from.plain (bare c is).plain).1 in
         let no_group : e.1.is_group ≡ true → ⊥ = λ g. elim (pass.3 g) [
@@ -164,7 +165,7 @@ value_in_range c m t is p text = go (matched_of (found_of m) generate) refl
         ] in
         first x.reading x.vals.items (ap (λ (y : MatchedArg). y.reading) (sym same) ∙ how) all text
 
-    go : (o : Option MatchedArg) → matched_of (found_of m) generate ≡ o → IsUnsignedIn 1 30000 t
+    go : (o : Option MatchedArg) → matched_of (found_of m) generate ≡ o → IsUnsignedIn 1 most_tuples t
     go None found =
         let none : None ≡ Some t = rw found at text in
         cc
@@ -183,8 +184,8 @@ free = refl
 
 -- the script by the value that is read
 pub script_is : (value : Option (List ℕ)) (script : Script) → (value ≡ None → script ≡ OfInput)
-    → ((text : List ℕ) → value ≡ Some text → IsUnsignedIn 1 30000 text → script ≡ Generated (number_in text))
-    → ((text : List ℕ) → value ≡ Some text → IsUnsignedIn 1 30000 text)
+    → ((text : List ℕ) → value ≡ Some text → IsUnsignedIn 1 most_tuples text → script ≡ Generated (number_in text))
+    → ((text : List ℕ) → value ≡ Some text → IsUnsignedIn 1 most_tuples text)
     → (script ≡ script_by value) × IsInRange (Some script)
 script_is None script none some range =
     let is : script ≡ OfInput = none refl in

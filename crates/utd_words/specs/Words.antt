@@ -7,6 +7,7 @@ use Rattle.clap.specs.Words.{App, Rule, Text, fault_of, matches_of, new_app, new
 use Rattle.clap.specs.Kinds.{Kinds}
 use Rattle.clap.specs.declared.builder.action.ArgAction.TheVariants.{Set}
 use Rattle.clap.specs.declared.builder.value_parser.ValueParser.TheVariants.{Unsigned}
+use Rattle.utd_gen.specs.Script.{most_tuples}
 use Rattle.utd_words.specs.declared.words.Script.{Script}
 use Rattle.utd_words.specs.declared.words.Script.TheVariants.{OfInput, Generated}
 
@@ -15,12 +16,12 @@ use Rattle.utd_words.specs.declared.words.Script.TheVariants.{OfInput, Generated
 abbrev pub generate : Text
 generate = codes "generate"
 
--- the option `--generate` with one value, a number from 1 to 30,000
+-- the option `--generate` with one value, a number from 1 to the most tuples of a generated script
 abbrev pub generate_option : Rule
 generate_option = record (new_rule generate) {
   long = Some generate;
   action = Some Set;
-  parser = Some (Unsigned 1 30000);
+  parser = Some (Unsigned 1 most_tuples);
 }
 
 -- no flag for help or the version, and the words without the program's name
@@ -60,4 +61,4 @@ asked words = unless_fault (fault_of utd_command words) (script_by (generate_val
 abbrev pub IsInRange : Option Script → Type 0
 IsInRange None = Unit {0}
 IsInRange (Some OfInput) = Unit {0}
-IsInRange (Some (Generated n)) = (1 ≤ n) × (n ≤ 30000)
+IsInRange (Some (Generated n)) = (1 ≤ n) × (n ≤ most_tuples)

@@ -6,8 +6,9 @@ ghost use Rattle.utd_words.specs.Words.{generate_option, bare_command, utd_comma
 use clap::builder::ValueParser;
 use clap::{Arg, ArgAction, Command};
 use std::alloc::{AllocError, Global};
+use utd_gen::MOST_TUPLES;
 
-/// The option `--generate` with a number from 1 to 30,000.
+/// The option `--generate` with a number from 1 to the most tuples of a generated script.
 fn generate_option<'a>(alloc: Global) -> Arg<'a>
     ensures rule { rule_of result ≡ generate_option }
     ensures local { result.global ≡ false }
@@ -15,7 +16,7 @@ fn generate_option<'a>(alloc: Global) -> Arg<'a>
     Arg::new(alloc, "generate")
         .long("generate")
         .action(ArgAction::Set)
-        .value_parser(ValueParser::unsigned(1, 30_000))
+        .value_parser(ValueParser::unsigned(1, u64::from(MOST_TUPLES)))
 }
 
 /// The command without its option.

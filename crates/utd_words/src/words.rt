@@ -2,6 +2,7 @@
 ghost use Rattle.std.specs.Prelude.{◌≡◌, List, [], ℕ, None, Some, IfOk, map, string_bytes};
 ghost use Rattle.clap.specs.Words.{found_of, one_text};
 ghost use Rattle.clap.specs.Values.{IsUnsignedIn};
+ghost use Rattle.utd_gen.specs.Script.{most_tuples};
 ghost use Rattle.utd_words.specs.Words.{IsInRange, generate, number_in, asked};
 
 use crate::command::utd_command;
@@ -23,7 +24,7 @@ pub enum Script {
 fn script_in(matches: &ArgMatches) -> Script
     ensures none { one_text (found_of matches.now) generate ≡ None → result ≡ Script.OfInput }
     ensures some { (text : List ℕ) → one_text (found_of matches.now) generate ≡ Some text
-        → IsUnsignedIn 1 30000 text → result ≡ Script.Generated (number_in text) }
+        → IsUnsignedIn 1 most_tuples text → result ≡ Script.Generated (number_in text) }
 {
     match matches.get_one::<u16>("generate") {
         Some(number) => Script::Generated(number),

@@ -1,7 +1,7 @@
 -- Headings made from lists of attributes.
---     has_name, first_repeat      which names stand in a list, and the first that stands twice
+--     has_name, position_of, first_repeat      which names stand in a list, where, and the first that stands twice
 --     IsHeadingOf, IsHeadingRefusal      what a list of attributes gives
-use Rattle.std.specs.Prelude.{◌≡◌, ℕ, ◌+◌, ◌<◌, Bool, [], ◌∷◌, ◌++◌, length, Option, Some, None, IsTrue, if◌then◌else◌}
+use Rattle.std.specs.Prelude.{◌≡◌, ℕ, suc, ◌+◌, ◌<◌, Bool, [], ◌∷◌, ◌++◌, length, Option, Some, None, IsTrue, if◌then◌else◌}
 use Rattle.std.specs.List.{list_any}
 use Rattle.std.specs.List.Sorted.{IsPermutation}
 use Rattle.std.specs.Str.{bytes_eq}
@@ -13,6 +13,11 @@ use Rattle.value_core.specs.declared.refuse.HeadingRefuse.TheVariants.{Repeated,
 -- whether an attribute has the name
 abbrev pub has_name : Heading → Name → Bool
 has_name list name = list_any (λ a. bytes_eq a.0 name) list
+
+-- where the name stands in the heading; past its end where it does not
+abbrev pub position_of : Heading → Name → ℕ
+position_of [] name = 0
+position_of (a ∷ rest) name = if bytes_eq a.0 name then 0 else suc (position_of rest name)
 
 -- the least index of an attribute whose name one before it has; n attributes stand in front
 abbrev pub repeat_after : Heading → ℕ → Heading → Option ℕ

@@ -1,7 +1,7 @@
 // Headings of relations.
-ghost use Rattle.std.specs.Prelude.{◌≡◌, IfOk, IsTrue, MatchResult};
+ghost use Rattle.std.specs.Prelude.{◌≡◌, ◌≤◌, IfOk, IsTrue, MatchResult, length};
 ghost use Rattle.value_core.specs.Values.{is_heading};
-ghost use Rattle.value_core.specs.Headings.{has_name, first_repeat, IsHeadingOf, IsHeadingRefusal};
+ghost use Rattle.value_core.specs.Headings.{has_name, position_of, first_repeat, IsHeadingOf, IsHeadingRefusal};
 
 use crate::kind::Kind;
 use crate::limits::MOST_ATTRIBUTES;
@@ -64,10 +64,23 @@ impl Heading {
 }
 
 /// Whether one of the attributes has the name.
-fn has_name(list: &[(Name, Kind)], name: &Name) -> bool
+pub fn has_name(list: &[(Name, Kind)], name: &Name) -> bool
     ensures { result ≡ has_name list.now name.now }
 {
     list.iter().any(|attribute| attribute.0 == *name)
+}
+
+/// Where the attribute of the name stands; past the end where there is none.
+pub fn position(list: &[(Name, Kind)], name: &Name) -> usize
+    ensures value { result ≡ position_of list.now name.now }
+    ensures within { result ≤ length list.now }
+{
+    for (at, attribute) in list.iter().enumerate() {
+        if attribute.0 == *name {
+            return at;
+        }
+    }
+    list.len()
 }
 
 /// The least index of an attribute whose name stands before it too.

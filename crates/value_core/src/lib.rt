@@ -15,7 +15,7 @@ mod text;
 mod value;
 
 pub use constraint::{Constraint, HistoryRule};
-pub use heading::Heading;
+pub use heading::{Heading, has_name, position};
 pub use kind::Kind;
 pub use limits::{
     MOST_ATTRIBUTES, MOST_CONSTRAINTS, MOST_LEVELS, MOST_LISTED, MOST_NAME_BYTES, MOST_NODES,

@@ -1,6 +1,6 @@
 use Rattle.std.proofs.Common.{◌≡◌, ◌<◌, ◌≤◌, ◌↔◌, ◌⊎◌, ℕ, List, [], ◌∷◌, Bool, inl, inr, arith, ap, subst, length, ◌∙◌, Some, Ok, Err}
 use Rattle.packing_core.specs.Covering.{Among}
-use Rattle.slice_core.specs.LeastFault.{IsLeast}
+use Rattle.point_core.specs.LeastFault.{IsLeast}
 use Rattle.slice_core.specs.PackedRows.{HasRow}
 use Rattle.slice_core.proofs.Turns.{least_kept, least_more}
 use Rattle.std.specs.declared.cmp.Ordering.TheVariants.{Equal}

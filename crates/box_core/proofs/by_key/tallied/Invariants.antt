@@ -1,6 +1,6 @@
 use Rattle.std.proofs.Common.{◌≡◌, ℕ, ◌≤◌, ◌-◌, ◌↔◌, ◌⊎◌, [], ◌∷◌, length, Some, Ok, Err}
 use Rattle.packing_core.specs.Covering.{Among}
-use Rattle.slice_core.specs.LeastFault.{IsLeast}
+use Rattle.point_core.specs.LeastFault.{IsLeast}
 use Rattle.slice_core.specs.PackedRows.{HasRow}
 use Rattle.box_core.specs.Common.{EndsBy}
 use Rattle.box_core.specs.Rows.{KeyBox}

@@ -5,7 +5,7 @@ use Rattle.packing_core.specs.Covering.{Among}
 use Rattle.packing_core.specs.Live.{box, side_has, InLive, IsSomewhere}
 use Rattle.packing_core.proofs.Numbered.{other_default}
 use Rattle.point_core.specs.declared.fault.Fault.{Fault}
-use Rattle.slice_core.specs.LeastFault.{IsLeast}
+use Rattle.point_core.specs.LeastFault.{IsLeast}
 use Rattle.slice_core.specs.PackedRows.{HasRow, cuts_of}
 use Rattle.slice_core.specs.Rows.{sides_of, AreRows, GivesLabel, GivesFault}
 use Rattle.slice_core.specs.Sweeps.{IsSweep}

@@ -1,7 +1,7 @@
 use Rattle.std.proofs.Common.{◌≡◌, ◌<◌, ◌≤◌, ◌↔◌, ◌⊎◌, ℕ, List, [], arith, ap, sym, subst, length, ◌∙◌, Some, Err}
 use Rattle.packing_core.specs.Covering.{Among, Gives}
 use Rattle.packing_core.specs.Live.{box, InLive, IsSomewhere}
-use Rattle.slice_core.specs.LeastFault.{IsLeast}
+use Rattle.point_core.specs.LeastFault.{IsLeast}
 use Rattle.slice_core.specs.PackedRows.{HasRow}
 use Rattle.slice_core.specs.Rows.{sides_of, AreRows, GivesLabel, GivesFault}
 use Rattle.slice_core.proofs.Turns.{least_kept, least_more}

@@ -1,7 +1,7 @@
 use Rattle.std.proofs.Common.{◌≡◌, ℕ, ◌≤◌, ◌-◌, ◌↔◌, ◌⊎◌, List, [], length, Some, Err}
 use Rattle.std.specs.List.{All}
 use Rattle.packing_core.specs.Covering.{Among, Gives}
-use Rattle.slice_core.specs.LeastFault.{IsLeast}
+use Rattle.point_core.specs.LeastFault.{IsLeast}
 use Rattle.slice_core.specs.PackedRows.{HasRow}
 use Rattle.box_core.specs.Common.{EndsBy}
 use Rattle.box_core.specs.Rows.{KeyBox}

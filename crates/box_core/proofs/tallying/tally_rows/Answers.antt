@@ -1,7 +1,7 @@
 use Rattle.std.proofs.Common.{◌≡◌, ◌<◌, ◌≤◌, ◌+◌, ◌↔◌, ◌⊎◌, ℕ, List, [], ◌∷◌, ◌++◌, Bool, inl, inr, arith, ap, sym, subst, length, get_or, ◌∙◌, Vec, Global, Option, Some, Ok, Err}
 use Rattle.packing_core.specs.Covering.{Among}
 use Rattle.point_core.specs.declared.fault.Fault.{Fault}
-use Rattle.slice_core.specs.LeastFault.{IsLeast}
+use Rattle.point_core.specs.LeastFault.{IsLeast}
 use Rattle.slice_core.specs.PackedRows.{HasRow}
 use Rattle.slice_core.specs.declared.key.Key.{Key}
 use Rattle.slice_core.proofs.UnitedLemmas.{IsBeside, beside, all_passed}

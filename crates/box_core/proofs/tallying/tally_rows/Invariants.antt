@@ -1,6 +1,6 @@
 use Rattle.std.proofs.Common.{◌≡◌, ℕ, ◌<◌, ◌≤◌, ◌↔◌, ◌⊎◌, [], ◌∷◌, length, get_or, Some, Ok, Err}
 use Rattle.packing_core.specs.Covering.{Among}
-use Rattle.slice_core.specs.LeastFault.{IsLeast}
+use Rattle.point_core.specs.LeastFault.{IsLeast}
 use Rattle.slice_core.specs.PackedRows.{HasRow}
 use Rattle.box_core.specs.Rows.{KeyBox}
 use Rattle.box_core.specs.Tallies.{IsKept, OfTallied, IsPart}

@@ -4,7 +4,7 @@ use Rattle.std.specs.List.{All}
 use Rattle.std.proofs.lemmas.List.Elements.{All-same, All-map}
 use Rattle.packing_core.specs.Covering.{Among}
 use Rattle.packing_core.specs.Live.{IsSliceRow, IsSomewhere}
-use Rattle.slice_core.specs.LeastFault.{IsLeast}
+use Rattle.point_core.specs.LeastFault.{IsLeast}
 use Rattle.slice_core.specs.Rows.{sides_of, AreRows, GivesLabel, GivesFault}
 use Rattle.cell_core.specs.Cells.{rows_from, cells_at}
 use Rattle.slice_core.specs.Rows.{volume}

@@ -5,7 +5,7 @@ use Rattle.packing_core.specs.Covering.{Among}
 use Rattle.packing_core.specs.Pieces.{Covers}
 use Rattle.packing_core.specs.Live.{side_has, IsSliceRow, IsSomewhere}
 use Rattle.packing_core.specs.declared.Piece.{Piece}
-use Rattle.slice_core.specs.LeastFault.{IsLeast}
+use Rattle.point_core.specs.LeastFault.{IsLeast}
 use Rattle.slice_core.specs.Rows.{sides_of, key_cmp, tag, AreRows, GivesLabel, GivesFault, volume, own_numbers}
 use Rattle.slice_core.proofs.Steps.{rows_answer, rows_sorted, covers_all, covers_step, sorted_nil, leaf_sorted}
 use Rattle.slice_core.proofs.Turns.{nil_from, none_row, none_live, least_kept, rows_above, rows_below, leaf_rows, leaf_fault, least_more, least_step, cost_none, cost_within, cost_step, AreRows-filter, has_sides, none_from, not_below_zero, some_live, somewhere_more}

@@ -2,7 +2,7 @@ use Rattle.std.proofs.Common.{◌≡◌, ℕ, ◌<◌, ◌≤◌, ◌↔◌, ◌
 use Rattle.std.specs.List.{All, filter}
 use Rattle.packing_core.specs.Pieces.{Covers}
 use Rattle.packing_core.specs.Live.{side_has, IsSliceRow, IsSomewhere}
-use Rattle.slice_core.specs.LeastFault.{IsLeast}
+use Rattle.point_core.specs.LeastFault.{IsLeast}
 use Rattle.slice_core.specs.Rows.{sides_of, key_cmp, GivesLabel, GivesFault, volume}
 use Rattle.slice_core.specs.Sweeps.{IsSweep}
 use Rattle.slice_core.proofs.inward.+slices.Given as goal

@@ -2,7 +2,7 @@ use Rattle.std.proofs.Common.{◌≡◌, ◌≢◌, ◌↔◌, ◌<◌, ℕ, Lis
 use Rattle.std.specs.List.{All}
 use Rattle.value_core.specs.Values.{Row, row_cmp}
 use Rattle.packing_core.specs.Covering.{Among}
-use Rattle.slice_core.specs.LeastFault.{IsLeast}
+use Rattle.point_core.specs.LeastFault.{IsLeast}
 use Rattle.slice_core.specs.PackedRows.{HasRow}
 use Rattle.slice_core.specs.Rows.{AreRows}
 use Rattle.slice_core.proofs.Turns.{least_iff}

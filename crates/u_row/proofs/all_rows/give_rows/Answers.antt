@@ -3,7 +3,7 @@ use Rattle.std.specs.List.{All}
 use Rattle.std.proofs.lemmas.List.{length-map}
 use Rattle.packing_core.specs.Boxed.{InBoxes}
 use Rattle.value_core.specs.Values.{Row}
-use Rattle.slice_core.specs.LeastFault.{IsLeast}
+use Rattle.point_core.specs.LeastFault.{IsLeast}
 use Rattle.cell_core.specs.Boxes.{IsBox}
 use Rattle.cell_core.specs.Cells.{box_numbers, row_numbers}
 use Rattle.u_row.specs.Rules.{sides_numbers}

@@ -2,7 +2,7 @@ use Rattle.std.proofs.Common.{◌≡◌, ◌↔◌, ◌+◌, ◌≤◌, ℤ, Lis
 use Rattle.std.specs.List.{All}
 use Rattle.packing_core.specs.Boxed.{InBoxes}
 use Rattle.value_core.specs.Values.{Row}
-use Rattle.slice_core.specs.LeastFault.{IsLeast}
+use Rattle.point_core.specs.LeastFault.{IsLeast}
 use Rattle.cell_core.specs.Boxes.{IsBox}
 use Rattle.cell_core.specs.Cells.{row_numbers}
 use Rattle.u_row.specs.Cutting.{count_cells, count_cuts}

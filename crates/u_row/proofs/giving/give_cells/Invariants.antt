@@ -3,7 +3,7 @@ use Rattle.std.specs.List.{All}
 use Rattle.interval_core.specs.Members.{Span}
 use Rattle.packing_core.specs.Covering.{Among}
 use Rattle.packing_core.specs.Packed.{firsts}
-use Rattle.slice_core.specs.LeastFault.{IsLeast}
+use Rattle.point_core.specs.LeastFault.{IsLeast}
 use Rattle.cell_core.specs.Boxes.{IsBox}
 use Rattle.cell_core.specs.Cells.{boxes_of, row_numbers}
 use Rattle.u_row.specs.Rules.{labelled}

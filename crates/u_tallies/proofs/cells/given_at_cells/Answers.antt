@@ -5,7 +5,7 @@ use Rattle.packing_core.specs.Covering.{Among}
 use Rattle.slice_core.specs.PackedRows.{HasRow}
 use Rattle.box_core.specs.Rows.{Ascend, KeyBox}
 use Rattle.box_core.specs.Tallies.{IsTallied, IsTallyFault}
-use Rattle.slice_core.specs.LeastFault.{IsLeast}
+use Rattle.point_core.specs.LeastFault.{IsLeast}
 use Rattle.u_groups.specs.Asked.{InCellGroup}
 use Rattle.u_groups.specs.Groups.{labels_in}
 use Rattle.u_tallies.specs.Counts.{counted_means}

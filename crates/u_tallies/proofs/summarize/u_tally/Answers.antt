@@ -2,7 +2,7 @@ use Rattle.std.proofs.Common.{◌≡◌, ◌<◌, map, length, None, arith, sym,
 use Rattle.std.specs.List.{All}
 use Rattle.std.proofs.lemmas.List.{length-map}
 use Rattle.value_core.specs.Values.{row_cmp}
-use Rattle.slice_core.specs.LeastFault.{IsLeast}
+use Rattle.point_core.specs.LeastFault.{IsLeast}
 use Rattle.cell_core.specs.Boxes.{IsBox}
 use Rattle.cell_core.specs.Cells.{row_numbers}
 use Rattle.u_row.proofs.AllRowsLemmas.{if_ok}

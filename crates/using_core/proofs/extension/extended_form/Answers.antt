@@ -9,7 +9,7 @@ use Rattle.interval_core.specs.Members.{Span}
 use Rattle.value_core.specs.Values.{Row, row_cmp, most_rows}
 use Rattle.tree_core.specs.Trees.{read_sets}
 use Rattle.relation_core.specs.Parts.{kind_at}
-use Rattle.slice_core.specs.LeastFault.{IsLeast}
+use Rattle.point_core.specs.LeastFault.{IsLeast}
 use Rattle.cell_core.specs.Boxes.{IsBox}
 use Rattle.cell_core.specs.Cells.{row_numbers}
 use Rattle.cell_core.specs.Costs.{bound}

@@ -5,7 +5,7 @@ use Rattle.value_core.specs.Relations.{IsRelationOf}
 use Rattle.value_core.specs.RowPacking.{packed}
 use Rattle.value_core.specs.Values.{Row, Relation}
 use Rattle.scalar_core.specs.Expressions.{read}
-use Rattle.slice_core.specs.LeastFault.{IsLeast}
+use Rattle.point_core.specs.LeastFault.{IsLeast}
 use Rattle.u_set.specs.Boxes.{boxed, spans_at}
 use Rattle.u_set.proofs.KeptLemmas.{one_listed}
 use Rattle.u_row.specs.Rules.{InRule, HasRuleFault}

@@ -2,7 +2,7 @@ use Rattle.std.proofs.Common.{◌≡◌, ◌↔◌, ◌<◌, ◌∷◌, [], map,
 use Rattle.std.proofs.lemmas.List.{length-map}
 use Rattle.packing_core.specs.Boxed.{InBoxes}
 use Rattle.scalar_core.specs.Expressions.{read}
-use Rattle.slice_core.specs.LeastFault.{IsLeast}
+use Rattle.point_core.specs.LeastFault.{IsLeast}
 use Rattle.u_set.specs.Boxes.{boxed, spans_at}
 use Rattle.u_row.proofs.AllRowsLemmas.{InRuleBelow, HasFaultBelow}
 use Rattle.using_core.specs.Swept.{met, swept_rows}

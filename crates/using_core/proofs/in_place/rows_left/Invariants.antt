@@ -4,7 +4,7 @@ use Rattle.packing_core.specs.Boxed.{InBoxes}
 use Rattle.value_core.specs.Relations.{all_fit}
 use Rattle.value_core.specs.Values.{Row}
 use Rattle.scalar_core.specs.Expressions.{read}
-use Rattle.slice_core.specs.LeastFault.{IsLeast}
+use Rattle.point_core.specs.LeastFault.{IsLeast}
 use Rattle.u_set.specs.Boxes.{boxed, spans_at}
 use Rattle.u_row.proofs.AllRowsLemmas.{InRuleBelow, HasFaultBelow}
 use Rattle.using_core.specs.Swept.{met, swept_rows}

@@ -3,7 +3,7 @@ use Rattle.point_core.specs.Points.{number, IsPointOf}
 use Rattle.point_core.specs.declared.any_type.AnyPoint.{AnyPoint}
 use Rattle.interval_core.specs.Members.{HasEndsIn}
 use Rattle.scalar_core.specs.Expressions.{read}
-use Rattle.slice_core.specs.LeastFault.{IsLeast}
+use Rattle.point_core.specs.LeastFault.{IsLeast}
 use Rattle.cell_core.specs.Cells.{box_numbers}
 use Rattle.cell_core.proofs.KeyLemmas.{take_whole}
 use Rattle.using_core.specs.Holding.{InSpans, HoldsIn, FailsIn, IsPart}

@@ -4,7 +4,7 @@ use Rattle.point_core.specs.Points.{number, IsPointOf}
 use Rattle.point_core.specs.declared.any_type.AnyType.{AnyType}
 use Rattle.interval_core.specs.Members.{HasEndsIn}
 use Rattle.scalar_core.specs.Expressions.{read}
-use Rattle.slice_core.specs.LeastFault.{IsLeast}
+use Rattle.point_core.specs.LeastFault.{IsLeast}
 use Rattle.cell_core.specs.Cells.{box_numbers}
 use Rattle.using_core.specs.Holding.{InSpans, HoldsIn, FailsIn}
 use Rattle.using_core.proofs.in_place.runs_of.Given as goal

@@ -7,7 +7,7 @@ use Rattle.packing_core.specs.Boxed.{Boxed}
 use Rattle.value_core.specs.Values.{Row, row_cmp, most_rows}
 use Rattle.relation_core.specs.Parts.{kind_at}
 use Rattle.tree_core.specs.Trees.{read_aggregate}
-use Rattle.slice_core.specs.LeastFault.{IsLeast}
+use Rattle.point_core.specs.LeastFault.{IsLeast}
 use Rattle.slice_core.specs.Rows.{AreRows}
 use Rattle.slice_core.proofs.Turns.{all_below}
 use Rattle.cell_core.specs.Cells.{row_numbers}
