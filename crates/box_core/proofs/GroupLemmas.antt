@@ -7,10 +7,10 @@ use Rattle.std.specs.List.{All, filter}
 use Rattle.std.proofs.lemmas.Bool.{cases_lt, true≢false}
 use Rattle.std.proofs.lemmas.Cmp.{tied_itself, nat_cmp_total}
 use Rattle.std.proofs.lemmas.List.Elements.{All-append, All-same}
+use Rattle.std.proofs.lemmas.List.{get_or_default}
 use Rattle.packing_core.specs.Covering.{Among}
 use Rattle.packing_core.specs.Live.{has_place, box}
 use Rattle.packing_core.proofs.AmongLemmas.{among_append, among_map, among_filter}
-use Rattle.packing_core.proofs.Numbered.{other_default}
 use Rattle.packing_core.proofs.Same.{same_sorted}
 use Rattle.point_core.specs.declared.fault.Fault.{Fault}
 use Rattle.slice_core.specs.LeastFault.{IsLeast}
@@ -61,7 +61,7 @@ order_more first n old new l e a = subst (AreRows first (n + 1)) (sym e) (AreRow
 pub box_is : {P : Type 0} (rows : List (KeyBox P)) (r : ℕ) (x : KeyBox P) → IsRow rows r x → box (boxes_in rows) r ≡ x.1
 box_is {P} rows r x h =
     let w = map_row (λ (z : KeyBox P). z.1) rows r x h in
-    other_default (boxes_in rows) r [] x.1 w.0 ∙ w.1
+    get_or_default (boxes_in rows) r [] x.1 w.0 ∙ w.1
 
 module _ {P : Type 0} (bs : List IndexBox) (rows : List (KeyBox P)) (are : sides_of bs ≡ boxes_in rows) where
   boxes_count : length bs ≡ length rows

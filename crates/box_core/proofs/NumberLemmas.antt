@@ -5,8 +5,9 @@ use Rattle.std.specs.Cmp.{IsTotalOrder}
 use Rattle.std.specs.Ordering.{nat_cmp, ordering_reverse, is_lt}
 use Rattle.std.specs.List.{All}
 use Rattle.std.proofs.lemmas.Bool.{cases_lt, true≢false}
-use Rattle.std.proofs.lemmas.Cmp.{tied_itself, tied_back, alike_right, nat_cmp_total, by_ranked, ranked}
+use Rattle.std.proofs.lemmas.Cmp.{tied_itself, tied_back, alike_right, nat_cmp_total}
 use Rattle.std.proofs.lemmas.List.{get_or_append_left, get_or_at, length-append}
+use Rattle.base_core.proofs.OrderingLemmas.{lt-nat_cmp}
 use Rattle.packing_core.specs.Covering.{Among}
 use Rattle.slice_core.specs.PackedRows.{HasRow}
 use Rattle.box_core.specs.Answers.{IsBoxOf, IsBoxOfKeyed, InBoth, InFirst, IsMatched, IsUnmatched, IsJoined, KeyedBox}
@@ -41,14 +42,11 @@ row_cases old new x e i y h = go (subst (λ zs. IsRow zs i y) e h)
 pub length_more : {X : Type 0} (old new : List X) (x : X) (n : ℕ) → new ≡ old ++ x ∷ [] → length old ≡ n → length new ≡ n + 1
 length_more old new x n e f = let g : length new ≡ length old + 1 = ap length e ∙ length-append old (x ∷ []) in omega (arith, f, g)
 
-by_number : (m n : ℕ) → m < n → nat_cmp m n ≡ Less
-by_number m n l = by_ranked (m < n) (m ≡ n) (n < m) (nat_cmp m n) (ranked m n (nat_cmp m n) refl) (λ e p. e) (λ e p. absurd (omega (arith, p))) (λ e p. absurd (omega (arith, p)))
-
 -- what stands as two numbers do
 pub same_order : (r : Ordering) (m n : ℕ) → (r ≡ Less → m < n) → (r ≡ Equal → m ≡ n) → (r ≡ Greater → n < m) → r ≡ nat_cmp m n
-same_order Less m n l e g = sym (by_number m n (l refl))
+same_order Less m n l e g = sym (lt-nat_cmp m n (l refl))
 same_order Equal m n l e g = sym (subst (λ k. nat_cmp m k ≡ Equal) (e refl) (tied_itself nat_cmp_total m))
-same_order Greater m n l e g = sym (nat_cmp_total.antisymm m n ∙ ap ordering_reverse (by_number n m (g refl)))
+same_order Greater m n l e g = sym (nat_cmp_total.antisymm m n ∙ ap ordering_reverse (lt-nat_cmp n m (g refl)))
 
 module _ {K : Type 0} (order : K → K → Ordering) (total : IsTotalOrder order) where
   pub less_tied : (a b : K) → order a b ≡ Less → order a b ≡ Equal → ⊥
@@ -211,7 +209,7 @@ module _ {K : Type 0} (order : K → K → Ordering) (total : IsTotalOrder order
       let p = have i x.0 v.0 x.1 (own_number withs ns ks i v hv) in
       let q = have j y.0 w.0 y.1 (own_number withs ns ks j w hw) in
       elim (up i j x.0 y.0 l x.1 y.1) [
-        | inl m ↦ inl (by_number v.0 w.0 (number_more order total left right (x.0).0 (y.0).0 v.0 w.0 (keyed i x.0 x.1) p q m))
+        | inl m ↦ inl (lt-nat_cmp v.0 w.0 (number_more order total left right (x.0).0 (y.0).0 v.0 w.0 (keyed i x.0 x.1) p q m))
         | inr m ↦
             let e : v.0 ≡ w.0 = number_tied order total left right (x.0).0 (y.0).0 v.0 w.0 p q m.0 in
             let s : (first_of (x.0).1).0 ≤ (first_of (y.0).1).0 = m.1 in

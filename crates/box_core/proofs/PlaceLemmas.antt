@@ -1,5 +1,5 @@
 -- The places of boxes.
-use Rattle.std.proofs.Common.{◌≡◌, ℕ, zero, suc, ◌+◌, ◌<◌, ◌≤◌, Bool, true, false, ◌&&◌, leb, ltb, max, min, List, [], ◌∷◌, ◌++◌, take, length, get_or, ◌↔◌, arith, sym, ap, subst, refl}
+use Rattle.std.proofs.Common.{◌≡◌, ℕ, zero, suc, ◌+◌, ◌<◌, ◌≤◌, Bool, true, false, ◌&&◌, ltb, max, min, List, [], ◌∷◌, ◌++◌, take, length, get_or, ◌↔◌, arith, sym, ap, subst, refl}
 use Rattle.std.specs.List.{list_all}
 use Rattle.std.proofs.lemmas.Bool.{true≢false, and_parts, and_from}
 use Rattle.std.proofs.lemmas.Bool.Decides.{nat_tests}
@@ -8,15 +8,9 @@ use Rattle.std.proofs.lemmas.List.{take_all}
 use Rattle.packing_core.specs.Live.{span_has, has_place}
 use Rattle.packing_core.specs.Packed.{no_cells}
 use Rattle.box_core.specs.Common.{At, EndsBy, both, common, has_cell, HaveCells, first_of}
-use Rattle.slice_core.proofs.Sweeping.{cell_has}
+use Rattle.slice_core.proofs.Sweeping.{cell_has, span_from}
 
 -- ---- cells
-
-pub span_from : (s : ℕ × ℕ) (i : ℕ) → s.0 ≤ i → i < s.1 → span_has s i ≡ true
-span_from s i l m = within s.0 s.1 l m
-  where
-    within : (a z : ℕ) → a ≤ i → i < z → (leb a i && ltb i z) ≡ true
-    within a z l m = grind (arith, nat_tests)
 
 both_parts : (x y : ℕ × ℕ) (i : ℕ) → span_has (both x y) i ≡ true → (span_has x i ≡ true) × (span_has y i ≡ true)
 both_parts x y i h =

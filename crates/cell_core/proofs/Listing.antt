@@ -121,7 +121,7 @@ distinct_places (i ∷ is) =
     let f = w.2 in
     cc)
 
-length_each : {X Y : Type 0} (f : X → List Y) (n : ℕ) → ((x : X) → length (f x) ≡ n) → (xs : List X) → length (flat_map f xs) ≡ length xs * n
+pub length_each : {X Y : Type 0} (f : X → List Y) (n : ℕ) → ((x : X) → length (f x) ≡ n) → (xs : List X) → length (flat_map f xs) ≡ length xs * n
 length_each f n h [] = sym (omega arith)
 length_each f n h (x ∷ xs) =
     let ih : length (flat_map f xs) ≡ length xs * n = length_each f n h xs in

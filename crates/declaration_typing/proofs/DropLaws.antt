@@ -6,6 +6,7 @@ use Rattle.std.specs.Option.{option_map}
 use Rattle.std.specs.Str.{bytes_eq}
 use Rattle.std.proofs.lemmas.Bool.{or_parts, not-true}
 use Rattle.std.proofs.lemmas.List.{append-nil}
+use Rattle.base_core.proofs.ListLemmas.{bytes_eq-sym}
 use Rattle.point_core.specs.declared.fault.Code.TheVariants.{E10, E21}
 use Rattle.point_core.specs.declared.fault.Place.{Place}
 use Rattle.utd_syntax.specs.Plain.{Word}
@@ -24,7 +25,6 @@ use Rattle.meaning_core.specs.WellMade.{sizes_of, headings_of, FitsHeadings, IsB
 use Rattle.meaning_core.proofs.MadeLemmas.{same_name}
 use Rattle.node_typing.specs.Positions.{check}
 use Rattle.declaration_typing.specs.Drops.{names_in, references, relvar_names, is_used, dropped}
-use Rattle.tree_typing.proofs.NameLemmas.{either-side}
 use Rattle.declaration_typing.proofs.PositionLemmas.{held}
 
 module _ (name : Name) where
@@ -163,7 +163,7 @@ module _ (name : Name) where
   relvar-dropped sizes before own (view t history) other apart is = (tree-dropped sizes before t apart is.0, history-dropped before t history apart is.1)
 
   named-not : (own : Name) (r : PlainRelvar) → bytes_eq own name ≡ false → (not (bytes_eq name own) && relvar_names name r) ≡ false → relvar_names name r ≡ false
-  named-not own r other e = sym (ap (λ (b : Bool). not b && relvar_names name r) (either-side name own ∙ other)) ∙ e
+  named-not own r other e = sym (ap (λ (b : Bool). not b && relvar_names name r) (bytes_eq-sym name own ∙ other)) ∙ e
 
   relvars-dropped : (sizes : List ℕ) (before entries : Entries) → is_used entries name ≡ false → AreRelvars sizes before entries → AreRelvars sizes (rest_of before) (rest_of entries)
   relvars-dropped sizes before [] unused all = tt

@@ -5,6 +5,7 @@ use Rattle.std.specs.List.{AllByRecursion, IsDistinct, list_any}
 use Rattle.std.specs.Str.{bytes_eq}
 use Rattle.std.proofs.lemmas.Bool.{or_parts, not-true}
 use Rattle.std.proofs.lemmas.List.{append-nil, map-append}
+use Rattle.base_core.proofs.ListLemmas.{IsDistinct-push, bytes_eq-sym}
 use Rattle.point_core.specs.declared.fault.Code.TheVariants.{E11}
 use Rattle.utd_syntax.specs.Plain.{Word}
 use Rattle.value_core.specs.declared.list.OrdinalNames.{OrdinalNames}
@@ -16,8 +17,6 @@ use Rattle.meaning_core.specs.Declarations.{with_relvar}
 use Rattle.meaning_core.specs.WellMade.{sizes_of, all_names, IsRelvar, AreRelvars, IsWellMade}
 use Rattle.node_typing.specs.Positions.{check}
 use Rattle.declaration_typing.specs.Names.{is_taken, new_name}
-use Rattle.declaration_typing.proofs.DistinctLemmas.{distinct-push}
-use Rattle.tree_typing.proofs.NameLemmas.{either-side}
 use Rattle.declaration_typing.proofs.PositionLemmas.{held}
 
 -- ---- names that are free
@@ -37,7 +36,7 @@ other-ordinals : (name : Name) (types : List OrdinalNames) → list_any (λ o. b
 other-ordinals name [] e = tt
 other-ordinals name (o ∷ types) e =
     let parts = or_parts (bytes_eq name o.name) (list_any (λ t. bytes_eq name t.name) types) e in
-    (either-side o.name name ∙ parts.0, other-ordinals name types parts.1)
+    (bytes_eq-sym o.name name ∙ parts.0, other-ordinals name types parts.1)
 
 other-relvars : (name : Name) (entries : Entries) → relvar_named entries name ≡ None → AreOther name (map (λ r. r.0) entries)
 other-relvars name [] e = tt
@@ -85,6 +84,6 @@ with-relvar s own r made free is = record {
   few = made.few;
   ordinals = made.ordinals;
   different = subst (IsDistinct bytes_eq) (more-names s own r)
-      (distinct-push bytes_eq (all_names s) own made.different (other-both own (map (λ o. o.name) s.ordinals) (map (λ e. e.0) s.relvars) free.ordinals free.relvars));
+      (IsDistinct-push bytes_eq (all_names s) own made.different (other-both own (map (λ o. o.name) s.ordinals) (map (λ e. e.0) s.relvars) free.ordinals free.relvars));
   relvars = more-relvars (sizes_of s.ordinals) [] s.relvars own r made.relvars is;
 }

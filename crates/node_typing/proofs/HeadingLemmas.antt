@@ -1,6 +1,6 @@
 -- The heading of a list of attributes is what their map comes to when each is put in turn.
 use Rattle.std.specs.Prelude.{◌≡◌, Bool, true, false, not, ◌||◌, cond, [], ◌∷◌, ◌++◌, Option, Some, None, refl}
-use Rattle.std.proofs.Common.{sym, ◌∙◌, ap, ap₂, subst, Ordering, Less, Equal, Greater}
+use Rattle.std.proofs.Common.{sym, ◌∙◌, ap, ap₂, subst, Less, Equal, Greater}
 use Rattle.std.specs.BTreeMap.{insert_entry}
 use Rattle.std.specs.Cmp.Lexicographic.{texts_ties, nat_list_cmp_total}
 use Rattle.std.specs.List.{list_any}
@@ -9,6 +9,7 @@ use Rattle.std.specs.Str.{bytes_eq}
 use Rattle.std.proofs.lemmas.Cmp.{tied_itself}
 use Rattle.base_core.specs.Sets.{placed, put, in_order}
 use Rattle.base_core.proofs.SetLemmas.{AllAfter, Ascends}
+use Rattle.base_core.proofs.OrderingLemmas.{is_eq-Equal}
 use Rattle.value_core.proofs.HeadingLemmas.{attribute_total}
 use Rattle.value_core.specs.declared.kind.Kind.{Kind}
 use Rattle.value_core.specs.Values.{Name, Heading, attribute_cmp, name_cmp}
@@ -26,11 +27,6 @@ is_at n m = is_eq (name_cmp n m)
 
 one-name : (n m : Name) → is_at n m ≡ true → n ≡ m
 one-name n m e = name_is n m (texts_ties n m ∙ e)
-
-equal-from : (r : Ordering) → is_eq r ≡ true → r ≡ Equal
-equal-from Less e = absurd cc
-equal-from Equal e = refl
-equal-from Greater e = absurd cc
 
 at-itself : (n : Name) → is_at n n ≡ true
 at-itself n = ap is_eq (tied_itself nat_list_cmp_total n)
@@ -133,7 +129,7 @@ module _ (n k : Name) (v : Kind) where
   insert-greater e o true true f g r =
       let one : n ≡ e.0 = one-name n e.0 f in
       let two : n ≡ k = one-name n k g in
-      let tied : name_cmp k e.0 ≡ Equal = subst (λ m. name_cmp m e.0 ≡ Equal) two (equal-from (name_cmp n e.0) f) in
+      let tied : name_cmp k e.0 ≡ Equal = subst (λ m. name_cmp m e.0 ≡ Equal) two (is_eq-Equal (name_cmp n e.0) f) in
       absurd (cc)
   insert-greater e o true false f g r = refl
   insert-greater e o false true f g r = refl

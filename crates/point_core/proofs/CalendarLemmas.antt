@@ -54,7 +54,7 @@ pub calendar_date : (year month day : ℕ) → 1 ≤ year → core.IsCivilDate (
 calendar_date year month day first date =
     (first, omega (arith, ints, date.0.1), date.1.0, date.1.1, date.2.0, omega (arith, date.2.1, month_same year month date.1.0 date.1.1))
 
-epoch_place : day_place 1970 1 1 ≡ 719163
+pub epoch_place : day_place 1970 1 1 ≡ 719163
 unfolding day_place days_of_years days_of_months
 epoch_place = refl
 

@@ -6,6 +6,8 @@ use Rattle.std.specs.Ordering.{int_cmp, ordering_then}
 use Rattle.std.specs.declared.cmp.Ordering.{Ordering}
 use Rattle.std.specs.declared.cmp.Ordering.TheVariants.{Equal}
 use Rattle.std.proofs.lemmas.Int.{ints}
+use Rattle.base_core.proofs.BoolLemmas.{and_right}
+use Rattle.base_core.proofs.IntLemmas.{int_le-le}
 use Rattle.point_core.specs.declared.fault.Place.{Place}
 use Rattle.point_core.specs.declared.any_type.AnyType.{AnyType}
 use Rattle.point_core.specs.Points.{Line, integers, days, values_of, line_of, is_number}
@@ -24,7 +26,6 @@ use Rattle.scalar_core.specs.Kinds.{PairKinds}
 use Rattle.scalar_core.specs.Operations.{compared, related, begin_of, end_of, pair_of}
 use Rattle.scalar_core.specs.Sweeping.{is_comparison}
 use Rattle.scalar_core.proofs.NearLemmas.{NearPoint, NearSpan, one, before_it, between, behind_it, near_point, near_span, near_begin, near_end, span_back, alike_tests, cmp-alike_left, cmp-alike_right, member-alike_left, member-alike_right}
-use Rattle.scalar_core.proofs.PointLemmas.{and_right, int_le-le}
 use Rattle.scalar_core.proofs.AtPlaceLemmas.{itself}
 
 -- ---- comparisons of intervals

@@ -4,6 +4,7 @@ use Rattle.std.proofs.Common.{arith, ap, inl, inr}
 use Rattle.std.proofs.lemmas.Bool.Decides.{leb_tells}
 use Rattle.std.proofs.lemmas.Int.{ints}
 use Rattle.point_core.specs.Dates.{is_leap, days_of_year, days_of_month, days_of_years, days_of_months, day_place, date_number, IsCalendarDate, IsDay}
+use Rattle.point_core.proofs.CalendarLemmas.{epoch_place}
 
 -- more years have no fewer days
 years-below : (n m : ℕ) → n ≤ m → days_of_years n ≤ days_of_years m
@@ -48,10 +49,6 @@ whole-year (suc year) low =
     let before : suc year - 1 ≡ year = omega arith in
     rw before
 
-epoch : day_place 1970 1 1 ≡ 719163
-unfolding day_place days_of_years days_of_months
-epoch = refl
-
 all-years : days_of_years 9999 ≡ 3652059
 unfolding days_of_years
 all-years = refl
@@ -62,4 +59,4 @@ is-day year month day h =
     let months = months-within year month h.2 h.3 in
     let whole = whole-year year h.0 in
     let below = years-below year 9999 h.1 in
-    (omega (arith, ints, epoch, h.4), omega (arith, ints, epoch, months, whole, below, all-years, h.5))
+    (omega (arith, ints, epoch_place, h.4), omega (arith, ints, epoch_place, months, whole, below, all-years, h.5))

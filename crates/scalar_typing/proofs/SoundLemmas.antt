@@ -2,8 +2,9 @@
 use Rattle.std.specs.Prelude.{◌≡◌, ◌<◌, ℕ, ℤ, pos, Bool, true, false, ◌&&◌, nat_le, List, length, Option, Some, None, Result, Ok, Err, IfOk, IfSome, slice_get, if◌then◌else◌, refl}
 use Rattle.std.proofs.Common.{arith, sym, subst}
 use Rattle.std.specs.Str.{bytes_eq}
-use Rattle.std.proofs.lemmas.Bool.{leb-true}
+use Rattle.std.proofs.lemmas.Bool.{leb-true, and_from}
 use Rattle.std.proofs.lemmas.Int.{ints}
+use Rattle.base_core.proofs.BoolLemmas.{and_right}
 use Rattle.point_core.specs.declared.fault.Place.{Place}
 use Rattle.point_core.specs.declared.fault.Stop.{Stop}
 use Rattle.point_core.specs.declared.any_type.AnyType.{AnyType}
@@ -23,7 +24,7 @@ use Rattle.value_core.specs.Values.{Name, Heading}
 use Rattle.scalar_core.specs.Answers.{Gives}
 use Rattle.scalar_core.specs.Expressions.{and_expr, or_expr, read}
 use Rattle.scalar_core.specs.Kinds.{IsTyped}
-use Rattle.scalar_core.proofs.PointLemmas.{and_right, same_line-self, number-is_number, both_true}
+use Rattle.scalar_core.proofs.PointLemmas.{same_line-self, number-is_number}
 use Rattle.value_core.specs.Limits.{most_text_bytes}
 use Rattle.scalar_typing.specs.declared.typed.Typed.{Typed as TypedTree}
 use Rattle.scalar_typing.specs.Typings.{Typed, ◌>>=◌, value_or, typed}
@@ -56,7 +57,7 @@ any-given (Err e) = tt
 -- ---- constants
 
 point-sound : (heading : Heading) (at : Place) (t : AnyType) (n : ℤ) → IsNumber t n → IsTypedPart heading (point_constant at t n)
-point-sound heading at t n h = (refl, both_true _ (is_number t n) (same_line-self (line_of t)) (number-is_number t n h))
+point-sound heading at t n h = (refl, and_from _ (is_number t n) (same_line-self (line_of t)) (number-is_number t n h))
 
 integer-some : (digits : List ℕ) → IfSome (integer_of digits) (IsNumber Integer)
 integer-some digits = if-some (IsNumber Integer) (nat_le _ 9223372036854775807) _ (λ h. let most = leb-true _ 9223372036854775807 h in (omega (arith, ints, most), omega (arith, ints, most)))

@@ -5,6 +5,7 @@ use Rattle.std.specs.List.{list_all}
 use Rattle.std.proofs.lemmas.Bool.{and_parts, and_from}
 use Rattle.std.proofs.lemmas.Int.{ints}
 use Rattle.std.proofs.lemmas.List.Elements.{All-cons, All-nil}
+use Rattle.base_core.proofs.ListLemmas.{bytes_eq-sym}
 use Rattle.point_core.specs.Points.{IsNumber, is_number, line_of, last_of}
 use Rattle.point_core.specs.declared.any_type.AnyType.{AnyType}
 use Rattle.point_core.specs.declared.any_type.AnyType.TheVariants.{Integer, Date, Ordinal}
@@ -26,7 +27,6 @@ use Rattle.since_during.proofs.HistoryLaws.{view-fits}
 use Rattle.since_during.proofs.HistoryTypes.{since-declared, during-declared, since-fits, during-fits, rule-fits, history-joined}
 use Rattle.since_during.proofs.JoinableLemmas.{named-more}
 use Rattle.since_during.proofs.JoinedLemmas.{joined-typed}
-use Rattle.since_during.proofs.NameLemmas.{either-side}
 use Rattle.since_during.proofs.StateLemmas.{free-more, none-named, own-named, with-relvar}
 
 last-number : (t : AnyType) → IsNumber t (last_of t)
@@ -100,7 +100,7 @@ module _ (s : State) (h : HistoryData) (made : IsWellMade s) (is : IsTypedHistor
 
   view-free : IsFreeIn second h.view
   view-free =
-      free-more first h.during during h.view (free-more s h.since since h.view is.view (either-side h.since h.view ∙ is.given.since)) (either-side h.during h.view ∙ is.given.during)
+      free-more first h.during during h.view (free-more s h.since since h.view is.view (bytes_eq-sym h.since h.view ∙ is.given.since)) (bytes_eq-sym h.during h.view ∙ is.given.during)
 
   last-typed : IsScalar sizes (since_heading h) (last_point h.place h.over) (Point h.over)
   last-typed = record {

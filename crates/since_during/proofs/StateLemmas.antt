@@ -7,13 +7,13 @@ use Rattle.std.proofs.Common.{sym, ap, ◌∙◌, subst, append_assoc}
 use Rattle.std.specs.List.{AllByRecursion, IsDistinct}
 use Rattle.std.specs.Str.{bytes_eq}
 use Rattle.std.proofs.lemmas.List.{append-nil, map-append}
+use Rattle.base_core.proofs.ListLemmas.{AllByRecursion-push, IsDistinct-push}
 use Rattle.value_core.specs.declared.list.OrdinalNames.{OrdinalNames}
 use Rattle.value_core.specs.Values.{Name}
 use Rattle.tree_core.specs.Relvars.{State, PlainRelvar, Entries, relvar_named}
 use Rattle.meaning_core.specs.Declarations.{with_relvar}
 use Rattle.meaning_core.specs.WellMade.{sizes_of, all_names, IsRelvar, AreRelvars, IsWellMade}
 use Rattle.since_during.specs.Histories.{IsFreeIn}
-use Rattle.since_during.proofs.PlaceLemmas.{each-push, distinct-push}
 
 -- ---- names
 
@@ -27,7 +27,7 @@ more-names s own r =
     ∙ ap (λ (names : List Name). ordinals ++ names) (sym (map-append (λ (e : Name × PlainRelvar). e.0) s.relvars ((own, r) ∷ [])))
 
 pub free-more : (s : State) (own : Name) (r : PlainRelvar) (name : Name) → IsFreeIn s name → bytes_eq own name ≡ false → IsFreeIn (with_relvar s own r) name
-free-more s own r name free other = subst (AreOther name) (more-names s own r) (each-push (λ (n : Name). bytes_eq n name ≡ false) (all_names s) own free other)
+free-more s own r name free other = subst (AreOther name) (more-names s own r) (AllByRecursion-push (λ (n : Name). bytes_eq n name ≡ false) (all_names s) own free other)
 
 behind : (name : Name) (ordinals names : List Name) → AreOther name (ordinals ++ names) → AreOther name names
 behind name [] names h = h
@@ -63,6 +63,6 @@ pub with-relvar : (s : State) (own : Name) (r : PlainRelvar) → IsWellMade s �
 with-relvar s own r made free is = record {
   few = made.few;
   ordinals = made.ordinals;
-  different = subst (IsDistinct bytes_eq) (more-names s own r) (distinct-push bytes_eq (all_names s) own made.different free);
+  different = subst (IsDistinct bytes_eq) (more-names s own r) (IsDistinct-push bytes_eq (all_names s) own made.different free);
   relvars = more-relvars (sizes_of s.ordinals) [] s.relvars own r made.relvars is;
 }

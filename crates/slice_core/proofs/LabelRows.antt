@@ -10,6 +10,7 @@ use Rattle.std.specs.List.Sorted.{IsStrictlySortedBy, IsSortedBy, IsPermutation}
 use Rattle.std.proofs.lemmas.Bool.{cases_lt, true≢false}
 use Rattle.std.proofs.lemmas.Cmp.{tied_itself, alike_right}
 use Rattle.std.proofs.lemmas.List.Sorted.{sorted_far, ranks_by, Contains-permutation, IsPermutation-sym}
+use Rattle.std.proofs.lemmas.List.{get_or_default}
 use Rattle.packing_core.specs.Packed.{IsIndexPackedTo, no_cells}
 use Rattle.packing_core.specs.Covering.{Among}
 use Rattle.packing_core.specs.Live.{box, has_place, InLive}
@@ -17,7 +18,6 @@ use Rattle.packing_core.proofs.Joined.{IsIndexRun-iff}
 use Rattle.packing_core.proofs.Inward.{some_place}
 use Rattle.packing_core.proofs.AmongLemmas.{among_append, among_map, among_filter}
 use Rattle.packing_core.proofs.Order.{among_contains, contains_among}
-use Rattle.packing_core.proofs.Numbered.{other_default}
 use Rattle.slice_core.specs.declared.bare.Bare.{Bare}
 use Rattle.slice_core.specs.PackedRows.{HasRow, IsPackedOf, AnyLabel, IsUnitedRow, bare, labelled}
 use Rattle.slice_core.specs.declared.inward.IndexBox.{IndexBox}
@@ -87,7 +87,7 @@ module _ {P : Type 0} (order : P → P → Ordering) (total : IsTotalOrder order
   IsPackedAt sides x = IsIndexPackedTo sides (HasAt x.0) x.1 []
 
   one_at : (r : ℕ) (l m : P) → IsAt r l → IsAt r m → l ≡ m
-  one_at r l m a b = sym a.1 ∙ other_default labels r l m a.0 ∙ b.1
+  one_at r l m a b = sym a.1 ∙ get_or_default labels r l m a.0 ∙ b.1
 
   not_equal : (l m : P) → order l m ≡ Less → l ≡ m → ⊥
   not_equal l m h e = let q : order l m ≡ Equal = subst (λ z. order l z ≡ Equal) e (tied_itself total l) in cc
@@ -130,7 +130,7 @@ module _ {P : Type 0} (order : P → P → Ordering) (total : IsTotalOrder order
     after_group r l f a =
         let below : end < length labels = omega (arith, a.0) in
         let le : P = get_or labels end l0 in
-        let ate : IsAt end le = (below, other_default labels end le l0 below) in
+        let ate : IsAt end le = (below, get_or_default labels end le l0 below) in
         let not_same : order l0 le ≢ Equal = λ q. other l0 l0 below (subst (λ z. order z le ≡ Equal) (sym at0.1) q) in
         less_then l0 le l (by_order l0 le (ascends first end l0 le (omega arith) at0 ate) not_same) (ascends end r le l f ate a)
 
@@ -267,7 +267,7 @@ module _ {P : Type 0} (order : P → P → Ordering) (total : IsTotalOrder order
         let d : Key = (l, []) in
         let x : Key = get_or sorted r d in
         let e : x ≡ (l, box boxes r) = λ t. ((sym (label_at r d l n) ∙ a.1) t, sym (box_at r d n) t) in
-        let m : Among (l, box boxes r) sorted = contains_among sorted (l, box boxes r) (r, n, other_default sorted r (l, box boxes r) d n ∙ e) in
+        let m : Among (l, box boxes r) sorted = contains_among sorted (l, box boxes r) (r, n, get_or_default sorted r (l, box boxes r) d n ∙ e) in
         contains_among rows (l, box boxes r) (Contains-permutation sorted rows (l, box boxes r) (IsPermutation-sym rows sorted moved) (among_contains sorted (l, box boxes r) m))
 
     pub at_row : (x : Key) → Among x rows → (r : ℕ) × IsAt r x.0 × (box boxes r ≡ x.1)

@@ -18,7 +18,7 @@ use Rattle.slice_core.specs.declared.bare.Bare.{Bare}
 use Rattle.slice_core.specs.PackedRows.{AnyLabel, IsUnitedRow, bare, labelled, span_of}
 use Rattle.slice_core.specs.Rows.{pair_cmp, pair_total}
 use Rattle.slice_core.specs.Parted.{IsGap, AreParted, HasCells, ComesBefore, EndsBefore, AreApartRows, live_row}
-use Rattle.slice_core.proofs.Sweeping.{cell_has, has_cell}
+use Rattle.slice_core.proofs.Sweeping.{cell_has, span_from}
 use Rattle.slice_core.proofs.UnitedLemmas.{Row, R, index_of, united_alone}
 
 -- ---- lists
@@ -160,7 +160,7 @@ module _ (boxes : List (List (ℕ × ℕ))) where
           let some = cells r m k (omega arith) in
           record {
             some = some;
-            each = λ i a b. (r, (among_filter (side_has boxes k i) r live).1 (m, has_cell (span_of boxes k r) i a b), f);
+            each = λ i a b. (r, (among_filter (side_has boxes k i) r live).1 (m, span_from (span_of boxes k r) i a b), f);
             before = λ i e q.
                 let a = at_cell i q.0 q.1 in
                 elim (by_last r q.0 m a.0 f q.2) [

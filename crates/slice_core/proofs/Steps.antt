@@ -9,7 +9,9 @@ use Rattle.std.specs.List.{AllByRecursion, filter}
 use Rattle.std.specs.List.Sorted.{IsStrictlySortedBy}
 use Rattle.std.proofs.lemmas.Cmp.{tied_itself}
 use Rattle.std.proofs.lemmas.Bool.{cases_lt}
-use Rattle.std.proofs.lemmas.Bool.Decides.{nat_tests}
+use Rattle.base_core.proofs.OrderingLemmas.{lt-nat_cmp, then-Equal}
+use Rattle.base_core.proofs.ListLemmas.{length_more}
+use Rattle.point_core.proofs.OrderLemmas.{then_same}
 use Rattle.packing_core.specs.Pieces.{Covers, HasPiece, AreApart, Apart}
 use Rattle.packing_core.specs.declared.Piece.{Piece}
 use Rattle.packing_core.specs.Covering.{Among}
@@ -20,22 +22,12 @@ use Rattle.slice_core.specs.Rows.{pair_cmp, key_cmp, key_total, tag, with_last, 
 
 -- ---- the order of keys
 
-pub both_equal : (r s : Ordering) → ordering_then r s ≡ Equal → (r ≡ Equal) × (s ≡ Equal)
-both_equal Less s e = cc
-both_equal Equal s e = (refl, e)
-both_equal Greater s e = cc
-
 pair_exact : IsAntisymmetric pair_cmp
 pair_exact x y e =
-    let w = both_equal (nat_cmp x.0 y.0) (nat_cmp x.1 y.1) e in
+    let w = then_same (nat_cmp x.0 y.0) (nat_cmp x.1 y.1) e in
     let a = nat_cmp-IsAntisymmetric x.0 y.0 w.0 in
     let b = nat_cmp-IsAntisymmetric x.1 y.1 w.1 in
     λ t. (a t, b t)
-
-then_equal : (r : Ordering) → ordering_then r Equal ≡ r
-then_equal Less = refl
-then_equal Equal = refl
-then_equal Greater = refl
 
 then_assoc : (r s t : Ordering) → ordering_then (ordering_then r s) t ≡ ordering_then r (ordering_then s t)
 then_assoc Less s t = refl
@@ -44,13 +36,10 @@ then_assoc Greater s t = refl
 
 -- one more of both
 slice_cmp_end : (xs ys : List (ℕ × ℕ)) (x y : ℕ × ℕ) → length xs ≡ length ys → slice_cmp pair_cmp (xs ++ x ∷ []) (ys ++ y ∷ []) ≡ ordering_then (slice_cmp pair_cmp xs ys) (pair_cmp x y)
-slice_cmp_end [] [] x y e = then_equal (pair_cmp x y)
+slice_cmp_end [] [] x y e = then-Equal (pair_cmp x y)
 slice_cmp_end [] (b ∷ ys) x y e = absurd (omega arith)
 slice_cmp_end (a ∷ xs) [] x y e = absurd (omega arith)
 slice_cmp_end (a ∷ xs) (b ∷ ys) x y e = ap (ordering_then (pair_cmp a b)) (slice_cmp_end xs ys x y (omega arith)) ∙ sym (then_assoc (pair_cmp a b) _ _)
-
-pub below_less : (a b : ℕ) → a < b → nat_cmp a b ≡ Less
-below_less a b h = grind (arith, nat_tests)
 
 pub split_at : {X : Type 0} (y : List X) (n : ℕ) → length y ≡ suc n → (z : List X) × (v : X) × (length z ≡ n) × (z ++ v ∷ [] ≡ y)
 split_at [] n e = absurd (omega arith)
@@ -58,10 +47,6 @@ split_at (x ∷ []) zero e = ([], x, refl, refl)
 split_at (x ∷ []) (suc n) e = absurd (omega arith)
 split_at (x ∷ w ∷ ws) zero e = absurd (omega arith)
 split_at (x ∷ w ∷ ws) (suc n) e = let r = split_at (w ∷ ws) n (omega arith) in (x ∷ r.0, r.1, ap suc r.2, λ i. x ∷ r.3 i)
-
-length_more : {X : Type 0} (z : List X) (v : X) → length (z ++ v ∷ []) ≡ suc (length z)
-length_more [] v = refl
-length_more (x ∷ xs) v = ap suc (length_more xs v)
 
 -- ---- pieces
 
@@ -126,7 +111,7 @@ module _ {P : Type 0} (order : P → P → Ordering) (total : IsTotalOrder order
 
   pub one_key : (a b : Key) → R a b ≡ Equal → a ≡ b
   one_key a b e =
-      let w = both_equal (order a.0 b.0) (slice_cmp pair_cmp a.1 b.1) e in
+      let w = then_same (order a.0 b.0) (slice_cmp pair_cmp a.1 b.1) e in
       let f = separates a.0 b.0 w.0 in
       let g = slice_cmp-IsAntisymmetric pair_exact a.1 b.1 w.1 in
       λ t. (f t, g t)
@@ -137,7 +122,7 @@ module _ {P : Type 0} (order : P → P → Ordering) (total : IsTotalOrder order
   apart_less : (p q : Piece Key) → length p.key.1 ≡ length q.key.1 → p.begin < p.end → Apart R p q → R (with_last p) (with_last q) ≡ Less
   apart_less p q e s a = end_cmp p q e ∙ elim a as (λ _. ordering_then (R p.key q.key) (pair_cmp (p.begin, p.end) (q.begin, q.end)) ≡ Less) [
     | inl l ↦ ap (λ c. ordering_then c (pair_cmp (p.begin, p.end) (q.begin, q.end))) l
-    | inr w ↦ ap (λ c. ordering_then c (pair_cmp (p.begin, p.end) (q.begin, q.end))) w.0 ∙ ap (λ c. ordering_then c (nat_cmp p.end q.end)) (below_less p.begin q.begin (omega (arith, w.1)))
+    | inr w ↦ ap (λ c. ordering_then c (pair_cmp (p.begin, p.end) (q.begin, q.end))) w.0 ∙ ap (λ c. ordering_then c (nat_cmp p.end q.end)) (lt-nat_cmp p.begin q.begin (omega (arith, w.1)))
   ]
 
   all_less : (j : ℕ) (p : Piece Key) (ps : List (Piece Key)) → length p.key.1 ≡ j → p.begin < p.end → AllByRecursion (λ q. length q.key.1 ≡ j) ps → AllByRecursion (Apart R p) ps → AllByRecursion (λ y. R (with_last p) y ≡ Less) (map with_last ps)

@@ -1,11 +1,11 @@
 -- The values of a relation's rows fit the kinds of its attributes.
-use Rattle.std.proofs.Common.{◌≡◌, ℕ, zero, suc, ◌<◌, ◌≤ℤ◌, ℤ, List, [], ◌∷◌, length, get_or, sym, ◌∙◌, subst, arith, true, false, ◌&&◌}
+use Rattle.std.proofs.Common.{◌≡◌, ℕ, zero, suc, ◌<◌, ◌≤ℤ◌, List, [], ◌∷◌, length, get_or, sym, ◌∙◌, subst, arith, false, ◌&&◌}
 use Rattle.std.specs.Prelude.{int_le}
 use Rattle.std.specs.Bool.{IsTrue}
 use Rattle.std.specs.List.{list_all}
 use Rattle.std.proofs.lemmas.Bool.{true≢false, and_parts}
-use Rattle.std.proofs.lemmas.Float.{T_from_true}
 use Rattle.std.proofs.lemmas.Int.{ints}
+use Rattle.base_core.proofs.IntLemmas.{int_le-le}
 use Rattle.point_core.specs.Points.{first_of, last_of, line_of, is_number}
 use Rattle.point_core.specs.Whole.{least_whole}
 use Rattle.point_core.specs.declared.any_type.AnyType.{AnyType}
@@ -41,9 +41,6 @@ first_is_whole : (t : AnyType) → least_whole ≤ℤ first_of t
 first_is_whole Integer = omega (arith, ints)
 first_is_whole Date = omega (arith, ints)
 first_is_whole (Ordinal of last) = omega (arith, ints)
-
-int_le-le : (a b : ℤ) → int_le a b ≡ true → a ≤ℤ b
-int_le-le a b e = record { le = T_from_true (int_le a b) e }
 
 -- an interval ends no earlier than it begins, at a whole number
 pub span_that_fits : (t : AnyType) (v : Value) → IsTrue (fits (SpanOf t) v) → ((span_of v).0 ≤ℤ (span_of v).1) × (least_whole ≤ℤ (span_of v).1)

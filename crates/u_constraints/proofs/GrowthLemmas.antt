@@ -29,6 +29,7 @@ use Rattle.relation_core.specs.Agreement.{part_of}
 use Rattle.relation_core.specs.Growth.{touched}
 use Rattle.relation_core.specs.Operators.{subtracted, united}
 use Rattle.relation_core.specs.Parts.{projected}
+use Rattle.relation_core.proofs.FilterLemmas.{length-filter_at_most}
 use Rattle.meaning_core.specs.Typing.{IsList}
 use Rattle.meaning_core.specs.WellMade.{AreAmong, FitsHeadings}
 use Rattle.u_set.specs.Boxes.{AreIntervals, IsShaped}
@@ -44,7 +45,7 @@ use Rattle.u_constraints.proofs.IntervalLemmas.{intervals_of_list}
 use Rattle.u_constraints.proofs.KeyLemmas.{is_key-AgreeOnce}
 use Rattle.u_constraints.proofs.OpenedLemmas.{in_unpack, unpack_within}
 use Rattle.u_constraints.proofs.TellingLemmas.{AreOutside, Relate, Names}
-use Rattle.u_constraints.proofs.TouchedLemmas.{IsTouched, fewer, within_length}
+use Rattle.u_constraints.proofs.TouchedLemmas.{IsTouched, within_length}
 
 -- ---- lines
 
@@ -61,19 +62,15 @@ one_line b code e = (lines_hold b code [] e).0
 key_positions : (key positions : List ℕ) → AreAmong key positions → (i : ℕ) → In i positions → In i key
 key_positions key positions h i m = among_in key i ((list_all-In (among key) positions).0 h i m)
 
-not_listed : (b : Bool) → IsTrue (not b) → b ≡ false
-not_listed true h = absurd (true≢false (sym h))
-not_listed false h = refl
-
 outside_false : (acl positions : List ℕ) → AreOutside acl positions → (i : ℕ) → In i positions → among acl i ≡ false
-outside_false acl positions h i m = not_listed (among acl i) ((list_all-In (λ k. not (among acl k)) positions).0 h i m)
+outside_false acl positions h i m = not-true (among acl i) ((list_all-In (λ k. not (among acl k)) positions).0 h i m)
 
 outside_apart : (acl positions : List ℕ) → AreOutside acl positions → (i : ℕ) → In i positions → In i acl → ⊥
 outside_apart acl positions h i m n = true≢false (sym (in_among acl i n) ∙ outside_false acl positions h i m)
 
 -- ---- more rows
 
-In-united : (a b : List Row) (x : Row) → In x (united a b) ↔ (In x a ⊎ In x b)
+pub In-united : (a b : List Row) (x : Row) → In x (united a b) ↔ (In x a ⊎ In x b)
 In-united a b x = In-union_of row_cmp row_total row_separates x a b
 
 In-projected : (positions : List ℕ) (rows : List Row) (z : Row) → In z (projected positions rows) ↔ ((x : Row) × In x rows × (z ≡ part_of positions x))
@@ -348,7 +345,7 @@ cost_beside (Foreign acl here name there) rows others more is = absurd (true≢f
 cost_beside (History rule) rows others more is = omega arith
 
 pub fewer_left : (most : ℕ) (rows gone : List Row) → length rows ≤ most → most < length (subtracted rows gone) → ⊥
-fewer_left most rows gone few many = let less = fewer (λ x. not (has row_cmp gone x)) rows in omega (arith, few, many, less)
+fewer_left most rows gone few many = let less = length-filter_at_most (λ x. not (has row_cmp gone x)) rows in omega (arith, few, many, less)
 
 -- ---- what a call answers
 
@@ -390,7 +387,7 @@ none_broken c of gone come others rows g b is fits same empty found held =
     sym (fewer_hold of is (exchanged of.rows gone come) (exchanged_ascends of.rows gone come) less c g others fits held)
 
 -- where none goes, all are left
-all_left : (rows : List Row) → rows ≡ subtracted rows []
+pub all_left : (rows : List Row) → rows ≡ subtracted rows []
 all_left [] = refl
 all_left (x ∷ rows) = ap (λ (rs : List Row). x ∷ rs) (all_left rows)
 

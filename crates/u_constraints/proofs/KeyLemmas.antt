@@ -3,7 +3,7 @@ use Rattle.std.proofs.Common.{◌≡◌, ◌↔◌, inl, inr, ℕ, suc, ◌+◌,
 use Rattle.std.specs.declared.cmp.Ordering.TheVariants.{Less, Equal, Greater}
 use Rattle.std.specs.Bool.{IsTrue}
 use Rattle.std.specs.Cmp.{IsTotalOrder, tied_itself}
-use Rattle.std.specs.List.{list_all, All}
+use Rattle.std.specs.List.{list_all}
 use Rattle.std.specs.Ordering.{eq_by_cmp}
 use Rattle.std.proofs.lemmas.Bool.{eqb-true, or_cases, or_left, or_right, not-true, both_ways}
 use Rattle.std.proofs.lemmas.List.{length-map}
@@ -12,12 +12,10 @@ use Rattle.base_core.specs.Sets.{placed, put, in_order, has, is_within}
 use Rattle.base_core.proofs.SetLemmas.{In, AllAfter, Ascends, Separates, In-put, In-in_order, Ascends-put, Ascends-in_order, in_after, same_by_members}
 use Rattle.base_core.proofs.MemberLemmas.{In-map, list_all-In, eq_by_cmp-≡}
 use Rattle.base_core.proofs.SetOperatorLemmas.{same_tests, length-in_order, list_all-in_order}
-use Rattle.value_core.specs.Values.{Row, Relation, IsRelation, fits_heading, row_cmp}
+use Rattle.value_core.specs.Values.{Row, row_cmp}
 use Rattle.value_core.specs.Order.{row_total, row_separates}
 use Rattle.relation_core.specs.Agreement.{part_of}
 use Rattle.relation_core.specs.Parts.{projected}
-use Rattle.relation_core.proofs.AgreementLemmas.{length_of_fit}
-use Rattle.relation_core.proofs.FilterLemmas.{passes_at}
 use Rattle.u_constraints.specs.Constraints.{agree_on, are_apart, is_key}
 
 -- each member stands once
@@ -138,16 +136,6 @@ within_by_search here rows keys =
     sym (list_all-in_order row_cmp row_total row_separates (has row_cmp keys) (map (part_of here) rows) ∙ list_all-map (has row_cmp keys) (part_of here) rows)
 
 -- ---- positions in the rows of a relation
-
--- positions in the heading lie in each row
-pub positions_within : (r : Relation) (rows : List Row) (i : ℕ) (x : Row) (positions : List ℕ) → IsRelation r → rows ≡ r.rows → i < length rows → x ≡ get_or rows i x
-    → All (λ (k : ℕ). k < length r.heading) positions → All (λ (k : ℕ). k < length x) positions
-positions_within r rows i x positions is same l at within k d lt =
-    let all : IsTrue (list_all (fits_heading r.heading) rows) = subst (λ (zs : List Row). IsTrue (list_all (fits_heading r.heading) zs)) (sym same) is.fitting in
-    let fits : IsTrue (fits_heading r.heading x) = subst (λ (z : Row). IsTrue (fits_heading r.heading z)) (sym at) (passes_at (fits_heading r.heading) rows i x all l) in
-    let size = length_of_fit r.heading x fits in
-    let below = within k d lt in
-    omega (arith, size, below)
 
 -- ---- the search for each row's part
 

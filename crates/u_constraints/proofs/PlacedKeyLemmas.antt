@@ -21,8 +21,8 @@ use Rattle.slice_core.specs.PackedRows.{IsPackedOf}
 use Rattle.box_core.specs.Apartness.{AreApart}
 use Rattle.box_core.specs.Common.{At, has_cell, HaveCells}
 use Rattle.box_core.specs.Rows.{IsRow}
-use Rattle.box_core.proofs.PlaceLemmas.{span_from, cell_from, cell_parts}
-use Rattle.slice_core.proofs.Sweeping.{cell_has}
+use Rattle.box_core.proofs.PlaceLemmas.{cell_from, cell_parts}
+use Rattle.slice_core.proofs.Sweeping.{cell_has, span_from}
 use Rattle.box_core.proofs.PointLemmas.{cell_at, InGrid}
 use Rattle.box_core.proofs.RowLemmas.{row_among, among_row, one_row, map_row, row_map}
 use Rattle.cell_core.specs.CellRows.{AreOverCells}

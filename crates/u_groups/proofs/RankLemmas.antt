@@ -8,7 +8,7 @@ use Rattle.std.specs.List.Sorted.{IsStrictlySortedBy, IsSearchInRange, IsBinaryS
 use Rattle.std.specs.Ordering.{eq_by_cmp, is_eq}
 use Rattle.std.specs.Result.{is_ok}
 use Rattle.std.proofs.lemmas.Bool.{true≢false}
-use Rattle.std.proofs.lemmas.List.{length-map}
+use Rattle.std.proofs.lemmas.List.{length-map, get_or_default}
 use Rattle.base_core.specs.Sets.{in_order}
 use Rattle.base_core.proofs.MemberLemmas.{eq_by_cmp-≡, has-In}
 use Rattle.base_core.proofs.SetLemmas.{In-in_order, Ascends-from_sorted, in_after}
@@ -17,7 +17,6 @@ use Rattle.value_core.specs.Values.{Row, row_cmp}
 use Rattle.value_core.proofs.RelationLemmas.{searched_has}
 use Rattle.packing_core.specs.Covering.{Among}
 use Rattle.packing_core.proofs.AmongLemmas.{among_map}
-use Rattle.packing_core.proofs.Numbered.{other_default}
 use Rattle.box_core.specs.Rows.{KeyBox, IsRow}
 use Rattle.box_core.proofs.CoveredLemmas.{all_from}
 use Rattle.box_core.proofs.RowLemmas.{row_among}
@@ -88,7 +87,7 @@ module _ (rows : List (KeyBox Row)) (labels : List Row) (there : All (λ (x : Ke
       let none : KeyBox Row = ([], []) in
       let c : length ranks ≡ length rows = length-map rows (λ (x : KeyBox Row). number_in labels x.0) in
       let n = long in
-      other_default ranks r 0 (number_in labels []) (omega (arith, l, c, n)) ∙ get_in (λ (x : KeyBox Row). number_in labels x.0) rows r none
+      get_or_default ranks r 0 (number_in labels []) (omega (arith, l, c, n)) ∙ get_in (λ (x : KeyBox Row). number_in labels x.0) rows r none
       ∙ ap (number_in labels) (sym (get_in (λ (x : KeyBox Row). x.0) rows r none))
 
   own_there : (r : ℕ) → r < length own → Among (get_or own r []) labels

@@ -33,14 +33,6 @@ name_back (a ∷ rest) n e =
       | false ↦ λ h k. name_back rest n k
     ]) refl e
 
-pub position_in : (heading : Heading) (n : Name) → IsTrue (has_name heading n) → position_of heading n < length heading
-position_in [] n e = absurd (true≢false (sym e))
-position_in (a ∷ rest) n e =
-    (elim (bytes_eq a.0 n) as (λ b. IsTrue (b || has_name rest n) → (if b then 0 else suc (position_of rest n)) < suc (length rest)) [
-      | true ↦ λ k. omega arith
-      | false ↦ λ k. let w = position_in rest n k in omega (arith, w)
-    ]) e
-
 pub one_name : (heading : Heading) (m n : Name) → IsTrue (has_name heading m) → IsTrue (has_name heading n) → position_of heading m ≡ position_of heading n → m ≡ n
 one_name heading m n g h e = sym (name_back heading m g) ∙ ap (λ i. (get_or heading i no_attribute).0) e ∙ name_back heading n h
 

@@ -5,6 +5,7 @@
 use Rattle.std.proofs.Common.{◌≡◌, inl, inr, ℕ, suc, ◌+◌, ◌<◌, ◌≤◌, true, false, List, [], ◌∷◌, length, sym, ap, ap₂, ◌∙◌, subst, arith}
 use Rattle.std.specs.List.{All}
 use Rattle.base_core.proofs.SetLemmas.{In, Ascends-from_sorted}
+use Rattle.base_core.proofs.ListLemmas.{All-In}
 use Rattle.value_core.specs.Attributes.{among}
 use Rattle.value_core.specs.RowPacking.{packed, unpacked}
 use Rattle.value_core.specs.Values.{Row, Heading, Relation, IsRelation, most_rows, row_cmp}
@@ -17,7 +18,6 @@ use Rattle.cell_core.specs.Costs.{bound}
 use Rattle.u_set.specs.Apart.{outside_from, outside}
 use Rattle.u_set.specs.Boxes.{AreIntervals, unless}
 use Rattle.u_set.proofs.RelationLemmas.{relation_shaped, shaped_under}
-use Rattle.u_row.proofs.BeneathLemmas.{all_in}
 use Rattle.u_constraints.specs.Growth.{exchanged}
 use Rattle.u_constraints.proofs.BoundLemmas.{bound_grows}
 use Rattle.u_labels.proofs.LabelLemmas.{IsSet}
@@ -37,7 +37,7 @@ in_outside n acl (a ∷ heading) i m =
 
 pub outside_within : (acl : List ℕ) (heading : Heading) (positions : List ℕ) → positions ≡ outside acl heading → All (λ (i : ℕ). i < length heading) positions
 outside_within acl heading positions same =
-    subst (All (λ (i : ℕ). i < length heading)) (sym same) (all_in (λ (i : ℕ). i < length heading) (outside acl heading) (λ i m. let l = in_outside 0 acl heading i m in omega (arith, l)))
+    subst (All (λ (i : ℕ). i < length heading)) (sym same) (All-In (λ (i : ℕ). i < length heading) (outside acl heading) (λ i m. let l = in_outside 0 acl heading i m in omega (arith, l)))
 
 -- ---- what the calls come to
 

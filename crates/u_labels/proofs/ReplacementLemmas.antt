@@ -8,7 +8,7 @@ use Rattle.std.proofs.lemmas.Bool.{true≢false, or_cases, or_left, or_right}
 use Rattle.base_core.specs.Sets.{has, is_within}
 use Rattle.base_core.proofs.SetLemmas.{In, Ascends, Ascends-from_sorted, same_by_members}
 use Rattle.base_core.proofs.MemberLemmas.{has-In}
-use Rattle.base_core.proofs.SetOperatorLemmas.{In-union_of, Ascends-union_of, Ascends-difference_of, is_within-In}
+use Rattle.base_core.proofs.SetOperatorLemmas.{Ascends-union_of, Ascends-difference_of, is_within-In}
 use Rattle.value_core.specs.Order.{row_total, row_separates}
 use Rattle.value_core.specs.RowPacking.{packed, unpacked}
 use Rattle.value_core.specs.Values.{Row, Heading, Relation, IsRelation, most_rows, row_cmp}
@@ -24,6 +24,7 @@ use Rattle.u_constraints.specs.Growth.{exchanged}
 use Rattle.u_constraints.proofs.BoundLemmas.{bound_grows}
 use Rattle.u_constraints.proofs.GrownKeyLemmas.{In-exchanged}
 use Rattle.u_constraints.proofs.TouchedLemmas.{within_length}
+use Rattle.u_constraints.proofs.GrowthLemmas.{In-united}
 use Rattle.u_labels.proofs.LabelLemmas.{IsSet, HasPlace, box_among, knows, both, both_set, both_places, packed_set, none_packed, same_packed, part_known, place_known}
 use Rattle.u_labels.proofs.ExchangeLemmas.{In-subtracted, counted, either}
 use Rattle.u_labels.proofs.InsertionLemmas.{smaller_refused, not_refused}
@@ -34,9 +35,6 @@ pub in_or_not : (x : Row) (rows : List Row) → In x rows ⊎ (In x rows → ⊥
 in_or_not x rows =
     let h = has-In row_cmp row_total row_separates rows x in
     elim (either (has row_cmp rows x)) [ inl t ↦ inl (h.0 t) | inr e ↦ inr (λ i. true≢false (sym (h.1 i) ∙ e)) ]
-
-In-united : (a b : List Row) (x : Row) → In x (united a b) ↔ (In x a ⊎ In x b)
-In-united a b x = In-union_of row_cmp row_total row_separates x a b
 
 -- ---- rows that give way to others
 

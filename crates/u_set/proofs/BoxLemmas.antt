@@ -16,8 +16,8 @@ use Rattle.value_core.specs.declared.kind.Kind.TheVariants.{Truth, Span as SpanO
 use Rattle.value_core.specs.Attributes.{value_at, span_of, with_span, among}
 use Rattle.value_core.specs.RowPacking.{attribute}
 use Rattle.value_core.specs.Values.{Name, Value, Row, Heading, truth, text, point, interval, same_line, is_interval, fits, fits_heading}
-use Rattle.value_core.proofs.FitLemmas.{lines_same}
 use Rattle.value_core.proofs.RelationLemmas.{other_length}
+use Rattle.value_core.proofs.FitLemmas.{same_line-same}
 use Rattle.relation_core.specs.Parts.{kind_at}
 use Rattle.packing_core.specs.Boxed.{side, sides_from}
 use Rattle.packing_core.specs.Packed.{nowhere}
@@ -195,7 +195,7 @@ module _ (heading : Heading) (acl : List ℕ) (intervals : AreIntervals heading 
   interval_that_fits t (truth b) h = absurd (true≢false (sym h))
   interval_that_fits t (text bytes) h = absurd (true≢false (sym h))
   interval_that_fits t (point l p) h = absurd (true≢false (sym h))
-  interval_that_fits t (interval l i) h = ap (λ m. interval m i) (lines_same l (line_of t) (and_parts (same_line l (line_of t)) (is_interval t i) h).0)
+  interval_that_fits t (interval l i) h = ap (λ m. interval m i) (same_line-same l (line_of t) (and_parts (same_line l (line_of t)) (is_interval t i) h).0)
 
   others_fit : (n : ℕ) (h : Heading) (row : Row) → IsTrue (fits_heading h row) → IsTrue (fits_heading (others_from n acl h) (others_from n acl row))
   others_fit n [] [] f = refl

@@ -6,12 +6,12 @@ use Rattle.std.specs.Bool.{IsTrue}
 use Rattle.std.specs.Cmp.{IsTotalOrder}
 use Rattle.std.specs.Int.RustNames.{int_le}
 use Rattle.std.specs.List.{filter, flat_map, list_all}
-use Rattle.std.proofs.lemmas.Cmp.{tied_itself}
 use Rattle.std.proofs.lemmas.List.{length-map}
 use Rattle.base_core.specs.Sets.{placed, put, in_order, is_within, are_same}
 use Rattle.base_core.proofs.SetLemmas.{In, Ascends, Separates, In-in_order, Ascends-in_order, in_after, same_by_members}
 use Rattle.base_core.proofs.MemberLemmas.{In-map, In-flat_map, In-filter, has-In}
 use Rattle.base_core.proofs.SetOperatorLemmas.{same_tests, is_within-In}
+use Rattle.base_core.proofs.OrderingLemmas.{not_before_itself}
 use Rattle.interval_core.specs.Members.{Span, at_point, members}
 use Rattle.interval_core.specs.Packing.{Side, unpack1, has_at, is_longest, spanned, pack1, unpack, pack_each, pack}
 use Rattle.cell_core.proofs.Listing.{Distinct}
@@ -99,16 +99,13 @@ module _ {X : Type 0} (cmp : X → X → Ordering) (o : IsTotalOrder cmp) (same 
   length_distinct (x ∷ xs) h =
       put_longer cmp same x (in_order cmp xs) (λ i. h.0 ((In-in_order cmp o same x xs).0 i)) ∙ ap suc (length_distinct xs h.1)
 
-  not_before_itself : (x : X) → cmp x x ≡ Less → ⊥
-  not_before_itself x l = let e : Less ≡ Equal = sym l ∙ tied_itself o x in cc
-
   -- what a function that tells members apart makes of a list in order
   distinct_map : {Y : Type 0} (f : X → Y) (xs : List X) → ((x z : X) → In x xs → In z xs → f x ≡ f z → x ≡ z) → Ascends cmp xs → Distinct (map f xs)
   distinct_map f [] one h = tt
   distinct_map f (x ∷ xs) one h = (
     λ i. let w = (In-map f (f x) xs).0 i in
         let e : x ≡ w.0 = one x w.0 (inl refl) (inr w.1) w.2 in
-        not_before_itself x (in_after cmp o same x x xs h.0 (subst (λ z. In z xs) (sym e) w.1)),
+        not_before_itself cmp o x (in_after cmp o same x x xs h.0 (subst (λ z. In z xs) (sym e) w.1)),
     distinct_map f xs (λ y z i j. one y z (inr i) (inr j)) h.1,
   )
 

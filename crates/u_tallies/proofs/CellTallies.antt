@@ -6,7 +6,7 @@ use Rattle.std.proofs.Common.{◌≡◌, ◌≢◌, ◌↔◌, ◌⊎◌, inl, i
 use Rattle.std.specs.List.{All, list_any}
 use Rattle.std.specs.Ordering.{eq_by_cmp}
 use Rattle.std.proofs.lemmas.Bool.{cases_lt, and_parts, and_from, true≢false}
-use Rattle.std.proofs.lemmas.List.{length-map}
+use Rattle.std.proofs.lemmas.List.{length-map, get_or_default}
 use Rattle.base_core.proofs.MemberLemmas.{eq_by_cmp-≡}
 use Rattle.value_core.specs.Order.{row_total, row_separates}
 use Rattle.value_core.specs.Values.{Row, row_cmp}
@@ -14,7 +14,6 @@ use Rattle.relation_core.specs.Agreement.{part_of}
 use Rattle.packing_core.specs.Covering.{Among}
 use Rattle.packing_core.specs.Live.{has_place}
 use Rattle.packing_core.proofs.AmongLemmas.{among_filter}
-use Rattle.packing_core.proofs.Numbered.{other_default}
 use Rattle.slice_core.proofs.Turns.{AreRows-filter, least_iff}
 use Rattle.slice_core.specs.LeastFault.{IsLeast}
 use Rattle.point_core.specs.declared.fault.Fault.{Fault}
@@ -281,7 +280,7 @@ module _ (by : List ℕ) (rows : List (KeyBox Row)) (entries : List (KeyedBox Ro
           ],
           λ h.
               let l = h.1.0 in
-              let e : row_at keys r ≡ h.0 = other_default keys r none h.0 l ∙ h.1.1 in
+              let e : row_at keys r ≡ h.0 = get_or_default keys r none h.0 l ∙ h.1.1 in
               get_map keys r l ∙ ap t e ∙ and_from (eq_by_cmp row_cmp (h.0).0 key) (has_place (h.0).1 place) ((eq_by_cmp-≡ row_cmp row_total row_separates (h.0).0 key).1 h.2) h.3,
         );
       },

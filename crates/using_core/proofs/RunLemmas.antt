@@ -20,8 +20,9 @@ use Rattle.cell_core.specs.Cells.{box_numbers}
 use Rattle.cell_core.specs.Numbering.{numbers_of}
 use Rattle.u_row.specs.Cutting.{AreCuts, pieces}
 use Rattle.u_row.proofs.CuttingLemmas.{in_piece, piece_in, piece_some}
-use Rattle.u_row.proofs.RuleLemmas.{least_chain, least_same}
+use Rattle.u_row.proofs.RuleLemmas.{least_chain}
 use Rattle.meaning_core.specs.Meanings.{condition}
+use Rattle.slice_core.proofs.Turns.{least_iff}
 use Rattle.using_core.specs.Holding.{at_number, InSpans, HoldsIn, FailsIn}
 use Rattle.using_core.specs.SteadyLaws.{piece_beside}
 
@@ -148,7 +149,7 @@ module _ (c : Expr) (at : ℕ) (row : Row) where
         let M : Fault → Type 0 = λ d. here (numbers_of number part) ≡ Err d in
         let more = fails_more (box_numbers number (take k parts)) (numbers_of number part) in
         subst (λ (is : List Span). IsLeast (λ d. (o ≡ Some d) ⊎ FailsIn c at row is d) b) (sym one_more)
-        (least_same (λ d. Q d ⊎ M d) (λ d. (o ≡ Some d) ⊎ FailsIn c at row (box_numbers number (take k parts) ++ numbers_of number part ∷ []) d) b (λ d. (
+        (least_iff (λ d. Q d ⊎ M d) (λ d. (o ≡ Some d) ⊎ FailsIn c at row (box_numbers number (take k parts) ++ numbers_of number part ∷ []) d) b (λ d. (
           λ w. elim w [ inl q ↦ elim q [ inl u ↦ inl u | inr v ↦ inr ((more d).0 (inl v)) ] | inr m ↦ inr ((more d).0 (inr m)) ],
           λ w. elim w [ inl u ↦ inl (inl u) | inr v ↦ elim ((more d).1 v) [ inl x ↦ inl (inr x) | inr y ↦ inr y ] ],
         )) (least_chain Q M a b ha hb))

@@ -1,9 +1,9 @@
 use Rattle.std.proofs.Common.{◌≡◌, ◌<◌, ◌≤◌, ◌↔◌, ◌⊎◌, ◌-◌, ℕ, List, [], ◌∷◌, suc, arith, ap, sym, refl, subst, length, get_or, ◌∙◌, map, ◌++◌, Vec, Global, Some, Option}
 use Rattle.std.specs.List.{filter, flat_map}
 use Rattle.std.proofs.lemmas.List.Elements.{All-same}
+use Rattle.std.proofs.lemmas.List.{get_or_default}
 use Rattle.packing_core.specs.Covering.{Among}
 use Rattle.packing_core.specs.Live.{box, side_has, InLive, IsSomewhere}
-use Rattle.packing_core.proofs.Numbered.{other_default}
 use Rattle.point_core.specs.declared.fault.Fault.{Fault}
 use Rattle.slice_core.specs.LeastFault.{IsLeast}
 use Rattle.slice_core.specs.PackedRows.{HasRow, cuts_of}
@@ -97,7 +97,7 @@ loop-i-preserved g t c =
     let f = GivesLabel (g.O.CellOp.means c.args.op.now) 0 in
     let h = GivesFault (g.O.CellOp.means c.args.op.now) 0 in
     let l : i < length cuts = omega arith in
-    let e : get_or cuts i 0 ≡ z = other_default cuts i 0 z l ∙ sym c.index-end.ensures in
+    let e : get_or cuts i 0 ≡ z = get_or_default cuts i 0 z l ∙ sym c.index-end.ensures in
     let order : (j k : ℕ) → j ≤ k → k < length cuts → get_or cuts j 0 ≤ get_or cuts k 0 = c.in_ok-cuts.ensures.order in
     let S : ℕ → g.row.O-Out.Denot → List ℕ → Type 0 = λ j t place. InLive f b (filter (side_has b side j) live) [] t place in
     let Q : ℕ → Fault → Type 0 = λ j d. IsSomewhere side h b (filter (side_has b side j) live) [] d in

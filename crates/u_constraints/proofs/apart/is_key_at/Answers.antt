@@ -11,9 +11,9 @@ use Rattle.box_core.specs.Common.{HaveCells}
 use Rattle.box_core.specs.Rows.{KeyBox}
 use Rattle.cell_core.specs.Cells.{row_numbers}
 use Rattle.cell_core.proofs.OneSide.{all_among}
+use Rattle.u_set.proofs.ApartLemmas.{if_ok}
 use Rattle.u_row.specs.Labels.{relabelled}
 use Rattle.u_constraints.specs.Places.{IsKeyAt}
-use Rattle.u_constraints.proofs.OutcomeLemmas.{if_ok}
 use Rattle.u_constraints.proofs.PlacedKeyLemmas.{form_lengths, form_cells, form_labels, told_apart}
 use Rattle.u_constraints.proofs.apart.is_key_at.Goals as goal
 
