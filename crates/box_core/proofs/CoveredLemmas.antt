@@ -2,13 +2,13 @@
 use Rattle.std.proofs.Common.{◌≡◌, ◌≢◌, ℕ, zero, suc, ◌<◌, ◌≤◌, true, List, [], ◌∷◌, ◌++◌, map, length, get_or, ◌↔◌, ◌⊎◌, inl, inr, arith, sym, ap, subst, refl, ◌∙◌, Option, Some, Result}
 use Rattle.std.specs.List.{All, AllByRecursion, filter, flat_map}
 use Rattle.std.proofs.lemmas.Bool.{cases_lt, and_parts, and_from}
-use Rattle.std.proofs.lemmas.List.Elements.{All-append, All-same, All-from_recursion}
+use Rattle.std.proofs.lemmas.List.Elements.{All-append, All-same}
 use Rattle.std.proofs.lemmas.List.{nil_from_length}
 use Rattle.base_core.proofs.ListLemmas.{length_more}
 use Rattle.packing_core.specs.Covering.{Among}
 use Rattle.packing_core.specs.Live.{span_has, has_place, box, side_has, InLive, IsSomewhere}
 use Rattle.packing_core.specs.Packed.{no_cells}
-use Rattle.packing_core.proofs.AmongLemmas.{among_append, among_map, among_filter}
+use Rattle.packing_core.proofs.AmongLemmas.{among_append, among_map, among_filter, all_from_members}
 use Rattle.packing_core.proofs.Inward.{HasSides, in_live_last}
 use Rattle.point_core.specs.declared.fault.Fault.{Fault}
 use Rattle.slice_core.specs.LeastFault.{IsLeast}
@@ -24,13 +24,6 @@ use Rattle.slice_core.proofs.Sweeping.{cell_has, span_from}
 use Rattle.slice_core.proofs.LabelRows.{some_of}
 
 -- ---- lists
-
-pub all_from : {X : Type 0} (Q : X → Type 0) (xs : List X) → ((x : X) → Among x xs → Q x) → All Q xs
-all_from {X} Q xs h = All-from_recursion Q xs (go xs h)
-  where
-    go : (ys : List X) → ((x : X) → Among x ys → Q x) → AllByRecursion Q ys
-    go [] k = tt
-    go (y ∷ ys) k = (k y (inl refl), go ys (λ x m. k x (inr m)))
 
 -- ---- one more side
 
@@ -99,7 +92,7 @@ turn_lengths {P} k n cells more old new rows made lens a =
     let Q : KeyBox P → Type 0 = λ x. length x.1 ≡ n in
     All-same Q new (old ++ map (longer cells) rows) made
     (All-append Q old (map (longer cells) rows) a
-    (all_from Q (map (longer cells) rows) (λ y m.
+    (all_from_members Q (map (longer cells) rows) (λ y m.
     let w = (among_map (longer cells) y rows).0 m in
     let x : KeyBox P = w.0 in
     subst Q w.2 (length_more x.1 cells ∙ ap suc (lens x w.1) ∙ more))))

@@ -10,7 +10,7 @@ use Rattle.std.proofs.lemmas.List.Elements.{All-append, All-same}
 use Rattle.std.proofs.lemmas.List.{get_or_default}
 use Rattle.packing_core.specs.Covering.{Among}
 use Rattle.packing_core.specs.Live.{has_place, box}
-use Rattle.packing_core.proofs.AmongLemmas.{among_append, among_map, among_filter}
+use Rattle.packing_core.proofs.AmongLemmas.{among_append, among_map, among_filter, all_from_members}
 use Rattle.packing_core.proofs.Same.{same_sorted}
 use Rattle.point_core.specs.declared.fault.Fault.{Fault}
 use Rattle.slice_core.specs.LeastFault.{IsLeast}
@@ -23,7 +23,6 @@ use Rattle.box_core.specs.Common.{At, EndsBy}
 use Rattle.box_core.specs.Groups.{IsGroup, OfGroup}
 use Rattle.box_core.specs.Meetings.{boxes_in}
 use Rattle.box_core.specs.Rows.{Ascend, IsRow, KeyBox}
-use Rattle.box_core.proofs.CoveredLemmas.{all_from}
 use Rattle.box_core.proofs.RowLemmas.{row_among, among_row, one_row, row_sides, row_there, map_row}
 use Rattle.slice_core.proofs.LabelRows.{map_length, some_of}
 
@@ -71,7 +70,7 @@ module _ {P : Type 0} (bs : List IndexBox) (rows : List (KeyBox P)) (are : sides
   rows_of_boxes first end live within a = subst (λ n. AreRows 0 n live) (sym boxes_count) (AreRows-wider 0 first end (length rows) live (omega arith) within a)
 
   pub sides_of_boxes : (k : ℕ) → All (λ (x : KeyBox P). length x.1 ≡ k) rows → All (λ (x : IndexBox). k ≤ length x.sides.items) bs
-  sides_of_boxes k a = all_from (λ (x : IndexBox). k ≤ length x.sides.items) bs (λ b m.
+  sides_of_boxes k a = all_from_members (λ (x : IndexBox). k ≤ length x.sides.items) bs (λ b m.
       let y : List (ℕ × ℕ) = b.sides.items in
       let w = (among_map (λ (x : KeyBox P). x.1) y rows).0 (subst (Among y) are ((among_map (λ (x : IndexBox). x.sides.items) y bs).1 (b, m, refl))) in
       let x : KeyBox P = w.0 in

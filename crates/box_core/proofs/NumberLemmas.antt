@@ -9,6 +9,7 @@ use Rattle.std.proofs.lemmas.Cmp.{tied_itself, tied_back, alike_right, nat_cmp_t
 use Rattle.std.proofs.lemmas.List.{get_or_append_left, get_or_at, length-append}
 use Rattle.base_core.proofs.OrderingLemmas.{lt-nat_cmp}
 use Rattle.packing_core.specs.Covering.{Among}
+use Rattle.packing_core.proofs.AmongLemmas.{all_from_members}
 use Rattle.slice_core.specs.PackedRows.{HasRow}
 use Rattle.box_core.specs.Answers.{IsBoxOf, IsBoxOfKeyed, InBoth, InFirst, IsMatched, IsUnmatched, IsJoined, KeyedBox}
 use Rattle.box_core.specs.Common.{At, first_of}
@@ -17,7 +18,6 @@ use Rattle.box_core.specs.KeyNumbers.{AreNumbered, HaveNumbers, Begins, IsCount,
 use Rattle.box_core.specs.Meetings.{boxes_in, IsShared, IsPair}
 use Rattle.box_core.specs.Outside.{IsRest}
 use Rattle.box_core.specs.Rows.{IsRow, Ascend, KeyBox}
-use Rattle.box_core.proofs.CoveredLemmas.{all_from}
 use Rattle.box_core.proofs.JoinLemmas.{is_joined}
 use Rattle.box_core.proofs.OperatorLemmas.{box_of_keyed, has_alike, is_matched, is_unmatched}
 use Rattle.box_core.proofs.RowLemmas.{row_among, among_row, one_row, row_there, row_sides, map_row, row_map}
@@ -368,7 +368,7 @@ module _ {P : Type 0} (left right sorted others : List (KeyBox P)) (ls : (x : Ke
 -- ---- as many sides
 
 pub sides_numbered : {K : Type 0} (k : ℕ) (rows : List (KeyBox K)) (withs : List (KeyBox ℕ)) → boxes_in withs ≡ boxes_in rows → All (λ x. length x.1 ≡ k) rows → All (λ x. length x.1 ≡ k) withs
-sides_numbered {K} k rows withs e a = all_from (λ (x : KeyBox ℕ). length x.1 ≡ k) withs (λ w h.
+sides_numbered {K} k rows withs e a = all_from_members (λ (x : KeyBox ℕ). length x.1 ≡ k) withs (λ w h.
     let i = among_row withs w h in
     let x = same_box rows withs e i.0 w i.1 in
     sym (ap length x.2) ∙ row_sides k rows a i.0 x.0 x.1)

@@ -15,7 +15,7 @@ use Rattle.base_core.proofs.SetLemmas.{Separates}
 use Rattle.packing_core.specs.Boxed.{Boxed, packed_boxes, InBoxes}
 use Rattle.packing_core.specs.Covering.{Among}
 use Rattle.packing_core.specs.Packed.{Has, no_cells}
-use Rattle.packing_core.proofs.AmongLemmas.{among_map}
+use Rattle.packing_core.proofs.AmongLemmas.{among_map, each_from_members}
 use Rattle.packing_core.proofs.Cells.{Cuts, box_of}
 use Rattle.packing_core.proofs.Whole.{length_box}
 use Rattle.slice_core.specs.Rows.{key_cmp}
@@ -39,10 +39,6 @@ use Rattle.cell_kernels.specs.Fewer.{IsSameOrPacked}
 at_member : {X : Type 0} (A : X → Type 0) (xs : List X) → AllByRecursion A xs → (x : X) → Among x xs → A x
 at_member A [] h x m = absurd m
 at_member A (y ∷ ys) h x m = elim m [ inl e ↦ subst A e h.0 | inr w ↦ at_member A ys h.1 x w ]
-
-of_members : {X : Type 0} (A : X → Type 0) (xs : List X) → ((x : X) → Among x xs → A x) → AllByRecursion A xs
-of_members A [] h = tt
-of_members A (x ∷ xs) h = (h x (inl refl), of_members A xs (λ y m. h y (inr m)))
 
 past_end : {X : Type 0} (xs : List X) (s : ℕ) (d : X) → length xs ≤ s → get_or xs s d ≡ d
 past_end [] s d h = refl
@@ -173,12 +169,12 @@ module _ {T P L : Type 0} (n : P → ℤ) (has : T → P → Type 0) (high : T �
       omega arith
 
   fits : {X : Type 0} (rows : List (X × List (ℕ × ℕ))) → AreOn k ss rows → AllByRecursion (Fit X n has high point ts ss all over.count over.numbered) rows
-  fits {X = X} rows on = of_members (Fit X n has high point ts ss all over.count over.numbered) rows (λ z m.
+  fits {X = X} rows on = each_from_members (Fit X n has high point ts ss all over.count over.numbered) rows (λ z m.
       let w = on z m in
       (w.0 ∙ sym (count_sides X), in_grid start (cuts X) z.1 (length (cuts X)) (λ j b. below X z.1 w.1 j b)))
 
   lows : {X : Type 0} (rows : List (X × List (ℕ × ℕ))) → AreOn k ss rows → AllByRecursion (Low X n has high point ts ss all over.count over.numbered) rows
-  lows {X = X} rows on = of_members (Low X n has high point ts ss all over.count over.numbered) rows (λ z m. (on z m).1)
+  lows {X = X} rows on = each_from_members (Low X n has high point ts ss all over.count over.numbered) rows (λ z m. (on z m).1)
 
   -- ---- rows at a place of points
 

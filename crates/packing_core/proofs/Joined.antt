@@ -138,7 +138,7 @@ module _ {K : Type 0} (R : K → K → Ordering) (o : IsTotalOrder R) where
         ]
       ]
 
-  room : (xs : List (Piece K)) (x : Piece K) → AreApart R xs → Among x xs → x.begin < x.end
+  pub room : (xs : List (Piece K)) (x : Piece K) → AreApart R xs → Among x xs → x.begin < x.end
   room [] x h m = absurd m
   room (y ∷ ys) x h m = elim m [ inl e ↦ subst (λ (v : Piece K). v.begin < v.end) e h.0 | inr w ↦ room ys x h.2 w ]
 
@@ -170,7 +170,7 @@ module _ {K : Type 0} (R : K → K → Ordering) (o : IsTotalOrder R) where
       let e = IsIndexRun-one (Covers R xs k) a z (y.0).begin (y.0).end a r (run_of xs y.0 k h y.1 y.2) (omega arith) r.some y.3 y.4 in
       has_from xs y.0 k a z y.1 y.2 (sym e.0) (sym e.1)
 
-  covers_append : (xs ys : List (Piece K)) (k : K) (i : ℕ) → Covers R (xs ++ ys) k i ↔ Covers R xs k i ⊎ Covers R ys k i
+  pub covers_append : (xs ys : List (Piece K)) (k : K) (i : ℕ) → Covers R (xs ++ ys) k i ↔ Covers R xs k i ⊎ Covers R ys k i
   covers_append [] ys k i = (λ h. inr h, λ h. elim h [ inl w ↦ absurd w | inr w ↦ w ])
   covers_append (x ∷ xs) ys k i =
       let ih = covers_append xs ys k i in (

@@ -1,10 +1,10 @@
 -- The row at a place within its intervals has the row's heading: what is typed over the one is typed over the other.
-use Rattle.std.specs.Prelude.{◌≡◌, ℕ, zero, suc, ℤ, ◌≤ℤ◌, ◌&&◌, int_le, IsTrue, List, [], ◌∷◌, Some, slice_get, unwrap_or, false, true, refl}
+use Rattle.std.specs.Prelude.{◌≡◌, ℕ, zero, suc, ℤ, ◌&&◌, int_le, IsTrue, List, [], ◌∷◌, Some, slice_get, unwrap_or, false, true, refl}
 use Rattle.std.proofs.Common.{sym, ap, subst, arith}
 use Rattle.std.proofs.lemmas.Int.{ints}
 use Rattle.std.proofs.lemmas.Bool.{and_from}
 use Rattle.base_core.proofs.BoolLemmas.{and_left, and_right}
-use Rattle.base_core.proofs.IntLemmas.{le-int_le}
+use Rattle.base_core.proofs.IntLemmas.{le-int_le, le_itself}
 use Rattle.point_core.specs.declared.any_type.AnyType.{AnyType}
 use Rattle.point_core.specs.Points.{is_number, line_of}
 use Rattle.interval_core.specs.Members.{at_point}
@@ -19,9 +19,6 @@ use Rattle.scalar_core.specs.Kinds.{IsTypedOver}
 use Rattle.scalar_core.proofs.KindLemmas.{fits_heading-get, span_of-fits, begin-number, end-number}
 use Rattle.scalar_core.proofs.PointLemmas.{number-is_number}
 
-pub itself : (p : ℤ) → p ≤ℤ p
-itself p = omega (arith, ints)
-
 pub point-fits_as : (kind : Kind) (v : Value) (p : ℤ) → IsTrue (fits kind v) → ((t : AnyType) → kind ≡ SpanOf t → is_number t p ≡ true) → IsTrue (fits kind (with_span v (at_point p)))
 point-fits_as kind (truth b) p h n = h
 point-fits_as kind (text bytes) p h n = h
@@ -31,7 +28,7 @@ point-fits_as Char (interval l i) p h n = absurd cc
 point-fits_as (Point t) (interval l i) p h n = absurd cc
 point-fits_as (SpanOf t) (interval l i) p h n =
     and_from (same_line l (line_of t)) (is_interval t (at_point p)) (and_left (same_line l (line_of t)) (is_interval t i) h)
-    (and_from (is_number t p) (is_number t p && int_le p p) (n t refl) (and_from (is_number t p) (int_le p p) (n t refl) (le-int_le p p (itself p))))
+    (and_from (is_number t p) (is_number t p && int_le p p) (n t refl) (and_from (is_number t p) (int_le p p) (n t refl) (le-int_le p p (le_itself p))))
 
 -- the number is one of the type that the heading has at the position
 abbrev pub IsNumberAt : Heading → ℕ → ℤ → Type 0

@@ -1,15 +1,17 @@
 -- What it means that a point or an interval fits its type: its points are of the type, and stand on one line.
 use Rattle.std.specs.Prelude.{◌≡◌, ℤ, pos, Bool, true, false, ◌&&◌, IsTrue, int_le, refl, if◌then◌else◌}
-use Rattle.std.proofs.Common.{sym, ◌∙◌, ap, subst}
+use Rattle.std.proofs.Common.{sym, ◌∙◌, ap, subst, arith}
 use Rattle.std.specs.Ordering.{is_eq}
 use Rattle.std.specs.Cmp.{IsTotalOrder, int_cmp_total, on_total, tied_itself}
 use Rattle.std.specs.Cmp.Lexicographic.{lists_total}
 use Rattle.std.proofs.lemmas.Bool.{and_from, false≢true}
+use Rattle.std.proofs.lemmas.Int.{ints}
 use Rattle.base_core.proofs.BoolLemmas.{and_left, and_right}
 use Rattle.base_core.proofs.IntLemmas.{le-int_le}
 use Rattle.point_core.specs.declared.any_type.AnyType.{AnyType}
 use Rattle.point_core.specs.declared.any_type.AnyPoint.{AnyPoint}
 use Rattle.point_core.specs.Points.{Line, integers, days, values_of, line_of, line, number, is_number, first_of, last_of, IsNumber, IsPointOf}
+use Rattle.point_core.specs.declared.any_type.AnyType.TheVariants.{Integer, Date, Ordinal}
 use Rattle.interval_core.specs.Members.{span}
 use Rattle.value_core.specs.declared.kind.Kind.TheVariants.{Point, Span}
 use Rattle.value_core.specs.Values.{point, interval, fits, is_interval, same_line, line_key, line_cmp}
@@ -81,3 +83,8 @@ ends-span t i h k =
 pub fits-span : (t : AnyType) (i : AnyPoint × AnyPoint) → IsPointOf t i.0 → IsPointOf t i.1 →
     interval (line i.0) (ends i) ≡ interval (line_of t) (span number i)
 fits-span t i h k = ap (λ (l : Line). interval l (ends i)) h.0 ∙ ap (interval (line_of t)) (ends-span t i h k)
+
+pub last-number : (t : AnyType) → IsNumber t (last_of t)
+last-number Integer = (omega (arith, ints), omega (arith, ints))
+last-number Date = (omega (arith, ints), omega (arith, ints))
+last-number (Ordinal of last) = (omega (arith, ints), omega (arith, ints))

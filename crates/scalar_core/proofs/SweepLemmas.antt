@@ -18,6 +18,7 @@ use Rattle.base_core.proofs.IntLemmas.{le-int_le, lt-int_lt}
 use Rattle.interval_core.specs.Members.{Span, at_point}
 use Rattle.value_core.specs.Attributes.{span_of, value_at, among, with_span, put_span}
 use Rattle.value_core.specs.Values.{Value, truth, text, point, interval, Row}
+use Rattle.value_core.proofs.PlainLemmas.{set_elsewhere}
 use Rattle.scalar_core.specs.declared.operators.OneOp.TheVariants.{BeginOf, EndOf}
 use Rattle.scalar_core.specs.declared.operators.PairOp.{PairOp}
 use Rattle.scalar_core.specs.Expressions.{Expr, constant, attribute, one, pair, and_expr, or_expr}
@@ -227,13 +228,6 @@ pub span_there : (row : Row) (i : ℕ) (s : Span) → value_at (put_span row i s
 span_there [] i s = refl
 span_there (v ∷ row) zero s = refl
 span_there (v ∷ row) (suc i) s = span_there row i s
-
-set_elsewhere : (row : Row) (i j : ℕ) (v : Value) → (j ≡ i → ⊥) → value_at (set row i v) j ≡ value_at row j
-set_elsewhere [] i j v other = refl
-set_elsewhere (u ∷ row) zero zero v other = absurd (other refl)
-set_elsewhere (u ∷ row) zero (suc j) v other = refl
-set_elsewhere (u ∷ row) (suc i) zero v other = refl
-set_elsewhere (u ∷ row) (suc i) (suc j) v other = set_elsewhere row i j v (λ e. other (ap suc e))
 
 -- attributes that are not listed stay
 pub at_place-other : (acl : List ℕ) (ps : List ℤ) (row : Row) (i : ℕ) → among acl i ≡ false → value_at (at_place acl ps row) i ≡ value_at row i

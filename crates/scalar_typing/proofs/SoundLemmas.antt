@@ -24,7 +24,7 @@ use Rattle.value_core.specs.Values.{Name, Heading}
 use Rattle.scalar_core.specs.Answers.{Gives}
 use Rattle.scalar_core.specs.Expressions.{and_expr, or_expr, read}
 use Rattle.scalar_core.specs.Kinds.{IsTyped}
-use Rattle.scalar_core.proofs.PointLemmas.{same_line-self, number-is_number}
+use Rattle.scalar_core.proofs.PointLemmas.{same_line-self, number-is_number, last-number}
 use Rattle.value_core.specs.Limits.{most_text_bytes}
 use Rattle.scalar_typing.specs.declared.typed.Typed.{Typed as TypedTree}
 use Rattle.scalar_typing.specs.Typings.{Typed, ◌>>=◌, value_or, typed}
@@ -90,11 +90,6 @@ first-number : (t : AnyType) → IsNumber t (first_of t)
 first-number Integer = (omega (arith, ints), omega (arith, ints))
 first-number Date = (omega (arith, ints), omega (arith, ints))
 first-number (Ordinal of last) = (omega (arith, ints), omega (arith, ints))
-
-last-number : (t : AnyType) → IsNumber t (last_of t)
-last-number Integer = (omega (arith, ints), omega (arith, ints))
-last-number Date = (omega (arith, ints), omega (arith, ints))
-last-number (Ordinal of last) = (omega (arith, ints), omega (arith, ints))
 
 extreme-sound : (heading : Heading) (at : Place) (w : ExtremeWord) (t : AnyType) → IsTypedPart heading (extreme_constant at w t)
 extreme-sound heading at First t = point-sound heading at t (first_of t) (first-number t)

@@ -1,18 +1,15 @@
 -- What a typed HISTORY declares keeps a well made state well made.
 use Rattle.std.specs.Prelude.{◌≡◌, ℕ, List, [], ◌∷◌, ◌++◌, Some, IsTrue, refl}
-use Rattle.std.proofs.Common.{arith, sym, ap, ◌∙◌, subst}
+use Rattle.std.proofs.Common.{sym, ap, ◌∙◌, subst}
 use Rattle.std.specs.List.{list_all}
 use Rattle.std.proofs.lemmas.Bool.{and_parts, and_from}
-use Rattle.std.proofs.lemmas.Int.{ints}
 use Rattle.std.proofs.lemmas.List.Elements.{All-cons, All-nil}
 use Rattle.base_core.proofs.ListLemmas.{bytes_eq-sym}
-use Rattle.point_core.specs.Points.{IsNumber, is_number, line_of, last_of}
-use Rattle.point_core.specs.declared.any_type.AnyType.{AnyType}
-use Rattle.point_core.specs.declared.any_type.AnyType.TheVariants.{Integer, Date, Ordinal}
+use Rattle.point_core.specs.Points.{is_number, line_of, last_of}
 use Rattle.value_core.specs.declared.constraint.Constraint.TheVariants.{Key, UKey, History}
 use Rattle.value_core.specs.declared.kind.Kind.TheVariants.{Point}
 use Rattle.value_core.specs.Values.{Heading, Relation, is_heading, same_line}
-use Rattle.scalar_core.proofs.PointLemmas.{same_line-self, number-is_number}
+use Rattle.scalar_core.proofs.PointLemmas.{same_line-self, number-is_number, last-number}
 use Rattle.tree_core.specs.declared.declaration.HistoryData.{HistoryData}
 use Rattle.tree_core.specs.Relvars.{State, PlainRelvar, base, view, relvar_named, heading_if}
 use Rattle.tree_core.specs.Trees.{named}
@@ -28,11 +25,6 @@ use Rattle.since_during.proofs.HistoryTypes.{since-declared, during-declared, si
 use Rattle.since_during.proofs.JoinableLemmas.{named-more}
 use Rattle.since_during.proofs.JoinedLemmas.{joined-typed}
 use Rattle.since_during.proofs.StateLemmas.{free-more, none-named, own-named, with-relvar}
-
-last-number : (t : AnyType) → IsNumber t (last_of t)
-last-number Integer = (omega (arith, ints), omega (arith, ints))
-last-number Date = (omega (arith, ints), omega (arith, ints))
-last-number (Ordinal of last) = (omega (arith, ints), omega (arith, ints))
 
 -- the relation without rows
 abbrev empty : Heading → Relation

@@ -14,10 +14,10 @@ use Rattle.packing_core.specs.Packed.{no_cells}
 use Rattle.packing_core.specs.Pieces.{Covers, HasPiece, AreApart}
 use Rattle.packing_core.specs.declared.Piece.{Piece}
 use Rattle.packing_core.proofs.AmongLemmas.{among_map}
-use Rattle.packing_core.proofs.Joined.{IsIndexRun-iff, run_from_apart, apart_from_run}
+use Rattle.packing_core.proofs.Joined.{IsIndexRun-iff, run_from_apart, apart_from_run, covers_append}
 use Rattle.slice_core.specs.PackedRows.{HasRow, IsPackedOf, alone, own_piece}
 use Rattle.slice_core.specs.Rows.{key_cmp, key_total, no_sides, with_last}
-use Rattle.slice_core.proofs.Steps.{one_key, covers_append, piece_by, piece_from, sorted_last}
+use Rattle.slice_core.proofs.Steps.{one_key, piece_by, piece_from, sorted_last}
 use Rattle.slice_core.proofs.Sweeping.{cell_has, span_from}
 
 -- ---- a place of one cell
@@ -84,7 +84,7 @@ module _ {P : Type 0} (order : P → P → Ordering) (total : IsTotalOrder order
   covers_rows : (rows : List Key) (k : Key) (i : ℕ) → Covers R (flat_map own_piece rows) k i ↔ (k.1 ≡ []) × HasRow rows k.0 (i ∷ [])
   covers_rows [] k i = (λ h. absurd h, λ h. absurd h.1.1)
   covers_rows (x ∷ xs) k i =
-      let a = covers_append R (key_total total) (one_key order total separates) (own_piece x) (flat_map own_piece xs) k i in
+      let a = covers_append R (key_total total) (own_piece x) (flat_map own_piece xs) k i in
       let c = covers_alone (no_sides x.0) (get_or x.1 0 no_cells) k i in
       let ih = covers_rows xs k i in (
         λ h. elim (a.0 h) [

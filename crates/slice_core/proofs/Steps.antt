@@ -18,6 +18,7 @@ use Rattle.packing_core.specs.Covering.{Among}
 use Rattle.packing_core.specs.Live.{side_has, IsSliceRow}
 use Rattle.packing_core.proofs.Inward.{HasSides, slice_at, no_slice, slices_give}
 use Rattle.packing_core.proofs.AmongLemmas.{among_map}
+use Rattle.packing_core.proofs.Joined.{covers_append}
 use Rattle.slice_core.specs.Rows.{pair_cmp, key_cmp, key_total, tag, with_last, no_sides, labels_of}
 
 -- ---- the order of keys
@@ -51,13 +52,6 @@ split_at (x ∷ w ∷ ws) (suc n) e = let r = split_at (w ∷ ws) n (omega arith
 -- ---- pieces
 
 module _ {K : Type 0} (R : K → K → Ordering) (o : IsTotalOrder R) (one : (a b : K) → R a b ≡ Equal → a ≡ b) where
-  pub covers_append : (xs ys : List (Piece K)) (k : K) (i : ℕ) → Covers R (xs ++ ys) k i ↔ Covers R xs k i ⊎ Covers R ys k i
-  covers_append [] ys k i = (λ h. inr h, λ h. elim h [ inl w ↦ absurd w | inr w ↦ w ])
-  covers_append (x ∷ xs) ys k i =
-      let ih = covers_append xs ys k i in (
-        λ h. elim h [ inl w ↦ inl (inl w) | inr w ↦ elim (ih.0 w) [ inl v ↦ inl (inr v) | inr v ↦ inr v ] ],
-        λ h. elim h [ inl w ↦ elim w [ inl v ↦ inl v | inr v ↦ inr (ih.1 (inl v)) ] | inr w ↦ inr (ih.1 (inr w)) ],
-      )
 
   covers_tags : (a z : ℕ) (rows : List K) (k : K) (i : ℕ) → Covers R (map (tag a z) rows) k i ↔ ((a ≤ i) × (i < z)) × Among k rows
   covers_tags a z [] k i = (λ h. absurd h, λ h. absurd h.1)
@@ -69,7 +63,7 @@ module _ {K : Type 0} (R : K → K → Ordering) (o : IsTotalOrder R) (one : (a 
 
   pub covers_tagged : (old new : List (Piece K)) (a z : ℕ) (rows : List K) → new ≡ old ++ map (tag a z) rows → (k : K) (i : ℕ) → Covers R new k i ↔ Covers R old k i ⊎ (((a ≤ i) × (i < z)) × Among k rows)
   covers_tagged old new a z rows e k i =
-      let c : Covers R new k i ↔ Covers R old k i ⊎ Covers R (map (tag a z) rows) k i = subst (λ ps. Covers R ps k i ↔ Covers R old k i ⊎ Covers R (map (tag a z) rows) k i) (sym e) (covers_append old (map (tag a z) rows) k i) in
+      let c : Covers R new k i ↔ Covers R old k i ⊎ Covers R (map (tag a z) rows) k i = subst (λ ps. Covers R ps k i ↔ Covers R old k i ⊎ Covers R (map (tag a z) rows) k i) (sym e) (covers_append R o old (map (tag a z) rows) k i) in
       let b = covers_tags a z rows k i in (
         λ h. elim (c.0 h) [ inl w ↦ inl w | inr w ↦ inr (b.0 w) ],
         λ h. elim h [ inl w ↦ c.1 (inl w) | inr w ↦ c.1 (inr (b.1 w)) ],
@@ -85,10 +79,6 @@ module _ {K : Type 0} (R : K → K → Ordering) (o : IsTotalOrder R) (one : (a 
     | inl e ↦ inl (subst (λ k. R q.key k ≡ Equal) (ap (λ (w : Piece K). w.key) e) (tied_itself o q.key), ap (λ (w : Piece K). w.begin) e, ap (λ (w : Piece K). w.end) e)
     | inr w ↦ inr (piece_from ps p w)
   ]
-
-  some_of : (ps : List (Piece K)) (p : Piece K) → AreApart R ps → Among p ps → p.begin < p.end
-  some_of [] p a h = absurd h
-  some_of (q ∷ ps) p a h = elim h [ inl e ↦ subst (λ (w : Piece K). w.begin < w.end) e a.0 | inr w ↦ some_of ps p a.2 w ]
 
   covers_own : (ps : List (Piece K)) (p : Piece K) → AreApart R ps → Among p ps → Covers R ps p.key p.begin
   covers_own [] p a h = absurd h

@@ -15,7 +15,7 @@ use Rattle.std.proofs.lemmas.Map.Keys.{IsStrictlyIncreasing-dedup, sorted_from_s
 use Rattle.std.proofs.lemmas.List.{get_or_default}
 use Rattle.packing_core.specs.Covering.{Among}
 use Rattle.packing_core.specs.Live.{side_has, span_has}
-use Rattle.packing_core.proofs.AmongLemmas.{among_append, among_map, among_filter}
+use Rattle.packing_core.proofs.AmongLemmas.{among_append, among_map, among_filter, each_from_members}
 use Rattle.packing_core.proofs.Order.{among_contains, contains_among}
 use Rattle.packing_core.proofs.Same.{same_sorted}
 use Rattle.slice_core.specs.PackedRows.{span_of}
@@ -221,15 +221,11 @@ module _ (boxes : List (List (ℕ × ℕ))) (side : ℕ) (rows : List ℕ) (cell
         },
       )
 
-  each_from : {X : Type 0} (P : X → Type 0) (xs : List X) → ((x : X) → Among x xs → P x) → AllByRecursion P xs
-  each_from P [] h = tt
-  each_from P (x ∷ xs) h = (h x (inl refl), each_from P xs (λ y m. h y (inr m)))
-
   below : (m r : ℕ) → All (λ q. q < m) rows → Among r rows → r < m
   below m r a h = let c = among_contains rows r h in subst (λ q. q < m) c.2 (a c.0 r c.1)
 
   pub starts_below : (m : ℕ) → All (λ r. r < m) rows → All (λ (x : ℕ × ℕ). x.1 < m) s.starts.items
-  starts_below m a = let f = is.0.from in All-from_recursion (λ (x : ℕ × ℕ). x.1 < m) s.starts.items (each_from (λ (x : ℕ × ℕ). x.1 < m) s.starts.items (λ x h. below m x.1 a (f x h).0))
+  starts_below m a = let f = is.0.from in All-from_recursion (λ (x : ℕ × ℕ). x.1 < m) s.starts.items (each_from_members (λ (x : ℕ × ℕ). x.1 < m) s.starts.items (λ x h. below m x.1 a (f x h).0))
 
   pub live_below : (m : ℕ) → All (λ r. r < m) rows → All (λ r. r < m) s.live.items
-  live_below m a = let f = is.1.from in All-from_recursion (λ r. r < m) s.live.items (each_from (λ r. r < m) s.live.items (λ r h. below m r a (f r h)))
+  live_below m a = let f = is.1.from in All-from_recursion (λ r. r < m) s.live.items (each_from_members (λ r. r < m) s.live.items (λ r h. below m r a (f r h)))

@@ -9,12 +9,13 @@ use Rattle.packing_core.specs.Covering.{Among}
 use Rattle.packing_core.specs.Live.{side_has}
 use Rattle.packing_core.specs.Pieces.{Covers, Apart, AreApart}
 use Rattle.packing_core.specs.declared.Piece.{Piece}
+use Rattle.packing_core.proofs.Joined.{covers_append}
 use Rattle.slice_core.specs.declared.bare.Bare.{Bare}
 use Rattle.slice_core.specs.declared.inward.IndexBox.{IndexBox}
 use Rattle.slice_core.specs.PackedRows.{IsUnitedRow, bare, span_of, alone}
 use Rattle.slice_core.specs.Rows.{sides_of, pair_cmp, no_sides, tag, with_last}
 use Rattle.slice_core.specs.TwoSides.{run_row, slab, slab_row, bare_cmp, bare_spans}
-use Rattle.slice_core.proofs.Steps.{one_key, covers_append}
+use Rattle.slice_core.proofs.Steps.{one_key}
 use Rattle.slice_core.proofs.UnitedLemmas.{Row, R, order, total, separates, spans, spans_some, covers_spans, united_rows, united_sorted}
 
 -- the piece under the row that its key stands for
@@ -91,13 +92,13 @@ covers_more : (boxes : List (List (ℕ × ℕ))) (rows : List ℕ) (n d : ℕ) �
     → Covers bare_cmp (bare_spans boxes (take (suc n) rows)) k i ↔ Covers bare_cmp (bare_spans boxes (take n rows)) k i ⊎ Covers bare_cmp (alone bare (span_of boxes 0 (get_or rows n d))) k i
 covers_more boxes [] n d l k i = absurd (omega arith)
 covers_more boxes (r ∷ rs) zero d l k i =
-    let a = covers_append bare_cmp total separates (alone bare (span_of boxes 0 r)) [] k i in (
+    let a = covers_append bare_cmp total (alone bare (span_of boxes 0 r)) [] k i in (
       λ h. elim (a.0 h) [ inl w ↦ inr w | inr w ↦ absurd w ],
       λ h. elim h [ inl w ↦ absurd w | inr w ↦ a.1 (inl w) ],
     )
 covers_more boxes (r ∷ rs) (suc n) d l k i =
-    let a = covers_append bare_cmp total separates (alone bare (span_of boxes 0 r)) (bare_spans boxes (take (suc n) rs)) k i in
-    let b = covers_append bare_cmp total separates (alone bare (span_of boxes 0 r)) (bare_spans boxes (take n rs)) k i in
+    let a = covers_append bare_cmp total (alone bare (span_of boxes 0 r)) (bare_spans boxes (take (suc n) rs)) k i in
+    let b = covers_append bare_cmp total (alone bare (span_of boxes 0 r)) (bare_spans boxes (take n rs)) k i in
     let ih = covers_more boxes rs n d (omega arith) k i in (
       λ h. elim (a.0 h) [ inl w ↦ inl (b.1 (inl w)) | inr w ↦ elim (ih.0 w) [ inl v ↦ inl (b.1 (inr v)) | inr v ↦ inr v ] ],
       λ h. elim h [ inl w ↦ elim (b.0 w) [ inl v ↦ a.1 (inl v) | inr v ↦ a.1 (inr (ih.1 (inl v))) ] | inr w ↦ a.1 (inr (ih.1 (inr w))) ],

@@ -16,11 +16,12 @@ use Rattle.packing_core.specs.declared.Piece.{Piece}
 use Rattle.packing_core.proofs.Inward.{HasSides, filter_where}
 use Rattle.packing_core.proofs.AmongLemmas.{among_filter}
 use Rattle.packing_core.proofs.Order.{among_contains}
+use Rattle.packing_core.proofs.Joined.{covers_append}
 use Rattle.slice_core.specs.declared.bare.Bare.{Bare}
 use Rattle.slice_core.specs.declared.inward.IndexBox.{IndexBox}
 use Rattle.slice_core.specs.PackedRows.{AnyLabel, IsUnitedRow, bare, span_of, cuts_of, alone}
 use Rattle.slice_core.specs.Rows.{sides_of, key_cmp, key_total, no_sides, tag, with_last}
-use Rattle.slice_core.proofs.Steps.{one_key, covers_append, rows_answer, rows_sorted, covers_all, covers_step}
+use Rattle.slice_core.proofs.Steps.{one_key, rows_answer, rows_sorted, covers_all, covers_step}
 use Rattle.slice_core.proofs.Turns.{rows_all, filter_none, side_none, live_alone, none_row}
 use Rattle.slice_core.proofs.Sweeping.{cell_has, span_from}
 
@@ -172,7 +173,7 @@ spans boxes live = flat_map (λ r. alone (no_sides bare) (span_of boxes 0 r)) li
 spans_cover : (boxes : List (List (ℕ × ℕ))) (live : List ℕ) (k : Row) (i : ℕ) → Covers R (spans boxes live) k i ↔ (k.1 ≡ []) × ((r : ℕ) × Among r live × (side_has boxes 0 i r ≡ true))
 spans_cover boxes [] k i = (λ h. absurd h, λ h. absurd h.1.1)
 spans_cover boxes (x ∷ xs) k i =
-    let a = covers_append R (key_total total) (one_key order total separates) (alone (no_sides bare) (span_of boxes 0 x)) (spans boxes xs) k i in
+    let a = covers_append R (key_total total) (alone (no_sides bare) (span_of boxes 0 x)) (spans boxes xs) k i in
     let c = covers_alone (span_of boxes 0 x) k i in
     let ih = spans_cover boxes xs k i in (
       λ h. elim (a.0 h) [

@@ -14,7 +14,7 @@ use Rattle.packing_core.specs.Boxed.{Boxed, boxed_cmp, packed_boxes, InBoxes}
 use Rattle.packing_core.specs.Covering.{Among}
 use Rattle.packing_core.specs.Live.{span_has, has_place}
 use Rattle.packing_core.specs.Packed.{Has, no_cells}
-use Rattle.packing_core.proofs.AmongLemmas.{among_map}
+use Rattle.packing_core.proofs.AmongLemmas.{among_map, all_from_members}
 use Rattle.packing_core.proofs.Cells.{Cuts, rises_far, box_of}
 use Rattle.slice_core.specs.Rows.{key_cmp}
 use Rattle.slice_core.specs.PackedRows.{IsPackedOf}
@@ -30,7 +30,7 @@ use Rattle.cell_core.specs.Cells.{grids_of, grid_box, grid_row, row_numbers}
 use Rattle.cell_core.proofs.Assembly.{start, pick_from, box_same, length_cuts, length_grids, cut_count, grid_at}
 use Rattle.cell_core.proofs.BackLemmas.{box_length}
 use Rattle.cell_core.proofs.KeyLemmas.{gs, rising, Fit, Low, own_rows, own_fits, own_low, rows_have, packed_form, packed_cells, key_order}
-use Rattle.cell_core.proofs.OneSide.{all_among, among_all}
+use Rattle.cell_core.proofs.OneSide.{among_all}
 use Rattle.cell_core.proofs.OrderLemmas.{boxed_total}
 use Rattle.cell_core.proofs.PackedPlaces.{AllHave, in_packed_box, from_packed_box, one_box}
 use Rattle.u_row.specs.Labels.{relabelled}
@@ -185,7 +185,7 @@ module _ {T P L : Type 0} (n : P → ℤ) (has : T → P → Type 0) (high : T �
 
   -- what holds of the label of each box holds of those of the packed ones
   pub form_labels : (Q : L → Type 0) → All (λ b. Q b.0) boxes → All (λ x. Q x.0) v
-  form_labels Q h = all_among (λ (x : L × List (ℕ × ℕ)). Q x.0) v (λ x m.
+  form_labels Q h = all_from_members (λ (x : L × List (ℕ × ℕ)). Q x.0) v (λ x m.
       let c = place_of_cells x.1 (form_cells x m) in
       let l = form_lengths x m in
       let g = from_form x m (begins cuts c.0) (has_begins cuts c.0 x.1 (c.1 ∙ l ∙ sym count_sides) (l ∙ sym count_sides) c.2) in

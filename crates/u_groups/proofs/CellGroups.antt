@@ -18,7 +18,7 @@ use Rattle.relation_core.specs.Agreement.{part_of}
 use Rattle.point_core.specs.declared.fault.Fault.{Fault}
 use Rattle.packing_core.specs.Covering.{Among, Gives}
 use Rattle.packing_core.specs.Live.{has_place}
-use Rattle.packing_core.proofs.AmongLemmas.{among_filter}
+use Rattle.packing_core.proofs.AmongLemmas.{among_filter, all_from_members}
 use Rattle.packing_core.proofs.Same.{same_sorted}
 use Rattle.slice_core.specs.LeastFault.{IsLeast}
 use Rattle.slice_core.specs.Rows.{AreRows}
@@ -29,7 +29,6 @@ use Rattle.box_core.specs.Common.{At, EndsBy}
 use Rattle.box_core.specs.Groups.{IsGroup, OfGroup, IsGrouped, IsGroupFault}
 use Rattle.box_core.specs.Keys.{ArePaired}
 use Rattle.box_core.specs.Rows.{IsRow, KeyBox}
-use Rattle.box_core.proofs.CoveredLemmas.{all_from}
 use Rattle.slice_core.proofs.LabelRows.{some_of}
 use Rattle.box_core.proofs.RowLemmas.{some_row, among_row, row_among, row_there}
 use Rattle.cell_core.specs.Cells.{rows_from}
@@ -257,7 +256,7 @@ module _ (by : List ℕ) (rows : List (KeyBox Row)) (entries : List (KeyedBox Ro
             let w = from_places numbers a m h in
             (omega arith, numbers_below w.0 m (placed numbers a inside w.0 m w.1 w.2))))),
         inside,
-        all_from (λ (i : ℕ). i < length ranks) numbers (λ n m. let w = among_row numbers n m in subst (λ k. n < k) (sym (ranking.count ∙ many)) (numbers_below w.0 n w.1)),
+        all_from_members (λ (i : ℕ). i < length ranks) numbers (λ n m. let w = among_row numbers n m in subst (λ k. n < k) (sym (ranking.count ∙ many)) (numbers_below w.0 n w.1)),
       )
 
   -- ---- what it gives ends by rows

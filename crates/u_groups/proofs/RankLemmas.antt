@@ -16,9 +16,8 @@ use Rattle.value_core.specs.Order.{row_total, row_separates}
 use Rattle.value_core.specs.Values.{Row, row_cmp}
 use Rattle.value_core.proofs.RelationLemmas.{searched_has}
 use Rattle.packing_core.specs.Covering.{Among}
-use Rattle.packing_core.proofs.AmongLemmas.{among_map}
+use Rattle.packing_core.proofs.AmongLemmas.{among_map, all_from_members}
 use Rattle.box_core.specs.Rows.{KeyBox, IsRow}
-use Rattle.box_core.proofs.CoveredLemmas.{all_from}
 use Rattle.box_core.proofs.RowLemmas.{row_among}
 use Rattle.u_groups.specs.Asked.{number_in, AreRanks}
 use Rattle.u_groups.specs.Groups.{labels_in}
@@ -65,7 +64,7 @@ label_there (x ∷ xs) l m =
 
 -- each label is one of the labels in order
 pub labels_there : (rows : List (KeyBox Row)) (labels : List Row) → labels ≡ in_order row_cmp (labels_in rows) → All (λ (x : KeyBox Row). Among x.0 labels) rows
-labels_there rows labels e = all_from (λ (x : KeyBox Row). Among x.0 labels) rows (λ x m.
+labels_there rows labels e = all_from_members (λ (x : KeyBox Row). Among x.0 labels) rows (λ x m.
     let a = (among_map (λ (y : KeyBox Row). y.0) x.0 rows).1 (x, m, refl) in
     subst (Among x.0) (sym e) (label_in x.0 (labels_in rows) a))
   where

@@ -4,7 +4,7 @@ use Rattle.std.specs.Prelude.{nat_eq, slice_index_or, if◌then◌else◌}
 use Rattle.std.specs.Bool.{IsTrue}
 use Rattle.std.specs.List.{AllByRecursion, IsDistinct}
 use Rattle.std.proofs.lemmas.Bool.{true≢false, and_parts, and_from, cases_eq, eqb-true, eqb-false, eq-eqb}
-use Rattle.std.proofs.lemmas.List.{length-set, get_or-map, get_or-set_same, get_or-set_other, get_or_default}
+use Rattle.std.proofs.lemmas.List.{length-set, get_or-map, get_or-set_same, get_or_default}
 use Rattle.std.proofs.lemmas.List.Elements.{All-from_recursion}
 use Rattle.std.proofs.lemmas.List.Folds.{list_any_at}
 use Rattle.std.proofs.lemmas.Option.{unwrap_or-slice_get}
@@ -18,6 +18,7 @@ use Rattle.value_core.specs.RowPacking.{attribute}
 use Rattle.value_core.specs.Values.{Name, Value, Row, Heading, truth, text, point, interval, same_line, is_interval, fits, fits_heading}
 use Rattle.value_core.proofs.RelationLemmas.{other_length}
 use Rattle.value_core.proofs.FitLemmas.{same_line-same}
+use Rattle.value_core.proofs.PlainLemmas.{set_elsewhere}
 use Rattle.relation_core.specs.Parts.{kind_at}
 use Rattle.packing_core.specs.Boxed.{side, sides_from}
 use Rattle.packing_core.specs.Packed.{nowhere}
@@ -45,9 +46,6 @@ value_at-get row i = unwrap_or-slice_get row i (truth false)
 
 value_at-same : (row : Row) (i : ℕ) (v : Value) → i < length row → value_at (set row i v) i ≡ v
 value_at-same row i v l = value_at-get (set row i v) i ∙ get_or-set_same row i v (truth false) l
-
-value_at-other : (row : Row) (i k : ℕ) (v : Value) → (k ≡ i → ⊥) → value_at (set row i v) k ≡ value_at row k
-value_at-other row i k v n = value_at-get (set row i v) k ∙ get_or-set_other row i k v (truth false) n ∙ sym (value_at-get row k)
 
 -- ---- a row comes back from its box
 
@@ -130,7 +128,7 @@ module _ (heading : Heading) (acl : List ℕ) (intervals : AreIntervals heading 
         of = λ x h. get_or-map (λ k. span_of (value_at x k)) acl j 0 nowhere l;
         put = λ x s h.
             let sides : spans_at acl (put x s) ≡ set (spans_at acl x) j s =
-            map_set (λ k. span_of (value_at x k)) (λ k. span_of (value_at (put x s) k)) s acl j intervals.different l (ap span_of (at x s h)) (λ k n. ap span_of (value_at-other x i k (with_span (value_at x i) s) n)) in
+            map_set (λ k. span_of (value_at x k)) (λ k. span_of (value_at (put x s) k)) s acl j intervals.different l (ap span_of (at x s h)) (λ k n. ap span_of (set_elsewhere x i k (with_span (value_at x i) s) n)) in
             let same = label x s in
             λ t. (same t, sides t);
         keeps = λ x s h. record {
@@ -142,7 +140,7 @@ module _ (heading : Heading) (acl : List ℕ) (intervals : AreIntervals heading 
                     let Q : ℕ → Type 0 = λ m. value_at (put x s) m ≡ interval (line_of (type_of (kind_at heading m))) (span_of (value_at (put x s) m)) in
                     let here : Q i = at x s h ∙ ap (interval (line_of (type_of (kind_at heading i)))) (sym (ap span_of (at x s h))) in
                     subst Q (sym e) here
-                | inr n ↦ subst P (sym (value_at-other x i k (with_span (value_at x i) s) n)) (h.spans k g)
+                | inr n ↦ subst P (sym (set_elsewhere x i k (with_span (value_at x i) s) n)) (h.spans k g)
               ];
           label = subst (λ (r : Row). IsTrue (fits_heading (others acl heading) r)) (sym (label x s)) h.label;
         };

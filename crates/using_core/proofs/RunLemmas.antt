@@ -3,6 +3,7 @@ use Rattle.std.proofs.Common.{◌≡◌, ◌↔◌, ◌⊎◌, inl, inr, ℕ, ze
 use Rattle.std.specs.List.{All}
 use Rattle.std.proofs.lemmas.Int.{ints}
 use Rattle.std.proofs.lemmas.List.{map-append, map_more}
+use Rattle.base_core.proofs.IntLemmas.{le_itself}
 use Rattle.point_core.specs.Faults.{OrFault}
 use Rattle.point_core.specs.Points.{number, IsPointOf}
 use Rattle.point_core.specs.declared.any_type.AnyPoint.{AnyPoint}
@@ -161,16 +162,13 @@ module _ (c : Expr) (at : ℕ) (row : Row) where
     first_in : (i : Span) → Among i (pieces b e cs) → i.0 ≤ℤ i.1
     first_in i m = piece_some b e cs o are i m
 
-    itself : (n : ℤ) → n ≤ℤ n
-    itself n = omega (arith, ints)
-
     pub first_within : (i : Span) → Among i (pieces b e cs) → IsWithin (b, e) i.0
-    first_within i m = piece_in b e cs are i m i.0 (itself i.0) (first_in i m)
+    first_within i m = piece_in b e cs are i m i.0 (le_itself i.0) (first_in i m)
 
     same_there : (i : Span) → Among i (pieces b e cs) → (p : ℤ) → IsWithin i p → here i ≡ condition c (at_number at row p)
     same_there i m p h =
         steady i.0 p (first_within i m) (piece_in b e cs are i m p h.0 h.1)
-        (piece_beside b e cs are i m i.0 p (itself i.0) (first_in i m) h.0 h.1)
+        (piece_beside b e cs are i m i.0 p (le_itself i.0) (first_in i m) h.0 h.1)
 
     pub holds_at_all : (p : ℤ) → HoldsIn c at row (pieces b e cs) p ↔ (IsWithin (b, e) p × (condition c (at_number at row p) ≡ Ok true))
     holds_at_all p = (

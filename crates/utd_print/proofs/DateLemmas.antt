@@ -4,7 +4,7 @@ use Rattle.std.proofs.lemmas.Bool.{cases_lt, lt-ltb}
 use Rattle.std.proofs.lemmas.Int.{ints}
 use Rattle.std.proofs.lemmas.Bool.Decides.{nat_tests}
 use Rattle.point_core.specs.Dates.{is_leap, days_of_year, month_days, days_of_month, days_of_years, days_of_months, day_place, date_number, IsCalendarDate, first_day, date_text}
-use Rattle.point_core.proofs.CalendarLemmas.{epoch_place}
+use Rattle.point_core.proofs.CalendarLemmas.{epoch_place, years_rise}
 use Rattle.utd_print.specs.Dates.{Date, date_in_year, date_after, date_of, day_text}
 
 -- ---- months
@@ -76,14 +76,6 @@ twelve-months false = refl
 within-year : (year i : ℕ) → before (month_days year) i + get_or (month_days year) i 0 ≤ days_of_year year
 within-year year i = omega (arith, before-all (month_days year) i, twelve-months (is_leap year))
 
-years-rise : (p q : ℕ) → p ≤ q → days_of_years p ≤ days_of_years q
-unfolding days_of_years
-years-rise p zero h = let same : p ≡ 0 = omega arith in omega (arith, ap days_of_years same)
-years-rise p (suc q) h = elim (cases_lt q p) [
-  | inl lt ↦ (let same : p ≡ suc q = omega arith in let e : days_of_years p ≡ days_of_years (suc q) = ap days_of_years same in omega (arith, e))
-  | inr le ↦ (let rest : days_of_years p ≤ days_of_years q = years-rise p q le in omega (arith, rest))
-]
-
 -- a day of the (q + 1)-th year, counted from the beginning of an earlier one
 in-years : (years p q k i day : ℕ) → p ≤ q → q ≤ p + years → 1 ≤ day → day ≤ get_or (month_days (suc q)) i 0
     → k + days_of_years p + 1 ≡ days_of_years q + before (month_days (suc q)) i + day → date_after years (suc p) k ≡ the_date (suc q) (1 + i) day
@@ -95,7 +87,7 @@ in-years zero p q k i day low high first last e =
     ap (λ y. date_in_year (suc y) 1 k (month_days (suc y))) same ∙ here
 in-years (suc years) p q k i day low high first last e = elim (cases_lt p q) [
   | inl lt ↦ (
-      let rise : days_of_years (suc p) ≤ days_of_years q = years-rise (suc p) q (omega arith) in
+      let rise : days_of_years (suc p) ≤ days_of_years q = years_rise (suc p) q (omega arith) in
       let later : ltb k (days_of_year (suc p)) ≡ false = not-less k (days_of_year (suc p)) (omega (arith, rise)) in
       rw later (in-years years (suc p) q (k - days_of_year (suc p)) i day (omega arith) (omega arith) first last (omega (arith, rise)))
       )

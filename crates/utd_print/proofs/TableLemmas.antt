@@ -12,12 +12,10 @@ use Rattle.utd_print.specs.Tables.{value_text, row_texts, character_count, width
 use Rattle.std.specs.List.{flat_map, list_all, range_with_len}
 use Rattle.std.proofs.lemmas.List.FromFn.{length-range_with_len}
 use Rattle.std.proofs.lemmas.Bool.{and_parts}
+use Rattle.value_core.proofs.PlainLemmas.{plain_at}
 use Rattle.utd_print.specs.Widths.{Widens}
 
 -- ---- the value at an index
-
-plain-at : (values : List Value) (i : ℕ) (v : Value) → i < length values → v ≡ get_or values i v → plain v ≡ get_or (map plain values) i (plain v)
-plain-at values i v within is = ap plain is ∙ sym (get_or-map plain values i v (plain v) within)
 
 kind-among : (vs : List PlainValue) (i : ℕ) (d : PlainValue) → HaveKinds vs → i < length vs → HasKind (get_or vs i d)
 kind-among [] i d have within = absurd (omega arith)
@@ -26,11 +24,11 @@ kind-among (v ∷ vs) (suc i) d have within = kind-among vs i d have.1 (omega ar
 
 pub kind-at : (values : List Value) (i : ℕ) (v : Value) → HaveKinds (map plain values) → i < length values → v ≡ get_or values i v → HasKind (plain v)
 kind-at values i v have within is =
-    subst HasKind (sym (plain-at values i v within is)) (kind-among (map plain values) i (plain v) have (omega (arith, length-map values plain)))
+    subst HasKind (sym (plain_at values i v within is)) (kind-among (map plain values) i (plain v) have (omega (arith, length-map values plain)))
 
 pub text-at : (types : List OrdinalNames) (values : List Value) (i : ℕ) (v : Value) → i < length values → v ≡ get_or values i v → get_or (row_texts types (map plain values)) i [] ≡ value_text types (plain v)
 text-at types values i v within is =
-    get_or-map (value_text types) (map plain values) i (plain v) [] (omega (arith, length-map values plain)) ∙ ap (value_text types) (sym (plain-at values i v within is))
+    get_or-map (value_text types) (map plain values) i (plain v) [] (omega (arith, length-map values plain)) ∙ ap (value_text types) (sym (plain_at values i v within is))
 
 -- ---- a width
 
