@@ -78,9 +78,6 @@ module _ (heading : Heading) (acl : List ℕ) (intervals : AreIntervals heading 
   abbrev rest : List Row
   rest = subtracted value part
 
-  ps : IsSet heading acl intervals part
-  ps = part_set heading acl intervals value part sv closed
-
   module _ (test : Row → OrFault Bool) (points : List Row) (given : restricted test (unpacked acl part) ≡ Ok points) where
     passing : points ≡ filter (λ x. is_true (test x)) (unpacked acl part)
     passing = by (least_of_all fault_order (map test (unpacked acl part))) given
@@ -90,7 +87,7 @@ module _ (heading : Heading) (acl : List ℕ) (intervals : AreIntervals heading 
         by (Err g) f = absurd (cc)
 
     up : Ascends row_cmp points
-    up = subst (Ascends row_cmp) (sym passing) (Ascends-filter row_cmp (λ x. is_true (test x)) (unpacked acl part) (unpacked_ascends heading acl intervals part ps.0 ps.1))
+    up = subst (Ascends row_cmp) (sym passing) (Ascends-filter row_cmp (λ x. is_true (test x)) (unpacked acl part) (unpacked_ascends heading acl intervals part (part_set heading acl intervals value part sv closed).0 (part_set heading acl intervals value part sv closed).1))
 
     some : (x : Row) → In x points → In x (unpacked acl part)
     some x i = ((In-filter (λ y. is_true (test y)) x (unpacked acl part)).0 (subst (λ (l : List Row). In x l) passing i)).0

@@ -1,5 +1,5 @@
 -- Rows of one key that have no place in common.
-use Rattle.std.proofs.Common.{◌≡◌, ℕ, suc, ◌+◌, ◌-◌, ◌<◌, ◌≤◌, List, [], ◌∷◌, Bool, true, false, length, ◌↔◌, inl, inr, arith, sym, ap, subst, refl, ◌∙◌, Ordering}
+use Rattle.std.proofs.Common.{◌≡◌, ℕ, ◌+◌, ◌-◌, ◌<◌, ◌≤◌, List, [], ◌∷◌, Bool, true, false, length, ◌↔◌, inl, inr, arith, sym, ap, subst, refl, ◌∙◌, Ordering}
 use Rattle.std.specs.declared.cmp.Ordering.TheVariants.{Equal}
 use Rattle.std.specs.Cmp.{IsTotalOrder}
 use Rattle.std.specs.List.{All, list_all}
@@ -12,7 +12,7 @@ use Rattle.box_core.specs.Apartness.{AreApart, Follows, AllFollow, AreOwn}
 use Rattle.box_core.specs.Common.{At, first_of, common, has_cell, HaveCells}
 use Rattle.box_core.specs.Meetings.{Met, IsMeeting}
 use Rattle.box_core.specs.Rows.{IsRow, Ascend, KeyBox}
-use Rattle.box_core.proofs.PlaceLemmas.{at_common, common_length, cells_from, cell_parts}
+use Rattle.box_core.proofs.PlaceLemmas.{at_common, common_length, cells_from, cell_parts, place_of_cells}
 use Rattle.slice_core.proofs.Sweeping.{cell_has, span_from}
 use Rattle.box_core.proofs.RowLemmas.{row_among, among_row, one_row, row_all, row_sides}
 
@@ -99,13 +99,6 @@ module _ {P : Type 0} (order : P → P → Ordering) (total : IsTotalOrder order
 
   -- ---- on any number of sides
 
-  a_place : (y : List (ℕ × ℕ)) → HaveCells y → (place : List ℕ) × (length place ≡ length y) × At y place
-  a_place [] h = ([], refl, refl)
-  a_place (x ∷ xs) h =
-      let w = and_parts (has_cell x) (list_all has_cell xs) h in
-      let v = a_place xs w.1 in
-      (x.0 ∷ v.0, ap suc v.1, and_from (span_has x x.0) (has_place xs v.0) (span_from x x.0 (omega arith) (cell_parts x w.0)) v.2)
-
   module _ (k : ℕ) (sides : All (λ x. length x.1 ≡ k) rows) (meetings : List Met) (is : (m : Met) → Among m meetings ↔ IsMeeting order rows rows m) where
     pub own_apart : (b : Bool) → (b ≡ true → AreOwn meetings) → (b ≡ false → (a : ℕ) × (m : Met) × IsRow meetings a m × (m.0.0 ≡ m.0.1 → ⊥)) → (b ≡ true) ↔ AreApart order k rows
     own_apart b sure unsure = (
@@ -129,7 +122,7 @@ module _ {P : Type 0} (order : P → P → Ordering) (total : IsTotalOrder order
             let y : KeyBox P = v.1 in
             let lx = row_sides k rows sides m.0.0 x v.2 in
             let ly = row_sides k rows sides m.0.1 y v.3 in
-            let p = a_place m.1 v.6 in
+            let p = place_of_cells m.1 v.6 in
             let both = (at_common x.1 y.1 p.0 (lx ∙ sym ly)).0 (subst (λ z. At z p.0) (sym v.5) p.2) in
             let len : length p.0 ≡ k = p.1 ∙ sym (ap length v.5) ∙ common_length x.1 y.1 (lx ∙ sym ly) ∙ lx in
             elim (cases_lt m.0.0 m.0.1) [

@@ -161,3 +161,11 @@ first_common [] ys zs e f h = omega arith
 first_common (x ∷ xs) [] zs e f h = absurd (omega (arith, e))
 first_common (x ∷ xs) (y ∷ ys) [] e f h = absurd (omega (arith, f))
 first_common (x ∷ xs) (y ∷ ys) (z ∷ zs) e f h = omega (arith, clamps)
+
+-- boxes with cells have a place
+pub place_of_cells : (y : List (ℕ × ℕ)) → HaveCells y → (c : List ℕ) × (length c ≡ length y) × At y c
+place_of_cells [] h = ([], refl, refl)
+place_of_cells (x ∷ xs) h =
+    let w = and_parts (has_cell x) (list_all has_cell xs) h in
+    let v = place_of_cells xs w.1 in
+    (x.0 ∷ v.0, ap suc v.1, and_from (span_has x x.0) (has_place xs v.0) (span_from x x.0 (omega arith) (cell_parts x w.0)) v.2)

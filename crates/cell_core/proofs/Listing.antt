@@ -68,7 +68,7 @@ distinct_ascending cmp o same (x ∷ xs) h = (
 )
 
 -- in order such a list is as long
-put_longer : {X : Type 0} (cmp : X → X → Ordering) (same : Separates cmp) (x : X) (ys : List X) → (In x ys → ⊥) → length (put cmp x ys) ≡ suc (length ys)
+pub put_longer : {X : Type 0} (cmp : X → X → Ordering) (same : Separates cmp) (x : X) (ys : List X) → (In x ys → ⊥) → length (put cmp x ys) ≡ suc (length ys)
 put_longer cmp same x [] h = refl
 put_longer cmp same x (y ∷ ys) h =
     let ih = put_longer cmp same x ys (λ m. h (inr m)) in

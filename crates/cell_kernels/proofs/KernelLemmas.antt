@@ -101,13 +101,10 @@ module _ {T P L : Type 0} (n : P → ℤ) (has : T → P → Type 0) (high : T �
   pub grids : (j : ℕ) (t : T) (e : S) → j < k → IsGrid n (has (get_or ts j t)) (high (get_or ts j t)) (get_or ss j e)
   grids j t e h = side_grid n (has (get_or ts j t)) (high (get_or ts j t)) _ (get_or ss j e) (over.numbered j t (point t, point t) e h)
 
-  count_left : length (map (λ (r : L × List (P × P)). r.1) left) ≡ length left
-  count_left = length-map left (λ (r : L × List (P × P)). r.1)
-
   count_all : length all ≡ length left + length right
   count_all =
       let a = length-map right (λ (r : L × List (P × P)). r.1) in
-      let b = count_left in
+      let b = length-map left (λ (r : L × List (P × P)). r.1) in
       length-append (map (λ (r : L × List (P × P)). r.1) left) (map (λ (r : L × List (P × P)). r.1) right) ∙ (omega arith)
 
   sided : (rows : List (L × List (P × P))) → All (λ r. IsBox has ts r.1) rows → AllByRecursion (λ r. length r.1 ≡ k) rows
@@ -133,7 +130,7 @@ module _ {T P L : Type 0} (n : P → ℤ) (has : T → P → Type 0) (high : T �
   right_numbers : map (grid_row ns) rs ≡ map (row_numbers n) right
   right_numbers =
       ap (map (grid_row ns)) over.rights
-      ∙ own_rows L n has high point ts ss all over.count over.numbered [] (length left) (map (λ (r : L × List (P × P)). r.1) left) right (sym count_left)
+      ∙ own_rows L n has high point ts ss all over.count over.numbered [] (length left) (map (λ (r : L × List (P × P)). r.1) left) right (sym (length-map left (λ (r : L × List (P × P)). r.1)))
       (ap (λ ys. map (λ (r : L × List (P × P)). r.1) left ++ ys) (sym (append-nil (map (λ (r : L × List (P × P)). r.1) right)))) (sided right over.right_boxes)
 
   -- at points they have what the rows have

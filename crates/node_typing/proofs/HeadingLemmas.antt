@@ -16,6 +16,7 @@ use Rattle.value_core.specs.Values.{Name, Heading, attribute_cmp, name_cmp}
 use Rattle.relation_core.specs.Agreement.{names_of}
 use Rattle.relation_core.proofs.ApartLemmas.{ascends_in_order}
 use Rattle.relation_core.proofs.AttributeLemmas.{name_is}
+use Rattle.relation_core.proofs.HeadingLemmas.{put_first}
 use Rattle.meaning_core.specs.Typing.{not_named}
 use Rattle.relation_typing.specs.Attributes.{with_attribute}
 use Rattle.node_typing.specs.Headings.{heading_of_list, made_beside, with_all}
@@ -307,11 +308,6 @@ beside made from =
     ∙ (ap (λ k. or_kind k (last_in n made)) (sym (last-others n made from))
     ∙ (sym (last_in-append n made (not_named (names_of made) from)) ∙ sym (kind_in-in_order n (made ++ not_named (names_of made) from)))))))
 
--- a list in order is its heading
-placed-first : (x : Name × Kind) (h : Heading) → AllAfter attribute_cmp x h → put attribute_cmp x h ≡ x ∷ h
-placed-first x [] a = refl
-placed-first x (y ∷ h) a = ap (λ r. placed r x y h (put attribute_cmp x h)) a.0
-
 pub in-order-already : (h : Heading) → Ascends attribute_cmp h → heading_of_list h ≡ h
 in-order-already [] up = refl
-in-order-already (x ∷ h) up = ap (put attribute_cmp x) (in-order-already h up.1) ∙ placed-first x h up.0
+in-order-already (x ∷ h) up = ap (put attribute_cmp x) (in-order-already h up.1) ∙ put_first x h up.0

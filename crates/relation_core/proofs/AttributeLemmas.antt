@@ -183,3 +183,13 @@ few_joined left right =
     let h = length-in_order attribute_cmp (left ++ right) in
     let k = length-append left right in
     omega (arith, h, k)
+
+pub to_name : (heading : Heading) (n : Name) → IsTrue (has_name heading n) → In n (names_of heading)
+to_name heading n e =
+    let w = (list_any-In (λ b. bytes_eq b.0 n) heading).0 e in
+    (In-map (λ b. b.0) n heading).1 (w.0, w.1, sym (name_is w.0.0 n w.2))
+
+pub of_name : (heading : Heading) (n : Name) → In n (names_of heading) → IsTrue (has_name heading n)
+of_name heading n i =
+    let a = (In-map (λ b. b.0) n heading).0 i in
+    subst (λ m. IsTrue (has_name heading m)) (sym a.2) (named_In heading a.0 a.1)

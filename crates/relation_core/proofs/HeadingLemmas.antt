@@ -6,7 +6,7 @@ use Rattle.std.specs.Cmp.{IsTotalOrder}
 use Rattle.std.specs.Cmp.Lexicographic.{texts_ties}
 use Rattle.std.specs.List.{All}
 use Rattle.std.proofs.lemmas.Bool.Decides.{nat_tests}
-use Rattle.base_core.specs.Sets.{is_set}
+use Rattle.base_core.specs.Sets.{is_set, placed, put}
 use Rattle.value_core.specs.Order.{row_total, row_separates}
 use Rattle.value_core.specs.Relations.{all_fit}
 use Rattle.std.specs.List.Sorted.{IsPermutation}
@@ -177,3 +177,7 @@ projected_few kept rows few =
     let a = length-in_order row_cmp (map (part_of kept) rows) in
     let b = length-map rows (part_of kept) in
     omega (arith, a, b)
+
+pub put_first : (a : Name × Kind) (h : Heading) → AllAfter attribute_cmp a h → put attribute_cmp a h ≡ a ∷ h
+put_first a [] after = refl
+put_first a (b ∷ rest) after = ap (λ r. placed r a b rest (put attribute_cmp a rest)) after.0

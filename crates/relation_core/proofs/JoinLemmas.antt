@@ -22,7 +22,7 @@ use Rattle.relation_core.specs.Joins.{joined_heading, HaveEqualKinds, joined_row
 use Rattle.relation_core.specs.Parts.{positions_in}
 use Rattle.relation_core.proofs.AgreementLemmas.{length_of_fit}
 use Rattle.relation_core.proofs.ApartLemmas.{Apart, Tells, Apart-map, Apart-flat_map, Apart-filter, apart_ascending, length_apart}
-use Rattle.relation_core.proofs.AttributeLemmas.{name_is, ties_by_name, named_In, both_tell, In-joined, joined_ascends}
+use Rattle.relation_core.proofs.AttributeLemmas.{name_is, ties_by_name, named_In, both_tell, In-joined, joined_ascends, to_name, of_name}
 use Rattle.relation_core.proofs.FilterLemmas.{rows_ascend}
 use Rattle.relation_core.proofs.HeadingLemmas.{heading_ascends}
 
@@ -129,16 +129,6 @@ module _ (left right : Heading) (first : Ascends attribute_cmp left) (second : A
   named_right name e =
       let w = (list_any-In (λ b. bytes_eq b.0 name) right).0 e in
       (list_any-In (λ b. bytes_eq b.0 name) (joined_heading left right)).1 (w.0, (In-joined left right first second kinds w.0).1 ((In-append w.0 left right).1 (inr w.1)), w.2)
-
-  of_name : (heading : Heading) (name : Name) → In name (names_of heading) → IsTrue (has_name heading name)
-  of_name heading name i =
-      let a = (In-map (λ b. b.0) name heading).0 i in
-      subst (λ m. IsTrue (has_name heading m)) (sym a.2) (named_In heading a.0 a.1)
-
-  to_name : (heading : Heading) (name : Name) → IsTrue (has_name heading name) → In name (names_of heading)
-  to_name heading name e =
-      let w = (list_any-In (λ b. bytes_eq b.0 name) heading).0 e in
-      (In-map (λ b. b.0) name heading).1 (w.0, w.1, sym (name_is w.0.0 name w.2))
 
   -- rows that agree have one value beside a name that is in both
   one_value : (x y : Row) → IsTrue (agree left right x y) → (name : Name) → IsTrue (has_name left name) → IsTrue (has_name right name) → value_of left x name ≡ value_of right y name

@@ -18,11 +18,11 @@ use Rattle.meaning_core.specs.Histories.{last_point}
 use Rattle.meaning_core.specs.Typing.{IsScalar, IsTypedTree, is_kind}
 use Rattle.meaning_core.specs.WellMade.{sizes_of, headings_of, FitsHeadings, FitsNamed, IsBase, IsConstraint, IsWellMade}
 use Rattle.meaning_core.proofs.MadeLemmas.{own_name}
+use Rattle.meaning_core.proofs.RelvarLemmas.{named_before}
 use Rattle.update_core.proofs.NameLemmas.{base-heading}
 use Rattle.since_during.specs.Histories.{declared_in, declared_history, during_constraints, during_heading, key_in, rule_between, since_constraints, since_heading, span_of, view_of, IsFreeIn, IsTypedHistory}
 use Rattle.since_during.proofs.HistoryLaws.{view-fits}
 use Rattle.since_during.proofs.HistoryTypes.{since-declared, during-declared, since-fits, during-fits, rule-fits, history-joined}
-use Rattle.since_during.proofs.JoinableLemmas.{named-more}
 use Rattle.since_during.proofs.JoinedLemmas.{joined-typed}
 use Rattle.since_during.proofs.StateLemmas.{free-more, none-named, own-named, with-relvar}
 
@@ -86,7 +86,7 @@ module _ (s : State) (h : HistoryData) (made : IsWellMade s) (is : IsTypedHistor
   during-second = own-named first.relvars h.during during (own_name h.during) (none-named first h.during during-free)
 
   since-second : relvar_named second.relvars h.since ≡ Some since
-  since-second = named-more first.relvars ((h.during, during) ∷ []) h.since since since-first
+  since-second = named_before first.relvars ((h.during, during) ∷ []) h.since since since-first
 
   -- ---- the view
 

@@ -48,7 +48,8 @@ use Rattle.type_check.proofs.ListLemmas.{AreListed, list-sound, left-list}
 use Rattle.type_check.proofs.LiteralLemmas.{same_heading-same}
 use Rattle.declaration_typing.proofs.PositionLemmas.{held, position-named}
 use Rattle.meaning_core.proofs.MadeLemmas.{own_name as own}
-use Rattle.type_check.proofs.TreeLemmas.{named-heading, tree-sound}
+use Rattle.meaning_core.proofs.RelvarLemmas.{heading_of_named}
+use Rattle.type_check.proofs.TreeLemmas.{tree-sound}
 use Rattle.type_check.proofs.SetTypedLemmas.{onward, IsUpdate, sets-made-sound}
 use Rattle.type_check.proofs.PortionTypedLemmas.{AreNamed, portion-sound}
 
@@ -112,7 +113,7 @@ module _ (state : State) (made : IsWellMade state) where
 
   -- its heading is one
   target-heading : (place : Place) (t : Target) → IsTarget state t → IsTrue (is_heading t.1)
-  target-heading place t is = by-found (relvar_named state.relvars t.0) (named-heading state.relvars t.0) is.0 is.1
+  target-heading place t is = by-found (relvar_named state.relvars t.0) (heading_of_named state.relvars t.0) is.0 is.1
     where
       by-found : (o : Option PlainRelvar) → heading_named (headings_of state.relvars) t.0 ≡ option_map relvar_heading o → IsBase o → t.1 ≡ heading_if o → IsTrue (is_heading t.1)
       by-found None e is same = absurd is

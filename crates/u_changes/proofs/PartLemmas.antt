@@ -1,9 +1,8 @@
 -- The rows with the labels of some rows, and what a guard tells of the others.
---     outside_within      the positions of a label are some of the heading
 --     touched_closed      the rows with the labels of some rows have all rows with their labels
 --     others_told      of the others the guard is FALSE
 --     told_false, told_both      then the condition is FALSE at all of their points
-use Rattle.std.proofs.Common.{◌≡◌, ◌↔◌, inl, inr, ℕ, suc, ◌+◌, ◌<◌, Bool, true, false, List, [], ◌∷◌, ◌++◌, Ok, Err, Option, Some, None, map, length, get_or, take, option_map, refl, sym, ap, ◌∙◌, subst, arith, if◌then◌else◌}
+use Rattle.std.proofs.Common.{◌≡◌, ◌↔◌, ℕ, ◌+◌, ◌<◌, Bool, true, false, List, [], ◌∷◌, ◌++◌, Ok, Err, Option, Some, None, map, length, get_or, take, option_map, refl, sym, ap, ◌∙◌, subst, if◌then◌else◌}
 use Rattle.std.specs.Prelude.{IfSome}
 use Rattle.std.specs.Bool.{IsTrue}
 use Rattle.std.specs.List.{All, filter}
@@ -13,7 +12,7 @@ use Rattle.base_core.specs.Outcomes.{then_give}
 use Rattle.base_core.specs.Sets.{has}
 use Rattle.base_core.proofs.SetLemmas.{In, Ascends, In-in_order, same_by_members, Contains-from_In}
 use Rattle.base_core.proofs.MemberLemmas.{In-map, In-filter, has-In, list_all-In}
-use Rattle.base_core.proofs.SetOperatorLemmas.{In-difference_of, Ascends-filter}
+use Rattle.base_core.proofs.SetOperatorLemmas.{Ascends-filter}
 use Rattle.base_core.proofs.ListLemmas.{All-In}
 use Rattle.point_core.specs.Faults.{OrFault}
 use Rattle.point_core.specs.declared.fault.Place.{Place}
@@ -36,28 +35,14 @@ use Rattle.relation_core.specs.Parts.{projected}
 use Rattle.relation_core.proofs.FilterLemmas.{rows_ascend}
 use Rattle.meaning_core.specs.Meanings.{condition}
 use Rattle.meaning_core.specs.Scalars.{IsConditionOver}
-use Rattle.u_set.specs.Apart.{outside_from, outside}
-use Rattle.u_set.specs.Boxes.{unless}
+use Rattle.u_set.specs.Apart.{outside}
+use Rattle.u_constraints.proofs.GrowthLemmas.{In-subtracted}
 use Rattle.u_changes.specs.Concerned.{AreFalse, IsClosedPart}
 use Rattle.u_changes.specs.Guards.{stays, AreTold, guard, guard_of_both}
 use Rattle.u_changes.proofs.GuardLemmas.{AllGuard, AllGuardBoth, guard_is, guard_of_both_is}
 use Rattle.u_changes.proofs.PlaceLemmas.{opened_from}
 
 -- ---- the positions of a label
-
-in_outside : (n : ℕ) (acl : List ℕ) (heading : Heading) (i : ℕ) → In i (outside_from n acl heading) → i < n + length heading
-in_outside n acl [] i m = absurd m
-in_outside n acl (a ∷ heading) i m =
-    let rest : List ℕ = outside_from (suc n) acl heading in
-    let more : In i rest → i < n + suc (length heading) = λ j. let l = in_outside (suc n) acl heading i j in omega (arith, l) in
-    elim (among acl n) as (λ b. In i (unless b n rest) → i < n + suc (length heading)) [
-      | true ↦ more
-      | false ↦ λ j. elim j [ inl e ↦ omega (arith, e) | inr k ↦ more k ]
-    ] m
-
-pub outside_within : (acl : List ℕ) (heading : Heading) (positions : List ℕ) → positions ≡ outside acl heading → All (λ (i : ℕ). i < length heading) positions
-outside_within acl heading positions same =
-    subst (All (λ (i : ℕ). i < length heading)) (sym same) (All-In (λ (i : ℕ). i < length heading) (outside acl heading) (λ i m. let l = in_outside 0 acl heading i m in omega (arith, l)))
 
 -- ---- rows with the labels of some rows
 
@@ -100,9 +85,6 @@ part_closed acl value part label few is at heading rows =
     }
 
 -- ---- what is told of the others
-
-In-subtracted : (a b : List Row) (x : Row) → In x (subtracted a b) ↔ (In x a × (In x b → ⊥))
-In-subtracted a b x = In-difference_of row_cmp row_total row_separates x a b
 
 not_staying : (r : OrFault Bool) → stays r ≡ false → r ≡ Ok false
 not_staying (Ok b) h = ap (λ (t : Bool). Ok t) h

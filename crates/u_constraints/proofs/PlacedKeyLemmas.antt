@@ -21,8 +21,8 @@ use Rattle.slice_core.specs.PackedRows.{IsPackedOf}
 use Rattle.box_core.specs.Apartness.{AreApart}
 use Rattle.box_core.specs.Common.{At, has_cell, HaveCells}
 use Rattle.box_core.specs.Rows.{IsRow}
-use Rattle.box_core.proofs.PlaceLemmas.{cell_from, cell_parts}
-use Rattle.slice_core.proofs.Sweeping.{cell_has, span_from}
+use Rattle.box_core.proofs.PlaceLemmas.{cell_from, place_of_cells}
+use Rattle.slice_core.proofs.Sweeping.{cell_has}
 use Rattle.box_core.proofs.PointLemmas.{cell_at, InGrid}
 use Rattle.box_core.proofs.RowLemmas.{row_among, among_row, one_row, map_row, row_map}
 use Rattle.cell_core.specs.CellRows.{AreOverCells}
@@ -68,14 +68,6 @@ has_begins (g ∷ rest) (i ∷ is) (x ∷ xs) e f h =
     let b = rises_far g (suc i) x.1 w.1 in
     let r = g.rises i in
     (a, omega (arith, ints), has_begins rest is xs (omega (arith, e)) (omega (arith, f)) u.1)
-
--- boxes with cells have a place
-place_of_cells : (y : List (ℕ × ℕ)) → HaveCells y → (c : List ℕ) × (length c ≡ length y) × At y c
-place_of_cells [] h = ([], refl, refl)
-place_of_cells (x ∷ xs) h =
-    let w = and_parts (has_cell x) (list_all has_cell xs) h in
-    let v = place_of_cells xs w.1 in
-    (x.0 ∷ v.0, ap suc v.1, and_from (span_has x x.0) (has_place xs v.0) (span_from x x.0 (omega arith) (cell_parts x w.0)) v.2)
 
 have_cells : (y : List (ℕ × ℕ)) → ((s : ℕ) → s < length y → (get_or y s no_cells).0 < (get_or y s no_cells).1) → HaveCells y
 have_cells [] h = refl

@@ -14,6 +14,7 @@ use Rattle.relation_core.specs.Agreement.{names_of, position_of, common_names, c
 use Rattle.relation_core.specs.Parts.{kind_at}
 use Rattle.relation_core.proofs.FilterLemmas.{filter_same}
 use Rattle.relation_core.proofs.JoinLemmas.{value_of}
+use Rattle.relation_core.proofs.AttributeLemmas.{to_name, of_name}
 use Rattle.u_set.specs.Boxes.{IsShaped, type_of, others, spans_at, boxed}
 use Rattle.u_set.proofs.BoxLemmas.{value_at-get}
 use Rattle.u_set.proofs.BridgeLemmas.{box_cmp, box_total, box_separates}
@@ -21,7 +22,7 @@ use Rattle.u_row.specs.Kept.{inner}
 use Rattle.u_row.specs.Labels.{relabelled}
 use Rattle.u_row.proofs.LabelLemmas.{map_twice}
 use Rattle.u_join.specs.Pairs.{meet}
-use Rattle.u_join.proofs.NameLemmas.{maps_agree, by_names, new_names, count_new, label_by_names, listed_name, to_name, of_name}
+use Rattle.u_join.proofs.NameLemmas.{maps_agree, by_names, new_names, count_new, label_by_names, listed_name}
 
 -- the sides of a row's box are its values beside the listed names
 pub sides_by_names : (heading : Heading) (row : Row) (names : List Name) → spans_at (map (position_of heading) names) row ≡ map (λ n. span_of (value_of heading row n)) names

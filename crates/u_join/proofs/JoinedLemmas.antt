@@ -19,7 +19,7 @@ use Rattle.value_core.specs.declared.kind.Kind.{Kind}
 use Rattle.relation_core.specs.Agreement.{names_of, position_of, common_positions, part_of, agree}
 use Rattle.relation_core.specs.Joins.{joined_heading, HaveEqualKinds, joined_row, joined_pairs, joined}
 use Rattle.relation_core.specs.Parts.{no_attribute, kind_at, attributes_at, positions_in}
-use Rattle.relation_core.proofs.AttributeLemmas.{ties_by_name, both_tell, In-joined, joined_ascends}
+use Rattle.relation_core.proofs.AttributeLemmas.{ties_by_name, both_tell, In-joined, joined_ascends, to_name, of_name}
 use Rattle.relation_core.proofs.HeadingLemmas.{part_fits}
 use Rattle.relation_core.proofs.JoinLemmas.{value_of, value_of_part, fits_both}
 use Rattle.relation_core.proofs.AgreementLemmas.{position_within}
@@ -35,7 +35,7 @@ use Rattle.u_row.proofs.LabelLemmas.{label_of_kept, inner_within}
 use Rattle.u_join.specs.Places.{positions_of_both}
 use Rattle.u_join.specs.Pairs.{meet, joined_label, joined_box, joined_boxes}
 use Rattle.u_join.proofs.AgreeingLemmas.{sides_by_names, agree_meet}
-use Rattle.u_join.proofs.NameLemmas.{name_back, position_at, position_front, position_behind, listed_name, to_name, of_name}
+use Rattle.u_join.proofs.NameLemmas.{name_back, position_at, position_front, position_behind, listed_name}
 use Rattle.u_join.proofs.PairPlaces.{joined_have}
 
 -- ---- positions of two lists, one behind the other

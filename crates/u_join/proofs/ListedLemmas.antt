@@ -15,7 +15,7 @@ use Rattle.value_core.specs.declared.kind.Kind.{Kind}
 use Rattle.relation_core.specs.Agreement.{names_of, position_of, common_positions, matched, unmatched}
 use Rattle.relation_core.specs.Joins.{joined_heading, HaveEqualKinds, joined}
 use Rattle.relation_core.specs.Parts.{no_attribute, kind_at, attributes_at, positions_in}
-use Rattle.relation_core.proofs.AttributeLemmas.{one_attribute, joined_ascends}
+use Rattle.relation_core.proofs.AttributeLemmas.{one_attribute, joined_ascends, of_name}
 use Rattle.relation_core.proofs.AgreementLemmas.{position_within}
 use Rattle.packing_core.specs.Boxed.{Boxed, packed_boxes, unpacked_boxes}
 use Rattle.u_set.specs.Boxes.{AreIntervals, IsShaped, type_of, types_at, boxed}
@@ -28,7 +28,7 @@ use Rattle.u_join.specs.Places.{positions_of_both}
 use Rattle.u_join.proofs.AgreeingLemmas.{keys_alike}
 use Rattle.u_join.proofs.JoinedLemmas.{joined_rows}
 use Rattle.u_join.proofs.MatchedLemmas.{matched_rows, unmatched_rows}
-use Rattle.u_join.proofs.NameLemmas.{name_back, position_at, of_name}
+use Rattle.u_join.proofs.NameLemmas.{name_back, position_at}
 
 -- positions come back from the names at them
 pub positions_back : (heading : Heading) (acl : List ℕ) → Ascends attribute_cmp heading → All (λ (i : ℕ). i < length heading) acl → acl ≡ map (position_of heading) (names_of (attributes_at acl heading))

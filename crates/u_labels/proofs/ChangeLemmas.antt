@@ -29,8 +29,9 @@ use Rattle.u_set.proofs.PlaceLemmas.{opened_at, opened_shaped}
 use Rattle.u_row.proofs.BeneathLemmas.{in_all}
 use Rattle.u_constraints.proofs.GrownPackedLemmas.{fewer_rows}
 use Rattle.u_constraints.proofs.PackedLemmas.{packed_already}
+use Rattle.u_constraints.proofs.GrowthLemmas.{In-subtracted}
 use Rattle.u_labels.proofs.LabelLemmas.{IsSet, HasPlace, box_among, knows, packed_set, none_packed, same_packed, part_known, place_known}
-use Rattle.u_labels.proofs.ExchangeLemmas.{In-subtracted, either, joined}
+use Rattle.u_labels.proofs.ExchangeLemmas.{either, joined}
 
 -- ---- the least fault, where some tests have none
 

@@ -24,9 +24,9 @@ use Rattle.u_constraints.specs.Growth.{exchanged}
 use Rattle.u_constraints.proofs.BoundLemmas.{bound_grows}
 use Rattle.u_constraints.proofs.GrownKeyLemmas.{In-exchanged}
 use Rattle.u_constraints.proofs.TouchedLemmas.{within_length}
-use Rattle.u_constraints.proofs.GrowthLemmas.{In-united}
+use Rattle.u_constraints.proofs.GrowthLemmas.{In-united, In-subtracted}
 use Rattle.u_labels.proofs.LabelLemmas.{IsSet, HasPlace, box_among, knows, both, both_set, both_places, packed_set, none_packed, same_packed, part_known, place_known}
-use Rattle.u_labels.proofs.ExchangeLemmas.{In-subtracted, counted, either}
+use Rattle.u_labels.proofs.ExchangeLemmas.{counted, either}
 use Rattle.u_labels.proofs.InsertionLemmas.{smaller_refused, not_refused}
 use Rattle.u_labels.proofs.ChangeLemmas.{part_set, known_part, rest_set, rest_unknown, rest_packed}
 
@@ -91,9 +91,6 @@ module _ (heading : Heading) (acl : List ℕ) (intervals : AreIntervals heading 
   abbrev Place : List Row → Row → List ℤ → Type 0
   Place = HasPlace heading acl intervals
 
-  sp : IsSet heading acl intervals part
-  sp = part_set heading acl intervals value part sv closed
-
   abbrev rest : List Row
   rest = subtracted value part
 
@@ -137,7 +134,7 @@ module _ (heading : Heading) (acl : List ℕ) (intervals : AreIntervals heading 
   of_added = knows heading acl intervals value added sv sa
 
   abbrev of_part : Row → Bool
-  of_part = knows heading acl intervals value part sv sp
+  of_part = knows heading acl intervals value part sv (part_set heading acl intervals value part sv closed)
 
   abbrev known : Row → Bool
   known l = of_added l || of_part l
@@ -152,7 +149,7 @@ module _ (heading : Heading) (acl : List ℕ) (intervals : AreIntervals heading 
       )
 
   left_known : (x : Row) → In x left → IsTrue (of_part (others acl x))
-  left_known x i = ((part_known heading acl intervals left part sl sp x).0 (subst (λ (rows : List Row). In x rows) (sym labels) i)).1
+  left_known x i = ((part_known heading acl intervals left part sl (part_set heading acl intervals value part sv closed) x).0 (subst (λ (rows : List Row). In x rows) (sym labels) i)).1
 
   after_set : IsSet heading acl intervals after
   after_set = (

@@ -16,7 +16,6 @@ use Rattle.interval_core.specs.Members.{Span}
 use Rattle.packing_core.specs.Boxed.{Boxed, boxed_cmp, packed_boxes, InBoxes}
 use Rattle.packing_core.specs.Covering.{Among}
 use Rattle.packing_core.specs.Packed.{Has, firsts, points_of}
-use Rattle.packing_core.proofs.AmongLemmas.{among_append}
 use Rattle.packing_core.proofs.PackedBoxes.{in_packed_form, packed_ascends}
 use Rattle.slice_core.specs.LeastFault.{IsLeast}
 use Rattle.slice_core.proofs.Turns.{least_iff}
@@ -27,7 +26,7 @@ use Rattle.cell_core.specs.Numbering.{numbers_of}
 use Rattle.cell_core.proofs.BackLemmas.{box_length}
 use Rattle.cell_core.proofs.KeyLemmas.{rows_have}
 use Rattle.cell_core.proofs.OrderLemmas.{boxed_total, boxed_separates}
-use Rattle.cell_core.proofs.PackedPlaces.{AllHave}
+use Rattle.cell_core.proofs.PackedPlaces.{AllHave, both_boxes}
 use Rattle.cell_core.proofs.StepLemmas.{sort_within}
 use Rattle.cell_core.proofs.Theorem.{packs-iff, points-iff}
 use Rattle.cell_core.proofs.Listing.{length_each}
@@ -42,12 +41,6 @@ InRuleBelow f boxes i l place = (r : ℕ) × (r < i) × Has (get_or boxes r []) 
 
 abbrev pub HasFaultBelow : {L F : Type 0} → (ℕ → List ℤ → Result (Option L) F) → List (List Span) → ℕ → F → Type 0
 HasFaultBelow f boxes i e = (r : ℕ) × (place : List ℤ) × (r < i) × Has (get_or boxes r []) place × (f r place ≡ Err e)
-
-pub both_boxes : {L : Type 0} (xs ys : List (Boxed L)) (l : L) (place : List ℤ) → InBoxes (xs ++ ys) l place ↔ InBoxes xs l place ⊎ InBoxes ys l place
-both_boxes xs ys l place = (
-  λ w. elim ((among_append (l, w.0) xs ys).0 w.1) [ inl m ↦ inl (w.0, m, w.2) | inr m ↦ inr (w.0, m, w.2) ],
-  λ w. elim w [ inl v ↦ (v.0, (among_append (l, v.0) xs ys).1 (inl v.1), v.2) | inr v ↦ (v.0, (among_append (l, v.0) xs ys).1 (inr v.1), v.2) ],
-)
 
 pub sides_at : {L P : Type 0} (n : P → ℤ) (rows : List (L × List (P × P))) (i : ℕ) (x : L × List (P × P)) → i < length rows → x ≡ get_or rows i x → get_or (sides_numbers n rows) i [] ≡ box_numbers n x.1
 sides_at n [] i x l e = absurd (omega arith)

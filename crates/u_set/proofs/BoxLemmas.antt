@@ -8,16 +8,15 @@ use Rattle.std.proofs.lemmas.List.{length-set, get_or-map, get_or-set_same, get_
 use Rattle.std.proofs.lemmas.List.Elements.{All-from_recursion}
 use Rattle.std.proofs.lemmas.List.Folds.{list_any_at}
 use Rattle.std.proofs.lemmas.Option.{unwrap_or-slice_get}
-use Rattle.point_core.specs.declared.any_type.AnyType.{AnyType}
 use Rattle.point_core.specs.Points.{Line, line_of}
 use Rattle.interval_core.specs.Members.{Span}
 use Rattle.value_core.specs.declared.kind.Kind.{Kind}
 use Rattle.value_core.specs.declared.kind.Kind.TheVariants.{Truth, Span as SpanOf}
 use Rattle.value_core.specs.Attributes.{value_at, span_of, with_span, among}
 use Rattle.value_core.specs.RowPacking.{attribute}
-use Rattle.value_core.specs.Values.{Name, Value, Row, Heading, truth, text, point, interval, same_line, is_interval, fits, fits_heading}
+use Rattle.value_core.specs.Values.{Name, Value, Row, Heading, truth, interval, fits, fits_heading}
 use Rattle.value_core.proofs.RelationLemmas.{other_length}
-use Rattle.value_core.proofs.FitLemmas.{same_line-same}
+use Rattle.value_core.proofs.FitLemmas.{fits_at, interval_that_fits}
 use Rattle.value_core.proofs.PlainLemmas.{set_elsewhere}
 use Rattle.relation_core.specs.Parts.{kind_at}
 use Rattle.packing_core.specs.Boxed.{side, sides_from}
@@ -182,18 +181,6 @@ module _ (heading : Heading) (acl : List ℕ) (intervals : AreIntervals heading 
       value ∙ h.spans m listed ∙ (λ t. interval (line_of (type_of (kind t))) (sym span t)) ∙ ap (λ k. interval (line_of (type_of (get_or heading m e).1)) (get_or (spans_at acl row) (place_of acl k) nowhere)) (sym z))
 
   -- ---- a row that fits the heading is shaped so
-
-  fits_at : (h : Heading) (row : Row) (i : ℕ) (e : Name × Kind) (d : Value) → IsTrue (fits_heading h row) → i < length h → IsTrue (fits (get_or h i e).1 (get_or row i d))
-  fits_at [] row i e d f l = absurd (omega arith)
-  fits_at (a ∷ h) [] i e d f l = absurd (true≢false (sym f))
-  fits_at (a ∷ h) (v ∷ row) zero e d f l = (and_parts (fits a.1 v) (fits_heading h row) f).0
-  fits_at (a ∷ h) (v ∷ row) (suc i) e d f l = fits_at h row i e d (and_parts (fits a.1 v) (fits_heading h row) f).1 (omega arith)
-
-  interval_that_fits : (t : AnyType) (v : Value) → IsTrue (fits (SpanOf t) v) → v ≡ interval (line_of t) (span_of v)
-  interval_that_fits t (truth b) h = absurd (true≢false (sym h))
-  interval_that_fits t (text bytes) h = absurd (true≢false (sym h))
-  interval_that_fits t (point l p) h = absurd (true≢false (sym h))
-  interval_that_fits t (interval l i) h = ap (λ m. interval m i) (same_line-same l (line_of t) (and_parts (same_line l (line_of t)) (is_interval t i) h).0)
 
   others_fit : (n : ℕ) (h : Heading) (row : Row) → IsTrue (fits_heading h row) → IsTrue (fits_heading (others_from n acl h) (others_from n acl row))
   others_fit n [] [] f = refl

@@ -37,10 +37,10 @@ use Rattle.cell_core.specs.Numbering.{numbers_of}
 use Rattle.u_set.specs.Boxes.{AreIntervals, type_of, others, boxed, spans_at}
 use Rattle.u_set.proofs.BoxLemmas.{shaped_from_fit, span_fits, others-set}
 use Rattle.u_row.specs.Cutting.{AreCuts, pieces}
-use Rattle.u_row.proofs.AllRowsLemmas.{both_boxes}
 use Rattle.meaning_core.specs.Meanings.{condition}
 use Rattle.meaning_core.specs.Scalars.{IsConditionOver}
 use Rattle.slice_core.proofs.Turns.{least_iff}
+use Rattle.cell_core.proofs.PackedPlaces.{both_boxes}
 use Rattle.using_core.specs.BoxedLaws.{cuts_inside, some_point}
 use Rattle.using_core.specs.Holding.{at_number, InSpans, HoldsIn, FailsIn, CanAsk, IsPart}
 use Rattle.using_core.specs.PlaceRows.{at_place_others, among_itself}

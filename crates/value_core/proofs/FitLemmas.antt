@@ -1,17 +1,20 @@
 -- Values that fit a kind of points or intervals have their points in the type.
-use Rattle.std.proofs.Common.{◌≡◌, ℤ, pos, Bool, true, false, ◌&&◌, refl, ap, sym, ◌∙◌, if◌then◌else◌}
+use Rattle.std.proofs.Common.{◌≡◌, ℤ, pos, Bool, true, false, ◌&&◌, refl, ap, sym, ◌∙◌, if◌then◌else◌, ℕ, zero, suc, ◌<◌, [], ◌∷◌, length, get_or, arith}
 use Rattle.std.specs.Prelude.{unsigned_abs, int_le}
 use Rattle.std.specs.Ordering.{is_eq, int_cmp}
 use Rattle.std.specs.Cmp.{signed_Decides}
-use Rattle.std.proofs.lemmas.Bool.{and_parts}
+use Rattle.std.specs.Bool.{IsTrue}
+use Rattle.std.proofs.lemmas.Bool.{and_parts, true≢false}
 use Rattle.base_core.proofs.IntLemmas.{int_le-le}
 use Rattle.base_core.proofs.OrderingLemmas.{then-Equal}
 use Rattle.point_core.specs.Points.{Line, integers, days, values_of, line, line_of, number, is_number, IsNumber, IsPointOf, first_of, last_of}
 use Rattle.point_core.specs.declared.any_type.AnyType.{AnyType}
 use Rattle.point_core.specs.declared.any_type.AnyPoint.{AnyPoint}
-use Rattle.value_core.specs.Values.{fits, same_line, is_interval, point, interval}
+use Rattle.value_core.specs.Values.{fits, same_line, is_interval, point, interval, Name, Value, Row, Heading, fits_heading, Value as PlainValue, truth, text}
 use Rattle.value_core.specs.declared.kind.Kind.TheVariants.{Point, Span as SpanOf}
 use Rattle.value_core.specs.Plain.{ends}
+use Rattle.value_core.specs.declared.kind.Kind.{Kind}
+use Rattle.value_core.specs.Attributes.{span_of}
 
 pub same_line-same : (l m : Line) → same_line l m ≡ true → l ≡ m
 same_line-same integers integers e = refl
@@ -57,3 +60,15 @@ span_from_fit t i e =
       (sym meet ∙ begin, is_number-number t (number i.1) last.0),
       ap (λ same. if same then (number i.0, number i.1) else (pos 1, pos 0)) here.0,
     )
+
+pub fits_at : (h : Heading) (row : Row) (i : ℕ) (e : Name × Kind) (d : Value) → IsTrue (fits_heading h row) → i < length h → IsTrue (fits (get_or h i e).1 (get_or row i d))
+fits_at [] row i e d f l = absurd (omega arith)
+fits_at (a ∷ h) [] i e d f l = absurd (true≢false (sym f))
+fits_at (a ∷ h) (v ∷ row) zero e d f l = (and_parts (fits a.1 v) (fits_heading h row) f).0
+fits_at (a ∷ h) (v ∷ row) (suc i) e d f l = fits_at h row i e d (and_parts (fits a.1 v) (fits_heading h row) f).1 (omega arith)
+
+pub interval_that_fits : (t : AnyType) (v : PlainValue) → IsTrue (fits (SpanOf t) v) → v ≡ interval (line_of t) (span_of v)
+interval_that_fits t (truth b) h = absurd cc
+interval_that_fits t (text bytes) h = absurd cc
+interval_that_fits t (point l p) h = absurd cc
+interval_that_fits t (interval l i) h = ap (λ m. interval m i) (same_line-same l (line_of t) (and_parts (same_line l (line_of t)) (is_interval t i) h).0)
