@@ -34,7 +34,7 @@ positions-back heading (i ∷ is) up within =
 
 -- ---- the list of no attributes
 
-none_differ : IsDistinct nat_eq []
+pub none_differ : IsDistinct nat_eq []
 unfolding IsDistinct
 none_differ = tt
 

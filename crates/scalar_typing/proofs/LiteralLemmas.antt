@@ -1,14 +1,13 @@
 -- The numbers of digits and of dates.
 use Rattle.std.specs.Prelude.{◌≡◌, ◌≤◌, ◌<◌, ℕ, ◌+◌, ◌-◌, ◌*◌, ◌/◌, ◌%◌, ℤ, Bool, true, false, ◌&&◌, ◌==◌, nat_le, nat_eq, List, [], ◌∷◌, Option, Some, None, slice_index_or, if◌then◌else◌, zero, suc, IsNone, IfSome, IfOk, MatchOption, Result, Ok, Err, length, option_map, refl}
 use Rattle.std.proofs.Common.{arith, ◌⊎◌, inl, inr, drop, get_or, sym, ◌∙◌, ap, subst, eq-eqb}
-use Rattle.std.proofs.lemmas.Bool.{le-leb, leb-true, eqb-true, and_from}
+use Rattle.std.proofs.lemmas.Bool.{le-leb, leb-true, eqb-true}
 use Rattle.point_core.specs.Dates.{IsCalendarDate, IsDateText, date_text, date_number, four_digits, two_digits, days_of_month, month_days, is_leap}
 use Rattle.utd_syntax.specs.Literals.{value_after, value_of, is_digit, are_digits, is_day, is_date}
 use Rattle.std.specs.Str.{IsUtf8, IsValidUpTo}
 use Rattle.std.specs.Str.Lossy.{utf8_valid_len}
 use Rattle.std.proofs.lemmas.Str.{utf8_valid_len-IsUtf8}
 use Rattle.std.proofs.lemmas.List.{at_drop_more}
-use Rattle.base_core.proofs.BoolLemmas.{and_left, and_right}
 use Rattle.point_core.specs.declared.date_type.Day.{Day}
 use Rattle.value_core.specs.Lengths.{IsTextLength}
 use Rattle.value_core.specs.Limits.{most_text_bytes}
@@ -27,11 +26,24 @@ two-value n h = omega arith
 pub four-value : (n : ℕ) → n ≤ 9999 → value_of (four_digits n) ≡ n
 four-value n h = omega arith
 
+all : (a b : Bool) → a ≡ true → b ≡ true → (a && b) ≡ true
+all true true e f = refl
+all true false e f = absurd cc
+all false b e f = absurd cc
+
+first : (a b : Bool) → (a && b) ≡ true → a ≡ true
+first true b e = refl
+first false b e = absurd cc
+
+second : (a b : Bool) → (a && b) ≡ true → b ≡ true
+second true b e = e
+second false b e = absurd cc
+
 digit : (n : ℕ) → n ≤ 9 → is_digit (48 + n) ≡ true
-digit n h = and_from (nat_le 48 (48 + n)) (nat_le (48 + n) 57) (le-leb 48 (48 + n) (omega arith)) (le-leb (48 + n) 57 (omega arith))
+digit n h = all (nat_le 48 (48 + n)) (nat_le (48 + n) 57) (le-leb 48 (48 + n) (omega arith)) (le-leb (48 + n) 57 (omega arith))
 
 digit-back : (c : ℕ) → is_digit c ≡ true → (48 ≤ c) × (c ≤ 57)
-digit-back c h = (leb-true 48 c (and_left (nat_le 48 c) (nat_le c 57) h), leb-true c 57 (and_right (nat_le 48 c) (nat_le c 57) h))
+digit-back c h = (leb-true 48 c (first (nat_le 48 c) (nat_le c 57) h), leb-true c 57 (second (nat_le 48 c) (nat_le c 57) h))
 
 day : (year month date : ℕ) → IsCalendarDate year month date → is_day year month date ≡ true
 day year month date h =
@@ -40,17 +52,17 @@ day year month date h =
     let c = le-leb month 12 h.3 in
     let d = le-leb 1 date h.4 in
     let e = le-leb date (days_of_month year month) h.5 in
-    search (and_from)
+    search (all)
 
 pub split : (c : ℕ) (cs : List ℕ) → are_digits (c ∷ cs) ≡ true → (is_digit c ≡ true) × (are_digits cs ≡ true)
-split c cs t = (and_left (is_digit c) (are_digits cs) t, and_right (is_digit c) (are_digits cs) t)
+split c cs t = (first (is_digit c) (are_digits cs) t, second (is_digit c) (are_digits cs) t)
 
 are-digits : (a b c d e f g h : ℕ) → a ≤ 9 → b ≤ 9 → c ≤ 9 → d ≤ 9 → e ≤ 9 → f ≤ 9 → g ≤ 9 → h ≤ 9 →
     are_digits ((48 + a) ∷ (48 + b) ∷ (48 + c) ∷ (48 + d) ∷ (48 + e) ∷ (48 + f) ∷ (48 + g) ∷ (48 + h) ∷ []) ≡ true
 are-digits a b c d e f g h i j k l m n o p =
     let ea = digit a i in let eb = digit b j in let ec = digit c k in let ed = digit d l in
     let ee = digit e m in let ef = digit f n in let eg = digit g o in let eh = digit h p in
-    search (and_from) depth 12
+    search (all) depth 12
 
 february : (b : Bool) → (if b then 29 else 28) ≤ 31
 february true = omega arith
@@ -81,7 +93,7 @@ dated year month date h =
     let ds = are-digits (year / 100 / 10) (year / 100 % 10) (year % 100 / 10) (year % 100 % 10) (month / 10) (month % 10) (date / 10) (date % 10)
     (omega (arith, h.1)) (omega (arith, h.1)) (omega (arith, h.1)) (omega (arith, h.1)) (omega (arith, h.3)) (omega (arith, h.3)) (omega arith) (omega arith) in
     let e : is_day (value_of (four_digits year)) (value_of (two_digits month)) (value_of (two_digits date)) ≡ true = rw (y, m, d) (day year month date h) in
-    let t : is_date (date_text year month date) ≡ true = search (and_from) in
+    let t : is_date (date_text year month date) ≡ true = search (all) in
     let n : number_of_date (date_text year month date) ≡ date_number year month date = rw (y, m, d) in
     rw t (ap Some n)
 
