@@ -1,4 +1,4 @@
-"""Functions by their bodies: without comments and white space, and with parameters and local names by their order."""
+"""Functions by their bodies and the types of their parameters: without comments and white space, and with parameters and local names by their order."""
 import re
 
 from tree import product_files
@@ -6,6 +6,7 @@ from tree import product_files
 HEAD = re.compile(r'^( *)(?:pub(?:\([a-z]+\))? )?(?:const )?(?:unsafe )?fn ([a-z_0-9]+)')
 TOKEN = re.compile(r'"(?:[^"\\]|\\.)*"|\'(?:[^\'\\]|\\.)\'|[A-Za-z_][A-Za-z_0-9]*|[0-9][0-9A-Za-z_.]*|\S')
 BINDS = re.compile(r'\b(?:let(?: mut)?|for) ([a-z_0-9]+)\b|\|([a-z_0-9]+)\||\bfor \(([a-z_0-9]+), ([a-z_0-9]+)\)')
+TAKES = re.compile(r'fn [a-z_0-9]+(?:<.*?>)?\((.*?)\)\s*(->\s*[^{\n]*?)?(?:\n\s*(?:requires|ensures|where|ghost)|\s*\{|\n\{)', re.S)
 PARAMETER = re.compile(r'(?:^|[(,]\s*)(?:mut )?([a-z_0-9]+):')
 LEAST_LINES = 4
 LEAST_CHARACTERS = 120
@@ -31,8 +32,15 @@ def functions_of(text):
             yield at + 1, head[2], '\n'.join(lines[at:begin + 1]), lines[begin + 1:end]
 
 
+def types_of(head):
+    """The types of the parameters and of the result."""
+    takes = TAKES.search(head)
+    kinds = re.sub(r'\b(?:mut )?[a-z_0-9]+: ', ' ', takes[1]) + ' ' + (takes[2] or '') if takes else ''
+    return ' '.join(kinds.replace(',', ' ').split())
+
+
 def form_of(head, lines):
-    """The body's words, with a number for each parameter and local name; None where it is short."""
+    """The types, and the body's words with a number for each parameter and local name; None where it is short."""
     lines = [re.sub(r'\s*//.*', '', line) for line in lines]
     lines = [line for line in lines if line.strip()]
     body = '\n'.join(lines)
@@ -43,7 +51,7 @@ def form_of(head, lines):
     for name in bound:
         numbers.setdefault(name, f'#{len(numbers)}')
     words = TOKEN.findall(body)
-    return ' '.join(numbers.get(word, word) if at == 0 or words[at - 1] != '.' else word for at, word in enumerate(words))
+    return types_of(head) + ': ' + ' '.join(numbers.get(word, word) if at == 0 or words[at - 1] != '.' else word for at, word in enumerate(words))
 
 
 def all_functions():

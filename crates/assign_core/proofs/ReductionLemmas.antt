@@ -25,7 +25,8 @@ use Rattle.scalar_core.specs.Operations.{Meant, one_of, is_true as is_truth}
 use Rattle.scalar_core.specs.ScalarValues.{value as value_on}
 use Rattle.relation_core.specs.Agreement.{part_of}
 use Rattle.relation_core.specs.Growth.{touched}
-use Rattle.relation_core.specs.Operators.{fault_order, is_true, restricted, subtracted, united}
+use Rattle.relation_core.specs.Operators.{is_true, restricted, subtracted, united}
+use Rattle.point_core.specs.Orders.{fault_order}
 use Rattle.relation_core.specs.Parts.{projected}
 use Rattle.meaning_core.specs.Meanings.{RowsMeant, condition, limited}
 use Rattle.u_set.specs.Apart.{outside}

@@ -7,7 +7,8 @@ use Rattle.point_core.specs.declared.fault.Code.TheVariants.{E06, E13, E15, E17}
 use Rattle.utd_syntax.specs.declared.terminal.Terminal.TheVariants as t
 use Rattle.utd_syntax.specs.Plain as syntax
 use Rattle.utd_syntax.specs.Plain.{Word, ScalarP, KindP, AttributeP, HeadingP, ElementP, ElementsP, TupleP, LiteralP}
-use Rattle.utd_ranges.specs.Ranges.{Each, NameIn, ScalarIn, AttributeIn, HeadingIn, ElementIn, ElementsIn, TupleIn, LiteralIn, is_utf8, is_unwritten, has_no_value}
+use Rattle.utd_ranges.specs.Ranges.{Each, NameIn, ScalarIn, AttributeIn, HeadingIn, ElementIn, ElementsIn, TupleIn, LiteralIn, is_unwritten, has_no_value}
+use Rattle.value_core.specs.Lengths.{is_utf8}
 use Rattle.value_core.specs.declared.list.OrdinalNames.{OrdinalNames}
 use Rattle.value_core.specs.Headings.{has_name}
 use Rattle.value_core.specs.Limits.{most_attributes, most_name_bytes}

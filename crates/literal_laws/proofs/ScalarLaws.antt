@@ -9,7 +9,8 @@ use Rattle.utd_syntax.specs.Literals.{value_of, is_date, has_control}
 use Rattle.utd_syntax.specs.Plain as syntax
 use Rattle.utd_syntax.specs.Plain.{Word, PointP, ScalarP, ConjP, NegP, CmpP, SumP, ProdP, SignP, PrimaryP}
 use Rattle.utd_syntax.specs.Table.{Plain, Negated, Dated}
-use Rattle.utd_ranges.specs.Ranges.{IsIn, NameIn, PointIn, ScalarIn, ConjIn, NegIn, CmpIn, SumIn, ProdIn, SignIn, PrimaryIn, is_utf8, is_unwritten, has_no_value}
+use Rattle.utd_ranges.specs.Ranges.{IsIn, NameIn, PointIn, ScalarIn, ConjIn, NegIn, CmpIn, SumIn, ProdIn, SignIn, PrimaryIn, is_unwritten, has_no_value}
+use Rattle.value_core.specs.Lengths.{is_utf8}
 use Rattle.value_core.specs.declared.list.OrdinalNames.{OrdinalNames}
 use Rattle.value_core.specs.Limits.{most_text_bytes}
 use Rattle.value_core.specs.Values.{Heading}

@@ -25,7 +25,7 @@ use Rattle.scalar_core.specs.ScalarValues.{value}
 use Rattle.scalar_core.proofs.KindLemmas.{value-fits, integer-fits}
 use Rattle.scalar_core.proofs.PointLemmas.{number-is_number}
 use Rattle.relation_core.specs.Agreement.{names_of, part_of}
-use Rattle.relation_core.specs.Operators.{fault_order}
+use Rattle.point_core.specs.Orders.{fault_order}
 use Rattle.relation_core.specs.Parts.{no_attribute, attributes_at, projected}
 use Rattle.relation_core.proofs.FilterLemmas.{passes_at, list_all-filter, length-filter_at_most}
 use Rattle.relation_core.proofs.GroupLemmas.{group_key, rows_at-group, group_not_empty}

@@ -11,7 +11,7 @@ use Rattle.point_core.specs.contracts.fault.FaultOrd.TheImpl.Laws.{total-law}
 use Rattle.point_core.specs.Faults.{OrFault}
 use Rattle.point_core.specs.declared.fault.Fault.{Fault}
 use Rattle.relation_core.specs.Faults.{fault_of, lesser_of, values_of}
-use Rattle.relation_core.specs.Operators.{fault_order}
+use Rattle.point_core.specs.Orders.{fault_order}
 
 fault_of-with_one : {X : Type 0} (r : OrFault (List X)) (v : OrFault X) → fault_of (with_one fault_order total-law r v) ≡ lesser_of (fault_of r) (fault_of v)
 fault_of-with_one (Ok vs) (Ok v) = refl

@@ -3,7 +3,7 @@ use Rattle.std.specs.Prelude.{Option, Some, None, Ok, Err, List, [], ◌∷◌}
 use Rattle.base_core.specs.Outcomes.{lesser}
 use Rattle.point_core.specs.Faults.{OrFault}
 use Rattle.point_core.specs.declared.fault.Fault.{Fault}
-use Rattle.relation_core.specs.Operators.{fault_order}
+use Rattle.point_core.specs.Orders.{fault_order}
 
 -- the fault in a value's place
 abbrev pub fault_of : {X : Type 0} → OrFault X → Option Fault

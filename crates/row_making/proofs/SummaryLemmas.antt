@@ -12,7 +12,7 @@ use Rattle.value_core.specs.Values.{Row, truth, Value as PlainValue}
 use Rattle.scalar_core.specs.Expressions.{Expr}
 use Rattle.scalar_core.specs.ScalarValues.{value}
 use Rattle.relation_core.specs.Groups.{rows_at}
-use Rattle.relation_core.specs.Operators.{fault_order}
+use Rattle.point_core.specs.Orders.{fault_order}
 use Rattle.tree_core.specs.Trees.{read_aggregate, read_aggregate_form}
 use Rattle.tree_core.specs.declared.tree.Aggregate.{Aggregate}
 use Rattle.meaning_core.specs.Rows.{extreme, picked, values_over}

@@ -9,9 +9,9 @@ use Rattle.std.specs.Str.Lossy.{utf8_valid_len}
 use Rattle.std.proofs.lemmas.Str.{utf8_valid_len-IsUtf8}
 use Rattle.std.proofs.lemmas.List.{at_drop_more}
 use Rattle.point_core.specs.declared.date_type.Day.{Day}
-use Rattle.value_core.specs.Lengths.{IsTextLength}
+use Rattle.value_core.specs.Lengths.{IsTextLength, is_utf8}
 use Rattle.value_core.specs.Limits.{most_text_bytes}
-use Rattle.scalar_typing.specs.Literals.{date_of, number_of_date, text_of, is_utf8}
+use Rattle.scalar_typing.specs.Literals.{date_of, number_of_date, text_of}
 
 -- more digits make no less
 pub grows : (n : ℕ) (digits : List ℕ) → n ≤ value_after n digits

@@ -28,7 +28,8 @@ use Rattle.scalar_core.proofs.PointLemmas.{same_line-self, number-is_number, las
 use Rattle.value_core.specs.Limits.{most_text_bytes}
 use Rattle.scalar_typing.specs.declared.typed.Typed.{Typed as TypedTree}
 use Rattle.scalar_typing.specs.Typings.{Typed, ◌>>=◌, value_or, typed}
-use Rattle.scalar_typing.specs.Literals.{integer_of, negative_of, is_utf8, text_of, number_of_date, date_of, point_constant, integer_literal, text_literal, date_literal, extreme_constant}
+use Rattle.scalar_typing.specs.Literals.{integer_of, negative_of, text_of, number_of_date, date_of, point_constant, integer_literal, text_literal, date_literal, extreme_constant}
+use Rattle.value_core.specs.Lengths.{is_utf8}
 use Rattle.scalar_typing.specs.Names.{first_from, attribute_of, attribute_typed, ordinal_of, value_of, ordinal_type, point_type, ordinal_value, extreme_typed}
 use Rattle.scalar_typing.specs.Operators.{when, both_are, function_rule, sum_rule, product_rule, comparison_rule, pairing_rule, ends_of, selector_rule, not_rule, negate_rule, logic_typed}
 use Rattle.scalar_typing.specs.Scalars.{typed_scalar, typed_conj, typed_neg, typed_cmp, typed_sum, typed_prod, typed_sign, typed_primary}

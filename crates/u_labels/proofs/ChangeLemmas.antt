@@ -20,7 +20,8 @@ use Rattle.value_core.specs.RowPacking.{packed, unpacked}
 use Rattle.value_core.specs.Values.{Row, Heading, row_cmp}
 use Rattle.relation_core.specs.Faults.{fault_of, lesser_of}
 use Rattle.relation_core.specs.Growth.{touched}
-use Rattle.relation_core.specs.Operators.{fault_order, is_true, restricted, subtracted, united}
+use Rattle.relation_core.specs.Operators.{is_true, restricted, subtracted, united}
+use Rattle.point_core.specs.Orders.{fault_order}
 use Rattle.packing_core.specs.Packed.{firsts}
 use Rattle.u_set.specs.Apart.{outside}
 use Rattle.u_set.specs.Boxes.{AreIntervals, others, spans_at}

@@ -17,7 +17,8 @@ use Rattle.scalar_core.specs.Expressions.{Expr}
 use Rattle.scalar_core.specs.ScalarValues.{value}
 use Rattle.slice_core.specs.LeastFault.{fault_total, IsLeast}
 use Rattle.relation_core.specs.Agreement.{part_of}
-use Rattle.relation_core.specs.Operators.{extended, fault_order}
+use Rattle.relation_core.specs.Operators.{extended}
+use Rattle.point_core.specs.Orders.{fault_order}
 use Rattle.tree_core.specs.Trees.{PlainSets}
 use Rattle.packing_core.specs.Boxed.{Boxed}
 use Rattle.slice_core.specs.LeastFault.{IsLeast}

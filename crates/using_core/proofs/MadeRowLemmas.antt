@@ -6,7 +6,8 @@ use Rattle.point_core.specs.declared.fault.Fault.{Fault}
 use Rattle.point_core.specs.declared.fault.Place.{Place}
 use Rattle.value_core.specs.RowPacking.{packed, unpacked}
 use Rattle.value_core.specs.Values.{Row, Heading, Relation, IsRelation, row_cmp, rows_of, most_rows}
-use Rattle.relation_core.specs.Operators.{extended, fault_order}
+use Rattle.relation_core.specs.Operators.{extended}
+use Rattle.point_core.specs.Orders.{fault_order}
 use Rattle.relation_core.proofs.FilterLemmas.{rows_ascend, rows_fit}
 use Rattle.tree_core.specs.Trees.{PlainSets}
 use Rattle.packing_core.specs.Boxed.{Boxed}

@@ -15,7 +15,8 @@ use Rattle.utd_lexer.specs.declared.token.TokenKind.TheVariants.{Word, Integer, 
 use Rattle.utd_lexer.specs.declared.token.Token.{Token}
 use Rattle.utd_lexer.specs.Tokens.{Lexed, done, gap, token, doubled, spelling, spelling_of_gap, IsOfKind}
 use Rattle.utd_lexer.specs.Reading.{Reads}
-use Rattle.utd_ranges.specs.Ranges.{is_utf8, is_unwritten, AreWritten}
+use Rattle.utd_ranges.specs.Ranges.{is_unwritten, AreWritten}
+use Rattle.value_core.specs.Lengths.{is_utf8}
 use Rattle.utd_parser.specs.Tokens.{terminal_of, pieces}
 
 -- ---- characters of parts of a text
