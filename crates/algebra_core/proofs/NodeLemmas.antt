@@ -2,8 +2,7 @@
 --     given_at, headed_at      the relation is what the operand's expression means, and has its heading
 --     value_at, cost_at      the node's rows and its steps, by what is done with that relation
 --     told_at      what is told of its rows
---     own_heading      the heading of a tree is that of what it is read as
-use Rattle.std.proofs.Common.{◌≡◌, ◌≤◌, ◌+◌, ℕ, List, [], refl, sym, subst, arith, Result, Ok}
+use Rattle.std.proofs.Common.{◌≡◌, ◌≤◌, ◌+◌, ℕ, List, sym, subst, arith, Result, Ok}
 use Rattle.base_core.specs.Outcomes.{then_give}
 use Rattle.point_core.specs.Faults.{OrFault}
 use Rattle.point_core.specs.declared.fault.Stop.{Stop}
@@ -12,7 +11,6 @@ use Rattle.relation_core.specs.Answers.{Answers, under}
 use Rattle.tree_core.specs.Trees.{read_tree, heading_of}
 use Rattle.tree_core.specs.declared.tree.RelTree.{RelTree}
 use Rattle.meaning_core.specs.Meanings.{RowsMeant, meaning, plainly}
-use Rattle.meaning_core.proofs.LimitLemmas.{with_rows}
 use Rattle.meaning_core.proofs.LookupLemmas.{operand_heading, unary_meant, under_ok}
 use Rattle.algebra_core.specs.Costs.{known_of, paid, tree_cost}
 use Rattle.algebra_core.specs.Operands.{held}
@@ -21,9 +19,6 @@ use Rattle.algebra_core.specs.declared.operand.Operand.{Operand}
 use Rattle.algebra_core.specs.declared.scope.Scope.{Scope}
 use Rattle.algebra_core.proofs.CostLemmas.{paid_at}
 use Rattle.algebra_core.proofs.OperandLemmas.{held_given}
-
-pub own_heading : (t : RelTree) → t.heading ≡ heading_of (read_tree t)
-own_heading t = operand_heading t (Ok []) (with_rows t.heading []) refl
 
 add_cost : (old mid new c f p : ℕ) → mid ≤ old + c → new ≤ mid + f → p ≡ f → new ≤ old + (c + p)
 add_cost old mid new c f p h k e = omega (arith, h, k, e)

@@ -1,5 +1,6 @@
 -- What an operator keeps of the list of the USING that surrounds it, from what its node keeps.
-use Rattle.std.proofs.Common.{ℕ, List, Bool, true, false, ◌&&◌, IsTrue, refl}
+use Rattle.std.proofs.Common.{ℕ, List}
+use Rattle.std.proofs.lemmas.Bool.{and_parts}
 use Rattle.point_core.specs.declared.fault.Place.{Place}
 use Rattle.value_core.specs.Values.{Heading}
 use Rattle.scalar_core.specs.Expressions.{Expr}
@@ -9,14 +10,10 @@ use Rattle.algebra_core.specs.Surroundings.{IsPartOf, KeepsList, IsSwept, AreSwe
 use Rattle.algebra_core.specs.declared.surrounding.Surrounding.{Surrounding}
 use Rattle.algebra_core.specs.declared.surrounding.Surrounding.TheVariants.{Plainly, Using}
 
-both_true : (a b : Bool) → IsTrue (a && b) → IsTrue a × IsTrue b
-both_true true b h = (refl, h)
-both_true false b h = absurd (cc)
-
 pub infix_part : (s : Surrounding) (place : Place) (h : Heading) (word : InfixWord) (l r : Tree) → IsPartOf s (infix_of place h word l r)
     → KeepsList s h (heading_of l) × KeepsList s h (heading_of r)
 infix_part Plainly place h word l r is = (tt, tt)
-infix_part (Using at acl) place h word l r is = both_true _ _ is
+infix_part (Using at acl) place h word l r is = and_parts _ _ is
 
 pub project_part : (s : Surrounding) (place : Place) (h : Heading) (kept : List ℕ) (t : Tree) → IsPartOf s (project place h kept t) → KeepsList s h (heading_of t)
 project_part Plainly place h kept t is = tt
@@ -30,14 +27,14 @@ pub extend_part : (s : Surrounding) (place : Place) (h : Heading) (sets : PlainS
     → KeepsList s h (heading_of t) × AreSwept s h (heading_of t) sets
 extend_part Plainly place h sets t is = (tt, tt)
 extend_part (Using at acl) place h sets t is =
-    let first = both_true _ _ is in
-    let more = both_true _ _ first.1 in
+    let first = and_parts _ _ is in
+    let more = and_parts _ _ first.1 in
     (first.0, record { swept = more.0; kept = more.1 })
 
 pub summarize_part : (s : Surrounding) (place : Place) (h : Heading) (by : List ℕ) (aggregates : List PlainAggregate) (t : Tree) → IsPartOf s (summarize place h by aggregates t)
     → KeepsList s h (heading_of t) × AreSummed s h (heading_of t) by aggregates
 summarize_part Plainly place h by aggregates t is = (tt, tt)
 summarize_part (Using at acl) place h by aggregates t is =
-    let first = both_true _ _ is in
-    let more = both_true _ _ first.1 in
+    let first = and_parts _ _ is in
+    let more = and_parts _ _ first.1 in
     (first.0, record { grouped = more.0; unnamed = more.1 })

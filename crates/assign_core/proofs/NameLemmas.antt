@@ -4,6 +4,7 @@ use Rattle.std.specs.List.{IsDistinct, AllByRecursion}
 use Rattle.std.specs.Map.{keys_of}
 use Rattle.std.specs.Str.{bytes_eq}
 use Rattle.indexmap.specs.IndexMap.{insert_entry, shift_remove_entry}
+use Rattle.base_core.proofs.ListLemmas.{bytes_eq-sym}
 use Rattle.value_core.specs.Values.{Name}
 use Rattle.tree_core.specs.declared.relvar.Relvar.{Relvar}
 use Rattle.tree_core.specs.Relvars.{PlainRelvar, Entries, read_entry}
@@ -18,13 +19,6 @@ turned a b e = by (bytes_eq b a) refl
     by : (t : Bool) → bytes_eq b a ≡ t → bytes_eq b a ≡ false
     by false q = q
     by true q = absurd (true≢false (sym (own_name a) ∙ (ap (λ (n : Name). bytes_eq a n) (sym (same_name b a q)) ∙ e)))
-
-pub either_way : (a b : Name) → bytes_eq a b ≡ bytes_eq b a
-either_way a b = by (bytes_eq a b) refl
-  where
-    by : (t : Bool) → bytes_eq a b ≡ t → bytes_eq a b ≡ bytes_eq b a
-    by false q = q ∙ sym (turned a b q)
-    by true q = q ∙ (sym (own_name b) ∙ ap (λ (n : Name). bytes_eq b n) (sym (same_name a b q)))
 
 -- ---- different names
 
@@ -88,7 +82,7 @@ shift_filter (e ∷ es) name h = by (bytes_eq name e.0) refl (shift_filter es na
         → map read_entry (cond (bytes_eq name e.0) es (e ∷ shift_remove_entry (bytes_eq name) es))
         ≡ cond (not (bytes_eq e.0 name)) (read_entry e ∷ filter (λ r. not (bytes_eq r.0 name)) (map read_entry es)) (filter (λ r. not (bytes_eq r.0 name)) (map read_entry es))
     by true q ih =
-        let here : bytes_eq e.0 name ≡ true = either_way e.0 name ∙ q in
+        let here : bytes_eq e.0 name ≡ true = bytes_eq-sym e.0 name ∙ q in
         let none = none_other es name (subst (λ (n : Name). AllByRecursion (λ y. bytes_eq n y ≡ false) (keys_of es)) (sym (same_name name e.0 q)) h.0) in
         ap (λ (b : Bool). map read_entry (cond b es (e ∷ shift_remove_entry (bytes_eq name) es))) q
         ∙ (sym none ∙ sym (ap (λ (b : Bool). cond (not b) (read_entry e ∷ filter (λ r. not (bytes_eq r.0 name)) (map read_entry es)) (filter (λ r. not (bytes_eq r.0 name)) (map read_entry es))) here))

@@ -21,6 +21,7 @@ use Rattle.meaning_core.specs.Rows.{extended_row}
 use Rattle.meaning_core.specs.Typing.{IsExtension, IsList, IsScalar}
 use Rattle.meaning_core.specs.Updates.{IsTypedAssignment}
 use Rattle.meaning_core.specs.WellMade.{IsTypedFor, sizes_of}
+use Rattle.meaning_core.proofs.PositionLemmas.{no_list}
 use Rattle.using_core.specs.Using.{HasList, IsSweptBy, AreSweptBy}
 use Rattle.algebra_core.specs.Costs.{paid}
 use Rattle.assign_core.specs.declared.portion.Deletion.{Deletion}
@@ -31,7 +32,7 @@ use Rattle.assign_core.specs.Assignments.{seen_by, source_value}
 use Rattle.assign_core.specs.PlainChanges.{RowNodes, NewNodes, rows_where, rows_with, plain_revision_of, IsAnyDeletion, IsAnyRevision, IsPlainDeletion, IsPlainRevision}
 use Rattle.assign_core.specs.Portions.{point_cost, portion_rows, portion_cost, IsDeletionOf, IsPortionFor}
 use Rattle.assign_core.specs.Revisions.{changed_rows, changed_cost, revision_cost, IsChangedFor, IsRevisionOf}
-use Rattle.assign_core.proofs.PointLemmas.{plain_list, plain_swept, plain_listed, plain_items}
+use Rattle.assign_core.proofs.PointLemmas.{plain_swept, plain_listed, plain_items}
 use Rattle.assign_core.proofs.PortionLemmas.{name_stands, headed_as, deletion_told}
 use Rattle.assign_core.proofs.RevisionLemmas.{one_given, revision_told}
 
@@ -72,7 +73,7 @@ module _ (s : State) (h : Heading) (target : Name) where
   where_for p n none typed fit = record {
     sizes = sizes_of s.ordinals;
     condition = subst (λ (g : Heading). IsScalar (sizes_of s.ordinals) g (read p.condition.now) Truth) fit.given typed.1.condition;
-    list = subst (λ (l : List ℕ). IsList h l) (sym none) (plain_list h);
+    list = subst (λ (l : List ℕ). IsList h l) (sym none) (no_list h);
     swept = subst (λ (l : List ℕ). IsSweptBy h l h (read p.condition.now)) (sym none) (plain_swept h h (read p.condition.now));
   }
 
@@ -84,7 +85,7 @@ module _ (s : State) (h : Heading) (target : Name) where
       record {
         sizes = sizes;
         extension = subst (λ (g : Heading). IsExtension sizes h g sets) is (subst (λ (g : Heading). IsExtension sizes g n.headed sets) of typed.1);
-        list = subst (λ (l : List ℕ). IsList h l) (sym none) (plain_list h);
+        list = subst (λ (l : List ℕ). IsList h l) (sym none) (no_list h);
         listed = subst (λ (l : List ℕ). HasList h l h) (sym none) (plain_listed h h);
         swept = subst (λ (l : List ℕ). AreSweptBy h l h sets) (sym none) (plain_items h h sets);
         portion = portion;

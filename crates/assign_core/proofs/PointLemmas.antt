@@ -1,15 +1,15 @@
 -- What is asked at the points of a list, and as it is where the list has no attribute.
 --     point_least, point_grows      its steps
---     plain_list, plain_swept, plain_listed, plain_items      the list of no attribute fits any heading and any expression
-use Rattle.std.proofs.Common.{◌≡◌, ◌≤◌, ℕ, suc, Bool, true, false, cond, ◌&&◌, List, [], ◌∷◌, ◌++◌, length, refl, ap, ap₂, arith, is_none, nat_eq}
-use Rattle.std.specs.List.{list_all, IsDistinct}
+--     plain_swept, plain_listed, plain_items      the list of no attribute fits any heading and any expression
+use Rattle.std.proofs.Common.{◌≡◌, ◌≤◌, ℕ, suc, Bool, true, false, cond, ◌&&◌, List, [], ◌∷◌, ◌++◌, length, refl, ap, ap₂, arith, is_none}
+use Rattle.std.specs.List.{list_all}
 use Rattle.point_core.specs.declared.fault.Place.{Place}
 use Rattle.value_core.specs.Values.{Heading}
 use Rattle.scalar_core.specs.Expressions.{Expr, constant, attribute, one, pair, and_expr, or_expr}
 use Rattle.scalar_core.specs.Sweeping.{first_place, is_atom, unswept}
 use Rattle.cell_core.specs.Costs.{bound}
 use Rattle.tree_core.specs.Trees.{PlainSets}
-use Rattle.meaning_core.specs.Typing.{IsList, is_swept}
+use Rattle.meaning_core.specs.Typing.{is_swept}
 use Rattle.u_constraints.proofs.BoundLemmas.{bound_grows}
 use Rattle.using_core.specs.Using.{HasList, IsSweptBy, AreSweptBy}
 use Rattle.assign_core.specs.Portions.{point_cost}
@@ -25,13 +25,6 @@ point_grows [] n m h = omega arith
 point_grows (i ∷ acl) n m h = bound_grows n m (suc (length acl)) h
 
 -- ---- the list of no attribute
-
-none_differ : IsDistinct nat_eq []
-unfolding IsDistinct
-none_differ = tt
-
-pub plain_list : (h : Heading) → IsList h []
-plain_list h = record { within = λ j d l. absurd (omega (arith, l)); different = none_differ; spans = refl; few = omega arith }
 
 none_unswept : (e : Expr) → unswept [] e ≡ []
 none_unswept (constant place kind v) = refl

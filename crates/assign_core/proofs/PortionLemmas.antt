@@ -52,18 +52,16 @@ pub record AreNodesOf (h : Heading) (n : PortionNodes) : Type 0 where
   pub given : n.given ≡ h
 
 module _ (h : Heading) (acl : List ℕ) (one : IsTrue (is_heading h)) (list : IsList h acl) where
-  back : positions_of h (names_at h acl) ≡ acl
-  back = positions_back h acl one list
 
   -- what an operator that may have a fault gives of unpacked rows
   pub rule_rows : (place : Place) (op : List Row → OrFault (List Row)) (rows : List Row)
       → then_give (op (opened (around place h acl) h rows)) (closed (around place h acl) place h) ≡ then_give (op (unpacked acl rows)) (λ points. limited place (packed acl points))
-  rule_rows place op rows = ap (λ (l : List ℕ). then_give (op (unpacked l rows)) (λ points. limited place (packed l points))) back
+  rule_rows place op rows = ap (λ (l : List ℕ). then_give (op (unpacked l rows)) (λ points. limited place (packed l points))) (positions_back h acl one list)
 
   -- and what it takes
   pub rule_paid : (place : Place) (scalars : List Expr) (rows : List Row) → rule_cost (around place h acl) h scalars rows ≡ bound (cells_of_all acl scalars rows) (length acl)
   rule_paid place scalars rows =
-      ap₂ (λ (l : List ℕ) (k : ℕ). bound (cells_of_all l scalars rows) k) back (length-map acl (λ i. (slice_index_or h i no_attribute).0))
+      ap₂ (λ (l : List ℕ) (k : ℕ). bound (cells_of_all l scalars rows) k) (positions_back h acl one list) (length-map acl (λ i. (slice_index_or h i no_attribute).0))
 
   module _ (target : Name) (rows : List Row) (place : Place) (n : PortionNodes) (c : Expr) (fit : AreNodesOf h n) where
     pub portion_meant : (known : Known) → ((at : Place) → meaning known plainly (named at h target) ≡ Ok rows)

@@ -5,13 +5,14 @@
 --     fewer_paid      fewer rows take fewer steps
 use Rattle.std.proofs.Common.{◌≡◌, ◌+◌, ◌≤◌, ◌<◌, ℕ, Bool, true, false, not, cond, nat_le, List, [], ◌∷◌, map, length, Ok, Err, refl, sym, ap, ◌∙◌, subst, arith}
 use Rattle.std.specs.Prelude.{sum, filter}
-use Rattle.std.specs.List.{All, fold}
+use Rattle.std.specs.List.{All}
 use Rattle.std.proofs.lemmas.Bool.Decides.{nat_tests}
 use Rattle.base_core.specs.Outcomes.{then_give, least_of_all}
 use Rattle.base_core.specs.Sets.{has}
 use Rattle.base_core.proofs.MemberLemmas.{In-filter}
 use Rattle.base_core.proofs.SetLemmas.{In, Ascends}
 use Rattle.base_core.proofs.SetOperatorLemmas.{Ascends-filter}
+use Rattle.base_core.proofs.ListLemmas.{All-In}
 use Rattle.point_core.specs.Faults.{OrFault, fault}
 use Rattle.point_core.specs.declared.fault.Code.TheVariants.{E35}
 use Rattle.point_core.specs.declared.fault.Fault.{Fault}
@@ -24,17 +25,19 @@ use Rattle.scalar_core.specs.Operations.{Meant, one_of, is_true as is_truth}
 use Rattle.scalar_core.specs.ScalarValues.{value as value_on}
 use Rattle.relation_core.specs.Agreement.{part_of}
 use Rattle.relation_core.specs.Growth.{touched}
-use Rattle.relation_core.specs.Operators.{fault_order, is_true, restricted, subtracted, united}
+use Rattle.relation_core.specs.Operators.{is_true, restricted, subtracted, united}
+use Rattle.point_core.specs.Orders.{fault_order}
 use Rattle.relation_core.specs.Parts.{projected}
 use Rattle.meaning_core.specs.Meanings.{RowsMeant, condition, limited}
 use Rattle.u_set.specs.Apart.{outside}
 use Rattle.u_set.specs.Boxes.{AreIntervals}
 use Rattle.u_set.proofs.BridgeLemmas.{unpacked_ascends}
-use Rattle.u_row.proofs.BeneathLemmas.{all_in, in_all}
+use Rattle.u_row.proofs.BeneathLemmas.{in_all}
 use Rattle.u_labels.proofs.LabelLemmas.{IsSet}
 use Rattle.u_labels.proofs.ChangeLemmas.{part_set, kept_law, dropped_law, packed_law, labels_law, count_law}
 use Rattle.u_changes.specs.Concerned.{AreFalse}
 use Rattle.using_core.specs.Cells.{cells_of_row, cells_of_all}
+use Rattle.using_core.proofs.CellCountLemmas.{sum_more}
 use Rattle.assign_core.specs.Portions.{portion_cost, IsNegation}
 use Rattle.assign_core.proofs.AdditionLemmas.{limited_over}
 use Rattle.assign_core.proofs.PointLemmas.{point_grows}
@@ -50,7 +53,7 @@ false_then place c y e = by (value_on c y) e
 
 pub negated_passes : (acl : List ℕ) (e c : Expr) (rows : List Row) → IsNegation e c → AreFalse acl c rows → All (λ y. condition e y ≡ Ok true) (unpacked acl rows)
 negated_passes acl e c rows negates fails =
-    all_in (λ y. condition e y ≡ Ok true) (unpacked acl rows) (λ x i.
+    All-In (λ y. condition e y ≡ Ok true) (unpacked acl rows) (λ x i.
     subst (λ (z : Expr). condition z x ≡ Ok true) (sym negates.1) (false_then negates.0 c x (in_all (λ y. condition c y ≡ Ok false) (unpacked acl rows) fails x i)))
 
 -- ---- rows within the limit
@@ -76,9 +79,6 @@ module _ (heading : Heading) (acl : List ℕ) (intervals : AreIntervals heading 
   abbrev rest : List Row
   rest = subtracted value part
 
-  ps : IsSet heading acl intervals part
-  ps = part_set heading acl intervals value part sv closed
-
   module _ (test : Row → OrFault Bool) (points : List Row) (given : restricted test (unpacked acl part) ≡ Ok points) where
     passing : points ≡ filter (λ x. is_true (test x)) (unpacked acl part)
     passing = by (least_of_all fault_order (map test (unpacked acl part))) given
@@ -88,7 +88,7 @@ module _ (heading : Heading) (acl : List ℕ) (intervals : AreIntervals heading 
         by (Err g) f = absurd (cc)
 
     up : Ascends row_cmp points
-    up = subst (Ascends row_cmp) (sym passing) (Ascends-filter row_cmp (λ x. is_true (test x)) (unpacked acl part) (unpacked_ascends heading acl intervals part ps.0 ps.1))
+    up = subst (Ascends row_cmp) (sym passing) (Ascends-filter row_cmp (λ x. is_true (test x)) (unpacked acl part) (unpacked_ascends heading acl intervals part (part_set heading acl intervals value part sv closed).0 (part_set heading acl intervals value part sv closed).1))
 
     some : (x : Row) → In x points → In x (unpacked acl part)
     some x i = ((In-filter (λ y. is_true (test y)) x (unpacked acl part)).0 (subst (λ (l : List Row). In x l) passing i)).0
@@ -145,18 +145,6 @@ module _ (heading : Heading) (acl : List ℕ) (intervals : AreIntervals heading 
           by (Err g) q f = cc
 
 -- ---- steps
-
-fold_from : (a : ℕ) (ns : List ℕ) → fold ◌+◌ a ns ≡ a + sum ns
-fold_from a [] = omega arith
-fold_from a (n ∷ ns) =
-    let one : fold ◌+◌ (a + n) ns ≡ (a + n) + sum ns = fold_from (a + n) ns in
-    let two : fold ◌+◌ (0 + n) ns ≡ (0 + n) + sum ns = fold_from (0 + n) ns in
-    one ∙ (let e : (a + n) + sum ns ≡ a + ((0 + n) + sum ns) = omega arith in e) ∙ ap (λ m. a + m) (sym two)
-
-sum_more : (n : ℕ) (ns : List ℕ) → sum (n ∷ ns) ≡ n + sum ns
-sum_more n ns =
-    let z : 0 + n ≡ n = omega arith in
-    ap (λ m. fold ◌+◌ m ns) z ∙ fold_from n ns
 
 fewer_sum : (f : Row → ℕ) (p : Row → Bool) (rows : List Row) → sum (map f (filter p rows)) ≤ sum (map f rows)
 fewer_sum f p [] = omega arith

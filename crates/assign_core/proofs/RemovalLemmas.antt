@@ -1,5 +1,5 @@
 -- Rows that are taken out of those that ascend.
---     none_taken, taken_turn      taking out one row after the other
+--     taken_turn      taking out one row after the other
 --     taken_found, taken_missing      a row that a search finds, and one that it does not find
 --     fewer_relation      what is left of a relation's rows is a relation
 use Rattle.std.proofs.Common.{◌≡◌, inl, inr, ℕ, zero, suc, ◌+◌, take, ◌<◌, ◌≤◌, Bool, true, false, not, List, [], ◌∷◌, ◌++◌, length, get_or, refl, sym, ap, subst, ◌∙◌, arith, true≢false, cond, Err, Ordering, Less, Equal, Greater, ◌||◌}
@@ -17,9 +17,6 @@ use Rattle.relation_core.specs.Operators.{subtracted}
 use Rattle.relation_core.proofs.FilterLemmas.{filter_all, list_all-filter, length-filter_at_most}
 
 -- ---- one after the other
-
-pub none_taken : (rows : List Row) → rows ≡ subtracted rows []
-none_taken rows = sym (filter_all (λ (x : Row). not (has row_cmp [] x)) rows (λ z i. refl))
 
 pub taken_turn : (rows gone : List Row) (x : Row) → IsStrictlySortedBy row_cmp rows → subtracted (subtracted rows gone) (x ∷ []) ≡ subtracted rows (gone ++ x ∷ [])
 taken_turn rows gone x sorted =

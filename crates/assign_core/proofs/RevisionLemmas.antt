@@ -2,11 +2,12 @@
 --     changed_meant, changed_paid      rows with new values
 --     union_meant, union_paid      two expressions united under USING
 --     revision_told      an assignment that is a revision
-use Rattle.std.proofs.Common.{◌≡◌, ℕ, ◌+◌, ◌≤◌, Bool, true, false, ◌&&◌, List, length, refl, sym, ap, subst, ◌∙◌, arith, Option, Some, Ok, Err}
+use Rattle.std.proofs.Common.{◌≡◌, ℕ, ◌+◌, ◌≤◌, List, length, sym, ap, subst, ◌∙◌, arith, Option, Some, Ok, Err}
 use Rattle.std.specs.Prelude.{slice_index_or}
 use Rattle.std.specs.Bool.{IsTrue}
 use Rattle.std.specs.List.{list_all}
 use Rattle.std.proofs.lemmas.List.{length-map}
+use Rattle.std.proofs.lemmas.Bool.{and_parts}
 use Rattle.base_core.specs.Outcomes.{then_give}
 use Rattle.point_core.specs.declared.fault.Place.{Place}
 use Rattle.value_core.specs.RowPacking.{packed, unpacked}
@@ -89,10 +90,6 @@ module _ (h : Heading) (acl : List ℕ) (one : IsTrue (is_heading h)) (list : Is
 
 -- ---- what is typed
 
-both_true : (a b : Bool) → IsTrue (a && b) → IsTrue a × IsTrue b
-both_true true b h = (refl, h)
-both_true false b h = absurd (cc)
-
 pub one_given : (o : Option Heading) (a b : Heading) → o ≡ Some a → o ≡ Some b → a ≡ b
 one_given o a b e f = cc
 
@@ -111,8 +108,8 @@ module _ (s : State) (h : Heading) (target : Name) where
       let sizes = sizes_of s.ordinals in
       let headed : n.headed ≡ h = sym typed.2 ∙ is in
       let part = subst (λ (g : Heading). IsTrue (is_part (names_at g acl) (extend n.at n.headed sets t))) is typed.3 in
-      let first = both_true _ _ part in
-      let more = both_true _ _ first.1 in
+      let first = and_parts _ _ part in
+      let more = and_parts _ _ first.1 in
       record {
         sizes = sizes;
         extension = subst (λ (g : Heading). IsExtension sizes h g sets) headed (subst (λ (g : Heading). IsExtension sizes g n.headed sets) of typed.0.1);

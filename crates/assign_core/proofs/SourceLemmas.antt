@@ -17,13 +17,10 @@ use Rattle.tree_core.specs.Trees.{heading_of, read_tree}
 use Rattle.meaning_core.specs.Meanings.{meaning_in}
 use Rattle.meaning_core.specs.Names.{given}
 use Rattle.meaning_core.specs.WellMade.{IsGiven}
-use Rattle.meaning_core.proofs.LookupLemmas.{operand_heading, under_ok}
+use Rattle.meaning_core.proofs.LookupLemmas.{under_ok, heading_read}
 use Rattle.assign_core.specs.Assignments.{seen_by, source_value, with_target, evaluated}
 use Rattle.assign_core.specs.Breaches.{value_if}
 use Rattle.meaning_core.proofs.RowlessLemmas.{bare_all, own-given, is_given-keeps}
-
-heading_is : (t : RelTree) → t.heading ≡ heading_of (read_tree t)
-heading_is t = operand_heading t (Ok []) (record { heading = t.heading; rows = [] }) refl
 
 -- ---- one source
 
@@ -53,7 +50,7 @@ pub source_told : (result : Result Relation Stop) (t : RelTree) (given seen : En
     → Answers result (under (heading_of (read_tree t)) (meaning_in seen (read_tree t)))
 source_told result t given seen is told =
     subst (λ (es : Entries). Answers result (under (heading_of (read_tree t)) (meaning_in es (read_tree t)))) is
-    (subst (λ (h : Heading). Answers result (under h (meaning_in given (read_tree t)))) (heading_is t) told)
+    (subst (λ (h : Heading). Answers result (under h (meaning_in given (read_tree t)))) (heading_read t) told)
 
 -- the value of a source has its heading
 pub source_heading : (old new : Entries) (a : PlainAssignment) (value : Relation) → source_value old new a ≡ Ok value → value.heading ≡ heading_of a.tree

@@ -1,6 +1,5 @@
 -- Membership in lists that are put together, mapped or filtered, and what tests of a list's members tell.
 use Rattle.std.proofs.Common.{◌≡◌, ◌⊎◌, ◌↔◌, inl, inr, List, [], ◌∷◌, ◌++◌, map, refl, sym, ap, ◌∙◌, subst, Bool, true, false, cond, Ordering}
-use Rattle.std.specs.declared.cmp.Ordering.TheVariants.{Less, Equal, Greater}
 use Rattle.std.specs.Cmp.{IsTotalOrder}
 use Rattle.std.specs.Bool.{IsTrue}
 use Rattle.std.specs.List.{filter, flat_map, list_any, list_all}
@@ -9,6 +8,7 @@ use Rattle.std.proofs.lemmas.Bool.{and_parts, and_from, or_cases, or_left, or_ri
 use Rattle.std.proofs.lemmas.Cmp.{tied_itself}
 use Rattle.base_core.specs.Sets.{has}
 use Rattle.base_core.proofs.SetLemmas.{In, Separates}
+use Rattle.base_core.proofs.OrderingLemmas.{is_eq-Equal}
 
 pub In-append : {X : Type 0} (x : X) (xs ys : List X) → In x (xs ++ ys) ↔ (In x xs ⊎ In x ys)
 In-append x [] ys = (λ h. inr h, λ h. elim h [ inl w ↦ absurd w | inr w ↦ w ])
@@ -70,14 +70,9 @@ list_any-In p (x ∷ xs) =
       ],
     )
 
-equal_of_is_eq : (r : Ordering) → is_eq r ≡ true → r ≡ Equal
-equal_of_is_eq Less e = absurd (true≢false (sym e))
-equal_of_is_eq Equal e = refl
-equal_of_is_eq Greater e = absurd (true≢false (sym e))
-
 module _ {X : Type 0} (cmp : X → X → Ordering) (o : IsTotalOrder cmp) (same : Separates cmp) where
   pub eq_by_cmp-≡ : (x y : X) → IsTrue (eq_by_cmp cmp x y) ↔ (x ≡ y)
-  eq_by_cmp-≡ x y = (λ e. same x y (equal_of_is_eq (cmp x y) e), λ e. subst (λ z. is_eq (cmp x z) ≡ true) e (ap is_eq (tied_itself o x)))
+  eq_by_cmp-≡ x y = (λ e. same x y (is_eq-Equal (cmp x y) e), λ e. subst (λ z. is_eq (cmp x z) ≡ true) e (ap is_eq (tied_itself o x)))
 
   pub has-In : (xs : List X) (x : X) → IsTrue (has cmp xs x) ↔ In x xs
   has-In xs x =

@@ -1,6 +1,6 @@
 -- `in_order` gives the members in order, each once, and such a list is given by its members.
 use Rattle.std.proofs.Common.{◌≡◌, ◌⊎◌, ◌↔◌, inl, inr, List, [], ◌∷◌, refl, sym, ap, ap₂, ◌∙◌, subst, Ordering, Less, Equal, Greater, ℕ, zero, suc, ◌<◌, length, get_or, arith, Bool, true}
-use Rattle.std.specs.Cmp.{IsTotalOrder, IsEquivalence, Equal-is, eq_by_cmp_equiv, tied_itself}
+use Rattle.std.specs.Cmp.{IsTotalOrder, IsEquivalence, Equal-is, eq_by_cmp_equiv}
 use Rattle.std.specs.Ordering.{ordering_reverse}
 use Rattle.std.specs.Ordering.{eq_by_cmp}
 use Rattle.std.specs.List.{AllByRecursion, Contains, dedup}
@@ -8,6 +8,7 @@ use Rattle.std.specs.List.Sorted.{IsStrictlySortedBy, IsPermutation, IsSorted}
 use Rattle.std.proofs.lemmas.List.Kept.{IsStrictlySortedBy-dedup, Contains-dedup, Contains-from_dedup}
 use Rattle.std.proofs.lemmas.List.Sorted.{Contains-permutation, IsPermutation-sym}
 use Rattle.base_core.specs.Sets.{placed, put, in_order}
+use Rattle.base_core.proofs.OrderingLemmas.{not_before_itself}
 
 -- x is among the members of the list
 abbrev pub In : {X : Type 0} → X → List X → Type 0
@@ -78,11 +79,8 @@ module _ {X : Type 0} (cmp : X → X → Ordering) (o : IsTotalOrder cmp) (same 
   in_after x y [] h i = absurd i
   in_after x y (z ∷ zs) h i = elim i [ inl e ↦ ap (cmp x) e ∙ h.0 | inr k ↦ in_after x y zs h.1 k ]
 
-  not_itself : (x : X) → cmp x x ≡ Less → ⊥
-  not_itself x l = let e : Less ≡ Equal = sym l ∙ tied_itself o x in cc
-
   not_both : (x y : X) → cmp x y ≡ Less → cmp y x ≡ Less → ⊥
-  not_both x y l m = not_itself x (o.trans x y x l m)
+  not_both x y l m = not_before_itself cmp o x (o.trans x y x l m)
 
   -- two lists in order with the same members are one
   pub same_by_members : (xs ys : List X) → Ascends cmp xs → Ascends cmp ys → ((x : X) → In x xs ↔ In x ys) → xs ≡ ys
@@ -95,8 +93,8 @@ module _ {X : Type 0} (cmp : X → X → Ordering) (o : IsTotalOrder cmp) (same 
         | inr i ↦ elim ((h y).1 (inl refl)) [ inl e ↦ sym e | inr j ↦ absurd (not_both x y (in_after x y xs a.0 j) (in_after y x ys b.0 i)) ]
       ] in
       let tails : (z : X) → In z xs ↔ In z ys = λ z. (
-        λ i. elim ((h z).0 (inr i)) [ inl e ↦ absurd (not_itself x (subst (λ w. cmp x w ≡ Less) (e ∙ sym heads) (in_after x z xs a.0 i))) | inr j ↦ j ],
-        λ i. elim ((h z).1 (inr i)) [ inl e ↦ absurd (not_itself y (subst (λ w. cmp y w ≡ Less) (e ∙ heads) (in_after y z ys b.0 i))) | inr j ↦ j ],
+        λ i. elim ((h z).0 (inr i)) [ inl e ↦ absurd (not_before_itself cmp o x (subst (λ w. cmp x w ≡ Less) (e ∙ sym heads) (in_after x z xs a.0 i))) | inr j ↦ j ],
+        λ i. elim ((h z).1 (inr i)) [ inl e ↦ absurd (not_before_itself cmp o y (subst (λ w. cmp y w ≡ Less) (e ∙ heads) (in_after y z ys b.0 i))) | inr j ↦ j ],
       ) in
       ap₂ (λ u us. u ∷ us) heads (same_by_members xs ys a.1 b.1 tails)
 

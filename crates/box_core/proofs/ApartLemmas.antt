@@ -1,23 +1,22 @@
 -- Rows of one key that have no place in common.
-use Rattle.std.proofs.Common.{◌≡◌, ℕ, suc, ◌+◌, ◌-◌, ◌<◌, ◌≤◌, List, [], ◌∷◌, Bool, true, false, length, ◌↔◌, inl, inr, arith, sym, ap, subst, refl, ◌∙◌, Ordering}
-use Rattle.std.specs.declared.cmp.Ordering.TheVariants.{Less, Equal}
+use Rattle.std.proofs.Common.{◌≡◌, ℕ, ◌+◌, ◌-◌, ◌<◌, ◌≤◌, List, [], ◌∷◌, Bool, true, false, length, ◌↔◌, inl, inr, arith, sym, ap, subst, refl, ◌∙◌, Ordering}
+use Rattle.std.specs.declared.cmp.Ordering.TheVariants.{Equal}
 use Rattle.std.specs.Cmp.{IsTotalOrder}
 use Rattle.std.specs.List.{All, list_all}
 use Rattle.std.proofs.lemmas.Bool.{cases_lt, cases_Bool, true≢false, and_parts, and_from}
 use Rattle.std.proofs.lemmas.Cmp.{tied_back, alike_right}
+use Rattle.base_core.proofs.OrderingLemmas.{tied-not_Less}
 use Rattle.packing_core.specs.Covering.{Among}
 use Rattle.packing_core.specs.Live.{span_has, has_place}
 use Rattle.box_core.specs.Apartness.{AreApart, Follows, AllFollow, AreOwn}
 use Rattle.box_core.specs.Common.{At, first_of, common, has_cell, HaveCells}
 use Rattle.box_core.specs.Meetings.{Met, IsMeeting}
 use Rattle.box_core.specs.Rows.{IsRow, Ascend, KeyBox}
-use Rattle.box_core.proofs.PlaceLemmas.{span_from, at_common, common_length, cells_from, cell_parts}
-use Rattle.slice_core.proofs.Sweeping.{cell_has}
+use Rattle.box_core.proofs.PlaceLemmas.{at_common, common_length, cells_from, cell_parts, place_of_cells}
+use Rattle.slice_core.proofs.Sweeping.{cell_has, span_from}
 use Rattle.box_core.proofs.RowLemmas.{row_among, among_row, one_row, row_all, row_sides}
 
 module _ {P : Type 0} (order : P → P → Ordering) (total : IsTotalOrder order) (rows : List (KeyBox P)) (up : Ascend order rows) where
-  not_less : (u v : P) → order u v ≡ Equal → order u v ≡ Less → ⊥
-  not_less u v e l = cc
 
   first_cell : (y : List (ℕ × ℕ)) → HaveCells y → 0 < length y → (first_of y).0 < (first_of y).1
   first_cell [] h l = absurd (omega arith)
@@ -39,8 +38,8 @@ module _ {P : Type 0} (order : P → P → Ordering) (total : IsTotalOrder order
             | inl k ↦
                 let xu : order x.0 u.0 ≡ Equal = elim (up i (n - 1) x u (omega arith) a ru) [
                   | inl p ↦ elim (up (n - 1) n u v (omega arith) ru rv) [
-                    | inl r ↦ absurd (not_less x.0 v.0 ev (total.trans x.0 u.0 v.0 p r))
-                    | inr r ↦ absurd (not_less x.0 v.0 ev (sym (alike_right total u.0 v.0 x.0 r.0) ∙ p))
+                    | inl r ↦ absurd (tied-not_Less order x.0 v.0 ev (total.trans x.0 u.0 v.0 p r))
+                    | inr r ↦ absurd (tied-not_Less order x.0 v.0 ev (sym (alike_right total u.0 v.0 x.0 r.0) ∙ p))
                   ]
                   | inr p ↦ p.0
                 ] in
@@ -85,7 +84,7 @@ module _ {P : Type 0} (order : P → P → Ordering) (total : IsTotalOrder order
             let x : KeyBox P = w.1 in
             let y : KeyBox P = w.2 in
             elim (up i (i + 1) x y (omega arith) w.3 w.4) [
-              | inl l ↦ absurd (w.5 (λ e. absurd (not_less x.0 y.0 e l)))
+              | inl l ↦ absurd (w.5 (λ e. absurd (tied-not_Less order x.0 y.0 e l)))
               | inr e ↦ elim (cases_lt (first_of y.1).0 (first_of x.1).1) [
                 | inl l ↦
                     let lx = row_sides 1 rows one i x w.3 in
@@ -99,13 +98,6 @@ module _ {P : Type 0} (order : P → P → Ordering) (total : IsTotalOrder order
     )
 
   -- ---- on any number of sides
-
-  a_place : (y : List (ℕ × ℕ)) → HaveCells y → (place : List ℕ) × (length place ≡ length y) × At y place
-  a_place [] h = ([], refl, refl)
-  a_place (x ∷ xs) h =
-      let w = and_parts (has_cell x) (list_all has_cell xs) h in
-      let v = a_place xs w.1 in
-      (x.0 ∷ v.0, ap suc v.1, and_from (span_has x x.0) (has_place xs v.0) (span_from x x.0 (omega arith) (cell_parts x w.0)) v.2)
 
   module _ (k : ℕ) (sides : All (λ x. length x.1 ≡ k) rows) (meetings : List Met) (is : (m : Met) → Among m meetings ↔ IsMeeting order rows rows m) where
     pub own_apart : (b : Bool) → (b ≡ true → AreOwn meetings) → (b ≡ false → (a : ℕ) × (m : Met) × IsRow meetings a m × (m.0.0 ≡ m.0.1 → ⊥)) → (b ≡ true) ↔ AreApart order k rows
@@ -130,7 +122,7 @@ module _ {P : Type 0} (order : P → P → Ordering) (total : IsTotalOrder order
             let y : KeyBox P = v.1 in
             let lx = row_sides k rows sides m.0.0 x v.2 in
             let ly = row_sides k rows sides m.0.1 y v.3 in
-            let p = a_place m.1 v.6 in
+            let p = place_of_cells m.1 v.6 in
             let both = (at_common x.1 y.1 p.0 (lx ∙ sym ly)).0 (subst (λ z. At z p.0) (sym v.5) p.2) in
             let len : length p.0 ≡ k = p.1 ∙ sym (ap length v.5) ∙ common_length x.1 y.1 (lx ∙ sym ly) ∙ lx in
             elim (cases_lt m.0.0 m.0.1) [

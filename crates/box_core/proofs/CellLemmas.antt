@@ -6,10 +6,10 @@ use Rattle.std.specs.List.Sorted.{IsSortedBy, IsPermutation}
 use Rattle.std.proofs.lemmas.Bool.{cases_lt, true≢false}
 use Rattle.std.proofs.lemmas.Bool.Decides.{nat_tests}
 use Rattle.std.proofs.lemmas.List.Sorted.{sorted_far, ranks_by, Contains-permutation, IsPermutation-sym}
+use Rattle.std.proofs.lemmas.List.{get_or_default}
 use Rattle.packing_core.specs.Covering.{Among}
 use Rattle.packing_core.specs.Packed.{no_cells}
 use Rattle.packing_core.proofs.AmongLemmas.{among_append, among_map}
-use Rattle.packing_core.proofs.Numbered.{other_default}
 use Rattle.packing_core.proofs.Order.{among_contains, contains_among}
 use Rattle.slice_core.specs.Rows.{pair_cmp, pair_total}
 use Rattle.box_core.specs.Tallies.{Within, pair_at, AreBy}
@@ -52,7 +52,7 @@ by_from number rows pairs sorted are moved order = record {
       let x : ℕ × ℕ = (number r, r) in
       let m = contains_among sorted x (Contains-permutation pairs sorted x moved (among_contains pairs x ((are x).1 (w.0, w.1, refl)))) in
       let v = among_row sorted x m in
-      (v.0, v.1.0, ap (λ (y : ℕ × ℕ). y.1) (other_default sorted v.0 no_cells x v.1.0 ∙ v.1.1));
+      (v.0, v.1.0, ap (λ (y : ℕ × ℕ). y.1) (get_or_default sorted v.0 no_cells x v.1.0 ∙ v.1.1));
 }
   where
     in_order : (x y : ℕ × ℕ) → is_lt (pair_cmp y x) ≡ false → x.0 ≤ y.0
@@ -65,7 +65,7 @@ by_from number rows pairs sorted are moved order = record {
 pub by_below : (number : ℕ → ℕ) (rows : ℕ × ℕ) (pairs : List (ℕ × ℕ)) (n : ℕ) → rows.1 ≤ n → AreBy number rows pairs → All (λ (x : ℕ × ℕ). x.1 < n) pairs
 by_below number rows pairs n l by i d h =
     let w = (by.from i h).0.1 in
-    let e : (get_or pairs i d).1 ≡ (pair_at pairs i).1 = ap (λ (x : ℕ × ℕ). x.1) (other_default pairs i d no_cells h) in
+    let e : (get_or pairs i d).1 ≡ (pair_at pairs i).1 = ap (λ (x : ℕ × ℕ). x.1) (get_or_default pairs i d no_cells h) in
     omega (arith, e)
 
 -- the number of each row is among those of the pairs

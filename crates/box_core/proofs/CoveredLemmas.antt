@@ -2,38 +2,28 @@
 use Rattle.std.proofs.Common.{◌≡◌, ◌≢◌, ℕ, zero, suc, ◌<◌, ◌≤◌, true, List, [], ◌∷◌, ◌++◌, map, length, get_or, ◌↔◌, ◌⊎◌, inl, inr, arith, sym, ap, subst, refl, ◌∙◌, Option, Some, Result}
 use Rattle.std.specs.List.{All, AllByRecursion, filter, flat_map}
 use Rattle.std.proofs.lemmas.Bool.{cases_lt, and_parts, and_from}
-use Rattle.std.proofs.lemmas.List.Elements.{All-append, All-same, All-from_recursion}
+use Rattle.std.proofs.lemmas.List.Elements.{All-append, All-same}
+use Rattle.std.proofs.lemmas.List.{nil_from_length}
+use Rattle.base_core.proofs.ListLemmas.{length_more}
 use Rattle.packing_core.specs.Covering.{Among}
 use Rattle.packing_core.specs.Live.{span_has, has_place, box, side_has, InLive, IsSomewhere}
 use Rattle.packing_core.specs.Packed.{no_cells}
-use Rattle.packing_core.proofs.AmongLemmas.{among_append, among_map, among_filter}
+use Rattle.packing_core.proofs.AmongLemmas.{among_append, among_map, among_filter, all_from_members}
 use Rattle.packing_core.proofs.Inward.{HasSides, in_live_last}
 use Rattle.point_core.specs.declared.fault.Fault.{Fault}
 use Rattle.point_core.specs.LeastFault.{IsLeast}
 use Rattle.slice_core.specs.PackedRows.{HasRow, span_of, cuts_of}
 use Rattle.slice_core.specs.Rows.{no_sides, own_numbers, labels_of, GivesLabel, GivesFault}
 use Rattle.slice_core.proofs.Steps.{split_at}
-use Rattle.slice_core.proofs.Turns.{nil_from, none_live, least_then, least_more, leaf_rows, leaf_fault}
+use Rattle.slice_core.proofs.Turns.{none_live, least_then, least_more, leaf_rows, leaf_fault}
 use Rattle.slice_core.proofs.UnitedLemmas.{IsBeside}
 use Rattle.box_core.specs.Common.{At, EndsBy}
 use Rattle.box_core.specs.Groups.{longer}
 use Rattle.box_core.specs.Rows.{KeyBox}
-use Rattle.box_core.proofs.PlaceLemmas.{span_from}
-use Rattle.slice_core.proofs.Sweeping.{cell_has}
+use Rattle.slice_core.proofs.Sweeping.{cell_has, span_from}
 use Rattle.slice_core.proofs.LabelRows.{some_of}
 
 -- ---- lists
-
-pub all_from : {X : Type 0} (Q : X → Type 0) (xs : List X) → ((x : X) → Among x xs → Q x) → All Q xs
-all_from {X} Q xs h = All-from_recursion Q xs (go xs h)
-  where
-    go : (ys : List X) → ((x : X) → Among x ys → Q x) → AllByRecursion Q ys
-    go [] k = tt
-    go (y ∷ ys) k = (k y (inl refl), go ys (λ x m. k x (inr m)))
-
-longer_length : {X : Type 0} (xs : List X) (x : X) → length (xs ++ x ∷ []) ≡ suc (length xs)
-longer_length [] x = refl
-longer_length (y ∷ ys) x = ap suc (longer_length ys x)
 
 -- ---- one more side
 
@@ -102,10 +92,10 @@ turn_lengths {P} k n cells more old new rows made lens a =
     let Q : KeyBox P → Type 0 = λ x. length x.1 ≡ n in
     All-same Q new (old ++ map (longer cells) rows) made
     (All-append Q old (map (longer cells) rows) a
-    (all_from Q (map (longer cells) rows) (λ y m.
+    (all_from_members Q (map (longer cells) rows) (λ y m.
     let w = (among_map (longer cells) y rows).0 m in
     let x : KeyBox P = w.0 in
-    subst Q w.2 (longer_length x.1 cells ∙ ap suc (lens x w.1) ∙ more))))
+    subst Q w.2 (length_more x.1 cells ∙ ap suc (lens x w.1) ∙ more))))
 
 -- with one more side it ends by a box that ends by the cells' end on that side or after it
 pub ends_longer : (x z : List (ℕ × ℕ)) (s : ℕ × ℕ) → EndsBy x z → s.1 ≤ (get_or x (length z) no_cells).1 → EndsBy x (z ++ s ∷ [])
@@ -194,7 +184,7 @@ module _ {P F : Type 0} (m : List ℕ → List ℕ → Result (List P) F) (boxes
 
     pub leaf_places : (l : P) (place : List ℕ) → length place ≡ sides → HasRow rows l place ↔ InLive (GivesLabel m 0) boxes live [] l place
     leaf_places l place e =
-        subst (λ p. HasRow rows l p ↔ InLive (GivesLabel m 0) boxes live [] l p) (sym (nil_from place (e ∙ z))) (
+        subst (λ p. HasRow rows l p ↔ InLive (GivesLabel m 0) boxes live [] l p) (sym (nil_from_length place (e ∙ z))) (
           λ h. ((leaf_rows m 0 boxes live [] (inl some) 0 refl rows made_alone (l, h.0)).0 h.1).1,
           λ h. ([], (leaf_rows m 0 boxes live [] (inl some) 0 refl rows made_alone (l, [])).1 (refl, h), refl),
         )
@@ -202,7 +192,7 @@ module _ {P F : Type 0} (m : List ℕ → List ℕ → Result (List P) F) (boxes
     pub leaf_ends : (x : KeyBox P) → Among x rows → (r : ℕ) × Among r live × EndsBy (box boxes r) x.1
     leaf_ends x h =
         let s = some_of live some in
-        let e : x.1 ≡ [] = nil_from x.1 (leaf_lengths x h ∙ z) in
+        let e : x.1 ≡ [] = nil_from_length x.1 (leaf_lengths x h ∙ z) in
         (s.0, s.1, subst (EndsBy (box boxes s.0)) (sym e) (λ t. omega arith))
 
   pub leaf_least : (sides : ℕ) → sides ≡ 0 → (e : F) → GivesFault m 0 e live right ↔ IsSomewhere sides (GivesFault m 0) boxes live [] e

@@ -9,11 +9,11 @@ use Rattle.std.specs.List.Sorted.{IsStrictlySortedBy}
 use Rattle.std.proofs.lemmas.Bool.{cases_lt}
 use Rattle.std.proofs.lemmas.Cmp.{tied_itself, tied_back, nat_cmp_total}
 use Rattle.std.proofs.lemmas.List.Elements.{All-map}
+use Rattle.std.proofs.lemmas.List.{get_or_default}
 use Rattle.packing_core.specs.Covering.{Among}
 use Rattle.packing_core.specs.Packed.{IsIndexPackedTo}
 use Rattle.packing_core.proofs.AmongLemmas.{among_map}
 use Rattle.packing_core.proofs.Inward.{some_place}
-use Rattle.packing_core.proofs.Numbered.{other_default}
 use Rattle.slice_core.specs.PackedRows.{HasRow, IsPackedOf}
 use Rattle.slice_core.specs.Rows.{key_cmp, pair_cmp}
 use Rattle.slice_core.proofs.MovedLemmas.{packed_alike}
@@ -68,7 +68,7 @@ push_map f (y ∷ ys) x = ap (λ zs. f y ∷ zs) (push_map f ys x)
 pub named_turn : {P : Type 0} (labels : List P) (done : List (KeyBox ℕ)) (m : KeyBox ℕ) (row : KeyBox P) → IsRow labels m.0 row.0 → m.1 ≡ row.1 → (old new : List (KeyBox P)) → new ≡ old ++ row ∷ []
     → ((d : P) → old ≡ map (named labels d) done) → (d : P) → new ≡ map (named labels d) (done ++ m ∷ [])
 named_turn {P} labels done m row at sides old new made was d =
-    let a : row.0 ≡ get_or labels m.0 d = sym at.1 ∙ other_default labels m.0 row.0 d at.0 in
+    let a : row.0 ≡ get_or labels m.0 d = sym at.1 ∙ get_or_default labels m.0 row.0 d at.0 in
     let e : row ≡ named labels d m = λ t. (a t, sym sides t) in
     made ∙ ap (λ (zs : List (KeyBox P)). zs ++ row ∷ []) (was d) ∙ ap (λ (z : KeyBox P). map (named labels d) done ++ z ∷ []) e ∙ push_map (named labels d) done m
 
@@ -214,7 +214,7 @@ module _ {P : Type 0} (order : P → P → Ordering) (total : IsTotalOrder order
                 let f = own h.0 n m.1 in
                 let at = label_first h.0 n l m.1 h.3 in
                 let r = (places n place e).1 ((has_first n l f at place).1 h) in
-                let u : get_or labels n d ≡ l = other_default labels n d l at.0 ∙ at.1 in
+                let u : get_or labels n d ≡ l = get_or_default labels n d l at.0 ∙ at.1 in
                 (r.0, (among_map (named labels d) (l, r.0) parts).1 ((n, r.0), r.1, λ t. (u t, r.0)), r.2),
           )
 

@@ -7,10 +7,10 @@ use Rattle.std.specs.List.{All, filter}
 use Rattle.std.proofs.lemmas.Bool.{cases_lt, true≢false}
 use Rattle.std.proofs.lemmas.Cmp.{tied_itself, nat_cmp_total}
 use Rattle.std.proofs.lemmas.List.Elements.{All-append, All-same}
+use Rattle.std.proofs.lemmas.List.{get_or_default}
 use Rattle.packing_core.specs.Covering.{Among}
 use Rattle.packing_core.specs.Live.{has_place, box}
-use Rattle.packing_core.proofs.AmongLemmas.{among_append, among_map, among_filter}
-use Rattle.packing_core.proofs.Numbered.{other_default}
+use Rattle.packing_core.proofs.AmongLemmas.{among_append, among_map, among_filter, all_from_members}
 use Rattle.packing_core.proofs.Same.{same_sorted}
 use Rattle.point_core.specs.declared.fault.Fault.{Fault}
 use Rattle.point_core.specs.LeastFault.{IsLeast}
@@ -23,7 +23,6 @@ use Rattle.box_core.specs.Common.{At, EndsBy}
 use Rattle.box_core.specs.Groups.{IsGroup, OfGroup}
 use Rattle.box_core.specs.Meetings.{boxes_in}
 use Rattle.box_core.specs.Rows.{Ascend, IsRow, KeyBox}
-use Rattle.box_core.proofs.CoveredLemmas.{all_from}
 use Rattle.box_core.proofs.RowLemmas.{row_among, among_row, one_row, row_sides, row_there, map_row}
 use Rattle.slice_core.proofs.LabelRows.{map_length, some_of}
 
@@ -61,7 +60,7 @@ order_more first n old new l e a = subst (AreRows first (n + 1)) (sym e) (AreRow
 pub box_is : {P : Type 0} (rows : List (KeyBox P)) (r : ℕ) (x : KeyBox P) → IsRow rows r x → box (boxes_in rows) r ≡ x.1
 box_is {P} rows r x h =
     let w = map_row (λ (z : KeyBox P). z.1) rows r x h in
-    other_default (boxes_in rows) r [] x.1 w.0 ∙ w.1
+    get_or_default (boxes_in rows) r [] x.1 w.0 ∙ w.1
 
 module _ {P : Type 0} (bs : List IndexBox) (rows : List (KeyBox P)) (are : sides_of bs ≡ boxes_in rows) where
   boxes_count : length bs ≡ length rows
@@ -71,7 +70,7 @@ module _ {P : Type 0} (bs : List IndexBox) (rows : List (KeyBox P)) (are : sides
   rows_of_boxes first end live within a = subst (λ n. AreRows 0 n live) (sym boxes_count) (AreRows-wider 0 first end (length rows) live (omega arith) within a)
 
   pub sides_of_boxes : (k : ℕ) → All (λ (x : KeyBox P). length x.1 ≡ k) rows → All (λ (x : IndexBox). k ≤ length x.sides.items) bs
-  sides_of_boxes k a = all_from (λ (x : IndexBox). k ≤ length x.sides.items) bs (λ b m.
+  sides_of_boxes k a = all_from_members (λ (x : IndexBox). k ≤ length x.sides.items) bs (λ b m.
       let y : List (ℕ × ℕ) = b.sides.items in
       let w = (among_map (λ (x : KeyBox P). x.1) y rows).0 (subst (Among y) are ((among_map (λ (x : IndexBox). x.sides.items) y bs).1 (b, m, refl))) in
       let x : KeyBox P = w.0 in

@@ -4,10 +4,10 @@ use Rattle.std.specs.declared.cmp.Ordering.TheVariants.{Equal}
 use Rattle.std.specs.Cmp.{IsTotalOrder}
 use Rattle.std.specs.List.{All}
 use Rattle.std.proofs.lemmas.Bool.{cases_lt, and_parts, and_from}
+use Rattle.std.proofs.lemmas.List.{get_or_default}
 use Rattle.packing_core.specs.Covering.{Among}
 use Rattle.packing_core.specs.Live.{span_has}
 use Rattle.packing_core.specs.Packed.{no_cells}
-use Rattle.packing_core.proofs.Numbered.{other_default}
 use Rattle.point_core.specs.declared.fault.Fault.{Fault}
 use Rattle.point_core.specs.LeastFault.{IsLeast}
 use Rattle.slice_core.specs.PackedRows.{HasRow}
@@ -15,8 +15,7 @@ use Rattle.box_core.specs.Common.{At, EndsBy, first_of}
 use Rattle.box_core.specs.Rows.{Ascend, IsRow, KeyBox}
 use Rattle.box_core.specs.Tallies.{IsIn, Within, span_at, OfTallied, IsPart, AreMarked, OfMarked}
 use Rattle.box_core.proofs.GroupLemmas.{Split, one_key, only, least_all}
-use Rattle.box_core.proofs.PlaceLemmas.{span_from}
-use Rattle.slice_core.proofs.Sweeping.{cell_has}
+use Rattle.slice_core.proofs.Sweeping.{cell_has, span_from}
 use Rattle.box_core.proofs.RowLemmas.{row_among, row_sides, row_there, map_row}
 
 -- V holds of some key and of the marks of its rows that have the cell, and these are before n
@@ -39,7 +38,7 @@ module _ {P : Type 0} (rows : List (KeyBox P)) (spans : List (ℕ × ℕ)) (are 
   span_is : (r : ℕ) (x : KeyBox P) → IsRow rows r x → span_at spans r ≡ first_of x.1
   span_is r x h =
       let w = map_row (λ (z : KeyBox P). first_of z.1) rows r x h in
-      subst (λ ss. span_at ss r ≡ first_of x.1) (sym are) (other_default (map (λ (z : KeyBox P). first_of z.1) rows) r no_cells (first_of x.1) w.0 ∙ w.1)
+      subst (λ ss. span_at ss r ≡ first_of x.1) (sym are) (get_or_default (map (λ (z : KeyBox P). first_of z.1) rows) r no_cells (first_of x.1) w.0 ∙ w.1)
 
   -- a row has the cell where its first side has it
   row_at : (j r : ℕ) (x : KeyBox P) → IsRow rows r x → At x.1 (j ∷ []) ↔ ((span_at spans r).0 ≤ j) × (j < (span_at spans r).1)

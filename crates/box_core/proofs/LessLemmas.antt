@@ -5,9 +5,9 @@ use Rattle.std.proofs.lemmas.Bool.{cases_lt, cases_Bool}
 use Rattle.std.proofs.lemmas.Bool.Decides.{nat_tests}
 use Rattle.std.proofs.lemmas.Int.{clamps}
 use Rattle.std.proofs.Math.ListN.{length-set}
+use Rattle.std.proofs.lemmas.List.{get_or_default}
 use Rattle.packing_core.specs.Covering.{Among}
 use Rattle.packing_core.specs.Packed.{no_cells}
-use Rattle.packing_core.proofs.Numbered.{other_default}
 use Rattle.packing_core.proofs.AmongLemmas.{among_append, among_flat}
 use Rattle.slice_core.specs.Rows.{sides_of}
 use Rattle.slice_core.specs.declared.inward.IndexBox.{IndexBox}
@@ -34,15 +34,15 @@ map_both f (x ∷ xs) ys = ap (λ z. f x ∷ z) (map_both f xs ys)
 pub narrowed_turn : (y hole rest : Box) (s : ℕ) (a c : ℕ × ℕ) → rest ≡ narrowed s y hole → s < length rest → s < length hole → a ≡ get_or rest s a → c ≡ get_or hole s c → set rest s (both a c) ≡ narrowed (s + 1) y hole
 narrowed_turn y hole rest s a c e l m f g =
     let q : suc s ≡ s + 1 = omega arith in
-    let fa : a ≡ get_or (narrowed s y hole) s no_cells = f ∙ other_default rest s a no_cells l ∙ ap (λ zs. get_or zs s no_cells) e in
-    let gc : c ≡ get_or hole s no_cells = g ∙ other_default hole s c no_cells m in
+    let fa : a ≡ get_or (narrowed s y hole) s no_cells = f ∙ get_or_default rest s a no_cells l ∙ ap (λ zs. get_or zs s no_cells) e in
+    let gc : c ≡ get_or hole s no_cells = g ∙ get_or_default hole s c no_cells m in
     subst (λ n. set rest s (both a c) ≡ narrowed n y hole) q (λ t. set (e t) s (both (fa t) (gc t)))
 
 pub outside_turn : (y hole rest : Box) (s : ℕ) (c : ℕ × ℕ) (old out new : List Box) → rest ≡ narrowed s y hole → s < length hole → c ≡ get_or hole s c
     → out ≡ old ++ outside_to s y hole → new ≡ out ++ beside rest s c → new ≡ old ++ outside_to (s + 1) y hole
 outside_turn y hole rest s c old out new e m g made more =
     let q : suc s ≡ s + 1 = omega arith in
-    let gc : c ≡ get_or hole s no_cells = g ∙ other_default hole s c no_cells m in
+    let gc : c ≡ get_or hole s no_cells = g ∙ get_or_default hole s c no_cells m in
     let step : new ≡ (old ++ outside_to s y hole) ++ beside (narrowed s y hole) s (get_or hole s no_cells) = more ∙ (λ t. made t ++ beside (e t) s (gc t)) in
     subst (λ n. new ≡ old ++ outside_to n y hole) q (step ∙ append_assoc old (outside_to s y hole) (beside (narrowed s y hole) s (get_or hole s no_cells)))
 

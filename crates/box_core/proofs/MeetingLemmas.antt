@@ -8,12 +8,11 @@ use Rattle.std.specs.List.Sorted.{IsSortedBy}
 use Rattle.std.proofs.lemmas.Bool.{cases_lt, true≢false}
 use Rattle.std.proofs.lemmas.Bool.Decides.{nat_tests}
 use Rattle.std.proofs.lemmas.Cmp.{alike_right}
-use Rattle.std.proofs.lemmas.List.{get_or_past, length-map}
+use Rattle.std.proofs.lemmas.List.{get_or_past, length-map, get_or_default}
 use Rattle.std.proofs.lemmas.List.Sorted.{sorted_far, ranks_by}
 use Rattle.packing_core.specs.Covering.{Among}
 use Rattle.packing_core.specs.Live.{box}
 use Rattle.packing_core.proofs.AmongLemmas.{among_append, among_filter, among_flat}
-use Rattle.packing_core.proofs.Numbered.{other_default}
 use Rattle.slice_core.specs.Rows.{pair_cmp, pair_total}
 use Rattle.box_core.specs.Common.{At, first_of, common, has_cell, HaveCells}
 use Rattle.box_core.specs.Rows.{IsRow, IsBefore, Ascend, KeyBox}
@@ -52,7 +51,7 @@ PairsStand p q = (p.0 < q.0) ⊎ ((p.0 ≡ q.0) × (p.1 ≤ q.1))
 pairs_stand : (pairs : List (ℕ × ℕ)) → IsSortedBy (λ x y. is_lt (pair_cmp x y)) pairs → Stand PairsStand pairs
 pairs_stand pairs s = stand_from PairsStand pairs (λ i j x y h a b.
     let f = sorted_far (λ x y. is_lt (pair_cmp x y)) (ranks_by pair_total (λ x. x)) pairs s i j x h b.0 in
-    in_order x y (subst (λ z. is_lt (pair_cmp z x) ≡ false) (other_default pairs j x y b.0 ∙ b.1) (subst (λ z. is_lt (pair_cmp (get_or pairs j x) z) ≡ false) a.1 f)))
+    in_order x y (subst (λ z. is_lt (pair_cmp z x) ≡ false) (get_or_default pairs j x y b.0 ∙ b.1) (subst (λ z. is_lt (pair_cmp (get_or pairs j x) z) ≡ false) a.1 f)))
   where
     less_first : (a b : ℕ) (r : Ordering) → b < a → true ≡ is_lt (ordering_then (nat_cmp b a) r)
     less_first a b r l = grind (arith, nat_tests)
@@ -211,7 +210,7 @@ later_turn {P = P} order strict from rows i x at first end within range old new 
 
 module _ {P : Type 0} (order : P → P → Ordering) (total : IsTotalOrder order) (left right : List (KeyBox P)) where
   box_is : (rows : List (KeyBox P)) (i : ℕ) (x : KeyBox P) → IsRow rows i x → box (boxes_in rows) i ≡ x.1
-  box_is rows i x h = let w = map_row (λ (z : KeyBox P). z.1) rows i x h in other_default (boxes_in rows) i [] x.1 w.0 ∙ w.1
+  box_is rows i x h = let w = map_row (λ (z : KeyBox P). z.1) rows i x h in get_or_default (boxes_in rows) i [] x.1 w.0 ∙ w.1
 
   -- candidates without the pairs that do not meet
   pub kept_candidates : (pairs kept : List (ℕ × ℕ)) → kept ≡ filter (meets (boxes_in left) (boxes_in right)) pairs → AreCandidates order left right pairs → AreCandidates order left right kept

@@ -5,9 +5,11 @@ use Rattle.std.specs.Cmp.{IsTotalOrder}
 use Rattle.std.specs.Ordering.{nat_cmp, ordering_reverse, is_lt}
 use Rattle.std.specs.List.{All}
 use Rattle.std.proofs.lemmas.Bool.{cases_lt, true≢false}
-use Rattle.std.proofs.lemmas.Cmp.{tied_itself, tied_back, alike_right, nat_cmp_total, by_ranked, ranked}
+use Rattle.std.proofs.lemmas.Cmp.{tied_itself, tied_back, alike_right, nat_cmp_total}
 use Rattle.std.proofs.lemmas.List.{get_or_append_left, get_or_at, length-append}
+use Rattle.base_core.proofs.OrderingLemmas.{lt-nat_cmp}
 use Rattle.packing_core.specs.Covering.{Among}
+use Rattle.packing_core.proofs.AmongLemmas.{all_from_members}
 use Rattle.slice_core.specs.PackedRows.{HasRow}
 use Rattle.box_core.specs.Answers.{IsBoxOf, IsBoxOfKeyed, InBoth, InFirst, IsMatched, IsUnmatched, IsJoined, KeyedBox}
 use Rattle.box_core.specs.Common.{At, first_of}
@@ -16,7 +18,6 @@ use Rattle.box_core.specs.KeyNumbers.{AreNumbered, HaveNumbers, Begins, IsCount,
 use Rattle.box_core.specs.Meetings.{boxes_in, IsShared, IsPair}
 use Rattle.box_core.specs.Outside.{IsRest}
 use Rattle.box_core.specs.Rows.{IsRow, Ascend, KeyBox}
-use Rattle.box_core.proofs.CoveredLemmas.{all_from}
 use Rattle.box_core.proofs.JoinLemmas.{is_joined}
 use Rattle.box_core.proofs.OperatorLemmas.{box_of_keyed, has_alike, is_matched, is_unmatched}
 use Rattle.box_core.proofs.RowLemmas.{row_among, among_row, one_row, row_there, row_sides, map_row, row_map}
@@ -41,14 +42,11 @@ row_cases old new x e i y h = go (subst (λ zs. IsRow zs i y) e h)
 pub length_more : {X : Type 0} (old new : List X) (x : X) (n : ℕ) → new ≡ old ++ x ∷ [] → length old ≡ n → length new ≡ n + 1
 length_more old new x n e f = let g : length new ≡ length old + 1 = ap length e ∙ length-append old (x ∷ []) in omega (arith, f, g)
 
-by_number : (m n : ℕ) → m < n → nat_cmp m n ≡ Less
-by_number m n l = by_ranked (m < n) (m ≡ n) (n < m) (nat_cmp m n) (ranked m n (nat_cmp m n) refl) (λ e p. e) (λ e p. absurd (omega (arith, p))) (λ e p. absurd (omega (arith, p)))
-
 -- what stands as two numbers do
 pub same_order : (r : Ordering) (m n : ℕ) → (r ≡ Less → m < n) → (r ≡ Equal → m ≡ n) → (r ≡ Greater → n < m) → r ≡ nat_cmp m n
-same_order Less m n l e g = sym (by_number m n (l refl))
+same_order Less m n l e g = sym (lt-nat_cmp m n (l refl))
 same_order Equal m n l e g = sym (subst (λ k. nat_cmp m k ≡ Equal) (e refl) (tied_itself nat_cmp_total m))
-same_order Greater m n l e g = sym (nat_cmp_total.antisymm m n ∙ ap ordering_reverse (by_number n m (g refl)))
+same_order Greater m n l e g = sym (nat_cmp_total.antisymm m n ∙ ap ordering_reverse (lt-nat_cmp n m (g refl)))
 
 module _ {K : Type 0} (order : K → K → Ordering) (total : IsTotalOrder order) where
   pub less_tied : (a b : K) → order a b ≡ Less → order a b ≡ Equal → ⊥
@@ -211,7 +209,7 @@ module _ {K : Type 0} (order : K → K → Ordering) (total : IsTotalOrder order
       let p = have i x.0 v.0 x.1 (own_number withs ns ks i v hv) in
       let q = have j y.0 w.0 y.1 (own_number withs ns ks j w hw) in
       elim (up i j x.0 y.0 l x.1 y.1) [
-        | inl m ↦ inl (by_number v.0 w.0 (number_more order total left right (x.0).0 (y.0).0 v.0 w.0 (keyed i x.0 x.1) p q m))
+        | inl m ↦ inl (lt-nat_cmp v.0 w.0 (number_more order total left right (x.0).0 (y.0).0 v.0 w.0 (keyed i x.0 x.1) p q m))
         | inr m ↦
             let e : v.0 ≡ w.0 = number_tied order total left right (x.0).0 (y.0).0 v.0 w.0 p q m.0 in
             let s : (first_of (x.0).1).0 ≤ (first_of (y.0).1).0 = m.1 in
@@ -370,7 +368,7 @@ module _ {P : Type 0} (left right sorted others : List (KeyBox P)) (ls : (x : Ke
 -- ---- as many sides
 
 pub sides_numbered : {K : Type 0} (k : ℕ) (rows : List (KeyBox K)) (withs : List (KeyBox ℕ)) → boxes_in withs ≡ boxes_in rows → All (λ x. length x.1 ≡ k) rows → All (λ x. length x.1 ≡ k) withs
-sides_numbered {K} k rows withs e a = all_from (λ (x : KeyBox ℕ). length x.1 ≡ k) withs (λ w h.
+sides_numbered {K} k rows withs e a = all_from_members (λ (x : KeyBox ℕ). length x.1 ≡ k) withs (λ w h.
     let i = among_row withs w h in
     let x = same_box rows withs e i.0 w i.1 in
     sym (ap length x.2) ∙ row_sides k rows a i.0 x.0 x.1)

@@ -6,8 +6,8 @@ use Rattle.std.specs.List.{All}
 use Rattle.std.specs.List.Sorted.{IsSortedBy, IsPermutation}
 use Rattle.std.proofs.lemmas.List.Elements.{All-same, All-map}
 use Rattle.std.proofs.lemmas.List.Sorted.{All-permutation, sorted_far, ranks_by}
+use Rattle.std.proofs.lemmas.List.{get_or_default}
 use Rattle.packing_core.specs.Covering.{Among}
-use Rattle.packing_core.proofs.Numbered.{other_default}
 use Rattle.slice_core.specs.PackedRows.{HasRow, IsPackedOf}
 use Rattle.slice_core.specs.Rows.{key_cmp, key_total}
 use Rattle.box_core.specs.Answers.{IsPackedRow, IsPackedCover, IsBoxOf, IsBoxOfKeyed, IsMatched, IsUnmatched, KeyedBox, HasKeyed}
@@ -100,7 +100,7 @@ module _ {K P : Type 0} (order : K → K → Ordering) (total : IsTotalOrder ord
       let v = row_map key_of sorted i x (subst (λ zs. IsRow zs i x) ks a) in
       let w = row_map key_of sorted j y (subst (λ zs. IsRow zs j y) ks b) in
       let f = sorted_far (λ x y. is_lt (keyed_cmp order x y)) (ranks_by (key_total total) key_of) sorted s i j v.0 h w.1.0 in
-      let g : is_lt (keyed_cmp order w.0 v.0) ≡ false = subst (λ z. is_lt (keyed_cmp order z v.0) ≡ false) (other_default sorted j v.0 w.0 w.1.0 ∙ w.1.1) (subst (λ z. is_lt (keyed_cmp order (get_or sorted j v.0) z) ≡ false) v.1.1 f) in
+      let g : is_lt (keyed_cmp order w.0 v.0) ≡ false = subst (λ z. is_lt (keyed_cmp order z v.0) ≡ false) (get_or_default sorted j v.0 w.0 w.1.0 ∙ w.1.1) (subst (λ z. is_lt (keyed_cmp order (get_or sorted j v.0) z) ≡ false) v.1.1 f) in
       in_order order total x y (subst (λ z. is_lt (key_cmp order z x) ≡ false) w.2 (subst (λ z. is_lt (key_cmp order (key_of w.0) z) ≡ false) v.2 g))
 
   pub keys_sides : (k : ℕ) → All (λ (x : KeyedBox K P). length x.2 ≡ k) rows → All (λ (x : KeyBox K). length x.1 ≡ k) keys

@@ -9,8 +9,7 @@ use Rattle.packing_core.specs.Packed.{no_cells}
 use Rattle.packing_core.proofs.AmongLemmas.{among_append}
 use Rattle.box_core.specs.Common.{At, both, first_of}
 use Rattle.box_core.specs.Outside.{HasBox, part, beside, narrowed, outside_to, outside}
-use Rattle.box_core.proofs.PlaceLemmas.{span_from}
-use Rattle.slice_core.proofs.Sweeping.{cell_has}
+use Rattle.slice_core.proofs.Sweeping.{cell_has, span_from}
 
 -- ---- a place side by side
 

@@ -1,5 +1,5 @@
 -- The places of boxes.
-use Rattle.std.proofs.Common.{◌≡◌, ℕ, zero, suc, ◌+◌, ◌<◌, ◌≤◌, Bool, true, false, ◌&&◌, leb, ltb, max, min, List, [], ◌∷◌, ◌++◌, take, length, get_or, ◌↔◌, arith, sym, ap, subst, refl}
+use Rattle.std.proofs.Common.{◌≡◌, ℕ, zero, suc, ◌+◌, ◌<◌, ◌≤◌, Bool, true, false, ◌&&◌, ltb, max, min, List, [], ◌∷◌, ◌++◌, take, length, get_or, ◌↔◌, arith, sym, ap, subst, refl}
 use Rattle.std.specs.List.{list_all}
 use Rattle.std.proofs.lemmas.Bool.{true≢false, and_parts, and_from}
 use Rattle.std.proofs.lemmas.Bool.Decides.{nat_tests}
@@ -8,15 +8,9 @@ use Rattle.std.proofs.lemmas.List.{take_all}
 use Rattle.packing_core.specs.Live.{span_has, has_place}
 use Rattle.packing_core.specs.Packed.{no_cells}
 use Rattle.box_core.specs.Common.{At, EndsBy, both, common, has_cell, HaveCells, first_of}
-use Rattle.slice_core.proofs.Sweeping.{cell_has}
+use Rattle.slice_core.proofs.Sweeping.{cell_has, span_from}
 
 -- ---- cells
-
-pub span_from : (s : ℕ × ℕ) (i : ℕ) → s.0 ≤ i → i < s.1 → span_has s i ≡ true
-span_from s i l m = within s.0 s.1 l m
-  where
-    within : (a z : ℕ) → a ≤ i → i < z → (leb a i && ltb i z) ≡ true
-    within a z l m = grind (arith, nat_tests)
 
 both_parts : (x y : ℕ × ℕ) (i : ℕ) → span_has (both x y) i ≡ true → (span_has x i ≡ true) × (span_has y i ≡ true)
 both_parts x y i h =
@@ -167,3 +161,11 @@ first_common [] ys zs e f h = omega arith
 first_common (x ∷ xs) [] zs e f h = absurd (omega (arith, e))
 first_common (x ∷ xs) (y ∷ ys) [] e f h = absurd (omega (arith, f))
 first_common (x ∷ xs) (y ∷ ys) (z ∷ zs) e f h = omega (arith, clamps)
+
+-- boxes with cells have a place
+pub place_of_cells : (y : List (ℕ × ℕ)) → HaveCells y → (c : List ℕ) × (length c ≡ length y) × At y c
+place_of_cells [] h = ([], refl, refl)
+place_of_cells (x ∷ xs) h =
+    let w = and_parts (has_cell x) (list_all has_cell xs) h in
+    let v = place_of_cells xs w.1 in
+    (x.0 ∷ v.0, ap suc v.1, and_from (span_has x x.0) (has_place xs v.0) (span_from x x.0 (omega arith) (cell_parts x w.0)) v.2)

@@ -13,8 +13,7 @@ use Rattle.packing_core.proofs.Whole.{cells_back, cuts_back}
 use Rattle.slice_core.specs.PackedRows.{HasRow}
 use Rattle.box_core.specs.Common.{At, EndsBy}
 use Rattle.box_core.specs.Rows.{KeyBox}
-use Rattle.box_core.proofs.PlaceLemmas.{span_from}
-use Rattle.slice_core.proofs.Sweeping.{cell_has}
+use Rattle.slice_core.proofs.Sweeping.{cell_has, span_from}
 
 -- ---- boxes that end by others stay on the grid
 

@@ -10,8 +10,8 @@ use Rattle.std.proofs.lemmas.Bool.{cases_lt, true≢false}
 use Rattle.std.proofs.lemmas.Bool.Decides.{nat_tests}
 use Rattle.std.proofs.lemmas.Cmp.{tied_back, alike_right}
 use Rattle.std.proofs.lemmas.List.Sorted.{sorted_far, ranks_by}
+use Rattle.std.proofs.lemmas.List.{get_or_default}
 use Rattle.packing_core.specs.Covering.{Among}
-use Rattle.packing_core.proofs.Numbered.{other_default}
 use Rattle.packing_core.proofs.Order.{among_contains, contains_among}
 use Rattle.slice_core.specs.Rows.{pair_cmp, key_cmp, key_total}
 use Rattle.box_core.specs.Common.{first_of}
@@ -26,11 +26,11 @@ pub among_row : {X : Type 0} (xs : List X) (x : X) → Among x xs → (i : ℕ) 
 among_row xs x h = let w = among_contains xs x h in (w.0, (w.1, w.2))
 
 pub one_row : {X : Type 0} (xs : List X) (i : ℕ) (x y : X) → IsRow xs i x → IsRow xs i y → x ≡ y
-one_row xs i x y a b = sym a.1 ∙ other_default xs i x y a.0 ∙ b.1
+one_row xs i x y a b = sym a.1 ∙ get_or_default xs i x y a.0 ∙ b.1
 
 -- a row below the length is there
 pub some_row : {X : Type 0} (xs : List X) (i : ℕ) (d : X) → i < length xs → IsRow xs i (get_or xs i d)
-some_row xs i d h = (h, other_default xs i (get_or xs i d) d h)
+some_row xs i d h = (h, get_or_default xs i (get_or xs i d) d h)
 
 -- what holds of all rows holds of each
 pub row_all : {X : Type 0} (Q : X → Type 0) (xs : List X) → All Q xs → (i : ℕ) (x : X) → IsRow xs i x → Q x
@@ -95,5 +95,5 @@ module _ {P : Type 0} (order : P → P → Ordering) (total : IsTotalOrder order
   ascend_from_sorted rows s i j x y h a b =
       let f = sorted_far (λ x y. is_lt (key_cmp order x y)) (ranks_by (key_total total) (λ x. x)) rows s i j x h b.0 in
       let ex : get_or rows i x ≡ x = a.1 in
-      let ey : get_or rows j x ≡ y = other_default rows j x y b.0 ∙ b.1 in
+      let ey : get_or rows j x ≡ y = get_or_default rows j x y b.0 ∙ b.1 in
       in_order x y (subst (λ z. is_lt (key_cmp order z x) ≡ false) ey (subst (λ z. is_lt (key_cmp order (get_or rows j x) z) ≡ false) ex f))

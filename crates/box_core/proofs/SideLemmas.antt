@@ -8,10 +8,10 @@ use Rattle.std.proofs.lemmas.Bool.{cases_lt, and_parts}
 use Rattle.std.proofs.lemmas.Cmp.{tied_back}
 use Rattle.std.proofs.lemmas.Int.{clamps}
 use Rattle.std.proofs.lemmas.List.Sorted.{Contains-permutation, IsPermutation-sym}
+use Rattle.std.proofs.lemmas.List.{get_or_default}
 use Rattle.packing_core.specs.Covering.{Among}
 use Rattle.packing_core.specs.Packed.{no_cells}
 use Rattle.packing_core.proofs.AmongLemmas.{among_append, among_map}
-use Rattle.packing_core.proofs.Numbered.{other_default}
 use Rattle.packing_core.proofs.Order.{among_contains, contains_among}
 use Rattle.box_core.specs.Answers.{KeyedBox}
 use Rattle.box_core.specs.Common.{both, first_of, common, has_cell, HaveCells}
@@ -153,7 +153,7 @@ module _ {P : Type 0} (order : P → P → Ordering) (total : IsTotalOrder order
             let l = ls.to (x.0, i, get_or x.1 side no_cells ∷ []) (x, a, refl, refl) in
             let r = rs.to (y.0, j, get_or y.1 side no_cells ∷ []) (y, b, refl, refl) in
             let g = (is (l.0, r.0)).1 (one_within lefts rights l.0 r.0 u v l.1 r.1 e f.0 f.1) in
-            let n : get_or ln l.0 0 ≡ i = other_default ln l.0 0 i l.2.0 ∙ l.2.1 in
-            let m : get_or rn r.0 0 ≡ j = other_default rn r.0 0 j r.2.0 ∙ r.2.1 in
+            let n : get_or ln l.0 0 ≡ i = get_or_default ln l.0 0 i l.2.0 ∙ l.2.1 in
+            let m : get_or rn r.0 0 ≡ j = get_or_default rn r.0 0 j r.2.0 ∙ r.2.1 in
             (among_map (renumbered ln rn) (i, j) pairs).1 ((l.0, r.0), g, λ t. (n t, m t));
       }

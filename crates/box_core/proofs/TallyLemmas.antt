@@ -14,8 +14,7 @@ use Rattle.slice_core.proofs.UnitedLemmas.{IsBeside}
 use Rattle.box_core.specs.Common.{At}
 use Rattle.box_core.specs.Rows.{KeyBox}
 use Rattle.box_core.specs.Tallies.{IsIn, span_at, pair_at, Within, IsEntered, IsLeft, AreEntered, AreLeft, AreBy, IsKept, boxed, label_in, OfTallied, IsPart}
-use Rattle.box_core.proofs.PlaceLemmas.{span_from}
-use Rattle.slice_core.proofs.Sweeping.{cell_has}
+use Rattle.slice_core.proofs.Sweeping.{cell_has, span_from}
 
 pub equal_or : (a b : ℕ) → (a ≡ b) ⊎ (a ≢ b)
 equal_or a b = elim (cases_lt a b) [

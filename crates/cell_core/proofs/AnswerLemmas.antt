@@ -1,5 +1,5 @@
 -- What the comparisons of packed forms over numbered cells say of the rows.
-use Rattle.std.proofs.Common.{◌≡◌, ℕ, Bool, ℤ, List, [], ◌∷◌, ◌++◌, map, length, ◌↔◌, ◌⊎◌, inl, inr, sym, ap, subst, refl, ◌∙◌, Ordering}
+use Rattle.std.proofs.Common.{◌≡◌, ℕ, Bool, List, [], ◌∷◌, ◌++◌, map, length, ◌↔◌, inl, inr, sym, ap, subst, refl, ◌∙◌, Ordering}
 use Rattle.std.specs.Bool.{IsTrue}
 use Rattle.std.specs.Cmp.{IsTotalOrder}
 use Rattle.std.specs.List.{AllByRecursion}
@@ -7,11 +7,10 @@ use Rattle.base_core.specs.Sets.{in_order, is_within, are_same}
 use Rattle.base_core.proofs.SetLemmas.{Separates}
 use Rattle.base_core.proofs.SetOperatorLemmas.{same_tests}
 use Rattle.packing_core.specs.Covering.{Among}
-use Rattle.packing_core.specs.Boxed.{Boxed, boxed_cmp, packed_boxes, unpacked_boxes, InBoxes}
-use Rattle.packing_core.proofs.AmongLemmas.{among_append}
+use Rattle.packing_core.specs.Boxed.{Boxed, boxed_cmp, packed_boxes, unpacked_boxes}
 use Rattle.slice_core.specs.Rows.{key_cmp}
 use Rattle.cell_core.proofs.OrderLemmas.{boxed_total, key_separates, all_in_order, map_in_order, one_from}
-use Rattle.cell_core.proofs.PackedPlaces.{AllHave, packed_from_same, same_from_packed}
+use Rattle.cell_core.proofs.PackedPlaces.{AllHave, packed_from_same, same_from_packed, both_have, both_boxes}
 use Rattle.cell_core.proofs.UnpackedLemmas.{same_iff, within_iff}
 
 -- forms over cells, which `row` takes to boxes and whose order it keeps
@@ -55,15 +54,6 @@ module _ {L : Type 0} (order : L → L → Ordering) (o : IsTotalOrder order) (s
           λ t. i.1 (f.1 (ev ∙ packed_from_same order o same k left right hl hr (s.0 t) ∙ sym ew)),
         )
 
-    both_have : AllHave k (left ++ right)
-    both_have x m = elim ((among_append x left right).0 m) [ inl a ↦ hl x a | inr a ↦ hr x a ]
-
-    in_both : (l : L) (place : List ℤ) → InBoxes (left ++ right) l place ↔ InBoxes left l place ⊎ InBoxes right l place
-    in_both l place = (
-      λ h. elim ((among_append (l, h.0) left right).0 h.1) [ inl a ↦ inl (h.0, a, h.2) | inr a ↦ inr (h.0, a, h.2) ],
-      λ h. elim h [ inl a ↦ (a.0, (among_append (l, a.0) left right).1 (inl a.1), a.2) | inr a ↦ (a.0, (among_append (l, a.0) left right).1 (inr a.1), a.2) ],
-    )
-
     -- the left points are among the right ones where the right rows pack as all rows do
     pub within_answer : map row v ≡ packed_boxes order k (left ++ right) → map row w ≡ packed_boxes order k right → (b : Bool) → IsTrue b ↔ (v ≡ w)
         → b ≡ is_within (boxed_cmp order) (unpacked_boxes order k left) (unpacked_boxes order k right)
@@ -71,9 +61,9 @@ module _ {L : Type 0} (order : L → L → Ordering) (o : IsTotalOrder order) (s
         let f = same_forms v w lv lw in
         let s = within_iff order o same k left right hl hr in
         same_tests b (is_within (boxed_cmp order) (unpacked_boxes order k left) (unpacked_boxes order k right)) (
-          λ t. s.1 (λ l place h. (same_from_packed order o same k (left ++ right) right both_have hr (sym ev ∙ f.0 (i.0 t) ∙ ew) l place).0 ((in_both l place).1 (inl h))),
-          λ t. i.1 (f.1 (ev ∙ packed_from_same order o same k (left ++ right) right both_have hr (λ l place. (
-            λ h. elim ((in_both l place).0 h) [ inl a ↦ s.0 t l place a | inr a ↦ a ],
-            λ h. (in_both l place).1 (inr h),
+          λ t. s.1 (λ l place h. (same_from_packed order o same k (left ++ right) right (both_have k left right hl hr) hr (sym ev ∙ f.0 (i.0 t) ∙ ew) l place).0 ((both_boxes left right l place).1 (inl h))),
+          λ t. i.1 (f.1 (ev ∙ packed_from_same order o same k (left ++ right) right (both_have k left right hl hr) hr (λ l place. (
+            λ h. elim ((both_boxes left right l place).0 h) [ inl a ↦ s.0 t l place a | inr a ↦ a ],
+            λ h. (both_boxes left right l place).1 (inr h),
           )) ∙ sym ew)),
         )

@@ -13,6 +13,7 @@ use Rattle.std.proofs.lemmas.List.Elements.{All-same}
 use Rattle.std.proofs.lemmas.List.Sorted.{Contains-permutation, IsPermutation-sym, IsPermutation-map, All-permutation, length_permutation}
 use Rattle.base_core.specs.Sets.{in_order}
 use Rattle.base_core.proofs.SetLemmas.{Ascends, AllAfter, Separates, in_order_by_members, in_order_of_ascending}
+use Rattle.base_core.proofs.OrderingLemmas.{tied-not_Less}
 use Rattle.interval_core.specs.Members.{Span, at_point}
 use Rattle.interval_core.specs.Packing.{pack}
 use Rattle.packing_core.specs.Packed.{IsRun, nowhere, packs, points_of, Has}
@@ -73,8 +74,6 @@ int_less : (a b : ℤ) → a <ℤ b → int_cmp a b ≡ Less
 int_less a b h = grind (arith, ints)
 
 module _ {P : Type 0} (order : P → P → Ordering) (o : IsTotalOrder order) where
-  not_less : (u v : P) → order u v ≡ Equal → order u v ≡ Less → ⊥
-  not_less u v e l = cc
 
   -- each row is beyond all before it
   abbrev Row : Type 0
@@ -131,7 +130,7 @@ module _ {P : Type 0} (order : P → P → Ordering) (o : IsTotalOrder order) wh
   ]
 
   beyond_ends : (l : P) (x y : List Span) → IsBeyond order (l, x) (l, y) → ((get_or x 0 nowhere).1 +ℤ pos 1) <ℤ (get_or y 0 nowhere).0
-  beyond_ends l x y h = elim h [ inl e ↦ absurd (not_less l l (tied_itself o l) e) | inr w ↦ w.1 ]
+  beyond_ends l x y h = elim h [ inl e ↦ absurd (tied-not_Less order l l (tied_itself o l) e) | inr w ↦ w.1 ]
 
   -- rows of one label are one, or do not meet
   two_spans : (rows : List Row) → AllBeyond rows → (l : P) (x y : List Span) → Among (l, x) rows → Among (l, y) rows

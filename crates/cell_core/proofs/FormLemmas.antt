@@ -39,13 +39,10 @@ module _ {T P : Type 0} (L : Type 0) (n : P → ℤ) (has : T → P → Type 0) 
   abbrev row : Key → L × List (ℤ × ℤ)
   row = grid_row (grids_of n high ts ss)
 
-  count_left : length (map (λ (r : Row). r.1) left) ≡ length left
-  count_left = length-map left (λ (r : Row). r.1)
-
   count_all : length all ≡ length left + length right
   count_all =
       let a = length-map right (λ (r : Row). r.1) in
-      let b = count_left in
+      let b = length-map left (λ (r : Row). r.1) in
       length-append (map (λ (r : Row). r.1) left) (map (λ (r : Row). r.1) right) ∙ (omega arith)
 
   sided : (rows : List Row) → All (λ r. IsBox has ts r.1) rows → AllByRecursion (λ r. length r.1 ≡ k) rows
@@ -72,7 +69,7 @@ module _ {T P : Type 0} (L : Type 0) (n : P → ℤ) (has : T → P → Type 0) 
 
   right_keys : map row (keys_from (length left) right ss) ≡ map (row_numbers n) right
   right_keys =
-      own_rows L n has high point ts ss all len sides [] (length left) (map (λ (r : Row). r.1) left) right (sym count_left)
+      own_rows L n has high point ts ss all len sides [] (length left) (map (λ (r : Row). r.1) left) right (sym (length-map left (λ (r : Row). r.1)))
       (ap (λ ys. map (λ (r : Row). r.1) left ++ ys) (sym (append-nil (map (λ (r : Row). r.1) right)))) (sided right hr)
 
   left_fit : AllByRecursion (Fit L n has high point ts ss all len sides) (keys_from 0 left ss)

@@ -68,7 +68,7 @@ distinct_ascending cmp o same (x ∷ xs) h = (
 )
 
 -- in order such a list is as long
-put_longer : {X : Type 0} (cmp : X → X → Ordering) (same : Separates cmp) (x : X) (ys : List X) → (In x ys → ⊥) → length (put cmp x ys) ≡ suc (length ys)
+pub put_longer : {X : Type 0} (cmp : X → X → Ordering) (same : Separates cmp) (x : X) (ys : List X) → (In x ys → ⊥) → length (put cmp x ys) ≡ suc (length ys)
 put_longer cmp same x [] h = refl
 put_longer cmp same x (y ∷ ys) h =
     let ih = put_longer cmp same x ys (λ m. h (inr m)) in
@@ -121,7 +121,7 @@ distinct_places (i ∷ is) =
     let f = w.2 in
     cc)
 
-length_each : {X Y : Type 0} (f : X → List Y) (n : ℕ) → ((x : X) → length (f x) ≡ n) → (xs : List X) → length (flat_map f xs) ≡ length xs * n
+pub length_each : {X Y : Type 0} (f : X → List Y) (n : ℕ) → ((x : X) → length (f x) ≡ n) → (xs : List X) → length (flat_map f xs) ≡ length xs * n
 length_each f n h [] = sym (omega arith)
 length_each f n h (x ∷ xs) =
     let ih : length (flat_map f xs) ≡ length xs * n = length_each f n h xs in

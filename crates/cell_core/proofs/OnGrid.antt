@@ -1,12 +1,12 @@
 -- Rows over numbered cells, packed: by their numbers they are the packed form of the rows.
-use Rattle.std.proofs.Common.{◌≡◌, ◌≢◌, ℕ, zero, suc, ◌+◌, ◌<◌, ◌≤◌, Bool, true, ◌&&◌, ℤ, ◌≤ℤ◌, List, [], ◌∷◌, map, length, get_or, ◌↔◌, ◌⊎◌, inl, inr, arith, sym, ap, subst, refl, ◌∙◌, Ordering}
+use Rattle.std.proofs.Common.{◌≡◌, ◌≢◌, ℕ, zero, suc, ◌+◌, ◌<◌, ◌≤◌, Bool, true, ◌&&◌, ℤ, List, [], ◌∷◌, map, length, get_or, ◌↔◌, ◌⊎◌, inl, inr, arith, sym, ap, subst, refl, ◌∙◌, Ordering}
 use Rattle.std.specs.Cmp.{IsTotalOrder}
 use Rattle.std.specs.List.{filter, AllByRecursion}
 use Rattle.std.specs.List.Sorted.{IsStrictlySortedBy}
 use Rattle.std.specs.Int.RustNames.{int_le}
 use Rattle.std.proofs.lemmas.Bool.{cases_lt, and_parts, and_from, true≢false}
-use Rattle.std.proofs.lemmas.Int.{ints}
 use Rattle.base_core.proofs.SetLemmas.{Separates, Ascends-from_sorted}
+use Rattle.base_core.proofs.IntLemmas.{int_le-le, le-int_le}
 use Rattle.interval_core.specs.Members.{Span}
 use Rattle.packing_core.specs.Packed.{Has, IsIndexPackedTo, no_cells, packs, points_of}
 use Rattle.packing_core.specs.Covering.{Among, has}
@@ -17,7 +17,7 @@ use Rattle.packing_core.proofs.Cells.{Cuts, box_of}
 use Rattle.packing_core.proofs.Chain.{Fits, InPlaces, slices_are_packed, packed_some}
 use Rattle.packing_core.proofs.Covered.{IsInGrid}
 use Rattle.packing_core.proofs.Joined.{IsIndexRun-iff}
-use Rattle.packing_core.proofs.PackedBoxes.{packed_form_is, true_le}
+use Rattle.packing_core.proofs.PackedBoxes.{packed_form_is}
 use Rattle.packing_core.proofs.Whole.{cells_back, cuts_back, length_box}
 use Rattle.slice_core.specs.Rows.{key_cmp}
 use Rattle.slice_core.specs.PackedRows.{HasRow, IsPackedOf}
@@ -25,17 +25,14 @@ use Rattle.cell_core.specs.Cells.{rows_from}
 use Rattle.cell_core.proofs.Theorem.{packs-iff, points-iff, row_of, rows_in_order}
 use Rattle.cell_core.proofs.OrderLemmas.{boxed_total, boxed_separates}
 
-le_true : (a b : ℤ) → a ≤ℤ b → int_le a b ≡ true
-le_true a b h = grind (arith, ints)
-
 has_is : (x : List Span) (ps : List ℤ) → (has x ps ≡ true) ↔ Has x ps
 has_is [] [] = (λ h. tt, λ h. refl)
 has_is [] (p ∷ ps) = (λ h. absurd (true≢false (sym h)), λ h. absurd h)
 has_is (i ∷ is) [] = (λ h. absurd (true≢false (sym h)), λ h. absurd h)
 has_is (i ∷ is) (p ∷ ps) =
     let ih = has_is is ps in (
-      λ h. let a = and_parts (int_le i.0 p) (int_le p i.1 && has is ps) h in let b = and_parts (int_le p i.1) (has is ps) a.1 in (true_le i.0 p a.0, true_le p i.1 b.0, ih.0 b.1),
-      λ h. and_from (int_le i.0 p) (int_le p i.1 && has is ps) (le_true i.0 p h.0) (and_from (int_le p i.1) (has is ps) (le_true p i.1 h.1) (ih.1 h.2)),
+      λ h. let a = and_parts (int_le i.0 p) (int_le p i.1 && has is ps) h in let b = and_parts (int_le p i.1) (has is ps) a.1 in (int_le-le i.0 p a.0, int_le-le p i.1 b.0, ih.0 b.1),
+      λ h. and_from (int_le i.0 p) (int_le p i.1 && has is ps) (le-int_le i.0 p h.0) (and_from (int_le p i.1) (has is ps) (le-int_le p i.1 h.1) (ih.1 h.2)),
     )
 
 packed_to_iff : (j : ℕ) (S S' : List ℕ → Type 0) → ((place : List ℕ) → S place ↔ S' place) → (y : List (ℕ × ℕ)) (rest : List ℕ) → IsIndexPackedTo j S y rest ↔ IsIndexPackedTo j S' y rest

@@ -4,20 +4,14 @@ use Rattle.std.proofs.lemmas.Int.{ints}
 use Rattle.std.specs.List.{All, AllByRecursion}
 use Rattle.std.specs.List.Sorted.{IsPermutation}
 use Rattle.std.proofs.lemmas.List.{length-map}
-use Rattle.std.proofs.lemmas.List.Elements.{All-from_recursion, recursion_from_All}
+use Rattle.std.proofs.lemmas.List.Elements.{recursion_from_All}
 use Rattle.std.proofs.lemmas.List.Sorted.{Contains-permutation, IsPermutation-sym}
 use Rattle.packing_core.specs.Packed.{no_cells}
 use Rattle.packing_core.specs.Covering.{Among}
 use Rattle.packing_core.proofs.Order.{among_contains, contains_among}
+use Rattle.packing_core.proofs.AmongLemmas.{all_from_members}
 use Rattle.cell_core.specs.Numbering.{cut_at, span_at, numbers_of, ends, HasTag, AreEnds, IsCellAt}
 use Rattle.cell_core.proofs.Numbers.{cut_end, length_ends, ends_even, ends_odd}
-
-pub all_among : {X : Type 0} (P : X → Type 0) (xs : List X) → ((x : X) → Among x xs → P x) → All P xs
-all_among P xs h = All-from_recursion P xs (go xs h)
-  where
-    go : (ys : List _) → ((x : _) → Among x ys → P x) → AllByRecursion P ys
-    go [] h = tt
-    go (y ∷ ys) h = (h y (inl refl), go ys (λ x w. h x (inr w)))
 
 pub among_all : {X : Type 0} (P : X → Type 0) (xs : List X) (x : X) → All P xs → Among x xs → P x
 among_all P xs x a h = go xs (recursion_from_All P xs a) h
@@ -30,7 +24,7 @@ pub among_moved : {X : Type 0} (xs ys : List X) → IsPermutation xs ys → (x :
 among_moved xs ys p x h = contains_among ys x (Contains-permutation xs ys x p (among_contains xs x h))
 
 pub all_moved : {X : Type 0} (P : X → Type 0) (xs ys : List X) → IsPermutation xs ys → All P xs → All P ys
-all_moved P xs ys p a = all_among P ys (λ x h. among_all P xs x a (among_moved ys xs (IsPermutation-sym xs ys p) x h))
+all_moved P xs ys p a = all_from_members P ys (λ x h. among_all P xs x a (among_moved ys xs (IsPermutation-sym xs ys p) x h))
 
 tag_by : {X : Type 0} (xs : List (X × ℕ)) (tag : ℕ) → HasTag xs tag → (x : X × ℕ) × Among x xs × (x.1 ≡ tag)
 tag_by [] tag h = absurd h
@@ -44,10 +38,10 @@ tag_moved : {X : Type 0} (xs ys : List (X × ℕ)) → IsPermutation xs ys → (
 tag_moved xs ys p tag h = let w = tag_by xs tag h in subst (HasTag ys) w.2 (tag_from ys w.0 (among_moved xs ys p w.0 w.1))
 
 pub points_listed : {P : Type 0} (n : P → ℤ) (has : P → Type 0) (high : ℤ) (spans : List (P × P)) (count : ℕ) (list : List (P × ℕ)) → AreEnds n has high spans count list → All (λ x. has x.0) list
-points_listed n has high spans count list ends = all_among (λ x. has x.0) list (λ x h. (ends.placed x h).2)
+points_listed n has high spans count list ends = all_from_members (λ x. has x.0) list (λ x h. (ends.placed x h).2)
 
 pub places_listed : {P : Type 0} (n : P → ℤ) (has : P → Type 0) (high : ℤ) (spans : List (P × P)) (count : ℕ) (list : List (P × ℕ)) → length spans ≡ count → AreEnds n has high spans count list → All (λ x. x.1 < 2 * count) list
-places_listed n has high spans count list e ends = all_among (λ x. x.1 < 2 * count) list (λ x h. let p = (ends.placed x h).0 in let l = length_ends n spans in omega arith)
+places_listed n has high spans count list e ends = all_from_members (λ x. x.1 < 2 * count) list (λ x h. let p = (ends.placed x h).0 in let l = length_ends n spans in omega arith)
 
 module _ {P : Type 0} (n : P → ℤ) (has : P → Type 0) (high : ℤ) (spans : List (P × P)) (list : List (P × ℕ)) (all : AreEnds n has high spans (length spans) list) where
   module _ (sorted : List (P × ℕ)) (moved : IsPermutation list sorted) (cuts : List P) (table : List ℕ) (rest last : ℕ) (is_last : last ≡ length cuts) (below : length cuts ≤ rest)

@@ -1,29 +1,23 @@
 -- The orders of boxes, of keys and of labels at places: each is total and tells its values apart; and maps that keep an order.
-use Rattle.std.proofs.Common.{◌≡◌, List, [], ◌∷◌, map, is_eq, true, refl, sym, ap, ◌∙◌, Ordering}
+use Rattle.std.proofs.Common.{◌≡◌, List, [], ◌∷◌, map, refl, sym, ap, ◌∙◌, Ordering}
 use Rattle.std.specs.declared.cmp.Ordering.TheVariants.{Less, Equal, Greater}
 use Rattle.std.specs.List.{AllByRecursion}
 use Rattle.std.specs.Ordering.{int_cmp, nat_cmp, ordering_then}
 use Rattle.std.specs.Cmp.{IsTotalOrder}
 use Rattle.std.specs.Cmp.Lexicographic.{slice_cmp}
-use Rattle.std.proofs.lemmas.Bool.{true≢false}
 use Rattle.std.proofs.lemmas.Cmp.{then_total, on_total, lists_total, int_cmp_total, int_ranked, ranked, tied_itself}
 use Rattle.base_core.specs.Sets.{placed, put, in_order}
 use Rattle.base_core.proofs.SetLemmas.{Separates}
+use Rattle.point_core.proofs.OrderLemmas.{then_same}
 use Rattle.interval_core.specs.Members.{Span}
 use Rattle.packing_core.specs.Boxed.{Boxed, boxed_cmp, span_cmp}
 use Rattle.slice_core.specs.Rows.{key_cmp, pair_cmp}
 use Rattle.cell_core.specs.Places.{Placed, placed_cmp}
-use Rattle.slice_core.proofs.Steps.{both_equal}
-
-pub equal_of : (r : Ordering) → is_eq r ≡ true → r ≡ Equal
-equal_of Less e = absurd (true≢false (sym e))
-equal_of Equal e = refl
-equal_of Greater e = absurd (true≢false (sym e))
 
 -- pairs and lists that tie are equal, where their parts are
 then_separates : {X Y : Type 0} {one : X → X → Ordering} {two : Y → Y → Ordering} → Separates one → Separates two → (x y : X × Y) → ordering_then (one x.0 y.0) (two x.1 y.1) ≡ Equal → x ≡ y
 then_separates {one = one} {two = two} f g x y e =
-    let h = both_equal (one x.0 y.0) (two x.1 y.1) e in
+    let h = then_same (one x.0 y.0) (two x.1 y.1) e in
     let p = f x.0 y.0 h.0 in
     let q = g x.1 y.1 h.1 in
     λ i. (p i, q i)
@@ -33,7 +27,7 @@ list_separates same [] [] e = refl
 list_separates same [] (y ∷ b) e = cc
 list_separates same (x ∷ a) [] e = cc
 list_separates {cmp = cmp} same (x ∷ a) (y ∷ b) e =
-    let h = both_equal (cmp x y) (slice_cmp cmp a b) e in
+    let h = then_same (cmp x y) (slice_cmp cmp a b) e in
     let p = same x y h.0 in
     let q = list_separates same a b h.1 in
     λ i. p i ∷ q i
@@ -41,13 +35,13 @@ list_separates {cmp = cmp} same (x ∷ a) (y ∷ b) e =
 int_separates : Separates int_cmp
 int_separates a b e = int_ranked a b Equal (sym e)
 
-nat_separates : Separates nat_cmp
+pub nat_separates : Separates nat_cmp
 nat_separates a b e = ranked a b Equal (sym e)
 
 span_separates : Separates span_cmp
 span_separates a b e = then_separates int_separates int_separates a b e
 
-pair_separates : Separates pair_cmp
+pub pair_separates : Separates pair_cmp
 pair_separates a b e = then_separates nat_separates nat_separates a b e
 
 module _ {P : Type 0} {order : P → P → Ordering} where

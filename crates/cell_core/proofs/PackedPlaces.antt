@@ -1,5 +1,5 @@
 -- Each place of labelled boxes lies in just one box of their packed form; and what that tells of the packed forms of two lists.
-use Rattle.std.proofs.Common.{◌≡◌, ℕ, zero, suc, ◌+◌, ◌≤◌, ℤ, pos, ◌≤ℤ◌, List, [], ◌∷◌, ◌++◌, take, length, get_or, ◌↔◌, inl, inr, arith, sym, ap, subst, refl, ◌∙◌, Ordering}
+use Rattle.std.proofs.Common.{◌≡◌, ℕ, zero, suc, ◌+◌, ◌≤◌, ℤ, pos, ◌≤ℤ◌, List, [], ◌∷◌, ◌++◌, take, length, get_or, ◌↔◌, inl, inr, arith, sym, ap, subst, refl, ◌∙◌, Ordering, ◌⊎◌}
 use Rattle.std.specs.declared.cmp.Ordering.TheVariants.{Less, Equal, Greater}
 use Rattle.std.specs.Cmp.{IsTotalOrder}
 use Rattle.std.proofs.lemmas.Int.{ints, by_lt_z}
@@ -16,6 +16,7 @@ use Rattle.packing_core.proofs.PackedBoxes.{in_packed_form, packed_ascends, pack
 use Rattle.cell_core.proofs.Theorem.{packs-iff, points-iff, onto_twice, length_onto}
 use Rattle.cell_core.proofs.OrderLemmas.{boxed_total, boxed_separates}
 use Rattle.packing_core.proofs.Chain.{take_last, take_all, onto_last}
+use Rattle.packing_core.proofs.AmongLemmas.{among_append}
 
 -- ---- turned round
 
@@ -236,3 +237,12 @@ module _ {P : Type 0} (order : P → P → Ordering) (o : IsTotalOrder order) (s
     λ h. from_packed_box right hr l place (subst (λ r. InBoxes r l place) e (in_packed_box left hl l place h)),
     λ h. from_packed_box left hl l place (subst (λ r. InBoxes r l place) (sym e) (in_packed_box right hr l place h)),
   )
+
+pub both_have : {L : Type 0} (k : ℕ) (left right : List (Boxed L)) → AllHave k left → AllHave k right → AllHave k (left ++ right)
+both_have k left right hl hr x m = elim ((among_append x left right).0 m) [ inl a ↦ hl x a | inr a ↦ hr x a ]
+
+pub both_boxes : {L : Type 0} (xs ys : List (Boxed L)) (l : L) (place : List ℤ) → InBoxes (xs ++ ys) l place ↔ InBoxes xs l place ⊎ InBoxes ys l place
+both_boxes xs ys l place = (
+  λ w. elim ((among_append (l, w.0) xs ys).0 w.1) [ inl m ↦ inl (w.0, m, w.2) | inr m ↦ inr (w.0, m, w.2) ],
+  λ w. elim w [ inl v ↦ (v.0, (among_append (l, v.0) xs ys).1 (inl v.1), v.2) | inr v ↦ (v.0, (among_append (l, v.0) xs ys).1 (inr v.1), v.2) ],
+)

@@ -5,10 +5,11 @@ use Rattle.std.specs.List.{flat_map, All}
 use Rattle.std.proofs.Math.Nat.{mul-le-mul_left, mul-le-mul_right, mul_assoc}
 use Rattle.std.proofs.lemmas.Bool.{cases_lt}
 use Rattle.std.proofs.lemmas.Int.{ints}
-use Rattle.std.proofs.lemmas.List.{append_assoc, append-nil}
+use Rattle.std.proofs.lemmas.List.{append_assoc, append-nil, get_or_default}
 use Rattle.base_core.specs.Sets.{in_order}
 use Rattle.base_core.proofs.SetLemmas.{Separates, In, In-in_order}
 use Rattle.interval_core.specs.Members.{Span, at_point, members, numbers_from, count_of}
+use Rattle.interval_core.proofs.OperatorLemmas.{length-numbers_from}
 use Rattle.packing_core.specs.Packed.{Has}
 use Rattle.packing_core.specs.Covering.{Among}
 use Rattle.packing_core.specs.Boxed.{Boxed}
@@ -22,16 +23,12 @@ use Rattle.cell_core.proofs.Listing.{in_listing}
 
 -- ---- the members of a span
 
-length_numbers : (n : ℕ) (b : ℤ) → length (numbers_from n b) ≡ n
-length_numbers zero b = refl
-length_numbers (suc n) b = ap suc (length_numbers n (b +ℤ pos 1))
-
 pub length_members : (i : Span) → i.0 ≤ℤ i.1 → pos (length (members i)) ≡ (i.1 +ℤ pos 1) -ℤ i.0
 unfolding members
 length_members i h = go ((i.1 +ℤ pos 1) -ℤ i.0) refl
   where
     go : (d : ℤ) → (i.1 +ℤ pos 1) -ℤ i.0 ≡ d → pos (length (numbers_from (count_of d) i.0)) ≡ d
-    go (pos n) e = ap pos (length_numbers n i.0)
+    go (pos n) e = ap pos (length-numbers_from n i.0)
     go (negsuc n) e = absurd (omega (arith, ints))
 
 numbers_last : (n : ℕ) (b : ℤ) → numbers_from (suc n) b ≡ numbers_from n b ++ (b +ℤ pos n) ∷ []
@@ -191,11 +188,6 @@ pub numbers_push : {P : Type 0} (n : P → ℤ) (sides : List (P × P)) (i : P �
 numbers_push n [] i = refl
 numbers_push n (x ∷ xs) i = ap (λ ys. (n x.0, n x.1) ∷ ys) (numbers_push n xs i)
 
-pub other_default : {X : Type 0} (xs : List X) (j : ℕ) (d e : X) → j < length xs → get_or xs j d ≡ get_or xs j e
-other_default [] j d e h = absurd (omega arith)
-other_default (x ∷ xs) zero d e h = refl
-other_default (x ∷ xs) (suc j) d e h = other_default xs j d e (omega arith)
-
 -- one more side, at a step of the product
 pub volume_step : (m : ℕ) (spans : List Span) (j product count new : ℕ) → j < length spans → All (λ i. i.0 ≤ℤ i.1) spans → pos count ≡ ((get_or spans j (pos 0, pos 0)).1 +ℤ pos 1) -ℤ (get_or spans j (pos 0, pos 0)).0
     → product ≡ min (volume (take j spans)) m → new ≡ min (product * count) m → new ≡ min (volume (take (j + 1) spans)) m
@@ -204,7 +196,7 @@ volume_step m spans j product count new h all ec inv step =
     let l : pos (length (members i)) ≡ (i.1 +ℤ pos 1) -ℤ i.0 = length_members i (all j (pos 0, pos 0) h) in
     let n : count ≡ length (members i) = omega (arith, ints) in
     let s : suc j ≡ j + 1 = omega arith in
-    let f : volume (take (suc j) spans) ≡ volume (take j spans) * length (members i) = one_more_factor spans j i h (other_default spans j (pos 0, pos 0) i h) in
+    let f : volume (take (suc j) spans) ≡ volume (take j spans) * length (members i) = one_more_factor spans j i h (get_or_default spans j (pos 0, pos 0) i h) in
     step ∙ (λ t. min (inv t * n t) m) ∙ cut_times (volume (take j spans)) (length (members i)) m ∙ ap (λ v. min v m) (sym f) ∙ ap (λ k. min (volume (take k spans)) m) s
 
 -- one more row, at a step of the sum

@@ -57,7 +57,7 @@ volume_within b (suc k) counts h =
     let e : b ^ suc k ≡ b * b ^ k = pow-succ' b k in
     omega arith
 
-bound_of : (n k : ℕ) → 0 < n → bound n k ≡ 2 * k * n * (binary_digits (2 * n) + 3) + (2 * n) ^ k
+pub bound_of : (n k : ℕ) → 0 < n → bound n k ≡ 2 * k * n * (binary_digits (2 * n) + 3) + (2 * n) ^ k
 bound_of n k h = grind (arith, nat_tests)
 
 pub sides_bound : (n k old a : ℕ) → a ≤ old + k * side_cost n → a ≤ old + (bound n k - k * n)

@@ -13,6 +13,7 @@ use Rattle.std.proofs.lemmas.Int.{ints}
 use Rattle.interval_core.specs.Members.{Span, at_point}
 use Rattle.packing_core.specs.Packed.{packs, points_of, firsts, nowhere, onto}
 use Rattle.std.proofs.Common.{set}
+use Rattle.base_core.proofs.OrderingLemmas.{lt-nat_cmp}
 use Rattle.packing_core.specs.Covering.{Among, Gives, has, passing, covering, InCells, CellFunction}
 use Rattle.packing_core.specs.Live.{box, InLive, IsSliceRow, IsSomewhere}
 use Rattle.packing_core.proofs.Runs.{IsRun-iff}
@@ -20,11 +21,10 @@ use Rattle.packing_core.proofs.AmongLemmas.{among_map}
 use Rattle.packing_core.proofs.Covered.{IsInGrid}
 use Rattle.packing_core.proofs.Whole.{onto_cells, cells_back, cuts_back, length_back, length_box}
 use Rattle.packing_core.proofs.Cells.{Cuts, OnGrid, place_of, box_of, span_of, cell_of, rises_far}
-use Rattle.packing_core.proofs.Chain.{Fits, InPlaces, on, same, slices_are_packed, packed_some}
+use Rattle.packing_core.proofs.Chain.{Fits, InPlaces, on, same, slices_are_packed, packed_some, length_onto_cells}
 use Rattle.slice_core.specs.Rows.{own_numbers, GivesLabel, GivesFault, key_cmp, pair_cmp}
 use Rattle.cell_core.specs.Cells.{IsPackedRow, HasFault, rows_from}
 use Rattle.packing_core.specs.Boxed.{boxed_cmp, span_cmp}
-use Rattle.slice_core.proofs.Steps.{below_less}
 
 -- ---- numbers of rows
 
@@ -93,10 +93,6 @@ onto_cells_twice : (ps rs : List ℕ) → onto_cells (onto_cells ps rs) [] ≡ o
 onto_cells_twice [] rs = refl
 onto_cells_twice (p ∷ ps) rs = onto_cells_twice ps (p ∷ rs)
 
-length_onto_cells : (ps rs : List ℕ) → length (onto_cells ps rs) ≡ length ps + length rs
-length_onto_cells [] rs = omega arith
-length_onto_cells (p ∷ ps) rs = let w = length_onto_cells ps (p ∷ rs) in omega arith
-
 length_place : (gs : List Cuts) (is : List ℕ) → length is ≡ length gs → length (place_of gs is) ≡ length gs
 length_place [] is e = refl
 length_place (g ∷ gs) [] e = absurd (omega arith)
@@ -152,7 +148,7 @@ nat_same a b h = grind (arith, nat_tests)
 at_cmp : (g : Cuts) (a b : ℕ) (c : ℤ) → int_cmp (g.at a -ℤ c) (g.at b -ℤ c) ≡ nat_cmp a b
 at_cmp g a b c =
     elim (cases_lt a b) [
-      | inl l ↦ let f = rises_far g (suc a) b l in let r = g.rises a in int_less (g.at a -ℤ c) (g.at b -ℤ c) (omega (arith, ints)) ∙ sym (below_less a b l)
+      | inl l ↦ let f = rises_far g (suc a) b l in let r = g.rises a in int_less (g.at a -ℤ c) (g.at b -ℤ c) (omega (arith, ints)) ∙ sym (lt-nat_cmp a b l)
       | inr l ↦ elim (cases_lt b a) [
         | inl m ↦ let f = rises_far g (suc b) a m in let r = g.rises b in int_more (g.at a -ℤ c) (g.at b -ℤ c) (omega (arith, ints)) ∙ sym (nat_more a b m)
         | inr m ↦ let e : a ≡ b = omega arith in int_same (g.at a -ℤ c) (g.at b -ℤ c) (ap (λ i. g.at i -ℤ c) e) ∙ sym (nat_same a b e)

@@ -29,7 +29,7 @@ pub length_at : (place : List ℤ) → length (map at_point place) ≡ length pl
 length_at [] = refl
 length_at (p ∷ ps) = ap suc (length_at ps)
 
-unpack_ascends : {X : Type 0} (cmp : X → X → Ordering) (o : IsTotalOrder cmp) (same : Separates cmp) (ss : List (Side X)) (r : List X) → Ascends cmp r → Ascends cmp (unpack cmp ss r)
+pub unpack_ascends : {X : Type 0} (cmp : X → X → Ordering) (o : IsTotalOrder cmp) (same : Separates cmp) (ss : List (Side X)) (r : List X) → Ascends cmp r → Ascends cmp (unpack cmp ss r)
 unpack_ascends cmp o same [] r h = h
 unpack_ascends cmp o same (a ∷ ss) r h =
     unpack_ascends cmp o same ss (unpack1 cmp a r) (Ascends-in_order cmp o same (flat_map (λ x. map (λ p. a.put x (at_point p)) (members (a.of x))) r))

@@ -15,7 +15,7 @@ use Rattle.base_core.proofs.SetLemmas.{Separates}
 use Rattle.packing_core.specs.Boxed.{Boxed, packed_boxes, InBoxes}
 use Rattle.packing_core.specs.Covering.{Among}
 use Rattle.packing_core.specs.Packed.{Has, no_cells}
-use Rattle.packing_core.proofs.AmongLemmas.{among_map}
+use Rattle.packing_core.proofs.AmongLemmas.{among_map, each_from_members}
 use Rattle.packing_core.proofs.Cells.{Cuts, box_of}
 use Rattle.packing_core.proofs.Whole.{length_box}
 use Rattle.slice_core.specs.Rows.{key_cmp}
@@ -39,10 +39,6 @@ use Rattle.cell_kernels.specs.Fewer.{IsSameOrPacked}
 at_member : {X : Type 0} (A : X → Type 0) (xs : List X) → AllByRecursion A xs → (x : X) → Among x xs → A x
 at_member A [] h x m = absurd m
 at_member A (y ∷ ys) h x m = elim m [ inl e ↦ subst A e h.0 | inr w ↦ at_member A ys h.1 x w ]
-
-of_members : {X : Type 0} (A : X → Type 0) (xs : List X) → ((x : X) → Among x xs → A x) → AllByRecursion A xs
-of_members A [] h = tt
-of_members A (x ∷ xs) h = (h x (inl refl), of_members A xs (λ y m. h y (inr m)))
 
 past_end : {X : Type 0} (xs : List X) (s : ℕ) (d : X) → length xs ≤ s → get_or xs s d ≡ d
 past_end [] s d h = refl
@@ -105,13 +101,10 @@ module _ {T P L : Type 0} (n : P → ℤ) (has : T → P → Type 0) (high : T �
   pub grids : (j : ℕ) (t : T) (e : S) → j < k → IsGrid n (has (get_or ts j t)) (high (get_or ts j t)) (get_or ss j e)
   grids j t e h = side_grid n (has (get_or ts j t)) (high (get_or ts j t)) _ (get_or ss j e) (over.numbered j t (point t, point t) e h)
 
-  count_left : length (map (λ (r : L × List (P × P)). r.1) left) ≡ length left
-  count_left = length-map left (λ (r : L × List (P × P)). r.1)
-
   count_all : length all ≡ length left + length right
   count_all =
       let a = length-map right (λ (r : L × List (P × P)). r.1) in
-      let b = count_left in
+      let b = length-map left (λ (r : L × List (P × P)). r.1) in
       length-append (map (λ (r : L × List (P × P)). r.1) left) (map (λ (r : L × List (P × P)). r.1) right) ∙ (omega arith)
 
   sided : (rows : List (L × List (P × P))) → All (λ r. IsBox has ts r.1) rows → AllByRecursion (λ r. length r.1 ≡ k) rows
@@ -137,7 +130,7 @@ module _ {T P L : Type 0} (n : P → ℤ) (has : T → P → Type 0) (high : T �
   right_numbers : map (grid_row ns) rs ≡ map (row_numbers n) right
   right_numbers =
       ap (map (grid_row ns)) over.rights
-      ∙ own_rows L n has high point ts ss all over.count over.numbered [] (length left) (map (λ (r : L × List (P × P)). r.1) left) right (sym count_left)
+      ∙ own_rows L n has high point ts ss all over.count over.numbered [] (length left) (map (λ (r : L × List (P × P)). r.1) left) right (sym (length-map left (λ (r : L × List (P × P)). r.1)))
       (ap (λ ys. map (λ (r : L × List (P × P)). r.1) left ++ ys) (sym (append-nil (map (λ (r : L × List (P × P)). r.1) right)))) (sided right over.right_boxes)
 
   -- at points they have what the rows have
@@ -173,12 +166,12 @@ module _ {T P L : Type 0} (n : P → ℤ) (has : T → P → Type 0) (high : T �
       omega arith
 
   fits : {X : Type 0} (rows : List (X × List (ℕ × ℕ))) → AreOn k ss rows → AllByRecursion (Fit X n has high point ts ss all over.count over.numbered) rows
-  fits {X = X} rows on = of_members (Fit X n has high point ts ss all over.count over.numbered) rows (λ z m.
+  fits {X = X} rows on = each_from_members (Fit X n has high point ts ss all over.count over.numbered) rows (λ z m.
       let w = on z m in
       (w.0 ∙ sym (count_sides X), in_grid start (cuts X) z.1 (length (cuts X)) (λ j b. below X z.1 w.1 j b)))
 
   lows : {X : Type 0} (rows : List (X × List (ℕ × ℕ))) → AreOn k ss rows → AllByRecursion (Low X n has high point ts ss all over.count over.numbered) rows
-  lows {X = X} rows on = of_members (Low X n has high point ts ss all over.count over.numbered) rows (λ z m. (on z m).1)
+  lows {X = X} rows on = each_from_members (Low X n has high point ts ss all over.count over.numbered) rows (λ z m. (on z m).1)
 
   -- ---- rows at a place of points
 

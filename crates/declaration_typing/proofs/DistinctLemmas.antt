@@ -1,12 +1,11 @@
 -- Lists without repeats, and what holds of each member, where one more is put in.
-use Rattle.std.proofs.Common.{◌≡◌, ℕ, zero, suc, Bool, true, false, List, [], ◌∷◌, ◌++◌, nat_eq, refl, sym, ◌∙◌, subst, arith}
+use Rattle.std.proofs.Common.{◌≡◌, ℕ, zero, suc, Bool, true, false, List, [], ◌∷◌, ◌++◌, nat_eq, refl, sym, ◌∙◌, arith}
 use Rattle.std.proofs.lemmas.Bool.{or_parts, true≢false, eqb-true, eq-eqb}
-use Rattle.std.proofs.lemmas.List.{append-nil}
 use Rattle.std.specs.List.{All, AllByRecursion, IsDistinct, list_any}
 use Rattle.std.specs.Str.{bytes_eq}
+use Rattle.base_core.proofs.ListLemmas.{bytes_eq-sym}
 use Rattle.value_core.specs.Attributes.{among}
 use Rattle.value_core.specs.Values.{Name}
-use Rattle.tree_typing.proofs.NameLemmas.{either-side}
 
 pub all-between : {X : Type 0} (P : X → Type 0) (xs : List X) (n : X) (ys : List X) → AllByRecursion P (xs ++ ys) → P n → AllByRecursion P (xs ++ n ∷ ys)
 all-between P [] n ys h p = (p, h)
@@ -19,9 +18,6 @@ unfolding IsDistinct
 distinct-between e [] n ys d before after = (after, d)
 distinct-between e (x ∷ xs) n ys d before after =
     (all-between (λ y. e x y ≡ false) xs n ys d.0 before.0, distinct-between e xs n ys d.1 before.1 after)
-
-pub distinct-push : {X : Type 0} (e : X → X → Bool) (xs : List X) (n : X) → IsDistinct e xs → AllByRecursion (λ x. e x n ≡ false) xs → IsDistinct e (xs ++ n ∷ [])
-distinct-push {X} e xs n d before = distinct-between e xs n [] (subst (λ (l : List X). IsDistinct e l) (sym (append-nil xs)) d) before tt
 
 pub no-distinct : {X : Type 0} (e : X → X → Bool) → IsDistinct e []
 unfolding IsDistinct
@@ -41,7 +37,7 @@ pub none-named : (names : List Name) (name : Name) → list_any (bytes_eq name) 
 none-named [] name e = tt
 none-named (n ∷ names) name e =
     let parts = or_parts (bytes_eq name n) (list_any (bytes_eq name) names) e in
-    (either-side n name ∙ parts.0, none-named names name parts.1)
+    (bytes_eq-sym n name ∙ parts.0, none-named names name parts.1)
 
 same-numbers : (i j : ℕ) → nat_eq i j ≡ nat_eq j i
 same-numbers i j =

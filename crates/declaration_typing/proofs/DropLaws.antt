@@ -6,6 +6,7 @@ use Rattle.std.specs.Option.{option_map}
 use Rattle.std.specs.Str.{bytes_eq}
 use Rattle.std.proofs.lemmas.Bool.{or_parts, not-true}
 use Rattle.std.proofs.lemmas.List.{append-nil}
+use Rattle.base_core.proofs.ListLemmas.{bytes_eq-sym}
 use Rattle.point_core.specs.declared.fault.Code.TheVariants.{E10, E21}
 use Rattle.point_core.specs.declared.fault.Place.{Place}
 use Rattle.utd_syntax.specs.Plain.{Word}
@@ -22,9 +23,9 @@ use Rattle.meaning_core.specs.Histories.{joined_history, last_point, type_at, na
 use Rattle.meaning_core.specs.Typing.{heading_named, IsTypedTree}
 use Rattle.meaning_core.specs.WellMade.{sizes_of, headings_of, FitsHeadings, IsBase, IsConstraint, rule_among, IsOfRule, IsHistory, IsRelvar, AreRelvars, IsWellMade}
 use Rattle.meaning_core.proofs.MadeLemmas.{same_name}
+use Rattle.meaning_core.proofs.RelvarLemmas.{heading_of_named}
 use Rattle.node_typing.specs.Positions.{check}
 use Rattle.declaration_typing.specs.Drops.{names_in, references, relvar_names, is_used, dropped}
-use Rattle.tree_typing.proofs.NameLemmas.{either-side}
 use Rattle.declaration_typing.proofs.PositionLemmas.{held}
 
 module _ (name : Name) where
@@ -59,17 +60,9 @@ module _ (name : Name) where
       by-test false e more =
           ap (λ (l : Entries). relvar_named l other) (kept r es e) ∙ ap (λ (o : Option PlainRelvar). if bytes_eq r.0 other then Some r.1 else o) more
 
-  heading-of-named : (es : Entries) (other : Name) → heading_named (headings_of es) other ≡ option_map relvar_heading (relvar_named es other)
-  heading-of-named [] other = refl
-  heading-of-named (r ∷ es) other =
-      elim (bytes_eq r.0 other) as (λ (b : Bool). (if b then Some (relvar_heading r.1) else heading_named (headings_of es) other) ≡ option_map relvar_heading (if b then Some r.1 else relvar_named es other)) [
-        | true ↦ refl
-        | false ↦ heading-of-named es other
-      ]
-
   heading-dropped : (es : Entries) (other : Name) → bytes_eq name other ≡ false → heading_named (headings_of es) other ≡ heading_named (headings_of (rest_of es)) other
   heading-dropped es other apart =
-      heading-of-named es other ∙ (ap (option_map relvar_heading) (sym (named-dropped es other apart)) ∙ sym (heading-of-named (rest_of es) other))
+      heading_of_named es other ∙ (ap (option_map relvar_heading) (sym (named-dropped es other apart)) ∙ sym (heading_of_named (rest_of es) other))
 
   -- ---- expressions and constraints that do not name it
 
@@ -163,7 +156,7 @@ module _ (name : Name) where
   relvar-dropped sizes before own (view t history) other apart is = (tree-dropped sizes before t apart is.0, history-dropped before t history apart is.1)
 
   named-not : (own : Name) (r : PlainRelvar) → bytes_eq own name ≡ false → (not (bytes_eq name own) && relvar_names name r) ≡ false → relvar_names name r ≡ false
-  named-not own r other e = sym (ap (λ (b : Bool). not b && relvar_names name r) (either-side name own ∙ other)) ∙ e
+  named-not own r other e = sym (ap (λ (b : Bool). not b && relvar_names name r) (bytes_eq-sym name own ∙ other)) ∙ e
 
   relvars-dropped : (sizes : List ℕ) (before entries : Entries) → is_used entries name ≡ false → AreRelvars sizes before entries → AreRelvars sizes (rest_of before) (rest_of entries)
   relvars-dropped sizes before [] unused all = tt

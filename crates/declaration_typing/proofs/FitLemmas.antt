@@ -23,10 +23,12 @@ use Rattle.meaning_core.specs.Meanings.{positions_of}
 use Rattle.meaning_core.specs.Typing.{IsList}
 use Rattle.meaning_core.specs.WellMade.{AreDifferent, AreAlike, AreAmong, FitsHeadings, IsBase, IsConstraint}
 use Rattle.meaning_core.proofs.MadeLemmas.{same_name}
+use Rattle.meaning_core.proofs.PositionLemmas.{no_list}
+use Rattle.meaning_core.proofs.RelvarLemmas.{named_before}
 use Rattle.node_typing.specs.Positions.{check}
 use Rattle.node_typing.specs.Lists.{names_of_words, words_of, name_checked, names_checked, list_checked}
 use Rattle.declaration_typing.specs.Constraints.{base_heading, heading_there, positions_there, reference_typed, names_typed, list_typed, kept_by, listed_key, constraint_typed, constraints_typed}
-use Rattle.declaration_typing.proofs.DistinctLemmas.{no-distinct, all-push}
+use Rattle.declaration_typing.proofs.DistinctLemmas.{all-push}
 use Rattle.declaration_typing.proofs.PositionLemmas.{held, positions_at, AreAt, key-at, AreThere, there-from, are-alike, different-there}
 
 pub both-hold : {X : Type 0} (P Q : X → Type 0) (r : OrFault X) → IfOk r P → IfOk r Q → IfOk r (λ x. P x × Q x)
@@ -43,15 +45,6 @@ named-none (k ∷ before) more name e = by-test (bytes_eq k.0 name) e (named-non
     by-test : (b : Bool) → (if b then Some k.1 else relvar_named before name) ≡ None → (relvar_named before name ≡ None → relvar_named (before ++ more) name ≡ relvar_named more name)
         → (if b then Some k.1 else relvar_named (before ++ more) name) ≡ relvar_named more name
     by-test true f h = absurd (cc)
-    by-test false f h = h f
-
-pub named-some : (before more : Entries) (name : Name) (x : PlainRelvar) → relvar_named before name ≡ Some x → relvar_named (before ++ more) name ≡ Some x
-named-some [] more name x e = absurd (cc)
-named-some (k ∷ before) more name x e = by-test (bytes_eq k.0 name) e (named-some before more name x)
-  where
-    by-test : (b : Bool) → (if b then Some k.1 else relvar_named before name) ≡ Some x → (relvar_named before name ≡ Some x → relvar_named (before ++ more) name ≡ Some x)
-        → (if b then Some k.1 else relvar_named (before ++ more) name) ≡ Some x
-    by-test true f h = f
     by-test false f h = h f
 
 -- ---- lists
@@ -79,14 +72,6 @@ kept-among h key (w ∷ words) =
     then-more here (Ok _) there = and_from (among key (position_of h w.bytes)) (list_all (among key) (positions_of h (names_of_words words))) here there
     then-more here (Err e) there = tt
 
-no-list : (h : Heading) → IsList h []
-no-list h = record {
-  within = λ k d l. absurd (omega (arith, l));
-  different = no-distinct _;
-  spans = refl;
-  few = omega arith;
-}
-
 -- what a check of a list tells of its positions
 abbrev pub ListsAreSound : Heading → Type 0
 ListsAreSound h = (list : NameListP) → IfOk (list_checked h h list) (λ names. IsList h (positions_of h names))
@@ -107,7 +92,7 @@ module _ (s : State) (own : Name) (heading : Heading) (others : List Constraint)
   found-base : (at : Place) (name : Name) (o : Option PlainRelvar) → relvar_named s.relvars name ≡ o → IfOk (base_heading at o) (λ g. IsBaseOf g (relvar_named with_own name))
   found-base at name None e = tt
   found-base at name (Some (base value constraints)) e =
-      subst (IsBaseOf value.heading) (sym (named-some s.relvars ((own, own_relvar) ∷ []) name (base value constraints) e)) (tt, refl)
+      subst (IsBaseOf value.heading) (sym (named_before s.relvars ((own, own_relvar) ∷ []) name (base value constraints) e)) (tt, refl)
   found-base at name (Some (view t history)) e = tt
 
   own-base : (name : Name) → bytes_eq own name ≡ true → IsBaseOf heading (relvar_named with_own name)
@@ -176,7 +161,7 @@ module _ (s : State) (own : Name) (heading : Heading) (others : List Constraint)
       then-sound (AreAt heading [] words) (IsConstraint s.relvars own own_relvar) (names_typed heading (syntax.Names brace words)) _ (key-at heading words) (λ key here. here.different)
   constraint-fits (syntax.ForeignOf (syntax.Foreign at (syntax.Names brace words) w)) =
       then-sound (AreAt heading [] words) (IsConstraint s.relvars own own_relvar) (names_typed heading (syntax.Names brace words)) _ (key-at heading words) (λ key here.
-      reference-fits [] key brace words w (no-list heading) refl here)
+      reference-fits [] key brace words w (no_list heading) refl here)
   constraint-fits (syntax.PackedOn at list) =
       then-sound (IsListOf (words_of list)) (IsConstraint s.relvars own own_relvar) (list_typed heading list) _ (listed-positions list) (λ acl is. is.0)
   constraint-fits (syntax.WhenUnpacked at list (syntax.Key here (syntax.Names brace words))) =

@@ -67,7 +67,7 @@ facts-are s h (syntax.Key at (syntax.Names brace words)) headed =
 
 -- ---- the attributes beside them
 
-new-attribute : (h : Heading) (w : Word) → IfOk (new_attribute h w) (λ name. has_name h name ≡ false)
+pub new-attribute : (h : Heading) (w : Word) → IfOk (new_attribute h w) (λ name. has_name h name ≡ false)
 new-attribute h w =
     then-sound (λ (_ : Name). Unit {0}) (λ (name : Name). has_name h name ≡ false) (name_typed w) _ (any-given (name_typed w)) (λ name _. by-test name (has_name h name) refl)
   where

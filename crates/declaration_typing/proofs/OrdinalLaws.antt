@@ -5,6 +5,7 @@ use Rattle.std.specs.List.{AllByRecursion, IsDistinct}
 use Rattle.std.specs.Str.{bytes_eq}
 use Rattle.std.proofs.lemmas.Bool.{leb-true, ltb-true, not-true}
 use Rattle.std.proofs.lemmas.List.{map-append, length-append}
+use Rattle.base_core.proofs.ListLemmas.{IsDistinct-push, bytes_eq-sym}
 use Rattle.point_core.specs.declared.fault.Code.TheVariants.{E15, E22}
 use Rattle.utd_syntax.specs.Plain as syntax
 use Rattle.utd_syntax.specs.Plain.{Word, SomeNamesP}
@@ -20,9 +21,8 @@ use Rattle.node_typing.specs.Lists.{named_in}
 use Rattle.node_typing.specs.Positions.{check}
 use Rattle.declaration_typing.specs.Names.{new_name}
 use Rattle.declaration_typing.specs.Ordinals.{with_value, values_typed, few_values, ordinal_declared}
-use Rattle.declaration_typing.proofs.DistinctLemmas.{distinct-push, distinct-between, no-distinct, none-named, all-push}
+use Rattle.declaration_typing.proofs.DistinctLemmas.{distinct-between, no-distinct, none-named, all-push}
 use Rattle.declaration_typing.proofs.MoreTypes.{relvars-more}
-use Rattle.tree_typing.proofs.NameLemmas.{either-side}
 use Rattle.declaration_typing.proofs.PositionLemmas.{held}
 use Rattle.declaration_typing.proofs.StateLemmas.{AreOther, IsFree, free-name}
 
@@ -37,7 +37,7 @@ one-more before w least are =
     then-sound (λ (_ : Name). Unit {0}) (AreValues (suc least)) (name_typed w) _ (any-given (name_typed w)) (λ name _.
     then-sound (λ (_ : Unit {0}). IsTrue (not (named_in before name))) (AreValues (suc least)) (check w.place E15 (not (named_in before name))) _ (held w.place E15 (not (named_in before name))) (λ _ new.
     let long = length-append before (name ∷ []) in
-    (omega (arith, long, are.0), distinct-push bytes_eq before name are.1 (none-named before name (not-true (named_in before name) new)))))
+    (omega (arith, long, are.0), IsDistinct-push bytes_eq before name are.1 (none-named before name (not-true (named_in before name) new)))))
 
 values-from : (words : List Word) (before : List Name) (least : ℕ) → AreValues least before → IfOk (values_typed before words) (AreValues least)
 values-from [] before least are = are
@@ -63,7 +63,7 @@ few-make (syntax.SomeNames at first more) =
 
 others-from : (name : Name) (names : List Name) → AreOther name names → AllByRecursion (λ n. bytes_eq name n ≡ false) names
 others-from name [] h = tt
-others-from name (n ∷ names) h = (either-side name n ∙ h.0, others-from name names h.1)
+others-from name (n ∷ names) h = (bytes_eq-sym name n ∙ h.0, others-from name names h.1)
 
 abbrev with_type : State → OrdinalNames → State
 with_type s o = record s { ordinals = s.ordinals ++ o ∷ [] }

@@ -5,6 +5,7 @@ use Rattle.std.specs.List.{All, AllByRecursion, IsDistinct}
 use Rattle.std.specs.Str.{bytes_eq}
 use Rattle.std.proofs.lemmas.Bool.{true≢false, false_from_ne_true, not-true, eqb-true, eq-eqb}
 use Rattle.std.proofs.lemmas.List.{append-nil}
+use Rattle.base_core.proofs.ListLemmas.{IsDistinct-push}
 use Rattle.point_core.specs.declared.fault.Place.{Place}
 use Rattle.point_core.specs.declared.fault.Code.{Code}
 use Rattle.point_core.specs.declared.fault.Code.TheVariants.{E12, E14, E15}
@@ -24,7 +25,7 @@ use Rattle.meaning_core.proofs.MadeLemmas.{same_name}
 use Rattle.node_typing.specs.Positions.{check, position_typed, new_position, positions_typed}
 use Rattle.node_typing.specs.Lists.{kind_named}
 use Rattle.declaration_typing.specs.Constraints.{position_there, positions_there}
-use Rattle.declaration_typing.proofs.DistinctLemmas.{distinct-push, no-distinct, all-push, not-among}
+use Rattle.declaration_typing.proofs.DistinctLemmas.{no-distinct, all-push, not-among}
 
 -- what is checked holds
 pub held : (place : Place) (code : Code) (b : Bool) → IfOk (check place code b) (λ _. IsTrue b)
@@ -93,7 +94,7 @@ more-at h before w words i positions at more = record {
 put-different : (h : Heading) (before : List ℕ) (w : Word) (i : ℕ) → AreDifferent h before → IsNewAt h before w i → AreDifferent h (before ++ i ∷ [])
 put-different h before w i d new = record {
   within = all-push (λ (j : ℕ). j < length h) before i d.within (subst (λ (j : ℕ). j < length h) (sym new.0.place) (position-named h w.bytes new.0.known).0);
-  different = distinct-push nat_eq before i d.different (not-among before i new.1);
+  different = IsDistinct-push nat_eq before i d.different (not-among before i new.1);
 }
 
 pub none-different : (h : Heading) → AreDifferent h []

@@ -1,10 +1,10 @@
 -- A well made state with one relvar or view more.
-use Rattle.std.specs.Prelude.{◌≡◌, ℕ, Bool, true, false, not, List, [], ◌∷◌, ◌++◌, map, Option, Some, None, is_some, IfOk, IsTrue, refl, if◌then◌else◌}
-use Rattle.std.proofs.Common.{sym, ◌∙◌, ap, subst, append_assoc}
+use Rattle.std.specs.Prelude.{◌≡◌, Bool, true, false, not, List, [], ◌∷◌, ◌++◌, map, Option, Some, None, is_some, IfOk, IsTrue, refl, if◌then◌else◌}
+use Rattle.std.proofs.Common.{◌∙◌, subst}
 use Rattle.std.specs.List.{AllByRecursion, IsDistinct, list_any}
 use Rattle.std.specs.Str.{bytes_eq}
 use Rattle.std.proofs.lemmas.Bool.{or_parts, not-true}
-use Rattle.std.proofs.lemmas.List.{append-nil, map-append}
+use Rattle.base_core.proofs.ListLemmas.{IsDistinct-push, bytes_eq-sym}
 use Rattle.point_core.specs.declared.fault.Code.TheVariants.{E11}
 use Rattle.utd_syntax.specs.Plain.{Word}
 use Rattle.value_core.specs.declared.list.OrdinalNames.{OrdinalNames}
@@ -13,11 +13,10 @@ use Rattle.scalar_typing.proofs.SoundLemmas.{then-sound, any-given}
 use Rattle.relation_typing.specs.Attributes.{name_typed}
 use Rattle.tree_core.specs.Relvars.{State, PlainRelvar, Entries, relvar_named}
 use Rattle.meaning_core.specs.Declarations.{with_relvar}
-use Rattle.meaning_core.specs.WellMade.{sizes_of, all_names, IsRelvar, AreRelvars, IsWellMade}
+use Rattle.meaning_core.specs.WellMade.{sizes_of, all_names, IsRelvar, IsWellMade}
+use Rattle.meaning_core.proofs.RelvarLemmas.{more_relvars, more_names}
 use Rattle.node_typing.specs.Positions.{check}
 use Rattle.declaration_typing.specs.Names.{is_taken, new_name}
-use Rattle.declaration_typing.proofs.DistinctLemmas.{distinct-push}
-use Rattle.tree_typing.proofs.NameLemmas.{either-side}
 use Rattle.declaration_typing.proofs.PositionLemmas.{held}
 
 -- ---- names that are free
@@ -37,7 +36,7 @@ other-ordinals : (name : Name) (types : List OrdinalNames) → list_any (λ o. b
 other-ordinals name [] e = tt
 other-ordinals name (o ∷ types) e =
     let parts = or_parts (bytes_eq name o.name) (list_any (λ t. bytes_eq name t.name) types) e in
-    (either-side o.name name ∙ parts.0, other-ordinals name types parts.1)
+    (bytes_eq-sym o.name name ∙ parts.0, other-ordinals name types parts.1)
 
 other-relvars : (name : Name) (entries : Entries) → relvar_named entries name ≡ None → AreOther name (map (λ r. r.0) entries)
 other-relvars name [] e = tt
@@ -68,23 +67,11 @@ free-name s w =
 
 -- ---- one relvar or view more
 
-more-relvars : (sizes : List ℕ) (before entries : Entries) (own : Name) (r : PlainRelvar) → AreRelvars sizes before entries → IsRelvar sizes (before ++ entries) own r
-    → AreRelvars sizes before (entries ++ (own, r) ∷ [])
-more-relvars sizes before [] own r all is = (subst (λ (es : Entries). IsRelvar sizes es own r) (append-nil before) is, tt)
-more-relvars sizes before (e ∷ entries) own r all is =
-    (all.0, more-relvars sizes (before ++ e ∷ []) entries own r all.1 (subst (λ (es : Entries). IsRelvar sizes es own r) (sym (append_assoc before (e ∷ []) entries)) is))
-
-more-names : (s : State) (own : Name) (r : PlainRelvar) → all_names s ++ own ∷ [] ≡ all_names (with_relvar s own r)
-more-names s own r =
-    let ordinals : List Name = map (λ o. o.name) s.ordinals in
-    append_assoc ordinals (map (λ (e : Name × PlainRelvar). e.0) s.relvars) (own ∷ [])
-    ∙ ap (λ (names : List Name). ordinals ++ names) (sym (map-append (λ (e : Name × PlainRelvar). e.0) s.relvars ((own, r) ∷ [])))
-
 pub with-relvar : (s : State) (own : Name) (r : PlainRelvar) → IsWellMade s → IsFree s own → IsRelvar (sizes_of s.ordinals) s.relvars own r → IsWellMade (with_relvar s own r)
 with-relvar s own r made free is = record {
   few = made.few;
   ordinals = made.ordinals;
-  different = subst (IsDistinct bytes_eq) (more-names s own r)
-      (distinct-push bytes_eq (all_names s) own made.different (other-both own (map (λ o. o.name) s.ordinals) (map (λ e. e.0) s.relvars) free.ordinals free.relvars));
-  relvars = more-relvars (sizes_of s.ordinals) [] s.relvars own r made.relvars is;
+  different = subst (IsDistinct bytes_eq) (more_names s own r)
+      (IsDistinct-push bytes_eq (all_names s) own made.different (other-both own (map (λ o. o.name) s.ordinals) (map (λ e. e.0) s.relvars) free.ordinals free.relvars));
+  relvars = more_relvars (sizes_of s.ordinals) [] s.relvars own r made.relvars is;
 }

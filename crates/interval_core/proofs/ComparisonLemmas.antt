@@ -1,5 +1,5 @@
 -- What two intervals' members tell of each other, their ends tell.
-use Rattle.std.proofs.Common.{◌≡◌, ◌⊎◌, ◌↔◌, inl, inr, ℤ, pos, ◌+ℤ◌, ◌≤ℤ◌, ◌<ℤ◌, Bool, true, not, ◌||◌, sym, ap₂, subst, arith}
+use Rattle.std.proofs.Common.{◌≡◌, ◌⊎◌, ◌↔◌, inl, inr, ℤ, pos, ◌+ℤ◌, ◌≤ℤ◌, ◌<ℤ◌, Bool, not, ◌||◌, sym, ap₂, subst, arith}
 use Rattle.std.specs.Prelude.{int_lt}
 use Rattle.std.specs.Bool.{IsTrue}
 use Rattle.std.specs.List.{list_all}
@@ -12,6 +12,7 @@ use Rattle.std.proofs.lemmas.Int.{ints, by_lt_z}
 use Rattle.base_core.proofs.SetLemmas.{In}
 use Rattle.base_core.proofs.MemberLemmas.{list_all-In, list_any-In}
 use Rattle.base_core.proofs.SetOperatorLemmas.{are_same-In}
+use Rattle.base_core.proofs.IntLemmas.{lt-int_lt, int_lt-lt}
 use Rattle.interval_core.specs.Members.{Span, members, has_member}
 use Rattle.interval_core.specs.Comparisons.{equals, includes, included_in, before, after, overlaps, meets, merges, begins, ends}
 use Rattle.interval_core.proofs.MembersLemmas.{In-members, has_member-between}
@@ -93,20 +94,14 @@ equals-ends i j l m =
           (λ k. subst (λ s. In p (members s)) e k, λ k. subst (λ s. In p (members s)) (sym e) k)),
     )
 
-lt_true : (a b : ℤ) → a <ℤ b → int_lt a b ≡ true
-lt_true a b h = grind (arith, ints)
-
-true_lt : (a b : ℤ) → int_lt a b ≡ true → a <ℤ b
-true_lt a b h = omega (arith, ints)
-
 pub before-ends : (i j : Span) → i.0 ≤ℤ i.1 → j.0 ≤ℤ j.1 → IsTrue (before i j) ↔ (i.1 <ℤ j.0)
 before-ends i j l m =
     let outer = list_all-In (λ p. list_all (λ q. int_lt p q) (members j)) (members i) in
     let inner = λ (p : ℤ). list_all-In (λ q. int_lt p q) (members j) in (
-      λ h. true_lt i.1 j.0 ((inner i.1).0 (outer.0 h i.1 ((In-members i i.1).1 (l, omega (arith, ints)))) j.0 ((In-members j j.0).1 (omega (arith, ints), m))),
+      λ h. int_lt-lt i.1 j.0 ((inner i.1).0 (outer.0 h i.1 ((In-members i i.1).1 (l, omega (arith, ints)))) j.0 ((In-members j j.0).1 (omega (arith, ints), m))),
       λ h. outer.1 (λ p k. (inner p).1 (λ q n.
           let a = (In-members i p).0 k in let b = (In-members j q).0 n in let a1 = a.1 in let b0 = b.0 in
-          lt_true p q (omega (arith, ints)))),
+          lt-int_lt p q (omega (arith, ints)))),
     )
 
 pub after-ends : (i j : Span) → i.0 ≤ℤ i.1 → j.0 ≤ℤ j.1 → IsTrue (after i j) ↔ (j.1 <ℤ i.0)

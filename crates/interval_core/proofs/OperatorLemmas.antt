@@ -18,7 +18,7 @@ use Rattle.interval_core.proofs.MembersLemmas.{In-members, has_member-between}
 
 -- ---- how many
 
-length-numbers_from : (n : ℕ) (b : ℤ) → length (numbers_from n b) ≡ n
+pub length-numbers_from : (n : ℕ) (b : ℤ) → length (numbers_from n b) ≡ n
 length-numbers_from zero b = refl
 length-numbers_from (suc n) b = let h = length-numbers_from n (b +ℤ pos 1) in omega (arith, h)
 

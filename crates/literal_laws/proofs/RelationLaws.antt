@@ -1,11 +1,14 @@
 -- The same of names that are made, headings, items and literals of relations.
 use Rattle.std.proofs.Common.{◌≡◌, ℕ, List, [], ◌∷◌, ◌++◌, Bool, true, false, ◌&&◌, ◌||◌, not, nat_le, length, Ok}
+use Rattle.std.proofs.lemmas.Bool.{and_from}
+use Rattle.base_core.proofs.BoolLemmas.{left_false}
 use Rattle.point_core.specs.declared.fault.Place.{Place}
 use Rattle.point_core.specs.declared.fault.Code.TheVariants.{E06, E13, E15, E17}
 use Rattle.utd_syntax.specs.declared.terminal.Terminal.TheVariants as t
 use Rattle.utd_syntax.specs.Plain as syntax
 use Rattle.utd_syntax.specs.Plain.{Word, ScalarP, KindP, AttributeP, HeadingP, ElementP, ElementsP, TupleP, LiteralP}
-use Rattle.utd_ranges.specs.Ranges.{Each, NameIn, ScalarIn, AttributeIn, HeadingIn, ElementIn, ElementsIn, TupleIn, LiteralIn, is_utf8, is_unwritten, has_no_value}
+use Rattle.utd_ranges.specs.Ranges.{Each, NameIn, ScalarIn, AttributeIn, HeadingIn, ElementIn, ElementsIn, TupleIn, LiteralIn, is_unwritten, has_no_value}
+use Rattle.value_core.specs.Lengths.{is_utf8}
 use Rattle.value_core.specs.declared.list.OrdinalNames.{OrdinalNames}
 use Rattle.value_core.specs.Headings.{has_name}
 use Rattle.value_core.specs.Limits.{most_attributes, most_name_bytes}
@@ -18,16 +21,16 @@ use Rattle.relation_typing.specs.Headings.{kind_typed, attributes_typed, heading
 use Rattle.relation_typing.specs.Items.{Made, none_made, item_typed, elements_typed}
 use Rattle.relation_typing.specs.Literals.{elements_made, tuple_typed, under_heading, next_tuple, tuples_typed, headed_typed, first_typed, literal_typed}
 use Rattle.literal_laws.specs.Refusals.{IsNotE06}
-use Rattle.literal_laws.proofs.Refused.{then-fine, if-fine, unless-fine, holds-fine, or-left, or-right, not-left, not-right, and-true}
+use Rattle.literal_laws.proofs.Refused.{then-fine, if-fine, unless-fine, holds-fine, or-right, not-left, not-right}
 use Rattle.literal_laws.proofs.ScalarLaws.{not-above, point-fine, scalar-fine}
 
 pub name-fine : (w : Word) → NameIn has_no_value w → IsNotE06 (name_typed w)
 name-fine w h =
-    let short : nat_le (length w.bytes) most_name_bytes ≡ true = not-above most_name_bytes (length w.bytes) (or-left _ (is_unwritten t.Name w.bytes) h) in
+    let short : nat_le (length w.bytes) most_name_bytes ≡ true = not-above most_name_bytes (length w.bytes) (left_false _ (is_unwritten t.Name w.bytes) h) in
     let written : not (is_utf8 w.bytes && nat_le 1 (length w.bytes)) ≡ false = or-right _ (is_unwritten t.Name w.bytes) h in
     holds-fine w.place E06 (is_name w.bytes) w.bytes
-    (and-true (is_utf8 w.bytes) _ (not-left (is_utf8 w.bytes) (nat_le 1 (length w.bytes)) written)
-    (and-true (nat_le 1 (length w.bytes)) _ (not-right (is_utf8 w.bytes) (nat_le 1 (length w.bytes)) written) short))
+    (and_from (is_utf8 w.bytes) _ (not-left (is_utf8 w.bytes) (nat_le 1 (length w.bytes)) written)
+    (and_from (nat_le 1 (length w.bytes)) _ (not-right (is_utf8 w.bytes) (nat_le 1 (length w.bytes)) written) short))
 
 pub new-name-fine : (attributes : Heading) (w : Word) → NameIn has_no_value w → IsNotE06 (new_name attributes w)
 new-name-fine attributes w h = then-fine (name_typed w) _ (name-fine w h) (λ name. unless-fine w.place E15 (λ e. cc) (has_name attributes name) name)

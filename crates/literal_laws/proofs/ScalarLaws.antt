@@ -1,5 +1,7 @@
 -- The typing of row expressions is not E06 where each name and literal in them stands for a name or a value.
 use Rattle.std.proofs.Common.{◌≡◌, ℕ, List, Bool, true, false, ◌&&◌, ◌||◌, not, Option, Some, None, nat_le, nat_lt, length, refl, arith}
+use Rattle.std.proofs.lemmas.Bool.{and_from}
+use Rattle.base_core.proofs.BoolLemmas.{left_false}
 use Rattle.point_core.specs.declared.fault.Place.{Place}
 use Rattle.point_core.specs.declared.fault.Code.TheVariants.{E06, E10, E12, E14}
 use Rattle.utd_syntax.specs.declared.terminal.Terminal.TheVariants as t
@@ -7,7 +9,8 @@ use Rattle.utd_syntax.specs.Literals.{value_of, is_date, has_control}
 use Rattle.utd_syntax.specs.Plain as syntax
 use Rattle.utd_syntax.specs.Plain.{Word, PointP, ScalarP, ConjP, NegP, CmpP, SumP, ProdP, SignP, PrimaryP}
 use Rattle.utd_syntax.specs.Table.{Plain, Negated, Dated}
-use Rattle.utd_ranges.specs.Ranges.{IsIn, NameIn, PointIn, ScalarIn, ConjIn, NegIn, CmpIn, SumIn, ProdIn, SignIn, PrimaryIn, is_utf8, is_unwritten, has_no_value}
+use Rattle.utd_ranges.specs.Ranges.{IsIn, NameIn, PointIn, ScalarIn, ConjIn, NegIn, CmpIn, SumIn, ProdIn, SignIn, PrimaryIn, is_unwritten, has_no_value}
+use Rattle.value_core.specs.Lengths.{is_utf8}
 use Rattle.value_core.specs.declared.list.OrdinalNames.{OrdinalNames}
 use Rattle.value_core.specs.Limits.{most_text_bytes}
 use Rattle.value_core.specs.Values.{Heading}
@@ -18,7 +21,7 @@ use Rattle.scalar_typing.specs.Names.{attribute_of, attribute_typed, ordinal_of,
 use Rattle.scalar_typing.specs.Operators.{not_rule, negate_rule, function_rule, sum_rule, product_rule, comparison_rule, pairing_rule, ends_of, selector_rule, one_typed, pair_typed, logic_typed}
 use Rattle.scalar_typing.specs.Scalars.{typed_scalar, typed_conj, typed_neg, typed_cmp, typed_sum, typed_prod, typed_sign, typed_primary}
 use Rattle.literal_laws.specs.Refusals.{IsNotE06}
-use Rattle.literal_laws.proofs.Refused.{then-fine, two-fine, value-fine, there-fine, or-left, or-right, not-left, not-false, and-true}
+use Rattle.literal_laws.proofs.Refused.{then-fine, two-fine, value-fine, there-fine, or-right, not-left, not-false}
 
 pub not-above : (most n : ℕ) → nat_lt most n ≡ false → nat_le n most ≡ true
 not-above most n h = search (arith, h)
@@ -26,19 +29,19 @@ not-above most n h = search (arith, h)
 -- ---- literals
 
 integer-fine : (at digits : Place) (bytes : List ℕ) → IsIn has_no_value Plain t.Digits bytes → IsNotE06 (integer_literal at digits (integer_of bytes))
-integer-fine at digits bytes h = then-fine (value_or digits E06 (integer_of bytes)) _ (there-fine digits E06 (nat_le (value_of bytes) 9223372036854775807) _ (not-above 9223372036854775807 (value_of bytes) (or-left _ (is_unwritten t.Digits bytes) h))) (λ n. tt)
+integer-fine at digits bytes h = then-fine (value_or digits E06 (integer_of bytes)) _ (there-fine digits E06 (nat_le (value_of bytes) 9223372036854775807) _ (not-above 9223372036854775807 (value_of bytes) (left_false _ (is_unwritten t.Digits bytes) h))) (λ n. tt)
 
 negative-fine : (at digits : Place) (bytes : List ℕ) → IsIn has_no_value Negated t.Digits bytes → IsNotE06 (integer_literal at digits (negative_of bytes))
-negative-fine at digits bytes h = then-fine (value_or digits E06 (negative_of bytes)) _ (there-fine digits E06 (nat_le (value_of bytes) 9223372036854775808) _ (not-above 9223372036854775808 (value_of bytes) (or-left _ (is_unwritten t.Digits bytes) h))) (λ n. tt)
+negative-fine at digits bytes h = then-fine (value_or digits E06 (negative_of bytes)) _ (there-fine digits E06 (nat_le (value_of bytes) 9223372036854775808) _ (not-above 9223372036854775808 (value_of bytes) (left_false _ (is_unwritten t.Digits bytes) h))) (λ n. tt)
 
 text-fine : (at : Place) (bytes : List ℕ) → IsIn has_no_value Plain t.Quoted bytes → IsNotE06 (text_literal at bytes)
 text-fine at bytes h =
-    let short : nat_le (length bytes) most_text_bytes ≡ true = not-above most_text_bytes (length bytes) (or-left _ (has_control bytes) (or-left _ (is_unwritten t.Quoted bytes) h)) in
+    let short : nat_le (length bytes) most_text_bytes ≡ true = not-above most_text_bytes (length bytes) (left_false _ (has_control bytes) (left_false _ (is_unwritten t.Quoted bytes) h)) in
     let valid : is_utf8 bytes ≡ true = not-left (is_utf8 bytes) _ (or-right _ (is_unwritten t.Quoted bytes) h) in
-    then-fine (value_or at E06 (text_of bytes)) _ (there-fine at E06 _ bytes (and-true (is_utf8 bytes) (nat_le (length bytes) most_text_bytes) valid short)) (λ b. tt)
+    then-fine (value_or at E06 (text_of bytes)) _ (there-fine at E06 _ bytes (and_from (is_utf8 bytes) (nat_le (length bytes) most_text_bytes) valid short)) (λ b. tt)
 
 date-fine : (at quoted : Place) (bytes : List ℕ) → IsIn has_no_value Dated t.Quoted bytes → IsNotE06 (date_literal at quoted bytes)
-date-fine at quoted bytes h = then-fine (value_or quoted E06 (date_of bytes)) _ (there-fine quoted E06 (is_date bytes) _ (not-false (is_date bytes) (or-left _ (is_unwritten t.Quoted bytes) h))) (λ n. tt)
+date-fine at quoted bytes h = then-fine (value_or quoted E06 (date_of bytes)) _ (there-fine quoted E06 (is_date bytes) _ (not-false (is_date bytes) (left_false _ (is_unwritten t.Quoted bytes) h))) (λ n. tt)
 
 -- ---- names that are looked for
 

@@ -1,5 +1,5 @@
 -- The rows of groups fit the heading that the aggregates make with that of the rows.
-use Rattle.std.proofs.Common.{◌≡◌, ℕ, zero, suc, ◌<◌, ◌≤◌, ℤ, pos, Bool, true, false, cond, List, [], ◌∷◌, ◌++◌, length, map, get_or, refl, sym, ap, ap₂, ◌∙◌, subst, arith, IsTrue, inl, inr, Ok, Err}
+use Rattle.std.proofs.Common.{◌≡◌, ℕ, zero, suc, ◌<◌, ◌≤◌, pos, Bool, true, false, cond, List, [], ◌∷◌, ◌++◌, length, map, get_or, refl, sym, ap, ap₂, ◌∙◌, subst, arith, IsTrue, inl, inr, Ok, Err}
 use Rattle.std.specs.List.{All, Contains, list_all, best_of, filter}
 use Rattle.std.proofs.lemmas.Bool.{and_parts, and_from}
 use Rattle.std.proofs.lemmas.Int.{ints}
@@ -22,10 +22,10 @@ use Rattle.value_core.specs.declared.kind.Kind.TheVariants.{Point}
 use Rattle.scalar_core.specs.Expressions.{Expr}
 use Rattle.scalar_core.specs.Operations.{integer, number_of}
 use Rattle.scalar_core.specs.ScalarValues.{value}
-use Rattle.scalar_core.proofs.KindLemmas.{value-fits}
+use Rattle.scalar_core.proofs.KindLemmas.{value-fits, integer-fits}
 use Rattle.scalar_core.proofs.PointLemmas.{number-is_number}
 use Rattle.relation_core.specs.Agreement.{names_of, part_of}
-use Rattle.relation_core.specs.Operators.{fault_order}
+use Rattle.point_core.specs.Orders.{fault_order}
 use Rattle.relation_core.specs.Parts.{no_attribute, attributes_at, projected}
 use Rattle.relation_core.proofs.FilterLemmas.{passes_at, list_all-filter, length-filter_at_most}
 use Rattle.relation_core.proofs.GroupLemmas.{group_key, rows_at-group, group_not_empty}
@@ -33,13 +33,14 @@ use Rattle.relation_core.specs.Groups.{group, groups, rows_at, has_part, summari
 use Rattle.relation_core.proofs.HeadingLemmas.{heading_ascends, within_by_members, projected_few}
 use Rattle.tree_core.specs.Trees.{PlainAggregateForm, count_rows, sum_of, min_of, max_of, PlainAggregate}
 use Rattle.u_summary.specs.Summaries.{total, is_before}
+use Rattle.relation_core.proofs.JoinLemmas.{fits_both}
 use Rattle.meaning_core.specs.Meanings.{limited}
 use Rattle.meaning_core.specs.Places.{places}
 use Rattle.meaning_core.specs.Rows.{extreme, values_over, aggregate_value, aggregates_on, aggregate_names, first_row, group_at, group_row}
 use Rattle.meaning_core.specs.Scalars.{AllOver, IsSummedOver, AreSummedOver}
 use Rattle.meaning_core.specs.Typing.{IsScalar, HasKind, Sums, IsSummary}
 use Rattle.meaning_core.proofs.LimitLemmas.{unlimited}
-use Rattle.meaning_core.proofs.MadeLemmas.{Attribute, IsFirst, IsAlone, first_append, first_in, one_in_order, alone_in, picked_fits, fits_append, one_more, split_ok}
+use Rattle.meaning_core.proofs.MadeLemmas.{Attribute, IsFirst, IsAlone, first_append, first_in, one_in_order, alone_in, picked_fits, one_more, split_ok}
 
 -- ---- values of a kind
 
@@ -70,11 +71,6 @@ tested : {F : Type 0} (b : Bool) (x w : Value) (f : F) → cond b (Ok x) (Err f)
 tested true x w f e = (refl, cc)
 tested false x w f e = absurd cc
 
-integer_fits : (place : Place) (z : ℤ) (w : Value) → integer place z ≡ Ok w → IsTrue (fits (Point Integer) w)
-integer_fits place z w e =
-    let parts = tested (is_number Integer z) (point integers z) w _ e in
-    subst (λ (x : Value). IsTrue (fits (Point Integer) x)) parts.1 parts.0
-
 over_fit : (sizes : List ℕ) (from : Heading) (e : Expr) (kind : Kind) (beats : Value → Value → Bool) (group : List Row) (v : Value) → IsScalar sizes from e kind → IsTrue (list_all (fits_heading from) group) → 0 < length group
     → then_give (values_over e group) (λ vs. Ok (extreme beats vs)) ≡ Ok v → IsTrue (fits kind v)
 over_fit sizes from e kind beats group v typed h l q =
@@ -95,7 +91,7 @@ aggregate_fits sizes from place count_rows kind group v h fit l few e =
     subst (λ (k : Kind). IsTrue (fits k v)) (sym h) (subst (λ (w : Value). IsTrue (fits (Point Integer) w)) same number)
 aggregate_fits sizes from place (sum_of e) kind group v h fit l few q =
     let parts = then_some (values_over e group) (λ vs. integer place (total (map number_of vs))) v q in
-    subst (λ (k : Kind). IsTrue (fits k v)) (sym h.1) (integer_fits place (total (map number_of parts.0)) v parts.2)
+    subst (λ (k : Kind). IsTrue (fits k v)) (sym h.1) (integer-fits place (total (map number_of parts.0)) v parts.2)
 aggregate_fits sizes from place (min_of e) kind group v h fit l few q = over_fit sizes from e kind is_before group v h.0 fit l q
 aggregate_fits sizes from place (max_of e) kind group v h fit l few q = over_fit sizes from e kind (λ w x. is_before x w) group v h.0 fit l q
 
@@ -152,7 +148,7 @@ grouped_fits sizes from to by aggregates at group y headed h is fit l few e =
     let names : aggregate_names aggregates ++ names_of from ≡ names_of (h.made ++ from) = ap (λ (ns : List Name). ns ++ names_of from) (sum_names sizes from aggregates h.made h.makes) ∙ sym (map-append (λ (a : Attribute). a.0) h.made from) in
     let made = aggregates_fit sizes from aggregates h.made group parts.0 h.makes fit l few parts.1 in
     let all : IsTrue (fits_heading to (part_of (places (names_of (h.made ++ from)) to) (parts.0 ++ first_row group))) =
-    picked_fits to (h.made ++ from) (parts.0 ++ first) (λ a i. first_of_summary from to h.made by a headed h.positions.within h.headed i) (fits_append h.made from parts.0 first made (first_fits from group fit l)) in
+    picked_fits to (h.made ++ from) (parts.0 ++ first) (λ a i. first_of_summary from to h.made by a headed h.positions.within h.headed i) (fits_both h.made from parts.0 first made (first_fits from group fit l)) in
     subst (λ (z : Row). IsTrue (fits_heading to z)) (ap (λ (ns : List Name). part_of (places ns to) (parts.0 ++ first_row group)) (sym names) ∙ (ap (λ (ps : List ℕ). part_of ps (parts.0 ++ first_row group)) (sym is) ∙ parts.2)) all
 
 -- ---- what is typed

@@ -5,3 +5,4 @@ pub mod LookupLemmas
 pub mod MadeLemmas
 pub mod RowlessLemmas
 pub mod PositionLemmas
+pub mod RelvarLemmas

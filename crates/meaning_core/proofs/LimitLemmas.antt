@@ -12,7 +12,8 @@ use Rattle.point_core.specs.contracts.fault.FaultOrd.TheImpl.Laws.{total-law}
 use Rattle.value_core.specs.Headings.{IsHeadingOf}
 use Rattle.value_core.specs.Values.{Name, Row, Heading, Relation, most_rows, rows_of, row_cmp}
 use Rattle.relation_core.proofs.HeadingLemmas.{heading_ascends, heading_in_order, projected_few}
-use Rattle.relation_core.specs.Operators.{fault_order, extended}
+use Rattle.relation_core.specs.Operators.{extended}
+use Rattle.point_core.specs.Orders.{fault_order}
 use Rattle.relation_core.specs.Answers.{under}
 use Rattle.relation_core.specs.Parts.{projected, renamed, positions_in, IsRenamed}
 use Rattle.meaning_core.specs.Meanings.{limited, renamed_rows}

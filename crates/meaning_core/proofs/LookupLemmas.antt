@@ -95,3 +95,6 @@ none_passes p xs e k l = none_before p xs (nat_lt (position_or_len p xs) (length
 pub given_none : (value : Option Relation) (entries : Entries) → given None value entries ≡ entries
 given_none value [] = refl
 given_none value (e ∷ rest) = ap (λ (es : Entries). e ∷ es) (given_none value rest)
+
+pub heading_read : (t : RelTree) → t.heading ≡ heading_of (read_tree t)
+heading_read t = operand_heading t (Ok []) (record { heading = t.heading; rows = [] }) refl

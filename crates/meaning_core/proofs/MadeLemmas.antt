@@ -20,6 +20,7 @@ use Rattle.relation_core.specs.Agreement.{names_of, position_of, part_of}
 use Rattle.relation_core.proofs.HeadingLemmas.{heading_ascends}
 use Rattle.scalar_core.specs.ScalarValues.{value}
 use Rattle.scalar_core.proofs.KindLemmas.{value-fits}
+use Rattle.relation_core.proofs.JoinLemmas.{fits_both}
 use Rattle.tree_core.specs.Trees.{PlainSets}
 use Rattle.meaning_core.specs.Places.{place_among, places}
 use Rattle.meaning_core.specs.Rows.{set_names, values_on, extended_at}
@@ -122,14 +123,6 @@ value_of_first a (b ∷ rest) (v ∷ vs) f h =
           (value_of_first a rest vs e.1 both.1)
     ]
 
-pub fits_append : (left right : Heading) (x y : Row) → IsTrue (fits_heading left x) → IsTrue (fits_heading right y) → IsTrue (fits_heading (left ++ right) (x ++ y))
-fits_append [] right [] y h k = k
-fits_append [] right (v ∷ x) y h k = absurd (true≢false (sym h))
-fits_append (a ∷ left) right [] y h k = absurd (true≢false (sym h))
-fits_append (a ∷ left) right (v ∷ x) y h k =
-    let both = and_parts (fits a.1 v) (fits_heading left x) h in
-    and_from (fits a.1 v) (fits_heading (left ++ right) (x ++ y)) both.0 (fits_append left right x y both.1 k)
-
 -- the row at the places of first attributes fits these
 pub picked_fits : (to heading : Heading) (row : Row) → ((a : Attribute) → In a to → IsFirst a heading) → IsTrue (fits_heading heading row)
     → IsTrue (fits_heading to (part_of (places (names_of heading) to) row))
@@ -199,7 +192,7 @@ extended_fits sizes from to sets at x y headed h is fit e =
     let names : set_names sets ++ names_of from ≡ names_of (h.made ++ from) = ap (λ (ns : List Name). ns ++ names_of from) (given_names sizes from sets h.made h.makes) ∙ sym (map-append (λ (a : Attribute). a.0) h.made from) in
     let made = given_fits sizes from sets h.made x parts.0 h.makes fit parts.1 in
     let all : IsTrue (fits_heading to (part_of (places (names_of (h.made ++ from)) to) (parts.0 ++ x))) =
-    picked_fits to (h.made ++ from) (parts.0 ++ x) (λ a i. first_of_extension from to h.made a headed h.headed i) (fits_append h.made from parts.0 x made fit) in
+    picked_fits to (h.made ++ from) (parts.0 ++ x) (λ a i. first_of_extension from to h.made a headed h.headed i) (fits_both h.made from parts.0 x made fit) in
     subst (λ (z : Row). IsTrue (fits_heading to z)) (ap (λ (ns : List Name). part_of (places ns to) (parts.0 ++ x)) (sym names) ∙ ap (λ (ps : List ℕ). part_of ps (parts.0 ++ x)) (sym is) ∙ parts.2) all
 
 -- ---- tuples

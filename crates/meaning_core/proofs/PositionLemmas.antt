@@ -4,6 +4,8 @@ use Rattle.std.proofs.Common.{◌≡◌, ℕ, zero, suc, ◌<◌, Bool, false, L
 use Rattle.std.specs.Cmp.Lexicographic.{texts_ties}
 use Rattle.std.specs.Ordering.{is_eq}
 use Rattle.std.specs.Str.{bytes_eq}
+use Rattle.std.specs.List.{IsDistinct}
+use Rattle.std.specs.Bool.{nat_eq}
 use Rattle.std.proofs.lemmas.List.Elements.{Contains-get_or}
 use Rattle.base_core.proofs.SetLemmas.{In, Ascends, In-from_Contains}
 use Rattle.base_core.proofs.SetOperatorLemmas.{AllAfter-In}
@@ -12,6 +14,7 @@ use Rattle.value_core.specs.Values.{Name, Heading, attribute_cmp}
 use Rattle.relation_core.specs.Agreement.{position_of}
 use Rattle.relation_core.specs.Parts.{no_attribute}
 use Rattle.meaning_core.specs.Meanings.{positions_of, names_at}
+use Rattle.meaning_core.specs.Typing.{IsList}
 use Rattle.meaning_core.proofs.MadeLemmas.{own_name}
 
 pub position-back : (heading : Heading) (i : ℕ) (d : Name × Kind) → Ascends attribute_cmp heading → i < length heading → position_of heading (get_or heading i d).0 ≡ i
@@ -28,3 +31,12 @@ pub positions-back : (heading : Heading) (positions : List ℕ) → Ascends attr
 positions-back heading [] up within = refl
 positions-back heading (i ∷ is) up within =
     ap₂ (λ (j : ℕ) (js : List ℕ). j ∷ js) (position-back heading i no_attribute up (within i (inl refl))) (positions-back heading is up (λ j m. within j (inr m)))
+
+-- ---- the list of no attributes
+
+pub none_differ : IsDistinct nat_eq []
+unfolding IsDistinct
+none_differ = tt
+
+pub no_list : (h : Heading) → IsList h []
+no_list h = record { within = λ j d l. absurd (omega (arith, l)); different = none_differ; spans = refl; few = omega arith }

@@ -10,7 +10,7 @@ use Rattle.value_core.specs.Values.{Name, Value, truth, point, Row, Heading}
 use Rattle.scalar_core.specs.Operations.{integer, number_of}
 use Rattle.scalar_core.specs.ScalarValues.{value}
 use Rattle.relation_core.specs.Agreement.{names_of, part_of}
-use Rattle.relation_core.specs.Operators.{fault_order}
+use Rattle.point_core.specs.Orders.{fault_order}
 use Rattle.u_summary.specs.Summaries.{total, is_before}
 use Rattle.scalar_core.specs.Expressions.{Expr}
 use Rattle.meaning_core.specs.Places.{places}

@@ -1,6 +1,6 @@
 -- The heading of a list of attributes is what their map comes to when each is put in turn.
 use Rattle.std.specs.Prelude.{◌≡◌, Bool, true, false, not, ◌||◌, cond, [], ◌∷◌, ◌++◌, Option, Some, None, refl}
-use Rattle.std.proofs.Common.{sym, ◌∙◌, ap, ap₂, subst, Ordering, Less, Equal, Greater}
+use Rattle.std.proofs.Common.{sym, ◌∙◌, ap, ap₂, subst, Less, Equal, Greater}
 use Rattle.std.specs.BTreeMap.{insert_entry}
 use Rattle.std.specs.Cmp.Lexicographic.{texts_ties, nat_list_cmp_total}
 use Rattle.std.specs.List.{list_any}
@@ -9,12 +9,14 @@ use Rattle.std.specs.Str.{bytes_eq}
 use Rattle.std.proofs.lemmas.Cmp.{tied_itself}
 use Rattle.base_core.specs.Sets.{placed, put, in_order}
 use Rattle.base_core.proofs.SetLemmas.{AllAfter, Ascends}
+use Rattle.base_core.proofs.OrderingLemmas.{is_eq-Equal}
 use Rattle.value_core.proofs.HeadingLemmas.{attribute_total}
 use Rattle.value_core.specs.declared.kind.Kind.{Kind}
 use Rattle.value_core.specs.Values.{Name, Heading, attribute_cmp, name_cmp}
 use Rattle.relation_core.specs.Agreement.{names_of}
 use Rattle.relation_core.proofs.ApartLemmas.{ascends_in_order}
 use Rattle.relation_core.proofs.AttributeLemmas.{name_is}
+use Rattle.relation_core.proofs.HeadingLemmas.{put_first}
 use Rattle.meaning_core.specs.Typing.{not_named}
 use Rattle.relation_typing.specs.Attributes.{with_attribute}
 use Rattle.node_typing.specs.Headings.{heading_of_list, made_beside, with_all}
@@ -26,11 +28,6 @@ is_at n m = is_eq (name_cmp n m)
 
 one-name : (n m : Name) → is_at n m ≡ true → n ≡ m
 one-name n m e = name_is n m (texts_ties n m ∙ e)
-
-equal-from : (r : Ordering) → is_eq r ≡ true → r ≡ Equal
-equal-from Less e = absurd cc
-equal-from Equal e = refl
-equal-from Greater e = absurd cc
 
 at-itself : (n : Name) → is_at n n ≡ true
 at-itself n = ap is_eq (tied_itself nat_list_cmp_total n)
@@ -133,7 +130,7 @@ module _ (n k : Name) (v : Kind) where
   insert-greater e o true true f g r =
       let one : n ≡ e.0 = one-name n e.0 f in
       let two : n ≡ k = one-name n k g in
-      let tied : name_cmp k e.0 ≡ Equal = subst (λ m. name_cmp m e.0 ≡ Equal) two (equal-from (name_cmp n e.0) f) in
+      let tied : name_cmp k e.0 ≡ Equal = subst (λ m. name_cmp m e.0 ≡ Equal) two (is_eq-Equal (name_cmp n e.0) f) in
       absurd (cc)
   insert-greater e o true false f g r = refl
   insert-greater e o false true f g r = refl
@@ -311,11 +308,6 @@ beside made from =
     ∙ (ap (λ k. or_kind k (last_in n made)) (sym (last-others n made from))
     ∙ (sym (last_in-append n made (not_named (names_of made) from)) ∙ sym (kind_in-in_order n (made ++ not_named (names_of made) from)))))))
 
--- a list in order is its heading
-placed-first : (x : Name × Kind) (h : Heading) → AllAfter attribute_cmp x h → put attribute_cmp x h ≡ x ∷ h
-placed-first x [] a = refl
-placed-first x (y ∷ h) a = ap (λ r. placed r x y h (put attribute_cmp x h)) a.0
-
 pub in-order-already : (h : Heading) → Ascends attribute_cmp h → heading_of_list h ≡ h
 in-order-already [] up = refl
-in-order-already (x ∷ h) up = ap (put attribute_cmp x) (in-order-already h up.1) ∙ placed-first x h up.0
+in-order-already (x ∷ h) up = ap (put attribute_cmp x) (in-order-already h up.1) ∙ put_first x h up.0

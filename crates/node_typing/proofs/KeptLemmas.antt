@@ -1,12 +1,13 @@
 -- The positions that a projection keeps ascend, and lie in the heading.
-use Rattle.std.specs.Prelude.{◌≡◌, ℕ, zero, suc, ◌+◌, ◌<◌, ◌≤◌, Bool, true, false, List, [], ◌∷◌, length, IsTrue, if◌then◌else◌}
-use Rattle.std.proofs.Common.{arith, refl, Less}
+use Rattle.std.specs.Prelude.{ℕ, zero, suc, ◌+◌, ◌<◌, ◌≤◌, Bool, true, false, List, [], ◌∷◌, length, IsTrue, if◌then◌else◌}
+use Rattle.std.proofs.Common.{arith}
 use Rattle.std.specs.List.{All}
 use Rattle.std.specs.Ordering.{nat_cmp}
-use Rattle.std.proofs.lemmas.Cmp.{by_ranked, nat_cmp_total, ranked}
+use Rattle.std.proofs.lemmas.Cmp.{nat_cmp_total}
 use Rattle.base_core.specs.Sets.{is_set}
 use Rattle.base_core.proofs.SetLemmas.{AllAfter, Ascends}
 use Rattle.base_core.proofs.SetOperatorLemmas.{is_set-Ascends}
+use Rattle.base_core.proofs.OrderingLemmas.{lt-nat_cmp}
 use Rattle.value_core.specs.Attributes.{among}
 use Rattle.value_core.specs.Values.{Heading}
 use Rattle.relation_core.specs.Agreement.{as_wanted}
@@ -28,19 +29,16 @@ kept-below wanted named n m (a ∷ rest) l =
 pub kept-within : (wanted : Bool) (named : List ℕ) (h : Heading) → All (λ (i : ℕ). i < length h) (kept wanted named h)
 kept-within wanted named h = kept-below wanted named 0 (length h) h (omega arith)
 
-less-from : (m n : ℕ) → m < n → nat_cmp m n ≡ Less
-less-from m n l = by_ranked (m < n) (m ≡ n) (n < m) (nat_cmp m n) (ranked m n (nat_cmp m n) refl) (λ e p. e) (λ e p. absurd (omega (arith, p))) (λ e p. absurd (omega (arith, p)))
-
 kept-after : (wanted : Bool) (named : List ℕ) (x n : ℕ) (h : Heading) → x < n → AllAfter nat_cmp x (kept_from wanted named n h)
 kept-after wanted named x n [] l = tt
 kept-after wanted named x n (a ∷ rest) l =
     let more = kept-after wanted named x (n + 1) rest (omega arith) in
     elim (as_wanted wanted (among named n)) as (λ b. AllAfter nat_cmp x (if b then n ∷ kept_from wanted named (n + 1) rest else kept_from wanted named (n + 1) rest)) [
-      | true ↦ (less-from x n l, more)
+      | true ↦ (lt-nat_cmp x n l, more)
       | false ↦ more
     ]
 
-kept-ascends : (wanted : Bool) (named : List ℕ) (n : ℕ) (h : Heading) → Ascends nat_cmp (kept_from wanted named n h)
+pub kept-ascends : (wanted : Bool) (named : List ℕ) (n : ℕ) (h : Heading) → Ascends nat_cmp (kept_from wanted named n h)
 kept-ascends wanted named n [] = tt
 kept-ascends wanted named n (a ∷ rest) =
     let more = kept-ascends wanted named (n + 1) rest in

@@ -1,4 +1,3 @@
-pub mod TreeLemmas
 pub mod HeadingLemmas
 pub mod KeptLemmas
 pub mod ListLemmas

@@ -2,7 +2,8 @@
 use Rattle.std.proofs.Common.{◌≡◌, ℕ, zero, suc, Bool, true, false, cond, ℤ, pos, negsuc, ◌+ℤ◌, ◌-ℤ◌, ◌≤ℤ◌, ◌<ℤ◌, List, [], ◌∷◌, ◌++◌, map, ◌↔◌, ◌⊎◌, inl, inr, arith, sym, ap, subst, refl, ◌∙◌}
 use Rattle.std.proofs.lemmas.Int.{ints, by_lt_z}
 use Rattle.std.proofs.lemmas.Bool.{and_parts, and_from, true≢false}
-use Rattle.std.specs.List.{filter, flat_map, list_all}
+use Rattle.std.specs.List.{filter, flat_map, list_all, All, AllByRecursion}
+use Rattle.std.proofs.lemmas.List.Elements.{All-from_recursion}
 use Rattle.interval_core.specs.Members.{Span, numbers_from, count_of, members}
 use Rattle.packing_core.specs.Covering.{Among}
 
@@ -72,3 +73,14 @@ all_among t (x ∷ xs) =
       λ e y h. let w = and_parts (t x) (list_all t xs) e in elim h [ inl v ↦ subst (λ z. t z ≡ true) v w.0 | inr v ↦ ih.0 w.1 y v ],
       λ h. and_from (t x) (list_all t xs) (h x (inl refl)) (ih.1 (λ y m. h y (inr m))),
     )
+
+pub all_from_members : {X : Type 0} (P : X → Type 0) (xs : List X) → ((x : X) → Among x xs → P x) → All P xs
+all_from_members P xs h = All-from_recursion P xs (go xs h)
+  where
+    go : (ys : List _) → ((x : _) → Among x ys → P x) → AllByRecursion P ys
+    go [] h = tt
+    go (y ∷ ys) h = (h y (inl refl), go ys (λ x w. h x (inr w)))
+
+pub each_from_members : {X : Type 0} (A : X → Type 0) (xs : List X) → ((x : X) → Among x xs → A x) → AllByRecursion A xs
+each_from_members A [] h = tt
+each_from_members A (x ∷ xs) h = (h x (inl refl), each_from_members A xs (λ y m. h y (inr m)))

@@ -82,9 +82,9 @@ onto_cells_last (i ∷ is) rest = onto_cells_last is (i ∷ rest) ∙ sym (assoc
     assoc [] b c = refl
     assoc (x ∷ a) b c = ap (λ z. x ∷ z) (assoc a b c)
 
-length_onto : (is rest : List ℕ) → length (onto_cells is rest) ≡ length is + length rest
-length_onto [] rest = omega arith
-length_onto (i ∷ is) rest = let w = length_onto is (i ∷ rest) in omega arith
+pub length_onto_cells : (is rest : List ℕ) → length (onto_cells is rest) ≡ length is + length rest
+length_onto_cells [] rest = omega arith
+length_onto_cells (i ∷ is) rest = let w = length_onto_cells is (i ∷ rest) in omega arith
 
 swap : (a b c : Bool) → (a && (b && c)) ≡ (c && (a && b))
 swap true true true = refl
@@ -103,7 +103,7 @@ has_cells_back zero y [] h e = sym (empty y)
 has_cells_back zero y (i ∷ is) h e = absurd (omega arith)
 has_cells_back (suc j) y [] h e = absurd (omega arith)
 has_cells_back (suc j) y (i ∷ is) h e =
-    let n : length (onto_cells is []) ≡ j = length_onto is [] ∙ (let m : length is ≡ j = omega arith in omega arith) in
+    let n : length (onto_cells is []) ≡ j = length_onto_cells is [] ∙ (let m : length is ≡ j = omega arith in omega arith) in
     let v : ℕ × ℕ = get_or y j no_cells in
     ap (λ b. leb v.0 i && (ltb i v.1 && b)) (has_cells_back j y is (omega arith) (omega arith))
     ∙ swap (leb v.0 i) (ltb i v.1) (has_place y (onto_cells is []))

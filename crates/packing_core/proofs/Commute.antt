@@ -2,6 +2,7 @@
 use Rattle.std.proofs.Common.{◌≡◌, ℕ, zero, suc, ◌<◌, ◌≤◌, ◌≢◌, ℤ, List, [], ◌∷◌, length, get_or, set, drop, ◌↔◌, arith, sym, subst, refl, get_or-set_other}
 use Rattle.std.proofs.Math.ListN.{length-set}
 use Rattle.std.proofs.lemmas.Int.{ints}
+use Rattle.std.proofs.Math.Seq.{drop-length}
 use Rattle.interval_core.specs.Members.{Span, at_point}
 use Rattle.packing_core.specs.Packed.{IsRun, IsPacked, IsPackedTo, packs, points_of, ArePoints, firsts, nowhere, onto, sides_back}
 use Rattle.packing_core.proofs.Runs.{IsRun-iff}
@@ -19,7 +20,7 @@ drop-set [] j v h = absurd (omega arith)
 drop-set (x ∷ xs) zero v h = refl
 drop-set (x ∷ xs) (suc j) v h = drop-set xs j v (omega arith)
 
-drop_at : (y : List Span) (j : ℕ) → j < length y → drop j y ≡ get_or y j nowhere ∷ drop (suc j) y
+pub drop_at : (y : List Span) (j : ℕ) → j < length y → drop j y ≡ get_or y j nowhere ∷ drop (suc j) y
 drop_at [] j h = absurd (omega arith)
 drop_at (x ∷ xs) zero h = refl
 drop_at (x ∷ xs) (suc j) h = drop_at xs j (omega arith)
@@ -58,15 +59,11 @@ pub IsPackedTo-is : (j : ℕ) (S : List ℤ → Type 0) (y : List Span) (rest : 
 IsPackedTo-is zero S y rest = refl
 IsPackedTo-is (suc j) S y rest = λ t. IsRun (λ p. IsPackedTo-is j S y (p ∷ rest) t) (get_or y j nowhere)
 
-ArePoints-none : (y : List Span) → drop (length y) y ≡ []
-ArePoints-none [] = refl
-ArePoints-none (x ∷ xs) = ArePoints-none xs
-
 -- the whole: packed on one side after the other is packed from the last side inward
 pub packs_is : (S : List ℤ → Type 0) (y : List Span) → packs (length y) (points_of S) y ↔ IsPacked (λ ps. S (onto ps [])) (sides_back (length y) y)
 packs_is S y =
     let w = packs_iff (length y) S y (omega arith) in
-    let e = ArePoints-none y in
+    let e = drop-length y in
     let k = IsPackedTo-is (length y) S y [] in
     let Q : List Span → Type 0 = λ zs. ArePoints zs × IsPackedTo (length y) S y (firsts zs) in (
       λ g. let q : Q [] = subst Q e (w.0 g) in subst (λ T. T) k q.1,

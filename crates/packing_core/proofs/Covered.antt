@@ -5,9 +5,10 @@ use Rattle.std.specs.List.{AllByRecursion}
 use Rattle.std.proofs.lemmas.Int.{ints}
 use Rattle.std.proofs.lemmas.Bool.{and_parts, cases_Bool}
 use Rattle.std.proofs.lemmas.Bool.Decides.{nat_tests}
+use Rattle.base_core.proofs.BoolLemmas.{same_bool}
+use Rattle.base_core.proofs.IntLemmas.{int_le-le, le-int_le}
 use Rattle.packing_core.specs.Covering.{has, passing}
 use Rattle.packing_core.proofs.Cells.{Cuts, OnGrid, box_of, rises_far, order_of_cells}
-use Rattle.packing_core.proofs.PackedBoxes.{true_le}
 
 -- each side is of cells below the count
 abbrev pub IsInGrid : List Cuts → List (ℕ × ℕ) → Type 0
@@ -15,24 +16,16 @@ IsInGrid [] xs = Unit {0}
 IsInGrid (g ∷ gs) [] = Unit {0}
 IsInGrid (g ∷ gs) (x ∷ xs) = (x.1 ≤ g.count) × IsInGrid gs xs
 
-same_bool : (a b : Bool) → (a ≡ true → b ≡ true) → (b ≡ true → a ≡ true) → a ≡ b
-same_bool true b f g = sym (f refl)
-same_bool false true f g = g refl
-same_bool false false f g = refl
-
-le_true : (a b : ℤ) → a ≤ℤ b → int_le a b ≡ true
-le_true a b h = grind (arith, ints)
-
 -- the span of cells has a number of the cell i exactly where it has i
 pub first_test : (g : Cuts) (x : ℕ × ℕ) (i : ℕ) (p : ℤ) → g.at i ≤ℤ p → p <ℤ g.at (suc i) → int_le (g.at x.0) p ≡ leb x.0 i
 first_test g x i p a b = same_bool _ _
-    (λ h. let k : g.at x.0 ≤ℤ p = true_le (g.at x.0) p h in let l : x.0 < suc i = order_of_cells g x.0 (suc i) (omega (arith, ints)) in grind (arith, nat_tests))
-    (λ h. let l : x.0 ≤ i = grind (arith, nat_tests) in let f = rises_far g x.0 i l in le_true (g.at x.0) p (omega (arith, ints)))
+    (λ h. let k : g.at x.0 ≤ℤ p = int_le-le (g.at x.0) p h in let l : x.0 < suc i = order_of_cells g x.0 (suc i) (omega (arith, ints)) in grind (arith, nat_tests))
+    (λ h. let l : x.0 ≤ i = grind (arith, nat_tests) in let f = rises_far g x.0 i l in le-int_le (g.at x.0) p (omega (arith, ints)))
 
 pub last_test : (g : Cuts) (x : ℕ × ℕ) (i : ℕ) (p : ℤ) → g.at i ≤ℤ p → p <ℤ g.at (suc i) → int_le p (g.at x.1 -ℤ pos 1) ≡ ltb i x.1
 last_test g x i p a b = same_bool _ _
-    (λ h. let k : p ≤ℤ (g.at x.1 -ℤ pos 1) = true_le p (g.at x.1 -ℤ pos 1) h in let l : i < x.1 = order_of_cells g i x.1 (omega (arith, ints)) in grind (arith, nat_tests))
-    (λ h. let l : i < x.1 = grind (arith, nat_tests) in let f = rises_far g (suc i) x.1 l in le_true p (g.at x.1 -ℤ pos 1) (omega (arith, ints)))
+    (λ h. let k : p ≤ℤ (g.at x.1 -ℤ pos 1) = int_le-le p (g.at x.1 -ℤ pos 1) h in let l : i < x.1 = order_of_cells g i x.1 (omega (arith, ints)) in grind (arith, nat_tests))
+    (λ h. let l : i < x.1 = grind (arith, nat_tests) in let f = rises_far g (suc i) x.1 l in le-int_le p (g.at x.1 -ℤ pos 1) (omega (arith, ints)))
 
 -- whether the first side has the number
 abbrev head_has : Cuts → List (ℕ × ℕ) → ℤ → Bool
@@ -64,8 +57,8 @@ head_inside : (g : Cuts) (gs : List Cuts) (r : List (ℕ × ℕ)) (p : ℤ) → 
 head_inside g gs [] p h e = cc
 head_inside g gs (x ∷ xs) p h e =
     let w = and_parts (int_le (g.at x.0) p) (int_le p (g.at x.1 -ℤ pos 1)) e in
-    let a : g.at x.0 ≤ℤ p = true_le (g.at x.0) p w.0 in
-    let b : p ≤ℤ (g.at x.1 -ℤ pos 1) = true_le p (g.at x.1 -ℤ pos 1) w.1 in
+    let a : g.at x.0 ≤ℤ p = int_le-le (g.at x.0) p w.0 in
+    let b : p ≤ℤ (g.at x.1 -ℤ pos 1) = int_le-le p (g.at x.1 -ℤ pos 1) w.1 in
     let f = rises_far g 0 x.0 (omega arith) in
     let k = rises_far g x.1 g.count h.0 in
     (omega (arith, ints), omega (arith, ints))

@@ -2,6 +2,7 @@
 use Rattle.std.proofs.Common.{◌≡◌, ℕ, zero, suc, ◌+◌, ◌<◌, ◌≤◌, Bool, true, false, cond, ◌&&◌, ◌≢◌, List, [], ◌∷◌, ◌++◌, length, get_or, ◌↔◌, ◌⊎◌, inl, inr, arith, sym, ap, subst, refl, ◌∙◌, Ordering}
 use Rattle.std.specs.Cmp.{IsTotalOrder}
 use Rattle.std.specs.List.{filter, AllByRecursion}
+use Rattle.std.proofs.Math.Bool.{and-true}
 use Rattle.packing_core.specs.Packed.{IsIndexRun, IsIndexPackedTo, no_cells}
 use Rattle.packing_core.specs.Pieces.{Covers, AreApart, HasPiece}
 use Rattle.packing_core.specs.declared.Piece.{Piece}
@@ -14,14 +15,10 @@ assoc : (a b c : Bool) → (a && (b && c)) ≡ ((a && b) && c)
 assoc true b c = refl
 assoc false b c = refl
 
-both_true : (a : Bool) → (a && true) ≡ a
-both_true true = refl
-both_true false = refl
-
 -- the last cell of a place is looked for in the side after the others
 pub has_last : (y : List (ℕ × ℕ)) (place : List ℕ) (i : ℕ) → length place < length y → has_place y (place ++ i ∷ []) ≡ (has_place y place && span_has (get_or y (length place) no_cells) i)
 has_last [] place i h = absurd (omega arith)
-has_last (x ∷ xs) [] i h = both_true (span_has x i)
+has_last (x ∷ xs) [] i h = and-true (span_has x i)
 has_last (x ∷ xs) (p ∷ ps) i h = ap (λ b. span_has x p && b) (has_last xs ps i (omega arith)) ∙ assoc (span_has x p) _ _
 
 pub filter_where : {X : Type 0} (t u : X → Bool) (P : X → Type 0) (xs : List X) → AllByRecursion P xs → ((x : X) → P x → t x ≡ u x) → filter t xs ≡ filter u xs
@@ -32,7 +29,7 @@ filter_twice : {X : Type 0} (t u : X → Bool) (xs : List X) → filter (λ x. t
 filter_twice t u [] = refl
 filter_twice t u (x ∷ xs) =
     elim (u x) as (λ b. cond (t x && b) (x ∷ filter (λ y. t y && u y) xs) (filter (λ y. t y && u y) xs) ≡ filter t (cond b (x ∷ filter u xs) (filter u xs))) [
-      | true ↦ ap (λ b. cond b (x ∷ filter (λ y. t y && u y) xs) (filter (λ y. t y && u y) xs)) (both_true (t x)) ∙ (λ i. cond (t x) (x ∷ filter_twice t u xs i) (filter_twice t u xs i))
+      | true ↦ ap (λ b. cond b (x ∷ filter (λ y. t y && u y) xs) (filter (λ y. t y && u y) xs)) (and-true (t x)) ∙ (λ i. cond (t x) (x ∷ filter_twice t u xs i) (filter_twice t u xs i))
       | false ↦ ap (λ b. cond b (x ∷ filter (λ y. t y && u y) xs) (filter (λ y. t y && u y) xs)) (no_both (t x)) ∙ filter_twice t u xs
     ]
   where

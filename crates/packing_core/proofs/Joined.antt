@@ -1,10 +1,12 @@
 -- Pieces in order and apart are the longest runs of what they cover.
 use Rattle.std.proofs.Common.{◌≡◌, ℕ, zero, suc, ◌<◌, ◌≤◌, List, [], ◌∷◌, ◌++◌, length, take, set, get_or, ◌↔◌, ◌⊎◌, inl, inr, arith, sym, ap, subst, refl, ◌∙◌, Ordering, max}
-use Rattle.std.specs.declared.cmp.Ordering.TheVariants.{Less, Equal}
+use Rattle.std.specs.declared.cmp.Ordering.TheVariants.{Equal}
 use Rattle.std.specs.Cmp.{IsTotalOrder}
 use Rattle.std.specs.List.{AllByRecursion}
 use Rattle.std.proofs.lemmas.Bool.{cases_lt}
 use Rattle.std.proofs.lemmas.Cmp.{tied_back, alike_right}
+use Rattle.base_core.proofs.OrderingLemmas.{tied-not_Less}
+use Rattle.base_core.proofs.ListLemmas.{AllByRecursion-push}
 use Rattle.packing_core.specs.Covering.{Among}
 use Rattle.packing_core.specs.Packed.{IsIndexRun}
 use Rattle.packing_core.specs.declared.Piece.{Piece}
@@ -50,10 +52,6 @@ all_at : {X : Type 0} (P : X → Type 0) (xs : List X) (x : X) → AllByRecursio
 all_at P [] x h g = absurd g
 all_at P (y ∷ ys) x h g = elim g [ inl e ↦ subst P e h.0 | inr m ↦ all_at P ys x h.1 m ]
 
-all_push : {X : Type 0} (P : X → Type 0) (xs : List X) (x : X) → AllByRecursion P xs → P x → AllByRecursion P (xs ++ x ∷ [])
-all_push P [] x h g = (g, tt)
-all_push P (y ∷ ys) x h g = (h.0, all_push P ys x h.1 g)
-
 all_front : {X : Type 0} (P : X → Type 0) (xs ys : List X) → AllByRecursion P (xs ++ ys) → AllByRecursion P xs × AllByRecursion P ys
 all_front P [] ys h = (tt, h)
 all_front P (x ∷ xs) ys h = let w = all_front P xs ys h.1 in ((h.0, w.0), w.1)
@@ -92,9 +90,6 @@ module _ {K : Type 0} (R : K → K → Ordering) (o : IsTotalOrder R) where
 
   eq_trans : (x y z : K) → R x y ≡ Equal → R y z ≡ Equal → R x z ≡ Equal
   eq_trans x y z h g = o.congr x y z h ∙ g
-
-  not_less : (x y : K) → R x y ≡ Equal → R x y ≡ Less → ⊥
-  not_less x y h g = cc
 
   pub covers_by : (xs : List (Piece K)) (k : K) (i : ℕ) → Covers R xs k i → (x : Piece K) × Among x xs × (R x.key k ≡ Equal) × (x.begin ≤ i) × (i < x.end)
   covers_by [] k i h = absurd h
@@ -135,15 +130,15 @@ module _ {K : Type 0} (R : K → K → Ordering) (o : IsTotalOrder R) where
       elim m [
         | inl p ↦ elim n [
           | inl q ↦ inl (sym p ∙ q)
-          | inr q ↦ inr (elim (subst (λ v. Apart R v y) p (all_at _ ws y h.1 q)) [ inl l ↦ absurd (not_less _ _ e l) | inr l ↦ inl l.1 ])
+          | inr q ↦ inr (elim (subst (λ v. Apart R v y) p (all_at _ ws y h.1 q)) [ inl l ↦ absurd (tied-not_Less R _ _ e l) | inr l ↦ inl l.1 ])
         ]
         | inr p ↦ elim n [
-          | inl q ↦ inr (elim (subst (λ v. Apart R v x) q (all_at _ ws x h.1 p)) [ inl l ↦ absurd (not_less _ _ (eq_back _ _ e) l) | inr l ↦ inr l.1 ])
+          | inl q ↦ inr (elim (subst (λ v. Apart R v x) q (all_at _ ws x h.1 p)) [ inl l ↦ absurd (tied-not_Less R _ _ (eq_back _ _ e) l) | inr l ↦ inr l.1 ])
           | inr q ↦ beside ws x y h.2 p q e
         ]
       ]
 
-  room : (xs : List (Piece K)) (x : Piece K) → AreApart R xs → Among x xs → x.begin < x.end
+  pub room : (xs : List (Piece K)) (x : Piece K) → AreApart R xs → Among x xs → x.begin < x.end
   room [] x h m = absurd m
   room (y ∷ ys) x h m = elim m [ inl e ↦ subst (λ (v : Piece K). v.begin < v.end) e h.0 | inr w ↦ room ys x h.2 w ]
 
@@ -175,7 +170,7 @@ module _ {K : Type 0} (R : K → K → Ordering) (o : IsTotalOrder R) where
       let e = IsIndexRun-one (Covers R xs k) a z (y.0).begin (y.0).end a r (run_of xs y.0 k h y.1 y.2) (omega arith) r.some y.3 y.4 in
       has_from xs y.0 k a z y.1 y.2 (sym e.0) (sym e.1)
 
-  covers_append : (xs ys : List (Piece K)) (k : K) (i : ℕ) → Covers R (xs ++ ys) k i ↔ Covers R xs k i ⊎ Covers R ys k i
+  pub covers_append : (xs ys : List (Piece K)) (k : K) (i : ℕ) → Covers R (xs ++ ys) k i ↔ Covers R xs k i ⊎ Covers R ys k i
   covers_append [] ys k i = (λ h. inr h, λ h. elim h [ inl w ↦ absurd w | inr w ↦ w ])
   covers_append (x ∷ xs) ys k i =
       let ih = covers_append xs ys k i in (
@@ -185,7 +180,7 @@ module _ {K : Type 0} (R : K → K → Ordering) (o : IsTotalOrder R) where
 
   apart_push : (xs : List (Piece K)) (x : Piece K) → AreApart R xs → x.begin < x.end → AllByRecursion (λ y. Apart R y x) xs → AreApart R (xs ++ x ∷ [])
   apart_push [] x h l a = (l, tt, tt)
-  apart_push (y ∷ ys) x h l a = (h.0, all_push (Apart R y) ys x h.1 a.0, apart_push ys x h.2 l a.1)
+  apart_push (y ∷ ys) x h l a = (h.0, AllByRecursion-push (Apart R y) ys x h.1 a.0, apart_push ys x h.2 l a.1)
 
   apart_front : (xs : List (Piece K)) (x : Piece K) → AreApart R (xs ++ x ∷ []) → AreApart R xs × (x.begin < x.end) × AllByRecursion (λ y. Apart R y x) xs
   apart_front [] x h = (tt, h.0, tt)
@@ -254,7 +249,7 @@ module _ {K : Type 0} (R : K → K → Ordering) (o : IsTotalOrder R) where
       let a' = subst (AreApart R) f a in
       let w = apart_front (take m xs) l a' in
       subst (λ ys. AreApart R (ys ++ x ∷ [])) (sym f)
-      (apart_push (take m xs ++ l ∷ []) x a' s (all_push (λ y. Apart R y x) (take m xs) l (all_weaker (λ y. Apart R y l) (λ y. Apart R y x) (take m xs) (λ y c. behind y l x c w.1 b) w.2) b))
+      (apart_push (take m xs ++ l ∷ []) x a' s (AllByRecursion-push (λ y. Apart R y x) (take m xs) l (all_weaker (λ y. Apart R y l) (λ y. Apart R y x) (take m xs) (λ y c. behind y l x c w.1 b) w.2) b))
 
   pub apart_first : (xs : List (Piece K)) (x : Piece K) → length xs ≡ 0 → x.begin < x.end → AreApart R (xs ++ x ∷ [])
   apart_first [] x e s = (s, tt, tt)
@@ -273,7 +268,7 @@ module _ {K : Type 0} (R : K → K → Ordering) (o : IsTotalOrder R) where
       ]
 
   pub begin_where_meets : (l x : Piece K) → NotAfter R l x → Meets R l x → l.begin ≤ x.begin
-  begin_where_meets l x n m = elim n [ inl p ↦ absurd (not_less _ _ m.0 p) | inr p ↦ p.1 ]
+  begin_where_meets l x n m = elim n [ inl p ↦ absurd (tied-not_Less R _ _ m.0 p) | inr p ↦ p.1 ]
 
   pub covers_more : (ys : List (Piece K)) (x : Piece K) (out new : List (Piece K)) → ((k : K) (j : ℕ) → Covers R new k j ↔ Covers R out k j ⊎ CoversOne R x k j) → ((k : K) (j : ℕ) → Covers R out k j ↔ Covers R ys k j) → (k : K) (j : ℕ) → Covers R new k j ↔ Covers R (ys ++ x ∷ []) k j
   covers_more ys x out new n e k j =

@@ -6,7 +6,6 @@ pub mod Exists
 pub mod Covered
 pub mod Slices
 pub mod Inward
-pub mod Numbered
 pub mod Order
 pub mod Whole
 pub mod Same

@@ -9,11 +9,11 @@ use Rattle.std.proofs.lemmas.Bool.{cases_lt, true≢false}
 use Rattle.std.proofs.lemmas.Bool.Decides.{nat_tests}
 use Rattle.std.proofs.lemmas.Cmp.{tied_back, then_total, on_total, nat_cmp_total}
 use Rattle.std.proofs.lemmas.List.Sorted.{sorted_far, ranks_by, Contains-permutation, IsPermutation-sym}
+use Rattle.std.proofs.lemmas.List.{get_or_default}
 use Rattle.packing_core.specs.Covering.{Among}
 use Rattle.packing_core.specs.Pieces.{Covers, NotAfter}
 use Rattle.packing_core.specs.declared.Piece.{Piece}
 use Rattle.packing_core.proofs.Joined.{covers_by, covers_from}
-use Rattle.packing_core.proofs.Numbered.{other_default}
 
 pub among_contains : {X : Type 0} (xs : List X) (x : X) → Among x xs → Contains xs x
 among_contains [] x h = absurd h
@@ -65,4 +65,4 @@ module _ {K : Type 0} (R : K → K → Ordering) (o : IsTotalOrder R) where
   pub order_from_sorted : (xs : List (Piece K)) → IsSortedBy (λ x y. is_lt (piece_cmp x y)) xs → (i j : ℕ) (d e : Piece K) → i ≤ j → j < length xs → NotAfter R (get_or xs i d) (get_or xs j e)
   order_from_sorted xs s i j d e h l =
       let f = sorted_far (λ x y. is_lt (piece_cmp x y)) (ranks_by piece_total (λ x. x)) xs s i j d h l in
-      subst (λ y. NotAfter R (get_or xs i d) y) (other_default xs j d e l) (not_after (get_or xs i d) (get_or xs j d) f)
+      subst (λ y. NotAfter R (get_or xs i d) y) (get_or_default xs j d e l) (not_after (get_or xs i d) (get_or xs j d) f)

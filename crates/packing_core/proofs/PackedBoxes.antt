@@ -11,6 +11,7 @@ use Rattle.std.specs.Ordering.{eq_by_cmp, is_eq}
 use Rattle.std.specs.List.{filter, flat_map, list_all, list_any}
 use Rattle.base_core.specs.Sets.{in_order, has}
 use Rattle.base_core.proofs.SetLemmas.{In, Ascends, Separates, In-in_order, Ascends-in_order, same_by_members}
+use Rattle.base_core.proofs.IntLemmas.{int_le-le, le-int_le}
 use Rattle.interval_core.specs.Members.{Span, at_point, members}
 use Rattle.interval_core.specs.Packing.{Side, unpack1, unpack, pack1, pack_each, pack, is_longest, has_at, spanned}
 use Rattle.packing_core.specs.Packed.{IsRun, nowhere, ArePoints, firsts, points_of, Has, packs}
@@ -40,12 +41,6 @@ get_set : (y : List Span) (j : ℕ) (v : Span) → j < length y → get_or (set 
 get_set [] j v h = absurd (omega arith)
 get_set (x ∷ xs) zero v h = refl
 get_set (x ∷ xs) (suc j) v h = get_set xs j v (omega arith)
-
-le_true : (a b : ℤ) → a ≤ℤ b → int_le a b ≡ true
-le_true a b h = grind (arith, ints)
-
-pub true_le : (a b : ℤ) → int_le a b ≡ true → a ≤ℤ b
-true_le a b h = omega (arith, ints)
 
 not_both : (b : Bool) → not b ≡ true → b ≡ true → ⊥
 not_both true e f = true≢false (sym e)
@@ -162,14 +157,14 @@ module _ {P : Type 0} (R : Boxed P → Boxed P → Ordering) (o : IsTotalOrder R
             let t = and_parts (list_all holds (members i)) (none_before && none_after) s.1 in
             let u = and_parts none_before none_after t.1 in
             record {
-              some = true_le i.0 i.1 s.0;
+              some = int_le-le i.0 i.1 s.0;
               each = λ p g k. (at p).0 ((a.0 t.0) p ((among_members i p).1 (g, k)));
               before = λ q. not_both _ u.0 ((at _).1 q);
               after = λ q. not_both _ u.1 ((at _).1 q);
             },
         λ g. l.1 (f.1 (
           candidate j r y h g,
-          and_from (int_le i.0 i.1) _ (le_true i.0 i.1 g.some)
+          and_from (int_le i.0 i.1) _ (le-int_le i.0 i.1 g.some)
               (and_from (list_all holds (members i)) (none_before && none_after) (a.1 (λ p m. let c = (among_members i p).0 m in (at p).1 (g.each p c.0 c.1)))
               (and_from none_before none_after (neither _ (λ q. g.before ((at _).0 q))) (neither _ (λ q. g.after ((at _).0 q))))),
         )),

@@ -4,12 +4,10 @@ use Rattle.std.specs.declared.cmp.Ordering.TheVariants.{Less}
 use Rattle.std.specs.Cmp.{IsTotalOrder}
 use Rattle.std.specs.List.{AllByRecursion}
 use Rattle.std.specs.List.Sorted.{IsStrictlySortedBy}
-use Rattle.std.proofs.lemmas.Cmp.{tied_itself}
+use Rattle.base_core.proofs.OrderingLemmas.{not_before_itself}
 use Rattle.packing_core.specs.Covering.{Among}
 
 module _ {K : Type 0} (R : K → K → Ordering) (o : IsTotalOrder R) where
-  not_below_itself : (x : K) → R x x ≡ Less → ⊥
-  not_below_itself x h = let t = tied_itself o x in cc
 
   all_at : (P : K → Type 0) (xs : List K) (x : K) → AllByRecursion P xs → Among x xs → P x
   all_at P [] x h g = absurd g
@@ -23,14 +21,14 @@ module _ {K : Type 0} (R : K → K → Ordering) (o : IsTotalOrder R) where
   one_first x xs y ys s t m n =
       elim (first_least x xs y s m) [
         | inl e ↦ e
-        | inr l ↦ elim (first_least y ys x t n) [ inl e ↦ sym e | inr k ↦ absurd (not_below_itself x (o.trans x y x l k)) ]
+        | inr l ↦ elim (first_least y ys x t n) [ inl e ↦ sym e | inr k ↦ absurd (not_before_itself R o x (o.trans x y x l k)) ]
       ]
 
   in_rest : (x : K) (xs : List K) (y : K) (ys : List K) → IsStrictlySortedBy R (x ∷ xs) → x ≡ y → (z : K) → Among z xs → Among z (y ∷ ys) → Among z ys
   unfolding IsStrictlySortedBy
   in_rest x xs y ys s e z m n =
       elim n [
-        | inl q ↦ absurd (not_below_itself x (subst (λ w. R x w ≡ Less) (sym (e ∙ q)) (all_at (λ w. R x w ≡ Less) xs z s.0 m)))
+        | inl q ↦ absurd (not_before_itself R o x (subst (λ w. R x w ≡ Less) (sym (e ∙ q)) (all_at (λ w. R x w ≡ Less) xs z s.0 m)))
         | inr w ↦ w
       ]
 

@@ -50,7 +50,7 @@ length_box [] y e = refl
 length_box (g ∷ gs) [] e = absurd (omega arith)
 length_box (g ∷ gs) (x ∷ xs) e = ap suc (length_box gs xs (omega arith))
 
-length_sides_back : (j : ℕ) (z : List Span) → length (sides_back j z) ≡ j
+pub length_sides_back : (j : ℕ) (z : List Span) → length (sides_back j z) ≡ j
 length_sides_back zero z = refl
 length_sides_back (suc j) z = ap suc (length_sides_back j z)
 

@@ -1,8 +1,9 @@
 -- The numbers of dates are those of the library that computes them.
-use Rattle.std.proofs.Common.{◌≡◌, ℕ, zero, suc, ◌+◌, ◌-◌, ◌≤◌, ℤ, pos, negsuc, ◌-ℤ◌, ◌≤ℤ◌, refl, ap, ◌∙◌, arith}
+use Rattle.std.proofs.Common.{◌≡◌, ℕ, zero, suc, ◌+◌, ◌-◌, ◌≤◌, ℤ, pos, negsuc, ◌-ℤ◌, ◌≤ℤ◌, refl, ap, ◌∙◌, arith, inl, inr}
 use Rattle.std.proofs.lemmas.Int.{ints}
 use Rattle.jiff_core.specs.Calendar as core
 use Rattle.jiff_core.proofs.CalendarLemmas.{day_count-lt_year}
+use Rattle.std.proofs.lemmas.Bool.{cases_lt}
 use Rattle.point_core.specs.Dates.{days_of_year, days_of_month, days_of_years, days_of_months, day_place, date_number, IsCalendarDate, first_day, IsDay}
 
 month_same : (year month : ℕ) → 1 ≤ month → month ≤ 12 → core.days_in_month (pos year) month ≡ days_of_month year month
@@ -54,7 +55,7 @@ pub calendar_date : (year month day : ℕ) → 1 ≤ year → core.IsCivilDate (
 calendar_date year month day first date =
     (first, omega (arith, ints, date.0.1), date.1.0, date.1.1, date.2.0, omega (arith, date.2.1, month_same year month date.1.0 date.1.1))
 
-epoch_place : day_place 1970 1 1 ≡ 719163
+pub epoch_place : day_place 1970 1 1 ≡ 719163
 unfolding day_place days_of_years days_of_months
 epoch_place = refl
 
@@ -91,3 +92,11 @@ year_from_1 (negsuc k) m d date low =
     let first = place_same 1 1 1 (omega arith) (omega arith) (omega arith) (omega arith) in
     let epoch = place_same 1970 1 1 (omega arith) (omega arith) (omega arith) (omega arith) in
     absurd (omega (arith, ints, before, first, epoch, first_place, epoch_place))
+
+pub years_rise : (p q : ℕ) → p ≤ q → days_of_years p ≤ days_of_years q
+unfolding days_of_years
+years_rise p zero h = let same : p ≡ 0 = omega arith in omega (arith, ap days_of_years same)
+years_rise p (suc q) h = elim (cases_lt q p) [
+  | inl lt ↦ (let same : p ≡ suc q = omega arith in let e : days_of_years p ≡ days_of_years (suc q) = ap days_of_years same in omega (arith, e))
+  | inr le ↦ (let rest : days_of_years p ≤ days_of_years q = years_rise p q le in omega (arith, rest))
+]

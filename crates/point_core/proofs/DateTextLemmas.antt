@@ -3,7 +3,7 @@ use Rattle.std.proofs.Common.{◌≡◌, ℕ, ◌+◌, ◌*◌, ◌/◌, ◌%◌
 use Rattle.point_core.specs.Dates.{IsCalendarDate, IsDateText, date_text}
 
 -- a list of ten is that of its elements
-ten : (xs : List ℕ) → length xs ≡ 10
+pub ten : (xs : List ℕ) → length xs ≡ 10
     → xs ≡ slice_index_or xs 0 0 ∷ slice_index_or xs 1 0 ∷ slice_index_or xs 2 0 ∷ slice_index_or xs 3 0 ∷ slice_index_or xs 4 0
     ∷ slice_index_or xs 5 0 ∷ slice_index_or xs 6 0 ∷ slice_index_or xs 7 0 ∷ slice_index_or xs 8 0 ∷ slice_index_or xs 9 0 ∷ []
 ten [] e = absurd (omega (arith, e))

@@ -34,7 +34,7 @@ position_after true rest name ih e = omega arith
 position_after false rest name ih e = let h = ih e in omega (arith, h)
 
 -- a name that is there stands within the heading
-position_within : (heading : Heading) (name : Name) → IsTrue (has_name heading name) → position_of heading name < length heading
+pub position_within : (heading : Heading) (name : Name) → IsTrue (has_name heading name) → position_of heading name < length heading
 position_within [] name e = absurd (true≢false (sym e))
 position_within (a ∷ rest) name e = position_after (bytes_eq a.0 name) rest name (position_within rest name) e
 

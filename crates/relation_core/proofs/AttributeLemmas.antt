@@ -1,6 +1,6 @@
 -- The heading of the attributes of two headings.
-use Rattle.std.proofs.Common.{◌≡◌, ◌↔◌, inl, inr, ℕ, ◌+◌, ◌≤◌, ◌<◌, [], ◌∷◌, ◌++◌, length, refl, sym, ap, ap₂, ◌∙◌, subst, arith, Bool, true, false, not, if◌then◌else◌, Some, None, Ordering}
-use Rattle.std.specs.declared.cmp.Ordering.TheVariants.{Less, Equal, Greater}
+use Rattle.std.proofs.Common.{◌≡◌, ◌↔◌, inl, inr, ℕ, ◌+◌, ◌≤◌, ◌<◌, [], ◌∷◌, ◌++◌, length, refl, sym, ap, ap₂, ◌∙◌, subst, arith, Bool, true, false, not, if◌then◌else◌, Some, None}
+use Rattle.std.specs.declared.cmp.Ordering.TheVariants.{Equal}
 use Rattle.std.specs.Bool.{IsTrue}
 use Rattle.std.specs.Cmp.Lexicographic.{texts_ties, nat_list_eq_equiv}
 use Rattle.std.specs.List.{All, filter}
@@ -15,6 +15,7 @@ use Rattle.std.proofs.lemmas.Slice.Eq.{bytes_eq-Decides}
 use Rattle.base_core.proofs.SetLemmas.{In, Ascends}
 use Rattle.base_core.proofs.MemberLemmas.{In-append, In-map, In-filter, list_any-In, list_all-In}
 use Rattle.base_core.proofs.SetOperatorLemmas.{In-permutation, length-in_order}
+use Rattle.base_core.proofs.OrderingLemmas.{is_eq-Equal}
 use Rattle.value_core.proofs.HeadingLemmas.{attribute_total}
 use Rattle.value_core.specs.Headings.{has_name, repeat_after, first_repeat, most_attributes}
 use Rattle.value_core.specs.Values.{Name, Heading, attribute_cmp, is_heading}
@@ -35,13 +36,8 @@ name_is m n e = (bytes_eq-Decides m n).0 e
 pub same_name : (a b : Name × Kind) → attribute_cmp a b ≡ Equal → IsTrue (bytes_eq a.0 b.0)
 same_name a b e = texts_ties a.0 b.0 ∙ ap is_eq e
 
-tie : (r : Ordering) → is_eq r ≡ true → r ≡ Equal
-tie Less e = absurd (true≢false (sym e))
-tie Equal e = refl
-tie Greater e = absurd (true≢false (sym e))
-
 pub ties_by_name : (a b : Name × Kind) → a.0 ≡ b.0 → attribute_cmp a b ≡ Equal
-ties_by_name a b e = tie (attribute_cmp a b) (sym (texts_ties a.0 b.0) ∙ (ap (bytes_eq a.0) (sym e) ∙ nat_list_eq_equiv.refl a.0))
+ties_by_name a b e = is_eq-Equal (attribute_cmp a b) (sym (texts_ties a.0 b.0) ∙ (ap (bytes_eq a.0) (sym e) ∙ nat_list_eq_equiv.refl a.0))
 
 pub named_In : (heading : Heading) (a : Name × Kind) → In a heading → IsTrue (has_name heading a.0)
 named_In heading a i = (list_any-In (λ b. bytes_eq b.0 a.0) heading).1 (a, i, nat_list_eq_equiv.refl a.0)
@@ -187,3 +183,13 @@ few_joined left right =
     let h = length-in_order attribute_cmp (left ++ right) in
     let k = length-append left right in
     omega (arith, h, k)
+
+pub to_name : (heading : Heading) (n : Name) → IsTrue (has_name heading n) → In n (names_of heading)
+to_name heading n e =
+    let w = (list_any-In (λ b. bytes_eq b.0 n) heading).0 e in
+    (In-map (λ b. b.0) n heading).1 (w.0, w.1, sym (name_is w.0.0 n w.2))
+
+pub of_name : (heading : Heading) (n : Name) → In n (names_of heading) → IsTrue (has_name heading n)
+of_name heading n i =
+    let a = (In-map (λ b. b.0) n heading).0 i in
+    subst (λ m. IsTrue (has_name heading m)) (sym a.2) (named_In heading a.0 a.1)

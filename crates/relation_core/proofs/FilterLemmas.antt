@@ -8,7 +8,7 @@ use Rattle.base_core.specs.Sets.{is_set}
 use Rattle.base_core.proofs.SetLemmas.{In, Ascends, in_order_of_ascending, Ascends-from_sorted}
 use Rattle.base_core.proofs.MemberLemmas.{In-filter, list_all-In}
 use Rattle.base_core.proofs.SetOperatorLemmas.{Ascends-filter, is_set-Ascends}
-use Rattle.value_core.specs.Values.{Row, Relation, IsRelation, row_cmp, rows_of}
+use Rattle.value_core.specs.Values.{Row, Relation, IsRelation, row_cmp, rows_of, fits_heading}
 use Rattle.value_core.specs.Order.{row_total, row_separates}
 
 pub filter_same : {X : Type 0} (p q : X → Bool) (xs : List X) → ((z : X) → In z xs → p z ≡ q z) → filter p xs ≡ filter q xs
@@ -79,3 +79,6 @@ rows_of-ascending rows a = in_order_of_ascending row_cmp row_total row_separates
 
 pub rows_of-filter : (p : Row → Bool) (rows : List Row) → Ascends row_cmp rows → rows_of (filter p rows) ≡ filter p rows
 rows_of-filter p rows a = rows_of-ascending (filter p rows) (Ascends-filter row_cmp p rows a)
+
+pub rows_fit : (r : Relation) → IsRelation r → (x : Row) → In x r.rows → IsTrue (fits_heading r.heading x)
+rows_fit r is = (list_all-In (fits_heading r.heading) r.rows).0 is.fitting

@@ -6,6 +6,7 @@ use Rattle.std.specs.Ordering.{eq_by_cmp}
 use Rattle.std.proofs.lemmas.Bool.{true≢false}
 use Rattle.base_core.proofs.SetLemmas.{In, In-in_order, In-from_Contains, Contains-from_In}
 use Rattle.base_core.proofs.MemberLemmas.{In-map}
+use Rattle.base_core.proofs.ListLemmas.{In-get_or}
 use Rattle.value_core.specs.Order.{row_total, row_separates}
 use Rattle.value_core.specs.Values.{Row, row_cmp}
 use Rattle.relation_core.specs.Agreement.{part_of}
@@ -76,13 +77,8 @@ below_from test n (x ∷ rows) i h =
       | false ↦ λ k. rest k
     ]) h
 
-In-at : {X : Type 0} (xs : List X) (k : ℕ) (d : X) → k < length xs → In (get_or xs k d) xs
-In-at [] k d l = absurd (omega arith)
-In-at (x ∷ xs) zero d l = inl refl
-In-at (x ∷ xs) (suc k) d l = inr (In-at xs k d (omega (arith, l)))
-
 pub where_within : (test : Row → Bool) (rows : List Row) → All (λ (i : ℕ). i < length rows) (numbers_where test rows)
-where_within test rows k d l = let b = below_from test 0 rows (get_or (numbers_where test rows) k d) (In-at (numbers_where test rows) k d l) in omega (arith, b)
+where_within test rows k d l = let b = below_from test 0 rows (get_or (numbers_where test rows) k d) (In-get_or (numbers_where test rows) k d l) in omega (arith, b)
 
 some_from : (test : Row → Bool) (n : ℕ) (rows : List Row) (x : Row) → In x rows → test x ≡ true → 0 < length (numbers_from test n rows)
 some_from test n [] x i e = absurd i
@@ -114,7 +110,7 @@ group_not_empty by rows g h =
 pub a_group : (by : List ℕ) (rows keys : List Row) (i : ℕ) (key : Row) (numbers : List ℕ) → keys ≡ projected by rows → i < length keys → key ≡ get_or keys i key → numbers ≡ group by rows key
     → Contains (groups by rows) numbers
 a_group by rows keys i key numbers all l is e =
-    let here : In key (projected by rows) = subst (λ (ks : List Row). In key ks) all (subst (λ k. In k keys) (sym is) (In-at keys i key l)) in
+    let here : In key (projected by rows) = subst (λ (ks : List Row). In key ks) all (subst (λ k. In k keys) (sym is) (In-get_or keys i key l)) in
     Contains-from_In (groups by rows) numbers ((In-map (group by rows) numbers (projected by rows)).1 (key, here, e))
 
 pub of_groups : {Y : Type 0} (f : List ℕ → Y) (by : List ℕ) (rows : List Row) → map f (groups by rows) ≡ map (λ k. f (group by rows k)) (projected by rows)

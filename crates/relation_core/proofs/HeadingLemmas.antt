@@ -1,25 +1,27 @@
 -- Headings of attributes in order, and what fits the attributes at positions.
 use Rattle.std.proofs.Common.{◌≡◌, ◌↔◌, ℕ, zero, suc, ◌+◌, ◌<◌, ◌≤◌, List, [], ◌∷◌, ◌++◌, length, get_or, take, map, refl, sym, ap, ap₂, ◌∙◌, subst, arith, inl, inr, Bool, true, false, ◌||◌, if◌then◌else◌, Some, None, Ordering, nat_le}
-use Rattle.std.specs.declared.cmp.Ordering.TheVariants.{Less, Equal}
+use Rattle.std.specs.declared.cmp.Ordering.TheVariants.{Less}
 use Rattle.std.specs.Bool.{IsTrue}
 use Rattle.std.specs.Cmp.{IsTotalOrder}
 use Rattle.std.specs.Cmp.Lexicographic.{texts_ties}
 use Rattle.std.specs.List.{All}
 use Rattle.std.proofs.lemmas.Bool.Decides.{nat_tests}
-use Rattle.base_core.specs.Sets.{is_set}
+use Rattle.base_core.specs.Sets.{is_set, placed, put}
 use Rattle.value_core.specs.Order.{row_total, row_separates}
 use Rattle.value_core.specs.Relations.{all_fit}
 use Rattle.std.specs.List.Sorted.{IsPermutation}
 use Rattle.std.specs.Ordering.{is_eq, nat_cmp}
 use Rattle.std.specs.Str.{bytes_eq}
 use Rattle.std.proofs.lemmas.Bool.{true≢false, and_parts, and_from}
-use Rattle.std.proofs.lemmas.Cmp.{tied_itself, ranked, nat_cmp_total}
+use Rattle.std.proofs.lemmas.Cmp.{nat_cmp_total}
 use Rattle.std.proofs.lemmas.List.{take_more, map-append, length-map}
 use Rattle.std.proofs.lemmas.List.Folds.{list_any-append}
 use Rattle.std.proofs.lemmas.List.Sorted.{IsPermutation-sym}
 use Rattle.base_core.proofs.SetLemmas.{In, AllAfter, Ascends, In-in_order}
 use Rattle.base_core.proofs.MemberLemmas.{In-map, list_all-In}
 use Rattle.base_core.proofs.SetOperatorLemmas.{AllAfter-In, In-permutation, is_set-Ascends, length-in_order}
+use Rattle.base_core.proofs.OrderingLemmas.{not_before_itself, nat_cmp-lt}
+use Rattle.base_core.proofs.ListLemmas.{In-get_or}
 use Rattle.value_core.proofs.HeadingLemmas.{attribute_total}
 use Rattle.value_core.specs.Headings.{has_name, repeat_after, first_repeat, most_attributes}
 use Rattle.value_core.specs.Values.{Name, Row, Heading, truth, fits, fits_heading, attribute_cmp, is_heading, row_cmp, most_rows}
@@ -30,8 +32,6 @@ use Rattle.relation_core.specs.Parts.{no_attribute, attributes_at, projected}
 -- ---- two lists in order with the same members are one, also where the order does not tell all members apart
 
 module _ {X : Type 0} (cmp : X → X → Ordering) (o : IsTotalOrder cmp) where
-  not_before_itself : (x : X) → cmp x x ≡ Less → ⊥
-  not_before_itself x l = let e : Less ≡ Equal = sym l ∙ tied_itself o x in cc
 
   after : (x y : X) (ys : List X) → AllAfter cmp x ys → In y ys → cmp x y ≡ Less
   after x y ys h i = (AllAfter-In cmp x ys).0 h y i
@@ -45,12 +45,12 @@ module _ {X : Type 0} (cmp : X → X → Ordering) (o : IsTotalOrder cmp) where
         | inl e ↦ e
         | inr i ↦ elim ((h y).1 (inl refl)) [
           | inl e ↦ sym e
-          | inr j ↦ absurd (not_before_itself x (o.trans x y x (after x y xs a.0 j) (after y x ys b.0 i)))
+          | inr j ↦ absurd (not_before_itself cmp o x (o.trans x y x (after x y xs a.0 j) (after y x ys b.0 i)))
         ]
       ] in
       let tails : (z : X) → In z xs ↔ In z ys = λ z. (
-        λ i. elim ((h z).0 (inr i)) [ inl e ↦ absurd (not_before_itself x (subst (λ w. cmp x w ≡ Less) (e ∙ sym heads) (after x z xs a.0 i))) | inr j ↦ j ],
-        λ i. elim ((h z).1 (inr i)) [ inl e ↦ absurd (not_before_itself y (subst (λ w. cmp y w ≡ Less) (e ∙ heads) (after y z ys b.0 i))) | inr j ↦ j ],
+        λ i. elim ((h z).0 (inr i)) [ inl e ↦ absurd (not_before_itself cmp o x (subst (λ w. cmp x w ≡ Less) (e ∙ sym heads) (after x z xs a.0 i))) | inr j ↦ j ],
+        λ i. elim ((h z).1 (inr i)) [ inl e ↦ absurd (not_before_itself cmp o y (subst (λ w. cmp y w ≡ Less) (e ∙ heads) (after y z ys b.0 i))) | inr j ↦ j ],
       ) in
       ap₂ (λ u us. u ∷ us) heads (one_list xs ys a.1 b.1 tails)
 
@@ -81,26 +81,18 @@ no_repeat list up = none_new [] list 0 (λ a i. refl) up
 
 -- ---- members at ascending positions
 
-pub In-get_or : {X : Type 0} (xs : List X) (i : ℕ) (d : X) → i < length xs → In (get_or xs i d) xs
-In-get_or [] i d l = absurd (omega arith)
-In-get_or (x ∷ xs) zero d l = inl refl
-In-get_or (x ∷ xs) (suc i) d l = inr (In-get_or xs i d (omega arith))
-
 before : {X : Type 0} (cmp : X → X → Ordering) (xs : List X) (i j : ℕ) (d : X) → Ascends cmp xs → i < j → j < length xs → cmp (get_or xs i d) (get_or xs j d) ≡ Less
 before cmp [] i j d h k l = absurd (omega arith)
 before cmp (x ∷ xs) i zero d h k l = absurd (omega arith)
 before cmp (x ∷ xs) zero (suc j) d h k l = (AllAfter-In cmp x xs).0 h.0 (get_or xs j d) (In-get_or xs j d (omega arith))
 before cmp (x ∷ xs) (suc i) (suc j) d h k l = before cmp xs i j d h.1 (omega arith) (omega arith)
 
-pub less_than : (i j : ℕ) → nat_cmp i j ≡ Less → i < j
-less_than i j e = ranked i j Less (sym e)
-
 pub attributes_ascend : (heading : Heading) (kept : List ℕ) → Ascends attribute_cmp heading → Ascends nat_cmp kept → ((i : ℕ) → In i kept → i < length heading) → Ascends attribute_cmp (attributes_at kept heading)
 attributes_ascend heading [] a b h = tt
 attributes_ascend heading (i ∷ kept) a b h = (
   (AllAfter-In attribute_cmp (get_or heading i no_attribute) (attributes_at kept heading)).1 (λ y m.
       let w = (In-map (λ j. get_or heading j no_attribute) y kept).0 m in
-      ap (attribute_cmp (get_or heading i no_attribute)) w.2 ∙ before attribute_cmp heading i w.0 no_attribute a (less_than i w.0 ((AllAfter-In nat_cmp i kept).0 b.0 w.0 w.1)) (h w.0 (inr w.1))),
+      ap (attribute_cmp (get_or heading i no_attribute)) w.2 ∙ before attribute_cmp heading i w.0 no_attribute a (nat_cmp-lt i w.0 ((AllAfter-In nat_cmp i kept).0 b.0 w.0 w.1)) (h w.0 (inr w.1))),
   attributes_ascend heading kept a b.1 (λ j m. h j (inr m)),
 )
 
@@ -110,7 +102,7 @@ count_from m n [] a b h l = omega arith
 count_from m n (i ∷ kept) a b h l =
     let first = b i (inl refl) in
     let below = h i (inl refl) in
-    let rest = count_from (suc i) n kept a.1 (λ j p. less_than i j ((AllAfter-In nat_cmp i kept).0 a.0 j p)) (λ j p. h j (inr p)) below in
+    let rest = count_from (suc i) n kept a.1 (λ j p. nat_cmp-lt i j ((AllAfter-In nat_cmp i kept).0 a.0 j p)) (λ j p. h j (inr p)) below in
     omega (arith, first, rest)
 
 pub few_positions : (n : ℕ) (kept : List ℕ) → Ascends nat_cmp kept → ((i : ℕ) → In i kept → i < n) → length kept ≤ n
@@ -185,3 +177,7 @@ projected_few kept rows few =
     let a = length-in_order row_cmp (map (part_of kept) rows) in
     let b = length-map rows (part_of kept) in
     omega (arith, a, b)
+
+pub put_first : (a : Name × Kind) (h : Heading) → AllAfter attribute_cmp a h → put attribute_cmp a h ≡ a ∷ h
+put_first a [] after = refl
+put_first a (b ∷ rest) after = ap (λ r. placed r a b rest (put attribute_cmp a rest)) after.0

@@ -11,6 +11,7 @@ use Rattle.base_core.specs.Sets.{has}
 use Rattle.base_core.proofs.SetLemmas.{In, Ascends, In-in_order}
 use Rattle.base_core.proofs.MemberLemmas.{In-append, In-map, In-flat_map, In-filter, list_any-In, list_all-In, eq_by_cmp-≡, has-In}
 use Rattle.base_core.proofs.SetOperatorLemmas.{same_tests}
+use Rattle.base_core.proofs.ListLemmas.{map-In}
 use Rattle.value_core.specs.Headings.{has_name}
 use Rattle.value_core.specs.Order.{row_total, row_separates}
 use Rattle.value_core.specs.Relations.{all_fit}
@@ -21,7 +22,7 @@ use Rattle.relation_core.specs.Joins.{joined_heading, HaveEqualKinds, joined_row
 use Rattle.relation_core.specs.Parts.{positions_in}
 use Rattle.relation_core.proofs.AgreementLemmas.{length_of_fit}
 use Rattle.relation_core.proofs.ApartLemmas.{Apart, Tells, Apart-map, Apart-flat_map, Apart-filter, apart_ascending, length_apart}
-use Rattle.relation_core.proofs.AttributeLemmas.{name_is, ties_by_name, named_In, both_tell, In-joined, joined_ascends}
+use Rattle.relation_core.proofs.AttributeLemmas.{name_is, ties_by_name, named_In, both_tell, In-joined, joined_ascends, to_name, of_name}
 use Rattle.relation_core.proofs.FilterLemmas.{rows_ascend}
 use Rattle.relation_core.proofs.HeadingLemmas.{heading_ascends}
 
@@ -34,10 +35,6 @@ value_of heading row name = get_or row (position_of heading name) (truth false)
 by_names : (heading : Heading) (row : Row) (names : List Name) → part_of (map (position_of heading) names) row ≡ map (value_of heading row) names
 by_names heading row [] = refl
 by_names heading row (n ∷ names) = ap (λ vs. value_of heading row n ∷ vs) (by_names heading row names)
-
-map_same : {X Y : Type 0} (f g : X → Y) (xs : List X) → ((x : X) → In x xs → f x ≡ g x) → map f xs ≡ map g xs
-map_same f g [] h = refl
-map_same f g (x ∷ xs) h = ap₂ (λ u us. u ∷ us) (h x (inl refl)) (map_same f g xs (λ y i. h y (inr i)))
 
 maps_agree : {X : Type 0} (f g : X → Value) (xs : List X) → map f xs ≡ map g xs → (x : X) → In x xs → f x ≡ g x
 maps_agree f g [] e x i = absurd i
@@ -67,7 +64,7 @@ whole_row (a ∷ rest) [] apart e = absurd (omega (arith, e))
 whole_row (a ∷ rest) (v ∷ vs) apart e =
     let first : value_of (a ∷ rest) (v ∷ vs) a.0 ≡ v = ap (λ b. get_or (v ∷ vs) (if b then 0 else suc (position_of rest a.0)) (truth false)) (nat_list_eq_equiv.refl a.0) in
     let others : map (value_of (a ∷ rest) (v ∷ vs)) (names_of rest) ≡ map (value_of rest vs) (names_of rest) =
-    map_same (value_of (a ∷ rest) (v ∷ vs)) (value_of rest vs) (names_of rest) (λ n i.
+    map-In (value_of (a ∷ rest) (v ∷ vs)) (value_of rest vs) (names_of rest) (λ n i.
     let b = (In-map (λ c. c.0) n rest).0 i in
     behind (bytes_eq a.0 n) v vs (position_of rest n) refl' (λ k. apart.0 b.0 b.1 (ties_by_name a b.0 (name_is a.0 n k ∙ b.2)))) in
     ap₂ (λ u us. u ∷ us) first (others ∙ whole_row rest vs apart.1 (omega (arith, e)))
@@ -133,16 +130,6 @@ module _ (left right : Heading) (first : Ascends attribute_cmp left) (second : A
       let w = (list_any-In (λ b. bytes_eq b.0 name) right).0 e in
       (list_any-In (λ b. bytes_eq b.0 name) (joined_heading left right)).1 (w.0, (In-joined left right first second kinds w.0).1 ((In-append w.0 left right).1 (inr w.1)), w.2)
 
-  of_name : (heading : Heading) (name : Name) → In name (names_of heading) → IsTrue (has_name heading name)
-  of_name heading name i =
-      let a = (In-map (λ b. b.0) name heading).0 i in
-      subst (λ m. IsTrue (has_name heading m)) (sym a.2) (named_In heading a.0 a.1)
-
-  to_name : (heading : Heading) (name : Name) → IsTrue (has_name heading name) → In name (names_of heading)
-  to_name heading name e =
-      let w = (list_any-In (λ b. bytes_eq b.0 name) heading).0 e in
-      (In-map (λ b. b.0) name heading).1 (w.0, w.1, sym (name_is w.0.0 name w.2))
-
   -- rows that agree have one value beside a name that is in both
   one_value : (x y : Row) → IsTrue (agree left right x y) → (name : Name) → IsTrue (has_name left name) → IsTrue (has_name right name) → value_of left x name ≡ value_of right y name
   one_value x y e name here there =
@@ -153,7 +140,7 @@ module _ (left right : Heading) (first : Ascends attribute_cmp left) (second : A
   agree_by_name : (x y : Row) → ((name : Name) → IsTrue (has_name left name) → IsTrue (has_name right name) → value_of left x name ≡ value_of right y name) → IsTrue (agree left right x y)
   agree_by_name x y h =
       (eq_by_cmp-≡ row_cmp row_total row_separates (part_of (common_positions left left right) x) (part_of (common_positions right left right) y)).1 (by_names left x (common_names left right)
-      ∙ (map_same (value_of left x) (value_of right y) (common_names left right) (λ n i. let w = (In-filter (has_name right) n (names_of left)).0 i in h n (of_name left n w.0) w.1)
+      ∙ (map-In (value_of left x) (value_of right y) (common_names left right) (λ n i. let w = (In-filter (has_name right) n (names_of left)).0 i in h n (of_name left n w.0) w.1)
       ∙ sym (by_names right y (common_names left right))))
 
   -- ---- a row made of two
@@ -165,7 +152,7 @@ module _ (left right : Heading) (first : Ascends attribute_cmp left) (second : A
     pub left_part : part_of (positions_in (joined_heading left right) left) (joined_row left right x y) ≡ x
     left_part =
         by_names (joined_heading left right) (joined_row left right x y) (names_of left)
-        ∙ (map_same (value_of (joined_heading left right) (joined_row left right x y)) (value_of left x) (names_of left) (λ n i.
+        ∙ (map-In (value_of (joined_heading left right) (joined_row left right x y)) (value_of left x) (names_of left) (λ n i.
         let here = of_name left n i in
         value_of_part (left ++ right) (joined_heading left right) (x ++ y) n (named_left n here)
         ∙ (value_of_both left right x y n (length_of_fit left x mine) ∙ ap (λ b. cond b (value_of left x n) (value_of right y n)) here))
@@ -178,7 +165,7 @@ module _ (left right : Heading) (first : Ascends attribute_cmp left) (second : A
     pub right_part : IsTrue (agree left right x y) → part_of (positions_in (joined_heading left right) right) (joined_row left right x y) ≡ y
     right_part e =
         by_names (joined_heading left right) (joined_row left right x y) (names_of right)
-        ∙ (map_same (value_of (joined_heading left right) (joined_row left right x y)) (value_of right y) (names_of right) (λ n i.
+        ∙ (map-In (value_of (joined_heading left right) (joined_row left right x y)) (value_of right y) (names_of right) (λ n i.
         let there = of_name right n i in
         value_of_part (left ++ right) (joined_heading left right) (x ++ y) n (named_right n there)
         ∙ (value_of_both left right x y n (length_of_fit left x mine) ∙ of_either (has_name left n) (value_of left x n) (value_of right y n) (λ here. one_value x y e n here there)))
@@ -214,7 +201,7 @@ module _ (left right : Heading) (first : Ascends attribute_cmp left) (second : A
       let y = part_of (positions_in (joined_heading left right) right) z in
       let long : length (part_of (positions_in (joined_heading left right) left) z) ≡ length left = size_of_part left z in
       by_names (left ++ right) (x ++ y) (names_of (joined_heading left right))
-      ∙ (map_same (value_of (left ++ right) (x ++ y)) (value_of (joined_heading left right) z) (names_of (joined_heading left right)) (λ n i.
+      ∙ (map-In (value_of (left ++ right) (x ++ y)) (value_of (joined_heading left right) z) (names_of (joined_heading left right)) (λ n i.
       value_of_both left right x y n long
       ∙ either_value (has_name left n) (value_of left x n) (value_of right y n) (value_of (joined_heading left right) z n) (λ here. value_of_part (joined_heading left right) left z n here)
       (λ other. value_of_part (joined_heading left right) right z n (not_left n i other)))

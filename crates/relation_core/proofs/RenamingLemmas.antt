@@ -42,7 +42,7 @@ length-renamed (n ∷ names) (a ∷ rest) e = let h = length-renamed names rest 
 -- ---- different names
 
 -- the name of an attribute with a new name is one of these
-name_in : (names : List Name) (heading : Heading) (a : Name × Kind) → In a (renamed names heading) → In a.0 names
+pub name_in : (names : List Name) (heading : Heading) (a : Name × Kind) → In a (renamed names heading) → In a.0 names
 name_in [] heading a i = absurd i
 name_in (n ∷ names) [] a i = absurd i
 name_in (n ∷ names) (b ∷ rest) a i = elim i [ inl e ↦ inl (ap (λ (z : Name × Kind). z.0) e) | inr j ↦ inr (name_in names rest a j) ]

@@ -10,6 +10,7 @@ use Rattle.std.proofs.lemmas.List.Elements.{filter_agree}
 use Rattle.std.proofs.lemmas.Cmp.{tied_itself, alike_right}
 use Rattle.std.proofs.lemmas.List.{get_or-drop}
 use Rattle.std.proofs.lemmas.List.MinMax.{ranks_by}
+use Rattle.base_core.proofs.OrderingLemmas.{is_eq-Equal}
 
 -- ---- where a member is not less than one before it
 
@@ -27,11 +28,6 @@ less_of : (r : Ordering) → is_lt r ≡ true → r ≡ Less
 less_of Less e = refl
 less_of Equal e = absurd (true≢false (sym e))
 less_of Greater e = absurd (true≢false (sym e))
-
-equal_of : (r : Ordering) → is_eq r ≡ true → r ≡ Equal
-equal_of Less e = absurd (true≢false (sym e))
-equal_of Equal e = refl
-equal_of Greater e = absurd (true≢false (sym e))
 
 module _ {E K : Type 0} (key : E → K) (cmp : K → K → Ordering) (o : IsTotalOrder cmp) where
   less : E → E → Bool
@@ -53,7 +49,7 @@ module _ {E K : Type 0} (key : E → K) (cmp : K → K → Ordering) (o : IsTota
   -- what is not above a key and not below it has it
   at_down : (x y k : K) → is_lt (cmp y x) ≡ false → is_lt (cmp x k) ≡ false → is_eq (cmp y k) ≡ true → is_eq (cmp x k) ≡ true
   at_down x y k up low e =
-      let same : cmp y k ≡ Equal = equal_of (cmp y k) e in
+      let same : cmp y k ≡ Equal = is_eq-Equal (cmp y k) e in
       elim (cmp x y) as (λ r. cmp x y ≡ r → is_eq (cmp x k) ≡ true) [
         | Less ↦ λ h. absurd (true≢false (sym (ap is_lt (sym (alike_right o y k x same) ∙ h)) ∙ low))
         | Equal ↦ λ h. ap is_eq (o.congr x y k h) ∙ e

@@ -9,7 +9,7 @@ use Rattle.base_core.specs.Outcomes.{then_give, least_of_all}
 use Rattle.point_core.specs.Faults.{OrFault}
 use Rattle.value_core.specs.Values.{Row, row_cmp, rows_of}
 use Rattle.relation_core.specs.Agreement.{part_of}
-use Rattle.relation_core.specs.Operators.{fault_order}
+use Rattle.point_core.specs.Orders.{fault_order}
 use Rattle.relation_core.specs.Parts.{projected}
 
 -- the numbers of the rows that pass the test, where the first row has the number n

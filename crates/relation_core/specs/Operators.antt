@@ -3,12 +3,10 @@
 --     restricted      the rows for which a test gives TRUE, or its least fault
 --     extended      what a function gives of each row, or its least fault
 use Rattle.std.specs.Prelude.{Bool, false, List, map, filter, Ok, Err}
-use Rattle.std.specs.declared.cmp.Ordering.{Ordering}
 use Rattle.base_core.specs.Outcomes.{then_give, least_of_all}
 use Rattle.base_core.specs.Sets.{union_of, common_of, difference_of}
 use Rattle.point_core.specs.Faults.{OrFault}
-use Rattle.point_core.specs.declared.fault.Fault.{Fault}
-use Rattle.point_core.specs.contracts.fault.FaultOrd.TheImpl.{cmp-value}
+use Rattle.point_core.specs.Orders.{fault_order}
 use Rattle.value_core.specs.Values.{Row, row_cmp, rows_of}
 
 abbrev pub united : List Row → List Row → List Row
@@ -21,10 +19,6 @@ abbrev pub intersected : List Row → List Row → List Row
 intersected = common_of row_cmp
 
 -- ---- by functions of a row
-
--- faults by place, and then by code
-abbrev pub fault_order : Fault → Fault → Ordering
-fault_order = cmp-value.it
 
 -- whether a test gives TRUE
 abbrev pub is_true : OrFault Bool → Bool

@@ -5,16 +5,14 @@ use Rattle.std.specs.Str.{IsUtf8}
 use Rattle.std.specs.Str.Lossy.{utf8_valid_len}
 use Rattle.std.proofs.lemmas.Str.{utf8_valid_len-IsUtf8}
 use Rattle.std.proofs.lemmas.Bool.{le-leb, leb-true}
-use Rattle.value_core.specs.Lengths.{IsNameLength}
-use Rattle.scalar_typing.specs.Literals.{is_utf8}
+use Rattle.value_core.specs.Lengths.{IsNameLength, is_utf8}
 use Rattle.std.specs.List.Sorted.{IsStrictlySortedBy}
 use Rattle.std.specs.Map.{lookup, keys_of}
 use Rattle.std.specs.BTreeMap.{is_at}
 use Rattle.std.specs.Str.{bytes_eq}
 use Rattle.std.specs.Cmp.Lexicographic.{texts_ties}
-use Rattle.std.proofs.lemmas.Slice.Eq.{bytes_eq-Decides}
-use Rattle.std.proofs.lemmas.Bool.Decides.{same_from_decides}
 use Rattle.base_core.proofs.SetLemmas.{AllAfter, Ascends, Ascends-from_sorted}
+use Rattle.base_core.proofs.ListLemmas.{bytes_eq-sym}
 use Rattle.value_core.specs.declared.kind.Kind.{Kind}
 use Rattle.value_core.specs.Headings.{has_name, IsHeadingOf}
 use Rattle.value_core.specs.Limits.{most_attributes, most_name_bytes}
@@ -46,12 +44,6 @@ made-name bytes text (Err e) same valid h = tt
 
 -- ---- the attributes of a map
 
-same-bytes : (a b : List ℕ) → bytes_eq a b ≡ bytes_eq b a
-same-bytes a b =
-    let here = bytes_eq-Decides a b in
-    let there = bytes_eq-Decides b a in
-    same_from_decides (bytes_eq a b) (bytes_eq b a) here (λ e. sym (there.0 e), λ e. there.1 (sym e))
-
 -- a name is a key where an attribute has it
 found-if : (name : Name) (a : Name × Kind) (rest : Heading) (b : Bool) → is_at (name_cmp name) a.0 ≡ b → bytes_eq a.0 name ≡ b →
     is_some (lookup (is_at (name_cmp name)) rest) ≡ has_name rest name → is_some (lookup (is_at (name_cmp name)) (a ∷ rest)) ≡ has_name (a ∷ rest) name
@@ -61,7 +53,7 @@ found-if name a rest false e f h = rw (e, f) h
 pub has-key : (attributes : Heading) (name : Name) → is_some (lookup (is_at (name_cmp name)) attributes) ≡ has_name attributes name
 has-key [] name = refl
 has-key (a ∷ rest) name =
-    found-if name a rest (bytes_eq a.0 name) (sym (same-bytes a.0 name ∙ texts_ties name a.0)) refl (has-key rest name)
+    found-if name a rest (bytes_eq a.0 name) (sym (bytes_eq-sym a.0 name ∙ texts_ties name a.0)) refl (has-key rest name)
 
 keys-after : (name : Name) (kind : Kind) (rest : Heading) → AllAfter name_cmp name (keys_of rest) → AllAfter attribute_cmp (name, kind) rest
 keys-after name kind [] h = tt

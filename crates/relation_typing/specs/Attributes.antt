@@ -9,7 +9,7 @@ use Rattle.value_core.specs.declared.kind.Kind.{Kind}
 use Rattle.value_core.specs.Headings.{has_name}
 use Rattle.value_core.specs.Limits.{most_attributes, most_name_bytes}
 use Rattle.value_core.specs.Values.{Name, Heading, name_cmp}
-use Rattle.scalar_typing.specs.Literals.{is_utf8}
+use Rattle.value_core.specs.Lengths.{is_utf8}
 use Rattle.scalar_typing.specs.Typings.{◌>>=◌, refused}
 
 -- the attributes with one more; one of that name is replaced

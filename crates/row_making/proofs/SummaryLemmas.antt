@@ -2,7 +2,8 @@
 use Rattle.std.proofs.Common.{◌≡◌, ◌↔◌, ℕ, zero, suc, ◌<◌, Bool, false, List, [], ◌∷◌, length, map, get_or, refl, sym, ap, ◌∙◌, subst, arith, Option, Some, None, IsNone, IfSome}
 use Rattle.std.specs.Cmp.{IsStrictWeakOrder}
 use Rattle.std.specs.List.{IsFirstBest}
-use Rattle.std.proofs.lemmas.List.MinMax.{ranks_by, IsStrictWeakOrder-flip, IsFirstBest-unique, IsFirstBest-from_best_of}
+use Rattle.std.proofs.lemmas.List.MinMax.{IsFirstBest-unique, IsFirstBest-from_best_of}
+use Rattle.std.proofs.lemmas.List.{get_or_default}
 use Rattle.point_core.specs.Faults.{OrFault}
 use Rattle.base_core.specs.Outcomes.{least_of_all}
 use Rattle.value_core.specs.declared.value.Value.{Value}
@@ -11,26 +12,13 @@ use Rattle.value_core.specs.Values.{Row, truth, Value as PlainValue}
 use Rattle.scalar_core.specs.Expressions.{Expr}
 use Rattle.scalar_core.specs.ScalarValues.{value}
 use Rattle.relation_core.specs.Groups.{rows_at}
-use Rattle.relation_core.specs.Operators.{fault_order}
+use Rattle.point_core.specs.Orders.{fault_order}
 use Rattle.tree_core.specs.Trees.{read_aggregate, read_aggregate_form}
 use Rattle.tree_core.specs.declared.tree.Aggregate.{Aggregate}
 use Rattle.meaning_core.specs.Rows.{extreme, picked, values_over}
-use Rattle.u_summary.specs.Summaries.{is_before}
-use Rattle.value_core.specs.Order.{value_total}
 use Rattle.meaning_core.specs.Scalars.{AreSummedOver, IsSummedOver}
 
 -- ---- extremes
-
-pub before_ranks : IsStrictWeakOrder is_before
-before_ranks = ranks_by value_total (λ (v : PlainValue). v)
-
-pub after_ranks : IsStrictWeakOrder (λ v w. is_before w v)
-after_ranks = IsStrictWeakOrder-flip is_before before_ranks
-
-any_default : {X : Type 0} (xs : List X) (i : ℕ) (d e : X) → i < length xs → get_or xs i d ≡ get_or xs i e
-any_default [] i d e l = absurd (omega arith)
-any_default (x ∷ xs) zero d e l = refl
-any_default (x ∷ xs) (suc i) d e l = any_default xs i d e (omega arith)
 
 pub picked_best : (beats : PlainValue → PlainValue → Bool) → IsStrictWeakOrder beats → (values : List Value) (best : Option ℕ)
     → IfSome best (IsFirstBest beats (map plain values) (length (map plain values))) → (IsNone best ↔ (values ≡ [])) → picked best (map plain values) ≡ extreme beats (map plain values)
@@ -40,7 +28,7 @@ picked_best beats o (w ∷ ws) None first none = let e : w ∷ ws ≡ [] = none.
 picked_best beats o (w ∷ ws) (Some i) first none =
     let best = IsFirstBest-from_best_of o (plain w) (map plain ws) in
     let same : i ≡ best.0 = IsFirstBest-unique o (map plain (w ∷ ws)) (length (map plain (w ∷ ws))) i best.0 (plain w) first best.1 in
-    any_default (map plain (w ∷ ws)) i (truth false) (plain w) first.0 ∙ (ap (λ (j : ℕ). get_or (map plain (w ∷ ws)) j (plain w)) same ∙ best.2)
+    get_or_default (map plain (w ∷ ws)) i (truth false) (plain w) first.0 ∙ (ap (λ (j : ℕ). get_or (map plain (w ∷ ws)) j (plain w)) same ∙ best.2)
 
 -- ---- the rows of a group
 
@@ -58,4 +46,4 @@ pub values_by_numbers : (e : Expr) (rows : List Row) (numbers : List ℕ) → le
 values_by_numbers e rows numbers = ap (least_of_all fault_order) (over_numbers e rows numbers)
 
 pub row_at : (rows : List Row) (i : ℕ) (x : Row) → i < length rows → x ≡ get_or rows i x → x ≡ get_or rows i []
-row_at rows i x l is = is ∙ any_default rows i x [] l
+row_at rows i x l is = is ∙ get_or_default rows i x [] l

@@ -6,6 +6,8 @@ use Rattle.std.specs.Ordering.{int_cmp, ordering_then}
 use Rattle.std.specs.declared.cmp.Ordering.{Ordering}
 use Rattle.std.specs.declared.cmp.Ordering.TheVariants.{Equal}
 use Rattle.std.proofs.lemmas.Int.{ints}
+use Rattle.base_core.proofs.BoolLemmas.{and_right}
+use Rattle.base_core.proofs.IntLemmas.{int_le-le, le_itself}
 use Rattle.point_core.specs.declared.fault.Place.{Place}
 use Rattle.point_core.specs.declared.any_type.AnyType.{AnyType}
 use Rattle.point_core.specs.Points.{Line, integers, days, values_of, line_of, is_number}
@@ -24,8 +26,6 @@ use Rattle.scalar_core.specs.Kinds.{PairKinds}
 use Rattle.scalar_core.specs.Operations.{compared, related, begin_of, end_of, pair_of}
 use Rattle.scalar_core.specs.Sweeping.{is_comparison}
 use Rattle.scalar_core.proofs.NearLemmas.{NearPoint, NearSpan, one, before_it, between, behind_it, near_point, near_span, near_begin, near_end, span_back, alike_tests, cmp-alike_left, cmp-alike_right, member-alike_left, member-alike_right}
-use Rattle.scalar_core.proofs.PointLemmas.{and_right, int_le-le}
-use Rattle.scalar_core.proofs.AtPlaceLemmas.{itself}
 
 -- ---- comparisons of intervals
 
@@ -102,13 +102,13 @@ moved_right Ends j p q m near h =
 related-alike_left : (w : AllenWord) (j : Span) (p q : ℤ) → j.0 ≤ℤ j.1 → NearSpan j p q → related w (p, p) j ≡ related w (q, q) j
 related-alike_left w j p q m near =
     alike_tests (related w (p, p) j) (related w (q, q) j) (RelatedByEnds w (p, p) j) (RelatedByEnds w (q, q) j)
-    (related-ends w (p, p) j (itself p) m) (related-ends w (q, q) j (itself q) m)
+    (related-ends w (p, p) j (le_itself p) m) (related-ends w (q, q) j (le_itself q) m)
     (moved_left w j p q m near) (moved_left w j q p m (span_back j p q near))
 
 related-alike_right : (w : AllenWord) (j : Span) (p q : ℤ) → j.0 ≤ℤ j.1 → NearSpan j p q → related w j (p, p) ≡ related w j (q, q)
 related-alike_right w j p q m near =
     alike_tests (related w j (p, p)) (related w j (q, q)) (RelatedByEnds w j (p, p)) (RelatedByEnds w j (q, q))
-    (related-ends w j (p, p) m (itself p)) (related-ends w j (q, q) m (itself q))
+    (related-ends w j (p, p) m (le_itself p)) (related-ends w j (q, q) m (le_itself q))
     (moved_right w j p q m near) (moved_right w j q p m (span_back j p q near))
 
 -- ---- the order of values

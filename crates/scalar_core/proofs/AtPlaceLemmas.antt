@@ -1,7 +1,10 @@
 -- The row at a place within its intervals has the row's heading: what is typed over the one is typed over the other.
-use Rattle.std.specs.Prelude.{◌≡◌, ℕ, zero, suc, ℤ, ◌≤ℤ◌, ◌&&◌, int_le, IsTrue, List, [], ◌∷◌, Some, slice_get, unwrap_or, false, true, refl}
+use Rattle.std.specs.Prelude.{◌≡◌, ℕ, zero, suc, ℤ, ◌&&◌, int_le, IsTrue, List, [], ◌∷◌, Some, slice_get, unwrap_or, false, true, refl}
 use Rattle.std.proofs.Common.{sym, ap, subst, arith}
 use Rattle.std.proofs.lemmas.Int.{ints}
+use Rattle.std.proofs.lemmas.Bool.{and_from}
+use Rattle.base_core.proofs.BoolLemmas.{and_left, and_right}
+use Rattle.base_core.proofs.IntLemmas.{le-int_le, le_itself}
 use Rattle.point_core.specs.declared.any_type.AnyType.{AnyType}
 use Rattle.point_core.specs.Points.{is_number, line_of}
 use Rattle.interval_core.specs.Members.{at_point}
@@ -9,14 +12,12 @@ use Rattle.value_core.specs.declared.kind.Kind.{Kind}
 use Rattle.value_core.specs.declared.kind.Kind.TheVariants.{Truth, Char, Point, Span as SpanOf}
 use Rattle.value_core.specs.Attributes.{with_span, put_span, span_of, value_at}
 use Rattle.value_core.specs.Values.{Value, truth, text, point, interval, Row, Name, Heading, fits, fits_heading, is_interval, same_line}
+use Rattle.value_core.proofs.FitLemmas.{is_number-number}
 use Rattle.scalar_core.specs.AtPlaces.{at_place, IsWithin, AreWithin}
 use Rattle.scalar_core.specs.Expressions.{Expr}
 use Rattle.scalar_core.specs.Kinds.{IsTypedOver}
 use Rattle.scalar_core.proofs.KindLemmas.{fits_heading-get, span_of-fits, begin-number, end-number}
-use Rattle.scalar_core.proofs.PointLemmas.{and_left, and_right, both_true, le-int_le, is_number-number, number-is_number}
-
-pub itself : (p : ℤ) → p ≤ℤ p
-itself p = omega (arith, ints)
+use Rattle.scalar_core.proofs.PointLemmas.{number-is_number}
 
 pub point-fits_as : (kind : Kind) (v : Value) (p : ℤ) → IsTrue (fits kind v) → ((t : AnyType) → kind ≡ SpanOf t → is_number t p ≡ true) → IsTrue (fits kind (with_span v (at_point p)))
 point-fits_as kind (truth b) p h n = h
@@ -26,8 +27,8 @@ point-fits_as Truth (interval l i) p h n = absurd cc
 point-fits_as Char (interval l i) p h n = absurd cc
 point-fits_as (Point t) (interval l i) p h n = absurd cc
 point-fits_as (SpanOf t) (interval l i) p h n =
-    both_true (same_line l (line_of t)) (is_interval t (at_point p)) (and_left (same_line l (line_of t)) (is_interval t i) h)
-    (both_true (is_number t p) (is_number t p && int_le p p) (n t refl) (both_true (is_number t p) (int_le p p) (n t refl) (le-int_le p p (itself p))))
+    and_from (same_line l (line_of t)) (is_interval t (at_point p)) (and_left (same_line l (line_of t)) (is_interval t i) h)
+    (and_from (is_number t p) (is_number t p && int_le p p) (n t refl) (and_from (is_number t p) (int_le p p) (n t refl) (le-int_le p p (le_itself p))))
 
 -- the number is one of the type that the heading has at the position
 abbrev pub IsNumberAt : Heading → ℕ → ℤ → Type 0
@@ -38,11 +39,11 @@ put_span-fits [] [] a p h n = h
 put_span-fits [] (v ∷ vs) a p h n = absurd cc
 put_span-fits (b ∷ rest) [] a p h n = absurd cc
 put_span-fits (b ∷ rest) (v ∷ vs) zero p h n =
-    both_true (fits b.1 (with_span v (at_point p))) (fits_heading rest vs)
+    and_from (fits b.1 (with_span v (at_point p))) (fits_heading rest vs)
     (point-fits_as b.1 v p (and_left (fits b.1 v) (fits_heading rest vs) h) (λ t e. n b.0 t (ap (λ (k : Kind). Some (b.0, k)) e)))
     (and_right (fits b.1 v) (fits_heading rest vs) h)
 put_span-fits (b ∷ rest) (v ∷ vs) (suc a) p h n =
-    both_true (fits b.1 v) (fits_heading rest (put_span vs a (at_point p))) (and_left (fits b.1 v) (fits_heading rest vs) h)
+    and_from (fits b.1 v) (fits_heading rest (put_span vs a (at_point p))) (and_left (fits b.1 v) (fits_heading rest vs) h)
     (put_span-fits rest vs a p (and_right (fits b.1 v) (fits_heading rest vs) h) n)
 
 pub within-number : (heading : Heading) (row : Row) (a : ℕ) (p : ℤ) → IsTrue (fits_heading heading row) → IsWithin (span_of (value_at row a)) p → IsNumberAt heading a p

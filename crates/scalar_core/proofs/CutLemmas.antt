@@ -14,12 +14,13 @@ use Rattle.std.specs.FinMap.{int_cmp-IsAntisymmetric}
 use Rattle.base_core.specs.Sets.{in_order}
 use Rattle.base_core.proofs.SetLemmas.{in_order_of_sorted}
 use Rattle.base_core.proofs.SetOperatorLemmas.{in_order-filter}
+use Rattle.base_core.proofs.BoolLemmas.{and_left, and_right}
+use Rattle.base_core.proofs.IntLemmas.{int_le-le, int_lt-lt}
 use Rattle.point_core.specs.declared.any_type.AnyType.{AnyType}
 use Rattle.point_core.specs.declared.any_type.AnyPoint.{AnyPoint}
 use Rattle.point_core.specs.Points.{line, number, IsPointOf}
 use Rattle.interval_core.specs.Members.{Span, span}
 use Rattle.scalar_core.specs.Cuts.{is_inside}
-use Rattle.scalar_core.proofs.PointLemmas.{and_left, and_right, int_le-le, int_lt-lt}
 
 -- what a sort and a dedup leave
 pub numbers_from_sort : (given sorted kept : List ℤ) → IsPermutation given sorted → IsSorted int_cmp sorted → IsFiltered (DiffersFromLast int_eq) [] sorted kept

@@ -33,7 +33,11 @@ use Rattle.base_core.specs.Sets.{are_same}
 use Rattle.std.specs.Int.{int_min, int_max}
 use Rattle.std.specs.Ordering.{int_cmp, int_eq}
 use Rattle.std.proofs.lemmas.Int.{fold-int_max_bounds, fold-int_min_bounds}
-use Rattle.scalar_core.proofs.PointLemmas.{and_left, and_right, both_true, same_line-self, le-int_le, int_lt-lt, is_number-number, number-is_number}
+use Rattle.std.proofs.lemmas.Bool.{and_from}
+use Rattle.base_core.proofs.BoolLemmas.{and_left, and_right}
+use Rattle.base_core.proofs.IntLemmas.{le-int_le, int_lt-lt}
+use Rattle.value_core.proofs.FitLemmas.{is_number-number}
+use Rattle.scalar_core.proofs.PointLemmas.{same_line-self, number-is_number}
 
 -- a row has a value of its kind at each attribute of its heading
 pub fits_heading-get : (heading : Heading) (row : Row) (i : ℕ) (name : Name) (kind : Kind) → IsTrue (fits_heading heading row) →
@@ -71,7 +75,7 @@ chosen_else false m a v e = inl e
 
 -- ---- the kinds of answers
 
-integer-fits : (place : Place) (z : ℤ) (w : Value) → integer place z ≡ Ok w → IsTrue (fits (Point Integer) w)
+pub integer-fits : (place : Place) (z : ℤ) (w : Value) → integer place z ≡ Ok w → IsTrue (fits (Point Integer) w)
 integer-fits place z w e =
     let parts = tested (is_number Integer z) (point integers z) w _ e in
     subst (λ x. IsTrue (fits (Point Integer) x)) parts.1 parts.0
@@ -85,10 +89,10 @@ joined_text-fits place bytes w e =
     subst (λ x. IsTrue (fits Char x)) parts.1 parts.0
 
 point-in_line : (t : AnyType) (p : ℤ) → is_number t p ≡ true → IsTrue (fits (Point t) (point (line_of t) p))
-point-in_line t p h = both_true (same_line (line_of t) (line_of t)) (is_number t p) (same_line-self (line_of t)) h
+point-in_line t p h = and_from (same_line (line_of t) (line_of t)) (is_number t p) (same_line-self (line_of t)) h
 
 interval-in_line : (t : AnyType) (i : Ends) → is_interval t i ≡ true → IsTrue (fits (Span t) (interval (line_of t) i))
-interval-in_line t i h = both_true (same_line (line_of t) (line_of t)) (is_interval t i) (same_line-self (line_of t)) h
+interval-in_line t i h = and_from (same_line (line_of t) (line_of t)) (is_interval t i) (same_line-self (line_of t)) h
 
 point_or-fits : (place : Place) (t : AnyType) (o : Option ℤ) (w : Value) → ((p : ℤ) → o ≡ Some p → is_number t p ≡ true) →
     point_or place t o ≡ Ok w → IsTrue (fits (Point t) w)
@@ -127,14 +131,14 @@ begin_of-fits t (truth b) h = absurd cc
 begin_of-fits t (text bytes) h = absurd cc
 begin_of-fits t (point l p) h = absurd cc
 begin_of-fits t (interval l i) h =
-    both_true (same_line l (line_of t)) (is_number t i.0) (and_left _ _ h) (begin-number t i (and_right (same_line l (line_of t)) (is_interval t i) h))
+    and_from (same_line l (line_of t)) (is_number t i.0) (and_left _ _ h) (begin-number t i (and_right (same_line l (line_of t)) (is_interval t i) h))
 
 end_of-fits : (t : AnyType) (v : Value) → IsTrue (fits (Span t) v) → IsTrue (fits (Point t) (end_of v))
 end_of-fits t (truth b) h = absurd cc
 end_of-fits t (text bytes) h = absurd cc
 end_of-fits t (point l p) h = absurd cc
 end_of-fits t (interval l i) h =
-    both_true (same_line l (line_of t)) (is_number t i.1) (and_left _ _ h) (end-number t i (and_right (same_line l (line_of t)) (is_interval t i) h))
+    and_from (same_line l (line_of t)) (is_number t i.1) (and_left _ _ h) (end-number t i (and_right (same_line l (line_of t)) (is_interval t i) h))
 
 -- ---- the numbers of answers
 
@@ -181,8 +185,8 @@ interval_of-fits t (n ∷ ns) i all e =
     let low = (fold-int_min_bounds n ns (fold int_min n ns) refl).0 in
     let high = (fold-int_max_bounds n ns (fold int_max n ns) refl).0 in
     subst (λ (j : Ends). is_interval t j ≡ true) parts.1
-    (both_true _ _ (least-number t n ns first rest)
-    (both_true _ _ (greatest-number t n ns first rest)
+    (and_from _ _ (least-number t n ns first rest)
+    (and_from _ _ (greatest-number t n ns first rest)
     (le-int_le (fold int_min n ns) (fold int_max n ns) (omega (arith, ints)))))
 
 member-number : (t : AnyType) (i : Ends) (x : ℤ) → is_interval t i ≡ true → In x (members i) → is_number t x ≡ true
@@ -224,7 +228,7 @@ between-fits t None p i h g e = absurd cc
 between-fits t (Some b) None i h g e = absurd cc
 between-fits t (Some b) (Some e) i h g given =
     let parts = ok_if (int_le b e) (b, e) i Empty given in
-    subst (λ (j : Ends). is_interval t j ≡ true) parts.1 (both_true _ _ (h b refl) (both_true _ _ (g e refl) parts.0))
+    subst (λ (j : Ends). is_interval t j ≡ true) parts.1 (and_from _ _ (h b refl) (and_from _ _ (g e refl) parts.0))
 
 selected-fits : (t : AnyType) (brackets : Brackets) (b e : ℤ) (i : Ends) → is_number t b ≡ true → is_number t e ≡ true →
     selected (first_of t) (last_of t) brackets b e ≡ Ok i → is_interval t i ≡ true

@@ -1,7 +1,8 @@
 -- An expression that has a kind is typed for the heading, and gives values of that kind.
 use Rattle.std.specs.Prelude.{◌≡◌, Bool, true, false, ◌&&◌, nat_eq, IsTrue, Option, Some, None, slice_get, option_map, refl}
 use Rattle.std.proofs.Common.{sym, ◌∙◌, ap, subst, eq-eqb}
-use Rattle.std.proofs.lemmas.Bool.{eqb-true}
+use Rattle.std.proofs.lemmas.Bool.{eqb-true, and_from}
+use Rattle.base_core.proofs.BoolLemmas.{and_left, and_right}
 use Rattle.point_core.specs.declared.any_type.AnyType.{AnyType}
 use Rattle.point_core.specs.declared.any_type.AnyType.TheVariants.{Integer, Date, Ordinal}
 use Rattle.value_core.specs.declared.kind.Kind.{Kind}
@@ -16,7 +17,6 @@ use Rattle.scalar_core.specs.declared.tree.CompareWord.TheVariants.{Equal, NotEq
 use Rattle.scalar_core.specs.Expressions.{Expr, constant, attribute, one, pair, and_expr, or_expr}
 use Rattle.scalar_core.specs.Kinds.{IsOrdered, Compares, OneKinds, PairKinds, AreOf, IsTyped, IsTypedOver}
 use Rattle.scalar_core.specs.KindOf.{same_type, same_kind, is_ordered, compares, point_kind, only, one_kind, are_of, two_kind, truth_kind, of_both, of_one, kind_of}
-use Rattle.scalar_core.proofs.PointLemmas.{and_left, and_right}
 
 pub same_type-same : (t u : AnyType) → same_type t u ≡ true → t ≡ u
 same_type-same Integer Integer h = refl
@@ -50,7 +50,7 @@ ordered Char h = tt
 ordered (Point t) h = tt
 ordered (Span t) h = absurd cc
 
-compares-Compares : (w : CompareWord) (kind : Kind) → compares w kind ≡ true → Compares w kind
+pub compares-Compares : (w : CompareWord) (kind : Kind) → compares w kind ≡ true → Compares w kind
 compares-Compares Equal kind h = tt
 compares-Compares NotEqual kind h = tt
 compares-Compares Less kind h = ordered kind h
@@ -148,14 +148,10 @@ over-typed heading row e kind fitting typed = (heading, kind, fitting, typed)
 
 -- ---- the other way: a typed expression has its kind
 
-both_true : (a b : Bool) → a ≡ true → b ≡ true → (a && b) ≡ true
-both_true true b h k = k
-both_true false b h k = h
-
-same_type-self : (t : AnyType) → same_type t t ≡ true
+pub same_type-self : (t : AnyType) → same_type t t ≡ true
 same_type-self Integer = refl
 same_type-self Date = refl
-same_type-self (Ordinal of last) = both_true (nat_eq of of) (nat_eq last last) (eq-eqb of of refl) (eq-eqb last last refl)
+same_type-self (Ordinal of last) = and_from (nat_eq of of) (nat_eq last last) (eq-eqb of of refl) (eq-eqb last last refl)
 
 pub same_kind-self : (k : Kind) → same_kind k k ≡ true
 same_kind-self Truth = refl
@@ -176,7 +172,7 @@ one_from part k j kind h = only-from (same_kind part k) j kind (same_kind-from p
 both_from : (a b c left right kind : Kind) → AreOf a b c left right kind → only (are_of a b left right) c ≡ Some kind
 both_from a b c left right kind h =
     only-from (are_of a b left right) c kind
-    (both_true (same_kind left a) (same_kind right b) (same_kind-from left a h.0) (same_kind-from right b h.1)) h.2
+    (and_from (same_kind left a) (same_kind right b) (same_kind-from left a h.0) (same_kind-from right b h.1)) h.2
 
 is_ordered-from : (kind : Kind) → IsOrdered kind → is_ordered kind ≡ true
 is_ordered-from Truth h = absurd h
@@ -214,7 +210,7 @@ kinds-two_kind Divide left right kind h = both_from (Point Integer) (Point Integ
 kinds-two_kind Concat left right kind h = both_from Char Char Char left right kind h
 kinds-two_kind (Compare w) left right kind h =
     only-from (same_kind left right && compares w left) Truth kind
-    (both_true (same_kind left right) (compares w left) (same_kind-from left right h.0) (Compares-compares w left h.1)) h.2
+    (and_from (same_kind left right) (compares w left) (same_kind-from left right h.0) (Compares-compares w left h.1)) h.2
 kinds-two_kind (Allen w t) left right kind h = both_from (Span t) (Span t) Truth left right kind h
 kinds-two_kind (Member t) left right kind h = both_from (Point t) (Span t) Truth left right kind h
 kinds-two_kind (Select b t) left right kind h = both_from (Point t) (Point t) (Span t) left right kind h

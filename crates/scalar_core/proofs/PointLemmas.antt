@@ -1,33 +1,22 @@
 -- What it means that a point or an interval fits its type: its points are of the type, and stand on one line.
-use Rattle.std.specs.Prelude.{◌≡◌, ℤ, pos, ◌≤ℤ◌, ◌<ℤ◌, Bool, true, false, ◌&&◌, IsTrue, int_le, int_lt, refl, if◌then◌else◌}
+use Rattle.std.specs.Prelude.{◌≡◌, ℤ, pos, Bool, true, false, ◌&&◌, IsTrue, int_le, refl, if◌then◌else◌}
 use Rattle.std.proofs.Common.{sym, ◌∙◌, ap, subst, arith}
-use Rattle.std.specs.declared.cmp.Ordering.{Ordering}
-use Rattle.std.specs.declared.cmp.Ordering.TheVariants.{Less, Equal, Greater}
 use Rattle.std.specs.Ordering.{is_eq}
 use Rattle.std.specs.Cmp.{IsTotalOrder, int_cmp_total, on_total, tied_itself}
 use Rattle.std.specs.Cmp.Lexicographic.{lists_total}
-use Rattle.std.specs.FinMap.{int_cmp-IsAntisymmetric, slice_cmp-IsAntisymmetric}
+use Rattle.std.proofs.lemmas.Bool.{and_from, false≢true}
 use Rattle.std.proofs.lemmas.Int.{ints}
+use Rattle.base_core.proofs.BoolLemmas.{and_left, and_right}
+use Rattle.base_core.proofs.IntLemmas.{le-int_le}
 use Rattle.point_core.specs.declared.any_type.AnyType.{AnyType}
 use Rattle.point_core.specs.declared.any_type.AnyPoint.{AnyPoint}
 use Rattle.point_core.specs.Points.{Line, integers, days, values_of, line_of, line, number, is_number, first_of, last_of, IsNumber, IsPointOf}
+use Rattle.point_core.specs.declared.any_type.AnyType.TheVariants.{Integer, Date, Ordinal}
 use Rattle.interval_core.specs.Members.{span}
 use Rattle.value_core.specs.declared.kind.Kind.TheVariants.{Point, Span}
 use Rattle.value_core.specs.Values.{point, interval, fits, is_interval, same_line, line_key, line_cmp}
 use Rattle.value_core.specs.Plain.{ends}
-
-pub and_left : (a b : Bool) → (a && b) ≡ true → a ≡ true
-and_left true b h = refl
-and_left false b h = h
-
-pub and_right : (a b : Bool) → (a && b) ≡ true → b ≡ true
-and_right true b h = h
-and_right false b h = absurd cc
-
-is_eq-Equal : (o : Ordering) → is_eq o ≡ true → o ≡ Equal
-is_eq-Equal Less h = absurd cc
-is_eq-Equal Equal h = refl
-is_eq-Equal Greater h = absurd cc
+use Rattle.value_core.proofs.FitLemmas.{same_line-same, is_number-number}
 
 line_of_key : (l m : Line) → line_key l ≡ line_key m → l ≡ m
 line_of_key integers integers e = refl
@@ -40,39 +29,14 @@ line_of_key days (values_of n) e = absurd cc
 line_of_key (values_of m) integers e = absurd cc
 line_of_key (values_of m) days e = absurd cc
 
--- points that stand on one line
-pub same_line-same : (l m : Line) → same_line l m ≡ true → l ≡ m
-same_line-same l m h =
-    line_of_key l m (slice_cmp-IsAntisymmetric int_cmp-IsAntisymmetric (line_key l) (line_key m) (is_eq-Equal (line_cmp l m) h))
-
 line_total : IsTotalOrder line_cmp
 line_total = on_total line_key (lists_total int_cmp_total)
 
 pub same_line-self : (l : Line) → same_line l l ≡ true
 same_line-self l = ap is_eq (tied_itself line_total l)
 
-pub int_le-le : (a b : ℤ) → int_le a b ≡ true → a ≤ℤ b
-int_le-le a b h = grind (arith, ints)
-
-pub le-int_le : (a b : ℤ) → a ≤ℤ b → int_le a b ≡ true
-le-int_le a b h = grind (arith, ints)
-
-pub int_lt-lt : (a b : ℤ) → int_lt a b ≡ true → a <ℤ b
-int_lt-lt a b h = grind (arith, ints)
-
-pub lt-int_lt : (a b : ℤ) → a <ℤ b → int_lt a b ≡ true
-lt-int_lt a b h = grind (arith, ints)
-
-pub is_number-number : (t : AnyType) (n : ℤ) → is_number t n ≡ true → IsNumber t n
-is_number-number t n h =
-    (int_le-le (first_of t) n (and_left (int_le (first_of t) n) (int_le n (last_of t)) h), int_le-le n (last_of t) (and_right (int_le (first_of t) n) (int_le n (last_of t)) h))
-
-pub both_true : (a b : Bool) → a ≡ true → b ≡ true → (a && b) ≡ true
-both_true true b h k = k
-both_true false b h k = h
-
 pub number-is_number : (t : AnyType) (n : ℤ) → IsNumber t n → is_number t n ≡ true
-number-is_number t n h = both_true (int_le (first_of t) n) (int_le n (last_of t)) (le-int_le (first_of t) n h.0) (le-int_le n (last_of t) h.1)
+number-is_number t n h = and_from (int_le (first_of t) n) (int_le n (last_of t)) (le-int_le (first_of t) n h.0) (le-int_le n (last_of t) h.1)
 
 -- a point of the type
 pub point-fits : (t : AnyType) (p : AnyPoint) → IsTrue (fits (Point t) (point (line p) (number p))) → IsPointOf t p
@@ -80,9 +44,6 @@ point-fits t p h = (
   same_line-same (line p) (line_of t) (and_left (same_line (line p) (line_of t)) (is_number t (number p)) h),
   is_number-number t (number p) (and_right (same_line (line p) (line_of t)) (is_number t (number p)) h),
 )
-
-no_less : false ≡ true → ⊥
-no_less e = cc
 
 -- an interval of points of the type
 span-fits_at : (t : AnyType) (i : AnyPoint × AnyPoint) (b : Bool) → same_line (line i.0) (line i.1) ≡ b →
@@ -99,7 +60,7 @@ span-fits_at t i true e h =
 span-fits_at t i false e h =
     let inside : is_interval t (pos 1, pos 0) ≡ true = and_right _ _ h in
     let rest : (is_number t (pos 0) && false) ≡ true = and_right _ _ inside in
-    absurd (no_less (and_right (is_number t (pos 0)) false rest))
+    absurd (false≢true (and_right (is_number t (pos 0)) false rest))
 
 pub span-fits : (t : AnyType) (i : AnyPoint × AnyPoint) → IsTrue (fits (Span t) (interval (line i.0) (ends i))) →
     IsPointOf t i.0 × IsPointOf t i.1 × (ends i ≡ span number i)
@@ -112,7 +73,7 @@ fits-point t p h = ap (λ (l : Line). point l (number p)) h.0
 
 ends_at : (i : AnyPoint × AnyPoint) (b : Bool) → b ≡ true → (if b then (number i.0, number i.1) else (pos 1, pos 0)) ≡ span number i
 ends_at i true e = refl
-ends_at i false e = absurd (no_less e)
+ends_at i false e = absurd (false≢true e)
 
 pub ends-span : (t : AnyType) (i : AnyPoint × AnyPoint) → IsPointOf t i.0 → IsPointOf t i.1 → ends i ≡ span number i
 ends-span t i h k =
@@ -122,3 +83,8 @@ ends-span t i h k =
 pub fits-span : (t : AnyType) (i : AnyPoint × AnyPoint) → IsPointOf t i.0 → IsPointOf t i.1 →
     interval (line i.0) (ends i) ≡ interval (line_of t) (span number i)
 fits-span t i h k = ap (λ (l : Line). interval l (ends i)) h.0 ∙ ap (interval (line_of t)) (ends-span t i h k)
+
+pub last-number : (t : AnyType) → IsNumber t (last_of t)
+last-number Integer = (omega (arith, ints), omega (arith, ints))
+last-number Date = (omega (arith, ints), omega (arith, ints))
+last-number (Ordinal of last) = (omega (arith, ints), omega (arith, ints))

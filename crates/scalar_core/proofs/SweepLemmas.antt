@@ -4,7 +4,7 @@
 --     swept-steady      of one listed attribute, by its cuts within the row's interval
 use Rattle.std.specs.Prelude.{◌≡◌, ◌↔◌, ℕ, zero, suc, ℤ, ◌≤ℤ◌, ◌<ℤ◌, Bool, true, false, ◌||◌, cond, List, [], ◌∷◌, ◌++◌, filter, length, set, nat_eq, int_le, int_lt, slice_index, Option, Some, None, Ok, Err, refl, if◌then◌else◌}
 use Rattle.std.proofs.Common.{sym, ◌∙◌, ap, ap₂, subst, arith, inl, inr, eq-eqb}
-use Rattle.std.proofs.lemmas.Bool.{or_parts, or_cases, and_parts, not-true, eqb-true, eqb-false, cases_Bool, cases_eq}
+use Rattle.std.proofs.lemmas.Bool.{or_parts, or_cases, and_parts, not-true, eqb-true, eqb-false, cases_Bool, cases_eq, and_from}
 use Rattle.std.proofs.lemmas.Int.{ints, by_lt_z}
 use Rattle.std.specs.Cmp.{int_cmp_total}
 use Rattle.std.specs.FinMap.{int_cmp-IsAntisymmetric}
@@ -14,9 +14,11 @@ use Rattle.base_core.specs.Outcomes.{then_give, both}
 use Rattle.base_core.specs.Sets.{in_order}
 use Rattle.base_core.proofs.SetLemmas.{In, In-in_order}
 use Rattle.base_core.proofs.MemberLemmas.{In-filter}
+use Rattle.base_core.proofs.IntLemmas.{le-int_le, lt-int_lt}
 use Rattle.interval_core.specs.Members.{Span, at_point}
 use Rattle.value_core.specs.Attributes.{span_of, value_at, among, with_span, put_span}
 use Rattle.value_core.specs.Values.{Value, truth, text, point, interval, Row}
+use Rattle.value_core.proofs.PlainLemmas.{set_elsewhere}
 use Rattle.scalar_core.specs.declared.operators.OneOp.TheVariants.{BeginOf, EndOf}
 use Rattle.scalar_core.specs.declared.operators.PairOp.{PairOp}
 use Rattle.scalar_core.specs.Expressions.{Expr, constant, attribute, one, pair, and_expr, or_expr}
@@ -28,7 +30,6 @@ use Rattle.scalar_core.specs.Cuts.{cuts_at, sweeps, side_cuts, atom_cuts, cuts, 
 use Rattle.scalar_core.specs.AtPlaces.{at_place, AreBeside, AreWithin, IsWithin, IsSteady}
 use Rattle.scalar_core.proofs.KindLemmas.{value-fits, over-one, over-left, over-right, over-and_left, over-and_right, over-or_left, over-or_right}
 use Rattle.scalar_core.proofs.AlikeLemmas.{IsPartOf, whole, begin, end, left-alike, right-alike}
-use Rattle.scalar_core.proofs.PointLemmas.{both_true, le-int_le, lt-int_lt}
 
 -- ---- beside cuts
 
@@ -228,13 +229,6 @@ span_there [] i s = refl
 span_there (v ∷ row) zero s = refl
 span_there (v ∷ row) (suc i) s = span_there row i s
 
-set_elsewhere : (row : Row) (i j : ℕ) (v : Value) → (j ≡ i → ⊥) → value_at (set row i v) j ≡ value_at row j
-set_elsewhere [] i j v other = refl
-set_elsewhere (u ∷ row) zero zero v other = absurd (other refl)
-set_elsewhere (u ∷ row) zero (suc j) v other = refl
-set_elsewhere (u ∷ row) (suc i) zero v other = refl
-set_elsewhere (u ∷ row) (suc i) (suc j) v other = set_elsewhere row i j v (λ e. other (ap suc e))
-
 -- attributes that are not listed stay
 pub at_place-other : (acl : List ℕ) (ps : List ℤ) (row : Row) (i : ℕ) → among acl i ≡ false → value_at (at_place acl ps row) i ≡ value_at row i
 at_place-other [] ps row i n = refl
@@ -318,7 +312,7 @@ beside_itself : (cs : List ℤ) (p : ℤ) → IsBeside cs p p
 beside_itself cs p = beside_each cs p p (λ c i. (λ h. h, λ h. h))
 
 inside-true : (i : Span) (c : ℤ) → i.0 <ℤ c → c ≤ℤ i.1 → is_inside i c ≡ true
-inside-true i c h k = both_true (int_lt i.0 c) (int_le c i.1) (lt-int_lt i.0 c h) (le-int_le c i.1 k)
+inside-true i c h k = and_from (int_lt i.0 c) (int_le c i.1) (lt-int_lt i.0 c h) (le-int_le c i.1 k)
 
 -- a cut that does not part the interval is between no two of its points
 beside_outside : (i : Span) (c p q : ℤ) → IsWithin i p → IsWithin i q → (i.0 <ℤ c → c ≤ℤ i.1 → (c ≤ℤ p) ↔ (c ≤ℤ q)) → (c ≤ℤ p) ↔ (c ≤ℤ q)

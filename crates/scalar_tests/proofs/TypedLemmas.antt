@@ -1,6 +1,8 @@
 -- The rows and conditions of the tests are typed.
 use Rattle.std.specs.Prelude.{◌≡◌, ℤ, ◌≤ℤ◌, ◌&&◌, int_le, true, IsTrue, [], ◌∷◌, refl}
 use Rattle.std.proofs.Common.{subst, sym}
+use Rattle.std.proofs.lemmas.Bool.{and_from}
+use Rattle.base_core.proofs.IntLemmas.{le-int_le}
 use Rattle.point_core.specs.declared.fault.Place.{Place}
 use Rattle.point_core.specs.declared.any_type.AnyType.TheVariants.{Integer}
 use Rattle.point_core.specs.Points.{integers, is_number, IsNumber}
@@ -9,16 +11,16 @@ use Rattle.value_core.specs.declared.kind.Kind.TheVariants.{Truth, Point, Span}
 use Rattle.value_core.specs.Values.{Value, Row, interval, fits, fits_heading}
 use Rattle.scalar_core.specs.Expressions.{Expr}
 use Rattle.scalar_core.specs.Kinds.{IsTyped, IsTypedOver}
-use Rattle.scalar_core.proofs.PointLemmas.{both_true, le-int_le, number-is_number}
+use Rattle.scalar_core.proofs.PointLemmas.{number-is_number}
 use Rattle.scalar_tests.specs.Conditions.{heading, overlap, behind_quotient}
 
 pub span-fits : (i : Ends) → IsNumber Integer i.0 → IsNumber Integer i.1 → i.0 ≤ℤ i.1 → IsTrue (fits (Span Integer) (interval integers i))
 span-fits i h k l =
-    both_true (is_number Integer i.0) (is_number Integer i.1 && int_le i.0 i.1) (number-is_number Integer i.0 h)
-    (both_true (is_number Integer i.1) (int_le i.0 i.1) (number-is_number Integer i.1 k) (le-int_le i.0 i.1 l))
+    and_from (is_number Integer i.0) (is_number Integer i.1 && int_le i.0 i.1) (number-is_number Integer i.0 h)
+    (and_from (is_number Integer i.1) (int_le i.0 i.1) (number-is_number Integer i.1 k) (le-int_le i.0 i.1 l))
 
 pub row-fits : (v w : Value) → IsTrue (fits (Span Integer) v) → IsTrue (fits (Span Integer) w) → IsTrue (fits_heading heading (v ∷ w ∷ []))
-row-fits v w h k = both_true (fits (Span Integer) v) (fits (Span Integer) w && true) h (both_true (fits (Span Integer) w) true k refl)
+row-fits v w h k = and_from (fits (Span Integer) v) (fits (Span Integer) w && true) h (and_from (fits (Span Integer) w) true k refl)
 
 pub overlap-typed : (at : Place) → IsTyped heading (overlap at) Truth
 overlap-typed at = (Span Integer, Span Integer, (65 ∷ [], refl), (66 ∷ [], refl), (refl, refl, refl))

@@ -1,23 +1,9 @@
 -- A date of the calendar has the number of a day.
 use Rattle.std.specs.Prelude.{◌≡◌, ℕ, zero, suc, ◌+◌, ◌-◌, ◌≤◌, Bool, true, false, if◌then◌else◌, refl}
-use Rattle.std.proofs.Common.{arith, ap, inl, inr}
-use Rattle.std.proofs.lemmas.Bool.Decides.{leb_tells}
+use Rattle.std.proofs.Common.{arith}
 use Rattle.std.proofs.lemmas.Int.{ints}
 use Rattle.point_core.specs.Dates.{is_leap, days_of_year, days_of_month, days_of_years, days_of_months, day_place, date_number, IsCalendarDate, IsDay}
-
--- more years have no fewer days
-years-below : (n m : ℕ) → n ≤ m → days_of_years n ≤ days_of_years m
-unfolding days_of_years
-years-below n zero h =
-    let none : n ≡ zero = omega arith in
-    omega (arith, ap days_of_years none)
-years-below n (suc m) h =
-    elim (leb_tells n m) [
-      | inl t ↦ omega (arith, years-below n m t.1)
-      | inr f ↦
-          let same : n ≡ suc m = omega (arith, f.1) in
-          omega (arith, ap days_of_years same)
-    ]
+use Rattle.point_core.proofs.CalendarLemmas.{epoch_place, years_rise}
 
 leap-year : (b : Bool) → (if b then 29 else 28) + 337 ≡ (if b then 366 else 365)
 leap-year true = refl
@@ -48,10 +34,6 @@ whole-year (suc year) low =
     let before : suc year - 1 ≡ year = omega arith in
     rw before
 
-epoch : day_place 1970 1 1 ≡ 719163
-unfolding day_place days_of_years days_of_months
-epoch = refl
-
 all-years : days_of_years 9999 ≡ 3652059
 unfolding days_of_years
 all-years = refl
@@ -61,5 +43,5 @@ unfolding date_number day_place
 is-day year month day h =
     let months = months-within year month h.2 h.3 in
     let whole = whole-year year h.0 in
-    let below = years-below year 9999 h.1 in
-    (omega (arith, ints, epoch, h.4), omega (arith, ints, epoch, months, whole, below, all-years, h.5))
+    let below = years_rise year 9999 h.1 in
+    (omega (arith, ints, epoch_place, h.4), omega (arith, ints, epoch_place, months, whole, below, all-years, h.5))

@@ -2,8 +2,9 @@
 use Rattle.std.specs.Prelude.{◌≡◌, ◌<◌, ℕ, ℤ, pos, Bool, true, false, ◌&&◌, nat_le, List, length, Option, Some, None, Result, Ok, Err, IfOk, IfSome, slice_get, if◌then◌else◌, refl}
 use Rattle.std.proofs.Common.{arith, sym, subst}
 use Rattle.std.specs.Str.{bytes_eq}
-use Rattle.std.proofs.lemmas.Bool.{leb-true}
+use Rattle.std.proofs.lemmas.Bool.{leb-true, and_from}
 use Rattle.std.proofs.lemmas.Int.{ints}
+use Rattle.base_core.proofs.BoolLemmas.{and_right}
 use Rattle.point_core.specs.declared.fault.Place.{Place}
 use Rattle.point_core.specs.declared.fault.Stop.{Stop}
 use Rattle.point_core.specs.declared.any_type.AnyType.{AnyType}
@@ -23,11 +24,12 @@ use Rattle.value_core.specs.Values.{Name, Heading}
 use Rattle.scalar_core.specs.Answers.{Gives}
 use Rattle.scalar_core.specs.Expressions.{and_expr, or_expr, read}
 use Rattle.scalar_core.specs.Kinds.{IsTyped}
-use Rattle.scalar_core.proofs.PointLemmas.{and_right, same_line-self, number-is_number, both_true}
+use Rattle.scalar_core.proofs.PointLemmas.{same_line-self, number-is_number, last-number}
 use Rattle.value_core.specs.Limits.{most_text_bytes}
 use Rattle.scalar_typing.specs.declared.typed.Typed.{Typed as TypedTree}
 use Rattle.scalar_typing.specs.Typings.{Typed, ◌>>=◌, value_or, typed}
-use Rattle.scalar_typing.specs.Literals.{integer_of, negative_of, is_utf8, text_of, number_of_date, date_of, point_constant, integer_literal, text_literal, date_literal, extreme_constant}
+use Rattle.scalar_typing.specs.Literals.{integer_of, negative_of, text_of, number_of_date, date_of, point_constant, integer_literal, text_literal, date_literal, extreme_constant}
+use Rattle.value_core.specs.Lengths.{is_utf8}
 use Rattle.scalar_typing.specs.Names.{first_from, attribute_of, attribute_typed, ordinal_of, value_of, ordinal_type, point_type, ordinal_value, extreme_typed}
 use Rattle.scalar_typing.specs.Operators.{when, both_are, function_rule, sum_rule, product_rule, comparison_rule, pairing_rule, ends_of, selector_rule, not_rule, negate_rule, logic_typed}
 use Rattle.scalar_typing.specs.Scalars.{typed_scalar, typed_conj, typed_neg, typed_cmp, typed_sum, typed_prod, typed_sign, typed_primary}
@@ -56,7 +58,7 @@ any-given (Err e) = tt
 -- ---- constants
 
 point-sound : (heading : Heading) (at : Place) (t : AnyType) (n : ℤ) → IsNumber t n → IsTypedPart heading (point_constant at t n)
-point-sound heading at t n h = (refl, both_true _ (is_number t n) (same_line-self (line_of t)) (number-is_number t n h))
+point-sound heading at t n h = (refl, and_from _ (is_number t n) (same_line-self (line_of t)) (number-is_number t n h))
 
 integer-some : (digits : List ℕ) → IfSome (integer_of digits) (IsNumber Integer)
 integer-some digits = if-some (IsNumber Integer) (nat_le _ 9223372036854775807) _ (λ h. let most = leb-true _ 9223372036854775807 h in (omega (arith, ints, most), omega (arith, ints, most)))
@@ -89,11 +91,6 @@ first-number : (t : AnyType) → IsNumber t (first_of t)
 first-number Integer = (omega (arith, ints), omega (arith, ints))
 first-number Date = (omega (arith, ints), omega (arith, ints))
 first-number (Ordinal of last) = (omega (arith, ints), omega (arith, ints))
-
-last-number : (t : AnyType) → IsNumber t (last_of t)
-last-number Integer = (omega (arith, ints), omega (arith, ints))
-last-number Date = (omega (arith, ints), omega (arith, ints))
-last-number (Ordinal of last) = (omega (arith, ints), omega (arith, ints))
 
 extreme-sound : (heading : Heading) (at : Place) (w : ExtremeWord) (t : AnyType) → IsTypedPart heading (extreme_constant at w t)
 extreme-sound heading at First t = point-sound heading at t (first_of t) (first-number t)

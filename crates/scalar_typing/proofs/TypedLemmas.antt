@@ -1,6 +1,7 @@
 -- What the rules give is typed for the heading.
 use Rattle.std.specs.Prelude.{◌≡◌, Bool, true, false, ◌&&◌, Option, Some, None, IfOk, IfSome, option_map, if◌then◌else◌, refl}
 use Rattle.std.proofs.Common.{sym, ◌∙◌, ap, subst}
+use Rattle.base_core.proofs.BoolLemmas.{and_left, and_right}
 use Rattle.point_core.specs.declared.fault.Place.{Place}
 use Rattle.point_core.specs.declared.fault.Code.{Code}
 use Rattle.point_core.specs.declared.any_type.AnyType.{AnyType}
@@ -28,11 +29,10 @@ use Rattle.scalar_core.specs.declared.tree.CompareWord.TheVariants as compare
 use Rattle.scalar_core.specs.declared.tree.AllenWord.{AllenWord}
 use Rattle.scalar_core.specs.declared.tree.AllenWord.TheVariants as allen
 use Rattle.scalar_core.specs.KindOf.{same_type, same_kind, compares}
-use Rattle.scalar_core.specs.Kinds.{Compares, OneKinds, PairKinds, IsTyped}
-use Rattle.scalar_core.proofs.PointLemmas.{and_left, and_right}
+use Rattle.scalar_core.specs.Kinds.{OneKinds, PairKinds, IsTyped}
 use Rattle.scalar_typing.specs.Typings.{Typed, value_or}
 use Rattle.scalar_typing.specs.Operators.{OneRule, PairRule, when, both_are, span_type, point_type, common, two_spans, two_points, point_and_span, not_rule, negate_rule, argument_type, function_on, function_rule, sum_rule, product_rule, compare_rule, allen_rule, member_rule, comparison_rule, pairing_on, pairing_rule, selector_rule, one_on, one_typed, pair_on, pair_typed}
-use Rattle.scalar_core.proofs.KindOfLemmas.{same_type-same, same_kind-same, ordered}
+use Rattle.scalar_core.proofs.KindOfLemmas.{same_type-same, same_kind-same, compares-Compares}
 
 -- ---- kinds that are one
 
@@ -60,14 +60,6 @@ in-common : (o p : Option AnyType) (t : AnyType) → common o p ≡ Some t → (
 in-common None p t e = absurd cc
 in-common (Some u) None t e = absurd cc
 in-common (Some u) (Some v) t e = common-if (same_type u v) u v t refl e
-
-compared : (w : CompareWord) (kind : Kind) → compares w kind ≡ true → Compares w kind
-compared compare.Equal kind h = tt
-compared compare.NotEqual kind h = tt
-compared compare.Less kind h = ordered kind h
-compared compare.LessEqual kind h = ordered kind h
-compared compare.Greater kind h = ordered kind h
-compared compare.GreaterEqual kind h = ordered kind h
 
 -- ---- the rules give operators that take such parts
 
@@ -117,7 +109,7 @@ product-sound Divide l r = of-both pair_op.Divide (Point Integer) (Point Integer
 
 pub compare-sound : (w : CompareWord) (l r : Kind) → PairSound (compare_rule w l r) l r
 compare-sound w l r = when-holds (λ found. PairKinds found.0 l r found.1) (same_kind l r && compares w l) (pair_op.Compare w) Truth
-    (λ h. (same_kind-same l r (and_left (same_kind l r) (compares w l) h), compared w l (and_right (same_kind l r) (compares w l) h), refl))
+    (λ h. (same_kind-same l r (and_left (same_kind l r) (compares w l) h), compares-Compares w l (and_right (same_kind l r) (compares w l) h), refl))
 
 spans : (l r : Kind) (t : AnyType) → two_spans l r ≡ Some t → (l ≡ Span t) × (r ≡ Span t)
 spans l r t e = let both = in-common (span_type l) (span_type r) t e in (span-type l t both.0, span-type r t both.1)

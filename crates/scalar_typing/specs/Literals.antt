@@ -1,6 +1,5 @@
 -- What literals stand for. A literal out of its range stands for nothing and is E06; the reading of a text lets none through.
-use Rattle.std.specs.Prelude.{ℕ, ℤ, pos, neg_ℤ, Bool, ◌&&◌, List, [], ◌∷◌, length, nat_eq, nat_le, Option, Some, None, Ok, if◌then◌else◌}
-use Rattle.std.specs.Str.Lossy.{utf8_valid_len}
+use Rattle.std.specs.Prelude.{ℕ, ℤ, pos, neg_ℤ, Bool, ◌&&◌, List, [], ◌∷◌, length, nat_le, Option, Some, None, Ok, if◌then◌else◌}
 use Rattle.point_core.specs.declared.fault.Place.{Place}
 use Rattle.point_core.specs.declared.fault.Code.TheVariants.{E06}
 use Rattle.point_core.specs.declared.any_type.AnyType.{AnyType}
@@ -12,6 +11,7 @@ use Rattle.utd_syntax.specs.declared.words.ExtremeWord.TheVariants.{First, Last}
 use Rattle.utd_syntax.specs.Literals.{value_of, is_date}
 pub use Rattle.utd_syntax.specs.Literals.{number_of_date}
 use Rattle.value_core.specs.declared.kind.Kind.TheVariants.{Truth, Char, Point}
+use Rattle.value_core.specs.Lengths.{is_utf8}
 use Rattle.value_core.specs.Limits.{most_text_bytes}
 use Rattle.value_core.specs.Values.{truth, text, point}
 use Rattle.scalar_core.specs.Expressions.{constant}
@@ -25,10 +25,6 @@ integer_of digits = if nat_le (value_of digits) 9223372036854775807 then Some (p
 
 abbrev pub negative_of : List ℕ → Option ℤ
 negative_of digits = if nat_le (value_of digits) 9223372036854775808 then Some (neg_ℤ (pos (value_of digits))) else None
-
--- bytes that are UTF-8
-abbrev pub is_utf8 : List ℕ → Bool
-is_utf8 bytes = nat_eq (utf8_valid_len bytes) (length bytes)
 
 -- a text that is not too long
 abbrev pub text_of : List ℕ → Option (List ℕ)

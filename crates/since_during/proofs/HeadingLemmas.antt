@@ -1,22 +1,18 @@
 -- A heading with one attribute more is made by putting the attribute into its place.
 use Rattle.std.specs.Prelude.{◌≡◌, [], ◌∷◌, IsTrue, refl}
 use Rattle.std.proofs.Common.{sym, ap, ◌∙◌}
-use Rattle.base_core.specs.Sets.{placed, put, in_order}
-use Rattle.base_core.proofs.SetLemmas.{AllAfter, Ascends}
+use Rattle.base_core.specs.Sets.{put, in_order}
+use Rattle.base_core.proofs.SetLemmas.{Ascends}
 use Rattle.value_core.proofs.HeadingLemmas.{attribute_total}
 use Rattle.value_core.specs.declared.kind.Kind.{Kind}
 use Rattle.value_core.specs.Values.{Name, Heading, attribute_cmp, is_heading}
 use Rattle.relation_core.proofs.ApartLemmas.{ascends_in_order}
-use Rattle.relation_core.proofs.HeadingLemmas.{heading_ascends}
+use Rattle.relation_core.proofs.HeadingLemmas.{heading_ascends, put_first}
 use Rattle.meaning_core.specs.Histories.{with_attribute}
-
-put-first : (a : Name × Kind) (h : Heading) → AllAfter attribute_cmp a h → put attribute_cmp a h ≡ a ∷ h
-put-first a [] after = refl
-put-first a (b ∷ rest) after = ap (λ r. placed r a b rest (put attribute_cmp a rest)) after.0
 
 in-order-own : (h : Heading) → Ascends attribute_cmp h → in_order attribute_cmp h ≡ h
 in-order-own [] up = refl
-in-order-own (a ∷ rest) up = ap (put attribute_cmp a) (in-order-own rest up.1) ∙ put-first a rest up.0
+in-order-own (a ∷ rest) up = ap (put attribute_cmp a) (in-order-own rest up.1) ∙ put_first a rest up.0
 
 pub put-in-order : (h : Heading) (name : Name) (kind : Kind) → IsTrue (is_heading h) → put attribute_cmp (name, kind) h ≡ with_attribute h name kind
 put-in-order h name kind headed = ap (put attribute_cmp (name, kind)) (sym (in-order-own h (heading_ascends h headed)))

@@ -6,6 +6,7 @@ use Rattle.std.specs.Ordering.{is_eq}
 use Rattle.std.specs.Str.{bytes_eq}
 use Rattle.std.proofs.lemmas.Bool.{or_parts, true≢false}
 use Rattle.base_core.specs.Sets.{placed, put}
+use Rattle.base_core.proofs.ListLemmas.{bytes_eq-sym}
 use Rattle.point_core.specs.declared.any_type.AnyType.{AnyType}
 use Rattle.value_core.specs.declared.constraint.Constraint.{Constraint}
 use Rattle.value_core.specs.declared.constraint.HistoryRule.{HistoryRule}
@@ -22,7 +23,6 @@ use Rattle.meaning_core.specs.Histories.{joined_history, last_point, with_attrib
 use Rattle.meaning_core.specs.WellMade.{rule_among, IsBase, IsOfRule, IsHistory}
 use Rattle.since_during.specs.Histories.{IsHistoryData, since_heading, during_heading, during_constraints, span_of, rule_between, view_of}
 use Rattle.since_during.proofs.HeadingLemmas.{put-in-order}
-use Rattle.since_during.proofs.NameLemmas.{either-side}
 
 -- ---- where the attribute more stands
 
@@ -37,7 +37,7 @@ module _ (n : Name) (k : Kind) where
   put-at [] new = first-at []
   put-at (a ∷ rest) new =
       let parts = or_parts (bytes_eq a.0 n) (has_name rest n) new in
-      let other : bytes_eq n a.0 ≡ false = either-side n a.0 ∙ parts.0 in
+      let other : bytes_eq n a.0 ≡ false = bytes_eq-sym n a.0 ∙ parts.0 in
       let more = put attribute_cmp (n, k) rest in
       (elim (attribute_cmp (n, k) a) as (λ r. attribute_cmp (n, k) a ≡ r → attribute_at (placed r (n, k) a rest more) (position_of (placed r (n, k) a rest more) n) ≡ (n, k)) [
         | Less ↦ λ e. first-at (a ∷ rest)

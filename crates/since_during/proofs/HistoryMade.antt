@@ -1,17 +1,15 @@
 -- What a typed HISTORY declares keeps a well made state well made.
 use Rattle.std.specs.Prelude.{◌≡◌, ℕ, List, [], ◌∷◌, ◌++◌, Some, IsTrue, refl}
-use Rattle.std.proofs.Common.{arith, sym, ap, ◌∙◌, subst}
+use Rattle.std.proofs.Common.{sym, ap, ◌∙◌, subst}
 use Rattle.std.specs.List.{list_all}
 use Rattle.std.proofs.lemmas.Bool.{and_parts, and_from}
-use Rattle.std.proofs.lemmas.Int.{ints}
 use Rattle.std.proofs.lemmas.List.Elements.{All-cons, All-nil}
-use Rattle.point_core.specs.Points.{IsNumber, is_number, line_of, last_of}
-use Rattle.point_core.specs.declared.any_type.AnyType.{AnyType}
-use Rattle.point_core.specs.declared.any_type.AnyType.TheVariants.{Integer, Date, Ordinal}
+use Rattle.base_core.proofs.ListLemmas.{bytes_eq-sym}
+use Rattle.point_core.specs.Points.{is_number, line_of, last_of}
 use Rattle.value_core.specs.declared.constraint.Constraint.TheVariants.{Key, UKey, History}
 use Rattle.value_core.specs.declared.kind.Kind.TheVariants.{Point}
 use Rattle.value_core.specs.Values.{Heading, Relation, is_heading, same_line}
-use Rattle.scalar_core.proofs.PointLemmas.{same_line-self, number-is_number}
+use Rattle.scalar_core.proofs.PointLemmas.{same_line-self, number-is_number, last-number}
 use Rattle.tree_core.specs.declared.declaration.HistoryData.{HistoryData}
 use Rattle.tree_core.specs.Relvars.{State, PlainRelvar, base, view, relvar_named, heading_if}
 use Rattle.tree_core.specs.Trees.{named}
@@ -20,19 +18,13 @@ use Rattle.meaning_core.specs.Histories.{last_point}
 use Rattle.meaning_core.specs.Typing.{IsScalar, IsTypedTree, is_kind}
 use Rattle.meaning_core.specs.WellMade.{sizes_of, headings_of, FitsHeadings, FitsNamed, IsBase, IsConstraint, IsWellMade}
 use Rattle.meaning_core.proofs.MadeLemmas.{own_name}
+use Rattle.meaning_core.proofs.RelvarLemmas.{named_before}
 use Rattle.update_core.proofs.NameLemmas.{base-heading}
 use Rattle.since_during.specs.Histories.{declared_in, declared_history, during_constraints, during_heading, key_in, rule_between, since_constraints, since_heading, span_of, view_of, IsFreeIn, IsTypedHistory}
 use Rattle.since_during.proofs.HistoryLaws.{view-fits}
 use Rattle.since_during.proofs.HistoryTypes.{since-declared, during-declared, since-fits, during-fits, rule-fits, history-joined}
-use Rattle.since_during.proofs.JoinableLemmas.{named-more}
 use Rattle.since_during.proofs.JoinedLemmas.{joined-typed}
-use Rattle.since_during.proofs.NameLemmas.{either-side}
 use Rattle.since_during.proofs.StateLemmas.{free-more, none-named, own-named, with-relvar}
-
-last-number : (t : AnyType) → IsNumber t (last_of t)
-last-number Integer = (omega (arith, ints), omega (arith, ints))
-last-number Date = (omega (arith, ints), omega (arith, ints))
-last-number (Ordinal of last) = (omega (arith, ints), omega (arith, ints))
 
 -- the relation without rows
 abbrev empty : Heading → Relation
@@ -94,13 +86,13 @@ module _ (s : State) (h : HistoryData) (made : IsWellMade s) (is : IsTypedHistor
   during-second = own-named first.relvars h.during during (own_name h.during) (none-named first h.during during-free)
 
   since-second : relvar_named second.relvars h.since ≡ Some since
-  since-second = named-more first.relvars ((h.during, during) ∷ []) h.since since since-first
+  since-second = named_before first.relvars ((h.during, during) ∷ []) h.since since since-first
 
   -- ---- the view
 
   view-free : IsFreeIn second h.view
   view-free =
-      free-more first h.during during h.view (free-more s h.since since h.view is.view (either-side h.since h.view ∙ is.given.since)) (either-side h.during h.view ∙ is.given.during)
+      free-more first h.during during h.view (free-more s h.since since h.view is.view (bytes_eq-sym h.since h.view ∙ is.given.since)) (bytes_eq-sym h.during h.view ∙ is.given.during)
 
   last-typed : IsScalar sizes (since_heading h) (last_point h.place h.over) (Point h.over)
   last-typed = record {

@@ -15,6 +15,7 @@ use Rattle.base_core.specs.Sets.{placed, put}
 use Rattle.base_core.proofs.MemberLemmas.{In-append, list_all-In, list_any-In}
 use Rattle.base_core.proofs.SetLemmas.{In, Ascends}
 use Rattle.base_core.proofs.SetOperatorLemmas.{is_set-Ascends}
+use Rattle.base_core.proofs.ListLemmas.{All-In, IsDistinct-push, bytes_eq-sym}
 use Rattle.point_core.specs.declared.any_type.AnyType.{AnyType}
 use Rattle.value_core.specs.declared.constraint.Constraint.TheVariants.{Key, UKey, History}
 use Rattle.value_core.specs.declared.kind.Kind.{Kind}
@@ -43,13 +44,12 @@ use Rattle.since_during.specs.Histories.{IsHistoryData, since_heading, during_he
 use Rattle.since_during.proofs.HeadingLemmas.{put-in-order}
 use Rattle.since_during.proofs.JoinedLemmas.{AreJoined}
 use Rattle.since_during.proofs.MoreLemmas.{stands, not-there, from-more, old-more, own-more, more-other, all_but-ascends, all_but-within, without-one}
-use Rattle.since_during.proofs.NameLemmas.{either-side}
-use Rattle.since_during.proofs.PlaceLemmas.{all-from, each-from, distinct-push, AreNamed, all-named, part-names, part-in, part-named, AreIn, places_in, are-different, kind-there, alike}
+use Rattle.since_during.proofs.PlaceLemmas.{each-from, AreNamed, all-named, part-names, part-in, part-named, AreIn, places_in, are-different, kind-there, alike}
 use Rattle.since_during.proofs.RoomLemmas.{room-one, room-two}
 
 -- ---- headings
 
-is-heading : (h : Heading) → Ascends attribute_cmp h → length h ≤ most_attributes → IsTrue (is_heading h)
+pub is-heading : (h : Heading) → Ascends attribute_cmp h → length h ≤ most_attributes → IsTrue (is_heading h)
 is-heading h up few = and_from _ (nat_le (length h) most_attributes) ((is_set-Ascends attribute_cmp attribute_total h).1 up) (le-leb (length h) most_attributes few)
 
 kinds-more : (sizes : List ℕ) (h : Heading) (n : Name) (k : Kind) → has_name h n ≡ false → IsTrue (list_all (λ a. is_kind sizes a.1) h) → IsTrue (is_kind sizes k)
@@ -76,7 +76,7 @@ more-headed h n k headed new few =
     let up = heading_ascends h headed in
     let apart : (b : Attribute) → In b h → attribute_cmp (n, k) b ≡ Equal → ⊥ = λ b i e. not-there h n k new b i (same_name (n, k) b e) in
     let others : not_named (n ∷ []) h ≡ h = filter_all (λ a. not (list_any (bytes_eq a.0) (n ∷ []))) h (λ z m.
-    ap (λ (b : Bool). not (b || false)) (either-side z.0 n ∙ false_from_ne_true (bytes_eq n z.0) (not-there h n k new z m))) in
+    ap (λ (b : Bool). not (b || false)) (bytes_eq-sym z.0 n ∙ false_from_ne_true (bytes_eq n z.0) (not-there h n k new z m))) in
     subst (λ (l : Heading). IsHeadingOf ((n, k) ∷ l) (with_attribute h n k)) (sym others) (record {
       different = apart_no_repeat ((n, k) ∷ h) (apart, apart_ascending attribute_cmp h up);
       same = subst (λ (g : Heading). IsPermutation ((n, k) ∷ h) g) (put-in-order h n k headed) (put-permutes attribute_cmp (n, k) h apart);
@@ -161,7 +161,7 @@ module _ (h : HistoryData) (headed : IsTrue (is_heading h.heading)) (given : IsH
         narrow = record {
           positions = record {
             ascending = (is_set-Ascends nat_cmp nat_cmp_total kept).1 (all_but-ascends wide wide-up (position_of wide h.point));
-            within = all-from (λ (j : ℕ). j < length wide) kept (all_but-within wide wide-up (position_of wide h.point));
+            within = All-In (λ (j : ℕ). j < length wide) kept (all_but-within wide wide-up (position_of wide h.point));
           };
           headed = without-one h.heading h.point h.span (Point h.over) (Span h.over) up given.point given.span given.apart;
         };
@@ -208,8 +208,8 @@ module _ (h : HistoryData) (headed : IsTrue (is_heading h.heading)) (given : IsH
 
   whole-named : AreNamed whole
   whole-named =
-      distinct-push (λ (a b : Attribute). bytes_eq a.0 b.0) key (h.span, Span h.over) key-named
-      (each-from (λ (a : Attribute). bytes_eq a.0 h.span ≡ false) key (λ a i. either-side a.0 h.span ∙ false_from_ne_true (bytes_eq h.span a.0) (not-there h.heading h.span (Span h.over) given.span a (key-in a i))))
+      IsDistinct-push (λ (a b : Attribute). bytes_eq a.0 b.0) key (h.span, Span h.over) key-named
+      (each-from (λ (a : Attribute). bytes_eq a.0 h.span ≡ false) key (λ a i. bytes_eq-sym a.0 h.span ∙ false_from_ne_true (bytes_eq h.span a.0) (not-there h.heading h.span (Span h.over) given.span a (key-in a i))))
 
   whole-places : places_in during whole ≡ key_in h during ++ span_of h ∷ []
   whole-places =

@@ -17,19 +17,10 @@ use Rattle.meaning_core.specs.Endings.{history_if, history_of, rule_if}
 use Rattle.meaning_core.specs.Histories.{with_attribute, type_at, name_at}
 use Rattle.meaning_core.specs.Typing.{IsTypedTree}
 use Rattle.meaning_core.specs.WellMade.{sizes_of, headings_of, rule_among, IsBase, IsConstraint, IsOfRule, IsRelvar, AreRelvars, IsWellMade}
+use Rattle.meaning_core.proofs.RelvarLemmas.{named_before}
 use Rattle.since_during.specs.Joinable.{IsJoinableIf, AreJoinable}
 
 -- ---- names
-
--- a name keeps what it stands for when more is declared
-pub named-more : (before more : Entries) (name : Name) (x : PlainRelvar) → relvar_named before name ≡ Some x → relvar_named (before ++ more) name ≡ Some x
-named-more [] more name x e = absurd (cc)
-named-more (k ∷ before) more name x e = by-test (bytes_eq k.0 name) e (named-more before more name x)
-  where
-    by-test : (b : Bool) → (if b then Some k.1 else relvar_named before name) ≡ Some x → (relvar_named before name ≡ Some x → relvar_named (before ++ more) name ≡ Some x)
-        → (if b then Some k.1 else relvar_named (before ++ more) name) ≡ Some x
-    by-test true f h = f
-    by-test false f h = h f
 
 pub some-base : (o : Option PlainRelvar) → IsBase o → (r : PlainRelvar) × (o ≡ Some r)
 some-base None is = absurd is
@@ -66,7 +57,7 @@ named-whole : (whole front : Entries) (own : Name) (r : PlainRelvar) (back : Ent
     → relvar_named whole name ≡ relvar_named front name
 named-whole whole front own r back split name is =
     let found = some-base (relvar_named front name) is in
-    ap (λ (es : Entries). relvar_named es name) split ∙ (named-more front ((own, r) ∷ back) name found.0 found.1 ∙ sym found.1)
+    ap (λ (es : Entries). relvar_named es name) split ∙ (named_before front ((own, r) ∷ back) name found.0 found.1 ∙ sym found.1)
 
 -- ---- the rule
 

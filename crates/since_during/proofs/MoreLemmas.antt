@@ -3,7 +3,7 @@
 --     not-there, old-more, own-more, from-more, more-other      the attributes of a heading with one more
 --     all_but-ascends, all_but-within      the positions but one
 --     without-one      what is left of a heading with two more without the first of them
-use Rattle.std.proofs.Common.{◌≡◌, ◌⊎◌, inl, inr, ℕ, suc, ◌<◌, Bool, true, false, cond, not, List, [], ◌∷◌, length, map, get_or, refl, sym, ap, ap₂, ◌∙◌, subst, arith, nat_eq, Less, Equal, IsTrue, lt-ltb, Greater}
+use Rattle.std.proofs.Common.{◌≡◌, ◌⊎◌, inl, inr, ℕ, suc, ◌<◌, Bool, true, false, cond, not, List, [], ◌∷◌, length, map, get_or, refl, sym, ap, ap₂, ◌∙◌, subst, arith, nat_eq, Less, IsTrue}
 use Rattle.std.specs.Cmp.Lexicographic.{texts_ties}
 use Rattle.std.specs.Ordering.{is_eq, nat_cmp}
 use Rattle.std.specs.Str.{bytes_eq}
@@ -11,6 +11,8 @@ use Rattle.std.proofs.lemmas.Bool.{true≢false, false_from_ne_true, eqb-true, e
 use Rattle.base_core.proofs.MemberLemmas.{In-map, In-filter, list_any-In}
 use Rattle.base_core.proofs.SetLemmas.{In, AllAfter, Ascends}
 use Rattle.base_core.proofs.SetOperatorLemmas.{AllAfter-In, Ascends-filter, Ascends-map}
+use Rattle.base_core.proofs.OrderingLemmas.{lt-nat_cmp, nat_cmp-lt}
+use Rattle.base_core.proofs.ListLemmas.{In-get_or}
 use Rattle.value_core.specs.Headings.{has_name}
 use Rattle.value_core.specs.declared.kind.Kind.{Kind}
 use Rattle.value_core.specs.Values.{Name, Heading, attribute_cmp}
@@ -19,7 +21,7 @@ use Rattle.relation_core.specs.Agreement.{names_of, position_of}
 use Rattle.relation_core.specs.Parts.{no_attribute, attributes_at}
 use Rattle.relation_core.proofs.ApartLemmas.{Tells, from_in_order, into_in_order, tells_ascending, ascends_in_order}
 use Rattle.relation_core.proofs.AttributeLemmas.{name_is, same_name, named_In}
-use Rattle.relation_core.proofs.HeadingLemmas.{one_list, attributes_ascend, In-get_or, less_than}
+use Rattle.relation_core.proofs.HeadingLemmas.{one_list, attributes_ascend}
 use Rattle.meaning_core.specs.Histories.{with_attribute, all_but}
 use Rattle.meaning_core.specs.Meanings.{positions_of}
 use Rattle.meaning_core.proofs.MadeLemmas.{Attribute, own_name}
@@ -102,15 +104,12 @@ positions-all [] up = refl
 positions-all (a ∷ rest) up =
     ap₂ (λ (t : Bool) (l : List ℕ). cond t 0 (suc (position_of rest a.0)) ∷ l) (own_name a.0) (positions-behind a rest rest up.0 ∙ ap (map suc) (positions-all rest up.1))
 
-pub less-by : (i j : ℕ) → i < j → nat_cmp i j ≡ Less
-less-by i j l = ap (λ (b : Bool). cond b Less (cond (nat_eq i j) Equal Greater)) (lt-ltb i j l)
-
 less-more : (i j : ℕ) → nat_cmp i j ≡ Less → nat_cmp (suc i) (suc j) ≡ Less
-less-more i j e = let l = less_than i j e in less-by (suc i) (suc j) (omega (arith, l))
+less-more i j e = let l = nat_cmp-lt i j e in lt-nat_cmp (suc i) (suc j) (omega (arith, l))
 
 first-of-all : (is : List ℕ) → AllAfter nat_cmp 0 (map suc is)
 first-of-all [] = tt
-first-of-all (i ∷ is) = (less-by 0 (suc i) (omega arith), first-of-all is)
+first-of-all (i ∷ is) = (lt-nat_cmp 0 (suc i) (omega arith), first-of-all is)
 
 indices-ascend : (g : Heading) → Ascends nat_cmp (indices g)
 unfolding indices

@@ -1,9 +1,7 @@
 -- Where the attributes of one heading stand in another that has them too: at different positions, of the same kinds.
---     all-from      what holds of each member
 --     are-different, alike      the positions of attributes of different names, and their kinds
 --     part-names, part-in, part-named, all-named      the attributes at positions, and all of them
---     distinct-push      one more that differs from all before
-use Rattle.std.specs.Prelude.{◌≡◌, ℕ, ◌<◌, Bool, false, List, [], ◌∷◌, ◌++◌, length, get_or, nat_eq, refl}
+use Rattle.std.specs.Prelude.{◌≡◌, ℕ, ◌<◌, false, List, [], ◌∷◌, length, get_or, nat_eq, refl}
 use Rattle.std.proofs.Common.{sym, ap, ◌∙◌, subst, inl, inr}
 use Rattle.std.specs.List.{All, AllByRecursion, IsDistinct}
 use Rattle.std.specs.Cmp.Lexicographic.{texts_ties}
@@ -13,11 +11,12 @@ use Rattle.std.proofs.lemmas.Bool.{true≢false, false_from_ne_true, eqb-true, e
 use Rattle.std.proofs.lemmas.List.Elements.{All-cons, All-nil}
 use Rattle.base_core.proofs.MemberLemmas.{In-map}
 use Rattle.base_core.proofs.SetLemmas.{In, AllAfter, Ascends}
+use Rattle.base_core.proofs.ListLemmas.{In-get_or}
 use Rattle.value_core.specs.Values.{Name, Heading, attribute_cmp}
 use Rattle.relation_core.specs.Agreement.{names_of, position_of}
 use Rattle.relation_core.specs.Parts.{no_attribute, attributes_at}
 use Rattle.relation_core.proofs.AttributeLemmas.{name_is}
-use Rattle.relation_core.proofs.HeadingLemmas.{within_by_members, In-get_or}
+use Rattle.relation_core.proofs.HeadingLemmas.{within_by_members}
 use Rattle.meaning_core.specs.Meanings.{positions_of, names_at}
 use Rattle.meaning_core.specs.WellMade.{AreDifferent, AreAlike}
 use Rattle.meaning_core.proofs.MadeLemmas.{Attribute, own_name}
@@ -26,10 +25,6 @@ use Rattle.since_during.proofs.MoreLemmas.{stands}
 
 -- ---- lists
 
-pub all-from : {X : Type 0} (P : X → Type 0) (xs : List X) → ((x : X) → In x xs → P x) → All P xs
-all-from P [] h = All-nil P
-all-from P (x ∷ xs) h = All-cons P x xs (h x (inl refl)) (all-from P xs (λ y i. h y (inr i)))
-
 pub each-from : {X : Type 0} (P : X → Type 0) (xs : List X) → ((x : X) → In x xs → P x) → AllByRecursion P xs
 each-from P [] h = tt
 each-from P (x ∷ xs) h = (h x (inl refl), each-from P xs (λ y i. h y (inr i)))
@@ -37,15 +32,6 @@ each-from P (x ∷ xs) h = (h x (inl refl), each-from P xs (λ y i. h y (inr i))
 pub each-to : {X : Type 0} (P : X → Type 0) (xs : List X) → AllByRecursion P xs → (x : X) → In x xs → P x
 each-to P [] h x i = absurd i
 each-to P (y ∷ ys) h x i = elim i [ inl e ↦ subst P (sym e) h.0 | inr j ↦ each-to P ys h.1 x j ]
-
-pub each-push : {X : Type 0} (P : X → Type 0) (xs : List X) (x : X) → AllByRecursion P xs → P x → AllByRecursion P (xs ++ x ∷ [])
-each-push P [] x h p = (p, tt)
-each-push P (y ∷ ys) x h p = (h.0, each-push P ys x h.1 p)
-
-pub distinct-push : {X : Type 0} (e : X → X → Bool) (xs : List X) (n : X) → IsDistinct e xs → AllByRecursion (λ x. e x n ≡ false) xs → IsDistinct e (xs ++ n ∷ [])
-unfolding IsDistinct
-distinct-push e [] n d before = (tt, tt)
-distinct-push e (x ∷ xs) n d before = (each-push (λ y. e x y ≡ false) xs n d.0 before.0, distinct-push e xs n d.1 before.1)
 
 -- ---- attributes of different names
 

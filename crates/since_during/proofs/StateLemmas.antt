@@ -2,32 +2,26 @@
 --     free-more      names that are free stay so, but for the new one
 --     none-named, own-named      what free names and the new one stand for
 --     with-relvar      what is well made behind the others keeps the state well made
-use Rattle.std.specs.Prelude.{◌≡◌, ℕ, Bool, true, false, List, [], ◌∷◌, ◌++◌, map, Some, None, refl, if◌then◌else◌}
-use Rattle.std.proofs.Common.{sym, ap, ◌∙◌, subst, append_assoc}
+use Rattle.std.specs.Prelude.{◌≡◌, Bool, true, false, List, [], ◌∷◌, ◌++◌, map, Some, None, refl, if◌then◌else◌}
+use Rattle.std.proofs.Common.{ap, ◌∙◌, subst}
 use Rattle.std.specs.List.{AllByRecursion, IsDistinct}
 use Rattle.std.specs.Str.{bytes_eq}
-use Rattle.std.proofs.lemmas.List.{append-nil, map-append}
+use Rattle.base_core.proofs.ListLemmas.{AllByRecursion-push, IsDistinct-push}
 use Rattle.value_core.specs.declared.list.OrdinalNames.{OrdinalNames}
 use Rattle.value_core.specs.Values.{Name}
 use Rattle.tree_core.specs.Relvars.{State, PlainRelvar, Entries, relvar_named}
 use Rattle.meaning_core.specs.Declarations.{with_relvar}
-use Rattle.meaning_core.specs.WellMade.{sizes_of, all_names, IsRelvar, AreRelvars, IsWellMade}
+use Rattle.meaning_core.specs.WellMade.{sizes_of, all_names, IsRelvar, IsWellMade}
+use Rattle.meaning_core.proofs.RelvarLemmas.{more_relvars, more_names}
 use Rattle.since_during.specs.Histories.{IsFreeIn}
-use Rattle.since_during.proofs.PlaceLemmas.{each-push, distinct-push}
 
 -- ---- names
 
 abbrev AreOther : Name → List Name → Type 0
 AreOther name names = AllByRecursion (λ (n : Name). bytes_eq n name ≡ false) names
 
-more-names : (s : State) (own : Name) (r : PlainRelvar) → all_names s ++ own ∷ [] ≡ all_names (with_relvar s own r)
-more-names s own r =
-    let ordinals : List Name = map (λ o. o.name) s.ordinals in
-    append_assoc ordinals (map (λ (e : Name × PlainRelvar). e.0) s.relvars) (own ∷ [])
-    ∙ ap (λ (names : List Name). ordinals ++ names) (sym (map-append (λ (e : Name × PlainRelvar). e.0) s.relvars ((own, r) ∷ [])))
-
 pub free-more : (s : State) (own : Name) (r : PlainRelvar) (name : Name) → IsFreeIn s name → bytes_eq own name ≡ false → IsFreeIn (with_relvar s own r) name
-free-more s own r name free other = subst (AreOther name) (more-names s own r) (each-push (λ (n : Name). bytes_eq n name ≡ false) (all_names s) own free other)
+free-more s own r name free other = subst (AreOther name) (more_names s own r) (AllByRecursion-push (λ (n : Name). bytes_eq n name ≡ false) (all_names s) own free other)
 
 behind : (name : Name) (ordinals names : List Name) → AreOther name (ordinals ++ names) → AreOther name names
 behind name [] names h = h
@@ -53,16 +47,10 @@ own-named (e ∷ entries) own r same none = by-test (bytes_eq e.0 own) none (own
 
 -- ---- one relvar or view more
 
-more-relvars : (sizes : List ℕ) (before entries : Entries) (own : Name) (r : PlainRelvar) → AreRelvars sizes before entries → IsRelvar sizes (before ++ entries) own r
-    → AreRelvars sizes before (entries ++ (own, r) ∷ [])
-more-relvars sizes before [] own r all is = (subst (λ (es : Entries). IsRelvar sizes es own r) (append-nil before) is, tt)
-more-relvars sizes before (e ∷ entries) own r all is =
-    (all.0, more-relvars sizes (before ++ e ∷ []) entries own r all.1 (subst (λ (es : Entries). IsRelvar sizes es own r) (sym (append_assoc before (e ∷ []) entries)) is))
-
 pub with-relvar : (s : State) (own : Name) (r : PlainRelvar) → IsWellMade s → IsFreeIn s own → IsRelvar (sizes_of s.ordinals) s.relvars own r → IsWellMade (with_relvar s own r)
 with-relvar s own r made free is = record {
   few = made.few;
   ordinals = made.ordinals;
-  different = subst (IsDistinct bytes_eq) (more-names s own r) (distinct-push bytes_eq (all_names s) own made.different free);
-  relvars = more-relvars (sizes_of s.ordinals) [] s.relvars own r made.relvars is;
+  different = subst (IsDistinct bytes_eq) (more_names s own r) (IsDistinct-push bytes_eq (all_names s) own made.different free);
+  relvars = more_relvars (sizes_of s.ordinals) [] s.relvars own r made.relvars is;
 }

@@ -10,14 +10,14 @@ use Rattle.std.specs.List.Sorted.{IsStrictlySortedBy, IsSortedBy, IsPermutation}
 use Rattle.std.proofs.lemmas.Bool.{cases_lt, true≢false}
 use Rattle.std.proofs.lemmas.Cmp.{tied_itself, alike_right}
 use Rattle.std.proofs.lemmas.List.Sorted.{sorted_far, ranks_by, Contains-permutation, IsPermutation-sym}
+use Rattle.std.proofs.lemmas.List.{get_or_default}
 use Rattle.packing_core.specs.Packed.{IsIndexPackedTo, no_cells}
 use Rattle.packing_core.specs.Covering.{Among}
 use Rattle.packing_core.specs.Live.{box, has_place, InLive}
 use Rattle.packing_core.proofs.Joined.{IsIndexRun-iff}
 use Rattle.packing_core.proofs.Inward.{some_place}
-use Rattle.packing_core.proofs.AmongLemmas.{among_append, among_map, among_filter}
+use Rattle.packing_core.proofs.AmongLemmas.{among_append, among_map, among_filter, each_from_members}
 use Rattle.packing_core.proofs.Order.{among_contains, contains_among}
-use Rattle.packing_core.proofs.Numbered.{other_default}
 use Rattle.slice_core.specs.declared.bare.Bare.{Bare}
 use Rattle.slice_core.specs.PackedRows.{HasRow, IsPackedOf, AnyLabel, IsUnitedRow, bare, labelled}
 use Rattle.slice_core.specs.declared.inward.IndexBox.{IndexBox}
@@ -36,9 +36,6 @@ packed_iff (suc j) S S' e y rest h =
 -- ---- sorted lists, one after the other
 
 module _ {K : Type 0} (cmp : K → K → Ordering) where
-  all_from : (P : K → Type 0) (xs : List K) → ((x : K) → Among x xs → P x) → AllByRecursion P xs
-  all_from P [] h = tt
-  all_from P (x ∷ xs) h = (h x (inl refl), all_from P xs (λ y m. h y (inr m)))
 
   all_both : (P : K → Type 0) (xs ys : List K) → AllByRecursion P xs → AllByRecursion P ys → AllByRecursion P (xs ++ ys)
   all_both P [] ys a b = b
@@ -48,7 +45,7 @@ module _ {K : Type 0} (cmp : K → K → Ordering) where
   unfolding IsStrictlySortedBy
   append_sorted [] ys a b h = b
   append_sorted (x ∷ xs) ys a b h = (
-    all_both (λ y. cmp x y ≡ Less) xs ys a.0 (all_from (λ y. cmp x y ≡ Less) ys (λ y m. h x y (inl refl) m)),
+    all_both (λ y. cmp x y ≡ Less) xs ys a.0 (each_from_members (λ y. cmp x y ≡ Less) ys (λ y m. h x y (inl refl) m)),
     append_sorted xs ys a.1 b (λ z y m n. h z y (inr m) n),
   )
 
@@ -87,7 +84,7 @@ module _ {P : Type 0} (order : P → P → Ordering) (total : IsTotalOrder order
   IsPackedAt sides x = IsIndexPackedTo sides (HasAt x.0) x.1 []
 
   one_at : (r : ℕ) (l m : P) → IsAt r l → IsAt r m → l ≡ m
-  one_at r l m a b = sym a.1 ∙ other_default labels r l m a.0 ∙ b.1
+  one_at r l m a b = sym a.1 ∙ get_or_default labels r l m a.0 ∙ b.1
 
   not_equal : (l m : P) → order l m ≡ Less → l ≡ m → ⊥
   not_equal l m h e = let q : order l m ≡ Equal = subst (λ z. order l z ≡ Equal) e (tied_itself total l) in cc
@@ -130,7 +127,7 @@ module _ {P : Type 0} (order : P → P → Ordering) (total : IsTotalOrder order
     after_group r l f a =
         let below : end < length labels = omega (arith, a.0) in
         let le : P = get_or labels end l0 in
-        let ate : IsAt end le = (below, other_default labels end le l0 below) in
+        let ate : IsAt end le = (below, get_or_default labels end le l0 below) in
         let not_same : order l0 le ≢ Equal = λ q. other l0 l0 below (subst (λ z. order z le ≡ Equal) (sym at0.1) q) in
         less_then l0 le l (by_order l0 le (ascends first end l0 le (omega arith) at0 ate) not_same) (ascends end r le l f ate a)
 
@@ -267,7 +264,7 @@ module _ {P : Type 0} (order : P → P → Ordering) (total : IsTotalOrder order
         let d : Key = (l, []) in
         let x : Key = get_or sorted r d in
         let e : x ≡ (l, box boxes r) = λ t. ((sym (label_at r d l n) ∙ a.1) t, sym (box_at r d n) t) in
-        let m : Among (l, box boxes r) sorted = contains_among sorted (l, box boxes r) (r, n, other_default sorted r (l, box boxes r) d n ∙ e) in
+        let m : Among (l, box boxes r) sorted = contains_among sorted (l, box boxes r) (r, n, get_or_default sorted r (l, box boxes r) d n ∙ e) in
         contains_among rows (l, box boxes r) (Contains-permutation sorted rows (l, box boxes r) (IsPermutation-sym rows sorted moved) (among_contains sorted (l, box boxes r) m))
 
     pub at_row : (x : Key) → Among x rows → (r : ℕ) × IsAt r x.0 × (box boxes r ≡ x.1)
@@ -299,11 +296,11 @@ module _ {P : Type 0} (order : P → P → Ordering) (total : IsTotalOrder order
 
     -- each box has the sides of its row
     pub boxes_all : (Q : List (ℕ × ℕ) → Type 0) → AllByRecursion (λ (x : Key). Q x.1) rows → AllByRecursion Q boxes
-    boxes_all Q h = all_from boxes (λ y m. own y m)
+    boxes_all Q h = each_from_members boxes (λ y m. own y m)
       where
-        all_from : (ys : List (List (ℕ × ℕ))) → ((y : List (ℕ × ℕ)) → Among y ys → Q y) → AllByRecursion Q ys
-        all_from [] k = tt
-        all_from (y ∷ ys) k = (k y (inl refl), all_from ys (λ z m. k z (inr m)))
+        each_from_members : (ys : List (List (ℕ × ℕ))) → ((y : List (ℕ × ℕ)) → Among y ys → Q y) → AllByRecursion Q ys
+        each_from_members [] k = tt
+        each_from_members (y ∷ ys) k = (k y (inl refl), each_from_members ys (λ z m. k z (inr m)))
 
         at_row : (xs : List Key) (x : Key) → AllByRecursion (λ (z : Key). Q z.1) xs → Among x xs → Q x.1
         at_row [] x a m = absurd m
@@ -318,7 +315,7 @@ module _ {P : Type 0} (order : P → P → Ordering) (total : IsTotalOrder order
 -- ---- what the loop's calls require
 
 pub live_below : (n : ℕ) (live : List ℕ) → ((r : ℕ) → Among r live → r < n) → All (λ r. r < n) live
-live_below n live h = All-from_recursion (λ r. r < n) live (all_from nat_cmp (λ r. r < n) live h)
+live_below n live h = All-from_recursion (λ r. r < n) live (each_from_members nat_cmp (λ r. r < n) live h)
 
 module _ {P : Type 0} (labels : List P) (boxes : List IndexBox) (sorted : List (P × List (ℕ × ℕ))) (ls : labels ≡ map (λ (x : P × List (ℕ × ℕ)). x.0) sorted) (bs : sides_of boxes ≡ map (λ (x : P × List (ℕ × ℕ)). x.1) sorted) where
   pub boxes_length : length boxes ≡ length labels

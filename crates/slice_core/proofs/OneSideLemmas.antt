@@ -1,5 +1,5 @@
 -- Rows packed on one side, for all labels at once.
-use Rattle.std.proofs.Common.{◌≡◌, ℕ, ◌<◌, ◌≤◌, Bool, true, false, cond, ◌&&◌, ltb, List, [], ◌∷◌, ◌++◌, map, length, get_or, ◌↔◌, inl, inr, arith, sym, ap, subst, refl, ◌∙◌, Ordering}
+use Rattle.std.proofs.Common.{◌≡◌, ℕ, ◌<◌, ◌≤◌, true, false, cond, ltb, List, [], ◌∷◌, ◌++◌, map, length, get_or, ◌↔◌, inl, inr, arith, sym, ap, subst, refl, ◌∙◌, Ordering}
 use Rattle.std.specs.declared.cmp.Ordering.TheVariants.{Equal}
 use Rattle.std.specs.Cmp.{IsTotalOrder}
 use Rattle.std.specs.List.{All, AllByRecursion, flat_map}
@@ -7,27 +7,24 @@ use Rattle.std.specs.List.Sorted.{IsStrictlySortedBy}
 use Rattle.std.proofs.lemmas.Bool.Decides.{nat_tests}
 use Rattle.std.proofs.lemmas.Cmp.{tied_itself}
 use Rattle.std.proofs.lemmas.List.Elements.{All-from_recursion}
+use Rattle.std.proofs.Math.Bool.{and-true}
 use Rattle.packing_core.specs.Covering.{Among}
 use Rattle.packing_core.specs.Live.{has_place, span_has}
 use Rattle.packing_core.specs.Packed.{no_cells}
 use Rattle.packing_core.specs.Pieces.{Covers, HasPiece, AreApart}
 use Rattle.packing_core.specs.declared.Piece.{Piece}
 use Rattle.packing_core.proofs.AmongLemmas.{among_map}
-use Rattle.packing_core.proofs.Joined.{IsIndexRun-iff, run_from_apart, apart_from_run}
+use Rattle.packing_core.proofs.Joined.{IsIndexRun-iff, run_from_apart, apart_from_run, covers_append}
 use Rattle.slice_core.specs.PackedRows.{HasRow, IsPackedOf, alone, own_piece}
 use Rattle.slice_core.specs.Rows.{key_cmp, key_total, no_sides, with_last}
-use Rattle.slice_core.proofs.Steps.{one_key, covers_append, piece_by, piece_from, sorted_last}
-use Rattle.slice_core.proofs.Sweeping.{cell_has, has_cell}
+use Rattle.slice_core.proofs.Steps.{one_key, piece_by, piece_from, sorted_last}
+use Rattle.slice_core.proofs.Sweeping.{cell_has, span_from}
 
 -- ---- a place of one cell
 
-and_true : (b : Bool) → (b && true) ≡ b
-and_true true = refl
-and_true false = refl
-
 one_place : (y : List (ℕ × ℕ)) (i : ℕ) → has_place y (i ∷ []) ≡ span_has (get_or y 0 no_cells) i
 one_place [] i = grind (arith, nat_tests)
-one_place (s ∷ ss) i = and_true (span_has s i)
+one_place (s ∷ ss) i = and-true (span_has s i)
 
 one_side : (y : List (ℕ × ℕ)) → length y ≡ 1 → y ≡ get_or y 0 no_cells ∷ []
 one_side [] e = absurd (omega arith)
@@ -75,7 +72,7 @@ module _ {P : Type 0} (order : P → P → Ordering) (total : IsTotalOrder order
   covers_alone x s k i =
       elim (ltb s.0 s.1) as (λ b. ltb s.0 s.1 ≡ b → Covers R (cond b (record { key = x; begin = s.0; end = s.1 } ∷ []) []) k i ↔ (x ≡ k) × (span_has s i ≡ true)) [
         | true ↦ λ e. (
-          λ h. elim h [ inl w ↦ (one_key order total separates x k w.0, has_cell s i w.1 w.2) | inr w ↦ absurd w ],
+          λ h. elim h [ inl w ↦ (one_key order total separates x k w.0, span_from s i w.1 w.2) | inr w ↦ absurd w ],
           λ h. let c = cell_has s i h.1 in inl (tied x k h.0, c.0, c.1),
         )
         | false ↦ λ e. (λ h. absurd h, λ h. let c = cell_has s i h.1 in absurd (empty s.0 s.1 e c.0 c.1))
@@ -87,7 +84,7 @@ module _ {P : Type 0} (order : P → P → Ordering) (total : IsTotalOrder order
   covers_rows : (rows : List Key) (k : Key) (i : ℕ) → Covers R (flat_map own_piece rows) k i ↔ (k.1 ≡ []) × HasRow rows k.0 (i ∷ [])
   covers_rows [] k i = (λ h. absurd h, λ h. absurd h.1.1)
   covers_rows (x ∷ xs) k i =
-      let a = covers_append R (key_total total) (one_key order total separates) (own_piece x) (flat_map own_piece xs) k i in
+      let a = covers_append R (key_total total) (own_piece x) (flat_map own_piece xs) k i in
       let c = covers_alone (no_sides x.0) (get_or x.1 0 no_cells) k i in
       let ih = covers_rows xs k i in (
         λ h. elim (a.0 h) [

@@ -13,19 +13,15 @@ use Rattle.packing_core.specs.Packed.{IsIndexRun, IsIndexPackedTo, no_cells}
 use Rattle.packing_core.specs.Live.{box, side_has, InLive}
 use Rattle.packing_core.proofs.Inward.{HasSides, slice_at}
 use Rattle.packing_core.proofs.Joined.{IsIndexRun-iff, IsIndexRun-one}
-use Rattle.packing_core.proofs.AmongLemmas.{among_filter, among_map}
+use Rattle.packing_core.proofs.AmongLemmas.{among_filter, among_map, each_from_members}
 use Rattle.slice_core.specs.declared.bare.Bare.{Bare}
 use Rattle.slice_core.specs.PackedRows.{AnyLabel, IsUnitedRow, bare, labelled, span_of}
 use Rattle.slice_core.specs.Rows.{pair_cmp, pair_total}
 use Rattle.slice_core.specs.Parted.{IsGap, AreParted, HasCells, ComesBefore, EndsBefore, AreApartRows, live_row}
-use Rattle.slice_core.proofs.Sweeping.{cell_has, has_cell}
+use Rattle.slice_core.proofs.Sweeping.{cell_has, span_from}
 use Rattle.slice_core.proofs.UnitedLemmas.{Row, R, index_of, united_alone}
 
 -- ---- lists
-
-all_from : {X : Type 0} (P : X → Type 0) (xs : List X) → ((x : X) → Among x xs → P x) → AllByRecursion P xs
-all_from P [] h = tt
-all_from P (x ∷ xs) h = (h x (inl refl), all_from P xs (λ y m. h y (inr m)))
 
 all_filter : {X : Type 0} (P : X → Type 0) (t : X → Bool) (xs : List X) → AllByRecursion P xs → AllByRecursion P (filter t xs)
 all_filter P t [] h = tt
@@ -160,7 +156,7 @@ module _ (boxes : List (List (ℕ × ℕ))) where
           let some = cells r m k (omega arith) in
           record {
             some = some;
-            each = λ i a b. (r, (among_filter (side_has boxes k i) r live).1 (m, has_cell (span_of boxes k r) i a b), f);
+            each = λ i a b. (r, (among_filter (side_has boxes k i) r live).1 (m, span_from (span_of boxes k r) i a b), f);
             before = λ i e q.
                 let a = at_cell i q.0 q.1 in
                 elim (by_last r q.0 m a.0 f q.2) [
@@ -236,7 +232,7 @@ module _ (boxes : List (List (ℕ × ℕ))) (k : ℕ) (live : List ℕ) (apart :
   cells_of r m = let w = index_of live r m in subst (HasCells boxes k) w.2 (apart.1 w.0 w.1).0
 
   at_least : AllByRecursion (HasSides {P = Bare} AnyLabel boxes k) live
-  at_least = all_from (HasSides {P = Bare} AnyLabel boxes k) live (λ r m. let e = (cells_of r m).0 in omega arith)
+  at_least = each_from_members (HasSides {P = Bare} AnyLabel boxes k) live (λ r m. let e = (cells_of r m).0 in omega arith)
 
   each_has_cells : HaveCells boxes k live
   each_has_cells r m = (cells_of r m).1

@@ -9,33 +9,26 @@ use Rattle.std.specs.List.{AllByRecursion, filter}
 use Rattle.std.specs.List.Sorted.{IsStrictlySortedBy}
 use Rattle.std.proofs.lemmas.Cmp.{tied_itself}
 use Rattle.std.proofs.lemmas.Bool.{cases_lt}
-use Rattle.std.proofs.lemmas.Bool.Decides.{nat_tests}
+use Rattle.base_core.proofs.OrderingLemmas.{lt-nat_cmp, then-Equal}
+use Rattle.base_core.proofs.ListLemmas.{length_more}
+use Rattle.point_core.proofs.OrderLemmas.{then_same}
 use Rattle.packing_core.specs.Pieces.{Covers, HasPiece, AreApart, Apart}
 use Rattle.packing_core.specs.declared.Piece.{Piece}
 use Rattle.packing_core.specs.Covering.{Among}
 use Rattle.packing_core.specs.Live.{side_has, IsSliceRow}
 use Rattle.packing_core.proofs.Inward.{HasSides, slice_at, no_slice, slices_give}
 use Rattle.packing_core.proofs.AmongLemmas.{among_map}
+use Rattle.packing_core.proofs.Joined.{covers_append}
 use Rattle.slice_core.specs.Rows.{pair_cmp, key_cmp, key_total, tag, with_last, no_sides, labels_of}
 
 -- ---- the order of keys
 
-pub both_equal : (r s : Ordering) → ordering_then r s ≡ Equal → (r ≡ Equal) × (s ≡ Equal)
-both_equal Less s e = cc
-both_equal Equal s e = (refl, e)
-both_equal Greater s e = cc
-
 pair_exact : IsAntisymmetric pair_cmp
 pair_exact x y e =
-    let w = both_equal (nat_cmp x.0 y.0) (nat_cmp x.1 y.1) e in
+    let w = then_same (nat_cmp x.0 y.0) (nat_cmp x.1 y.1) e in
     let a = nat_cmp-IsAntisymmetric x.0 y.0 w.0 in
     let b = nat_cmp-IsAntisymmetric x.1 y.1 w.1 in
     λ t. (a t, b t)
-
-then_equal : (r : Ordering) → ordering_then r Equal ≡ r
-then_equal Less = refl
-then_equal Equal = refl
-then_equal Greater = refl
 
 then_assoc : (r s t : Ordering) → ordering_then (ordering_then r s) t ≡ ordering_then r (ordering_then s t)
 then_assoc Less s t = refl
@@ -44,13 +37,10 @@ then_assoc Greater s t = refl
 
 -- one more of both
 slice_cmp_end : (xs ys : List (ℕ × ℕ)) (x y : ℕ × ℕ) → length xs ≡ length ys → slice_cmp pair_cmp (xs ++ x ∷ []) (ys ++ y ∷ []) ≡ ordering_then (slice_cmp pair_cmp xs ys) (pair_cmp x y)
-slice_cmp_end [] [] x y e = then_equal (pair_cmp x y)
+slice_cmp_end [] [] x y e = then-Equal (pair_cmp x y)
 slice_cmp_end [] (b ∷ ys) x y e = absurd (omega arith)
 slice_cmp_end (a ∷ xs) [] x y e = absurd (omega arith)
 slice_cmp_end (a ∷ xs) (b ∷ ys) x y e = ap (ordering_then (pair_cmp a b)) (slice_cmp_end xs ys x y (omega arith)) ∙ sym (then_assoc (pair_cmp a b) _ _)
-
-pub below_less : (a b : ℕ) → a < b → nat_cmp a b ≡ Less
-below_less a b h = grind (arith, nat_tests)
 
 pub split_at : {X : Type 0} (y : List X) (n : ℕ) → length y ≡ suc n → (z : List X) × (v : X) × (length z ≡ n) × (z ++ v ∷ [] ≡ y)
 split_at [] n e = absurd (omega arith)
@@ -59,20 +49,9 @@ split_at (x ∷ []) (suc n) e = absurd (omega arith)
 split_at (x ∷ w ∷ ws) zero e = absurd (omega arith)
 split_at (x ∷ w ∷ ws) (suc n) e = let r = split_at (w ∷ ws) n (omega arith) in (x ∷ r.0, r.1, ap suc r.2, λ i. x ∷ r.3 i)
 
-length_more : {X : Type 0} (z : List X) (v : X) → length (z ++ v ∷ []) ≡ suc (length z)
-length_more [] v = refl
-length_more (x ∷ xs) v = ap suc (length_more xs v)
-
 -- ---- pieces
 
 module _ {K : Type 0} (R : K → K → Ordering) (o : IsTotalOrder R) (one : (a b : K) → R a b ≡ Equal → a ≡ b) where
-  pub covers_append : (xs ys : List (Piece K)) (k : K) (i : ℕ) → Covers R (xs ++ ys) k i ↔ Covers R xs k i ⊎ Covers R ys k i
-  covers_append [] ys k i = (λ h. inr h, λ h. elim h [ inl w ↦ absurd w | inr w ↦ w ])
-  covers_append (x ∷ xs) ys k i =
-      let ih = covers_append xs ys k i in (
-        λ h. elim h [ inl w ↦ inl (inl w) | inr w ↦ elim (ih.0 w) [ inl v ↦ inl (inr v) | inr v ↦ inr v ] ],
-        λ h. elim h [ inl w ↦ elim w [ inl v ↦ inl v | inr v ↦ inr (ih.1 (inl v)) ] | inr w ↦ inr (ih.1 (inr w)) ],
-      )
 
   covers_tags : (a z : ℕ) (rows : List K) (k : K) (i : ℕ) → Covers R (map (tag a z) rows) k i ↔ ((a ≤ i) × (i < z)) × Among k rows
   covers_tags a z [] k i = (λ h. absurd h, λ h. absurd h.1)
@@ -84,7 +63,7 @@ module _ {K : Type 0} (R : K → K → Ordering) (o : IsTotalOrder R) (one : (a 
 
   pub covers_tagged : (old new : List (Piece K)) (a z : ℕ) (rows : List K) → new ≡ old ++ map (tag a z) rows → (k : K) (i : ℕ) → Covers R new k i ↔ Covers R old k i ⊎ (((a ≤ i) × (i < z)) × Among k rows)
   covers_tagged old new a z rows e k i =
-      let c : Covers R new k i ↔ Covers R old k i ⊎ Covers R (map (tag a z) rows) k i = subst (λ ps. Covers R ps k i ↔ Covers R old k i ⊎ Covers R (map (tag a z) rows) k i) (sym e) (covers_append old (map (tag a z) rows) k i) in
+      let c : Covers R new k i ↔ Covers R old k i ⊎ Covers R (map (tag a z) rows) k i = subst (λ ps. Covers R ps k i ↔ Covers R old k i ⊎ Covers R (map (tag a z) rows) k i) (sym e) (covers_append R o old (map (tag a z) rows) k i) in
       let b = covers_tags a z rows k i in (
         λ h. elim (c.0 h) [ inl w ↦ inl w | inr w ↦ inr (b.0 w) ],
         λ h. elim h [ inl w ↦ c.1 (inl w) | inr w ↦ c.1 (inr (b.1 w)) ],
@@ -100,10 +79,6 @@ module _ {K : Type 0} (R : K → K → Ordering) (o : IsTotalOrder R) (one : (a 
     | inl e ↦ inl (subst (λ k. R q.key k ≡ Equal) (ap (λ (w : Piece K). w.key) e) (tied_itself o q.key), ap (λ (w : Piece K). w.begin) e, ap (λ (w : Piece K). w.end) e)
     | inr w ↦ inr (piece_from ps p w)
   ]
-
-  some_of : (ps : List (Piece K)) (p : Piece K) → AreApart R ps → Among p ps → p.begin < p.end
-  some_of [] p a h = absurd h
-  some_of (q ∷ ps) p a h = elim h [ inl e ↦ subst (λ (w : Piece K). w.begin < w.end) e a.0 | inr w ↦ some_of ps p a.2 w ]
 
   covers_own : (ps : List (Piece K)) (p : Piece K) → AreApart R ps → Among p ps → Covers R ps p.key p.begin
   covers_own [] p a h = absurd h
@@ -126,7 +101,7 @@ module _ {P : Type 0} (order : P → P → Ordering) (total : IsTotalOrder order
 
   pub one_key : (a b : Key) → R a b ≡ Equal → a ≡ b
   one_key a b e =
-      let w = both_equal (order a.0 b.0) (slice_cmp pair_cmp a.1 b.1) e in
+      let w = then_same (order a.0 b.0) (slice_cmp pair_cmp a.1 b.1) e in
       let f = separates a.0 b.0 w.0 in
       let g = slice_cmp-IsAntisymmetric pair_exact a.1 b.1 w.1 in
       λ t. (f t, g t)
@@ -137,7 +112,7 @@ module _ {P : Type 0} (order : P → P → Ordering) (total : IsTotalOrder order
   apart_less : (p q : Piece Key) → length p.key.1 ≡ length q.key.1 → p.begin < p.end → Apart R p q → R (with_last p) (with_last q) ≡ Less
   apart_less p q e s a = end_cmp p q e ∙ elim a as (λ _. ordering_then (R p.key q.key) (pair_cmp (p.begin, p.end) (q.begin, q.end)) ≡ Less) [
     | inl l ↦ ap (λ c. ordering_then c (pair_cmp (p.begin, p.end) (q.begin, q.end))) l
-    | inr w ↦ ap (λ c. ordering_then c (pair_cmp (p.begin, p.end) (q.begin, q.end))) w.0 ∙ ap (λ c. ordering_then c (nat_cmp p.end q.end)) (below_less p.begin q.begin (omega (arith, w.1)))
+    | inr w ↦ ap (λ c. ordering_then c (pair_cmp (p.begin, p.end) (q.begin, q.end))) w.0 ∙ ap (λ c. ordering_then c (nat_cmp p.end q.end)) (lt-nat_cmp p.begin q.begin (omega (arith, w.1)))
   ]
 
   all_less : (j : ℕ) (p : Piece Key) (ps : List (Piece Key)) → length p.key.1 ≡ j → p.begin < p.end → AllByRecursion (λ q. length q.key.1 ≡ j) ps → AllByRecursion (Apart R p) ps → AllByRecursion (λ y. R (with_last p) y ≡ Less) (map with_last ps)

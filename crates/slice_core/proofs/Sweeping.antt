@@ -12,11 +12,11 @@ use Rattle.std.proofs.lemmas.List.Elements.{All-from_recursion}
 use Rattle.std.proofs.lemmas.List.Kept.{Contains-dedup_nat, Contains-from_dedup}
 use Rattle.std.proofs.lemmas.List.Sorted.{sorted_far, ranks_by, Contains-permutation, IsPermutation-sym}
 use Rattle.std.proofs.lemmas.Map.Keys.{IsStrictlyIncreasing-dedup, sorted_from_strictly_increasing}
+use Rattle.std.proofs.lemmas.List.{get_or_default}
 use Rattle.packing_core.specs.Covering.{Among}
 use Rattle.packing_core.specs.Live.{side_has, span_has}
-use Rattle.packing_core.proofs.AmongLemmas.{among_append, among_map, among_filter}
+use Rattle.packing_core.proofs.AmongLemmas.{among_append, among_map, among_filter, each_from_members}
 use Rattle.packing_core.proofs.Order.{among_contains, contains_among}
-use Rattle.packing_core.proofs.Numbered.{other_default}
 use Rattle.packing_core.proofs.Same.{same_sorted}
 use Rattle.slice_core.specs.PackedRows.{span_of}
 use Rattle.slice_core.specs.Rows.{AreRows, pair_cmp, pair_total}
@@ -141,14 +141,14 @@ cell_has s i e = let w = and_parts (leb s.0 i) (ltb i s.1) e in (first s.0 w.0, 
     last : (z : ℕ) → ltb i z ≡ true → i < z
     last z h = grind (arith, nat_tests)
 
-pub has_cell : (s : ℕ × ℕ) (i : ℕ) → s.0 ≤ i → i < s.1 → span_has s i ≡ true
-has_cell s i l m = within s.0 s.1 l m
+pub span_from : (s : ℕ × ℕ) (i : ℕ) → s.0 ≤ i → i < s.1 → span_has s i ≡ true
+span_from s i l m = within s.0 s.1 l m
   where
     within : (a z : ℕ) → a ≤ i → i < z → (leb a i && ltb i z) ≡ true
     within a z f g = grind (arith, nat_tests)
 
 at_place : (starts : List (ℕ × ℕ)) (j : ℕ) → j < length starts → Among (get_or starts j (0, 0)) starts
-at_place starts j h = contains_among starts (get_or starts j (0, 0)) (j, h, other_default starts j (get_or starts j (0, 0)) (0, 0) h)
+at_place starts j h = contains_among starts (get_or starts j (0, 0)) (j, h, get_or_default starts j (get_or starts j (0, 0)) (0, 0) h)
 
 module _ (boxes : List (List (ℕ × ℕ))) (side : ℕ) (rows : List ℕ) (starts : List (ℕ × ℕ)) (b cell first n : ℕ) (live begun : List ℕ)
     (up : b ≤ cell) (are : AreStarts boxes side rows starts) (was : AreOpen boxes side rows b starts first live)
@@ -169,7 +169,7 @@ module _ (boxes : List (List (ℕ × ℕ))) (side : ℕ) (rows : List ℕ) (star
       let x : ℕ × ℕ = ((span_of boxes side r).0, r) in
       let w = among_contains starts x (are.to r m) in
       let j : ℕ = w.0 in
-      let e : get_or starts j (0, 0) ≡ x = other_default starts j (0, 0) x w.1 ∙ w.2 in
+      let e : get_or starts j (0, 0) ≡ x = get_or_default starts j (0, 0) x w.1 ∙ w.2 in
       let begins : (get_or starts j (0, 0)).0 ≤ cell = subst (λ (y : ℕ × ℕ). y.0 ≤ cell) (sym e) s.0 in
       let own : (get_or starts j (0, 0)).1 ≡ r = ap (λ (y : ℕ × ℕ). y.1) e in
       elim (cases_lt j n) [
@@ -200,7 +200,7 @@ module _ (boxes : List (List (ℕ × ℕ))) (side : ℕ) (rows : List ℕ) (star
         let p = early j l in
         let q = w.1 in
         let begins : (span_of boxes side x.1).0 ≤ cell = omega arith in
-        subst (Among x.1) (sym e) ((among_filter (side_has boxes side cell) x.1 rows).1 (w.0, has_cell (span_of boxes side x.1) cell begins k));
+        subst (Among x.1) (sym e) ((among_filter (side_has boxes side cell) x.1 rows).1 (w.0, span_from (span_of boxes side x.1) cell begins k));
   }
     where
       early : (j : ℕ) → j < n → (get_or starts j (0, 0)).0 ≤ cell
@@ -221,15 +221,11 @@ module _ (boxes : List (List (ℕ × ℕ))) (side : ℕ) (rows : List ℕ) (cell
         },
       )
 
-  each_from : {X : Type 0} (P : X → Type 0) (xs : List X) → ((x : X) → Among x xs → P x) → AllByRecursion P xs
-  each_from P [] h = tt
-  each_from P (x ∷ xs) h = (h x (inl refl), each_from P xs (λ y m. h y (inr m)))
-
   below : (m r : ℕ) → All (λ q. q < m) rows → Among r rows → r < m
   below m r a h = let c = among_contains rows r h in subst (λ q. q < m) c.2 (a c.0 r c.1)
 
   pub starts_below : (m : ℕ) → All (λ r. r < m) rows → All (λ (x : ℕ × ℕ). x.1 < m) s.starts.items
-  starts_below m a = let f = is.0.from in All-from_recursion (λ (x : ℕ × ℕ). x.1 < m) s.starts.items (each_from (λ (x : ℕ × ℕ). x.1 < m) s.starts.items (λ x h. below m x.1 a (f x h).0))
+  starts_below m a = let f = is.0.from in All-from_recursion (λ (x : ℕ × ℕ). x.1 < m) s.starts.items (each_from_members (λ (x : ℕ × ℕ). x.1 < m) s.starts.items (λ x h. below m x.1 a (f x h).0))
 
   pub live_below : (m : ℕ) → All (λ r. r < m) rows → All (λ r. r < m) s.live.items
-  live_below m a = let f = is.1.from in All-from_recursion (λ r. r < m) s.live.items (each_from (λ r. r < m) s.live.items (λ r h. below m r a (f r h)))
+  live_below m a = let f = is.1.from in All-from_recursion (λ r. r < m) s.live.items (each_from_members (λ r. r < m) s.live.items (λ r h. below m r a (f r h)))

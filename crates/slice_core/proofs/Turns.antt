@@ -6,6 +6,7 @@ use Rattle.std.proofs.lemmas.List.Elements.{recursion_from_All, All-from_recursi
 use Rattle.std.proofs.lemmas.Bool.{cases_lt}
 use Rattle.std.proofs.lemmas.Nat.{mul-le}
 use Rattle.std.proofs.lemmas.Bool.Decides.{nat_tests}
+use Rattle.std.proofs.lemmas.List.{nil_from_length}
 use Rattle.packing_core.specs.Packed.{no_cells}
 use Rattle.packing_core.specs.Covering.{Among, Gives}
 use Rattle.packing_core.specs.Live.{span_has, box, side_has, IsSliceRow, IsSomewhere, InLive}
@@ -40,7 +41,7 @@ side_none x i h = past x.0 x.1 i h
     past : (a b i : ℕ) → b ≤ i → (leb a i && ltb i b) ≡ false
     past a b i h = grind (arith, nat_tests)
 
-from_lower : (a b z : ℕ) (xs : List ℕ) → a ≤ b → AreRows b z xs → AreRows a z xs
+pub from_lower : (a b z : ℕ) (xs : List ℕ) → a ≤ b → AreRows b z xs → AreRows a z xs
 from_lower a b z [] h r = tt
 from_lower a b z (x ∷ xs) h r = let l = r.0 in (omega arith, r.1, r.2)
 
@@ -71,10 +72,6 @@ rows_above a z n (x ∷ xs) r h = let l = r.0 in (omega arith, rows_above (suc x
 
 pub all_below : (n : ℕ) (xs : List ℕ) → AreRows 0 n xs → All (λ r. r < n) xs
 all_below n xs r = All-from_recursion (λ q. q < n) xs (rows_below 0 n n xs r (omega arith))
-
-pub nil_from : {X : Type 0} (xs : List X) → length xs ≡ 0 → xs ≡ []
-nil_from [] e = refl
-nil_from (x ∷ xs) e = absurd (omega arith)
 
 pub not_nil : {X : Type 0} (xs : List X) → 0 < length xs → xs ≢ []
 not_nil xs h e = let n : length xs ≡ 0 = ap length e in omega arith
@@ -144,7 +141,7 @@ least_iff Q U o h s = record {
   below = λ d q. s.below d ((h d).1 q);
 }
 
-at_most_then : (b c : Option Fault) (d : Fault) → IsAtMost b d → ((x : Fault) → b ≡ Some x → IsAtMost c x) → IsAtMost c d
+pub at_most_then : (b c : Option Fault) (d : Fault) → IsAtMost b d → ((x : Fault) → b ≡ Some x → IsAtMost c x) → IsAtMost c d
 at_most_then None c d h k = absurd h
 at_most_then (Some x) None d h k = absurd (k x refl)
 at_most_then (Some x) (Some y) d h k = not_after_both fault_order fault_total y x d (k x refl) h
@@ -247,7 +244,7 @@ module _ {P F : Type 0} (m : List ℕ → List ℕ → Result (List P) F) (n : �
             let w = a.0 h in
             subst (λ (k : P × List (ℕ × ℕ)). (length k.1 ≡ 0) × IsSliceRow 0 (GivesLabel m n) boxes left right k.0 k.1) w.2
             (refl, subst (λ U. U) (sym (same w.0)) (some, (labels_give r w.0).0 w.1)),
-        λ h. a.1 (x.0, (labels_give r x.0).1 (subst (λ U. U) (same x.0) h.1).1, ap (λ ys. (x.0, ys)) (sym (nil_from x.1 h.0))),
+        λ h. a.1 (x.0, (labels_give r x.0).1 (subst (λ U. U) (same x.0) h.1).1, ap (λ ys. (x.0, ys)) (sym (nil_from_length x.1 h.0))),
       )
 
   pub leaf_rows : (sides : ℕ) → sides ≡ 0 → (rows : List (P × List (ℕ × ℕ))) → rows ≡ map no_sides (labels_of r) → (x : P × List (ℕ × ℕ)) → Among x rows ↔ (length x.1 ≡ sides) × IsSliceRow sides (GivesLabel m n) boxes left right x.0 x.1
@@ -259,5 +256,5 @@ module _ {P F : Type 0} (m : List ℕ → List ℕ → Result (List P) F) (n : �
   leaf_fault sides z e =
       let same : InLive (GivesFault m n) boxes left right e [] ≡ (((left ≢ []) ⊎ (right ≢ [])) × GivesFault m n e left right) = live_alone (GivesFault m n) boxes left right e in (
         λ h. ([], sym z, subst (λ U. U) (sym same) (some, h)),
-        λ h. (subst (λ U. U) same (subst (InLive (GivesFault m n) boxes left right e) (nil_from h.0 (h.1 ∙ z)) h.2)).1,
+        λ h. (subst (λ U. U) same (subst (InLive (GivesFault m n) boxes left right e) (nil_from_length h.0 (h.1 ∙ z)) h.2)).1,
       )

@@ -1,21 +1,21 @@
 -- Pieces whose keys stand for rows, and pieces of two sides as such.
 use Rattle.std.proofs.Common.{◌≡◌, ℕ, zero, suc, ◌+◌, ◌-◌, ◌<◌, ◌≤◌, true, false, cond, ltb, List, [], ◌∷◌, ◌++◌, map, length, get_or, take, ◌↔◌, ◌⊎◌, inl, inr, arith, sym, ap, subst, refl, ◌∙◌, Ordering}
-use Rattle.std.specs.declared.cmp.Ordering.TheVariants.{Less, Equal, Greater}
-use Rattle.std.specs.Ordering.{ordering_then}
 use Rattle.std.specs.List.{All, AllByRecursion, filter}
 use Rattle.std.specs.List.Sorted.{IsStrictlySortedBy}
 use Rattle.std.proofs.lemmas.List.Elements.{recursion_from_All, All-from_recursion}
+use Rattle.std.proofs.lemmas.List.{get_or_default}
+use Rattle.base_core.proofs.OrderingLemmas.{then-Equal}
 use Rattle.packing_core.specs.Covering.{Among}
 use Rattle.packing_core.specs.Live.{side_has}
 use Rattle.packing_core.specs.Pieces.{Covers, Apart, AreApart}
 use Rattle.packing_core.specs.declared.Piece.{Piece}
-use Rattle.packing_core.proofs.Numbered.{other_default}
+use Rattle.packing_core.proofs.Joined.{covers_append}
 use Rattle.slice_core.specs.declared.bare.Bare.{Bare}
 use Rattle.slice_core.specs.declared.inward.IndexBox.{IndexBox}
 use Rattle.slice_core.specs.PackedRows.{IsUnitedRow, bare, span_of, alone}
 use Rattle.slice_core.specs.Rows.{sides_of, pair_cmp, no_sides, tag, with_last}
 use Rattle.slice_core.specs.TwoSides.{run_row, slab, slab_row, bare_cmp, bare_spans}
-use Rattle.slice_core.proofs.Steps.{one_key, covers_append}
+use Rattle.slice_core.proofs.Steps.{one_key}
 use Rattle.slice_core.proofs.UnitedLemmas.{Row, R, order, total, separates, spans, spans_some, covers_spans, united_rows, united_sorted}
 
 -- the piece under the row that its key stands for
@@ -92,13 +92,13 @@ covers_more : (boxes : List (List (ℕ × ℕ))) (rows : List ℕ) (n d : ℕ) �
     → Covers bare_cmp (bare_spans boxes (take (suc n) rows)) k i ↔ Covers bare_cmp (bare_spans boxes (take n rows)) k i ⊎ Covers bare_cmp (alone bare (span_of boxes 0 (get_or rows n d))) k i
 covers_more boxes [] n d l k i = absurd (omega arith)
 covers_more boxes (r ∷ rs) zero d l k i =
-    let a = covers_append bare_cmp total separates (alone bare (span_of boxes 0 r)) [] k i in (
+    let a = covers_append bare_cmp total (alone bare (span_of boxes 0 r)) [] k i in (
       λ h. elim (a.0 h) [ inl w ↦ inr w | inr w ↦ absurd w ],
       λ h. elim h [ inl w ↦ absurd w | inr w ↦ a.1 (inl w) ],
     )
 covers_more boxes (r ∷ rs) (suc n) d l k i =
-    let a = covers_append bare_cmp total separates (alone bare (span_of boxes 0 r)) (bare_spans boxes (take (suc n) rs)) k i in
-    let b = covers_append bare_cmp total separates (alone bare (span_of boxes 0 r)) (bare_spans boxes (take n rs)) k i in
+    let a = covers_append bare_cmp total (alone bare (span_of boxes 0 r)) (bare_spans boxes (take (suc n) rs)) k i in
+    let b = covers_append bare_cmp total (alone bare (span_of boxes 0 r)) (bare_spans boxes (take n rs)) k i in
     let ih = covers_more boxes rs n d (omega arith) k i in (
       λ h. elim (a.0 h) [ inl w ↦ inl (b.1 (inl w)) | inr w ↦ elim (ih.0 w) [ inl v ↦ inl (b.1 (inr v)) | inr v ↦ inr v ] ],
       λ h. elim h [ inl w ↦ elim (b.0 w) [ inl v ↦ a.1 (inl v) | inr v ↦ a.1 (inr (ih.1 (inl v))) ] | inr w ↦ a.1 (inr (ih.1 (inr w))) ],
@@ -116,7 +116,7 @@ pub in_turn : (f : ℕ → ℕ) (xs : List ℕ) → ((i : ℕ) (d e : ℕ) → s
 in_turn f xs h i j d e l m = go (j - i) i (omega (arith, l)) d
   where
     go : (n i : ℕ) → i + n ≡ j → (d : ℕ) → f (get_or xs i d) ≤ f (get_or xs j e)
-    go zero i q d = let s : i ≡ j = omega (arith, q) in let k = other_default xs j d e m in subst (λ r. f (get_or xs r d) ≤ f (get_or xs j e)) (sym s) (let b = ap f k in omega (arith, b))
+    go zero i q d = let s : i ≡ j = omega (arith, q) in let k = get_or_default xs j d e m in subst (λ r. f (get_or xs r d) ≤ f (get_or xs j e)) (sym s) (let b = ap f k in omega (arith, b))
     go (suc n) i q d = let a = h i d d (omega (arith, q, m)) in let b = go n (suc i) (omega (arith, q)) d in omega (arith, a, b)
 
 -- runs that cover what the spans of the live rows cover are their packed form on one side
@@ -142,13 +142,8 @@ module _ (bs : List IndexBox) (live : List ℕ) (h : All (λ x. 1 ≤ length x.s
 abbrev pub span_row : ℕ × ℕ → Row
 span_row s = (bare, s ∷ [])
 
-then_equal : (r : Ordering) → ordering_then r Equal ≡ r
-then_equal Less = refl
-then_equal Equal = refl
-then_equal Greater = refl
-
 pub same_span : (a b : ℕ × ℕ) → R (span_row a) (span_row b) ≡ pair_cmp a b
-same_span a b = then_equal (pair_cmp a b)
+same_span a b = then-Equal (pair_cmp a b)
 
 pub slab_rows : (ps : List (Piece (ℕ × ℕ))) → map slab_row ps ≡ map with_last (map (lifted span_row) ps)
 slab_rows [] = refl

@@ -9,20 +9,21 @@ use Rattle.std.proofs.lemmas.List.Elements.{recursion_from_All, All-from_recursi
 use Rattle.packing_core.specs.Pieces.{Covers, AreApart}
 use Rattle.std.specs.Cmp.{IsTotalOrder}
 use Rattle.std.specs.List.Sorted.{IsStrictlySortedBy}
+use Rattle.std.proofs.lemmas.List.{nil_from_length, get_or_default}
 use Rattle.packing_core.specs.Covering.{Among}
 use Rattle.packing_core.specs.Live.{span_has, side_has}
 use Rattle.packing_core.specs.declared.Piece.{Piece}
 use Rattle.packing_core.proofs.Inward.{HasSides, filter_where}
 use Rattle.packing_core.proofs.AmongLemmas.{among_filter}
 use Rattle.packing_core.proofs.Order.{among_contains}
-use Rattle.packing_core.proofs.Numbered.{other_default}
+use Rattle.packing_core.proofs.Joined.{covers_append}
 use Rattle.slice_core.specs.declared.bare.Bare.{Bare}
 use Rattle.slice_core.specs.declared.inward.IndexBox.{IndexBox}
 use Rattle.slice_core.specs.PackedRows.{AnyLabel, IsUnitedRow, bare, span_of, cuts_of, alone}
 use Rattle.slice_core.specs.Rows.{sides_of, key_cmp, key_total, no_sides, tag, with_last}
-use Rattle.slice_core.proofs.Steps.{one_key, covers_append, rows_answer, rows_sorted, covers_all, covers_step}
-use Rattle.slice_core.proofs.Turns.{rows_all, filter_none, side_none, live_alone, nil_from, none_row}
-use Rattle.slice_core.proofs.Sweeping.{cell_has, has_cell}
+use Rattle.slice_core.proofs.Steps.{one_key, rows_answer, rows_sorted, covers_all, covers_step}
+use Rattle.slice_core.proofs.Turns.{rows_all, filter_none, side_none, live_alone, none_row}
+use Rattle.slice_core.proofs.Sweeping.{cell_has, span_from}
 
 -- ---- cuts
 
@@ -60,7 +61,7 @@ none_after boxes side live count h i l =
 
 -- a member by its index
 pub index_of : (cuts : List ℕ) (c : ℕ) → Among c cuts → (j : ℕ) × (j < length cuts) × (get_or cuts j 0 ≡ c)
-index_of cuts c h = let w = among_contains cuts c h in (w.0, w.1, other_default cuts w.0 0 c w.1 ∙ w.2)
+index_of cuts c h = let w = among_contains cuts c h in (w.0, w.1, get_or_default cuts w.0 0 c w.1 ∙ w.2)
 
 -- a cut of a sorted list is not within the cells between two neighbours
 pub beside : (cuts : List ℕ) (a i : ℕ) → i < length cuts → ((j k : ℕ) → j ≤ k → k < length cuts → get_or cuts j 0 ≤ get_or cuts k 0) → ((j : ℕ) → j < i → get_or cuts j 0 ≤ a) → (c : ℕ) → Among c cuts → IsBeside a (get_or cuts i 0) c
@@ -117,7 +118,7 @@ one_row_united boxes live rows sides z n e x =
     subst (λ j. Among x rows ↔ (length x.1 ≡ j) × IsUnitedRow j boxes live x) (sym z)
     (subst (λ ys. Among x ys ↔ (length x.1 ≡ 0) × IsUnitedRow 0 boxes live x) at (
       λ h. elim h [ inl w ↦ (sym (ap (λ (y : Row). length y.1) w), u.1 (some_from live n)) | inr w ↦ absurd w ],
-      λ h. inl (ap (λ ys. (x.0, ys)) (sym (nil_from x.1 h.0))),
+      λ h. inl (ap (λ ys. (x.0, ys)) (sym (nil_from_length x.1 h.0))),
     ))
 
 -- ---- spans on the first side
@@ -139,7 +140,7 @@ unfolding IsStrictlySortedBy
 one_sorted rows e = subst (IsStrictlySortedBy R) (sym e) (tt, tt)
 
 pub is_nil : (xs : List ℕ) (b : Bool) → b ≡ (length xs == 0) → b ≡ true → xs ≡ []
-is_nil xs b e h = nil_from xs (zero (length xs) (sym e ∙ h))
+is_nil xs b e h = nil_from_length xs (zero (length xs) (sym e ∙ h))
   where
     zero : (n : ℕ) → (n == 0) ≡ true → n ≡ 0
     zero n q = grind (arith, nat_tests)
@@ -157,7 +158,7 @@ covers_alone : (s : ℕ × ℕ) (k : Row) (i : ℕ) → Covers R (alone (no_side
 covers_alone s k i =
     elim (ltb s.0 s.1) as (λ b. ltb s.0 s.1 ≡ b → Covers R (cond b (record { key = no_sides bare; begin = s.0; end = s.1 } ∷ []) []) k i ↔ (k.1 ≡ []) × (span_has s i ≡ true)) [
       | true ↦ λ e. (
-        λ h. elim h [ inl w ↦ (bare_key k w.0, has_cell s i w.1 w.2) | inr w ↦ absurd w ],
+        λ h. elim h [ inl w ↦ (bare_key k w.0, span_from s i w.1 w.2) | inr w ↦ absurd w ],
         λ h. let c = cell_has s i h.1 in inl (key_bare k h.0, c.0, c.1),
       )
       | false ↦ λ e. (λ h. absurd h, λ h. let c = cell_has s i h.1 in absurd (empty s.0 s.1 e c.0 c.1))
@@ -172,7 +173,7 @@ spans boxes live = flat_map (λ r. alone (no_sides bare) (span_of boxes 0 r)) li
 spans_cover : (boxes : List (List (ℕ × ℕ))) (live : List ℕ) (k : Row) (i : ℕ) → Covers R (spans boxes live) k i ↔ (k.1 ≡ []) × ((r : ℕ) × Among r live × (side_has boxes 0 i r ≡ true))
 spans_cover boxes [] k i = (λ h. absurd h, λ h. absurd h.1.1)
 spans_cover boxes (x ∷ xs) k i =
-    let a = covers_append R (key_total total) (one_key order total separates) (alone (no_sides bare) (span_of boxes 0 x)) (spans boxes xs) k i in
+    let a = covers_append R (key_total total) (alone (no_sides bare) (span_of boxes 0 x)) (spans boxes xs) k i in
     let c = covers_alone (span_of boxes 0 x) k i in
     let ih = spans_cover boxes xs k i in (
       λ h. elim (a.0 h) [
@@ -190,7 +191,7 @@ covers_spans boxes live k i =
     let c = spans_cover boxes live k i in
     let u = united_alone boxes (filter (side_has boxes 0 i) live) k in (
       λ h. let v = c.0 h in (ap length v.0, u.1 (v.1.0, (among_filter (side_has boxes 0 i) v.1.0 live).1 (v.1.1, v.1.2))),
-      λ h. let v = u.0 h.1 in let m = (among_filter (side_has boxes 0 i) v.0 live).0 v.1 in c.1 (nil_from k.1 h.0, (v.0, m.0, m.1)),
+      λ h. let v = u.0 h.1 in let m = (among_filter (side_has boxes 0 i) v.0 live).0 v.1 in c.1 (nil_from_length k.1 h.0, (v.0, m.0, m.1)),
     )
 
 abbrev IsSome : Piece Row → Type 0

@@ -30,9 +30,10 @@ use Rattle.meaning_core.specs.WellMade.{sizes_of, IsOrdinalType}
 use Rattle.node_typing.specs.Nodes.{summary_rule}
 use Rattle.node_typing.specs.Positions.{check, positions_typed}
 use Rattle.node_typing.specs.Summaries.{FormMade, takes, form_over, form_typed, Summed, aggregate_of, aggregate_typed, aggregates_typed, aggregate_list, groups_typed, aggregates_made, form_place}
-use Rattle.type_check.proofs.ItemLemmas.{new-is_new, few-is_few, IsListed, listed-none, listed-more, listed-heading}
+use Rattle.type_check.proofs.ItemLemmas.{few-is_few, IsListed, listed-none, listed-more, listed-heading}
 use Rattle.type_check.proofs.PositionLemmas.{kept-positions}
 use Rattle.declaration_typing.proofs.PositionLemmas.{held}
+use Rattle.declaration_typing.proofs.HistoryLaws.{new-attribute}
 use Rattle.type_check.proofs.ScalarLemmas.{typed-is_scalar}
 
 -- ---- what an aggregate counts
@@ -89,7 +90,7 @@ module _ (types : List OrdinalNames) (ordinals : All IsOrdinalType types) (from 
   aggregate-sound : (groups : Heading) (before : Summed) (g : AggregateP) → IsSummed (sizes_of types) from groups before.0 before.1
       → IfOk (aggregate_typed types from before g) (λ (m : Summed). IsSummed (sizes_of types) from groups m.0 m.1)
   aggregate-sound groups before (Aggregate w form) h =
-      then-sound (λ (name : Name). has_name before.1 name ≡ false) (λ (m : Summed). IsSummed (sizes_of types) from groups m.0 m.1) (new_name before.1 w) _ (new-is_new before.1 w) (λ name new.
+      then-sound (λ (name : Name). has_name before.1 name ≡ false) (λ (m : Summed). IsSummed (sizes_of types) from groups m.0 m.1) (new_name before.1 w) _ (new-attribute before.1 w) (λ name new.
       then-sound (λ (f : FormMade). HasKind (sizes_of types) from f.0 f.1) (λ (m : Summed). IsSummed (sizes_of types) from groups m.0 m.1) (form_typed types from form) _ (form-sound form) (λ made is.
       summed-more (sizes_of types) from groups before.0 before.1 (aggregate_of name (form_place form) made.0) made.1 h new is))
 

@@ -7,6 +7,7 @@ use Rattle.std.proofs.lemmas.Bool.{and_parts, and_from}
 use Rattle.std.proofs.lemmas.List.{map-append}
 use Rattle.base_core.proofs.SetLemmas.{In, Ascends}
 use Rattle.base_core.proofs.MemberLemmas.{In-filter, In-map}
+use Rattle.base_core.proofs.ListLemmas.{In-get_or}
 use Rattle.value_core.specs.declared.kind.Kind.{Kind}
 use Rattle.value_core.specs.Limits.{most_attributes}
 use Rattle.value_core.specs.Values.{Name, Heading, attribute_cmp, is_heading}
@@ -15,14 +16,15 @@ use Rattle.relation_core.specs.Agreement.{names_of}
 use Rattle.relation_core.specs.Joins.{joined_heading}
 use Rattle.relation_core.specs.Parts.{no_attribute, attributes_at, renamed}
 use Rattle.relation_core.proofs.ApartLemmas.{from_in_order, ascends_in_order}
-use Rattle.relation_core.proofs.HeadingLemmas.{part_ascends, part_is_few, within_by_members, In-get_or}
+use Rattle.relation_core.proofs.HeadingLemmas.{part_ascends, part_is_few, within_by_members}
 use Rattle.tree_core.specs.Relvars.{PlainRelvar, base, view, Entries, State, relvar_heading}
 use Rattle.tree_core.specs.Trees.{PlainAggregateForm, count_rows, sum_of, min_of, max_of, PlainAggregate, Tree, named, literal, infix_of, project, rename, restrict, extend, summarize, pack, unpack, using, heading_of}
 use Rattle.tree_core.specs.declared.tree.InfixWord.{InfixWord}
 use Rattle.tree_core.specs.declared.tree.InfixWord.TheVariants.{Union, Intersect, Minus, Join, Matching, NotMatching}
 use Rattle.meaning_core.specs.Typing.{is_kind, is_declared, HasKind, Sums, IsInfix, ArePositions, IsExtension, IsSummary, not_named, Headings, heading_named, IsTypedTree}
 use Rattle.meaning_core.specs.WellMade.{sizes_of, headings_of, IsRelvar, AreRelvars, IsWellMade, IsTypedFor}
-use Rattle.type_check.proofs.PutLemmas.{is-heading, all-in, all-both}
+use Rattle.since_during.proofs.HistoryTypes.{is-heading}
+use Rattle.type_check.proofs.PutLemmas.{all-in, all-both}
 use Rattle.type_check.proofs.ScalarLemmas.{scalar-kind}
 use Rattle.type_check.proofs.ItemLemmas.{makes-kinds, declared-of}
 

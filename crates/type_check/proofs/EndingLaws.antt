@@ -12,8 +12,9 @@ use Rattle.tree_core.specs.Relvars.{PlainRelvar, view, Entries, State, relvar_na
 use Rattle.tree_core.specs.Trees.{Tree}
 use Rattle.meaning_core.specs.Endings.{rule_if}
 use Rattle.meaning_core.specs.WellMade.{sizes_of, rule_among, IsBase, IsOfRule, IsRelvar, AreRelvars, IsWellMade}
+use Rattle.meaning_core.proofs.RelvarLemmas.{named_before}
 use Rattle.item_typing.specs.Endings.{Facts, facts_of}
-use Rattle.since_during.proofs.JoinableLemmas.{named-more, some-base}
+use Rattle.since_during.proofs.JoinableLemmas.{some-base}
 
 -- ---- where a relvar or view stands
 
@@ -39,7 +40,7 @@ made-in sizes before (k ∷ rest) name r are e = by-test (bytes_eq k.0 name) e (
 named-whole : (sizes : List ℕ) (whole : Entries) (r : PlainRelvar) (m : IsMadeIn sizes whole r) (name : Name) → IsBase (relvar_named m.front name) → relvar_named whole name ≡ relvar_named m.front name
 named-whole sizes whole r m name is =
     let found = some-base (relvar_named m.front name) is in
-    ap (λ (es : Entries). relvar_named es name) m.split ∙ (named-more m.front ((m.own, r) ∷ m.back) name found.0 found.1 ∙ sym found.1)
+    ap (λ (es : Entries). relvar_named es name) m.split ∙ (named_before m.front ((m.own, r) ∷ m.back) name found.0 found.1 ∙ sym found.1)
 
 -- ---- the facts
 

@@ -31,8 +31,8 @@ use Rattle.meaning_core.specs.WellMade.{sizes_of, IsOrdinalType}
 use Rattle.node_typing.specs.Headings.{made_beside}
 use Rattle.node_typing.specs.Nodes.{extension_rule}
 use Rattle.node_typing.specs.Rows.{item_list, items_typed, extension_made}
-use Rattle.type_check.proofs.PutLemmas.{heading-of, is-heading}
-use Rattle.since_during.proofs.HistoryTypes.{put-permutes}
+use Rattle.type_check.proofs.PutLemmas.{heading-of}
+use Rattle.since_during.proofs.HistoryTypes.{put-permutes, is-heading}
 use Rattle.type_check.proofs.ItemLemmas.{few-is_few, IsMade, made-none, item-made}
 use Rattle.meaning_core.proofs.MadeLemmas.{own_name as own}
 

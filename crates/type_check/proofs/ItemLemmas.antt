@@ -8,7 +8,7 @@ use Rattle.std.proofs.lemmas.List.{append-nil, append_assoc}
 use Rattle.std.proofs.lemmas.List.Sorted.{IsPermutation-refl, IsPermutation-trans, IsPermutation-cons, IsPermutation-middle}
 use Rattle.base_core.proofs.SetLemmas.{Ascends}
 use Rattle.point_core.specs.declared.fault.Place.{Place}
-use Rattle.point_core.specs.declared.fault.Code.TheVariants.{E15, E17}
+use Rattle.point_core.specs.declared.fault.Code.TheVariants.{E17}
 use Rattle.utd_syntax.specs.Plain.{Word, ScalarP, ElementP, Element}
 use Rattle.value_core.specs.declared.kind.Kind.{Kind}
 use Rattle.value_core.specs.declared.list.OrdinalNames.{OrdinalNames}
@@ -17,13 +17,15 @@ use Rattle.value_core.specs.Values.{Name, Heading, attribute_cmp, is_heading}
 use Rattle.scalar_core.specs.Expressions.{Expr}
 use Rattle.scalar_typing.specs.Typings.{refused}
 use Rattle.scalar_typing.specs.Scalars.{typed_scalar}
-use Rattle.scalar_typing.proofs.SoundLemmas.{then-sound, any-given}
-use Rattle.relation_typing.specs.Attributes.{with_attribute, name_typed, new_name, few_attributes}
+use Rattle.scalar_typing.proofs.SoundLemmas.{then-sound}
+use Rattle.relation_typing.specs.Attributes.{with_attribute, new_name, few_attributes}
 use Rattle.relation_typing.specs.Items.{Made, item_typed, elements_typed}
 use Rattle.tree_core.specs.Trees.{PlainSets}
 use Rattle.meaning_core.specs.Typing.{is_kind, is_declared, IsScalar, Makes}
 use Rattle.meaning_core.specs.WellMade.{sizes_of, IsOrdinalType}
-use Rattle.type_check.proofs.PutLemmas.{insert-permutes, insert-ascends, heading-of, is-heading, all-moved}
+use Rattle.since_during.proofs.HistoryTypes.{is-heading}
+use Rattle.declaration_typing.proofs.HistoryLaws.{new-attribute}
+use Rattle.type_check.proofs.PutLemmas.{insert-permutes, insert-ascends, heading-of, all-moved}
 use Rattle.type_check.proofs.ScalarLemmas.{scalar-kind, typed-is_scalar}
 
 -- ---- attributes so far
@@ -56,14 +58,6 @@ pub listed-heading : (made old attributes : Heading) → IsListed made old attri
 listed-heading made old attributes h few = heading-of (made ++ old) attributes h.same (is-heading attributes h.ascends few)
 
 -- ---- names and counts
-
-pub new-is_new : (h : Heading) (w : Word) → IfOk (new_name h w) (λ name. has_name h name ≡ false)
-new-is_new h w =
-    then-sound (λ (name : Name). Unit {0}) (λ (name : Name). has_name h name ≡ false) (name_typed w) _ (any-given (name_typed w)) (λ name _. fresh name (has_name h name) refl)
-  where
-    fresh : (name : Name) (b : Bool) → has_name h name ≡ b → IfOk (if b then refused w.place E15 else Ok name) (λ (n : Name). has_name h n ≡ false)
-    fresh name true e = tt
-    fresh name false e = e
 
 pub few-is_few : (place : Place) (h : Heading) → IfOk (few_attributes place h) (λ to. (to ≡ h) × (length h ≤ most_attributes))
 few-is_few place h = by-count (nat_le (length h) most_attributes) refl
@@ -120,7 +114,7 @@ module _ (types : List OrdinalNames) (ordinals : All IsOrdinalType types) (from 
   pub item-made : (before : Made) (w : Word) (s : ScalarP) → IsMade (sizes_of types) from before.0 before.1
       → IfOk (item_typed types from before w s) (λ (m : Made). IsMade (sizes_of types) from m.0 m.1)
   item-made before w s h =
-      then-sound (λ (name : Name). has_name before.1 name ≡ false) (λ (m : Made). IsMade (sizes_of types) from m.0 m.1) (new_name before.1 w) _ (new-is_new before.1 w) (λ name new.
+      then-sound (λ (name : Name). has_name before.1 name ≡ false) (λ (m : Made). IsMade (sizes_of types) from m.0 m.1) (new_name before.1 w) _ (new-attribute before.1 w) (λ name new.
       then-sound (λ (e : Expr × Kind). IsScalar (sizes_of types) from e.0 e.1) (λ (m : Made). IsMade (sizes_of types) from m.0 m.1) (typed_scalar types from s) _
       (typed-is_scalar types ordinals from s) (λ e is. made-more (sizes_of types) from before.0 before.1 name e.0 e.1 h new is))
 

@@ -6,6 +6,7 @@ use Rattle.std.specs.Str.{bytes_eq}
 use Rattle.std.proofs.lemmas.Bool.{and_from, not_from_false, false_from_ne_true, eqb-true}
 use Rattle.base_core.proofs.SetLemmas.{In}
 use Rattle.base_core.proofs.MemberLemmas.{In-append, In-map, list_any-In}
+use Rattle.base_core.proofs.ListLemmas.{All-In}
 use Rattle.point_core.specs.declared.fault.Place.{Place}
 use Rattle.point_core.specs.declared.fault.Code.TheVariants.{E10, E13}
 use Rattle.point_core.specs.Faults.{OrFault}
@@ -45,10 +46,10 @@ use Rattle.type_check.proofs.InfixLemmas.{condition-sound}
 use Rattle.type_check.proofs.KeptLemmas.{AreAssigned, AreOthers, others-assigned, swept-is, sets-swept}
 use Rattle.type_check.proofs.ListLemmas.{AreListed, list-sound, left-list}
 use Rattle.type_check.proofs.LiteralLemmas.{same_heading-same}
-use Rattle.type_check.proofs.PositionLemmas.{all-from, position-named}
-use Rattle.declaration_typing.proofs.PositionLemmas.{held}
+use Rattle.declaration_typing.proofs.PositionLemmas.{held, position-named}
 use Rattle.meaning_core.proofs.MadeLemmas.{own_name as own}
-use Rattle.type_check.proofs.TreeLemmas.{named-heading, tree-sound}
+use Rattle.meaning_core.proofs.RelvarLemmas.{heading_of_named}
+use Rattle.type_check.proofs.TreeLemmas.{tree-sound}
 use Rattle.type_check.proofs.SetTypedLemmas.{onward, IsUpdate, sets-made-sound}
 use Rattle.type_check.proofs.PortionTypedLemmas.{AreNamed, portion-sound}
 
@@ -112,7 +113,7 @@ module _ (state : State) (made : IsWellMade state) where
 
   -- its heading is one
   target-heading : (place : Place) (t : Target) → IsTarget state t → IsTrue (is_heading t.1)
-  target-heading place t is = by-found (relvar_named state.relvars t.0) (named-heading state.relvars t.0) is.0 is.1
+  target-heading place t is = by-found (relvar_named state.relvars t.0) (heading_of_named state.relvars t.0) is.0 is.1
     where
       by-found : (o : Option PlainRelvar) → heading_named (headings_of state.relvars) t.0 ≡ option_map relvar_heading o → IsBase o → t.1 ≡ heading_if o → IsTrue (is_heading t.1)
       by-found None e is same = absurd is
@@ -269,4 +270,4 @@ module _ (state : State) (made : IsWellMade state) where
   pub assignment-sound : (a : AssignP) → IfOk (assignment_typed state a) (All (IsTypedItem state))
   assignment-sound a =
       onward (λ (items : List PlainItem). (i : PlainItem) → In i items → IsTypedItem state i) (All (IsTypedItem state)) (assignment_typed state a)
-      (items-sound [] (listed_items a) (λ i m. absurd m)) (λ items h. all-from (IsTypedItem state) items h)
+      (items-sound [] (listed_items a) (λ i m. absurd m)) (λ items h. All-In (IsTypedItem state) items h)

@@ -1,13 +1,11 @@
 -- What USING asks of the attributes and the expressions of an operator, told by what is checked.
-use Rattle.std.specs.Prelude.{◌≡◌, ℕ, Bool, true, false, not, cond, ◌&&◌, ◌||◌, List, [], ◌∷◌, ◌++◌, nat_eq, Option, Some, None, is_none, Ok, Err, IfOk, IsTrue, refl, if◌then◌else◌}
-use Rattle.std.proofs.Common.{sym, ◌∙◌, ap, subst, inl, inr, ◌⊎◌, eq-eqb}
+use Rattle.std.specs.Prelude.{◌≡◌, ℕ, Bool, true, false, not, cond, ◌&&◌, ◌||◌, List, [], ◌∷◌, ◌++◌, Option, Some, None, is_none, Ok, Err, IfOk, IsTrue, refl, if◌then◌else◌}
+use Rattle.std.proofs.Common.{sym, ◌∙◌, ap, subst, inl, inr, ◌⊎◌}
 use Rattle.std.specs.List.{list_all, list_any}
 use Rattle.std.specs.Str.{bytes_eq}
-use Rattle.std.proofs.lemmas.Bool.{true≢false, and_from, false_from_ne_true, not_from_false, not-true}
+use Rattle.std.proofs.lemmas.Bool.{true≢false, and_from, false_from_ne_true, not_from_false, not-true, or_from}
 use Rattle.base_core.proofs.SetLemmas.{In}
 use Rattle.base_core.proofs.MemberLemmas.{list_all-In, list_any-In, In-append}
-use Rattle.point_core.specs.declared.any_type.AnyType.{AnyType}
-use Rattle.point_core.specs.declared.any_type.AnyType.TheVariants.{Integer, Date, Ordinal}
 use Rattle.point_core.specs.declared.fault.Place.{Place}
 use Rattle.point_core.specs.Faults.{OrFault}
 use Rattle.value_core.specs.Attributes.{among}
@@ -17,7 +15,7 @@ use Rattle.value_core.specs.declared.list.OrdinalNames.{OrdinalNames}
 use Rattle.value_core.specs.Headings.{has_name}
 use Rattle.value_core.specs.Values.{Name, Heading}
 use Rattle.scalar_core.specs.Expressions.{Expr, constant, attribute, one, pair, and_expr, or_expr}
-use Rattle.scalar_core.specs.KindOf.{same_type, same_kind}
+use Rattle.scalar_core.specs.KindOf.{same_kind}
 use Rattle.relation_typing.specs.Attributes.{new_name, name_typed}
 use Rattle.relation_typing.specs.Items.{Made, item_typed}
 use Rattle.scalar_typing.specs.Scalars.{typed_scalar}
@@ -37,11 +35,6 @@ use Rattle.point_core.specs.declared.fault.Code.TheVariants.{E15, E18}
 use Rattle.scalar_core.proofs.KindOfLemmas.{same_kind-self}
 
 -- ---- attributes of one kind
-
-same_type-self : (t : AnyType) → same_type t t ≡ true
-same_type-self Integer = refl
-same_type-self Date = refl
-same_type-self (Ordinal of last) = and_from (nat_eq of of) (nat_eq last last) (eq-eqb of of refl) (eq-eqb last last refl)
 
 alike : (h g : Heading) (name : Name) → IsTrue (has_name h name) → IsTrue (has_name g name) → kind_named h name ≡ kind_named g name → IsTrue (is_alike_at h g name)
 alike h g name here there same =
@@ -160,10 +153,6 @@ first-none : (xs ys : List Place) → first_place (xs ++ ys) ≡ None → (first
 first-none [] ys h = (refl, h)
 first-none (p ∷ xs) ys h = absurd cc
 
-or-false : (a b : Bool) → a ≡ false → b ≡ false → (a || b) ≡ false
-or-false true b h k = h
-or-false false b h k = k
-
 unnamed : (acl : List ℕ) (e : Expr) → first_place (named_places acl e) ≡ None → names_any acl e ≡ false
 unnamed acl (constant place kind v) h = refl
 unnamed acl (attribute place i) h = by-test (among acl i) h
@@ -174,13 +163,13 @@ unnamed acl (attribute place i) h = by-test (among acl i) h
 unnamed acl (one op place e) h = unnamed acl e h
 unnamed acl (pair op place l r) h =
     let parts = first-none (named_places acl l) (named_places acl r) h in
-    or-false (names_any acl l) (names_any acl r) (unnamed acl l parts.0) (unnamed acl r parts.1)
+    or_from (names_any acl l) (names_any acl r) (unnamed acl l parts.0) (unnamed acl r parts.1)
 unnamed acl (and_expr place l r) h =
     let parts = first-none (named_places acl l) (named_places acl r) h in
-    or-false (names_any acl l) (names_any acl r) (unnamed acl l parts.0) (unnamed acl r parts.1)
+    or_from (names_any acl l) (names_any acl r) (unnamed acl l parts.0) (unnamed acl r parts.1)
 unnamed acl (or_expr place l r) h =
     let parts = first-none (named_places acl l) (named_places acl r) h in
-    or-false (names_any acl l) (names_any acl r) (unnamed acl l parts.0) (unnamed acl r parts.1)
+    or_from (names_any acl l) (names_any acl r) (unnamed acl l parts.0) (unnamed acl r parts.1)
 
 names-none : (acl : List ℕ) (e : Expr) → IfOk (names_no acl e) (λ _. IsTrue (not (names_any acl e)))
 names-none acl e = by-place (first_place (named_places acl e)) refl

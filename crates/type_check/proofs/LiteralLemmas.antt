@@ -29,9 +29,11 @@ use Rattle.relation_typing.specs.Literals.{elements_made, tuple_typed, under_hea
 use Rattle.tree_core.specs.Trees.{PlainSets}
 use Rattle.meaning_core.specs.Typing.{is_kind, is_declared, IsTuple, Headings, IsTypedTree}
 use Rattle.meaning_core.specs.WellMade.{sizes_of, IsOrdinalType}
-use Rattle.type_check.proofs.PutLemmas.{insert-permutes, insert-ascends, is-heading, all-moved}
+use Rattle.since_during.proofs.HistoryTypes.{is-heading}
+use Rattle.declaration_typing.proofs.HistoryLaws.{new-attribute}
+use Rattle.type_check.proofs.PutLemmas.{insert-permutes, insert-ascends, all-moved}
 use Rattle.type_check.proofs.ScalarLemmas.{IsType, point-declared}
-use Rattle.type_check.proofs.ItemLemmas.{new-is_new, few-is_few, IsMade, made-none, makes-kinds, made-heading, declared-of, elements-made}
+use Rattle.type_check.proofs.ItemLemmas.{few-is_few, IsMade, made-none, makes-kinds, made-heading, declared-of, elements-made}
 
 -- ---- headings that are one
 
@@ -75,7 +77,7 @@ module _ (types : List OrdinalNames) (ordinals : All IsOrdinalType types) where
   attributes-typed before [] h = h
   attributes-typed before (syntax.Attribute w k ∷ rest) h =
       then-sound (λ (kind : Kind). IsTrue (is_kind (sizes_of types) kind)) _ (kind_typed types k) _ (kind-declared k) (λ kind is.
-      then-sound (λ (name : Name). has_name before name ≡ false) _ (new_name before w) _ (new-is_new before w) (λ name new.
+      then-sound (λ (name : Name). has_name before name ≡ false) _ (new_name before w) _ (new-attribute before w) (λ name new.
       attributes-typed (with_attribute before name kind) rest (typed-more before name kind h new is)))
 
   few-declared : (at : Place) (all : Heading) → Ascends attribute_cmp all × IsTrue (list_all (λ a. is_kind (sizes_of types) a.1) all)

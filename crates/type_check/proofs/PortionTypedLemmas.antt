@@ -9,6 +9,7 @@ use Rattle.std.proofs.lemmas.List.{append-nil, append_assoc, length-map, map-app
 use Rattle.std.proofs.lemmas.Map.Keys.{IsDistinct-push}
 use Rattle.base_core.proofs.SetLemmas.{In, Ascends}
 use Rattle.base_core.proofs.MemberLemmas.{In-append, In-map, list_all-In}
+use Rattle.base_core.proofs.ListLemmas.{All-In}
 use Rattle.point_core.specs.declared.fault.Code.TheVariants.{E12, E14, E15, E16, E17}
 use Rattle.value_core.specs.Attributes.{among}
 use Rattle.utd_syntax.specs.Plain.{Word, ScalarP, ElementP, Element, SomeElementsP, SomeElements}
@@ -35,7 +36,7 @@ use Rattle.meaning_core.specs.Updates.{attributes_of_portion, IsPart, IsPortionI
 use Rattle.meaning_core.specs.WellMade.{sizes_of, IsOrdinalType}
 use Rattle.node_typing.specs.Positions.{check}
 use Rattle.item_typing.specs.Changes.{part_typed, parts_typed, portion_typed, element_name, portion_names}
-use Rattle.type_check.proofs.PositionLemmas.{all-from, named-in}
+use Rattle.type_check.proofs.PositionLemmas.{named-in}
 use Rattle.declaration_typing.proofs.PositionLemmas.{held}
 use Rattle.meaning_core.proofs.MadeLemmas.{same_name}
 use Rattle.type_check.proofs.ScalarLemmas.{typed-is_scalar}
@@ -103,7 +104,7 @@ as-portion sizes heading name names [] h is few = absurd (let e = is.positions i
 as-portion sizes heading name names (p ∷ m) h is few =
     let acl : List ℕ = attributes_of_portion (p ∷ m) in (
       record {
-        within = all-from (λ (i : ℕ). i < length heading) acl (λ i j.
+        within = All-In (λ (i : ℕ). i < length heading) acl (λ i j.
             let w = (In-map (λ (q : ℕ × Expr). q.0) i (p ∷ m)).0 j in
             subst (λ (k : ℕ). k < length heading) (sym w.2) (h.parts w.0 w.1).0);
         different = h.different;
@@ -112,7 +113,7 @@ as-portion sizes heading name names (p ∷ m) h is few =
             subst (λ (k : ℕ). IsTrue (is_span (kind_at heading k))) (sym w.2) (h.parts w.0 w.1).1.0);
         few = let same = length-map (p ∷ m) (λ (q : ℕ × Expr). q.0) in omega (arith, same, few);
       },
-      all-from (IsPart sizes heading) (p ∷ m) (λ q i. (h.parts q i).1),
+      All-In (IsPart sizes heading) (p ∷ m) (λ q i. (h.parts q i).1),
     )
 
 -- what is read behind the parts so far

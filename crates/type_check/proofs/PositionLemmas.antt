@@ -1,5 +1,5 @@
 -- Attributes by their names and positions.
-use Rattle.std.specs.Prelude.{◌≡◌, ◌<◌, ◌≤◌, ℕ, suc, ◌+◌, Bool, true, false, ◌||◌, List, [], ◌∷◌, length, get_or, nat_eq, IsTrue, refl, if◌then◌else◌}
+use Rattle.std.specs.Prelude.{◌≡◌, ◌<◌, ◌≤◌, ℕ, ◌+◌, Bool, true, false, ◌||◌, List, [], ◌∷◌, length, get_or, nat_eq, IsTrue, refl, if◌then◌else◌}
 use Rattle.std.proofs.Common.{arith, sym, ◌∙◌, ap, ap₂, subst, inl, inr}
 use Rattle.std.specs.List.{All, AllByRecursion, IsDistinct}
 use Rattle.std.specs.Ordering.{nat_cmp}
@@ -7,9 +7,10 @@ use Rattle.std.specs.Str.{bytes_eq}
 use Rattle.std.proofs.lemmas.Bool.{true≢false, false_from_ne_true, eqb-true}
 use Rattle.std.proofs.lemmas.Cmp.{nat_cmp_total}
 use Rattle.std.proofs.lemmas.Slice.Eq.{bytes_eq-Decides}
-use Rattle.base_core.proofs.SetLemmas.{In, AllAfter, Ascends}
+use Rattle.base_core.proofs.SetLemmas.{In, Ascends}
 use Rattle.base_core.proofs.MemberLemmas.{In-map, list_any-In}
-use Rattle.base_core.proofs.SetOperatorLemmas.{AllAfter-In, is_set-Ascends}
+use Rattle.base_core.proofs.SetOperatorLemmas.{is_set-Ascends}
+use Rattle.base_core.proofs.ListLemmas.{In-get_or, All-In}
 use Rattle.value_core.specs.declared.kind.Kind.{Kind}
 use Rattle.value_core.specs.Attributes.{among}
 use Rattle.value_core.specs.Headings.{has_name}
@@ -18,29 +19,13 @@ use Rattle.relation_core.specs.Agreement.{position_of, as_wanted}
 use Rattle.relation_core.specs.Parts.{no_attribute}
 use Rattle.meaning_core.specs.Meanings.{positions_of, names_at}
 use Rattle.meaning_core.specs.Typing.{ArePositions}
-use Rattle.meaning_core.proofs.MadeLemmas.{one_in_order, same_name, own_name}
+use Rattle.meaning_core.proofs.MadeLemmas.{one_in_order, own_name}
 use Rattle.node_typing.specs.Lists.{kind_named}
 use Rattle.node_typing.specs.Positions.{kept_from, kept}
-use Rattle.relation_core.proofs.HeadingLemmas.{In-get_or}
-use Rattle.since_during.proofs.MoreLemmas.{less-by}
-
-pub all-from : {X : Type 0} (P : X → Type 0) (xs : List X) → ((x : X) → In x xs → P x) → All P xs
-all-from P xs h k d l = h (get_or xs k d) (In-get_or xs k d l)
+use Rattle.node_typing.proofs.KeptLemmas.{kept-ascends}
+use Rattle.declaration_typing.proofs.PositionLemmas.{position-named}
 
 -- ---- the attribute of a name
-
--- its position lies in the heading, and its name is the name
-pub position-named : (h : Heading) (name : Name) → IsTrue (has_name h name) → (position_of h name < length h) × ((get_or h (position_of h name) no_attribute).0 ≡ name)
-position-named [] name e = absurd (true≢false (sym e))
-position-named (a ∷ rest) name e =
-    by-test (bytes_eq a.0 name) refl (position-named rest name) e
-  where
-    by-test : (b : Bool) → bytes_eq a.0 name ≡ b
-        → (IsTrue (has_name rest name) → (position_of rest name < length rest) × ((get_or rest (position_of rest name) no_attribute).0 ≡ name))
-        → IsTrue (b || has_name rest name)
-        → ((if b then 0 else suc (position_of rest name)) < length (a ∷ rest)) × ((get_or (a ∷ rest) (if b then 0 else suc (position_of rest name)) no_attribute).0 ≡ name)
-    by-test true f more e = (omega arith, same_name a.0 name f)
-    by-test false f more e = let h = more e in (omega (arith, h.0), h.1)
 
 -- a name with its kind is an attribute
 pub attribute-named : (h : Heading) (name : Name) → IsTrue (has_name h name) → In (name, kind_named h name) h
@@ -68,7 +53,7 @@ names-at-positions h (n ∷ names) known =
 
 pub positions-within : (h : Heading) (names : List Name) → ((n : Name) → In n names → IsTrue (has_name h n)) → All (λ (i : ℕ). i < length h) (positions_of h names)
 positions-within h names known =
-    all-from (λ (i : ℕ). i < length h) (positions_of h names) (λ i m.
+    All-In (λ (i : ℕ). i < length h) (positions_of h names) (λ i m.
     let w = (In-map (position_of h) i names).0 m in
     subst (λ (j : ℕ). j < length h) (sym w.2) (position-named h w.0 (known w.0 w.1)).0)
 
@@ -105,19 +90,8 @@ kept-within wanted named n (a ∷ rest) i m =
     ]
     by-test false more m = more m
 
-kept-ascends : (wanted : Bool) (named : List ℕ) (n : ℕ) (h : Heading) → Ascends nat_cmp (kept_from wanted named n h)
-kept-ascends wanted named n [] = tt
-kept-ascends wanted named n (a ∷ rest) =
-    by-test (as_wanted wanted (among named n)) (kept-ascends wanted named (n + 1) rest)
-    ((AllAfter-In nat_cmp n (kept_from wanted named (n + 1) rest)).1 (λ i m. let w = kept-within wanted named (n + 1) rest i m in less-by n i (omega (arith, w.0))))
-  where
-    by-test : (b : Bool) → Ascends nat_cmp (kept_from wanted named (n + 1) rest) → AllAfter nat_cmp n (kept_from wanted named (n + 1) rest)
-        → Ascends nat_cmp (if b then n ∷ kept_from wanted named (n + 1) rest else kept_from wanted named (n + 1) rest)
-    by-test true up after = (after, up)
-    by-test false up after = up
-
 pub kept-positions : (wanted : Bool) (named : List ℕ) (h : Heading) → ArePositions h (kept wanted named h)
 kept-positions wanted named h = record {
   ascending = (is_set-Ascends nat_cmp nat_cmp_total (kept wanted named h)).1 (kept-ascends wanted named 0 h);
-  within = all-from (λ (i : ℕ). i < length h) (kept wanted named h) (λ i m. let w = kept-within wanted named 0 h i m in omega (arith, w.1));
+  within = All-In (λ (i : ℕ). i < length h) (kept wanted named h) (λ i m. let w = kept-within wanted named 0 h i m in omega (arith, w.1));
 }

@@ -1,22 +1,21 @@
 -- Attributes that are put one by one into a heading: the list of them makes the heading.
-use Rattle.std.proofs.Common.{◌≡◌, inl, inr, ℕ, ◌+◌, ◌≤◌, Bool, true, false, ◌||◌, [], ◌∷◌, ◌++◌, length, refl, sym, ap, ◌∙◌, subst, Some, None, IsTrue, Less, Equal, Greater, if◌then◌else◌, nat_le}
+use Rattle.std.proofs.Common.{◌≡◌, inl, inr, ℕ, ◌+◌, Bool, true, false, ◌||◌, [], ◌∷◌, ◌++◌, refl, sym, ap, ◌∙◌, subst, Some, None, IsTrue, Less, Equal, Greater, if◌then◌else◌}
 use Rattle.std.specs.BTreeMap.{insert_entry}
 use Rattle.std.specs.Cmp.Lexicographic.{texts_ties, nat_list_eq_equiv}
 use Rattle.std.specs.List.{AllByRecursion, IsDistinct, list_all}
 use Rattle.std.specs.List.Sorted.{IsPermutation}
 use Rattle.std.specs.Ordering.{is_eq, match_ordering, ordering_reverse}
 use Rattle.std.specs.Str.{bytes_eq}
-use Rattle.std.proofs.lemmas.Bool.{true≢false, and_from, and_parts, le-leb}
+use Rattle.std.proofs.lemmas.Bool.{true≢false, and_from, and_parts, or_parts}
 use Rattle.std.proofs.lemmas.List.Folds.{list_any-append}
 use Rattle.std.proofs.lemmas.List.Sorted.{IsPermutation-sym}
 use Rattle.std.proofs.lemmas.Map.Keys.{IsDistinct-IsPermutation}
 use Rattle.base_core.specs.Sets.{placed, put}
 use Rattle.base_core.proofs.SetLemmas.{In, AllAfter, Ascends}
 use Rattle.base_core.proofs.MemberLemmas.{list_all-In}
-use Rattle.base_core.proofs.SetOperatorLemmas.{In-permutation, is_set-Ascends}
+use Rattle.base_core.proofs.SetOperatorLemmas.{In-permutation}
 use Rattle.value_core.specs.declared.kind.Kind.{Kind}
 use Rattle.value_core.specs.Headings.{has_name, repeat_after, IsHeadingOf}
-use Rattle.value_core.specs.Limits.{most_attributes}
 use Rattle.value_core.specs.Values.{Name, Heading, name_cmp, attribute_cmp, is_heading}
 use Rattle.value_core.proofs.HeadingLemmas.{attribute_total}
 use Rattle.relation_core.proofs.HeadingLemmas.{neither, heading_ascends}
@@ -35,15 +34,11 @@ after-placed a b (c ∷ cs) l h =
 
 -- ---- an attribute of a new name
 
-neither-of : (a b : Bool) → (a || b) ≡ false → (a ≡ false) × (b ≡ false)
-neither-of true b e = absurd (true≢false e)
-neither-of false b e = (refl, e)
-
 -- no attribute of the heading stands at its place
 pub new-apart : (h : Heading) (name : Name) (kind : Kind) → has_name h name ≡ false → (b : Name × Kind) → In b h → attribute_cmp (name, kind) b ≡ Equal → ⊥
 new-apart [] name kind e b i t = i
 new-apart (a ∷ rest) name kind e b i t =
-    let parts = neither-of (bytes_eq a.0 name) (has_name rest name) e in
+    let parts = or_parts (bytes_eq a.0 name) (has_name rest name) e in
     elim i [
       | inl s ↦
           let tied : bytes_eq name b.0 ≡ true = texts_ties name b.0 ∙ ap is_eq t in
@@ -56,7 +51,7 @@ new-apart (a ∷ rest) name kind e b i t =
 pub insert-put : (h : Heading) (name : Name) (kind : Kind) → has_name h name ≡ false → insert_entry name_cmp h name kind ≡ put attribute_cmp (name, kind) h
 insert-put [] name kind e = refl
 insert-put (a ∷ rest) name kind e =
-    let parts = neither-of (bytes_eq a.0 name) (has_name rest name) e in
+    let parts = or_parts (bytes_eq a.0 name) (has_name rest name) e in
     elim (name_cmp name a.0) as (λ r. name_cmp name a.0 ≡ r → match_ordering r ((name, kind) ∷ a ∷ rest) ((a.0, kind) ∷ rest) (a ∷ insert_entry name_cmp rest name kind)
     ≡ placed r (name, kind) a rest (put attribute_cmp (name, kind) rest)) [
       | Less ↦ λ t. refl
@@ -124,11 +119,6 @@ heading-of list heading moved ordered = record {
   same = moved;
   ordered = ordered;
 }
-
--- few attributes in order are a heading
-pub is-heading : (heading : Heading) → Ascends attribute_cmp heading → length heading ≤ most_attributes → IsTrue (is_heading heading)
-is-heading heading up few =
-    and_from _ (nat_le (length heading) most_attributes) ((is_set-Ascends attribute_cmp attribute_total heading).1 up) (le-leb (length heading) most_attributes few)
 
 -- what all attributes of a list have, those of the heading have
 pub all-moved : (p : Name × Kind → Bool) (list heading : Heading) → IsPermutation list heading → IsTrue (list_all p list) → IsTrue (list_all p heading)

@@ -19,7 +19,7 @@ use Rattle.relation_core.specs.Parts.{renamed}
 use Rattle.relation_core.proofs.ApartLemmas.{Apart}
 use Rattle.relation_core.proofs.AttributeLemmas.{same_name}
 use Rattle.relation_core.proofs.HeadingLemmas.{heading_ascends, few_attributes}
-use Rattle.relation_core.proofs.RenamingLemmas.{length-renamed}
+use Rattle.relation_core.proofs.RenamingLemmas.{length-renamed, name_in}
 use Rattle.relation_typing.specs.Attributes.{is_name, name_typed}
 use Rattle.scalar_typing.specs.Typings.{refused}
 use Rattle.scalar_typing.proofs.SoundLemmas.{then-sound, any-given}
@@ -33,6 +33,7 @@ use Rattle.type_check.proofs.ExtensionLemmas.{order-heading}
 use Rattle.declaration_typing.proofs.PositionLemmas.{held}
 use Rattle.meaning_core.proofs.MadeLemmas.{own_name as own, same_name as name-is}
 use Rattle.since_during.proofs.PlaceLemmas.{each-from}
+use Rattle.node_typing.proofs.ListLemmas.{length-names_from}
 
 -- ---- new names are written ones
 
@@ -179,19 +180,7 @@ names-differ list pairs n (a ∷ rest) w up once = (
   names-differ list pairs (n + 1) rest w up.1 (λ name g. let tail = times-tail name (name_behind pairs n a.0) (names_from pairs (n + 1) rest) in omega (arith, once name g, tail)),
 )
 
-length-names_from : (pairs : NewNames) (n : ℕ) (h : Heading) → length (names_from pairs n h) ≡ length h
-length-names_from pairs n [] = refl
-length-names_from pairs n (a ∷ rest) = ap suc (length-names_from pairs (n + 1) rest)
-
 -- ---- attributes of different names
-
-renamed-named : (names : List Name) (h : Heading) (b : Name × Kind) → In b (renamed names h) → In b.0 names
-renamed-named [] h b i = absurd i
-renamed-named (n ∷ names) [] b i = absurd i
-renamed-named (n ∷ names) (a ∷ rest) b i = elim i [
-  | inl e ↦ inl (ap (λ (z : Name × Kind). z.0) e)
-  | inr j ↦ inr (renamed-named names rest b j)
-]
 
 each-by : {X : Type 0} (P : X → Type 0) (xs : List X) (x : X) → AllByRecursion P xs → In x xs → P x
 each-by P [] x h i = absurd i
@@ -202,7 +191,7 @@ unfolding IsDistinct
 renamed-apart [] h different = tt
 renamed-apart (n ∷ names) [] different = tt
 renamed-apart (n ∷ names) (a ∷ rest) different = (
-  λ b i t. true≢false (sym (same_name (n, a.1) b t) ∙ each-by (λ (y : Name). bytes_eq n y ≡ false) names b.0 different.0 (renamed-named names rest b i)),
+  λ b i t. true≢false (sym (same_name (n, a.1) b t) ∙ each-by (λ (y : Name). bytes_eq n y ≡ false) names b.0 different.0 (name_in names rest b i)),
   renamed-apart names rest different.1,
 )
 

@@ -39,12 +39,13 @@ use Rattle.node_typing.specs.Positions.{check}
 use Rattle.node_typing.specs.Rows.{item_list}
 use Rattle.item_typing.specs.Sets.{set_typed, sets_typed, sets_made}
 use Rattle.type_check.proofs.PutLemmas.{insert-permutes}
-use Rattle.type_check.proofs.ItemLemmas.{new-is_new, IsMade, made-none, made-more}
+use Rattle.type_check.proofs.ItemLemmas.{IsMade, made-none, made-more}
 use Rattle.type_check.proofs.ExtensionLemmas.{order-permutes, beside-apart, extension-of}
 use Rattle.type_check.proofs.KeptLemmas.{Assigns, AreAssigned, new-word}
 use Rattle.declaration_typing.proofs.FitLemmas.{both-hold}
 use Rattle.type_check.proofs.PositionLemmas.{named-in}
 use Rattle.declaration_typing.proofs.PositionLemmas.{held}
+use Rattle.declaration_typing.proofs.HistoryLaws.{new-attribute}
 use Rattle.type_check.proofs.ScalarLemmas.{typed-is_scalar}
 
 -- what follows from what is given is given
@@ -155,7 +156,7 @@ module _ (types : List OrdinalNames) (ordinals : All IsOrdinalType types) (headi
   set-sound list before w s here h =
       then-sound (λ (found : ℕ × Kind). In (w.bytes, found.1) heading) (AreSet (sizes_of types) heading list) (value_or w.place _ (attribute_of heading w.bytes)) _ (found-attribute heading w) (λ found there.
       then-sound (λ (name : Name). (name ≡ w.bytes) × (has_name before.1 name ≡ false)) (AreSet (sizes_of types) heading list) (new_name before.1 w) _
-      (both-hold (λ (name : Name). name ≡ w.bytes) (λ (name : Name). has_name before.1 name ≡ false) (new_name before.1 w) (new-word before.1 w) (new-is_new before.1 w)) (λ name new.
+      (both-hold (λ (name : Name). name ≡ w.bytes) (λ (name : Name). has_name before.1 name ≡ false) (new_name before.1 w) (new-word before.1 w) (new-attribute before.1 w)) (λ name new.
       then-sound (λ (e : Expr × Kind). IsScalar (sizes_of types) heading e.0 e.1) (AreSet (sizes_of types) heading list) (typed_scalar types heading s) _
       (typed-is_scalar types ordinals heading s) (λ e is.
       then-sound (λ _. IsTrue (same_kind e.1 found.1)) (AreSet (sizes_of types) heading list) (check w.place _ (same_kind e.1 found.1)) _ (held w.place _ (same_kind e.1 found.1)) (λ _ same.

@@ -1,6 +1,5 @@
 -- Typed expressions and tests are typed for evaluation.
-use Rattle.std.specs.Prelude.{◌≡◌, Bool, true, false, [], ◌∷◌, Option, Some, None, option_map, Ok, IfOk, IsTrue, refl, if◌then◌else◌}
-use Rattle.std.specs.Str.{bytes_eq}
+use Rattle.std.specs.Prelude.{◌≡◌, Option, Some, None, option_map, Ok, IfOk, IsTrue}
 use Rattle.point_core.specs.declared.fault.Place.{Place}
 use Rattle.point_core.specs.declared.fault.Code.TheVariants.{E10}
 use Rattle.point_core.specs.Faults.{OrFault}
@@ -11,12 +10,13 @@ use Rattle.relation_core.proofs.HeadingLemmas.{heading_ascends}
 use Rattle.relation_typing.specs.Attributes.{name_typed}
 use Rattle.scalar_typing.specs.Typings.{◌>>=◌, value_or}
 use Rattle.scalar_typing.proofs.SoundLemmas.{then-sound, any-given}
-use Rattle.tree_core.specs.Relvars.{PlainRelvar, Entries, State, relvar_named, relvar_heading}
+use Rattle.tree_core.specs.Relvars.{PlainRelvar, State, relvar_named, relvar_heading}
 use Rattle.tree_core.specs.Trees.{Tree, named, heading_of}
 use Rattle.tree_core.specs.declared.tree.InfixWord.{InfixWord}
 use Rattle.tree_core.specs.declared.tree.InfixWord.TheVariants.{NotMatching}
 use Rattle.meaning_core.specs.Typing.{heading_named}
 use Rattle.meaning_core.specs.WellMade.{sizes_of, headings_of, IsWellMade, IsTypedFor, IsTypedTestFor}
+use Rattle.meaning_core.proofs.RelvarLemmas.{heading_of_named}
 use Rattle.node_typing.specs.Infixes.{infix_named}
 use Rattle.node_typing.specs.Nodes.{infix_rule, relation_named}
 use Rattle.node_typing.specs.Usings.{using_infix_rule}
@@ -30,16 +30,6 @@ use Rattle.type_check.proofs.LiteralLemmas.{literal-sound}
 use Rattle.type_check.proofs.RenamingLemmas.{renaming-sound}
 use Rattle.type_check.proofs.UsingLemmas.{using-infix-sound, using-projection-sound, using-restriction-sound, using-extension-sound, using-summary-sound}
 
--- the heading of a name is that of its relvar or view
-pub named-heading : (entries : Entries) (name : Name) → heading_named (headings_of entries) name ≡ option_map relvar_heading (relvar_named entries name)
-named-heading [] name = refl
-named-heading (r ∷ rest) name = by-test (bytes_eq r.0 name) (named-heading rest name)
-  where
-    by-test : (b : Bool) → heading_named (headings_of rest) name ≡ option_map relvar_heading (relvar_named rest name)
-        → (if b then Some (relvar_heading r.1) else heading_named (headings_of rest) name) ≡ option_map relvar_heading (if b then Some r.1 else relvar_named rest name)
-    by-test true more = refl
-    by-test false more = more
-
 module _ (state : State) (made : IsWellMade state) where
   headed : (t : Tree) → IsTypedFor state t → IsTrue (is_heading (heading_of t))
   headed t typed = declared-heading (sizes_of state.ordinals) (heading_of t) (typed-declared state t made typed)
@@ -48,7 +38,7 @@ module _ (state : State) (made : IsWellMade state) where
 
   relvar-sound : (w : Word) → IfOk (relvar_typed state w) (IsTypedFor state)
   relvar-sound w =
-      then-sound (λ _. Unit {0}) (IsTypedFor state) (name_typed w) _ (any-given (name_typed w)) (λ name _. by-name name (relvar_named state.relvars name) (named-heading state.relvars name))
+      then-sound (λ _. Unit {0}) (IsTypedFor state) (name_typed w) _ (any-given (name_typed w)) (λ name _. by-name name (relvar_named state.relvars name) (heading_of_named state.relvars name))
     where
       by-name : (name : Name) (o : Option PlainRelvar) → heading_named (headings_of state.relvars) name ≡ option_map relvar_heading o
           → IfOk (value_or w.place E10 o >>= (λ found. Ok (named w.place (relvar_heading found) name))) (IsTypedFor state)

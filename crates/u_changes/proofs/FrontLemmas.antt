@@ -10,6 +10,7 @@ use Rattle.std.specs.Ordering.{is_eq, eq_by_cmp, ordering_then}
 use Rattle.std.proofs.lemmas.Bool.{eqb-true}
 use Rattle.base_core.proofs.SetLemmas.{In}
 use Rattle.base_core.proofs.MemberLemmas.{In-filter, list_all-In, eq_by_cmp-≡}
+use Rattle.base_core.proofs.ListLemmas.{All-In}
 use Rattle.point_core.specs.declared.fault.Place.{Place}
 use Rattle.value_core.specs.declared.kind.Kind.{Kind}
 use Rattle.value_core.specs.declared.kind.Kind.TheVariants.{Truth}
@@ -24,7 +25,6 @@ use Rattle.scalar_core.specs.Kinds.{IsTyped}
 use Rattle.scalar_core.specs.ScalarValues.{value}
 use Rattle.meaning_core.specs.Meanings.{condition}
 use Rattle.meaning_core.specs.Scalars.{IsConditionOver}
-use Rattle.u_row.proofs.BeneathLemmas.{all_in}
 use Rattle.u_constraints.specs.Fronts.{begins_with}
 use Rattle.u_changes.specs.Fronts.{front_of_constant, front_of_equal, if_equal, front_of_and, front_of_or, front}
 use Rattle.u_changes.specs.Guards.{is_safe, stays}
@@ -190,7 +190,7 @@ module _ (r : Relation) (is : IsRelation r) (g : Expr) (typed : IsTyped r.headin
 
   pub found_over : (given found : List Row) → given ≡ r.rows → found ≡ filter (begins_with values) given → All (λ (row : Row). IsConditionOver row g) found
   found_over given found same these =
-      subst (All (λ (row : Row). IsConditionOver row g)) (sym (these ∙ ap (filter (begins_with values)) same)) (all_in (λ (row : Row). IsConditionOver row g) (filter (begins_with values) r.rows) (λ x i.
+      subst (All (λ (row : Row). IsConditionOver row g)) (sym (these ∙ ap (filter (begins_with values)) same)) (All-In (λ (row : Row). IsConditionOver row g) (filter (begins_with values) r.rows) (λ x i.
       record {
         heading = r.heading;
         fits = (list_all-In (fits_heading r.heading) r.rows).0 is.fitting x ((In-filter (begins_with values) x r.rows).0 i).0;

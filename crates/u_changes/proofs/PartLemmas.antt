@@ -1,9 +1,8 @@
 -- The rows with the labels of some rows, and what a guard tells of the others.
---     outside_within      the positions of a label are some of the heading
 --     touched_closed      the rows with the labels of some rows have all rows with their labels
 --     others_told      of the others the guard is FALSE
 --     told_false, told_both      then the condition is FALSE at all of their points
-use Rattle.std.proofs.Common.{◌≡◌, ◌↔◌, inl, inr, ℕ, suc, ◌+◌, ◌<◌, Bool, true, false, List, [], ◌∷◌, ◌++◌, Ok, Err, Option, Some, None, map, length, get_or, take, option_map, refl, sym, ap, ◌∙◌, subst, arith, if◌then◌else◌}
+use Rattle.std.proofs.Common.{◌≡◌, ◌↔◌, ℕ, ◌+◌, ◌<◌, Bool, true, false, List, [], ◌∷◌, ◌++◌, Ok, Err, Option, Some, None, map, length, get_or, take, option_map, refl, sym, ap, ◌∙◌, subst, if◌then◌else◌}
 use Rattle.std.specs.Prelude.{IfSome}
 use Rattle.std.specs.Bool.{IsTrue}
 use Rattle.std.specs.List.{All, filter}
@@ -13,7 +12,8 @@ use Rattle.base_core.specs.Outcomes.{then_give}
 use Rattle.base_core.specs.Sets.{has}
 use Rattle.base_core.proofs.SetLemmas.{In, Ascends, In-in_order, same_by_members, Contains-from_In}
 use Rattle.base_core.proofs.MemberLemmas.{In-map, In-filter, has-In, list_all-In}
-use Rattle.base_core.proofs.SetOperatorLemmas.{In-difference_of, Ascends-filter}
+use Rattle.base_core.proofs.SetOperatorLemmas.{Ascends-filter}
+use Rattle.base_core.proofs.ListLemmas.{All-In}
 use Rattle.point_core.specs.Faults.{OrFault}
 use Rattle.point_core.specs.declared.fault.Place.{Place}
 use Rattle.value_core.specs.declared.kind.Kind.TheVariants.{Truth}
@@ -35,29 +35,14 @@ use Rattle.relation_core.specs.Parts.{projected}
 use Rattle.relation_core.proofs.FilterLemmas.{rows_ascend}
 use Rattle.meaning_core.specs.Meanings.{condition}
 use Rattle.meaning_core.specs.Scalars.{IsConditionOver}
-use Rattle.u_set.specs.Apart.{outside_from, outside}
-use Rattle.u_set.specs.Boxes.{unless}
-use Rattle.u_row.proofs.BeneathLemmas.{all_in}
+use Rattle.u_set.specs.Apart.{outside}
+use Rattle.u_constraints.proofs.GrowthLemmas.{In-subtracted}
 use Rattle.u_changes.specs.Concerned.{AreFalse, IsClosedPart}
 use Rattle.u_changes.specs.Guards.{stays, AreTold, guard, guard_of_both}
 use Rattle.u_changes.proofs.GuardLemmas.{AllGuard, AllGuardBoth, guard_is, guard_of_both_is}
 use Rattle.u_changes.proofs.PlaceLemmas.{opened_from}
 
 -- ---- the positions of a label
-
-in_outside : (n : ℕ) (acl : List ℕ) (heading : Heading) (i : ℕ) → In i (outside_from n acl heading) → i < n + length heading
-in_outside n acl [] i m = absurd m
-in_outside n acl (a ∷ heading) i m =
-    let rest : List ℕ = outside_from (suc n) acl heading in
-    let more : In i rest → i < n + suc (length heading) = λ j. let l = in_outside (suc n) acl heading i j in omega (arith, l) in
-    elim (among acl n) as (λ b. In i (unless b n rest) → i < n + suc (length heading)) [
-      | true ↦ more
-      | false ↦ λ j. elim j [ inl e ↦ omega (arith, e) | inr k ↦ more k ]
-    ] m
-
-pub outside_within : (acl : List ℕ) (heading : Heading) (positions : List ℕ) → positions ≡ outside acl heading → All (λ (i : ℕ). i < length heading) positions
-outside_within acl heading positions same =
-    subst (All (λ (i : ℕ). i < length heading)) (sym same) (all_in (λ (i : ℕ). i < length heading) (outside acl heading) (λ i m. let l = in_outside 0 acl heading i m in omega (arith, l)))
 
 -- ---- rows with the labels of some rows
 
@@ -101,9 +86,6 @@ part_closed acl value part label few is at heading rows =
 
 -- ---- what is told of the others
 
-In-subtracted : (a b : List Row) (x : Row) → In x (subtracted a b) ↔ (In x a × (In x b → ⊥))
-In-subtracted a b x = In-difference_of row_cmp row_total row_separates x a b
-
 not_staying : (r : OrFault Bool) → stays r ≡ false → r ≡ Ok false
 not_staying (Ok b) h = ap (λ (t : Bool). Ok t) h
 not_staying (Err e) h = absurd (true≢false h)
@@ -111,7 +93,7 @@ not_staying (Err e) h = absurd (true≢false h)
 -- a row that is not in the part is not in the few, so that the guard does not stay
 pub others_told : (g : Expr) (label : List ℕ) (value few part : List Row) → few ≡ filter (λ row. stays (condition g row)) value → part ≡ touched label few value → All (λ (row : Row). condition g row ≡ Ok false) (subtracted value part)
 others_told g label rows few part chosen is =
-    all_in (λ (row : Row). condition g row ≡ Ok false) (subtracted rows part) (λ x i.
+    All-In (λ (row : Row). condition g row ≡ Ok false) (subtracted rows part) (λ x i.
     let w = (In-subtracted rows part x).0 i in
     elim (stays (condition g x)) as (λ b. stays (condition g x) ≡ b → condition g x ≡ Ok false) [
       | true ↦ λ e.
@@ -132,13 +114,13 @@ in_all P rows h x i = let c = Contains-from_In rows x i in subst P c.2 (h c.0 x 
 -- what the guard tells of a row holds at all of its points
 guarded : (acl : List ℕ) (c g : Expr) (rows : List Row) → names_any acl g ≡ false → ((x : Row) → condition g x ≡ Ok false → condition c x ≡ Ok false) → All (λ (row : Row). condition g row ≡ Ok false) rows → AreFalse acl c rows
 guarded acl c g rows none tells told =
-    all_in (λ (y : Row). condition c y ≡ Ok false) (unpacked acl rows) (λ x i.
+    All-In (λ (y : Row). condition c y ≡ Ok false) (unpacked acl rows) (λ x i.
     let w = opened_from acl rows x i in
     let same : value g x ≡ value g w.0 = unnamed acl w.0 x g w.2 none in
     tells x (ap (λ r. then_give r (λ v. Ok (is_true v))) same ∙ in_all (λ (row : Row). condition g row ≡ Ok false) rows told w.0 w.1))
 
 none_false : (acl : List ℕ) (c : Expr) (rows : List Row) → rows ≡ [] → AreFalse acl c rows
-none_false acl c rows none = all_in (λ (y : Row). condition c y ≡ Ok false) (unpacked acl rows) (λ x i. absurd (opened_none acl rows none x i))
+none_false acl c rows none = All-In (λ (y : Row). condition c y ≡ Ok false) (unpacked acl rows) (λ x i. absurd (opened_none acl rows none x i))
 
 told_by : (acl : List ℕ) (c : Expr) (o : Option Expr) (rows : List Row) → AllGuard acl c o → AreTold o rows → AreFalse acl c rows
 told_by acl c None rows is told = none_false acl c rows told
@@ -158,7 +140,7 @@ told_both acl place c d o rows same told = told_by_both acl c d o rows (subst (A
 
 pub all_over : (r : Relation) (rows : List Row) (g : Expr) → IsRelation r → rows ≡ r.rows → IsTyped r.heading g Truth → All (λ (row : Row). IsConditionOver row g) rows
 all_over r rows g is same typed =
-    subst (All (λ (row : Row). IsConditionOver row g)) (sym same) (all_in (λ (row : Row). IsConditionOver row g) r.rows (λ x i.
+    subst (All (λ (row : Row). IsConditionOver row g)) (sym same) (All-In (λ (row : Row). IsConditionOver row g) r.rows (λ x i.
     record {
       heading = r.heading;
       fits = (list_all-In (fits_heading r.heading) r.rows).0 is.fitting x i;

@@ -3,6 +3,7 @@ use Rattle.std.proofs.Common.{◌≡◌, inl, inr, ℕ, pos, Bool, true, false, 
 use Rattle.std.specs.Bool.{IsTrue}
 use Rattle.std.specs.List.{IsDistinct}
 use Rattle.base_core.proofs.SetLemmas.{In}
+use Rattle.base_core.proofs.ListLemmas.{map-In}
 use Rattle.point_core.specs.Points.{line_of}
 use Rattle.value_core.specs.Attributes.{value_at, span_of, among}
 use Rattle.value_core.specs.Values.{Value, Row, Heading, truth, interval}
@@ -13,7 +14,7 @@ use Rattle.u_set.specs.Boxes.{IsShaped, type_of, others, spans_at}
 use Rattle.u_set.proofs.BoxLemmas.{value_at-get}
 use Rattle.u_row.specs.Kept.{unlisted, inner}
 use Rattle.u_row.proofs.BeneathLemmas.{among_in}
-use Rattle.u_row.proofs.LabelLemmas.{map_in, map_twice, inner_values}
+use Rattle.u_row.proofs.LabelLemmas.{map_twice, inner_values}
 use Rattle.u_constraints.specs.Constraints.{counterpart}
 use Rattle.u_constraints.proofs.CounterpartLemmas.{Beside, beside_more, beside_both, beside_kinds, at_counterpart, in_key, IsPair, all_pairs, are_listed}
 
@@ -97,7 +98,7 @@ module _ (h g : Heading) (here there acl : List ℕ) (alike : AreAlike h here g 
     pub sides_agree : part_of here x ≡ part_of there y → spans_at acl x ≡ spans_at acl' y
     sides_agree e =
         let each = same_beside x y here there long e in
-        map_in (λ i. span_of (value_at x i)) (λ i. span_of (value_at y (counterpart here there i))) acl (λ i m.
+        map-In (λ i. span_of (value_at x i)) (λ i. span_of (value_at y (counterpart here there i))) acl (λ i m.
         let v : at x i ≡ at y (counterpart here there i) = at_counterpart (λ i t. at x i ≡ at y t) here there each i (in_key here acl lies i m) in
         ap span_of (value_at-get x i ∙ v ∙ sym (value_at-get y (counterpart here there i))))
         ∙ sym (map_twice (λ i. span_of (value_at y i)) (counterpart here there) acl)

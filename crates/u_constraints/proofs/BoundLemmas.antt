@@ -1,13 +1,9 @@
 -- More rows may take more steps.
-use Rattle.std.proofs.Common.{◌≡◌, ℕ, zero, suc, ◌+◌, ◌*◌, ◌^◌, ◌<◌, ◌≤◌, arith, subst, sym}
+use Rattle.std.proofs.Common.{◌≡◌, ℕ, zero, suc, ◌+◌, ◌*◌, ◌^◌, ◌≤◌, arith, subst, sym}
 use Rattle.std.proofs.Math.Nat.{mul-le-mul_left, mul-le-mul_right, pow-succ', pow-zero}
-use Rattle.std.proofs.lemmas.Bool.Decides.{nat_tests}
 use Rattle.point_core.specs.Digits.{binary_digits}
 use Rattle.cell_core.specs.Costs.{bound}
-use Rattle.cell_core.proofs.StepLemmas.{digits_mono}
-
-bound_of : (n k : ℕ) → 0 < n → bound n k ≡ 2 * k * n * (binary_digits (2 * n) + 3) + (2 * n) ^ k
-bound_of n k h = grind (arith, nat_tests)
+use Rattle.cell_core.proofs.StepLemmas.{digits_mono, bound_of}
 
 power_grows : (a b k : ℕ) → a ≤ b → a ^ k ≤ b ^ k
 power_grows a b zero h =

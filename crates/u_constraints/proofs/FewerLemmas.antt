@@ -1,17 +1,19 @@
 -- Some of the boxes of a packed form are packed.
 --     Covered, ArePackedAlone      sets of boxes, each a packed one of the places that they have
 --     fewer_packed      of one label, in lists of labelled boxes
-use Rattle.std.proofs.Common.{◌≡◌, ◌↔◌, ℕ, zero, suc, ◌+◌, ◌<◌, ◌≤◌, ℤ, ◌≤ℤ◌, List, [], ◌∷◌, length, get_or, drop, refl, sym, ap, ◌∙◌, subst, arith, Ordering}
+use Rattle.std.proofs.Common.{◌≡◌, ◌↔◌, ℕ, zero, suc, ◌+◌, ◌<◌, ◌≤◌, ℤ, ◌≤ℤ◌, List, [], ◌∷◌, length, get_or, drop, refl, sym, ◌∙◌, subst, arith, Ordering}
 use Rattle.std.specs.Cmp.{IsTotalOrder}
 use Rattle.std.proofs.lemmas.Int.{ints}
+use Rattle.std.proofs.Math.Seq.{drop-length}
 use Rattle.base_core.proofs.SetLemmas.{Separates}
 use Rattle.interval_core.specs.Members.{Span}
 use Rattle.packing_core.specs.Boxed.{Boxed, boxed_cmp, packed_boxes, InBoxes}
 use Rattle.packing_core.specs.Covering.{Among}
 use Rattle.packing_core.specs.Packed.{IsPacked, Has, nowhere, onto, packs, points_of, sides_back}
-use Rattle.packing_core.proofs.Commute.{packs_is}
+use Rattle.packing_core.proofs.Commute.{packs_is, drop_at}
 use Rattle.packing_core.proofs.PackedBoxes.{in_packed_form}
 use Rattle.packing_core.proofs.Runs.{IsPacked-iff, IsPacked-one}
+use Rattle.packing_core.proofs.Whole.{length_sides_back}
 use Rattle.cell_core.proofs.OrderLemmas.{boxed_total, boxed_separates}
 use Rattle.cell_core.proofs.PackedPlaces.{AllHave, has_length, one_box}
 use Rattle.cell_core.proofs.Theorem.{length_onto}
@@ -69,19 +71,6 @@ fewer_alone (suc n) B C h within (i ∷ is) e c =
 
 -- ---- boxes from the first side to the last
 
-drop_at : (y : List Span) (j : ℕ) → j < length y → drop j y ≡ get_or y j nowhere ∷ drop (suc j) y
-drop_at [] j h = absurd (omega (arith, h))
-drop_at (x ∷ xs) zero h = refl
-drop_at (x ∷ xs) (suc j) h = drop_at xs j (omega (arith, h))
-
-drop_all : (y : List Span) → drop (length y) y ≡ []
-drop_all [] = refl
-drop_all (x ∷ xs) = drop_all xs
-
-pub length_back : (j : ℕ) (y : List Span) → length (sides_back j y) ≡ j
-length_back zero y = refl
-length_back (suc j) y = ap suc (length_back j y)
-
 -- the first j sides have the one place and the others the rest
 has_back : (j : ℕ) (y : List Span) (ps rest : List ℤ) → j ≤ length y → length ps ≡ j → (Has (sides_back j y) ps × Has (drop j y) rest) ↔ Has y (onto ps rest)
 has_back zero y [] rest h e = (λ w. w.1, λ w. (tt, w))
@@ -101,7 +90,7 @@ has_back (suc j) y (p ∷ ps) rest h e =
 has_all : (y : List Span) (ps : List ℤ) → length ps ≡ length y → Has (sides_back (length y) y) ps ↔ Has y (onto ps [])
 has_all y ps e =
     let w = has_back (length y) y ps [] (omega arith) e in
-    (λ h. w.0 (h, subst (λ (zs : List Span). Has zs []) (sym (drop_all y)) tt), λ h. (w.1 h).0)
+    (λ h. w.0 (h, subst (λ (zs : List Span). Has zs []) (sym (drop-length y)) tt), λ h. (w.1 h).0)
 
 module _ {P : Type 0} (order : P → P → Ordering) (o : IsTotalOrder order) (same : Separates order) (k : ℕ) (l : P) where
   abbrev form : List (Boxed P) → List (Boxed P)
@@ -120,7 +109,7 @@ module _ {P : Type 0} (order : P → P → Ordering) (o : IsTotalOrder order) (s
         (sides_back (length w.0) w.0, (w.0, w.1, refl), (has_all w.0 ps long).1 w.2),
     λ w.
         let back : Has (sides_back (length w.1.0) w.1.0) ps = subst (λ (zs : List Span). Has zs ps) (sym w.1.2) w.2 in
-        let long : length ps ≡ length w.1.0 = has_length (sides_back (length w.1.0) w.1.0) ps back ∙ length_back (length w.1.0) w.1.0 in
+        let long : length ps ≡ length w.1.0 = has_length (sides_back (length w.1.0) w.1.0) ps back ∙ length_sides_back (length w.1.0) w.1.0 in
         (w.1.0, w.1.1, (has_all w.1.0 ps long).0 back),
   )
 
@@ -146,12 +135,12 @@ module _ {P : Type 0} (order : P → P → Ordering) (o : IsTotalOrder order) (s
       let alone : ArePackedAlone (Back r) = λ is w. subst (λ (js : List Span). IsPacked (Covered (Back r)) js) w.2 (to_back r hr w.0 (packed w.0 w.1)) in
       let into : (z : List Span) → Among (l, z) s → Among (l, z) (form s) = λ z i.
       from_back s hs z (hs (l, z) i)
-      (fewer_alone (length z) (Back r) (Back s) alone (λ is w. (w.0, within w.0 w.1, w.2)) (sides_back (length z) z) (length_back (length z) z) (z, i, refl)) in (
+      (fewer_alone (length z) (Back r) (Back s) alone (λ is w. (w.0, within w.0 w.1, w.2)) (sides_back (length z) z) (length_sides_back (length z) z) (z, i, refl)) in (
         into y,
         λ i.
             let p = some_place (Covered (Back s)) (sides_back (length y) y) (to_back s hs y i) in
             let w = (places_back s p.0).1 p.1 in
-            let long : length p.0 ≡ length y = has_length (sides_back (length y) y) p.0 p.2 ∙ length_back (length y) y in
+            let long : length p.0 ≡ length y = has_length (sides_back (length y) y) p.0 p.2 ∙ length_sides_back (length y) y in
             let one : w.0 ≡ y = one_box order o same k s hs l (onto p.0 []) w.0 y (into w.0 w.1) i w.2 ((has_all y p.0 long).0 p.2) in
             subst (λ (z : List Span). Among (l, z) s) one w.1,
       )

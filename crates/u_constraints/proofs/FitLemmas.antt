@@ -1,19 +1,20 @@
 -- The values of a relation's rows fit the kinds of its attributes.
-use Rattle.std.proofs.Common.{◌≡◌, ℕ, zero, suc, ◌<◌, ◌≤ℤ◌, ℤ, List, [], ◌∷◌, length, get_or, sym, ◌∙◌, subst, arith, true, false, ◌&&◌}
+use Rattle.std.proofs.Common.{◌≡◌, ℕ, ◌<◌, ◌≤ℤ◌, List, length, get_or, sym, ◌∙◌, subst, arith, false, ◌&&◌}
 use Rattle.std.specs.Prelude.{int_le}
 use Rattle.std.specs.Bool.{IsTrue}
 use Rattle.std.specs.List.{list_all}
 use Rattle.std.proofs.lemmas.Bool.{true≢false, and_parts}
-use Rattle.std.proofs.lemmas.Float.{T_from_true}
 use Rattle.std.proofs.lemmas.Int.{ints}
+use Rattle.base_core.proofs.IntLemmas.{int_le-le}
 use Rattle.point_core.specs.Points.{first_of, last_of, line_of, is_number}
 use Rattle.point_core.specs.Whole.{least_whole}
 use Rattle.point_core.specs.declared.any_type.AnyType.{AnyType}
 use Rattle.point_core.specs.declared.any_type.AnyType.TheVariants.{Integer, Date, Ordinal}
 use Rattle.value_core.specs.Attributes.{value_at, span_of}
-use Rattle.value_core.specs.Values.{Name, Value, truth, text, point, interval, Row, Heading, Relation, IsRelation, fits, fits_heading, same_line, is_interval}
+use Rattle.value_core.specs.Values.{Value, truth, text, point, interval, Row, Heading, Relation, IsRelation, fits, fits_heading, same_line, is_interval}
 use Rattle.value_core.specs.declared.kind.Kind.{Kind}
 use Rattle.value_core.specs.declared.kind.Kind.TheVariants.{Span as SpanOf}
+use Rattle.value_core.proofs.FitLemmas.{fits_at}
 use Rattle.relation_core.specs.Parts.{kind_at, no_attribute}
 use Rattle.relation_core.proofs.FilterLemmas.{passes_at}
 use Rattle.u_set.proofs.BoxLemmas.{value_at-get}
@@ -22,12 +23,6 @@ pub row_fits : (r : Relation) (rows : List Row) (i : ℕ) (x : Row) → IsRelati
 row_fits r rows i x is same l at =
     let all : IsTrue (list_all (fits_heading r.heading) rows) = subst (λ (zs : List Row). IsTrue (list_all (fits_heading r.heading) zs)) (sym same) is.fitting in
     subst (λ (z : Row). IsTrue (fits_heading r.heading z)) (sym at) (passes_at (fits_heading r.heading) rows i x all l)
-
-fits_at : (h : Heading) (row : Row) (i : ℕ) (e : Name × Kind) (d : Value) → IsTrue (fits_heading h row) → i < length h → IsTrue (fits (get_or h i e).1 (get_or row i d))
-fits_at [] row i e d f l = absurd (omega arith)
-fits_at (a ∷ h) [] i e d f l = absurd (true≢false (sym f))
-fits_at (a ∷ h) (v ∷ row) zero e d f l = (and_parts (fits a.1 v) (fits_heading h row) f).0
-fits_at (a ∷ h) (v ∷ row) (suc i) e d f l = fits_at h row i e d (and_parts (fits a.1 v) (fits_heading h row) f).1 (omega arith)
 
 -- the value at a position is of the kind of the attribute there
 pub value_fits : (h : Heading) (row : Row) (i : ℕ) (kind : Kind) → IsTrue (fits_heading h row) → i < length h → kind_at h i ≡ kind → IsTrue (fits kind (value_at row i))
@@ -41,9 +36,6 @@ first_is_whole : (t : AnyType) → least_whole ≤ℤ first_of t
 first_is_whole Integer = omega (arith, ints)
 first_is_whole Date = omega (arith, ints)
 first_is_whole (Ordinal of last) = omega (arith, ints)
-
-int_le-le : (a b : ℤ) → int_le a b ≡ true → a ≤ℤ b
-int_le-le a b e = record { le = T_from_true (int_le a b) e }
 
 -- an interval ends no earlier than it begins, at a whole number
 pub span_that_fits : (t : AnyType) (v : Value) → IsTrue (fits (SpanOf t) v) → ((span_of v).0 ≤ℤ (span_of v).1) × (least_whole ≤ℤ (span_of v).1)

@@ -11,6 +11,7 @@ use Rattle.base_core.specs.Sets.{has}
 use Rattle.base_core.proofs.SetLemmas.{In, In-in_order}
 use Rattle.base_core.proofs.MemberLemmas.{In-map, In-filter, has-In}
 use Rattle.base_core.proofs.SetOperatorLemmas.{same_tests, In-union_of, In-difference_of}
+use Rattle.base_core.proofs.ListLemmas.{map-In}
 use Rattle.value_core.specs.Attributes.{value_at, with_span, put_span}
 use Rattle.value_core.specs.Order.{row_total, row_separates}
 use Rattle.value_core.specs.RowPacking.{attribute, unpacked}
@@ -19,7 +20,6 @@ use Rattle.relation_core.specs.Agreement.{part_of}
 use Rattle.relation_core.specs.Growth.{touched}
 use Rattle.relation_core.specs.Operators.{united}
 use Rattle.relation_core.specs.Parts.{projected}
-use Rattle.u_row.proofs.LabelLemmas.{map_in}
 use Rattle.u_constraints.specs.Constraints.{is_key}
 use Rattle.u_constraints.specs.Growth.{exchanged}
 use Rattle.u_constraints.proofs.AgreementLemmas.{at, no_value, same_of}
@@ -71,7 +71,7 @@ module _ (positions : List ℕ) (come of gone : List Row) where
 pub rows_keep : (acl positions : List ℕ) → ((i : ℕ) → In i positions → In i acl → ⊥) → AllKeep (part_of positions) (map attribute acl)
 rows_keep [] positions apart = tt
 rows_keep (a ∷ acl) positions apart = (
-  λ x s. map_in (at (put_span x a s)) (at x) positions (λ i m. get_or-set_other x a i (with_span (value_at x a) s) no_value (λ e. apart i m (inl e))),
+  λ x s. map-In (at (put_span x a s)) (at x) positions (λ i m. get_or-set_other x a i (with_span (value_at x a) s) no_value (λ e. apart i m (inl e))),
   rows_keep acl positions (λ i m w. apart i m (inr w)),
 )
 
@@ -82,7 +82,7 @@ module _ (positions : List ℕ) (test : Row → Bool) (old all few : List Row) (
 
   -- rows that agree on a key agree at positions of it
   parts_agree : (key : List ℕ) → ((i : ℕ) → In i positions → In i key) → (x y : Row) → part_of key x ≡ part_of key y → part_of positions x ≡ part_of positions y
-  parts_agree key within x y e = map_in (at x) (at y) positions (λ i m. same_of (at x) (at y) no_value key e i (within i m))
+  parts_agree key within x y e = map-In (at x) (at y) positions (λ i m. same_of (at x) (at y) no_value key e i (within i m))
 
   -- where the old rows have a key, all have it exactly where the touched ones have
   pub key_of_touched : (key : List ℕ) → ((i : ℕ) → In i positions → In i key) → is_key key old ≡ true → is_key key all ≡ is_key key few

@@ -4,9 +4,9 @@
 --     came_break      the rows that come, for constraints that name another relvar
 --     beside_break, beside_holds      where rows are added to the relvar that is named
 --     cost_grows      more rows cost no less
-use Rattle.std.proofs.Common.{◌≡◌, ◌↔◌, ◌⊎◌, inl, inr, ℕ, ◌+◌, ◌<◌, ◌≤◌, Bool, true, false, not, ◌||◌, List, [], ◌∷◌, ◌++◌, map, length, arith, None, refl, sym, ap, ◌∙◌, subst}
+use Rattle.std.proofs.Common.{◌≡◌, ◌↔◌, ◌⊎◌, inl, inr, ℕ, ◌+◌, ◌<◌, ◌≤◌, Bool, true, false, not, ◌||◌, List, [], ◌∷◌, ◌++◌, map, length, arith, None, refl, sym, ap, ◌∙◌, subst, suc}
 use Rattle.std.specs.Bool.{IsTrue}
-use Rattle.std.specs.List.{list_any}
+use Rattle.std.specs.List.{list_any, All}
 use Rattle.std.specs.Prelude.{Result, IfOk, ◌==◌}
 use Rattle.std.specs.Result.{result_err}
 use Rattle.std.proofs.lemmas.Bool.{true≢false, both_ways, not-true}
@@ -16,6 +16,7 @@ use Rattle.base_core.specs.Sets.{has}
 use Rattle.base_core.proofs.SetLemmas.{In, Ascends, In-in_order, Ascends-from_sorted}
 use Rattle.base_core.proofs.MemberLemmas.{In-map, In-filter, list_all-In, list_any-In}
 use Rattle.base_core.proofs.SetOperatorLemmas.{same_tests, In-union_of, In-difference_of, Ascends-union_of, Ascends-difference_of, is_within-In, list_any-in_order}
+use Rattle.base_core.proofs.ListLemmas.{All-In}
 use Rattle.point_core.specs.declared.fault.Code.{Code}
 use Rattle.point_core.specs.declared.fault.Code.TheVariants.{E40, E41, E42, E43, E44}
 use Rattle.value_core.specs.Attributes.{among}
@@ -29,9 +30,11 @@ use Rattle.relation_core.specs.Agreement.{part_of}
 use Rattle.relation_core.specs.Growth.{touched}
 use Rattle.relation_core.specs.Operators.{subtracted, united}
 use Rattle.relation_core.specs.Parts.{projected}
+use Rattle.relation_core.proofs.FilterLemmas.{length-filter_at_most}
 use Rattle.meaning_core.specs.Typing.{IsList}
 use Rattle.meaning_core.specs.WellMade.{AreAmong, FitsHeadings}
-use Rattle.u_set.specs.Boxes.{AreIntervals, IsShaped}
+use Rattle.u_set.specs.Boxes.{AreIntervals, IsShaped, unless}
+use Rattle.u_set.specs.Apart.{outside_from, outside}
 use Rattle.u_set.proofs.RelationLemmas.{relation_shaped, shaped_under}
 use Rattle.u_row.proofs.BeneathLemmas.{among_in, in_among}
 use Rattle.u_constraints.specs.Constraints.{is_key, is_packed, is_referenced, counterpart, contradict, keeps_history, first_failed, broken}
@@ -44,7 +47,7 @@ use Rattle.u_constraints.proofs.IntervalLemmas.{intervals_of_list}
 use Rattle.u_constraints.proofs.KeyLemmas.{is_key-AgreeOnce}
 use Rattle.u_constraints.proofs.OpenedLemmas.{in_unpack, unpack_within}
 use Rattle.u_constraints.proofs.TellingLemmas.{AreOutside, Relate, Names}
-use Rattle.u_constraints.proofs.TouchedLemmas.{IsTouched, fewer, within_length}
+use Rattle.u_constraints.proofs.TouchedLemmas.{IsTouched, within_length}
 
 -- ---- lines
 
@@ -61,19 +64,15 @@ one_line b code e = (lines_hold b code [] e).0
 key_positions : (key positions : List ℕ) → AreAmong key positions → (i : ℕ) → In i positions → In i key
 key_positions key positions h i m = among_in key i ((list_all-In (among key) positions).0 h i m)
 
-not_listed : (b : Bool) → IsTrue (not b) → b ≡ false
-not_listed true h = absurd (true≢false (sym h))
-not_listed false h = refl
-
 outside_false : (acl positions : List ℕ) → AreOutside acl positions → (i : ℕ) → In i positions → among acl i ≡ false
-outside_false acl positions h i m = not_listed (among acl i) ((list_all-In (λ k. not (among acl k)) positions).0 h i m)
+outside_false acl positions h i m = not-true (among acl i) ((list_all-In (λ k. not (among acl k)) positions).0 h i m)
 
 outside_apart : (acl positions : List ℕ) → AreOutside acl positions → (i : ℕ) → In i positions → In i acl → ⊥
 outside_apart acl positions h i m n = true≢false (sym (in_among acl i n) ∙ outside_false acl positions h i m)
 
 -- ---- more rows
 
-In-united : (a b : List Row) (x : Row) → In x (united a b) ↔ (In x a ⊎ In x b)
+pub In-united : (a b : List Row) (x : Row) → In x (united a b) ↔ (In x a ⊎ In x b)
 In-united a b x = In-union_of row_cmp row_total row_separates x a b
 
 In-projected : (positions : List ℕ) (rows : List Row) (z : Row) → In z (projected positions rows) ↔ ((x : Row) × In x rows × (z ≡ part_of positions x))
@@ -348,7 +347,7 @@ cost_beside (Foreign acl here name there) rows others more is = absurd (true≢f
 cost_beside (History rule) rows others more is = omega arith
 
 pub fewer_left : (most : ℕ) (rows gone : List Row) → length rows ≤ most → most < length (subtracted rows gone) → ⊥
-fewer_left most rows gone few many = let less = fewer (λ x. not (has row_cmp gone x)) rows in omega (arith, few, many, less)
+fewer_left most rows gone few many = let less = length-filter_at_most (λ x. not (has row_cmp gone x)) rows in omega (arith, few, many, less)
 
 -- ---- what a call answers
 
@@ -390,7 +389,7 @@ none_broken c of gone come others rows g b is fits same empty found held =
     sym (fewer_hold of is (exchanged of.rows gone come) (exchanged_ascends of.rows gone come) less c g others fits held)
 
 -- where none goes, all are left
-all_left : (rows : List Row) → rows ≡ subtracted rows []
+pub all_left : (rows : List Row) → rows ≡ subtracted rows []
 all_left [] = refl
 all_left (x ∷ rows) = ap (λ (rs : List Row). x ∷ rs) (all_left rows)
 
@@ -411,3 +410,20 @@ module _ (c : Constraint) (of gone come others left : List Row) (same : left ≡
 
   pub came_cost : Ascends row_cmp come → (old new : ℕ) → new ≤ old + constraint_cost c left others → new ≤ old + constraint_cost c (exchanged of gone come) others
   came_cost up old new h = moved_cost c left (subtracted come gone) (exchanged of gone come) others same old new (came_rows of gone come up) h
+
+pub in_outside : (n : ℕ) (acl : List ℕ) (heading : Heading) (i : ℕ) → In i (outside_from n acl heading) → i < n + length heading
+in_outside n acl [] i m = absurd m
+in_outside n acl (a ∷ heading) i m =
+    let rest : List ℕ = outside_from (suc n) acl heading in
+    let more : In i rest → i < n + suc (length heading) = λ j. let l = in_outside (suc n) acl heading i j in omega (arith, l) in
+    elim (among acl n) as (λ b. In i (unless b n rest) → i < n + suc (length heading)) [
+      | true ↦ more
+      | false ↦ λ j. elim j [ inl e ↦ omega (arith, e) | inr k ↦ more k ]
+    ] m
+
+pub outside_within : (acl : List ℕ) (heading : Heading) (positions : List ℕ) → positions ≡ outside acl heading → All (λ (i : ℕ). i < length heading) positions
+outside_within acl heading positions same =
+    subst (All (λ (i : ℕ). i < length heading)) (sym same) (All-In (λ (i : ℕ). i < length heading) (outside acl heading) (λ i m. let l = in_outside 0 acl heading i m in omega (arith, l)))
+
+pub In-subtracted : (a b : List Row) (x : Row) → In x (subtracted a b) ↔ (In x a × (In x b → ⊥))
+In-subtracted a b x = In-difference_of row_cmp row_total row_separates x a b

@@ -14,12 +14,12 @@ use Rattle.std.proofs.lemmas.List.Sorted.{list_any-IsPermutation}
 use Rattle.base_core.proofs.SetLemmas.{In}
 use Rattle.base_core.proofs.MemberLemmas.{list_all-In}
 use Rattle.base_core.proofs.SetOperatorLemmas.{same_tests}
+use Rattle.base_core.proofs.IntLemmas.{lt-int_lt, int_lt-lt}
 use Rattle.point_core.specs.Whole.{least_whole}
 use Rattle.point_core.specs.declared.any_type.AnyType.{AnyType}
 use Rattle.interval_core.specs.Members.{Span, has_member}
 use Rattle.interval_core.proofs.MembersLemmas.{has_member-between}
 use Rattle.scalar_core.specs.Operations.{number_of}
-use Rattle.scalar_core.proofs.PointLemmas.{int_lt-lt, lt-int_lt}
 use Rattle.value_core.specs.Attributes.{value_at, span_of}
 use Rattle.value_core.specs.Values.{Row, Heading, Relation, IsRelation, row_cmp, value_cmp, fits, fits_heading}
 use Rattle.value_core.specs.declared.constraint.HistoryRule.{HistoryRule}

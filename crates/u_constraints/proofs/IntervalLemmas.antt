@@ -1,11 +1,11 @@
 -- What is unpacked here and there: interval attributes of the same types.
-use Rattle.std.proofs.Common.{◌≡◌, inl, inr, ℕ, ◌<◌, true, false, List, [], ◌∷◌, map, length, get_or, refl, sym, ap, ◌∙◌, subst, nat_eq}
+use Rattle.std.proofs.Common.{◌≡◌, inl, inr, ℕ, ◌<◌, List, [], ◌∷◌, map, length, get_or, refl, sym, ap, ◌∙◌, subst}
 use Rattle.std.specs.Bool.{IsTrue}
-use Rattle.std.specs.List.{AllByRecursion, IsDistinct}
-use Rattle.std.proofs.lemmas.Bool.{true≢false, eqb-true, eqb-false}
+use Rattle.std.proofs.lemmas.Bool.{true≢false}
 use Rattle.std.proofs.lemmas.List.Elements.{Contains-get_or}
 use Rattle.base_core.proofs.SetLemmas.{In, In-from_Contains}
 use Rattle.base_core.proofs.MemberLemmas.{In-map, list_all-In}
+use Rattle.base_core.proofs.ListLemmas.{All-In, map-In, IsDistinct-map}
 use Rattle.value_core.specs.declared.kind.Kind.{Kind}
 use Rattle.value_core.specs.declared.kind.Kind.TheVariants.{Truth, Char, Point, Span}
 use Rattle.value_core.specs.Values.{Heading}
@@ -13,8 +13,8 @@ use Rattle.relation_core.specs.Parts.{kind_at}
 use Rattle.meaning_core.specs.Typing.{IsList, is_span}
 use Rattle.meaning_core.specs.WellMade.{AreAlike, AreAmong, AreDifferent}
 use Rattle.u_set.specs.Boxes.{AreIntervals, type_of, types_at}
-use Rattle.u_row.proofs.BeneathLemmas.{all_in, in_all}
-use Rattle.u_row.proofs.LabelLemmas.{map_in, map_twice}
+use Rattle.u_row.proofs.BeneathLemmas.{in_all}
+use Rattle.u_row.proofs.LabelLemmas.{map_twice}
 use Rattle.u_constraints.specs.Constraints.{counterpart}
 use Rattle.u_constraints.proofs.CounterpartLemmas.{Beside, beside_more, beside_kinds, at_counterpart, in_key, IsPair, all_pairs}
 
@@ -35,21 +35,6 @@ intervals_of_list heading acl h = record {
 }
 
 -- ---- the same attributes of the other relvar
-
-mapped_apart : (f : ℕ → ℕ) (j : ℕ) (js : List ℕ) → ((i : ℕ) → In i js → f j ≡ f i → j ≡ i) → AllByRecursion (λ k. nat_eq j k ≡ false) js → AllByRecursion (λ k. nat_eq (f j) k ≡ false) (map f js)
-mapped_apart f j [] one d = tt
-mapped_apart f j (i ∷ js) one d = (
-  elim (nat_eq (f j) (f i)) as (λ b. nat_eq (f j) (f i) ≡ b → b ≡ false) [
-    | true ↦ λ e. absurd (eqb-false j i d.0 (one i (inl refl) (eqb-true (f j) (f i) e)))
-    | false ↦ λ e. refl
-  ] refl,
-  mapped_apart f j js (λ k m. one k (inr m)) d.1,
-)
-
-mapped_differ : (f : ℕ → ℕ) (js : List ℕ) → ((j i : ℕ) → In j js → In i js → f j ≡ f i → j ≡ i) → IsDistinct nat_eq js → IsDistinct nat_eq (map f js)
-unfolding IsDistinct
-mapped_differ f [] one d = tt
-mapped_differ f (j ∷ js) one d = (mapped_apart f j js (λ i m. one j i (inl refl) (inr m)) d.0, mapped_differ f js (λ k i m n. one k i (inr m) (inr n)) d.1)
 
 beside_right : (R : ℕ → Type 0) (is ts : List ℕ) → Beside (λ i t. Unit {0}) is ts → ((t : ℕ) → In t ts → R t) → Beside (λ i t. R t) is ts
 beside_right R [] [] h r = tt
@@ -76,11 +61,11 @@ module _ (h g : Heading) (here there acl : List ℕ) (alike : AreAlike h here g 
 
   pub intervals_there : AreIntervals g (map (counterpart here there) acl)
   intervals_there = record {
-    within = all_in (λ (t : ℕ). t < length g) (map (counterpart here there) acl) (λ t m.
+    within = All-In (λ (t : ℕ). t < length g) (map (counterpart here there) acl) (λ t m.
         let w = (In-map (counterpart here there) t acl).0 m in
         subst (λ j. j < length g) (sym w.2) (within_there w.0 w.1));
-    different = mapped_differ (counterpart here there) acl (λ j i m n e. sym (back j m) ∙ ap (counterpart there here) e ∙ back i n) intervals.different;
-    spans = all_in (λ (t : ℕ). kind_at g t ≡ Span (type_of (kind_at g t))) (map (counterpart here there) acl) (λ t m.
+    different = IsDistinct-map (counterpart here there) acl (λ j i m n e. sym (back j m) ∙ ap (counterpart there here) e ∙ back i n) intervals.different;
+    spans = All-In (λ (t : ℕ). kind_at g t ≡ Span (type_of (kind_at g t))) (map (counterpart here there) acl) (λ t m.
         let w = (In-map (counterpart here there) t acl).0 m in
         let own : kind_at h w.0 ≡ Span (type_of (kind_at h w.0)) = in_all (λ (i : ℕ). kind_at h i ≡ Span (type_of (kind_at h i))) acl intervals.spans w.0 w.1 in
         let same : kind_at h w.0 ≡ kind_at g t = kind_there w.0 w.1 ∙ ap (kind_at g) (sym w.2) in
@@ -90,4 +75,4 @@ module _ (h g : Heading) (here there acl : List ℕ) (alike : AreAlike h here g 
   pub types_there : types_at g (map (counterpart here there) acl) ≡ types_at h acl
   types_there =
       map_twice (λ i. type_of (kind_at g i)) (counterpart here there) acl
-      ∙ map_in (λ i. type_of (kind_at g (counterpart here there i))) (λ i. type_of (kind_at h i)) acl (λ i m. ap type_of (sym (kind_there i m)))
+      ∙ map-In (λ i. type_of (kind_at g (counterpart here there i))) (λ i. type_of (kind_at h i)) acl (λ i m. ap type_of (sym (kind_there i m)))

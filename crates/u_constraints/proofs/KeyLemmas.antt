@@ -1,23 +1,22 @@
 -- Keys by counting, and references by searching.
 use Rattle.std.proofs.Common.{◌≡◌, ◌↔◌, inl, inr, ℕ, suc, ◌+◌, ◌<◌, List, [], ◌∷◌, length, get_or, take, map, refl, sym, ap, ap₂, ◌∙◌, subst, arith, eq-eqb, nat_eq, Bool, true, false, not, ◌||◌, ◌&&◌, Ordering}
-use Rattle.std.specs.declared.cmp.Ordering.TheVariants.{Less, Equal, Greater}
+use Rattle.std.specs.declared.cmp.Ordering.TheVariants.{Less, Equal}
 use Rattle.std.specs.Bool.{IsTrue}
 use Rattle.std.specs.Cmp.{IsTotalOrder, tied_itself}
-use Rattle.std.specs.List.{list_all, All}
+use Rattle.std.specs.List.{list_all}
 use Rattle.std.specs.Ordering.{eq_by_cmp}
 use Rattle.std.proofs.lemmas.Bool.{eqb-true, or_cases, or_left, or_right, not-true, both_ways}
 use Rattle.std.proofs.lemmas.List.{length-map}
 use Rattle.std.proofs.lemmas.List.Folds.{list_all-map, list_all_more, list_all_at}
-use Rattle.base_core.specs.Sets.{placed, put, in_order, has, is_within}
+use Rattle.base_core.specs.Sets.{put, in_order, has, is_within}
 use Rattle.base_core.proofs.SetLemmas.{In, AllAfter, Ascends, Separates, In-put, In-in_order, Ascends-put, Ascends-in_order, in_after, same_by_members}
 use Rattle.base_core.proofs.MemberLemmas.{In-map, list_all-In, eq_by_cmp-≡}
 use Rattle.base_core.proofs.SetOperatorLemmas.{same_tests, length-in_order, list_all-in_order}
-use Rattle.value_core.specs.Values.{Row, Relation, IsRelation, fits_heading, row_cmp}
+use Rattle.value_core.specs.Values.{Row, row_cmp}
 use Rattle.value_core.specs.Order.{row_total, row_separates}
 use Rattle.relation_core.specs.Agreement.{part_of}
 use Rattle.relation_core.specs.Parts.{projected}
-use Rattle.relation_core.proofs.AgreementLemmas.{length_of_fit}
-use Rattle.relation_core.proofs.FilterLemmas.{passes_at}
+use Rattle.cell_core.proofs.Listing.{put_longer}
 use Rattle.u_constraints.specs.Constraints.{agree_on, are_apart, is_key}
 
 -- each member stands once
@@ -28,14 +27,6 @@ Differ (x ∷ xs) = (In x xs → ⊥) × Differ xs
 -- ---- the set of a list has as many members as the list exactly where they differ
 
 module _ {X : Type 0} (cmp : X → X → Ordering) (o : IsTotalOrder cmp) (same : Separates cmp) where
-  length-put_new : (x : X) (xs : List X) → (In x xs → ⊥) → length (put cmp x xs) ≡ suc (length xs)
-  length-put_new x [] new = refl
-  length-put_new x (y ∷ ys) new =
-      elim (cmp x y) as (λ r. cmp x y ≡ r → length (placed r x y ys (put cmp x ys)) ≡ suc (suc (length ys))) [
-        | Less ↦ λ e. refl
-        | Equal ↦ λ e. absurd (new (inl (same x y e)))
-        | Greater ↦ λ e. ap suc (length-put_new x ys (λ i. new (inr i)))
-      ] refl
 
   put_known : (x : X) (xs : List X) → Ascends cmp xs → In x xs → put cmp x xs ≡ xs
   put_known x xs a i = same_by_members cmp o same _ _ (Ascends-put cmp o same x xs a) a (λ z.
@@ -45,7 +36,7 @@ module _ {X : Type 0} (cmp : X → X → Ordering) (o : IsTotalOrder cmp) (same 
   length_of_differ : (xs : List X) → Differ xs → length (in_order cmp xs) ≡ length xs
   length_of_differ [] d = refl
   length_of_differ (x ∷ xs) d =
-      length-put_new x (in_order cmp xs) (λ i. d.0 ((In-in_order cmp o same x xs).0 i)) ∙ ap suc (length_of_differ xs d.1)
+      put_longer cmp same x (in_order cmp xs) (λ i. d.0 ((In-in_order cmp o same x xs).0 i)) ∙ ap suc (length_of_differ xs d.1)
 
   differ_of_length : (xs : List X) → length (in_order cmp xs) ≡ length xs → Differ xs
   differ_of_length [] e = tt
@@ -54,7 +45,7 @@ module _ {X : Type 0} (cmp : X → X → Ordering) (o : IsTotalOrder cmp) (same 
       let new : In x xs → ⊥ = λ i.
       let known = ap (λ (zs : List X). length zs) (put_known x (in_order cmp xs) (Ascends-in_order cmp o same xs) ((In-in_order cmp o same x xs).1 i)) in
       absurd (omega (arith, e, most, known)) in
-      let more = length-put_new x (in_order cmp xs) (λ i. new ((In-in_order cmp o same x xs).0 i)) in
+      let more = put_longer cmp same x (in_order cmp xs) (λ i. new ((In-in_order cmp o same x xs).0 i)) in
       (new, differ_of_length xs (omega (arith, e, more)))
 
   pub not_after : (x : X) (xs : List X) → AllAfter cmp x xs → In x xs → ⊥
@@ -138,16 +129,6 @@ within_by_search here rows keys =
     sym (list_all-in_order row_cmp row_total row_separates (has row_cmp keys) (map (part_of here) rows) ∙ list_all-map (has row_cmp keys) (part_of here) rows)
 
 -- ---- positions in the rows of a relation
-
--- positions in the heading lie in each row
-pub positions_within : (r : Relation) (rows : List Row) (i : ℕ) (x : Row) (positions : List ℕ) → IsRelation r → rows ≡ r.rows → i < length rows → x ≡ get_or rows i x
-    → All (λ (k : ℕ). k < length r.heading) positions → All (λ (k : ℕ). k < length x) positions
-positions_within r rows i x positions is same l at within k d lt =
-    let all : IsTrue (list_all (fits_heading r.heading) rows) = subst (λ (zs : List Row). IsTrue (list_all (fits_heading r.heading) zs)) (sym same) is.fitting in
-    let fits : IsTrue (fits_heading r.heading x) = subst (λ (z : Row). IsTrue (fits_heading r.heading z)) (sym at) (passes_at (fits_heading r.heading) rows i x all l) in
-    let size = length_of_fit r.heading x fits in
-    let below = within k d lt in
-    omega (arith, size, below)
 
 -- ---- the search for each row's part
 

@@ -5,7 +5,6 @@ pub mod HistoryLemmas
 pub mod KeyLemmas
 pub mod SearchLemmas
 pub mod MarkLemmas
-pub mod OutcomeLemmas
 pub mod PairLemmas
 pub mod PlacedKeyLemmas
 pub mod CounterpartLemmas

@@ -6,6 +6,7 @@ use Rattle.std.proofs.lemmas.Bool.{not-true, both_ways}
 use Rattle.std.proofs.lemmas.Int.{ints}
 use Rattle.base_core.proofs.SetLemmas.{In}
 use Rattle.base_core.proofs.MemberLemmas.{In-filter}
+use Rattle.base_core.proofs.ListLemmas.{map-In}
 use Rattle.interval_core.specs.Members.{Span, at_point, members}
 use Rattle.interval_core.proofs.MembersLemmas.{In-members}
 use Rattle.packing_core.proofs.PackedBoxes.{among_in}
@@ -23,7 +24,6 @@ use Rattle.u_set.proofs.BoxLemmas.{value_at-get}
 use Rattle.u_set.proofs.ImageLemmas.{In-unpack1}
 use Rattle.u_row.specs.Kept.{unlisted}
 use Rattle.u_row.proofs.BeneathLemmas.{in_among}
-use Rattle.u_row.proofs.LabelLemmas.{map_in}
 use Rattle.u_constraints.specs.Constraints.{is_key}
 use Rattle.u_constraints.proofs.AgreementLemmas.{at, no_value, same_of}
 use Rattle.u_constraints.proofs.CounterpartLemmas.{in_key}
@@ -62,7 +62,7 @@ module _ (heading : Heading) (k : ℕ) where
 
     -- rows that agree on the key agree on the rest of it, and on the attribute
     labels_agree : (x y : Row) → part_of key x ≡ part_of key y → part_of label x ≡ part_of label y
-    labels_agree x y e = map_in (at x) (at y) label (λ i m. same_of (at x) (at y) no_value key e i ((In-filter (λ j. not (among acl j)) i key).0 m).0)
+    labels_agree x y e = map-In (at x) (at y) label (λ i m. same_of (at x) (at y) no_value key e i ((In-filter (λ j. not (among acl j)) i key).0 m).0)
 
     spans_agree : AreAmong key acl → (x y : Row) → part_of key x ≡ part_of key y → span_of (value_at x k) ≡ span_of (value_at y k)
     spans_agree lies x y e =

@@ -14,14 +14,14 @@ use Rattle.packing_core.specs.Boxed.{Boxed, boxed_cmp, packed_boxes, InBoxes}
 use Rattle.packing_core.specs.Covering.{Among}
 use Rattle.packing_core.specs.Live.{span_has, has_place}
 use Rattle.packing_core.specs.Packed.{Has, no_cells}
-use Rattle.packing_core.proofs.AmongLemmas.{among_map}
+use Rattle.packing_core.proofs.AmongLemmas.{among_map, all_from_members}
 use Rattle.packing_core.proofs.Cells.{Cuts, rises_far, box_of}
 use Rattle.slice_core.specs.Rows.{key_cmp}
 use Rattle.slice_core.specs.PackedRows.{IsPackedOf}
 use Rattle.box_core.specs.Apartness.{AreApart}
 use Rattle.box_core.specs.Common.{At, has_cell, HaveCells}
 use Rattle.box_core.specs.Rows.{IsRow}
-use Rattle.box_core.proofs.PlaceLemmas.{span_from, cell_from, cell_parts}
+use Rattle.box_core.proofs.PlaceLemmas.{cell_from, place_of_cells}
 use Rattle.slice_core.proofs.Sweeping.{cell_has}
 use Rattle.box_core.proofs.PointLemmas.{cell_at, InGrid}
 use Rattle.box_core.proofs.RowLemmas.{row_among, among_row, one_row, map_row, row_map}
@@ -30,7 +30,7 @@ use Rattle.cell_core.specs.Cells.{grids_of, grid_box, grid_row, row_numbers}
 use Rattle.cell_core.proofs.Assembly.{start, pick_from, box_same, length_cuts, length_grids, cut_count, grid_at}
 use Rattle.cell_core.proofs.BackLemmas.{box_length}
 use Rattle.cell_core.proofs.KeyLemmas.{gs, rising, Fit, Low, own_rows, own_fits, own_low, rows_have, packed_form, packed_cells, key_order}
-use Rattle.cell_core.proofs.OneSide.{all_among, among_all}
+use Rattle.cell_core.proofs.OneSide.{among_all}
 use Rattle.cell_core.proofs.OrderLemmas.{boxed_total}
 use Rattle.cell_core.proofs.PackedPlaces.{AllHave, in_packed_box, from_packed_box, one_box}
 use Rattle.u_row.specs.Labels.{relabelled}
@@ -68,14 +68,6 @@ has_begins (g ∷ rest) (i ∷ is) (x ∷ xs) e f h =
     let b = rises_far g (suc i) x.1 w.1 in
     let r = g.rises i in
     (a, omega (arith, ints), has_begins rest is xs (omega (arith, e)) (omega (arith, f)) u.1)
-
--- boxes with cells have a place
-place_of_cells : (y : List (ℕ × ℕ)) → HaveCells y → (c : List ℕ) × (length c ≡ length y) × At y c
-place_of_cells [] h = ([], refl, refl)
-place_of_cells (x ∷ xs) h =
-    let w = and_parts (has_cell x) (list_all has_cell xs) h in
-    let v = place_of_cells xs w.1 in
-    (x.0 ∷ v.0, ap suc v.1, and_from (span_has x x.0) (has_place xs v.0) (span_from x x.0 (omega arith) (cell_parts x w.0)) v.2)
 
 have_cells : (y : List (ℕ × ℕ)) → ((s : ℕ) → s < length y → (get_or y s no_cells).0 < (get_or y s no_cells).1) → HaveCells y
 have_cells [] h = refl
@@ -185,7 +177,7 @@ module _ {T P L : Type 0} (n : P → ℤ) (has : T → P → Type 0) (high : T �
 
   -- what holds of the label of each box holds of those of the packed ones
   pub form_labels : (Q : L → Type 0) → All (λ b. Q b.0) boxes → All (λ x. Q x.0) v
-  form_labels Q h = all_among (λ (x : L × List (ℕ × ℕ)). Q x.0) v (λ x m.
+  form_labels Q h = all_from_members (λ (x : L × List (ℕ × ℕ)). Q x.0) v (λ x m.
       let c = place_of_cells x.1 (form_cells x m) in
       let l = form_lengths x m in
       let g = from_form x m (begins cuts c.0) (has_begins cuts c.0 x.1 (c.1 ∙ l ∙ sym count_sides) (l ∙ sym count_sides) c.2) in

@@ -6,13 +6,14 @@ use Rattle.std.specs.Bool.{IsTrue}
 use Rattle.std.specs.List.{All, list_all}
 use Rattle.base_core.proofs.SetLemmas.{In}
 use Rattle.base_core.proofs.MemberLemmas.{In-append, In-filter, list_all-In}
+use Rattle.base_core.proofs.ListLemmas.{All-In}
 use Rattle.value_core.specs.Attributes.{among}
 use Rattle.value_core.specs.Values.{Heading}
 use Rattle.value_core.specs.declared.constraint.Constraint.{Constraint}
 use Rattle.value_core.specs.declared.constraint.Constraint.TheVariants.{Key, Packed, WhenUnpacked, UKey, Foreign, History}
 use Rattle.meaning_core.specs.WellMade.{AreAmong, FitsHeadings}
 use Rattle.u_row.specs.Kept.{unlisted}
-use Rattle.u_row.proofs.BeneathLemmas.{in_among, all_in, in_all}
+use Rattle.u_row.proofs.BeneathLemmas.{in_among, in_all}
 use Rattle.u_constraints.specs.Growth.{outside_below, telling}
 
 -- none of the positions is unpacked
@@ -40,7 +41,7 @@ unlisted_outside : (acl k : List ℕ) → AreOutside acl (unlisted acl k)
 unlisted_outside acl k = (list_all-In (λ i. not (among acl i)) (unlisted acl k)).1 (λ i m. ((In-filter (λ j. not (among acl j)) i k).0 m).1)
 
 unlisted_within : (n : ℕ) (acl k : List ℕ) → All (λ (i : ℕ). i < n) k → All (λ (i : ℕ). i < n) (unlisted acl k)
-unlisted_within n acl k h = all_in (λ (i : ℕ). i < n) (unlisted acl k) (λ i m. in_all (λ (i : ℕ). i < n) k h i ((In-filter (λ j. not (among acl j)) i k).0 m).0)
+unlisted_within n acl k h = All-In (λ (i : ℕ). i < n) (unlisted acl k) (λ i m. in_all (λ (i : ℕ). i < n) k h i ((In-filter (λ j. not (among acl j)) i k).0 m).0)
 
 -- ---- below a number
 
@@ -63,7 +64,7 @@ below_outside : (acl : List ℕ) (n : ℕ) → AreOutside acl (outside_below acl
 below_outside acl n = (list_all-In (λ i. not (among acl i)) (outside_below acl n)).1 (λ i m. (in_below acl n i m).1)
 
 below_within : (acl : List ℕ) (n : ℕ) → All (λ (i : ℕ). i < n) (outside_below acl n)
-below_within acl n = all_in (λ (i : ℕ). i < n) (outside_below acl n) (λ i m. (in_below acl n i m).0)
+below_within acl n = All-In (λ (i : ℕ). i < n) (outside_below acl n) (λ i m. (in_below acl n i m).0)
 
 -- ---- the ones that are told
 

@@ -2,7 +2,7 @@
 --     IsTouched      few are the members of all whose parts pass the test, and what does not pass it is old
 --     touched_map      so it is of what a function makes of the members
 --     within_length      a set within another has no more members
-use Rattle.std.proofs.Common.{◌≡◌, ◌↔◌, ◌≤◌, Bool, true, false, List, [], ◌∷◌, map, length, refl, sym, ap, ◌∙◌, arith, Ordering, if◌then◌else◌}
+use Rattle.std.proofs.Common.{◌≡◌, ◌↔◌, ◌≤◌, Bool, true, false, List, map, length, refl, sym, ap, ◌∙◌, arith, Ordering}
 use Rattle.std.specs.Bool.{IsTrue}
 use Rattle.std.specs.List.{filter}
 use Rattle.std.specs.Cmp.{IsTotalOrder}
@@ -10,6 +10,7 @@ use Rattle.base_core.specs.Sets.{has}
 use Rattle.base_core.proofs.SetLemmas.{In, Ascends, Separates, same_by_members}
 use Rattle.base_core.proofs.MemberLemmas.{In-map, In-filter, has-In}
 use Rattle.base_core.proofs.SetOperatorLemmas.{Ascends-filter}
+use Rattle.relation_core.proofs.FilterLemmas.{length-filter_at_most}
 
 -- few are the members of all whose parts pass the test, and what does not pass it is old
 pub record IsTouched {X Y : Type 0} (f : X → Y) (test : Y → Bool) (old all few : List X) : Type 0 where
@@ -43,16 +44,6 @@ module _ {X Y : Type 0} (f : X → Y) (test : Y → Bool) (old all few : List X)
         (In-map h z old).1 (w.0, is.rest w.0 w.1 (ap test (sym (same w.0) ∙ ap g (sym w.2)) ∙ t), w.2);
   }
 
--- the members that pass a test are no more
-pub fewer : {X : Type 0} (p : X → Bool) (zs : List X) → length (filter p zs) ≤ length zs
-fewer p [] = omega arith
-fewer p (z ∷ zs) =
-    let more = fewer p zs in
-    elim (p z) as (λ b. length (if b then z ∷ filter p zs else filter p zs) ≤ length (z ∷ zs)) [
-      | true ↦ omega (arith, more)
-      | false ↦ omega (arith, more)
-    ]
-
 -- a set within another has no more members
 pub within_length : {X : Type 0} (cmp : X → X → Ordering) → IsTotalOrder cmp → Separates cmp → (xs ys : List X) → Ascends cmp xs → Ascends cmp ys → ((x : X) → In x xs → In x ys) → length xs ≤ length ys
 within_length {X = X} cmp o same xs ys up up' within =
@@ -62,6 +53,6 @@ within_length {X = X} cmp o same xs ys up up' within =
     let f = In-filter p x ys in
     let h = has-In cmp o same xs x in
     (λ i. f.1 (within x i, h.1 i), λ i. h.0 ((f.0 i).1))) in
-    let few = fewer p ys in
+    let few = length-filter_at_most p ys in
     let long = ap (λ (zs : List X). length zs) is in
     omega (arith, few, long)

@@ -8,22 +8,20 @@ use Rattle.std.specs.Ordering.{nat_cmp, eq_by_cmp}
 use Rattle.std.proofs.lemmas.Bool.Decides.{nat_tests}
 use Rattle.std.proofs.lemmas.Cmp.{nat_cmp_total}
 use Rattle.std.proofs.lemmas.List.Filters.{dedup_is}
+use Rattle.std.proofs.lemmas.List.{get_or_default}
 use Rattle.packing_core.specs.Covering.{Among}
 use Rattle.packing_core.proofs.AmongLemmas.{among_map}
-use Rattle.packing_core.proofs.Numbered.{other_default}
 use Rattle.box_core.specs.Rows.{IsRow}
 use Rattle.box_core.proofs.RowLemmas.{among_row, row_all}
 use Rattle.u_groups.specs.Asked.{numbers_at}
 use Rattle.base_core.specs.Sets.{in_order}
-use Rattle.base_core.proofs.SetLemmas.{Separates, In, In-in_order, in_order_of_sorted}
+use Rattle.base_core.proofs.SetLemmas.{In, In-in_order, in_order_of_sorted}
+use Rattle.cell_core.proofs.OrderLemmas.{nat_separates}
 
 pub get_in : {X Y : Type 0} (f : X → Y) (xs : List X) (i : ℕ) (d : X) → get_or (map f xs) i (f d) ≡ f (get_or xs i d)
 get_in f [] i d = refl
 get_in f (x ∷ xs) zero d = refl
 get_in f (x ∷ xs) (suc i) d = get_in f xs i d
-
-pub nat_separates : Separates nat_cmp
-nat_separates x y e = grind (arith, nat_tests)
 
 ties : (x y : ℕ) → eqb x y ≡ eq_by_cmp nat_cmp x y
 ties x y = grind (arith, nat_tests)
@@ -58,4 +56,4 @@ pub placed : (numbers a : List ℕ) → All (λ (i : ℕ). i < length numbers) a
 placed numbers a inside i m h e =
     let w = among_row a i h in
     let b : i < length numbers = row_all (λ (z : ℕ). z < length numbers) a inside w.0 i w.1 in
-    (b, other_default numbers i m 0 b ∙ e)
+    (b, get_or_default numbers i m 0 b ∙ e)

@@ -8,17 +8,17 @@ use Rattle.std.specs.List.{All, list_any}
 use Rattle.std.specs.Ordering.{nat_cmp, eq_by_cmp}
 use Rattle.std.proofs.lemmas.Bool.{cases_lt, and_parts, and_from}
 use Rattle.std.proofs.lemmas.Cmp.{nat_cmp_total}
-use Rattle.std.proofs.lemmas.List.{length-map}
+use Rattle.std.proofs.lemmas.List.{length-map, get_or_default}
 use Rattle.base_core.proofs.MemberLemmas.{eq_by_cmp-≡}
 use Rattle.base_core.proofs.SetLemmas.{Ascends, Ascends-in_order, in_after}
+use Rattle.base_core.proofs.OrderingLemmas.{nat_cmp-lt}
 use Rattle.value_core.specs.Order.{row_total, row_separates}
 use Rattle.value_core.specs.Values.{Row, row_cmp}
 use Rattle.relation_core.specs.Agreement.{part_of}
 use Rattle.point_core.specs.declared.fault.Fault.{Fault}
 use Rattle.packing_core.specs.Covering.{Among, Gives}
 use Rattle.packing_core.specs.Live.{has_place}
-use Rattle.packing_core.proofs.AmongLemmas.{among_filter}
-use Rattle.packing_core.proofs.Numbered.{other_default}
+use Rattle.packing_core.proofs.AmongLemmas.{among_filter, all_from_members}
 use Rattle.packing_core.proofs.Same.{same_sorted}
 use Rattle.point_core.specs.LeastFault.{IsLeast}
 use Rattle.slice_core.specs.Rows.{AreRows}
@@ -29,15 +29,15 @@ use Rattle.box_core.specs.Common.{At, EndsBy}
 use Rattle.box_core.specs.Groups.{IsGroup, OfGroup, IsGrouped, IsGroupFault}
 use Rattle.box_core.specs.Keys.{ArePaired}
 use Rattle.box_core.specs.Rows.{IsRow, KeyBox}
-use Rattle.box_core.proofs.CoveredLemmas.{all_from}
 use Rattle.slice_core.proofs.LabelRows.{some_of}
 use Rattle.box_core.proofs.RowLemmas.{some_row, among_row, row_among, row_there}
 use Rattle.cell_core.specs.Cells.{rows_from}
 use Rattle.cell_core.proofs.Calls.{are_rows}
+use Rattle.cell_core.proofs.OrderLemmas.{nat_separates}
 use Rattle.u_groups.specs.Asked.{numbers_at, AreRanks, is_lower, first_ones, alone, asked, IsNumbered, HasCells, InCellGroup, HasCellFault}
 use Rattle.u_groups.specs.Groups.{AreFirsts, OfFirsts, labels_in, sides_in}
-use Rattle.u_groups.proofs.AskedLemmas.{nat_separates, get_in, in_among, from_places, to_places, placed}
-use Rattle.u_groups.proofs.FirstLemmas.{less_from, first_among}
+use Rattle.u_groups.proofs.AskedLemmas.{get_in, in_among, from_places, to_places, placed}
+use Rattle.u_groups.proofs.FirstLemmas.{first_among}
 
 -- ---- lists
 
@@ -48,7 +48,7 @@ order_rows n a (x ∷ xs) up h =
       w.0,
       w.1,
       order_rows n (suc x) xs up.1 (λ y m.
-          let l : x < y = less_from x y (in_after nat_cmp nat_cmp_total nat_separates x y xs up.0 ((in_among y xs).1 m)) in
+          let l : x < y = nat_cmp-lt x y (in_after nat_cmp nat_cmp_total nat_separates x y xs up.0 ((in_among y xs).1 m)) in
           (omega (arith, l), (h y (inr m)).1)),
     )
 
@@ -72,7 +72,7 @@ first_some ranks (x ∷ xs) n up = λ e.
       inl refl,
       λ s m l q. elim m [
         | inl i ↦ absurd (omega (arith, i, l))
-        | inr w ↦ let k : x < s = less_from x s (in_after nat_cmp nat_cmp_total nat_separates x s xs up.0 ((in_among s xs).1 w)) in absurd (omega (arith, k, l))
+        | inr w ↦ let k : x < s = nat_cmp-lt x s (in_after nat_cmp nat_cmp_total nat_separates x s xs up.0 ((in_among s xs).1 w)) in absurd (omega (arith, k, l))
       ],
     ) in
     subst (Among x) e m
@@ -132,7 +132,7 @@ module _ (by : List ℕ) (rows : List (KeyBox Row)) (entries : List (KeyedBox Ro
         let c = paired.count in
         let l = x.1.0 in
         let b : w.0 < length numbers = omega (arith, c, l) in
-        let here : IsRow numbers w.0 n = (b, other_default numbers w.0 n 0 b ∙ w.2) in
+        let here : IsRow numbers w.0 n = (b, get_or_default numbers w.0 n 0 b ∙ w.2) in
         let z = (are ((x.0).0, n, (x.0).1)).0 (paired.from w.0 x.0 n x.1 here) in
         (z.0, ap (part_of by) (sym (label_at n)) ∙ sym z.1 ∙ x.2, subst (λ y. At y place) (z.2 ∙ side_at n) x.3),
     λ h.
@@ -140,7 +140,7 @@ module _ (by : List ℕ) (rows : List (KeyBox Row)) (entries : List (KeyedBox Ro
         let m : Among z entries = (are z).1 (h.0, refl, refl) in
         let w = paired.to z m in
         let i : Among w.0 a = (g.members w.0).1 ((z.0, z.2), w.1, ap (part_of by) (label_at n) ∙ h.1, subst (λ y. At y place) (sym (side_at n)) h.2) in
-        to_places numbers a n w.0 i (other_default numbers w.0 0 n w.2.0 ∙ w.2.1),
+        to_places numbers a n w.0 i (get_or_default numbers w.0 0 n w.2.0 ∙ w.2.1),
   )
 
   numbers_up : (a : List ℕ) → Ascends nat_cmp (numbers_at numbers a)
@@ -193,7 +193,7 @@ module _ (by : List ℕ) (rows : List (KeyBox Row)) (entries : List (KeyedBox Ro
                 (get_or keys r none, some_row keys r none (omega (arith, l)), q.0 p.0, p.1),
             λ h.
                 let l = h.1.0 in
-                let e : get_or keys r none ≡ h.0 = other_default keys r none h.0 l ∙ h.1.1 in
+                let e : get_or keys r none ≡ h.0 = get_or_default keys r none h.0 l ∙ h.1.1 in
                 f.1 (
                   m.1 (omega arith, omega (arith, l)),
                   and_from (eq_by_cmp row_cmp (get_or keys r none).0 key) (has_place (get_or keys r none).1 place) (q.1 (ap (λ (x : KeyBox Row). x.0) e ∙ h.2)) (subst (λ (x : KeyBox Row). has_place x.1 place ≡ true) (sym e) h.3),
@@ -256,7 +256,7 @@ module _ (by : List ℕ) (rows : List (KeyBox Row)) (entries : List (KeyedBox Ro
             let w = from_places numbers a m h in
             (omega arith, numbers_below w.0 m (placed numbers a inside w.0 m w.1 w.2))))),
         inside,
-        all_from (λ (i : ℕ). i < length ranks) numbers (λ n m. let w = among_row numbers n m in subst (λ k. n < k) (sym (ranking.count ∙ many)) (numbers_below w.0 n w.1)),
+        all_from_members (λ (i : ℕ). i < length ranks) numbers (λ n m. let w = among_row numbers n m in subst (λ k. n < k) (sym (ranking.count ∙ many)) (numbers_below w.0 n w.1)),
       )
 
   -- ---- what it gives ends by rows

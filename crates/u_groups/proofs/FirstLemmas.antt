@@ -7,33 +7,26 @@ use Rattle.std.specs.List.{list_any, dedup, dedup_from}
 use Rattle.std.specs.List.Retain.{IsFiltered, DiffersFromLast}
 use Rattle.std.specs.List.Sorted.{IsPermutation, IsSorted}
 use Rattle.std.specs.Ordering.{nat_cmp, eq_by_cmp, ordering_then}
-use Rattle.std.proofs.lemmas.Bool.{and_parts, and_from, true≢false}
+use Rattle.std.proofs.lemmas.Bool.{and_parts, and_from, true≢false, lt-ltb, eqb-true}
 use Rattle.std.proofs.lemmas.Bool.Decides.{nat_tests}
 use Rattle.std.proofs.lemmas.Cmp.{nat_cmp_total}
 use Rattle.std.proofs.lemmas.List.Filters.{dedup_is}
 use Rattle.base_core.specs.Sets.{in_order}
 use Rattle.base_core.proofs.MemberLemmas.{list_any-In}
-use Rattle.base_core.proofs.SetLemmas.{Separates, Ascends, AllAfter, In-in_order, Ascends-in_order, in_order_of_sorted, same_by_members, in_after}
+use Rattle.base_core.proofs.SetLemmas.{Ascends, AllAfter, In-in_order, Ascends-in_order, in_order_of_sorted, same_by_members, in_after}
 use Rattle.base_core.proofs.SetOperatorLemmas.{Ascends-filter}
+use Rattle.base_core.proofs.OrderingLemmas.{nat_cmp-lt}
 use Rattle.packing_core.specs.Covering.{Among}
 use Rattle.packing_core.proofs.AmongLemmas.{among_map, among_filter}
 use Rattle.slice_core.specs.Rows.{pair_cmp, pair_total}
+use Rattle.cell_core.proofs.OrderLemmas.{nat_separates, pair_separates}
 use Rattle.u_groups.specs.Asked.{numbers_at, is_lower, first_ones, ranked, have_one_rank}
-use Rattle.u_groups.proofs.AskedLemmas.{nat_separates, in_among, from_places, to_places}
+use Rattle.u_groups.proofs.AskedLemmas.{in_among, from_places, to_places}
 
 -- ---- tests of numbers and of lists
 
-pub less_from : (x y : ℕ) → nat_cmp x y ≡ Less → x < y
-less_from x y e = grind (arith, nat_tests)
-
 below_from : (x y : ℕ) → ltb x y ≡ true → x < y
 below_from x y e = grind (arith, nat_tests)
-
-below_test : (x y : ℕ) → x < y → ltb x y ≡ true
-below_test x y l = grind (arith, nat_tests)
-
-equal_from : (x y : ℕ) → eqb x y ≡ true → x ≡ y
-equal_from x y e = grind (arith, nat_tests)
 
 equal_test : (x y : ℕ) → x ≡ y → eqb x y ≡ true
 equal_test x y e = grind (arith, nat_tests)
@@ -59,11 +52,11 @@ module _ (ranks : List ℕ) where
   lower_parts : (r s : ℕ) → is_lower ranks r s ≡ true → (s < r) × (get_or ranks s 0 ≡ get_or ranks r 0)
   lower_parts r s h =
       let w = and_parts (ltb s r) (eqb (get_or ranks s 0) (get_or ranks r 0)) h in
-      (below_from s r w.0, equal_from (get_or ranks s 0) (get_or ranks r 0) w.1)
+      (below_from s r w.0, eqb-true (get_or ranks s 0) (get_or ranks r 0) w.1)
 
   lower_from : (r s : ℕ) → s < r → get_or ranks s 0 ≡ get_or ranks r 0 → is_lower ranks r s ≡ true
   lower_from r s l e =
-      and_from (ltb s r) (eqb (get_or ranks s 0) (get_or ranks r 0)) (below_test s r l) (equal_test (get_or ranks s 0) (get_or ranks r 0) e)
+      and_from (ltb s r) (eqb (get_or ranks s 0) (get_or ranks r 0)) (lt-ltb s r l) (equal_test (get_or ranks s 0) (get_or ranks r 0) e)
 
   pub first_among : (r : ℕ) (b : List ℕ) → Among r (first_ones ranks b) ↔ (Among r b × ((s : ℕ) → Among s b → s < r → get_or ranks s 0 ≡ get_or ranks r 0 → ⊥))
   first_among r b =
@@ -83,23 +76,11 @@ then_less Less b e = inl refl
 then_less Equal b e = inr (refl, e)
 then_less Greater b e = absurd cc
 
-then_equal : (a b : Ordering) → ordering_then a b ≡ Equal → (a ≡ Equal) × (b ≡ Equal)
-then_equal Less b e = absurd cc
-then_equal Equal b e = (refl, e)
-then_equal Greater b e = absurd cc
-
 before_from : (x y : ℕ × ℕ) → pair_cmp x y ≡ Less → Before x y
 before_from x y e = elim (then_less (nat_cmp x.0 y.0) (nat_cmp x.1 y.1) e) [
-  | inl l ↦ inl (less_from x.0 y.0 l)
-  | inr w ↦ inr (nat_separates x.0 y.0 w.0, less_from x.1 y.1 w.1)
+  | inl l ↦ inl (nat_cmp-lt x.0 y.0 l)
+  | inr w ↦ inr (nat_separates x.0 y.0 w.0, nat_cmp-lt x.1 y.1 w.1)
 ]
-
-pub pair_separates : Separates pair_cmp
-pair_separates x y e =
-    let w = then_equal (nat_cmp x.0 y.0) (nat_cmp x.1 y.1) e in
-    let a = nat_separates x.0 y.0 w.0 in
-    let b = nat_separates x.1 y.1 w.1 in
-    λ t. (a t, b t)
 
 pair_ties : (x y : ℕ × ℕ) → (eqb x.0 y.0 && eqb x.1 y.1) ≡ eq_by_cmp pair_cmp x y
 pair_ties x y = grind (arith, nat_tests)
@@ -206,7 +187,7 @@ heads_from (x ∷ xs) k a up z =
     let b : Before k x = before_from k x a.0 in
     elim (have_one_rank x k) as (λ t. have_one_rank x k ≡ t → Among z (cond t (dedup_from have_one_rank k xs) (k ∷ dedup_from have_one_rank x xs)) ↔ IsHead z (k ∷ x ∷ xs)) [
       | true ↦ λ e.
-          let same : x.0 ≡ k.0 = equal_from x.0 k.0 e in
+          let same : x.0 ≡ k.0 = eqb-true x.0 k.0 e in
           let above : k.1 < x.1 = elim b [ inl l ↦ absurd (omega (arith, l, same)) | inr w ↦ w.1 ] in
           let ih = heads_from xs k a.1 up.1 z in
           (λ h. head_with k x xs z same above (ih.0 h), λ h. ih.1 (head_without k x xs z same above h))

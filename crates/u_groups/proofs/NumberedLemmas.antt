@@ -5,10 +5,9 @@ use Rattle.std.proofs.lemmas.Bool.{cases_lt}
 use Rattle.value_core.specs.Values.{Row}
 use Rattle.relation_core.specs.Agreement.{part_of}
 use Rattle.packing_core.specs.Covering.{Among}
-use Rattle.packing_core.proofs.AmongLemmas.{among_append}
+use Rattle.packing_core.proofs.AmongLemmas.{among_append, all_from_members}
 use Rattle.box_core.specs.Answers.{KeyedBox}
 use Rattle.box_core.specs.Rows.{KeyBox}
-use Rattle.box_core.proofs.CoveredLemmas.{all_from}
 use Rattle.box_core.proofs.RowLemmas.{row_all, some_row}
 use Rattle.u_groups.specs.Asked.{IsNumbered}
 
@@ -59,6 +58,6 @@ module _ (by : List ℕ) (rows : List (KeyBox Row)) where
       subst (λ n. (z : KeyedBox Row ℕ) → Among z old ↔ IsNumberedBelow n by rows z) e is
 
   pub numbered_sides : (k : ℕ) → All (λ (x : KeyBox Row). length x.1 ≡ k) rows → (old : List (KeyedBox Row ℕ)) → ((z : KeyedBox Row ℕ) → Among z old ↔ IsNumbered by rows z) → All (λ (z : KeyedBox Row ℕ). length z.2 ≡ k) old
-  numbered_sides k all old is = all_from (λ (z : KeyedBox Row ℕ). length z.2 ≡ k) old (λ z m.
+  numbered_sides k all old is = all_from_members (λ (z : KeyedBox Row ℕ). length z.2 ≡ k) old (λ z m.
       let w = (is z).0 m in
       ap length w.2 ∙ row_all (λ (x : KeyBox Row). length x.1 ≡ k) rows all z.1 (get_or rows z.1 ([], [])) (some_row rows z.1 ([], []) w.0))

@@ -23,8 +23,7 @@ use Rattle.slice_core.specs.PackedRows.{HasRow}
 use Rattle.box_core.specs.Common.{At, EndsBy}
 use Rattle.box_core.specs.Rows.{KeyBox}
 use Rattle.slice_core.proofs.LabelRows.{some_of}
-use Rattle.box_core.proofs.PlaceLemmas.{span_from}
-use Rattle.slice_core.proofs.Sweeping.{cell_has}
+use Rattle.slice_core.proofs.Sweeping.{cell_has, span_from}
 use Rattle.box_core.proofs.PointLemmas.{InGrid, OnGrid, point_row, cell_at, row_points, no_points}
 use Rattle.box_core.proofs.RowLemmas.{row_all, among_row}
 use Rattle.cell_core.specs.Boxes.{IsBox}

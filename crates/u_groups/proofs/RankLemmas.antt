@@ -8,7 +8,7 @@ use Rattle.std.specs.List.Sorted.{IsStrictlySortedBy, IsSearchInRange, IsBinaryS
 use Rattle.std.specs.Ordering.{eq_by_cmp, is_eq}
 use Rattle.std.specs.Result.{is_ok}
 use Rattle.std.proofs.lemmas.Bool.{true≢false}
-use Rattle.std.proofs.lemmas.List.{length-map}
+use Rattle.std.proofs.lemmas.List.{length-map, get_or_default}
 use Rattle.base_core.specs.Sets.{in_order}
 use Rattle.base_core.proofs.MemberLemmas.{eq_by_cmp-≡, has-In}
 use Rattle.base_core.proofs.SetLemmas.{In-in_order, Ascends-from_sorted, in_after}
@@ -16,10 +16,8 @@ use Rattle.value_core.specs.Order.{row_total, row_separates}
 use Rattle.value_core.specs.Values.{Row, row_cmp}
 use Rattle.value_core.proofs.RelationLemmas.{searched_has}
 use Rattle.packing_core.specs.Covering.{Among}
-use Rattle.packing_core.proofs.AmongLemmas.{among_map}
-use Rattle.packing_core.proofs.Numbered.{other_default}
+use Rattle.packing_core.proofs.AmongLemmas.{among_map, all_from_members}
 use Rattle.box_core.specs.Rows.{KeyBox, IsRow}
-use Rattle.box_core.proofs.CoveredLemmas.{all_from}
 use Rattle.box_core.proofs.RowLemmas.{row_among}
 use Rattle.u_groups.specs.Asked.{number_in, AreRanks}
 use Rattle.u_groups.specs.Groups.{labels_in}
@@ -66,7 +64,7 @@ label_there (x ∷ xs) l m =
 
 -- each label is one of the labels in order
 pub labels_there : (rows : List (KeyBox Row)) (labels : List Row) → labels ≡ in_order row_cmp (labels_in rows) → All (λ (x : KeyBox Row). Among x.0 labels) rows
-labels_there rows labels e = all_from (λ (x : KeyBox Row). Among x.0 labels) rows (λ x m.
+labels_there rows labels e = all_from_members (λ (x : KeyBox Row). Among x.0 labels) rows (λ x m.
     let a = (among_map (λ (y : KeyBox Row). y.0) x.0 rows).1 (x, m, refl) in
     subst (Among x.0) (sym e) (label_in x.0 (labels_in rows) a))
   where
@@ -88,7 +86,7 @@ module _ (rows : List (KeyBox Row)) (labels : List Row) (there : All (λ (x : Ke
       let none : KeyBox Row = ([], []) in
       let c : length ranks ≡ length rows = length-map rows (λ (x : KeyBox Row). number_in labels x.0) in
       let n = long in
-      other_default ranks r 0 (number_in labels []) (omega (arith, l, c, n)) ∙ get_in (λ (x : KeyBox Row). number_in labels x.0) rows r none
+      get_or_default ranks r 0 (number_in labels []) (omega (arith, l, c, n)) ∙ get_in (λ (x : KeyBox Row). number_in labels x.0) rows r none
       ∙ ap (number_in labels) (sym (get_in (λ (x : KeyBox Row). x.0) rows r none))
 
   own_there : (r : ℕ) → r < length own → Among (get_or own r []) labels

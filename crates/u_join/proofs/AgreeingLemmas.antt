@@ -4,6 +4,7 @@ use Rattle.std.specs.Bool.{IsTrue}
 use Rattle.base_core.proofs.SetLemmas.{In}
 use Rattle.base_core.proofs.MemberLemmas.{In-filter, eq_by_cmp-≡}
 use Rattle.base_core.proofs.SetOperatorLemmas.{same_tests}
+use Rattle.base_core.proofs.ListLemmas.{map-In}
 use Rattle.point_core.specs.Points.{line_of}
 use Rattle.value_core.specs.Attributes.{value_at, span_of, among}
 use Rattle.value_core.specs.Headings.{has_name}
@@ -13,20 +14,21 @@ use Rattle.relation_core.specs.Agreement.{names_of, position_of, common_names, c
 use Rattle.relation_core.specs.Parts.{kind_at}
 use Rattle.relation_core.proofs.FilterLemmas.{filter_same}
 use Rattle.relation_core.proofs.JoinLemmas.{value_of}
+use Rattle.relation_core.proofs.AttributeLemmas.{to_name, of_name}
 use Rattle.u_set.specs.Boxes.{IsShaped, type_of, others, spans_at, boxed}
 use Rattle.u_set.proofs.BoxLemmas.{value_at-get}
 use Rattle.u_set.proofs.BridgeLemmas.{box_cmp, box_total, box_separates}
 use Rattle.u_row.specs.Kept.{inner}
 use Rattle.u_row.specs.Labels.{relabelled}
-use Rattle.u_row.proofs.LabelLemmas.{map_in, map_twice}
+use Rattle.u_row.proofs.LabelLemmas.{map_twice}
 use Rattle.u_join.specs.Pairs.{meet}
-use Rattle.u_join.proofs.NameLemmas.{maps_agree, by_names, new_names, count_new, label_by_names, listed_name, to_name, of_name}
+use Rattle.u_join.proofs.NameLemmas.{maps_agree, by_names, new_names, count_new, label_by_names, listed_name}
 
 -- the sides of a row's box are its values beside the listed names
 pub sides_by_names : (heading : Heading) (row : Row) (names : List Name) → spans_at (map (position_of heading) names) row ≡ map (λ n. span_of (value_of heading row n)) names
 sides_by_names heading row names =
     map_twice (λ i. span_of (value_at row i)) (position_of heading) names
-    ∙ map_in (λ n. span_of (value_at row (position_of heading n))) (λ n. span_of (value_of heading row n)) names (λ n i. ap span_of (value_at-get row (position_of heading n)))
+    ∙ map-In (λ n. span_of (value_at row (position_of heading n))) (λ n. span_of (value_of heading row n)) names (λ n i. ap span_of (value_at-get row (position_of heading n)))
 
 module _ (left right : Heading) (names : List Name) (in_left : (n : Name) → In n names → IsTrue (has_name left n)) (in_right : (n : Name) → In n names → IsTrue (has_name right n)) where
   abbrev here : List ℕ
@@ -88,7 +90,7 @@ module _ (left right : Heading) (names : List Name) (in_left : (n : Name) → In
         let a = by_names left x common in
         let b = by_names right y common in (
           λ t. maps_agree (value_of left x) (value_of right y) common (sym a ∙ w.0 t ∙ b),
-          λ h. w.1 (a ∙ map_in (value_of left x) (value_of right y) common h ∙ sym b),
+          λ h. w.1 (a ∙ map-In (value_of left x) (value_of right y) common h ∙ sym b),
         )
 
     key_left : part_of here_key (others here x) ≡ map (value_of left x) (new_names here left common)
@@ -103,10 +105,10 @@ module _ (left right : Heading) (names : List Name) (in_left : (n : Name) → In
     to_both : ((n : Name) → In n common → value_of left x n ≡ value_of right y n) → Both
     to_both h = (
       key_left
-          ∙ map_in (value_of left x) (value_of right y) (new_names here left common) (λ n i. h n ((In-filter (λ m. not (among here (position_of left m))) n common).0 i).0)
+          ∙ map-In (value_of left x) (value_of right y) (new_names here left common) (λ n i. h n ((In-filter (λ m. not (among here (position_of left m))) n common).0 i).0)
           ∙ sym key_right,
       sides_by_names left x names
-          ∙ map_in (λ n. span_of (value_of left x n)) (λ n. span_of (value_of right y n)) names (λ n i. ap span_of (h n (to_common n (in_left n i) (in_right n i))))
+          ∙ map-In (λ n. span_of (value_of left x n)) (λ n. span_of (value_of right y n)) names (λ n i. ap span_of (h n (to_common n (in_left n i) (in_right n i))))
           ∙ sym (sides_by_names right y names),
     )
 

@@ -1,5 +1,5 @@
 -- Joined unpacked rows, packed, are the joined boxes: a joined row's box is that of its two parts.
-use Rattle.std.proofs.Common.{◌≡◌, ◌↔◌, ◌⊎◌, inl, inr, ℕ, zero, suc, ◌+◌, ◌<◌, true, false, ◌||◌, List, [], ◌∷◌, ◌++◌, map, length, get_or, refl, sym, ap, ap₂, ◌∙◌, subst, arith}
+use Rattle.std.proofs.Common.{◌≡◌, ◌↔◌, ◌⊎◌, inl, inr, ℕ, suc, ◌+◌, ◌<◌, true, false, ◌||◌, List, [], ◌∷◌, ◌++◌, map, length, get_or, refl, sym, ap, ap₂, ◌∙◌, subst, arith}
 use Rattle.std.specs.Bool.{IsTrue}
 use Rattle.std.specs.List.{filter}
 use Rattle.std.specs.Str.{bytes_eq}
@@ -8,6 +8,7 @@ use Rattle.std.proofs.lemmas.List.Folds.{list_any-append}
 use Rattle.base_core.proofs.SetLemmas.{In, Ascends, In-in_order, Ascends-in_order}
 use Rattle.base_core.proofs.MemberLemmas.{In-append, In-map, In-flat_map, In-filter}
 use Rattle.base_core.proofs.SetOperatorLemmas.{same_tests}
+use Rattle.base_core.proofs.ListLemmas.{In-get_or, map-In}
 use Rattle.point_core.specs.Points.{line_of}
 use Rattle.value_core.specs.Attributes.{value_at, span_of, among}
 use Rattle.value_core.specs.Headings.{has_name}
@@ -18,9 +19,10 @@ use Rattle.value_core.specs.declared.kind.Kind.{Kind}
 use Rattle.relation_core.specs.Agreement.{names_of, position_of, common_positions, part_of, agree}
 use Rattle.relation_core.specs.Joins.{joined_heading, HaveEqualKinds, joined_row, joined_pairs, joined}
 use Rattle.relation_core.specs.Parts.{no_attribute, kind_at, attributes_at, positions_in}
-use Rattle.relation_core.proofs.AttributeLemmas.{ties_by_name, both_tell, In-joined, joined_ascends}
+use Rattle.relation_core.proofs.AttributeLemmas.{ties_by_name, both_tell, In-joined, joined_ascends, to_name, of_name}
 use Rattle.relation_core.proofs.HeadingLemmas.{part_fits}
 use Rattle.relation_core.proofs.JoinLemmas.{value_of, value_of_part, fits_both}
+use Rattle.relation_core.proofs.AgreementLemmas.{position_within}
 use Rattle.packing_core.specs.Boxed.{Boxed, packed_boxes, unpacked_boxes}
 use Rattle.packing_core.specs.Covering.{Among}
 use Rattle.cell_core.proofs.PackedPlaces.{AllHave}
@@ -29,11 +31,11 @@ use Rattle.u_set.proofs.BoxLemmas.{value_at-get}
 use Rattle.u_set.proofs.BridgeLemmas.{AreRowsOf, boxes_have, unpacked_image, same_places, closed_by_boxes}
 use Rattle.u_row.specs.Kept.{inner}
 use Rattle.u_row.proofs.BeneathLemmas.{among_in, in_among}
-use Rattle.u_row.proofs.LabelLemmas.{map_in, label_of_kept, inner_within}
+use Rattle.u_row.proofs.LabelLemmas.{label_of_kept, inner_within}
 use Rattle.u_join.specs.Places.{positions_of_both}
 use Rattle.u_join.specs.Pairs.{meet, joined_label, joined_box, joined_boxes}
 use Rattle.u_join.proofs.AgreeingLemmas.{sides_by_names, agree_meet}
-use Rattle.u_join.proofs.NameLemmas.{name_back, position_in, position_at, position_front, position_behind, listed_name, to_name, of_name}
+use Rattle.u_join.proofs.NameLemmas.{name_back, position_at, position_front, position_behind, listed_name}
 use Rattle.u_join.proofs.PairPlaces.{joined_have}
 
 -- ---- positions of two lists, one behind the other
@@ -111,11 +113,6 @@ module _ (n : ℕ) (here there : List ℕ) (below : (i : ℕ) → In i here → 
 
 -- ---- headings
 
-get_in : {X : Type 0} (xs : List X) (j : ℕ) (d : X) → j < length xs → In (get_or xs j d) xs
-get_in [] j d l = absurd (omega arith)
-get_in (x ∷ xs) zero d l = inl refl
-get_in (x ∷ xs) (suc j) d l = inr (get_in xs j d (omega arith))
-
 named_append : (left right : Heading) (n : Name) → has_name (left ++ right) n ≡ (has_name left n || has_name right n)
 named_append left right n = list_any-append (λ a. bytes_eq a.0 n) left right
 
@@ -145,7 +142,7 @@ module _ (left right : Heading) (first : Ascends attribute_cmp left) (second : A
   below : (i : ℕ) → In i here → i < length left
   below i m =
       let w = (In-map (position_of left) i names).0 m in
-      subst (λ k. k < length left) (sym w.2) (position_in left w.0 (in_left w.0 w.1))
+      subst (λ k. k < length left) (sym w.2) (position_within left w.0 (in_left w.0 w.1))
 
   in_whole : (n : Name) → IsTrue (has_name whole n) ↔ IsTrue (has_name list n)
   in_whole n = (
@@ -173,7 +170,7 @@ module _ (left right : Heading) (first : Ascends attribute_cmp left) (second : A
       elim (has_name left n) as (λ b. has_name left n ≡ b → IsTrue (among both (position_of list n)) ↔ In n names) [
         | true ↦ λ f.
             let at : position_of list n ≡ position_of left n = position_front left right n f in
-            let same : among both (position_of list n) ≡ among here (position_of left n) = ap (among both) at ∙ listed_first (length left) here there below (position_of left n) (position_in left n f) in
+            let same : among both (position_of list n) ≡ among here (position_of left n) = ap (among both) at ∙ listed_first (length left) here there below (position_of left n) (position_within left n f) in
             let w = listed_name left names in_left n f in
             (λ t. w.0 (sym same ∙ t), λ i. same ∙ w.1 i)
         | false ↦ λ f.
@@ -194,7 +191,7 @@ module _ (left right : Heading) (first : Ascends attribute_cmp left) (second : A
       let name : get_or (names_of whole) m [] ≡ (get_or whole m no_attribute).0 = get_or-map (λ a. a.0) whole m no_attribute [] fewer in
       let place : get_or places m 0 ≡ position_of list n = get_or-map (position_of list) (names_of whole) m [] 0 few ∙ ap (position_of list) name in
       let own : position_of whole n ≡ m = position_at whole m (joined_ascends left right first second kinds) fewer in
-      let there_is : IsTrue (has_name whole n) = of_name whole n ((In-map (λ a. a.0) n whole).1 (get_or whole m no_attribute, get_in whole m no_attribute fewer, refl)) in
+      let there_is : IsTrue (has_name whole n) = of_name whole n ((In-map (λ a. a.0) n whole).1 (get_or whole m no_attribute, In-get_or whole m no_attribute fewer, refl)) in
       let a = listed_name whole names named n there_is in
       let b = listed_of_list n ((in_whole n).0 there_is) in
       ap (among acl) (sym own) ∙ same_tests (among acl (position_of whole n)) (among both (position_of list n)) (λ t. b.1 (a.0 t), λ t. a.1 (b.0 t)) ∙ ap (among both) (sym place)
@@ -202,7 +199,7 @@ module _ (left right : Heading) (first : Ascends attribute_cmp left) (second : A
   -- ---- the attributes and the labels of joined rows
 
   attribute_there : (h : Heading) (n : Name) → IsTrue (has_name h n) → In (get_or h (position_of h n) no_attribute) h
-  attribute_there h n e = get_in h (position_of h n) no_attribute (position_in h n e)
+  attribute_there h n e = In-get_or h (position_of h n) no_attribute (position_within h n e)
 
   one_attribute : (a b : Name × Kind) → In a list → In b list → a.0 ≡ b.0 → a ≡ b
   one_attribute a b i j e = both_tell left right first second kinds a b i j (ties_by_name a b e)
@@ -246,7 +243,7 @@ module _ (left right : Heading) (first : Ascends attribute_cmp left) (second : A
 
     value_joined : (n : Name) → In n names → value_of whole row n ≡ value_of left x n
     value_joined n i =
-        let l : position_of left n < length x = subst (λ k. position_of left n < k) (sym shaped.long) (position_in left n (in_left n i)) in
+        let l : position_of left n < length x = subst (λ k. position_of left n < k) (sym shaped.long) (position_within left n (in_left n i)) in
         value_of_part list whole (x ++ y) n (named n i)
         ∙ ap (λ k. get_or (x ++ y) k (truth false)) (position_front left right n (in_left n i))
         ∙ get_or_append_left x y (truth false) (position_of left n) l
@@ -254,7 +251,7 @@ module _ (left right : Heading) (first : Ascends attribute_cmp left) (second : A
     sides_joined : spans_at acl row ≡ spans_at here x
     sides_joined =
         sides_by_names whole row names
-        ∙ map_in (λ n. span_of (value_of whole row n)) (λ n. span_of (value_of left x n)) names (λ n i. ap span_of (value_joined n i))
+        ∙ map-In (λ n. span_of (value_of whole row n)) (λ n. span_of (value_of left x n)) names (λ n i. ap span_of (value_joined n i))
         ∙ sym (sides_by_names left x names)
 
     pub boxed_joined : boxed acl row ≡ joined_box (joined_label (inner both places)) (boxed here x) (boxed there y)
@@ -269,7 +266,7 @@ module _ (left right : Heading) (first : Ascends attribute_cmp left) (second : A
     places_in_list : (i : ℕ) → In i places → i < length list
     places_in_list i m =
         let w = (In-map (position_of list) i (names_of whole)).0 m in
-        subst (λ k. k < length list) (sym w.2) (position_in list w.0 ((in_whole w.0).0 (of_name whole w.0 w.1)))
+        subst (λ k. k < length list) (sym w.2) (position_within list w.0 ((in_whole w.0).0 (of_name whole w.0 w.1)))
 
     inner_in_label : (i : ℕ) → In i (inner both places) → i < length (others here left ++ others there right)
     inner_in_label i m =

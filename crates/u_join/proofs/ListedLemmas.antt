@@ -1,5 +1,5 @@
 -- Positions of the same attributes of two headings, and what matches and joins give by them.
-use Rattle.std.proofs.Common.{◌≡◌, ℕ, ◌<◌, List, [], ◌∷◌, ◌++◌, map, length, get_or, refl, sym, ap, ◌∙◌, subst, arith}
+use Rattle.std.proofs.Common.{◌≡◌, ℕ, ◌<◌, List, [], ◌∷◌, ◌++◌, map, length, get_or, refl, sym, ap, ◌∙◌, subst}
 use Rattle.std.specs.Bool.{IsTrue}
 use Rattle.std.specs.List.{All}
 use Rattle.std.specs.Str.{bytes_eq}
@@ -7,6 +7,7 @@ use Rattle.std.specs.Cmp.Lexicographic.{nat_list_eq_equiv}
 use Rattle.std.proofs.lemmas.List.{length-map}
 use Rattle.base_core.proofs.SetLemmas.{In, Ascends}
 use Rattle.base_core.proofs.MemberLemmas.{In-map}
+use Rattle.base_core.proofs.ListLemmas.{In-get_or, map-In}
 use Rattle.value_core.specs.Headings.{has_name}
 use Rattle.value_core.specs.RowPacking.{packed, unpacked}
 use Rattle.value_core.specs.Values.{Name, Heading, Row, attribute_cmp, row_cmp}
@@ -14,30 +15,27 @@ use Rattle.value_core.specs.declared.kind.Kind.{Kind}
 use Rattle.relation_core.specs.Agreement.{names_of, position_of, common_positions, matched, unmatched}
 use Rattle.relation_core.specs.Joins.{joined_heading, HaveEqualKinds, joined}
 use Rattle.relation_core.specs.Parts.{no_attribute, kind_at, attributes_at, positions_in}
-use Rattle.relation_core.proofs.AttributeLemmas.{one_attribute, joined_ascends}
+use Rattle.relation_core.proofs.AttributeLemmas.{one_attribute, joined_ascends, of_name}
+use Rattle.relation_core.proofs.AgreementLemmas.{position_within}
 use Rattle.packing_core.specs.Boxed.{Boxed, packed_boxes, unpacked_boxes}
 use Rattle.u_set.specs.Boxes.{AreIntervals, IsShaped, type_of, types_at, boxed}
 use Rattle.u_set.proofs.BridgeLemmas.{AreRowsOf}
 use Rattle.u_row.specs.Kept.{inner}
-use Rattle.u_row.proofs.BeneathLemmas.{in_all, get_in}
-use Rattle.u_row.proofs.LabelLemmas.{map_in, map_twice}
+use Rattle.u_row.proofs.BeneathLemmas.{in_all}
+use Rattle.u_row.proofs.LabelLemmas.{map_twice}
 use Rattle.u_join.specs.Pairs.{matched_boxes, unmatched_boxes, joined_label, joined_boxes}
 use Rattle.u_join.specs.Places.{positions_of_both}
 use Rattle.u_join.proofs.AgreeingLemmas.{keys_alike}
 use Rattle.u_join.proofs.JoinedLemmas.{joined_rows}
 use Rattle.u_join.proofs.MatchedLemmas.{matched_rows, unmatched_rows}
-use Rattle.u_join.proofs.NameLemmas.{name_back, position_at, position_in, of_name}
-
-pub nothing : {X : Type 0} (xs : List X) → length xs ≡ 0 → xs ≡ []
-nothing [] e = refl
-nothing (x ∷ xs) e = absurd (omega (arith, e))
+use Rattle.u_join.proofs.NameLemmas.{name_back, position_at}
 
 -- positions come back from the names at them
 pub positions_back : (heading : Heading) (acl : List ℕ) → Ascends attribute_cmp heading → All (λ (i : ℕ). i < length heading) acl → acl ≡ map (position_of heading) (names_of (attributes_at acl heading))
 positions_back heading acl up within =
     sym (ap (map (position_of heading)) (map_twice (λ (a : Name × Kind). a.0) (λ i. get_or heading i no_attribute) acl)
     ∙ map_twice (position_of heading) (λ i. (get_or heading i no_attribute).0) acl
-    ∙ map_in (λ i. position_of heading (get_or heading i no_attribute).0) (λ i. i) acl (λ i m. position_at heading i up (in_all (λ (j : ℕ). j < length heading) acl within i m))
+    ∙ map-In (λ i. position_of heading (get_or heading i no_attribute).0) (λ i. i) acl (λ i m. position_at heading i up (in_all (λ (j : ℕ). j < length heading) acl within i m))
     ∙ map_own acl)
   where
     map_own : (is : List ℕ) → map (λ (i : ℕ). i) is ≡ is
@@ -49,7 +47,7 @@ named_at heading acl within n m =
     let a = (In-map (λ (b : Name × Kind). b.0) n (attributes_at acl heading)).0 m in
     let i = (In-map (λ j. get_or heading j no_attribute) a.0 acl).0 a.1 in
     let l = in_all (λ (j : ℕ). j < length heading) acl within i.0 i.1 in
-    of_name heading n ((In-map (λ (b : Name × Kind). b.0) n heading).1 (a.0, subst (λ b. In b heading) (sym i.2) (get_in heading i.0 no_attribute l), a.2))
+    of_name heading n ((In-map (λ (b : Name × Kind). b.0) n heading).1 (a.0, subst (λ b. In b heading) (sym i.2) (In-get_or heading i.0 no_attribute l), a.2))
 
 -- the same attributes have the same types
 pub same_types : (left right : Heading) (here there : List ℕ) → attributes_at here left ≡ attributes_at there right → types_at right there ≡ types_at left here
@@ -104,7 +102,7 @@ module _ (left right : Heading) (here there : List ℕ) (same : attributes_at he
       let b : Name × Kind = get_or right (position_of right n) no_attribute in
       let e : a.0 ≡ b.0 = name_back left n l ∙ sym (name_back right n r) in
       let t : IsTrue (bytes_eq a.0 b.0) = ap (bytes_eq a.0) (sym e) ∙ nat_list_eq_equiv.refl a.0 in
-      ap (λ (c : Name × Kind). c.1) (one_attribute left right a b kinds (get_in left (position_of left n) no_attribute (position_in left n l)) (get_in right (position_of right n) no_attribute (position_in right n r)) t)
+      ap (λ (c : Name × Kind). c.1) (one_attribute left right a b kinds (In-get_or left (position_of left n) no_attribute (position_within left n l)) (In-get_or right (position_of right n) no_attribute (position_within right n r)) t)
 
   module _ (r s : List Row) (up : Ascends row_cmp r) (up' : Ascends row_cmp s)
       (shaped : (x : Row) → In x r → IsShaped left here x) (shaped' : (x : Row) → In x s → IsShaped right there x) where

@@ -8,15 +8,15 @@ use Rattle.std.specs.Str.{bytes_eq}
 use Rattle.std.proofs.lemmas.Bool.{true≢false}
 use Rattle.std.proofs.lemmas.List.{length-map}
 use Rattle.base_core.proofs.SetLemmas.{In, Ascends}
-use Rattle.base_core.proofs.MemberLemmas.{In-map, list_any-In}
+use Rattle.base_core.proofs.MemberLemmas.{In-map}
 use Rattle.base_core.proofs.SetOperatorLemmas.{AllAfter-In}
 use Rattle.value_core.specs.Attributes.{among}
 use Rattle.value_core.specs.Headings.{has_name}
 use Rattle.value_core.specs.Values.{Name, Heading, Row, truth, attribute_cmp}
 use Rattle.value_core.specs.declared.kind.Kind.{Kind}
-use Rattle.relation_core.specs.Agreement.{names_of, position_of, part_of}
+use Rattle.relation_core.specs.Agreement.{position_of, part_of}
 use Rattle.relation_core.specs.Parts.{no_attribute}
-use Rattle.relation_core.proofs.AttributeLemmas.{name_is, named_In}
+use Rattle.relation_core.proofs.AttributeLemmas.{name_is}
 use Rattle.relation_core.proofs.JoinLemmas.{value_of}
 use Rattle.u_set.specs.Boxes.{others}
 use Rattle.u_row.specs.Kept.{place_in_label, unlisted, inner}
@@ -32,14 +32,6 @@ name_back (a ∷ rest) n e =
       | true ↦ λ h k. name_is a.0 n h
       | false ↦ λ h k. name_back rest n k
     ]) refl e
-
-pub position_in : (heading : Heading) (n : Name) → IsTrue (has_name heading n) → position_of heading n < length heading
-position_in [] n e = absurd (true≢false (sym e))
-position_in (a ∷ rest) n e =
-    (elim (bytes_eq a.0 n) as (λ b. IsTrue (b || has_name rest n) → (if b then 0 else suc (position_of rest n)) < suc (length rest)) [
-      | true ↦ λ k. omega arith
-      | false ↦ λ k. let w = position_in rest n k in omega (arith, w)
-    ]) e
 
 pub one_name : (heading : Heading) (m n : Name) → IsTrue (has_name heading m) → IsTrue (has_name heading n) → position_of heading m ≡ position_of heading n → m ≡ n
 one_name heading m n g h e = sym (name_back heading m g) ∙ ap (λ i. (get_or heading i no_attribute).0) e ∙ name_back heading n h
@@ -157,13 +149,3 @@ listed_name heading names all n h = (
       subst (λ m. In m names) (sym (one_name heading n w.0 h (all w.0 w.1) w.2)) w.1,
   λ i. in_among (map (position_of heading) names) (position_of heading n) ((In-map (position_of heading) (position_of heading n) names).1 (n, i, refl)),
 )
-
-pub to_name : (heading : Heading) (n : Name) → IsTrue (has_name heading n) → In n (names_of heading)
-to_name heading n e =
-    let w = (list_any-In (λ b. bytes_eq b.0 n) heading).0 e in
-    (In-map (λ b. b.0) n heading).1 (w.0, w.1, sym (name_is w.0.0 n w.2))
-
-pub of_name : (heading : Heading) (n : Name) → In n (names_of heading) → IsTrue (has_name heading n)
-of_name heading n i =
-    let a = (In-map (λ b. b.0) n heading).0 i in
-    subst (λ m. IsTrue (has_name heading m)) (sym a.2) (named_In heading a.0 a.1)

@@ -21,7 +21,8 @@ use Rattle.value_core.specs.Values.{Row, Heading, row_cmp}
 use Rattle.point_core.specs.LeastFault.{lesser_of}
 use Rattle.relation_core.specs.Faults.{fault_of}
 use Rattle.relation_core.specs.Growth.{touched}
-use Rattle.relation_core.specs.Operators.{fault_order, is_true, restricted, subtracted, united}
+use Rattle.relation_core.specs.Operators.{is_true, restricted, subtracted, united}
+use Rattle.point_core.specs.Orders.{fault_order}
 use Rattle.packing_core.specs.Packed.{firsts}
 use Rattle.u_set.specs.Apart.{outside}
 use Rattle.u_set.specs.Boxes.{AreIntervals, others, spans_at}
@@ -30,8 +31,9 @@ use Rattle.u_set.proofs.PlaceLemmas.{opened_at, opened_shaped}
 use Rattle.u_row.proofs.BeneathLemmas.{in_all}
 use Rattle.u_constraints.proofs.GrownPackedLemmas.{fewer_rows}
 use Rattle.u_constraints.proofs.PackedLemmas.{packed_already}
+use Rattle.u_constraints.proofs.GrowthLemmas.{In-subtracted}
 use Rattle.u_labels.proofs.LabelLemmas.{IsSet, HasPlace, box_among, knows, packed_set, none_packed, same_packed, part_known, place_known}
-use Rattle.u_labels.proofs.ExchangeLemmas.{In-subtracted, either, joined}
+use Rattle.u_labels.proofs.ExchangeLemmas.{either, joined}
 
 -- ---- the least fault, where some tests have none
 

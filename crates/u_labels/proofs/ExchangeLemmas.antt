@@ -9,7 +9,7 @@ use Rattle.std.specs.List.{filter}
 use Rattle.base_core.specs.Sets.{has}
 use Rattle.base_core.proofs.SetLemmas.{In, Ascends, same_by_members}
 use Rattle.base_core.proofs.MemberLemmas.{In-filter, has-In}
-use Rattle.base_core.proofs.SetOperatorLemmas.{In-union_of, In-difference_of, Ascends-union_of, Ascends-difference_of, Ascends-filter}
+use Rattle.base_core.proofs.SetOperatorLemmas.{In-union_of, Ascends-union_of, Ascends-difference_of, Ascends-filter}
 use Rattle.value_core.specs.Order.{row_total, row_separates}
 use Rattle.value_core.specs.RowPacking.{packed}
 use Rattle.value_core.specs.Values.{Row, Heading, row_cmp}
@@ -18,12 +18,10 @@ use Rattle.u_set.specs.Boxes.{AreIntervals, others}
 use Rattle.u_constraints.specs.Growth.{exchanged}
 use Rattle.u_constraints.proofs.GrownKeyLemmas.{In-exchanged}
 use Rattle.u_constraints.proofs.TouchedLemmas.{within_length}
+use Rattle.u_constraints.proofs.GrowthLemmas.{In-subtracted}
 use Rattle.u_labels.proofs.LabelLemmas.{IsSet, packed_set, both, both_set, knows, part, part_known, part_set, known_packed, unknown_packed, packed_known}
 
 -- ---- how many
-
-pub In-subtracted : (a b : List Row) (x : Row) → In x (subtracted a b) ↔ (In x a × (In x b → ⊥))
-In-subtracted a b x = In-difference_of row_cmp row_total row_separates x a b
 
 -- members that pass a test, and those that do not
 parted : (p : Row → Bool) (xs : List Row) → length (filter p xs) + length (filter (λ x. not (p x)) xs) ≡ length xs

@@ -1,43 +1,25 @@
 -- What the insertion under USING by labels comes to, from what its calls answer.
---     outside_within      the positions of a label are some of the heading
 --     refused_new, refused_come, refused_gone      a refusal on the way is one of all
 --     insertion_cost, insertion_counted, insertion_rows
-use Rattle.std.proofs.Common.{◌≡◌, inl, inr, ℕ, suc, ◌+◌, ◌<◌, ◌≤◌, true, false, List, [], ◌∷◌, length, sym, ap, ap₂, ◌∙◌, subst, arith}
-use Rattle.std.specs.List.{All}
-use Rattle.base_core.proofs.SetLemmas.{In, Ascends-from_sorted}
-use Rattle.value_core.specs.Attributes.{among}
+use Rattle.std.proofs.Common.{◌≡◌, ℕ, ◌+◌, ◌≤◌, List, length, sym, ap, ap₂, ◌∙◌, subst, arith}
+use Rattle.base_core.proofs.SetLemmas.{Ascends-from_sorted}
 use Rattle.value_core.specs.RowPacking.{packed, unpacked}
-use Rattle.value_core.specs.Values.{Row, Heading, Relation, IsRelation, most_rows, row_cmp}
+use Rattle.value_core.specs.Values.{Row, Relation, IsRelation, most_rows, row_cmp}
 use Rattle.value_core.specs.declared.refuse.RowsRefuse.{RowsRefuse}
 use Rattle.value_core.specs.declared.refuse.RowsRefuse.TheVariants.{TooMany, Memory}
 use Rattle.relation_core.specs.Answers.{IsRefusal}
 use Rattle.relation_core.specs.Growth.{touched}
 use Rattle.relation_core.specs.Operators.{subtracted, united}
 use Rattle.cell_core.specs.Costs.{bound}
-use Rattle.u_set.specs.Apart.{outside_from, outside}
-use Rattle.u_set.specs.Boxes.{AreIntervals, unless}
+use Rattle.u_set.specs.Apart.{outside}
+use Rattle.u_set.specs.Boxes.{AreIntervals}
 use Rattle.u_set.proofs.RelationLemmas.{relation_shaped, shaped_under}
-use Rattle.u_row.proofs.BeneathLemmas.{all_in}
 use Rattle.u_constraints.specs.Growth.{exchanged}
 use Rattle.u_constraints.proofs.BoundLemmas.{bound_grows}
 use Rattle.u_labels.proofs.LabelLemmas.{IsSet}
 use Rattle.u_labels.proofs.ExchangeLemmas.{is_counted, new_within, come_within, gone_within, old_within, exchanged_is}
 
 -- ---- the positions of a label
-
-in_outside : (n : ℕ) (acl : List ℕ) (heading : Heading) (i : ℕ) → In i (outside_from n acl heading) → i < n + length heading
-in_outside n acl [] i m = absurd m
-in_outside n acl (a ∷ heading) i m =
-    let rest : List ℕ = outside_from (suc n) acl heading in
-    let more : In i rest → i < n + suc (length heading) = λ j. let l = in_outside (suc n) acl heading i j in omega (arith, l) in
-    elim (among acl n) as (λ b. In i (unless b n rest) → i < n + suc (length heading)) [
-      | true ↦ more
-      | false ↦ λ j. elim j [ inl e ↦ omega (arith, e) | inr k ↦ more k ]
-    ] m
-
-pub outside_within : (acl : List ℕ) (heading : Heading) (positions : List ℕ) → positions ≡ outside acl heading → All (λ (i : ℕ). i < length heading) positions
-outside_within acl heading positions same =
-    subst (All (λ (i : ℕ). i < length heading)) (sym same) (all_in (λ (i : ℕ). i < length heading) (outside acl heading) (λ i m. let l = in_outside 0 acl heading i m in omega (arith, l)))
 
 -- ---- what the calls come to
 

@@ -8,7 +8,7 @@ use Rattle.std.proofs.lemmas.Bool.{true≢false, or_cases, or_left, or_right}
 use Rattle.base_core.specs.Sets.{has, is_within}
 use Rattle.base_core.proofs.SetLemmas.{In, Ascends, Ascends-from_sorted, same_by_members}
 use Rattle.base_core.proofs.MemberLemmas.{has-In}
-use Rattle.base_core.proofs.SetOperatorLemmas.{In-union_of, Ascends-union_of, Ascends-difference_of, is_within-In}
+use Rattle.base_core.proofs.SetOperatorLemmas.{Ascends-union_of, Ascends-difference_of, is_within-In}
 use Rattle.value_core.specs.Order.{row_total, row_separates}
 use Rattle.value_core.specs.RowPacking.{packed, unpacked}
 use Rattle.value_core.specs.Values.{Row, Heading, Relation, IsRelation, most_rows, row_cmp}
@@ -24,8 +24,9 @@ use Rattle.u_constraints.specs.Growth.{exchanged}
 use Rattle.u_constraints.proofs.BoundLemmas.{bound_grows}
 use Rattle.u_constraints.proofs.GrownKeyLemmas.{In-exchanged}
 use Rattle.u_constraints.proofs.TouchedLemmas.{within_length}
+use Rattle.u_constraints.proofs.GrowthLemmas.{In-united, In-subtracted}
 use Rattle.u_labels.proofs.LabelLemmas.{IsSet, HasPlace, box_among, knows, both, both_set, both_places, packed_set, none_packed, same_packed, part_known, place_known}
-use Rattle.u_labels.proofs.ExchangeLemmas.{In-subtracted, counted, either}
+use Rattle.u_labels.proofs.ExchangeLemmas.{counted, either}
 use Rattle.u_labels.proofs.InsertionLemmas.{smaller_refused, not_refused}
 use Rattle.u_labels.proofs.ChangeLemmas.{part_set, known_part, rest_set, rest_unknown, rest_packed}
 
@@ -34,9 +35,6 @@ pub in_or_not : (x : Row) (rows : List Row) → In x rows ⊎ (In x rows → ⊥
 in_or_not x rows =
     let h = has-In row_cmp row_total row_separates rows x in
     elim (either (has row_cmp rows x)) [ inl t ↦ inl (h.0 t) | inr e ↦ inr (λ i. true≢false (sym (h.1 i) ∙ e)) ]
-
-In-united : (a b : List Row) (x : Row) → In x (united a b) ↔ (In x a ⊎ In x b)
-In-united a b x = In-union_of row_cmp row_total row_separates x a b
 
 -- ---- rows that give way to others
 
@@ -93,9 +91,6 @@ module _ (heading : Heading) (acl : List ℕ) (intervals : AreIntervals heading 
   abbrev Place : List Row → Row → List ℤ → Type 0
   Place = HasPlace heading acl intervals
 
-  sp : IsSet heading acl intervals part
-  sp = part_set heading acl intervals value part sv closed
-
   abbrev rest : List Row
   rest = subtracted value part
 
@@ -139,7 +134,7 @@ module _ (heading : Heading) (acl : List ℕ) (intervals : AreIntervals heading 
   of_added = knows heading acl intervals value added sv sa
 
   abbrev of_part : Row → Bool
-  of_part = knows heading acl intervals value part sv sp
+  of_part = knows heading acl intervals value part sv (part_set heading acl intervals value part sv closed)
 
   abbrev known : Row → Bool
   known l = of_added l || of_part l
@@ -154,7 +149,7 @@ module _ (heading : Heading) (acl : List ℕ) (intervals : AreIntervals heading 
       )
 
   left_known : (x : Row) → In x left → IsTrue (of_part (others acl x))
-  left_known x i = ((part_known heading acl intervals left part sl sp x).0 (subst (λ (rows : List Row). In x rows) (sym labels) i)).1
+  left_known x i = ((part_known heading acl intervals left part sl (part_set heading acl intervals value part sv closed) x).0 (subst (λ (rows : List Row). In x rows) (sym labels) i)).1
 
   after_set : IsSet heading acl intervals after
   after_set = (

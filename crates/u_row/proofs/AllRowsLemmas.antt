@@ -7,9 +7,8 @@ use Rattle.std.proofs.lemmas.List.{drop_more, length-append, length-map}
 use Rattle.std.proofs.lemmas.List.Elements.{All-head, All-tail, recursion_from_All}
 use Rattle.std.specs.Cmp.{IsTotalOrder}
 use Rattle.std.specs.declared.cmp.Ordering.TheVariants.{Less}
-use Rattle.std.specs.List.{All, AllByRecursion, flat_map}
+use Rattle.std.specs.List.{All, AllByRecursion}
 use Rattle.std.specs.List.Sorted.{IsStrictlySortedBy}
-use Rattle.std.specs.Result.{IfOk}
 use Rattle.base_core.proofs.SetLemmas.{AllAfter, Ascends, Separates}
 use Rattle.point_core.specs.Digits.{binary_digits}
 use Rattle.point_core.specs.declared.fault.Fault.{Fault}
@@ -17,9 +16,13 @@ use Rattle.interval_core.specs.Members.{Span}
 use Rattle.packing_core.specs.Boxed.{Boxed, boxed_cmp, packed_boxes, InBoxes}
 use Rattle.packing_core.specs.Covering.{Among}
 use Rattle.packing_core.specs.Packed.{Has, firsts, points_of}
-use Rattle.packing_core.proofs.AmongLemmas.{among_append}
 use Rattle.packing_core.proofs.PackedBoxes.{in_packed_form, packed_ascends}
+<<<<<<< HEAD
 use Rattle.point_core.specs.LeastFault.{IsLeast}
+=======
+use Rattle.slice_core.specs.LeastFault.{IsLeast}
+use Rattle.slice_core.proofs.Turns.{least_iff}
+>>>>>>> ef085be6f7c97d57563d20c59e71dc557db76b7e
 use Rattle.cell_core.specs.Boxes.{IsBox}
 use Rattle.cell_core.specs.Cells.{box_numbers, row_numbers}
 use Rattle.cell_core.specs.Costs.{bound, side_cost}
@@ -27,12 +30,13 @@ use Rattle.cell_core.specs.Numbering.{numbers_of}
 use Rattle.cell_core.proofs.BackLemmas.{box_length}
 use Rattle.cell_core.proofs.KeyLemmas.{rows_have}
 use Rattle.cell_core.proofs.OrderLemmas.{boxed_total, boxed_separates}
-use Rattle.cell_core.proofs.PackedPlaces.{AllHave}
+use Rattle.cell_core.proofs.PackedPlaces.{AllHave, both_boxes}
 use Rattle.cell_core.proofs.StepLemmas.{sort_within}
 use Rattle.cell_core.proofs.Theorem.{packs-iff, points-iff}
+use Rattle.cell_core.proofs.Listing.{length_each}
 use Rattle.u_row.specs.Cutting.{AreCutsFrom, pieces, cells_from, cells_of, cuts_from, count_cells, count_cuts}
 use Rattle.u_row.specs.Rules.{given, labelled, InRule, HasRuleFault, sides_numbers, IsRuleForm}
-use Rattle.u_row.proofs.RuleLemmas.{labelled_places, least_chain, least_same}
+use Rattle.u_row.proofs.RuleLemmas.{labelled_places, least_chain}
 
 -- ---- the rows before a number
 
@@ -41,12 +45,6 @@ InRuleBelow f boxes i l place = (r : ℕ) × (r < i) × Has (get_or boxes r []) 
 
 abbrev pub HasFaultBelow : {L F : Type 0} → (ℕ → List ℤ → Result (Option L) F) → List (List Span) → ℕ → F → Type 0
 HasFaultBelow f boxes i e = (r : ℕ) × (place : List ℤ) × (r < i) × Has (get_or boxes r []) place × (f r place ≡ Err e)
-
-pub both_boxes : {L : Type 0} (xs ys : List (Boxed L)) (l : L) (place : List ℤ) → InBoxes (xs ++ ys) l place ↔ InBoxes xs l place ⊎ InBoxes ys l place
-both_boxes xs ys l place = (
-  λ w. elim ((among_append (l, w.0) xs ys).0 w.1) [ inl m ↦ inl (w.0, m, w.2) | inr m ↦ inr (w.0, m, w.2) ],
-  λ w. elim w [ inl v ↦ (v.0, (among_append (l, v.0) xs ys).1 (inl v.1), v.2) | inr v ↦ (v.0, (among_append (l, v.0) xs ys).1 (inr v.1), v.2) ],
-)
 
 pub sides_at : {L P : Type 0} (n : P → ℤ) (rows : List (L × List (P × P))) (i : ℕ) (x : L × List (P × P)) → i < length rows → x ≡ get_or rows i x → get_or (sides_numbers n rows) i [] ≡ box_numbers n x.1
 sides_at n [] i x l e = absurd (omega arith)
@@ -95,7 +93,7 @@ pub fault_step : {L : Type 0} (f : ℕ → List ℤ → Result (Option L) Fault)
 fault_step f boxes i box at a b ha hb =
     let Q : Fault → Type 0 = HasFaultBelow f boxes i in
     let M : Fault → Type 0 = λ e. (place : List ℤ) × Has box place × (f i place ≡ Err e) in
-    least_same (λ e. Q e ⊎ M e) (HasFaultBelow f boxes (i + 1)) b (fault_places f boxes i box at) (least_chain Q M a b ha hb)
+    least_iff (λ e. Q e ⊎ M e) (HasFaultBelow f boxes (i + 1)) b (fault_places f boxes i box at) (least_chain Q M a b ha hb)
 
 -- ---- one row
 
@@ -162,14 +160,6 @@ cuts_more cuts boxes i box l at =
     let s : suc i ≡ i + 1 = omega arith in
     ap (count_cuts cuts i) (drop_more boxes i [] l) ∙ (λ t. cuts_from (cuts i) 0 (at t) + count_cuts cuts (s t) (drop (i + 1) boxes))
 
-length_flat : {X Y : Type 0} (f : X → List Y) (m : ℕ) → ((x : X) → length (f x) ≡ m) → (xs : List X) → length (flat_map f xs) ≡ length xs * m
-length_flat f m h [] = omega arith
-length_flat f m h (x ∷ xs) =
-    let e = length-append (f x) (flat_map f xs) in
-    let one = h x in
-    let rest = length_flat f m h xs in
-    omega (arith, e, one, rest)
-
 length_pieces : (b e : ℤ) (cs : List ℤ) → length (pieces b e cs) ≡ suc (length cs)
 length_pieces b e [] = refl
 length_pieces b e (c ∷ cs) = ap suc (length_pieces c e cs)
@@ -177,7 +167,7 @@ length_pieces b e (c ∷ cs) = ap suc (length_pieces c e cs)
 pub length_cells : (cuts : ℕ → List ℤ) (j : ℕ) (i : Span) (is : List Span) → length (cells_from cuts j (i ∷ is)) ≡ suc (length (cuts j)) * length (cells_from cuts (suc j) is)
 length_cells cuts j i is =
     let rest : List (List Span) = cells_from cuts (suc j) is in
-    length_flat (λ (p : Span). map (λ ps. p ∷ ps) rest) (length rest) (λ p. length-map rest (λ ps. p ∷ ps)) (pieces i.0 i.1 (cuts j)) ∙ ap (λ m. m * length rest) (length_pieces i.0 i.1 (cuts j))
+    length_each (λ (p : Span). map (λ ps. p ∷ ps) rest) (length rest) (λ p. length-map rest (λ ps. p ∷ ps)) (pieces i.0 i.1 (cuts j)) ∙ ap (λ m. m * length rest) (length_pieces i.0 i.1 (cuts j))
 
 some_cells : (cuts : ℕ → List ℤ) (j : ℕ) (box : List Span) → 1 ≤ length (cells_from cuts j box)
 some_cells cuts j [] = omega arith
@@ -265,7 +255,3 @@ rule_form order o same k f boxes cells have h = record {
       let s = packs-iff k (points_of (InBoxes cells x.0)) (points_of (InRule f boxes x.0)) (points-iff (InBoxes cells x.0) (InRule f boxes x.0) (h x.0)) x.1 in
       (λ m. let v = a.0 m in (v.0, s.0 v.1), λ v. a.1 (v.0, s.1 v.1));
 }
-
-pub if_ok : {X E : Type 0} (P Q : X → Type 0) → ((x : X) → P x → Q x) → (r : Result X E) → IfOk r P → IfOk r Q
-if_ok P Q h (Ok x) p = h x p
-if_ok P Q h (Err e) p = tt

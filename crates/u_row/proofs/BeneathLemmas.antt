@@ -6,10 +6,12 @@ use Rattle.std.specs.List.{All, AllByRecursion, IsDistinct}
 use Rattle.std.specs.Ordering.{nat_cmp}
 use Rattle.std.proofs.lemmas.Bool.{true≢false, eqb-true, eqb-false, eq-eqb}
 use Rattle.std.proofs.lemmas.List.{get_or-map}
-use Rattle.std.proofs.lemmas.List.Elements.{Contains-get_or, All-from_recursion}
-use Rattle.base_core.proofs.SetLemmas.{In, Ascends, In-from_Contains}
+use Rattle.std.proofs.lemmas.List.Elements.{All-from_recursion}
+use Rattle.base_core.proofs.SetLemmas.{In, Ascends}
 use Rattle.base_core.proofs.MemberLemmas.{In-map, list_any-In}
 use Rattle.base_core.proofs.SetOperatorLemmas.{AllAfter-In, same_tests}
+use Rattle.base_core.proofs.OrderingLemmas.{nat_cmp-lt}
+use Rattle.base_core.proofs.ListLemmas.{In-get_or, All-In}
 use Rattle.value_core.specs.Attributes.{among}
 use Rattle.value_core.specs.Values.{Heading}
 use Rattle.value_core.specs.declared.kind.Kind.{Kind}
@@ -17,21 +19,17 @@ use Rattle.value_core.specs.declared.kind.Kind.TheVariants.{Span as SpanOf}
 use Rattle.relation_core.specs.Parts.{no_attribute, kind_at, attributes_at}
 use Rattle.u_set.specs.Boxes.{AreIntervals, type_of}
 use Rattle.u_row.specs.Kept.{beneath}
-use Rattle.relation_core.proofs.HeadingLemmas.{less_than}
 
 -- ---- ascending positions differ
-
-pub get_in : {X : Type 0} (xs : List X) (j : ℕ) (d : X) → j < length xs → In (get_or xs j d) xs
-get_in xs j d l = In-from_Contains xs (get_or xs j d) (Contains-get_or xs j d l)
 
 pub one_position : (kept : List ℕ) (i j : ℕ) → Ascends nat_cmp kept → i < length kept → j < length kept → get_or kept i 0 ≡ get_or kept j 0 → i ≡ j
 one_position [] i j up l m e = absurd (omega arith)
 one_position (k ∷ kept) zero zero up l m e = refl
 one_position (k ∷ kept) zero (suc j) up l m e =
-    let less : k < get_or kept j 0 = less_than k (get_or kept j 0) ((AllAfter-In nat_cmp k kept).0 up.0 (get_or kept j 0) (get_in kept j 0 (omega arith))) in
+    let less : k < get_or kept j 0 = nat_cmp-lt k (get_or kept j 0) ((AllAfter-In nat_cmp k kept).0 up.0 (get_or kept j 0) (In-get_or kept j 0 (omega arith))) in
     absurd (omega (arith, less, e))
 one_position (k ∷ kept) (suc i) zero up l m e =
-    let less : k < get_or kept i 0 = less_than k (get_or kept i 0) ((AllAfter-In nat_cmp k kept).0 up.0 (get_or kept i 0) (get_in kept i 0 (omega arith))) in
+    let less : k < get_or kept i 0 = nat_cmp-lt k (get_or kept i 0) ((AllAfter-In nat_cmp k kept).0 up.0 (get_or kept i 0) (In-get_or kept i 0 (omega arith))) in
     absurd (omega (arith, less, e))
 one_position (k ∷ kept) (suc i) (suc j) up l m e = ap suc (one_position kept i j up.1 (omega arith) (omega arith) e)
 
@@ -44,9 +42,6 @@ among_in acl i h =
 
 pub in_among : (acl : List ℕ) (i : ℕ) → In i acl → IsTrue (among acl i)
 in_among acl i m = (list_any-In (nat_eq i) acl).1 (i, m, eq-eqb i i refl)
-
-pub all_in : {X : Type 0} (P : X → Type 0) (xs : List X) → ((x : X) → In x xs → P x) → All P xs
-all_in P xs h = λ j d l. h (get_or xs j d) (get_in xs j d l)
 
 pub in_all : {X : Type 0} (P : X → Type 0) (xs : List X) → All P xs → (x : X) → In x xs → P x
 in_all P [] h x m = absurd m
@@ -111,7 +106,7 @@ module _ (from : Heading) (kept acl : List ℕ) (within : All (λ (i : ℕ). i <
         subst (λ k. kind_at from k ≡ SpanOf (type_of (kind_at from k))) (sym w.2) there,
       ) in
       record {
-        within = all_in (λ (i : ℕ). i < length from) (beneath kept acl) (λ i m. (one i m).0);
+        within = All-In (λ (i : ℕ). i < length from) (beneath kept acl) (λ i m. (one i m).0);
         different = beneath_differ acl below intervals.different;
-        spans = all_in (λ (i : ℕ). kind_at from i ≡ SpanOf (type_of (kind_at from i))) (beneath kept acl) (λ i m. (one i m).1);
+        spans = All-In (λ (i : ℕ). kind_at from i ≡ SpanOf (type_of (kind_at from i))) (beneath kept acl) (λ i m. (one i m).1);
       }

@@ -2,18 +2,16 @@
 use Rattle.std.proofs.Common.{◌≡◌, ℕ, zero, suc, ◌+◌, ◌≤◌, ◌<◌, ℤ, pos, ◌+ℤ◌, ◌-ℤ◌, ◌<ℤ◌, ◌≤ℤ◌, List, [], ◌∷◌, ◌++◌, map, drop, get_or, length, refl, sym, ap, ◌∙◌, subst, inl, inr, arith}
 use Rattle.std.proofs.lemmas.Int.{ints, by_lt_z}
 use Rattle.std.specs.List.{All, AllByRecursion, flat_map}
-use Rattle.std.proofs.lemmas.List.{drop_more, length-map}
+use Rattle.std.proofs.lemmas.List.{length-map}
 use Rattle.std.proofs.lemmas.List.Elements.{recursion_from_All}
 use Rattle.interval_core.specs.Members.{Span, HasEndsIn}
+use Rattle.relation_core.proofs.FilterLemmas.{head_of}
 use Rattle.packing_core.specs.Covering.{Among}
 use Rattle.packing_core.proofs.AmongLemmas.{among_map, among_flat}
 use Rattle.cell_core.specs.Boxes.{IsBox}
 use Rattle.cell_core.specs.Cells.{box_numbers, boxes_of}
 use Rattle.cell_core.specs.Numbering.{numbers_of}
 use Rattle.u_row.specs.Cutting.{AreCuts, pieces, cells_from, cuts_from}
-
-pub next_split : {X : Type 0} (xs : List X) (i : ℕ) (x : X) → i < length xs → x ≡ get_or xs i x → drop i xs ≡ x ∷ drop (i + 1) xs
-next_split xs i x l e = drop_more xs i x l ∙ (λ t. sym e t ∷ drop (i + 1) xs)
 
 -- one more piece
 pub piece_step : {P : Type 0} (n : P → ℤ) (e : ℤ) (b c : P) (cs : List P) (out : List (P × P)) (piece : P × P) → piece.0 ≡ b → n piece.1 +ℤ pos 1 ≡ n c
@@ -66,7 +64,7 @@ piece_some b e (c ∷ cs) o h i m =
 pub flat_step : {X Y : Type 0} (f : X → List Y) (xs : List X) (i : ℕ) (x : X) (out new : List Y) → i < length xs → x ≡ get_or xs i x → new ≡ out ++ f x
     → new ++ flat_map f (drop (i + 1) xs) ≡ out ++ flat_map f (drop i xs)
 flat_step f xs i x out new l e push =
-    (λ t. push t ++ flat_map f (drop (i + 1) xs)) ∙ assoc out ∙ ap (λ ys. out ++ flat_map f ys) (sym (next_split xs i x l e))
+    (λ t. push t ++ flat_map f (drop (i + 1) xs)) ∙ assoc out ∙ ap (λ ys. out ++ flat_map f ys) (sym (head_of xs i x l e))
   where
     assoc : (ys : List _) → (ys ++ f x) ++ flat_map f (drop (i + 1) xs) ≡ ys ++ (f x ++ flat_map f (drop (i + 1) xs))
     assoc [] = refl
@@ -121,7 +119,7 @@ product_boxes has ts m j t after l e ps out hp ho s h =
     let w = (among_flat (λ p. map (λ s. p ∷ s) out) s ps).0 h in
     let v = (among_map (λ s. w.0 ∷ s) s out).0 w.2 in
     let rest = subst (λ r. IsBox has (drop r ts) v.0) after (ho v.0 v.1) in
-    subst (λ us. IsBox has us s) (sym (next_split ts j t l e)) (subst (IsBox has (t ∷ drop (j + 1) ts)) v.2 (of_among (HasEndsIn has t) ps hp w.0 w.1, rest))
+    subst (λ us. IsBox has us s) (sym (head_of ts j t l e)) (subst (IsBox has (t ∷ drop (j + 1) ts)) v.2 (of_among (HasEndsIn has t) ps hp w.0 w.1, rest))
 
 -- the cuts of the sides from one on are no more than those of all
 pub cuts_rest : (cuts : ℕ → List ℤ) (i : ℕ) (box : List Span) (j r : ℕ) → r ≡ i + j → cuts_from cuts r (drop j box) ≤ cuts_from cuts i box

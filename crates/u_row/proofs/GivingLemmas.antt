@@ -8,10 +8,15 @@ use Rattle.interval_core.specs.Members.{Span}
 use Rattle.packing_core.specs.Covering.{Among}
 use Rattle.packing_core.specs.Packed.{firsts}
 use Rattle.packing_core.proofs.AmongLemmas.{among_append}
+<<<<<<< HEAD
 use Rattle.point_core.specs.LeastFault.{IsLeast}
+=======
+use Rattle.slice_core.specs.LeastFault.{IsLeast}
+use Rattle.slice_core.proofs.Turns.{least_iff}
+>>>>>>> ef085be6f7c97d57563d20c59e71dc557db76b7e
 use Rattle.cell_core.specs.Cells.{box_numbers, boxes_of, row_numbers}
 use Rattle.u_row.specs.Rules.{given, labelled}
-use Rattle.u_row.proofs.RuleLemmas.{least_chain, least_same}
+use Rattle.u_row.proofs.RuleLemmas.{least_chain}
 
 assoc : {X : Type 0} (xs ys zs : List X) → (xs ++ ys) ++ zs ≡ xs ++ (ys ++ zs)
 assoc [] ys zs = refl
@@ -60,7 +65,7 @@ module _ {P : Type 0} (n : P → ℤ) (cells : List (List (P × P))) (i : ℕ) (
       let M : Fault → Type 0 = λ e. f (firsts x) ≡ Err e in
       let N : Fault → Type 0 = λ e. (o ≡ Some e) ⊎ ((c : List Span) × Among c (xs ++ x ∷ []) × (f (firsts c) ≡ Err e)) in
       subst (λ ys. IsLeast (λ e. (o ≡ Some e) ⊎ ((c : List Span) × Among c ys × (f (firsts c) ≡ Err e))) b) (sym one_more)
-      (least_same (λ e. Q e ⊎ M e) N b (λ e. (
+      (least_iff (λ e. Q e ⊎ M e) N b (λ e. (
         λ q. elim q [
           | inl u ↦ elim u [ inl p ↦ inl p | inr w ↦ inr (w.0, (among_append w.0 xs (x ∷ [])).1 (inl w.1), w.2) ]
           | inr m ↦ inr (x, (among_append x xs (x ∷ [])).1 (inr (inl refl)), m)

@@ -1,10 +1,11 @@
 -- The label of a row that is made of values of another stands in the label of that one.
-use Rattle.std.proofs.Common.{◌≡◌, inl, inr, ℕ, zero, suc, ◌+◌, ◌<◌, Bool, true, false, not, List, [], ◌∷◌, map, length, get_or, refl, sym, ap, ap₂, ◌∙◌, subst, arith, if◌then◌else◌}
+use Rattle.std.proofs.Common.{◌≡◌, ℕ, zero, suc, ◌+◌, ◌<◌, Bool, true, false, not, List, [], ◌∷◌, map, length, get_or, refl, sym, ap, ap₂, ◌∙◌, subst, arith, if◌then◌else◌}
 use Rattle.std.specs.Bool.{IsTrue}
 use Rattle.std.specs.List.{filter}
-use Rattle.std.proofs.lemmas.Bool.{true≢false}
+use Rattle.std.proofs.lemmas.Bool.{not-true}
 use Rattle.base_core.proofs.SetLemmas.{In}
 use Rattle.base_core.proofs.MemberLemmas.{In-map, In-filter}
+use Rattle.base_core.proofs.ListLemmas.{map-In}
 use Rattle.value_core.specs.Attributes.{among}
 use Rattle.u_set.specs.Boxes.{unless, others_from, others}
 use Rattle.u_row.specs.Kept.{place_in_label, unlisted, inner}
@@ -45,14 +46,6 @@ from_front acl i e =
     ap (among acl) z ∙ e
 
 -- ---- lists made alike
-
-not_true : (b : Bool) → not b ≡ true → b ≡ false
-not_true true e = absurd (true≢false (sym e))
-not_true false e = refl
-
-pub map_in : {Y Z : Type 0} (f g : Y → Z) (ys : List Y) → ((y : Y) → In y ys → f y ≡ g y) → map f ys ≡ map g ys
-map_in f g [] h = refl
-map_in f g (y ∷ ys) h = ap₂ (λ u us. u ∷ us) (h y (inl refl)) (map_in f g ys (λ z i. h z (inr i)))
 
 pub map_twice : {X Y Z : Type 0} (f : Y → X) (g : Z → Y) (ks : List Z) → map f (map g ks) ≡ map (λ k. f (g k)) ks
 map_twice f g [] = refl
@@ -102,8 +95,8 @@ module _ {X : Type 0} where
   pub inner_values : (acl kept : List ℕ) (xs : List X) (d : X) → map (λ k. get_or (others acl xs) k d) (inner acl kept) ≡ map (λ k. get_or xs k d) (unlisted acl kept)
   inner_values acl kept xs d =
       map_twice (λ k. get_or (others acl xs) k d) (place_in_label acl) (unlisted acl kept)
-      ∙ map_in (λ k. get_or (others acl xs) (place_in_label acl k) d) (λ k. get_or xs k d) (unlisted acl kept) (λ k i.
-      value_in_label acl xs k d (not_true (among acl k) ((In-filter (λ j. not (among acl j)) k kept).0 i).1))
+      ∙ map-In (λ k. get_or (others acl xs) (place_in_label acl k) d) (λ k. get_or xs k d) (unlisted acl kept) (λ k i.
+      value_in_label acl xs k d (not-true (among acl k) ((In-filter (λ j. not (among acl j)) k kept).0 i).1))
 
   kept_from : (n : ℕ) (acl listed kept : List ℕ) (f : ℕ → X) → ((m : ℕ) → m < length kept → among acl (n + m) ≡ among listed (get_or kept m 0))
       → others_from n acl (map f kept) ≡ map f (unlisted listed kept)
@@ -132,4 +125,4 @@ module _ {X : Type 0} where
   inner_within acl kept xs h i m =
       let w = (In-map (place_in_label acl) i (unlisted acl kept)).0 m in
       let v = (In-filter (λ j. not (among acl j)) w.0 kept).0 w.1 in
-      subst (λ k. k < length (others acl xs)) (sym w.2) (place_within acl xs w.0 (not_true (among acl w.0) v.1) (h w.0 v.0))
+      subst (λ k. k < length (others acl xs)) (sym w.2) (place_within acl xs w.0 (not-true (among acl w.0) v.1) (h w.0 v.0))

@@ -9,6 +9,7 @@ use Rattle.base_core.specs.Sets.{is_set}
 use Rattle.base_core.proofs.SetLemmas.{In, Ascends}
 use Rattle.base_core.proofs.MemberLemmas.{In-map}
 use Rattle.base_core.proofs.SetOperatorLemmas.{is_set-Ascends}
+use Rattle.base_core.proofs.ListLemmas.{All-In}
 use Rattle.point_core.specs.declared.any_type.AnyPoint.{AnyPoint}
 use Rattle.point_core.specs.Points.{number}
 use Rattle.value_core.specs.RowPacking.{packed, unpacked}
@@ -23,7 +24,7 @@ use Rattle.u_set.proofs.BridgeLemmas.{AreRowsOf}
 use Rattle.u_set.proofs.RelationLemmas.{relation_shaped}
 use Rattle.u_row.specs.Kept.{inner, beneath}
 use Rattle.u_row.specs.Labels.{relabelled}
-use Rattle.u_row.proofs.BeneathLemmas.{all_in, in_all, get_in, beneath_intervals}
+use Rattle.u_row.proofs.BeneathLemmas.{in_all, beneath_intervals}
 use Rattle.u_row.proofs.LabelLemmas.{inner_within}
 use Rattle.u_row.proofs.ProjectionLemmas.{types_kept, projected_rows}
 
@@ -31,12 +32,12 @@ use Rattle.u_row.proofs.ProjectionLemmas.{types_kept, projected_rows}
 pub labels_long : (heading : Heading) (acl kept : List ℕ) → All (λ (i : ℕ). i < length heading) kept → (rows : List Row) → ((x : Row) → In x rows → IsShaped heading acl x)
     → (form : List (Row × List (AnyPoint × AnyPoint))) → map (row_numbers number) form ≡ map (boxed acl) rows → All (λ b. All (λ (i : ℕ). i < length b.0) (inner acl kept)) form
 labels_long heading acl kept within rows shaped form same =
-    all_in (λ b. All (λ (i : ℕ). i < length b.0) (inner acl kept)) form (λ b m.
+    All-In (λ b. All (λ (i : ℕ). i < length b.0) (inner acl kept)) form (λ b m.
     let i : In (row_numbers number b) (map (boxed acl) rows) = subst (In (row_numbers number b)) same ((In-map (row_numbers number) (row_numbers number b) form).1 (b, m, refl)) in
     let w = (In-map (boxed acl) (row_numbers number b) rows).0 i in
     let label : b.0 ≡ others acl w.0 = ap (λ (x : Boxed Row). x.0) w.2 in
     let long = (shaped w.0 w.1).long in
-    all_in (λ (j : ℕ). j < length b.0) (inner acl kept) (λ j n.
+    All-In (λ (j : ℕ). j < length b.0) (inner acl kept) (λ j n.
     subst (λ (l : Row). j < length l) (sym label) (inner_within acl kept w.0 (λ k o. subst (λ l. k < l) (sym long) (in_all (λ (p : ℕ). p < length heading) kept within k o)) j n)))
 
 module _ (heading : Heading) (r : Relation) (kept acl listed : List ℕ) (ascending : IsTrue (is_set nat_cmp kept)) (within : All (λ (i : ℕ). i < length r.heading) kept)

@@ -6,6 +6,7 @@ use Rattle.std.specs.Ordering.{nat_cmp}
 use Rattle.std.proofs.lemmas.List.{get_or-map, length-map}
 use Rattle.base_core.proofs.SetLemmas.{In, Ascends, In-in_order, Ascends-in_order}
 use Rattle.base_core.proofs.MemberLemmas.{In-map}
+use Rattle.base_core.proofs.ListLemmas.{map-In}
 use Rattle.interval_core.specs.Members.{Span}
 use Rattle.point_core.specs.Points.{line_of}
 use Rattle.point_core.specs.declared.any_type.AnyType.{AnyType}
@@ -26,7 +27,7 @@ use Rattle.u_set.proofs.BridgeLemmas.{AreRowsOf, boxes_have, unpacked_image, sam
 use Rattle.u_row.specs.Kept.{inner, unlisted, beneath}
 use Rattle.u_row.specs.Labels.{relabelled}
 use Rattle.u_row.proofs.BeneathLemmas.{among_in, in_among, in_all, beneath_listed, beneath_intervals, kind_beneath}
-use Rattle.u_row.proofs.LabelLemmas.{map_in, map_twice, label_of_kept, inner_within}
+use Rattle.u_row.proofs.LabelLemmas.{map_twice, label_of_kept, inner_within}
 use Rattle.u_row.proofs.PlaceLemmas.{relabelled_have}
 
 module _ (from : Heading) (kept acl : List ℕ) (within : All (λ (i : ℕ). i < length from) kept) (up : Ascends nat_cmp kept)
@@ -50,7 +51,7 @@ module _ (from : Heading) (kept acl : List ℕ) (within : All (λ (i : ℕ). i <
 
   spans_kept : (x : Row) → spans_at acl (part x) ≡ spans_at listed x
   spans_kept x =
-      map_in (λ j. span_of (value_at (part x) j)) (λ j. span_of (value_at x (get_or kept j 0))) acl (λ j m. ap span_of (value_kept x j (below j m)))
+      map-In (λ j. span_of (value_at (part x) j)) (λ j. span_of (value_at x (get_or kept j 0))) acl (λ j m. ap span_of (value_kept x j (below j m)))
       ∙ sym (map_twice (λ i. span_of (value_at x i)) (λ j. get_or kept j 0) acl)
 
   label_kept : (x : Row) → others acl (part x) ≡ part_of (inner listed kept) (others listed x)
@@ -91,7 +92,7 @@ module _ (from : Heading) (kept acl : List ℕ) (within : All (λ (i : ℕ). i <
   pub types_kept : types_at from listed ≡ types_at to acl
   types_kept =
       map_twice (λ i. type_of (kind_at from i)) (λ j. get_or kept j 0) acl
-      ∙ map_in (λ j. type_of (kind_at from (get_or kept j 0))) (λ j. type_of (kind_at to j)) acl (λ j m. ap type_of (sym (kind_beneath from kept acl within up intervals j (below j m))))
+      ∙ map-In (λ j. type_of (kind_at from (get_or kept j 0))) (λ j. type_of (kind_at to j)) acl (λ j m. ap type_of (sym (kind_beneath from kept acl within up intervals j (below j m))))
 
   -- ---- the rows
 

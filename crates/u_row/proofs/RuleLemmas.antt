@@ -8,8 +8,14 @@ use Rattle.packing_core.specs.Boxed.{InBoxes}
 use Rattle.packing_core.specs.Covering.{Among}
 use Rattle.packing_core.specs.Packed.{Has, firsts}
 use Rattle.packing_core.proofs.AmongLemmas.{among_flat}
+<<<<<<< HEAD
 use Rattle.point_core.specs.LeastFault.{fault_total, IsAtMost, IsLeast}
 use Rattle.point_core.proofs.LeastFaultLemmas.{not_after_both}
+=======
+use Rattle.slice_core.specs.LeastFault.{fault_total, IsAtMost, IsLeast}
+use Rattle.slice_core.proofs.LeastFaultLemmas.{not_after_both}
+use Rattle.slice_core.proofs.Turns.{at_most_then}
+>>>>>>> ef085be6f7c97d57563d20c59e71dc557db76b7e
 use Rattle.u_row.specs.Cutting.{AreCutsFrom, cells_of}
 use Rattle.u_row.specs.Rules.{given, labelled}
 use Rattle.u_row.proofs.CellLemmas.{in_cell, cell_in, has_firsts}
@@ -46,20 +52,9 @@ at_most : (b : Option Fault) (x d : Fault) → IsAtMost b x → fault_order x d 
 at_most None x d h l = absurd h
 at_most (Some y) x d h l = not_after_both fault_order fault_total y x d h l
 
-chain_below : (a b : Option Fault) (d : Fault) → IsAtMost a d → ((x : Fault) → a ≡ Some x → IsAtMost b x) → IsAtMost b d
-chain_below None b d h f = absurd h
-chain_below (Some x) b d h f = at_most b x d (f x refl) h
-
 -- the least of the least so far and of one more fault is the least of all
 pub least_chain : (Q M : Fault → Type 0) (a b : Option Fault) → IsLeast Q a → IsLeast (λ e. (a ≡ Some e) ⊎ M e) b → IsLeast (λ e. Q e ⊎ M e) b
 least_chain Q M a b ha hb = record {
   comes = λ e q. elim (hb.comes e q) [ inl p ↦ inl (ha.comes e p) | inr m ↦ inr m ];
-  below = λ d q. elim q [ inl p ↦ chain_below a b d (ha.below d p) (λ x e. hb.below x (inl e)) | inr m ↦ hb.below d (inr m) ];
-}
-
--- the least of the same faults
-pub least_same : (Q M : Fault → Type 0) (o : Option Fault) → ((e : Fault) → Q e ↔ M e) → IsLeast Q o → IsLeast M o
-least_same Q M o h l = record {
-  comes = λ e q. (h e).0 (l.comes e q);
-  below = λ d q. l.below d ((h d).1 q);
+  below = λ d q. elim q [ inl p ↦ at_most_then a b d (ha.below d p) (λ x e. hb.below x (inl e)) | inr m ↦ hb.below d (inr m) ];
 }

@@ -1,5 +1,5 @@
 -- Rows that are each beyond the one before it are apart.
-use Rattle.std.proofs.Common.{◌≡◌, ◌⊎◌, inl, inr, ℕ, zero, suc, ◌+◌, ◌-◌, ◌<◌, ◌≤◌, ℤ, pos, ◌+ℤ◌, ◌≤ℤ◌, ◌<ℤ◌, true, false, ◌&&◌, List, [], ◌∷◌, map, drop, length, get_or, refl, sym, ap, ◌∙◌, subst, arith, Ordering}
+use Rattle.std.proofs.Common.{◌≡◌, ◌⊎◌, inl, inr, ℕ, zero, suc, ◌+◌, ◌-◌, ◌<◌, ◌≤◌, pos, ◌+ℤ◌, ◌≤ℤ◌, ◌<ℤ◌, true, false, ◌&&◌, List, [], ◌∷◌, map, drop, length, get_or, refl, sym, ap, ◌∙◌, subst, arith, Ordering}
 use Rattle.std.proofs.Math.Seq.{drop-cons}
 use Rattle.std.specs.Prelude.{Result, Ok, Err, IfOk, int_le, slice_index_or}
 use Rattle.std.specs.Ordering.{is_eq, ordering_then}
@@ -9,13 +9,13 @@ use Rattle.std.specs.List.Sorted.{IsPermutation}
 use Rattle.std.specs.declared.cmp.Ordering.TheVariants.{Less, Equal, Greater}
 use Rattle.std.proofs.lemmas.Bool.{true≢false, and_parts, cases_lt}
 use Rattle.std.proofs.lemmas.Cmp.{tied_itself, alike_right}
-use Rattle.std.proofs.lemmas.Float.{T_from_true}
 use Rattle.std.proofs.lemmas.Int.{ints}
 use Rattle.std.proofs.lemmas.List.{length-map, get_or-map}
 use Rattle.std.proofs.lemmas.List.Elements.{All-map, Contains-get_or}
 use Rattle.base_core.proofs.SetLemmas.{In, In-from_Contains}
 use Rattle.base_core.proofs.MemberLemmas.{In-map, list_all-In}
 use Rattle.base_core.proofs.SetOperatorLemmas.{In-permutation}
+use Rattle.base_core.proofs.IntLemmas.{int_le-le}
 use Rattle.point_core.specs.declared.any_type.AnyType.{AnyType}
 use Rattle.point_core.specs.Points.{line_of, is_number}
 use Rattle.packing_core.proofs.PackedBoxes.{among_in}
@@ -73,9 +73,6 @@ module _ (ps : List ℕ) (x y : Row) (left right : List Held) (lefts : map plain
 
 -- ---- the interval at a position
 
-below : (a b : ℤ) → int_le a b ≡ true → a ≤ℤ b
-below a b e = record { le = T_from_true (int_le a b) e }
-
 ordered : (t : AnyType) (v : Value) → IsTrue (fits (SpanOf t) v) → (span_of v).0 ≤ℤ (span_of v).1
 ordered t (truth b) h = absurd (true≢false (sym h))
 ordered t (text bytes) h = absurd (true≢false (sym h))
@@ -84,7 +81,7 @@ ordered t (interval l i) h =
     let a = and_parts (same_line l (line_of t)) (is_interval t i) h in
     let b = and_parts (is_number t i.0) (is_number t i.1 && int_le i.0 i.1) a.1 in
     let c = and_parts (is_number t i.1) (int_le i.0 i.1) b.1 in
-    below i.0 i.1 c.1
+    int_le-le i.0 i.1 c.1
 
 -- its first member is not past its last one
 pub span_ordered : (at : ℕ) (row : Row) → HasInterval at row → (span_in at row).0 ≤ℤ (span_in at row).1

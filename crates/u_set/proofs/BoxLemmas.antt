@@ -4,20 +4,20 @@ use Rattle.std.specs.Prelude.{nat_eq, slice_index_or, if◌then◌else◌}
 use Rattle.std.specs.Bool.{IsTrue}
 use Rattle.std.specs.List.{AllByRecursion, IsDistinct}
 use Rattle.std.proofs.lemmas.Bool.{true≢false, and_parts, and_from, cases_eq, eqb-true, eqb-false, eq-eqb}
-use Rattle.std.proofs.lemmas.List.{length-set, get_or-map, get_or-set_same, get_or-set_other, get_or_default}
+use Rattle.std.proofs.lemmas.List.{length-set, get_or-map, get_or-set_same, get_or_default}
 use Rattle.std.proofs.lemmas.List.Elements.{All-from_recursion}
 use Rattle.std.proofs.lemmas.List.Folds.{list_any_at}
 use Rattle.std.proofs.lemmas.Option.{unwrap_or-slice_get}
-use Rattle.point_core.specs.declared.any_type.AnyType.{AnyType}
 use Rattle.point_core.specs.Points.{Line, line_of}
 use Rattle.interval_core.specs.Members.{Span}
 use Rattle.value_core.specs.declared.kind.Kind.{Kind}
 use Rattle.value_core.specs.declared.kind.Kind.TheVariants.{Truth, Span as SpanOf}
 use Rattle.value_core.specs.Attributes.{value_at, span_of, with_span, among}
 use Rattle.value_core.specs.RowPacking.{attribute}
-use Rattle.value_core.specs.Values.{Name, Value, Row, Heading, truth, text, point, interval, same_line, is_interval, fits, fits_heading}
-use Rattle.value_core.proofs.FitLemmas.{lines_same}
+use Rattle.value_core.specs.Values.{Name, Value, Row, Heading, truth, interval, fits, fits_heading}
 use Rattle.value_core.proofs.RelationLemmas.{other_length}
+use Rattle.value_core.proofs.FitLemmas.{fits_at, interval_that_fits}
+use Rattle.value_core.proofs.PlainLemmas.{set_elsewhere}
 use Rattle.relation_core.specs.Parts.{kind_at}
 use Rattle.packing_core.specs.Boxed.{side, sides_from}
 use Rattle.packing_core.specs.Packed.{nowhere}
@@ -45,9 +45,6 @@ value_at-get row i = unwrap_or-slice_get row i (truth false)
 
 value_at-same : (row : Row) (i : ℕ) (v : Value) → i < length row → value_at (set row i v) i ≡ v
 value_at-same row i v l = value_at-get (set row i v) i ∙ get_or-set_same row i v (truth false) l
-
-value_at-other : (row : Row) (i k : ℕ) (v : Value) → (k ≡ i → ⊥) → value_at (set row i v) k ≡ value_at row k
-value_at-other row i k v n = value_at-get (set row i v) k ∙ get_or-set_other row i k v (truth false) n ∙ sym (value_at-get row k)
 
 -- ---- a row comes back from its box
 
@@ -130,7 +127,7 @@ module _ (heading : Heading) (acl : List ℕ) (intervals : AreIntervals heading 
         of = λ x h. get_or-map (λ k. span_of (value_at x k)) acl j 0 nowhere l;
         put = λ x s h.
             let sides : spans_at acl (put x s) ≡ set (spans_at acl x) j s =
-            map_set (λ k. span_of (value_at x k)) (λ k. span_of (value_at (put x s) k)) s acl j intervals.different l (ap span_of (at x s h)) (λ k n. ap span_of (value_at-other x i k (with_span (value_at x i) s) n)) in
+            map_set (λ k. span_of (value_at x k)) (λ k. span_of (value_at (put x s) k)) s acl j intervals.different l (ap span_of (at x s h)) (λ k n. ap span_of (set_elsewhere x i k (with_span (value_at x i) s) n)) in
             let same = label x s in
             λ t. (same t, sides t);
         keeps = λ x s h. record {
@@ -142,7 +139,7 @@ module _ (heading : Heading) (acl : List ℕ) (intervals : AreIntervals heading 
                     let Q : ℕ → Type 0 = λ m. value_at (put x s) m ≡ interval (line_of (type_of (kind_at heading m))) (span_of (value_at (put x s) m)) in
                     let here : Q i = at x s h ∙ ap (interval (line_of (type_of (kind_at heading i)))) (sym (ap span_of (at x s h))) in
                     subst Q (sym e) here
-                | inr n ↦ subst P (sym (value_at-other x i k (with_span (value_at x i) s) n)) (h.spans k g)
+                | inr n ↦ subst P (sym (set_elsewhere x i k (with_span (value_at x i) s) n)) (h.spans k g)
               ];
           label = subst (λ (r : Row). IsTrue (fits_heading (others acl heading) r)) (sym (label x s)) h.label;
         };
@@ -184,18 +181,6 @@ module _ (heading : Heading) (acl : List ℕ) (intervals : AreIntervals heading 
       value ∙ h.spans m listed ∙ (λ t. interval (line_of (type_of (kind t))) (sym span t)) ∙ ap (λ k. interval (line_of (type_of (get_or heading m e).1)) (get_or (spans_at acl row) (place_of acl k) nowhere)) (sym z))
 
   -- ---- a row that fits the heading is shaped so
-
-  fits_at : (h : Heading) (row : Row) (i : ℕ) (e : Name × Kind) (d : Value) → IsTrue (fits_heading h row) → i < length h → IsTrue (fits (get_or h i e).1 (get_or row i d))
-  fits_at [] row i e d f l = absurd (omega arith)
-  fits_at (a ∷ h) [] i e d f l = absurd (true≢false (sym f))
-  fits_at (a ∷ h) (v ∷ row) zero e d f l = (and_parts (fits a.1 v) (fits_heading h row) f).0
-  fits_at (a ∷ h) (v ∷ row) (suc i) e d f l = fits_at h row i e d (and_parts (fits a.1 v) (fits_heading h row) f).1 (omega arith)
-
-  interval_that_fits : (t : AnyType) (v : Value) → IsTrue (fits (SpanOf t) v) → v ≡ interval (line_of t) (span_of v)
-  interval_that_fits t (truth b) h = absurd (true≢false (sym h))
-  interval_that_fits t (text bytes) h = absurd (true≢false (sym h))
-  interval_that_fits t (point l p) h = absurd (true≢false (sym h))
-  interval_that_fits t (interval l i) h = ap (λ m. interval m i) (lines_same l (line_of t) (and_parts (same_line l (line_of t)) (is_interval t i) h).0)
 
   others_fit : (n : ℕ) (h : Heading) (row : Row) → IsTrue (fits_heading h row) → IsTrue (fits_heading (others_from n acl h) (others_from n acl row))
   others_fit n [] [] f = refl

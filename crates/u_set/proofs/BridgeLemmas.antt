@@ -19,8 +19,9 @@ use Rattle.cell_core.specs.Cells.{IsPackedForm}
 use Rattle.cell_core.proofs.OrderLemmas.{boxed_total, boxed_separates}
 use Rattle.cell_core.proofs.PackedPlaces.{AllHave, packed_from_same}
 use Rattle.cell_core.proofs.UnpackedPlaces.{unpacked_places}
+use Rattle.cell_core.proofs.UnpackedLemmas.{unpack_ascends}
 use Rattle.u_set.specs.Boxes.{AreIntervals, IsShaped, others, boxed, unboxed}
-use Rattle.u_set.proofs.ImageLemmas.{IsImage, Ascends-pack, Ascends-unpack, image-pack, image-unpack, list_back, same_length}
+use Rattle.u_set.proofs.ImageLemmas.{IsImage, Ascends-pack, image-pack, image-unpack, list_back, same_length}
 use Rattle.u_set.proofs.BoxLemmas.{all_alike, unboxed-boxed}
 
 abbrev pub box_cmp : Boxed Row → Boxed Row → Ordering
@@ -105,12 +106,12 @@ module _ (heading : Heading) (acl : List ℕ) (intervals : AreIntervals heading 
     pub unpacked_rows : AreRowsOf heading acl (unpacked acl rows) (unpacked_boxes row_cmp (length acl) (map (boxed acl) rows))
     unpacked_rows =
         rows_of_image (unpacked acl rows) (unpacked_boxes row_cmp (length acl) (map (boxed acl) rows))
-        (Ascends-unpack row_cmp row_total row_separates (map attribute acl) rows up)
-        (Ascends-unpack box_cmp box_total box_separates (sides_from 0 (length acl)) (in_order box_cmp (map (boxed acl) rows)) boxes_ascend)
+        (unpack_ascends row_cmp row_total row_separates (map attribute acl) rows up)
+        (unpack_ascends box_cmp box_total box_separates (sides_from 0 (length acl)) (in_order box_cmp (map (boxed acl) rows)) boxes_ascend)
         unpacked_image
 
     pub unpacked_ascends : Ascends row_cmp (unpacked acl rows)
-    unpacked_ascends = Ascends-unpack row_cmp row_total row_separates (map attribute acl) rows up
+    unpacked_ascends = unpack_ascends row_cmp row_total row_separates (map attribute acl) rows up
 
     -- ---- what an operator sees under USING, and what it gives
 

@@ -1,20 +1,20 @@
 -- Lists unpacked and packed alike: where a function goes along with each interval attribute, it takes what is unpacked and packed
 -- of one list to what is unpacked and packed of the other.
 use Rattle.std.proofs.Common.{◌≡◌, ◌↔◌, inl, inr, suc, not, ◌&&◌, ℤ, pos, ◌+ℤ◌, ◌-ℤ◌, List, [], ◌∷◌, length, map, refl, sym, ap, ◌∙◌, subst, Ordering}
-use Rattle.std.specs.declared.cmp.Ordering.TheVariants.{Less, Equal, Greater}
 use Rattle.std.specs.Bool.{IsTrue}
 use Rattle.std.specs.Cmp.{IsTotalOrder}
 use Rattle.std.specs.Int.RustNames.{int_le}
 use Rattle.std.specs.List.{filter, flat_map, list_all}
-use Rattle.std.proofs.lemmas.Cmp.{tied_itself}
 use Rattle.std.proofs.lemmas.List.{length-map}
-use Rattle.base_core.specs.Sets.{placed, put, in_order, is_within, are_same}
+use Rattle.base_core.specs.Sets.{put, in_order, is_within, are_same}
 use Rattle.base_core.proofs.SetLemmas.{In, Ascends, Separates, In-in_order, Ascends-in_order, in_after, same_by_members}
 use Rattle.base_core.proofs.MemberLemmas.{In-map, In-flat_map, In-filter, has-In}
 use Rattle.base_core.proofs.SetOperatorLemmas.{same_tests, is_within-In}
+use Rattle.base_core.proofs.OrderingLemmas.{not_before_itself}
 use Rattle.interval_core.specs.Members.{Span, at_point, members}
 use Rattle.interval_core.specs.Packing.{Side, unpack1, has_at, is_longest, spanned, pack1, unpack, pack_each, pack}
-use Rattle.cell_core.proofs.Listing.{Distinct}
+use Rattle.cell_core.proofs.Listing.{Distinct, put_longer}
+use Rattle.cell_core.proofs.UnpackedLemmas.{unpack_ascends}
 
 -- f goes along with an interval attribute, of what is shaped so
 pub record Alike {X Y : Type 0} (Shaped : X → Type 0) (f : X → Y) (a : Side X) (b : Side Y) : Type 0 where
@@ -69,29 +69,15 @@ module _ {X : Type 0} (cmp : X → X → Ordering) (o : IsTotalOrder cmp) (same 
 
   -- ---- both are in order
 
-  pub Ascends-unpack : (sides : List (Side X)) (r : List X) → Ascends cmp r → Ascends cmp (unpack cmp sides r)
-  Ascends-unpack [] r h = h
-  Ascends-unpack (a ∷ rest) r h =
-      Ascends-unpack rest (unpack1 cmp a r) (Ascends-in_order cmp o same (flat_map (λ x. map (λ p. a.put x (at_point p)) (members (a.of x))) r))
-
   pub Ascends-pack_each : (sides : List (Side X)) (r : List X) → Ascends cmp r → Ascends cmp (pack_each cmp sides r)
   Ascends-pack_each [] r h = h
   Ascends-pack_each (a ∷ rest) r h =
       Ascends-pack_each rest (pack1 cmp a r) (Ascends-in_order cmp o same (filter (is_longest cmp a r) (spanned cmp a r)))
 
   pub Ascends-pack : (sides : List (Side X)) (r : List X) → Ascends cmp r → Ascends cmp (pack cmp sides r)
-  Ascends-pack sides r h = Ascends-pack_each sides (unpack cmp sides r) (Ascends-unpack sides r h)
+  Ascends-pack sides r h = Ascends-pack_each sides (unpack cmp sides r) (unpack_ascends cmp o same sides r h)
 
 -- ---- the number of a set's members
-
-put_longer : {X : Type 0} (cmp : X → X → Ordering) → Separates cmp → (x : X) (xs : List X) → (In x xs → ⊥) → length (put cmp x xs) ≡ suc (length xs)
-put_longer cmp same x [] new = refl
-put_longer cmp same x (y ∷ ys) new =
-    elim (cmp x y) as (λ r. cmp x y ≡ r → length (placed r x y ys (put cmp x ys)) ≡ suc (suc (length ys))) [
-      | Less ↦ λ e. refl
-      | Equal ↦ λ e. absurd (new (inl (same x y e)))
-      | Greater ↦ λ e. ap suc (put_longer cmp same x ys (λ i. new (inr i)))
-    ] refl
 
 module _ {X : Type 0} (cmp : X → X → Ordering) (o : IsTotalOrder cmp) (same : Separates cmp) where
   length_distinct : (xs : List X) → Distinct xs → length (in_order cmp xs) ≡ length xs
@@ -99,16 +85,13 @@ module _ {X : Type 0} (cmp : X → X → Ordering) (o : IsTotalOrder cmp) (same 
   length_distinct (x ∷ xs) h =
       put_longer cmp same x (in_order cmp xs) (λ i. h.0 ((In-in_order cmp o same x xs).0 i)) ∙ ap suc (length_distinct xs h.1)
 
-  not_before_itself : (x : X) → cmp x x ≡ Less → ⊥
-  not_before_itself x l = let e : Less ≡ Equal = sym l ∙ tied_itself o x in cc
-
   -- what a function that tells members apart makes of a list in order
   distinct_map : {Y : Type 0} (f : X → Y) (xs : List X) → ((x z : X) → In x xs → In z xs → f x ≡ f z → x ≡ z) → Ascends cmp xs → Distinct (map f xs)
   distinct_map f [] one h = tt
   distinct_map f (x ∷ xs) one h = (
     λ i. let w = (In-map f (f x) xs).0 i in
         let e : x ≡ w.0 = one x w.0 (inl refl) (inr w.1) w.2 in
-        not_before_itself x (in_after cmp o same x x xs h.0 (subst (λ z. In z xs) (sym e) w.1)),
+        not_before_itself cmp o x (in_after cmp o same x x xs h.0 (subst (λ z. In z xs) (sym e) w.1)),
     distinct_map f xs (λ y z i j. one y z (inr i) (inr j)) h.1,
   )
 

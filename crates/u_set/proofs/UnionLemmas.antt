@@ -14,7 +14,7 @@ use Rattle.packing_core.specs.Covering.{Among}
 use Rattle.packing_core.proofs.AmongLemmas.{among_append}
 use Rattle.packing_core.proofs.PackedBoxes.{among_in}
 use Rattle.cell_core.proofs.OrderLemmas.{boxed_total, boxed_separates}
-use Rattle.cell_core.proofs.PackedPlaces.{AllHave, packed_from_same}
+use Rattle.cell_core.proofs.PackedPlaces.{AllHave, packed_from_same, both_have}
 use Rattle.cell_core.proofs.UnpackedLemmas.{in_unpacked_boxes}
 use Rattle.cell_core.proofs.UnpackedPlaces.{unpacked_places}
 use Rattle.u_set.specs.Boxes.{AreIntervals, IsShaped, boxed}
@@ -47,8 +47,6 @@ module _ {P : Type 0} (order : P → P → Ordering) (o : IsTotalOrder order) (s
   )
 
   module _ (left right : List (Boxed P)) (hl : AllHave k left) (hr : AllHave k right) where
-    pub both_have : AllHave k (left ++ right)
-    both_have x m = elim ((among_append x left right).0 m) [ inl a ↦ hl x a | inr a ↦ hr x a ]
 
     pub union_have : AllHave k (union_of B (unpacked_boxes order k left) (unpacked_boxes order k right))
     union_have x m = elim ((Among-union (unpacked_boxes order k left) (unpacked_boxes order k right) x).0 m) [
@@ -59,7 +57,7 @@ module _ {P : Type 0} (order : P → P → Ordering) (o : IsTotalOrder order) (s
     -- the boxes of both pack as the union of their points does
     pub packed_union : packed_boxes order k (left ++ right) ≡ packed_boxes order k (union_of B (unpacked_boxes order k left) (unpacked_boxes order k right))
     packed_union =
-        packed_from_same order o same k (left ++ right) (union_of B (unpacked_boxes order k left) (unpacked_boxes order k right)) both_have union_have (λ l place.
+        packed_from_same order o same k (left ++ right) (union_of B (unpacked_boxes order k left) (unpacked_boxes order k right)) (both_have k left right hl hr) union_have (λ l place.
         let a = places_append left right l place in
         let u = places_union (unpacked_boxes order k left) (unpacked_boxes order k right) l place in
         let pl = unpacked_places order o same k left hl l place in

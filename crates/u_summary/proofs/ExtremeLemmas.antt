@@ -1,6 +1,6 @@
 -- The turns of a loop that keeps where the best value so far stands first.
-use Rattle.std.proofs.Common.{◌≡◌, ℕ, ◌+◌, ◌<◌, Bool, true, false, List, length, map, get_or, sym, ap, ◌∙◌, subst, arith}
-use Rattle.std.proofs.lemmas.List.{get_or-map, length-map}
+use Rattle.std.proofs.Common.{◌≡◌, ℕ, ◌+◌, ◌<◌, Bool, true, false, List, length, map, get_or, sym, subst, arith}
+use Rattle.std.proofs.lemmas.List.{length-map}
 use Rattle.std.proofs.lemmas.List.MinMax.{ranks_by, IsStrictWeakOrder-flip, IsFirstBest-keeps, IsFirstBest-takes}
 use Rattle.std.specs.Cmp.{IsStrictWeakOrder}
 use Rattle.std.specs.List.{IsFirstBest}
@@ -8,6 +8,7 @@ use Rattle.value_core.specs.declared.value.Value.{Value}
 use Rattle.value_core.specs.Values.{Value as PlainValue}
 use Rattle.value_core.specs.Order.{value_total}
 use Rattle.value_core.specs.Plain.{plain}
+use Rattle.value_core.proofs.PlainLemmas.{plain_at}
 use Rattle.u_summary.specs.Summaries.{is_before}
 
 pub before_ranks : IsStrictWeakOrder is_before
@@ -16,16 +17,13 @@ before_ranks = ranks_by value_total (λ v. v)
 pub after_ranks : IsStrictWeakOrder (λ v w. is_before w v)
 after_ranks = IsStrictWeakOrder-flip is_before before_ranks
 
-value_at : (xs : List Value) (i : ℕ) (x : Value) → i < length xs → x ≡ get_or xs i x → plain x ≡ get_or (map plain xs) i (plain x)
-value_at xs i x within is = ap plain is ∙ sym (get_or-map plain xs i x (plain x) within)
-
 pub first_kept : (beats : PlainValue → PlainValue → Bool) → IsStrictWeakOrder beats → (xs : List Value) (i old new : ℕ) (x y : Value)
     → IsFirstBest beats (map plain xs) i old → i < length xs → x ≡ get_or xs i x → y ≡ get_or xs old y
     → new ≡ old → beats (plain x) (plain y) ≡ false → IsFirstBest beats (map plain xs) (i + 1) new
 first_kept beats ranks xs i old new x y best within x-is y-is same test =
     let shorter : old < length xs = omega (arith, best.0) in
     subst (IsFirstBest beats (map plain xs) (i + 1)) (sym same)
-    (IsFirstBest-keeps ranks (map plain xs) i old (plain x) (plain y) best (omega (arith, length-map xs plain)) (value_at xs i x within x-is) (value_at xs old y shorter y-is) test)
+    (IsFirstBest-keeps ranks (map plain xs) i old (plain x) (plain y) best (omega (arith, length-map xs plain)) (plain_at xs i x within x-is) (plain_at xs old y shorter y-is) test)
 
 pub first_taken : (beats : PlainValue → PlainValue → Bool) → IsStrictWeakOrder beats → (xs : List Value) (i old new : ℕ) (x y : Value)
     → IsFirstBest beats (map plain xs) i old → i < length xs → x ≡ get_or xs i x → y ≡ get_or xs old y
@@ -33,4 +31,4 @@ pub first_taken : (beats : PlainValue → PlainValue → Bool) → IsStrictWeakO
 first_taken beats ranks xs i old new x y best within x-is y-is same test =
     let shorter : old < length xs = omega (arith, best.0) in
     subst (IsFirstBest beats (map plain xs) (i + 1)) (sym same)
-    (IsFirstBest-takes ranks (map plain xs) i old (plain x) (plain y) best (omega (arith, length-map xs plain)) (value_at xs i x within x-is) (value_at xs old y shorter y-is) test)
+    (IsFirstBest-takes ranks (map plain xs) i old (plain x) (plain y) best (omega (arith, length-map xs plain)) (plain_at xs i x within x-is) (plain_at xs old y shorter y-is) test)

@@ -6,15 +6,14 @@ use Rattle.std.proofs.Common.{◌≡◌, ◌≢◌, ◌↔◌, ◌⊎◌, inl, i
 use Rattle.std.specs.List.{All, list_any}
 use Rattle.std.specs.Ordering.{eq_by_cmp}
 use Rattle.std.proofs.lemmas.Bool.{cases_lt, and_parts, and_from, true≢false}
-use Rattle.std.proofs.lemmas.List.{length-map}
+use Rattle.std.proofs.lemmas.List.{length-map, get_or_default}
 use Rattle.base_core.proofs.MemberLemmas.{eq_by_cmp-≡}
 use Rattle.value_core.specs.Order.{row_total, row_separates}
 use Rattle.value_core.specs.Values.{Row, row_cmp}
 use Rattle.relation_core.specs.Agreement.{part_of}
 use Rattle.packing_core.specs.Covering.{Among}
 use Rattle.packing_core.specs.Live.{has_place}
-use Rattle.packing_core.proofs.AmongLemmas.{among_filter}
-use Rattle.packing_core.proofs.Numbered.{other_default}
+use Rattle.packing_core.proofs.AmongLemmas.{among_filter, all_from_members}
 use Rattle.slice_core.proofs.Turns.{AreRows-filter, least_iff}
 use Rattle.point_core.specs.LeastFault.{IsLeast}
 use Rattle.point_core.specs.declared.fault.Fault.{Fault}
@@ -24,7 +23,6 @@ use Rattle.box_core.specs.Keys.{ArePaired}
 use Rattle.box_core.specs.Rows.{KeyBox}
 use Rattle.box_core.specs.Tallies.{IsIn, AreMarked, OfMarked, IsTallied, IsTallyFault}
 use Rattle.box_core.specs.Totals.{of_some}
-use Rattle.box_core.proofs.CoveredLemmas.{all_from}
 use Rattle.slice_core.proofs.LabelRows.{some_of}
 use Rattle.box_core.proofs.RowLemmas.{row_all, some_row, among_row, row_among, row_there}
 use Rattle.cell_core.specs.Cells.{rows_from, keys_from}
@@ -92,12 +90,12 @@ module _ (by : List ℕ) (rows : List (KeyBox Row)) (entries : List (KeyedBox Ro
   label_same r s e = label_at r ∙ e ∙ sym (label_at s)
 
   pub entry_sides : (k : ℕ) → All (λ (x : KeyBox Row). length x.1 ≡ k) rows → All (λ (z : KeyedBox Row ℕ). length z.2 ≡ k) entries
-  entry_sides k all = all_from (λ (z : KeyedBox Row ℕ). length z.2 ≡ k) entries (λ z m.
+  entry_sides k all = all_from_members (λ (z : KeyedBox Row ℕ). length z.2 ≡ k) entries (λ z m.
       let w = are.from z m in
       ap length w.2 ∙ row_all (λ (x : KeyBox Row). length x.1 ≡ k) rows all w.0 (row_at rows w.0) (some_row rows w.0 none w.1))
 
   pub numbers_low : All (λ (m : ℕ). m < n) numbers
-  numbers_low = all_from (λ (m : ℕ). m < n) numbers (λ m h.
+  numbers_low = all_from_members (λ (m : ℕ). m < n) numbers (λ m h.
       let i = among_row numbers m h in
       let c = paired.count in
       let l = i.1.0 in
@@ -281,7 +279,7 @@ module _ (by : List ℕ) (rows : List (KeyBox Row)) (entries : List (KeyedBox Ro
           ],
           λ h.
               let l = h.1.0 in
-              let e : row_at keys r ≡ h.0 = other_default keys r none h.0 l ∙ h.1.1 in
+              let e : row_at keys r ≡ h.0 = get_or_default keys r none h.0 l ∙ h.1.1 in
               get_map keys r l ∙ ap t e ∙ and_from (eq_by_cmp row_cmp (h.0).0 key) (has_place (h.0).1 place) ((eq_by_cmp-≡ row_cmp row_total row_separates (h.0).0 key).1 h.2) h.3,
         );
       },

@@ -2,10 +2,9 @@
 use Rattle.std.proofs.Common.{◌≡◌, ◌↔◌, inl, inr, ℕ, zero, suc, ◌+◌, ◌^◌, ◌<◌, ◌≤◌, Bool, true, false, List, [], ◌∷◌, set, length, get_or, arith, refl, sym, ap, ◌∙◌, subst}
 use Rattle.std.specs.Prelude.{ltb, eqb}
 use Rattle.std.specs.List.{All}
-use Rattle.std.proofs.lemmas.Bool.{true≢false, cases_lt}
+use Rattle.std.proofs.lemmas.Bool.{true≢false, cases_lt, eqb-true}
 use Rattle.std.proofs.lemmas.Bool.Decides.{nat_tests}
-use Rattle.std.proofs.lemmas.List.{get_or-set_other, get_or-set_same, length-set}
-use Rattle.packing_core.proofs.Numbered.{other_default}
+use Rattle.std.proofs.lemmas.List.{get_or-set_other, get_or-set_same, length-set, get_or_default}
 use Rattle.box_core.specs.Tallies.{IsIn}
 use Rattle.box_core.proofs.TallyLemmas.{equal_or}
 use Rattle.u_tallies.specs.Counts.{one, weigh, any, tests_from, image, IsCounted}
@@ -100,9 +99,6 @@ not_positive w e = ap (ltb 0) e
 eqb_same : (m : ℕ) → eqb m m ≡ true
 eqb_same m = grind (arith, nat_tests)
 
-eqb_from : (m k : ℕ) → eqb m k ≡ true → m ≡ k
-eqb_from m k e = grind (arith, nat_tests)
-
 eqb_other : (m k : ℕ) → (m ≡ k → ⊥) → eqb m k ≡ false
 eqb_other m k e = grind (arith, nat_tests)
 
@@ -113,8 +109,8 @@ in_image n numbers f m = (
     | inl l ↦
         let p = positive (weigh (eqb m) numbers f) (sym (get_test n (λ k. ltb 0 (weigh (eqb k) numbers f)) m false l) ∙ h) in
         let w = some_weigh (eqb m) numbers f p in
-        let e : m ≡ w.1 = eqb_from m w.1 w.5 in
-        (w.0, l, w.2, other_default numbers w.0 m w.1 w.2 ∙ w.3 ∙ sym e, w.4)
+        let e : m ≡ w.1 = eqb-true m w.1 w.5 in
+        (w.0, l, w.2, get_or_default numbers w.0 m w.1 w.2 ∙ w.3 ∙ sym e, w.4)
     | inr l ↦ absurd (true≢false (sym h ∙ past_tests n 0 (λ k. ltb 0 (weigh (eqb k) numbers f)) m false (omega (arith, l))))
   ],
   λ h. get_test n (λ k. ltb 0 (weigh (eqb k) numbers f)) m false h.1 ∙ is_positive (weigh (eqb m) numbers f) (weigh_some (eqb m) numbers f h.0 m h.2 h.3 h.4 (eqb_same m)),
@@ -305,7 +301,7 @@ module _ (n : ℕ) (numbers : List ℕ) (total : ℕ) (counts : List ℕ) (f : L
   number_low = let e = is.rows in subst (λ k. k < n) (sym own) (all row m (omega (arith, e, inside)))
 
   pub before_is : before ≡ weigh (eqb m) numbers f
-  before_is = let e = is.many in let l = number_low in read ∙ other_default counts m before 0 (omega (arith, e, l)) ∙ is.each m l
+  before_is = let e = is.many in let l = number_low in read ∙ get_or_default counts m before 0 (omega (arith, e, l)) ∙ is.each m l
 
   pub enter_room : get_or f row true ≡ false → before + 1 < 2 ^ 64
   enter_room out = subst (λ k. k + 1 < 2 ^ 64) (sym before_is) (room_in n numbers f row m inside is.rows (sym own) number_low out (eqb m) is.short (eqb_same m))

@@ -3,15 +3,15 @@ use Rattle.std.proofs.Common.{◌≡◌, ◌↔◌, ◌⊎◌, inl, inr, ℕ, ze
 use Rattle.std.specs.Prelude.{if◌then◌else◌}
 use Rattle.std.specs.Ordering.{eq_by_cmp}
 use Rattle.std.specs.declared.cmp.Ordering.TheVariants.{Less, Equal}
-use Rattle.std.proofs.lemmas.Bool.{cases_lt}
+use Rattle.std.proofs.lemmas.Bool.{cases_lt, cases_Bool}
 use Rattle.std.proofs.lemmas.Cmp.{tied_itself}
+use Rattle.std.proofs.lemmas.List.{get_or_default}
 use Rattle.base_core.proofs.MemberLemmas.{eq_by_cmp-≡}
 use Rattle.value_core.specs.Order.{row_total, row_separates}
 use Rattle.value_core.specs.Values.{Row, row_cmp}
 use Rattle.relation_core.specs.Agreement.{part_of}
 use Rattle.packing_core.specs.Covering.{Among}
 use Rattle.packing_core.proofs.AmongLemmas.{among_append}
-use Rattle.packing_core.proofs.Numbered.{other_default}
 use Rattle.box_core.specs.Answers.{KeyedBox}
 use Rattle.box_core.specs.Keys.{ArePaired}
 use Rattle.box_core.specs.Rows.{Ascend, KeyBox}
@@ -80,16 +80,12 @@ module _ (rows : List (KeyBox Row)) (given : List (KeyedBox Row ℕ)) (are : Lis
   chosen true x y = (λ e. refl, λ e. absurd cc)
   chosen false x y = (λ e. absurd cc, λ e. refl)
 
-  cases_bool : (b : Bool) → (b ≡ true) ⊎ (b ≡ false)
-  cases_bool true = inl refl
-  cases_bool false = inr refl
-
   stands_for : (i : ℕ) → i < length keys → (standing keys numbers i < length rows) × ((row_at rows (standing keys numbers i)).0 ≡ label_of i)
   stands_for zero l = let w = own_row 0 l in (w.0, sym w.1)
   stands_for (suc i) l =
       let t = eq_by_cmp row_cmp (label_of i) (label_of (suc i)) in
       let ch = chosen t (standing keys numbers i) (get_or numbers (suc i) 0) in
-      elim (cases_bool t) [
+      elim (cases_Bool t) [
         | inl e ↦
             let w = stands_for i (omega (arith, l)) in
             let q = ch.0 e in (
@@ -154,7 +150,7 @@ module _ (rows : List (KeyBox Row)) (given : List (KeyedBox Row ℕ)) (are : Lis
         let w = paired.to (labelled_row rows r) m in
         let i = w.0 in
         let b : i < length keys = w.1.0 in
-        let k : row_at keys i ≡ row_at rows r = other_default keys i none (row_at rows r) b ∙ w.1.1 in
+        let k : row_at keys i ≡ row_at rows r = get_or_default keys i none (row_at rows r) b ∙ w.1.1 in
         let s = stands_for i b in (
           keyed_row by keys numbers i,
           (made (keyed_row by keys numbers i)).1 (i, b, refl),

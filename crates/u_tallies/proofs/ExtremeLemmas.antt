@@ -9,7 +9,7 @@ use Rattle.std.specs.Cmp.{IsTotalOrder}
 use Rattle.std.specs.Ordering.{int_cmp, nat_cmp, is_eq, is_lt, is_gt, ordering_then, ordering_reverse}
 use Rattle.std.specs.declared.cmp.Ordering.{Ordering}
 use Rattle.std.specs.declared.cmp.Ordering.TheVariants.{Less, Equal, Greater}
-use Rattle.std.proofs.lemmas.Bool.{true≢false}
+use Rattle.std.proofs.lemmas.Bool.{true≢false, false_from_ne_true}
 use Rattle.std.proofs.lemmas.Cmp.{int_cmp_total, nat_cmp_total, on_total, then_total, tied_itself}
 use Rattle.std.proofs.lemmas.List.{get_or-set_other, get_or-set_same, length-set}
 use Rattle.std.proofs.lemmas.Map.Lookups.{exact_pairs, exact_signed, exact_unsigned}
@@ -155,17 +155,13 @@ less_tie a b e f = exact_signed a b (ap₂ (λ (x y : Bool). cond x Less (cond y
 less_cmp : (a b : ℤ) → int_lt a b ≡ true → int_cmp a b ≡ Less
 less_cmp a b e = ap (λ (x : Bool). cond x Less (cond (int_lt b a) Greater Equal)) e
 
-not_true : (b : Bool) → (b ≡ true → ⊥) → b ≡ false
-not_true true n = absurd (n refl)
-not_true false n = refl
-
 none_below : (p q : ℤ × ℕ) → is_gt (pair_cmp p q) ≡ false → int_lt q.0 p.0 ≡ false
-none_below p q e = not_true (int_lt q.0 p.0) (λ h.
+none_below p q e = false_from_ne_true (int_lt q.0 p.0) (λ h.
     let back : int_cmp p.0 q.0 ≡ Greater = int_cmp_total.antisymm p.0 q.0 ∙ ap ordering_reverse (less_cmp q.0 p.0 h) in
     true≢false (sym (ap (λ o. is_gt (ordering_then o (nat_cmp p.1 q.1))) back) ∙ e))
 
 none_above : (p q : ℤ × ℕ) → is_lt (pair_cmp p q) ≡ false → int_lt p.0 q.0 ≡ false
-none_above p q e = not_true (int_lt p.0 q.0) (λ h. true≢false (sym (ap (λ o. is_lt (ordering_then o (nat_cmp p.1 q.1))) (less_cmp p.0 q.0 h)) ∙ e))
+none_above p q e = false_from_ne_true (int_lt p.0 q.0) (λ h. true≢false (sym (ap (λ o. is_lt (ordering_then o (nat_cmp p.1 q.1))) (less_cmp p.0 q.0 h)) ∙ e))
 
 module _ (values : List ℤ) (s : BTreeSet (ℤ × ℕ)) (f : List Bool) (is : AreOrdered values s f) where
   there : (r : ℕ) → IsIn f r → IsTrue (contains pair_cmp s (get_or values r (pos 0), r))

@@ -1,8 +1,8 @@
 -- The conditions of changes are typed, and sweepable for the attributes on which the change works point by point.
-use Rattle.std.specs.Prelude.{◌≡◌, ℕ, ◌<◌, Bool, true, false, ◌||◌, List, [], ◌∷◌, map, length, nat_eq, Option, Some, None, is_none, IsTrue, refl}
+use Rattle.std.specs.Prelude.{◌≡◌, ℕ, ◌<◌, true, false, ◌||◌, List, [], ◌∷◌, map, length, nat_eq, Option, Some, None, is_none, IsTrue, refl}
 use Rattle.std.specs.List.{All, fold}
 use Rattle.std.proofs.Common.{get_or, slice_get, sym, ap, ◌∙◌, subst, inl, inr}
-use Rattle.std.proofs.lemmas.Bool.{and_from}
+use Rattle.std.proofs.lemmas.Bool.{and_from, or_from}
 use Rattle.std.proofs.lemmas.List.Elements.{All-head, All-tail}
 use Rattle.std.proofs.lemmas.Option.{slice_get-get_or}
 use Rattle.std.specs.Cmp.{nat_eq_equiv}
@@ -53,16 +53,13 @@ any-heading heading (pair op place l r) kind h = (h.0, h.1, any-heading heading 
 any-heading heading (and_expr place l r) kind h = (any-heading heading l Truth h.0, any-heading heading r Truth h.1, h.2)
 any-heading heading (or_expr place l r) kind h = (any-heading heading l Truth h.0, any-heading heading r Truth h.1, h.2)
 
-neither : (a b : Bool) → a ≡ false → b ≡ false → (a || b) ≡ false
-neither a b h k = rw (h, k) refl
-
 pub names-no : (acl : List ℕ) (e : Expr) (kind : Kind) → IsTyped [] e kind → names_any acl e ≡ false
 names-no acl (constant place k v) kind h = refl
 names-no acl (attribute place i) kind h = let e = h.1 in absurd (cc)
 names-no acl (one op place e) kind h = names-no acl e h.0 h.1
-names-no acl (pair op place l r) kind h = neither (names_any acl l) (names_any acl r) (names-no acl l h.0 h.2) (names-no acl r h.1 h.3)
-names-no acl (and_expr place l r) kind h = neither (names_any acl l) (names_any acl r) (names-no acl l Truth h.0) (names-no acl r Truth h.1)
-names-no acl (or_expr place l r) kind h = neither (names_any acl l) (names_any acl r) (names-no acl l Truth h.0) (names-no acl r Truth h.1)
+names-no acl (pair op place l r) kind h = or_from (names_any acl l) (names_any acl r) (names-no acl l h.0 h.2) (names-no acl r h.1 h.3)
+names-no acl (and_expr place l r) kind h = or_from (names_any acl l) (names_any acl r) (names-no acl l Truth h.0) (names-no acl r Truth h.1)
+names-no acl (or_expr place l r) kind h = or_from (names_any acl l) (names_any acl r) (names-no acl l Truth h.0) (names-no acl r Truth h.1)
 
 -- ---- typed conditions
 

@@ -17,16 +17,9 @@ use Rattle.meaning_core.specs.Names.{IsFirstAt}
 use Rattle.meaning_core.specs.Typing.{heading_named, is_declared}
 use Rattle.meaning_core.specs.WellMade.{headings_of, IsBase, AreRelvars}
 use Rattle.meaning_core.proofs.EntryLemmas.{found_first}
+use Rattle.meaning_core.proofs.RelvarLemmas.{heading_of_named}
 
 -- ---- relvars
-
-heading-named : (es : Entries) (name : Name) → heading_named (headings_of es) name ≡ option_map relvar_heading (relvar_named es name)
-heading-named [] name = refl
-heading-named (r ∷ rest) name =
-    elim (bytes_eq r.0 name) as (λ b. cond b (Some (relvar_heading r.1)) (heading_named (headings_of rest) name) ≡ option_map relvar_heading (cond b (Some r.1) (relvar_named rest name))) [
-      | true ↦ refl
-      | false ↦ heading-named rest name
-    ]
 
 some-heading : (o : Option PlainRelvar) (h : Heading) → IsBase o → h ≡ heading_if o → option_map relvar_heading o ≡ Some h
 some-heading None h is e = absurd is
@@ -34,7 +27,7 @@ some-heading (Some r) h is e = ap Some (sym e)
 
 -- the name of a base relvar has its heading
 pub base-heading : (es : Entries) (name : Name) (h : Heading) → IsBase (relvar_named es name) → h ≡ heading_if (relvar_named es name) → heading_named (headings_of es) name ≡ Some h
-base-heading es name h is e = heading-named es name ∙ some-heading (relvar_named es name) h is e
+base-heading es name h is e = heading_of_named es name ∙ some-heading (relvar_named es name) h is e
 
 -- and this is a declared one
 pub base-declared : (sizes : List ℕ) (before es : Entries) (name : Name) → AreRelvars sizes before es → IsBase (relvar_named es name) → IsTrue (is_declared sizes (heading_if (relvar_named es name)))

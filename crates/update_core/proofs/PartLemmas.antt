@@ -1,22 +1,18 @@
 -- The nodes of updates are parts that USING takes.
-use Rattle.std.specs.Prelude.{◌≡◌, ℕ, ◌<◌, true, false, not, ◌&&◌, List, [], ◌∷◌, length, nat_eq, IsTrue, refl}
+use Rattle.std.specs.Prelude.{◌≡◌, ℕ, ◌<◌, true, false, not, ◌&&◌, List, [], ◌∷◌, length, IsTrue, refl}
 use Rattle.std.specs.List.{list_all, list_any}
 use Rattle.std.proofs.Common.{sym, ap, ap₂, ◌∙◌, inl, inr}
 use Rattle.std.proofs.lemmas.Bool.{and_parts, and_from, true≢false, false_from_ne_true, not-true, not_from_false}
-use Rattle.std.specs.Cmp.{nat_eq_equiv}
 use Rattle.std.specs.Str.{bytes_eq}
 use Rattle.base_core.proofs.MemberLemmas.{In-map, list_any-In}
 use Rattle.base_core.proofs.SetLemmas.{In, Ascends}
-use Rattle.point_core.specs.declared.any_type.AnyType.{AnyType}
-use Rattle.point_core.specs.declared.any_type.AnyType.TheVariants.{Integer, Date, Ordinal}
 use Rattle.point_core.specs.declared.fault.Place.{Place}
 use Rattle.value_core.specs.Attributes.{among}
 use Rattle.value_core.specs.Headings.{has_name}
-use Rattle.value_core.specs.declared.kind.Kind.{Kind}
-use Rattle.value_core.specs.declared.kind.Kind.TheVariants.{Truth, Char, Point, Span}
 use Rattle.value_core.specs.Values.{Name, Heading, attribute_cmp}
 use Rattle.scalar_core.specs.Expressions.{Expr}
-use Rattle.scalar_core.specs.KindOf.{same_type, same_kind}
+use Rattle.scalar_core.specs.KindOf.{same_kind}
+use Rattle.scalar_core.proofs.KindOfLemmas.{same_kind-self}
 use Rattle.relation_core.specs.Agreement.{position_of}
 use Rattle.relation_core.proofs.AttributeLemmas.{name_is}
 use Rattle.relation_core.specs.Parts.{kind_at}
@@ -28,22 +24,11 @@ use Rattle.meaning_core.specs.Typing.{is_alike_at, are_in, is_swept, is_part}
 use Rattle.update_core.proofs.ConditionLemmas.{IsSwept, swept-to, member-among}
 use Rattle.update_core.proofs.NameLemmas.{position-own, has-own}
 
-type-own : (t : AnyType) → same_type t t ≡ true
-type-own Integer = refl
-type-own Date = refl
-type-own (Ordinal of last) = and_from (nat_eq of of) (nat_eq last last) (nat_eq_equiv.refl of) (nat_eq_equiv.refl last)
-
-kind-own : (k : Kind) → same_kind k k ≡ true
-kind-own Truth = refl
-kind-own Char = refl
-kind-own (Point t) = type-own t
-kind-own (Span t) = type-own t
-
 alike-own : (h : Heading) (i : ℕ) → i < length h → is_alike_at h h (name_at h i) ≡ true
 alike-own h i l =
     let name = name_at h i in
     let same = same_kind (kind_at h (position_of h name)) (kind_at h (position_of h name)) in
-    and_from (has_name h name) (has_name h name && same) (has-own h i l) (and_from (has_name h name) same (has-own h i l) (kind-own (kind_at h (position_of h name))))
+    and_from (has_name h name) (has_name h name && same) (has-own h i l) (and_from (has_name h name) same (has-own h i l) (same_kind-self (kind_at h (position_of h name))))
 
 abbrev pub AreWithin : Heading → List ℕ → Type 0
 AreWithin h acl = (i : ℕ) → In i acl → i < length h

@@ -30,14 +30,14 @@ row_cells acl scalars row =
     let z : 0 + i ≡ i = omega arith in
     ap (λ k. length (cuts_of_all acl scalars row (slice_index acl k)) + 1) z)
 
-fold_from : (a : ℕ) (ns : List ℕ) → fold ◌+◌ a ns ≡ a + sum ns
+pub fold_from : (a : ℕ) (ns : List ℕ) → fold ◌+◌ a ns ≡ a + sum ns
 fold_from a [] = omega arith
 fold_from a (n ∷ ns) =
     let one : fold ◌+◌ (a + n) ns ≡ (a + n) + sum ns = fold_from (a + n) ns in
     let two : fold ◌+◌ (0 + n) ns ≡ (0 + n) + sum ns = fold_from (0 + n) ns in
     one ∙ (let e : (a + n) + sum ns ≡ a + ((0 + n) + sum ns) = omega arith in e) ∙ ap (λ m. a + m) (sym two)
 
-sum_more : (n : ℕ) (ns : List ℕ) → sum (n ∷ ns) ≡ n + sum ns
+pub sum_more : (n : ℕ) (ns : List ℕ) → sum (n ∷ ns) ≡ n + sum ns
 sum_more n ns =
     let z : 0 + n ≡ n = omega arith in
     ap (λ m. fold ◌+◌ m ns) z ∙ fold_from n ns

@@ -3,8 +3,9 @@ use Rattle.std.proofs.Common.{◌≡◌, ℕ, zero, suc, ◌<◌, ℤ, pos, ◌�
 use Rattle.std.specs.Prelude.{slice_index, int_le, if◌then◌else◌}
 use Rattle.std.specs.Bool.{IsTrue}
 use Rattle.std.specs.List.{All}
-use Rattle.std.proofs.lemmas.Bool.{and_parts}
+use Rattle.std.proofs.lemmas.Bool.{and_from}
 use Rattle.std.proofs.lemmas.List.{length-set, length-map, get_or-map, get_or_default}
+use Rattle.base_core.proofs.IntLemmas.{le-int_le}
 use Rattle.point_core.specs.Points.{Line, line, line_of, number, is_number, IsPointOf}
 use Rattle.point_core.specs.declared.any_type.AnyType.{AnyType}
 use Rattle.point_core.specs.declared.any_type.AnyType.TheVariants.{Integer}
@@ -14,13 +15,14 @@ use Rattle.packing_core.specs.Covering.{Among}
 use Rattle.packing_core.specs.Packed.{Has, firsts}
 use Rattle.value_core.specs.Attributes.{value_at, span_of, with_span, put_span}
 use Rattle.value_core.specs.Plain.{plain, ends}
-use Rattle.value_core.specs.Values.{Row, Value as PlainValue, truth, text, point, interval, fits, fits_heading, is_interval, same_line}
+use Rattle.value_core.specs.Values.{Row, Value as PlainValue, interval, fits, fits_heading, is_interval, same_line}
 use Rattle.value_core.specs.declared.kind.Kind.TheVariants.{Span as SpanOf}
 use Rattle.value_core.specs.declared.value.Value.{Value}
 use Rattle.value_core.specs.declared.value.Value.TheVariants.{Span as SpanValue}
+use Rattle.value_core.proofs.FitLemmas.{interval_that_fits}
 use Rattle.scalar_core.specs.AtPlaces.{at_place, HasSpanAt, AreWithin}
 use Rattle.scalar_core.specs.Expressions.{Expr}
-use Rattle.scalar_core.proofs.PointLemmas.{same_line-same, same_line-self, both_true, number-is_number, le-int_le}
+use Rattle.scalar_core.proofs.PointLemmas.{same_line-self, number-is_number}
 use Rattle.relation_core.specs.Parts.{kind_at}
 use Rattle.cell_core.specs.Boxes.{IsBox}
 use Rattle.cell_core.specs.Cells.{box_numbers, row_numbers}
@@ -115,20 +117,14 @@ box_long [] (i ∷ is) h = absurd h
 box_long (u ∷ ts) [] h = absurd h
 box_long (u ∷ ts) (i ∷ is) h = ap suc (box_long ts is h.1)
 
-interval_that_fits : (t : AnyType) (v : PlainValue) → IsTrue (fits (SpanOf t) v) → v ≡ interval (line_of t) (span_of v)
-interval_that_fits t (truth b) h = absurd cc
-interval_that_fits t (text bytes) h = absurd cc
-interval_that_fits t (point l p) h = absurd cc
-interval_that_fits t (interval l i) h = ap (λ m. interval m i) (same_line-same l (line_of t) (and_parts (same_line l (line_of t)) (is_interval t i) h).0)
-
 -- an interval with its ends in a type fits the type
 ends_fit : (t : AnyType) (i : AnyPoint × AnyPoint) (s : Span) → HasEndsIn IsPointOf t i → numbers_of number i ≡ s → number i.0 ≤ℤ number i.1 → IsTrue (fits (SpanOf t) (interval (line_of t) s))
 ends_fit t i s h e l =
     let a = number i.0 in
     let b = number i.1 in
-    let inside : is_interval t (a, b) ≡ true = both_true (is_number t a) (is_number t b && int_le a b) (number-is_number t a (h.0).1)
-    (both_true (is_number t b) (int_le a b) (number-is_number t b (h.1).1) (le-int_le a b l)) in
-    both_true (same_line (line_of t) (line_of t)) (is_interval t s) (same_line-self (line_of t)) (subst (λ (r : Span). is_interval t r ≡ true) e inside)
+    let inside : is_interval t (a, b) ≡ true = and_from (is_number t a) (is_number t b && int_le a b) (number-is_number t a (h.0).1)
+    (and_from (is_number t b) (int_le a b) (number-is_number t b (h.1).1) (le-int_le a b l)) in
+    and_from (same_line (line_of t) (line_of t)) (is_interval t s) (same_line-self (line_of t)) (subst (λ (r : Span). is_interval t r ≡ true) e inside)
 
 -- ---- a row with its box
 

@@ -17,7 +17,8 @@ use Rattle.scalar_core.specs.Expressions.{Expr}
 use Rattle.scalar_core.specs.ScalarValues.{value}
 use Rattle.point_core.specs.LeastFault.{fault_total, IsLeast}
 use Rattle.relation_core.specs.Agreement.{part_of}
-use Rattle.relation_core.specs.Operators.{extended, fault_order}
+use Rattle.relation_core.specs.Operators.{extended}
+use Rattle.point_core.specs.Orders.{fault_order}
 use Rattle.tree_core.specs.Trees.{PlainSets}
 use Rattle.packing_core.specs.Boxed.{Boxed}
 use Rattle.point_core.specs.LeastFault.{IsLeast}
@@ -25,7 +26,6 @@ use Rattle.u_set.specs.Boxes.{IsShaped, spans_at}
 use Rattle.u_set.proofs.BoxLemmas.{shaped_from_fit, value_at-get}
 use Rattle.u_set.proofs.BridgeLemmas.{AreRowsOf}
 use Rattle.u_row.specs.Rules.{HasRuleFault, IsRuleForm}
-use Rattle.u_row.proofs.RuleLemmas.{least_same}
 use Rattle.meaning_core.specs.Rows.{values_on, extended_at}
 use Rattle.meaning_core.proofs.MadeLemmas.{split_ok}
 use Rattle.using_core.specs.Extended.{made_of, AreItems}
@@ -33,6 +33,7 @@ use Rattle.using_core.specs.PlaceRows.{unpacked_places, within_has}
 use Rattle.using_core.specs.Swept.{swept_rows}
 use Rattle.using_core.proofs.FaultLemmas.{least_over}
 use Rattle.scalar_core.proofs.AtPlaceLemmas.{at_place-fits}
+use Rattle.slice_core.proofs.Turns.{least_iff}
 use Rattle.using_core.proofs.SweptLemmas.{fault_there, swept_rows_of}
 
 -- ---- one row
@@ -114,7 +115,7 @@ module _ (from heading : Heading) (acl to : List ℕ) (sets : PlainSets) (at : L
 
   least_there : (o : Option Fault) → IsLeastThere o → IsLeast (λ e. (x : Row) × In x (unpacked acl rows) × (f x ≡ Err e)) o
   least_there o h =
-      least_same (HasRuleFault means boxes) (λ e. (x : Row) × In x (unpacked acl rows) × (f x ≡ Err e)) o (λ e.
+      least_iff (HasRuleFault means boxes) (λ e. (x : Row) × In x (unpacked acl rows) × (f x ≡ Err e)) o (λ e.
       let all = fault_there from acl items.here rows ascends shaped (made_of at sets) to e in (
         λ q. let w = all.0 q in (w.0, w.1, (made_fault (f w.0) e).0 w.2),
         λ w. all.1 (w.0, w.1, (made_fault (f w.0) e).1 w.2),

@@ -1,8 +1,7 @@
 -- The least of the faults that a function gives of the members of a list.
-use Rattle.std.proofs.Common.{◌≡◌, ◌≢◌, ◌⊎◌, inl, inr, ℕ, List, [], ◌∷◌, map, get_or, Ok, Err, Option, Some, None, Ordering, refl, sym, ap, ◌∙◌, subst}
+use Rattle.std.proofs.Common.{◌≡◌, ◌≢◌, ◌⊎◌, inl, inr, List, [], ◌∷◌, map, get_or, Ok, Err, Option, Some, None, refl, sym, ap, ◌∙◌, subst}
 use Rattle.std.specs.declared.cmp.Ordering.TheVariants.{Less, Equal, Greater}
-use Rattle.std.specs.Ordering.{nat_cmp, ordering_then, ordering_reverse}
-use Rattle.std.proofs.lemmas.Cmp.{ranked}
+use Rattle.std.specs.Ordering.{nat_cmp, ordering_reverse}
 use Rattle.base_core.specs.Outcomes.{least_of_all, with_lesser, lesser}
 use Rattle.base_core.proofs.SetLemmas.{In}
 use Rattle.point_core.specs.Faults.{OrFault, code_number, place_cmp}
@@ -11,9 +10,17 @@ use Rattle.point_core.specs.Orders.{fault_order}
 use Rattle.point_core.specs.declared.fault.Fault.{Fault}
 use Rattle.point_core.specs.declared.fault.Code.{Code}
 use Rattle.point_core.specs.declared.fault.Code.TheVariants.{E01, E02, E03, E04, E05, E06, E10, E11, E12, E13, E14, E15, E16, E17, E18, E19, E20, E21, E22, E30, E31, E32, E33, E34, E35, E36, E40, E41, E42, E43, E44, E46}
+<<<<<<< HEAD
 use Rattle.point_core.specs.LeastFault.{fault_total, IsLeast}
 use Rattle.point_core.proofs.LeastFaultLemmas.{least_first, least_min, not_after_itself}
 use Rattle.u_row.proofs.RuleLemmas.{least_chain, least_same}
+=======
+use Rattle.point_core.proofs.OrderLemmas.{nat_same, then_same}
+use Rattle.slice_core.specs.LeastFault.{fault_total, IsLeast}
+use Rattle.slice_core.proofs.LeastFaultLemmas.{least_first, least_min, not_after_itself}
+use Rattle.slice_core.proofs.Turns.{least_iff}
+use Rattle.u_row.proofs.RuleLemmas.{least_chain}
+>>>>>>> ef085be6f7c97d57563d20c59e71dc557db76b7e
 
 -- ---- faults that tie are one
 
@@ -62,18 +69,10 @@ code_back E46 = refl
 code_same : (c d : Code) → code_number c ≡ code_number d → c ≡ d
 code_same c d e = sym (code_back c) ∙ ap (λ n. get_or codes n E01) e ∙ code_back d
 
-both_equal : (a b : Ordering) → ordering_then a b ≡ Equal → (a ≡ Equal) × (b ≡ Equal)
-both_equal Equal b h = (refl, h)
-both_equal Less b h = absurd cc
-both_equal Greater b h = absurd cc
-
-nat_same : (m n : ℕ) → nat_cmp m n ≡ Equal → m ≡ n
-nat_same m n e = ranked m n Equal (sym e)
-
 fault_same : (a b : Fault) → fault_order a b ≡ Equal → a ≡ b
 fault_same a b e =
-    let w = both_equal (place_cmp a.place b.place) (nat_cmp (code_number a.code) (code_number b.code)) (sym (fault_by_place a b) ∙ e) in
-    let v = both_equal (nat_cmp a.place.line b.place.line) (nat_cmp a.place.column b.place.column) w.0 in
+    let w = then_same (place_cmp a.place b.place) (nat_cmp (code_number a.code) (code_number b.code)) (sym (fault_by_place a b) ∙ e) in
+    let v = then_same (nat_cmp a.place.line b.place.line) (nat_cmp a.place.column b.place.column) w.0 in
     let line = nat_same a.place.line b.place.line v.0 in
     let column = nat_same a.place.column b.place.column v.1 in
     let code = code_same a.code b.code (nat_same (code_number a.code) (code_number b.code) w.1) in
@@ -115,11 +114,11 @@ one_more (Ok v) (Err d) = record {
   below = λ e w. elim w [ inl p ↦ subst (λ z. fault_order d z ≢ Greater) (some_is d e p) (not_after_itself fault_order fault_total d) | inr p ↦ absurd cc ];
 }
 one_more (Err c) (Ok vs) =
-    least_same (λ z. (None ≡ Some z) ⊎ (c ≡ z)) (λ e. (None ≡ Some e) ⊎ (Err c ≡ Err e)) (Some c)
+    least_iff (λ z. (None ≡ Some z) ⊎ (c ≡ z)) (λ e. (None ≡ Some e) ⊎ (Err c ≡ Err e)) (Some c)
     (λ e. (λ w. elim w [ inl p ↦ inl p | inr p ↦ inr (ap (λ x. Err x) p) ], λ w. elim w [ inl p ↦ inl p | inr p ↦ inr cc ]))
     (least_first None c refl)
 one_more (Err c) (Err d) =
-    least_same (λ z. (Some c ≡ Some z) ⊎ (d ≡ z)) (λ e. (Some d ≡ Some e) ⊎ (Err c ≡ Err e)) (Some (lesser fault_order c d))
+    least_iff (λ z. (Some c ≡ Some z) ⊎ (d ≡ z)) (λ e. (Some d ≡ Some e) ⊎ (Err c ≡ Err e)) (Some (lesser fault_order c d))
     (λ e. (λ w. elim w [ inl p ↦ inr (ap (λ x. Err x) (some_is c e p)) | inr p ↦ inl (ap (λ x. Some x) p) ], λ w. elim w [ inl p ↦ inr (some_is d e p) | inr p ↦ inl cc ]))
     (least_min (Some c) c d refl)
 
@@ -131,7 +130,7 @@ least_given {X = X} g (x ∷ xs) =
     let Q : Fault → Type 0 = λ e. (z : X) × In z xs × (g z ≡ Err e) in
     let M : Fault → Type 0 = λ e. g x ≡ Err e in
     let all : IsLeast (λ e. Q e ⊎ M e) b = least_chain Q M (err_of r) b (least_given g xs) (one_more (g x) r) in
-    least_same (λ e. Q e ⊎ M e) (λ e. (z : X) × In z (x ∷ xs) × (g z ≡ Err e)) b (λ e. (
+    least_iff (λ e. Q e ⊎ M e) (λ e. (z : X) × In z (x ∷ xs) × (g z ≡ Err e)) b (λ e. (
       λ w. elim w [ inl v ↦ (v.0, inr v.1, v.2) | inr p ↦ (x, inl refl, p) ],
       λ w. split w.0 e w.1 w.2,
     )) all

@@ -4,8 +4,11 @@ use Rattle.std.specs.Prelude.{pos, int_le, ◌&&◌}
 use Rattle.std.specs.Bool.{IsTrue}
 use Rattle.std.specs.List.{All}
 use Rattle.std.proofs.lemmas.List.{map-append, map_more}
+use Rattle.std.proofs.lemmas.Bool.{and_from}
 use Rattle.base_core.specs.Outcomes.{then_give}
 use Rattle.base_core.proofs.MemberLemmas.{In-append, list_all-In}
+use Rattle.base_core.proofs.BoolLemmas.{and_left, and_right}
+use Rattle.base_core.proofs.IntLemmas.{le-int_le}
 use Rattle.point_core.specs.Faults.{OrFault}
 use Rattle.point_core.specs.Points.{Line, number, line, line_of, is_number, IsPointOf}
 use Rattle.point_core.specs.declared.any_type.AnyPoint.{AnyPoint}
@@ -25,7 +28,7 @@ use Rattle.scalar_core.specs.Cuts.{IsBeside, inner_cuts}
 use Rattle.scalar_core.specs.Expressions.{Expr}
 use Rattle.scalar_core.specs.Operations.{is_true}
 use Rattle.scalar_core.proofs.AtPlaceLemmas.{at_place-fits}
-use Rattle.scalar_core.proofs.PointLemmas.{and_left, and_right, both_true, le-int_le, number-is_number}
+use Rattle.scalar_core.proofs.PointLemmas.{number-is_number}
 use Rattle.scalar_core.proofs.SweepLemmas.{span_there}
 use Rattle.point_core.specs.LeastFault.{IsLeast}
 use Rattle.relation_core.specs.Parts.{kind_at}
@@ -34,10 +37,10 @@ use Rattle.cell_core.specs.Numbering.{numbers_of}
 use Rattle.u_set.specs.Boxes.{AreIntervals, type_of, others, boxed, spans_at}
 use Rattle.u_set.proofs.BoxLemmas.{shaped_from_fit, span_fits, others-set}
 use Rattle.u_row.specs.Cutting.{AreCuts, pieces}
-use Rattle.u_row.proofs.AllRowsLemmas.{both_boxes}
-use Rattle.u_row.proofs.RuleLemmas.{least_same}
 use Rattle.meaning_core.specs.Meanings.{condition}
 use Rattle.meaning_core.specs.Scalars.{IsConditionOver}
+use Rattle.slice_core.proofs.Turns.{least_iff}
+use Rattle.cell_core.proofs.PackedPlaces.{both_boxes}
 use Rattle.using_core.specs.BoxedLaws.{cuts_inside, some_point}
 use Rattle.using_core.specs.Holding.{at_number, InSpans, HoldsIn, FailsIn, CanAsk, IsPart}
 use Rattle.using_core.specs.PlaceRows.{at_place_others, among_itself}
@@ -155,7 +158,7 @@ module _ (at : ℕ) (row : Row) (l : Line) (is : value_at row at ≡ interval l 
 
     pub left_least : (o b : Option Fault) → IsLeast (λ e. (o ≡ Some e) ⊎ ((p : ℤ) × IsWithin own p × (asked p ≡ Err e))) b
         → IsLeast (λ e. (o ≡ Some e) ⊎ ((place : List ℤ) × Has (spans_at acl row) place × (given place ≡ Err e))) b
-    left_least o b = least_same (λ e. (o ≡ Some e) ⊎ ((p : ℤ) × IsWithin own p × (asked p ≡ Err e))) (λ e. (o ≡ Some e) ⊎ ((place : List ℤ) × Has (spans_at acl row) place × (given place ≡ Err e))) b (λ e.
+    left_least o b = least_iff (λ e. (o ≡ Some e) ⊎ ((p : ℤ) × IsWithin own p × (asked p ≡ Err e))) (λ e. (o ≡ Some e) ⊎ ((place : List ℤ) × Has (spans_at acl row) place × (given place ≡ Err e))) b (λ e.
         let all = left_faults e in (
           λ w. elim w [ inl a ↦ inl a | inr v ↦ inr (all.0 v) ],
           λ w. elim w [ inl a ↦ inl a | inr v ↦ inr (all.1 v) ],
@@ -206,7 +209,7 @@ interval_fits_as Truth (interval l i) s h n = absurd cc
 interval_fits_as Char (interval l i) s h n = absurd cc
 interval_fits_as (Point t) (interval l i) s h n = absurd cc
 interval_fits_as (SpanOf t) (interval l i) s h n =
-    both_true (same_line l (line_of t)) (is_interval t s) (and_left (same_line l (line_of t)) (is_interval t i) h) (n t refl)
+    and_from (same_line l (line_of t)) (is_interval t s) (and_left (same_line l (line_of t)) (is_interval t i) h) (n t refl)
 
 put_fits : (heading : Heading) (row : Row) (a : ℕ) (s : Span) → IsTrue (fits_heading heading row) → ((t : AnyType) → kind_at heading a ≡ SpanOf t → is_interval t s ≡ true)
     → IsTrue (fits_heading heading (put_span row a s))
@@ -214,11 +217,11 @@ put_fits [] [] a s h n = h
 put_fits [] (v ∷ vs) a s h n = absurd cc
 put_fits (b ∷ rest) [] a s h n = absurd cc
 put_fits (b ∷ rest) (v ∷ vs) zero s h n =
-    both_true (fits b.1 (with_span v s)) (fits_heading rest vs)
+    and_from (fits b.1 (with_span v s)) (fits_heading rest vs)
     (interval_fits_as b.1 v s (and_left (fits b.1 v) (fits_heading rest vs) h) n)
     (and_right (fits b.1 v) (fits_heading rest vs) h)
 put_fits (b ∷ rest) (v ∷ vs) (suc a) s h n =
-    both_true (fits b.1 v) (fits_heading rest (put_span vs a s)) (and_left (fits b.1 v) (fits_heading rest vs) h)
+    and_from (fits b.1 v) (fits_heading rest (put_span vs a s)) (and_left (fits b.1 v) (fits_heading rest vs) h)
     (put_fits rest vs a s (and_right (fits b.1 v) (fits_heading rest vs) h) n)
 
 pub part_fits : (heading : Heading) (at : ℕ) (row : Row) (i : AnyPoint × AnyPoint) → IsTrue (fits_heading heading row) → HasEndsIn IsPointOf (type_of (kind_at heading at)) i → number i.0 ≤ℤ number i.1
@@ -228,8 +231,8 @@ part_fits heading at row i h ends o = put_fits heading row at (numbers_of number
     let here : HasEndsIn IsPointOf t i = subst (λ u. HasEndsIn IsPointOf u i) same ends in
     let a = number i.0 in
     let b = number i.1 in
-    both_true (is_number t a) (is_number t b && int_le a b) (number-is_number t a (here.0).1)
-    (both_true (is_number t b) (int_le a b) (number-is_number t b (here.1).1) (le-int_le a b o)))
+    and_from (is_number t a) (is_number t b && int_le a b) (number-is_number t a (here.0).1)
+    (and_from (is_number t b) (int_le a b) (number-is_number t b (here.1).1) (le-int_le a b o)))
 
 -- ---- parts of the row's interval
 
@@ -277,7 +280,7 @@ module _ (heading : Heading) (at : ℕ) (c : Expr) (row : Row) (can : CanAsk hea
     pub least_there : (o b : Option Fault) → IsLeast (λ e. (o ≡ Some e) ⊎ FailsIn c at row (box_numbers number parts) e) b
         → IsLeast (λ e. (o ≡ Some e) ⊎ ((p : ℤ) × IsWithin whole p × (condition c (at_number at row p) ≡ Err e))) b
     least_there o b h =
-        least_same (λ e. (o ≡ Some e) ⊎ FailsIn c at row (pieces whole.0 whole.1 cs) e) (λ e. (o ≡ Some e) ⊎ ((p : ℤ) × IsWithin whole p × (condition c (at_number at row p) ≡ Err e))) b (λ e.
+        least_iff (λ e. (o ≡ Some e) ⊎ FailsIn c at row (pieces whole.0 whole.1 cs) e) (λ e. (o ≡ Some e) ⊎ ((p : ℤ) × IsWithin whole p × (condition c (at_number at row p) ≡ Err e))) b (λ e.
         let all = fails_at_all c at row whole.0 whole.1 cs whole_some whole_cuts (steady_at at c row cs steady) e in (
           λ w. elim w [ inl a ↦ inl a | inr v ↦ inr (all.0 v) ],
           λ w. elim w [ inl a ↦ inl a | inr v ↦ inr (all.1 v) ],

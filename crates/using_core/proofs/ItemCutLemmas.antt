@@ -1,5 +1,5 @@
 -- The cuts by all items are those by each, put in order.
-use Rattle.std.proofs.Common.{◌≡◌, ◌↔◌, inl, inr, ℕ, zero, suc, ◌+◌, ◌<◌, ◌≤◌, ℤ, Bool, List, [], ◌∷◌, ◌++◌, map, take, length, get_or, refl, sym, ap, ◌∙◌, subst, arith, Less, Equal}
+use Rattle.std.proofs.Common.{◌≡◌, ◌↔◌, inl, inr, ℕ, ◌+◌, ◌<◌, ◌≤◌, ℤ, Bool, List, [], ◌∷◌, ◌++◌, map, take, length, get_or, refl, sym, ap, ◌∙◌, subst, Less, Equal}
 use Rattle.std.specs.Bool.{IsTrue}
 use Rattle.std.specs.Cmp.{int_cmp_total}
 use Rattle.std.specs.FinMap.{int_cmp-IsAntisymmetric}
@@ -28,6 +28,7 @@ use Rattle.scalar_core.specs.Cuts.{cuts, inner_cuts, is_inside}
 use Rattle.scalar_core.specs.Expressions.{Expr, read}
 use Rattle.scalar_core.specs.declared.tree.Scalar.{Scalar}
 use Rattle.tree_core.specs.Trees.{PlainSets, read_set, read_sets}
+use Rattle.cell_core.proofs.KeyLemmas.{take_whole}
 use Rattle.using_core.specs.Cells.{scalars_of, cuts_of_all}
 
 -- ---- points of one line in order
@@ -106,19 +107,10 @@ points_from_sort given sorted kept moved ascending left =
 pub all_in : {X : Type 0} (P : X → Type 0) (xs : List X) → All P xs → (x : X) → In x xs → P x
 all_in P xs h x m = let w = Contains-from_In xs x m in subst P w.2 (h w.0 x w.1)
 
-pub in_all : {X : Type 0} (P : X → Type 0) (xs : List X) → ((x : X) → In x xs → P x) → All P xs
-in_all P xs h i d l = h (get_or xs i d) (In-from_Contains xs (get_or xs i d) (Contains-get_or xs i d l))
-
 -- ---- a loop over items
 
 pub item_in : (sets : List (Name × Scalar)) (i : ℕ) (s : Name × Scalar) → i < length sets → s ≡ get_or sets i s → In (read_set s) (read_sets sets)
 item_in sets i s l is = (In-map read_set (read_set s) sets).1 (s, subst (λ z. In z sets) (sym is) (In-from_Contains sets (get_or sets i s) (Contains-get_or sets i s l)), refl)
-
-take_whole : {X : Type 0} (xs : List X) (n : ℕ) → length xs ≤ n → take n xs ≡ xs
-take_whole [] zero h = refl
-take_whole [] (suc n) h = refl
-take_whole (x ∷ xs) zero h = absurd (omega (arith, h))
-take_whole (x ∷ xs) (suc n) h = ap (λ ys. x ∷ ys) (take_whole xs n (omega (arith, h)))
 
 pub all_cut : (acl : List ℕ) (a : ℕ) (row : Row) (sets : List (Name × Scalar)) (n : ℕ) (points : List AnyPoint) → AreCutsOf acl a row sets n points → length sets ≤ n
     → map number points ≡ flat_map (λ s. inner_cuts acl a s.1 row) (read_sets sets)

@@ -4,7 +4,7 @@ use Rattle.std.specs.Prelude.{nat_eq, ◌||◌, is_none}
 use Rattle.std.specs.Bool.{IsTrue}
 use Rattle.std.specs.List.{list_any}
 use Rattle.std.specs.Str.{bytes_eq}
-use Rattle.std.proofs.lemmas.Bool.{true≢false, eqb-true}
+use Rattle.std.proofs.lemmas.Bool.{true≢false, eqb-true, false_from_ne_true}
 use Rattle.std.proofs.lemmas.List.{length-map, get_or-map}
 use Rattle.base_core.proofs.MemberLemmas.{In-map, list_all-In, list_any-In}
 use Rattle.base_core.proofs.SetLemmas.{In}
@@ -17,6 +17,7 @@ use Rattle.scalar_core.specs.Sweeping.{sweep_fault}
 use Rattle.relation_core.specs.Agreement.{names_of, position_of}
 use Rattle.relation_core.specs.Parts.{no_attribute, attributes_at}
 use Rattle.relation_core.proofs.HeadingLemmas.{heading_ascends}
+use Rattle.relation_core.proofs.AgreementLemmas.{position_within}
 use Rattle.tree_core.specs.Trees.{PlainSets}
 use Rattle.meaning_core.specs.Meanings.{names_at}
 use Rattle.meaning_core.specs.Places.{place_among, places}
@@ -25,11 +26,11 @@ use Rattle.meaning_core.specs.Typing.{IsList, IsExtension, is_swept}
 use Rattle.meaning_core.proofs.MadeLemmas.{same_name, own_name, place-position, given_typed, extended_fits}
 use Rattle.u_set.specs.Boxes.{type_of, types_at}
 use Rattle.u_row.proofs.LabelLemmas.{map_twice}
-use Rattle.u_join.proofs.NameLemmas.{one_name, position_in}
+use Rattle.u_join.proofs.NameLemmas.{one_name, position_at}
 use Rattle.using_core.specs.Extended.{AreItems, IsFree}
 use Rattle.using_core.specs.PlaceRows.{among_itself}
 use Rattle.using_core.specs.Using.{listed, HasList, AreSweptBy}
-use Rattle.using_core.proofs.ListLemmas.{intervals_of_list, position_back}
+use Rattle.using_core.proofs.ListLemmas.{intervals_of_list}
 use Rattle.using_core.proofs.OperandLemmas.{below, own_position, held_name, listed_is, same_attributes, operand_intervals}
 
 -- ---- places among names
@@ -77,10 +78,6 @@ in_among (k ∷ acl) a h = by (nat_eq a k) refl (in_among acl a)
     by : (b : Bool) → nat_eq a k ≡ b → (among acl a ≡ true → In a acl) → In a (k ∷ acl)
     by true e ih = inl (eqb-true a k e)
     by false e ih = inr (ih (sym (ap (λ b. b || among acl a) e) ∙ h))
-
-not_true : (b : Bool) → (b ≡ true → ⊥) → b ≡ false
-not_true true h = absurd (h refl)
-not_true false h = refl
 
 is_not : {X : Type 0} (o : Option X) → IsTrue (is_none o) → o ≡ None
 is_not None h = refl
@@ -140,7 +137,7 @@ module _ (heading : Heading) (acl : List ℕ) (headed : IsTrue (is_heading headi
     | inr q ↦ inr (
       position_of from (name j),
       place_at j l ∙ q ∙ ap (λ k. k + place_among (names_of from) (name j)) set_many ∙ ap (λ k. length sets + k) (place-position from (name j)),
-      not_true (among (listed heading acl from) (position_of from (name j))) apart,
+      false_from_ne_true (among (listed heading acl from) (position_of from (name j))) apart,
     )
   ]
     where
@@ -149,9 +146,9 @@ module _ (heading : Heading) (acl : List ℕ) (headed : IsTrue (is_heading headi
           let m = in_among (listed heading acl from) (position_of from (name j)) h in
           let w = (In-map (λ i. position_of from (name i)) (position_of from (name j)) acl).0 (subst (In (position_of from (name j))) (listed_is heading acl headed list from held) m) in
           let there = held_name heading acl headed list from held w.0 w.1 in
-          let here = named_below from (name j) (subst (λ k. k < length from) (sym w.2) (position_in from (name w.0) there)) in
+          let here = named_below from (name j) (subst (λ k. k < length from) (sym w.2) (position_within from (name w.0) there)) in
           let same : name j ≡ name w.0 = one_name from (name j) (name w.0) here there w.2 in
-          let one : j ≡ w.0 = sym (position_back heading j (heading_ascends heading headed) l) ∙ ap (position_of heading) same ∙ own_position heading acl headed list from held w.0 w.1 in
+          let one : j ≡ w.0 = sym (position_at heading j (heading_ascends heading headed) l) ∙ ap (position_of heading) same ∙ own_position heading acl headed list from held w.0 w.1 in
           true≢false (sym (among_itself acl j (subst (λ k. In k acl) (sym one) w.1)) ∙ n)
 
   type_of_all : (h : Heading) (ps : List ℕ) → types_at h ps ≡ map (λ (a : Name × Kind). type_of a.1) (attributes_at ps h)

@@ -7,7 +7,7 @@ use Rattle.std.proofs.lemmas.Bool.Decides.{nat_tests}
 use Rattle.std.proofs.lemmas.List.{get_or-map, get_or_default}
 use Rattle.base_core.specs.Outcomes.{then_give}
 use Rattle.base_core.proofs.MemberLemmas.{In-map, list_all-In}
-use Rattle.base_core.proofs.SetLemmas.{In, Ascends, In-in_order, Ascends-in_order, Ascends-from_sorted}
+use Rattle.base_core.proofs.SetLemmas.{In, In-in_order, Ascends-in_order}
 use Rattle.point_core.specs.Faults.{OrFault, fault}
 use Rattle.point_core.specs.declared.fault.Code.TheVariants.{E35}
 use Rattle.point_core.specs.declared.fault.Fault.{Fault}
@@ -23,7 +23,12 @@ use Rattle.value_core.specs.Values.{Row, Heading, Relation, IsRelation, row_cmp,
 use Rattle.scalar_core.specs.Expressions.{Expr}
 use Rattle.relation_core.specs.Answers.{Answers, under}
 use Rattle.relation_core.specs.Operators.{restricted}
+<<<<<<< HEAD
 use Rattle.point_core.specs.LeastFault.{IsLeast}
+=======
+use Rattle.relation_core.proofs.FilterLemmas.{rows_ascend}
+use Rattle.slice_core.specs.LeastFault.{IsLeast}
+>>>>>>> ef085be6f7c97d57563d20c59e71dc557db76b7e
 use Rattle.u_set.specs.Boxes.{AreIntervals, IsShaped, boxed, spans_at}
 use Rattle.u_set.proofs.BoxLemmas.{shaped_from_fit}
 use Rattle.u_set.proofs.BridgeLemmas.{same_places}
@@ -70,8 +75,6 @@ few_given : (place : Place) (rows : List Row) (m : ℕ) → length rows ≤ m �
 few_given place rows m l = ap (λ b. if b then Ok rows else Err (fault place E35)) (few_le (length rows) m l)
 
 module _ (r : Relation) (is : IsRelation r) (acl : List ℕ) (intervals : AreIntervals r.heading acl) (c : Expr) where
-  ascends : Ascends row_cmp r.rows
-  ascends = Ascends-from_sorted row_cmp r.rows is.ascending
 
   shaped : (x : Row) → In x r.rows → IsShaped r.heading acl x
   shaped = relation_shaped r is acl intervals
@@ -83,7 +86,7 @@ module _ (r : Relation) (is : IsRelation r) (acl : List ℕ) (intervals : AreInt
   IsLeastOfAll o = IsLeast (HasRuleFault (swept_rows acl acl (met c) r.rows) (map (spans_at acl) r.rows)) o
 
   pub fault_left : (e : Fault) → IsLeastOfAll (Some e) → restricted (condition c) (unpacked acl r.rows) ≡ Err e
-  fault_left e h = restricted_fault r.heading acl intervals r.rows ascends shaped c e h
+  fault_left e h = restricted_fault r.heading acl intervals r.rows (rows_ascend r is) shaped c e h
 
   module _ (heading : Heading) (same : heading ≡ r.heading) (rows : List Row) (places : HasPlaces rows) (x : Relation) (of : IsRelationOf heading rows x) (apart : packed acl x.rows ≡ x.rows) where
     kept_rows : x.rows ≡ rows_of rows
@@ -111,7 +114,7 @@ module _ (r : Relation) (is : IsRelation r) (acl : List ℕ) (intervals : AreInt
 
     packed_holding : packed acl (holding r is acl intervals c) ≡ rows_of rows
     packed_holding =
-        held_packed r.heading acl intervals r.rows ascends shaped c (rows_of rows) (Ascends-in_order row_cmp row_total row_separates rows) own_shape kept_places
+        held_packed r.heading acl intervals r.rows (rows_ascend r is) shaped c (rows_of rows) (Ascends-in_order row_cmp row_total row_separates rows) own_shape kept_places
         ∙ subst (λ (ys : List Row). packed acl ys ≡ ys) kept_rows apart
 
     pub relation_left : IsLeastOfAll None → (place : Place) → under r.heading (then_give (restricted (condition c) (unpacked acl r.rows)) (λ ys. limited place (packed acl ys))) ≡ Ok x

@@ -1,14 +1,14 @@
 -- The rows that items make of a relation, packed.
 use Rattle.std.proofs.Common.{◌≡◌, ℕ, ◌<◌, List, map, length, Ok, Err, Option, Some, None, sym, ap}
-use Rattle.std.specs.Bool.{IsTrue}
 use Rattle.base_core.specs.Outcomes.{then_give, least_of_all}
-use Rattle.base_core.proofs.MemberLemmas.{list_all-In}
-use Rattle.base_core.proofs.SetLemmas.{In, Ascends, Ascends-from_sorted}
+use Rattle.base_core.proofs.SetLemmas.{In}
 use Rattle.point_core.specs.declared.fault.Fault.{Fault}
 use Rattle.point_core.specs.declared.fault.Place.{Place}
 use Rattle.value_core.specs.RowPacking.{packed, unpacked}
-use Rattle.value_core.specs.Values.{Row, Heading, Relation, IsRelation, row_cmp, rows_of, most_rows, fits_heading}
-use Rattle.relation_core.specs.Operators.{extended, fault_order}
+use Rattle.value_core.specs.Values.{Row, Heading, Relation, IsRelation, row_cmp, rows_of, most_rows}
+use Rattle.relation_core.specs.Operators.{extended}
+use Rattle.point_core.specs.Orders.{fault_order}
+use Rattle.relation_core.proofs.FilterLemmas.{rows_ascend, rows_fit}
 use Rattle.tree_core.specs.Trees.{PlainSets}
 use Rattle.packing_core.specs.Boxed.{Boxed}
 use Rattle.point_core.specs.LeastFault.{IsLeast}
@@ -23,14 +23,9 @@ use Rattle.using_core.specs.Swept.{swept_rows}
 use Rattle.using_core.proofs.ExtensionLemmas.{extended_given, extended_rows, extended_fault}
 
 module _ (r : Relation) (is : IsRelation r) (heading : Heading) (acl to : List ℕ) (sets : PlainSets) (at : List ℕ) (items : AreItems r.heading heading acl to sets at) where
-  ascends : Ascends row_cmp r.rows
-  ascends = Ascends-from_sorted row_cmp r.rows is.ascending
 
   shaped : (x : Row) → In x r.rows → IsShaped r.heading acl x
   shaped = relation_shaped r is acl items.here
-
-  fitting : (x : Row) → In x r.rows → IsTrue (fits_heading r.heading x)
-  fitting = (list_all-In (fits_heading r.heading) r.rows).0 is.fitting
 
   abbrev pub IsLeastThere : Option Fault → Type 0
   IsLeastThere o = IsLeast (HasRuleFault (swept_rows acl to (made_of at sets) r.rows) (map (spans_at acl) r.rows)) o
@@ -39,14 +34,14 @@ module _ (r : Relation) (is : IsRelation r) (heading : Heading) (acl to : List �
   AreMade vs = least_of_all fault_order (map (extended_at at sets) (unpacked acl r.rows)) ≡ Ok vs
 
   pub made_rows : IsLeastThere None → (vs : List Row) × AreMade vs
-  made_rows h = extended_given r.heading heading acl to sets at items r.rows ascends shaped fitting h
+  made_rows h = extended_given r.heading heading acl to sets at items r.rows (rows_ascend r is) shaped (rows_fit r is) h
 
   pub fault_meant : (place : Place) (e : Fault) → IsLeastThere (Some e) → then_give (extended (extended_at at sets) (unpacked acl r.rows)) (λ rows. limited place (packed to rows)) ≡ Err e
-  fault_meant place e h = ap (λ o. then_give o (λ rows. limited place (packed to rows))) (extended_fault r.heading heading acl to sets at items r.rows ascends shaped fitting e h)
+  fault_meant place e h = ap (λ o. then_give o (λ rows. limited place (packed to rows))) (extended_fault r.heading heading acl to sets at items r.rows (rows_ascend r is) shaped (rows_fit r is) e h)
 
   module _ (vs : List Row) (made : AreMade vs) where
     pub rows_made : (form : List (Boxed Row)) → IsRuleForm row_cmp (length acl) (swept_rows acl to (made_of at sets) r.rows) (map (spans_at acl) r.rows) form → AreRowsOf heading to (packed to (rows_of vs)) form
-    rows_made form h = extended_rows r.heading heading acl to sets at items r.rows ascends shaped fitting vs made form h
+    rows_made form h = extended_rows r.heading heading acl to sets at items r.rows (rows_ascend r is) shaped (rows_fit r is) vs made form h
 
     pub made_meant : (place : Place) → limited place (packed to (rows_of vs)) ≡ then_give (extended (extended_at at sets) (unpacked acl r.rows)) (λ rows. limited place (packed to rows))
     made_meant place = ap (λ o. then_give (then_give o (λ given. Ok (rows_of given))) (λ rows. limited place (packed to rows))) (sym made)

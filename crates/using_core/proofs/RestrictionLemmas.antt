@@ -2,7 +2,7 @@
 use Rattle.std.proofs.Common.{◌≡◌, ℕ, ◌<◌, List, map, length, Err, Option, Some, None, sym, ap}
 use Rattle.std.specs.List.{All, filter}
 use Rattle.base_core.specs.Outcomes.{then_give}
-use Rattle.base_core.proofs.SetLemmas.{In, Ascends, Ascends-from_sorted}
+use Rattle.base_core.proofs.SetLemmas.{In}
 use Rattle.point_core.specs.Points.{number, IsPointOf}
 use Rattle.point_core.specs.declared.any_type.AnyPoint.{AnyPoint}
 use Rattle.point_core.specs.declared.fault.Fault.{Fault}
@@ -14,6 +14,7 @@ use Rattle.scalar_core.specs.Expressions.{Expr}
 use Rattle.scalar_core.specs.Kinds.{IsTyped}
 use Rattle.scalar_core.specs.Sweeping.{IsSweepable}
 use Rattle.relation_core.specs.Operators.{restricted, is_true}
+use Rattle.relation_core.proofs.FilterLemmas.{rows_ascend}
 use Rattle.packing_core.specs.Boxed.{Boxed}
 use Rattle.point_core.specs.LeastFault.{IsLeast}
 use Rattle.cell_core.specs.Boxes.{IsBox}
@@ -37,8 +38,6 @@ can_sweep r acl c is intervals typed sweepable boxes same points rows e i l = re
 -- ---- what is meant
 
 module _ (r : Relation) (is : IsRelation r) (acl : List ℕ) (intervals : AreIntervals r.heading acl) (c : Expr) where
-  ascends : Ascends row_cmp r.rows
-  ascends = Ascends-from_sorted row_cmp r.rows is.ascending
 
   shaped : (x : Row) → In x r.rows → IsShaped r.heading acl x
   shaped = relation_shaped r is acl intervals
@@ -51,14 +50,14 @@ module _ (r : Relation) (is : IsRelation r) (acl : List ℕ) (intervals : AreInt
   IsLeastThere o = IsLeast (HasRuleFault (swept_rows acl acl (met c) r.rows) (map (spans_at acl) r.rows)) o
 
   pub holding_rows : (form : List (Boxed Row)) → IsRuleForm row_cmp (length acl) (swept_rows acl acl (met c) r.rows) (map (spans_at acl) r.rows) form → AreRowsOf r.heading acl (packed acl holding) form
-  holding_rows form h = restricted_rows r.heading acl intervals r.rows ascends shaped c form h
+  holding_rows form h = restricted_rows r.heading acl intervals r.rows (rows_ascend r is) shaped c form h
 
   pub holding_meant : (place : Place) → IsLeastThere None
       → limited place (packed acl holding) ≡ then_give (restricted (condition c) (unpacked acl r.rows)) (λ rows. limited place (packed acl rows))
-  holding_meant place h = ap (λ o. then_give o (λ rows. limited place (packed acl rows))) (sym (restricted_given r.heading acl intervals r.rows ascends shaped c h))
+  holding_meant place h = ap (λ o. then_give o (λ rows. limited place (packed acl rows))) (sym (restricted_given r.heading acl intervals r.rows (rows_ascend r is) shaped c h))
 
   pub fault_meant : (place : Place) (e : Fault) → IsLeastThere (Some e) → then_give (restricted (condition c) (unpacked acl r.rows)) (λ rows. limited place (packed acl rows)) ≡ Err e
-  fault_meant place e h = ap (λ o. then_give o (λ rows. limited place (packed acl rows))) (restricted_fault r.heading acl intervals r.rows ascends shaped c e h)
+  fault_meant place e h = ap (λ o. then_give o (λ rows. limited place (packed acl rows))) (restricted_fault r.heading acl intervals r.rows (rows_ascend r is) shaped c e h)
 
   -- the form that is too long has as many boxes as the packed rows
   abbrev pub IsTooLong : Type 0

@@ -3,6 +3,7 @@ use Rattle.std.proofs.Common.{◌≡◌, ◌↔◌, ◌⊎◌, inl, inr, ℕ, ze
 use Rattle.std.specs.List.{All}
 use Rattle.std.proofs.lemmas.Int.{ints}
 use Rattle.std.proofs.lemmas.List.{map-append, map_more}
+use Rattle.base_core.proofs.IntLemmas.{le_itself}
 use Rattle.point_core.specs.Faults.{OrFault}
 use Rattle.point_core.specs.Points.{number, IsPointOf}
 use Rattle.point_core.specs.declared.any_type.AnyPoint.{AnyPoint}
@@ -20,8 +21,9 @@ use Rattle.cell_core.specs.Cells.{box_numbers}
 use Rattle.cell_core.specs.Numbering.{numbers_of}
 use Rattle.u_row.specs.Cutting.{AreCuts, pieces}
 use Rattle.u_row.proofs.CuttingLemmas.{in_piece, piece_in, piece_some}
-use Rattle.u_row.proofs.RuleLemmas.{least_chain, least_same}
+use Rattle.u_row.proofs.RuleLemmas.{least_chain}
 use Rattle.meaning_core.specs.Meanings.{condition}
+use Rattle.slice_core.proofs.Turns.{least_iff}
 use Rattle.using_core.specs.Holding.{at_number, InSpans, HoldsIn, FailsIn}
 use Rattle.using_core.specs.SteadyLaws.{piece_beside}
 
@@ -148,7 +150,7 @@ module _ (c : Expr) (at : ℕ) (row : Row) where
         let M : Fault → Type 0 = λ d. here (numbers_of number part) ≡ Err d in
         let more = fails_more (box_numbers number (take k parts)) (numbers_of number part) in
         subst (λ (is : List Span). IsLeast (λ d. (o ≡ Some d) ⊎ FailsIn c at row is d) b) (sym one_more)
-        (least_same (λ d. Q d ⊎ M d) (λ d. (o ≡ Some d) ⊎ FailsIn c at row (box_numbers number (take k parts) ++ numbers_of number part ∷ []) d) b (λ d. (
+        (least_iff (λ d. Q d ⊎ M d) (λ d. (o ≡ Some d) ⊎ FailsIn c at row (box_numbers number (take k parts) ++ numbers_of number part ∷ []) d) b (λ d. (
           λ w. elim w [ inl q ↦ elim q [ inl u ↦ inl u | inr v ↦ inr ((more d).0 (inl v)) ] | inr m ↦ inr ((more d).0 (inr m)) ],
           λ w. elim w [ inl u ↦ inl (inl u) | inr v ↦ elim ((more d).1 v) [ inl x ↦ inl (inr x) | inr y ↦ inr y ] ],
         )) (least_chain Q M a b ha hb))
@@ -160,16 +162,13 @@ module _ (c : Expr) (at : ℕ) (row : Row) where
     first_in : (i : Span) → Among i (pieces b e cs) → i.0 ≤ℤ i.1
     first_in i m = piece_some b e cs o are i m
 
-    itself : (n : ℤ) → n ≤ℤ n
-    itself n = omega (arith, ints)
-
     pub first_within : (i : Span) → Among i (pieces b e cs) → IsWithin (b, e) i.0
-    first_within i m = piece_in b e cs are i m i.0 (itself i.0) (first_in i m)
+    first_within i m = piece_in b e cs are i m i.0 (le_itself i.0) (first_in i m)
 
     same_there : (i : Span) → Among i (pieces b e cs) → (p : ℤ) → IsWithin i p → here i ≡ condition c (at_number at row p)
     same_there i m p h =
         steady i.0 p (first_within i m) (piece_in b e cs are i m p h.0 h.1)
-        (piece_beside b e cs are i m i.0 p (itself i.0) (first_in i m) h.0 h.1)
+        (piece_beside b e cs are i m i.0 p (le_itself i.0) (first_in i m) h.0 h.1)
 
     pub holds_at_all : (p : ℤ) → HoldsIn c at row (pieces b e cs) p ↔ (IsWithin (b, e) p × (condition c (at_number at row p) ≡ Ok true))
     holds_at_all p = (

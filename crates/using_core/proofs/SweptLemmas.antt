@@ -19,7 +19,8 @@ use Rattle.packing_core.specs.Packed.{Has}
 use Rattle.packing_core.proofs.PackedBoxes.{among_in}
 use Rattle.relation_core.specs.Parts.{kind_at}
 use Rattle.u_set.specs.Boxes.{AreIntervals, type_of, IsShaped, others, spans_at, boxed}
-use Rattle.u_set.proofs.BridgeLemmas.{AreRowsOf, IsFormOf, unpacked_image, closed_by_form, box_cmp}
+use Rattle.u_set.proofs.BridgeLemmas.{AreRowsOf, IsFormOf, closed_by_form, box_cmp}
+use Rattle.u_set.proofs.PlaceLemmas.{opened_shaped}
 use Rattle.u_row.specs.Rules.{InRule, HasRuleFault, IsRuleForm}
 use Rattle.using_core.specs.Swept.{labelled_if, swept_rows}
 use Rattle.using_core.specs.PlaceRows.{unpacked_places, HasSpans, among_itself, at_place_spans, point_has}
@@ -93,16 +94,14 @@ module _ (from : Heading) (acl : List ℕ) (intervals : AreIntervals from acl) (
   module _ (heading : Heading) (here : AreIntervals heading to) (same_count : length to ≡ length acl) (given : List Row) (up : Ascends row_cmp given)
       (is : (y : Row) → In y given ↔ ((x : Row) × In x (unpacked acl rows) × (f x ≡ Ok (Some y))))
       (made : (x y : Row) → In x (unpacked acl rows) → IsShaped from acl x → f x ≡ Ok (Some y) → IsShaped heading to y × (spans_at to y ≡ spans_at acl x)) where
-    image_shaped : (x : Row) → In x (unpacked acl rows) → IsShaped from acl x
-    image_shaped x m = (unpacked_image from acl intervals rows ascends shaped).shaped x m
 
     given_shaped : (y : Row) → In y given → IsShaped heading to y
-    given_shaped y m = let w = (is y).0 m in (made w.0 y w.1 (image_shaped w.0 w.1) w.2).0
+    given_shaped y m = let w = (is y).0 m in (made w.0 y w.1 (opened_shaped from acl intervals rows ascends shaped w.0 w.1) w.2).0
 
     spans_given : (row : Row) (place : List ℤ) → In row rows → Has (spans_at acl row) place → (y : Row) → In (at_place acl place row) (unpacked acl rows) → f (at_place acl place row) ≡ Ok (Some y)
         → spans_at to y ≡ map at_point place
     spans_given row place m h y n e =
-        (made (at_place acl place row) y n (image_shaped (at_place acl place row) n) e).1
+        (made (at_place acl place row) y n (opened_shaped from acl intervals rows ascends shaped (at_place acl place row) n) e).1
         ∙ at_place_spans acl row place intervals.different (has_spans row (shaped row m)) h
 
     -- they have at each place the labels that are given there

@@ -16,36 +16,34 @@ use Rattle.using_core.specs.Using.{around, listed, IsSweptBy}
 use Rattle.using_core.proofs.ListLemmas.{positions_back}
 
 module _ (place : Place) (heading : Heading) (acl : List ℕ) (headed : IsTrue (is_heading heading)) (list : IsList heading acl) where
-  back : positions_of heading (names_at heading acl) ≡ acl
-  back = positions_back heading acl headed list
 
   back_in : (from : Heading) → heading ≡ from → acl ≡ positions_of from (names_at heading acl)
-  back_in from same = sym back ∙ (λ t. positions_of (same t) (names_at heading acl))
+  back_in from same = sym (positions_back heading acl headed list) ∙ (λ t. positions_of (same t) (names_at heading acl))
 
   -- what an operator on sets of rows gives of the unpacked rows of operands with the node's heading, packed
   pub set_meant : (op : List Row → List Row → List Row) (left right : Heading) (r s : List Row) → heading ≡ left → heading ≡ right
       → under left (limited place (packed acl (op (unpacked acl r) (unpacked acl s))))
       ≡ under heading (closed (around place heading acl) place heading (op (opened (around place heading acl) left r) (opened (around place heading acl) right s)))
   set_meant op left right r s l m =
-      λ t. under (sym l t) (limited place (packed (sym back t) (op (unpacked (back_in left l t) r) (unpacked (back_in right m t) s))))
+      λ t. under (sym l t) (limited place (packed (sym (positions_back heading acl headed list) t) (op (unpacked (back_in left l t) r) (unpacked (back_in right m t) s))))
 
   -- rows of the node's heading, packed
   pub rows_meant : (rows : List Row) → under heading (limited place (packed acl rows)) ≡ under heading (closed (around place heading acl) place heading rows)
-  rows_meant rows = λ t. under heading (limited place (packed (sym back t) rows))
+  rows_meant rows = λ t. under heading (limited place (packed (sym (positions_back heading acl headed list) t) rows))
 
   -- what an operator gives of unpacked rows of the node's heading, and of those of another operand, packed
   pub pair_meant : (op : List Row → List Row → List Row) (left right : Heading) (r s : List Row) → heading ≡ left
       → under left (limited place (packed acl (op (unpacked acl r) (unpacked (listed heading acl right) s))))
       ≡ under heading (closed (around place heading acl) place heading (op (opened (around place heading acl) left r) (opened (around place heading acl) right s)))
   pair_meant op left right r s l =
-      λ t. under (sym l t) (limited place (packed (sym back t) (op (unpacked (back_in left l t) r) (unpacked (listed heading acl right) s))))
+      λ t. under (sym l t) (limited place (packed (sym (positions_back heading acl headed list) t) (op (unpacked (back_in left l t) r) (unpacked (listed heading acl right) s))))
 
   -- what an operator that may have a fault gives of unpacked rows of the node's heading, packed
   pub rule_meant : (op : List Row → OrFault (List Row)) (from : Heading) (r : List Row) → heading ≡ from
       → under from (then_give (op (unpacked acl r)) (λ rows. limited place (packed acl rows)))
       ≡ under heading (then_give (op (opened (around place heading acl) from r)) (closed (around place heading acl) place heading))
   rule_meant op from r same =
-      λ t. under (sym same t) (then_give (op (unpacked (back_in from same t) r)) (λ rows. limited place (packed (sym back t) rows)))
+      λ t. under (sym same t) (then_give (op (unpacked (back_in from same t) r)) (λ rows. limited place (packed (sym (positions_back heading acl headed list) t) rows)))
 
   -- the listed attributes of an operand with the node's heading
   pub listed_back : (from : Heading) → heading ≡ from → acl ≡ listed heading acl from

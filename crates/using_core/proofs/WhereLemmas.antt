@@ -19,8 +19,8 @@ use Rattle.point_core.specs.LeastFault.{IsLeast}
 use Rattle.u_set.specs.Boxes.{AreIntervals, IsShaped, spans_at, boxed}
 use Rattle.u_set.proofs.BridgeLemmas.{AreRowsOf, unpacked_ascends, unpacked_image, boxes_have, packed_rows, closed_by_boxes}
 use Rattle.u_row.specs.Rules.{InRule, HasRuleFault, IsRuleForm}
-use Rattle.u_row.proofs.RuleLemmas.{least_same}
 use Rattle.meaning_core.specs.Meanings.{condition}
+use Rattle.slice_core.proofs.Turns.{least_iff}
 use Rattle.using_core.specs.Swept.{met, swept_rows}
 use Rattle.using_core.proofs.FaultLemmas.{least_over}
 use Rattle.using_core.proofs.SweptLemmas.{fault_there, labels_there, swept_rows_of}
@@ -101,7 +101,7 @@ module _ (heading : Heading) (acl : List ℕ) (intervals : AreIntervals heading 
 
   least_there : (o : Option Fault) → IsLeast (HasRuleFault means boxes) o → IsLeast (λ e. (x : Row) × In x (unpacked acl rows) × (condition c x ≡ Err e)) o
   least_there o h =
-      least_same (HasRuleFault means boxes) (λ e. (x : Row) × In x (unpacked acl rows) × (condition c x ≡ Err e)) o (λ e.
+      least_iff (HasRuleFault means boxes) (λ e. (x : Row) × In x (unpacked acl rows) × (condition c x ≡ Err e)) o (λ e.
       let all = fault_there heading acl intervals rows ascends shaped (met c) acl e in (
         λ q. let w = all.0 q in (w.0, w.1, (fault_given w.0 (condition c w.0) e).0 (sym (met_from c w.0 (condition c w.0) refl) ∙ w.2)),
         λ w. all.1 (w.0, w.1, met_from c w.0 (condition c w.0) refl ∙ (fault_given w.0 (condition c w.0) e).1 w.2),

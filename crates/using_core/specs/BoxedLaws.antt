@@ -12,6 +12,7 @@ use Rattle.std.proofs.lemmas.List.{length-map, get_or-map}
 use Rattle.base_core.proofs.MemberLemmas.{In-filter}
 use Rattle.base_core.proofs.SetLemmas.{In, Ascends, In-in_order, Ascends-in_order}
 use Rattle.base_core.proofs.SetOperatorLemmas.{AllAfter-In}
+use Rattle.base_core.proofs.IntLemmas.{int_lt-lt}
 use Rattle.point_core.specs.Points.{number, is_number}
 use Rattle.point_core.specs.declared.any_type.AnyPoint.{AnyPoint}
 use Rattle.point_core.specs.declared.any_type.AnyType.{AnyType}
@@ -21,7 +22,6 @@ use Rattle.value_core.specs.Values.{Value, Row, truth, text, point, interval, fi
 use Rattle.value_core.specs.declared.kind.Kind.TheVariants.{Span as SpanOf}
 use Rattle.scalar_core.specs.Cuts.{cuts, is_inside}
 use Rattle.scalar_core.specs.Expressions.{Expr}
-use Rattle.scalar_core.proofs.PointLemmas.{int_lt-lt}
 use Rattle.relation_core.specs.Parts.{kind_at}
 use Rattle.packing_core.specs.Boxed.{Boxed}
 use Rattle.cell_core.specs.Cells.{box_numbers, row_numbers}

@@ -10,6 +10,7 @@ use Rattle.base_core.specs.Outcomes.{then_give, first_of_all}
 use Rattle.base_core.proofs.MemberLemmas.{In-filter, In-flat_map, In-map}
 use Rattle.base_core.proofs.OutcomeLemmas.{length-first_of_all}
 use Rattle.base_core.proofs.SetLemmas.{In, In-in_order}
+use Rattle.base_core.proofs.ListLemmas.{map-In}
 use Rattle.interval_core.specs.Members.{Span}
 use Rattle.point_core.specs.Faults.{OrFault}
 use Rattle.point_core.specs.Points.{number}
@@ -31,7 +32,6 @@ use Rattle.u_set.specs.Boxes.{unless, others_from, others, spans_at}
 use Rattle.u_set.proofs.BoxLemmas.{value_at-get}
 use Rattle.u_row.specs.Cutting.{AreCutsFrom, cells_of}
 use Rattle.u_row.proofs.CellLemmas.{cell_in}
-use Rattle.u_row.proofs.LabelLemmas.{map_in}
 use Rattle.meaning_core.specs.Rows.{values_on}
 use Rattle.meaning_core.specs.Scalars.{AreTypedOver}
 use Rattle.using_core.specs.BoxedLaws.{sides_there, own_fits, inside_from}
@@ -137,7 +137,7 @@ extended_steady acl to sets at row typed sweepable free inside cell ps qs m hp h
     let one : (s : Name × Expr) → In s sets → value s.1 x ≡ value s.1 y = λ s n.
     swept-alike_within s.1 row acl ps qs (typed_in row sets s typed n) (sweepable s n) wp wq
     (all_fewer own (λ a. inner_cuts acl a s.1 row) (λ a c k. cuts_among acl (scalars_of sets) s.1 row a c ((In-map (λ (t : Name × Expr). t.1) s.1 sets).1 (s, n, refl)) k) acl ps qs beside) in
-    let values : values_on x sets ≡ values_on y sets = ap first_of_all (map_in (λ (s : Name × Expr). value s.1 x) (λ (s : Name × Expr). value s.1 y) sets one) in
+    let values : values_on x sets ≡ values_on y sets = ap first_of_all (map-In (λ (s : Name × Expr). value s.1 x) (λ (s : Name × Expr). value s.1 y) sets one) in
     let same : (a : ℕ) → among acl a ≡ false → value_at x a ≡ value_at y a = λ a n. at_place-other acl ps row a n ∙ sym (at_place-other acl qs row a n) in
     let labels : (made : List Value) → values_on y sets ≡ Ok made → others to (part_of at (made ++ x)) ≡ others to (part_of at (made ++ y)) = λ made e.
     let long : length made ≡ length sets = length-first_of_all (map (λ (s : Name × Expr). value s.1 y) sets) made e ∙ length-map sets (λ (s : Name × Expr). value s.1 y) in

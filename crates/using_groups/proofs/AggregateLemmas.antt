@@ -1,8 +1,8 @@
 -- What aggregates give of a group depends on which rows are in it alone, and not on attributes that they do not name.
-use Rattle.std.proofs.Common.{◌≡◌, ℕ, ℤ, pos, Bool, true, false, not, List, [], ◌∷◌, map, Ok, Err, Some, None, refl, sym, ap, ap₂, ◌∙◌}
+use Rattle.std.proofs.Common.{◌≡◌, ℕ, ℤ, pos, false, List, [], ◌∷◌, map, Ok, Err, Some, None, refl, sym, ap, ap₂, ◌∙◌}
 use Rattle.std.specs.Bool.{IsTrue}
 use Rattle.std.specs.List.{list_all}
-use Rattle.std.proofs.lemmas.Bool.{and_parts}
+use Rattle.std.proofs.lemmas.Bool.{and_parts, not-true}
 use Rattle.std.proofs.lemmas.List.{length-map}
 use Rattle.base_core.specs.Outcomes.{then_give, first_of_all, least_of_all, with_lesser}
 use Rattle.point_core.specs.Faults.{OrFault}
@@ -20,9 +20,10 @@ use Rattle.scalar_core.specs.Sweeping.{names_any}
 use Rattle.scalar_core.proofs.SweepLemmas.{at_place-other, unnamed}
 use Rattle.tree_core.specs.Trees.{PlainAggregateForm, count_rows, sum_of, min_of, max_of, PlainAggregate}
 use Rattle.u_summary.specs.Summaries.{total, is_before}
+use Rattle.u_summary.proofs.ExtremeLemmas.{before_ranks, after_ranks}
 use Rattle.meaning_core.specs.Rows.{extreme, values_over, aggregate_value, aggregates_on}
 use Rattle.meaning_core.specs.Typing.{names_none}
-use Rattle.using_groups.proofs.OrderLemmas.{AreApart, HaveSame, weights, total_is, counted, weights_same, extreme_same, before_ties, before_ranks, after_ranks, map_same}
+use Rattle.using_groups.proofs.OrderLemmas.{AreApart, HaveSame, weights, total_is, counted, weights_same, extreme_same, before_ties, map_same}
 use Rattle.using_groups.proofs.FaultsAlike.{faults_alike}
 use Rattle.using_core.proofs.FaultLemmas.{err_of}
 
@@ -86,10 +87,6 @@ aggregates_same aggregates xs ys d c h = ap first_of_all (each aggregates)
 
 -- ---- attributes that are not named
 
-pub is_not : (b : Bool) → IsTrue (not b) → b ≡ false
-is_not true h = absurd cc
-is_not false h = refl
-
 values_placed : (acl : List ℕ) (place : List ℤ) (e : Expr) (xs : List Row) → names_any acl e ≡ false → map (value e) (map (at_place acl place) xs) ≡ map (value e) xs
 values_placed acl place e [] h = refl
 values_placed acl place e (x ∷ xs) h =
@@ -99,11 +96,11 @@ aggregate_placed : (acl : List ℕ) (place : List ℤ) (at : Place) (form : Plai
     → aggregate_value at form (map (at_place acl place) xs) ≡ aggregate_value at form xs
 aggregate_placed acl place at count_rows xs h = ap (λ (n : ℕ). Ok (point integers (pos n))) (length-map xs (at_place acl place))
 aggregate_placed acl place at (sum_of e) xs h =
-    ap (λ rs. then_give (least_of_all fault_order rs) (λ vs. integer at (total (map number_of vs)))) (values_placed acl place e xs (is_not (names_any acl e) h))
+    ap (λ rs. then_give (least_of_all fault_order rs) (λ vs. integer at (total (map number_of vs)))) (values_placed acl place e xs (not-true (names_any acl e) h))
 aggregate_placed acl place at (min_of e) xs h =
-    ap (λ rs. then_give (least_of_all fault_order rs) (λ vs. Ok (extreme is_before vs))) (values_placed acl place e xs (is_not (names_any acl e) h))
+    ap (λ rs. then_give (least_of_all fault_order rs) (λ vs. Ok (extreme is_before vs))) (values_placed acl place e xs (not-true (names_any acl e) h))
 aggregate_placed acl place at (max_of e) xs h =
-    ap (λ rs. then_give (least_of_all fault_order rs) (λ vs. Ok (extreme (λ v w. is_before w v) vs))) (values_placed acl place e xs (is_not (names_any acl e) h))
+    ap (λ rs. then_give (least_of_all fault_order rs) (λ vs. Ok (extreme (λ v w. is_before w v) vs))) (values_placed acl place e xs (not-true (names_any acl e) h))
 
 -- the aggregates of rows at a place are those of the rows
 pub aggregates_placed : (acl : List ℕ) (place : List ℤ) (aggregates : List PlainAggregate) (xs : List Row) → IsTrue (list_all (λ a. names_none acl a.form) aggregates)

@@ -2,7 +2,7 @@
 use Rattle.std.proofs.Common.{◌≡◌, inl, inr, ℕ, ◌<◌, ℤ, pos, false, not, List, [], ◌∷◌, map, length, get_or, Ok, sym, ap, ◌∙◌, subst}
 use Rattle.std.specs.Bool.{IsTrue}
 use Rattle.std.specs.List.{list_all}
-use Rattle.std.proofs.lemmas.Bool.{and_parts}
+use Rattle.std.proofs.lemmas.Bool.{and_parts, not-true}
 use Rattle.std.proofs.lemmas.List.{length-map, get_or-map}
 use Rattle.point_core.specs.Points.{line_of}
 use Rattle.point_core.specs.declared.any_type.AnyType.{AnyType}
@@ -20,7 +20,6 @@ use Rattle.u_row.specs.Kept.{place_in_label}
 use Rattle.u_row.proofs.LabelLemmas.{value_in_label}
 use Rattle.u_tallies.specs.Figures.{PlainColumn}
 use Rattle.using_groups.specs.Columns.{HasPoints, IsColumn, AreColumns, AreAlike}
-use Rattle.using_groups.proofs.AggregateLemmas.{is_not}
 use Rattle.scalar_core.proofs.SweepLemmas.{unnamed}
 
 module _ (acl : List ℕ) (rows : List Row) where
@@ -40,7 +39,7 @@ module _ (acl : List ℕ) (rows : List Row) where
   points_alike x n t c h r s k l e =
       let u = h r k in
       let v = h s l in
-      let same = unnamed acl (get_or rows s []) (get_or rows r []) x (values_same (get_or rows r []) (get_or rows s []) e) (is_not (names_any acl x) n) in
+      let same = unnamed acl (get_or rows s []) (get_or rows r []) x (values_same (get_or rows r []) (get_or rows s []) e) (not-true (names_any acl x) n) in
       number_is x (get_or rows r []) (get_or rows s []) (point (line_of t) (get_or c r (pos 0))) (point (line_of t) (get_or c s (pos 0))) u.0 v.0 same
 
   column_alike : (form : PlainAggregateForm) → IsTrue (names_none acl form) → (c : PlainColumn) → IsColumn rows form c → (r s : ℕ) → r < length rows → s < length rows → others acl (get_or rows r []) ≡ others acl (get_or rows s [])

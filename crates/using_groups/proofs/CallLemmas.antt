@@ -3,8 +3,6 @@ use Rattle.std.proofs.Common.{◌≡◌, ℕ, ◌++◌, List, map, length, Err, 
 use Rattle.std.specs.Bool.{IsTrue}
 use Rattle.std.specs.List.{All}
 use Rattle.base_core.specs.Outcomes.{then_give}
-use Rattle.base_core.proofs.MemberLemmas.{list_all-In}
-use Rattle.base_core.proofs.SetLemmas.{In, Ascends, Ascends-from_sorted}
 use Rattle.point_core.specs.Faults.{OrFault}
 use Rattle.point_core.specs.Points.{IsPointOf}
 use Rattle.point_core.specs.declared.any_type.AnyPoint.{AnyPoint}
@@ -14,11 +12,12 @@ use Rattle.point_core.specs.declared.fault.Place.{Place}
 use Rattle.packing_core.specs.Boxed.{Boxed}
 use Rattle.point_core.specs.LeastFault.{IsLeast}
 use Rattle.value_core.specs.RowPacking.{packed, unpacked}
-use Rattle.value_core.specs.Values.{Row, Relation, Heading, IsRelation, row_cmp, is_heading, fits_heading}
+use Rattle.value_core.specs.Values.{Row, Relation, Heading, IsRelation, row_cmp, is_heading}
 use Rattle.relation_core.specs.Agreement.{names_of}
 use Rattle.relation_core.specs.Answers.{under}
 use Rattle.relation_core.specs.Groups.{rows_at, summarized}
 use Rattle.relation_core.specs.Parts.{attributes_at}
+use Rattle.relation_core.proofs.FilterLemmas.{rows_ascend, rows_fit}
 use Rattle.tree_core.specs.Trees.{PlainAggregate}
 use Rattle.meaning_core.specs.Meanings.{limited, opened, closed}
 use Rattle.meaning_core.specs.Places.{places}
@@ -73,18 +72,12 @@ module _ (sizes : List ℕ) (heading : Heading) (acl : List ℕ) (by : List ℕ)
   pub types : types_at r.heading here ≡ types_at heading acl
   types = sym (same_types r.heading heading here acl attributes)
 
-  ascends : Ascends row_cmp r.rows
-  ascends = Ascends-from_sorted row_cmp r.rows is.ascending
-
-  fitting : (x : Row) → In x r.rows → IsTrue (fits_heading r.heading x)
-  fitting = (list_all-In (fits_heading r.heading) r.rows).0 is.fitting
-
   pub typed : AreSummedOver r.rows aggregates
   typed = summed_typed sizes r.heading aggregates made.made r.rows made.makes is.fitting
 
   fault_rows : (e : Fault) → IsLeast HasFault (Some e) → rows_meant ≡ Err e
   fault_rows e h =
-      summary_fault sizes r.heading heading by aggregates is.headed made acl here own_intervals here_intervals refl attributes summed.grouped summed.unnamed r.rows ascends fitting is.few e h
+      summary_fault sizes r.heading heading by aggregates is.headed made acl here own_intervals here_intervals refl attributes summed.grouped summed.unnamed r.rows (rows_ascend r is) (rows_fit r is) is.few e h
 
   abbrev pub whole : Place → OrFault (List Row)
   whole place = then_give rows_meant (λ rows. limited place (packed acl rows))
@@ -96,7 +89,7 @@ module _ (sizes : List ℕ) (heading : Heading) (acl : List ℕ) (by : List ℕ)
   -- and without one the packed form is that of its rows
   pub given_meant : (place : Place) → IsLeast HasFault None → (rows : List Row) × (limited place rows ≡ whole place) × ((form : List (Boxed Row)) → IsForm form → AreRowsOf heading acl rows form)
   given_meant place h =
-      let w = summary_given sizes r.heading heading by aggregates is.headed made acl here own_intervals here_intervals refl attributes summed.grouped summed.unnamed r.rows ascends fitting is.few h in (
+      let w = summary_given sizes r.heading heading by aggregates is.headed made acl here own_intervals here_intervals refl attributes summed.grouped summed.unnamed r.rows (rows_ascend r is) (rows_fit r is) is.few h in (
         packed acl w.0,
         ap (λ (o : OrFault (List Row)). then_give o (λ rows. limited place (packed acl rows))) (sym w.1),
         λ form f. w.2 form (subst (λ n. IsGroupForm {F = Fault} row_cmp n label (inner here by) (map (boxed here) r.rows) form) count f),

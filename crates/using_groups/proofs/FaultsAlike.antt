@@ -5,7 +5,7 @@ use Rattle.base_core.proofs.SetLemmas.{In}
 use Rattle.point_core.specs.Faults.{OrFault}
 use Rattle.point_core.specs.Orders.{fault_order}
 use Rattle.point_core.specs.declared.fault.Fault.{Fault}
-use Rattle.u_row.proofs.RuleLemmas.{least_same}
+use Rattle.slice_core.proofs.Turns.{least_iff}
 use Rattle.using_core.proofs.FaultLemmas.{one_least, err_of, least_given}
 use Rattle.using_groups.proofs.OrderLemmas.{HaveSame}
 
@@ -16,4 +16,4 @@ faults_alike {X} g xs ys h =
     let Q : Fault → Type 0 = λ e. (x : X) × In x ys × (g x ≡ Err e) in
     let b = err_of (least_of_all fault_order (map g ys)) in
     one_least P (err_of (least_of_all fault_order (map g xs))) b (least_given g xs)
-    (least_same Q P b (λ e. (λ w. (w.0, (h w.0).1 w.1, w.2), λ w. (w.0, (h w.0).0 w.1, w.2))) (least_given g ys))
+    (least_iff Q P b (λ e. (λ w. (w.0, (h w.0).1 w.1, w.2), λ w. (w.0, (h w.0).0 w.1, w.2))) (least_given g ys))

@@ -32,6 +32,7 @@ use Rattle.u_set.specs.Boxes.{others}
 use Rattle.relation_core.specs.Groups.{rows_at}
 use Rattle.tree_core.specs.Trees.{PlainAggregateForm, count_rows, sum_of, min_of, max_of, PlainAggregate}
 use Rattle.u_summary.specs.Summaries.{total, is_before}
+use Rattle.u_summary.proofs.ExtremeLemmas.{before_ranks, after_ranks}
 use Rattle.meaning_core.specs.Rows.{extreme, values_over, aggregate_value, aggregates_on}
 use Rattle.box_core.specs.Totals.{sum_of as sum_marked}
 use Rattle.u_tallies.specs.Extremes.{best_marked, or_zero}
@@ -44,7 +45,7 @@ use Rattle.u_tallies.proofs.ExtremeLemmas.{is_more, less_tie}
 use Rattle.u_tallies.proofs.PickedLemmas.{over, picked_sum, picked_best}
 use Rattle.using_groups.specs.Columns.{is_point, HasPoints, IsColumn, AreColumns, point_at, figure_values, figures_label, AreFigured}
 use Rattle.using_groups.specs.Labels.{group_label}
-use Rattle.using_groups.proofs.OrderLemmas.{weights, total_is, extreme_is, before_ranks, after_ranks}
+use Rattle.using_groups.proofs.OrderLemmas.{weights, total_is, extreme_is}
 
 -- ---- points by their numbers
 

@@ -1,23 +1,22 @@
 -- The first rows of their labels at a place: they can be found.
 --     first_alike      of each row at the place, the first one with its label
 --     firsts_there      of each key the rows at the place
-use Rattle.std.proofs.Common.{◌≡◌, ◌↔◌, ◌⊎◌, inl, inr, ℕ, zero, suc, ◌+◌, ◌<◌, ◌≤◌, ℤ, ◌≤ℤ◌, Bool, true, false, not, ◌&&◌, List, [], ◌∷◌, length, get_or, refl, sym, ap, ◌∙◌, arith, if◌then◌else◌}
+use Rattle.std.proofs.Common.{◌≡◌, ◌↔◌, ◌⊎◌, inl, inr, ℕ, zero, suc, ◌+◌, ◌<◌, ◌≤◌, ℤ, Bool, true, false, not, ◌&&◌, List, [], ◌∷◌, length, get_or, refl, sym, ap, ◌∙◌, arith, if◌then◌else◌}
 use Rattle.std.specs.Prelude.{int_le}
 use Rattle.std.specs.Bool.{IsTrue}
 use Rattle.std.specs.Ordering.{eq_by_cmp}
-use Rattle.std.proofs.lemmas.Bool.{and_parts, and_from, cases_lt, true≢false}
-use Rattle.std.proofs.lemmas.Int.{ints}
+use Rattle.std.proofs.lemmas.Bool.{and_parts, and_from, cases_lt, true≢false, not-true, cases_Bool}
 use Rattle.base_core.proofs.MemberLemmas.{eq_by_cmp-≡}
+use Rattle.base_core.proofs.IntLemmas.{int_le-le, le-int_le}
 use Rattle.interval_core.specs.Members.{Span}
 use Rattle.packing_core.specs.Covering.{Among}
 use Rattle.packing_core.specs.Packed.{Has}
 use Rattle.slice_core.specs.Rows.{AreRows}
-use Rattle.scalar_core.proofs.PointLemmas.{le-int_le}
 use Rattle.value_core.specs.Order.{row_total, row_separates}
 use Rattle.value_core.specs.Values.{Row, row_cmp}
 use Rattle.relation_core.specs.Agreement.{part_of}
+use Rattle.slice_core.proofs.Turns.{from_lower}
 use Rattle.u_groups.specs.Groups.{IsFirst, AreFirsts}
-use Rattle.using_groups.proofs.HeadingLemmas.{tested}
 
 -- ---- a box that has a place
 
@@ -26,9 +25,6 @@ has_test [] [] = true
 has_test [] (p ∷ ps) = false
 has_test (i ∷ is) [] = false
 has_test (i ∷ is) (p ∷ ps) = int_le i.0 p && (int_le p i.1 && has_test is ps)
-
-int_le-le : (a b : ℤ) → int_le a b ≡ true → a ≤ℤ b
-int_le-le a b e = grind (arith, ints)
 
 pub has_tested : (is : List Span) (ps : List ℤ) → IsTrue (has_test is ps) ↔ Has is ps
 has_tested [] [] = (λ h. tt, λ h. refl)
@@ -49,7 +45,7 @@ least_passing : (t : ℕ → Bool) (n : ℕ) → ((r : ℕ) × (r < n) × (t r �
 least_passing t zero = inr (λ s l e. absurd (omega (arith, l)))
 least_passing t (suc n) = elim (least_passing t n) [
   | inl w ↦ let l = w.1 in inl (w.0, omega (arith, l), w.2, w.3)
-  | inr none ↦ elim (tested (t n)) [
+  | inr none ↦ elim (cases_Bool (t n)) [
     | inl e ↦ inl (n, omega arith, e, none)
     | inr f ↦ inr (λ s l e. elim (cases_lt s n) [
       | inl k ↦ none s k e
@@ -62,10 +58,6 @@ none_below : (ℕ → Bool) → ℕ → Bool
 none_below t zero = true
 none_below t (suc n) = not (t n) && none_below t n
 
-is_not : (b : Bool) → not b ≡ true → b ≡ false
-is_not true h = absurd cc
-is_not false h = refl
-
 none_below-is : (t : ℕ → Bool) (n : ℕ) → IsTrue (none_below t n) ↔ ((s : ℕ) → s < n → t s ≡ true → ⊥)
 unfolding none_below
 none_below-is t zero = (λ h s l e. absurd (omega (arith, l)), λ h. refl)
@@ -75,9 +67,9 @@ none_below-is t (suc n) =
           let w = and_parts (not (t n)) (none_below t n) h in
           elim (cases_lt s n) [
             | inl k ↦ ih.0 w.1 s k e
-            | inr k ↦ let same : s ≡ n = omega (arith, l, k) in true≢false (sym e ∙ ap t same ∙ is_not (t n) w.0)
+            | inr k ↦ let same : s ≡ n = omega (arith, l, k) in true≢false (sym e ∙ ap t same ∙ not-true (t n) w.0)
           ],
-      λ h. and_from (not (t n)) (none_below t n) (elim (tested (t n)) [ inl e ↦ absurd (h n (omega arith) e) | inr f ↦ ap not f ]) (ih.1 (λ s l e. h s (omega (arith, l)) e)),
+      λ h. and_from (not (t n)) (none_below t n) (elim (cases_Bool (t n)) [ inl e ↦ absurd (h n (omega arith) e) | inr f ↦ ap not f ]) (ih.1 (λ s l e. h s (omega (arith, l)) e)),
     )
 
 -- those of n numbers from b on
@@ -85,17 +77,13 @@ abbrev passing : (ℕ → Bool) → ℕ → ℕ → List ℕ
 passing t b zero = []
 passing t b (suc n) = if t b then b ∷ passing t (suc b) n else passing t (suc b) n
 
-lower : (a b z : ℕ) (xs : List ℕ) → a ≤ b → AreRows b z xs → AreRows a z xs
-lower a b z [] l h = tt
-lower a b z (x ∷ xs) l h = let k = h.0 in (omega (arith, l, k), h.1, h.2)
-
 passing_rows : (t : ℕ → Bool) (b n z : ℕ) → b + n ≡ z → AreRows b z (passing t b n)
 passing_rows t b zero z e = tt
 passing_rows t b (suc n) z e =
     let rest = passing_rows t (suc b) n z (omega (arith, e)) in
     elim (t b) as (λ r. AreRows b z (if r then b ∷ passing t (suc b) n else passing t (suc b) n)) [
       | true ↦ (omega arith, omega (arith, e), rest)
-      | false ↦ lower b (suc b) z (passing t (suc b) n) (omega arith) rest
+      | false ↦ from_lower b (suc b) z (passing t (suc b) n) (omega arith) rest
     ]
 
 passing_members : (t : ℕ → Bool) (b n r : ℕ) → Among r (passing t b n) ↔ ((b ≤ r) × (r < b + n) × (t r ≡ true))

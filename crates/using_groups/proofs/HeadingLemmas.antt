@@ -1,18 +1,19 @@
 -- Where the values of a group's row come from: from the aggregates or from attributes of the groups, and the listed ones from those
 -- that are listed of the operand.
-use Rattle.std.proofs.Common.{◌≡◌, ◌⊎◌, inl, inr, ℕ, suc, ◌+◌, ◌<◌, Bool, true, false, List, [], ◌∷◌, ◌++◌, map, length, get_or, refl, sym, ap, ◌∙◌, subst}
+use Rattle.std.proofs.Common.{◌≡◌, ◌⊎◌, inl, inr, ℕ, suc, ◌+◌, ◌<◌, Bool, false, List, [], ◌∷◌, ◌++◌, map, length, get_or, refl, sym, ap, ◌∙◌, subst}
 use Rattle.std.specs.Bool.{IsTrue}
 use Rattle.std.specs.Cmp.Lexicographic.{texts_ties, nat_list_eq_equiv}
 use Rattle.std.specs.List.{AllByRecursion, IsDistinct, list_all}
 use Rattle.std.specs.Ordering.{is_eq}
 use Rattle.std.specs.Str.{bytes_eq}
-use Rattle.std.proofs.lemmas.Bool.{true≢false}
+use Rattle.std.proofs.lemmas.Bool.{true≢false, cases_Bool}
 use Rattle.std.proofs.lemmas.List.{map-append, get_or-map}
 use Rattle.std.proofs.lemmas.List.Sorted.{IsPermutation-sym}
 use Rattle.std.proofs.lemmas.Map.Keys.{IsDistinct-IsPermutation}
 use Rattle.base_core.proofs.MemberLemmas.{In-append, In-map, list_any-In, list_all-In}
 use Rattle.base_core.proofs.SetLemmas.{In, Ascends}
 use Rattle.base_core.proofs.SetOperatorLemmas.{In-permutation, AllAfter-In}
+use Rattle.base_core.proofs.ListLemmas.{In-get_or}
 use Rattle.value_core.specs.Attributes.{among}
 use Rattle.value_core.specs.Headings.{has_name}
 use Rattle.value_core.specs.Values.{Name, Heading, attribute_cmp, is_heading}
@@ -21,15 +22,15 @@ use Rattle.relation_core.specs.Agreement.{names_of, position_of}
 use Rattle.relation_core.specs.Parts.{no_attribute, attributes_at}
 use Rattle.relation_core.proofs.AttributeLemmas.{named_In}
 use Rattle.relation_core.proofs.HeadingLemmas.{heading_ascends, within_by_members}
+use Rattle.relation_core.proofs.AgreementLemmas.{position_within}
 use Rattle.tree_core.specs.Trees.{PlainAggregate}
 use Rattle.meaning_core.specs.Meanings.{names_at, positions_of}
 use Rattle.meaning_core.specs.Places.{place_among, places}
 use Rattle.meaning_core.specs.Rows.{aggregate_names}
 use Rattle.meaning_core.specs.Typing.{Sums, IsSummary}
 use Rattle.meaning_core.proofs.MadeLemmas.{place-position}
-use Rattle.u_row.proofs.BeneathLemmas.{get_in}
 use Rattle.u_row.proofs.LabelLemmas.{map_twice}
-use Rattle.u_join.proofs.NameLemmas.{position_in, position_at, position_front, position_behind, maps_agree}
+use Rattle.u_join.proofs.NameLemmas.{position_at, position_front, position_behind, maps_agree}
 use Rattle.meaning_core.proofs.GroupFits.{sum_names}
 
 pub sum_count : (sizes : List ℕ) (from : Heading) (aggregates : List PlainAggregate) (made : Heading) → Sums sizes from aggregates made → length aggregates ≡ length made
@@ -64,10 +65,6 @@ both_sides (c ∷ left) right b a d i j = elim i [
   | inr k ↦ both_sides left right b a d.1 k j
 ]
 
-pub tested : (b : Bool) → (b ≡ true) ⊎ (b ≡ false)
-tested true = inl refl
-tested false = inr refl
-
 module _ (sizes : List ℕ) (from to : Heading) (by : List ℕ) (aggregates : List PlainAggregate) (headed : IsTrue (is_heading from)) (is : IsSummary sizes from to by aggregates) where
   abbrev pub at : List ℕ
   at = places (aggregate_names aggregates ++ names_of from) to
@@ -99,10 +96,10 @@ module _ (sizes : List ℕ) (from to : Heading) (by : List ℕ) (aggregates : Li
   pub made_or_by : (j : ℕ) → j < length to → (get_or at j 0 < many) ⊎ ((p : ℕ) × In p by × (get_or at j 0 ≡ many + p) × (get_or from p no_attribute ≡ get_or to j no_attribute))
   made_or_by j l =
       let a : Name × Kind = get_or to j no_attribute in
-      let m : In a list = In-permutation to list a (IsPermutation-sym list to is.headed.same) (get_in to j no_attribute l) in
+      let m : In a list = In-permutation to list a (IsPermutation-sym list to is.headed.same) (In-get_or to j no_attribute l) in
       let e = own_place j l in
-      elim (tested (has_name is.made a.0)) [
-        | inl t ↦ inl (subst (λ k. k < many) (sym (e ∙ position_front is.made from a.0 t)) (position_in is.made a.0 t))
+      elim (cases_Bool (has_name is.made a.0)) [
+        | inl t ↦ inl (subst (λ k. k < many) (sym (e ∙ position_front is.made from a.0 t)) (position_within is.made a.0 t))
         | inr f ↦ elim ((In-append a is.made kept).0 m) [
           | inl k ↦ absurd (true≢false (sym (named_In is.made a k) ∙ f))
           | inr k ↦
@@ -135,7 +132,7 @@ module _ (sizes : List ℕ) (from to : Heading) (by : List ℕ) (aggregates : Li
     not_made i m =
         let a : Name × Kind = get_or to i no_attribute in
         let there : In a kept = (In-map (λ (p : ℕ). get_or from p no_attribute) a by).1 (own i, among_by (own i) ((list_all-In (among by) ls).0 grouped (own i) (in_listed i m)), sym (held i m)) in
-        elim (tested (has_name is.made a.0)) [
+        elim (cases_Bool (has_name is.made a.0)) [
           | inl t ↦
               let w = (list_any-In (λ b. bytes_eq b.0 a.0) is.made).0 t in
               absurd (true≢false (sym w.2 ∙ both_sides is.made kept w.0 a apart w.1 there))

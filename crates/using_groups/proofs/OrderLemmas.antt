@@ -9,13 +9,13 @@ use Rattle.std.specs.List.{best_of, IsFirstBest}
 use Rattle.std.specs.Ordering.{is_lt, ordering_reverse}
 use Rattle.std.proofs.lemmas.Int.{ints}
 use Rattle.std.proofs.lemmas.List.{get_or_default}
-use Rattle.std.proofs.lemmas.List.MinMax.{ranks_by, IsStrictWeakOrder-flip, IsFirstBest-from_best_of}
+use Rattle.std.proofs.lemmas.List.MinMax.{IsFirstBest-from_best_of}
 use Rattle.base_core.specs.Sets.{placed, put, in_order}
 use Rattle.base_core.proofs.SetLemmas.{In, Separates, In-in_order, in_order_by_members, Contains-from_In}
 use Rattle.base_core.proofs.MemberLemmas.{In-map}
+use Rattle.base_core.proofs.ListLemmas.{In-get_or}
 use Rattle.value_core.specs.Order.{value_total, value_separates}
 use Rattle.value_core.specs.Values.{Value, value_cmp}
-use Rattle.u_row.proofs.BeneathLemmas.{get_in}
 use Rattle.u_summary.specs.Summaries.{total, is_before}
 use Rattle.meaning_core.specs.Rows.{extreme}
 
@@ -88,7 +88,7 @@ extreme_is beats o (v ∷ vs) x m =
     let w = IsFirstBest-from_best_of o v vs in
     let b : ℕ = w.0 in
     let best : IsFirstBest beats (v ∷ vs) (length (v ∷ vs)) b = w.1 in (
-      subst (λ z. In z (v ∷ vs)) w.2 (get_in (v ∷ vs) b v best.0),
+      subst (λ z. In z (v ∷ vs)) w.2 (In-get_or (v ∷ vs) b v best.0),
       λ y n.
           let at = Contains-from_In (v ∷ vs) y n in
           let here : beats (get_or (v ∷ vs) at.0 y) (get_or (v ∷ vs) b y) ≡ false = best.1 at.0 y at.1 in
@@ -116,12 +116,6 @@ before_ties a b e f =
     by Less q = absurd (let z : true ≡ false = ap is_lt (sym q) ∙ e in cc)
     by Equal q = value_separates a b q
     by Greater q = absurd (let z : true ≡ false = ap is_lt (sym (value_total.antisymm b a ∙ ap ordering_reverse q)) ∙ f in cc)
-
-pub before_ranks : IsStrictWeakOrder is_before
-before_ranks = ranks_by value_total (λ v. v)
-
-pub after_ranks : IsStrictWeakOrder (λ v w. is_before w v)
-after_ranks = IsStrictWeakOrder-flip is_before before_ranks
 
 pub map_same : {X Y : Type 0} (f : X → Y) (xs ys : List X) → HaveSame xs ys → HaveSame (map f xs) (map f ys)
 map_same f xs ys h y = (

@@ -7,6 +7,7 @@ use Rattle.std.proofs.Common.{◌≡◌, inl, inr, ℕ, suc, ◌<◌, ◌≤◌,
 use Rattle.std.proofs.lemmas.List.{get_or-map, length-map}
 use Rattle.base_core.proofs.MemberLemmas.{In-map, In-filter, eq_by_cmp-≡}
 use Rattle.base_core.proofs.SetLemmas.{In, Ascends}
+use Rattle.base_core.proofs.ListLemmas.{In-get_or}
 use Rattle.interval_core.specs.Members.{Span, at_point}
 use Rattle.packing_core.specs.Boxed.{Boxed}
 use Rattle.packing_core.specs.Covering.{Among}
@@ -23,7 +24,6 @@ use Rattle.u_set.specs.Boxes.{AreIntervals, IsShaped, others, spans_at, boxed, u
 use Rattle.u_set.proofs.BoxLemmas.{unboxed-boxed}
 use Rattle.u_set.proofs.BridgeLemmas.{unpacked_image}
 use Rattle.u_row.specs.Kept.{inner}
-use Rattle.u_row.proofs.BeneathLemmas.{get_in}
 use Rattle.u_row.proofs.LabelLemmas.{map_twice}
 use Rattle.u_groups.specs.Groups.{AreFirsts, labels_in, sides_in, HasPlace}
 use Rattle.using_core.specs.PlaceRows.{unpacked_places, among_itself, at_place_spans, at_place_others, point_has}
@@ -87,7 +87,7 @@ module _ (from : Heading) (ls by : List ℕ) (intervals : AreIntervals from ls) 
   there x place m h = (unpacked_places ls intervals.different rows (at_place ls place x)).1 (x, place, m, h, refl)
 
   row_in : (r : ℕ) → r < length rows → In (row r) rows
-  row_in r l = get_in rows r [] l
+  row_in r l = In-get_or rows r [] l
 
   one_place : (p q : List ℤ) → map at_point p ≡ map at_point q → p ≡ q
   one_place p q e = (point_has p q).0 (subst (λ (is : List Span). Has is q) (sym e) ((point_has q q).1 refl))

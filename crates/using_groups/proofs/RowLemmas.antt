@@ -4,6 +4,7 @@ use Rattle.std.proofs.lemmas.Bool.{true≢false}
 use Rattle.std.proofs.lemmas.List.{get_or_append_left, get_or-append-add, get_or-map}
 use Rattle.base_core.proofs.MemberLemmas.{In-filter}
 use Rattle.base_core.proofs.SetLemmas.{In}
+use Rattle.base_core.proofs.ListLemmas.{map-In}
 use Rattle.point_core.specs.Points.{line_of}
 use Rattle.value_core.specs.Attributes.{value_at, span_of, among}
 use Rattle.value_core.specs.Values.{Value, truth, interval, Row, Heading}
@@ -12,7 +13,7 @@ use Rattle.relation_core.specs.Parts.{kind_at}
 use Rattle.u_set.specs.Boxes.{type_of, unless, others_from, others, spans_at, IsShaped}
 use Rattle.u_set.proofs.BoxLemmas.{value_at-get}
 use Rattle.u_row.specs.Kept.{unlisted, inner}
-use Rattle.u_row.proofs.LabelLemmas.{map_in, map_twice, inner_values}
+use Rattle.u_row.proofs.LabelLemmas.{map_twice, inner_values}
 use Rattle.u_row.proofs.BeneathLemmas.{among_in, in_among}
 use Rattle.u_join.proofs.NameLemmas.{maps_agree}
 
@@ -62,7 +63,7 @@ module _ (made : Row) (many : ℕ) (count : length made ≡ many) where
     -- its listed intervals are those of the operand
     pub spans_given : (acl : List ℕ) (own : ℕ → ℕ) → ((i : ℕ) → In i acl → (i < length at) × (get_or at i 0 ≡ many + own i)) → (x : Row) → spans_at acl (part_of at (made ++ x)) ≡ spans_at (map own acl) x
     spans_given acl own from x =
-        map_in (λ i. span_of (value_at (part_of at (made ++ x)) i)) (λ i. span_of (value_at x (own i))) acl (λ i m.
+        map-In (λ i. span_of (value_at (part_of at (made ++ x)) i)) (λ i. span_of (value_at x (own i))) acl (λ i m.
         let w = from i m in
         ap span_of (value_at-get (part_of at (made ++ x)) i ∙ get_or-map (nth (made ++ x)) at i 0 (truth false) w.0 ∙ ap (nth (made ++ x)) w.1 ∙ behind x (own i) ∙ sym (value_at-get x (own i))))
         ∙ sym (map_twice (λ p. span_of (value_at x p)) own acl)
@@ -88,14 +89,14 @@ module _ (from : Heading) (ls by : List ℕ) (x y : Row) where
   pub inner_part : part_of by x ≡ part_of by y → part_of (inner ls by) (others ls x) ≡ part_of (inner ls by) (others ls y)
   inner_part e =
       inner_values ls by x (truth false)
-      ∙ map_in (nth x) (nth y) (unlisted ls by) (λ i m. maps_agree (nth x) (nth y) by e i ((In-filter (λ j. not (among ls j)) i by).0 m).0)
+      ∙ map-In (nth x) (nth y) (unlisted ls by) (λ i m. maps_agree (nth x) (nth y) by e i ((In-filter (λ j. not (among ls j)) i by).0 m).0)
       ∙ sym (inner_values ls by y (truth false))
 
   -- and the other way round, where their listed intervals are the same
   pub whole_part : IsShaped from ls x → IsShaped from ls y → spans_at ls x ≡ spans_at ls y → part_of (inner ls by) (others ls x) ≡ part_of (inner ls by) (others ls y) → part_of by x ≡ part_of by y
   whole_part hx hy spans e =
       let unlisted_same : map (nth x) (unlisted ls by) ≡ map (nth y) (unlisted ls by) = sym (inner_values ls by x (truth false)) ∙ e ∙ inner_values ls by y (truth false) in
-      map_in (nth x) (nth y) by (λ i m. elim (tested (among ls i)) [
+      map-In (nth x) (nth y) by (λ i m. elim (tested (among ls i)) [
         | inl t ↦
             let own : span_of (value_at x i) ≡ span_of (value_at y i) = maps_agree (λ k. span_of (value_at x k)) (λ k. span_of (value_at y k)) ls spans i (among_in ls i t) in
             sym (value_at-get x i) ∙ hx.spans i t ∙ ap (interval (line_of (type_of (kind_at from i)))) own ∙ sym (hy.spans i t) ∙ value_at-get y i
@@ -109,5 +110,5 @@ module _ (from : Heading) (ls by : List ℕ) (x y : Row) where
   -- they have the listed intervals too where these are among the positions
   pub listed_part : ((p : ℕ) → In p ls → In p by) → part_of by x ≡ part_of by y → spans_at ls x ≡ spans_at ls y
   listed_part all e =
-      map_in (λ p. span_of (value_at x p)) (λ p. span_of (value_at y p)) ls (λ p m.
+      map-In (λ p. span_of (value_at x p)) (λ p. span_of (value_at y p)) ls (λ p m.
       ap span_of (value_at-get x p ∙ maps_agree (nth x) (nth y) by e p (all p m) ∙ sym (value_at-get y p)))

@@ -42,11 +42,11 @@ use Rattle.u_set.proofs.BoxLemmas.{shaped_from_fit}
 use Rattle.u_set.proofs.BridgeLemmas.{AreRowsOf, unpacked_ascends, closed_by_form, box_cmp}
 use Rattle.u_row.specs.Kept.{inner}
 use Rattle.u_row.proofs.BeneathLemmas.{in_all, among_in as listed_in}
-use Rattle.u_row.proofs.RuleLemmas.{least_same}
 use Rattle.u_groups.specs.Groups.{AreFirsts, labels_in, HasPlace, InGroupRule, HasGroupFault, IsGroupForm}
 use Rattle.using_core.specs.PlaceRows.{unpacked_places, point_has, within_has}
 use Rattle.using_core.proofs.FaultLemmas.{least_over}
 use Rattle.scalar_core.proofs.AtPlaceLemmas.{at_place-fits}
+use Rattle.slice_core.proofs.Turns.{least_iff}
 use Rattle.using_groups.specs.Labels.{group_label}
 use Rattle.using_groups.proofs.OrderLemmas.{AreApart, HaveSame, counted, weights_same}
 use Rattle.using_groups.proofs.AggregateLemmas.{aggregates_same, aggregates_placed}
@@ -388,7 +388,7 @@ module _ (sizes : List ℕ) (from to : Heading) (by : List ℕ) (aggregates : Li
       ∙ ap (λ (h : Row → OrFault Row). map h all_keys) (λ t k. group_at places aggregates (rows_at-group by all_rows k t))
 
   least_keys : (o : Option Fault) → IsLeast (HasGroupFault means parts row_boxes) o → IsLeast (λ e. (k : Row) × In k all_keys × (given_key k ≡ Err e)) o
-  least_keys o h = least_same (HasGroupFault means parts row_boxes) (λ e. (k : Row) × In k all_keys × (given_key k ≡ Err e)) o fault_there h
+  least_keys o h = least_iff (HasGroupFault means parts row_boxes) (λ e. (k : Row) × In k all_keys × (given_key k ≡ Err e)) o fault_there h
 
   pub summary_fault : (e : Fault) → IsLeast (HasGroupFault means parts row_boxes) (Some e) → summary ≡ Err e
   summary_fault e h =

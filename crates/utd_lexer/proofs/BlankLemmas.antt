@@ -1,7 +1,8 @@
 -- Blank bytes.
-use Rattle.std.proofs.Common.{◌≡◌, ◌≢◌, ◌↔◌, ℕ, List, [], ◌∷◌, ◌++◌, Bool, true, false, ◌&&◌, ◌||◌, eqb, refl, sym, ◌∙◌, ap, subst, arith, append_assoc, append-nil, inl, inr}
-use Rattle.std.proofs.lemmas.Bool.{eqb-true, ne_eqb}
+use Rattle.std.proofs.Common.{◌≡◌, ◌≢◌, ◌↔◌, ℕ, List, [], ◌∷◌, ◌++◌, Bool, true, ◌&&◌, ◌||◌, eqb, refl, sym, ◌∙◌, ap, subst, arith, append_assoc, append-nil, inl, inr}
+use Rattle.std.proofs.lemmas.Bool.{eqb-true, ne_eqb, false≢true}
 use Rattle.std.proofs.lemmas.Bool.Decides.{eqb_tells}
+use Rattle.base_core.proofs.BoolLemmas.{and_left, and_right}
 use Rattle.utd_lexer.specs.declared.cutter.Mode.{Mode}
 use Rattle.utd_lexer.specs.declared.cutter.Mode.TheVariants.{Between, Slash, Text, Block, Star, Line}
 use Rattle.utd_lexer.specs.Cutting.{blank_next, can_be_blank, is_resting, next, run}
@@ -9,22 +10,11 @@ use Rattle.utd_lexer.specs.Parts.{is_space, AllBlank, IsBlank, Part, plain, text
 use Rattle.utd_lexer.proofs.CutLemmas.{run-append, NotSlash, grow, apart-plain, apart-block, apart-line, Lacks-snoc, LacksEnd-snoc, LacksEnd-init, LacksEnd-tail, block_next, star_next, block_ends, line_done}
 use Rattle.utd_lexer.proofs.WordLemmas.{or-cases}
 
-false_true : false ≡ true → ⊥
-false_true e = cc
-
-and-left : (a b : Bool) → (a && b) ≡ true → a ≡ true
-and-left true b h = refl
-and-left false b h = h
-
-and-right : (a b : Bool) → (a && b) ≡ true → b ≡ true
-and-right true b h = h
-and-right false b h = absurd (false_true h)
-
 space-no_slash : (b : ℕ) → is_space b ≡ true → b ≢ 47
-space-no_slash b h e = false_true (sym (ap is_space e) ∙ h)
+space-no_slash b h e = false≢true (sym (ap is_space e) ∙ h)
 
 space-no_quote : (b : ℕ) → is_space b ≡ true → b ≢ 39
-space-no_quote b h e = false_true (sym (ap is_space e) ∙ h)
+space-no_quote b h e = false≢true (sym (ap is_space e) ∙ h)
 
 blank-no_slash : (ps : List Part) → AllBlank ps → NotSlash ps
 blank-no_slash [] h = tt
@@ -56,14 +46,14 @@ slash_line b e = rw e refl
 
 held_next : (m : Mode) (ok : Bool) (b : ℕ) (bytes : List ℕ) → (ok ≡ true → Held m bytes) → blank_next m ok b ≡ true → Held (next m b) (bytes ++ b ∷ [])
 held_next Between ok b bytes h e =
-    let (ps, are, blank, is) = h (and-left ok (is_space b || eqb b 47) e) in
-    elim (or-cases (is_space b) (eqb b 47) (and-right ok (is_space b || eqb b 47) e)) [
+    let (ps, are, blank, is) = h (and_left ok (is_space b || eqb b 47) e) in
+    elim (or-cases (is_space b) (eqb b 47) (and_right ok (is_space b || eqb b 47) e)) [
       | inl s ↦ subst (λ m. Held m (bytes ++ b ∷ [])) (sym (space_next b s)) (plain b ∷ ps, (space-no_quote b s, apart-plain b ps (blank-no_slash ps blank), are), (s, blank), ap (λ z. z ++ b ∷ []) is)
       | inr s ↦ subst (λ m. Held m (bytes ++ b ∷ [])) (sym (slash_next b (eqb-true b 47 s))) (ps, are, blank, ap (λ z. z ++ b ∷ []) is ∙ ap (λ z. bytes_of ps ++ z ∷ []) (eqb-true b 47 s))
     ]
 held_next Slash ok b bytes h e =
-    let (ps, are, blank, is) = h (and-left ok (eqb b 42 || eqb b 47) e) in
-    elim (or-cases (eqb b 42) (eqb b 47) (and-right ok (eqb b 42 || eqb b 47) e)) [
+    let (ps, are, blank, is) = h (and_left ok (eqb b 42 || eqb b 47) e) in
+    elim (or-cases (eqb b 42) (eqb b 47) (and_right ok (eqb b 42 || eqb b 47) e)) [
       | inl s ↦ subst (λ m. Held m (bytes ++ b ∷ [])) (sym (slash_block b (eqb-true b 42 s))) (ps, [], are, blank, λ c. tt, grow bytes (bytes_of ps) (47 ∷ []) b is ∙ ap (λ z. bytes_of ps ++ (47 ∷ z ∷ [])) (eqb-true b 42 s))
       | inr s ↦ subst (λ m. Held m (bytes ++ b ∷ [])) (sym (slash_line b (eqb-true b 47 s))) (ps, [], are, blank, tt, grow bytes (bytes_of ps) (47 ∷ []) b is ∙ ap (λ z. bytes_of ps ++ (47 ∷ z ∷ [])) (eqb-true b 47 s))
     ]
@@ -100,10 +90,10 @@ held_run m ok before (b ∷ bytes) h e = subst (Held (run (next m b) bytes)) (ap
 held-blank : (m : Mode) (bytes : List ℕ) → Held m bytes → is_resting m ≡ true → IsBlank bytes
 held-blank Between bytes (ps, are, blank, is) e = (ps, are, blank, inl is)
 held-blank Line bytes (ps, bs, are, blank, lacks, is) e = (ps, are, blank, inr (bs, lacks, is))
-held-blank Slash bytes h e = absurd (false_true e)
-held-blank Text bytes h e = absurd (false_true e)
-held-blank Block bytes h e = absurd (false_true e)
-held-blank Star bytes h e = absurd (false_true e)
+held-blank Slash bytes h e = absurd (false≢true e)
+held-blank Text bytes h e = absurd (false≢true e)
+held-blank Block bytes h e = absurd (false≢true e)
+held-blank Star bytes h e = absurd (false≢true e)
 
 -- the other way
 pub can_be_blank-append : (m : Mode) (ok : Bool) (a b : List ℕ) → can_be_blank m ok (a ++ b) ≡ can_be_blank (run m a) (can_be_blank m ok a) b
@@ -180,7 +170,7 @@ blank-answer bytes (ps, are, blank, is) = elim is [ inl e ↦ rw e (whole ps are
         refl
 
 pub answers : (bytes : List ℕ) → (blank_answer bytes ≡ true) ↔ IsBlank bytes
-answers bytes = (λ e. held-blank (run Between bytes) bytes (held_run Between true [] bytes (λ g. ([], tt, tt, refl)) (and-left (can_be_blank Between true bytes) (is_resting (run Between bytes)) e)) (and-right (can_be_blank Between true bytes) (is_resting (run Between bytes)) e), blank-answer bytes)
+answers bytes = (λ e. held-blank (run Between bytes) bytes (held_run Between true [] bytes (λ g. ([], tt, tt, refl)) (and_left (can_be_blank Between true bytes) (is_resting (run Between bytes)) e)) (and_right (can_be_blank Between true bytes) (is_resting (run Between bytes)) e), blank-answer bytes)
 
 -- the same of a mode and a can_be_blank
 pub resting-answers : (bytes : List ℕ) (m : Mode) (ok r : Bool) → m ≡ run Between bytes → ok ≡ can_be_blank Between true bytes → r ≡ (ok && is_resting m) → (r ≡ true) ↔ IsBlank bytes

@@ -5,6 +5,7 @@ use Rattle.std.proofs.lemmas.Bool.{eqb-true}
 use Rattle.std.proofs.lemmas.Bool.Decides.{eqb_tells, nat_tests}
 use Rattle.std.specs.Char.{is_ascii_digit, is_ascii_alphabetic}
 use Rattle.unicode_ident.proofs.IdentLemmas.{is_xid_start-ascii}
+use Rattle.base_core.proofs.BoolLemmas.{left_false}
 use Rattle.utd_lexer.specs.declared.token.TokenKind.{TokenKind}
 use Rattle.utd_lexer.specs.declared.token.TokenKind.TheVariants.{Word, Integer, Text, Symbol}
 use Rattle.utd_lexer.specs.Parts.{is_space, Lacks, LacksEnd}
@@ -285,13 +286,9 @@ text-same (c ∷ v) (d ∷ w) r s h g e =
       ]
     ]
 
-or-left : (a b : Bool) → (a || b) ≡ false → a ≡ false
-or-left true b h = absurd (both-values true refl h)
-or-left false b h = refl
-
 -- a symbol of one character does not go on to one of two
 not-longer : (a d : ℕ) (r : List ℕ) → EndsAt Symbol (a ∷ []) (d ∷ r) → among d (seconds a) ≡ true → ⊥
-not-longer a d r h g = both-values (among d (seconds a)) g (or-left (among d (seconds a)) (opens_comment a d) h)
+not-longer a d r h g = both-values (among d (seconds a)) g (left_false (among d (seconds a)) (opens_comment a d) h)
 
 symbol-same : (v w r s : List ℕ) → IsToken Symbol v r → IsToken Symbol w s → v ++ r ≡ w ++ s → v ≡ w
 symbol-same [] w r s h g e = absurd h.0

@@ -1,7 +1,7 @@
 -- The tokens of a text are ones that a text writes: their bytes are UTF-8, and words have some.
 use Rattle.std.proofs.Common.{◌≡◌, ℕ, List, [], ◌∷◌, ◌++◌, Bool, true, false, cond, ◌&&◌, ◌||◌, ◌==◌, not, nat_le, length, refl, sym, subst, arith, encode_utf8_all}
 use Rattle.std.proofs.Math.Utf8.{scalar, scalars}
-use Rattle.std.proofs.lemmas.Bool.{eq-eqb, eqb-true, le-leb}
+use Rattle.std.proofs.lemmas.Bool.{eq-eqb, eqb-true, le-leb, and_from}
 use Rattle.std.proofs.lemmas.Str.{scalars-chars, utf8_valid_len-IsUtf8, length-le-encodes}
 use Rattle.std.specs.Str.Lossy.{utf8_valid_len}
 use Rattle.point_core.specs.declared.fault.Place.{Place}
@@ -15,18 +15,15 @@ use Rattle.utd_lexer.specs.declared.token.TokenKind.TheVariants.{Word, Integer, 
 use Rattle.utd_lexer.specs.declared.token.Token.{Token}
 use Rattle.utd_lexer.specs.Tokens.{Lexed, done, gap, token, doubled, spelling, spelling_of_gap, IsOfKind}
 use Rattle.utd_lexer.specs.Reading.{Reads}
-use Rattle.utd_ranges.specs.Ranges.{is_utf8, is_unwritten, AreWritten}
+use Rattle.utd_ranges.specs.Ranges.{is_unwritten, AreWritten}
+use Rattle.value_core.specs.Lengths.{is_utf8}
 use Rattle.utd_parser.specs.Tokens.{terminal_of, pieces}
 
 -- ---- characters of parts of a text
 
-both : (x y : Bool) → x ≡ true → y ≡ true → (x && y) ≡ true
-both true y e f = f
-both false y e f = cc
-
 front-scalars : (a b : List ℕ) → scalars (a ++ b) ≡ true → scalars a ≡ true
 front-scalars [] b h = refl
-front-scalars (c ∷ a) b h = both (scalar c) (scalars a) (both-left (scalar c) _ h) (front-scalars a b (both-right (scalar c) _ h))
+front-scalars (c ∷ a) b h = and_from (scalar c) (scalars a) (both-left (scalar c) _ h) (front-scalars a b (both-right (scalar c) _ h))
 
 rest-scalars : (a b : List ℕ) → scalars (a ++ b) ≡ true → scalars b ≡ true
 rest-scalars [] b h = h

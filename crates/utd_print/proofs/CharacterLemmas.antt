@@ -1,7 +1,7 @@
 -- In a text of UTF-8 each character has one byte that begins it.
-use Rattle.std.proofs.Common.{◌≡◌, ℕ, ◌+◌, ◌/◌, ◌%◌, ◌<◌, ◌≤◌, cond, ltb, true, false, List, [], ◌∷◌, ◌++◌, length, encode_utf8_all, refl, sym, ◌∙◌, ap, arith, inl, inr}
+use Rattle.std.proofs.Common.{◌≡◌, ℕ, ◌+◌, ◌/◌, ◌%◌, ◌<◌, ◌≤◌, cond, ltb, false, List, [], ◌∷◌, ◌++◌, length, encode_utf8_all, refl, sym, ◌∙◌, ap, arith, inl, inr}
 use Rattle.std.proofs.Math.Utf8.{encode, next}
-use Rattle.std.proofs.lemmas.Bool.{cases_lt}
+use Rattle.std.proofs.lemmas.Bool.{cases_lt, lt-ltb}
 use Rattle.std.proofs.lemmas.Bool.Decides.{nat_tests}
 use Rattle.std.proofs.lemmas.List.Sums.{sum_by-append}
 use Rattle.std.proofs.lemmas.Str.{encodes-chars}
@@ -21,20 +21,17 @@ begins-lead n h = grind (arith, nat_tests)
 begins-next : (n : ℕ) → weight (next n) ≡ 0
 begins-next n = let small : n % 64 < 64 = omega arith in grind (arith, nat_tests)
 
-is-less : (c n : ℕ) → c < n → ltb c n ≡ true
-is-less c n h = grind (arith, nat_tests)
-
 is-no-less : (c n : ℕ) → n ≤ c → ltb c n ≡ false
 is-no-less c n h = grind (arith, nat_tests)
 
 one-character : (c : ℕ) → character_count (encode c) ≡ 1
 unfolding encode
 one-character c = elim (cases_lt c 128) [
-  | inl h ↦ rw (is-less c 128 h) (omega (arith, begins-ascii c h))
+  | inl h ↦ rw (lt-ltb c 128 h) (omega (arith, begins-ascii c h))
   | inr h ↦ rw (is-no-less c 128 h) (elim (cases_lt c 2048) [
-    | inl i ↦ rw (is-less c 2048 i) (omega (arith, begins-lead (192 + c / 64) (omega arith), begins-next c))
+    | inl i ↦ rw (lt-ltb c 2048 i) (omega (arith, begins-lead (192 + c / 64) (omega arith), begins-next c))
     | inr i ↦ rw (is-no-less c 2048 i) (elim (cases_lt c 65536) [
-      | inl j ↦ rw (is-less c 65536 j) (omega (arith, begins-lead (224 + c / 4096) (omega arith), begins-next (c / 64), begins-next c))
+      | inl j ↦ rw (lt-ltb c 65536 j) (omega (arith, begins-lead (224 + c / 4096) (omega arith), begins-next (c / 64), begins-next c))
       | inr j ↦ rw (is-no-less c 65536 j) (omega (arith, begins-lead (240 + c / 262144) (omega arith), begins-next (c / 4096), begins-next (c / 64), begins-next c))
     ])
   ])

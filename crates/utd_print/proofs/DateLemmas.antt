@@ -1,9 +1,10 @@
 -- The date that is counted off from a day's number is the one that has the number.
 use Rattle.std.proofs.Common.{◌≡◌, ℕ, zero, suc, ◌+◌, ◌-◌, ◌<◌, ◌≤◌, ltb, true, false, Bool, cond, ℤ, pos, ◌-ℤ◌, unsigned_abs, List, [], ◌∷◌, get_or, refl, sym, ◌∙◌, ap, subst, arith, inl, inr}
-use Rattle.std.proofs.lemmas.Bool.{cases_lt}
+use Rattle.std.proofs.lemmas.Bool.{cases_lt, lt-ltb}
 use Rattle.std.proofs.lemmas.Int.{ints}
 use Rattle.std.proofs.lemmas.Bool.Decides.{nat_tests}
 use Rattle.point_core.specs.Dates.{is_leap, days_of_year, month_days, days_of_month, days_of_years, days_of_months, day_place, date_number, IsCalendarDate, first_day, date_text}
+use Rattle.point_core.proofs.CalendarLemmas.{epoch_place, years_rise}
 use Rattle.utd_print.specs.Dates.{Date, date_in_year, date_after, date_of, day_text}
 
 -- ---- months
@@ -38,9 +39,6 @@ the_date year month day = record { year = year; month = month; day = day }
 same-date : (year m n d e : ℕ) → m ≡ n → d ≡ e → the_date year m d ≡ the_date year n e
 same-date year m n d e a b = λ i. the_date year (a i) (b i)
 
-less : (a b : ℕ) → a < b → ltb a b ≡ true
-less a b h = grind (arith, nat_tests)
-
 not-less : (a b : ℕ) → b ≤ a → ltb a b ≡ false
 not-less a b h = grind (arith, nat_tests)
 
@@ -49,7 +47,7 @@ in-year : (year m k : ℕ) (days : List ℕ) (i day : ℕ) → 1 ≤ day → day
 unfolding before date_in_year
 in-year year m k [] i day low high e = absurd (omega arith)
 in-year year m k (d ∷ ds) zero day low high e =
-    let first : ltb k d ≡ true = less k d (omega arith) in
+    let first : ltb k d ≡ true = lt-ltb k d (omega arith) in
     rw first (same-date year m (m + 0) (k + 1) day (omega arith) (omega arith))
 in-year year m k (d ∷ ds) (suc i) day low high e =
     let later : ltb k d ≡ false = not-less k d (omega arith) in
@@ -78,14 +76,6 @@ twelve-months false = refl
 within-year : (year i : ℕ) → before (month_days year) i + get_or (month_days year) i 0 ≤ days_of_year year
 within-year year i = omega (arith, before-all (month_days year) i, twelve-months (is_leap year))
 
-years-rise : (p q : ℕ) → p ≤ q → days_of_years p ≤ days_of_years q
-unfolding days_of_years
-years-rise p zero h = let same : p ≡ 0 = omega arith in omega (arith, ap days_of_years same)
-years-rise p (suc q) h = elim (cases_lt q p) [
-  | inl lt ↦ (let same : p ≡ suc q = omega arith in let e : days_of_years p ≡ days_of_years (suc q) = ap days_of_years same in omega (arith, e))
-  | inr le ↦ (let rest : days_of_years p ≤ days_of_years q = years-rise p q le in omega (arith, rest))
-]
-
 -- a day of the (q + 1)-th year, counted from the beginning of an earlier one
 in-years : (years p q k i day : ℕ) → p ≤ q → q ≤ p + years → 1 ≤ day → day ≤ get_or (month_days (suc q)) i 0
     → k + days_of_years p + 1 ≡ days_of_years q + before (month_days (suc q)) i + day → date_after years (suc p) k ≡ the_date (suc q) (1 + i) day
@@ -97,7 +87,7 @@ in-years zero p q k i day low high first last e =
     ap (λ y. date_in_year (suc y) 1 k (month_days (suc y))) same ∙ here
 in-years (suc years) p q k i day low high first last e = elim (cases_lt p q) [
   | inl lt ↦ (
-      let rise : days_of_years (suc p) ≤ days_of_years q = years-rise (suc p) q (omega arith) in
+      let rise : days_of_years (suc p) ≤ days_of_years q = years_rise (suc p) q (omega arith) in
       let later : ltb k (days_of_year (suc p)) ≡ false = not-less k (days_of_year (suc p)) (omega (arith, rise)) in
       rw later (in-years years (suc p) q (k - days_of_year (suc p)) i day (omega arith) (omega arith) first last (omega (arith, rise)))
       )
@@ -106,14 +96,10 @@ in-years (suc years) p q k i day low high first last e = elim (cases_lt p q) [
       let number : k + 1 ≡ before (month_days (suc q)) i + day = omega (arith, ap days_of_years same) in
       let inside : k < days_of_year (suc q) = omega (arith, within-year (suc q) i, number) in
       let here : date_in_year (suc q) 1 k (month_days (suc q)) ≡ the_date (suc q) (1 + i) day = in-year (suc q) 1 k (month_days (suc q)) i day first last number in
-      let now : ltb k (days_of_year (suc p)) ≡ true = subst (λ y. ltb k (days_of_year (suc y)) ≡ true) same (less k (days_of_year (suc q)) inside) in
+      let now : ltb k (days_of_year (suc p)) ≡ true = subst (λ y. ltb k (days_of_year (suc y)) ≡ true) same (lt-ltb k (days_of_year (suc q)) inside) in
       rw now (subst (λ y. date_in_year (suc y) 1 k (month_days (suc y)) ≡ the_date (suc q) (1 + i) day) same here)
       )
 ]
-
-epoch_place : day_place 1970 1 1 ≡ 719163
-unfolding day_place days_of_years days_of_months
-epoch_place = refl
 
 counted : (n : ℤ) (place : ℕ) → 1 ≤ place → pos place -ℤ pos 719163 ≡ n → unsigned_abs (n -ℤ first_day) + 1 ≡ place
 counted n place low is = omega (arith, ints)

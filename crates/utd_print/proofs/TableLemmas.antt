@@ -1,5 +1,5 @@
 -- Widths and lines, value by value.
-use Rattle.std.proofs.Common.{◌≡◌, ◌≢◌, ℕ, zero, suc, ◌+◌, ◌<◌, ◌≤◌, max, List, [], ◌∷◌, ◌++◌, length, map, get_or, set, take, true, false, Bool, ◌&&◌, codes, decimal, append_assoc, append-nil, refl, sym, ◌∙◌, ap, subst, arith, get_or-set_other, get_or-set_same, below_more}
+use Rattle.std.proofs.Common.{◌≡◌, ◌≢◌, ℕ, zero, suc, ◌+◌, ◌<◌, ◌≤◌, max, List, [], ◌∷◌, ◌++◌, length, map, get_or, set, take, true, codes, decimal, append_assoc, append-nil, refl, sym, ◌∙◌, ap, subst, arith, get_or-set_other, get_or-set_same, below_more}
 use Rattle.std.proofs.lemmas.List.{get_or-map, length-map, map_more, take_all}
 use Rattle.std.proofs.lemmas.List.Sums.{fold-append}
 use Rattle.std.proofs.lemmas.List.FromFn.{fill_by_all}
@@ -11,12 +11,11 @@ use Rattle.value_core.specs.Plain.{plain}
 use Rattle.utd_print.specs.Tables.{value_text, row_texts, character_count, width_at, widths, cell, cells, table_line, names_of, table, HasKind, HaveKinds, AreRows}
 use Rattle.std.specs.List.{flat_map, list_all, range_with_len}
 use Rattle.std.proofs.lemmas.List.FromFn.{length-range_with_len}
+use Rattle.std.proofs.lemmas.Bool.{and_parts}
+use Rattle.value_core.proofs.PlainLemmas.{plain_at}
 use Rattle.utd_print.specs.Widths.{Widens}
 
 -- ---- the value at an index
-
-plain-at : (values : List Value) (i : ℕ) (v : Value) → i < length values → v ≡ get_or values i v → plain v ≡ get_or (map plain values) i (plain v)
-plain-at values i v within is = ap plain is ∙ sym (get_or-map plain values i v (plain v) within)
 
 kind-among : (vs : List PlainValue) (i : ℕ) (d : PlainValue) → HaveKinds vs → i < length vs → HasKind (get_or vs i d)
 kind-among [] i d have within = absurd (omega arith)
@@ -25,11 +24,11 @@ kind-among (v ∷ vs) (suc i) d have within = kind-among vs i d have.1 (omega ar
 
 pub kind-at : (values : List Value) (i : ℕ) (v : Value) → HaveKinds (map plain values) → i < length values → v ≡ get_or values i v → HasKind (plain v)
 kind-at values i v have within is =
-    subst HasKind (sym (plain-at values i v within is)) (kind-among (map plain values) i (plain v) have (omega (arith, length-map values plain)))
+    subst HasKind (sym (plain_at values i v within is)) (kind-among (map plain values) i (plain v) have (omega (arith, length-map values plain)))
 
 pub text-at : (types : List OrdinalNames) (values : List Value) (i : ℕ) (v : Value) → i < length values → v ≡ get_or values i v → get_or (row_texts types (map plain values)) i [] ≡ value_text types (plain v)
 text-at types values i v within is =
-    get_or-map (value_text types) (map plain values) i (plain v) [] (omega (arith, length-map values plain)) ∙ ap (value_text types) (sym (plain-at values i v within is))
+    get_or-map (value_text types) (map plain values) i (plain v) [] (omega (arith, length-map values plain)) ∙ ap (value_text types) (sym (plain_at values i v within is))
 
 -- ---- a width
 
@@ -106,24 +105,20 @@ line-turn start out now ws ts i t a b is grows text =
 
 -- ---- relations
 
-both_true : (a b : Bool) → (a && b) ≡ true → (a ≡ true) × (b ≡ true)
-both_true true b e = (refl, e)
-both_true false b e = cc
-
 row-has-kinds : (h : Heading) (row : Row) → fits_heading h row ≡ true → (length row ≡ length h) × HaveKinds row
 row-has-kinds [] [] e = (refl, tt)
 row-has-kinds [] (v ∷ vs) e = cc
 row-has-kinds (a ∷ h) [] e = cc
 row-has-kinds (a ∷ h) (v ∷ vs) e =
-    let parts = both_true (fits a.1 v) (fits_heading h vs) e in
+    let parts = and_parts (fits a.1 v) (fits_heading h vs) e in
     let rest = row-has-kinds h vs parts.1 in
     (ap suc rest.0, ((a.1, parts.0), rest.1))
 
 rows-have-kinds : (h : Heading) (rows : List Row) → list_all (fits_heading h) rows ≡ true → AreRows (length h) rows
 rows-have-kinds h [] e k d within = absurd (omega arith)
-rows-have-kinds h (row ∷ rows) e zero d within = row-has-kinds h row (both_true (fits_heading h row) (list_all (fits_heading h) rows) e).0
+rows-have-kinds h (row ∷ rows) e zero d within = row-has-kinds h row (and_parts (fits_heading h row) (list_all (fits_heading h) rows) e).0
 rows-have-kinds h (row ∷ rows) e (suc k) d within =
-    rows-have-kinds h rows (both_true (fits_heading h row) (list_all (fits_heading h) rows) e).1 k d (omega arith)
+    rows-have-kinds h rows (and_parts (fits_heading h row) (list_all (fits_heading h) rows) e).1 k d (omega arith)
 
 pub relation-has-kinds : (r : Relation) (attributes : Heading) (rows : List Row) → IsRelation r → attributes ≡ r.heading → rows ≡ r.rows → AreRows (length attributes) rows
 relation-has-kinds r attributes rows h heading is =

@@ -1,5 +1,7 @@
 -- How a session goes on, statement by statement.
 use Rattle.std.proofs.Common.{◌≡◌, ◌↔◌, ℕ, ◌+◌, ◌≤◌, Bool, true, false, cond, ◌&&◌, List, [], ◌∷◌, ◌++◌, length, take, drop, Option, Some, None, Result, Ok, Err, IfOk, IfErr, refl, sym, ap, ◌∙◌, subst, arith, append_assoc, append-nil, length-append, take-append-drop}
+use Rattle.std.proofs.lemmas.Bool.{false_from_ne_true}
+use Rattle.base_core.proofs.BoolLemmas.{same_bool}
 use Rattle.point_core.specs.declared.fault.Place.{Place}
 use Rattle.utd_io.specs.Io.{Gains, GainsPrefix}
 use Rattle.utd_io.proofs.Gained.{Gains-none, Gains-more}
@@ -38,15 +40,11 @@ SinceThen old r b new = (bytes : List ℕ) → Since old bytes → Since new (si
 abbrev pub EndsThen : Cutter → Cuts → ℕ → Type 0
 EndsThen old r b = (bytes : List ℕ) → Since old bytes → ((r ≡ Ends) ↔ ((b ≡ 59) × IsWhole bytes))
 
-not_true : (t : Bool) → (t ≡ true → ⊥) → t ≡ false
-not_true true n = absurd (n refl)
-not_true false n = refl
-
 pub step-inside : (old new : Cutter) (r : Cuts) (b : ℕ) (bytes piece : List ℕ) → SinceThen old r b new → EndsThen old r b → (r ≡ Ends → ⊥) → Since old (bytes ++ piece)
     → (ends (bytes ++ piece) b ≡ false) × Since new (bytes ++ (piece ++ b ∷ []))
 step-inside old new Ends b bytes piece s e not_end h = absurd (not_end refl)
 step-inside old new Inside b bytes piece s e not_end h = (
-  not_true (ends (bytes ++ piece) b) (λ t. not_end ((e (bytes ++ piece) h).1 ((ends_is (bytes ++ piece) b).0 t))),
+  false_from_ne_true (ends (bytes ++ piece) b) (λ t. not_end ((e (bytes ++ piece) h).1 ((ends_is (bytes ++ piece) b).0 t))),
   subst (Since new) (append_assoc bytes piece (b ∷ [])) (s (bytes ++ piece) h),
 )
 
@@ -249,14 +247,9 @@ fed-stop-at-end session cutter piece rest bytes rs before now paid steps (Err e)
 
 -- ---- the end of a script
 
-same_tests : (a b : Bool) → (a ≡ true → b ≡ true) → (b ≡ true → a ≡ true) → a ≡ b
-same_tests true b f g = sym (f refl)
-same_tests false true f g = let e : false ≡ true = g refl in cc
-same_tests false false f g = refl
-
 -- the cutter tells whether the rest is blank
 pub blank_is : (bytes : List ℕ) (answer : Bool) → ((answer ≡ true) ↔ IsBlank bytes) → answer ≡ is_blank bytes
-blank_is bytes answer h = same_tests answer (is_blank bytes) (λ e. (is_blank_is bytes).1 (h.0 e)) (λ e. h.1 ((is_blank_is bytes).0 e))
+blank_is bytes answer h = same_bool answer (is_blank bytes) (λ e. (is_blank_is bytes).1 (h.0 e)) (λ e. h.1 ((is_blank_is bytes).0 e))
 
 blank_statements : (bytes : List ℕ) → is_blank (cut bytes).rest ≡ true → statements bytes ≡ complete_statements bytes
 blank_statements bytes e = ap (λ t. complete_statements bytes ++ cond t [] (Incomplete ∷ [])) e ∙ append-nil (complete_statements bytes)

@@ -1,5 +1,5 @@
 -- What is told of the relation that an expression means.
-use Rattle.std.proofs.Common.{◌≡◌, [], refl, sym, ap, subst, None, ℕ, Vec, Global, Result, Ok, Err}
+use Rattle.std.proofs.Common.{◌≡◌, refl, sym, ap, subst, None, ℕ, Vec, Global, Result, Ok, Err}
 use Rattle.point_core.specs.Faults.{OrFault}
 use Rattle.point_core.specs.declared.fault.Stop.{Stop}
 use Rattle.point_core.specs.declared.fault.Stop.TheVariants as stops
@@ -7,11 +7,11 @@ use Rattle.value_core.specs.Refusals.{refusal_of}
 use Rattle.value_core.specs.Values.{Relation, Heading}
 use Rattle.relation_core.specs.Answers.{Answers, under}
 use Rattle.tree_core.specs.Relvars.{State, Entries}
-use Rattle.tree_core.specs.Trees.{read_tree, heading_of}
+use Rattle.tree_core.specs.Trees.{read_tree}
 use Rattle.tree_core.specs.declared.tree.RelTree.{RelTree}
 use Rattle.meaning_core.specs.Meanings.{meaning_in}
 use Rattle.meaning_core.specs.Names.{given}
-use Rattle.meaning_core.proofs.LookupLemmas.{given_none, operand_heading}
+use Rattle.meaning_core.proofs.LookupLemmas.{given_none, heading_read}
 use Rattle.type_check.specs.Checks.{print}
 use Rattle.utd_print.specs.Tables.{table}
 use Rattle.utd_statement.specs.Answers.{Answer, Table, unless_fault, relation_in, of_checked, state_after}
@@ -19,14 +19,11 @@ use Rattle.utd_statement.specs.Replies.{IsTextOf, IsPerformed}
 
 -- ---- expressions
 
-heading_is : (t : RelTree) → t.heading ≡ heading_of (read_tree t)
-heading_is t = operand_heading t (Ok []) (record { heading = t.heading; rows = [] }) refl
-
 -- an expression is evaluated in the state as it is, with the heading of its tree
 relation_is : (state : State) (t : RelTree) (r : Result Relation Stop) → Answers r (under t.heading (meaning_in (given None None state.relvars) (read_tree t))) → Answers r (relation_in state (read_tree t))
 relation_is state t r h =
     let same = subst (λ (es : Entries). Answers r (under t.heading (meaning_in es (read_tree t)))) (given_none None state.relvars) h in
-    subst (λ (heading : Heading). Answers r (under heading (meaning_in state.relvars (read_tree t)))) (heading_is t) same
+    subst (λ (heading : Heading). Answers r (under heading (meaning_in state.relvars (read_tree t)))) (heading_read t) same
 
 module _ {A : Type 0} (f : A → Answer) (state : State) (stays : (v : A) → state_after state (f v) ≡ state) where
   -- the fault of an evaluation

@@ -1,8 +1,8 @@
 -- The value of the option, in what a parse found.
-use Rattle.std.proofs.Common.{◌≡◌, ◌⊎◌, ◌∙◌, ◌<◌, ◌&&◌, ap, ℕ, Bool, true, false, List, [], ◌∷◌, length, map, Option, Some, None, refl, sym, subst, inl, inr, arith, codes, slice_index}
+use Rattle.std.proofs.Common.{◌≡◌, ◌⊎◌, ◌∙◌, ◌<◌, ap, ℕ, true, false, List, [], ◌∷◌, length, map, Option, Some, None, refl, sym, subst, inl, inr, arith, codes, slice_index}
 use Rattle.std.specs.List.{All, slice_index_or}
 use Rattle.std.specs.Str.{bytes_eq}
-use Rattle.std.specs.Prelude.{option_map, slice_get, unwrap_or, not}
+use Rattle.std.specs.Prelude.{option_map, slice_get, unwrap_or}
 use Rattle.std.specs.Borrow.{Bor}
 use Rattle.std.proofs.lemmas.Bool.Decides.{nat_tests}
 use Rattle.std.proofs.lemmas.List.{nil_from_length}
@@ -31,19 +31,12 @@ use Rattle.clap.specs.declared.builder.value_parser.Reading.TheVariants.{AsWritt
 use Rattle.clap.specs.declared.parser.matches.ArgMatches.{ArgMatches}
 use Rattle.clap.specs.declared.parser.matches.MatchedArg.{MatchedArg}
 use Rattle.utd_gen.specs.Script.{most_tuples}
+use Rattle.std.proofs.lemmas.Bool.{and_parts, not-true}
 use Rattle.utd_words.specs.declared.words.Script.{Script}
 use Rattle.utd_words.specs.declared.words.Script.TheVariants.{OfInput, Generated}
 use Rattle.utd_words.specs.Words.{generate, generate_option, utd_command, number_in, script_by, generate_value, unless_fault, asked, IsInRange}
 
 -- ---- the one argument of the command
-
-both : (a b : Bool) → (a && b) ≡ true → (a ≡ true) × (b ≡ true)
-both true b e = (refl, e)
-both false b e = cc
-
-off : (a : Bool) → not a ≡ true → a ≡ false
-off true e = cc
-off false e = refl
 
 nothing : {X : Type 0} (xs : List X) → is_empty xs ≡ true → xs ≡ []
 nothing xs e =
@@ -72,13 +65,13 @@ option_of c is =
 plain_option : (a : Arg) → rule_of a ≡ generate_option → IsPlainArg a
 plain_option a is =
     let simple = ap (λ (r : Rule). r.is_simple) is in
-    let s0 = both _ _ simple in
-    let s1 = both _ _ s0.1 in
-    let s2 = both _ _ s1.1 in
+    let s0 = and_parts _ _ simple in
+    let s1 = and_parts _ _ s0.1 in
+    let s2 = and_parts _ _ s1.1 in
     let free = ap (λ (r : Rule). r.is_free) is in
-    let f0 = both _ _ free in
-    let f1 = both _ _ f0.1 in
-    (off a.exclusive f0.0, nothing a.conflicts.items f1.0, nothing a.overrides.items s0.0, nothing a.groups.items s2.0)
+    let f0 = and_parts _ _ free in
+    let f1 = and_parts _ _ f0.1 in
+    (not-true a.exclusive f0.0, nothing a.conflicts.items f1.0, nothing a.overrides.items s0.0, nothing a.groups.items s2.0)
 
 record IsBare (c : Command) : Type 0 where
   plain : IsPlain c
@@ -87,12 +80,12 @@ record IsBare (c : Command) : Type 0 where
 bare : (c : Command) → app_of c ≡ utd_command → IsBare c
 bare c is =
     let o = option_of c is in
-    let f0 = both _ _ (ap (λ (a : App). a.top.is_plain) is) in
-    let f1 = both _ _ f0.1 in
-    let f2 = both _ _ f1.1 in
+    let f0 = and_parts _ _ (ap (λ (a : App). a.top.is_plain) is) in
+    let f1 = and_parts _ _ f0.1 in
+    let f2 = and_parts _ _ f1.1 in
     record {
       plain = (subst (All IsPlainArg) (sym o.args) (All-push IsPlainArg [] o.arg (All-nil IsPlainArg) (plain_option o.arg o.rule)), nothing (groups_of c) f0.0);
-      globals = off (out-Command c).has_globals f2.0;
+      globals = not-true (out-Command c).has_globals f2.0;
     }
 
 -- ---- the argument of the command as it was built

@@ -10,6 +10,7 @@ use Rattle.std.specs.Ordering.{is_lt, is_eq, eq_by_cmp, ordering_reverse}
 use Rattle.std.specs.Str.{bytes_eq}
 use Rattle.std.specs.Cmp.{IsTotalOrder, on_total}
 use Rattle.std.specs.Cmp.Lexicographic.{nat_list_cmp_total, texts_ties, nat_list_eq_equiv}
+use Rattle.std.proofs.lemmas.Bool.{or_parts}
 use Rattle.base_core.specs.Sets.{is_set, is_set_after}
 use Rattle.value_core.specs.Values.{Name, Heading, attribute_cmp, is_heading}
 use Rattle.value_core.specs.declared.kind.Kind.{Kind}
@@ -34,14 +35,10 @@ repeat_found list i d within old = rw (drop-cons list i d within, old) refl
 abbrev same_name : Name × Kind → Name × Kind → Bool
 same_name a b = bytes_eq a.0 b.0
 
-neither : (a b : Bool) → (a || b) ≡ false → (a ≡ false) × (b ≡ false)
-neither true b e = cc
-neither false b e = (refl, e)
-
 not_in_more : (front : Heading) (a : Name × Kind) (name : Name) → has_name (front ++ a ∷ []) name ≡ false → (has_name front name ≡ false) × (bytes_eq a.0 name ≡ false)
-not_in_more [] a name e = (refl, (neither (bytes_eq a.0 name) false e).0)
+not_in_more [] a name e = (refl, (or_parts (bytes_eq a.0 name) false e).0)
 not_in_more (f ∷ front) a name e =
-    let h = neither (bytes_eq f.0 name) (has_name (front ++ a ∷ []) name) e in
+    let h = or_parts (bytes_eq f.0 name) (has_name (front ++ a ∷ []) name) e in
     let k = not_in_more front a name h.1 in
     (rw (h.0, k.0) refl, k.1)
 

@@ -3,3 +3,4 @@ pub mod HeadingLemmas
 pub mod OrderLemmas
 pub mod PlacingLemmas
 pub mod RelationLemmas
+pub mod PlainLemmas

@@ -5,14 +5,10 @@ use Rattle.std.specs.Cmp.{int_cmp_is}
 use Rattle.std.specs.Cmp.Lexicographic.{slice_cmp}
 use Rattle.std.proofs.lemmas.Cmp.{ranked}
 use Rattle.std.proofs.lemmas.Int.{ints}
+use Rattle.base_core.proofs.OrderingLemmas.{then-Equal}
 use Rattle.interval_core.specs.Members.{Span}
 use Rattle.point_core.specs.Points.{Line, integers, days, values_of}
 use Rattle.value_core.specs.Values.{interval, value_cmp, line_cmp, span_cmp}
-
-pub then_equal : (r : Ordering) → ordering_then r Equal ≡ r
-then_equal Less = refl
-then_equal Equal = refl
-then_equal Greater = refl
 
 then_assoc : (q r s : Ordering) → ordering_then q (ordering_then r s) ≡ ordering_then (ordering_then q r) s
 then_assoc Less r s = refl
@@ -35,17 +31,17 @@ texts_cmp (x ∷ a) (y ∷ b) = ap₂ ordering_then (int_cmp-pos x y) (texts_cmp
 
 -- intervals by their lines and then their ends
 pub intervals_cmp : (l m : Line) (i j : Span) → value_cmp (interval l i) (interval m j) ≡ ordering_then (line_cmp l m) (span_cmp i j)
-intervals_cmp integers integers i j = ap (ordering_then (int_cmp i.0 j.0)) (then_equal (int_cmp i.1 j.1))
+intervals_cmp integers integers i j = ap (ordering_then (int_cmp i.0 j.0)) (then-Equal (int_cmp i.1 j.1))
 intervals_cmp integers days i j = refl
 intervals_cmp integers (values_of n) i j = refl
 intervals_cmp days integers i j = refl
-intervals_cmp days days i j = ap (ordering_then (int_cmp i.0 j.0)) (then_equal (int_cmp i.1 j.1))
+intervals_cmp days days i j = ap (ordering_then (int_cmp i.0 j.0)) (then-Equal (int_cmp i.1 j.1))
 intervals_cmp days (values_of n) i j = refl
 intervals_cmp (values_of n) integers i j = refl
 intervals_cmp (values_of n) days i j = refl
 intervals_cmp (values_of m) (values_of n) i j =
-    let ends = ap (ordering_then (int_cmp i.0 j.0)) (then_equal (int_cmp i.1 j.1)) in
-    ap₂ ordering_then (sym (then_equal (int_cmp (pos m) (pos n)))) ends
+    let ends = ap (ordering_then (int_cmp i.0 j.0)) (then-Equal (int_cmp i.1 j.1)) in
+    ap₂ ordering_then (sym (then-Equal (int_cmp (pos m) (pos n)))) ends
 
 -- lists of what f makes, by what they are made of
 pub slice_cmp-map : {X Y : Type 0} (f : X → Y) (cmp : Y → Y → Ordering) (xs ys : List X) → slice_cmp (λ x y. cmp (f x) (f y)) xs ys ≡ slice_cmp cmp (map f xs) (map f ys)

@@ -1,8 +1,8 @@
 -- Rows that are sorted, each once, and the search among them.
-use Rattle.std.proofs.Common.{◌≡◌, inl, inr, ℕ, zero, suc, ◌<◌, ◌≤◌, Bool, true, false, ◌&&◌, List, [], ◌∷◌, length, get_or, Result, Ok, Err, refl, sym, ap, ◌∙◌, subst, arith, Ordering, Less, Equal, Greater, is_ok}
+use Rattle.std.proofs.Common.{◌≡◌, inl, inr, ℕ, zero, suc, ◌<◌, ◌≤◌, Bool, true, false, List, [], ◌∷◌, length, get_or, Result, Ok, Err, refl, sym, ap, ◌∙◌, subst, arith, Ordering, Less, Equal, Greater, is_ok}
 use Rattle.std.proofs.Math.Bool.{and-false}
 use Rattle.std.proofs.Math.Nat.{eq-or-lt_of_le}
-use Rattle.std.proofs.lemmas.Bool.{cases_lt}
+use Rattle.std.proofs.lemmas.Bool.{cases_lt, and_parts}
 use Rattle.std.proofs.lemmas.List.Folds.{list_any_at, list_any_none}
 use Rattle.std.proofs.lemmas.List.Filters.{dedup_is}
 use Rattle.std.proofs.lemmas.List.Kept.{IsStrictlySortedBy-dedup}
@@ -77,14 +77,10 @@ all_pass : {X : Type 0} (p : X → Bool) (xs : List X) → ((x : X) → In x xs 
 all_pass p [] h = refl
 all_pass p (x ∷ xs) h = rw (h x (inl refl), all_pass p xs (λ y i. h y (inr i))) refl
 
-both_pass : (a b : Bool) → (a && b) ≡ true → (a ≡ true) × (b ≡ true)
-both_pass true b e = (refl, e)
-both_pass false b e = cc
-
 each_passes : {X : Type 0} (p : X → Bool) (xs : List X) (x : X) → list_all p xs ≡ true → In x xs → p x ≡ true
 each_passes p [] x h i = absurd i
 each_passes p (y ∷ ys) x h i =
-    let both = both_pass (p y) (list_all p ys) h in
+    let both = and_parts (p y) (list_all p ys) h in
     elim i [ inl e ↦ ap p e ∙ both.0 | inr k ↦ each_passes p ys x both.1 k ]
 
 -- the set of a list passes a test that the list passes

@@ -28,10 +28,10 @@ use Rattle.algebra_core.specs.Operands.{held}
 use Rattle.algebra_core.specs.Scopes.{CanEvaluate, CanLookUp, known_at, prices_at, state_of, all_of, work, stored_work, stored_meaning}
 use Rattle.algebra_core.specs.Surroundings.{around_of, KeepsList, IsSwept, AreSwept, AreSummed}
 use Rattle.algebra_core.specs.declared.scope.Scope.{Scope}
-use Rattle.meaning_core.proofs.LookupLemmas.{found_at, none_passes}
+use Rattle.meaning_core.proofs.LookupLemmas.{found_at, none_passes, heading_read}
 use Rattle.algebra_core.proofs.CostLemmas.{price_first}
 use Rattle.algebra_core.proofs.EvalLemmas.{stands_before, can_look_up, work_falls, named_meant, view_can, base_meant, none_named}
-use Rattle.algebra_core.proofs.NodeLemmas.{failed_cost, headed_at, value_at, cost_at, own_heading}
+use Rattle.algebra_core.proofs.NodeLemmas.{failed_cost, headed_at, value_at, cost_at}
 use Rattle.algebra_core.proofs.SurroundingLemmas.{infix_part, project_part, restrict_part, extend_part, summarize_part}
 use Rattle.algebra_core.proofs.evaluation.+answer.Goals as goal
 
@@ -292,7 +292,7 @@ using-returns-clause-value g t c =
     let known = known_at c.args.scope.now in
     let list : c.as_slice.result.now ≡ c.args.acl.now = search rules in
     let told = subst (λ (l : List ℕ). Answers c.answer.result (under c.args.t.now.heading (meaning known (around place c.args.t.now.heading l) part))) list c.answer.ensures.value in
-    let own = subst (λ (h : Heading). Answers c.answer.result (under h (meaning known (around place h c.args.acl.now) part))) (own_heading c.args.t.now) told in
+    let own = subst (λ (h : Heading). Answers c.answer.result (under h (meaning known (around place h c.args.acl.now) part))) (heading_read c.args.t.now) told in
     subst (λ (h : Heading). Answers c.answer.result (under h (meaning known (around place (heading_of part) c.args.acl.now) part))) (sym c.requires.typed.2) own
 
 pub using-returns-clause-cost : goal.using-returns-clause-cost
@@ -301,4 +301,4 @@ using-returns-clause-cost g t c =
     let part = read_tree c.args.t.now in
     let list : c.as_slice.result.now ≡ c.args.acl.now = search rules in
     let told = subst (λ (l : List ℕ). c.answer.new.steps ≤ c.args.steps.now + tree_cost (prices_at c.args.scope.now) (around place c.args.t.now.heading l) part) list c.answer.ensures.cost in
-    subst (λ (h : Heading). c.answer.new.steps ≤ c.args.steps.now + tree_cost (prices_at c.args.scope.now) (around place h c.args.acl.now) part) (own_heading c.args.t.now) told
+    subst (λ (h : Heading). c.answer.new.steps ≤ c.args.steps.now + tree_cost (prices_at c.args.scope.now) (around place h c.args.acl.now) part) (heading_read c.args.t.now) told

@@ -2,12 +2,13 @@ use Rattle.std.proofs.Common.{List, [], ◌∷◌, take, sym, ap, subst, ◌∙�
 use Rattle.std.specs.List.Sorted.{IsStrictlySortedBy}
 use Rattle.value_core.specs.Values.{Row, row_cmp}
 use Rattle.relation_core.specs.Operators.{subtracted}
-use Rattle.assign_core.proofs.RemovalLemmas.{none_taken, taken_turn, sorted_taken, one_more}
+use Rattle.u_constraints.proofs.GrowthLemmas.{all_left}
+use Rattle.assign_core.proofs.RemovalLemmas.{taken_turn, sorted_taken, one_more}
 use Rattle.assign_core.proofs.marking.take_out_all.Goals as goal
 
 pub loop-row-init : goal.loop-row-init
 loop-row-init g c = record {
-  rows = none_taken c.args.rows.now.items;
+  rows = all_left c.args.rows.now.items;
   marks = c.requires.1;
 }
 

@@ -2,11 +2,12 @@ use Rattle.std.proofs.Common.{List, [], ◌∷◌, take, sym, ap, subst, ◌∙�
 use Rattle.std.specs.List.Sorted.{IsStrictlySortedBy}
 use Rattle.value_core.specs.Values.{Row, row_cmp}
 use Rattle.relation_core.specs.Operators.{subtracted}
-use Rattle.assign_core.proofs.RemovalLemmas.{none_taken, taken_turn, sorted_taken, one_more}
+use Rattle.u_constraints.proofs.GrowthLemmas.{all_left}
+use Rattle.assign_core.proofs.RemovalLemmas.{taken_turn, sorted_taken, one_more}
 use Rattle.assign_core.proofs.removal.take_out_each.Goals as goal
 
 pub loop-row-init : goal.loop-row-init
-loop-row-init c = none_taken c.args.rows.now.items
+loop-row-init c = all_left c.args.rows.now.items
 
 pub take_out_one-requires : goal.take_out_one-requires
 take_out_one-requires c =

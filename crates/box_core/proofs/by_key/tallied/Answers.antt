@@ -4,10 +4,10 @@ use Rattle.point_core.specs.LeastFault.{IsLeast}
 use Rattle.slice_core.specs.PackedRows.{HasRow}
 use Rattle.slice_core.proofs.Turns.{least_kept, least_more}
 use Rattle.std.specs.declared.cmp.Ordering.TheVariants.{Equal}
+use Rattle.packing_core.proofs.AmongLemmas.{all_from_members}
 use Rattle.box_core.specs.Common.{first_of}
 use Rattle.box_core.specs.Rows.{IsRow, KeyBox}
 use Rattle.box_core.specs.Tallies.{IsPart, OfTallied, IsTallyFault}
-use Rattle.box_core.proofs.CoveredLemmas.{all_from}
 use Rattle.box_core.proofs.GroupLemmas.{split_first, split_more}
 use Rattle.slice_core.proofs.LabelRows.{map_length}
 use Rattle.box_core.proofs.KeyLemmas.{DoneMarks, part_of_row, tallied_more, fault_more, marks_none, marks_all, rows_none, through}
@@ -93,7 +93,7 @@ tally_key-requires-clause-within g c =
     omega (arith, a, b)
 
 pub first_sides-requires : goal.first_sides-requires
-first_sides-requires g c = all_from (λ (x : KeyBox _). 0 < length x.1) c.args.rows.now (λ x h.
+first_sides-requires g c = all_from_members (λ (x : KeyBox _). 0 < length x.1) c.args.rows.now (λ x h.
     let r = among_row c.args.rows.now x h in
     let e : length x.1 ≡ 1 = row_sides 1 c.args.rows.now c.requires.sides r.0 x r.1 in
     omega (arith, e))
@@ -106,7 +106,7 @@ returns-clause-places g c = λ l j.
     (λ h. w.0 (v.0 h), λ h. v.1 (w.1 h))
 
 pub returns-clause-lengths : goal.returns-clause-lengths
-returns-clause-lengths g c = all_from (λ (x : KeyBox _). length x.1 ≡ 1) c.loop-first.out.items (λ x h. (c.loop-first.invariant.parts x h).0)
+returns-clause-lengths g c = all_from_members (λ (x : KeyBox _). length x.1 ≡ 1) c.loop-first.out.items (λ x h. (c.loop-first.invariant.parts x h).0)
 
 pub returns-clause-ends : goal.returns-clause-ends
 returns-clause-ends g c = λ z h. (c.loop-first.invariant.parts z h).1

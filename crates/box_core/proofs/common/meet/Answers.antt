@@ -1,6 +1,6 @@
 use Rattle.std.proofs.Common.{rules, ◌≡◌, ℕ, ◌<◌, ◌≤◌, get_or, length, subst, ap, ◌∙◌}
+use Rattle.std.proofs.lemmas.List.{get_or_default}
 use Rattle.packing_core.specs.Packed.{no_cells}
-use Rattle.packing_core.proofs.Numbered.{other_default}
 use Rattle.box_core.specs.Common.{both as both_of}
 use Rattle.box_core.specs.Rows.{KeyBox}
 use Rattle.box_core.proofs.PlaceLemmas.{none_meet}
@@ -13,7 +13,7 @@ returns-then-cells g c =
     let s : ℕ = c.loop-s.s in
     let below : s < length x = search rules in
     let other : s < length y = search rules in
-    let first : c.index.result.now ≡ get_or x s no_cells = c.index.ensures ∙ ap (λ (z : KeyBox g.row.P.Denot). get_or z.1 s c.index.result.now) c.x.view_is ∙ other_default x s c.index.result.now no_cells below in
-    let second : c.index-in-loop-s.result.now ≡ get_or y s no_cells = c.index-in-loop-s.ensures ∙ ap (λ (z : KeyBox g.row.P.Denot). get_or z.1 s c.index-in-loop-s.result.now) c.y.view_is ∙ other_default y s c.index-in-loop-s.result.now no_cells other in
+    let first : c.index.result.now ≡ get_or x s no_cells = c.index.ensures ∙ ap (λ (z : KeyBox g.row.P.Denot). get_or z.1 s c.index.result.now) c.x.view_is ∙ get_or_default x s c.index.result.now no_cells below in
+    let second : c.index-in-loop-s.result.now ≡ get_or y s no_cells = c.index-in-loop-s.ensures ∙ ap (λ (z : KeyBox g.row.P.Denot). get_or z.1 s c.index-in-loop-s.result.now) c.y.view_is ∙ get_or_default y s c.index-in-loop-s.result.now no_cells other in
     let same : c.both-cells.result ≡ both_of (get_or x s no_cells) (get_or y s no_cells) = c.both-cells.ensures ∙ (λ t. both_of (first t) (second t)) in
     none_meet x y s below other (subst (λ (z : ℕ × ℕ). z.1 ≤ z.0) same c.if-cells.true)

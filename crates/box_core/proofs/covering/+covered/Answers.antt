@@ -1,11 +1,16 @@
 use Rattle.std.proofs.Common.{◌≡◌, ◌<◌, ◌≤◌, ◌↔◌, ◌⊎◌, ◌-◌, ℕ, List, [], ◌∷◌, suc, arith, ap, sym, refl, subst, length, get_or, ◌∙◌, map, ◌++◌, Vec, Global, Some, Option}
 use Rattle.std.specs.List.{filter, flat_map}
 use Rattle.std.proofs.lemmas.List.Elements.{All-same}
+use Rattle.std.proofs.lemmas.List.{get_or_default}
 use Rattle.packing_core.specs.Covering.{Among}
 use Rattle.packing_core.specs.Live.{box, side_has, InLive, IsSomewhere}
-use Rattle.packing_core.proofs.Numbered.{other_default}
 use Rattle.point_core.specs.declared.fault.Fault.{Fault}
+<<<<<<< HEAD
 use Rattle.point_core.specs.LeastFault.{IsLeast}
+=======
+use Rattle.packing_core.proofs.AmongLemmas.{all_from_members}
+use Rattle.slice_core.specs.LeastFault.{IsLeast}
+>>>>>>> ef085be6f7c97d57563d20c59e71dc557db76b7e
 use Rattle.slice_core.specs.PackedRows.{HasRow, cuts_of}
 use Rattle.slice_core.specs.Rows.{sides_of, AreRows, GivesLabel, GivesFault}
 use Rattle.slice_core.specs.Sweeps.{IsSweep}
@@ -17,7 +22,7 @@ use Rattle.slice_core.proofs.UnitedLemmas.{has_sides, is_not_nil, IsBeside, besi
 use Rattle.box_core.specs.Common.{EndsBy}
 use Rattle.box_core.specs.Groups.{longer}
 use Rattle.box_core.specs.Rows.{KeyBox}
-use Rattle.box_core.proofs.CoveredLemmas.{all_from, leaf_lengths, leaf_places, leaf_ends, leaf_least, turn_places, turn_lengths, turn_ends, turn_least, all_places}
+use Rattle.box_core.proofs.CoveredLemmas.{leaf_lengths, leaf_places, leaf_ends, leaf_least, turn_places, turn_lengths, turn_ends, turn_least, all_places}
 use Rattle.box_core.proofs.RowLemmas.{among_row, row_all}
 use Rattle.box_core.proofs.covering.+covered.Goals.{then-begin-end+in_ok-sweep-2+in_ok-rows-2+in_ok-push_longer, else-begin-end}
 use Rattle.box_core.proofs.covering.+covered.Goals as goal
@@ -31,7 +36,7 @@ returns-then-sides-eq0-clause-places g t c =
 
 pub returns-then-sides-eq0-clause-lengths : goal.returns-then-sides-eq0-clause-lengths
 returns-then-sides-eq0-clause-lengths g t c =
-    all_from (λ (x : KeyBox _). length x.1 ≡ c.args.sides) c.in_ok-rows.rows.items
+    all_from_members (λ (x : KeyBox _). length x.1 ≡ c.args.sides) c.in_ok-rows.rows.items
     (leaf_lengths (g.O.CellOp.means c.args.op.now) (sides_of c.args.boxes.now) c.args.live.now c.as_slice.result.now
     (is_not_nil c.args.live.now c.is_empty.result c.is_empty.ensures c.if-is_empty.false) (c.as_slice.ensures.value ∙ c.new-none.ensures.items) c.args.sides (omega arith) c.in_ok-rows.rows.items c.in_ok-rows.ensures.rows)
 
@@ -97,7 +102,7 @@ loop-i-preserved g t c =
     let f = GivesLabel (g.O.CellOp.means c.args.op.now) 0 in
     let h = GivesFault (g.O.CellOp.means c.args.op.now) 0 in
     let l : i < length cuts = omega arith in
-    let e : get_or cuts i 0 ≡ z = other_default cuts i 0 z l ∙ sym c.index-end.ensures in
+    let e : get_or cuts i 0 ≡ z = get_or_default cuts i 0 z l ∙ sym c.index-end.ensures in
     let order : (j k : ℕ) → j ≤ k → k < length cuts → get_or cuts j 0 ≤ get_or cuts k 0 = c.in_ok-cuts.ensures.order in
     let S : ℕ → g.row.O-Out.Denot → List ℕ → Type 0 = λ j t place. InLive f b (filter (side_has b side j) live) [] t place in
     let Q : ℕ → Fault → Type 0 = λ j d. IsSomewhere side h b (filter (side_has b side j) live) [] d in

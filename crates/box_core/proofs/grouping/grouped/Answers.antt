@@ -9,10 +9,10 @@ use Rattle.box_core.specs.Common.{EndsBy}
 use Rattle.box_core.specs.Groups.{IsGroupFault}
 use Rattle.box_core.specs.Meetings.{boxes_in}
 use Rattle.box_core.specs.Rows.{IsRow, KeyBox}
-use Rattle.box_core.proofs.CoveredLemmas.{all_from}
 use Rattle.box_core.proofs.GroupLemmas.{Done, split_first, split_more, done_none, done_more, done_all, rows_of_boxes, sides_of_boxes, rows_more, lengths_more, ends_more, least_all, somewhere_all}
 use Rattle.box_core.proofs.RowLemmas.{row_there}
 use Rattle.std.specs.declared.cmp.Ordering.TheVariants.{Equal}
+use Rattle.packing_core.proofs.AmongLemmas.{all_from_members}
 use Rattle.box_core.proofs.grouping.grouped.Goals as goal
 
 pub loop-first-init : goal.loop-first-init
@@ -23,7 +23,7 @@ loop-first-init g c =
       within = omega arith;
       split = split_first rows;
       places = λ t place f. (λ h. absurd (subst (Among (t, h.0)) c.new-out.ensures.items h.1), λ h. absurd (done_none rows (λ a. Gives (m a []) t) place h));
-      lengths = all_from (λ (x : KeyBox _). length x.1 ≡ c.args.sides) c.new-out.result.items (λ x h. absurd (subst (Among x) c.new-out.ensures.items h));
+      lengths = all_from_members (λ (x : KeyBox _). length x.1 ≡ c.args.sides) c.new-out.result.items (λ x h. absurd (subst (Among x) c.new-out.ensures.items h));
       ends = λ z h. absurd (subst (Among z) c.new-out.ensures.items h);
       least = least_kept (λ e. (place : List ℕ) × (length place ≡ c.args.sides) × Done rows 0 (λ a. m a [] ≡ Err e) place) c.args.least.now (λ e h. done_none rows (λ a. m a [] ≡ Err e) h.0 h.2);
     }

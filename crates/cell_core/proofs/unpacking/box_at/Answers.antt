@@ -1,11 +1,11 @@
 use Rattle.std.proofs.Common.{◌≡◌, ◌≤ℤ◌, pos, ◌+◌, ◌∷◌, ◌++◌, [], suc, length, get_or, map, take, arith, subst, sym, ap, ◌∙◌, inl, inr}
 use Rattle.std.proofs.lemmas.Bool.{cases_lt}
-use Rattle.std.proofs.lemmas.List.{get_or_append_left, get_or_push, length_push, get_or_read}
+use Rattle.std.proofs.lemmas.List.{get_or_append_left, get_or_push, length_push, get_or_read, get_or_default}
 use Rattle.interval_core.specs.Members.{HasEndsIn, at_point}
 use Rattle.cell_core.specs.Cells.{box_numbers}
 use Rattle.cell_core.proofs.BackLemmas.{is_box}
 use Rattle.cell_core.proofs.KeyLemmas.{take_whole}
-use Rattle.cell_core.proofs.PlaceLemmas.{place_count, place_at, other_default, one_more_point, numbers_push}
+use Rattle.cell_core.proofs.PlaceLemmas.{place_count, place_at, one_more_point, numbers_push}
 use Rattle.cell_core.proofs.unpacking.box_at.Goals as goal
 
 pub index-requires : goal.index-requires
@@ -26,7 +26,7 @@ at_number-requires-clause-low g c =
     let p = c.index.result.now in
     let many = place_count first last types c.args.numbers.now c.requires in
     let h = c.loop-j-test.true in
-    let at : get_or c.args.numbers.now j (pos 0) ≡ p = other_default c.args.numbers.now j (pos 0) p (omega arith) ∙ ap (λ ys. get_or ys j p) (sym c.numbers.view_is) ∙ sym c.index.ensures in
+    let at : get_or c.args.numbers.now j (pos 0) ≡ p = get_or_default c.args.numbers.now j (pos 0) p (omega arith) ∙ ap (λ ys. get_or ys j p) (sym c.numbers.view_is) ∙ sym c.index.ensures in
     subst (λ u. first u ≤ℤ p) (sym c.index-types-j.is) (subst (λ q. first (get_or types j t) ≤ℤ q) at (place_at first last types c.args.numbers.now c.requires j t h).0)
 
 pub at_number-requires-clause-high : goal.at_number-requires-clause-high
@@ -39,7 +39,7 @@ at_number-requires-clause-high g c =
     let p = c.index.result.now in
     let many = place_count first last types c.args.numbers.now c.requires in
     let h = c.loop-j-test.true in
-    let at : get_or c.args.numbers.now j (pos 0) ≡ p = other_default c.args.numbers.now j (pos 0) p (omega arith) ∙ ap (λ ys. get_or ys j p) (sym c.numbers.view_is) ∙ sym c.index.ensures in
+    let at : get_or c.args.numbers.now j (pos 0) ≡ p = get_or_default c.args.numbers.now j (pos 0) p (omega arith) ∙ ap (λ ys. get_or ys j p) (sym c.numbers.view_is) ∙ sym c.index.ensures in
     subst (λ u. p ≤ℤ last u) (sym c.index-types-j.is) (subst (λ q. q ≤ℤ last (get_or types j t)) at (place_at first last types c.args.numbers.now c.requires j t h).1)
 
 pub loop-j-preserved : goal.loop-j-preserved
@@ -54,7 +54,7 @@ loop-j-preserved g c =
     let many = place_count g.T.PointType.first_number g.T.PointType.last_number c.args.types.now c.args.numbers.now c.requires in
     let h = c.loop-j-test.true in
     let s : suc c.loop-j.j ≡ c.loop-j.j + 1 = omega arith in
-    let at : p ≡ get_or c.args.numbers.now c.loop-j.j (pos 0) = c.index.ensures ∙ ap (λ ys. get_or ys c.loop-j.j p) c.numbers.view_is ∙ other_default c.args.numbers.now c.loop-j.j p (pos 0) (omega arith) in
+    let at : p ≡ get_or c.args.numbers.now c.loop-j.j (pos 0) = c.index.ensures ∙ ap (λ ys. get_or ys c.loop-j.j p) c.numbers.view_is ∙ get_or_default c.args.numbers.now c.loop-j.j p (pos 0) (omega arith) in
     record {
       length = ap length push ∙ length_push list x ∙ ap (λ m. m + 1) len;
       numbers = ap (box_numbers n) push ∙ numbers_push n list x ∙ (λ t. c.loop-j.invariant.numbers t ++ c.at_number.ensures.numbers t ∷ []) ∙ sym (one_more_point c.args.numbers.now c.loop-j.j p (omega arith) at) ∙ ap (λ m. map at_point (take m c.args.numbers.now)) s;

@@ -1,5 +1,5 @@
-use Rattle.node_typing.proofs.TreeLemmas.{heading-read}
+use Rattle.meaning_core.proofs.LookupLemmas.{heading_read}
 use Rattle.node_typing.proofs.trees.heading.Goals as goal
 
 pub returns : goal.returns
-returns c = heading-read c.args.t.now
+returns c = heading_read c.args.t.now

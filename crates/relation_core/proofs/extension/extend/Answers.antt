@@ -8,7 +8,7 @@ use Rattle.value_core.specs.Relations.{all_fit}
 use Rattle.point_core.specs.Faults.{OrFault}
 use Rattle.relation_core.specs.Answers.{Answers, under}
 use Rattle.relation_core.specs.Faults.{fault_of, values_of}
-use Rattle.relation_core.specs.Operators.{fault_order}
+use Rattle.point_core.specs.Orders.{fault_order}
 use Rattle.relation_core.proofs.FaultLemmas.{least_more, values_more, all_values, values_pass, length-values_of}
 use Rattle.relation_core.proofs.FilterLemmas.{take_all, passes_at}
 use Rattle.relation_core.proofs.extension.extend.Goals as goal

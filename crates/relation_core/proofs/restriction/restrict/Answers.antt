@@ -6,7 +6,8 @@ use Rattle.value_core.specs.Values.{Row, Heading, Relation, fits_heading, rows_o
 use Rattle.value_core.specs.Relations.{all_fit}
 use Rattle.relation_core.specs.Answers.{Answers, under}
 use Rattle.relation_core.specs.Faults.{fault_of}
-use Rattle.relation_core.specs.Operators.{fault_order, is_true}
+use Rattle.relation_core.specs.Operators.{is_true}
+use Rattle.point_core.specs.Orders.{fault_order}
 use Rattle.relation_core.proofs.FaultLemmas.{least_more, without_fault}
 use Rattle.relation_core.proofs.FilterLemmas.{take_all, passes_at, list_all-filter, length-filter_at_most, rows_of-filter, rows_ascend}
 use Rattle.relation_core.proofs.restriction.restrict.Goals as goal

@@ -2,7 +2,8 @@ use Rattle.std.proofs.Common.{◌≡◌, take, map}
 use Rattle.std.specs.List.{filter}
 use Rattle.base_core.specs.Outcomes.{least_of_all}
 use Rattle.relation_core.specs.Faults.{fault_of}
-use Rattle.relation_core.specs.Operators.{fault_order, is_true}
+use Rattle.relation_core.specs.Operators.{is_true}
+use Rattle.point_core.specs.Orders.{fault_order}
 use Rattle.relation_core.proofs.restriction.restrict.Given as goal
 
 abbrev pub invariant-loop-x : goal.invariant-loop-x

@@ -11,7 +11,7 @@ use Rattle.relation_core.specs.Answers.{Answers, under}
 use Rattle.relation_core.specs.Faults.{fault_of, values_of}
 use Rattle.relation_core.specs.Groups.{group, groups}
 use Rattle.relation_core.specs.Keys.{has_key}
-use Rattle.relation_core.specs.Operators.{fault_order}
+use Rattle.point_core.specs.Orders.{fault_order}
 use Rattle.relation_core.specs.Parts.{projected}
 use Rattle.relation_core.proofs.FaultLemmas.{least_step, values_step, all_values, values_pass, length-values_of, with_fault}
 use Rattle.relation_core.proofs.FilterLemmas.{take_all}

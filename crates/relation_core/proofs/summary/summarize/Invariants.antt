@@ -2,7 +2,7 @@ use Rattle.std.proofs.Common.{◌≡◌, take, map}
 use Rattle.base_core.specs.Outcomes.{least_of_all}
 use Rattle.relation_core.specs.Faults.{fault_of, values_of}
 use Rattle.relation_core.specs.Groups.{group}
-use Rattle.relation_core.specs.Operators.{fault_order}
+use Rattle.point_core.specs.Orders.{fault_order}
 use Rattle.relation_core.proofs.summary.summarize.Given as goal
 
 abbrev pub invariant-loop-key : goal.invariant-loop-key

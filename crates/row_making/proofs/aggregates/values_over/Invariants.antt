@@ -4,7 +4,7 @@ use Rattle.value_core.specs.Plain.{plain}
 use Rattle.scalar_core.specs.Expressions.{read}
 use Rattle.scalar_core.specs.ScalarValues.{value}
 use Rattle.relation_core.specs.Faults.{fault_of, values_of}
-use Rattle.relation_core.specs.Operators.{fault_order}
+use Rattle.point_core.specs.Orders.{fault_order}
 use Rattle.row_making.proofs.aggregates.values_over.Given as goal
 
 abbrev pub invariant-loop-number : goal.invariant-loop-number

@@ -1,6 +1,7 @@
 use Rattle.std.proofs.Common.{arith, ◌≡◌, ℕ, suc, ◌<◌, ◌≤◌, ◌-◌, ◌+◌, ◌↔◌, ◌⊎◌, inl, inr, refl, sym, subst, ◌∙◌, List, [], map, length, get_or, Some}
 use Rattle.std.specs.List.{filter}
 use Rattle.std.proofs.lemmas.List.Elements.{All-same, All-nil, All-append, All-map, All-from_recursion}
+use Rattle.std.proofs.lemmas.List.{nil_from_length}
 use Rattle.packing_core.specs.Covering.{Among}
 use Rattle.packing_core.specs.Pieces.{Covers}
 use Rattle.packing_core.specs.Live.{side_has, IsSliceRow, IsSomewhere}
@@ -8,7 +9,7 @@ use Rattle.packing_core.specs.declared.Piece.{Piece}
 use Rattle.point_core.specs.LeastFault.{IsLeast}
 use Rattle.slice_core.specs.Rows.{sides_of, key_cmp, tag, AreRows, GivesLabel, GivesFault, volume, own_numbers}
 use Rattle.slice_core.proofs.Steps.{rows_answer, rows_sorted, covers_all, covers_step, sorted_nil, leaf_sorted}
-use Rattle.slice_core.proofs.Turns.{nil_from, none_row, none_live, least_kept, rows_above, rows_below, leaf_rows, leaf_fault, least_more, least_step, cost_none, cost_within, cost_step, AreRows-filter, has_sides, none_from, not_below_zero, some_live, somewhere_more}
+use Rattle.slice_core.proofs.Turns.{none_row, none_live, least_kept, rows_above, rows_below, leaf_rows, leaf_fault, least_more, least_step, cost_none, cost_within, cost_step, AreRows-filter, has_sides, none_from, not_below_zero, some_live, somewhere_more}
 use Rattle.slice_core.proofs.Sweeping.{sweep_later, starts_below, live_below}
 use Rattle.slice_core.proofs.inward.+slices.Goals as goal
 
@@ -16,7 +17,7 @@ pub returns-then-are_none-clause-rows : goal.returns-then-are_none-clause-rows
 returns-then-are_none-clause-rows g t c = λ x.
     let e = c.are_none.ensures.yes c.if-are_none.true in (
       λ h. absurd (subst (Among x) c.new.ensures.items h),
-      λ h. absurd (none_row c.args.sides (GivesLabel (g.O.CellOp.means c.args.op.now) c.args.split) (sides_of c.args.boxes.now) c.args.left.now c.args.right.now x.0 x.1 (nil_from c.args.left.now e.0) (nil_from c.args.right.now e.1) h.1),
+      λ h. absurd (none_row c.args.sides (GivesLabel (g.O.CellOp.means c.args.op.now) c.args.split) (sides_of c.args.boxes.now) c.args.left.now c.args.right.now x.0 x.1 (nil_from_length c.args.left.now e.0) (nil_from_length c.args.right.now e.1) h.1),
     )
 
 pub returns-then-are_none-clause-sorted : goal.returns-then-are_none-clause-sorted
@@ -26,7 +27,7 @@ pub returns-then-are_none-clause-least : goal.returns-then-are_none-clause-least
 returns-then-are_none-clause-least g t c =
     let e = c.are_none.ensures.yes c.if-are_none.true in
     least_kept (IsSomewhere c.args.sides (GivesFault (g.O.CellOp.means c.args.op.now) c.args.split) (sides_of c.args.boxes.now) c.args.left.now c.args.right.now) c.args.least.now
-    (λ d q. none_live (GivesFault (g.O.CellOp.means c.args.op.now) c.args.split) (sides_of c.args.boxes.now) c.args.left.now c.args.right.now d q.0 (nil_from c.args.left.now e.0) (nil_from c.args.right.now e.1) q.2)
+    (λ d q. none_live (GivesFault (g.O.CellOp.means c.args.op.now) c.args.split) (sides_of c.args.boxes.now) c.args.left.now c.args.right.now d q.0 (nil_from_length c.args.left.now e.0) (nil_from_length c.args.right.now e.1) q.2)
 
 pub leaf-requires-clause-right : goal.leaf-requires-clause-right
 leaf-requires-clause-right g t c = All-from_recursion (λ r. c.args.split ≤ r) c.args.right.now (rows_above c.args.split (length c.args.boxes.now) c.args.split c.args.right.now c.requires.right (omega arith))

@@ -1,11 +1,11 @@
 use Rattle.std.proofs.Common.{◌≡◌, ◌<◌, ◌≤◌, ◌↔◌, [], ℕ, List, arith, ap, sym, subst, length, get_or, ◌∙◌, map, ◌++◌, Vec, Global}
 use Rattle.std.specs.List.{All, filter, flat_map}
 use Rattle.std.proofs.lemmas.List.Elements.{All-same, All-nil, All-append, All-map}
+use Rattle.std.proofs.lemmas.List.{get_or_default}
 use Rattle.packing_core.specs.Covering.{Among}
 use Rattle.packing_core.specs.Pieces.{Covers}
 use Rattle.packing_core.specs.Live.{side_has}
 use Rattle.packing_core.specs.declared.Piece.{Piece}
-use Rattle.packing_core.proofs.Numbered.{other_default}
 use Rattle.slice_core.specs.declared.bare.Bare.{Bare}
 use Rattle.slice_core.specs.PackedRows.{IsUnitedRow, cuts_of}
 use Rattle.slice_core.specs.Rows.{sides_of, tag, pair_cmp}
@@ -57,7 +57,7 @@ loop-i-preserved c =
     let a : ℕ = c.loop-i.begin in
     let z : ℕ = c.index-end.result.now in
     let l : i < length cuts = omega arith in
-    let e : get_or cuts i 0 ≡ z = other_default cuts i 0 z l ∙ sym c.index-end.ensures in
+    let e : get_or cuts i 0 ≡ z = get_or_default cuts i 0 z l ∙ sym c.index-end.ensures in
     let order : (j k : ℕ) → j ≤ k → k < length cuts → get_or cuts j 0 ≤ get_or cuts k 0 = c.in_ok-cuts.ensures.order in
     let below : 1 < 2 = omega arith in
     let old : List (Piece (ℕ × ℕ)) = c.loop-i.pieces.items in

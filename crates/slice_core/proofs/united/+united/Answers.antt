@@ -1,11 +1,11 @@
 use Rattle.std.proofs.Common.{◌≡◌, ◌<◌, ◌≤◌, ◌↔◌, ◌-◌, ℕ, List, [], suc, arith, ap, sym, subst, length, get_or, ◌∙◌, map, ◌++◌, Vec, Global}
 use Rattle.std.specs.List.{filter, flat_map}
 use Rattle.std.proofs.lemmas.List.Elements.{All-same, All-nil, All-append, All-map}
+use Rattle.std.proofs.lemmas.List.{get_or_default}
 use Rattle.packing_core.specs.Covering.{Among}
 use Rattle.packing_core.specs.Pieces.{Covers}
 use Rattle.packing_core.specs.Live.{side_has}
 use Rattle.packing_core.specs.declared.Piece.{Piece}
-use Rattle.packing_core.proofs.Numbered.{other_default}
 use Rattle.slice_core.specs.declared.bare.Bare.{Bare}
 use Rattle.slice_core.specs.declared.key.Key.{Key}
 use Rattle.slice_core.specs.PackedRows.{IsUnitedRow, cuts_of}
@@ -82,7 +82,7 @@ loop-i-preserved t c =
     let a : ℕ = c.loop-i.begin in
     let z : ℕ = c.index-end.result.now in
     let l : i < length cuts = omega arith in
-    let e : get_or cuts i 0 ≡ z = other_default cuts i 0 z l ∙ sym c.index-end.ensures in
+    let e : get_or cuts i 0 ≡ z = get_or_default cuts i 0 z l ∙ sym c.index-end.ensures in
     let order : (j k : ℕ) → j ≤ k → k < length cuts → get_or cuts j 0 ≤ get_or cuts k 0 = c.in_ok-cuts.ensures.order in
     let below : side < c.args.sides = omega arith in
     let covered : List (Piece Row) → ℕ → Type 0 = λ ps n. (k : Row) (m : ℕ) → Covers R ps k m ↔ (m < n) × (length k.1 ≡ side) × IsUnitedRow side b (filter (side_has b side m) live) k in

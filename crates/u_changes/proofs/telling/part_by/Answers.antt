@@ -2,7 +2,8 @@ use Rattle.std.proofs.Common.{◌≡◌, ap, ◌∙◌}
 use Rattle.value_core.specs.Values.{Heading}
 use Rattle.scalar_core.specs.Expressions.{read}
 use Rattle.u_set.specs.Apart.{outside}
-use Rattle.u_changes.proofs.PartLemmas.{outside_within, part_closed, others_told}
+use Rattle.u_constraints.proofs.GrowthLemmas.{outside_within}
+use Rattle.u_changes.proofs.PartLemmas.{part_closed, others_told}
 use Rattle.u_changes.proofs.telling.part_by.Goals as goal
 
 pub touched_with-requires-clause-within : goal.touched_with-requires-clause-within

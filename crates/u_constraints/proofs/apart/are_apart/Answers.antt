@@ -8,7 +8,7 @@ use Rattle.box_core.specs.Apartness.{AreApart}
 use Rattle.box_core.specs.Common.{HaveCells}
 use Rattle.box_core.specs.Rows.{Ascend, KeyBox}
 use Rattle.box_core.proofs.RowLemmas.{ascend_from_sorted}
-use Rattle.u_constraints.proofs.OutcomeLemmas.{if_ok}
+use Rattle.u_set.proofs.ApartLemmas.{if_ok}
 use Rattle.u_constraints.proofs.PairLemmas.{apart_moved}
 use Rattle.u_constraints.proofs.apart.are_apart.Goals as goal
 

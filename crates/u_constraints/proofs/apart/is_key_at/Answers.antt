@@ -6,14 +6,14 @@ use Rattle.std.proofs.lemmas.List.Elements.{All-same, All-map}
 use Rattle.value_core.specs.Order.{row_total, row_separates}
 use Rattle.value_core.specs.Values.{Row, row_cmp}
 use Rattle.relation_core.specs.Agreement.{part_of}
+use Rattle.packing_core.proofs.AmongLemmas.{all_from_members}
 use Rattle.box_core.specs.Apartness.{AreApart}
 use Rattle.box_core.specs.Common.{HaveCells}
 use Rattle.box_core.specs.Rows.{KeyBox}
 use Rattle.cell_core.specs.Cells.{row_numbers}
-use Rattle.cell_core.proofs.OneSide.{all_among}
+use Rattle.u_set.proofs.ApartLemmas.{if_ok}
 use Rattle.u_row.specs.Labels.{relabelled}
 use Rattle.u_constraints.specs.Places.{IsKeyAt}
-use Rattle.u_constraints.proofs.OutcomeLemmas.{if_ok}
 use Rattle.u_constraints.proofs.PlacedKeyLemmas.{form_lengths, form_cells, form_labels, told_apart}
 use Rattle.u_constraints.proofs.apart.is_key_at.Goals as goal
 
@@ -26,14 +26,14 @@ pub are_apart-requires-clause-sides : goal.are_apart-requires-clause-sides
 are_apart-requires-clause-sides g c =
     let k = length c.args.types.now in
     let f = part_of c.args.positions.now in
-    let form = all_among (λ (x : KeyBox Row). length x.1 ≡ k) c.in_ok-form.form.items (form_lengths g.T.PointType.number_of g.T.PointType.IsPoint g.T.PointType.last_number (λ t. (g.met.T.PointType.each t (g.T.PointType.first_number t) (omega (arith, ints)) (g.met.T.PointType.nonempty t)).0) c.args.types.now c.args.boxes.now c.as_slice.result.now c.in_ok-left.field-0.sides.items c.in_ok-left.field-0.left.items c.in_ok-left.field-0.right.items c.in_ok-left.ensures.rows row_cmp row_total row_separates c.in_ok-form.form.items c.in_ok-form.ensures.rows c.in_ok-form.ensures.sorted) in
+    let form = all_from_members (λ (x : KeyBox Row). length x.1 ≡ k) c.in_ok-form.form.items (form_lengths g.T.PointType.number_of g.T.PointType.IsPoint g.T.PointType.last_number (λ t. (g.met.T.PointType.each t (g.T.PointType.first_number t) (omega (arith, ints)) (g.met.T.PointType.nonempty t)).0) c.args.types.now c.args.boxes.now c.as_slice.result.now c.in_ok-left.field-0.sides.items c.in_ok-left.field-0.left.items c.in_ok-left.field-0.right.items c.in_ok-left.ensures.rows row_cmp row_total row_separates c.in_ok-form.form.items c.in_ok-form.ensures.rows c.in_ok-form.ensures.sorted) in
     All-same (λ (x : KeyBox Row). length x.1 ≡ k) c.in_ok-parts.parts.items (map (relabelled f) c.in_ok-form.form.items) (c.in_ok-parts.ensures ∙ ap (map (relabelled f)) c.as_slice-2.ensures.value)
     (All-map (λ (x : KeyBox Row). length x.1 ≡ k) (relabelled f) c.in_ok-form.form.items form)
 
 pub are_apart-requires-clause-cells : goal.are_apart-requires-clause-cells
 are_apart-requires-clause-cells g c =
     let f = part_of c.args.positions.now in
-    let form = all_among (λ (x : KeyBox Row). HaveCells x.1) c.in_ok-form.form.items (form_cells g.T.PointType.number_of g.T.PointType.IsPoint g.T.PointType.last_number (λ t. (g.met.T.PointType.each t (g.T.PointType.first_number t) (omega (arith, ints)) (g.met.T.PointType.nonempty t)).0) c.args.types.now c.args.boxes.now c.as_slice.result.now c.in_ok-left.field-0.sides.items c.in_ok-left.field-0.left.items c.in_ok-left.field-0.right.items c.in_ok-left.ensures.rows row_cmp row_total row_separates c.in_ok-form.form.items c.in_ok-form.ensures.rows c.in_ok-form.ensures.sorted) in
+    let form = all_from_members (λ (x : KeyBox Row). HaveCells x.1) c.in_ok-form.form.items (form_cells g.T.PointType.number_of g.T.PointType.IsPoint g.T.PointType.last_number (λ t. (g.met.T.PointType.each t (g.T.PointType.first_number t) (omega (arith, ints)) (g.met.T.PointType.nonempty t)).0) c.args.types.now c.args.boxes.now c.as_slice.result.now c.in_ok-left.field-0.sides.items c.in_ok-left.field-0.left.items c.in_ok-left.field-0.right.items c.in_ok-left.ensures.rows row_cmp row_total row_separates c.in_ok-form.form.items c.in_ok-form.ensures.rows c.in_ok-form.ensures.sorted) in
     All-same (λ (x : KeyBox Row). HaveCells x.1) c.in_ok-parts.parts.items (map (relabelled f) c.in_ok-form.form.items) (c.in_ok-parts.ensures ∙ ap (map (relabelled f)) c.as_slice-2.ensures.value)
     (All-map (λ (x : KeyBox Row). HaveCells x.1) (relabelled f) c.in_ok-form.form.items form)
 

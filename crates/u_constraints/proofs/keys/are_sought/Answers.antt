@@ -4,13 +4,14 @@ use Rattle.base_core.specs.Sets.{has}
 use Rattle.value_core.specs.Values.{Row, row_cmp}
 use Rattle.relation_core.specs.Agreement.{part_of}
 use Rattle.relation_core.proofs.FilterLemmas.{take_all}
-use Rattle.u_constraints.proofs.KeyLemmas.{positions_within, found_so_far, not_found, searched}
+use Rattle.row_marks.proofs.MarkLemmas.{row_long}
+use Rattle.u_constraints.proofs.KeyLemmas.{found_so_far, not_found, searched}
 use Rattle.u_constraints.proofs.keys.are_sought.Goals as goal
 
 pub part-requires : goal.part-requires
 part-requires c k d l =
     let within : c.loop-row.row-index < length c.rows-row-items.result.now = omega arith in
-    (positions_within c.args.r.now c.rows-row-items.result.now c.loop-row.row-index c.row-item.result c.args.here.now c.rows-row-items.ensures.relation c.rows-row-items.ensures.rows within c.row-item.is c.requires.here) k d l
+    (row_long c.args.r.now c.rows-row-items.result.now c.loop-row.row-index c.row-item.result c.args.here.now c.rows-row-items.ensures.relation c.rows-row-items.ensures.rows within c.row-item.is c.requires.here) k d l
 
 pub loop-row-preserved : goal.loop-row-preserved
 loop-row-preserved c =

@@ -1,14 +1,14 @@
 use Rattle.std.proofs.Common.{◌<◌, length, arith}
 use Rattle.value_core.specs.declared.kind.Kind.TheVariants.{Span}
 use Rattle.relation_core.proofs.AgreementLemmas.{length_of_fit}
+use Rattle.row_marks.proofs.MarkLemmas.{row_long}
 use Rattle.u_constraints.proofs.FitLemmas.{row_fits, value_fits}
-use Rattle.u_constraints.proofs.KeyLemmas.{positions_within}
 use Rattle.u_constraints.proofs.marks.ends.Goals as goal
 
 pub end_mark-requires-clause-within : goal.end_mark-requires-clause-within
 end_mark-requires-clause-within c k d l =
     let within : c.loop-row.row-index < length c.rows-rows.result.now = omega arith in
-    (positions_within c.args.r.now c.rows-rows.result.now c.loop-row.row-index c.row-item.result c.args.positions.now c.rows-rows.ensures.relation c.rows-rows.ensures.rows within c.row-item.is c.requires.within) k d l
+    (row_long c.args.r.now c.rows-rows.result.now c.loop-row.row-index c.row-item.result c.args.positions.now c.rows-rows.ensures.relation c.rows-rows.ensures.rows within c.row-item.is c.requires.within) k d l
 
 pub end_mark-requires-clause-at : goal.end_mark-requires-clause-at
 end_mark-requires-clause-at c =

@@ -11,9 +11,9 @@ use Rattle.cell_core.specs.Cells.{row_numbers}
 use Rattle.cell_core.specs.Costs.{bound}
 use Rattle.u_set.specs.Boxes.{type_of, boxed}
 use Rattle.u_set.proofs.RelationLemmas.{relation_shaped}
+use Rattle.u_set.proofs.ApartLemmas.{if_ok}
 use Rattle.u_constraints.specs.Constraints.{is_packed}
 use Rattle.u_constraints.proofs.IntervalLemmas.{intervals_of_list}
-use Rattle.u_constraints.proofs.OutcomeLemmas.{if_ok}
 use Rattle.u_constraints.proofs.PackedLemmas.{packed_told}
 use Rattle.u_constraints.proofs.packed.is_packed_by_boxes.Goals as goal
 

@@ -9,11 +9,11 @@ use Rattle.cell_core.specs.Boxes.{IsBox}
 use Rattle.cell_core.specs.Cells.{row_numbers}
 use Rattle.u_set.specs.Boxes.{types_at, boxed}
 use Rattle.u_set.proofs.RelationLemmas.{relation_shaped}
+use Rattle.u_set.proofs.ApartLemmas.{if_ok}
 use Rattle.u_row.specs.Kept.{inner}
 use Rattle.u_row.specs.Labels.{relabelled}
 use Rattle.u_row.proofs.PartLemmas.{labels_long}
 use Rattle.u_row.proofs.PlaceLemmas.{numbers_relabelled}
-use Rattle.u_constraints.proofs.OutcomeLemmas.{if_ok}
 use Rattle.u_constraints.proofs.references.boxes_at.Goals as goal
 
 pub boxes_of_parts-requires : goal.boxes_of_parts-requires

@@ -1,5 +1,5 @@
 use Rattle.std.proofs.Common.{◌<◌, [], length, arith, sym, ◌∙◌}
-use Rattle.packing_core.proofs.Numbered.{other_default}
+use Rattle.std.proofs.lemmas.List.{get_or_default}
 use Rattle.u_groups.proofs.NumberedLemmas.{numbered_none, numbered_more, numbered_all}
 use Rattle.u_groups.proofs.numbered.numbered.Goals as goal
 
@@ -15,7 +15,7 @@ loop-r-preserved c =
     let lt : c.loop-r.r < length rows = c.loop-r-test.true in
     record {
       within = omega (arith, lt);
-      members = numbered_more c.args.by.now rows c.loop-r.out.items c.push.new.self.items c.loop-r.r c.index-rows-r.result c.in_ok-entry.entry (other_default rows c.loop-r.r ([], []) c.index-rows-r.result lt ∙ sym c.index-rows-r.is) c.in_ok-entry.ensures c.in_ok-push.ensures.items c.loop-r.invariant.members;
+      members = numbered_more c.args.by.now rows c.loop-r.out.items c.push.new.self.items c.loop-r.r c.index-rows-r.result c.in_ok-entry.entry (get_or_default rows c.loop-r.r ([], []) c.index-rows-r.result lt ∙ sym c.index-rows-r.is) c.in_ok-entry.ensures c.in_ok-push.ensures.items c.loop-r.invariant.members;
     }
 
 pub returns : goal.returns

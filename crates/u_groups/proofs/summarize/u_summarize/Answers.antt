@@ -5,7 +5,7 @@ use Rattle.value_core.specs.Values.{row_cmp}
 use Rattle.point_core.specs.LeastFault.{IsLeast}
 use Rattle.cell_core.specs.Boxes.{IsBox}
 use Rattle.cell_core.specs.Cells.{row_numbers}
-use Rattle.u_row.proofs.AllRowsLemmas.{if_ok}
+use Rattle.u_set.proofs.ApartLemmas.{if_ok}
 use Rattle.u_groups.specs.Groups.{HasGroupFault, IsGroupForm}
 use Rattle.u_groups.proofs.summarize.u_summarize.Goals as goal
 

@@ -6,7 +6,8 @@ use Rattle.relation_core.specs.Answers.{IsRefusal}
 use Rattle.relation_core.specs.Operators.{united}
 use Rattle.u_set.specs.Apart.{outside}
 use Rattle.u_constraints.specs.Growth.{exchanged}
-use Rattle.u_labels.proofs.InsertionLemmas.{outside_within, refused_new, refused_come, refused_gone, insertion_cost, insertion_counted, insertion_rows}
+use Rattle.u_constraints.proofs.GrowthLemmas.{outside_within}
+use Rattle.u_labels.proofs.InsertionLemmas.{refused_new, refused_come, refused_gone, insertion_cost, insertion_counted, insertion_rows}
 use Rattle.u_labels.proofs.insertion.inserted.Goals as goal
 
 pub touched_with-requires-clause-within : goal.touched_with-requires-clause-within

@@ -6,7 +6,7 @@ use Rattle.relation_core.specs.Answers.{IsRefusal}
 use Rattle.relation_core.specs.Operators.{subtracted, united}
 use Rattle.u_set.specs.Apart.{outside}
 use Rattle.u_constraints.specs.Growth.{exchanged}
-use Rattle.u_labels.proofs.InsertionLemmas.{outside_within}
+use Rattle.u_constraints.proofs.GrowthLemmas.{outside_within}
 use Rattle.u_labels.proofs.ReplacementLemmas.{refused_before, refused_after, refused_united, replacement_cost, joint_counted, joint_rows}
 use Rattle.u_labels.proofs.replacement.replaced_and_inserted.Goals as goal
 

@@ -7,9 +7,10 @@ use Rattle.packing_core.specs.Boxed.{Boxed, packed_boxes}
 use Rattle.point_core.specs.LeastFault.{IsLeast}
 use Rattle.cell_core.specs.Boxes.{IsBox}
 use Rattle.cell_core.specs.Cells.{row_numbers}
+use Rattle.u_set.proofs.ApartLemmas.{if_ok}
 use Rattle.u_row.specs.Cutting.{count_cells, count_cuts}
 use Rattle.u_row.specs.Rules.{HasRuleFault, sides_numbers, IsRuleForm}
-use Rattle.u_row.proofs.AllRowsLemmas.{sides_long, cells_have, rule_form, if_ok, rule_bound, no_pack_bound, cuts_below}
+use Rattle.u_row.proofs.AllRowsLemmas.{sides_long, cells_have, rule_form, rule_bound, no_pack_bound, cuts_below}
 use Rattle.u_row.proofs.all_rows.u_rule.Goals as goal
 
 pub pack-requires : goal.pack-requires

@@ -1,9 +1,10 @@
 use Rattle.std.proofs.Common.{◌+◌, ◌<◌, ◌++◌, ◌∷◌, [], map, drop, length, arith, ap, sym, ◌∙◌, subst}
 use Rattle.std.proofs.lemmas.List.Elements.{All-same, All-push}
 use Rattle.interval_core.specs.Members.{HasEndsIn}
+use Rattle.relation_core.proofs.FilterLemmas.{head_of}
 use Rattle.cell_core.specs.Numbering.{numbers_of}
 use Rattle.u_row.specs.Cutting.{AreCuts, pieces}
-use Rattle.u_row.proofs.CuttingLemmas.{next_split, piece_step}
+use Rattle.u_row.proofs.CuttingLemmas.{piece_step}
 use Rattle.u_row.proofs.cutting.pieces_of.Goals as goal
 
 pub loop-cut-preserved : goal.loop-cut-preserved
@@ -17,7 +18,7 @@ loop-cut-preserved g c =
     let out = c.loop-cut.out.items in
     let push = c.in_ok-push.ensures.items in
     let lt : i < length cuts = c.loop-cut-test.true in
-    let split = next_split cuts i cut lt c.cut-item.is in
+    let split = head_of cuts i cut lt c.cut-item.is in
     let rises : AreCuts (n c.loop-cut.begin) end (map n (cut ∷ drop (i + 1) cuts)) = subst (λ xs. AreCuts (n c.loop-cut.begin) end (map n xs)) split c.loop-cut.invariant.cuts in
     let point : HasEndsIn g.T.PointType.IsPoint c.args.t.now piece = (subst (g.T.PointType.IsPoint c.args.t.now) (sym c.until-piece.ensures.begin) c.loop-cut.invariant.begin, c.until-piece.ensures.point) in
     let took = c.until-piece.ensures.cost in

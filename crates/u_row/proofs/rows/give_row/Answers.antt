@@ -3,13 +3,14 @@ use Rattle.interval_core.specs.Members.{Span}
 use Rattle.packing_core.specs.Covering.{Among}
 use Rattle.packing_core.specs.Packed.{Has, firsts}
 use Rattle.packing_core.proofs.AmongLemmas.{among_map}
+use Rattle.slice_core.proofs.Turns.{least_iff}
 use Rattle.cell_core.specs.Boxes.{IsBox}
 use Rattle.cell_core.specs.Cells.{box_numbers, boxes_of, row_numbers}
 use Rattle.u_row.specs.Cutting.{AreCuts, AreCutsFrom, cells_of}
 use Rattle.u_row.specs.Rules.{labelled}
 use Rattle.u_row.proofs.AllRowsLemmas.{given_places, given_few}
 use Rattle.u_row.proofs.CellLemmas.{are_cuts}
-use Rattle.u_row.proofs.RuleLemmas.{cell_faults, least_same}
+use Rattle.u_row.proofs.RuleLemmas.{cell_faults}
 use Rattle.u_row.proofs.rows.give_row.Goals as goal
 
 pub give_cells-requires-clause-cells : goal.give_cells-requires-clause-cells
@@ -76,7 +77,7 @@ returns-clause-least g c =
     let q : i ≡ r = omega arith in
     (g.met.R.RowRule.ordered rule row i d c.requires.can l, subst (λ m. AreCuts (n (get_or sides i d).0) (n (get_or sides i d).1) (cuts m)) q (g.met.R.RowRule.inside rule row i d c.requires.can l))) in
     let h : AreCutsFrom cuts 0 (box_numbers n c.args.sides.now) = subst (λ ss. AreCutsFrom cuts 0 (box_numbers n ss)) c.requires.sides cut in
-    least_same (λ e. (c.args.least.now ≡ Some e) ⊎ ((cell : List Span) × Among cell (boxes_of n c.as_slice.result.now) × (f (firsts cell) ≡ Err e)))
+    least_iff (λ e. (c.args.least.now ≡ Some e) ⊎ ((cell : List Span) × Among cell (boxes_of n c.as_slice.result.now) × (f (firsts cell) ≡ Err e)))
     (λ e. (c.args.least.now ≡ Some e) ⊎ ((place : List ℤ) × Has (box_numbers n c.args.sides.now) place × (f place ≡ Err e))) c.give_cells.new.least (λ d.
     let w = cell_faults f cuts (box_numbers n c.args.sides.now) h (λ cell ps qs m a b. g.met.R.RowRule.steady rule row cell ps qs c.requires.can (subst (λ ss. Among cell (cells_of cuts (box_numbers n ss))) (sym c.requires.sides) m) a b) d in (
       λ q. elim q [ inl p ↦ inl p | inr v ↦ inr (w.0 (v.0, subst (λ ys. Among v.0 ys) all v.1, v.2)) ],

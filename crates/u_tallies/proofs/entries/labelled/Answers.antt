@@ -1,8 +1,7 @@
 use Rattle.std.proofs.Common.{◌≡◌, ◌+◌, [], ◌∷◌, ◌++◌, length, rules, arith, sym, ap, ◌∙◌, subst}
 use Rattle.std.proofs.lemmas.Iterator.Adapters.{YieldsList-from_vec}
 use Rattle.std.proofs.lemmas.Iterator.Consumers.{YieldsList-turn, YieldsList-end}
-use Rattle.std.proofs.lemmas.List.{length_push}
-use Rattle.packing_core.proofs.Numbered.{other_default}
+use Rattle.std.proofs.lemmas.List.{length_push, get_or_default}
 use Rattle.u_tallies.specs.Entries.{Listed, labelled_row}
 use Rattle.u_tallies.proofs.EntryLemmas.{listed_more, labelled_is}
 use Rattle.u_tallies.proofs.entries.labelled.Goals as goal
@@ -22,7 +21,7 @@ loop-row-preserved c =
       count = ap length c.in_ok-push.ensures.items ∙ length_push c.loop-row.out.items _ ∙ (let i = c.loop-row.invariant.count in omega (arith, i, n));
       members = subst (λ k. Listed (labelled_row rows) k c.push.new.self.items) m
           (listed_more (labelled_row rows) c.loop-row.out.items c.push.new.self.items (length done) (c.row.inside.label, c.len-number.result, c.row.inside.sides.items)
-          (labelled_is rows (length done) x (c.row.inside.label, c.len-number.result, c.row.inside.sides.items) (other_default rows (length done) ([], []) x t.0 ∙ sym t.1) (λ i. ((c.row.view_is i).0, number i, (c.row.view_is i).1)))
+          (labelled_is rows (length done) x (c.row.inside.label, c.len-number.result, c.row.inside.sides.items) (get_or_default rows (length done) ([], []) x t.0 ∙ sym t.1) (λ i. ((c.row.view_is i).0, number i, (c.row.view_is i).1)))
           c.in_ok-push.ensures.items c.loop-row.invariant.members);
     }
 

@@ -1,8 +1,7 @@
 use Rattle.std.proofs.Common.{◌≡◌, ◌<◌, ◌+◌, [], ◌∷◌, ◌++◌, List, length, get_or, rules, arith, sym, ap, ◌∙◌, subst}
 use Rattle.std.proofs.lemmas.Iterator.Adapters.{YieldsList-from_vec}
 use Rattle.std.proofs.lemmas.Iterator.Consumers.{YieldsList-turn, YieldsList-end}
-use Rattle.std.proofs.lemmas.List.{length_push}
-use Rattle.packing_core.proofs.Numbered.{other_default}
+use Rattle.std.proofs.lemmas.List.{length_push, get_or_default}
 use Rattle.value_core.specs.Values.{Row}
 use Rattle.box_core.specs.Rows.{KeyBox}
 use Rattle.u_tallies.specs.Entries.{Listed, keyed_row, standing}
@@ -25,7 +24,7 @@ loop-row-preserved c =
     let same = c.as_slice.ensures.value in
     let l : length done < length c.as_slice.result.now = subst (λ (ys : List (KeyBox Row)). length done < length ys) (sym same) t.0 in
     let stands : c.index-number.result.now ≡ standing keys numbers (length done) =
-    c.index-number.ensures ∙ ap (λ k. get_or kept k c.index-number.result.now) place ∙ other_default kept (length done) c.index-number.result.now 0 (omega (arith, l, many))
+    c.index-number.ensures ∙ ap (λ k. get_or kept k c.index-number.result.now) place ∙ get_or_default kept (length done) c.index-number.result.now 0 (omega (arith, l, many))
     ∙ c.in_ok-standing.ensures.each (length done) l ∙ ap (λ (ys : List (KeyBox Row)). standing ys numbers (length done)) same in
     record {
       can = tt;
@@ -33,7 +32,7 @@ loop-row-preserved c =
       count = ap length c.in_ok-push.ensures.items ∙ length_push c.loop-row.out.items _ ∙ (let i = c.loop-row.invariant.count in omega (arith, i, n));
       members = subst (λ k. Listed (keyed_row by keys numbers) k c.push.new.self.items) m
           (listed_more (keyed_row by keys numbers) c.loop-row.out.items c.push.new.self.items (length done) c.in_ok-entry.entry
-          (keyed_is by keys numbers (length done) x c.index-number.result.now c.in_ok-entry.entry (other_default keys (length done) ([], []) x t.0 ∙ sym t.1) stands c.in_ok-entry.ensures)
+          (keyed_is by keys numbers (length done) x c.index-number.result.now c.in_ok-entry.entry (get_or_default keys (length done) ([], []) x t.0 ∙ sym t.1) stands c.in_ok-entry.ensures)
           c.in_ok-push.ensures.items c.loop-row.invariant.members);
     }
 

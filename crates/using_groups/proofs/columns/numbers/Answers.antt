@@ -2,8 +2,8 @@ use Rattle.std.proofs.Common.{ℤ, ◌<◌, [], length, arith, sym, ◌∙◌, s
 use Rattle.std.specs.Int.{w64}
 use Rattle.std.specs.Option.{IfSome}
 use Rattle.std.proofs.lemmas.Int.{to_z-of_z}
+use Rattle.std.proofs.lemmas.List.{get_or_default}
 use mir.Val.{SFits, to_z, of_z}
-use Rattle.packing_core.proofs.Numbered.{other_default}
 use Rattle.value_core.specs.Values.{Row}
 use Rattle.scalar_core.specs.Expressions.{read}
 use Rattle.scalar_core.specs.Kinds.{IsTypedOver}
@@ -30,7 +30,7 @@ loop-i-preserved c =
       within = omega (arith, l);
       count = length_more c.loop-i.numbers.items c.push.new.self.items (to_z w64 (of_z w64 n)) i count long;
       points = numbers_more i rows (read c.args.e.now) c.args.of c.loop-i.numbers.items c.push.new.self.items c.index-rows-i.result (to_z w64 (of_z w64 n)) count c.loop-i.invariant.points
-          (c.index-rows-i.is ∙ other_default rows i c.index-rows-i.result [] l) (subst (HasPoint c.index-rows-i.result (read c.args.e.now) c.args.of) (sym (to_z-of_z w64 n fits)) own) long;
+          (c.index-rows-i.is ∙ get_or_default rows i c.index-rows-i.result [] l) (subst (HasPoint c.index-rows-i.result (read c.args.e.now) c.args.of) (sym (to_z-of_z w64 n fits)) own) long;
     }
 
 pub returns : goal.returns

@@ -4,6 +4,7 @@ use Rattle.std.specs.Prelude.{slice_index}
 use Rattle.std.specs.Ordering.{int_cmp}
 use Rattle.base_core.specs.Sets.{in_order}
 use Rattle.base_core.proofs.SetLemmas.{In-in_order}
+use Rattle.base_core.proofs.ListLemmas.{All-In}
 use Rattle.point_core.specs.Orders.{point_cmp}
 use Rattle.point_core.proofs.OrderLemmas.{point_total, point_same}
 use Rattle.point_core.specs.Points.{number, line_of, IsPointOf}
@@ -11,7 +12,7 @@ use Rattle.value_core.specs.Values.{Row}
 use Rattle.tree_core.specs.Trees.{read_sets}
 use Rattle.using_core.specs.Cells.{scalars_of, cuts_of_all}
 use Rattle.using_core.proofs.CellRowLemmas.{side_below, has_span, fits_there, own_row, own_is}
-use Rattle.using_core.proofs.ItemCutLemmas.{ordered_numbers, all_in_order, all_in, in_all}
+use Rattle.using_core.proofs.ItemCutLemmas.{ordered_numbers, all_in_order, all_in}
 use Rattle.using_core.proofs.items.ExtensionRowRuleAnyType.cuts.Goals as goal
 
 pub all_cuts-requires-clause-typed : goal.all_cuts-requires-clause-typed
@@ -54,4 +55,4 @@ returns-clause-points c =
     let all = c.in_ok-all.all.items in
     λ t d ends.
     let points = c.in_ok-all.ensures.points t (fits_there rule.items.acl.now rule.rows.now rule.boxes.now c.args.row c.requires.can.boxed t c.args.side d c.index-self-row.result c.requires.side ends) in
-    subst (All (IsPointOf t)) (sym c.in_ok-points.ensures) (in_all (IsPointOf t) (in_order point_cmp all) (λ q m. all_in (IsPointOf t) all points q ((In-in_order point_cmp point_total point_same q all).0 m)))
+    subst (All (IsPointOf t)) (sym c.in_ok-points.ensures) (All-In (IsPointOf t) (in_order point_cmp all) (λ q m. all_in (IsPointOf t) all points q ((In-in_order point_cmp point_total point_same q all).0 m)))
