@@ -10,14 +10,9 @@ use Rattle.base_core.proofs.OutcomeLemmas.{with_one, least_of_all-more}
 use Rattle.point_core.specs.contracts.fault.FaultOrd.TheImpl.Laws.{total-law}
 use Rattle.point_core.specs.Faults.{OrFault}
 use Rattle.point_core.specs.declared.fault.Fault.{Fault}
-<<<<<<< HEAD
 use Rattle.point_core.specs.LeastFault.{lesser_of}
 use Rattle.relation_core.specs.Faults.{fault_of, values_of}
-use Rattle.relation_core.specs.Operators.{fault_order}
-=======
-use Rattle.relation_core.specs.Faults.{fault_of, lesser_of, values_of}
 use Rattle.point_core.specs.Orders.{fault_order}
->>>>>>> ef085be6f7c97d57563d20c59e71dc557db76b7e
 
 fault_of-with_one : {X : Type 0} (r : OrFault (List X)) (v : OrFault X) → fault_of (with_one fault_order total-law r v) ≡ lesser_of (fault_of r) (fault_of v)
 fault_of-with_one (Ok vs) (Ok v) = refl

@@ -2,10 +2,7 @@
 use Rattle.std.specs.Prelude.{Option, Some, None, Ok, Err, List, [], ◌∷◌}
 use Rattle.point_core.specs.Faults.{OrFault}
 use Rattle.point_core.specs.declared.fault.Fault.{Fault}
-<<<<<<< HEAD
-=======
 use Rattle.point_core.specs.Orders.{fault_order}
->>>>>>> ef085be6f7c97d57563d20c59e71dc557db76b7e
 
 -- the fault in a value's place
 abbrev pub fault_of : {X : Type 0} → OrFault X → Option Fault

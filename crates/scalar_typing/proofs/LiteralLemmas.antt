@@ -11,16 +11,7 @@ use Rattle.std.proofs.lemmas.Str.{utf8_valid_len-IsUtf8}
 use Rattle.point_core.specs.declared.date_type.Day.{Day}
 use Rattle.value_core.specs.Lengths.{IsTextLength, is_utf8}
 use Rattle.value_core.specs.Limits.{most_text_bytes}
-<<<<<<< HEAD
-use Rattle.scalar_typing.specs.Literals.{date_of, text_of, is_utf8}
-=======
-use Rattle.scalar_typing.specs.Literals.{date_of, number_of_date, text_of}
-
--- more digits make no less
-pub grows : (n : ℕ) (digits : List ℕ) → n ≤ value_after n digits
-grows n [] = omega arith
-grows n (d ∷ ds) = omega (arith, grows (10 * n + (d - 48)) ds)
->>>>>>> ef085be6f7c97d57563d20c59e71dc557db76b7e
+use Rattle.scalar_typing.specs.Literals.{date_of, text_of}
 
 -- ---- dates
 

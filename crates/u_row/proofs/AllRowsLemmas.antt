@@ -17,12 +17,8 @@ use Rattle.packing_core.specs.Boxed.{Boxed, boxed_cmp, packed_boxes, InBoxes}
 use Rattle.packing_core.specs.Covering.{Among}
 use Rattle.packing_core.specs.Packed.{Has, firsts, points_of}
 use Rattle.packing_core.proofs.PackedBoxes.{in_packed_form, packed_ascends}
-<<<<<<< HEAD
 use Rattle.point_core.specs.LeastFault.{IsLeast}
-=======
-use Rattle.slice_core.specs.LeastFault.{IsLeast}
 use Rattle.slice_core.proofs.Turns.{least_iff}
->>>>>>> ef085be6f7c97d57563d20c59e71dc557db76b7e
 use Rattle.cell_core.specs.Boxes.{IsBox}
 use Rattle.cell_core.specs.Cells.{box_numbers, row_numbers}
 use Rattle.cell_core.specs.Costs.{bound, side_cost}

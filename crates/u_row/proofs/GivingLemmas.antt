@@ -8,12 +8,8 @@ use Rattle.interval_core.specs.Members.{Span}
 use Rattle.packing_core.specs.Covering.{Among}
 use Rattle.packing_core.specs.Packed.{firsts}
 use Rattle.packing_core.proofs.AmongLemmas.{among_append}
-<<<<<<< HEAD
 use Rattle.point_core.specs.LeastFault.{IsLeast}
-=======
-use Rattle.slice_core.specs.LeastFault.{IsLeast}
 use Rattle.slice_core.proofs.Turns.{least_iff}
->>>>>>> ef085be6f7c97d57563d20c59e71dc557db76b7e
 use Rattle.cell_core.specs.Cells.{box_numbers, boxes_of, row_numbers}
 use Rattle.u_row.specs.Rules.{given, labelled}
 use Rattle.u_row.proofs.RuleLemmas.{least_chain}

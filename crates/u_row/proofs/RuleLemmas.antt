@@ -8,14 +8,9 @@ use Rattle.packing_core.specs.Boxed.{InBoxes}
 use Rattle.packing_core.specs.Covering.{Among}
 use Rattle.packing_core.specs.Packed.{Has, firsts}
 use Rattle.packing_core.proofs.AmongLemmas.{among_flat}
-<<<<<<< HEAD
 use Rattle.point_core.specs.LeastFault.{fault_total, IsAtMost, IsLeast}
 use Rattle.point_core.proofs.LeastFaultLemmas.{not_after_both}
-=======
-use Rattle.slice_core.specs.LeastFault.{fault_total, IsAtMost, IsLeast}
-use Rattle.slice_core.proofs.LeastFaultLemmas.{not_after_both}
 use Rattle.slice_core.proofs.Turns.{at_most_then}
->>>>>>> ef085be6f7c97d57563d20c59e71dc557db76b7e
 use Rattle.u_row.specs.Cutting.{AreCutsFrom, cells_of}
 use Rattle.u_row.specs.Rules.{given, labelled}
 use Rattle.u_row.proofs.CellLemmas.{in_cell, cell_in, has_firsts}

@@ -10,17 +10,11 @@ use Rattle.point_core.specs.Orders.{fault_order}
 use Rattle.point_core.specs.declared.fault.Fault.{Fault}
 use Rattle.point_core.specs.declared.fault.Code.{Code}
 use Rattle.point_core.specs.declared.fault.Code.TheVariants.{E01, E02, E03, E04, E05, E06, E10, E11, E12, E13, E14, E15, E16, E17, E18, E19, E20, E21, E22, E30, E31, E32, E33, E34, E35, E36, E40, E41, E42, E43, E44, E46}
-<<<<<<< HEAD
 use Rattle.point_core.specs.LeastFault.{fault_total, IsLeast}
 use Rattle.point_core.proofs.LeastFaultLemmas.{least_first, least_min, not_after_itself}
-use Rattle.u_row.proofs.RuleLemmas.{least_chain, least_same}
-=======
-use Rattle.point_core.proofs.OrderLemmas.{nat_same, then_same}
-use Rattle.slice_core.specs.LeastFault.{fault_total, IsLeast}
-use Rattle.slice_core.proofs.LeastFaultLemmas.{least_first, least_min, not_after_itself}
-use Rattle.slice_core.proofs.Turns.{least_iff}
 use Rattle.u_row.proofs.RuleLemmas.{least_chain}
->>>>>>> ef085be6f7c97d57563d20c59e71dc557db76b7e
+use Rattle.point_core.proofs.OrderLemmas.{nat_same, then_same}
+use Rattle.slice_core.proofs.Turns.{least_iff}
 
 -- ---- faults that tie are one
 

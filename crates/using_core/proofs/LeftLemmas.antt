@@ -23,12 +23,8 @@ use Rattle.value_core.specs.Values.{Row, Heading, Relation, IsRelation, row_cmp,
 use Rattle.scalar_core.specs.Expressions.{Expr}
 use Rattle.relation_core.specs.Answers.{Answers, under}
 use Rattle.relation_core.specs.Operators.{restricted}
-<<<<<<< HEAD
 use Rattle.point_core.specs.LeastFault.{IsLeast}
-=======
 use Rattle.relation_core.proofs.FilterLemmas.{rows_ascend}
-use Rattle.slice_core.specs.LeastFault.{IsLeast}
->>>>>>> ef085be6f7c97d57563d20c59e71dc557db76b7e
 use Rattle.u_set.specs.Boxes.{AreIntervals, IsShaped, boxed, spans_at}
 use Rattle.u_set.proofs.BoxLemmas.{shaped_from_fit}
 use Rattle.u_set.proofs.BridgeLemmas.{same_places}

@@ -5,12 +5,8 @@ use Rattle.std.proofs.lemmas.List.{get_or_default}
 use Rattle.packing_core.specs.Covering.{Among}
 use Rattle.packing_core.specs.Live.{box, side_has, InLive, IsSomewhere}
 use Rattle.point_core.specs.declared.fault.Fault.{Fault}
-<<<<<<< HEAD
 use Rattle.point_core.specs.LeastFault.{IsLeast}
-=======
 use Rattle.packing_core.proofs.AmongLemmas.{all_from_members}
-use Rattle.slice_core.specs.LeastFault.{IsLeast}
->>>>>>> ef085be6f7c97d57563d20c59e71dc557db76b7e
 use Rattle.slice_core.specs.PackedRows.{HasRow, cuts_of}
 use Rattle.slice_core.specs.Rows.{sides_of, AreRows, GivesLabel, GivesFault}
 use Rattle.slice_core.specs.Sweeps.{IsSweep}

@@ -6,14 +6,9 @@ use Rattle.value_core.specs.Values.{Row, Value as PlainValue}
 use Rattle.scalar_core.specs.Expressions.{read}
 use Rattle.scalar_core.specs.Kinds.{IsTypedOver}
 use Rattle.scalar_core.specs.ScalarValues.{value}
-<<<<<<< HEAD
 use Rattle.point_core.specs.LeastFault.{lesser_of}
 use Rattle.relation_core.specs.Faults.{fault_of, values_of}
-use Rattle.relation_core.specs.Operators.{fault_order}
-=======
-use Rattle.relation_core.specs.Faults.{fault_of, lesser_of, values_of}
 use Rattle.point_core.specs.Orders.{fault_order}
->>>>>>> ef085be6f7c97d57563d20c59e71dc557db76b7e
 use Rattle.relation_core.proofs.FaultLemmas.{least_more, values_more, with_fault, all_values}
 use Rattle.relation_core.proofs.FilterLemmas.{take_all}
 use Rattle.row_making.proofs.SummaryLemmas.{values_by_numbers, row_at}
