@@ -1,7 +1,7 @@
 -- The texts of dates: what the calendar's dates write, and nothing else.
 use Rattle.std.specs.Option.{is_some}
-use Rattle.std.specs.Prelude.{◌≡◌, ◌≤◌, ◌<◌, ℕ, ◌+◌, ◌-◌, ◌*◌, ◌/◌, ◌%◌, ℤ, Bool, true, false, ◌&&◌, ◌==◌, nat_le, Option, Some, None, IsNone, IfSome, List, [], ◌∷◌, slice_index_or, if◌then◌else◌, zero, suc, refl}
-use Rattle.std.proofs.Common.{arith, sym, ◌∙◌, ap}
+use Rattle.std.specs.Prelude.{◌≡◌, ◌≤◌, ℕ, ◌+◌, ◌-◌, ◌/◌, ◌%◌, ℤ, Bool, true, false, ◌&&◌, ◌==◌, nat_le, Option, Some, None, IsNone, IfSome, List, [], ◌∷◌, slice_index_or, if◌then◌else◌, zero, suc, refl}
+use Rattle.std.proofs.Common.{arith, sym, ◌∙◌}
 use Rattle.std.proofs.lemmas.Bool.{le-leb, leb-true, eqb-true}
 use Rattle.point_core.specs.Dates.{IsCalendarDate, IsDateText, date_text, date_number, four_digits, two_digits, days_of_month, month_days, is_leap}
 use Rattle.utd_syntax.specs.Literals.{value_of, is_digit, are_digits, is_day, is_date, number_of_date}
