@@ -267,7 +267,6 @@ module _ (g : Turnover) (turnover : IsTurnover g) where
   named_heading (Some name) e =
       ap (λ (k : Name). heading_if (relvar_named (before_turnover g) k)) (sym (same_name g.name.now name e))
       ∙ ap heading_if (named_first (before_turnover g) g.name.now g.at (base g.value.now turnover.constraints) turnover.first)
-
   -- ---- the constraints of a relvar
 
 -- what is said of the rows after the turnover, and of those of the relvar that the constraint names

@@ -59,7 +59,6 @@ row_map f (x ∷ xs) (suc i) y h = let l = h.0 in let w = row_map f xs i y (omeg
 -- ---- rows before a key and a cell
 
 module _ {P : Type 0} (order : P → P → Ordering) (total : IsTotalOrder order) where
-
   -- ---- what a sort leaves
 
   first_in_order : (r : Ordering) (x y : List (ℕ × ℕ)) → is_lt (slice_cmp pair_cmp y x) ≡ false → (first_of x).0 ≤ (first_of y).0

@@ -36,7 +36,6 @@ packed_iff (suc j) S S' e y rest h =
 -- ---- sorted lists, one after the other
 
 module _ {K : Type 0} (cmp : K → K → Ordering) where
-
   all_both : (P : K → Type 0) (xs ys : List K) → AllByRecursion P xs → AllByRecursion P ys → AllByRecursion P (xs ++ ys)
   all_both P [] ys a b = b
   all_both P (x ∷ xs) ys a b = (a.0, all_both P xs ys a.1 b)

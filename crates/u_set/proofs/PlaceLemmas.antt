@@ -32,7 +32,6 @@ points_are (i ∷ is) (p ∷ ps) a h =
     first b e p q l m = omega (arith, ints)
 
 module _ (heading : Heading) (acl : List ℕ) (intervals : AreIntervals heading acl) where
-
   module _ (rows : List Row) (up : Ascends row_cmp rows) (shaped : (x : Row) → In x rows → IsShaped heading acl x) where
     -- a row is among the unpacked ones where it has single points and the rows' boxes have its label at this place
     pub opened_at : (x : Row) → IsShaped heading acl x → In x (unpacked acl rows) ↔ (ArePoints (spans_at acl x) × InBoxes (map (boxed acl) rows) (others acl x) (firsts (spans_at acl x)))
