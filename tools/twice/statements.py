@@ -3,7 +3,7 @@ import re
 
 from tree import product_files
 
-USE = re.compile(r'^use (?:pub )?Rattle\.([a-z_0-9]+)\.[^ {]*?\.?(?:\{([^}]*)\}| as (\S+)|)$', re.M)
+USE = re.compile(r'^use (?:pub )?Rattle\.(([a-z_0-9]+)\.[^ {]*?)\.?(?:\{([^}]*)\}| as (\S+)|)$', re.M)
 DECLARED = re.compile(r'^( *)((?:pub |unfoldable |abbrev |private |opaque )*)([^\s:(){}]+) :(?= |$)')
 MODULE = re.compile(r'^( *)(?:pub )?module \S+(.*)$')
 WORD = re.compile(r'[(){}\[\],;|]|[^\s(){}\[\],;|]+')
@@ -19,11 +19,11 @@ def without_comments(text):
 def imports_of(text):
     """Name in the file -> where it comes from; std's names are its own wherever they are taken from."""
     origins = {}
-    for crate, names, alias in USE.findall(text):
+    for module, crate, names, alias in USE.findall(text):
         for item in (names or alias).split(','):
             whole, _, other = item.strip().partition(' as ')
             if whole:
-                origins[other or whole] = whole if crate == 'std' else f'{crate}.{whole}'
+                origins[other or whole] = whole if crate == 'std' else f'{module}.{whole}'
     return origins
 
 

@@ -70,8 +70,8 @@ def run():
     assert found['one'] == found['two'] != found['three']
     assert 'number' not in found
     # a premise of the module counts where the proof says it, by itself or by another lemma
-    assert 'low.IsShort' not in found['free']
-    assert found['held'].count('low.IsShort') == 2 and found['kept'].count('low.IsShort') == 2
+    assert 'low.specs.Words.IsShort' not in found['free']
+    assert found['held'].count('low.specs.Words.IsShort') == 2 and found['kept'].count('low.specs.Words.IsShort') == 2
     # a word of another crate is another word
     assert lemmas(LEMMAS.replace('Rattle.low', 'Rattle.high'))['three'] != found['three']
     assert numbers_in('size ≤ 64, 100_000 < n, w64, 2 ^ 16') == ({64, 100000, 2, 16}, {64})

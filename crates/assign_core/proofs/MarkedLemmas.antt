@@ -7,7 +7,6 @@
 --     marked_removed, others_marked      those that are left, and those of other places than the one that changes
 use Rattle.std.proofs.Common.{◌≡◌, ◌≢◌, ℕ, zero, suc, ◌<◌, ◌≤◌, List, [], ◌∷◌, map, length, take, drop, get_or, refl, sym, ap, subst, ◌∙◌, arith, Some, None, Bool, true, false, nat_eq, nat_lt}
 use Rattle.std.proofs.lemmas.Bool.Decides.{nat_tests}
-use Rattle.std.proofs.lemmas.List.{length-map}
 use Rattle.std.proofs.lemmas.List.Elements.{All-nil, All-weaker, All-append, All-take, All-drop}
 use Rattle.std.proofs.lemmas.List.Quantifiers.{position-Some}
 use Rattle.std.proofs.lemmas.List.Sums.{fails_before_first}
@@ -59,13 +58,6 @@ mark_cut heading rows m new i h is = subst (IsMarksOf heading (remove rows i)) (
   are = ap (λ (ms : List ℕ). remove ms i) h.are ∙ cut_map (mark_of m.positions) rows i;
   within = h.within;
 })
-
--- as many marks as rows
-pub many_marks : (heading : Heading) (rows : List Row) (m : MarkList) → IsMarksOf heading rows m → length m.list ≡ length rows
-many_marks heading rows m h = ap (λ (ms : List ℕ). length ms) h.are ∙ length-map rows (mark_of m.positions)
-
-pub within_row : (heading : Heading) (rows : List Row) (m : MarkList) (x : Row) → IsMarksOf heading rows m → length x ≡ length heading → All (λ (i : ℕ). i < length x) m.positions
-within_row heading rows m x h long = subst (λ (n : ℕ). All (λ (i : ℕ). i < n) m.positions) (sym long) h.within
 
 -- marks that are new
 pub own_marks : (heading : Heading) (rows : List Row) (m : MarkList) (positions : List ℕ) → m.positions ≡ positions → AreMarksOf rows m → All (λ (i : ℕ). i < length heading) positions → IsMarksOf heading rows m

@@ -52,7 +52,6 @@ pub record AreNodesOf (h : Heading) (n : PortionNodes) : Type 0 where
   pub given : n.given ≡ h
 
 module _ (h : Heading) (acl : List ℕ) (one : IsTrue (is_heading h)) (list : IsList h acl) where
-
   -- what an operator that may have a fault gives of unpacked rows
   pub rule_rows : (place : Place) (op : List Row → OrFault (List Row)) (rows : List Row)
       → then_give (op (opened (around place h acl) h rows)) (closed (around place h acl) place h) ≡ then_give (op (unpacked acl rows)) (λ points. limited place (packed acl points))

@@ -25,8 +25,7 @@ use Rattle.relation_core.proofs.FilterLemmas.{filter_all}
 use Rattle.relation_core.proofs.ApartLemmas.{length_apart, Apart-append, apart_ascending}
 use Rattle.tree_core.specs.declared.relvar.Relvar.{Relvar}
 use Rattle.indexmap.specs.IndexMap.{set_value_at}
-use Rattle.tree_core.specs.Trees.{Tree}
-use Rattle.tree_core.specs.Relvars.{PlainRelvar, base, view, Entries, relvar_named, heading_if, read_entry, read_relvar}
+use Rattle.tree_core.specs.Relvars.{PlainRelvar, base, Entries, relvar_named, heading_if, read_entry, read_relvar}
 use Rattle.meaning_core.specs.Names.{IsFirstAt, given, with_value}
 use Rattle.meaning_core.proofs.MadeLemmas.{same_name}
 use Rattle.meaning_core.proofs.EntryLemmas.{named_first}
@@ -34,10 +33,10 @@ use Rattle.u_constraints.specs.Constraints.{rows_or_none}
 use Rattle.u_constraints.specs.Growth.{exchanged}
 use Rattle.u_labels.specs.declared.exchange.Exchange.{Exchange}
 use Rattle.assign_core.specs.Assignments.{unless_broken, kept_or_refused, IsAdmitted}
-use Rattle.assign_core.specs.Breaches.{count_of, rows_of_all, value_if, value_at, first_of, first_in, first_broken}
+use Rattle.assign_core.specs.Breaches.{count_of, rows_of_all, value_if, value_at, first_broken}
 use Rattle.assign_core.specs.Changes.{Tells}
 use Rattle.assign_core.specs.Checks.{heading_at}
-use Rattle.assign_core.specs.Costs.{looked_at, looked_at_in, looked_at_all, constraints_cost}
+use Rattle.assign_core.specs.Costs.{looked_at_all, constraints_cost}
 use Rattle.assign_core.specs.Turnovers.{renewed, renewed_relvar, renewed_at, after_turnover, before_turnover, names_changed, rows_after, IsTurnover, IsCounted, MayExchange, IsExchangeAt}
 use Rattle.assign_core.specs.declared.turnover.Turnover.{Turnover}
 use Rattle.assign_core.specs.Parts.{names_in}
@@ -268,22 +267,7 @@ module _ (g : Turnover) (turnover : IsTurnover g) where
   named_heading (Some name) e =
       ap (λ (k : Name). heading_if (relvar_named (before_turnover g) k)) (sym (same_name g.name.now name e))
       ∙ ap heading_if (named_first (before_turnover g) g.name.now g.at (base g.value.now turnover.constraints) turnover.first)
-
   -- ---- the constraints of a relvar
-
-  pub first_after : (own : Bool) (name : Name) (value : Relation) (constraints : List Constraint)
-      → first_of (after_turnover g) name (rows_after g own value.rows) 1 constraints ≡ first_in (after_turnover g) name (cond own (renewed_relvar g.rows.now (base value constraints)) (base value constraints))
-  first_after true name value constraints = refl
-  first_after false name value constraints = refl
-
-  pub looked_after : (own : Bool) (value : Relation) (constraints : List Constraint)
-      → looked_at (after_turnover g) (rows_after g own value.rows) constraints ≡ looked_at_in (after_turnover g) (cond own (renewed_relvar g.rows.now (base value constraints)) (base value constraints))
-  looked_after true value constraints = refl
-  looked_after false value constraints = refl
-
-  pub view_after : (own : Bool) (name : Name) (t : Tree) (history : Option (Name × Name)) → first_in (after_turnover g) name (cond own (renewed_relvar g.rows.now (view t history)) (view t history)) ≡ None
-  view_after true name t history = refl
-  view_after false name t history = refl
 
 -- what is said of the rows after the turnover, and of those of the relvar that the constraint names
 pub after_exchange : (P : List Row → List Row → Type 0) (g : Turnover) (own is : Bool) (rows : List Row) (before after : Option Relation) → own ≡ is → before ≡ after

@@ -17,15 +17,11 @@ use Rattle.slice_core.proofs.Sweeping.{cell_has, span_from}
 use Rattle.box_core.proofs.RowLemmas.{row_among, among_row, one_row, row_all, row_sides}
 
 module _ {P : Type 0} (order : P → P → Ordering) (total : IsTotalOrder order) (rows : List (KeyBox P)) (up : Ascend order rows) where
-
   first_cell : (y : List (ℕ × ℕ)) → HaveCells y → 0 < length y → (first_of y).0 < (first_of y).1
   first_cell [] h l = absurd (omega arith)
   first_cell (x ∷ xs) h l = cell_parts x (and_parts (has_cell x) (list_all has_cell xs) h).0
 
   module _ (some : All (λ x. 0 < length x.1) rows) (cells : All (λ x. HaveCells x.1) rows) where
-    pub none_follow : AllFollow order 1 rows
-    none_follow i j x y l m a b = absurd (omega arith)
-
     -- one row more that follows the one before it
     pub follow_turn : (n : ℕ) (u v : KeyBox P) → 0 < n → IsRow rows (n - 1) u → IsRow rows n v → Follows order u v → AllFollow order n rows → AllFollow order (n + 1) rows
     follow_turn n u v s ru rv f old i j x y l m a b e = elim (cases_lt j n) [

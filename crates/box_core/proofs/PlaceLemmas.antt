@@ -83,19 +83,6 @@ common_ends (x ∷ xs) [] s = omega arith
 common_ends (x ∷ xs) (y ∷ ys) zero = omega (arith, clamps)
 common_ends (x ∷ xs) (y ∷ ys) (suc s) = common_ends xs ys s
 
--- it is the same the other way round
-pub common_turned : (xs ys : List (ℕ × ℕ)) → common xs ys ≡ common ys xs
-common_turned [] [] = refl
-common_turned [] (y ∷ ys) = refl
-common_turned (x ∷ xs) [] = refl
-common_turned (x ∷ xs) (y ∷ ys) = λ t. (turned_max x.0 y.0 t, turned_min x.1 y.1 t) ∷ common_turned xs ys t
-  where
-    turned_max : (a b : ℕ) → max a b ≡ max b a
-    turned_max a b = omega (arith, clamps)
-
-    turned_min : (a b : ℕ) → min a b ≡ min b a
-    turned_min a b = omega (arith, clamps)
-
 pub cell_from : (s : ℕ × ℕ) → s.0 < s.1 → has_cell s ≡ true
 cell_from s h = within s.0 s.1 h
   where

@@ -11,7 +11,7 @@ use Rattle.packing_core.proofs.Cells.{Cuts, rises_far, order_of_cells, cell_of, 
 use Rattle.packing_core.proofs.Covered.{IsInGrid}
 use Rattle.packing_core.proofs.Whole.{cells_back, cuts_back}
 use Rattle.slice_core.specs.PackedRows.{HasRow}
-use Rattle.box_core.specs.Common.{At, EndsBy}
+use Rattle.box_core.specs.Common.{At}
 use Rattle.box_core.specs.Rows.{KeyBox}
 use Rattle.slice_core.proofs.Sweeping.{cell_has, span_from}
 
@@ -23,14 +23,6 @@ sides_of_grid d gs (suc j) y h s l = elim (cases_lt s j) [
   | inl w ↦ sides_of_grid d gs j y h.1 s w
   | inr w ↦ let e : j ≡ s = omega arith in subst (λ i. (get_or y i no_cells).1 ≤ (get_or gs i d).count) e h.0
 ]
-
-grid_of_sides : (d : Cuts) (gs : List Cuts) (j : ℕ) (y : List (ℕ × ℕ)) → ((s : ℕ) → s < j → (get_or y s no_cells).1 ≤ (get_or gs s d).count) → IsInGrid (cuts_back d j gs) (cells_back j y)
-grid_of_sides d gs zero y h = tt
-grid_of_sides d gs (suc j) y h = (h j (omega arith), grid_of_sides d gs j y (λ s l. h s (omega arith)))
-
--- the form that packing on a grid asks for
-pub grid_ends : (d : Cuts) (gs : List Cuts) (k : ℕ) (x z : List (ℕ × ℕ)) → EndsBy x z → IsInGrid (cuts_back d k gs) (cells_back k x) → IsInGrid (cuts_back d k gs) (cells_back k z)
-grid_ends d gs k x z e h = grid_of_sides d gs k z (λ s l. let a = sides_of_grid d gs k x h s l in let b = e s in omega arith)
 
 -- each side is of cells below the count
 abbrev pub InGrid : Cuts → List Cuts → List (ℕ × ℕ) → Type 0
@@ -128,33 +120,3 @@ module _ (d : Cuts) where
         let w = (among_map point_row (l, h.0) rows).0 h.1 in
         let b : box_of gs (w.0).1 ≡ h.0 = ap (λ (z : Boxed L). z.1) w.2 in
         e (w.0).1 (on w.0 w.1) (subst (λ z. Has z p) (sym b) h.2)
-
-    -- boxes that cover just the cells of both, or of the first alone, cover just their points
-    module _ (left right parts : List (KeyBox L)) (ls : OnGrid left) (rs : OnGrid right) (ps : OnGrid parts) where
-      pub points_of_both : ((l : L) (c : List ℕ) → length c ≡ length gs → HasRow parts l c ↔ HasRow left l c × HasRow right l c)
-          → (l : L) (p : List ℤ) → InBoxes (map point_row parts) l p ↔ InBoxes (map point_row left) l p × InBoxes (map point_row right) l p
-      points_of_both e l p = elim (cell_at gs p) [
-        | inl w ↦
-            let a = row_points left ls l p w.0 w.2 in
-            let b = row_points right rs l p w.0 w.2 in
-            let c = row_points parts ps l p w.0 w.2 in
-            let f = e l w.0 w.1 in (
-              λ h. let u = f.0 (c.0 h) in (a.1 u.0, b.1 u.1),
-              λ h. c.1 (f.1 (a.0 h.0, b.0 h.1)),
-            )
-        | inr w ↦ (λ h. absurd (no_points parts ps l p w h), λ h. absurd (no_points left ls l p w h.0))
-      ]
-
-      pub points_of_first : ((l : L) (c : List ℕ) → length c ≡ length gs → HasRow parts l c ↔ HasRow left l c × (HasRow right l c → ⊥))
-          → (l : L) (p : List ℤ) → InBoxes (map point_row parts) l p ↔ InBoxes (map point_row left) l p × (InBoxes (map point_row right) l p → ⊥)
-      points_of_first e l p = elim (cell_at gs p) [
-        | inl w ↦
-            let a = row_points left ls l p w.0 w.2 in
-            let b = row_points right rs l p w.0 w.2 in
-            let c = row_points parts ps l p w.0 w.2 in
-            let f = e l w.0 w.1 in (
-              λ h. let u = f.0 (c.0 h) in (a.1 u.0, λ g. u.1 (b.0 g)),
-              λ h. c.1 (f.1 (a.0 h.0, λ g. h.1 (b.1 g))),
-            )
-        | inr w ↦ (λ h. absurd (no_points parts ps l p w h), λ h. absurd (no_points left ls l p w h.0))
-      ]

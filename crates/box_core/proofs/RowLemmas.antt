@@ -8,14 +8,14 @@ use Rattle.std.specs.List.{All}
 use Rattle.std.specs.List.Sorted.{IsSortedBy}
 use Rattle.std.proofs.lemmas.Bool.{cases_lt, true≢false}
 use Rattle.std.proofs.lemmas.Bool.Decides.{nat_tests}
-use Rattle.std.proofs.lemmas.Cmp.{tied_back, alike_right}
+use Rattle.std.proofs.lemmas.Cmp.{tied_back}
 use Rattle.std.proofs.lemmas.List.Sorted.{sorted_far, ranks_by}
 use Rattle.std.proofs.lemmas.List.{get_or_default}
 use Rattle.packing_core.specs.Covering.{Among}
 use Rattle.packing_core.proofs.Order.{among_contains, contains_among}
 use Rattle.slice_core.specs.Rows.{pair_cmp, key_cmp, key_total}
 use Rattle.box_core.specs.Common.{first_of}
-use Rattle.box_core.specs.Rows.{IsRow, IsBefore, Ascend, KeyBox}
+use Rattle.box_core.specs.Rows.{IsRow, Ascend, KeyBox}
 
 -- ---- rows by their numbers
 
@@ -59,20 +59,6 @@ row_map f (x ∷ xs) (suc i) y h = let l = h.0 in let w = row_map f xs i y (omeg
 -- ---- rows before a key and a cell
 
 module _ {P : Type 0} (order : P → P → Ordering) (total : IsTotalOrder order) where
-  -- what stands before a row that is before, is before
-  pub before_down : (rows : List (KeyBox P)) → Ascend order rows → (key : P) (cell i j : ℕ) (x y : KeyBox P) → i ≤ j → IsRow rows i x → IsRow rows j y → IsBefore order key cell y → IsBefore order key cell x
-  before_down rows up key cell i j x y h a b g =
-      elim (up i j x y h a b) [
-        | inl l ↦ elim g [
-          | inl m ↦ inl (total.trans x.0 y.0 key l m)
-          | inr m ↦ inl (sym (alike_right total y.0 key x.0 m.0) ∙ l)
-        ]
-        | inr e ↦ elim g [
-          | inl m ↦ inl (total.congr x.0 y.0 key e.0 ∙ m)
-          | inr m ↦ let k = e.1 in let l = m.1 in inr (total.congr x.0 y.0 key e.0 ∙ m.0, omega arith)
-        ]
-      ]
-
   -- ---- what a sort leaves
 
   first_in_order : (r : Ordering) (x y : List (ℕ × ℕ)) → is_lt (slice_cmp pair_cmp y x) ≡ false → (first_of x).0 ≤ (first_of y).0

@@ -1,7 +1,6 @@
 -- Marks of rows that come and go.
-use Rattle.std.proofs.Common.{◌≡◌, ◌≢◌, ℕ, zero, suc, ◌+◌, ◌<◌, ◌≤◌, Bool, true, false, List, [], ◌∷◌, ◌++◌, set, length, get_or, ◌↔◌, ◌⊎◌, inl, inr, arith, sym, ap, subst, refl, ◌∙◌, Option, Some, None, Result, Ok, Err}
+use Rattle.std.proofs.Common.{◌≡◌, ◌≢◌, ℕ, zero, suc, ◌+◌, ◌<◌, ◌≤◌, Bool, true, false, List, [], ◌∷◌, ◌++◌, length, get_or, ◌↔◌, ◌⊎◌, inl, inr, arith, sym, ap, subst, refl, ◌∙◌, Option, Some, None, Result, Ok, Err}
 use Rattle.std.proofs.lemmas.Bool.{cases_lt, true≢false, and_parts, and_from}
-use Rattle.std.proofs.lemmas.List.{get_or-set_same, get_or-set_other, length-set}
 use Rattle.packing_core.specs.Covering.{Among}
 use Rattle.packing_core.specs.Live.{span_has}
 use Rattle.packing_core.proofs.AmongLemmas.{among_append}
@@ -13,7 +12,7 @@ use Rattle.slice_core.proofs.Turns.{least_then, least_more}
 use Rattle.slice_core.proofs.UnitedLemmas.{IsBeside}
 use Rattle.box_core.specs.Common.{At}
 use Rattle.box_core.specs.Rows.{KeyBox}
-use Rattle.box_core.specs.Tallies.{IsIn, span_at, pair_at, Within, IsEntered, IsLeft, AreEntered, AreLeft, AreBy, IsKept, boxed, label_in, OfTallied, IsPart}
+use Rattle.box_core.specs.Tallies.{IsIn, span_at, pair_at, Within, AreEntered, AreLeft, AreBy, IsKept, boxed, label_in, OfTallied, IsPart}
 use Rattle.slice_core.proofs.Sweeping.{cell_has, span_from}
 
 pub equal_or : (a b : ℕ) → (a ≡ b) ⊎ (a ≢ b)
@@ -22,105 +21,7 @@ equal_or a b = elim (cases_lt a b) [
   | inr l ↦ elim (cases_lt b a) [ inl m ↦ inr (λ e. omega arith) | inr m ↦ inl (omega arith) ]
 ]
 
-module _ (spans : List (ℕ × ℕ)) (cell row : ℕ) (old new : List Bool) where
-  pub entered_from : new ≡ set old row true → row < length old → cell < (span_at spans row).1 → IsEntered spans cell row old new
-  entered_from e inside l = record {
-    count = ap length e ∙ length-set old row true;
-    marks = λ r. (
-      λ h. elim (equal_or r row) [
-        | inl q ↦ inr (q, l)
-        | inr n ↦ inl (sym (get_or-set_other old row r true false n) ∙ subst (λ ms. IsIn ms r) e h)
-      ],
-      λ h. subst (λ ms. IsIn ms r) (sym e) (elim (equal_or r row) [
-        | inl q ↦ subst (IsIn (set old row true)) (sym q) (get_or-set_same old row true false inside)
-        | inr n ↦ elim h [ inl w ↦ get_or-set_other old row r true false n ∙ w | inr w ↦ absurd (n w.0) ]
-      ]),
-    );
-  }
-
-  pub entered_not : new ≡ old → (IsIn old row ⊎ ((span_at spans row).1 ≤ cell)) → IsEntered spans cell row old new
-  entered_not e h = subst (λ ms. IsEntered spans cell row old ms) (sym e) (record {
-    count = refl;
-    marks = λ r. (
-      λ w. inl w,
-      λ w. elim w [ inl v ↦ v | inr v ↦ elim h [ inl u ↦ subst (IsIn old) (sym v.0) u | inr u ↦ (let l = v.1 in absurd (omega arith)) ] ],
-    );
-  })
-
-  pub left_from : new ≡ set old row false → row < length old → (span_at spans row).1 ≤ cell → IsLeft spans cell row old new
-  left_from e inside l = record {
-    count = ap length e ∙ length-set old row false;
-    marks = λ r. (
-      λ h. elim (equal_or r row) [
-        | inl q ↦ absurd (true≢false (sym (subst (IsIn (set old row false)) q (subst (λ ms. IsIn ms r) e h)) ∙ get_or-set_same old row false false inside))
-        | inr n ↦ (sym (get_or-set_other old row r false false n) ∙ subst (λ ms. IsIn ms r) e h, λ q. absurd (n q))
-      ],
-      λ h. subst (λ ms. IsIn ms r) (sym e) (elim (equal_or r row) [
-        | inl q ↦ (let m = h.1 q in absurd (omega arith))
-        | inr n ↦ get_or-set_other old row r false false n ∙ h.0
-      ]),
-    );
-  }
-
-  pub left_not : new ≡ old → ((get_or old row false ≡ false) ⊎ (cell < (span_at spans row).1)) → IsLeft spans cell row old new
-  left_not e h = subst (λ ms. IsLeft spans cell row old ms) (sym e) (record {
-    count = refl;
-    marks = λ r. (
-      λ w. (w, λ q. elim h [ inl u ↦ absurd (true≢false (sym (subst (IsIn old) q w) ∙ u)) | inr u ↦ u ]),
-      λ w. w.0,
-    );
-  })
-
 -- ---- one more start, one more end
-
-pub enter_step : (spans starts : List (ℕ × ℕ)) (first n cell : ℕ) → first ≤ n → (old mid new : List Bool)
-    → ((r : ℕ) → IsIn mid r ↔ IsIn old r ⊎ ((j : ℕ) × (first ≤ j) × (j < n) × ((pair_at starts j).1 ≡ r) × (cell < (span_at spans r).1)))
-    → IsEntered spans cell (pair_at starts n).1 mid new
-    → (r : ℕ) → IsIn new r ↔ IsIn old r ⊎ ((j : ℕ) × (first ≤ j) × (j < n + 1) × ((pair_at starts j).1 ≡ r) × (cell < (span_at spans r).1))
-enter_step spans starts first n cell from old mid new was now r =
-    let a = was r in
-    let b = now.marks r in (
-      λ h. elim (b.0 h) [
-        | inl w ↦ elim (a.0 w) [ inl v ↦ inl v | inr v ↦ (let l = v.2 in inr (v.0, v.1, omega arith, v.3, v.4)) ]
-        | inr w ↦ inr (n, from, omega arith, sym w.0, subst (λ q. cell < (span_at spans q).1) (sym w.0) w.1)
-      ],
-      λ h. b.1 (elim h [
-        | inl w ↦ inl (a.1 (inl w))
-        | inr w ↦ elim (cases_lt w.0 n) [
-          | inl l ↦ inl (a.1 (inr (w.0, w.1, l, w.3, w.4)))
-          | inr l ↦
-              let m = w.2 in
-              let q : w.0 ≡ n = omega arith in
-              let e : (pair_at starts n).1 ≡ r = subst (λ j. (pair_at starts j).1 ≡ r) q w.3 in
-              inr (sym e, subst (λ k. cell < (span_at spans k).1) (sym e) w.4)
-        ]
-      ]),
-    )
-
-pub leave_step : (spans ends : List (ℕ × ℕ)) (first n cell : ℕ) → first ≤ n → (old mid new : List Bool)
-    → ((r : ℕ) → IsIn mid r ↔ IsIn old r × ((j : ℕ) → first ≤ j → j < n → (pair_at ends j).1 ≡ r → cell < (span_at spans r).1))
-    → IsLeft spans cell (pair_at ends n).1 mid new
-    → (r : ℕ) → IsIn new r ↔ IsIn old r × ((j : ℕ) → first ≤ j → j < n + 1 → (pair_at ends j).1 ≡ r → cell < (span_at spans r).1)
-leave_step spans ends first n cell from old mid new was now r =
-    let a = was r in
-    let b = now.marks r in (
-      λ h.
-          let w = b.0 h in
-          let v = a.0 w.0 in (
-            v.0,
-            λ j f l e. elim (cases_lt j n) [
-              | inl m ↦ v.1 j f m e
-              | inr m ↦
-                  let q : j ≡ n = omega arith in
-                  let k : (pair_at ends n).1 ≡ r = subst (λ i. (pair_at ends i).1 ≡ r) q e in
-                  subst (λ i. cell < (span_at spans i).1) k (w.1 (sym k))
-            ],
-          ),
-      λ h. b.1 (
-        a.1 (h.0, λ j f l e. h.1 j f (omega arith) e),
-        λ q. subst (λ i. cell < (span_at spans i).1) q (h.1 n from (omega arith) (sym q)),
-      ),
-    )
 
 -- ---- come to a cell
 

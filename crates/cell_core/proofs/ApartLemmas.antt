@@ -74,7 +74,6 @@ int_less : (a b : ℤ) → a <ℤ b → int_cmp a b ≡ Less
 int_less a b h = grind (arith, ints)
 
 module _ {P : Type 0} (order : P → P → Ordering) (o : IsTotalOrder order) where
-
   -- each row is beyond all before it
   abbrev Row : Type 0
   Row = Boxed P

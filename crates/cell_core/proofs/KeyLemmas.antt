@@ -63,10 +63,6 @@ take_whole (x ∷ xs) (suc r) h = ap (λ ys. x ∷ ys) (take_whole xs r (omega a
 pub keys_whole : {L X P : Type 0} (first : ℕ) (rows : List (L × X)) (ss : List (P × P × List (ℕ × ℕ))) (r : ℕ) → length rows ≤ r → keys_from first (take r rows) ss ≡ keys_from first rows ss
 keys_whole first rows ss r h = ap (λ xs. keys_from first xs ss) (take_whole rows r h)
 
-pub keys_length : {L X P : Type 0} (first : ℕ) (rows : List (L × X)) (ss : List (P × P × List (ℕ × ℕ))) → length (keys_from first rows ss) ≡ length rows
-keys_length first [] ss = refl
-keys_length first (x ∷ xs) ss = ap suc (keys_length (suc first) xs ss)
-
 get_after : {X : Type 0} (pre : List X) (x : X) (post : List X) (r : ℕ) (d : X) → r ≡ length pre → get_or (pre ++ x ∷ post) r d ≡ x
 get_after [] x post zero d e = refl
 get_after [] x post (suc r) d e = absurd (omega arith)
@@ -225,6 +221,3 @@ module _ {T P : Type 0} (L : Type 0) (n : P → ℤ) (has : T → P → Type 0) 
     -- each side of its rows has cells, and no others than the side's
     pub packed_cells : AllByRecursion Low keys → (x : Key) → Among x v → (s : ℕ) (e : S) → s < length ts → ((get_or x.1 s no_cells).0 < (get_or x.1 s no_cells).1) × ((get_or x.1 s no_cells).1 ≤ length (get_or ss s e).0)
     packed_cells low x m s e b = cells_bound (length ts) (HasRow keys x.0) x.1 [] (λ i. length (get_or ss i e).0) (inside low e x.0) ((packed x).0 m).1 s b
-
-    pub packed_lengths : (x : Key) → Among x v → length x.1 ≡ length ts
-    packed_lengths x m = ((packed x).0 m).0

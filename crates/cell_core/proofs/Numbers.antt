@@ -14,11 +14,6 @@ use Rattle.point_core.specs.Pairs.{InOrder}
 use Rattle.packing_core.specs.Covering.{Among}
 use Rattle.cell_core.specs.Numbering.{cut_at, Rises, ends, IsLastOf, HasTag, IsPlaced, IsPut, IsAdded, IsCellAt, AreEnds}
 
-pub cut_get : (ns : List ℤ) (top : ℤ) (i : ℕ) (d : ℤ) → i < length ns → cut_at ns top i ≡ get_or ns i d
-cut_get [] top i d h = absurd (omega arith)
-cut_get (c ∷ cs) top zero d h = refl
-cut_get (c ∷ cs) top (suc i) d h = cut_get cs top i d (omega arith)
-
 pub cut_end : (ns : List ℤ) (top : ℤ) → cut_at ns top (length ns) ≡ top
 cut_end [] top = omega (arith, ints)
 cut_end (c ∷ cs) top = cut_end cs top
@@ -78,10 +73,6 @@ last_get n (a ∷ []) zero x p e q = (λ h. ap n q ∙ h, λ h. ap n (sym q) ∙
 last_get n (a ∷ []) (suc m) x p e q = absurd (omega arith)
 last_get n (a ∷ b ∷ xs) zero x p e q = absurd (omega arith)
 last_get n (a ∷ b ∷ xs) (suc m) x p e q = last_get n (b ∷ xs) m x p (omega arith) q
-
-pub last_none : {P : Type 0} (n : P → ℤ) (xs : List P) (p : ℤ) → length xs ≡ 0 → IsLastOf (map n xs) p → ⊥
-last_none n [] p e h = h
-last_none n (x ∷ xs) p e h = omega arith
 
 -- ---- cuts in order
 

@@ -110,12 +110,6 @@ drop_more [] j i h e = absurd (omega arith)
 drop_more (x ∷ xs) zero i h e = ap (λ y. y ∷ xs) (sym e)
 drop_more (x ∷ xs) (suc j) i h e = drop_more xs j i (omega arith) e
 
-pub none_dropped : (xs : List Span) (n : ℕ) → n ≡ length xs → places (drop n xs) ≡ [] ∷ []
-none_dropped [] zero e = refl
-none_dropped [] (suc n) e = absurd (omega arith)
-none_dropped (x ∷ xs) zero e = absurd (omega arith)
-none_dropped (x ∷ xs) (suc n) e = none_dropped xs n (omega arith)
-
 pub one_more_side : (spans : List Span) (j at : ℕ) (i : Span) (old new : List (List ℤ)) → j < length spans → at ≡ length spans - 1 - j → i ≡ get_or spans at i
     → old ≡ places (drop (length spans - j) spans) → new ≡ flat_map (λ p. map (λ ps. p ∷ ps) old) (members i) → new ≡ places (drop (length spans - (j + 1)) spans)
 one_more_side spans j at i old new h ea e inv step =

@@ -1,5 +1,5 @@
 -- What the combination of boxes is: the cells of a function, packed on one side after the other.
-use Rattle.std.specs.Prelude.{◌≡◌, ℕ, zero, suc, ◌<◌, ◌≤◌, ◌≢◌, ◌⊎◌, ℤ, pos, ◌+ℤ◌, List, [], ◌∷◌, map, length, get_or, Err}
+use Rattle.std.specs.Prelude.{◌≡◌, ℕ, zero, suc, ◌≢◌, ◌⊎◌, ℤ, pos, ◌+ℤ◌, List, [], ◌∷◌, map, length, get_or, Err}
 use Rattle.std.specs.declared.cmp.Ordering.{Ordering}
 use Rattle.std.specs.List.Sorted.{IsStrictlySortedBy}
 use Rattle.interval_core.specs.Members.{Span}
@@ -48,11 +48,6 @@ cells_at r s = get_or s.2 r (0, 0)
 abbrev pub keys_from : {L X P : Type 0} → ℕ → List (L × X) → List (P × P × List (ℕ × ℕ)) → List (L × List (ℕ × ℕ))
 keys_from r [] sides = []
 keys_from r (x ∷ xs) sides = (x.0, map (cells_at r) sides) ∷ keys_from (suc r) xs sides
-
--- the ascending numbers of a list of n rows
-abbrev pub AreNumbers : ℕ → ℕ → List ℕ → Type 0
-AreNumbers a n [] = Unit {0}
-AreNumbers a n (x ∷ xs) = (a ≤ x) × (x < n) × AreNumbers (suc x) n xs
 
 -- the row's interval on the side
 abbrev pub side_of : {X : Type 0} → ℕ → X → List X → X

@@ -8,7 +8,6 @@ use Rattle.base_core.proofs.OrderingLemmas.{not_before_itself}
 use Rattle.packing_core.specs.Covering.{Among}
 
 module _ {K : Type 0} (R : K → K → Ordering) (o : IsTotalOrder R) where
-
   all_at : (P : K → Type 0) (xs : List K) (x : K) → AllByRecursion P xs → Among x xs → P x
   all_at P [] x h g = absurd g
   all_at P (y ∷ ys) x h g = elim g [ inl e ↦ subst P e h.0 | inr m ↦ all_at P ys x h.1 m ]

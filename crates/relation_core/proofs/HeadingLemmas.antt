@@ -32,7 +32,6 @@ use Rattle.relation_core.specs.Parts.{no_attribute, attributes_at, projected}
 -- ---- two lists in order with the same members are one, also where the order does not tell all members apart
 
 module _ {X : Type 0} (cmp : X → X → Ordering) (o : IsTotalOrder cmp) where
-
   after : (x y : X) (ys : List X) → AllAfter cmp x ys → In y ys → cmp x y ≡ Less
   after x y ys h i = (AllAfter-In cmp x ys).0 h y i
 

@@ -14,8 +14,6 @@ use Rattle.value_core.specs.Attributes.{with_span, put_span, span_of, value_at}
 use Rattle.value_core.specs.Values.{Value, truth, text, point, interval, Row, Name, Heading, fits, fits_heading, is_interval, same_line}
 use Rattle.value_core.proofs.FitLemmas.{is_number-number}
 use Rattle.scalar_core.specs.AtPlaces.{at_place, IsWithin, AreWithin}
-use Rattle.scalar_core.specs.Expressions.{Expr}
-use Rattle.scalar_core.specs.Kinds.{IsTypedOver}
 use Rattle.scalar_core.proofs.KindLemmas.{fits_heading-get, span_of-fits, begin-number, end-number}
 use Rattle.scalar_core.proofs.PointLemmas.{number-is_number}
 
@@ -61,6 +59,3 @@ at_place-fits heading row x [] ps h g within = g
 at_place-fits heading row x (a ∷ acl) [] h g within = absurd within
 at_place-fits heading row x (a ∷ acl) (p ∷ ps) h g within =
     at_place-fits heading row (put_span x a (at_point p)) acl ps h (put_span-fits heading x a p g (within-number heading row a p h within.0)) within.1
-
-pub at_place-typed : (row : Row) (e : Expr) (acl : List ℕ) (ps : List ℤ) → IsTypedOver row e → AreWithin row acl ps → IsTypedOver (at_place acl ps row) e
-at_place-typed row e acl ps typed within = (typed.0, typed.1, at_place-fits typed.0 row row acl ps typed.2 typed.2 within, typed.3)

@@ -7,7 +7,7 @@ use Rattle.point_core.specs.declared.any_type.AnyType.{AnyType}
 use Rattle.point_core.specs.declared.any_type.AnyType.TheVariants.{Integer, Date, Ordinal}
 use Rattle.value_core.specs.declared.kind.Kind.{Kind}
 use Rattle.value_core.specs.declared.kind.Kind.TheVariants.{Truth, Char, Point, Span}
-use Rattle.value_core.specs.Values.{Row, Name, Heading, fits, fits_heading}
+use Rattle.value_core.specs.Values.{Name, Heading, fits}
 use Rattle.scalar_core.specs.declared.operators.OneOp.{OneOp}
 use Rattle.scalar_core.specs.declared.operators.OneOp.TheVariants.{Not, Negate, BeginOf, EndOf, PreOf, PostOf, CountOf, NextOf, PriorOf}
 use Rattle.scalar_core.specs.declared.operators.PairOp.{PairOp}
@@ -15,7 +15,7 @@ use Rattle.scalar_core.specs.declared.operators.PairOp.TheVariants.{Add, Subtrac
 use Rattle.scalar_core.specs.declared.tree.CompareWord.{CompareWord}
 use Rattle.scalar_core.specs.declared.tree.CompareWord.TheVariants.{Equal, NotEqual, Less, LessEqual, Greater, GreaterEqual}
 use Rattle.scalar_core.specs.Expressions.{Expr, constant, attribute, one, pair, and_expr, or_expr}
-use Rattle.scalar_core.specs.Kinds.{IsOrdered, Compares, OneKinds, PairKinds, AreOf, IsTyped, IsTypedOver}
+use Rattle.scalar_core.specs.Kinds.{IsOrdered, Compares, OneKinds, PairKinds, AreOf, IsTyped}
 use Rattle.scalar_core.specs.KindOf.{same_type, same_kind, is_ordered, compares, point_kind, only, one_kind, are_of, two_kind, truth_kind, of_both, of_one, kind_of}
 
 pub same_type-same : (t u : AnyType) → same_type t u ≡ true → t ≡ u
@@ -141,10 +141,6 @@ kind_of-IsTyped heading (or_expr place l r) kind e =
       typed_as heading r parts.1 Truth kinds.1 (kind_of-IsTyped heading r parts.1 parts.3),
       kinds.2,
     )
-
--- what a caller shows of an expression and a row
-pub over-typed : (heading : Heading) (row : Row) (e : Expr) (kind : Kind) → IsTrue (fits_heading heading row) → IsTyped heading e kind → IsTypedOver row e
-over-typed heading row e kind fitting typed = (heading, kind, fitting, typed)
 
 -- ---- the other way: a typed expression has its kind
 

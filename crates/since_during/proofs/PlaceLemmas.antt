@@ -29,10 +29,6 @@ pub each-from : {X : Type 0} (P : X → Type 0) (xs : List X) → ((x : X) → I
 each-from P [] h = tt
 each-from P (x ∷ xs) h = (h x (inl refl), each-from P xs (λ y i. h y (inr i)))
 
-pub each-to : {X : Type 0} (P : X → Type 0) (xs : List X) → AllByRecursion P xs → (x : X) → In x xs → P x
-each-to P [] h x i = absurd i
-each-to P (y ∷ ys) h x i = elim i [ inl e ↦ subst P (sym e) h.0 | inr j ↦ each-to P ys h.1 x j ]
-
 -- ---- attributes of different names
 
 abbrev pub AreNamed : Heading → Type 0

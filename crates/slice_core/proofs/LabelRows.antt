@@ -2,7 +2,7 @@
 use Rattle.std.proofs.Common.{◌≡◌, ℕ, zero, suc, ◌<◌, ◌≤◌, true, ◌≢◌, List, [], ◌∷◌, ◌++◌, map, length, get_or, ◌↔◌, ◌⊎◌, inl, inr, arith, sym, ap, subst, refl, ◌∙◌, Ordering}
 use Rattle.std.specs.declared.cmp.Ordering.TheVariants.{Less, Equal, Greater}
 use Rattle.std.specs.Cmp.{IsTotalOrder}
-use Rattle.std.specs.Ordering.{nat_cmp, ordering_then, ordering_reverse, is_lt}
+use Rattle.std.specs.Ordering.{ordering_then, ordering_reverse, is_lt}
 use Rattle.std.specs.Cmp.Lexicographic.{slice_cmp}
 use Rattle.std.specs.List.{All, AllByRecursion, filter}
 use Rattle.std.proofs.lemmas.List.Elements.{recursion_from_All, All-from_recursion}
@@ -36,7 +36,6 @@ packed_iff (suc j) S S' e y rest h =
 -- ---- sorted lists, one after the other
 
 module _ {K : Type 0} (cmp : K → K → Ordering) where
-
   all_both : (P : K → Type 0) (xs ys : List K) → AllByRecursion P xs → AllByRecursion P ys → AllByRecursion P (xs ++ ys)
   all_both P [] ys a b = b
   all_both P (x ∷ xs) ys a b = (a.0, all_both P xs ys a.1 b)
@@ -296,12 +295,8 @@ module _ {P : Type 0} (order : P → P → Ordering) (total : IsTotalOrder order
 
     -- each box has the sides of its row
     pub boxes_all : (Q : List (ℕ × ℕ) → Type 0) → AllByRecursion (λ (x : Key). Q x.1) rows → AllByRecursion Q boxes
-    boxes_all Q h = each_from_members boxes (λ y m. own y m)
+    boxes_all Q h = each_from_members Q boxes (λ y m. own y m)
       where
-        each_from_members : (ys : List (List (ℕ × ℕ))) → ((y : List (ℕ × ℕ)) → Among y ys → Q y) → AllByRecursion Q ys
-        each_from_members [] k = tt
-        each_from_members (y ∷ ys) k = (k y (inl refl), each_from_members ys (λ z m. k z (inr m)))
-
         at_row : (xs : List Key) (x : Key) → AllByRecursion (λ (z : Key). Q z.1) xs → Among x xs → Q x.1
         at_row [] x a m = absurd m
         at_row (z ∷ zs) x a m = elim m [ inl e ↦ subst (λ (k : Key). Q k.1) e a.0 | inr w ↦ at_row zs x a.1 w ]
@@ -315,7 +310,7 @@ module _ {P : Type 0} (order : P → P → Ordering) (total : IsTotalOrder order
 -- ---- what the loop's calls require
 
 pub live_below : (n : ℕ) (live : List ℕ) → ((r : ℕ) → Among r live → r < n) → All (λ r. r < n) live
-live_below n live h = All-from_recursion (λ r. r < n) live (each_from_members nat_cmp (λ r. r < n) live h)
+live_below n live h = All-from_recursion (λ r. r < n) live (each_from_members (λ r. r < n) live h)
 
 module _ {P : Type 0} (labels : List P) (boxes : List IndexBox) (sorted : List (P × List (ℕ × ℕ))) (ls : labels ≡ map (λ (x : P × List (ℕ × ℕ)). x.0) sorted) (bs : sides_of boxes ≡ map (λ (x : P × List (ℕ × ℕ)). x.1) sorted) where
   pub boxes_length : length boxes ≡ length labels

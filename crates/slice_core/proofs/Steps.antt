@@ -52,7 +52,6 @@ split_at (x ∷ w ∷ ws) (suc n) e = let r = split_at (w ∷ ws) n (omega arith
 -- ---- pieces
 
 module _ {K : Type 0} (R : K → K → Ordering) (o : IsTotalOrder R) (one : (a b : K) → R a b ≡ Equal → a ≡ b) where
-
   covers_tags : (a z : ℕ) (rows : List K) (k : K) (i : ℕ) → Covers R (map (tag a z) rows) k i ↔ ((a ≤ i) × (i < z)) × Among k rows
   covers_tags a z [] k i = (λ h. absurd h, λ h. absurd h.1)
   covers_tags a z (r ∷ rs) k i =

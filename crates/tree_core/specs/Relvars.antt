@@ -54,9 +54,3 @@ abbrev pub constraints_if : Option PlainRelvar → List Constraint
 constraints_if None = []
 constraints_if (Some (base value constraints)) = constraints
 constraints_if (Some (view t history)) = []
-
--- the since relvar and the during relvar of a history's view
-abbrev pub history_names : Option PlainRelvar → Option (Name × Name)
-history_names None = None
-history_names (Some (base value constraints)) = None
-history_names (Some (view t history)) = history

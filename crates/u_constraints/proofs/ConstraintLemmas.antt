@@ -1,5 +1,5 @@
 -- Constraints over no rows, and what a checked reference tells.
-use Rattle.std.proofs.Common.{◌≡◌, ℕ, ◌+◌, ◌<◌, List, [], ◌∷◌, map, length, arith, Option, None, Some, refl, sym, ap, ap₂, ◌∙◌, Bool, false, not, Ordering}
+use Rattle.std.proofs.Common.{◌≡◌, ℕ, List, [], ◌∷◌, map, Option, None, Some, refl, sym, ap, ap₂, ◌∙◌, Bool, false, not, Ordering}
 use Rattle.std.specs.List.{list_any}
 use Rattle.point_core.specs.declared.fault.Code.{Code}
 use Rattle.point_core.specs.declared.fault.Code.TheVariants.{E40, E41, E42, E43, E44}
@@ -10,8 +10,6 @@ use Rattle.value_core.specs.declared.constraint.Constraint.{Constraint}
 use Rattle.value_core.specs.declared.constraint.Constraint.TheVariants.{Key, Packed, WhenUnpacked, UKey, Foreign, History}
 use Rattle.relation_core.specs.Parts.{projected}
 use Rattle.value_core.specs.RowPacking.{attribute, unpacked, packed}
-use Rattle.cell_core.specs.Costs.{bound}
-use Rattle.u_constraints.specs.Costs.{constraint_cost}
 use Rattle.u_constraints.specs.Constraints.{is_key, is_referenced, counterpart, first_failed, broken, rows_or_none}
 
 -- ---- over no rows
@@ -58,8 +56,3 @@ referenced c acl here there a h t name rows other r kept code form named d e f i
     told ∙ ap (λ k. first_failed ((k, E43) ∷ [])) (is ∙ same) ∙ ap₂ (λ z o. broken z rows (rows_or_none o)) (sym form) (sym named)
 
 -- ---- steps
-
--- a reference takes steps where something is unpacked
-pub some_cost : (acl here there : List ℕ) (name : Name) (rows others : List Row) → 0 < length acl → constraint_cost (Foreign acl here name there) rows others ≡ bound (length rows + length others) (length acl)
-some_cost [] here there name rows others l = absurd (omega arith)
-some_cost (i ∷ acl) here there name rows others l = refl

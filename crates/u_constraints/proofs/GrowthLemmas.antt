@@ -337,15 +337,6 @@ cost_grows (Foreign [] here name there) rows more others h = omega arith
 cost_grows (Foreign (i ∷ acl) here name there) rows more others h = bound_grows (length rows + length others) (length more + length others) (length (i ∷ acl)) (omega (arith, h))
 cost_grows (History rule) rows more others h = omega arith
 
--- a history takes none
-pub cost_beside : (c : Constraint) (rows others more : List Row) → is_history c ≡ true → constraint_cost c rows others ≤ constraint_cost c rows more
-cost_beside (Key k) rows others more is = absurd (true≢false (sym is))
-cost_beside (Packed acl) rows others more is = absurd (true≢false (sym is))
-cost_beside (WhenUnpacked acl k) rows others more is = absurd (true≢false (sym is))
-cost_beside (UKey acl k) rows others more is = absurd (true≢false (sym is))
-cost_beside (Foreign acl here name there) rows others more is = absurd (true≢false (sym is))
-cost_beside (History rule) rows others more is = omega arith
-
 pub fewer_left : (most : ℕ) (rows gone : List Row) → length rows ≤ most → most < length (subtracted rows gone) → ⊥
 fewer_left most rows gone few many = let less = length-filter_at_most (λ x. not (has row_cmp gone x)) rows in omega (arith, few, many, less)
 

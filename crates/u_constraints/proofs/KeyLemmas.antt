@@ -27,7 +27,6 @@ Differ (x ∷ xs) = (In x xs → ⊥) × Differ xs
 -- ---- the set of a list has as many members as the list exactly where they differ
 
 module _ {X : Type 0} (cmp : X → X → Ordering) (o : IsTotalOrder cmp) (same : Separates cmp) where
-
   put_known : (x : X) (xs : List X) → Ascends cmp xs → In x xs → put cmp x xs ≡ xs
   put_known x xs a i = same_by_members cmp o same _ _ (Ascends-put cmp o same x xs a) a (λ z.
       let w = In-put cmp o same z x xs in

@@ -2,7 +2,6 @@
 --     IsFirst      the first of the rows that have a place and its label
 --     AreFirsts      those of them whose labels have one part
 --     OfFirsts      what holds of those of some part
---     IsGroupAt      the group of a part at a place
 --     InGroupRule, HasGroupFault      what the rule gives at places of boxes
 --     IsGroupForm      its packed form
 use Rattle.std.specs.Prelude.{◌≡◌, ◌≢◌, ◌↔◌, ℕ, ◌<◌, ℤ, List, [], map, length, get_or, Result, Ok, Err}
@@ -37,10 +36,6 @@ sides_in rows = map (λ x. x.1) rows
 -- the box of the row has the place
 abbrev pub HasPlace : List (Boxed Row) → List ℤ → ℕ → Type 0
 HasPlace rows place r = Has (get_or (sides_in rows) r []) place
-
--- the numbers of a group at a place
-abbrev pub IsGroupAt : List ℕ → List (Boxed Row) → List ℤ → Row → List ℕ → Type 0
-IsGroupAt by rows place key a = AreFirsts by (labels_in rows) (HasPlace rows place) key a
 
 -- the rule gives the label of some group at the place
 abbrev pub InGroupRule : {F : Type 0} → (List ℕ → Result Row F) → List ℕ → List (Boxed Row) → Row → List ℤ → Type 0

@@ -85,15 +85,6 @@ position_second (a ∷ rest) right n l =
       | false ↦ λ k. let w = position_second rest right n (omega (arith, k)) in omega (arith, w)
     ]) l
 
-pub position_most : (heading : Heading) (n : Name) → position_of heading n ≤ length heading
-position_most [] n = omega arith
-position_most (a ∷ rest) n =
-    let w = position_most rest n in
-    elim (bytes_eq a.0 n) as (λ b. (if b then 0 else suc (position_of rest n)) ≤ suc (length rest)) [
-      | true ↦ omega arith
-      | false ↦ omega (arith, w)
-    ]
-
 -- ---- lists made alike
 
 pub maps_agree : {X Y : Type 0} (f g : X → Y) (xs : List X) → map f xs ≡ map g xs → (x : X) → In x xs → f x ≡ g x

@@ -29,36 +29,6 @@ AreTried ps count least n = ((j k d : ℕ) → j < k → k < n → get_or ps j d
 pub tried_none : (ps : List ℕ) (count least : ℕ) → AreTried ps count least 0
 tried_none ps count least = ((λ j k d l h. absurd (omega (arith, h))), (λ k d h. absurd (omega (arith, h))), (λ k d h. absurd (omega (arith, h))))
 
-pub tried_more : (ps : List ℕ) (count least n p : ℕ) → ((d : ℕ) → get_or ps n d ≡ p) → least ≤ p → p < count → AreTried ps count least n → AreTried ps count (p + 1) (n + 1)
-tried_more ps count least n p is up low h = (pairs, within, under)
-  where
-    pairs : (j k d : ℕ) → j < k → k < n + 1 → get_or ps j d < get_or ps k d
-    pairs j k d l b = elim (last_or_before k n b) [
-      | inl e ↦
-          let a = h.2 j d (omega (arith, l, e)) in
-          let c : get_or ps k d ≡ p = ap (λ (m : ℕ). get_or ps m d) e ∙ is d in
-          omega (arith, a, c, up)
-      | inr c ↦ h.0 j k d l c
-    ]
-
-    within : (k d : ℕ) → k < n + 1 → get_or ps k d < count
-    within k d b = elim (last_or_before k n b) [
-      | inl e ↦
-          let c : get_or ps k d ≡ p = ap (λ (m : ℕ). get_or ps m d) e ∙ is d in
-          omega (arith, c, low)
-      | inr c ↦ h.1 k d c
-    ]
-
-    under : (k d : ℕ) → k < n + 1 → get_or ps k d < p + 1
-    under k d b = elim (last_or_before k n b) [
-      | inl e ↦
-          let c : get_or ps k d ≡ p = ap (λ (m : ℕ). get_or ps m d) e ∙ is d in
-          omega (arith, c)
-      | inr c ↦
-          let a = h.2 k d c in
-          omega (arith, a, up)
-    ]
-
 -- ---- positions that rise
 
 pub at_least : (ps : List ℕ) → Rise ps → (n : ℕ) → n < length ps → n ≤ get_or ps n 0

@@ -2,7 +2,7 @@
 --     apart_law      rows with labels apart are packed apart
 --     kept_law, dropped_law      a restriction looks at the unpacked rows of the part alone
 --     packed_law      and only what it gives of them is packed anew
---     labels_law, count_law, joined_set      which has their labels, beside the others
+--     labels_law, count_law      which has their labels, beside the others
 --     closed_within      the rows are some of all
 use Rattle.std.proofs.Common.{◌≡◌, ◌↔◌, ◌⊎◌, inl, inr, ◌+◌, ℕ, ℤ, Bool, true, false, List, [], ◌∷◌, length, map, None, Ok, Err, refl, sym, ap, ◌∙◌, subst, if◌then◌else◌}
 use Rattle.std.specs.Bool.{IsTrue}
@@ -353,12 +353,6 @@ module _ (heading : Heading) (acl : List ℕ) (intervals : AreIntervals heading 
     joined_count : length (united rest (packed acl rows)) ≡ length rest + length (packed acl rows)
     joined_count = joined rest (packed acl rows) rest_set.0 packed_is_set.0 joined_apart
 
-    united_set : IsSet heading acl intervals (united rest (packed acl rows))
-    united_set = (
-      Ascends-union_of row_cmp row_total row_separates rest (packed acl rows),
-      λ x i. elim ((In-union_of row_cmp row_total row_separates x rest (packed acl rows)).0 i) [ inl j ↦ rest_set.1 x j | inr j ↦ packed_is_set.1 x j ],
-    )
-
   pub packed_law : packed acl value ≡ value → (rows : List Row) → Ascends row_cmp rows → ((x : Row) → In x rows → In x (unpacked acl part)) → packed acl (united (unpacked acl rest) rows) ≡ united rest (packed acl rows)
   packed_law are rows up some = joined_packed rows up some are
 
@@ -367,6 +361,3 @@ module _ (heading : Heading) (acl : List ℕ) (intervals : AreIntervals heading 
 
   pub count_law : (rows : List Row) → Ascends row_cmp rows → ((x : Row) → In x rows → In x (unpacked acl part)) → length (united rest (packed acl rows)) ≡ length rest + length (packed acl rows)
   count_law rows up some = joined_count rows up some
-
-  pub joined_set : (rows : List Row) → Ascends row_cmp rows → ((x : Row) → In x rows → In x (unpacked acl part)) → IsSet heading acl intervals (united rest (packed acl rows))
-  joined_set rows up some = united_set rows up some

@@ -83,12 +83,6 @@ module _ (from : Heading) (kept acl : List ℕ) (within : All (λ (i : ℕ). i <
         (λ t. fits_heading (a t) (b t)) ∙ fits;
   }
 
-  -- the label of a shaped row has the inner places
-  pub label_long : (x : Row) → IsShaped from listed x → (i : ℕ) → In i (inner listed kept) → i < length (others listed x)
-  label_long x h i m =
-      let long = h.long in
-      inner_within listed kept x (λ k n. subst (λ l. k < l) (sym long) (in_all (λ (j : ℕ). j < length from) kept within k n)) i m
-
   pub types_kept : types_at from listed ≡ types_at to acl
   types_kept =
       map_twice (λ i. type_of (kind_at from i)) (λ j. get_or kept j 0) acl

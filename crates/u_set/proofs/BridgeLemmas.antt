@@ -4,7 +4,7 @@ use Rattle.std.proofs.lemmas.List.{length-map}
 use Rattle.std.specs.Bool.{IsTrue}
 use Rattle.std.specs.Cmp.{IsTotalOrder}
 use Rattle.base_core.specs.Sets.{in_order}
-use Rattle.base_core.proofs.SetLemmas.{In, Ascends, Separates, In-in_order, Ascends-in_order, Ascends-from_sorted}
+use Rattle.base_core.proofs.SetLemmas.{In, Ascends, Separates, In-in_order, Ascends-in_order}
 use Rattle.base_core.proofs.MemberLemmas.{In-map}
 use Rattle.interval_core.specs.Members.{Span}
 use Rattle.value_core.specs.Attributes.{value_at, span_of}
@@ -12,10 +12,9 @@ use Rattle.value_core.specs.Order.{row_total, row_separates}
 use Rattle.value_core.specs.RowPacking.{attribute, packed, unpacked}
 use Rattle.value_core.specs.Values.{Row, Heading, row_cmp, rows_of, fits_heading}
 use Rattle.packing_core.specs.Boxed.{Boxed, boxed_cmp, sides_from, packed_boxes, unpacked_boxes, InBoxes}
-use Rattle.packing_core.specs.Covering.{Among, CellFunction, InCells}
+use Rattle.packing_core.specs.Covering.{Among}
 use Rattle.packing_core.specs.Packed.{firsts, points_of, packs}
 use Rattle.packing_core.proofs.PackedBoxes.{among_in, packs-iff, packed_form_is}
-use Rattle.cell_core.specs.Cells.{IsPackedForm}
 use Rattle.cell_core.proofs.OrderLemmas.{boxed_total, boxed_separates}
 use Rattle.cell_core.proofs.PackedPlaces.{AllHave, packed_from_same}
 use Rattle.cell_core.proofs.UnpackedPlaces.{unpacked_places}
@@ -47,10 +46,6 @@ same_places r s h l place = (
 pub record IsFormOf (k : ℕ) (P : Row → List ℤ → Type 0) (form : List (Boxed Row)) : Type 0 where
   pub ascends : Ascends box_cmp form
   pub members : (x : Boxed Row) → Among x form ↔ ((length x.1 ≡ k) × packs k (points_of (P x.0)) x.1)
-
--- what a combination of boxes gives is the packed form of its cells
-pub form_of_cells : {F : Type 0} (k : ℕ) (f : CellFunction Row F) (left right : List (List Span)) (form : List (Boxed Row)) → IsPackedForm row_cmp k f left right form → IsFormOf k (InCells f left right) form
-form_of_cells k f left right form h = record { ascends = Ascends-from_sorted box_cmp form h.sorted; members = λ x. h.members x }
 
 -- the rows are those of the boxes, as many as these, and their labels fit
 pub record AreRowsOf (heading : Heading) (acl : List ℕ) (rows : List Row) (boxes : List (Boxed Row)) : Type 0 where

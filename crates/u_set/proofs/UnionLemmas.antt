@@ -47,7 +47,6 @@ module _ {P : Type 0} (order : P → P → Ordering) (o : IsTotalOrder order) (s
   )
 
   module _ (left right : List (Boxed P)) (hl : AllHave k left) (hr : AllHave k right) where
-
     pub union_have : AllHave k (union_of B (unpacked_boxes order k left) (unpacked_boxes order k right))
     union_have x m = elim ((Among-union (unpacked_boxes order k left) (unpacked_boxes order k right) x).0 m) [
       | inl a ↦ ((in_unpacked_boxes order o same k left hl x).0 a).0

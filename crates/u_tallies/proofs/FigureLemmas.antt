@@ -3,7 +3,7 @@
 use Rattle.std.proofs.Common.{◌≡◌, ℕ, zero, suc, ◌+◌, ◌<◌, ◌≤◌, Bool, List, [], ◌∷◌, ◌++◌, take, set, length, get_or, inl, inr, arith, refl, sym, ap, ap₂, subst, ◌∙◌}
 use Rattle.std.proofs.lemmas.Bool.{cases_lt}
 use Rattle.std.proofs.lemmas.List.{get_or-set_other, get_or-set_same, length-set}
-use Rattle.u_tallies.specs.Figures.{PlainColumn, IsKept, AreKept, column_at, kept_at, figure_of, figures_of}
+use Rattle.u_tallies.specs.Figures.{PlainColumn, IsKept, column_at, kept_at, figure_of, figures_of}
 use Rattle.u_tallies.specs.declared.keeping.Kept.{Kept}
 use Rattle.u_tallies.specs.declared.values.Figure.{Figure}
 use Rattle.box_core.proofs.TallyLemmas.{equal_or}
@@ -12,13 +12,6 @@ pub record AreTurned (columns : List PlainColumn) (f g : List Bool) (j : ℕ) (k
   pub many : length kept ≡ length columns
   pub done : (i : ℕ) → i < j → i < length columns → IsKept (column_at columns i) (kept_at kept i) g
   pub rest : (i : ℕ) → j ≤ i → i < length columns → IsKept (column_at columns i) (kept_at kept i) f
-
-pub turned_none : (columns : List PlainColumn) (f g : List Bool) (kept : List Kept) → AreKept columns kept f → AreTurned columns f g 0 kept
-turned_none columns f g kept is = record {
-  many = is.many;
-  done = λ i l k. absurd (omega (arith, l));
-  rest = λ i l k. is.each i k;
-}
 
 pub turned_more : (columns : List PlainColumn) (f g : List Bool) (j : ℕ) (kept : List Kept) (z : Kept) → AreTurned columns f g j kept → j < length columns → IsKept (column_at columns j) z g
     → AreTurned columns f g (j + 1) (set kept j z)
@@ -36,9 +29,6 @@ turned_more columns f g j kept z is l own = record {
   where
     other : (i j : ℕ) → i < j + 1 → (i ≡ j → ⊥) → i < j
     other i j k ne = elim (cases_lt i j) [ inl w ↦ w | inr w ↦ absurd (ne (omega (arith, k, w))) ]
-
-pub turned_all : (columns : List PlainColumn) (f g : List Bool) (j : ℕ) (kept : List Kept) → AreTurned columns f g j kept → length columns ≤ j → AreKept columns kept g
-turned_all columns f g j kept is l = record { many = is.many; each = λ i k. is.done i (omega (arith, l, k)) k }
 
 -- ---- of no rows
 

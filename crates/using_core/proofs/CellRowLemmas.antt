@@ -70,9 +70,6 @@ pub record ArePut (row : Row) (acl : List ℕ) (at : List (AnyPoint × AnyPoint)
   pub long : length now ≡ length row
   pub lines : HaveLines acl at now
 
-pub none_put : (row : Row) (acl : List ℕ) (at : List (AnyPoint × AnyPoint)) → HaveLines acl at row → ArePut row acl at 0 row
-none_put row acl at h = record { rest = refl; long = refl; lines = h }
-
 next_put : (acl : List ℕ) (at : List (AnyPoint × AnyPoint)) (row : Row) (j : ℕ) (d : AnyPoint × AnyPoint) → length at ≡ length acl → j < length acl
     → at_place (drop j acl) (drop j (firsts (box_numbers number at))) row
     ≡ at_place (drop (suc j) acl) (drop (suc j) (firsts (box_numbers number at))) (put_span row (slice_index acl j) (at_point (number (get_or at j d).0)))

@@ -97,9 +97,6 @@ err_of (Err e) = Some e
 pub some_is : (d e : Fault) → Some d ≡ Some e → d ≡ e
 some_is d e h = cc
 
-err_is : {X : Type 0} (d e : Fault) → (r s : OrFault X) → r ≡ Err d → s ≡ Err e → r ≡ s → d ≡ e
-err_is d e r s p q h = cc
-
 -- one member more
 pub one_more : {X : Type 0} (a : OrFault X) (r : OrFault (List X)) → IsLeast (λ e. (err_of r ≡ Some e) ⊎ (a ≡ Err e)) (err_of (with_lesser fault_order a r))
 one_more (Ok v) (Ok vs) = record { comes = λ e q. absurd cc; below = λ d w. elim w [ inl p ↦ absurd cc | inr p ↦ absurd cc ] }

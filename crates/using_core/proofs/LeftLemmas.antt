@@ -71,7 +71,6 @@ few_given : (place : Place) (rows : List Row) (m : ℕ) → length rows ≤ m �
 few_given place rows m l = ap (λ b. if b then Ok rows else Err (fault place E35)) (few_le (length rows) m l)
 
 module _ (r : Relation) (is : IsRelation r) (acl : List ℕ) (intervals : AreIntervals r.heading acl) (c : Expr) where
-
   shaped : (x : Row) → In x r.rows → IsShaped r.heading acl x
   shaped = relation_shaped r is acl intervals
 

@@ -23,7 +23,6 @@ use Rattle.using_core.specs.Swept.{swept_rows}
 use Rattle.using_core.proofs.ExtensionLemmas.{extended_given, extended_rows, extended_fault}
 
 module _ (r : Relation) (is : IsRelation r) (heading : Heading) (acl to : List ℕ) (sets : PlainSets) (at : List ℕ) (items : AreItems r.heading heading acl to sets at) where
-
   shaped : (x : Row) → In x r.rows → IsShaped r.heading acl x
   shaped = relation_shaped r is acl items.here
 

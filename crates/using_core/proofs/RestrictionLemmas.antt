@@ -38,7 +38,6 @@ can_sweep r acl c is intervals typed sweepable boxes same points rows e i l = re
 -- ---- what is meant
 
 module _ (r : Relation) (is : IsRelation r) (acl : List ℕ) (intervals : AreIntervals r.heading acl) (c : Expr) where
-
   shaped : (x : Row) → In x r.rows → IsShaped r.heading acl x
   shaped = relation_shaped r is acl intervals
 

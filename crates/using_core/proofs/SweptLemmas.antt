@@ -94,7 +94,6 @@ module _ (from : Heading) (acl : List ℕ) (intervals : AreIntervals from acl) (
   module _ (heading : Heading) (here : AreIntervals heading to) (same_count : length to ≡ length acl) (given : List Row) (up : Ascends row_cmp given)
       (is : (y : Row) → In y given ↔ ((x : Row) × In x (unpacked acl rows) × (f x ≡ Ok (Some y))))
       (made : (x y : Row) → In x (unpacked acl rows) → IsShaped from acl x → f x ≡ Ok (Some y) → IsShaped heading to y × (spans_at to y ≡ spans_at acl x)) where
-
     given_shaped : (y : Row) → In y given → IsShaped heading to y
     given_shaped y m = let w = (is y).0 m in (made w.0 y w.1 (opened_shaped from acl intervals rows ascends shaped w.0 w.1) w.2).0
 

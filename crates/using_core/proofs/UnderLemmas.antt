@@ -16,7 +16,6 @@ use Rattle.using_core.specs.Using.{around, listed, IsSweptBy}
 use Rattle.using_core.proofs.ListLemmas.{positions_back}
 
 module _ (place : Place) (heading : Heading) (acl : List ℕ) (headed : IsTrue (is_heading heading)) (list : IsList heading acl) where
-
   back_in : (from : Heading) → heading ≡ from → acl ≡ positions_of from (names_at heading acl)
   back_in from same = sym (positions_back heading acl headed list) ∙ (λ t. positions_of (same t) (names_at heading acl))
 

@@ -2,7 +2,7 @@
 use Rattle.std.proofs.Common.{◌≡◌, ℕ, zero, suc, ◌+◌, ◌<◌, Bool, true, false, Option, Some, None, Result, Ok, Err, List, [], ◌∷◌, ◌++◌, map, take, drop, length, get_or, arith, refl, sym, ap, ap₂, ◌∙◌}
 use Rattle.std.specs.Option.{IfSome}
 use Rattle.std.specs.Result.{IfOk}
-use Rattle.std.proofs.lemmas.List.{map-append, append_assoc, get_or_append_left, get_or-append-add, get_or-map}
+use Rattle.std.proofs.lemmas.List.{map-append, append_assoc, get_or-append-add, get_or-map}
 use Rattle.value_core.specs.Attributes.{among}
 use Rattle.value_core.specs.Values.{Row, Value, truth}
 use Rattle.relation_core.specs.Agreement.{part_of}
@@ -26,12 +26,6 @@ if_ok P Q (Err e) h p = tt
 
 abbrev none : Value
 none = truth false
-
--- a made value stands where it stood
-pub spot_made : (many : ℕ) (part : List ℕ) (place : ℕ) → place < many → IsSpot many part place place
-spot_made many part place l made row n =
-    let m : place < length made = omega (arith, l, n) in
-    get_or_append_left made row none place m ∙ sym (get_or_append_left made (part_of part row) none place m)
 
 -- and a value of the part behind the made ones
 pub spot_by_index : (many : ℕ) (part : List ℕ) (position i : ℕ) → i < length part → get_or part i 0 ≡ position → IsSpot many part (many + position) (many + i)

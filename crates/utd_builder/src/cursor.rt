@@ -1,6 +1,6 @@
 // The tokens that are still to come.
 ghost use Rattle.std.specs.Prelude.{◌≡◌, IfOk};
-ghost use Rattle.utd_syntax.specs.Pieces.{bytes_of, first, place_of, second};
+ghost use Rattle.utd_syntax.specs.Pieces.{bytes_of, first, place_of};
 ghost use Rattle.utd_builder.specs.Building.{Named, behind, left};
 
 use point_core::Place;

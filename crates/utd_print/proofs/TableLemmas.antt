@@ -1,7 +1,6 @@
 -- Widths and lines, value by value.
 use Rattle.std.proofs.Common.{◌≡◌, ◌≢◌, ℕ, zero, suc, ◌+◌, ◌<◌, ◌≤◌, max, List, [], ◌∷◌, ◌++◌, length, map, get_or, set, take, true, codes, decimal, append_assoc, append-nil, refl, sym, ◌∙◌, ap, subst, arith, get_or-set_other, get_or-set_same, below_more}
-use Rattle.std.proofs.lemmas.List.{get_or-map, length-map, map_more, take_all}
-use Rattle.std.proofs.lemmas.List.Sums.{fold-append}
+use Rattle.std.proofs.lemmas.List.{get_or-map, length-map, take_all}
 use Rattle.std.proofs.lemmas.List.FromFn.{fill_by_all}
 use Rattle.value_core.specs.declared.list.OrdinalNames.{OrdinalNames}
 use Rattle.value_core.specs.declared.value.Value.{Value}
@@ -13,7 +12,6 @@ use Rattle.std.specs.List.{flat_map, list_all, range_with_len}
 use Rattle.std.proofs.lemmas.List.FromFn.{length-range_with_len}
 use Rattle.std.proofs.lemmas.Bool.{and_parts}
 use Rattle.value_core.proofs.PlainLemmas.{plain_at}
-use Rattle.utd_print.specs.Widths.{Widens}
 
 -- ---- the value at an index
 
@@ -50,34 +48,6 @@ widened-turn old now texts at w h within is = record {
 pub record AreWidths (lines : List (List (List ℕ))) (n : ℕ) (now : List ℕ) : Type 0 where
   pub long : length now ≡ n
   pub wide : (k : ℕ) → k < n → get_or now k 0 ≡ width_at lines k
-
-max-zero : (n : ℕ) → max 0 n ≡ n
-max-zero n = grind arith
-
--- the widths of one line
-pub are-widths-init : (names : List (List ℕ)) (n : ℕ) (now : List ℕ) → length names ≡ n → now ≡ map character_count names → AreWidths (names ∷ []) n now
-are-widths-init names n now long is = record {
-  long = ap length is ∙ length-map names character_count ∙ long;
-  wide = λ k lt. ap (λ z. get_or z k 0) is ∙ get_or-map character_count names k [] 0 (omega arith) ∙ sym (max-zero (character_count (get_or names k [])));
-}
-
-width_at-push : (lines : List (List (List ℕ))) (line : List (List ℕ)) (k : ℕ) → width_at (lines ++ line ∷ []) k ≡ max (width_at lines k) (character_count (get_or line k []))
-width_at-push lines line k = fold-append (λ w l. max w (character_count (get_or l k []))) 0 lines (line ∷ [])
-
--- a line more
-pub are-widths-turn : (types : List OrdinalNames) (names : List (List ℕ)) (rows : List Row) (i n : ℕ) (row : Row) (old now : List ℕ)
-    → i < length rows → row ≡ get_or rows i row → AreWidths (names ∷ map (row_texts types) (take i rows)) n old → length now ≡ length old → Widens old (row_texts types row) now
-    → AreWidths (names ∷ map (row_texts types) (take (i + 1) rows)) n now
-are-widths-turn types names rows i n row old now within is h long widens =
-    let f : Row → List (List ℕ) = row_texts types in
-    let more : names ∷ map f (take (i + 1) rows) ≡ (names ∷ map f (take i rows)) ++ f row ∷ [] =
-    ap (λ z. names ∷ z) (map_more f rows i row within ∙ ap (λ z. map f (take i rows) ++ f z ∷ []) (sym is)) in
-    record {
-      long = long ∙ h.long;
-      wide = λ k lt.
-          widens k (omega (arith, h.long, lt)) ∙ ap (λ z. max z (character_count (get_or (f row) k []))) (h.wide k lt)
-          ∙ sym (width_at-push (names ∷ map f (take i rows)) (f row) k) ∙ ap (λ z. width_at z k) (sym more);
-    }
 
 pub are-widths-all : (lines : List (List (List ℕ))) (n : ℕ) (now : List ℕ) → AreWidths lines n now → now ≡ widths lines n
 are-widths-all lines n now h = fill_by_all (width_at lines) now n 0 h.long h.wide

@@ -1,9 +1,8 @@
 -- A number is that of one status.
-use Rattle.std.proofs.Common.{◌≡◌, ℕ, zero, suc, ◌≤◌, List, Option, refl, sym, ap, ◌∙◌, subst, arith}
+use Rattle.std.proofs.Common.{◌≡◌, ℕ, zero, suc, ◌≤◌, refl, arith}
 use Rattle.utd_session.specs.declared.status.Status.{Status}
 use Rattle.utd_session.specs.declared.status.Status.TheVariants.{AllAccepted, SomeRefused, BadUsage, ReadFailed, WriteFailed, NoMemory, TooLong}
 use Rattle.utd_session.specs.Status.{number_of, IsStatus}
-use Rattle.utd_session.specs.Run.{IsTold}
 
 bound : (s : Status) → number_of s ≤ 6
 bound AllAccepted = omega arith
@@ -35,9 +34,3 @@ back ReadFailed = refl
 back WriteFailed = refl
 back NoMemory = refl
 back TooLong = refl
-
--- what is told of a status is told of the one with its number
-pub told_of : (faults faults_now : ℕ) (before now : Option (List ℕ)) (s t : Status) (answered : ℕ) → answered ≡ number_of s → answered ≡ number_of t
-    → IsTold faults faults_now before now s → IsTold faults faults_now before now t
-told_of faults faults_now before now s t answered p q h =
-    subst (IsTold faults faults_now before now) (sym (back s) ∙ ap status_at (sym p ∙ q) ∙ back t) h

@@ -11,14 +11,10 @@ pub record Piece : Type 0 where
   pub place : Place
   pub bytes : List ℕ
 
--- what the next token is to the grammar, and the one behind it
+-- what the next token is to the grammar
 abbrev pub first : List Piece → Terminal
 first [] = Finish
 first (t ∷ ts) = t.terminal
-
-abbrev pub second : List Piece → Terminal
-second [] = Finish
-second (t ∷ ts) = first ts
 
 -- where the next token stands, and its bytes
 abbrev pub place_of : List Piece → Place

@@ -7,12 +7,10 @@ use Rattle.std.specs.Bool.{IsTrue}
 use Rattle.std.proofs.lemmas.Bool.{and_parts, true≢false}
 use Rattle.base_core.proofs.IntLemmas.{int_le-le}
 use Rattle.base_core.proofs.OrderingLemmas.{then-Equal}
-use Rattle.point_core.specs.Points.{Line, integers, days, values_of, line, line_of, number, is_number, IsNumber, IsPointOf, first_of, last_of}
+use Rattle.point_core.specs.Points.{Line, integers, days, values_of, line_of, is_number, IsNumber, first_of, last_of}
 use Rattle.point_core.specs.declared.any_type.AnyType.{AnyType}
-use Rattle.point_core.specs.declared.any_type.AnyPoint.{AnyPoint}
 use Rattle.value_core.specs.Values.{fits, same_line, is_interval, point, interval, Name, Value, Row, Heading, fits_heading, Value as PlainValue, truth, text}
-use Rattle.value_core.specs.declared.kind.Kind.TheVariants.{Point, Span as SpanOf}
-use Rattle.value_core.specs.Plain.{ends}
+use Rattle.value_core.specs.declared.kind.Kind.TheVariants.{Span as SpanOf}
 use Rattle.value_core.specs.declared.kind.Kind.{Kind}
 use Rattle.value_core.specs.Attributes.{span_of}
 
@@ -34,32 +32,12 @@ is_number-number t n e =
     let parts = and_parts (int_le (first_of t) n) (int_le n (last_of t)) e in
     (int_le-le (first_of t) n parts.0, int_le-le n (last_of t) parts.1)
 
-pub point_from_fit : (t : AnyType) (p : AnyPoint) → fits (Point t) (point (line p) (number p)) ≡ true → IsPointOf t p
-point_from_fit t p e =
-    let parts = and_parts (same_line (line p) (line_of t)) (is_number t (number p)) e in
-    (same_line-same (line p) (line_of t) parts.0, is_number-number t (number p) parts.1)
-
 one_line : (t : AnyType) (b e : ℤ) (same : Bool) → is_interval t (if same then (b, e) else (pos 1, pos 0)) ≡ true → (same ≡ true) × (is_interval t (b, e) ≡ true)
 one_line t b e true h = (refl, h)
 one_line t b e false h =
     let outer = and_parts (is_number t (pos 1)) (is_number t (pos 0) && false) h in
     let inner = and_parts (is_number t (pos 0)) false outer.1 in
     cc
-
--- the ends of an interval that fits are points of the type, and have the numbers that it is read by
-pub span_from_fit : (t : AnyType) (i : AnyPoint × AnyPoint) → fits (SpanOf t) (interval (line i.0) (ends i)) ≡ true
-    → IsPointOf t i.0 × IsPointOf t i.1 × (ends i ≡ (number i.0, number i.1))
-span_from_fit t i e =
-    let parts = and_parts (same_line (line i.0) (line_of t)) (is_interval t (ends i)) e in
-    let here = one_line t (number i.0) (number i.1) (same_line (line i.0) (line i.1)) parts.1 in
-    let first = and_parts (is_number t (number i.0)) (is_number t (number i.1) && int_le (number i.0) (number i.1)) here.1 in
-    let last = and_parts (is_number t (number i.1)) (int_le (number i.0) (number i.1)) first.1 in
-    let begin : line i.0 ≡ line_of t = same_line-same (line i.0) (line_of t) parts.0 in
-    let meet : line i.0 ≡ line i.1 = same_line-same (line i.0) (line i.1) here.0 in (
-      (begin, is_number-number t (number i.0) first.0),
-      (sym meet ∙ begin, is_number-number t (number i.1) last.0),
-      ap (λ same. if same then (number i.0, number i.1) else (pos 1, pos 0)) here.0,
-    )
 
 pub fits_at : (h : Heading) (row : Row) (i : ℕ) (e : Name × Kind) (d : Value) → IsTrue (fits_heading h row) → i < length h → IsTrue (fits (get_or h i e).1 (get_or row i d))
 fits_at [] row i e d f l = absurd (omega arith)

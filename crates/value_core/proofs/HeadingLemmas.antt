@@ -1,7 +1,6 @@
 -- A list of attributes with different names, sorted by them, is a heading.
 use Rattle.std.proofs.Common.{◌≡◌, ℕ, suc, ◌+◌, ◌<◌, ◌≤◌, Bool, true, false, ◌||◌, List, [], ◌∷◌, ◌++◌, length, get_or, take, drop, Some, None, refl, subst, arith, Ordering, Less, Equal, Greater, if◌then◌else◌, nat_le}
 use Rattle.std.proofs.Math.Seq.{drop-cons}
-use Rattle.std.proofs.lemmas.List.{take_more}
 use Rattle.std.proofs.lemmas.Bool.Decides.{nat_tests}
 use Rattle.std.proofs.lemmas.Map.Keys.{IsDistinct-IsPermutation}
 use Rattle.std.specs.List.{AllByRecursion, IsDistinct}
@@ -17,13 +16,6 @@ use Rattle.value_core.specs.declared.kind.Kind.{Kind}
 use Rattle.value_core.specs.Headings.{has_name, repeat_after, first_repeat, most_attributes}
 
 -- ---- the first repeat, index by index
-
--- the attribute at i repeats none before it
-pub repeat_goes_on : (list : Heading) (i : ℕ) (d : _) → i < length list → has_name (take i list) (get_or list i d).0 ≡ false
-    → repeat_after (take i list) i (drop i list) ≡ repeat_after (take (i + 1) list) (i + 1) (drop (i + 1) list)
-repeat_goes_on list i d within new =
-    let next : suc i ≡ i + 1 = omega arith in
-    rw (drop-cons list i d within, new, take_more list i d within, ← next) refl
 
 -- the attribute at i repeats one before it
 pub repeat_found : (list : Heading) (i : ℕ) (d : _) → i < length list → has_name (take i list) (get_or list i d).0 ≡ true

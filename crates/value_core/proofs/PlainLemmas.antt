@@ -3,10 +3,11 @@ use Rattle.std.specs.Prelude.{◌≡◌, ℕ, zero, suc, [], ◌∷◌, set, ref
 use Rattle.std.proofs.Common.{ap, ◌<◌, List, length, map, get_or, sym, ◌∙◌}
 use Rattle.std.proofs.lemmas.List.{get_or-map}
 use Rattle.value_core.specs.Attributes.{value_at}
-use Rattle.value_core.specs.Values.{Value, Row}
+use Rattle.value_core.specs.Values.{Value as PlainValue, Row}
+use Rattle.value_core.specs.declared.value.Value.{Value}
 use Rattle.value_core.specs.Plain.{plain}
 
-pub set_elsewhere : (row : Row) (i j : ℕ) (v : Value) → (j ≡ i → ⊥) → value_at (set row i v) j ≡ value_at row j
+pub set_elsewhere : (row : Row) (i j : ℕ) (v : PlainValue) → (j ≡ i → ⊥) → value_at (set row i v) j ≡ value_at row j
 set_elsewhere [] i j v other = refl
 set_elsewhere (u ∷ row) zero zero v other = absurd (other refl)
 set_elsewhere (u ∷ row) zero (suc j) v other = refl

@@ -81,9 +81,6 @@ row_cmp = slice_cmp value_cmp
 abbrev pub name_cmp : Name → Name → Ordering
 name_cmp = slice_cmp nat_cmp
 
-abbrev pub same_value : Value → Value → Bool
-same_value = eq_by_cmp value_cmp
-
 -- the rows of a list, as a set
 abbrev pub rows_of : List Row → List Row
 rows_of = in_order row_cmp
