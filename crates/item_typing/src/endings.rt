@@ -8,7 +8,7 @@ ghost use Rattle.scalar_typing.specs.Names.{AreOrdinals};
 ghost use Rattle.scalar_typing.specs.Typings.{value_or};
 ghost use Rattle.point_core.specs.declared.fault.Code.TheVariants.{E20};
 ghost use Rattle.tree_core.specs.Items.{read_item, read_item_form};
-ghost use Rattle.tree_core.specs.Relvars.{constraints_if, read_relvar, read_relvars, relvar_heading};
+ghost use Rattle.tree_core.specs.Relvars.{constraints_if, read_relvar, read_relvars};
 ghost use Rattle.meaning_core.specs.Endings.{history_if, rule_if};
 ghost use Rattle.meaning_core.specs.WellMade.{rule_among};
 ghost use Rattle.item_typing.specs.Endings as rules;
@@ -22,7 +22,6 @@ use scalar_core::Scalar;
 use scalar_typing::{same_kind, type_scalar};
 use std::alloc::Global;
 use tree_core::{Item, ItemForm, Relvar, Relvars};
-use tree_typing::relvar_of;
 use utd_syntax as syntax;
 use utd_syntax::{Condition, Word};
 use value_core::{Constraint, Heading, HistoryRule, Kind, Name, OrdinalTypes};
@@ -91,7 +90,7 @@ fn rule_typed<'a>(
 ) -> Result<&'a HistoryRule, Fault>
     ensures { seen (λ r. r.now) result ≡ value_or place E20 (rule_if (read_relvars relvars.now).relvars (Some names.now)) }
 {
-    match rule_if(relvar_of(relvars, &names.1)) {
+    match rule_if(relvars.named(&names.1)) {
         Some(rule) => Ok(rule),
         None => Err(Fault {
             place,
@@ -100,25 +99,12 @@ fn rule_typed<'a>(
     }
 }
 
-/// The heading of a base relvar's value, or of a view's expression.
-fn heading_of(relvar: &Relvar) -> &Heading
-    ensures { result.now ≡ relvar_heading (read_relvar relvar.now) }
-{
-    match relvar {
-        Relvar::Base {
-            value,
-            constraints: _,
-        } => value.heading(),
-        Relvar::View { tree, history: _ } => &tree.heading,
-    }
-}
-
 /// The heading of the since relvar of a history.
 fn since_typed<'a>(relvars: &'a Relvars, place: Place, name: &Name) -> Result<&'a Heading, Fault>
     ensures { seen (λ h. h.now) result ≡ rules.since_typed (read_relvars relvars.now) place name.now }
 {
-    match relvar_of(relvars, name) {
-        Some(relvar) => Ok(heading_of(relvar)),
+    match relvars.named(name) {
+        Some(relvar) => Ok(relvar.heading()),
         None => Err(Fault {
             place,
             code: Code::E20,
@@ -213,7 +199,7 @@ pub(crate) fn type_ending(
     let name = name_typed(alloc, word)?;
     let relvar = known_relvar(relvars, &name, word.place)?;
     let facts = facts_of(relvars, word.place, relvar)?;
-    let heading = heading_of(relvar).copy(alloc)?;
+    let heading = relvar.heading().copy(alloc)?;
     let form = end_typed(alloc, relvars, facts, at, scalar, condition)?;
     Ok(item_of(place, Target { name, heading }, form))
 }

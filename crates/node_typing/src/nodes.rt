@@ -60,7 +60,7 @@ pub(crate) fn infix_typed(
     ensures { Gives read_tree result (rules.infix_rule place word (read_tree left.value) (read_tree right.value)) }
 {
     let to = infix_heading(alloc, place, word, heading(&left), heading(&right))?;
-    Ok(trees::infix(place, to, word, left, right))
+    Ok(RelTree::infix(place, to, word, left, right))
 }
 
 /// A projection: E14 or E15 at a name.
@@ -80,7 +80,7 @@ fn projection_typed(
     ensures { Gives read_tree result (rules.projection_rule (read_projection projection.now) (read_tree part.value)) }
 {
     let (kept, to) = projected(alloc, heading(&part), projection)?;
-    Ok(trees::project(projection_place(projection), to, kept, part))
+    Ok(RelTree::project(projection_place(projection), to, kept, part))
 }
 
 /// A RENAME: E14 or E15 at an old name, then E15 at a new one. A name out of its length is E06; the reading of a text lets none
@@ -108,7 +108,7 @@ fn renaming_typed(
 {
     let names = renaming_names(alloc, heading(&part), renamings)?;
     let to = renamed_heading(alloc, names.list.as_slice(), heading(&part))?;
-    Ok(trees::rename(place, to, names, part))
+    Ok(RelTree::rename(place, to, names, part))
 }
 
 /// A WHERE: the refusals of its scalar, then E12 at the place.
@@ -139,7 +139,7 @@ fn restriction_typed(
 {
     let to = heading(&part).copy(alloc)?;
     let c = condition_typed(alloc, types, place, heading(&part), scalar)?;
-    Ok(trees::restrict(place, to, c, part))
+    Ok(RelTree::restrict(place, to, c, part))
 }
 
 /// An EXTEND: E15 at a name or the refusals of its scalar, item by item, then E17 at the place.
@@ -169,7 +169,7 @@ fn extension_typed(
     ensures { Gives read_tree result (rules.extension_rule types.now place (read_sets sets.now) (read_tree part.value)) }
 {
     let made = extension_made(alloc, types, place, heading(&part), sets)?;
-    Ok(trees::extend(place, made.heading, made.sets, part))
+    Ok(RelTree::extend(place, made.heading, made.sets, part))
 }
 
 /// A SUMMARIZE: E14 or E15 at a name of BY; then item by item E15 at its name, the refusals of its scalar and E12 at its word;
@@ -203,7 +203,7 @@ fn summary_typed(
 {
     let (by, groups) = groups_typed(alloc, heading(&part), by)?;
     let made = aggregates_made(alloc, types, place, heading(&part), &groups, aggregates)?;
-    Ok(trees::summarize(place, made.heading, by, made.aggregates, part))
+    Ok(RelTree::summarize(place, made.heading, by, made.aggregates, part))
 }
 
 /// A PACK or an UNPACK: the refusals of its list.

@@ -80,7 +80,7 @@ fn projection_used(
     list_checked(heading(&of), heading(&of), list)?;
     let (kept, to) = projected(alloc, heading(&of), projection)?;
     all_kept(to.attributes(), list.names.list.as_slice())?;
-    let part = trees::project(projection_place(projection), to, kept, of);
+    let part = RelTree::project(projection_place(projection), to, kept, of);
     trees::used(alloc, place, list, part)
 }
 
@@ -118,7 +118,7 @@ fn restriction_used(
     let acl = listed(alloc, heading(&of), heading(&of), list)?;
     let c = condition_typed(alloc, types, at, heading(&of), scalar)?;
     match swept(acl.list.as_slice(), &c) {
-        Ok(()) => trees::used(alloc, place, list, trees::restrict(at, to, c, of)),
+        Ok(()) => trees::used(alloc, place, list, RelTree::restrict(at, to, c, of)),
         Err(stop) => {
             drop(c);
             Err(stop)
@@ -161,7 +161,7 @@ fn extension_used(
     let words = list.names.list.as_slice();
     none_assigned(words, &sets.first, sets.more.list.as_slice())?;
     sets_swept(acl.list.as_slice(), made.sets.list.as_slice())?;
-    let part = trees::extend(at, made.heading, made.sets, of);
+    let part = RelTree::extend(at, made.heading, made.sets, of);
     trees::used(alloc, place, list, part)
 }
 
@@ -203,6 +203,6 @@ fn summary_used(
     let made = aggregates_made(alloc, types, at, heading(&of), &groups, aggregates)?;
     all_kept(groups.attributes(), list.names.list.as_slice())?;
     aggregates_name_no(acl.list.as_slice(), made.aggregates.list.as_slice())?;
-    let part = trees::summarize(at, made.heading, positions, made.aggregates, of);
+    let part = RelTree::summarize(at, made.heading, positions, made.aggregates, of);
     trees::used(alloc, place, list, part)
 }

@@ -1,4 +1,3 @@
-pub mod NameLemmas
 pub mod HeadingLemmas
 pub mod JoinableLemmas
 pub mod RoomLemmas

@@ -11,14 +11,14 @@ ghost use Rattle.since_during.specs.Joinable.{AreJoinable, IsEndingForm, IsJoina
 ghost use Rattle.since_during.specs.Ended.{both_of, facts, with_ended, without_ended};
 ghost use Rattle.since_during.specs.Sides.{IsNarrow};
 
-use crate::headings::{name_at, type_at};
+use crate::headings::name_at;
 use crate::joining::{Sides, joined_history};
-use crate::nodes;
 use crate::relvars::{heading_named, history_of, rule_of};
 use point_core::{Memory, Place};
 use scalar_core::Scalar;
 use std::alloc::Global;
-use tree_core::{Assignment, Item, ItemForm, RelTree, Relvars};
+use tree_core::{Assignment, Item, ItemForm, RelTree, Relvars, negation};
+use update_core::{condition, type_at};
 use value_core::{HistoryRule, Name};
 
 /// What ends: the facts that meet the condition, at a point. The places are those of the item and of AT.
@@ -140,8 +140,9 @@ fn both(
 fn facts(alloc: Global, sides: Sides<'_>, since: &Name, c: Scalar) -> Result<RelTree, Memory>
     ensures { IfOk result (λ t. read_tree t ≡ facts sides.entry since.now (read c)) }
 {
-    let own = nodes::named(alloc, sides.place, sides.since, since)?;
-    nodes::restrict(alloc, sides.place, sides.since, c, own)
+    let own = RelTree::of_name(alloc, sides.place, sides.since, since)?;
+    let rows = own.restricted(alloc, sides.place, sides.since, c)?;
+    Ok(rows)
 }
 
 /// The during relvar gets the facts that end.
@@ -154,7 +155,7 @@ fn with_ended(
     requires { IsNarrow sides }
     ensures { IfOk result (λ a. read_assignment a ≡ with_ended sides.entry since.now ending.entry) }
 {
-    let c = nodes::condition(alloc, sides.place, ending.condition)?;
+    let c = condition(alloc, sides.place, ending.condition)?;
     let rows = facts(alloc, sides, since, c)?;
     let end = ending.end.copy(alloc)?;
     let tree = joined_history(alloc, sides, ending.at, end, rows)?;
@@ -171,8 +172,8 @@ fn without_ended(
 ) -> Result<Assignment, Memory>
     ensures { IfOk result (λ a. read_assignment a ≡ without_ended sides.entry since.now ending.entry) }
 {
-    let c = nodes::condition(alloc, sides.place, ending.condition)?;
-    let c = nodes::negated(alloc, sides.place, c)?;
+    let c = condition(alloc, sides.place, ending.condition)?;
+    let c = negation(alloc, sides.place, c)?;
     let tree = facts(alloc, sides, since, c)?;
     let target = since.copy(alloc)?;
     Ok(Assignment { target, tree })

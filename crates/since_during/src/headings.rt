@@ -4,9 +4,9 @@ ghost use Rattle.base_core.specs.Sets.{put};
 ghost use Rattle.value_core.specs.Limits.{most_attributes};
 ghost use Rattle.value_core.specs.Values.{attribute_cmp};
 ghost use Rattle.relation_core.specs.Agreement.{position_of};
-ghost use Rattle.meaning_core.specs.Histories.{all_but, name_at, type_at, type_of_kind, with_attribute};
+ghost use Rattle.meaning_core.specs.Histories.{all_but, name_at, with_attribute};
 
-use point_core::{AnyType, Memory};
+use point_core::Memory;
 use std::alloc::Global;
 use std::cmp::Ordering;
 use value_core::{Heading, HeadingRefuse, Kind, Name, Positions};
@@ -21,6 +21,14 @@ pub(crate) fn position(list: &[(Name, Kind)], name: &Name) -> usize
         }
     }
     list.len()
+}
+
+/// A list of one position.
+pub(crate) fn one_position(alloc: Global, at: usize) -> Result<Positions, Memory>
+    ensures { IfOk result (λ p. p ≡ at ∷ []) }
+{
+    let list = vec![in alloc; at]?;
+    Ok(Positions { list })
 }
 
 /// The positions but one.
@@ -54,26 +62,6 @@ pub(crate) fn name_at(heading: &Heading, at: usize) -> &Name
     ensures { result.now ≡ name_at heading.now at }
 {
     &heading.attributes()[at].0
-}
-
-/// The type of a kind's points; the integers where there are none.
-fn type_of_kind(kind: Kind) -> AnyType
-    ensures { result ≡ type_of_kind kind }
-{
-    match kind {
-        Kind::Point(over) | Kind::Span(over) => over,
-        Kind::Truth | Kind::Char => AnyType::Integer,
-    }
-}
-
-/// The type of the points of the attribute at the position.
-pub(crate) fn type_at(heading: &Heading, at: usize) -> AnyType
-    ensures { result ≡ type_at heading.now at }
-{
-    match heading.attributes().get(at) {
-        Some(attribute) => type_of_kind(attribute.1),
-        None => AnyType::Integer,
-    }
 }
 
 /// Adds an attribute.

@@ -9,9 +9,8 @@ ghost use Rattle.meaning_core.specs.Histories.{last_point};
 ghost use Rattle.meaning_core.specs.Meanings.{positions_of};
 ghost use Rattle.since_during.specs.Histories.{all_in, declared_history, during_constraints, during_heading, key_in, rule_between, since_constraints, since_heading, view_of, IsHistoryData};
 
-use crate::headings::{name_at, position, with_attribute};
+use crate::headings::{name_at, one_position, position, with_attribute};
 use crate::joining::{Sides, joined_history};
-use crate::nodes;
 use point_core::{AnyType, Memory, Place, PointType};
 use scalar_core::{Scalar, ScalarForm};
 use std::alloc::Global;
@@ -104,11 +103,10 @@ fn packed_key(alloc: Global, h: &HistoryData, heading: &Heading) -> Result<Const
     ensures { IfOk result (λ c. c ≡ constraints.UKey (position_of heading.now h.now.span ∷ []) (key_in h.now heading.now ++ position_of heading.now h.now.span ∷ [])) }
 {
     let span = position(heading.attributes(), &h.span);
-    let mut acl = Vec::with_capacity(alloc, 1)?;
-    acl.push(span)?;
+    let acl = one_position(alloc, span)?;
     let mut key = key_in(alloc, h, heading)?;
     key.push(span)?;
-    Ok(Constraint::UKey(Positions { list: acl }, Positions { list: key }))
+    Ok(Constraint::UKey(acl, Positions { list: key }))
 }
 
 /// The rule between the two relvars of these headings.
@@ -186,7 +184,7 @@ fn view_tree(
     requires during { during.now ≡ during_heading h.now }
     ensures { IfOk result (λ t. read_tree t ≡ view_of h.now) }
 {
-    let own = nodes::named(alloc, h.place, since, &h.since)?;
+    let own = RelTree::of_name(alloc, h.place, since, &h.since)?;
     let sides = Sides {
         place: h.place,
         over: h.over,

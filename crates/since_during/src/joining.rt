@@ -1,16 +1,15 @@
 // The view of a history, over any expression of its since relvar's heading.
-ghost use Rattle.std.specs.Prelude.{◌≡◌, IfOk};
+ghost use Rattle.std.specs.Prelude.{◌≡◌, [], ◌∷◌, IfOk};
 ghost use Rattle.scalar_core.specs.Expressions.{read};
-ghost use Rattle.tree_core.specs.Trees.{read_tree};
+ghost use Rattle.tree_core.specs.Trees.{read_sets, read_tree};
 ghost use Rattle.since_during.specs.Sides.{ended, joined, lasting, narrowed, IsNarrow};
 
-use crate::headings::{all_but, position, with_attribute};
-use crate::nodes;
+use crate::headings::{all_but, one_position, position, with_attribute};
 use point_core::{AnyType, Memory, Place};
 use scalar_core::Scalar;
 use std::alloc::Global;
-use tree_core::RelTree;
-use value_core::{Heading, Kind, Name};
+use tree_core::{InfixWord, RelTree, Sets, attribute, closed_interval};
+use value_core::{Heading, Kind, ListOf, Name};
 
 /// The two relvars of a history as its view joins them: their headings, the attribute of the since relvar's points and that
 /// of the during relvar's intervals, the type of the points, the during relvar's name, and the place of the nodes.
@@ -30,7 +29,16 @@ fn lasting(alloc: Global, sides: Sides<'_>, at: Place, end: Scalar) -> Result<Sc
     ensures { IfOk result (λ e. read e ≡ lasting sides.entry at (read end)) }
 {
     let from = position(sides.since.attributes(), sides.point);
-    nodes::interval(alloc, at, sides.over, from, end)
+    closed_interval(alloc, at, sides.over, attribute(at, from), end)
+}
+
+/// A name with the expression of its value.
+fn one_set(alloc: Global, name: &Name, e: Scalar) -> Result<Sets, Memory>
+    ensures { IfOk result (λ s. read_sets s ≡ (name.now, read e) ∷ []) }
+{
+    let name = name.copy(alloc)?;
+    let list = vec![in alloc; (name, e)]?;
+    Ok(ListOf { list })
 }
 
 /// The rows with these intervals, without the points.
@@ -43,9 +51,11 @@ fn narrowed(
 ) -> Result<RelTree, Memory>
     ensures { IfOk result (λ r. read_tree r ≡ narrowed sides.entry wide.now (read e) (read_tree t)) }
 {
-    let rows = nodes::extend(alloc, sides.place, wide, sides.span, e, t)?;
+    let set = one_set(alloc, sides.span, e)?;
+    let rows = t.extended(alloc, sides.place, wide, set)?;
     let kept = all_but(alloc, position(wide.attributes(), sides.point), wide)?;
-    nodes::project(alloc, sides.place, sides.during, kept, rows)
+    let rows = rows.projected(alloc, sides.place, sides.during, kept)?;
+    Ok(rows)
 }
 
 /// The rows of an expression of the since relvar's heading as rows of the during relvar's: each lasts up to the end.
@@ -77,9 +87,9 @@ pub(crate) fn joined_history(
     ensures { IfOk result (λ r. read_tree r ≡ joined sides.entry at (read end) (read_tree t)) }
 {
     let more = ended(alloc, sides, at, end, t)?;
-    let own = nodes::named(alloc, sides.place, sides.during, sides.during_name)?;
-    let rows = nodes::union(alloc, sides.place, sides.during, own, more)?;
-    let swept = position(sides.during.attributes(), sides.span);
-    let rows = nodes::using(alloc, sides.place, sides.during, swept, rows)?;
+    let own = RelTree::of_name(alloc, sides.place, sides.during, sides.during_name)?;
+    let rows = own.joined(alloc, sides.place, sides.during, InfixWord::Union, more)?;
+    let swept = one_position(alloc, position(sides.during.attributes(), sides.span))?;
+    let rows = rows.under_using(alloc, sides.place, sides.during, swept)?;
     Ok(rows)
 }

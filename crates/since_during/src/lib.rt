@@ -5,7 +5,6 @@ mod endings;
 mod headings;
 mod histories;
 mod joining;
-mod nodes;
 mod relvars;
 
 pub use endings::terminate;

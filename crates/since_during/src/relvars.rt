@@ -1,39 +1,19 @@
 // The relvars and views of names, and what ties those of a history.
 ghost use Rattle.std.specs.Prelude.{◌≡◌, option_map};
-ghost use Rattle.tree_core.specs.Relvars.{constraints_if, heading_if, read_relvar, read_relvars, relvar_heading, relvar_named};
+ghost use Rattle.tree_core.specs.Relvars.{constraints_if, heading_if, read_relvar, read_relvars, relvar_named};
 ghost use Rattle.meaning_core.specs.Endings.{history_if, history_of};
 ghost use Rattle.meaning_core.specs.WellMade.{rule_among, IsBase};
 
 use tree_core::{Relvar, Relvars};
 use value_core::{Constraint, Heading, HistoryRule, Name};
 
-/// The relvar or view of the name.
-fn relvar_of<'a>(relvars: &'a Relvars, name: &Name) -> Option<&'a Relvar>
-    ensures { option_map (λ r. read_relvar r.now) result ≡ relvar_named (read_relvars relvars.now).relvars name.now }
-{
-    relvars.list.get(name)
-}
-
-/// The heading of a base relvar's value, or of a view's expression.
-fn heading_of(relvar: &Relvar) -> &Heading
-    ensures { result.now ≡ relvar_heading (read_relvar relvar.now) }
-{
-    match relvar {
-        Relvar::Base {
-            value,
-            constraints: _,
-        } => value.heading(),
-        Relvar::View { tree, history: _ } => &tree.heading,
-    }
-}
-
 /// The heading of the base relvar of the name.
 pub(crate) fn heading_named<'a>(relvars: &'a Relvars, name: &Name) -> &'a Heading
     requires { IsBase (relvar_named (read_relvars relvars.now).relvars name.now) }
     ensures { result.now ≡ heading_if (relvar_named (read_relvars relvars.now).relvars name.now) }
 {
-    match relvar_of(relvars, name) {
-        Some(relvar) => heading_of(relvar),
+    match relvars.named(name) {
+        Some(relvar) => relvar.heading(),
         None => unreachable!(),
     }
 }
@@ -58,7 +38,7 @@ fn history_if<'a>(relvar: Option<&'a Relvar>) -> Option<&'a (Name, Name)>
 pub(crate) fn history_of<'a>(relvars: &'a Relvars, name: &Name) -> Option<&'a (Name, Name)>
     ensures { option_map (λ n. n.now) result ≡ history_of (read_relvars relvars.now).relvars name.now }
 {
-    history_if(relvar_of(relvars, name))
+    history_if(relvars.named(name))
 }
 
 /// The first history rule among the constraints.
@@ -98,5 +78,5 @@ fn rule_if<'a>(relvar: Option<&'a Relvar>) -> Option<&'a HistoryRule>
 pub(crate) fn rule_of<'a>(relvars: &'a Relvars, name: &Name) -> Option<&'a HistoryRule>
     ensures { option_map (λ r. r.now) result ≡ rule_among (constraints_if (relvar_named (read_relvars relvars.now).relvars name.now)) }
 {
-    rule_if(relvar_of(relvars, name))
+    rule_if(relvars.named(name))
 }

@@ -1,7 +1,10 @@
 // Relvars and views.
+ghost use Rattle.std.specs.Prelude.{◌≡◌, option_map};
+ghost use Rattle.tree_core.specs.Relvars.{read_relvar, read_relvars, relvar_heading, relvar_named};
+
 use crate::tree::RelTree;
 use indexmap::IndexMap;
-use value_core::{Constraints, Name, OrdinalTypes, Relation};
+use value_core::{Constraints, Heading, Name, OrdinalTypes, Relation};
 
 /// A base relvar with its value and its constraints, or a view with its expression. The view of a history has the names of
 /// its since relvar and its during relvar.
@@ -17,9 +20,33 @@ pub enum Relvar {
     },
 }
 
+impl Relvar {
+    /// The heading of a base relvar's value, or of a view's expression.
+    pub fn heading(&self) -> &Heading
+        ensures { result.now ≡ relvar_heading (read_relvar self.now) }
+    {
+        match self {
+            Relvar::Base {
+                value,
+                constraints: _,
+            } => value.heading(),
+            Relvar::View { tree, history: _ } => &tree.heading,
+        }
+    }
+}
+
 /// The relvars and views by their names, and the declared ordinal types, each in the order of declaration.
 #[derive(Drop)]
 pub struct Relvars {
     pub list: IndexMap<Name, Relvar>,
     pub ordinals: OrdinalTypes,
+}
+
+impl Relvars {
+    /// The relvar or view of the name.
+    pub fn named(&self, name: &Name) -> Option<&Relvar>
+        ensures { option_map (λ r. read_relvar r.now) result ≡ relvar_named (read_relvars self.now).relvars name.now }
+    {
+        self.list.get(name)
+    }
 }

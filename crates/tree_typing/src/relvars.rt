@@ -2,14 +2,14 @@
 ghost use Rattle.std.specs.Prelude.{◌≡◌, IfOk, IfSome, option_map};
 ghost use Rattle.scalar_core.specs.Answers.{Gives};
 ghost use Rattle.utd_syntax.specs.Read.{read_name};
-ghost use Rattle.tree_core.specs.Relvars.{read_relvar, read_relvars, relvar_heading, relvar_named};
+ghost use Rattle.tree_core.specs.Relvars.{read_relvar, read_relvars, relvar_named};
 ghost use Rattle.tree_core.specs.Trees.{named, read_tree};
 ghost use Rattle.tree_typing.specs.Trees as rules;
 
 use point_core::{Code, Fault, Memory, Place, Stop};
 use relation_typing::name_typed;
 use std::alloc::Global;
-use tree_core::{RelForm, RelTree, Relvar, Relvars};
+use tree_core::{RelTree, Relvar, Relvars};
 use utd_syntax::Word;
 use value_core::{Heading, Name};
 
@@ -17,20 +17,7 @@ use value_core::{Heading, Name};
 pub fn relvar_of<'a>(relvars: &'a Relvars, name: &Name) -> Option<&'a Relvar>
     ensures { option_map (λ r. read_relvar r.now) result ≡ relvar_named (read_relvars relvars.now).relvars name.now }
 {
-    relvars.list.get(name)
-}
-
-/// The heading of a base relvar's value, or of a view's expression.
-fn heading_of(relvar: &Relvar) -> &Heading
-    ensures { result.now ≡ relvar_heading (read_relvar relvar.now) }
-{
-    match relvar {
-        Relvar::Base {
-            value,
-            constraints: _,
-        } => value.heading(),
-        Relvar::View { tree, history: _ } => &tree.heading,
-    }
+    relvars.named(name)
 }
 
 /// A name with its heading.
@@ -38,11 +25,7 @@ fn named(alloc: Global, place: Place, heading: &Heading, name: Name) -> Result<R
     ensures { IfOk result (λ t. read_tree t ≡ named place heading.now name) }
 {
     let heading = heading.copy(alloc)?;
-    Ok(RelTree {
-        place,
-        heading,
-        form: RelForm::Named(name),
-    })
+    Ok(RelTree::named(place, heading, name))
 }
 
 /// The typed tree of a relvar's or a view's name: E10 at it where there is none. A name out of its length is E06; the reading of
@@ -53,7 +36,7 @@ pub(crate) fn type_relvar(alloc: Global, word: &Word, relvars: &Relvars) -> Resu
     let name = name_typed(alloc, word)?;
     match relvar_of(relvars, &name) {
         Some(relvar) => {
-            let t = named(alloc, word.place, heading_of(relvar), name)?;
+            let t = named(alloc, word.place, relvar.heading(), name)?;
             Ok(t)
         }
         None => Err(Stop::Fault(Fault {

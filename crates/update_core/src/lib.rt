@@ -3,6 +3,9 @@
 
 mod conditions;
 mod items;
+mod kinds;
 mod rows;
 
+pub use conditions::{condition, negated};
 pub use items::expand;
+pub use kinds::type_at;
