@@ -3,7 +3,7 @@
 
     kernels.py [RUNS] [KIND ROWS]..
 
-Runs ./crates/box_benchmarks/out/box_benchmarks, which the gate builds, RUNS times (9 if it is not given); each run sorts the rows of both lists once and times each operator. Of each
+Runs ./crates/operator_benchmarks/out/operator_benchmarks, which the gate builds, RUNS times (9 if it is not given); each run sorts the rows of both lists once and times each operator. Of each
 the least and the middle run are told, in milliseconds and in sorts of the rows of both lists; and the middle one in sorts of the rows that the operator takes and gives, reckoned
 from that sort by rows times their logarithm. With no kinds named all are measured.
 """
@@ -14,7 +14,7 @@ import subprocess
 import sys
 
 ROOT = os.path.dirname(os.path.dirname(os.path.dirname(os.path.abspath(__file__))))
-PROGRAM = os.environ.get('KERNELS', f'{ROOT}/crates/box_benchmarks/out/box_benchmarks')
+PROGRAM = os.environ.get('KERNELS', f'{ROOT}/crates/operator_benchmarks/out/operator_benchmarks')
 CELLS = [(kind, rows)
          for kind, sizes in (('tenth', (1000, 10000, 100000)), ('one', (1000, 10000, 100000)), ('each', (1000, 10000, 100000)), ('cover', (1000, 10000)),
                              ('two', (300, 1000, 3000)), ('quarter', (1000, 10000, 100000)))
@@ -23,7 +23,7 @@ LINE = re.compile(r'(.+): (\d+) ns, \d+ hundredths of the sort, (\d+) rows')
 
 
 def run(kind, rows):
-    out = subprocess.run([PROGRAM, kind, str(rows)], capture_output=True, text=True, check=True).stdout
+    out = subprocess.run([PROGRAM, 'boxes', kind, str(rows)], capture_output=True, text=True, check=True).stdout
     return {name: (int(spent) / 1e6, int(count)) for name, spent, count in LINE.findall(out)}
 
 

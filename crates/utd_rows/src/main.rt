@@ -10,7 +10,7 @@ use std::alloc::Global;
 use std::{fs, io};
 
 /// The files of data/, by subject.
-const FILES: [&str; 40] = [
+const FILES: [&str; 43] = [
     "arranged.txt",
     "ask.txt",
     "assign.txt",
@@ -28,6 +28,8 @@ const FILES: [&str; 40] = [
     "item.txt",
     "join.txt",
     "kept.txt",
+    "limit_database.txt",
+    "limit_expression.txt",
     "list.txt",
     "list_constraint.txt",
     "literal.txt",
@@ -39,6 +41,7 @@ const FILES: [&str; 40] = [
     "questions.txt",
     "relation.txt",
     "relvar.txt",
+    "run.txt",
     "scalar.txt",
     "script.txt",
     "source.txt",

@@ -1,4 +1,4 @@
-// The rows of a file: `=== title`, the lines of a script, `--- status`, and the lines that it writes.
+// The rows of a file: `=== title`, the lines of a script, which may be written short, `--- status`, and the lines that it writes.
 use std::alloc::{AllocError, Global};
 
 /// A script, what it writes, and its status, which is 99 where none is written.

@@ -4,15 +4,15 @@ use std::alloc::{AllocError, Global};
 use std::marker::Brand;
 use std::sync::ledger::Blank;
 use utd_io::{MemorySink, MemorySource};
-use utd_tests::status;
+use utd_tests::{status, whole};
 
 /// The most bytes that a script of a row writes.
 const ROOM: usize = 20_000;
 
-/// Whether the script comes out right where it is read and written in pieces of so many bytes.
-fn is_right(alloc: Global, row: &Row, piece: usize) -> Result<bool, AllocError> {
+/// Whether the script of the row comes out right where it is read and written in pieces of so many bytes.
+fn is_right(alloc: Global, row: &Row, script: &str, piece: usize) -> Result<bool, AllocError> {
     let piece = piece.max(1);
-    let script = row.script.as_bytes().to_vec(alloc)?;
+    let script = script.as_bytes().to_vec(alloc)?;
     let mut input = MemorySource::new(script, piece, Vec::new(alloc));
     let mut out = MemorySink::new(vec![in alloc; 0u8; ROOM]?, piece, Vec::new(alloc));
     let mut err = MemorySink::new(Vec::new(alloc), 100, Vec::new(alloc));
@@ -20,11 +20,17 @@ fn is_right(alloc: Global, row: &Row, piece: usize) -> Result<bool, AllocError> 
     Ok(status == row.status && *out.bytes() == *row.output.as_bytes() && err.bytes().is_empty())
 }
 
-/// The first length of pieces in which the script comes out wrong.
+/// The first length of pieces in which the script comes out wrong. One that is written short, since it is long, is run once.
 pub(crate) fn first_wrong_piece(alloc: Global, row: &Row) -> Result<Option<usize>, AllocError> {
-    for piece in [1, 7, 13, 65_536] {
-        if !is_right(alloc, row, piece)? {
-            return Ok(Some(piece));
+    let script = whole(alloc, row.script.as_str())?;
+    let pieces: &[usize] = if script.len() == row.script.len() {
+        &[1, 7, 13, 65_536]
+    } else {
+        &[13]
+    };
+    for piece in pieces {
+        if !is_right(alloc, row, script.as_str(), *piece)? {
+            return Ok(Some(*piece));
         }
     }
     Ok(None)

@@ -1,12 +1,13 @@
-use super::*;
+// Streams that fail, words, bytes that are no text, and scripts at the limit of length.
+use crate::{outcome, status};
+use std::alloc::Global;
 use std::marker::Brand;
+use std::sync::ledger::Blank;
 use std::test::Fail;
-use utd_io::Source;
+use utd_io::{MemorySink, MemorySource, Source};
 
 const PACK: &[u8] =
     b"PRINT PACK RELATION {TUPLE {S 1, D [4:6]}, TUPLE {S 1, D [1:3]}, TUPLE {S 1, D [8:9]}} ON (D);";
-
-const PACKED: &[u8] = b"| D     | S |\n| [1:6] | 1 |\n| [8:9] | 1 |\nrows: 2\n";
 
 const MOST_BYTES: usize = 16_777_216;
 
@@ -38,56 +39,11 @@ const PLAIN: Example = Example {
     status: 0,
 };
 
-fn examples() -> [Example; 34] {
+fn examples() -> [Example; 16] {
     [
-        Example {
-            // an empty script
-            ..PLAIN
-        },
         Example {
             // empty statements
             script: b";;\n; /* a */ ;\t\r\n;",
-            ..PLAIN
-        },
-        Example {
-            // packing
-            script: PACK,
-            output: PACKED,
-            ..PLAIN
-        },
-        Example {
-            // pieces of one byte
-            script: PACK,
-            read_piece: 1,
-            write_piece: 1,
-            output: PACKED,
-            ..PLAIN
-        },
-        Example {
-            // refusals
-            script: b"PRINT PACK RELATION {TUPLE {S 1, D [3:2]}} ON (D); ; PRINT X;",
-            output: b"statement 1 refused: E33 empty interval at 1:36\nstatement 3 refused: E10 unknown name at 1:60\n",
-            status: 1,
-            ..PLAIN
-        },
-        Example {
-            // a rest, and a statement after a refused one
-            script: b"#;PRINT PACK RELATION {TUPLE {S 7, D [0:0]}} ON (D);\n x",
-            output: b"statement 1 refused: E01 not a statement at 1:1\n| D     | S |\n| [0:0] | 7 |\nrows: 1\nstatement 3 refused: E04 statement not ended\n",
-            status: 1,
-            ..PLAIN
-        },
-        Example {
-            // words are longest
-            script: b"PRINT PACK RELATION {TUPLE {S1, D [0:0]}} ON (D);PRINT PACK RELATION {TUPLE {S 1, D [0:0]}} ON (D_);",
-            output: b"statement 1 refused: E01 not a statement at 1:31\nstatement 2 refused: E14 no such attribute at 1:97\n",
-            status: 1,
-            ..PLAIN
-        },
-        Example {
-            // columns as wide as their widest text
-            script: b"PRINT PACK RELATION {TUPLE {S 999999999999999999,D[0:1]},TUPLE{S 3,D[2:2]},TUPLE{S 3,D[3:3]}}ON(D);\tPRINT PACK RELATION {TUPLE {S -1, D [-3:10]}} ON (D);",
-            output: b"| D     | S                  |\n| [0:1] | 999999999999999999 |\n| [2:3] | 3                  |\nrows: 2\n| D       | S  |\n| [-3:10] | -1 |\nrows: 1\n",
             ..PLAIN
         },
         Example {
@@ -144,21 +100,6 @@ fn examples() -> [Example; 34] {
             ..PLAIN
         },
         Example {
-            // the least rest
-            script: b"_",
-            output: b"statement 1 refused: E04 statement not ended\n",
-            status: 1,
-            ..PLAIN
-        },
-        Example {
-            // a `;` in a text and in comments ends nothing
-            script: b"PRINT RELATION {TUPLE {T 'a;''b'}} /* ; */ ; // ;\nPRINT\n",
-            read_piece: 7,
-            output: b"| T       |\n| 'a;''b' |\nrows: 1\nstatement 2 refused: E04 statement not ended\n",
-            status: 1,
-            ..PLAIN
-        },
-        Example {
             // a read that fails after two statements and a part of the third
             script: b"PRINT RELATION {TUPLE {N 1}};\nPRINT X;\nPRI",
             read_piece: 42,
@@ -205,69 +146,6 @@ fn examples() -> [Example; 34] {
             script: b"PRINT\nPRINT \xc3\xff;;\nPRINT 5;",
             read_piece: 13,
             output: b"statement 1 refused: E02 not UTF-8 at 2:7\nstatement 3 refused: E01 not a statement at 3:7\n",
-            status: 1,
-            ..PLAIN
-        },
-        Example {
-            // an integer that is out of range
-            script: b"PRINT RELATION {TUPLE {N 9223372036854775808}};",
-            read_piece: 1,
-            output: b"statement 1 refused: E06 literal out of range at 1:26\n",
-            status: 1,
-            ..PLAIN
-        },
-        Example {
-            // a 65th level
-            script: b"PRINT (((((((((((((((((((((((((((((((((((((((((((((((((((((((((((((((((X)))))))))))))))))))))))))))))))))))))))))))))))))))))))))))))))));",
-            output: b"statement 1 refused: E05 nested too deep at 1:71\n",
-            status: 1,
-            ..PLAIN
-        },
-        Example {
-            // the first empty interval of two, and a list of the wrong kind
-            script: b"PRINT PACK RELATION {TUPLE {S 1, D [1:2]},\nTUPLE {S 1, D [4:3]}, TUPLE {S 1, D [6:5]}} ON (D);PRINT UNPACK RELATION {TUPLE {S -1, D [1:2]}} ON (S);",
-            output: b"statement 1 refused: E33 empty interval at 2:15\nstatement 2 refused: E16 not an interval at 2:102\n",
-            status: 1,
-            ..PLAIN
-        },
-        Example {
-            // rows with one D by S
-            script: b"PRINT PACK RELATION {TUPLE {S 20, D [1:2]}, TUPLE {S 3, D [1:2]}, TUPLE {S 3, D [2:2]}} ON (D);",
-            output: b"| D     | S  |\n| [1:2] | 3  |\n| [1:2] | 20 |\nrows: 2\n",
-            ..PLAIN
-        },
-        Example {
-            // plain operators
-            script: b"PRINT (RELATION {TUPLE {A 1, D [2:3]}} JOIN RELATION {TUPLE {A 1, B DATE '2012-02-28'}}) {ALL BUT A};PRINT SUMMARIZE RELATION {TUPLE {A 1, N 5}, TUPLE {A 1, N 6}, TUPLE {A 2, N 7}} BY {A}: {S := SUM(N), C := COUNT()};",
-            output: b"| B          | D     |\n| 2012-02-28 | [2:3] |\nrows: 1\n| A | C | S  |\n| 1 | 2 | 11 |\n| 2 | 1 | 7  |\nrows: 2\n",
-            ..PLAIN
-        },
-        Example {
-            // tests
-            script: b"ASK RELATION {TUPLE {N 1}} = RELATION {TUPLE {N 1}}; ASK IS_EMPTY(RELATION {TUPLE {N 1}});",
-            read_piece: 5,
-            output: b"TRUE\nFALSE\n",
-            ..PLAIN
-        },
-        Example {
-            // a refusal of names and one of kinds, and a fault
-            script: b"ASK IS_EMPTY(X);\nPRINT RELATION {TUPLE {N 1}} WHERE N + 1;\nPRINT RELATION {TUPLE {N 1 / 0}};",
-            output: b"statement 1 refused: E10 unknown name at 1:14\nstatement 2 refused: E12 wrong type at 2:30\nstatement 3 refused: E31 division by zero at 3:28\n",
-            status: 1,
-            ..PLAIN
-        },
-        Example {
-            // points of intervals, and a condition that cannot be asked of them
-            script: b"ASK USING (D): RELATION {TUPLE {D [1:2]}} = RELATION {TUPLE {D [1:2]}};PRINT USING (D): RELATION {TUPLE {D [1:2]}} WHERE D = D;VAR R RELATION {D INTERVAL(INTEGER)} PACKED ON (D);",
-            output: b"TRUE\nstatement 2 refused: E18 not sweepable at 1:122\n",
-            status: 1,
-            ..PLAIN
-        },
-        Example {
-            // a relvar that is declared, filled, shown and dropped
-            script: b"VAR R RELATION {A INTEGER} KEY {A};INSERT R RELATION {TUPLE {A 1}};PRINT R;INSERT R RELATION {TUPLE {A 1}}, UPDATE R: {A := A / 0};DROP VAR R;PRINT R;",
-            read_piece: 3,
-            output: b"| A |\n| 1 |\nrows: 1\nstatement 4 refused: E31 division by zero at 1:127\nstatement 6 refused: E10 unknown name at 1:149\n",
             status: 1,
             ..PLAIN
         },

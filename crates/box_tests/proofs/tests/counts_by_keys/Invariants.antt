@@ -1,4 +1,0 @@
-use Rattle.box_tests.proofs.tests.counts_by_keys.Given as goal
-
-abbrev pub ghosts-counted : goal.ghosts-counted
-ghosts-counted g a = record { name = a.blank.name; parts = a.blank.parts }

@@ -1,4 +1,0 @@
-use Rattle.cell_tests.proofs.tests.packs_on_two_sides.Given as goal
-
-abbrev pub ghosts-packed : goal.ghosts-packed
-ghosts-packed g a = record { name = a.blank.name; parts = a.blank.parts }

@@ -1,4 +1,0 @@
-use Rattle.constraint_tests.proofs.tests.is_broken_where_the_same_facts_went_on.Given as goal
-
-abbrev pub ghosts-is_broken : goal.ghosts-is_broken
-ghosts-is_broken g a = record { name = a.blank.name; parts = a.blank.parts }

@@ -1,6 +1,0 @@
-use Rattle.relation_benchmarks.specs.Integers.{last_of}
-use Rattle.relation_benchmarks.specs.contracts.operators.fn.last_rows.f as closure
-use Rattle.relation_benchmarks.proofs.operators.last_rows.Given as goal
-
-abbrev pub ghost-summarize : goal.ghost-summarize
-ghost-summarize a = λ g. last_of (closure.captures a.f.now).rows.now g

@@ -1,4 +1,0 @@
-use Rattle.row_tests.proofs.tests.gives_each_third_its_own.Given as goal
-
-abbrev pub ghosts-ruled : goal.ghosts-ruled
-ghosts-ruled g a = record { name = a.blank.name; parts = a.blank.parts }

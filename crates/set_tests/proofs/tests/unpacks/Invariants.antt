@@ -1,4 +1,0 @@
-use Rattle.set_tests.proofs.tests.unpacks.Given as goal
-
-abbrev pub ghosts-unpacked_spans : goal.ghosts-unpacked_spans
-ghosts-unpacked_spans g a = record { name = a.blank.name; parts = a.blank.parts }
