@@ -17,7 +17,7 @@ use point_core::{Label, Memory};
 use std::alloc::Global;
 
 // So many rows at most are looked at after a row, to see whether it is parted from the rest.
-const MOST_NEAR: usize = 16;
+const MOST_ROWS_LOOKED_AT: usize = 16;
 
 // The cells of the row on the side.
 fn span(boxes: &[IndexBox], row: usize, side: usize) -> (usize, usize)
@@ -99,7 +99,7 @@ fn is_parted_near(boxes: &[IndexBox], sides: usize, row: usize, other: usize) ->
     !ends_before(boxes, row, other) && are_parted(boxes, sides, row, other)
 }
 
-// Whether the live row is parted from those after it; `MOST_NEAR` of them are looked at, at most.
+// Whether the live row is parted from those after it; `MOST_ROWS_LOOKED_AT` of them are looked at, at most.
 fn is_clear(boxes: &[IndexBox], sides: usize, live: &[usize], at: usize) -> bool
     requires at { at < length live.now }
     requires rows { All (λ r. r < length boxes.now) live.now }
@@ -110,7 +110,7 @@ fn is_clear(boxes: &[IndexBox], sides: usize, live: &[usize], at: usize) -> bool
     let row = live[at];
     let mut next = at + 1;
     while next < live.len()
-        && next - at <= MOST_NEAR
+        && next - at <= MOST_ROWS_LOOKED_AT
         && is_parted_near(boxes, sides, row, live[next])
     {
         next += 1;
