@@ -1,4 +1,4 @@
-"""Functions by their bodies and the types of their parameters: without comments and white space, and with parameters and local names by their order."""
+"""Functions by their bodies and the types of their parameters: without comments and white space, parameters and local names by their order."""
 import re
 
 from tree import product_files

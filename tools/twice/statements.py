@@ -1,13 +1,16 @@
 """Lemmas by their statements, and definitions by their texts: names of variables by their order, other names by where they come from."""
 import re
+from typing import NamedTuple
 
 from tree import product_files
 
 USE = re.compile(r'^use (?:pub )?Rattle\.(([a-z_0-9]+)\.[^ {]*?)\.?(?:\{([^}]*)\}| as (\S+)|)$', re.M)
 DECLARED = re.compile(r'^( *)((?:pub |unfoldable |abbrev |private |opaque )*)([^\s:(){}]+) :(?= |$)')
 MODULE = re.compile(r'^( *)(?:pub )?module \S+(.*)$')
+TYPE = re.compile(r'^ *(?:pub )?(?:record|data) (?:pub )?([^\s:(){}]+)', re.M)
 WORD = re.compile(r'[(){}\[\],;|]|[^\s(){}\[\],;|]+')
 OPENS = {'(': ')', '{': '}', '[': ']'}
+NO_NAMES = {*OPENS, *OPENS.values(), ':', ',', ';', '|', '→', '×', 'λ'}
 # what a type says that is a statement, and no type of values
 SAYS = re.compile(r'[≡≤<≥>↔×⊎≢]|⊥')
 
@@ -27,48 +30,61 @@ def imports_of(text):
     return origins
 
 
+class Item(NamedTuple):
+    """A name that a file or a module of it declares."""
+    line: int
+    defines: bool
+    name: str
+    modules: list  # the telescopes of the modules around
+    kind: str
+    whole: str  # type and clauses
+
+
+def indent_of(line):
+    return len(line) - len(line.lstrip(' '))
+
+
+def end_of(lines, at, indent, name):
+    """Behind the lines that are deeper, blank, or clauses of the name."""
+    while at < len(lines):
+        line = lines[at]
+        first = re.split(r'[ (]', line.lstrip(' '), maxsplit=1)[0]
+        if line.strip() and indent_of(line) <= indent and first not in (name, 'unfolding'):
+            break
+        at += 1
+    return at
+
+
 def declared(text):
-    """(line, whether it is a definition, name, telescopes of the modules around, type, whole text) of each name at the head of a file or module."""
+    """The items at the head of a file or of a module."""
     lines = without_comments(text).split('\n')
     modules = []  # (indent of its items, telescope)
     at = 0
     while at < len(lines):
-        line = lines[at]
+        line, begin = lines[at], at
+        at += 1
         if not line.strip():
-            at += 1
             continue
-        indent = len(line) - len(line.lstrip(' '))
-        while modules and indent < modules[-1][0]:
+        while modules and indent_of(line) < modules[-1][0]:
             modules.pop()
-        level = modules[-1][0] if modules else 0
-        if indent != level:
-            at += 1
+        indent = indent_of(line)
+        if indent != (modules[-1][0] if modules else 0):
             continue
-        module = MODULE.match(line)
+        module, head = MODULE.match(line), DECLARED.match(line)
         if module:
             telescope = module[2]
             while not telescope.rstrip().endswith('where'):
-                at += 1
                 telescope += ' ' + lines[at].strip()
+                at += 1
             modules.append((indent + 2, telescope.rstrip()[:-len('where')]))
-            at += 1
-            continue
-        head = DECLARED.match(line)
-        if not head:
-            at += 1
-            continue
-        begin = at
-        parts = [line[head.end():]]
-        at += 1
-        while at < len(lines) and lines[at].strip() and len(lines[at]) - len(lines[at].lstrip(' ')) > indent:
-            parts.append(lines[at].strip())
-            at += 1
-        rest = []
-        end = at
-        while end < len(lines) and (not lines[end].strip() or len(lines[end]) - len(lines[end].lstrip(' ')) > indent or lines[end].lstrip(' ').split(' ')[0].split('(')[0] == head[3]):
-            rest.append(lines[end])
-            end += 1
-        yield begin + 1, 'abbrev' in head[2] or 'unfoldable' in head[2], head[3], [telescope for _, telescope in modules], ' '.join(parts), ' '.join(' '.join(parts + rest).split())
+        elif head:
+            while at < len(lines) and lines[at].strip() and indent_of(lines[at]) > indent:
+                at += 1
+            kind = ' '.join([line[head.end():]] + lines[begin + 1:at])
+            end = end_of(lines, at, indent, head[3])
+            whole = ' '.join(' '.join([kind] + lines[at:end]).split())
+            defines = 'abbrev' in head[2] or 'unfoldable' in head[2]
+            yield Item(begin + 1, defines, head[3], [telescope for _, telescope in modules], kind, whole)
 
 
 def binder(words, at):
@@ -76,7 +92,7 @@ def binder(words, at):
     if words[at] not in ('(', '{'):
         return None
     close, end = OPENS[words[at]], at + 1
-    while end < len(words) and words[end] not in OPENS and words[end] not in OPENS.values() and words[end] not in (':', ',', ';', '|', '→', '×', 'λ'):
+    while end < len(words) and words[end] not in NO_NAMES:
         end += 1
     if end >= len(words) or end == at + 1:
         return None
@@ -187,8 +203,8 @@ def used(groups, words, said_by_proof):
 def said_by(items):
     """Name -> the words of its statement and proof, and of what stands in the file that these say."""
     direct = {}
-    for _, _, name, _, _, whole in items:
-        direct.setdefault(name, set()).update(word.split('.')[0] for word in WORD.findall(whole))
+    for item in items:
+        direct.setdefault(item.name, set()).update(word.split('.')[0] for word in WORD.findall(item.whole))
     whole = {}
     for name in direct:
         seen, rest = set(), {name}
@@ -219,37 +235,34 @@ def is_statement(words):
     return bool(re.match(r'Is|Are|Has|Have|In$|All|Contains|Gives|OnOk|OnErr|IfOk|Decides|[A-Z][a-z]+s$', end[0])) if end else False
 
 
-def lemma_forms(crate, path, text):
+def form_of(item, place, origins, own, said_by_proof, words):
+    around = [group for telescope in item.modules for group in groups_of(telescope)]
+    form = Form(place, origins, own)
+    form.add(used(around, words, said_by_proof) + words, {})
+    return ' '.join(form.out)
+
+
+def lemma_forms(path, text):
     """(form, line, name) of each lemma of a file."""
-    bare = without_comments(text)
     origins = imports_of(text)
     items = list(declared(text))
     said = said_by(items)
-    own = {name for _, _, name, *_ in items} | set(re.findall(r'^ *(?:pub )?(?:record|data) (?:pub )?([^\s:(){}]+)', bare, re.M))
-    for line, defines, name, modules, kind, _ in items:
-        if defines:
-            continue
-        words = WORD.findall(kind)
-        if not is_statement(words):
-            continue
-        around = [group for telescope in modules for group in groups_of(telescope)]
-        form = Form(path, origins, own)
-        form.add(used(around, words, said[name]) + words, {})
-        yield ' '.join(form.out), line, name
+    own = {item.name for item in items} | set(TYPE.findall(without_comments(text)))
+    for item in items:
+        words = WORD.findall(item.kind)
+        if not item.defines and is_statement(words):
+            yield form_of(item, path, origins, own, said[item.name], words), item.line, item.name
 
 
 def all_lemmas():
     for crate, path, text in product_files('proofs/*.antt'):
-        for form, line, name in lemma_forms(crate, path, text):
+        for form, line, name in lemma_forms(path, text):
             yield form, crate, path, line, name
 
 
 def all_definitions():
     for crate, path, text in product_files('specs/**/*.antt'):
         origins = imports_of(text)
-        for line, _, name, modules, _, whole in declared(text):
-            around = [group for telescope in modules for group in groups_of(telescope)]
-            words = WORD.findall(whole)
-            form = Form(path, origins, set())
-            form.add(used(around, words, set()) + words, {})
-            yield f'{name} : ' + ' '.join(form.out), crate, path, line, name
+        for item in declared(text):
+            form = form_of(item, path, origins, set(), set(), WORD.findall(item.whole))
+            yield f'{item.name} : {form}', crate, path, item.line, item.name

@@ -10,7 +10,7 @@ def body(text):
 
 
 def lemmas(text, path='proofs/A.antt'):
-    return {name: form for form, _, name in lemma_forms('a', path, text)}
+    return {name: form for form, _, name in lemma_forms(path, text)}
 
 
 ONE = '''pub fn first(list: &[usize], sought: usize) -> usize
@@ -58,6 +58,7 @@ module _ {X : Type 0} (xs : List X) (short : IsShort xs) where
   held = short
 
   kept : (n : ℕ) → IsShort xs
+  unfolding IsShort
   kept n = held
 '''
 

@@ -53,7 +53,7 @@ same_ok : (a b : Row) (r s : OrFault Row) → r ≡ Ok a → s ≡ Ok b → r �
 same_ok a b r s p q h = cc
 
 -- all of a list, where none has a fault
-all_made : (f : Row → OrFault Row) (xs vs : List Row) → least_of_all fault_order (map f xs) ≡ Ok vs → (y : Row) → In y vs ↔ ((x : Row) × In x xs × (f x ≡ Ok y))
+pub all_made : (f : Row → OrFault Row) (xs vs : List Row) → least_of_all fault_order (map f xs) ≡ Ok vs → (y : Row) → In y vs ↔ ((x : Row) × In x xs × (f x ≡ Ok y))
 all_made f xs vs h y =
     let each : map f xs ≡ map (λ v. Ok v) vs = first_of_all-Ok (map f xs) vs ((least_of_all-Ok fault_order fault_total (map f xs) vs).0 h) in (
       λ m.

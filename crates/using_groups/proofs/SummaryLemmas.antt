@@ -10,7 +10,7 @@ use Rattle.std.proofs.lemmas.Int.{ints}
 use Rattle.std.proofs.lemmas.List.{length-map}
 use Rattle.base_core.specs.Outcomes.{then_give, least_of_all}
 use Rattle.base_core.proofs.MemberLemmas.{In-map, In-filter, list_all-In}
-use Rattle.base_core.proofs.OutcomeLemmas.{least_of_all-Ok, first_of_all-Ok, length-first_of_all}
+use Rattle.base_core.proofs.OutcomeLemmas.{length-first_of_all}
 use Rattle.base_core.proofs.SetLemmas.{In, Ascends, In-in_order, Ascends-in_order, Ascends-from_sorted, in_after}
 use Rattle.base_core.proofs.SetOperatorLemmas.{Ascends-filter}
 use Rattle.point_core.specs.Faults.{OrFault}
@@ -47,6 +47,7 @@ use Rattle.using_core.specs.PlaceRows.{unpacked_places, point_has, within_has}
 use Rattle.using_core.proofs.FaultLemmas.{least_over}
 use Rattle.scalar_core.proofs.AtPlaceLemmas.{at_place-fits}
 use Rattle.slice_core.proofs.Turns.{least_iff}
+use Rattle.using_core.proofs.ExtensionLemmas.{all_made}
 use Rattle.using_groups.specs.Labels.{group_label}
 use Rattle.using_groups.proofs.OrderLemmas.{AreApart, HaveSame, counted, weights_same}
 use Rattle.using_groups.proofs.AggregateLemmas.{aggregates_same, aggregates_placed}
@@ -94,20 +95,6 @@ one_row x y r p q = let h : Ok x ≡ Ok y = sym p ∙ q in cc
 
 not_both : (x : Row) (e : Fault) (r : OrFault Row) → r ≡ Ok x → r ≡ Err e → ⊥
 not_both x e r p q = let h : Ok x ≡ Err e = sym p ∙ q in cc
-
--- the rows that are given of all keys
-given_of : (g : Row → OrFault Row) (ks vs : List Row) → least_of_all fault_order (map g ks) ≡ Ok vs → (y : Row) → In y vs ↔ ((k : Row) × In k ks × (g k ≡ Ok y))
-given_of g ks vs h y =
-    let all : map g ks ≡ map (λ v. Ok v) vs = first_of_all-Ok (map g ks) vs ((least_of_all-Ok fault_order fault_total (map g ks) vs).0 h) in (
-      λ m.
-          let n : In (Ok y) (map g ks) = subst (λ (zs : List (OrFault Row)). In (Ok y) zs) (sym all) ((In-map (λ v. Ok v) (Ok y) vs).1 (y, m, refl)) in
-          let w = (In-map g (Ok y) ks).0 n in
-          (w.0, w.1, sym w.2),
-      λ w.
-          let n : In (Ok y) (map (λ v. Ok v) vs) = subst (λ (zs : List (OrFault Row)). In (Ok y) zs) all ((In-map g (Ok y) ks).1 (w.0, w.1, sym w.2)) in
-          let v = (In-map (λ v. Ok v) (Ok y) vs).0 n in
-          subst (λ z. In z vs) (sym (one_row y v.0 (Ok y) refl v.2)) v.1,
-    )
 
 module _ (sizes : List ℕ) (from to : Heading) (by : List ℕ) (aggregates : List PlainAggregate) (headed : IsTrue (is_heading from)) (is : IsSummary sizes from to by aggregates)
     (acl ls : List ℕ) (intervals_to : AreIntervals to acl) (intervals : AreIntervals from ls) (listed_is : ls ≡ positions_of from (names_at to acl))
@@ -319,7 +306,7 @@ module _ (sizes : List ℕ) (from to : Heading) (by : List ℕ) (aggregates : Li
     in_given : (y : Row) → In y given ↔ ((k : Row) × In k all_keys × (given_key k ≡ Ok y))
     in_given y =
         let o = In-in_order row_cmp row_total row_separates y vs in
-        let n = given_of given_key all_keys vs all y in
+        let n = all_made given_key all_keys vs all y in
         (λ m. n.0 (o.0 m), λ w. o.1 (n.1 w))
 
     -- each is that of a group at a place
