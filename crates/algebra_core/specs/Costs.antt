@@ -9,7 +9,7 @@ use Rattle.tree_core.specs.Trees.{Tree, named, literal, infix_of, project, renam
 use Rattle.cell_core.specs.Costs.{bound}
 use Rattle.meaning_core.specs.Meanings.{Known, RowsMeant, Around, plainly, in_using, positions_of, names_at, meaning, relvar_meaning}
 use Rattle.meaning_core.specs.Names.{found, each_in}
-use Rattle.using_core.specs.Cells.{cells_of_all, scalars_of}
+use Rattle.eval_using.specs.Cells.{cells_of_all, scalars_of}
 
 -- what names mean, with the steps that they take
 abbrev pub Priced : Type 0
@@ -55,11 +55,11 @@ tree_cost prices around (extend place heading sets t) =
     tree_cost prices plainly t + paid (meaning (known_of prices) plainly t) (rule_cost around (heading_of t) (scalars_of sets))
 tree_cost prices around (summarize place heading by aggregates t) =
     tree_cost prices plainly t + paid (meaning (known_of prices) plainly t) (λ a. operator_cost around (length a))
-tree_cost prices around (pack place heading acl t) =
-    tree_cost prices plainly t + paid (meaning (known_of prices) plainly t) (λ a. bound (length a) (length acl))
-tree_cost prices around (unpack place heading acl t) =
-    tree_cost prices plainly t + paid (meaning (known_of prices) plainly t) (λ a. bound (length a) (length acl))
-tree_cost prices around (using place heading acl t) = tree_cost prices (in_using place (names_at (heading_of t) acl)) t
+tree_cost prices around (pack place heading commalist t) =
+    tree_cost prices plainly t + paid (meaning (known_of prices) plainly t) (λ a. bound (length a) (length commalist))
+tree_cost prices around (unpack place heading commalist t) =
+    tree_cost prices plainly t + paid (meaning (known_of prices) plainly t) (λ a. bound (length a) (length commalist))
+tree_cost prices around (using place heading commalist t) = tree_cost prices (in_using place (names_at (heading_of t) commalist)) t
 
 -- ---- in a state
 
@@ -81,12 +81,12 @@ cost_in entries t = tree_cost (prices_in entries) plainly t
 
 abbrev pub comparison_cost : Option (List ℕ) → ℕ → ℕ
 comparison_cost None n = 0
-comparison_cost (Some acl) n = bound n (length acl)
+comparison_cost (Some commalist) n = bound n (length commalist)
 
 abbrev pub cost_of_test : Prices → Test → ℕ
-cost_of_test prices (relate place word acl l r) =
+cost_of_test prices (relate place word commalist l r) =
     tree_cost prices plainly l + paid (meaning (known_of prices) plainly l) (λ a.
-    tree_cost prices plainly r + paid (meaning (known_of prices) plainly r) (λ b. comparison_cost acl (length a + length b)))
+    tree_cost prices plainly r + paid (meaning (known_of prices) plainly r) (λ b. comparison_cost commalist (length a + length b)))
 cost_of_test prices (is_empty place t) = tree_cost prices plainly t
 cost_of_test prices (is_not_empty place t) = tree_cost prices plainly t
 

@@ -16,11 +16,11 @@ ghost use Rattle.meaning_core.specs.WellMade.{IsWellMade, IsTypedFor, IsTypedTes
 use crate::evaluation::{answer, operand};
 use crate::scope::Scope;
 use crate::surrounding::Surrounding;
+use eval_using::compared;
 use point_core::{Steps, Stop};
 use std::alloc::Global;
 use std::sync::ledger::Ledger;
 use tree_core::{RelTest, RelTree, RelateWord, Relvars, TestForm};
-use using_core::compared;
 use value_core::{Name, Positions, Relation};
 
 /// The relation of an expression where these are the relvars and views, or its first fault. Where a base relvar and a value are
@@ -69,7 +69,9 @@ pub fn test<L: Ledger>(
         before: relvars.list.len(),
     };
     match &test.form {
-        TestForm::Relate(word, acl, l, r) => related(alloc, *word, acl, l, r, &scope, steps),
+        TestForm::Relate(word, commalist, l, r) => related(
+            alloc, *word, commalist, l, r, &scope, steps,
+        ),
         TestForm::IsEmpty(t) => is_empty(alloc, t, &scope, steps),
         TestForm::IsNotEmpty(t) => is_not_empty(alloc, t, &scope, steps),
     }
@@ -79,7 +81,7 @@ pub fn test<L: Ledger>(
 fn related<L: Ledger>(
     alloc: Global,
     word: RelateWord,
-    acl: &Option<Positions>,
+    commalist: &Option<Positions>,
     l: &RelTree,
     r: &RelTree,
     scope: &Scope<'_>,
@@ -88,33 +90,40 @@ fn related<L: Ledger>(
     requires left { CanEvaluate scope.now (read_tree l.now) }
     requires right { CanEvaluate scope.now (read_tree r.now) }
     requires alike { heading_of (read_tree l.now) ≡ heading_of (read_tree r.now) }
-    requires list { IsListIf (heading_of (read_tree l.now)) acl.now }
-    ensures value { (place : _) → Answers result (truth_of (known_at scope.now) (relate place word acl.now (read_tree l.now) (read_tree r.now))) }
-    ensures cost { (place : _) → steps.new ≤ steps.old + cost_of_test (prices_at scope.now) (relate place word acl.now (read_tree l.now) (read_tree r.now)) }
+    requires list { IsListIf (heading_of (read_tree l.now)) commalist.now }
+    ensures value { (place : _) → Answers result (truth_of (known_at scope.now) (relate place word commalist.now (read_tree l.now) (read_tree r.now))) }
+    ensures cost { (place : _) → steps.new ≤ steps.old + cost_of_test (prices_at scope.now) (relate place word commalist.now (read_tree l.now) (read_tree r.now)) }
 {
     let left = operand(alloc, l, scope, steps)?;
     let right = operand(alloc, r, scope, steps)?;
-    compared_on(alloc, word, acl, left.relation(), right.relation(), steps)
+    compared_on(
+        alloc,
+        word,
+        commalist,
+        left.relation(),
+        right.relation(),
+        steps,
+    )
 }
 
 // Whether two relations stand as the word says, unpacked where a list is given.
 fn compared_on<L: Ledger>(
     alloc: Global,
     word: RelateWord,
-    acl: &Option<Positions>,
+    commalist: &Option<Positions>,
     left: &Relation,
     right: &Relation,
     steps: &mut Steps<L>,
 ) -> Result<bool, Stop>
     requires alike { left.now.heading ≡ right.now.heading }
-    requires list { IsListIf left.now.heading acl.now }
-    ensures value { Answers result (Ok (related_rows word (compared_rows acl.now left.now.rows) (compared_rows acl.now right.now.rows))) }
-    ensures cost { steps.new ≤ steps.old + comparison_cost acl.now (length left.now.rows + length right.now.rows) }
+    requires list { IsListIf left.now.heading commalist.now }
+    ensures value { Answers result (Ok (related_rows word (compared_rows commalist.now left.now.rows) (compared_rows commalist.now right.now.rows))) }
+    ensures cost { steps.new ≤ steps.old + comparison_cost commalist.now (length left.now.rows + length right.now.rows) }
 {
-    match acl {
+    match commalist {
         None => Ok(compare(word, left, right)),
-        Some(acl) => {
-            let answer = compared(alloc, word, acl.list.as_slice(), left, right, steps)?;
+        Some(commalist) => {
+            let answer = compared(alloc, word, commalist.list.as_slice(), left, right, steps)?;
             Ok(answer)
         }
     }

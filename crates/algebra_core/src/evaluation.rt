@@ -17,12 +17,12 @@ use crate::operand::Operand;
 use crate::scope::Scope;
 use crate::surrounding::Surrounding;
 use crate::{operators, surrounded};
+use eval_using::{packed, unpacked};
 use point_core::{Fault, Memory, Place, Steps, Stop};
 use scalar_core::Scalar;
 use std::alloc::Global;
 use std::sync::ledger::Ledger;
 use tree_core::{Aggregates, InfixWord, RelForm, RelTree, Relvar, Sets};
-use using_core::{packed, unpacked};
 use value_core::{Heading, MOST_ROWS, Name, Names, Positions, Relation};
 
 /// The relation of an expression, or its fault.
@@ -55,9 +55,9 @@ pub(crate) fn answer<L: Ledger>(
         RelForm::Summarize(by, aggregates, t) => {
             summarize(alloc, tree, by, aggregates, t, around, scope, steps)
         }
-        RelForm::Pack(acl, t) => pack(alloc, tree, acl, t, scope, steps),
-        RelForm::Unpack(acl, t) => unpack(alloc, tree, acl, t, scope, steps),
-        RelForm::Using(acl, t) => using(alloc, tree, acl, t, scope, steps),
+        RelForm::Pack(commalist, t) => pack(alloc, tree, commalist, t, scope, steps),
+        RelForm::Unpack(commalist, t) => unpack(alloc, tree, commalist, t, scope, steps),
+        RelForm::Using(commalist, t) => using(alloc, tree, commalist, t, scope, steps),
     }
 }
 
@@ -98,7 +98,7 @@ fn named<L: Ledger>(
 {
     match scope.relvars.list.get_full(name) {
         Some((at, _, relvar)) => {
-            told_at_name(place, stored(alloc, name, at, relvar, scope, steps))
+            or_fault_at_name(place, stored(alloc, name, at, relvar, scope, steps))
         }
         None => unreachable!(),
     }
@@ -286,22 +286,22 @@ fn summarize<L: Ledger>(
 fn pack<L: Ledger>(
     alloc: Global,
     tree: &RelTree,
-    acl: &Positions,
+    commalist: &Positions,
     t: &RelTree,
     scope: &Scope<'_>,
     steps: &mut Steps<L>,
 ) -> Result<Relation, Stop>
-    requires { CanEvaluate scope.now (pack_tree tree.now.place tree.now.heading acl.now (read_tree t.now)) }
+    requires { CanEvaluate scope.now (pack_tree tree.now.place tree.now.heading commalist.now (read_tree t.now)) }
     ensures value { Answers result (under tree.now.heading (meaning (known_at scope.now) plainly
-        (pack_tree tree.now.place tree.now.heading acl.now (read_tree t.now)))) }
+        (pack_tree tree.now.place tree.now.heading commalist.now (read_tree t.now)))) }
     ensures cost { steps.new ≤ steps.old + tree_cost (prices_at scope.now) plainly
-        (pack_tree tree.now.place tree.now.heading acl.now (read_tree t.now)) }
+        (pack_tree tree.now.place tree.now.heading commalist.now (read_tree t.now)) }
 {
     let part = operand(alloc, t, scope, steps)?;
     packed(
         alloc,
         tree.place,
-        acl.list.as_slice(),
+        commalist.list.as_slice(),
         part.relation(),
         steps,
     )
@@ -312,22 +312,22 @@ fn pack<L: Ledger>(
 fn unpack<L: Ledger>(
     alloc: Global,
     tree: &RelTree,
-    acl: &Positions,
+    commalist: &Positions,
     t: &RelTree,
     scope: &Scope<'_>,
     steps: &mut Steps<L>,
 ) -> Result<Relation, Stop>
-    requires { CanEvaluate scope.now (unpack_tree tree.now.place tree.now.heading acl.now (read_tree t.now)) }
+    requires { CanEvaluate scope.now (unpack_tree tree.now.place tree.now.heading commalist.now (read_tree t.now)) }
     ensures value { Answers result (under tree.now.heading (meaning (known_at scope.now) plainly
-        (unpack_tree tree.now.place tree.now.heading acl.now (read_tree t.now)))) }
+        (unpack_tree tree.now.place tree.now.heading commalist.now (read_tree t.now)))) }
     ensures cost { steps.new ≤ steps.old + tree_cost (prices_at scope.now) plainly
-        (unpack_tree tree.now.place tree.now.heading acl.now (read_tree t.now)) }
+        (unpack_tree tree.now.place tree.now.heading commalist.now (read_tree t.now)) }
 {
     let part = operand(alloc, t, scope, steps)?;
     unpacked(
         alloc,
         tree.place,
-        acl.list.as_slice(),
+        commalist.list.as_slice(),
         part.relation(),
         steps,
     )
@@ -338,18 +338,18 @@ fn unpack<L: Ledger>(
 fn using<L: Ledger>(
     alloc: Global,
     tree: &RelTree,
-    acl: &Positions,
+    commalist: &Positions,
     t: &RelTree,
     scope: &Scope<'_>,
     steps: &mut Steps<L>,
 ) -> Result<Relation, Stop>
-    requires { CanEvaluate scope.now (using_tree tree.now.place tree.now.heading acl.now (read_tree t.now)) }
+    requires { CanEvaluate scope.now (using_tree tree.now.place tree.now.heading commalist.now (read_tree t.now)) }
     ensures value { Answers result (under tree.now.heading (meaning (known_at scope.now) plainly
-        (using_tree tree.now.place tree.now.heading acl.now (read_tree t.now)))) }
+        (using_tree tree.now.place tree.now.heading commalist.now (read_tree t.now)))) }
     ensures cost { steps.new ≤ steps.old + tree_cost (prices_at scope.now) plainly
-        (using_tree tree.now.place tree.now.heading acl.now (read_tree t.now)) }
+        (using_tree tree.now.place tree.now.heading commalist.now (read_tree t.now)) }
 {
-    let around = Surrounding::Using(tree.place, acl.list.as_slice());
+    let around = Surrounding::Using(tree.place, commalist.list.as_slice());
     answer(alloc, t, around, scope, steps)
 }
 
@@ -423,7 +423,7 @@ fn base_value(
 }
 
 // The relation of a name; a fault takes the name's place.
-fn told_at_name(place: Place, answer: Result<Relation, Stop>) -> Result<Relation, Stop>
+fn or_fault_at_name(place: Place, answer: Result<Relation, Stop>) -> Result<Relation, Stop>
     ensures { (heading : PlainHeading) (m : RowsMeant) → Answers answer (under heading m)
         → Answers result (under heading (then_give (at_name place m) (limited place))) }
 {

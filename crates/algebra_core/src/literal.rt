@@ -11,7 +11,7 @@ ghost use Rattle.meaning_core.specs.Typing.{IsTuple};
 
 use point_core::{Place, Stop};
 use relation_core::relation;
-use row_making::{extended_row, set_places, told};
+use row_making::{extended_row, or_fault_at, set_places};
 use scalar_core::Scalar;
 use std::alloc::Global;
 use tree_core::Sets;
@@ -28,7 +28,7 @@ pub(crate) fn literal(
     ensures { Answers result (under heading.now (then_give (literal_rows heading.now (map read_sets tuples.now)) (limited place))) }
 {
     let rows = tuple_rows(alloc, heading.attributes(), tuples)?;
-    told(place, relation(alloc, heading, rows))
+    or_fault_at(place, relation(alloc, heading, rows))
 }
 
 /// The rows of the tuples, or their first fault.

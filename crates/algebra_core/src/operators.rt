@@ -1,4 +1,4 @@
-// The plain operators of nodes, with the limit of rows told at their places.
+// The plain operators of nodes, with the limit of rows or_fault_at at their places.
 ghost use Rattle.value_core.specs.Values.{Heading as PlainHeading};
 ghost use Rattle.relation_core.specs.Answers.{Answers, under};
 ghost use Rattle.relation_core.specs.Parts.{projected};
@@ -7,7 +7,7 @@ ghost use Rattle.meaning_core.specs.Typing.{IsInfix, IsProjection, IsRenaming};
 
 use point_core::{Place, Stop};
 use relation_core::{intersect, join, matching, minus, not_matching, project, rename, union};
-use row_making::told;
+use row_making::or_fault_at;
 use std::alloc::Global;
 use tree_core::InfixWord;
 use value_core::{MOST_ROWS, Names, Positions, Relation};
@@ -25,12 +25,12 @@ pub(crate) fn infix(
         → Answers result (under heading (limited place (infix_rows word left.now.heading right.now.heading left.now.rows right.now.rows))) }
 {
     match word {
-        InfixWord::Union => told(place, union(alloc, left, right)),
-        InfixWord::Intersect => told(place, intersect(alloc, left, right)),
-        InfixWord::Minus => told(place, minus(alloc, left, right)),
-        InfixWord::Join => told(place, join(alloc, left, right)),
-        InfixWord::Matching => told(place, matching(alloc, left, right)),
-        InfixWord::NotMatching => told(place, not_matching(alloc, left, right)),
+        InfixWord::Union => or_fault_at(place, union(alloc, left, right)),
+        InfixWord::Intersect => or_fault_at(place, intersect(alloc, left, right)),
+        InfixWord::Minus => or_fault_at(place, minus(alloc, left, right)),
+        InfixWord::Join => or_fault_at(place, join(alloc, left, right)),
+        InfixWord::Matching => or_fault_at(place, matching(alloc, left, right)),
+        InfixWord::NotMatching => or_fault_at(place, not_matching(alloc, left, right)),
     }
 }
 

@@ -10,19 +10,20 @@ ghost use Rattle.tree_core.specs.Trees.{read_sets, read_aggregate};
 ghost use Rattle.meaning_core.specs.Meanings.{condition, infix_rows, opened, closed};
 ghost use Rattle.meaning_core.specs.Rows.{extended_row, group_row};
 ghost use Rattle.meaning_core.specs.Typing.{IsInfix, IsProjection, IsRestriction, IsExtension, IsSummary};
-ghost use Rattle.using_core.specs.Cells.{scalars_of};
+ghost use Rattle.eval_using.specs.Cells.{scalars_of};
 ghost use Rattle.algebra_core.specs.Costs.{operator_cost, rule_cost};
 ghost use Rattle.algebra_core.specs.Surroundings.{around_of, IsListed, KeepsList, IsSwept, AreSwept, AreSummed};
 
 use crate::surrounding::Surrounding;
 use crate::{operators, summary};
+use eval_using::{
+    using_extension, using_infix, using_projection, using_restriction, using_summary,
+};
 use point_core::{Place, Steps, Stop};
 use scalar_core::Scalar;
 use std::alloc::Global;
 use std::sync::ledger::Ledger;
 use tree_core::{Aggregates, InfixWord, Sets};
-use using_core::{using_extension, using_infix, using_projection, using_restriction};
-use using_groups::using_summary;
 use value_core::{Heading, Positions, Relation};
 
 /// What the operator gives of two relations.
@@ -48,8 +49,8 @@ pub(crate) fn infix<L: Ledger>(
 {
     match around {
         Surrounding::Plainly => operators::infix(alloc, place, word, left, right),
-        Surrounding::Using(at, acl) => {
-            using_infix(alloc, at, word, heading, acl, left, right, steps)
+        Surrounding::Using(at, commalist) => {
+            using_infix(alloc, at, word, heading, commalist, left, right, steps)
         }
     }
 }
@@ -72,8 +73,16 @@ pub(crate) fn projection<L: Ledger>(
 {
     match around {
         Surrounding::Plainly => operators::projected(alloc, r, kept),
-        Surrounding::Using(at, acl) => {
-            using_projection(alloc, at, heading, acl, kept.list.as_slice(), r, steps)
+        Surrounding::Using(at, commalist) => {
+            using_projection(
+                alloc,
+                at,
+                heading,
+                commalist,
+                kept.list.as_slice(),
+                r,
+                steps,
+            )
         }
     }
 }
@@ -97,7 +106,9 @@ pub(crate) fn restriction<L: Ledger>(
 {
     match around {
         Surrounding::Plainly => row_making::restricted(alloc, r, c),
-        Surrounding::Using(at, acl) => using_restriction(alloc, at, heading, acl, c, r, steps),
+        Surrounding::Using(at, commalist) => using_restriction(
+            alloc, at, heading, commalist, c, r, steps,
+        ),
     }
 }
 
@@ -121,7 +132,9 @@ pub(crate) fn extension<L: Ledger>(
 {
     match around {
         Surrounding::Plainly => row_making::extended(alloc, r, heading, sets),
-        Surrounding::Using(at, acl) => using_extension(alloc, at, heading, acl, sets, r, steps),
+        Surrounding::Using(at, commalist) => using_extension(
+            alloc, at, heading, commalist, sets, r, steps,
+        ),
     }
 }
 
@@ -149,12 +162,12 @@ pub(crate) fn grouping<L: Ledger>(
 {
     match around {
         Surrounding::Plainly => summary::summarized(alloc, r, heading, by, aggregates),
-        Surrounding::Using(at, acl) => {
+        Surrounding::Using(at, commalist) => {
             using_summary(
                 alloc,
                 at,
                 heading,
-                acl,
+                commalist,
                 by.list.as_slice(),
                 aggregates,
                 r,

@@ -19,7 +19,7 @@ use Rattle.value_core.specs.Values.{Row, Relation, most_rows}
 use Rattle.relation_core.specs.Answers.{Answers, under}
 use Rattle.relation_core.specs.Operators.{united, subtracted}
 use Rattle.u_constraints.specs.Growth.{exchanged}
-use Rattle.u_labels.specs.declared.exchange.Exchange.{Exchange}
+use Rattle.change_rows.specs.declared.exchange.Exchange.{Exchange}
 use Rattle.tree_core.specs.Items.{PlainAssignment}
 use Rattle.tree_core.specs.Relvars.{base, Entries}
 use Rattle.meaning_core.specs.Meanings.{limited}

@@ -34,10 +34,10 @@ some_base c (Some (view t history)) h f = absurd h
 
 pub is_named : (all : Entries) (c : Constraint) (other : Option Relation) → other ≡ value_at all (names_relvar c) → NamesBase all (names_relvar c) → IsNamed c other
 is_named all (Key k) other e h = tt
-is_named all (Packed acl) other e h = tt
-is_named all (WhenUnpacked acl k) other e h = tt
-is_named all (UKey acl k) other e h = tt
-is_named all (Foreign acl k name there) other e h = subst (IsNamed (Foreign acl k name there)) (sym e) (some_base (Foreign acl k name there) (relvar_named all name) h (λ v. tt))
+is_named all (Packed commalist) other e h = tt
+is_named all (WhenUnpacked commalist k) other e h = tt
+is_named all (UKey commalist k) other e h = tt
+is_named all (Foreign commalist k name there) other e h = subst (IsNamed (Foreign commalist k name there)) (sym e) (some_base (Foreign commalist k name there) (relvar_named all name) h (λ v. tt))
 is_named all (History rule) other e h = subst (IsNamed (History rule)) (sym e) (some_base (History rule) (relvar_named all rule.since) h (λ v. tt))
 
 -- ---- the constraints of a relvar

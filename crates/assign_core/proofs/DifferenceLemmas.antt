@@ -20,7 +20,7 @@ use Rattle.tree_core.specs.Relvars.{PlainRelvar, base, view, Entries, read_entry
 use Rattle.meaning_core.specs.Names.{IsFirstAt}
 use Rattle.meaning_core.proofs.MadeLemmas.{own_name}
 use Rattle.u_constraints.specs.Growth.{exchanged}
-use Rattle.u_labels.specs.declared.exchange.Exchange.{Exchange}
+use Rattle.change_rows.specs.declared.exchange.Exchange.{Exchange}
 use Rattle.assign_core.specs.Changes.{Changes, IsChange, AreChanges, changed, changed_relvar}
 use Rattle.assign_core.specs.Breaches.{value_of}
 use Rattle.assign_core.specs.Differences.{AreNone, AreFound, HasBoth, IsOnly, IsOnlyAt, IsPlaced}

@@ -33,8 +33,8 @@ use Rattle.meaning_core.proofs.EntryLemmas.{found_first, given_first, named_firs
 use Rattle.meaning_core.proofs.LimitLemmas.{limited_few}
 use Rattle.meaning_core.proofs.LookupLemmas.{under_ok}
 use Rattle.meaning_core.proofs.MadeLemmas.{own_name}
-use Rattle.using_core.specs.Using.{around}
-use Rattle.using_core.proofs.UnderLemmas.{set_meant}
+use Rattle.eval_using.specs.Using.{around}
+use Rattle.eval_using.proofs.UnderLemmas.{set_meant}
 use Rattle.algebra_core.specs.Costs.{Prices, tree_cost, prices_in, cost_in, paid, known_of}
 use Rattle.algebra_core.proofs.CostLemmas.{known_each}
 use Rattle.assign_core.specs.Assignments.{seen_by, source_value, with_target, evaluated, of_values, after_assignments, IsRefusedFor}
@@ -49,7 +49,7 @@ use Rattle.assign_core.proofs.ChangeLemmas.{none_changed}
 -- under USING, the node there has the heading of the target, and the list is one of it
 abbrev pub IsUnder : Heading → Nodes → Option (List ℕ) → Type 0
 IsUnder h n None = Unit {0}
-IsUnder h n (Some acl) = (n.heading ≡ h) × IsList h acl
+IsUnder h n (Some commalist) = (n.heading ≡ h) × IsList h commalist
 
 -- the nodes have the heading of the target
 pub record AreFitting (h : Heading) (n : Nodes) (list : Option (List ℕ)) (heading : Heading) (operand : Tree) : Type 0 where
@@ -60,22 +60,22 @@ pub record AreFitting (h : Heading) (n : Nodes) (list : Option (List ℕ)) (head
 
 pub listed_if : (h : Heading) (n : Nodes) (list : Option (List ℕ)) → IsUnder h n list → IsListIf h list
 listed_if h n None is = tt
-listed_if h n (Some acl) is = is.1
+listed_if h n (Some commalist) is = is.1
 
 module _ (s : State) (place : Place) (target : Name) where
   pub operand_typed : (n : Nodes) (list : Option (List ℕ)) (heading : Heading) (operand : Tree) → IsTypedFor s (insertion_of place heading list n target operand).tree → IsTypedFor s operand
   operand_typed n None heading operand typed = typed.1
-  operand_typed n (Some acl) heading operand typed = typed.0.1
+  operand_typed n (Some commalist) heading operand typed = typed.0.1
 
   fitting : (h : Heading) (n : Nodes) (list : Option (List ℕ)) (heading : Heading) (operand : Tree) → IsTypedFor s (insertion_of place heading list n target operand).tree
       → heading_of (insertion_of place heading list n target operand).tree ≡ h → AreFitting h n list heading operand
   fitting h n None heading operand typed is =
       let own : n.headed ≡ h = sym typed.2.1 ∙ is in
       record { whole = is; own = own; other = sym typed.2.0 ∙ own; listed = tt }
-  fitting h n (Some acl) heading operand typed is =
+  fitting h n (Some commalist) heading operand typed is =
       let inner : n.heading ≡ h = sym typed.2 ∙ is in
       let own : n.headed ≡ h = sym typed.0.2.1 ∙ inner in
-      record { whole = is; own = own; other = sym typed.0.2.0 ∙ own; listed = (inner, subst (λ (g : Heading). IsList g acl) is typed.1) }
+      record { whole = is; own = own; other = sym typed.0.2.0 ∙ own; listed = (inner, subst (λ (g : Heading). IsList g commalist) is typed.1) }
 
 -- ---- operands without a value
 
@@ -133,38 +133,38 @@ module _ (es : Entries) (target : Name) (at : ℕ) (value : Relation) (constrain
 
     -- the rows of both as the union under USING gives them
     abbrev both_closed : List ℕ → List Row → List Row → RowsMeant
-    both_closed acl r s =
-        closed (around place n.heading acl) place n.heading (united (opened (around place n.heading acl) n.headed r) (opened (around place n.heading acl) (heading_of operand) s))
+    both_closed commalist r s =
+        closed (around place n.heading commalist) place n.heading (united (opened (around place n.heading commalist) n.headed r) (opened (around place n.heading commalist) (heading_of operand) s))
 
-    under_value : (acl : List ℕ) (rows : Relation) → IsTrue (is_heading value.heading) → AreFitting value.heading n (Some acl) heading operand
+    under_value : (commalist : List ℕ) (rows : Relation) → IsTrue (is_heading value.heading) → AreFitting value.heading n (Some commalist) heading operand
         → under (heading_of operand) (meaning_in seen operand) ≡ Ok rows
-        → source_value es es (insertion (Some acl)) ≡ under value.heading (limited place (packed acl (united (unpacked acl value.rows) (unpacked acl rows.rows))))
-    under_value acl rows is_one fit told =
+        → source_value es es (insertion (Some commalist)) ≡ under value.heading (limited place (packed commalist (united (unpacked commalist value.rows) (unpacked commalist rows.rows))))
+    under_value commalist rows is_one fit told =
         let inner : n.heading ≡ value.heading = fit.listed.0 in
         let one : IsTrue (is_heading n.heading) = subst (λ (h : Heading). IsTrue (is_heading h)) (sym inner) is_one in
-        let list : IsList n.heading acl = subst (λ (h : Heading). IsList h acl) (sym inner) fit.listed.1 in
-        let meant = set_meant place n.heading acl one list united n.headed (heading_of operand) value.rows rows.rows (inner ∙ sym fit.own) (inner ∙ sym fit.other) in
-        ap (λ (m : RowsMeant). under heading (then_give m (λ r. then_give (meaning (known_in seen) plainly operand) (λ s. both_closed acl r s)))) name_meant
-        ∙ (ap (λ (m : RowsMeant). under heading (then_give m (λ s. both_closed acl value.rows s))) (under_ok (heading_of operand) (meaning_in seen operand) rows told).0
-        ∙ (ap (λ (h : Heading). under h (both_closed acl value.rows rows.rows)) (fit.whole ∙ sym inner)
+        let list : IsList n.heading commalist = subst (λ (h : Heading). IsList h commalist) (sym inner) fit.listed.1 in
+        let meant = set_meant place n.heading commalist one list united n.headed (heading_of operand) value.rows rows.rows (inner ∙ sym fit.own) (inner ∙ sym fit.other) in
+        ap (λ (m : RowsMeant). under heading (then_give m (λ r. then_give (meaning (known_in seen) plainly operand) (λ s. both_closed commalist r s)))) name_meant
+        ∙ (ap (λ (m : RowsMeant). under heading (then_give m (λ s. both_closed commalist value.rows s))) (under_ok (heading_of operand) (meaning_in seen operand) rows told).0
+        ∙ (ap (λ (h : Heading). under h (both_closed commalist value.rows rows.rows)) (fit.whole ∙ sym inner)
         ∙ (sym meant
-        ∙ ap (λ (h : Heading). under h (limited place (packed acl (united (unpacked acl value.rows) (unpacked acl rows.rows))))) fit.own)))
+        ∙ ap (λ (h : Heading). under h (limited place (packed commalist (united (unpacked commalist value.rows) (unpacked commalist rows.rows))))) fit.own)))
 
     -- its value, from the rows of its operand
     pub insertion_told : (list : Option (List ℕ)) (rows : Relation) → IsTrue (is_heading value.heading) → AreFitting value.heading n list heading operand
         → under (heading_of operand) (meaning_in seen operand) ≡ Ok rows
         → source_value es es (insertion list) ≡ under value.heading (limited place (united_in list value.rows rows.rows))
     insertion_told None rows is_one fit told = plain_value rows fit.whole told
-    insertion_told (Some acl) rows is_one fit told = under_value acl rows is_one fit told
+    insertion_told (Some commalist) rows is_one fit told = under_value commalist rows is_one fit told
 
     -- the fault of its operand
     pub insertion_failed : (list : Option (List ℕ)) (f : Fault) → under (heading_of operand) (meaning_in seen operand) ≡ Err f → source_value es es (insertion list) ≡ Err f
     insertion_failed None f told =
         ap (λ (m : RowsMeant). under heading (then_give m (λ r. then_give (meaning (known_in seen) plainly operand) (λ s. limited place (united r s))))) name_meant
         ∙ no_value heading (heading_of operand) (meaning_in seen operand) (λ s. limited place (united value.rows s)) f told
-    insertion_failed (Some acl) f told =
-        ap (λ (m : RowsMeant). under heading (then_give m (λ r. then_give (meaning (known_in seen) plainly operand) (λ s. both_closed acl r s)))) name_meant
-        ∙ no_value heading (heading_of operand) (meaning_in seen operand) (λ s. both_closed acl value.rows s) f told
+    insertion_failed (Some commalist) f told =
+        ap (λ (m : RowsMeant). under heading (then_give m (λ r. then_give (meaning (known_in seen) plainly operand) (λ s. both_closed commalist r s)))) name_meant
+        ∙ no_value heading (heading_of operand) (meaning_in seen operand) (λ s. both_closed commalist value.rows s) f told
 
     -- ---- what it takes
 
@@ -177,19 +177,19 @@ module _ (es : Entries) (target : Name) (at : ℕ) (value : Relation) (constrain
     -- the steps of its nodes
     abbrev after_operand : Option (List ℕ) → List Row → List Row → ℕ
     after_operand None r s = 0
-    after_operand (Some acl) r s = bound (length r + length s) (length (names_at n.heading acl))
+    after_operand (Some commalist) r s = bound (length r + length s) (length (names_at n.heading commalist))
 
     nodes_cost : (list : Option (List ℕ)) → source_cost es es (insertion list)
         ≡ tree_cost prices plainly left + (tree_cost prices plainly operand + paid (meaning (known_of prices) plainly operand) (after_operand list value.rows))
     nodes_cost None =
         ap (λ (m : RowsMeant). tree_cost prices plainly left + paid m (λ r. tree_cost prices plainly operand + paid (meaning (known_of prices) plainly operand) (λ s. 0))) name_known
-    nodes_cost (Some acl) =
+    nodes_cost (Some commalist) =
         ap (λ (m : RowsMeant). tree_cost prices plainly left + paid m (λ r. tree_cost prices plainly operand
-        + paid (meaning (known_of prices) plainly operand) (λ s. bound (length r + length s) (length (names_at n.heading acl))))) name_known
+        + paid (meaning (known_of prices) plainly operand) (λ s. bound (length r + length s) (length (names_at n.heading commalist))))) name_known
 
     after_is : (list : Option (List ℕ)) (rows : Relation) → after_operand list value.rows rows.rows ≡ united_cost list (length value.rows + length rows.rows)
     after_is None rows = refl
-    after_is (Some acl) rows = ap (bound (length value.rows + length rows.rows)) (length-map acl (λ i. (slice_index_or n.heading i no_attribute).0))
+    after_is (Some commalist) rows = ap (bound (length value.rows + length rows.rows)) (length-map commalist (λ i. (slice_index_or n.heading i no_attribute).0))
 
     -- what its operand takes
     pub operand_cost : (list : Option (List ℕ)) → cost_in seen operand ≤ source_cost es es (insertion list)

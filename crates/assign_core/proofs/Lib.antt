@@ -9,7 +9,7 @@ pub mod DifferenceLemmas
 pub mod ExchangeLemmas
 pub mod RenewedLemmas
 pub mod TurnoverLemmas
-pub mod MarkedLemmas
+pub mod HashedLemmas
 pub mod InsertionLemmas
 pub mod NameLemmas
 pub mod PackingLemmas

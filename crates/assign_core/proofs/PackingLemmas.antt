@@ -36,30 +36,30 @@ first_line : (b : Bool) (code : Code) (rest : List (Bool × Code)) → first_fai
 first_line true code rest e = refl
 first_line false code rest e = absurd (cc)
 
-of_packed : (acl : List ℕ) (rows : List Row) → Ascends row_cmp rows → is_packed acl rows ≡ true → packed acl rows ≡ rows
-of_packed acl rows up e =
-    sym ((are_same-≡ row_cmp row_total row_separates rows (packed acl rows) up (Ascends-pack row_cmp row_total row_separates (map attribute acl) rows up)).0 e)
+of_packed : (commalist : List ℕ) (rows : List Row) → Ascends row_cmp rows → is_packed commalist rows ≡ true → packed commalist rows ≡ rows
+of_packed commalist rows up e =
+    sym ((are_same-≡ row_cmp row_total row_separates rows (packed commalist rows) up (Ascends-pack row_cmp row_total row_separates (map attribute commalist) rows up)).0 e)
 
-packed_by : (acl : List ℕ) (rows others : List Row) (c : Constraint) → Ascends row_cmp rows → keeps_packed acl c ≡ true → broken c rows others ≡ None → packed acl rows ≡ rows
-packed_by acl rows others (Key k) up e held = absurd (true≢false (sym e))
-packed_by acl rows others (Packed own) up e held =
-    subst (λ (l : List ℕ). packed l rows ≡ rows) (same_name own acl e) (of_packed own rows up (first_line (is_packed own rows) E41 [] held))
-packed_by acl rows others (WhenUnpacked own k) up e held = absurd (true≢false (sym e))
-packed_by acl rows others (UKey own k) up e held =
-    subst (λ (l : List ℕ). packed l rows ≡ rows) (same_name own acl e)
+packed_by : (commalist : List ℕ) (rows others : List Row) (c : Constraint) → Ascends row_cmp rows → keeps_packed commalist c ≡ true → broken c rows others ≡ None → packed commalist rows ≡ rows
+packed_by commalist rows others (Key k) up e held = absurd (true≢false (sym e))
+packed_by commalist rows others (Packed own) up e held =
+    subst (λ (l : List ℕ). packed l rows ≡ rows) (same_name own commalist e) (of_packed own rows up (first_line (is_packed own rows) E41 [] held))
+packed_by commalist rows others (WhenUnpacked own k) up e held = absurd (true≢false (sym e))
+packed_by commalist rows others (UKey own k) up e held =
+    subst (λ (l : List ℕ). packed l rows ≡ rows) (same_name own commalist e)
     (of_packed own rows up (first_line (is_packed own rows) E41 ((is_key k (unpacked own rows), E42) ∷ (is_key k rows, E40) ∷ []) held))
-packed_by acl rows others (Foreign own here name there) up e held = absurd (true≢false (sym e))
-packed_by acl rows others (History rule) up e held = absurd (true≢false (sym e))
+packed_by commalist rows others (Foreign own here name there) up e held = absurd (true≢false (sym e))
+packed_by commalist rows others (History rule) up e held = absurd (true≢false (sym e))
 
-pub kept_packed : (acl : List ℕ) (rows : List Row) (named : Constraint → List Row) (cs : List Constraint) → Ascends row_cmp rows → All (λ c. broken c rows (named c) ≡ None) cs
-    → list_any (keeps_packed acl) cs ≡ true → packed acl rows ≡ rows
-kept_packed acl rows named [] up held e = absurd (true≢false (sym e))
-kept_packed acl rows named (c ∷ cs) up held e =
-    by (keeps_packed acl c) refl (kept_packed acl rows named cs up (All-tail (λ k. broken k rows (named k) ≡ None) c cs held))
+pub kept_packed : (commalist : List ℕ) (rows : List Row) (named : Constraint → List Row) (cs : List Constraint) → Ascends row_cmp rows → All (λ c. broken c rows (named c) ≡ None) cs
+    → list_any (keeps_packed commalist) cs ≡ true → packed commalist rows ≡ rows
+kept_packed commalist rows named [] up held e = absurd (true≢false (sym e))
+kept_packed commalist rows named (c ∷ cs) up held e =
+    by (keeps_packed commalist c) refl (kept_packed commalist rows named cs up (All-tail (λ k. broken k rows (named k) ≡ None) c cs held))
   where
-    by : (b : Bool) → keeps_packed acl c ≡ b → (list_any (keeps_packed acl) cs ≡ true → packed acl rows ≡ rows) → packed acl rows ≡ rows
-    by true q later = packed_by acl rows (named c) c up q (All-head (λ k. broken k rows (named k) ≡ None) c cs held)
-    by false q later = later (sym (ap (λ (t : Bool). t || list_any (keeps_packed acl) cs) q) ∙ e)
+    by : (b : Bool) → keeps_packed commalist c ≡ b → (list_any (keeps_packed commalist) cs ≡ true → packed commalist rows ≡ rows) → packed commalist rows ≡ rows
+    by true q later = packed_by commalist rows (named c) c up q (All-head (λ k. broken k rows (named k) ≡ None) c cs held)
+    by false q later = later (sym (ap (λ (t : Bool). t || list_any (keeps_packed commalist) cs) q) ∙ e)
 
 -- ---- rows that go
 
@@ -83,12 +83,12 @@ few_left value gone come most few = let less = length-filter_at_most (λ (x : Ro
 -- ---- the target
 
 -- a base relvar with such a constraint is packed on the list
-pub target_packed : (raw : List (Name × Relvar)) (target key : Name) (at : ℕ) (value : Relation) (own : List Constraint) (r : Relvar) (acl : List ℕ) → IsRelation value
-    → first_broken (map read_entry raw) ≡ None → IsFirstAt (map read_entry raw) target at (base value own) → slice_get raw at ≡ Some (key, r) → is_kept_packed acl (read_relvar r) ≡ true
-    → packed acl value.rows ≡ value.rows
-target_packed raw target key at value own r acl is kept first there told =
+pub target_packed : (raw : List (Name × Relvar)) (target key : Name) (at : ℕ) (value : Relation) (own : List Constraint) (r : Relvar) (commalist : List ℕ) → IsRelation value
+    → first_broken (map read_entry raw) ≡ None → IsFirstAt (map read_entry raw) target at (base value own) → slice_get raw at ≡ Some (key, r) → is_kept_packed commalist (read_relvar r) ≡ true
+    → packed commalist value.rows ≡ value.rows
+target_packed raw target key at value own r commalist is kept first there told =
     let all = map read_entry raw in
     let here : read_relvar r ≡ base value own = first_entry raw target at (base value own) key r first there in
     let held = subst (λ (x : PlainRelvar). first_in all key x ≡ None) here (held_entry all raw at key r kept there) in
     let list = held_list all key value.rows 1 own held in
-    kept_packed acl value.rows (rows_named all) own (Ascends-from_sorted row_cmp value.rows is.ascending) list (subst (λ (x : PlainRelvar). is_kept_packed acl x ≡ true) here told)
+    kept_packed commalist value.rows (rows_named all) own (Ascends-from_sorted row_cmp value.rows is.ascending) list (subst (λ (x : PlainRelvar). is_kept_packed commalist x ≡ true) here told)

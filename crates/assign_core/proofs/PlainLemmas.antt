@@ -22,7 +22,7 @@ use Rattle.meaning_core.specs.Typing.{IsExtension, IsList, IsScalar}
 use Rattle.meaning_core.specs.Updates.{IsTypedAssignment}
 use Rattle.meaning_core.specs.WellMade.{IsTypedFor, sizes_of}
 use Rattle.meaning_core.proofs.PositionLemmas.{no_list}
-use Rattle.using_core.specs.Using.{HasList, IsSweptBy, AreSweptBy}
+use Rattle.eval_using.specs.Using.{HasList, IsSweptBy, AreSweptBy}
 use Rattle.algebra_core.specs.Costs.{paid}
 use Rattle.assign_core.specs.declared.portion.Deletion.{Deletion}
 use Rattle.assign_core.specs.declared.portion.Portion.{Portion}
@@ -69,7 +69,7 @@ module _ (s : State) (h : Heading) (target : Name) where
       let given : m.given ≡ h = one_given _ m.given n.given too.0 typed.0 ∙ fit.given in
       record { headed = too.1.headed ∙ given; given = given }
 
-  where_for : (p : Portion) (n : RowNodes) → p.acl.now ≡ [] → IsTypedFor s (rows_where p.place n (read p.condition.now) target) → AreRowNodes h n → IsPortionFor h p
+  where_for : (p : Portion) (n : RowNodes) → p.commalist.now ≡ [] → IsTypedFor s (rows_where p.place n (read p.condition.now) target) → AreRowNodes h n → IsPortionFor h p
   where_for p n none typed fit = record {
     sizes = sizes_of s.ordinals;
     condition = subst (λ (g : Heading). IsScalar (sizes_of s.ordinals) g (read p.condition.now) Truth) fit.given typed.1.condition;
@@ -77,7 +77,7 @@ module _ (s : State) (h : Heading) (target : Name) where
     swept = subst (λ (l : List ℕ). IsSweptBy h l h (read p.condition.now)) (sym none) (plain_swept h h (read p.condition.now));
   }
 
-  with_for : (x : Changed) (n : NewNodes) (t : Tree) → x.acl.now ≡ [] → IsTypedFor s (rows_with x.place n (read_sets x.sets.now) t) → n.headed ≡ h → heading_of t ≡ h → IsPortionFor h x.portion
+  with_for : (x : Changed) (n : NewNodes) (t : Tree) → x.commalist.now ≡ [] → IsTypedFor s (rows_with x.place n (read_sets x.sets.now) t) → n.headed ≡ h → heading_of t ≡ h → IsPortionFor h x.portion
       → IsChangedFor h x
   with_for x n t none typed is of portion =
       let sets = read_sets x.sets.now in
@@ -106,7 +106,7 @@ plain_deletion_told s d at value constraints typed is first relation =
     let headed : n.headed ≡ value.heading = ap heading_of (sym is.kept.is) ∙ headed_as s es a at value constraints first typed.headed in
     let fit = where_nodes s value.heading target place n c tree headed in
     let meant = where_meant value.heading target value.rows (known_in (seen_by es es target)) (name_stands es target at value constraints first relation.few) place n c fit in
-    let free : portion_cost d.kept.acl.now c value.rows ≡ 0 = ap (λ (l : List ℕ). portion_cost l c value.rows) is.kept.listed in
+    let free : portion_cost d.kept.commalist.now c value.rows ≡ 0 = ap (λ (l : List ℕ). portion_cost l c value.rows) is.kept.listed in
     record {
       constraints = constraints;
       first = first;

@@ -54,7 +54,7 @@ more_rows a b c =
 
 -- ---- a renewal without USING
 
-module _ (r : Renewal) (k : IsRenewal r) (none : r.revision.acl.now ≡ []) (left added : Relation) (is : IsLeft r left) (are : AreAdded r added) where
+module _ (r : Renewal) (k : IsRenewal r) (none : r.revision.commalist.now ≡ []) (left added : Relation) (is : IsLeft r left) (are : AreAdded r added) where
   abbrev h : Heading
   h = r.value.now.heading
 

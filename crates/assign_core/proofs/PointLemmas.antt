@@ -11,18 +11,18 @@ use Rattle.cell_core.specs.Costs.{bound}
 use Rattle.tree_core.specs.Trees.{PlainSets}
 use Rattle.meaning_core.specs.Typing.{is_swept}
 use Rattle.u_constraints.proofs.BoundLemmas.{bound_grows}
-use Rattle.using_core.specs.Using.{HasList, IsSweptBy, AreSweptBy}
+use Rattle.eval_using.specs.Using.{HasList, IsSweptBy, AreSweptBy}
 use Rattle.assign_core.specs.Portions.{point_cost}
 
 -- ---- steps
 
-pub point_least : (acl : List ℕ) (n : ℕ) → point_cost acl n ≤ bound n (length acl)
+pub point_least : (commalist : List ℕ) (n : ℕ) → point_cost commalist n ≤ bound n (length commalist)
 point_least [] n = omega arith
-point_least (i ∷ acl) n = omega arith
+point_least (i ∷ commalist) n = omega arith
 
-pub point_grows : (acl : List ℕ) (n m : ℕ) → n ≤ m → point_cost acl n ≤ point_cost acl m
+pub point_grows : (commalist : List ℕ) (n m : ℕ) → n ≤ m → point_cost commalist n ≤ point_cost commalist m
 point_grows [] n m h = omega arith
-point_grows (i ∷ acl) n m h = bound_grows n m (suc (length acl)) h
+point_grows (i ∷ commalist) n m h = bound_grows n m (suc (length commalist)) h
 
 -- ---- the list of no attribute
 

@@ -32,9 +32,9 @@ use Rattle.meaning_core.specs.Updates.{IsTypedAssignment}
 use Rattle.meaning_core.specs.WellMade.{IsTypedFor, sizes_of}
 use Rattle.meaning_core.proofs.EntryLemmas.{named_first}
 use Rattle.meaning_core.proofs.LimitLemmas.{limited_few}
-use Rattle.using_core.specs.Cells.{cells_of_all}
-use Rattle.using_core.specs.Using.{around}
-use Rattle.using_core.proofs.ListLemmas.{positions_back}
+use Rattle.eval_using.specs.Cells.{cells_of_all}
+use Rattle.eval_using.specs.Using.{around}
+use Rattle.eval_using.proofs.ListLemmas.{positions_back}
 use Rattle.algebra_core.specs.Costs.{Prices, tree_cost, price_of, prices_in, paid, rule_cost, known_of}
 use Rattle.algebra_core.proofs.CostLemmas.{known_each}
 use Rattle.assign_core.specs.declared.portion.Portion.{Portion}
@@ -51,54 +51,54 @@ pub record AreNodesOf (h : Heading) (n : PortionNodes) : Type 0 where
   pub headed : n.headed ≡ h
   pub given : n.given ≡ h
 
-module _ (h : Heading) (acl : List ℕ) (one : IsTrue (is_heading h)) (list : IsList h acl) where
+module _ (h : Heading) (commalist : List ℕ) (one : IsTrue (is_heading h)) (list : IsList h commalist) where
   -- what an operator that may have a fault gives of unpacked rows
   pub rule_rows : (place : Place) (op : List Row → OrFault (List Row)) (rows : List Row)
-      → then_give (op (opened (around place h acl) h rows)) (closed (around place h acl) place h) ≡ then_give (op (unpacked acl rows)) (λ points. limited place (packed acl points))
-  rule_rows place op rows = ap (λ (l : List ℕ). then_give (op (unpacked l rows)) (λ points. limited place (packed l points))) (positions_back h acl one list)
+      → then_give (op (opened (around place h commalist) h rows)) (closed (around place h commalist) place h) ≡ then_give (op (unpacked commalist rows)) (λ points. limited place (packed commalist points))
+  rule_rows place op rows = ap (λ (l : List ℕ). then_give (op (unpacked l rows)) (λ points. limited place (packed l points))) (positions_back h commalist one list)
 
   -- and what it takes
-  pub rule_paid : (place : Place) (scalars : List Expr) (rows : List Row) → rule_cost (around place h acl) h scalars rows ≡ bound (cells_of_all acl scalars rows) (length acl)
+  pub rule_paid : (place : Place) (scalars : List Expr) (rows : List Row) → rule_cost (around place h commalist) h scalars rows ≡ bound (cells_of_all commalist scalars rows) (length commalist)
   rule_paid place scalars rows =
-      ap₂ (λ (l : List ℕ) (k : ℕ). bound (cells_of_all l scalars rows) k) (positions_back h acl one list) (length-map acl (λ i. (slice_index_or h i no_attribute).0))
+      ap₂ (λ (l : List ℕ) (k : ℕ). bound (cells_of_all l scalars rows) k) (positions_back h commalist one list) (length-map commalist (λ i. (slice_index_or h i no_attribute).0))
 
   module _ (target : Name) (rows : List Row) (place : Place) (n : PortionNodes) (c : Expr) (fit : AreNodesOf h n) where
     pub portion_meant : (known : Known) → ((at : Place) → meaning known plainly (named at h target) ≡ Ok rows)
-        → meaning known plainly (portion_of place acl n c target) ≡ portion_rows place acl c rows
+        → meaning known plainly (portion_of place commalist n c target) ≡ portion_rows place commalist c rows
     portion_meant known stands =
-        ap₂ (λ (a b : Heading). meaning known plainly (using place n.heading acl (restrict n.at a c (named n.from b target)))) fit.headed fit.given
-        ∙ (ap (λ (m : RowsMeant). then_give m (λ a. then_give (restricted (condition c) (opened (around place h acl) h a)) (closed (around place h acl) place h))) (stands n.from)
+        ap₂ (λ (a b : Heading). meaning known plainly (using place n.heading commalist (restrict n.at a c (named n.from b target)))) fit.headed fit.given
+        ∙ (ap (λ (m : RowsMeant). then_give m (λ a. then_give (restricted (condition c) (opened (around place h commalist) h a)) (closed (around place h commalist) place h))) (stands n.from)
         ∙ rule_rows place (restricted (condition c)) rows)
 
     pub portion_paid : (prices : Prices) → ((at : Place) → meaning (known_of prices) plainly (named at h target) ≡ Ok rows)
-        → portion_cost acl c rows ≤ tree_cost prices plainly (portion_of place acl n c target)
+        → portion_cost commalist c rows ≤ tree_cost prices plainly (portion_of place commalist n c target)
     portion_paid prices stands =
-        let e : tree_cost prices plainly (portion_of place acl n c target) ≡ price_of prices target + bound (cells_of_all acl (c ∷ []) rows) (length acl) =
-        ap₂ (λ (a b : Heading). tree_cost prices plainly (using place n.heading acl (restrict n.at a c (named n.from b target)))) fit.headed fit.given
-        ∙ (ap (λ (m : RowsMeant). price_of prices target + paid m (rule_cost (around place h acl) h (c ∷ []))) (stands n.from)
+        let e : tree_cost prices plainly (portion_of place commalist n c target) ≡ price_of prices target + bound (cells_of_all commalist (c ∷ []) rows) (length commalist) =
+        ap₂ (λ (a b : Heading). tree_cost prices plainly (using place n.heading commalist (restrict n.at a c (named n.from b target)))) fit.headed fit.given
+        ∙ (ap (λ (m : RowsMeant). price_of prices target + paid m (rule_cost (around place h commalist) h (c ∷ []))) (stands n.from)
         ∙ ap (λ (k : ℕ). price_of prices target + k) (rule_paid place (c ∷ []) rows)) in
-        let least = point_least acl (cells_of_all acl (c ∷ []) rows) in
+        let least = point_least commalist (cells_of_all commalist (c ∷ []) rows) in
         omega (arith, e, least)
 
 -- ---- what is typed
 
 module _ (s : State) (h : Heading) (place : Place) (target : Name) (n : PortionNodes) where
-  pub portion_nodes : (acl : List ℕ) (c : Expr) → IsTypedFor s (portion_of place acl n c target) → n.heading ≡ h → AreNodesOf h n
-  portion_nodes acl c typed is =
+  pub portion_nodes : (commalist : List ℕ) (c : Expr) → IsTypedFor s (portion_of place commalist n c target) → n.heading ≡ h → AreNodesOf h n
+  portion_nodes commalist c typed is =
       let headed : n.headed ≡ h = sym typed.2 ∙ is in
       record { heading = is; headed = headed; given = sym typed.0.1.headed ∙ headed }
 
-  pub portion_for : (p : Portion) → IsTypedFor s (portion_of place p.acl.now n (read p.condition.now) target) → AreNodesOf h n → IsPortionFor h p
+  pub portion_for : (p : Portion) → IsTypedFor s (portion_of place p.commalist.now n (read p.condition.now) target) → AreNodesOf h n → IsPortionFor h p
   portion_for p typed fit =
       let e = read p.condition.now in
-      let acl = p.acl.now in
+      let commalist = p.commalist.now in
       record {
         sizes = sizes_of s.ordinals;
         condition = subst (λ (g : Heading). IsScalar (sizes_of s.ordinals) g e Truth) fit.given typed.0.1.condition;
-        list = subst (λ (g : Heading). IsList g acl) fit.heading typed.1;
+        list = subst (λ (g : Heading). IsList g commalist) fit.heading typed.1;
         swept =
-            subst (λ (g : Heading). IsTrue (is_swept (positions_of g (names_at h acl)) e)) fit.given
-            (subst (λ (g : Heading). IsTrue (is_swept (positions_of n.given (names_at g acl)) e)) fit.heading typed.3);
+            subst (λ (g : Heading). IsTrue (is_swept (positions_of g (names_at h commalist)) e)) fit.given
+            (subst (λ (g : Heading). IsTrue (is_swept (positions_of n.given (names_at g commalist)) e)) fit.heading typed.3);
       }
 
 -- what a typed condition negates is typed
@@ -133,16 +133,16 @@ deletion_told s d at value constraints typed is first relation =
     let es = s.relvars in
     let target = d.assignment.now.target in
     let place = d.kept.place in
-    let acl = d.kept.acl.now in
+    let commalist = d.kept.commalist.now in
     let c = read d.kept.condition.now in
     let n = is.nodes in
-    let tree : IsTypedFor s (portion_of place acl n c target) = subst (λ (b : PlainAssignment). IsTypedFor s b.tree) is.is typed.typed in
+    let tree : IsTypedFor s (portion_of place commalist n c target) = subst (λ (b : PlainAssignment). IsTypedFor s b.tree) is.is typed.typed in
     let headed : n.heading ≡ value.heading = ap (λ (b : PlainAssignment). heading_of b.tree) (sym is.is) ∙ headed_as s es (read_assignment d.assignment.now) at value constraints first typed.headed in
-    let fit = portion_nodes s value.heading place target n acl c tree headed in
+    let fit = portion_nodes s value.heading place target n commalist c tree headed in
     let kept = portion_for s value.heading place target n d.kept tree fit in
-    let meant = portion_meant value.heading acl relation.headed kept.list target value.rows place n c fit (known_in (seen_by es es target)) (name_stands es target at value constraints first relation.few) in
-    let taken = portion_paid value.heading acl relation.headed kept.list target value.rows place n c fit (prices_in (seen_by es es target)) (name_priced es target at value constraints first relation.few) in
-    let whole : source_cost es es (read_assignment d.assignment.now) ≡ source_cost es es (deletion_of place acl n c target) = ap (source_cost es es) is.is in
+    let meant = portion_meant value.heading commalist relation.headed kept.list target value.rows place n c fit (known_in (seen_by es es target)) (name_stands es target at value constraints first relation.few) in
+    let taken = portion_paid value.heading commalist relation.headed kept.list target value.rows place n c fit (prices_in (seen_by es es target)) (name_priced es target at value constraints first relation.few) in
+    let whole : source_cost es es (read_assignment d.assignment.now) ≡ source_cost es es (deletion_of place commalist n c target) = ap (source_cost es es) is.is in
     record {
       constraints = constraints;
       first = first;
@@ -151,6 +151,6 @@ deletion_told s d at value constraints typed is first relation =
       negates = is.negates;
       meant =
           ap (source_value es es) is.is
-          ∙ (ap (under n.heading) meant ∙ ap (λ (g : Heading). under g (portion_rows place acl c value.rows)) headed);
+          ∙ (ap (under n.heading) meant ∙ ap (λ (g : Heading). under g (portion_rows place commalist c value.rows)) headed);
       paid = omega (arith, taken, whole);
     }

@@ -33,11 +33,11 @@ use Rattle.u_set.specs.Apart.{outside}
 use Rattle.u_set.specs.Boxes.{AreIntervals}
 use Rattle.u_set.proofs.BridgeLemmas.{unpacked_ascends}
 use Rattle.u_row.proofs.BeneathLemmas.{in_all}
-use Rattle.u_labels.proofs.LabelLemmas.{IsSet}
-use Rattle.u_labels.proofs.ChangeLemmas.{part_set, kept_law, dropped_law, packed_law, labels_law, count_law}
-use Rattle.u_changes.specs.Concerned.{AreFalse}
-use Rattle.using_core.specs.Cells.{cells_of_row, cells_of_all}
-use Rattle.using_core.proofs.CellCountLemmas.{sum_more}
+use Rattle.change_rows.proofs.LabelLemmas.{IsSet}
+use Rattle.change_rows.proofs.ChangeLemmas.{part_set, kept_law, dropped_law, packed_law, labels_law, count_law}
+use Rattle.change_rows.specs.Affected.{AreFalse}
+use Rattle.eval_using.specs.Cells.{cells_of_row, cells_of_all}
+use Rattle.eval_using.proofs.CellCountLemmas.{sum_more}
 use Rattle.assign_core.specs.Portions.{portion_cost, IsNegation}
 use Rattle.assign_core.proofs.AdditionLemmas.{limited_over}
 use Rattle.assign_core.proofs.PointLemmas.{point_grows}
@@ -51,10 +51,10 @@ false_then place c y e = by (value_on c y) e
     by (Ok v) f = let no : is_truth v ≡ false = cc in ap (λ (b : Bool). Ok (not b)) no
     by (Err g) f = absurd (cc)
 
-pub negated_passes : (acl : List ℕ) (e c : Expr) (rows : List Row) → IsNegation e c → AreFalse acl c rows → All (λ y. condition e y ≡ Ok true) (unpacked acl rows)
-negated_passes acl e c rows negates fails =
-    All-In (λ y. condition e y ≡ Ok true) (unpacked acl rows) (λ x i.
-    subst (λ (z : Expr). condition z x ≡ Ok true) (sym negates.1) (false_then negates.0 c x (in_all (λ y. condition c y ≡ Ok false) (unpacked acl rows) fails x i)))
+pub negated_passes : (commalist : List ℕ) (e c : Expr) (rows : List Row) → IsNegation e c → AreFalse commalist c rows → All (λ y. condition e y ≡ Ok true) (unpacked commalist rows)
+negated_passes commalist e c rows negates fails =
+    All-In (λ y. condition e y ≡ Ok true) (unpacked commalist rows) (λ x i.
+    subst (λ (z : Expr). condition z x ≡ Ok true) (sym negates.1) (false_then negates.0 c x (in_all (λ y. condition c y ≡ Ok false) (unpacked commalist rows) fails x i)))
 
 -- ---- rows within the limit
 
@@ -74,74 +74,74 @@ limited_failed place rows e told = by (nat_le (length rows) most_rows) refl told
 
 -- ---- what is left
 
-module _ (heading : Heading) (acl : List ℕ) (intervals : AreIntervals heading acl) (value part : List Row) (sv : IsSet heading acl intervals value)
-    (closed : part ≡ touched (outside acl heading) part value) (are : packed acl value ≡ value) where
+module _ (heading : Heading) (commalist : List ℕ) (intervals : AreIntervals heading commalist) (value part : List Row) (sv : IsSet heading commalist intervals value)
+    (closed : part ≡ touched (outside commalist heading) part value) (are : packed commalist value ≡ value) where
   abbrev rest : List Row
   rest = subtracted value part
 
-  module _ (test : Row → OrFault Bool) (points : List Row) (given : restricted test (unpacked acl part) ≡ Ok points) where
-    passing : points ≡ filter (λ x. is_true (test x)) (unpacked acl part)
-    passing = by (least_of_all fault_order (map test (unpacked acl part))) given
+  module _ (test : Row → OrFault Bool) (points : List Row) (given : restricted test (unpacked commalist part) ≡ Ok points) where
+    passing : points ≡ filter (λ x. is_true (test x)) (unpacked commalist part)
+    passing = by (least_of_all fault_order (map test (unpacked commalist part))) given
       where
-        by : (r : OrFault (List Bool)) → then_give r (λ _. Ok (filter (λ x. is_true (test x)) (unpacked acl part))) ≡ Ok points → points ≡ filter (λ x. is_true (test x)) (unpacked acl part)
+        by : (r : OrFault (List Bool)) → then_give r (λ _. Ok (filter (λ x. is_true (test x)) (unpacked commalist part))) ≡ Ok points → points ≡ filter (λ x. is_true (test x)) (unpacked commalist part)
         by (Ok bs) f = cc
         by (Err g) f = absurd (cc)
 
     up : Ascends row_cmp points
-    up = subst (Ascends row_cmp) (sym passing) (Ascends-filter row_cmp (λ x. is_true (test x)) (unpacked acl part) (unpacked_ascends heading acl intervals part (part_set heading acl intervals value part sv closed).0 (part_set heading acl intervals value part sv closed).1))
+    up = subst (Ascends row_cmp) (sym passing) (Ascends-filter row_cmp (λ x. is_true (test x)) (unpacked commalist part) (unpacked_ascends heading commalist intervals part (part_set heading commalist intervals value part sv closed).0 (part_set heading commalist intervals value part sv closed).1))
 
-    some : (x : Row) → In x points → In x (unpacked acl part)
-    some x i = ((In-filter (λ y. is_true (test y)) x (unpacked acl part)).0 (subst (λ (l : List Row). In x l) passing i)).0
+    some : (x : Row) → In x points → In x (unpacked commalist part)
+    some x i = ((In-filter (λ y. is_true (test y)) x (unpacked commalist part)).0 (subst (λ (l : List Row). In x l) passing i)).0
 
-    joined_packed : packed acl (united (unpacked acl rest) points) ≡ united rest (packed acl points)
-    joined_packed = packed_law heading acl intervals value part sv closed are points up some
+    joined_packed : packed commalist (united (unpacked commalist rest) points) ≡ united rest (packed commalist points)
+    joined_packed = packed_law heading commalist intervals value part sv closed are points up some
 
-    joined_count : length (united rest (packed acl points)) ≡ length rest + length (packed acl points)
-    joined_count = count_law heading acl intervals value part sv closed points up some
+    joined_count : length (united rest (packed commalist points)) ≡ length rest + length (packed commalist points)
+    joined_count = count_law heading commalist intervals value part sv closed points up some
 
-    joined_labels : touched (outside acl heading) part (packed acl points) ≡ packed acl points
-    joined_labels = labels_law heading acl intervals value part sv closed points up some
+    joined_labels : touched (outside commalist heading) part (packed commalist points) ≡ packed commalist points
+    joined_labels = labels_law heading commalist intervals value part sv closed points up some
 
   module _ (test : Row → OrFault Bool) (place : Place) where
     abbrev closing : List Row → RowsMeant
-    closing points = limited place (packed acl points)
+    closing points = limited place (packed commalist points)
 
     abbrev meant : List Row → RowsMeant
-    meant rows = then_give (restricted test (unpacked acl rows)) closing
+    meant rows = then_give (restricted test (unpacked commalist rows)) closing
 
-    pub left_labels : (left : List Row) → meant part ≡ Ok left → touched (outside acl heading) part left ≡ left
-    left_labels left told = by (restricted test (unpacked acl part)) refl told
+    pub left_labels : (left : List Row) → meant part ≡ Ok left → touched (outside commalist heading) part left ≡ left
+    left_labels left told = by (restricted test (unpacked commalist part)) refl told
       where
-        by : (r : RowsMeant) → restricted test (unpacked acl part) ≡ r → then_give r closing ≡ Ok left → touched (outside acl heading) part left ≡ left
-        by (Ok points) q f = subst (λ (l : List Row). touched (outside acl heading) part l ≡ l) (limited_told place (packed acl points) left f) (joined_labels test points q)
+        by : (r : RowsMeant) → restricted test (unpacked commalist part) ≡ r → then_give r closing ≡ Ok left → touched (outside commalist heading) part left ≡ left
+        by (Ok points) q f = subst (λ (l : List Row). touched (outside commalist heading) part l ≡ l) (limited_told place (packed commalist points) left f) (joined_labels test points q)
         by (Err g) q f = absurd (cc)
 
-    pub dropped_meant : All (λ y. test y ≡ Ok false) (unpacked acl rest) → meant value ≡ meant part
-    dropped_meant fails = ap (λ (m : RowsMeant). then_give m closing) (dropped_law heading acl intervals value part sv closed test fails)
+    pub dropped_meant : All (λ y. test y ≡ Ok false) (unpacked commalist rest) → meant value ≡ meant part
+    dropped_meant fails = ap (λ (m : RowsMeant). then_give m closing) (dropped_law heading commalist intervals value part sv closed test fails)
 
-    module _ (passes : All (λ y. test y ≡ Ok true) (unpacked acl rest)) where
-      law : meant value ≡ then_give (then_give (restricted test (unpacked acl part)) (λ rows. Ok (united (unpacked acl rest) rows))) closing
-      law = ap (λ (m : RowsMeant). then_give m closing) (kept_law heading acl intervals value part sv closed test passes)
+    module _ (passes : All (λ y. test y ≡ Ok true) (unpacked commalist rest)) where
+      law : meant value ≡ then_give (then_give (restricted test (unpacked commalist part)) (λ rows. Ok (united (unpacked commalist rest) rows))) closing
+      law = ap (λ (m : RowsMeant). then_give m closing) (kept_law heading commalist intervals value part sv closed test passes)
 
       pub left_meant : (left : List Row) → meant part ≡ Ok left → meant value ≡ limited place (united rest left)
-      left_meant left told = law ∙ by (restricted test (unpacked acl part)) refl told
+      left_meant left told = law ∙ by (restricted test (unpacked commalist part)) refl told
         where
-          by : (r : RowsMeant) → restricted test (unpacked acl part) ≡ r → then_give r closing ≡ Ok left
-              → then_give (then_give r (λ rows. Ok (united (unpacked acl rest) rows))) closing ≡ limited place (united rest left)
-          by (Ok points) q f = ap (limited place) (joined_packed test points q ∙ ap (united rest) (limited_told place (packed acl points) left f))
+          by : (r : RowsMeant) → restricted test (unpacked commalist part) ≡ r → then_give r closing ≡ Ok left
+              → then_give (then_give r (λ rows. Ok (united (unpacked commalist rest) rows))) closing ≡ limited place (united rest left)
+          by (Ok points) q f = ap (limited place) (joined_packed test points q ∙ ap (united rest) (limited_told place (packed commalist points) left f))
           by (Err g) q f = absurd (cc)
 
       pub left_failed : (e : Fault) → meant part ≡ Err e → meant value ≡ Err e
-      left_failed e told = law ∙ by (restricted test (unpacked acl part)) refl told
+      left_failed e told = law ∙ by (restricted test (unpacked commalist part)) refl told
         where
-          by : (r : RowsMeant) → restricted test (unpacked acl part) ≡ r → then_give r closing ≡ Err e
-              → then_give (then_give r (λ rows. Ok (united (unpacked acl rest) rows))) closing ≡ Err e
+          by : (r : RowsMeant) → restricted test (unpacked commalist part) ≡ r → then_give r closing ≡ Err e
+              → then_give (then_give r (λ rows. Ok (united (unpacked commalist rest) rows))) closing ≡ Err e
           by (Ok points) q f =
-              let w = limited_failed place (packed acl points) e f in
+              let w = limited_failed place (packed commalist points) e f in
               let many = w.0 in
               let count = joined_count test points q in
-              let over : most_rows < length (united rest (packed acl points)) = omega (arith, many, count) in
-              ap (limited place) (joined_packed test points q) ∙ (limited_over place (united rest (packed acl points)) over ∙ ap Err w.1)
+              let over : most_rows < length (united rest (packed commalist points)) = omega (arith, many, count) in
+              ap (limited place) (joined_packed test points q) ∙ (limited_over place (united rest (packed commalist points)) over ∙ ap Err w.1)
           by (Err g) q f = cc
 
 -- ---- steps
@@ -162,9 +162,9 @@ fewer_sum f p (x ∷ xs) = by (p x) (fewer_sum f p xs)
         let whole : sum (map f (x ∷ xs)) ≡ f x + sum (map f xs) = all in
         omega (arith, ih, whole)
 
-pub fewer_paid : (heading : Heading) (acl : List ℕ) (c : Expr) (value part : List Row) → part ≡ touched (outside acl heading) part value → portion_cost acl c part ≤ portion_cost acl c value
-fewer_paid heading acl c value part closed =
-    let p : Row → Bool = λ x. has row_cmp (projected (outside acl heading) part) (part_of (outside acl heading) x) in
-    let less : cells_of_all acl (c ∷ []) (filter p value) ≤ cells_of_all acl (c ∷ []) value = fewer_sum (cells_of_row acl (c ∷ [])) p value in
-    point_grows acl (cells_of_all acl (c ∷ []) part) (cells_of_all acl (c ∷ []) value)
-    (subst (λ (rows : List Row). cells_of_all acl (c ∷ []) rows ≤ cells_of_all acl (c ∷ []) value) (sym closed) less)
+pub fewer_paid : (heading : Heading) (commalist : List ℕ) (c : Expr) (value part : List Row) → part ≡ touched (outside commalist heading) part value → portion_cost commalist c part ≤ portion_cost commalist c value
+fewer_paid heading commalist c value part closed =
+    let p : Row → Bool = λ x. has row_cmp (projected (outside commalist heading) part) (part_of (outside commalist heading) x) in
+    let less : cells_of_all commalist (c ∷ []) (filter p value) ≤ cells_of_all commalist (c ∷ []) value = fewer_sum (cells_of_row commalist (c ∷ [])) p value in
+    point_grows commalist (cells_of_all commalist (c ∷ []) part) (cells_of_all commalist (c ∷ []) value)
+    (subst (λ (rows : List Row). cells_of_all commalist (c ∷ []) rows ≤ cells_of_all commalist (c ∷ []) value) (sym closed) less)

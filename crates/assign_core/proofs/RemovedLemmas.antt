@@ -55,10 +55,10 @@ fits_named xs ys r n c e h f =
 
 one_fits : (before rest : Entries) (own : Name) (r : PlainRelvar) (c : Constraint) → IsConstraint before own r c → IsFitting ((before ++ (own, r) ∷ []) ++ rest) r c
 one_fits before rest own r (Key k) h = (tt, h)
-one_fits before rest own r (Packed acl) h = (tt, h)
-one_fits before rest own r (WhenUnpacked acl k) h = (tt, h)
-one_fits before rest own r (UKey acl k) h = (tt, h)
-one_fits before rest own r (Foreign acl k name there) h = fits_named (before ++ (own, r) ∷ []) rest r name (Foreign acl k name there) refl h.0 h.1
+one_fits before rest own r (Packed commalist) h = (tt, h)
+one_fits before rest own r (WhenUnpacked commalist k) h = (tt, h)
+one_fits before rest own r (UKey commalist k) h = (tt, h)
+one_fits before rest own r (Foreign commalist k name there) h = fits_named (before ++ (own, r) ∷ []) rest r name (Foreign commalist k name there) refl h.0 h.1
 one_fits before rest own r (History rule) h =
     subst (λ (z : Entries). IsFitting z r (History rule)) (sym (in_turn before ((own, r) ∷ []) rest))
     (fits_named before ((own, r) ∷ rest) r rule.since (History rule) refl h.0 h.1)
@@ -144,9 +144,9 @@ module _ (name : Name) where
       by true ih own f = ih f
       by false ih own f = none_of_two (first_in (left all) e.0 e.1) (first_among (left all) (left es)) (same_in all e.0 e.1 f.0 ∙ own) (ih f.1)
 
-  fewer_rows : (es : Entries) → rows_of_all (left es) ≤ rows_of_all es
-  fewer_rows [] = omega arith
-  fewer_rows (e ∷ es) = by (bytes_eq e.0 name) (fewer_rows es)
+  prepacked : (es : Entries) → rows_of_all (left es) ≤ rows_of_all es
+  prepacked [] = omega arith
+  prepacked (e ∷ es) = by (bytes_eq e.0 name) (prepacked es)
     where
       by : (b : Bool) → rows_of_all (left es) ≤ rows_of_all es → rows_of_all (cond (not b) (e ∷ left es) (left es)) ≤ count_of e + rows_of_all es
       by true ih = omega (arith, ih)
@@ -157,7 +157,7 @@ removed_kept s now name e kept made = subst IsKept (sym e) (record {
   well_made = made;
   holds = none_left name s.relvars s.relvars (all_fit (without name s) made) kept.holds;
   few =
-      let fewer = fewer_rows name s.relvars in
+      let fewer = prepacked name s.relvars in
       let few = kept.few in
       omega (arith, fewer, few);
 })

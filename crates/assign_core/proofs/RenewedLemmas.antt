@@ -1,7 +1,7 @@
 -- The state after an exchange of rows of a base relvar keeps what a database keeps.
 use Rattle.std.proofs.Common.{◌≡◌, ℕ, zero, suc, List, [], ◌∷◌, length, replicate, refl, sym, ap, subst, ◌∙◌, Some, None, Ok}
 use Rattle.value_core.specs.Values.{Relation}
-use Rattle.u_labels.specs.declared.exchange.Exchange.{Exchange}
+use Rattle.change_rows.specs.declared.exchange.Exchange.{Exchange}
 use Rattle.tree_core.specs.Items.{PlainAssignment}
 use Rattle.tree_core.specs.Relvars.{State, PlainRelvar, base, view, Entries}
 use Rattle.assign_core.specs.Assignments.{after_assignments}

@@ -28,8 +28,8 @@ use Rattle.meaning_core.specs.Rows.{extended_row}
 use Rattle.meaning_core.specs.Typing.{IsExtension, IsList, are_in, is_part, is_swept}
 use Rattle.meaning_core.specs.Updates.{IsTypedAssignment}
 use Rattle.meaning_core.specs.WellMade.{IsTypedFor, sizes_of}
-use Rattle.using_core.specs.Cells.{cells_of_all, scalars_of}
-use Rattle.using_core.proofs.ListLemmas.{positions_back}
+use Rattle.eval_using.specs.Cells.{cells_of_all, scalars_of}
+use Rattle.eval_using.proofs.ListLemmas.{positions_back}
 use Rattle.algebra_core.specs.Costs.{Prices, tree_cost, prices_in, paid, known_of}
 use Rattle.assign_core.specs.declared.revision.Changed.{Changed}
 use Rattle.assign_core.specs.declared.revision.Revision.{Revision}
@@ -48,43 +48,43 @@ paid_more (Err e) f g h = omega arith
 
 -- ---- nodes whose operands have the heading of the target
 
-module _ (h : Heading) (acl : List ℕ) (one : IsTrue (is_heading h)) (list : IsList h acl) where
-  places_at : (a b : Heading) → a ≡ h → b ≡ h → positions_of b (names_at a acl) ≡ acl
-  places_at a b p q = (λ t. positions_of (q t) (names_at (p t) acl)) ∙ positions_back h acl one list
+module _ (h : Heading) (commalist : List ℕ) (one : IsTrue (is_heading h)) (list : IsList h commalist) where
+  places_at : (a b : Heading) → a ≡ h → b ≡ h → positions_of b (names_at a commalist) ≡ commalist
+  places_at a b p q = (λ t. positions_of (q t) (names_at (p t) commalist)) ∙ positions_back h commalist one list
 
-  names_count : (a : Heading) → length (names_at a acl) ≡ length acl
-  names_count a = length-map acl (λ i. (slice_index_or a i no_attribute).0)
+  names_count : (a : Heading) → length (names_at a commalist) ≡ length commalist
+  names_count a = length-map commalist (λ i. (slice_index_or a i no_attribute).0)
 
   module _ (place : Place) (n : ChangedNodes) (sets : PlainSets) (t : Tree) (mine : RowsMeant) (p : n.headed ≡ h) (q : heading_of t ≡ h) where
-    pub changed_meant : (known : Known) → meaning known plainly t ≡ mine → meaning known plainly (changed_of place acl n sets t) ≡ then_give mine (changed_rows h place acl sets)
+    pub changed_meant : (known : Known) → meaning known plainly t ≡ mine → meaning known plainly (changed_of place commalist n sets t) ≡ then_give mine (changed_rows h place commalist sets)
     changed_meant known is =
         λ i. then_give (is i) (λ r. then_give (extended (extended_row (q i) (p i) sets) (unpacked (places_at n.headed (heading_of t) p q i) r)) (λ points. limited place (packed (places_at n.headed n.headed p p i) points)))
 
-    pub changed_paid : (prices : Prices) → meaning (known_of prices) plainly t ≡ mine → tree_cost prices plainly t + paid mine (changed_cost acl sets) ≤ tree_cost prices plainly (changed_of place acl n sets t)
+    pub changed_paid : (prices : Prices) → meaning (known_of prices) plainly t ≡ mine → tree_cost prices plainly t + paid mine (changed_cost commalist sets) ≤ tree_cost prices plainly (changed_of place commalist n sets t)
     changed_paid prices is =
-        let whole : List Row → ℕ = λ rows. bound (cells_of_all acl (scalars_of sets) rows) (length acl) in
-        let e : tree_cost prices plainly (changed_of place acl n sets t) ≡ tree_cost prices plainly t + paid mine whole =
+        let whole : List Row → ℕ = λ rows. bound (cells_of_all commalist (scalars_of sets) rows) (length commalist) in
+        let e : tree_cost prices plainly (changed_of place commalist n sets t) ≡ tree_cost prices plainly t + paid mine whole =
         λ i. tree_cost prices plainly t + paid (is i) (λ rows. bound (cells_of_all (places_at n.headed (heading_of t) p q i) (scalars_of sets) rows) (names_count n.headed i)) in
-        let less = paid_more mine (changed_cost acl sets) whole (λ rows. point_least acl (cells_of_all acl (scalars_of sets) rows)) in
+        let less = paid_more mine (changed_cost commalist sets) whole (λ rows. point_least commalist (cells_of_all commalist (scalars_of sets) rows)) in
         omega (arith, e, less)
 
   module _ (place at : Place) (heading headed : Heading) (l r : Tree) (mine yours : RowsMeant) (p : headed ≡ h) (q : heading_of l ≡ h) (s : heading_of r ≡ h) where
     pub union_meant : (known : Known) → meaning known plainly l ≡ mine → meaning known plainly r ≡ yours
-        → meaning known plainly (using place heading acl (infix_of at headed Union l r)) ≡ then_give mine (λ a. then_give yours (λ b. limited place (packed acl (united (unpacked acl a) (unpacked acl b)))))
+        → meaning known plainly (using place heading commalist (infix_of at headed Union l r)) ≡ then_give mine (λ a. then_give yours (λ b. limited place (packed commalist (united (unpacked commalist a) (unpacked commalist b)))))
     union_meant known is has =
         λ i. then_give (is i) (λ a. then_give (has i) (λ b.
         limited place (packed (places_at headed headed p p i) (united (unpacked (places_at headed (heading_of l) p q i) a) (unpacked (places_at headed (heading_of r) p s i) b)))))
 
     pub union_paid : (prices : Prices) → meaning (known_of prices) plainly l ≡ mine → meaning (known_of prices) plainly r ≡ yours
-        → tree_cost prices plainly l + paid mine (λ a. tree_cost prices plainly r + paid yours (λ b. point_cost acl (length a + length b)))
-        ≤ tree_cost prices plainly (using place heading acl (infix_of at headed Union l r))
+        → tree_cost prices plainly l + paid mine (λ a. tree_cost prices plainly r + paid yours (λ b. point_cost commalist (length a + length b)))
+        ≤ tree_cost prices plainly (using place heading commalist (infix_of at headed Union l r))
     union_paid prices is has =
-        let some : List Row → ℕ = λ a. tree_cost prices plainly r + paid yours (λ b. point_cost acl (length a + length b)) in
-        let whole : List Row → ℕ = λ a. tree_cost prices plainly r + paid yours (λ b. bound (length a + length b) (length acl)) in
-        let e : tree_cost prices plainly (using place heading acl (infix_of at headed Union l r)) ≡ tree_cost prices plainly l + paid mine whole =
+        let some : List Row → ℕ = λ a. tree_cost prices plainly r + paid yours (λ b. point_cost commalist (length a + length b)) in
+        let whole : List Row → ℕ = λ a. tree_cost prices plainly r + paid yours (λ b. bound (length a + length b) (length commalist)) in
+        let e : tree_cost prices plainly (using place heading commalist (infix_of at headed Union l r)) ≡ tree_cost prices plainly l + paid mine whole =
         λ i. tree_cost prices plainly l + paid (is i) (λ a. tree_cost prices plainly r + paid (has i) (λ b. bound (length a + length b) (names_count headed i))) in
         let less = paid_more mine some whole (λ a.
-        let last = paid_more yours (λ b. point_cost acl (length a + length b)) (λ b. bound (length a + length b) (length acl)) (λ b. point_least acl (length a + length b)) in
+        let last = paid_more yours (λ b. point_cost commalist (length a + length b)) (λ b. bound (length a + length b) (length commalist)) (λ b. point_least commalist (length a + length b)) in
         omega (arith, last)) in
         omega (arith, e, less)
 
@@ -95,28 +95,28 @@ one_given o a b e f = cc
 
 module _ (s : State) (h : Heading) (target : Name) where
   -- the name stands for rows of one heading
-  nodes_alike : (place other : Place) (acl own : List ℕ) (n m : PortionNodes) (c e : Expr) → IsTypedFor s (portion_of place acl n c target) → AreNodesOf h n → IsTypedFor s (portion_of other own m e target) → AreNodesOf h m
-  nodes_alike place other acl own n m c e typed fit too =
+  nodes_alike : (place other : Place) (commalist own : List ℕ) (n m : PortionNodes) (c e : Expr) → IsTypedFor s (portion_of place commalist n c target) → AreNodesOf h n → IsTypedFor s (portion_of other own m e target) → AreNodesOf h m
+  nodes_alike place other commalist own n m c e typed fit too =
       let given : m.given ≡ h = one_given _ m.given n.given too.0.0 typed.0.0 ∙ fit.given in
       let headed : m.headed ≡ h = too.0.1.headed ∙ given in
       record { heading = too.2 ∙ headed; headed = headed; given = given }
 
-  changed_for : (x : Changed) (n : ChangedNodes) (t : Tree) → IsTypedFor s (changed_of x.place x.acl.now n (read_sets x.sets.now) t) → n.heading ≡ h → heading_of t ≡ h → IsPortionFor h x.portion → IsChangedFor h x
+  changed_for : (x : Changed) (n : ChangedNodes) (t : Tree) → IsTypedFor s (changed_of x.place x.commalist.now n (read_sets x.sets.now) t) → n.heading ≡ h → heading_of t ≡ h → IsPortionFor h x.portion → IsChangedFor h x
   changed_for x n t typed is of portion =
-      let acl = x.acl.now in
+      let commalist = x.commalist.now in
       let sets = read_sets x.sets.now in
       let sizes = sizes_of s.ordinals in
       let headed : n.headed ≡ h = sym typed.2 ∙ is in
-      let part = subst (λ (g : Heading). IsTrue (is_part (names_at g acl) (extend n.at n.headed sets t))) is typed.3 in
+      let part = subst (λ (g : Heading). IsTrue (is_part (names_at g commalist) (extend n.at n.headed sets t))) is typed.3 in
       let first = and_parts _ _ part in
       let more = and_parts _ _ first.1 in
       record {
         sizes = sizes;
         extension = subst (λ (g : Heading). IsExtension sizes h g sets) headed (subst (λ (g : Heading). IsExtension sizes g n.headed sets) of typed.0.1);
-        list = subst (λ (g : Heading). IsList g acl) is typed.1;
-        listed = subst (λ (g : Heading). IsTrue (are_in g (names_at h acl) h)) headed (subst (λ (g : Heading). IsTrue (are_in n.headed (names_at h acl) g)) of first.0);
+        list = subst (λ (g : Heading). IsList g commalist) is typed.1;
+        listed = subst (λ (g : Heading). IsTrue (are_in g (names_at h commalist) h)) headed (subst (λ (g : Heading). IsTrue (are_in n.headed (names_at h commalist) g)) of first.0);
         swept = record {
-          swept = subst (λ (g : Heading). IsTrue (list_all (λ s. is_swept (positions_of g (names_at h acl)) s.1) sets)) of more.0;
+          swept = subst (λ (g : Heading). IsTrue (list_all (λ s. is_swept (positions_of g (names_at h commalist)) s.1) sets)) of more.0;
           kept = more.1;
         };
         portion = portion;
@@ -132,8 +132,8 @@ module _ (s : State) (r : Revision) (at : ℕ) (value : Relation) (constraints :
   abbrev h : Heading
   h = value.heading
 
-  abbrev acl : List ℕ
-  acl = r.acl.now
+  abbrev commalist : List ℕ
+  commalist = r.commalist.now
 
   abbrev target : Name
   target = r.assignment.now.target
@@ -158,22 +158,22 @@ module _ (s : State) (r : Revision) (at : ℕ) (value : Relation) (constraints :
 
   -- the expressions, by the list of the whole
   abbrev left : Tree
-  left = portion_of r.kept.place acl n.kept not_c target
+  left = portion_of r.kept.place commalist n.kept not_c target
 
   abbrev some : Tree
-  some = portion_of r.changed.portion.place acl n.changed.portion d target
+  some = portion_of r.changed.portion.place commalist n.changed.portion d target
 
   abbrev more : Tree
-  more = changed_of r.changed.place acl n.changed sets some
+  more = changed_of r.changed.place commalist n.changed sets some
 
-  same : read_assignment r.assignment.now ≡ revision_of place top acl n left more target
+  same : read_assignment r.assignment.now ≡ revision_of place top commalist n left more target
   same =
       is.is
-      ∙ (ap (λ (l : List ℕ). revision_of place top acl n (portion_of r.kept.place l n.kept not_c target) (changed_tree r n.changed) target) is.alike.kept
-      ∙ (ap (λ (l : List ℕ). revision_of place top acl n left (changed_of r.changed.place r.changed.acl.now n.changed sets (portion_of r.changed.portion.place l n.changed.portion d target)) target) is.alike.portion
-      ∙ ap (λ (l : List ℕ). revision_of place top acl n left (changed_of r.changed.place l n.changed sets (portion_of r.changed.portion.place l n.changed.portion d target)) target) is.alike.changed))
+      ∙ (ap (λ (l : List ℕ). revision_of place top commalist n (portion_of r.kept.place l n.kept not_c target) (changed_tree r n.changed) target) is.alike.kept
+      ∙ (ap (λ (l : List ℕ). revision_of place top commalist n left (changed_of r.changed.place r.changed.commalist.now n.changed sets (portion_of r.changed.portion.place l n.changed.portion d target)) target) is.alike.portion
+      ∙ ap (λ (l : List ℕ). revision_of place top commalist n left (changed_of r.changed.place l n.changed sets (portion_of r.changed.portion.place l n.changed.portion d target)) target) is.alike.changed))
 
-  tree : IsTypedFor s (revision_of place top acl n left more target).tree
+  tree : IsTypedFor s (revision_of place top commalist n left more target).tree
   tree = subst (λ (b : PlainAssignment). IsTypedFor s b.tree) same typed.typed
 
   whole : top ≡ h
@@ -189,10 +189,10 @@ module _ (s : State) (r : Revision) (at : ℕ) (value : Relation) (constraints :
   more_headed = sym tree.0.2.0 ∙ left_headed
 
   left_fit : AreNodesOf h n.kept
-  left_fit = portion_nodes s h r.kept.place target n.kept acl not_c tree.0.0 left_headed
+  left_fit = portion_nodes s h r.kept.place target n.kept commalist not_c tree.0.0 left_headed
 
   some_fit : AreNodesOf h n.changed.portion
-  some_fit = nodes_alike s h target r.kept.place r.changed.portion.place acl acl n.kept n.changed.portion not_c d tree.0.0 left_fit tree.0.1.0.0
+  some_fit = nodes_alike s h target r.kept.place r.changed.portion.place commalist commalist n.kept n.changed.portion not_c d tree.0.0 left_fit tree.0.1.0.0
 
   more_inner : n.changed.headed ≡ h
   more_inner = sym tree.0.1.2 ∙ more_headed
@@ -212,46 +212,46 @@ module _ (s : State) (r : Revision) (at : ℕ) (value : Relation) (constraints :
       changed_for s h target r.changed n.changed some
       (subst (λ (l : List ℕ). IsTypedFor s (changed_of r.changed.place l n.changed sets some)) (sym is.alike.changed) tree.0.1) more_headed some_fit.heading some_for
 
-  listed : IsList h acl
+  listed : IsList h commalist
   listed = subst (λ (l : List ℕ). IsList h l) is.alike.kept kept_for.list
 
   -- ---- its meaning
 
   module _ (known : Known) (stands : (from : Place) → meaning known plainly (named from h target) ≡ Ok value.rows) where
     left_is : meaning known plainly left ≡ left_of r value.rows
-    left_is = portion_meant h acl relation.headed listed target value.rows r.kept.place n.kept not_c left_fit known stands
+    left_is = portion_meant h commalist relation.headed listed target value.rows r.kept.place n.kept not_c left_fit known stands
 
     some_is : meaning known plainly some ≡ taken_of r value.rows
-    some_is = portion_meant h acl relation.headed listed target value.rows r.changed.portion.place n.changed.portion d some_fit known stands
+    some_is = portion_meant h commalist relation.headed listed target value.rows r.changed.portion.place n.changed.portion d some_fit known stands
 
     more_is : meaning known plainly more ≡ then_give (taken_of r value.rows) (added_of h r)
-    more_is = changed_meant h acl relation.headed listed r.changed.place n.changed sets some (taken_of r value.rows) more_inner some_fit.heading known some_is
+    more_is = changed_meant h commalist relation.headed listed r.changed.place n.changed sets some (taken_of r value.rows) more_inner some_fit.heading known some_is
 
-    whole_is : meaning known plainly (using place top acl (infix_of n.at n.headed Union left more)) ≡ revised_rows h r value.rows
-    whole_is = union_meant h acl relation.headed listed place n.at top n.headed left more (left_of r value.rows) (then_give (taken_of r value.rows) (added_of h r)) headed left_headed more_headed known left_is more_is
+    whole_is : meaning known plainly (using place top commalist (infix_of n.at n.headed Union left more)) ≡ revised_rows h r value.rows
+    whole_is = union_meant h commalist relation.headed listed place n.at top n.headed left more (left_of r value.rows) (then_give (taken_of r value.rows) (added_of h r)) headed left_headed more_headed known left_is more_is
 
   -- ---- its steps
 
   module _ (prices : Prices) (stands : (from : Place) → meaning (known_of prices) plainly (named from h target) ≡ Ok value.rows) where
-    left_paid : portion_cost acl not_c value.rows ≤ tree_cost prices plainly left
-    left_paid = let e = portion_paid h acl relation.headed listed target value.rows r.kept.place n.kept not_c left_fit prices stands in omega (arith, e)
+    left_paid : portion_cost commalist not_c value.rows ≤ tree_cost prices plainly left
+    left_paid = let e = portion_paid h commalist relation.headed listed target value.rows r.kept.place n.kept not_c left_fit prices stands in omega (arith, e)
 
-    more_paid : portion_cost acl d value.rows + paid (taken_of r value.rows) (changed_cost acl sets) ≤ tree_cost prices plainly more
+    more_paid : portion_cost commalist d value.rows + paid (taken_of r value.rows) (changed_cost commalist sets) ≤ tree_cost prices plainly more
     more_paid =
-        let e = portion_paid h acl relation.headed listed target value.rows r.changed.portion.place n.changed.portion d some_fit prices stands in
-        let f = changed_paid h acl relation.headed listed r.changed.place n.changed sets some (taken_of r value.rows) more_inner some_fit.heading prices (some_is (known_of prices) stands) in
+        let e = portion_paid h commalist relation.headed listed target value.rows r.changed.portion.place n.changed.portion d some_fit prices stands in
+        let f = changed_paid h commalist relation.headed listed r.changed.place n.changed sets some (taken_of r value.rows) more_inner some_fit.heading prices (some_is (known_of prices) stands) in
         omega (arith, e, f)
 
     -- what follows the rows that are left, by what is known of the others
     abbrev follows : List Row → ℕ
-    follows a = (portion_cost acl d value.rows + paid (taken_of r value.rows) (changed_cost acl sets)) + paid (then_give (taken_of r value.rows) (added_of h r)) (λ b. point_cost acl (length a + length b))
+    follows a = (portion_cost commalist d value.rows + paid (taken_of r value.rows) (changed_cost commalist sets)) + paid (then_give (taken_of r value.rows) (added_of h r)) (λ b. point_cost commalist (length a + length b))
 
     abbrev own : List Row → ℕ
-    own a = tree_cost prices plainly more + paid (then_give (taken_of r value.rows) (added_of h r)) (λ b. point_cost acl (length a + length b))
+    own a = tree_cost prices plainly more + paid (then_give (taken_of r value.rows) (added_of h r)) (λ b. point_cost commalist (length a + length b))
 
-    whole_paid : revision_cost h r value.rows ≤ tree_cost prices plainly (using place top acl (infix_of n.at n.headed Union left more))
+    whole_paid : revision_cost h r value.rows ≤ tree_cost prices plainly (using place top commalist (infix_of n.at n.headed Union left more))
     whole_paid =
-        let e = union_paid h acl relation.headed listed place n.at top n.headed left more (left_of r value.rows) (then_give (taken_of r value.rows) (added_of h r)) headed left_headed more_headed prices
+        let e = union_paid h commalist relation.headed listed place n.at top n.headed left more (left_of r value.rows) (then_give (taken_of r value.rows) (added_of h r)) headed left_headed more_headed prices
         (left_is (known_of prices) stands) (more_is (known_of prices) stands) in
         let less : paid (left_of r value.rows) follows ≤ paid (left_of r value.rows) own = paid_more (left_of r value.rows) follows own (λ a. let m = more_paid in omega (arith, m)) in
         let first = left_paid in
@@ -262,7 +262,7 @@ module _ (s : State) (r : Revision) (at : ℕ) (value : Relation) (constraints :
       let seen = seen_by es es target in
       let meant = whole_is (known_in seen) (name_stands es target at value constraints first relation.few) in
       let taken = whole_paid (prices_in seen) (name_priced es target at value constraints first relation.few) in
-      let cost : source_cost es es (read_assignment r.assignment.now) ≡ source_cost es es (revision_of place top acl n left more target) = ap (source_cost es es) same in
+      let cost : source_cost es es (read_assignment r.assignment.now) ≡ source_cost es es (revision_of place top commalist n left more target) = ap (source_cost es es) same in
       record {
         constraints = constraints;
         first = first;

@@ -17,7 +17,7 @@ use Rattle.relation_core.specs.Operators.{united}
 use Rattle.relation_core.proofs.AgreementLemmas.{length_of_fit}
 use Rattle.meaning_core.specs.Typing.{IsListIf}
 use Rattle.meaning_core.proofs.MadeLemmas.{same_name}
-use Rattle.using_core.proofs.ListLemmas.{intervals_of_list}
+use Rattle.eval_using.proofs.ListLemmas.{intervals_of_list}
 use Rattle.u_set.specs.Boxes.{AreIntervals}
 use Rattle.u_set.proofs.RelationLemmas.{relation_shaped, shaped_under}
 use Rattle.u_constraints.specs.Constraints.{broken, first_failed, is_packed}
@@ -26,23 +26,23 @@ use Rattle.u_constraints.proofs.GrownKeyLemmas.{In-exchanged}
 use Rattle.u_constraints.proofs.KeyLemmas.{is_key-AgreeOnce}
 use Rattle.u_constraints.proofs.PackedLemmas.{packed_already}
 use Rattle.u_constraints.proofs.WholeKeyLemmas.{agree_once, whole_key}
-use Rattle.u_labels.proofs.LabelLemmas.{IsSet, both_set}
-use Rattle.u_labels.proofs.TwiceLemmas.{packed_twice}
+use Rattle.change_rows.proofs.LabelLemmas.{IsSet, both_set}
+use Rattle.change_rows.proofs.TwiceLemmas.{packed_twice}
 use Rattle.assign_core.specs.Insertions.{united_in}
 use Rattle.assign_core.specs.Turnovers.{ArePackedIf}
 
 -- rows that a list has packed are packed on it
-packed_again : (value operand : Relation) → IsRelation value → IsRelation operand → operand.heading ≡ value.heading → (acl : List ℕ) → AreIntervals value.heading acl → (rows : List Row)
-    → rows ≡ united_in (Some acl) value.rows operand.rows → packed acl rows ≡ rows
-packed_again value operand is is' heading acl intervals rows e =
-    let own : IsSet value.heading acl intervals value.rows = (Ascends-from_sorted row_cmp value.rows is.ascending, relation_shaped value is acl intervals) in
-    let others : IsSet value.heading acl intervals operand.rows = (Ascends-from_sorted row_cmp operand.rows is'.ascending, shaped_under value.heading operand (sym heading) is' acl intervals) in
-    ap (packed acl) e ∙ packed_twice value.heading acl intervals (united (unpacked acl value.rows) (unpacked acl operand.rows)) (both_set value.heading acl intervals value.rows operand.rows own others) ∙ sym e
+packed_again : (value operand : Relation) → IsRelation value → IsRelation operand → operand.heading ≡ value.heading → (commalist : List ℕ) → AreIntervals value.heading commalist → (rows : List Row)
+    → rows ≡ united_in (Some commalist) value.rows operand.rows → packed commalist rows ≡ rows
+packed_again value operand is is' heading commalist intervals rows e =
+    let own : IsSet value.heading commalist intervals value.rows = (Ascends-from_sorted row_cmp value.rows is.ascending, relation_shaped value is commalist intervals) in
+    let others : IsSet value.heading commalist intervals operand.rows = (Ascends-from_sorted row_cmp operand.rows is'.ascending, shaped_under value.heading operand (sym heading) is' commalist intervals) in
+    ap (packed commalist) e ∙ packed_twice value.heading commalist intervals (united (unpacked commalist value.rows) (unpacked commalist operand.rows)) (both_set value.heading commalist intervals value.rows operand.rows own others) ∙ sym e
 
 pub are_packed : (value operand : Relation) → IsRelation value → IsRelation operand → operand.heading ≡ value.heading → (l : Option (List ℕ)) → IsListIf value.heading l → (rows : List Row)
     → rows ≡ united_in l value.rows operand.rows → ArePackedIf l rows
 are_packed value operand is is' heading None listed rows e = tt
-are_packed value operand is is' heading (Some acl) listed rows e = packed_again value operand is is' heading acl (intervals_of_list value.heading acl listed) rows e
+are_packed value operand is is' heading (Some commalist) listed rows e = packed_again value operand is is' heading commalist (intervals_of_list value.heading commalist listed) rows e
 
 module _ (value come : Relation) (gone : List Row) (is : IsRelation value) (is' : IsRelation come) (heading : come.heading ≡ value.heading) where
   abbrev rows : List Row
@@ -54,25 +54,25 @@ module _ (value come : Relation) (gone : List Row) (is : IsRelation value) (is' 
     | inr j ↦ length_of_fit come.heading x ((list_all-In (fits_heading come.heading) come.rows).0 is'.fitting x j) ∙ ap length heading
   ]
 
-  set : (acl : List ℕ) (intervals : AreIntervals value.heading acl) → IsSet value.heading acl intervals rows
-  set acl intervals = (
+  set : (commalist : List ℕ) (intervals : AreIntervals value.heading commalist) → IsSet value.heading commalist intervals rows
+  set commalist intervals = (
     Ascends-difference_of row_cmp row_total row_separates (united value.rows come.rows) gone (Ascends-union_of row_cmp row_total row_separates value.rows come.rows),
     λ x i. elim ((In-exchanged value.rows gone come.rows x).0 i).0 [
-      | inl j ↦ relation_shaped value is acl intervals x j
-      | inr j ↦ shaped_under value.heading come (sym heading) is' acl intervals x j
+      | inl j ↦ relation_shaped value is commalist intervals x j
+      | inr j ↦ shaped_under value.heading come (sym heading) is' commalist intervals x j
     ],
   )
 
-  packed_by : (own acl : List ℕ) → pointwise nat_eq own acl ≡ true → packed acl rows ≡ rows → true ≡ is_packed own rows
-  packed_by own acl same are = packed_already own rows (subst (λ (l : List ℕ). packed l rows ≡ rows) (sym (same_name own acl same)) are)
+  packed_by : (own commalist : List ℕ) → pointwise nat_eq own commalist ≡ true → packed commalist rows ≡ rows → true ≡ is_packed own rows
+  packed_by own commalist same are = packed_already own rows (subst (λ (l : List ℕ). packed l rows ≡ rows) (sym (same_name own commalist same)) are)
 
-  pub packed_told : (own acl : List ℕ) (others : List Row) → pointwise nat_eq own acl ≡ true → packed acl rows ≡ rows → broken (Packed own) rows others ≡ None
-  packed_told own acl others same are = let p = packed_by own acl same are in λ t. first_failed ((sym p t, E41) ∷ [])
+  pub packed_told : (own commalist : List ℕ) (others : List Row) → pointwise nat_eq own commalist ≡ true → packed commalist rows ≡ rows → broken (Packed own) rows others ≡ None
+  packed_told own commalist others same are = let p = packed_by own commalist same are in λ t. first_failed ((sym p t, E41) ∷ [])
 
-  pub key_told : (own acl key : List ℕ) (others : List Row) → AreIntervals value.heading own → pointwise nat_eq own acl ≡ true → packed acl rows ≡ rows
+  pub key_told : (own commalist key : List ℕ) (others : List Row) → AreIntervals value.heading own → pointwise nat_eq own commalist ≡ true → packed commalist rows ≡ rows
       → ((i : ℕ) → i < length value.heading → among key i ≡ true) → broken (UKey own key) rows others ≡ None
-  key_told own acl key others intervals same are all =
-      let p = packed_by own acl same are in
+  key_told own commalist key others intervals same are all =
+      let p = packed_by own commalist same are in
       let s = set own intervals in
       let opened = whole_key value.heading own intervals rows s.0 s.1 key all in
       let plain = (is_key-AgreeOnce key rows).1 (agree_once (length value.heading) key all rows long) in

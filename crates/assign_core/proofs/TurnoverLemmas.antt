@@ -31,7 +31,7 @@ use Rattle.meaning_core.proofs.MadeLemmas.{same_name}
 use Rattle.meaning_core.proofs.EntryLemmas.{named_first}
 use Rattle.u_constraints.specs.Constraints.{rows_or_none}
 use Rattle.u_constraints.specs.Growth.{exchanged}
-use Rattle.u_labels.specs.declared.exchange.Exchange.{Exchange}
+use Rattle.change_rows.specs.declared.exchange.Exchange.{Exchange}
 use Rattle.assign_core.specs.Assignments.{unless_broken, kept_or_refused, IsAdmitted}
 use Rattle.assign_core.specs.Breaches.{count_of, rows_of_all, value_if, value_at, first_broken}
 use Rattle.assign_core.specs.Changes.{Tells}

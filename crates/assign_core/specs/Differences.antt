@@ -6,7 +6,7 @@ use Rattle.std.specs.Prelude.{◌≡◌, ℕ, zero, suc, List, [], ◌∷◌, Op
 use Rattle.value_core.specs.declared.constraint.Constraint.{Constraint}
 use Rattle.value_core.specs.Values.{Name, Relation}
 use Rattle.tree_core.specs.Relvars.{PlainRelvar, base, Entries}
-use Rattle.u_labels.specs.declared.exchange.Exchange.{Exchange}
+use Rattle.change_rows.specs.declared.exchange.Exchange.{Exchange}
 use Rattle.assign_core.specs.declared.checking.After.{After}
 use Rattle.assign_core.specs.declared.differences.Only.{Only}
 use Rattle.assign_core.specs.Breaches.{value_of}

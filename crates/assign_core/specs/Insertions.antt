@@ -36,7 +36,7 @@ use Rattle.assign_core.specs.Assignments.{source_value, evaluated, of_values}
 -- second ones those of the node under USING
 abbrev pub joined_under : Place → Heading → Option (List ℕ) → Place → Heading → InfixWord → Tree → Tree → Tree
 joined_under place heading None at headed word l r = infix_of place heading word l r
-joined_under place heading (Some acl) at headed word l r = using place heading acl (infix_of at headed word l r)
+joined_under place heading (Some commalist) at headed word l r = using place heading commalist (infix_of at headed word l r)
 
 -- the places and headings of the nodes in an insertion: of the union, and of the target's name
 pub record Nodes : Type 0 where
@@ -63,12 +63,12 @@ pub record IsInsertion (i : Insertion) : Type 0 where
 
 abbrev pub united_in : Option (List ℕ) → List Row → List Row → List Row
 united_in None r s = united r s
-united_in (Some acl) r s = packed acl (united (unpacked acl r) (unpacked acl s))
+united_in (Some commalist) r s = packed commalist (united (unpacked commalist r) (unpacked commalist s))
 
 -- the steps that they take, where they are so many together
 abbrev pub united_cost : Option (List ℕ) → ℕ → ℕ
 united_cost None n = 0
-united_cost (Some acl) n = bound n (length acl)
+united_cost (Some commalist) n = bound n (length commalist)
 
 -- ---- an insertion whose operand has a value
 
@@ -99,19 +99,19 @@ IsPlain a = united_in (list_in a.insertion) a.value.now.rows a.operand.now.rows 
 
 -- whether a constraint keeps the rows of its relvar packed on a list
 abbrev pub keeps_packed : List ℕ → Constraint → Bool
-keeps_packed acl (Packed own) = pointwise nat_eq own acl
-keeps_packed acl (UKey own k) = pointwise nat_eq own acl
-keeps_packed acl _ = false
+keeps_packed commalist (Packed own) = pointwise nat_eq own commalist
+keeps_packed commalist (UKey own k) = pointwise nat_eq own commalist
+keeps_packed commalist _ = false
 
 -- whether one of those of a base relvar does
 abbrev pub is_kept_packed : List ℕ → PlainRelvar → Bool
-is_kept_packed acl (base value constraints) = list_any (keeps_packed acl) constraints
-is_kept_packed acl (view t history) = false
+is_kept_packed commalist (base value constraints) = list_any (keeps_packed commalist) constraints
+is_kept_packed commalist (view t history) = false
 
 -- the insertion stands under the list, and the target is packed on it
-pub record IsPackedOn (a : Addition) (acl : List ℕ) : Type 0 where
-  pub listed : list_in a.insertion ≡ Some acl
-  pub same : packed acl a.value.now.rows ≡ a.value.now.rows
+pub record IsPackedOn (a : Addition) (commalist : List ℕ) : Type 0 where
+  pub listed : list_in a.insertion ≡ Some commalist
+  pub same : packed commalist a.value.now.rows ≡ a.value.now.rows
 
 -- the steps that their rows take, united under the list
 abbrev pub addition_cost : Addition → ℕ

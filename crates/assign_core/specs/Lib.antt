@@ -5,7 +5,7 @@ pub mod Checks
 pub mod Costs
 pub mod Databases
 pub mod Differences
-pub mod Marked
+pub mod Hashed
 pub mod Turnovers
 pub mod Insertions
 pub mod Parts

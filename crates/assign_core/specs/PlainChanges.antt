@@ -29,7 +29,7 @@ rows_where place n c target = restrict place n.headed c (named n.from n.given ta
 
 pub record IsPlainPortion (p : Portion) (target : Name) (t : Tree) : Type 0 where
   pub nodes : RowNodes
-  pub listed : p.acl.now ≡ []
+  pub listed : p.commalist.now ≡ []
   pub is : t ≡ rows_where p.place nodes (read p.condition.now) target
 
 -- the assignment leaves its target's rows where a condition does not hold
@@ -52,8 +52,8 @@ rows_with place n sets t = extend place n.headed sets t
 
 pub record IsPlainChanged (x : Changed) (target : Name) (t : Tree) : Type 0 where
   pub nodes : NewNodes
-  pub listed : x.acl.now ≡ []
-  pub portion : x.portion.acl.now ≡ []
+  pub listed : x.commalist.now ≡ []
+  pub portion : x.portion.commalist.now ≡ []
   pub is : t ≡ rows_with x.place nodes (read_sets x.sets.now) (rows_where x.portion.place nodes.portion (read x.portion.condition.now) target)
 
 abbrev pub plain_revision_of : Place → Heading → Tree → Tree → Name → PlainAssignment
@@ -63,7 +63,7 @@ plain_revision_of place heading l r target = record { target = target; tree = in
 pub record IsPlainRevision (r : Revision) : Type 0 where
   pub left : Tree
   pub right : Tree
-  pub listed : r.acl.now ≡ []
+  pub listed : r.commalist.now ≡ []
   pub kept : IsPlainPortion r.kept r.assignment.now.target left
   pub changed : IsPlainChanged r.changed r.assignment.now.target right
   pub negates : IsNegation (read r.kept.condition.now) (read r.gone.now)

@@ -21,9 +21,9 @@ use Rattle.tree_core.specs.Trees.{Tree, named, restrict, using}
 use Rattle.meaning_core.specs.Meanings.{RowsMeant, condition, limited}
 use Rattle.meaning_core.specs.Names.{IsFirstAt}
 use Rattle.meaning_core.specs.Typing.{IsScalar, IsList}
-use Rattle.using_core.specs.Cells.{cells_of_all}
-use Rattle.using_core.specs.Using.{IsSweptBy}
-use Rattle.u_changes.specs.Concerned.{AreFalse, IsClosedPart}
+use Rattle.eval_using.specs.Cells.{cells_of_all}
+use Rattle.eval_using.specs.Using.{IsSweptBy}
+use Rattle.change_rows.specs.Affected.{AreFalse, IsClosedPart}
 use Rattle.assign_core.specs.declared.portion.Portion.{Portion}
 use Rattle.assign_core.specs.declared.portion.Deletion.{Deletion}
 use Rattle.assign_core.specs.Assignments.{source_value}
@@ -41,22 +41,22 @@ pub record PortionNodes : Type 0 where
 
 -- the target's rows at the points where the condition holds
 abbrev pub portion_of : Place → List ℕ → PortionNodes → Expr → Name → Tree
-portion_of place acl n c target = using place n.heading acl (restrict n.at n.headed c (named n.from n.given target))
+portion_of place commalist n c target = using place n.heading commalist (restrict n.at n.headed c (named n.from n.given target))
 
 -- what it means where the target has these rows
 abbrev pub portion_rows : Place → List ℕ → Expr → List Row → RowsMeant
-portion_rows place acl c rows = then_give (restricted (condition c) (unpacked acl rows)) (λ points. limited place (packed acl points))
+portion_rows place commalist c rows = then_give (restricted (condition c) (unpacked commalist rows)) (λ points. limited place (packed commalist points))
 
 pub record IsPortion (p : Portion) (target : Name) (t : Tree) : Type 0 where
   pub nodes : PortionNodes
-  pub is : t ≡ portion_of p.place p.acl.now nodes (read p.condition.now) target
+  pub is : t ≡ portion_of p.place p.commalist.now nodes (read p.condition.now) target
 
 -- the condition can be asked at each point of rows of the heading
 pub record IsPortionFor (heading : Heading) (p : Portion) : Type 0 where
   pub sizes : List ℕ
   pub condition : IsScalar sizes heading (read p.condition.now) Truth
-  pub list : IsList heading p.acl.now
-  pub swept : IsSweptBy heading p.acl.now heading (read p.condition.now)
+  pub list : IsList heading p.commalist.now
+  pub swept : IsSweptBy heading p.commalist.now heading (read p.condition.now)
 
 abbrev pub IsNegation : Expr → Expr → Type 0
 IsNegation e c = (place : Place) × (e ≡ one Not place c)
@@ -64,21 +64,21 @@ IsNegation e c = (place : Place) × (e ≡ one Not place c)
 -- the steps of what is asked at the points of rows with n cells; where no attribute is listed, rows are asked as they are
 abbrev pub point_cost : List ℕ → ℕ → ℕ
 point_cost [] n = 0
-point_cost (i ∷ acl) n = bound n (suc (length acl))
+point_cost (i ∷ commalist) n = bound n (suc (length commalist))
 
 -- the steps that a portion takes
 abbrev pub portion_cost : List ℕ → Expr → List Row → ℕ
-portion_cost acl c rows = point_cost acl (cells_of_all acl (c ∷ []) rows)
+portion_cost commalist c rows = point_cost commalist (cells_of_all commalist (c ∷ []) rows)
 
 -- ---- deletions
 
 abbrev pub deletion_of : Place → List ℕ → PortionNodes → Expr → Name → PlainAssignment
-deletion_of place acl n c target = record { target = target; tree = portion_of place acl n c target }
+deletion_of place commalist n c target = record { target = target; tree = portion_of place commalist n c target }
 
 -- the assignment leaves its target's rows at the points where a condition does not hold
 pub record IsDeletion (d : Deletion) : Type 0 where
   pub nodes : PortionNodes
-  pub is : read_assignment d.assignment.now ≡ deletion_of d.kept.place d.kept.acl.now nodes (read d.kept.condition.now) d.assignment.now.target
+  pub is : read_assignment d.assignment.now ≡ deletion_of d.kept.place d.kept.commalist.now nodes (read d.kept.condition.now) d.assignment.now.target
   pub negates : IsNegation (read d.kept.condition.now) (read d.gone.now)
 
 -- the target is the base relvar at the place, which is the first of its name and has the value; it gets what is left of its rows
@@ -89,13 +89,13 @@ pub record IsDeletionOf (entries : Entries) (d : Deletion) (at : ℕ) (value : R
   pub kept : IsPortionFor value.heading d.kept
   pub negates : IsNegation (read d.kept.condition.now) (read d.gone.now)
   pub meant : source_value entries entries (read_assignment d.assignment.now)
-      ≡ under value.heading (portion_rows d.kept.place d.kept.acl.now (read d.kept.condition.now) value.rows)
-  pub paid : portion_cost d.kept.acl.now (read d.kept.condition.now) value.rows ≤ source_cost entries entries (read_assignment d.assignment.now)
+      ≡ under value.heading (portion_rows d.kept.place d.kept.commalist.now (read d.kept.condition.now) value.rows)
+  pub paid : portion_cost d.kept.commalist.now (read d.kept.condition.now) value.rows ≤ source_cost entries entries (read_assignment d.assignment.now)
 
 -- ---- what a condition concerns
 
 -- rows of a packed relation, with all that have their labels; at no point of the others the condition holds or has a fault
-pub record IsConcerned (acl : List ℕ) (c : Expr) (value part : Relation) : Type 0 where
-  pub packed : packed acl value.rows ≡ value.rows
-  pub closed : IsClosedPart acl value part
-  pub others : AreFalse acl c (subtracted value.rows part.rows)
+pub record IsAffected (commalist : List ℕ) (c : Expr) (value part : Relation) : Type 0 where
+  pub packed : packed commalist value.rows ≡ value.rows
+  pub closed : IsClosedPart commalist value part
+  pub others : AreFalse commalist c (subtracted value.rows part.rows)

@@ -3,7 +3,7 @@
 use Rattle.scalar_core.specs.Expressions.{read}
 use Rattle.assign_core.specs.declared.reduction.Reduction.{Reduction}
 use Rattle.assign_core.specs.declared.target.Target.{Target}
-use Rattle.assign_core.specs.Portions.{IsConcerned, IsDeletionOf}
+use Rattle.assign_core.specs.Portions.{IsAffected, IsDeletionOf}
 use Rattle.assign_core.specs.Targets.{entries_before}
 
 -- the target of the deletion
@@ -12,4 +12,4 @@ reduced_target r = record { relvars = r.relvars; assignment = r.deletion.assignm
 
 pub record IsReduction (r : Reduction) : Type 0 where
   pub deletion : IsDeletionOf (entries_before (reduced_target r)) r.deletion r.at r.value.now
-  pub concerned : IsConcerned r.deletion.kept.acl.now (read r.deletion.gone.now) r.value.now r.part.now
+  pub affected : IsAffected r.deletion.kept.commalist.now (read r.deletion.gone.now) r.value.now r.part.now

@@ -1,5 +1,5 @@
 -- Revisions by conditions that concern some rows of a packed target alone.
---     IsRenewal      a revision, its target with the marks of its rows, and the rows that its conditions concern
+--     IsRenewal      a revision, its target with the hashes of its rows, and the rows that its conditions concern
 --     IsLeft, AreAdded      what is left of these rows, and what is added
 use Rattle.std.specs.Prelude.{◌≡◌, ℕ, ◌+◌, ◌≤◌, length, Ok}
 use Rattle.std.specs.List.{All}
@@ -8,11 +8,11 @@ use Rattle.value_core.specs.Values.{Relation, most_rows}
 use Rattle.scalar_core.specs.Expressions.{read}
 use Rattle.relation_core.specs.Growth.{touched}
 use Rattle.relation_core.specs.Operators.{subtracted, united}
-use Rattle.row_marks.specs.Marks.{AreMarksOf}
+use Rattle.relation_core.specs.Hashes.{AreHashesOf}
 use Rattle.u_set.specs.Apart.{outside}
 use Rattle.assign_core.specs.declared.renewal.Renewal.{Renewal}
 use Rattle.assign_core.specs.declared.target.Target.{Target}
-use Rattle.assign_core.specs.Portions.{point_cost, IsConcerned}
+use Rattle.assign_core.specs.Portions.{point_cost, IsAffected}
 use Rattle.assign_core.specs.Revisions.{left_of, taken_of, added_of, IsRevisionOf}
 use Rattle.assign_core.specs.Targets.{entries_before}
 
@@ -22,16 +22,16 @@ renewed_target r = record { relvars = r.relvars; assignment = r.revision.assignm
 
 pub record IsRenewal (r : Renewal) : Type 0 where
   pub revision : IsRevisionOf (entries_before (renewed_target r)) r.revision r.at r.value.now
-  pub gone : IsConcerned r.revision.acl.now (read r.revision.gone.now) r.value.now r.part.now
-  pub changed : IsConcerned r.revision.acl.now (read r.revision.changed.portion.condition.now) r.value.now r.part.now
-  pub marked : All (AreMarksOf r.value.now.rows) r.marks.now
+  pub gone : IsAffected r.revision.commalist.now (read r.revision.gone.now) r.value.now r.part.now
+  pub changed : IsAffected r.revision.commalist.now (read r.revision.changed.portion.condition.now) r.value.now r.part.now
+  pub hashed : All (AreHashesOf r.value.now.rows) r.hashes.now
 
 -- with the other rows, it is what is left of the target; it has labels of the part
 pub record IsLeft (r : Renewal) (left : Relation) : Type 0 where
   pub heading : left.heading ≡ r.value.now.heading
   pub meant : left_of r.revision r.value.now.rows ≡ Ok (united (subtracted r.value.now.rows r.part.now.rows) left.rows)
   pub few : length (united (subtracted r.value.now.rows r.part.now.rows) left.rows) ≤ most_rows
-  pub labels : touched (outside r.revision.acl.now r.value.now.heading) r.part.now.rows left.rows ≡ left.rows
+  pub labels : touched (outside r.revision.commalist.now r.value.now.heading) r.part.now.rows left.rows ≡ left.rows
 
 pub record AreAdded (r : Renewal) (added : Relation) : Type 0 where
   pub heading : added.heading ≡ r.value.now.heading
@@ -39,4 +39,4 @@ pub record AreAdded (r : Renewal) (added : Relation) : Type 0 where
 
 -- the steps of both together
 abbrev pub after_left : Renewal → Relation → Relation → ℕ
-after_left r left added = point_cost r.revision.acl.now (length (united (subtracted r.value.now.rows r.part.now.rows) left.rows) + length added.rows)
+after_left r left added = point_cost r.revision.commalist.now (length (united (subtracted r.value.now.rows r.part.now.rows) left.rows) + length added.rows)

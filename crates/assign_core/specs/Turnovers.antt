@@ -11,11 +11,11 @@ use Rattle.value_core.specs.RowPacking.{packed}
 use Rattle.value_core.specs.declared.constraint.Constraint.{Constraint}
 use Rattle.value_core.specs.Values.{Name, Row, Relation, most_rows}
 use Rattle.relation_core.specs.Operators.{united}
-use Rattle.row_marks.specs.Marks.{AreMarksOf}
+use Rattle.relation_core.specs.Hashes.{AreHashesOf}
 use Rattle.tree_core.specs.Relvars.{PlainRelvar, base, view, Entries, read_relvars}
 use Rattle.meaning_core.specs.Names.{IsFirstAt}
 use Rattle.u_constraints.specs.Growth.{exchanged}
-use Rattle.u_labels.specs.declared.exchange.Exchange.{Exchange}
+use Rattle.change_rows.specs.declared.exchange.Exchange.{Exchange}
 use Rattle.assign_core.specs.declared.turnover.Known.{Known}
 use Rattle.assign_core.specs.declared.turnover.Turnover.{Turnover}
 use Rattle.assign_core.specs.declared.preparing.Ready.{Ready}
@@ -73,11 +73,11 @@ IsMade t = IfSome t.new (λ v. v.now ≡ renewed t.value.now t.rows.now)
 -- rows are packed on a list, if one is given
 abbrev pub ArePackedIf : Option (List ℕ) → List Row → Type 0
 ArePackedIf None rows = Unit {0}
-ArePackedIf (Some acl) rows = packed acl rows ≡ rows
+ArePackedIf (Some commalist) rows = packed commalist rows ≡ rows
 
--- the marks are those of a relation's rows, and its rows after the exchange are packed on the list, if one is told
+-- the hashes are those of a relation's rows, and its rows after the exchange are packed on the list, if one is told
 pub record IsKnown (value : Relation) (x : Exchange) (k : Known) : Type 0 where
-  pub marked : All (AreMarksOf value.rows) k.marks.now
+  pub hashed : All (AreHashesOf value.rows) k.hashes.now
   pub packed : ArePackedIf (option_map (λ l. l.now) k.packed) (renewed value x).rows
 
 -- each row that comes is new, and each that goes was there

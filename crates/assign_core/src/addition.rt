@@ -2,7 +2,7 @@
 ghost use Rattle.std.specs.Prelude.{◌≡◌, ◌+◌, ◌≤◌, [], true, length, replicate, IfOk, IfErr, Ok, None};
 ghost use Rattle.std.specs.List.{All};
 ghost use Rattle.relation_core.specs.Answers.{Answers};
-ghost use Rattle.row_marks.specs.Marks.{AreMarksOf};
+ghost use Rattle.relation_core.specs.Hashes.{AreHashesOf};
 ghost use Rattle.tree_core.specs.Relvars.{read_relvars};
 ghost use Rattle.u_constraints.specs.Growth.{exchanged};
 ghost use Rattle.meaning_core.specs.WellMade.{IsWellMade};
@@ -20,25 +20,24 @@ use crate::counting::are_few;
 use crate::insertion::Insertion;
 use crate::target::Target;
 use crate::turnover::{Known, Turnover, check_turnover};
+use change_rows::Exchange;
 use point_core::{Code, Fault, Memory, Steps, Stop};
-use relation_core::{absent, union};
-use row_making::told;
-use row_marks::Marks;
+use relation_core::{Hashes, absent, union};
+use row_making::or_fault_at;
 use std::alloc::Global;
 use std::sync::ledger::Ledger;
 use tree_core::Relvars;
-use u_labels::Exchange;
 use u_set::{stay_apart, united};
 use value_core::{MOST_ROWS, MOST_ROWS_IN_ALL, Refuse, Relation};
 
-/// An insertion with the place and the value of its target, marks of the value's rows, and the rows of the operand.
+/// An insertion with the place and the value of its target, hashes of the value's rows, and the rows of the operand.
 #[derive(Clone, Copy)]
 pub(crate) struct Addition<'a> {
     pub insertion: Insertion<'a>,
     pub relvars: &'a Relvars,
     pub at: usize,
     pub value: &'a Relation,
-    pub marks: &'a [Marks],
+    pub hashes: &'a [Hashes],
     pub operand: &'a Relation,
 }
 
@@ -54,12 +53,12 @@ pub(crate) fn target_of(addition: Addition<'_>) -> Target<'_>
     }
 }
 
-/// What is known of the target's rows: their marks, and that those after the insertion are packed on its list.
+/// What is known of the target's rows: their hashes, and that those after the insertion are packed on its list.
 pub(crate) fn known_of(addition: Addition<'_>) -> Known<'_>
-    ensures { result ≡ record { marks = addition.entry.marks; packed = addition.entry.insertion.list } }
+    ensures { result ≡ record { hashes = addition.entry.hashes; packed = addition.entry.insertion.list } }
 {
     Known {
-        marks: addition.marks,
+        hashes: addition.hashes,
         packed: addition.insertion.list,
     }
 }
@@ -70,7 +69,12 @@ pub(crate) fn is_plain(alloc: Global, addition: Addition<'_>) -> Result<bool, Me
     ensures { IfOk result (λ b. b ≡ true → IsPlain addition.entry) }
 {
     match addition.insertion.list {
-        Some(acl) => stay_apart(alloc, addition.value, addition.operand, acl.list.as_slice()),
+        Some(commalist) => stay_apart(
+            alloc,
+            addition.value,
+            addition.operand,
+            commalist.list.as_slice(),
+        ),
         None => Ok(true),
     }
 }
@@ -85,7 +89,7 @@ pub(crate) fn prepare_rows<L: Ledger>(
     requires kept { IsKept (read_relvars addition.relvars.now) }
     requires none { none.now ≡ replicate (length addition.relvars.now.list.entries) None }
     requires addition { IsAddition addition }
-    requires marked { All (AreMarksOf addition.value.now.rows) addition.marks.now }
+    requires hashed { All (AreHashesOf addition.value.now.rows) addition.hashes.now }
     requires plain { IsPlain addition }
     ensures exchange { IfOk result (λ r. IsExchangeAt addition.entry.at r (entries_of addition.entry)) }
     ensures ready { IfOk result (λ r. outcome addition.entry ≡ Ok (renewed_at addition.entry.at r (entries_of addition.entry))) }
@@ -220,10 +224,10 @@ pub(crate) fn unite<L: Ledger>(
     let place = addition.insertion.assignment.tree.place;
     let (value, operand) = (addition.value, addition.operand);
     match addition.insertion.list {
-        Some(acl) => told(
+        Some(commalist) => or_fault_at(
             place,
-            united(alloc, value, operand, acl.list.as_slice(), steps),
+            united(alloc, value, operand, commalist.list.as_slice(), steps),
         ),
-        None => told(place, union(alloc, value, operand)),
+        None => or_fault_at(place, union(alloc, value, operand)),
     }
 }

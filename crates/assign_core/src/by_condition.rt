@@ -1,14 +1,14 @@
 // What stands ready for changes by a condition: where this concerns few rows, only these are looked at.
 ghost use Rattle.std.specs.Prelude.{◌≡◌, ◌≤◌, ◌+◌, [], ◌∷◌, map, None, Ok, IfOk, IfErr};
 ghost use Rattle.std.specs.List.{All};
-ghost use Rattle.row_marks.specs.Marks.{AreMarksOf};
+ghost use Rattle.relation_core.specs.Hashes.{AreHashesOf};
 ghost use Rattle.tree_core.specs.Items.{read_assignment};
 ghost use Rattle.tree_core.specs.Relvars.{read_relvars};
 ghost use Rattle.meaning_core.specs.Updates.{IsTypedAssignment};
 ghost use Rattle.assign_core.specs.Assignments.{after_assignments, IsRefusedFor};
 ghost use Rattle.assign_core.specs.Costs.{assignments_cost};
 ghost use Rattle.assign_core.specs.Databases.{IsKept};
-ghost use Rattle.assign_core.specs.Marked.{AreMarked};
+ghost use Rattle.assign_core.specs.Hashed.{AreHashed};
 ghost use Rattle.assign_core.specs.PlainChanges.{IsAnyDeletion, IsAnyRevision};
 ghost use Rattle.assign_core.specs.Reductions.{reduced_target, IsReduction};
 ghost use Rattle.assign_core.specs.Renewals.{renewed_target, IsRenewal};
@@ -17,7 +17,7 @@ ghost use Rattle.assign_core.specs.Turnovers.{with_ready, IsReady};
 
 use crate::changes::none_yet;
 use crate::finding::{find_deletion, find_revision, no_positions};
-use crate::marked::{Marked, marks_at};
+use crate::hashed::{Hashed, hashes_at};
 use crate::portion::Deletion;
 use crate::preparing::{Ready, prepare_all, prepare_exchange};
 use crate::reduction::{Reduction, deleted, deleted_part, deletion_at};
@@ -26,7 +26,7 @@ use crate::revision::Revision;
 use crate::target::Target;
 use crate::turnover::Known;
 use point_core::Steps;
-use row_marks::Marks;
+use relation_core::Hashes;
 use std::alloc::Global;
 use std::sync::ledger::Ledger;
 use tree_core::{Assignment, Relvars};
@@ -38,11 +38,11 @@ pub(crate) fn prepare_change<L: Ledger>(
     alloc: Global,
     list: &[Assignment],
     relvars: &Relvars,
-    marked: &Marked,
+    hashed: &Hashed,
     steps: &mut Steps<L>,
 ) -> Result<Ready, Refuse>
     requires kept { IsKept (read_relvars relvars.now) }
-    requires marked { AreMarked marked.now (read_relvars relvars.now).relvars }
+    requires hashed { AreHashed hashed.now (read_relvars relvars.now).relvars }
     requires typed { All (λ a. IsTypedAssignment (read_relvars relvars.now) (read_assignment a)) list.now }
     ensures ready { IfOk result (λ r. IsReady r (read_relvars relvars.now).relvars) }
     ensures meant { IfOk result (λ r. after_assignments (read_relvars relvars.now).relvars (map read_assignment list.now) ≡ Ok (with_ready r (read_relvars relvars.now).relvars)) }
@@ -51,8 +51,8 @@ pub(crate) fn prepare_change<L: Ledger>(
 {
     let none = no_positions(alloc);
     match find_deletion(list, &none) {
-        Some(deletion) => prepare_deletion(alloc, deletion, list, relvars, marked, steps),
-        None => prepare_update(alloc, list, relvars, marked, steps),
+        Some(deletion) => prepare_deletion(alloc, deletion, list, relvars, hashed, steps),
+        None => prepare_update(alloc, list, relvars, hashed, steps),
     }
 }
 
@@ -62,11 +62,11 @@ fn prepare_deletion<L: Ledger>(
     deletion: Deletion<'_>,
     list: &[Assignment],
     relvars: &Relvars,
-    marked: &Marked,
+    hashed: &Hashed,
     steps: &mut Steps<L>,
 ) -> Result<Ready, Refuse>
     requires kept { IsKept (read_relvars relvars.now) }
-    requires marked { AreMarked marked.now (read_relvars relvars.now).relvars }
+    requires hashed { AreHashed hashed.now (read_relvars relvars.now).relvars }
     requires deletion { IsAnyDeletion deletion }
     requires alone { map read_assignment list.now ≡ read_assignment deletion.assignment.now ∷ [] }
     requires typed { All (λ a. IsTypedAssignment (read_relvars relvars.now) (read_assignment a)) list.now }
@@ -76,8 +76,8 @@ fn prepare_deletion<L: Ledger>(
     ensures cost { steps.new ≤ steps.old + assignments_cost (read_relvars relvars.now).relvars (map read_assignment list.now) }
 {
     let (at, value) = deletion_at(relvars, deletion);
-    let marks = marks_at(marked, at);
-    match deleted_part(alloc, relvars, deletion, at, value, marks)? {
+    let hashes = hashes_at(hashed, at);
+    match deleted_part(alloc, relvars, deletion, at, value, hashes)? {
         Some(part) => {
             let reduction = Reduction {
                 relvars,
@@ -86,7 +86,7 @@ fn prepare_deletion<L: Ledger>(
                 value,
                 part: &part,
             };
-            prepare_reduction(alloc, reduction, marks, steps)
+            prepare_reduction(alloc, reduction, hashes, steps)
         }
         None => prepare_all(alloc, list, relvars, steps),
     }
@@ -96,12 +96,12 @@ fn prepare_deletion<L: Ledger>(
 fn prepare_reduction<L: Ledger>(
     alloc: Global,
     reduction: Reduction<'_>,
-    marks: &[Marks],
+    hashes: &[Hashes],
     steps: &mut Steps<L>,
 ) -> Result<Ready, Refuse>
     requires kept { IsKept (read_relvars reduction.relvars.now) }
     requires reduction { IsReduction reduction }
-    requires marked { All (AreMarksOf reduction.value.now.rows) marks.now }
+    requires hashed { All (AreHashesOf reduction.value.now.rows) hashes.now }
     ensures ready { IfOk result (λ r. IsReady r (entries_before (reduced_target reduction.entry))) }
     ensures meant { IfOk result (λ r. result_given (reduced_target reduction.entry) ≡ Ok (with_ready r (entries_before (reduced_target reduction.entry)))) }
     ensures refused { IfErr result (λ refuse. IsRefusedFor refuse (result_given (reduced_target reduction.entry))) }
@@ -116,7 +116,7 @@ fn prepare_reduction<L: Ledger>(
         value: reduction.value,
     };
     let place = reduction.deletion.kept.place;
-    let known = marked_alone(marks);
+    let known = hashed_alone(hashes);
     prepare_exchange(alloc, target, place, rows, known, none.as_slice(), steps)
 }
 
@@ -126,11 +126,11 @@ fn prepare_update<L: Ledger>(
     alloc: Global,
     list: &[Assignment],
     relvars: &Relvars,
-    marked: &Marked,
+    hashed: &Hashed,
     steps: &mut Steps<L>,
 ) -> Result<Ready, Refuse>
     requires kept { IsKept (read_relvars relvars.now) }
-    requires marked { AreMarked marked.now (read_relvars relvars.now).relvars }
+    requires hashed { AreHashed hashed.now (read_relvars relvars.now).relvars }
     requires typed { All (λ a. IsTypedAssignment (read_relvars relvars.now) (read_assignment a)) list.now }
     ensures ready { IfOk result (λ r. IsReady r (read_relvars relvars.now).relvars) }
     ensures meant { IfOk result (λ r. after_assignments (read_relvars relvars.now).relvars (map read_assignment list.now) ≡ Ok (with_ready r (read_relvars relvars.now).relvars)) }
@@ -139,7 +139,7 @@ fn prepare_update<L: Ledger>(
 {
     let none = no_positions(alloc);
     match find_revision(list, &none) {
-        Some(revision) => prepare_revision(alloc, revision, list, relvars, marked, steps),
+        Some(revision) => prepare_revision(alloc, revision, list, relvars, hashed, steps),
         None => prepare_all(alloc, list, relvars, steps),
     }
 }
@@ -150,11 +150,11 @@ fn prepare_revision<L: Ledger>(
     revision: Revision<'_>,
     list: &[Assignment],
     relvars: &Relvars,
-    marked: &Marked,
+    hashed: &Hashed,
     steps: &mut Steps<L>,
 ) -> Result<Ready, Refuse>
     requires kept { IsKept (read_relvars relvars.now) }
-    requires marked { AreMarked marked.now (read_relvars relvars.now).relvars }
+    requires hashed { AreHashed hashed.now (read_relvars relvars.now).relvars }
     requires revision { IsAnyRevision revision }
     requires alone { map read_assignment list.now ≡ read_assignment revision.assignment.now ∷ [] }
     requires typed { All (λ a. IsTypedAssignment (read_relvars relvars.now) (read_assignment a)) list.now }
@@ -164,15 +164,15 @@ fn prepare_revision<L: Ledger>(
     ensures cost { steps.new ≤ steps.old + assignments_cost (read_relvars relvars.now).relvars (map read_assignment list.now) }
 {
     let (at, value) = revision_at(relvars, revision);
-    let marks = marks_at(marked, at);
-    match revised_part(alloc, relvars, revision, at, value, marks)? {
+    let hashes = hashes_at(hashed, at);
+    match revised_part(alloc, relvars, revision, at, value, hashes)? {
         Some(part) => {
             let renewal = Renewal {
                 relvars,
                 revision,
                 at,
                 value,
-                marks,
+                hashes,
                 part: &part,
             };
             prepare_renewal(alloc, renewal, steps)
@@ -203,16 +203,16 @@ fn prepare_renewal<L: Ledger>(
         value: renewal.value,
     };
     let place = renewal.revision.assignment.tree.place;
-    let known = marked_alone(renewal.marks);
+    let known = hashed_alone(renewal.hashes);
     prepare_exchange(alloc, target, place, rows, known, none.as_slice(), steps)
 }
 
-// The marks of rows, where nothing is known of those that come after them.
-fn marked_alone(marks: &[Marks]) -> Known<'_>
-    ensures { result ≡ record { marks = marks.entry; packed = None } }
+// The hashes of rows, where nothing is known of those that come after them.
+fn hashed_alone(hashes: &[Hashes]) -> Known<'_>
+    ensures { result ≡ record { hashes = hashes.entry; packed = None } }
 {
     Known {
-        marks,
+        hashes,
         packed: None,
     }
 }

@@ -13,7 +13,7 @@ ghost use Rattle.assign_core.specs.Databases.{no_relvars, declared, IsKept};
 use crate::appending::append_all;
 use crate::exchange::{exchange_all, exchange_rows};
 use crate::filling::fill;
-use crate::marked::{Marked, no_marks};
+use crate::hashed::{Hashed, no_hashes};
 use crate::preparing::{Ready, prepare};
 use indexmap::IndexMap;
 use point_core::{Memory, Steps};
@@ -29,7 +29,7 @@ use value_core::{Name, OrdinalTypes, Refuse};
 pub struct Database {
     alloc: Global,
     relvars: Relvars,
-    marked: Marked,
+    hashed: Hashed,
 }
 
 impl Model for Database {
@@ -37,7 +37,7 @@ impl Model for Database {
     ghost use Rattle.tree_core.specs.contracts.relvar.Relvars as kept;
     ghost use Rattle.tree_core.specs.declared.relvar.Relvars.{Relvars};
     ghost use Rattle.assign_core.specs.Databases.{IsKept};
-    ghost use Rattle.assign_core.specs.Marked.{AreMarked};
+    ghost use Rattle.assign_core.specs.Hashed.{AreHashed};
 
     ghost Value = { Relvars };
 
@@ -45,7 +45,7 @@ impl Model for Database {
 
     ghost view = { λ d. d.relvars };
 
-    ghost invariant = { λ d. IsKept (read_relvars d.relvars) × AreMarked d.marked (read_relvars d.relvars).relvars };
+    ghost invariant = { λ d. IsKept (read_relvars d.relvars) × AreHashed d.hashed (read_relvars d.relvars).relvars };
 }
 
 impl Database {
@@ -61,7 +61,7 @@ impl Database {
                     list: Vec::new(alloc),
                 },
             },
-            marked: no_marks(alloc),
+            hashed: no_hashes(alloc),
         }
     }
 
@@ -82,12 +82,12 @@ impl Database {
         let before = (self.relvars.list.len(), self.relvars.ordinals.list.len());
         match append_all(self.alloc, &mut self.relvars, list) {
             Ok(()) => {
-                self.marked = no_marks(self.alloc);
+                self.hashed = no_hashes(self.alloc);
                 Ok(())
             }
             Err(memory) => {
                 cut(&mut self.relvars, before);
-                self.marked = no_marks(self.alloc);
+                self.hashed = no_hashes(self.alloc);
                 Err(memory)
             }
         }
@@ -106,14 +106,14 @@ impl Database {
         ensures assigned { IsAssigned result (read_relvars self.old) (read_relvars self.new) (map read_assignment list.now) }
         ensures cost { steps.new ≤ steps.old + assignments_cost (read_relvars self.old).relvars (map read_assignment list.now) }
     {
-        fill(self.alloc, list, &self.relvars, &mut self.marked)?;
-        match prepare(self.alloc, list, &self.relvars, &self.marked, steps)? {
+        fill(self.alloc, list, &self.relvars, &mut self.hashed)?;
+        match prepare(self.alloc, list, &self.relvars, &self.hashed, steps)? {
             Ready::Values(changes) => {
-                exchange_all(&mut self.relvars, &mut self.marked, self.alloc, changes);
+                exchange_all(&mut self.relvars, &mut self.hashed, self.alloc, changes);
                 Ok(())
             }
             Ready::Rows(at, rows) => {
-                exchange_rows(&mut self.relvars, &mut self.marked, self.alloc, at, rows)?;
+                exchange_rows(&mut self.relvars, &mut self.hashed, self.alloc, at, rows)?;
                 Ok(())
             }
         }
@@ -125,7 +125,7 @@ impl Database {
         ensures state { read_relvars self.new ≡ without name.now (read_relvars self.old) }
         ensures ok { IsOk result }
     {
-        self.marked = no_marks(self.alloc);
+        self.hashed = no_hashes(self.alloc);
         drop(self.relvars.list.shift_remove(name));
         Ok(())
     }

@@ -14,13 +14,12 @@ use crate::changes::value_of;
 use crate::checking::{After, check};
 use crate::tuning::SMALL_PART_DIVISOR;
 use crate::turnover::{Known, Turnover, check_turnover, have_room};
+use change_rows::Exchange;
 use point_core::{Memory, Steps};
-use relation_core::minus;
-use row_marks::Marks;
+use relation_core::{Hashes, minus};
 use std::alloc::Global;
 use std::sync::ledger::Ledger;
 use tree_core::Relvar;
-use u_labels::Exchange;
 use value_core::{Name, Refuse, Relation, RowsRefuse};
 
 /// The base relvar that alone has a new value: its place and name, and both values.
@@ -67,17 +66,17 @@ fn check_only<'a, L: Ledger>(
     if !is_small(only, &rows) {
         return check(alloc, new, steps);
     }
-    let marks = Vec::new(alloc);
-    let turnover = turnover_of(new, only, &rows, marks.as_slice());
+    let hashes = Vec::new(alloc);
+    let turnover = turnover_of(new, only, &rows, hashes.as_slice());
     check_turnover(alloc, turnover, steps)
 }
 
-// The turnover that the rows are, with marks of those before.
+// The turnover that the rows are, with hashes of those before.
 fn turnover_of<'a>(
     new: After<'a>,
     only: Only<'a>,
     rows: &'a Exchange,
-    marks: &'a [Marks],
+    hashes: &'a [Hashes],
 ) -> Turnover<'a>
     ensures { result ≡ record {
       relvars = new.entry.relvars;
@@ -86,7 +85,7 @@ fn turnover_of<'a>(
       value = only.entry.old;
       rows = rows.entry;
       new = Some only.entry.new;
-      known = record { marks = marks.entry; packed = None };
+      known = record { hashes = hashes.entry; packed = None };
     } }
 {
     Turnover {
@@ -97,7 +96,7 @@ fn turnover_of<'a>(
         rows,
         new: Some(only.new),
         known: Known {
-            marks,
+            hashes,
             packed: None,
         },
     }

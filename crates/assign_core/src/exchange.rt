@@ -5,57 +5,57 @@ ghost use Rattle.relation_core.specs.Operators.{united};
 ghost use Rattle.tree_core.specs.Relvars.{read_entry, read_relvar};
 ghost use Rattle.meaning_core.specs.Names.{with_value};
 ghost use Rattle.assign_core.specs.Changes.{changed, changed_at};
-ghost use Rattle.assign_core.specs.Marked.{AreMarked, AreMarksIn};
+ghost use Rattle.assign_core.specs.Hashed.{AreHashed, AreHashesIn};
 ghost use Rattle.assign_core.specs.Turnovers.{renewed, renewed_at, renewed_relvar, IsExchangeAt, MayExchange};
 
-use crate::marked::{Marked, MarkedRelvar, put_marks, take_marks};
-use crate::marking::exchange_marked;
+use crate::hashed::{Hashed, HashedRelvar, put_hashes, take_hashes};
+use crate::marking::exchange_hashed;
 use crate::removal::remove;
 use crate::tuning::MOST_ROWS_ONE_BY_ONE;
+use change_rows::Exchange;
 use point_core::Memory;
-use row_marks::Marks;
+use relation_core::Hashes;
 use std::alloc::Global;
 use tree_core::{Relvar, Relvars};
-use u_labels::Exchange;
 use value_core::Relation;
 
-/// Puts the values that stand ready in place of the old ones. It takes no memory. The marks of the relvars that change are dropped.
+/// Puts the values that stand ready in place of the old ones. It takes no memory. The hashes of the relvars that change are dropped.
 pub(crate) fn exchange_all(
     relvars: &mut Relvars,
-    marked: &mut Marked,
+    hashed: &mut Hashed,
     alloc: Global,
     changes: Vec<Option<Relation>>,
 )
     requires long { length changes.items ≡ length relvars.old.list.entries }
-    requires marked { AreMarked marked.old (map read_entry relvars.old.list.entries) }
+    requires hashed { AreHashed hashed.old (map read_entry relvars.old.list.entries) }
     ensures list { map read_entry relvars.new.list.entries ≡ changed changes.items (map read_entry relvars.old.list.entries) }
     ensures ordinals { relvars.new.ordinals ≡ relvars.old.ordinals }
-    ensures marked { AreMarked marked.new (map read_entry relvars.new.list.entries) }
+    ensures hashed { AreHashed hashed.new (map read_entry relvars.new.list.entries) }
 {
     let mut changes = changes;
     while let Some(change) = changes.pop() {
         let at = changes.len();
-        exchange_at(relvars, marked, alloc, at, change);
+        exchange_at(relvars, hashed, alloc, at, change);
     }
 }
 
-// Puts the value that stands ready for the relvar at a place, if there is one, in place of the old one, and drops its marks.
+// Puts the value that stands ready for the relvar at a place, if there is one, in place of the old one, and drops its hashes.
 fn exchange_at(
     relvars: &mut Relvars,
-    marked: &mut Marked,
+    hashed: &mut Hashed,
     alloc: Global,
     at: usize,
     change: Option<Relation>,
 )
     requires at { at < length relvars.old.list.entries }
-    requires marked { AreMarked marked.old (map read_entry relvars.old.list.entries) }
+    requires hashed { AreHashed hashed.old (map read_entry relvars.old.list.entries) }
     ensures list { map read_entry relvars.new.list.entries ≡ changed_at at change (map read_entry relvars.old.list.entries) }
     ensures ordinals { relvars.new.ordinals ≡ relvars.old.ordinals }
-    ensures marked { AreMarked marked.new (map read_entry relvars.new.list.entries) }
+    ensures hashed { AreHashed hashed.new (map read_entry relvars.new.list.entries) }
 {
     match change {
         Some(value) => {
-            drop(take_marks(marked, alloc, at));
+            drop(take_hashes(hashed, alloc, at));
             let (_, relvar) = relvars.list.pair_mut(at);
             put(relvar, value);
         }
@@ -77,25 +77,25 @@ fn put(relvar: &mut Relvar, new: Relation)
 }
 
 /// Puts the rows that come among those of the base relvar at a place, and then takes out those that go. For want of memory nothing
-/// changes. Where they are few the relvar has marks from now on; where they are many its marks are dropped. Those of the others stay.
+/// changes. Where they are few the relvar has hashes from now on; where they are many its hashes are dropped. Those of the others stay.
 pub(crate) fn exchange_rows(
     relvars: &mut Relvars,
-    marked: &mut Marked,
+    hashed: &mut Hashed,
     alloc: Global,
     at: usize,
     rows: Exchange,
 ) -> Result<(), Memory>
     requires may { IsExchangeAt at rows (map read_entry relvars.old.list.entries) }
-    requires marked { AreMarked marked.old (map read_entry relvars.old.list.entries) }
+    requires hashed { AreHashed hashed.old (map read_entry relvars.old.list.entries) }
     ensures list { OnOk result (map read_entry relvars.new.list.entries ≡ renewed_at at rows (map read_entry relvars.old.list.entries)) }
     ensures err { OnErr result (map read_entry relvars.new.list.entries ≡ map read_entry relvars.old.list.entries) }
     ensures ordinals { relvars.new.ordinals ≡ relvars.old.ordinals }
-    ensures marked { AreMarked marked.new (map read_entry relvars.new.list.entries) }
+    ensures hashed { AreHashed hashed.new (map read_entry relvars.new.list.entries) }
 {
     if are_few(&rows) {
-        return exchange_few(relvars, marked, alloc, at, rows);
+        return exchange_few(relvars, hashed, alloc, at, rows);
     }
-    exchange_many(relvars, marked, alloc, at, rows)
+    exchange_many(relvars, hashed, alloc, at, rows)
 }
 
 // Whether the rows that come and those that go are few together.
@@ -107,66 +107,66 @@ fn are_few(rows: &Exchange) -> bool {
         <= MOST_ROWS_ONE_BY_ONE
 }
 
-// Exchanges rows of the base relvar at a place, and keeps its marks.
+// Exchanges rows of the base relvar at a place, and keeps its hashes.
 fn exchange_few(
     relvars: &mut Relvars,
-    marked: &mut Marked,
+    hashed: &mut Hashed,
     alloc: Global,
     at: usize,
     rows: Exchange,
 ) -> Result<(), Memory>
     requires may { IsExchangeAt at rows (map read_entry relvars.old.list.entries) }
-    requires marked { AreMarked marked.old (map read_entry relvars.old.list.entries) }
+    requires hashed { AreHashed hashed.old (map read_entry relvars.old.list.entries) }
     ensures list { OnOk result (map read_entry relvars.new.list.entries ≡ renewed_at at rows (map read_entry relvars.old.list.entries)) }
     ensures err { OnErr result (map read_entry relvars.new.list.entries ≡ map read_entry relvars.old.list.entries) }
     ensures ordinals { relvars.new.ordinals ≡ relvars.old.ordinals }
-    ensures marked { AreMarked marked.new (map read_entry relvars.new.list.entries) }
+    ensures hashed { AreHashed hashed.new (map read_entry relvars.new.list.entries) }
 {
-    let mut list = take_marks(marked, alloc, at);
+    let mut list = take_hashes(hashed, alloc, at);
     let (_, relvar) = relvars.list.pair_mut(at);
-    let result = renew_marked(relvar, &mut list, alloc, rows);
-    put_marks(marked, MarkedRelvar { at, list });
+    let result = renew_hashed(relvar, &mut list, alloc, rows);
+    put_hashes(hashed, HashedRelvar { at, list });
     result
 }
 
-// Exchanges rows of the base relvar at a place, and drops its marks.
+// Exchanges rows of the base relvar at a place, and drops its hashes.
 fn exchange_many(
     relvars: &mut Relvars,
-    marked: &mut Marked,
+    hashed: &mut Hashed,
     alloc: Global,
     at: usize,
     rows: Exchange,
 ) -> Result<(), Memory>
     requires may { IsExchangeAt at rows (map read_entry relvars.old.list.entries) }
-    requires marked { AreMarked marked.old (map read_entry relvars.old.list.entries) }
+    requires hashed { AreHashed hashed.old (map read_entry relvars.old.list.entries) }
     ensures list { OnOk result (map read_entry relvars.new.list.entries ≡ renewed_at at rows (map read_entry relvars.old.list.entries)) }
     ensures err { OnErr result (map read_entry relvars.new.list.entries ≡ map read_entry relvars.old.list.entries) }
     ensures ordinals { relvars.new.ordinals ≡ relvars.old.ordinals }
-    ensures marked { AreMarked marked.new (map read_entry relvars.new.list.entries) }
+    ensures hashed { AreHashed hashed.new (map read_entry relvars.new.list.entries) }
 {
-    drop(take_marks(marked, alloc, at));
+    drop(take_hashes(hashed, alloc, at));
     let (_, relvar) = relvars.list.pair_mut(at);
     renew(relvar, alloc, rows)
 }
 
-// Exchanges rows of a base relvar, and keeps their marks.
-fn renew_marked(
+// Exchanges rows of a base relvar, and keeps their hashes.
+fn renew_hashed(
     relvar: &mut Relvar,
-    marks: &mut Vec<Marks>,
+    hashes: &mut Vec<Hashes>,
     alloc: Global,
     rows: Exchange,
 ) -> Result<(), Memory>
     requires may { MayExchange rows (read_relvar relvar.old) }
-    requires marks { AreMarksIn marks.old.items (read_relvar relvar.old) }
+    requires hashes { AreHashesIn hashes.old.items (read_relvar relvar.old) }
     ensures ok { OnOk result (read_relvar relvar.new ≡ renewed_relvar rows (read_relvar relvar.old)) }
     ensures err { OnErr result (read_relvar relvar.new ≡ read_relvar relvar.old) }
-    ensures marks { AreMarksIn marks.new.items (read_relvar relvar.new) }
+    ensures hashes { AreHashesIn hashes.new.items (read_relvar relvar.new) }
 {
     match relvar {
         Relvar::Base {
             value,
             constraints: _,
-        } => exchange_marked(value, marks, alloc, rows),
+        } => exchange_hashed(value, hashes, alloc, rows),
         Relvar::View {
             tree: _,
             history: _,

@@ -1,28 +1,28 @@
-// Marks for the constraints of the relvar that changes.
+// Hashes for the constraints of the relvar that changes.
 ghost use Rattle.std.specs.Prelude.{◌≡◌, ◌<◌, ℕ, length, map, nat_lt, true};
 ghost use Rattle.std.specs.List.{All, list_all};
 ghost use Rattle.tree_core.specs.Relvars.{read_entry, read_relvar};
-ghost use Rattle.assign_core.specs.Marked.{AreMarked, AreMarksIn, IsMarksOf};
+ghost use Rattle.assign_core.specs.Hashed.{AreHashed, AreHashesIn, IsHashesOf};
 
-use crate::marked::{Marked, MarkedRelvar, has_marks, put_marks, take_marks};
+use crate::hashed::{Hashed, HashedRelvar, has_hashes, put_hashes, take_hashes};
 use crate::marking::keep;
-use crate::tuning::FEWEST_MARKED_ROWS;
+use crate::tuning::FEWEST_HASHED_ROWS;
 use point_core::Memory;
-use row_marks::{Marks, marks_of};
+use relation_core::{Hashes, hashes_of};
 use std::alloc::Global;
 use tree_core::{Assignment, Relvar, Relvars};
 use u_set::{is_listed, outside};
 use value_core::{Constraint, Name, Relation};
 
-/// Where the only target is a relvar that has marks, marks its rows for those of its constraints for which they are not marked.
+/// Where the only target is a relvar that has hashes, hashes its rows for those of its constraints for which they are not hashed.
 pub(crate) fn fill(
     alloc: Global,
     list: &[Assignment],
     relvars: &Relvars,
-    marked: &mut Marked,
+    hashed: &mut Hashed,
 ) -> Result<(), Memory>
-    requires { AreMarked marked.old (map read_entry relvars.now.list.entries) }
-    ensures { AreMarked marked.new (map read_entry relvars.now.list.entries) }
+    requires { AreHashed hashed.old (map read_entry relvars.now.list.entries) }
+    ensures { AreHashed hashed.new (map read_entry relvars.now.list.entries) }
 {
     let Some((assignment, rest)) = list.split_first() else {
         return Ok(());
@@ -30,41 +30,41 @@ pub(crate) fn fill(
     if !rest.is_empty() {
         return Ok(());
     }
-    fill_target(alloc, &assignment.target, relvars, marked)
+    fill_target(alloc, &assignment.target, relvars, hashed)
 }
 
-// Marks the rows of the relvar of the name, if it has marks.
+// Hashes the rows of the relvar of the name, if it has hashes.
 fn fill_target(
     alloc: Global,
     target: &Name,
     relvars: &Relvars,
-    marked: &mut Marked,
+    hashed: &mut Hashed,
 ) -> Result<(), Memory>
-    requires { AreMarked marked.old (map read_entry relvars.now.list.entries) }
-    ensures { AreMarked marked.new (map read_entry relvars.now.list.entries) }
+    requires { AreHashed hashed.old (map read_entry relvars.now.list.entries) }
+    ensures { AreHashed hashed.new (map read_entry relvars.now.list.entries) }
 {
     match relvars.list.get_full(target) {
         Some((at, _, relvar)) => {
-            if !has_marks(marked, at) {
+            if !has_hashes(hashed, at) {
                 return Ok(());
             }
-            let mut list = take_marks(marked, alloc, at);
+            let mut list = take_hashes(hashed, alloc, at);
             let result = fill_relvar(alloc, relvar, &mut list);
-            put_marks(marked, MarkedRelvar { at, list });
+            put_hashes(hashed, HashedRelvar { at, list });
             result
         }
         None => Ok(()),
     }
 }
 
-// Marks the rows of a base relvar for those of its constraints for which they are not marked.
-fn fill_relvar(alloc: Global, relvar: &Relvar, marks: &mut Vec<Marks>) -> Result<(), Memory>
-    requires { AreMarksIn marks.old.items (read_relvar relvar.now) }
-    ensures { AreMarksIn marks.new.items (read_relvar relvar.now) }
+// Hashes the rows of a base relvar for those of its constraints for which they are not hashed.
+fn fill_relvar(alloc: Global, relvar: &Relvar, hashes: &mut Vec<Hashes>) -> Result<(), Memory>
+    requires { AreHashesIn hashes.old.items (read_relvar relvar.now) }
+    ensures { AreHashesIn hashes.new.items (read_relvar relvar.now) }
 {
     match relvar {
         Relvar::Base { value, constraints } => {
-            fill_value(alloc, value, constraints.list.as_slice(), marks)
+            fill_value(alloc, value, constraints.list.as_slice(), hashes)
         }
         Relvar::View {
             tree: _,
@@ -73,134 +73,139 @@ fn fill_relvar(alloc: Global, relvar: &Relvar, marks: &mut Vec<Marks>) -> Result
     }
 }
 
-// Marks the rows for those of the constraints for which they are not marked, if they are many.
+// Hashes the rows for those of the constraints for which they are not hashed, if they are many.
 fn fill_value(
     alloc: Global,
     value: &Relation,
     constraints: &[Constraint],
-    marks: &mut Vec<Marks>,
+    hashes: &mut Vec<Hashes>,
 ) -> Result<(), Memory>
-    requires { All (IsMarksOf value.now.heading value.now.rows) marks.old.items }
-    ensures { All (IsMarksOf value.now.heading value.now.rows) marks.new.items }
+    requires { All (IsHashesOf value.now.heading value.now.rows) hashes.old.items }
+    ensures { All (IsHashesOf value.now.heading value.now.rows) hashes.new.items }
 {
-    if value.rows().len() < FEWEST_MARKED_ROWS {
+    if value.rows().len() < FEWEST_HASHED_ROWS {
         return Ok(());
     }
     for constraint in constraints {
-        fill_one(alloc, value, constraint, marks)?;
+        fill_one(alloc, value, constraint, hashes)?;
     }
     Ok(())
 }
 
-// Marks the rows for a constraint.
+// Hashes the rows for a constraint.
 fn fill_one(
     alloc: Global,
     value: &Relation,
     constraint: &Constraint,
-    marks: &mut Vec<Marks>,
+    hashes: &mut Vec<Hashes>,
 ) -> Result<(), Memory>
-    requires { All (IsMarksOf value.now.heading value.now.rows) marks.old.items }
-    ensures { All (IsMarksOf value.now.heading value.now.rows) marks.new.items }
+    requires { All (IsHashesOf value.now.heading value.now.rows) hashes.old.items }
+    ensures { All (IsHashesOf value.now.heading value.now.rows) hashes.new.items }
 {
     match constraint {
-        Constraint::Key(key) => add(alloc, value, key.list.as_slice(), marks),
-        Constraint::Packed(acl) => add_packed(alloc, value, acl.list.as_slice(), marks),
-        Constraint::WhenUnpacked(acl, key) => {
+        Constraint::Key(key) => add(alloc, value, key.list.as_slice(), hashes),
+        Constraint::Packed(commalist) => add_packed(
+            alloc,
+            value,
+            commalist.list.as_slice(),
+            hashes,
+        ),
+        Constraint::WhenUnpacked(commalist, key) => {
             add_unpacked(
                 alloc,
                 value,
-                acl.list.as_slice(),
+                commalist.list.as_slice(),
                 key.list.as_slice(),
-                marks,
+                hashes,
             )
         }
-        Constraint::UKey(acl, key) => {
-            add_packed(alloc, value, acl.list.as_slice(), marks)?;
+        Constraint::UKey(commalist, key) => {
+            add_packed(alloc, value, commalist.list.as_slice(), hashes)?;
             add_unpacked(
                 alloc,
                 value,
-                acl.list.as_slice(),
+                commalist.list.as_slice(),
                 key.list.as_slice(),
-                marks,
+                hashes,
             )
         }
         Constraint::Foreign(..) | Constraint::History(_) => Ok(()),
     }
 }
 
-// Marks the rows for all positions but those of a list.
+// Hashes the rows for all positions but those of a list.
 fn add_packed(
     alloc: Global,
     value: &Relation,
-    acl: &[usize],
-    marks: &mut Vec<Marks>,
+    commalist: &[usize],
+    hashes: &mut Vec<Hashes>,
 ) -> Result<(), Memory>
-    requires { All (IsMarksOf value.now.heading value.now.rows) marks.old.items }
-    ensures { All (IsMarksOf value.now.heading value.now.rows) marks.new.items }
+    requires { All (IsHashesOf value.now.heading value.now.rows) hashes.old.items }
+    ensures { All (IsHashesOf value.now.heading value.now.rows) hashes.new.items }
 {
-    let positions = outside(alloc, value.heading().attributes(), acl)?;
-    add(alloc, value, positions.as_slice(), marks)
+    let positions = outside(alloc, value.heading().attributes(), commalist)?;
+    add(alloc, value, positions.as_slice(), hashes)
 }
 
-// Marks the rows for the positions of a key that are not in a list.
+// Hashes the rows for the positions of a key that are not in a list.
 fn add_unpacked(
     alloc: Global,
     value: &Relation,
-    acl: &[usize],
+    commalist: &[usize],
     key: &[usize],
-    marks: &mut Vec<Marks>,
+    hashes: &mut Vec<Hashes>,
 ) -> Result<(), Memory>
-    requires { All (IsMarksOf value.now.heading value.now.rows) marks.old.items }
-    ensures { All (IsMarksOf value.now.heading value.now.rows) marks.new.items }
+    requires { All (IsHashesOf value.now.heading value.now.rows) hashes.old.items }
+    ensures { All (IsHashesOf value.now.heading value.now.rows) hashes.new.items }
 {
-    let positions = unlisted(alloc, acl, key)?;
-    add(alloc, value, positions.as_slice(), marks)
+    let positions = unlisted(alloc, commalist, key)?;
+    add(alloc, value, positions.as_slice(), hashes)
 }
 
 // The positions of the key that are not in the list.
-fn unlisted(alloc: Global, acl: &[usize], key: &[usize]) -> Result<Vec<usize>, Memory> {
+fn unlisted(alloc: Global, commalist: &[usize], key: &[usize]) -> Result<Vec<usize>, Memory> {
     let mut positions = Vec::new(alloc);
     for position in key {
-        if !is_listed(acl, *position) {
+        if !is_listed(commalist, *position) {
             positions.push(*position)?;
         }
     }
     Ok(positions)
 }
 
-// Marks the rows for the positions, unless they are marked for them or can be found without: rows that have the same values at the first
+// Hashes the rows for the positions, unless they are hashed for them or can be found without: rows that have the same values at the first
 // positions stand together.
 fn add(
     alloc: Global,
     value: &Relation,
     positions: &[usize],
-    marks: &mut Vec<Marks>,
+    hashes: &mut Vec<Hashes>,
 ) -> Result<(), Memory>
-    requires { All (IsMarksOf value.now.heading value.now.rows) marks.old.items }
-    ensures { All (IsMarksOf value.now.heading value.now.rows) marks.new.items }
+    requires { All (IsHashesOf value.now.heading value.now.rows) hashes.old.items }
+    ensures { All (IsHashesOf value.now.heading value.now.rows) hashes.new.items }
 {
     if !are_within(value, positions) {
         return Ok(());
     }
-    if are_first(positions) || are_marked(marks.as_slice(), positions) {
+    if are_first(positions) || are_hashed(hashes.as_slice(), positions) {
         return Ok(());
     }
-    add_marks(alloc, value, positions, marks)
+    add_hashes(alloc, value, positions, hashes)
 }
 
-// Marks the rows for the positions.
-fn add_marks(
+// Hashes the rows for the positions.
+fn add_hashes(
     alloc: Global,
     value: &Relation,
     positions: &[usize],
-    marks: &mut Vec<Marks>,
+    hashes: &mut Vec<Hashes>,
 ) -> Result<(), Memory>
     requires within { All (λ (i : ℕ). i < length value.now.heading) positions.now }
-    requires marks { All (IsMarksOf value.now.heading value.now.rows) marks.old.items }
-    ensures { All (IsMarksOf value.now.heading value.now.rows) marks.new.items }
+    requires hashes { All (IsHashesOf value.now.heading value.now.rows) hashes.old.items }
+    ensures { All (IsHashesOf value.now.heading value.now.rows) hashes.new.items }
 {
-    let own = marks_of(alloc, value, positions)?;
-    keep(marks, own);
+    let own = hashes_of(alloc, value, positions)?;
+    keep(hashes, own);
     Ok(())
 }
 
@@ -212,9 +217,9 @@ fn are_first(positions: &[usize]) -> bool {
         .all(|(i, position)| *position == i)
 }
 
-// Whether some of the marks are for the positions.
-fn are_marked(marks: &[Marks], positions: &[usize]) -> bool {
-    marks.iter().any(|own| own.positions() == positions)
+// Whether some of the hashes are for the positions.
+fn are_hashed(hashes: &[Hashes], positions: &[usize]) -> bool {
+    hashes.iter().any(|own| own.positions() == positions)
 }
 
 // Whether the positions are those of attributes.

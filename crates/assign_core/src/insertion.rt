@@ -47,7 +47,7 @@ fn as_insertion(assignment: &Assignment) -> Option<Insertion<'_>>
 {
     match &assignment.tree.form {
         RelForm::Infix(word, left, operand) => with_operand(assignment, None, *word, left, operand),
-        RelForm::Using(acl, part) => under_list(assignment, acl, part),
+        RelForm::Using(commalist, part) => under_list(assignment, commalist, part),
         _ => None,
     }
 }
@@ -55,16 +55,16 @@ fn as_insertion(assignment: &Assignment) -> Option<Insertion<'_>>
 // The assignment of an expression under USING as an insertion, where it is one.
 fn under_list<'a>(
     assignment: &'a Assignment,
-    acl: &'a Positions,
+    commalist: &'a Positions,
     part: &'a RelTree,
 ) -> Option<Insertion<'a>>
-    requires { read_tree assignment.now.tree ≡ using assignment.now.tree.place assignment.now.tree.heading acl.now (read_tree part.now) }
+    requires { read_tree assignment.now.tree ≡ using assignment.now.tree.place assignment.now.tree.heading commalist.now (read_tree part.now) }
     ensures same { IfSome result (λ i. i.assignment.now ≡ assignment.now) }
     ensures is { IfSome result IsInsertion }
 {
     match &part.form {
         RelForm::Infix(word, left, operand) => {
-            with_operand(assignment, Some(acl), *word, left, operand)
+            with_operand(assignment, Some(commalist), *word, left, operand)
         }
         _ => None,
     }

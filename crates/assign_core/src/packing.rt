@@ -2,26 +2,26 @@
 ghost use Rattle.std.specs.Prelude.{◌≡◌, ◌+◌, ◌≤◌, true, IfSome, IfOk, IfErr, Err, nat_eq};
 ghost use Rattle.std.specs.Cmp.Lexicographic.{pointwise};
 ghost use Rattle.std.specs.List.{All, list_any};
-ghost use Rattle.row_marks.specs.Marks.{AreMarksOf};
+ghost use Rattle.relation_core.specs.Hashes.{AreHashesOf};
 ghost use Rattle.value_core.specs.RowPacking.{packed};
 ghost use Rattle.value_core.specs.Values.{Relation as PlainRelation};
 ghost use Rattle.relation_core.specs.Answers.{Answers, under};
 ghost use Rattle.tree_core.specs.Relvars.{read_relvar, read_relvars};
 ghost use Rattle.meaning_core.specs.Meanings.{limited};
 ghost use Rattle.u_constraints.specs.Growth.{exchanged};
-ghost use Rattle.u_labels.specs.Exchanges.{IsExchange};
+ghost use Rattle.change_rows.specs.Exchanges.{IsExchange};
 ghost use Rattle.assign_core.specs.Databases.{IsKept};
 ghost use Rattle.assign_core.specs.Insertions.{addition_cost, is_kept_packed, keeps_packed, list_in, value_meant, IsAddition, IsPackedOn};
 ghost use Rattle.assign_core.specs.Turnovers.{ArePackedIf};
 
 use crate::addition::Addition;
+use change_rows::{Exchange, inserted};
 use point_core::{Code, Fault, Place, Steps, Stop};
 use relation_core::{absent, union};
-use row_making::told;
+use row_making::or_fault_at;
 use std::alloc::Global;
 use std::sync::ledger::Ledger;
 use tree_core::Relvar;
-use u_labels::{Exchange, inserted};
 use value_core::{Constraint, Positions, Relation, RowsRefuse};
 
 /// The list of the insertion's USING, where a constraint of the target keeps its rows packed on the very list.
@@ -31,32 +31,32 @@ pub(crate) fn packed_list(addition: Addition<'_>) -> Option<&Positions>
     ensures { IfSome result (λ l. IsPackedOn addition.entry l.now) }
 {
     match addition.insertion.list {
-        Some(acl) if is_packed_on(addition, acl) => Some(acl),
+        Some(commalist) if is_packed_on(addition, commalist) => Some(commalist),
         _ => None,
     }
 }
 
 // Whether a constraint of the target keeps its rows packed on the list.
-fn is_packed_on(addition: Addition<'_>, acl: &Positions) -> bool
+fn is_packed_on(addition: Addition<'_>, commalist: &Positions) -> bool
     requires kept { IsKept (read_relvars addition.relvars.now) }
     requires addition { IsAddition addition }
-    ensures { result ≡ true → packed acl.now addition.entry.value.now.rows ≡ addition.entry.value.now.rows }
+    ensures { result ≡ true → packed commalist.now addition.entry.value.now.rows ≡ addition.entry.value.now.rows }
 {
     match addition.relvars.list.get_index(addition.at) {
-        Some((_, relvar)) => is_kept_packed(relvar, acl),
+        Some((_, relvar)) => is_kept_packed(relvar, commalist),
         None => false,
     }
 }
 
 /// Whether a constraint of the relvar keeps its rows packed on the list.
-pub(crate) fn is_kept_packed(relvar: &Relvar, acl: &Positions) -> bool
-    ensures { result ≡ is_kept_packed acl.now (read_relvar relvar.now) }
+pub(crate) fn is_kept_packed(relvar: &Relvar, commalist: &Positions) -> bool
+    ensures { result ≡ is_kept_packed commalist.now (read_relvar relvar.now) }
 {
     match relvar {
         Relvar::Base {
             value: _,
             constraints,
-        } => keep_packed(constraints.list.as_slice(), acl),
+        } => keep_packed(constraints.list.as_slice(), commalist),
         Relvar::View {
             tree: _,
             history: _,
@@ -65,19 +65,19 @@ pub(crate) fn is_kept_packed(relvar: &Relvar, acl: &Positions) -> bool
 }
 
 // Whether one of the constraints keeps rows packed on the list.
-fn keep_packed(list: &[Constraint], acl: &Positions) -> bool
-    ensures { result ≡ list_any (keeps_packed acl.now) list.now }
+fn keep_packed(list: &[Constraint], commalist: &Positions) -> bool
+    ensures { result ≡ list_any (keeps_packed commalist.now) list.now }
 {
-    list.iter().any(|c| keeps_packed(c, acl))
+    list.iter().any(|c| keeps_packed(c, commalist))
 }
 
 // Whether the constraint keeps rows packed on the list.
-fn keeps_packed(constraint: &Constraint, acl: &Positions) -> bool
-    ensures { result ≡ keeps_packed acl.now constraint.now }
+fn keeps_packed(constraint: &Constraint, commalist: &Positions) -> bool
+    ensures { result ≡ keeps_packed commalist.now constraint.now }
 {
     match constraint {
-        Constraint::Packed(own) => are_same(own, acl),
-        Constraint::UKey(own, _) => are_same(own, acl),
+        Constraint::Packed(own) => are_same(own, commalist),
+        Constraint::UKey(own, _) => are_same(own, commalist),
         Constraint::Key(_)
         | Constraint::WhenUnpacked(_, _)
         | Constraint::Foreign(_, _, _, _)
@@ -96,12 +96,12 @@ pub(crate) fn are_same(left: &Positions, right: &Positions) -> bool
 pub(crate) fn exchange_of<L: Ledger>(
     alloc: Global,
     addition: Addition<'_>,
-    acl: &Positions,
+    commalist: &Positions,
     steps: &mut Steps<L>,
 ) -> Result<Exchange, Stop>
     requires addition { IsAddition addition }
-    requires marked { All (AreMarksOf addition.value.now.rows) addition.marks.now }
-    requires packed { IsPackedOn addition acl.now }
+    requires hashed { All (AreHashesOf addition.value.now.rows) addition.hashes.now }
+    requires packed { IsPackedOn addition commalist.now }
     ensures exchange { IfOk result (IsExchange addition.entry.value.now) }
     ensures packed { IfOk result (λ x. ArePackedIf (list_in addition.entry.insertion) (exchanged addition.entry.value.now.rows x.gone.rows x.come.rows)) }
     ensures meant { IfOk result (λ x. value_meant addition.entry
@@ -112,14 +112,14 @@ pub(crate) fn exchange_of<L: Ledger>(
     // Each row has the values of its heading.
     let _rows = addition.value.rows();
     let _more = addition.operand.rows();
-    let list = acl.list.as_slice();
+    let list = commalist.list.as_slice();
     let Addition {
         value,
-        marks,
+        hashes,
         operand,
         ..
     } = addition;
-    match inserted(alloc, value, marks, operand, list, steps) {
+    match inserted(alloc, value, hashes, operand, list, steps) {
         Ok(rows) => Ok(rows),
         Err(RowsRefuse::TooMany) => Err(Stop::Fault(Fault {
             place: addition.insertion.assignment.tree.place,
@@ -141,5 +141,5 @@ pub(crate) fn whole(
 {
     let left = absent(alloc, value, &rows.gone)?;
     let come = absent(alloc, &rows.come, &rows.gone)?;
-    told(place, union(alloc, &left, &come))
+    or_fault_at(place, union(alloc, &left, &come))
 }

@@ -40,7 +40,7 @@ fn as_plain_portion<'a>(
     match &tree.form {
         RelForm::Restrict(condition, of) if is_target(of, target) => Some(Portion {
             place: tree.place,
-            acl: none,
+            commalist: none,
             condition,
         }),
         _ => None,
@@ -98,7 +98,7 @@ fn of_parts<'a>(
     let changed = as_plain_changed(right, &assignment.target, none)?;
     Some(Revision {
         assignment,
-        acl: none,
+        commalist: none,
         kept,
         gone,
         changed,
@@ -135,7 +135,7 @@ fn with_items<'a>(
     let portion = as_plain_portion(of, target, none)?;
     Some(Changed {
         place: tree.place,
-        acl: none,
+        commalist: none,
         sets,
         portion,
     })

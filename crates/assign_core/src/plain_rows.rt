@@ -6,9 +6,9 @@ ghost use Rattle.assign_core.specs.Portions.{point_cost};
 use value_core::Positions;
 
 /// Whether the list has no attribute: rows are then asked as they are.
-pub(crate) fn lists_none(acl: &Positions) -> bool
-    ensures none { result ≡ true → acl.now ≡ [] }
-    ensures some { result ≡ false → (n : ℕ) → point_cost acl.now n ≡ bound n (length acl.now) }
+pub(crate) fn lists_none(commalist: &Positions) -> bool
+    ensures none { result ≡ true → commalist.now ≡ [] }
+    ensures some { result ≡ false → (n : ℕ) → point_cost commalist.now n ≡ bound n (length commalist.now) }
 {
-    acl.list.is_empty()
+    commalist.list.is_empty()
 }

@@ -10,11 +10,11 @@ use tree_core::{Assignment, RelForm, RelTree};
 use value_core::{Name, Positions};
 
 /// The rows of a target at the points where a condition holds, or as they are where no attribute is listed. The place is that where too
-/// many rows are told.
+/// many rows are or_fault_at.
 #[derive(Clone, Copy)]
 pub(crate) struct Portion<'a> {
     pub place: Place,
-    pub acl: &'a Positions,
+    pub commalist: &'a Positions,
     pub condition: &'a Scalar,
 }
 
@@ -55,7 +55,7 @@ pub(crate) fn as_portion<'a>(tree: &'a RelTree, target: &Name) -> Option<Portion
     ensures { IfSome result (λ p. IsPortion p target.now (read_tree tree.now)) }
 {
     match &tree.form {
-        RelForm::Using(acl, part) => restricted_under(tree, acl, part, target),
+        RelForm::Using(commalist, part) => restricted_under(tree, commalist, part, target),
         _ => None,
     }
 }
@@ -63,17 +63,17 @@ pub(crate) fn as_portion<'a>(tree: &'a RelTree, target: &Name) -> Option<Portion
 // The same of an expression under USING.
 fn restricted_under<'a>(
     tree: &RelTree,
-    acl: &'a Positions,
+    commalist: &'a Positions,
     part: &'a RelTree,
     target: &Name,
 ) -> Option<Portion<'a>>
-    requires { read_tree tree.now ≡ using tree.now.place tree.now.heading acl.now (read_tree part.now) }
+    requires { read_tree tree.now ≡ using tree.now.place tree.now.heading commalist.now (read_tree part.now) }
     ensures { IfSome result (λ p. IsPortion p target.now (read_tree tree.now)) }
 {
     match &part.form {
         RelForm::Restrict(condition, of) if is_target(of, target) => Some(Portion {
             place: tree.place,
-            acl,
+            commalist,
             condition,
         }),
         _ => None,

@@ -2,19 +2,19 @@
 ghost use Rattle.std.specs.Prelude.{◌≡◌, ◌≤◌, ◌+◌, [], ◌∷◌, length, map, replicate, None, Ok, IfOk, IfErr};
 ghost use Rattle.std.specs.List.{All};
 ghost use Rattle.relation_core.specs.Answers.{under};
-ghost use Rattle.row_marks.specs.Marks.{AreMarksOf};
+ghost use Rattle.relation_core.specs.Hashes.{AreHashesOf};
 ghost use Rattle.tree_core.specs.Items.{read_assignment};
 ghost use Rattle.tree_core.specs.Relvars.{read_relvars};
 ghost use Rattle.meaning_core.specs.Meanings.{limited};
 ghost use Rattle.meaning_core.specs.Updates.{IsTypedAssignment};
 ghost use Rattle.u_constraints.specs.Growth.{exchanged};
-ghost use Rattle.u_labels.specs.Exchanges.{IsExchange};
+ghost use Rattle.change_rows.specs.Exchanges.{IsExchange};
 ghost use Rattle.assign_core.specs.Assignments.{after_assignments, IsRefusedFor, IsAdmitted};
 ghost use Rattle.assign_core.specs.Changes.{AreChanges, changed};
 ghost use Rattle.assign_core.specs.Costs.{assignments_cost, constraints_cost, constraints_cost_of};
 ghost use Rattle.assign_core.specs.Databases.{IsKept};
 ghost use Rattle.assign_core.specs.Turnovers.{with_ready, IsKnown, IsReady};
-ghost use Rattle.assign_core.specs.Marked.{AreMarked};
+ghost use Rattle.assign_core.specs.Hashed.{AreHashed};
 ghost use Rattle.assign_core.specs.Insertions.{addition_cost, entries_of, outcome, sum_of, IsAddition, IsInsertion, IsPackedOn, IsPlain};
 ghost use Rattle.assign_core.specs.Targets.{entries_before, entries_given, result_given, value_given, IsTarget};
 
@@ -26,19 +26,19 @@ use crate::changes::none_yet;
 use crate::checking::After;
 use crate::counting::are_few;
 use crate::differences::check_changes;
+use crate::hashed::{Hashed, hashes_at};
 use crate::insertion::{Insertion, evaluate_operand, find_insertion};
-use crate::marked::{Marked, marks_at};
 use crate::packing::{exchange_of, packed_list, whole};
 use crate::sources::evaluate;
 use crate::target::Target;
 use crate::tuning::ROWS_LOOKED_AT_FOR_ONE;
 use crate::turnover::{Known, have_room};
+use change_rows::Exchange;
 use point_core::{Code, Place, Steps};
-use row_marks::Marks;
+use relation_core::Hashes;
 use std::alloc::Global;
 use std::sync::ledger::Ledger;
 use tree_core::{Assignment, Relvars};
-use u_labels::Exchange;
 use value_core::{MOST_ROWS_IN_ALL, Positions, Refuse, Relation};
 
 /// What stands ready before anything changes: new values, one place for each relvar and view, or an exchange of rows of the base relvar
@@ -54,11 +54,11 @@ pub(crate) fn prepare<L: Ledger>(
     alloc: Global,
     list: &[Assignment],
     relvars: &Relvars,
-    marked: &Marked,
+    hashed: &Hashed,
     steps: &mut Steps<L>,
 ) -> Result<Ready, Refuse>
     requires kept { IsKept (read_relvars relvars.now) }
-    requires marked { AreMarked marked.now (read_relvars relvars.now).relvars }
+    requires hashed { AreHashed hashed.now (read_relvars relvars.now).relvars }
     requires typed { All (λ a. IsTypedAssignment (read_relvars relvars.now) (read_assignment a)) list.now }
     ensures ready { IfOk result (λ r. IsReady r (read_relvars relvars.now).relvars) }
     ensures meant { IfOk result (λ r. after_assignments (read_relvars relvars.now).relvars (map read_assignment list.now) ≡ Ok (with_ready r (read_relvars relvars.now).relvars)) }
@@ -66,8 +66,8 @@ pub(crate) fn prepare<L: Ledger>(
     ensures cost { steps.new ≤ steps.old + assignments_cost (read_relvars relvars.now).relvars (map read_assignment list.now) }
 {
     match find_insertion(list) {
-        Some(insertion) => prepare_insertion(alloc, insertion, relvars, marked, steps),
-        None => prepare_change(alloc, list, relvars, marked, steps),
+        Some(insertion) => prepare_insertion(alloc, insertion, relvars, hashed, steps),
+        None => prepare_change(alloc, list, relvars, hashed, steps),
     }
 }
 
@@ -94,11 +94,11 @@ fn prepare_insertion<L: Ledger>(
     alloc: Global,
     insertion: Insertion<'_>,
     relvars: &Relvars,
-    marked: &Marked,
+    hashed: &Hashed,
     steps: &mut Steps<L>,
 ) -> Result<Ready, Refuse>
     requires kept { IsKept (read_relvars relvars.now) }
-    requires marked { AreMarked marked.now (read_relvars relvars.now).relvars }
+    requires hashed { AreHashed hashed.now (read_relvars relvars.now).relvars }
     requires insertion { IsInsertion insertion }
     requires typed { IsTypedAssignment (read_relvars relvars.now) (read_assignment insertion.assignment.now) }
     ensures ready { IfOk result (λ r. IsReady r (read_relvars relvars.now).relvars) }
@@ -114,7 +114,7 @@ fn prepare_insertion<L: Ledger>(
         relvars,
         at,
         value,
-        marks: marks_at(marked, at),
+        hashes: hashes_at(hashed, at),
         operand: &operand,
     };
     prepare_addition(alloc, addition, none.as_slice(), steps)
@@ -130,14 +130,14 @@ fn prepare_addition<L: Ledger>(
     requires kept { IsKept (read_relvars addition.relvars.now) }
     requires none { none.now ≡ replicate (length addition.relvars.now.list.entries) None }
     requires addition { IsAddition addition }
-    requires marked { All (AreMarksOf addition.value.now.rows) addition.marks.now }
+    requires hashed { All (AreHashesOf addition.value.now.rows) addition.hashes.now }
     ensures ready { IfOk result (λ r. IsReady r (entries_of addition.entry)) }
     ensures meant { IfOk result (λ r. outcome addition.entry ≡ Ok (with_ready r (entries_of addition.entry))) }
     ensures refused { IfErr result (λ refuse. IsRefusedFor refuse (outcome addition.entry)) }
     ensures cost { steps.new ≤ steps.old + (addition_cost addition.entry + constraints_cost_of (sum_of addition.entry)) }
 {
     match packed_list(addition) {
-        Some(acl) => prepare_packed(alloc, addition, acl, none, steps),
+        Some(commalist) => prepare_packed(alloc, addition, commalist, none, steps),
         None => prepare_any(alloc, addition, none, steps),
     }
 }
@@ -152,15 +152,15 @@ fn comes_in_bulk(addition: Addition<'_>) -> bool {
 fn prepare_packed<L: Ledger>(
     alloc: Global,
     addition: Addition<'_>,
-    acl: &Positions,
+    commalist: &Positions,
     none: &[Option<Relation>],
     steps: &mut Steps<L>,
 ) -> Result<Ready, Refuse>
     requires kept { IsKept (read_relvars addition.relvars.now) }
     requires none { none.now ≡ replicate (length addition.relvars.now.list.entries) None }
     requires addition { IsAddition addition }
-    requires marked { All (AreMarksOf addition.value.now.rows) addition.marks.now }
-    requires packed { IsPackedOn addition acl.now }
+    requires hashed { All (AreHashesOf addition.value.now.rows) addition.hashes.now }
+    requires packed { IsPackedOn addition commalist.now }
     ensures ready { IfOk result (λ r. IsReady r (entries_of addition.entry)) }
     ensures meant { IfOk result (λ r. outcome addition.entry ≡ Ok (with_ready r (entries_of addition.entry))) }
     ensures refused { IfErr result (λ refuse. IsRefusedFor refuse (outcome addition.entry)) }
@@ -169,7 +169,7 @@ fn prepare_packed<L: Ledger>(
     if comes_in_bulk(addition) && is_plain(alloc, addition)? {
         return prepare_plain(alloc, addition, none, steps);
     }
-    let rows = exchange_of(alloc, addition, acl, steps)?;
+    let rows = exchange_of(alloc, addition, commalist, steps)?;
     let place = addition.insertion.assignment.tree.place;
     let known = known_of(addition);
     prepare_exchange(alloc, target_of(addition), place, rows, known, none, steps)
@@ -215,7 +215,7 @@ fn prepare_any<L: Ledger>(
     requires kept { IsKept (read_relvars addition.relvars.now) }
     requires none { none.now ≡ replicate (length addition.relvars.now.list.entries) None }
     requires addition { IsAddition addition }
-    requires marked { All (AreMarksOf addition.value.now.rows) addition.marks.now }
+    requires hashed { All (AreHashesOf addition.value.now.rows) addition.hashes.now }
     ensures ready { IfOk result (λ r. IsReady r (entries_of addition.entry)) }
     ensures meant { IfOk result (λ r. outcome addition.entry ≡ Ok (with_ready r (entries_of addition.entry))) }
     ensures refused { IfErr result (λ refuse. IsRefusedFor refuse (outcome addition.entry)) }
@@ -239,7 +239,7 @@ fn prepare_plain<L: Ledger>(
     requires kept { IsKept (read_relvars addition.relvars.now) }
     requires none { none.now ≡ replicate (length addition.relvars.now.list.entries) None }
     requires addition { IsAddition addition }
-    requires marked { All (AreMarksOf addition.value.now.rows) addition.marks.now }
+    requires hashed { All (AreHashesOf addition.value.now.rows) addition.hashes.now }
     requires plain { IsPlain addition }
     ensures ready { IfOk result (λ r. IsReady r (entries_of addition.entry)) }
     ensures meant { IfOk result (λ r. outcome addition.entry ≡ Ok (with_ready r (entries_of addition.entry))) }

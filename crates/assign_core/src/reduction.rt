@@ -6,7 +6,7 @@ ghost use Rattle.value_core.specs.Values.{Name as PlainName, Relation as PlainRe
 ghost use Rattle.value_core.specs.declared.constraint.Constraint.{Constraint};
 ghost use Rattle.scalar_core.specs.Expressions.{read};
 ghost use Rattle.relation_core.specs.Answers.{Answers, under};
-ghost use Rattle.row_marks.specs.Marks.{AreMarksOf};
+ghost use Rattle.relation_core.specs.Hashes.{AreHashesOf};
 ghost use Rattle.cell_core.specs.Costs.{bound};
 ghost use Rattle.tree_core.specs.Items.{read_assignment};
 ghost use Rattle.tree_core.specs.Relvars.{base, read_relvars};
@@ -14,12 +14,12 @@ ghost use Rattle.meaning_core.specs.Meanings.{limited};
 ghost use Rattle.meaning_core.specs.Names.{IsFirstAt};
 ghost use Rattle.meaning_core.specs.Updates.{IsTypedAssignment};
 ghost use Rattle.u_constraints.specs.Growth.{exchanged};
-ghost use Rattle.using_core.specs.Cells.{cells_of_all};
-ghost use Rattle.u_labels.specs.Exchanges.{IsExchange};
+ghost use Rattle.eval_using.specs.Cells.{cells_of_all};
+ghost use Rattle.change_rows.specs.Exchanges.{IsExchange};
 ghost use Rattle.assign_core.specs.Costs.{source_cost};
 ghost use Rattle.assign_core.specs.Databases.{IsKept};
 ghost use Rattle.assign_core.specs.PlainChanges.{IsAnyDeletion};
-ghost use Rattle.assign_core.specs.Portions.{portion_cost, portion_rows, IsConcerned, IsDeletionOf, IsPortionFor};
+ghost use Rattle.assign_core.specs.Portions.{portion_cost, portion_rows, IsAffected, IsDeletionOf, IsPortionFor};
 ghost use Rattle.assign_core.specs.Reductions.{reduced_target, IsReduction};
 ghost use Rattle.assign_core.specs.Targets.{entries_before, value_given};
 
@@ -28,15 +28,14 @@ use crate::packing::is_kept_packed;
 use crate::plain_rows::lists_none;
 use crate::portion::{Deletion, Portion};
 use crate::tuning::SMALL_PART_DIVISOR;
+use change_rows::{Exchange, affected, replaced};
+use eval_using::using_restriction;
 use point_core::{Memory, Steps, Stop};
+use relation_core::Hashes;
 use row_making::restricted;
-use row_marks::Marks;
 use std::alloc::Global;
 use std::sync::ledger::Ledger;
 use tree_core::Relvars;
-use u_changes::concerned;
-use u_labels::{Exchange, replaced};
-use using_core::using_restriction;
 use value_core::{Positions, Relation};
 
 /// A deletion with the place and the value of its target, and the rows that its condition concerns.
@@ -68,35 +67,35 @@ pub(crate) fn deleted_part(
     deletion: Deletion<'_>,
     at: usize,
     value: &Relation,
-    marks: &[Marks],
+    hashes: &[Hashes],
 ) -> Result<Option<Relation>, Memory>
     requires kept { IsKept (read_relvars relvars.now) }
     requires deletion { IsDeletionOf (read_relvars relvars.now).relvars deletion at value.now }
-    requires marked { All (AreMarksOf value.now.rows) marks.now }
-    ensures { IfOk result (λ o. IfSome o (IsConcerned deletion.entry.kept.acl.now (read deletion.entry.gone.now) value.now)) }
+    requires hashed { All (AreHashesOf value.now.rows) hashes.now }
+    ensures { IfOk result (λ o. IfSome o (IsAffected deletion.entry.kept.commalist.now (read deletion.entry.gone.now) value.now)) }
 {
-    if !is_packed_at(relvars, at, deletion.kept.acl) {
+    if !is_packed_at(relvars, at, deletion.kept.commalist) {
         return Ok(None);
     }
-    let acl = deletion.kept.acl;
-    let list = acl.list.as_slice();
-    match concerned(alloc, value, list, deletion.gone, marks)? {
+    let commalist = deletion.kept.commalist;
+    let list = commalist.list.as_slice();
+    match affected(alloc, value, list, deletion.gone, hashes)? {
         Some(part) => Ok(if_few(part, value)),
         None => Ok(None),
     }
 }
 
 /// Whether a constraint of the base relvar at the place keeps its rows packed on the list. Without an attribute there is nothing to pack.
-pub(crate) fn is_packed_at(relvars: &Relvars, at: usize, acl: &Positions) -> bool
+pub(crate) fn is_packed_at(relvars: &Relvars, at: usize, commalist: &Positions) -> bool
     requires { IsKept (read_relvars relvars.now) }
     ensures { (target : PlainName) (value : PlainRelation) (constraints : List Constraint) → IsFirstAt (read_relvars relvars.now).relvars target at (base value constraints)
-        → IsRelation value → result ≡ true → packed acl.now value.rows ≡ value.rows }
+        → IsRelation value → result ≡ true → packed commalist.now value.rows ≡ value.rows }
 {
-    if lists_none(acl) {
+    if lists_none(commalist) {
         return true;
     }
     match relvars.list.get_index(at) {
-        Some((_, relvar)) => is_kept_packed(relvar, acl),
+        Some((_, relvar)) => is_kept_packed(relvar, commalist),
         None => false,
     }
 }
@@ -120,10 +119,10 @@ pub(crate) fn portion_rows<L: Ledger>(
     steps: &mut Steps<L>,
 ) -> Result<Relation, Stop>
     requires { IsPortionFor of.now.heading portion }
-    ensures value { Answers result (under of.now.heading (portion_rows portion.entry.place portion.entry.acl.now (read portion.entry.condition.now) of.now.rows)) }
-    ensures cost { steps.new ≤ steps.old + portion_cost portion.entry.acl.now (read portion.entry.condition.now) of.now.rows }
+    ensures value { Answers result (under of.now.heading (portion_rows portion.entry.place portion.entry.commalist.now (read portion.entry.condition.now) of.now.rows)) }
+    ensures cost { steps.new ≤ steps.old + portion_cost portion.entry.commalist.now (read portion.entry.condition.now) of.now.rows }
 {
-    if lists_none(portion.acl) {
+    if lists_none(portion.commalist) {
         return restricted(alloc, of, portion.condition);
     }
     rows_at_points(alloc, portion, of, steps)
@@ -137,12 +136,12 @@ fn rows_at_points<L: Ledger>(
     steps: &mut Steps<L>,
 ) -> Result<Relation, Stop>
     requires { IsPortionFor of.now.heading portion }
-    ensures value { Answers result (under of.now.heading (portion_rows portion.entry.place portion.entry.acl.now (read portion.entry.condition.now) of.now.rows)) }
-    ensures cost { steps.new ≤ steps.old + bound (cells_of_all portion.entry.acl.now (read portion.entry.condition.now ∷ []) of.now.rows) (length portion.entry.acl.now) }
+    ensures value { Answers result (under of.now.heading (portion_rows portion.entry.place portion.entry.commalist.now (read portion.entry.condition.now) of.now.rows)) }
+    ensures cost { steps.new ≤ steps.old + bound (cells_of_all portion.entry.commalist.now (read portion.entry.condition.now ∷ []) of.now.rows) (length portion.entry.commalist.now) }
 {
     let heading = of.heading();
-    let acl = portion.acl;
-    let list = acl.list.as_slice();
+    let commalist = portion.commalist;
+    let list = commalist.list.as_slice();
     using_restriction(
         alloc,
         portion.place,

@@ -6,7 +6,7 @@ ghost use Rattle.value_core.specs.Values.{Relation as PlainRelation};
 ghost use Rattle.scalar_core.specs.Expressions.{read};
 ghost use Rattle.relation_core.specs.Answers.{Answers, under};
 ghost use Rattle.relation_core.specs.Operators.{subtracted, united};
-ghost use Rattle.row_marks.specs.Marks.{AreMarksOf};
+ghost use Rattle.relation_core.specs.Hashes.{AreHashesOf};
 ghost use Rattle.cell_core.specs.Costs.{bound};
 ghost use Rattle.tree_core.specs.Items.{read_assignment};
 ghost use Rattle.tree_core.specs.Relvars.{read_relvars};
@@ -14,13 +14,13 @@ ghost use Rattle.tree_core.specs.Trees.{read_sets};
 ghost use Rattle.meaning_core.specs.Meanings.{limited};
 ghost use Rattle.meaning_core.specs.Updates.{IsTypedAssignment};
 ghost use Rattle.u_constraints.specs.Growth.{exchanged};
-ghost use Rattle.u_labels.specs.Exchanges.{IsExchange};
-ghost use Rattle.using_core.specs.Cells.{cells_of_all, scalars_of};
+ghost use Rattle.change_rows.specs.Exchanges.{IsExchange};
+ghost use Rattle.eval_using.specs.Cells.{cells_of_all, scalars_of};
 ghost use Rattle.algebra_core.specs.Costs.{paid};
 ghost use Rattle.assign_core.specs.Costs.{source_cost};
 ghost use Rattle.assign_core.specs.Databases.{IsKept};
 ghost use Rattle.assign_core.specs.PlainChanges.{IsAnyRevision};
-ghost use Rattle.assign_core.specs.Portions.{portion_cost, portion_rows, IsConcerned};
+ghost use Rattle.assign_core.specs.Portions.{portion_cost, portion_rows, IsAffected};
 ghost use Rattle.assign_core.specs.Renewals.{after_left, renewed_target, AreAdded, IsLeft, IsRenewal};
 ghost use Rattle.assign_core.specs.Revisions.{changed_cost, changed_rows, left_of, IsChangedFor, IsRevisionOf};
 ghost use Rattle.assign_core.specs.Targets.{entries_before, value_given};
@@ -29,26 +29,24 @@ use crate::insertion::base_at;
 use crate::plain_rows::lists_none;
 use crate::reduction::{if_few, is_packed_at, portion_rows};
 use crate::revision::{Changed, Revision};
+use change_rows::{Exchange, affected_by_both, replaced, replaced_and_inserted};
+use eval_using::using_extension;
 use point_core::{Code, Fault, Memory, Steps, Stop};
-use relation_core::union;
-use row_making::{extended, told};
-use row_marks::Marks;
+use relation_core::{Hashes, union};
+use row_making::{extended, or_fault_at};
 use std::alloc::Global;
 use std::sync::ledger::Ledger;
 use tree_core::Relvars;
-use u_changes::concerned_by_both;
-use u_labels::{Exchange, replaced, replaced_and_inserted};
-use using_core::using_extension;
 use value_core::{MOST_ROWS, Relation, RowsRefuse};
 
-/// A revision with the place, the value and the marks of its target, and the rows that its conditions concern.
+/// A revision with the place, the value and the hashes of its target, and the rows that its conditions concern.
 #[derive(Clone, Copy)]
 pub(crate) struct Renewal<'a> {
     pub relvars: &'a Relvars,
     pub revision: Revision<'a>,
     pub at: usize,
     pub value: &'a Relation,
-    pub marks: &'a [Marks],
+    pub hashes: &'a [Hashes],
     pub part: &'a Relation,
 }
 
@@ -71,21 +69,21 @@ pub(crate) fn revised_part(
     revision: Revision<'_>,
     at: usize,
     value: &Relation,
-    marks: &[Marks],
+    hashes: &[Hashes],
 ) -> Result<Option<Relation>, Memory>
     requires kept { IsKept (read_relvars relvars.now) }
     requires revision { IsRevisionOf (read_relvars relvars.now).relvars revision at value.now }
-    requires marked { All (AreMarksOf value.now.rows) marks.now }
-    ensures gone { IfOk result (λ o. IfSome o (IsConcerned revision.entry.acl.now (read revision.entry.gone.now) value.now)) }
-    ensures changed { IfOk result (λ o. IfSome o (IsConcerned revision.entry.acl.now (read revision.entry.changed.portion.condition.now) value.now)) }
+    requires hashed { All (AreHashesOf value.now.rows) hashes.now }
+    ensures gone { IfOk result (λ o. IfSome o (IsAffected revision.entry.commalist.now (read revision.entry.gone.now) value.now)) }
+    ensures changed { IfOk result (λ o. IfSome o (IsAffected revision.entry.commalist.now (read revision.entry.changed.portion.condition.now) value.now)) }
 {
-    let acl = revision.acl;
-    if !is_packed_at(relvars, at, acl) {
+    let commalist = revision.commalist;
+    if !is_packed_at(relvars, at, commalist) {
         return Ok(None);
     }
-    let list = acl.list.as_slice();
+    let list = commalist.list.as_slice();
     let condition = revision.changed.portion.condition;
-    match concerned_by_both(alloc, value, list, revision.gone, condition, marks)? {
+    match affected_by_both(alloc, value, list, revision.gone, condition, hashes)? {
         Some(part) => Ok(if_few(part, value)),
         None => Ok(None),
     }
@@ -100,7 +98,7 @@ fn left_rows<L: Ledger>(
     requires { IsRenewal renewal }
     ensures left { IfOk result (IsLeft renewal.entry) }
     ensures refused { IfErr result (λ stop. Answers {A = PlainRelation} (Err stop) (under renewal.entry.value.now.heading (left_of renewal.entry.revision renewal.entry.value.now.rows))) }
-    ensures cost { steps.new ≤ steps.old + portion_cost renewal.entry.revision.acl.now (read renewal.entry.revision.kept.condition.now) renewal.entry.value.now.rows }
+    ensures cost { steps.new ≤ steps.old + portion_cost renewal.entry.revision.commalist.now (read renewal.entry.revision.kept.condition.now) renewal.entry.value.now.rows }
 {
     let (value, part) = (renewal.value, renewal.part);
     let left = portion_rows(alloc, renewal.revision.kept, part, steps)?;
@@ -123,10 +121,10 @@ fn with_new_values<L: Ledger>(
     steps: &mut Steps<L>,
 ) -> Result<Relation, Stop>
     requires { IsChangedFor of.now.heading changed }
-    ensures value { Answers result (under of.now.heading (changed_rows of.now.heading changed.entry.place changed.entry.acl.now (read_sets changed.entry.sets.now) of.now.rows)) }
-    ensures cost { steps.new ≤ steps.old + changed_cost changed.entry.acl.now (read_sets changed.entry.sets.now) of.now.rows }
+    ensures value { Answers result (under of.now.heading (changed_rows of.now.heading changed.entry.place changed.entry.commalist.now (read_sets changed.entry.sets.now) of.now.rows)) }
+    ensures cost { steps.new ≤ steps.old + changed_cost changed.entry.commalist.now (read_sets changed.entry.sets.now) of.now.rows }
 {
-    if lists_none(changed.acl) {
+    if lists_none(changed.commalist) {
         return extended(alloc, of, of.heading(), changed.sets);
     }
     new_values_at_points(alloc, changed, of, steps)
@@ -140,12 +138,12 @@ fn new_values_at_points<L: Ledger>(
     steps: &mut Steps<L>,
 ) -> Result<Relation, Stop>
     requires { IsChangedFor of.now.heading changed }
-    ensures value { Answers result (under of.now.heading (changed_rows of.now.heading changed.entry.place changed.entry.acl.now (read_sets changed.entry.sets.now) of.now.rows)) }
-    ensures cost { steps.new ≤ steps.old + bound (cells_of_all changed.entry.acl.now (scalars_of (read_sets changed.entry.sets.now)) of.now.rows) (length changed.entry.acl.now) }
+    ensures value { Answers result (under of.now.heading (changed_rows of.now.heading changed.entry.place changed.entry.commalist.now (read_sets changed.entry.sets.now) of.now.rows)) }
+    ensures cost { steps.new ≤ steps.old + bound (cells_of_all changed.entry.commalist.now (scalars_of (read_sets changed.entry.sets.now)) of.now.rows) (length changed.entry.commalist.now) }
 {
     let heading = of.heading();
-    let acl = changed.acl;
-    let list = acl.list.as_slice();
+    let commalist = changed.commalist;
+    let list = commalist.list.as_slice();
     using_extension(alloc, changed.place, heading, list, changed.sets, of, steps)
 }
 
@@ -158,11 +156,11 @@ fn added_rows<L: Ledger>(
 ) -> Result<Relation, Stop>
     requires { IsChangedFor of.now.heading changed }
     ensures value { Answers result (under of.now.heading (then_give
-        (portion_rows changed.entry.portion.place changed.entry.portion.acl.now (read changed.entry.portion.condition.now) of.now.rows)
-        (changed_rows of.now.heading changed.entry.place changed.entry.acl.now (read_sets changed.entry.sets.now)))) }
-    ensures cost { steps.new ≤ steps.old + (portion_cost changed.entry.portion.acl.now (read changed.entry.portion.condition.now) of.now.rows
-        + paid (portion_rows changed.entry.portion.place changed.entry.portion.acl.now (read changed.entry.portion.condition.now) of.now.rows)
-        (changed_cost changed.entry.acl.now (read_sets changed.entry.sets.now))) }
+        (portion_rows changed.entry.portion.place changed.entry.portion.commalist.now (read changed.entry.portion.condition.now) of.now.rows)
+        (changed_rows of.now.heading changed.entry.place changed.entry.commalist.now (read_sets changed.entry.sets.now)))) }
+    ensures cost { steps.new ≤ steps.old + (portion_cost changed.entry.portion.commalist.now (read changed.entry.portion.condition.now) of.now.rows
+        + paid (portion_rows changed.entry.portion.place changed.entry.portion.commalist.now (read changed.entry.portion.condition.now) of.now.rows)
+        (changed_cost changed.entry.commalist.now (read_sets changed.entry.sets.now))) }
 {
     let some = portion_rows(alloc, changed.portion, of, steps)?;
     with_new_values(alloc, changed, &some, steps)
@@ -185,7 +183,7 @@ fn exchange_with<L: Ledger>(
     ensures refused { IfErr result (λ stop. Answers {A = PlainRelation} (Err stop) (value_given (renewed_target renewal.entry))) }
     ensures cost { steps.new ≤ steps.old + after_left renewal.entry left.now added.now }
 {
-    if lists_none(renewal.revision.acl) {
+    if lists_none(renewal.revision.commalist) {
         return exchange_plainly(alloc, renewal, left, added);
     }
     exchange_at_points(alloc, renewal, left, added, steps)
@@ -199,7 +197,7 @@ fn exchange_plainly(
     added: &Relation,
 ) -> Result<Exchange, Stop>
     requires renewal { IsRenewal renewal }
-    requires none { renewal.revision.acl.now ≡ [] }
+    requires none { renewal.revision.commalist.now ≡ [] }
     requires left { IsLeft renewal left.now }
     requires added { AreAdded renewal added.now }
     ensures exchange { IfOk result (IsExchange renewal.entry.value.now) }
@@ -208,7 +206,7 @@ fn exchange_plainly(
     ensures refused { IfErr result (λ stop. Answers {A = PlainRelation} (Err stop) (value_given (renewed_target renewal.entry))) }
 {
     let place = renewal.revision.assignment.tree.place;
-    let new = told(place, union(alloc, left, added))?;
+    let new = or_fault_at(place, union(alloc, left, added))?;
     let rows = replaced(alloc, renewal.value, renewal.part, &new)?;
     Ok(rows)
 }
@@ -229,12 +227,12 @@ fn exchange_at_points<L: Ledger>(
         ≡ under renewal.entry.value.now.heading (limited renewal.entry.revision.assignment.now.tree.place (exchanged renewal.entry.value.now.rows x.gone.rows x.come.rows))) }
     ensures refused { IfErr result (λ stop. Answers {A = PlainRelation} (Err stop) (value_given (renewed_target renewal.entry))) }
     ensures cost { steps.new ≤ steps.old + bound (length (united (subtracted renewal.entry.value.now.rows renewal.entry.part.now.rows) left.now.rows) + length added.now.rows)
-        (length renewal.entry.revision.acl.now) }
+        (length renewal.entry.revision.commalist.now) }
 {
-    let acl = renewal.revision.acl;
-    let list = acl.list.as_slice();
-    let (value, marks, part) = (renewal.value, renewal.marks, renewal.part);
-    match replaced_and_inserted(alloc, value, marks, part, left, added, list, steps) {
+    let commalist = renewal.revision.commalist;
+    let list = commalist.list.as_slice();
+    let (value, hashes, part) = (renewal.value, renewal.hashes, renewal.part);
+    match replaced_and_inserted(alloc, value, hashes, part, left, added, list, steps) {
         Ok(rows) => Ok(rows),
         Err(RowsRefuse::TooMany) => Err(Stop::Fault(Fault {
             place: renewal.revision.assignment.tree.place,

@@ -12,11 +12,11 @@ use scalar_core::Scalar;
 use tree_core::{Assignment, InfixWord, RelForm, RelTree, Sets};
 use value_core::{Name, Positions};
 
-/// The rows of a target at the points where a condition holds, with new values. The place is that where too many rows are told.
+/// The rows of a target at the points where a condition holds, with new values. The place is that where too many rows are or_fault_at.
 #[derive(Clone, Copy)]
 pub(crate) struct Changed<'a> {
     pub place: Place,
-    pub acl: &'a Positions,
+    pub commalist: &'a Positions,
     pub sets: &'a Sets,
     pub portion: Portion<'a>,
 }
@@ -26,7 +26,7 @@ pub(crate) struct Changed<'a> {
 #[derive(Clone, Copy)]
 pub(crate) struct Revision<'a> {
     pub assignment: &'a Assignment,
-    pub acl: &'a Positions,
+    pub commalist: &'a Positions,
     pub kept: Portion<'a>,
     pub gone: &'a Scalar,
     pub changed: Changed<'a>,
@@ -38,7 +38,7 @@ pub(crate) fn as_revision(assignment: &Assignment) -> Option<Revision<'_>>
     ensures is { IfSome result IsRevision }
 {
     match &assignment.tree.form {
-        RelForm::Using(acl, part) => joined_under(assignment, acl, part),
+        RelForm::Using(commalist, part) => joined_under(assignment, commalist, part),
         _ => None,
     }
 }
@@ -46,16 +46,16 @@ pub(crate) fn as_revision(assignment: &Assignment) -> Option<Revision<'_>>
 // The assignment of an expression under USING as a revision, where it is one.
 fn joined_under<'a>(
     assignment: &'a Assignment,
-    acl: &'a Positions,
+    commalist: &'a Positions,
     part: &'a RelTree,
 ) -> Option<Revision<'a>>
-    requires { read_tree assignment.now.tree ≡ using assignment.now.tree.place assignment.now.tree.heading acl.now (read_tree part.now) }
+    requires { read_tree assignment.now.tree ≡ using assignment.now.tree.place assignment.now.tree.heading commalist.now (read_tree part.now) }
     ensures same { IfSome result (λ r. r.assignment.now ≡ assignment.now) }
     ensures is { IfSome result IsRevision }
 {
     match &part.form {
         RelForm::Infix(word, left, right) => {
-            with_word(assignment, acl, part, *word, left, right)
+            with_word(assignment, commalist, part, *word, left, right)
         }
         _ => None,
     }
@@ -64,19 +64,19 @@ fn joined_under<'a>(
 // The assignment of two expressions joined by a word under USING as a revision, where it is one.
 fn with_word<'a>(
     assignment: &'a Assignment,
-    acl: &'a Positions,
+    commalist: &'a Positions,
     part: &RelTree,
     word: InfixWord,
     left: &'a RelTree,
     right: &'a RelTree,
 ) -> Option<Revision<'a>>
-    requires { read_tree assignment.now.tree ≡ using assignment.now.tree.place assignment.now.tree.heading acl.now
+    requires { read_tree assignment.now.tree ≡ using assignment.now.tree.place assignment.now.tree.heading commalist.now
         (infix_of part.now.place part.now.heading word (read_tree left.now) (read_tree right.now)) }
     ensures same { IfSome result (λ r. r.assignment.now ≡ assignment.now) }
     ensures is { IfSome result IsRevision }
 {
     match word {
-        InfixWord::Union => with_parts(assignment, acl, part, left, right),
+        InfixWord::Union => with_parts(assignment, commalist, part, left, right),
         _ => None,
     }
 }
@@ -84,12 +84,12 @@ fn with_word<'a>(
 // The assignment of the union of two expressions under USING as a revision, where it is one.
 fn with_parts<'a>(
     assignment: &'a Assignment,
-    acl: &'a Positions,
+    commalist: &'a Positions,
     part: &RelTree,
     left: &'a RelTree,
     right: &'a RelTree,
 ) -> Option<Revision<'a>>
-    requires { read_tree assignment.now.tree ≡ using assignment.now.tree.place assignment.now.tree.heading acl.now
+    requires { read_tree assignment.now.tree ≡ using assignment.now.tree.place assignment.now.tree.heading commalist.now
         (infix_of part.now.place part.now.heading UnionOf (read_tree left.now) (read_tree right.now)) }
     ensures same { IfSome result (λ r. r.assignment.now ≡ assignment.now) }
     ensures is { IfSome result IsRevision }
@@ -97,10 +97,10 @@ fn with_parts<'a>(
     let kept = as_portion(left, &assignment.target)?;
     let gone = negated(kept.condition)?;
     let changed = as_changed(right, &assignment.target)?;
-    if are_same(kept.acl, acl) && are_same(changed.acl, acl) {
+    if are_same(kept.commalist, commalist) && are_same(changed.commalist, commalist) {
         Some(Revision {
             assignment,
-            acl,
+            commalist,
             kept,
             gone,
             changed,
@@ -115,7 +115,7 @@ fn as_changed<'a>(tree: &'a RelTree, target: &Name) -> Option<Changed<'a>>
     ensures { IfSome result (λ x. IsChanged x target.now (read_tree tree.now)) }
 {
     match &tree.form {
-        RelForm::Using(acl, part) => extended_under(tree, acl, part, target),
+        RelForm::Using(commalist, part) => extended_under(tree, commalist, part, target),
         _ => None,
     }
 }
@@ -123,15 +123,15 @@ fn as_changed<'a>(tree: &'a RelTree, target: &Name) -> Option<Changed<'a>>
 // The same of an expression under USING.
 fn extended_under<'a>(
     tree: &RelTree,
-    acl: &'a Positions,
+    commalist: &'a Positions,
     part: &'a RelTree,
     target: &Name,
 ) -> Option<Changed<'a>>
-    requires { read_tree tree.now ≡ using tree.now.place tree.now.heading acl.now (read_tree part.now) }
+    requires { read_tree tree.now ≡ using tree.now.place tree.now.heading commalist.now (read_tree part.now) }
     ensures { IfSome result (λ x. IsChanged x target.now (read_tree tree.now)) }
 {
     match &part.form {
-        RelForm::Extend(sets, of) => with_sets(tree, acl, part, sets, of, target),
+        RelForm::Extend(sets, of) => with_sets(tree, commalist, part, sets, of, target),
         _ => None,
     }
 }
@@ -139,20 +139,20 @@ fn extended_under<'a>(
 // The same of an extension under USING.
 fn with_sets<'a>(
     tree: &RelTree,
-    acl: &'a Positions,
+    commalist: &'a Positions,
     part: &RelTree,
     sets: &'a Sets,
     of: &'a RelTree,
     target: &Name,
 ) -> Option<Changed<'a>>
-    requires { read_tree tree.now ≡ using tree.now.place tree.now.heading acl.now (extend part.now.place part.now.heading (read_sets sets.now) (read_tree of.now)) }
+    requires { read_tree tree.now ≡ using tree.now.place tree.now.heading commalist.now (extend part.now.place part.now.heading (read_sets sets.now) (read_tree of.now)) }
     ensures { IfSome result (λ x. IsChanged x target.now (read_tree tree.now)) }
 {
     let portion = as_portion(of, target)?;
-    if are_same(portion.acl, acl) {
+    if are_same(portion.commalist, commalist) {
         Some(Changed {
             place: tree.place,
-            acl,
+            commalist,
             sets,
             portion,
         })

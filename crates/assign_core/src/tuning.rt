@@ -1,12 +1,12 @@
 // The numbers that choose between two ways to one result. Only speed and memory hang on them.
 
-/// So many relvars at most have marks, which are kept beside the database.
-pub(crate) const MOST_MARKED_RELVARS: usize = 8;
+/// So many relvars at most have hashes, which are kept beside the database.
+pub(crate) const MOST_HASHED_RELVARS: usize = 8;
 
-/// The rows of a relvar are marked where there are so many.
-pub(crate) const FEWEST_MARKED_ROWS: usize = 256;
+/// The rows of a relvar are hashed where there are so many.
+pub(crate) const FEWEST_HASHED_ROWS: usize = 256;
 
-/// So many rows at most, of those that come and those that go together, are put in and taken out one by one with their marks.
+/// So many rows at most, of those that come and those that go together, are put in and taken out one by one with their hashes.
 pub(crate) const MOST_ROWS_ONE_BY_ONE: usize = 16;
 
 /// So many rows that are there, or fewer, for each one that comes are looked at all.

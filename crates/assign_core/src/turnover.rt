@@ -17,19 +17,19 @@ use crate::changes::value_of;
 use crate::checking::breach;
 use crate::packing::are_same;
 use crate::removal::remove;
+use change_rows::Exchange;
 use point_core::{Code, Memory, Steps};
-use row_marks::Marks;
+use relation_core::Hashes;
 use std::alloc::Global;
 use std::sync::ledger::Ledger;
 use tree_core::{Relvar, Relvars};
 use u_constraints::{are_all, holds, holds_beside, holds_with};
-use u_labels::Exchange;
 use value_core::{Constraint, MOST_ROWS, Name, Positions, Refuse, Relation};
 
-/// What is known of a relation whose rows are exchanged: marks of those before, and the list on which those after are packed, if one is.
+/// What is known of a relation whose rows are exchanged: hashes of those before, and the list on which those after are packed, if one is.
 #[derive(Clone, Copy)]
 pub(crate) struct Known<'a> {
-    pub marks: &'a [Marks],
+    pub hashes: &'a [Hashes],
     pub packed: Option<&'a Positions>,
 }
 
@@ -191,8 +191,8 @@ fn check_one<L: Ledger>(
         (true, false) => {
             let other = named(turnover.relvars, constraint);
             let Exchange { come, gone } = turnover.rows;
-            let marks = turnover.known.marks;
-            holds_with(alloc, constraint, own.of, marks, gone, come, other, steps)
+            let hashes = turnover.known.hashes;
+            holds_with(alloc, constraint, own.of, hashes, gone, come, other, steps)
         }
         (false, true) => holds_of_other(alloc, turnover, own.of, constraint, steps),
         (false, false) => Ok(Ok(())),
@@ -212,9 +212,9 @@ fn is_told(turnover: Turnover<'_>, of: &Relation, constraint: &Constraint) -> bo
     let _come = turnover.rows.come.rows();
     let many = of.heading().attributes().len();
     match (turnover.known.packed, constraint) {
-        (Some(acl), Constraint::Packed(own)) => are_same(own, acl),
-        (Some(acl), Constraint::UKey(own, key)) => {
-            are_same(own, acl) && are_all(key.list.as_slice(), many)
+        (Some(commalist), Constraint::Packed(own)) => are_same(own, commalist),
+        (Some(commalist), Constraint::UKey(own, key)) => {
+            are_same(own, commalist) && are_all(key.list.as_slice(), many)
         }
         _ => false,
     }

@@ -16,11 +16,11 @@ use Rattle.base_core.proofs.SetLemmas.{Ascends, AllAfter, Separates, in_order_by
 use Rattle.base_core.proofs.OrderingLemmas.{tied-not_Less}
 use Rattle.interval_core.specs.Members.{Span, at_point}
 use Rattle.interval_core.specs.Packing.{pack}
-use Rattle.packing_core.specs.Packed.{IsRun, nowhere, packs, points_of, Has}
-use Rattle.packing_core.specs.Covering.{Among}
-use Rattle.packing_core.specs.Boxed.{Boxed, boxed_cmp, packed_boxes, InBoxes, sides_from}
-use Rattle.packing_core.proofs.Order.{among_contains, contains_among}
-use Rattle.packing_core.proofs.PackedBoxes.{among_in, packed_form_is}
+use Rattle.cell_packing.specs.Packed.{IsRun, nowhere, packs, points_of, Has}
+use Rattle.cell_packing.specs.Covering.{Among}
+use Rattle.cell_packing.specs.Boxed.{Boxed, boxed_cmp, packed_boxes, InBoxes, sides_from}
+use Rattle.cell_packing.proofs.Order.{among_contains, contains_among}
+use Rattle.cell_packing.proofs.PackedBoxes.{among_in, packed_form_is}
 use Rattle.cell_core.specs.Boxes.{IsBox}
 use Rattle.cell_core.specs.Numbering.{numbers_of}
 use Rattle.cell_core.specs.Apart.{first_side, HasOneSide, IsBeyond, AreBeyond}

@@ -5,20 +5,20 @@ use Rattle.std.specs.List.Sorted.{IsStrictlySortedBy}
 use Rattle.std.proofs.lemmas.List.{length-map, length-append}
 use Rattle.std.proofs.lemmas.List.Elements.{recursion_from_All}
 use Rattle.std.proofs.lemmas.Int.{ints}
-use Rattle.packing_core.specs.Packed.{no_cells, nowhere}
-use Rattle.packing_core.specs.Covering.{Among, CellFunction}
-use Rattle.packing_core.specs.Live.{box, IsSliceRow, IsSomewhere}
-use Rattle.packing_core.proofs.Cells.{Cuts, box_of, span_of}
-use Rattle.packing_core.proofs.Covered.{IsInGrid}
-use Rattle.packing_core.proofs.Whole.{cells_back, cuts_back, same_box}
+use Rattle.cell_packing.specs.Packed.{no_cells, nowhere}
+use Rattle.cell_packing.specs.Covering.{Among, CellFunction}
+use Rattle.cell_packing.specs.Live.{box, IsSliceRow, IsSomewhere}
+use Rattle.cell_packing.proofs.Cells.{Cuts, box_of, span_of}
+use Rattle.cell_packing.proofs.Covered.{IsInGrid}
+use Rattle.cell_packing.proofs.Whole.{cells_back, cuts_back, same_box}
 use Rattle.point_core.specs.declared.fault.Fault.{Fault}
 use Rattle.point_core.specs.LeastFault.{IsLeast}
-use Rattle.slice_core.specs.Rows.{GivesLabel, GivesFault, key_cmp}
+use Rattle.cell_sweep.specs.Rows.{GivesLabel, GivesFault, key_cmp}
 use Rattle.cell_core.specs.Numbering.{cut_at, Rises, span_at, numbers_of, IsSide}
 use Rattle.cell_core.specs.Cells.{box_numbers, boxes_of, IsPackedForm, HasFault, rows_from, cells_at, side_of, grids_of, grid_box, grid_row}
 use Rattle.cell_core.proofs.Numbers.{rises_next}
 use Rattle.cell_core.proofs.Theorem.{row_of, rows_in_order, members, faults}
-use Rattle.slice_core.proofs.LabelRows.{map_at}
+use Rattle.cell_sweep.proofs.LabelRows.{map_at}
 
 -- the cuts as the mathematics has them
 abbrev pub cuts_list : (ns : List (List ℤ × ℤ)) → AllByRecursion (λ g. Rises g.0 g.1) ns → List Cuts

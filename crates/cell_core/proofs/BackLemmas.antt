@@ -2,8 +2,8 @@
 use Rattle.std.proofs.Common.{◌≡◌, ℕ, zero, suc, ◌+◌, ◌-◌, ◌<◌, ℤ, pos, ◌+ℤ◌, List, [], ◌∷◌, ◌++◌, map, length, get_or, inl, inr, arith, sym, ap, subst, refl, ◌∙◌}
 use Rattle.std.specs.List.{All}
 use Rattle.interval_core.specs.Members.{HasEndsIn}
-use Rattle.packing_core.specs.Covering.{Among}
-use Rattle.slice_core.specs.Rows.{AreRows, own_numbers}
+use Rattle.cell_packing.specs.Covering.{Among}
+use Rattle.cell_sweep.specs.Rows.{AreRows, own_numbers}
 use Rattle.cell_core.specs.Numbering.{span_at, numbers_of}
 use Rattle.cell_core.specs.Cells.{box_numbers, grids_of, grid_box}
 use Rattle.cell_core.specs.Boxes.{IsBox}

@@ -3,16 +3,16 @@ use Rattle.std.proofs.Common.{◌≡◌, ℕ, zero, suc, ◌+◌, ◌*◌, ◌<�
 use Rattle.std.specs.List.{All, AllByRecursion}
 use Rattle.std.proofs.Common.{inl, inr}
 use Rattle.std.proofs.lemmas.Bool.{cases_lt}
-use Rattle.packing_core.specs.Live.{box, InLive, IsSliceRow}
+use Rattle.cell_packing.specs.Live.{box, InLive, IsSliceRow}
 use Rattle.cell_core.proofs.CellsBack.{cells_bound, live_inside}
 use Rattle.std.proofs.lemmas.List.{length-map, length-append}
-use Rattle.packing_core.specs.Packed.{no_cells}
-use Rattle.slice_core.specs.declared.inward.IndexBox.{IndexBox}
-use Rattle.slice_core.specs.Rows.{sides_of, AreRows}
+use Rattle.cell_packing.specs.Packed.{no_cells}
+use Rattle.cell_sweep.specs.declared.inward.IndexBox.{IndexBox}
+use Rattle.cell_sweep.specs.Rows.{sides_of, AreRows}
 use Rattle.cell_core.specs.Numbering.{IsSide, IsGrid}
 use Rattle.cell_core.specs.Cells.{rows_from, cells_at, side_of}
 use Rattle.cell_core.proofs.Assembly.{pick_from}
-use Rattle.slice_core.proofs.LabelRows.{map_at}
+use Rattle.cell_sweep.proofs.LabelRows.{map_at}
 
 pub are_rows : (a n z : ℕ) → a + n ≤ z → AreRows a z (rows_from a n)
 are_rows a zero z h = tt

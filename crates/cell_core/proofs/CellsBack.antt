@@ -4,8 +4,8 @@ use Rattle.std.proofs.lemmas.Int.{ints}
 use Rattle.std.specs.List.{AllByRecursion, filter}
 use Rattle.std.proofs.lemmas.Bool.{cases_lt, cases_Bool, and_parts}
 use Rattle.std.proofs.lemmas.Bool.Decides.{nat_tests}
-use Rattle.packing_core.specs.Packed.{no_cells, IsIndexPackedTo}
-use Rattle.packing_core.specs.Live.{span_has, box, has_place, InLive}
+use Rattle.cell_packing.specs.Packed.{no_cells, IsIndexPackedTo}
+use Rattle.cell_packing.specs.Live.{span_has, box, has_grid_point, InLive}
 use Rattle.cell_core.specs.Numbering.{cut_at, Rises, span_at, IsGrid}
 use Rattle.cell_core.proofs.Numbers.{rises_next, read_cut}
 
@@ -46,11 +46,11 @@ longer : (xs : List ℕ) (x : ℕ) → length (xs ++ x ∷ []) ≡ suc (length x
 longer [] x = refl
 longer (y ∷ xs) x = ap suc (longer xs x)
 
-some_place_at : (j : ℕ) (S : List ℕ → Type 0) (y : List (ℕ × ℕ)) (rest : List ℕ) → IsIndexPackedTo j S y rest → (ps : List ℕ) × (length ps ≡ j) × S (ps ++ rest)
-some_place_at zero S y rest h = ([], refl, h)
-some_place_at (suc j) S y rest h =
+some_grid_point_at : (j : ℕ) (S : List ℕ → Type 0) (y : List (ℕ × ℕ)) (rest : List ℕ) → IsIndexPackedTo j S y rest → (ps : List ℕ) × (length ps ≡ j) × S (ps ++ rest)
+some_grid_point_at zero S y rest h = ([], refl, h)
+some_grid_point_at (suc j) S y rest h =
     let i : ℕ = (get_or y j no_cells).0 in
-    let w = some_place_at j S y (i ∷ rest) (h.each i (omega arith) h.some) in
+    let w = some_grid_point_at j S y (i ∷ rest) (h.each i (omega arith) h.some) in
     (w.0 ++ i ∷ [], longer w.0 i ∙ ap suc w.1, subst S (sym (assoc w.0 i rest)) w.2)
 
 get_here : (ps : List ℕ) (i : ℕ) (rest : List ℕ) (j : ℕ) → length ps ≡ j → get_or (ps ++ i ∷ rest) j 0 ≡ i
@@ -63,7 +63,7 @@ length_here : (ps : List ℕ) (i : ℕ) (rest : List ℕ) → length ps < length
 length_here [] i rest = omega arith
 length_here (p ∷ ps) i rest = let w = length_here ps i rest in omega arith
 
-pub cells_bound : (j : ℕ) (S : List ℕ → Type 0) (y : List (ℕ × ℕ)) (rest : List ℕ) (counts : ℕ → ℕ) → ((place : List ℕ) → S place → (s : ℕ) → s < length place → get_or place s 0 < counts s)
+pub cells_bound : (j : ℕ) (S : List ℕ → Type 0) (y : List (ℕ × ℕ)) (rest : List ℕ) (counts : ℕ → ℕ) → ((grid_point : List ℕ) → S grid_point → (s : ℕ) → s < length grid_point → get_or grid_point s 0 < counts s)
     → IsIndexPackedTo j S y rest → (s : ℕ) → s < j → ((get_or y s no_cells).0 < (get_or y s no_cells).1) × ((get_or y s no_cells).1 ≤ counts s)
 cells_bound zero S y rest counts inside h s b = absurd (omega arith)
 cells_bound (suc j) S y rest counts inside h s b =
@@ -75,7 +75,7 @@ cells_bound (suc j) S y rest counts inside h s b =
       | inr w ↦
           let e : j ≡ s = omega arith in
           let i : ℕ = z - 1 in
-          let p = some_place_at j S y (i ∷ rest) (h.each i (omega arith) (omega arith)) in
+          let p = some_grid_point_at j S y (i ∷ rest) (h.each i (omega arith) (omega arith)) in
           let k = inside (p.0 ++ i ∷ rest) p.2 j (let v = length_here p.0 i rest in let u = p.1 in omega arith) in
           let q = get_here p.0 i rest j p.1 in
           subst (λ m. ((get_or y m no_cells).0 < (get_or y m no_cells).1) × ((get_or y m no_cells).1 ≤ counts m)) e (l, omega arith)
@@ -94,26 +94,26 @@ filter_some t P (x ∷ xs) a h =
 below_end : (a b i : ℕ) → (leb a i && ltb i b) ≡ true → i < b
 below_end a b i e = let w = (and_parts (leb a i) (ltb i b) e).1 in grind (arith, nat_tests)
 
-pub place_in : (y : List (ℕ × ℕ)) (place : List ℕ) (s : ℕ) → has_place y place ≡ true → s < length place → get_or place s 0 < (get_or y s no_cells).1
-place_in y [] s e h = absurd (omega arith)
-place_in [] (i ∷ is) s e h = cc
-place_in (x ∷ xs) (i ∷ is) zero e h = below_end x.0 x.1 i (and_parts (span_has x i) (has_place xs is) e).0
-place_in (x ∷ xs) (i ∷ is) (suc s) e h = place_in xs is s (and_parts (span_has x i) (has_place xs is) e).1 (omega arith)
+pub grid_point_in : (y : List (ℕ × ℕ)) (grid_point : List ℕ) (s : ℕ) → has_grid_point y grid_point ≡ true → s < length grid_point → get_or grid_point s 0 < (get_or y s no_cells).1
+grid_point_in y [] s e h = absurd (omega arith)
+grid_point_in [] (i ∷ is) s e h = cc
+grid_point_in (x ∷ xs) (i ∷ is) zero e h = below_end x.0 x.1 i (and_parts (span_has x i) (has_grid_point xs is) e).0
+grid_point_in (x ∷ xs) (i ∷ is) (suc s) e h = grid_point_in xs is s (and_parts (span_has x i) (has_grid_point xs is) e).1 (omega arith)
 
 pub live_inside : {L : Type 0} (f : L → List ℕ → List ℕ → Type 0) (boxes : List (List (ℕ × ℕ))) (left right : List ℕ) (l : L) (counts : ℕ → ℕ)
     → AllByRecursion (λ r. (s : ℕ) → (get_or (box boxes r) s no_cells).1 ≤ counts s) left → AllByRecursion (λ r. (s : ℕ) → (get_or (box boxes r) s no_cells).1 ≤ counts s) right
-    → (place : List ℕ) → InLive f boxes left right l place → (s : ℕ) → s < length place → get_or place s 0 < counts s
-live_inside f boxes left right l counts al ar place h s b =
+    → (grid_point : List ℕ) → InLive f boxes left right l grid_point → (s : ℕ) → s < length grid_point → get_or grid_point s 0 < counts s
+live_inside f boxes left right l counts al ar grid_point h s b =
     let Q : ℕ → Type 0 = λ r. (s : ℕ) → (get_or (box boxes r) s no_cells).1 ≤ counts s in
     elim h.0 [
       | inl ne ↦
-          let w = filter_some (λ r. has_place (box boxes r) place) Q left al ne in
-          let i = place_in (box boxes w.0) place s w.1 b in
+          let w = filter_some (λ r. has_grid_point (box boxes r) grid_point) Q left al ne in
+          let i = grid_point_in (box boxes w.0) grid_point s w.1 b in
           let c = w.2 s in
           omega arith
       | inr ne ↦
-          let w = filter_some (λ r. has_place (box boxes r) place) Q right ar ne in
-          let i = place_in (box boxes w.0) place s w.1 b in
+          let w = filter_some (λ r. has_grid_point (box boxes r) grid_point) Q right ar ne in
+          let i = grid_point_in (box boxes w.0) grid_point s w.1 b in
           let c = w.2 s in
           omega arith
     ]

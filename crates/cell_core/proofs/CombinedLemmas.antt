@@ -3,16 +3,16 @@ use Rattle.std.proofs.Common.{◌≡◌, ◌↔◌, ℕ, ℤ, List, length, Orde
 use Rattle.std.specs.Cmp.{IsTotalOrder}
 use Rattle.base_core.proofs.SetLemmas.{Separates, Ascends-from_sorted}
 use Rattle.interval_core.specs.Members.{Span}
-use Rattle.packing_core.specs.Boxed.{boxed_cmp, packed_boxes, InBoxes}
-use Rattle.packing_core.specs.Covering.{Among, CellFunction, InCells}
-use Rattle.packing_core.specs.Packed.{firsts, points_of, packs}
-use Rattle.packing_core.proofs.PackedBoxes.{packs-iff, packed_form_is}
+use Rattle.cell_packing.specs.Boxed.{boxed_cmp, packed_boxes, InBoxes}
+use Rattle.cell_packing.specs.Covering.{Among, CellFunction, InCells}
+use Rattle.cell_packing.specs.Packed.{firsts, points_of, packs}
+use Rattle.cell_packing.proofs.PackedBoxes.{packs-iff, packed_form_is}
 use Rattle.cell_core.specs.Cells.{IsPackedForm}
 use Rattle.cell_core.proofs.OrderLemmas.{boxed_total, boxed_separates}
 
 pub combined_packed : {L F : Type 0} (order : L → L → Ordering) → IsTotalOrder order → Separates order → (k : ℕ) (f : CellFunction L F) (left right : List (List Span)) (form : List (L × List Span))
     → IsPackedForm order k f left right form → (r : List (L × List Span)) → ((x : L × List Span) → Among x r → length x.1 ≡ k)
-    → ((l : L) (place : List ℤ) → InBoxes r l place ↔ InCells f left right l place) → form ≡ packed_boxes order k r
+    → ((l : L) (grid_point : List ℤ) → InBoxes r l grid_point ↔ InCells f left right l grid_point) → form ≡ packed_boxes order k r
 combined_packed {L} order o same k f left right form is r have h =
     let points : (l : L) (z : List Span) → points_of (InCells f left right l) z ↔ points_of (InBoxes r l) z = λ l z. (
       λ w. (w.0, (h l (firsts z)).1 w.1),

@@ -8,11 +8,11 @@ use Rattle.std.proofs.lemmas.List.{length-map, length-append, append-nil}
 use Rattle.std.proofs.lemmas.List.Elements.{recursion_from_All, All-from_recursion}
 use Rattle.base_core.specs.Sets.{in_order, is_within, are_same}
 use Rattle.base_core.proofs.SetLemmas.{Separates}
-use Rattle.packing_core.specs.Packed.{no_cells}
-use Rattle.packing_core.specs.Covering.{Among}
-use Rattle.packing_core.specs.Boxed.{boxed_cmp, packed_boxes, unpacked_boxes}
-use Rattle.slice_core.specs.Rows.{key_cmp}
-use Rattle.slice_core.specs.PackedRows.{IsPackedOf}
+use Rattle.cell_packing.specs.Packed.{no_cells}
+use Rattle.cell_packing.specs.Covering.{Among}
+use Rattle.cell_packing.specs.Boxed.{boxed_cmp, packed_boxes, unpacked_boxes}
+use Rattle.cell_sweep.specs.Rows.{key_cmp}
+use Rattle.cell_sweep.specs.PackedRows.{IsPackedOf}
 use Rattle.cell_core.specs.Boxes.{IsBox}
 use Rattle.cell_core.specs.Numbering.{IsSide}
 use Rattle.cell_core.specs.Cells.{side_of, grids_of, grid_row, row_numbers, keys_from}
@@ -24,8 +24,8 @@ use Rattle.cell_core.proofs.AnswerLemmas.{packed_answer, same_answer, within_ans
 module _ {T P : Type 0} (L : Type 0) (n : P → ℤ) (has : T → P → Type 0) (high : T → ℤ) (point : (t : T) → P) (ts : List T) (ss : List (List P × List P × List (ℕ × ℕ))) (left right : List (L × List (P × P))) (len : length ss ≡ length ts)
     (sides : (j : ℕ) (t : T) (d : P × P) (e : List P × List P × List (ℕ × ℕ)) → j < length ts → IsSide n (has (get_or ts j t)) (high (get_or ts j t)) (map (side_of j d) (map (λ r. r.1) left ++ map (λ r. r.1) right)) (get_or ss j e))
     (hl : All (λ r. IsBox has ts r.1) left) (hr : All (λ r. IsBox has ts r.1) right) where
-  abbrev Key : Type 0
-  Key = L × List (ℕ × ℕ)
+  abbrev CellBox : Type 0
+  CellBox = L × List (ℕ × ℕ)
 
   abbrev Row : Type 0
   Row = L × List (P × P)
@@ -36,7 +36,7 @@ module _ {T P : Type 0} (L : Type 0) (n : P → ℤ) (has : T → P → Type 0) 
   abbrev k : ℕ
   k = length ts
 
-  abbrev row : Key → L × List (ℤ × ℤ)
+  abbrev row : CellBox → L × List (ℤ × ℤ)
   row = grid_row (grids_of n high ts ss)
 
   count_all : length all ≡ length left + length right
@@ -78,31 +78,31 @@ module _ {T P : Type 0} (L : Type 0) (n : P → ℤ) (has : T → P → Type 0) 
   right_fit : AllByRecursion (Fit L n has high point ts ss all len sides) (keys_from (length left) right ss)
   right_fit = let w = count_all in own_fits L n has high point ts ss all len sides (length left) right (omega arith)
 
-  key_lengths : (own : List Key) → AllByRecursion (Fit L n has high point ts ss all len sides) own → All (λ x. length x.1 ≡ k) own
-  key_lengths own f = All-from_recursion (λ (x : Key). length x.1 ≡ k) own (fit_lengths L n has high point ts ss all len sides own f)
+  key_lengths : (own : List CellBox) → AllByRecursion (Fit L n has high point ts ss all len sides) own → All (λ x. length x.1 ≡ k) own
+  key_lengths own f = All-from_recursion (λ (x : CellBox). length x.1 ≡ k) own (fit_lengths L n has high point ts ss all len sides own f)
 
   -- each key has as many sides as there are types
-  pub left_lengths : (own : List Key) → own ≡ keys_from 0 left ss → All (λ x. length x.1 ≡ k) own
+  pub left_lengths : (own : List CellBox) → own ≡ keys_from 0 left ss → All (λ x. length x.1 ≡ k) own
   left_lengths own e = key_lengths own (subst (AllByRecursion (Fit L n has high point ts ss all len sides)) (sym e) left_fit)
 
-  pub right_lengths : (own : List Key) → own ≡ keys_from (length left) right ss → All (λ x. length x.1 ≡ k) own
+  pub right_lengths : (own : List CellBox) → own ≡ keys_from (length left) right ss → All (λ x. length x.1 ≡ k) own
   right_lengths own e = key_lengths own (subst (AllByRecursion (Fit L n has high point ts ss all len sides)) (sym e) right_fit)
 
   all_fit : AllByRecursion (Fit L n has high point ts ss all len sides) (keys_from 0 left ss ++ keys_from (length left) right ss)
   all_fit = both_fit L n has high point ts ss all len sides (keys_from 0 left ss) (keys_from (length left) right ss) left_fit right_fit
 
-  pub both_lengths : (own : List Key) → own ≡ keys_from 0 left ss ++ keys_from (length left) right ss → All (λ x. length x.1 ≡ k) own
+  pub both_lengths : (own : List CellBox) → own ≡ keys_from 0 left ss ++ keys_from (length left) right ss → All (λ x. length x.1 ≡ k) own
   both_lengths own e = key_lengths own (subst (AllByRecursion (Fit L n has high point ts ss all len sides)) (sym e) all_fit)
 
   module _ (order : L → L → Ordering) (o : IsTotalOrder order) (same : Separates order) where
-    keeps : (x y : Key) → length x.1 ≡ k → length y.1 ≡ k → boxed_cmp order (row x) (row y) ≡ key_cmp order x y
+    keeps : (x y : CellBox) → length x.1 ≡ k → length y.1 ≡ k → boxed_cmp order (row x) (row y) ≡ key_cmp order x y
     keeps x y e f = key_order L n has high point ts ss all len sides order x y e f
 
-    form_of : (own v : List Key) (rows : List Row) → AllByRecursion (Fit L n has high point ts ss all len sides) own → map row own ≡ map (row_numbers n) rows → ((x : Key) → Among x v ↔ (length x.1 ≡ k) × IsPackedOf k own x) → IsStrictlySortedBy (key_cmp order) v
+    form_of : (own v : List CellBox) (rows : List Row) → AllByRecursion (Fit L n has high point ts ss all len sides) own → map row own ≡ map (row_numbers n) rows → ((x : CellBox) → Among x v ↔ (length x.1 ≡ k) × IsPackedOf k own x) → IsStrictlySortedBy (key_cmp order) v
         → map row v ≡ packed_boxes order k (map (row_numbers n) rows)
     form_of own v rows f e p s = packed_form L n has high point ts ss all len sides own v f p order o same s ∙ ap (packed_boxes order k) e
 
-    module _ (own v : List Key) (packed : (x : Key) → Among x v ↔ (length x.1 ≡ k) × IsPackedOf k own x) (sorted : IsStrictlySortedBy (key_cmp order) v) where
+    module _ (own v : List CellBox) (packed : (x : CellBox) → Among x v ↔ (length x.1 ≡ k) × IsPackedOf k own x) (sorted : IsStrictlySortedBy (key_cmp order) v) where
       pub left_form : own ≡ keys_from 0 left ss → map row v ≡ packed_boxes order k (map (row_numbers n) left)
       left_form e =
           form_of own v left (subst (AllByRecursion (Fit L n has high point ts ss all len sides)) (sym e) left_fit) (ap (map row) e ∙ left_keys) packed sorted
@@ -117,22 +117,22 @@ module _ {T P : Type 0} (L : Type 0) (n : P → ℤ) (has : T → P → Type 0) 
           (subst (AllByRecursion (Fit L n has high point ts ss all len sides)) (sym e) all_fit) packed order o same sorted
           ∙ ap (packed_boxes order k) (ap (map row) e ∙ map_both (keys_from 0 left ss) (keys_from (length left) right ss) ∙ (λ t. left_keys t ++ right_keys t))
         where
-          map_both : (xs ys : List Key) → map row (xs ++ ys) ≡ map row xs ++ map row ys
+          map_both : (xs ys : List CellBox) → map row (xs ++ ys) ≡ map row xs ++ map row ys
           map_both [] ys = refl
           map_both (x ∷ xs) ys = ap (λ zs. row x ∷ zs) (map_both xs ys)
 
-      pub left_cells : own ≡ keys_from 0 left ss → (x : Key) → Among x v → (s : ℕ) (e : List P × List P × List (ℕ × ℕ)) → s < k → ((get_or x.1 s no_cells).0 < (get_or x.1 s no_cells).1) × ((get_or x.1 s no_cells).1 ≤ length (get_or ss s e).0)
+      pub left_cells : own ≡ keys_from 0 left ss → (x : CellBox) → Among x v → (s : ℕ) (e : List P × List P × List (ℕ × ℕ)) → s < k → ((get_or x.1 s no_cells).0 < (get_or x.1 s no_cells).1) × ((get_or x.1 s no_cells).1 ≤ length (get_or ss s e).0)
       left_cells e =
           let w = count_all in
           let fit = subst (AllByRecursion (Fit L n has high point ts ss all len sides)) (sym e) left_fit in
           let low = subst (AllByRecursion (Low L n has high point ts ss all len sides)) (sym e) (own_low L n has high point ts ss all len sides 0 left (omega arith)) in
           packed_cells L n has high point ts ss all len sides own v fit packed low
 
-      pub form_lengths : (x : Key) → Among x v → length x.1 ≡ k
+      pub form_lengths : (x : CellBox) → Among x v → length x.1 ≡ k
       form_lengths x m = ((packed x).0 m).0
 
       -- whether the rows are their packed form
-      pub is_packed_answer : own ≡ keys_from 0 left ss → (list set : List Key) → list ≡ keys_from 0 left ss → set ≡ in_order (key_cmp order) list → (b : Bool) → IsTrue b ↔ (set ≡ v)
+      pub is_packed_answer : own ≡ keys_from 0 left ss → (list set : List CellBox) → list ≡ keys_from 0 left ss → set ≡ in_order (key_cmp order) list → (b : Bool) → IsTrue b ↔ (set ≡ v)
           → IsTrue b ↔ (in_order (boxed_cmp order) (map (row_numbers n) left) ≡ packed_boxes order k (map (row_numbers n) left))
       is_packed_answer e list set f g b i =
           let lengths = fit_lengths L n has high point ts ss all len sides list (subst (AllByRecursion (Fit L n has high point ts ss all len sides)) (sym f) left_fit) in
@@ -140,8 +140,8 @@ module _ {T P : Type 0} (L : Type 0) (n : P → ℤ) (has : T → P → Type 0) 
           let q : in_order (boxed_cmp order) (map row list) ≡ in_order (boxed_cmp order) (map (row_numbers n) left) = ap (in_order (boxed_cmp order)) (ap (map row) f ∙ left_keys) in
           (λ t. sym q ∙ a.0 t, λ t. a.1 (q ∙ t))
 
-      module _ (more w : List Key) (packed_more : (x : Key) → Among x w ↔ (length x.1 ≡ k) × IsPackedOf k more x) where
-        more_lengths : (x : Key) → Among x w → length x.1 ≡ k
+      module _ (more w : List CellBox) (packed_more : (x : CellBox) → Among x w ↔ (length x.1 ≡ k) × IsPackedOf k more x) where
+        more_lengths : (x : CellBox) → Among x w → length x.1 ≡ k
         more_lengths x m = ((packed_more x).0 m).0
 
         -- whether the right rows have the left points, of the forms of all rows and of the right ones

@@ -7,22 +7,22 @@ use Rattle.std.specs.Ordering.{ordering_then}
 use Rattle.std.proofs.lemmas.Bool.{cases_lt}
 use Rattle.std.proofs.lemmas.List.{length-map, length_push, append_assoc}
 use Rattle.base_core.proofs.SetLemmas.{Separates}
-use Rattle.packing_core.specs.Packed.{no_cells}
-use Rattle.packing_core.specs.Covering.{Among}
-use Rattle.packing_core.specs.Boxed.{Boxed, boxed_cmp, packed_boxes}
-use Rattle.packing_core.proofs.Cells.{Cuts}
-use Rattle.packing_core.proofs.Covered.{IsInGrid}
-use Rattle.packing_core.proofs.Whole.{cells_back, cuts_back}
-use Rattle.slice_core.specs.Rows.{key_cmp}
-use Rattle.slice_core.specs.PackedRows.{HasRow, IsPackedOf}
+use Rattle.cell_packing.specs.Packed.{no_cells}
+use Rattle.cell_packing.specs.Covering.{Among}
+use Rattle.cell_packing.specs.Boxed.{Boxed, boxed_cmp, packed_boxes}
+use Rattle.cell_packing.proofs.Cells.{Cuts}
+use Rattle.cell_packing.proofs.Covered.{IsInGrid}
+use Rattle.cell_packing.proofs.Whole.{cells_back, cuts_back}
+use Rattle.cell_sweep.specs.Rows.{key_cmp}
+use Rattle.cell_sweep.specs.PackedRows.{HasRow, IsPackedOf}
 use Rattle.cell_core.specs.Numbering.{Rises, span_at, numbers_of, IsSide}
 use Rattle.cell_core.specs.Cells.{box_numbers, cells_at, side_of, grids_of, grid_box, grid_row, row_numbers, keys_from}
 use Rattle.cell_core.proofs.Theorem.{row_of, box_order}
 use Rattle.cell_core.proofs.Assembly.{cuts_list, box_same, length_cuts, length_grids, grid_at, cut_count, in_grid, all_rise, pick_from, start}
-use Rattle.slice_core.proofs.LabelRows.{map_at}
-use Rattle.cell_core.proofs.CellsBack.{cells_bound, place_in}
+use Rattle.cell_sweep.proofs.LabelRows.{map_at}
+use Rattle.cell_core.proofs.CellsBack.{cells_bound, grid_point_in}
 use Rattle.cell_core.proofs.BackLemmas.{box_back}
-use Rattle.cell_core.proofs.PackedPlaces.{AllHave}
+use Rattle.cell_core.proofs.PackedGridPoints.{AllHave}
 use Rattle.cell_core.proofs.OnGrid.{packed_on_grid}
 
 -- one more row, at a step of a loop
@@ -87,8 +87,8 @@ module _ {T P : Type 0} (L : Type 0) (n : P → ℤ) (has : T → P → Type 0) 
   abbrev pub S : Type 0
   S = List P × List P × List (ℕ × ℕ)
 
-  abbrev pub Key : Type 0
-  Key = L × List (ℕ × ℕ)
+  abbrev pub CellBox : Type 0
+  CellBox = L × List (ℕ × ℕ)
 
   abbrev pub Row : Type 0
   Row = L × List (P × P)
@@ -108,7 +108,7 @@ module _ {T P : Type 0} (L : Type 0) (n : P → ℤ) (has : T → P → Type 0) 
   count_sides : length gs ≡ length ts
   count_sides = length_cuts ns rising ∙ grids
 
-  rows_same : (v : List Key) → map (row_of gs) v ≡ map (grid_row ns) v
+  rows_same : (v : List CellBox) → map (row_of gs) v ≡ map (grid_row ns) v
   rows_same [] = refl
   rows_same (x ∷ xs) = λ t. (x.0, box_same ns rising x.1 t) ∷ rows_same xs t
 
@@ -137,7 +137,7 @@ module _ {T P : Type 0} (L : Type 0) (n : P → ℤ) (has : T → P → Type 0) 
         let ih = own_rows (suc first) (before ++ x.1 ∷ []) xs (omega arith) (q ∙ sym (append_assoc before (x.1 ∷ []) rest)) h.1 in
         λ t. (x.0, b t) ∷ ih t
 
-  abbrev pub Fit : Key → Type 0
+  abbrev pub Fit : CellBox → Type 0
   Fit x = (length x.1 ≡ length gs) × IsInGrid (cuts_back start (length gs) gs) (cells_back (length gs) x.1)
 
   cells_count : (r : ℕ) → r < length all → (j : ℕ) (e : S) → j < length ts → (get_or (map (cells_at r) ss) j no_cells).1 ≤ length (get_or ss j e).0
@@ -165,16 +165,16 @@ module _ {T P : Type 0} (L : Type 0) (n : P → ℤ) (has : T → P → Type 0) 
   own_fits first [] h = tt
   own_fits first (x ∷ xs) h = (one_fits x.0 first (omega arith), own_fits (suc first) xs (omega arith))
 
-  pub both_fit : (xs ys : List Key) → AllByRecursion Fit xs → AllByRecursion Fit ys → AllByRecursion Fit (xs ++ ys)
+  pub both_fit : (xs ys : List CellBox) → AllByRecursion Fit xs → AllByRecursion Fit ys → AllByRecursion Fit (xs ++ ys)
   both_fit [] ys a b = b
   both_fit (x ∷ xs) ys a b = (a.0, both_fit xs ys a.1 b)
 
-  pub fit_lengths : (keys : List Key) → AllByRecursion Fit keys → AllByRecursion (λ x. length x.1 ≡ length ts) keys
+  pub fit_lengths : (keys : List CellBox) → AllByRecursion Fit keys → AllByRecursion (λ x. length x.1 ≡ length ts) keys
   fit_lengths [] h = tt
   fit_lengths (x ∷ xs) h = (h.0.0 ∙ count_sides, fit_lengths xs h.1)
 
   -- each side's cells are within those of the side
-  abbrev pub Low : Key → Type 0
+  abbrev pub Low : CellBox → Type 0
   Low x = (s : ℕ) (e : S) → (get_or x.1 s no_cells).1 ≤ length (get_or ss s e).0
 
   past : (xs : List S) (r s : ℕ) → length xs ≤ s → get_or (map (cells_at r) xs) s no_cells ≡ no_cells
@@ -192,12 +192,12 @@ module _ {T P : Type 0} (L : Type 0) (n : P → ℤ) (has : T → P → Type 0) 
   own_low first [] h = tt
   own_low first (x ∷ xs) h = (one_low x.0 first (omega arith), own_low (suc first) xs (omega arith))
 
-  low_at : (keys : List Key) → AllByRecursion Low keys → (x : Key) → Among x keys → Low x
+  low_at : (keys : List CellBox) → AllByRecursion Low keys → (x : CellBox) → Among x keys → Low x
   low_at [] h x m = absurd m
   low_at (y ∷ ys) h x m = elim m [ inl e ↦ subst Low e h.0 | inr w ↦ low_at ys h.1 x w ]
 
   -- keys stand as their rows do
-  pub key_order : (order : L → L → Ordering) (x y : Key) → length x.1 ≡ length ts → length y.1 ≡ length ts → boxed_cmp order (grid_row ns x) (grid_row ns y) ≡ key_cmp order x y
+  pub key_order : (order : L → L → Ordering) (x y : CellBox) → length x.1 ≡ length ts → length y.1 ≡ length ts → boxed_cmp order (grid_row ns x) (grid_row ns y) ≡ key_cmp order x y
   key_order order x y e f =
       let p = sym (box_same ns rising x.1) in
       let q = sym (box_same ns rising y.1) in
@@ -205,19 +205,19 @@ module _ {T P : Type 0} (L : Type 0) (n : P → ℤ) (has : T → P → Type 0) 
 
   -- ---- their packed form
 
-  module _ (keys v : List Key) (fits : AllByRecursion Fit keys) (packed : (x : Key) → Among x v ↔ (length x.1 ≡ length ts) × IsPackedOf (length ts) keys x) where
+  module _ (keys v : List CellBox) (fits : AllByRecursion Fit keys) (packed : (x : CellBox) → Among x v ↔ (length x.1 ≡ length ts) × IsPackedOf (length ts) keys x) where
     pub packed_form : (order : L → L → Ordering) → IsTotalOrder order → Separates order → IsStrictlySortedBy (key_cmp order) v → map (grid_row ns) v ≡ packed_boxes order (length ts) (map (grid_row ns) keys)
     packed_form order o same s =
-        let p = λ (x : Key). subst (λ k. Among x v ↔ (length x.1 ≡ k) × IsPackedOf k keys x) (sym count_sides) (packed x) in
+        let p = λ (x : CellBox). subst (λ k. Among x v ↔ (length x.1 ≡ k) × IsPackedOf k keys x) (sym count_sides) (packed x) in
         let e : map (row_of gs) v ≡ packed_boxes order (length gs) (map (row_of gs) keys) = packed_on_grid order o same start gs keys fits v p s in
         sym (rows_same v) ∙ e ∙ (λ t. packed_boxes order (count_sides t) (rows_same keys t))
 
-    inside : AllByRecursion Low keys → (e : S) (l : L) (place : List ℕ) → HasRow keys l place → (s : ℕ) → s < length place → get_or place s 0 < length (get_or ss s e).0
-    inside low e l place w s b =
-        let i = place_in w.0 place s w.2 b in
+    inside : AllByRecursion Low keys → (e : S) (l : L) (grid_point : List ℕ) → HasRow keys l grid_point → (s : ℕ) → s < length grid_point → get_or grid_point s 0 < length (get_or ss s e).0
+    inside low e l grid_point w s b =
+        let i = grid_point_in w.0 grid_point s w.2 b in
         let c = low_at keys low (l, w.0) w.1 s e in
         omega arith
 
     -- each side of its rows has cells, and no others than the side's
-    pub packed_cells : AllByRecursion Low keys → (x : Key) → Among x v → (s : ℕ) (e : S) → s < length ts → ((get_or x.1 s no_cells).0 < (get_or x.1 s no_cells).1) × ((get_or x.1 s no_cells).1 ≤ length (get_or ss s e).0)
+    pub packed_cells : AllByRecursion Low keys → (x : CellBox) → Among x v → (s : ℕ) (e : S) → s < length ts → ((get_or x.1 s no_cells).0 < (get_or x.1 s no_cells).1) × ((get_or x.1 s no_cells).1 ≤ length (get_or ss s e).0)
     packed_cells low x m s e b = cells_bound (length ts) (HasRow keys x.0) x.1 [] (λ i. length (get_or ss i e).0) (inside low e x.0) ((packed x).0 m).1 s b

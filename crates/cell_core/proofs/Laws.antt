@@ -4,15 +4,15 @@ use Rattle.std.proofs.Common.{◌≡◌, ℕ, ℤ, List, ◌↔◌, Ordering}
 use Rattle.std.specs.Cmp.{IsTotalOrder}
 use Rattle.base_core.proofs.SetLemmas.{Separates}
 use Rattle.base_core.proofs.SetOperatorLemmas.{are_same-≡}
-use Rattle.packing_core.specs.Boxed.{Boxed, boxed_cmp, packed_boxes, unpacked_boxes, InBoxes}
-use Rattle.packing_core.proofs.PackedBoxes.{in_packed_form}
+use Rattle.cell_packing.specs.Boxed.{Boxed, boxed_cmp, packed_boxes, unpacked_boxes, InBoxes}
+use Rattle.cell_packing.proofs.PackedBoxes.{in_packed_form}
 use Rattle.cell_core.proofs.OrderLemmas.{boxed_total, boxed_separates}
-use Rattle.cell_core.proofs.PackedPlaces.{AllHave, in_packed_box, from_packed_box, packed_from_same, same_from_packed}
+use Rattle.cell_core.proofs.PackedGridPoints.{AllHave, in_packed_box, from_packed_box, packed_from_same, same_from_packed}
 use Rattle.cell_core.proofs.UnpackedLemmas.{same_iff, unpacked_ascends}
 
 module _ {P : Type 0} (order : P → P → Ordering) (o : IsTotalOrder order) (same : Separates order) (k : ℕ) where
   -- boxes unpack alike exactly where they have the same places
-  pub unpacked_iff : (left right : List (Boxed P)) → AllHave k left → AllHave k right → (unpacked_boxes order k left ≡ unpacked_boxes order k right) ↔ ((l : P) (place : List ℤ) → InBoxes left l place ↔ InBoxes right l place)
+  pub unpacked_iff : (left right : List (Boxed P)) → AllHave k left → AllHave k right → (unpacked_boxes order k left ≡ unpacked_boxes order k right) ↔ ((l : P) (grid_point : List ℤ) → InBoxes left l grid_point ↔ InBoxes right l grid_point)
   unpacked_iff left right hl hr =
       let e = are_same-≡ (boxed_cmp order) (boxed_total o) (boxed_separates same) (unpacked_boxes order k left) (unpacked_boxes order k right) (unpacked_ascends order o same k left) (unpacked_ascends order o same k right) in
       let s = same_iff order o same k left right hl hr in
@@ -26,4 +26,4 @@ module _ {P : Type 0} (order : P → P → Ordering) (o : IsTotalOrder order) (s
   pub unpack_of_packed : (r : List (Boxed P)) → AllHave k r → unpacked_boxes order k (packed_boxes order k r) ≡ unpacked_boxes order k r
   unpack_of_packed r h =
       let have : AllHave k (packed_boxes order k r) = λ x m. ((in_packed_form (boxed_cmp order) (boxed_total o) (boxed_separates same) k r h x).0 m).0 in
-      (unpacked_iff (packed_boxes order k r) r have h).1 (λ l place. (from_packed_box order o same k r h l place, in_packed_box order o same k r h l place))
+      (unpacked_iff (packed_boxes order k r) r have h).1 (λ l grid_point. (from_packed_box order o same k r h l grid_point, in_packed_box order o same k r h l grid_point))

@@ -13,14 +13,14 @@ use Rattle.base_core.proofs.SetLemmas.{Separates, In, Ascends, Ascends-in_order,
 use Rattle.base_core.proofs.MemberLemmas.{In-append, In-map, In-flat_map}
 use Rattle.interval_core.specs.Members.{Span, at_point, members, numbers_from, count_of}
 use Rattle.interval_core.proofs.MembersLemmas.{In-members, In-numbers_from}
-use Rattle.packing_core.specs.Packed.{Has, ArePoints, firsts}
-use Rattle.packing_core.specs.Covering.{Among}
-use Rattle.packing_core.specs.Boxed.{Boxed, boxed_cmp, span_cmp, unpacked_boxes, packed_boxes, InBoxes}
-use Rattle.packing_core.proofs.PackedBoxes.{among_in, packed_ascends}
-use Rattle.cell_core.specs.Places.{places, listing, Placed, placed_cmp, point_row, volume, total}
+use Rattle.cell_packing.specs.Packed.{Has, ArePoints, firsts}
+use Rattle.cell_packing.specs.Covering.{Among}
+use Rattle.cell_packing.specs.Boxed.{Boxed, boxed_cmp, span_cmp, unpacked_boxes, packed_boxes, InBoxes}
+use Rattle.cell_packing.proofs.PackedBoxes.{among_in, packed_ascends}
+use Rattle.cell_core.specs.GridPoints.{grid_points, listing, Placed, placed_cmp, point_row, volume, total}
 use Rattle.cell_core.proofs.OrderLemmas.{boxed_total, boxed_separates, placed_total, placed_separates, map_in_order}
 use Rattle.cell_core.proofs.UnpackedLemmas.{in_unpacked_boxes, unpacked_ascends, firsts_at, are_points, length_at}
-use Rattle.cell_core.proofs.PackedPlaces.{AllHave, in_packed_box, from_packed_box, one_box, has_length}
+use Rattle.cell_core.proofs.PackedGridPoints.{AllHave, in_packed_box, from_packed_box, one_box, has_length}
 
 -- ---- lists without repeats
 
@@ -84,39 +84,39 @@ length_distinct cmp o same (x ∷ xs) h = put_longer cmp same x (in_order cmp xs
 
 -- ---- the places of a box
 
-pub in_places : (is : List Span) (ps : List ℤ) → In ps (places is) ↔ Has is ps
-in_places [] [] = (λ h. tt, λ h. inl refl)
-in_places [] (p ∷ ps) = (λ h. elim h [ inl e ↦ cc | inr m ↦ absurd m ], λ h. absurd h)
-in_places (i ∷ is) [] = (
+pub in_grid_points : (is : List Span) (ps : List ℤ) → In ps (grid_points is) ↔ Has is ps
+in_grid_points [] [] = (λ h. tt, λ h. inl refl)
+in_grid_points [] (p ∷ ps) = (λ h. elim h [ inl e ↦ cc | inr m ↦ absurd m ], λ h. absurd h)
+in_grid_points (i ∷ is) [] = (
   λ h.
-      let v = (In-flat_map (λ p. map (λ qs. p ∷ qs) (places is)) [] (members i)).0 h in
-      let w = (In-map (λ qs. v.0 ∷ qs) [] (places is)).0 v.2 in
+      let v = (In-flat_map (λ p. map (λ qs. p ∷ qs) (grid_points is)) [] (members i)).0 h in
+      let w = (In-map (λ qs. v.0 ∷ qs) [] (grid_points is)).0 v.2 in
       let e = w.2 in
       cc,
   λ h. absurd h,
 )
-in_places (i ∷ is) (q ∷ qs) =
-    let ih = in_places is qs in
-    let a = In-flat_map (λ p. map (λ rs. p ∷ rs) (places is)) (q ∷ qs) (members i) in (
+in_grid_points (i ∷ is) (q ∷ qs) =
+    let ih = in_grid_points is qs in
+    let a = In-flat_map (λ p. map (λ rs. p ∷ rs) (grid_points is)) (q ∷ qs) (members i) in (
       λ h.
           let v = a.0 h in
-          let w = (In-map (λ rs. v.0 ∷ rs) (q ∷ qs) (places is)).0 v.2 in
+          let w = (In-map (λ rs. v.0 ∷ rs) (q ∷ qs) (grid_points is)).0 v.2 in
           let m = (In-members i v.0).0 v.1 in
           let e = w.2 in
           let s : q ≡ v.0 = cc in
           let t : qs ≡ w.0 = cc in
-          (subst (λ p. i.0 ≤ℤ p) (sym s) m.0, subst (λ p. p ≤ℤ i.1) (sym s) m.1, ih.0 (subst (λ rs. In rs (places is)) (sym t) w.1)),
-      λ h. a.1 (q, (In-members i q).1 (h.0, h.1), (In-map (λ rs. q ∷ rs) (q ∷ qs) (places is)).1 (qs, ih.1 h.2, refl)),
+          (subst (λ p. i.0 ≤ℤ p) (sym s) m.0, subst (λ p. p ≤ℤ i.1) (sym s) m.1, ih.0 (subst (λ rs. In rs (grid_points is)) (sym t) w.1)),
+      λ h. a.1 (q, (In-members i q).1 (h.0, h.1), (In-map (λ rs. q ∷ rs) (q ∷ qs) (grid_points is)).1 (qs, ih.1 h.2, refl)),
     )
 
-distinct_places : (is : List Span) → Distinct (places is)
-distinct_places [] = ((λ m. m), tt)
-distinct_places (i ∷ is) =
-    distinct_flat (λ p. map (λ ps. p ∷ ps) (places is)) (members i) (distinct_members i)
-    (λ p m. distinct_map (λ ps. p ∷ ps) (places is) (λ x y e. cc) (distinct_places is))
+distinct_grid_points : (is : List Span) → Distinct (grid_points is)
+distinct_grid_points [] = ((λ m. m), tt)
+distinct_grid_points (i ∷ is) =
+    distinct_flat (λ p. map (λ ps. p ∷ ps) (grid_points is)) (members i) (distinct_members i)
+    (λ p m. distinct_map (λ ps. p ∷ ps) (grid_points is) (λ x y e. cc) (distinct_grid_points is))
     (λ p q z m n a b.
-    let v = (In-map (λ ps. p ∷ ps) z (places is)).0 a in
-    let w = (In-map (λ ps. q ∷ ps) z (places is)).0 b in
+    let v = (In-map (λ ps. p ∷ ps) z (grid_points is)).0 a in
+    let w = (In-map (λ ps. q ∷ ps) z (grid_points is)).0 b in
     let e = v.2 in
     let f = w.2 in
     cc)
@@ -129,28 +129,28 @@ length_each f n h (x ∷ xs) =
     let a : length (f x ++ flat_map f xs) ≡ length (f x) + length (flat_map f xs) = length-append (f x) (flat_map f xs) in
     a ∙ (omega arith)
 
-length_places : (is : List Span) → length (places is) ≡ volume is
-length_places [] = refl
-length_places (i ∷ is) = length_each (λ p. map (λ ps. p ∷ ps) (places is)) (volume is) (λ p. length-map (places is) (λ ps. p ∷ ps) ∙ length_places is) (members i)
+length_grid_points : (is : List Span) → length (grid_points is) ≡ volume is
+length_grid_points [] = refl
+length_grid_points (i ∷ is) = length_each (λ p. map (λ ps. p ∷ ps) (grid_points is)) (volume is) (λ p. length-map (grid_points is) (λ ps. p ∷ ps) ∙ length_grid_points is) (members i)
 
 length_listing : {P : Type 0} (rows : List (Boxed P)) → length (listing rows) ≡ total rows
 length_listing [] = refl
 length_listing (x ∷ xs) =
-    let a : length (map (λ ps. (x.0, ps)) (places x.1)) ≡ volume x.1 = length-map (places x.1) (λ ps. (x.0, ps)) ∙ length_places x.1 in
+    let a : length (map (λ ps. (x.0, ps)) (grid_points x.1)) ≡ volume x.1 = length-map (grid_points x.1) (λ ps. (x.0, ps)) ∙ length_grid_points x.1 in
     let ih : length (listing xs) ≡ total xs = length_listing xs in
-    length-append (map (λ ps. (x.0, ps)) (places x.1)) (listing xs) ∙ (λ i. a i + ih i)
+    length-append (map (λ ps. (x.0, ps)) (grid_points x.1)) (listing xs) ∙ (λ i. a i + ih i)
 
 pub in_listing : {P : Type 0} (rows : List (Boxed P)) (l : P) (ps : List ℤ) → In (l, ps) (listing rows) ↔ InBoxes rows l ps
 in_listing {P = P} rows l ps =
-    let f : Boxed P → List (Placed P) = λ x. map (λ qs. (x.0, qs)) (places x.1) in
+    let f : Boxed P → List (Placed P) = λ x. map (λ qs. (x.0, qs)) (grid_points x.1) in
     let a = In-flat_map f (l, ps) rows in (
       λ h.
           let v = a.0 h in
-          let w = (In-map (λ qs. ((v.0).0, qs)) (l, ps) (places (v.0).1)).0 v.2 in
+          let w = (In-map (λ qs. ((v.0).0, qs)) (l, ps) (grid_points (v.0).1)).0 v.2 in
           let e : l ≡ (v.0).0 = ap (λ (z : Placed P). z.0) w.2 in
           let q : ps ≡ w.0 = ap (λ (z : Placed P). z.1) w.2 in
-          ((v.0).1, subst (λ m. Among (m, (v.0).1) rows) (sym e) ((among_in v.0 rows).1 v.1), subst (Has (v.0).1) (sym q) ((in_places (v.0).1 w.0).0 w.1)),
-      λ g. a.1 ((l, g.0), (among_in (l, g.0) rows).0 g.1, (In-map (λ qs. (l, qs)) (l, ps) (places g.0)).1 (ps, (in_places g.0 ps).1 g.2, refl)),
+          ((v.0).1, subst (λ m. Among (m, (v.0).1) rows) (sym e) ((among_in v.0 rows).1 v.1), subst (Has (v.0).1) (sym q) ((in_grid_points (v.0).1 w.0).0 w.1)),
+      λ g. a.1 ((l, g.0), (among_in (l, g.0) rows).0 g.1, (In-map (λ qs. (l, qs)) (l, ps) (grid_points g.0)).1 (ps, (in_grid_points g.0 ps).1 g.2, refl)),
     )
 
 -- ---- the whole
@@ -179,17 +179,17 @@ module _ {P : Type 0} (order : P → P → Ordering) (o : IsTotalOrder order) (s
 
   distinct_listing : Distinct (listing Packed)
   distinct_listing =
-      distinct_flat (λ x. map (λ ps. (x.0, ps)) (places x.1)) Packed
+      distinct_flat (λ x. map (λ ps. (x.0, ps)) (grid_points x.1)) Packed
       (distinct_ascending Cmp (boxed_total o) (boxed_separates same) Packed (packed_ascends Cmp (boxed_total o) (boxed_separates same) k r))
-      (λ x m. distinct_map (λ ps. (x.0, ps)) (places x.1) (λ y z e. ap (λ (w : Placed P). w.1) e) (distinct_places x.1))
+      (λ x m. distinct_map (λ ps. (x.0, ps)) (grid_points x.1) (λ y z e. ap (λ (w : Placed P). w.1) e) (distinct_grid_points x.1))
       (λ x y z m n a b.
-      let v = (In-map (λ ps. (x.0, ps)) z (places x.1)).0 a in
-      let w = (In-map (λ ps. (y.0, ps)) z (places y.1)).0 b in
+      let v = (In-map (λ ps. (x.0, ps)) z (grid_points x.1)).0 a in
+      let w = (In-map (λ ps. (y.0, ps)) z (grid_points y.1)).0 b in
       let e : x.0 ≡ y.0 = sym (ap (λ (u : Placed P). u.0) v.2) ∙ ap (λ (u : Placed P). u.0) w.2 in
       let q : v.0 ≡ w.0 = sym (ap (λ (u : Placed P). u.1) v.2) ∙ ap (λ (u : Placed P). u.1) w.2 in
       let mx : Among (x.0, x.1) Packed = (among_in x Packed).1 m in
       let my : Among (x.0, y.1) Packed = subst (λ l. Among (l, y.1) Packed) (sym e) ((among_in y Packed).1 n) in
-      let s = one_box order o same k r have x.0 v.0 x.1 y.1 mx my ((in_places x.1 v.0).0 v.1) (subst (Has y.1) (sym q) ((in_places y.1 w.0).0 w.1)) in
+      let s = one_box order o same k r have x.0 v.0 x.1 y.1 mx my ((in_grid_points x.1 v.0).0 v.1) (subst (Has y.1) (sym q) ((in_grid_points y.1 w.0).0 w.1)) in
       λ i. (e i, s i))
 
   in_points : (x : Boxed P) → In x (unpacked_boxes order k r) ↔ In x (map point_row (listing Packed))
@@ -205,11 +205,11 @@ module _ {P : Type 0} (order : P → P → Ordering) (o : IsTotalOrder order) (s
         λ h.
             let w = m.0 h in
             let l : P = (w.0).0 in
-            let place : List ℤ = (w.0).1 in
-            let g = from_packed_box order o same k r have l place ((in_listing Packed l place).0 w.1) in
-            let n : length place ≡ k = has_length g.0 place g.2 ∙ have (l, g.0) g.1 in
-            let i : Among (l, map at_point place) (unpacked_boxes order k r) =
-            (in_unpacked_boxes order o same k r have (l, map at_point place)).1 (length_at place ∙ n, (are_points place, subst (InBoxes r l) (sym (firsts_at place)) g)) in
+            let grid_point : List ℤ = (w.0).1 in
+            let g = from_packed_box order o same k r have l grid_point ((in_listing Packed l grid_point).0 w.1) in
+            let n : length grid_point ≡ k = has_length g.0 grid_point g.2 ∙ have (l, g.0) g.1 in
+            let i : Among (l, map at_point grid_point) (unpacked_boxes order k r) =
+            (in_unpacked_boxes order o same k r have (l, map at_point grid_point)).1 (length_at grid_point ∙ n, (are_points grid_point, subst (InBoxes r l) (sym (firsts_at grid_point)) g)) in
             a.0 (subst (λ z. Among z (unpacked_boxes order k r)) (sym w.2) i),
       )
 

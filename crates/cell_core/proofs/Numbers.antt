@@ -11,7 +11,7 @@ use Rattle.std.specs.FinMap.{int_cmp-IsAntisymmetric}
 use Rattle.std.proofs.lemmas.Cmp.{int_cmp_total, tied_itself}
 use Rattle.std.specs.declared.cmp.Ordering.TheVariants.{Less, Equal, Greater}
 use Rattle.point_core.specs.Pairs.{InOrder}
-use Rattle.packing_core.specs.Covering.{Among}
+use Rattle.cell_packing.specs.Covering.{Among}
 use Rattle.cell_core.specs.Numbering.{cut_at, Rises, ends, IsLastOf, HasTag, IsPlaced, IsPut, IsAdded, IsCellAt, AreEnds}
 
 pub cut_end : (ns : List ℤ) (top : ℤ) → cut_at ns top (length ns) ≡ top
@@ -147,17 +147,17 @@ pub among_push : {X : Type 0} (xs : List X) (x y : X) → Among y (xs ++ x ∷ [
 among_push [] x y h = elim h [ inl w ↦ inr w | inr w ↦ inl w ]
 among_push (z ∷ zs) x y h = elim h [ inl w ↦ inl (inl w) | inr w ↦ elim (among_push zs x y w) [ inl v ↦ inl (inr v) | inr v ↦ inr v ] ]
 
-pub among_front : {X : Type 0} (xs ys : List X) (y : X) → Among y xs → Among y (xs ++ ys)
-among_front [] ys y h = absurd h
-among_front (x ∷ xs) ys y h = elim h [ inl e ↦ inl e | inr w ↦ inr (among_front xs ys y w) ]
+pub among_prefix : {X : Type 0} (xs ys : List X) (y : X) → Among y xs → Among y (xs ++ ys)
+among_prefix [] ys y h = absurd h
+among_prefix (x ∷ xs) ys y h = elim h [ inl e ↦ inl e | inr w ↦ inr (among_prefix xs ys y w) ]
 
 pub among_end : {X : Type 0} (xs : List X) (y : X) → Among y (xs ++ y ∷ [])
 among_end [] y = inl refl
 among_end (x ∷ xs) y = inr (among_end xs y)
 
-pub tag_front : {X : Type 0} (xs ys : List (X × ℕ)) (tag : ℕ) → HasTag xs tag → HasTag (xs ++ ys) tag
-tag_front [] ys tag h = absurd h
-tag_front (x ∷ xs) ys tag h = elim h [ inl e ↦ inl e | inr w ↦ inr (tag_front xs ys tag w) ]
+pub tag_prefix : {X : Type 0} (xs ys : List (X × ℕ)) (tag : ℕ) → HasTag xs tag → HasTag (xs ++ ys) tag
+tag_prefix [] ys tag h = absurd h
+tag_prefix (x ∷ xs) ys tag h = elim h [ inl e ↦ inl e | inr w ↦ inr (tag_prefix xs ys tag w) ]
 
 pub tag_end : {X : Type 0} (xs : List (X × ℕ)) (x : X × ℕ) → HasTag (xs ++ x ∷ []) x.1
 tag_end [] x = inl refl
@@ -188,12 +188,12 @@ module _ {P : Type 0} (n : P → ℤ) (has : P → Type 0) (high : ℤ) (spans :
   pub found_step : ((tag : ℕ) → tag < 2 * r → HasTag old tag ⊎ (get_or (ends n spans) tag (pos 0) ≡ high +ℤ pos 1)) → (tag : ℕ) → tag < 2 * (r + 1) → HasTag new tag ⊎ (get_or (ends n spans) tag (pos 0) ≡ high +ℤ pos 1)
   found_step old_found tag b =
       let keep : (t : ℕ) → HasTag mid t → HasTag new t = λ t h. elim put [
-        | inl w ↦ subst (λ ys. HasTag ys t) (sym w.1) (tag_front mid _ t h)
+        | inl w ↦ subst (λ ys. HasTag ys t) (sym w.1) (tag_prefix mid _ t h)
         | inr w ↦ subst (λ ys. HasTag ys t) (sym w.0) h
       ] in
       elim (cases_lt tag (2 * r)) [
         | inl w ↦ elim (old_found tag w) [
-          | inl v ↦ inl (keep tag (subst (λ ys. HasTag ys tag) (sym e) (tag_front old _ tag v)))
+          | inl v ↦ inl (keep tag (subst (λ ys. HasTag ys tag) (sym e) (tag_prefix old _ tag v)))
           | inr v ↦ inr v
         ]
         | inr w ↦ elim (cases_lt tag (2 * r + 1)) [
@@ -247,7 +247,7 @@ table_step n x old new top list i rest count c before after added e l q len w h 
           subst (IsCellAt n new top rest (take i list ++ x ∷ []) tag) (sym v) (elim (h tag b) [
             | inl u ↦
                 let inside : get_or before tag 0 < length old = u.3 in
-                inl (u.0, among_front (take i list) _ _ u.1, added_cut n x.0 old new top (get_or before tag 0) added inside ∙ u.2, omega arith)
+                inl (u.0, among_prefix (take i list) _ _ u.1, added_cut n x.0 old new top (get_or before tag 0) added inside ∙ u.2, omega arith)
             | inr u ↦ inr (u.0, λ k. elim (tag_push (take i list) x tag k) [ inl y ↦ u.1 y | inr y ↦ s y ])
           ])
     ])

@@ -8,19 +8,19 @@ use Rattle.std.proofs.lemmas.Bool.{cases_lt, and_parts, and_from, true≢false}
 use Rattle.base_core.proofs.SetLemmas.{Separates, Ascends-from_sorted}
 use Rattle.base_core.proofs.IntLemmas.{int_le-le, le-int_le}
 use Rattle.interval_core.specs.Members.{Span}
-use Rattle.packing_core.specs.Packed.{Has, IsIndexPackedTo, no_cells, packs, points_of}
-use Rattle.packing_core.specs.Covering.{Among, has}
-use Rattle.packing_core.specs.Live.{box, has_place, InLive, IsSliceRow}
-use Rattle.packing_core.specs.Boxed.{Boxed, boxed_cmp, packed_boxes, InBoxes}
-use Rattle.packing_core.proofs.AmongLemmas.{among_map, among_filter}
-use Rattle.packing_core.proofs.Cells.{Cuts, box_of}
-use Rattle.packing_core.proofs.Chain.{Fits, InPlaces, slices_are_packed, packed_some}
-use Rattle.packing_core.proofs.Covered.{IsInGrid}
-use Rattle.packing_core.proofs.Joined.{IsIndexRun-iff}
-use Rattle.packing_core.proofs.PackedBoxes.{packed_form_is}
-use Rattle.packing_core.proofs.Whole.{cells_back, cuts_back, length_box}
-use Rattle.slice_core.specs.Rows.{key_cmp}
-use Rattle.slice_core.specs.PackedRows.{HasRow, IsPackedOf}
+use Rattle.cell_packing.specs.Packed.{Has, IsIndexPackedTo, no_cells, packs, points_of}
+use Rattle.cell_packing.specs.Covering.{Among, has}
+use Rattle.cell_packing.specs.Live.{box, has_grid_point, InLive, IsSliceRow}
+use Rattle.cell_packing.specs.Boxed.{Boxed, boxed_cmp, packed_boxes, InBoxes}
+use Rattle.cell_packing.proofs.AmongLemmas.{among_map, among_filter}
+use Rattle.cell_packing.proofs.Cells.{Cuts, box_of}
+use Rattle.cell_packing.proofs.Chain.{Fits, InGridPoints, slices_are_packed, packed_some}
+use Rattle.cell_packing.proofs.Covered.{IsInGrid}
+use Rattle.cell_packing.proofs.Joined.{IsIndexRun-iff}
+use Rattle.cell_packing.proofs.PackedBoxes.{packed_form_is}
+use Rattle.cell_packing.proofs.Whole.{cells_back, cuts_back, length_box}
+use Rattle.cell_sweep.specs.Rows.{key_cmp}
+use Rattle.cell_sweep.specs.PackedRows.{HasRow, IsPackedOf}
 use Rattle.cell_core.specs.Cells.{rows_from}
 use Rattle.cell_core.proofs.Theorem.{packs-iff, points-iff, row_of, rows_in_order}
 use Rattle.cell_core.proofs.OrderLemmas.{boxed_total, boxed_separates}
@@ -35,7 +35,7 @@ has_is (i ∷ is) (p ∷ ps) =
       λ h. and_from (int_le i.0 p) (int_le p i.1 && has is ps) (le-int_le i.0 p h.0) (and_from (int_le p i.1) (has is ps) (le-int_le p i.1 h.1) (ih.1 h.2)),
     )
 
-packed_to_iff : (j : ℕ) (S S' : List ℕ → Type 0) → ((place : List ℕ) → S place ↔ S' place) → (y : List (ℕ × ℕ)) (rest : List ℕ) → IsIndexPackedTo j S y rest ↔ IsIndexPackedTo j S' y rest
+packed_to_iff : (j : ℕ) (S S' : List ℕ → Type 0) → ((grid_point : List ℕ) → S grid_point ↔ S' grid_point) → (y : List (ℕ × ℕ)) (rest : List ℕ) → IsIndexPackedTo j S y rest ↔ IsIndexPackedTo j S' y rest
 packed_to_iff zero S S' h y rest = h rest
 packed_to_iff (suc j) S S' h y rest =
     let at = get_or y j no_cells in (
@@ -119,25 +119,25 @@ module _ {L : Type 0} (order : L → L → Ordering) (o : IsTotalOrder order) (s
       from a zero h = tt
       from a (suc n) h = (fit_at a (omega arith), from (suc a) n (omega arith))
 
-  at_cells : (l : L) (place : List ℕ) → InLive (HasLabel rows) (boxes_in rows) all [] l place ↔ HasRow rows l place
-  at_cells l place = some_row rows l (λ y. has_place y place)
+  at_cells : (l : L) (grid_point : List ℕ) → InLive (HasLabel rows) (boxes_in rows) all [] l grid_point ↔ HasRow rows l grid_point
+  at_cells l grid_point = some_row rows l (λ y. has_grid_point y grid_point)
 
-  at_points : (l : L) (place : List ℤ) → InPlaces d gs (HasLabel rows) (boxes_in rows) all [] l place ↔ InBoxes (map (row_of gs) rows) l place
-  at_points l place =
-      let w = some_row rows l (λ y. has (box_of gs y) place) in (
-        λ h. let v = w.0 h in (box_of gs v.0, (among_map (row_of gs) (l, box_of gs v.0) rows).1 ((l, v.0), v.1, refl), (has_is (box_of gs v.0) place).0 v.2),
+  at_points : (l : L) (grid_point : List ℤ) → InGridPoints d gs (HasLabel rows) (boxes_in rows) all [] l grid_point ↔ InBoxes (map (row_of gs) rows) l grid_point
+  at_points l grid_point =
+      let w = some_row rows l (λ y. has (box_of gs y) grid_point) in (
+        λ h. let v = w.0 h in (box_of gs v.0, (among_map (row_of gs) (l, box_of gs v.0) rows).1 ((l, v.0), v.1, refl), (has_is (box_of gs v.0) grid_point).0 v.2),
         λ h.
             let v = (among_map (row_of gs) (l, h.0) rows).0 h.1 in
             let e : (v.0).0 ≡ l = ap (λ (z : Boxed L). z.0) v.2 in
             let q : box_of gs (v.0).1 ≡ h.0 = ap (λ (z : Boxed L). z.1) v.2 in
-            w.1 ((v.0).1, subst (λ m. Among (m, (v.0).1) rows) e v.1, (has_is (box_of gs (v.0).1) place).1 (subst (λ z. Has z place) (sym q) h.2)),
+            w.1 ((v.0).1, subst (λ m. Among (m, (v.0).1) rows) e v.1, (has_is (box_of gs (v.0).1) grid_point).1 (subst (λ z. Has z grid_point) (sym q) h.2)),
       )
 
   abbrev Points : L → List ℤ → Type 0
   Points l = InBoxes (map (row_of gs) rows) l
 
-  set_same : (l : L) (y : List Span) → packs k (points_of (InPlaces d gs (HasLabel rows) (boxes_in rows) all [] l)) y ↔ packs k (points_of (Points l)) y
-  set_same l y = packs-iff k (points_of (InPlaces d gs (HasLabel rows) (boxes_in rows) all [] l)) (points_of (Points l)) (points-iff (InPlaces d gs (HasLabel rows) (boxes_in rows) all [] l) (Points l) (at_points l)) y
+  set_same : (l : L) (y : List Span) → packs k (points_of (InGridPoints d gs (HasLabel rows) (boxes_in rows) all [] l)) y ↔ packs k (points_of (Points l)) y
+  set_same l y = packs-iff k (points_of (InGridPoints d gs (HasLabel rows) (boxes_in rows) all [] l)) (points_of (Points l)) (points-iff (InGridPoints d gs (HasLabel rows) (boxes_in rows) all [] l) (Points l) (at_points l)) y
 
   slice_same : (l : L) (y : List (ℕ × ℕ)) → IsSliceRow k (HasLabel rows) (boxes_in rows) all [] l y ↔ IsPackedOf k rows (l, y)
   slice_same l y = packed_to_iff k (InLive (HasLabel rows) (boxes_in rows) all [] l) (HasRow rows l) (at_cells l) y []
@@ -156,7 +156,7 @@ module _ {L : Type 0} (order : L → L → Ordering) (o : IsTotalOrder order) (s
               let p = (set_same z.0 z.1).1 w.1 in
               let y = packed_some d gs (HasLabel rows) (boxes_in rows) all [] z.0 (live_fits z.0) tt z.1 w.0 p in
               let s = slices_are_packed d gs (HasLabel rows) (boxes_in rows) all [] z.0 (live_fits z.0) tt y.0 y.1 in
-              let r = s.0 (subst (λ u. packs k (points_of (InPlaces d gs (HasLabel rows) (boxes_in rows) all [] z.0)) u) y.2 p) in
+              let r = s.0 (subst (λ u. packs k (points_of (InGridPoints d gs (HasLabel rows) (boxes_in rows) all [] z.0)) u) y.2 p) in
               m.1 ((z.0, y.0), (packed (z.0, y.0)).1 (y.1, (slice_same z.0 y.0).0 r), λ t. (z.0, sym y.2 t)),
         )
 

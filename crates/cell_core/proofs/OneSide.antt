@@ -6,10 +6,10 @@ use Rattle.std.specs.List.Sorted.{IsPermutation}
 use Rattle.std.proofs.lemmas.List.{length-map}
 use Rattle.std.proofs.lemmas.List.Elements.{recursion_from_All}
 use Rattle.std.proofs.lemmas.List.Sorted.{Contains-permutation, IsPermutation-sym}
-use Rattle.packing_core.specs.Packed.{no_cells}
-use Rattle.packing_core.specs.Covering.{Among}
-use Rattle.packing_core.proofs.Order.{among_contains, contains_among}
-use Rattle.packing_core.proofs.AmongLemmas.{all_from_members}
+use Rattle.cell_packing.specs.Packed.{no_cells}
+use Rattle.cell_packing.specs.Covering.{Among}
+use Rattle.cell_packing.proofs.Order.{among_contains, contains_among}
+use Rattle.cell_packing.proofs.AmongLemmas.{all_from_members}
 use Rattle.cell_core.specs.Numbering.{cut_at, span_at, numbers_of, ends, HasTag, AreEnds, IsCellAt}
 use Rattle.cell_core.proofs.Numbers.{cut_end, length_ends, ends_even, ends_odd}
 
@@ -40,8 +40,8 @@ tag_moved xs ys p tag h = let w = tag_by xs tag h in subst (HasTag ys) w.2 (tag_
 pub points_listed : {P : Type 0} (n : P → ℤ) (has : P → Type 0) (high : ℤ) (spans : List (P × P)) (count : ℕ) (list : List (P × ℕ)) → AreEnds n has high spans count list → All (λ x. has x.0) list
 points_listed n has high spans count list ends = all_from_members (λ x. has x.0) list (λ x h. (ends.placed x h).2)
 
-pub places_listed : {P : Type 0} (n : P → ℤ) (has : P → Type 0) (high : ℤ) (spans : List (P × P)) (count : ℕ) (list : List (P × ℕ)) → length spans ≡ count → AreEnds n has high spans count list → All (λ x. x.1 < 2 * count) list
-places_listed n has high spans count list e ends = all_from_members (λ x. x.1 < 2 * count) list (λ x h. let p = (ends.placed x h).0 in let l = length_ends n spans in omega arith)
+pub grid_points_listed : {P : Type 0} (n : P → ℤ) (has : P → Type 0) (high : ℤ) (spans : List (P × P)) (count : ℕ) (list : List (P × ℕ)) → length spans ≡ count → AreEnds n has high spans count list → All (λ x. x.1 < 2 * count) list
+grid_points_listed n has high spans count list e ends = all_from_members (λ x. x.1 < 2 * count) list (λ x h. let p = (ends.placed x h).0 in let l = length_ends n spans in omega arith)
 
 module _ {P : Type 0} (n : P → ℤ) (has : P → Type 0) (high : ℤ) (spans : List (P × P)) (list : List (P × ℕ)) (all : AreEnds n has high spans (length spans) list) where
   module _ (sorted : List (P × ℕ)) (moved : IsPermutation list sorted) (cuts : List P) (table : List ℕ) (rest last : ℕ) (is_last : last ≡ length cuts) (below : length cuts ≤ rest)

@@ -10,9 +10,9 @@ use Rattle.base_core.specs.Sets.{placed, put, in_order}
 use Rattle.base_core.proofs.SetLemmas.{Separates}
 use Rattle.point_core.proofs.OrderLemmas.{then_same}
 use Rattle.interval_core.specs.Members.{Span}
-use Rattle.packing_core.specs.Boxed.{Boxed, boxed_cmp, span_cmp}
-use Rattle.slice_core.specs.Rows.{key_cmp, pair_cmp}
-use Rattle.cell_core.specs.Places.{Placed, placed_cmp}
+use Rattle.cell_packing.specs.Boxed.{Boxed, boxed_cmp, span_cmp}
+use Rattle.cell_sweep.specs.Rows.{key_cmp, pair_cmp}
+use Rattle.cell_core.specs.GridPoints.{Placed, placed_cmp}
 
 -- pairs and lists that tie are equal, where their parts are
 then_separates : {X Y : Type 0} {one : X → X → Ordering} {two : Y → Y → Ordering} → Separates one → Separates two → (x y : X × Y) → ordering_then (one x.0 y.0) (two x.1 y.1) ≡ Equal → x ≡ y

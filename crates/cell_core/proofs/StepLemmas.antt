@@ -6,7 +6,7 @@ use Rattle.std.proofs.lemmas.Bool.Decides.{nat_tests}
 use Rattle.std.specs.List.{All}
 use Rattle.point_core.specs.Digits.{binary_digits}
 use Rattle.point_core.proofs.DigitsLemmas.{binary_digits_0, binary_digits_half}
-use Rattle.slice_core.specs.Rows.{volume}
+use Rattle.cell_sweep.specs.Rows.{volume}
 use Rattle.cell_core.specs.Cells.{rows_from}
 use Rattle.cell_core.specs.Costs.{bound, side_cost}
 

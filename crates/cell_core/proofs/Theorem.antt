@@ -11,20 +11,20 @@ use Rattle.std.proofs.lemmas.Bool.{cases_lt}
 use Rattle.std.proofs.lemmas.Bool.Decides.{nat_tests}
 use Rattle.std.proofs.lemmas.Int.{ints}
 use Rattle.interval_core.specs.Members.{Span, at_point}
-use Rattle.packing_core.specs.Packed.{packs, points_of, firsts, nowhere, onto}
+use Rattle.cell_packing.specs.Packed.{packs, points_of, firsts, nowhere, onto}
 use Rattle.std.proofs.Common.{set}
 use Rattle.base_core.proofs.OrderingLemmas.{lt-nat_cmp}
-use Rattle.packing_core.specs.Covering.{Among, Gives, has, passing, covering, InCells, CellFunction}
-use Rattle.packing_core.specs.Live.{box, InLive, IsSliceRow, IsSomewhere}
-use Rattle.packing_core.proofs.Runs.{IsRun-iff}
-use Rattle.packing_core.proofs.AmongLemmas.{among_map}
-use Rattle.packing_core.proofs.Covered.{IsInGrid}
-use Rattle.packing_core.proofs.Whole.{onto_cells, cells_back, cuts_back, length_back, length_box}
-use Rattle.packing_core.proofs.Cells.{Cuts, OnGrid, place_of, box_of, span_of, cell_of, rises_far}
-use Rattle.packing_core.proofs.Chain.{Fits, InPlaces, on, same, slices_are_packed, packed_some, length_onto_cells}
-use Rattle.slice_core.specs.Rows.{own_numbers, GivesLabel, GivesFault, key_cmp, pair_cmp}
+use Rattle.cell_packing.specs.Covering.{Among, Gives, has, passing, covering, InCells, CellFunction}
+use Rattle.cell_packing.specs.Live.{box, InLive, IsSliceRow, IsSomewhere}
+use Rattle.cell_packing.proofs.Runs.{IsRun-iff}
+use Rattle.cell_packing.proofs.AmongLemmas.{among_map}
+use Rattle.cell_packing.proofs.Covered.{IsInGrid}
+use Rattle.cell_packing.proofs.Whole.{onto_cells, cells_back, cuts_back, length_back, length_box}
+use Rattle.cell_packing.proofs.Cells.{Cuts, OnGrid, grid_point_of, box_of, span_of, cell_of, rises_far}
+use Rattle.cell_packing.proofs.Chain.{Fits, InGridPoints, on, same, slices_are_packed, packed_some, length_onto_cells}
+use Rattle.cell_sweep.specs.Rows.{own_numbers, GivesLabel, GivesFault, key_cmp, pair_cmp}
 use Rattle.cell_core.specs.Cells.{IsPackedRow, HasFault, rows_from}
-use Rattle.packing_core.specs.Boxed.{boxed_cmp, span_cmp}
+use Rattle.cell_packing.specs.Boxed.{boxed_cmp, span_cmp}
 
 -- ---- numbers of rows
 
@@ -93,13 +93,13 @@ onto_cells_twice : (ps rs : List ℕ) → onto_cells (onto_cells ps rs) [] ≡ o
 onto_cells_twice [] rs = refl
 onto_cells_twice (p ∷ ps) rs = onto_cells_twice ps (p ∷ rs)
 
-length_place : (gs : List Cuts) (is : List ℕ) → length is ≡ length gs → length (place_of gs is) ≡ length gs
-length_place [] is e = refl
-length_place (g ∷ gs) [] e = absurd (omega arith)
-length_place (g ∷ gs) (i ∷ is) e = ap suc (length_place gs is (omega arith))
+length_grid_point : (gs : List Cuts) (is : List ℕ) → length is ≡ length gs → length (grid_point_of gs is) ≡ length gs
+length_grid_point [] is e = refl
+length_grid_point (g ∷ gs) [] e = absurd (omega arith)
+length_grid_point (g ∷ gs) (i ∷ is) e = ap suc (length_grid_point gs is (omega arith))
 
 -- a place of the set has cells, and the first numbers of these cells are in the set
-grid_cell : (gs : List Cuts) (S : List ℤ → Type 0) → OnGrid gs S → (ps : List ℤ) → length ps ≡ length gs → S ps → (is : List ℕ) × (length is ≡ length gs) × S (place_of gs is)
+grid_cell : (gs : List Cuts) (S : List ℤ → Type 0) → OnGrid gs S → (ps : List ℤ) → length ps ≡ length gs → S ps → (is : List ℕ) × (length is ≡ length gs) × S (grid_point_of gs is)
 grid_cell [] S o [] e h = ([], refl, h)
 grid_cell [] S o (p ∷ ps) e h = absurd (omega arith)
 grid_cell (g ∷ gs) S o [] e h = absurd (omega arith)
@@ -214,42 +214,42 @@ module _ {L F : Type 0} (f : CellFunction L F) (d : Cuts) (gs : List Cuts) (boxe
       let ih = filter_same t u (suc a) m (λ r l b. h r (omega arith) (omega arith)) in
       λ i. cond (e i) (a ∷ ih i) (ih i)
 
-  left_rows : (place : List ℤ) → filter (λ r. has (box_of gs (box boxes r)) place) live_left ≡ covering lefts place
-  left_rows place =
-      filter_same _ (λ r. has (get_or lefts r []) place) 0 n (λ r l b. ap (λ y. has y place) (matches r (omega arith) ∙ front lefts rights r (omega arith)))
-      ∙ passing_by (λ x. has x place) [] [] lefts
+  left_rows : (grid_point : List ℤ) → filter (λ r. has (box_of gs (box boxes r)) grid_point) live_left ≡ covering lefts grid_point
+  left_rows grid_point =
+      filter_same _ (λ r. has (get_or lefts r []) grid_point) 0 n (λ r l b. ap (λ y. has y grid_point) (matches r (omega arith) ∙ prefix lefts rights r (omega arith)))
+      ∙ passing_by (λ x. has x grid_point) [] [] lefts
     where
-      front : (xs ys : List (List Span)) (r : ℕ) → r < length xs → get_or (xs ++ ys) r [] ≡ get_or xs r []
-      front [] ys r h = absurd (omega arith)
-      front (x ∷ xs) ys zero h = refl
-      front (x ∷ xs) ys (suc r) h = front xs ys r (omega arith)
+      prefix : (xs ys : List (List Span)) (r : ℕ) → r < length xs → get_or (xs ++ ys) r [] ≡ get_or xs r []
+      prefix [] ys r h = absurd (omega arith)
+      prefix (x ∷ xs) ys zero h = refl
+      prefix (x ∷ xs) ys (suc r) h = prefix xs ys r (omega arith)
 
-  right_rows : (place : List ℤ) → filter (λ r. has (box_of gs (box boxes r)) place) live_right ≡ passing (λ x. has x place) n rights
-  right_rows place =
-      filter_same _ (λ r. has (get_or (lefts ++ rights) r []) place) n (length rights) (λ r l b. ap (λ y. has y place) (matches r b))
-      ∙ passing_by (λ x. has x place) [] lefts rights
+  right_rows : (grid_point : List ℤ) → filter (λ r. has (box_of gs (box boxes r)) grid_point) live_right ≡ passing (λ x. has x grid_point) n rights
+  right_rows grid_point =
+      filter_same _ (λ r. has (get_or (lefts ++ rights) r []) grid_point) n (length rights) (λ r l b. ap (λ y. has y grid_point) (matches r b))
+      ∙ passing_by (λ x. has x grid_point) [] lefts rights
 
-  right_lowered : (place : List ℤ) → own_numbers n (passing (λ x. has x place) n rights) ≡ covering rights place
-  right_lowered place =
+  right_lowered : (grid_point : List ℤ) → own_numbers n (passing (λ x. has x grid_point) n rights) ≡ covering rights grid_point
+  right_lowered grid_point =
       let e : n ≡ n + 0 = omega arith in
-      ap (λ m. own_numbers n (passing (λ x. has x place) m rights)) e ∙ lowered_passing (λ x. has x place) n 0 rights
+      ap (λ m. own_numbers n (passing (λ x. has x grid_point) m rights)) e ∙ lowered_passing (λ x. has x grid_point) n 0 rights
 
   -- any question asked of the covering rows
-  asked : {Q : Type 0} (G : Q → List ℕ → List ℕ → Type 0) (q : Q) (place : List ℤ) →
-      InPlaces d gs (λ q a b. G q a (own_numbers n b)) boxes live_left live_right q place ↔ (((covering lefts place ≢ []) ⊎ (covering rights place ≢ [])) × G q (covering lefts place) (covering rights place))
-  asked G q place =
-      let a = left_rows place in
-      let b = right_rows place in
-      let c : own_numbers n (filter (λ r. has (box_of gs (box boxes r)) place) live_right) ≡ covering rights place = ap (own_numbers n) b ∙ right_lowered place in
-      let B = filter (λ r. has (box_of gs (box boxes r)) place) live_right in
+  asked : {Q : Type 0} (G : Q → List ℕ → List ℕ → Type 0) (q : Q) (grid_point : List ℤ) →
+      InGridPoints d gs (λ q a b. G q a (own_numbers n b)) boxes live_left live_right q grid_point ↔ (((covering lefts grid_point ≢ []) ⊎ (covering rights grid_point ≢ [])) × G q (covering lefts grid_point) (covering rights grid_point))
+  asked G q grid_point =
+      let a = left_rows grid_point in
+      let b = right_rows grid_point in
+      let c : own_numbers n (filter (λ r. has (box_of gs (box boxes r)) grid_point) live_right) ≡ covering rights grid_point = ap (own_numbers n) b ∙ right_lowered grid_point in
+      let B = filter (λ r. has (box_of gs (box boxes r)) grid_point) live_right in
       let s = lowered_some n B in (
         λ h. (
           elim h.0 [ inl w ↦ inl (subst (λ xs. xs ≢ []) a w) | inr w ↦ inr (subst (λ xs. xs ≢ []) c (s.0 w)) ],
-          subst (λ xs. G q xs (covering rights place)) a (subst (λ xs. G q (filter (λ r. has (box_of gs (box boxes r)) place) live_left) xs) c h.1),
+          subst (λ xs. G q xs (covering rights grid_point)) a (subst (λ xs. G q (filter (λ r. has (box_of gs (box boxes r)) grid_point) live_left) xs) c h.1),
         ),
         λ h. (
           elim h.0 [ inl w ↦ inl (subst (λ xs. xs ≢ []) (sym a) w) | inr w ↦ inr (s.1 (subst (λ xs. xs ≢ []) (sym c) w)) ],
-          subst (λ xs. G q (filter (λ r. has (box_of gs (box boxes r)) place) live_left) xs) (sym c) (subst (λ xs. G q xs (covering rights place)) (sym a) h.1),
+          subst (λ xs. G q (filter (λ r. has (box_of gs (box boxes r)) grid_point) live_left) xs) (sym c) (subst (λ xs. G q xs (covering rights grid_point)) (sym a) h.1),
         ),
       )
 
@@ -262,7 +262,7 @@ module _ {L F : Type 0} (f : CellFunction L F) (d : Cuts) (gs : List Cuts) (boxe
   abbrev G1 : L → List ℕ → List ℕ → Type 0
   G1 = GivesLabel f n
 
-  set_same : (l : L) (y : List Span) → packs k (points_of (InPlaces d gs G1 boxes live_left live_right l)) y ↔ packs k (points_of (InCells f lefts rights l)) y
+  set_same : (l : L) (y : List Span) → packs k (points_of (InGridPoints d gs G1 boxes live_left live_right l)) y ↔ packs k (points_of (InCells f lefts rights l)) y
   set_same l y = packs-iff k _ _ (points-iff _ _ (λ ps. asked (λ m a b. Gives (f a b) m) l ps)) y
 
   -- the rows of the slices, by their numbers, are the packed rows
@@ -283,7 +283,7 @@ module _ {L F : Type 0} (f : CellFunction L F) (d : Cuts) (gs : List Cuts) (boxe
         λ w.
             let p = (set_same z.0 z.1).1 w.1 in
             let y = packed_some d gs G1 boxes live_left live_right z.0 fl fr z.1 w.0 p in
-            let r = (slices_are_packed d gs G1 boxes live_left live_right z.0 fl fr y.0 y.1).0 (subst (λ u. packs k (points_of (InPlaces d gs G1 boxes live_left live_right z.0)) u) y.2 p) in
+            let r = (slices_are_packed d gs G1 boxes live_left live_right z.0 fl fr y.0 y.1).0 (subst (λ u. packs k (points_of (InGridPoints d gs G1 boxes live_left live_right z.0)) u) y.2 p) in
             m.1 ((z.0, y.0), (h (z.0, y.0)).1 (y.1, r), λ t. (z.0, sym y.2 t)),
       )
 
@@ -301,17 +301,17 @@ module _ {L F : Type 0} (f : CellFunction L F) (d : Cuts) (gs : List Cuts) (boxe
             let is : List ℕ = onto_cells h.0 [] in
             let n1 : length is ≡ k = length_onto_cells h.0 [] ∙ (let w = h.1 in omega arith) in
             let s = same d gs G2 boxes live_left live_right e fl fr is n1 in
-            let w : InPlaces d gs G2 boxes live_left live_right e (onto (place_of back is) []) = subst (λ U. U) (sym s) (subst (InLive G2 boxes live_left live_right e) (sym (onto_cells_twice h.0 [])) h.2) in
-            let place : List ℤ = onto (place_of back is) [] in
-            let n2 : length (place_of back is) ≡ k = length_place back is (n1 ∙ sym lb) ∙ lb in
-            let a = (asked (λ q a b. f a b ≡ Err q) e place).0 w in
-            (place, length_onto (place_of back is) [] ∙ (omega arith), a.0, a.1),
+            let w : InGridPoints d gs G2 boxes live_left live_right e (onto (grid_point_of back is) []) = subst (λ U. U) (sym s) (subst (InLive G2 boxes live_left live_right e) (sym (onto_cells_twice h.0 [])) h.2) in
+            let grid_point : List ℤ = onto (grid_point_of back is) [] in
+            let n2 : length (grid_point_of back is) ≡ k = length_grid_point back is (n1 ∙ sym lb) ∙ lb in
+            let a = (asked (λ q a b. f a b ≡ Err q) e grid_point).0 w in
+            (grid_point, length_onto (grid_point_of back is) [] ∙ (omega arith), a.0, a.1),
         λ h.
             let w = (asked (λ q a b. f a b ≡ Err q) e h.0).1 (h.2, h.3) in
             let ps : List ℤ = onto h.0 [] in
             let n1 : length ps ≡ k = length_onto h.0 [] ∙ (let u = h.1 in omega arith) in
-            let w' : InPlaces d gs G2 boxes live_left live_right e (onto ps []) = subst (InPlaces d gs G2 boxes live_left live_right e) (sym (onto_twice h.0 [])) w in
-            let c = grid_cell back (λ qs. InPlaces d gs G2 boxes live_left live_right e (onto qs [])) (on d gs G2 boxes live_left live_right e fl fr) ps (n1 ∙ sym lb) w' in
+            let w' : InGridPoints d gs G2 boxes live_left live_right e (onto ps []) = subst (InGridPoints d gs G2 boxes live_left live_right e) (sym (onto_twice h.0 [])) w in
+            let c = grid_cell back (λ qs. InGridPoints d gs G2 boxes live_left live_right e (onto qs [])) (on d gs G2 boxes live_left live_right e fl fr) ps (n1 ∙ sym lb) w' in
             let n2 : length c.0 ≡ k = c.1 ∙ lb in
             (onto_cells c.0 [], length_onto_cells c.0 [] ∙ (omega arith), subst (λ U. U) (same d gs G2 boxes live_left live_right e fl fr c.0 n2) c.2),
       )

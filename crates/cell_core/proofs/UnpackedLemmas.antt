@@ -9,23 +9,23 @@ use Rattle.base_core.proofs.SetLemmas.{Separates, In, Ascends, Ascends-in_order}
 use Rattle.base_core.proofs.SetOperatorLemmas.{is_within-In, are_same-In}
 use Rattle.interval_core.specs.Members.{at_point, members}
 use Rattle.interval_core.specs.Packing.{Side, unpack, unpack1}
-use Rattle.packing_core.specs.Packed.{ArePoints, firsts, points_of, nowhere}
-use Rattle.packing_core.specs.Covering.{Among}
-use Rattle.packing_core.specs.Boxed.{Boxed, side, sides_from, boxed_cmp, unpacked_boxes, InBoxes}
-use Rattle.packing_core.proofs.AmongLemmas.{among_map, among_flat}
-use Rattle.packing_core.proofs.PackedBoxes.{among_in, among_in_order, in_unpacked}
+use Rattle.cell_packing.specs.Packed.{ArePoints, firsts, points_of, nowhere}
+use Rattle.cell_packing.specs.Covering.{Among}
+use Rattle.cell_packing.specs.Boxed.{Boxed, side, sides_from, boxed_cmp, unpacked_boxes, InBoxes}
+use Rattle.cell_packing.proofs.AmongLemmas.{among_map, among_flat}
+use Rattle.cell_packing.proofs.PackedBoxes.{among_in, among_in_order, in_unpacked}
 use Rattle.cell_core.proofs.OrderLemmas.{boxed_total, boxed_separates}
-use Rattle.cell_core.proofs.PackedPlaces.{AllHave, place_length}
+use Rattle.cell_core.proofs.PackedGridPoints.{AllHave, grid_point_length}
 
-pub firsts_at : (place : List ℤ) → firsts (map at_point place) ≡ place
+pub firsts_at : (grid_point : List ℤ) → firsts (map at_point grid_point) ≡ grid_point
 firsts_at [] = refl
 firsts_at (p ∷ ps) = ap (λ xs. p ∷ xs) (firsts_at ps)
 
-pub are_points : (place : List ℤ) → ArePoints (map at_point place)
+pub are_points : (grid_point : List ℤ) → ArePoints (map at_point grid_point)
 are_points [] = tt
 are_points (p ∷ ps) = (refl, are_points ps)
 
-pub length_at : (place : List ℤ) → length (map at_point place) ≡ length place
+pub length_at : (grid_point : List ℤ) → length (map at_point grid_point) ≡ length grid_point
 length_at [] = refl
 length_at (p ∷ ps) = ap suc (length_at ps)
 
@@ -64,36 +64,36 @@ module _ {P : Type 0} (order : P → P → Ordering) (o : IsTotalOrder order) (s
       )
 
   module _ (k : ℕ) (left right : List (Boxed P)) (hl : AllHave k left) (hr : AllHave k right) where
-    point_in : (r : List (Boxed P)) → AllHave k r → (l : P) (place : List ℤ) → length place ≡ k → InBoxes r l place ↔ Among (l, map at_point place) (unpacked_boxes order k r)
-    point_in r h l place e =
-        let w = in_unpacked_boxes k r h (l, map at_point place) in (
-          λ g. w.1 (length_at place ∙ e, (are_points place, subst (InBoxes r l) (sym (firsts_at place)) g)),
-          λ g. subst (InBoxes r l) (firsts_at place) (w.0 g).1.1,
+    point_in : (r : List (Boxed P)) → AllHave k r → (l : P) (grid_point : List ℤ) → length grid_point ≡ k → InBoxes r l grid_point ↔ Among (l, map at_point grid_point) (unpacked_boxes order k r)
+    point_in r h l grid_point e =
+        let w = in_unpacked_boxes k r h (l, map at_point grid_point) in (
+          λ g. w.1 (length_at grid_point ∙ e, (are_points grid_point, subst (InBoxes r l) (sym (firsts_at grid_point)) g)),
+          λ g. subst (InBoxes r l) (firsts_at grid_point) (w.0 g).1.1,
         )
 
-    one_way : (r s : List (Boxed P)) → AllHave k r → AllHave k s → ((x : Boxed P) → In x (unpacked_boxes order k r) → In x (unpacked_boxes order k s)) ↔ ((l : P) (place : List ℤ) → InBoxes r l place → InBoxes s l place)
+    one_way : (r s : List (Boxed P)) → AllHave k r → AllHave k s → ((x : Boxed P) → In x (unpacked_boxes order k r) → In x (unpacked_boxes order k s)) ↔ ((l : P) (grid_point : List ℤ) → InBoxes r l grid_point → InBoxes s l grid_point)
     one_way r s hr hs =
         let a : (x : Boxed P) → Among x (unpacked_boxes order k r) ↔ In x (unpacked_boxes order k r) = λ x. among_in x (unpacked_boxes order k r) in
         let b : (x : Boxed P) → Among x (unpacked_boxes order k s) ↔ In x (unpacked_boxes order k s) = λ x. among_in x (unpacked_boxes order k s) in (
-          λ h l place g.
-              let e = place_length k r hr l place g in
-              (point_in s hs l place e).1 ((b (l, map at_point place)).1 (h (l, map at_point place) ((a (l, map at_point place)).0 ((point_in r hr l place e).0 g)))),
+          λ h l grid_point g.
+              let e = grid_point_length k r hr l grid_point g in
+              (point_in s hs l grid_point e).1 ((b (l, map at_point grid_point)).1 (h (l, map at_point grid_point) ((a (l, map at_point grid_point)).0 ((point_in r hr l grid_point e).0 g)))),
           λ h x m.
               let v = (in_unpacked_boxes k r hr x).0 ((a x).1 m) in
               (b x).0 ((in_unpacked_boxes k s hs x).1 (v.0, (v.1.0, h x.0 (firsts x.1) v.1.1))),
         )
 
-    pub within_iff : IsTrue (is_within R (unpacked_boxes order k left) (unpacked_boxes order k right)) ↔ ((l : P) (place : List ℤ) → InBoxes left l place → InBoxes right l place)
+    pub within_iff : IsTrue (is_within R (unpacked_boxes order k left) (unpacked_boxes order k right)) ↔ ((l : P) (grid_point : List ℤ) → InBoxes left l grid_point → InBoxes right l grid_point)
     within_iff =
         let w = is_within-In R (boxed_total o) (boxed_separates same) (unpacked_boxes order k left) (unpacked_boxes order k right) in
         let v = one_way left right hl hr in
         (λ h. v.0 (w.0 h), λ h. w.1 (v.1 h))
 
-    pub same_iff : IsTrue (are_same R (unpacked_boxes order k left) (unpacked_boxes order k right)) ↔ ((l : P) (place : List ℤ) → InBoxes left l place ↔ InBoxes right l place)
+    pub same_iff : IsTrue (are_same R (unpacked_boxes order k left) (unpacked_boxes order k right)) ↔ ((l : P) (grid_point : List ℤ) → InBoxes left l grid_point ↔ InBoxes right l grid_point)
     same_iff =
         let w = are_same-In R (boxed_total o) (boxed_separates same) (unpacked_boxes order k left) (unpacked_boxes order k right) in
         let v = one_way left right hl hr in
         let u = one_way right left hr hl in (
-          λ h l place. (v.0 (λ x. (w.0 h x).0) l place, u.0 (λ x. (w.0 h x).1) l place),
-          λ h. w.1 (λ x. (v.1 (λ l place. (h l place).0) x, u.1 (λ l place. (h l place).1) x)),
+          λ h l grid_point. (v.0 (λ x. (w.0 h x).0) l grid_point, u.0 (λ x. (w.0 h x).1) l grid_point),
+          λ h. w.1 (λ x. (v.1 (λ l grid_point. (h l grid_point).0) x, u.1 (λ l grid_point. (h l grid_point).1) x)),
         )

@@ -3,8 +3,8 @@ use Rattle.std.specs.Prelude.{◌≡◌, ℕ, suc, ◌<◌, ◌⊎◌, ℤ, pos,
 use Rattle.std.specs.declared.cmp.Ordering.{Ordering}
 use Rattle.std.specs.declared.cmp.Ordering.TheVariants.{Less, Equal}
 use Rattle.interval_core.specs.Members.{Span}
-use Rattle.packing_core.specs.Packed.{nowhere}
-use Rattle.packing_core.specs.Boxed.{Boxed}
+use Rattle.cell_packing.specs.Packed.{nowhere}
+use Rattle.cell_packing.specs.Boxed.{Boxed}
 
 -- the row's first side
 abbrev pub first_side : {P : Type 0} → Boxed P → Span

@@ -3,9 +3,9 @@ use Rattle.std.specs.Prelude.{◌≡◌, ℕ, zero, suc, ◌≢◌, ◌⊎◌, �
 use Rattle.std.specs.declared.cmp.Ordering.{Ordering}
 use Rattle.std.specs.List.Sorted.{IsStrictlySortedBy}
 use Rattle.interval_core.specs.Members.{Span}
-use Rattle.packing_core.specs.Packed.{packs, points_of}
-use Rattle.packing_core.specs.Boxed.{boxed_cmp}
-use Rattle.packing_core.specs.Covering.{Among, covering, InCells, CellFunction}
+use Rattle.cell_packing.specs.Packed.{packs, points_of}
+use Rattle.cell_packing.specs.Boxed.{boxed_cmp}
+use Rattle.cell_packing.specs.Covering.{Among, covering, InCells, CellFunction}
 use Rattle.cell_core.specs.Numbering.{numbers_of, span_at}
 
 -- a box by its numbers
@@ -25,8 +25,8 @@ IsPackedRow k f left right x = (length x.1 ≡ k) × packs k (points_of (InCells
 -- some covered place has the fault
 abbrev pub HasFault : {L F : Type 0} → ℕ → CellFunction L F → List (List Span) → List (List Span) → F → Type 0
 HasFault k f left right e =
-    (place : List ℤ) × (length place ≡ k)
-    × ((covering left place ≢ []) ⊎ (covering right place ≢ [])) × (f (covering left place) (covering right place) ≡ Err e)
+    (grid_point : List ℤ) × (length grid_point ≡ k)
+    × ((covering left grid_point ≢ []) ⊎ (covering right grid_point ≢ [])) × (f (covering left grid_point) (covering right grid_point) ≡ Err e)
 
 -- the list has just the packed rows, each once and in order; so there is one such list
 pub record IsPackedForm {L F : Type 0} (order : L → L → Ordering) (k : ℕ) (f : CellFunction L F)

@@ -2,8 +2,8 @@
 use Rattle.std.specs.Prelude.{◌≡◌, ℕ, zero, suc, ◌<◌, ◌⊎◌, ℤ, pos, ◌+ℤ◌, ◌-ℤ◌, ◌<ℤ◌, ◌*◌, ◌≤◌, List, [], ◌∷◌, ◌++◌, map, length, get_or}
 use Rattle.std.specs.List.{All}
 use Rattle.interval_core.specs.Members.{Span}
-use Rattle.packing_core.specs.Packed.{no_cells}
-use Rattle.packing_core.specs.Covering.{Among}
+use Rattle.cell_packing.specs.Packed.{no_cells}
+use Rattle.cell_packing.specs.Covering.{Among}
 
 -- the number at which the cell i begins; after the last cut one cell for each number from `top` on
 abbrev pub cut_at : List ℤ → ℤ → ℕ → ℤ

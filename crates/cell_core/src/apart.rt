@@ -2,7 +2,7 @@
 ghost use Rattle.std.specs.Prelude.{◌≡◌, ◌<◌, ◌≤◌, ◌+◌, ◌*◌, ℕ, pos, ◌+ℤ◌, ◌<ℤ◌, [], ◌∷◌, true, suc, map, length, get_or, IfOk, IsPermutation};
 ghost use Rattle.std.specs.List.{All};
 ghost use Rattle.base_core.specs.Sets.{in_order};
-ghost use Rattle.packing_core.specs.Boxed.{boxed_cmp, packed_boxes, Boxed};
+ghost use Rattle.cell_packing.specs.Boxed.{boxed_cmp, packed_boxes, Boxed};
 ghost use Rattle.cell_core.specs.Apart.{first_side, HasOneSide, IsBeyond, AreBeyond};
 ghost use Rattle.cell_core.specs.Boxes.{IsBox};
 ghost use Rattle.cell_core.specs.Cells.{row_numbers};

@@ -2,15 +2,15 @@
 ghost use Rattle.std.specs.Prelude.{◌≡◌, ℕ, ◌<◌, ◌≤◌, ◌+◌, ◌*◌, ◌^◌, map, [], ◌++◌, List, get_or, length};
 ghost use Rattle.std.specs.Prelude.{slice_index_or, OnOk, IfOk};
 ghost use Rattle.std.specs.List.{All};
-ghost use Rattle.slice_core.specs.Rows.{sides_of};
+ghost use Rattle.cell_sweep.specs.Rows.{sides_of};
 ghost use Rattle.cell_core.specs.Costs.{side_cost};
 ghost use Rattle.cell_core.specs.Numbering.{IsSide};
 ghost use Rattle.cell_core.specs.Cells.{rows_from, cells_at, side_of};
 
 use crate::boxes::Sides;
 use crate::number::{Side, numbering};
+use cell_sweep::IndexBox;
 use point_core::{Memory, PointType, Steps};
-use slice_core::IndexBox;
 use std::alloc::Global;
 use std::sync::ledger::Ledger;
 

@@ -6,14 +6,14 @@ ghost use Rattle.cell_core.specs.Cells.{keys_from};
 use crate::boxes::BoxRow;
 use crate::grids::one_box;
 use crate::number::Side;
+use cell_sweep::CellBox;
 use point_core::{Label, Memory, PointType};
-use slice_core::Key;
 use std::alloc::Global;
 
 // Adds the rows over their cells, which stand from `first` on in the tables of all sides.
 pub fn push_keys<T: PointType, P: Label>(
     alloc: Global,
-    out: &mut Vec<Key<P>>,
+    out: &mut Vec<CellBox<P>>,
     rows: &[BoxRow<T, P>],
     first: usize,
     sides: &[Side<T>],
@@ -27,7 +27,7 @@ pub fn push_keys<T: PointType, P: Label>(
         let row = &rows[r];
         let label = row.label.copy(alloc)?;
         let cells = one_box(alloc, sides, first + r)?;
-        out.push(Key {
+        out.push(CellBox {
             label,
             sides: cells.sides,
         })?;
@@ -38,7 +38,7 @@ pub fn push_keys<T: PointType, P: Label>(
 // Moves the rows over their cells, which stand from `first` on in the tables of all sides.
 pub fn push_moved_keys<T: PointType, P: Drop>(
     alloc: Global,
-    out: &mut Vec<Key<P>>,
+    out: &mut Vec<CellBox<P>>,
     rows: Vec<BoxRow<T, P>>,
     first: usize,
     sides: &[Side<T>],
@@ -51,7 +51,7 @@ pub fn push_moved_keys<T: PointType, P: Drop>(
     let mut at = first;
     for row in rows {
         let cells = one_box(alloc, sides, at)?;
-        out.push(Key {
+        out.push(CellBox {
             label: row.label,
             sides: cells.sides,
         })?;

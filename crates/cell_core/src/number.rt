@@ -125,7 +125,7 @@ fn cells_of<T: PointType, L: Ledger>(
     steps: &mut Steps<L>,
 ) -> Result<Vec<usize>, Memory>
     requires points { All (λ x. T.IsPoint t.now x.0) list.now }
-    requires places { All (λ x. x.1 < count) list.now }
+    requires grid_points { All (λ x. x.1 < count) list.now }
     requires order { InOrder T.number_of list.now }
     requires none { cuts.old.items ≡ [] }
     ensures points { OnOk result (All (T.IsPoint t.now) cuts.new.items) }
@@ -236,7 +236,7 @@ pub fn side_by_ends<T: PointType, L: Ledger>(
 ) -> Result<Side<T>, Memory>
     requires few { count < 2 ^ 61 }
     requires points { All (λ x. T.IsPoint t.now x.0) list.old.items }
-    requires places { All (λ x. x.1 < 2 * count) list.old.items }
+    requires grid_points { All (λ x. x.1 < 2 * count) list.old.items }
     requires count { length list.old.items ≤ 2 * count }
     ensures side { IfOk result (λ s. (spans : List (T.Point × T.Point)) → length spans ≡ count →
         AreEnds T.number_of (T.IsPoint t.now) (T.last_number t.now) spans count list.old.items →

@@ -9,8 +9,8 @@ use crate::boxes::BoxRow;
 use crate::keys::{push_keys, push_moved_keys};
 use crate::number::Side;
 use crate::row_sides::numbered;
+use cell_sweep::CellBox;
 use point_core::{Label, Memory, PointType, Steps};
-use slice_core::Key;
 use std::alloc::Global;
 use std::sync::ledger::Ledger;
 
@@ -19,8 +19,8 @@ use std::sync::ledger::Ledger;
 #[derive(Drop)]
 pub struct CellRows<T: PointType, P> {
     pub sides: Vec<Side<T>>,
-    pub left: Vec<Key<P>>,
-    pub right: Vec<Key<P>>,
+    pub left: Vec<CellBox<P>>,
+    pub right: Vec<CellBox<P>>,
 }
 
 /// The left and the right rows over the cells of one numbering of their sides. The numbering alone takes steps.

@@ -2,8 +2,8 @@
 ghost use Rattle.std.specs.Prelude.{◌≡◌, ◌+◌, ◌≤◌, ◌*◌, ◌↔◌, map, length, IfOk, IsTrue};
 ghost use Rattle.std.specs.List.{All};
 ghost use Rattle.base_core.specs.Sets.{in_order};
-ghost use Rattle.packing_core.specs.Boxed.{boxed_cmp, packed_boxes};
-ghost use Rattle.slice_core.specs.Rows.{key_cmp};
+ghost use Rattle.cell_packing.specs.Boxed.{boxed_cmp, packed_boxes};
+ghost use Rattle.cell_sweep.specs.Rows.{key_cmp};
 ghost use Rattle.cell_core.specs.Boxes.{IsBox};
 ghost use Rattle.cell_core.specs.Cells.{row_numbers};
 ghost use Rattle.cell_core.specs.Costs.{bound, side_cost};
@@ -12,23 +12,23 @@ use crate::apart::are_apart;
 use crate::boxes::BoxRow;
 use crate::keys::push_keys;
 use crate::row_sides::numbered;
+use cell_sweep::{CellBox, pack_rows};
 use point_core::{Label, Memory, PointType, Steps};
-use slice_core::{Key, pack_rows};
 use std::alloc::Global;
 use std::sync::ledger::Ledger;
 
 // The keys in order, each once.
-fn distinct_keys<P: Label>(list: Vec<Key<P>>) -> Result<Vec<Key<P>>, Memory>
+fn distinct_keys<P: Label>(list: Vec<CellBox<P>>) -> Result<Vec<CellBox<P>>, Memory>
     ensures { IfOk result (λ v. v.items ≡ in_order (key_cmp P.order) list.items) }
 {
     let mut set = list;
-    set.sort_by(|a: &Key<P>, b: &Key<P>| a.cmp(b))?;
-    set.dedup_by(|a: &mut Key<P>, b: &mut Key<P>| (*a).cmp(&*b).is_eq());
+    set.sort_by(|a: &CellBox<P>, b: &CellBox<P>| a.cmp(b))?;
+    set.dedup_by(|a: &mut CellBox<P>, b: &mut CellBox<P>| (*a).cmp(&*b).is_eq());
     Ok(set)
 }
 
 // Whether two lists of keys are one.
-pub fn same_keys<P: Label>(a: &[Key<P>], b: &[Key<P>]) -> bool
+pub fn same_keys<P: Label>(a: &[CellBox<P>], b: &[CellBox<P>]) -> bool
     ensures { IsTrue result ↔ (a.now ≡ b.now) }
 {
     a.cmp(b).is_eq()

@@ -1,7 +1,7 @@
 // The packed form of labelled boxes.
 ghost use Rattle.std.specs.Prelude.{◌≡◌, ◌+◌, ◌*◌, ◌<◌, ◌≤◌, map, length, Err, IfOk};
 ghost use Rattle.std.specs.List.{All};
-ghost use Rattle.packing_core.specs.Boxed.{packed_boxes};
+ghost use Rattle.cell_packing.specs.Boxed.{packed_boxes};
 ghost use Rattle.point_core.specs.declared.fault.Fault.{Fault as AnyFault};
 ghost use Rattle.cell_core.specs.Boxes.{IsBox};
 ghost use Rattle.cell_core.specs.Cells.{row_numbers};
@@ -12,8 +12,8 @@ use crate::boxes::{BoxRow, CellRefuse};
 use crate::keys::push_keys;
 use crate::row_sides::numbered;
 use crate::whole::back;
+use cell_sweep::pack_rows;
 use point_core::{Label, Memory, PointType, Steps};
-use slice_core::pack_rows;
 use std::alloc::Global;
 use std::sync::ledger::Ledger;
 

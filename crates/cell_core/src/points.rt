@@ -2,7 +2,7 @@
 ghost use Rattle.std.specs.Prelude.{◌≡◌, ◌+◌, ◌≤◌, ◌↔◌, map, length, IfOk, IsTrue};
 ghost use Rattle.std.specs.List.{All};
 ghost use Rattle.base_core.specs.Sets.{is_within, are_same};
-ghost use Rattle.packing_core.specs.Boxed.{boxed_cmp, unpacked_boxes, packed_boxes};
+ghost use Rattle.cell_packing.specs.Boxed.{boxed_cmp, unpacked_boxes, packed_boxes};
 ghost use Rattle.cell_core.specs.Boxes.{IsBox};
 ghost use Rattle.cell_core.specs.Cells.{row_numbers};
 ghost use Rattle.cell_core.specs.Costs.{bound};
@@ -11,8 +11,8 @@ use crate::boxes::BoxRow;
 use crate::keys::push_keys;
 use crate::packed::same_keys;
 use crate::row_sides::numbered;
+use cell_sweep::pack_rows;
 use point_core::{Label, Memory, PointType, Steps};
-use slice_core::pack_rows;
 use std::alloc::Global;
 use std::sync::ledger::Ledger;
 

@@ -3,19 +3,19 @@ ghost use Rattle.std.specs.Prelude.{◌≡◌, ℕ, ◌+◌, ◌-◌, ◌^◌, �
 ghost use Rattle.std.specs.Prelude.{IfOk, IfSome};
 ghost use Rattle.std.specs.List.{All};
 ghost use Rattle.interval_core.specs.Members.{HasEndsIn, at_point};
-ghost use Rattle.packing_core.specs.Boxed.{unpacked_boxes};
-ghost use Rattle.packing_core.specs.Covering.{Among};
+ghost use Rattle.cell_packing.specs.Boxed.{unpacked_boxes};
+ghost use Rattle.cell_packing.specs.Covering.{Among};
 ghost use Rattle.point_core.specs.declared.fault.Fault.{Fault as AnyFault};
 ghost use Rattle.cell_core.specs.Boxes.{IsBox};
 ghost use Rattle.cell_core.specs.Cells.{box_numbers, row_numbers};
 ghost use Rattle.cell_core.specs.Costs.{bound};
 ghost use Rattle.cell_core.specs.Numbering.{numbers_of};
-ghost use Rattle.cell_core.specs.Places.{listing, total, point_row, IsPlaceOf};
+ghost use Rattle.cell_core.specs.GridPoints.{listing, total, point_row, IsGridPointOf};
 ghost use Rattle.cell_core.specs.declared.boxes.CellRefuse.TheVariants.{Op as OfOp, Limit as OfLimit};
 
 use crate::boxes::{BoxRow, CellRefuse, Sides};
+use crate::grid_points::{Numbers, Place, grid_points_of, in_order, push_grid_points, volume_of};
 use crate::packing::packed_rows;
-use crate::places::{Numbers, Place, in_order, places_of, push_places, volume_of};
 use interval_core::Interval;
 use point_core::{Label, Memory, PointNumber, Steps};
 use std::alloc::Global;
@@ -76,8 +76,8 @@ fn listed<T: PointNumber, P: Label>(
     let mut out = Vec::new(alloc);
     for row in rows {
         let spans = spans_of(alloc, types, &row.sides)?;
-        let list = places_of(alloc, spans.as_slice())?;
-        push_places(alloc, &mut out, &row.label, list)?;
+        let list = grid_points_of(alloc, spans.as_slice())?;
+        push_grid_points(alloc, &mut out, &row.label, list)?;
     }
     Ok(out)
 }
@@ -95,7 +95,7 @@ fn at_number<T: PointNumber>(t: &T, n: &i64) -> Interval<T>
 
 // The box of one place.
 fn box_at<T: PointNumber>(alloc: Global, types: &[T], numbers: &Numbers) -> Result<Sides<T>, Memory>
-    requires { IsPlaceOf T.first_number T.last_number types.now numbers.now }
+    requires { IsGridPointOf T.first_number T.last_number types.now numbers.now }
     ensures numbers { IfOk result (λ v. box_numbers T.number_of v ≡ map at_point numbers.now) }
     ensures points { IfOk result (λ v. IsBox T.IsPoint types.now v) }
 {
@@ -112,15 +112,15 @@ fn point_rows<T: PointNumber, P: Label>(
     types: &[T],
     list: Vec<Place<P>>,
 ) -> Result<Vec<BoxRow<T, P>>, Memory>
-    requires { (x : P × List ℤ) → Among x list.items → IsPlaceOf T.first_number T.last_number types.now x.1 }
+    requires { (x : P × List ℤ) → Among x list.items → IsGridPointOf T.first_number T.last_number types.now x.1 }
     ensures rows { IfOk result (λ v. map (row_numbers T.number_of) v.items ≡ map point_row list.items) }
     ensures boxes { IfOk result (λ v. All (λ r. IsBox T.IsPoint types.now r.1) v.items) }
 {
     let mut out = Vec::with_capacity(alloc, list.len())?;
-    for place in list {
-        let sides = box_at(alloc, types, &place.numbers)?;
+    for grid_point in list {
+        let sides = box_at(alloc, types, &grid_point.numbers)?;
         out.push(BoxRow {
-            label: place.label,
+            label: grid_point.label,
             sides,
         })?;
     }

@@ -2,11 +2,11 @@
 ghost use Rattle.std.specs.Prelude.{◌≡◌, ℕ, ℤ, pos, ◌+ℤ◌, ◌≤ℤ◌, ◌<◌, ◌≤◌, ◌⊎◌, ◌+◌, ◌*◌, ◌^◌, map, [], ◌∷◌, ◌++◌, List};
 ghost use Rattle.std.specs.Prelude.{Some, None, Err, get_or, ◌-◌, length, slice_index_or, OnOk, IfOk, ◌↔◌, IsTrue};
 ghost use Rattle.std.specs.List.{All};
-ghost use Rattle.packing_core.specs.Covering.{Among, InCells};
-ghost use Rattle.packing_core.specs.Boxed.{InBoxes, packed_boxes};
+ghost use Rattle.cell_packing.specs.Covering.{Among, InCells};
+ghost use Rattle.cell_packing.specs.Boxed.{InBoxes, packed_boxes};
 ghost use Rattle.interval_core.specs.Members.{Span, HasEndsIn};
-ghost use Rattle.packing_core.specs.Packed.{no_cells};
-ghost use Rattle.slice_core.specs.Rows.{sides_of, AreRows, own_numbers};
+ghost use Rattle.cell_packing.specs.Packed.{no_cells};
+ghost use Rattle.cell_sweep.specs.Rows.{sides_of, AreRows, own_numbers};
 ghost use Rattle.point_core.specs.LeastFault.{IsLeast};
 ghost use Rattle.point_core.specs.declared.fault.Fault.{Fault as AnyFault};
 ghost use Rattle.cell_core.specs.Numbering.{IsSide, IsGrid, numbers_of, span_at};
@@ -19,9 +19,9 @@ ghost use Rattle.cell_core.specs.declared.boxes.CellRefuse.TheVariants.{Op as Of
 use crate::boxes::{BoxRow, CellRefuse, Sides};
 use crate::grids::{all_sides, cell_boxes, cell_counts, row_range};
 use crate::number::Side;
+use cell_sweep::{CellBox, CellOp, slices};
 use interval_core::Interval;
 use point_core::{Fault, Memory, PointType, Steps};
-use slice_core::{CellOp, Key, slices};
 use std::alloc::Global;
 use std::sync::ledger::Ledger;
 
@@ -29,7 +29,7 @@ use std::sync::ledger::Ledger;
 #[derive(Drop)]
 pub struct Found<T: PointType, P> {
     pub sides: Vec<Side<T>>,
-    pub rows: Vec<Key<P>>,
+    pub rows: Vec<CellBox<P>>,
     pub least: Option<Fault>,
 }
 
@@ -147,7 +147,7 @@ fn row_of_cells<T: PointType, P: Drop>(
     alloc: Global,
     types: &[T],
     sides: &[Side<T>],
-    row: Key<P>,
+    row: CellBox<P>,
 ) -> Result<BoxRow<T, P>, Memory>
     requires sides { length sides.now ≡ length types.now }
     requires cells { length row.1 ≡ length types.now }
@@ -173,7 +173,7 @@ pub fn back<T: PointType, P: Drop>(
     alloc: Global,
     types: &[T],
     sides: &[Side<T>],
-    rows: Vec<Key<P>>,
+    rows: Vec<CellBox<P>>,
 ) -> Result<Vec<BoxRow<T, P>>, Memory>
     requires sides { length sides.now ≡ length types.now }
     requires cells { (x : P × List (ℕ × ℕ)) → Among x rows.items → length x.1 ≡ length types.now }
@@ -218,8 +218,8 @@ pub fn combine<T: PointType, O: CellOp, L: Ledger>(
     ensures rows { IfOk result (λ v. IsPackedForm O.Out.order (length types.now) (O.means op.now) (boxes_of
         T.number_of left.now) (boxes_of T.number_of right.now) (map (row_numbers T.number_of) v.items)) }
     ensures packed { IfOk result (λ v. (r : List (O.Out × List Span)) → ((x : O.Out × List Span) → Among x r →
-        length x.1 ≡ length types.now) → ((l : O.Out) (place : List ℤ) → InBoxes r l place ↔ InCells (O.means op.now)
-        (boxes_of T.number_of left.now) (boxes_of T.number_of right.now) l place) →
+        length x.1 ≡ length types.now) → ((l : O.Out) (grid_point : List ℤ) → InBoxes r l grid_point ↔ InCells (O.means op.now)
+        (boxes_of T.number_of left.now) (boxes_of T.number_of right.now) l grid_point) →
         map (row_numbers T.number_of) v.items ≡ packed_boxes O.Out.order (length types.now) r) }
     ensures boxes { IfOk result (λ v. All (λ x. IsBox T.IsPoint types.now x.1) v.items) }
     ensures few { IfOk result (λ v. length v.items ≤ limit) }

@@ -45,9 +45,9 @@ count-capped known (rename place h names t) = more-capped (count (map cap known)
 count-capped known (restrict place h c t) = more-capped (count (map cap known) t) (count known t) (count-capped known t)
 count-capped known (extend place h sets t) = more-capped (count (map cap known) t) (count known t) (count-capped known t)
 count-capped known (summarize place h by aggregates t) = more-capped (count (map cap known) t) (count known t) (count-capped known t)
-count-capped known (pack place h acl t) = more-capped (count (map cap known) t) (count known t) (count-capped known t)
-count-capped known (unpack place h acl t) = more-capped (count (map cap known) t) (count known t) (count-capped known t)
-count-capped known (using place h acl t) = more-capped (count (map cap known) t) (count known t) (count-capped known t)
+count-capped known (pack place h commalist t) = more-capped (count (map cap known) t) (count known t) (count-capped known t)
+count-capped known (unpack place h commalist t) = more-capped (count (map cap known) t) (count known t) (count-capped known t)
+count-capped known (using place h commalist t) = more-capped (count (map cap known) t) (count known t) (count-capped known t)
 
 relvar-capped : (known : Known) (r : PlainRelvar) → capped_count (map cap known) r ≡ capped (relvar_count known r)
 relvar-capped known (base value constraints) = refl

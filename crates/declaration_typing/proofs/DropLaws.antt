@@ -77,9 +77,9 @@ module _ (name : Name) where
   tree-dropped sizes es (restrict place h c t) apart is = (tree-dropped sizes es t apart is.0, is.1)
   tree-dropped sizes es (extend place h sets t) apart is = (tree-dropped sizes es t apart is.0, is.1)
   tree-dropped sizes es (summarize place h by aggregates t) apart is = (tree-dropped sizes es t apart is.0, is.1)
-  tree-dropped sizes es (pack place h acl t) apart is = (tree-dropped sizes es t apart is.0, is.1, is.2)
-  tree-dropped sizes es (unpack place h acl t) apart is = (tree-dropped sizes es t apart is.0, is.1, is.2)
-  tree-dropped sizes es (using place h acl t) apart is = (tree-dropped sizes es t apart is.0, is.1, is.2, is.3)
+  tree-dropped sizes es (pack place h commalist t) apart is = (tree-dropped sizes es t apart is.0, is.1, is.2)
+  tree-dropped sizes es (unpack place h commalist t) apart is = (tree-dropped sizes es t apart is.0, is.1, is.2)
+  tree-dropped sizes es (using place h commalist t) apart is = (tree-dropped sizes es t apart is.0, is.1, is.2, is.3)
 
   -- the constraint fits what its name stands for
   abbrev Fits : Heading → Constraint → Option PlainRelvar → Type 0
@@ -91,12 +91,12 @@ module _ (name : Name) where
   constraint-dropped : (before : Entries) (own : Name) (r : PlainRelvar) (c : Constraint) → bytes_eq own name ≡ false → references name c ≡ false → IsConstraint before own r c
       → IsConstraint (rest_of before) own r c
   constraint-dropped before own r (Key k) other apart is = is
-  constraint-dropped before own r (Packed acl) other apart is = is
-  constraint-dropped before own r (WhenUnpacked acl k) other apart is = is
-  constraint-dropped before own r (UKey acl k) other apart is = is
-  constraint-dropped before own r (Foreign acl k there positions) other apart is =
+  constraint-dropped before own r (Packed commalist) other apart is = is
+  constraint-dropped before own r (WhenUnpacked commalist k) other apart is = is
+  constraint-dropped before own r (UKey commalist k) other apart is = is
+  constraint-dropped before own r (Foreign commalist k there positions) other apart is =
       let same = sym (named-dropped (before ++ (own, r) ∷ []) there apart) ∙ ap (λ (es : Entries). relvar_named es there) (with-own before own r other) in
-      subst (Fits (relvar_heading r) (Foreign acl k there positions)) same is
+      subst (Fits (relvar_heading r) (Foreign commalist k there positions)) same is
   constraint-dropped before own r (History rule) other apart is =
       subst (Fits (relvar_heading r) (History rule)) (sym (named-dropped before rule.since apart)) is
 
@@ -195,14 +195,14 @@ module _ (name : Name) where
         | false ↦ distinct-rest es d.1
       ]
 
-  others-behind : (P : Name → Type 0) (front : List Name) (es : Entries) → AllByRecursion P (front ++ names_of es) → AllByRecursion P (front ++ names_of (rest_of es))
+  others-behind : (P : Name → Type 0) (prefix : List Name) (es : Entries) → AllByRecursion P (prefix ++ names_of es) → AllByRecursion P (prefix ++ names_of (rest_of es))
   others-behind P [] es all = others-rest P es all
-  others-behind P (n ∷ front) es all = (all.0, others-behind P front es all.1)
+  others-behind P (n ∷ prefix) es all = (all.0, others-behind P prefix es all.1)
 
-  distinct-behind : (front : List Name) (es : Entries) → IsDistinct bytes_eq (front ++ names_of es) → IsDistinct bytes_eq (front ++ names_of (rest_of es))
+  distinct-behind : (prefix : List Name) (es : Entries) → IsDistinct bytes_eq (prefix ++ names_of es) → IsDistinct bytes_eq (prefix ++ names_of (rest_of es))
   unfolding IsDistinct
   distinct-behind [] es d = distinct-rest es d
-  distinct-behind (n ∷ front) es d = (others-behind (λ (m : Name). bytes_eq n m ≡ false) front es d.0, distinct-behind front es d.1)
+  distinct-behind (n ∷ prefix) es d = (others-behind (λ (m : Name). bytes_eq n m ≡ false) prefix es d.0, distinct-behind prefix es d.1)
 
   pub without-kept : (s : State) → IsWellMade s → is_used s.relvars name ≡ false → IsWellMade (without name s)
   without-kept s made unused = record {

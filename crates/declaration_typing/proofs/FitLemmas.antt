@@ -108,20 +108,20 @@ module _ (s : State) (own : Name) (heading : Heading) (others : List Constraint)
       by-test true e = own-base name e
       by-test false e = found-base at name (relvar_named s.relvars name) refl
 
-  reference-fits : (acl key : List ℕ) (brace : Place) (words : List Word) (w : Word) → IsList heading acl → AreAmong key acl → AreAt heading [] words key
-      → IfOk (reference_typed s own heading acl key (syntax.Names brace words) w) (IsConstraint s.relvars own own_relvar)
-  reference-fits acl key brace words w list kept at =
+  reference-fits : (commalist key : List ℕ) (brace : Place) (words : List Word) (w : Word) → IsList heading commalist → AreAmong key commalist → AreAt heading [] words key
+      → IfOk (reference_typed s own heading commalist key (syntax.Names brace words) w) (IsConstraint s.relvars own own_relvar)
+  reference-fits commalist key brace words w list kept at =
       then-sound (λ (_ : Name). Unit {0}) (IsConstraint s.relvars own own_relvar) (name_typed w) _ (any-given (name_typed w)) (λ name _.
       then-sound (λ g. IsBaseOf g (relvar_named with_own name)) (IsConstraint s.relvars own own_relvar) (heading_there s own heading w.place name) _ (there-base w.place name) (λ g is.
       then-sound (AreThere heading g [] words) (IsConstraint s.relvars own own_relvar) (positions_there heading g [] words) _ (there-from heading g words []) (λ there found. (
         is.0,
-        subst (λ (z : Heading). FitsHeadings heading z (Foreign acl key name there)) (sym is.1)
-            (foreign-fits acl key name there words g list kept at found),
+        subst (λ (z : Heading). FitsHeadings heading z (Foreign commalist key name there)) (sym is.1)
+            (foreign-fits commalist key name there words g list kept at found),
       ))))
     where
-      foreign-fits : (acl key : List ℕ) (name : Name) (there : List ℕ) (words : List Word) (g : Heading) → IsList heading acl → AreAmong key acl → AreAt heading [] words key → AreThere heading g [] words there
-          → FitsHeadings heading g (Foreign acl key name there)
-      foreign-fits acl key name there words g list kept at found =
+      foreign-fits : (commalist key : List ℕ) (name : Name) (there : List ℕ) (words : List Word) (g : Heading) → IsList heading commalist → AreAmong key commalist → AreAt heading [] words key → AreThere heading g [] words there
+          → FitsHeadings heading g (Foreign commalist key name there)
+      foreign-fits commalist key name there words g list kept at found =
           let here : AreDifferent heading (positions_at heading words) = subst (AreDifferent heading) at.places at.different in
           let alike : AreAlike heading key g there = subst (λ (k : List ℕ). AreAlike heading k g there) (sym at.places)
           (subst (λ (k : List ℕ). AreAlike heading (positions_at heading words) g k) (sym found.places) (are-alike heading g words found.alike)) in
@@ -133,7 +133,7 @@ module _ (s : State) (own : Name) (heading : Heading) (others : List Constraint)
   IsNamed words names = names ≡ names_of_words words
 
   abbrev IsListOf : List Word → List ℕ → Type 0
-  IsListOf words acl = IsList heading acl × (acl ≡ positions_of heading (names_of_words words))
+  IsListOf words commalist = IsList heading commalist × (commalist ≡ positions_of heading (names_of_words words))
 
   checked-names : (at : Place) (words : List Word) → IfOk (list_checked heading heading (syntax.NameList at words)) (IsNamed words)
   checked-names at words =
@@ -151,7 +151,7 @@ module _ (s : State) (own : Name) (heading : Heading) (others : List Constraint)
 
   listed-fits : (list : NameListP) (brace : Place) (words : List Word) → IfOk (listed_key heading list (syntax.Names brace words)) (IsListed words)
   listed-fits list brace words =
-      then-sound (IsListOf (words_of list)) (IsListed words) (list_typed heading list) _ (listed-positions list) (λ acl is.
+      then-sound (IsListOf (words_of list)) (IsListed words) (list_typed heading list) _ (listed-positions list) (λ commalist is.
       then-sound (AreAt heading [] words) (IsListed words) (names_typed heading (syntax.Names brace words)) _ (key-at heading words) (λ key at.
       then-sound (λ (_ : Unit {0}). AreAmong key (positions_of heading (names_of_words (words_of list)))) (IsListed words) (kept_by heading key (words_of list)) _ (kept-among heading key (words_of list)) (λ _ kept.
       (is.0, subst (AreAmong key) (sym is.1) kept, at))))
@@ -163,7 +163,7 @@ module _ (s : State) (own : Name) (heading : Heading) (others : List Constraint)
       then-sound (AreAt heading [] words) (IsConstraint s.relvars own own_relvar) (names_typed heading (syntax.Names brace words)) _ (key-at heading words) (λ key here.
       reference-fits [] key brace words w (no_list heading) refl here)
   constraint-fits (syntax.PackedOn at list) =
-      then-sound (IsListOf (words_of list)) (IsConstraint s.relvars own own_relvar) (list_typed heading list) _ (listed-positions list) (λ acl is. is.0)
+      then-sound (IsListOf (words_of list)) (IsConstraint s.relvars own own_relvar) (list_typed heading list) _ (listed-positions list) (λ commalist is. is.0)
   constraint-fits (syntax.WhenUnpacked at list (syntax.Key here (syntax.Names brace words))) =
       then-sound (IsListed words) (IsConstraint s.relvars own own_relvar) (listed_key heading list (syntax.Names brace words)) _ (listed-fits list brace words) (λ both is. (is.0, is.2.different, is.1))
   constraint-fits (syntax.UsingConstraint at list (syntax.UsedKey (syntax.Key here (syntax.Names brace words)))) =

@@ -99,9 +99,9 @@ module _ (sizes more : List ℕ) where
       (tree-more headings t is.0, record { made = is.1.made; makes = makes-more _ sets is.1.made is.1.makes; headed = is.1.headed })
   tree-more headings (summarize place h by aggregates t) is =
       (tree-more headings t is.0, record { positions = is.1.positions; made = is.1.made; makes = sums-more _ aggregates is.1.made is.1.makes; headed = is.1.headed })
-  tree-more headings (pack place h acl t) is = (tree-more headings t is.0, is.1, is.2)
-  tree-more headings (unpack place h acl t) is = (tree-more headings t is.0, is.1, is.2)
-  tree-more headings (using place h acl t) is = (tree-more headings t is.0, is.1, is.2, is.3)
+  tree-more headings (pack place h commalist t) is = (tree-more headings t is.0, is.1, is.2)
+  tree-more headings (unpack place h commalist t) is = (tree-more headings t is.0, is.1, is.2)
+  tree-more headings (using place h commalist t) is = (tree-more headings t is.0, is.1, is.2, is.3)
 
   -- ---- relvars and views
 

@@ -57,11 +57,11 @@ positions_there heading there before (w ∷ rest) = do
 
 -- the foreign key of these positions: E10 and E20 at the referenced name, and then the K names over the referenced heading
 abbrev pub reference_typed : State → Name → Heading → List ℕ → List ℕ → NamesP → Word → OrFault Constraint
-reference_typed s own heading acl key names w = do
+reference_typed s own heading commalist key names w = do
   name ← name_typed w
   there ← heading_there s own heading w.place name
   positions ← positions_there heading there [] (key_words names)
-  Ok (Foreign acl key name positions)
+  Ok (Foreign commalist key name positions)
 
 abbrev pub foreign_typed : State → Name → Heading → ForeignP → OrFault Constraint
 foreign_typed s own heading (syntax.Foreign at names w) = do
@@ -93,15 +93,15 @@ kept_by heading key (w ∷ rest) = do
 -- the list and K, which has all that is listed
 abbrev pub listed_key : Heading → NameListP → NamesP → OrFault (List ℕ × List ℕ)
 listed_key heading list names = do
-  acl ← list_typed heading list
+  commalist ← list_typed heading list
   key ← names_typed heading names
   kept ← kept_by heading key (words_of list)
-  Ok (acl, key)
+  Ok (commalist, key)
 
 abbrev pub packed_typed : Heading → NameListP → OrFault Constraint
 packed_typed heading list = do
-  acl ← list_typed heading list
-  Ok (Packed acl)
+  commalist ← list_typed heading list
+  Ok (Packed commalist)
 
 abbrev pub unpacked_typed : Heading → NameListP → KeyP → OrFault Constraint
 unpacked_typed heading list (syntax.Key at names) = do

@@ -25,17 +25,17 @@ names_in name (rename place h names t) = names_in name t
 names_in name (restrict place h c t) = names_in name t
 names_in name (extend place h sets t) = names_in name t
 names_in name (summarize place h by aggregates t) = names_in name t
-names_in name (pack place h acl t) = names_in name t
-names_in name (unpack place h acl t) = names_in name t
-names_in name (using place h acl t) = names_in name t
+names_in name (pack place h commalist t) = names_in name t
+names_in name (unpack place h commalist t) = names_in name t
+names_in name (using place h commalist t) = names_in name t
 
 -- whether the constraint names the relvar
 abbrev pub references : Name → Constraint → Bool
 references name (Key k) = false
-references name (Packed acl) = false
-references name (WhenUnpacked acl k) = false
-references name (UKey acl k) = false
-references name (Foreign acl k other there) = bytes_eq name other
+references name (Packed commalist) = false
+references name (WhenUnpacked commalist k) = false
+references name (UKey commalist k) = false
+references name (Foreign commalist k other there) = bytes_eq name other
 references name (History rule) = bytes_eq name rule.since
 
 -- whether a view's expression or a relvar's constraint names it

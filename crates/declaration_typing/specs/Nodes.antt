@@ -18,9 +18,9 @@ count known (rename place h names t) = count known t + 1
 count known (restrict place h c t) = count known t + 1
 count known (extend place h sets t) = count known t + 1
 count known (summarize place h by aggregates t) = count known t + 1
-count known (pack place h acl t) = count known t + 1
-count known (unpack place h acl t) = count known t + 1
-count known (using place h acl t) = count known t + 1
+count known (pack place h commalist t) = count known t + 1
+count known (unpack place h commalist t) = count known t + 1
+count known (using place h commalist t) = count known t + 1
 
 -- a relvar's name counts for one node, and a view's name for as many as its expression has
 abbrev pub relvar_count : List (Name × ℕ) → PlainRelvar → ℕ

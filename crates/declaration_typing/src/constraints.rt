@@ -26,8 +26,8 @@ fn key_typed(alloc: Global, heading: &Heading, key: &Key) -> Result<Constraint, 
 fn packed_typed(alloc: Global, heading: &Heading, list: &NameList) -> Result<Constraint, Stop>
     ensures { Gives (λ c. c) result (rules.packed_typed heading.now (read_list list.now)) }
 {
-    let acl = list_typed(alloc, heading, list)?;
-    Ok(Constraint::Packed(acl))
+    let commalist = list_typed(alloc, heading, list)?;
+    Ok(Constraint::Packed(commalist))
 }
 
 /// WHEN UNPACKED ON.
@@ -39,8 +39,8 @@ fn unpacked_typed(
 ) -> Result<Constraint, Stop>
     ensures { Gives (λ c. c) result (rules.unpacked_typed heading.now (read_list list.now) (read_key key.now)) }
 {
-    let (acl, positions) = listed_key(alloc, heading, list, &key.names)?;
-    Ok(Constraint::WhenUnpacked(acl, positions))
+    let (commalist, positions) = listed_key(alloc, heading, list, &key.names)?;
+    Ok(Constraint::WhenUnpacked(commalist, positions))
 }
 
 /// KEY under USING.
@@ -52,8 +52,8 @@ fn used_key_typed(
 ) -> Result<Constraint, Stop>
     ensures { Gives (λ c. c) result (rules.used_key_typed heading.now (read_list list.now) (read_key key.now)) }
 {
-    let (acl, positions) = listed_key(alloc, heading, list, &key.names)?;
-    Ok(Constraint::UKey(acl, positions))
+    let (commalist, positions) = listed_key(alloc, heading, list, &key.names)?;
+    Ok(Constraint::UKey(commalist, positions))
 }
 
 /// FOREIGN KEY under USING.
@@ -67,13 +67,13 @@ fn used_foreign_typed(
 ) -> Result<Constraint, Stop>
     ensures { Gives (λ c. c) result (rules.used_foreign_typed (read_relvars relvars.now) own.now heading.now (read_list list.now) (read_foreign foreign.now)) }
 {
-    let (acl, key) = listed_key(alloc, heading, list, &foreign.names)?;
+    let (commalist, key) = listed_key(alloc, heading, list, &foreign.names)?;
     reference_typed(
         alloc,
         relvars,
         own,
         heading,
-        acl,
+        commalist,
         key,
         &foreign.names,
         &foreign.relvar,

@@ -44,12 +44,12 @@ pub(crate) fn listed_key(
 ) -> Result<(Positions, Positions), Stop>
     ensures { Gives (λ both. both) result (rules.listed_key heading.now (read_list list.now) (read_names names.now)) }
 {
-    let acl = list_typed(alloc, heading, list)?;
+    let commalist = list_typed(alloc, heading, list)?;
     let key = names_typed(alloc, heading, names)?;
     kept_by(
         heading.attributes(),
         key.list.as_slice(),
         list.names.list.as_slice(),
     )?;
-    Ok((acl, key))
+    Ok((commalist, key))
 }

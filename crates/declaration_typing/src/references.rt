@@ -116,18 +116,18 @@ pub(crate) fn reference_typed(
     relvars: &Relvars,
     own: &Name,
     heading: &Heading,
-    acl: Positions,
+    commalist: Positions,
     key: Positions,
     names: &Names,
     word: &Word,
 ) -> Result<Constraint, Stop>
-    ensures { Gives (λ c. c) result (rules.reference_typed (read_relvars relvars.now) own.now heading.now acl key (read_names names.now) (read_name word.now)) }
+    ensures { Gives (λ c. c) result (rules.reference_typed (read_relvars relvars.now) own.now heading.now commalist key (read_names names.now) (read_name word.now)) }
 {
     let name = name_typed(alloc, word)?;
     let there = heading_there(relvars, own, heading, word.place, &name)?;
     let words = names.names.list.as_slice();
     let list = positions_there(alloc, heading.attributes(), there.attributes(), words)?;
-    Ok(Constraint::Foreign(acl, key, name, Positions { list }))
+    Ok(Constraint::Foreign(commalist, key, name, Positions { list }))
 }
 
 /// FOREIGN KEY.
@@ -141,7 +141,7 @@ pub(crate) fn foreign_typed(
     ensures { Gives (λ c. c) result (rules.foreign_typed (read_relvars relvars.now) own.now heading.now (read_foreign foreign.now)) }
 {
     let key = names_typed(alloc, heading, &foreign.names)?;
-    let acl = Positions {
+    let commalist = Positions {
         list: Vec::new(alloc),
     };
     reference_typed(
@@ -149,7 +149,7 @@ pub(crate) fn foreign_typed(
         relvars,
         own,
         heading,
-        acl,
+        commalist,
         key,
         &foreign.names,
         &foreign.relvar,

@@ -22,7 +22,7 @@ use Rattle.node_typing.specs.Rows.{condition_typed}
 use Rattle.node_typing.specs.Sweeps.{none_assigned, swept, sets_swept}
 
 abbrev pub change : Option (List ℕ) → Option PlainPortion → Option Expr → PlainChange
-change acl portion condition = record { acl = acl; portion = portion; condition = condition }
+change commalist portion condition = record { commalist = commalist; portion = portion; condition = condition }
 
 -- ---- conditions
 
@@ -78,15 +78,15 @@ names_if (OfPortion at elements) = Some (portion_names elements)
 
 -- E18 at the first name in the condition that is in no atom
 abbrev pub condition_swept : List ℕ → Option Expr → OrFault (Unit {0})
-condition_swept acl None = Ok tt
-condition_swept acl (Some c) = swept acl c
+condition_swept commalist None = Ok tt
+condition_swept commalist (Some c) = swept commalist c
 
 -- E19 at the first item that assigns one of the named attributes, then E18
 abbrev pub points_swept : List Name → List ℕ → Option Expr → List SetItemP → PlainSets → OrFault (Unit {0})
-points_swept names acl c items sets = do
+points_swept names commalist c items sets = do
   none ← none_assigned names items
-  condition ← condition_swept acl c
-  sets_swept acl sets
+  condition ← condition_swept commalist c
+  sets_swept commalist sets
 
 -- asked where attributes are named by USING or a portion
 abbrev pub works_at_points : Heading → Option (List Name) → Option Expr → List SetItemP → PlainSets → OrFault (Unit {0})

@@ -35,12 +35,12 @@ pub(crate) fn condition_if(
 }
 
 /// The refusal of a condition that is not sweepable.
-pub(crate) fn condition_swept(acl: &[usize], condition: &Option<Scalar>) -> Result<(), Stop>
-    ensures { Gives (λ _. tt) result (rules.condition_swept acl.now (option_map read condition.now)) }
+pub(crate) fn condition_swept(commalist: &[usize], condition: &Option<Scalar>) -> Result<(), Stop>
+    ensures { Gives (λ _. tt) result (rules.condition_swept commalist.now (option_map read condition.now)) }
 {
     match condition {
         None => Ok(()),
-        Some(c) => swept(acl, c),
+        Some(c) => swept(commalist, c),
     }
 }
 
@@ -49,18 +49,18 @@ pub(crate) fn of_rows(condition: Option<Scalar>) -> Change
     ensures { read_change result ≡ rules.change None None (option_map read condition) }
 {
     Change {
-        acl: None,
+        commalist: None,
         portion: None,
         condition,
     }
 }
 
 /// A change, under USING of the listed attributes, of the points that meet the condition.
-pub(crate) fn of_points(acl: Positions, condition: Option<Scalar>) -> Change
-    ensures { read_change result ≡ rules.change (Some acl) None (option_map read condition) }
+pub(crate) fn of_points(commalist: Positions, condition: Option<Scalar>) -> Change
+    ensures { read_change result ≡ rules.change (Some commalist) None (option_map read condition) }
 {
     Change {
-        acl: Some(acl),
+        commalist: Some(commalist),
         portion: None,
         condition,
     }
@@ -71,7 +71,7 @@ pub(crate) fn of_portion(portion: Portion, condition: Option<Scalar>) -> Change
     ensures { read_change result ≡ rules.change None (Some (read_portion portion)) (option_map read condition) }
 {
     Change {
-        acl: None,
+        commalist: None,
         portion: Some(portion),
         condition,
     }

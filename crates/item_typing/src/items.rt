@@ -167,7 +167,7 @@ fn type_used_insertion(
     let target = target_typed(alloc, word, relvars)?;
     let t = rows_typed(alloc, word, &target.heading, rel, relvars)?;
     match listed(alloc, &target.heading, &t.heading, list) {
-        Ok(acl) => Ok(item_of(place, target, ItemForm::Insert(Some(acl), t))),
+        Ok(commalist) => Ok(item_of(place, target, ItemForm::Insert(Some(commalist), t))),
         Err(stop) => {
             drop(t);
             Err(stop)

@@ -44,9 +44,9 @@ fn portion_swept(
         (item_list (read_sets sets.now)) (trees.read_sets made.now)) }
 {
     none_portioned(elements, &sets.first, sets.more.list.as_slice())?;
-    let acl = portion_positions(alloc, heading, elements)?;
-    condition_swept(acl.list.as_slice(), condition)?;
-    sets_swept(acl.list.as_slice(), made.list.as_slice())
+    let commalist = portion_positions(alloc, heading, elements)?;
+    condition_swept(commalist.list.as_slice(), condition)?;
+    sets_swept(commalist.list.as_slice(), made.list.as_slice())
 }
 
 /// The points that a DELETE with a portion takes away.
@@ -62,8 +62,8 @@ pub(crate) fn portion_deleted(
 {
     let portion = portion_typed(alloc, &relvars.ordinals, heading, elements)?;
     let c = condition_if(alloc, &relvars.ordinals, heading, condition)?;
-    let acl = portion_positions(alloc, heading, elements)?;
-    match condition_swept(acl.list.as_slice(), &c) {
+    let commalist = portion_positions(alloc, heading, elements)?;
+    match condition_swept(commalist.list.as_slice(), &c) {
         Ok(()) => Ok(ItemForm::DeleteRows(of_portion(portion, c))),
         Err(stop) => {
             drop(portion);
@@ -104,12 +104,12 @@ pub(crate) fn portion_updated(
 /// What USING asks of an UPDATE: no item assigns a listed attribute, and the condition and the items are sweepable for them.
 fn list_swept(
     list: &NameList,
-    acl: &[usize],
+    commalist: &[usize],
     condition: &Option<Scalar>,
     sets: &Sets,
     made: &tree::Sets,
 ) -> Result<(), Stop>
-    ensures { Gives (λ _. tt) result (changes.points_swept (listed_names (read_list list.now)) acl.now (option_map read condition.now)
+    ensures { Gives (λ _. tt) result (changes.points_swept (listed_names (read_list list.now)) commalist.now (option_map read condition.now)
         (item_list (read_sets sets.now)) (trees.read_sets made.now)) }
 {
     none_assigned(
@@ -117,8 +117,8 @@ fn list_swept(
         &sets.first,
         sets.more.list.as_slice(),
     )?;
-    condition_swept(acl, condition)?;
-    sets_swept(acl, made.list.as_slice())
+    condition_swept(commalist, condition)?;
+    sets_swept(commalist, made.list.as_slice())
 }
 
 /// The rows of a DELETE under USING: the expression, and then the list.
@@ -135,7 +135,7 @@ fn used_rows(
 {
     let t = rows_typed(alloc, word, heading, rel, relvars)?;
     match listed(alloc, heading, &t.heading, list) {
-        Ok(acl) => Ok(ItemForm::Delete(Some(acl), t)),
+        Ok(commalist) => Ok(ItemForm::Delete(Some(commalist), t)),
         Err(stop) => {
             drop(t);
             Err(stop)
@@ -157,10 +157,10 @@ pub(crate) fn used_deletion(
 {
     match deletion {
         UsedDeletion::Where(place, scalar) => {
-            let acl = listed(alloc, heading, heading, list)?;
+            let commalist = listed(alloc, heading, heading, list)?;
             let c = condition_typed(alloc, &relvars.ordinals, *place, heading, scalar)?;
-            match swept(acl.list.as_slice(), &c) {
-                Ok(()) => Ok(ItemForm::DeleteRows(of_points(acl, Some(c)))),
+            match swept(commalist.list.as_slice(), &c) {
+                Ok(()) => Ok(ItemForm::DeleteRows(of_points(commalist, Some(c)))),
                 Err(stop) => {
                     drop(c);
                     Err(stop)
@@ -183,11 +183,11 @@ pub(crate) fn used_update(
     requires { AreOrdinals (read_relvars relvars.now).ordinals }
     ensures { Gives typed.read_item_form result (rules.used_update_typed (read_relvars relvars.now) heading.now (read_list list.now) (read_condition condition.now) (read_sets sets.now)) }
 {
-    let acl = listed(alloc, heading, heading, list)?;
+    let commalist = listed(alloc, heading, heading, list)?;
     let c = condition_if(alloc, &relvars.ordinals, heading, condition)?;
     let made = sets_made(alloc, &relvars.ordinals, heading, sets)?;
-    match list_swept(list, acl.list.as_slice(), &c, sets, &made) {
-        Ok(()) => Ok(ItemForm::Update(of_points(acl, c), made)),
+    match list_swept(list, commalist.list.as_slice(), &c, sets, &made) {
+        Ok(()) => Ok(ItemForm::Update(of_points(commalist, c), made)),
         Err(stop) => {
             drop(c);
             drop(made);

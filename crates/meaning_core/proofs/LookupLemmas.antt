@@ -37,9 +37,9 @@ heading_of_form place h (Rename' names p at g form) = refl
 heading_of_form place h (Restrict' c p at g form) = refl
 heading_of_form place h (Extend' sets p at g form) = refl
 heading_of_form place h (Summarize' by aggregates p at g form) = refl
-heading_of_form place h (Pack' acl p at g form) = refl
-heading_of_form place h (Unpack' acl p at g form) = refl
-heading_of_form place h (Using' acl p at g form) = refl
+heading_of_form place h (Pack' commalist p at g form) = refl
+heading_of_form place h (Unpack' commalist p at g form) = refl
+heading_of_form place h (Using' commalist p at g form) = refl
 
 pub under_ok : (h : Heading) (m : RowsMeant) (a : Relation) → under h m ≡ Ok a → (m ≡ Ok a.rows) × (h ≡ a.heading)
 under_ok h (Ok rows) a e =

@@ -83,15 +83,15 @@ FitsNamed-bare : (entries : Entries) (h : Heading) (name : Name) (c : Constraint
 FitsNamed-bare entries h name c = λ i. is_base-bare entries name i × FitsHeadings h (heading_named-bare entries name i) c
 
 IsConstraint-bare : (before : Entries) (own : Name) (r : PlainRelvar) (c : Constraint) → IsConstraint (bare_all before) own (bare r) c ≡ IsConstraint before own r c
-IsConstraint-bare before own r (Foreign acl k name there) =
-    ap₂ (λ (es : Entries) (h : Heading). FitsNamed es h name (Foreign acl k name there)) (sym (map-append bare_entry before ((own, r) ∷ []))) (heading-bare r)
-    ∙ FitsNamed-bare (before ++ (own, r) ∷ []) (relvar_heading r) name (Foreign acl k name there)
+IsConstraint-bare before own r (Foreign commalist k name there) =
+    ap₂ (λ (es : Entries) (h : Heading). FitsNamed es h name (Foreign commalist k name there)) (sym (map-append bare_entry before ((own, r) ∷ []))) (heading-bare r)
+    ∙ FitsNamed-bare (before ++ (own, r) ∷ []) (relvar_heading r) name (Foreign commalist k name there)
 IsConstraint-bare before own r (History rule) =
     ap (λ (h : Heading). FitsNamed (bare_all before) h rule.since (History rule)) (heading-bare r) ∙ FitsNamed-bare before (relvar_heading r) rule.since (History rule)
 IsConstraint-bare before own r (Key k) = ap (λ (h : Heading). FitsHeadings h [] (Key k)) (heading-bare r)
-IsConstraint-bare before own r (Packed acl) = ap (λ (h : Heading). FitsHeadings h [] (Packed acl)) (heading-bare r)
-IsConstraint-bare before own r (WhenUnpacked acl k) = ap (λ (h : Heading). FitsHeadings h [] (WhenUnpacked acl k)) (heading-bare r)
-IsConstraint-bare before own r (UKey acl k) = ap (λ (h : Heading). FitsHeadings h [] (UKey acl k)) (heading-bare r)
+IsConstraint-bare before own r (Packed commalist) = ap (λ (h : Heading). FitsHeadings h [] (Packed commalist)) (heading-bare r)
+IsConstraint-bare before own r (WhenUnpacked commalist k) = ap (λ (h : Heading). FitsHeadings h [] (WhenUnpacked commalist k)) (heading-bare r)
+IsConstraint-bare before own r (UKey commalist k) = ap (λ (h : Heading). FitsHeadings h [] (UKey commalist k)) (heading-bare r)
 
 -- a view is what a rule makes it, of relvars of these headings
 abbrev IsMade : Name → Name → Tree → HistoryRule → Heading → Heading → Type 0

@@ -116,9 +116,9 @@ meaning known around (summarize place heading by aggregates t) =
     then_give (meaning known plainly t) (λ a.
     let rows = opened around (heading_of t) a in
     then_give (summarized by (λ numbers. group_row (heading_of t) heading aggregates (rows_at rows numbers)) rows) (closed around place heading))
-meaning known around (pack place heading acl t) = then_give (meaning known plainly t) (λ a. limited place (packed acl a))
-meaning known around (unpack place heading acl t) = then_give (meaning known plainly t) (λ a. limited place (unpacked acl a))
-meaning known around (using place heading acl t) = meaning known (in_using place (names_at (heading_of t) acl)) t
+meaning known around (pack place heading commalist t) = then_give (meaning known plainly t) (λ a. limited place (packed commalist a))
+meaning known around (unpack place heading commalist t) = then_give (meaning known plainly t) (λ a. limited place (unpacked commalist a))
+meaning known around (using place heading commalist t) = meaning known (in_using place (names_at (heading_of t) commalist)) t
 
 -- ---- in a state
 

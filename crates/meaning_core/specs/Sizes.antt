@@ -15,9 +15,9 @@ nodes (rename place h names t) = nodes t + 1
 nodes (restrict place h c t) = nodes t + 1
 nodes (extend place h sets t) = nodes t + 1
 nodes (summarize place h by aggregates t) = nodes t + 1
-nodes (pack place h acl t) = nodes t + 1
-nodes (unpack place h acl t) = nodes t + 1
-nodes (using place h acl t) = nodes t + 1
+nodes (pack place h commalist t) = nodes t + 1
+nodes (unpack place h commalist t) = nodes t + 1
+nodes (using place h commalist t) = nodes t + 1
 
 abbrev pub relvar_nodes : PlainRelvar → ℕ
 relvar_nodes (base value constraints) = 0

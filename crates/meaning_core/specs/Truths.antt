@@ -32,12 +32,12 @@ no_rows (x ∷ xs) = false
 -- the rows that are compared: unpacked under USING
 abbrev pub compared_rows : Option (List ℕ) → List Row → List Row
 compared_rows None rows = rows
-compared_rows (Some acl) rows = unpacked acl rows
+compared_rows (Some commalist) rows = unpacked commalist rows
 
 -- the truth of a test, both operands left to right, the first fault counting
 abbrev pub truth_of : Known → Test → OrFault Bool
-truth_of known (relate place word acl l r) =
-    both (meaning known plainly l) (meaning known plainly r) (λ a b. Ok (related_rows word (compared_rows acl a) (compared_rows acl b)))
+truth_of known (relate place word commalist l r) =
+    both (meaning known plainly l) (meaning known plainly r) (λ a b. Ok (related_rows word (compared_rows commalist a) (compared_rows commalist b)))
 truth_of known (is_empty place t) = then_give (meaning known plainly t) (λ a. Ok (no_rows a))
 truth_of known (is_not_empty place t) = then_give (meaning known plainly t) (λ a. Ok (not (no_rows a)))
 

@@ -149,11 +149,11 @@ is_span (Span t) = true
 is_span _ = false
 
 -- different positions of interval attributes, and few enough
-pub record IsList (heading : Heading) (acl : List ℕ) : Type 0 where
-  pub within : All (λ (i : ℕ). i < length heading) acl
-  pub different : IsDistinct nat_eq acl
-  pub spans : IsTrue (list_all (λ i. is_span (kind_at heading i)) acl)
-  pub few : length acl ≤ most_listed
+pub record IsList (heading : Heading) (commalist : List ℕ) : Type 0 where
+  pub within : All (λ (i : ℕ). i < length heading) commalist
+  pub different : IsDistinct nat_eq commalist
+  pub spans : IsTrue (list_all (λ i. is_span (kind_at heading i)) commalist)
+  pub few : length commalist ≤ most_listed
 
 -- the attribute of the name has the same kind in both
 abbrev pub is_alike_at : Heading → Heading → Name → Bool
@@ -163,13 +163,13 @@ abbrev pub are_in : Heading → List Name → Heading → Bool
 are_in h names g = list_all (is_alike_at h g) names
 
 abbrev pub is_swept : List ℕ → Expr → Bool
-is_swept acl e = is_none (sweep_fault acl e)
+is_swept commalist e = is_none (sweep_fault commalist e)
 
 abbrev pub names_none : List ℕ → PlainAggregateForm → Bool
-names_none acl count_rows = true
-names_none acl (sum_of e) = not (names_any acl e)
-names_none acl (min_of e) = not (names_any acl e)
-names_none acl (max_of e) = not (names_any acl e)
+names_none commalist count_rows = true
+names_none commalist (sum_of e) = not (names_any commalist e)
+names_none commalist (min_of e) = not (names_any commalist e)
+names_none commalist (max_of e) = not (names_any commalist e)
 
 -- the part of a USING: an operator that keeps the attributes and works point by point
 abbrev pub is_part : List Name → Tree → Bool
@@ -206,19 +206,19 @@ IsTypedTree sizes headings (restrict place h c t) = IsTypedTree sizes headings t
 IsTypedTree sizes headings (extend place h sets t) = IsTypedTree sizes headings t × IsExtension sizes (heading_of t) h sets
 IsTypedTree sizes headings (summarize place h by aggregates t) =
     IsTypedTree sizes headings t × IsSummary sizes (heading_of t) h by aggregates
-IsTypedTree sizes headings (pack place h acl t) = IsTypedTree sizes headings t × IsList h acl × (h ≡ heading_of t)
-IsTypedTree sizes headings (unpack place h acl t) = IsTypedTree sizes headings t × IsList h acl × (h ≡ heading_of t)
-IsTypedTree sizes headings (using place h acl t) =
-    IsTypedTree sizes headings t × IsList h acl × (h ≡ heading_of t) × IsTrue (is_part (names_at h acl) t)
+IsTypedTree sizes headings (pack place h commalist t) = IsTypedTree sizes headings t × IsList h commalist × (h ≡ heading_of t)
+IsTypedTree sizes headings (unpack place h commalist t) = IsTypedTree sizes headings t × IsList h commalist × (h ≡ heading_of t)
+IsTypedTree sizes headings (using place h commalist t) =
+    IsTypedTree sizes headings t × IsList h commalist × (h ≡ heading_of t) × IsTrue (is_part (names_at h commalist) t)
 
 -- ---- tests
 
 abbrev pub IsListIf : Heading → Option (List ℕ) → Type 0
 IsListIf h None = Unit {0}
-IsListIf h (Some acl) = IsList h acl
+IsListIf h (Some commalist) = IsList h commalist
 
 abbrev pub IsTypedTest : List ℕ → Headings → Test → Type 0
-IsTypedTest sizes headings (relate place word acl l r) =
-    IsTypedTree sizes headings l × IsTypedTree sizes headings r × (heading_of l ≡ heading_of r) × IsListIf (heading_of l) acl
+IsTypedTest sizes headings (relate place word commalist l r) =
+    IsTypedTree sizes headings l × IsTypedTree sizes headings r × (heading_of l ≡ heading_of r) × IsListIf (heading_of l) commalist
 IsTypedTest sizes headings (is_empty place t) = IsTypedTree sizes headings t
 IsTypedTest sizes headings (is_not_empty place t) = IsTypedTree sizes headings t

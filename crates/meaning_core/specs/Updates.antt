@@ -26,8 +26,8 @@ attributes_of_portion portion = map (λ p. p.0) portion
 
 -- the attributes on which a change works point by point: those of the portion, or those of USING
 abbrev pub swept_list : Option (List ℕ) → Option PlainPortion → Option (List ℕ)
-swept_list acl None = acl
-swept_list acl (Some portion) = Some (attributes_of_portion portion)
+swept_list commalist None = commalist
+swept_list commalist (Some portion) = Some (attributes_of_portion portion)
 
 -- an interval of the attribute's type, which names no attribute
 abbrev pub IsPart : List ℕ → Heading → ℕ × Expr → Type 0
@@ -35,10 +35,10 @@ IsPart sizes heading p = IsTrue (is_span (kind_at heading p.0)) × IsScalar size
 
 -- a portion stands beside no USING, and is not empty
 abbrev pub IsPortionIf : List ℕ → Heading → Option (List ℕ) → Option PlainPortion → Type 0
-IsPortionIf sizes heading acl None = Unit {0}
+IsPortionIf sizes heading commalist None = Unit {0}
 IsPortionIf sizes heading None (Some []) = ⊥
 IsPortionIf sizes heading None (Some (p ∷ portion)) = IsList heading (attributes_of_portion (p ∷ portion)) × All (IsPart sizes heading) (p ∷ portion)
-IsPortionIf sizes heading (Some acl) (Some portion) = ⊥
+IsPortionIf sizes heading (Some commalist) (Some portion) = ⊥
 
 abbrev pub IsConditionIf : List ℕ → Heading → Option Expr → Type 0
 IsConditionIf sizes heading None = Unit {0}
@@ -47,23 +47,23 @@ IsConditionIf sizes heading (Some c) = IsScalar sizes heading c Truth
 -- the expression is sweepable for the attributes of the list, if there is one
 abbrev pub is_swept_if : Option (List ℕ) → Expr → Bool
 is_swept_if None e = true
-is_swept_if (Some acl) e = is_swept acl e
+is_swept_if (Some commalist) e = is_swept commalist e
 
 abbrev pub condition_is_swept : Option (List ℕ) → Option Expr → Bool
-condition_is_swept acl None = true
-condition_is_swept acl (Some c) = is_swept_if acl c
+condition_is_swept commalist None = true
+condition_is_swept commalist (Some c) = is_swept_if commalist c
 
 pub record IsChange (sizes : List ℕ) (heading : Heading) (c : PlainChange) : Type 0 where
-  pub acl : IsListIf heading c.acl
-  pub portion : IsPortionIf sizes heading c.acl c.portion
+  pub commalist : IsListIf heading c.commalist
+  pub portion : IsPortionIf sizes heading c.commalist c.portion
   pub condition : IsConditionIf sizes heading c.condition
-  pub swept : IsTrue (condition_is_swept (swept_list c.acl c.portion) c.condition)
+  pub swept : IsTrue (condition_is_swept (swept_list c.commalist c.portion) c.condition)
 
 -- each item of a change is sweepable, and none assigns an attribute of the list
 abbrev pub are_swept_sets : Heading → Option (List ℕ) → PlainSets → Bool
 are_swept_sets heading None sets = true
-are_swept_sets heading (Some acl) sets =
-    list_all (λ s. is_swept acl s.1) sets && not (list_any (λ s. among acl (position_of heading s.0)) sets)
+are_swept_sets heading (Some commalist) sets =
+    list_all (λ s. is_swept commalist s.1) sets && not (list_any (λ s. among commalist (position_of heading s.0)) sets)
 
 -- ---- items
 
@@ -82,12 +82,12 @@ IsEnding s (Some rule) (Some names) e c =
 -- the parts of an item are typed for its target, which is a base relvar; that of an ending is the view of a history
 abbrev pub IsTypedForm : State → Name → Heading → PlainItemForm → Type 0
 IsTypedForm s target heading (set_to t) = IsBaseOf s target heading × IsTypedFor s t × (heading_of t ≡ heading)
-IsTypedForm s target heading (insert acl t) = IsBaseOf s target heading × IsTypedFor s t × (heading_of t ≡ heading) × IsListIf heading acl
-IsTypedForm s target heading (delete acl t) = IsBaseOf s target heading × IsTypedFor s t × (heading_of t ≡ heading) × IsListIf heading acl
+IsTypedForm s target heading (insert commalist t) = IsBaseOf s target heading × IsTypedFor s t × (heading_of t ≡ heading) × IsListIf heading commalist
+IsTypedForm s target heading (delete commalist t) = IsBaseOf s target heading × IsTypedFor s t × (heading_of t ≡ heading) × IsListIf heading commalist
 IsTypedForm s target heading (delete_rows c) = IsBaseOf s target heading × IsChange (sizes_of s.ordinals) heading c
 IsTypedForm s target heading (update c sets) =
     IsBaseOf s target heading × IsChange (sizes_of s.ordinals) heading c × IsExtension (sizes_of s.ordinals) heading heading sets
-    × IsTrue (are_swept_sets heading (swept_list c.acl c.portion) sets)
+    × IsTrue (are_swept_sets heading (swept_list c.commalist c.portion) sets)
 IsTypedForm s target heading (terminate e place c) = IsEnding s (rule_of s.relvars target) (history_of s.relvars target) e c
 
 abbrev pub IsTypedItem : State → PlainItem → Type 0

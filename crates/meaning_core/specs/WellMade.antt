@@ -58,15 +58,15 @@ IsOver (Span t) k = k ≡ Point t
 
 -- the attributes that are unpacked are among those of the key
 abbrev pub AreAmong : List ℕ → List ℕ → Type 0
-AreAmong key acl = IsTrue (list_all (among key) acl)
+AreAmong key commalist = IsTrue (list_all (among key) commalist)
 
 -- the constraint fits the heading of its relvar, and that of the relvar that it names
 abbrev pub FitsHeadings : Heading → Heading → Constraint → Type 0
 FitsHeadings h g (Key k) = AreDifferent h k
-FitsHeadings h g (Packed acl) = IsList h acl
-FitsHeadings h g (WhenUnpacked acl k) = IsList h acl × AreDifferent h k × AreAmong k acl
-FitsHeadings h g (UKey acl k) = IsList h acl × AreDifferent h k × AreAmong k acl
-FitsHeadings h g (Foreign acl k name there) = IsList h acl × AreDifferent h k × AreAmong k acl × AreDifferent g there × AreAlike h k g there
+FitsHeadings h g (Packed commalist) = IsList h commalist
+FitsHeadings h g (WhenUnpacked commalist k) = IsList h commalist × AreDifferent h k × AreAmong k commalist
+FitsHeadings h g (UKey commalist k) = IsList h commalist × AreDifferent h k × AreAmong k commalist
+FitsHeadings h g (Foreign commalist k name there) = IsList h commalist × AreDifferent h k × AreAmong k commalist × AreDifferent g there × AreAlike h k g there
 FitsHeadings h g (History r) =
     AreDifferent h r.key_here × AreDifferent g r.key_there × AreAlike h r.key_here g r.key_there
     × AreDifferent h r.all_here × AreDifferent g r.all_there × AreAlike h r.all_here g r.all_there
@@ -84,8 +84,8 @@ FitsNamed entries h name c = IsBase (relvar_named entries name) × FitsHeadings 
 
 -- a foreign key names its own relvar or a base relvar before it, and a history's constraint a base relvar before its own
 abbrev pub IsConstraint : Entries → Name → PlainRelvar → Constraint → Type 0
-IsConstraint before own r (Foreign acl k name there) =
-    FitsNamed (before ++ (own, r) ∷ []) (relvar_heading r) name (Foreign acl k name there)
+IsConstraint before own r (Foreign commalist k name there) =
+    FitsNamed (before ++ (own, r) ∷ []) (relvar_heading r) name (Foreign commalist k name there)
 IsConstraint before own r (History rule) = FitsNamed before (relvar_heading r) rule.since (History rule)
 IsConstraint before own r c = FitsHeadings (relvar_heading r) [] c
 

@@ -65,8 +65,8 @@ summary_rule types place names aggregates t = do
 -- ---- PACK and UNPACK
 
 abbrev pub packed_by : PackWord → Place → Heading → List ℕ → Tree → Tree
-packed_by Pack place heading acl t = pack place heading acl t
-packed_by Unpack place heading acl t = unpack place heading acl t
+packed_by Pack place heading commalist t = pack place heading commalist t
+packed_by Unpack place heading commalist t = unpack place heading commalist t
 
 abbrev pub packing_rule : Place → PackWord → NameListP → Tree → OrFault Tree
 packing_rule place word list t = do
@@ -85,9 +85,9 @@ relation_named written.GreaterEqual = relation.GreaterEqual
 
 -- E13 at the comparison, which goes by the unpacked rows where attributes are given
 abbrev pub compared : Place → RelateWord → Option (List ℕ) → Tree → Tree → OrFault Test
-compared place word acl l r = do
+compared place word commalist l r = do
   same ← check place E13 (same_heading (heading_of l) (heading_of r))
-  Ok (relate place word acl l r)
+  Ok (relate place word commalist l r)
 
 abbrev pub comparison_rule : Place → RelateWord → Tree → Tree → OrFault Test
 comparison_rule place word l r = compared place word None l r

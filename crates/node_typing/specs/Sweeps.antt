@@ -40,27 +40,27 @@ refused_if code (Some place) = refused place code
 
 -- E18 at the first name that is in no atom
 abbrev pub swept : List ℕ → Expr → OrFault (Unit {0})
-swept acl e = refused_if E18 (sweep_fault acl e)
+swept commalist e = refused_if E18 (sweep_fault commalist e)
 
 -- of items in their order
 abbrev pub sets_swept : List ℕ → PlainSets → OrFault (Unit {0})
-sets_swept acl [] = Ok tt
-sets_swept acl (s ∷ rest) = do
-  item ← swept acl s.1
-  sets_swept acl rest
+sets_swept commalist [] = Ok tt
+sets_swept commalist (s ∷ rest) = do
+  item ← swept commalist s.1
+  sets_swept commalist rest
 
 -- E18 at the first name of a listed attribute
 abbrev pub names_no : List ℕ → Expr → OrFault (Unit {0})
-names_no acl e = refused_if E18 (first_place (named_places acl e))
+names_no commalist e = refused_if E18 (first_place (named_places commalist e))
 
 abbrev pub form_names_no : List ℕ → PlainAggregateForm → OrFault (Unit {0})
-form_names_no acl count_rows = Ok tt
-form_names_no acl (sum_of e) = names_no acl e
-form_names_no acl (min_of e) = names_no acl e
-form_names_no acl (max_of e) = names_no acl e
+form_names_no commalist count_rows = Ok tt
+form_names_no commalist (sum_of e) = names_no commalist e
+form_names_no commalist (min_of e) = names_no commalist e
+form_names_no commalist (max_of e) = names_no commalist e
 
 abbrev pub aggregates_name_no : List ℕ → List PlainAggregate → OrFault (Unit {0})
-aggregates_name_no acl [] = Ok tt
-aggregates_name_no acl (g ∷ rest) = do
-  item ← form_names_no acl g.form
-  aggregates_name_no acl rest
+aggregates_name_no commalist [] = Ok tt
+aggregates_name_no commalist (g ∷ rest) = do
+  item ← form_names_no commalist g.form
+  aggregates_name_no commalist rest

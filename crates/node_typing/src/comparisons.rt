@@ -32,15 +32,15 @@ pub fn relation_named(word: RelationComparison) -> RelateWord
 fn relation_test(
     place: Place,
     word: RelateWord,
-    acl: Option<Positions>,
+    commalist: Option<Positions>,
     left: RelTree,
     right: RelTree,
 ) -> RelTest
-    ensures { read_test result ≡ relate place word acl (read_tree left) (read_tree right) }
+    ensures { read_test result ≡ relate place word commalist (read_tree left) (read_tree right) }
 {
     RelTest {
         place,
-        form: TestForm::Relate(word, acl, left, right),
+        form: TestForm::Relate(word, commalist, left, right),
     }
 }
 
@@ -57,14 +57,14 @@ fn refused(stop: Stop, left: RelTree, right: RelTree) -> Result<RelTest, Stop>
 fn compared(
     place: Place,
     word: RelateWord,
-    acl: Option<Positions>,
+    commalist: Option<Positions>,
     left: RelTree,
     right: RelTree,
 ) -> Result<RelTest, Stop>
-    ensures { Gives read_test result (rules.compared place word acl (read_tree left) (read_tree right)) }
+    ensures { Gives read_test result (rules.compared place word commalist (read_tree left) (read_tree right)) }
 {
     if same_heading(heading(&left), heading(&right)) {
-        Ok(relation_test(place, word, acl, left, right))
+        Ok(relation_test(place, word, commalist, left, right))
     } else {
         let code = Code::E13;
         refused(Stop::Fault(Fault { place, code }), left, right)
@@ -95,7 +95,7 @@ pub fn type_using_comparison(
     ensures { Gives read_test result (rules.using_comparison_rule (read_list list.now) place word (read_tree left) (read_tree right)) }
 {
     match listed(alloc, heading(&left), heading(&right), list) {
-        Ok(acl) => compared(place, word, Some(acl), left, right),
+        Ok(commalist) => compared(place, word, Some(commalist), left, right),
         Err(stop) => refused(stop, left, right),
     }
 }

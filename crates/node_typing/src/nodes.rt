@@ -230,7 +230,7 @@ fn packing_typed(
 ) -> Result<RelTree, Stop>
     ensures { Gives read_tree result (rules.packing_rule place word (read_list list.now) (read_tree part.value)) }
 {
-    let acl = listed(alloc, heading(&part), heading(&part), list)?;
+    let commalist = listed(alloc, heading(&part), heading(&part), list)?;
     let to = heading(&part).copy(alloc)?;
-    Ok(trees::pack(place, to, word, acl, part))
+    Ok(trees::pack(place, to, word, commalist, part))
 }

@@ -65,40 +65,40 @@ fn refused_if(place: Option<Place>) -> Result<(), Stop>
 }
 
 /// The refusal of an expression that is not sweepable.
-pub fn swept(acl: &[usize], e: &Scalar) -> Result<(), Stop>
-    ensures { Gives (λ _. tt) result (rules.swept acl.now (read e.now)) }
+pub fn swept(commalist: &[usize], e: &Scalar) -> Result<(), Stop>
+    ensures { Gives (λ _. tt) result (rules.swept commalist.now (read e.now)) }
 {
-    refused_if(sweep_fault(e, acl))
+    refused_if(sweep_fault(e, commalist))
 }
 
 /// The refusal of the first item that is not sweepable.
-pub fn sets_swept(acl: &[usize], sets: &[(Name, Scalar)]) -> Result<(), Stop>
-    ensures { Gives (λ _. tt) result (rules.sets_swept acl.now (trees.read_sets sets.now)) }
+pub fn sets_swept(commalist: &[usize], sets: &[(Name, Scalar)]) -> Result<(), Stop>
+    ensures { Gives (λ _. tt) result (rules.sets_swept commalist.now (trees.read_sets sets.now)) }
 {
     for set in sets {
-        swept(acl, &set.1)?;
+        swept(commalist, &set.1)?;
     }
     Ok(())
 }
 
 /// The refusal of an aggregate that names a listed attribute.
-fn form_names_no(acl: &[usize], form: &AggregateForm) -> Result<(), Stop>
-    ensures { Gives (λ _. tt) result (rules.form_names_no acl.now (trees.read_aggregate_form form.now)) }
+fn form_names_no(commalist: &[usize], form: &AggregateForm) -> Result<(), Stop>
+    ensures { Gives (λ _. tt) result (rules.form_names_no commalist.now (trees.read_aggregate_form form.now)) }
 {
     match form {
         AggregateForm::Count => Ok(()),
-        AggregateForm::Sum(e) => refused_if(first_named(e, acl)),
-        AggregateForm::Min(e) => refused_if(first_named(e, acl)),
-        AggregateForm::Max(e) => refused_if(first_named(e, acl)),
+        AggregateForm::Sum(e) => refused_if(first_named(e, commalist)),
+        AggregateForm::Min(e) => refused_if(first_named(e, commalist)),
+        AggregateForm::Max(e) => refused_if(first_named(e, commalist)),
     }
 }
 
 /// The refusal of the first aggregate that names a listed attribute.
-pub(crate) fn aggregates_name_no(acl: &[usize], aggregates: &[Aggregate]) -> Result<(), Stop>
-    ensures { Gives (λ _. tt) result (rules.aggregates_name_no acl.now (map trees.read_aggregate aggregates.now)) }
+pub(crate) fn aggregates_name_no(commalist: &[usize], aggregates: &[Aggregate]) -> Result<(), Stop>
+    ensures { Gives (λ _. tt) result (rules.aggregates_name_no commalist.now (map trees.read_aggregate aggregates.now)) }
 {
     for aggregate in aggregates {
-        form_names_no(acl, &aggregate.form)?;
+        form_names_no(commalist, &aggregate.form)?;
     }
     Ok(())
 }

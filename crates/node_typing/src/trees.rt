@@ -48,14 +48,14 @@ pub(crate) fn pack(
     place: Place,
     heading: Heading,
     word: PackWord,
-    acl: Positions,
+    commalist: Positions,
     part: Box<RelTree>,
 ) -> RelTree
-    ensures { read_tree result ≡ nodes.packed_by word place heading acl (read_tree part.value) }
+    ensures { read_tree result ≡ nodes.packed_by word place heading commalist (read_tree part.value) }
 {
     match word {
-        PackWord::Pack => RelTree::pack(place, heading, acl, part),
-        PackWord::Unpack => RelTree::unpack(place, heading, acl, part),
+        PackWord::Pack => RelTree::pack(place, heading, commalist, part),
+        PackWord::Unpack => RelTree::unpack(place, heading, commalist, part),
     }
 }
 
@@ -76,7 +76,7 @@ pub(crate) fn used(
 fn using(alloc: Global, place: Place, list: &NameList, part: Box<RelTree>) -> Result<RelTree, Stop>
     ensures { Gives read_tree result (Ok (usings.used place (listed_names (read_list list.now)) (read_tree part.value))) }
 {
-    let acl = positions_of(alloc, heading(&part), list)?;
+    let commalist = positions_of(alloc, heading(&part), list)?;
     let heading = heading(&part).copy(alloc)?;
-    Ok(RelTree::using(place, heading, acl, part))
+    Ok(RelTree::using(place, heading, commalist, part))
 }

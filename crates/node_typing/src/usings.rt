@@ -115,9 +115,9 @@ fn restriction_used(
     ensures { Gives read_tree result (rules.using_restriction_rule types.now place (read_list list.now) at (read_scalar scalar.now) (read_tree of.value)) }
 {
     let to = heading(&of).copy(alloc)?;
-    let acl = listed(alloc, heading(&of), heading(&of), list)?;
+    let commalist = listed(alloc, heading(&of), heading(&of), list)?;
     let c = condition_typed(alloc, types, at, heading(&of), scalar)?;
-    match swept(acl.list.as_slice(), &c) {
+    match swept(commalist.list.as_slice(), &c) {
         Ok(()) => trees::used(alloc, place, list, RelTree::restrict(at, to, c, of)),
         Err(stop) => {
             drop(c);
@@ -156,11 +156,11 @@ fn extension_used(
     requires { AreOrdinals types.now }
     ensures { Gives read_tree result (rules.using_extension_rule types.now place (read_list list.now) at (read_sets sets.now) (read_tree of.value)) }
 {
-    let acl = listed(alloc, heading(&of), heading(&of), list)?;
+    let commalist = listed(alloc, heading(&of), heading(&of), list)?;
     let made = extension_made(alloc, types, at, heading(&of), sets)?;
     let words = list.names.list.as_slice();
     none_assigned(words, &sets.first, sets.more.list.as_slice())?;
-    sets_swept(acl.list.as_slice(), made.sets.list.as_slice())?;
+    sets_swept(commalist.list.as_slice(), made.sets.list.as_slice())?;
     let part = RelTree::extend(at, made.heading, made.sets, of);
     trees::used(alloc, place, list, part)
 }
@@ -198,11 +198,11 @@ fn summary_used(
     requires { AreOrdinals types.now }
     ensures { Gives read_tree result (rules.using_summary_rule types.now place (read_list list.now) at (read_names by.now) (read_aggregates aggregates.now) (read_tree of.value)) }
 {
-    let acl = listed(alloc, heading(&of), heading(&of), list)?;
+    let commalist = listed(alloc, heading(&of), heading(&of), list)?;
     let (positions, groups) = groups_typed(alloc, heading(&of), by)?;
     let made = aggregates_made(alloc, types, at, heading(&of), &groups, aggregates)?;
     all_kept(groups.attributes(), list.names.list.as_slice())?;
-    aggregates_name_no(acl.list.as_slice(), made.aggregates.list.as_slice())?;
+    aggregates_name_no(commalist.list.as_slice(), made.aggregates.list.as_slice())?;
     let part = RelTree::summarize(at, made.heading, positions, made.aggregates, of);
     trees::used(alloc, place, list, part)
 }

@@ -29,9 +29,9 @@ pub text_from_bytes : (text : List ℕ) (hundreds years month day : ℕ) → len
     → (slice_index_or text 8 0 ≡ 48 + day / 10) × (slice_index_or text 9 0 ≡ 48 + day % 10)
     → text ≡ date_text (100 * hundreds + years) month day
 text_from_bytes text hundreds years month day long small h y p m q d =
-    let front : (100 * hundreds + years) / 100 ≡ hundreds = omega arith in
+    let prefix : (100 * hundreds + years) / 100 ≡ hundreds = omega arith in
     let back : (100 * hundreds + years) % 100 ≡ years = omega arith in
-    rw (front, back) (ten text long ∙ rw (h.0, h.1, y.0, y.1, p, m.0, m.1, q, d.0, d.1) refl)
+    rw (prefix, back) (ten text long ∙ rw (h.0, h.1, y.0, y.1, p, m.0, m.1, q, d.0, d.1) refl)
 
 -- a text is that of one date
 pub parts_from_text : (year month day year' month' day' : ℕ) → IsCalendarDate year month day → IsCalendarDate year' month' day'

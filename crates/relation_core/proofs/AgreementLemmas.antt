@@ -98,9 +98,9 @@ pub keys_more : (wanted : Bool) (keys : List Row) (positions : List ℕ) (rows :
     → now ≡ before ++ (if kept then x ∷ [] else []) → now ≡ filter (λ z. as_wanted wanted (has row_cmp keys (part_of positions z))) (take (i + 1) rows)
 keys_more wanted keys positions rows i x key kept before now l is e f so_far more =
     let p : Row → Bool = λ z. as_wanted wanted (has row_cmp keys (part_of positions z)) in
-    let front : List Row = filter p (take i rows) in
+    let prefix : List Row = filter p (take i rows) in
     let tested : kept ≡ as_wanted wanted (has row_cmp keys (part_of positions x)) = f ∙ ap (λ k. as_wanted wanted (has row_cmp keys k)) e in
     more
     ∙ (ap (λ (b : List Row). b ++ (if kept then x ∷ [] else [])) so_far
-    ∙ (ap (λ k. front ++ (if k then x ∷ [] else [])) tested
-    ∙ (ap (λ z. front ++ (if p z then z ∷ [] else [])) is ∙ sym (filter_more p rows i x l))))
+    ∙ (ap (λ k. prefix ++ (if k then x ∷ [] else [])) tested
+    ∙ (ap (λ z. prefix ++ (if p z then z ∷ [] else [])) is ∙ sym (filter_more p rows i x l))))

@@ -143,14 +143,14 @@ module _ (left right : Heading) (first : Ascends attribute_cmp left) (second : A
 
 -- ---- attributes that differ repeat no name
 
-none_again : (front rest : Heading) (n : ℕ) → ((a : Name × Kind) → In a rest → has_name front a.0 ≡ false) → Apart attribute_cmp rest → repeat_after front n rest ≡ None
-none_again front [] n h apart = refl
-none_again front (a ∷ rest) n h apart =
-    let here : has_name front a.0 ≡ false = h a (inl refl) in
-    let more = none_again (front ++ a ∷ []) rest (n + 1) (λ b i.
+none_again : (prefix rest : Heading) (n : ℕ) → ((a : Name × Kind) → In a rest → has_name prefix a.0 ≡ false) → Apart attribute_cmp rest → repeat_after prefix n rest ≡ None
+none_again prefix [] n h apart = refl
+none_again prefix (a ∷ rest) n h apart =
+    let here : has_name prefix a.0 ≡ false = h a (inl refl) in
+    let more = none_again (prefix ++ a ∷ []) rest (n + 1) (λ b i.
     let other : bytes_eq a.0 b.0 ≡ false = false_from_ne_true (bytes_eq a.0 b.0) (λ e. apart.0 b i (ties_by_name a b (name_is a.0 b.0 e))) in
-    list_any-append (λ (c : Name × Kind). bytes_eq c.0 b.0) front (a ∷ []) ∙ neither (has_name front b.0) (bytes_eq a.0 b.0) (h b (inr i)) other) apart.1 in
-    ap (λ t. if t then Some n else repeat_after (front ++ a ∷ []) (n + 1) rest) here ∙ more
+    list_any-append (λ (c : Name × Kind). bytes_eq c.0 b.0) prefix (a ∷ []) ∙ neither (has_name prefix b.0) (bytes_eq a.0 b.0) (h b (inr i)) other) apart.1 in
+    ap (λ t. if t then Some n else repeat_after (prefix ++ a ∷ []) (n + 1) rest) here ∙ more
 
 pub apart_no_repeat : (list : Heading) → Apart attribute_cmp list → first_repeat list ≡ None
 apart_no_repeat list apart = none_again [] list 0 (λ a i. refl) apart

@@ -66,14 +66,14 @@ neither true b e f = cc
 neither false true e f = cc
 neither false false e f = refl
 
-none_new : (front rest : Heading) (n : ℕ) → ((a : Name × Kind) → In a rest → has_name front a.0 ≡ false) → Ascends attribute_cmp rest → repeat_after front n rest ≡ None
-none_new front [] n h up = refl
-none_new front (a ∷ rest) n h up =
-    let here : has_name front a.0 ≡ false = h a (inl refl) in
-    let more = none_new (front ++ a ∷ []) rest (n + 1) (λ b i.
+none_new : (prefix rest : Heading) (n : ℕ) → ((a : Name × Kind) → In a rest → has_name prefix a.0 ≡ false) → Ascends attribute_cmp rest → repeat_after prefix n rest ≡ None
+none_new prefix [] n h up = refl
+none_new prefix (a ∷ rest) n h up =
+    let here : has_name prefix a.0 ≡ false = h a (inl refl) in
+    let more = none_new (prefix ++ a ∷ []) rest (n + 1) (λ b i.
     let apart : bytes_eq a.0 b.0 ≡ false = texts_ties a.0 b.0 ∙ ap is_eq ((AllAfter-In attribute_cmp a rest).0 up.0 b i) in
-    list_any-append (λ (c : Name × Kind). bytes_eq c.0 b.0) front (a ∷ []) ∙ neither (has_name front b.0) (bytes_eq a.0 b.0) (h b (inr i)) apart) up.1 in
-    ap (λ t. if t then Some n else repeat_after (front ++ a ∷ []) (n + 1) rest) here ∙ more
+    list_any-append (λ (c : Name × Kind). bytes_eq c.0 b.0) prefix (a ∷ []) ∙ neither (has_name prefix b.0) (bytes_eq a.0 b.0) (h b (inr i)) apart) up.1 in
+    ap (λ t. if t then Some n else repeat_after (prefix ++ a ∷ []) (n + 1) rest) here ∙ more
 
 pub no_repeat : (list : Heading) → Ascends attribute_cmp list → first_repeat list ≡ None
 no_repeat list up = none_new [] list 0 (λ a i. refl) up

@@ -5,6 +5,7 @@ pub mod FaultLemmas
 pub mod FilterLemmas
 pub mod GroupLemmas
 pub mod GrowthLemmas
+pub mod HashLemmas
 pub mod HeadingLemmas
 pub mod JoinLemmas
 pub mod MergeLemmas

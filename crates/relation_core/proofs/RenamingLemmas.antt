@@ -51,16 +51,16 @@ apart : (n : Name) (names : List Name) (m : Name) → AllByRecursion (λ k. byte
 apart n [] m h i = absurd i
 apart n (k ∷ names) m h i = elim i [ inl e ↦ ap (bytes_eq n) e ∙ h.0 | inr j ↦ apart n names m h.1 j ]
 
-none_new : (front : Heading) (n : ℕ) (names : List Name) (heading : Heading) → ((m : Name) → In m names → has_name front m ≡ false) → IsDistinct bytes_eq names → repeat_after front n (renamed names heading) ≡ None
+none_new : (prefix : Heading) (n : ℕ) (names : List Name) (heading : Heading) → ((m : Name) → In m names → has_name prefix m ≡ false) → IsDistinct bytes_eq names → repeat_after prefix n (renamed names heading) ≡ None
 unfolding IsDistinct
-none_new front n [] heading h different = refl
-none_new front n (m ∷ names) [] h different = refl
-none_new front n (m ∷ names) (a ∷ rest) h different =
+none_new prefix n [] heading h different = refl
+none_new prefix n (m ∷ names) [] h different = refl
+none_new prefix n (m ∷ names) (a ∷ rest) h different =
     let b : Name × Kind = (m, a.1) in
-    let here : has_name front m ≡ false = h m (inl refl) in
-    let more = none_new (front ++ b ∷ []) (n + 1) names rest (λ k i.
-    list_any-append (λ (c : Name × Kind). bytes_eq c.0 k) front (b ∷ []) ∙ neither (has_name front k) (bytes_eq m k) (h k (inr i)) (apart m names k different.0 i)) different.1 in
-    ap (λ t. if t then Some n else repeat_after (front ++ b ∷ []) (n + 1) (renamed names rest)) here ∙ more
+    let here : has_name prefix m ≡ false = h m (inl refl) in
+    let more = none_new (prefix ++ b ∷ []) (n + 1) names rest (λ k i.
+    list_any-append (λ (c : Name × Kind). bytes_eq c.0 k) prefix (b ∷ []) ∙ neither (has_name prefix k) (bytes_eq m k) (h k (inr i)) (apart m names k different.0 i)) different.1 in
+    ap (λ t. if t then Some n else repeat_after (prefix ++ b ∷ []) (n + 1) (renamed names rest)) here ∙ more
 
 pub renamed_differ : (names : List Name) (heading : Heading) → IsDistinct bytes_eq names → first_repeat (renamed names heading) ≡ None
 renamed_differ names heading different = none_new [] 0 names heading (λ m i. refl) different

@@ -73,13 +73,13 @@ none_pass : {E : Type 0} (q : E → Bool) (xs : List E) → ((i : ℕ) (d : E) �
 none_pass q [] h = refl
 none_pass q (x ∷ xs) h = ap (λ b. cond b (x ∷ filter q xs) (filter q xs)) (h zero x (omega arith)) ∙ none_pass q xs (λ i d l. h (suc i) d (omega (arith, l)))
 
-front_passes : {E : Type 0} (q : E → Bool) (xs : List E) (n : ℕ) → AllWithin (λ e. q e ≡ true) xs 0 n → AllWithin (λ e. q e ≡ false) xs n (length xs) → filter q xs ≡ take n xs
-front_passes q [] zero h k = refl
-front_passes q [] (suc n) h k = refl
-front_passes q (x ∷ xs) zero h k = none_pass q (x ∷ xs) (λ i d l. k i d (omega arith) l)
-front_passes q (x ∷ xs) (suc n) h k =
+prefix_passes : {E : Type 0} (q : E → Bool) (xs : List E) (n : ℕ) → AllWithin (λ e. q e ≡ true) xs 0 n → AllWithin (λ e. q e ≡ false) xs n (length xs) → filter q xs ≡ take n xs
+prefix_passes q [] zero h k = refl
+prefix_passes q [] (suc n) h k = refl
+prefix_passes q (x ∷ xs) zero h k = none_pass q (x ∷ xs) (λ i d l. k i d (omega arith) l)
+prefix_passes q (x ∷ xs) (suc n) h k =
     ap (λ b. cond b (x ∷ filter q xs) (filter q xs)) (h zero x (omega arith) (omega arith))
-    ∙ ap (λ zs. x ∷ zs) (front_passes q xs n (λ i d a b. h (suc i) d (omega arith) (omega (arith, b))) (λ i d a b. k (suc i) d (omega (arith, a)) (omega (arith, b))))
+    ∙ ap (λ zs. x ∷ zs) (prefix_passes q xs n (λ i d a b. h (suc i) d (omega arith) (omega (arith, b))) (λ i d a b. k (suc i) d (omega (arith, a)) (omega (arith, b))))
 
 rest_passes : {E : Type 0} (q : E → Bool) (xs : List E) (b : ℕ) → AllWithin (λ e. q e ≡ false) xs 0 b → filter q xs ≡ filter q (drop b xs)
 rest_passes q xs zero h = refl
@@ -90,7 +90,7 @@ rest_passes q (x ∷ xs) (suc b) h =
 pub run_is : {E : Type 0} (p q : E → Bool) → ((e : E) → p e ≡ true → q e ≡ false) → (xs rest found : List E) (b n : ℕ) → rest ≡ drop b xs → found ≡ take n rest
     → AllWithin (λ e. p e ≡ true) xs 0 b → AllWithin (λ e. q e ≡ true) rest 0 n → AllWithin (λ e. q e ≡ false) rest n (length rest) → found ≡ filter q xs
 run_is p q apart xs rest found b n is cut low at high =
-    cut ∙ (sym (front_passes q rest n at high) ∙ (ap (λ zs. filter q zs) is ∙ sym (rest_passes q xs b (λ i d l m. apart (get_or xs i d) (low i d l m)))))
+    cut ∙ (sym (prefix_passes q rest n at high) ∙ (ap (λ zs. filter q zs) is ∙ sym (rest_passes q xs b (λ i d l m. apart (get_or xs i d) (low i d l m)))))
 
 pub not_below : (r : Ordering) → is_lt r ≡ true → is_eq r ≡ false
 not_below Less e = refl

@@ -3,6 +3,7 @@ pub mod Answers
 pub mod Faults
 pub mod Groups
 pub mod Growth
+pub mod Hashes
 pub mod Joins
 pub mod Keys
 pub mod Merged

@@ -2,15 +2,15 @@
 #![tactic(auto)]
 
 mod aggregates;
+mod faults;
 mod groups;
 mod items;
 mod places;
 mod plain_rows;
-mod telling;
 
 pub use aggregates::point_number;
+pub use faults::or_fault_at;
 pub use groups::{Making, aggregate_places, group_row};
 pub use items::{extended_row, holds, set_places};
 pub use places::pick;
 pub use plain_rows::{extended, restricted};
-pub use telling::told;

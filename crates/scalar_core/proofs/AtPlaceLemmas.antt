@@ -53,9 +53,9 @@ within-number heading row a p h within name t e =
     let high = (is_number-number t (span_of (value_at row a)).1 (end-number t (span_of (value_at row a)) whole)).1 in
     number-is_number t p (omega (arith, ints, within.0), omega (arith, ints, within.1))
 
-pub at_place-fits : (heading : Heading) (row x : Row) (acl : List ℕ) (ps : List ℤ) → IsTrue (fits_heading heading row) → IsTrue (fits_heading heading x) → AreWithin row acl ps →
-    IsTrue (fits_heading heading (at_place acl ps x))
+pub at_place-fits : (heading : Heading) (row x : Row) (commalist : List ℕ) (ps : List ℤ) → IsTrue (fits_heading heading row) → IsTrue (fits_heading heading x) → AreWithin row commalist ps →
+    IsTrue (fits_heading heading (at_place commalist ps x))
 at_place-fits heading row x [] ps h g within = g
-at_place-fits heading row x (a ∷ acl) [] h g within = absurd within
-at_place-fits heading row x (a ∷ acl) (p ∷ ps) h g within =
-    at_place-fits heading row (put_span x a (at_point p)) acl ps h (put_span-fits heading x a p g (within-number heading row a p h within.0)) within.1
+at_place-fits heading row x (a ∷ commalist) [] h g within = absurd within
+at_place-fits heading row x (a ∷ commalist) (p ∷ ps) h g within =
+    at_place-fits heading row (put_span x a (at_point p)) commalist ps h (put_span-fits heading x a p g (within-number heading row a p h within.0)) within.1

@@ -18,15 +18,15 @@ some-place : (b : Bool) (place : Place) → b ≡ is_some (first_place (cond b (
 some-place true place = refl
 some-place false place = refl
 
-two : (acl : List ℕ) (l r : Expr) → names_any acl l ≡ is_some (first_place (named_places acl l)) → names_any acl r ≡ is_some (first_place (named_places acl r))
-    → (names_any acl l || names_any acl r) ≡ is_some (first_place (named_places acl l ++ named_places acl r))
-two acl l r h k =
-    ap₂ (λ a b. a || b) h k ∙ (sym (some-first (first_place (named_places acl l)) (first_place (named_places acl r))) ∙ ap (λ o. is_some o) (sym (first-append (named_places acl l) (named_places acl r))))
+two : (commalist : List ℕ) (l r : Expr) → names_any commalist l ≡ is_some (first_place (named_places commalist l)) → names_any commalist r ≡ is_some (first_place (named_places commalist r))
+    → (names_any commalist l || names_any commalist r) ≡ is_some (first_place (named_places commalist l ++ named_places commalist r))
+two commalist l r h k =
+    ap₂ (λ a b. a || b) h k ∙ (sym (some-first (first_place (named_places commalist l)) (first_place (named_places commalist r))) ∙ ap (λ o. is_some o) (sym (first-append (named_places commalist l) (named_places commalist r))))
 
-pub named-any : (acl : List ℕ) (e : Expr) → names_any acl e ≡ is_some (first_place (named_places acl e))
-named-any acl (constant place kind v) = refl
-named-any acl (attribute place i) = some-place (among acl i) place
-named-any acl (one op place e) = named-any acl e
-named-any acl (pair op place l r) = two acl l r (named-any acl l) (named-any acl r)
-named-any acl (and_expr place l r) = two acl l r (named-any acl l) (named-any acl r)
-named-any acl (or_expr place l r) = two acl l r (named-any acl l) (named-any acl r)
+pub named-any : (commalist : List ℕ) (e : Expr) → names_any commalist e ≡ is_some (first_place (named_places commalist e))
+named-any commalist (constant place kind v) = refl
+named-any commalist (attribute place i) = some-place (among commalist i) place
+named-any commalist (one op place e) = named-any commalist e
+named-any commalist (pair op place l r) = two commalist l r (named-any commalist l) (named-any commalist r)
+named-any commalist (and_expr place l r) = two commalist l r (named-any commalist l) (named-any commalist r)
+named-any commalist (or_expr place l r) = two commalist l r (named-any commalist l) (named-any commalist r)

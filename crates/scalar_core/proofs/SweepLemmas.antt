@@ -40,13 +40,13 @@ beside_parts (c ∷ cs) ds p q h = let rest = beside_parts cs ds p q h.1 in ((h.
 -- ---- rows at two places
 
 -- two rows that have what the row has, but points of their own as the listed attributes, with no cut between the two
-record AreAlike (acl : List ℕ) (cs : ℕ → List ℤ) (row x y : Row) : Type 0 where
-  others : (i : ℕ) → among acl i ≡ false → (value_at x i ≡ value_at row i) × (value_at y i ≡ value_at row i)
-  listed : (i : ℕ) → among acl i ≡ true → (p : ℤ) × (q : ℤ) × (value_at x i ≡ with_span (value_at row i) (at_point p)) × (value_at y i ≡ with_span (value_at row i) (at_point q)) × IsBeside (cs i) p q
+record AreAlike (commalist : List ℕ) (cs : ℕ → List ℤ) (row x y : Row) : Type 0 where
+  others : (i : ℕ) → among commalist i ≡ false → (value_at x i ≡ value_at row i) × (value_at y i ≡ value_at row i)
+  listed : (i : ℕ) → among commalist i ≡ true → (p : ℤ) × (q : ℤ) × (value_at x i ≡ with_span (value_at row i) (at_point p)) × (value_at y i ≡ with_span (value_at row i) (at_point q)) × IsBeside (cs i) p q
 
 -- fewer cuts
-fewer : (acl : List ℕ) (cs ds : ℕ → List ℤ) (row x y : Row) → ((i : ℕ) (p q : ℤ) → IsBeside (cs i) p q → IsBeside (ds i) p q) → AreAlike acl cs row x y → AreAlike acl ds row x y
-fewer acl cs ds row x y less h =
+fewer : (commalist : List ℕ) (cs ds : ℕ → List ℤ) (row x y : Row) → ((i : ℕ) (p q : ℤ) → IsBeside (cs i) p q → IsBeside (ds i) p q) → AreAlike commalist cs row x y → AreAlike commalist ds row x y
+fewer commalist cs ds row x y less h =
     record {
       others = h.others;
       listed = λ i m. let w = h.listed i m in (w.0, w.1, w.2, w.3, less i w.0 w.1 w.4);
@@ -54,47 +54,47 @@ fewer acl cs ds row x y less h =
 
 -- ---- expressions that name no listed attribute
 
-pub unnamed : (acl : List ℕ) (row x : Row) (e : Expr) → ((i : ℕ) → among acl i ≡ false → value_at x i ≡ value_at row i) → names_any acl e ≡ false → value e x ≡ value e row
-unnamed acl row x (constant place kind v) same h = refl
-unnamed acl row x (attribute place i) same h = ap (λ v. Ok v) (same i h)
-unnamed acl row x (one op place e) same h = ap (λ m. then_give m (one_of op place)) (unnamed acl row x e same h)
-unnamed acl row x (pair op place l r) same h =
-    let parts = or_parts (names_any acl l) (names_any acl r) h in
-    ap₂ (λ m n. both m n (pair_of op place)) (unnamed acl row x l same parts.0) (unnamed acl row x r same parts.1)
-unnamed acl row x (and_expr place l r) same h =
-    let parts = or_parts (names_any acl l) (names_any acl r) h in
-    ap₂ (λ m n. then_give m (λ a. if is_true a then n else Ok a)) (unnamed acl row x l same parts.0) (unnamed acl row x r same parts.1)
-unnamed acl row x (or_expr place l r) same h =
-    let parts = or_parts (names_any acl l) (names_any acl r) h in
-    ap₂ (λ m n. then_give m (λ a. if is_true a then Ok a else n)) (unnamed acl row x l same parts.0) (unnamed acl row x r same parts.1)
+pub unnamed : (commalist : List ℕ) (row x : Row) (e : Expr) → ((i : ℕ) → among commalist i ≡ false → value_at x i ≡ value_at row i) → names_any commalist e ≡ false → value e x ≡ value e row
+unnamed commalist row x (constant place kind v) same h = refl
+unnamed commalist row x (attribute place i) same h = ap (λ v. Ok v) (same i h)
+unnamed commalist row x (one op place e) same h = ap (λ m. then_give m (one_of op place)) (unnamed commalist row x e same h)
+unnamed commalist row x (pair op place l r) same h =
+    let parts = or_parts (names_any commalist l) (names_any commalist r) h in
+    ap₂ (λ m n. both m n (pair_of op place)) (unnamed commalist row x l same parts.0) (unnamed commalist row x r same parts.1)
+unnamed commalist row x (and_expr place l r) same h =
+    let parts = or_parts (names_any commalist l) (names_any commalist r) h in
+    ap₂ (λ m n. then_give m (λ a. if is_true a then n else Ok a)) (unnamed commalist row x l same parts.0) (unnamed commalist row x r same parts.1)
+unnamed commalist row x (or_expr place l r) same h =
+    let parts = or_parts (names_any commalist l) (names_any commalist r) h in
+    ap₂ (λ m n. then_give m (λ a. if is_true a then Ok a else n)) (unnamed commalist row x l same parts.0) (unnamed commalist row x r same parts.1)
 
 -- ---- atoms
 
 -- the side of an atom is a part of the value of a listed attribute
-record IsSide (acl : List ℕ) (e : Expr) (i : ℕ) : Type 0 where
+record IsSide (commalist : List ℕ) (e : Expr) (i : ℕ) : Type 0 where
   part : Value → Value
   is_part : IsPartOf part
-  named : among acl i ≡ true
+  named : among commalist i ≡ true
   gives : (z : Row) → value e z ≡ Ok (part (value_at z i))
 
 listed_at : (b : Bool) (i j : ℕ) → cond b (Some i) None ≡ Some j → (b ≡ true) × (i ≡ j)
 listed_at true i j h = (refl, cc)
 listed_at false i j h = absurd cc
 
-side_of : (acl : List ℕ) (e : Expr) (i : ℕ) → swept_attribute acl e ≡ Some i → IsSide acl e i
-side_of acl (attribute place j) i h =
-    let at = listed_at (among acl j) j i h in
-    subst (IsSide acl (attribute place j)) at.1
+side_of : (commalist : List ℕ) (e : Expr) (i : ℕ) → swept_attribute commalist e ≡ Some i → IsSide commalist e i
+side_of commalist (attribute place j) i h =
+    let at = listed_at (among commalist j) j i h in
+    subst (IsSide commalist (attribute place j)) at.1
     (record { part = λ v. v; is_part = whole (λ v. refl); named = at.0; gives = λ z. refl })
-side_of acl (one BeginOf place (attribute there j)) i h =
-    let at = listed_at (among acl j) j i h in
-    subst (IsSide acl (one BeginOf place (attribute there j))) at.1
+side_of commalist (one BeginOf place (attribute there j)) i h =
+    let at = listed_at (among commalist j) j i h in
+    subst (IsSide commalist (one BeginOf place (attribute there j))) at.1
     (record { part = begin_of; is_part = begin (λ v. refl); named = at.0; gives = λ z. refl })
-side_of acl (one EndOf place (attribute there j)) i h =
-    let at = listed_at (among acl j) j i h in
-    subst (IsSide acl (one EndOf place (attribute there j))) at.1
+side_of commalist (one EndOf place (attribute there j)) i h =
+    let at = listed_at (among commalist j) j i h in
+    subst (IsSide commalist (one EndOf place (attribute there j))) at.1
     (record { part = end_of; is_part = end (λ v. refl); named = at.0; gives = λ z. refl })
-side_of acl _ i h = absurd cc
+side_of commalist _ i h = absurd cc
 
 -- the two sides of a comparison, one of them with the same fault or the same values
 both-alike_left : (m : Meant) (a b : Value) (f : Value → Value → Meant) → ((w : Value) → m ≡ Ok w → f a w ≡ f b w) → both (Ok a) m f ≡ both (Ok b) m f
@@ -106,61 +106,61 @@ both-alike_right (Ok w) a b f h = h w refl
 both-alike_right (Err e) a b f h = refl
 
 -- the cuts by the other side are among those of the attribute
-swept_there : (acl : List ℕ) (i : ℕ) (e other : Expr) → swept_attribute acl e ≡ Some i → names_any acl other ≡ false → sweeps acl i (swept_attribute acl e) other ≡ true
-swept_there acl i e other at none = rw (at, eq-eqb i i refl, none) refl
+swept_there : (commalist : List ℕ) (i : ℕ) (e other : Expr) → swept_attribute commalist e ≡ Some i → names_any commalist other ≡ false → sweeps commalist i (swept_attribute commalist e) other ≡ true
+swept_there commalist i e other at none = rw (at, eq-eqb i i refl, none) refl
 
-cuts_by : (acl : List ℕ) (i : ℕ) (e other : Expr) (row : Row) (w : Value) → swept_attribute acl e ≡ Some i → names_any acl other ≡ false → value other row ≡ Ok w →
-    side_cuts acl i e other row ≡ cuts_at w
-cuts_by acl i e other row w at none given = rw (swept_there acl i e other at none, given) refl
+cuts_by : (commalist : List ℕ) (i : ℕ) (e other : Expr) (row : Row) (w : Value) → swept_attribute commalist e ≡ Some i → names_any commalist other ≡ false → value other row ≡ Ok w →
+    side_cuts commalist i e other row ≡ cuts_at w
+cuts_by commalist i e other row w at none given = rw (swept_there commalist i e other at none, given) refl
 
-atom-alike_left : (acl : List ℕ) (row x y : Row) (op : PairOp) (place : Place) (l r : Expr) (i : ℕ) → IsTypedOver row (pair op place l r) → is_comparison op ≡ true →
-    swept_attribute acl l ≡ Some i → names_any acl r ≡ false → AreAlike acl (λ a. atom_cuts acl a l r row) row x y → value (pair op place l r) x ≡ value (pair op place l r) y
-atom-alike_left acl row x y op place l r i typed is at none alike =
-    let side = side_of acl l i at in
+atom-alike_left : (commalist : List ℕ) (row x y : Row) (op : PairOp) (place : Place) (l r : Expr) (i : ℕ) → IsTypedOver row (pair op place l r) → is_comparison op ≡ true →
+    swept_attribute commalist l ≡ Some i → names_any commalist r ≡ false → AreAlike commalist (λ a. atom_cuts commalist a l r row) row x y → value (pair op place l r) x ≡ value (pair op place l r) y
+atom-alike_left commalist row x y op place l r i typed is at none alike =
+    let side = side_of commalist l i at in
     let w = alike.listed i side.named in
     let v = value_at row i in
     let f = pair_of op place in
     let here : value l x ≡ Ok (side.part (with_span v (at_point w.0))) = side.gives x ∙ ap (λ u. Ok (side.part u)) w.2 in
     let there : value l y ≡ Ok (side.part (with_span v (at_point w.1))) = side.gives y ∙ ap (λ u. Ok (side.part u)) w.3 in
-    let other_x : value r x ≡ value r row = unnamed acl row x r (λ j n. (alike.others j n).0) none in
-    let other_y : value r y ≡ value r row = unnamed acl row y r (λ j n. (alike.others j n).1) none in
+    let other_x : value r x ≡ value r row = unnamed commalist row x r (λ j n. (alike.others j n).0) none in
+    let other_y : value r y ≡ value r row = unnamed commalist row y r (λ j n. (alike.others j n).1) none in
     let middle : both (Ok (side.part (with_span v (at_point w.0)))) (value r row) f ≡ both (Ok (side.part (with_span v (at_point w.1)))) (value r row) f =
     both-alike_left (value r row) _ _ f (λ u given.
     left-alike op place typed.3.0 typed.3.1 typed.1 side.part v u w.0 w.1 side.is_part is typed.3.4
     (value-fits typed.0 row r typed.3.1 u typed.2 typed.3.3 given)
-    (subst (λ cs. IsBeside cs w.0 w.1) (cuts_by acl i l r row u at none given) (beside_parts (side_cuts acl i l r row) (side_cuts acl i r l row) w.0 w.1 w.4).0)) in
+    (subst (λ cs. IsBeside cs w.0 w.1) (cuts_by commalist i l r row u at none given) (beside_parts (side_cuts commalist i l r row) (side_cuts commalist i r l row) w.0 w.1 w.4).0)) in
     ap₂ (λ m n. both m n f) here other_x ∙ (middle ∙ ap₂ (λ m n. both m n f) (sym there) (sym other_y))
 
-atom-alike_right : (acl : List ℕ) (row x y : Row) (op : PairOp) (place : Place) (l r : Expr) (i : ℕ) → IsTypedOver row (pair op place l r) → is_comparison op ≡ true →
-    swept_attribute acl r ≡ Some i → names_any acl l ≡ false → AreAlike acl (λ a. atom_cuts acl a l r row) row x y → value (pair op place l r) x ≡ value (pair op place l r) y
-atom-alike_right acl row x y op place l r i typed is at none alike =
-    let side = side_of acl r i at in
+atom-alike_right : (commalist : List ℕ) (row x y : Row) (op : PairOp) (place : Place) (l r : Expr) (i : ℕ) → IsTypedOver row (pair op place l r) → is_comparison op ≡ true →
+    swept_attribute commalist r ≡ Some i → names_any commalist l ≡ false → AreAlike commalist (λ a. atom_cuts commalist a l r row) row x y → value (pair op place l r) x ≡ value (pair op place l r) y
+atom-alike_right commalist row x y op place l r i typed is at none alike =
+    let side = side_of commalist r i at in
     let w = alike.listed i side.named in
     let v = value_at row i in
     let f = pair_of op place in
     let here : value r x ≡ Ok (side.part (with_span v (at_point w.0))) = side.gives x ∙ ap (λ u. Ok (side.part u)) w.2 in
     let there : value r y ≡ Ok (side.part (with_span v (at_point w.1))) = side.gives y ∙ ap (λ u. Ok (side.part u)) w.3 in
-    let other_x : value l x ≡ value l row = unnamed acl row x l (λ j n. (alike.others j n).0) none in
-    let other_y : value l y ≡ value l row = unnamed acl row y l (λ j n. (alike.others j n).1) none in
+    let other_x : value l x ≡ value l row = unnamed commalist row x l (λ j n. (alike.others j n).0) none in
+    let other_y : value l y ≡ value l row = unnamed commalist row y l (λ j n. (alike.others j n).1) none in
     let middle : both (value l row) (Ok (side.part (with_span v (at_point w.0)))) f ≡ both (value l row) (Ok (side.part (with_span v (at_point w.1)))) f =
     both-alike_right (value l row) _ _ f (λ u given.
     right-alike op place typed.3.0 typed.3.1 typed.1 side.part v u w.0 w.1 side.is_part is typed.3.4
     (value-fits typed.0 row l typed.3.0 u typed.2 typed.3.2 given)
-    (subst (λ cs. IsBeside cs w.0 w.1) (cuts_by acl i r l row u at none given) (beside_parts (side_cuts acl i l r row) (side_cuts acl i r l row) w.0 w.1 w.4).1)) in
+    (subst (λ cs. IsBeside cs w.0 w.1) (cuts_by commalist i r l row u at none given) (beside_parts (side_cuts commalist i l r row) (side_cuts commalist i r l row) w.0 w.1 w.4).1)) in
     ap₂ (λ m n. both m n f) other_x here ∙ (middle ∙ ap₂ (λ m n. both m n f) (sym other_y) (sym there))
 
 -- an attribute that is swept by a side
-swept_by : (acl : List ℕ) (o : Option ℕ) (other : Expr) → is_swept_by acl o other ≡ true → (i : ℕ) × (o ≡ Some i) × (names_any acl other ≡ false)
-swept_by acl None other h = absurd cc
-swept_by acl (Some i) other h = (i, refl, not-true (names_any acl other) h)
+swept_by : (commalist : List ℕ) (o : Option ℕ) (other : Expr) → is_swept_by commalist o other ≡ true → (i : ℕ) × (o ≡ Some i) × (names_any commalist other ≡ false)
+swept_by commalist None other h = absurd cc
+swept_by commalist (Some i) other h = (i, refl, not-true (names_any commalist other) h)
 
-atom-alike : (acl : List ℕ) (row x y : Row) (op : PairOp) (place : Place) (l r : Expr) → IsTypedOver row (pair op place l r) → is_atom acl op l r ≡ true →
-    AreAlike acl (λ a. atom_cuts acl a l r row) row x y → value (pair op place l r) x ≡ value (pair op place l r) y
-atom-alike acl row x y op place l r typed h alike =
-    let parts = and_parts (is_comparison op) (is_swept acl l r) h in
-    elim (or_cases (is_swept_by acl (swept_attribute acl l) r) (is_swept_by acl (swept_attribute acl r) l) parts.1) [
-      | inl k ↦ let w = swept_by acl (swept_attribute acl l) r k in atom-alike_left acl row x y op place l r w.0 typed parts.0 w.1 w.2 alike
-      | inr k ↦ let w = swept_by acl (swept_attribute acl r) l k in atom-alike_right acl row x y op place l r w.0 typed parts.0 w.1 w.2 alike
+atom-alike : (commalist : List ℕ) (row x y : Row) (op : PairOp) (place : Place) (l r : Expr) → IsTypedOver row (pair op place l r) → is_atom commalist op l r ≡ true →
+    AreAlike commalist (λ a. atom_cuts commalist a l r row) row x y → value (pair op place l r) x ≡ value (pair op place l r) y
+atom-alike commalist row x y op place l r typed h alike =
+    let parts = and_parts (is_comparison op) (is_swept commalist l r) h in
+    elim (or_cases (is_swept_by commalist (swept_attribute commalist l) r) (is_swept_by commalist (swept_attribute commalist r) l) parts.1) [
+      | inl k ↦ let w = swept_by commalist (swept_attribute commalist l) r k in atom-alike_left commalist row x y op place l r w.0 typed parts.0 w.1 w.2 alike
+      | inr k ↦ let w = swept_by commalist (swept_attribute commalist r) l k in atom-alike_right commalist row x y op place l r w.0 typed parts.0 w.1 w.2 alike
     ]
 
 -- ---- sweepable expressions
@@ -173,9 +173,9 @@ not_listed : (b : Bool) (place : Place) → cond b (place ∷ []) [] ≡ [] → 
 not_listed true place h = absurd cc
 not_listed false place h = refl
 
-none_without : (acl : List ℕ) (op : PairOp) (l r : Expr) → is_atom acl op l r ≡ false → cond (is_atom acl op l r) [] (unswept acl l ++ unswept acl r) ≡ [] →
-    (unswept acl l ≡ []) × (unswept acl r ≡ [])
-none_without acl op l r e h = both_none (unswept acl l) (unswept acl r) (sym (ap (λ b. cond b [] (unswept acl l ++ unswept acl r)) e) ∙ h)
+none_without : (commalist : List ℕ) (op : PairOp) (l r : Expr) → is_atom commalist op l r ≡ false → cond (is_atom commalist op l r) [] (unswept commalist l ++ unswept commalist r) ≡ [] →
+    (unswept commalist l ≡ []) × (unswept commalist r ≡ [])
+none_without commalist op l r e h = both_none (unswept commalist l) (unswept commalist r) (sym (ap (λ b. cond b [] (unswept commalist l ++ unswept commalist r)) e) ∙ h)
 
 -- an atom's own cuts are among those of its comparison
 atom_among : (b : Bool) (cs ds : List ℤ) (p q : ℤ) → b ≡ true → IsBeside (cond b cs [] ++ ds) p q → IsBeside cs p q
@@ -183,44 +183,44 @@ atom_among true cs ds p q is h = (beside_parts cs ds p q h).0
 atom_among false cs ds p q is h = absurd cc
 
 -- the value of each part, then that of the whole
-alike : (acl : List ℕ) (row x y : Row) (e : Expr) → IsTypedOver row e → unswept acl e ≡ [] → AreAlike acl (λ a. cuts acl a e row) row x y → value e x ≡ value e y
-alike acl row x y (constant place kind v) typed none h = refl
-alike acl row x y (attribute place i) typed none h =
-    let same = h.others i (not_listed (among acl i) place none) in
+alike : (commalist : List ℕ) (row x y : Row) (e : Expr) → IsTypedOver row e → unswept commalist e ≡ [] → AreAlike commalist (λ a. cuts commalist a e row) row x y → value e x ≡ value e y
+alike commalist row x y (constant place kind v) typed none h = refl
+alike commalist row x y (attribute place i) typed none h =
+    let same = h.others i (not_listed (among commalist i) place none) in
     ap (λ v. Ok v) (same.0 ∙ sym same.1)
-alike acl row x y (one op place e) typed none h =
-    ap (λ m. then_give m (one_of op place)) (alike acl row x y e (over-one row op place e typed) none h)
-alike acl row x y (pair op place l r) typed none h =
-    elim (is_atom acl op l r) as (λ b. is_atom acl op l r ≡ b → value (pair op place l r) x ≡ value (pair op place l r) y) [
+alike commalist row x y (one op place e) typed none h =
+    ap (λ m. then_give m (one_of op place)) (alike commalist row x y e (over-one row op place e typed) none h)
+alike commalist row x y (pair op place l r) typed none h =
+    elim (is_atom commalist op l r) as (λ b. is_atom commalist op l r ≡ b → value (pair op place l r) x ≡ value (pair op place l r) y) [
       | true ↦ λ is.
-          atom-alike acl row x y op place l r typed is
-          (fewer acl (λ a. cuts acl a (pair op place l r) row) (λ a. atom_cuts acl a l r row) row x y
-          (λ a p q. atom_among (is_comparison op) (atom_cuts acl a l r row) (cuts acl a l row ++ cuts acl a r row) p q (and_parts (is_comparison op) (is_swept acl l r) is).0) h)
+          atom-alike commalist row x y op place l r typed is
+          (fewer commalist (λ a. cuts commalist a (pair op place l r) row) (λ a. atom_cuts commalist a l r row) row x y
+          (λ a p q. atom_among (is_comparison op) (atom_cuts commalist a l r row) (cuts commalist a l row ++ cuts commalist a r row) p q (and_parts (is_comparison op) (is_swept commalist l r) is).0) h)
       | false ↦ λ is.
-          let parts = none_without acl op l r is none in
-          let own = λ (a : ℕ). cond (is_comparison op) (atom_cuts acl a l r row) [] in
+          let parts = none_without commalist op l r is none in
+          let own = λ (a : ℕ). cond (is_comparison op) (atom_cuts commalist a l r row) [] in
           ap₂ (λ m n. both m n (pair_of op place))
-          (alike acl row x y l (over-left row op place l r typed) parts.0
-          (fewer acl (λ a. cuts acl a (pair op place l r) row) (λ a. cuts acl a l row) row x y
-          (λ a p q g. (beside_parts (cuts acl a l row) (cuts acl a r row) p q (beside_parts (own a) (cuts acl a l row ++ cuts acl a r row) p q g).1).0) h))
-          (alike acl row x y r (over-right row op place l r typed) parts.1
-          (fewer acl (λ a. cuts acl a (pair op place l r) row) (λ a. cuts acl a r row) row x y
-          (λ a p q g. (beside_parts (cuts acl a l row) (cuts acl a r row) p q (beside_parts (own a) (cuts acl a l row ++ cuts acl a r row) p q g).1).1) h))
+          (alike commalist row x y l (over-left row op place l r typed) parts.0
+          (fewer commalist (λ a. cuts commalist a (pair op place l r) row) (λ a. cuts commalist a l row) row x y
+          (λ a p q g. (beside_parts (cuts commalist a l row) (cuts commalist a r row) p q (beside_parts (own a) (cuts commalist a l row ++ cuts commalist a r row) p q g).1).0) h))
+          (alike commalist row x y r (over-right row op place l r typed) parts.1
+          (fewer commalist (λ a. cuts commalist a (pair op place l r) row) (λ a. cuts commalist a r row) row x y
+          (λ a p q g. (beside_parts (cuts commalist a l row) (cuts commalist a r row) p q (beside_parts (own a) (cuts commalist a l row ++ cuts commalist a r row) p q g).1).1) h))
     ] refl
-alike acl row x y (and_expr place l r) typed none h =
-    let parts = both_none (unswept acl l) (unswept acl r) none in
+alike commalist row x y (and_expr place l r) typed none h =
+    let parts = both_none (unswept commalist l) (unswept commalist r) none in
     ap₂ (λ m n. then_give m (λ a. if is_true a then n else Ok a))
-    (alike acl row x y l (over-and_left row place l r typed) parts.0
-    (fewer acl (λ a. cuts acl a (and_expr place l r) row) (λ a. cuts acl a l row) row x y (λ a p q g. (beside_parts (cuts acl a l row) (cuts acl a r row) p q g).0) h))
-    (alike acl row x y r (over-and_right row place l r typed) parts.1
-    (fewer acl (λ a. cuts acl a (and_expr place l r) row) (λ a. cuts acl a r row) row x y (λ a p q g. (beside_parts (cuts acl a l row) (cuts acl a r row) p q g).1) h))
-alike acl row x y (or_expr place l r) typed none h =
-    let parts = both_none (unswept acl l) (unswept acl r) none in
+    (alike commalist row x y l (over-and_left row place l r typed) parts.0
+    (fewer commalist (λ a. cuts commalist a (and_expr place l r) row) (λ a. cuts commalist a l row) row x y (λ a p q g. (beside_parts (cuts commalist a l row) (cuts commalist a r row) p q g).0) h))
+    (alike commalist row x y r (over-and_right row place l r typed) parts.1
+    (fewer commalist (λ a. cuts commalist a (and_expr place l r) row) (λ a. cuts commalist a r row) row x y (λ a p q g. (beside_parts (cuts commalist a l row) (cuts commalist a r row) p q g).1) h))
+alike commalist row x y (or_expr place l r) typed none h =
+    let parts = both_none (unswept commalist l) (unswept commalist r) none in
     ap₂ (λ m n. then_give m (λ a. if is_true a then Ok a else n))
-    (alike acl row x y l (over-or_left row place l r typed) parts.0
-    (fewer acl (λ a. cuts acl a (or_expr place l r) row) (λ a. cuts acl a l row) row x y (λ a p q g. (beside_parts (cuts acl a l row) (cuts acl a r row) p q g).0) h))
-    (alike acl row x y r (over-or_right row place l r typed) parts.1
-    (fewer acl (λ a. cuts acl a (or_expr place l r) row) (λ a. cuts acl a r row) row x y (λ a p q g. (beside_parts (cuts acl a l row) (cuts acl a r row) p q g).1) h))
+    (alike commalist row x y l (over-or_left row place l r typed) parts.0
+    (fewer commalist (λ a. cuts commalist a (or_expr place l r) row) (λ a. cuts commalist a l row) row x y (λ a p q g. (beside_parts (cuts commalist a l row) (cuts commalist a r row) p q g).0) h))
+    (alike commalist row x y r (over-or_right row place l r typed) parts.1
+    (fewer commalist (λ a. cuts commalist a (or_expr place l r) row) (λ a. cuts commalist a r row) row x y (λ a p q g. (beside_parts (cuts commalist a l row) (cuts commalist a r row) p q g).1) h))
 
 -- ---- the row at a place
 
@@ -230,12 +230,12 @@ span_there (v ∷ row) zero s = refl
 span_there (v ∷ row) (suc i) s = span_there row i s
 
 -- attributes that are not listed stay
-pub at_place-other : (acl : List ℕ) (ps : List ℤ) (row : Row) (i : ℕ) → among acl i ≡ false → value_at (at_place acl ps row) i ≡ value_at row i
+pub at_place-other : (commalist : List ℕ) (ps : List ℤ) (row : Row) (i : ℕ) → among commalist i ≡ false → value_at (at_place commalist ps row) i ≡ value_at row i
 at_place-other [] ps row i n = refl
-at_place-other (a ∷ acl) [] row i n = refl
-at_place-other (a ∷ acl) (p ∷ ps) row i n =
-    let parts = or_parts (nat_eq i a) (among acl i) n in
-    at_place-other acl ps (put_span row a (at_point p)) i parts.1
+at_place-other (a ∷ commalist) [] row i n = refl
+at_place-other (a ∷ commalist) (p ∷ ps) row i n =
+    let parts = or_parts (nat_eq i a) (among commalist i) n in
+    at_place-other commalist ps (put_span row a (at_point p)) i parts.1
     ∙ set_elsewhere row a i (with_span (value_at row a) (at_point p)) (eqb-false i a parts.0)
 
 span_again : (v : Value) (s t : Span) → with_span (with_span v s) t ≡ with_span v t
@@ -257,35 +257,35 @@ put-has_its row x a s has i t =
     ]
 
 -- a listed attribute has its point
-put-point : (acl : List ℕ) (ps : List ℤ) (row x : Row) (a i : ℕ) (p : ℤ) → HasItsSpans row x → among acl i ≡ false → i ≡ a →
-    value_at (at_place acl ps (put_span x a (at_point p))) i ≡ with_span (value_at row i) (at_point p)
-put-point acl ps row x a i p has n e =
-    at_place-other acl ps (put_span x a (at_point p)) i n
+put-point : (commalist : List ℕ) (ps : List ℤ) (row x : Row) (a i : ℕ) (p : ℤ) → HasItsSpans row x → among commalist i ≡ false → i ≡ a →
+    value_at (at_place commalist ps (put_span x a (at_point p))) i ≡ with_span (value_at row i) (at_point p)
+put-point commalist ps row x a i p has n e =
+    at_place-other commalist ps (put_span x a (at_point p)) i n
     ∙ subst (λ j. value_at (put_span x a (at_point p)) j ≡ with_span (value_at row j) (at_point p)) (sym e) (span_there x a (at_point p) ∙ has a (at_point p))
 
 first_of_two : (a b : Bool) → b ≡ false → (a || b) ≡ true → a ≡ true
 first_of_two true b n h = refl
 first_of_two false b n h = absurd cc
 
-points_of : (acl : List ℕ) (cs : ℕ → List ℤ) (ps qs : List ℤ) (row x y : Row) → HasItsSpans row x → HasItsSpans row y → AreBeside cs acl ps qs → (i : ℕ) → among acl i ≡ true →
-    (p : ℤ) × (q : ℤ) × (value_at (at_place acl ps x) i ≡ with_span (value_at row i) (at_point p)) × (value_at (at_place acl qs y) i ≡ with_span (value_at row i) (at_point q)) × IsBeside (cs i) p q
+points_of : (commalist : List ℕ) (cs : ℕ → List ℤ) (ps qs : List ℤ) (row x y : Row) → HasItsSpans row x → HasItsSpans row y → AreBeside cs commalist ps qs → (i : ℕ) → among commalist i ≡ true →
+    (p : ℤ) × (q : ℤ) × (value_at (at_place commalist ps x) i ≡ with_span (value_at row i) (at_point p)) × (value_at (at_place commalist qs y) i ≡ with_span (value_at row i) (at_point q)) × IsBeside (cs i) p q
 points_of [] cs ps qs row x y has_x has_y h i m = absurd cc
-points_of (a ∷ acl) cs [] qs row x y has_x has_y h i m = absurd h
-points_of (a ∷ acl) cs (p ∷ ps) [] row x y has_x has_y h i m = absurd h
-points_of (a ∷ acl) cs (p ∷ ps) (q ∷ qs) row x y has_x has_y h i m =
-    elim (cases_Bool (among acl i)) [
+points_of (a ∷ commalist) cs [] qs row x y has_x has_y h i m = absurd h
+points_of (a ∷ commalist) cs (p ∷ ps) [] row x y has_x has_y h i m = absurd h
+points_of (a ∷ commalist) cs (p ∷ ps) (q ∷ qs) row x y has_x has_y h i m =
+    elim (cases_Bool (among commalist i)) [
       | inl later ↦
-          points_of acl cs ps qs row (put_span x a (at_point p)) (put_span y a (at_point q)) (put-has_its row x a (at_point p) has_x) (put-has_its row y a (at_point q) has_y) h.1 i later
+          points_of commalist cs ps qs row (put_span x a (at_point p)) (put_span y a (at_point q)) (put-has_its row x a (at_point p) has_x) (put-has_its row y a (at_point q) has_y) h.1 i later
       | inr last ↦
-          let e : i ≡ a = eqb-true i a (first_of_two (nat_eq i a) (among acl i) last m) in
-          (p, q, put-point acl ps row x a i p has_x last e, put-point acl qs row y a i q has_y last e, subst (λ j. IsBeside (cs j) p q) (sym e) h.0)
+          let e : i ≡ a = eqb-true i a (first_of_two (nat_eq i a) (among commalist i) last m) in
+          (p, q, put-point commalist ps row x a i p has_x last e, put-point commalist qs row y a i q has_y last e, subst (λ j. IsBeside (cs j) p q) (sym e) h.0)
     ]
 
-places-alike : (acl : List ℕ) (cs : ℕ → List ℤ) (ps qs : List ℤ) (row : Row) → AreBeside cs acl ps qs → AreAlike acl cs row (at_place acl ps row) (at_place acl qs row)
-places-alike acl cs ps qs row h =
+places-alike : (commalist : List ℕ) (cs : ℕ → List ℤ) (ps qs : List ℤ) (row : Row) → AreBeside cs commalist ps qs → AreAlike commalist cs row (at_place commalist ps row) (at_place commalist qs row)
+places-alike commalist cs ps qs row h =
     record {
-      others = λ i n. (at_place-other acl ps row i n, at_place-other acl qs row i n);
-      listed = points_of acl cs ps qs row row row (λ i s. refl) (λ i s. refl) h;
+      others = λ i n. (at_place-other commalist ps row i n, at_place-other commalist qs row i n);
+      listed = points_of commalist cs ps qs row row row (λ i s. refl) (λ i s. refl) h;
     }
 
 no_places : (places : List Place) → first_place places ≡ None → places ≡ []
@@ -293,10 +293,10 @@ no_places [] h = refl
 no_places (p ∷ places) h = absurd cc
 
 -- at two places with no cut between them on any listed attribute the expression has the same value, or the same fault
-pub swept-alike : (e : Expr) (row : Row) (acl : List ℕ) (ps qs : List ℤ) → IsTypedOver row e → IsSweepable acl e → AreBeside (λ a. cuts acl a e row) acl ps qs →
-    value e (at_place acl ps row) ≡ value e (at_place acl qs row)
-swept-alike e row acl ps qs typed sweepable h =
-    alike acl row (at_place acl ps row) (at_place acl qs row) e typed (no_places (unswept acl e) sweepable) (places-alike acl (λ a. cuts acl a e row) ps qs row h)
+pub swept-alike : (e : Expr) (row : Row) (commalist : List ℕ) (ps qs : List ℤ) → IsTypedOver row e → IsSweepable commalist e → AreBeside (λ a. cuts commalist a e row) commalist ps qs →
+    value e (at_place commalist ps row) ≡ value e (at_place commalist qs row)
+swept-alike e row commalist ps qs typed sweepable h =
+    alike commalist row (at_place commalist ps row) (at_place commalist qs row) e typed (no_places (unswept commalist e) sweepable) (places-alike commalist (λ a. cuts commalist a e row) ps qs row h)
 
 -- ---- cuts within the row's interval
 
@@ -331,34 +331,34 @@ inner-beside i cs p q in_p in_q h =
     beside_one (in_order int_cmp (filter (is_inside i) cs)) p q c h
     ((In-in_order int_cmp int_cmp_total int_cmp-IsAntisymmetric c (filter (is_inside i) cs)).1 ((In-filter (is_inside i) c cs).1 (there, inside-true i c u v)))))
 
-inner-are_beside : (e : Expr) (row : Row) (all acl : List ℕ) (ps qs : List ℤ) → AreWithin row acl ps → AreWithin row acl qs → AreBeside (λ a. inner_cuts all a e row) acl ps qs →
-    AreBeside (λ a. cuts all a e row) acl ps qs
+inner-are_beside : (e : Expr) (row : Row) (all commalist : List ℕ) (ps qs : List ℤ) → AreWithin row commalist ps → AreWithin row commalist qs → AreBeside (λ a. inner_cuts all a e row) commalist ps qs →
+    AreBeside (λ a. cuts all a e row) commalist ps qs
 inner-are_beside e row all [] ps qs in_p in_q h = tt
-inner-are_beside e row all (a ∷ acl) [] qs in_p in_q h = absurd h
-inner-are_beside e row all (a ∷ acl) (p ∷ ps) [] in_p in_q h = absurd h
-inner-are_beside e row all (a ∷ acl) (p ∷ ps) (q ∷ qs) in_p in_q h =
-    (inner-beside (span_of (value_at row a)) (cuts all a e row) p q in_p.0 in_q.0 h.0, inner-are_beside e row all acl ps qs in_p.1 in_q.1 h.1)
+inner-are_beside e row all (a ∷ commalist) [] qs in_p in_q h = absurd h
+inner-are_beside e row all (a ∷ commalist) (p ∷ ps) [] in_p in_q h = absurd h
+inner-are_beside e row all (a ∷ commalist) (p ∷ ps) (q ∷ qs) in_p in_q h =
+    (inner-beside (span_of (value_at row a)) (cuts all a e row) p q in_p.0 in_q.0 h.0, inner-are_beside e row all commalist ps qs in_p.1 in_q.1 h.1)
 
-pub swept-alike_within : (e : Expr) (row : Row) (acl : List ℕ) (ps qs : List ℤ) → IsTypedOver row e → IsSweepable acl e → AreWithin row acl ps → AreWithin row acl qs →
-    AreBeside (λ a. inner_cuts acl a e row) acl ps qs → value e (at_place acl ps row) ≡ value e (at_place acl qs row)
-swept-alike_within e row acl ps qs typed sweepable in_p in_q h =
-    swept-alike e row acl ps qs typed sweepable (inner-are_beside e row acl acl ps qs in_p in_q h)
+pub swept-alike_within : (e : Expr) (row : Row) (commalist : List ℕ) (ps qs : List ℤ) → IsTypedOver row e → IsSweepable commalist e → AreWithin row commalist ps → AreWithin row commalist qs →
+    AreBeside (λ a. inner_cuts commalist a e row) commalist ps qs → value e (at_place commalist ps row) ≡ value e (at_place commalist qs row)
+swept-alike_within e row commalist ps qs typed sweepable in_p in_q h =
+    swept-alike e row commalist ps qs typed sweepable (inner-are_beside e row commalist commalist ps qs in_p in_q h)
 
 -- two places that differ in the point at one side
-beside_set : (cs : ℕ → List ℤ) (acl : List ℕ) (ps : List ℤ) (side : ℕ) (p q : ℤ) → length ps ≡ length acl → IsBeside (cs (slice_index acl side)) p q →
-    AreBeside cs acl (set ps side p) (set ps side q)
+beside_set : (cs : ℕ → List ℤ) (commalist : List ℕ) (ps : List ℤ) (side : ℕ) (p q : ℤ) → length ps ≡ length commalist → IsBeside (cs (slice_index commalist side)) p q →
+    AreBeside cs commalist (set ps side p) (set ps side q)
 beside_set cs [] ps side p q e h = tt
-beside_set cs (a ∷ acl) [] side p q e h = absurd (omega arith)
-beside_set cs (a ∷ acl) (x ∷ ps) zero p q e h = (h, all_itself acl ps (omega arith))
+beside_set cs (a ∷ commalist) [] side p q e h = absurd (omega arith)
+beside_set cs (a ∷ commalist) (x ∷ ps) zero p q e h = (h, all_itself commalist ps (omega arith))
   where
     all_itself : (positions : List ℕ) (points : List ℤ) → length points ≡ length positions → AreBeside cs positions points points
     all_itself [] points e = tt
     all_itself (b ∷ positions) [] e = absurd (omega arith)
     all_itself (b ∷ positions) (y ∷ points) e = (beside_itself (cs b) y, all_itself positions points (omega arith))
-beside_set cs (a ∷ acl) (x ∷ ps) (suc side) p q e h = (beside_itself (cs a) x, beside_set cs acl ps side p q (omega arith) h)
+beside_set cs (a ∷ commalist) (x ∷ ps) (suc side) p q e h = (beside_itself (cs a) x, beside_set cs commalist ps side p q (omega arith) h)
 
-pub swept-steady : (e : Expr) (row : Row) (acl : List ℕ) (side : ℕ) → IsTypedOver row e → IsSweepable acl e → IsSteady e row acl side (inner_cuts acl (slice_index acl side) e row)
-swept-steady e row acl side typed sweepable ps p q many in_p in_q h =
-    swept-alike e row acl (set ps side p) (set ps side q) typed sweepable
-    (beside_set (λ a. cuts acl a e row) acl ps side p q many
-    (inner-beside (span_of (value_at row (slice_index acl side))) (cuts acl (slice_index acl side) e row) p q in_p in_q h))
+pub swept-steady : (e : Expr) (row : Row) (commalist : List ℕ) (side : ℕ) → IsTypedOver row e → IsSweepable commalist e → IsSteady e row commalist side (inner_cuts commalist (slice_index commalist side) e row)
+swept-steady e row commalist side typed sweepable ps p q many in_p in_q h =
+    swept-alike e row commalist (set ps side p) (set ps side q) typed sweepable
+    (beside_set (λ a. cuts commalist a e row) commalist ps side p q many
+    (inner-beside (span_of (value_at row (slice_index commalist side))) (cuts commalist (slice_index commalist side) e row) p q in_p in_q h))

@@ -1,6 +1,6 @@
 -- The cuts of a listed attribute: the numbers just before which an atom with it may change.
---     cuts acl a e row      the cuts of the attribute at position a, by the atoms of the expression
---     inner_cuts acl a e row      those behind the first point of its interval and not behind the last, ascending, each once
+--     cuts commalist a e row      the cuts of the attribute at position a, by the atoms of the expression
+--     inner_cuts commalist a e row      those behind the first point of its interval and not behind the last, ascending, each once
 --     IsBeside cs p q      no cut stands between two numbers
 use Rattle.std.specs.Prelude.{ℕ, ℤ, pos, ◌+ℤ◌, ◌-ℤ◌, ◌≤ℤ◌, int_le, int_lt, Bool, false, not, ◌&&◌, cond, List, [], ◌∷◌, ◌++◌, filter, nat_eq, Option, Some, None, Ok, Err, ◌↔◌}
 use Rattle.std.specs.List.{AllByRecursion}
@@ -28,24 +28,24 @@ cuts_of (Err e) = []
 
 -- the swept attribute is the one at a, and the other side names none of the list
 abbrev pub sweeps : List ℕ → ℕ → Option ℕ → Expr → Bool
-sweeps acl a None other = false
-sweeps acl a (Some i) other = nat_eq i a && not (names_any acl other)
+sweeps commalist a None other = false
+sweeps commalist a (Some i) other = nat_eq i a && not (names_any commalist other)
 
 abbrev pub side_cuts : List ℕ → ℕ → Expr → Expr → Row → List ℤ
-side_cuts acl a side other row = cond (sweeps acl a (swept_attribute acl side) other) (cuts_of (value other row)) []
+side_cuts commalist a side other row = cond (sweeps commalist a (swept_attribute commalist side) other) (cuts_of (value other row)) []
 
 -- by a comparison of the two
 abbrev pub atom_cuts : List ℕ → ℕ → Expr → Expr → Row → List ℤ
-atom_cuts acl a l r row = side_cuts acl a l r row ++ side_cuts acl a r l row
+atom_cuts commalist a l r row = side_cuts commalist a l r row ++ side_cuts commalist a r l row
 
 -- by all atoms of the expression, also by those that AND and OR do not come to
 abbrev pub cuts : List ℕ → ℕ → Expr → Row → List ℤ
-cuts acl a (constant place kind v) row = []
-cuts acl a (attribute place i) row = []
-cuts acl a (one op place e) row = cuts acl a e row
-cuts acl a (pair op place l r) row = cond (is_comparison op) (atom_cuts acl a l r row) [] ++ (cuts acl a l row ++ cuts acl a r row)
-cuts acl a (and_expr place l r) row = cuts acl a l row ++ cuts acl a r row
-cuts acl a (or_expr place l r) row = cuts acl a l row ++ cuts acl a r row
+cuts commalist a (constant place kind v) row = []
+cuts commalist a (attribute place i) row = []
+cuts commalist a (one op place e) row = cuts commalist a e row
+cuts commalist a (pair op place l r) row = cond (is_comparison op) (atom_cuts commalist a l r row) [] ++ (cuts commalist a l row ++ cuts commalist a r row)
+cuts commalist a (and_expr place l r) row = cuts commalist a l row ++ cuts commalist a r row
+cuts commalist a (or_expr place l r) row = cuts commalist a l row ++ cuts commalist a r row
 
 -- ---- within an interval
 
@@ -54,7 +54,7 @@ abbrev pub is_inside : Span → ℤ → Bool
 is_inside i c = int_lt i.0 c && int_le c i.1
 
 abbrev pub inner_cuts : List ℕ → ℕ → Expr → Row → List ℤ
-inner_cuts acl a e row = in_order int_cmp (filter (is_inside (span_of (value_at row a))) (cuts acl a e row))
+inner_cuts commalist a e row = in_order int_cmp (filter (is_inside (span_of (value_at row a))) (cuts commalist a e row))
 
 -- ---- between cuts
 

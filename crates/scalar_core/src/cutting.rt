@@ -36,22 +36,22 @@ pub fn cuts(
     alloc: Global,
     e: &Scalar,
     row: &Row,
-    acl: &[usize],
+    commalist: &[usize],
     side: usize,
 ) -> Result<Vec<AnyPoint>, Memory>
     requires typed { IsTypedOver row.now (read e.now) }
-    requires sweepable { IsSweepable acl.now (read e.now) }
-    requires side { side < length acl.now }
-    requires interval { HasSpanAt row.now (slice_index acl.now side) }
-    ensures cuts { IfOk result (λ v. map number v.items ≡ rules.inner_cuts acl.now (slice_index acl.now side) (read e.now) row.now) }
-    ensures points { (t : AnyType) → IsTrue (fits (kind.Span t) (value_at row.now (slice_index acl.now side))) → IfOk result (λ v. All (IsPointOf t) v.items) }
+    requires sweepable { IsSweepable commalist.now (read e.now) }
+    requires side { side < length commalist.now }
+    requires interval { HasSpanAt row.now (slice_index commalist.now side) }
+    ensures cuts { IfOk result (λ v. map number v.items ≡ rules.inner_cuts commalist.now (slice_index commalist.now side) (read e.now) row.now) }
+    ensures points { (t : AnyType) → IsTrue (fits (kind.Span t) (value_at row.now (slice_index commalist.now side))) → IfOk result (λ v. All (IsPointOf t) v.items) }
     ensures ascending { IfOk result (λ v. IsStrictlySortedBy int_cmp (map number v.items)) }
-    ensures inside { IfOk result (λ v. All (λ c. IsTrue (is_inside (span_of (value_at row.now (slice_index acl.now side))) c)) (map number v.items)) }
-    ensures steady { IfOk result (λ v. IsSteady (read e.now) row.now acl.now side (map number v.items)) }
+    ensures inside { IfOk result (λ v. All (λ c. IsTrue (is_inside (span_of (value_at row.now (slice_index commalist.now side))) c)) (map number v.items)) }
+    ensures steady { IfOk result (λ v. IsSteady (read e.now) row.now commalist.now side (map number v.items)) }
 {
-    let at = acl[side];
+    let at = commalist[side];
     let mut numbers: Vec<i128> = Vec::new(alloc);
-    push_cuts(alloc, &mut numbers, e, row, acl, at)?;
+    push_cuts(alloc, &mut numbers, e, row, commalist, at)?;
     let numbers = distinct(numbers)?;
     let points = points_inside(alloc, interval_at(row, at), numbers.as_slice())?;
     Ok(points)
@@ -77,38 +77,38 @@ fn push_cuts(
     numbers: &mut Vec<i128>,
     e: &Scalar,
     row: &Row,
-    acl: &[usize],
+    commalist: &[usize],
     at: usize,
 ) -> Result<(), Memory>
     requires { IsTypedOver row.now (read e.now) }
-    ensures { OnOk result (numbers.new.items ≡ numbers.old.items ++ rules.cuts acl.now at (read e.now) row.now) }
+    ensures { OnOk result (numbers.new.items ≡ numbers.old.items ++ rules.cuts commalist.now at (read e.now) row.now) }
 {
     match &e.form {
         ScalarForm::Constant(_, _) => Ok(()),
         ScalarForm::Attribute(_) => Ok(()),
-        ScalarForm::Not(p) => push_cuts(alloc, numbers, p, row, acl, at),
-        ScalarForm::Negate(p) => push_cuts(alloc, numbers, p, row, acl, at),
-        ScalarForm::BeginOf(p) => push_cuts(alloc, numbers, p, row, acl, at),
-        ScalarForm::EndOf(p) => push_cuts(alloc, numbers, p, row, acl, at),
-        ScalarForm::PreOf(_, p) => push_cuts(alloc, numbers, p, row, acl, at),
-        ScalarForm::PostOf(_, p) => push_cuts(alloc, numbers, p, row, acl, at),
-        ScalarForm::CountOf(_, p) => push_cuts(alloc, numbers, p, row, acl, at),
-        ScalarForm::NextOf(_, p) => push_cuts(alloc, numbers, p, row, acl, at),
-        ScalarForm::PriorOf(_, p) => push_cuts(alloc, numbers, p, row, acl, at),
-        ScalarForm::And(p) => push_in_parts(alloc, numbers, p, row, acl, at),
-        ScalarForm::Or(p) => push_in_parts(alloc, numbers, p, row, acl, at),
-        ScalarForm::Add(p) => push_in_parts(alloc, numbers, p, row, acl, at),
-        ScalarForm::Subtract(p) => push_in_parts(alloc, numbers, p, row, acl, at),
-        ScalarForm::Multiply(p) => push_in_parts(alloc, numbers, p, row, acl, at),
-        ScalarForm::Divide(p) => push_in_parts(alloc, numbers, p, row, acl, at),
-        ScalarForm::Concat(p) => push_in_parts(alloc, numbers, p, row, acl, at),
-        ScalarForm::Compare(_, p) => push_in_comparison(alloc, numbers, p, row, acl, at),
-        ScalarForm::Allen(_, _, p) => push_in_comparison(alloc, numbers, p, row, acl, at),
-        ScalarForm::Member(_, p) => push_in_comparison(alloc, numbers, p, row, acl, at),
-        ScalarForm::Select(_, _, p) => push_in_parts(alloc, numbers, p, row, acl, at),
-        ScalarForm::UnionOf(_, p) => push_in_parts(alloc, numbers, p, row, acl, at),
-        ScalarForm::IntersectOf(_, p) => push_in_parts(alloc, numbers, p, row, acl, at),
-        ScalarForm::MinusOf(_, p) => push_in_parts(alloc, numbers, p, row, acl, at),
+        ScalarForm::Not(p) => push_cuts(alloc, numbers, p, row, commalist, at),
+        ScalarForm::Negate(p) => push_cuts(alloc, numbers, p, row, commalist, at),
+        ScalarForm::BeginOf(p) => push_cuts(alloc, numbers, p, row, commalist, at),
+        ScalarForm::EndOf(p) => push_cuts(alloc, numbers, p, row, commalist, at),
+        ScalarForm::PreOf(_, p) => push_cuts(alloc, numbers, p, row, commalist, at),
+        ScalarForm::PostOf(_, p) => push_cuts(alloc, numbers, p, row, commalist, at),
+        ScalarForm::CountOf(_, p) => push_cuts(alloc, numbers, p, row, commalist, at),
+        ScalarForm::NextOf(_, p) => push_cuts(alloc, numbers, p, row, commalist, at),
+        ScalarForm::PriorOf(_, p) => push_cuts(alloc, numbers, p, row, commalist, at),
+        ScalarForm::And(p) => push_in_parts(alloc, numbers, p, row, commalist, at),
+        ScalarForm::Or(p) => push_in_parts(alloc, numbers, p, row, commalist, at),
+        ScalarForm::Add(p) => push_in_parts(alloc, numbers, p, row, commalist, at),
+        ScalarForm::Subtract(p) => push_in_parts(alloc, numbers, p, row, commalist, at),
+        ScalarForm::Multiply(p) => push_in_parts(alloc, numbers, p, row, commalist, at),
+        ScalarForm::Divide(p) => push_in_parts(alloc, numbers, p, row, commalist, at),
+        ScalarForm::Concat(p) => push_in_parts(alloc, numbers, p, row, commalist, at),
+        ScalarForm::Compare(_, p) => push_in_comparison(alloc, numbers, p, row, commalist, at),
+        ScalarForm::Allen(_, _, p) => push_in_comparison(alloc, numbers, p, row, commalist, at),
+        ScalarForm::Member(_, p) => push_in_comparison(alloc, numbers, p, row, commalist, at),
+        ScalarForm::Select(_, _, p) => push_in_parts(alloc, numbers, p, row, commalist, at),
+        ScalarForm::UnionOf(_, p) => push_in_parts(alloc, numbers, p, row, commalist, at),
+        ScalarForm::IntersectOf(_, p) => push_in_parts(alloc, numbers, p, row, commalist, at),
+        ScalarForm::MinusOf(_, p) => push_in_parts(alloc, numbers, p, row, commalist, at),
     }
 }
 
@@ -118,15 +118,15 @@ fn push_in_parts(
     numbers: &mut Vec<i128>,
     p: &Parts,
     row: &Row,
-    acl: &[usize],
+    commalist: &[usize],
     at: usize,
 ) -> Result<(), Memory>
     requires left { IsTypedOver row.now (read_left p.now) }
     requires right { IsTypedOver row.now (read_right p.now) }
-    ensures { OnOk result (numbers.new.items ≡ numbers.old.items ++ (rules.cuts acl.now at (read_left p.now) row.now ++ rules.cuts acl.now at (read_right p.now) row.now)) }
+    ensures { OnOk result (numbers.new.items ≡ numbers.old.items ++ (rules.cuts commalist.now at (read_left p.now) row.now ++ rules.cuts commalist.now at (read_right p.now) row.now)) }
 {
-    push_cuts(alloc, numbers, &p.left, row, acl, at)?;
-    push_cuts(alloc, numbers, &p.right, row, acl, at)?;
+    push_cuts(alloc, numbers, &p.left, row, commalist, at)?;
+    push_cuts(alloc, numbers, &p.right, row, commalist, at)?;
     Ok(())
 }
 
@@ -136,17 +136,17 @@ fn push_in_comparison(
     numbers: &mut Vec<i128>,
     p: &Parts,
     row: &Row,
-    acl: &[usize],
+    commalist: &[usize],
     at: usize,
 ) -> Result<(), Memory>
     requires left { IsTypedOver row.now (read_left p.now) }
     requires right { IsTypedOver row.now (read_right p.now) }
-    ensures { OnOk result (numbers.new.items ≡ numbers.old.items ++ (rules.atom_cuts acl.now at (read_left p.now) (read_right p.now) row.now ++
-        (rules.cuts acl.now at (read_left p.now) row.now ++ rules.cuts acl.now at (read_right p.now) row.now))) }
+    ensures { OnOk result (numbers.new.items ≡ numbers.old.items ++ (rules.atom_cuts commalist.now at (read_left p.now) (read_right p.now) row.now ++
+        (rules.cuts commalist.now at (read_left p.now) row.now ++ rules.cuts commalist.now at (read_right p.now) row.now))) }
 {
-    push_by_side(alloc, numbers, &p.left, &p.right, row, acl, at)?;
-    push_by_side(alloc, numbers, &p.right, &p.left, row, acl, at)?;
-    push_in_parts(alloc, numbers, p, row, acl, at)?;
+    push_by_side(alloc, numbers, &p.left, &p.right, row, commalist, at)?;
+    push_by_side(alloc, numbers, &p.right, &p.left, row, commalist, at)?;
+    push_in_parts(alloc, numbers, p, row, commalist, at)?;
     Ok(())
 }
 
@@ -157,13 +157,13 @@ fn push_by_side(
     side: &Scalar,
     other: &Scalar,
     row: &Row,
-    acl: &[usize],
+    commalist: &[usize],
     at: usize,
 ) -> Result<(), Memory>
     requires { IsTypedOver row.now (read other.now) }
-    ensures { OnOk result (numbers.new.items ≡ numbers.old.items ++ rules.side_cuts acl.now at (read side.now) (read other.now) row.now) }
+    ensures { OnOk result (numbers.new.items ≡ numbers.old.items ++ rules.side_cuts commalist.now at (read side.now) (read other.now) row.now) }
 {
-    if sweeps(side, other, acl, at) {
+    if sweeps(side, other, commalist, at) {
         push_by(alloc, numbers, other, row)
     } else {
         Ok(())
@@ -171,11 +171,11 @@ fn push_by_side(
 }
 
 /// Whether the one side is the attribute at the position or its end, and the other names no listed attribute.
-fn sweeps(side: &Scalar, other: &Scalar, acl: &[usize], at: usize) -> bool
-    ensures { result ≡ rules.sweeps acl.now at (swept_attribute acl.now (read side.now)) (read other.now) }
+fn sweeps(side: &Scalar, other: &Scalar, commalist: &[usize], at: usize) -> bool
+    ensures { result ≡ rules.sweeps commalist.now at (swept_attribute commalist.now (read side.now)) (read other.now) }
 {
-    match swept_attribute(side, acl) {
-        Some(i) => i == at && !names_any(other, acl),
+    match swept_attribute(side, commalist) {
+        Some(i) => i == at && !names_any(other, commalist),
         None => false,
     }
 }

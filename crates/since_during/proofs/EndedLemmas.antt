@@ -108,20 +108,20 @@ module _ (s : State) (made : IsWellMade s) where
   -- ---- the view of a history
 
   module _ (names : Name × Name) (t : Tree) (m : IsMadeIn sizes s.relvars (view t (Some names))) where
-    by-rule : (q : Option HistoryRule) → IsOfRule m.front names.0 names.1 t q → JoinsBy (relvar_named m.front names.0) (relvar_named m.front names.1) q
+    by-rule : (q : Option HistoryRule) → IsOfRule m.prefix names.0 names.1 t q → JoinsBy (relvar_named m.prefix names.0) (relvar_named m.prefix names.1) q
     by-rule None of = absurd of
     by-rule (Some rule) of =
-        let since = heading_if (relvar_named m.front names.0) in
-        let during = heading_if (relvar_named m.front names.1) in
+        let since = heading_if (relvar_named m.prefix names.0) in
+        let during = heading_if (relvar_named m.prefix names.1) in
         let over = type_at during rule.span_here in
-        let typed = subst (λ (x : Tree). IsTypedTree sizes (headings_of m.front) x) of.2 m.made.0 in
-        joined-from sizes (headings_of m.front) over (name_at since rule.point_there) (name_at during rule.span_here) names.1 since during
+        let typed = subst (λ (x : Tree). IsTypedTree sizes (headings_of m.prefix) x) of.2 m.made.0 in
+        joined-from sizes (headings_of m.prefix) over (name_at since rule.point_there) (name_at during rule.span_here) names.1 since during
         of.0 of.0 (last_point of.0 over) (named of.0 since names.0) refl typed
 
     of-history : JoinsBy (relvar_named s.relvars names.0) (relvar_named s.relvars names.1) (rule_if s.relvars (Some names))
     of-history =
-        let front = by-rule (rule_among (constraints_if (relvar_named m.front names.1))) m.made.1.2 in
-        let since = subst (λ (o : Option PlainRelvar). JoinsBy o (relvar_named m.front names.1) (rule_among (constraints_if (relvar_named m.front names.1)))) (sym (whole-since s made names t m)) front in
+        let prefix = by-rule (rule_among (constraints_if (relvar_named m.prefix names.1))) m.made.1.2 in
+        let since = subst (λ (o : Option PlainRelvar). JoinsBy o (relvar_named m.prefix names.1) (rule_among (constraints_if (relvar_named m.prefix names.1)))) (sym (whole-since s made names t m)) prefix in
         subst (λ (o : Option PlainRelvar). JoinsBy (relvar_named s.relvars names.0) o (rule_among (constraints_if o))) (sym (whole-during s made names t m)) since
 
   of-target : (place at : Place) (e : Expr) (c : Option Expr) (name : Name) (o : Option PlainRelvar) → relvar_named s.relvars name ≡ o → IsEnding s (rule_if s.relvars (history_if o)) (history_if o) e c
@@ -135,8 +135,8 @@ module _ (s : State) (made : IsWellMade s) where
 
   of-form : (item : PlainItem) (form : PlainItemForm) → IsEndingForm form → IsTypedForm s item.target item.heading form → All (IsTypedAssignment s) (meant_by_form s.relvars item form)
   of-form item (set_to t) ending is = absurd ending
-  of-form item (insert acl t) ending is = absurd ending
-  of-form item (delete acl t) ending is = absurd ending
+  of-form item (insert commalist t) ending is = absurd ending
+  of-form item (delete commalist t) ending is = absurd ending
   of-form item (delete_rows change) ending is = absurd ending
   of-form item (update change sets) ending is = absurd ending
   of-form item (terminate e at c) ending is = of-target item.place at e c item.target (relvar_named s.relvars item.target) refl is

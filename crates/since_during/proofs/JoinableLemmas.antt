@@ -36,11 +36,11 @@ some-rule r q e = cc
 
 -- it is well made behind the entries before it
 pub record IsMadeIn (sizes : List ℕ) (whole : Entries) (r : PlainRelvar) : Type 0 where
-  pub front : Entries
+  pub prefix : Entries
   pub own : Name
   pub back : Entries
-  pub split : whole ≡ front ++ (own, r) ∷ back
-  pub made : IsRelvar sizes front own r
+  pub split : whole ≡ prefix ++ (own, r) ∷ back
+  pub made : IsRelvar sizes prefix own r
 
 pub made-in : (sizes : List ℕ) (before es : Entries) (name : Name) (r : PlainRelvar) → AreRelvars sizes before es → relvar_named es name ≡ Some r → IsMadeIn sizes (before ++ es) r
 made-in sizes before [] name r are e = absurd (cc)
@@ -49,25 +49,25 @@ made-in sizes before (k ∷ rest) name r are e = by-test (bytes_eq k.0 name) e (
     by-test : (b : Bool) → (if b then Some k.1 else relvar_named rest name) ≡ Some r → (relvar_named rest name ≡ Some r → IsMadeIn sizes ((before ++ k ∷ []) ++ rest) r)
         → IsMadeIn sizes (before ++ k ∷ rest) r
     by-test true f more =
-        subst (λ (x : PlainRelvar). IsMadeIn sizes (before ++ k ∷ rest) x) (some-relvar k.1 r f) (record { front = before; own = k.0; back = rest; split = refl; made = are.0 })
+        subst (λ (x : PlainRelvar). IsMadeIn sizes (before ++ k ∷ rest) x) (some-relvar k.1 r f) (record { prefix = before; own = k.0; back = rest; split = refl; made = are.0 })
     by-test false f more = subst (λ (es : Entries). IsMadeIn sizes es r) (append_assoc before (k ∷ []) rest) (more f)
 
 -- a base relvar before it is the one of its name
-named-whole : (whole front : Entries) (own : Name) (r : PlainRelvar) (back : Entries) → whole ≡ front ++ (own, r) ∷ back → (name : Name) → IsBase (relvar_named front name)
-    → relvar_named whole name ≡ relvar_named front name
-named-whole whole front own r back split name is =
-    let found = some-base (relvar_named front name) is in
-    ap (λ (es : Entries). relvar_named es name) split ∙ (named_before front ((own, r) ∷ back) name found.0 found.1 ∙ sym found.1)
+named-whole : (whole prefix : Entries) (own : Name) (r : PlainRelvar) (back : Entries) → whole ≡ prefix ++ (own, r) ∷ back → (name : Name) → IsBase (relvar_named prefix name)
+    → relvar_named whole name ≡ relvar_named prefix name
+named-whole whole prefix own r back split name is =
+    let found = some-base (relvar_named prefix name) is in
+    ap (λ (es : Entries). relvar_named es name) split ∙ (named_before prefix ((own, r) ∷ back) name found.0 found.1 ∙ sym found.1)
 
 -- ---- the rule
 
 rule-in : (P : Constraint → Type 0) (list : List Constraint) (rule : HistoryRule) → All P list → rule_among list ≡ Some rule → P (History rule)
 rule-in P [] rule all e = absurd (cc)
 rule-in P (Key k ∷ list) rule all e = rule-in P list rule (All-tail P (Key k) list all) e
-rule-in P (Packed acl ∷ list) rule all e = rule-in P list rule (All-tail P (Packed acl) list all) e
-rule-in P (WhenUnpacked acl k ∷ list) rule all e = rule-in P list rule (All-tail P (WhenUnpacked acl k) list all) e
-rule-in P (UKey acl k ∷ list) rule all e = rule-in P list rule (All-tail P (UKey acl k) list all) e
-rule-in P (Foreign acl k name there ∷ list) rule all e = rule-in P list rule (All-tail P (Foreign acl k name there) list all) e
+rule-in P (Packed commalist ∷ list) rule all e = rule-in P list rule (All-tail P (Packed commalist) list all) e
+rule-in P (WhenUnpacked commalist k ∷ list) rule all e = rule-in P list rule (All-tail P (WhenUnpacked commalist k) list all) e
+rule-in P (UKey commalist k ∷ list) rule all e = rule-in P list rule (All-tail P (UKey commalist k) list all) e
+rule-in P (Foreign commalist k name there ∷ list) rule all e = rule-in P list rule (All-tail P (Foreign commalist k name there) list all) e
 rule-in P (History r ∷ list) rule all e = subst (λ (x : HistoryRule). P (History x)) (some-rule r rule e) (All-head P (History r) list all)
 
 -- its interval and its point are attributes
@@ -91,23 +91,23 @@ module _ (s : State) (made : IsWellMade s) where
   points name rule (Some (view t history)) e is r = absurd is
   points name rule (Some (base value list)) e is r =
       let m = made-in (sizes_of s.ordinals) [] s.relvars name (base value list) made.relvars e in
-      let fits = rule-in (IsConstraint m.front m.own (base value list)) list rule m.made.1 r in
-      let whole = named-whole s.relvars m.front m.own (base value list) m.back m.split rule.since fits.0 in
+      let fits = rule-in (IsConstraint m.prefix m.own (base value list)) list rule m.made.1 r in
+      let whole = named-whole s.relvars m.prefix m.own (base value list) m.back m.split rule.since fits.0 in
       (fits.1.6, subst (λ (o : Option PlainRelvar). rule.point_there < length (heading_if o)) (sym whole) fits.1.7)
 
   module _ (names : Name × Name) (t : Tree) (m : IsMadeIn (sizes_of s.ordinals) s.relvars (view t (Some names))) where
-    pub whole-since : relvar_named s.relvars names.0 ≡ relvar_named m.front names.0
-    whole-since = named-whole s.relvars m.front m.own (view t (Some names)) m.back m.split names.0 m.made.1.0
+    pub whole-since : relvar_named s.relvars names.0 ≡ relvar_named m.prefix names.0
+    whole-since = named-whole s.relvars m.prefix m.own (view t (Some names)) m.back m.split names.0 m.made.1.0
 
-    pub whole-during : relvar_named s.relvars names.1 ≡ relvar_named m.front names.1
-    whole-during = named-whole s.relvars m.front m.own (view t (Some names)) m.back m.split names.1 m.made.1.1
+    pub whole-during : relvar_named s.relvars names.1 ≡ relvar_named m.prefix names.1
+    whole-during = named-whole s.relvars m.prefix m.own (view t (Some names)) m.back m.split names.1 m.made.1.1
 
-    by-rule : (q : Option HistoryRule) → rule_among (constraints_if (relvar_named m.front names.1)) ≡ q → IsOfRule m.front names.0 names.1 t q
-        → Joins (relvar_named m.front names.0) (relvar_named m.front names.1) q
+    by-rule : (q : Option HistoryRule) → rule_among (constraints_if (relvar_named m.prefix names.1)) ≡ q → IsOfRule m.prefix names.0 names.1 t q
+        → Joins (relvar_named m.prefix names.0) (relvar_named m.prefix names.1) q
     by-rule None e of = absurd of
     by-rule (Some rule) e of =
-        let typed = subst (λ (x : Tree). IsTypedTree (sizes_of s.ordinals) (headings_of m.front) x) of.2 m.made.0 in
-        let during = relvar_named m.front names.1 in
+        let typed = subst (λ (x : Tree). IsTypedTree (sizes_of s.ordinals) (headings_of m.prefix) x) of.2 m.made.0 in
+        let during = relvar_named m.prefix names.1 in
         let here = points names.1 rule during whole-during m.made.1.1 e in
         let there = subst (λ (n : Name). Points (relvar_named s.relvars n) during rule) of.1 here in
         let both = subst (λ (o : Option PlainRelvar). Points o during rule) whole-since there in
@@ -115,8 +115,8 @@ module _ (s : State) (made : IsWellMade s) where
 
     pub of-view : AreJoinable s.relvars (Some names)
     of-view =
-        let front = by-rule (rule_among (constraints_if (relvar_named m.front names.1))) refl m.made.1.2 in
-        let since = subst (λ (o : Option PlainRelvar). Joins o (relvar_named m.front names.1) (rule_among (constraints_if (relvar_named m.front names.1)))) (sym whole-since) front in
+        let prefix = by-rule (rule_among (constraints_if (relvar_named m.prefix names.1))) refl m.made.1.2 in
+        let since = subst (λ (o : Option PlainRelvar). Joins o (relvar_named m.prefix names.1) (rule_among (constraints_if (relvar_named m.prefix names.1)))) (sym whole-since) prefix in
         let during = subst (λ (o : Option PlainRelvar). Joins (relvar_named s.relvars names.0) o (rule_among (constraints_if o))) (sym whole-during) since in
         joined s.relvars names (rule_if s.relvars (Some names)) during
 

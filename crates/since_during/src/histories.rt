@@ -103,10 +103,10 @@ fn packed_key(alloc: Global, h: &HistoryData, heading: &Heading) -> Result<Const
     ensures { IfOk result (λ c. c ≡ constraints.UKey (position_of heading.now h.now.span ∷ []) (key_in h.now heading.now ++ position_of heading.now h.now.span ∷ [])) }
 {
     let span = position(heading.attributes(), &h.span);
-    let acl = one_position(alloc, span)?;
+    let commalist = one_position(alloc, span)?;
     let mut key = key_in(alloc, h, heading)?;
     key.push(span)?;
-    Ok(Constraint::UKey(acl, Positions { list: key }))
+    Ok(Constraint::UKey(commalist, Positions { list: key }))
 }
 
 /// The rule between the two relvars of these headings.

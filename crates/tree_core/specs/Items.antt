@@ -19,7 +19,7 @@ PlainPortion = List (ℕ × Expr)
 
 -- which rows change, and at which of their points
 pub record PlainChange : Type 0 where
-  pub acl : Option (List ℕ)
+  pub commalist : Option (List ℕ)
   pub portion : Option PlainPortion
   pub condition : Option Expr
 
@@ -49,12 +49,12 @@ abbrev pub read_portion : List (ℕ × Scalar) → PlainPortion
 read_portion portion = map (λ (p : ℕ × Scalar). (p.0, read p.1)) portion
 
 abbrev pub read_change : Change → PlainChange
-read_change c = record { acl = c.acl; portion = option_map read_portion c.portion; condition = option_map read c.condition }
+read_change c = record { commalist = c.commalist; portion = option_map read_portion c.portion; condition = option_map read c.condition }
 
 abbrev pub read_item_form : ItemForm → PlainItemForm
 read_item_form (Set t) = set_to (read_tree t)
-read_item_form (Insert acl t) = insert acl (read_tree t)
-read_item_form (Delete acl t) = delete acl (read_tree t)
+read_item_form (Insert commalist t) = insert commalist (read_tree t)
+read_item_form (Delete commalist t) = delete commalist (read_tree t)
 read_item_form (DeleteRows change) = delete_rows (read_change change)
 read_item_form (Update change sets) = update (read_change change) (read_sets sets)
 read_item_form (Terminate at at_place condition) = terminate (read at) at_place (option_map read condition)

@@ -56,9 +56,9 @@ heading_of (rename place heading names t) = heading
 heading_of (restrict place heading c t) = heading
 heading_of (extend place heading sets t) = heading
 heading_of (summarize place heading by aggregates t) = heading
-heading_of (pack place heading acl t) = heading
-heading_of (unpack place heading acl t) = heading
-heading_of (using place heading acl t) = heading
+heading_of (pack place heading commalist t) = heading
+heading_of (unpack place heading commalist t) = heading
+heading_of (using place heading commalist t) = heading
 
 -- a test: two relations compared, perhaps by their unpacked rows, or whether one is empty
 pub data Test : Type 0 where
@@ -95,15 +95,15 @@ read_form at h (Restrict' c p place heading form) = restrict at h (read c) (read
 read_form at h (Extend' sets p place heading form) = extend at h (read_sets sets) (read_form place heading form)
 read_form at h (Summarize' by aggregates p place heading form) =
     summarize at h by (map read_aggregate aggregates) (read_form place heading form)
-read_form at h (Pack' acl p place heading form) = pack at h acl (read_form place heading form)
-read_form at h (Unpack' acl p place heading form) = unpack at h acl (read_form place heading form)
-read_form at h (Using' acl p place heading form) = using at h acl (read_form place heading form)
+read_form at h (Pack' commalist p place heading form) = pack at h commalist (read_form place heading form)
+read_form at h (Unpack' commalist p place heading form) = unpack at h commalist (read_form place heading form)
+read_form at h (Using' commalist p place heading form) = using at h commalist (read_form place heading form)
 
 abbrev pub read_tree : RelTree → Tree
 read_tree t = read_form t.place t.heading t.form
 
 abbrev pub read_test_form : Place → TestForm → Test
-read_test_form at (Relate word acl l r) = relate at word acl (read_tree l) (read_tree r)
+read_test_form at (Relate word commalist l r) = relate at word commalist (read_tree l) (read_tree r)
 read_test_form at (IsEmpty t) = is_empty at (read_tree t)
 read_test_form at (IsNotEmpty t) = is_not_empty at (read_tree t)
 

@@ -48,9 +48,18 @@ fn copy_form(alloc: Global, form: &RelForm) -> Result<RelForm, Memory>
             copy_aggregates(alloc, aggregates)?,
             copy_box(alloc, t)?,
         )),
-        RelForm::Pack(acl, t) => Ok(RelForm::Pack(acl.copy(alloc)?, copy_box(alloc, t)?)),
-        RelForm::Unpack(acl, t) => Ok(RelForm::Unpack(acl.copy(alloc)?, copy_box(alloc, t)?)),
-        RelForm::Using(acl, t) => Ok(RelForm::Using(acl.copy(alloc)?, copy_box(alloc, t)?)),
+        RelForm::Pack(commalist, t) => Ok(RelForm::Pack(
+            commalist.copy(alloc)?,
+            copy_box(alloc, t)?,
+        )),
+        RelForm::Unpack(commalist, t) => Ok(RelForm::Unpack(
+            commalist.copy(alloc)?,
+            copy_box(alloc, t)?,
+        )),
+        RelForm::Using(commalist, t) => Ok(RelForm::Using(
+            commalist.copy(alloc)?,
+            copy_box(alloc, t)?,
+        )),
     }
 }
 

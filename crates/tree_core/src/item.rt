@@ -38,7 +38,7 @@ pub enum ItemForm {
 /// condition.
 #[derive(Drop)]
 pub struct Change {
-    pub acl: Option<Positions>,
+    pub commalist: Option<Positions>,
     pub portion: Option<Portion>,
     pub condition: Option<Scalar>,
 }

@@ -100,35 +100,45 @@ impl RelTree {
     }
 
     /// A PACK.
-    pub fn pack(place: Place, heading: Heading, acl: Positions, part: Box<RelTree>) -> RelTree
-        ensures { read_tree result ≡ trees.pack place heading acl (read_tree part.value) }
+    pub fn pack(place: Place, heading: Heading, commalist: Positions, part: Box<RelTree>) -> RelTree
+        ensures { read_tree result ≡ trees.pack place heading commalist (read_tree part.value) }
     {
         RelTree {
             place,
             heading,
-            form: RelForm::Pack(acl, part),
+            form: RelForm::Pack(commalist, part),
         }
     }
 
     /// An UNPACK.
-    pub fn unpack(place: Place, heading: Heading, acl: Positions, part: Box<RelTree>) -> RelTree
-        ensures { read_tree result ≡ trees.unpack place heading acl (read_tree part.value) }
+    pub fn unpack(
+        place: Place,
+        heading: Heading,
+        commalist: Positions,
+        part: Box<RelTree>,
+    ) -> RelTree
+        ensures { read_tree result ≡ trees.unpack place heading commalist (read_tree part.value) }
     {
         RelTree {
             place,
             heading,
-            form: RelForm::Unpack(acl, part),
+            form: RelForm::Unpack(commalist, part),
         }
     }
 
     /// A part under USING.
-    pub fn using(place: Place, heading: Heading, acl: Positions, part: Box<RelTree>) -> RelTree
-        ensures { read_tree result ≡ trees.using place heading acl (read_tree part.value) }
+    pub fn using(
+        place: Place,
+        heading: Heading,
+        commalist: Positions,
+        part: Box<RelTree>,
+    ) -> RelTree
+        ensures { read_tree result ≡ trees.using place heading commalist (read_tree part.value) }
     {
         RelTree {
             place,
             heading,
-            form: RelForm::Using(acl, part),
+            form: RelForm::Using(commalist, part),
         }
     }
 }

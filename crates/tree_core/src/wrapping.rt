@@ -93,12 +93,12 @@ impl RelTree {
         alloc: Global,
         place: Place,
         heading: &Heading,
-        acl: Positions,
+        commalist: Positions,
     ) -> Result<RelTree, Memory>
-        ensures { IfOk result (λ t. read_tree t ≡ trees.using place heading.now acl (read_tree self)) }
+        ensures { IfOk result (λ t. read_tree t ≡ trees.using place heading.now commalist (read_tree self)) }
     {
         let heading = heading.copy(alloc)?;
         let part = Box::new(alloc, self)?;
-        Ok(RelTree::using(place, heading, acl, part))
+        Ok(RelTree::using(place, heading, commalist, part))
     }
 }

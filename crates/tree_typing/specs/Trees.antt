@@ -65,9 +65,9 @@ abbrev mutual
   operand_typed state (syntax.Relvar w) = relvar_typed state w
   operand_typed state (syntax.OfLiteral l) = literal_typed state.ordinals l
   operand_typed state (syntax.ParenRel at r) = rel_typed state r
-  operand_typed state (syntax.PackOn at w r acl) = do
+  operand_typed state (syntax.PackOn at w r commalist) = do
     part ← rel_typed state r
-    packing_rule at w acl part
+    packing_rule at w commalist part
 
   pub extend_typed : State → ExtendP → OrFault Tree
   extend_typed state (syntax.Extend at r sets) = do
@@ -81,35 +81,35 @@ abbrev mutual
 
   -- under USING the operands of an operator, and then its rule with the list
   pub using_typed : State → UsingP → OrFault Tree
-  using_typed state (syntax.Using at acl part) = used_typed state at acl part
+  using_typed state (syntax.Using at commalist part) = used_typed state at commalist part
 
   pub used_typed : State → Place → NameListP → UsingPartP → OrFault Tree
-  used_typed state place acl (syntax.UsingExtend e) = used_extend_typed state place acl e
-  used_typed state place acl (syntax.UsingSummarize s) = used_summarize_typed state place acl s
-  used_typed state place acl (syntax.UsingInfix l at w r) = do
+  used_typed state place commalist (syntax.UsingExtend e) = used_extend_typed state place commalist e
+  used_typed state place commalist (syntax.UsingSummarize s) = used_summarize_typed state place commalist s
+  used_typed state place commalist (syntax.UsingInfix l at w r) = do
     left ← operand_typed state l
     right ← operand_typed state r
-    using_infix_rule place acl at (infix_named w) left right
-  used_typed state place acl (syntax.UsingNotMatching l at r) = do
+    using_infix_rule place commalist at (infix_named w) left right
+  used_typed state place commalist (syntax.UsingNotMatching l at r) = do
     left ← operand_typed state l
     right ← operand_typed state r
-    using_infix_rule place acl at NotMatching left right
-  used_typed state place acl (syntax.UsingProject o p) = do
+    using_infix_rule place commalist at NotMatching left right
+  used_typed state place commalist (syntax.UsingProject o p) = do
     part ← operand_typed state o
-    using_projection_rule place acl p part
-  used_typed state place acl (syntax.UsingFilter o at c) = do
+    using_projection_rule place commalist p part
+  used_typed state place commalist (syntax.UsingFilter o at c) = do
     part ← operand_typed state o
-    using_restriction_rule state.ordinals place acl at c part
+    using_restriction_rule state.ordinals place commalist at c part
 
   pub used_extend_typed : State → Place → NameListP → ExtendP → OrFault Tree
-  used_extend_typed state place acl (syntax.Extend at r sets) = do
+  used_extend_typed state place commalist (syntax.Extend at r sets) = do
     part ← rel_typed state r
-    using_extension_rule state.ordinals place acl at sets part
+    using_extension_rule state.ordinals place commalist at sets part
 
   pub used_summarize_typed : State → Place → NameListP → SummarizeP → OrFault Tree
-  used_summarize_typed state place acl (syntax.Summarize at r by aggregates) = do
+  used_summarize_typed state place commalist (syntax.Summarize at r by aggregates) = do
     part ← rel_typed state r
-    using_summary_rule state.ordinals place acl at by aggregates part
+    using_summary_rule state.ordinals place commalist at by aggregates part
 
 -- the typed tree of an expression
 unfoldable pub tree_typed : State → RelP → OrFault Tree
@@ -125,14 +125,14 @@ comparison_typed state (syntax.Comparison l at w r) = do
   comparison_rule at (relation_named w) left right
 
 abbrev pub used_comparison_typed : State → NameListP → ComparisonP → OrFault Test
-used_comparison_typed state acl (syntax.Comparison l at w r) = do
+used_comparison_typed state commalist (syntax.Comparison l at w r) = do
   left ← operand_typed state l
   right ← operand_typed state r
-  using_comparison_rule acl at (relation_named w) left right
+  using_comparison_rule commalist at (relation_named w) left right
 
 -- the typed test
 unfoldable pub test_typed : State → TestP → OrFault Test
-test_typed state (syntax.UsingTest at acl c) = used_comparison_typed state acl c
+test_typed state (syntax.UsingTest at commalist c) = used_comparison_typed state commalist c
 test_typed state (syntax.OfComparison c) = comparison_typed state c
 test_typed state (syntax.Emptiness at w r) = do
   t ← rel_typed state r

@@ -139,9 +139,9 @@ module _ (sizes : List ℕ) where
   tree-declared headings (restrict place h c t) all typed = same-declared h (heading_of t) typed.1.headed (tree-declared headings t all typed.0)
   tree-declared headings (extend place h sets t) all typed = extension-declared (heading_of t) h sets typed.1 (tree-declared headings t all typed.0)
   tree-declared headings (summarize place h by aggregates t) all typed = summary-declared (heading_of t) h by aggregates typed.1 (tree-declared headings t all typed.0)
-  tree-declared headings (pack place h acl t) all typed = same-declared h (heading_of t) typed.2 (tree-declared headings t all typed.0)
-  tree-declared headings (unpack place h acl t) all typed = same-declared h (heading_of t) typed.2 (tree-declared headings t all typed.0)
-  tree-declared headings (using place h acl t) all typed = same-declared h (heading_of t) typed.2 (tree-declared headings t all typed.0)
+  tree-declared headings (pack place h commalist t) all typed = same-declared h (heading_of t) typed.2 (tree-declared headings t all typed.0)
+  tree-declared headings (unpack place h commalist t) all typed = same-declared h (heading_of t) typed.2 (tree-declared headings t all typed.0)
+  tree-declared headings (using place h commalist t) all typed = same-declared h (heading_of t) typed.2 (tree-declared headings t all typed.0)
 
   -- ---- relvars and views
 

@@ -20,11 +20,11 @@ use Rattle.since_during.proofs.JoinableLemmas.{some-base}
 
 -- it is well made behind the entries before it
 record IsMadeIn (sizes : List ℕ) (whole : Entries) (r : PlainRelvar) : Type 0 where
-  pub front : Entries
+  pub prefix : Entries
   pub own : Name
   pub back : Entries
-  pub split : whole ≡ front ++ (own, r) ∷ back
-  pub made : IsRelvar sizes front own r
+  pub split : whole ≡ prefix ++ (own, r) ∷ back
+  pub made : IsRelvar sizes prefix own r
 
 made-in : (sizes : List ℕ) (before es : Entries) (name : Name) (r : PlainRelvar) → AreRelvars sizes before es → relvar_named es name ≡ Some r → IsMadeIn sizes (before ++ es) r
 made-in sizes before [] name r are e = absurd (cc)
@@ -33,14 +33,14 @@ made-in sizes before (k ∷ rest) name r are e = by-test (bytes_eq k.0 name) e (
     by-test : (b : Bool) → (if b then Some k.1 else relvar_named rest name) ≡ Some r → (relvar_named rest name ≡ Some r → IsMadeIn sizes ((before ++ k ∷ []) ++ rest) r)
         → IsMadeIn sizes (before ++ k ∷ rest) r
     by-test true f more =
-        subst (λ (x : PlainRelvar). IsMadeIn sizes (before ++ k ∷ rest) x) (let same : k.1 ≡ r = cc in same) (record { front = before; own = k.0; back = rest; split = refl; made = are.0 })
+        subst (λ (x : PlainRelvar). IsMadeIn sizes (before ++ k ∷ rest) x) (let same : k.1 ≡ r = cc in same) (record { prefix = before; own = k.0; back = rest; split = refl; made = are.0 })
     by-test false f more = subst (λ (es : Entries). IsMadeIn sizes es r) (append_assoc before (k ∷ []) rest) (more f)
 
 -- a base relvar before it is the one of its name
-named-whole : (sizes : List ℕ) (whole : Entries) (r : PlainRelvar) (m : IsMadeIn sizes whole r) (name : Name) → IsBase (relvar_named m.front name) → relvar_named whole name ≡ relvar_named m.front name
+named-whole : (sizes : List ℕ) (whole : Entries) (r : PlainRelvar) (m : IsMadeIn sizes whole r) (name : Name) → IsBase (relvar_named m.prefix name) → relvar_named whole name ≡ relvar_named m.prefix name
 named-whole sizes whole r m name is =
-    let found = some-base (relvar_named m.front name) is in
-    ap (λ (es : Entries). relvar_named es name) m.split ∙ (named_before m.front ((m.own, r) ∷ m.back) name found.0 found.1 ∙ sym found.1)
+    let found = some-base (relvar_named m.prefix name) is in
+    ap (λ (es : Entries). relvar_named es name) m.split ∙ (named_before m.prefix ((m.own, r) ∷ m.back) name found.0 found.1 ∙ sym found.1)
 
 -- ---- the facts
 
@@ -64,6 +64,6 @@ facts-told s place name t names made e =
     let m = made-in (sizes_of s.ordinals) [] s.relvars name (view t (Some names)) made.relvars e in
     let since = named-whole (sizes_of s.ordinals) s.relvars (view t (Some names)) m names.0 m.made.1.0 in
     let during = named-whole (sizes_of s.ordinals) s.relvars (view t (Some names)) m names.1 m.made.1.1 in
-    let rule = rule-there m.front names.0 names.1 t (rule_among (constraints_if (relvar_named m.front names.1))) m.made.1.2 in
+    let rule = rule-there m.prefix names.0 names.1 t (rule_among (constraints_if (relvar_named m.prefix names.1))) m.made.1.2 in
     told place (rule_if s.relvars (Some names)) (relvar_named s.relvars names.0) (subst (λ (o : Option PlainRelvar). IsThere (rule_among (constraints_if o))) (sym during) rule)
     (subst IsBase (sym since) m.made.1.0)

@@ -44,11 +44,11 @@ listed-more made old attributes name kind h new = record {
   same =
       let a : Name × Kind = (name, kind) in
       let split : (made ++ (name, kind) ∷ []) ++ old ≡ made ++ (name, kind) ∷ old = append_assoc made ((name, kind) ∷ []) old in
-      let front : IsPermutation (made ++ (name, kind) ∷ old) ((name, kind) ∷ (made ++ old)) = IsPermutation-middle made (name, kind) old in
+      let prefix : IsPermutation (made ++ (name, kind) ∷ old) ((name, kind) ∷ (made ++ old)) = IsPermutation-middle made (name, kind) old in
       let more : IsPermutation ((name, kind) ∷ (made ++ old)) ((name, kind) ∷ attributes) = IsPermutation-cons (name, kind) (made ++ old) attributes h.same in
       let put : IsPermutation ((name, kind) ∷ attributes) (with_attribute attributes name kind) = insert-permutes attributes name kind new in
       subst (λ (l : Heading). IsPermutation l (with_attribute attributes name kind)) (sym split)
-      (IsPermutation-trans (made ++ (name, kind) ∷ old) ((name, kind) ∷ (made ++ old)) (with_attribute attributes name kind) front
+      (IsPermutation-trans (made ++ (name, kind) ∷ old) ((name, kind) ∷ (made ++ old)) (with_attribute attributes name kind) prefix
       (IsPermutation-trans ((name, kind) ∷ (made ++ old)) ((name, kind) ∷ attributes) (with_attribute attributes name kind) more put));
   ascends = insert-ascends attributes name kind new h.ascends;
 }

@@ -55,9 +55,9 @@ use Rattle.type_check.proofs.PortionTypedLemmas.{AreNamed, portion-sound}
 
 -- ---- changes that work point by point
 
-condition-swept : (acl : List ℕ) (c : Option Expr) → IfOk (condition_swept acl c) (λ _. IsTrue (condition_is_swept (Some acl) c))
-condition-swept acl None = refl
-condition-swept acl (Some c) = swept-is acl c
+condition-swept : (commalist : List ℕ) (c : Option Expr) → IfOk (condition_swept commalist c) (λ _. IsTrue (condition_is_swept (Some commalist) c))
+condition-swept commalist None = refl
+condition-swept commalist (Some c) = swept-is commalist c
 
 -- items of other names assign no attribute at the positions of these names
 others-at : (heading : Heading) (names : List Name) (sets : PlainSets) → ((name : Name) → In name names → IsTrue (has_name heading name))
@@ -97,8 +97,8 @@ abbrev pub IsTarget : State → Target → Type 0
 IsTarget s t = IsBaseOf s t.0 t.1
 
 plain-change : (sizes : List ℕ) (heading : Heading) (c : Option Expr) → IsConditionIf sizes heading c → IsChange sizes heading (change None None c)
-plain-change sizes heading None h = record { acl = tt; portion = tt; condition = tt; swept = refl }
-plain-change sizes heading (Some c) h = record { acl = tt; portion = tt; condition = h; swept = refl }
+plain-change sizes heading None h = record { commalist = tt; portion = tt; condition = tt; swept = refl }
+plain-change sizes heading (Some c) h = record { commalist = tt; portion = tt; condition = h; swept = refl }
 
 module _ (state : State) (made : IsWellMade state) where
   pub target-sound : (w : Word) → IfOk (target_typed state w) (IsTarget state)
@@ -134,12 +134,12 @@ module _ (state : State) (made : IsWellMade state) where
       → IsChange (sizes_of state.ordinals) heading (change None (Some m) c) × IsTrue (are_swept_sets heading (Some (attributes_of_portion m)) sets)
   portion-change heading names m c sets portion is h swept = (
     record {
-      acl = tt;
+      commalist = tt;
       portion = portion;
       condition = h;
-      swept = subst (λ (acl : List ℕ). IsTrue (condition_is_swept (Some acl) c)) (sym is.positions) swept.0;
+      swept = subst (λ (commalist : List ℕ). IsTrue (condition_is_swept (Some commalist) c)) (sym is.positions) swept.0;
     },
-    subst (λ (acl : List ℕ). IsTrue (are_swept_sets heading (Some acl) sets)) (sym is.positions) swept.1,
+    subst (λ (commalist : List ℕ). IsTrue (are_swept_sets heading (Some commalist) sets)) (sym is.positions) swept.1,
   )
 
   -- a portion of these names
@@ -195,7 +195,7 @@ module _ (state : State) (made : IsWellMade state) where
   -- over USING
   used-change : (heading : Heading) (list : NameListP) (names : List Name) (c : Option Expr) → AreListed heading heading list names → IsConditionIf (sizes_of state.ordinals) heading c
       → IsTrue (condition_is_swept (Some (positions_of heading names)) c) → IsChange (sizes_of state.ordinals) heading (change (Some (positions_of heading names)) None c)
-  used-change heading list names c is h swept = record { acl = left-list heading heading list names is; portion = tt; condition = h; swept = swept }
+  used-change heading list names c is h swept = record { commalist = left-list heading heading list names is; portion = tt; condition = h; swept = swept }
 
   used-deletion-sound : (w : Word) (name : Name) (heading : Heading) (list : NameListP) (d : UsedDeletionP) → IsBaseOf state name heading → IfOk (used_deletion_typed state w heading list d) (IsTypedForm state name heading)
   used-deletion-sound w name heading list (syntax.UsedDeleteWhere at s) there =

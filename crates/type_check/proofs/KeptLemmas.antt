@@ -130,21 +130,21 @@ items-assigned types from list before (SetItem w s ∷ rest) within h =
 
 -- ---- sweepable expressions
 
-pub swept-is : (acl : List ℕ) (e : Expr) → IfOk (swept acl e) (λ _. IsTrue (is_swept acl e))
-swept-is acl e = by-place (sweep_fault acl e) refl
+pub swept-is : (commalist : List ℕ) (e : Expr) → IfOk (swept commalist e) (λ _. IsTrue (is_swept commalist e))
+swept-is commalist e = by-place (sweep_fault commalist e) refl
   where
-    by-place : (o : Option Place) → sweep_fault acl e ≡ o → IfOk (refused_if E18 o) (λ _. IsTrue (is_swept acl e))
+    by-place : (o : Option Place) → sweep_fault commalist e ≡ o → IfOk (refused_if E18 o) (λ _. IsTrue (is_swept commalist e))
     by-place None h = ap is_none h
     by-place (Some place) h = tt
 
-pub sets-swept : (acl : List ℕ) (sets : PlainSets) → IfOk (sets_swept acl sets) (λ _. IsTrue (list_all (λ (s : Name × Expr). is_swept acl s.1) sets))
-sets-swept acl [] = refl
-sets-swept acl (s ∷ rest) =
-    then-sound (λ _. IsTrue (is_swept acl s.1)) _ (swept acl s.1) _ (swept-is acl s.1) (λ _ here. onward (sets_swept acl rest) here (sets-swept acl rest))
+pub sets-swept : (commalist : List ℕ) (sets : PlainSets) → IfOk (sets_swept commalist sets) (λ _. IsTrue (list_all (λ (s : Name × Expr). is_swept commalist s.1) sets))
+sets-swept commalist [] = refl
+sets-swept commalist (s ∷ rest) =
+    then-sound (λ _. IsTrue (is_swept commalist s.1)) _ (swept commalist s.1) _ (swept-is commalist s.1) (λ _ here. onward (sets_swept commalist rest) here (sets-swept commalist rest))
   where
-    onward : (r : OrFault (Unit {0})) → IsTrue (is_swept acl s.1) → IfOk r (λ _. IsTrue (list_all (λ (s : Name × Expr). is_swept acl s.1) rest))
-        → IfOk r (λ _. IsTrue (list_all (λ (s : Name × Expr). is_swept acl s.1) (s ∷ rest)))
-    onward (Ok u) here k = and_from (is_swept acl s.1) (list_all (λ (t : Name × Expr). is_swept acl t.1) rest) here k
+    onward : (r : OrFault (Unit {0})) → IsTrue (is_swept commalist s.1) → IfOk r (λ _. IsTrue (list_all (λ (s : Name × Expr). is_swept commalist s.1) rest))
+        → IfOk r (λ _. IsTrue (list_all (λ (s : Name × Expr). is_swept commalist s.1) (s ∷ rest)))
+    onward (Ok u) here k = and_from (is_swept commalist s.1) (list_all (λ (t : Name × Expr). is_swept commalist t.1) rest) here k
     onward (Err e) here k = tt
 
 -- ---- expressions without listed attributes
@@ -153,43 +153,43 @@ first-none : (xs ys : List Place) → first_place (xs ++ ys) ≡ None → (first
 first-none [] ys h = (refl, h)
 first-none (p ∷ xs) ys h = absurd cc
 
-unnamed : (acl : List ℕ) (e : Expr) → first_place (named_places acl e) ≡ None → names_any acl e ≡ false
-unnamed acl (constant place kind v) h = refl
-unnamed acl (attribute place i) h = by-test (among acl i) h
+unnamed : (commalist : List ℕ) (e : Expr) → first_place (named_places commalist e) ≡ None → names_any commalist e ≡ false
+unnamed commalist (constant place kind v) h = refl
+unnamed commalist (attribute place i) h = by-test (among commalist i) h
   where
     by-test : (b : Bool) → first_place (cond b (place ∷ []) []) ≡ None → b ≡ false
     by-test true h = absurd cc
     by-test false h = refl
-unnamed acl (one op place e) h = unnamed acl e h
-unnamed acl (pair op place l r) h =
-    let parts = first-none (named_places acl l) (named_places acl r) h in
-    or_from (names_any acl l) (names_any acl r) (unnamed acl l parts.0) (unnamed acl r parts.1)
-unnamed acl (and_expr place l r) h =
-    let parts = first-none (named_places acl l) (named_places acl r) h in
-    or_from (names_any acl l) (names_any acl r) (unnamed acl l parts.0) (unnamed acl r parts.1)
-unnamed acl (or_expr place l r) h =
-    let parts = first-none (named_places acl l) (named_places acl r) h in
-    or_from (names_any acl l) (names_any acl r) (unnamed acl l parts.0) (unnamed acl r parts.1)
+unnamed commalist (one op place e) h = unnamed commalist e h
+unnamed commalist (pair op place l r) h =
+    let parts = first-none (named_places commalist l) (named_places commalist r) h in
+    or_from (names_any commalist l) (names_any commalist r) (unnamed commalist l parts.0) (unnamed commalist r parts.1)
+unnamed commalist (and_expr place l r) h =
+    let parts = first-none (named_places commalist l) (named_places commalist r) h in
+    or_from (names_any commalist l) (names_any commalist r) (unnamed commalist l parts.0) (unnamed commalist r parts.1)
+unnamed commalist (or_expr place l r) h =
+    let parts = first-none (named_places commalist l) (named_places commalist r) h in
+    or_from (names_any commalist l) (names_any commalist r) (unnamed commalist l parts.0) (unnamed commalist r parts.1)
 
-names-none : (acl : List ℕ) (e : Expr) → IfOk (names_no acl e) (λ _. IsTrue (not (names_any acl e)))
-names-none acl e = by-place (first_place (named_places acl e)) refl
+names-none : (commalist : List ℕ) (e : Expr) → IfOk (names_no commalist e) (λ _. IsTrue (not (names_any commalist e)))
+names-none commalist e = by-place (first_place (named_places commalist e)) refl
   where
-    by-place : (o : Option Place) → first_place (named_places acl e) ≡ o → IfOk (refused_if E18 o) (λ _. IsTrue (not (names_any acl e)))
-    by-place None h = not_from_false (names_any acl e) (unnamed acl e h)
+    by-place : (o : Option Place) → first_place (named_places commalist e) ≡ o → IfOk (refused_if E18 o) (λ _. IsTrue (not (names_any commalist e)))
+    by-place None h = not_from_false (names_any commalist e) (unnamed commalist e h)
     by-place (Some place) h = tt
 
-form-none : (acl : List ℕ) (form : PlainAggregateForm) → IfOk (form_names_no acl form) (λ _. IsTrue (names_none acl form))
-form-none acl count_rows = refl
-form-none acl (sum_of e) = names-none acl e
-form-none acl (min_of e) = names-none acl e
-form-none acl (max_of e) = names-none acl e
+form-none : (commalist : List ℕ) (form : PlainAggregateForm) → IfOk (form_names_no commalist form) (λ _. IsTrue (names_none commalist form))
+form-none commalist count_rows = refl
+form-none commalist (sum_of e) = names-none commalist e
+form-none commalist (min_of e) = names-none commalist e
+form-none commalist (max_of e) = names-none commalist e
 
-pub aggregates-none : (acl : List ℕ) (aggregates : List PlainAggregate) → IfOk (aggregates_name_no acl aggregates) (λ _. IsTrue (list_all (λ (a : PlainAggregate). names_none acl a.form) aggregates))
-aggregates-none acl [] = refl
-aggregates-none acl (g ∷ rest) =
-    then-sound (λ _. IsTrue (names_none acl g.form)) _ (form_names_no acl g.form) _ (form-none acl g.form) (λ _ here. onward (aggregates_name_no acl rest) here (aggregates-none acl rest))
+pub aggregates-none : (commalist : List ℕ) (aggregates : List PlainAggregate) → IfOk (aggregates_name_no commalist aggregates) (λ _. IsTrue (list_all (λ (a : PlainAggregate). names_none commalist a.form) aggregates))
+aggregates-none commalist [] = refl
+aggregates-none commalist (g ∷ rest) =
+    then-sound (λ _. IsTrue (names_none commalist g.form)) _ (form_names_no commalist g.form) _ (form-none commalist g.form) (λ _ here. onward (aggregates_name_no commalist rest) here (aggregates-none commalist rest))
   where
-    onward : (r : OrFault (Unit {0})) → IsTrue (names_none acl g.form) → IfOk r (λ _. IsTrue (list_all (λ (a : PlainAggregate). names_none acl a.form) rest))
-        → IfOk r (λ _. IsTrue (list_all (λ (a : PlainAggregate). names_none acl a.form) (g ∷ rest)))
-    onward (Ok u) here k = and_from (names_none acl g.form) (list_all (λ (a : PlainAggregate). names_none acl a.form) rest) here k
+    onward : (r : OrFault (Unit {0})) → IsTrue (names_none commalist g.form) → IfOk r (λ _. IsTrue (list_all (λ (a : PlainAggregate). names_none commalist a.form) rest))
+        → IfOk r (λ _. IsTrue (list_all (λ (a : PlainAggregate). names_none commalist a.form) (g ∷ rest)))
+    onward (Ok u) here k = and_from (names_none commalist g.form) (list_all (λ (a : PlainAggregate). names_none commalist a.form) rest) here k
     onward (Err e) here k = tt

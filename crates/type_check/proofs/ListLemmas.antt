@@ -125,10 +125,10 @@ left-list left right list names h = list-of left names (λ n i. ((h.shared n i).
 
 -- ---- PACK and UNPACK
 
-packed-typed : (sizes : List ℕ) (headings : Headings) (place : Place) (word : PackWord) (acl : List ℕ) (t : Tree) → IsTypedTree sizes headings t → IsList (heading_of t) acl
-    → IsTypedTree sizes headings (packed_by word place (heading_of t) acl t)
-packed-typed sizes headings place Pack acl t typed is = (typed, is, refl)
-packed-typed sizes headings place Unpack acl t typed is = (typed, is, refl)
+packed-typed : (sizes : List ℕ) (headings : Headings) (place : Place) (word : PackWord) (commalist : List ℕ) (t : Tree) → IsTypedTree sizes headings t → IsList (heading_of t) commalist
+    → IsTypedTree sizes headings (packed_by word place (heading_of t) commalist t)
+packed-typed sizes headings place Pack commalist t typed is = (typed, is, refl)
+packed-typed sizes headings place Unpack commalist t typed is = (typed, is, refl)
 
 pub packing-sound : (sizes : List ℕ) (headings : Headings) (place : Place) (word : PackWord) (list : NameListP) (t : Tree) → IsTypedTree sizes headings t
     → IfOk (packing_rule place word list t) (IsTypedTree sizes headings)

@@ -102,13 +102,13 @@ as-portion : (sizes : List ℕ) (heading : Heading) (name : Name) (names : List 
     → IsPortionIf sizes heading None (Some m)
 as-portion sizes heading name names [] h is few = absurd (let e = is.positions in cc)
 as-portion sizes heading name names (p ∷ m) h is few =
-    let acl : List ℕ = attributes_of_portion (p ∷ m) in (
+    let commalist : List ℕ = attributes_of_portion (p ∷ m) in (
       record {
-        within = All-In (λ (i : ℕ). i < length heading) acl (λ i j.
+        within = All-In (λ (i : ℕ). i < length heading) commalist (λ i j.
             let w = (In-map (λ (q : ℕ × Expr). q.0) i (p ∷ m)).0 j in
             subst (λ (k : ℕ). k < length heading) (sym w.2) (h.parts w.0 w.1).0);
         different = h.different;
-        spans = (list_all-In (λ i. is_span (kind_at heading i)) acl).1 (λ i j.
+        spans = (list_all-In (λ i. is_span (kind_at heading i)) commalist).1 (λ i j.
             let w = (In-map (λ (q : ℕ × Expr). q.0) i (p ∷ m)).0 j in
             subst (λ (k : ℕ). IsTrue (is_span (kind_at heading k))) (sym w.2) (h.parts w.0 w.1).1.0);
         few = let same = length-map (p ∷ m) (λ (q : ℕ × Expr). q.0) in omega (arith, same, few);

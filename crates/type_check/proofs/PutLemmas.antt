@@ -91,19 +91,19 @@ unfolding IsDistinct
 distinct-ascends [] up = tt
 distinct-ascends (a ∷ rest) up = (apart-after a rest up.0, distinct-ascends rest up.1)
 
-both-new : (front : Heading) (a : Name × Kind) (rest : Heading) → AllByRecursion (λ b. has_name front b.0 ≡ false) rest → AllByRecursion (λ b. bytes_eq a.0 b.0 ≡ false) rest
-    → AllByRecursion (λ b. has_name (front ++ a ∷ []) b.0 ≡ false) rest
-both-new front a [] h d = tt
-both-new front a (b ∷ rest) h d = (
-  list_any-append (λ (c : Name × Kind). bytes_eq c.0 b.0) front (a ∷ []) ∙ neither (has_name front b.0) (bytes_eq a.0 b.0) h.0 d.0,
-  both-new front a rest h.1 d.1,
+both-new : (prefix : Heading) (a : Name × Kind) (rest : Heading) → AllByRecursion (λ b. has_name prefix b.0 ≡ false) rest → AllByRecursion (λ b. bytes_eq a.0 b.0 ≡ false) rest
+    → AllByRecursion (λ b. has_name (prefix ++ a ∷ []) b.0 ≡ false) rest
+both-new prefix a [] h d = tt
+both-new prefix a (b ∷ rest) h d = (
+  list_any-append (λ (c : Name × Kind). bytes_eq c.0 b.0) prefix (a ∷ []) ∙ neither (has_name prefix b.0) (bytes_eq a.0 b.0) h.0 d.0,
+  both-new prefix a rest h.1 d.1,
 )
 
-none-repeated : (front rest : Heading) (n : ℕ) → AllByRecursion (λ b. has_name front b.0 ≡ false) rest → IsDistinct (λ (a b : Name × Kind). bytes_eq a.0 b.0) rest → repeat_after front n rest ≡ None
+none-repeated : (prefix rest : Heading) (n : ℕ) → AllByRecursion (λ b. has_name prefix b.0 ≡ false) rest → IsDistinct (λ (a b : Name × Kind). bytes_eq a.0 b.0) rest → repeat_after prefix n rest ≡ None
 unfolding IsDistinct
-none-repeated front [] n h d = refl
-none-repeated front (a ∷ rest) n h d =
-    ap (λ t. if t then Some n else repeat_after (front ++ a ∷ []) (n + 1) rest) h.0 ∙ none-repeated (front ++ a ∷ []) rest (n + 1) (both-new front a rest h.1 d.0) d.1
+none-repeated prefix [] n h d = refl
+none-repeated prefix (a ∷ rest) n h d =
+    ap (λ t. if t then Some n else repeat_after (prefix ++ a ∷ []) (n + 1) rest) h.0 ∙ none-repeated (prefix ++ a ∷ []) rest (n + 1) (both-new prefix a rest h.1 d.0) d.1
 
 none-before : (list : Heading) → AllByRecursion (λ b. has_name [] b.0 ≡ false) list
 none-before [] = tt

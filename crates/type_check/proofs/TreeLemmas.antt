@@ -54,11 +54,11 @@ module _ (state : State) (made : IsWellMade state) where
   infix-typed at word l r h k =
       part-sound l _ h (λ left a. part-sound r _ k (λ right b. infix-sound (sizes_of state.ordinals) (headings_of state.relvars) at word left right a b))
 
-  used-infix-typed : (place : Place) (acl : NameListP) (at : Place) (word : InfixWord) (l r : OrFault Tree) → IfOk l (IsTypedFor state) → IfOk r (IsTypedFor state)
-      → IfOk (l >>= (λ left. r >>= (λ right. using_infix_rule place acl at word left right))) (IsTypedFor state)
-  used-infix-typed place acl at word l r h k =
+  used-infix-typed : (place : Place) (commalist : NameListP) (at : Place) (word : InfixWord) (l r : OrFault Tree) → IfOk l (IsTypedFor state) → IfOk r (IsTypedFor state)
+      → IfOk (l >>= (λ left. r >>= (λ right. using_infix_rule place commalist at word left right))) (IsTypedFor state)
+  used-infix-typed place commalist at word l r h k =
       part-sound l _ h (λ left a. part-sound r _ k (λ right b.
-      using-infix-sound (sizes_of state.ordinals) (headings_of state.relvars) place acl at word left right (headed left a) (headed right b) a b))
+      using-infix-sound (sizes_of state.ordinals) (headings_of state.relvars) place commalist at word left right (headed left a) (headed right b) a b))
 
   -- ---- expressions
 
@@ -90,8 +90,8 @@ module _ (state : State) (made : IsWellMade state) where
     operand-sound (syntax.Relvar w) = relvar-sound w
     operand-sound (syntax.OfLiteral l) = literal-sound state.ordinals made.ordinals (headings_of state.relvars) l
     operand-sound (syntax.ParenRel at r) = rel-sound r
-    operand-sound (syntax.PackOn at w r acl) =
-        part-sound (rel_typed state r) _ (rel-sound r) (λ part h. packing-sound (sizes_of state.ordinals) (headings_of state.relvars) at w acl part h)
+    operand-sound (syntax.PackOn at w r commalist) =
+        part-sound (rel_typed state r) _ (rel-sound r) (λ part h. packing-sound (sizes_of state.ordinals) (headings_of state.relvars) at w commalist part h)
 
     extend-sound : (e : ExtendP) → IfOk (extend_typed state e) (IsTypedFor state)
     extend-sound (syntax.Extend at r sets) =
@@ -103,29 +103,29 @@ module _ (state : State) (made : IsWellMade state) where
         part-sound (rel_typed state r) _ (rel-sound r) (λ part h. summary-sound state.ordinals made.ordinals (headings_of state.relvars) at by aggregates part (headed part h) h)
 
     using-sound : (u : UsingP) → IfOk (using_typed state u) (IsTypedFor state)
-    using-sound (syntax.Using at acl part) = used-sound at acl part
+    using-sound (syntax.Using at commalist part) = used-sound at commalist part
 
-    used-sound : (place : Place) (acl : NameListP) (part : UsingPartP) → IfOk (used_typed state place acl part) (IsTypedFor state)
-    used-sound place acl (syntax.UsingExtend e) = used-extend-sound place acl e
-    used-sound place acl (syntax.UsingSummarize s) = used-summarize-sound place acl s
-    used-sound place acl (syntax.UsingInfix l at w r) =
-        used-infix-typed place acl at (infix_named w) (operand_typed state l) (operand_typed state r) (operand-sound l) (operand-sound r)
-    used-sound place acl (syntax.UsingNotMatching l at r) =
-        used-infix-typed place acl at NotMatching (operand_typed state l) (operand_typed state r) (operand-sound l) (operand-sound r)
-    used-sound place acl (syntax.UsingProject o p) =
-        part-sound (operand_typed state o) _ (operand-sound o) (λ part h. using-projection-sound (sizes_of state.ordinals) (headings_of state.relvars) place acl p part (headed part h) h)
-    used-sound place acl (syntax.UsingFilter o at c) =
-        part-sound (operand_typed state o) _ (operand-sound o) (λ part h. using-restriction-sound state.ordinals made.ordinals (headings_of state.relvars) place acl at c part h)
+    used-sound : (place : Place) (commalist : NameListP) (part : UsingPartP) → IfOk (used_typed state place commalist part) (IsTypedFor state)
+    used-sound place commalist (syntax.UsingExtend e) = used-extend-sound place commalist e
+    used-sound place commalist (syntax.UsingSummarize s) = used-summarize-sound place commalist s
+    used-sound place commalist (syntax.UsingInfix l at w r) =
+        used-infix-typed place commalist at (infix_named w) (operand_typed state l) (operand_typed state r) (operand-sound l) (operand-sound r)
+    used-sound place commalist (syntax.UsingNotMatching l at r) =
+        used-infix-typed place commalist at NotMatching (operand_typed state l) (operand_typed state r) (operand-sound l) (operand-sound r)
+    used-sound place commalist (syntax.UsingProject o p) =
+        part-sound (operand_typed state o) _ (operand-sound o) (λ part h. using-projection-sound (sizes_of state.ordinals) (headings_of state.relvars) place commalist p part (headed part h) h)
+    used-sound place commalist (syntax.UsingFilter o at c) =
+        part-sound (operand_typed state o) _ (operand-sound o) (λ part h. using-restriction-sound state.ordinals made.ordinals (headings_of state.relvars) place commalist at c part h)
 
-    used-extend-sound : (place : Place) (acl : NameListP) (e : ExtendP) → IfOk (used_extend_typed state place acl e) (IsTypedFor state)
-    used-extend-sound place acl (syntax.Extend at r sets) =
+    used-extend-sound : (place : Place) (commalist : NameListP) (e : ExtendP) → IfOk (used_extend_typed state place commalist e) (IsTypedFor state)
+    used-extend-sound place commalist (syntax.Extend at r sets) =
         part-sound (rel_typed state r) _ (rel-sound r) (λ part h.
-        using-extension-sound state.ordinals made.ordinals (headings_of state.relvars) place acl at sets part (headed part h) h)
+        using-extension-sound state.ordinals made.ordinals (headings_of state.relvars) place commalist at sets part (headed part h) h)
 
-    used-summarize-sound : (place : Place) (acl : NameListP) (s : SummarizeP) → IfOk (used_summarize_typed state place acl s) (IsTypedFor state)
-    used-summarize-sound place acl (syntax.Summarize at r by aggregates) =
+    used-summarize-sound : (place : Place) (commalist : NameListP) (s : SummarizeP) → IfOk (used_summarize_typed state place commalist s) (IsTypedFor state)
+    used-summarize-sound place commalist (syntax.Summarize at r by aggregates) =
         part-sound (rel_typed state r) _ (rel-sound r) (λ part h.
-        using-summary-sound state.ordinals made.ordinals (headings_of state.relvars) place acl at by aggregates part (headed part h) h)
+        using-summary-sound state.ordinals made.ordinals (headings_of state.relvars) place commalist at by aggregates part (headed part h) h)
 
   -- ---- tests
 
@@ -135,11 +135,11 @@ module _ (state : State) (made : IsWellMade state) where
       then-sound (IsTypedFor state) (IsTypedTestFor state) (operand_typed state r) _ (operand-sound r) (λ right b.
       comparison-sound (sizes_of state.ordinals) (headings_of state.relvars) at (relation_named w) left right a b))
 
-  used-compared : (acl : NameListP) (c : ComparisonP) → IfOk (used_comparison_typed state acl c) (IsTypedTestFor state)
-  used-compared acl (syntax.Comparison l at w r) =
+  used-compared : (commalist : NameListP) (c : ComparisonP) → IfOk (used_comparison_typed state commalist c) (IsTypedTestFor state)
+  used-compared commalist (syntax.Comparison l at w r) =
       then-sound (IsTypedFor state) (IsTypedTestFor state) (operand_typed state l) _ (operand-sound l) (λ left a.
       then-sound (IsTypedFor state) (IsTypedTestFor state) (operand_typed state r) _ (operand-sound r) (λ right b.
-      using-comparison-sound (sizes_of state.ordinals) (headings_of state.relvars) acl at (relation_named w) left right a b))
+      using-comparison-sound (sizes_of state.ordinals) (headings_of state.relvars) commalist at (relation_named w) left right a b))
 
   pub tree-sound : (r : RelP) → IfOk (tree_typed state r) (IsTypedFor state)
   unfolding tree_typed
@@ -147,7 +147,7 @@ module _ (state : State) (made : IsWellMade state) where
 
   pub test-sound : (t : TestP) → IfOk (test_typed state t) (IsTypedTestFor state)
   unfolding test_typed
-  test-sound (syntax.UsingTest at acl c) = used-compared acl c
+  test-sound (syntax.UsingTest at commalist c) = used-compared commalist c
   test-sound (syntax.OfComparison c) = compared c
   test-sound (syntax.Emptiness at w r) =
       then-sound (IsTypedFor state) (IsTypedTestFor state) (rel_typed state r) _ (rel-sound r) (λ t h. emptiness-sound (sizes_of state.ordinals) (headings_of state.relvars) at w t h)

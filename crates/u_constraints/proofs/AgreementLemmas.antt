@@ -49,34 +49,34 @@ module _ (x y : Row) where
   same_beside (i ∷ is) [] h e = absurd h
   same_beside (i ∷ is) (t ∷ ts) h e = (ap (first no_value) e, same_beside is ts h.1 (ap rest e))
 
-  module _ (acl acl' : List ℕ) where
+  module _ (commalist commalist' : List ℕ) where
     abbrev kept : Bool → ℕ → List ℕ → List ℕ
     kept b i is = if not b then i ∷ is else is
 
     -- the values at what is not unpacked
-    unlisted_same : (is ts : List ℕ) → Beside (λ i t. (at x i ≡ at y t) × (among acl i ≡ among acl' t)) is ts → map (at x) (unlisted acl is) ≡ map (at y) (unlisted acl' ts)
+    unlisted_same : (is ts : List ℕ) → Beside (λ i t. (at x i ≡ at y t) × (among commalist i ≡ among commalist' t)) is ts → map (at x) (unlisted commalist is) ≡ map (at y) (unlisted commalist' ts)
     unlisted_same [] [] h = refl
     unlisted_same [] (t ∷ ts) h = absurd h
     unlisted_same (i ∷ is) [] h = absurd h
     unlisted_same (i ∷ is) (t ∷ ts) h =
         let more = unlisted_same is ts h.1 in
-        ap (λ b. map (at x) (kept b i (unlisted acl is))) h.0.1
-        ∙ (elim (among acl' t) as (λ b. map (at x) (kept b i (unlisted acl is)) ≡ map (at y) (kept b t (unlisted acl' ts))) [
+        ap (λ b. map (at x) (kept b i (unlisted commalist is))) h.0.1
+        ∙ (elim (among commalist' t) as (λ b. map (at x) (kept b i (unlisted commalist is)) ≡ map (at y) (kept b t (unlisted commalist' ts))) [
           | true ↦ more
           | false ↦ ap₂ (λ (v : Value) (vs : List Value). v ∷ vs) h.0.0 more
         ])
 
     -- and with those that are unpacked all values
-    all_same : (is ts : List ℕ) → Beside (λ i t. (IsTrue (among acl i) → at x i ≡ at y t) × (among acl i ≡ among acl' t)) is ts
-        → map (at x) (unlisted acl is) ≡ map (at y) (unlisted acl' ts) → map (at x) is ≡ map (at y) ts
+    all_same : (is ts : List ℕ) → Beside (λ i t. (IsTrue (among commalist i) → at x i ≡ at y t) × (among commalist i ≡ among commalist' t)) is ts
+        → map (at x) (unlisted commalist is) ≡ map (at y) (unlisted commalist' ts) → map (at x) is ≡ map (at y) ts
     all_same [] [] h e = refl
     all_same [] (t ∷ ts) h e = absurd h
     all_same (i ∷ is) [] h e = absurd h
     all_same (i ∷ is) (t ∷ ts) h e =
-        let more : map (at x) (unlisted acl is) ≡ map (at y) (unlisted acl' ts) → map (at x) is ≡ map (at y) ts = all_same is ts h.1 in
-        let told : (b : Bool) → among acl i ≡ b → map (at x) (kept b i (unlisted acl is)) ≡ map (at y) (kept b t (unlisted acl' ts)) = λ b q.
-        sym (ap (λ c. map (at x) (kept c i (unlisted acl is))) q) ∙ e ∙ ap (λ c. map (at y) (kept c t (unlisted acl' ts))) (sym h.0.1 ∙ q) in
-        elim (among acl i) as (λ b. among acl i ≡ b → map (at x) (i ∷ is) ≡ map (at y) (t ∷ ts)) [
+        let more : map (at x) (unlisted commalist is) ≡ map (at y) (unlisted commalist' ts) → map (at x) is ≡ map (at y) ts = all_same is ts h.1 in
+        let told : (b : Bool) → among commalist i ≡ b → map (at x) (kept b i (unlisted commalist is)) ≡ map (at y) (kept b t (unlisted commalist' ts)) = λ b q.
+        sym (ap (λ c. map (at x) (kept c i (unlisted commalist is))) q) ∙ e ∙ ap (λ c. map (at y) (kept c t (unlisted commalist' ts))) (sym h.0.1 ∙ q) in
+        elim (among commalist i) as (λ b. among commalist i ≡ b → map (at x) (i ∷ is) ≡ map (at y) (t ∷ ts)) [
           | true ↦ λ q. ap₂ (λ (v : Value) (vs : List Value). v ∷ vs) (h.0.0 q) (more (told true q))
           | false ↦ λ q.
               let u = told false q in
@@ -85,9 +85,9 @@ module _ (x y : Row) where
 
 -- ---- rows of two headings
 
-module _ (h g : Heading) (here there acl : List ℕ) (alike : AreAlike h here g there) (lies : AreAmong here acl) (d : IsDistinct nat_eq here) (d' : IsDistinct nat_eq there) where
-  abbrev acl' : List ℕ
-  acl' = map (counterpart here there) acl
+module _ (h g : Heading) (here there commalist : List ℕ) (alike : AreAlike h here g there) (lies : AreAmong here commalist) (d : IsDistinct nat_eq here) (d' : IsDistinct nat_eq there) where
+  abbrev commalist' : List ℕ
+  commalist' = map (counterpart here there) commalist
 
   -- two lists of one length
   long : Beside (λ i t. Unit {0}) here there
@@ -95,36 +95,36 @@ module _ (h g : Heading) (here there acl : List ℕ) (alike : AreAlike h here g 
 
   module _ (x y : Row) where
     -- rows that agree have one box, but for the labels' other values
-    pub sides_agree : part_of here x ≡ part_of there y → spans_at acl x ≡ spans_at acl' y
+    pub sides_agree : part_of here x ≡ part_of there y → spans_at commalist x ≡ spans_at commalist' y
     sides_agree e =
         let each = same_beside x y here there long e in
-        map-In (λ i. span_of (value_at x i)) (λ i. span_of (value_at y (counterpart here there i))) acl (λ i m.
-        let v : at x i ≡ at y (counterpart here there i) = at_counterpart (λ i t. at x i ≡ at y t) here there each i (in_key here acl lies i m) in
+        map-In (λ i. span_of (value_at x i)) (λ i. span_of (value_at y (counterpart here there i))) commalist (λ i m.
+        let v : at x i ≡ at y (counterpart here there i) = at_counterpart (λ i t. at x i ≡ at y t) here there each i (in_key here commalist lies i m) in
         ap span_of (value_at-get x i ∙ v ∙ sym (value_at-get y (counterpart here there i))))
-        ∙ sym (map_twice (λ i. span_of (value_at y i)) (counterpart here there) acl)
+        ∙ sym (map_twice (λ i. span_of (value_at y i)) (counterpart here there) commalist)
 
-    pub labels_agree : part_of here x ≡ part_of there y → part_of (inner acl here) (others acl x) ≡ part_of (inner acl' there) (others acl' y)
+    pub labels_agree : part_of here x ≡ part_of there y → part_of (inner commalist here) (others commalist x) ≡ part_of (inner commalist' there) (others commalist' y)
     labels_agree e =
-        inner_values acl here x no_value
-        ∙ unlisted_same x y acl acl' here there (beside_both (λ i t. at x i ≡ at y t) (λ i t. among acl i ≡ among acl' t) here there (same_beside x y here there long e) (are_listed here there acl lies d d' long))
-        ∙ sym (inner_values acl' there y no_value)
+        inner_values commalist here x no_value
+        ∙ unlisted_same x y commalist commalist' here there (beside_both (λ i t. at x i ≡ at y t) (λ i t. among commalist i ≡ among commalist' t) here there (same_beside x y here there long e) (are_listed here there commalist lies d d' long))
+        ∙ sym (inner_values commalist' there y no_value)
 
     -- and the other way round
-    pub boxes_agree : IsShaped h acl x → IsShaped g acl' y → spans_at acl x ≡ spans_at acl' y → part_of (inner acl here) (others acl x) ≡ part_of (inner acl' there) (others acl' y) → part_of here x ≡ part_of there y
+    pub boxes_agree : IsShaped h commalist x → IsShaped g commalist' y → spans_at commalist x ≡ spans_at commalist' y → part_of (inner commalist here) (others commalist x) ≡ part_of (inner commalist' there) (others commalist' y) → part_of here x ≡ part_of there y
     boxes_agree sx sy spans labels =
-        let spans' : map (λ i. span_of (value_at x i)) acl ≡ map (λ i. span_of (value_at y (counterpart here there i))) acl = spans ∙ map_twice (λ i. span_of (value_at y i)) (counterpart here there) acl in
-        let listed = are_listed here there acl lies d d' long in
+        let spans' : map (λ i. span_of (value_at x i)) commalist ≡ map (λ i. span_of (value_at y (counterpart here there i))) commalist = spans ∙ map_twice (λ i. span_of (value_at y i)) (counterpart here there) commalist in
+        let listed = are_listed here there commalist lies d d' long in
         let kinds = beside_kinds h g here there alike in
-        let pairs = all_pairs here there acl lies d d' long in
-        let facts = beside_both (IsPair here there) (λ i t. (among acl i ≡ among acl' t) × (kind_at h i ≡ kind_at g t)) here there pairs (beside_both (λ i t. among acl i ≡ among acl' t) (λ i t. kind_at h i ≡ kind_at g t) here there listed kinds) in
-        all_same x y acl acl' here there
-        (beside_more (λ i t. IsPair here there i t × ((among acl i ≡ among acl' t) × (kind_at h i ≡ kind_at g t))) (λ i t. (IsTrue (among acl i) → at x i ≡ at y t) × (among acl i ≡ among acl' t))
+        let pairs = all_pairs here there commalist lies d d' long in
+        let facts = beside_both (IsPair here there) (λ i t. (among commalist i ≡ among commalist' t) × (kind_at h i ≡ kind_at g t)) here there pairs (beside_both (λ i t. among commalist i ≡ among commalist' t) (λ i t. kind_at h i ≡ kind_at g t) here there listed kinds) in
+        all_same x y commalist commalist' here there
+        (beside_more (λ i t. IsPair here there i t × ((among commalist i ≡ among commalist' t) × (kind_at h i ≡ kind_at g t))) (λ i t. (IsTrue (among commalist i) → at x i ≡ at y t) × (among commalist i ≡ among commalist' t))
         (λ i t f. (
           λ m.
-              let there_too : IsTrue (among acl' t) = sym f.1.0 ∙ m in
+              let there_too : IsTrue (among commalist' t) = sym f.1.0 ∙ m in
               let span : span_of (value_at x i) ≡ span_of (value_at y t) =
-              same_of (λ i. span_of (value_at x i)) (λ i. span_of (value_at y (counterpart here there i))) (pos 0, pos 0) acl spans' i (among_in acl i m) ∙ ap (λ j. span_of (value_at y j)) f.0.0 in
+              same_of (λ i. span_of (value_at x i)) (λ i. span_of (value_at y (counterpart here there i))) (pos 0, pos 0) commalist spans' i (among_in commalist i m) ∙ ap (λ j. span_of (value_at y j)) f.0.0 in
               sym (value_at-get x i) ∙ sx.spans i m ∙ (λ s. interval (line_of (type_of (f.1.1 s))) (span s)) ∙ sym (sy.spans t there_too) ∙ value_at-get y t,
           f.1.0,
         )) here there facts)
-        (sym (inner_values acl here x no_value) ∙ labels ∙ inner_values acl' there y no_value)
+        (sym (inner_values commalist here x no_value) ∙ labels ∙ inner_values commalist' there y no_value)

@@ -115,36 +115,36 @@ own_counterpart (k ∷ ks) i =
       | false ↦ λ e. own_counterpart ks i
     ] refl
 
-pub own_list : (ks acl : List ℕ) → acl ≡ map (counterpart ks ks) acl
+pub own_list : (ks commalist : List ℕ) → commalist ≡ map (counterpart ks ks) commalist
 own_list ks [] = refl
-own_list ks (i ∷ acl) = ap₂ (λ j js. j ∷ js) (sym (own_counterpart ks i)) (own_list ks acl)
+own_list ks (i ∷ commalist) = ap₂ (λ j js. j ∷ js) (sym (own_counterpart ks i)) (own_list ks commalist)
 
 -- ---- what is unpacked
 
-pub in_key : (key acl : List ℕ) → AreAmong key acl → (i : ℕ) → In i acl → In i key
-in_key key acl h i m = among_in key i ((list_all-In (among key) acl).0 h i m)
+pub in_key : (key commalist : List ℕ) → AreAmong key commalist → (i : ℕ) → In i commalist → In i key
+in_key key commalist h i m = among_in key i ((list_all-In (among key) commalist).0 h i m)
 
 -- the one is the counterpart of the other, and the other way round
 abbrev pub IsPair : List ℕ → List ℕ → ℕ → ℕ → Type 0
 IsPair here there i t = (counterpart here there i ≡ t) × (counterpart there here t ≡ i)
 
-module _ (here there acl : List ℕ) (lies : AreAmong here acl) (d : IsDistinct nat_eq here) (d' : IsDistinct nat_eq there) (long : Beside (λ i t. Unit {0}) here there) where
+module _ (here there commalist : List ℕ) (lies : AreAmong here commalist) (d : IsDistinct nat_eq here) (d' : IsDistinct nat_eq there) (long : Beside (λ i t. Unit {0}) here there) where
   pub all_pairs : Beside (IsPair here there) here there
   all_pairs =
       let back : Beside (λ t i. counterpart there here t ≡ i) there here = paired there here d' (beside_turned (λ i t. Unit {0}) here there long) in
       beside_both (λ i t. counterpart here there i ≡ t) (λ i t. counterpart there here t ≡ i) here there (paired here there d long)
       (beside_turned (λ t i. counterpart there here t ≡ i) there here back)
 
-  listed : (i t : ℕ) → IsPair here there i t → among acl i ≡ among (map (counterpart here there) acl) t
+  listed : (i t : ℕ) → IsPair here there i t → among commalist i ≡ among (map (counterpart here there) commalist) t
   listed i t p =
-      same_tests (among acl i) (among (map (counterpart here there) acl) t) (
-        λ h. in_among (map (counterpart here there) acl) t ((In-map (counterpart here there) t acl).1 (i, among_in acl i h, sym p.0)),
+      same_tests (among commalist i) (among (map (counterpart here there) commalist) t) (
+        λ h. in_among (map (counterpart here there) commalist) t ((In-map (counterpart here there) t commalist).1 (i, among_in commalist i h, sym p.0)),
         λ h.
-            let w = (In-map (counterpart here there) t acl).0 (among_in (map (counterpart here there) acl) t h) in
-            let q = at_counterpart (IsPair here there) here there all_pairs w.0 (in_key here acl lies w.0 w.1) in
+            let w = (In-map (counterpart here there) t commalist).0 (among_in (map (counterpart here there) commalist) t h) in
+            let q = at_counterpart (IsPair here there) here there all_pairs w.0 (in_key here commalist lies w.0 w.1) in
             let e : i ≡ w.0 = sym p.1 ∙ ap (counterpart there here) w.2 ∙ q.1 in
-            in_among acl i (subst (λ j. In j acl) (sym e) w.1),
+            in_among commalist i (subst (λ j. In j commalist) (sym e) w.1),
       )
 
-  pub are_listed : Beside (λ i t. among acl i ≡ among (map (counterpart here there) acl) t) here there
-  are_listed = beside_more (IsPair here there) (λ i t. among acl i ≡ among (map (counterpart here there) acl) t) listed here there all_pairs
+  pub are_listed : Beside (λ i t. among commalist i ≡ among (map (counterpart here there) commalist) t) here there
+  are_listed = beside_more (IsPair here there) (λ i t. among commalist i ≡ among (map (counterpart here there) commalist) t) listed here there all_pairs

@@ -7,15 +7,15 @@ use Rattle.std.proofs.lemmas.Int.{ints}
 use Rattle.std.proofs.Math.Seq.{drop-length}
 use Rattle.base_core.proofs.SetLemmas.{Separates}
 use Rattle.interval_core.specs.Members.{Span}
-use Rattle.packing_core.specs.Boxed.{Boxed, boxed_cmp, packed_boxes, InBoxes}
-use Rattle.packing_core.specs.Covering.{Among}
-use Rattle.packing_core.specs.Packed.{IsPacked, Has, nowhere, onto, packs, points_of, sides_back}
-use Rattle.packing_core.proofs.Commute.{packs_is, drop_at}
-use Rattle.packing_core.proofs.PackedBoxes.{in_packed_form}
-use Rattle.packing_core.proofs.Runs.{IsPacked-iff, IsPacked-one}
-use Rattle.packing_core.proofs.Whole.{length_sides_back}
+use Rattle.cell_packing.specs.Boxed.{Boxed, boxed_cmp, packed_boxes, InBoxes}
+use Rattle.cell_packing.specs.Covering.{Among}
+use Rattle.cell_packing.specs.Packed.{IsPacked, Has, nowhere, onto, packs, points_of, sides_back}
+use Rattle.cell_packing.proofs.Commute.{packs_is, drop_at}
+use Rattle.cell_packing.proofs.PackedBoxes.{in_packed_form}
+use Rattle.cell_packing.proofs.Runs.{IsPacked-iff, IsPacked-one}
+use Rattle.cell_packing.proofs.Whole.{length_sides_back}
 use Rattle.cell_core.proofs.OrderLemmas.{boxed_total, boxed_separates}
-use Rattle.cell_core.proofs.PackedPlaces.{AllHave, has_length, one_box}
+use Rattle.cell_core.proofs.PackedGridPoints.{AllHave, has_length, one_box}
 use Rattle.cell_core.proofs.Theorem.{length_onto}
 
 -- ---- sets of boxes, from the last side inward

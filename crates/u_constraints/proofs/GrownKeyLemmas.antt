@@ -68,17 +68,17 @@ module _ (positions : List ℕ) (come of gone : List Row) where
 
 -- ---- unpacked
 
-pub rows_keep : (acl positions : List ℕ) → ((i : ℕ) → In i positions → In i acl → ⊥) → AllKeep (part_of positions) (map attribute acl)
+pub rows_keep : (commalist positions : List ℕ) → ((i : ℕ) → In i positions → In i commalist → ⊥) → AllKeep (part_of positions) (map attribute commalist)
 rows_keep [] positions apart = tt
-rows_keep (a ∷ acl) positions apart = (
+rows_keep (a ∷ commalist) positions apart = (
   λ x s. map-In (at (put_span x a s)) (at x) positions (λ i m. get_or-set_other x a i (with_span (value_at x a) s) no_value (λ e. apart i m (inl e))),
-  rows_keep acl positions (λ i m w. apart i m (inr w)),
+  rows_keep commalist positions (λ i m w. apart i m (inr w)),
 )
 
 module _ (positions : List ℕ) (test : Row → Bool) (old all few : List Row) (is : IsTouched (part_of positions) test old all few) where
   -- unpacked on other positions, rows keep their parts
-  pub opened_touched : (acl : List ℕ) → ((i : ℕ) → In i positions → In i acl → ⊥) → IsTouched (part_of positions) test (unpacked acl old) (unpacked acl all) (unpacked acl few)
-  opened_touched acl apart = touched_unpack row_cmp row_total row_separates (part_of positions) test (map attribute acl) (rows_keep acl positions apart) old all few is
+  pub opened_touched : (commalist : List ℕ) → ((i : ℕ) → In i positions → In i commalist → ⊥) → IsTouched (part_of positions) test (unpacked commalist old) (unpacked commalist all) (unpacked commalist few)
+  opened_touched commalist apart = touched_unpack row_cmp row_total row_separates (part_of positions) test (map attribute commalist) (rows_keep commalist positions apart) old all few is
 
   -- rows that agree on a key agree at positions of it
   parts_agree : (key : List ℕ) → ((i : ℕ) → In i positions → In i key) → (x y : Row) → part_of key x ≡ part_of key y → part_of positions x ≡ part_of positions y

@@ -13,11 +13,11 @@ use Rattle.value_core.specs.Attributes.{among}
 use Rattle.value_core.specs.Order.{row_total, row_separates}
 use Rattle.value_core.specs.Values.{Row, Heading, row_cmp}
 use Rattle.relation_core.specs.Agreement.{part_of}
-use Rattle.packing_core.specs.Boxed.{Boxed, packed_boxes, InBoxes}
-use Rattle.packing_core.specs.Covering.{Among}
-use Rattle.packing_core.specs.Packed.{nowhere, packs, points_of}
-use Rattle.packing_core.proofs.PackedBoxes.{among_in, packs-iff, in_packed_form, packed_ascends}
-use Rattle.cell_core.proofs.PackedPlaces.{AllHave}
+use Rattle.cell_packing.specs.Boxed.{Boxed, packed_boxes, InBoxes}
+use Rattle.cell_packing.specs.Covering.{Among}
+use Rattle.cell_packing.specs.Packed.{nowhere, packs, points_of}
+use Rattle.cell_packing.proofs.PackedBoxes.{among_in, packs-iff, in_packed_form, packed_ascends}
+use Rattle.cell_core.proofs.PackedGridPoints.{AllHave}
 use Rattle.u_set.specs.Boxes.{AreIntervals, IsShaped, others, boxed}
 use Rattle.u_set.proofs.BridgeLemmas.{box_cmp, box_total, box_separates, boxes_have}
 use Rattle.u_row.specs.Kept.{unlisted, inner}
@@ -127,35 +127,35 @@ module _ (k : ℕ) where
 
 -- ---- rows
 
-unlisted_all : (acl positions : List ℕ) → ((i : ℕ) → In i positions → among acl i ≡ false) → unlisted acl positions ≡ positions
-unlisted_all acl [] outside = refl
-unlisted_all acl (i ∷ positions) outside =
-    ap (λ b. if not b then i ∷ unlisted acl positions else unlisted acl positions) (outside i (inl refl)) ∙ ap (λ (is : List ℕ). i ∷ is) (unlisted_all acl positions (λ k m. outside k (inr m)))
+unlisted_all : (commalist positions : List ℕ) → ((i : ℕ) → In i positions → among commalist i ≡ false) → unlisted commalist positions ≡ positions
+unlisted_all commalist [] outside = refl
+unlisted_all commalist (i ∷ positions) outside =
+    ap (λ b. if not b then i ∷ unlisted commalist positions else unlisted commalist positions) (outside i (inl refl)) ∙ ap (λ (is : List ℕ). i ∷ is) (unlisted_all commalist positions (λ k m. outside k (inr m)))
 
 abbrev IsSet : Heading → List ℕ → List Row → Type 0
-IsSet heading acl rows = Ascends row_cmp rows × ((x : Row) → In x rows → IsShaped heading acl x)
+IsSet heading commalist rows = Ascends row_cmp rows × ((x : Row) → In x rows → IsShaped heading commalist x)
 
 -- some of packed rows are packed
-pub fewer_rows : (heading : Heading) (acl : List ℕ) → AreIntervals heading acl → (old rows : List Row) → IsSet heading acl old → IsSet heading acl rows → ((x : Row) → In x rows → In x old)
-    → is_packed acl old ≡ true → is_packed acl rows ≡ true
-fewer_rows heading acl intervals old rows so sr within held =
-    let have = boxes_have heading acl intervals in
-    let boxes : (b : Boxed Row) → In b (map (boxed acl) rows) → In b (map (boxed acl) old) = λ b i.
-    let w = (In-map (boxed acl) b rows).0 i in
-    (In-map (boxed acl) b old).1 (w.0, within w.0 w.1, w.2) in
-    (packed_iff heading acl intervals rows sr.0 sr.1).1
-    (fewer_boxes (length acl) (map (boxed acl) old) (map (boxed acl) rows) (have old) (have rows) boxes ((packed_iff heading acl intervals old so.0 so.1).0 held))
+pub prepacked : (heading : Heading) (commalist : List ℕ) → AreIntervals heading commalist → (old rows : List Row) → IsSet heading commalist old → IsSet heading commalist rows → ((x : Row) → In x rows → In x old)
+    → is_packed commalist old ≡ true → is_packed commalist rows ≡ true
+prepacked heading commalist intervals old rows so sr within held =
+    let have = boxes_have heading commalist intervals in
+    let boxes : (b : Boxed Row) → In b (map (boxed commalist) rows) → In b (map (boxed commalist) old) = λ b i.
+    let w = (In-map (boxed commalist) b rows).0 i in
+    (In-map (boxed commalist) b old).1 (w.0, within w.0 w.1, w.2) in
+    (packed_iff heading commalist intervals rows sr.0 sr.1).1
+    (fewer_boxes (length commalist) (map (boxed commalist) old) (map (boxed commalist) rows) (have old) (have rows) boxes ((packed_iff heading commalist intervals old so.0 so.1).0 held))
 
-module _ (heading : Heading) (acl : List ℕ) (intervals : AreIntervals heading acl) (positions : List ℕ) (outside : (i : ℕ) → In i positions → among acl i ≡ false) (test : Row → Bool) where
+module _ (heading : Heading) (commalist : List ℕ) (intervals : AreIntervals heading commalist) (positions : List ℕ) (outside : (i : ℕ) → In i positions → among commalist i ≡ false) (test : Row → Bool) where
   -- a part of other positions is one of the label
-  label_part : (x : Row) → part_of (inner acl positions) (others acl x) ≡ part_of positions x
-  label_part x = inner_values acl positions x no_value ∙ ap (λ (is : List ℕ). part_of is x) (unlisted_all acl positions outside)
+  label_part : (x : Row) → part_of (inner commalist positions) (others commalist x) ≡ part_of positions x
+  label_part x = inner_values commalist positions x no_value ∙ ap (λ (is : List ℕ). part_of is x) (unlisted_all commalist positions outside)
 
   -- where the old rows are packed, all are exactly where the touched ones are
-  pub packed_of_touched : (old all few : List Row) → IsSet heading acl old → IsSet heading acl all → IsSet heading acl few → IsTouched (part_of positions) test old all few → is_packed acl old ≡ true → is_packed acl all ≡ is_packed acl few
+  pub packed_of_touched : (old all few : List Row) → IsSet heading commalist old → IsSet heading commalist all → IsSet heading commalist few → IsTouched (part_of positions) test old all few → is_packed commalist old ≡ true → is_packed commalist all ≡ is_packed commalist few
   packed_of_touched old all few so sa sf is held =
-      let told : (rows : List Row) → IsSet heading acl rows → IsTrue (is_packed acl rows) ↔ ArePacked (length acl) (map (boxed acl) rows) = λ rows s. packed_iff heading acl intervals rows s.0 s.1 in
-      let both = boxes_of_touched (length acl) (part_of (inner acl positions)) test (map (boxed acl) old) (map (boxed acl) all) (map (boxed acl) few)
-      (touched_map (part_of positions) test old all few is (boxed acl) (λ b. part_of (inner acl positions) b.0) label_part)
-      (boxes_have heading acl intervals old) (boxes_have heading acl intervals all) (boxes_have heading acl intervals few) ((told old so).0 held) in
+      let told : (rows : List Row) → IsSet heading commalist rows → IsTrue (is_packed commalist rows) ↔ ArePacked (length commalist) (map (boxed commalist) rows) = λ rows s. packed_iff heading commalist intervals rows s.0 s.1 in
+      let both = boxes_of_touched (length commalist) (part_of (inner commalist positions)) test (map (boxed commalist) old) (map (boxed commalist) all) (map (boxed commalist) few)
+      (touched_map (part_of positions) test old all few is (boxed commalist) (λ b. part_of (inner commalist positions) b.0) label_part)
+      (boxes_have heading commalist intervals old) (boxes_have heading commalist intervals all) (boxes_have heading commalist intervals few) ((told old so).0 held) in
       same_tests _ _ (λ t. (told few sf).1 (both.0 ((told all sa).0 t)), λ t. (told all sa).1 (both.1 ((told few sf).0 t)))

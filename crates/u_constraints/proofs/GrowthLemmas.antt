@@ -42,7 +42,7 @@ use Rattle.u_constraints.specs.Costs.{constraint_cost}
 use Rattle.u_constraints.specs.Growth.{exchanged, is_history}
 use Rattle.u_constraints.proofs.BoundLemmas.{bound_grows}
 use Rattle.u_constraints.proofs.GrownKeyLemmas.{In-exchanged, comes, rows_touched, opened_touched, key_of_touched}
-use Rattle.u_constraints.proofs.GrownPackedLemmas.{fewer_rows, packed_of_touched}
+use Rattle.u_constraints.proofs.GrownPackedLemmas.{prepacked, packed_of_touched}
 use Rattle.u_constraints.proofs.IntervalLemmas.{intervals_of_list}
 use Rattle.u_constraints.proofs.KeyLemmas.{is_key-AgreeOnce}
 use Rattle.u_constraints.proofs.OpenedLemmas.{in_unpack, unpack_within}
@@ -64,11 +64,11 @@ one_line b code e = (lines_hold b code [] e).0
 key_positions : (key positions : List ℕ) → AreAmong key positions → (i : ℕ) → In i positions → In i key
 key_positions key positions h i m = among_in key i ((list_all-In (among key) positions).0 h i m)
 
-outside_false : (acl positions : List ℕ) → AreOutside acl positions → (i : ℕ) → In i positions → among acl i ≡ false
-outside_false acl positions h i m = not-true (among acl i) ((list_all-In (λ k. not (among acl k)) positions).0 h i m)
+outside_false : (commalist positions : List ℕ) → AreOutside commalist positions → (i : ℕ) → In i positions → among commalist i ≡ false
+outside_false commalist positions h i m = not-true (among commalist i) ((list_all-In (λ k. not (among commalist k)) positions).0 h i m)
 
-outside_apart : (acl positions : List ℕ) → AreOutside acl positions → (i : ℕ) → In i positions → In i acl → ⊥
-outside_apart acl positions h i m n = true≢false (sym (in_among acl i n) ∙ outside_false acl positions h i m)
+outside_apart : (commalist positions : List ℕ) → AreOutside commalist positions → (i : ℕ) → In i positions → In i commalist → ⊥
+outside_apart commalist positions h i m n = true≢false (sym (in_among commalist i n) ∙ outside_false commalist positions h i m)
 
 -- ---- more rows
 
@@ -82,10 +82,10 @@ In-projected positions rows z =
     (λ i. all.0 (set.0 i), λ w. set.1 (all.1 w))
 
 -- the parts of unpacked rows, of fewer rows
-part_within : (acl positions : List ℕ) (rows all : List Row) → ((x : Row) → In x rows → In x all) → (z : Row) → In z (projected positions (unpacked acl rows)) → In z (projected positions (unpacked acl all))
-part_within acl positions rows all less z i =
-    let w = (In-projected positions (unpacked acl rows) z).0 i in
-    (In-projected positions (unpacked acl all) z).1 (w.0, unpack_within row_cmp row_total row_separates (map attribute acl) rows all less w.0 w.1, w.2)
+part_within : (commalist positions : List ℕ) (rows all : List Row) → ((x : Row) → In x rows → In x all) → (z : Row) → In z (projected positions (unpacked commalist rows)) → In z (projected positions (unpacked commalist all))
+part_within commalist positions rows all less z i =
+    let w = (In-projected positions (unpacked commalist rows) z).0 i in
+    (In-projected positions (unpacked commalist all) z).1 (w.0, unpack_within row_cmp row_total row_separates (map attribute commalist) rows all less w.0 w.1, w.2)
 
 -- the few are rows of all, and the others of all are old
 record IsOldOrFew (old all few : List Row) : Type 0 where
@@ -94,34 +94,34 @@ record IsOldOrFew (old all few : List Row) : Type 0 where
 
 -- ---- references
 
-module _ (acl here there : List ℕ) where
+module _ (commalist here there : List ℕ) where
   abbrev back : List ℕ
-  back = map (counterpart here there) acl
+  back = map (counterpart here there) commalist
 
-  within : (rows others : List Row) → IsTrue (is_referenced acl here there rows others) ↔ ((z : Row) → In z (projected here (unpacked acl rows)) → In z (projected there (unpacked back others)))
-  within rows others = is_within-In row_cmp row_total row_separates (projected here (unpacked acl rows)) (projected there (unpacked back others))
+  within : (rows others : List Row) → IsTrue (is_referenced commalist here there rows others) ↔ ((z : Row) → In z (projected here (unpacked commalist rows)) → In z (projected there (unpacked back others)))
+  within rows others = is_within-In row_cmp row_total row_separates (projected here (unpacked commalist rows)) (projected there (unpacked back others))
 
   -- rows that are referenced still are, where there are fewer
-  referenced_fewer : (rows all others : List Row) → ((x : Row) → In x rows → In x all) → is_referenced acl here there all others ≡ true → is_referenced acl here there rows others ≡ true
-  referenced_fewer rows all others less held = (within rows others).1 (λ z i. (within all others).0 held z (part_within acl here rows all less z i))
+  referenced_fewer : (rows all others : List Row) → ((x : Row) → In x rows → In x all) → is_referenced commalist here there all others ≡ true → is_referenced commalist here there rows others ≡ true
+  referenced_fewer rows all others less held = (within rows others).1 (λ z i. (within all others).0 held z (part_within commalist here rows all less z i))
 
   -- the rows that come tell
-  referenced_came : (of all few others : List Row) → IsOldOrFew of all few → is_referenced acl here there of others ≡ true → is_referenced acl here there all others ≡ is_referenced acl here there few others
+  referenced_came : (of all few others : List Row) → IsOldOrFew of all few → is_referenced commalist here there of others ≡ true → is_referenced commalist here there all others ≡ is_referenced commalist here there few others
   referenced_came of all few others is held =
-      let opens = in_unpack row_cmp row_total row_separates (map attribute acl) in
+      let opens = in_unpack row_cmp row_total row_separates (map attribute commalist) in
       same_tests _ _ (
         λ t. referenced_fewer few all others is.among t,
         λ t. (within all others).1 (λ z i.
-            let w = (In-projected here (unpacked acl all) z).0 i in
+            let w = (In-projected here (unpacked commalist all) z).0 i in
             let v = (opens all w.0).0 w.1 in
             elim (is.each v.0 v.1) [
-              | inl l ↦ (within of others).0 held z ((In-projected here (unpacked acl of) z).1 (w.0, (opens of w.0).1 (v.0, l, v.2), w.2))
-              | inr r ↦ (within few others).0 t z ((In-projected here (unpacked acl few) z).1 (w.0, (opens few w.0).1 (v.0, r, v.2), w.2))
+              | inl l ↦ (within of others).0 held z ((In-projected here (unpacked commalist of) z).1 (w.0, (opens of w.0).1 (v.0, l, v.2), w.2))
+              | inr r ↦ (within few others).0 t z ((In-projected here (unpacked commalist few) z).1 (w.0, (opens few w.0).1 (v.0, r, v.2), w.2))
             ]),
       )
 
   -- and where there are more to be referenced
-  referenced_more : (rows others come : List Row) → is_referenced acl here there rows others ≡ true → is_referenced acl here there rows (united others come) ≡ true
+  referenced_more : (rows others come : List Row) → is_referenced commalist here there rows others ≡ true → is_referenced commalist here there rows (united others come) ≡ true
   referenced_more rows others come held =
       (within rows (united others come)).1 (λ z i. part_within back there others (united others come) (λ x j. (In-united others come x).1 (inl j)) z ((within rows others).0 held z i))
 
@@ -179,31 +179,31 @@ history_beside h rows others come held =
 key_fewer : (key : List ℕ) (rows all : List Row) → ((x : Row) → In x rows → In x all) → is_key key all ≡ true → is_key key rows ≡ true
 key_fewer key rows all less held = (is_key-AgreeOnce key rows).1 (λ x y i j e. (is_key-AgreeOnce key all).0 held x y (less x i) (less y j) e)
 
-opened_fewer : (acl key : List ℕ) (rows all : List Row) → ((x : Row) → In x rows → In x all) → is_key key (unpacked acl all) ≡ true → is_key key (unpacked acl rows) ≡ true
-opened_fewer acl key rows all less held = key_fewer key (unpacked acl rows) (unpacked acl all) (unpack_within row_cmp row_total row_separates (map attribute acl) rows all less) held
+opened_fewer : (commalist key : List ℕ) (rows all : List Row) → ((x : Row) → In x rows → In x all) → is_key key (unpacked commalist all) ≡ true → is_key key (unpacked commalist rows) ≡ true
+opened_fewer commalist key rows all less held = key_fewer key (unpacked commalist rows) (unpacked commalist all) (unpack_within row_cmp row_total row_separates (map attribute commalist) rows all less) held
 
 module _ (of : Relation) (is : IsRelation of) (rows : List Row) (up : Ascends row_cmp rows) (less : (x : Row) → In x rows → In x of.rows) where
-  packed_fewer : (acl : List ℕ) → IsList of.heading acl → is_packed acl of.rows ≡ true → is_packed acl rows ≡ true
-  packed_fewer acl list held =
-      let intervals = intervals_of_list of.heading acl list in
-      let shaped = relation_shaped of is acl intervals in
-      fewer_rows of.heading acl intervals of.rows rows (Ascends-from_sorted row_cmp of.rows is.ascending, shaped) (up, λ x i. shaped x (less x i)) less held
+  packed_fewer : (commalist : List ℕ) → IsList of.heading commalist → is_packed commalist of.rows ≡ true → is_packed commalist rows ≡ true
+  packed_fewer commalist list held =
+      let intervals = intervals_of_list of.heading commalist list in
+      let shaped = relation_shaped of is commalist intervals in
+      prepacked of.heading commalist intervals of.rows rows (Ascends-from_sorted row_cmp of.rows is.ascending, shaped) (up, λ x i. shaped x (less x i)) less held
 
   -- where some rows have gone it holds
   pub fewer_hold : (c : Constraint) (g : Heading) (others : List Row) → FitsHeadings of.heading g c → broken c of.rows others ≡ None → broken c rows others ≡ None
   fewer_hold (Key k) g others fits held = ap (λ b. first_failed ((b, E40) ∷ [])) (key_fewer k rows of.rows less (one_line (is_key k of.rows) E40 held))
-  fewer_hold (Packed acl) g others fits held = ap (λ b. first_failed ((b, E41) ∷ [])) (packed_fewer acl fits (one_line (is_packed acl of.rows) E41 held))
-  fewer_hold (WhenUnpacked acl k) g others fits held =
-      ap (λ b. first_failed ((b, E42) ∷ [])) (opened_fewer acl k rows of.rows less (one_line (is_key k (unpacked acl of.rows)) E42 held))
-  fewer_hold (UKey acl k) g others fits held =
-      let first = lines_hold (is_packed acl of.rows) E41 ((is_key k (unpacked acl of.rows), E42) ∷ (is_key k of.rows, E40) ∷ []) held in
-      let second = lines_hold (is_key k (unpacked acl of.rows)) E42 ((is_key k of.rows, E40) ∷ []) first.1 in
-      let packed = packed_fewer acl fits.0 first.0 in
-      let opened = opened_fewer acl k rows of.rows less second.0 in
+  fewer_hold (Packed commalist) g others fits held = ap (λ b. first_failed ((b, E41) ∷ [])) (packed_fewer commalist fits (one_line (is_packed commalist of.rows) E41 held))
+  fewer_hold (WhenUnpacked commalist k) g others fits held =
+      ap (λ b. first_failed ((b, E42) ∷ [])) (opened_fewer commalist k rows of.rows less (one_line (is_key k (unpacked commalist of.rows)) E42 held))
+  fewer_hold (UKey commalist k) g others fits held =
+      let first = lines_hold (is_packed commalist of.rows) E41 ((is_key k (unpacked commalist of.rows), E42) ∷ (is_key k of.rows, E40) ∷ []) held in
+      let second = lines_hold (is_key k (unpacked commalist of.rows)) E42 ((is_key k of.rows, E40) ∷ []) first.1 in
+      let packed = packed_fewer commalist fits.0 first.0 in
+      let opened = opened_fewer commalist k rows of.rows less second.0 in
       let keyed = key_fewer k rows of.rows less (one_line (is_key k of.rows) E40 second.1) in
       λ t. first_failed ((packed t, E41) ∷ (opened t, E42) ∷ (keyed t, E40) ∷ [])
-  fewer_hold (Foreign acl here name there) g others fits held =
-      ap (λ b. first_failed ((b, E43) ∷ [])) (referenced_fewer acl here there rows of.rows others less (one_line (is_referenced acl here there of.rows others) E43 held))
+  fewer_hold (Foreign commalist here name there) g others fits held =
+      ap (λ b. first_failed ((b, E43) ∷ [])) (referenced_fewer commalist here there rows of.rows others less (one_line (is_referenced commalist here there of.rows others) E43 held))
   fewer_hold (History h) g others fits held = ap (λ b. first_failed ((b, E44) ∷ [])) (history_fewer h rows of.rows others less (one_line (keeps_history h of.rows others) E44 held))
 
 -- ---- constraints of a relvar alone
@@ -221,44 +221,44 @@ module _ (of come : Relation) (gone : List Row) (is : IsRelation of) (is' : IsRe
   abbrev told : IsTouched (part_of positions) (comes positions come.rows) of.rows all few
   told = rows_touched positions come.rows of.rows gone
 
-  shaped : (acl : List ℕ) → AreIntervals of.heading acl → (x : Row) → In x all → IsShaped of.heading acl x
-  shaped acl intervals x i = elim ((In-exchanged of.rows gone come.rows x).0 i).0 [
-    | inl w ↦ relation_shaped of is acl intervals x w
-    | inr w ↦ shaped_under of.heading come (sym heading) is' acl intervals x w
+  shaped : (commalist : List ℕ) → AreIntervals of.heading commalist → (x : Row) → In x all → IsShaped of.heading commalist x
+  shaped commalist intervals x i = elim ((In-exchanged of.rows gone come.rows x).0 i).0 [
+    | inl w ↦ relation_shaped of is commalist intervals x w
+    | inr w ↦ shaped_under of.heading come (sym heading) is' commalist intervals x w
   ]
 
   -- the rows still are packed where the touched ones are
-  packed_line : (acl : List ℕ) → IsList of.heading acl → AreOutside acl positions → is_packed acl of.rows ≡ true → is_packed acl all ≡ is_packed acl few
-  packed_line acl list outside held =
-      let intervals = intervals_of_list of.heading acl list in
-      packed_of_touched of.heading acl intervals positions (outside_false acl positions outside) (comes positions come.rows) of.rows all few
-      (Ascends-from_sorted row_cmp of.rows is.ascending, relation_shaped of is acl intervals)
-      (exchanged_ascends of.rows gone come.rows, shaped acl intervals)
-      (exchanged_ascends (touched positions come.rows of.rows) gone come.rows, λ x i. shaped acl intervals x ((told.touched x).0 i).0)
+  packed_line : (commalist : List ℕ) → IsList of.heading commalist → AreOutside commalist positions → is_packed commalist of.rows ≡ true → is_packed commalist all ≡ is_packed commalist few
+  packed_line commalist list outside held =
+      let intervals = intervals_of_list of.heading commalist list in
+      packed_of_touched of.heading commalist intervals positions (outside_false commalist positions outside) (comes positions come.rows) of.rows all few
+      (Ascends-from_sorted row_cmp of.rows is.ascending, relation_shaped of is commalist intervals)
+      (exchanged_ascends of.rows gone come.rows, shaped commalist intervals)
+      (exchanged_ascends (touched positions come.rows of.rows) gone come.rows, λ x i. shaped commalist intervals x ((told.touched x).0 i).0)
       told held
 
   key_line : (key : List ℕ) → AreAmong key positions → is_key key of.rows ≡ true → is_key key all ≡ is_key key few
   key_line key lies held = key_of_touched positions (comes positions come.rows) of.rows all few told key (key_positions key positions lies) held
 
-  opened_line : (acl key : List ℕ) → AreAmong key positions → AreOutside acl positions → is_key key (unpacked acl of.rows) ≡ true → is_key key (unpacked acl all) ≡ is_key key (unpacked acl few)
-  opened_line acl key lies outside held =
-      key_of_touched positions (comes positions come.rows) (unpacked acl of.rows) (unpacked acl all) (unpacked acl few)
-      (opened_touched positions (comes positions come.rows) of.rows all few told acl (outside_apart acl positions outside)) key (key_positions key positions lies) held
+  opened_line : (commalist key : List ℕ) → AreAmong key positions → AreOutside commalist positions → is_key key (unpacked commalist of.rows) ≡ true → is_key key (unpacked commalist all) ≡ is_key key (unpacked commalist few)
+  opened_line commalist key lies outside held =
+      key_of_touched positions (comes positions come.rows) (unpacked commalist of.rows) (unpacked commalist all) (unpacked commalist few)
+      (opened_touched positions (comes positions come.rows) of.rows all few told commalist (outside_apart commalist positions outside)) key (key_positions key positions lies) held
 
   -- the touched rows break what all break
   pub same_break : (c : Constraint) (g : Heading) (others : List Row) → FitsHeadings of.heading g c → Relate c positions → broken c of.rows others ≡ None → broken c few others ≡ broken c all others
   same_break (Key k) g others fits relate held = ap (λ b. first_failed ((b, E40) ∷ [])) (sym (key_line k relate (one_line (is_key k of.rows) E40 held)))
-  same_break (Packed acl) g others fits relate held = ap (λ b. first_failed ((b, E41) ∷ [])) (sym (packed_line acl fits relate (one_line (is_packed acl of.rows) E41 held)))
-  same_break (WhenUnpacked acl k) g others fits relate held =
-      ap (λ b. first_failed ((b, E42) ∷ [])) (sym (opened_line acl k relate.0 relate.1 (one_line (is_key k (unpacked acl of.rows)) E42 held)))
-  same_break (UKey acl k) g others fits relate held =
-      let first = lines_hold (is_packed acl of.rows) E41 ((is_key k (unpacked acl of.rows), E42) ∷ (is_key k of.rows, E40) ∷ []) held in
-      let second = lines_hold (is_key k (unpacked acl of.rows)) E42 ((is_key k of.rows, E40) ∷ []) first.1 in
-      let packed = sym (packed_line acl fits.0 relate.1 first.0) in
-      let opened = sym (opened_line acl k relate.0 relate.1 second.0) in
+  same_break (Packed commalist) g others fits relate held = ap (λ b. first_failed ((b, E41) ∷ [])) (sym (packed_line commalist fits relate (one_line (is_packed commalist of.rows) E41 held)))
+  same_break (WhenUnpacked commalist k) g others fits relate held =
+      ap (λ b. first_failed ((b, E42) ∷ [])) (sym (opened_line commalist k relate.0 relate.1 (one_line (is_key k (unpacked commalist of.rows)) E42 held)))
+  same_break (UKey commalist k) g others fits relate held =
+      let first = lines_hold (is_packed commalist of.rows) E41 ((is_key k (unpacked commalist of.rows), E42) ∷ (is_key k of.rows, E40) ∷ []) held in
+      let second = lines_hold (is_key k (unpacked commalist of.rows)) E42 ((is_key k of.rows, E40) ∷ []) first.1 in
+      let packed = sym (packed_line commalist fits.0 relate.1 first.0) in
+      let opened = sym (opened_line commalist k relate.0 relate.1 second.0) in
       let keyed = sym (key_line k relate.0 (one_line (is_key k of.rows) E40 second.1)) in
       λ t. first_failed ((packed t, E41) ∷ (opened t, E42) ∷ (keyed t, E40) ∷ [])
-  same_break (Foreign acl here name there) g others fits relate held = absurd relate
+  same_break (Foreign commalist here name there) g others fits relate held = absurd relate
   same_break (History h) g others fits relate held = absurd relate
 
   pub few_rows : length few ≤ length all
@@ -288,12 +288,12 @@ came_alone of gone come =
 -- the rows that come break what all break
 pub came_break : (c : Constraint) (of gone come others : List Row) → Names c → broken c of others ≡ None → broken c (subtracted come gone) others ≡ broken c (exchanged of gone come) others
 came_break (Key k) of gone come others names held = absurd names
-came_break (Packed acl) of gone come others names held = absurd names
-came_break (WhenUnpacked acl k) of gone come others names held = absurd names
-came_break (UKey acl k) of gone come others names held = absurd names
-came_break (Foreign acl here name there) of gone come others names held =
+came_break (Packed commalist) of gone come others names held = absurd names
+came_break (WhenUnpacked commalist k) of gone come others names held = absurd names
+came_break (UKey commalist k) of gone come others names held = absurd names
+came_break (Foreign commalist here name there) of gone come others names held =
     let alone = came_alone of gone come in
-    let same = referenced_came acl here there of (exchanged of gone come) (subtracted come gone) others alone (one_line (is_referenced acl here there of others) E43 held) in
+    let same = referenced_came commalist here there of (exchanged of gone come) (subtracted come gone) others alone (one_line (is_referenced commalist here there of others) E43 held) in
     ap (λ b. first_failed ((b, E43) ∷ [])) (sym same)
 came_break (History h) of gone come others names held =
     let alone = came_alone of gone come in
@@ -310,31 +310,31 @@ came_rows of gone come up =
 -- of a history the rows that come there tell
 pub beside_break : (c : Constraint) (rows others come : List Row) → is_history c ≡ true → broken c rows others ≡ None → broken c rows come ≡ broken c rows (united others come)
 beside_break (Key k) rows others come is held = absurd (true≢false (sym is))
-beside_break (Packed acl) rows others come is held = absurd (true≢false (sym is))
-beside_break (WhenUnpacked acl k) rows others come is held = absurd (true≢false (sym is))
-beside_break (UKey acl k) rows others come is held = absurd (true≢false (sym is))
-beside_break (Foreign acl here name there) rows others come is held = absurd (true≢false (sym is))
+beside_break (Packed commalist) rows others come is held = absurd (true≢false (sym is))
+beside_break (WhenUnpacked commalist k) rows others come is held = absurd (true≢false (sym is))
+beside_break (UKey commalist k) rows others come is held = absurd (true≢false (sym is))
+beside_break (Foreign commalist here name there) rows others come is held = absurd (true≢false (sym is))
 beside_break (History h) rows others come is held = ap (λ b. first_failed ((b, E44) ∷ [])) (sym (history_beside h rows others come (one_line (keeps_history h rows others) E44 held)))
 
 -- and the others hold still
 pub beside_holds : (c : Constraint) (rows others come : List Row) → is_history c ≡ false → broken c rows others ≡ None → broken c rows (united others come) ≡ None
 beside_holds (Key k) rows others come other held = held
-beside_holds (Packed acl) rows others come other held = held
-beside_holds (WhenUnpacked acl k) rows others come other held = held
-beside_holds (UKey acl k) rows others come other held = held
-beside_holds (Foreign acl here name there) rows others come other held =
-    ap (λ b. first_failed ((b, E43) ∷ [])) (referenced_more acl here there rows others come (one_line (is_referenced acl here there rows others) E43 held))
+beside_holds (Packed commalist) rows others come other held = held
+beside_holds (WhenUnpacked commalist k) rows others come other held = held
+beside_holds (UKey commalist k) rows others come other held = held
+beside_holds (Foreign commalist here name there) rows others come other held =
+    ap (λ b. first_failed ((b, E43) ∷ [])) (referenced_more commalist here there rows others come (one_line (is_referenced commalist here there rows others) E43 held))
 beside_holds (History h) rows others come other held = absurd (true≢false other)
 
 -- ---- steps
 
 pub cost_grows : (c : Constraint) (rows more others : List Row) → length rows ≤ length more → constraint_cost c rows others ≤ constraint_cost c more others
 cost_grows (Key k) rows more others h = omega arith
-cost_grows (Packed acl) rows more others h = bound_grows (length rows) (length more) (length acl) h
-cost_grows (WhenUnpacked acl k) rows more others h = bound_grows (length rows) (length more) (length acl) h
-cost_grows (UKey acl k) rows more others h = let once = bound_grows (length rows) (length more) (length acl) h in omega (arith, once)
+cost_grows (Packed commalist) rows more others h = bound_grows (length rows) (length more) (length commalist) h
+cost_grows (WhenUnpacked commalist k) rows more others h = bound_grows (length rows) (length more) (length commalist) h
+cost_grows (UKey commalist k) rows more others h = let once = bound_grows (length rows) (length more) (length commalist) h in omega (arith, once)
 cost_grows (Foreign [] here name there) rows more others h = omega arith
-cost_grows (Foreign (i ∷ acl) here name there) rows more others h = bound_grows (length rows + length others) (length more + length others) (length (i ∷ acl)) (omega (arith, h))
+cost_grows (Foreign (i ∷ commalist) here name there) rows more others h = bound_grows (length rows + length others) (length more + length others) (length (i ∷ commalist)) (omega (arith, h))
 cost_grows (History rule) rows more others h = omega arith
 
 pub fewer_left : (most : ℕ) (rows gone : List Row) → length rows ≤ most → most < length (subtracted rows gone) → ⊥
@@ -402,19 +402,19 @@ module _ (c : Constraint) (of gone come others left : List Row) (same : left ≡
   pub came_cost : Ascends row_cmp come → (old new : ℕ) → new ≤ old + constraint_cost c left others → new ≤ old + constraint_cost c (exchanged of gone come) others
   came_cost up old new h = moved_cost c left (subtracted come gone) (exchanged of gone come) others same old new (came_rows of gone come up) h
 
-pub in_outside : (n : ℕ) (acl : List ℕ) (heading : Heading) (i : ℕ) → In i (outside_from n acl heading) → i < n + length heading
-in_outside n acl [] i m = absurd m
-in_outside n acl (a ∷ heading) i m =
-    let rest : List ℕ = outside_from (suc n) acl heading in
-    let more : In i rest → i < n + suc (length heading) = λ j. let l = in_outside (suc n) acl heading i j in omega (arith, l) in
-    elim (among acl n) as (λ b. In i (unless b n rest) → i < n + suc (length heading)) [
+pub in_outside : (n : ℕ) (commalist : List ℕ) (heading : Heading) (i : ℕ) → In i (outside_from n commalist heading) → i < n + length heading
+in_outside n commalist [] i m = absurd m
+in_outside n commalist (a ∷ heading) i m =
+    let rest : List ℕ = outside_from (suc n) commalist heading in
+    let more : In i rest → i < n + suc (length heading) = λ j. let l = in_outside (suc n) commalist heading i j in omega (arith, l) in
+    elim (among commalist n) as (λ b. In i (unless b n rest) → i < n + suc (length heading)) [
       | true ↦ more
       | false ↦ λ j. elim j [ inl e ↦ omega (arith, e) | inr k ↦ more k ]
     ] m
 
-pub outside_within : (acl : List ℕ) (heading : Heading) (positions : List ℕ) → positions ≡ outside acl heading → All (λ (i : ℕ). i < length heading) positions
-outside_within acl heading positions same =
-    subst (All (λ (i : ℕ). i < length heading)) (sym same) (All-In (λ (i : ℕ). i < length heading) (outside acl heading) (λ i m. let l = in_outside 0 acl heading i m in omega (arith, l)))
+pub outside_within : (commalist : List ℕ) (heading : Heading) (positions : List ℕ) → positions ≡ outside commalist heading → All (λ (i : ℕ). i < length heading) positions
+outside_within commalist heading positions same =
+    subst (All (λ (i : ℕ). i < length heading)) (sym same) (All-In (λ (i : ℕ). i < length heading) (outside commalist heading) (λ i m. let l = in_outside 0 commalist heading i m in omega (arith, l)))
 
 pub In-subtracted : (a b : List Row) (x : Row) → In x (subtracted a b) ↔ (In x a × (In x b → ⊥))
 In-subtracted a b x = In-difference_of row_cmp row_total row_separates x a b

@@ -1,4 +1,4 @@
--- Histories: which rows contradict each other, told by marks.
+-- Histories: which rows contradict each other, told by hashes.
 use Rattle.std.proofs.Common.{◌≡◌, ◌↔◌, ◌⊎◌, inl, inr, ℕ, ℤ, pos, ◌-ℤ◌, ◌≤ℤ◌, List, [], ◌∷◌, ◌++◌, map, length, IsPermutation, suc, ◌<◌, refl, sym, ap, ap₂, ◌∙◌, subst, arith, Bool, true, false, not, ◌&&◌, ◌||◌, if◌then◌else◌}
 use Rattle.std.specs.Prelude.{int_lt}
 use Rattle.std.specs.Bool.{IsTrue}
@@ -30,7 +30,7 @@ use Rattle.relation_core.specs.Parts.{kind_at}
 use Rattle.meaning_core.specs.WellMade.{AreAlike, IsOver}
 use Rattle.u_constraints.specs.Constraints.{agree_on, contradict, keeps_history}
 use Rattle.u_constraints.proofs.FitLemmas.{value_fits, span_that_fits}
-use Rattle.u_constraints.specs.Marks.{Mark, reaches, is_any_reached, begun, begin_mark, end_mark, is_overrun, is_touched}
+use Rattle.u_constraints.specs.Hashes.{Hash, reaches, is_any_reached, begun, begin_hash, end_hash, is_overrun, is_touched}
 use Rattle.relation_core.proofs.AgreementLemmas.{list_any-map}
 
 -- ---- parts at two lists of positions
@@ -115,33 +115,33 @@ any_or : {X : Type 0} (p q : X → Bool) (xs : List X) → list_any (λ x. p x |
 any_or p q [] = refl
 any_or p q (x ∷ xs) = ap (λ b. (p x || q x) || b) (any_or p q xs) ∙ four (p x) (q x) (list_any p xs) (list_any q xs)
 
-reached_rows : (b e : Row → Mark) (others rows : List Row) → is_any_reached (map b others) (map e rows) ≡ list_any (λ x. list_any (λ y. reaches (b x) (e y)) rows) others
+reached_rows : (b e : Row → Hash) (others rows : List Row) → is_any_reached (map b others) (map e rows) ≡ list_any (λ x. list_any (λ y. reaches (b x) (e y)) rows) others
 reached_rows b e others rows =
     list_any-map (λ m. list_any (reaches m) (map e rows)) b others ∙ (λ t. list_any (λ x. list_any-map (reaches (b x)) e rows t) others)
 
 -- ends in another order reach the same
-reached_moved : (begins ends moved : List Mark) → IsPermutation ends moved → is_any_reached begins moved ≡ is_any_reached begins ends
+reached_moved : (begins ends moved : List Hash) → IsPermutation ends moved → is_any_reached begins moved ≡ is_any_reached begins ends
 reached_moved begins ends moved is t = list_any (λ m. sym (list_any-IsPermutation (reaches m) ends moved is) t) begins
 
 -- what a search among the ends in order tells of the rows
-pub told_of_rows : (here here' there there' : List ℕ) (span span' point point' : ℕ) (touching : Bool) (rows others : List Row) (begins ends bs es : List Mark) (r : Bool)
-    → here ≡ here' → there ≡ there' → span ≡ span' → point ≡ point' → IsPermutation (map (end_mark here span) rows) ends → begins ≡ map (begin_mark there point touching) others
-    → bs ≡ begins → es ≡ ends → r ≡ is_any_reached bs es → r ≡ is_any_reached (map (begin_mark there' point' touching) others) (map (end_mark here' span') rows)
+pub told_of_rows : (here here' there there' : List ℕ) (span span' point point' : ℕ) (touching : Bool) (rows others : List Row) (begins ends bs es : List Hash) (r : Bool)
+    → here ≡ here' → there ≡ there' → span ≡ span' → point ≡ point' → IsPermutation (map (end_hash here span) rows) ends → begins ≡ map (begin_hash there point touching) others
+    → bs ≡ begins → es ≡ ends → r ≡ is_any_reached bs es → r ≡ is_any_reached (map (begin_hash there' point' touching) others) (map (end_hash here' span') rows)
 told_of_rows here here' there there' span span' point point' touching rows others begins ends bs es r a b c d moved z y x told =
     told
     ∙ ap₂ is_any_reached (y ∙ z) x
-    ∙ reached_moved (map (begin_mark there point touching) others) (map (end_mark here span) rows) ends moved
-    ∙ (λ t. is_any_reached (map (begin_mark (b t) (d t) touching) others) (map (end_mark (a t) (c t)) rows))
+    ∙ reached_moved (map (begin_hash there point touching) others) (map (end_hash here span) rows) ends moved
+    ∙ (λ t. is_any_reached (map (begin_hash (b t) (d t) touching) others) (map (end_hash (a t) (c t)) rows))
 
 -- ---- the rows of both
 
 module _ (h : HistoryRule) (size : length h.key_here ≡ length h.key_there) where
   -- a row has not ended before the other began, or before the point directly before
   abbrev overruns : Row → Row → Bool
-  overruns x y = reaches (begin_mark h.key_there h.point_there false x) (end_mark h.key_here h.span_here y)
+  overruns x y = reaches (begin_hash h.key_there h.point_there false x) (end_hash h.key_here h.span_here y)
 
   abbrev touches : Row → Row → Bool
-  touches x y = reaches (begin_mark (h.key_there ++ h.all_there) h.point_there true x) (end_mark (h.key_here ++ h.all_here) h.span_here y)
+  touches x y = reaches (begin_hash (h.key_there ++ h.all_there) h.point_there true x) (end_hash (h.key_here ++ h.all_here) h.span_here y)
 
   contradicts : (x y : Row) → (span_of (value_at y h.span_here)).0 ≤ℤ (span_of (value_at y h.span_here)).1 → least_whole ≤ℤ (span_of (value_at y h.span_here)).1
       → contradict h x y ≡ (overruns x y || touches x y)
@@ -160,12 +160,12 @@ module _ (h : HistoryRule) (size : length h.key_here ≡ length h.key_there) whe
         contradicts x y s.0 s.1)
         ∙ any_or (overruns x) (touches x) rows
 
-    kept_by_marks : keeps_history h rows others ≡ not (is_overrun h rows others || is_touched h rows others)
-    kept_by_marks =
+    kept_by_hashes : keeps_history h rows others ≡ not (is_overrun h rows others || is_touched h rows others)
+    kept_by_hashes =
         (λ t. not (list_any (λ x. any_contradicts x t) others))
         ∙ ap not (any_or (λ x. list_any (overruns x) rows) (λ x. list_any (touches x) rows) others)
-        ∙ ap₂ (λ a b. not (a || b)) (sym (reached_rows (begin_mark h.key_there h.point_there false) (end_mark h.key_here h.span_here) others rows))
-        (sym (reached_rows (begin_mark (h.key_there ++ h.all_there) h.point_there true) (end_mark (h.key_here ++ h.all_here) h.span_here) others rows))
+        ∙ ap₂ (λ a b. not (a || b)) (sym (reached_rows (begin_hash h.key_there h.point_there false) (end_hash h.key_here h.span_here) others rows))
+        (sym (reached_rows (begin_hash (h.key_there ++ h.all_there) h.point_there true) (end_hash (h.key_here ++ h.all_here) h.span_here) others rows))
 
 -- ---- what a rule that fits says
 
@@ -190,17 +190,17 @@ over_at h i j k e o = let w = over_an_interval (kind_at h j) k o in (w.0, ap (ki
 all_fit : (r : Relation) (i : ℕ) (t : AnyType) → IsRelation r → i < length r.heading → kind_at r.heading i ≡ SpanOf t → (y : Row) → In y r.rows → IsTrue (fits (SpanOf t) (value_at y i))
 all_fit r i t is l kind y m = value_fits r.heading y i (SpanOf t) ((list_all-In (fits_heading r.heading) r.rows).0 is.fitting y m) l kind
 
--- ---- the answer, from what is so of the marks
+-- ---- the answer, from what is so of the hashes
 
 module _ (h : HistoryRule) (of other : Relation) (is : IsRelation of) (alike : AreAlike of.heading h.key_here other.heading h.key_there) (within : h.span_here < length of.heading)
     (over : IsOver (kind_at of.heading h.span_here) (kind_at other.heading h.point_there)) where
-  by_marks : keeps_history h of.rows other.rows ≡ not (is_overrun h of.rows other.rows || is_touched h of.rows other.rows)
-  by_marks =
+  by_hashes : keeps_history h of.rows other.rows ≡ not (is_overrun h of.rows other.rows || is_touched h of.rows other.rows)
+  by_hashes =
       let span = over_an_interval (kind_at of.heading h.span_here) (kind_at other.heading h.point_there) over in
-      kept_by_marks h (alike_length of.heading h.key_here other.heading h.key_there alike) span.0 of.rows (all_fit of h.span_here span.0 is within span.1) other.rows
+      kept_by_hashes h (alike_length of.heading h.key_here other.heading h.key_there alike) span.0 of.rows (all_fit of h.span_here span.0 is within span.1) other.rows
 
   pub broken_where_overrun : (found : Bool) → found ≡ is_overrun h of.rows other.rows → found ≡ true → false ≡ keeps_history h of.rows other.rows
-  broken_where_overrun found e so = sym (by_marks ∙ ap (λ b. not (b || is_touched h of.rows other.rows)) (sym e ∙ so))
+  broken_where_overrun found e so = sym (by_hashes ∙ ap (λ b. not (b || is_touched h of.rows other.rows)) (sym e ∙ so))
 
   pub else_by_touch : (found touched : Bool) → found ≡ is_overrun h of.rows other.rows → found ≡ false → touched ≡ is_touched h of.rows other.rows → not touched ≡ keeps_history h of.rows other.rows
-  else_by_touch found touched e so f = ap not f ∙ sym (by_marks ∙ ap (λ b. not (b || is_touched h of.rows other.rows)) (sym e ∙ so))
+  else_by_touch found touched e so f = ap not f ∙ sym (by_hashes ∙ ap (λ b. not (b || is_touched h of.rows other.rows)) (sym e ∙ so))

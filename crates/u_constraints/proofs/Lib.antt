@@ -1,10 +1,10 @@
 pub mod ConstraintLemmas
 pub mod FitLemmas
-pub mod FrontLemmas
+pub mod PrefixLemmas
 pub mod HistoryLemmas
 pub mod KeyLemmas
 pub mod SearchLemmas
-pub mod MarkLemmas
+pub mod HashLemmas
 pub mod PairLemmas
 pub mod PlacedKeyLemmas
 pub mod CounterpartLemmas

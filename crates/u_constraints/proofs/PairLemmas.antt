@@ -6,9 +6,9 @@ use Rattle.std.proofs.lemmas.Bool.{cases_eq, cases_lt}
 use Rattle.std.proofs.lemmas.Cmp.{tied_back}
 use Rattle.std.proofs.lemmas.List.Edits.{Swapped, swapped_from_swap, length-swap}
 use Rattle.std.proofs.lemmas.List.Sorted.{IsPermutation-keeps, IsPermutation-sym}
-use Rattle.box_core.specs.Apartness.{AreApart}
-use Rattle.box_core.specs.Common.{At}
-use Rattle.box_core.specs.Rows.{IsRow, KeyBox}
+use Rattle.cell_boxes.specs.Apartness.{AreApart}
+use Rattle.cell_boxes.specs.Common.{At}
+use Rattle.cell_boxes.specs.Rows.{IsRow, PlainCellBox}
 
 -- where a swap of a and b took the element at m from
 abbrev From : ℕ → ℕ → ℕ → ℕ → Type 0
@@ -34,10 +34,10 @@ module _ {X : Type 0} (R : X → X → Type 0) where
       h o.0 w.0 x y (λ e. n (omega (arith, o.1, w.1, e))) (omega (arith, o.1, len, lu), sym o.2 ∙ u.1) (omega (arith, w.1, len, lv), sym w.2 ∙ v.1)
 
 module _ {P : Type 0} (order : P → P → Ordering) (total : IsTotalOrder order) (k : ℕ) where
-  abbrev Clear : KeyBox P → KeyBox P → Type 0
+  abbrev Clear : PlainCellBox P → PlainCellBox P → Type 0
   Clear x y = order x.0 y.0 ≡ Equal → (place : List ℕ) → length place ≡ k → At x.1 place → At y.1 place → ⊥
 
-  each_apart : (rows : List (KeyBox P)) → AreApart order k rows ↔ Each Clear rows
+  each_apart : (rows : List (PlainCellBox P)) → AreApart order k rows ↔ Each Clear rows
   each_apart rows = (
     λ h i j x y n u v e place l f g. elim (cases_lt i j) [
       | inl w ↦ h i j x y w u v e place l f g
@@ -49,9 +49,9 @@ module _ {P : Type 0} (order : P → P → Ordering) (total : IsTotalOrder order
     λ h i j x y l u v. h i j x y (λ e. omega (arith, l, e)) u v,
   )
 
-  moved : (xs ys : List (KeyBox P)) → IsPermutation xs ys → AreApart order k xs → AreApart order k ys
+  moved : (xs ys : List (PlainCellBox P)) → IsPermutation xs ys → AreApart order k xs → AreApart order k ys
   moved xs ys p h = (each_apart ys).1 (IsPermutation-keeps xs (Each Clear) ((each_apart xs).0 h) (each_swap Clear) ys p)
 
   -- it is the same of both
-  pub apart_moved : (xs ys : List (KeyBox P)) → IsPermutation xs ys → AreApart order k xs ↔ AreApart order k ys
+  pub apart_moved : (xs ys : List (PlainCellBox P)) → IsPermutation xs ys → AreApart order k xs ↔ AreApart order k ys
   apart_moved xs ys p = (moved xs ys p, moved ys xs (IsPermutation-sym xs ys p))

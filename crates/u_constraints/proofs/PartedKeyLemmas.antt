@@ -9,7 +9,7 @@ use Rattle.base_core.proofs.MemberLemmas.{In-filter}
 use Rattle.base_core.proofs.ListLemmas.{map-In}
 use Rattle.interval_core.specs.Members.{Span, at_point, members}
 use Rattle.interval_core.proofs.MembersLemmas.{In-members}
-use Rattle.packing_core.proofs.PackedBoxes.{among_in}
+use Rattle.cell_packing.proofs.PackedBoxes.{among_in}
 use Rattle.value_core.specs.Attributes.{value_at, span_of, with_span, put_span, among}
 use Rattle.value_core.specs.Order.{row_total, row_separates}
 use Rattle.value_core.specs.RowPacking.{attribute, unpacked}
@@ -43,33 +43,33 @@ not_in_both i j p h a b = elim h [ inl l ↦ ends_before i j p l a b | inr l ↦
 -- ---- one position
 
 module _ (heading : Heading) (k : ℕ) where
-  abbrev acl : List ℕ
-  acl = k ∷ []
+  abbrev commalist : List ℕ
+  commalist = k ∷ []
 
   -- the point that a row is unpacked to
-  point_there : (x : Row) → IsShaped heading acl x → (p : ℤ) → span_of (value_at (put_span x k (at_point p)) k) ≡ at_point p
+  point_there : (x : Row) → IsShaped heading commalist x → (p : ℤ) → span_of (value_at (put_span x k (at_point p)) k) ≡ at_point p
   point_there x shaped p =
-      ap span_of (span_there x k (at_point p)) ∙ ap (λ v. span_of (with_span v (at_point p))) (shaped.spans k (in_among acl k (inl refl)))
+      ap span_of (span_there x k (at_point p)) ∙ ap (λ v. span_of (with_span v (at_point p))) (shaped.spans k (in_among commalist k (inl refl)))
 
   module _ (key : List ℕ) where
     abbrev label : List ℕ
-    label = unlisted acl key
+    label = unlisted commalist key
 
     -- what is not unpacked stays
     label_there : (x : Row) (p : ℤ) → part_of label (put_span x k (at_point p)) ≡ part_of label x
-    label_there x p = (rows_keep acl label (λ i m w.
-        both_ways (among acl i) (not-true (among acl i) ((In-filter (λ j. not (among acl j)) i key).0 m).1) (in_among acl i w))).0 x (at_point p)
+    label_there x p = (rows_keep commalist label (λ i m w.
+        both_ways (among commalist i) (not-true (among commalist i) ((In-filter (λ j. not (among commalist j)) i key).0 m).1) (in_among commalist i w))).0 x (at_point p)
 
     -- rows that agree on the key agree on the rest of it, and on the attribute
     labels_agree : (x y : Row) → part_of key x ≡ part_of key y → part_of label x ≡ part_of label y
-    labels_agree x y e = map-In (at x) (at y) label (λ i m. same_of (at x) (at y) no_value key e i ((In-filter (λ j. not (among acl j)) i key).0 m).0)
+    labels_agree x y e = map-In (at x) (at y) label (λ i m. same_of (at x) (at y) no_value key e i ((In-filter (λ j. not (among commalist j)) i key).0 m).0)
 
-    spans_agree : AreAmong key acl → (x y : Row) → part_of key x ≡ part_of key y → span_of (value_at x k) ≡ span_of (value_at y k)
+    spans_agree : AreAmong key commalist → (x y : Row) → part_of key x ≡ part_of key y → span_of (value_at x k) ≡ span_of (value_at y k)
     spans_agree lies x y e =
-        ap span_of (value_at-get x k ∙ same_of (at x) (at y) no_value key e k (in_key key acl lies k (inl refl)) ∙ sym (value_at-get y k))
+        ap span_of (value_at-get x k ∙ same_of (at x) (at y) no_value key e k (in_key key commalist lies k (inl refl)) ∙ sym (value_at-get y k))
 
-    module _ (lies : AreAmong key acl) (rows : List Row) (shaped : (x : Row) → In x rows → IsShaped heading acl x) (apart : AreApart label k Zero rows) where
-      agree_once : AgreeOnce key (unpacked acl rows)
+    module _ (lies : AreAmong key commalist) (rows : List Row) (shaped : (x : Row) → In x rows → IsShaped heading commalist x) (apart : AreApart label k Zero rows) where
+      agree_once : AgreeOnce key (unpacked commalist rows)
       agree_once x y i j e =
           let u = (In-unpack1 row_cmp row_total row_separates (attribute k) rows x).0 i in
           let v = (In-unpack1 row_cmp row_total row_separates (attribute k) rows y).0 j in
@@ -86,10 +86,10 @@ module _ (heading : Heading) (k : ℕ) where
 
 -- ---- the attribute that alone is listed
 
-pub parted_key : (heading : Heading) (acl : List ℕ) (rows : List Row) → ((x : Row) → In x rows → IsShaped heading acl x) → (i : ℕ) → length acl ≡ 1 → i ≡ get_or acl 0 0
-    → (key : List ℕ) → AreAmong key acl → (label : List ℕ) → label ≡ unlisted acl key → AreApart label i Zero rows → is_key key (unpacked acl rows) ≡ true
+pub parted_key : (heading : Heading) (commalist : List ℕ) (rows : List Row) → ((x : Row) → In x rows → IsShaped heading commalist x) → (i : ℕ) → length commalist ≡ 1 → i ≡ get_or commalist 0 0
+    → (key : List ℕ) → AreAmong key commalist → (label : List ℕ) → label ≡ unlisted commalist key → AreApart label i Zero rows → is_key key (unpacked commalist rows) ≡ true
 parted_key heading [] rows shaped i one is key lies label e apart = absurd (omega arith)
-parted_key heading (k ∷ j ∷ acl) rows shaped i one is key lies label e apart = absurd (omega arith)
+parted_key heading (k ∷ j ∷ commalist) rows shaped i one is key lies label e apart = absurd (omega arith)
 parted_key heading (k ∷ []) rows shaped i one is key lies label e apart =
     let here : AreApart (unlisted (k ∷ []) key) k Zero rows =
     subst (λ (ps : List ℕ). AreApart ps k Zero rows) e (subst (λ n. AreApart label n Zero rows) is apart) in

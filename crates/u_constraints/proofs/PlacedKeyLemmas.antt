@@ -10,21 +10,21 @@ use Rattle.std.proofs.lemmas.List.{length-map, length-append}
 use Rattle.std.proofs.lemmas.List.Elements.{recursion_from_All}
 use Rattle.base_core.proofs.SetLemmas.{In, Ascends, Separates, In-from_Contains, Ascends-from_sorted}
 use Rattle.base_core.proofs.SetOperatorLemmas.{AllAfter-In}
-use Rattle.packing_core.specs.Boxed.{Boxed, boxed_cmp, packed_boxes, InBoxes}
-use Rattle.packing_core.specs.Covering.{Among}
-use Rattle.packing_core.specs.Live.{span_has, has_place}
-use Rattle.packing_core.specs.Packed.{Has, no_cells}
-use Rattle.packing_core.proofs.AmongLemmas.{among_map, all_from_members}
-use Rattle.packing_core.proofs.Cells.{Cuts, rises_far, box_of}
-use Rattle.slice_core.specs.Rows.{key_cmp}
-use Rattle.slice_core.specs.PackedRows.{IsPackedOf}
-use Rattle.box_core.specs.Apartness.{AreApart}
-use Rattle.box_core.specs.Common.{At, has_cell, HaveCells}
-use Rattle.box_core.specs.Rows.{IsRow}
-use Rattle.box_core.proofs.PlaceLemmas.{cell_from, place_of_cells}
-use Rattle.slice_core.proofs.Sweeping.{cell_has}
-use Rattle.box_core.proofs.PointLemmas.{cell_at, InGrid}
-use Rattle.box_core.proofs.RowLemmas.{row_among, among_row, one_row, map_row, row_map}
+use Rattle.cell_packing.specs.Boxed.{Boxed, boxed_cmp, packed_boxes, InBoxes}
+use Rattle.cell_packing.specs.Covering.{Among}
+use Rattle.cell_packing.specs.Live.{span_has, has_grid_point}
+use Rattle.cell_packing.specs.Packed.{Has, no_cells}
+use Rattle.cell_packing.proofs.AmongLemmas.{among_map, all_from_members}
+use Rattle.cell_packing.proofs.Cells.{Cuts, rises_far, box_of}
+use Rattle.cell_sweep.specs.Rows.{key_cmp}
+use Rattle.cell_sweep.specs.PackedRows.{IsPackedOf}
+use Rattle.cell_boxes.specs.Apartness.{AreApart}
+use Rattle.cell_boxes.specs.Common.{At, has_cell, HaveCells}
+use Rattle.cell_boxes.specs.Rows.{IsRow}
+use Rattle.cell_boxes.proofs.GridPointLemmas.{cell_from, grid_point_of_cells}
+use Rattle.cell_sweep.proofs.Sweeping.{cell_has}
+use Rattle.cell_boxes.proofs.PointLemmas.{cell_at, InGrid}
+use Rattle.cell_boxes.proofs.RowLemmas.{row_among, among_row, one_row, map_row, row_map}
 use Rattle.cell_core.specs.CellRows.{AreOverCells}
 use Rattle.cell_core.specs.Cells.{grids_of, grid_box, grid_row, row_numbers}
 use Rattle.cell_core.proofs.Assembly.{start, pick_from, box_same, length_cuts, length_grids, cut_count, grid_at}
@@ -32,7 +32,7 @@ use Rattle.cell_core.proofs.BackLemmas.{box_length}
 use Rattle.cell_core.proofs.KeyLemmas.{gs, rising, Fit, Low, own_rows, own_fits, own_low, rows_have, packed_form, packed_cells, key_order}
 use Rattle.cell_core.proofs.OneSide.{among_all}
 use Rattle.cell_core.proofs.OrderLemmas.{boxed_total}
-use Rattle.cell_core.proofs.PackedPlaces.{AllHave, in_packed_box, from_packed_box, one_box}
+use Rattle.cell_core.proofs.PackedGridPoints.{AllHave, in_packed_box, from_packed_box, one_box}
 use Rattle.u_row.specs.Labels.{relabelled}
 
 -- ---- rows that ascend
@@ -62,7 +62,7 @@ has_begins [] c y e f h = tt
 has_begins (g ∷ rest) [] y e f h = absurd (omega (arith, e))
 has_begins (g ∷ rest) (i ∷ is) [] e f h = absurd (omega (arith, f))
 has_begins (g ∷ rest) (i ∷ is) (x ∷ xs) e f h =
-    let u = and_parts (span_has x i) (has_place xs is) h in
+    let u = and_parts (span_has x i) (has_grid_point xs is) h in
     let w = cell_has x i u.0 in
     let a = rises_far g x.0 i w.0 in
     let b = rises_far g (suc i) x.1 w.1 in
@@ -178,7 +178,7 @@ module _ {T P L : Type 0} (n : P → ℤ) (has : T → P → Type 0) (high : T �
   -- what holds of the label of each box holds of those of the packed ones
   pub form_labels : (Q : L → Type 0) → All (λ b. Q b.0) boxes → All (λ x. Q x.0) v
   form_labels Q h = all_from_members (λ (x : L × List (ℕ × ℕ)). Q x.0) v (λ x m.
-      let c = place_of_cells x.1 (form_cells x m) in
+      let c = grid_point_of_cells x.1 (form_cells x m) in
       let l = form_lengths x m in
       let g = from_form x m (begins cuts c.0) (has_begins cuts c.0 x.1 (c.1 ∙ l ∙ sym count_sides) (l ∙ sym count_sides) c.2) in
       let w = (among_map (row_numbers n) (x.0, g.0) boxes).0 g.1 in

@@ -24,26 +24,26 @@ use Rattle.relation_core.specs.Growth.{touched, IsSelection}
 use Rattle.relation_core.specs.Parts.{projected}
 use Rattle.relation_core.proofs.AgreementLemmas.{length_of_fit}
 use Rattle.relation_core.proofs.FilterLemmas.{length-filter_at_most, rows_ascend}
-use Rattle.u_constraints.specs.Fronts.{begins_with, counts_from}
-use Rattle.u_constraints.proofs.FrontLemmas.{few_first, fronts_of_less, part_is_front}
+use Rattle.u_constraints.specs.Prefixes.{begins_with, counts_from}
+use Rattle.u_constraints.proofs.PrefixLemmas.{few_first, prefixes_of_less, part_is_prefix}
 
 -- ---- the order of first values
 
 not_back : (r s : Ordering) → r ≡ ordering_reverse s → (s ≡ Less) ⊎ (s ≡ Equal) → is_lt r ≡ false
 not_back r s e h = elim h [ inl w ↦ ap is_lt (e ∙ ap ordering_reverse w) | inr w ↦ ap is_lt (e ∙ ap ordering_reverse w) ]
 
-front_step : (k : ℕ) (rows : List Row) → Ascends row_cmp rows → (i : ℕ) (d : Row) → suc i < length rows
+prefix_step : (k : ℕ) (rows : List Row) → Ascends row_cmp rows → (i : ℕ) (d : Row) → suc i < length rows
     → is_lt (row_cmp (take k (get_or rows (suc i) d)) (take k (get_or rows i d))) ≡ false
-front_step k [] a i d l = absurd (omega (arith, l))
-front_step k (x ∷ []) a i d l = absurd (omega (arith, l))
-front_step k (x ∷ y ∷ rows) a zero d l = not_back _ (row_cmp (take k x) (take k y)) (row_total.antisymm (take k y) (take k x)) (fronts_of_less k x y a.0.0)
-front_step k (x ∷ y ∷ rows) a (suc i) d l = front_step k (y ∷ rows) a.1 i d (omega (arith, l))
+prefix_step k [] a i d l = absurd (omega (arith, l))
+prefix_step k (x ∷ []) a i d l = absurd (omega (arith, l))
+prefix_step k (x ∷ y ∷ rows) a zero d l = not_back _ (row_cmp (take k x) (take k y)) (row_total.antisymm (take k y) (take k x)) (prefixes_of_less k x y a.0.0)
+prefix_step k (x ∷ y ∷ rows) a (suc i) d l = prefix_step k (y ∷ rows) a.1 i d (omega (arith, l))
 
-pub fronts_sorted : (k : ℕ) (rows : List Row) → IsStrictlySortedBy row_cmp rows → IsSortedByKey (λ (x : Row). take k x) row_cmp rows
-fronts_sorted k rows up i d low l =
+pub prefixes_sorted : (k : ℕ) (rows : List Row) → IsStrictlySortedBy row_cmp rows → IsSortedByKey (λ (x : Row). take k x) row_cmp rows
+prefixes_sorted k rows up i d low l =
     let next : suc i ≡ i + 1 = omega arith in
     subst (λ n. is_lt (row_cmp (take k (get_or rows n d)) (take k (get_or rows i d))) ≡ false) next
-    (front_step k rows (Ascends-from_sorted row_cmp rows up) i d (omega (arith, l)))
+    (prefix_step k rows (Ascends-from_sorted row_cmp rows up) i d (omega (arith, l)))
 
 -- ---- whether any is found
 
@@ -84,34 +84,34 @@ part_length positions values rows i =
     ap (λ (z : Row). length z) w.2 ∙ length-map positions _
 
 module _ (positions : List ℕ) (size : ℕ) (first : counts_from 0 positions ≡ true) (within : length positions ≤ size) where
-  is_front : (x values : Row) → length x ≡ size → length values ≡ length positions → IsTrue (begins_with values x) ↔ (part_of positions x ≡ values)
-  is_front x values long many =
-      let same : part_of positions x ≡ take (length positions) x = part_is_front positions x first (omega (arith, within, long)) in
+  is_prefix : (x values : Row) → length x ≡ size → length values ≡ length positions → IsTrue (begins_with values x) ↔ (part_of positions x ≡ values)
+  is_prefix x values long many =
+      let same : part_of positions x ≡ take (length positions) x = part_is_prefix positions x first (omega (arith, within, long)) in
       let cut : take (length values) x ≡ take (length positions) x = ap (λ n. take n x) many in
       let both = eq_by_cmp-≡ row_cmp row_total row_separates (take (length values) x) values in
       (λ e. same ∙ (sym cut ∙ both.0 e), λ e. both.1 (cut ∙ (sym same ∙ e)))
 
-  found_rows : (many few fronts rows : List Row) → ((x : Row) → In x many → length x ≡ size) → Ascends row_cmp many → fronts ≡ projected positions few
-      → rows ≡ flat_map (λ values. filter (begins_with values) many) fronts → rows_of rows ≡ touched positions few many
-  found_rows many few fronts rows long up are is =
+  found_rows : (many few prefixes rows : List Row) → ((x : Row) → In x many → length x ≡ size) → Ascends row_cmp many → prefixes ≡ projected positions few
+      → rows ≡ flat_map (λ values. filter (begins_with values) many) prefixes → rows_of rows ≡ touched positions few many
+  found_rows many few prefixes rows long up are is =
       let test : Row → Bool = λ x. has row_cmp (projected positions few) (part_of positions x) in
       same_by_members row_cmp row_total row_separates (rows_of rows) (filter test many)
       (Ascends-in_order row_cmp row_total row_separates rows) (Ascends-filter row_cmp test many up) (λ x.
       let set = In-in_order row_cmp row_total row_separates x rows in
-      let all = In-flat_map (λ (values : Row). filter (begins_with values) many) x fronts in
+      let all = In-flat_map (λ (values : Row). filter (begins_with values) many) x prefixes in
       let kept = In-filter test x many in
       let told = has-In row_cmp row_total row_separates (projected positions few) (part_of positions x) in (
         λ i.
             let w = all.0 (subst (λ (zs : List Row). In x zs) is (set.0 i)) in
             let v = (In-filter (begins_with w.0) x many).0 w.2 in
             let among : In w.0 (projected positions few) = subst (λ (zs : List Row). In w.0 zs) are w.1 in
-            let same = (is_front x w.0 (long x v.0) (part_length positions w.0 few among)).0 v.1 in
+            let same = (is_prefix x w.0 (long x v.0) (part_length positions w.0 few among)).0 v.1 in
             kept.1 (v.0, told.1 (subst (λ (z : Row). In z (projected positions few)) (sym same) among)),
         λ i.
             let v = kept.0 i in
             let own = part_of positions x in
             let among : In own (projected positions few) = told.0 v.1 in
-            let begins = (is_front x own (long x v.0) (part_length positions own few among)).1 refl in
+            let begins = (is_prefix x own (long x v.0) (part_length positions own few among)).1 refl in
             set.1 (subst (λ (zs : List Row). In x zs) (sym is)
             (all.1 (own, subst (λ (zs : List Row). In own zs) (sym are) among, (In-filter (begins_with own) x many).1 (v.0, begins)))),
       ))
@@ -125,8 +125,8 @@ module _ (positions : List ℕ) (size : ℕ) (first : counts_from 0 positions �
       let parts = In-map (part_of positions) values others in
       let any = list_any-In (begins_with values) others in
       same_tests _ _ (
-        λ e. let w = any.0 e in told.1 (set.1 (parts.1 (w.0, w.1, sym ((is_front w.0 values (long w.0 w.1) many).0 w.2)))),
-        λ e. let w = parts.0 (set.0 (told.0 e)) in any.1 (w.0, w.1, (is_front w.0 values (long w.0 w.1) many).1 (sym w.2)),
+        λ e. let w = any.0 e in told.1 (set.1 (parts.1 (w.0, w.1, sym ((is_prefix w.0 values (long w.0 w.1) many).0 w.2)))),
+        λ e. let w = parts.0 (set.0 (told.0 e)) in any.1 (w.0, w.1, (is_prefix w.0 values (long w.0 w.1) many).1 (sym w.2)),
       )
 
 -- ---- of relations
@@ -134,10 +134,10 @@ module _ (positions : List ℕ) (size : ℕ) (first : counts_from 0 positions �
 pub in_order_too : (r : Relation) (rows : List Row) → rows ≡ r.rows → IsRelation r → IsStrictlySortedBy row_cmp rows
 in_order_too r rows same is = subst (λ (zs : List Row). IsStrictlySortedBy row_cmp zs) (sym same) is.ascending
 
-pub fronts_more : (many given list : List Row) (i : ℕ) (values : Row) (old more new : List Row) → i < length list → values ≡ get_or list i values → given ≡ many
+pub prefixes_more : (many given list : List Row) (i : ℕ) (values : Row) (old more new : List Row) → i < length list → values ≡ get_or list i values → given ≡ many
     → old ≡ flat_map (λ v. filter (begins_with v) many) (take i list) → more ≡ filter (begins_with values) given → new ≡ old ++ more
     → new ≡ flat_map (λ v. filter (begins_with v) many) (take (i + 1) list)
-fronts_more many given list i values old more new l at same so_far these all =
+prefixes_more many given list i values old more new l at same so_far these all =
     let f : Row → List Row = λ v. filter (begins_with v) many in
     let next : take (i + 1) list ≡ take i list ++ values ∷ [] = take_more list i values l ∙ ap (λ (v : Row). take i list ++ v ∷ []) (sym at) in
     all
@@ -151,13 +151,13 @@ within_heading : (positions : List ℕ) (r : Relation) → counts_from 0 positio
     → length positions ≤ length r.heading
 within_heading positions r first within = let few = few_first 0 (length r.heading) positions first (omega arith) within in omega (arith, few)
 
-module _ (positions : List ℕ) (many : Relation) (few fronts rows : List Row) (is : IsRelation many) (first : counts_from 0 positions ≡ true)
-    (within : All (λ (i : ℕ). i < length many.heading) positions) (are : fronts ≡ projected positions few)
-    (all : rows ≡ flat_map (λ values. filter (begins_with values) many.rows) fronts) where
+module _ (positions : List ℕ) (many : Relation) (few prefixes rows : List Row) (is : IsRelation many) (first : counts_from 0 positions ≡ true)
+    (within : All (λ (i : ℕ). i < length many.heading) positions) (are : prefixes ≡ projected positions few)
+    (all : rows ≡ flat_map (λ values. filter (begins_with values) many.rows) prefixes) where
   -- they are the touched ones
   pub found : rows_of rows ≡ touched positions few many.rows
   found =
-      found_rows positions (length many.heading) first (within_heading positions many first within) many.rows few fronts rows (long_rows many is) (rows_ascend many is) are all
+      found_rows positions (length many.heading) first (within_heading positions many first within) many.rows few prefixes rows (long_rows many is) (rows_ascend many is) are all
 
   -- and so not too many
   pub found_few : length (rows_of rows) ≤ most_rows
@@ -168,12 +168,12 @@ module _ (positions : List ℕ) (many : Relation) (few fronts rows : List Row) (
       omega (arith, less, size, most)
 
 -- and fit the heading
-pub found_fit : (heading : Heading) (many : Relation) (fronts rows : List Row) → IsRelation many → heading ≡ many.heading
-    → rows ≡ flat_map (λ values. filter (begins_with values) many.rows) fronts
+pub found_fit : (heading : Heading) (many : Relation) (prefixes rows : List Row) → IsRelation many → heading ≡ many.heading
+    → rows ≡ flat_map (λ values. filter (begins_with values) many.rows) prefixes
     → IsTrue (list_all (fits_heading heading) rows)
-found_fit heading many fronts rows is same all =
+found_fit heading many prefixes rows is same all =
     subst (λ (h : Heading). IsTrue (list_all (fits_heading h) rows)) (sym same) ((list_all-In (fits_heading many.heading) rows).1 (λ x i.
-    let w = (In-flat_map (λ (values : Row). filter (begins_with values) many.rows) x fronts).0 (subst (λ (zs : List Row). In x zs) all i) in
+    let w = (In-flat_map (λ (values : Row). filter (begins_with values) many.rows) x prefixes).0 (subst (λ (zs : List Row). In x zs) all i) in
     (list_all-In (fits_heading many.heading) many.rows).0 is.fitting x ((In-filter (begins_with w.0) x many.rows).0 w.2).0))
 
 -- each of the parts is the first values of a row exactly where it is among the others' parts

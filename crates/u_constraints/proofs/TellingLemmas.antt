@@ -18,15 +18,15 @@ use Rattle.u_constraints.specs.Growth.{outside_below, telling}
 
 -- none of the positions is unpacked
 abbrev pub AreOutside : List ℕ → List ℕ → Type 0
-AreOutside acl positions = IsTrue (list_all (λ i. not (among acl i)) positions)
+AreOutside commalist positions = IsTrue (list_all (λ i. not (among commalist i)) positions)
 
 -- rows that the constraint holds against one another have the same values at the positions
 abbrev pub Relate : Constraint → List ℕ → Type 0
 Relate (Key k) positions = AreAmong k positions
-Relate (Packed acl) positions = AreOutside acl positions
-Relate (WhenUnpacked acl k) positions = AreAmong k positions × AreOutside acl positions
-Relate (UKey acl k) positions = AreAmong k positions × AreOutside acl positions
-Relate (Foreign acl here name there) positions = ⊥
+Relate (Packed commalist) positions = AreOutside commalist positions
+Relate (WhenUnpacked commalist k) positions = AreAmong k positions × AreOutside commalist positions
+Relate (UKey commalist k) positions = AreAmong k positions × AreOutside commalist positions
+Relate (Foreign commalist here name there) positions = ⊥
 Relate (History h) positions = ⊥
 
 -- ---- without what is unpacked
@@ -34,37 +34,37 @@ Relate (History h) positions = ⊥
 among_itself : (k : List ℕ) → AreAmong k k
 among_itself k = (list_all-In (among k) k).1 (λ i m. in_among k i m)
 
-unlisted_among : (acl k : List ℕ) → AreAmong k (unlisted acl k)
-unlisted_among acl k = (list_all-In (among k) (unlisted acl k)).1 (λ i m. in_among k i ((In-filter (λ j. not (among acl j)) i k).0 m).0)
+unlisted_among : (commalist k : List ℕ) → AreAmong k (unlisted commalist k)
+unlisted_among commalist k = (list_all-In (among k) (unlisted commalist k)).1 (λ i m. in_among k i ((In-filter (λ j. not (among commalist j)) i k).0 m).0)
 
-unlisted_outside : (acl k : List ℕ) → AreOutside acl (unlisted acl k)
-unlisted_outside acl k = (list_all-In (λ i. not (among acl i)) (unlisted acl k)).1 (λ i m. ((In-filter (λ j. not (among acl j)) i k).0 m).1)
+unlisted_outside : (commalist k : List ℕ) → AreOutside commalist (unlisted commalist k)
+unlisted_outside commalist k = (list_all-In (λ i. not (among commalist i)) (unlisted commalist k)).1 (λ i m. ((In-filter (λ j. not (among commalist j)) i k).0 m).1)
 
-unlisted_within : (n : ℕ) (acl k : List ℕ) → All (λ (i : ℕ). i < n) k → All (λ (i : ℕ). i < n) (unlisted acl k)
-unlisted_within n acl k h = All-In (λ (i : ℕ). i < n) (unlisted acl k) (λ i m. in_all (λ (i : ℕ). i < n) k h i ((In-filter (λ j. not (among acl j)) i k).0 m).0)
+unlisted_within : (n : ℕ) (commalist k : List ℕ) → All (λ (i : ℕ). i < n) k → All (λ (i : ℕ). i < n) (unlisted commalist k)
+unlisted_within n commalist k h = All-In (λ (i : ℕ). i < n) (unlisted commalist k) (λ i m. in_all (λ (i : ℕ). i < n) k h i ((In-filter (λ j. not (among commalist j)) i k).0 m).0)
 
 -- ---- below a number
 
-in_below : (acl : List ℕ) (n i : ℕ) → In i (outside_below acl n) → (i < n) × IsTrue (not (among acl i))
-in_below acl zero i m = absurd m
-in_below acl (suc n) i m =
-    let rest = outside_below acl n in
-    elim (among acl n) as (λ b. among acl n ≡ b → In i (if b then rest else rest ++ n ∷ []) → (i < suc n) × IsTrue (not (among acl i))) [
-      | true ↦ λ e m. let w = in_below acl n i m in let l = w.0 in (omega (arith, l), w.1)
+in_below : (commalist : List ℕ) (n i : ℕ) → In i (outside_below commalist n) → (i < n) × IsTrue (not (among commalist i))
+in_below commalist zero i m = absurd m
+in_below commalist (suc n) i m =
+    let rest = outside_below commalist n in
+    elim (among commalist n) as (λ b. among commalist n ≡ b → In i (if b then rest else rest ++ n ∷ []) → (i < suc n) × IsTrue (not (among commalist i))) [
+      | true ↦ λ e m. let w = in_below commalist n i m in let l = w.0 in (omega (arith, l), w.1)
       | false ↦ λ e m. elim ((In-append i rest (n ∷ [])).0 m) [
-        | inl u ↦ let w = in_below acl n i u in let l = w.0 in (omega (arith, l), w.1)
+        | inl u ↦ let w = in_below commalist n i u in let l = w.0 in (omega (arith, l), w.1)
         | inr u ↦ elim u [
-          | inl q ↦ (omega (arith, q), ap (λ j. not (among acl j)) q ∙ ap not e)
+          | inl q ↦ (omega (arith, q), ap (λ j. not (among commalist j)) q ∙ ap not e)
           | inr v ↦ absurd v
         ]
       ]
     ] refl m
 
-below_outside : (acl : List ℕ) (n : ℕ) → AreOutside acl (outside_below acl n)
-below_outside acl n = (list_all-In (λ i. not (among acl i)) (outside_below acl n)).1 (λ i m. (in_below acl n i m).1)
+below_outside : (commalist : List ℕ) (n : ℕ) → AreOutside commalist (outside_below commalist n)
+below_outside commalist n = (list_all-In (λ i. not (among commalist i)) (outside_below commalist n)).1 (λ i m. (in_below commalist n i m).1)
 
-below_within : (acl : List ℕ) (n : ℕ) → All (λ (i : ℕ). i < n) (outside_below acl n)
-below_within acl n = All-In (λ (i : ℕ). i < n) (outside_below acl n) (λ i m. (in_below acl n i m).0)
+below_within : (commalist : List ℕ) (n : ℕ) → All (λ (i : ℕ). i < n) (outside_below commalist n)
+below_within commalist n = All-In (λ (i : ℕ). i < n) (outside_below commalist n) (λ i m. (in_below commalist n i m).0)
 
 -- ---- the ones that are told
 
@@ -77,33 +77,33 @@ same_positions p q e = sym (ap (or_these p) e)
 
 pub told_relate : (c : Constraint) (n : ℕ) (positions : List ℕ) → Some positions ≡ telling c n → Relate c positions
 told_relate (Key k) n positions e = subst (λ (p : List ℕ). AreAmong k p) (same_positions positions k e) (among_itself k)
-told_relate (Packed acl) n positions e = subst (λ (p : List ℕ). AreOutside acl p) (same_positions positions (outside_below acl n) e) (below_outside acl n)
-told_relate (WhenUnpacked acl k) n positions e =
-    subst (λ (p : List ℕ). AreAmong k p × AreOutside acl p) (same_positions positions (unlisted acl k) e) (unlisted_among acl k, unlisted_outside acl k)
-told_relate (UKey acl k) n positions e = subst (λ (p : List ℕ). AreAmong k p × AreOutside acl p) (same_positions positions (unlisted acl k) e) (unlisted_among acl k, unlisted_outside acl k)
-told_relate (Foreign acl here name there) n positions e = let never : ⊥ = cc in absurd never
+told_relate (Packed commalist) n positions e = subst (λ (p : List ℕ). AreOutside commalist p) (same_positions positions (outside_below commalist n) e) (below_outside commalist n)
+told_relate (WhenUnpacked commalist k) n positions e =
+    subst (λ (p : List ℕ). AreAmong k p × AreOutside commalist p) (same_positions positions (unlisted commalist k) e) (unlisted_among commalist k, unlisted_outside commalist k)
+told_relate (UKey commalist k) n positions e = subst (λ (p : List ℕ). AreAmong k p × AreOutside commalist p) (same_positions positions (unlisted commalist k) e) (unlisted_among commalist k, unlisted_outside commalist k)
+told_relate (Foreign commalist here name there) n positions e = let never : ⊥ = cc in absurd never
 told_relate (History h) n positions e = let never : ⊥ = cc in absurd never
 
 pub told_within : (c : Constraint) (h g : Heading) (positions : List ℕ) → FitsHeadings h g c → Some positions ≡ telling c (length h) → All (λ (i : ℕ). i < length h) positions
 told_within (Key k) h g positions fits e = subst (All (λ (i : ℕ). i < length h)) (same_positions positions k e) fits.within
-told_within (Packed acl) h g positions fits e = subst (All (λ (i : ℕ). i < length h)) (same_positions positions (outside_below acl (length h)) e) (below_within acl (length h))
-told_within (WhenUnpacked acl k) h g positions fits e =
-    subst (All (λ (i : ℕ). i < length h)) (same_positions positions (unlisted acl k) e) (unlisted_within (length h) acl k fits.1.within)
-told_within (UKey acl k) h g positions fits e =
-    subst (All (λ (i : ℕ). i < length h)) (same_positions positions (unlisted acl k) e) (unlisted_within (length h) acl k fits.1.within)
-told_within (Foreign acl here name there) h g positions fits e = let never : ⊥ = cc in absurd never
+told_within (Packed commalist) h g positions fits e = subst (All (λ (i : ℕ). i < length h)) (same_positions positions (outside_below commalist (length h)) e) (below_within commalist (length h))
+told_within (WhenUnpacked commalist k) h g positions fits e =
+    subst (All (λ (i : ℕ). i < length h)) (same_positions positions (unlisted commalist k) e) (unlisted_within (length h) commalist k fits.1.within)
+told_within (UKey commalist k) h g positions fits e =
+    subst (All (λ (i : ℕ). i < length h)) (same_positions positions (unlisted commalist k) e) (unlisted_within (length h) commalist k fits.1.within)
+told_within (Foreign commalist here name there) h g positions fits e = let never : ⊥ = cc in absurd never
 told_within (History rule) h g positions fits e = let never : ⊥ = cc in absurd never
 
 -- where none are told, the constraint names another relvar
 abbrev pub Names : Constraint → Type 0
-Names (Foreign acl here name there) = Unit {0}
+Names (Foreign commalist here name there) = Unit {0}
 Names (History h) = Unit {0}
 Names _ = ⊥
 
 pub told_none : (c : Constraint) (n : ℕ) → None ≡ telling c n → Names c
 told_none (Key k) n e = let never : ⊥ = cc in absurd never
-told_none (Packed acl) n e = let never : ⊥ = cc in absurd never
-told_none (WhenUnpacked acl k) n e = let never : ⊥ = cc in absurd never
-told_none (UKey acl k) n e = let never : ⊥ = cc in absurd never
-told_none (Foreign acl here name there) n e = tt
+told_none (Packed commalist) n e = let never : ⊥ = cc in absurd never
+told_none (WhenUnpacked commalist k) n e = let never : ⊥ = cc in absurd never
+told_none (UKey commalist k) n e = let never : ⊥ = cc in absurd never
+told_none (Foreign commalist here name there) n e = tt
 told_none (History h) n e = tt

@@ -38,7 +38,7 @@ pub whole_key_of_rows : (r : Relation) → IsRelation r → (key : List ℕ) →
 whole_key_of_rows r is key all =
     sym ((is_key-AgreeOnce key r.rows).1 (agree_once (length r.heading) key all r.rows (λ x i. length_of_fit r.heading x ((list_all-In (fits_heading r.heading) r.rows).0 is.fitting x i))))
 
-pub whole_key : (heading : Heading) (acl : List ℕ) → AreIntervals heading acl → (rows : List Row) → Ascends row_cmp rows → ((x : Row) → In x rows → IsShaped heading acl x)
-    → (key : List ℕ) → ((i : ℕ) → i < length heading → among key i ≡ true) → true ≡ is_key key (unpacked acl rows)
-whole_key heading acl intervals rows up shaped key all =
-    sym ((is_key-AgreeOnce key (unpacked acl rows)).1 (agree_once (length heading) key all (unpacked acl rows) (λ x i. (opened_shaped heading acl intervals rows up shaped x i).long)))
+pub whole_key : (heading : Heading) (commalist : List ℕ) → AreIntervals heading commalist → (rows : List Row) → Ascends row_cmp rows → ((x : Row) → In x rows → IsShaped heading commalist x)
+    → (key : List ℕ) → ((i : ℕ) → i < length heading → among key i ≡ true) → true ≡ is_key key (unpacked commalist rows)
+whole_key heading commalist intervals rows up shaped key all =
+    sym ((is_key-AgreeOnce key (unpacked commalist rows)).1 (agree_once (length heading) key all (unpacked commalist rows) (λ x i. (opened_shaped heading commalist intervals rows up shaped x i).long)))

@@ -39,7 +39,7 @@ is_key k rows = list_all (λ x. list_all (are_apart k x) rows) rows
 
 -- the rows are those that they are packed to
 abbrev pub is_packed : List ℕ → List Row → Bool
-is_packed acl rows = same_rows rows (packed acl rows)
+is_packed commalist rows = same_rows rows (packed commalist rows)
 
 -- ---- references
 
@@ -51,8 +51,8 @@ counterpart (k ∷ ks) (t ∷ ts) i = if nat_eq k i then t else counterpart ks t
 
 -- the values here of each of the unpacked rows are the values there of one of the other's rows, unpacked alike
 abbrev pub is_referenced : List ℕ → List ℕ → List ℕ → List Row → List Row → Bool
-is_referenced acl here there rows others =
-    is_within row_cmp (projected here (unpacked acl rows)) (projected there (unpacked (map (counterpart here there) acl) others))
+is_referenced commalist here there rows others =
+    is_within row_cmp (projected here (unpacked commalist rows)) (projected there (unpacked (map (counterpart here there) commalist) others))
 
 -- ---- histories
 
@@ -80,16 +80,16 @@ first_failed (line ∷ lines) = if line.0 then first_failed lines else Some line
 -- if it names one
 abbrev pub broken : Constraint → List Row → List Row → Option Code
 broken (Key k) rows others = first_failed ((is_key k rows, E40) ∷ [])
-broken (Packed acl) rows others = first_failed ((is_packed acl rows, E41) ∷ [])
-broken (WhenUnpacked acl k) rows others = first_failed ((is_key k (unpacked acl rows), E42) ∷ [])
-broken (UKey acl k) rows others =
-    first_failed ((is_packed acl rows, E41) ∷ (is_key k (unpacked acl rows), E42) ∷ (is_key k rows, E40) ∷ [])
-broken (Foreign acl here name there) rows others = first_failed ((is_referenced acl here there rows others, E43) ∷ [])
+broken (Packed commalist) rows others = first_failed ((is_packed commalist rows, E41) ∷ [])
+broken (WhenUnpacked commalist k) rows others = first_failed ((is_key k (unpacked commalist rows), E42) ∷ [])
+broken (UKey commalist k) rows others =
+    first_failed ((is_packed commalist rows, E41) ∷ (is_key k (unpacked commalist rows), E42) ∷ (is_key k rows, E40) ∷ [])
+broken (Foreign commalist here name there) rows others = first_failed ((is_referenced commalist here there rows others, E43) ∷ [])
 broken (History h) rows others = first_failed ((keeps_history h rows others, E44) ∷ [])
 
 -- the relvar that a constraint names besides its own
 abbrev pub names_relvar : Constraint → Option Name
-names_relvar (Foreign acl here name there) = Some name
+names_relvar (Foreign commalist here name there) = Some name
 names_relvar (History h) = Some h.since
 names_relvar _ = None
 
@@ -106,6 +106,6 @@ rows_or_none (Some r) = r.rows
 
 -- a constraint that names a relvar has it at hand
 abbrev pub IsNamed : Constraint → Option Relation → Type 0
-IsNamed (Foreign acl here name there) None = ⊥
+IsNamed (Foreign commalist here name there) None = ⊥
 IsNamed (History h) None = ⊥
 IsNamed _ _ = Unit {0}

@@ -9,9 +9,9 @@ use Rattle.value_core.specs.declared.constraint.Constraint.TheVariants.{Key, Pac
 -- a key and a history take no step, and a foreign key takes some only where a list is unpacked
 abbrev pub constraint_cost : Constraint → List Row → List Row → ℕ
 constraint_cost (Key k) rows others = 0
-constraint_cost (Packed acl) rows others = bound (length rows) (length acl)
-constraint_cost (WhenUnpacked acl k) rows others = bound (length rows) (length acl)
-constraint_cost (UKey acl k) rows others = 2 * bound (length rows) (length acl)
+constraint_cost (Packed commalist) rows others = bound (length rows) (length commalist)
+constraint_cost (WhenUnpacked commalist k) rows others = bound (length rows) (length commalist)
+constraint_cost (UKey commalist k) rows others = 2 * bound (length rows) (length commalist)
 constraint_cost (Foreign [] here name there) rows others = 0
-constraint_cost (Foreign (i ∷ acl) here name there) rows others = bound (length rows + length others) (length (i ∷ acl))
+constraint_cost (Foreign (i ∷ commalist) here name there) rows others = bound (length rows + length others) (length (i ∷ commalist))
 constraint_cost (History rule) rows others = 0

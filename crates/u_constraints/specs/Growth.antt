@@ -21,15 +21,15 @@ is_history _ = false
 
 -- the positions below the number that are not unpacked
 abbrev pub outside_below : List ℕ → ℕ → List ℕ
-outside_below acl zero = []
-outside_below acl (suc n) = if among acl n then outside_below acl n else outside_below acl n ++ n ∷ []
+outside_below commalist zero = []
+outside_below commalist (suc n) = if among commalist n then outside_below commalist n else outside_below commalist n ++ n ∷ []
 
 -- of a relvar with so many attributes, positions where rows have the same values that the constraint holds against one another: those of
 -- its key, or else all, without what is unpacked. None where it holds rows against those of another relvar
 abbrev pub telling : Constraint → ℕ → Option (List ℕ)
 telling (Key k) many = Some k
-telling (Packed acl) many = Some (outside_below acl many)
-telling (WhenUnpacked acl k) many = Some (unlisted acl k)
-telling (UKey acl k) many = Some (unlisted acl k)
-telling (Foreign acl here name there) many = None
+telling (Packed commalist) many = Some (outside_below commalist many)
+telling (WhenUnpacked commalist k) many = Some (unlisted commalist k)
+telling (UKey commalist k) many = Some (unlisted commalist k)
+telling (Foreign commalist here name there) many = None
 telling (History h) many = None

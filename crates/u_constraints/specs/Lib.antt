@@ -1,6 +1,6 @@
 pub mod Constraints
 pub mod Costs
-pub mod Fronts
+pub mod Prefixes
 pub mod Growth
-pub mod Marks
+pub mod Hashes
 pub mod Places

@@ -3,7 +3,7 @@
 use Rattle.std.specs.Prelude.{◌≡◌, ℕ, ℤ, List}
 use Rattle.value_core.specs.Values.{Row}
 use Rattle.relation_core.specs.Agreement.{part_of}
-use Rattle.packing_core.specs.Boxed.{Boxed, InBoxes}
+use Rattle.cell_packing.specs.Boxed.{Boxed, InBoxes}
 
 -- no two of the labels that boxes have at one place have the same values at the positions
 abbrev pub IsKeyAt : List ℕ → List (Boxed Row) → Type 0

@@ -2,8 +2,8 @@
 ghost use Rattle.std.specs.Prelude.{ℕ, ◌+◌, ◌<◌, ◌≤◌, ◌≡◌, ◌↔◌, length, map, IfOk, IsTrue};
 ghost use Rattle.std.specs.List.{All};
 ghost use Rattle.value_core.specs.Values.{row_cmp};
-ghost use Rattle.box_core.specs.Apartness.{AreApart};
-ghost use Rattle.box_core.specs.Common.{HaveCells};
+ghost use Rattle.cell_boxes.specs.Apartness.{AreApart};
+ghost use Rattle.cell_boxes.specs.Common.{HaveCells};
 ghost use Rattle.cell_core.specs.Boxes.{IsBox};
 ghost use Rattle.cell_core.specs.Cells.{row_numbers};
 ghost use Rattle.cell_core.specs.Costs.{bound};
@@ -11,14 +11,14 @@ ghost use Rattle.u_constraints.specs.Places.{IsKeyAt};
 
 use crate::parts::cells_of_parts;
 use cell_core::{BoxRow, CellRows, rows_over_cells};
+use cell_sweep::{CellBox, pack_rows};
 use point_core::{Memory, PointType, Steps};
-use slice_core::{Key, pack_rows};
 use std::alloc::Global;
 use std::sync::ledger::Ledger;
 use value_core::Row;
 
 /// Whether no two of the rows that are of one label have a place in common.
-fn are_apart(alloc: Global, sides: usize, rows: Vec<Key<Row>>) -> Result<bool, Memory>
+fn are_apart(alloc: Global, sides: usize, rows: Vec<CellBox<Row>>) -> Result<bool, Memory>
     requires some { 0 < sides }
     requires sides { All (λ x. length x.1 ≡ sides) rows.items }
     requires cells { All (λ x. HaveCells x.1) rows.items }
@@ -26,7 +26,7 @@ fn are_apart(alloc: Global, sides: usize, rows: Vec<Key<Row>>) -> Result<bool, M
 {
     let mut sorted = rows;
     sorted.sort()?;
-    box_core::are_apart(alloc, sides, sorted.as_slice())
+    cell_boxes::are_apart(alloc, sides, sorted.as_slice())
 }
 
 /// Whether the labels that the boxes have at a place are told apart by their values at the positions. There is a side at least.

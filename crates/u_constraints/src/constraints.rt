@@ -38,25 +38,31 @@ pub fn holds<L: Ledger>(
             let kept = is_key(alloc, of, key.list.as_slice())?;
             Ok(unless(kept, Code::E40))
         }
-        (Constraint::Packed(acl), _) => {
-            let kept = is_packed(alloc, of, acl.list.as_slice(), steps)?;
+        (Constraint::Packed(commalist), _) => {
+            let kept = is_packed(alloc, of, commalist.list.as_slice(), steps)?;
             Ok(unless(kept, Code::E41))
         }
-        (Constraint::WhenUnpacked(acl, key), _) => {
-            let (acl, key) = (acl.list.as_slice(), key.list.as_slice());
-            let kept = is_unpacked_key(alloc, of, acl, key, steps)?;
+        (Constraint::WhenUnpacked(commalist, key), _) => {
+            let (commalist, key) = (commalist.list.as_slice(), key.list.as_slice());
+            let kept = is_unpacked_key(alloc, of, commalist, key, steps)?;
             Ok(unless(kept, Code::E42))
         }
-        (Constraint::UKey(acl, key), _) => {
-            used_key(alloc, of, acl.list.as_slice(), key.list.as_slice(), steps)
+        (Constraint::UKey(commalist, key), _) => {
+            used_key(
+                alloc,
+                of,
+                commalist.list.as_slice(),
+                key.list.as_slice(),
+                steps,
+            )
         }
-        (Constraint::Foreign(acl, here, _, there), Some(other)) => {
-            let (acl, here, there) = (
-                acl.list.as_slice(),
+        (Constraint::Foreign(commalist, here, _, there), Some(other)) => {
+            let (commalist, here, there) = (
+                commalist.list.as_slice(),
                 here.list.as_slice(),
                 there.list.as_slice(),
             );
-            let kept = refers(alloc, acl, of, here, other, there, steps)?;
+            let kept = refers(alloc, commalist, of, here, other, there, steps)?;
             Ok(unless(kept, Code::E43))
         }
         (Constraint::History(rule), Some(other)) => {
@@ -72,23 +78,23 @@ pub fn holds<L: Ledger>(
 /// unpacked it takes no step.
 fn refers<L: Ledger>(
     alloc: Global,
-    acl: &[usize],
+    commalist: &[usize],
     of: &Relation,
     here: &[usize],
     other: &Relation,
     there: &[usize],
     steps: &mut Steps<L>,
 ) -> Result<bool, Memory>
-    requires list { IsList of.now.heading acl.now }
+    requires list { IsList of.now.heading commalist.now }
     requires here { AreDifferent of.now.heading here.now }
-    requires lies { AreAmong here.now acl.now }
+    requires lies { AreAmong here.now commalist.now }
     requires there { AreDifferent other.now.heading there.now }
     requires alike { AreAlike of.now.heading here.now other.now.heading there.now }
-    ensures answer { IfOk result (λ kept. kept ≡ are_referenced acl.now here.now there.now of.now.rows other.now.rows) }
-    ensures cost { (name : Name) → steps.new ≤ steps.old + constraint_cost (Foreign acl.now here.now name there.now) of.now.rows other.now.rows }
+    ensures answer { IfOk result (λ kept. kept ≡ are_referenced commalist.now here.now there.now of.now.rows other.now.rows) }
+    ensures cost { (name : Name) → steps.new ≤ steps.old + constraint_cost (Foreign commalist.now here.now name there.now) of.now.rows other.now.rows }
 {
-    if acl.is_empty() {
+    if commalist.is_empty() {
         return is_referenced(alloc, of, here, other, there);
     }
-    is_referenced_unpacked(alloc, acl, of, here, other, there, steps)
+    is_referenced_unpacked(alloc, commalist, of, here, other, there, steps)
 }

@@ -5,7 +5,7 @@ ghost use Rattle.std.specs.Result.{result_err};
 ghost use Rattle.meaning_core.specs.WellMade.{FitsHeadings};
 ghost use Rattle.value_core.specs.Values.{most_rows, IsRelation};
 ghost use Rattle.relation_core.specs.Operators.{subtracted, united};
-ghost use Rattle.row_marks.specs.Marks.{AreMarksOf};
+ghost use Rattle.relation_core.specs.Hashes.{AreHashesOf};
 ghost use Rattle.u_constraints.specs.Constraints.{broken, heading_or_none, rows_or_none, IsNamed};
 ghost use Rattle.u_constraints.specs.Costs.{constraint_cost};
 ghost use Rattle.u_constraints.specs.Growth.{exchanged, is_history, telling as telling_of};
@@ -14,8 +14,7 @@ use crate::constraints::holds;
 use crate::positions::telling;
 use crate::search::touched_with;
 use point_core::{Code, Memory, Steps};
-use relation_core::{minus, union};
-use row_marks::Marks;
+use relation_core::{Hashes, minus, union};
 use std::alloc::Global;
 use std::sync::ledger::Ledger;
 use value_core::{Constraint, Relation, RowsRefuse};
@@ -64,7 +63,7 @@ fn holds_by<L: Ledger>(
     alloc: Global,
     c: &Constraint,
     of: &Relation,
-    marks: &[Marks],
+    hashes: &[Hashes],
     gone: &Relation,
     come: &Relation,
     positions: &[usize],
@@ -74,7 +73,7 @@ fn holds_by<L: Ledger>(
     requires relation { IsRelation of.now }
     requires relation_come { IsRelation come.now }
     requires heading { come.now.heading ≡ of.now.heading }
-    requires marks { All (AreMarksOf of.now.rows) marks.now }
+    requires hashes { All (AreHashesOf of.now.rows) hashes.now }
     requires gone { gone.now.heading ≡ of.now.heading }
     requires few { length (united of.now.rows come.now.rows) ≤ most_rows }
     requires fits { FitsHeadings of.now.heading (heading_or_none (option_map (λ r. r.now) other)) c.now }
@@ -84,7 +83,7 @@ fn holds_by<L: Ledger>(
     ensures answer { IfOk result (λ answer. result_err answer ≡ broken c.now (exchanged of.now.rows gone.now.rows come.now.rows) (rows_or_none (option_map (λ r. r.now) other.entry))) }
     ensures cost { steps.new ≤ steps.old + constraint_cost c.now (exchanged of.now.rows gone.now.rows come.now.rows) (rows_or_none (option_map (λ r. r.now) other.entry)) }
 {
-    let part = touched_with(alloc, of, come, positions, marks)?;
+    let part = touched_with(alloc, of, come, positions, hashes)?;
     let all = joined(alloc, &part, come)?;
     let small = left_of(alloc, all, gone)?;
     holds(alloc, c, &small, other, steps)
@@ -95,19 +94,19 @@ fn holds_by<L: Ledger>(
 /// which is not the one that changes.
 ///
 /// Only rows that a row of `come` is held against are looked at: those with its values at the attributes of a key, say. They are found by
-/// the marks, which are those of the rows of `of`, where some are for these attributes.
+/// the hashes, which are those of the rows of `of`, where some are for these attributes.
 pub fn holds_with<L: Ledger>(
     alloc: Global,
     c: &Constraint,
     of: &Relation,
-    marks: &[Marks],
+    hashes: &[Hashes],
     gone: &Relation,
     come: &Relation,
     other: Option<&Relation>,
     steps: &mut Steps<L>,
 ) -> Result<Result<(), Code>, Memory>
     requires heading { come.now.heading ≡ of.now.heading }
-    requires marks { All (AreMarksOf of.now.rows) marks.now }
+    requires hashes { All (AreHashesOf of.now.rows) hashes.now }
     requires gone { gone.now.heading ≡ of.now.heading }
     requires few { length (united of.now.rows come.now.rows) ≤ most_rows }
     requires fits { FitsHeadings of.now.heading (heading_or_none (option_map (λ r. r.now) other)) c.now }
@@ -123,7 +122,7 @@ pub fn holds_with<L: Ledger>(
     match telling(alloc, c, many)? {
         Some(positions) => {
             let positions = positions.list.as_slice();
-            holds_by(alloc, c, of, marks, gone, come, positions, other, steps)
+            holds_by(alloc, c, of, hashes, gone, come, positions, other, steps)
         }
         None => {
             let left = rest(alloc, come, gone)?;

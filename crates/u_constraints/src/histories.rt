@@ -4,9 +4,9 @@ ghost use Rattle.meaning_core.specs.WellMade.{FitsHeadings};
 ghost use Rattle.value_core.specs.Values.{IsRelation};
 ghost use Rattle.value_core.specs.declared.constraint.Constraint.TheVariants as constraint;
 ghost use Rattle.u_constraints.specs.Constraints.{keeps_history};
-ghost use Rattle.u_constraints.specs.Marks.{is_overrun, is_touched};
+ghost use Rattle.u_constraints.specs.Hashes.{is_overrun, is_touched};
 
-use crate::marks::{begins, is_any_reached, sorted_ends};
+use crate::hashes::{begins, is_any_reached, sorted_ends};
 use point_core::Memory;
 use std::alloc::Global;
 use value_core::{HistoryRule, Relation};

@@ -5,11 +5,11 @@ ghost use Rattle.base_core.specs.Sets.{is_within};
 ghost use Rattle.value_core.specs.Values.{row_cmp, IsRelation};
 ghost use Rattle.relation_core.specs.Parts.{projected};
 ghost use Rattle.u_constraints.specs.Constraints.{is_key};
-ghost use Rattle.u_constraints.specs.Fronts.{counts_from};
+ghost use Rattle.u_constraints.specs.Prefixes.{counts_from};
 
-use crate::fronts::{are_first, fronts_ascend};
 use crate::positions::are_all;
-use crate::search::{are_few, are_fronts};
+use crate::prefixes::{are_first, prefixes_ascend};
+use crate::search::{are_few, are_prefixes};
 use point_core::Memory;
 use relation_core::{contains, part, sorted_parts};
 use std::alloc::Global;
@@ -26,7 +26,7 @@ pub(crate) fn is_key(alloc: Global, r: &Relation, positions: &[usize]) -> Result
         return Ok(true);
     }
     if are_first(positions) {
-        return Ok(fronts_ascend(rows, positions.len()));
+        return Ok(prefixes_ascend(rows, positions.len()));
     }
     let keys = sorted_parts(alloc, r, positions)?;
     Ok(keys.len() == rows.len())
@@ -46,13 +46,13 @@ pub(crate) fn is_referenced(
     ensures { IfOk result (λ kept. kept ≡ is_within row_cmp (projected here.now r.now.rows) (projected there.now other.now.rows)) }
 {
     if are_few(r, other) && here.len() == there.len() && are_first(there) {
-        return are_in_front(alloc, r, here, other, there);
+        return are_in_prefix(alloc, r, here, other, there);
     }
     are_sought(alloc, r, here, other, there)
 }
 
 /// Whether the values of each row here are the first values of some row there.
-fn are_in_front(
+fn are_in_prefix(
     alloc: Global,
     r: &Relation,
     here: &[usize],
@@ -67,7 +67,7 @@ fn are_in_front(
 {
     let rows = other.rows();
     let keys = sorted_parts(alloc, r, here)?;
-    Ok(are_fronts(rows, keys.as_slice()))
+    Ok(are_prefixes(rows, keys.as_slice()))
 }
 
 /// Whether the values of each row here are those of some row there, sought among the sorted parts of all rows there.

@@ -4,20 +4,20 @@
 mod apart;
 mod beginning;
 mod constraints;
-mod fronts;
 mod growth;
+mod hashes;
 mod histories;
 mod keys;
 mod lines;
-mod marks;
 mod packed;
 mod parts;
 mod positions;
+mod prefixes;
 mod references;
 mod search;
 mod unpacked;
 
-pub use beginning::with_front;
+pub use beginning::with_prefix;
 pub use constraints::holds;
 pub use growth::{holds_beside, holds_with};
 pub use positions::are_all;

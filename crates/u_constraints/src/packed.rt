@@ -14,15 +14,15 @@ use value_core::Relation;
 fn is_packed_by_boxes<L: Ledger>(
     alloc: Global,
     r: &Relation,
-    acl: &[usize],
+    commalist: &[usize],
     steps: &mut Steps<L>,
 ) -> Result<bool, Memory>
-    requires { IsList r.now.heading acl.now }
-    ensures answer { IfOk result (λ kept. kept ≡ is_packed acl.now r.now.rows) }
-    ensures cost { steps.new ≤ steps.old + bound (length r.now.rows) (length acl.now) }
+    requires { IsList r.now.heading commalist.now }
+    ensures answer { IfOk result (λ kept. kept ≡ is_packed commalist.now r.now.rows) }
+    ensures cost { steps.new ≤ steps.old + bound (length r.now.rows) (length commalist.now) }
 {
-    let types = types_at(alloc, r.heading().attributes(), acl)?;
-    let boxes = to_boxes(alloc, r, acl)?;
+    let types = types_at(alloc, r.heading().attributes(), commalist)?;
+    let boxes = to_boxes(alloc, r, commalist)?;
     cell_core::is_packed(alloc, types.as_slice(), boxes.as_slice(), steps)
 }
 
@@ -31,15 +31,15 @@ fn is_packed_by_boxes<L: Ledger>(
 pub(crate) fn is_packed<L: Ledger>(
     alloc: Global,
     r: &Relation,
-    acl: &[usize],
+    commalist: &[usize],
     steps: &mut Steps<L>,
 ) -> Result<bool, Memory>
-    requires { IsList r.now.heading acl.now }
-    ensures answer { IfOk result (λ kept. kept ≡ is_packed acl.now r.now.rows) }
-    ensures cost { steps.new ≤ steps.old + bound (length r.now.rows) (length acl.now) }
+    requires { IsList r.now.heading commalist.now }
+    ensures answer { IfOk result (λ kept. kept ≡ is_packed commalist.now r.now.rows) }
+    ensures cost { steps.new ≤ steps.old + bound (length r.now.rows) (length commalist.now) }
 {
-    if is_apart(alloc, r, acl)? {
+    if is_apart(alloc, r, commalist)? {
         return Ok(true);
     }
-    is_packed_by_boxes(alloc, r, acl, steps)
+    is_packed_by_boxes(alloc, r, commalist, steps)
 }

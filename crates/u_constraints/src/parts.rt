@@ -5,9 +5,9 @@ ghost use Rattle.relation_core.specs.Agreement.{part_of};
 ghost use Rattle.u_row.specs.Labels.{relabelled};
 
 use cell_core::BoxRow;
+use cell_sweep::CellBox;
 use point_core::{Memory, PointType};
 use relation_core::part;
-use slice_core::Key;
 use std::alloc::Global;
 use u_set::copied_cells;
 use value_core::Row;
@@ -15,9 +15,9 @@ use value_core::Row;
 /// The boxes of cells under their labels' values at the positions.
 pub(crate) fn cells_of_parts(
     alloc: Global,
-    rows: &[Key<Row>],
+    rows: &[CellBox<Row>],
     positions: &[usize],
-) -> Result<Vec<Key<Row>>, Memory>
+) -> Result<Vec<CellBox<Row>>, Memory>
     requires { All (λ x. All (λ (i : ℕ). i < length x.0) positions.now) rows.now }
     ensures { IfOk result (λ v. v.items ≡ map (relabelled (part_of positions.now)) rows.now) }
 {
@@ -25,7 +25,7 @@ pub(crate) fn cells_of_parts(
     for row in rows {
         let label = part(alloc, &row.label, positions)?;
         let sides = copied_cells(alloc, row.sides.as_slice())?;
-        out.push(Key { label, sides })?;
+        out.push(CellBox { label, sides })?;
     }
     Ok(out)
 }

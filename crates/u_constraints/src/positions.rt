@@ -24,14 +24,14 @@ pub fn are_all(positions: &[usize], many: usize) -> bool
 /// The positions that are not unpacked.
 pub(crate) fn unlisted(
     alloc: Global,
-    acl: &[usize],
+    commalist: &[usize],
     positions: &[usize],
 ) -> Result<Vec<usize>, Memory>
-    ensures { IfOk result (λ v. v.items ≡ unlisted acl.now positions.now) }
+    ensures { IfOk result (λ v. v.items ≡ unlisted commalist.now positions.now) }
 {
     let mut list = Vec::new(alloc);
     for i in positions {
-        if !is_listed(acl, *i) {
+        if !is_listed(commalist, *i) {
             list.push(*i)?;
         }
     }
@@ -39,12 +39,12 @@ pub(crate) fn unlisted(
 }
 
 /// The positions below the number that are not unpacked.
-fn outside_below(alloc: Global, acl: &[usize], many: usize) -> Result<Vec<usize>, Memory>
-    ensures { IfOk result (λ v. v.items ≡ outside_below acl.now many) }
+fn outside_below(alloc: Global, commalist: &[usize], many: usize) -> Result<Vec<usize>, Memory>
+    ensures { IfOk result (λ v. v.items ≡ outside_below commalist.now many) }
 {
     let mut list = Vec::new(alloc);
     for i in 0..many {
-        if !is_listed(acl, i) {
+        if !is_listed(commalist, i) {
             list.push(i)?;
         }
     }
@@ -62,16 +62,16 @@ pub(crate) fn telling(
 {
     match c {
         Constraint::Key(key) => Ok(Some(key.copy(alloc)?)),
-        Constraint::Packed(acl) => {
-            let list = outside_below(alloc, acl.list.as_slice(), many)?;
+        Constraint::Packed(commalist) => {
+            let list = outside_below(alloc, commalist.list.as_slice(), many)?;
             Ok(Some(Positions { list }))
         }
-        Constraint::WhenUnpacked(acl, key) => {
-            let list = unlisted(alloc, acl.list.as_slice(), key.list.as_slice())?;
+        Constraint::WhenUnpacked(commalist, key) => {
+            let list = unlisted(alloc, commalist.list.as_slice(), key.list.as_slice())?;
             Ok(Some(Positions { list }))
         }
-        Constraint::UKey(acl, key) => {
-            let list = unlisted(alloc, acl.list.as_slice(), key.list.as_slice())?;
+        Constraint::UKey(commalist, key) => {
+            let list = unlisted(alloc, commalist.list.as_slice(), key.list.as_slice())?;
             Ok(Some(Positions { list }))
         }
         Constraint::Foreign(..) => Ok(None),

@@ -57,42 +57,42 @@ fn counterparts(
 fn boxes_at(
     alloc: Global,
     r: &Relation,
-    acl: &[usize],
+    commalist: &[usize],
     positions: &[usize],
 ) -> Result<Vec<BoxRow<AnyType, Row>>, Memory>
-    requires intervals { AreIntervals r.now.heading acl.now }
+    requires intervals { AreIntervals r.now.heading commalist.now }
     requires within { All (λ (i : ℕ). i < length r.now.heading) positions.now }
     ensures relation { IsRelation r.now }
-    ensures rows { IfOk result (λ v. map (row_numbers number) v.items ≡ map (relabelled (part_of (inner acl.now positions.now))) (map (boxed acl.now) r.now.rows)) }
-    ensures boxes { IfOk result (λ v. All (λ b. IsBox IsPointOf (types_at r.now.heading acl.now) b.1) v.items) }
+    ensures rows { IfOk result (λ v. map (row_numbers number) v.items ≡ map (relabelled (part_of (inner commalist.now positions.now))) (map (boxed commalist.now) r.now.rows)) }
+    ensures boxes { IfOk result (λ v. All (λ b. IsBox IsPointOf (types_at r.now.heading commalist.now) b.1) v.items) }
 {
-    let boxes = to_boxes(alloc, r, acl)?;
-    let places = inner(alloc, acl, positions)?;
+    let boxes = to_boxes(alloc, r, commalist)?;
+    let places = inner(alloc, commalist, positions)?;
     boxes_of_parts(alloc, boxes.as_slice(), places.as_slice())
 }
 
 /// Whether the values here of each of the unpacked rows are the values there of one of the other's rows, unpacked alike.
 pub(crate) fn is_referenced_unpacked<L: Ledger>(
     alloc: Global,
-    acl: &[usize],
+    commalist: &[usize],
     of: &Relation,
     here: &[usize],
     other: &Relation,
     there: &[usize],
     steps: &mut Steps<L>,
 ) -> Result<bool, Memory>
-    requires list { IsList of.now.heading acl.now }
+    requires list { IsList of.now.heading commalist.now }
     requires here { AreDifferent of.now.heading here.now }
-    requires lies { AreAmong here.now acl.now }
+    requires lies { AreAmong here.now commalist.now }
     requires there { AreDifferent other.now.heading there.now }
     requires alike { AreAlike of.now.heading here.now other.now.heading there.now }
-    ensures answer { IfOk result (λ kept. kept ≡ is_referenced acl.now here.now there.now of.now.rows other.now.rows) }
-    ensures cost { steps.new ≤ steps.old + bound (length of.now.rows + length other.now.rows) (length acl.now) }
+    ensures answer { IfOk result (λ kept. kept ≡ is_referenced commalist.now here.now there.now of.now.rows other.now.rows) }
+    ensures cost { steps.new ≤ steps.old + bound (length of.now.rows + length other.now.rows) (length commalist.now) }
 {
-    let acl_there = counterparts(alloc, acl, here, there)?;
-    let types = types_at(alloc, of.heading().attributes(), acl)?;
-    let left = boxes_at(alloc, of, acl, here)?;
-    let right = boxes_at(alloc, other, acl_there.as_slice(), there)?;
+    let commalist_there = counterparts(alloc, commalist, here, there)?;
+    let types = types_at(alloc, of.heading().attributes(), commalist)?;
+    let left = boxes_at(alloc, of, commalist, here)?;
+    let right = boxes_at(alloc, other, commalist_there.as_slice(), there)?;
     within_points(
         alloc,
         types.as_slice(),

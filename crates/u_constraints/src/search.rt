@@ -1,18 +1,17 @@
-// Rows found by their first values, among rows in order, or by marks.
+// Rows found by their first values, among rows in order, or by hashes.
 ghost use Rattle.std.specs.Prelude.{◌≡◌, ◌⊎◌, ◌++◌, ◌<◌, ◌≤◌, [], ℕ, true, filter, length, IfOk, IsTrue, OnOk};
 ghost use Rattle.std.specs.List.{All, flat_map, list_all, list_any};
 ghost use Rattle.std.specs.List.Sorted.{IsStrictlySortedBy};
 ghost use Rattle.value_core.specs.Relations.{all_fit, relation_of};
 ghost use Rattle.value_core.specs.Values.{most_rows, row_cmp, rows_of, IsRelation};
 ghost use Rattle.relation_core.specs.Growth.{touched};
-ghost use Rattle.row_marks.specs.Marks.{AreMarksOf};
-ghost use Rattle.u_constraints.specs.Fronts.{begins_with, counts_from};
+ghost use Rattle.relation_core.specs.Hashes.{AreHashesOf};
+ghost use Rattle.u_constraints.specs.Prefixes.{begins_with, counts_from};
 
-use crate::beginning::with_front;
-use crate::fronts::are_first;
+use crate::beginning::with_prefix;
+use crate::prefixes::are_first;
 use point_core::{Label, Memory};
-use relation_core::{selection, sorted_parts, touched};
-use row_marks::{Marks, touched_by_marks};
+use relation_core::{Hashes, selection, sorted_parts, touched, touched_by_hashes};
 use std::alloc::Global;
 use value_core::{Heading, Relation, Row, RowsRefuse};
 
@@ -20,20 +19,20 @@ use value_core::{Heading, Relation, Row, RowsRefuse};
 pub const ROWS_PASSED_FOR_ONE_SOUGHT: usize = 16;
 
 /// Whether some row has these first values. The rows are in order.
-fn is_front(rows: &[Row], values: &Row) -> bool
+fn is_prefix(rows: &[Row], values: &Row) -> bool
     requires { IsStrictlySortedBy row_cmp rows.now }
     ensures { result ≡ list_any (begins_with values.now) rows.now }
 {
-    !with_front(rows, values).is_empty()
+    !with_prefix(rows, values).is_empty()
 }
 
 /// Whether each of the lists of values is the first values of some row. The rows are in order.
-pub(crate) fn are_fronts(rows: &[Row], list: &[Row]) -> bool
+pub(crate) fn are_prefixes(rows: &[Row], list: &[Row]) -> bool
     requires { IsStrictlySortedBy row_cmp rows.now }
     ensures { result ≡ list_all (λ values. list_any (begins_with values) rows.now) list.now }
 {
     for values in list {
-        if !is_front(rows, values) {
+        if !is_prefix(rows, values) {
             return false;
         }
     }
@@ -51,14 +50,14 @@ fn add_copies(alloc: Global, rows: &mut Vec<Row>, more: &[Row]) -> Result<(), Me
 }
 
 /// The rows with the first values of one of the lists, list by list.
-fn rows_with_fronts(alloc: Global, r: &Relation, list: &[Row]) -> Result<Vec<Row>, Memory>
+fn rows_with_prefixes(alloc: Global, r: &Relation, list: &[Row]) -> Result<Vec<Row>, Memory>
     ensures rows { IfOk result (λ rows. rows.items ≡ flat_map (λ values. filter (begins_with values) r.now.rows) list.now) }
     ensures relation { IsRelation r.now }
 {
     let given = r.rows();
     let mut rows = Vec::new(alloc);
     for values in list {
-        add_copies(alloc, &mut rows, with_front(given, values))?;
+        add_copies(alloc, &mut rows, with_prefix(given, values))?;
     }
     Ok(rows)
 }
@@ -78,7 +77,7 @@ fn relation_of(heading: Heading, rows: Vec<Row>) -> Result<Relation, Memory>
 
 /// The rows of many whose values at the positions are those of some row of few. The positions are the first ones, in order, so that these
 /// rows are found by search.
-fn touched_in_front(
+fn touched_in_prefix(
     alloc: Global,
     many: &Relation,
     few: &Relation,
@@ -89,8 +88,8 @@ fn touched_in_front(
     requires first { counts_from 0 positions.now ≡ true }
     ensures { IfOk result (λ r. (r.heading ≡ many.now.heading) × (r.rows ≡ touched positions.now few.now.rows many.now.rows)) }
 {
-    let fronts = sorted_parts(alloc, few, positions)?;
-    let rows = rows_with_fronts(alloc, many, fronts.as_slice())?;
+    let prefixes = sorted_parts(alloc, few, positions)?;
+    let rows = rows_with_prefixes(alloc, many, prefixes.as_slice())?;
     let heading = many.heading().copy(alloc)?;
     let relation = relation_of(heading, rows)?;
     Ok(relation)
@@ -136,52 +135,52 @@ pub fn touched_by(
         return without_rows(alloc, many);
     }
     if are_few(few, many) && are_first(positions) {
-        return touched_in_front(alloc, many, few, positions);
+        return touched_in_prefix(alloc, many, few, positions);
     }
     touched(alloc, many, few, positions)
 }
 
-/// Whether the marks are for these positions.
-fn are_for(marks: &Marks, positions: &[usize]) -> bool
-    ensures { result ≡ true → marks.now.positions ≡ positions.now }
+/// Whether the hashes are for these positions.
+fn are_for(hashes: &Hashes, positions: &[usize]) -> bool
+    ensures { result ≡ true → hashes.now.positions ≡ positions.now }
 {
-    *marks.positions() == *positions
+    *hashes.positions() == *positions
 }
 
-/// The rows of many whose values at the positions are those of some row of few: by marks, where some are for these positions.
+/// The rows of many whose values at the positions are those of some row of few: by hashes, where some are for these positions.
 fn touched_by_some(
     alloc: Global,
     many: &Relation,
     few: &Relation,
     positions: &[usize],
-    marks: &[Marks],
+    hashes: &[Hashes],
 ) -> Result<Relation, Memory>
     requires heading { few.now.heading ≡ many.now.heading }
     requires within { All (λ (i : ℕ). i < length many.now.heading) positions.now }
-    requires marks { All (AreMarksOf many.now.rows) marks.now }
+    requires hashes { All (AreHashesOf many.now.rows) hashes.now }
     ensures { IfOk result (λ r. (r.heading ≡ many.now.heading) × (r.rows ≡ touched positions.now few.now.rows many.now.rows)) }
 {
-    for own in marks {
+    for own in hashes {
         if are_for(own, positions) {
-            return touched_by_marks(alloc, many, few, own);
+            return touched_by_hashes(alloc, many, few, own);
         }
     }
     touched_by(alloc, many, few, positions)
 }
 
 /// The rows of many whose values at the positions are those of some row of few, as `touched_by` gives them. Where the rows of few are
-/// few, the positions are not the first ones, and some of the marks, which are those of the rows of many, are for these positions, the
+/// few, the positions are not the first ones, and some of the hashes, which are those of the rows of many, are for these positions, the
 /// rows are found by them.
 pub fn touched_with(
     alloc: Global,
     many: &Relation,
     few: &Relation,
     positions: &[usize],
-    marks: &[Marks],
+    hashes: &[Hashes],
 ) -> Result<Relation, Memory>
     requires heading { few.now.heading ≡ many.now.heading }
     requires within { All (λ (i : ℕ). i < length many.now.heading) positions.now }
-    requires marks { All (AreMarksOf many.now.rows) marks.now }
+    requires hashes { All (AreHashesOf many.now.rows) hashes.now }
     ensures rows { IfOk result (λ r. (r.heading ≡ many.now.heading) × (r.rows ≡ touched positions.now few.now.rows many.now.rows)) }
     ensures relations { IsRelation few.now × IsRelation many.now }
 {
@@ -191,5 +190,5 @@ pub fn touched_with(
     if !are_few(few, many) || are_first(positions) {
         return touched_by(alloc, many, few, positions);
     }
-    touched_by_some(alloc, many, few, positions, marks)
+    touched_by_some(alloc, many, few, positions, hashes)
 }

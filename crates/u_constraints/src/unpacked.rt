@@ -25,20 +25,20 @@ use value_core::Relation;
 fn is_key_by_boxes<L: Ledger>(
     alloc: Global,
     r: &Relation,
-    acl: &[usize],
+    commalist: &[usize],
     key: &[usize],
     steps: &mut Steps<L>,
 ) -> Result<bool, Memory>
-    requires some { 0 < length acl.now }
-    requires list { IsList r.now.heading acl.now }
+    requires some { 0 < length commalist.now }
+    requires list { IsList r.now.heading commalist.now }
     requires key { AreDifferent r.now.heading key.now }
-    requires lies { AreAmong key.now acl.now }
-    ensures answer { IfOk result (λ kept. kept ≡ is_key key.now (unpacked acl.now r.now.rows)) }
-    ensures cost { steps.new ≤ steps.old + bound (length r.now.rows) (length acl.now) }
+    requires lies { AreAmong key.now commalist.now }
+    ensures answer { IfOk result (λ kept. kept ≡ is_key key.now (unpacked commalist.now r.now.rows)) }
+    ensures cost { steps.new ≤ steps.old + bound (length r.now.rows) (length commalist.now) }
 {
-    let types = types_at(alloc, r.heading().attributes(), acl)?;
-    let boxes = to_boxes(alloc, r, acl)?;
-    let places = inner(alloc, acl, key)?;
+    let types = types_at(alloc, r.heading().attributes(), commalist)?;
+    let boxes = to_boxes(alloc, r, commalist)?;
+    let places = inner(alloc, commalist, key)?;
     is_key_at(
         alloc,
         types.as_slice(),
@@ -50,16 +50,21 @@ fn is_key_by_boxes<L: Ledger>(
 
 /// Whether one attribute alone is listed, and the rows are seen to have no point of it in common where they have the same values at the
 /// rest of the key.
-fn are_parted(alloc: Global, r: &Relation, acl: &[usize], key: &[usize]) -> Result<bool, Memory>
-    requires list { IsList r.now.heading acl.now }
-    requires lies { AreAmong key.now acl.now }
-    ensures { IfOk result (λ b. b ≡ true → is_key key.now (unpacked acl.now r.now.rows) ≡ true) }
+fn are_parted(
+    alloc: Global,
+    r: &Relation,
+    commalist: &[usize],
+    key: &[usize],
+) -> Result<bool, Memory>
+    requires list { IsList r.now.heading commalist.now }
+    requires lies { AreAmong key.now commalist.now }
+    ensures { IfOk result (λ b. b ≡ true → is_key key.now (unpacked commalist.now r.now.rows) ≡ true) }
 {
-    if acl.len() != 1 {
+    if commalist.len() != 1 {
         return Ok(false);
     }
-    let label = unlisted(alloc, acl, key)?;
-    let apart = are_apart(alloc, r, label.as_slice(), acl[0], Gap::Zero)?;
+    let label = unlisted(alloc, commalist, key)?;
+    let apart = are_apart(alloc, r, label.as_slice(), commalist[0], Gap::Zero)?;
     Ok(apart)
 }
 
@@ -68,26 +73,26 @@ fn are_parted(alloc: Global, r: &Relation, acl: &[usize], key: &[usize]) -> Resu
 pub(crate) fn is_unpacked_key<L: Ledger>(
     alloc: Global,
     r: &Relation,
-    acl: &[usize],
+    commalist: &[usize],
     key: &[usize],
     steps: &mut Steps<L>,
 ) -> Result<bool, Memory>
-    requires list { IsList r.now.heading acl.now }
+    requires list { IsList r.now.heading commalist.now }
     requires key { AreDifferent r.now.heading key.now }
-    requires lies { AreAmong key.now acl.now }
-    ensures answer { IfOk result (λ kept. kept ≡ is_key key.now (unpacked acl.now r.now.rows)) }
-    ensures cost { steps.new ≤ steps.old + bound (length r.now.rows) (length acl.now) }
+    requires lies { AreAmong key.now commalist.now }
+    ensures answer { IfOk result (λ kept. kept ≡ is_key key.now (unpacked commalist.now r.now.rows)) }
+    ensures cost { steps.new ≤ steps.old + bound (length r.now.rows) (length commalist.now) }
 {
-    if acl.is_empty() {
+    if commalist.is_empty() {
         return is_key(alloc, r, key);
     }
     if are_all(key, r.heading().attributes().len()) {
         return Ok(true);
     }
-    if are_parted(alloc, r, acl, key)? {
+    if are_parted(alloc, r, commalist, key)? {
         return Ok(true);
     }
-    is_key_by_boxes(alloc, r, acl, key, steps)
+    is_key_by_boxes(alloc, r, commalist, key, steps)
 }
 
 /// The code of the first line that is broken of a key under USING: the rows are packed, then the unpacked rows have the key, and then the
@@ -95,21 +100,21 @@ pub(crate) fn is_unpacked_key<L: Ledger>(
 pub(crate) fn used_key<L: Ledger>(
     alloc: Global,
     r: &Relation,
-    acl: &[usize],
+    commalist: &[usize],
     key: &[usize],
     steps: &mut Steps<L>,
 ) -> Result<Result<(), Code>, Memory>
-    requires list { IsList r.now.heading acl.now }
+    requires list { IsList r.now.heading commalist.now }
     requires key { AreDifferent r.now.heading key.now }
-    requires lies { AreAmong key.now acl.now }
-    ensures answer { IfOk result (λ answer. result_err answer ≡ first_failed ((is_packed acl.now r.now.rows, codes.E41)
-        ∷ (is_key key.now (unpacked acl.now r.now.rows), codes.E42) ∷ (is_key key.now r.now.rows, codes.E40) ∷ [])) }
-    ensures cost { steps.new ≤ steps.old + 2 * bound (length r.now.rows) (length acl.now) }
+    requires lies { AreAmong key.now commalist.now }
+    ensures answer { IfOk result (λ answer. result_err answer ≡ first_failed ((is_packed commalist.now r.now.rows, codes.E41)
+        ∷ (is_key key.now (unpacked commalist.now r.now.rows), codes.E42) ∷ (is_key key.now r.now.rows, codes.E40) ∷ [])) }
+    ensures cost { steps.new ≤ steps.old + 2 * bound (length r.now.rows) (length commalist.now) }
 {
-    if !is_packed(alloc, r, acl, steps)? {
+    if !is_packed(alloc, r, commalist, steps)? {
         return Ok(Err(Code::E41));
     }
-    if !is_unpacked_key(alloc, r, acl, key, steps)? {
+    if !is_unpacked_key(alloc, r, commalist, key, steps)? {
         return Ok(Err(Code::E42));
     }
     let kept = is_key(alloc, r, key)?;

@@ -4,21 +4,21 @@ use Rattle.std.specs.List.Sorted.{IsStrictlySortedBy}
 use Rattle.value_core.specs.Order.{row_total, row_separates}
 use Rattle.value_core.specs.Values.{Row, row_cmp}
 use Rattle.relation_core.specs.Agreement.{part_of}
-use Rattle.packing_core.specs.Boxed.{Boxed, packed_boxes, unpacked_boxes, InBoxes}
-use Rattle.packing_core.specs.Covering.{Among}
-use Rattle.packing_core.specs.Packed.{no_cells}
-use Rattle.packing_core.proofs.AmongLemmas.{among_map}
-use Rattle.slice_core.specs.Rows.{key_cmp}
-use Rattle.slice_core.specs.PackedRows.{HasRow}
-use Rattle.box_core.specs.Answers.{IsPackedCover, IsBoxOf, IsBoxOfKeyed, KeyedBox, HasKeyed, IsMatched, IsUnmatched, IsJoined}
+use Rattle.cell_packing.specs.Boxed.{Boxed, packed_boxes, unpacked_boxes, InBoxes}
+use Rattle.cell_packing.specs.Covering.{Among}
+use Rattle.cell_packing.specs.Packed.{no_cells}
+use Rattle.cell_packing.proofs.AmongLemmas.{among_map}
+use Rattle.cell_sweep.specs.Rows.{key_cmp}
+use Rattle.cell_sweep.specs.PackedRows.{HasRow}
+use Rattle.cell_boxes.specs.Answers.{IsPackedCover, IsBoxOf, IsBoxOfKeyed, PlainKeyedCellBox, HasKeyed, IsMatched, IsUnmatched, IsJoined}
 use Rattle.cell_core.specs.CellRows.{AreOverCells}
 use Rattle.cell_core.specs.Cells.{grids_of, grid_row, row_numbers}
-use Rattle.cell_core.proofs.PackedPlaces.{AllHave}
-use Rattle.cell_kernels.proofs.KernelLemmas.{AreOn, left_on, right_on, mapped_on, left_places, right_places, relabelled_places, fewer_on, fewer_places, within, form}
-use Rattle.cell_kernels.specs.Fewer.{IsSameOrPacked}
+use Rattle.cell_core.proofs.PackedGridPoints.{AllHave}
+use Rattle.u_set.proofs.KernelLemmas.{AreOn, left_on, right_on, mapped_on, left_grid_points, right_grid_points, relabelled_grid_points, fewer_on, fewer_grid_points, within, form}
+use Rattle.u_set.specs.Fewer.{IsSameOrPacked}
 use Rattle.u_set.proofs.CellLemmas.{numbers_have}
 use Rattle.u_row.specs.Labels.{relabelled}
-use Rattle.u_join.specs.Keyed.{keyed}
+use Rattle.u_join.specs.KeyedCellBox.{keyed}
 use Rattle.u_join.specs.Pairs.{matched_boxes, unmatched_boxes, joined_boxes, IsJoinedAt}
 use Rattle.u_join.proofs.PairPlaces.{places_matched, places_unmatched, places_joined, matched_have, unmatched_have, joined_have}
 
@@ -33,9 +33,9 @@ module _ (at : List ℕ) (rows : List Cells) where
   keyed_has k l place = (
     λ h.
         let w = (among_map (keyed (part_of at)) (k, l, h.0) rows).0 h.1 in
-        let label : (w.0).0 ≡ l = ap (λ (x : KeyedBox Row Row). x.1) w.2 in
-        let sides : (w.0).1 ≡ h.0 = ap (λ (x : KeyedBox Row Row). x.2) w.2 in
-        let key : part_of at (w.0).0 ≡ k = ap (λ (x : KeyedBox Row Row). x.0) w.2 in
+        let label : (w.0).0 ≡ l = ap (λ (x : PlainKeyedCellBox Row Row). x.1) w.2 in
+        let sides : (w.0).1 ≡ h.0 = ap (λ (x : PlainKeyedCellBox Row Row). x.2) w.2 in
+        let key : part_of at (w.0).0 ≡ k = ap (λ (x : PlainKeyedCellBox Row Row). x.0) w.2 in
         let same : w.0 ≡ (l, h.0) = λ t. (label t, sides t) in
         ((h.0, subst (λ x. Among x rows) same w.1, h.2), ap (part_of at) (sym label) ∙ key),
     λ h.
@@ -46,8 +46,8 @@ module _ (at : List ℕ) (rows : List Cells) where
   pub boxes_keyed : (y : List (ℕ × ℕ)) → IsBoxOfKeyed (map (keyed (part_of at)) rows) y → IsBoxOf rows y
   boxes_keyed y h =
       let w = (among_map (keyed (part_of at)) (h.0, h.1, y) rows).0 h.2 in
-      let label : (w.0).0 ≡ h.1 = ap (λ (x : KeyedBox Row Row). x.1) w.2 in
-      let sides : (w.0).1 ≡ y = ap (λ (x : KeyedBox Row Row). x.2) w.2 in
+      let label : (w.0).0 ≡ h.1 = ap (λ (x : PlainKeyedCellBox Row Row). x.1) w.2 in
+      let sides : (w.0).1 ≡ y = ap (λ (x : PlainKeyedCellBox Row Row). x.2) w.2 in
       let same : w.0 ≡ (h.1, y) = λ t. (label t, sides t) in
       (h.1, subst (λ x. Among x rows) same w.1)
 
@@ -61,7 +61,7 @@ abbrev pub HasNoKey : List ℕ → (Row → Type 0) → (Row → Type 0) → Row
 HasNoKey here A B l = A l × (B (part_of here l) → ⊥)
 
 module _ (here : List ℕ) (ls rs : List Cells) where
-  abbrev lefts : List (KeyedBox Row Row)
+  abbrev lefts : List (PlainKeyedCellBox Row Row)
   lefts = map (keyed (part_of here)) ls
 
   pub matched_cells : (l : Row) (place : List ℕ) → IsMatched lefts rs l place ↔ HasKey here (λ a. HasRow ls a place) (λ b. HasRow rs b place) l
@@ -145,8 +145,8 @@ module _ {T P : Type 0} (n : P → ℤ) (has : T → P → Type 0) (high : T →
   -- the left rows have at points what the left boxes have
   left_at : (p : List ℤ) (l : Row) → InBoxes (map (grid_row ns) fewer_left) l p ↔ InBoxes (map (row_numbers n) left) l p
   left_at p l =
-      let a = fewer_places n has high point ts left right ss ls rs over row_cmp ls fewer_left (left_on n has high point ts left right ss ls rs over) left_fewer row_total row_separates l p in
-      let b = left_places n has high point ts left right ss ls rs over l p in
+      let a = fewer_grid_points n has high point ts left right ss ls rs over row_cmp ls fewer_left (left_on n has high point ts left right ss ls rs over) left_fewer row_total row_separates l p in
+      let b = left_grid_points n has high point ts left right ss ls rs over l p in
       (λ h. b.0 (a.0 h), λ h. a.1 (b.1 h))
 
   -- ---- the right rows under their keys
@@ -162,18 +162,18 @@ module _ {T P : Type 0} (n : P → ℤ) (has : T → P → Type 0) (high : T →
     -- they have a key at a point where a right box has a label with it
     keys_at : (p : List ℤ) (key : Row) → InBoxes (map (grid_row ns) rights) key p ↔ ((m : Row) × InBoxes (map (row_numbers n) right) m p × (key ≡ part_of there m))
     keys_at p key =
-        let a = fewer_places n has high point ts left right ss ls rs over row_cmp keys rights keys_on right_fewer row_total row_separates key p in
-        let b = relabelled_places ns (part_of there) rs key p in
+        let a = fewer_grid_points n has high point ts left right ss ls rs over row_cmp keys rights keys_on right_fewer row_total row_separates key p in
+        let b = relabelled_grid_points ns (part_of there) rs key p in
         let under : InBoxes (map (grid_row ns) keys) key p ≡ InBoxes (map (grid_row ns) (map (relabelled (part_of there)) rs)) key p = λ t. InBoxes (map (grid_row ns) (right_keys t)) key p in (
           λ h.
               let w = b.0 (subst (λ X. X) under (a.0 h)) in
-              (w.0, (right_places n has high point ts left right ss ls rs over w.0 p).0 w.1, sym w.2),
-          λ h. a.1 (subst (λ X. X) (sym under) (b.1 (h.0, (right_places n has high point ts left right ss ls rs over h.0 p).1 h.1, sym h.2))),
+              (w.0, (right_grid_points n has high point ts left right ss ls rs over w.0 p).0 w.1, sym w.2),
+          λ h. a.1 (subst (λ X. X) (sym under) (b.1 (h.0, (right_grid_points n has high point ts left right ss ls rs over h.0 p).1 h.1, sym h.2))),
         )
 
     module _ (cover : IsPackedCover k (IsMatched lefts rights) (IsBoxOfKeyed lefts) out) where
       matched_cover : IsPackedCover k (IsMatched (map (keyed (part_of here)) fewer_left) rights) (IsBoxOfKeyed (map (keyed (part_of here)) fewer_left)) out
-      matched_cover = subst (λ (v : List (KeyedBox Row Row)). IsPackedCover k (IsMatched v rights) (IsBoxOfKeyed v) out) left_keys cover
+      matched_cover = subst (λ (v : List (PlainKeyedCellBox Row Row)). IsPackedCover k (IsMatched v rights) (IsBoxOfKeyed v) out) left_keys cover
 
       pub matched_within : WithinCells
       matched_within = within n has high point ts left right ss ls rs over fewer_left rights lo ro (HasKey here) (key_alike here) (key_some here) (IsMatched (map (keyed (part_of here)) fewer_left) rights) (λ l p e. matched_cells here fewer_left rights l p)
@@ -193,7 +193,7 @@ module _ {T P : Type 0} (n : P → ℤ) (has : T → P → Type 0) (high : T →
 
     module _ (cover : IsPackedCover k (IsUnmatched lefts rights) (IsBoxOfKeyed lefts) out) where
       unmatched_cover : IsPackedCover k (IsUnmatched (map (keyed (part_of here)) fewer_left) rights) (IsBoxOfKeyed (map (keyed (part_of here)) fewer_left)) out
-      unmatched_cover = subst (λ (v : List (KeyedBox Row Row)). IsPackedCover k (IsUnmatched v rights) (IsBoxOfKeyed v) out) left_keys cover
+      unmatched_cover = subst (λ (v : List (PlainKeyedCellBox Row Row)). IsPackedCover k (IsUnmatched v rights) (IsBoxOfKeyed v) out) left_keys cover
 
       pub unmatched_within : WithinCells
       unmatched_within = within n has high point ts left right ss ls rs over fewer_left rights lo ro (HasNoKey here) (no_key_alike here) (no_key_some here) (IsUnmatched (map (keyed (part_of here)) fewer_left) rights) (λ l p e. unmatched_cells here fewer_left rights l p)
@@ -221,8 +221,8 @@ module _ {T P : Type 0} (n : P → ℤ) (has : T → P → Type 0) (high : T →
 
     right_at : (p : List ℤ) (l : Row) → InBoxes (map (grid_row ns) fewer_right) l p ↔ InBoxes (map (row_numbers n) right) l p
     right_at p l =
-        let a = fewer_places n has high point ts left right ss ls rs over row_cmp rs fewer_right (right_on n has high point ts left right ss ls rs over) right_fewer row_total row_separates l p in
-        let b = right_places n has high point ts left right ss ls rs over l p in
+        let a = fewer_grid_points n has high point ts left right ss ls rs over row_cmp rs fewer_right (right_on n has high point ts left right ss ls rs over) right_fewer row_total row_separates l p in
+        let b = right_grid_points n has high point ts left right ss ls rs over l p in
         (λ h. b.0 (a.0 h), λ h. a.1 (b.1 h))
 
     joined_cover : IsPackedCover k (IsJoined f (map (keyed (part_of here)) fewer_left) (map (keyed (part_of there)) fewer_right)) (IsBoxOfKeyed (map (keyed (part_of here)) fewer_left)) out

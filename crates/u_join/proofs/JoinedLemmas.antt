@@ -23,9 +23,9 @@ use Rattle.relation_core.proofs.AttributeLemmas.{ties_by_name, both_tell, In-joi
 use Rattle.relation_core.proofs.HeadingLemmas.{part_fits}
 use Rattle.relation_core.proofs.JoinLemmas.{value_of, value_of_part, fits_both}
 use Rattle.relation_core.proofs.AgreementLemmas.{position_within}
-use Rattle.packing_core.specs.Boxed.{Boxed, packed_boxes, unpacked_boxes}
-use Rattle.packing_core.specs.Covering.{Among}
-use Rattle.cell_core.proofs.PackedPlaces.{AllHave}
+use Rattle.cell_packing.specs.Boxed.{Boxed, packed_boxes, unpacked_boxes}
+use Rattle.cell_packing.specs.Covering.{Among}
+use Rattle.cell_core.proofs.PackedGridPoints.{AllHave}
 use Rattle.u_set.specs.Boxes.{AreIntervals, IsShaped, type_of, unless, others_from, others, spans_at, boxed}
 use Rattle.u_set.proofs.BoxLemmas.{value_at-get}
 use Rattle.u_set.proofs.BridgeLemmas.{AreRowsOf, boxes_have, unpacked_image, same_places, closed_by_boxes}
@@ -35,7 +35,7 @@ use Rattle.u_row.proofs.LabelLemmas.{label_of_kept, inner_within}
 use Rattle.u_join.specs.Places.{positions_of_both}
 use Rattle.u_join.specs.Pairs.{meet, joined_label, joined_box, joined_boxes}
 use Rattle.u_join.proofs.AgreeingLemmas.{sides_by_names, agree_meet}
-use Rattle.u_join.proofs.NameLemmas.{name_back, position_at, position_front, position_behind, listed_name}
+use Rattle.u_join.proofs.NameLemmas.{name_back, position_at, position_prefix, position_behind, listed_name}
 use Rattle.u_join.proofs.PairPlaces.{joined_have}
 
 -- ---- positions of two lists, one behind the other
@@ -53,15 +53,15 @@ others_same n k a b (x ∷ xs) h =
     ap (among a) s ∙ h (suc m) (omega arith) ∙ ap (among b) t) in
     λ t. unless (here t) x (more t)
 
-others_append : {X : Type 0} (n : ℕ) (acl : List ℕ) (xs ys : List X) → others_from n acl (xs ++ ys) ≡ others_from n acl xs ++ others_from (n + length xs) acl ys
-others_append n acl [] ys =
+others_append : {X : Type 0} (n : ℕ) (commalist : List ℕ) (xs ys : List X) → others_from n commalist (xs ++ ys) ≡ others_from n commalist xs ++ others_from (n + length xs) commalist ys
+others_append n commalist [] ys =
     let z : n ≡ n + 0 = omega arith in
-    ap (λ k. others_from k acl ys) z
-others_append n acl (x ∷ xs) ys =
+    ap (λ k. others_from k commalist ys) z
+others_append n commalist (x ∷ xs) ys =
     let s : suc n + length xs ≡ n + suc (length xs) = omega arith in
-    let more : others_from (suc n) acl (xs ++ ys) ≡ others_from (suc n) acl xs ++ others_from (n + suc (length xs)) acl ys =
-    others_append (suc n) acl xs ys ∙ ap (λ k. others_from (suc n) acl xs ++ others_from k acl ys) s in
-    elim (among acl n) as (λ b. unless b x (others_from (suc n) acl (xs ++ ys)) ≡ unless b x (others_from (suc n) acl xs) ++ others_from (n + suc (length xs)) acl ys) [
+    let more : others_from (suc n) commalist (xs ++ ys) ≡ others_from (suc n) commalist xs ++ others_from (n + suc (length xs)) commalist ys =
+    others_append (suc n) commalist xs ys ∙ ap (λ k. others_from (suc n) commalist xs ++ others_from k commalist ys) s in
+    elim (among commalist n) as (λ b. unless b x (others_from (suc n) commalist (xs ++ ys)) ≡ unless b x (others_from (suc n) commalist xs) ++ others_from (n + suc (length xs)) commalist ys) [
       | true ↦ more
       | false ↦ ap (λ zs. x ∷ zs) more
     ]
@@ -100,7 +100,7 @@ module _ (n : ℕ) (here there : List ℕ) (below : (i : ℕ) → In i here → 
   -- what is not listed of two lists is that of the one, followed by that of the other
   pub others_both : {X : Type 0} (xs ys : List X) → length xs ≡ n → others (positions_of_both n here there) (xs ++ ys) ≡ others here xs ++ others there ys
   others_both xs ys e =
-      let front : others_from 0 (positions_of_both n here there) xs ≡ others_from 0 here xs =
+      let prefix : others_from 0 (positions_of_both n here there) xs ≡ others_from 0 here xs =
       others_same 0 0 (positions_of_both n here there) here xs (λ m l.
       let z : 0 + m ≡ m = omega arith in
       ap (among (positions_of_both n here there)) z ∙ listed_first m (omega (arith, l, e)) ∙ ap (among here) (sym z)) in
@@ -109,7 +109,7 @@ module _ (n : ℕ) (here there : List ℕ) (below : (i : ℕ) → In i here → 
       let z : 0 + length xs + m ≡ n + m = omega (arith, e) in
       let y : m ≡ 0 + m = omega arith in
       ap (among (positions_of_both n here there)) z ∙ listed_second m ∙ ap (among there) y) in
-      others_append 0 (positions_of_both n here there) xs ys ∙ ap₂ (λ us vs. us ++ vs) front back
+      others_append 0 (positions_of_both n here there) xs ys ∙ ap₂ (λ us vs. us ++ vs) prefix back
 
 -- ---- headings
 
@@ -130,8 +130,8 @@ module _ (left right : Heading) (first : Ascends attribute_cmp left) (second : A
   abbrev there : List ℕ
   there = map (position_of right) names
 
-  abbrev acl : List ℕ
-  acl = map (position_of whole) names
+  abbrev commalist : List ℕ
+  commalist = map (position_of whole) names
 
   abbrev both : List ℕ
   both = positions_of_both (length left) here there
@@ -169,7 +169,7 @@ module _ (left right : Heading) (first : Ascends attribute_cmp left) (second : A
   listed_of_list n e =
       elim (has_name left n) as (λ b. has_name left n ≡ b → IsTrue (among both (position_of list n)) ↔ In n names) [
         | true ↦ λ f.
-            let at : position_of list n ≡ position_of left n = position_front left right n f in
+            let at : position_of list n ≡ position_of left n = position_prefix left right n f in
             let same : among both (position_of list n) ≡ among here (position_of left n) = ap (among both) at ∙ listed_first (length left) here there below (position_of left n) (position_within left n f) in
             let w = listed_name left names in_left n f in
             (λ t. w.0 (sym same ∙ t), λ i. same ∙ w.1 i)
@@ -183,7 +183,7 @@ module _ (left right : Heading) (first : Ascends attribute_cmp left) (second : A
   count_names : (h : Heading) → length (names_of h) ≡ length h
   count_names h = length-map h (λ a. a.0)
 
-  listed_places : (m : ℕ) → m < length places → among acl m ≡ among both (get_or places m 0)
+  listed_places : (m : ℕ) → m < length places → among commalist m ≡ among both (get_or places m 0)
   listed_places m l =
       let few : m < length (names_of whole) = subst (λ k. m < k) (length-map (names_of whole) (position_of list)) l in
       let fewer : m < length whole = subst (λ k. m < k) (count_names whole) few in
@@ -194,7 +194,7 @@ module _ (left right : Heading) (first : Ascends attribute_cmp left) (second : A
       let there_is : IsTrue (has_name whole n) = of_name whole n ((In-map (λ a. a.0) n whole).1 (get_or whole m no_attribute, In-get_or whole m no_attribute fewer, refl)) in
       let a = listed_name whole names named n there_is in
       let b = listed_of_list n ((in_whole n).0 there_is) in
-      ap (among acl) (sym own) ∙ same_tests (among acl (position_of whole n)) (among both (position_of list n)) (λ t. b.1 (a.0 t), λ t. a.1 (b.0 t)) ∙ ap (among both) (sym place)
+      ap (among commalist) (sym own) ∙ same_tests (among commalist (position_of whole n)) (among both (position_of list n)) (λ t. b.1 (a.0 t), λ t. a.1 (b.0 t)) ∙ ap (among both) (sym place)
 
   -- ---- the attributes and the labels of joined rows
 
@@ -224,13 +224,13 @@ module _ (left right : Heading) (first : Ascends attribute_cmp left) (second : A
       ap (λ (c : Name × Kind). c.1) (one_attribute a b p q (name_back whole n (named n i) ∙ sym (name_back left n (in_left n i))))
 
   label_of_both : {X : Type 0} (x y : List X) (d : X) → length x ≡ length left
-      → others acl (map (λ k. get_or (x ++ y) k d) places) ≡ map (λ k. get_or (others here x ++ others there y) k d) (inner both places)
+      → others commalist (map (λ k. get_or (x ++ y) k d) places) ≡ map (λ k. get_or (others here x ++ others there y) k d) (inner both places)
   label_of_both x y d long =
-      label_of_kept acl both places (x ++ y) d listed_places
+      label_of_kept commalist both places (x ++ y) d listed_places
       ∙ ap (λ zs. map (λ k. get_or zs k d) (inner both places)) (others_both (length left) here there below x y long)
 
-  heading_joined : others acl whole ≡ attributes_at (inner both places) (others here left ++ others there right)
-  heading_joined = ap (others acl) (sym whole_is) ∙ label_of_both left right no_attribute refl
+  heading_joined : others commalist whole ≡ attributes_at (inner both places) (others here left ++ others there right)
+  heading_joined = ap (others commalist) (sym whole_is) ∙ label_of_both left right no_attribute refl
 
   -- ---- one joined row
 
@@ -238,23 +238,23 @@ module _ (left right : Heading) (first : Ascends attribute_cmp left) (second : A
     abbrev row : Row
     row = joined_row left right x y
 
-    label_joined : others acl row ≡ joined_label (inner both places) (others here x) (others there y)
+    label_joined : others commalist row ≡ joined_label (inner both places) (others here x) (others there y)
     label_joined = label_of_both x y (truth false) shaped.long
 
     value_joined : (n : Name) → In n names → value_of whole row n ≡ value_of left x n
     value_joined n i =
         let l : position_of left n < length x = subst (λ k. position_of left n < k) (sym shaped.long) (position_within left n (in_left n i)) in
         value_of_part list whole (x ++ y) n (named n i)
-        ∙ ap (λ k. get_or (x ++ y) k (truth false)) (position_front left right n (in_left n i))
+        ∙ ap (λ k. get_or (x ++ y) k (truth false)) (position_prefix left right n (in_left n i))
         ∙ get_or_append_left x y (truth false) (position_of left n) l
 
-    sides_joined : spans_at acl row ≡ spans_at here x
+    sides_joined : spans_at commalist row ≡ spans_at here x
     sides_joined =
         sides_by_names whole row names
         ∙ map-In (λ n. span_of (value_of whole row n)) (λ n. span_of (value_of left x n)) names (λ n i. ap span_of (value_joined n i))
         ∙ sym (sides_by_names left x names)
 
-    pub boxed_joined : boxed acl row ≡ joined_box (joined_label (inner both places)) (boxed here x) (boxed there y)
+    pub boxed_joined : boxed commalist row ≡ joined_box (joined_label (inner both places)) (boxed here x) (boxed there y)
     boxed_joined =
         let a = label_joined in
         let b = sides_joined in
@@ -272,11 +272,11 @@ module _ (left right : Heading) (first : Ascends attribute_cmp left) (second : A
     inner_in_label i m =
         subst (λ (h : Heading). i < length h) (others_both (length left) here there below left right refl) (inner_within both places list places_in_list i m)
 
-    pub shaped_joined : IsShaped whole acl row
+    pub shaped_joined : IsShaped whole commalist row
     shaped_joined = record {
       long = count_places;
       spans = λ i l.
-          let w = (In-map (position_of whole) i names).0 (among_in acl i l) in
+          let w = (In-map (position_of whole) i names).0 (among_in commalist i l) in
           let n : Name = w.0 in
           let inside : IsTrue (among here (position_of left n)) = (listed_name left names in_left n (in_left n w.1)).1 w.1 in
           let value : value_at row i ≡ value_at x (position_of left n) =
@@ -295,7 +295,7 @@ module _ (left right : Heading) (first : Ascends attribute_cmp left) (second : A
 
   -- ---- all joined rows
 
-  module _ (intervals : AreIntervals left here) (intervals' : AreIntervals right there) (whole_intervals : AreIntervals whole acl)
+  module _ (intervals : AreIntervals left here) (intervals' : AreIntervals right there) (whole_intervals : AreIntervals whole commalist)
       (same_kinds : (n : Name) → In n names → kind_at left (position_of left n) ≡ kind_at right (position_of right n))
       (r s : List Row) (up : Ascends row_cmp r) (up' : Ascends row_cmp s)
       (shaped : (x : Row) → In x r → IsShaped left here x) (shaped' : (x : Row) → In x s → IsShaped right there x) where
@@ -342,11 +342,11 @@ module _ (left right : Heading) (first : Ascends attribute_cmp left) (second : A
           λ h. all.1 (h.0, h.2, (In-map (joined_box (joined_label (inner both places)) h.0) b (filter (meet here_key there_key h.0) rights)).1 (h.1, (In-filter (meet here_key there_key h.0) h.1 rights).1 (h.3, h.4), h.5)),
         )
 
-    members : (b : Boxed Row) → In b (map (boxed acl) rows) ↔ In b boxes
+    members : (b : Boxed Row) → In b (map (boxed commalist) rows) ↔ In b boxes
     members b =
         let image = unpacked_image left here intervals r up shaped in
         let image' = unpacked_image right there intervals' s up' shaped' in
-        let all = In-map (boxed acl) b rows in
+        let all = In-map (boxed commalist) b rows in
         let made = of_boxes b in (
           λ i.
               let w = all.0 i in
@@ -359,7 +359,7 @@ module _ (left right : Heading) (first : Ascends attribute_cmp left) (second : A
                 image.to h.0 h.2,
                 image'.to h.1 h.3,
                 (agree_meet left right names in_left in_right same_kinds h.0 h.1 sx sy).0 h.4,
-                w.2 ∙ ap (boxed acl) h.5 ∙ boxed_joined h.0 h.1 sx sy,
+                w.2 ∙ ap (boxed commalist) h.5 ∙ boxed_joined h.0 h.1 sx sy,
               ),
           λ i.
               let h = made.0 i in
@@ -375,25 +375,25 @@ module _ (left right : Heading) (first : Ascends attribute_cmp left) (second : A
               all.1 (joined_row left right x.0 y.0, m, h.5 ∙ (λ t. joined_box (joined_label (inner both places)) (same_left t) (same_right t)) ∙ sym (boxed_joined x.0 y.0 sx sy)),
         )
 
-    rows_shaped : (z : Row) → In z rows → IsShaped whole acl z
+    rows_shaped : (z : Row) → In z rows → IsShaped whole commalist z
     rows_shaped z i =
         let image = unpacked_image left here intervals r up shaped in
         let image' = unpacked_image right there intervals' s up' shaped' in
         let h = (of_pair z).0 i in
-        subst (IsShaped whole acl) (sym h.5) (shaped_joined h.0 h.1 (image.shaped h.0 h.2) (image'.shaped h.1 h.3))
+        subst (IsShaped whole commalist) (sym h.5) (shaped_joined h.0 h.1 (image.shaped h.0 h.2) (image'.shaped h.1 h.3))
 
-    count_here : length here ≡ length acl
+    count_here : length here ≡ length commalist
     count_here = length-map names (position_of left) ∙ sym (length-map names (position_of whole))
 
     count_there : length there ≡ length here
     count_there = length-map names (position_of right) ∙ sym (length-map names (position_of left))
 
     -- the joined rows, packed, are the joined boxes
-    pub joined_rows : AreRowsOf whole acl (packed acl (joined left right (unpacked here r) (unpacked there s)))
-        (packed_boxes row_cmp (length acl) (joined_boxes here_key there_key (joined_label (inner both places)) lefts rights))
+    pub joined_rows : AreRowsOf whole commalist (packed commalist (joined left right (unpacked here r) (unpacked there s)))
+        (packed_boxes row_cmp (length commalist) (joined_boxes here_key there_key (joined_label (inner both places)) lefts rights))
     joined_rows =
         let have = subst (λ k. (x : Boxed Row) → Among x (joined_boxes here_key there_key (joined_label (inner both places)) lefts (unpacked_boxes row_cmp k (map (boxed there) s))) → length x.1 ≡ length here) (sym count_there)
         (joined_have here_key there_key (length here) (map (boxed here) r) (map (boxed there) s) (boxes_have left here intervals r)
         (subst (λ k. AllHave k (map (boxed there) s)) count_there (boxes_have right there intervals' s)) (joined_label (inner both places))) in
-        closed_by_boxes whole acl whole_intervals rows (Ascends-in_order row_cmp row_total row_separates (joined_pairs left right (unpacked here r) (unpacked there s))) rows_shaped
-        boxes (subst (λ k. AllHave k boxes) count_here have) (same_places (map (boxed acl) rows) boxes members)
+        closed_by_boxes whole commalist whole_intervals rows (Ascends-in_order row_cmp row_total row_separates (joined_pairs left right (unpacked here r) (unpacked there s))) rows_shaped
+        boxes (subst (λ k. AllHave k boxes) count_here have) (same_places (map (boxed commalist) rows) boxes members)

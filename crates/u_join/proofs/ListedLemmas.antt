@@ -17,7 +17,7 @@ use Rattle.relation_core.specs.Joins.{joined_heading, HaveEqualKinds, joined}
 use Rattle.relation_core.specs.Parts.{no_attribute, kind_at, attributes_at, positions_in}
 use Rattle.relation_core.proofs.AttributeLemmas.{one_attribute, joined_ascends, of_name}
 use Rattle.relation_core.proofs.AgreementLemmas.{position_within}
-use Rattle.packing_core.specs.Boxed.{Boxed, packed_boxes, unpacked_boxes}
+use Rattle.cell_packing.specs.Boxed.{Boxed, packed_boxes, unpacked_boxes}
 use Rattle.u_set.specs.Boxes.{AreIntervals, IsShaped, type_of, types_at, boxed}
 use Rattle.u_set.proofs.BridgeLemmas.{AreRowsOf}
 use Rattle.u_row.specs.Kept.{inner}
@@ -31,22 +31,22 @@ use Rattle.u_join.proofs.MatchedLemmas.{matched_rows, unmatched_rows}
 use Rattle.u_join.proofs.NameLemmas.{name_back, position_at}
 
 -- positions come back from the names at them
-pub positions_back : (heading : Heading) (acl : List ℕ) → Ascends attribute_cmp heading → All (λ (i : ℕ). i < length heading) acl → acl ≡ map (position_of heading) (names_of (attributes_at acl heading))
-positions_back heading acl up within =
-    sym (ap (map (position_of heading)) (map_twice (λ (a : Name × Kind). a.0) (λ i. get_or heading i no_attribute) acl)
-    ∙ map_twice (position_of heading) (λ i. (get_or heading i no_attribute).0) acl
-    ∙ map-In (λ i. position_of heading (get_or heading i no_attribute).0) (λ i. i) acl (λ i m. position_at heading i up (in_all (λ (j : ℕ). j < length heading) acl within i m))
-    ∙ map_own acl)
+pub positions_back : (heading : Heading) (commalist : List ℕ) → Ascends attribute_cmp heading → All (λ (i : ℕ). i < length heading) commalist → commalist ≡ map (position_of heading) (names_of (attributes_at commalist heading))
+positions_back heading commalist up within =
+    sym (ap (map (position_of heading)) (map_twice (λ (a : Name × Kind). a.0) (λ i. get_or heading i no_attribute) commalist)
+    ∙ map_twice (position_of heading) (λ i. (get_or heading i no_attribute).0) commalist
+    ∙ map-In (λ i. position_of heading (get_or heading i no_attribute).0) (λ i. i) commalist (λ i m. position_at heading i up (in_all (λ (j : ℕ). j < length heading) commalist within i m))
+    ∙ map_own commalist)
   where
     map_own : (is : List ℕ) → map (λ (i : ℕ). i) is ≡ is
     map_own [] = refl
     map_own (i ∷ is) = ap (λ js. i ∷ js) (map_own is)
 
-named_at : (heading : Heading) (acl : List ℕ) → All (λ (i : ℕ). i < length heading) acl → (n : Name) → In n (names_of (attributes_at acl heading)) → IsTrue (has_name heading n)
-named_at heading acl within n m =
-    let a = (In-map (λ (b : Name × Kind). b.0) n (attributes_at acl heading)).0 m in
-    let i = (In-map (λ j. get_or heading j no_attribute) a.0 acl).0 a.1 in
-    let l = in_all (λ (j : ℕ). j < length heading) acl within i.0 i.1 in
+named_at : (heading : Heading) (commalist : List ℕ) → All (λ (i : ℕ). i < length heading) commalist → (n : Name) → In n (names_of (attributes_at commalist heading)) → IsTrue (has_name heading n)
+named_at heading commalist within n m =
+    let a = (In-map (λ (b : Name × Kind). b.0) n (attributes_at commalist heading)).0 m in
+    let i = (In-map (λ j. get_or heading j no_attribute) a.0 commalist).0 a.1 in
+    let l = in_all (λ (j : ℕ). j < length heading) commalist within i.0 i.1 in
     of_name heading n ((In-map (λ (b : Name × Kind). b.0) n heading).1 (a.0, subst (λ b. In b heading) (sym i.2) (In-get_or heading i.0 no_attribute l), a.2))
 
 -- the same attributes have the same types
@@ -69,7 +69,7 @@ same_keys left right here there same first second within within' =
     let h : here ≡ map (position_of left) names = positions_back left here first within in
     let t : there ≡ map (position_of right) names = positions_back right there second within' ∙ ap (λ (h : Heading). map (position_of right) (names_of h)) (sym same) in
     let own = keys_alike left right names (λ n m. named_at left here within n m) (λ n m. named_at right there within' n (subst (λ (h : Heading). In n (names_of h)) same m)) in
-    ap (λ acl. length (inner acl (common_positions left left right))) h ∙ own ∙ sym (ap (λ acl. length (inner acl (common_positions right left right))) t)
+    ap (λ commalist. length (inner commalist (common_positions left left right))) h ∙ own ∙ sym (ap (λ commalist. length (inner commalist (common_positions right left right))) t)
 
 module _ (left right : Heading) (here there : List ℕ) (same : attributes_at here left ≡ attributes_at there right) (kinds : HaveEqualKinds left right)
     (first : Ascends attribute_cmp left) (second : Ascends attribute_cmp right) (intervals : AreIntervals left here) (intervals' : AreIntervals right there) where
@@ -107,10 +107,10 @@ module _ (left right : Heading) (here there : List ℕ) (same : attributes_at he
   module _ (r s : List Row) (up : Ascends row_cmp r) (up' : Ascends row_cmp s)
       (shaped : (x : Row) → In x r → IsShaped left here x) (shaped' : (x : Row) → In x s → IsShaped right there x) where
     own_shaped : (x : Row) → In x r → IsShaped left own_here x
-    own_shaped x i = subst (λ acl. IsShaped left acl x) here_is (shaped x i)
+    own_shaped x i = subst (λ commalist. IsShaped left commalist x) here_is (shaped x i)
 
     own_shaped' : (x : Row) → In x s → IsShaped right own_there x
-    own_shaped' x i = subst (λ acl. IsShaped right acl x) there_is (shaped' x i)
+    own_shaped' x i = subst (λ commalist. IsShaped right commalist x) there_is (shaped' x i)
 
     own_intervals : AreIntervals left own_here
     own_intervals = subst (AreIntervals left) here_is intervals
@@ -159,16 +159,16 @@ module _ (left right : Heading) (here there : List ℕ) (same : attributes_at he
 
     -- ---- joined
 
-    module _ (acl : List ℕ) (whole_intervals : AreIntervals (joined_heading left right) acl) (whole_up : Ascends attribute_cmp (joined_heading left right))
-        (whole_same : attributes_at acl (joined_heading left right) ≡ attributes_at here left) where
+    module _ (commalist : List ℕ) (whole_intervals : AreIntervals (joined_heading left right) commalist) (whole_up : Ascends attribute_cmp (joined_heading left right))
+        (whole_same : attributes_at commalist (joined_heading left right) ≡ attributes_at here left) where
       abbrev whole : Heading
       whole = joined_heading left right
 
-      abbrev own_acl : List ℕ
-      own_acl = map (position_of (joined_heading left right)) names
+      abbrev own_commalist : List ℕ
+      own_commalist = map (position_of (joined_heading left right)) names
 
-      acl_is : acl ≡ own_acl
-      acl_is = positions_back whole acl whole_up whole_intervals.within ∙ ap (λ (h : Heading). map (position_of whole) (names_of h)) whole_same
+      commalist_is : commalist ≡ own_commalist
+      commalist_is = positions_back whole commalist whole_up whole_intervals.within ∙ ap (λ (h : Heading). map (position_of whole) (names_of h)) whole_same
 
       abbrev AreJoined : List ℕ → List ℕ → List ℕ → ℕ → ℕ → Type 0
       AreJoined a h t k m = AreRowsOf whole a (packed a (joined left right (unpacked h r) (unpacked t s)))
@@ -176,36 +176,36 @@ module _ (left right : Heading) (here there : List ℕ) (same : attributes_at he
           (joined_label (inner (positions_of_both (length left) h t) (positions_in (left ++ right) whole)))
           (unpacked_boxes row_cmp k (map (boxed h) r)) (unpacked_boxes row_cmp m (map (boxed t) s))))
 
-      count_acl : length here ≡ length acl
-      count_acl = sym (length-map here (λ i. get_or left i no_attribute)) ∙ ap length (sym whole_same) ∙ length-map acl (λ i. get_or whole i no_attribute)
+      count_commalist : length here ≡ length commalist
+      count_commalist = sym (length-map here (λ i. get_or left i no_attribute)) ∙ ap length (sym whole_same) ∙ length-map commalist (λ i. get_or whole i no_attribute)
 
-      pub joined_at : AreRowsOf (joined_heading left right) acl (packed acl (joined left right (unpacked here r) (unpacked there s)))
-          (packed_boxes row_cmp (length acl) (joined_boxes (inner here (common_positions left left right)) (inner there (common_positions right left right))
+      pub joined_at : AreRowsOf (joined_heading left right) commalist (packed commalist (joined left right (unpacked here r) (unpacked there s)))
+          (packed_boxes row_cmp (length commalist) (joined_boxes (inner here (common_positions left left right)) (inner there (common_positions right left right))
           (joined_label (inner (positions_of_both (length left) here there) (positions_in (left ++ right) (joined_heading left right))))
-          (unpacked_boxes row_cmp (length acl) (map (boxed here) r)) (unpacked_boxes row_cmp (length acl) (map (boxed there) s))))
+          (unpacked_boxes row_cmp (length commalist) (map (boxed here) r)) (unpacked_boxes row_cmp (length commalist) (map (boxed there) s))))
       joined_at =
-          let own : AreJoined own_acl own_here own_there (length own_here) (length own_there) =
-          joined_rows left right first second kinds names in_left in_right own_intervals own_intervals' (subst (AreIntervals whole) acl_is whole_intervals) same_kinds r s up up' own_shaped own_shaped' in
-          let a = sym acl_is in
+          let own : AreJoined own_commalist own_here own_there (length own_here) (length own_there) =
+          joined_rows left right first second kinds names in_left in_right own_intervals own_intervals' (subst (AreIntervals whole) commalist_is whole_intervals) same_kinds r s up up' own_shaped own_shaped' in
+          let a = sym commalist_is in
           let h = sym here_is in
           let t = sym there_is in
-          let back : AreJoined own_acl own_here own_there (length own_here) (length own_there) ≡ AreJoined acl here there (length here) (length there) =
+          let back : AreJoined own_commalist own_here own_there (length own_here) (length own_there) ≡ AreJoined commalist here there (length here) (length there) =
           λ i. AreJoined (a i) (h i) (t i) (length (h i)) (length (t i)) in
-          let one = count_acl in
-          let two = count ∙ count_acl in
-          subst (λ T. T) (λ i. AreJoined acl here there (one i) (two i)) (subst (λ T. T) back own)
+          let one = count_commalist in
+          let two = count ∙ count_commalist in
+          subst (λ T. T) (λ i. AreJoined commalist here there (one i) (two i)) (subst (λ T. T) back own)
 
     -- the same under a heading that is the joined one, and for as many sides as are listed of the left heading
-    pub joined_under : (heading : Heading) (acl : List ℕ) → heading ≡ joined_heading left right → AreIntervals heading acl → attributes_at acl heading ≡ attributes_at here left
-        → AreRowsOf heading acl (packed acl (joined left right (unpacked here r) (unpacked there s)))
+    pub joined_under : (heading : Heading) (commalist : List ℕ) → heading ≡ joined_heading left right → AreIntervals heading commalist → attributes_at commalist heading ≡ attributes_at here left
+        → AreRowsOf heading commalist (packed commalist (joined left right (unpacked here r) (unpacked there s)))
         (packed_boxes row_cmp (length here) (joined_boxes (inner here (common_positions left left right)) (inner there (common_positions right left right))
         (joined_label (inner (positions_of_both (length left) here there) (positions_in (left ++ right) heading)))
         (unpacked_boxes row_cmp (length here) (map (boxed here) r)) (unpacked_boxes row_cmp (length here) (map (boxed there) s))))
-    joined_under heading acl is whole listed =
-        let own = joined_at acl (subst (λ (h : Heading). AreIntervals h acl) is whole) (joined_ascends left right first second kinds) (ap (λ (h : Heading). attributes_at acl h) (sym is) ∙ listed) in
+    joined_under heading commalist is whole listed =
+        let own = joined_at commalist (subst (λ (h : Heading). AreIntervals h commalist) is whole) (joined_ascends left right first second kinds) (ap (λ (h : Heading). attributes_at commalist h) (sym is) ∙ listed) in
         let e = sym is in
-        let n : length acl ≡ length here = sym (same_count heading left acl here listed) in
-        subst (λ T. T) (λ t. AreRowsOf (e t) acl (packed acl (joined left right (unpacked here r) (unpacked there s)))
+        let n : length commalist ≡ length here = sym (same_count heading left commalist here listed) in
+        subst (λ T. T) (λ t. AreRowsOf (e t) commalist (packed commalist (joined left right (unpacked here r) (unpacked there s)))
         (packed_boxes row_cmp (n t) (joined_boxes (inner here (common_positions left left right)) (inner there (common_positions right left right))
         (joined_label (inner (positions_of_both (length left) here there) (positions_in (left ++ right) (e t))))
         (unpacked_boxes row_cmp (n t) (map (boxed here) r)) (unpacked_boxes row_cmp (n t) (map (boxed there) s))))) own

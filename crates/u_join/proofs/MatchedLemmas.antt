@@ -11,9 +11,9 @@ use Rattle.value_core.specs.RowPacking.{packed, unpacked}
 use Rattle.value_core.specs.Values.{Name, Heading, Row, row_cmp}
 use Rattle.relation_core.specs.Agreement.{position_of, common_positions, agree, matched, unmatched}
 use Rattle.relation_core.specs.Parts.{kind_at}
-use Rattle.packing_core.specs.Boxed.{Boxed, packed_boxes, unpacked_boxes}
-use Rattle.packing_core.proofs.PackedBoxes.{among_in}
-use Rattle.cell_core.proofs.PackedPlaces.{AllHave}
+use Rattle.cell_packing.specs.Boxed.{Boxed, packed_boxes, unpacked_boxes}
+use Rattle.cell_packing.proofs.PackedBoxes.{among_in}
+use Rattle.cell_core.proofs.PackedGridPoints.{AllHave}
 use Rattle.cell_core.proofs.UnpackedLemmas.{in_unpacked_boxes}
 use Rattle.u_set.specs.Boxes.{AreIntervals, IsShaped, boxed}
 use Rattle.u_set.proofs.BridgeLemmas.{AreRowsOf, boxes_have, unpacked_image, unpacked_ascends, same_places, closed_by_boxes}
@@ -22,36 +22,36 @@ use Rattle.u_join.specs.Pairs.{meet, matched_boxes, unmatched_boxes}
 use Rattle.u_join.proofs.AgreeingLemmas.{agree_meet}
 
 -- unpacked rows that pass a test, packed, are the boxes that pass a test that goes along with it
-module _ (heading : Heading) (acl : List ℕ) (intervals : AreIntervals heading acl) (r : List Row) (up : Ascends row_cmp r) (shaped : (x : Row) → In x r → IsShaped heading acl x)
-    (p : Row → Bool) (q : Boxed Row → Bool) (same : (x : Row) → In x (unpacked acl r) → p x ≡ q (boxed acl x)) where
+module _ (heading : Heading) (commalist : List ℕ) (intervals : AreIntervals heading commalist) (r : List Row) (up : Ascends row_cmp r) (shaped : (x : Row) → In x r → IsShaped heading commalist x)
+    (p : Row → Bool) (q : Boxed Row → Bool) (same : (x : Row) → In x (unpacked commalist r) → p x ≡ q (boxed commalist x)) where
   abbrev boxes : List (Boxed Row)
-  boxes = unpacked_boxes row_cmp (length acl) (map (boxed acl) r)
+  boxes = unpacked_boxes row_cmp (length commalist) (map (boxed commalist) r)
 
-  passed : (b : Boxed Row) → In b (map (boxed acl) (filter p (unpacked acl r))) ↔ In b (filter q boxes)
+  passed : (b : Boxed Row) → In b (map (boxed commalist) (filter p (unpacked commalist r))) ↔ In b (filter q boxes)
   passed b =
-      let image = unpacked_image heading acl intervals r up shaped in
-      let all = In-map (boxed acl) b (filter p (unpacked acl r)) in
+      let image = unpacked_image heading commalist intervals r up shaped in
+      let all = In-map (boxed commalist) b (filter p (unpacked commalist r)) in
       let kept = In-filter q b boxes in (
         λ i.
             let w = all.0 i in
-            let v = (In-filter p w.0 (unpacked acl r)).0 w.1 in
+            let v = (In-filter p w.0 (unpacked commalist r)).0 w.1 in
             kept.1 (subst (λ z. In z boxes) (sym w.2) (image.to w.0 v.0), ap q w.2 ∙ sym (same w.0 v.0) ∙ v.1),
         λ i.
             let k = kept.0 i in
             let w = image.from b k.0 in
-            all.1 (w.0, (In-filter p w.0 (unpacked acl r)).1 (w.1, same w.0 w.1 ∙ ap q (sym w.2) ∙ k.1), w.2),
+            all.1 (w.0, (In-filter p w.0 (unpacked commalist r)).1 (w.1, same w.0 w.1 ∙ ap q (sym w.2) ∙ k.1), w.2),
       )
 
-  points_have : AllHave (length acl) (filter q boxes)
+  points_have : AllHave (length commalist) (filter q boxes)
   points_have x m =
       let i = ((In-filter q x boxes).0 ((among_in x (filter q boxes)).0 m)).0 in
-      ((in_unpacked_boxes row_cmp row_total row_separates (length acl) (map (boxed acl) r) (boxes_have heading acl intervals r) x).0 ((among_in x boxes).1 i)).0
+      ((in_unpacked_boxes row_cmp row_total row_separates (length commalist) (map (boxed commalist) r) (boxes_have heading commalist intervals r) x).0 ((among_in x boxes).1 i)).0
 
-  pub filtered_rows : AreRowsOf heading acl (packed acl (filter p (unpacked acl r))) (packed_boxes row_cmp (length acl) (filter q (unpacked_boxes row_cmp (length acl) (map (boxed acl) r))))
+  pub filtered_rows : AreRowsOf heading commalist (packed commalist (filter p (unpacked commalist r))) (packed_boxes row_cmp (length commalist) (filter q (unpacked_boxes row_cmp (length commalist) (map (boxed commalist) r))))
   filtered_rows =
-      closed_by_boxes heading acl intervals (filter p (unpacked acl r)) (Ascends-filter row_cmp p (unpacked acl r) (unpacked_ascends heading acl intervals r up shaped))
-      (λ x i. (unpacked_image heading acl intervals r up shaped).shaped x ((In-filter p x (unpacked acl r)).0 i).0)
-      (filter q boxes) points_have (same_places (map (boxed acl) (filter p (unpacked acl r))) (filter q boxes) passed)
+      closed_by_boxes heading commalist intervals (filter p (unpacked commalist r)) (Ascends-filter row_cmp p (unpacked commalist r) (unpacked_ascends heading commalist intervals r up shaped))
+      (λ x i. (unpacked_image heading commalist intervals r up shaped).shaped x ((In-filter p x (unpacked commalist r)).0 i).0)
+      (filter q boxes) points_have (same_places (map (boxed commalist) (filter p (unpacked commalist r))) (filter q boxes) passed)
 
 module _ (left right : Heading) (names : List Name) (in_left : (n : Name) → In n names → IsTrue (has_name left n)) (in_right : (n : Name) → In n names → IsTrue (has_name right n))
     (kinds : (n : Name) → In n names → kind_at left (position_of left n) ≡ kind_at right (position_of right n))

@@ -52,12 +52,12 @@ position_at (a ∷ rest) (suc i) up l =
     member (x ∷ xs) (suc j) m = inr (member xs j (omega arith))
 
 -- behind another heading
-pub position_front : (left right : Heading) (n : Name) → IsTrue (has_name left n) → position_of (left ++ right) n ≡ position_of left n
-position_front [] right n e = absurd (true≢false (sym e))
-position_front (a ∷ rest) right n e =
+pub position_prefix : (left right : Heading) (n : Name) → IsTrue (has_name left n) → position_of (left ++ right) n ≡ position_of left n
+position_prefix [] right n e = absurd (true≢false (sym e))
+position_prefix (a ∷ rest) right n e =
     (elim (bytes_eq a.0 n) as (λ b. IsTrue (b || has_name rest n) → (if b then 0 else suc (position_of (rest ++ right) n)) ≡ (if b then 0 else suc (position_of rest n))) [
       | true ↦ λ k. refl
-      | false ↦ λ k. ap suc (position_front rest right n k)
+      | false ↦ λ k. ap suc (position_prefix rest right n k)
     ]) e
 
 pub position_behind : (left right : Heading) (n : Name) → has_name left n ≡ false → position_of (left ++ right) n ≡ length left + position_of right n
@@ -114,22 +114,22 @@ by_names heading row names = map_twice (λ i. get_or row i (truth false)) (posit
 
 -- the names that are not listed, where the listed ones stand at these positions
 abbrev pub new_names : List ℕ → Heading → List Name → List Name
-new_names acl heading names = filter (λ n. not (among acl (position_of heading n))) names
+new_names commalist heading names = filter (λ n. not (among commalist (position_of heading n))) names
 
 -- they are as many as their positions that are not listed
-pub count_new : (acl : List ℕ) (heading : Heading) (names : List Name) → length (inner acl (map (position_of heading) names)) ≡ length (new_names acl heading names)
-count_new acl heading names =
-    length-map (unlisted acl (map (position_of heading) names)) (place_in_label acl)
-    ∙ ap (λ (is : List ℕ). length is) (filter_map (λ i. not (among acl i)) (position_of heading) names)
-    ∙ length-map (new_names acl heading names) (position_of heading)
+pub count_new : (commalist : List ℕ) (heading : Heading) (names : List Name) → length (inner commalist (map (position_of heading) names)) ≡ length (new_names commalist heading names)
+count_new commalist heading names =
+    length-map (unlisted commalist (map (position_of heading) names)) (place_in_label commalist)
+    ∙ ap (λ (is : List ℕ). length is) (filter_map (λ i. not (among commalist i)) (position_of heading) names)
+    ∙ length-map (new_names commalist heading names) (position_of heading)
 
 -- the label has the values beside the names that are not listed
-pub label_by_names : (acl : List ℕ) (heading : Heading) (row : Row) (names : List Name)
-    → part_of (inner acl (map (position_of heading) names)) (others acl row) ≡ map (value_of heading row) (new_names acl heading names)
-label_by_names acl heading row names =
-    inner_values acl (map (position_of heading) names) row (truth false)
-    ∙ ap (map (λ i. get_or row i (truth false))) (filter_map (λ i. not (among acl i)) (position_of heading) names)
-    ∙ map_twice (λ i. get_or row i (truth false)) (position_of heading) (new_names acl heading names)
+pub label_by_names : (commalist : List ℕ) (heading : Heading) (row : Row) (names : List Name)
+    → part_of (inner commalist (map (position_of heading) names)) (others commalist row) ≡ map (value_of heading row) (new_names commalist heading names)
+label_by_names commalist heading row names =
+    inner_values commalist (map (position_of heading) names) row (truth false)
+    ∙ ap (map (λ i. get_or row i (truth false))) (filter_map (λ i. not (among commalist i)) (position_of heading) names)
+    ∙ map_twice (λ i. get_or row i (truth false)) (position_of heading) (new_names commalist heading names)
 
 -- a name is listed by its position
 pub listed_name : (heading : Heading) (names : List Name) → ((m : Name) → In m names → IsTrue (has_name heading m)) → (n : Name) → IsTrue (has_name heading n)

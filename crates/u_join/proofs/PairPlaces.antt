@@ -9,12 +9,12 @@ use Rattle.interval_core.specs.Members.{Span, at_point}
 use Rattle.value_core.specs.Order.{row_total, row_separates}
 use Rattle.value_core.specs.Values.{Row, row_cmp}
 use Rattle.relation_core.specs.Agreement.{part_of}
-use Rattle.packing_core.specs.Boxed.{Boxed, unpacked_boxes, InBoxes}
-use Rattle.packing_core.specs.Packed.{Has}
-use Rattle.packing_core.proofs.PackedBoxes.{among_in}
-use Rattle.cell_core.proofs.PackedPlaces.{AllHave, place_length}
+use Rattle.cell_packing.specs.Boxed.{Boxed, unpacked_boxes, InBoxes}
+use Rattle.cell_packing.specs.Packed.{Has}
+use Rattle.cell_packing.proofs.PackedBoxes.{among_in}
+use Rattle.cell_core.proofs.PackedGridPoints.{AllHave, grid_point_length}
 use Rattle.cell_core.proofs.UnpackedLemmas.{firsts_at, are_points, length_at, in_unpacked_boxes}
-use Rattle.cell_core.proofs.UnpackedPlaces.{has_place, unpacked_places}
+use Rattle.cell_core.proofs.UnpackedGridPoints.{has_grid_point, unpacked_grid_points}
 use Rattle.u_set.proofs.BridgeLemmas.{box_cmp, box_total, box_separates}
 use Rattle.u_set.proofs.PlaceLemmas.{points_are}
 use Rattle.u_row.specs.Labels.{relabelled}
@@ -28,10 +28,10 @@ module _ (k : ℕ) (r : List (Boxed Row)) (have : AllHave k r) where
   at_points : (l : Row) (p : List ℤ) → InBoxes r l p → In (l, map at_point p) points
   at_points l p g =
       (among_in (l, map at_point p) points).0
-      ((in_unpacked_boxes row_cmp row_total row_separates k r have (l, map at_point p)).1 (length_at p ∙ place_length k r have l p g, (are_points p, subst (InBoxes r l) (sym (firsts_at p)) g)))
+      ((in_unpacked_boxes row_cmp row_total row_separates k r have (l, map at_point p)).1 (length_at p ∙ grid_point_length k r have l p g, (are_points p, subst (InBoxes r l) (sym (firsts_at p)) g)))
 
   from_points : (l : Row) (p : List ℤ) (y : List Span) → In (l, y) points → Has y p → InBoxes r l p
-  from_points l p y i b = (unpacked_places row_cmp row_total row_separates k r have l p).0 (y, (among_in (l, y) points).1 i, b)
+  from_points l p y i b = (unpacked_grid_points row_cmp row_total row_separates k r have l p).0 (y, (among_in (l, y) points).1 i, b)
 
   -- and no other has the place
   is_point : (l : Row) (p : List ℤ) (y : List Span) → In (l, y) points → Has y p → y ≡ map at_point p
@@ -62,7 +62,7 @@ module _ (here there : List ℕ) (k : ℕ) (left right : List (Boxed Row)) (hl :
         λ t.
             let w = any.0 t in
             let e = (meets (l, y) w.0).0 w.2 in
-            let has : Has (w.0).1 p = subst (λ z. Has z p) (sym is ∙ e.1) (has_place p) in
+            let has : Has (w.0).1 p = subst (λ z. Has z p) (sym is ∙ e.1) (has_grid_point p) in
             ((w.0).0, from_points k right hr (w.0).0 p (w.0).1 w.1 has, e.0),
         λ h. any.1 ((h.0, map at_point p), at_points k right hr h.0 p h.1, (meets (l, y) (h.0, map at_point p)).1 (h.2, is)),
       )
@@ -76,7 +76,7 @@ module _ (here there : List ℕ) (k : ℕ) (left right : List (Boxed Row)) (hl :
     λ h. (
       map at_point p,
       (among_in (l, map at_point p) (matched_boxes here there lefts rights)).1 ((In-filter (λ x. list_any (meet here there x) rights) (l, map at_point p) lefts).1 (at_points k left hl l p h.0, (found_at l p (map at_point p) refl).1 h.1)),
-      has_place p,
+      has_grid_point p,
     ),
   )
 
@@ -96,7 +96,7 @@ module _ (here there : List ℕ) (k : ℕ) (left right : List (Boxed Row)) (hl :
         at_points k left hl l p h.0,
         (not_is (list_any (meet here there (l, map at_point p)) rights)).1 (λ t. h.1 ((found_at l p (map at_point p) refl).0 t)),
       )),
-      has_place p,
+      has_grid_point p,
     ),
   )
 
@@ -141,7 +141,7 @@ module _ (here there : List ℕ) (k : ℕ) (left right : List (Boxed Row)) (hl :
           (meets (h.0, map at_point p) (h.1, map at_point p)).1 (h.4, refl),
           (let e = h.5 in λ t. (e t, map at_point p)),
         )),
-        has_place p,
+        has_grid_point p,
       ),
     )
 

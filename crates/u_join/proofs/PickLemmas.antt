@@ -57,7 +57,7 @@ pub picked_none : {X : Type 0} (ps : List ℕ) (xs : List X) → ArePicked ps xs
 picked_none ps xs = (refl, (λ k d h. absurd (omega (arith, h))), (λ k d h. refl))
 
 pub picked_more : {X : Type 0} (ps : List ℕ) (xs ys zs : List X) (n p : ℕ) → Rise ps → n < length ps → get_or ps n 0 ≡ p → length zs ≡ length ys → SwappedAt ys zs n p → ArePicked ps xs ys n → ArePicked ps xs zs (n + 1)
-picked_more {X} ps xs ys zs n p rise l is long s h = (long ∙ h.0, front, back)
+picked_more {X} ps xs ys zs n p rise l is long s h = (long ∙ h.0, prefix, back)
   where
     least : n ≤ p
     least =
@@ -69,8 +69,8 @@ picked_more {X} ps xs ys zs n p rise l is long s h = (long ∙ h.0, front, back)
         let a = rise j n 0 b l in
         omega (arith, a, is)
 
-    front : (k : ℕ) (d : X) → k < n + 1 → get_or zs k d ≡ get_or xs (get_or ps k 0) d
-    front k d b = elim (last_or_before k n b) [
+    prefix : (k : ℕ) (d : X) → k < n + 1 → get_or zs k d ≡ get_or xs (get_or ps k 0) d
+    prefix k d b = elim (last_or_before k n b) [
       | inl e ↦
           let place : get_or ps k 0 ≡ p = ap (λ (m : ℕ). get_or ps m 0) e ∙ is in
           ap (λ (m : ℕ). get_or zs m d) e ∙ s.0 d ∙ h.2 p d past ∙ sym (ap (λ (m : ℕ). get_or xs m d) place)

@@ -1,4 +1,4 @@
 pub mod Pairs
-pub mod Keyed
+pub mod KeyedCellBox
 pub mod Places
 pub mod Shared

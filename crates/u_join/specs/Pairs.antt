@@ -6,7 +6,7 @@
 use Rattle.std.specs.Prelude.{◌≡◌, ℕ, Bool, not, List, ◌++◌, map, filter, flat_map}
 use Rattle.std.specs.List.{list_any}
 use Rattle.std.specs.Ordering.{eq_by_cmp}
-use Rattle.packing_core.specs.Boxed.{Boxed, boxed_cmp}
+use Rattle.cell_packing.specs.Boxed.{Boxed, boxed_cmp}
 use Rattle.relation_core.specs.Agreement.{part_of}
 use Rattle.value_core.specs.Values.{Row, row_cmp}
 use Rattle.u_row.specs.Labels.{relabelled}

@@ -2,7 +2,7 @@
 ghost use Rattle.std.specs.Prelude.{◌≡◌, ◌+◌, ◌<◌, ◌≤◌, map, length, Err, IfOk};
 ghost use Rattle.std.specs.List.{All};
 ghost use Rattle.point_core.specs.declared.fault.Fault.{Fault as AnyFault};
-ghost use Rattle.packing_core.specs.Boxed.{packed_boxes, unpacked_boxes};
+ghost use Rattle.cell_packing.specs.Boxed.{packed_boxes, unpacked_boxes};
 ghost use Rattle.value_core.specs.Values.{row_cmp};
 ghost use Rattle.cell_core.specs.Boxes.{IsBox};
 ghost use Rattle.cell_core.specs.Cells.{row_numbers};
@@ -14,13 +14,12 @@ ghost use Rattle.u_join.specs.Shared.{left_positions, right_positions, joined_by
 use crate::keys::with_keys;
 use crate::labels::Beside;
 use crate::shared::apart;
-use box_core::{PairRule, join};
+use cell_boxes::{PairRule, join};
 use cell_core::{BoxRow, CellRefuse, CellRows, back, moved_over_cells};
-use cell_kernels::fewer_rows;
 use point_core::{Memory, PointType, Steps};
 use std::alloc::Global;
 use std::sync::ledger::Ledger;
-use u_set::copied_boxes;
+use u_set::{copied_boxes, prepacked};
 use value_core::Row;
 
 // What left and right boxes of one key have in common, with the labels that the rule gives of pairs, packed. Each operand is made fewer
@@ -49,8 +48,8 @@ fn joined_form<T: PointType, O: PairRule<Left = Row, Right = Row, Out = Row>, L:
         left: l,
         right: r,
     } = moved_over_cells(alloc, types, left, right, steps)?;
-    let fewer_left = fewer_rows(alloc, types.len(), l)?;
-    let fewer_right = fewer_rows(alloc, types.len(), r)?;
+    let fewer_left = prepacked(alloc, types.len(), l)?;
+    let fewer_right = prepacked(alloc, types.len(), r)?;
     let lefts = with_keys(alloc, fewer_left, here)?;
     let rights = with_keys(alloc, fewer_right, there)?;
     let form = join(alloc, types.len(), lefts, rights, rule)?;

@@ -2,7 +2,7 @@
 ghost use Rattle.std.specs.Prelude.{◌≡◌, ◌+◌, ◌<◌, ◌≤◌, ◌++◌, map, length, Err, IfOk, MatchResult};
 ghost use Rattle.std.specs.List.{All};
 ghost use Rattle.point_core.specs.Points.{number, IsPointOf};
-ghost use Rattle.packing_core.specs.Boxed.{packed_boxes, unpacked_boxes};
+ghost use Rattle.cell_packing.specs.Boxed.{packed_boxes, unpacked_boxes};
 ghost use Rattle.value_core.specs.Headings.{most_attributes};
 ghost use Rattle.value_core.specs.RowPacking.{packed, unpacked};
 ghost use Rattle.value_core.specs.Values.{IsRelation, row_cmp, most_rows};
@@ -85,7 +85,7 @@ fn joining_boxes<L: Ledger>(
 fn joined_by_boxes<L: Ledger>(
     alloc: Global,
     heading: &Heading,
-    acl: &[usize],
+    commalist: &[usize],
     left: &Relation,
     right: &Relation,
     here: &[usize],
@@ -94,18 +94,18 @@ fn joined_by_boxes<L: Ledger>(
 ) -> Result<Relation, RowsRefuse>
     requires heading { heading.now ≡ joined_heading left.now.heading right.now.heading }
     requires kinds { HaveEqualKinds left.now.heading right.now.heading }
-    requires listed { attributes_at acl.now heading.now ≡ attributes_at here.now left.now.heading }
+    requires listed { attributes_at commalist.now heading.now ≡ attributes_at here.now left.now.heading }
     requires same { attributes_at here.now left.now.heading ≡ attributes_at there.now right.now.heading }
-    requires intervals { AreIntervals heading.now acl.now }
+    requires intervals { AreIntervals heading.now commalist.now }
     requires left { AreIntervals left.now.heading here.now }
     requires right { AreIntervals right.now.heading there.now }
-    ensures rows { let rows = packed acl.now (joined left.now.heading right.now.heading (unpacked here.now left.now.rows) (unpacked there.now right.now.rows)) in
+    ensures rows { let rows = packed commalist.now (joined left.now.heading right.now.heading (unpacked here.now left.now.rows) (unpacked there.now right.now.rows)) in
         MatchResult result (IsAnswer heading.now rows) (IsRefusal rows) }
-    ensures cost { steps.new ≤ steps.old + bound (length left.now.rows + length right.now.rows) (length acl.now) }
+    ensures cost { steps.new ≤ steps.old + bound (length left.now.rows + length right.now.rows) (length commalist.now) }
 {
     let whole = heading.copy(alloc)?;
     match joining_boxes(alloc, heading, left, right, here, there, steps) {
-        Ok(form) => from_boxes(alloc, whole, acl, form),
+        Ok(form) => from_boxes(alloc, whole, commalist, form),
         Err(refuse) => Err(refusal(refuse)),
     }
 }
@@ -115,7 +115,7 @@ fn joined_by_boxes<L: Ledger>(
 pub fn joined<L: Ledger>(
     alloc: Global,
     heading: &Heading,
-    acl: &[usize],
+    commalist: &[usize],
     left: &Relation,
     right: &Relation,
     here: &[usize],
@@ -125,17 +125,17 @@ pub fn joined<L: Ledger>(
     requires heading { heading.now ≡ joined_heading left.now.heading right.now.heading }
     requires few { length heading.now ≤ most_attributes }
     requires kinds { HaveEqualKinds left.now.heading right.now.heading }
-    requires listed { attributes_at acl.now heading.now ≡ attributes_at here.now left.now.heading }
+    requires listed { attributes_at commalist.now heading.now ≡ attributes_at here.now left.now.heading }
     requires same { attributes_at here.now left.now.heading ≡ attributes_at there.now right.now.heading }
-    requires intervals { AreIntervals heading.now acl.now }
+    requires intervals { AreIntervals heading.now commalist.now }
     requires left { AreIntervals left.now.heading here.now }
     requires right { AreIntervals right.now.heading there.now }
-    ensures rows { let rows = packed acl.now (joined left.now.heading right.now.heading (unpacked here.now left.now.rows) (unpacked there.now right.now.rows)) in
+    ensures rows { let rows = packed commalist.now (joined left.now.heading right.now.heading (unpacked here.now left.now.rows) (unpacked there.now right.now.rows)) in
         MatchResult result (IsAnswer heading.now rows) (IsRefusal rows) }
-    ensures cost { steps.new ≤ steps.old + bound (length left.now.rows + length right.now.rows) (length acl.now) }
+    ensures cost { steps.new ≤ steps.old + bound (length left.now.rows + length right.now.rows) (length commalist.now) }
 {
-    if acl.len() == 0 {
+    if commalist.len() == 0 {
         return relation_core::join(alloc, left, right);
     }
-    joined_by_boxes(alloc, heading, acl, left, right, here, there, steps)
+    joined_by_boxes(alloc, heading, commalist, left, right, here, there, steps)
 }

@@ -5,7 +5,7 @@ ghost use Rattle.value_core.specs.Values.{truth};
 ghost use Rattle.relation_core.specs.Agreement.{part_of};
 ghost use Rattle.u_set.specs.Boxes.{others};
 
-use box_core::PairRule;
+use cell_boxes::PairRule;
 use point_core::Memory;
 use std::alloc::Global;
 use std::marker::Model;

@@ -2,7 +2,7 @@
 ghost use Rattle.std.specs.Prelude.{◌≡◌, ◌+◌, ◌<◌, ◌≤◌, map, length, Err, IfOk};
 ghost use Rattle.std.specs.List.{All};
 ghost use Rattle.point_core.specs.declared.fault.Fault.{Fault as AnyFault};
-ghost use Rattle.packing_core.specs.Boxed.{packed_boxes, unpacked_boxes};
+ghost use Rattle.cell_packing.specs.Boxed.{packed_boxes, unpacked_boxes};
 ghost use Rattle.value_core.specs.Values.{row_cmp};
 ghost use Rattle.cell_core.specs.Boxes.{IsBox};
 ghost use Rattle.cell_core.specs.Cells.{row_numbers};
@@ -14,13 +14,12 @@ ghost use Rattle.u_join.specs.Shared.{left_positions, right_positions};
 use crate::keys::{by_keys, with_keys};
 use crate::needed::fewer_where_many;
 use crate::shared::apart;
-use box_core::{matching, not_matching};
+use cell_boxes::{matching, not_matching};
 use cell_core::{BoxRow, CellRefuse, CellRows, back, moved_over_cells};
-use cell_kernels::fewer_rows;
 use point_core::{Memory, PointType, Steps};
 use std::alloc::Global;
 use std::sync::ledger::Ledger;
-use u_set::copied_boxes;
+use u_set::{copied_boxes, prepacked};
 use value_core::Row;
 
 // The left boxes where a right box has their key, packed. The right boxes under their keys are made fewer first where that can be, and the left
@@ -48,7 +47,7 @@ fn matched_form<T: PointType, L: Ledger>(
         right: r,
     } = moved_over_cells(alloc, types, left, right, steps)?;
     let keys = by_keys(alloc, r, there)?;
-    let rights = fewer_rows(alloc, types.len(), keys)?;
+    let rights = prepacked(alloc, types.len(), keys)?;
     let fewer_left = fewer_where_many(alloc, types.len(), l, here, rights.as_slice())?;
     let lefts = with_keys(alloc, fewer_left, here)?;
     let form = matching(alloc, types.len(), lefts, rights)?;
@@ -80,7 +79,7 @@ fn unmatched_form<T: PointType, L: Ledger>(
         right: r,
     } = moved_over_cells(alloc, types, left, right, steps)?;
     let keys = by_keys(alloc, r, there)?;
-    let rights = fewer_rows(alloc, types.len(), keys)?;
+    let rights = prepacked(alloc, types.len(), keys)?;
     let fewer_left = fewer_where_many(alloc, types.len(), l, here, rights.as_slice())?;
     let lefts = with_keys(alloc, fewer_left, here)?;
     let form = not_matching(alloc, types.len(), lefts, rights)?;

@@ -2,19 +2,18 @@
 ghost use Rattle.std.specs.Prelude.{◌≡◌, length, IfOk};
 ghost use Rattle.std.specs.List.{All};
 ghost use Rattle.value_core.specs.Values.{row_cmp};
-ghost use Rattle.cell_kernels.specs.Fewer.{IsSameOrPacked};
+ghost use Rattle.u_set.specs.Fewer.{IsSameOrPacked};
 
 use crate::tuning::{FEW_RIGHTS, FEWEST_TRIED, MANY_LABELS, TRIED_ROWS};
-use cell_kernels::fewer_rows;
+use cell_sweep::CellBox;
 use point_core::{Label, Memory};
-use slice_core::Key;
 use std::alloc::Global;
 use std::cmp::Ordering;
-use u_set::part_of_label;
+use u_set::{part_of_label, prepacked};
 use value_core::Row;
 
 // The cells on the first side.
-fn first_cells(row: &Key<Row>) -> (usize, usize) {
+fn first_cells(row: &CellBox<Row>) -> (usize, usize) {
     match row.sides.first() {
         Some(cells) => *cells,
         None => (0, 0),
@@ -22,7 +21,7 @@ fn first_cells(row: &Key<Row>) -> (usize, usize) {
 }
 
 // Whether the row is of a lesser label, or begins before the cell under the same one.
-fn comes_before(row: &Key<Row>, label: &Row, cell: usize) -> bool {
+fn comes_before(row: &CellBox<Row>, label: &Row, cell: usize) -> bool {
     match row.label.compare(label) {
         Ordering::Less => true,
         Ordering::Equal => first_cells(row).0 < cell,
@@ -31,7 +30,7 @@ fn comes_before(row: &Key<Row>, label: &Row, cell: usize) -> bool {
 }
 
 // How many of the rows, which stand by their labels and cells, begin in the cells under the label.
-fn count_begins(rows: &[Key<Row>], label: &Row, cells: (usize, usize)) -> usize {
+fn count_begins(rows: &[CellBox<Row>], label: &Row, cells: (usize, usize)) -> usize {
     let first = rows.partition_point(|row| comes_before(row, label, cells.0));
     let end = rows.partition_point(|row| comes_before(row, label, cells.1));
     end.saturating_sub(first)
@@ -55,7 +54,11 @@ fn tried(alloc: Global, count: usize) -> Result<Vec<usize>, Memory> {
 }
 
 // Whether the rows at the places have many different labels. Where they have few, rows of one label are made fewer by far.
-fn have_many_labels(alloc: Global, rows: &[Key<Row>], places: &[usize]) -> Result<bool, Memory> {
+fn have_many_labels(
+    alloc: Global,
+    rows: &[CellBox<Row>],
+    places: &[usize],
+) -> Result<bool, Memory> {
     let mut labels = Vec::with_capacity(alloc, places.len())?;
     for place in places {
         if *place < rows.len() {
@@ -71,10 +74,10 @@ fn have_many_labels(alloc: Global, rows: &[Key<Row>], places: &[usize]) -> Resul
 // Whether few of the rights begin within the lefts at the places, each under the part of its label.
 fn meet_few(
     alloc: Global,
-    lefts: &[Key<Row>],
+    lefts: &[CellBox<Row>],
     places: &[usize],
     positions: &[usize],
-    rights: &[Key<Row>],
+    rights: &[CellBox<Row>],
 ) -> Result<bool, Memory> {
     let mut found = 0usize;
     for place in places {
@@ -91,9 +94,9 @@ fn meet_few(
 // Whether the left rows seem to have many labels and to meet few rights.
 fn seem_few(
     alloc: Global,
-    lefts: &[Key<Row>],
+    lefts: &[CellBox<Row>],
     positions: &[usize],
-    rights: &[Key<Row>],
+    rights: &[CellBox<Row>],
 ) -> Result<bool, Memory> {
     let places = tried(alloc, lefts.len())?;
     let many = have_many_labels(alloc, lefts, places.as_slice())?;
@@ -109,10 +112,10 @@ fn seem_few(
 pub(crate) fn fewer_where_many(
     alloc: Global,
     sides: usize,
-    lefts: Vec<Key<Row>>,
+    lefts: Vec<CellBox<Row>>,
     positions: &[usize],
-    rights: &[Key<Row>],
-) -> Result<Vec<Key<Row>>, Memory>
+    rights: &[CellBox<Row>],
+) -> Result<Vec<CellBox<Row>>, Memory>
     requires sides { All (λ x. length x.1 ≡ sides) lefts.items }
     ensures rows { IfOk result (λ v. IsSameOrPacked row_cmp sides lefts.items v.items) }
     ensures sides { IfOk result (λ v. All (λ x. length x.1 ≡ sides) v.items) }
@@ -123,6 +126,6 @@ pub(crate) fn fewer_where_many(
             return Ok(lefts);
         }
     }
-    let packed = fewer_rows(alloc, sides, lefts)?;
+    let packed = prepacked(alloc, sides, lefts)?;
     Ok(packed)
 }

@@ -21,12 +21,12 @@ pub(crate) fn key_places(
     heading: &[(Name, Kind)],
     left: &[(Name, Kind)],
     right: &[(Name, Kind)],
-    acl: &[usize],
+    commalist: &[usize],
 ) -> Result<Vec<usize>, Memory>
-    ensures { IfOk result (λ v. v.items ≡ inner acl.now (common_positions heading.now left.now right.now)) }
+    ensures { IfOk result (λ v. v.items ≡ inner commalist.now (common_positions heading.now left.now right.now)) }
 {
     let common = common_positions(alloc, heading, left, right)?;
-    inner(alloc, acl, common.as_slice())
+    inner(alloc, commalist, common.as_slice())
 }
 
 /// The same of left and of right rows, in pairs.

@@ -13,12 +13,12 @@ use Rattle.base_core.proofs.SetLemmas.{AllAfter, Ascends, Separates}
 use Rattle.point_core.specs.Digits.{binary_digits}
 use Rattle.point_core.specs.declared.fault.Fault.{Fault}
 use Rattle.interval_core.specs.Members.{Span}
-use Rattle.packing_core.specs.Boxed.{Boxed, boxed_cmp, packed_boxes, InBoxes}
-use Rattle.packing_core.specs.Covering.{Among}
-use Rattle.packing_core.specs.Packed.{Has, firsts, points_of}
-use Rattle.packing_core.proofs.PackedBoxes.{in_packed_form, packed_ascends}
+use Rattle.cell_packing.specs.Boxed.{Boxed, boxed_cmp, packed_boxes, InBoxes}
+use Rattle.cell_packing.specs.Covering.{Among}
+use Rattle.cell_packing.specs.Packed.{Has, firsts, points_of}
+use Rattle.cell_packing.proofs.PackedBoxes.{in_packed_form, packed_ascends}
 use Rattle.point_core.specs.LeastFault.{IsLeast}
-use Rattle.slice_core.proofs.Turns.{least_iff}
+use Rattle.cell_sweep.proofs.Turns.{least_iff}
 use Rattle.cell_core.specs.Boxes.{IsBox}
 use Rattle.cell_core.specs.Cells.{box_numbers, row_numbers}
 use Rattle.cell_core.specs.Costs.{bound, side_cost}
@@ -26,7 +26,7 @@ use Rattle.cell_core.specs.Numbering.{numbers_of}
 use Rattle.cell_core.proofs.BackLemmas.{box_length}
 use Rattle.cell_core.proofs.KeyLemmas.{rows_have}
 use Rattle.cell_core.proofs.OrderLemmas.{boxed_total, boxed_separates}
-use Rattle.cell_core.proofs.PackedPlaces.{AllHave, both_boxes}
+use Rattle.cell_core.proofs.PackedGridPoints.{AllHave, both_boxes}
 use Rattle.cell_core.proofs.StepLemmas.{sort_within}
 use Rattle.cell_core.proofs.Theorem.{packs-iff, points-iff}
 use Rattle.cell_core.proofs.Listing.{length_each}

@@ -34,14 +34,14 @@ one_position (k ∷ kept) (suc i) zero up l m e =
 one_position (k ∷ kept) (suc i) (suc j) up l m e = ap suc (one_position kept i j up.1 (omega arith) (omega arith) e)
 
 -- a position is listed where it is a member
-pub among_in : (acl : List ℕ) (i : ℕ) → IsTrue (among acl i) → In i acl
-among_in acl i h =
-    let w = (list_any-In (nat_eq i) acl).0 h in
+pub among_in : (commalist : List ℕ) (i : ℕ) → IsTrue (among commalist i) → In i commalist
+among_in commalist i h =
+    let w = (list_any-In (nat_eq i) commalist).0 h in
     let e : w.0 ≡ i = sym (eqb-true i w.0 w.2) in
-    subst (λ k. In k acl) e w.1
+    subst (λ k. In k commalist) e w.1
 
-pub in_among : (acl : List ℕ) (i : ℕ) → In i acl → IsTrue (among acl i)
-in_among acl i m = (list_any-In (nat_eq i) acl).1 (i, m, eq-eqb i i refl)
+pub in_among : (commalist : List ℕ) (i : ℕ) → In i commalist → IsTrue (among commalist i)
+in_among commalist i m = (list_any-In (nat_eq i) commalist).1 (i, m, eq-eqb i i refl)
 
 pub in_all : {X : Type 0} (P : X → Type 0) (xs : List X) → All P xs → (x : X) → In x xs → P x
 in_all P [] h x m = absurd m
@@ -52,11 +52,11 @@ in_all P (y ∷ ys) h x m = elim m [
 
 -- ---- positions of a part, and the positions beneath
 
-module _ (from : Heading) (kept acl : List ℕ) (within : All (λ (i : ℕ). i < length from) kept) (up : Ascends nat_cmp kept)
-    (intervals : AreIntervals (attributes_at kept from) acl) where
-  below : (j : ℕ) → In j acl → j < length kept
+module _ (from : Heading) (kept commalist : List ℕ) (within : All (λ (i : ℕ). i < length from) kept) (up : Ascends nat_cmp kept)
+    (intervals : AreIntervals (attributes_at kept from) commalist) where
+  below : (j : ℕ) → In j commalist → j < length kept
   below j m =
-      let l = in_all (λ (i : ℕ). i < length (attributes_at kept from)) acl intervals.within j m in
+      let l = in_all (λ (i : ℕ). i < length (attributes_at kept from)) commalist intervals.within j m in
       subst (λ n. j < n) (same_many kept) l
     where
       same_many : (ks : List ℕ) → length (map (λ i. get_or from i no_attribute) ks) ≡ length ks
@@ -64,13 +64,13 @@ module _ (from : Heading) (kept acl : List ℕ) (within : All (λ (i : ℕ). i <
       same_many (k ∷ ks) = ap suc (same_many ks)
 
   -- what is listed of the part is listed beneath
-  pub beneath_listed : (m : ℕ) → m < length kept → among acl m ≡ among (beneath kept acl) (get_or kept m 0)
-  beneath_listed m l = same_tests (among acl m) (among (beneath kept acl) (get_or kept m 0)) (
-    λ h. in_among (beneath kept acl) (get_or kept m 0) ((In-map (λ j. get_or kept j 0) (get_or kept m 0) acl).1 (m, among_in acl m h, refl)),
+  pub beneath_listed : (m : ℕ) → m < length kept → among commalist m ≡ among (beneath kept commalist) (get_or kept m 0)
+  beneath_listed m l = same_tests (among commalist m) (among (beneath kept commalist) (get_or kept m 0)) (
+    λ h. in_among (beneath kept commalist) (get_or kept m 0) ((In-map (λ j. get_or kept j 0) (get_or kept m 0) commalist).1 (m, among_in commalist m h, refl)),
     λ h.
-        let w = (In-map (λ j. get_or kept j 0) (get_or kept m 0) acl).0 (among_in (beneath kept acl) (get_or kept m 0) h) in
+        let w = (In-map (λ j. get_or kept j 0) (get_or kept m 0) commalist).0 (among_in (beneath kept commalist) (get_or kept m 0) h) in
         let e : w.0 ≡ m = sym (one_position kept m w.0 up l (below w.0 w.1) w.2) in
-        in_among acl m (subst (λ k. In k acl) e w.1),
+        in_among commalist m (subst (λ k. In k commalist) e w.1),
   )
 
   pub kind_beneath : (j : ℕ) → j < length kept → kind_at (attributes_at kept from) j ≡ kind_at from (get_or kept j 0)
@@ -93,20 +93,20 @@ module _ (from : Heading) (kept acl : List ℕ) (within : All (λ (i : ℕ). i <
   beneath_differ [] h d = tt
   beneath_differ (j ∷ js) h d = (beneath_apart js j (h j (inl refl)) (λ k m. h k (inr m)) d.0, beneath_differ js (λ k m. h k (inr m)) d.1)
 
-  pub beneath_intervals : AreIntervals from (beneath kept acl)
+  pub beneath_intervals : AreIntervals from (beneath kept commalist)
   beneath_intervals =
-      let one : (i : ℕ) → In i (beneath kept acl) → (i < length from) × (kind_at from i ≡ SpanOf (type_of (kind_at from i))) = λ i m.
-      let w = (In-map (λ j. get_or kept j 0) i acl).0 m in
+      let one : (i : ℕ) → In i (beneath kept commalist) → (i < length from) × (kind_at from i ≡ SpanOf (type_of (kind_at from i))) = λ i m.
+      let w = (In-map (λ j. get_or kept j 0) i commalist).0 m in
       let l = below w.0 w.1 in
       let here : kind_at (attributes_at kept from) w.0 ≡ SpanOf (type_of (kind_at (attributes_at kept from) w.0)) =
-      in_all (λ (j : ℕ). kind_at (attributes_at kept from) j ≡ SpanOf (type_of (kind_at (attributes_at kept from) j))) acl intervals.spans w.0 w.1 in
+      in_all (λ (j : ℕ). kind_at (attributes_at kept from) j ≡ SpanOf (type_of (kind_at (attributes_at kept from) j))) commalist intervals.spans w.0 w.1 in
       let there : kind_at from (get_or kept w.0 0) ≡ SpanOf (type_of (kind_at from (get_or kept w.0 0))) =
       subst (λ (k : Kind). k ≡ SpanOf (type_of k)) (kind_beneath w.0 l) here in (
         subst (λ k. k < length from) (sym w.2) (within w.0 0 l),
         subst (λ k. kind_at from k ≡ SpanOf (type_of (kind_at from k))) (sym w.2) there,
       ) in
       record {
-        within = All-In (λ (i : ℕ). i < length from) (beneath kept acl) (λ i m. (one i m).0);
-        different = beneath_differ acl below intervals.different;
-        spans = All-In (λ (i : ℕ). kind_at from i ≡ SpanOf (type_of (kind_at from i))) (beneath kept acl) (λ i m. (one i m).1);
+        within = All-In (λ (i : ℕ). i < length from) (beneath kept commalist) (λ i m. (one i m).0);
+        different = beneath_differ commalist below intervals.different;
+        spans = All-In (λ (i : ℕ). kind_at from i ≡ SpanOf (type_of (kind_at from i))) (beneath kept commalist) (λ i m. (one i m).1);
       }

@@ -2,9 +2,9 @@
 use Rattle.std.proofs.Common.{◌≡◌, ◌↔◌, ℕ, suc, ◌+◌, ◌<◌, ℤ, ◌≤ℤ◌, List, [], ◌∷◌, map, length, get_or, refl, sym, subst, inl, inr, arith}
 use Rattle.interval_core.specs.Members.{Span}
 use Rattle.std.proofs.lemmas.Int.{ints}
-use Rattle.packing_core.specs.Covering.{Among}
-use Rattle.packing_core.specs.Packed.{Has, firsts}
-use Rattle.packing_core.proofs.AmongLemmas.{among_map, among_flat}
+use Rattle.cell_packing.specs.Covering.{Among}
+use Rattle.cell_packing.specs.Packed.{Has, firsts}
+use Rattle.cell_packing.proofs.AmongLemmas.{among_map, among_flat}
 use Rattle.cell_core.specs.Cells.{box_numbers}
 use Rattle.u_row.specs.Cutting.{AreCuts, AreCutsFrom, pieces, cells_from, cells_of}
 use Rattle.u_row.proofs.CuttingLemmas.{in_piece, piece_in, piece_some}

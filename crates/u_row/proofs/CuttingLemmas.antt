@@ -6,8 +6,8 @@ use Rattle.std.proofs.lemmas.List.{length-map}
 use Rattle.std.proofs.lemmas.List.Elements.{recursion_from_All}
 use Rattle.interval_core.specs.Members.{Span, HasEndsIn}
 use Rattle.relation_core.proofs.FilterLemmas.{head_of}
-use Rattle.packing_core.specs.Covering.{Among}
-use Rattle.packing_core.proofs.AmongLemmas.{among_map, among_flat}
+use Rattle.cell_packing.specs.Covering.{Among}
+use Rattle.cell_packing.proofs.AmongLemmas.{among_map, among_flat}
 use Rattle.cell_core.specs.Boxes.{IsBox}
 use Rattle.cell_core.specs.Cells.{box_numbers, boxes_of}
 use Rattle.cell_core.specs.Numbering.{numbers_of}

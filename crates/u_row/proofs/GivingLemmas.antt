@@ -5,11 +5,11 @@ use Rattle.std.proofs.lemmas.List.{map-append, map_more}
 use Rattle.std.proofs.lemmas.List.Elements.{All-same, All-push}
 use Rattle.point_core.specs.declared.fault.Fault.{Fault}
 use Rattle.interval_core.specs.Members.{Span}
-use Rattle.packing_core.specs.Covering.{Among}
-use Rattle.packing_core.specs.Packed.{firsts}
-use Rattle.packing_core.proofs.AmongLemmas.{among_append}
+use Rattle.cell_packing.specs.Covering.{Among}
+use Rattle.cell_packing.specs.Packed.{firsts}
+use Rattle.cell_packing.proofs.AmongLemmas.{among_append}
 use Rattle.point_core.specs.LeastFault.{IsLeast}
-use Rattle.slice_core.proofs.Turns.{least_iff}
+use Rattle.cell_sweep.proofs.Turns.{least_iff}
 use Rattle.cell_core.specs.Cells.{box_numbers, boxes_of, row_numbers}
 use Rattle.u_row.specs.Rules.{given, labelled}
 use Rattle.u_row.proofs.RuleLemmas.{least_chain}

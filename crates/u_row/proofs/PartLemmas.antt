@@ -17,7 +17,7 @@ use Rattle.value_core.specs.Values.{Row, Heading, Relation, IsRelation, row_cmp}
 use Rattle.relation_core.specs.Agreement.{part_of}
 use Rattle.relation_core.specs.Parts.{no_attribute, attributes_at, projected}
 use Rattle.relation_core.proofs.FilterLemmas.{rows_ascend}
-use Rattle.packing_core.specs.Boxed.{Boxed, packed_boxes, unpacked_boxes}
+use Rattle.cell_packing.specs.Boxed.{Boxed, packed_boxes, unpacked_boxes}
 use Rattle.cell_core.specs.Cells.{row_numbers}
 use Rattle.u_set.specs.Boxes.{AreIntervals, IsShaped, types_at, others, boxed}
 use Rattle.u_set.proofs.BridgeLemmas.{AreRowsOf}
@@ -29,46 +29,46 @@ use Rattle.u_row.proofs.LabelLemmas.{inner_within}
 use Rattle.u_row.proofs.ProjectionLemmas.{types_kept, projected_rows}
 
 -- the labels of a relation's boxes have the inner places
-pub labels_long : (heading : Heading) (acl kept : List ℕ) → All (λ (i : ℕ). i < length heading) kept → (rows : List Row) → ((x : Row) → In x rows → IsShaped heading acl x)
-    → (form : List (Row × List (AnyPoint × AnyPoint))) → map (row_numbers number) form ≡ map (boxed acl) rows → All (λ b. All (λ (i : ℕ). i < length b.0) (inner acl kept)) form
-labels_long heading acl kept within rows shaped form same =
-    All-In (λ b. All (λ (i : ℕ). i < length b.0) (inner acl kept)) form (λ b m.
-    let i : In (row_numbers number b) (map (boxed acl) rows) = subst (In (row_numbers number b)) same ((In-map (row_numbers number) (row_numbers number b) form).1 (b, m, refl)) in
-    let w = (In-map (boxed acl) (row_numbers number b) rows).0 i in
-    let label : b.0 ≡ others acl w.0 = ap (λ (x : Boxed Row). x.0) w.2 in
+pub labels_long : (heading : Heading) (commalist kept : List ℕ) → All (λ (i : ℕ). i < length heading) kept → (rows : List Row) → ((x : Row) → In x rows → IsShaped heading commalist x)
+    → (form : List (Row × List (AnyPoint × AnyPoint))) → map (row_numbers number) form ≡ map (boxed commalist) rows → All (λ b. All (λ (i : ℕ). i < length b.0) (inner commalist kept)) form
+labels_long heading commalist kept within rows shaped form same =
+    All-In (λ b. All (λ (i : ℕ). i < length b.0) (inner commalist kept)) form (λ b m.
+    let i : In (row_numbers number b) (map (boxed commalist) rows) = subst (In (row_numbers number b)) same ((In-map (row_numbers number) (row_numbers number b) form).1 (b, m, refl)) in
+    let w = (In-map (boxed commalist) (row_numbers number b) rows).0 i in
+    let label : b.0 ≡ others commalist w.0 = ap (λ (x : Boxed Row). x.0) w.2 in
     let long = (shaped w.0 w.1).long in
-    All-In (λ (j : ℕ). j < length b.0) (inner acl kept) (λ j n.
-    subst (λ (l : Row). j < length l) (sym label) (inner_within acl kept w.0 (λ k o. subst (λ l. k < l) (sym long) (in_all (λ (p : ℕ). p < length heading) kept within k o)) j n)))
+    All-In (λ (j : ℕ). j < length b.0) (inner commalist kept) (λ j n.
+    subst (λ (l : Row). j < length l) (sym label) (inner_within commalist kept w.0 (λ k o. subst (λ l. k < l) (sym long) (in_all (λ (p : ℕ). p < length heading) kept within k o)) j n)))
 
-module _ (heading : Heading) (r : Relation) (kept acl listed : List ℕ) (ascending : IsTrue (is_set nat_cmp kept)) (within : All (λ (i : ℕ). i < length r.heading) kept)
-    (same : heading ≡ attributes_at kept r.heading) (intervals : AreIntervals heading acl) (is : listed ≡ beneath kept acl) where
+module _ (heading : Heading) (r : Relation) (kept commalist listed : List ℕ) (ascending : IsTrue (is_set nat_cmp kept)) (within : All (λ (i : ℕ). i < length r.heading) kept)
+    (same : heading ≡ attributes_at kept r.heading) (intervals : AreIntervals heading commalist) (is : listed ≡ beneath kept commalist) where
   up : Ascends nat_cmp kept
   up = (is_set-Ascends nat_cmp nat_cmp_total kept).0 ascending
 
-  part_intervals : AreIntervals (attributes_at kept r.heading) acl
-  part_intervals = subst (λ (h : Heading). AreIntervals h acl) same intervals
+  part_intervals : AreIntervals (attributes_at kept r.heading) commalist
+  part_intervals = subst (λ (h : Heading). AreIntervals h commalist) same intervals
 
   pub whole_intervals : AreIntervals r.heading listed
-  whole_intervals = subst (AreIntervals r.heading) (sym is) (beneath_intervals r.heading kept acl within up part_intervals)
+  whole_intervals = subst (AreIntervals r.heading) (sym is) (beneath_intervals r.heading kept commalist within up part_intervals)
 
-  pub whole_types : types_at r.heading listed ≡ types_at heading acl
-  whole_types = ap (types_at r.heading) is ∙ types_kept r.heading kept acl within up part_intervals ∙ ap (λ (h : Heading). types_at h acl) (sym same)
+  pub whole_types : types_at r.heading listed ≡ types_at heading commalist
+  whole_types = ap (types_at r.heading) is ∙ types_kept r.heading kept commalist within up part_intervals ∙ ap (λ (h : Heading). types_at h commalist) (sym same)
 
-  pub whole_count : length listed ≡ length acl
-  whole_count = ap length is ∙ length-map acl (λ j. get_or kept j 0)
+  pub whole_count : length listed ≡ length commalist
+  whole_count = ap length is ∙ length-map commalist (λ j. get_or kept j 0)
 
-  pub whole_rows : IsRelation r → AreRowsOf heading acl (packed acl (projected kept (unpacked (beneath kept acl) r.rows)))
+  pub whole_rows : IsRelation r → AreRowsOf heading commalist (packed commalist (projected kept (unpacked (beneath kept commalist) r.rows)))
       (packed_boxes row_cmp (length listed) (map (relabelled (part_of (inner listed kept))) (unpacked_boxes row_cmp (length listed) (map (boxed listed) r.rows))))
   whole_rows relation =
       let count = whole_count in
       let back = sym is in
       let heads = sym same in
-      let own = projected_rows r.heading kept acl within up part_intervals r.rows (rows_ascend r relation) (relation_shaped r relation (beneath kept acl) (beneath_intervals r.heading kept acl within up part_intervals)) in
-      subst (λ T. T) (λ t. AreRowsOf (heads t) acl (packed acl (projected kept (unpacked (beneath kept acl) r.rows)))
+      let own = projected_rows r.heading kept commalist within up part_intervals r.rows (rows_ascend r relation) (relation_shaped r relation (beneath kept commalist) (beneath_intervals r.heading kept commalist within up part_intervals)) in
+      subst (λ T. T) (λ t. AreRowsOf (heads t) commalist (packed commalist (projected kept (unpacked (beneath kept commalist) r.rows)))
       (packed_boxes row_cmp (sym count t) (map (relabelled (part_of (inner (back t) kept))) (unpacked_boxes row_cmp (sym count t) (map (boxed (back t)) r.rows))))) own
 
 -- positions of the parts' heading are positions of the kept list
-pub positions_kept : (heading from : Heading) (kept acl : List ℕ) → heading ≡ attributes_at kept from → AreIntervals heading acl → All (λ (j : ℕ). j < length kept) acl
-positions_kept heading from kept acl same intervals =
+pub positions_kept : (heading from : Heading) (kept commalist : List ℕ) → heading ≡ attributes_at kept from → AreIntervals heading commalist → All (λ (j : ℕ). j < length kept) commalist
+positions_kept heading from kept commalist same intervals =
     let count : length heading ≡ length kept = ap length same ∙ length-map kept (λ i. get_or from i no_attribute) in
-    λ j d l. subst (λ n. get_or acl j d < n) count (intervals.within j d l)
+    λ j d l. subst (λ n. get_or commalist j d < n) count (intervals.within j d l)

@@ -3,13 +3,13 @@ use Rattle.std.proofs.Common.{◌≡◌, ◌↔◌, ℕ, ℤ, List, [], ◌∷�
 use Rattle.std.specs.Cmp.{IsTotalOrder}
 use Rattle.base_core.proofs.SetLemmas.{Separates}
 use Rattle.interval_core.specs.Members.{Span}
-use Rattle.packing_core.specs.Boxed.{Boxed, packed_boxes, unpacked_boxes, InBoxes}
-use Rattle.packing_core.specs.Packed.{Has}
-use Rattle.packing_core.proofs.AmongLemmas.{among_map}
+use Rattle.cell_packing.specs.Boxed.{Boxed, packed_boxes, unpacked_boxes, InBoxes}
+use Rattle.cell_packing.specs.Packed.{Has}
+use Rattle.cell_packing.proofs.AmongLemmas.{among_map}
 use Rattle.cell_core.specs.Cells.{box_numbers, row_numbers}
-use Rattle.cell_core.proofs.PackedPlaces.{AllHave, packed_from_same}
+use Rattle.cell_core.proofs.PackedGridPoints.{AllHave, packed_from_same}
 use Rattle.cell_core.proofs.UnpackedLemmas.{in_unpacked_boxes}
-use Rattle.cell_core.proofs.UnpackedPlaces.{unpacked_places}
+use Rattle.cell_core.proofs.UnpackedGridPoints.{unpacked_grid_points}
 use Rattle.u_row.specs.Labels.{relabelled}
 
 module _ {P Q : Type 0} (f : P → Q) where
@@ -38,8 +38,8 @@ module _ {P Q : Type 0} (f : P → Q) (order : P → P → Ordering) (o : IsTota
       packed_from_same order' o' same' k (map (relabelled f) r) (map (relabelled f) (unpacked_boxes order k r)) (relabelled_have f k r have) (relabelled_have f k (unpacked_boxes order k r) unpacked_have) (λ l place.
       let a = places_relabelled f r l place in
       let b = places_relabelled f (unpacked_boxes order k r) l place in (
-        λ h. let w = a.0 h in b.1 (w.0, w.1, (unpacked_places order o same k r have w.0 place).1 w.2),
-        λ h. let w = b.0 h in a.1 (w.0, w.1, (unpacked_places order o same k r have w.0 place).0 w.2),
+        λ h. let w = a.0 h in b.1 (w.0, w.1, (unpacked_grid_points order o same k r have w.0 place).1 w.2),
+        λ h. let w = b.0 h in a.1 (w.0, w.1, (unpacked_grid_points order o same k r have w.0 place).0 w.2),
       ))
 
 pub numbers_relabelled : {L M P : Type 0} (f : L → M) (n : P → ℤ) (rows : List (L × List (P × P))) → map (row_numbers n) (map (relabelled f) rows) ≡ map (relabelled f) (map (row_numbers n) rows)

@@ -4,13 +4,13 @@ use Rattle.std.specs.declared.cmp.Ordering.TheVariants.{Greater}
 use Rattle.point_core.specs.declared.fault.Fault.{Fault}
 use Rattle.point_core.specs.Orders.{fault_order}
 use Rattle.interval_core.specs.Members.{Span}
-use Rattle.packing_core.specs.Boxed.{InBoxes}
-use Rattle.packing_core.specs.Covering.{Among}
-use Rattle.packing_core.specs.Packed.{Has, firsts}
-use Rattle.packing_core.proofs.AmongLemmas.{among_flat}
+use Rattle.cell_packing.specs.Boxed.{InBoxes}
+use Rattle.cell_packing.specs.Covering.{Among}
+use Rattle.cell_packing.specs.Packed.{Has, firsts}
+use Rattle.cell_packing.proofs.AmongLemmas.{among_flat}
 use Rattle.point_core.specs.LeastFault.{fault_total, IsAtMost, IsLeast}
 use Rattle.point_core.proofs.LeastFaultLemmas.{not_after_both}
-use Rattle.slice_core.proofs.Turns.{at_most_then}
+use Rattle.cell_sweep.proofs.Turns.{at_most_then}
 use Rattle.u_row.specs.Cutting.{AreCutsFrom, cells_of}
 use Rattle.u_row.specs.Rules.{given, labelled}
 use Rattle.u_row.proofs.CellLemmas.{in_cell, cell_in, has_firsts}

@@ -8,17 +8,17 @@ use Rattle.value_core.specs.Attributes.{among}
 
 -- how many of the positions before this one are not listed
 abbrev pub place_in_label : List ℕ → ℕ → ℕ
-place_in_label acl zero = 0
-place_in_label acl (suc i) = if among acl i then place_in_label acl i else suc (place_in_label acl i)
+place_in_label commalist zero = 0
+place_in_label commalist (suc i) = if among commalist i then place_in_label commalist i else suc (place_in_label commalist i)
 
 -- the positions that are not listed
 abbrev pub unlisted : List ℕ → List ℕ → List ℕ
-unlisted acl kept = filter (λ i. not (among acl i)) kept
+unlisted commalist kept = filter (λ i. not (among commalist i)) kept
 
 -- where the values at the positions stand in the label, but for the listed ones
 abbrev pub inner : List ℕ → List ℕ → List ℕ
-inner acl kept = map (place_in_label acl) (unlisted acl kept)
+inner commalist kept = map (place_in_label commalist) (unlisted commalist kept)
 
 -- the positions under the positions
 abbrev pub beneath : List ℕ → List ℕ → List ℕ
-beneath kept acl = map (λ j. slice_index_or kept j 0) acl
+beneath kept commalist = map (λ j. slice_index_or kept j 0) commalist

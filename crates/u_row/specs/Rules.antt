@@ -3,9 +3,9 @@ use Rattle.std.specs.Prelude.{◌≡◌, ◌↔◌, ℕ, ◌<◌, ℤ, List, [],
 use Rattle.std.specs.declared.cmp.Ordering.{Ordering}
 use Rattle.std.specs.List.Sorted.{IsStrictlySortedBy}
 use Rattle.interval_core.specs.Members.{Span}
-use Rattle.packing_core.specs.Boxed.{boxed_cmp}
-use Rattle.packing_core.specs.Covering.{Among}
-use Rattle.packing_core.specs.Packed.{Has, firsts, packs, points_of}
+use Rattle.cell_packing.specs.Boxed.{boxed_cmp}
+use Rattle.cell_packing.specs.Covering.{Among}
+use Rattle.cell_packing.specs.Packed.{Has, firsts, packs, points_of}
 use Rattle.cell_core.specs.Cells.{box_numbers}
 
 -- the sides under the label that is given, if one is

@@ -3,7 +3,7 @@ ghost use Rattle.std.specs.Prelude.{◌≡◌, ◌↔◌, ℕ, ◌<◌, ◌≤�
 ghost use Rattle.std.specs.List.{All};
 ghost use Rattle.point_core.specs.declared.fault.Fault.{Fault as AnyFault};
 ghost use Rattle.interval_core.specs.Members.{Span};
-ghost use Rattle.packing_core.specs.Boxed.{InBoxes};
+ghost use Rattle.cell_packing.specs.Boxed.{InBoxes};
 ghost use Rattle.value_core.specs.Values.{Row as PlainRow, row_cmp};
 ghost use Rattle.point_core.specs.LeastFault.{IsLeast};
 ghost use Rattle.cell_core.specs.Boxes.{IsBox};

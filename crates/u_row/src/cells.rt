@@ -2,7 +2,7 @@
 ghost use Rattle.std.specs.Prelude.{◌≡◌, ℕ, ◌+◌, ◌<◌, ◌≤◌, List, map, length, get_or, IfOk};
 ghost use Rattle.std.specs.List.{All};
 ghost use Rattle.interval_core.specs.Members.{HasEndsIn};
-ghost use Rattle.packing_core.specs.Covering.{Among};
+ghost use Rattle.cell_packing.specs.Covering.{Among};
 ghost use Rattle.cell_core.specs.Boxes.{IsBox};
 ghost use Rattle.cell_core.specs.Cells.{box_numbers, boxes_of};
 ghost use Rattle.cell_core.specs.Numbering.{numbers_of};

@@ -2,8 +2,8 @@
 ghost use Rattle.std.specs.Prelude.{◌≡◌, ◌⊎◌, ◌++◌, List, map, Err, Some, OnOk};
 ghost use Rattle.std.specs.List.{All};
 ghost use Rattle.interval_core.specs.Members.{Span};
-ghost use Rattle.packing_core.specs.Covering.{Among};
-ghost use Rattle.packing_core.specs.Packed.{firsts};
+ghost use Rattle.cell_packing.specs.Covering.{Among};
+ghost use Rattle.cell_packing.specs.Packed.{firsts};
 ghost use Rattle.point_core.specs.LeastFault.{IsLeast};
 ghost use Rattle.cell_core.specs.Boxes.{IsBox};
 ghost use Rattle.cell_core.specs.Cells.{box_numbers, boxes_of, row_numbers};

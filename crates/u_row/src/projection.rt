@@ -4,7 +4,7 @@ ghost use Rattle.std.specs.List.{All};
 ghost use Rattle.std.specs.Ordering.{nat_cmp};
 ghost use Rattle.base_core.specs.Sets.{is_set};
 ghost use Rattle.point_core.specs.Points.{number, IsPointOf};
-ghost use Rattle.packing_core.specs.Boxed.{packed_boxes, unpacked_boxes};
+ghost use Rattle.cell_packing.specs.Boxed.{packed_boxes, unpacked_boxes};
 ghost use Rattle.value_core.specs.RowPacking.{packed, unpacked};
 ghost use Rattle.value_core.specs.Values.{IsRelation, row_cmp, most_rows};
 ghost use Rattle.relation_core.specs.Agreement.{part_of};
@@ -31,23 +31,23 @@ use value_core::{Heading, MOST_ROWS, Relation, Row, RowsRefuse};
 fn projected_form<L: Ledger>(
     alloc: Global,
     r: &Relation,
-    acl: &[usize],
+    commalist: &[usize],
     kept: &[usize],
     steps: &mut Steps<L>,
 ) -> Result<Vec<BoxRow<AnyType, Row>>, CellRefuse>
-    requires intervals { AreIntervals r.now.heading acl.now }
+    requires intervals { AreIntervals r.now.heading commalist.now }
     requires within { All (λ (i : ℕ). i < length r.now.heading) kept.now }
     ensures relation { IsRelation r.now }
-    ensures rows { IfOk result (λ v. map (row_numbers number) v.items ≡ packed_boxes row_cmp (length acl.now)
-        (map (relabelled (part_of (inner acl.now kept.now))) (unpacked_boxes row_cmp (length acl.now) (map (boxed acl.now) r.now.rows)))) }
-    ensures boxes { IfOk result (λ v. All (λ b. IsBox IsPointOf (types_at r.now.heading acl.now) b.1) v.items) }
-    ensures limit { result ≡ Err OfLimit → most_rows < length (packed_boxes row_cmp (length acl.now)
-        (map (relabelled (part_of (inner acl.now kept.now))) (unpacked_boxes row_cmp (length acl.now) (map (boxed acl.now) r.now.rows)))) }
-    ensures cost { steps.new ≤ steps.old + bound (length r.now.rows) (length acl.now) }
+    ensures rows { IfOk result (λ v. map (row_numbers number) v.items ≡ packed_boxes row_cmp (length commalist.now)
+        (map (relabelled (part_of (inner commalist.now kept.now))) (unpacked_boxes row_cmp (length commalist.now) (map (boxed commalist.now) r.now.rows)))) }
+    ensures boxes { IfOk result (λ v. All (λ b. IsBox IsPointOf (types_at r.now.heading commalist.now) b.1) v.items) }
+    ensures limit { result ≡ Err OfLimit → most_rows < length (packed_boxes row_cmp (length commalist.now)
+        (map (relabelled (part_of (inner commalist.now kept.now))) (unpacked_boxes row_cmp (length commalist.now) (map (boxed commalist.now) r.now.rows)))) }
+    ensures cost { steps.new ≤ steps.old + bound (length r.now.rows) (length commalist.now) }
 {
-    let types = types_at(alloc, r.heading().attributes(), acl)?;
-    let boxes = to_boxes(alloc, r, acl)?;
-    let places = inner(alloc, acl, kept)?;
+    let types = types_at(alloc, r.heading().attributes(), commalist)?;
+    let boxes = to_boxes(alloc, r, commalist)?;
+    let places = inner(alloc, commalist, kept)?;
     u_project(
         alloc,
         types.as_slice(),
@@ -63,7 +63,7 @@ fn projected_form<L: Ledger>(
 pub fn projected<L: Ledger>(
     alloc: Global,
     heading: &Heading,
-    acl: &[usize],
+    commalist: &[usize],
     kept: &[usize],
     r: &Relation,
     steps: &mut Steps<L>,
@@ -71,15 +71,15 @@ pub fn projected<L: Ledger>(
     requires ascending { IsTrue (is_set nat_cmp kept.now) }
     requires within { All (λ (i : ℕ). i < length r.now.heading) kept.now }
     requires heading { heading.now ≡ attributes_at kept.now r.now.heading }
-    requires intervals { AreIntervals heading.now acl.now }
-    ensures rows { let rows = packed acl.now (projected kept.now (unpacked (beneath kept.now acl.now) r.now.rows)) in
+    requires intervals { AreIntervals heading.now commalist.now }
+    ensures rows { let rows = packed commalist.now (projected kept.now (unpacked (beneath kept.now commalist.now) r.now.rows)) in
         MatchResult result (IsAnswer heading.now rows) (IsRefusal rows) }
-    ensures cost { steps.new ≤ steps.old + bound (length r.now.rows) (length acl.now) }
+    ensures cost { steps.new ≤ steps.old + bound (length r.now.rows) (length commalist.now) }
 {
-    let listed = beneath(alloc, kept, acl)?;
+    let listed = beneath(alloc, kept, commalist)?;
     let whole = heading.copy(alloc)?;
     match projected_form(alloc, r, listed.as_slice(), kept, steps) {
-        Ok(form) => from_boxes(alloc, whole, acl, form),
+        Ok(form) => from_boxes(alloc, whole, commalist, form),
         Err(refuse) => Err(refusal(refuse)),
     }
 }

@@ -1,8 +1,8 @@
 // What a rule gives on a row.
 ghost use Rattle.std.specs.Prelude.{◌≡◌, ◌⊎◌, ◌↔◌, ◌+◌, ◌≤◌, ◌++◌, ℤ, List, map, length, Ok, Err, Some, OnOk};
 ghost use Rattle.std.specs.List.{All};
-ghost use Rattle.packing_core.specs.Boxed.{InBoxes};
-ghost use Rattle.packing_core.specs.Packed.{Has};
+ghost use Rattle.cell_packing.specs.Boxed.{InBoxes};
+ghost use Rattle.cell_packing.specs.Packed.{Has};
 ghost use Rattle.value_core.specs.Values.{Row as PlainRow};
 ghost use Rattle.point_core.specs.LeastFault.{IsLeast};
 ghost use Rattle.cell_core.specs.Boxes.{IsBox};

@@ -3,8 +3,8 @@ ghost use Rattle.std.specs.Prelude.{◌≡◌, ℕ, ◌<◌, ℤ, ◌≤ℤ◌, 
 ghost use Rattle.std.specs.List.{All};
 ghost use Rattle.point_core.specs.declared.fault.Fault.{Fault as AnyFault};
 ghost use Rattle.interval_core.specs.Members.{Span, HasEndsIn};
-ghost use Rattle.packing_core.specs.Covering.{Among};
-ghost use Rattle.packing_core.specs.Packed.{Has, firsts};
+ghost use Rattle.cell_packing.specs.Covering.{Among};
+ghost use Rattle.cell_packing.specs.Packed.{Has, firsts};
 ghost use Rattle.value_core.specs.Values.{Row as PlainRow};
 ghost use Rattle.cell_core.specs.Boxes.{IsBox};
 ghost use Rattle.cell_core.specs.Cells.{box_numbers};

@@ -18,7 +18,7 @@ use Rattle.base_core.proofs.SetOperatorLemmas.{In-permutation}
 use Rattle.base_core.proofs.IntLemmas.{int_le-le}
 use Rattle.point_core.specs.declared.any_type.AnyType.{AnyType}
 use Rattle.point_core.specs.Points.{line_of, is_number}
-use Rattle.packing_core.proofs.PackedBoxes.{among_in}
+use Rattle.cell_packing.proofs.PackedBoxes.{among_in}
 use Rattle.value_core.specs.declared.kind.Kind.TheVariants.{Span as SpanOf}
 use Rattle.value_core.specs.declared.value.Value.{Value as Held}
 use Rattle.value_core.specs.Attributes.{value_at, span_of}

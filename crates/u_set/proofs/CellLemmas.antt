@@ -6,19 +6,19 @@ use Rattle.std.specs.List.Sorted.{IsStrictlySortedBy}
 use Rattle.std.proofs.lemmas.List.Elements.{recursion_from_All}
 use Rattle.base_core.specs.Sets.{common_of, difference_of}
 use Rattle.base_core.proofs.SetLemmas.{Separates}
-use Rattle.packing_core.specs.Boxed.{Boxed, boxed_cmp, packed_boxes, unpacked_boxes, InBoxes}
-use Rattle.packing_core.specs.Covering.{Among}
-use Rattle.packing_core.specs.Packed.{no_cells}
-use Rattle.slice_core.specs.Rows.{key_cmp}
-use Rattle.slice_core.specs.PackedRows.{HasRow}
-use Rattle.box_core.specs.Answers.{IsPackedCover, IsBoxOf, InBoth, InFirst}
+use Rattle.cell_packing.specs.Boxed.{Boxed, boxed_cmp, packed_boxes, unpacked_boxes, InBoxes}
+use Rattle.cell_packing.specs.Covering.{Among}
+use Rattle.cell_packing.specs.Packed.{no_cells}
+use Rattle.cell_sweep.specs.Rows.{key_cmp}
+use Rattle.cell_sweep.specs.PackedRows.{HasRow}
+use Rattle.cell_boxes.specs.Answers.{IsPackedCover, IsBoxOf, InBoth, InFirst}
 use Rattle.cell_core.specs.Boxes.{IsBox}
 use Rattle.cell_core.specs.Cells.{grids_of, grid_row, row_numbers}
 use Rattle.cell_core.specs.Numbering.{IsGrid}
 use Rattle.cell_core.proofs.BackLemmas.{box_length}
 use Rattle.cell_core.proofs.KeyLemmas.{rows_have}
-use Rattle.cell_core.proofs.PackedPlaces.{AllHave}
-use Rattle.cell_kernels.proofs.KernelLemmas.{AreOn, grids, left_on, right_on, left_places, right_places, fewer_on, fewer_places, within, form}
+use Rattle.cell_core.proofs.PackedGridPoints.{AllHave}
+use Rattle.u_set.proofs.KernelLemmas.{AreOn, grids, left_on, right_on, left_grid_points, right_grid_points, fewer_on, fewer_grid_points, within, form}
 use Rattle.u_set.specs.FewerCells.{AreFewerCells}
 use Rattle.u_set.proofs.CommonLemmas.{places_common, places_difference, common_have, difference_have}
 
@@ -58,14 +58,14 @@ module _ {T P L : Type 0} (n : P → ℤ) (has : T → P → Type 0) (high : T �
   module _ (o : IsTotalOrder order) (same : Separates order) (l : L) (p : List ℤ) where
     lefts_at : InBoxes (map (row_numbers n) left) l p ↔ InBoxes (map (grid_row ns) ls) l p
     lefts_at =
-        let a = left_places n has high point ts left right ss cells.left_cells cells.right_cells cells.over l p in
-        let b = fewer_places n has high point ts left right ss cells.left_cells cells.right_cells cells.over order cells.left_cells ls on_left cells.lefts o same l p in
+        let a = left_grid_points n has high point ts left right ss cells.left_cells cells.right_cells cells.over l p in
+        let b = fewer_grid_points n has high point ts left right ss cells.left_cells cells.right_cells cells.over order cells.left_cells ls on_left cells.lefts o same l p in
         (λ h. b.1 (a.1 h), λ h. a.0 (b.0 h))
 
     rights_at : InBoxes (map (row_numbers n) right) l p ↔ InBoxes (map (grid_row ns) rs) l p
     rights_at =
-        let a = right_places n has high point ts left right ss cells.left_cells cells.right_cells cells.over l p in
-        let b = fewer_places n has high point ts left right ss cells.left_cells cells.right_cells cells.over order cells.right_cells rs on_right cells.rights o same l p in
+        let a = right_grid_points n has high point ts left right ss cells.left_cells cells.right_cells cells.over l p in
+        let b = fewer_grid_points n has high point ts left right ss cells.left_cells cells.right_cells cells.over order cells.right_cells rs on_right cells.rights o same l p in
         (λ h. b.1 (a.1 h), λ h. a.0 (b.0 h))
 
   -- ---- an operator: at each place F gives labels of those that both have there

@@ -10,12 +10,12 @@ use Rattle.value_core.specs.Order.{row_total, row_separates}
 use Rattle.value_core.specs.RowPacking.{packed, unpacked}
 use Rattle.value_core.specs.Values.{Row, Heading, row_cmp}
 use Rattle.relation_core.specs.Operators.{intersected, subtracted}
-use Rattle.packing_core.specs.Boxed.{Boxed, boxed_cmp, packed_boxes, unpacked_boxes, InBoxes}
-use Rattle.packing_core.specs.Packed.{Has}
-use Rattle.packing_core.proofs.PackedBoxes.{among_in}
-use Rattle.cell_core.proofs.PackedPlaces.{AllHave, place_length}
+use Rattle.cell_packing.specs.Boxed.{Boxed, boxed_cmp, packed_boxes, unpacked_boxes, InBoxes}
+use Rattle.cell_packing.specs.Packed.{Has}
+use Rattle.cell_packing.proofs.PackedBoxes.{among_in}
+use Rattle.cell_core.proofs.PackedGridPoints.{AllHave, grid_point_length}
 use Rattle.cell_core.proofs.UnpackedLemmas.{firsts_at, are_points, length_at, in_unpacked_boxes}
-use Rattle.cell_core.proofs.UnpackedPlaces.{has_place, unpacked_places}
+use Rattle.cell_core.proofs.UnpackedGridPoints.{has_grid_point, unpacked_grid_points}
 use Rattle.u_set.specs.Boxes.{AreIntervals, IsShaped, boxed, unboxed}
 use Rattle.u_set.proofs.BoxLemmas.{unboxed-boxed}
 use Rattle.u_set.proofs.BridgeLemmas.{box_cmp, box_total, box_separates, same_places, AreRowsOf, boxes_have, unpacked_image, unpacked_ascends, closed_by_boxes}
@@ -31,11 +31,11 @@ module _ {P : Type 0} (order : P → P → Ordering) (o : IsTotalOrder order) (s
   at_points : (r : List (Boxed P)) → AllHave k r → (l : P) (p : List ℤ) → InBoxes r l p → In (l, map at_point p) (unpacked_boxes order k r)
   at_points r h l p g =
       (among_in (l, map at_point p) (unpacked_boxes order k r)).0
-      ((in_unpacked_boxes order o same k r h (l, map at_point p)).1 (length_at p ∙ place_length k r h l p g, (are_points p, subst (InBoxes r l) (sym (firsts_at p)) g)))
+      ((in_unpacked_boxes order o same k r h (l, map at_point p)).1 (length_at p ∙ grid_point_length k r h l p g, (are_points p, subst (InBoxes r l) (sym (firsts_at p)) g)))
 
   -- and no other has a box of the point
   from_points : (r : List (Boxed P)) → AllHave k r → (l : P) (p : List ℤ) (y : List Span) → In (l, y) (unpacked_boxes order k r) → Has y p → InBoxes r l p
-  from_points r h l p y i b = (unpacked_places order o same k r h l p).0 (y, (among_in (l, y) (unpacked_boxes order k r)).1 i, b)
+  from_points r h l p y i b = (unpacked_grid_points order o same k r h l p).0 (y, (among_in (l, y) (unpacked_boxes order k r)).1 i, b)
 
   is_point : (r : List (Boxed P)) → AllHave k r → (l : P) (p : List ℤ) (y : List Span) → In (l, y) (unpacked_boxes order k r) → Has y p → y ≡ map at_point p
   is_point r h l p y i b = points_are y p ((in_unpacked_boxes order o same k r h (l, y)).0 ((among_in (l, y) (unpacked_boxes order k r)).1 i)).1.0 b
@@ -55,7 +55,7 @@ module _ {P : Type 0} (order : P → P → Ordering) (o : IsTotalOrder order) (s
       λ h. (
         map at_point p,
         (among_in (l, map at_point p) (common_of B L R)).1 ((In-common_of B (boxed_total o) (boxed_separates same) (l, map at_point p) L R).1 (at_points left hl l p h.0, at_points right hr l p h.1)),
-        has_place p,
+        has_grid_point p,
       ),
     )
 
@@ -69,8 +69,8 @@ module _ {P : Type 0} (order : P → P → Ordering) (o : IsTotalOrder order) (s
           ),
       λ h. (
         map at_point p,
-        (among_in (l, map at_point p) (difference_of B L R)).1 ((In-difference_of B (boxed_total o) (boxed_separates same) (l, map at_point p) L R).1 (at_points left hl l p h.0, λ i. h.1 (from_points right hr l p (map at_point p) i (has_place p)))),
-        has_place p,
+        (among_in (l, map at_point p) (difference_of B L R)).1 ((In-difference_of B (boxed_total o) (boxed_separates same) (l, map at_point p) L R).1 (at_points left hl l p h.0, λ i. h.1 (from_points right hr l p (map at_point p) i (has_grid_point p)))),
+        has_grid_point p,
       ),
     )
 
@@ -85,64 +85,64 @@ module _ {P : Type 0} (order : P → P → Ordering) (o : IsTotalOrder order) (s
 
 -- ---- rows
 
-module _ (heading : Heading) (acl : List ℕ) (intervals : AreIntervals heading acl) (r s : List Row) (up : Ascends row_cmp r) (up' : Ascends row_cmp s)
-    (shaped : (x : Row) → In x r → IsShaped heading acl x) (shaped' : (x : Row) → In x s → IsShaped heading acl x) where
+module _ (heading : Heading) (commalist : List ℕ) (intervals : AreIntervals heading commalist) (r s : List Row) (up : Ascends row_cmp r) (up' : Ascends row_cmp s)
+    (shaped : (x : Row) → In x r → IsShaped heading commalist x) (shaped' : (x : Row) → In x s → IsShaped heading commalist x) where
   abbrev left_boxes : List (Boxed Row)
-  left_boxes = unpacked_boxes row_cmp (length acl) (map (boxed acl) r)
+  left_boxes = unpacked_boxes row_cmp (length commalist) (map (boxed commalist) r)
 
   abbrev right_boxes : List (Boxed Row)
-  right_boxes = unpacked_boxes row_cmp (length acl) (map (boxed acl) s)
+  right_boxes = unpacked_boxes row_cmp (length commalist) (map (boxed commalist) s)
 
   -- an unpacked left row is one of the right rows where its box is one of the right boxes
-  in_right : (x : Row) → In x (unpacked acl r) → In x (unpacked acl s) ↔ In (boxed acl x) right_boxes
+  in_right : (x : Row) → In x (unpacked commalist r) → In x (unpacked commalist s) ↔ In (boxed commalist x) right_boxes
   in_right x i =
-      In-image row_cmp row_total row_separates box_cmp box_total box_separates (IsShaped heading acl) (boxed acl) (unboxed heading acl) (unboxed-boxed heading acl intervals)
-      (unpacked acl s) right_boxes (unpacked_image heading acl intervals s up' shaped') x ((unpacked_image heading acl intervals r up shaped).shaped x i)
+      In-image row_cmp row_total row_separates box_cmp box_total box_separates (IsShaped heading commalist) (boxed commalist) (unboxed heading commalist) (unboxed-boxed heading commalist intervals)
+      (unpacked commalist s) right_boxes (unpacked_image heading commalist intervals s up' shaped') x ((unpacked_image heading commalist intervals r up shaped).shaped x i)
 
-  common_members : (x : Boxed Row) → In x (map (boxed acl) (intersected (unpacked acl r) (unpacked acl s))) ↔ In x (common_of box_cmp left_boxes right_boxes)
+  common_members : (x : Boxed Row) → In x (map (boxed commalist) (intersected (unpacked commalist r) (unpacked commalist s))) ↔ In x (common_of box_cmp left_boxes right_boxes)
   common_members x =
-      let left = unpacked_image heading acl intervals r up shaped in
-      let all = In-map (boxed acl) x (intersected (unpacked acl r) (unpacked acl s)) in
+      let left = unpacked_image heading commalist intervals r up shaped in
+      let all = In-map (boxed commalist) x (intersected (unpacked commalist r) (unpacked commalist s)) in
       let boxes = In-common_of box_cmp box_total box_separates x left_boxes right_boxes in (
         λ i.
             let w = all.0 i in
-            let both = (In-common_of row_cmp row_total row_separates w.0 (unpacked acl r) (unpacked acl s)).0 w.1 in
+            let both = (In-common_of row_cmp row_total row_separates w.0 (unpacked commalist r) (unpacked commalist s)).0 w.1 in
             boxes.1 (subst (λ z. In z left_boxes) (sym w.2) (left.to w.0 both.0), subst (λ z. In z right_boxes) (sym w.2) ((in_right w.0 both.0).0 both.1)),
         λ i.
             let b = boxes.0 i in
             let w = left.from x b.0 in
-            all.1 (w.0, (In-common_of row_cmp row_total row_separates w.0 (unpacked acl r) (unpacked acl s)).1 (w.1, (in_right w.0 w.1).1 (subst (λ z. In z right_boxes) w.2 b.1)), w.2),
+            all.1 (w.0, (In-common_of row_cmp row_total row_separates w.0 (unpacked commalist r) (unpacked commalist s)).1 (w.1, (in_right w.0 w.1).1 (subst (λ z. In z right_boxes) w.2 b.1)), w.2),
       )
 
-  difference_members : (x : Boxed Row) → In x (map (boxed acl) (subtracted (unpacked acl r) (unpacked acl s))) ↔ In x (difference_of box_cmp left_boxes right_boxes)
+  difference_members : (x : Boxed Row) → In x (map (boxed commalist) (subtracted (unpacked commalist r) (unpacked commalist s))) ↔ In x (difference_of box_cmp left_boxes right_boxes)
   difference_members x =
-      let left = unpacked_image heading acl intervals r up shaped in
-      let all = In-map (boxed acl) x (subtracted (unpacked acl r) (unpacked acl s)) in
+      let left = unpacked_image heading commalist intervals r up shaped in
+      let all = In-map (boxed commalist) x (subtracted (unpacked commalist r) (unpacked commalist s)) in
       let boxes = In-difference_of box_cmp box_total box_separates x left_boxes right_boxes in (
         λ i.
             let w = all.0 i in
-            let both = (In-difference_of row_cmp row_total row_separates w.0 (unpacked acl r) (unpacked acl s)).0 w.1 in
+            let both = (In-difference_of row_cmp row_total row_separates w.0 (unpacked commalist r) (unpacked commalist s)).0 w.1 in
             boxes.1 (subst (λ z. In z left_boxes) (sym w.2) (left.to w.0 both.0), λ j. both.1 ((in_right w.0 both.0).1 (subst (λ z. In z right_boxes) w.2 j))),
         λ i.
             let b = boxes.0 i in
             let w = left.from x b.0 in
-            all.1 (w.0, (In-difference_of row_cmp row_total row_separates w.0 (unpacked acl r) (unpacked acl s)).1 (w.1, λ j. b.1 (subst (λ z. In z right_boxes) (sym w.2) ((in_right w.0 w.1).0 j))), w.2),
+            all.1 (w.0, (In-difference_of row_cmp row_total row_separates w.0 (unpacked commalist r) (unpacked commalist s)).1 (w.1, λ j. b.1 (subst (λ z. In z right_boxes) (sym w.2) ((in_right w.0 w.1).0 j))), w.2),
       )
 
   -- what both unpacked relations have in common, packed, is that of the boxes
-  pub intersected_rows : AreRowsOf heading acl (packed acl (intersected (unpacked acl r) (unpacked acl s))) (packed_boxes row_cmp (length acl) (common_of box_cmp left_boxes right_boxes))
+  pub intersected_rows : AreRowsOf heading commalist (packed commalist (intersected (unpacked commalist r) (unpacked commalist s))) (packed_boxes row_cmp (length commalist) (common_of box_cmp left_boxes right_boxes))
   intersected_rows =
-      closed_by_boxes heading acl intervals (intersected (unpacked acl r) (unpacked acl s))
-      (Ascends-common_of row_cmp row_total row_separates (unpacked acl r) (unpacked acl s) (unpacked_ascends heading acl intervals r up shaped))
-      (λ x i. (unpacked_image heading acl intervals r up shaped).shaped x ((In-common_of row_cmp row_total row_separates x (unpacked acl r) (unpacked acl s)).0 i).0)
-      (common_of box_cmp left_boxes right_boxes) (common_have row_cmp row_total row_separates (length acl) (map (boxed acl) r) (map (boxed acl) s) (boxes_have heading acl intervals r) (boxes_have heading acl intervals s))
-      (same_places (map (boxed acl) (intersected (unpacked acl r) (unpacked acl s))) (common_of box_cmp left_boxes right_boxes) common_members)
+      closed_by_boxes heading commalist intervals (intersected (unpacked commalist r) (unpacked commalist s))
+      (Ascends-common_of row_cmp row_total row_separates (unpacked commalist r) (unpacked commalist s) (unpacked_ascends heading commalist intervals r up shaped))
+      (λ x i. (unpacked_image heading commalist intervals r up shaped).shaped x ((In-common_of row_cmp row_total row_separates x (unpacked commalist r) (unpacked commalist s)).0 i).0)
+      (common_of box_cmp left_boxes right_boxes) (common_have row_cmp row_total row_separates (length commalist) (map (boxed commalist) r) (map (boxed commalist) s) (boxes_have heading commalist intervals r) (boxes_have heading commalist intervals s))
+      (same_places (map (boxed commalist) (intersected (unpacked commalist r) (unpacked commalist s))) (common_of box_cmp left_boxes right_boxes) common_members)
 
   -- and so is what the first has alone
-  pub subtracted_rows : AreRowsOf heading acl (packed acl (subtracted (unpacked acl r) (unpacked acl s))) (packed_boxes row_cmp (length acl) (difference_of box_cmp left_boxes right_boxes))
+  pub subtracted_rows : AreRowsOf heading commalist (packed commalist (subtracted (unpacked commalist r) (unpacked commalist s))) (packed_boxes row_cmp (length commalist) (difference_of box_cmp left_boxes right_boxes))
   subtracted_rows =
-      closed_by_boxes heading acl intervals (subtracted (unpacked acl r) (unpacked acl s))
-      (Ascends-difference_of row_cmp row_total row_separates (unpacked acl r) (unpacked acl s) (unpacked_ascends heading acl intervals r up shaped))
-      (λ x i. (unpacked_image heading acl intervals r up shaped).shaped x ((In-difference_of row_cmp row_total row_separates x (unpacked acl r) (unpacked acl s)).0 i).0)
-      (difference_of box_cmp left_boxes right_boxes) (difference_have row_cmp row_total row_separates (length acl) (map (boxed acl) r) (map (boxed acl) s) (boxes_have heading acl intervals r) (boxes_have heading acl intervals s))
-      (same_places (map (boxed acl) (subtracted (unpacked acl r) (unpacked acl s))) (difference_of box_cmp left_boxes right_boxes) difference_members)
+      closed_by_boxes heading commalist intervals (subtracted (unpacked commalist r) (unpacked commalist s))
+      (Ascends-difference_of row_cmp row_total row_separates (unpacked commalist r) (unpacked commalist s) (unpacked_ascends heading commalist intervals r up shaped))
+      (λ x i. (unpacked_image heading commalist intervals r up shaped).shaped x ((In-difference_of row_cmp row_total row_separates x (unpacked commalist r) (unpacked commalist s)).0 i).0)
+      (difference_of box_cmp left_boxes right_boxes) (difference_have row_cmp row_total row_separates (length commalist) (map (boxed commalist) r) (map (boxed commalist) s) (boxes_have heading commalist intervals r) (boxes_have heading commalist intervals s))
+      (same_places (map (boxed commalist) (subtracted (unpacked commalist r) (unpacked commalist s))) (difference_of box_cmp left_boxes right_boxes) difference_members)

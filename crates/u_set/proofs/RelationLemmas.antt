@@ -12,7 +12,7 @@ use Rattle.value_core.specs.Values.{Row, Heading, Relation, IsRelation, rows_of,
 use Rattle.value_core.specs.declared.refuse.RowsRefuse.{RowsRefuse}
 use Rattle.value_core.specs.declared.refuse.RowsRefuse.TheVariants.{TooMany, Memory}
 use Rattle.relation_core.specs.Answers.{IsAnswer, IsRefusal}
-use Rattle.packing_core.specs.Boxed.{Boxed}
+use Rattle.cell_packing.specs.Boxed.{Boxed}
 use Rattle.cell_core.specs.Cells.{row_numbers}
 use Rattle.cell_core.specs.declared.boxes.CellRefuse.{CellRefuse}
 use Rattle.cell_core.specs.declared.boxes.CellRefuse.TheVariants.{Limit as OfLimit}
@@ -22,22 +22,22 @@ use Rattle.u_set.proofs.BridgeLemmas.{AreRowsOf}
 
 -- ---- the rows of a relation
 
-pub relation_shaped : (r : Relation) → IsRelation r → (acl : List ℕ) → AreIntervals r.heading acl → (x : Row) → In x r.rows → IsShaped r.heading acl x
-relation_shaped r is acl intervals x i = shaped_from_fit r.heading acl intervals x ((list_all-In (fits_heading r.heading) r.rows).0 is.fitting x i)
+pub relation_shaped : (r : Relation) → IsRelation r → (commalist : List ℕ) → AreIntervals r.heading commalist → (x : Row) → In x r.rows → IsShaped r.heading commalist x
+relation_shaped r is commalist intervals x i = shaped_from_fit r.heading commalist intervals x ((list_all-In (fits_heading r.heading) r.rows).0 is.fitting x i)
 
 -- of one of two relations with one heading
-pub shaped_under : (heading : Heading) (r : Relation) → heading ≡ r.heading → IsRelation r → (acl : List ℕ) → AreIntervals heading acl → (x : Row) → In x r.rows → IsShaped heading acl x
-shaped_under heading r same is acl intervals x i =
-    subst (λ (h : Heading). IsShaped h acl x) (sym same) (relation_shaped r is acl (subst (λ (h : Heading). AreIntervals h acl) same intervals) x i)
+pub shaped_under : (heading : Heading) (r : Relation) → heading ≡ r.heading → IsRelation r → (commalist : List ℕ) → AreIntervals heading commalist → (x : Row) → In x r.rows → IsShaped heading commalist x
+shaped_under heading r same is commalist intervals x i =
+    subst (λ (h : Heading). IsShaped h commalist x) (sym same) (relation_shaped r is commalist (subst (λ (h : Heading). AreIntervals h commalist) same intervals) x i)
 
 -- ---- boxes of points, read as the boxes of some rows
 
-module _ (heading : Heading) (acl : List ℕ) (rows : List Row) (boxes : List (Boxed Row)) (are : AreRowsOf heading acl rows boxes) where
+module _ (heading : Heading) (commalist : List ℕ) (rows : List Row) (boxes : List (Boxed Row)) (are : AreRowsOf heading commalist rows boxes) where
   module _ (form : List (Row × List (AnyPoint × AnyPoint))) (same : map (row_numbers number) form ≡ boxes) where
-    pub rows_read : rows_of (map (unboxed heading acl) (map (row_numbers number) form)) ≡ rows
-    rows_read = ap (λ bs. rows_of (map (unboxed heading acl) bs)) same ∙ sym are.are
+    pub rows_read : rows_of (map (unboxed heading commalist) (map (row_numbers number) form)) ≡ rows
+    rows_read = ap (λ bs. rows_of (map (unboxed heading commalist) bs)) same ∙ sym are.are
 
-    pub labels_read : All (λ b. IsTrue (fits_heading (others acl heading) b.0)) form
+    pub labels_read : All (λ b. IsTrue (fits_heading (others commalist heading) b.0)) form
     labels_read = λ j d l.
         let b = get_or form j d in
         let i : In b form = In-from_Contains form b (Contains-get_or form j d l) in
@@ -49,10 +49,10 @@ module _ (heading : Heading) (acl : List ℕ) (rows : List Row) (boxes : List (B
 
   -- so what is answered to the boxes is the answer of the rows
   pub answer_read : (form : List (Row × List (AnyPoint × AnyPoint))) → map (row_numbers number) form ≡ boxes → (h : Heading) → h ≡ heading → (result : Result Relation RowsRefuse)
-      → (let read = rows_of (map (unboxed h acl) (map (row_numbers number) form)) in MatchResult result (IsAnswer h read) (IsRefusal read))
+      → (let read = rows_of (map (unboxed h commalist) (map (row_numbers number) form)) in MatchResult result (IsAnswer h read) (IsRefusal read))
       → MatchResult result (IsAnswer heading rows) (IsRefusal rows)
   answer_read form same h e result given =
-      let read : rows_of (map (unboxed h acl) (map (row_numbers number) form)) ≡ rows = (λ t. rows_of (map (unboxed (e t) acl) (map (row_numbers number) form))) ∙ rows_read form same in
+      let read : rows_of (map (unboxed h commalist) (map (row_numbers number) form)) ≡ rows = (λ t. rows_of (map (unboxed (e t) commalist) (map (row_numbers number) form))) ∙ rows_read form same in
       subst (λ (k : Heading). MatchResult result (IsAnswer k rows) (IsRefusal rows)) e
       (subst (λ (s : List Row). MatchResult result (IsAnswer h s) (IsRefusal s)) read given)
 

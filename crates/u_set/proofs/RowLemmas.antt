@@ -15,7 +15,7 @@ use Rattle.value_core.specs.declared.value.Value.{Value as Held}
 use Rattle.value_core.specs.Plain.{plain}
 use Rattle.value_core.specs.Values.{Name, Value, Row, Heading, truth, interval, fits, fits_heading}
 use Rattle.relation_core.specs.Parts.{kind_at}
-use Rattle.packing_core.specs.Packed.{nowhere}
+use Rattle.cell_packing.specs.Packed.{nowhere}
 use Rattle.cell_core.specs.Boxes.{IsBox}
 use Rattle.cell_core.specs.Cells.{box_numbers}
 use Rattle.cell_core.specs.Numbering.{numbers_of}
@@ -25,21 +25,21 @@ use Rattle.u_set.proofs.BoxLemmas.{listed_at, value_at-get}
 
 -- ---- the side of a listed attribute
 
-pub side_at : (heading : Heading) (acl : List ℕ) (i : ℕ) (sides : List (AnyPoint × AnyPoint)) → IsTrue (among acl i) → IsBox IsPointOf (types_at heading acl) sides
-    → (place_of acl i < length sides) × ((d : AnyPoint × AnyPoint) → HasEndsIn IsPointOf (type_of (kind_at heading i)) (get_or sides (place_of acl i) d)
-    × (get_or (box_numbers number sides) (place_of acl i) nowhere ≡ span number (get_or sides (place_of acl i) d)))
-side_at heading acl i sides listed box =
-    let p = listed_at acl i listed in
-    let many : length sides ≡ length acl = box_length IsPointOf (types_at heading acl) sides box ∙ length-map acl (λ j. type_of (kind_at heading j)) in
-    let here : place_of acl i < length (types_at heading acl) = subst (λ n. place_of acl i < n) (sym (length-map acl (λ j. type_of (kind_at heading j)))) p.0 in
-    let l : place_of acl i < length sides = omega (arith, p.0) in
+pub side_at : (heading : Heading) (commalist : List ℕ) (i : ℕ) (sides : List (AnyPoint × AnyPoint)) → IsTrue (among commalist i) → IsBox IsPointOf (types_at heading commalist) sides
+    → (place_of commalist i < length sides) × ((d : AnyPoint × AnyPoint) → HasEndsIn IsPointOf (type_of (kind_at heading i)) (get_or sides (place_of commalist i) d)
+    × (get_or (box_numbers number sides) (place_of commalist i) nowhere ≡ span number (get_or sides (place_of commalist i) d)))
+side_at heading commalist i sides listed box =
+    let p = listed_at commalist i listed in
+    let many : length sides ≡ length commalist = box_length IsPointOf (types_at heading commalist) sides box ∙ length-map commalist (λ j. type_of (kind_at heading j)) in
+    let here : place_of commalist i < length (types_at heading commalist) = subst (λ n. place_of commalist i < n) (sym (length-map commalist (λ j. type_of (kind_at heading j)))) p.0 in
+    let l : place_of commalist i < length sides = omega (arith, p.0) in
     let t : AnyType = type_of (kind_at heading i) in
-    let same : get_or (types_at heading acl) (place_of acl i) t ≡ type_of (kind_at heading i) =
-    get_or-map (λ j. type_of (kind_at heading j)) acl (place_of acl i) 0 t p.0 ∙ ap (λ j. type_of (kind_at heading j)) p.1 in (
+    let same : get_or (types_at heading commalist) (place_of commalist i) t ≡ type_of (kind_at heading i) =
+    get_or-map (λ j. type_of (kind_at heading j)) commalist (place_of commalist i) 0 t p.0 ∙ ap (λ j. type_of (kind_at heading j)) p.1 in (
       l,
       λ d. (
-        subst (λ u. HasEndsIn IsPointOf u (get_or sides (place_of acl i) d)) same (box_ends IsPointOf (types_at heading acl) sides box (place_of acl i) t d here),
-        get_or-map (numbers_of number) sides (place_of acl i) d nowhere l,
+        subst (λ u. HasEndsIn IsPointOf u (get_or sides (place_of commalist i) d)) same (box_ends IsPointOf (types_at heading commalist) sides box (place_of commalist i) t d here),
+        get_or-map (numbers_of number) sides (place_of commalist i) d nowhere l,
       ),
     )
 
@@ -70,7 +70,7 @@ pub first_and_rest : {X : Type 0} (xs : List X) (d : X) → 0 < length xs → xs
 first_and_rest [] d h = absurd (omega arith)
 first_and_rest (x ∷ xs) d h = refl
 
-module _ (heading : Heading) (acl : List ℕ) (i : ℕ) (l : i < length heading) where
+module _ (heading : Heading) (commalist : List ℕ) (i : ℕ) (l : i < length heading) where
   abbrev here : Name × Kind
   here = get_or heading i ([], Truth)
 
@@ -83,42 +83,42 @@ module _ (heading : Heading) (acl : List ℕ) (i : ℕ) (l : i < length heading)
   next : suc i ≡ i + 1
   next = omega arith
 
-  pub unboxed_listed : (label : Row) (spans : List Span) → among acl i ≡ true
-      → unboxed_from i acl (drop i heading) label spans ≡ interval (line_of (type_of (kind_at heading i))) (get_or spans (place_of acl i) nowhere) ∷ unboxed_from (i + 1) acl (drop (i + 1) heading) label spans
+  pub unboxed_listed : (label : Row) (spans : List Span) → among commalist i ≡ true
+      → unboxed_from i commalist (drop i heading) label spans ≡ interval (line_of (type_of (kind_at heading i))) (get_or spans (place_of commalist i) nowhere) ∷ unboxed_from (i + 1) commalist (drop (i + 1) heading) label spans
   unboxed_listed label spans e =
-      let v : Value = interval (line_of (type_of (kind_at heading i))) (get_or spans (place_of acl i) nowhere) in
-      ap (λ h. unboxed_from i acl h label spans) split
-      ∙ (λ t. (if e t then v else slice_index_or label 0 (truth false)) ∷ unboxed_from (suc i) acl (drop (i + 1) heading) (if e t then label else drop 1 label) spans)
-      ∙ ap (λ m. v ∷ unboxed_from m acl (drop (i + 1) heading) label spans) next
+      let v : Value = interval (line_of (type_of (kind_at heading i))) (get_or spans (place_of commalist i) nowhere) in
+      ap (λ h. unboxed_from i commalist h label spans) split
+      ∙ (λ t. (if e t then v else slice_index_or label 0 (truth false)) ∷ unboxed_from (suc i) commalist (drop (i + 1) heading) (if e t then label else drop 1 label) spans)
+      ∙ ap (λ m. v ∷ unboxed_from m commalist (drop (i + 1) heading) label spans) next
 
-  pub unboxed_unlisted : (v : Value) (label : Row) (spans : List Span) → among acl i ≡ false
-      → unboxed_from i acl (drop i heading) (v ∷ label) spans ≡ v ∷ unboxed_from (i + 1) acl (drop (i + 1) heading) label spans
+  pub unboxed_unlisted : (v : Value) (label : Row) (spans : List Span) → among commalist i ≡ false
+      → unboxed_from i commalist (drop i heading) (v ∷ label) spans ≡ v ∷ unboxed_from (i + 1) commalist (drop (i + 1) heading) label spans
   unboxed_unlisted v label spans e =
-      let u : Value = interval (line_of (type_of (kind_at heading i))) (get_or spans (place_of acl i) nowhere) in
-      ap (λ h. unboxed_from i acl h (v ∷ label) spans) split
-      ∙ (λ t. (if e t then u else slice_index_or (v ∷ label) 0 (truth false)) ∷ unboxed_from (suc i) acl (drop (i + 1) heading) (if e t then v ∷ label else drop 1 (v ∷ label)) spans)
-      ∙ ap (λ m. v ∷ unboxed_from m acl (drop (i + 1) heading) label spans) next
+      let u : Value = interval (line_of (type_of (kind_at heading i))) (get_or spans (place_of commalist i) nowhere) in
+      ap (λ h. unboxed_from i commalist h (v ∷ label) spans) split
+      ∙ (λ t. (if e t then u else slice_index_or (v ∷ label) 0 (truth false)) ∷ unboxed_from (suc i) commalist (drop (i + 1) heading) (if e t then v ∷ label else drop 1 (v ∷ label)) spans)
+      ∙ ap (λ m. v ∷ unboxed_from m commalist (drop (i + 1) heading) label spans) next
 
-  pub others_listed : among acl i ≡ true → others_from i acl (drop i heading) ≡ others_from (i + 1) acl (drop (i + 1) heading)
+  pub others_listed : among commalist i ≡ true → others_from i commalist (drop i heading) ≡ others_from (i + 1) commalist (drop (i + 1) heading)
   others_listed e =
-      ap (others_from i acl) split
-      ∙ (λ t. unless (e t) (get_or heading i ([], Truth)) (others_from (suc i) acl (drop (i + 1) heading)))
-      ∙ ap (λ m. others_from m acl (drop (i + 1) heading)) next
+      ap (others_from i commalist) split
+      ∙ (λ t. unless (e t) (get_or heading i ([], Truth)) (others_from (suc i) commalist (drop (i + 1) heading)))
+      ∙ ap (λ m. others_from m commalist (drop (i + 1) heading)) next
 
-  others_unlisted : among acl i ≡ false → others_from i acl (drop i heading) ≡ get_or heading i ([], Truth) ∷ others_from (i + 1) acl (drop (i + 1) heading)
+  others_unlisted : among commalist i ≡ false → others_from i commalist (drop i heading) ≡ get_or heading i ([], Truth) ∷ others_from (i + 1) commalist (drop (i + 1) heading)
   others_unlisted e =
-      ap (others_from i acl) split
-      ∙ (λ t. unless (e t) (get_or heading i ([], Truth)) (others_from (suc i) acl (drop (i + 1) heading)))
-      ∙ ap (λ m. get_or heading i ([], Truth) ∷ others_from m acl (drop (i + 1) heading)) next
+      ap (others_from i commalist) split
+      ∙ (λ t. unless (e t) (get_or heading i ([], Truth)) (others_from (suc i) commalist (drop (i + 1) heading)))
+      ∙ ap (λ m. get_or heading i ([], Truth) ∷ others_from m commalist (drop (i + 1) heading)) next
 
   -- the label has a value for an attribute that is not listed
-  pub label_next : (used : ℕ) (label : List Held) → among acl i ≡ false → IsTrue (fits_heading (others_from i acl (drop i heading)) (map plain (drop used label)))
+  pub label_next : (used : ℕ) (label : List Held) → among commalist i ≡ false → IsTrue (fits_heading (others_from i commalist (drop i heading)) (map plain (drop used label)))
       → (used < length label) × ((v : Held) → v ≡ get_or label used v → IsTrue (fits (kind_at heading i) (plain v))
-      × IsTrue (fits_heading (others_from (i + 1) acl (drop (i + 1) heading)) (map plain (drop (used + 1) label)))
+      × IsTrue (fits_heading (others_from (i + 1) commalist (drop (i + 1) heading)) (map plain (drop (used + 1) label)))
       × (map plain (drop used label) ≡ plain v ∷ map plain (drop (used + 1) label)))
   label_next used label e f =
       let a : Name × Kind = get_or heading i ([], Truth) in
-      let os : Heading = others_from (i + 1) acl (drop (i + 1) heading) in
+      let os : Heading = others_from (i + 1) commalist (drop (i + 1) heading) in
       let g : IsTrue (fits_heading (a ∷ os) (map plain (drop used label))) = subst (λ (h : Heading). IsTrue (fits_heading h (map plain (drop used label)))) (others_unlisted e) f in
       elim (cases_lt used (length label)) [
         | inl b ↦ (
@@ -143,31 +143,31 @@ module _ (heading : Heading) (acl : List ℕ) (i : ℕ) (l : i < length heading)
         subst (λ (h : Heading). IsTrue (fits_heading h (map plain (values ++ v ∷ [])))) (sym (take_more heading i ([], Truth) l))
         (subst (λ (r : Row). IsTrue (fits_heading (take i heading ++ a ∷ []) r)) (sym (map_push plain values v)) (fits_push (take i heading) (map plain values) a (plain v) g f))
 
-    pub listed_more : among acl i ≡ true → plain v ≡ interval (line_of (type_of (kind_at heading i))) (get_or spans (place_of acl i) nowhere) → IsTrue (fits (kind_at heading i) (plain v))
-        → map plain values ++ unboxed_from i acl (drop i heading) (map plain (drop used label)) spans ≡ target
-        → IsTrue (fits_heading (others_from i acl (drop i heading)) (map plain (drop used label))) → IsTrue (fits_heading (take i heading) (map plain values))
-        → (map plain (values ++ v ∷ []) ++ unboxed_from (i + 1) acl (drop (i + 1) heading) (map plain (drop used label)) spans ≡ target)
-        × IsTrue (fits_heading (others_from (i + 1) acl (drop (i + 1) heading)) (map plain (drop used label)))
+    pub listed_more : among commalist i ≡ true → plain v ≡ interval (line_of (type_of (kind_at heading i))) (get_or spans (place_of commalist i) nowhere) → IsTrue (fits (kind_at heading i) (plain v))
+        → map plain values ++ unboxed_from i commalist (drop i heading) (map plain (drop used label)) spans ≡ target
+        → IsTrue (fits_heading (others_from i commalist (drop i heading)) (map plain (drop used label))) → IsTrue (fits_heading (take i heading) (map plain values))
+        → (map plain (values ++ v ∷ []) ++ unboxed_from (i + 1) commalist (drop (i + 1) heading) (map plain (drop used label)) spans ≡ target)
+        × IsTrue (fits_heading (others_from (i + 1) commalist (drop (i + 1) heading)) (map plain (drop used label)))
         × IsTrue (fits_heading (take (i + 1) heading) (map plain (values ++ v ∷ [])))
     listed_more e value f row rest done =
-        let tail : Row = unboxed_from (i + 1) acl (drop (i + 1) heading) (map plain (drop used label)) spans in
-        let step : plain v ∷ tail ≡ unboxed_from i acl (drop i heading) (map plain (drop used label)) spans = ap (λ w. w ∷ tail) value ∙ sym (unboxed_listed (map plain (drop used label)) spans e) in (
+        let tail : Row = unboxed_from (i + 1) commalist (drop (i + 1) heading) (map plain (drop used label)) spans in
+        let step : plain v ∷ tail ≡ unboxed_from i commalist (drop i heading) (map plain (drop used label)) spans = ap (λ w. w ∷ tail) value ∙ sym (unboxed_listed (map plain (drop used label)) spans e) in (
           one_more tail ∙ ap (λ r. map plain values ++ r) step ∙ row,
           subst (λ (h : Heading). IsTrue (fits_heading h (map plain (drop used label)))) (others_listed e) rest,
           fits_more f done,
         )
 
-    pub unlisted_more : among acl i ≡ false → v ≡ get_or label used v
-        → map plain values ++ unboxed_from i acl (drop i heading) (map plain (drop used label)) spans ≡ target
-        → IsTrue (fits_heading (others_from i acl (drop i heading)) (map plain (drop used label))) → IsTrue (fits_heading (take i heading) (map plain values))
-        → (map plain (values ++ v ∷ []) ++ unboxed_from (i + 1) acl (drop (i + 1) heading) (map plain (drop (used + 1) label)) spans ≡ target)
-        × IsTrue (fits_heading (others_from (i + 1) acl (drop (i + 1) heading)) (map plain (drop (used + 1) label)))
+    pub unlisted_more : among commalist i ≡ false → v ≡ get_or label used v
+        → map plain values ++ unboxed_from i commalist (drop i heading) (map plain (drop used label)) spans ≡ target
+        → IsTrue (fits_heading (others_from i commalist (drop i heading)) (map plain (drop used label))) → IsTrue (fits_heading (take i heading) (map plain values))
+        → (map plain (values ++ v ∷ []) ++ unboxed_from (i + 1) commalist (drop (i + 1) heading) (map plain (drop (used + 1) label)) spans ≡ target)
+        × IsTrue (fits_heading (others_from (i + 1) commalist (drop (i + 1) heading)) (map plain (drop (used + 1) label)))
         × IsTrue (fits_heading (take (i + 1) heading) (map plain (values ++ v ∷ [])))
     unlisted_more e is row rest done =
         let w = (label_next used label e rest).1 v is in
-        let tail : Row = unboxed_from (i + 1) acl (drop (i + 1) heading) (map plain (drop (used + 1) label)) spans in
-        let step : plain v ∷ tail ≡ unboxed_from i acl (drop i heading) (map plain (drop used label)) spans =
-        sym (unboxed_unlisted (plain v) (map plain (drop (used + 1) label)) spans e) ∙ ap (λ r. unboxed_from i acl (drop i heading) r spans) (sym w.2) in (
+        let tail : Row = unboxed_from (i + 1) commalist (drop (i + 1) heading) (map plain (drop (used + 1) label)) spans in
+        let step : plain v ∷ tail ≡ unboxed_from i commalist (drop i heading) (map plain (drop used label)) spans =
+        sym (unboxed_unlisted (plain v) (map plain (drop (used + 1) label)) spans e) ∙ ap (λ r. unboxed_from i commalist (drop i heading) r spans) (sym w.2) in (
           one_more tail ∙ ap (λ r. map plain values ++ r) step ∙ row,
           w.1,
           fits_more w.0 done,

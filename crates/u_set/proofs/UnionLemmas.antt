@@ -9,14 +9,14 @@ use Rattle.value_core.specs.Order.{row_total, row_separates}
 use Rattle.value_core.specs.RowPacking.{packed, unpacked}
 use Rattle.value_core.specs.Values.{Row, Heading, row_cmp}
 use Rattle.relation_core.specs.Operators.{united}
-use Rattle.packing_core.specs.Boxed.{Boxed, boxed_cmp, packed_boxes, unpacked_boxes, InBoxes}
-use Rattle.packing_core.specs.Covering.{Among}
-use Rattle.packing_core.proofs.AmongLemmas.{among_append}
-use Rattle.packing_core.proofs.PackedBoxes.{among_in}
+use Rattle.cell_packing.specs.Boxed.{Boxed, boxed_cmp, packed_boxes, unpacked_boxes, InBoxes}
+use Rattle.cell_packing.specs.Covering.{Among}
+use Rattle.cell_packing.proofs.AmongLemmas.{among_append}
+use Rattle.cell_packing.proofs.PackedBoxes.{among_in}
 use Rattle.cell_core.proofs.OrderLemmas.{boxed_total, boxed_separates}
-use Rattle.cell_core.proofs.PackedPlaces.{AllHave, packed_from_same, both_have}
+use Rattle.cell_core.proofs.PackedGridPoints.{AllHave, packed_from_same, both_have}
 use Rattle.cell_core.proofs.UnpackedLemmas.{in_unpacked_boxes}
-use Rattle.cell_core.proofs.UnpackedPlaces.{unpacked_places}
+use Rattle.cell_core.proofs.UnpackedGridPoints.{unpacked_grid_points}
 use Rattle.u_set.specs.Boxes.{AreIntervals, IsShaped, boxed}
 use Rattle.u_set.proofs.BridgeLemmas.{box_cmp, box_total, box_separates, same_places, AreRowsOf, boxes_have, unpacked_image, closed_by_boxes}
 
@@ -59,48 +59,48 @@ module _ {P : Type 0} (order : P → P → Ordering) (o : IsTotalOrder order) (s
         packed_from_same order o same k (left ++ right) (union_of B (unpacked_boxes order k left) (unpacked_boxes order k right)) (both_have k left right hl hr) union_have (λ l place.
         let a = places_append left right l place in
         let u = places_union (unpacked_boxes order k left) (unpacked_boxes order k right) l place in
-        let pl = unpacked_places order o same k left hl l place in
-        let pr = unpacked_places order o same k right hr l place in (
+        let pl = unpacked_grid_points order o same k left hl l place in
+        let pr = unpacked_grid_points order o same k right hr l place in (
           λ h. u.1 (elim (a.0 h) [ inl g ↦ inl (pl.1 g) | inr g ↦ inr (pr.1 g) ]),
           λ h. a.1 (elim (u.0 h) [ inl g ↦ inl (pl.0 g) | inr g ↦ inr (pr.0 g) ]),
         ))
 
 -- ---- rows
 
-module _ (heading : Heading) (acl : List ℕ) (intervals : AreIntervals heading acl) (r s : List Row) (up : Ascends row_cmp r) (up' : Ascends row_cmp s)
-    (shaped : (x : Row) → In x r → IsShaped heading acl x) (shaped' : (x : Row) → In x s → IsShaped heading acl x) where
+module _ (heading : Heading) (commalist : List ℕ) (intervals : AreIntervals heading commalist) (r s : List Row) (up : Ascends row_cmp r) (up' : Ascends row_cmp s)
+    (shaped : (x : Row) → In x r → IsShaped heading commalist x) (shaped' : (x : Row) → In x s → IsShaped heading commalist x) where
   abbrev left_boxes : List (Boxed Row)
-  left_boxes = unpacked_boxes row_cmp (length acl) (map (boxed acl) r)
+  left_boxes = unpacked_boxes row_cmp (length commalist) (map (boxed commalist) r)
 
   abbrev right_boxes : List (Boxed Row)
-  right_boxes = unpacked_boxes row_cmp (length acl) (map (boxed acl) s)
+  right_boxes = unpacked_boxes row_cmp (length commalist) (map (boxed commalist) s)
 
-  united_members : (x : Boxed Row) → In x (map (boxed acl) (united (unpacked acl r) (unpacked acl s))) ↔ In x (union_of box_cmp left_boxes right_boxes)
+  united_members : (x : Boxed Row) → In x (map (boxed commalist) (united (unpacked commalist r) (unpacked commalist s))) ↔ In x (union_of box_cmp left_boxes right_boxes)
   united_members x =
-      let left = unpacked_image heading acl intervals r up shaped in
-      let right = unpacked_image heading acl intervals s up' shaped' in
-      let all = In-map (boxed acl) x (united (unpacked acl r) (unpacked acl s)) in
+      let left = unpacked_image heading commalist intervals r up shaped in
+      let right = unpacked_image heading commalist intervals s up' shaped' in
+      let all = In-map (boxed commalist) x (united (unpacked commalist r) (unpacked commalist s)) in
       let boxes = In-union_of box_cmp box_total box_separates x left_boxes right_boxes in (
         λ i. let w = all.0 i in
-            elim ((In-union_of row_cmp row_total row_separates w.0 (unpacked acl r) (unpacked acl s)).0 w.1) [
+            elim ((In-union_of row_cmp row_total row_separates w.0 (unpacked commalist r) (unpacked commalist s)).0 w.1) [
               | inl j ↦ boxes.1 (inl (subst (λ z. In z left_boxes) (sym w.2) (left.to w.0 j)))
               | inr j ↦ boxes.1 (inr (subst (λ z. In z right_boxes) (sym w.2) (right.to w.0 j)))
             ],
         λ i. elim (boxes.0 i) [
-          | inl j ↦ let w = left.from x j in all.1 (w.0, (In-union_of row_cmp row_total row_separates w.0 (unpacked acl r) (unpacked acl s)).1 (inl w.1), w.2)
-          | inr j ↦ let w = right.from x j in all.1 (w.0, (In-union_of row_cmp row_total row_separates w.0 (unpacked acl r) (unpacked acl s)).1 (inr w.1), w.2)
+          | inl j ↦ let w = left.from x j in all.1 (w.0, (In-union_of row_cmp row_total row_separates w.0 (unpacked commalist r) (unpacked commalist s)).1 (inl w.1), w.2)
+          | inr j ↦ let w = right.from x j in all.1 (w.0, (In-union_of row_cmp row_total row_separates w.0 (unpacked commalist r) (unpacked commalist s)).1 (inr w.1), w.2)
         ],
       )
 
-  united_shaped : (x : Row) → In x (united (unpacked acl r) (unpacked acl s)) → IsShaped heading acl x
-  united_shaped x i = elim ((In-union_of row_cmp row_total row_separates x (unpacked acl r) (unpacked acl s)).0 i) [
-    | inl j ↦ (unpacked_image heading acl intervals r up shaped).shaped x j
-    | inr j ↦ (unpacked_image heading acl intervals s up' shaped').shaped x j
+  united_shaped : (x : Row) → In x (united (unpacked commalist r) (unpacked commalist s)) → IsShaped heading commalist x
+  united_shaped x i = elim ((In-union_of row_cmp row_total row_separates x (unpacked commalist r) (unpacked commalist s)).0 i) [
+    | inl j ↦ (unpacked_image heading commalist intervals r up shaped).shaped x j
+    | inr j ↦ (unpacked_image heading commalist intervals s up' shaped').shaped x j
   ]
 
   -- the union of the unpacked rows, packed, is that of the boxes
-  pub united_rows : AreRowsOf heading acl (packed acl (united (unpacked acl r) (unpacked acl s))) (packed_boxes row_cmp (length acl) (union_of box_cmp left_boxes right_boxes))
+  pub united_rows : AreRowsOf heading commalist (packed commalist (united (unpacked commalist r) (unpacked commalist s))) (packed_boxes row_cmp (length commalist) (union_of box_cmp left_boxes right_boxes))
   united_rows =
-      closed_by_boxes heading acl intervals (united (unpacked acl r) (unpacked acl s)) (Ascends-union_of row_cmp row_total row_separates (unpacked acl r) (unpacked acl s)) united_shaped
-      (union_of box_cmp left_boxes right_boxes) (union_have row_cmp row_total row_separates (length acl) (map (boxed acl) r) (map (boxed acl) s) (boxes_have heading acl intervals r) (boxes_have heading acl intervals s))
-      (same_places (map (boxed acl) (united (unpacked acl r) (unpacked acl s))) (union_of box_cmp left_boxes right_boxes) united_members)
+      closed_by_boxes heading commalist intervals (united (unpacked commalist r) (unpacked commalist s)) (Ascends-union_of row_cmp row_total row_separates (unpacked commalist r) (unpacked commalist s)) united_shaped
+      (union_of box_cmp left_boxes right_boxes) (union_have row_cmp row_total row_separates (length commalist) (map (boxed commalist) r) (map (boxed commalist) s) (boxes_have heading commalist intervals r) (boxes_have heading commalist intervals s))
+      (same_places (map (boxed commalist) (united (unpacked commalist r) (unpacked commalist s))) (union_of box_cmp left_boxes right_boxes) united_members)

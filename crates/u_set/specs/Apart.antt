@@ -9,7 +9,7 @@ use Rattle.std.specs.List.Sorted.{IsPermutation}
 use Rattle.std.specs.declared.cmp.Ordering.TheVariants.{Less, Equal}
 use Rattle.point_core.specs.declared.any_type.AnyType.{AnyType}
 use Rattle.interval_core.specs.Members.{Span}
-use Rattle.packing_core.specs.Covering.{Among}
+use Rattle.cell_packing.specs.Covering.{Among}
 use Rattle.value_core.specs.declared.kind.Kind.TheVariants.{Span as SpanOf}
 use Rattle.value_core.specs.Attributes.{value_at, span_of, among}
 use Rattle.value_core.specs.Values.{Row, row_cmp, fits}
@@ -64,8 +64,8 @@ pub record IsChain (label : List ℕ) (at : ℕ) (gap : Gap) (rows : List Row) :
 
 -- the positions of a list's elements that are not listed; the first element stands at n
 abbrev pub outside_from : {X : Type 0} → ℕ → List ℕ → List X → List ℕ
-outside_from n acl [] = []
-outside_from n acl (x ∷ xs) = unless (among acl n) n (outside_from (suc n) acl xs)
+outside_from n commalist [] = []
+outside_from n commalist (x ∷ xs) = unless (among commalist n) n (outside_from (suc n) commalist xs)
 
 abbrev pub outside : {X : Type 0} → List ℕ → List X → List ℕ
-outside acl xs = outside_from 0 acl xs
+outside commalist xs = outside_from 0 commalist xs

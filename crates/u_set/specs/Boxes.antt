@@ -14,15 +14,15 @@ use Rattle.value_core.specs.declared.kind.Kind.TheVariants.{Span as SpanOf}
 use Rattle.value_core.specs.Attributes.{value_at, span_of, among}
 use Rattle.value_core.specs.Values.{Row, Heading, truth, interval, fits_heading}
 use Rattle.relation_core.specs.Parts.{kind_at}
-use Rattle.packing_core.specs.Boxed.{Boxed}
-use Rattle.packing_core.specs.Packed.{nowhere}
+use Rattle.cell_packing.specs.Boxed.{Boxed}
+use Rattle.cell_packing.specs.Packed.{nowhere}
 
 -- ---- positions
 
 -- the place of a position in the list
 abbrev pub place_of : List ℕ → ℕ → ℕ
 place_of [] i = 0
-place_of (j ∷ acl) i = if nat_eq i j then 0 else suc (place_of acl i)
+place_of (j ∷ commalist) i = if nat_eq i j then 0 else suc (place_of commalist i)
 
 -- the point type of an interval attribute; no other one is asked
 abbrev pub type_of : Kind → AnyType
@@ -30,13 +30,13 @@ type_of (SpanOf t) = t
 type_of _ = Integer
 
 abbrev pub types_at : Heading → List ℕ → List AnyType
-types_at heading acl = map (λ i. type_of (kind_at heading i)) acl
+types_at heading commalist = map (λ i. type_of (kind_at heading i)) commalist
 
 -- different positions of interval attributes
-pub record AreIntervals (heading : Heading) (acl : List ℕ) : Type 0 where
-  pub within : All (λ (i : ℕ). i < length heading) acl
-  pub different : IsDistinct nat_eq acl
-  pub spans : All (λ (i : ℕ). kind_at heading i ≡ SpanOf (type_of (kind_at heading i))) acl
+pub record AreIntervals (heading : Heading) (commalist : List ℕ) : Type 0 where
+  pub within : All (λ (i : ℕ). i < length heading) commalist
+  pub different : IsDistinct nat_eq commalist
+  pub spans : All (λ (i : ℕ). kind_at heading i ≡ SpanOf (type_of (kind_at heading i))) commalist
 
 -- ---- the box of a row
 
@@ -47,33 +47,33 @@ unless false x rest = x ∷ rest
 
 -- what stands at none of the positions; the first of the list stands at n
 abbrev pub others_from : {X : Type 0} → ℕ → List ℕ → List X → List X
-others_from n acl [] = []
-others_from n acl (x ∷ xs) = unless (among acl n) x (others_from (suc n) acl xs)
+others_from n commalist [] = []
+others_from n commalist (x ∷ xs) = unless (among commalist n) x (others_from (suc n) commalist xs)
 
 abbrev pub others : {X : Type 0} → List ℕ → List X → List X
-others acl xs = others_from 0 acl xs
+others commalist xs = others_from 0 commalist xs
 
 abbrev pub spans_at : List ℕ → Row → List Span
-spans_at acl row = map (λ i. span_of (value_at row i)) acl
+spans_at commalist row = map (λ i. span_of (value_at row i)) commalist
 
 abbrev pub boxed : List ℕ → Row → Boxed Row
-boxed acl row = (others acl row, spans_at acl row)
+boxed commalist row = (others commalist row, spans_at commalist row)
 
 -- ---- the row of a box
 
 -- the values of the attributes, of which the first stands at n: intervals at the positions, and the values of the label elsewhere
 abbrev pub unboxed_from : ℕ → List ℕ → Heading → Row → List Span → Row
-unboxed_from n acl [] label spans = []
-unboxed_from n acl (a ∷ rest) label spans =
-    (if among acl n then interval (line_of (type_of a.1)) (get_or spans (place_of acl n) nowhere) else slice_index_or label 0 (truth false))
-    ∷ unboxed_from (suc n) acl rest (if among acl n then label else drop 1 label) spans
+unboxed_from n commalist [] label spans = []
+unboxed_from n commalist (a ∷ rest) label spans =
+    (if among commalist n then interval (line_of (type_of a.1)) (get_or spans (place_of commalist n) nowhere) else slice_index_or label 0 (truth false))
+    ∷ unboxed_from (suc n) commalist rest (if among commalist n then label else drop 1 label) spans
 
 abbrev pub unboxed : Heading → List ℕ → Boxed Row → Row
-unboxed heading acl x = unboxed_from 0 acl heading x.0 x.1
+unboxed heading commalist x = unboxed_from 0 commalist heading x.0 x.1
 
 -- the row has an interval on the attribute's line at each of the positions, and a value of its kind for each other attribute. So it
 -- may have intervals that leave their types, as packing asks for
-pub record IsShaped (heading : Heading) (acl : List ℕ) (row : Row) : Type 0 where
+pub record IsShaped (heading : Heading) (commalist : List ℕ) (row : Row) : Type 0 where
   pub long : length row ≡ length heading
-  pub spans : (i : ℕ) → IsTrue (among acl i) → value_at row i ≡ interval (line_of (type_of (kind_at heading i))) (span_of (value_at row i))
-  pub label : IsTrue (fits_heading (others acl heading) (others acl row))
+  pub spans : (i : ℕ) → IsTrue (among commalist i) → value_at row i ≡ interval (line_of (type_of (kind_at heading i))) (span_of (value_at row i))
+  pub label : IsTrue (fits_heading (others commalist heading) (others commalist row))

@@ -2,7 +2,7 @@
 use Rattle.std.specs.Prelude.{ℕ, ℤ, List, length}
 use Rattle.std.specs.declared.cmp.Ordering.{Ordering}
 use Rattle.cell_core.specs.CellRows.{AreOverCells}
-use Rattle.cell_kernels.specs.Fewer.{IsSameOrPacked}
+use Rattle.u_set.specs.Fewer.{IsSameOrPacked}
 
 -- both are the rows over the cells of the sides, or the packed form of these
 pub record AreFewerCells {T P L : Type 0} (n : P → ℤ) (has : T → P → Type 0) (high : T → ℤ) (order : L → L → Ordering) (types : List T) (left right : List (L × List (P × P)))

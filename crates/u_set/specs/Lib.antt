@@ -1,3 +1,4 @@
 pub mod Apart
 pub mod Boxes
+pub mod Fewer
 pub mod FewerCells

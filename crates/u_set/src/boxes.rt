@@ -20,15 +20,15 @@ fn sides_of(
     alloc: Global,
     heading: &[(Name, Kind)],
     values: &[Value],
-    acl: &[usize],
+    commalist: &[usize],
 ) -> Result<Sides<AnyType>, Memory>
-    requires intervals { AreIntervals heading.now acl.now }
+    requires intervals { AreIntervals heading.now commalist.now }
     requires fits { IsTrue (fits_heading heading.now (map plain values.now)) }
-    ensures numbers { IfOk result (λ s. box_numbers number s ≡ spans_at acl.now (map plain values.now)) }
-    ensures points { IfOk result (λ s. IsBox IsPointOf (types_at heading.now acl.now) s) }
+    ensures numbers { IfOk result (λ s. box_numbers number s ≡ spans_at commalist.now (map plain values.now)) }
+    ensures points { IfOk result (λ s. IsBox IsPointOf (types_at heading.now commalist.now) s) }
 {
-    let mut list = Vec::with_capacity(alloc, acl.len())?;
-    for i in acl {
+    let mut list = Vec::with_capacity(alloc, commalist.len())?;
+    for i in commalist {
         let side = interval_of(&values[*i]);
         list.push(side)?;
     }
@@ -40,16 +40,16 @@ fn to_box(
     alloc: Global,
     heading: &[(Name, Kind)],
     row: &Row,
-    acl: &[usize],
+    commalist: &[usize],
 ) -> Result<BoxRow<AnyType, Row>, Memory>
-    requires intervals { AreIntervals heading.now acl.now }
+    requires intervals { AreIntervals heading.now commalist.now }
     requires fits { IsTrue (fits_heading heading.now row.now) }
-    ensures row { IfOk result (λ b. row_numbers number b ≡ boxed acl.now row.now) }
-    ensures points { IfOk result (λ b. IsBox IsPointOf (types_at heading.now acl.now) b.1) }
+    ensures row { IfOk result (λ b. row_numbers number b ≡ boxed commalist.now row.now) }
+    ensures points { IfOk result (λ b. IsBox IsPointOf (types_at heading.now commalist.now) b.1) }
 {
     let values = row.values();
-    let label = label_of(alloc, values, acl)?;
-    let sides = sides_of(alloc, heading, values, acl)?;
+    let label = label_of(alloc, values, commalist)?;
+    let sides = sides_of(alloc, heading, values, commalist)?;
     Ok(BoxRow { label, sides })
 }
 
@@ -57,18 +57,18 @@ fn to_box(
 pub fn to_boxes(
     alloc: Global,
     r: &Relation,
-    acl: &[usize],
+    commalist: &[usize],
 ) -> Result<Vec<BoxRow<AnyType, Row>>, Memory>
-    requires { AreIntervals r.now.heading acl.now }
+    requires { AreIntervals r.now.heading commalist.now }
     ensures relation { IsRelation r.now }
-    ensures rows { IfOk result (λ v. map (row_numbers number) v.items ≡ map (boxed acl.now) r.now.rows) }
-    ensures boxes { IfOk result (λ v. All (λ b. IsBox IsPointOf (types_at r.now.heading acl.now) b.1) v.items) }
+    ensures rows { IfOk result (λ v. map (row_numbers number) v.items ≡ map (boxed commalist.now) r.now.rows) }
+    ensures boxes { IfOk result (λ v. All (λ b. IsBox IsPointOf (types_at r.now.heading commalist.now) b.1) v.items) }
 {
     let heading = r.heading().attributes();
     let rows = r.rows();
     let mut list = Vec::with_capacity(alloc, rows.len())?;
     for row in rows {
-        let b = to_box(alloc, heading, row, acl)?;
+        let b = to_box(alloc, heading, row, commalist)?;
         list.push(b)?;
     }
     Ok(list)

@@ -6,8 +6,8 @@ ghost use Rattle.cell_core.specs.Boxes.{IsBox};
 ghost use Rattle.cell_core.specs.Costs.{bound};
 ghost use Rattle.u_set.specs.FewerCells.{AreFewerCells};
 
+use crate::prepacked;
 use cell_core::{BoxRow, CellRows, moved_over_cells};
-use cell_kernels::fewer_rows;
 use point_core::{Memory, PointType, Steps};
 use std::alloc::Global;
 use std::sync::ledger::Ledger;
@@ -34,8 +34,8 @@ pub(crate) fn fewer_cells<T: PointType, L: Ledger>(
         left: l,
         right: r,
     } = moved_over_cells(alloc, types, left, right, steps)?;
-    let lefts = fewer_rows(alloc, types.len(), l)?;
-    let rights = fewer_rows(alloc, types.len(), r)?;
+    let lefts = prepacked(alloc, types.len(), l)?;
+    let rights = prepacked(alloc, types.len(), r)?;
     Ok(CellRows {
         sides,
         left: lefts,

@@ -2,7 +2,7 @@
 ghost use Rattle.std.specs.Prelude.{◌≡◌, ◌+◌, ◌≤◌, map, length, IfOk};
 ghost use Rattle.std.specs.List.{All};
 ghost use Rattle.base_core.specs.Sets.{is_within, are_same};
-ghost use Rattle.packing_core.specs.Boxed.{boxed_cmp, unpacked_boxes};
+ghost use Rattle.cell_packing.specs.Boxed.{boxed_cmp, unpacked_boxes};
 ghost use Rattle.value_core.specs.RowPacking.{unpacked};
 ghost use Rattle.value_core.specs.Values.{row_cmp, same_rows};
 ghost use Rattle.cell_core.specs.Boxes.{IsBox};
@@ -59,17 +59,17 @@ pub fn are_same<L: Ledger>(
     alloc: Global,
     left: &Relation,
     right: &Relation,
-    acl: &[usize],
+    commalist: &[usize],
     steps: &mut Steps<L>,
 ) -> Result<bool, Memory>
     requires heading { left.now.heading ≡ right.now.heading }
-    requires intervals { AreIntervals left.now.heading acl.now }
-    ensures answer { IfOk result (λ b. b ≡ same_rows (unpacked acl.now left.now.rows) (unpacked acl.now right.now.rows)) }
-    ensures cost { steps.new ≤ steps.old + bound (length left.now.rows + length right.now.rows) (length acl.now) }
+    requires intervals { AreIntervals left.now.heading commalist.now }
+    ensures answer { IfOk result (λ b. b ≡ same_rows (unpacked commalist.now left.now.rows) (unpacked commalist.now right.now.rows)) }
+    ensures cost { steps.new ≤ steps.old + bound (length left.now.rows + length right.now.rows) (length commalist.now) }
 {
-    let types = types_at(alloc, left.heading().attributes(), acl)?;
-    let l = to_boxes(alloc, left, acl)?;
-    let r = to_boxes(alloc, right, acl)?;
+    let types = types_at(alloc, left.heading().attributes(), commalist)?;
+    let l = to_boxes(alloc, left, commalist)?;
+    let r = to_boxes(alloc, right, commalist)?;
     u_equal(alloc, types.as_slice(), l.as_slice(), r.as_slice(), steps)
 }
 
@@ -78,16 +78,16 @@ pub fn is_within<L: Ledger>(
     alloc: Global,
     left: &Relation,
     right: &Relation,
-    acl: &[usize],
+    commalist: &[usize],
     steps: &mut Steps<L>,
 ) -> Result<bool, Memory>
     requires heading { left.now.heading ≡ right.now.heading }
-    requires intervals { AreIntervals left.now.heading acl.now }
-    ensures answer { IfOk result (λ b. b ≡ is_within row_cmp (unpacked acl.now left.now.rows) (unpacked acl.now right.now.rows)) }
-    ensures cost { steps.new ≤ steps.old + bound (length left.now.rows + length right.now.rows) (length acl.now) }
+    requires intervals { AreIntervals left.now.heading commalist.now }
+    ensures answer { IfOk result (λ b. b ≡ is_within row_cmp (unpacked commalist.now left.now.rows) (unpacked commalist.now right.now.rows)) }
+    ensures cost { steps.new ≤ steps.old + bound (length left.now.rows + length right.now.rows) (length commalist.now) }
 {
-    let types = types_at(alloc, left.heading().attributes(), acl)?;
-    let l = to_boxes(alloc, left, acl)?;
-    let r = to_boxes(alloc, right, acl)?;
+    let types = types_at(alloc, left.heading().attributes(), commalist)?;
+    let l = to_boxes(alloc, left, commalist)?;
+    let r = to_boxes(alloc, right, commalist)?;
     u_subset(alloc, types.as_slice(), l.as_slice(), r.as_slice(), steps)
 }

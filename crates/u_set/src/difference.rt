@@ -4,7 +4,7 @@ ghost use Rattle.std.specs.List.{All};
 ghost use Rattle.base_core.specs.Sets.{difference_of};
 ghost use Rattle.point_core.specs.Points.{number, IsPointOf};
 ghost use Rattle.point_core.specs.declared.fault.Fault.{Fault as AnyFault};
-ghost use Rattle.packing_core.specs.Boxed.{boxed_cmp, packed_boxes, unpacked_boxes};
+ghost use Rattle.cell_packing.specs.Boxed.{boxed_cmp, packed_boxes, unpacked_boxes};
 ghost use Rattle.value_core.specs.RowPacking.{packed, unpacked};
 ghost use Rattle.value_core.specs.Values.{IsRelation, row_cmp, most_rows};
 ghost use Rattle.relation_core.specs.Answers.{IsAnswer, IsRefusal};
@@ -20,7 +20,7 @@ use crate::cells::fewer_cells;
 use crate::positions::types_at;
 use crate::refusals::{in_limit, refusal};
 use crate::rows::from_boxes;
-use box_core::minus;
+use cell_boxes::minus;
 use cell_core::{BoxRow, CellRefuse, CellRows, back};
 use point_core::{AnyType, Memory, PointType, Steps};
 use std::alloc::Global;
@@ -91,24 +91,24 @@ fn difference_form<L: Ledger>(
     alloc: Global,
     left: &Relation,
     right: &Relation,
-    acl: &[usize],
+    commalist: &[usize],
     steps: &mut Steps<L>,
 ) -> Result<Vec<BoxRow<AnyType, Row>>, CellRefuse>
     requires heading { left.now.heading ≡ right.now.heading }
-    requires intervals { AreIntervals left.now.heading acl.now }
+    requires intervals { AreIntervals left.now.heading commalist.now }
     ensures relation { IsRelation left.now }
-    ensures rows { IfOk result (λ v. map (row_numbers number) v.items ≡ packed_boxes row_cmp (length acl.now) (difference_of (boxed_cmp row_cmp)
-        (unpacked_boxes row_cmp (length acl.now) (map (boxed acl.now) left.now.rows))
-        (unpacked_boxes row_cmp (length acl.now) (map (boxed acl.now) right.now.rows)))) }
-    ensures boxes { IfOk result (λ v. All (λ b. IsBox IsPointOf (types_at left.now.heading acl.now) b.1) v.items) }
-    ensures limit { result ≡ Err OfLimit → most_rows < length (packed_boxes row_cmp (length acl.now) (difference_of (boxed_cmp row_cmp)
-        (unpacked_boxes row_cmp (length acl.now) (map (boxed acl.now) left.now.rows))
-        (unpacked_boxes row_cmp (length acl.now) (map (boxed acl.now) right.now.rows)))) }
-    ensures cost { steps.new ≤ steps.old + bound (length left.now.rows + length right.now.rows) (length acl.now) }
+    ensures rows { IfOk result (λ v. map (row_numbers number) v.items ≡ packed_boxes row_cmp (length commalist.now) (difference_of (boxed_cmp row_cmp)
+        (unpacked_boxes row_cmp (length commalist.now) (map (boxed commalist.now) left.now.rows))
+        (unpacked_boxes row_cmp (length commalist.now) (map (boxed commalist.now) right.now.rows)))) }
+    ensures boxes { IfOk result (λ v. All (λ b. IsBox IsPointOf (types_at left.now.heading commalist.now) b.1) v.items) }
+    ensures limit { result ≡ Err OfLimit → most_rows < length (packed_boxes row_cmp (length commalist.now) (difference_of (boxed_cmp row_cmp)
+        (unpacked_boxes row_cmp (length commalist.now) (map (boxed commalist.now) left.now.rows))
+        (unpacked_boxes row_cmp (length commalist.now) (map (boxed commalist.now) right.now.rows)))) }
+    ensures cost { steps.new ≤ steps.old + bound (length left.now.rows + length right.now.rows) (length commalist.now) }
 {
-    let types = types_at(alloc, left.heading().attributes(), acl)?;
-    let l = to_boxes(alloc, left, acl)?;
-    let r = to_boxes(alloc, right, acl)?;
+    let types = types_at(alloc, left.heading().attributes(), commalist)?;
+    let l = to_boxes(alloc, left, commalist)?;
+    let r = to_boxes(alloc, right, commalist)?;
     let form = difference_boxes(alloc, types.as_slice(), l, r, steps)?;
     in_limit(form, MOST_ROWS)
 }
@@ -118,18 +118,18 @@ fn subtracted_by_boxes<L: Ledger>(
     alloc: Global,
     left: &Relation,
     right: &Relation,
-    acl: &[usize],
+    commalist: &[usize],
     steps: &mut Steps<L>,
 ) -> Result<Relation, RowsRefuse>
     requires heading { left.now.heading ≡ right.now.heading }
-    requires intervals { AreIntervals left.now.heading acl.now }
-    ensures rows { let rows = packed acl.now (subtracted (unpacked acl.now left.now.rows) (unpacked acl.now right.now.rows)) in
+    requires intervals { AreIntervals left.now.heading commalist.now }
+    ensures rows { let rows = packed commalist.now (subtracted (unpacked commalist.now left.now.rows) (unpacked commalist.now right.now.rows)) in
         MatchResult result (IsAnswer left.now.heading rows) (IsRefusal rows) }
-    ensures cost { steps.new ≤ steps.old + bound (length left.now.rows + length right.now.rows) (length acl.now) }
+    ensures cost { steps.new ≤ steps.old + bound (length left.now.rows + length right.now.rows) (length commalist.now) }
 {
     let heading = right.heading().copy(alloc)?;
-    match difference_form(alloc, left, right, acl, steps) {
-        Ok(form) => from_boxes(alloc, heading, acl, form),
+    match difference_form(alloc, left, right, commalist, steps) {
+        Ok(form) => from_boxes(alloc, heading, commalist, form),
         Err(refuse) => Err(refusal(refuse)),
     }
 }
@@ -140,17 +140,17 @@ pub fn subtracted<L: Ledger>(
     alloc: Global,
     left: &Relation,
     right: &Relation,
-    acl: &[usize],
+    commalist: &[usize],
     steps: &mut Steps<L>,
 ) -> Result<Relation, RowsRefuse>
     requires heading { left.now.heading ≡ right.now.heading }
-    requires intervals { AreIntervals left.now.heading acl.now }
-    ensures rows { let rows = packed acl.now (subtracted (unpacked acl.now left.now.rows) (unpacked acl.now right.now.rows)) in
+    requires intervals { AreIntervals left.now.heading commalist.now }
+    ensures rows { let rows = packed commalist.now (subtracted (unpacked commalist.now left.now.rows) (unpacked commalist.now right.now.rows)) in
         MatchResult result (IsAnswer left.now.heading rows) (IsRefusal rows) }
-    ensures cost { steps.new ≤ steps.old + bound (length left.now.rows + length right.now.rows) (length acl.now) }
+    ensures cost { steps.new ≤ steps.old + bound (length left.now.rows + length right.now.rows) (length commalist.now) }
 {
-    if acl.is_empty() {
+    if commalist.is_empty() {
         return relation_core::minus(alloc, left, right);
     }
-    subtracted_by_boxes(alloc, left, right, acl, steps)
+    subtracted_by_boxes(alloc, left, right, commalist, steps)
 }

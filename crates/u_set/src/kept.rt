@@ -12,12 +12,16 @@ use std::alloc::Global;
 use value_core::{Kind, Name, Relation};
 
 /// The positions of the heading's attributes that are not listed: those of a row's label.
-pub fn outside(alloc: Global, heading: &[(Name, Kind)], acl: &[usize]) -> Result<Vec<usize>, Memory>
-    ensures { IfOk result (λ v. v.items ≡ outside acl.now heading.now) }
+pub fn outside(
+    alloc: Global,
+    heading: &[(Name, Kind)],
+    commalist: &[usize],
+) -> Result<Vec<usize>, Memory>
+    ensures { IfOk result (λ v. v.items ≡ outside commalist.now heading.now) }
 {
     let mut list = Vec::new(alloc);
     for (i, _) in heading.iter().enumerate() {
-        if !is_listed(acl, i) {
+        if !is_listed(commalist, i) {
             list.push(i)?;
         }
     }
@@ -30,31 +34,31 @@ pub fn stay_apart(
     alloc: Global,
     left: &Relation,
     right: &Relation,
-    acl: &[usize],
+    commalist: &[usize],
 ) -> Result<bool, Memory>
     requires heading { left.now.heading ≡ right.now.heading }
-    requires intervals { AreIntervals left.now.heading acl.now }
-    ensures { IfOk result (λ b. b ≡ true → packed acl.now (united (unpacked acl.now left.now.rows) (unpacked acl.now right.now.rows)) ≡
+    requires intervals { AreIntervals left.now.heading commalist.now }
+    ensures { IfOk result (λ b. b ≡ true → packed commalist.now (united (unpacked commalist.now left.now.rows) (unpacked commalist.now right.now.rows)) ≡
         united left.now.rows right.now.rows) }
 {
-    if acl.len() != 1 {
+    if commalist.len() != 1 {
         return Ok(false);
     }
-    let label = outside(alloc, left.heading().attributes(), acl)?;
-    let apart = are_both_apart(alloc, left, right, label.as_slice(), acl[0], Gap::One)?;
+    let label = outside(alloc, left.heading().attributes(), commalist)?;
+    let apart = are_both_apart(alloc, left, right, label.as_slice(), commalist[0], Gap::One)?;
     Ok(apart)
 }
 
 /// Whether the rows of the relation are seen to stay as they are where they are packed on the attributes at the positions: there is
 /// one, and no two rows with the same values else have intervals that meet or follow one another.
-pub fn is_apart(alloc: Global, r: &Relation, acl: &[usize]) -> Result<bool, Memory>
-    requires { AreIntervals r.now.heading acl.now }
-    ensures { IfOk result (λ b. b ≡ true → packed acl.now r.now.rows ≡ r.now.rows) }
+pub fn is_apart(alloc: Global, r: &Relation, commalist: &[usize]) -> Result<bool, Memory>
+    requires { AreIntervals r.now.heading commalist.now }
+    ensures { IfOk result (λ b. b ≡ true → packed commalist.now r.now.rows ≡ r.now.rows) }
 {
-    if acl.len() != 1 {
+    if commalist.len() != 1 {
         return Ok(false);
     }
-    let label = outside(alloc, r.heading().attributes(), acl)?;
-    let apart = are_apart(alloc, r, label.as_slice(), acl[0], Gap::One)?;
+    let label = outside(alloc, r.heading().attributes(), commalist)?;
+    let apart = are_apart(alloc, r, label.as_slice(), commalist[0], Gap::One)?;
     Ok(apart)
 }

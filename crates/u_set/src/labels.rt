@@ -11,12 +11,12 @@ use std::alloc::Global;
 use value_core::{Row, Value};
 
 /// The values at none of the positions, in their order.
-pub fn label_of(alloc: Global, values: &[Value], acl: &[usize]) -> Result<Row, Memory>
-    ensures { IfOk result (λ r. r ≡ others acl.now (map plain values.now)) }
+pub fn label_of(alloc: Global, values: &[Value], commalist: &[usize]) -> Result<Row, Memory>
+    ensures { IfOk result (λ r. r ≡ others commalist.now (map plain values.now)) }
 {
-    let mut label = Vec::with_capacity(alloc, values.len().saturating_sub(acl.len()))?;
+    let mut label = Vec::with_capacity(alloc, values.len().saturating_sub(commalist.len()))?;
     for (i, value) in values.iter().enumerate() {
-        if !is_listed(acl, i) {
+        if !is_listed(commalist, i) {
             label.push(value.copy(alloc)?)?;
         }
     }

@@ -2,7 +2,7 @@
 ghost use Rattle.std.specs.Prelude.{◌≡◌, ◌≤◌, ◌<◌, ◌+◌, map, length, Err, IfOk, MatchResult};
 ghost use Rattle.std.specs.List.{All};
 ghost use Rattle.point_core.specs.Points.{number, IsPointOf};
-ghost use Rattle.packing_core.specs.Boxed.{packed_boxes, unpacked_boxes};
+ghost use Rattle.cell_packing.specs.Boxed.{packed_boxes, unpacked_boxes};
 ghost use Rattle.value_core.specs.RowPacking.{packed, unpacked};
 ghost use Rattle.value_core.specs.Values.{row_cmp, most_rows};
 ghost use Rattle.relation_core.specs.Answers.{IsAnswer, IsRefusal};
@@ -26,17 +26,17 @@ use value_core::{MOST_ROWS, Relation, Row, RowsRefuse};
 fn packed_form<L: Ledger>(
     alloc: Global,
     r: &Relation,
-    acl: &[usize],
+    commalist: &[usize],
     steps: &mut Steps<L>,
 ) -> Result<Vec<BoxRow<AnyType, Row>>, CellRefuse>
-    requires { AreIntervals r.now.heading acl.now }
-    ensures rows { IfOk result (λ v. map (row_numbers number) v.items ≡ packed_boxes row_cmp (length acl.now) (map (boxed acl.now) r.now.rows)) }
-    ensures boxes { IfOk result (λ v. All (λ b. IsBox IsPointOf (types_at r.now.heading acl.now) b.1) v.items) }
-    ensures limit { result ≡ Err OfLimit → most_rows < length (packed_boxes row_cmp (length acl.now) (map (boxed acl.now) r.now.rows)) }
-    ensures cost { steps.new ≤ steps.old + bound (length r.now.rows) (length acl.now) }
+    requires { AreIntervals r.now.heading commalist.now }
+    ensures rows { IfOk result (λ v. map (row_numbers number) v.items ≡ packed_boxes row_cmp (length commalist.now) (map (boxed commalist.now) r.now.rows)) }
+    ensures boxes { IfOk result (λ v. All (λ b. IsBox IsPointOf (types_at r.now.heading commalist.now) b.1) v.items) }
+    ensures limit { result ≡ Err OfLimit → most_rows < length (packed_boxes row_cmp (length commalist.now) (map (boxed commalist.now) r.now.rows)) }
+    ensures cost { steps.new ≤ steps.old + bound (length r.now.rows) (length commalist.now) }
 {
-    let types = types_at(alloc, r.heading().attributes(), acl)?;
-    let boxes = to_boxes(alloc, r, acl)?;
+    let types = types_at(alloc, r.heading().attributes(), commalist)?;
+    let boxes = to_boxes(alloc, r, commalist)?;
     pack(alloc, types.as_slice(), boxes.as_slice(), MOST_ROWS, steps)
 }
 
@@ -44,17 +44,17 @@ fn packed_form<L: Ledger>(
 fn unpacked_form<L: Ledger>(
     alloc: Global,
     r: &Relation,
-    acl: &[usize],
+    commalist: &[usize],
     steps: &mut Steps<L>,
 ) -> Result<Vec<BoxRow<AnyType, Row>>, CellRefuse>
-    requires { AreIntervals r.now.heading acl.now }
-    ensures rows { IfOk result (λ v. map (row_numbers number) v.items ≡ unpacked_boxes row_cmp (length acl.now) (map (boxed acl.now) r.now.rows)) }
-    ensures boxes { IfOk result (λ v. All (λ b. IsBox IsPointOf (types_at r.now.heading acl.now) b.1) v.items) }
-    ensures limit { result ≡ Err OfLimit → most_rows < length (unpacked_boxes row_cmp (length acl.now) (map (boxed acl.now) r.now.rows)) }
-    ensures cost { steps.new ≤ steps.old + bound (length r.now.rows) (length acl.now) }
+    requires { AreIntervals r.now.heading commalist.now }
+    ensures rows { IfOk result (λ v. map (row_numbers number) v.items ≡ unpacked_boxes row_cmp (length commalist.now) (map (boxed commalist.now) r.now.rows)) }
+    ensures boxes { IfOk result (λ v. All (λ b. IsBox IsPointOf (types_at r.now.heading commalist.now) b.1) v.items) }
+    ensures limit { result ≡ Err OfLimit → most_rows < length (unpacked_boxes row_cmp (length commalist.now) (map (boxed commalist.now) r.now.rows)) }
+    ensures cost { steps.new ≤ steps.old + bound (length r.now.rows) (length commalist.now) }
 {
-    let types = types_at(alloc, r.heading().attributes(), acl)?;
-    let boxes = to_boxes(alloc, r, acl)?;
+    let types = types_at(alloc, r.heading().attributes(), commalist)?;
+    let boxes = to_boxes(alloc, r, commalist)?;
     unpack(alloc, types.as_slice(), boxes.as_slice(), MOST_ROWS, steps)
 }
 
@@ -63,16 +63,16 @@ fn unpacked_form<L: Ledger>(
 pub fn packed<L: Ledger>(
     alloc: Global,
     r: &Relation,
-    acl: &[usize],
+    commalist: &[usize],
     steps: &mut Steps<L>,
 ) -> Result<Relation, RowsRefuse>
-    requires { AreIntervals r.now.heading acl.now }
-    ensures rows { MatchResult result (IsAnswer r.now.heading (packed acl.now r.now.rows)) (IsRefusal (packed acl.now r.now.rows)) }
-    ensures cost { steps.new ≤ steps.old + bound (length r.now.rows) (length acl.now) }
+    requires { AreIntervals r.now.heading commalist.now }
+    ensures rows { MatchResult result (IsAnswer r.now.heading (packed commalist.now r.now.rows)) (IsRefusal (packed commalist.now r.now.rows)) }
+    ensures cost { steps.new ≤ steps.old + bound (length r.now.rows) (length commalist.now) }
 {
     let heading = r.heading().copy(alloc)?;
-    match packed_form(alloc, r, acl, steps) {
-        Ok(form) => from_boxes(alloc, heading, acl, form),
+    match packed_form(alloc, r, commalist, steps) {
+        Ok(form) => from_boxes(alloc, heading, commalist, form),
         Err(refuse) => Err(refusal(refuse)),
     }
 }
@@ -82,16 +82,16 @@ pub fn packed<L: Ledger>(
 pub fn unpacked<L: Ledger>(
     alloc: Global,
     r: &Relation,
-    acl: &[usize],
+    commalist: &[usize],
     steps: &mut Steps<L>,
 ) -> Result<Relation, RowsRefuse>
-    requires { AreIntervals r.now.heading acl.now }
-    ensures rows { MatchResult result (IsAnswer r.now.heading (unpacked acl.now r.now.rows)) (IsRefusal (unpacked acl.now r.now.rows)) }
-    ensures cost { steps.new ≤ steps.old + bound (length r.now.rows) (length acl.now) }
+    requires { AreIntervals r.now.heading commalist.now }
+    ensures rows { MatchResult result (IsAnswer r.now.heading (unpacked commalist.now r.now.rows)) (IsRefusal (unpacked commalist.now r.now.rows)) }
+    ensures cost { steps.new ≤ steps.old + bound (length r.now.rows) (length commalist.now) }
 {
     let heading = r.heading().copy(alloc)?;
-    match unpacked_form(alloc, r, acl, steps) {
-        Ok(form) => from_boxes(alloc, heading, acl, form),
+    match unpacked_form(alloc, r, commalist, steps) {
+        Ok(form) => from_boxes(alloc, heading, commalist, form),
         Err(refuse) => Err(refusal(refuse)),
     }
 }

@@ -9,22 +9,22 @@ use std::alloc::Global;
 use value_core::{Kind, Name};
 
 /// Whether the position is one of the list.
-pub fn is_listed(acl: &[usize], i: usize) -> bool
-    ensures { result ≡ among acl.now i }
+pub fn is_listed(commalist: &[usize], i: usize) -> bool
+    ensures { result ≡ among commalist.now i }
 {
-    acl.iter().any(|j| i == *j)
+    commalist.iter().any(|j| i == *j)
 }
 
 /// The place of the position in the list; past its end where it is not listed.
-pub(crate) fn place_of(acl: &[usize], i: usize) -> usize
-    ensures { result ≡ place_of acl.now i }
+pub(crate) fn place_of(commalist: &[usize], i: usize) -> usize
+    ensures { result ≡ place_of commalist.now i }
 {
-    for (at, j) in acl.iter().enumerate() {
+    for (at, j) in commalist.iter().enumerate() {
         if i == *j {
             return at;
         }
     }
-    acl.len()
+    commalist.len()
 }
 
 /// The point type of an interval attribute.
@@ -41,13 +41,13 @@ pub(crate) fn type_of(kind: Kind) -> AnyType
 pub fn types_at(
     alloc: Global,
     heading: &[(Name, Kind)],
-    acl: &[usize],
+    commalist: &[usize],
 ) -> Result<Vec<AnyType>, Memory>
-    requires { All (λ (i : ℕ). i < length heading.now) acl.now }
-    ensures { IfOk result (λ v. v.items ≡ types_at heading.now acl.now) }
+    requires { All (λ (i : ℕ). i < length heading.now) commalist.now }
+    ensures { IfOk result (λ v. v.items ≡ types_at heading.now commalist.now) }
 {
-    let mut types = Vec::with_capacity(alloc, acl.len())?;
-    for i in acl {
+    let mut types = Vec::with_capacity(alloc, commalist.len())?;
+    for i in commalist {
         types.push(type_of(heading[*i].1))?;
     }
     Ok(types)

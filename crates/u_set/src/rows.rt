@@ -4,7 +4,7 @@ ghost use Rattle.std.specs.Vec.Iter.{into_iter_items};
 ghost use Rattle.std.specs.List.{All};
 ghost use Rattle.point_core.specs.Points.{line_of, number, IsPointOf};
 ghost use Rattle.value_core.specs.Attributes.{among};
-ghost use Rattle.packing_core.specs.Packed.{nowhere};
+ghost use Rattle.cell_packing.specs.Packed.{nowhere};
 ghost use Rattle.value_core.specs.Plain.{plain};
 ghost use Rattle.value_core.specs.declared.value.Value.{Value as Held};
 ghost use Rattle.value_core.specs.Relations.{all_fit};
@@ -24,14 +24,19 @@ use std::vec::IntoIter;
 use value_core::{Heading, Kind, Name, Relation, Row, RowsRefuse, Value};
 
 // The value of a listed attribute.
-fn side_value(heading: &[(Name, Kind)], acl: &[usize], i: usize, sides: &Sides<AnyType>) -> Value
-    requires intervals { AreIntervals heading.now acl.now }
-    requires listed { IsTrue (among acl.now i) }
-    requires sides { IsBox IsPointOf (types_at heading.now acl.now) sides.now }
-    ensures value { plain result ≡ interval (line_of (type_of (kind_at heading.now i))) (get_or (box_numbers number sides.now) (place_of acl.now i) nowhere) }
+fn side_value(
+    heading: &[(Name, Kind)],
+    commalist: &[usize],
+    i: usize,
+    sides: &Sides<AnyType>,
+) -> Value
+    requires intervals { AreIntervals heading.now commalist.now }
+    requires listed { IsTrue (among commalist.now i) }
+    requires sides { IsBox IsPointOf (types_at heading.now commalist.now) sides.now }
+    ensures value { plain result ≡ interval (line_of (type_of (kind_at heading.now i))) (get_or (box_numbers number sides.now) (place_of commalist.now i) nowhere) }
     ensures fits { IsTrue (fits (kind_at heading.now i) (plain result)) }
 {
-    value_of(type_of(heading[i].1), &sides.list[place_of(acl, i)])
+    value_of(type_of(heading[i].1), &sides.list[place_of(commalist, i)])
 }
 
 // The next of the values; FALSE where there is none.
@@ -48,21 +53,21 @@ fn next_value(values: &mut IntoIter<Value, Global>) -> Value
 fn to_row(
     alloc: Global,
     heading: &[(Name, Kind)],
-    acl: &[usize],
+    commalist: &[usize],
     label: Vec<Value>,
     sides: &Sides<AnyType>,
 ) -> Result<Row, Memory>
-    requires intervals { AreIntervals heading.now acl.now }
-    requires sides { IsBox IsPointOf (types_at heading.now acl.now) sides.now }
-    requires label { IsTrue (fits_heading (others acl.now heading.now) (map plain label.items)) }
-    ensures row { IfOk result (λ r. r ≡ unboxed heading.now acl.now (map plain label.items, box_numbers number sides.now)) }
+    requires intervals { AreIntervals heading.now commalist.now }
+    requires sides { IsBox IsPointOf (types_at heading.now commalist.now) sides.now }
+    requires label { IsTrue (fits_heading (others commalist.now heading.now) (map plain label.items)) }
+    ensures row { IfOk result (λ r. r ≡ unboxed heading.now commalist.now (map plain label.items, box_numbers number sides.now)) }
     ensures fits { IfOk result (λ r. IsTrue (fits_heading heading.now r)) }
 {
     let mut rest = label.into_iter();
     let mut values = Vec::with_capacity(alloc, heading.len())?;
     for i in 0..heading.len() {
-        if is_listed(acl, i) {
-            values.push(side_value(heading, acl, i, sides))?;
+        if is_listed(commalist, i) {
+            values.push(side_value(heading, commalist, i, sides))?;
         } else {
             values.push(next_value(&mut rest))?;
         }
@@ -74,19 +79,19 @@ fn to_row(
 fn to_rows(
     alloc: Global,
     heading: &[(Name, Kind)],
-    acl: &[usize],
+    commalist: &[usize],
     boxes: Vec<BoxRow<AnyType, Row>>,
 ) -> Result<Vec<Row>, Memory>
-    requires intervals { AreIntervals heading.now acl.now }
-    requires sides { All (λ b. IsBox IsPointOf (types_at heading.now acl.now) b.1) boxes.items }
-    requires labels { All (λ b. IsTrue (fits_heading (others acl.now heading.now) b.0)) boxes.items }
-    ensures rows { IfOk result (λ v. v.items ≡ map (unboxed heading.now acl.now) (map (row_numbers number) boxes.items)) }
+    requires intervals { AreIntervals heading.now commalist.now }
+    requires sides { All (λ b. IsBox IsPointOf (types_at heading.now commalist.now) b.1) boxes.items }
+    requires labels { All (λ b. IsTrue (fits_heading (others commalist.now heading.now) b.0)) boxes.items }
+    ensures rows { IfOk result (λ v. v.items ≡ map (unboxed heading.now commalist.now) (map (row_numbers number) boxes.items)) }
     ensures fits { IfOk result (λ v. IsTrue (all_fit heading.now v.items)) }
 {
     let mut rows = Vec::with_capacity(alloc, boxes.len())?;
     for b in boxes {
         let label = b.label.into_values();
-        let row = to_row(alloc, heading, acl, label, &b.sides)?;
+        let row = to_row(alloc, heading, commalist, label, &b.sides)?;
         rows.push(row)?;
     }
     Ok(rows)
@@ -97,15 +102,15 @@ fn to_rows(
 pub fn from_boxes(
     alloc: Global,
     heading: Heading,
-    acl: &[usize],
+    commalist: &[usize],
     boxes: Vec<BoxRow<AnyType, Row>>,
 ) -> Result<Relation, RowsRefuse>
-    requires intervals { AreIntervals heading acl.now }
-    requires sides { All (λ b. IsBox IsPointOf (types_at heading acl.now) b.1) boxes.items }
-    requires labels { All (λ b. IsTrue (fits_heading (others acl.now heading) b.0)) boxes.items }
-    ensures { let rows = rows_of (map (unboxed heading acl.now) (map (row_numbers number) boxes.items)) in
+    requires intervals { AreIntervals heading commalist.now }
+    requires sides { All (λ b. IsBox IsPointOf (types_at heading commalist.now) b.1) boxes.items }
+    requires labels { All (λ b. IsTrue (fits_heading (others commalist.now heading) b.0)) boxes.items }
+    ensures { let rows = rows_of (map (unboxed heading commalist.now) (map (row_numbers number) boxes.items)) in
         MatchResult result (IsAnswer heading rows) (IsRefusal rows) }
 {
-    let rows = to_rows(alloc, heading.attributes(), acl, boxes)?;
+    let rows = to_rows(alloc, heading.attributes(), commalist, boxes)?;
     Relation::of_fitting(heading, rows)
 }

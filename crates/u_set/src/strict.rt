@@ -2,7 +2,7 @@
 ghost use Rattle.std.specs.Prelude.{◌≡◌, ◌&&◌, ◌+◌, ◌≤◌, map, length, not, IfOk};
 ghost use Rattle.std.specs.List.{All};
 ghost use Rattle.base_core.specs.Sets.{is_within, are_same};
-ghost use Rattle.packing_core.specs.Boxed.{boxed_cmp, unpacked_boxes};
+ghost use Rattle.cell_packing.specs.Boxed.{boxed_cmp, unpacked_boxes};
 ghost use Rattle.value_core.specs.RowPacking.{unpacked};
 ghost use Rattle.value_core.specs.Values.{row_cmp, same_rows};
 ghost use Rattle.cell_core.specs.Boxes.{IsBox};
@@ -13,8 +13,8 @@ ghost use Rattle.u_set.specs.Boxes.{AreIntervals};
 use crate::boxes::to_boxes;
 use crate::positions::types_at;
 use cell_core::{BoxRow, CellRows, push_keys, rows_over_cells, same_keys};
+use cell_sweep::pack_rows;
 use point_core::{Memory, PointType, Steps};
-use slice_core::pack_rows;
 use std::alloc::Global;
 use std::sync::ledger::Ledger;
 use value_core::{Relation, Row};
@@ -66,17 +66,17 @@ pub fn is_properly_within<L: Ledger>(
     alloc: Global,
     left: &Relation,
     right: &Relation,
-    acl: &[usize],
+    commalist: &[usize],
     steps: &mut Steps<L>,
 ) -> Result<bool, Memory>
     requires heading { left.now.heading ≡ right.now.heading }
-    requires intervals { AreIntervals left.now.heading acl.now }
-    ensures answer { IfOk result (λ b. b ≡ (is_within row_cmp (unpacked acl.now left.now.rows) (unpacked acl.now right.now.rows)
-        && not (same_rows (unpacked acl.now left.now.rows) (unpacked acl.now right.now.rows)))) }
-    ensures cost { steps.new ≤ steps.old + bound (length left.now.rows + length right.now.rows) (length acl.now) }
+    requires intervals { AreIntervals left.now.heading commalist.now }
+    ensures answer { IfOk result (λ b. b ≡ (is_within row_cmp (unpacked commalist.now left.now.rows) (unpacked commalist.now right.now.rows)
+        && not (same_rows (unpacked commalist.now left.now.rows) (unpacked commalist.now right.now.rows)))) }
+    ensures cost { steps.new ≤ steps.old + bound (length left.now.rows + length right.now.rows) (length commalist.now) }
 {
-    let types = types_at(alloc, left.heading().attributes(), acl)?;
-    let l = to_boxes(alloc, left, acl)?;
-    let r = to_boxes(alloc, right, acl)?;
+    let types = types_at(alloc, left.heading().attributes(), commalist)?;
+    let l = to_boxes(alloc, left, commalist)?;
+    let r = to_boxes(alloc, right, commalist)?;
     u_proper_subset(alloc, types.as_slice(), l.as_slice(), r.as_slice(), steps)
 }

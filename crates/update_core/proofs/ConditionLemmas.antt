@@ -53,13 +53,13 @@ any-heading heading (pair op place l r) kind h = (h.0, h.1, any-heading heading 
 any-heading heading (and_expr place l r) kind h = (any-heading heading l Truth h.0, any-heading heading r Truth h.1, h.2)
 any-heading heading (or_expr place l r) kind h = (any-heading heading l Truth h.0, any-heading heading r Truth h.1, h.2)
 
-pub names-no : (acl : List ℕ) (e : Expr) (kind : Kind) → IsTyped [] e kind → names_any acl e ≡ false
-names-no acl (constant place k v) kind h = refl
-names-no acl (attribute place i) kind h = let e = h.1 in absurd (cc)
-names-no acl (one op place e) kind h = names-no acl e h.0 h.1
-names-no acl (pair op place l r) kind h = or_from (names_any acl l) (names_any acl r) (names-no acl l h.0 h.2) (names-no acl r h.1 h.3)
-names-no acl (and_expr place l r) kind h = or_from (names_any acl l) (names_any acl r) (names-no acl l Truth h.0) (names-no acl r Truth h.1)
-names-no acl (or_expr place l r) kind h = or_from (names_any acl l) (names_any acl r) (names-no acl l Truth h.0) (names-no acl r Truth h.1)
+pub names-no : (commalist : List ℕ) (e : Expr) (kind : Kind) → IsTyped [] e kind → names_any commalist e ≡ false
+names-no commalist (constant place k v) kind h = refl
+names-no commalist (attribute place i) kind h = let e = h.1 in absurd (cc)
+names-no commalist (one op place e) kind h = names-no commalist e h.0 h.1
+names-no commalist (pair op place l r) kind h = or_from (names_any commalist l) (names_any commalist r) (names-no commalist l h.0 h.2) (names-no commalist r h.1 h.3)
+names-no commalist (and_expr place l r) kind h = or_from (names_any commalist l) (names_any commalist r) (names-no commalist l Truth h.0) (names-no commalist r Truth h.1)
+names-no commalist (or_expr place l r) kind h = or_from (names_any commalist l) (names_any commalist r) (names-no commalist l Truth h.0) (names-no commalist r Truth h.1)
 
 -- ---- typed conditions
 
@@ -99,17 +99,17 @@ module _ (sizes : List ℕ) (heading : Heading) (place : Place) where
       inside-by IsCondition place heading both-typed ps c
       (λ p i. part-typed p (all-in (λ (j : ℕ). j < length heading) (attributes_of_portion ps) p.0 within ((In-map (λ (q : ℕ × Expr). q.0) p.0 ps).1 (p, i, refl))) (all-in (IsPart sizes heading) ps p parts i)) h
 
-  pub change-typed : (acl : Option (List ℕ)) (portion : Option PlainPortion) (c : Expr) → IsPortionIf sizes heading acl portion → IsCondition c → IsCondition (inside_if place heading portion c)
-  change-typed acl None c is h = h
+  pub change-typed : (commalist : Option (List ℕ)) (portion : Option PlainPortion) (c : Expr) → IsPortionIf sizes heading commalist portion → IsCondition c → IsCondition (inside_if place heading portion c)
+  change-typed commalist None c is h = h
   change-typed None (Some []) c is h = absurd is
   change-typed None (Some (p ∷ ps)) c is h = inside-typed (p ∷ ps) c is.0.within is.1 h
-  change-typed (Some acl) (Some portion) c is h = absurd is
+  change-typed (Some commalist) (Some portion) c is h = absurd is
 
-pub change-list : (sizes : List ℕ) (heading : Heading) (acl : Option (List ℕ)) (portion : Option PlainPortion) → IsListIf heading acl → IsPortionIf sizes heading acl portion → IsListIf heading (swept_list acl portion)
-change-list sizes heading acl None list is = list
+pub change-list : (sizes : List ℕ) (heading : Heading) (commalist : Option (List ℕ)) (portion : Option PlainPortion) → IsListIf heading commalist → IsPortionIf sizes heading commalist portion → IsListIf heading (swept_list commalist portion)
+change-list sizes heading commalist None list is = list
 change-list sizes heading None (Some []) list is = absurd is
 change-list sizes heading None (Some (p ∷ ps)) list is = is.0
-change-list sizes heading (Some acl) (Some portion) list is = absurd is
+change-list sizes heading (Some commalist) (Some portion) list is = absurd is
 
 -- ---- sweepable conditions
 
@@ -117,49 +117,49 @@ none-first : (places : List Place) → IsTrue (is_none (first_place places)) →
 none-first [] h = refl
 none-first (p ∷ places) h = absurd (cc)
 
-module _ (acl : List ℕ) (place : Place) where
+module _ (commalist : List ℕ) (place : Place) where
   abbrev pub IsSwept : Expr → Type 0
-  IsSwept c = unswept acl c ≡ []
+  IsSwept c = unswept commalist c ≡ []
 
-  pub swept-from : (c : Expr) → IsTrue (is_swept acl c) → IsSwept c
-  swept-from c h = none-first (unswept acl c) h
+  pub swept-from : (c : Expr) → IsTrue (is_swept commalist c) → IsSwept c
+  swept-from c h = none-first (unswept commalist c) h
 
-  pub swept-to : (c : Expr) → IsSwept c → IsTrue (is_swept acl c)
+  pub swept-to : (c : Expr) → IsSwept c → IsTrue (is_swept commalist c)
   swept-to c h = ap (λ places. is_none (first_place places)) h
 
   both-swept : (l r : Expr) → IsSwept l → IsSwept r → IsSwept (and_expr place l r)
   both-swept l r h k = rw (h, k) refl
 
-  pub part-swept : (heading : Heading) (p : ℕ × Expr) → among acl p.0 ≡ true → names_any acl p.1 ≡ false → IsSwept (lies_in place heading p)
+  pub part-swept : (heading : Heading) (p : ℕ × Expr) → among commalist p.0 ≡ true → names_any commalist p.1 ≡ false → IsSwept (lies_in place heading p)
   part-swept heading p at names = rw (at, names) refl
 
-pub member-among : (acl : List ℕ) (i : ℕ) → In i acl → among acl i ≡ true
-member-among acl i h = (list_any-In (nat_eq i) acl).1 (i, h, nat_eq_equiv.refl i)
+pub member-among : (commalist : List ℕ) (i : ℕ) → In i commalist → among commalist i ≡ true
+member-among commalist i h = (list_any-In (nat_eq i) commalist).1 (i, h, nat_eq_equiv.refl i)
 
 abbrev pub IsSweptIf : Option (List ℕ) → Expr → Type 0
 IsSweptIf None c = Unit {0}
-IsSweptIf (Some acl) c = unswept acl c ≡ []
+IsSweptIf (Some commalist) c = unswept commalist c ≡ []
 
-pub condition-swept : (acl : Option (List ℕ)) (place : Place) (o : Option Expr) → IsTrue (condition_is_swept acl o) → IsSweptIf acl (condition_of place o)
+pub condition-swept : (commalist : Option (List ℕ)) (place : Place) (o : Option Expr) → IsTrue (condition_is_swept commalist o) → IsSweptIf commalist (condition_of place o)
 condition-swept None place o h = tt
-condition-swept (Some acl) place None h = refl
-condition-swept (Some acl) place (Some c) h = swept-from acl place c h
+condition-swept (Some commalist) place None h = refl
+condition-swept (Some commalist) place (Some c) h = swept-from commalist place c h
 
-pub negated-swept : (acl : Option (List ℕ)) (place : Place) (c : Expr) → IsSweptIf acl c → IsSweptIf acl (negated place c)
+pub negated-swept : (commalist : Option (List ℕ)) (place : Place) (c : Expr) → IsSweptIf commalist c → IsSweptIf commalist (negated place c)
 negated-swept None place c h = tt
-negated-swept (Some acl) place c h = h
+negated-swept (Some commalist) place c h = h
 
 inside-swept : (sizes : List ℕ) (heading : Heading) (place : Place) (ps : PlainPortion) (c : Expr) → All (IsPart sizes heading) ps
     → IsSwept (attributes_of_portion ps) place c → IsSwept (attributes_of_portion ps) place (inside place heading ps c)
 inside-swept sizes heading place ps c parts h =
-    let acl = attributes_of_portion ps in
-    inside-by (IsSwept acl place) place heading (both-swept acl place) ps c
-    (λ p i. part-swept acl place heading p (member-among acl p.0 ((In-map (λ (q : ℕ × Expr). q.0) p.0 ps).1 (p, i, refl)))
-    (names-no acl p.1 (kind_at heading p.0) ((all-in (IsPart sizes heading) ps p parts i).1.typed))) h
+    let commalist = attributes_of_portion ps in
+    inside-by (IsSwept commalist place) place heading (both-swept commalist place) ps c
+    (λ p i. part-swept commalist place heading p (member-among commalist p.0 ((In-map (λ (q : ℕ × Expr). q.0) p.0 ps).1 (p, i, refl)))
+    (names-no commalist p.1 (kind_at heading p.0) ((all-in (IsPart sizes heading) ps p parts i).1.typed))) h
 
-pub change-swept : (sizes : List ℕ) (heading : Heading) (place : Place) (acl : Option (List ℕ)) (portion : Option PlainPortion) (c : Expr) → IsPortionIf sizes heading acl portion
-    → IsSweptIf (swept_list acl portion) c → IsSweptIf (swept_list acl portion) (inside_if place heading portion c)
-change-swept sizes heading place acl None c is h = h
+pub change-swept : (sizes : List ℕ) (heading : Heading) (place : Place) (commalist : Option (List ℕ)) (portion : Option PlainPortion) (c : Expr) → IsPortionIf sizes heading commalist portion
+    → IsSweptIf (swept_list commalist portion) c → IsSweptIf (swept_list commalist portion) (inside_if place heading portion c)
+change-swept sizes heading place commalist None c is h = h
 change-swept sizes heading place None (Some []) c is h = absurd is
 change-swept sizes heading place None (Some (p ∷ ps)) c is h = inside-swept sizes heading place (p ∷ ps) c is.1 h
-change-swept sizes heading place (Some acl) (Some portion) c is h = absurd is
+change-swept sizes heading place (Some commalist) (Some portion) c is h = absurd is

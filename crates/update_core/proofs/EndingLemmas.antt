@@ -7,8 +7,8 @@ use Rattle.update_core.specs.Updates.{expanded, IsExpandable}
 
 form-meant : (entries : Entries) (item : PlainItem) (form : PlainItemForm) → IsExpandable form → meant_by_form entries item form ≡ expanded item
 form-meant entries item (set_to t) other = refl
-form-meant entries item (insert acl t) other = refl
-form-meant entries item (delete acl t) other = refl
+form-meant entries item (insert commalist t) other = refl
+form-meant entries item (delete commalist t) other = refl
 form-meant entries item (delete_rows change) other = refl
 form-meant entries item (update change sets) other = refl
 form-meant entries item (terminate at place condition) other = absurd other

@@ -25,8 +25,8 @@ use Rattle.update_core.proofs.PartLemmas.{AreWithin, infix-part, restrict-part, 
 -- the parts of an item other than TERMINATE are typed for a base relvar of its heading
 form-base : (s : State) (target : Name) (heading : Heading) (form : PlainItemForm) → IsExpandable form → IsTypedForm s target heading form → IsBaseOf s target heading
 form-base s target heading (set_to t) other h = h.0
-form-base s target heading (insert acl t) other h = h.0
-form-base s target heading (delete acl t) other h = h.0
+form-base s target heading (insert commalist t) other h = h.0
+form-base s target heading (delete commalist t) other h = h.0
 form-base s target heading (delete_rows change) other h = h.0
 form-base s target heading (update change sets) other h = h.0
 form-base s target heading (terminate at place condition) other h = absurd other
@@ -41,8 +41,8 @@ module _ (s : State) (item : PlainItem) (made : IsWellMade s) (is : IsBaseOf s i
       let declared = subst (λ (h : Heading). IsTrue (is_declared (sizes_of s.ordinals) h)) (sym is.1) (base-declared (sizes_of s.ordinals) [] s.relvars item.target made.relvars is.0) in
       heading_ascends item.heading ((and_parts (is_heading item.heading) (list_all (λ a. is_kind (sizes_of s.ordinals) a.1) item.heading) declared).0)
 
-  within : (acl : List ℕ) → IsList item.heading acl → AreWithin item.heading acl
-  within acl l i k = all-in (λ (j : ℕ). j < length item.heading) acl i l.within k
+  within : (commalist : List ℕ) → IsList item.heading commalist → AreWithin item.heading commalist
+  within commalist l i k = all-in (λ (j : ℕ). j < length item.heading) commalist i l.within k
 
   target-source : IsSource (target_of item)
   target-source = (base-heading s.relvars item.target item.heading is.0 is.1, refl)
@@ -51,69 +51,69 @@ module _ (s : State) (item : PlainItem) (made : IsWellMade s) (is : IsBaseOf s i
 
   abbrev IsPartIf : Option (List ℕ) → Tree → Type 0
   IsPartIf None t = Unit {0}
-  IsPartIf (Some acl) t = IsTrue (is_part (names_at item.heading acl) t)
+  IsPartIf (Some commalist) t = IsTrue (is_part (names_at item.heading commalist) t)
 
-  under-source : (acl : Option (List ℕ)) (t : Tree) → IsListIf item.heading acl → IsPartIf acl t → IsSource t → IsSource (under_using item acl t)
+  under-source : (commalist : Option (List ℕ)) (t : Tree) → IsListIf item.heading commalist → IsPartIf commalist t → IsSource t → IsSource (under_using item commalist t)
   under-source None t l p k = k
-  under-source (Some acl) t l p k = ((k.0, l, sym k.1, p), refl)
+  under-source (Some commalist) t l p k = ((k.0, l, sym k.1, p), refl)
 
-  infix-if : (acl : Option (List ℕ)) (word : InfixWord) (l r : Tree) → IsListIf item.heading acl → heading_of l ≡ item.heading → heading_of r ≡ item.heading → IsPartIf acl (infix_of item.place item.heading word l r)
+  infix-if : (commalist : Option (List ℕ)) (word : InfixWord) (l r : Tree) → IsListIf item.heading commalist → heading_of l ≡ item.heading → heading_of r ≡ item.heading → IsPartIf commalist (infix_of item.place item.heading word l r)
   infix-if None word l r list e f = tt
-  infix-if (Some acl) word l r list e f = infix-part item.heading acl up (within acl list) item.place word l r e f
+  infix-if (Some commalist) word l r list e f = infix-part item.heading commalist up (within commalist list) item.place word l r e f
 
-  restrict-if : (acl : Option (List ℕ)) (c : Expr) (t : Tree) → IsListIf item.heading acl → heading_of t ≡ item.heading → IsSweptIf acl c → IsPartIf acl (restrict item.place item.heading c t)
+  restrict-if : (commalist : Option (List ℕ)) (c : Expr) (t : Tree) → IsListIf item.heading commalist → heading_of t ≡ item.heading → IsSweptIf commalist c → IsPartIf commalist (restrict item.place item.heading c t)
   restrict-if None c t list e swept = tt
-  restrict-if (Some acl) c t list e swept = restrict-part item.heading acl up (within acl list) item.place c t e swept
+  restrict-if (Some commalist) c t list e swept = restrict-part item.heading commalist up (within commalist list) item.place c t e swept
 
-  extend-if : (acl : Option (List ℕ)) (sets : PlainSets) (t : Tree) → IsListIf item.heading acl → heading_of t ≡ item.heading → IsTrue (are_swept_sets item.heading acl sets) → IsPartIf acl (extend item.place item.heading sets t)
+  extend-if : (commalist : Option (List ℕ)) (sets : PlainSets) (t : Tree) → IsListIf item.heading commalist → heading_of t ≡ item.heading → IsTrue (are_swept_sets item.heading commalist sets) → IsPartIf commalist (extend item.place item.heading sets t)
   extend-if None sets t list e swept = tt
-  extend-if (Some acl) sets t list e swept = extend-part item.heading acl up (within acl list) item.place sets t e swept
+  extend-if (Some commalist) sets t list e swept = extend-part item.heading commalist up (within commalist list) item.place sets t e swept
 
   -- ---- expressions
 
-  operand-source : (acl : Option (List ℕ)) (word : InfixWord) (t : Tree) → IsListIf item.heading acl → IsSource t → IsInfix word item.heading (heading_of t) item.heading → IsSource (with_operand item acl word t)
-  operand-source acl word t list k joins =
-      under-source acl (infix_of item.place item.heading word (target_of item) t) list (infix-if acl word (target_of item) t list refl k.1) ((target-source.0, k.0, joins), refl)
+  operand-source : (commalist : Option (List ℕ)) (word : InfixWord) (t : Tree) → IsListIf item.heading commalist → IsSource t → IsInfix word item.heading (heading_of t) item.heading → IsSource (with_operand item commalist word t)
+  operand-source commalist word t list k joins =
+      under-source commalist (infix_of item.place item.heading word (target_of item) t) list (infix-if commalist word (target_of item) t list refl k.1) ((target-source.0, k.0, joins), refl)
 
-  module _ (acl : Option (List ℕ)) (list : IsListIf item.heading acl) where
-    rows-source : (c : Expr) → IsCondition (sizes_of s.ordinals) item.heading item.place c → IsSweptIf acl c → IsSource (rows_where item acl c)
+  module _ (commalist : Option (List ℕ)) (list : IsListIf item.heading commalist) where
+    rows-source : (c : Expr) → IsCondition (sizes_of s.ordinals) item.heading item.place c → IsSweptIf commalist c → IsSource (rows_where item commalist c)
     rows-source c typed swept =
-        under-source acl (restrict item.place item.heading c (target_of item)) list (restrict-if acl c (target_of item) list refl swept)
+        under-source commalist (restrict item.place item.heading c (target_of item)) list (restrict-if commalist c (target_of item) list refl swept)
         ((target-source.0, record { condition = typed; headed = refl }), refl)
 
-    module _ (c : Expr) (typed : IsCondition (sizes_of s.ordinals) item.heading item.place c) (swept : IsSweptIf acl c) where
-      others-source : IsSource (other_rows item acl c)
-      others-source = rows-source (negated item.place c) (negated-typed (sizes_of s.ordinals) item.heading item.place c typed) (negated-swept acl item.place c swept)
+    module _ (c : Expr) (typed : IsCondition (sizes_of s.ordinals) item.heading item.place c) (swept : IsSweptIf commalist c) where
+      others-source : IsSource (other_rows item commalist c)
+      others-source = rows-source (negated item.place c) (negated-typed (sizes_of s.ordinals) item.heading item.place c typed) (negated-swept commalist item.place c swept)
 
-      module _ (sets : PlainSets) (made_of : IsExtension (sizes_of s.ordinals) item.heading item.heading sets) (swept_sets : IsTrue (are_swept_sets item.heading acl sets)) where
-        changed-source : IsSource (changed_rows item acl c sets)
+      module _ (sets : PlainSets) (made_of : IsExtension (sizes_of s.ordinals) item.heading item.heading sets) (swept_sets : IsTrue (are_swept_sets item.heading commalist sets)) where
+        changed-source : IsSource (changed_rows item commalist c sets)
         changed-source =
             let rows = rows-source c typed swept in
-            under-source acl (extend item.place item.heading sets (rows_where item acl c)) list (extend-if acl sets (rows_where item acl c) list rows.1 swept_sets)
+            under-source commalist (extend item.place item.heading sets (rows_where item commalist c)) list (extend-if commalist sets (rows_where item commalist c) list rows.1 swept_sets)
             ((rows.0, subst (λ (h : Heading). IsExtension (sizes_of s.ordinals) h item.heading sets) (sym rows.1) made_of), refl)
 
-        updated-source : IsSource (updated item acl c sets)
+        updated-source : IsSource (updated item commalist c sets)
         updated-source =
             let others = others-source in
             let changed = changed-source in
-            under-source acl (infix_of item.place item.heading Union (other_rows item acl c) (changed_rows item acl c sets)) list
-            (infix-if acl Union (other_rows item acl c) (changed_rows item acl c sets) list others.1 changed.1)
+            under-source commalist (infix_of item.place item.heading Union (other_rows item commalist c) (changed_rows item commalist c sets)) list
+            (infix-if commalist Union (other_rows item commalist c) (changed_rows item commalist c sets) list others.1 changed.1)
             ((others.0, changed.0, (others.1 ∙ sym changed.1, sym others.1)), refl)
 
   -- ---- changes
 
   module _ (change : PlainChange) (h : IsChange (sizes_of s.ordinals) item.heading change) where
     list-of : IsListIf item.heading (list_of_change change)
-    list-of = change-list (sizes_of s.ordinals) item.heading change.acl change.portion h.acl h.portion
+    list-of = change-list (sizes_of s.ordinals) item.heading change.commalist change.portion h.commalist h.portion
 
     typed-of : IsCondition (sizes_of s.ordinals) item.heading item.place (condition_of_change item change)
     typed-of =
-        change-typed (sizes_of s.ordinals) item.heading item.place change.acl change.portion (condition_of item.place change.condition) h.portion
+        change-typed (sizes_of s.ordinals) item.heading item.place change.commalist change.portion (condition_of item.place change.condition) h.portion
         (condition-typed (sizes_of s.ordinals) item.heading item.place change.condition h.condition)
 
     swept-of : IsSweptIf (list_of_change change) (condition_of_change item change)
     swept-of =
-        change-swept (sizes_of s.ordinals) item.heading item.place change.acl change.portion (condition_of item.place change.condition) h.portion
+        change-swept (sizes_of s.ordinals) item.heading item.place change.commalist change.portion (condition_of item.place change.condition) h.portion
         (condition-swept (list_of_change change) item.place change.condition h.swept)
 
   -- ---- items
@@ -123,8 +123,8 @@ module _ (s : State) (item : PlainItem) (made : IsWellMade s) (is : IsBaseOf s i
 
   of-form : (form : PlainItemForm) → IsExpandable form → IsTypedForm s item.target item.heading form → All (IsTypedAssignment s) (assigned_to item (source_of item form))
   of-form (set_to t) other h = one t (h.1, h.2)
-  of-form (insert acl t) other h = one (with_operand item acl Union t) (operand-source acl Union t h.3 (h.1, h.2) (sym h.2, refl))
-  of-form (delete acl t) other h = one (with_operand item acl Minus t) (operand-source acl Minus t h.3 (h.1, h.2) (sym h.2, refl))
+  of-form (insert commalist t) other h = one (with_operand item commalist Union t) (operand-source commalist Union t h.3 (h.1, h.2) (sym h.2, refl))
+  of-form (delete commalist t) other h = one (with_operand item commalist Minus t) (operand-source commalist Minus t h.3 (h.1, h.2) (sym h.2, refl))
   of-form (delete_rows change) other h =
       one (other_rows item (list_of_change change) (condition_of_change item change))
       (others-source (list_of_change change) (list-of change h.1) (condition_of_change item change) (typed-of change h.1) (swept-of change h.1))

@@ -33,8 +33,8 @@ ended_in entries place at (Some rule) (Some names) e c =
 abbrev pub meant_by_form : Entries → PlainItem → PlainItemForm → List PlainAssignment
 meant_by_form entries i (terminate e at c) = ended_in entries i.place at (rule_of entries i.target) (history_of entries i.target) e c
 meant_by_form entries i (set_to t) = expanded i
-meant_by_form entries i (insert acl t) = expanded i
-meant_by_form entries i (delete acl t) = expanded i
+meant_by_form entries i (insert commalist t) = expanded i
+meant_by_form entries i (delete commalist t) = expanded i
 meant_by_form entries i (delete_rows c) = expanded i
 meant_by_form entries i (update c sets) = expanded i
 

@@ -58,30 +58,30 @@ target_of item = named item.place item.heading item.target
 -- the expression, under USING where a list is given
 abbrev pub under_using : PlainItem → Option (List ℕ) → Tree → Tree
 under_using item None t = t
-under_using item (Some acl) t = using item.place item.heading acl t
+under_using item (Some commalist) t = using item.place item.heading commalist t
 
 -- the target and an operand, joined by a word
 abbrev pub with_operand : PlainItem → Option (List ℕ) → InfixWord → Tree → Tree
-with_operand item acl word t = under_using item acl (infix_of item.place item.heading word (target_of item) t)
+with_operand item commalist word t = under_using item commalist (infix_of item.place item.heading word (target_of item) t)
 
 -- the target's rows that meet the condition
 abbrev pub rows_where : PlainItem → Option (List ℕ) → Expr → Tree
-rows_where item acl c = under_using item acl (restrict item.place item.heading c (target_of item))
+rows_where item commalist c = under_using item commalist (restrict item.place item.heading c (target_of item))
 
 -- the other rows
 abbrev pub other_rows : PlainItem → Option (List ℕ) → Expr → Tree
-other_rows item acl c = rows_where item acl (negated item.place c)
+other_rows item commalist c = rows_where item commalist (negated item.place c)
 
 -- the rows that meet the condition, with new values
 abbrev pub changed_rows : PlainItem → Option (List ℕ) → Expr → PlainSets → Tree
-changed_rows item acl c sets = under_using item acl (extend item.place item.heading sets (rows_where item acl c))
+changed_rows item commalist c sets = under_using item commalist (extend item.place item.heading sets (rows_where item commalist c))
 
 -- the other rows, and the changed ones
 abbrev pub replaced : PlainItem → Option (List ℕ) → Expr → PlainSets → Tree
-replaced item acl c sets = infix_of item.place item.heading Union (other_rows item acl c) (changed_rows item acl c sets)
+replaced item commalist c sets = infix_of item.place item.heading Union (other_rows item commalist c) (changed_rows item commalist c sets)
 
 abbrev pub updated : PlainItem → Option (List ℕ) → Expr → PlainSets → Tree
-updated item acl c sets = under_using item acl (replaced item acl c sets)
+updated item commalist c sets = under_using item commalist (replaced item commalist c sets)
 
 -- ---- items
 
@@ -90,13 +90,13 @@ abbrev pub condition_of_change : PlainItem → PlainChange → Expr
 condition_of_change item change = inside_if item.place item.heading change.portion (condition_of item.place change.condition)
 
 abbrev pub list_of_change : PlainChange → Option (List ℕ)
-list_of_change change = swept_list change.acl change.portion
+list_of_change change = swept_list change.commalist change.portion
 
 -- the expression that the target gets
 abbrev pub source_of : PlainItem → PlainItemForm → Option Tree
 source_of item (set_to t) = Some t
-source_of item (insert acl t) = Some (with_operand item acl Union t)
-source_of item (delete acl t) = Some (with_operand item acl Minus t)
+source_of item (insert commalist t) = Some (with_operand item commalist Union t)
+source_of item (delete commalist t) = Some (with_operand item commalist Minus t)
 source_of item (delete_rows change) = Some (other_rows item (list_of_change change) (condition_of_change item change))
 source_of item (update change sets) = Some (updated item (list_of_change change) (condition_of_change item change) sets)
 source_of item (terminate at place condition) = None

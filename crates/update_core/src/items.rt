@@ -40,8 +40,20 @@ fn source(alloc: Global, item: &Item) -> Result<RelTree, Memory>
 {
     match &item.form {
         ItemForm::Set(t) => Ok(t.copy(alloc)?),
-        ItemForm::Insert(acl, t) => Ok(with_operand(alloc, item, acl, InfixWord::Union, t)?),
-        ItemForm::Delete(acl, t) => Ok(with_operand(alloc, item, acl, InfixWord::Minus, t)?),
+        ItemForm::Insert(commalist, t) => Ok(with_operand(
+            alloc,
+            item,
+            commalist,
+            InfixWord::Union,
+            t,
+        )?),
+        ItemForm::Delete(commalist, t) => Ok(with_operand(
+            alloc,
+            item,
+            commalist,
+            InfixWord::Minus,
+            t,
+        )?),
         ItemForm::DeleteRows(change) => Ok(without_rows(alloc, item, change)?),
         ItemForm::Update(change, sets) => Ok(with_changes(alloc, item, change, sets)?),
         ItemForm::Terminate { .. } => unreachable!(),
@@ -52,36 +64,36 @@ fn source(alloc: Global, item: &Item) -> Result<RelTree, Memory>
 fn without_rows(alloc: Global, item: &Item, change: &Change) -> Result<RelTree, Memory>
     ensures { IfOk result (λ t. source_of (read_item item.now) (delete_rows (read_change change.now)) ≡ Some (read_tree t)) }
 {
-    let acl = change_list(alloc, change)?;
+    let commalist = change_list(alloc, change)?;
     let c = change_condition(alloc, item, change)?;
-    Ok(other_rows(alloc, item, &acl, &c)?)
+    Ok(other_rows(alloc, item, &commalist, &c)?)
 }
 
 /// The target with new values in the rows of the change.
 fn with_changes(alloc: Global, item: &Item, change: &Change, sets: &Sets) -> Result<RelTree, Memory>
     ensures { IfOk result (λ t. source_of (read_item item.now) (update (read_change change.now) (read_sets sets.now)) ≡ Some (read_tree t)) }
 {
-    let acl = change_list(alloc, change)?;
+    let commalist = change_list(alloc, change)?;
     let c = change_condition(alloc, item, change)?;
-    Ok(updated(alloc, item, &acl, c, sets)?)
+    Ok(updated(alloc, item, &commalist, c, sets)?)
 }
 
 /// The attributes on which the change works point by point.
 fn change_list(alloc: Global, change: &Change) -> Result<Option<Positions>, Memory>
-    ensures { IfOk result (λ acl. acl ≡ list_of_change (read_change change.now)) }
+    ensures { IfOk result (λ commalist. commalist ≡ list_of_change (read_change change.now)) }
 {
     match &change.portion {
         Some(portion) => Ok(Some(attributes(alloc, portion)?)),
-        None => Ok(copy_if(alloc, &change.acl)?),
+        None => Ok(copy_if(alloc, &change.commalist)?),
     }
 }
 
 /// The list, where there is one.
-fn copy_if(alloc: Global, acl: &Option<Positions>) -> Result<Option<Positions>, Memory>
-    ensures { IfOk result (λ copy. copy ≡ acl.now) }
+fn copy_if(alloc: Global, commalist: &Option<Positions>) -> Result<Option<Positions>, Memory>
+    ensures { IfOk result (λ copy. copy ≡ commalist.now) }
 {
-    match acl {
-        Some(acl) => Ok(Some(acl.copy(alloc)?)),
+    match commalist {
+        Some(commalist) => Ok(Some(commalist.copy(alloc)?)),
         None => Ok(None),
     }
 }

@@ -23,16 +23,16 @@ fn target(alloc: Global, item: &Item) -> Result<RelTree, Memory>
 fn under_using(
     alloc: Global,
     item: &Item,
-    acl: &Option<Positions>,
+    commalist: &Option<Positions>,
     t: RelTree,
 ) -> Result<RelTree, Memory>
-    ensures { IfOk result (λ r. read_tree r ≡ under_using (read_item item.now) acl.now (read_tree t)) }
+    ensures { IfOk result (λ r. read_tree r ≡ under_using (read_item item.now) commalist.now (read_tree t)) }
 {
-    match acl {
+    match commalist {
         None => Ok(t),
-        Some(acl) => {
-            let acl = acl.copy(alloc)?;
-            t.under_using(alloc, item.place, &item.heading, acl)
+        Some(commalist) => {
+            let commalist = commalist.copy(alloc)?;
+            t.under_using(alloc, item.place, &item.heading, commalist)
         }
     }
 }
@@ -41,16 +41,16 @@ fn under_using(
 pub(crate) fn with_operand(
     alloc: Global,
     item: &Item,
-    acl: &Option<Positions>,
+    commalist: &Option<Positions>,
     word: InfixWord,
     t: &RelTree,
 ) -> Result<RelTree, Memory>
-    ensures { IfOk result (λ r. read_tree r ≡ with_operand (read_item item.now) acl.now word (read_tree t.now)) }
+    ensures { IfOk result (λ r. read_tree r ≡ with_operand (read_item item.now) commalist.now word (read_tree t.now)) }
 {
     let left = target(alloc, item)?;
     let right = t.copy(alloc)?;
     let whole = left.joined(alloc, item.place, &item.heading, word, right)?;
-    let whole = under_using(alloc, item, acl, whole)?;
+    let whole = under_using(alloc, item, commalist, whole)?;
     Ok(whole)
 }
 
@@ -58,14 +58,14 @@ pub(crate) fn with_operand(
 fn rows_where(
     alloc: Global,
     item: &Item,
-    acl: &Option<Positions>,
+    commalist: &Option<Positions>,
     c: Scalar,
 ) -> Result<RelTree, Memory>
-    ensures { IfOk result (λ r. read_tree r ≡ rows_where (read_item item.now) acl.now (read c)) }
+    ensures { IfOk result (λ r. read_tree r ≡ rows_where (read_item item.now) commalist.now (read c)) }
 {
     let rows = target(alloc, item)?;
     let rows = rows.restricted(alloc, item.place, &item.heading, c)?;
-    let rows = under_using(alloc, item, acl, rows)?;
+    let rows = under_using(alloc, item, commalist, rows)?;
     Ok(rows)
 }
 
@@ -73,13 +73,13 @@ fn rows_where(
 pub(crate) fn other_rows(
     alloc: Global,
     item: &Item,
-    acl: &Option<Positions>,
+    commalist: &Option<Positions>,
     c: &Scalar,
 ) -> Result<RelTree, Memory>
-    ensures { IfOk result (λ r. read_tree r ≡ other_rows (read_item item.now) acl.now (read c.now)) }
+    ensures { IfOk result (λ r. read_tree r ≡ other_rows (read_item item.now) commalist.now (read c.now)) }
 {
     let not = negated(alloc, item.place, c)?;
-    let rows = rows_where(alloc, item, acl, not)?;
+    let rows = rows_where(alloc, item, commalist, not)?;
     Ok(rows)
 }
 
@@ -87,16 +87,16 @@ pub(crate) fn other_rows(
 fn changed_rows(
     alloc: Global,
     item: &Item,
-    acl: &Option<Positions>,
+    commalist: &Option<Positions>,
     c: Scalar,
     sets: &Sets,
 ) -> Result<RelTree, Memory>
-    ensures { IfOk result (λ r. read_tree r ≡ changed_rows (read_item item.now) acl.now (read c) (read_sets sets.now)) }
+    ensures { IfOk result (λ r. read_tree r ≡ changed_rows (read_item item.now) commalist.now (read c) (read_sets sets.now)) }
 {
-    let rows = rows_where(alloc, item, acl, c)?;
+    let rows = rows_where(alloc, item, commalist, c)?;
     let sets = copy_sets(alloc, sets)?;
     let rows = rows.extended(alloc, item.place, &item.heading, sets)?;
-    let rows = under_using(alloc, item, acl, rows)?;
+    let rows = under_using(alloc, item, commalist, rows)?;
     Ok(rows)
 }
 
@@ -104,14 +104,14 @@ fn changed_rows(
 fn replaced(
     alloc: Global,
     item: &Item,
-    acl: &Option<Positions>,
+    commalist: &Option<Positions>,
     c: Scalar,
     sets: &Sets,
 ) -> Result<RelTree, Memory>
-    ensures { IfOk result (λ r. read_tree r ≡ replaced (read_item item.now) acl.now (read c) (read_sets sets.now)) }
+    ensures { IfOk result (λ r. read_tree r ≡ replaced (read_item item.now) commalist.now (read c) (read_sets sets.now)) }
 {
-    let others = other_rows(alloc, item, acl, &c)?;
-    let changed = changed_rows(alloc, item, acl, c, sets)?;
+    let others = other_rows(alloc, item, commalist, &c)?;
+    let changed = changed_rows(alloc, item, commalist, c, sets)?;
     let rows = others.joined(alloc, item.place, &item.heading, InfixWord::Union, changed)?;
     Ok(rows)
 }
@@ -120,12 +120,12 @@ fn replaced(
 pub(crate) fn updated(
     alloc: Global,
     item: &Item,
-    acl: &Option<Positions>,
+    commalist: &Option<Positions>,
     c: Scalar,
     sets: &Sets,
 ) -> Result<RelTree, Memory>
-    ensures { IfOk result (λ r. read_tree r ≡ updated (read_item item.now) acl.now (read c) (read_sets sets.now)) }
+    ensures { IfOk result (λ r. read_tree r ≡ updated (read_item item.now) commalist.now (read c) (read_sets sets.now)) }
 {
-    let rows = replaced(alloc, item, acl, c, sets)?;
-    Ok(under_using(alloc, item, acl, rows)?)
+    let rows = replaced(alloc, item, commalist, c, sets)?;
+    Ok(under_using(alloc, item, commalist, rows)?)
 }

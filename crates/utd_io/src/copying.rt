@@ -3,7 +3,7 @@ ghost use Rattle.std.specs.Prelude.{◌≡◌, ◌++◌, length, take, drop, min
 
 /// Copies as many bytes as both have room for, from the front of `from` to the front of `to`, and
 /// says how many.
-pub(crate) fn copy_front(from: &[u8], to: &mut [u8]) -> usize
+pub(crate) fn copy_prefix(from: &[u8], to: &mut [u8]) -> usize
     ensures count { result ≡ min (length from.now) (length to.old) }
     ensures bytes { to.new ≡ take result from.now ++ drop result to.old }
 {

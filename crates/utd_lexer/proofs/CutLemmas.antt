@@ -123,8 +123,8 @@ At Block bytes = (ps : List Part) × (bs : List ℕ) × AreParts ps × NotSlash 
 At Star bytes = (ps : List Part) × (bs : List ℕ) × AreParts ps × NotSlash ps × LacksEnd (bs ++ 42 ∷ []) × (bytes ≡ bytes_of ps ++ (47 ∷ 42 ∷ (bs ++ 42 ∷ [])))
 At Line bytes = (ps : List Part) × (bs : List ℕ) × AreParts ps × NotSlash ps × Lacks 10 bs × (bytes ≡ bytes_of ps ++ (47 ∷ 47 ∷ bs))
 
-pub grow : (bytes front xs : List ℕ) (b : ℕ) → bytes ≡ front ++ xs → bytes ++ b ∷ [] ≡ front ++ (xs ++ b ∷ [])
-grow bytes front xs b e = ap (λ z. z ++ b ∷ []) e ∙ append_assoc front xs (b ∷ [])
+pub grow : (bytes prefix xs : List ℕ) (b : ℕ) → bytes ≡ prefix ++ xs → bytes ++ b ∷ [] ≡ prefix ++ (xs ++ b ∷ [])
+grow bytes prefix xs b e = ap (λ z. z ++ b ∷ []) e ∙ append_assoc prefix xs (b ∷ [])
 
 pub apart-plain : (b : ℕ) (ps : List Part) → NotSlash ps → IsApart (plain b) ps
 apart-plain b [] h = tt

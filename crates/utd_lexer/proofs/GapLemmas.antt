@@ -3,8 +3,8 @@ use Rattle.std.proofs.Common.{◌≡◌, ◌≢◌, ℕ, ◌+◌, ◌<◌, ◌�
 use Rattle.std.proofs.lemmas.List.{drop_all, get_or_default}
 use Rattle.utd_lexer.specs.Parts.{is_space, Lacks, LacksEnd}
 use Rattle.utd_lexer.specs.Tokens.{blank, block, line, last}
-use Rattle.utd_lexer.specs.Fronts.{GapFront}
-use Rattle.utd_lexer.proofs.ListLemmas.{same-head, same-tail, drop-at, front-length}
+use Rattle.utd_lexer.specs.Prefixes.{GapFront}
+use Rattle.utd_lexer.proofs.ListLemmas.{same-head, same-tail, drop-at, prefix-length}
 
 no_space : (c : ℕ) → c ≡ 47 → is_space c ≡ true → ⊥
 no_space c e h = let f : is_space 47 ≡ true = ap is_space (sym e) ∙ h in cc
@@ -54,7 +54,7 @@ block-found all n x y lt a b p q on =
     let r = on.0 [] rest tt is in
     let whole : all ≡ (r.0 ++ 42 ∷ (47 ∷ [])) ++ rest = r.2 ∙ sym (append_assoc r.0 (42 ∷ (47 ∷ [])) rest) in
     let two : n + 1 + 1 ≤ length all = omega arith in
-    let len : length (r.0 ++ 42 ∷ (47 ∷ [])) ≡ n + 1 + 1 = front-length all (r.0 ++ 42 ∷ (47 ∷ [])) rest (n + 1 + 1) whole two refl in
+    let len : length (r.0 ++ 42 ∷ (47 ∷ [])) ≡ n + 1 + 1 = prefix-length all (r.0 ++ 42 ∷ (47 ∷ [])) rest (n + 1 + 1) whole two refl in
     (block r.0, rest, ap (λ z. 47 ∷ (42 ∷ z)) whole, r.1, omega (arith, len))
 
 no-end-short : (cs : List ℕ) → length cs ≤ 1 → NoEnd cs
@@ -93,7 +93,7 @@ line-found all n x lt a p on =
     let r = on.0 [] rest tt is in
     let whole : all ≡ (r.0 ++ 10 ∷ []) ++ rest = r.2 ∙ sym (append_assoc r.0 (10 ∷ []) rest) in
     let one : n + 1 ≤ length all = omega arith in
-    let len : length (r.0 ++ 10 ∷ []) ≡ n + 1 = front-length all (r.0 ++ 10 ∷ []) rest (n + 1) whole one refl in
+    let len : length (r.0 ++ 10 ∷ []) ≡ n + 1 = prefix-length all (r.0 ++ 10 ∷ []) rest (n + 1) whole one refl in
     (line r.0, rest, ap (λ z. 47 ∷ (47 ∷ z)) whole, r.1, omega (arith, len))
 
 pub line-open : (all : List ℕ) (n : ℕ) → n ≤ length all → length all ≤ n → LineGoesOn (drop n all) all → GapFront (47 ∷ (47 ∷ all)) (Some (n + 2))

@@ -3,7 +3,7 @@ pub mod CutLemmas
 pub mod EncodingLemmas
 pub mod GapLemmas
 pub mod ListLemmas
-pub mod OneFrontLemmas
+pub mod OnePrefixLemmas
 pub mod OneReadingLemmas
 pub mod PlaceLemmas
 pub mod ReadLemmas

@@ -27,8 +27,8 @@ drop-at xs i x lt is =
     drop-cons xs i x lt ∙ ap (λ z. z ∷ drop (suc i) xs) (sym is) ∙ ap (λ n. x ∷ drop n xs) on
 
 -- how long a front is, by what is behind it
-pub front-length : (all front rest : List ℕ) (n : ℕ) → all ≡ front ++ rest → n ≤ length all → rest ≡ drop n all → length front ≡ n
-front-length all front rest n is le behind =
-    let a : length all ≡ length front + length rest = ap length is ∙ length-append front rest in
+pub prefix-length : (all prefix rest : List ℕ) (n : ℕ) → all ≡ prefix ++ rest → n ≤ length all → rest ≡ drop n all → length prefix ≡ n
+prefix-length all prefix rest n is le behind =
+    let a : length all ≡ length prefix + length rest = ap length is ∙ length-append prefix rest in
     let b : length rest ≡ length (drop n all) = ap length behind in
     omega (arith, a, b, length-drop n all)

@@ -11,7 +11,7 @@ use Rattle.utd_lexer.specs.declared.token.Token.{Token}
 use Rattle.utd_lexer.specs.Tokens.{past, Gap, blank, block, line, last, spelling_of_gap, IsGap, spelling, IsToken, token_at, Lexed, done, gap, token, Stuck, here, past_gap, past_token}
 use Rattle.utd_lexer.specs.Reading.{Reads, Refuses, IsOnlyReading, RefusesOnly}
 use Rattle.utd_lexer.proofs.ListLemmas.{nil-cons}
-use Rattle.utd_lexer.proofs.OneFrontLemmas.{token-same, gap-token, gap-same}
+use Rattle.utd_lexer.proofs.OnePrefixLemmas.{token-same, gap-token, gap-same}
 
 gap-some : (g : Gap) (r : List ℕ) → [] ≡ spelling_of_gap g ++ r → ⊥
 gap-some (blank c) r e = nil-cons c r e

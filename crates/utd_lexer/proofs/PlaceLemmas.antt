@@ -22,9 +22,9 @@ fits-after p [] n h = fits-less p n (0 + n) h (omega arith)
 fits-after p (b ∷ bs) n h = fits-after (next_place p b) bs n (fits-next p b (length bs + n) (fits-less p (length bs + n + 1) (suc (length bs) + n) h (omega arith)))
 
 -- characters further
-pub chars-step : (p : Place) (cs front rest : List ℕ) → cs ≡ front ++ rest → encode_utf8_all cs ≡ encode_utf8_all front ++ encode_utf8_all rest → Fits p (length (encode_utf8_all cs))
-    → Fits p (length (encode_utf8_all front)) × Fits (past p front) (length (encode_utf8_all rest))
-chars-step p cs front rest is bytes fits =
-    let n : length (encode_utf8_all cs) ≡ length (encode_utf8_all front) + length (encode_utf8_all rest) = ap length bytes ∙ length-append (encode_utf8_all front) (encode_utf8_all rest) in
-    let all : Fits p (length (encode_utf8_all front) + length (encode_utf8_all rest)) = subst (Fits p) n fits in
-    (fits-less p (length (encode_utf8_all front)) _ all (omega arith), fits-after p (encode_utf8_all front) (length (encode_utf8_all rest)) all)
+pub chars-step : (p : Place) (cs prefix rest : List ℕ) → cs ≡ prefix ++ rest → encode_utf8_all cs ≡ encode_utf8_all prefix ++ encode_utf8_all rest → Fits p (length (encode_utf8_all cs))
+    → Fits p (length (encode_utf8_all prefix)) × Fits (past p prefix) (length (encode_utf8_all rest))
+chars-step p cs prefix rest is bytes fits =
+    let n : length (encode_utf8_all cs) ≡ length (encode_utf8_all prefix) + length (encode_utf8_all rest) = ap length bytes ∙ length-append (encode_utf8_all prefix) (encode_utf8_all rest) in
+    let all : Fits p (length (encode_utf8_all prefix) + length (encode_utf8_all rest)) = subst (Fits p) n fits in
+    (fits-less p (length (encode_utf8_all prefix)) _ all (omega arith), fits-after p (encode_utf8_all prefix) (length (encode_utf8_all rest)) all)

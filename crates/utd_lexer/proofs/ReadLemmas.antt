@@ -6,13 +6,13 @@ use Rattle.point_core.specs.declared.fault.Place.{Place}
 use Rattle.utd_lexer.specs.declared.token.Token.{Token}
 use Rattle.utd_lexer.specs.declared.token.TokenKind.{TokenKind}
 use Rattle.utd_lexer.specs.declared.token.TokenKind.TheVariants.{Word, Integer, Text, Symbol}
-use Rattle.utd_lexer.specs.declared.front.Front.TheVariants.{Token as OfToken}
+use Rattle.utd_lexer.specs.declared.prefix.Prefix.TheVariants.{Token as OfToken}
 use Rattle.value_core.specs.declared.refuse.Refuse.{Refuse}
 use Rattle.value_core.specs.declared.refuse.Refuse.TheVariants.{Plain, At, Broken, Memory}
 use Rattle.std.specs.Str.{IsUtf8, chars}
-use Rattle.utd_lexer.specs.Tokens.{Fits, past, Gap, blank, block, line, last, spelling_of_gap, IsToken, spelling, token_at, NoFront, Lexed, done, gap, token, Stuck, here, past_gap, past_token}
-use Rattle.utd_lexer.specs.Fronts.{GapFront, FrontIs}
-use Rattle.utd_lexer.specs.declared.front.Front.{Front}
+use Rattle.utd_lexer.specs.Tokens.{Fits, past, Gap, blank, block, line, last, spelling_of_gap, IsToken, spelling, token_at, NoPrefix, Lexed, done, gap, token, Stuck, here, past_gap, past_token}
+use Rattle.utd_lexer.specs.Prefixes.{GapFront, PrefixIs}
+use Rattle.utd_lexer.specs.declared.prefix.Prefix.{Prefix}
 use Rattle.utd_lexer.specs.Reading.{Stops, Reads, Refuses}
 use Rattle.utd_lexer.proofs.PlaceLemmas.{chars-step}
 
@@ -24,22 +24,22 @@ pub record SoFar (start : Place) (cs : List ℕ) (at : ℕ) (place : Place) (out
   pub stuck : (q : Place) → Stuck place (drop at cs) q → Stuck start cs q
 
 -- the front of what is left, cut off
-record Cut (cs : List ℕ) (at : ℕ) (place : Place) (front rest : List ℕ) (n : ℕ) : Type 0 where
-  front_is : take n (drop at cs) ≡ front
+record Cut (cs : List ℕ) (at : ℕ) (place : Place) (prefix rest : List ℕ) (n : ℕ) : Type 0 where
+  prefix_is : take n (drop at cs) ≡ prefix
   rest_is : drop (at + n) cs ≡ rest
   within : at + n ≤ length cs
-  front_fits : Fits place (length (encode_utf8_all front))
-  rest_fits : Fits (past place front) (length (encode_utf8_all rest))
+  prefix_fits : Fits place (length (encode_utf8_all prefix))
+  rest_fits : Fits (past place prefix) (length (encode_utf8_all rest))
 
-cut-off : (cs : List ℕ) (at : ℕ) (place : Place) (front rest : List ℕ) (n : ℕ) → at ≤ length cs → Fits place (length (encode_utf8_all (drop at cs))) → drop at cs ≡ front ++ rest → length front ≡ n → Cut cs at place front rest n
-cut-off cs at place front rest n le fits is len =
-    let total : length (drop at cs) ≡ length front + length rest = ap length is ∙ length-append front rest in
-    let both = chars-step place (drop at cs) front rest is (ap encode_utf8_all is ∙ encodes-append front rest) fits in
+cut-off : (cs : List ℕ) (at : ℕ) (place : Place) (prefix rest : List ℕ) (n : ℕ) → at ≤ length cs → Fits place (length (encode_utf8_all (drop at cs))) → drop at cs ≡ prefix ++ rest → length prefix ≡ n → Cut cs at place prefix rest n
+cut-off cs at place prefix rest n le fits is len =
+    let total : length (drop at cs) ≡ length prefix + length rest = ap length is ∙ length-append prefix rest in
+    let both = chars-step place (drop at cs) prefix rest is (ap encode_utf8_all is ∙ encodes-append prefix rest) fits in
     record {
-      front_is = ap (take n) is ∙ take_at front rest n len;
-      rest_is = sym (drop-drop n at cs) ∙ ap (drop n) is ∙ drop_at front rest n len;
+      prefix_is = ap (take n) is ∙ take_at prefix rest n len;
+      rest_is = sym (drop-drop n at cs) ∙ ap (drop n) is ∙ drop_at prefix rest n len;
       within = omega (arith, total, length-drop at cs, len);
-      front_fits = both.0;
+      prefix_fits = both.0;
       rest_fits = both.1;
     }
 
@@ -62,7 +62,7 @@ some-token Symbol (c ∷ cs) rest h = omega arith
 pub gap-fits : (start : Place) (cs : List ℕ) (at n : ℕ) (place : Place) (out : List Token) → SoFar start cs at place out → GapFront (drop at cs) (Some n) → (n ≤ length (drop at cs)) × Fits place (length (encode_utf8_all (take n (drop at cs)))) × (0 < n)
 gap-fits start cs at n place out s (g, rest, is, h, len) =
     let c = cut-off cs at place (spelling_of_gap g) rest n s.within s.fits is len in
-    (omega (arith, ap length is, length-append (spelling_of_gap g) rest, len), subst (λ z. Fits place (length (encode_utf8_all z))) (sym c.front_is) c.front_fits, omega (arith, some-gap g, len))
+    (omega (arith, ap length is, length-append (spelling_of_gap g) rest, len), subst (λ z. Fits place (length (encode_utf8_all z))) (sym c.prefix_is) c.prefix_fits, omega (arith, some-gap g, len))
 
 pub gap-step : (start : Place) (cs : List ℕ) (at n : ℕ) (place : Place) (out : List Token) → SoFar start cs at place out → GapFront (drop at cs) (Some n) → SoFar start cs (at + n) (past place (take n (drop at cs))) out
 gap-step start cs at n place out s (g, rest, is, h, len) =
@@ -74,14 +74,14 @@ gap-step start cs at n place out s (g, rest, is, h, len) =
       read = λ ts l. s.read ts (subst (λ z. Lexed place z ts) (sym is) (gap place g rest ts h (subst (λ z. Lexed now z ts) c.rest_is l)));
       stuck = λ q l. s.stuck q (subst (λ z. Stuck place z q) (sym is) (past_gap place q g rest h (subst (λ z. Stuck now z q) c.rest_is l)));
     } in
-    subst (λ z. SoFar start cs (at + n) (past place z) out) (sym c.front_is) next
+    subst (λ z. SoFar start cs (at + n) (past place z) out) (sym c.prefix_is) next
 
-pub token-fits : (start : Place) (cs : List ℕ) (at n : ℕ) (place : Place) (out : List Token) (k : TokenKind) (bytes : List ℕ) → SoFar start cs at place out → FrontIs (drop at cs) (OfToken k bytes n) → (n ≤ length (drop at cs)) × Fits place (length (encode_utf8_all (take n (drop at cs)))) × (0 < n)
+pub token-fits : (start : Place) (cs : List ℕ) (at n : ℕ) (place : Place) (out : List Token) (k : TokenKind) (bytes : List ℕ) → SoFar start cs at place out → PrefixIs (drop at cs) (OfToken k bytes n) → (n ≤ length (drop at cs)) × Fits place (length (encode_utf8_all (take n (drop at cs)))) × (0 < n)
 token-fits start cs at n place out k bytes s (v, rest, is, h, len, e) =
     let c = cut-off cs at place (spelling k v) rest n s.within s.fits is len in
-    (omega (arith, ap length is, length-append (spelling k v) rest, len), subst (λ z. Fits place (length (encode_utf8_all z))) (sym c.front_is) c.front_fits, omega (arith, some-token k v rest h, len))
+    (omega (arith, ap length is, length-append (spelling k v) rest, len), subst (λ z. Fits place (length (encode_utf8_all z))) (sym c.prefix_is) c.prefix_fits, omega (arith, some-token k v rest h, len))
 
-pub token-step : (start : Place) (cs : List ℕ) (at n : ℕ) (place : Place) (out now_out : List Token) (k : TokenKind) (bytes : List ℕ) → SoFar start cs at place out → FrontIs (drop at cs) (OfToken k bytes n) → now_out ≡ out ++ record { kind = k; place = place; bytes = bytes } ∷ [] → SoFar start cs (at + n) (past place (take n (drop at cs))) now_out
+pub token-step : (start : Place) (cs : List ℕ) (at n : ℕ) (place : Place) (out now_out : List Token) (k : TokenKind) (bytes : List ℕ) → SoFar start cs at place out → PrefixIs (drop at cs) (OfToken k bytes n) → now_out ≡ out ++ record { kind = k; place = place; bytes = bytes } ∷ [] → SoFar start cs (at + n) (past place (take n (drop at cs))) now_out
 token-step start cs at n place out now_out k bytes s (v, rest, is, h, len, e) grows =
     let c = cut-off cs at place (spelling k v) rest n s.within s.fits is len in
     let now : Place = past place (spelling k v) in
@@ -93,19 +93,19 @@ token-step start cs at n place out now_out k bytes s (v, rest, is, h, len, e) gr
       read = λ ts l. subst (Lexed start cs) (sym (ap (λ z. z ++ ts) more ∙ append_assoc out (x ∷ []) ts)) (s.read (x ∷ ts) (subst (λ z. Lexed place z (x ∷ ts)) (sym is) (token place k v rest ts h (subst (λ z. Lexed now z ts) c.rest_is l))));
       stuck = λ q l. s.stuck q (subst (λ z. Stuck place z q) (sym is) (past_token place q k v rest h (subst (λ z. Stuck now z q) c.rest_is l)));
     } in
-    subst (λ z. SoFar start cs (at + n) (past place z) now_out) (sym c.front_is) next
+    subst (λ z. SoFar start cs (at + n) (past place z) now_out) (sym c.prefix_is) next
 
-pub stuck-here : (start : Place) (cs : List ℕ) (at : ℕ) (place : Place) (out : List Token) → SoFar start cs at place out → at < length cs → NoFront (drop at cs) → Stuck start cs place
+pub stuck-here : (start : Place) (cs : List ℕ) (at : ℕ) (place : Place) (out : List Token) → SoFar start cs at place out → at < length cs → NoPrefix (drop at cs) → Stuck start cs place
 stuck-here start cs at place out s lt none =
     let d : drop at cs ≡ get_or cs at 0 ∷ drop (at + 1) cs = drop_more cs at 0 lt in
-    s.stuck place (subst (λ z. Stuck place z place) (sym d) (here place (get_or cs at 0) (drop (at + 1) cs) (subst NoFront d none)))
+    s.stuck place (subst (λ z. Stuck place z place) (sym d) (here place (get_or cs at 0) (drop (at + 1) cs) (subst NoPrefix d none)))
 
 pub all-read : (start : Place) (cs : List ℕ) (at : ℕ) (place : Place) (out : List Token) → SoFar start cs at place out → length cs ≤ at → Lexed start cs out
 all-read start cs at place out s le = subst (Lexed start cs) (append-nil out) (s.read [] (subst (λ z. Lexed place z []) (sym (drop_all at cs le)) (done place)))
 
 -- what was found, of what is left of the text
-pub front-here : (rest all : List ℕ) (at : ℕ) (f g : Front) → rest ≡ drop at all → FrontIs rest f → f ≡ g → FrontIs (drop at all) g
-front-here rest all at f g is h e = subst (FrontIs (drop at all)) e (subst (λ z. FrontIs z f) is h)
+pub prefix-here : (rest all : List ℕ) (at : ℕ) (f g : Prefix) → rest ≡ drop at all → PrefixIs rest f → f ≡ g → PrefixIs (drop at all) g
+prefix-here rest all at f g is h e = subst (PrefixIs (drop at all)) e (subst (λ z. PrefixIs z f) is h)
 
 pub text-fits : (start : Place) (cs bytes : List ℕ) → cs ≡ chars bytes → IsUtf8 bytes → start.line + start.column + length bytes ≤ 2 ^ 32 - 1 → Fits start (length (encode_utf8_all cs))
 text-fits start cs bytes is utf h =
@@ -132,8 +132,8 @@ refused-text start cs bytes (Ok list) is utf h = tt
 refused-text start cs bytes (Err e) is utf h = refused-chars start cs bytes e is utf h
 
 -- the bytes of the front of what is left, and those behind it
-pub bytes-here : (cs rest front : List ℕ) (at n : ℕ) → rest ≡ drop at cs → front ≡ encode_utf8_all (take n rest) → front ≡ encode_utf8_all (take n (drop at cs))
-bytes-here cs rest front at n is e = e ∙ ap (λ z. encode_utf8_all (take n z)) is
+pub bytes-here : (cs rest prefix : List ℕ) (at n : ℕ) → rest ≡ drop at cs → prefix ≡ encode_utf8_all (take n rest) → prefix ≡ encode_utf8_all (take n (drop at cs))
+bytes-here cs rest prefix at n is e = e ∙ ap (λ z. encode_utf8_all (take n z)) is
 
 pub bytes-left : (cs rest behind : List ℕ) (at n : ℕ) → rest ≡ drop at cs → behind ≡ encode_utf8_all (drop n rest) → behind ≡ encode_utf8_all (drop (at + n) cs)
 bytes-left cs rest behind at n is e = e ∙ ap (λ z. encode_utf8_all (drop n z)) is ∙ ap encode_utf8_all (drop-drop n at cs)

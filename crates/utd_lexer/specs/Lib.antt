@@ -1,5 +1,5 @@
 pub mod Cutting
-pub mod Fronts
+pub mod Prefixes
 pub mod Parts
 pub mod Reading
 pub mod Tokens

@@ -126,13 +126,13 @@ pub data Lexed : Place → List ℕ → List Token → Type 0 where
       → Lexed (past p (spelling k cs)) rest ts → Lexed p (spelling k cs ++ rest) (token_at p k cs ∷ ts)
 
 -- neither a gap nor a token stands at the front of these characters
-abbrev pub NoFront : List ℕ → Type 0
-NoFront cs = ((g : Gap) (rest : List ℕ) → cs ≡ spelling_of_gap g ++ rest → IsGap g rest → ⊥)
+abbrev pub NoPrefix : List ℕ → Type 0
+NoPrefix cs = ((g : Gap) (rest : List ℕ) → cs ≡ spelling_of_gap g ++ rest → IsGap g rest → ⊥)
     × ((k : TokenKind) (v rest : List ℕ) → cs ≡ spelling k v ++ rest → IsToken k v rest → ⊥)
 
 -- Behind gaps and tokens, this is the first place at which neither stands.
 pub data Stuck : Place → List ℕ → Place → Type 0 where
-  here : (p : Place) (c : ℕ) (cs : List ℕ) → NoFront (c ∷ cs) → Stuck p (c ∷ cs) p
+  here : (p : Place) (c : ℕ) (cs : List ℕ) → NoPrefix (c ∷ cs) → Stuck p (c ∷ cs) p
   past_gap : (p q : Place) (g : Gap) (rest : List ℕ) → IsGap g rest
       → Stuck (past p (spelling_of_gap g)) rest q → Stuck p (spelling_of_gap g ++ rest) q
   past_token : (p q : Place) (k : TokenKind) (cs rest : List ℕ) → IsToken k cs rest

@@ -14,7 +14,7 @@ fn width(chars: &[char]) -> usize
 }
 
 /// How many bytes the first n of the characters have, where all have so many.
-fn front_width(chars: &[char], n: usize, total: usize) -> usize
+fn prefix_width(chars: &[char], n: usize, total: usize) -> usize
     requires within { n ≤ length chars.now }
     requires total { total ≡ length (encode_utf8_all chars.now) }
     ensures { result ≡ length (encode_utf8_all (take n chars.now)) }
@@ -30,8 +30,8 @@ fn front_width(chars: &[char], n: usize, total: usize) -> usize
 pub(crate) fn split_behind<'a>(chars: &[char], n: usize, bytes: &'a [u8]) -> (&'a [u8], &'a [u8])
     requires within { n ≤ length chars.now }
     requires encoded { bytes.now ≡ encode_utf8_all chars.now }
-    ensures front { result.0.now ≡ encode_utf8_all (take n chars.now) }
+    ensures prefix { result.0.now ≡ encode_utf8_all (take n chars.now) }
     ensures back { result.1.now ≡ encode_utf8_all (drop n chars.now) }
 {
-    bytes.split_at(front_width(chars, n, bytes.len()))
+    bytes.split_at(prefix_width(chars, n, bytes.len()))
 }

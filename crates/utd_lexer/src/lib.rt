@@ -3,7 +3,7 @@
 
 mod cutter;
 mod encoding;
-mod front;
+mod prefix;
 mod reading;
 mod space;
 mod token;

@@ -5,7 +5,7 @@ ghost use Rattle.utd_lexer.specs.Tokens.{Fits, next_place, place_after, Lexed};
 ghost use Rattle.utd_lexer.specs.Reading.{Stops, Reads, Refuses, IsOnlyReading, RefusesOnly};
 
 use crate::encoding::split_behind;
-use crate::front::{Front, front_of};
+use crate::prefix::{Prefix, prefix_of};
 use crate::token::{Token, TokenList};
 use point_core::{Code, Fault, Place};
 use std::alloc::{AllocError, Global};
@@ -78,21 +78,21 @@ fn read_all<'a>(
     let mut place = start;
     'text: while at < chars.len() {
         let rest = chars.split_at(at).1;
-        match front_of(alloc, rest, left)? {
-            Front::Gap(n) => {
-                let (front, behind) = split_behind(rest, n, left);
-                place = place_behind(place, front);
+        match prefix_of(alloc, rest, left)? {
+            Prefix::Gap(n) => {
+                let (prefix, behind) = split_behind(rest, n, left);
+                place = place_behind(place, prefix);
                 left = behind;
                 at += n;
             }
-            Front::Token(kind, bytes, n) => {
+            Prefix::Token(kind, bytes, n) => {
                 list.push(Token { kind, place, bytes })?;
-                let (front, behind) = split_behind(rest, n, left);
-                place = place_behind(place, front);
+                let (prefix, behind) = split_behind(rest, n, left);
+                place = place_behind(place, prefix);
                 left = behind;
                 at += n;
             }
-            Front::Nothing => {
+            Prefix::Nothing => {
                 let code = Code::E01;
                 return Err(Refuse::At(Fault { place, code }));
             }

@@ -21,9 +21,9 @@ use Rattle.utd_parser.specs.Tokens.{terminal_of, pieces}
 
 -- ---- characters of parts of a text
 
-front-scalars : (a b : List ℕ) → scalars (a ++ b) ≡ true → scalars a ≡ true
-front-scalars [] b h = refl
-front-scalars (c ∷ a) b h = and_from (scalar c) (scalars a) (both-left (scalar c) _ h) (front-scalars a b (both-right (scalar c) _ h))
+prefix-scalars : (a b : List ℕ) → scalars (a ++ b) ≡ true → scalars a ≡ true
+prefix-scalars [] b h = refl
+prefix-scalars (c ∷ a) b h = and_from (scalar c) (scalars a) (both-left (scalar c) _ h) (prefix-scalars a b (both-right (scalar c) _ h))
 
 rest-scalars : (a b : List ℕ) → scalars (a ++ b) ≡ true → scalars b ≡ true
 rest-scalars [] b h = h
@@ -43,7 +43,7 @@ doubled-scalars (c ∷ cs) h = once-scalars c cs (c == 39) refl (doubled-scalars
 token-scalars : (k : TokenKind) (cs : List ℕ) → scalars (spelling k cs) ≡ true → scalars cs ≡ true
 token-scalars Word cs h = h
 token-scalars Integer cs h = h
-token-scalars Text cs h = doubled-scalars cs (front-scalars (doubled cs) (39 ∷ []) h)
+token-scalars Text cs h = doubled-scalars cs (prefix-scalars (doubled cs) (39 ∷ []) h)
 token-scalars Symbol cs h = h
 
 -- ---- their bytes
@@ -79,7 +79,7 @@ kind-written Symbol (c ∷ cs) h g = with-bytes (symbol_terminal (encode_utf8_al
 lexed-written : {p : Place} {cs : List ℕ} {ts : List Token} → Lexed p cs ts → scalars cs ≡ true → AreWritten (pieces ts)
 lexed-written (done p) h = tt
 lexed-written (gap p g rest ts is more) h = lexed-written more (rest-scalars (spelling_of_gap g) rest h)
-lexed-written (token p k cs rest ts is more) h = (kind-written k cs is.0 (token-scalars k cs (front-scalars (spelling k cs) rest h)), lexed-written more (rest-scalars (spelling k cs) rest h))
+lexed-written (token p k cs rest ts is more) h = (kind-written k cs is.0 (token-scalars k cs (prefix-scalars (spelling k cs) rest h)), lexed-written more (rest-scalars (spelling k cs) rest h))
 
 -- the tokens that bytes are read as
 pub are-written : (start : Place) (bytes : List ℕ) (tokens : List Token) → Reads start bytes tokens → AreWritten (pieces tokens)

@@ -72,8 +72,8 @@ pub readings-push : (ss : List Statement) (s : Statement) (rs : List Reading) (r
 readings-push ss s rs r h k = readings-append ss (s ∷ []) rs (r ∷ []) h (k, tt)
 
 -- readings of the first ones of these
-pub readings-front : (all ss more : List Statement) (rs : List Reading) → all ≡ ss ++ more → AreReadings ss rs → AreReadings (take (length rs) all) rs
-readings-front all ss more rs e h =
+pub readings-prefix : (all ss more : List Statement) (rs : List Reading) → all ≡ ss ++ more → AreReadings ss rs → AreReadings (take (length rs) all) rs
+readings-prefix all ss more rs e h =
     let len : length ss ≡ length rs = readings-length ss rs h in
     subst (λ ts. AreReadings ts rs) (sym (ap (take (length rs)) e ∙ take_at ss more (length rs) len)) h
 

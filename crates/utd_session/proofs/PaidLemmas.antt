@@ -20,18 +20,18 @@ use Rattle.utd_session.specs.Feeding.{HasReading}
 use Rattle.utd_session.specs.Costs.{cost_of, cost_after, TakesAtMost, IsWithinCost, IsPaid}
 use Rattle.utd_session.specs.Sessions.{StandsFor, fed_of, state_in}
 use Rattle.utd_session.specs.Progress.{HasFed, MayHaveFed, ComesNext}
-use Rattle.utd_session.proofs.StatementLemmas.{by_le, front_more, within_front, within_long}
-use Rattle.utd_session.proofs.MachineLemmas.{readings-length, readings-push, readings-front, readings-within}
+use Rattle.utd_session.proofs.StatementLemmas.{by_le, prefix_more, within_prefix, within_long}
+use Rattle.utd_session.proofs.MachineLemmas.{readings-length, readings-push, readings-prefix, readings-within}
 use Rattle.utd_session.proofs.CostLemmas.{cost_of-append, cost_after-push, cost-first, takes-of}
 use Rattle.utd_session.proofs.SessionLemmas.{IsFed, more_statements, next_ended}
-use Rattle.utd_session.proofs.ProgressLemmas.{take-take, next_front, comes_next}
+use Rattle.utd_session.proofs.ProgressLemmas.{take-take, next_prefix, comes_next}
 
 -- ---- what a session's call takes
 
 within : (ss ended rest : List Statement) (rs more begun : List Reading) (state : State) (before now : ℕ) → ss ≡ ended ++ rest → AreReadings ended (rs ++ (more ++ begun)) → length begun ≤ 1
     → state ≡ (performed (rs ++ more)).state → now ≤ before + cost_after rs (more ++ begun) → IsWithinCost ss rs state before now
 within ss ended rest rs more begun state before now e read one left cost =
-    record { more = more; begun = begun; one = one; read = readings-front ss ended rest (rs ++ (more ++ begun)) e read; left = left; cost = cost }
+    record { more = more; begun = begun; one = one; read = readings-prefix ss ended rest (rs ++ (more ++ begun)) e read; left = left; cost = cost }
 
 -- some were performed
 within_done : (ss ended rest : List Statement) (rs more : List Reading) (state : State) (before now : ℕ) → ss ≡ ended ++ rest → AreReadings ended (rs ++ more)
@@ -59,18 +59,18 @@ by_why Write f g = f refl
 by_why Memory f g = g refl
 
 -- the session ended early, at the statement that ends in the next bytes
-pub fed-within : (session : Session) (cutter : Cutter) (piece rest front behind bytes : List ℕ) (rs : List Reading) (before mid : Option (List ℕ)) (paid steps steps' : ℕ) (database : Database) (why : SessionFault) (i : IsFed session cutter piece rest bytes rs before mid paid steps)
-    → rest ≡ front ++ behind
-    → EndsOne (cut (bytes ++ i.done)).place (cut (bytes ++ i.done)).rest front
-    → TakesAtMost (Complete (cut (bytes ++ i.done)).place ((cut (bytes ++ i.done)).rest ++ front)) (performed (rs ++ i.more)).state steps steps'
+pub fed-within : (session : Session) (cutter : Cutter) (piece rest prefix behind bytes : List ℕ) (rs : List Reading) (before mid : Option (List ℕ)) (paid steps steps' : ℕ) (database : Database) (why : SessionFault) (i : IsFed session cutter piece rest bytes rs before mid paid steps)
+    → rest ≡ prefix ++ behind
+    → EndsOne (cut (bytes ++ i.done)).place (cut (bytes ++ i.done)).rest prefix
+    → TakesAtMost (Complete (cut (bytes ++ i.done)).place ((cut (bytes ++ i.done)).rest ++ prefix)) (performed (rs ++ i.more)).state steps steps'
     → (why ≡ Memory → state_of database ≡ state_of session.database)
-    → (why ≡ Write → HasReading (bytes ++ i.done) front (λ r. state_of database ≡ (performed ((rs ++ i.more) ++ r ∷ [])).state))
+    → (why ≡ Write → HasReading (bytes ++ i.done) prefix (λ r. state_of database ≡ (performed ((rs ++ i.more) ++ r ∷ [])).state))
     → IsWithinCost (complete_statements (bytes ++ piece)) rs (state_of database) paid steps'
-fed-within session cutter piece rest front behind bytes rs before mid paid steps steps' database why i e one takes memory write =
+fed-within session cutter piece rest prefix behind bytes rs before mid paid steps steps' database why i e one takes memory write =
     let ss : List Statement = complete_statements (bytes ++ piece) in
     let ended : List Statement = complete_statements (bytes ++ i.done) in
-    let s : Statement = Complete (cut (bytes ++ i.done)).place ((cut (bytes ++ i.done)).rest ++ front) in
-    let m = next_ended bytes i.done front behind rest piece i.split e one in
+    let s : Statement = Complete (cut (bytes ++ i.done)).place ((cut (bytes ++ i.done)).rest ++ prefix) in
+    let m = next_ended bytes i.done prefix behind rest piece i.split e one in
     by_why why
     (λ w.
     let k = write w in
@@ -100,8 +100,8 @@ paid : (all : List ℕ) (left : Option (List ℕ)) (n k : ℕ) (rs : List Readin
 paid all left n k rs before now was l short read cost =
     let ended : List Statement = complete_statements (take k all) in
     let few : length rs ≤ length ended = readings-within ended (length rs) rs refl read in
-    let w = within_front all k short (omega (arith, was.0, l)) in
-    let m = front_more all k n l in
+    let w = within_prefix all k short (omega (arith, was.0, l)) in
+    let m = prefix_more all k n l in
     record {
       taken = n;
       were_read = was;
@@ -115,20 +115,20 @@ paid all left n k rs before now was l short read cost =
 pub paid_fed : (all : List ℕ) (left before now : Option (List ℕ)) (session : Session) (start steps : ℕ) → fed_of session ≤ most_bytes → HasFed all left session before now start steps → IsPaid all left start steps
 paid_fed all left before now session start steps short h =
     let n : ℕ = fed_of session in
-    paid all left n n h.readings start steps (h.within, h.left_is) (omega arith) short (readings-front _ _ [] h.readings (sym (append-nil _)) h.stands.read) h.cost
+    paid all left n n h.readings start steps (h.within, h.left_is) (omega arith) short (readings-prefix _ _ [] h.readings (sym (append-nil _)) h.stands.read) h.cost
 
 -- one that is fed a front of the next piece
-pub paid_in_piece : (all : List ℕ) (left after before now : Option (List ℕ)) (session : Session) (piece front : List ℕ) (k start mid steps : ℕ) (state : State) → HasFed all left session before now start mid → ComesNext all (fed_of session) piece after
-    → front ≡ take k piece → k ≤ length piece → fed_of session + length front ≤ most_bytes
-    → ((bytes : List ℕ) (rs : List Reading) → StandsFor session bytes rs → IsWithinCost (complete_statements (bytes ++ front)) rs state mid steps)
+pub paid_in_piece : (all : List ℕ) (left after before now : Option (List ℕ)) (session : Session) (piece prefix : List ℕ) (k start mid steps : ℕ) (state : State) → HasFed all left session before now start mid → ComesNext all (fed_of session) piece after
+    → prefix ≡ take k piece → k ≤ length piece → fed_of session + length prefix ≤ most_bytes
+    → ((bytes : List ℕ) (rs : List Reading) → StandsFor session bytes rs → IsWithinCost (complete_statements (bytes ++ prefix)) rs state mid steps)
     → IsPaid all after start steps
-paid_in_piece all left after before now session piece front k start mid steps state h next is l short within_cost =
+paid_in_piece all left after before now session piece prefix k start mid steps state h next is l short within_cost =
     let n : ℕ = fed_of session in
-    let f = next_front all n k piece front after next is l in
+    let f = next_prefix all n k piece prefix after next is l in
     let w = within_cost (take n all) h.readings h.stands in
     let rs : List Reading = h.readings ++ (w.more ++ w.begun) in
-    let len : length front ≤ length piece = omega (arith, ap length is, length-take {A = ℕ} k piece, l) in
-    paid all after (n + length piece) (n + length front) rs start steps (next.within, next.left_is) (omega arith) short
+    let len : length prefix ≤ length piece = omega (arith, ap length is, length-take {A = ℕ} k piece, l) in
+    paid all after (n + length piece) (n + length prefix) rs start steps (next.within, next.left_is) (omega arith) short
     (subst (λ b. AreReadings (take (length rs) (complete_statements b)) rs) f.joined w.read)
     (omega (arith, h.cost, w.cost, cost_of-append h.readings (w.more ++ w.begun)))
 
@@ -145,8 +145,8 @@ first_of_taken all n m fits few = by_le n most_bytes
     let bytes : List ℕ = take n all in
     let ended : List Statement = complete_statements bytes in
     let same : take n bytes ≡ bytes = take_all n bytes (omega (arith, length-take {A = ℕ} n all)) in
-    let w = within_front all n l fits in
-    let v = within_front bytes n l (omega (arith, length-take {A = ℕ} n all)) in
+    let w = within_prefix all n l fits in
+    let v = within_prefix bytes n l (omega (arith, length-take {A = ℕ} n all)) in
     let here : take m (statements_within all) ≡ take m ended = ap (take m) w.1 ∙ take-append-le m ended w.0 few in
     let there : take m (statements_within bytes) ≡ take m ended = ap (take m) (v.1 ∙ ap (λ b. complete_statements b ++ v.0) same) ∙ take-append-le m ended v.0 few in
     here ∙ sym there)
@@ -186,7 +186,7 @@ may_have_paid_in_piece (Some all) mid after before now session start steps steps
 
 -- the next statement ends in the last bytes that were read, or not at all
 pub read_for : (all : List ℕ) (left : Option (List ℕ)) (n k j : ℕ) → WasRead n all left → n ≤ k + most_at_once → length (complete_statements (take k all)) ≤ j → IsReadFor all left (j + 1)
-read_for all left n k j was near few = (n, was, λ end ends. by_le end k (λ l. let m = front_more all end k l in absurd (omega (arith, few, ends.0, ap length m.1, length-append (complete_statements (take end all)) m.0))) (λ l. omega (arith, near, l)))
+read_for all left n k j was near few = (n, was, λ end ends. by_le end k (λ l. let m = prefix_more all end k l in absurd (omega (arith, few, ends.0, ap length m.1, length-append (complete_statements (take end all)) m.0))) (λ l. omega (arith, near, l)))
 
 -- after the statements of the bytes that were fed, and more
 pub read_for_more : (all : List ℕ) (left : Option (List ℕ)) (n k : ℕ) (session : Session) (rs more : List Reading) → WasRead n all left → n ≤ k + most_at_once → StandsFor session (take k all) rs → IsReadFor all left (length (rs ++ more) + 1)

@@ -13,14 +13,14 @@ take-take (suc k) (suc m) [] l = refl
 take-take (suc k) (suc m) (x ∷ xs) l = ap (λ ys. x ∷ ys) (take-take k m xs (omega arith))
 
 -- a front of the next piece
-pub record NextFront (all : List ℕ) (n : ℕ) (piece front : List ℕ) : Type 0 where
-  pub joined : take n all ++ front ≡ take (n + length front) all
-  pub within : n + length front ≤ length all
+pub record NextPrefix (all : List ℕ) (n : ℕ) (piece prefix : List ℕ) : Type 0 where
+  pub joined : take n all ++ prefix ≡ take (n + length prefix) all
+  pub within : n + length prefix ≤ length all
 
-pub next_front : (all : List ℕ) (n k : ℕ) (piece front : List ℕ) (left : Option (List ℕ)) → ComesNext all n piece left → front ≡ take k piece → k ≤ length piece → NextFront all n piece front
-next_front all n k piece front left next is l =
-    let len : length front ≡ k = omega (arith, ap length is, length-take {A = ℕ} k piece, l) in
-    let same : front ≡ take k (drop n all) = is ∙ ap (take k) next.is ∙ take-take k (length piece) (drop n all) l in
+pub next_prefix : (all : List ℕ) (n k : ℕ) (piece prefix : List ℕ) (left : Option (List ℕ)) → ComesNext all n piece left → prefix ≡ take k piece → k ≤ length piece → NextPrefix all n piece prefix
+next_prefix all n k piece prefix left next is l =
+    let len : length prefix ≡ k = omega (arith, ap length is, length-take {A = ℕ} k piece, l) in
+    let same : prefix ≡ take k (drop n all) = is ∙ ap (take k) next.is ∙ take-take k (length piece) (drop n all) l in
     record {
       joined = ap (λ x. take n all ++ x) same ∙ sym (take-add n k all) ∙ ap (λ m. take (n + m) all) (sym len);
       within = omega (arith, next.within, len, l);

@@ -31,7 +31,7 @@ use Rattle.utd_session.specs.Costs.{cost_after, TakesAtMost}
 use Rattle.utd_session.specs.Sessions.{StandsFor, GoesOn, IsCutOff, IsFinished}
 use Rattle.utd_session.proofs.CostLemmas.{cost_after-push, takes-of}
 use Rattle.utd_session.proofs.StatementLemmas.{place_bound, ends_is, is_blank_is, cut-end, cut-keep, cut-more}
-use Rattle.utd_session.proofs.MachineLemmas.{state-push, output-push, output-one, accepted-push, readings-push, readings-front}
+use Rattle.utd_session.proofs.MachineLemmas.{state-push, output-push, output-one, accepted-push, readings-push, readings-prefix}
 
 -- what a step of the cutter says
 abbrev pub SinceThen : Cutter → Cuts → ℕ → Cutter → Type 0
@@ -75,25 +75,25 @@ fed-nothing session cutter piece bytes rs before paid e h = record {
 }
 
 -- one statement more
-pub fed-more : (session next : Session) (cutter cutter' : Cutter) (piece rest front behind bytes : List ℕ) (rs : List Reading) (before mid now : Option (List ℕ)) (paid steps steps' : ℕ) (i : IsFed session cutter piece rest bytes rs before mid paid steps)
-    → rest ≡ front ++ behind
-    → EndsOne (cut (bytes ++ i.done)).place (cut (bytes ++ i.done)).rest front
-    → HasReading (bytes ++ i.done) front (λ r. StandsFor next ((bytes ++ i.done) ++ front) ((rs ++ i.more) ++ r ∷ []) × Gains mid (text_of (length (rs ++ i.more) + 1) (answer (performed (rs ++ i.more)).state r)) now)
-    → TakesAtMost (Complete (cut (bytes ++ i.done)).place ((cut (bytes ++ i.done)).rest ++ front)) (performed (rs ++ i.more)).state steps steps'
+pub fed-more : (session next : Session) (cutter cutter' : Cutter) (piece rest prefix behind bytes : List ℕ) (rs : List Reading) (before mid now : Option (List ℕ)) (paid steps steps' : ℕ) (i : IsFed session cutter piece rest bytes rs before mid paid steps)
+    → rest ≡ prefix ++ behind
+    → EndsOne (cut (bytes ++ i.done)).place (cut (bytes ++ i.done)).rest prefix
+    → HasReading (bytes ++ i.done) prefix (λ r. StandsFor next ((bytes ++ i.done) ++ prefix) ((rs ++ i.more) ++ r ∷ []) × Gains mid (text_of (length (rs ++ i.more) + 1) (answer (performed (rs ++ i.more)).state r)) now)
+    → TakesAtMost (Complete (cut (bytes ++ i.done)).place ((cut (bytes ++ i.done)).rest ++ prefix)) (performed (rs ++ i.more)).state steps steps'
     → Since cutter' []
     → IsFed next cutter' piece behind bytes rs before now paid steps'
-fed-more session next cutter cutter' piece rest front behind bytes rs before mid now paid steps steps' i e one (r, is, (stands, gained)) takes since =
-    let same : (bytes ++ i.done) ++ front ≡ bytes ++ (i.done ++ front) = append_assoc bytes i.done front in
+fed-more session next cutter cutter' piece rest prefix behind bytes rs before mid now paid steps steps' i e one (r, is, (stands, gained)) takes since =
+    let same : (bytes ++ i.done) ++ prefix ≡ bytes ++ (i.done ++ prefix) = append_assoc bytes i.done prefix in
     let out : (performed_after rs (i.more ++ r ∷ [])).output ≡ (performed_after rs i.more).output ++ text_of (length (rs ++ i.more) + 1) (answer (performed (rs ++ i.more)).state r) = output-push rs i.more r in
-    let rest_is : (cut (bytes ++ (i.done ++ front))).rest ≡ [] = ap (λ b. (cut b).rest) (sym same) ∙ ap (λ (c : Cut). c.rest) (cut-end (bytes ++ i.done) front one) in
+    let rest_is : (cut (bytes ++ (i.done ++ prefix))).rest ≡ [] = ap (λ b. (cut b).rest) (sym same) ∙ ap (λ (c : Cut). c.rest) (cut-end (bytes ++ i.done) prefix one) in
     record {
-      done = i.done ++ front;
-      split = i.split ∙ ap (λ x. i.done ++ x) e ∙ sym (append_assoc i.done front behind);
+      done = i.done ++ prefix;
+      split = i.split ∙ ap (λ x. i.done ++ x) e ∙ sym (append_assoc i.done prefix behind);
       more = i.more ++ r ∷ [];
-      stands = subst (λ b. StandsFor next b (rs ++ (i.more ++ r ∷ []))) same (subst (λ q. StandsFor next ((bytes ++ i.done) ++ front) q) (append_assoc rs i.more (r ∷ [])) stands);
+      stands = subst (λ b. StandsFor next b (rs ++ (i.more ++ r ∷ []))) same (subst (λ q. StandsFor next ((bytes ++ i.done) ++ prefix) q) (append_assoc rs i.more (r ∷ [])) stands);
       gained = subst (λ t. Gains before t now) (sym out) (Gains-more before mid now _ _ i.gained gained);
       since = subst (Since cutter') (sym rest_is) since;
-      cost = omega (arith, i.cost, takes-of (Complete (cut (bytes ++ i.done)).place ((cut (bytes ++ i.done)).rest ++ front)) (performed (rs ++ i.more)).state steps steps' r takes is, cost_after-push rs i.more r);
+      cost = omega (arith, i.cost, takes-of (Complete (cut (bytes ++ i.done)).place ((cut (bytes ++ i.done)).rest ++ prefix)) (performed (rs ++ i.more)).state steps steps' r takes is, cost_after-push rs i.more r);
     }
 
 -- what the statements that end in more bytes begin with
@@ -103,12 +103,12 @@ more_statements bytes done rest piece e =
     (m.0, ap (λ x. complete_statements (bytes ++ x)) e ∙ ap complete_statements (sym (append_assoc bytes done rest)) ∙ m.1)
 
 -- one of them ends in the next bytes, and others may be behind it
-pub next_ended : (bytes done front behind rest piece : List ℕ) → piece ≡ done ++ rest → rest ≡ front ++ behind → EndsOne (cut (bytes ++ done)).place (cut (bytes ++ done)).rest front
-    → (more : List Statement) × (complete_statements (bytes ++ piece) ≡ (complete_statements (bytes ++ done) ++ Complete (cut (bytes ++ done)).place ((cut (bytes ++ done)).rest ++ front) ∷ []) ++ more)
-next_ended bytes done front behind rest piece parts e one =
-    let split : piece ≡ (done ++ front) ++ behind = parts ∙ ap (λ x. done ++ x) e ∙ sym (append_assoc done front behind) in
-    let m = more_statements bytes (done ++ front) behind piece split in
-    let ended = ap complete_statements (sym (append_assoc bytes done front)) ∙ ap (λ (c : Cut). c.ended) (cut-end (bytes ++ done) front one) in
+pub next_ended : (bytes done prefix behind rest piece : List ℕ) → piece ≡ done ++ rest → rest ≡ prefix ++ behind → EndsOne (cut (bytes ++ done)).place (cut (bytes ++ done)).rest prefix
+    → (more : List Statement) × (complete_statements (bytes ++ piece) ≡ (complete_statements (bytes ++ done) ++ Complete (cut (bytes ++ done)).place ((cut (bytes ++ done)).rest ++ prefix) ∷ []) ++ more)
+next_ended bytes done prefix behind rest piece parts e one =
+    let split : piece ≡ (done ++ prefix) ++ behind = parts ∙ ap (λ x. done ++ x) e ∙ sym (append_assoc done prefix behind) in
+    let m = more_statements bytes (done ++ prefix) behind piece split in
+    let ended = ap complete_statements (sym (append_assoc bytes done prefix)) ∙ ap (λ (c : Cut). c.ended) (cut-end (bytes ++ done) prefix one) in
     (m.0, m.1 ∙ ap (λ x. x ++ m.0) ended)
 
 -- memory ran out behind some of them
@@ -118,44 +118,44 @@ fed-stop session cutter piece rest bytes rs before mid now paid steps database k
     let m = more_statements bytes i.done rest piece i.split in (
       i.more,
       record {
-        read = readings-front _ _ m.0 (rs ++ i.more) m.1 i.stands.read;
+        read = readings-prefix _ _ m.0 (rs ++ i.more) m.1 i.stands.read;
         gained = subst (Gains before (performed_after rs i.more).output) (sym e) i.gained;
         left = kept ∙ i.stands.state_is;
       },
     )
 
 -- some of a text was gained
-gained_front : (before mid now : Option (List ℕ)) (xs ys : List ℕ) → Gains before xs mid → GainsPrefix mid ys now → (text : List ℕ) × IsPrefixOf text ys × Gains before (xs ++ text) now
-gained_front None mid now xs ys g h = ([], (ys, refl), tt)
-gained_front (Some old) mid now xs ys g h =
+gained_prefix : (before mid now : Option (List ℕ)) (xs ys : List ℕ) → Gains before xs mid → GainsPrefix mid ys now → (text : List ℕ) × IsPrefixOf text ys × Gains before (xs ++ text) now
+gained_prefix None mid now xs ys g h = ([], (ys, refl), tt)
+gained_prefix (Some old) mid now xs ys g h =
     let k : GainsPrefix (Some (old ++ xs)) ys now = subst (λ o. GainsPrefix o ys now) g h in
     (take k.0 ys, (drop k.0 ys, sym (take-append-drop k.0 ys)), k.2 ∙ ap Some (append_assoc old xs (take k.0 ys)))
 
 -- a write failed within the next statement
-pub cut-off : (ss front more : List Statement) (s : Statement) (rs new : List Reading) (r : Reading) (before mid now : Option (List ℕ)) (database : Database) → state_of database ≡ (performed ((rs ++ new) ++ r ∷ [])).state → ss ≡ (front ++ s ∷ []) ++ more
-    → AreReadings front (rs ++ new) → IsReading s r → Gains before (performed_after rs new).output mid → GainsPrefix mid (text_of (length (rs ++ new) + 1) (answer (performed (rs ++ new)).state r)) now
+pub cut-off : (ss prefix more : List Statement) (s : Statement) (rs new : List Reading) (r : Reading) (before mid now : Option (List ℕ)) (database : Database) → state_of database ≡ (performed ((rs ++ new) ++ r ∷ [])).state → ss ≡ (prefix ++ s ∷ []) ++ more
+    → AreReadings prefix (rs ++ new) → IsReading s r → Gains before (performed_after rs new).output mid → GainsPrefix mid (text_of (length (rs ++ new) + 1) (answer (performed (rs ++ new)).state r)) now
     → (text : List ℕ) × IsCutOff ss rs new r text before now (state_of database)
-cut-off ss front more s rs new r before mid now database left e read is gained prefix =
-    let g = gained_front before mid now _ _ gained prefix in
+cut-off ss prefix more s rs new r before mid now database left e read is gained so_far =
+    let g = gained_prefix before mid now _ _ gained so_far in
     let all : List Reading = (rs ++ new) ++ r ∷ [] in
     let len : length all ≡ length (rs ++ new) + 1 = length-append (rs ++ new) (r ∷ []) in (
       g.0,
       record {
-        read = subst (λ n. AreReadings (take n ss) all) len (readings-front ss (front ++ s ∷ []) more all e (readings-push front s (rs ++ new) r read is));
-        front = g.1;
+        read = subst (λ n. AreReadings (take n ss) all) len (readings-prefix ss (prefix ++ s ∷ []) more all e (readings-push prefix s (rs ++ new) r read is));
+        prefix = g.1;
         gained = g.2;
         left = left;
       },
     )
 
-pub fed-cut-off : (session : Session) (cutter : Cutter) (piece rest front behind bytes : List ℕ) (rs : List Reading) (before mid now : Option (List ℕ)) (paid steps : ℕ) (database : Database) (i : IsFed session cutter piece rest bytes rs before mid paid steps)
-    → rest ≡ front ++ behind
-    → EndsOne (cut (bytes ++ i.done)).place (cut (bytes ++ i.done)).rest front
-    → HasReading (bytes ++ i.done) front (λ r. GainsPrefix mid (text_of (length (rs ++ i.more) + 1) (answer (performed (rs ++ i.more)).state r)) now × (state_of database ≡ (performed ((rs ++ i.more) ++ r ∷ [])).state))
+pub fed-cut-off : (session : Session) (cutter : Cutter) (piece rest prefix behind bytes : List ℕ) (rs : List Reading) (before mid now : Option (List ℕ)) (paid steps : ℕ) (database : Database) (i : IsFed session cutter piece rest bytes rs before mid paid steps)
+    → rest ≡ prefix ++ behind
+    → EndsOne (cut (bytes ++ i.done)).place (cut (bytes ++ i.done)).rest prefix
+    → HasReading (bytes ++ i.done) prefix (λ r. GainsPrefix mid (text_of (length (rs ++ i.more) + 1) (answer (performed (rs ++ i.more)).state r)) now × (state_of database ≡ (performed ((rs ++ i.more) ++ r ∷ [])).state))
     → (more : List Reading) × (r : Reading) × (text : List ℕ) × IsCutOff (complete_statements (bytes ++ piece)) rs more r text before now (state_of database)
-fed-cut-off session cutter piece rest front behind bytes rs before mid now paid steps database i e one (r, is, (prefix, left)) =
-    let m = next_ended bytes i.done front behind rest piece i.split e one in
-    let k = cut-off (complete_statements (bytes ++ piece)) (complete_statements (bytes ++ i.done)) m.0 (Complete (cut (bytes ++ i.done)).place ((cut (bytes ++ i.done)).rest ++ front)) rs i.more r before mid now database left m.1 i.stands.read is i.gained prefix in
+fed-cut-off session cutter piece rest prefix behind bytes rs before mid now paid steps database i e one (r, is, (so_far, left)) =
+    let m = next_ended bytes i.done prefix behind rest piece i.split e one in
+    let k = cut-off (complete_statements (bytes ++ piece)) (complete_statements (bytes ++ i.done)) m.0 (Complete (cut (bytes ++ i.done)).place ((cut (bytes ++ i.done)).rest ++ prefix)) rs i.more r before mid now database left m.1 i.stands.read is i.gained so_far in
     (i.more, r, k.0, k.1)
 
 -- the state after one statement more
@@ -164,20 +164,20 @@ pub after_one : (s : Session) (bytes : List ℕ) (rs : List Reading) (r : Readin
 after_one s bytes rs r new h left = left ∙ ap (λ st. state_after st (answer st r)) h.state_is ∙ sym (state-push rs r)
 
 -- what a session stands for after one statement more
-pub record IsEnd (s : Session) (bytes front : List ℕ) (rs : List Reading) (r : Reading) (one : Bool) (new : State) : Type 0 where
-  pub read : AreReadings (complete_statements (bytes ++ front)) (rs ++ r ∷ [])
+pub record IsEnd (s : Session) (bytes prefix : List ℕ) (rs : List Reading) (r : Reading) (one : Bool) (new : State) : Type 0 where
+  pub read : AreReadings (complete_statements (bytes ++ prefix)) (rs ++ r ∷ [])
   pub accepted : (one && s.all_accepted) ≡ (performed (rs ++ r ∷ [])).accepted
   pub number : s.number + 1 ≡ length (rs ++ r ∷ []) + 1
-  pub place_is : (cut (bytes ++ front)).place ≡ place_after (cut bytes).place ((cut bytes).rest ++ front)
-  pub rest_is : (cut (bytes ++ front)).rest ≡ []
-  pub fed : s.fed + length front ≡ length (bytes ++ front)
+  pub place_is : (cut (bytes ++ prefix)).place ≡ place_after (cut bytes).place ((cut bytes).rest ++ prefix)
+  pub rest_is : (cut (bytes ++ prefix)).rest ≡ []
+  pub fed : s.fed + length prefix ≡ length (bytes ++ prefix)
   pub left : new ≡ (performed (rs ++ r ∷ [])).state
 
-pub is_end : (s : Session) (bytes front : List ℕ) (rs : List Reading) (r : Reading) (one : Bool) (new : State) → StandsFor s bytes rs → EndsOne (cut bytes).place (cut bytes).rest front
-    → IsReading (Complete (cut bytes).place ((cut bytes).rest ++ front)) r → one ≡ is_accepted (answer (state_of s.database) r)
-    → new ≡ state_after (state_of s.database) (answer (state_of s.database) r) → IsEnd s bytes front rs r one new
-is_end s bytes front rs r one new h ends is accepts left =
-    let c = cut-end bytes front ends in
+pub is_end : (s : Session) (bytes prefix : List ℕ) (rs : List Reading) (r : Reading) (one : Bool) (new : State) → StandsFor s bytes rs → EndsOne (cut bytes).place (cut bytes).rest prefix
+    → IsReading (Complete (cut bytes).place ((cut bytes).rest ++ prefix)) r → one ≡ is_accepted (answer (state_of s.database) r)
+    → new ≡ state_after (state_of s.database) (answer (state_of s.database) r) → IsEnd s bytes prefix rs r one new
+is_end s bytes prefix rs r one new h ends is accepts left =
+    let c = cut-end bytes prefix ends in
     let len : length (rs ++ r ∷ []) ≡ length rs + 1 = length-append rs (r ∷ []) in
     record {
       read = subst (λ ss. AreReadings ss (rs ++ r ∷ [])) (sym (ap (λ (x : Cut). x.ended) c)) (readings-push (complete_statements bytes) _ rs r h.read is);
@@ -185,17 +185,17 @@ is_end s bytes front rs r one new h ends is accepts left =
       number = omega (arith, h.number, len);
       place_is = ap (λ (x : Cut). x.place) c;
       rest_is = ap (λ (x : Cut). x.rest) c;
-      fed = omega (arith, h.fed, length-append bytes front);
+      fed = omega (arith, h.fed, length-append bytes prefix);
       left = after_one s bytes rs r new h left;
     }
 
 -- a session's bounds, with more bytes of the statement that is not ended
-pub with_more : (s : Session) (u : Unfinished) (front : List ℕ) → u.size ≡ s.unfinished.size + length front → u.start ≡ s.unfinished.start → u.next ≡ place_after s.unfinished.next front
-    → (s.number + u.size ≤ s.fed + length front + 1)
-    × ((u.start.line ≤ s.fed + length front + 1) × (u.start.column ≤ s.fed + length front + 1))
-    × ((u.next.line ≤ s.fed + length front + 1) × (u.next.column ≤ s.fed + length front + 1))
-with_more s u front size start next =
-    let bound = place_bound s.unfinished.next front in
+pub with_more : (s : Session) (u : Unfinished) (prefix : List ℕ) → u.size ≡ s.unfinished.size + length prefix → u.start ≡ s.unfinished.start → u.next ≡ place_after s.unfinished.next prefix
+    → (s.number + u.size ≤ s.fed + length prefix + 1)
+    × ((u.start.line ≤ s.fed + length prefix + 1) × (u.start.column ≤ s.fed + length prefix + 1))
+    × ((u.next.line ≤ s.fed + length prefix + 1) × (u.next.column ≤ s.fed + length prefix + 1))
+with_more s u prefix size start next =
+    let bound = place_bound s.unfinished.next prefix in
     let line = ap (λ (p : Place). p.line) next in
     let column = ap (λ (p : Place). p.column) next in
     let start_line = ap (λ (p : Place). p.line) start in
@@ -210,9 +210,9 @@ pub text_is : (s : Session) (bytes : List ℕ) (rs : List Reading) (r : Reading)
 text_is s bytes rs r h = λ i. text_of (h.number i) (answer (h.state_is i) r)
 
 -- what the next statement takes
-pub taken_in : (s : Session) (bytes : List ℕ) (rs : List Reading) (front : List ℕ) (before now : ℕ) → StandsFor s bytes rs → TakesAtMost (Complete (cut bytes).place ((cut bytes).rest ++ front)) (state_of s.database) before now
-    → TakesAtMost (Complete (cut bytes).place ((cut bytes).rest ++ front)) (performed rs).state before now
-taken_in s bytes rs front before now h takes = subst (λ state. TakesAtMost (Complete (cut bytes).place ((cut bytes).rest ++ front)) state before now) h.state_is takes
+pub taken_in : (s : Session) (bytes : List ℕ) (rs : List Reading) (prefix : List ℕ) (before now : ℕ) → StandsFor s bytes rs → TakesAtMost (Complete (cut bytes).place ((cut bytes).rest ++ prefix)) (state_of s.database) before now
+    → TakesAtMost (Complete (cut bytes).place ((cut bytes).rest ++ prefix)) (performed rs).state before now
+taken_in s bytes rs prefix before now h takes = subst (λ state. TakesAtMost (Complete (cut bytes).place ((cut bytes).rest ++ prefix)) state before now) h.state_is takes
 
 -- what a session stands for after bytes that end nothing
 pub record IsKept (s : Session) (bytes piece : List ℕ) (rs : List Reading) : Type 0 where
@@ -292,7 +292,7 @@ pub finish-stop : (s : Session) (bytes : List ℕ) (rs : List Reading) (before n
 finish-stop s bytes rs before now h e = (
   [],
   record {
-    read = readings-front (statements bytes) (complete_statements bytes) (incomplete_rest (cut bytes).rest) (rs ++ []) refl (subst (AreReadings (complete_statements bytes)) (sym (append-nil rs)) h.read);
+    read = readings-prefix (statements bytes) (complete_statements bytes) (incomplete_rest (cut bytes).rest) (rs ++ []) refl (subst (AreReadings (complete_statements bytes)) (sym (append-nil rs)) h.read);
     gained = subst (Gains before []) (sym e) (Gains-none before);
     left = h.state_is ∙ ap (λ q. (performed q).state) (sym (append-nil rs));
   },
@@ -301,12 +301,12 @@ finish-stop s bytes rs before now h e = (
 pub finish-cut-off : (s : Session) (bytes : List ℕ) (rs : List Reading) (before now : Option (List ℕ)) → StandsFor s bytes rs → is_blank (cut bytes).rest ≡ false
     → GainsPrefix before (text_of s.number (answer (state_of s.database) not_ended)) now
     → (more : List Reading) × (r : Reading) × (text : List ℕ) × IsCutOff (statements bytes) rs more r text before now (state_of s.database)
-finish-cut-off s bytes rs before now h e prefix =
+finish-cut-off s bytes rs before now h e so_far =
     let whole : statements bytes ≡ (complete_statements bytes ++ Incomplete ∷ []) ++ [] = open_statements bytes e ∙ sym (append-nil _) in
     let text : text_of s.number (answer (state_of s.database) not_ended) ≡ text_of (length (rs ++ []) + 1) (answer (performed (rs ++ [])).state not_ended) =
     text_is s bytes rs not_ended h ∙ ap (λ q. text_of (length q + 1) (answer (performed q).state not_ended)) (sym (append-nil rs)) in
     let left : state_of s.database ≡ (performed ((rs ++ []) ++ not_ended ∷ [])).state =
     after_one s bytes rs not_ended (state_of s.database) h refl ∙ ap (λ q. (performed (q ++ not_ended ∷ [])).state) (sym (append-nil rs)) in
     let k = cut-off (statements bytes) (complete_statements bytes) [] Incomplete rs [] not_ended before before now s.database left whole
-    (subst (AreReadings (complete_statements bytes)) (sym (append-nil rs)) h.read) refl (Gains-none before) (subst (λ t. GainsPrefix before t now) text prefix) in
+    (subst (AreReadings (complete_statements bytes)) (sym (append-nil rs)) h.read) refl (Gains-none before) (subst (λ t. GainsPrefix before t now) text so_far) in
     ([], not_ended, k.0, k.1)

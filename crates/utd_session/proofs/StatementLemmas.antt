@@ -12,10 +12,10 @@ use Rattle.utd_lexer.proofs.BlankLemmas.{answers}
 use Rattle.utd_session.specs.Statements.{Statement, Complete, ends, Cut, before_others, cut_from, first_place, cut, complete_statements, is_blank, incomplete_rest, statements, most_bytes, statements_within, NoEnd, EndsOne}
 
 -- the byte ends the statement exactly where it is a `;` outside texts and comments
-pub ends_is : (front : List ℕ) (b : ℕ) → (ends front b ≡ true) ↔ ((b ≡ 59) × IsWhole front)
-ends_is front b = (
-  λ e. let both = and_both (eqb b 59) _ e in (eqb-true b 59 both.0, whole-of front (run Between front) refl both.1),
-  λ h. both_and (eqb b 59) _ ((Decides-eqb b 59).1 h.0) (outside-of front (run Between front) refl h.1),
+pub ends_is : (prefix : List ℕ) (b : ℕ) → (ends prefix b ≡ true) ↔ ((b ≡ 59) × IsWhole prefix)
+ends_is prefix b = (
+  λ e. let both = and_both (eqb b 59) _ e in (eqb-true b 59 both.0, whole-of prefix (run Between prefix) refl both.1),
+  λ h. both_and (eqb b 59) _ ((Decides-eqb b 59).1 h.0) (outside-of prefix (run Between prefix) refl h.1),
 )
   where
     and_both : (a b : Bool) → (a && b) ≡ true → (a ≡ true) × (b ≡ true)
@@ -38,15 +38,15 @@ joined c more = record {
   rest = (cut_from c.place c.rest more).rest;
 }
 
-pub cut_from-append : (place : Place) (front a b : List ℕ) → cut_from place front (a ++ b) ≡ joined (cut_from place front a) b
+pub cut_from-append : (place : Place) (prefix a b : List ℕ) → cut_from place prefix (a ++ b) ≡ joined (cut_from place prefix a) b
 unfolding cut_from
-cut_from-append place front [] b = refl
-cut_from-append place front (x ∷ a) b =
-    let now : List ℕ = front ++ x ∷ [] in
+cut_from-append place prefix [] b = refl
+cut_from-append place prefix (x ∷ a) b =
+    let now : List ℕ = prefix ++ x ∷ [] in
     let s : Statement = Complete place now in
     let ended = cut_from-append (place_after place now) [] a b in
     let inside = cut_from-append place now a b in
-    elim (ends front x) as (λ t. cond t (before_others s (cut_from (place_after place now) [] (a ++ b))) (cut_from place now (a ++ b))
+    elim (ends prefix x) as (λ t. cond t (before_others s (cut_from (place_after place now) [] (a ++ b))) (cut_from place now (a ++ b))
     ≡ joined (cond t (before_others s (cut_from (place_after place now) [] a)) (cut_from place now a)) b) [
       | true ↦ ap (before_others s) ended
       | false ↦ inside
@@ -110,21 +110,21 @@ pub by_le : (a b : ℕ) {P : Type 0} → (a ≤ b → P) → (b < a → P) → P
 by_le a b {P} f g = elim (nat_le a b) as (λ t. nat_le a b ≡ t → P) [ true ↦ λ e. f (leb-true a b e) | false ↦ λ e. g (leb-false a b e) ] refl
 
 -- the statements that end in the first bytes are the first of those that end in more of them
-pub front_more : (all : List ℕ) (n m : ℕ) → n ≤ m → (more : List Statement) × (complete_statements (take m all) ≡ complete_statements (take n all) ++ more)
-front_more all n m l =
+pub prefix_more : (all : List ℕ) (n m : ℕ) → n ≤ m → (more : List Statement) × (complete_statements (take m all) ≡ complete_statements (take n all) ++ more)
+prefix_more all n m l =
     let rest : List ℕ = take (m - n) (drop n all) in
     let parts : take m all ≡ take n all ++ rest = let e : m ≡ n + (m - n) = omega arith in ap (λ i. take i all) e ∙ take-add n (m - n) all in
     let k = cut-more (take n all) rest in
     (k.0, ap complete_statements parts ∙ k.1)
 
 -- the statements that end in the first bytes are the first of those that are performed
-pub within_front : (all : List ℕ) (n : ℕ) → n ≤ most_bytes → n ≤ length all → (more : List Statement) × (statements_within all ≡ complete_statements (take n all) ++ more)
-within_front all n short fits =
+pub within_prefix : (all : List ℕ) (n : ℕ) → n ≤ most_bytes → n ≤ length all → (more : List Statement) × (statements_within all ≡ complete_statements (take n all) ++ more)
+within_prefix all n short fits =
     let whole : all ≡ take n all ++ drop n all = sym (take-append-drop n all) in
     let m = cut-more (take n all) (drop n all) in
     by_le (length all) most_bytes
     (λ l. (m.0 ++ incomplete_rest (cut all).rest, within_short all l ∙ ap (λ ss. ss ++ incomplete_rest (cut all).rest) (ap complete_statements whole ∙ m.1) ∙ append_assoc (complete_statements (take n all)) m.0 (incomplete_rest (cut all).rest)))
-    (λ l. (let k = front_more all n most_bytes short in (k.0, within_long all l ∙ k.1)))
+    (λ l. (let k = prefix_more all n most_bytes short in (k.0, within_long all l ∙ k.1)))
 
 pub cut-nil : cut [] ≡ record { ended = []; place = first_place; rest = [] }
 unfolding cut_from

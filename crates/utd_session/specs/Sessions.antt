@@ -41,7 +41,7 @@ pub record GoesOn (ss : List Statement) (rs more : List Reading) (before now : O
 -- The same, and one statement more, of whose output a front alone was written.
 pub record IsCutOff (ss : List Statement) (rs more : List Reading) (r : Reading) (text : List ℕ) (before now : Option (List ℕ)) (state : State) : Type 0 where
   pub read : AreReadings (take (length (rs ++ more) + 1) ss) ((rs ++ more) ++ r ∷ [])
-  pub front : IsPrefixOf text (text_of (length (rs ++ more) + 1) (answer (performed (rs ++ more)).state r))
+  pub prefix : IsPrefixOf text (text_of (length (rs ++ more) + 1) (answer (performed (rs ++ more)).state r))
   pub gained : Gains before ((performed_after rs more).output ++ text) now
   pub left : state ≡ (performed ((rs ++ more) ++ r ∷ [])).state
 

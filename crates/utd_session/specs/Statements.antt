@@ -13,7 +13,7 @@ pub data Statement : Type 0 where
 
 -- whether the byte ends the statement that these bytes begin
 abbrev pub ends : List ℕ → ℕ → Bool
-ends front b = (b == 59) && is_outside (run Between front)
+ends prefix b = (b == 59) && is_outside (run Between prefix)
 
 -- the statements that end, and the bytes after the last of them, with the place where those begin
 pub record Cut : Type 0 where
@@ -26,11 +26,11 @@ before_others s c = record { ended = s ∷ c.ended; place = c.place; rest = c.re
 
 -- the cut of bytes that go on in a statement which begins at this place with these bytes
 unfoldable pub cut_from : Place → List ℕ → List ℕ → Cut
-cut_from place front [] = record { ended = []; place = place; rest = front }
-cut_from place front (b ∷ bytes) =
-    if ends front b
-    then before_others (Complete place (front ++ b ∷ [])) (cut_from (place_after place (front ++ b ∷ [])) [] bytes)
-    else cut_from place (front ++ b ∷ []) bytes
+cut_from place prefix [] = record { ended = []; place = place; rest = prefix }
+cut_from place prefix (b ∷ bytes) =
+    if ends prefix b
+    then before_others (Complete place (prefix ++ b ∷ [])) (cut_from (place_after place (prefix ++ b ∷ [])) [] bytes)
+    else cut_from place (prefix ++ b ∷ []) bytes
 
 -- behind these bytes of a statement that begins at this place, no statement ends in the piece
 abbrev pub NoEnd : Place → List ℕ → List ℕ → Type 0

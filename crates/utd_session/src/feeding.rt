@@ -60,24 +60,24 @@ fn reply_to_end<L: Ledger>(
     database: &mut Database,
     number: u32,
     unfinished: &mut Unfinished,
-    front: &[u8],
+    prefix: &[u8],
     steps: &mut Steps<L>,
 ) -> Result<Reply, Memory>
-    requires places { Fits unfinished.old.next (length front.now) }
+    requires places { Fits unfinished.old.next (length prefix.now) }
     requires start { unfinished.old.start.line + unfinished.old.start.column ≤ 2 ^ 31 }
-    requires few { unfinished.old.size + length front.now ≤ 2 ^ 32 - 1 }
+    requires few { unfinished.old.size + length prefix.now ≤ 2 ^ 32 - 1 }
     ensures reply { (place : Place) (bytes : List ℕ) → IsUnfinished unfinished.old place bytes
-        → IfOk result (λ r. IsReplyTo (Complete place (bytes ++ front.now)) (state_of database.old) (state_of database.new) number r) }
+        → IfOk result (λ r. IsReplyTo (Complete place (bytes ++ prefix.now)) (state_of database.old) (state_of database.new) number r) }
     ensures stays { OnErr result (state_of database.new ≡ state_of database.old) }
     ensures more { (place : Place) (bytes : List ℕ) → IsUnfinished unfinished.old place bytes
-        → OnOk result (IsUnfinished unfinished.new place (bytes ++ front.now)) }
-    ensures size { unfinished.new.size ≡ unfinished.old.size + length front.now }
+        → OnOk result (IsUnfinished unfinished.new place (bytes ++ prefix.now)) }
+    ensures size { unfinished.new.size ≡ unfinished.old.size + length prefix.now }
     ensures start { unfinished.new.start ≡ unfinished.old.start }
-    ensures next { unfinished.new.next ≡ place_after unfinished.old.next front.now }
+    ensures next { unfinished.new.next ≡ place_after unfinished.old.next prefix.now }
     ensures cost { (place : Place) (bytes : List ℕ) → IsUnfinished unfinished.old place bytes
-        → TakesAtMost (Complete place (bytes ++ front.now)) (state_of database.old) steps.old steps.new }
+        → TakesAtMost (Complete place (bytes ++ prefix.now)) (state_of database.old) steps.old steps.new }
 {
-    unfinished.extend(front)?;
+    unfinished.extend(prefix)?;
     let parsed = unfinished.read(alloc)?;
     let reply = answer_to(alloc, database, number, &parsed, steps)?;
     Ok(reply)
@@ -190,36 +190,36 @@ impl Session {
     // session only hands the database back.
     fn end<K: Sink, L: Ledger>(
         &mut self,
-        front: &[u8],
+        prefix: &[u8],
         out: &mut K,
         steps: &mut Steps<L>,
     ) -> Result<(), SessionFault>
-        requires some { 0 < length front.now }
-        requires few { self.old.fed + length front.now ≤ most_script_bytes }
-        ensures fed { OnOk result (self.new.fed ≡ self.old.fed + length front.now) }
+        requires some { 0 < length prefix.now }
+        requires few { self.old.fed + length prefix.now ≤ most_script_bytes }
+        ensures fed { OnOk result (self.new.fed ≡ self.old.fed + length prefix.now) }
         ensures since { OnOk result (Since self.new.cutter []) }
         ensures performed { (bytes : List ℕ) (rs : List Reading) → StandsFor self.old bytes rs
-            → EndsOne (cut bytes).place (cut bytes).rest front.now
-            → OnOk result (HasReading bytes front.now (λ r. StandsFor self.new (bytes ++ front.now) (rs ++ r ∷ [])
+            → EndsOne (cut bytes).place (cut bytes).rest prefix.now
+            → OnOk result (HasReading bytes prefix.now (λ r. StandsFor self.new (bytes ++ prefix.now) (rs ++ r ∷ [])
             × Gains (K.written out.old) (text_of (length rs + 1) (answer (performed rs).state r)) (K.written out.new))) }
         ensures memory { IfErr result (λ why. why ≡ SessionFault.Memory
             → (K.written out.new ≡ K.written out.old) × (state_of self.new.database ≡ state_of self.old.database)) }
         ensures write { (bytes : List ℕ) (rs : List Reading) → StandsFor self.old bytes rs
-            → IfErr result (λ why. why ≡ SessionFault.Write → HasReading bytes front.now (λ r. GainsPrefix
+            → IfErr result (λ why. why ≡ SessionFault.Write → HasReading bytes prefix.now (λ r. GainsPrefix
             (K.written out.old) (text_of (length rs + 1) (answer (performed rs).state r)) (K.written out.new)
             × (state_of self.new.database ≡ (performed (rs ++ r ∷ [])).state))) }
         ensures count { K.faults out.old ≤ K.faults out.new }
         ensures cause { IfErr result (λ why. why ≡ SessionFault.Write → Rose (K.faults out.old) (K.faults out.new)) }
         ensures cost { (bytes : List ℕ) (rs : List Reading) → StandsFor self.old bytes rs
-            → TakesAtMost (Complete (cut bytes).place ((cut bytes).rest ++ front.now)) (performed rs).state steps.old steps.new }
+            → TakesAtMost (Complete (cut bytes).place ((cut bytes).rest ++ prefix.now)) (performed rs).state steps.old steps.new }
     {
-        self.fed += front.len() as u64;
+        self.fed += prefix.len() as u64;
         let Ok(reply) = reply_to_end(
             self.alloc,
             &mut self.database,
             self.number,
             &mut self.unfinished,
-            front,
+            prefix,
             steps,
         ) else {
             return Err(SessionFault::Memory);
@@ -265,8 +265,8 @@ impl Session {
         let mut cutter = self.cutter;
         let mut session = self;
         let mut rest = piece;
-        while let Some((front, behind)) = next_end(&mut cutter, rest) {
-            match session.end(front, out, steps) {
+        while let Some((prefix, behind)) = next_end(&mut cutter, rest) {
+            match session.end(prefix, out, steps) {
                 Ok(()) => rest = behind,
                 Err(why) => {
                     let database = session.database;

@@ -23,8 +23,8 @@ use Rattle.since_during.proofs.EndedLemmas.{ended-typed}
 -- what ends facts, and what does not
 ends-or-not : (form : PlainItemForm) → IsExpandable form ⊎ IsEndingForm form
 ends-or-not (set_to t) = inl tt
-ends-or-not (insert acl t) = inl tt
-ends-or-not (delete acl t) = inl tt
+ends-or-not (insert commalist t) = inl tt
+ends-or-not (delete commalist t) = inl tt
 ends-or-not (delete_rows change) = inl tt
 ends-or-not (update change sets) = inl tt
 ends-or-not (terminate at place condition) = inr tt

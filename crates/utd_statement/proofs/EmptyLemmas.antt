@@ -28,7 +28,7 @@ is-ascii b h = by (b == 9) (b == 10) (b == 13) (b == 32) refl refl refl refl h
     by : (i j k l : Bool) → (b == 9) ≡ i → (b == 10) ≡ j → (b == 13) ≡ k → (b == 32) ≡ l → (i || j || k || l) ≡ true → b < 128
     by i j k l p q r s e = grind arith
 
-are-ascii : (front : List ℕ) → list_all is_space front ≡ true → All (λ b. b < 128) front
+are-ascii : (prefix : List ℕ) → list_all is_space prefix ≡ true → All (λ b. b < 128) prefix
 are-ascii [] h = All-nil (λ b. b < 128)
 are-ascii (b ∷ bs) h = let parts = and_parts (is_space b) (list_all is_space bs) h in All-cons (λ b. b < 128) b bs (is-ascii b parts.0) (are-ascii bs parts.1)
 
@@ -41,7 +41,7 @@ past-one : (p : Place) (b : ℕ) → b < 128 → past p (b ∷ []) ≡ next_plac
 past-one p b h = ap (place_after p) (encodes-IsAscii (b ∷ []) (one-ascii b h))
 
 -- white space before other characters
-behind-space : (p : Place) (front rest : List ℕ) (ts : List Token) → list_all is_space front ≡ true → Lexed (place_after p front) rest ts → Lexed p (front ++ rest) ts
+behind-space : (p : Place) (prefix rest : List ℕ) (ts : List Token) → list_all is_space prefix ≡ true → Lexed (place_after p prefix) rest ts → Lexed p (prefix ++ rest) ts
 behind-space p [] rest ts h l = l
 behind-space p (b ∷ bs) rest ts h l =
     let parts = and_parts (is_space b) (list_all is_space bs) h in
@@ -64,10 +64,10 @@ semicolon-spelled : (p : Place) → Spells (of_statement Nothing) (pieces (semic
 unfolding Spells lib.Utf8.encode
 semicolon-spelled p = (refl, refl)
 
-pub empty-text : (p : Place) (front bytes : List ℕ) → list_all is_space front ≡ true → bytes ≡ front ++ 59 ∷ [] → IsText p bytes (Tree Nothing)
-empty-text p front bytes h e =
-    let ascii = IsAscii-from_all (front ++ 59 ∷ []) (All-append (λ b. b < 128) front (59 ∷ []) (are-ascii front h) (All-cons (λ b. b < 128) 59 [] (omega arith) (All-nil (λ b. b < 128)))) in
-    let q = place_after p front in
-    let lexed = behind-space p front (59 ∷ []) (semicolon q ∷ []) h (semicolon-lexed q) in
-    let reads : Reads p (front ++ 59 ∷ []) (semicolon q ∷ []) = (IsUtf8-from_ascii (front ++ 59 ∷ []) ascii, subst (λ cs. Lexed p cs (semicolon q ∷ [])) (sym (chars-IsAscii (front ++ 59 ∷ []) ascii)) lexed) in
+pub empty-text : (p : Place) (prefix bytes : List ℕ) → list_all is_space prefix ≡ true → bytes ≡ prefix ++ 59 ∷ [] → IsText p bytes (Tree Nothing)
+empty-text p prefix bytes h e =
+    let ascii = IsAscii-from_all (prefix ++ 59 ∷ []) (All-append (λ b. b < 128) prefix (59 ∷ []) (are-ascii prefix h) (All-cons (λ b. b < 128) 59 [] (omega arith) (All-nil (λ b. b < 128)))) in
+    let q = place_after p prefix in
+    let lexed = behind-space p prefix (59 ∷ []) (semicolon q ∷ []) h (semicolon-lexed q) in
+    let reads : Reads p (prefix ++ 59 ∷ []) (semicolon q ∷ []) = (IsUtf8-from_ascii (prefix ++ 59 ∷ []) ascii, subst (λ cs. Lexed p cs (semicolon q ∷ [])) (sym (chars-IsAscii (prefix ++ 59 ∷ []) ascii)) lexed) in
     (semicolon q ∷ [], subst (λ bs. Reads p bs (semicolon q ∷ [])) (sym e) reads, semicolon-whole q, semicolon-spelled q)

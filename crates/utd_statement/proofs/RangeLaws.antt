@@ -4,7 +4,7 @@ use Rattle.point_core.specs.declared.fault.Place.{Place}
 use Rattle.point_core.specs.declared.memory.Memory.{Memory}
 use Rattle.utd_parser.specs.Tokens.{pieces}
 use Rattle.utd_parser.proofs.Writings.{are-written}
-use Rattle.literal_laws.proofs.StatementLaws.{written-fine}
+use Rattle.type_check.proofs.StatementLaws.{written-fine}
 use Rattle.utd_statement.specs.declared.reading.Parsed.{Parsed}
 use Rattle.utd_statement.specs.Parsed.{reading_of}
 use Rattle.utd_statement.specs.Readings.{Reading, Tree, Refused, IsText}

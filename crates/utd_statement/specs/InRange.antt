@@ -2,7 +2,7 @@
 --     IsInRange      typing refuses the tree with E06 in no state: only the text is refused so
 use Rattle.tree_core.specs.Relvars.{State}
 use Rattle.type_check.specs.Checks.{checked}
-use Rattle.literal_laws.specs.Refusals.{IsNotE06}
+use Rattle.type_check.specs.Refusals.{IsNotE06}
 use Rattle.utd_statement.specs.Readings.{Reading, Tree, Refused}
 
 abbrev pub IsInRange : Reading → Type 0

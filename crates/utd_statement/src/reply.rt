@@ -1,7 +1,7 @@
 // What is answered to one statement.
 ghost use Rattle.std.specs.Prelude.{◌≤◌, ◌+◌, IfOk};
 ghost use Rattle.utd_syntax.specs.Read.{read_statement};
-ghost use Rattle.utd_print.specs.Lines.{HasLine};
+ghost use Rattle.utd_print.specs.SortKeys.{HasLine};
 ghost use Rattle.utd_statement.specs.Parsed.{reading_of, HasAnswer};
 ghost use Rattle.utd_statement.specs.Answers.{Answer, Refusal, of_tree, answer};
 ghost use Rattle.utd_statement.specs.Costs.{cost_of_tree, statement_cost};
@@ -38,7 +38,7 @@ pub fn refusal(alloc: Global, number: u32, refuse: &Refuse) -> Result<Reply, Mem
 }
 
 // The answer that is told by this text, or by this refusal. Where there is a text, no memory is taken.
-fn told(alloc: Global, number: u32, written: Result<Vec<u8>, Refuse>) -> Result<Reply, Memory>
+fn reply_with(alloc: Global, number: u32, written: Result<Vec<u8>, Refuse>) -> Result<Reply, Memory>
     ensures { (old new : State) (a : Answer) → IsPerformed written old new a → IsAnswered result number old new a }
 {
     match written {
@@ -64,7 +64,7 @@ fn answer_to_tree<L: Ledger>(
     ensures cost { steps.new ≤ steps.old + cost_of_tree (read_relvars database.old) (read_statement statement.now) }
 {
     let written = performed(alloc, statement, database, steps);
-    told(alloc, number, written)
+    reply_with(alloc, number, written)
 }
 
 /// The answer to what a statement is read as, and what the statement makes of the database. For want of memory the database

@@ -2,7 +2,7 @@
 use Rattle.std.specs.Option.{is_some}
 use Rattle.std.specs.Prelude.{◌≡◌, ◌≤◌, ℕ, ◌+◌, ◌-◌, ◌/◌, ◌%◌, ℤ, Bool, true, false, ◌&&◌, ◌==◌, nat_le, Option, Some, None, IsNone, IfSome, List, [], ◌∷◌, slice_index_or, if◌then◌else◌, zero, suc, refl}
 use Rattle.std.proofs.Common.{arith, sym, ◌∙◌}
-use Rattle.std.proofs.lemmas.Bool.{le-leb, leb-true, eqb-true}
+use Rattle.std.proofs.lemmas.Bool.{le-leb, leb-true, eqb-true, and_parts}
 use Rattle.point_core.specs.Dates.{IsCalendarDate, IsDateText, date_text, date_number, four_digits, two_digits, days_of_month, month_days, is_leap}
 use Rattle.utd_syntax.specs.Literals.{value_of, is_digit, are_digits, is_day, is_date, number_of_date}
 
@@ -17,19 +17,11 @@ all true true e f = refl
 all true false e f = absurd cc
 all false b e f = absurd cc
 
-first : (a b : Bool) → (a && b) ≡ true → a ≡ true
-first true b e = refl
-first false b e = absurd cc
-
-second : (a b : Bool) → (a && b) ≡ true → b ≡ true
-second true b e = e
-second false b e = absurd cc
-
 digit : (n : ℕ) → n ≤ 9 → is_digit (48 + n) ≡ true
 digit n h = all (nat_le 48 (48 + n)) (nat_le (48 + n) 57) (le-leb 48 (48 + n) (omega arith)) (le-leb (48 + n) 57 (omega arith))
 
 digit-back : (c : ℕ) → is_digit c ≡ true → (48 ≤ c) × (c ≤ 57)
-digit-back c h = (leb-true 48 c (first (nat_le 48 c) (nat_le c 57) h), leb-true c 57 (second (nat_le 48 c) (nat_le c 57) h))
+digit-back c h = (leb-true 48 c ((and_parts (nat_le 48 c) (nat_le c 57) h).0), leb-true c 57 ((and_parts (nat_le 48 c) (nat_le c 57) h).1))
 
 day : (year month date : ℕ) → IsCalendarDate year month date → is_day year month date ≡ true
 day year month date h =
@@ -41,7 +33,7 @@ day year month date h =
     search (all)
 
 split : (c : ℕ) (cs : List ℕ) → are_digits (c ∷ cs) ≡ true → (is_digit c ≡ true) × (are_digits cs ≡ true)
-split c cs t = (first (is_digit c) (are_digits cs) t, second (is_digit c) (are_digits cs) t)
+split c cs t = ((and_parts (is_digit c) (are_digits cs) t).0, (and_parts (is_digit c) (are_digits cs) t).1)
 
 are-digits : (a b c d e f g h : ℕ) → a ≤ 9 → b ≤ 9 → c ≤ 9 → d ≤ 9 → e ≤ 9 → f ≤ 9 → g ≤ 9 → h ≤ 9 →
     are_digits ((48 + a) ∷ (48 + b) ∷ (48 + c) ∷ (48 + d) ∷ (48 + e) ∷ (48 + f) ∷ (48 + g) ∷ (48 + h) ∷ []) ≡ true

@@ -27,31 +27,31 @@ repeat_found list i d within old = rw (drop-cons list i d within, old) refl
 abbrev same_name : Name × Kind → Name × Kind → Bool
 same_name a b = bytes_eq a.0 b.0
 
-not_in_more : (front : Heading) (a : Name × Kind) (name : Name) → has_name (front ++ a ∷ []) name ≡ false → (has_name front name ≡ false) × (bytes_eq a.0 name ≡ false)
+not_in_more : (prefix : Heading) (a : Name × Kind) (name : Name) → has_name (prefix ++ a ∷ []) name ≡ false → (has_name prefix name ≡ false) × (bytes_eq a.0 name ≡ false)
 not_in_more [] a name e = (refl, (or_parts (bytes_eq a.0 name) false e).0)
-not_in_more (f ∷ front) a name e =
-    let h = or_parts (bytes_eq f.0 name) (has_name (front ++ a ∷ []) name) e in
-    let k = not_in_more front a name h.1 in
+not_in_more (f ∷ prefix) a name e =
+    let h = or_parts (bytes_eq f.0 name) (has_name (prefix ++ a ∷ []) name) e in
+    let k = not_in_more prefix a name h.1 in
     (rw (h.0, k.0) refl, k.1)
 
-front_apart : (front : Heading) (a : Name × Kind) (rest : Heading) → AllByRecursion (λ b. has_name (front ++ a ∷ []) b.0 ≡ false) rest → AllByRecursion (λ b. has_name front b.0 ≡ false) rest
-front_apart front a [] h = tt
-front_apart front a (b ∷ rest) h = ((not_in_more front a b.0 h.0).0, front_apart front a rest h.1)
+prefix_apart : (prefix : Heading) (a : Name × Kind) (rest : Heading) → AllByRecursion (λ b. has_name (prefix ++ a ∷ []) b.0 ≡ false) rest → AllByRecursion (λ b. has_name prefix b.0 ≡ false) rest
+prefix_apart prefix a [] h = tt
+prefix_apart prefix a (b ∷ rest) h = ((not_in_more prefix a b.0 h.0).0, prefix_apart prefix a rest h.1)
 
-one_apart : (front : Heading) (a : Name × Kind) (rest : Heading) → AllByRecursion (λ b. has_name (front ++ a ∷ []) b.0 ≡ false) rest → AllByRecursion (λ b. same_name a b ≡ false) rest
-one_apart front a [] h = tt
-one_apart front a (b ∷ rest) h = ((not_in_more front a b.0 h.0).1, one_apart front a rest h.1)
+one_apart : (prefix : Heading) (a : Name × Kind) (rest : Heading) → AllByRecursion (λ b. has_name (prefix ++ a ∷ []) b.0 ≡ false) rest → AllByRecursion (λ b. same_name a b ≡ false) rest
+one_apart prefix a [] h = tt
+one_apart prefix a (b ∷ rest) h = ((not_in_more prefix a b.0 h.0).1, one_apart prefix a rest h.1)
 
-all_apart : (front : Heading) (n : ℕ) (rest : Heading) → repeat_after front n rest ≡ None → AllByRecursion (λ a. has_name front a.0 ≡ false) rest × IsDistinct same_name rest
+all_apart : (prefix : Heading) (n : ℕ) (rest : Heading) → repeat_after prefix n rest ≡ None → AllByRecursion (λ a. has_name prefix a.0 ≡ false) rest × IsDistinct same_name rest
 unfolding IsDistinct
-all_apart front n [] e = (tt, tt)
-all_apart front n (a ∷ rest) e =
-    elim (has_name front a.0) as (λ r. has_name front a.0 ≡ r → (if r then Some n else repeat_after (front ++ a ∷ []) (n + 1) rest) ≡ None
-    → AllByRecursion (λ b. has_name front b.0 ≡ false) (a ∷ rest) × IsDistinct same_name (a ∷ rest)) [
+all_apart prefix n [] e = (tt, tt)
+all_apart prefix n (a ∷ rest) e =
+    elim (has_name prefix a.0) as (λ r. has_name prefix a.0 ≡ r → (if r then Some n else repeat_after (prefix ++ a ∷ []) (n + 1) rest) ≡ None
+    → AllByRecursion (λ b. has_name prefix b.0 ≡ false) (a ∷ rest) × IsDistinct same_name (a ∷ rest)) [
       | true ↦ λ h none. cc
       | false ↦ λ h none.
-          let more = all_apart (front ++ a ∷ []) (n + 1) rest none in
-          ((h, front_apart front a rest more.0), (one_apart front a rest more.0, more.1))
+          let more = all_apart (prefix ++ a ∷ []) (n + 1) rest none in
+          ((h, prefix_apart prefix a rest more.0), (one_apart prefix a rest more.0, more.1))
     ] refl e
 
 -- ---- sorted, and with different names: a heading

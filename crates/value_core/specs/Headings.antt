@@ -21,8 +21,8 @@ position_of (a ∷ rest) name = if bytes_eq a.0 name then 0 else suc (position_o
 
 -- the least index of an attribute whose name one before it has; n attributes stand in front
 abbrev pub repeat_after : Heading → ℕ → Heading → Option ℕ
-repeat_after front n [] = None
-repeat_after front n (a ∷ rest) = if has_name front a.0 then Some n else repeat_after (front ++ a ∷ []) (n + 1) rest
+repeat_after prefix n [] = None
+repeat_after prefix n (a ∷ rest) = if has_name prefix a.0 then Some n else repeat_after (prefix ++ a ∷ []) (n + 1) rest
 
 abbrev pub first_repeat : Heading → Option ℕ
 first_repeat list = repeat_after [] 0 list

@@ -9,7 +9,7 @@ abbrev pub attribute : ℕ → Side Row
 attribute i = record { of = λ x. span_of (value_at x i); put = λ x j. put_span x i j }
 
 abbrev pub unpacked : List ℕ → List Row → List Row
-unpacked acl rows = unpack row_cmp (map attribute acl) rows
+unpacked commalist rows = unpack row_cmp (map attribute commalist) rows
 
 abbrev pub packed : List ℕ → List Row → List Row
-packed acl rows = pack row_cmp (map attribute acl) rows
+packed commalist rows = pack row_cmp (map attribute commalist) rows

@@ -43,19 +43,19 @@ impl Constraint {
     {
         match self {
             Constraint::Key(key) => Ok(Constraint::Key(key.copy(alloc)?)),
-            Constraint::Packed(acl) => Ok(Constraint::Packed(acl.copy(alloc)?)),
-            Constraint::WhenUnpacked(acl, key) => {
-                let (acl, key) = (acl.copy(alloc)?, key.copy(alloc)?);
-                Ok(Constraint::WhenUnpacked(acl, key))
+            Constraint::Packed(commalist) => Ok(Constraint::Packed(commalist.copy(alloc)?)),
+            Constraint::WhenUnpacked(commalist, key) => {
+                let (commalist, key) = (commalist.copy(alloc)?, key.copy(alloc)?);
+                Ok(Constraint::WhenUnpacked(commalist, key))
             }
-            Constraint::UKey(acl, key) => {
-                let (acl, key) = (acl.copy(alloc)?, key.copy(alloc)?);
-                Ok(Constraint::UKey(acl, key))
+            Constraint::UKey(commalist, key) => {
+                let (commalist, key) = (commalist.copy(alloc)?, key.copy(alloc)?);
+                Ok(Constraint::UKey(commalist, key))
             }
-            Constraint::Foreign(acl, key, relvar, there) => {
-                let (acl, key) = (acl.copy(alloc)?, key.copy(alloc)?);
+            Constraint::Foreign(commalist, key, relvar, there) => {
+                let (commalist, key) = (commalist.copy(alloc)?, key.copy(alloc)?);
                 let (relvar, there) = (relvar.copy(alloc)?, there.copy(alloc)?);
-                Ok(Constraint::Foreign(acl, key, relvar, there))
+                Ok(Constraint::Foreign(commalist, key, relvar, there))
             }
             Constraint::History(rule) => Ok(Constraint::History(rule.copy(alloc)?)),
         }

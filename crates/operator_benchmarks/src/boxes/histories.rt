@@ -5,9 +5,9 @@ ghost use Rattle.value_core.specs.Plain.{plain};
 
 use crate::boxes::rows::Small;
 use crate::tag::Tag;
-use box_core::{Keyed, PairRule, TotalRule};
+use cell_boxes::{KeyedCellBox, PairRule, TotalRule};
+use cell_sweep::CellBox;
 use point_core::{AnyPoint, Memory, Stop};
-use slice_core::Key;
 use std::alloc::Global;
 use value_core::{Row, Value};
 
@@ -36,7 +36,11 @@ fn sides_of(alloc: Global, sides: usize, row: Small) -> Result<Vec<(usize, usize
 }
 
 /// The rows under their keys.
-pub(crate) fn keys_of(alloc: Global, sides: usize, rows: &[Small]) -> Result<Vec<Key<Row>>, Memory>
+pub(crate) fn keys_of(
+    alloc: Global,
+    sides: usize,
+    rows: &[Small],
+) -> Result<Vec<CellBox<Row>>, Memory>
     requires some { 0 < sides }
     requires few { sides ≤ 2 }
     ensures { IfOk result (λ v. All (λ x. length x.1 ≡ sides) v.items) }
@@ -45,7 +49,7 @@ pub(crate) fn keys_of(alloc: Global, sides: usize, rows: &[Small]) -> Result<Vec
     for row in rows {
         let label = row_of(alloc, &[row.key])?;
         let own = sides_of(alloc, sides, *row)?;
-        out.push(Key { label, sides: own })?;
+        out.push(CellBox { label, sides: own })?;
     }
     Ok(out)
 }
@@ -55,7 +59,7 @@ pub(crate) fn keyed_of(
     alloc: Global,
     sides: usize,
     rows: &[Small],
-) -> Result<Vec<Keyed<Row, Row>>, Memory>
+) -> Result<Vec<KeyedCellBox<Row, Row>>, Memory>
     requires some { 0 < sides }
     requires few { sides ≤ 2 }
     ensures { IfOk result (λ v. All (λ x. length x.2 ≡ sides) v.items) }
@@ -65,7 +69,7 @@ pub(crate) fn keyed_of(
         let key = row_of(alloc, &[row.key])?;
         let label = row_of(alloc, &[row.key, row.label])?;
         let own = sides_of(alloc, sides, *row)?;
-        out.push(Keyed {
+        out.push(KeyedCellBox {
             key,
             label,
             sides: own,
@@ -75,7 +79,10 @@ pub(crate) fn keyed_of(
 }
 
 /// The rows on their first sides with their keys and with numbers of their own.
-pub(crate) fn numbered_of(alloc: Global, rows: &[Small]) -> Result<Vec<Keyed<Row, i64>>, Memory>
+pub(crate) fn numbered_of(
+    alloc: Global,
+    rows: &[Small],
+) -> Result<Vec<KeyedCellBox<Row, i64>>, Memory>
     ensures { IfOk result (λ v. All (λ x. length x.2 ≡ 1) v.items) }
 {
     let mut out = Vec::with_capacity(alloc, rows.len())?;
@@ -83,7 +90,7 @@ pub(crate) fn numbered_of(alloc: Global, rows: &[Small]) -> Result<Vec<Keyed<Row
         let key = row_of(alloc, &[row.key])?;
         let label = i64::try_from(row.label).unwrap_or(0);
         let own = sides_of(alloc, 1, *row)?;
-        out.push(Keyed {
+        out.push(KeyedCellBox {
             key,
             label,
             sides: own,
@@ -98,7 +105,7 @@ pub(crate) fn all_of(
     sides: usize,
     left: &[Small],
     right: &[Small],
-) -> Result<Vec<Key<Row>>, Memory>
+) -> Result<Vec<CellBox<Row>>, Memory>
     requires some { 0 < sides }
     requires few { sides ≤ 2 }
 {
@@ -106,7 +113,7 @@ pub(crate) fn all_of(
     for row in left.iter().chain(right.iter()) {
         let label = row_of(alloc, &[row.key, row.label])?;
         let own = sides_of(alloc, sides, *row)?;
-        out.push(Key { label, sides: own })?;
+        out.push(CellBox { label, sides: own })?;
     }
     Ok(out)
 }

@@ -4,7 +4,7 @@ ghost use Rattle.std.specs.Prelude.{◌<◌, ◌≤◌};
 use crate::boxes::histories::{Both, Many, all_of, keyed_of, keys_of, numbered_of};
 use crate::boxes::rows::Small;
 use crate::errors::or_error;
-use box_core::{Totals, intersect, join, keys_in_order, matching, minus, not_matching, tallied};
+use cell_boxes::{Totals, intersect, join, keys_in_order, matching, minus, not_matching, tallied};
 use std::alloc::Global;
 use std::io;
 use std::time::{Clock, Instant};

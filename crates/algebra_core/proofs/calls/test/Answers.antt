@@ -17,7 +17,7 @@ returns-in-Relate-clause-value g c =
     let s : Scope = record { relvars = c.args.relvars; with = None; value = None; before = c.len.result } in
     let entries = (read_relvars c.args.relvars.now).relvars in
     let whole : length (all_of s) ≤ c.len.result = omega (arith, length-map c.args.relvars.now.list.entries read_entry, c.len.ensures.len) in
-    let told = subst (λ (k : Known). Answers c.related.result (truth_of k (relate c.args.test.now.place c.in-Relate.word c.in-Relate.acl (read_tree c.in-Relate.l) (read_tree c.in-Relate.r)))) (known_whole s refl whole) (c.related.ensures.value c.args.test.now.place) in
+    let told = subst (λ (k : Known). Answers c.related.result (truth_of k (relate c.args.test.now.place c.in-Relate.word c.in-Relate.commalist (read_tree c.in-Relate.l) (read_tree c.in-Relate.r)))) (known_whole s refl whole) (c.related.ensures.value c.args.test.now.place) in
     subst (λ (f : TestForm). Answers c.related.result (truth_in entries (read_test_form c.args.test.now.place f))) (sym c.in-Relate.is) told
 
 pub returns-in-Relate-clause-cost : goal.returns-in-Relate-clause-cost
@@ -25,7 +25,7 @@ returns-in-Relate-clause-cost g c =
     let s : Scope = record { relvars = c.args.relvars; with = None; value = None; before = c.len.result } in
     let entries = (read_relvars c.args.relvars.now).relvars in
     let whole : length (all_of s) ≤ c.len.result = omega (arith, length-map c.args.relvars.now.list.entries read_entry, c.len.ensures.len) in
-    let told = subst (λ (p : Prices). c.related.new.steps ≤ c.args.steps.now + cost_of_test p (relate c.args.test.now.place c.in-Relate.word c.in-Relate.acl (read_tree c.in-Relate.l) (read_tree c.in-Relate.r))) (prices_whole s refl whole) (c.related.ensures.cost c.args.test.now.place) in
+    let told = subst (λ (p : Prices). c.related.new.steps ≤ c.args.steps.now + cost_of_test p (relate c.args.test.now.place c.in-Relate.word c.in-Relate.commalist (read_tree c.in-Relate.l) (read_tree c.in-Relate.r))) (prices_whole s refl whole) (c.related.ensures.cost c.args.test.now.place) in
     subst (λ (f : TestForm). c.related.new.steps ≤ c.args.steps.now + test_cost entries (read_test_form c.args.test.now.place f)) (sym c.in-Relate.is) told
 
 pub returns-in-IsEmpty-clause-value : goal.returns-in-IsEmpty-clause-value

@@ -21,8 +21,8 @@ use Rattle.meaning_core.specs.Rows.{extended_row, group_row}
 use Rattle.meaning_core.specs.Names.{IsFirstAt}
 use Rattle.meaning_core.specs.Typing.{is_part, IsTuple, IsInfix, IsProjection, IsRenaming, IsRestriction, IsExtension, IsSummary, IsList}
 use Rattle.meaning_core.specs.WellMade.{sizes_of}
-use Rattle.using_core.specs.Cells.{scalars_of}
-use Rattle.using_core.specs.Using.{around}
+use Rattle.eval_using.specs.Cells.{scalars_of}
+use Rattle.eval_using.specs.Using.{around}
 use Rattle.algebra_core.specs.Costs.{known_of, operator_cost, rule_cost, tree_cost, paid}
 use Rattle.algebra_core.specs.Operands.{held}
 use Rattle.algebra_core.specs.Scopes.{CanEvaluate, CanLookUp, known_at, prices_at, state_of, all_of, work, stored_work, stored_meaning}
@@ -149,42 +149,42 @@ rename-returns-clause-value g t c =
 pub pack-packed-requires : goal.pack-packed-requires
 pack-packed-requires g t c =
     let headed = headed_at c.args.scope.now c.args.t.now c.in_ok-part.part c.relation.result.now c.in_ok-part.ensures.value c.relation.ensures in
-    let acl : c.as_slice.result.now ≡ c.args.acl.now = search rules in
-    subst (λ (l : List ℕ). IsList c.relation.result.now.heading l) (sym acl) (subst (λ (h : Heading). IsList h c.args.acl.now) (c.requires.typed.2 ∙ sym headed) c.requires.typed.1)
+    let commalist : c.as_slice.result.now ≡ c.args.commalist.now = search rules in
+    subst (λ (l : List ℕ). IsList c.relation.result.now.heading l) (sym commalist) (subst (λ (h : Heading). IsList h c.args.commalist.now) (c.requires.typed.2 ∙ sym headed) c.requires.typed.1)
 
 pub pack-returns-clause-value : goal.pack-returns-clause-value
 pack-returns-clause-value g t c =
     let headed = headed_at c.args.scope.now c.args.t.now c.in_ok-part.part c.relation.result.now c.in_ok-part.ensures.value c.relation.ensures in
-    let acl : c.as_slice.result.now ≡ c.args.acl.now = search rules in
-    value_at c.args.scope.now c.args.t.now c.in_ok-part.part c.relation.result.now c.in_ok-part.ensures.value c.relation.ensures c.packed.result c.args.tree.now.heading (λ h a. limited c.args.tree.now.place (packed_rows c.args.acl.now a))
-    (subst (λ (l : List ℕ). Answers c.packed.result (under c.args.tree.now.heading (limited c.args.tree.now.place (packed_rows l c.relation.result.now.rows)))) acl
+    let commalist : c.as_slice.result.now ≡ c.args.commalist.now = search rules in
+    value_at c.args.scope.now c.args.t.now c.in_ok-part.part c.relation.result.now c.in_ok-part.ensures.value c.relation.ensures c.packed.result c.args.tree.now.heading (λ h a. limited c.args.tree.now.place (packed_rows c.args.commalist.now a))
+    (subst (λ (l : List ℕ). Answers c.packed.result (under c.args.tree.now.heading (limited c.args.tree.now.place (packed_rows l c.relation.result.now.rows)))) commalist
     (subst (λ (h : Heading). Answers c.packed.result (under h (limited c.args.tree.now.place (packed_rows c.as_slice.result.now c.relation.result.now.rows)))) (headed ∙ sym c.requires.typed.2) c.packed.ensures.value))
 
 pub pack-returns-clause-cost : goal.pack-returns-clause-cost
 pack-returns-clause-cost g t c =
-    let acl : c.as_slice.result.now ≡ c.args.acl.now = search rules in
-    cost_at c.args.scope.now c.args.t.now c.in_ok-part.part c.relation.result.now c.in_ok-part.ensures.value c.relation.ensures c.args.steps.now c.operand.new.steps c.packed.new.steps (λ h a. bound (length a) (length c.args.acl.now)) c.operand.ensures.cost
-    (subst (λ (l : List ℕ). c.packed.new.steps ≤ c.operand.new.steps + bound (length c.relation.result.now.rows) (length l)) acl c.packed.ensures.cost)
+    let commalist : c.as_slice.result.now ≡ c.args.commalist.now = search rules in
+    cost_at c.args.scope.now c.args.t.now c.in_ok-part.part c.relation.result.now c.in_ok-part.ensures.value c.relation.ensures c.args.steps.now c.operand.new.steps c.packed.new.steps (λ h a. bound (length a) (length c.args.commalist.now)) c.operand.ensures.cost
+    (subst (λ (l : List ℕ). c.packed.new.steps ≤ c.operand.new.steps + bound (length c.relation.result.now.rows) (length l)) commalist c.packed.ensures.cost)
 
 pub unpack-unpacked-requires : goal.unpack-unpacked-requires
 unpack-unpacked-requires g t c =
     let headed = headed_at c.args.scope.now c.args.t.now c.in_ok-part.part c.relation.result.now c.in_ok-part.ensures.value c.relation.ensures in
-    let acl : c.as_slice.result.now ≡ c.args.acl.now = search rules in
-    subst (λ (l : List ℕ). IsList c.relation.result.now.heading l) (sym acl) (subst (λ (h : Heading). IsList h c.args.acl.now) (c.requires.typed.2 ∙ sym headed) c.requires.typed.1)
+    let commalist : c.as_slice.result.now ≡ c.args.commalist.now = search rules in
+    subst (λ (l : List ℕ). IsList c.relation.result.now.heading l) (sym commalist) (subst (λ (h : Heading). IsList h c.args.commalist.now) (c.requires.typed.2 ∙ sym headed) c.requires.typed.1)
 
 pub unpack-returns-clause-value : goal.unpack-returns-clause-value
 unpack-returns-clause-value g t c =
     let headed = headed_at c.args.scope.now c.args.t.now c.in_ok-part.part c.relation.result.now c.in_ok-part.ensures.value c.relation.ensures in
-    let acl : c.as_slice.result.now ≡ c.args.acl.now = search rules in
-    value_at c.args.scope.now c.args.t.now c.in_ok-part.part c.relation.result.now c.in_ok-part.ensures.value c.relation.ensures c.unpacked.result c.args.tree.now.heading (λ h a. limited c.args.tree.now.place (unpacked_rows c.args.acl.now a))
-    (subst (λ (l : List ℕ). Answers c.unpacked.result (under c.args.tree.now.heading (limited c.args.tree.now.place (unpacked_rows l c.relation.result.now.rows)))) acl
+    let commalist : c.as_slice.result.now ≡ c.args.commalist.now = search rules in
+    value_at c.args.scope.now c.args.t.now c.in_ok-part.part c.relation.result.now c.in_ok-part.ensures.value c.relation.ensures c.unpacked.result c.args.tree.now.heading (λ h a. limited c.args.tree.now.place (unpacked_rows c.args.commalist.now a))
+    (subst (λ (l : List ℕ). Answers c.unpacked.result (under c.args.tree.now.heading (limited c.args.tree.now.place (unpacked_rows l c.relation.result.now.rows)))) commalist
     (subst (λ (h : Heading). Answers c.unpacked.result (under h (limited c.args.tree.now.place (unpacked_rows c.as_slice.result.now c.relation.result.now.rows)))) (headed ∙ sym c.requires.typed.2) c.unpacked.ensures.value))
 
 pub unpack-returns-clause-cost : goal.unpack-returns-clause-cost
 unpack-returns-clause-cost g t c =
-    let acl : c.as_slice.result.now ≡ c.args.acl.now = search rules in
-    cost_at c.args.scope.now c.args.t.now c.in_ok-part.part c.relation.result.now c.in_ok-part.ensures.value c.relation.ensures c.args.steps.now c.operand.new.steps c.unpacked.new.steps (λ h a. bound (length a) (length c.args.acl.now)) c.operand.ensures.cost
-    (subst (λ (l : List ℕ). c.unpacked.new.steps ≤ c.operand.new.steps + bound (length c.relation.result.now.rows) (length l)) acl c.unpacked.ensures.cost)
+    let commalist : c.as_slice.result.now ≡ c.args.commalist.now = search rules in
+    cost_at c.args.scope.now c.args.t.now c.in_ok-part.part c.relation.result.now c.in_ok-part.ensures.value c.relation.ensures c.args.steps.now c.operand.new.steps c.unpacked.new.steps (λ h a. bound (length a) (length c.args.commalist.now)) c.operand.ensures.cost
+    (subst (λ (l : List ℕ). c.unpacked.new.steps ≤ c.operand.new.steps + bound (length c.relation.result.now.rows) (length l)) commalist c.unpacked.ensures.cost)
 
 pub infix-infix-requires-clause-infix : goal.infix-infix-requires-clause-infix
 infix-infix-requires-clause-infix g t c =
@@ -247,8 +247,8 @@ named-returns-clause-value g t c =
     let x = read_relvar c.in-Some.relvar.now in
     let first : IsFirstAt (all_of c.args.scope.now) c.args.name.now c.in-Some.at (read_relvar c.in-Some.relvar.now) =
     found_at c.args.scope.now.relvars.now.list.entries c.args.name.now c.in-Some.field-0-1.now c.in-Some.at c.in-Some.relvar.now (sym c.in-Some.ensures.index) c.in-Some.ensures.entry in
-    named_meant c.args.scope.now c.args.place c.args.heading.now c.args.name.now c.in-Some.at x c.requires first c.told_at_name.result
-    (c.told_at_name.ensures (relvar_heading x) (stored_meaning c.args.scope.now c.args.name.now c.in-Some.at x) c.stored.ensures.value)
+    named_meant c.args.scope.now c.args.place c.args.heading.now c.args.name.now c.in-Some.at x c.requires first c.or_fault_at_name.result
+    (c.or_fault_at_name.ensures (relvar_heading x) (stored_meaning c.args.scope.now c.args.name.now c.in-Some.at x) c.stored.ensures.value)
 
 pub named-returns-clause-cost : goal.named-returns-clause-cost
 named-returns-clause-cost g t c =
@@ -277,12 +277,12 @@ stored-returns-in-Base-clause-value g t c =
 pub using-answer-requires : goal.using-answer-requires
 using-answer-requires g t c = λ κs within.
     let part = read_tree c.args.t.now in
-    let list : c.as_slice.result.now ≡ c.args.acl.now = search rules in
+    let list : c.as_slice.result.now ≡ c.args.commalist.now = search rules in
     let listed : IsList (heading_of part) c.as_slice.result.now =
-    subst (λ (l : List ℕ). IsList (heading_of part) l) (sym list) (subst (λ (h : Heading). IsList h c.args.acl.now) c.requires.typed.2 c.requires.typed.1) in
+    subst (λ (l : List ℕ). IsList (heading_of part) l) (sym list) (subst (λ (h : Heading). IsList h c.args.commalist.now) c.requires.typed.2 c.requires.typed.1) in
     let is : IsTrue (is_part (names_at (heading_of part) c.as_slice.result.now) part) =
     subst (λ (l : List ℕ). IsTrue (is_part (names_at (heading_of part) l) part)) (sym list)
-    (subst (λ (h : Heading). IsTrue (is_part (names_at h c.args.acl.now) part)) c.requires.typed.2 c.requires.typed.3) in
+    (subst (λ (h : Heading). IsTrue (is_part (names_at h c.args.commalist.now) part)) c.requires.typed.2 c.requires.typed.3) in
     (omega arith, (within, (record { relvars = c.requires.relvars; given = c.requires.given; typed = c.requires.typed.0 }, record { list = listed; part = is })))
 
 pub using-returns-clause-value : goal.using-returns-clause-value
@@ -290,15 +290,15 @@ using-returns-clause-value g t c =
     let place = c.args.tree.now.place in
     let part = read_tree c.args.t.now in
     let known = known_at c.args.scope.now in
-    let list : c.as_slice.result.now ≡ c.args.acl.now = search rules in
+    let list : c.as_slice.result.now ≡ c.args.commalist.now = search rules in
     let told = subst (λ (l : List ℕ). Answers c.answer.result (under c.args.t.now.heading (meaning known (around place c.args.t.now.heading l) part))) list c.answer.ensures.value in
-    let own = subst (λ (h : Heading). Answers c.answer.result (under h (meaning known (around place h c.args.acl.now) part))) (heading_read c.args.t.now) told in
-    subst (λ (h : Heading). Answers c.answer.result (under h (meaning known (around place (heading_of part) c.args.acl.now) part))) (sym c.requires.typed.2) own
+    let own = subst (λ (h : Heading). Answers c.answer.result (under h (meaning known (around place h c.args.commalist.now) part))) (heading_read c.args.t.now) told in
+    subst (λ (h : Heading). Answers c.answer.result (under h (meaning known (around place (heading_of part) c.args.commalist.now) part))) (sym c.requires.typed.2) own
 
 pub using-returns-clause-cost : goal.using-returns-clause-cost
 using-returns-clause-cost g t c =
     let place = c.args.tree.now.place in
     let part = read_tree c.args.t.now in
-    let list : c.as_slice.result.now ≡ c.args.acl.now = search rules in
+    let list : c.as_slice.result.now ≡ c.args.commalist.now = search rules in
     let told = subst (λ (l : List ℕ). c.answer.new.steps ≤ c.args.steps.now + tree_cost (prices_at c.args.scope.now) (around place c.args.t.now.heading l) part) list c.answer.ensures.cost in
-    subst (λ (h : Heading). c.answer.new.steps ≤ c.args.steps.now + tree_cost (prices_at c.args.scope.now) (around place h c.args.acl.now) part) (heading_read c.args.t.now) told
+    subst (λ (h : Heading). c.answer.new.steps ≤ c.args.steps.now + tree_cost (prices_at c.args.scope.now) (around place h c.args.commalist.now) part) (heading_read c.args.t.now) told

@@ -36,10 +36,10 @@ abbrev pub decreases-summarize : goal.decreases-summarize
 decreases-summarize g l = 4 * work l.scope.now (summarize l.tree.now.place l.tree.now.heading l.by.now (map read_aggregate l.aggregates.now) (read_tree l.t.now))
 
 abbrev pub decreases-pack : goal.decreases-pack
-decreases-pack g l = 4 * work l.scope.now (pack l.tree.now.place l.tree.now.heading l.acl.now (read_tree l.t.now))
+decreases-pack g l = 4 * work l.scope.now (pack l.tree.now.place l.tree.now.heading l.commalist.now (read_tree l.t.now))
 
 abbrev pub decreases-unpack : goal.decreases-unpack
-decreases-unpack g l = 4 * work l.scope.now (unpack l.tree.now.place l.tree.now.heading l.acl.now (read_tree l.t.now))
+decreases-unpack g l = 4 * work l.scope.now (unpack l.tree.now.place l.tree.now.heading l.commalist.now (read_tree l.t.now))
 
 abbrev pub decreases-using : goal.decreases-using
-decreases-using g l = 4 * work l.scope.now (using l.tree.now.place l.tree.now.heading l.acl.now (read_tree l.t.now))
+decreases-using g l = 4 * work l.scope.now (using l.tree.now.place l.tree.now.heading l.commalist.now (read_tree l.t.now))

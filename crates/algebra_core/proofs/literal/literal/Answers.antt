@@ -17,6 +17,6 @@ relation-requires c =
 pub returns : goal.returns
 returns c =
     let rows = subst (λ (h : Heading). first_of_all (map (literal_row h) (map read_sets c.args.tuples.now)) ≡ Ok c.in_ok-rows.rows.items) c.attributes.ensures.list c.in_ok-rows.ensures in
-    let told = c.told.ensures c.args.heading.now (rows_of c.in_ok-rows.rows.items) c.relation.ensures in
-    subst (λ (m : OrFault (List Row)). Answers c.told.result (under c.args.heading.now (then_give m (limited c.args.place))))
+    let told = c.or_fault_at.ensures c.args.heading.now (rows_of c.in_ok-rows.rows.items) c.relation.ensures in
+    subst (λ (m : OrFault (List Row)). Answers c.or_fault_at.result (under c.args.heading.now (then_give m (limited c.args.place))))
     (sym (ap (λ (m : OrFault (List Row)). then_give m (λ given. Ok (rows_of given))) rows)) told

@@ -5,7 +5,7 @@ use Rattle.relation_core.specs.Groups.{rows_at, summarized}
 use Rattle.tree_core.specs.Trees.{read_aggregate}
 use Rattle.meaning_core.specs.Meanings.{opened, closed}
 use Rattle.meaning_core.specs.Rows.{group_row}
-use Rattle.using_core.specs.Using.{around}
+use Rattle.eval_using.specs.Using.{around}
 use Rattle.algebra_core.specs.Surroundings.{around_of}
 use Rattle.algebra_core.specs.declared.surrounding.Surrounding.{Surrounding}
 use Rattle.algebra_core.proofs.surrounded.grouping.Goals as goal
@@ -33,6 +33,6 @@ returns-in-Using-clause-value g c = λ place.
     (closed (around_of s h) place h))))
     (sym c.in-Using.is)
     (subst (λ (l : List ℕ). Answers c.using_summary.result (under h (then_give
-    (summarized l (λ numbers. group_row from h aggregates (rows_at (opened (around c.in-Using.at h c.in-Using.acl.now) from rows) numbers)) (opened (around c.in-Using.at h c.in-Using.acl.now) from rows))
-    (closed (around c.in-Using.at h c.in-Using.acl.now) place h))))
+    (summarized l (λ numbers. group_row from h aggregates (rows_at (opened (around c.in-Using.at h c.in-Using.commalist.now) from rows) numbers)) (opened (around c.in-Using.at h c.in-Using.commalist.now) from rows))
+    (closed (around c.in-Using.at h c.in-Using.commalist.now) place h))))
     by c.using_summary.ensures.value)

@@ -6,7 +6,7 @@ use Rattle.relation_core.specs.Operators.{united}
 use Rattle.tree_core.specs.Items.{read_assignment}
 use Rattle.meaning_core.specs.Meanings.{limited}
 use Rattle.u_constraints.specs.Growth.{exchanged}
-use Rattle.u_labels.specs.declared.exchange.Exchange.{Exchange}
+use Rattle.change_rows.specs.declared.exchange.Exchange.{Exchange}
 use Rattle.assign_core.specs.Insertions.{entries_of, list_in, united_in}
 use Rattle.assign_core.specs.Parts.{names_in}
 use Rattle.assign_core.proofs.AdditionLemmas.{by_new, sum_ready, sum_over}

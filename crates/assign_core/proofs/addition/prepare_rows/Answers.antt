@@ -15,4 +15,4 @@ pub admit_rows-requires-clause-known : goal.admit_rows-requires-clause-known
 admit_rows-requires-clause-known g c =
     let a = c.args.addition in
     subst (λ (t : Target). IsKnown t.value.now c.in_ok-rows.rows c.known_of.result) (sym c.target_of.ensures)
-    (subst (IsKnown a.value.now c.in_ok-rows.rows) (sym c.known_of.ensures) (record { marked = c.requires.marked; packed = c.in_ok-rows.ensures.packed }))
+    (subst (IsKnown a.value.now c.in_ok-rows.rows) (sym c.known_of.ensures) (record { hashed = c.requires.hashed; packed = c.in_ok-rows.ensures.packed }))

@@ -6,29 +6,29 @@ use Rattle.relation_core.specs.Answers.{Answers, under}
 use Rattle.relation_core.specs.Operators.{united}
 use Rattle.meaning_core.specs.Meanings.{limited}
 use Rattle.meaning_core.specs.Typing.{IsListIf}
-use Rattle.using_core.proofs.ListLemmas.{intervals_of_list}
+use Rattle.eval_using.proofs.ListLemmas.{intervals_of_list}
 use Rattle.assign_core.specs.Insertions.{list_in, united_in, united_cost}
 use Rattle.assign_core.proofs.addition.unite.Goals as goal
 
 pub united-requires-clause-intervals : goal.united-requires-clause-intervals
 united-requires-clause-intervals g c =
     let a = c.args.addition in
-    let is : list_in a.insertion ≡ Some c.as_slice.result.now = (λ t. option_map (λ l. l.now) (c.in-Some.is t)) ∙ ap Some (sym (c.as_slice.ensures.value ∙ c.acl.view_is)) in
+    let is : list_in a.insertion ≡ Some c.as_slice.result.now = (λ t. option_map (λ l. l.now) (c.in-Some.is t)) ∙ ap Some (sym (c.as_slice.ensures.value ∙ c.commalist.view_is)) in
     intervals_of_list a.value.now.heading c.as_slice.result.now (subst (λ (l : Option (List ℕ)). IsListIf a.value.now.heading l) is c.requires.listed)
 
 pub returns-in-Some-clause-value : goal.returns-in-Some-clause-value
 returns-in-Some-clause-value g c =
     let a = c.args.addition in
-    let acl = c.as_slice.result.now in
-    let is : list_in a.insertion ≡ Some acl = (λ t. option_map (λ l. l.now) (c.in-Some.is t)) ∙ ap Some (sym (c.as_slice.ensures.value ∙ c.acl.view_is)) in
+    let commalist = c.as_slice.result.now in
+    let is : list_in a.insertion ≡ Some commalist = (λ t. option_map (λ l. l.now) (c.in-Some.is t)) ∙ ap Some (sym (c.as_slice.ensures.value ∙ c.commalist.view_is)) in
     let meant = c.requires.meant ∙ ap (λ (l : Option (List ℕ)). under a.value.now.heading (limited a.insertion.assignment.now.tree.place (united_in l a.value.now.rows a.operand.now.rows))) is in
-    subst (λ (m : OrFault Relation). Answers c.told.result m) (sym meant)
-    (c.told.ensures a.value.now.heading (packed acl (united (unpacked acl a.value.now.rows) (unpacked acl a.operand.now.rows))) c.united.ensures.rows)
+    subst (λ (m : OrFault Relation). Answers c.or_fault_at.result m) (sym meant)
+    (c.or_fault_at.ensures a.value.now.heading (packed commalist (united (unpacked commalist a.value.now.rows) (unpacked commalist a.operand.now.rows))) c.united.ensures.rows)
 
 pub returns-in-Some-clause-cost : goal.returns-in-Some-clause-cost
 returns-in-Some-clause-cost g c =
     let a = c.args.addition in
-    let is : list_in a.insertion ≡ Some c.as_slice.result.now = (λ t. option_map (λ l. l.now) (c.in-Some.is t)) ∙ ap Some (sym (c.as_slice.ensures.value ∙ c.acl.view_is)) in
+    let is : list_in a.insertion ≡ Some c.as_slice.result.now = (λ t. option_map (λ l. l.now) (c.in-Some.is t)) ∙ ap Some (sym (c.as_slice.ensures.value ∙ c.commalist.view_is)) in
     subst (λ (l : Option (List ℕ)). c.united.new.steps ≤ c.args.steps.now + united_cost l (length a.value.now.rows + length a.operand.now.rows)) (sym is) c.united.ensures.cost
 
 pub returns-in-None-clause-value : goal.returns-in-None-clause-value

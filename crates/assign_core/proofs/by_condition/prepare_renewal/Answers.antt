@@ -26,4 +26,4 @@ returns-clause-cost g c =
 
 pub prepare_exchange-requires-clause-known : goal.prepare_exchange-requires-clause-known
 prepare_exchange-requires-clause-known g c =
-    subst (IsKnown c.args.renewal.value.now c.in_ok-rows.rows) (sym c.marked_alone-known.ensures) (record { marked = c.requires.renewal.marked; packed = tt })
+    subst (IsKnown c.args.renewal.value.now c.in_ok-rows.rows) (sym c.hashed_alone-known.ensures) (record { hashed = c.requires.renewal.hashed; packed = tt })

@@ -13,7 +13,7 @@ use Rattle.assign_core.proofs.DifferenceLemmas.{changed_only, first_placed, head
 use Rattle.assign_core.proofs.NameLemmas.{distinct_later}
 use Rattle.std.specs.List.{All}
 use Rattle.std.proofs.lemmas.List.Elements.{All-nil}
-use Rattle.row_marks.specs.Marks.{AreMarksOf}
+use Rattle.relation_core.specs.Hashes.{AreHashesOf}
 use Rattle.assign_core.proofs.differences.check_only.Goals as goal
 
 pub difference-requires : goal.difference-requires
@@ -44,9 +44,9 @@ check_turnover-requires-clause-made g c = subst IsMade (sym c.turnover_of-turnov
 
 pub check_turnover-requires-clause-known : goal.check_turnover-requires-clause-known
 check_turnover-requires-clause-known g c =
-    let none = c.as_slice.ensures.value ∙ c.new-marks.ensures.items in
+    let none = c.as_slice.ensures.value ∙ c.new-hashes.ensures.items in
     subst (λ (t : Turnover). IsKnown t.value.now t.rows.now t.known) (sym c.turnover_of-turnover.ensures) (record {
-      marked = subst (All (AreMarksOf c.args.only.old.now.rows)) (sym none) (All-nil (AreMarksOf c.args.only.old.now.rows));
+      hashed = subst (All (AreHashesOf c.args.only.old.now.rows)) (sym none) (All-nil (AreHashesOf c.args.only.old.now.rows));
       packed = tt;
     })
 

@@ -22,6 +22,6 @@ loop-change-preserved c =
     record {
       list = ap (changed cs) exchanged ∙ (changed_last cs x es ∙ (ap (λ (z : Changes). changed z es) (sym items) ∙ c.loop-change.invariant.list));
       ordinals = c.exchange_at.ensures.ordinals ∙ c.loop-change.invariant.ordinals;
-      marked = c.exchange_at.ensures.marked;
+      hashed = c.exchange_at.ensures.hashed;
       within = omega (arith, long, before, behind, shorter, within);
     }

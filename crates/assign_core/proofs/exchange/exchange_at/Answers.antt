@@ -3,7 +3,7 @@ use Rattle.value_core.specs.Values.{Relation}
 use Rattle.tree_core.specs.Relvars.{read_entry}
 use Rattle.assign_core.specs.Changes.{changed_at}
 use Rattle.assign_core.proofs.ExchangeLemmas.{set_place, nothing_at}
-use Rattle.assign_core.proofs.MarkedLemmas.{others_marked}
+use Rattle.assign_core.proofs.HashedLemmas.{others_hashed}
 use Rattle.assign_core.proofs.exchange.exchange_at.Goals as goal
 
 pub returns-in-Some-clause-list : goal.returns-in-Some-clause-list
@@ -17,7 +17,7 @@ returns-in-None-clause-list c =
     let es = map read_entry c.args.relvars.now.list.entries in
     nothing_at es c.args.at ∙ ap (λ (o : Option Relation). changed_at c.args.at o es) (sym c.in-None.is)
 
-pub returns-in-Some-clause-marked : goal.returns-in-Some-clause-marked
-returns-in-Some-clause-marked c =
+pub returns-in-Some-clause-hashed : goal.returns-in-Some-clause-hashed
+returns-in-Some-clause-hashed c =
     let es = c.args.relvars.now.list.entries in
-    others_marked es c.args.at c.put.new.relvar c.take_marks.new.marked c.take_marks.ensures.taken (c.take_marks.ensures.left (map read_entry es) c.requires.marked)
+    others_hashed es c.args.at c.put.new.relvar c.take_hashes.new.hashed c.take_hashes.ensures.taken (c.take_hashes.ensures.left (map read_entry es) c.requires.hashed)

@@ -2,7 +2,7 @@ use Rattle.std.proofs.Common.{map, arith}
 use Rattle.std.proofs.lemmas.Result.{on_ok_weaker, on_err_weaker}
 use Rattle.tree_core.specs.Relvars.{read_entry}
 use Rattle.assign_core.proofs.ChangeLemmas.{entries_length}
-use Rattle.assign_core.proofs.MarkedLemmas.{others_marked}
+use Rattle.assign_core.proofs.HashedLemmas.{others_hashed}
 use Rattle.assign_core.proofs.TurnoverLemmas.{set_renewed, set_same, may_exchange, within_exchange}
 use Rattle.assign_core.proofs.exchange.exchange_many.Goals as goal
 
@@ -32,7 +32,7 @@ returns-clause-err c =
     (set_same es c.args.at c.renew.new.relvar c.pair_mut-relvar.result.0.now c.pair_mut-relvar.result.1.now c.pair_mut-relvar.ensures.value)
     c.renew.ensures.err
 
-pub returns-clause-marked : goal.returns-clause-marked
-returns-clause-marked c =
+pub returns-clause-hashed : goal.returns-clause-hashed
+returns-clause-hashed c =
     let es = c.args.relvars.now.list.entries in
-    others_marked es c.args.at c.renew.new.relvar c.take_marks.new.marked c.take_marks.ensures.taken (c.take_marks.ensures.left (map read_entry es) c.requires.marked)
+    others_hashed es c.args.at c.renew.new.relvar c.take_hashes.new.hashed c.take_hashes.ensures.taken (c.take_hashes.ensures.left (map read_entry es) c.requires.hashed)

@@ -1,6 +1,6 @@
 use Rattle.std.proofs.Common.{◌∙◌, sym, ap, length}
 use Rattle.value_core.specs.Values.{Heading}
-use Rattle.assign_core.proofs.MarkedLemmas.{within_heading}
+use Rattle.assign_core.proofs.HashedLemmas.{within_heading}
 use Rattle.assign_core.proofs.filling.are_within.Goals as goal
 
 pub returns : goal.returns

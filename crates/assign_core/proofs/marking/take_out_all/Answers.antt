@@ -9,13 +9,13 @@ use Rattle.assign_core.proofs.marking.take_out_all.Goals as goal
 pub loop-row-init : goal.loop-row-init
 loop-row-init g c = record {
   rows = all_left c.args.rows.now.items;
-  marks = c.requires.1;
+  hashes = c.requires.1;
 }
 
 pub take_out-requires : goal.take_out-requires
 take_out-requires g c =
     let ascending = subst (λ (r : List Row). IsStrictlySortedBy row_cmp r) (sym c.loop-row.invariant.rows) (sorted_taken c.args.rows.now.items (take c.loop-row.row-index c.args.gone.now) c.requires.0) in
-    (ascending, c.loop-row.invariant.marks)
+    (ascending, c.loop-row.invariant.hashes)
 
 pub loop-row-preserved : goal.loop-row-preserved
 loop-row-preserved g c =
@@ -28,5 +28,5 @@ loop-row-preserved g c =
           ∙ (ap (λ (rs : List Row). subtracted rs (row ∷ [])) c.loop-row.invariant.rows
           ∙ (taken_turn rows (take i gone) row c.requires.0
           ∙ ap (subtracted rows) (one_more gone i row c.loop-row-test.true c.row-item.is)));
-      marks = c.take_out.ensures.marks;
+      hashes = c.take_out.ensures.hashes;
     }

@@ -1,7 +1,7 @@
 use Rattle.std.proofs.Common.{◌≡◌, take}
 use Rattle.std.specs.List.{All}
 use Rattle.relation_core.specs.Operators.{subtracted}
-use Rattle.assign_core.specs.Marked.{IsMarksOf}
+use Rattle.assign_core.specs.Hashed.{IsHashesOf}
 use Rattle.assign_core.proofs.marking.take_out_all.Given as goal
 
 abbrev pub ghost-take_out : goal.ghost-take_out
@@ -10,5 +10,5 @@ ghost-take_out g a = g.heading
 abbrev pub invariant-loop-row : goal.invariant-loop-row
 invariant-loop-row g l = record {
   rows : l.rows.items ≡ subtracted l.initial.rows.items (take l.row-index l.gone);
-  marks : All (IsMarksOf g.heading l.rows.items) l.marks.items;
+  hashes : All (IsHashesOf g.heading l.rows.items) l.hashes.items;
 }

@@ -6,5 +6,5 @@ pub returns-in-Some : goal.returns-in-Some
 returns-in-Some c told =
     let a = c.args.addition in
     let k = c.requires.addition in
-    target_packed a.relvars.now.list.entries a.insertion.assignment.now.target _ a.at a.value.now k.constraints c.in-Some.relvar.now c.args.acl.now k.relation c.requires.kept.holds k.first
+    target_packed a.relvars.now.list.entries a.insertion.assignment.now.target _ a.at a.value.now k.constraints c.in-Some.relvar.now c.args.commalist.now k.relation c.requires.kept.holds k.first
     (sym c.in-Some.ensures.entry) (sym c.is_kept_packed.ensures ∙ told)

@@ -17,4 +17,4 @@ returns c =
     ap₂ united c.in_ok-left.ensures.1 c.in_ok-come.ensures.1 ∙ exchanged_apart value.rows x.gone.rows x.come.rows in
     let made = subst (λ (h : Heading). MatchResult c.union.result (IsAnswer h (united c.in_ok-left.left.rows c.in_ok-come.come.rows)) (IsRefusal (united c.in_ok-left.left.rows c.in_ok-come.come.rows))) c.in_ok-left.ensures.0 c.union.ensures in
     let there = subst (λ (rs : List Row). MatchResult c.union.result (IsAnswer value.heading rs) (IsRefusal rs)) rows made in
-    c.told.ensures value.heading (exchanged value.rows x.gone.rows x.come.rows) there
+    c.or_fault_at.ensures value.heading (exchanged value.rows x.gone.rows x.come.rows) there

@@ -9,14 +9,14 @@ pub returns-in-Restrict : goal.returns-in-Restrict
 returns-in-Restrict c =
     let t = c.args.tree.now in
     let part = c.args.part.now in
-    let acl = c.args.acl.now in
+    let commalist = c.args.commalist.now in
     let e = read c.in-Restrict.condition in
     let name = c.deref.result.now in
     record {
       nodes = record { heading = t.heading; at = part.place; headed = part.heading; from = name.place; given = name.heading };
       is =
           c.requires
-          ∙ (ap (λ (f : RelForm). using t.place t.heading acl (read_form part.place part.heading f)) c.in-Restrict.is
-          ∙ (ap (λ (x : RelTree). using t.place t.heading acl (restrict part.place part.heading e (read_tree x))) (sym c.deref.ensures)
-          ∙ ap (λ (x : Tree). using t.place t.heading acl (restrict part.place part.heading e x)) (c.is_target.ensures c.if-is_target.true)));
+          ∙ (ap (λ (f : RelForm). using t.place t.heading commalist (read_form part.place part.heading f)) c.in-Restrict.is
+          ∙ (ap (λ (x : RelTree). using t.place t.heading commalist (restrict part.place part.heading e (read_tree x))) (sym c.deref.ensures)
+          ∙ ap (λ (x : Tree). using t.place t.heading commalist (restrict part.place part.heading e x)) (c.is_target.ensures c.if-is_target.true)));
     }

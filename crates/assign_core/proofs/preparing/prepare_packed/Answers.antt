@@ -17,4 +17,4 @@ pub prepare_exchange-requires-clause-known : goal.prepare_exchange-requires-clau
 prepare_exchange-requires-clause-known g c =
     let a = c.args.addition in
     subst (λ (t : Target). IsKnown t.value.now c.in_ok-rows.rows c.known_of-known.result) (sym c.target_of.ensures)
-    (subst (IsKnown a.value.now c.in_ok-rows.rows) (sym c.known_of-known.ensures) (record { marked = c.requires.marked; packed = c.in_ok-rows.ensures.packed }))
+    (subst (IsKnown a.value.now c.in_ok-rows.rows) (sym c.known_of-known.ensures) (record { hashed = c.requires.hashed; packed = c.in_ok-rows.ensures.packed }))

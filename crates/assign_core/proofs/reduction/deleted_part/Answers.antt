@@ -3,20 +3,20 @@ use Rattle.std.proofs.lemmas.Option.{IfSome_then}
 use Rattle.scalar_core.specs.Expressions.{read}
 use Rattle.relation_core.specs.Operators.{subtracted}
 use Rattle.meaning_core.specs.Typing.{IsList}
-use Rattle.u_changes.specs.Concerned.{AreFalse, IsClosedPart}
-use Rattle.using_core.proofs.ListLemmas.{intervals_of_list}
-use Rattle.assign_core.proofs.DeletionLemmas.{concerned_told}
+use Rattle.change_rows.specs.Affected.{AreFalse, IsClosedPart}
+use Rattle.eval_using.proofs.ListLemmas.{intervals_of_list}
+use Rattle.assign_core.proofs.DeletionLemmas.{affected_told}
 use Rattle.assign_core.proofs.PortionLemmas.{negated_typed}
 use Rattle.assign_core.proofs.reduction.deleted_part.Goals as goal
 
-pub concerned-requires-clause-intervals : goal.concerned-requires-clause-intervals
-concerned-requires-clause-intervals c =
+pub affected-requires-clause-intervals : goal.affected-requires-clause-intervals
+affected-requires-clause-intervals c =
     let k = c.requires.deletion in
     let h = c.args.value.now.heading in
-    intervals_of_list h c.as_slice-list.result.now (subst (λ (l : List ℕ). IsList h l) (sym (c.as_slice-list.ensures.value ∙ c.acl.view_is)) k.kept.list)
+    intervals_of_list h c.as_slice-list.result.now (subst (λ (l : List ℕ). IsList h l) (sym (c.as_slice-list.ensures.value ∙ c.commalist.view_is)) k.kept.list)
 
-pub concerned-requires-clause-typed : goal.concerned-requires-clause-typed
-concerned-requires-clause-typed c =
+pub affected-requires-clause-typed : goal.affected-requires-clause-typed
+affected-requires-clause-typed c =
     let k = c.requires.deletion in
     negated_typed c.args.value.now.heading (read c.args.deletion.kept.condition.now) (read c.args.deletion.gone.now) k.negates k.kept.condition.typed
 
@@ -26,9 +26,9 @@ returns-in-Some c =
     let d = c.args.deletion in
     let value = c.args.value.now in
     let list = c.as_slice-list.result.now in
-    let same : list ≡ d.kept.acl.now = c.as_slice-list.ensures.value ∙ c.acl.view_is in
+    let same : list ≡ d.kept.commalist.now = c.as_slice-list.ensures.value ∙ c.commalist.view_is in
     let are = c.is_packed_at.ensures d.assignment.now.target value k.constraints k.first k.relation c.if-not-is_packed_at.false in
     let closed = subst (λ o. IfSome o (IsClosedPart list value)) c.in-Some.is c.in_ok-part.ensures.part in
     let others = subst (λ o. IfSome o (λ p. AreFalse list (read d.gone.now) (subtracted value.rows p.rows))) c.in-Some.is c.in_ok-part.ensures.others in
     IfSome_then c.if_few.result c.if_few.ensures (λ some is.
-    concerned_told d.kept.acl.now list (read d.gone.now) value c.in-Some.part some same are closed others is)
+    affected_told d.kept.commalist.now list (read d.gone.now) value c.in-Some.part some same are closed others is)

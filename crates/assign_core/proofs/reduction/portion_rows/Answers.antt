@@ -1,7 +1,7 @@
 use Rattle.std.proofs.Common.{ℕ, List, [], ◌∷◌, sym, subst, arith}
 use Rattle.scalar_core.specs.Expressions.{read}
 use Rattle.relation_core.specs.Answers.{Answers, under}
-use Rattle.using_core.specs.Cells.{cells_of_all}
+use Rattle.eval_using.specs.Cells.{cells_of_all}
 use Rattle.assign_core.specs.Portions.{portion_rows}
 use Rattle.assign_core.proofs.reduction.portion_rows.Goals as goal
 
@@ -19,6 +19,6 @@ pub returns-clause-cost : goal.returns-clause-cost
 returns-clause-cost g c =
     let p = c.args.portion in
     let of = c.args.of.now in
-    let same = c.lists_none.ensures.some c.if-lists_none.false (cells_of_all p.acl.now (read p.condition.now ∷ []) of.rows) in
+    let same = c.lists_none.ensures.some c.if-lists_none.false (cells_of_all p.commalist.now (read p.condition.now ∷ []) of.rows) in
     let taken = c.rows_at_points.ensures.cost in
     omega (arith, same, taken)

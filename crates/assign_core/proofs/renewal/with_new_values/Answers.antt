@@ -7,7 +7,7 @@ use Rattle.tree_core.specs.Trees.{read_sets}
 use Rattle.meaning_core.specs.Meanings.{limited}
 use Rattle.meaning_core.specs.Rows.{extended_row}
 use Rattle.meaning_core.specs.Typing.{IsExtension}
-use Rattle.using_core.specs.Cells.{cells_of_all, scalars_of}
+use Rattle.eval_using.specs.Cells.{cells_of_all, scalars_of}
 use Rattle.assign_core.specs.Revisions.{changed_rows}
 use Rattle.assign_core.proofs.renewal.with_new_values.Goals as goal
 
@@ -28,6 +28,6 @@ pub returns-clause-cost : goal.returns-clause-cost
 returns-clause-cost g c =
     let x = c.args.changed in
     let of = c.args.of.now in
-    let same = c.lists_none.ensures.some c.if-lists_none.false (cells_of_all x.acl.now (scalars_of (read_sets x.sets.now)) of.rows) in
+    let same = c.lists_none.ensures.some c.if-lists_none.false (cells_of_all x.commalist.now (scalars_of (read_sets x.sets.now)) of.rows) in
     let taken = c.new_values_at_points.ensures.cost in
     omega (arith, same, taken)

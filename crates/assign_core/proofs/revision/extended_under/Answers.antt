@@ -8,7 +8,7 @@ pub with_sets-requires : goal.with_sets-requires
 with_sets-requires c =
     let t = c.args.tree.now in
     let part = c.args.part.now in
-    let acl = c.args.acl.now in
+    let commalist = c.args.commalist.now in
     c.requires
-    ∙ (ap (λ (f : RelForm). using t.place t.heading acl (read_form part.place part.heading f)) c.in-Extend.is
-    ∙ ap (λ (x : RelTree). using t.place t.heading acl (extend part.place part.heading (read_sets c.in-Extend.sets) (read_tree x))) (sym c.deref.ensures))
+    ∙ (ap (λ (f : RelForm). using t.place t.heading commalist (read_form part.place part.heading f)) c.in-Extend.is
+    ∙ ap (λ (x : RelTree). using t.place t.heading commalist (extend part.place part.heading (read_sets c.in-Extend.sets) (read_tree x))) (sym c.deref.ensures))

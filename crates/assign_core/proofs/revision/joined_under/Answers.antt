@@ -8,7 +8,7 @@ pub with_word-requires : goal.with_word-requires
 with_word-requires c =
     let t = c.args.assignment.now.tree in
     let part = c.args.part.now in
-    let acl = c.args.acl.now in
+    let commalist = c.args.commalist.now in
     c.requires
-    ∙ (ap (λ (f : RelForm). using t.place t.heading acl (read_form part.place part.heading f)) c.in-Infix.is
-    ∙ ap₂ (λ (l r : RelTree). using t.place t.heading acl (infix_of part.place part.heading c.in-Infix.word (read_tree l) (read_tree r))) (sym c.deref.ensures) (sym c.deref-in-Infix.ensures))
+    ∙ (ap (λ (f : RelForm). using t.place t.heading commalist (read_form part.place part.heading f)) c.in-Infix.is
+    ∙ ap₂ (λ (l r : RelTree). using t.place t.heading commalist (infix_of part.place part.heading c.in-Infix.word (read_tree l) (read_tree r))) (sym c.deref.ensures) (sym c.deref-in-Infix.ensures))

@@ -9,18 +9,18 @@ returns-then-are_same-2-clause-is c =
     let a = c.args.assignment.now in
     let t = a.tree in
     let part = c.args.part.now in
-    let acl = c.args.acl.now in
+    let commalist = c.args.commalist.now in
     let k = c.in_ok-kept.ensures in
     let x = c.in_ok-changed.ensures in
     record {
       nodes = record { at = part.place; headed = part.heading; kept = k.nodes; changed = x.nodes };
       alike = record {
-        kept = same_name c.in_ok-kept.kept.acl.now acl (sym c.are_same.ensures ∙ c.if-are_same.true);
-        changed = same_name c.in_ok-changed.changed.acl.now acl (sym c.are_same-then-are_same.ensures ∙ c.if-are_same-2.true);
+        kept = same_name c.in_ok-kept.kept.commalist.now commalist (sym c.are_same.ensures ∙ c.if-are_same.true);
+        changed = same_name c.in_ok-changed.changed.commalist.now commalist (sym c.are_same-then-are_same.ensures ∙ c.if-are_same-2.true);
         portion = x.same;
       };
       negates = c.in_ok-gone.ensures;
       is =
           ap (λ (z : Tree). record { target = a.target; tree = z })
-          (c.requires ∙ ap₂ (λ (l r : Tree). using t.place t.heading acl (infix_of part.place part.heading Union l r)) k.is x.is);
+          (c.requires ∙ ap₂ (λ (l r : Tree). using t.place t.heading commalist (infix_of part.place part.heading Union l r)) k.is x.is);
     }

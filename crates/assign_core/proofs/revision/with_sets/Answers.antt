@@ -7,10 +7,10 @@ pub returns-then-are_same : goal.returns-then-are_same
 returns-then-are_same c =
     let t = c.args.tree.now in
     let part = c.args.part.now in
-    let acl = c.args.acl.now in
+    let commalist = c.args.commalist.now in
     let k = c.in_ok-portion.ensures in
     record {
       nodes = record { heading = t.heading; at = part.place; headed = part.heading; portion = k.nodes };
-      same = same_name c.in_ok-portion.portion.acl.now acl (sym c.are_same.ensures ∙ c.if-are_same.true);
-      is = c.requires ∙ ap (λ (x : Tree). using t.place t.heading acl (extend part.place part.heading (read_sets c.args.sets.now) x)) k.is;
+      same = same_name c.in_ok-portion.portion.commalist.now commalist (sym c.are_same.ensures ∙ c.if-are_same.true);
+      is = c.requires ∙ ap (λ (x : Tree). using t.place t.heading commalist (extend part.place part.heading (read_sets c.args.sets.now) x)) k.is;
     }

@@ -2,7 +2,7 @@ use Rattle.std.proofs.Common.{◌≡◌, ◌≤◌, ◌+◌, true, false, None, 
 use Rattle.std.specs.List.{All}
 use Rattle.std.specs.Result.{result_err}
 use Rattle.value_core.specs.Values.{Relation}
-use Rattle.row_marks.specs.Marks.{AreMarksOf}
+use Rattle.relation_core.specs.Hashes.{AreHashesOf}
 use Rattle.u_constraints.specs.Constraints.{broken, names_relvar}
 use Rattle.u_constraints.specs.Costs.{constraint_cost}
 use Rattle.assign_core.specs.Breaches.{value_at}
@@ -45,6 +45,6 @@ returns-in-false-false-clause-answer g c =
     after_exchange (λ rows others. None ≡ broken k rows others) c.args.turnover c.args.own.changes false c.args.own.of.now.rows
     (value_at (before_turnover c.args.turnover) (names_relvar k)) (value_at (after_turnover c.args.turnover) (names_relvar k)) c.in-false-false.is-0 (sym there) (sym c.requires.held)
 
-pub holds_with-requires-clause-marks : goal.holds_with-requires-clause-marks
-holds_with-requires-clause-marks g c =
-    subst (λ (r : Relation). All (AreMarksOf r.rows) c.args.turnover.known.marks.now) (sym (c.requires.own c.in-true-false.is-0)) c.requires.known.marked
+pub holds_with-requires-clause-hashes : goal.holds_with-requires-clause-hashes
+holds_with-requires-clause-hashes g c =
+    subst (λ (r : Relation). All (AreHashesOf r.rows) c.args.turnover.known.hashes.now) (sym (c.requires.own c.in-true-false.is-0)) c.requires.known.hashed

@@ -1,6 +1,6 @@
 use Rattle.std.proofs.Common.{◌≡◌, ◌≤◌, ℕ, List, map, length, arith, sym}
 use Rattle.std.proofs.lemmas.List.{length-map}
-use Rattle.packing_core.specs.Boxed.{Boxed}
+use Rattle.cell_packing.specs.Boxed.{Boxed}
 use Rattle.cell_core.specs.Cells.{row_numbers}
 use Rattle.cell_core.proofs.ApartLemmas.{side_turn, beyond_turn, all_turned}
 use Rattle.cell_core.proofs.apart.stand_apart.Goals as goal

@@ -1,5 +1,5 @@
 use Rattle.std.proofs.Common.{◌<◌, ◌≤◌, ◌+◌, ◌*◌, ℕ, suc, map, get_or}
-use Rattle.packing_core.specs.Boxed.{Boxed}
+use Rattle.cell_packing.specs.Boxed.{Boxed}
 use Rattle.cell_core.specs.Apart.{HasOneSide, IsBeyond}
 use Rattle.cell_core.specs.Cells.{row_numbers}
 use Rattle.cell_core.proofs.apart.stand_apart.Given as goal

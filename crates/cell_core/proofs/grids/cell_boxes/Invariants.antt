@@ -1,5 +1,5 @@
 use Rattle.std.proofs.Common.{◌≡◌, ℕ, ◌<◌, length, [], map, get_or}
-use Rattle.slice_core.specs.Rows.{sides_of}
+use Rattle.cell_sweep.specs.Rows.{sides_of}
 use Rattle.cell_core.specs.Cells.{cells_at}
 use Rattle.cell_core.proofs.grids.cell_boxes.Given as goal
 

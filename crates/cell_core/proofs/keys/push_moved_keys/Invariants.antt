@@ -6,6 +6,6 @@ abbrev pub invariant-loop-row : goal.invariant-loop-row
 invariant-loop-row g l = record {
   can : (goal.iterator-loop-row g).can_next l.row-iterator;
   ends : (goal.iterator-loop-row g).is_finite l.row-iterator;
-  place : l.at ≡ l.first + length l.yielded;
+  grid_point : l.at ≡ l.first + length l.yielded;
   items : l.out.items ≡ l.fn.out.items ++ keys_from l.first l.yielded l.sides;
 }

@@ -1,7 +1,7 @@
 use Rattle.std.proofs.Common.{◌≡◌, ◌+◌, ℕ, suc, pos, ◌+ℤ◌, ◌*◌, ◌<◌, ◌≤◌, min, map, length, get_or, arith, subst, sym}
 use Rattle.std.proofs.lemmas.List.Sorted.{length_permutation}
 use Rattle.std.specs.List.Sorted.{IsPermutation}
-use Rattle.packing_core.proofs.Order.{contains_among}
+use Rattle.cell_packing.proofs.Order.{contains_among}
 use Rattle.cell_core.specs.Numbering.{cut_at, AreEnds, IsCellAt}
 use Rattle.cell_core.proofs.StepLemmas.{side_within}
 use Rattle.cell_core.proofs.OneSide.{among_all, all_moved, spans_of, cells_within}
@@ -14,9 +14,9 @@ pub cells_of-requires-clause-points : goal.cells_of-requires-clause-points
 cells_of-requires-clause-points g c =
     all_moved (λ y. g.T.PointType.IsPoint c.args.t.now y.0) c.args.list.now.items c.as_slice.result.now (subst (IsPermutation c.args.list.now.items) (sym c.as_slice.ensures.value) c.in_ok-sort.ensures.same) c.requires.points
 
-pub cells_of-requires-clause-places : goal.cells_of-requires-clause-places
-cells_of-requires-clause-places g c =
-    all_moved (λ y. y.1 < 2 * c.args.count) c.args.list.now.items c.as_slice.result.now (subst (IsPermutation c.args.list.now.items) (sym c.as_slice.ensures.value) c.in_ok-sort.ensures.same) c.requires.places
+pub cells_of-requires-clause-grid_points : goal.cells_of-requires-clause-grid_points
+cells_of-requires-clause-grid_points g c =
+    all_moved (λ y. y.1 < 2 * c.args.count) c.args.list.now.items c.as_slice.result.now (subst (IsPermutation c.args.list.now.items) (sym c.as_slice.ensures.value) c.in_ok-sort.ensures.same) c.requires.grid_points
 
 pub returns-clause-side : goal.returns-clause-side
 returns-clause-side g c = λ spans same ends.

@@ -3,7 +3,7 @@ use Rattle.std.specs.Ordering.{is_lt, eq_by_cmp}
 use Rattle.std.proofs.lemmas.List.Sorted.{ranks_by, answers_always}
 use Rattle.std.proofs.lemmas.Fn.{dedup_same}
 use Rattle.base_core.proofs.SetLemmas.{in_order_of_sorted}
-use Rattle.slice_core.specs.Rows.{key_cmp, key_total}
+use Rattle.cell_sweep.specs.Rows.{key_cmp, key_total}
 use Rattle.cell_core.proofs.OrderLemmas.{key_separates}
 use Rattle.cell_core.proofs.packed.distinct_keys.Goals as goal
 

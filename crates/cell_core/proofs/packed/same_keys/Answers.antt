@@ -2,7 +2,7 @@ use Rattle.std.proofs.Common.{is_eq, ap, sym, ◌∙◌}
 use Rattle.std.specs.Cmp.Lexicographic.{slice_cmp}
 use Rattle.std.proofs.lemmas.Cmp.{lists_total, tied_itself}
 use Rattle.base_core.proofs.OrderingLemmas.{is_eq-Equal}
-use Rattle.slice_core.specs.Rows.{key_cmp, key_total}
+use Rattle.cell_sweep.specs.Rows.{key_cmp, key_total}
 use Rattle.cell_core.proofs.OrderLemmas.{list_separates, key_separates}
 use Rattle.cell_core.proofs.packed.same_keys.Goals as goal
 

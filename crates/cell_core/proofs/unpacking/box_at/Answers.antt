@@ -5,13 +5,13 @@ use Rattle.interval_core.specs.Members.{HasEndsIn, at_point}
 use Rattle.cell_core.specs.Cells.{box_numbers}
 use Rattle.cell_core.proofs.BackLemmas.{is_box}
 use Rattle.cell_core.proofs.KeyLemmas.{take_whole}
-use Rattle.cell_core.proofs.PlaceLemmas.{place_count, place_at, one_more_point, numbers_push}
+use Rattle.cell_core.proofs.GridPointLemmas.{grid_point_count, grid_point_at, one_more_point, numbers_push}
 use Rattle.cell_core.proofs.unpacking.box_at.Goals as goal
 
 pub index-requires : goal.index-requires
 index-requires g c =
     let e = ap length c.numbers.view_is in
-    let n = place_count g.T.PointType.first_number g.T.PointType.last_number c.args.types.now c.args.numbers.now c.requires in
+    let n = grid_point_count g.T.PointType.first_number g.T.PointType.last_number c.args.types.now c.args.numbers.now c.requires in
     let h = c.loop-j-test.true in
     let l = c.numbers.inside.list.ok.0 in
     omega arith
@@ -24,10 +24,10 @@ at_number-requires-clause-low g c =
     let t = c.index-types-j.result in
     let j = c.loop-j.j in
     let p = c.index.result.now in
-    let many = place_count first last types c.args.numbers.now c.requires in
+    let many = grid_point_count first last types c.args.numbers.now c.requires in
     let h = c.loop-j-test.true in
     let at : get_or c.args.numbers.now j (pos 0) ≡ p = get_or_default c.args.numbers.now j (pos 0) p (omega arith) ∙ ap (λ ys. get_or ys j p) (sym c.numbers.view_is) ∙ sym c.index.ensures in
-    subst (λ u. first u ≤ℤ p) (sym c.index-types-j.is) (subst (λ q. first (get_or types j t) ≤ℤ q) at (place_at first last types c.args.numbers.now c.requires j t h).0)
+    subst (λ u. first u ≤ℤ p) (sym c.index-types-j.is) (subst (λ q. first (get_or types j t) ≤ℤ q) at (grid_point_at first last types c.args.numbers.now c.requires j t h).0)
 
 pub at_number-requires-clause-high : goal.at_number-requires-clause-high
 at_number-requires-clause-high g c =
@@ -37,10 +37,10 @@ at_number-requires-clause-high g c =
     let t = c.index-types-j.result in
     let j = c.loop-j.j in
     let p = c.index.result.now in
-    let many = place_count first last types c.args.numbers.now c.requires in
+    let many = grid_point_count first last types c.args.numbers.now c.requires in
     let h = c.loop-j-test.true in
     let at : get_or c.args.numbers.now j (pos 0) ≡ p = get_or_default c.args.numbers.now j (pos 0) p (omega arith) ∙ ap (λ ys. get_or ys j p) (sym c.numbers.view_is) ∙ sym c.index.ensures in
-    subst (λ u. p ≤ℤ last u) (sym c.index-types-j.is) (subst (λ q. q ≤ℤ last (get_or types j t)) at (place_at first last types c.args.numbers.now c.requires j t h).1)
+    subst (λ u. p ≤ℤ last u) (sym c.index-types-j.is) (subst (λ q. q ≤ℤ last (get_or types j t)) at (grid_point_at first last types c.args.numbers.now c.requires j t h).1)
 
 pub loop-j-preserved : goal.loop-j-preserved
 loop-j-preserved g c =
@@ -51,7 +51,7 @@ loop-j-preserved g c =
     let p = c.index.result.now in
     let push = c.in_ok-push.ensures.items in
     let len = c.loop-j.invariant.length in
-    let many = place_count g.T.PointType.first_number g.T.PointType.last_number c.args.types.now c.args.numbers.now c.requires in
+    let many = grid_point_count g.T.PointType.first_number g.T.PointType.last_number c.args.types.now c.args.numbers.now c.requires in
     let h = c.loop-j-test.true in
     let s : suc c.loop-j.j ≡ c.loop-j.j + 1 = omega arith in
     let at : p ≡ get_or c.args.numbers.now c.loop-j.j (pos 0) = c.index.ensures ∙ ap (λ ys. get_or ys c.loop-j.j p) c.numbers.view_is ∙ get_or_default c.args.numbers.now c.loop-j.j p (pos 0) (omega arith) in
@@ -73,7 +73,7 @@ loop-j-preserved g c =
 
 pub returns-clause-numbers : goal.returns-clause-numbers
 returns-clause-numbers g c =
-    let many = place_count g.T.PointType.first_number g.T.PointType.last_number c.args.types.now c.args.numbers.now c.requires in
+    let many = grid_point_count g.T.PointType.first_number g.T.PointType.last_number c.args.types.now c.args.numbers.now c.requires in
     let h = c.loop-j-test.false in
     c.loop-j.invariant.numbers ∙ ap (map at_point) (take_whole c.args.numbers.now c.loop-j.j (omega arith))
 

@@ -1,8 +1,8 @@
 use Rattle.std.proofs.Common.{min, map, ap, ◌∙◌}
 use Rattle.cell_core.specs.Cells.{box_numbers, row_numbers}
-use Rattle.cell_core.specs.Places.{total}
+use Rattle.cell_core.specs.GridPoints.{total}
 use Rattle.cell_core.proofs.KeyLemmas.{take_whole}
-use Rattle.cell_core.proofs.PlaceLemmas.{count_step}
+use Rattle.cell_core.proofs.GridPointLemmas.{count_step}
 use Rattle.cell_core.proofs.unpacking.count.Goals as goal
 
 pub loop-row-preserved : goal.loop-row-preserved

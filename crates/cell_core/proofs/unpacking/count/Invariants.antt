@@ -1,6 +1,6 @@
 use Rattle.std.proofs.Common.{◌≡◌, ◌^◌, ◌-◌, min, map, take}
 use Rattle.cell_core.specs.Cells.{row_numbers}
-use Rattle.cell_core.specs.Places.{total}
+use Rattle.cell_core.specs.GridPoints.{total}
 use Rattle.cell_core.proofs.unpacking.count.Given as goal
 
 abbrev pub invariant-loop-row : goal.invariant-loop-row

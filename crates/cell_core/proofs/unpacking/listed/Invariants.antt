@@ -1,6 +1,6 @@
 use Rattle.std.proofs.Common.{◌≡◌, map, take}
 use Rattle.cell_core.specs.Cells.{row_numbers}
-use Rattle.cell_core.specs.Places.{listing}
+use Rattle.cell_core.specs.GridPoints.{listing}
 use Rattle.cell_core.proofs.unpacking.listed.Given as goal
 
 abbrev pub invariant-loop-row : goal.invariant-loop-row

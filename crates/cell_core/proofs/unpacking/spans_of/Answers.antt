@@ -4,7 +4,7 @@ use Rattle.interval_core.specs.Members.{HasEndsIn}
 use Rattle.cell_core.specs.Cells.{box_numbers}
 use Rattle.cell_core.proofs.BackLemmas.{box_length, box_ends}
 use Rattle.cell_core.proofs.KeyLemmas.{take_whole}
-use Rattle.cell_core.proofs.PlaceLemmas.{one_more_span}
+use Rattle.cell_core.proofs.GridPointLemmas.{one_more_span}
 use Rattle.cell_core.proofs.unpacking.spans_of.Goals as goal
 
 pub index-requires : goal.index-requires

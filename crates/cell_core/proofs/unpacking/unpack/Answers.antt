@@ -1,15 +1,15 @@
 use Rattle.std.proofs.Common.{◌≡◌, ◌≤◌, map, length, arith, subst, sym, ap, ◌∙◌}
 use Rattle.std.proofs.lemmas.List.{length-map}
 use Rattle.std.proofs.lemmas.List.Elements.{recursion_from_All, All-same}
-use Rattle.packing_core.specs.Boxed.{unpacked_boxes}
+use Rattle.cell_packing.specs.Boxed.{unpacked_boxes}
 use Rattle.base_core.specs.Sets.{in_order}
 use Rattle.cell_core.specs.Boxes.{IsBox}
 use Rattle.cell_core.specs.Cells.{row_numbers}
-use Rattle.cell_core.specs.Places.{listing, total, placed_cmp, point_row}
+use Rattle.cell_core.specs.GridPoints.{listing, total, placed_cmp, point_row}
 use Rattle.cell_core.proofs.BackLemmas.{box_length}
 use Rattle.cell_core.proofs.KeyLemmas.{rows_have}
 use Rattle.cell_core.proofs.Listing.{unpacked_is, unpacked_length}
-use Rattle.cell_core.proofs.PlaceLemmas.{more_than, not_more, listed_place}
+use Rattle.cell_core.proofs.GridPointLemmas.{more_than, not_more, listed_grid_point}
 use Rattle.cell_core.proofs.unpacking.unpack.Goals as goal
 
 pub returns-then-sum-limit-clause-limit : goal.returns-then-sum-limit-clause-limit
@@ -20,7 +20,7 @@ returns-then-sum-limit-clause-limit g c = λ e.
 
 pub point_rows-requires : goal.point_rows-requires
 point_rows-requires g c =
-    listed_place g.T.PointType.first_number g.T.PointType.last_number g.P.Label.order g.met.P.Label.total g.met.P.Label.separates g.T.PointType.number_of g.T.PointType.IsPoint g.met.T.PointType.within c.args.types.now c.as_slice-2.result.now
+    listed_grid_point g.T.PointType.first_number g.T.PointType.last_number g.P.Label.order g.met.P.Label.total g.met.P.Label.separates g.T.PointType.number_of g.T.PointType.IsPoint g.met.T.PointType.within c.args.types.now c.as_slice-2.result.now
     (All-same (λ r. IsBox g.T.PointType.IsPoint c.args.types.now r.1) c.as_slice-2.result.now c.in_ok-packed.packed.items c.as_slice-2.ensures.value c.in_ok-packed.ensures.boxes)
     c.in_ok-set.set.items (c.in_ok-set.ensures ∙ ap (in_order (placed_cmp g.P.Label.order)) c.in_ok-list.ensures)
 

@@ -1,12 +1,12 @@
 use Rattle.std.proofs.Common.{◌≡◌, map, length, arith, sym, ap, ◌∙◌}
 use Rattle.std.proofs.lemmas.List.Elements.{recursion_from_All}
-use Rattle.packing_core.specs.Boxed.{unpacked_boxes}
+use Rattle.cell_packing.specs.Boxed.{unpacked_boxes}
 use Rattle.cell_core.specs.Cells.{row_numbers}
-use Rattle.cell_core.specs.Places.{total}
+use Rattle.cell_core.specs.GridPoints.{total}
 use Rattle.cell_core.proofs.BackLemmas.{box_length}
 use Rattle.cell_core.proofs.KeyLemmas.{rows_have}
 use Rattle.cell_core.proofs.Listing.{unpacked_length}
-use Rattle.cell_core.proofs.PlaceLemmas.{more_than, not_more}
+use Rattle.cell_core.proofs.GridPointLemmas.{more_than, not_more}
 use Rattle.cell_core.proofs.unpacking.unpack_count.Goals as goal
 
 pub returns-then-sum-limit-clause-many : goal.returns-then-sum-limit-clause-many

@@ -2,7 +2,7 @@ use Rattle.std.proofs.Common.{rules, ◌++◌, ◌∷◌, [], map, length, subst
 use Rattle.std.proofs.lemmas.Iterator.Adapters.{YieldsList-from_vec}
 use Rattle.std.proofs.lemmas.Iterator.Consumers.{YieldsList-turn}
 use Rattle.std.proofs.lemmas.List.Elements.{All-same, All-push}
-use Rattle.packing_core.specs.Covering.{Among}
+use Rattle.cell_packing.specs.Covering.{Among}
 use Rattle.cell_core.specs.Boxes.{IsBox}
 use Rattle.cell_core.specs.Cells.{grids_of, grid_row, row_numbers}
 use Rattle.cell_core.proofs.BackLemmas.{among_get, map_push}

@@ -1,6 +1,6 @@
 use Rattle.std.proofs.Common.{◌≡◌, ◌<◌, ◌≤◌, ◌+◌, ℕ, map, length, get_or, arith, subst, sym, ap, ◌∙◌}
 use Rattle.std.proofs.lemmas.List.{length-map}
-use Rattle.slice_core.specs.Rows.{AreRows, own_numbers}
+use Rattle.cell_sweep.specs.Rows.{AreRows, own_numbers}
 use Rattle.cell_core.specs.Numbering.{IsGrid}
 use Rattle.cell_core.specs.Cells.{boxes_of, IsPackedForm, grids_of, grid_row, row_numbers}
 use Rattle.cell_core.proofs.BackLemmas.{boxes_length, boxes_ends, rows_down}

@@ -2,12 +2,12 @@ use Rattle.std.proofs.Common.{◌≡◌, ℕ, suc, ◌+◌, ◌*◌, ◌<◌, �
 use Rattle.std.proofs.lemmas.Int.{ints}
 use Rattle.std.specs.List.{All}
 use Rattle.std.proofs.lemmas.List.Elements.{All-same, All-map}
-use Rattle.packing_core.specs.Covering.{Among}
-use Rattle.packing_core.specs.Live.{IsSliceRow, IsSomewhere}
+use Rattle.cell_packing.specs.Covering.{Among}
+use Rattle.cell_packing.specs.Live.{IsSliceRow, IsSomewhere}
 use Rattle.point_core.specs.LeastFault.{IsLeast}
-use Rattle.slice_core.specs.Rows.{sides_of, AreRows, GivesLabel, GivesFault}
+use Rattle.cell_sweep.specs.Rows.{sides_of, AreRows, GivesLabel, GivesFault}
 use Rattle.cell_core.specs.Cells.{rows_from, cells_at}
-use Rattle.slice_core.specs.Rows.{volume}
+use Rattle.cell_sweep.specs.Rows.{volume}
 use Rattle.cell_core.proofs.StepLemmas.{sides_bound, whole_bound, volume_within, counts_within, length_rows_from}
 use Rattle.cell_core.proofs.Assembly.{form, least}
 use Rattle.cell_core.proofs.Calls.{are_rows, full_cells, few_cells, box_length, box_cells, row_cells, side_grid}

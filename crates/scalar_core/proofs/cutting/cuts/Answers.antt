@@ -16,8 +16,8 @@ returns-clause-cuts c =
     let told = c.in_ok-points.ensures in
     let kept = c.in_ok-numbers.ensures in
     let pushed = c.in_ok-push_cuts.ensures in
-    let at = slice_index c.args.acl.now c.args.side in
-    let all = cuts c.args.acl.now at (read c.args.e.now) c.args.row.now in
+    let at = slice_index c.args.commalist.now c.args.side in
+    let all = cuts c.args.commalist.now at (read c.args.e.now) c.args.row.now in
     inside_in_order (span number c.interval_at.result.now) (span_of (value_at c.args.row.now at)) all c.push_cuts.new.numbers.items c.as_slice.result.now _ told.numbers
     (c.as_slice.ensures.value ∙ kept.numbers) (pushed ∙ ap (λ ns. ns ++ all) c.new-numbers.ensures.items) c.interval_at.ensures.span
 
@@ -36,9 +36,9 @@ returns-clause-ascending c =
 pub returns-clause-inside : goal.returns-clause-inside
 returns-clause-inside c =
     let told = c.in_ok-points.ensures in
-    inside-each (span number c.interval_at.result.now) (span_of (value_at c.args.row.now (slice_index c.args.acl.now c.args.side))) c.as_slice.result.now _ told.numbers c.interval_at.ensures.span
+    inside-each (span number c.interval_at.result.now) (span_of (value_at c.args.row.now (slice_index c.args.commalist.now c.args.side))) c.as_slice.result.now _ told.numbers c.interval_at.ensures.span
 
 pub returns-clause-steady : goal.returns-clause-steady
 returns-clause-steady c =
-    subst (IsSteady (read c.args.e.now) c.args.row.now c.args.acl.now c.args.side) (sym (returns-clause-cuts c))
-    (swept-steady (read c.args.e.now) c.args.row.now c.args.acl.now c.args.side c.requires.typed c.requires.sweepable)
+    subst (IsSteady (read c.args.e.now) c.args.row.now c.args.commalist.now c.args.side) (sym (returns-clause-cuts c))
+    (swept-steady (read c.args.e.now) c.args.row.now c.args.commalist.now c.args.side c.requires.typed c.requires.sweepable)

@@ -13,4 +13,4 @@ returns-clause-answer c =
     (c.as_slice-there.ensures.value ∙ ap (λ (h : HistoryRule). h.key_there) c.rule.view_is)
     (ap (λ (h : HistoryRule). h.span_here) c.rule.view_is)
     (ap (λ (h : HistoryRule). h.point_there) c.rule.view_is)
-    c.in_ok-ends.ensures.marks c.in_ok-begins.ensures.marks c.as_slice.ensures.value c.as_slice-2.ensures.value c.is_any_reached.ensures
+    c.in_ok-ends.ensures.hashes c.in_ok-begins.ensures.hashes c.as_slice.ensures.value c.as_slice-2.ensures.value c.is_any_reached.ensures

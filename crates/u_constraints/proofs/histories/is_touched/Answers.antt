@@ -24,4 +24,4 @@ returns c =
     told_of_rows _ _ _ _ _ _ _ _ true c.args.of.now.rows c.args.other.now.rows _ _ _ _ _ here there
     (ap (λ (h : HistoryRule). h.span_here) c.rule.view_is)
     (ap (λ (h : HistoryRule). h.point_there) c.rule.view_is)
-    c.in_ok-ends.ensures.marks c.in_ok-begins.ensures.marks c.as_slice-7.ensures.value c.as_slice-8.ensures.value c.is_any_reached.ensures
+    c.in_ok-ends.ensures.hashes c.in_ok-begins.ensures.hashes c.as_slice-7.ensures.value c.as_slice-8.ensures.value c.is_any_reached.ensures

@@ -4,7 +4,7 @@ use Rattle.base_core.specs.Sets.{has}
 use Rattle.value_core.specs.Values.{Row, row_cmp}
 use Rattle.relation_core.specs.Agreement.{part_of}
 use Rattle.relation_core.proofs.FilterLemmas.{take_all}
-use Rattle.row_marks.proofs.MarkLemmas.{row_long}
+use Rattle.relation_core.proofs.HashLemmas.{row_long}
 use Rattle.u_constraints.proofs.KeyLemmas.{found_so_far, not_found, searched}
 use Rattle.u_constraints.proofs.keys.are_sought.Goals as goal
 

@@ -2,8 +2,8 @@ use Rattle.std.proofs.Common.{◌≡◌, ◌∙◌, ◌<◌, ℕ, length, refl, 
 use Rattle.base_core.proofs.SetLemmas.{Ascends-from_sorted}
 use Rattle.value_core.specs.Attributes.{among}
 use Rattle.value_core.specs.Values.{Heading, row_cmp}
-use Rattle.u_constraints.specs.Fronts.{counts_from}
-use Rattle.u_constraints.proofs.FrontLemmas.{key_of_relation}
+use Rattle.u_constraints.specs.Prefixes.{counts_from}
+use Rattle.u_constraints.proofs.PrefixLemmas.{key_of_relation}
 use Rattle.u_constraints.proofs.KeyLemmas.{counted}
 use Rattle.u_constraints.proofs.WholeKeyLemmas.{whole_key_of_rows}
 use Rattle.u_constraints.proofs.keys.is_key.Goals as goal
@@ -17,7 +17,7 @@ returns-then-are_all c =
 pub returns-then-are_first : goal.returns-then-are_first
 returns-then-are_first c =
     let first : counts_from 0 c.args.positions.now ≡ true = search rules in
-    c.fronts_ascend.ensures ∙ key_of_relation c.args.positions.now c.args.r.now _ _ c.rows-rows.ensures.relation c.requires first refl c.rows-rows.ensures.rows
+    c.prefixes_ascend.ensures ∙ key_of_relation c.args.positions.now c.args.r.now _ _ c.rows-rows.ensures.relation c.requires first refl c.rows-rows.ensures.rows
 
 pub returns : goal.returns
 returns c =

@@ -8,14 +8,14 @@ use Rattle.u_constraints.proofs.unpacked.are_parted.Goals as goal
 
 pub are_apart-requires : goal.are_apart-requires
 are_apart-requires c =
-    let one : length c.args.acl.now ≡ 1 = grind (arith, nat_tests) in
-    one_intervals c.args.r.now.heading c.args.acl.now _ one refl (intervals_of_list c.args.r.now.heading c.args.acl.now c.requires.list)
+    let one : length c.args.commalist.now ≡ 1 = grind (arith, nat_tests) in
+    one_intervals c.args.r.now.heading c.args.commalist.now _ one refl (intervals_of_list c.args.r.now.heading c.args.commalist.now c.requires.list)
 
 pub returns : goal.returns
 returns c = λ t.
     let r = c.args.r.now in
-    let acl = c.args.acl.now in
-    let intervals = intervals_of_list r.heading acl c.requires.list in
-    let one : length acl ≡ 1 = grind (arith, nat_tests) in
-    parted_key r.heading acl r.rows (relation_shaped r c.in_ok-apart.ensures.relation acl intervals) _ one refl c.args.key.now c.requires.lies
+    let commalist = c.args.commalist.now in
+    let intervals = intervals_of_list r.heading commalist c.requires.list in
+    let one : length commalist ≡ 1 = grind (arith, nat_tests) in
+    parted_key r.heading commalist r.rows (relation_shaped r c.in_ok-apart.ensures.relation commalist intervals) _ one refl c.args.key.now c.requires.lies
     c.as_slice.result.now (c.as_slice.ensures.value ∙ c.in_ok-label.ensures) (c.in_ok-apart.ensures.answer t)

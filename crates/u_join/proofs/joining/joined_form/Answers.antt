@@ -4,8 +4,8 @@ use Rattle.std.proofs.lemmas.List.Elements.{All-same, All-map}
 use Rattle.relation_core.specs.Agreement.{part_of}
 use Rattle.cell_core.specs.Cells.{grids_of, grid_row}
 use Rattle.cell_core.specs.Numbering.{IsGrid}
-use Rattle.cell_kernels.proofs.KernelLemmas.{grids}
-use Rattle.u_join.specs.Keyed.{keyed}
+use Rattle.u_set.proofs.KernelLemmas.{grids}
+use Rattle.u_join.specs.KeyedCellBox.{keyed}
 use Rattle.u_join.proofs.CellLemmas.{joined_within, joined_form}
 use Rattle.u_join.proofs.joining.joined_form.Goals as goal
 

@@ -1,7 +1,7 @@
 use Rattle.std.proofs.Common.{◌≡◌, map, length, ◌∙◌, subst}
 use Rattle.std.specs.Result.{IfOk}
 use Rattle.value_core.specs.Values.{row_cmp}
-use Rattle.packing_core.specs.Boxed.{packed_boxes, unpacked_boxes}
+use Rattle.cell_packing.specs.Boxed.{packed_boxes, unpacked_boxes}
 use Rattle.cell_core.specs.Cells.{row_numbers}
 use Rattle.u_join.specs.Pairs.{joined_boxes}
 use Rattle.u_join.specs.Shared.{beside}

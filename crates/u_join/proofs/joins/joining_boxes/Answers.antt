@@ -8,7 +8,7 @@ use Rattle.value_core.specs.Values.{Heading, row_cmp, most_rows}
 use Rattle.relation_core.specs.Agreement.{common_positions}
 use Rattle.relation_core.specs.Parts.{kind_at, positions_in}
 use Rattle.relation_core.proofs.HeadingLemmas.{few_attributes}
-use Rattle.packing_core.specs.Boxed.{packed_boxes, unpacked_boxes}
+use Rattle.cell_packing.specs.Boxed.{packed_boxes, unpacked_boxes}
 use Rattle.cell_core.specs.Boxes.{IsBox}
 use Rattle.cell_core.specs.Cells.{row_numbers}
 use Rattle.cell_core.specs.Costs.{bound}

@@ -1,6 +1,6 @@
 use Rattle.std.proofs.Common.{◌≡◌, map}
 use Rattle.relation_core.specs.Agreement.{part_of}
-use Rattle.u_join.specs.Keyed.{keyed}
+use Rattle.u_join.specs.KeyedCellBox.{keyed}
 use Rattle.u_join.proofs.keys.with_keys.Given as goal
 
 abbrev pub invariant-loop-row : goal.invariant-loop-row

@@ -6,7 +6,7 @@ use Rattle.value_core.specs.Values.{Heading, row_cmp, fits_heading}
 use Rattle.relation_core.specs.Agreement.{common_positions, matched}
 use Rattle.relation_core.proofs.FilterLemmas.{rows_ascend}
 use Rattle.relation_core.proofs.HeadingLemmas.{heading_ascends}
-use Rattle.packing_core.specs.Boxed.{packed_boxes, unpacked_boxes}
+use Rattle.cell_packing.specs.Boxed.{packed_boxes, unpacked_boxes}
 use Rattle.u_set.specs.Boxes.{others, boxed}
 use Rattle.u_set.proofs.RelationLemmas.{relation_shaped, answer_read, refusal_read, labels_read}
 use Rattle.u_row.specs.Kept.{inner}
@@ -18,41 +18,41 @@ pub from_boxes-requires-clause-labels : goal.from_boxes-requires-clause-labels
 from_boxes-requires-clause-labels g c =
     let left = c.args.left.now in
     let right = c.args.right.now in
-    let acl = c.args.here.now in
+    let commalist = c.args.here.now in
     let there = c.args.there.now in
     let l = c.matching_boxes.ensures.left_relation in
     let r = c.matching_boxes.ensures.right_relation in
     let are =
-    matched_at left.heading right.heading acl there c.requires.same c.requires.kinds (heading_ascends left.heading l.headed) (heading_ascends right.heading r.headed) c.requires.left c.requires.right
-    left.rows right.rows (rows_ascend left l) (rows_ascend right r) (relation_shaped left l acl c.requires.left) (relation_shaped right r there c.requires.right) in
+    matched_at left.heading right.heading commalist there c.requires.same c.requires.kinds (heading_ascends left.heading l.headed) (heading_ascends right.heading r.headed) c.requires.left c.requires.right
+    left.rows right.rows (rows_ascend left l) (rows_ascend right r) (relation_shaped left l commalist c.requires.left) (relation_shaped right r there c.requires.right) in
     let same : c.in_ok-heading.heading ≡ c.args.left.now.heading = c.in_ok-heading.ensures ∙ c.heading.ensures.heading in
-    subst (λ (h : Heading). All (λ b. IsTrue (fits_heading (others acl h) b.0)) c.in-Ok.form.items) (sym same)
-    (labels_read left.heading acl (packed acl (matched left.heading right.heading (unpacked acl left.rows) (unpacked there right.rows))) (packed_boxes row_cmp (length acl) (matched_boxes (inner acl (common_positions left.heading left.heading right.heading)) (inner there (common_positions right.heading left.heading right.heading)) (unpacked_boxes row_cmp (length acl) (map (boxed acl) left.rows)) (unpacked_boxes row_cmp (length acl) (map (boxed there) right.rows)))) are c.in-Ok.form.items c.in-Ok.ensures.rows)
+    subst (λ (h : Heading). All (λ b. IsTrue (fits_heading (others commalist h) b.0)) c.in-Ok.form.items) (sym same)
+    (labels_read left.heading commalist (packed commalist (matched left.heading right.heading (unpacked commalist left.rows) (unpacked there right.rows))) (packed_boxes row_cmp (length commalist) (matched_boxes (inner commalist (common_positions left.heading left.heading right.heading)) (inner there (common_positions right.heading left.heading right.heading)) (unpacked_boxes row_cmp (length commalist) (map (boxed commalist) left.rows)) (unpacked_boxes row_cmp (length commalist) (map (boxed there) right.rows)))) are c.in-Ok.form.items c.in-Ok.ensures.rows)
 
 pub returns-in-Ok-clause-rows : goal.returns-in-Ok-clause-rows
 returns-in-Ok-clause-rows g c =
     let left = c.args.left.now in
     let right = c.args.right.now in
-    let acl = c.args.here.now in
+    let commalist = c.args.here.now in
     let there = c.args.there.now in
     let l = c.matching_boxes.ensures.left_relation in
     let r = c.matching_boxes.ensures.right_relation in
     let are =
-    matched_at left.heading right.heading acl there c.requires.same c.requires.kinds (heading_ascends left.heading l.headed) (heading_ascends right.heading r.headed) c.requires.left c.requires.right
-    left.rows right.rows (rows_ascend left l) (rows_ascend right r) (relation_shaped left l acl c.requires.left) (relation_shaped right r there c.requires.right) in
+    matched_at left.heading right.heading commalist there c.requires.same c.requires.kinds (heading_ascends left.heading l.headed) (heading_ascends right.heading r.headed) c.requires.left c.requires.right
+    left.rows right.rows (rows_ascend left l) (rows_ascend right r) (relation_shaped left l commalist c.requires.left) (relation_shaped right r there c.requires.right) in
     let same : c.in_ok-heading.heading ≡ c.args.left.now.heading = c.in_ok-heading.ensures ∙ c.heading.ensures.heading in
-    answer_read left.heading acl (packed acl (matched left.heading right.heading (unpacked acl left.rows) (unpacked there right.rows))) (packed_boxes row_cmp (length acl) (matched_boxes (inner acl (common_positions left.heading left.heading right.heading)) (inner there (common_positions right.heading left.heading right.heading)) (unpacked_boxes row_cmp (length acl) (map (boxed acl) left.rows)) (unpacked_boxes row_cmp (length acl) (map (boxed there) right.rows)))) are c.in-Ok.form.items c.in-Ok.ensures.rows c.in_ok-heading.heading same c.from_boxes.result c.from_boxes.ensures
+    answer_read left.heading commalist (packed commalist (matched left.heading right.heading (unpacked commalist left.rows) (unpacked there right.rows))) (packed_boxes row_cmp (length commalist) (matched_boxes (inner commalist (common_positions left.heading left.heading right.heading)) (inner there (common_positions right.heading left.heading right.heading)) (unpacked_boxes row_cmp (length commalist) (map (boxed commalist) left.rows)) (unpacked_boxes row_cmp (length commalist) (map (boxed there) right.rows)))) are c.in-Ok.form.items c.in-Ok.ensures.rows c.in_ok-heading.heading same c.from_boxes.result c.from_boxes.ensures
 
 pub returns-in-Err-clause-rows : goal.returns-in-Err-clause-rows
 returns-in-Err-clause-rows g c =
     let left = c.args.left.now in
     let right = c.args.right.now in
-    let acl = c.args.here.now in
+    let commalist = c.args.here.now in
     let there = c.args.there.now in
     let l = c.matching_boxes.ensures.left_relation in
     let r = c.matching_boxes.ensures.right_relation in
     let are =
-    matched_at left.heading right.heading acl there c.requires.same c.requires.kinds (heading_ascends left.heading l.headed) (heading_ascends right.heading r.headed) c.requires.left c.requires.right
-    left.rows right.rows (rows_ascend left l) (rows_ascend right r) (relation_shaped left l acl c.requires.left) (relation_shaped right r there c.requires.right) in
-    refusal_read left.heading acl (packed acl (matched left.heading right.heading (unpacked acl left.rows) (unpacked there right.rows))) (packed_boxes row_cmp (length acl) (matched_boxes (inner acl (common_positions left.heading left.heading right.heading)) (inner there (common_positions right.heading left.heading right.heading)) (unpacked_boxes row_cmp (length acl) (map (boxed acl) left.rows)) (unpacked_boxes row_cmp (length acl) (map (boxed there) right.rows)))) are
+    matched_at left.heading right.heading commalist there c.requires.same c.requires.kinds (heading_ascends left.heading l.headed) (heading_ascends right.heading r.headed) c.requires.left c.requires.right
+    left.rows right.rows (rows_ascend left l) (rows_ascend right r) (relation_shaped left l commalist c.requires.left) (relation_shaped right r there c.requires.right) in
+    refusal_read left.heading commalist (packed commalist (matched left.heading right.heading (unpacked commalist left.rows) (unpacked there right.rows))) (packed_boxes row_cmp (length commalist) (matched_boxes (inner commalist (common_positions left.heading left.heading right.heading)) (inner there (common_positions right.heading left.heading right.heading)) (unpacked_boxes row_cmp (length commalist) (map (boxed commalist) left.rows)) (unpacked_boxes row_cmp (length commalist) (map (boxed there) right.rows)))) are
     c.in-Err.refuse c.refusal.result c.refusal.ensures (λ e. c.in-Err.ensures.limit (ap (λ x. Err x) e))

@@ -8,7 +8,7 @@ use Rattle.value_core.specs.Values.{row_cmp, most_rows}
 use Rattle.relation_core.specs.Agreement.{common_positions}
 use Rattle.relation_core.specs.Parts.{kind_at}
 use Rattle.relation_core.proofs.HeadingLemmas.{heading_ascends}
-use Rattle.packing_core.specs.Boxed.{packed_boxes, unpacked_boxes}
+use Rattle.cell_packing.specs.Boxed.{packed_boxes, unpacked_boxes}
 use Rattle.cell_core.specs.Boxes.{IsBox}
 use Rattle.cell_core.specs.Cells.{row_numbers}
 use Rattle.cell_core.specs.declared.boxes.CellRefuse.TheVariants.{Limit as OfLimit}

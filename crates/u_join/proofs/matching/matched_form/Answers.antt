@@ -4,14 +4,14 @@ use Rattle.std.proofs.lemmas.List.Elements.{All-same, All-map}
 use Rattle.relation_core.specs.Agreement.{part_of}
 use Rattle.cell_core.specs.Cells.{grids_of, grid_row}
 use Rattle.cell_core.specs.Numbering.{IsGrid}
-use Rattle.cell_kernels.proofs.KernelLemmas.{grids}
+use Rattle.u_set.proofs.KernelLemmas.{grids}
 use Rattle.u_row.specs.Labels.{relabelled}
-use Rattle.u_join.specs.Keyed.{keyed}
+use Rattle.u_join.specs.KeyedCellBox.{keyed}
 use Rattle.u_join.proofs.CellLemmas.{matched_within, matched_form}
 use Rattle.u_join.proofs.matching.matched_form.Goals as goal
 
-pub fewer_rows-requires : goal.fewer_rows-requires
-fewer_rows-requires g c =
+pub prepacked-requires : goal.prepacked-requires
+prepacked-requires g c =
     record {
       sides = All-same (λ x. length x.1 ≡ length c.args.types.now) c.in_ok-keys.keys.items (map (relabelled (part_of c.args.there.now)) c.in_ok-sides.field-0.right.items) c.in_ok-keys.ensures
           (All-map (λ x. length x.1 ≡ length c.args.types.now) (relabelled (part_of c.args.there.now)) c.in_ok-sides.field-0.right.items c.in_ok-sides.ensures.right_sides);

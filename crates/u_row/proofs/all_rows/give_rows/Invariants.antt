@@ -1,6 +1,6 @@
 use Rattle.std.proofs.Common.{◌≡◌, ◌↔◌, ◌+◌, ◌≤◌, ℤ, List, map, drop, length}
 use Rattle.std.specs.List.{All}
-use Rattle.packing_core.specs.Boxed.{InBoxes}
+use Rattle.cell_packing.specs.Boxed.{InBoxes}
 use Rattle.value_core.specs.Values.{Row}
 use Rattle.point_core.specs.LeastFault.{IsLeast}
 use Rattle.cell_core.specs.Boxes.{IsBox}

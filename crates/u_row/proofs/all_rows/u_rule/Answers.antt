@@ -3,7 +3,7 @@ use Rattle.std.specs.Result.{IfOk}
 use Rattle.std.proofs.lemmas.List.Elements.{All-same}
 use Rattle.value_core.specs.Order.{row_total, row_separates}
 use Rattle.value_core.specs.Values.{Row, row_cmp}
-use Rattle.packing_core.specs.Boxed.{Boxed, packed_boxes}
+use Rattle.cell_packing.specs.Boxed.{Boxed, packed_boxes}
 use Rattle.point_core.specs.LeastFault.{IsLeast}
 use Rattle.cell_core.specs.Boxes.{IsBox}
 use Rattle.cell_core.specs.Cells.{row_numbers}

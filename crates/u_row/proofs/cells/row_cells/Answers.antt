@@ -1,7 +1,7 @@
 use Rattle.std.proofs.Common.{◌≡◌, ◌-◌, ◌∷◌, ◌++◌, [], map, length, get_or, arith, subst, sym, ap, ◌∙◌}
 use Rattle.std.proofs.lemmas.List.Elements.{All-same}
 use Rattle.interval_core.specs.Members.{HasEndsIn}
-use Rattle.packing_core.specs.Covering.{Among}
+use Rattle.cell_packing.specs.Covering.{Among}
 use Rattle.cell_core.specs.Cells.{box_numbers, boxes_of}
 use Rattle.cell_core.specs.Numbering.{numbers_of}
 use Rattle.cell_core.proofs.BackLemmas.{box_length, box_ends}

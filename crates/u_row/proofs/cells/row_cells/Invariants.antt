@@ -1,5 +1,5 @@
 use Rattle.std.proofs.Common.{◌≡◌, ◌≤◌, ◌+◌, List, drop, length}
-use Rattle.packing_core.specs.Covering.{Among}
+use Rattle.cell_packing.specs.Covering.{Among}
 use Rattle.cell_core.specs.Boxes.{IsBox}
 use Rattle.cell_core.specs.Cells.{box_numbers, boxes_of}
 use Rattle.u_row.specs.Cutting.{cells_from, cuts_from}

@@ -3,4 +3,4 @@ use Rattle.u_row.specs.Kept.{inner}
 use Rattle.u_row.proofs.places.inner.Given as goal
 
 abbrev pub invariant-loop-i : goal.invariant-loop-i
-invariant-loop-i l = l.places.items ≡ inner l.acl (take l.i-index l.kept)
+invariant-loop-i l = l.places.items ≡ inner l.commalist (take l.i-index l.kept)

@@ -4,7 +4,7 @@ use Rattle.std.proofs.lemmas.List.Elements.{All-same, All-map, recursion_from_Al
 use Rattle.value_core.specs.Order.{row_total, row_separates}
 use Rattle.value_core.specs.Values.{row_cmp}
 use Rattle.relation_core.specs.Agreement.{part_of}
-use Rattle.packing_core.specs.Boxed.{packed_boxes}
+use Rattle.cell_packing.specs.Boxed.{packed_boxes}
 use Rattle.cell_core.specs.Boxes.{IsBox}
 use Rattle.cell_core.specs.Cells.{row_numbers}
 use Rattle.cell_core.specs.declared.boxes.CellRefuse.TheVariants.{Limit as OfLimit}

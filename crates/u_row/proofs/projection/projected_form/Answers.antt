@@ -6,7 +6,7 @@ use Rattle.point_core.specs.Points.{number}
 use Rattle.value_core.specs.Values.{row_cmp, most_rows}
 use Rattle.relation_core.specs.Agreement.{part_of}
 use Rattle.relation_core.specs.Parts.{kind_at}
-use Rattle.packing_core.specs.Boxed.{packed_boxes, unpacked_boxes}
+use Rattle.cell_packing.specs.Boxed.{packed_boxes, unpacked_boxes}
 use Rattle.cell_core.specs.Cells.{row_numbers}
 use Rattle.cell_core.specs.Costs.{bound}
 use Rattle.cell_core.specs.declared.boxes.CellRefuse.TheVariants.{Limit as OfLimit}
@@ -19,14 +19,14 @@ use Rattle.u_row.proofs.projection.projected_form.Goals as goal
 pub u_project-requires-clause-within : goal.u_project-requires-clause-within
 u_project-requires-clause-within g c =
     let r = c.args.r.now in
-    let acl = c.args.acl.now in
+    let commalist = c.args.commalist.now in
     let boxes = (λ t. map (row_numbers number) (c.as_slice-2.ensures.value t)) ∙ c.in_ok-boxes.ensures.rows in
     subst (λ (ps : List ℕ). All (λ b. All (λ (i : ℕ). i < length b.0) ps) c.as_slice-2.result.now) (sym (c.as_slice-3.ensures.value ∙ c.in_ok-places.ensures))
-    (labels_long r.heading acl c.args.kept.now c.requires.within r.rows (relation_shaped r c.heading.ensures.relation acl c.requires.intervals) c.as_slice-2.result.now boxes)
+    (labels_long r.heading commalist c.args.kept.now c.requires.within r.rows (relation_shaped r c.heading.ensures.relation commalist c.requires.intervals) c.as_slice-2.result.now boxes)
 
 pub returns-clause-rows : goal.returns-clause-rows
 returns-clause-rows g c =
-    let sides = ap length (c.as_slice.ensures.value ∙ c.in_ok-types.ensures) ∙ length-map c.args.acl.now (λ i. type_of (kind_at c.attributes.result.now i)) in
+    let sides = ap length (c.as_slice.ensures.value ∙ c.in_ok-types.ensures) ∙ length-map c.args.commalist.now (λ i. type_of (kind_at c.attributes.result.now i)) in
     let boxes = (λ t. map (row_numbers number) (c.as_slice-2.ensures.value t)) ∙ c.in_ok-boxes.ensures.rows in
     let places = c.as_slice-3.ensures.value ∙ c.in_ok-places.ensures in
     subst (λ s. IfOk c.u_project.result (λ v. map (row_numbers number) v.items ≡ s))
@@ -34,7 +34,7 @@ returns-clause-rows g c =
 
 pub returns-clause-limit : goal.returns-clause-limit
 returns-clause-limit g c =
-    let sides = ap length (c.as_slice.ensures.value ∙ c.in_ok-types.ensures) ∙ length-map c.args.acl.now (λ i. type_of (kind_at c.attributes.result.now i)) in
+    let sides = ap length (c.as_slice.ensures.value ∙ c.in_ok-types.ensures) ∙ length-map c.args.commalist.now (λ i. type_of (kind_at c.attributes.result.now i)) in
     let boxes = (λ t. map (row_numbers number) (c.as_slice-2.ensures.value t)) ∙ c.in_ok-boxes.ensures.rows in
     let places = c.as_slice-3.ensures.value ∙ c.in_ok-places.ensures in
     subst (λ s. c.u_project.result ≡ Err OfLimit → most_rows < length s)
@@ -42,7 +42,7 @@ returns-clause-limit g c =
 
 pub returns-clause-cost : goal.returns-clause-cost
 returns-clause-cost g c =
-    let sides = ap length (c.as_slice.ensures.value ∙ c.in_ok-types.ensures) ∙ length-map c.args.acl.now (λ i. type_of (kind_at c.attributes.result.now i)) in
+    let sides = ap length (c.as_slice.ensures.value ∙ c.in_ok-types.ensures) ∙ length-map c.args.commalist.now (λ i. type_of (kind_at c.attributes.result.now i)) in
     let boxes = (λ t. map (row_numbers number) (c.as_slice-2.ensures.value t)) ∙ c.in_ok-boxes.ensures.rows in
-    let many = sym (length-map c.as_slice-2.result.now (row_numbers number)) ∙ ap length boxes ∙ length-map c.args.r.now.rows (boxed c.args.acl.now) in
+    let many = sym (length-map c.as_slice-2.result.now (row_numbers number)) ∙ ap length boxes ∙ length-map c.args.r.now.rows (boxed c.args.commalist.now) in
     subst (λ b. c.u_project.new.steps ≤ c.args.steps.now + b) (λ t. bound (many t) (sides t)) c.u_project.ensures.cost

@@ -1,9 +1,9 @@
 use Rattle.std.proofs.Common.{◌≡◌, ◌⊎◌, inl, inr, ℤ, List, ◌++◌, map, get_or, Err, Some, refl, arith, sym, ap, ◌∙◌, subst}
 use Rattle.interval_core.specs.Members.{Span}
-use Rattle.packing_core.specs.Covering.{Among}
-use Rattle.packing_core.specs.Packed.{Has, firsts}
-use Rattle.packing_core.proofs.AmongLemmas.{among_map}
-use Rattle.slice_core.proofs.Turns.{least_iff}
+use Rattle.cell_packing.specs.Covering.{Among}
+use Rattle.cell_packing.specs.Packed.{Has, firsts}
+use Rattle.cell_packing.proofs.AmongLemmas.{among_map}
+use Rattle.cell_sweep.proofs.Turns.{least_iff}
 use Rattle.cell_core.specs.Boxes.{IsBox}
 use Rattle.cell_core.specs.Cells.{box_numbers, boxes_of, row_numbers}
 use Rattle.u_row.specs.Cutting.{AreCuts, AreCutsFrom, cells_of}

@@ -21,47 +21,47 @@ use Rattle.u_set.proofs.boxes.sides_of.Goals as goal
 pub bounds-values-i : goal.bounds-values-i
 bounds-values-i c =
     let below = c.requires.intervals.within c.loop-i.i-index 0 (omega arith) in
-    let long = (shaped_from_fit c.args.heading.now c.args.acl.now c.requires.intervals (map plain c.args.values.now) c.requires.fits).long in
+    let long = (shaped_from_fit c.args.heading.now c.args.commalist.now c.requires.intervals (map plain c.args.values.now) c.requires.fits).long in
     let same = length-map c.args.values.now plain in
     omega (arith, below, long, same)
 
 pub interval_of-side-requires : goal.interval_of-side-requires
 interval_of-side-requires c =
     let heading = c.args.heading.now in
-    let acl = c.args.acl.now in
+    let commalist = c.args.commalist.now in
     let row : Row = map plain c.args.values.now in
-    let i : ℕ = get_or acl c.loop-i.i-index 0 in
+    let i : ℕ = get_or commalist c.loop-i.i-index 0 in
     let below = c.requires.intervals.within c.loop-i.i-index 0 (omega arith) in
-    let long = (shaped_from_fit heading acl c.requires.intervals row c.requires.fits).long in
+    let long = (shaped_from_fit heading commalist c.requires.intervals row c.requires.fits).long in
     let same = length-map c.args.values.now plain in
     let is : value_at row i ≡ plain c.index-values-i.result = value_held c.args.values.now i c.index-values-i.result (omega (arith, below, long, same)) c.index-values-i.is in
-    let fit = span_fits heading acl c.requires.intervals row c.requires.fits i (place_listed acl c.loop-i.i-index (omega arith)) in
+    let fit = span_fits heading commalist c.requires.intervals row c.requires.fits i (place_listed commalist c.loop-i.i-index (omega arith)) in
     (type_of (kind_at heading i), subst (λ v. IsTrue (fits (SpanOf (type_of (kind_at heading i))) v)) is fit)
 
 pub loop-i-preserved : goal.loop-i-preserved
 loop-i-preserved c =
     let heading = c.args.heading.now in
-    let acl = c.args.acl.now in
+    let commalist = c.args.commalist.now in
     let row : Row = map plain c.args.values.now in
     let at : ℕ = c.loop-i.i-index in
-    let lt : c.loop-i.i-index < length c.args.acl.now = omega arith in
-    let i : ℕ = get_or acl at 0 in
+    let lt : c.loop-i.i-index < length c.args.commalist.now = omega arith in
+    let i : ℕ = get_or commalist at 0 in
     let side = c.interval_of-side.result in
     let below = c.requires.intervals.within at 0 lt in
-    let long = (shaped_from_fit heading acl c.requires.intervals row c.requires.fits).long in
+    let long = (shaped_from_fit heading commalist c.requires.intervals row c.requires.fits).long in
     let same = length-map c.args.values.now plain in
     let is : value_at row i ≡ plain c.index-values-i.result = value_held c.args.values.now i c.index-values-i.result (omega (arith, below, long, same)) c.index-values-i.is in
     let t : AnyType = type_of (kind_at heading i) in
-    let fit : IsTrue (fits (SpanOf t) (plain c.index-values-i.result)) = subst (λ v. IsTrue (fits (SpanOf t) v)) is (span_fits heading acl c.requires.intervals row c.requires.fits i (place_listed acl at lt)) in
+    let fit : IsTrue (fits (SpanOf t) (plain c.index-values-i.result)) = subst (λ v. IsTrue (fits (SpanOf t) v)) is (span_fits heading commalist c.requires.intervals row c.requires.fits i (place_listed commalist at lt)) in
     let push = c.in_ok-push.ensures.items in
     let span_is : span number side ≡ span_of (value_at row i) = c.interval_of-side.ensures.numbers ∙ ap span_of (sym is) in
-    let more : types_at heading (take (at + 1) acl) ≡ types_at heading (take at acl) ++ t ∷ [] = map_more (λ j. type_of (kind_at heading j)) acl at 0 lt in
+    let more : types_at heading (take (at + 1) commalist) ≡ types_at heading (take at commalist) ++ t ∷ [] = map_more (λ j. type_of (kind_at heading j)) commalist at 0 lt in
     record {
       numbers =
           ap (box_numbers number) push ∙ map_push (numbers_of number) c.loop-i.list.items side ∙ (λ k. c.loop-i.invariant.numbers k ++ span_is k ∷ [])
-          ∙ sym (map_more (λ j. span_of (value_at row j)) acl at 0 lt);
+          ∙ sym (map_more (λ j. span_of (value_at row j)) commalist at 0 lt);
       points =
           subst (λ (ts : List AnyType). IsBox IsPointOf ts c.push.new.self.items) (sym more)
-          (subst (λ (v : List (AnyPoint × AnyPoint)). IsBox IsPointOf (types_at heading (take at acl) ++ t ∷ []) v) (sym push)
-          (box_push IsPointOf (types_at heading (take at acl)) c.loop-i.list.items t side c.loop-i.invariant.points (c.interval_of-side.ensures.points t fit)));
+          (subst (λ (v : List (AnyPoint × AnyPoint)). IsBox IsPointOf (types_at heading (take at commalist) ++ t ∷ []) v) (sym push)
+          (box_push IsPointOf (types_at heading (take at commalist)) c.loop-i.list.items t side c.loop-i.invariant.points (c.interval_of-side.ensures.points t fit)));
     }

@@ -8,6 +8,6 @@ use Rattle.u_set.proofs.boxes.sides_of.Given as goal
 
 abbrev pub invariant-loop-i : goal.invariant-loop-i
 invariant-loop-i l = record {
-  numbers : box_numbers number l.list.items ≡ spans_at (take l.i-index l.acl) (map plain l.values);
-  points : IsBox IsPointOf (types_at l.heading (take l.i-index l.acl)) l.list.items;
+  numbers : box_numbers number l.list.items ≡ spans_at (take l.i-index l.commalist) (map plain l.values);
+  points : IsBox IsPointOf (types_at l.heading (take l.i-index l.commalist)) l.list.items;
 }

@@ -8,6 +8,6 @@ use Rattle.u_set.proofs.boxes.to_boxes.Given as goal
 
 abbrev pub invariant-loop-row : goal.invariant-loop-row
 invariant-loop-row l = record {
-  rows : map (row_numbers number) l.list.items ≡ map (boxed l.acl) (take l.row-index l.rows);
-  boxes : All (λ b. IsBox IsPointOf (types_at l.heading l.acl) b.1) l.list.items;
+  rows : map (row_numbers number) l.list.items ≡ map (boxed l.commalist) (take l.row-index l.rows);
+  boxes : All (λ b. IsBox IsPointOf (types_at l.heading l.commalist) b.1) l.list.items;
 }

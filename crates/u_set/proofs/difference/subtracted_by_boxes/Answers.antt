@@ -6,7 +6,7 @@ use Rattle.value_core.specs.RowPacking.{packed, unpacked}
 use Rattle.value_core.specs.Values.{Heading, row_cmp, fits_heading}
 use Rattle.relation_core.specs.Operators.{subtracted}
 use Rattle.relation_core.proofs.FilterLemmas.{rows_ascend}
-use Rattle.packing_core.specs.Boxed.{boxed_cmp, packed_boxes, unpacked_boxes}
+use Rattle.cell_packing.specs.Boxed.{boxed_cmp, packed_boxes, unpacked_boxes}
 use Rattle.u_set.specs.Boxes.{others, boxed}
 use Rattle.u_set.proofs.RelationLemmas.{relation_shaped, shaped_under, answer_read, refusal_read, labels_read}
 use Rattle.u_set.proofs.CommonLemmas.{subtracted_rows}
@@ -16,38 +16,38 @@ pub from_boxes-requires-clause-labels : goal.from_boxes-requires-clause-labels
 from_boxes-requires-clause-labels g c =
     let left = c.args.left.now in
     let right = c.args.right.now in
-    let acl = c.args.acl.now in
+    let commalist = c.args.commalist.now in
     let l = c.difference_form.ensures.relation in
     let r = c.heading.ensures.relation in
     let same : c.in_ok-heading.heading ≡ c.args.left.now.heading = c.in_ok-heading.ensures ∙ c.heading.ensures.heading ∙ sym c.requires.heading in
     let are =
-    subtracted_rows left.heading acl c.requires.intervals left.rows right.rows (rows_ascend left l) (rows_ascend right r)
-    (relation_shaped left l acl c.requires.intervals) (shaped_under left.heading right c.requires.heading r acl c.requires.intervals) in
-    subst (λ (h : Heading). All (λ b. IsTrue (fits_heading (others acl h) b.0)) c.in-Ok.form.items) (sym same)
-    (labels_read left.heading acl (packed acl (subtracted (unpacked acl left.rows) (unpacked acl right.rows))) (packed_boxes row_cmp (length acl) (difference_of (boxed_cmp row_cmp) (unpacked_boxes row_cmp (length acl) (map (boxed acl) left.rows)) (unpacked_boxes row_cmp (length acl) (map (boxed acl) right.rows)))) are c.in-Ok.form.items c.in-Ok.ensures.rows)
+    subtracted_rows left.heading commalist c.requires.intervals left.rows right.rows (rows_ascend left l) (rows_ascend right r)
+    (relation_shaped left l commalist c.requires.intervals) (shaped_under left.heading right c.requires.heading r commalist c.requires.intervals) in
+    subst (λ (h : Heading). All (λ b. IsTrue (fits_heading (others commalist h) b.0)) c.in-Ok.form.items) (sym same)
+    (labels_read left.heading commalist (packed commalist (subtracted (unpacked commalist left.rows) (unpacked commalist right.rows))) (packed_boxes row_cmp (length commalist) (difference_of (boxed_cmp row_cmp) (unpacked_boxes row_cmp (length commalist) (map (boxed commalist) left.rows)) (unpacked_boxes row_cmp (length commalist) (map (boxed commalist) right.rows)))) are c.in-Ok.form.items c.in-Ok.ensures.rows)
 
 pub returns-in-Ok-clause-rows : goal.returns-in-Ok-clause-rows
 returns-in-Ok-clause-rows g c =
     let left = c.args.left.now in
     let right = c.args.right.now in
-    let acl = c.args.acl.now in
+    let commalist = c.args.commalist.now in
     let l = c.difference_form.ensures.relation in
     let r = c.heading.ensures.relation in
     let same : c.in_ok-heading.heading ≡ c.args.left.now.heading = c.in_ok-heading.ensures ∙ c.heading.ensures.heading ∙ sym c.requires.heading in
     let are =
-    subtracted_rows left.heading acl c.requires.intervals left.rows right.rows (rows_ascend left l) (rows_ascend right r)
-    (relation_shaped left l acl c.requires.intervals) (shaped_under left.heading right c.requires.heading r acl c.requires.intervals) in
-    answer_read left.heading acl (packed acl (subtracted (unpacked acl left.rows) (unpacked acl right.rows))) (packed_boxes row_cmp (length acl) (difference_of (boxed_cmp row_cmp) (unpacked_boxes row_cmp (length acl) (map (boxed acl) left.rows)) (unpacked_boxes row_cmp (length acl) (map (boxed acl) right.rows)))) are c.in-Ok.form.items c.in-Ok.ensures.rows c.in_ok-heading.heading same c.from_boxes.result c.from_boxes.ensures
+    subtracted_rows left.heading commalist c.requires.intervals left.rows right.rows (rows_ascend left l) (rows_ascend right r)
+    (relation_shaped left l commalist c.requires.intervals) (shaped_under left.heading right c.requires.heading r commalist c.requires.intervals) in
+    answer_read left.heading commalist (packed commalist (subtracted (unpacked commalist left.rows) (unpacked commalist right.rows))) (packed_boxes row_cmp (length commalist) (difference_of (boxed_cmp row_cmp) (unpacked_boxes row_cmp (length commalist) (map (boxed commalist) left.rows)) (unpacked_boxes row_cmp (length commalist) (map (boxed commalist) right.rows)))) are c.in-Ok.form.items c.in-Ok.ensures.rows c.in_ok-heading.heading same c.from_boxes.result c.from_boxes.ensures
 
 pub returns-in-Err-clause-rows : goal.returns-in-Err-clause-rows
 returns-in-Err-clause-rows g c =
     let left = c.args.left.now in
     let right = c.args.right.now in
-    let acl = c.args.acl.now in
+    let commalist = c.args.commalist.now in
     let l = c.difference_form.ensures.relation in
     let r = c.heading.ensures.relation in
     let are =
-    subtracted_rows left.heading acl c.requires.intervals left.rows right.rows (rows_ascend left l) (rows_ascend right r)
-    (relation_shaped left l acl c.requires.intervals) (shaped_under left.heading right c.requires.heading r acl c.requires.intervals) in
-    refusal_read left.heading acl (packed acl (subtracted (unpacked acl left.rows) (unpacked acl right.rows))) (packed_boxes row_cmp (length acl) (difference_of (boxed_cmp row_cmp) (unpacked_boxes row_cmp (length acl) (map (boxed acl) left.rows)) (unpacked_boxes row_cmp (length acl) (map (boxed acl) right.rows)))) are
+    subtracted_rows left.heading commalist c.requires.intervals left.rows right.rows (rows_ascend left l) (rows_ascend right r)
+    (relation_shaped left l commalist c.requires.intervals) (shaped_under left.heading right c.requires.heading r commalist c.requires.intervals) in
+    refusal_read left.heading commalist (packed commalist (subtracted (unpacked commalist left.rows) (unpacked commalist right.rows))) (packed_boxes row_cmp (length commalist) (difference_of (boxed_cmp row_cmp) (unpacked_boxes row_cmp (length commalist) (map (boxed commalist) left.rows)) (unpacked_boxes row_cmp (length commalist) (map (boxed commalist) right.rows)))) are
     c.in-Err.refuse c.refusal.result c.refusal.ensures (λ e. c.in-Err.ensures.limit (ap (λ x. Err x) e))

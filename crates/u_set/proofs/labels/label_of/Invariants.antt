@@ -4,4 +4,4 @@ use Rattle.u_set.specs.Boxes.{others_from, others}
 use Rattle.u_set.proofs.labels.label_of.Given as goal
 
 abbrev pub invariant-loop-i : goal.invariant-loop-i
-invariant-loop-i l = map plain l.label.items ++ others_from l.i l.acl (map plain (drop l.i l.values)) ≡ others l.acl (map plain l.values)
+invariant-loop-i l = map plain l.label.items ++ others_from l.i l.commalist (map plain (drop l.i l.values)) ≡ others l.commalist (map plain l.values)

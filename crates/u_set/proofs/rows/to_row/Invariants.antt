@@ -10,7 +10,7 @@ use Rattle.u_set.proofs.rows.to_row.Given as goal
 
 abbrev pub invariant-loop-i : goal.invariant-loop-i
 invariant-loop-i l = record {
-  row : map plain l.values.items ++ unboxed_from l.i l.acl (drop l.i l.heading) (map plain (into_iter_items l.rest)) (box_numbers number l.sides) ≡ unboxed l.heading l.acl (map plain l.fn.label.items, box_numbers number l.sides);
-  label : IsTrue (fits_heading (others_from l.i l.acl (drop l.i l.heading)) (map plain (into_iter_items l.rest)));
+  row : map plain l.values.items ++ unboxed_from l.i l.commalist (drop l.i l.heading) (map plain (into_iter_items l.rest)) (box_numbers number l.sides) ≡ unboxed l.heading l.commalist (map plain l.fn.label.items, box_numbers number l.sides);
+  label : IsTrue (fits_heading (others_from l.i l.commalist (drop l.i l.heading)) (map plain (into_iter_items l.rest)));
   fits : IsTrue (fits_heading (take l.i l.heading) (map plain l.values.items));
 }

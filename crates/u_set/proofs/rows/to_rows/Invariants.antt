@@ -10,6 +10,6 @@ abbrev pub invariant-loop-b : goal.invariant-loop-b
 invariant-loop-b l = record {
   can : goal.iterator-loop-b.can_next l.b-iterator;
   ends : goal.iterator-loop-b.is_finite l.b-iterator;
-  rows : l.rows.items ≡ map (unboxed l.heading l.acl) (map (row_numbers number) l.yielded);
+  rows : l.rows.items ≡ map (unboxed l.heading l.commalist) (map (row_numbers number) l.yielded);
   fits : IsTrue (all_fit l.heading l.rows.items);
 }

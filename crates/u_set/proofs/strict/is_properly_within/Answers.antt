@@ -6,7 +6,7 @@ use Rattle.point_core.specs.Points.{number}
 use Rattle.value_core.specs.Values.{row_cmp}
 use Rattle.relation_core.specs.Parts.{kind_at}
 use Rattle.relation_core.proofs.FilterLemmas.{rows_ascend}
-use Rattle.packing_core.specs.Boxed.{boxed_cmp, unpacked_boxes}
+use Rattle.cell_packing.specs.Boxed.{boxed_cmp, unpacked_boxes}
 use Rattle.cell_core.specs.Cells.{row_numbers}
 use Rattle.cell_core.specs.Costs.{bound}
 use Rattle.u_set.specs.Boxes.{type_of, boxed}
@@ -18,26 +18,26 @@ pub returns-clause-answer : goal.returns-clause-answer
 returns-clause-answer g c =
     let left = c.args.left.now in
     let right = c.args.right.now in
-    let acl = c.args.acl.now in
-    let sides = ap length (c.as_slice.ensures.value ∙ c.in_ok-types.ensures) ∙ length-map acl (λ i. type_of (kind_at c.attributes.result.now i)) in
+    let commalist = c.args.commalist.now in
+    let sides = ap length (c.as_slice.ensures.value ∙ c.in_ok-types.ensures) ∙ length-map commalist (λ i. type_of (kind_at c.attributes.result.now i)) in
     let l = (λ t. map (row_numbers number) (c.as_slice-2.ensures.value t)) ∙ c.in_ok-l.ensures.rows in
     let r = (λ t. map (row_numbers number) (c.as_slice-3.ensures.value t)) ∙ c.in_ok-r.ensures.rows in
     let within =
-    within_rows left.heading acl c.requires.intervals left.rows right.rows (rows_ascend left c.to_boxes.ensures.relation) (rows_ascend right c.to_boxes-2.ensures.relation)
-    (relation_shaped left c.to_boxes.ensures.relation acl c.requires.intervals) (shaped_under left.heading right c.requires.heading c.to_boxes-2.ensures.relation acl c.requires.intervals) in
+    within_rows left.heading commalist c.requires.intervals left.rows right.rows (rows_ascend left c.to_boxes.ensures.relation) (rows_ascend right c.to_boxes-2.ensures.relation)
+    (relation_shaped left c.to_boxes.ensures.relation commalist c.requires.intervals) (shaped_under left.heading right c.requires.heading c.to_boxes-2.ensures.relation commalist c.requires.intervals) in
     let same =
-    same_rows left.heading acl c.requires.intervals left.rows right.rows (rows_ascend left c.to_boxes.ensures.relation) (rows_ascend right c.to_boxes-2.ensures.relation)
-    (relation_shaped left c.to_boxes.ensures.relation acl c.requires.intervals) (shaped_under left.heading right c.requires.heading c.to_boxes-2.ensures.relation acl c.requires.intervals) in
+    same_rows left.heading commalist c.requires.intervals left.rows right.rows (rows_ascend left c.to_boxes.ensures.relation) (rows_ascend right c.to_boxes-2.ensures.relation)
+    (relation_shaped left c.to_boxes.ensures.relation commalist c.requires.intervals) (shaped_under left.heading right c.requires.heading c.to_boxes-2.ensures.relation commalist c.requires.intervals) in
     subst (λ s. IfOk c.u_proper_subset.result (λ b. b ≡ s))
     ((λ t. is_within (boxed_cmp row_cmp) (unpacked_boxes row_cmp (sides t) (l t)) (unpacked_boxes row_cmp (sides t) (r t)) && not (are_same (boxed_cmp row_cmp) (unpacked_boxes row_cmp (sides t) (l t)) (unpacked_boxes row_cmp (sides t) (r t))))
     ∙ (λ t. within t && not (same t))) c.u_proper_subset.ensures.answer
 
 pub returns-clause-cost : goal.returns-clause-cost
 returns-clause-cost g c =
-    let acl = c.args.acl.now in
-    let sides = ap length (c.as_slice.ensures.value ∙ c.in_ok-types.ensures) ∙ length-map acl (λ i. type_of (kind_at c.attributes.result.now i)) in
+    let commalist = c.args.commalist.now in
+    let sides = ap length (c.as_slice.ensures.value ∙ c.in_ok-types.ensures) ∙ length-map commalist (λ i. type_of (kind_at c.attributes.result.now i)) in
     let l = (λ t. map (row_numbers number) (c.as_slice-2.ensures.value t)) ∙ c.in_ok-l.ensures.rows in
     let r = (λ t. map (row_numbers number) (c.as_slice-3.ensures.value t)) ∙ c.in_ok-r.ensures.rows in
-    let many = sym (length-map c.as_slice-2.result.now (row_numbers number)) ∙ ap length l ∙ length-map c.args.left.now.rows (boxed acl) in
-    let more = sym (length-map c.as_slice-3.result.now (row_numbers number)) ∙ ap length r ∙ length-map c.args.right.now.rows (boxed acl) in
+    let many = sym (length-map c.as_slice-2.result.now (row_numbers number)) ∙ ap length l ∙ length-map c.args.left.now.rows (boxed commalist) in
+    let more = sym (length-map c.as_slice-3.result.now (row_numbers number)) ∙ ap length r ∙ length-map c.args.right.now.rows (boxed commalist) in
     subst (λ b. c.u_proper_subset.new.steps ≤ c.args.steps.now + b) (λ t. bound (many t + more t) (sides t)) c.u_proper_subset.ensures.cost

@@ -4,7 +4,7 @@ use Rattle.std.proofs.lemmas.List.{map-append}
 use Rattle.std.proofs.lemmas.List.Elements.{recursion_from_All}
 use Rattle.value_core.specs.Order.{row_total, row_separates}
 use Rattle.value_core.specs.Values.{row_cmp}
-use Rattle.packing_core.specs.Boxed.{packed_boxes}
+use Rattle.cell_packing.specs.Boxed.{packed_boxes}
 use Rattle.cell_core.specs.Cells.{row_numbers}
 use Rattle.cell_core.specs.declared.boxes.CellRefuse.TheVariants.{Limit as OfLimit}
 use Rattle.cell_core.proofs.BackLemmas.{box_length}

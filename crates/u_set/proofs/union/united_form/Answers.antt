@@ -5,7 +5,7 @@ use Rattle.base_core.specs.Sets.{union_of}
 use Rattle.point_core.specs.Points.{number}
 use Rattle.value_core.specs.Values.{row_cmp, most_rows}
 use Rattle.relation_core.specs.Parts.{kind_at}
-use Rattle.packing_core.specs.Boxed.{boxed_cmp, packed_boxes, unpacked_boxes}
+use Rattle.cell_packing.specs.Boxed.{boxed_cmp, packed_boxes, unpacked_boxes}
 use Rattle.cell_core.specs.Cells.{row_numbers}
 use Rattle.cell_core.specs.Costs.{bound}
 use Rattle.cell_core.specs.declared.boxes.CellRefuse.TheVariants.{Limit as OfLimit}
@@ -14,8 +14,8 @@ use Rattle.u_set.proofs.union.united_form.Goals as goal
 
 pub returns-clause-rows : goal.returns-clause-rows
 returns-clause-rows g c =
-    let acl = c.args.acl.now in
-    let sides = ap length (c.as_slice.ensures.value ∙ c.in_ok-types.ensures) ∙ length-map acl (λ i. type_of (kind_at c.attributes.result.now i)) in
+    let commalist = c.args.commalist.now in
+    let sides = ap length (c.as_slice.ensures.value ∙ c.in_ok-types.ensures) ∙ length-map commalist (λ i. type_of (kind_at c.attributes.result.now i)) in
     let l = (λ t. map (row_numbers number) (c.as_slice-2.ensures.value t)) ∙ c.in_ok-l.ensures.rows in
     let r = (λ t. map (row_numbers number) (c.as_slice-3.ensures.value t)) ∙ c.in_ok-r.ensures.rows in
     subst (λ s. IfOk c.u_union.result (λ v. map (row_numbers number) v.items ≡ s))
@@ -23,8 +23,8 @@ returns-clause-rows g c =
 
 pub returns-clause-limit : goal.returns-clause-limit
 returns-clause-limit g c =
-    let acl = c.args.acl.now in
-    let sides = ap length (c.as_slice.ensures.value ∙ c.in_ok-types.ensures) ∙ length-map acl (λ i. type_of (kind_at c.attributes.result.now i)) in
+    let commalist = c.args.commalist.now in
+    let sides = ap length (c.as_slice.ensures.value ∙ c.in_ok-types.ensures) ∙ length-map commalist (λ i. type_of (kind_at c.attributes.result.now i)) in
     let l = (λ t. map (row_numbers number) (c.as_slice-2.ensures.value t)) ∙ c.in_ok-l.ensures.rows in
     let r = (λ t. map (row_numbers number) (c.as_slice-3.ensures.value t)) ∙ c.in_ok-r.ensures.rows in
     subst (λ s. c.u_union.result ≡ Err OfLimit → most_rows < length s)
@@ -32,10 +32,10 @@ returns-clause-limit g c =
 
 pub returns-clause-cost : goal.returns-clause-cost
 returns-clause-cost g c =
-    let acl = c.args.acl.now in
-    let sides = ap length (c.as_slice.ensures.value ∙ c.in_ok-types.ensures) ∙ length-map acl (λ i. type_of (kind_at c.attributes.result.now i)) in
+    let commalist = c.args.commalist.now in
+    let sides = ap length (c.as_slice.ensures.value ∙ c.in_ok-types.ensures) ∙ length-map commalist (λ i. type_of (kind_at c.attributes.result.now i)) in
     let l = (λ t. map (row_numbers number) (c.as_slice-2.ensures.value t)) ∙ c.in_ok-l.ensures.rows in
     let r = (λ t. map (row_numbers number) (c.as_slice-3.ensures.value t)) ∙ c.in_ok-r.ensures.rows in
-    let many = sym (length-map c.as_slice-2.result.now (row_numbers number)) ∙ ap length l ∙ length-map c.args.left.now.rows (boxed acl) in
-    let more = sym (length-map c.as_slice-3.result.now (row_numbers number)) ∙ ap length r ∙ length-map c.args.right.now.rows (boxed acl) in
+    let many = sym (length-map c.as_slice-2.result.now (row_numbers number)) ∙ ap length l ∙ length-map c.args.left.now.rows (boxed commalist) in
+    let more = sym (length-map c.as_slice-3.result.now (row_numbers number)) ∙ ap length r ∙ length-map c.args.right.now.rows (boxed commalist) in
     subst (λ b. c.u_union.new.steps ≤ c.args.steps.now + b) (λ t. bound (many t + more t) (sides t)) c.u_union.ensures.cost

@@ -36,7 +36,7 @@ invariant_of-self-in-Values g c =
     let meant = subst (λ (r : Ready). after_assignments s.relvars list ≡ Ok (with_ready r s.relvars)) c.in-Values.is c.in_ok-changes.ensures.meant in (
       subst IsKept (λ i. record { ordinals = sym c.exchange_all.ensures.ordinals i; relvars = sym c.exchange_all.ensures.list i })
           (assigned_kept s c.in-Values.changes.items list c.self.invariant.0 ready meant),
-      c.exchange_all.ensures.marked,
+      c.exchange_all.ensures.hashed,
     )
 
 pub invariant_of-self-in-Rows : goal.invariant_of-self-in-Rows
@@ -47,5 +47,5 @@ invariant_of-self-in-Rows g c =
     let meant = subst (λ (r : Ready). after_assignments s.relvars list ≡ Ok (with_ready r s.relvars)) c.in-Rows.is c.in_ok-changes.ensures.meant in (
       subst IsKept (λ i. record { ordinals = sym c.exchange_rows.ensures.ordinals i; relvars = sym c.in_ok-exchange_rows-in-Rows.ensures.list i })
           (renewed_kept s c.in-Rows.at c.in-Rows.rows list c.self.invariant.0 ready meant),
-      c.exchange_rows.ensures.marked,
+      c.exchange_rows.ensures.hashed,
     )

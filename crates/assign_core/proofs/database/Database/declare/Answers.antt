@@ -18,4 +18,4 @@ append_all-requires c =
 pub invariant_of-self : goal.invariant_of-self
 invariant_of-self c =
     let made = subst (λ (r : Relvars). IsWellMade (declared (read_relvars r) (map read_declaration c.args.list.items))) (sym c.self.view_is) c.requires in
-    (declared_kept (read_relvars c.self.inside.relvars) (read_relvars c.append_all.new.relvars) (map read_declaration c.args.list.items) c.in-Ok.ensures.ok c.self.invariant.0 made, c.no_marks.ensures.marked _)
+    (declared_kept (read_relvars c.self.inside.relvars) (read_relvars c.append_all.new.relvars) (map read_declaration c.args.list.items) c.in-Ok.ensures.ok c.self.invariant.0 made, c.no_hashes.ensures.hashed _)

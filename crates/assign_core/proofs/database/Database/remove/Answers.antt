@@ -27,5 +27,5 @@ invariant_of-self c =
     let made = subst (λ (r : Relvars). IsWellMade (without c.args.name.now (read_relvars r))) (sym c.self.view_is) c.requires.well_made in (
       removed_kept (read_relvars c.self.inside.relvars) (read_relvars (record { list = c.shift_remove.new.self; ordinals = c.self.inside.relvars.ordinals })) c.args.name.now
           (left_is c) c.self.invariant.0 made,
-      c.no_marks.ensures.marked _,
+      c.no_hashes.ensures.hashed _,
     )

@@ -11,12 +11,12 @@ use Rattle.utd_session.proofs.feeding.Session.end.Goals as goal
 
 pub invariant_of-self : goal.invariant_of-self
 invariant_of-self g c =
-    let b = with_more c.args.self.now c.reply_to_end.new.unfinished c.args.front.now c.reply_to_end.ensures.size c.reply_to_end.ensures.start c.reply_to_end.ensures.next in
+    let b = with_more c.args.self.now c.reply_to_end.new.unfinished c.args.prefix.now c.reply_to_end.ensures.size c.reply_to_end.ensures.start c.reply_to_end.ensures.next in
     record { few = c.requires.few; numbered = b.0; begun = b.1; placed = b.2 }
 
 pub invariant_of-self-in_default-write_all : goal.invariant_of-self-in_default-write_all
 invariant_of-self-in_default-write_all g c =
-    let b = with_more c.args.self.now c.reply_to_end.new.unfinished c.args.front.now c.reply_to_end.ensures.size c.reply_to_end.ensures.start c.reply_to_end.ensures.next in
+    let b = with_more c.args.self.now c.reply_to_end.new.unfinished c.args.prefix.now c.reply_to_end.ensures.size c.reply_to_end.ensures.start c.reply_to_end.ensures.next in
     record { few = c.requires.few; numbered = b.0; begun = b.1; placed = b.2 }
 
 pub returns-in_default-write_all-clause-write : goal.returns-in_default-write_all-clause-write
@@ -36,7 +36,7 @@ returns-in_default-write_all-clause-write g c bytes rs h e =
 pub invariant_of-self-2 : goal.invariant_of-self-2
 invariant_of-self-2 g c =
     let old = c.args.self.now in
-    let b = with_more old c.reply_to_end.new.unfinished c.args.front.now c.reply_to_end.ensures.size c.reply_to_end.ensures.start c.reply_to_end.ensures.next in
+    let b = with_more old c.reply_to_end.new.unfinished c.args.prefix.now c.reply_to_end.ensures.size c.reply_to_end.ensures.start c.reply_to_end.ensures.next in
     let start_line = ap (λ (p : Place). p.line) c.restart.ensures.start in
     let start_column = ap (λ (p : Place). p.column) c.restart.ensures.start in
     let next_line = ap (λ (p : Place). p.line) c.restart.ensures.place in
@@ -50,15 +50,15 @@ invariant_of-self-2 g c =
 
 pub returns-clause-performed : goal.returns-clause-performed
 returns-clause-performed g c bytes rs h ends =
-    let front = c.args.front.now in
+    let prefix = c.args.prefix.now in
     let old = c.args.self.now in
     let new = c.restart.new.self in
     let u = c.in-Ok.ensures.more (cut bytes).place (cut bytes).rest h.unfinished in
     let q = c.in-Ok.ensures.reply (cut bytes).place (cut bytes).rest h.unfinished in
     let r : Reading = q.0 in
-    let e = is_end old bytes front rs r c.in-Ok.reply.accepted (state_of c.reply_to_end.new.database) h ends q.1 q.2.1 q.3 in
+    let e = is_end old bytes prefix rs r c.in-Ok.reply.accepted (state_of c.reply_to_end.new.database) h ends q.1 q.2.1 q.3 in
     let text = q.2.0 ∙ text_is old bytes rs r h in
-    let w = c.restart.ensures.next (cut bytes).place ((cut bytes).rest ++ front) u in (
+    let w = c.restart.ensures.next (cut bytes).place ((cut bytes).rest ++ prefix) u in (
       r,
       q.1,
       (
@@ -67,7 +67,7 @@ returns-clause-performed g c bytes rs h ends =
           state_is = e.left;
           accepted = c.both-self.ensures ∙ e.accepted;
           number = e.number;
-          unfinished = subst (λ p. IsUnfinished new p (cut (bytes ++ front)).rest) (sym e.place_is) (subst (IsUnfinished new _) (sym e.rest_is) w);
+          unfinished = subst (λ p. IsUnfinished new p (cut (bytes ++ prefix)).rest) (sym e.place_is) (subst (IsUnfinished new _) (sym e.rest_is) w);
           since = subst (Since c.new-self.result) (sym e.rest_is) c.new-self.ensures;
           fed = e.fed;
         },
@@ -76,10 +76,10 @@ returns-clause-performed g c bytes rs h ends =
     )
 
 pub returns-in_default-clause-cost : goal.returns-in_default-clause-cost
-returns-in_default-clause-cost g c bytes rs h = taken_in c.args.self.now bytes rs c.args.front.now _ _ h (c.reply_to_end.ensures.cost (cut bytes).place (cut bytes).rest h.unfinished)
+returns-in_default-clause-cost g c bytes rs h = taken_in c.args.self.now bytes rs c.args.prefix.now _ _ h (c.reply_to_end.ensures.cost (cut bytes).place (cut bytes).rest h.unfinished)
 
 pub returns-in_default-write_all-clause-cost : goal.returns-in_default-write_all-clause-cost
-returns-in_default-write_all-clause-cost g c bytes rs h = taken_in c.args.self.now bytes rs c.args.front.now _ _ h (c.reply_to_end.ensures.cost (cut bytes).place (cut bytes).rest h.unfinished)
+returns-in_default-write_all-clause-cost g c bytes rs h = taken_in c.args.self.now bytes rs c.args.prefix.now _ _ h (c.reply_to_end.ensures.cost (cut bytes).place (cut bytes).rest h.unfinished)
 
 pub returns-clause-cost : goal.returns-clause-cost
-returns-clause-cost g c bytes rs h = taken_in c.args.self.now bytes rs c.args.front.now _ _ h (c.reply_to_end.ensures.cost (cut bytes).place (cut bytes).rest h.unfinished)
+returns-clause-cost g c bytes rs h = taken_in c.args.self.now bytes rs c.args.prefix.now _ _ h (c.reply_to_end.ensures.cost (cut bytes).place (cut bytes).rest h.unfinished)

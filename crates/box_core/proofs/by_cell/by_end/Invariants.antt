@@ -1,6 +1,0 @@
-use Rattle.box_core.specs.Tallies.{span_at}
-use Rattle.box_core.proofs.CellLemmas.{ArePairs}
-use Rattle.box_core.proofs.by_cell.by_end.Given as goal
-
-abbrev pub invariant-loop-r : goal.invariant-loop-r
-invariant-loop-r l = ArePairs (λ r. (span_at l.spans r).1) l.fn.rows.0 l.r l.out.items

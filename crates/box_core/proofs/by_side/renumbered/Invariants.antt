@@ -1,6 +1,0 @@
-use Rattle.std.proofs.Common.{◌≡◌, map, take}
-use Rattle.box_core.specs.Sides.{renumbered}
-use Rattle.box_core.proofs.by_side.renumbered.Given as goal
-
-abbrev pub invariant-loop-p : goal.invariant-loop-p
-invariant-loop-p l = l.out.items ≡ map (renumbered l.lefts l.rights) (take l.p-index l.pairs)

@@ -1,6 +1,0 @@
-use Rattle.std.proofs.Common.{◌≡◌, ◌++◌, map, take}
-use Rattle.box_core.specs.Meetings.{turned}
-use Rattle.box_core.proofs.later.push_turned.Given as goal
-
-abbrev pub invariant-loop-p : goal.invariant-loop-p
-invariant-loop-p l = l.out.items ≡ l.fn.out.items ++ map turned (take l.p-index l.pairs)

@@ -1,0 +1,10 @@
+use Rattle.std.proofs.Common.{◌≡◌, ◌++◌, map}
+use Rattle.cell_boxes.specs.Groups.{longer}
+use Rattle.cell_boxes.proofs.covering.push_longer.Given as goal
+
+abbrev pub invariant-loop-row : goal.invariant-loop-row
+invariant-loop-row g l = record {
+  can : (goal.iterator-loop-row g).can_next l.row-iterator;
+  ends : (goal.iterator-loop-row g).is_finite l.row-iterator;
+  items : l.out.items ≡ l.fn.out.items ++ map (longer l.cells) l.yielded;
+}

@@ -1,6 +1,0 @@
-use Rattle.std.proofs.Common.{◌≡◌, ◌^◌, ◌-◌, min, take}
-use Rattle.cell_core.specs.Places.{volume}
-use Rattle.cell_core.proofs.places.volume_of.Given as goal
-
-abbrev pub invariant-loop-span : goal.invariant-loop-span
-invariant-loop-span l = l.product ≡ min (volume (take l.span-index l.spans)) (2 ^ 128 - 1)

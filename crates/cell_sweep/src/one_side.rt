@@ -1,0 +1,64 @@
+// Rows over numbered cells on one side, packed for all labels at once.
+ghost use Rattle.std.specs.Prelude.{◌≡◌, ℕ, ◌↔◌, List, length, ◌++◌, flat_map, get_or, IfOk, OnOk};
+ghost use Rattle.std.specs.List.Sorted.{IsStrictlySortedBy};
+ghost use Rattle.cell_packing.specs.Covering.{Among};
+ghost use Rattle.cell_packing.specs.Packed.{no_cells};
+ghost use Rattle.cell_sweep.specs.PackedRows.{IsPackedOf, own_piece};
+ghost use Rattle.cell_sweep.specs.Rows.{key_cmp};
+
+use crate::inward::with_sides;
+use crate::key::CellBox;
+use cell_packing::{Piece, join};
+use point_core::{Label, Memory};
+use std::alloc::Global;
+
+// The cells of the first side; none where there are no sides.
+fn first_cells(sides: &[(usize, usize)]) -> (usize, usize)
+    ensures { result ≡ get_or sides.now 0 no_cells }
+{
+    if sides.is_empty() {
+        return (0, 0);
+    }
+    sides[0]
+}
+
+// The row's cells on its first side, as a piece of its label; none where there are no cells. The room of its sides
+// stays with the piece.
+fn push_piece<P: Drop>(out: &mut Vec<Piece<CellBox<P>>>, row: CellBox<P>) -> Result<(), Memory>
+    ensures { OnOk result (out.new.items ≡ out.old.items ++ own_piece row) }
+{
+    let mut key = row;
+    let (begin, end) = first_cells(key.sides.as_slice());
+    key.sides.clear();
+    if begin < end {
+        out.push(Piece { key, begin, end })?;
+    }
+    Ok(())
+}
+
+fn pieces_of<P: Drop>(
+    alloc: Global,
+    rows: Vec<CellBox<P>>,
+) -> Result<Vec<Piece<CellBox<P>>>, Memory>
+    ensures { IfOk result (λ v. v.items ≡ flat_map own_piece rows.items) }
+{
+    let mut out = Vec::with_capacity(alloc, rows.len())?;
+    for row in rows {
+        push_piece(&mut out, row)?;
+    }
+    Ok(out)
+}
+
+// The packed form of the rows on their first side, in the order of labels and then of cells.
+pub fn on_first_side<P: Label>(
+    alloc: Global,
+    rows: Vec<CellBox<P>>,
+) -> Result<Vec<CellBox<P>>, Memory>
+    ensures rows { IfOk result (λ v. (x : P × List (ℕ × ℕ)) → Among x v.items ↔ (length x.1 ≡ 1) × IsPackedOf 1 rows.items x) }
+    ensures sorted { IfOk result (λ v. IsStrictlySortedBy (key_cmp P.order) v.items) }
+{
+    let pieces = pieces_of(alloc, rows)?;
+    let runs = join(alloc, pieces)?;
+    let packed = with_sides(alloc, runs)?;
+    Ok(packed)
+}

@@ -1,0 +1,10 @@
+pub mod ChangeLemmas
+pub mod ExchangeLemmas
+pub mod InsertionLemmas
+pub mod LabelLemmas
+pub mod PartLemmas
+pub mod PlaceLemmas
+pub mod PrefixLemmas
+pub mod ReplacementLemmas
+pub mod RowFilterLemmas
+pub mod TwiceLemmas

@@ -1,0 +1,4 @@
+pub mod Affected
+pub mod Exchanges
+pub mod Prefixes
+pub mod RowFilters

@@ -1,0 +1,16 @@
+//! Rows that a change by a condition concerns.
+#![tactic(auto)]
+
+mod exchange;
+mod finding;
+mod insertion;
+mod prefixes;
+mod replacement;
+mod row_filters;
+mod safety;
+mod telling;
+
+pub use exchange::Exchange;
+pub use finding::{affected, affected_by_both};
+pub use insertion::inserted;
+pub use replacement::{replaced, replaced_and_inserted};

@@ -1,0 +1,13 @@
+pub mod BoxedLaws
+pub mod Cells
+pub mod Columns
+pub mod ConditionLaws
+pub mod Extended
+pub mod ExtensionLaws
+pub mod Holding
+pub mod Labels
+pub mod PlaceRows
+pub mod Spots
+pub mod SteadyLaws
+pub mod Swept
+pub mod Using

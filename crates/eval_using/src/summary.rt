@@ -1,0 +1,104 @@
+// SUMMARIZE under USING.
+ghost use Rattle.std.specs.Prelude.{◌≡◌, ℕ, ◌≤◌, ◌+◌, ◌++◌, List, length, map};
+ghost use Rattle.base_core.specs.Outcomes.{then_give};
+ghost use Rattle.relation_core.specs.Agreement.{names_of};
+ghost use Rattle.relation_core.specs.Answers.{Answers, under};
+ghost use Rattle.relation_core.specs.Groups.{rows_at, summarized};
+ghost use Rattle.tree_core.specs.Trees.{read_aggregate};
+ghost use Rattle.cell_core.specs.Costs.{bound};
+ghost use Rattle.meaning_core.specs.Meanings.{opened, closed};
+ghost use Rattle.meaning_core.specs.Places.{places};
+ghost use Rattle.meaning_core.specs.Rows.{aggregate_names, group_row};
+ghost use Rattle.meaning_core.specs.Typing.{IsSummary, IsList};
+ghost use Rattle.eval_using.specs.Using.{around, listed, HasList, IsSummedBy};
+
+use crate::boxes::summary_form;
+use crate::listed;
+use cell_core::CellRefuse;
+use point_core::{Place, Steps, Stop};
+use row_making::{aggregate_places, or_fault_at};
+use std::alloc::Global;
+use std::sync::ledger::Ledger;
+use tree_core::{Aggregate, Aggregates};
+use u_set::from_boxes;
+use value_core::{Heading, Relation, RowsRefuse};
+
+/// A row for each group of the relation's rows at each point, or the least fault of an aggregate.
+pub fn using_summary<L: Ledger>(
+    alloc: Global,
+    place: Place,
+    heading: &Heading,
+    commalist: &[usize],
+    by: &[usize],
+    aggregates: &Aggregates,
+    r: &Relation,
+    steps: &mut Steps<L>,
+) -> Result<Relation, Stop>
+    requires summary { (sizes : List ℕ) × IsSummary sizes r.now.heading heading.now by.now (map read_aggregate aggregates.now) }
+    requires list { IsList heading.now commalist.now }
+    requires listed { HasList heading.now commalist.now r.now.heading }
+    requires summed { IsSummedBy heading.now commalist.now r.now.heading by.now (map read_aggregate aggregates.now) }
+    ensures value { Answers result (under heading.now
+        (then_give (summarized by.now
+        (λ numbers. group_row r.now.heading heading.now (map read_aggregate aggregates.now)
+        (rows_at (opened (around place heading.now commalist.now) r.now.heading r.now.rows) numbers))
+        (opened (around place heading.now commalist.now) r.now.heading r.now.rows))
+        (closed (around place heading.now commalist.now) place heading.now))) }
+    ensures cost { steps.new ≤ steps.old + bound (length r.now.rows) (length commalist.now) }
+{
+    let attributes = heading.attributes();
+    let from = r.heading().attributes();
+    let list = aggregates.list.as_slice();
+    let here = listed(alloc, attributes, commalist, from)?;
+    let at = aggregate_places(alloc, list, from, attributes)?;
+    summarized_by_boxes(
+        alloc,
+        place,
+        heading,
+        commalist,
+        here.as_slice(),
+        at.as_slice(),
+        by,
+        list,
+        r,
+        steps,
+    )
+}
+
+// The same by the positions of the listed attributes among the relation's, and the places of the values of a group's row.
+fn summarized_by_boxes<L: Ledger>(
+    alloc: Global,
+    place: Place,
+    heading: &Heading,
+    commalist: &[usize],
+    here: &[usize],
+    at: &[usize],
+    by: &[usize],
+    aggregates: &[Aggregate],
+    r: &Relation,
+    steps: &mut Steps<L>,
+) -> Result<Relation, Stop>
+    requires summary { (sizes : List ℕ) × IsSummary sizes r.now.heading heading.now by.now (map read_aggregate aggregates.now) }
+    requires list { IsList heading.now commalist.now }
+    requires listed { HasList heading.now commalist.now r.now.heading }
+    requires summed { IsSummedBy heading.now commalist.now r.now.heading by.now (map read_aggregate aggregates.now) }
+    requires here { here.now ≡ listed heading.now commalist.now r.now.heading }
+    requires places { at.now ≡ places (aggregate_names (map read_aggregate aggregates.now) ++ names_of r.now.heading) heading.now }
+    ensures value { Answers result (under heading.now
+        (then_give (summarized by.now
+        (λ numbers. group_row r.now.heading heading.now (map read_aggregate aggregates.now)
+        (rows_at (opened (around place heading.now commalist.now) r.now.heading r.now.rows) numbers))
+        (opened (around place heading.now commalist.now) r.now.heading r.now.rows))
+        (closed (around place heading.now commalist.now) place heading.now))) }
+    ensures cost { steps.new ≤ steps.old + bound (length r.now.rows) (length commalist.now) }
+{
+    let _attributes = heading.attributes();
+    let _rows = r.rows();
+    let whole = heading.copy(alloc)?;
+    match summary_form(alloc, here, commalist, at, by, aggregates, r, steps) {
+        Ok(form) => or_fault_at(place, from_boxes(alloc, whole, commalist, form)),
+        Err(CellRefuse::Limit) => or_fault_at(place, Err(RowsRefuse::TooMany)),
+        Err(CellRefuse::Op(fault)) => Err(Stop::Fault(fault)),
+        Err(CellRefuse::Memory) => Err(Stop::Memory),
+    }
+}

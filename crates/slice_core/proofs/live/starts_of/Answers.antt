@@ -1,6 +1,0 @@
-use Rattle.slice_core.specs.Rows.{sides_of}
-use Rattle.slice_core.proofs.Sweeping.{starts_from}
-use Rattle.slice_core.proofs.live.starts_of.Goals as goal
-
-pub returns : goal.returns
-returns c = starts_from (sides_of c.args.boxes.now) c.args.side c.args.rows.now c.in_ok-starts.starts.items c.sort.new.self.items c.in_ok-starts.ensures c.in_ok-sort.ensures.permutation c.in_ok-sort.ensures.sorted

@@ -1,7 +1,0 @@
-use Rattle.std.proofs.Common.{◌≡◌, take}
-use Rattle.slice_core.specs.Rows.{sides_of}
-use Rattle.slice_core.specs.TwoSides.{bare_spans}
-use Rattle.slice_core.proofs.runs.first_spans.Given as goal
-
-abbrev pub invariant-loop-r : goal.invariant-loop-r
-invariant-loop-r l = l.out.items ≡ bare_spans (sides_of l.boxes) (take l.r-index l.live)

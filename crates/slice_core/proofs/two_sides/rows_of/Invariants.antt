@@ -1,6 +1,0 @@
-use Rattle.std.proofs.Common.{◌≡◌, take, map}
-use Rattle.slice_core.specs.TwoSides.{slab_row}
-use Rattle.slice_core.proofs.two_sides.rows_of.Given as goal
-
-abbrev pub invariant-loop-piece : goal.invariant-loop-piece
-invariant-loop-piece l = l.out.items ≡ map slab_row (take l.piece-index l.pieces)

@@ -1,4 +1,0 @@
-pub mod FrontLemmas
-pub mod GuardLemmas
-pub mod PlaceLemmas
-pub mod PartLemmas

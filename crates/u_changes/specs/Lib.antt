@@ -1,3 +1,0 @@
-pub mod Concerned
-pub mod Guards
-pub mod Fronts

@@ -1,8 +1,0 @@
-use Rattle.std.proofs.Common.{◌≡◌, true, take}
-use Rattle.std.specs.List.{list_all, list_any}
-use Rattle.u_constraints.specs.Fronts.{begins_with}
-use Rattle.u_constraints.proofs.search.are_fronts.Given as goal
-
--- the lists so far are all found
-abbrev pub invariant-loop-values : goal.invariant-loop-values
-invariant-loop-values l = list_all (λ values. list_any (begins_with values) l.rows) (take l.values-index l.list) ≡ true

@@ -1,7 +1,0 @@
-use Rattle.std.proofs.Common.{◌≡◌, take}
-use Rattle.std.specs.List.{filter, flat_map}
-use Rattle.u_constraints.specs.Fronts.{begins_with}
-use Rattle.u_constraints.proofs.search.rows_with_fronts.Given as goal
-
-abbrev pub invariant-loop-values : goal.invariant-loop-values
-invariant-loop-values l = l.rows.items ≡ flat_map (λ values. filter (begins_with values) l.r.rows) (take l.values-index l.list)

@@ -1,6 +1,0 @@
-pub mod AskedLemmas
-pub mod CellGroups
-pub mod FirstLemmas
-pub mod NumberedLemmas
-pub mod PointGroups
-pub mod RankLemmas

@@ -1,4 +1,0 @@
-use Rattle.u_groups.proofs.asking.AskingCellOp.apply.Goals as goal
-
-pub firsts_at-requires : goal.firsts_at-requires
-firsts_at-requires g c = record { places = c.requires.1; numbers = c.requires.2 }

@@ -1,6 +1,0 @@
-use Rattle.std.proofs.Common.{refl}
-use Rattle.u_groups.proofs.CellGroups.{least_alone}
-use Rattle.u_groups.proofs.cells.given_of_keys.Goals as goal
-
-pub returns-clause-least : goal.returns-clause-least
-returns-clause-least g c = least_alone _ _ _ refl c.in_ok-out.ensures.least

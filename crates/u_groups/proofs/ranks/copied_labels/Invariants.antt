@@ -1,6 +1,0 @@
-use Rattle.std.proofs.Common.{◌≡◌, take}
-use Rattle.u_groups.specs.Groups.{labels_in}
-use Rattle.u_groups.proofs.ranks.copied_labels.Given as goal
-
-abbrev pub invariant-loop-row : goal.invariant-loop-row
-invariant-loop-row l = l.list.items ≡ labels_in (take l.row-index l.rows)

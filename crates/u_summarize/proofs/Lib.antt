@@ -1,0 +1,13 @@
+pub mod AskedLemmas
+pub mod CellGroups
+pub mod CellTallies
+pub mod CountLemmas
+pub mod EntryLemmas
+pub mod ExtremeLemmas
+pub mod FigureLemmas
+pub mod FirstLemmas
+pub mod NumberedLemmas
+pub mod PickedLemmas
+pub mod PointGroups
+pub mod RankLemmas
+pub mod SumLemmas

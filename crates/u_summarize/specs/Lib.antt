@@ -1,0 +1,7 @@
+pub mod Asked
+pub mod Counts
+pub mod Entries
+pub mod Extremes
+pub mod Figures
+pub mod Groups
+pub mod Picked

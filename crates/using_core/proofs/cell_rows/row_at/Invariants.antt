@@ -1,7 +1,0 @@
-use Rattle.std.proofs.Common.{map}
-use Rattle.value_core.specs.Plain.{plain}
-use Rattle.using_core.proofs.CellRowLemmas.{ArePut}
-use Rattle.using_core.proofs.cell_rows.row_at.Given as goal
-
-abbrev pub invariant-loop-j : goal.invariant-loop-j
-invariant-loop-j l = ArePut l.row l.acl l.at l.j (map plain l.values.items)

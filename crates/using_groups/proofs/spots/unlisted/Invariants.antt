@@ -1,6 +1,0 @@
-use Rattle.std.proofs.Common.{◌≡◌, take}
-use Rattle.u_row.specs.Kept.{unlisted}
-use Rattle.using_groups.proofs.spots.unlisted.Given as goal
-
-abbrev pub invariant-loop-i : goal.invariant-loop-i
-invariant-loop-i l = l.kept.items ≡ unlisted l.acl (take l.i-index l.by)

@@ -1,3 +1,0 @@
-pub mod Labels
-pub mod Columns
-pub mod Spots

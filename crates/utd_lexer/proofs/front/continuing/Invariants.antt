@@ -1,9 +1,0 @@
-use Rattle.std.proofs.Common.{◌≡◌, ◌-◌, ◌<◌, ◌≤◌, ℕ, true, length, get_or}
-use Rattle.utd_lexer.specs.Tokens.{continues}
-use Rattle.utd_lexer.proofs.front.continuing.Given as goal
-
-abbrev pub invariant-word : goal.invariant-word
-invariant-word l = (l.n ≤ length l.chars) × ((k d : ℕ) → k < l.n → continues (get_or l.chars k d) ≡ true)
-
-abbrev pub decreases-word : goal.decreases-word
-decreases-word l = length l.chars - l.n
