@@ -1,6 +1,10 @@
-//! The program without its entry, so that it has more than one: each has a stored run of its own.
+//! The top call, and the program without its entry: reads the words, has the script performed that they ask for, and ends with the status.
 #![tactic(auto)]
 
+mod outcome;
 mod standard;
+mod top;
 
+pub use outcome::Outcome;
 pub use standard::run_utd;
+pub use top::run;

@@ -5,6 +5,7 @@ ghost use Rattle.std.specs.declared.io.ErrorKind.TheVariants.{OutOfMemory};
 ghost use Rattle.utd_words.specs.Words.{asked};
 ghost use Rattle.utd_session.specs.Status.{number_of};
 
+use crate::top::run;
 use point_core::Steps;
 use std::alloc::Global;
 use std::marker::Brand;
@@ -12,7 +13,7 @@ use std::process::ExitCode;
 use std::sync::ledger::{Blank, Ledger};
 use std::{env, io};
 use utd_io::{StdErrSink, StdSink, StdSource, write_all};
-use utd_session::{Status, run};
+use utd_session::Status;
 
 // The status, with a counter of steps that nobody reads.
 fn status<L: Ledger>(

@@ -15,7 +15,7 @@ const FILES: [&str; 43] = [
     "ask.txt",
     "assign.txt",
     "compare.txt",
-    "affected.txt",
+    "concerned.txt",
     "constraint.txt",
     "drop.txt",
     "exchange.txt",

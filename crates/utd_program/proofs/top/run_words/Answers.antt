@@ -1,7 +1,7 @@
 use Rattle.std.proofs.Common.{ap}
 use Rattle.utd_session.specs.Status.{number_of}
-use Rattle.utd_session.proofs.GeneratedLemmas.{may_run_not, generates_not, may_pay_not, generates_free}
-use Rattle.utd_session.proofs.top.run_words.Goals as goal
+use Rattle.utd_program.proofs.GeneratedLemmas.{may_run_not, generates_not, may_pay_not, generates_free}
+use Rattle.utd_program.proofs.top.run_words.Goals as goal
 
 pub returns-in-Err-clause-machine : goal.returns-in-Err-clause-machine
 returns-in-Err-clause-machine g c of_input =

@@ -1,7 +1,7 @@
 use Rattle.std.proofs.Common.{ap}
 use Rattle.utd_session.specs.Status.{number_of}
-use Rattle.utd_session.proofs.GeneratedLemmas.{generates_not, generates_free}
-use Rattle.utd_session.proofs.top.run_generated.Goals as goal
+use Rattle.utd_program.proofs.GeneratedLemmas.{generates_not, generates_free}
+use Rattle.utd_program.proofs.top.run_generated.Goals as goal
 
 pub returns-in-Err-clause-run : goal.returns-in-Err-clause-run
 returns-in-Err-clause-run g c =
