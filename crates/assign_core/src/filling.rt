@@ -11,7 +11,8 @@ use point_core::Memory;
 use relation_core::{Hashes, hashes_of};
 use std::alloc::Global;
 use tree_core::{Assignment, Relvar, Relvars};
-use u_set::{is_listed, outside};
+use u_row::unlisted;
+use u_set::outside;
 use value_core::{Constraint, Name, Relation};
 
 /// Where the only target is a relvar that has hashes, hashes its rows for those of its constraints for which they are not hashed.
@@ -160,17 +161,6 @@ fn add_unpacked(
 {
     let positions = unlisted(alloc, commalist, key)?;
     add(alloc, value, positions.as_slice(), hashes)
-}
-
-// The positions of the key that are not in the list.
-fn unlisted(alloc: Global, commalist: &[usize], key: &[usize]) -> Result<Vec<usize>, Memory> {
-    let mut positions = Vec::new(alloc);
-    for position in key {
-        if !is_listed(commalist, *position) {
-            positions.push(*position)?;
-        }
-    }
-    Ok(positions)
 }
 
 // Hashes the rows for the positions, unless they are hashed for them or can be found without: rows that have the same values at the first

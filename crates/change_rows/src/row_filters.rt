@@ -8,27 +8,7 @@ use crate::safety::is_safe;
 use point_core::{Memory, Place};
 use scalar_core::{Parts, Scalar, ScalarForm, names_any};
 use std::alloc::Global;
-
-/// Two parts.
-fn parts(alloc: Global, left: Scalar, right: Scalar) -> Result<Parts, Memory>
-    ensures left { IfOk result (λ p. read_left p ≡ read left) }
-    ensures right { IfOk result (λ p. read_right p ≡ read right) }
-{
-    let left = Box::new(alloc, left)?;
-    let right = Box::new(alloc, right)?;
-    Ok(Parts { left, right })
-}
-
-/// Both conditions.
-fn both(alloc: Global, place: Place, left: Scalar, right: Scalar) -> Result<Scalar, Memory>
-    ensures { IfOk result (λ e. read e ≡ and_expr place (read left) (read right)) }
-{
-    let parts = parts(alloc, left, right)?;
-    Ok(Scalar {
-        place,
-        form: ScalarForm::And(parts),
-    })
-}
+use tree_core::{conjunction, parts};
 
 /// Either condition.
 fn either(alloc: Global, place: Place, left: Scalar, right: Scalar) -> Result<Scalar, Memory>
@@ -55,7 +35,7 @@ fn row_filter_of_and(
         return Ok(left);
     }
     match (left, right) {
-        (Some(left), Some(right)) => Ok(Some(both(alloc, place, left, right)?)),
+        (Some(left), Some(right)) => Ok(Some(conjunction(alloc, place, left, right)?)),
         (Some(left), None) => Ok(Some(left)),
         (None, right) => Ok(right),
     }

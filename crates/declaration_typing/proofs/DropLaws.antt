@@ -16,12 +16,12 @@ use Rattle.value_core.specs.declared.constraint.HistoryRule.{HistoryRule}
 use Rattle.value_core.specs.Values.{Name, Heading}
 use Rattle.scalar_typing.proofs.SoundLemmas.{then-sound, any-given}
 use Rattle.relation_typing.specs.Attributes.{name_typed}
-use Rattle.tree_core.specs.Relvars.{State, PlainRelvar, base, view, Entries, relvar_named, relvar_heading, heading_if, constraints_if}
+use Rattle.tree_core.specs.Relvars.{State, PlainRelvar, base, view, Entries, relvar_named, relvar_heading, heading_if, constraints_if, rule_among}
 use Rattle.tree_core.specs.Trees.{Tree, named, literal, infix_of, project, rename, restrict, extend, summarize, pack, unpack, using}
 use Rattle.meaning_core.specs.Declarations.{without}
 use Rattle.meaning_core.specs.Histories.{joined_history, last_point, type_at, name_at}
 use Rattle.meaning_core.specs.Typing.{heading_named, IsTypedTree}
-use Rattle.meaning_core.specs.WellMade.{sizes_of, headings_of, FitsHeadings, IsBase, IsConstraint, rule_among, IsOfRule, IsHistory, IsRelvar, AreRelvars, IsWellMade}
+use Rattle.meaning_core.specs.WellMade.{sizes_of, headings_of, FitsHeadings, IsBase, IsConstraint, IsOfRule, IsHistory, IsRelvar, AreRelvars, IsWellMade}
 use Rattle.meaning_core.proofs.MadeLemmas.{same_name}
 use Rattle.meaning_core.proofs.RelvarLemmas.{heading_of_named}
 use Rattle.node_typing.specs.Positions.{check}

@@ -2,12 +2,13 @@
 ghost use Rattle.std.specs.Prelude.{◌≡◌, ◌<◌, ◌≤◌, ◌+◌, ℕ, List, map, length, get_or, IfOk, IfSome};
 ghost use Rattle.value_core.specs.Values.{Row as PlainRow};
 ghost use Rattle.u_set.specs.Boxes.{others};
-ghost use Rattle.u_row.specs.Kept.{unlisted, inner};
+ghost use Rattle.u_row.specs.Kept.{inner};
 ghost use Rattle.eval_using.specs.Columns.{ArePlaces};
 ghost use Rattle.eval_using.specs.Spots.{IsSpot, AreSpots};
 
 use point_core::Memory;
 use std::alloc::Global;
+use u_row::unlisted;
 use u_set::is_listed;
 
 // Where the position stands in the list, if it does.
@@ -78,19 +79,6 @@ fn others_of(alloc: Global, commalist: &[usize], list: &[usize]) -> Result<Vec<u
         let own = list[i];
         if !is_listed(commalist, i) {
             kept.push(own)?;
-        }
-    }
-    Ok(kept)
-}
-
-// Those of the positions that are not listed.
-fn unlisted(alloc: Global, commalist: &[usize], by: &[usize]) -> Result<Vec<usize>, Memory>
-    ensures { IfOk result (λ v. v.items ≡ unlisted commalist.now by.now) }
-{
-    let mut kept = Vec::new(alloc);
-    for i in by {
-        if !is_listed(commalist, *i) {
-            kept.push(*i)?;
         }
     }
     Ok(kept)

@@ -8,9 +8,8 @@ ghost use Rattle.scalar_typing.specs.Names.{AreOrdinals};
 ghost use Rattle.scalar_typing.specs.Typings.{value_or};
 ghost use Rattle.point_core.specs.declared.fault.Code.TheVariants.{E20};
 ghost use Rattle.tree_core.specs.Items.{read_item, read_item_form};
-ghost use Rattle.tree_core.specs.Relvars.{constraints_if, read_relvar, read_relvars};
+ghost use Rattle.tree_core.specs.Relvars.{constraints_if, read_relvar, read_relvars, rule_among};
 ghost use Rattle.meaning_core.specs.Endings.{history_if, rule_if};
-ghost use Rattle.meaning_core.specs.WellMade.{rule_among};
 ghost use Rattle.item_typing.specs.Endings as rules;
 
 use crate::changes::condition_if;
@@ -21,10 +20,10 @@ use relation_typing::{empty_heading, name_typed};
 use scalar_core::Scalar;
 use scalar_typing::{same_kind, type_scalar};
 use std::alloc::Global;
-use tree_core::{Item, ItemForm, Relvar, Relvars};
+use tree_core::{Item, ItemForm, Relvar, Relvars, rule_if};
 use utd_syntax as syntax;
 use utd_syntax::{Condition, Word};
-use value_core::{Constraint, Heading, HistoryRule, Kind, Name, OrdinalTypes};
+use value_core::{Heading, HistoryRule, Kind, Name, OrdinalTypes};
 
 /// What is told of the facts of a history that still hold: their heading, and the kind of the points since when they do.
 #[derive(Clone, Copy)]
@@ -46,39 +45,6 @@ fn history_typed(place: Place, relvar: &Relvar) -> Result<&(Name, Name), Fault>
             place,
             code: Code::E20,
         }),
-    }
-}
-
-/// The first rule of a history among the constraints.
-fn rule_among<'a>(constraints: &'a [Constraint]) -> Option<&'a HistoryRule>
-    ensures { option_map (λ r. r.now) result ≡ rule_among constraints.now }
-{
-    for constraint in constraints {
-        if let Constraint::History(rule) = constraint {
-            return Some(rule);
-        }
-    }
-    None
-}
-
-/// The rule of a history that stands with the relvar.
-fn rule_if<'a>(relvar: Option<&'a Relvar>) -> Option<&'a HistoryRule>
-    ensures { option_map (λ r. r.now) result ≡ rule_among (constraints_if (option_map (λ r. read_relvar r.now) relvar.entry)) }
-{
-    match relvar {
-        Some(
-            Relvar::Base {
-                value: _,
-                constraints,
-            },
-        ) => rule_among(constraints.list.as_slice()),
-        Some(
-            Relvar::View {
-                tree: _,
-                history: _,
-            },
-        ) => None,
-        None => None,
     }
 }
 

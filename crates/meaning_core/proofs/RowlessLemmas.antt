@@ -12,12 +12,12 @@ use Rattle.value_core.specs.declared.constraint.Constraint.{Constraint}
 use Rattle.value_core.specs.declared.constraint.Constraint.TheVariants.{Key, Packed, WhenUnpacked, UKey, Foreign, History}
 use Rattle.value_core.specs.declared.constraint.HistoryRule.{HistoryRule}
 use Rattle.value_core.specs.Values.{Name, Heading, Relation}
-use Rattle.tree_core.specs.Relvars.{PlainRelvar, base, view, Entries, State, relvar_named, relvar_heading, heading_if, constraints_if}
+use Rattle.tree_core.specs.Relvars.{PlainRelvar, base, view, Entries, State, relvar_named, relvar_heading, heading_if, constraints_if, rule_among}
 use Rattle.tree_core.specs.Trees.{Tree, named}
 use Rattle.meaning_core.specs.Histories.{joined_history, last_point, type_at, name_at}
 use Rattle.meaning_core.specs.Names.{with_value}
 use Rattle.meaning_core.specs.Typing.{is_declared, IsTypedTree}
-use Rattle.meaning_core.specs.WellMade.{sizes_of, headings_of, IsBase, FitsHeadings, FitsNamed, IsConstraint, rule_among, IsOfRule, IsHistory, IsRelvar, AreRelvars, IsWellMade, IsGiven}
+use Rattle.meaning_core.specs.WellMade.{sizes_of, headings_of, IsBase, FitsHeadings, FitsNamed, IsConstraint, IsOfRule, IsHistory, IsRelvar, AreRelvars, IsWellMade, IsGiven}
 
 -- ---- relvars without their rows
 

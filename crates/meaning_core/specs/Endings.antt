@@ -3,8 +3,7 @@
 use Rattle.std.specs.Prelude.{Option, Some, None}
 use Rattle.value_core.specs.declared.constraint.HistoryRule.{HistoryRule}
 use Rattle.value_core.specs.Values.{Name}
-use Rattle.tree_core.specs.Relvars.{PlainRelvar, base, view, Entries, relvar_named, constraints_if}
-use Rattle.meaning_core.specs.WellMade.{rule_among}
+use Rattle.tree_core.specs.Relvars.{PlainRelvar, base, view, Entries, relvar_named, constraints_if, rule_among}
 
 -- the since relvar and the during relvar of the view of a history
 abbrev pub history_if : Option PlainRelvar → Option (Name × Name)

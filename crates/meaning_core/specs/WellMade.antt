@@ -13,7 +13,7 @@ use Rattle.value_core.specs.Attributes.{among}
 use Rattle.value_core.specs.Limits.{most_ordinal_types, most_ordinal_values}
 use Rattle.value_core.specs.Values.{Name, Heading, Relation}
 use Rattle.relation_core.specs.Parts.{kind_at}
-use Rattle.tree_core.specs.Relvars.{PlainRelvar, base, view, Entries, State, relvar_named, relvar_heading, heading_if, constraints_if}
+use Rattle.tree_core.specs.Relvars.{PlainRelvar, base, view, Entries, State, relvar_named, relvar_heading, heading_if, constraints_if, rule_among}
 use Rattle.tree_core.specs.Trees.{Tree, Test, named}
 use Rattle.meaning_core.specs.Histories.{joined_history, last_point, type_at, name_at}
 use Rattle.meaning_core.specs.Typing.{Headings, IsList, is_declared, IsTypedTree, IsTypedTest}
@@ -90,11 +90,6 @@ IsConstraint before own r (History rule) = FitsNamed before (relvar_heading r) r
 IsConstraint before own r c = FitsHeadings (relvar_heading r) [] c
 
 -- ---- views of histories
-
-abbrev pub rule_among : List Constraint → Option HistoryRule
-rule_among [] = None
-rule_among (History rule ∷ rest) = Some rule
-rule_among (c ∷ rest) = rule_among rest
 
 -- the view of a history is what its relvars and their rule make it
 abbrev pub IsOfRule : Entries → Name → Name → Tree → Option HistoryRule → Type 0

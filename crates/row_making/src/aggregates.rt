@@ -18,7 +18,7 @@ ghost use Rattle.meaning_core.specs.Scalars.{AllOver, AreSummedOver, IsSummedOve
 ghost use Rattle.u_summary.specs.Summaries.{total, is_before};
 
 use point_core::{AnyPoint, Code, Fault, Memory, Place, Stop};
-use scalar_core::{Scalar, eval};
+use scalar_core::{Scalar, eval, point_number};
 use std::alloc::Global;
 use tree_core::{Aggregate, AggregateForm};
 use u_summary::{greatest, least, sum};
@@ -144,16 +144,6 @@ fn integers(alloc: Global, values: &[Value]) -> Result<Vec<i64>, Memory>
         list.push(point_number(value))?;
     }
     Ok(list)
-}
-
-/// The number of a point; of other values, 0.
-pub fn point_number(value: &Value) -> i64
-    ensures { result ≡ number_of (plain value.now) }
-{
-    match value {
-        Value::Point(p) => p.number(),
-        _ => 0,
-    }
 }
 
 /// The values of the expression on the rows with the numbers, or their least fault.

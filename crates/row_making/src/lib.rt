@@ -8,7 +8,6 @@ mod items;
 mod places;
 mod plain_rows;
 
-pub use aggregates::point_number;
 pub use faults::or_fault_at;
 pub use groups::{Making, aggregate_places, group_row};
 pub use items::{extended_row, holds, set_places};

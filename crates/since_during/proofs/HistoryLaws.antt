@@ -17,10 +17,10 @@ use Rattle.value_core.specs.Values.{Name, Heading, Relation, attribute_cmp, is_h
 use Rattle.relation_core.specs.Agreement.{position_of}
 use Rattle.relation_core.specs.Parts.{no_attribute}
 use Rattle.tree_core.specs.declared.declaration.HistoryData.{HistoryData}
-use Rattle.tree_core.specs.Relvars.{PlainRelvar, base, Entries, relvar_named, heading_if, constraints_if}
+use Rattle.tree_core.specs.Relvars.{PlainRelvar, base, Entries, relvar_named, heading_if, constraints_if, rule_among}
 use Rattle.tree_core.specs.Trees.{Tree, named}
 use Rattle.meaning_core.specs.Histories.{joined_history, last_point, with_attribute, type_of_kind, type_at, name_at}
-use Rattle.meaning_core.specs.WellMade.{rule_among, IsBase, IsOfRule, IsHistory}
+use Rattle.meaning_core.specs.WellMade.{IsBase, IsOfRule, IsHistory}
 use Rattle.since_during.specs.Histories.{IsHistoryData, since_heading, during_heading, during_constraints, span_of, rule_between, view_of}
 use Rattle.since_during.proofs.HeadingLemmas.{put-in-order}
 

@@ -9,19 +9,7 @@ ghost use Rattle.meaning_core.specs.Histories.{all_but, name_at, with_attribute}
 use point_core::Memory;
 use std::alloc::Global;
 use std::cmp::Ordering;
-use value_core::{Heading, HeadingRefuse, Kind, Name, Positions};
-
-/// Where the attribute of the name stands; past the end where there is none.
-pub(crate) fn position(list: &[(Name, Kind)], name: &Name) -> usize
-    ensures { result ≡ position_of list.now name.now }
-{
-    for (at, attribute) in list.iter().enumerate() {
-        if attribute.0 == *name {
-            return at;
-        }
-    }
-    list.len()
-}
+use value_core::{Heading, HeadingRefuse, Kind, Name, Positions, position};
 
 /// A list of one position.
 pub(crate) fn one_position(alloc: Global, at: usize) -> Result<Positions, Memory>

@@ -9,14 +9,14 @@ ghost use Rattle.meaning_core.specs.Histories.{last_point};
 ghost use Rattle.meaning_core.specs.Meanings.{positions_of};
 ghost use Rattle.since_during.specs.Histories.{all_in, declared_history, during_constraints, during_heading, key_in, rule_between, since_constraints, since_heading, view_of, IsHistoryData};
 
-use crate::headings::{name_at, one_position, position, with_attribute};
+use crate::headings::{name_at, one_position, with_attribute};
 use crate::joining::{Sides, joined_history};
 use point_core::{AnyType, Memory, Place, PointType};
 use scalar_core::{Scalar, ScalarForm};
 use std::alloc::Global;
 use tree_core::{Declaration, HistoryData, RelTree};
 use value_core::{
-    Constraint, Constraints, Heading, HistoryRule, Kind, ListOf, Name, Positions, Value,
+    Constraint, Constraints, Heading, HistoryRule, Kind, ListOf, Name, Positions, Value, position,
 };
 
 /// The heading of the since relvar: the facts' attributes and the point.

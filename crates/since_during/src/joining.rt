@@ -4,12 +4,12 @@ ghost use Rattle.scalar_core.specs.Expressions.{read};
 ghost use Rattle.tree_core.specs.Trees.{read_sets, read_tree};
 ghost use Rattle.since_during.specs.Sides.{ended, joined, lasting, narrowed, IsNarrow};
 
-use crate::headings::{all_but, one_position, position, with_attribute};
+use crate::headings::{all_but, one_position, with_attribute};
 use point_core::{AnyType, Memory, Place};
 use scalar_core::Scalar;
 use std::alloc::Global;
 use tree_core::{InfixWord, RelTree, Sets, attribute, closed_interval};
-use value_core::{Heading, Kind, ListOf, Name};
+use value_core::{Heading, Kind, ListOf, Name, position};
 
 /// The two relvars of a history as its view joins them: their headings, the attribute of the since relvar's points and that
 /// of the during relvar's intervals, the type of the points, the during relvar's name, and the place of the nodes.

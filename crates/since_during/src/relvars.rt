@@ -1,11 +1,11 @@
 // The relvars and views of names, and what ties those of a history.
 ghost use Rattle.std.specs.Prelude.{◌≡◌, option_map};
-ghost use Rattle.tree_core.specs.Relvars.{constraints_if, heading_if, read_relvar, read_relvars, relvar_named};
+ghost use Rattle.tree_core.specs.Relvars.{constraints_if, heading_if, read_relvar, read_relvars, relvar_named, rule_among};
 ghost use Rattle.meaning_core.specs.Endings.{history_if, history_of};
-ghost use Rattle.meaning_core.specs.WellMade.{rule_among, IsBase};
+ghost use Rattle.meaning_core.specs.WellMade.{IsBase};
 
-use tree_core::{Relvar, Relvars};
-use value_core::{Constraint, Heading, HistoryRule, Name};
+use tree_core::{Relvar, Relvars, rule_if};
+use value_core::{Heading, HistoryRule, Name};
 
 /// The heading of the base relvar of the name.
 pub(crate) fn heading_named<'a>(relvars: &'a Relvars, name: &Name) -> &'a Heading
@@ -39,39 +39,6 @@ pub(crate) fn history_of<'a>(relvars: &'a Relvars, name: &Name) -> Option<&'a (N
     ensures { option_map (λ n. n.now) result ≡ history_of (read_relvars relvars.now).relvars name.now }
 {
     history_if(relvars.named(name))
-}
-
-/// The first history rule among the constraints.
-fn rule_among<'a>(constraints: &'a [Constraint]) -> Option<&'a HistoryRule>
-    ensures { option_map (λ r. r.now) result ≡ rule_among constraints.now }
-{
-    for constraint in constraints {
-        if let Constraint::History(rule) = constraint {
-            return Some(rule);
-        }
-    }
-    None
-}
-
-/// The history rule of a relvar.
-fn rule_if<'a>(relvar: Option<&'a Relvar>) -> Option<&'a HistoryRule>
-    ensures { option_map (λ r. r.now) result ≡ rule_among (constraints_if (option_map (λ r. read_relvar r.now) relvar.entry)) }
-{
-    match relvar {
-        Some(
-            Relvar::Base {
-                value: _,
-                constraints,
-            },
-        ) => rule_among(constraints.list.as_slice()),
-        Some(
-            Relvar::View {
-                tree: _,
-                history: _,
-            },
-        ) => None,
-        None => None,
-    }
 }
 
 /// The history rule of the during relvar of the name.

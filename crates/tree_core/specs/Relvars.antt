@@ -6,6 +6,8 @@ use Rattle.std.specs.Str.{bytes_eq}
 use Rattle.value_core.specs.Values.{Name, Heading, Relation}
 use Rattle.value_core.specs.declared.list.OrdinalNames.{OrdinalNames}
 use Rattle.value_core.specs.declared.constraint.Constraint.{Constraint}
+use Rattle.value_core.specs.declared.constraint.Constraint.TheVariants.{History}
+use Rattle.value_core.specs.declared.constraint.HistoryRule.{HistoryRule}
 use Rattle.tree_core.specs.Trees.{Tree, heading_of, read_tree}
 use Rattle.tree_core.specs.declared.relvar.Relvar.{Relvar}
 use Rattle.tree_core.specs.declared.relvar.Relvar.TheVariants.{Base, View}
@@ -54,3 +56,9 @@ abbrev pub constraints_if : Option PlainRelvar → List Constraint
 constraints_if None = []
 constraints_if (Some (base value constraints)) = constraints
 constraints_if (Some (view t history)) = []
+
+-- the rule of a history that stands first among constraints
+abbrev pub rule_among : List Constraint → Option HistoryRule
+rule_among [] = None
+rule_among (History rule ∷ rest) = Some rule
+rule_among (c ∷ rest) = rule_among rest

@@ -3,6 +3,7 @@
 
 mod copy;
 mod declaration;
+mod histories;
 mod item;
 mod nodes;
 mod relvar;
@@ -13,6 +14,7 @@ mod wrapping;
 
 pub use copy::{copy_aggregates, copy_sets};
 pub use declaration::{Assignment, Declaration, HistoryData};
+pub use histories::rule_if;
 pub use item::{Change, Item, ItemForm, Items, Portion};
 pub use relvar::{Relvar, Relvars};
 pub use scalars::{

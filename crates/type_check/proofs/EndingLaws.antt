@@ -8,10 +8,10 @@ use Rattle.value_core.specs.declared.constraint.HistoryRule.{HistoryRule}
 use Rattle.value_core.specs.Values.{Name}
 use Rattle.relation_core.specs.Parts.{kind_at}
 use Rattle.scalar_typing.specs.Typings.{◌>>=◌, value_or}
-use Rattle.tree_core.specs.Relvars.{PlainRelvar, view, Entries, State, relvar_named, relvar_heading, constraints_if}
+use Rattle.tree_core.specs.Relvars.{PlainRelvar, view, Entries, State, relvar_named, relvar_heading, constraints_if, rule_among}
 use Rattle.tree_core.specs.Trees.{Tree}
 use Rattle.meaning_core.specs.Endings.{rule_if}
-use Rattle.meaning_core.specs.WellMade.{sizes_of, rule_among, IsBase, IsOfRule, IsRelvar, AreRelvars, IsWellMade}
+use Rattle.meaning_core.specs.WellMade.{sizes_of, IsBase, IsOfRule, IsRelvar, AreRelvars, IsWellMade}
 use Rattle.meaning_core.proofs.RelvarLemmas.{named_before}
 use Rattle.item_typing.specs.Endings.{Facts, facts_of}
 use Rattle.since_during.proofs.JoinableLemmas.{some-base}

@@ -13,18 +13,9 @@ ghost use Rattle.u_constraints.specs.Hashes.{begin_hash, begun, end_hash, is_any
 
 use point_core::Memory;
 use relation_core::part;
+use scalar_core::point_number;
 use std::alloc::Global;
 use value_core::{Relation, Row, Value};
-
-/// The number of the point that a value is.
-fn point_number(v: &Value) -> i64
-    ensures { result ≡ number_of (plain v.now) }
-{
-    match v {
-        Value::Point(p) => p.number(),
-        _ => 0,
-    }
-}
 
 /// The number of the last point of the interval that a value is.
 fn last_number(v: &Value) -> i64

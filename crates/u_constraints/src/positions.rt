@@ -1,11 +1,11 @@
 // Lists of positions: whether all are listed, and those whose values tell which rows a new one is held against.
 ghost use Rattle.std.specs.Prelude.{◌≡◌, ◌<◌, ℕ, true, IfOk};
 ghost use Rattle.value_core.specs.Attributes.{among};
-ghost use Rattle.u_row.specs.Kept.{unlisted};
 ghost use Rattle.u_constraints.specs.Growth.{outside_below, telling};
 
 use point_core::Memory;
 use std::alloc::Global;
+use u_row::unlisted;
 use u_set::is_listed;
 use value_core::{Constraint, Positions};
 
@@ -19,23 +19,6 @@ pub fn are_all(positions: &[usize], many: usize) -> bool
         }
     }
     true
-}
-
-/// The positions that are not unpacked.
-pub(crate) fn unlisted(
-    alloc: Global,
-    commalist: &[usize],
-    positions: &[usize],
-) -> Result<Vec<usize>, Memory>
-    ensures { IfOk result (λ v. v.items ≡ unlisted commalist.now positions.now) }
-{
-    let mut list = Vec::new(alloc);
-    for i in positions {
-        if !is_listed(commalist, *i) {
-            list.push(*i)?;
-        }
-    }
-    Ok(list)
 }
 
 /// The positions below the number that are not unpacked.

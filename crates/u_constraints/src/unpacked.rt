@@ -13,7 +13,7 @@ use crate::apart::is_key_at;
 use crate::keys::is_key;
 use crate::lines::unless;
 use crate::packed::is_packed;
-use crate::positions::{are_all, unlisted};
+use crate::positions::are_all;
 use point_core::{Code, Memory, Steps};
 use std::alloc::Global;
 use std::sync::ledger::Ledger;

@@ -6,6 +6,7 @@ mod cells;
 mod cutting;
 mod giving;
 mod places;
+mod positions;
 mod project;
 mod projection;
 mod rows;
@@ -13,6 +14,7 @@ mod rule;
 
 pub use all_rows::u_rule;
 pub use places::{beneath, inner};
+pub use positions::unlisted;
 pub use project::u_project;
 pub use projection::projected;
 pub use rule::RowRule;

@@ -1,0 +1,39 @@
+// The rule that ties the relvars of a history.
+ghost use Rattle.std.specs.Prelude.{◌≡◌, option_map};
+ghost use Rattle.tree_core.specs.Relvars.{constraints_if, read_relvar, rule_among};
+
+use crate::relvar::Relvar;
+use value_core::{Constraint, HistoryRule};
+
+// The first history rule among the constraints.
+fn rule_among<'a>(constraints: &'a [Constraint]) -> Option<&'a HistoryRule>
+    ensures { option_map (λ r. r.now) result ≡ rule_among constraints.now }
+{
+    for constraint in constraints {
+        if let Constraint::History(rule) = constraint {
+            return Some(rule);
+        }
+    }
+    None
+}
+
+/// The rule of a history that stands with the relvar.
+pub fn rule_if<'a>(relvar: Option<&'a Relvar>) -> Option<&'a HistoryRule>
+    ensures { option_map (λ r. r.now) result ≡ rule_among (constraints_if (option_map (λ r. read_relvar r.now) relvar.entry)) }
+{
+    match relvar {
+        Some(
+            Relvar::Base {
+                value: _,
+                constraints,
+            },
+        ) => rule_among(constraints.list.as_slice()),
+        Some(
+            Relvar::View {
+                tree: _,
+                history: _,
+            },
+        ) => None,
+        None => None,
+    }
+}
