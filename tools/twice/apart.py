@@ -2,13 +2,27 @@
 
 NO_CRATE = 'it speaks of meaning_core and of u_set, and no crate below both of these stands on both'
 
+WORDS = 'each contract says the result in the words that its callers prove by'
+
 APART = {
     frozenset({
+        ('crates/eval_using/src/cell_rows.rt', 'copied'),
+        ('crates/u_join/src/labels.rt', 'copied'),
+    }): WORDS,
+    frozenset({
+        ('crates/eval_using/src/in_place.rt', 'interval_of'),
+        ('crates/u_set/src/intervals.rt', 'interval_of'),
+    }): WORDS,
+    frozenset({
+        ('crates/row_making/src/places.rt', 'place_in'),
+        ('crates/value_core/src/heading.rt', 'position'),
+    }): WORDS,
+    frozenset({
         ('crates/u_constraints/proofs/IntervalLemmas.antt', 'span_kind'),
-        ('crates/using_core/proofs/ListLemmas.antt', 'span_kind'),
+        ('crates/eval_using/proofs/ListLemmas.antt', 'span_kind'),
     }): NO_CRATE,
     frozenset({
         ('crates/u_constraints/proofs/IntervalLemmas.antt', 'intervals_of_list'),
-        ('crates/using_core/proofs/ListLemmas.antt', 'intervals_of_list'),
+        ('crates/eval_using/proofs/ListLemmas.antt', 'intervals_of_list'),
     }): NO_CRATE,
 }
