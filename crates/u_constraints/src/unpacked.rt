@@ -17,7 +17,7 @@ use crate::positions::are_all;
 use point_core::{Code, Memory, Steps};
 use std::alloc::Global;
 use std::sync::ledger::Ledger;
-use u_row::inner;
+use u_row::{inner, unlisted};
 use u_set::{Gap, are_apart, to_boxes, types_at};
 use value_core::Relation;
 
