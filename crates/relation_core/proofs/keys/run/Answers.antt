@@ -15,4 +15,4 @@ returns c =
     (at_partitions (λ (e : Row × ℕ). e.0) row_cmp row_total c.args.index.now c.split_at.result.1.now c.partition_point-begin.result c.args.key.now c.requires
     c.partition_point-begin.ensures.bound c.split_at.ensures.back c.split_at.ensures.back_len low.1) (λ a r q k. search rules) in
     run_is (λ (e : Row × ℕ). is_lt (row_cmp e.0 c.args.key.now)) (has_key c.args.key.now) (λ e h. not_below (row_cmp e.0 c.args.key.now) h) c.args.index.now c.split_at.result.1.now c.split_at-2.result.0.now
-    c.partition_point-begin.result c.partition_point-count.result c.split_at.ensures.back c.split_at-2.ensures.prefix low.0 at.0 at.1
+    c.partition_point-begin.result c.partition_point-count.result c.split_at.ensures.back c.split_at-2.ensures.front low.0 at.0 at.1

@@ -18,4 +18,4 @@ returns c =
     c.partition_point-begin.ensures.bound c.split_at.ensures.back c.split_at.ensures.back_len low.1) (λ a r q k. search rules) in
     run_is (λ (x : Row). is_lt (row_cmp (take (length c.args.values.now) x) c.args.values.now)) (begins_with c.args.values.now)
     (λ x h. not_below (row_cmp (take (length c.args.values.now) x) c.args.values.now) h) c.args.rows.now c.split_at.result.1.now c.split_at-2.result.0.now
-    c.partition_point-begin.result c.partition_point-count.result c.split_at.ensures.back c.split_at-2.ensures.prefix low.0 at.0 at.1
+    c.partition_point-begin.result c.partition_point-count.result c.split_at.ensures.back c.split_at-2.ensures.front low.0 at.0 at.1

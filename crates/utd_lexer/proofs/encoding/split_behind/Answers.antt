@@ -9,7 +9,7 @@ split_at-requires c =
     omega (arith, w, c.prefix_width.ensures, b)
 
 pub returns-clause-prefix : goal.returns-clause-prefix
-returns-clause-prefix c = prefix-bytes c.args.chars.now c.args.bytes.now c.split_at.result.0.now c.args.n c.prefix_width.result c.requires.encoded c.prefix_width.ensures c.split_at.ensures.prefix
+returns-clause-prefix c = prefix-bytes c.args.chars.now c.args.bytes.now c.split_at.result.0.now c.args.n c.prefix_width.result c.requires.encoded c.prefix_width.ensures c.split_at.ensures.front
 
 pub returns-clause-back : goal.returns-clause-back
 returns-clause-back c = bytes-behind c.args.chars.now c.args.bytes.now c.split_at.result.1.now c.args.n c.prefix_width.result c.requires.encoded c.prefix_width.ensures c.split_at.ensures.back

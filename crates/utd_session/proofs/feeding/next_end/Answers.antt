@@ -31,6 +31,6 @@ returns-in-Ends-clause-end c place bytes h =
     let i = c.loop-i.i in
     let piece = c.args.piece.now in
     let b = get_or piece i 0 in
-    let prefix : c.split_at.result.0.now ≡ take i piece ++ b ∷ [] = c.split_at.ensures.prefix ∙ take_more piece i 0 c.loop-i-test.true in
+    let prefix : c.split_at.result.0.now ≡ take i piece ++ b ∷ [] = c.split_at.ensures.front ∙ take_more piece i 0 c.loop-i-test.true in
     let s = step-ends c.loop-i.cutter c.step.new.self c.step.result b bytes (take i piece) c.step.ensures.since c.step.ensures.ends c.in-Ends.is (c.loop-i.invariant.since bytes h) in
     subst (EndsOne place bytes) (sym prefix) (one-ends place bytes (take i piece) b (c.loop-i.invariant.none place bytes h) s.0)
