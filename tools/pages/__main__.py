@@ -3,7 +3,7 @@
 Every script of the pages, which is fenced as utd and has what it prints fenced behind it, and every examples/NAME.td with its NAME.out, has to stand
 among the rows that the gate runs, byte for byte; crates/utd_rows names every file of rows, and how many rows there are. Every code of a refusal has a line
 that says what to do about it, docs/README.md names every page of docs/, and links and paths lead somewhere. The map of the crates agrees with crates.txt
-(layers.py). Ends with status 1 where something differs, and names it.
+(layers.py), and the definitions that a reader must believe are those that the top call cites (cited.py). Ends with status 1 where something differs, and names it.
 
 With --rows PAGE it writes the rows of a page as crates/utd_rows/data/ has them, to be looked at and kept there.
 """
@@ -12,6 +12,8 @@ import os
 import re
 import sys
 
+from cited import PAGE as DEFINITIONS
+from cited import faults_of_definitions
 from layers import MAP, faults_of_map
 
 ROOT = os.path.dirname(os.path.dirname(os.path.dirname(os.path.abspath(__file__))))
@@ -136,7 +138,8 @@ def paths_to_nothing():
 
 def check():
     scripts = wanted()
-    faults = unrun() + lacking(scripts) + codes_without_advice() + unlisted() + leading_nowhere() + paths_to_nothing() + faults_of_map(text_of(MAP))
+    faults = unrun() + lacking(scripts) + codes_without_advice() + unlisted() + leading_nowhere() + paths_to_nothing()
+    faults += faults_of_map(text_of(MAP)) + faults_of_definitions(text_of(DEFINITIONS))
     for fault in faults:
         print(fault)
     if not faults:
