@@ -2,7 +2,8 @@
 
 Every script of the pages, which is fenced as utd and has what it prints fenced behind it, and every examples/NAME.td with its NAME.out, has to stand
 among the rows that the gate runs, byte for byte; crates/utd_rows names every file of rows, and how many rows there are. Every code of a refusal has a line
-that says what to do about it, docs/README.md names every page of docs/, and links lead somewhere. Ends with status 1 where something differs, and names it.
+that says what to do about it, docs/README.md names every page of docs/, and links and paths lead somewhere. The map of the crates agrees with crates.txt
+(layers.py), and the definitions that a reader must believe are those that the top call cites (cited.py). Ends with status 1 where something differs, and names it.
 
 With --rows PAGE it writes the rows of a page as crates/utd_rows/data/ has them, to be looked at and kept there.
 """
@@ -11,11 +12,17 @@ import os
 import re
 import sys
 
+from cited import PAGE as DEFINITIONS
+from cited import faults_of_definitions
+from layers import MAP, faults_of_map
+
 ROOT = os.path.dirname(os.path.dirname(os.path.dirname(os.path.abspath(__file__))))
 # a script, and what it prints
 SCRIPT = re.compile(r'^```utd\n(.*?)^```\n(?:\nprints\n\n```\n(.*?)^```\n)?', re.S | re.M)
 HEADING = re.compile(r'^#+ (.*)$', re.M)
 REFUSED = re.compile(r'^statement [0-9]+ refused: (E[0-9][0-9])', re.M)
+# a file or a folder of a crate, without crates/ and without the suffix of a definition; or one of the tools
+PATH = re.compile(r'`((?:[a-z_]+/(?:src|specs|proofs|data)|tools)(?:/[A-Za-z_]+(?:\.[a-z]+)?)*)/?`')
 LANGUAGE = 'docs/language.md'
 ROWS = 'crates/utd_rows'
 
@@ -119,9 +126,20 @@ def leading_nowhere():
     return faults
 
 
+def stands(path):
+    places = [path] if path.startswith('tools') else [f'crates/{path}', f'crates/{path}.antt']
+    return any(os.path.exists(f'{ROOT}/{place}') for place in places)
+
+
+def paths_to_nothing():
+    """The files of crates and the tools that a page names and that are not there."""
+    return [f'{page}: there is no {path}' for page in pages() for path in PATH.findall(text_of(page)) if not stands(path)]
+
+
 def check():
     scripts = wanted()
-    faults = unrun() + lacking(scripts) + codes_without_advice() + unlisted() + leading_nowhere()
+    faults = unrun() + lacking(scripts) + codes_without_advice() + unlisted() + leading_nowhere() + paths_to_nothing()
+    faults += faults_of_map(text_of(MAP)) + faults_of_definitions(text_of(DEFINITIONS))
     for fault in faults:
         print(fault)
     if not faults:

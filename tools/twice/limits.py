@@ -14,9 +14,10 @@ AT_MOST = re.compile(r'(?:≤|<=|(?<![-=])>) ([0-9][0-9_]*)(?!\w)')
 OTHER = {2 ** 63 - 1: 'the greatest number of 64 bits with a sign'}
 # (path, number) -> why it is not the limit of that number, or stands there as a text
 STANDS = {
-    ('crates/number_order/src/digits.rt', 64): 'the digits of a number of 64 bits',
+    ('crates/presort/src/digits.rt', 64): 'the digits of a number of 64 bits',
     ('crates/utd_gen/src/script.rt', 1_000): 'the tuples of one INSERT of a script that is written',
     ('crates/utd_gen/specs/Script.antt', 1_000): 'the tuples of one INSERT of a script that is written',
+    ('crates/utd_session/specs/Run.antt', 65_536): 'the number of most_at_once, which says the constant for definitions',
     ('crates/utd_session/src/status.rt', 16_777_216): 'the text that is printed',
     ('crates/utd_session/specs/Status.antt', 16_777_216): 'the text that is printed',
 }
