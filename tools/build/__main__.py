@@ -64,7 +64,7 @@ def copy_to(room, crates):
     """Copies these crates, as rt ci wants a repository, without what it would try beside their proofs."""
     os.makedirs(f'{room}/.git')
     for crate in crates:
-        shutil.copytree(f'{ROOT}/crates/{crate}', f'{room}/crates/{crate}', symlinks=True, ignore=shutil.ignore_patterns('out', 'must-fail'))
+        shutil.copytree(f'{ROOT}/crates/{crate}', f'{room}/crates/{crate}', symlinks=True, ignore=shutil.ignore_patterns('out', 'must-fail', 'wrong-bodies'))
     shutil.copyfile(f'{ROOT}/HANDLES', f'{room}/HANDLES')
     with open(f'{room}/crates.txt', 'w', encoding='utf-8') as file:
         file.writelines(line for line, _ in crates.values())

@@ -1,10 +1,10 @@
 -- Hashes of rows that come and go.
---     mark_put, mark_cut      the hashes of rows among which one is put, or from which one is taken
---     none_marked      no hashes are right for each relvar
---     marks_entry, marks_put, set_marked      hashes for an entry, and for what is put in its place
---     first_marks, marks_of_first      hashes for the first entry of a name
---     marked_there, unmarked      where hashes of a place stand, and where there are none
---     marked_removed, others_marked      those that are left, and those of other places than the one that changes
+--     hash_put, hash_cut      the hashes of rows among which one is put, or from which one is taken
+--     none_hashed      no hashes are right for each relvar
+--     hashes_entry, hashes_put, set_hashed      hashes for an entry, and for what is put in its place
+--     first_hashes, hashes_of_first      hashes for the first entry of a name
+--     hashed_there, unmarked      where hashes of a place stand, and where there are none
+--     hashed_removed, others_hashed      those that are left, and those of other places than the one that changes
 use Rattle.std.proofs.Common.{◌≡◌, ◌≢◌, ℕ, zero, suc, ◌<◌, ◌≤◌, List, [], ◌∷◌, map, length, take, drop, get_or, refl, sym, ap, subst, ◌∙◌, arith, Some, None, Bool, true, false, nat_eq, nat_lt}
 use Rattle.std.proofs.lemmas.Bool.Decides.{nat_tests}
 use Rattle.std.proofs.lemmas.List.Elements.{All-nil, All-weaker, All-append, All-take, All-drop}

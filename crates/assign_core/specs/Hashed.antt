@@ -1,8 +1,8 @@
 -- Hashes of the rows of base relvars, which are kept beside the relvars.
---     IsMarksOf      what is asked of hashes of a relation's rows
---     AreMarksIn, AreMarksAt      the same of hashes for a relvar, and for the one at a place
---     IsMarked      hashes that are kept are those of the rows of the relvar at their place
---     AreMarked, IsUnmarkedAt      the same of all hashes that are kept, and that none are kept for a place
+--     IsHashesOf      what is asked of hashes of a relation's rows
+--     AreHashesIn, AreHashesAt      the same of hashes for a relvar, and for the one at a place
+--     IsHashed      hashes that are kept are those of the rows of the relvar at their place
+--     AreHashed, IsUnmarkedAt      the same of all hashes that are kept, and that none are kept for a place
 use Rattle.std.specs.Prelude.{◌≢◌, ℕ, zero, suc, ◌<◌, List, [], ◌∷◌, length}
 use Rattle.std.specs.List.{All}
 use Rattle.value_core.specs.Values.{Row, Heading}

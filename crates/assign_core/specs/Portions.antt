@@ -2,7 +2,7 @@
 --     portion_of, portion_rows      the rows of a target at the points where a condition holds: as an expression, and what it means
 --     point_cost      the steps of what is asked at points
 --     IsDeletion, IsDeletionOf      an assignment of this form, and what it makes of its target
---     IsConcerned      rows of a packed relation that a condition concerns, with all that have their labels
+--     IsAffected      rows of a packed relation that a condition concerns, with all that have their labels
 use Rattle.std.specs.Prelude.{◌≡◌, ℕ, suc, ◌≤◌, List, [], ◌∷◌, length}
 use Rattle.base_core.specs.Outcomes.{then_give}
 use Rattle.point_core.specs.declared.fault.Place.{Place}

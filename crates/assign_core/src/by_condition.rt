@@ -1,4 +1,4 @@
-// What stands ready for changes by a condition: where this concerns few rows, only these are looked at.
+// What stands ready for changes by a condition: where this affects few rows, only these are looked at.
 ghost use Rattle.std.specs.Prelude.{◌≡◌, ◌≤◌, ◌+◌, [], ◌∷◌, map, None, Ok, IfOk, IfErr};
 ghost use Rattle.std.specs.List.{All};
 ghost use Rattle.relation_core.specs.Hashes.{AreHashesOf};
@@ -32,7 +32,7 @@ use std::sync::ledger::Ledger;
 use tree_core::{Assignment, Relvars};
 use value_core::Refuse;
 
-/// What stands ready for all targets, or why the assignments are refused. A deletion by a condition looks at the rows that this concerns,
+/// What stands ready for all targets, or why the assignments are refused. A deletion by a condition looks at the rows that this affects,
 /// where they are few.
 pub(crate) fn prepare_change<L: Ledger>(
     alloc: Global,
@@ -92,7 +92,7 @@ fn prepare_deletion<L: Ledger>(
     }
 }
 
-// What stands ready for the target of a deletion that concerns few rows, or why it is refused.
+// What stands ready for the target of a deletion that affects few rows, or why it is refused.
 fn prepare_reduction<L: Ledger>(
     alloc: Global,
     reduction: Reduction<'_>,
@@ -120,7 +120,7 @@ fn prepare_reduction<L: Ledger>(
     prepare_exchange(alloc, target, place, rows, known, none.as_slice(), steps)
 }
 
-// What stands ready for all targets, or why the assignments are refused. A revision by conditions looks at the rows that these concern,
+// What stands ready for all targets, or why the assignments are refused. A revision by conditions looks at the rows that these affect,
 // where they are few.
 fn prepare_update<L: Ledger>(
     alloc: Global,
@@ -181,7 +181,7 @@ fn prepare_revision<L: Ledger>(
     }
 }
 
-// What stands ready for the target of a revision that concerns few rows, or why it is refused.
+// What stands ready for the target of a revision that affects few rows, or why it is refused.
 fn prepare_renewal<L: Ledger>(
     alloc: Global,
     renewal: Renewal<'_>,

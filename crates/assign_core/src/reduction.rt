@@ -1,4 +1,4 @@
-// Deletions by a condition that concern few rows of a target, which its own constraints keep packed on the very list.
+// Deletions by a condition that affect few rows of a target, which its own constraints keep packed on the very list.
 ghost use Rattle.std.specs.Prelude.{◌≡◌, ◌+◌, ◌≤◌, [], ◌∷◌, length, true, List, IfSome, IfOk, IfErr, Err};
 ghost use Rattle.std.specs.List.{All};
 ghost use Rattle.value_core.specs.RowPacking.{packed};
@@ -38,7 +38,7 @@ use std::sync::ledger::Ledger;
 use tree_core::Relvars;
 use value_core::{Positions, Relation};
 
-/// A deletion with the place and the value of its target, and the rows that its condition concerns.
+/// A deletion with the place and the value of its target, and the rows that its condition affects.
 #[derive(Clone, Copy)]
 pub(crate) struct Reduction<'a> {
     pub relvars: &'a Relvars,
@@ -60,7 +60,7 @@ pub(crate) fn deletion_at<'a>(relvars: &'a Relvars, deletion: Deletion<'_>) -> (
     (at, value)
 }
 
-/// The rows that the deletion's condition concerns, where they are few beside all of a target that is kept packed on the list.
+/// The rows that the deletion's condition affects, where they are few beside all of a target that is kept packed on the list.
 pub(crate) fn deleted_part(
     alloc: Global,
     relvars: &Relvars,

@@ -1,4 +1,4 @@
-// Revisions by conditions that concern few rows of a target, which its own constraints keep packed on the very list.
+// Revisions by conditions that affect few rows of a target, which its own constraints keep packed on the very list.
 ghost use Rattle.std.specs.Prelude.{◌≡◌, ◌+◌, ◌≤◌, [], length, IfSome, IfOk, IfErr, Err};
 ghost use Rattle.std.specs.List.{All};
 ghost use Rattle.base_core.specs.Outcomes.{then_give};
@@ -39,7 +39,7 @@ use std::sync::ledger::Ledger;
 use tree_core::Relvars;
 use value_core::{MOST_ROWS, Relation, RowsRefuse};
 
-/// A revision with the place, the value and the hashes of its target, and the rows that its conditions concern.
+/// A revision with the place, the value and the hashes of its target, and the rows that its conditions affect.
 #[derive(Clone, Copy)]
 pub(crate) struct Renewal<'a> {
     pub relvars: &'a Relvars,
@@ -62,7 +62,7 @@ pub(crate) fn revision_at<'a>(relvars: &'a Relvars, revision: Revision<'_>) -> (
     (at, value)
 }
 
-/// The rows that the revision's conditions concern, where they are few beside all of a target that is kept packed on the list.
+/// The rows that the revision's conditions affect, where they are few beside all of a target that is kept packed on the list.
 pub(crate) fn revised_part(
     alloc: Global,
     relvars: &Relvars,
@@ -89,7 +89,7 @@ pub(crate) fn revised_part(
     }
 }
 
-// What is left of the rows that the conditions concern, or the fault of the condition, or that of too many rows with the others.
+// What is left of the rows that the conditions affect, or the fault of the condition, or that of too many rows with the others.
 fn left_rows<L: Ledger>(
     alloc: Global,
     renewal: Renewal<'_>,

@@ -28,7 +28,7 @@ fn first_sides<P>(alloc: Global, rows: &[CellBox<P>]) -> Result<Vec<(usize, usiz
     Ok(out)
 }
 
-// A mark for each of so many rows, of which none is in.
+// A flag for each of so many rows, of which none is in.
 fn no_flags(alloc: Global, count: usize) -> Result<Vec<bool>, Memory>
     ensures count { IfOk result (λ v. length v.items ≡ count) }
     ensures none { IfOk result (λ v. (r : ℕ) → IsIn v.items r → ⊥) }

@@ -6,7 +6,7 @@ ghost use Rattle.cell_boxes.specs.Tallies.{span_at, AreEntered, AreLeft, AreBy, 
 use crate::tally::{Tally, enter_at, leave_at};
 use point_core::Memory;
 
-// Marks the rows that begin by the cell, from the start `next` on, where they do not end by it; and how many have begun.
+// Flags the rows that begin by the cell, from the start `next` on, where they do not end by it; and how many have begun.
 fn enter_all<T: Tally>(
     rule: &T,
     state: T::State,
@@ -32,7 +32,7 @@ fn enter_all<T: Tally>(
     Ok((i, kept))
 }
 
-// Marks the rows no more that end by the cell, from the end `next` on; and how many have ended.
+// Flags the rows no more that end by the cell, from the end `next` on; and how many have ended.
 fn leave_all<T: Tally>(
     rule: &T,
     state: T::State,

@@ -6,7 +6,7 @@ ghost use Rattle.cell_boxes.specs.Tallies.{IsIn, IsEntered, IsLeft};
 use point_core::{Label, Memory, Stop};
 use std::alloc::Global;
 
-/// What is kept of rows, and the label that it gives of a key and of them. A set of rows is a mark for each row.
+/// What is kept of rows, and the label that it gives of a key and of them. A set of rows is a flag for each row.
 pub trait Tally {
     type Key: Label;
 
@@ -53,7 +53,7 @@ pub trait Tally {
     ghost nothing: { (rule : Self) (key : Self.Key) (f : List Bool) → ((r : ℕ) → IsIn f r → ⊥) → means rule key f ≡ Ok None };
 }
 
-// Marks the row, if its cells do not end by the cell.
+// Flags the row, if its cells do not end by the cell.
 pub fn enter_at<T: Tally>(
     rule: &T,
     state: T::State,
@@ -76,7 +76,7 @@ pub fn enter_at<T: Tally>(
     Ok(next)
 }
 
-// Marks the row no more, if its cells end by the cell.
+// Flags the row no more, if its cells end by the cell.
 pub fn leave_at<T: Tally>(
     rule: &T,
     state: T::State,

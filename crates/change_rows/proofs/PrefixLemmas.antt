@@ -1,5 +1,5 @@
 -- What the first value of a row filter tells of rows.
---     front_tells      of rows with another first value the row filter is FALSE
+--     prefix_tells      of rows with another first value the row filter is FALSE
 --     found_stay      so rows of which it is not FALSE are found among those with this one
 --     found_over      and of these it can be asked
 use Rattle.std.proofs.Common.{◌≡◌, inl, inr, ℕ, ◌<◌, Bool, true, false, cond, List, [], ◌∷◌, length, Ok, Option, Some, None, refl, sym, ap, ◌∙◌, subst, arith, Ordering}

@@ -1,8 +1,8 @@
 -- What safe expressions and row filters are.
 --     safe_value      a safe expression has a value on each row
 --     typed_for_none      a closed expression is typed over the row of no values
---     guard_is      a row filter names no listed attribute, and is FALSE only where its condition is
---     guard_of_both_is      and that of two conditions only where both are
+--     row_filter_is      a row filter names no listed attribute, and is FALSE only where its condition is
+--     row_filter_of_both_is      and that of two conditions only where both are
 use Rattle.std.proofs.Common.{◌≡◌, ℕ, Bool, true, false, ◌&&◌, ◌||◌, cond, List, [], Ok, Err, Option, Some, None, refl, sym, ap, ap₂, ◌∙◌, subst}
 use Rattle.std.specs.Prelude.{if◌then◌else◌}
 use Rattle.std.specs.Bool.{IsTrue}

@@ -1,5 +1,5 @@
 -- The first value that a row has where a row filter is other than FALSE of it, where the row filter tells.
---     front      this value alone
+--     prefix      this value alone
 use Rattle.std.specs.Prelude.{Bool, true, false, nat_eq, [], ◌∷◌, Option, Some, None, if◌then◌else◌}
 use Rattle.std.specs.Ordering.{eq_by_cmp}
 use Rattle.value_core.specs.Values.{Row, row_cmp}

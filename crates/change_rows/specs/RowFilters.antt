@@ -1,6 +1,6 @@
 -- What tells of a row that a condition is FALSE at all of its points.
 --     is_safe      whether an expression is seen to have a value on each row
---     row filter      a condition that is FALSE only where the given one is, and that names no listed attribute
+--     row_filter      a condition that is FALSE only where the given one is, and that names no listed attribute
 --     stays      whether what a condition gives is other than FALSE
 --     AreTold      of none of the rows the row filter stays
 use Rattle.std.specs.Prelude.{◌≡◌, ℕ, Bool, true, false, ◌&&◌, cond, List, [], Ok, Err, Option, Some, None}

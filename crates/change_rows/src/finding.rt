@@ -1,4 +1,4 @@
-// The rows of a packed relation that a change by a condition concerns.
+// The rows of a packed relation that a change by a condition affects.
 ghost use Rattle.std.specs.Prelude.{IfOk, IfSome};
 ghost use Rattle.std.specs.List.{All};
 ghost use Rattle.value_core.specs.declared.kind.Kind.TheVariants.{Truth};
@@ -40,7 +40,7 @@ pub fn affected(
 }
 
 /// The rows of a relation that have the label of a row at some point of which one of two conditions is not seen to be FALSE:
-/// by the hashes of the relation's rows too, as `concerned` finds them, and none where it gives none.
+/// by the hashes of the relation's rows too, as `affected` finds them, and none where it gives none.
 pub fn affected_by_both(
     alloc: Global,
     value: &Relation,

@@ -1,4 +1,4 @@
-//! Rows that a change by a condition concerns.
+//! Rows that a change by a condition affects.
 #![tactic(auto)]
 
 mod exchange;

@@ -1,4 +1,4 @@
-// Guards of conditions: conditions that tell of a row that another one is FALSE at all of its points.
+// Row filters of conditions: conditions that tell of a row that another one is FALSE at all of its points.
 ghost use Rattle.std.specs.Prelude.{◌≡◌, IfOk, option_map};
 ghost use Rattle.scalar_core.specs.Expressions.{read, read_left, read_right, and_expr, or_expr};
 ghost use Rattle.change_rows.specs.RowFilters as rules;

@@ -23,10 +23,10 @@ use u_constraints::{touched_with, with_prefix};
 use u_set::outside;
 use value_core::{Relation, Row};
 
-/// So many rows at most are tried to see whether a change concerns few.
+/// So many rows at most are tried to see whether a change affects few.
 const MOST_TRIED_ROWS: usize = 64;
 
-/// The rows that a change concerns seem to be many where they are more than one of so many that are tried.
+/// The rows that a change affects seem to be many where they are more than one of so many that are tried.
 const TRIED_ROWS_FOR_ONE: usize = 4;
 
 /// Whether the condition is other than FALSE of the row.

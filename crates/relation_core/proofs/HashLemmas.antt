@@ -1,7 +1,7 @@
 -- Hashes of rows, and rows found by their hashes.
 --     row_long      positions in the heading lie in each row
---     marks_more, kept_more, left_out      one row more
---     marks_from_sort      the different hashes, by a sort
+--     hashes_more, kept_more, left_out      one row more
+--     hashes_from_sort      the different hashes, by a sort
 --     sought_all      a row with one of the keys has one of the hashes
 use Rattle.std.proofs.Common.{◌≡◌, append-nil, nat_eq, ℕ, ◌+◌, ◌<◌, List, [], ◌∷◌, ◌++◌, length, get_or, take, map, refl, sym, ap, ◌∙◌, subst, arith, Bool, true, false, if◌then◌else◌}
 use Rattle.std.specs.Bool.{IsTrue}

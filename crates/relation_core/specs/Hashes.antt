@@ -1,7 +1,7 @@
 -- Hashes of rows: a number for each row, which rows with the same values at some positions have in common.
 --     mixed      a hash that goes on with a number
---     value_mark, mark_of      the hash of a value, and of a row's values at positions
---     MarkList, AreMarksOf      positions, and a hash for each of some rows
+--     value_hash, hash_of      the hash of a value, and of a row's values at positions
+--     HashList, AreHashesOf      positions, and a hash for each of some rows
 use Rattle.std.specs.Prelude.{◌≡◌, ℕ, ◌+◌, ◌*◌, ◌^◌, ◌%◌, Bool, true, false, List, map, fold}
 use Rattle.std.specs.Int.{w64, cast_unsigned}
 use Rattle.value_core.specs.Values.{Value, truth, text, point, interval, Row}

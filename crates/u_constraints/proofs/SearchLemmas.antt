@@ -1,5 +1,5 @@
 -- Rows in order, found by their first values.
---     fronts_sorted      rows in order stand in the order of their first values
+--     prefixes_sorted      rows in order stand in the order of their first values
 --     found      the rows with the first values of some rows are those that have these rows' parts
 --     all_sought      whether each of some rows' parts is the first values of a row
 --     none_selected, none_touched      of relations without rows

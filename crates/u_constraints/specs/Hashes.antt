@@ -1,7 +1,7 @@
 -- Hashes: parts of rows with numbers. By these the rows of a history's two relvars are held against each other.
---     Hash, mark_cmp      a hash, and the order of hashes
+--     Hash, hash_cmp      a hash, and the order of hashes
 --     reaches, is_any_reached      which hashes have the part of another and a number that is not less
---     end_mark, begin_mark      the hashes of the rows
+--     end_hash, begin_hash      the hashes of the rows
 --     is_overrun, is_touched      the two ways in which a history is broken, by hashes
 use Rattle.std.specs.Prelude.{ℕ, ℤ, pos, ◌-ℤ◌, Bool, true, false, not, ◌&&◌, List, map, ◌++◌, int_lt, if◌then◌else◌}
 use Rattle.std.specs.List.{list_any}

@@ -1,7 +1,7 @@
 -- What an operator by keys gives over the cells of a numbering is, by its numbers, the packed form of what it gives at points.
 --     AreOn, grids, left_on, right_on, mapped_on      rows over the cells of the sides
---     left_places, right_places, relabelled_places      what they have at points
---     packed_on, packed_places      the same of their packed form
+--     left_grid_points, right_grid_points, relabelled_grid_points      what they have at points
+--     packed_on, packed_grid_points      the same of their packed form
 --     lengths, within      what the way back from cells asks for
 --     form      the packed form
 use Rattle.std.proofs.Common.{◌≡◌, ℕ, zero, suc, ◌+◌, ◌<◌, ◌≤◌, ℤ, pos, List, [], ◌∷◌, ◌++◌, map, length, get_or, ◌↔◌, inl, inr, arith, sym, ap, subst, refl, ◌∙◌, Ordering}

@@ -1,6 +1,6 @@
 -- Which numbers marked rows have.
 --     weigh      how many marked rows have a number that passes a test
---     image      a mark for each number that some marked row has
+--     image      a flag for each number that some flagged row has
 --     IsCounted      of each number it is counted how many marked rows have it
 --     counted_means      what is given of the flags of numbers, if there are any
 use Rattle.std.specs.Prelude.{◌≡◌, ℕ, zero, suc, ◌+◌, ◌<◌, ◌^◌, Bool, true, false, List, [], ◌∷◌, length, get_or, Option, None, Result, Ok, ltb, eqb}

@@ -10,7 +10,7 @@ use std::alloc::Global;
 use value_core::Row;
 
 /// A function of a nonempty list of ascending row numbers, by what is kept of rows that stand for their labels. A set of
-/// rows is a mark for each row.
+/// rows is a flag for each row.
 pub trait GroupTally {
     type State: Drop;
 

@@ -1,4 +1,4 @@
 pub mod Dates
-pub mod SortKeys
+pub mod Lines
 pub mod Tables
 pub mod Widths

@@ -1,6 +1,6 @@
 // The line of a refused statement.
 ghost use Rattle.std.specs.Prelude.{◌≡◌, ◌++◌, IfOk, OnOk};
-ghost use Rattle.utd_print.specs.SortKeys.{code_text, place_text, cause_text, HasLine, refusal_line};
+ghost use Rattle.utd_print.specs.Lines.{code_text, place_text, cause_text, HasLine, refusal_line};
 
 use crate::numbers::put_number;
 use point_core::{Code, Memory, Place};
@@ -57,7 +57,7 @@ fn put_place(out: &mut Vec<u8>, place: Place) -> Result<(), Memory>
 }
 
 /// Writes the code with its words, and with its place or its constraint.
-#[tactic(auto, unfolding(crate::specs::SortKeys::cause_text))]
+#[tactic(auto, unfolding(crate::specs::Lines::cause_text))]
 fn put_cause(out: &mut Vec<u8>, refuse: &Refuse) -> Result<(), Memory>
     requires { HasLine refuse.now }
     ensures { OnOk result (out.new.items ≡ out.old.items ++ cause_text refuse.now) }
@@ -86,7 +86,7 @@ fn put_cause(out: &mut Vec<u8>, refuse: &Refuse) -> Result<(), Memory>
 }
 
 /// The line of the statement with this number, which is refused; want of memory has none.
-#[tactic(auto, unfolding(crate::specs::SortKeys::refusal_line))]
+#[tactic(auto, unfolding(crate::specs::Lines::refusal_line))]
 pub fn refusal_line(alloc: Global, number: u32, refuse: &Refuse) -> Result<Vec<u8>, Memory>
     requires { HasLine refuse.now }
     ensures { IfOk result (λ line. line.items ≡ refusal_line number refuse.now) }

@@ -1,6 +1,6 @@
 // Truth values.
 ghost use Rattle.std.specs.Prelude.{◌≡◌};
-ghost use Rattle.utd_print.specs.SortKeys.{truth_line};
+ghost use Rattle.utd_print.specs.Lines.{truth_line};
 ghost use Rattle.utd_print.specs.Tables.{truth_text};
 
 /// The text of a truth value.

@@ -20,7 +20,7 @@ use Rattle.assign_core.specs.Assignments.{after_assignments}
 use Rattle.since_during.specs.Histories.{declared_history, declared_in}
 use Rattle.utd_syntax.specs.Plain.{StatementP}
 use Rattle.type_check.specs.Checks.{Plain, nothing, declare_ordinal, declare_base, declare_view, declare_history, remove, assign, print, ask, checked}
-use Rattle.utd_print.specs.SortKeys.{refusal_line, truth_line}
+use Rattle.utd_print.specs.Lines.{refusal_line, truth_line}
 use Rattle.utd_print.specs.Tables.{table}
 use Rattle.utd_statement.specs.Readings.{Reading, Tree as TreeOf, Refused}
 

@@ -4,7 +4,7 @@ use Rattle.point_core.specs.declared.fault.Place.{Place}
 use Rattle.value_core.specs.declared.refuse.Refuse.{Refuse}
 use Rattle.value_core.specs.declared.refuse.Refuse.TheVariants as refuses
 use Rattle.utd_syntax.specs.Read.{read_statement}
-use Rattle.utd_print.specs.SortKeys.{HasLine}
+use Rattle.utd_print.specs.Lines.{HasLine}
 use Rattle.utd_statement.specs.declared.reading.Parsed.{Parsed}
 use Rattle.utd_statement.specs.declared.reading.Parsed.TheVariants as parsed
 use Rattle.utd_statement.specs.Readings.{Reading, Tree, Refused, IsText}

@@ -73,7 +73,7 @@ pub fn read_text(alloc: Global, text: &[u8], start: Place) -> Result<Parsed, Mem
     requires { start.line + start.column + length text.now ≤ 2 ^ 32 - 1 }
     ensures read { IfOk result (λ p. IsText start text.now (reading_of p)) }
     ensures in_range { IfOk result (λ p. IsInRange (reading_of p)) }
-    ensures reply_with { IfOk result (λ p. HasAnswer (reading_of p)) }
+    ensures answered { IfOk result (λ p. HasAnswer (reading_of p)) }
 {
     if is_empty_statement(text) {
         return Ok(Parsed::Tree(Statement::Nothing));

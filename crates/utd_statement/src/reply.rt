@@ -1,7 +1,7 @@
 // What is answered to one statement.
 ghost use Rattle.std.specs.Prelude.{◌≤◌, ◌+◌, IfOk};
 ghost use Rattle.utd_syntax.specs.Read.{read_statement};
-ghost use Rattle.utd_print.specs.SortKeys.{HasLine};
+ghost use Rattle.utd_print.specs.Lines.{HasLine};
 ghost use Rattle.utd_statement.specs.Parsed.{reading_of, HasAnswer};
 ghost use Rattle.utd_statement.specs.Answers.{Answer, Refusal, of_tree, answer};
 ghost use Rattle.utd_statement.specs.Costs.{cost_of_tree, statement_cost};
