@@ -30,6 +30,13 @@ fn push_boxed<P: Drop>(
     Ok(())
 }
 
+// The lesser of the fault so far and one more, in the one clause that its caller's proof finds.
+fn least_so_far(least: Option<Fault>, e: Fault) -> Fault
+    ensures { IsLeast (λ d. (least ≡ Some d) ⊎ (e ≡ d)) (Some result) }
+{
+    Fault::least_of(least, e)
+}
+
 // Adds the cells with the label of the key and of the rows that the state is of, or takes in the fault.
 fn push_label<T: Tally>(
     alloc: Global,
@@ -50,7 +57,7 @@ fn push_label<T: Tally>(
             Ok(())
         }
         Err(Stop::Fault(e)) => {
-            *least = Some(Fault::least_of(*least, e));
+            *least = Some(least_so_far(*least, e));
             Ok(())
         }
         Err(Stop::Memory) => Err(Memory),

@@ -56,6 +56,13 @@ fn with_interval(alloc: Global, row: &Row, at: usize, i: &Interval<AnyType>) -> 
     Ok(Row::make(values))
 }
 
+// The lesser of the fault so far and one more, in the one clause that its caller's proof finds.
+fn least_so_far(least: Option<Fault>, e: Fault) -> Fault
+    ensures { IsLeast (λ d. (least ≡ Some d) ⊎ (e ≡ d)) (Some result) }
+{
+    Fault::least_of(least, e)
+}
+
 // Adds the part to the runs where the condition holds at its first point. A fault there counts where it is the least.
 fn ask(
     alloc: Global,
@@ -79,7 +86,7 @@ fn ask(
         Ok(true) => add_part(runs, part),
         Ok(false) => Ok(()),
         Err(Stop::Fault(e)) => {
-            *least = Some(Fault::least_of(*least, e));
+            *least = Some(least_so_far(*least, e));
             Ok(())
         }
         Err(Stop::Memory) => Err(Memory),

@@ -16,6 +16,13 @@ use point_core::{Fault, Memory, PointType, Stop};
 use std::alloc::Global;
 use value_core::Row;
 
+// The lesser of the fault so far and one more, in the one clause that its caller's proof finds.
+fn least_so_far(least: Option<Fault>, e: Fault) -> Fault
+    ensures { IsLeast (λ d. (least ≡ Some d) ⊎ (e ≡ d)) (Some result) }
+{
+    Fault::least_of(least, e)
+}
+
 /// Adds the cell under the label that the rule gives on it, if it gives one. A fault counts where it is the least.
 fn give_cell<T: PointType, R: RowRule<T>>(
     alloc: Global,
@@ -38,7 +45,7 @@ fn give_cell<T: PointType, R: RowRule<T>>(
         }
         Ok(None) => Ok(()),
         Err(Stop::Fault(e)) => {
-            *least = Some(Fault::least_of(*least, e));
+            *least = Some(least_so_far(*least, e));
             Ok(())
         }
         Err(Stop::Memory) => Err(Memory),
