@@ -1,1 +1,1 @@
-pub mod ExtremeLemmas
+mod ExtremeLemmas
