@@ -38,7 +38,7 @@ returns-clause-places g c =
     (places_on by rows c.in_ok-list.list.items c.in_ok-list.ensures c.in_ok-keys.keys.items numbers c.in_ok-keys.ensures.paired (G.means rule) (G.given rule)
     (λ key a f n p. g.met.G.GroupTally.agrees rule by (labels_in rows) key a f c.requires.fits n p) (λ l p. HasRow c.in_ok-out.out.items l p)
     (subst (λ (w : ℕ × List (PlainCellBox Row)). (l : Row) (j : ℕ) → HasRow c.in_ok-out.out.items l (j ∷ []) ↔ IsTallied (λ k f. counted_means (G.given rule k) w.0 numbers f) w.1 l (j ∷ []))
-    (λ t. (count t, c.as_slice.ensures.value t)) c.in_ok-out.ensures.places))
+    (λ t. (count t, c.as_slice.ensures.value t)) c.in_ok-out.ensures.grid_points))
 
 pub returns-clause-ends : goal.returns-clause-ends
 returns-clause-ends g c = λ z m.
