@@ -35,5 +35,5 @@ pub returns-in-None-clause-value : goal.returns-in-None-clause-value
 returns-in-None-clause-value g c =
     let a = c.args.addition in
     let meant = c.requires.meant ∙ (λ t. under a.value.now.heading (limited a.insertion.assignment.now.tree.place (united_in (option_map (λ l. l.now) (c.in-None.is t)) a.value.now.rows a.operand.now.rows))) in
-    subst (λ (m : OrFault Relation). Answers c.told-in-None.result m) (sym meant)
-    (c.told-in-None.ensures a.value.now.heading (united a.value.now.rows a.operand.now.rows) c.union.ensures)
+    subst (λ (m : OrFault Relation). Answers c.or_fault_at-in-None.result m) (sym meant)
+    (c.or_fault_at-in-None.ensures a.value.now.heading (united a.value.now.rows a.operand.now.rows) c.union.ensures)

@@ -11,8 +11,8 @@ use Rattle.assign_core.proofs.renewal.exchange_plainly.Goals as goal
 pub union-requires : goal.union-requires
 union-requires c = c.requires.left.heading ∙ sym c.requires.added.heading
 
-pub told-requires : goal.told-requires
-told-requires c = (c.args.left.now.heading, united c.args.left.now.rows c.args.added.now.rows, c.union.ensures)
+pub or_fault_at-requires : goal.or_fault_at-requires
+or_fault_at-requires c = (c.args.left.now.heading, united c.args.left.now.rows c.args.added.now.rows, c.union.ensures)
 
 pub returns-in_err-new-clause-refused : goal.returns-in_err-new-clause-refused
 returns-in_err-new-clause-refused c =

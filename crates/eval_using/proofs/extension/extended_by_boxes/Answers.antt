@@ -53,8 +53,8 @@ returns-in-Ok-clause-value g c =
     (made_meant r is c.args.heading.now i.commalist.now i.to.now (read_sets i.sets.now) i.places.now c.requires.items w.0 w.1 c.args.place)
     (c.or_fault_at.ensures c.args.heading.now rows answered)
 
-pub told-requires-in-Err-Limit : goal.told-requires-in-Err-Limit
-told-requires-in-Err-Limit g c =
+pub or_fault_at-requires-in-Err-Limit : goal.or_fault_at-requires-in-Err-Limit
+or_fault_at-requires-in-Err-Limit g c =
     let r = c.args.r.now in
     let i = c.args.items in
     let is = c.in-Err-Limit.ensures.relation in
@@ -70,9 +70,9 @@ returns-in-Err-Limit-clause-value g c =
     let long = c.in-Err-Limit.ensures.limit (ap (λ x. Err x) c.in-Err-Limit.field-0-is) in
     let w = made_rows r is c.args.heading.now i.commalist.now i.to.now (read_sets i.sets.now) i.places.now c.requires.items long.0 in
     let many = too_many_there r is c.args.heading.now i.commalist.now i.to.now (read_sets i.sets.now) i.places.now c.requires.items w.0 w.1 long.1 in
-    subst (λ (m : OrFault (List Row)). Answers c.told-in-Err-Limit.result (under c.args.heading.now m))
+    subst (λ (m : OrFault (List Row)). Answers c.or_fault_at-in-Err-Limit.result (under c.args.heading.now m))
     (made_meant r is c.args.heading.now i.commalist.now i.to.now (read_sets i.sets.now) i.places.now c.requires.items w.0 w.1 c.args.place)
-    (c.told-in-Err-Limit.ensures c.args.heading.now (packed i.to.now (rows_of w.0)) many)
+    (c.or_fault_at-in-Err-Limit.ensures c.args.heading.now (packed i.to.now (rows_of w.0)) many)
 
 pub returns-in-Err-Op-clause-value : goal.returns-in-Err-Op-clause-value
 returns-in-Err-Op-clause-value g c =

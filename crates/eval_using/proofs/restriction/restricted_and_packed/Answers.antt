@@ -41,8 +41,8 @@ returns-in-Ok-clause-value g c =
     subst (λ (m : OrFault (List Row)). Answers c.or_fault_at.result (under r.heading m)) (holding_meant r is commalist c.requires.intervals e c.args.place c.in-Ok.ensures.no_fault)
     (c.or_fault_at.ensures r.heading rows answered)
 
-pub told-requires-in-Err-Limit : goal.told-requires-in-Err-Limit
-told-requires-in-Err-Limit g c =
+pub or_fault_at-requires-in-Err-Limit : goal.or_fault_at-requires-in-Err-Limit
+or_fault_at-requires-in-Err-Limit g c =
     let r = c.args.r.now in
     let commalist = c.args.commalist.now in
     let e = read c.args.c.now in
@@ -58,8 +58,8 @@ returns-in-Err-Limit-clause-value g c =
     let is = c.heading.ensures.relation in
     let rows = packed commalist (holding r is commalist c.requires.intervals e) in
     let long = c.in-Err-Limit.ensures.limit (ap (λ x. Err x) c.in-Err-Limit.field-0-is) in
-    subst (λ (m : OrFault (List Row)). Answers c.told-in-Err-Limit.result (under r.heading m)) (holding_meant r is commalist c.requires.intervals e c.args.place long.0)
-    (c.told-in-Err-Limit.ensures r.heading rows (too_many_there r is commalist c.requires.intervals e long))
+    subst (λ (m : OrFault (List Row)). Answers c.or_fault_at-in-Err-Limit.result (under r.heading m)) (holding_meant r is commalist c.requires.intervals e c.args.place long.0)
+    (c.or_fault_at-in-Err-Limit.ensures r.heading rows (too_many_there r is commalist c.requires.intervals e long))
 
 pub returns-in-Err-Op-clause-value : goal.returns-in-Err-Op-clause-value
 returns-in-Err-Op-clause-value g c =

@@ -53,8 +53,8 @@ returns-in-Ok-clause-value g c =
     let read = answer_read h commalist w.0 boxes are form refl c.in_ok-whole.whole c.in_ok-whole.ensures c.from_boxes.result c.from_boxes.ensures in
     subst (λ (m : OrFault Relation). Answers c.or_fault_at.result m) w.1 (c.or_fault_at.ensures h w.0 read)
 
-pub told-requires-in-Err-Limit : goal.told-requires-in-Err-Limit
-told-requires-in-Err-Limit g c =
+pub or_fault_at-requires-in-Err-Limit : goal.or_fault_at-requires-in-Err-Limit
+or_fault_at-requires-in-Err-Limit g c =
     let h = c.args.heading.now in
     let commalist = c.args.commalist.now in
     let long = c.in-Err-Limit.ensures.limit (ap (λ x. Err x) c.in-Err-Limit.field-0-is) in
@@ -69,7 +69,7 @@ returns-in-Err-Limit-clause-value g c =
     let long = c.in-Err-Limit.ensures.limit (ap (λ x. Err x) c.in-Err-Limit.field-0-is) in
     let f = long.1 in
     let w = answered c.requires.summary.0 c.args.heading.now c.args.commalist.now c.args.by.now (map read_aggregate c.args.aggregates.now) c.args.r.now c.rows-rows.ensures.relation c.attributes-attributes.ensures.heading c.requires.summary.1 c.requires.list c.requires.listed c.requires.summed c.args.here.now c.args.at.now c.requires.here c.requires.places c.args.place long.0 in
-    subst (λ (m : OrFault Relation). Answers c.told-in-Err-Limit.result m) w.1 (c.told-in-Err-Limit.ensures h w.0 (too_many h commalist w.0 f.0 (w.2 f.0 f.1) most_rows f.2))
+    subst (λ (m : OrFault Relation). Answers c.or_fault_at-in-Err-Limit.result m) w.1 (c.or_fault_at-in-Err-Limit.ensures h w.0 (too_many h commalist w.0 f.0 (w.2 f.0 f.1) most_rows f.2))
 
 pub returns-in-Err-Op-clause-value : goal.returns-in-Err-Op-clause-value
 returns-in-Err-Op-clause-value g c =
