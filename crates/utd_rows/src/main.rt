@@ -10,7 +10,7 @@ use std::alloc::Global;
 use std::{fs, io};
 
 /// The files of data/, by subject.
-const FILES: [&str; 43] = [
+const FILES: [&str; 44] = [
     "arranged.txt",
     "ask.txt",
     "assign.txt",
@@ -20,6 +20,7 @@ const FILES: [&str; 43] = [
     "drop.txt",
     "exchange.txt",
     "extend.txt",
+    "extreme.txt",
     "fault.txt",
     "from_sql.txt",
     "history.txt",
