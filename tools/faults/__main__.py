@@ -59,19 +59,31 @@ def try_streams(tried):
     return wrong
 
 
+def scripts_of(paths):
+    """The scripts of these files, or all that there are."""
+    for path in paths:
+        if not os.path.isfile(path):
+            raise program.Missing(f'there is no script {path}')
+    return [scripts.of_file(path) for path in paths] or scripts.all_scripts(ROOT)
+
+
+def try_all(tried, chosen):
+    """Tells all that comes of the scripts and the streams; gives how much of it is wrong."""
+    runs, wrong = sweep_all(tried, chosen)
+    wrong_streams = try_streams(tried)
+    print(f'{runs:,} runs of {len(chosen)} scripts, {wrong} wrong; {len(streams.CASES)} streams, {wrong_streams} wrong')
+    return wrong + wrong_streams
+
+
 def main(given):
     words = words_of(given)
-    with tempfile.TemporaryDirectory() as room:
-        try:
-            tried = program.Program(words.program, room)
-            chosen = [scripts.of_file(path) for path in words.scripts] or scripts.all_scripts(ROOT)
-        except (program.Missing, OSError) as error:
-            print(f'faults: {error}', file=sys.stderr)
-            return 2
-        runs, wrong = sweep_all(tried, chosen)
-        wrong_streams = try_streams(tried)
-    print(f'{runs:,} runs of {len(chosen)} scripts, {wrong} wrong; {len(streams.CASES)} streams, {wrong_streams} wrong')
-    return 1 if wrong or wrong_streams else 0
+    try:
+        chosen = scripts_of(words.scripts)
+        with tempfile.TemporaryDirectory() as room:
+            return 1 if try_all(program.Program(words.program, room), chosen) else 0
+    except program.Missing as error:
+        print(f'faults: {error}', file=sys.stderr)
+        return 2
 
 
 if __name__ == '__main__':

@@ -60,8 +60,11 @@ class Program:
 
     def count(self, script):
         """How the script ends, and how many allocations, reads and writes it makes."""
+        with open(self.counts, 'w', encoding='ascii'):
+            pass
         answer = self.run(script, COUNTS=self.counts)
-        if not os.path.exists(self.counts):
-            raise Missing(f'{self.path} ends without the preloaded library: it has to be linked to glibc')
         with open(self.counts, encoding='ascii') as file:
-            return answer, [int(line) for line in file]
+            counts = [int(line) for line in file]
+        if not any(counts):
+            raise Missing(f'{self.path} makes no call that the library hears of: it has to be linked to glibc, and to read standard input')
+        return answer, counts
