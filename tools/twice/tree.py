@@ -4,7 +4,7 @@ import os
 import re
 
 ROOT = os.path.dirname(os.path.dirname(os.path.dirname(os.path.abspath(__file__))))
-APART = re.compile(r'(_tests|_benchmarks)$|^utd_rows$')
+APART = re.compile(r'(_tests|_benchmarks)$|^utd_(rows|faults)$')
 WRITTEN = 'Written by tools/grammar'
 
 
