@@ -32,9 +32,9 @@ class Tally:
         return sum(self.ended.values())
 
     def text(self):
-        made = ', '.join(f'{count:,} {kind.name}s' for kind, count in zip(KINDS, self.counts))
-        ended = ', '.join(f'{count:,} of status {status}' for status, count in sorted(self.ended.items(), key=str))
-        return f'{made}; {ended}; {len(self.wrong)} wrong'
+        made = ', '.join(f'{count:,} {kind.name}{"s" * (count != 1)}' for kind, count in zip(KINDS, self.counts))
+        ended = ', '.join(f'{status} in {count:,}' for status, count in sorted(self.ended.items(), key=str))
+        return f'{made}; {self.number():,} runs, status {ended}; {len(self.wrong)} wrong'
 
 
 def fronts(output):
