@@ -16,6 +16,8 @@ The status is 0; 1 where a statement was refused or something differs; 2 for wro
 import sys
 
 sys.dont_write_bytecode = True
+# an expression is read as deep as it is nested
+sys.setrecursionlimit(100000)
 
 import check  # noqa: E402
 import postgresql  # noqa: E402

@@ -18,9 +18,9 @@ LIMITS = {'E05', 'E06', 'E17', 'E22', 'E35', 'E36', 'E46'}
 FAULTS = {'E30', 'E31', 'E32', 'E33', 'E34'}
 RANGE = re.compile(r'\[(.+),(.*)\)')
 REFUSED = re.compile(r'statement ([0-9]+) refused: (E[0-9]{2})')
-SECONDS = 60
+SECONDS = 20
 # each script has a schema of its own
-FRESH = (f"SET client_min_messages = error;\nSET statement_timeout = '{SECONDS}s';\nDROP SCHEMA IF EXISTS public CASCADE;\nCREATE SCHEMA public;\n")
+FRESH = (f"SET client_min_messages = error;\nSET jit = off;\nSET statement_timeout = '{SECONDS}s';\nDROP SCHEMA IF EXISTS public CASCADE;\nCREATE SCHEMA public;\n")
 
 Script = collections.namedtuple('Script', 'title text output')
 

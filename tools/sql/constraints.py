@@ -108,16 +108,26 @@ def excluded(same, names):
     return ', '.join([*(f'{quoted(name)} WITH =' for name in by_bytes(same)), *names])
 
 
+def is_packed(names, constraints):
+    return any(constraint.form == 'packed' and set(constraint.names) == set(names) for constraint in constraints)
+
+
+def rest_of(heading, constraint):
+    """The attributes that are neither of the key nor of the list."""
+    return [name for name in heading if name not in constraint.key and name not in constraint.names]
+
+
 def exclusion(relvar, heading, constraint, constraints):
+    """PACKED ON one attribute; and WHEN UNPACKED ON for rows that are packed, of which no two are alike besides and overlap."""
     if constraint.form == 'packed':
         if len(constraint.names) > 1:
             return []
         name, = constraint.names
         same, parts = [other for other in heading if other != name], [f'utd.touched({quoted(name)}) WITH &&']
     else:
-        same, parts = [name for name in constraint.key if name not in constraint.names], [f'{quoted(name)} WITH &&' for name in constraint.names]
-        if any(other.form == 'packed' and other.names == constraint.names and set(same) == set(heading) - set(other.names) for other in constraints):
+        if not rest_of(heading, constraint) or not is_packed(constraint.names, constraints):
             return []
+        same, parts = [name for name in constraint.key if name not in constraint.names], [f'{quoted(name)} WITH &&' for name in constraint.names]
     return [f'CONSTRAINT {name_of(relvar, constraint)} EXCLUDE USING gist ({excluded(same, parts)})']
 
 
@@ -163,6 +173,19 @@ def unpacked_rows(relvar, constraint, heading):
     return query
 
 
+def doubled(relvar, constraint, heading):
+    """Rows that agree on the key at some point, and are not alike besides."""
+    same = [name for name in constraint.key if name not in constraint.names]
+    overlap = ''.join(f' AND l.{quoted(name)} && r.{quoted(name)}' for name in constraint.names)
+    rest = [quoted(name) for name in by_bytes(rest_of(heading, constraint))]
+    left, right = (', '.join(f'{side}.{name}' for name in rest) for side in 'lr')
+
+    def query(changed):
+        table = quoted(relvar)
+        return f'SELECT FROM {table} l JOIN {table} r ON {equal(same)}{overlap}\nWHERE {equal(same, "l", changed)} AND ({left}) <> ({right})'
+    return query
+
+
 def contradicted(constraint):
     """What runs and has ended no earlier, or ran on from its end."""
     history = constraint.history
@@ -203,6 +226,8 @@ def behind_table(relvar, heading, constraints, names):
         elif constraint.form == 'packed' and len(constraint.names) > 1:
             tables = [('here', 'INSERT OR UPDATE OR DELETE', relvar)]
             found += trigger(relvar, constraint, unpacked_rows(relvar, constraint, heading), '23P01', tables)
+        elif constraint.form == 'when' and constraint.names and rest_of(heading, constraint) and not is_packed(constraint.names, constraints):
+            found += trigger(relvar, constraint, doubled(relvar, constraint, heading), '23P01', [('here', 'INSERT OR UPDATE', relvar)])
         elif constraint.form == 'history':
             history = constraint.history
             tables = [('ended', 'INSERT OR UPDATE', relvar), ('runs', 'INSERT OR UPDATE', history.since)]

@@ -44,7 +44,7 @@ def of_points(sql):
         of_sql('first', f'd {span}', span, f'SELECT {span}(lower(d), {behind.format("lower(d)")})'),
         of_sql('parts', f'd {span}, ends {sql}[]', f'SETOF {span}',
                f'SELECT {span}(p, coalesce(lead(p) OVER (ORDER BY p), upper(d)))\n'
-               '  FROM (SELECT lower(d) AS p UNION SELECT p FROM unnest(ends) p WHERE p <@ d) t'),
+               '  FROM (SELECT lower(d) AS p UNION SELECT p FROM unnest(ends) p WHERE p <@ d) t', 'IMMUTABLE ROWS 4'),
         of_sql('points', f'd {span}', f'SETOF {span}', f'SELECT {single} FROM {series}'),
         of_sql('changes', f'p {sql}', f'{sql}[]', f'SELECT ARRAY[p, {behind.format("p")}]'),
         of_sql('changes', f'd {span}', f'{sql}[]',

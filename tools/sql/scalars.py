@@ -1,6 +1,6 @@
 """Expressions of values in SQL.
 
-A fault is an error of the statement there. AND and OR become CASE where their right side may have one, so that it counts only where it does in the language.
+A fault is an error of the statement there. AND and OR become CASE where a side may have one, so that it counts where it does in the language.
 What is constant and may have a fault is kept from being worked out before there is a row.
 """
 import dataclasses
@@ -69,13 +69,17 @@ def need(holds, words):
         raise Refusal('E12', words)
 
 
-def combined(scope, sql, kind, parts, faults=False, whole=False):
-    """An expression that is made of these parts; what may have a fault and has only constant parts waits for a row."""
-    constant = all(part.constant for part in parts)
-    if faults and constant and scope.over_rows:
-        first = parts[0]
-        sql = sql.replace(first.part if first.part in sql else first.sql, f'utd.kept({first.sql})', 1)
-    return Scalar(sql, kind, faults or any(part.faults for part in parts), constant, whole=whole)
+def combined(sql, kind, parts, faults=False, whole=False):
+    """An expression that is made of these parts."""
+    return Scalar(sql, kind, faults or any(part.faults for part in parts), all(part.constant for part in parts), whole=whole)
+
+
+def held(scope, *parts):
+    """The parts of what may have a fault: where all are constant it has to wait for a row."""
+    if not scope.over_rows or not all(part.constant for part in parts):
+        return parts
+    first, *others = parts
+    return [Scalar(f'utd.kept({first.sql})', first.kind, first.faults, whole=True), *others]
 
 
 # ---------------------------------------------------------------- literals and names
@@ -159,17 +163,17 @@ def logical(word):
     def make(scope, left, right):
         left, right = scalar_of(left, scope), scalar_of(right, scope)
         need(left.kind == right.kind == BOOLEAN, f'{word} is of truth values')
-        if right.faults:
+        if left.faults or right.faults:
             held, other = (right.sql, 'false') if word == 'AND' else ('true', right.sql)
-            return combined(scope, f'CASE WHEN {left.sql} THEN {held} ELSE {other} END', BOOLEAN, [left, right])
-        return combined(scope, f'{left.part} {word} {right.part}', BOOLEAN, [left, right])
+            return combined(f'CASE WHEN {left.sql} THEN {held} ELSE {other} END', BOOLEAN, [left, right])
+        return combined(f'{left.part} {word} {right.part}', BOOLEAN, [left, right])
     return make
 
 
 def negation(scope, tree):
     found = scalar_of(tree, scope)
     need(found.kind == BOOLEAN, 'NOT is of a truth value')
-    return combined(scope, f'NOT {found.part}', BOOLEAN, [found])
+    return combined(f'NOT {found.part}', BOOLEAN, [found])
 
 
 def compare(scope, left, word, right):
@@ -179,41 +183,44 @@ def compare(scope, left, word, right):
         is_ordered = left.kind == CHAR or left.kind.form == 'POINT'
         need(left.kind == right.kind and (is_ordered or word in ('Equal', 'NotEqual')), 'these are not compared')
         order = ' COLLATE "C"' if left.kind == CHAR and word not in ('Equal', 'NotEqual') else ''
-        return combined(scope, f'{left.part}{order} {COMPARISONS[word]} {right.part}{order}', BOOLEAN, parts)
+        return combined(f'{left.part}{order} {COMPARISONS[word]} {right.part}{order}', BOOLEAN, parts)
     if word == 'In':
         need(left.kind.form == 'POINT' and right.kind == interval(left.kind.points), 'IN is of a point and an interval')
-        return combined(scope, f'{left.part} <@ {right.part}', BOOLEAN, parts)
+        return combined(f'{left.part} <@ {right.part}', BOOLEAN, parts)
     need(left.kind.form == 'INTERVAL' and left.kind == right.kind, 'these words are of two intervals')
     if word in RANGES:
-        return combined(scope, f'{left.part} {RANGES[word]} {right.part}', BOOLEAN, parts)
-    return combined(scope, f'utd.{RANGE_FUNCTIONS[word]}({left.sql}, {right.sql})', BOOLEAN, parts, whole=True)
+        return combined(f'{left.part} {RANGES[word]} {right.part}', BOOLEAN, parts)
+    return combined(f'utd.{RANGE_FUNCTIONS[word]}({left.sql}, {right.sql})', BOOLEAN, parts, whole=True)
 
 
 def arithmetic(scope, left, word, right):
     left, right = scalar_of(left, scope), scalar_of(right, scope)
     if word == 'Concat':
         need(left.kind == right.kind == CHAR, '|| is of texts')
-        return combined(scope, f'{left.part} || {right.part}', CHAR, [left, right])
+        return combined(f'{left.part} || {right.part}', CHAR, [left, right])
     need(left.kind == right.kind == point(INTEGER), 'arithmetic is of integers')
+    left, right = held(scope, left, right)
     sign, name = ARITHMETIC[word]
     if scope.quiet:
-        return combined(scope, f'utd.quiet_{name}({left.sql}, {right.sql})', point(INTEGER), [left, right], whole=True)
-    return combined(scope, f'{left.part} {sign} {right.part}', point(INTEGER), [left, right], True)
+        return combined(f'utd.quiet_{name}({left.sql}, {right.sql})', point(INTEGER), [left, right], whole=True)
+    return combined(f'{left.part} {sign} {right.part}', point(INTEGER), [left, right], True)
 
 
 def negative(scope, tree):
     found = scalar_of(tree, scope)
     need(found.kind == point(INTEGER), 'a negative is of an integer')
+    found, = held(scope, found)
     if scope.quiet:
-        return combined(scope, f'utd.quiet_difference(0::int8, {found.sql})', found.kind, [found], whole=True)
-    return combined(scope, f'- {found.part}', found.kind, [found], True)
+        return combined(f'utd.quiet_difference(0::int8, {found.sql})', found.kind, [found], whole=True)
+    return combined(f'- {found.part}', found.kind, [found], True)
 
 
 def stepped(scope, found, name):
     """The point beside another one: `next` or `prior`."""
+    found, = held(scope, found)
     points = found.kind.points
     last = f', {points.ends[1]}' if points.values and name == 'next' else ''
-    return combined(scope, f'utd.{"quiet_" if scope.quiet else ""}{name}({found.sql}{last})', found.kind, [found], True, True)
+    return combined(f'utd.{"quiet_" if scope.quiet else ""}{name}({found.sql}{last})', found.kind, [found], True, True)
 
 
 def selector(scope, before, left, right, behind):
@@ -225,24 +232,25 @@ def selector(scope, before, left, right, behind):
         begin, end = left.number + (before == 'Open'), right.number - (behind == 'Open')
         if first <= begin <= end <= last:
             return interval_of(points, begin, end)
+    left, right = held(scope, left, right)
     if before == 'Open':
         left = stepped(scope, left, 'next')
     if behind == 'Open':
         right = stepped(scope, right, 'prior')
     quiet = 'quiet_' if scope.quiet else ''
-    return combined(scope, f'utd.{quiet}interval({left.sql}, {right.sql})', interval(points), [left, right], True, True)
+    return combined(f'utd.{quiet}interval({left.sql}, {right.sql})', interval(points), [left, right], True, True)
 
 
 def end_of(scope, found):
     """The last point of an interval."""
     points = found.kind.points
     if points == INTEGER:
-        return combined(scope, f'utd.last({found.sql})', point(points), [found], whole=True)
-    return combined(scope, f'upper({found.sql}) - 1', point(points), [found])
+        return combined(f'utd.last({found.sql})', point(points), [found], whole=True)
+    return combined(f'upper({found.sql}) - 1', point(points), [found])
 
 
 def begin_of(scope, found):
-    return combined(scope, f'lower({found.sql})', point(found.kind.points), [found], whole=True)
+    return combined(f'lower({found.sql})', point(found.kind.points), [found], whole=True)
 
 
 def function(scope, word, tree):
@@ -252,8 +260,9 @@ def function(scope, word, tree):
         return stepped(scope, found, word.lower())
     need(found.kind.form == 'INTERVAL', f'{word.upper()} is of an interval')
     if word == 'Count':
+        found, = held(scope, found)
         quiet = 'quiet_' if scope.quiet else ''
-        return combined(scope, f'utd.{quiet}count({found.sql})', point(INTEGER), [found], found.kind.points == INTEGER, True)
+        return combined(f'utd.{quiet}count({found.sql})', point(INTEGER), [found], found.kind.points == INTEGER, True)
     if word in ('Begin', 'Pre'):
         first = begin_of(scope, found)
         return first if word == 'Begin' else stepped(scope, first, 'prior')
@@ -264,11 +273,12 @@ def function(scope, word, tree):
 def pair_function(scope, word, left, right):
     left, right = scalar_of(left, scope), scalar_of(right, scope)
     need(left.kind.form == 'INTERVAL' and left.kind == right.kind, f'{word.upper()} is of two intervals')
+    left, right = held(scope, left, right)
     if scope.quiet:
         sql = f'utd.quiet_{word.lower()}({left.sql}, {right.sql})'
     else:
         sql = PAIRS[word].format(left.part, right.part)
-    return combined(scope, sql, left.kind, [left, right], True, sql.startswith('utd.'))
+    return combined(sql, left.kind, [left, right], True, sql.startswith('utd.'))
 
 
 # a later form is one more function here

@@ -12,7 +12,7 @@ from constraints import Constraint, behind_table, check, constraint_of, in_table
 from kinds import CHAR, DATE, INTEGER, NO_ATTRIBUTE, Points, columns_of, identifiers, interval, point, quoted, text_literal, type_of
 from relations import Relation, arm, distinct, equal, from_alias, heading_of, interval_list, known, limited, listed, nested, of_table, relation_of
 from relations import same_heading, values_set
-from points import packed
+from points import by_points
 from scalars import Scope, condition_of, over, points_of, scalar_of, swept
 from syntax import Refusal, statements_of, tree_of
 
@@ -210,10 +210,10 @@ def ask(names, tree):
     left, right = relation_of(left, names), relation_of(right, names)
     interval_list(attributes, left, right)
     same_heading(left, right)
-    tables = ',\n'.join(f'{name} AS {nested(packed(side, attributes).sql)}' for name, side in (('"the left"', left), ('"the right"', right)))
-    lacks = 'NOT EXISTS (SELECT * FROM "the {}" EXCEPT SELECT * FROM "the {}")'
-    answer = COMPARISONS[word].format(fewer=lacks.format('left', 'right'), more=lacks.format('right', 'left'))
-    return f'WITH {tables}\nSELECT {answer} AS answer;', 'truth'
+    sides = [of_table(side.heading, table) for side, table in ((left, '"the first side"'), (right, '"the second side"'))]
+    fewer, more = (f'NOT EXISTS {nested(by_points("Minus", *pair, attributes).sql)}' for pair in (sides, sides[::-1]))
+    tables = ',\n'.join(f'{side.table} AS {nested(operand.sql)}' for side, operand in zip(sides, (left, right)))
+    return f'WITH {tables}\nSELECT {COMPARISONS[word].format(fewer=fewer, more=more)} AS answer;', 'truth'
 
 
 # ---------------------------------------------------------------- assignments

@@ -165,6 +165,13 @@ def firsts(symbol):
     return frozenset(found)
 
 
+@functools.cache
+def is_list(symbol):
+    """Whether the symbol is for items that each stand behind a comma; there may be many."""
+    rows = TABLE[symbol]['rows']
+    return len(rows) == 1 and rows[0][0] == 'on' and rows[0][1] == 'Comma' and rows[0][4][1:] == [symbol]
+
+
 class Reader:
     """Reads a statement's tokens by the table."""
 
@@ -189,6 +196,8 @@ class Reader:
         if isinstance(symbol, tuple):
             return self.fixed(*symbol)
         description = TABLE[symbol]
+        if is_list(symbol):
+            return self.items(description['rows'][0][4][0])
         names = [name for name, _ in description.get('params', [])]
         for row in description['rows']:
             if self.next() in ({row[1]} if row[0] in ('on', 'before') else firsts(row[1])):
@@ -196,6 +205,14 @@ class Reader:
         if description['ends'] is None:
             self.refuse()
         return as_rest(names, compiled(description['ends']), {})
+
+    def items(self, symbol):
+        """Items that each stand behind a comma."""
+        found = []
+        while self.next() == 'Comma':
+            self.take()
+            found.append(self.read(symbol))
+        return found
 
     def fixed(self, how, what):
         """A token that has to stand here: its place."""
