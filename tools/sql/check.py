@@ -19,8 +19,8 @@ FAULTS = {'E30', 'E31', 'E32', 'E33', 'E34'}
 RANGE = re.compile(r'\[(.+),(.*)\)')
 REFUSED = re.compile(r'statement ([0-9]+) refused: (E[0-9]{2})')
 SECONDS = 20
-# each script has a schema of its own
-FRESH = (f"SET client_min_messages = error;\nSET jit = off;\nSET statement_timeout = '{SECONDS}s';\nDROP SCHEMA IF EXISTS public CASCADE;\nCREATE SCHEMA public;\n")
+# what stands before a script, which has a schema of its own
+FRESH = "SET client_min_messages = error;\nSET jit = off;\nSET statement_timeout = '{seconds}s';\nCREATE SCHEMA {schema};\nSET search_path = {schema};\n"
 
 Script = collections.namedtuple('Script', 'title text output')
 
@@ -123,9 +123,10 @@ class Comparison:
 
     def play(self, server, script):
         statements = list(translated(script.text))
-        answers = server.answers([statement.sql for statement in statements], FRESH)
-        entries = entries_of(script.output)
         self.counts['scripts'] += 1
+        fresh = FRESH.format(seconds=SECONDS, schema=f'script_{self.counts["scripts"]}')
+        answers = server.answers([statement.sql for statement in statements], fresh)
+        entries = entries_of(script.output)
         for statement, answer in zip(statements, answers):
             refusal = REFUSED.match(entries[0][0]) if entries else None
             if refusal and int(refusal[1]) == statement.number:

@@ -36,7 +36,7 @@ def packed_on(relation, name):
 
 def packed(relation, names):
     """Packed on a list: on the first attribute, point by point of the others, and so on."""
-    if not names or relation.packed == tuple(names):
+    if not names or relation.is_packed(names):
         return relation
     if len(names) == 1:
         return packed_on(relation, names[0])
@@ -88,6 +88,9 @@ def pack_on(names, word, operand, attributes):
 
 def pieces_of(relation, name, others):
     """For each value of the other attributes their points, as a multirange."""
+    if any(key <= set(others) for key in relation.keys):
+        columns = from_columns(others) | {name: f'{relation.heading[name].points.multirange}({quoted(name)})'}
+        return nested(f'SELECT {listed(columns)}\nFROM {relation.source} t')
     columns = from_columns(others) | {name: f'range_agg({quoted(name)})'}
     return nested(f'SELECT {listed(columns)}\nFROM {relation.source} t\n{grouped(others)}')
 

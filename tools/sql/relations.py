@@ -16,17 +16,22 @@ SETS = {'Union': 'UNION', 'Intersect': 'INTERSECT', 'Minus': 'EXCEPT'}
 
 @dataclasses.dataclass
 class Relation:
-    """A relation: the kinds of its attributes, its SELECT, and the list on which it is known to be packed."""
+    """A relation: the kinds of its attributes, its SELECT, the list on which it is known to be packed, and sets of attributes on which no two rows agree."""
     heading: dict
     sql: str
     # the table or the view that it is
     table: str = ''
     packed: typing.Any = None
+    keys: tuple = ()
 
     @property
     def source(self):
         """How it stands behind FROM."""
         return self.table or nested(self.sql)
+
+    def is_packed(self, names):
+        """Whether it is known to be packed: it is where no two rows agree besides the list."""
+        return self.packed == tuple(names) or any(key.isdisjoint(names) for key in self.keys)
 
 
 def nested(sql):
@@ -34,8 +39,8 @@ def nested(sql):
     return '(\n' + ''.join(f'  {line}\n' for line in sql.split('\n')) + ')'
 
 
-def of_table(heading, table, packed=None):
-    return Relation(heading, f'SELECT {identifiers(columns_of(heading))} FROM {table}', table, packed)
+def of_table(heading, table, packed=None, keys=()):
+    return Relation(heading, f'SELECT {identifiers(columns_of(heading))} FROM {table}', table, packed, keys)
 
 
 def equal(names, left='l', right='r'):
@@ -214,7 +219,9 @@ def projected(relation, kept):
     heading = {name: relation.heading[name] for name in kept}
     if heading == relation.heading:
         return relation
-    return Relation(heading, f'SELECT DISTINCT {listed(from_columns(heading))}\nFROM {relation.source} t')
+    keys = tuple(key for key in relation.keys if key <= heading.keys())
+    distinct_rows = '' if keys else 'DISTINCT '
+    return Relation(heading, f'SELECT {distinct_rows}{listed(from_columns(heading))}\nFROM {relation.source} t', keys=keys)
 
 
 def from_columns(heading):
@@ -231,7 +238,7 @@ def restricted(relation, tree, types):
     source = kept_apart(relation) if condition.faults else relation.source
     sql = f'SELECT {identifiers(columns_of(relation.heading))}\nFROM {source} t\nWHERE {condition.sql}'
     # of a relation that is packed on one attribute any rows are
-    return Relation(relation.heading, sql, packed=relation.packed if relation.packed and len(relation.packed) == 1 else None)
+    return Relation(relation.heading, sql, packed=relation.packed if relation.packed and len(relation.packed) == 1 else None, keys=relation.keys)
 
 
 def restrict(names, operand, tree):
@@ -326,7 +333,7 @@ def summarized(relation, kept, trees, types):
     columns = from_columns(kept) | {name: aggregate.sql for name, aggregate in found.items()}
     faults = any(aggregate.value and aggregate.value.faults for aggregate in found.values())
     source = kept_apart(relation) if faults else relation.source
-    return Relation(heading, f'SELECT {listed(columns)}\nFROM {source} t\n{grouped(kept)}')
+    return Relation(heading, f'SELECT {listed(columns)}\nFROM {source} t\n{grouped(kept)}', keys=(frozenset(kept),))
 
 
 def summarize(names, operand, kept, aggregates):

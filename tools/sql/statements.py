@@ -39,12 +39,17 @@ class Relvar:
         lists = [tuple(constraint.names) for constraint in self.constraints if constraint.form == 'packed' and len(constraint.names) == 1]
         return lists[0] if lists else None
 
+    @property
+    def keys(self):
+        return tuple(frozenset(key) for _, key in keys_of(self.constraints))
+
 
 @dataclasses.dataclass
 class View:
     heading: dict
     tree: typing.Any
     packed: typing.Any
+    keys: tuple
     history: typing.Any = None
 
 
@@ -64,11 +69,11 @@ class Names:
             relvar = self.relvars[name]
             if name in self.values:
                 return of_table(relvar.heading, self.values[name])
-            return of_table(relvar.heading, quoted(name), relvar.packed)
+            return of_table(relvar.heading, quoted(name), relvar.packed, relvar.keys)
         if name not in self.views:
             raise Refusal('E10', f'there is no relvar {name}')
         view = self.views[name]
-        return relation_of(view.tree, self) if self.values else of_table(view.heading, quoted(name), view.packed)
+        return relation_of(view.tree, self) if self.values else of_table(view.heading, quoted(name), view.packed, view.keys)
 
     def base_heading(self, name):
         """The heading of a relvar that is no view."""
@@ -124,7 +129,7 @@ def declare_relvar(names, name, form):
 
 def declare_view(names, name, tree, history=None):
     relation = relation_of(tree, names)
-    names.views[name] = View(relation.heading, tree, relation.packed, history)
+    names.views[name] = View(relation.heading, tree, relation.packed, relation.keys, history)
     return f'CREATE VIEW {quoted(name)} AS\n{relation.sql};'
 
 
