@@ -37,13 +37,20 @@ def examples():
         yield Script(os.path.relpath(path, ROOT), text_of(path), text_of(f'{path[:-3]}.out'))
 
 
+def in_full(text):
+    """A script that is written short: `<<COUNT TEXT>>` is the text so many times, in which `#` is the number of the time and `#+1` the next one."""
+    def repeated(match):
+        return ''.join(match[2].replace('#+1', str(number + 1)).replace('#', str(number)) for number in range(int(match[1])))
+    return re.sub(r'<<([0-9]+) (.*?)>>', repeated, text, flags=re.S)
+
+
 def rows():
     """The rows that the gate runs, among them every script of the pages."""
     for path in sorted(glob.glob(f'{ROOT}/crates/utd_rows/data/*.txt')):
         for row in re.split('^=== ', text_of(path), flags=re.M)[1:]:
             title, _, rest = row.partition('\n')
             text, _, output = rest.partition('\n--- ')
-            yield Script(f'{os.path.basename(path)}: {title}', text, output.partition('\n')[2])
+            yield Script(f'{os.path.basename(path)}: {title}', in_full(text), output.partition('\n')[2])
 
 
 def scripts_in(folder, command):
@@ -78,7 +85,8 @@ def printed(kind, text):
 
 def table_of(heading, output):
     """The lines of a table, of what psql writes as CSV."""
-    lines = list(csv.reader(output.splitlines()))
+    # an empty line is a row whose only value is an empty text
+    lines = [line or [''] for line in csv.reader(output.split('\n')[:-1])]
     if not heading:
         return ['|'] * len(lines) + [f'rows: {len(lines) - 1}']
     names = columns_of(heading)
