@@ -1,7 +1,8 @@
 """Writes a script as SQL for PostgreSQL 15 or later: python3 tools/sql < SCRIPT > SCRIPT.sql
 
 Each statement becomes SQL under a comment with its number: relvars are tables, views are views, PRINT and ASK are SELECTs, and assignments are transactions.
-Intervals are ranges, and operators under USING work on the ends of these. Functions that the SQL calls stand before it, in the schema utd. `psql -f SCRIPT.sql` runs it.
+Intervals are ranges, and operators under USING work on the ends of these. Functions that the SQL calls stand before it, in the schema utd.
+`psql -f SCRIPT.sql` runs it.
 
 A statement that is refused for its text, its names or its kinds, or that PostgreSQL cannot say, is left out and named on standard error.
 

@@ -8,7 +8,7 @@ import typing
 
 from kinds import NAME_BYTES, columns_of, by_bytes, identifiers, quoted, text_literal
 from points import by_points, packed
-from relations import Relation, equal, interval_list, known, nested, of_table
+from relations import Relation, equal, interval_list, known, nested
 from syntax import Refusal
 
 

@@ -7,7 +7,7 @@ import dataclasses
 import datetime
 import typing
 
-from kinds import BOOLEAN, CHAR, DATE, INTEGER, Kind, Points, FIRST_INTEGER, LAST_INTEGER, interval, point, quoted, text_literal
+from kinds import BOOLEAN, CHAR, DATE, FIRST_INTEGER, INTEGER, LAST_INTEGER, Kind, interval, point, quoted, text_literal
 from syntax import Refusal
 
 COMPARISONS = {'Equal': '=', 'NotEqual': '<>', 'Less': '<', 'LessEqual': '<=', 'Greater': '>', 'GreaterEqual': '>='}
@@ -232,13 +232,15 @@ def selector(scope, before, left, right, behind):
         begin, end = left.number + (before == 'Open'), right.number - (behind == 'Open')
         if first <= begin <= end <= last:
             return interval_of(points, begin, end)
+    # up to the last point, and from the first one on, there is always some
+    faults = (before, behind) != ('Closed', 'Closed') or (left.number != first and right.number != last)
     left, right = held(scope, left, right)
     if before == 'Open':
         left = stepped(scope, left, 'next')
     if behind == 'Open':
         right = stepped(scope, right, 'prior')
     quiet = 'quiet_' if scope.quiet else ''
-    return combined(f'utd.{quiet}interval({left.sql}, {right.sql})', interval(points), [left, right], True, True)
+    return combined(f'utd.{quiet}interval({left.sql}, {right.sql})', interval(points), [left, right], faults, True)
 
 
 def end_of(scope, found):

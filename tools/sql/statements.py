@@ -1,18 +1,16 @@
 """Statements in SQL, and what is declared before each.
 
-Whatever changes a relvar gives it a new value: rows that the value lacks are deleted and those that the relvar lacks are inserted, at the end of one transaction.
+Whatever changes a relvar gives it a new value: at the end of one transaction the rows that the value lacks are deleted, and those that the relvar lacks inserted.
 Where a DELETE, an INSERT or an UPDATE of SQL says the same, that stands instead.
 """
 import collections
 import dataclasses
 import typing
 
-import points  # noqa: F401, adds its forms to those of `relations`
 from constraints import Constraint, behind_table, check, constraint_of, in_table, keys_of
-from kinds import CHAR, DATE, INTEGER, NO_ATTRIBUTE, Points, columns_of, identifiers, interval, point, quoted, text_literal, type_of
-from relations import Relation, arm, distinct, equal, from_alias, heading_of, interval_list, known, limited, listed, nested, of_table, relation_of
-from relations import same_heading, values_set
+from kinds import CHAR, NO_ATTRIBUTE, Points, by_bytes, columns_of, identifiers, interval, point, quoted, text_literal, type_of
 from points import by_points
+from relations import Relation, distinct, equal, heading_of, interval_list, known, listed, nested, of_table, relation_of, same_heading, values_set
 from scalars import Scope, condition_of, over, points_of, scalar_of, swept
 from syntax import Refusal, statements_of, tree_of
 
@@ -201,7 +199,7 @@ def shown(name, kind):
 def print_relation(names, tree):
     relation = relation_of(tree, names)
     columns = listed({name: shown(name, kind) for name, kind in relation.heading.items()})
-    order = ', '.join(f't.{quoted(name)}' + (' COLLATE "C"' if relation.heading[name] == CHAR else '') for name in columns_of(relation.heading) if relation.heading)
+    order = ', '.join(f't.{quoted(name)}' + (' COLLATE "C"' if relation.heading[name] == CHAR else '') for name in by_bytes(relation.heading))
     return f'SELECT {columns}\nFROM {relation.source} t' + (f'\nORDER BY {order};' if order else ';'), relation.heading
 
 
