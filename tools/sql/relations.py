@@ -60,7 +60,8 @@ def from_alias(names, alias):
 
 def kept_apart(relation):
     """The relation, so that what stands above it is worked out for its rows alone."""
-    return relation.source if relation.table else nested(f'{relation.sql}\nOFFSET 0')
+    is_apart = relation.table or relation.sql.endswith('OFFSET 0')
+    return relation.source if is_apart else nested(f'{relation.sql}\nOFFSET 0')
 
 
 # ---------------------------------------------------------------- what is asked of operands

@@ -100,14 +100,15 @@ def interval_of(points, begin, end):
 
 
 def integer_literal(scope, digits):
-    number = int(digits) if len(digits.lstrip('0')) < 30 else LAST_INTEGER + 1
+    bare = digits.lstrip('-').lstrip('0') or '0'
+    number = LAST_INTEGER + 1 if len(bare) > 19 else int(bare) * (-1 if digits[0] == '-' else 1)
     if not FIRST_INTEGER <= number <= LAST_INTEGER:
         raise Refusal('E06', 'an integer has 64 bits')
     return point_of(INTEGER, number)
 
 
 def negative_integer(scope, digits):
-    return integer_literal(scope, f'-{digits.lstrip("0") or "0"}')
+    return integer_literal(scope, f'-{digits}')
 
 
 def text_of(scope, text):
