@@ -82,6 +82,11 @@ def of_others():
         of_sql('merges', two, 'boolean', 'SELECT i && j OR i -|- j'),
         of_sql('begins', two, 'boolean', 'SELECT lower(i) = lower(j) AND i <@ j'),
         of_sql('ends', two, 'boolean', 'SELECT upper(i) IS NOT DISTINCT FROM upper(j) AND i <@ j'),
+        of_sql('levels', 'number int8', 'SETOF int4', 'SELECT k FROM generate_series(0, log(2, number)::int4) k', 'IMMUTABLE ROWS 4'),
+        of_sql('blocks', 'first int8, behind int8', 'TABLE (level int4, block int8)',
+               'SELECT k, CASE side WHEN 0 THEN l ELSE r - 1 END\n'
+               '  FROM (SELECT k, (first + (1::int8 << k) - 1) >> k AS l, behind >> k AS r FROM utd.levels(behind - first) k) t, generate_series(0, 1) side\n'
+               '  WHERE l < r AND CASE side WHEN 0 THEN l ELSE r END % 2 = 1', 'IMMUTABLE ROWS 6'),
         of_steps('kept', 'value anyelement', 'anyelement', 'RETURN value;', 'VOLATILE'),
         *[quiet(name, 'a int8, b int8', 'int8', f'a {sign} b') for name, sign in signs.items()],
     ]

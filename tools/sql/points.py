@@ -11,7 +11,7 @@ from scalars import condition_of, named_of, over, scalar_of, swept
 from syntax import Refusal
 
 # columns and tables that are made on the way have names that no attribute has
-POINT, NUMBER, CELL = '"the point"', '"the number"', '"the cell"'
+POINT, NUMBER, CELL, PLACE, LEVEL, BLOCK = '"the point"', '"the number"', '"the cell"', '"the place"', '"the level"', '"the block"'
 
 
 def others_of(heading, *names):
@@ -304,15 +304,34 @@ def running(relation, name, group, found):
 
 
 def covering(relation, name, group, found):
-    """Any aggregates: of the rows that hold between two points at which some begin or end."""
+    """Any aggregates. The points at which a row of the group begins or ends make cells, which are numbered. A row covers some cells in a row, which fall into few
+    blocks of a power of two of them; the aggregates of each block are those of the rows that have it, and those of a cell come from the blocks it is in."""
     column, points = quoted(name), relation.heading[name].points
     ends = f'SELECT {comma_list(group)}lower({column}) AS {POINT} FROM "the rows" t\nUNION\nSELECT {comma_list(group)}upper({column}) FROM "the rows" t'
-    cells = (f'SELECT {comma_list(group)}{POINT}, {points.range}({POINT}, lead({POINT}) OVER {window(group)}) AS {CELL}\n'
-             f'FROM {nested(ends)} t\nWHERE {POINT} IS NOT NULL')
-    columns = from_alias(group, 'c') | {name: CELL} | {other: aggregate.sql for other, aggregate in found.items()}
-    by = ', '.join([*(f'c.{quoted(other)}' for other in by_bytes(group)), CELL])
-    joined = (f'SELECT {listed(columns)}\nFROM "the cells" c JOIN "the rows" t ON {equal(group, "c", "t")} AND c.{POINT} <@ t.{column}\nGROUP BY {by}')
-    return [('"the rows"', relation.sql), ('"the cells"', cells)], joined
+    by = f'PARTITION BY {identifiers(by_bytes(group))}' if group else ''
+    cells = (f'SELECT {comma_list(group)}{POINT}, {points.range}({POINT}, lead({POINT}) OVER {window(group)}) AS {CELL},'
+             f' row_number() OVER {window(group)} - 1 AS {PLACE}, count(*) OVER ({by}) AS {NUMBER}\nFROM {nested(ends)} t\nWHERE {POINT} IS NOT NULL')
+    return [('"the rows"', relation.sql), ('"the cells"', cells), ('"the blocks"', blocks(column, group, found))], over_blocks(name, group, found)
+
+
+def blocks(column, group, found):
+    """The aggregates of blocks: of the rows that have them."""
+    columns = from_alias(group, 't') | {f'the value {number}': aggregate.exact for number, aggregate in enumerate(found.values())}
+    by = ''.join(f't.{quoted(other)}, ' for other in by_bytes(group))
+    return (f'SELECT b.level AS {LEVEL}, b.block AS {BLOCK}, {listed(columns)}\n'
+            f'FROM "the rows" t JOIN "the cells" f ON {equal(group, "t", "f")} AND f.{POINT} = lower(t.{column})'
+            f' LEFT JOIN "the cells" e ON {equal(group, "t", "e")} AND e.{POINT} = upper(t.{column})'
+            f' CROSS JOIN LATERAL utd.blocks(f.{PLACE}, coalesce(e.{PLACE}, f.{NUMBER})) b\nGROUP BY {by}b.level, b.block')
+
+
+def over_blocks(name, group, found):
+    """The aggregates of cells: of the blocks that they are in."""
+    columns = from_alias(group, 'c') | {name: f'c.{CELL}'}
+    for number, (other, aggregate) in enumerate(found.items()):
+        columns[other] = aggregate.over(f'b."the value {number}"')
+    by = ', '.join([*(f'c.{quoted(other)}' for other in by_bytes(group)), f'c.{CELL}'])
+    return (f'SELECT {listed(columns)}\nFROM "the cells" c CROSS JOIN LATERAL utd.levels(c.{NUMBER}) k'
+            f' JOIN "the blocks" b ON {equal(group, "c", "b")} AND b.{LEVEL} = k.k AND b.{BLOCK} = c.{PLACE} >> k.k\nGROUP BY {by}')
 
 
 # a later form is one more function here

@@ -293,12 +293,21 @@ class Aggregate:
     kind: Kind
 
     @property
+    def order(self):
+        return ' COLLATE "C"' if self.kind == CHAR else ''
+
+    @property
+    def exact(self):
+        """It as it is added up, where a sum may be beyond 64 bits."""
+        return 'count(*)' if self.word == 'Count' else f'{self.word.lower()}({self.value.sql}{self.order})'
+
+    @property
     def sql(self):
-        if self.word == 'Count':
-            return 'count(*)'
-        order = ' COLLATE "C"' if self.kind == CHAR else ''
-        sql = f'{self.word.lower()}({self.value.sql}{order})'
-        return f'({sql})::int8' if self.word == 'Sum' else sql
+        return f'({self.exact})::int8' if self.word == 'Sum' else self.exact
+
+    def over(self, part):
+        """It, of what it is of some parts."""
+        return f'sum({part})::int8' if self.word in ('Count', 'Sum') else f'{self.word.lower()}({part}{self.order})'
 
 
 def aggregate_of(tree, scope):
