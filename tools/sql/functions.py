@@ -3,7 +3,8 @@ import re
 
 SCHEMA = 'CREATE SCHEMA IF NOT EXISTS utd;'
 EXTENSION = 'CREATE EXTENSION IF NOT EXISTS btree_gist;'
-LAST_INTEGER = '9223372036854775807'
+# cells are counted up to a power of two
+MOST_LEVELS = 40
 
 # for each type of points: how the point behind another one and the last one of an interval d are written
 TYPES = {
@@ -82,11 +83,11 @@ def of_others():
         of_sql('merges', two, 'boolean', 'SELECT i && j OR i -|- j'),
         of_sql('begins', two, 'boolean', 'SELECT lower(i) = lower(j) AND i <@ j'),
         of_sql('ends', two, 'boolean', 'SELECT upper(i) IS NOT DISTINCT FROM upper(j) AND i <@ j'),
-        of_sql('levels', 'number int8', 'SETOF int4', 'SELECT k FROM generate_series(0, log(2, number)::int4) k', 'IMMUTABLE ROWS 4'),
+        of_sql('levels', 'number int8', 'SETOF int4', f"SELECT k FROM unnest('{{{','.join(map(str, range(MOST_LEVELS)))}}}'::int4[]) k WHERE 1::int8 << k <= number"),
         of_sql('blocks', 'first int8, behind int8', 'TABLE (level int4, block int8)',
                'SELECT k, CASE side WHEN 0 THEN l ELSE r - 1 END\n'
-               '  FROM (SELECT k, (first + (1::int8 << k) - 1) >> k AS l, behind >> k AS r FROM utd.levels(behind - first) k) t, generate_series(0, 1) side\n'
-               '  WHERE l < r AND CASE side WHEN 0 THEN l ELSE r END % 2 = 1', 'IMMUTABLE ROWS 6'),
+               '  FROM (SELECT k, (first + (1::int8 << k) - 1) >> k AS l, behind >> k AS r FROM utd.levels(behind - first) k) t, (VALUES (0), (1)) s (side)\n'
+               '  WHERE l < r AND CASE side WHEN 0 THEN l ELSE r END % 2 = 1'),
         of_steps('kept', 'value anyelement', 'anyelement', 'RETURN value;', 'VOLATILE'),
         *[quiet(name, 'a int8, b int8', 'int8', f'a {sign} b') for name, sign in signs.items()],
     ]

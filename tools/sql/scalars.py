@@ -281,7 +281,7 @@ def pair_function(scope, word, left, right):
         sql = f'utd.quiet_{word.lower()}({left.sql}, {right.sql})'
     else:
         sql = PAIRS[word].format(left.part, right.part)
-    return combined(sql, left.kind, [left, right], True, sql.startswith('utd.'))
+    return combined(sql, left.kind, [left, right], True, scope.quiet or word != 'Union')
 
 
 # a later form is one more function here
