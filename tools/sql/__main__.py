@@ -6,13 +6,14 @@ Intervals are ranges, and operators under USING work on the ends of these. Funct
 
 A statement that is refused for its text, its names or its kinds, or that PostgreSQL cannot say, is left out and named on standard error.
 
+    python3 tools/sql --behind FILE            writes the script alone, which stands behind the script of FILE and knows what that declares
     python3 tools/sql --check                  plays the examples and the rows of crates/utd_rows in PostgreSQL too, and compares the answers
     python3 tools/sql --check FOLDER COMMAND   the same with the scripts of a folder and what COMMAND, which reads a script, prints of each
 
 --check starts a PostgreSQL of its own in a temporary folder, as Debian's package postgresql has one, and stops it. It says how many statements agree, and
 names what differs and is not told in docs/to-sql.md.
 
-The status is 0; 1 where a statement was refused or something differs; 2 for wrong words or where there is no PostgreSQL.
+The status is 0; 1 where a statement was refused or something differs; 2 for wrong words, a file that cannot be read, or where there is no PostgreSQL.
 """
 import sys
 
@@ -23,13 +24,20 @@ sys.setrecursionlimit(100000)
 import check  # noqa: E402
 import postgresql  # noqa: E402
 from functions import needed  # noqa: E402
-from statements import translated  # noqa: E402
+from statements import Names, translated  # noqa: E402
 
 
-def translate():
-    found = list(translated(sys.stdin.read()))
+def declared(path):
+    """What the script of a file declares."""
+    names = Names()
+    for _ in translated(check.text_of(path), names):
+        pass
+    return names
+
+
+def translate(names):
     parts, status = [], 0
-    for statement in found:
+    for statement in translated(sys.stdin.read(), names):
         told = f' refused: {statement.refusal}' if statement.refusal else ''
         parts.append(f'-- statement {statement.number}{told}\n{statement.sql}'.rstrip('\n'))
         if statement.refusal:
@@ -56,11 +64,17 @@ def compare(words):
 
 def main(words):
     if not words:
-        return translate()
-    if words[0] != '--check' or len(words) == 2:
-        print(__doc__.strip(), file=sys.stderr)
-        return 2
-    return compare(words[1:])
+        return translate(Names())
+    if words[0] == '--check' and len(words) != 2:
+        return compare(words[1:])
+    if words[0] == '--behind' and len(words) == 2:
+        try:
+            return translate(declared(words[1]))
+        except OSError as error:
+            print(f'sql: {error}', file=sys.stderr)
+            return 2
+    print(__doc__.strip(), file=sys.stderr)
+    return 2
 
 
 sys.exit(main(sys.argv[1:]))

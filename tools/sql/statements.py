@@ -402,9 +402,9 @@ STATEMENTS = {
 }
 
 
-def translated(script):
-    """The statements of a script, each in SQL or with what refuses it."""
-    names = Names()
+def translated(script, names=None):
+    """The statements of a script, each in SQL or with what refuses it, over names that are declared already."""
+    names = names or Names()
     for number, (text, tokens) in enumerate(statements_of(script), 1):
         try:
             if isinstance(tokens, Refusal):

@@ -2,6 +2,8 @@
 
 They say nothing where all is right, and name what is not and end with status 1 where something is wrong. What the SQL answers `python3 tools/sql --check` tries.
 """
+import os
+import re
 import sys
 
 sys.dont_write_bytecode = True
@@ -13,6 +15,7 @@ from points import USING  # noqa: E402
 from relations import RELATIONS  # noqa: E402
 from scalars import SCALARS  # noqa: E402
 
+ROOT = os.path.dirname(os.path.dirname(os.path.dirname(os.path.abspath(__file__))))
 # the forms of the grammar whose alternatives a table has, each by a function
 TABLES = {
     'scalar conj neg cmp sum prod sign primary': SCALARS,
@@ -73,8 +76,18 @@ def wrong():
     return found
 
 
+def untold():
+    """The example of docs/to-sql.md, where the SQL is another one."""
+    with open(f'{ROOT}/docs/to-sql.md', encoding='utf-8') as file:
+        example = file.read().partition('\n## An example\n')[2]
+    script = re.search(r'^```\n(.*?)^```$', example, re.S | re.M)[1]
+    told = re.search(r'^```sql\n(.*?)^```$', example, re.S | re.M)[1]
+    found = '\n\n'.join(f'-- statement {statement.number}\n{statement.sql}' for statement in statements.translated(script))
+    return [] if found == told.rstrip('\n') else ['docs/to-sql.md: the SQL of the example is another one']
+
+
 def main():
-    found = lacking() + wrong()
+    found = lacking() + wrong() + untold()
     for fault in found:
         print(fault)
     return 1 if found else 0
