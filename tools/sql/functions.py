@@ -46,6 +46,7 @@ def of_points(sql):
         of_sql('parts', f'd {span}, ends {sql}[]', f'SETOF {span}',
                f'SELECT {span}(p, coalesce(lead(p) OVER (ORDER BY p), upper(d)))\n'
                '  FROM (SELECT lower(d) AS p UNION SELECT p FROM unnest(ends) p WHERE p <@ d) t', 'IMMUTABLE ROWS 4'),
+        *of_pieces(sql, span, behind, last),
         of_sql('points', f'd {span}', f'SETOF {span}', f'SELECT {single} FROM {series}'),
         of_sql('changes', f'p {sql}', f'{sql}[]', f'SELECT ARRAY[p, {behind.format("p")}]'),
         of_sql('changes', f'd {span}', f'{sql}[]',
@@ -59,6 +60,22 @@ def of_points(sql):
         quiet('union', f'i {span}, j {span}', span, 'i + j'),
         quiet('intersect', f'i {span}, j {span}', span, 'utd.filled(i * j)'),
         quiet('minus', f'i {span}, j {span}', span, 'utd.filled(i - j)'),
+    ]
+
+
+def of_pieces(sql, span, behind, last):
+    """The functions that seek among pieces which are told by their first and their last points, in order."""
+    parameters = f'd {span}, starts {sql}[], stops {sql}[]'
+    # the numbers of the first piece that ends no earlier than d begins, and of the last one that begins no later than d ends
+    before = f'CASE WHEN lower(d) > -9223372036854775808 THEN lower(d) - 1 END' if sql == 'int8' else 'lower(d) - 1'
+    first, final = f'1 + coalesce(width_bucket({before}, stops), 0)', f'width_bucket({last}, starts)'
+    return [
+        of_sql('last', f'd {span}', sql, f'SELECT {last}'),
+        of_sql('inside', parameters, f'SETOF {span}', f'SELECT d * {span}(starts[n], {behind.format("stops[n]")})\n  FROM generate_series({first}, {final}) n'),
+        of_sql('outside', parameters, f'SETOF {span}',
+               f'SELECT {span}(CASE n WHEN f THEN lower(d) ELSE stops[n - 1] + 1 END, CASE n WHEN b THEN upper(d) ELSE starts[n] END)\n'
+               f'  FROM (SELECT {first} AS f, 1 + {final} AS b) t, generate_series(f, b) n\n'
+               f'  WHERE (n > f OR n = b OR starts[n] > lower(d)) AND (n < b OR n = f OR stops[n - 1] < {last})'),
     ]
 
 
@@ -79,7 +96,6 @@ def of_others():
     signs = {'sum': '+', 'difference': '-', 'product': '*', 'quotient': '/'}
     two = 'i anyrange, j anyrange'
     return [
-        of_sql('last', 'd int8range', 'int8', f'SELECT {TYPES["int8"]["last"]}'),
         of_sql('merges', two, 'boolean', 'SELECT i && j OR i -|- j'),
         of_sql('begins', two, 'boolean', 'SELECT lower(i) = lower(j) AND i <@ j'),
         of_sql('ends', two, 'boolean', 'SELECT upper(i) IS NOT DISTINCT FROM upper(j) AND i <@ j'),

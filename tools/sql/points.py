@@ -12,6 +12,7 @@ from syntax import Refusal
 
 # columns and tables that are made on the way have names that no attribute has
 POINT, NUMBER, CELL, PLACE, LEVEL, BLOCK = '"the point"', '"the number"', '"the cell"', '"the place"', '"the level"', '"the block"'
+STARTS, STOPS = '"the starts"', '"the stops"'
 
 
 def others_of(heading, *names):
@@ -99,9 +100,28 @@ def common_of(left, right, name):
     return [other for other in left.heading if other in right.heading and other != name]
 
 
+def lists_of(relation, name, common):
+    """For each value of the common attributes the first and the last points of their pieces, in order."""
+    pieces = f'SELECT {comma_list(common)}unnest(range_agg({quoted(name)})) AS {CELL} FROM {relation.source} t {grouped(common)}'
+    lists = ', '.join(f'array_agg({end}({CELL}) ORDER BY {CELL}) AS {ends}' for end, ends in (('lower', STARTS), ('utd.last', STOPS)))
+    return nested(f'SELECT {comma_list(common)}{lists}\nFROM {nested(pieces)} t\n{grouped(common)}')
+
+
+def sought(left, right, name, join_word, function):
+    """The pieces of each row of the left one that a function finds by the ordered pieces of the right one with the same common attributes."""
+    common = common_of(left, right, name)
+    columns = from_alias(left.heading, 'l') | {name: 'p.p'}
+    lists = ', '.join(f"coalesce(r.{ends}, '{{}}')" for ends in (STARTS, STOPS))
+    sql = (f'SELECT {listed(columns)}\nFROM {packed(left, [name]).source} l {join_word} {lists_of(right, name, common)} r ON {equal(common)}'
+           f' CROSS JOIN LATERAL utd.{function}(l.{quoted(name)}, {lists}) p')
+    return Relation(left.heading, sql, packed=(name,))
+
+
 def meeting(left, right, name):
     """What the left one says where the right one has a partner."""
     common = common_of(left, right, name)
+    if len(common) + 1 < len(left.heading):
+        return sought(left, right, name, 'JOIN', 'inside')
     column = quoted(name)
     columns = from_alias(left.heading, 'l') | {name: f'unnest(l.{column} * r.{column})'}
     return Relation(left.heading, f'SELECT {listed(columns)}\nFROM {pieces_of(left, name, others_of(left.heading, name))} l'
@@ -111,6 +131,8 @@ def meeting(left, right, name):
 def remaining(left, right, name):
     """What the left one says where the right one has no partner."""
     common = common_of(left, right, name)
+    if len(common) + 1 < len(left.heading):
+        return sought(left, right, name, 'LEFT JOIN', 'outside')
     column = quoted(name)
     columns = from_alias(left.heading, 'l') | {name: f"unnest(l.{column} - coalesce(r.{column}, '{{}}'))"}
     return Relation(left.heading, f'SELECT {listed(columns)}\nFROM {pieces_of(left, name, others_of(left.heading, name))} l'
