@@ -12,7 +12,7 @@ from syntax import Refusal
 
 # columns and tables that are made on the way have names that no attribute has
 POINT, NUMBER, CELL, PLACE, LEVEL, BLOCK = '"the point"', '"the number"', '"the cell"', '"the place"', '"the level"', '"the block"'
-STARTS, STOPS = '"the starts"', '"the stops"'
+STARTS, STOPS, FIRST, BEHIND = '"the starts"', '"the stops"', '"the first"', '"the one behind"'
 
 
 def others_of(heading, *names):
@@ -333,17 +333,23 @@ def covering(relation, name, group, found):
     by = f'PARTITION BY {identifiers(by_bytes(group))}' if group else ''
     cells = (f'SELECT {comma_list(group)}{POINT}, {points.range}({POINT}, lead({POINT}) OVER {window(group)}) AS {CELL},'
              f' row_number() OVER {window(group)} - 1 AS {PLACE}, count(*) OVER ({by}) AS {NUMBER}\nFROM {nested(ends)} t\nWHERE {POINT} IS NOT NULL')
-    return [('"the rows"', relation.sql), ('"the cells"', cells), ('"the blocks"', blocks(column, group, found))], over_blocks(name, group, found)
+    parts = [('"the rows"', relation.sql), ('"the cells"', cells), ('"the spans"', spans(column, group)), ('"the blocks"', blocks(group, found))]
+    return parts, over_blocks(name, group, found)
 
 
-def blocks(column, group, found):
+def spans(column, group):
+    """The rows with the number of the first cell that they cover, and of the one behind the last."""
+    return (f'SELECT t.*, f.{PLACE} AS {FIRST}, coalesce(e.{PLACE}, f.{NUMBER}) AS {BEHIND}\n'
+            f'FROM "the rows" t JOIN "the cells" f ON {equal(group, "t", "f")} AND f.{POINT} = lower(t.{column})'
+            f' LEFT JOIN "the cells" e ON {equal(group, "t", "e")} AND e.{POINT} = upper(t.{column})\nOFFSET 0')
+
+
+def blocks(group, found):
     """The aggregates of blocks: of the rows that have them."""
     columns = from_alias(group, 't') | {f'the value {number}': aggregate.exact for number, aggregate in enumerate(found.values())}
     by = ''.join(f't.{quoted(other)}, ' for other in by_bytes(group))
     return (f'SELECT b.level AS {LEVEL}, b.block AS {BLOCK}, {listed(columns)}\n'
-            f'FROM "the rows" t JOIN "the cells" f ON {equal(group, "t", "f")} AND f.{POINT} = lower(t.{column})'
-            f' LEFT JOIN "the cells" e ON {equal(group, "t", "e")} AND e.{POINT} = upper(t.{column})'
-            f' CROSS JOIN LATERAL utd.blocks(f.{PLACE}, coalesce(e.{PLACE}, f.{NUMBER})) b\nGROUP BY {by}b.level, b.block')
+            f'FROM "the spans" t CROSS JOIN LATERAL utd.blocks(t.{FIRST}, t.{BEHIND}) b\nGROUP BY {by}b.level, b.block')
 
 
 def over_blocks(name, group, found):
