@@ -6,9 +6,9 @@ import dataclasses
 import hashlib
 import typing
 
-from kinds import NAME_BYTES, columns_of, by_bytes, identifiers, quoted, text_literal
+from kinds import NAME_BYTES, by_bytes, columns_of, identifiers, quoted, text_literal
 from points import by_points, packed
-from relations import Relation, equal, interval_list, known, nested
+from relations import Relation, equal, from_alias, interval_list, known, listed, nested
 from syntax import Refusal
 
 
@@ -127,7 +127,7 @@ def exclusion(relvar, heading, constraint, constraints):
     else:
         if not rest_of(heading, constraint) or not is_packed(constraint.names, constraints):
             return []
-        same, parts = [name for name in constraint.key if name not in constraint.names], [f'{quoted(name)} WITH &&' for name in constraint.names]
+        same, parts = same_in(constraint), [f'{quoted(name)} WITH &&' for name in constraint.names]
     return [f'CONSTRAINT {name_of(relvar, constraint)} EXCLUDE USING gist ({excluded(same, parts)})']
 
 
@@ -144,23 +144,33 @@ def native(relvar, constraint):
             f' REFERENCES {quoted(constraint.other)} ({key}) DEFERRABLE INITIALLY DEFERRED;')
 
 
-def rows_like(heading, table, kept, same, changed):
-    """The rows of a table that agree with a row that was changed."""
+def rows_like(heading, table, kept, same, changed, within=()):
+    """The rows of a table that agree with a row that was changed; of some attributes what lies within its intervals."""
     heading = {name: heading[name] for name in kept}
+    columns = from_alias(heading, 't') | {name: f't.{quoted(name)} * {changed}.{quoted(name)}' for name in within}
+    overlap = ''.join(f' AND t.{quoted(name)} && {changed}.{quoted(name)}' for name in within)
     distinct = 'DISTINCT ' if heading else ''
-    columns = identifiers(by_bytes(heading)) or 'true AS "-"'
-    return Relation(heading, f'SELECT {distinct}{columns}\nFROM {quoted(table)} t\nWHERE {equal(same, "t", changed)}')
+    return Relation(heading, f'SELECT {distinct}{listed(columns)}\nFROM {quoted(table)} t\nWHERE {equal(same, "t", changed)}{overlap}')
+
+
+def same_in(constraint):
+    """The attributes of the key that are not in the list."""
+    return [name for name in constraint.key if name not in constraint.names]
 
 
 def lacking(relvar, constraint, heading, other_heading):
-    """What of a foreign key is not there, for the values of a row that was changed."""
-    same = [name for name in constraint.key if name not in constraint.names]
-
+    """What of a foreign key is not there, for the values and at the points of a row that was changed."""
     def query(changed):
-        here = rows_like(heading, relvar, constraint.key, same, changed)
-        there = rows_like(other_heading, constraint.other, constraint.key, same, changed)
+        here = rows_like(heading, relvar, constraint.key, same_in(constraint), changed, constraint.names)
+        there = rows_like(other_heading, constraint.other, constraint.key, same_in(constraint), changed, constraint.names)
         return by_points('NotMatching', here, there, constraint.names).sql
     return query
+
+
+def index(relvar, constraint):
+    """An index by which rows are found that agree with others and overlap them."""
+    columns = identifiers([*by_bytes(same_in(constraint)), *constraint.names])
+    return f'CREATE INDEX {name_of(relvar, constraint, "index")} ON {quoted(relvar)} USING gist ({columns});'
 
 
 def unpacked_rows(relvar, constraint, heading):
@@ -174,15 +184,14 @@ def unpacked_rows(relvar, constraint, heading):
 
 
 def doubled(relvar, constraint, heading):
-    """Rows that agree on the key at some point, and are not alike besides."""
-    same = [name for name in constraint.key if name not in constraint.names]
-    overlap = ''.join(f' AND l.{quoted(name)} && r.{quoted(name)}' for name in constraint.names)
+    """Rows that agree on the key with a changed one at some point, and are not like it besides."""
+    overlap = ''.join(f' AND t.{quoted(name)} && {{0}}.{quoted(name)}' for name in constraint.names)
     rest = [quoted(name) for name in by_bytes(rest_of(heading, constraint))]
-    left, right = (', '.join(f'{side}.{name}' for name in rest) for side in 'lr')
 
     def query(changed):
-        table = quoted(relvar)
-        return f'SELECT FROM {table} l JOIN {table} r ON {equal(same)}{overlap}\nWHERE {equal(same, "l", changed)} AND ({left}) <> ({right})'
+        there, here = (', '.join(f'{side}.{name}' for name in rest) for side in ('t', changed))
+        return (f'SELECT FROM {quoted(relvar)} t\n'
+                f'WHERE {equal(same_in(constraint), "t", changed)}{overlap.format(changed)} AND ({there}) <> ({here})')
     return query
 
 
@@ -220,6 +229,8 @@ def behind_table(relvar, heading, constraints, names):
             if is_native(constraint, constraints if is_own else names.relvars[constraint.other].constraints):
                 found.append(native(relvar, constraint))
                 continue
+            if constraint.names:
+                found.append(index(relvar, constraint))
             query = lacking(relvar, constraint, heading, heading if is_own else names.base_heading(constraint.other))
             tables = [('here', 'INSERT OR UPDATE', relvar), ('there', 'DELETE OR UPDATE', constraint.other)]
             found += trigger(relvar, constraint, query, '23503', tables)
@@ -227,6 +238,7 @@ def behind_table(relvar, heading, constraints, names):
             tables = [('here', 'INSERT OR UPDATE OR DELETE', relvar)]
             found += trigger(relvar, constraint, unpacked_rows(relvar, constraint, heading), '23P01', tables)
         elif constraint.form == 'when' and constraint.names and rest_of(heading, constraint) and not is_packed(constraint.names, constraints):
+            found.append(index(relvar, constraint))
             found += trigger(relvar, constraint, doubled(relvar, constraint, heading), '23P01', [('here', 'INSERT OR UPDATE', relvar)])
         elif constraint.form == 'history':
             history = constraint.history
