@@ -15,6 +15,7 @@ names what differs and is not told in docs/to-sql.md.
 
 The status is 0; 1 where a statement was refused or something differs; 2 for wrong words, a file that cannot be read, or where there is no PostgreSQL.
 """
+import signal
 import sys
 
 sys.dont_write_bytecode = True
@@ -49,6 +50,8 @@ def translate(names):
 
 
 def compare(words):
+    # whoever ends this ends the server too
+    signal.signal(signal.SIGTERM, lambda *_: sys.exit(128 + signal.SIGTERM))
     folder_of_programs = postgresql.programs()
     if not folder_of_programs:
         print(f'sql: {postgresql.ABSENT}', file=sys.stderr)

@@ -20,10 +20,15 @@ def others_of(heading, *names):
     return [name for name in heading if name not in names]
 
 
-def with_parts(relation, parts, sql):
+def comma_list(names):
+    """Columns, each with the comma behind it."""
+    return ''.join(f'{quoted(name)}, ' for name in by_bytes(names))
+
+
+def with_parts(heading, parts, sql):
     """A SELECT behind the tables of a WITH, each a name and its SELECT."""
     tables = ',\n'.join(f'{name} AS {nested(part)}' for name, part in parts)
-    return Relation(relation.heading, f'WITH {tables}\n{sql}', packed=relation.packed)
+    return Relation(heading, f'WITH {tables}\n{sql}')
 
 
 # ---------------------------------------------------------------- PACK and UNPACK
@@ -50,11 +55,10 @@ def packed(relation, names):
 def ends_sql(sources, name, group):
     """For each group the points at which an interval of it begins or has ended."""
     every = '\nUNION ALL\n'.join(
-        f'SELECT {"".join(f"{quoted(other)}, " for other in by_bytes(group))}{end}({quoted(name)}) AS {POINT} FROM {source} t'
+        f'SELECT {comma_list(group)}{end}({quoted(name)}) AS {POINT} FROM {source} t'
         for source in sources for end in ('lower', 'upper')
     )
-    columns = ''.join(f'{quoted(other)}, ' for other in by_bytes(group))
-    return f'SELECT {columns}array_agg(DISTINCT {POINT}) AS ends\nFROM {nested(every)} t\n{grouped(group)}'
+    return f'SELECT {comma_list(group)}array_agg(DISTINCT {POINT}) AS ends\nFROM {nested(every)} t\n{grouped(group)}'
 
 
 def cut_sql(heading, source, ends, name, group):
@@ -67,7 +71,7 @@ def cut_sql(heading, source, ends, name, group):
 def cut_on(relation, name, group):
     """The relation, cut on an attribute at the ends that rows with the same values of the group have there."""
     parts = [('"the rows"', relation.sql), ('"the ends"', ends_sql(['"the rows"'], name, group))]
-    return with_parts(Relation(relation.heading, ''), parts, cut_sql(relation.heading, '"the rows"', '"the ends"', name, group))
+    return with_parts(relation.heading, parts, cut_sql(relation.heading, '"the rows"', '"the ends"', name, group))
 
 
 def unpacked(relation, names):
@@ -140,6 +144,7 @@ def remaining(left, right, name):
 
 
 def joining(left, right, name):
+    """What both say, for the points at which both hold."""
     common = common_of(left, right, name)
     column = quoted(name)
     heading = limited(left.heading | right.heading)
@@ -149,6 +154,7 @@ def joining(left, right, name):
 
 
 def uniting(left, right, name):
+    """What either of them says."""
     return packed_on(Relation(left.heading, f'{nested(left.sql)}\nUNION ALL\n{nested(right.sql)}'), name)
 
 
@@ -166,7 +172,7 @@ def over_cells(left, right, attributes, operate):
         parts += [(new, cut_sql(side.heading, old, ends, name, group)) for new, old, side in zip(cut, sides, (left, right))]
         sides = cut
     found = operate(of_table(left.heading, sides[0]), of_table(right.heading, sides[1]), attributes[0])
-    return packed(with_parts(Relation(found.heading, ''), parts, found.sql), attributes)
+    return packed(with_parts(found.heading, parts, found.sql), attributes)
 
 
 def by_points(word, left, right, attributes):
@@ -294,11 +300,7 @@ def summed_points(relation, attributes, kept, found):
         parts, sql = running(relation, first, group, found)
     else:
         parts, sql = covering(relation, first, group, found)
-    return with_parts(Relation(heading, ''), parts, sql)
-
-
-def comma_list(names):
-    return ''.join(f'{quoted(name)}, ' for name in by_bytes(names))
+    return with_parts(heading, parts, sql)
 
 
 def window(group):
