@@ -13,7 +13,7 @@ from statements import translated
 
 ROOT = os.path.dirname(os.path.dirname(os.path.dirname(os.path.abspath(__file__))))
 # refusals that docs/to-sql.md tells of: limits that SQL does not have
-LIMITS = {'E05', 'E06', 'E17', 'E22', 'E35', 'E36', 'E46'}
+LIMITS = {'E03', 'E05', 'E22', 'E35', 'E36', 'E46'}
 # faults of values; SQL does not work out what an answer does not need
 FAULTS = {'E30', 'E31', 'E32', 'E33', 'E34'}
 RANGE = re.compile(r'\[(.+),(.*)\)')
