@@ -212,7 +212,8 @@ def trigger(relvar, constraint, query, state, tables):
     name = name_of(relvar, constraint)
     old, new = (''.join(f'      {line}\n' for line in query(row).split('\n')) for row in ('OLD', 'NEW'))
     words = text_literal(f'constraint {constraint.number} of {relvar} is broken')
-    function = (f"CREATE FUNCTION {name}() RETURNS trigger LANGUAGE plpgsql AS $$\nBEGIN\n"
+    # the rows that are alike are few, and found by an index; PostgreSQL takes them for many
+    function = (f"CREATE FUNCTION {name}() RETURNS trigger LANGUAGE plpgsql SET enable_seqscan = off AS $$\nBEGIN\n"
                 f"  IF TG_OP <> 'INSERT' AND EXISTS (\n{old}    ) OR TG_OP <> 'DELETE' AND EXISTS (\n{new}    ) THEN\n"
                 f"    RAISE EXCEPTION USING ERRCODE = '{state}', MESSAGE = {words};\n  END IF;\n  RETURN NULL;\nEND\n$$;")
     triggers = [f'CREATE CONSTRAINT TRIGGER {name_of(relvar, constraint, word)} AFTER {events} ON {quoted(table)}'
