@@ -158,7 +158,7 @@ class Comparison:
             self.counts['refused in both'] += 1
             return True
         if code in LIMITS or code in FAULTS and is_print(statement):
-            self.counts['told differences'] += 1
+            self.counts[f'told {code}'] += 1
             return is_print(statement)
         self.fault(script, statement, f'{code} there, and accepted here')
         return False
@@ -168,7 +168,7 @@ class Comparison:
             self.counts['accepted in both'] += 1
             return True
         if statement.refusal and statement.refusal.code == 'SQL':
-            self.counts['told differences'] += 1
+            self.counts['told names'] += 1
             return is_print(statement)
         found = answer if isinstance(answer, str) else '\n'.join(answer)
         self.fault(script, statement, f'{found}\nin place of\n' + '\n'.join(expected))
