@@ -1,8 +1,7 @@
 """Runs docs/from-sql.sql on a PostgreSQL of its own, and compares: python3 tools/from-sql
 
 It makes a database in a temporary folder, starts PostgreSQL there, runs the file statement by statement, and stops and removes all of it at the end.
-That takes some seconds. PostgreSQL 15 or later is wanted, as Debian's package postgresql has it. It refuses to run as root, so for root it is started as
-the user postgres or nobody.
+That takes some seconds. PostgreSQL 15 or later is wanted, as Debian's package postgresql has it; tools/sql/postgresql.py starts it.
 
 Behind each query of the file stands as a comment what PostgreSQL has to answer, in the form of the tables of utd:
 
@@ -16,22 +15,19 @@ with 2 for wrong words or where there is no PostgreSQL.
 """
 import csv
 import datetime
-import glob
 import os
-import pwd
 import re
-import shutil
-import subprocess
 import sys
-import tempfile
+
+sys.dont_write_bytecode = True
 
 ROOT = os.path.dirname(os.path.dirname(os.path.dirname(os.path.abspath(__file__))))
+sys.path.insert(1, f'{ROOT}/tools/sql')
+
+import postgresql  # noqa: E402
+
 PAGE = 'docs/from-sql.md'
 FILE = 'docs/from-sql.sql'
-# the folders of a server's programs, of one version or several
-FOLDERS = '/usr/lib/postgresql/[1-9][0-9]/bin'
-# what psql writes behind the answer to each statement
-BEHIND = '@@ the next statement @@\n'
 # lines up to one that ends with a semicolon, and the comment directly behind it
 STATEMENT = re.compile(r'((?:(?!--).*\n)*?.*;)\n((?:--.*\n)*)')
 INTEGER = re.compile(r'-?[0-9]+')
@@ -109,59 +105,6 @@ def table_of(output):
     return lines + [f'rows: {len(body)}']
 
 
-def account():
-    """As whom a server is started: as oneself, or by root as a user who may less."""
-    if os.getuid():
-        return {}
-    users = {user.pw_name: user for user in pwd.getpwall()}
-    user = users.get('postgres') or users['nobody']
-    return {'user': user.pw_uid, 'group': user.pw_gid, 'extra_groups': []}
-
-
-class Server:
-    """A PostgreSQL in a temporary folder, for as long as a with statement lasts."""
-
-    def __init__(self, programs):
-        self.programs = programs
-        self.folder = ''
-        self.account = account()
-
-    def run(self, program, *words):
-        """Runs a program of the server; what it says goes to standard error where it fails."""
-        with tempfile.TemporaryFile('w+') as said:
-            command = [f'{self.programs}/{program}', '-D', f'{self.folder}/data', *words]
-            done = subprocess.run(command, cwd=self.folder, stdout=said, stderr=said, check=False, **self.account)
-            if done.returncode:
-                said.seek(0)
-                sys.stderr.write(said.read())
-                done.check_returncode()
-
-    def __enter__(self):
-        self.folder = tempfile.mkdtemp(prefix='from-sql-')
-        try:
-            if self.account:
-                os.chown(self.folder, self.account['user'], self.account['group'])
-            self.run('initdb', '-A', 'trust', '-U', 'postgres', '-E', 'UTF8', '--locale=C', '-N')
-            options = f"-c listen_addresses='' -c unix_socket_directories='{self.folder}' -c fsync=off"
-            self.run('pg_ctl', '-w', '-l', f'{self.folder}/log', '-o', options, 'start')
-        except BaseException:
-            shutil.rmtree(self.folder)
-            raise
-        return self
-
-    def __exit__(self, *_):
-        self.run('pg_ctl', '-w', '-m', 'immediate', 'stop')
-        shutil.rmtree(self.folder)
-
-    def answers(self, statements):
-        """What psql writes for each statement: its output as CSV, and its errors."""
-        mark = BEHIND.strip()
-        script = '\\set VERBOSITY sqlstate\n' + ''.join(f'{statement.text}\n\\echo {mark}\n\\warn {mark}\n' for statement in statements)
-        command = ['psql', '-X', '-q', '--csv', '-P', 'null=NULL', '-h', self.folder, '-U', 'postgres', '-d', 'postgres', '-f', '-']
-        done = subprocess.run(command, input=script, capture_output=True, text=True, encoding='utf-8', check=False)
-        return list(zip(done.stdout.split(BEHIND)[:-1], done.stderr.split(BEHIND)[:-1]))
-
-
 def fault_of(statement, output, errors):
     """In which way the answer to a statement is not the one that its comment tells; none where it is."""
     state = re.search(r'ERROR: +([0-9A-Z]{5})', errors)
@@ -193,8 +136,8 @@ def faults(programs):
     statements = statements_of(text_of(FILE))
     there = {words_of(statement.text) for statement in statements}
     found = [f'{PAGE}: {FILE} has no {sql}' for sql in sql_of_the_page() if words_of(sql) not in there]
-    with Server(programs) as server:
-        answers = server.answers(statements)
+    with postgresql.Server(programs) as server:
+        answers = server.answers([statement.text for statement in statements])
     if len(answers) < len(statements):
         found.append(f'{FILE}: psql ended behind {len(answers)} of {len(statements)} statements')
     for statement, answer in zip(statements, answers):
@@ -208,11 +151,11 @@ def main(words):
     if words:
         print(__doc__.strip(), file=sys.stderr)
         return 2
-    folders = sorted(glob.glob(FOLDERS))
-    if not folders or not shutil.which('psql'):
-        print(f"from-sql: there is no psql, or no server in {FOLDERS}; Debian's package postgresql has both", file=sys.stderr)
+    programs = postgresql.programs()
+    if not programs:
+        print(f'from-sql: {postgresql.ABSENT}', file=sys.stderr)
         return 2
-    found = faults(folders[-1])
+    found = faults(programs)
     for fault in found:
         print(fault)
     return 1 if found else 0

@@ -1,0 +1,96 @@
+"""Tests of tools/sql that need no PostgreSQL: python3 tools/sql/tests.py
+
+They say nothing where all is right, and name what is not and end with status 1 where something is wrong. What the SQL answers `python3 tools/sql --check` tries.
+"""
+import os
+import re
+import sys
+
+sys.dont_write_bytecode = True
+
+import statements  # noqa: E402
+import syntax  # noqa: E402
+from grammar import FORMS  # noqa: E402
+from points import USING  # noqa: E402
+from relations import RELATIONS  # noqa: E402
+from scalars import SCALARS  # noqa: E402
+
+ROOT = os.path.dirname(os.path.dirname(os.path.dirname(os.path.abspath(__file__))))
+# the forms of the grammar whose alternatives a table has, each by a function
+TABLES = {
+    'scalar conj neg cmp sum prod sign primary': SCALARS,
+    'rel terms term rel_primary operand extend summarize literal': RELATIONS,
+    'using': RELATIONS,
+    'using_part': USING,
+    'item': statements.ITEMS,
+    'statement': statements.STATEMENTS,
+}
+
+START = '''
+TYPE SIZE ORDINAL {S, M, L};
+VAR R RELATION {K INTEGER, T CHAR, D INTERVAL(DATE)} KEY {K};
+VAR S RELATION {K INTEGER, D INTERVAL(DATE), Z INTERVAL(SIZE)};
+'''
+
+# a statement behind these, and what its SQL has, or the code that refuses it
+CASES = [
+    ('PRINT R WHERE T < \'a\';', '"T" COLLATE "C" < \'a\'::text COLLATE "C"'),
+    ('PRINT R WHERE [DATE \'2023-01-01\':DATE \'2023-01-31\'] = D;', "daterange '[2023-01-01,2023-02-01)' = \"D\""),
+    ('PRINT PACK S ON (D);', 'unnest(range_agg("D")) AS "D"'),
+    ('PRINT PACK R ON (D);', 'SELECT t."D", t."K", t."T"\nFROM "R" t\nORDER BY'),
+    ('PRINT RELATION {TUPLE {N [1:LAST(INTEGER)]}};', "int8range '[1,)'"),
+    ('INSERT R RELATION {TUPLE {K 1, T \'it\'\'s\', D [DATE \'9999-12-31\':LAST(DATE)]}};', "daterange '[9999-12-31,10000-01-01)'"),
+    ('UPDATE R WHERE K = 1 : {T := \'\'};', 'UPDATE "R" SET "T" = \'\'::text\nWHERE "K" = 1::int8;'),
+    ('UPDATE R : {K := 1};', 'CREATE TEMPORARY TABLE "the new value 1" ON COMMIT DROP AS'),
+    ('PRINT R WHERE K <> 0 AND 1 / K = 1;', 'CASE WHEN "K" <> 0::int8 THEN'),
+    ('PRINT S {Z};', 'n.number = lower(t."Z")'),
+    ('PRINT Q;', 'E10'),
+    ('PRINT R WHERE A = 1;', 'E14'),
+    ('PRINT USING (D): R WHERE COUNT(D) = 1;', 'E18'),
+    ('PRINT R UNION S;', 'E13'),
+    ('PRINT PACK R ON (K);', 'E16'),
+    ('DROP VAR Q;', 'E10'),
+    ('PRINT R', 'E04'),
+    ('SELECT 1;', 'E01'),
+    ('VAR xmin RELATION {xmin INTEGER};', 'SQL'),
+]
+
+
+def lacking():
+    """The alternatives of the grammar for which a table has no function."""
+    found = []
+    for forms, table in TABLES.items():
+        for form in forms.split():
+            constructors = {constructor for constructor, _ in FORMS[form]['alternatives']} - syntax.RANKS
+            found += [f'{form}: there is no function for {constructor}' for constructor in sorted(constructors - table.keys())]
+    return found
+
+
+def wrong():
+    """The cases that come out otherwise."""
+    found = []
+    for text, wanted in CASES:
+        statement = list(statements.translated(START + text))[-1]
+        if statement.refusal.code != wanted if statement.refusal else wanted not in statement.sql:
+            found.append(f'{text}\n{statement.refusal or statement.sql}\nhas no {wanted}')
+    return found
+
+
+def untold():
+    """The example of docs/to-sql.md, where the SQL is another one."""
+    with open(f'{ROOT}/docs/to-sql.md', encoding='utf-8') as file:
+        example = file.read().partition('\n## An example\n')[2]
+    script = re.search(r'^```\n(.*?)^```$', example, re.S | re.M)[1]
+    told = re.search(r'^```sql\n(.*?)^```$', example, re.S | re.M)[1]
+    found = '\n\n'.join(f'-- statement {statement.number}\n{statement.sql}' for statement in statements.translated(script))
+    return [] if found == told.rstrip('\n') else ['docs/to-sql.md: the SQL of the example is another one']
+
+
+def main():
+    found = lacking() + wrong() + untold()
+    for fault in found:
+        print(fault)
+    return 1 if found else 0
+
+
+sys.exit(main())
