@@ -1,10 +1,10 @@
 #!/usr/bin/env python3
 """sides: how long PACK takes on several attributes.
 
-    sides.py PROGRAM SIDES ROWS [RUNS]
+    sides.py PROGRAM SIDES ROWS LABELS [RUNS]
 
-Boxes of ROWS rows on SIDES integer intervals: each begins at random below SPREAD and is at most LONGEST long on each side, so that rows
-overlap on some sides and meet on others. A tenth as many labels as rows. Prints the least processor time of RUNS runs (5) of a script that
+ROWS rows with LABELS labels on SIDES integer intervals: each begins at random below SPREAD and is at most LONGEST long on each side, so
+that rows overlap on some sides and meet on others. Prints the least processor time of RUNS runs (5) of a script that
 packs them and counts what comes, less that of one that counts them as they are, in milliseconds, and how many rows come.
 """
 import os
@@ -25,14 +25,13 @@ def box(random_, sides):
     return ', '.join(ends)
 
 
-def literal(sides, rows):
+def literal(sides, rows, labels):
     random_ = random.Random(1)
-    labels = max(rows // 10, 1)
     return 'RELATION {%s}' % ', '.join('TUPLE {N %d, %s}' % (random_.randrange(labels), box(random_, sides)) for _ in range(rows))
 
 
-def script(sides, rows, packs):
-    operand = literal(sides, rows)
+def script(sides, rows, labels, packs):
+    operand = literal(sides, rows, labels)
     if packs:
         operand = 'PACK %s ON (%s)' % (operand, ', '.join(NAMES[:sides]))
     return 'PRINT SUMMARIZE %s BY {}: {ROWS_ := COUNT()};\n' % operand
@@ -57,11 +56,12 @@ def least(program, text, runs):
 
 
 def main():
-    program, sides, rows = sys.argv[1], int(sys.argv[2]), int(sys.argv[3])
-    runs = int(sys.argv[4]) if len(sys.argv) > 4 else 5
-    plain, _ = least(program, script(sides, rows, False), runs)
-    packed, count = least(program, script(sides, rows, True), runs)
-    print('%d sides, %d rows: %.0f ms; %s rows come' % (sides, rows, packed - plain, count))
+    program = sys.argv[1]
+    sides, rows, labels = map(int, sys.argv[2:5])
+    runs = int(sys.argv[5]) if len(sys.argv) > 5 else 5
+    plain, _ = least(program, script(sides, rows, labels, False), runs)
+    packed, count = least(program, script(sides, rows, labels, True), runs)
+    print('%d sides, %d rows, %d labels: %.0f ms; %s rows come' % (sides, rows, labels, packed - plain, count))
 
 
 if __name__ == '__main__':
