@@ -4,6 +4,7 @@ Each says by `printed` what the program prints of its values.
 """
 import datetime
 import re
+import shlex
 
 KEYWORDS = set('''
     ALL AFTER AND AS ASK BEFORE BEGIN BEGINS BOOLEAN BUT BY CHAR CONSTRAINT COUNT DATE DELETE DROP END ENDS EXTEND FALSE FIRST FOREIGN HISTORY
@@ -298,7 +299,7 @@ class Interval:
         if not self.has_point(low[1], high[1], left, right) or low == high and left + right != '[]':
             raise Fault(f'there is no {self.point.name} in {left}{begin}:{end}{right}')
         if right == ')' and high[1] == last[1] and not isinstance(self.point, Ordinal):
-            raise Fault(f'{end} would be left out; --last {end} takes it for the last point')
+            raise Fault(f'{end} would be left out; --last {shlex.quote(end)} takes it for the last point')
         return f'{left}{low[0]}:{high[0]}{right}'
 
     def end_of(self, text, names, named):

@@ -169,7 +169,7 @@ class In(unittest.TestCase):
                 (2, '2023-02-01'), (3, '2023-02-30 08:30:00'), (4, '2023-02-01 24:00:00'), (5, '2023-02-01 08:30:05.5'), (6, '2023-02-01 08:30:00+01'))))
         self.refuses(['R', 'a=INTERVAL(MOMENT):[b,e)'], 'b,e\n2023-02-01 08:30:00,2023-02-01 08:30:00\n2023-02-01 08:30:00,9999-12-31 23:59:59\n',
                      'line 2, column 1 (b) and 2 (e): there is no MOMENT in [2023-02-01 08:30:00:2023-02-01 08:30:00)',
-                     'line 3, column 1 (b) and 2 (e): 9999-12-31 23:59:59 would be left out; --last 9999-12-31 23:59:59 takes it for the last point')
+                     "line 3, column 1 (b) and 2 (e): 9999-12-31 23:59:59 would be left out; --last '9999-12-31 23:59:59' takes it for the last point")
 
     def test_truth_values(self):
         for text, truth in (('t', 'TRUE'), ('TRUE', 'TRUE'), ('Yes', 'TRUE'), ('1', 'TRUE'), ('f', 'FALSE'), ('no', 'FALSE'), ('0', 'FALSE')):
