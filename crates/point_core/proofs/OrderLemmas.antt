@@ -7,7 +7,7 @@ use Rattle.std.specs.Cmp.{IsTotalOrder}
 use Rattle.std.proofs.lemmas.Cmp.{ranked, int_ranked}
 use Rattle.std.proofs.lemmas.Int.{ints}
 use Rattle.point_core.specs.declared.any_type.AnyPoint.{AnyPoint}
-use Rattle.point_core.specs.declared.any_type.AnyPoint.TheVariants.{Integer, Date, Ordinal}
+use Rattle.point_core.specs.declared.any_type.AnyPoint.TheVariants.{Integer, Date, Ordinal, Moment}
 use Rattle.point_core.specs.declared.any_type.AnyType.{AnyType}
 use Rattle.point_core.specs.Points.{number, line}
 use Rattle.point_core.specs.Orders.{point_cmp, point_eq, type_eq}
@@ -36,12 +36,19 @@ point_same (Ordinal p a) (Ordinal q b) e =
     let x = nat_same p q k.0 in
     let y = nat_same a b k.1 in
     cc
+point_same (Moment a) (Moment b) e = let h : int_cmp a b ≡ Equal = e in ap Moment (int_same a b h)
 point_same (Integer a) (Date b) e = cc
 point_same (Integer a) (Ordinal q b) e = cc
 point_same (Date a) (Integer b) e = cc
 point_same (Date a) (Ordinal q b) e = cc
 point_same (Ordinal p a) (Integer b) e = cc
 point_same (Ordinal p a) (Date b) e = cc
+point_same (Integer a) (Moment b) e = cc
+point_same (Date a) (Moment b) e = cc
+point_same (Ordinal p a) (Moment b) e = cc
+point_same (Moment a) (Integer b) e = cc
+point_same (Moment a) (Date b) e = cc
+point_same (Moment a) (Ordinal q b) e = cc
 
 pub point_total : IsTotalOrder point_cmp
 point_total = total-law
@@ -62,9 +69,16 @@ point_cmp_line (Date a) (Date b) e = refl
 point_cmp_line (Ordinal p a) (Ordinal q b) e =
     let same : p ≡ q = cc in
     grind (arith, ints, same, ranked p q (nat_cmp p q) refl, ranked a b (nat_cmp a b) refl, int_ranked (pos a) (pos b) (int_cmp (pos a) (pos b)) refl)
+point_cmp_line (Moment a) (Moment b) e = refl
 point_cmp_line (Integer a) (Date b) e = cc
 point_cmp_line (Integer a) (Ordinal q b) e = cc
 point_cmp_line (Date a) (Integer b) e = cc
 point_cmp_line (Date a) (Ordinal q b) e = cc
 point_cmp_line (Ordinal p a) (Integer b) e = cc
 point_cmp_line (Ordinal p a) (Date b) e = cc
+point_cmp_line (Integer a) (Moment b) e = cc
+point_cmp_line (Date a) (Moment b) e = cc
+point_cmp_line (Ordinal p a) (Moment b) e = cc
+point_cmp_line (Moment a) (Integer b) e = cc
+point_cmp_line (Moment a) (Date b) e = cc
+point_cmp_line (Moment a) (Ordinal q b) e = cc

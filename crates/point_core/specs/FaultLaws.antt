@@ -5,7 +5,7 @@ use Rattle.std.proofs.Common.{ap}
 use Rattle.std.specs.Ordering.{nat_cmp, ordering_then}
 use Rattle.point_core.specs.declared.fault.Fault.{Fault}
 use Rattle.point_core.specs.declared.fault.Code.{Code}
-use Rattle.point_core.specs.declared.fault.Code.TheVariants.{E01, E02, E03, E04, E05, E06, E10, E11, E12, E13, E14, E15, E16, E17, E18, E19, E20, E21, E22, E30, E31, E32, E33, E34, E35, E36, E40, E41, E42, E43, E44, E46}
+use Rattle.point_core.specs.declared.fault.Code.TheVariants.{E01, E02, E03, E04, E05, E06, E10, E11, E12, E13, E14, E15, E16, E17, E18, E19, E20, E21, E22, E30, E31, E32, E33, E34, E35, E36, E40, E41, E42, E43, E44, E45, E46}
 use Rattle.point_core.specs.Faults.{code_number, place_cmp, fault_cmp}
 use Rattle.point_core.specs.Orders.{code_order, fault_order}
 
@@ -42,6 +42,7 @@ code_by_number E41 E01 = refl
 code_by_number E42 E01 = refl
 code_by_number E43 E01 = refl
 code_by_number E44 E01 = refl
+code_by_number E45 E01 = refl
 code_by_number E46 E01 = refl
 code_by_number a b = refl
 

@@ -5,7 +5,7 @@ use Rattle.std.specs.declared.cmp.Ordering.{Ordering}
 use Rattle.point_core.specs.declared.fault.Place.{Place}
 use Rattle.point_core.specs.declared.fault.Fault.{Fault}
 use Rattle.point_core.specs.declared.fault.Code.{Code}
-use Rattle.point_core.specs.declared.fault.Code.TheVariants.{E01, E02, E03, E04, E05, E06, E10, E11, E12, E13, E14, E15, E16, E17, E18, E19, E20, E21, E22, E30, E31, E32, E33, E34, E35, E36, E40, E41, E42, E43, E44, E46}
+use Rattle.point_core.specs.declared.fault.Code.TheVariants.{E01, E02, E03, E04, E05, E06, E10, E11, E12, E13, E14, E15, E16, E17, E18, E19, E20, E21, E22, E30, E31, E32, E33, E34, E35, E36, E40, E41, E42, E43, E44, E45, E46}
 
 -- a value of X, or the fault that comes in its place
 abbrev pub OrFault : Type 0 → Type 0
@@ -46,6 +46,7 @@ code_number E41 = 41
 code_number E42 = 42
 code_number E43 = 43
 code_number E44 = 44
+code_number E45 = 45
 code_number E46 = 46
 
 -- by line and then column

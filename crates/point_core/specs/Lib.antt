@@ -4,8 +4,10 @@ pub mod Digits
 pub mod FaultLaws
 pub mod Faults
 pub mod LeastFault
+pub mod Moments
 pub mod Orders
 pub mod Pairs
 pub mod PointLaws
 pub mod Points
+pub mod SecondLaws
 pub mod Whole

@@ -4,9 +4,9 @@ use Rattle.std.proofs.Common.{ap, sym, ◌∙◌, zero-le}
 use Rattle.std.proofs.Math.Dec.{le→leb, leb→le}
 use Rattle.point_core.specs.Points.{number, line, point_on, IsPointOf, first_of, last_of}
 use Rattle.point_core.specs.declared.any_type.AnyType.{AnyType}
-use Rattle.point_core.specs.declared.any_type.AnyType.TheVariants.{Integer, Date, Ordinal}
+use Rattle.point_core.specs.declared.any_type.AnyType.TheVariants.{Integer, Date, Ordinal, Moment}
 use Rattle.point_core.specs.declared.any_type.AnyPoint.{AnyPoint}
-use Rattle.point_core.specs.declared.any_type.AnyPoint.TheVariants.{Integer as IntegerPoint, Date as DatePoint, Ordinal as OrdinalPoint}
+use Rattle.point_core.specs.declared.any_type.AnyPoint.TheVariants.{Integer as IntegerPoint, Date as DatePoint, Ordinal as OrdinalPoint, Moment as MomentPoint}
 
 -- ---- the ordinal type whose last value has the number `last`
 
@@ -29,18 +29,21 @@ pub any_nonempty : (t : AnyType) → first_of t ≤ℤ last_of t
 any_nonempty Integer = record { le = tt }
 any_nonempty Date = record { le = tt }
 any_nonempty (Ordinal of last) = ordinal_nonempty last
+any_nonempty Moment = record { le = tt }
 
 pub any_each : (t : AnyType) (n : ℤ) → first_of t ≤ℤ n → n ≤ℤ last_of t → (p : AnyPoint) × IsPointOf t p × (number p ≡ n)
 any_each Integer n low high = (IntegerPoint n, (refl, (low, high)), refl)
 any_each Date n low high = (DatePoint n, (refl, (low, high)), refl)
 any_each (Ordinal of last) (pos p) low high = (OrdinalPoint of p, (refl, (low, high)), refl)
 any_each (Ordinal of last) (negsuc k) low high = absurd low.le
+any_each Moment n low high = (MomentPoint n, (refl, (low, high)), refl)
 
 -- a point is that of its line and its number
 pub point_on-line : (p : AnyPoint) → point_on (line p) (number p) ≡ p
 point_on-line (IntegerPoint n) = refl
 point_on-line (DatePoint n) = refl
 point_on-line (OrdinalPoint of at) = refl
+point_on-line (MomentPoint n) = refl
 
 pub any_same : (t : AnyType) (p q : AnyPoint) → IsPointOf t p → IsPointOf t q → number p ≡ number q → p ≡ q
 any_same t p q hp hq same =

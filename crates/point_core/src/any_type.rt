@@ -5,6 +5,7 @@ ghost use Rattle.point_core.specs.PointLaws.{any_each, any_nonempty, any_same};
 
 use crate::date_type::{FIRST_DAY, LAST_DAY, day_at, is_day};
 use crate::memory::Memory;
+use crate::moment_type::{FIRST_SECOND, LAST_SECOND, is_second, second_at};
 use crate::numbered::{Numbered, compare_numbers, sort_pairs};
 use crate::point_type::{PointNumber, PointType};
 use crate::steps::Steps;
@@ -12,26 +13,28 @@ use std::alloc::Global;
 use std::cmp::Ordering;
 use std::sync::ledger::Ledger;
 
-/// A point type: the integers, the dates, or the declared ordinal type that stands at place `of`, whose last value has the
-/// number `last`.
+/// A point type: the integers, the dates, the declared ordinal type that stands at place `of`, whose last value has the
+/// number `last`, or the moments.
 #[derive(Clone, Copy, Debug, PartialEq, Eq)]
 pub enum AnyType {
     Integer,
     Date,
     Ordinal { of: u8, last: u16 },
+    Moment,
 }
 
-/// A point of any type: an integer, a date by its number of days from 1970-01-01, or the value of an ordinal type by its
-/// number from 0.
+/// A point of any type: an integer, a date by its number of days from 1970-01-01, the value of an ordinal type by its
+/// number from 0, or a moment by its number of seconds from 1970-01-01T00:00:00.
 #[derive(Clone, Copy, Debug, PartialEq, Eq, PartialOrd, Ord)]
 pub enum AnyPoint {
     Integer(i64),
     Date(i32),
     Ordinal { of: u8, at: u16 },
+    Moment(i64),
 }
 
 impl AnyPoint {
-    /// The integer, the number of the day or the number of the value.
+    /// The integer, the number of the day, of the value or of the second.
     pub fn number(self) -> i64
         ensures { result ≡ number self }
     {
@@ -39,6 +42,7 @@ impl AnyPoint {
             AnyPoint::Integer(n) => n,
             AnyPoint::Date(n) => i64::from(n),
             AnyPoint::Ordinal { of: _, at } => i64::from(at),
+            AnyPoint::Moment(n) => n,
         }
     }
 }
@@ -57,6 +61,7 @@ impl AnyType {
             } else {
                 None
             },
+            AnyType::Moment => second_at(n).map(|second| AnyPoint::Moment(second.number)),
         }
     }
 }
@@ -93,6 +98,7 @@ impl PointType for AnyType {
             AnyType::Integer => AnyPoint::Integer(i64::MIN),
             AnyType::Date => AnyPoint::Date(FIRST_DAY),
             AnyType::Ordinal { of, last: _ } => AnyPoint::Ordinal { of, at: 0 },
+            AnyType::Moment => AnyPoint::Moment(FIRST_SECOND),
         }
     }
 
@@ -101,6 +107,7 @@ impl PointType for AnyType {
             AnyType::Integer => AnyPoint::Integer(i64::MAX),
             AnyType::Date => AnyPoint::Date(LAST_DAY),
             AnyType::Ordinal { of, last } => AnyPoint::Ordinal { of, at: last },
+            AnyType::Moment => AnyPoint::Moment(LAST_SECOND),
         }
     }
 
@@ -110,6 +117,7 @@ impl PointType for AnyType {
             (AnyType::Date, AnyPoint::Date(n)) => is_day(i64::from(n)),
             (AnyType::Ordinal { of, last }, AnyPoint::Ordinal { of: line, at }) => of == line
                 && at <= last,
+            (AnyType::Moment, AnyPoint::Moment(n)) => is_second(n),
             _ => false,
         }
     }

@@ -37,7 +37,7 @@ pub fn date_parts(day: Day) -> (u16, u8, u8)
 }
 
 /// The number that two decimal digits write, or none where one of them is no digit.
-fn two_digits(tens: u8, ones: u8) -> Option<u8>
+pub(crate) fn two_digits(tens: u8, ones: u8) -> Option<u8>
     ensures digits { IsSome result ↔ (IsAsciiDigit tens × IsAsciiDigit ones) }
     ensures number { IfSome result (λ n. (n ≤ 99) × (tens ≡ 48 + n / 10) × (ones ≡ 48 + n % 10)) }
 {

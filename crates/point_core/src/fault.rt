@@ -30,7 +30,7 @@ pub enum Code {
     /// Nested too deep: a 65th level, or a 257th operator in force.
     E05,
     /// Literal out of range: a name of more than 64 bytes, a text of more than 255 bytes or with a control character below the
-    /// space, a date that does not exist, or an integer that with its sign leaves 64 bits.
+    /// space, a date or a moment that does not exist, or an integer that with its sign leaves 64 bits.
     E06,
     /// Unknown name: a name that is no relvar or view, no ordinal type, or no value of that type.
     E10,
@@ -46,7 +46,7 @@ pub enum Code {
     E15,
     /// Not an interval: PACK, UNPACK or USING on an attribute that is no interval.
     E16,
-    /// Too many attributes: more than 16 of a heading, or more than three of a list.
+    /// Too many attributes: more than 16 of a heading, or more than four of a list.
     E17,
     /// Not sweepable: a condition under USING that cannot be decided by ends of intervals.
     E18,
@@ -82,6 +82,8 @@ pub enum Code {
     E43,
     /// HISTORY broken: a history in which two relvars overlap.
     E44,
+    /// CONSTRAINT broken: a condition on the whole database that does not hold.
+    E45,
     /// Database full: more than 200,000 rows of all relvars together.
     E46,
 }

@@ -39,6 +39,7 @@ fn is_one_line(a: AnyPoint, b: AnyPoint) -> bool
         (AnyPoint::Ordinal { of: m, at: _ }, AnyPoint::Ordinal { of: n, at: _ }) => {
             m.cmp(&n).is_eq()
         }
+        (AnyPoint::Moment(_), AnyPoint::Moment(_)) => true,
         _ => false,
     }
 }

@@ -7,7 +7,7 @@ use Rattle.std.specs.Bool.{IsTrue}
 use Rattle.std.proofs.lemmas.Bool.{and_parts, true≢false}
 use Rattle.base_core.proofs.IntLemmas.{int_le-le}
 use Rattle.base_core.proofs.OrderingLemmas.{then-Equal}
-use Rattle.point_core.specs.Points.{Line, integers, days, values_of, line_of, is_number, IsNumber, first_of, last_of}
+use Rattle.point_core.specs.Points.{Line, integers, days, values_of, seconds, line_of, is_number, IsNumber, first_of, last_of}
 use Rattle.point_core.specs.declared.any_type.AnyType.{AnyType}
 use Rattle.value_core.specs.Values.{fits, same_line, is_interval, point, interval, Name, Value, Row, Heading, fits_heading, Value as PlainValue, truth, text}
 use Rattle.value_core.specs.declared.kind.Kind.TheVariants.{Span as SpanOf}
@@ -16,6 +16,13 @@ use Rattle.value_core.specs.Attributes.{span_of}
 
 pub same_line-same : (l m : Line) → same_line l m ≡ true → l ≡ m
 same_line-same integers integers e = refl
+same_line-same integers seconds e = cc
+same_line-same days seconds e = cc
+same_line-same (values_of m) seconds e = cc
+same_line-same seconds integers e = cc
+same_line-same seconds days e = cc
+same_line-same seconds (values_of n) e = cc
+same_line-same seconds seconds e = refl
 same_line-same integers days e = cc
 same_line-same integers (values_of n) e = cc
 same_line-same days integers e = cc

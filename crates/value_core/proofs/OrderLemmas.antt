@@ -7,7 +7,7 @@ use Rattle.std.proofs.lemmas.Cmp.{ranked}
 use Rattle.std.proofs.lemmas.Int.{ints}
 use Rattle.base_core.proofs.OrderingLemmas.{then-Equal}
 use Rattle.interval_core.specs.Members.{Span}
-use Rattle.point_core.specs.Points.{Line, integers, days, values_of}
+use Rattle.point_core.specs.Points.{Line, integers, days, values_of, seconds}
 use Rattle.value_core.specs.Values.{interval, value_cmp, line_cmp, span_cmp}
 
 then_assoc : (q r s : Ordering) → ordering_then q (ordering_then r s) ≡ ordering_then (ordering_then q r) s
@@ -32,6 +32,13 @@ texts_cmp (x ∷ a) (y ∷ b) = ap₂ ordering_then (int_cmp-pos x y) (texts_cmp
 -- intervals by their lines and then their ends
 pub intervals_cmp : (l m : Line) (i j : Span) → value_cmp (interval l i) (interval m j) ≡ ordering_then (line_cmp l m) (span_cmp i j)
 intervals_cmp integers integers i j = ap (ordering_then (int_cmp i.0 j.0)) (then-Equal (int_cmp i.1 j.1))
+intervals_cmp integers seconds i j = refl
+intervals_cmp days seconds i j = refl
+intervals_cmp (values_of n) seconds i j = refl
+intervals_cmp seconds integers i j = refl
+intervals_cmp seconds days i j = refl
+intervals_cmp seconds (values_of n) i j = refl
+intervals_cmp seconds seconds i j = ap (ordering_then (int_cmp i.0 j.0)) (then-Equal (int_cmp i.1 j.1))
 intervals_cmp integers days i j = refl
 intervals_cmp integers (values_of n) i j = refl
 intervals_cmp days integers i j = refl

@@ -23,7 +23,7 @@ most_rows = constants.MOST_ROWS
 abbrev pub most_rows_in_all : ℕ
 most_rows_in_all = constants.MOST_ROWS_IN_ALL
 
--- the most relvars and views, ordinal types, values of an ordinal type, constraints of a relvar, and nodes of a view
+-- the most relvars and views, ordinal types, values of an ordinal type, constraints of a relvar and of the database, and nodes of a view
 abbrev pub most_relvars : ℕ
 most_relvars = constants.MOST_RELVARS
 
@@ -35,6 +35,9 @@ most_ordinal_values = constants.MOST_ORDINAL_VALUES
 
 abbrev pub most_constraints : ℕ
 most_constraints = constants.MOST_CONSTRAINTS
+
+abbrev pub most_rules : ℕ
+most_rules = constants.MOST_RULES
 
 abbrev pub most_nodes : ℕ
 most_nodes = constants.MOST_NODES

@@ -10,7 +10,7 @@ use Rattle.std.specs.declared.cmp.Ordering.{Ordering}
 use Rattle.std.specs.Ordering.{nat_cmp, int_cmp, ordering_then, eq_by_cmp, on}
 use Rattle.std.specs.Cmp.Lexicographic.{slice_cmp}
 use Rattle.point_core.specs.declared.any_type.AnyType.{AnyType}
-use Rattle.point_core.specs.Points.{Line, integers, days, values_of, line_of, is_number}
+use Rattle.point_core.specs.Points.{Line, integers, days, values_of, seconds, line_of, is_number}
 use Rattle.interval_core.specs.Members.{Span}
 use Rattle.base_core.specs.Sets.{is_set, in_order, are_same}
 use Rattle.value_core.specs.Limits.{most_attributes, most_text_bytes}
@@ -45,11 +45,12 @@ pub record Relation : Type 0 where
 -- ---- the printing order
 
 -- what tells the order of values: their sort and their parts. Truth values come first, then texts, points and intervals; FALSE
--- before TRUE; integers before days before ordinal values, these by the number of their type
+-- before TRUE; integers before days before ordinal values, these by the number of their type, before seconds
 abbrev pub line_key : Line → List ℤ
 line_key integers = pos 0 ∷ []
 line_key days = pos 1 ∷ []
 line_key (values_of n) = pos 2 ∷ pos n ∷ []
+line_key seconds = pos 3 ∷ []
 
 abbrev pub truth_key : Bool → ℤ
 truth_key false = pos 0
@@ -65,7 +66,7 @@ value_key (interval l i) = pos 3 ∷ line_key l ++ i.0 ∷ i.1 ∷ []
 abbrev pub value_cmp : Value → Value → Ordering
 value_cmp = on value_key (slice_cmp int_cmp)
 
--- integers before days before ordinal values, these by the number of their type
+-- integers before days before ordinal values, these by the number of their type, before seconds
 abbrev pub line_cmp : Line → Line → Ordering
 line_cmp = on line_key (slice_cmp int_cmp)
 

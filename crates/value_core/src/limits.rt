@@ -11,7 +11,7 @@ pub const MOST_TEXT_BYTES: usize = 255;
 pub const MOST_ATTRIBUTES: usize = 16;
 
 /// The most attributes that a list of USING, PACK, UNPACK or of a constraint names.
-pub const MOST_LISTED: usize = 3;
+pub const MOST_LISTED: usize = 4;
 
 /// The most rows of a relation.
 pub const MOST_ROWS: usize = 100_000;
@@ -30,6 +30,9 @@ pub const MOST_ORDINAL_VALUES: usize = 1_000;
 
 /// The most constraints of a relvar.
 pub const MOST_CONSTRAINTS: usize = 32;
+
+/// The most database constraints.
+pub const MOST_RULES: usize = 32;
 
 /// The most nodes of a view.
 pub const MOST_NODES: usize = 1_000;

@@ -68,7 +68,7 @@ fn fits_span(t: AnyType, i: &Interval<AnyType>) -> bool
     t.is_point(i.begin()) && t.is_point(i.end())
 }
 
-/// The order of the types of two points: integers, dates, and then the ordinal types as they were declared.
+/// The order of the types of two points: integers, dates, the ordinal types as they were declared, and then moments.
 fn compare_types(a: AnyPoint, b: AnyPoint) -> Ordering
     ensures { result ≡ line_cmp (line a) (line b) }
 {
@@ -80,6 +80,9 @@ fn compare_types(a: AnyPoint, b: AnyPoint) -> Ordering
         (AnyPoint::Date(_), _) => Ordering::Less,
         (_, AnyPoint::Date(_)) => Ordering::Greater,
         (AnyPoint::Ordinal { of: m, at: _ }, AnyPoint::Ordinal { of: n, at: _ }) => m.cmp(&n),
+        (AnyPoint::Ordinal { of: _, at: _ }, AnyPoint::Moment(_)) => Ordering::Less,
+        (AnyPoint::Moment(_), AnyPoint::Ordinal { of: _, at: _ }) => Ordering::Greater,
+        (AnyPoint::Moment(_), AnyPoint::Moment(_)) => Ordering::Equal,
     }
 }
 
