@@ -11,7 +11,7 @@ use Rattle.utd_syntax.proofs.FormValues.{over_makes, then_makes, append_makes}
 use Rattle.utd_syntax.proofs.Reader.{make_names, make_list, make_some_names, make_paren_name, make_element, make_more_elements, make_in_elements, make_elements, make_some_elements, make_tuple, make_more_tuples, make_in_tuples, make_tuples, make_literal, make_after_relation, make_set_item, make_more_set_items, make_sets, make_empty_parens, make_aggregate_form, make_aggregate, make_more_aggregates, make_aggregates, make_renaming, make_more_renamings, make_renamings, make_portion, make_maybe_portion, make_maybe_where, make_in_projection, make_operand, make_extend, make_summarize, make_rel_primary, make_term, make_more_postfix, make_terms, make_more_infix, make_using, make_rel, make_using_part, make_after_operand, make_key, make_foreign, make_used_constraint, make_constraint, make_more_constraints, make_in_rel, make_var_form, make_comparison, make_after_left, make_test, make_used_deletion, make_used_item, make_deletion, make_item, make_more_items, make_assign, make_statement, makes}
 use Rattle.utd_ranges.specs.Ranges.{Range}
 use Rattle.utd_ranges.proofs.RangeForms.{RowsIn, over-in, then-in, append-in}
-use Rattle.utd_ranges.proofs.ScalarRows.{name-in, comma-in, date_text-in, negative_digits-in, primary-in, after_name-in, after_scalar-in, end_of_selector-in, in_parens-in, in_pair-in, in_point-in, sign-in, prod-in, more_prod-in, sum-in, more_sum-in, cmp-in, more_cmp-in, neg-in, conj-in, more_and-in, scalar-in, more_or-in, point-in, kind-in, attribute-in, more_attributes-in, in_heading-in, heading-in, more_names-in, in_names-in, in_list-in}
+use Rattle.utd_ranges.proofs.ScalarRows.{name-in, comma-in, date_text-in, moment_text-in, negative_digits-in, primary-in, after_name-in, after_scalar-in, end_of_selector-in, in_parens-in, in_pair-in, in_point-in, sign-in, prod-in, more_prod-in, sum-in, more_sum-in, cmp-in, more_cmp-in, neg-in, conj-in, more_and-in, scalar-in, more_or-in, point-in, kind-in, attribute-in, more_attributes-in, in_heading-in, heading-in, more_names-in, in_names-in, in_list-in}
 
 pub names-in : (out : Range) → RowsIn out TheNames names_rows make_names
 names-in out = ((λ p b o v h. h.0), tt)
