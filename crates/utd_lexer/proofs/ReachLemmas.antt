@@ -1,5 +1,5 @@
 -- Characters have a reading: tokens, or a place at which neither a token nor a gap stands.
-use Rattle.std.proofs.Common.{◌≡◌, ◌≢◌, ℕ, suc, ◌+◌, ◌<◌, ◌≤◌, List, [], ◌∷◌, ◌++◌, length, take, Bool, true, false, cond, ◌||◌, Some, None, refl, sym, ◌∙◌, ap, subst, arith, ◌⊎◌, inl, inr, length-append, append_assoc, append-nil}
+use Rattle.std.proofs.Common.{◌≡◌, ◌≢◌, ℕ, zero, suc, ◌+◌, ◌<◌, ◌≤◌, List, [], ◌∷◌, ◌++◌, length, take, Bool, true, false, cond, ◌||◌, Some, None, refl, sym, ◌∙◌, ap, subst, arith, ◌⊎◌, inl, inr, length-append, append_assoc, append-nil}
 use Rattle.std.proofs.lemmas.Bool.Decides.{eqb_tells}
 use Rattle.std.specs.List.{prefix_len}
 use Rattle.std.specs.Str.{IsUtf8, chars, is_utf8}
@@ -283,7 +283,7 @@ at-front n p c cs le on (by_none h) = inr (p, here p c cs h)
 
 reached-from : (n : ℕ) (p : Place) (cs : List ℕ) → length cs ≤ n → IsReached p cs
 reached-from n p [] le = inl ([], done p)
-reached-from 0 p (c ∷ cs) le = absurd (omega (arith, le))
+reached-from zero p (c ∷ cs) le = absurd (omega (arith, le))
 reached-from (suc n) p (c ∷ cs) le = at-front n p c cs le (λ q rest h. reached-from n q rest h) (front c cs)
 
 -- every character list has a reading from every place on

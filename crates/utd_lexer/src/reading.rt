@@ -106,7 +106,6 @@ fn read_all<'a>(
 /// refused with E02 behind the longest front that is; else, where at some character neither a token nor
 /// white space nor a comment begins, with E01 there. Bytes have one reading: no other tokens, no other
 /// refusal, and never both; and all bytes have one, whatever is answered.
-#[tactic(auto, using(crate::proofs::ReachLemmas::bytes_read))]
 pub fn tokens(alloc: Global, text: &[u8], start: Place) -> Result<TokenList<'_>, Refuse>
     requires { start.line + start.column + length text.now ≤ 2 ^ 32 - 1 }
     ensures some { HasReading start text.now }
