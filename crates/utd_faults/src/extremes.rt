@@ -78,14 +78,14 @@ const PLAIN: Streams = Streams {
 pub(crate) fn right_extremes(rt: &HostRuntime) -> io::Result<u64> {
     let mut right: u64 = 0;
     for (index, extreme) in EXTREMES.iter().enumerate() {
-        if comes_out(rt.alloc(), extreme.0, &PLAIN, extreme.1, extreme.2)? {
+        if comes_out(rt, extreme.0, &PLAIN, extreme.1, extreme.2)? {
             right = right.saturating_add(1);
         } else {
             println!(rt; "script {index} that is no text differs")?;
         }
     }
     let empty = vec![in rt.alloc(); b';'; MOST_BYTES]?;
-    if comes_out_beside(rt.alloc(), empty.as_slice(), &PLAIN, 0, b"", 0)? {
+    if comes_out_beside(rt, empty.as_slice(), &PLAIN, 0, b"", 0)? {
         right = right.saturating_add(1);
     } else {
         println!(rt; "the longest script of empty statements differs")?;

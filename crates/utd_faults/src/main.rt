@@ -26,7 +26,7 @@ fn right_calls(rt: &HostRuntime, file: &str, script: &Script, kind: Failing) -> 
     for ending in &endings(rt.alloc(), script, kind)? {
         call = call.saturating_add(1);
         if comes_out(
-            rt.alloc(),
+            rt,
             script.text.as_bytes(),
             &kind.streams(call),
             script.front(ending.written),
@@ -49,7 +49,7 @@ fn right_in(rt: &HostRuntime, file: &str, status: u8) -> io::Result<u64> {
     for kind in KINDS {
         right = right.saturating_add(right_calls(rt, file, &script, kind)?);
     }
-    if is_stuck(rt.alloc(), script.text.as_bytes())? {
+    if is_stuck(rt, script.text.as_bytes())? {
         right = right.saturating_add(1);
     } else {
         println!(rt; "{file}: differs where the output takes nothing")?;

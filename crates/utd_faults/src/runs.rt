@@ -27,7 +27,7 @@ pub(crate) struct Streams {
 
 /// Plays the script without words and with a counter of steps that nobody reads; gives its status.
 fn play<K: Sink, L: Ledger>(
-    alloc: Global,
+    rt: &HostRuntime,
     input: &mut MemorySource,
     out: &mut K,
     err: &mut MemorySink,
@@ -37,9 +37,9 @@ fn play<K: Sink, L: Ledger>(
     requires parts { blank.parts ≡ L.parts }
     requires one { blank.parts ≡ 1 }
 {
-    let words: Vec<String> = Vec::new(alloc);
-    let mut steps = Steps::<L>::new(blank);
-    run(alloc, &words, input, out, err, &mut steps).status
+    let words: Vec<String> = Vec::new(rt.alloc());
+    let mut steps = Steps::<L>::new(blank, rt);
+    run(rt.alloc(), &words, input, out, err, &mut steps).status
 }
 
 fn source(
@@ -61,45 +61,47 @@ fn sink(alloc: Global, room: usize, piece: usize, failing: u64) -> Result<Memory
 
 /// Whether the script comes out with this output and this status where this line fails; 0 is none.
 pub(crate) fn comes_out_beside(
-    alloc: Global,
+    rt: &HostRuntime,
     script: &[u8],
     streams: &Streams,
     line: u64,
     output: &[u8],
     status: u8,
 ) -> Result<bool, AllocError> {
+    let alloc = rt.alloc();
     let mut input = source(alloc, script, streams.read_piece, streams.failing_read)?;
     let mut out = sink(alloc, ROOM, streams.write_piece, streams.failing_write)?;
     let mut err = sink(alloc, LINE, LINE, line)?;
-    let answer = play::<MemorySink, Brand>(alloc, &mut input, &mut out, &mut err, Blank::new(1));
+    let answer = play::<MemorySink, Brand>(rt, &mut input, &mut out, &mut err, Blank::new(1));
     Ok(answer == status && *out.bytes() == *output)
 }
 
 /// The same, whether its line can be written or not.
 pub(crate) fn comes_out(
-    alloc: Global,
+    rt: &HostRuntime,
     script: &[u8],
     streams: &Streams,
     output: &[u8],
     status: u8,
 ) -> Result<bool, AllocError> {
-    let with_line = comes_out_beside(alloc, script, streams, 0, output, status)?;
-    let without_line = comes_out_beside(alloc, script, streams, 1, output, status)?;
+    let with_line = comes_out_beside(rt, script, streams, 0, output, status)?;
+    let without_line = comes_out_beside(rt, script, streams, 1, output, status)?;
     Ok(with_line && without_line)
 }
 
 /// Whether the script ends as it should on an output that takes nothing, where this line fails.
-fn is_stuck_beside(alloc: Global, script: &[u8], line: u64) -> Result<bool, AllocError> {
+fn is_stuck_beside(rt: &HostRuntime, script: &[u8], line: u64) -> Result<bool, AllocError> {
+    let alloc = rt.alloc();
     let mut input = source(alloc, script, LINE, 0)?;
     let mut out = StuckSink::new();
     let mut err = sink(alloc, LINE, LINE, line)?;
-    let answer = play::<StuckSink, Brand>(alloc, &mut input, &mut out, &mut err, Blank::new(1));
+    let answer = play::<StuckSink, Brand>(rt, &mut input, &mut out, &mut err, Blank::new(1));
     Ok(answer == WRITE_FAILED)
 }
 
 /// Whether the script ends as it should on an output that takes nothing.
-pub(crate) fn is_stuck(alloc: Global, script: &[u8]) -> Result<bool, AllocError> {
-    let with_line = is_stuck_beside(alloc, script, 0)?;
-    let without_line = is_stuck_beside(alloc, script, 1)?;
+pub(crate) fn is_stuck(rt: &HostRuntime, script: &[u8]) -> Result<bool, AllocError> {
+    let with_line = is_stuck_beside(rt, script, 0)?;
+    let without_line = is_stuck_beside(rt, script, 1)?;
     Ok(with_line && without_line)
 }

@@ -20,11 +20,11 @@ abbrev pub BlockGoesOn : List ℕ → List ℕ → Type 0
 BlockGoesOn left all = ((bs rest : List ℕ) → LacksEnd bs → left ≡ bs ++ 42 ∷ (47 ∷ rest) → (cs : List ℕ) × LacksEnd cs × (all ≡ cs ++ 42 ∷ (47 ∷ rest)))
     × (NoEnd left → NoEnd all)
 
-lacks-more : (x y : ℕ) (xs bs rest : List ℕ) → (x ≡ 42 → y ≡ 47 → ⊥) → y ∷ xs ≡ bs ++ 42 ∷ (47 ∷ rest) → LacksEnd bs → LacksEnd (x ∷ bs)
+pub lacks-more : (x y : ℕ) (xs bs rest : List ℕ) → (x ≡ 42 → y ≡ 47 → ⊥) → y ∷ xs ≡ bs ++ 42 ∷ (47 ∷ rest) → LacksEnd bs → LacksEnd (x ∷ bs)
 lacks-more x y xs [] rest never is h = tt
 lacks-more x y xs (b ∷ bs) rest never is h = (λ e f. never e (same-head y b xs _ is ∙ f), h)
 
-no-end-more : (x y : ℕ) (xs : List ℕ) → (x ≡ 42 → y ≡ 47 → ⊥) → NoEnd (y ∷ xs) → NoEnd (x ∷ (y ∷ xs))
+pub no-end-more : (x y : ℕ) (xs : List ℕ) → (x ≡ 42 → y ≡ 47 → ⊥) → NoEnd (y ∷ xs) → NoEnd (x ∷ (y ∷ xs))
 no-end-more x y xs never h [] rest is = never (same-head x 42 _ _ is) (same-head y 47 xs rest (same-tail x 42 _ _ is))
 no-end-more x y xs never h (b ∷ bs) rest is = h bs rest (same-tail x b _ _ is)
 
@@ -57,12 +57,12 @@ block-found all n x y lt a b p q on =
     let len : length (r.0 ++ 42 ∷ (47 ∷ [])) ≡ n + 1 + 1 = prefix-length all (r.0 ++ 42 ∷ (47 ∷ [])) rest (n + 1 + 1) whole two refl in
     (block r.0, rest, ap (λ z. 47 ∷ (42 ∷ z)) whole, r.1, omega (arith, len))
 
-no-end-short : (cs : List ℕ) → length cs ≤ 1 → NoEnd cs
+pub no-end-short : (cs : List ℕ) → length cs ≤ 1 → NoEnd cs
 no-end-short cs le bs rest is =
     let n : length cs ≡ length bs + length (42 ∷ (47 ∷ rest)) = ap length is ∙ length-append bs (42 ∷ (47 ∷ rest)) in
     omega (arith, n)
 
-no-block : (all : List ℕ) → NoEnd all → GapFront (47 ∷ (42 ∷ all)) None
+pub no-block : (all : List ℕ) → NoEnd all → GapFront (47 ∷ (42 ∷ all)) None
 no-block all never (blank c) rest is h = no_space c (sym (same-head 47 c (42 ∷ all) rest is)) h
 no-block all never (block bs) rest is h =
     never bs rest (same-tail 42 42 all _ (same-tail 47 47 (42 ∷ all) _ is) ∙ append_assoc bs (42 ∷ (47 ∷ [])) rest)

@@ -6,6 +6,7 @@ pub mod ListLemmas
 pub mod OnePrefixLemmas
 pub mod OneReadingLemmas
 pub mod PlaceLemmas
+pub mod ReachLemmas
 pub mod ReadLemmas
 pub mod TextLemmas
 pub mod WordLemmas

@@ -43,13 +43,13 @@ cut-off cs at place prefix rest n le fits is len =
       rest_fits = both.1;
     }
 
-some-gap : (g : Gap) → 0 < length (spelling_of_gap g)
+pub some-gap : (g : Gap) → 0 < length (spelling_of_gap g)
 some-gap (blank c) = omega arith
 some-gap (block cs) = omega arith
 some-gap (line cs) = omega arith
 some-gap (last cs) = omega arith
 
-some-token : (k : TokenKind) (cs rest : List ℕ) → IsToken k cs rest → 0 < length (spelling k cs)
+pub some-token : (k : TokenKind) (cs rest : List ℕ) → IsToken k cs rest → 0 < length (spelling k cs)
 some-token Word [] rest h = absurd h.0
 some-token Word (c ∷ cs) rest h = omega arith
 some-token Integer [] rest h = absurd h.0

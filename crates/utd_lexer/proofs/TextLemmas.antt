@@ -20,7 +20,7 @@ pub ends-any : (v w rest : List ℕ) → EndsAt Text v rest → EndsAt Text w re
 ends-any v w [] h = tt
 ends-any v w (d ∷ rest) h = h
 
-doubled-plain : (c : ℕ) (cs : List ℕ) → c ≢ 39 → doubled (c ∷ cs) ≡ c ∷ doubled cs
+pub doubled-plain : (c : ℕ) (cs : List ℕ) → c ≢ 39 → doubled (c ∷ cs) ≡ c ∷ doubled cs
 doubled-plain c cs h = rw (ne_eqb c 39 h) refl
 
 doubled-append : (a b : List ℕ) → doubled (a ++ b) ≡ doubled a ++ doubled b
@@ -40,14 +40,14 @@ taken-more bytes now all written n m c grows spelled left (v, is, whole) = (
   whole ∙ ap (λ z. doubled v ++ z) left ∙ sym (append_assoc (doubled v) written (drop m all)) ∙ ap (λ z. (doubled v ++ z) ++ drop m all) (sym spelled) ∙ ap (λ z. z ++ drop m all) (sym (doubled-append v (c ∷ []))),
 )
 
-no-plain : (c : ℕ) (cs : List ℕ) → c ≢ 39 → NoText cs → NoText (c ∷ cs)
+pub no-plain : (c : ℕ) (cs : List ℕ) → c ≢ 39 → NoText cs → NoText (c ∷ cs)
 no-plain c cs h never [] rest is ends = h (same-head c 39 cs rest is)
 no-plain c cs h never (d ∷ v) rest is ends = elim (eqb_tells d 39) [
   | inl p ↦ h (same-head c 39 cs _ (is ∙ ap (λ b. cond b (39 ∷ (39 ∷ doubled v)) (d ∷ doubled v) ++ 39 ∷ rest) p.0))
   | inr p ↦ never v rest (same-tail c d cs _ (is ∙ ap (λ b. cond b (39 ∷ (39 ∷ doubled v)) (d ∷ doubled v) ++ 39 ∷ rest) p.0)) (ends-any (d ∷ v) v rest ends)
 ]
 
-no-quote : (cs : List ℕ) → NoText cs → NoText (39 ∷ (39 ∷ cs))
+pub no-quote : (cs : List ℕ) → NoText cs → NoText (39 ∷ (39 ∷ cs))
 no-quote cs never [] rest is ends =
     let e : rest ≡ 39 ∷ cs = sym (same-tail 39 39 (39 ∷ cs) rest is) in
     let f : EndsAt Text [] (39 ∷ cs) = subst (EndsAt Text []) e ends in cc

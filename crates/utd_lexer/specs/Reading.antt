@@ -46,3 +46,7 @@ RefusesOnly start bytes Memory = Unit {0}
 RefusesOnly start bytes (At fault) = IsOnlyRefusal start bytes fault
 RefusesOnly start bytes (Plain code) = ⊥
 RefusesOnly start bytes (Broken code relvar number) = ⊥
+
+-- the bytes are read as tokens, or are refused: every text is
+abbrev pub HasReading : Place → List ℕ → Type 0
+HasReading start bytes = ((tokens : List Token) × Reads start bytes tokens) ⊎ ((fault : Fault) × Refuses start bytes (At fault))

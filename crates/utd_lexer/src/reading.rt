@@ -2,7 +2,7 @@
 ghost use Rattle.std.specs.Prelude.{◌≡◌, ◌+◌, ◌-◌, ◌^◌, ◌≤◌, length, IfOk, IfErr, encode_utf8_all};
 ghost use Rattle.std.specs.Str.{chars};
 ghost use Rattle.utd_lexer.specs.Tokens.{Fits, next_place, place_after, Lexed};
-ghost use Rattle.utd_lexer.specs.Reading.{Stops, Reads, Refuses, IsOnlyReading, RefusesOnly};
+ghost use Rattle.utd_lexer.specs.Reading.{Stops, Reads, Refuses, HasReading, IsOnlyReading, RefusesOnly};
 
 use crate::encoding::split_behind;
 use crate::prefix::{Prefix, prefix_of};
@@ -105,9 +105,10 @@ fn read_all<'a>(
 /// there are, with white space and comments between them. Where the bytes are not UTF-8, that is
 /// refused with E02 behind the longest front that is; else, where at some character neither a token nor
 /// white space nor a comment begins, with E01 there. Bytes have one reading: no other tokens, no other
-/// refusal, and never both.
+/// refusal, and never both; and all bytes have one, whatever is answered.
 pub fn tokens(alloc: Global, text: &[u8], start: Place) -> Result<TokenList<'_>, Refuse>
     requires { start.line + start.column + length text.now ≤ 2 ^ 32 - 1 }
+    ensures some { HasReading start text.now }
     ensures read { IfOk result (λ list. Reads start text.now list) }
     ensures only { IfOk result (λ list. IsOnlyReading start text.now list) }
     ensures refused { IfErr result (λ refuse. Refuses start text.now refuse) }

@@ -1,10 +1,15 @@
 // The program: makes the standard objects, passes the words, and ends with the status.
-ghost use Rattle.std.specs.Prelude.{◌≡◌, ◌⊎◌, None, map, string_bytes};
+ghost use Rattle.std.specs.Prelude.{◌≡◌, ◌⊎◌, ℕ, Some, None, IfSome, map, string_bytes};
 ghost use Rattle.std.specs.IoError.{error_kind};
+ghost use Rattle.std.specs.Process.{exit_status};
 ghost use Rattle.std.specs.declared.io.ErrorKind.TheVariants.{OutOfMemory};
+ghost use Rattle.utd_io.specs.Io.{Rose};
 ghost use Rattle.utd_words.specs.Words.{asked};
-ghost use Rattle.utd_session.specs.Status.{number_of};
+ghost use Rattle.utd_session.specs.Status.{number_of, IsStatus};
+ghost use Rattle.utd_session.specs.Run.{IsRun, IsTold};
+ghost use Rattle.utd_session.specs.Generated.{IsGeneratedRun};
 
+use crate::outcome::Outcome;
 use crate::top::run;
 use point_core::Steps;
 use std::alloc::Global;
@@ -12,27 +17,38 @@ use std::marker::Brand;
 use std::process::ExitCode;
 use std::sync::ledger::{Blank, Ledger};
 use std::{env, io};
-use utd_io::{StdErrSink, StdSink, StdSource, write_all};
+use utd_io::{Sink, Source, StdErrSink, StdSink, StdSource, write_all};
 use utd_session::Status;
+use utd_words::Script;
 
-// The status, with a counter of steps that nobody reads.
-fn status<L: Ledger>(
-    alloc: Global,
+// A run over these streams with a counter of steps that nobody reads. What `run` says of its status is handed on.
+fn outcome<S: Source, K: Sink, E: Sink, L: Ledger>(
+    rt: &HostRuntime,
     words: &[String],
-    input: &mut StdSource,
-    out: &mut StdSink,
-    err: &mut StdErrSink,
+    input: &mut S,
+    out: &mut K,
+    err: &mut E,
     blank: Blank,
-) -> u8
+) -> Outcome
     requires name { blank.name ≡ L.name }
     requires parts { blank.parts ≡ L.parts }
     requires one { blank.parts ≡ 1 }
-    ensures refused { result ≡ number_of Status.BadUsage → asked (map string_bytes words.now) ≡ None }
+    ensures known { IsStatus result.status }
+    ensures refused { result.status ≡ number_of Status.BadUsage → asked (map string_bytes words.now) ≡ None }
     ensures refuses { asked (map string_bytes words.now) ≡ None
-        → (result ≡ number_of Status.BadUsage) ⊎ (result ≡ number_of Status.NoMemory) }
+        → (result.status ≡ number_of Status.BadUsage) ⊎ (result.status ≡ number_of Status.NoMemory) }
+    ensures unread { (asked (map string_bytes words.now) ≡ Some Script.OfInput → ⊥) → input.new ≡ input.old }
+    ensures machine { asked (map string_bytes words.now) ≡ Some Script.OfInput → IfSome (S.left input.old) (λ bytes.
+        IsRun bytes (S.left input.new) (K.written out.old) (K.written out.new) result.database result.status) }
+    ensures generated { (number : ℕ) → asked (map string_bytes words.now) ≡ Some (Script.Generated number)
+        → IsGeneratedRun number (K.written out.old) (K.written out.new) result.database result.status }
+    ensures read { result.status ≡ number_of Status.ReadFailed → Rose (S.faults input.old) (S.faults input.new) }
+    ensures write { result.status ≡ number_of Status.WriteFailed → Rose (K.faults out.old) (K.faults out.new) }
+    ensures line { (status : Status) → result.status ≡ number_of status
+        → IsTold (E.faults err.old) (E.faults err.new) (E.written err.old) (E.written err.new) status }
 {
-    let mut steps = Steps::<L>::new(blank);
-    run(alloc, words, input, out, err, &mut steps).status
+    let mut steps = Steps::<L>::new(blank, rt);
+    run(rt.alloc(), words, input, out, err, &mut steps)
 }
 
 // The words without the program's name.
@@ -70,7 +86,9 @@ fn status_without_words(error: &io::Error, err: &mut StdErrSink) -> u8
 
 /// Reads the script from standard input, writes the answers to standard output and the line of the status to standard error, and ends with
 /// the status; the words of the command line but the first are its words.
-pub fn run_utd(rt: HostRuntime) -> ExitCode {
+pub fn run_utd(rt: HostRuntime) -> ExitCode
+    ensures known { IsStatus (exit_status result) }
+{
     let mut err = StdErrSink::new(rt.stderr());
     let words = match env::args(&rt).and_then(|args| words_after_name(rt.alloc(), args)) {
         Ok(words) => words,
@@ -78,13 +96,13 @@ pub fn run_utd(rt: HostRuntime) -> ExitCode {
     };
     let mut input = StdSource::new(rt.stdin());
     let mut out = StdSink::new(rt.stdout());
-    let answer = status::<Brand>(
-        rt.alloc(),
+    let outcome = outcome::<StdSource, StdSink, StdErrSink, Brand>(
+        &rt,
         &words,
         &mut input,
         &mut out,
         &mut err,
         Blank::new(1),
     );
-    ExitCode::from(answer)
+    ExitCode::from(outcome.status)
 }

@@ -6,7 +6,6 @@ mod runs;
 
 use crate::rows::Rows;
 use crate::runs::first_wrong_piece;
-use std::alloc::Global;
 use std::{fs, io};
 
 /// The files of data/, by subject.
@@ -60,12 +59,12 @@ const FILES: [&str; 46] = [
 ];
 
 /// Runs each script of a file, tells those that come out wrong, and gives how many come out right.
-fn right_in(rt: &HostRuntime, alloc: Global, file: &str) -> io::Result<u64> {
+fn right_in(rt: &HostRuntime, file: &str) -> io::Result<u64> {
     let text = fs::read_to_string(rt, file)?;
-    let rows = Rows::of(alloc, text.as_str())?;
+    let rows = Rows::of(rt.alloc(), text.as_str())?;
     let mut right: u64 = 0;
     for row in &rows.list {
-        match first_wrong_piece(alloc, row)? {
+        match first_wrong_piece(rt, row)? {
             None => right = right.saturating_add(1),
             Some(piece) => {
                 let title = row.title.as_str();
@@ -79,7 +78,7 @@ fn right_in(rt: &HostRuntime, alloc: Global, file: &str) -> io::Result<u64> {
 fn main(rt: HostRuntime) -> io::Result<()> {
     let mut right: u64 = 0;
     for file in FILES {
-        right = right.saturating_add(right_in(&rt, rt.alloc(), file)?);
+        right = right.saturating_add(right_in(&rt, file)?);
     }
     println!(rt; "{right} scripts agree")
 }

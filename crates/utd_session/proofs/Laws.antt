@@ -1,8 +1,10 @@
--- A statement has one reading, and the machine one step after each number of statements.
+-- A statement has one reading and no more than one, and so has the machine a step after each number of statements.
 use Rattle.std.proofs.Common.{◌≡◌, ℕ, Bool, true, false, nat_le, List, [], ◌∷◌, length, take, refl, sym, ap, ◌∙◌}
 use Rattle.point_core.specs.declared.fault.Place.{Place}
-use Rattle.utd_statement.specs.Readings.{Reading}
-use Rattle.utd_statement.proofs.ReadingLaws.{text_one}
+use Rattle.point_core.specs.declared.fault.Code.TheVariants.{E03, E04}
+use Rattle.value_core.specs.declared.refuse.Refuse.TheVariants as refuses
+use Rattle.utd_statement.specs.Readings.{Reading, Refused}
+use Rattle.utd_statement.proofs.ReadingLaws.{text_one, text_some}
 use Rattle.utd_session.specs.Statements.{Statement, Complete, Incomplete}
 use Rattle.utd_session.specs.Readings.{IsShort, IsReading, AreReadings, most_in_statement}
 use Rattle.utd_session.specs.Machine.{Step, performed}
@@ -28,3 +30,22 @@ readings_one (s ∷ ss) (r ∷ rs) (u ∷ us) h k = λ i. reading_one s r u h.0 
 -- and the machine one step after the first j
 pub step_one : (ss : List Statement) (j : ℕ) (a b : Step) → IsAfter ss j a → IsAfter ss j b → a ≡ b
 step_one ss j a b (rs, h, p) (us, k, q) = p ∙ ap performed (readings_one (take j ss) rs us h k) ∙ sym q
+
+-- ---- and they have one
+
+short_some : (t : Bool) (place : Place) (bytes : List ℕ) → (r : Reading) × IsShort t place bytes r
+short_some true place bytes = text_some place bytes
+short_some false place bytes = (Refused (refuses.Plain E03), refl)
+
+pub reading_some : (s : Statement) → (r : Reading) × IsReading s r
+reading_some (Complete place bytes) = short_some (nat_le (length bytes) most_in_statement) place bytes
+reading_some Incomplete = (Refused (refuses.Plain E04), refl)
+
+pub readings_some : (ss : List Statement) → (rs : List Reading) × AreReadings ss rs
+readings_some [] = ([], tt)
+readings_some (s ∷ ss) =
+    let (r, first) = reading_some s in
+    let (rs, others) = readings_some ss in (r ∷ rs, (first, others))
+
+pub step_some : (ss : List Statement) (j : ℕ) → (step : Step) × IsAfter ss j step
+step_some ss j = let (rs, h) = readings_some (take j ss) in (performed rs, (rs, h, refl))

@@ -1,7 +1,6 @@
 //! Scripts of very many rows, which take their time; they are read and written in pieces of 13 bytes. Those of other limits are rows of
 //! `utd_rows`.
 use crate::{outcome, whole};
-use std::alloc::Global;
 use std::marker::Brand;
 use std::process::Abort;
 use std::sync::ledger::Blank;
@@ -95,33 +94,34 @@ fn relvars() -> [Long; 4] {
 }
 
 /// A script that moves in pieces of 13 bytes writes what it should and has its status.
-fn assert_gives(rt: &impl Abort, alloc: Global, long: &Long) -> Result<(), Fail> {
+fn assert_gives(abort: &impl Abort, rt: &HostRuntime, long: &Long) -> Result<(), Fail> {
+    let alloc = rt.alloc();
     let words: Vec<String> = Vec::new(alloc);
     let script = whole(alloc, long.0)?;
     let script = script.as_str();
     let mut input = MemorySource::new(script.as_bytes().to_vec(alloc)?, 13, Vec::new(alloc));
     let mut out = MemorySink::new(vec![in alloc; 0u8; 4000]?, 13, Vec::new(alloc));
     let mut err = MemorySink::new(Vec::new(alloc), 100, Vec::new(alloc));
-    let outcome = outcome::<Brand>(alloc, &words, &mut input, &mut out, &mut err, Blank::new(1));
-    assert_eq!(rt; str::from_utf8(out.bytes())?, long.1, "{script}");
-    assert_eq!(rt; outcome.status, long.2, "{script}");
-    assert!(rt; err.bytes().is_empty(), "{script}");
+    let outcome = outcome::<Brand>(rt, &words, &mut input, &mut out, &mut err, Blank::new(1));
+    assert_eq!(abort; str::from_utf8(out.bytes())?, long.1, "{script}");
+    assert_eq!(abort; outcome.status, long.2, "{script}");
+    assert!(abort; err.bytes().is_empty(), "{script}");
     Ok(())
 }
 
-fn assert_longs(rt: &impl Abort, alloc: Global, longs: &[Long]) -> Result<(), Fail> {
+fn assert_longs(abort: &impl Abort, rt: &HostRuntime, longs: &[Long]) -> Result<(), Fail> {
     for long in longs {
-        assert_gives(rt, alloc, long)?;
+        assert_gives(abort, rt, long)?;
     }
     Ok(())
 }
 
 #[test]
 fn very_many_rows_are_given_or_refused(rt: HostRuntime) -> Result<(), Fail> {
-    assert_longs(&rt, rt.alloc(), &expressions())
+    assert_longs(&rt, &rt, &expressions())
 }
 
 #[test]
 fn very_many_rows_are_kept_or_refused(rt: HostRuntime) -> Result<(), Fail> {
-    assert_longs(&rt, rt.alloc(), &relvars())
+    assert_longs(&rt, &rt, &relvars())
 }

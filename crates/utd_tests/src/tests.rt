@@ -200,14 +200,7 @@ fn examples_come_out(rt: HostRuntime) -> Result<(), Fail> {
             100,
             [example.failing_line].to_vec(alloc)?,
         );
-        let outcome = outcome::<Brand>(
-            alloc,
-            &words,
-            &mut input,
-            &mut out,
-            &mut err,
-            Blank::new(1),
-        );
+        let outcome = outcome::<Brand>(&rt, &words, &mut input, &mut out, &mut err, Blank::new(1));
         assert_eq!(rt; outcome.status, example.status, "example {index}");
         assert!(rt; are_same(out.bytes(), example.output), "example {index}");
         assert!(rt; are_same(err.bytes(), example.line), "example {index}");
@@ -276,14 +269,7 @@ fn long_scripts_come_out(rt: HostRuntime) -> Result<(), Fail> {
         let mut input = MemorySource::new(script, 65_536, Vec::new(alloc));
         let mut out = MemorySink::new(vec![in alloc; 0u8; 100]?, 100, Vec::new(alloc));
         let mut err = MemorySink::new(vec![in alloc; 0u8; 100]?, 100, Vec::new(alloc));
-        let outcome = outcome::<Brand>(
-            alloc,
-            &words,
-            &mut input,
-            &mut out,
-            &mut err,
-            Blank::new(1),
-        );
+        let outcome = outcome::<Brand>(&rt, &words, &mut input, &mut out, &mut err, Blank::new(1));
         assert_eq!(rt; outcome.status, status);
         assert_eq!(rt; out.bytes(), output);
         assert_eq!(rt; err.bytes(), line);
@@ -315,7 +301,7 @@ fn no_more_is_read_where_writing_fails(rt: HostRuntime) -> Result<(), Fail> {
     let mut input = MemorySource::new(script, MOST_BYTES, Vec::new(alloc));
     let mut out = MemorySink::new(vec![in alloc; 0u8; 100]?, 100, [1u64].to_vec(alloc)?);
     let mut err = MemorySink::new(vec![in alloc; 0u8; 100]?, 100, Vec::new(alloc));
-    let status = status::<Brand>(alloc, &mut input, &mut out, &mut err, Blank::new(1));
+    let status = status::<Brand>(&rt, &mut input, &mut out, &mut err, Blank::new(1));
     assert_eq!(rt; status, 4);
     assert!(rt; out.bytes().is_empty());
     assert!(rt; are_same(err.bytes(), b"utd: write failed\n"));
