@@ -1,6 +1,7 @@
 pub mod Attributes
 pub mod Headings
 pub mod Lengths
+pub mod LimitLaws
 pub mod Limits
 pub mod Order
 pub mod Plain
