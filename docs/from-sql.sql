@@ -306,6 +306,40 @@ SELECT cents FROM prices WHERE valid @> DATE '2023-04-15';
 -- | 480   |
 -- rows: 1
 
+-- Times of day
+
+CREATE SCHEMA times_of_day;
+SET search_path TO times_of_day, public;
+
+CREATE TABLE shifts (name text, duty tsrange NOT NULL, EXCLUDE USING gist (name WITH =, duty WITH &&));
+INSERT INTO shifts VALUES
+  ('Ada', '[2023-05-06 14:00:00,2023-05-06 22:00:00)'), ('Ada', '[2023-05-06 22:00:00,2023-05-07 06:00:00)'),
+  ('Grace', '[2023-05-07 05:45:00,2023-05-07 14:00:00)');
+
+SELECT name, unnest(range_agg(duty)) AS duty FROM shifts GROUP BY name;
+-- as here
+-- | DUTY                                      | NAME    |
+-- | [2023-05-06T14:00:00:2023-05-07T05:59:59] | 'Ada'   |
+-- | [2023-05-07T05:45:00:2023-05-07T13:59:59] | 'Grace' |
+-- rows: 2
+
+SELECT name, duty, (extract(epoch FROM upper(duty) - lower(duty)) / 60)::integer AS minutes
+FROM shifts
+WHERE duty @> TIMESTAMP '2023-05-07 05:50:00';
+-- as here
+-- | DUTY                                      | MINUTES | NAME    |
+-- | [2023-05-06T22:00:00:2023-05-07T05:59:59] | 480     | 'Ada'   |
+-- | [2023-05-07T05:45:00:2023-05-07T13:59:59] | 495     | 'Grace' |
+-- rows: 2
+
+-- Between two seconds a range has other times, so these two do not meet.
+
+SELECT tsrange('2023-05-06 08:00:00', '2023-05-06 08:59:59', '[]') -|- tsrange('2023-05-06 09:00:00', '2023-05-06 10:00:00') AS meets;
+-- other than here
+-- | MEETS |
+-- | FALSE |
+-- rows: 1
+
 -- Gaps and islands by window functions. Runs of single days
 
 CREATE SCHEMA runs;

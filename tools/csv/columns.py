@@ -48,6 +48,8 @@ class Kinds:
             return kinds.Integer()
         if text == 'DATE':
             return kinds.Date(self.date_format)
+        if text == 'MOMENT':
+            return kinds.Moment()
         if text == 'TIME(MINUTES)':
             return kinds.Minutes()
         if text in ('TIMESTAMP(MINUTES)', 'TIMESTAMP(SECONDS)'):

@@ -4,6 +4,7 @@ Each says by `printed` what the program prints of its values.
 """
 import datetime
 import re
+import shlex
 
 KEYWORDS = set('''
     ALL AFTER AND AS ASK BEFORE BEGIN BEGINS BOOLEAN BUT BY CHAR CONSTRAINT COUNT DATE DELETE DROP END ENDS EXTEND FALSE FIRST FOREIGN HISTORY
@@ -17,9 +18,14 @@ INTEGERS = (-2**63, 2**63 - 1)
 DAYS = (datetime.date.min.toordinal(), datetime.date.max.toordinal())
 DAY_MINUTES = 24 * 60
 EPOCH = datetime.datetime(1970, 1, 1)
+# from 0001-01-01T00:00:00 to 9999-12-31T23:59:59
+SECONDS = tuple((end.replace(microsecond=0) - EPOCH) // datetime.timedelta(seconds=1) for end in (datetime.datetime.min, datetime.datetime.max))
 STAMP = re.compile('[0-9]{4}-[0-9]{2}-[0-9]{2}[ T][0-9]{2}:[0-9]{2}(?::[0-9]{2}(?:[.]0*)?)?')
+MOMENT = '[0-9]{4}-[0-9]{2}-[0-9]{2}[ T][0-9]{2}:[0-9]{2}:[0-9]{2}'
 TRUTHS = {**dict.fromkeys(('true', 't', 'yes', 'y', '1'), 'TRUE'), **dict.fromkeys(('false', 'f', 'no', 'n', '0'), 'FALSE')}
 RANGE = re.compile(r'([\[(])(.*)([\])])')
+# the ends of an interval, parted by a colon: the times of moments have colons too
+ENDS = re.compile(f'({MOMENT}|[^:]*):({MOMENT}|[^:]*)')
 
 
 class Fault(Exception):
@@ -61,6 +67,14 @@ def tells_days(form):
         return datetime.datetime.strptime(day.strftime(form), form) == day
     except (ValueError, re.error):
         return False
+
+
+def seconds_of(text):
+    """The seconds from the beginning of 1970 to this day and time, which has no zone; None where it is none."""
+    try:
+        return (datetime.datetime.fromisoformat(text.partition('.')[0]) - EPOCH) // datetime.timedelta(seconds=1) if STAMP.fullmatch(text) else None
+    except ValueError:
+        return None
 
 
 # ---------------------------------------------------------------- values that stand alone
@@ -168,13 +182,10 @@ class Timestamp(Integer):
         self.seconds = seconds
 
     def read(self, text):
-        try:
-            if not STAMP.fullmatch(text):
-                raise ValueError
-            since = datetime.datetime.fromisoformat(text.partition('.')[0]) - EPOCH
-        except ValueError:
-            raise Fault(f'{shown(text)} is no day and time as YYYY-MM-DD HH:MM') from None
-        number, rest = divmod(since // datetime.timedelta(seconds=1), self.seconds)
+        since = seconds_of(text)
+        if since is None:
+            raise Fault(f'{shown(text)} is no day and time as YYYY-MM-DD HH:MM')
+        number, rest = divmod(since, self.seconds)
         if rest:
             raise Fault(f'{shown(text)} has seconds')
         return str(number), number
@@ -212,6 +223,30 @@ class Date(Point):
         return f"DATE '{day.isoformat()}'", day.toordinal()
 
 
+class Moment(Point):
+    """MOMENT: a day and a time of day without a zone, as PostgreSQL writes it, with a space or a T."""
+    name, printed = 'MOMENT', re.compile(MOMENT.replace('[ T]', 'T'))
+
+    @staticmethod
+    def printed_of(number):
+        """The moment of this number, as the program prints it."""
+        return (EPOCH + datetime.timedelta(seconds=number)).isoformat('T', 'seconds')
+
+    @staticmethod
+    def written(text):
+        """How a file has the moment that the program prints so."""
+        return text.replace('T', ' ')
+
+    def numbers(self):
+        return SECONDS
+
+    def read(self, text):
+        number = seconds_of(text)
+        if number is None:
+            raise Fault(f'{shown(text)} is no moment as YYYY-MM-DD HH:MM:SS')
+        return f"MOMENT '{self.printed_of(number)}'", number
+
+
 class Ordinal(Point):
     """An ordinal type; of one whose values were not told any name is taken."""
     printed = re.compile(r"[^\W\d][^ '|:\[\]]*")
@@ -231,6 +266,14 @@ class Ordinal(Point):
 
 # ---------------------------------------------------------------- intervals
 
+def ends_of(text):
+    """The two ends that stand between brackets, or what else stands there."""
+    if ',' in text:
+        return text.split(',')
+    ends = ENDS.fullmatch(text)
+    return ends.groups() if ends else text.split(':')
+
+
 class Interval:
     """INTERVAL of a point kind. What stands for its first or its last point is told by `first` and `last`, two sets of texts."""
 
@@ -239,9 +282,9 @@ class Interval:
         self.name = f'INTERVAL({point.name})'
 
     def literal(self, text):
-        """The interval of one field, as [b:e] or [b,e)."""
+        """The interval of one field, as [b:e] or [b,e); PostgreSQL puts the ends into quotes where they have a space."""
         parts = RANGE.fullmatch(text.strip())
-        ends = parts[2].split(',' if ',' in parts[2] else ':') if parts else ()
+        ends = ends_of(parts[2].replace('"', '')) if parts else ()
         if len(ends) != 2:
             raise Fault(f'{shown(text)} is no interval as [b:e] or [b,e)')
         return self.between(ends[0], ends[1], parts[1], parts[3])
@@ -256,7 +299,7 @@ class Interval:
         if not self.has_point(low[1], high[1], left, right) or low == high and left + right != '[]':
             raise Fault(f'there is no {self.point.name} in {left}{begin}:{end}{right}')
         if right == ')' and high[1] == last[1] and not isinstance(self.point, Ordinal):
-            raise Fault(f'{end} would be left out; --last {end} takes it for the last point')
+            raise Fault(f'{end} would be left out; --last {shlex.quote(end)} takes it for the last point')
         return f'{left}{low[0]}:{high[0]}{right}'
 
     def end_of(self, text, names, named):

@@ -52,14 +52,14 @@ def where(number, script):
 
 # ---------------------------------------------------------------- what the program would print
 
-LITERAL = re.compile(r"""(?:DATE\ )?'(?:[^']|'')*' | LAST\(\w+\) | FIRST\(\w+\) | -?[0-9]+ | TRUE | FALSE | \w+\.\w+""", re.X)
+LITERAL = re.compile(r"""(?:(?:DATE|MOMENT)\ )?'(?:[^']|'')*' | LAST\(\w+\) | FIRST\(\w+\) | -?[0-9]+ | TRUE | FALSE | \w+\.\w+""", re.X)
 NAMED = {'LAST(DATE)': '9999-12-31', 'FIRST(DATE)': '0001-01-01', 'LAST(INTEGER)': str(2**63 - 1), 'FIRST(INTEGER)': str(-2**63)}
 
 
 def entry_of(literal):
     """A literal as a table has it."""
-    if literal.startswith('DATE '):
-        return literal[6:-1]
+    if literal.startswith(('DATE ', 'MOMENT ')):
+        return literal.partition(' ')[2][1:-1]
     return NAMED.get(literal, literal if literal.startswith("'") else literal.rpartition('.')[2])
 
 
@@ -152,6 +152,24 @@ class In(unittest.TestCase):
             f"line {line}, column 1 (a): '{text}' {why}" for line, text, why in (
                 (2, '2023-02-01', 'is no day and time as YYYY-MM-DD HH:MM'), (3, '2023-02-01 08:30:05', 'has seconds'),
                 (4, '2023-02-30 08:30', 'is no day and time as YYYY-MM-DD HH:MM'), (5, '2023-02-01 08:30+01:00', 'is no day and time as YYYY-MM-DD HH:MM'))))
+
+    def test_moments(self):
+        self.loads(['R', 'a=MOMENT'], 'a\n2023-02-01 08:30:05\n', "a MOMENT '2023-02-01T08:30:05'")
+        self.loads(['R', 'a=MOMENT'], 'a\n 0001-01-01T00:00 \n', "a MOMENT '0001-01-01T00:00:00'")
+        self.loads(['R', 'a=INTERVAL(MOMENT):[b,e)'], 'b,e\n2023-02-01 22:00:00,2023-02-02 06:00:00.000\n',
+                   "a [MOMENT '2023-02-01T22:00:00':MOMENT '2023-02-02T06:00:00')")
+        for field in ('"[""2023-02-01 22:00:00"",""2023-02-02 06:00:00"")"', '"[2023-02-01 22:00:00,2023-02-02 06:00:00)"',
+                      '[2023-02-01T22:00:00:2023-02-02T06:00:00)'):
+            self.loads(['R', 'a=INTERVAL(MOMENT):v'], f'v\n{field}\n', "a [MOMENT '2023-02-01T22:00:00':MOMENT '2023-02-02T06:00:00')")
+        self.loads(['--last', 'infinity', 'R', 'a=INTERVAL(MOMENT):v'], 'v\n"[""2023-02-01 22:00:00"",infinity)"\n', "a [MOMENT '2023-02-01T22:00:00':LAST(MOMENT)]")
+        self.loads(['--last', '', 'R', 'a=INTERVAL(MOMENT):v'], 'v\n"[""2023-02-01 22:00:00"",)"\n', "a [MOMENT '2023-02-01T22:00:00':LAST(MOMENT)]")
+        self.assertIn('VAR R RELATION {a MOMENT, b INTERVAL(MOMENT)};\n', call(['in', '--var', 'R', 'a=MOMENT', 'b=INTERVAL(MOMENT):c,d'], 'a,c,d\n')[1])
+        self.refuses(['R', 'a=MOMENT'], 'a\n2023-02-01\n2023-02-30 08:30:00\n2023-02-01 24:00:00\n2023-02-01 08:30:05.5\n2023-02-01 08:30:00+01\n', *(
+            f"line {line}, column 1 (a): '{text}' is no moment as YYYY-MM-DD HH:MM:SS" for line, text in (
+                (2, '2023-02-01'), (3, '2023-02-30 08:30:00'), (4, '2023-02-01 24:00:00'), (5, '2023-02-01 08:30:05.5'), (6, '2023-02-01 08:30:00+01'))))
+        self.refuses(['R', 'a=INTERVAL(MOMENT):[b,e)'], 'b,e\n2023-02-01 08:30:00,2023-02-01 08:30:00\n2023-02-01 08:30:00,9999-12-31 23:59:59\n',
+                     'line 2, column 1 (b) and 2 (e): there is no MOMENT in [2023-02-01 08:30:00:2023-02-01 08:30:00)',
+                     "line 3, column 1 (b) and 2 (e): 9999-12-31 23:59:59 would be left out; --last '9999-12-31 23:59:59' takes it for the last point")
 
     def test_truth_values(self):
         for text, truth in (('t', 'TRUE'), ('TRUE', 'TRUE'), ('Yes', 'TRUE'), ('1', 'TRUE'), ('f', 'FALSE'), ('no', 'FALSE'), ('0', 'FALSE')):
@@ -322,6 +340,19 @@ class Out(unittest.TestCase):
         self.breaks(['--type', 'SIZE=S,M', 'A=INTERVAL(SIZE):[b,e)'], sizes,
                     'line 2: A: the interval has the last SIZE, and no bound beyond it; --last says what to write')
 
+    def test_moments(self):
+        given = '| A                   | B                                         |\n| 2023-02-01T08:30:05 | [2023-02-01T22:00:00:2023-02-02T05:59:59] |\nrows: 1\n'
+        self.gives(['A=MOMENT:a', 'B=INTERVAL(MOMENT):[b,e)'], given, 'a,b,e\n2023-02-01 08:30:05,2023-02-01 22:00:00,2023-02-02 06:00:00\n')
+        self.gives(['B=INTERVAL(MOMENT):b,e'], given, 'A,b,e\n2023-02-01T08:30:05,2023-02-01 22:00:00,2023-02-02 05:59:59\n')
+        self.gives(['A=MOMENT', 'B=INTERVAL(MOMENT):[b)'], given, 'A,b\n2023-02-01 08:30:05,"[""2023-02-01 22:00:00"",""2023-02-02 06:00:00"")"\n')
+        self.gives([], given, 'A,B\n2023-02-01T08:30:05,[2023-02-01T22:00:00:2023-02-02T05:59:59]\n')
+        self.gives(['--json', 'A=MOMENT'], given, '{"A": "2023-02-01 08:30:05", "B": "[2023-02-01T22:00:00:2023-02-02T05:59:59]"}\n')
+        endless = '| B                                         |\n| [0001-01-01T00:00:00:9999-12-31T23:59:59] |\nrows: 1\n'
+        self.gives(['--last', '', '--first', '', 'B=INTERVAL(MOMENT):[b)'], endless, 'b\n"[,)"\n')
+        self.breaks(['B=INTERVAL(MOMENT):[b)'], endless, 'line 2: B: the interval has the last MOMENT, and no bound beyond it; --last says what to write')
+        self.breaks(['A=MOMENT'], '| A          |\n| 2023-02-01 |\nrows: 1\n', 'line 2: A: 2023-02-01 is no MOMENT')
+        self.breaks(['A=DATE'], given, 'line 2: A: 2023-02-01T08:30:05 is no DATE')
+
     def test_json(self):
         wanted = ('{"A": "x | y", "B": "it\'s", "from": "2023-01-01", "to": "2023-06-30", "N": -1}\n'
                   '{"A": "", "B": "a, \\"b\\"", "from": "2023-03-01", "to": "9999-12-31", "N": 2}\n')
@@ -385,8 +416,8 @@ class Out(unittest.TestCase):
 
 class Both(unittest.TestCase):
     COLUMNS = ['A=CHAR:text', 'B=INTEGER:number', 'C=INTERVAL(DATE):[from,to)', 'D=BOOLEAN:truth', 'E=INTERVAL(INTEGER):range', 'F=DECIMAL(2):price',
-               'G=DATE:day', 'H=SIZE:size', 'I=TIMESTAMP(MINUTES):stamp', 'J=INTERVAL(TIME(MINUTES)):times']
-    HEADER = ['text', 'number', 'from', 'to', 'truth', 'range', 'price', 'day', 'size', 'stamp', 'times']
+               'G=DATE:day', 'H=SIZE:size', 'I=TIMESTAMP(MINUTES):stamp', 'J=INTERVAL(TIME(MINUTES)):times', 'K=MOMENT:moment', 'L=INTERVAL(MOMENT):[call]']
+    HEADER = ['text', 'number', 'from', 'to', 'truth', 'range', 'price', 'day', 'size', 'stamp', 'times', 'moment', 'call']
 
     def row(self, chance):
         """A random row of the fields."""
@@ -396,7 +427,8 @@ class Both(unittest.TestCase):
         text = ''.join(chance.choice('ab\'",|;é :[]{}/*') for _ in range(chance.randrange(8)))
         price = f'{chance.randrange(-999, 999) / 100:.2f}'
         return [text, str(begin), day.isoformat(), to, chance.choice(['TRUE', 'FALSE']), f'[{begin}:{begin + more}]', price, day.isoformat(),
-                chance.choice('SML'), f'{day} 08:{more:02}', f'[08:{more:02},{9 + more % 9:02}:00]']
+                chance.choice('SML'), f'{day} 08:{more:02}', f'[08:{more:02},{9 + more % 9:02}:00]', f'{day} 23:59:{more:02}',
+                f'["{day} 08:00:{more:02}","{day} {9 + more % 9:02}:00:00"]']
 
     def test_round_trips(self):
         chance = random.Random(1)

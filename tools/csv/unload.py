@@ -11,7 +11,7 @@ from kinds import Fault, shown
 from progress import Progress
 
 CELL = re.compile(r" (?:('(?:[^']|'')*')|([^'|]*?)) *\|")
-INTERVAL = re.compile(r'\[([^:]*):([^:]*)\]')
+INTERVAL = re.compile(rf'\[{kinds.ENDS.pattern}\]')
 REFUSED = re.compile('statement [0-9]+ refused: ')
 ROWS = re.compile('rows: ([0-9]+)')
 LABEL = '_'
@@ -116,6 +116,8 @@ class Values:
         begin, end = self.begin_of(begin, column.kind.point, column.left), self.end_of(end, column.kind.point, column.right)
         if len(column.fields) == 2:
             return [begin, end]
+        if isinstance(column.kind.point, kinds.Moment) and column.is_bracketed:
+            begin, end = (f'"{bound}"' if ' ' in bound else bound for bound in (begin, end))
         # with a comma where a colon would not be told from one of an end
         between = ',' if column.is_bracketed or ':' in begin + end else ':'
         return [f'{column.left}{begin}{between}{end}{column.right}']
@@ -133,7 +135,7 @@ class Values:
         """How a file has a value that the program prints so."""
         if kind is not None and not kind.printed.fullmatch(cell):
             raise Fault(f'{cell} is no {kind.name}')
-        if isinstance(kind, kinds.Integer):
+        if isinstance(kind, (kinds.Integer, kinds.Moment)):
             return kind.written(cell)
         if self.date_format and kinds.Date.printed.fullmatch(cell):
             return kinds.day_in(self.date_format, datetime.date.fromisoformat(cell))
@@ -174,6 +176,8 @@ def neighbour_of(number, step, kind, option):
         raise Fault(f'the interval has the {"last" if step == 1 else "first"} {kind.name}, and no bound beyond it; {option} says what to write')
     if isinstance(kind, kinds.Date):
         return datetime.date.fromordinal(number + step).isoformat()
+    if isinstance(kind, kinds.Moment):
+        return kind.printed_of(number + step)
     return kind.values[number + step] if isinstance(kind, kinds.Ordinal) else str(number + step)
 
 

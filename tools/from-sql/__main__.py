@@ -32,7 +32,8 @@ FILE = 'docs/from-sql.sql'
 STATEMENT = re.compile(r'((?:(?!--).*\n)*?.*;)\n((?:--.*\n)*)')
 INTEGER = re.compile(r'-?[0-9]+')
 DATE = re.compile(r'[0-9]{4}-[0-9]{2}-[0-9]{2}')
-RANGE = re.compile(r'\[([0-9-]+),([0-9-]+)\)')
+MOMENT = re.compile(f'{DATE.pattern} [0-9]{{2}}:[0-9]{{2}}:[0-9]{{2}}')
+RANGE = re.compile(rf'\["?({MOMENT.pattern}|[0-9-]+)"?,"?({MOMENT.pattern}|[0-9-]+)"?\)')
 INTERVAL = re.compile(r'\[(-?[0-9]+):(-?[0-9]+)\]')
 
 
@@ -70,6 +71,9 @@ def sql_of_the_page():
 
 def closed(first, behind):
     """A range without its end as an interval is printed: with its last point."""
+    if MOMENT.fullmatch(behind):
+        last = datetime.datetime.fromisoformat(behind) - datetime.timedelta(seconds=1)
+        return f'[{printed(first)}:{last.isoformat()}]'
     if DATE.fullmatch(behind):
         return f'[{first}:{datetime.date.fromisoformat(behind) - datetime.timedelta(days=1)}]'
     return f'[{first}:{int(behind) - 1}]'
@@ -80,6 +84,8 @@ def printed(value):
     found = RANGE.fullmatch(value)
     if found:
         return closed(*found.groups())
+    if MOMENT.fullmatch(value):
+        return value.replace(' ', 'T')
     if INTEGER.fullmatch(value) or DATE.fullmatch(value) or value in ('NULL', 'empty'):
         return value
     return {'t': 'TRUE', 'f': 'FALSE'}.get(value) or "'" + value.replace("'", "''") + "'"

@@ -114,8 +114,8 @@ NOTS = lambda s: s.split()
 b = []
 for S, ex, ch in [('MoreOr',['Or'],[]),('MoreAnd',['And'],[]),('MoreCmp',[],['comparison']),('MoreSum',[],['sum_word']),('MoreProd',[],['product_word']),('AfterName',['Dot'],[])]: b += ends_lemma(S, ex, ch)
 for f, g, ex in [('scalar','conj',[]),('conj','neg',[]),('neg','cmp',['Not']),('cmp','sum',[]),('sum','prod',[]),('prod','sign',[]),('sign','primary',['Dash'])]: b += to_lemma(f, g, ex)
-for S, last, ex, ch in [('ThePoint','Name',['Integer','Date'],[]),('ThePrimary','False',NOTS('Open OpenBracket First Last Name Digits Quoted Date True'),['function','pair_function']),('AfterScalar','Close',['Colon'],[]),
-   ('InParens','Open',[],[]),('InPair','Open',[],[]),('InPoint','Open',[],[]),('Comma','Comma',[],[]),('DateText','Quoted',[],[]),('NegativeDigits','Digits',[],[]),('TheName','Name',[],[])]: b += must_lemma(S, last, ex, ch)
+for S, last, ex, ch in [('ThePoint','Name',['Integer','Date','Moment'],[]),('ThePrimary','False',NOTS('Open OpenBracket First Last Name Digits Quoted Date Moment True'),['function','pair_function']),('AfterScalar','Close',['Colon'],[]),
+   ('InParens','Open',[],[]),('InPair','Open',[],[]),('InPoint','Open',[],[]),('Comma','Comma',[],[]),('DateText','Quoted',[],[]),('MomentText','Quoted',[],[]),('NegativeDigits','Digits',[],[]),('TheName','Name',[],[])]: b += must_lemma(S, last, ex, ch)
 for c in ['comparison','sum_word','product_word','function','pair_function','extreme']: b += choice_lemmas(c)
 b += row_lemma('comparison','MoreCmp',('TheSum','(λ v. k ((λ x. Compare x p w v.0), v.1))'))
 b += row_lemma('sum_word','MoreSum',('TheProd ∷ MoreSum','(λ v. k ((λ x. v.1.0 (Add x p w v.0)), v.1.1))'))

@@ -28,9 +28,9 @@ def choice_uses(variants=True):
         if variants: o.append(f'use {CR}.specs.declared.words.{CHOICE_TYPES[c]}.TheVariants as {PLURAL[c]}')
     return o
 COMMENT = {  # the rule of the grammar above each type
- 'point':'"INTEGER" | "DATE" | name','scalar':'conj | scalar "OR" conj','conj':'neg | conj "AND" neg','neg':'"NOT" neg | cmp','cmp':'sum | sum comparison sum',
+ 'point':'"INTEGER" | "DATE" | "MOMENT" | name','scalar':'conj | scalar "OR" conj','conj':'neg | conj "AND" neg','neg':'"NOT" neg | cmp','cmp':'sum | sum comparison sum',
  'sum':'prod | sum ( "+" | "-" | "||" ) prod','prod':'sign | prod ( "*" | "/" ) sign','sign':'"-" integer | "-" sign | primary; a "-" before an integer is one literal with it',
- 'primary':'integer | text | "DATE" text | "TRUE" | "FALSE" | name | name "." name | "(" scalar ")" | an interval | a function',
+ 'primary':'integer | text | "DATE" text | "MOMENT" text | "TRUE" | "FALSE" | name | name "." name | "(" scalar ")" | an interval | a function',
  'kind':'"BOOLEAN" | "CHAR" | point | "INTERVAL" "(" point ")"','attribute':'name kind','heading':'"{" [ attribute { "," attribute } ] "}"','names':'"{" [ name { "," name } ] "}"',
  'list':'"(" [ name { "," name } ] ")"','some_names':'"{" name { "," name } "}"','element':'name scalar','elements':'"{" [ element { "," element } ] "}"','some_elements':'"{" element { "," element } "}"',
  'tuple':'"TUPLE" elements','literal':'"RELATION" "{" tuple { "," tuple } "}" | "RELATION" heading "{" [ tuple { "," tuple } ] "}"','set_item':'name ":=" scalar','sets':'"{" set_item { "," set_item } "}"',
@@ -148,7 +148,7 @@ while i < len(order):
 write('specs/Written.antt', '\n'.join(o))
 OFS = [f'of_{n}' for n in FORMS] + [f'of_{l}' for l in LISTS]
 # ---------------------------------------------------------------- Table
-HOW = {'P':'Plain','O':'Operator','S':'Separator','N':'Negated','D':'Dated'}
+HOW = {'P':'Plain','O':'Operator','S':'Separator','N':'Negated','D':'Dated','T':'Timed'}
 def how(h, inner): return HOW[h] if h in HOW else f'({"Opens" if h == "L" else "OperatorOpens"} ({symlist(inner)}))'
 def rname(s): return snake(s[3:] if s.startswith('The') else s) + '_rows'
 def sl(l): return f'({symlist(l)})' if l else '[]'
@@ -170,9 +170,9 @@ pub data Symbol : Type 0 where
   Shut : Load → Symbol
 
 -- How a token is taken: it counts as an operator; it is a comma; it is an integer behind its "-"; it is the text of a
--- date; it opens a level, which ends behind these forms; or it is an operator that opens one.
+-- date, or of a moment; it opens a level, which ends behind these forms; or it is an operator that opens one.
 pub data Taking : Type 0 where
-  Plain Operator Separator Negated Dated : Taking
+  Plain Operator Separator Negated Dated Timed : Taking
   Opens OperatorOpens : List Symbol → Taking
 
 -- What a token does where a form may stand: it cannot stand there; the form ends before it; or it is taken, and these

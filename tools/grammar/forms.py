@@ -186,7 +186,7 @@ while grown:
             for k, x, n, h, inn, m in EXP[s]:
                 if k == 'second' and x == 'Dash': continue
                 if k == 'first': continue
-                if x in ('Digits','Quoted','Date','Name') and any(r[1] == 'True' for r in EXP[s]): continue
+                if x in ('Digits','Quoted','Date','Moment','Name') and any(r[1] == 'True' for r in EXP[s]): continue
                 es = [ending(f) for f in inn + m]
                 if all(e is not None for e in es): cands.append([(x, [])] + sum(es, []))
         for c in cands:

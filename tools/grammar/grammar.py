@@ -29,6 +29,7 @@ form('name', 'Word', 'TheName', (None, 'n:name'))
 form('point', 'PointP', 'ThePoint',
     ('IntegerType', 'Integer@p'),
     ('DateType', 'Date@p'),
+    ('MomentType', 'Moment@p'),
     ('NamedType', 'n:name'),
 )
 
@@ -51,6 +52,7 @@ form('primary', 'PrimaryP', 'ThePrimary',
     ('IntegerLiteral', 'Digits@p=c'),
     ('TextLiteral', 'Quoted@p=c'),
     ('DateLiteral', 'Date@p Quoted@q=c'),
+    ('MomentLiteral', 'Moment@p Quoted@q=c'),
     ('TrueLiteral', 'True@p'),
     ('FalseLiteral', 'False@p'),
     ('AttributeName', 'n:name'),

@@ -2,7 +2,7 @@
 from definitions import *
 COMMON = 'use Rattle.std.proofs.Common.{◌≡◌, ◌≢◌, ◌↔◌, ℕ, List, [], ◌∷◌, ◌++◌, Bool, true, false, cond, ◌==◌, ◌&&◌, eqb, ◌⊎◌, inl, inr, Option, Some, None, refl, sym, ◌∙◌, ap, subst, append_assoc, if◌then◌else◌}'
 WRITTEN_USE = f'use {CR}.specs.Written.{{Mark, fixed, at, spelled, worded, apart, IsMark, Spells, token, placed, lexeme, word_of, contextual, negation, ' + ', '.join(word_name(w) for w in CONTEXT) + ', ' + ', '.join(CHOICES) + ', ' + ', '.join(OFS) + '}'
-TABLE_USE = f'use {CR}.specs.Table.{{Load, Symbol, {SYMS}, Taking, Plain, Operator, Separator, Negated, Dated, Opens, OperatorOpens, Turn, Never, Ends, Takes, Row, on, spelt, before, then_row, ◌▹◌, rows, may_end, number, same, same_bytes, fits, chosen, find, turn, ' + ', '.join(rname(s) for s in TABLE) + '}'
+TABLE_USE = f'use {CR}.specs.Table.{{Load, Symbol, {SYMS}, Taking, Plain, Operator, Separator, Negated, Dated, Timed, Opens, OperatorOpens, Turn, Never, Ends, Takes, Row, on, spelt, before, then_row, ◌▹◌, rows, may_end, number, same, same_bytes, fits, chosen, find, turn, ' + ', '.join(rname(s) for s in TABLE) + '}'
 PIECES_USE = f'use {CR}.specs.Pieces.{{Piece, first, place_of}}'
 HEAD = [COMMON, TERM, TV, PLACE] + choice_uses() + [PIECES_USE, PLAIN_USE]
 def val_type(s):

@@ -8,7 +8,7 @@ OPERATOR_PART = list(TABLE)[list(TABLE).index('TheProd'):list(TABLE).index('TheN
 SCALAR_PART = list(TABLE)[list(TABLE).index('TheNeg'):list(TABLE).index('ThePoint')]
 STATEMENT_PART = list(TABLE)[list(TABLE).index('TheKey'):]
 RELATION_PART = [s for s in TABLE if s not in PRIMARY_PART + OPERATOR_PART + SCALAR_PART + STATEMENT_PART]
-TAKING = {'P': 'Plain', 'O': 'Operator', 'S': 'Separator', 'N': 'Negated', 'D': 'Dated'}
+TAKING = {'P': 'Plain', 'O': 'Operator', 'S': 'Separator', 'N': 'Negated', 'D': 'Dated', 'T': 'Timed'}
 def form(s):
     if isinstance(s, str): return f'Form::{s}'
     return f'Form::Just(Terminal::{s[1]})' if s[0] == 'Just' else f'Form::Worded(PlaceWord::{s[1].capitalize()})'
@@ -56,7 +56,7 @@ o += ['''    Just(Terminal),
 }
 
 /// How a token is taken: it counts as an operator; it is a comma; it is an integer behind its `-`; it is the text of a
-/// date; it opens a level, which ends behind these forms; or it is an operator that opens one.
+/// date, or of a moment; it opens a level, which ends behind these forms; or it is an operator that opens one.
 #[derive(Clone, Copy)]
 pub enum Taking {
     Plain,
@@ -64,6 +64,7 @@ pub enum Taking {
     Separator,
     Negated,
     Dated,
+    Timed,
     Opens(&'static [Form]),
     OperatorOpens(&'static [Form]),
 }
@@ -133,6 +134,7 @@ taking_of takings.Operator = table.Operator
 taking_of takings.Separator = table.Separator
 taking_of takings.Negated = table.Negated
 taking_of takings.Dated = table.Dated
+taking_of takings.Timed = table.Timed
 taking_of (takings.Opens inner) = table.Opens (forms_of inner.now)
 taking_of (takings.OperatorOpens inner) = table.OperatorOpens (forms_of inner.now)
 

@@ -401,6 +401,7 @@ pub bare-after : (how : Taking) (load : Load) (more stack : List Symbol) → bar
 bare-after Plain load more stack h = bare-append more stack ∙ ap (λ x. x ++ bare stack) h
 bare-after Negated load more stack h = bare-append more stack ∙ ap (λ x. x ++ bare stack) h
 bare-after Dated load more stack h = bare-append more stack ∙ ap (λ x. x ++ bare stack) h
+bare-after Timed load more stack h = bare-append more stack ∙ ap (λ x. x ++ bare stack) h
 bare-after Operator load more stack h = bare-append more stack ∙ ap (λ x. x ++ bare stack) h
 bare-after Separator load more stack h = bare-append more stack ∙ ap (λ x. x ++ bare stack) h
 bare-after (Opens f) load more stack h = bare-append f (Shut load ∷ (more ++ stack)) ∙ ap (λ x. bare f ++ x) (bare-append more stack) ∙ sym (append_assoc (bare f) (bare more) (bare stack)) ∙ ap (λ x. x ++ bare stack) (sym (bare-append f more) ∙ h)

@@ -4,9 +4,9 @@ from grammar import *
 # symbol -> its rows, and what else is known of it
 TABLE = {}
 
-# how a token is taken: plainly, as an operator, as a comma, as an integer behind its `-`, as the text of a date; where
-# it opens a level, and where an operator does
-PLAIN, OPERATOR, SEPARATOR, NEGATED, DATED, LEVEL, OPERATOR_LEVEL = 'P', 'O', 'S', 'N', 'D', 'L', 'OL'
+# how a token is taken: plainly, as an operator, as a comma, as an integer behind its `-`, as the text of a date, as the
+# text of a moment; where it opens a level, and where an operator does
+PLAIN, OPERATOR, SEPARATOR, NEGATED, DATED, TIMED, LEVEL, OPERATOR_LEVEL = 'P', 'O', 'S', 'N', 'D', 'T', 'L', 'OL'
 # in the order in which a row's whole is written: what stands before it, and its token
 BEFORE, TOKEN = 'G', 'T'
 # the name that a token is
@@ -104,6 +104,10 @@ part_rows('DateText', 'Word', 'lexeme t.Quoted v.place v.bytes',
     on('Quoted', HERE, taking=DATED, mark='spelled'),
 )
 
+part_rows('MomentText', 'Word', 'lexeme t.Quoted v.place v.bytes',
+    on('Quoted', HERE, taking=TIMED, mark='spelled'),
+)
+
 part_rows('NegativeDigits', 'Word', 'lexeme t.Digits v.place v.bytes',
     on('Digits', HERE, taking=NEGATED, mark='spelled'),
 )
@@ -114,6 +118,7 @@ form_rows('primary',
     on('Digits', 'IntegerLiteral p b', mark='spelled'),
     on('Quoted', 'TextLiteral p b', mark='spelled'),
     on('Date', 'DateLiteral p $0.place $0.bytes', 'DateText'),
+    on('Moment', 'MomentLiteral p $0.place $0.bytes', 'MomentText'),
     on('True', 'TrueLiteral p'),
     on('False', 'FalseLiteral p'),
     on('Name', '$0 (word p b)', 'AfterName', mark='spelled', sequence=[applied(0, ['word p b'], [TOKEN])]),
@@ -228,6 +233,7 @@ rest_rows('MoreOr', [('x', 'ScalarP')], 'of_scalar x', 'of_scalar', 'ScalarP',
 form_rows('point',
     on('Integer', 'IntegerType p'),
     on('Date', 'DateType p'),
+    on('Moment', 'MomentType p'),
     on('Name', 'NamedType (word p b)', mark='spelled'),
 )
 

@@ -8,7 +8,7 @@ import re
 import subprocess
 
 from functions import EXTENSION, FUNCTIONS, SCHEMA
-from kinds import CHAR, LAST_INTEGER, BOOLEAN, columns_of
+from kinds import CHAR, LAST_INTEGER, BOOLEAN, MOMENT, SECOND, columns_of, point
 from statements import translated
 
 ROOT = os.path.dirname(os.path.dirname(os.path.dirname(os.path.abspath(__file__))))
@@ -72,6 +72,10 @@ def closed(points, text):
     if points.sql == 'date':
         day = datetime.date.max if behind == '10000-01-01' else datetime.date.fromisoformat(behind) - datetime.timedelta(days=1)
         return f'[{first}:{day}]'
+    if points == MOMENT:
+        begin, behind = (end.strip('"') for end in found.groups())
+        last = datetime.datetime.max.replace(microsecond=0) if behind == '10000-01-01 00:00:00' else datetime.datetime.fromisoformat(behind) - SECOND
+        return f'[{begin.replace(" ", "T")}:{last.isoformat()}]'
     return f'[{first}:{int(behind) - 1 if behind else LAST_INTEGER}]'
 
 
@@ -80,6 +84,8 @@ def printed(kind, text):
         return "'" + text.replace("'", "''") + "'"
     if kind == BOOLEAN:
         return {'t': 'TRUE', 'f': 'FALSE'}[text]
+    if kind == point(MOMENT):
+        return text.replace(' ', 'T')
     return closed(kind.points, text) if kind.form == 'INTERVAL' else text
 
 

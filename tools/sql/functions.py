@@ -6,11 +6,27 @@ EXTENSION = 'CREATE EXTENSION IF NOT EXISTS btree_gist;'
 # cells are counted up to a power of two
 MOST_LEVELS = 40
 
-# for each type of points: how the point behind another one and the last one of an interval d are written
+STEP = "interval '1 second'"
+
+# for each type of points: its ranges, how the points behind and before another one, the last one and the number of those of an interval d are written, and
+# what lists them as p
 TYPES = {
-    'int8': {'behind': 'nullif({}, 9223372036854775807) + 1', 'last': 'coalesce(upper(d) - 1, 9223372036854775807)'},
-    'date': {'behind': '{} + 1', 'last': 'upper(d) - 1'},
-    'int4': {'behind': '{} + 1', 'last': 'upper(d) - 1'},
+    'int8': {
+        'span': 'int8range', 'behind': 'nullif({}, 9223372036854775807) + 1', 'before': 'CASE WHEN {0} > -9223372036854775808 THEN {0} - 1 END',
+        'last': 'coalesce(upper(d) - 1, 9223372036854775807)', 'count': '({last} - lower(d))::int8 + 1', 'series': 'generate_series(lower(d), {last}) p',
+    },
+    'date': {
+        'span': 'daterange', 'behind': '{} + 1', 'before': '{} - 1', 'last': 'upper(d) - 1', 'count': '({last} - lower(d))::int8 + 1',
+        'series': 'generate_series(0, upper(d) - lower(d) - 1) k, LATERAL (SELECT lower(d) + k AS p) s',
+    },
+    'timestamp': {
+        'span': 'tsrange', 'behind': "{} + interval '1 second'", 'before': "{} - interval '1 second'", 'last': "upper(d) - interval '1 second'",
+        'count': 'extract(epoch FROM upper(d) - lower(d))::int8', 'series': "generate_series(lower(d), {last}, interval '1 second') p",
+    },
+    'int4': {
+        'span': 'int4range', 'behind': '{} + 1', 'before': '{} - 1', 'last': 'upper(d) - 1', 'count': '({last} - lower(d))::int8 + 1',
+        'series': 'generate_series(lower(d), {last}) p',
+    },
 }
 
 FAULT = "RAISE EXCEPTION USING ERRCODE = 'UTE{}', MESSAGE = '{}'"
@@ -35,10 +51,9 @@ def checked(condition, code, words, value):
 
 def of_points(sql):
     """The functions of the intervals of a type of points."""
-    span, behind, last = f'{sql}range', TYPES[sql]['behind'], TYPES[sql]['last']
-    series = f'generate_series(0, upper(d) - lower(d) - 1) k, LATERAL (SELECT lower(d) + k AS p) s' if sql == 'date' else f'generate_series(lower(d), {last}) p'
+    span, behind, before, last = (TYPES[sql][name] for name in ('span', 'behind', 'before', 'last'))
+    count, series = (TYPES[sql][name].format(last=last) for name in ('count', 'series'))
     single = f'{span}(p, {behind.format("p")})'
-    before = 'CASE WHEN {0} > -9223372036854775808 THEN {0} - 1 END' if sql == 'int8' else '{0} - 1'
     after = behind.format('lower(d)')
     beyond = behind.format(f'({last})')
     return [
@@ -46,7 +61,7 @@ def of_points(sql):
         of_sql('parts', f'd {span}, ends {sql}[]', f'SETOF {span}',
                f'SELECT {span}(p, coalesce(lead(p) OVER (ORDER BY p), upper(d)))\n'
                '  FROM (SELECT lower(d) AS p UNION SELECT p FROM unnest(ends) p WHERE p <@ d) t', 'IMMUTABLE ROWS 4'),
-        *of_pieces(sql, span, behind, last),
+        *of_pieces(sql, span, behind, before, last),
         of_sql('points', f'd {span}', f'SETOF {span}', f'SELECT {single} FROM {series}'),
         of_sql('changes', f'p {sql}', f'{sql}[]', f'SELECT ARRAY[p, {behind.format("p")}]'),
         of_sql('changes', f'd {span}', f'{sql}[]',
@@ -54,7 +69,7 @@ def of_points(sql):
         of_sql('touched', f'd {span}', span, f'SELECT {span}(lower(d), {behind.format("upper(d)")})'),
         of_steps('interval', f'b {sql}, e {sql}', span, checked('e < b', 33, 'empty interval', f'{span}(b, {behind.format("e")})')),
         of_steps('filled', f'd {span}', span, checked('isempty(d)', 34, 'not one interval', 'd')),
-        of_sql('count', f'd {span}', 'int8', f'SELECT ({last} - lower(d))::int8 + 1'),
+        of_sql('count', f'd {span}', 'int8', f'SELECT {count}'),
         quiet('interval', f'b {sql}, e {sql}', span, 'utd.interval(b, e)'),
         quiet('count', f'd {span}', 'int8', 'utd.count(d)'),
         quiet('union', f'i {span}, j {span}', span, 'i + j'),
@@ -63,17 +78,18 @@ def of_points(sql):
     ]
 
 
-def of_pieces(sql, span, behind, last):
+def of_pieces(sql, span, behind, before, last):
     """The functions that seek among pieces which are told by their first and their last points, in order."""
     parameters = f'd {span}, starts {sql}[], stops {sql}[]'
     # the numbers of the first piece that ends no earlier than d begins, and of the last one that begins no later than d ends
-    before = f'CASE WHEN lower(d) > -9223372036854775808 THEN lower(d) - 1 END' if sql == 'int8' else 'lower(d) - 1'
-    first, final = f'1 + coalesce(width_bucket({before}, stops), 0)', f'width_bucket({last}, starts)'
+    first, final = f'1 + coalesce(width_bucket({before.format("lower(d)")}, stops), 0)', f'width_bucket({last}, starts)'
+    # a piece with another one behind it does not end with the last integer
+    after = f'stops[n - 1] + {STEP}' if sql == 'timestamp' else 'stops[n - 1] + 1'
     return [
         of_sql('last', f'd {span}', sql, f'SELECT {last}'),
         of_sql('inside', parameters, f'SETOF {span}', f'SELECT d * {span}(starts[n], {behind.format("stops[n]")})\n  FROM generate_series({first}, {final}) n'),
         of_sql('outside', parameters, f'SETOF {span}',
-               f'SELECT {span}(CASE n WHEN f THEN lower(d) ELSE stops[n - 1] + 1 END, CASE n WHEN b THEN upper(d) ELSE starts[n] END)\n'
+               f'SELECT {span}(CASE n WHEN f THEN lower(d) ELSE {after} END, CASE n WHEN b THEN upper(d) ELSE starts[n] END)\n'
                f'  FROM (SELECT {first} AS f, 1 + {final} AS b) t, generate_series(f, b) n\n'
                f'  WHERE (n > f OR n = b OR starts[n] > lower(d)) AND (n < b OR n = f OR stops[n - 1] < {last})'),
     ]
@@ -85,6 +101,8 @@ def beside():
         of_sql('next', 'p int8', 'int8', 'SELECT p + 1'), of_sql('prior', 'p int8', 'int8', 'SELECT p - 1'),
         of_steps('next', 'p date', 'date', checked("p = DATE '9999-12-31'", 32, 'no such point', 'p + 1')),
         of_steps('prior', 'p date', 'date', checked("p = DATE '0001-01-01'", 32, 'no such point', 'p - 1')),
+        of_steps('next', 'p timestamp', 'timestamp', checked("p = TIMESTAMP '9999-12-31 23:59:59'", 32, 'no such point', f'p + {STEP}')),
+        of_steps('prior', 'p timestamp', 'timestamp', checked("p = TIMESTAMP '0001-01-01 00:00:00'", 32, 'no such point', f'p - {STEP}')),
         of_steps('next', 'p int4, last int4', 'int4', checked('p = last', 32, 'no such point', 'p + 1')),
         of_steps('prior', 'p int4', 'int4', checked('p = 0', 32, 'no such point', 'p - 1')),
     ]

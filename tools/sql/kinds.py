@@ -1,7 +1,8 @@
 """The kinds of the language and what they are in PostgreSQL, and headings.
 
-INTEGER is int8, DATE date, and an ordinal type int4: the numbers of its values from 0, with a table of their names. Their intervals are the ranges of these,
-of which PostgreSQL leaves the end out. The end behind the last integer is no int8, so an interval up to the last integer has no end there.
+INTEGER is int8, DATE date, MOMENT timestamp, and an ordinal type int4: the numbers of its values from 0, with a table of their names. Their intervals are the
+ranges of these, of which PostgreSQL leaves the end out. The end behind the last integer is no int8, so an interval up to the last integer has no end there.
+Between two seconds PostgreSQL has other times: so each range of moments is written from a second up to, and without, another one.
 """
 import collections
 import dataclasses
@@ -14,12 +15,26 @@ FIRST_INTEGER, LAST_INTEGER = -2**63, 2**63 - 1
 NAME_BYTES = 63
 # columns that each table has anyway
 SYSTEM_COLUMNS = ('tableoid', 'xmin', 'cmin', 'xmax', 'cmax', 'ctid')
+# moments are numbered by the seconds from here on
+EPOCH = datetime.datetime(1970, 1, 1)
+SECOND = datetime.timedelta(seconds=1)
 # the column of a relation without attributes
 NO_ATTRIBUTE = '-'
 
 # `form` is BOOLEAN, CHAR, POINT or INTERVAL; `points` are those of the latter two
 Kind = collections.namedtuple('Kind', 'form points', defaults=[None])
 BOOLEAN, CHAR = Kind('BOOLEAN'), Kind('CHAR')
+
+
+# what ranges of a type are named after, the distance of its points, and the word of its literals, where these are others than of integers
+SHORT = {'timestamp': 'ts'}
+STEPS = {'timestamp': "interval '1 second'"}
+WORDS = {'date': 'DATE', 'timestamp': 'TIMESTAMP'}
+
+
+def seconds_of(time):
+    """The number of a moment."""
+    return (time - EPOCH) // SECOND
 
 
 @dataclasses.dataclass(frozen=True)
@@ -31,21 +46,35 @@ class Points:
 
     @property
     def range(self):
-        return f'{self.sql}range'
+        return f'{SHORT.get(self.sql, self.sql)}range'
 
     @property
     def multirange(self):
-        return f'{self.sql}multirange'
+        return f'{SHORT.get(self.sql, self.sql)}multirange'
+
+    @property
+    def step(self):
+        """What is between a point and the next one."""
+        return STEPS.get(self.sql, '1')
+
+    @property
+    def word(self):
+        """What stands before the quotes of a literal, of a type that has such."""
+        return WORDS.get(self.sql)
 
     @property
     def ends(self):
         """The numbers of the first and the last point."""
         if self.sql == 'date':
             return datetime.date.min.toordinal(), datetime.date.max.toordinal()
+        if self.sql == 'timestamp':
+            return seconds_of(datetime.datetime.min), seconds_of(datetime.datetime.max)
         return (0, len(self.values) - 1) if self.values else (FIRST_INTEGER, LAST_INTEGER)
 
     def written(self, number):
         """The point of this number, as it stands between quotes."""
+        if self.sql == 'timestamp':
+            return '10000-01-01 00:00:00' if number > self.ends[1] else (EPOCH + number * SECOND).isoformat(' ')
         if self.sql != 'date':
             return str(number)
         if number > datetime.date.max.toordinal():
@@ -58,7 +87,7 @@ class Points:
         return f'[{self.written(begin)},{behind})'
 
 
-INTEGER, DATE = Points('INTEGER', 'int8'), Points('DATE', 'date')
+INTEGER, DATE, MOMENT = Points('INTEGER', 'int8'), Points('DATE', 'date'), Points('MOMENT', 'timestamp')
 
 
 def point(points):

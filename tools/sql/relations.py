@@ -107,8 +107,8 @@ def interval_list(names, *relations):
             raise Refusal('E16', f'{name} is no interval')
         if relations[-1].heading[name] != relations[0].heading[name]:
             raise Refusal('E12', f'{name} has two kinds')
-    if len(names) > 3:
-        raise Refusal('E17', 'a list has at most three attributes')
+    if len(names) > 4:
+        raise Refusal('E17', 'a list has at most four attributes')
 
 
 # ---------------------------------------------------------------- names and literals

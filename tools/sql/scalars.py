@@ -5,11 +5,14 @@ What is constant and may have a fault is kept from being worked out before there
 """
 import dataclasses
 import datetime
+import re
 import typing
 
-from kinds import BOOLEAN, CHAR, DATE, FIRST_INTEGER, INTEGER, LAST_INTEGER, Kind, interval, point, quoted, text_literal
+from kinds import BOOLEAN, CHAR, DATE, FIRST_INTEGER, INTEGER, LAST_INTEGER, MOMENT, Kind, interval, point, quoted, seconds_of, text_literal
 from syntax import Refusal
 
+# the text of a MOMENT
+MOMENTS = re.compile('[0-9]{4}-[0-9]{2}-[0-9]{2}T[0-9]{2}:[0-9]{2}:[0-9]{2}')
 COMPARISONS = {'Equal': '=', 'NotEqual': '<>', 'Less': '<', 'LessEqual': '<=', 'Greater': '>', 'GreaterEqual': '>='}
 RANGES = {'Includes': '@>', 'IncludedIn': '<@', 'Before': '<<', 'After': '>>', 'Meets': '-|-', 'Overlaps': '&&'}
 RANGE_FUNCTIONS = {'Merges': 'merges', 'Begins': 'begins', 'Ends': 'ends'}
@@ -87,11 +90,11 @@ def held(scope, *parts):
 def point_of(points, number):
     """The literal of a point."""
     short = points.written(number)
-    if points.sql == 'date':
-        sql = f"DATE '{short}'"
+    if points.word:
+        sql = f"{points.word} '{short}'"
     else:
         sql = f'{short}::{points.sql}' if number >= 0 else f"'{short}'::{points.sql}"
-    return Scalar(sql, point(points), False, True, number, True, f"'{short}'" if points.sql == 'date' else short)
+    return Scalar(sql, point(points), False, True, number, True, f"'{short}'" if points.word else short)
 
 
 def interval_of(points, begin, end):
@@ -127,6 +130,16 @@ def date_literal(scope, text):
     return point_of(DATE, day.toordinal())
 
 
+def moment_literal(scope, text):
+    try:
+        time = datetime.datetime.strptime(text, '%Y-%m-%dT%H:%M:%S') if MOMENTS.fullmatch(text) else None
+    except ValueError:
+        time = None
+    if not time:
+        raise Refusal('E06', f'{text} is no moment')
+    return point_of(MOMENT, seconds_of(time))
+
+
 def truth(value):
     return lambda scope: Scalar(value, BOOLEAN, False, True, whole=True, short=value)
 
@@ -140,7 +153,7 @@ def attribute(scope, name):
 def points_of(tree, types):
     """The point type that a tree names."""
     if tree[0] != 'NamedType':
-        return {'IntegerType': INTEGER, 'DateType': DATE}[tree[0]]
+        return {'IntegerType': INTEGER, 'DateType': DATE, 'MomentType': MOMENT}[tree[0]]
     if tree[1] not in types:
         raise Refusal('E10', f'there is no type {tree[1]}')
     return types[tree[1]]
@@ -249,7 +262,7 @@ def end_of(scope, found):
     points = found.kind.points
     if points == INTEGER:
         return combined(f'utd.last({found.sql})', point(points), [found], whole=True)
-    return combined(f'upper({found.sql}) - 1', point(points), [found])
+    return combined(f'upper({found.sql}) - {points.step}', point(points), [found])
 
 
 def begin_of(scope, found):
@@ -288,8 +301,8 @@ def pair_function(scope, word, left, right):
 SCALARS = {
     'Or': logical('OR'), 'And': logical('AND'), 'Not': negation, 'Compare': compare, 'Add': arithmetic, 'Multiply': arithmetic,
     'Negate': negative, 'NegativeInteger': negative_integer, 'IntegerLiteral': integer_literal, 'TextLiteral': text_of,
-    'DateLiteral': date_literal, 'TrueLiteral': truth('true'), 'FalseLiteral': truth('false'), 'AttributeName': attribute,
-    'Dotted': dotted, 'Selector': selector, 'Extreme': extreme, 'Function': function, 'PairFunction': pair_function,
+    'DateLiteral': date_literal, 'MomentLiteral': moment_literal, 'TrueLiteral': truth('true'), 'FalseLiteral': truth('false'),
+    'AttributeName': attribute, 'Dotted': dotted, 'Selector': selector, 'Extreme': extreme, 'Function': function, 'PairFunction': pair_function,
 }
 
 

@@ -1,8 +1,8 @@
 """Draws the tables that utd printed: python3 tools/timeline [words] < OUTPUT > PAGE.html
 
 Each table with an interval attribute becomes a picture: rows that have all other values in common are bars on one line, overlapping ones below one
-another, on an axis of dates, integers or values of an ordinal type. An arrow stands where an interval goes on to the first or last point of its type;
-of an ordinal type these are not known. A table of several interval attributes is drawn by the first of dates, or else by the first, and the others
+another, on an axis of dates, moments, integers or values of an ordinal type. An arrow stands where an interval goes on to the first or last point of its type;
+of an ordinal type these are not known. A table of several interval attributes is drawn by the first of dates or moments, or else by the first, and the others
 are values like any other. The
 pictures are on one HTML page on standard output, or each in a file. A table without an interval attribute or without rows is left out, with a line
 on standard error, to which the lines of refusals go too.
@@ -21,7 +21,7 @@ import sys
 sys.dont_write_bytecode = True
 
 from picture import Picture, page  # noqa: E402
-from points import is_of_dates  # noqa: E402
+from points import is_of_dates, is_of_moments  # noqa: E402
 from tables import read  # noqa: E402
 
 USAGE = 'tools/timeline [--svg PREFIX] [--title TEXT].. [--by NAME].. [--order A,B,C].. [--most N] < OUTPUT'
@@ -50,11 +50,11 @@ def tell(line):
 
 
 def place_of(table, by):
-    """The place of the attribute by which a table is drawn: one that is told, or of dates, or the first; none where it cannot be drawn."""
+    """The place of the attribute by which a table is drawn: one that is told, or of dates or moments, or the first; none where it cannot be drawn."""
     places = table.intervals()
     told = [place for place in places if table.names[place] in by]
-    dates = [place for place in places if is_of_dates(table.rows[0][place])]
-    return next(iter(told + dates + places), None)
+    of_time = [place for place in places if is_of_dates(table.rows[0][place]) or is_of_moments(table.rows[0][place])]
+    return next(iter(told + of_time + places), None)
 
 
 def pictures_of(tables, words):

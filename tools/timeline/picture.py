@@ -3,7 +3,7 @@ import html
 import re
 from dataclasses import dataclass
 
-from points import DATE, Axis, kind_of
+from points import DATE, MOMENT, Axis, ends_of, kind_of
 from tables import ANSWERS, shown
 from widths import characters, cut, wrapped
 
@@ -77,10 +77,10 @@ def lanes_of(intervals):
 
 
 def order_in(column):
-    """How the values of a column are ordered: integers, texts, dates and truth values by themselves, others as they come."""
+    """How the values of a column are ordered: integers, texts, dates, moments and truth values by themselves, others as they come."""
     if all(re.fullmatch('-?[0-9]+', value) for value in column):
         return int
-    if all(value.startswith("'") or value in ANSWERS or re.fullmatch(DATE, value) for value in column):
+    if all(value.startswith("'") or value in ANSWERS or re.fullmatch(f'{DATE}|{MOMENT}', value) for value in column):
         return lambda value: shown(value).encode()
     return {value: number for number, value in enumerate(dict.fromkeys(column))}.get
 
@@ -89,7 +89,7 @@ def lines_of(rows, place, kind):
     """The lines in the order of their values; the rows are ordered by the interval first where it is the first column."""
     found = {}
     for row in rows:
-        begin, end = row[place][1:-1].split(':')
+        begin, end = ends_of(row[place])
         others = tuple(value for at, value in enumerate(row) if at != place)
         found.setdefault(others, []).append((kind.number(begin), kind.number(end), row[place]))
     orders = [order_in(column) for column in zip(*found)]

@@ -4,11 +4,13 @@ A kind of points tells the number of a value, the numbers of the type's first an
 which an axis may go: of each the fewest points between two ticks, the characters of its widest label, and the ticks of a range.
 """
 import re
-from datetime import date
+from datetime import date, datetime
 
 from widths import characters, cut
 
 DATE = '[0-9]{4}-[0-9]{2}-[0-9]{2}'
+MOMENT = f'{DATE}T[0-9]{{2}}:[0-9]{{2}}:[0-9]{{2}}'
+INTERVAL = re.compile(rf'\[({MOMENT}|[^:]*):({MOMENT}|[^:]*)\]')
 MOST_OF_VALUE = 24  # characters of the label of an ordinal value
 MONTHS = ('Jan', 'Feb', 'Mar', 'Apr', 'May', 'Jun', 'Jul', 'Aug', 'Sep', 'Oct', 'Nov', 'Dec')
 
@@ -74,11 +76,44 @@ class Dates:
             yield Step(365 * every, 4, years(every), year_label)
 
 
-# ---------------------------------------------------------------- integers and values of ordinal types
-
 def multiples(every):
     return lambda low, high: list(range(-(-low // every) * every, high, every))
 
+
+# ---------------------------------------------------------------- moments
+
+DAY = 24 * 60 * 60
+
+
+def in_seconds(step):
+    """A step of dates, as one of moments."""
+    def starts(low, high):
+        return [at * DAY for at in step.starts(low // DAY, (high - 1) // DAY + 1) if low <= at * DAY < high]
+    return Step(step.fewest * DAY, step.widest, starts, lambda at: step.label(at // DAY), step.above and in_seconds(step.above))
+
+
+def minute_label(at):
+    return f'{at % DAY // 3600:02}:{at % 3600 // 60:02}'
+
+
+class Moments:
+    first, last = Dates.first * DAY, Dates.last * DAY + DAY - 1
+    first_is, last_is = 'the first moment, 0001-01-01T00:00:00', 'the last moment, 9999-12-31T23:59:59'
+
+    def number(self, value):
+        time = datetime.strptime(value, '%Y-%m-%dT%H:%M:%S')
+        return time.toordinal() * DAY + time.hour * 3600 + time.minute * 60 + time.second
+
+    def steps(self, low, high):
+        of_days = Step(DAY, 11, multiples(DAY), lambda at: ' '.join(label(at // DAY) for label in (day_label, month_label, year_label)))
+        for every in (1, 5, 15, 30):
+            yield Step(every, 8, multiples(every), lambda at: f'{minute_label(at)}:{at % 60:02}', of_days)
+        for every in (1, 5, 15, 30, 60, 180, 360, 720):
+            yield Step(every * 60, 5, multiples(every * 60), minute_label, of_days)
+        yield from map(in_seconds, Dates().steps(low // DAY, (high - 1) // DAY + 1))
+
+
+# ---------------------------------------------------------------- integers and values of ordinal types
 
 def round_numbers():
     """1, 2, 5, 10, 20, 50 and so on."""
@@ -118,9 +153,17 @@ class Ordinals:
             yield Step(every, widest, multiples(every), self.labels.__getitem__)
 
 
+def ends_of(interval):
+    """The two ends of an interval, as they are printed."""
+    ends = INTERVAL.fullmatch(interval)
+    if not ends:
+        raise ValueError(f'{interval} is no interval')
+    return ends.groups()
+
+
 def order_of(rows, place):
     """The values of an ordinal attribute as they come, but so that no interval ends before it begins, and that sorted rows are sorted."""
-    ends = [row[place][1:-1].split(':') for row in rows]
+    ends = [ends_of(row[place]) for row in rows]
     before = {value: set() for pair in ends for value in pair}
     for begin, end in ends:
         before[end].add(begin)
@@ -141,11 +184,17 @@ def is_of_dates(interval):
     return re.match(rf'\[{DATE}:', interval) is not None
 
 
+def is_of_moments(interval):
+    return re.match(rf'\[{MOMENT}:', interval) is not None
+
+
 def kind_of(rows, place, orders):
     """The kind of the points of an interval attribute, and whether their order is told: orders are the values of ordinal types."""
-    values = {value for row in rows for value in row[place][1:-1].split(':')}
+    values = {value for row in rows for value in ends_of(row[place])}
     if is_of_dates(rows[0][place]):
         return Dates(), True
+    if is_of_moments(rows[0][place]):
+        return Moments(), True
     if all(re.fullmatch(r'-?[0-9]+', value) for value in values):
         return Integers(), True
     for order in orders:

@@ -32,6 +32,11 @@ FLOORS = '''| FLOORS        | WHO   |
 | [FIRST:FIRST] | 'Zoë' |
 rows: 2
 '''
+SHIFTS = '''| DUTY                                      | N    | SINCE               |
+| [2023-05-06T14:00:00:2023-05-06T21:59:59] | 1    | 2023-05-06T14:00:00 |
+| [2023-05-06T21:45:00:9999-12-31T23:59:59] | 2    | 2023-05-06T21:45:00 |
+rows: 2
+'''
 NUMBERS = '| N | VALID |\n' + ''.join(f'| 1 | [{number}:{number}] |\n' for number in range(900)) + 'rows: 900\n'
 
 
@@ -149,6 +154,24 @@ class Drawn(unittest.TestCase):
             shown = texts_of(drawn(f'| VALID |\n| [{begin}:{end}] |\nrows: 1\n'))
             self.assertFalse(set(expected) - set(shown), f'{begin} to {end}: {shown}')
 
+    def test_ticks_of_moments(self):
+        for begin, end, expected in [
+                ('2012-02-29T23:59:57', '2012-03-01T00:00:02', ['29 Feb 2012', '1 Mar 2012', '23:59:58', '00:00:00', '00:00:02']),
+                ('2012-02-29T08:00:00', '2012-02-29T08:09:59', ['29 Feb 2012', '08:00', '08:01', '08:09']),
+                ('2012-02-29T08:00:00', '2012-02-29T17:59:59', ['29 Feb 2012', '08:00', '09:00', '17:00']),
+                ('2012-02-29T08:00:00', '2012-03-02T17:59:59', ['29 Feb 2012', '1 Mar 2012', '2 Mar 2012', '00:00', '06:00', '12:00', '18:00']),
+                ('2012-02-20T08:00:00', '2012-03-08T17:59:59', ['Feb 2012', 'Mar 2012', '21', '29', '1', '8']),
+                ('2012-01-01T00:00:00', '2013-02-28T23:59:59', ['2012', '2013', 'Jan', 'Feb', 'Mar']),
+                ('0001-01-01T00:00:00', '9999-12-31T23:59:59', ['1000', '2000', '9000'])]:
+            shown = texts_of(drawn(f'| VALID |\n| [{begin}:{end}] |\nrows: 1\n'))
+            self.assertFalse(set(expected) - set(shown), f'{begin} to {end}: {shown}')
+
+    def test_moments(self):
+        tree = drawn(SHIFTS)
+        self.assertEqual([bar.tag for bar in bars_of(tree)], [f'{SVG}rect', f'{SVG}path'])
+        self.assertIn('N 2, SINCE 2023-05-06T21:45:00: [2023-05-06T21:45:00:9999-12-31T23:59:59].', tree.find(f'{SVG}desc').text)
+        self.assertTrue([text for text in texts_of(tree) if text.startswith('An arrow') and text.endswith('9999-12-31T23:59:59.')])
+
 
 class Measured(unittest.TestCase):
     """No text reaches over its column or the picture, and no two labels of an axis meet."""
@@ -158,6 +181,7 @@ class Measured(unittest.TestCase):
         texts = ['x', 'long ' * 50, '日本語' * 28, '<&>"\'\' | \'\'\u0301\u202e\x7f\uffff']
         for value in [*(f"'{text}'" for text in texts), '-9223372036854775808', 'FALSE']:
             for interval in ('[2012-01-01:9999-12-31]', '[0001-01-01:9999-12-31]', '[-9223372036854775808:9223372036854775807]', '[1:1]',
+                             '[2012-01-01T08:00:00:2012-01-01T17:59:59]', '[2012-02-29T23:59:58:9999-12-31T23:59:59]',
                              '[-9223372036854775807:9223372036854775806]', f'[{"N" * 64}:M]'):
                 for many in (1, 3, 15):
                     yield f'| {" | ".join(names[:many])} | VALID |\n| {" | ".join([value] * many)} | {interval} |\nrows: 1\n'
@@ -219,7 +243,9 @@ class Told(unittest.TestCase):
 
     def test_wrong_input(self):
         for text in ('hello\n', '| N |\n| 1 |\n', '| N |\n| 1 |\nrows: 2\n', '| N |\n| 1 | 2 |\nrows: 1\n', 'TRUE', "| N |\n| 'a |\nrows: 1\n",
-                     '| N |\n| [2023-02-30:2023-03-01] |\nrows: 1\n', '| N |\n| [1:2] |\n| 3 |\nrows: 2\n'):
+                     '| N |\n| [2023-02-30:2023-03-01] |\nrows: 1\n', '| N |\n| [2023-02-30T00:00:00:2023-03-01T00:00:00] |\nrows: 1\n',
+                     '| N |\n| [2023-02-03T00:00:00:2023-03-01] |\nrows: 1\n', '| N |\n| [2023-02-03:2023-03-01T00:00:00] |\nrows: 1\n',
+                     '| N |\n| [1:2] |\n| 3 |\nrows: 2\n'):
             self.assertEqual((run(text)[0], run(text)[2]), ('', 3), text)
         self.assertEqual(run(OPEN, '--svg', '/nowhere/picture')[2], 3)
 

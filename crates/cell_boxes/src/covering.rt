@@ -10,10 +10,10 @@ ghost use Rattle.cell_boxes.specs.Common.{EndsBy};
 ghost use Rattle.cell_boxes.specs.Groups.{longer};
 ghost use Rattle.cell_boxes.specs.Rows.{PlainCellBox};
 
-use cell_sweep::{CellBox, CellOp, IndexBox, advance, cuts_at, leaf, sweep_of};
-use point_core::{Fault, Memory, Steps};
+use crate::cell_rule::{CellRule, labels_at};
+use cell_sweep::{CellBox, IndexBox, advance, cuts_at, sweep_of};
+use point_core::{Fault, Memory};
 use std::alloc::Global;
-use std::sync::ledger::Ledger;
 
 // The row with the cells as one more side.
 fn with_cells<P: Drop>(row: CellBox<P>, cells: (usize, usize)) -> Result<CellBox<P>, Memory>
@@ -43,30 +43,28 @@ fn push_longer<P: Drop>(
 //
 // Between two cuts of the last side the live rows are the same, so the rule is applied once for the cells between all
 // cuts, and never at each cell.
-pub fn covered<O: CellOp, L: Ledger>(
+pub fn covered<O: CellRule>(
     alloc: Global,
     sides: usize,
     boxes: &[IndexBox],
     live: &[usize],
-    op: &O,
+    rule: &O,
     least: &mut Option<Fault>,
-    steps: &mut Steps<L>,
 ) -> Result<Vec<CellBox<O::Out>>, Memory>
     requires rows { AreRows 0 (length boxes.now) live.now }
     requires sides { All (λ x. sides ≤ length x.sides.items) boxes.now }
-    requires can { (a : List ℕ) → AreRows 0 (length boxes.now) a → O.CanApply op.now a [] }
+    requires can { (a : List ℕ) → AreRows 0 (length boxes.now) a → O.CanApply rule.now a }
     ensures grid_points { IfOk result (λ v. (l : O.Out) (grid_point : List ℕ) → length grid_point ≡ sides →
-        HasRow v.items l grid_point ↔ InLive (GivesLabel (O.means op.now) 0) (sides_of boxes.now) live.now [] l grid_point) }
+        HasRow v.items l grid_point ↔ InLive (GivesLabel (λ a b. O.means rule.now a) 0) (sides_of boxes.now) live.now [] l grid_point) }
     ensures lengths { IfOk result (λ v. All (λ x. length x.1 ≡ sides) v.items) }
     ensures ends { IfOk result (λ v. (z : PlainCellBox O.Out) → Among z v.items → (r : ℕ) × Among r live.now × EndsBy (box (sides_of boxes.now) r) z.1) }
-    ensures least { OnOk result (IsLeast (λ e. (least.old ≡ Some e) ⊎ IsSomewhere sides (GivesFault (O.means op.now) 0) (sides_of boxes.now) live.now [] e) least.new) }
+    ensures least { OnOk result (IsLeast (λ e. (least.old ≡ Some e) ⊎ IsSomewhere sides (GivesFault (λ a b. O.means rule.now a) 0) (sides_of boxes.now) live.now [] e) least.new) }
 {
     if live.is_empty() {
         return Ok(Vec::new(alloc));
     }
     if sides == 0 {
-        let none: Vec<usize> = Vec::new(alloc);
-        let rows = leaf(alloc, live, none.as_slice(), 0, op, least, steps)?;
+        let rows = labels_at(alloc, live, rule, least)?;
         return Ok(rows);
     }
     let side = sides - 1;
@@ -78,7 +76,7 @@ pub fn covered<O: CellOp, L: Ledger>(
         let end = cuts[i];
         if begin < end {
             sweep = advance(sweep, boxes, side, begin)?;
-            let rows = covered(alloc, side, boxes, sweep.live.as_slice(), op, least, steps)?;
+            let rows = covered(alloc, side, boxes, sweep.live.as_slice(), rule, least)?;
             push_longer(&mut out, rows, (begin, end))?;
         }
         begin = end;

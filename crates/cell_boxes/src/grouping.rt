@@ -11,11 +11,11 @@ ghost use Rattle.cell_boxes.specs.Groups.{IsGrouped, IsGroupFault};
 ghost use Rattle.cell_boxes.specs.Meetings.{boxes_in};
 ghost use Rattle.cell_boxes.specs.Rows.{Ascend, IsRow, PlainCellBox};
 
+use crate::cell_rule::CellRule;
 use crate::covering::covered;
-use cell_sweep::{CellBox, CellOp, IndexBox};
-use point_core::{Fault, Label, Memory, Steps};
+use cell_sweep::{CellBox, IndexBox};
+use point_core::{Fault, Label, Memory};
 use std::alloc::Global;
-use std::sync::ledger::Ledger;
 
 // The box of the row.
 fn box_of<P>(alloc: Global, row: &CellBox<P>) -> Result<IndexBox, Memory>
@@ -83,26 +83,25 @@ fn push_rows<P: Drop>(out: &mut Vec<CellBox<P>>, rows: Vec<CellBox<P>>) -> Resul
 
 /// For each key its cells with what the rule gives of its rows there, in boxes; and the least fault that it gives.
 ///
-/// The rule is called as `apply(live, [])` with the numbers of the key's rows that have the place: on one side once
+/// The rule is called with the numbers of the key's rows that have the place: on one side once
 /// between each two cells where some row of the key begins or ends. On more sides it is called once between such cuts
 /// of the last side, between those of the live rows on the side before it, and so on. So with more sides the boxes may
 /// be more than the packed form has.
-pub fn grouped<P: Label, O: CellOp, L: Ledger>(
+pub fn grouped<P: Label, O: CellRule>(
     alloc: Global,
     sides: usize,
     rows: &[CellBox<P>],
-    op: &O,
+    rule: &O,
     least: &mut Option<Fault>,
-    steps: &mut Steps<L>,
 ) -> Result<Vec<CellBox<O::Out>>, Memory>
     requires sides { All (λ x. length x.1 ≡ sides) rows.now }
     requires order { Ascend P.order rows.now }
-    requires can { (a : List ℕ) → AreRows 0 (length rows.now) a → O.CanApply op.now a [] }
+    requires can { (a : List ℕ) → AreRows 0 (length rows.now) a → O.CanApply rule.now a }
     ensures grid_points { IfOk result (λ v. (l : O.Out) (grid_point : List ℕ) → length grid_point ≡ sides →
-        HasRow v.items l grid_point ↔ IsGrouped (O.means op.now) rows.now l grid_point) }
+        HasRow v.items l grid_point ↔ IsGrouped (λ a b. O.means rule.now a) rows.now l grid_point) }
     ensures lengths { IfOk result (λ v. All (λ x. length x.1 ≡ sides) v.items) }
     ensures ends { IfOk result (λ v. (z : PlainCellBox O.Out) → Among z v.items → (x : PlainCellBox P) × Among x rows.now × EndsBy x.1 z.1) }
-    ensures least { OnOk result (IsLeast (λ e. (least.old ≡ Some e) ⊎ IsGroupFault sides (O.means op.now) rows.now e) least.new) }
+    ensures least { OnOk result (IsLeast (λ e. (least.old ≡ Some e) ⊎ IsGroupFault sides (λ a b. O.means rule.now a) rows.now e) least.new) }
 {
     let boxes = boxes_of(alloc, rows)?;
     let mut out: Vec<CellBox<O::Out>> = Vec::new(alloc);
@@ -110,15 +109,7 @@ pub fn grouped<P: Label, O: CellOp, L: Ledger>(
     while first < rows.len() {
         let end = group_end(rows, first);
         let live = numbers(alloc, first, end)?;
-        let parts = covered(
-            alloc,
-            sides,
-            boxes.as_slice(),
-            live.as_slice(),
-            op,
-            least,
-            steps,
-        )?;
+        let parts = covered(alloc, sides, boxes.as_slice(), live.as_slice(), rule, least)?;
         push_rows(&mut out, parts)?;
         first = end;
     }

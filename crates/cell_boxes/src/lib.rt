@@ -6,6 +6,7 @@ mod apart;
 mod by_cell;
 mod by_key;
 mod by_side;
+mod cell_rule;
 mod common;
 mod covering;
 mod grouping;
@@ -27,6 +28,7 @@ mod total;
 
 pub use apart::are_apart;
 pub use by_key::tallied;
+pub use cell_rule::CellRule;
 pub use grouping::grouped;
 pub use joining::{PairRule, join, joined};
 pub use keyed::{KeyedCellBox, keys_in_order, rows_in_order};

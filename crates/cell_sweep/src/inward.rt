@@ -83,7 +83,7 @@ pub fn with_sides<P: Drop>(
 }
 
 // The labels, with no sides.
-fn without_labels<P: Drop>(alloc: Global, labels: Vec<P>) -> Result<Vec<CellBox<P>>, Memory>
+pub fn without_labels<P: Drop>(alloc: Global, labels: Vec<P>) -> Result<Vec<CellBox<P>>, Memory>
     ensures { IfOk result (λ v. v.items ≡ map no_sides labels.items) }
 {
     let mut out = Vec::new(alloc);
@@ -97,7 +97,7 @@ fn without_labels<P: Drop>(alloc: Global, labels: Vec<P>) -> Result<Vec<CellBox<
 }
 
 // The labels at a place of no sides.
-pub fn leaf<O: CellOp, L: Ledger>(
+fn leaf<O: CellOp, L: Ledger>(
     alloc: Global,
     left: &[usize],
     right: &[usize],

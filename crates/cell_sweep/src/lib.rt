@@ -19,6 +19,6 @@ pub use arranged::pack_arranged;
 pub use by_label::pack_rows;
 pub use cell_op::CellOp;
 pub use cuts::cuts_at;
-pub use inward::{IndexBox, leaf, slices};
+pub use inward::{IndexBox, slices, without_labels};
 pub use key::{CellBox, put_cells};
 pub use live::{Sweep, advance, sweep_of};

@@ -89,6 +89,10 @@ fn without(alloc: Global, left: &Relation, right: &Relation) -> Result<Relation,
     if left.rows().len() < right.rows().len() / ROWS_PASSED_FOR_ONE_SOUGHT {
         return absent(alloc, left, right);
     }
-    // some rows of a relation are not too many
-    minus(alloc, left, right).map_err(|_| Memory)
+    match minus(alloc, left, right) {
+        Ok(rest) => Ok(rest),
+        Err(RowsRefuse::Memory) => Err(Memory),
+        // some rows of a relation are not too many
+        Err(RowsRefuse::TooMany) => unreachable!(),
+    }
 }

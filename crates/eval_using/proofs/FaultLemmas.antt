@@ -9,7 +9,7 @@ use Rattle.point_core.specs.FaultLaws.{fault_by_place}
 use Rattle.point_core.specs.Orders.{fault_order}
 use Rattle.point_core.specs.declared.fault.Fault.{Fault}
 use Rattle.point_core.specs.declared.fault.Code.{Code}
-use Rattle.point_core.specs.declared.fault.Code.TheVariants.{E01, E02, E03, E04, E05, E06, E10, E11, E12, E13, E14, E15, E16, E17, E18, E19, E20, E21, E22, E30, E31, E32, E33, E34, E35, E36, E40, E41, E42, E43, E44, E46}
+use Rattle.point_core.specs.declared.fault.Code.TheVariants.{E01, E02, E03, E04, E05, E06, E10, E11, E12, E13, E14, E15, E16, E17, E18, E19, E20, E21, E22, E30, E31, E32, E33, E34, E35, E36, E40, E41, E42, E43, E44, E45, E46}
 use Rattle.point_core.specs.LeastFault.{fault_total, IsLeast}
 use Rattle.point_core.proofs.LeastFaultLemmas.{least_first, least_min, not_after_itself}
 use Rattle.u_row.proofs.RuleLemmas.{least_chain}
@@ -24,7 +24,7 @@ codes =
     ∷ E10 ∷ E11 ∷ E12 ∷ E13 ∷ E14 ∷ E15 ∷ E16 ∷ E17 ∷ E18 ∷ E19
     ∷ E20 ∷ E21 ∷ E22 ∷ E01 ∷ E01 ∷ E01 ∷ E01 ∷ E01 ∷ E01 ∷ E01
     ∷ E30 ∷ E31 ∷ E32 ∷ E33 ∷ E34 ∷ E35 ∷ E36 ∷ E01 ∷ E01 ∷ E01
-    ∷ E40 ∷ E41 ∷ E42 ∷ E43 ∷ E44 ∷ E01 ∷ E46 ∷ []
+    ∷ E40 ∷ E41 ∷ E42 ∷ E43 ∷ E44 ∷ E45 ∷ E46 ∷ []
 
 code_back : (c : Code) → get_or codes (code_number c) E01 ≡ c
 code_back E01 = refl
@@ -58,6 +58,7 @@ code_back E41 = refl
 code_back E42 = refl
 code_back E43 = refl
 code_back E44 = refl
+code_back E45 = refl
 code_back E46 = refl
 
 code_same : (c d : Code) → code_number c ≡ code_number d → c ≡ d

@@ -27,6 +27,7 @@ fn type_of(p: AnyPoint) -> AnyType
         AnyPoint::Integer(_) => AnyType::Integer,
         AnyPoint::Date(_) => AnyType::Date,
         AnyPoint::Ordinal { of, at: _ } => AnyType::Ordinal { of, last: u16::MAX },
+        AnyPoint::Moment(_) => AnyType::Moment,
     }
 }
 

@@ -9,7 +9,7 @@ use Rattle.std.specs.Ordering.{nat_cmp}
 use Rattle.std.specs.Str.{bytes_eq}
 use Rattle.base_core.specs.Sets.{is_set}
 use Rattle.point_core.specs.declared.any_type.AnyType.{AnyType}
-use Rattle.point_core.specs.declared.any_type.AnyType.TheVariants.{Integer, Date, Ordinal}
+use Rattle.point_core.specs.declared.any_type.AnyType.TheVariants.{Integer, Date, Ordinal, Moment}
 use Rattle.value_core.specs.declared.kind.Kind.{Kind}
 use Rattle.value_core.specs.declared.kind.Kind.TheVariants.{Truth, Char, Point, Span}
 use Rattle.value_core.specs.Attributes.{among}
@@ -41,6 +41,7 @@ abbrev pub is_type : List ℕ → AnyType → Bool
 is_type sizes Integer = true
 is_type sizes Date = true
 is_type sizes (Ordinal of last) = is_ordinal sizes of last
+is_type sizes Moment = true
 
 abbrev pub is_kind : List ℕ → Kind → Bool
 is_kind sizes Truth = true

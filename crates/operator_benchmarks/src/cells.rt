@@ -35,9 +35,8 @@ fn time_of_sort<C: Clock>(clock: &C, alloc: Global, rows: &[Small]) -> io::Resul
     Ok(spent)
 }
 
-fn measured<C: Clock, L: Ledger>(
-    clock: &C,
-    alloc: Global,
+fn measured<L: Ledger>(
+    rt: &HostRuntime,
     types: &[IntType],
     rows: &[Small],
     blank: Blank,
@@ -46,27 +45,28 @@ fn measured<C: Clock, L: Ledger>(
     requires parts { blank.parts ≡ L.parts }
     requires one { blank.parts ≡ 1 }
 {
-    let mut steps = Steps::<L>::new(blank);
-    let sort = time_of_sort(clock, alloc, rows)?;
+    let alloc = rt.alloc();
+    let mut steps = Steps::<L>::new(blank, rt);
+    let sort = time_of_sort(rt, alloc, rows)?;
     let Ok(boxes) = boxes_of(alloc, types, rows) else {
         return Err(wants_memory());
     };
-    let start = Instant::now(clock)?;
+    let start = Instant::now(rt)?;
     let packed = pack(alloc, types, boxes.as_slice(), usize::MAX, &mut steps);
-    let pack = start.elapsed(clock)?.as_nanos();
+    let pack = start.elapsed(rt)?.as_nanos();
     if packed.is_err() {
         return Err(wants_memory());
     }
-    let start = Instant::now(clock)?;
+    let start = Instant::now(rt)?;
     let _packed = or_error(is_packed(alloc, types, boxes.as_slice(), &mut steps))?;
-    let test = start.elapsed(clock)?.as_nanos();
-    let start = Instant::now(clock)?;
+    let test = start.elapsed(rt)?.as_nanos();
+    let start = Instant::now(rt)?;
     let list = boxes.as_slice();
     let _same = or_error(same_points(alloc, types, list, list, &mut steps))?;
-    let same = start.elapsed(clock)?.as_nanos();
-    let start = Instant::now(clock)?;
+    let same = start.elapsed(rt)?.as_nanos();
+    let start = Instant::now(rt)?;
     let _within = or_error(within_points(alloc, types, list, list, &mut steps))?;
-    let within = start.elapsed(clock)?.as_nanos();
+    let within = start.elapsed(rt)?.as_nanos();
     Ok(Times {
         sort,
         pack,
@@ -88,7 +88,7 @@ pub(crate) fn tell(rt: &HostRuntime, kind: Kind, count: u32) -> io::Result<()> {
     let types = [IntType, IntType];
     let rows = or_error(drawn(alloc, kind, count))?;
     let sides = kind.sides();
-    let times = measured::<_, Brand>(rt, alloc, &types[..sides], rows.as_slice(), Blank::new(1))?;
+    let times = measured::<Brand>(rt, &types[..sides], rows.as_slice(), Blank::new(1))?;
     println!(rt; "rows: {count}")?;
     tell_one(rt, "sort", times.sort, times.sort)?;
     tell_one(rt, "pack", times.pack, times.sort)?;

@@ -91,7 +91,7 @@ fn covered<L: Ledger>(
 
 /// The intervals whose points equally many cover, by how many.
 pub(crate) fn parts_of<L: Ledger>(
-    alloc: Global,
+    rt: &HostRuntime,
     types: &[IntType],
     spans: &[(i64, i64)],
     blank: Blank,
@@ -100,7 +100,8 @@ pub(crate) fn parts_of<L: Ledger>(
     requires parts { blank.parts ≡ L.parts }
     requires one { blank.parts ≡ 1 }
 {
-    let mut steps = Steps::<L>::new(blank);
+    let alloc = rt.alloc();
+    let mut steps = Steps::<L>::new(blank, rt);
     let sides = sides_list(alloc, types, spans)?;
     let counts = covered(alloc, types, sides.as_slice(), &mut steps)?;
     let list = spans_of(alloc, counts.as_slice())?;
@@ -109,7 +110,7 @@ pub(crate) fn parts_of<L: Ledger>(
 
 /// How many points the intervals have together.
 pub(crate) fn count_of<L: Ledger>(
-    alloc: Global,
+    rt: &HostRuntime,
     types: &[IntType],
     spans: &[(i64, i64)],
     blank: Blank,
@@ -118,7 +119,8 @@ pub(crate) fn count_of<L: Ledger>(
     requires parts { blank.parts ≡ L.parts }
     requires one { blank.parts ≡ 1 }
 {
-    let mut steps = Steps::<L>::new(blank);
+    let alloc = rt.alloc();
+    let mut steps = Steps::<L>::new(blank, rt);
     let boxes = boxes_of(alloc, types, spans)?;
     let count = unpack_count(alloc, types, boxes.as_slice(), 100, &mut steps)?;
     Ok(count)

@@ -47,7 +47,7 @@ fn operated<L: Ledger>(
 
 /// The intervals that the operator gives of left and right ones.
 pub(crate) fn given<L: Ledger>(
-    alloc: Global,
+    rt: &HostRuntime,
     operator: Operator,
     types: &[IntType],
     left: &[(i64, i64)],
@@ -58,7 +58,8 @@ pub(crate) fn given<L: Ledger>(
     requires parts { blank.parts ≡ L.parts }
     requires one { blank.parts ≡ 1 }
 {
-    let mut steps = Steps::<L>::new(blank);
+    let alloc = rt.alloc();
+    let mut steps = Steps::<L>::new(blank, rt);
     let left = boxes_of(alloc, types, left)?;
     let right = boxes_of(alloc, types, right)?;
     let found = operated(

@@ -16,7 +16,6 @@ struct Row<'a> {
 
 #[test]
 fn operators_give_their_boxes(rt: HostRuntime) -> Result<(), Fail> {
-    let alloc = rt.alloc();
     let table = [
         Row {
             operator: Operator::Intersect,
@@ -41,7 +40,7 @@ fn operators_give_their_boxes(rt: HostRuntime) -> Result<(), Fail> {
     ];
     for row in table.iter() {
         let found = given::<Brand>(
-            alloc,
+            &rt,
             row.operator,
             &[IntType],
             &[(1, 5)],
@@ -58,11 +57,10 @@ fn operators_give_their_boxes(rt: HostRuntime) -> Result<(), Fail> {
 
 #[test]
 fn points_are_counted_and_parted(rt: HostRuntime) -> Result<(), Fail> {
-    let alloc = rt.alloc();
     let spans = [(1, 5), (4, 9)];
-    let count = count_of::<Brand>(alloc, &[IntType], &spans, Blank::new(1))?;
+    let count = count_of::<Brand>(&rt, &[IntType], &spans, Blank::new(1))?;
     assert_eq!(rt; count, Some(9));
-    match parts_of::<Brand>(alloc, &[IntType], &spans, Blank::new(1)) {
+    match parts_of::<Brand>(&rt, &[IntType], &spans, Blank::new(1)) {
         Ok(parts) => assert_eq!(rt; parts.as_slice(), [(1, 3), (6, 9), (4, 5)].as_slice()),
         Err(_) => assert!(rt; false),
     }

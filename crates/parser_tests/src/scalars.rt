@@ -9,6 +9,7 @@ pub fn point_name(out: &mut Notes, point: &PointName) {
     match point {
         PointName::Integer(place) => out.leaf("INTEGER", *place),
         PointName::Date(place) => out.leaf("DATE", *place),
+        PointName::Moment(place) => out.leaf("MOMENT", *place),
         PointName::Named(word) => out.word(word),
     }
 }
@@ -114,6 +115,11 @@ fn primary(out: &mut Notes, tree: &Primary) {
         Primary::Text(place, text) => out.quoted(text, *place),
         Primary::Date(place, text_place, text) => {
             out.open("DATE", *place);
+            out.quoted(text, *text_place);
+            out.close();
+        }
+        Primary::Moment(place, text_place, text) => {
+            out.open("MOMENT", *place);
             out.quoted(text, *text_place);
             out.close();
         }

@@ -10,7 +10,7 @@ use Rattle.base_core.proofs.BoolLemmas.{and_right}
 use Rattle.base_core.proofs.IntLemmas.{int_le-le, le_itself}
 use Rattle.point_core.specs.declared.fault.Place.{Place}
 use Rattle.point_core.specs.declared.any_type.AnyType.{AnyType}
-use Rattle.point_core.specs.Points.{Line, integers, days, values_of, line_of, is_number}
+use Rattle.point_core.specs.Points.{Line, integers, days, values_of, seconds, line_of, is_number}
 use Rattle.interval_core.specs.Members.{Span, at_point}
 use Rattle.interval_core.proofs.ComparisonLemmas.{includes-ends, included_in-ends, before-ends, after-ends, overlaps-ends, meets-ends, merges-ends, begins-ends, ends-ends}
 use Rattle.value_core.specs.declared.kind.Kind.{Kind}
@@ -120,6 +120,7 @@ two_then a b c d e f = ap₂ (λ x y. ordering_then x (ordering_then y Equal)) e
 points-alike_left : (l m : Line) (n p q : ℤ) → NearPoint n p q → value_cmp (point l p) (point m n) ≡ value_cmp (point l q) (point m n)
 points-alike_left integers integers n p q near = ap (λ o. ordering_then o Equal) (cmp-alike_left n p q near)
 points-alike_left days days n p q near = ap (λ o. ordering_then o Equal) (cmp-alike_left n p q near)
+points-alike_left seconds seconds n p q near = ap (λ o. ordering_then o Equal) (cmp-alike_left n p q near)
 points-alike_left (values_of a) (values_of b) n p q near = ap (λ o. ordering_then (int_cmp (pos a) (pos b)) (ordering_then o Equal)) (cmp-alike_left n p q near)
 points-alike_left integers days n p q near = refl
 points-alike_left integers (values_of b) n p q near = refl
@@ -127,10 +128,17 @@ points-alike_left days integers n p q near = refl
 points-alike_left days (values_of b) n p q near = refl
 points-alike_left (values_of a) integers n p q near = refl
 points-alike_left (values_of a) days n p q near = refl
+points-alike_left integers seconds n p q near = refl
+points-alike_left days seconds n p q near = refl
+points-alike_left (values_of a) seconds n p q near = refl
+points-alike_left seconds integers n p q near = refl
+points-alike_left seconds days n p q near = refl
+points-alike_left seconds (values_of b) n p q near = refl
 
 points-alike_right : (l m : Line) (n p q : ℤ) → NearPoint n p q → value_cmp (point m n) (point l p) ≡ value_cmp (point m n) (point l q)
 points-alike_right integers integers n p q near = ap (λ o. ordering_then o Equal) (cmp-alike_right n p q near)
 points-alike_right days days n p q near = ap (λ o. ordering_then o Equal) (cmp-alike_right n p q near)
+points-alike_right seconds seconds n p q near = ap (λ o. ordering_then o Equal) (cmp-alike_right n p q near)
 points-alike_right (values_of a) (values_of b) n p q near = ap (λ o. ordering_then (int_cmp (pos b) (pos a)) (ordering_then o Equal)) (cmp-alike_right n p q near)
 points-alike_right integers days n p q near = refl
 points-alike_right integers (values_of b) n p q near = refl
@@ -138,10 +146,17 @@ points-alike_right days integers n p q near = refl
 points-alike_right days (values_of b) n p q near = refl
 points-alike_right (values_of a) integers n p q near = refl
 points-alike_right (values_of a) days n p q near = refl
+points-alike_right integers seconds n p q near = refl
+points-alike_right days seconds n p q near = refl
+points-alike_right (values_of a) seconds n p q near = refl
+points-alike_right seconds integers n p q near = refl
+points-alike_right seconds days n p q near = refl
+points-alike_right seconds (values_of b) n p q near = refl
 
 spans-alike_left : (l m : Line) (j : Span) (p q : ℤ) → NearPoint j.0 p q → NearPoint j.1 p q → value_cmp (interval l (p, p)) (interval m j) ≡ value_cmp (interval l (q, q)) (interval m j)
 spans-alike_left integers integers j p q b e = two_then _ _ _ _ (cmp-alike_left j.0 p q b) (cmp-alike_left j.1 p q e)
 spans-alike_left days days j p q b e = two_then _ _ _ _ (cmp-alike_left j.0 p q b) (cmp-alike_left j.1 p q e)
+spans-alike_left seconds seconds j p q b e = two_then _ _ _ _ (cmp-alike_left j.0 p q b) (cmp-alike_left j.1 p q e)
 spans-alike_left (values_of a) (values_of c) j p q b e = ap (ordering_then (int_cmp (pos a) (pos c))) (two_then _ _ _ _ (cmp-alike_left j.0 p q b) (cmp-alike_left j.1 p q e))
 spans-alike_left integers days j p q b e = refl
 spans-alike_left integers (values_of c) j p q b e = refl
@@ -149,10 +164,17 @@ spans-alike_left days integers j p q b e = refl
 spans-alike_left days (values_of c) j p q b e = refl
 spans-alike_left (values_of a) integers j p q b e = refl
 spans-alike_left (values_of a) days j p q b e = refl
+spans-alike_left integers seconds j p q b e = refl
+spans-alike_left days seconds j p q b e = refl
+spans-alike_left (values_of a) seconds j p q b e = refl
+spans-alike_left seconds integers j p q b e = refl
+spans-alike_left seconds days j p q b e = refl
+spans-alike_left seconds (values_of c) j p q b e = refl
 
 spans-alike_right : (l m : Line) (j : Span) (p q : ℤ) → NearPoint j.0 p q → NearPoint j.1 p q → value_cmp (interval m j) (interval l (p, p)) ≡ value_cmp (interval m j) (interval l (q, q))
 spans-alike_right integers integers j p q b e = two_then _ _ _ _ (cmp-alike_right j.0 p q b) (cmp-alike_right j.1 p q e)
 spans-alike_right days days j p q b e = two_then _ _ _ _ (cmp-alike_right j.0 p q b) (cmp-alike_right j.1 p q e)
+spans-alike_right seconds seconds j p q b e = two_then _ _ _ _ (cmp-alike_right j.0 p q b) (cmp-alike_right j.1 p q e)
 spans-alike_right (values_of a) (values_of c) j p q b e = ap (ordering_then (int_cmp (pos c) (pos a))) (two_then _ _ _ _ (cmp-alike_right j.0 p q b) (cmp-alike_right j.1 p q e))
 spans-alike_right integers days j p q b e = refl
 spans-alike_right integers (values_of c) j p q b e = refl
@@ -160,6 +182,12 @@ spans-alike_right days integers j p q b e = refl
 spans-alike_right days (values_of c) j p q b e = refl
 spans-alike_right (values_of a) integers j p q b e = refl
 spans-alike_right (values_of a) days j p q b e = refl
+spans-alike_right integers seconds j p q b e = refl
+spans-alike_right days seconds j p q b e = refl
+spans-alike_right (values_of a) seconds j p q b e = refl
+spans-alike_right seconds integers j p q b e = refl
+spans-alike_right seconds days j p q b e = refl
+spans-alike_right seconds (values_of c) j p q b e = refl
 
 -- ---- the comparisons of an atom
 

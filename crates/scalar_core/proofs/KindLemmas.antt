@@ -11,6 +11,7 @@ use Rattle.interval_core.specs.Members.{Span as Ends}
 use Rattle.value_core.specs.declared.kind.Kind.{Kind}
 use Rattle.value_core.specs.declared.kind.Kind.TheVariants.{Truth, Char, Point, Span}
 use Rattle.value_core.specs.Attributes.{value_at, span_of}
+use Rattle.value_core.specs.Limits.{most_text_bytes}
 use Rattle.value_core.specs.Values.{Value, Row, Name, Heading, truth, text, point, interval, fits, fits_heading, is_interval, same_line}
 use Rattle.scalar_core.specs.declared.operators.OneOp.{OneOp}
 use Rattle.scalar_core.specs.declared.operators.OneOp.TheVariants.{Not, Negate, BeginOf, EndOf, PreOf, PostOf, CountOf, NextOf, PriorOf}
@@ -85,7 +86,7 @@ quotient-fits place a b w e = integer-fits place (int_div a b) w (past (int_eq b
 
 joined_text-fits : (place : Place) (bytes : List ℕ) (w : Value) → joined_text place bytes ≡ Ok w → IsTrue (fits Char w)
 joined_text-fits place bytes w e =
-    let parts = tested (nat_le (length bytes) 255) (text bytes) w _ e in
+    let parts = tested (nat_le (length bytes) most_text_bytes) (text bytes) w _ e in
     subst (λ x. IsTrue (fits Char x)) parts.1 parts.0
 
 point-in_line : (t : AnyType) (p : ℤ) → is_number t p ≡ true → IsTrue (fits (Point t) (point (line_of t) p))

@@ -4,7 +4,7 @@ use Rattle.std.proofs.Common.{sym, ◌∙◌, ap, subst, eq-eqb}
 use Rattle.std.proofs.lemmas.Bool.{eqb-true, and_from}
 use Rattle.base_core.proofs.BoolLemmas.{and_left, and_right}
 use Rattle.point_core.specs.declared.any_type.AnyType.{AnyType}
-use Rattle.point_core.specs.declared.any_type.AnyType.TheVariants.{Integer, Date, Ordinal}
+use Rattle.point_core.specs.declared.any_type.AnyType.TheVariants.{Integer, Date, Ordinal, Moment}
 use Rattle.value_core.specs.declared.kind.Kind.{Kind}
 use Rattle.value_core.specs.declared.kind.Kind.TheVariants.{Truth, Char, Point, Span}
 use Rattle.value_core.specs.Values.{Name, Heading, fits}
@@ -25,6 +25,7 @@ same_type-same (Ordinal of last) (Ordinal at end) h =
     let first : of ≡ at = eqb-true of at (and_left (nat_eq of at) (nat_eq last end) h) in
     let second : last ≡ end = eqb-true last end (and_right (nat_eq of at) (nat_eq last end) h) in
     cc
+same_type-same Moment Moment h = refl
 same_type-same _ _ h = absurd cc
 
 pub same_kind-same : (j k : Kind) → same_kind j k ≡ true → j ≡ k
@@ -148,6 +149,7 @@ pub same_type-self : (t : AnyType) → same_type t t ≡ true
 same_type-self Integer = refl
 same_type-self Date = refl
 same_type-self (Ordinal of last) = and_from (nat_eq of of) (nat_eq last last) (eq-eqb of of refl) (eq-eqb last last refl)
+same_type-self Moment = refl
 
 pub same_kind-self : (k : Kind) → same_kind k k ≡ true
 same_kind-self Truth = refl

@@ -11,7 +11,7 @@ use Rattle.base_core.proofs.IntLemmas.{le-int_le}
 use Rattle.point_core.specs.declared.any_type.AnyType.{AnyType}
 use Rattle.point_core.specs.declared.any_type.AnyPoint.{AnyPoint}
 use Rattle.point_core.specs.Points.{Line, line_of, line, number, is_number, first_of, last_of, IsNumber, IsPointOf}
-use Rattle.point_core.specs.declared.any_type.AnyType.TheVariants.{Integer, Date, Ordinal}
+use Rattle.point_core.specs.declared.any_type.AnyType.TheVariants.{Integer, Date, Ordinal, Moment}
 use Rattle.interval_core.specs.Members.{span}
 use Rattle.value_core.specs.declared.kind.Kind.TheVariants.{Span}
 use Rattle.value_core.specs.Values.{interval, fits, is_interval, same_line, line_key, line_cmp}
@@ -58,3 +58,4 @@ pub last-number : (t : AnyType) → IsNumber t (last_of t)
 last-number Integer = (omega (arith, ints), omega (arith, ints))
 last-number Date = (omega (arith, ints), omega (arith, ints))
 last-number (Ordinal of last) = (omega (arith, ints), omega (arith, ints))
+last-number Moment = (omega (arith, ints), omega (arith, ints))

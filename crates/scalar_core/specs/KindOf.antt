@@ -1,7 +1,7 @@
 -- The kind of an expression's values, where it is typed for a heading.
 use Rattle.std.specs.Prelude.{Bool, true, false, ◌&&◌, nat_eq, Option, Some, None, slice_get, option_map, if◌then◌else◌}
 use Rattle.point_core.specs.declared.any_type.AnyType.{AnyType}
-use Rattle.point_core.specs.declared.any_type.AnyType.TheVariants.{Integer, Date, Ordinal}
+use Rattle.point_core.specs.declared.any_type.AnyType.TheVariants.{Integer, Date, Ordinal, Moment}
 use Rattle.value_core.specs.declared.kind.Kind.{Kind}
 use Rattle.value_core.specs.declared.kind.Kind.TheVariants.{Truth, Char, Point, Span}
 use Rattle.value_core.specs.Values.{Name, Heading, fits}
@@ -17,6 +17,7 @@ abbrev pub same_type : AnyType → AnyType → Bool
 same_type Integer Integer = true
 same_type Date Date = true
 same_type (Ordinal of last) (Ordinal at end) = nat_eq of at && nat_eq last end
+same_type Moment Moment = true
 same_type _ _ = false
 
 abbrev pub same_kind : Kind → Kind → Bool

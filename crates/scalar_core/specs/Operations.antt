@@ -15,6 +15,7 @@ use Rattle.interval_core.specs.declared.selector.SelectFault.TheVariants.{NoPoin
 use Rattle.interval_core.specs.Operators.{count, union, intersect, minus}
 use Rattle.interval_core.specs.Selector.{selected}
 use Rattle.value_core.specs.Attributes.{span_of}
+use Rattle.value_core.specs.Limits.{most_text_bytes}
 use Rattle.value_core.specs.Values.{Value, truth, text, point, interval, value_cmp}
 use Rattle.scalar_core.specs.declared.operators.OneOp.{OneOp}
 use Rattle.scalar_core.specs.declared.operators.OneOp.TheVariants.{Not, Negate, BeginOf, EndOf, PreOf, PostOf, CountOf, NextOf, PriorOf}
@@ -69,9 +70,9 @@ selector_or place t (Err Empty) = Err (fault place E33)
 abbrev pub quotient : Place → ℤ → ℤ → Meant
 quotient place a b = if int_eq b (pos 0) then Err (fault place E31) else integer place (int_div a b)
 
--- the text, where it has at most 255 bytes
+-- the text, where it is not too long
 abbrev pub joined_text : Place → List ℕ → Meant
-joined_text place bytes = if nat_le (length bytes) 255 then Ok (text bytes) else Err (fault place E36)
+joined_text place bytes = if nat_le (length bytes) most_text_bytes then Ok (text bytes) else Err (fault place E36)
 
 -- ---- operators
 

@@ -300,6 +300,7 @@ fn point_between(begin: AnyPoint, end: AnyPoint, n: i64) -> AnyPoint
             of,
             at: n as u16,
         },
+        (AnyPoint::Moment(_), _) => AnyPoint::Moment(n),
         _ => unreachable!(),
     }
 }

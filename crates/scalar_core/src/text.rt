@@ -12,7 +12,7 @@ use point_core::{Code, Fault, Place, Stop};
 use std::alloc::Global;
 use value_core::{Text, Value};
 
-/// The first text followed by the second, where it has at most 255 bytes.
+/// The first text followed by the second, where it is not too long.
 pub fn concat(alloc: Global, place: Place, a: &Value, b: &Value) -> Result<Value, Stop>
     requires a { IsTrue (fits Char (plain a.now)) }
     requires b { IsTrue (fits Char (plain b.now)) }

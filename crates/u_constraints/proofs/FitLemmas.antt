@@ -9,7 +9,7 @@ use Rattle.base_core.proofs.IntLemmas.{int_le-le}
 use Rattle.point_core.specs.Points.{first_of, last_of, line_of, is_number}
 use Rattle.point_core.specs.Whole.{least_whole}
 use Rattle.point_core.specs.declared.any_type.AnyType.{AnyType}
-use Rattle.point_core.specs.declared.any_type.AnyType.TheVariants.{Integer, Date, Ordinal}
+use Rattle.point_core.specs.declared.any_type.AnyType.TheVariants.{Integer, Date, Ordinal, Moment}
 use Rattle.value_core.specs.Attributes.{value_at, span_of}
 use Rattle.value_core.specs.Values.{Value, truth, text, point, interval, Row, Heading, Relation, IsRelation, fits, fits_heading, same_line, is_interval}
 use Rattle.value_core.specs.declared.kind.Kind.{Kind}
@@ -36,6 +36,7 @@ first_is_whole : (t : AnyType) → least_whole ≤ℤ first_of t
 first_is_whole Integer = omega (arith, ints)
 first_is_whole Date = omega (arith, ints)
 first_is_whole (Ordinal of last) = omega (arith, ints)
+first_is_whole Moment = omega (arith, ints)
 
 -- an interval ends no earlier than it begins, at a whole number
 pub span_that_fits : (t : AnyType) (v : Value) → IsTrue (fits (SpanOf t) v) → ((span_of v).0 ≤ℤ (span_of v).1) × (least_whole ≤ℤ (span_of v).1)

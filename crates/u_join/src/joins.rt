@@ -1,6 +1,7 @@
 // Joins of two relations point by point.
 ghost use Rattle.std.specs.Prelude.{◌≡◌, ◌+◌, ◌<◌, ◌≤◌, ◌++◌, map, length, Err, IfOk, MatchResult};
 ghost use Rattle.std.specs.List.{All};
+ghost use Rattle.point_core.specs.declared.fault.Fault.{Fault as AnyFault};
 ghost use Rattle.point_core.specs.Points.{number, IsPointOf};
 ghost use Rattle.cell_packing.specs.Boxed.{packed_boxes, unpacked_boxes};
 ghost use Rattle.value_core.specs.Headings.{most_attributes};
@@ -13,7 +14,7 @@ ghost use Rattle.relation_core.specs.Parts.{attributes_at, positions_in};
 ghost use Rattle.cell_core.specs.Boxes.{IsBox};
 ghost use Rattle.cell_core.specs.Cells.{row_numbers};
 ghost use Rattle.cell_core.specs.Costs.{bound};
-ghost use Rattle.cell_core.specs.declared.boxes.CellRefuse.TheVariants.{Limit as OfLimit};
+ghost use Rattle.cell_core.specs.declared.boxes.CellRefuse.TheVariants.{Op as OfOp, Limit as OfLimit};
 ghost use Rattle.u_set.specs.Boxes.{AreIntervals, types_at, boxed};
 ghost use Rattle.u_row.specs.Kept.{inner};
 ghost use Rattle.u_join.specs.Pairs.{joined_label, joined_boxes};
@@ -51,6 +52,7 @@ fn joining_boxes<L: Ledger>(
         (unpacked_boxes row_cmp (length here.now) (map (boxed here.now) left.now.rows))
         (unpacked_boxes row_cmp (length here.now) (map (boxed there.now) right.now.rows)))) }
     ensures boxes { IfOk result (λ v. All (λ b. IsBox IsPointOf (types_at left.now.heading here.now) b.1) v.items) }
+    ensures no_fault { (e : AnyFault) → result ≡ Err (OfOp e) → ⊥ }
     ensures limit { result ≡ Err OfLimit → most_rows < length (packed_boxes row_cmp (length here.now) (joined_boxes
         (inner here.now (common_positions left.now.heading left.now.heading right.now.heading))
         (inner there.now (common_positions right.now.heading left.now.heading right.now.heading))

@@ -2,6 +2,7 @@
 ghost use Rattle.std.specs.Prelude.{◌≡◌, ℕ, ◌+◌, ◌<◌, ◌≤◌, map, length, Err, IfOk, IsTrue, MatchResult};
 ghost use Rattle.std.specs.List.{All};
 ghost use Rattle.std.specs.Ordering.{nat_cmp};
+ghost use Rattle.point_core.specs.declared.fault.Fault.{Fault as AnyFault};
 ghost use Rattle.base_core.specs.Sets.{is_set};
 ghost use Rattle.point_core.specs.Points.{number, IsPointOf};
 ghost use Rattle.cell_packing.specs.Boxed.{packed_boxes, unpacked_boxes};
@@ -13,7 +14,7 @@ ghost use Rattle.relation_core.specs.Parts.{attributes_at, projected};
 ghost use Rattle.cell_core.specs.Boxes.{IsBox};
 ghost use Rattle.cell_core.specs.Cells.{row_numbers};
 ghost use Rattle.cell_core.specs.Costs.{bound};
-ghost use Rattle.cell_core.specs.declared.boxes.CellRefuse.TheVariants.{Limit as OfLimit};
+ghost use Rattle.cell_core.specs.declared.boxes.CellRefuse.TheVariants.{Op as OfOp, Limit as OfLimit};
 ghost use Rattle.u_set.specs.Boxes.{AreIntervals, types_at, boxed};
 ghost use Rattle.u_row.specs.Kept.{inner, beneath};
 ghost use Rattle.u_row.specs.Labels.{relabelled};
@@ -41,6 +42,7 @@ fn projected_form<L: Ledger>(
     ensures rows { IfOk result (λ v. map (row_numbers number) v.items ≡ packed_boxes row_cmp (length commalist.now)
         (map (relabelled (part_of (inner commalist.now kept.now))) (unpacked_boxes row_cmp (length commalist.now) (map (boxed commalist.now) r.now.rows)))) }
     ensures boxes { IfOk result (λ v. All (λ b. IsBox IsPointOf (types_at r.now.heading commalist.now) b.1) v.items) }
+    ensures no_fault { (e : AnyFault) → result ≡ Err (OfOp e) → ⊥ }
     ensures limit { result ≡ Err OfLimit → most_rows < length (packed_boxes row_cmp (length commalist.now)
         (map (relabelled (part_of (inner commalist.now kept.now))) (unpacked_boxes row_cmp (length commalist.now) (map (boxed commalist.now) r.now.rows)))) }
     ensures cost { steps.new ≤ steps.old + bound (length r.now.rows) (length commalist.now) }

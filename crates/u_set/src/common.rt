@@ -101,6 +101,7 @@ fn common_form<L: Ledger>(
         (unpacked_boxes row_cmp (length commalist.now) (map (boxed commalist.now) left.now.rows))
         (unpacked_boxes row_cmp (length commalist.now) (map (boxed commalist.now) right.now.rows)))) }
     ensures boxes { IfOk result (λ v. All (λ b. IsBox IsPointOf (types_at left.now.heading commalist.now) b.1) v.items) }
+    ensures no_fault { (e : AnyFault) → result ≡ Err (OfOp e) → ⊥ }
     ensures limit { result ≡ Err OfLimit → most_rows < length (packed_boxes row_cmp (length commalist.now) (common_of (boxed_cmp row_cmp)
         (unpacked_boxes row_cmp (length commalist.now) (map (boxed commalist.now) left.now.rows))
         (unpacked_boxes row_cmp (length commalist.now) (map (boxed commalist.now) right.now.rows)))) }

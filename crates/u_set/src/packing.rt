@@ -1,6 +1,7 @@
 // PACK and UNPACK of a relation.
 ghost use Rattle.std.specs.Prelude.{◌≡◌, ◌≤◌, ◌<◌, ◌+◌, map, length, Err, IfOk, MatchResult};
 ghost use Rattle.std.specs.List.{All};
+ghost use Rattle.point_core.specs.declared.fault.Fault.{Fault as AnyFault};
 ghost use Rattle.point_core.specs.Points.{number, IsPointOf};
 ghost use Rattle.cell_packing.specs.Boxed.{packed_boxes, unpacked_boxes};
 ghost use Rattle.value_core.specs.RowPacking.{packed, unpacked};
@@ -9,7 +10,7 @@ ghost use Rattle.relation_core.specs.Answers.{IsAnswer, IsRefusal};
 ghost use Rattle.cell_core.specs.Boxes.{IsBox};
 ghost use Rattle.cell_core.specs.Cells.{row_numbers};
 ghost use Rattle.cell_core.specs.Costs.{bound};
-ghost use Rattle.cell_core.specs.declared.boxes.CellRefuse.TheVariants.{Limit as OfLimit};
+ghost use Rattle.cell_core.specs.declared.boxes.CellRefuse.TheVariants.{Op as OfOp, Limit as OfLimit};
 ghost use Rattle.u_set.specs.Boxes.{AreIntervals, types_at, boxed};
 
 use crate::boxes::to_boxes;
@@ -32,6 +33,7 @@ fn packed_form<L: Ledger>(
     requires { AreIntervals r.now.heading commalist.now }
     ensures rows { IfOk result (λ v. map (row_numbers number) v.items ≡ packed_boxes row_cmp (length commalist.now) (map (boxed commalist.now) r.now.rows)) }
     ensures boxes { IfOk result (λ v. All (λ b. IsBox IsPointOf (types_at r.now.heading commalist.now) b.1) v.items) }
+    ensures no_fault { (e : AnyFault) → result ≡ Err (OfOp e) → ⊥ }
     ensures limit { result ≡ Err OfLimit → most_rows < length (packed_boxes row_cmp (length commalist.now) (map (boxed commalist.now) r.now.rows)) }
     ensures cost { steps.new ≤ steps.old + bound (length r.now.rows) (length commalist.now) }
 {
@@ -50,6 +52,7 @@ fn unpacked_form<L: Ledger>(
     requires { AreIntervals r.now.heading commalist.now }
     ensures rows { IfOk result (λ v. map (row_numbers number) v.items ≡ unpacked_boxes row_cmp (length commalist.now) (map (boxed commalist.now) r.now.rows)) }
     ensures boxes { IfOk result (λ v. All (λ b. IsBox IsPointOf (types_at r.now.heading commalist.now) b.1) v.items) }
+    ensures no_fault { (e : AnyFault) → result ≡ Err (OfOp e) → ⊥ }
     ensures limit { result ≡ Err OfLimit → most_rows < length (unpacked_boxes row_cmp (length commalist.now) (map (boxed commalist.now) r.now.rows)) }
     ensures cost { steps.new ≤ steps.old + bound (length r.now.rows) (length commalist.now) }
 {

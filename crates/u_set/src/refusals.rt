@@ -1,5 +1,5 @@
 // How boxes are refused, and how such a refusal is told of the rows of a relation.
-ghost use Rattle.std.specs.Prelude.{◌≡◌, ◌<◌, ◌≤◌, length, Err, IfOk};
+ghost use Rattle.std.specs.Prelude.{◌≡◌, ◌↔◌, ◌<◌, ◌≤◌, length, Err, IfOk};
 ghost use Rattle.point_core.specs.declared.fault.Fault.{Fault as AnyFault};
 ghost use Rattle.value_core.specs.declared.refuse.RowsRefuse.TheVariants.{TooMany};
 ghost use Rattle.cell_core.specs.declared.boxes.CellRefuse.TheVariants.{Op as OfOp, Limit as OfLimit};
@@ -8,13 +8,15 @@ use cell_core::{BoxRow, CellRefuse};
 use point_core::PointType;
 use value_core::{Row, RowsRefuse};
 
-/// Too many boxes are too many rows.
+/// Too many boxes are too many rows. What is refused for a fault is not told so.
 pub fn refusal(refuse: CellRefuse) -> RowsRefuse
-    ensures { result ≡ TooMany → refuse ≡ OfLimit }
+    requires no_fault { (e : AnyFault) → refuse ≡ OfOp e → ⊥ }
+    ensures { result ≡ TooMany ↔ refuse ≡ OfLimit }
 {
     match refuse {
         CellRefuse::Limit => RowsRefuse::TooMany,
-        _ => RowsRefuse::Memory,
+        CellRefuse::Memory => RowsRefuse::Memory,
+        CellRefuse::Op(_) => unreachable!(),
     }
 }
 

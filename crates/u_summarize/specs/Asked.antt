@@ -4,18 +4,15 @@
 --     AreRanks      numbers of rows that are equal just where their labels are
 --     is_lower, first_ones      of numbers in order those of which none before has the same rank
 --     ranked, have_one_rank      numbers at places with their ranks, and whether two have the same
---     asked, asked_order      what the rule gives of the rows of a key that have a cell, and that this is in order
+--     asked      what the rule gives of the rows of a key that have a cell
 --     IsNumbered      a row with its number, under the part of its label
 --     InCellGroup, HasCellFault      what the rule gives at places of cells
 use Rattle.std.specs.Prelude.{◌≡◌, ◌↔◌, ℕ, suc, ◌<◌, Bool, not, ◌&&◌, ltb, eqb, cond, List, [], ◌∷◌, map, length, get_or, filter, Result, Ok, Err}
-use Rattle.std.proofs.Common.{ap, subst}
 use Rattle.std.specs.List.{list_any}
-use Rattle.std.specs.List.Sorted.{IsStrictlySortedBy}
 use Rattle.std.specs.Ordering.{nat_cmp, eq_by_cmp}
 use Rattle.base_core.specs.Sets.{in_order}
 use Rattle.value_core.specs.Values.{Row, row_cmp}
 use Rattle.relation_core.specs.Agreement.{part_of}
-use Rattle.cell_sweep.specs.Rows.{labels_of}
 use Rattle.cell_boxes.specs.Common.{At}
 use Rattle.u_summarize.specs.Groups.{OfFirsts, labels_in, sides_in}
 
@@ -58,19 +55,6 @@ alone (Err e) = Err e
 abbrev pub asked : {F : Type 0} → (List ℕ → Result Row F) → List ℕ → List ℕ → List ℕ → Result (List Row) F
 asked f ranks numbers [] = Ok []
 asked f ranks numbers (i ∷ is) = alone (f (first_ones ranks (numbers_at numbers (i ∷ is))))
-
-alone_order : {F : Type 0} (r : Result Row F) → IsStrictlySortedBy row_cmp (labels_of (alone r))
-unfolding IsStrictlySortedBy
-alone_order (Ok l) = (tt, tt)
-alone_order (Err e) = tt
-
-one_order : {F : Type 0} (f : List ℕ → Result Row F) (ranks numbers a : List ℕ) → IsStrictlySortedBy row_cmp (labels_of (asked f ranks numbers a))
-unfolding IsStrictlySortedBy
-one_order f ranks numbers [] = tt
-one_order f ranks numbers (i ∷ is) = alone_order (f (first_ones ranks (numbers_at numbers (i ∷ is))))
-
-pub asked_order : {F : Type 0} (f : List ℕ → Result Row F) (ranks numbers a : List ℕ) (v : List Row) → asked f ranks numbers a ≡ Ok v → IsStrictlySortedBy row_cmp v
-asked_order f ranks numbers a v e = subst (IsStrictlySortedBy row_cmp) (ap labels_of e) (one_order f ranks numbers a)
 
 -- the rows with their numbers, under the parts of their labels
 abbrev pub IsNumbered : List ℕ → List (Row × List (ℕ × ℕ)) → Row × ℕ × List (ℕ × ℕ) → Type 0

@@ -17,20 +17,18 @@ use crate::ranks::ranks_of;
 use crate::rule::GroupRule;
 use cell_boxes::{grouped, keys_in_order};
 use cell_sweep::CellBox;
-use point_core::{Fault, Memory, Steps};
+use point_core::{Fault, Memory};
 use std::alloc::Global;
-use std::sync::ledger::Ledger;
 use value_core::Row;
 
 // What the rule gives of rows that stand by their keys, and its least fault.
-fn given_of_keys<G: GroupRule, L: Ledger>(
+fn given_of_keys<G: GroupRule>(
     alloc: Global,
     sides: usize,
     ranks: &[usize],
     keys: &[CellBox<Row>],
     numbers: &[usize],
     rule: &G,
-    steps: &mut Steps<L>,
 ) -> Result<(Vec<CellBox<Row>>, Option<Fault>), Memory>
     requires sides { All (λ x. length x.1 ≡ sides) keys.now }
     requires order { Ascend row_cmp keys.now }
@@ -42,25 +40,24 @@ fn given_of_keys<G: GroupRule, L: Ledger>(
     ensures ends { IfOk result (λ v. (z : PlainCellBox PlainRow) → Among z v.0.items → (x : PlainCellBox PlainRow) × Among x keys.now × EndsBy x.1 z.1) }
     ensures least { IfOk result (λ v. IsLeast (IsGroupFault sides (λ a b. asked (G.means rule.now) ranks.now numbers.now a) keys.now) v.1) }
 {
-    let op = Asking {
+    let asking = Asking {
         rule,
         ranks,
         numbers,
     };
     let mut least = None;
-    let out = grouped(alloc, sides, keys, &op, &mut least, steps)?;
+    let out = grouped(alloc, sides, keys, &asking, &mut least)?;
     Ok((out, least))
 }
 
 /// What the rule gives of the groups at cells, in boxes, and its least fault. A group is of the rows whose labels have the same values
 /// at the positions; of those with one label only the first is in it.
-pub(crate) fn given_at_cells<G: GroupRule, L: Ledger>(
+pub(crate) fn given_at_cells<G: GroupRule>(
     alloc: Global,
     sides: usize,
     rows: &[CellBox<Row>],
     by: &[usize],
     rule: &G,
-    steps: &mut Steps<L>,
 ) -> Result<(Vec<CellBox<Row>>, Option<Fault>), Memory>
     requires sides { All (λ x. length x.1 ≡ sides) rows.now }
     requires can { (a : List ℕ) → a ≢ [] → AreRows 0 (length rows.now) a → G.CanApply rule.now a }
@@ -80,7 +77,6 @@ pub(crate) fn given_at_cells<G: GroupRule, L: Ledger>(
         keys.as_slice(),
         numbers.as_slice(),
         rule,
-        steps,
     )?;
     Ok(given)
 }

@@ -11,7 +11,6 @@ mod firsts;
 mod keeping;
 mod numbered;
 mod ordered;
-mod own_counter;
 mod ranks;
 mod rule;
 mod summarize;

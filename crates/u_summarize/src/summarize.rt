@@ -12,7 +12,7 @@ ghost use Rattle.cell_core.specs.Costs.{bound};
 ghost use Rattle.cell_core.specs.declared.boxes.CellRefuse.TheVariants.{Op as OfOp, Limit as OfLimit};
 ghost use Rattle.u_summarize.specs.Groups.{HasGroupFault, IsGroupForm};
 
-use crate::own_counter::given;
+use crate::cells::given_at_cells;
 use crate::rule::GroupRule;
 use cell_core::{BoxRow, CellRefuse, CellRows, back, rows_over_cells};
 use cell_sweep::pack_rows;
@@ -45,7 +45,7 @@ fn group_form<T: PointType, G: GroupRule, L: Ledger>(
         left,
         right: _,
     } = rows_over_cells(alloc, types, rows, none.as_slice(), steps)?;
-    let (parts, least) = given(alloc, types.len(), left.as_slice(), by, rule)?;
+    let (parts, least) = given_at_cells(alloc, types.len(), left.as_slice(), by, rule)?;
     let form = pack_rows(alloc, types.len(), parts)?;
     let answer = back(alloc, types, sides.as_slice(), form)?;
     Ok((answer, least))

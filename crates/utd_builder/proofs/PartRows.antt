@@ -92,6 +92,7 @@ starts-kind-point t.Char n p b next stack k s n0 n1 n2 h = absurd (n1 refl)
 starts-kind-point t.Interval n p b next stack k s n0 n1 n2 h = absurd (n2 refl)
 starts-kind-point t.Integer n p b next stack k s n0 n1 n2 h = tt
 starts-kind-point t.Date n p b next stack k s n0 n1 n2 h = tt
+starts-kind-point t.Moment n p b next stack k s n0 n1 n2 h = tt
 starts-kind-point t.Name n p b next stack k s n0 n1 n2 h = tt
 starts-kind-point _ n p b next stack k s n0 n1 n2 h = differs h
 

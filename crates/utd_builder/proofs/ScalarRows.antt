@@ -20,7 +20,7 @@ use Rattle.utd_syntax.specs.declared.words.EndBracket.{EndBracket}
 use Rattle.utd_syntax.specs.Pieces.{Piece, first, place_of, bytes_of}
 use Rattle.utd_builder.specs.Building.{behind}
 use Rattle.utd_syntax.specs.Plain.{StatementP, Add, AttributeName, Compare, Extreme, Function, Multiply, OneCmp, OneConj, OneNeg, OnePrimary, OneProd, OneSign, OneSum, PairFunction}
-use Rattle.utd_syntax.specs.Table.{Symbol, same, TheName, Comma, DateText, NegativeDigits, ThePrimary, AfterName, AfterScalar, EndOfSelector, InParens, InPair, InPoint, TheSign, TheProd, MoreProd, TheSum, MoreSum, TheCmp, MoreCmp, TheNeg, TheConj, MoreAnd, TheScalar, MoreOr, ThePoint}
+use Rattle.utd_syntax.specs.Table.{Symbol, same, TheName, Comma, DateText, MomentText, NegativeDigits, ThePrimary, AfterName, AfterScalar, EndOfSelector, InParens, InPair, InPoint, TheSign, TheProd, MoreProd, TheSum, MoreSum, TheCmp, MoreCmp, TheNeg, TheConj, MoreAnd, TheScalar, MoreOr, ThePoint}
 use Rattle.utd_syntax.specs.Written.{comparison, sum_word, product_word, function, pair_function, extreme}
 use Rattle.utd_syntax.proofs.Reader.{Go, read, read_at}
 use Rattle.utd_syntax.proofs.FormEnds.{Halts, Starts_cmp, Starts_conj, Starts_primary, AfterName-end, MoreProd-end, MoreSum-end, MoreCmp-end, MoreAnd-end, MoreOr-end}
@@ -94,6 +94,7 @@ starts-scalar-conj t.Dash n p b next stack k s h = tt
 starts-scalar-conj t.Digits n p b next stack k s h = tt
 starts-scalar-conj t.Quoted n p b next stack k s h = tt
 starts-scalar-conj t.Date n p b next stack k s h = tt
+starts-scalar-conj t.Moment n p b next stack k s h = tt
 starts-scalar-conj t.True n p b next stack k s h = tt
 starts-scalar-conj t.False n p b next stack k s h = tt
 starts-scalar-conj t.Name n p b next stack k s h = tt
@@ -123,6 +124,7 @@ starts-conj-neg t.Dash n p b next stack k s h = tt
 starts-conj-neg t.Digits n p b next stack k s h = tt
 starts-conj-neg t.Quoted n p b next stack k s h = tt
 starts-conj-neg t.Date n p b next stack k s h = tt
+starts-conj-neg t.Moment n p b next stack k s h = tt
 starts-conj-neg t.True n p b next stack k s h = tt
 starts-conj-neg t.False n p b next stack k s h = tt
 starts-conj-neg t.Name n p b next stack k s h = tt
@@ -152,6 +154,7 @@ starts-neg-cmp t.Dash n p b next stack k s n0 h = tt
 starts-neg-cmp t.Digits n p b next stack k s n0 h = tt
 starts-neg-cmp t.Quoted n p b next stack k s n0 h = tt
 starts-neg-cmp t.Date n p b next stack k s n0 h = tt
+starts-neg-cmp t.Moment n p b next stack k s n0 h = tt
 starts-neg-cmp t.True n p b next stack k s n0 h = tt
 starts-neg-cmp t.False n p b next stack k s n0 h = tt
 starts-neg-cmp t.Name n p b next stack k s n0 h = tt
@@ -180,6 +183,7 @@ starts-cmp-sum t.Dash n p b next stack k s h = tt
 starts-cmp-sum t.Digits n p b next stack k s h = tt
 starts-cmp-sum t.Quoted n p b next stack k s h = tt
 starts-cmp-sum t.Date n p b next stack k s h = tt
+starts-cmp-sum t.Moment n p b next stack k s h = tt
 starts-cmp-sum t.True n p b next stack k s h = tt
 starts-cmp-sum t.False n p b next stack k s h = tt
 starts-cmp-sum t.Name n p b next stack k s h = tt
@@ -208,6 +212,7 @@ starts-sum-prod t.Dash n p b next stack k s h = tt
 starts-sum-prod t.Digits n p b next stack k s h = tt
 starts-sum-prod t.Quoted n p b next stack k s h = tt
 starts-sum-prod t.Date n p b next stack k s h = tt
+starts-sum-prod t.Moment n p b next stack k s h = tt
 starts-sum-prod t.True n p b next stack k s h = tt
 starts-sum-prod t.False n p b next stack k s h = tt
 starts-sum-prod t.Name n p b next stack k s h = tt
@@ -236,6 +241,7 @@ starts-prod-sign t.Dash n p b next stack k s h = tt
 starts-prod-sign t.Digits n p b next stack k s h = tt
 starts-prod-sign t.Quoted n p b next stack k s h = tt
 starts-prod-sign t.Date n p b next stack k s h = tt
+starts-prod-sign t.Moment n p b next stack k s h = tt
 starts-prod-sign t.True n p b next stack k s h = tt
 starts-prod-sign t.False n p b next stack k s h = tt
 starts-prod-sign t.Name n p b next stack k s h = tt
@@ -264,6 +270,7 @@ starts-sign-primary t.Dash n p b next stack k s n0 h = absurd (n0 refl)
 starts-sign-primary t.Digits n p b next stack k s n0 h = tt
 starts-sign-primary t.Quoted n p b next stack k s n0 h = tt
 starts-sign-primary t.Date n p b next stack k s n0 h = tt
+starts-sign-primary t.Moment n p b next stack k s n0 h = tt
 starts-sign-primary t.True n p b next stack k s n0 h = tt
 starts-sign-primary t.False n p b next stack k s n0 h = tt
 starts-sign-primary t.Name n p b next stack k s n0 h = tt
@@ -287,48 +294,50 @@ pub sign-to-primary : (ts : List Piece) (stack : List Symbol) (k : Go (TheSign �
 sign-to-primary [] stack k s n0 h = differs h
 sign-to-primary (x ∷ ts) stack k s n0 h = sym (sign-as-primary (x ∷ ts) stack k (starts-sign-primary x.terminal (first ts) x.place x.bytes (read ts) stack k s n0 h)) ∙ h
 
-is-ThePoint : (x n : Terminal) (p : Place) (b : List ℕ) (next : (st : List Symbol) → Go st → Option StatementP) (stack : List Symbol) (k : Go (ThePoint ∷ stack)) (s : StatementP) → (x ≡ t.Integer → ⊥) → (x ≡ t.Date → ⊥) → read_at x n p b next (ThePoint ∷ stack) k ≡ Some s → x ≡ t.Name
-is-ThePoint t.Integer n p b next stack k s n0 n1 h = absurd (n0 refl)
-is-ThePoint t.Date n p b next stack k s n0 n1 h = absurd (n1 refl)
-is-ThePoint t.Name n p b next stack k s n0 n1 h = refl
-is-ThePoint _ n p b next stack k s n0 n1 h = differs h
+is-ThePoint : (x n : Terminal) (p : Place) (b : List ℕ) (next : (st : List Symbol) → Go st → Option StatementP) (stack : List Symbol) (k : Go (ThePoint ∷ stack)) (s : StatementP) → (x ≡ t.Integer → ⊥) → (x ≡ t.Date → ⊥) → (x ≡ t.Moment → ⊥) → read_at x n p b next (ThePoint ∷ stack) k ≡ Some s → x ≡ t.Name
+is-ThePoint t.Integer n p b next stack k s n0 n1 n2 h = absurd (n0 refl)
+is-ThePoint t.Date n p b next stack k s n0 n1 n2 h = absurd (n1 refl)
+is-ThePoint t.Moment n p b next stack k s n0 n1 n2 h = absurd (n2 refl)
+is-ThePoint t.Name n p b next stack k s n0 n1 n2 h = refl
+is-ThePoint _ n p b next stack k s n0 n1 n2 h = differs h
 
-must-ThePoint : (ts : List Piece) (stack : List Symbol) (k : Go (ThePoint ∷ stack)) (s : StatementP) → ((first ts) ≡ t.Integer → ⊥) → ((first ts) ≡ t.Date → ⊥) → read ts (ThePoint ∷ stack) k ≡ Some s → first ts ≡ t.Name
-must-ThePoint [] stack k s n0 n1 h = differs h
-must-ThePoint (x ∷ ts) stack k s n0 n1 h = is-ThePoint x.terminal (first ts) x.place x.bytes (read ts) stack k s n0 n1 h
+must-ThePoint : (ts : List Piece) (stack : List Symbol) (k : Go (ThePoint ∷ stack)) (s : StatementP) → ((first ts) ≡ t.Integer → ⊥) → ((first ts) ≡ t.Date → ⊥) → ((first ts) ≡ t.Moment → ⊥) → read ts (ThePoint ∷ stack) k ≡ Some s → first ts ≡ t.Name
+must-ThePoint [] stack k s n0 n1 n2 h = differs h
+must-ThePoint (x ∷ ts) stack k s n0 n1 n2 h = is-ThePoint x.terminal (first ts) x.place x.bytes (read ts) stack k s n0 n1 n2 h
 
-pub step-ThePoint : (p : Place) (b : List ℕ) (old new : List Piece) (stack : List Symbol) (k : Go (ThePoint ∷ stack)) (s : StatementP) → ((first old) ≡ t.Integer → ⊥) → ((first old) ≡ t.Date → ⊥) → p ≡ place_of old → b ≡ bytes_of old → new ≡ behind old → read old (ThePoint ∷ stack) k ≡ Some s → read_at t.Name (first new) p b (read new) (ThePoint ∷ stack) k ≡ Some s
-step-ThePoint p b old new stack k s n0 n1 hp hb hn h = at t.Name p b old new (ThePoint ∷ stack) k s (must-ThePoint old stack k s n0 n1 h) refl hp hb hn h
+pub step-ThePoint : (p : Place) (b : List ℕ) (old new : List Piece) (stack : List Symbol) (k : Go (ThePoint ∷ stack)) (s : StatementP) → ((first old) ≡ t.Integer → ⊥) → ((first old) ≡ t.Date → ⊥) → ((first old) ≡ t.Moment → ⊥) → p ≡ place_of old → b ≡ bytes_of old → new ≡ behind old → read old (ThePoint ∷ stack) k ≡ Some s → read_at t.Name (first new) p b (read new) (ThePoint ∷ stack) k ≡ Some s
+step-ThePoint p b old new stack k s n0 n1 n2 hp hb hn h = at t.Name p b old new (ThePoint ∷ stack) k s (must-ThePoint old stack k s n0 n1 n2 h) refl hp hb hn h
 
-is-ThePrimary : (x n : Terminal) (p : Place) (b : List ℕ) (next : (st : List Symbol) → Go st → Option StatementP) (stack : List Symbol) (k : Go (ThePrimary ∷ stack)) (s : StatementP) → function_at x ≡ None → pair_function_at x ≡ None → (x ≡ t.Open → ⊥) → (x ≡ t.OpenBracket → ⊥) → (x ≡ t.First → ⊥) → (x ≡ t.Last → ⊥) → (x ≡ t.Name → ⊥) → (x ≡ t.Digits → ⊥) → (x ≡ t.Quoted → ⊥) → (x ≡ t.Date → ⊥) → (x ≡ t.True → ⊥) → read_at x n p b next (ThePrimary ∷ stack) k ≡ Some s → x ≡ t.False
-is-ThePrimary t.Digits n p b next stack k s f0 f1 n0 n1 n2 n3 n4 n5 n6 n7 n8 h = absurd (n5 refl)
-is-ThePrimary t.Quoted n p b next stack k s f0 f1 n0 n1 n2 n3 n4 n5 n6 n7 n8 h = absurd (n6 refl)
-is-ThePrimary t.Date n p b next stack k s f0 f1 n0 n1 n2 n3 n4 n5 n6 n7 n8 h = absurd (n7 refl)
-is-ThePrimary t.True n p b next stack k s f0 f1 n0 n1 n2 n3 n4 n5 n6 n7 n8 h = absurd (n8 refl)
-is-ThePrimary t.False n p b next stack k s f0 f1 n0 n1 n2 n3 n4 n5 n6 n7 n8 h = refl
-is-ThePrimary t.Name n p b next stack k s f0 f1 n0 n1 n2 n3 n4 n5 n6 n7 n8 h = absurd (n4 refl)
-is-ThePrimary t.Open n p b next stack k s f0 f1 n0 n1 n2 n3 n4 n5 n6 n7 n8 h = absurd (n0 refl)
-is-ThePrimary t.OpenBracket n p b next stack k s f0 f1 n0 n1 n2 n3 n4 n5 n6 n7 n8 h = absurd (n1 refl)
-is-ThePrimary t.First n p b next stack k s f0 f1 n0 n1 n2 n3 n4 n5 n6 n7 n8 h = absurd (n2 refl)
-is-ThePrimary t.Last n p b next stack k s f0 f1 n0 n1 n2 n3 n4 n5 n6 n7 n8 h = absurd (n3 refl)
-is-ThePrimary t.Begin n p b next stack k s f0 f1 n0 n1 n2 n3 n4 n5 n6 n7 n8 h = differs-back (f0)
-is-ThePrimary t.End n p b next stack k s f0 f1 n0 n1 n2 n3 n4 n5 n6 n7 n8 h = differs-back (f0)
-is-ThePrimary t.Pre n p b next stack k s f0 f1 n0 n1 n2 n3 n4 n5 n6 n7 n8 h = differs-back (f0)
-is-ThePrimary t.Post n p b next stack k s f0 f1 n0 n1 n2 n3 n4 n5 n6 n7 n8 h = differs-back (f0)
-is-ThePrimary t.Count n p b next stack k s f0 f1 n0 n1 n2 n3 n4 n5 n6 n7 n8 h = differs-back (f0)
-is-ThePrimary t.Next n p b next stack k s f0 f1 n0 n1 n2 n3 n4 n5 n6 n7 n8 h = differs-back (f0)
-is-ThePrimary t.Prior n p b next stack k s f0 f1 n0 n1 n2 n3 n4 n5 n6 n7 n8 h = differs-back (f0)
-is-ThePrimary t.Union n p b next stack k s f0 f1 n0 n1 n2 n3 n4 n5 n6 n7 n8 h = differs-back (f1)
-is-ThePrimary t.Intersect n p b next stack k s f0 f1 n0 n1 n2 n3 n4 n5 n6 n7 n8 h = differs-back (f1)
-is-ThePrimary t.Minus n p b next stack k s f0 f1 n0 n1 n2 n3 n4 n5 n6 n7 n8 h = differs-back (f1)
-is-ThePrimary _ n p b next stack k s f0 f1 n0 n1 n2 n3 n4 n5 n6 n7 n8 h = differs h
+is-ThePrimary : (x n : Terminal) (p : Place) (b : List ℕ) (next : (st : List Symbol) → Go st → Option StatementP) (stack : List Symbol) (k : Go (ThePrimary ∷ stack)) (s : StatementP) → function_at x ≡ None → pair_function_at x ≡ None → (x ≡ t.Open → ⊥) → (x ≡ t.OpenBracket → ⊥) → (x ≡ t.First → ⊥) → (x ≡ t.Last → ⊥) → (x ≡ t.Name → ⊥) → (x ≡ t.Digits → ⊥) → (x ≡ t.Quoted → ⊥) → (x ≡ t.Date → ⊥) → (x ≡ t.Moment → ⊥) → (x ≡ t.True → ⊥) → read_at x n p b next (ThePrimary ∷ stack) k ≡ Some s → x ≡ t.False
+is-ThePrimary t.Digits n p b next stack k s f0 f1 n0 n1 n2 n3 n4 n5 n6 n7 n8 n9 h = absurd (n5 refl)
+is-ThePrimary t.Quoted n p b next stack k s f0 f1 n0 n1 n2 n3 n4 n5 n6 n7 n8 n9 h = absurd (n6 refl)
+is-ThePrimary t.Date n p b next stack k s f0 f1 n0 n1 n2 n3 n4 n5 n6 n7 n8 n9 h = absurd (n7 refl)
+is-ThePrimary t.Moment n p b next stack k s f0 f1 n0 n1 n2 n3 n4 n5 n6 n7 n8 n9 h = absurd (n8 refl)
+is-ThePrimary t.True n p b next stack k s f0 f1 n0 n1 n2 n3 n4 n5 n6 n7 n8 n9 h = absurd (n9 refl)
+is-ThePrimary t.False n p b next stack k s f0 f1 n0 n1 n2 n3 n4 n5 n6 n7 n8 n9 h = refl
+is-ThePrimary t.Name n p b next stack k s f0 f1 n0 n1 n2 n3 n4 n5 n6 n7 n8 n9 h = absurd (n4 refl)
+is-ThePrimary t.Open n p b next stack k s f0 f1 n0 n1 n2 n3 n4 n5 n6 n7 n8 n9 h = absurd (n0 refl)
+is-ThePrimary t.OpenBracket n p b next stack k s f0 f1 n0 n1 n2 n3 n4 n5 n6 n7 n8 n9 h = absurd (n1 refl)
+is-ThePrimary t.First n p b next stack k s f0 f1 n0 n1 n2 n3 n4 n5 n6 n7 n8 n9 h = absurd (n2 refl)
+is-ThePrimary t.Last n p b next stack k s f0 f1 n0 n1 n2 n3 n4 n5 n6 n7 n8 n9 h = absurd (n3 refl)
+is-ThePrimary t.Begin n p b next stack k s f0 f1 n0 n1 n2 n3 n4 n5 n6 n7 n8 n9 h = differs-back (f0)
+is-ThePrimary t.End n p b next stack k s f0 f1 n0 n1 n2 n3 n4 n5 n6 n7 n8 n9 h = differs-back (f0)
+is-ThePrimary t.Pre n p b next stack k s f0 f1 n0 n1 n2 n3 n4 n5 n6 n7 n8 n9 h = differs-back (f0)
+is-ThePrimary t.Post n p b next stack k s f0 f1 n0 n1 n2 n3 n4 n5 n6 n7 n8 n9 h = differs-back (f0)
+is-ThePrimary t.Count n p b next stack k s f0 f1 n0 n1 n2 n3 n4 n5 n6 n7 n8 n9 h = differs-back (f0)
+is-ThePrimary t.Next n p b next stack k s f0 f1 n0 n1 n2 n3 n4 n5 n6 n7 n8 n9 h = differs-back (f0)
+is-ThePrimary t.Prior n p b next stack k s f0 f1 n0 n1 n2 n3 n4 n5 n6 n7 n8 n9 h = differs-back (f0)
+is-ThePrimary t.Union n p b next stack k s f0 f1 n0 n1 n2 n3 n4 n5 n6 n7 n8 n9 h = differs-back (f1)
+is-ThePrimary t.Intersect n p b next stack k s f0 f1 n0 n1 n2 n3 n4 n5 n6 n7 n8 n9 h = differs-back (f1)
+is-ThePrimary t.Minus n p b next stack k s f0 f1 n0 n1 n2 n3 n4 n5 n6 n7 n8 n9 h = differs-back (f1)
+is-ThePrimary _ n p b next stack k s f0 f1 n0 n1 n2 n3 n4 n5 n6 n7 n8 n9 h = differs h
 
-must-ThePrimary : (ts : List Piece) (stack : List Symbol) (k : Go (ThePrimary ∷ stack)) (s : StatementP) → function_at (first ts) ≡ None → pair_function_at (first ts) ≡ None → ((first ts) ≡ t.Open → ⊥) → ((first ts) ≡ t.OpenBracket → ⊥) → ((first ts) ≡ t.First → ⊥) → ((first ts) ≡ t.Last → ⊥) → ((first ts) ≡ t.Name → ⊥) → ((first ts) ≡ t.Digits → ⊥) → ((first ts) ≡ t.Quoted → ⊥) → ((first ts) ≡ t.Date → ⊥) → ((first ts) ≡ t.True → ⊥) → read ts (ThePrimary ∷ stack) k ≡ Some s → first ts ≡ t.False
-must-ThePrimary [] stack k s f0 f1 n0 n1 n2 n3 n4 n5 n6 n7 n8 h = differs h
-must-ThePrimary (x ∷ ts) stack k s f0 f1 n0 n1 n2 n3 n4 n5 n6 n7 n8 h = is-ThePrimary x.terminal (first ts) x.place x.bytes (read ts) stack k s f0 f1 n0 n1 n2 n3 n4 n5 n6 n7 n8 h
+must-ThePrimary : (ts : List Piece) (stack : List Symbol) (k : Go (ThePrimary ∷ stack)) (s : StatementP) → function_at (first ts) ≡ None → pair_function_at (first ts) ≡ None → ((first ts) ≡ t.Open → ⊥) → ((first ts) ≡ t.OpenBracket → ⊥) → ((first ts) ≡ t.First → ⊥) → ((first ts) ≡ t.Last → ⊥) → ((first ts) ≡ t.Name → ⊥) → ((first ts) ≡ t.Digits → ⊥) → ((first ts) ≡ t.Quoted → ⊥) → ((first ts) ≡ t.Date → ⊥) → ((first ts) ≡ t.Moment → ⊥) → ((first ts) ≡ t.True → ⊥) → read ts (ThePrimary ∷ stack) k ≡ Some s → first ts ≡ t.False
+must-ThePrimary [] stack k s f0 f1 n0 n1 n2 n3 n4 n5 n6 n7 n8 n9 h = differs h
+must-ThePrimary (x ∷ ts) stack k s f0 f1 n0 n1 n2 n3 n4 n5 n6 n7 n8 n9 h = is-ThePrimary x.terminal (first ts) x.place x.bytes (read ts) stack k s f0 f1 n0 n1 n2 n3 n4 n5 n6 n7 n8 n9 h
 
-pub step-ThePrimary : (p : Place) (b : List ℕ) (old new : List Piece) (stack : List Symbol) (k : Go (ThePrimary ∷ stack)) (s : StatementP) → function_at (first old) ≡ None → pair_function_at (first old) ≡ None → ((first old) ≡ t.Open → ⊥) → ((first old) ≡ t.OpenBracket → ⊥) → ((first old) ≡ t.First → ⊥) → ((first old) ≡ t.Last → ⊥) → ((first old) ≡ t.Name → ⊥) → ((first old) ≡ t.Digits → ⊥) → ((first old) ≡ t.Quoted → ⊥) → ((first old) ≡ t.Date → ⊥) → ((first old) ≡ t.True → ⊥) → p ≡ place_of old → b ≡ bytes_of old → new ≡ behind old → read old (ThePrimary ∷ stack) k ≡ Some s → read_at t.False (first new) p b (read new) (ThePrimary ∷ stack) k ≡ Some s
-step-ThePrimary p b old new stack k s f0 f1 n0 n1 n2 n3 n4 n5 n6 n7 n8 hp hb hn h = at t.False p b old new (ThePrimary ∷ stack) k s (must-ThePrimary old stack k s f0 f1 n0 n1 n2 n3 n4 n5 n6 n7 n8 h) refl hp hb hn h
+pub step-ThePrimary : (p : Place) (b : List ℕ) (old new : List Piece) (stack : List Symbol) (k : Go (ThePrimary ∷ stack)) (s : StatementP) → function_at (first old) ≡ None → pair_function_at (first old) ≡ None → ((first old) ≡ t.Open → ⊥) → ((first old) ≡ t.OpenBracket → ⊥) → ((first old) ≡ t.First → ⊥) → ((first old) ≡ t.Last → ⊥) → ((first old) ≡ t.Name → ⊥) → ((first old) ≡ t.Digits → ⊥) → ((first old) ≡ t.Quoted → ⊥) → ((first old) ≡ t.Date → ⊥) → ((first old) ≡ t.Moment → ⊥) → ((first old) ≡ t.True → ⊥) → p ≡ place_of old → b ≡ bytes_of old → new ≡ behind old → read old (ThePrimary ∷ stack) k ≡ Some s → read_at t.False (first new) p b (read new) (ThePrimary ∷ stack) k ≡ Some s
+step-ThePrimary p b old new stack k s f0 f1 n0 n1 n2 n3 n4 n5 n6 n7 n8 n9 hp hb hn h = at t.False p b old new (ThePrimary ∷ stack) k s (must-ThePrimary old stack k s f0 f1 n0 n1 n2 n3 n4 n5 n6 n7 n8 n9 h) refl hp hb hn h
 
 is-AfterScalar : (x n : Terminal) (p : Place) (b : List ℕ) (next : (st : List Symbol) → Go st → Option StatementP) (stack : List Symbol) (k : Go (AfterScalar ∷ stack)) (s : StatementP) → (x ≡ t.Colon → ⊥) → read_at x n p b next (AfterScalar ∷ stack) k ≡ Some s → x ≡ t.Close
 is-AfterScalar t.Close n p b next stack k s n0 h = refl
@@ -396,6 +405,17 @@ must-DateText (x ∷ ts) stack k s h = is-DateText x.terminal (first ts) x.place
 
 pub step-DateText : (p : Place) (b : List ℕ) (old new : List Piece) (stack : List Symbol) (k : Go (DateText ∷ stack)) (s : StatementP) → p ≡ place_of old → b ≡ bytes_of old → new ≡ behind old → read old (DateText ∷ stack) k ≡ Some s → read_at t.Quoted (first new) p b (read new) (DateText ∷ stack) k ≡ Some s
 step-DateText p b old new stack k s hp hb hn h = at t.Quoted p b old new (DateText ∷ stack) k s (must-DateText old stack k s h) refl hp hb hn h
+
+is-MomentText : (x n : Terminal) (p : Place) (b : List ℕ) (next : (st : List Symbol) → Go st → Option StatementP) (stack : List Symbol) (k : Go (MomentText ∷ stack)) (s : StatementP) → read_at x n p b next (MomentText ∷ stack) k ≡ Some s → x ≡ t.Quoted
+is-MomentText t.Quoted n p b next stack k s h = refl
+is-MomentText _ n p b next stack k s h = differs h
+
+must-MomentText : (ts : List Piece) (stack : List Symbol) (k : Go (MomentText ∷ stack)) (s : StatementP) → read ts (MomentText ∷ stack) k ≡ Some s → first ts ≡ t.Quoted
+must-MomentText [] stack k s h = differs h
+must-MomentText (x ∷ ts) stack k s h = is-MomentText x.terminal (first ts) x.place x.bytes (read ts) stack k s h
+
+pub step-MomentText : (p : Place) (b : List ℕ) (old new : List Piece) (stack : List Symbol) (k : Go (MomentText ∷ stack)) (s : StatementP) → p ≡ place_of old → b ≡ bytes_of old → new ≡ behind old → read old (MomentText ∷ stack) k ≡ Some s → read_at t.Quoted (first new) p b (read new) (MomentText ∷ stack) k ≡ Some s
+step-MomentText p b old new stack k s hp hb hn h = at t.Quoted p b old new (MomentText ∷ stack) k s (must-MomentText old stack k s h) refl hp hb hn h
 
 is-NegativeDigits : (x n : Terminal) (p : Place) (b : List ℕ) (next : (st : List Symbol) → Go st → Option StatementP) (stack : List Symbol) (k : Go (NegativeDigits ∷ stack)) (s : StatementP) → read_at x n p b next (NegativeDigits ∷ stack) k ≡ Some s → x ≡ t.Digits
 is-NegativeDigits t.Digits n p b next stack k s h = refl

@@ -240,6 +240,7 @@ fn primary<'a>(alloc: Global, cursor: Cursor<'a>) -> Result<(Primary, Cursor<'a>
         Terminal::Digits => integer(alloc, cursor),
         Terminal::Quoted => text(alloc, cursor),
         Terminal::Date => date(alloc, cursor),
+        Terminal::Moment => moment(alloc, cursor),
         Terminal::True => Ok((Primary::True(cursor.place()), cursor.skip())),
         _ => Ok((Primary::False(cursor.place()), cursor.skip())),
     }
@@ -274,6 +275,17 @@ fn date<'a>(alloc: Global, cursor: Cursor<'a>) -> Result<(Primary, Cursor<'a>), 
     Ok((Primary::Date(place, at, bytes), text.skip()))
 }
 
+fn moment<'a>(alloc: Global, cursor: Cursor<'a>) -> Result<(Primary, Cursor<'a>), AllocError>
+    requires { first (left cursor) ≡ Terminal.Moment }
+    ensures { Builds ThePrimary read_primary (left cursor.entry) result }
+{
+    let place = cursor.place();
+    let text = cursor.skip();
+    let bytes = text.bytes(alloc)?;
+    let at = text.place();
+    Ok((Primary::Moment(place, at, bytes), text.skip()))
+}
+
 // An attribute, or a value of an ordinal type.
 fn attribute<'a>(alloc: Global, cursor: Cursor<'a>) -> Result<(Primary, Cursor<'a>), AllocError>
     requires { first (left cursor) ≡ Terminal.Name }
@@ -296,6 +308,7 @@ pub fn point<'a>(alloc: Global, cursor: Cursor<'a>) -> Result<(PointName, Cursor
     match cursor.terminal() {
         Terminal::Integer => Ok((PointName::Integer(cursor.place()), cursor.skip())),
         Terminal::Date => Ok((PointName::Date(cursor.place()), cursor.skip())),
+        Terminal::Moment => Ok((PointName::Moment(cursor.place()), cursor.skip())),
         _ => {
             let (name, next) = cursor.name(alloc)?;
             Ok((PointName::Named(name), next))

@@ -26,6 +26,7 @@ abbrev pub form_of : Form → table.Symbol
 form_of forms.TheName = table.TheName
 form_of forms.Comma = table.Comma
 form_of forms.DateText = table.DateText
+form_of forms.MomentText = table.MomentText
 form_of forms.NegativeDigits = table.NegativeDigits
 form_of forms.ThePrimary = table.ThePrimary
 form_of forms.AfterName = table.AfterName
@@ -127,6 +128,7 @@ taking_of takings.Operator = table.Operator
 taking_of takings.Separator = table.Separator
 taking_of takings.Negated = table.Negated
 taking_of takings.Dated = table.Dated
+taking_of takings.Timed = table.Timed
 taking_of (takings.Opens inner) = table.Opens (forms_of inner.now)
 taking_of (takings.OperatorOpens inner) = table.OperatorOpens (forms_of inner.now)
 

@@ -8,7 +8,7 @@ use crate::form::Taking;
 use crate::limits::is_bad_text;
 use crate::stack::Load;
 use point_core::Code;
-use utd_syntax::{Terminal, exceeds, is_date};
+use utd_syntax::{Terminal, exceeds, is_date, is_moment};
 use value_core::{MOST_LEVELS, MOST_NAME_BYTES, MOST_OPERATORS};
 
 const MOST_INTEGER: u64 = 9_223_372_036_854_775_807;
@@ -18,6 +18,7 @@ fn is_wrong_text(how: Taking, bytes: &[u8]) -> bool
 {
     match how {
         Taking::Dated => !is_date(bytes),
+        Taking::Timed => !is_moment(bytes),
         _ => is_bad_text(bytes),
     }
 }

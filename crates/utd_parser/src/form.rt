@@ -18,6 +18,7 @@ pub enum Form {
     TheName,
     Comma,
     DateText,
+    MomentText,
     NegativeDigits,
     ThePrimary,
     AfterName,
@@ -111,7 +112,7 @@ pub enum Form {
 }
 
 /// How a token is taken: it counts as an operator; it is a comma; it is an integer behind its `-`; it is the text of a
-/// date; it opens a level, which ends behind these forms; or it is an operator that opens one.
+/// date, or of a moment; it opens a level, which ends behind these forms; or it is an operator that opens one.
 #[derive(Clone, Copy)]
 pub enum Taking {
     Plain,
@@ -119,6 +120,7 @@ pub enum Taking {
     Separator,
     Negated,
     Dated,
+    Timed,
     Opens(&'static [Form]),
     OperatorOpens(&'static [Form]),
 }

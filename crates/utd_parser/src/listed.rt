@@ -15,6 +15,7 @@ pub fn rows_at(form: Form) -> &'static [Row]
         Form::TheName => &primary_rows::THE_NAME,
         Form::Comma => &primary_rows::COMMA,
         Form::DateText => &primary_rows::DATE_TEXT,
+        Form::MomentText => &primary_rows::MOMENT_TEXT,
         Form::NegativeDigits => &primary_rows::NEGATIVE_DIGITS,
         Form::ThePrimary => &primary_rows::THE_PRIMARY,
         Form::AfterName => &primary_rows::AFTER_NAME,

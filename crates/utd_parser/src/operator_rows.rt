@@ -3,7 +3,7 @@
 use crate::form::{Form, Row, Taking};
 use utd_syntax::Terminal;
 
-pub static THE_PROD: [Row; 21] = [
+pub static THE_PROD: [Row; 22] = [
     Row::Before(
         Terminal::Dash,
         Terminal::Digits,
@@ -18,6 +18,11 @@ pub static THE_PROD: [Row; 21] = [
         Terminal::Date,
         Taking::Plain,
         &[Form::DateText, Form::MoreProd],
+    ),
+    Row::On(
+        Terminal::Moment,
+        Taking::Plain,
+        &[Form::MomentText, Form::MoreProd],
     ),
     Row::On(Terminal::True, Taking::Plain, &[Form::MoreProd]),
     Row::On(Terminal::False, Taking::Plain, &[Form::MoreProd]),
@@ -116,7 +121,7 @@ pub static MORE_PROD: [Row; 2] = [
     ),
 ];
 
-pub static THE_SUM: [Row; 21] = [
+pub static THE_SUM: [Row; 22] = [
     Row::Before(
         Terminal::Dash,
         Terminal::Digits,
@@ -139,6 +144,11 @@ pub static THE_SUM: [Row; 21] = [
         Terminal::Date,
         Taking::Plain,
         &[Form::DateText, Form::MoreProd, Form::MoreSum],
+    ),
+    Row::On(
+        Terminal::Moment,
+        Taking::Plain,
+        &[Form::MomentText, Form::MoreProd, Form::MoreSum],
     ),
     Row::On(
         Terminal::True,
@@ -250,7 +260,7 @@ pub static MORE_SUM: [Row; 3] = [
     ),
 ];
 
-pub static THE_CMP: [Row; 21] = [
+pub static THE_CMP: [Row; 22] = [
     Row::Before(
         Terminal::Dash,
         Terminal::Digits,
@@ -278,6 +288,16 @@ pub static THE_CMP: [Row; 21] = [
         Terminal::Date,
         Taking::Plain,
         &[Form::DateText, Form::MoreProd, Form::MoreSum, Form::MoreCmp],
+    ),
+    Row::On(
+        Terminal::Moment,
+        Taking::Plain,
+        &[
+            Form::MomentText,
+            Form::MoreProd,
+            Form::MoreSum,
+            Form::MoreCmp,
+        ],
     ),
     Row::On(
         Terminal::True,

@@ -9,12 +9,15 @@ pub static COMMA: [Row; 1] = [Row::On(Terminal::Comma, Taking::Separator, &[])];
 
 pub static DATE_TEXT: [Row; 1] = [Row::On(Terminal::Quoted, Taking::Dated, &[])];
 
+pub static MOMENT_TEXT: [Row; 1] = [Row::On(Terminal::Quoted, Taking::Timed, &[])];
+
 pub static NEGATIVE_DIGITS: [Row; 1] = [Row::On(Terminal::Digits, Taking::Negated, &[])];
 
-pub static THE_PRIMARY: [Row; 20] = [
+pub static THE_PRIMARY: [Row; 21] = [
     Row::On(Terminal::Digits, Taking::Plain, &[]),
     Row::On(Terminal::Quoted, Taking::Plain, &[]),
     Row::On(Terminal::Date, Taking::Plain, &[Form::DateText]),
+    Row::On(Terminal::Moment, Taking::Plain, &[Form::MomentText]),
     Row::On(Terminal::True, Taking::Plain, &[]),
     Row::On(Terminal::False, Taking::Plain, &[]),
     Row::On(Terminal::Name, Taking::Plain, &[Form::AfterName]),
@@ -86,7 +89,7 @@ pub static IN_POINT: [Row; 1] = [Row::On(
     &[],
 )];
 
-pub static THE_SIGN: [Row; 21] = [
+pub static THE_SIGN: [Row; 22] = [
     Row::Before(
         Terminal::Dash,
         Terminal::Digits,
@@ -98,6 +101,7 @@ pub static THE_SIGN: [Row; 21] = [
     Row::On(Terminal::Digits, Taking::Plain, &[]),
     Row::On(Terminal::Quoted, Taking::Plain, &[]),
     Row::On(Terminal::Date, Taking::Plain, &[Form::DateText]),
+    Row::On(Terminal::Moment, Taking::Plain, &[Form::MomentText]),
     Row::On(Terminal::True, Taking::Plain, &[]),
     Row::On(Terminal::False, Taking::Plain, &[]),
     Row::On(Terminal::Name, Taking::Plain, &[Form::AfterName]),

@@ -3,18 +3,20 @@
 use crate::form::{Form, Row, Taking};
 use utd_syntax::Terminal;
 
-pub static THE_POINT: [Row; 3] = [
+pub static THE_POINT: [Row; 4] = [
     Row::On(Terminal::Integer, Taking::Plain, &[]),
     Row::On(Terminal::Date, Taking::Plain, &[]),
+    Row::On(Terminal::Moment, Taking::Plain, &[]),
     Row::On(Terminal::Name, Taking::Plain, &[]),
 ];
 
-pub static THE_KIND: [Row; 6] = [
+pub static THE_KIND: [Row; 7] = [
     Row::On(Terminal::Boolean, Taking::Plain, &[]),
     Row::On(Terminal::Char, Taking::Plain, &[]),
     Row::On(Terminal::Interval, Taking::Plain, &[Form::InPoint]),
     Row::On(Terminal::Integer, Taking::Plain, &[]),
     Row::On(Terminal::Date, Taking::Plain, &[]),
+    Row::On(Terminal::Moment, Taking::Plain, &[]),
     Row::On(Terminal::Name, Taking::Plain, &[]),
 ];
 

@@ -3,7 +3,7 @@
 use crate::form::{Form, Row, Taking};
 use utd_syntax::Terminal;
 
-pub static THE_NEG: [Row; 22] = [
+pub static THE_NEG: [Row; 23] = [
     Row::On(Terminal::Not, Taking::Opens(&[Form::TheNeg]), &[]),
     Row::Before(
         Terminal::Dash,
@@ -32,6 +32,16 @@ pub static THE_NEG: [Row; 22] = [
         Terminal::Date,
         Taking::Plain,
         &[Form::DateText, Form::MoreProd, Form::MoreSum, Form::MoreCmp],
+    ),
+    Row::On(
+        Terminal::Moment,
+        Taking::Plain,
+        &[
+            Form::MomentText,
+            Form::MoreProd,
+            Form::MoreSum,
+            Form::MoreCmp,
+        ],
     ),
     Row::On(
         Terminal::True,
@@ -130,7 +140,7 @@ pub static THE_NEG: [Row; 22] = [
     ),
 ];
 
-pub static THE_CONJ: [Row; 22] = [
+pub static THE_CONJ: [Row; 23] = [
     Row::On(
         Terminal::Not,
         Taking::Opens(&[Form::TheNeg]),
@@ -165,6 +175,17 @@ pub static THE_CONJ: [Row; 22] = [
         Taking::Plain,
         &[
             Form::DateText,
+            Form::MoreProd,
+            Form::MoreSum,
+            Form::MoreCmp,
+            Form::MoreAnd,
+        ],
+    ),
+    Row::On(
+        Terminal::Moment,
+        Taking::Plain,
+        &[
+            Form::MomentText,
             Form::MoreProd,
             Form::MoreSum,
             Form::MoreCmp,
@@ -347,7 +368,7 @@ pub static MORE_AND: [Row; 1] = [Row::On(
     &[Form::TheNeg, Form::MoreAnd],
 )];
 
-pub static THE_SCALAR: [Row; 22] = [
+pub static THE_SCALAR: [Row; 23] = [
     Row::On(
         Terminal::Not,
         Taking::Opens(&[Form::TheNeg]),
@@ -401,6 +422,18 @@ pub static THE_SCALAR: [Row; 22] = [
         Taking::Plain,
         &[
             Form::DateText,
+            Form::MoreProd,
+            Form::MoreSum,
+            Form::MoreCmp,
+            Form::MoreAnd,
+            Form::MoreOr,
+        ],
+    ),
+    Row::On(
+        Terminal::Moment,
+        Taking::Plain,
+        &[
+            Form::MomentText,
             Form::MoreProd,
             Form::MoreSum,
             Form::MoreCmp,

@@ -166,6 +166,7 @@ pub fn enter(frames: &mut Vec<Frame>, how: Taking, load: Load) -> Result<Load, A
         Taking::Plain => Ok(load),
         Taking::Negated => Ok(load),
         Taking::Dated => Ok(load),
+        Taking::Timed => Ok(load),
     }
 }
 

@@ -1,3 +1,4 @@
 pub mod CharacterLemmas
 pub mod DateLemmas
+pub mod MomentLemmas
 pub mod TableLemmas

@@ -1,4 +1,5 @@
 pub mod Dates
 pub mod Lines
+pub mod Moments
 pub mod Tables
 pub mod Widths

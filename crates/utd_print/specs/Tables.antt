@@ -7,11 +7,12 @@ use Rattle.std.specs.Fmt.{signed_decimal}
 use Rattle.std.specs.List.{flat_map, range_with_len}
 use Rattle.point_core.specs.declared.any_type.AnyType.{AnyType}
 use Rattle.point_core.specs.declared.any_type.AnyPoint.{AnyPoint}
-use Rattle.point_core.specs.Points.{Line, integers, days, values_of, IsPointOf}
+use Rattle.point_core.specs.Points.{Line, integers, days, values_of, seconds, IsPointOf}
 use Rattle.value_core.specs.declared.kind.Kind.{Kind}
 use Rattle.value_core.specs.declared.list.OrdinalNames.{OrdinalNames}
 use Rattle.value_core.specs.Values.{Value, truth, text, point, interval, Row, Heading, Relation, fits}
 use Rattle.utd_print.specs.Dates.{day_text}
+use Rattle.utd_print.specs.Moments.{second_text}
 
 -- ---- values
 
@@ -23,6 +24,7 @@ abbrev pub point_text : List OrdinalNames → Line → ℤ → List ℕ
 point_text types integers p = signed_decimal p
 point_text types days p = day_text p
 point_text types (values_of n) p = value_name types n (unsigned_abs p)
+point_text types seconds p = second_text p
 
 -- a byte of a text between quotes: a quote is written twice
 abbrev pub quoted : ℕ → List ℕ

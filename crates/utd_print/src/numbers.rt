@@ -1,11 +1,13 @@
-// Numbers and dates in decimal.
+// Numbers, dates and moments in decimal.
 ghost use Rattle.std.specs.Prelude.{◌≡◌, ◌≤◌, ◌++◌, OnOk, decimal};
 ghost use Rattle.std.specs.Fmt.{signed_decimal};
 ghost use Rattle.point_core.specs.Dates.{IsDay, two_digits, date_text};
+ghost use Rattle.point_core.specs.Moments.{IsSecond, clock_text};
 ghost use Rattle.utd_print.specs.Dates.{day_text};
+ghost use Rattle.utd_print.specs.Moments.{second_text};
 
 use itoa::Buffer;
-use point_core::{Day, Memory, date_parts};
+use point_core::{Day, Memory, Second, date_parts, moment_parts};
 
 /// Writes a number.
 pub(crate) fn put_number(out: &mut Vec<u8>, number: u32) -> Result<(), Memory>
@@ -63,4 +65,26 @@ pub(crate) fn put_day(out: &mut Vec<u8>, day: Day) -> Result<(), Memory>
 {
     let (year, month, day_of_month) = date_parts(day);
     put_date(out, year, month, day_of_month)
+}
+
+/// Writes a clock as `HH:MM:SS`.
+fn put_clock(out: &mut Vec<u8>, hour: u8, minute: u8, second: u8) -> Result<(), Memory>
+    ensures { OnOk result (out.new.items ≡ out.old.items ++ clock_text hour minute second) }
+{
+    put_two_digits(out, hour)?;
+    out.push(b':')?;
+    put_two_digits(out, minute)?;
+    out.push(b':')?;
+    put_two_digits(out, second)
+}
+
+/// Writes a moment by its date and its clock.
+pub(crate) fn put_moment(out: &mut Vec<u8>, moment: Second) -> Result<(), Memory>
+    requires { IsSecond moment.number }
+    ensures { OnOk result (out.new.items ≡ out.old.items ++ second_text moment.number) }
+{
+    let (year, month, day, hour, minute, second) = moment_parts(moment);
+    put_date(out, year, month, day)?;
+    out.push(b'T')?;
+    put_clock(out, hour, minute, second)
 }

@@ -43,6 +43,7 @@ fn code_text(code: Code) -> &'static [u8]
         Code::E42 => b"E42 WHEN UNPACKED ON broken",
         Code::E43 => b"E43 FOREIGN KEY broken",
         Code::E44 => b"E44 HISTORY broken",
+        Code::E45 => b"E45 CONSTRAINT broken",
         Code::E46 => b"E46 database full",
     }
 }

@@ -6,10 +6,10 @@ ghost use Rattle.value_core.specs.Plain.{plain};
 ghost use Rattle.utd_print.specs.Tables.{value_name, point_text, quoted, quotes_doubled, interval_text, value_text};
 ghost use Rattle.utd_print.specs.Tables.{HasType, HasKind};
 
-use crate::numbers::{put_day, put_integer};
+use crate::numbers::{put_day, put_integer, put_moment};
 use crate::truth::truth_text;
 use interval_core::Interval;
-use point_core::{AnyPoint, AnyType, Day, Memory};
+use point_core::{AnyPoint, AnyType, Day, Memory, Second};
 use std::alloc::Global;
 use value_core::{OrdinalTypes, Value};
 
@@ -36,6 +36,7 @@ fn put_point(out: &mut Vec<u8>, types: &OrdinalTypes, point: AnyPoint) -> Result
         AnyPoint::Integer(number) => put_integer(out, number),
         AnyPoint::Date(number) => put_day(out, Day { number }),
         AnyPoint::Ordinal { of, at } => put_name(out, types, of, at),
+        AnyPoint::Moment(number) => put_moment(out, Second { number }),
     }
 }
 

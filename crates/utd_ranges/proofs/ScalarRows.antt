@@ -4,8 +4,8 @@ use Rattle.utd_syntax.specs.declared.terminal.Terminal.TheVariants as t
 use Rattle.utd_syntax.specs.declared.words.SumWord.TheVariants as sum_words
 use Rattle.utd_syntax.specs.declared.words.ProductWord.TheVariants as product_words
 use Rattle.utd_syntax.specs.Plain.{word, OneConj, Or, OneNeg, And, Not, OneCmp, OneProd, Add, OneSign, Multiply, NegativeInteger, Negate, OnePrimary, BooleanKind, CharKind, PointKind, IntervalKind}
-use Rattle.utd_syntax.specs.Table.{TheName, Comma, DateText, NegativeDigits, ThePrimary, AfterName, AfterScalar, EndOfSelector, InParens, InPair, InPoint, TheSign, TheProd, MoreProd, TheSum, MoreSum, TheCmp, MoreCmp, TheNeg, TheConj, MoreAnd, TheScalar, MoreOr, ThePoint, TheKind, TheAttribute, MoreAttributes, InHeading, TheHeading, MoreNames, InNames, InList, Plain, Opens, on, before, name_rows, comma_rows, date_text_rows, negative_digits_rows, primary_rows, after_name_rows, after_scalar_rows, end_of_selector_rows, in_parens_rows, in_pair_rows, in_point_rows, sign_rows, prod_rows, more_prod_rows, sum_rows, more_sum_rows, cmp_rows, more_cmp_rows, neg_rows, conj_rows, more_and_rows, scalar_rows, more_or_rows, point_rows, kind_rows, attribute_rows, more_attributes_rows, in_heading_rows, heading_rows, more_names_rows, in_names_rows, in_list_rows}
-use Rattle.utd_syntax.proofs.FormValues.{over_makes, make_name, make_comma, make_date_text, make_negative_digits, make_primary, make_after_name, make_after_scalar, make_end_of_selector, make_in_parens, make_in_pair, make_in_point, make_sign, make_prod, make_more_prod, make_sum, make_more_sum, make_cmp, make_more_cmp, make_neg, make_conj, make_more_and, make_scalar, make_more_or, make_point, make_kind, make_attribute, make_more_attributes, make_in_heading, make_heading, make_more_names, make_in_names, make_in_list}
+use Rattle.utd_syntax.specs.Table.{TheName, Comma, DateText, MomentText, NegativeDigits, ThePrimary, AfterName, AfterScalar, EndOfSelector, InParens, InPair, InPoint, TheSign, TheProd, MoreProd, TheSum, MoreSum, TheCmp, MoreCmp, TheNeg, TheConj, MoreAnd, TheScalar, MoreOr, ThePoint, TheKind, TheAttribute, MoreAttributes, InHeading, TheHeading, MoreNames, InNames, InList, Plain, Opens, on, before, name_rows, comma_rows, date_text_rows, moment_text_rows, negative_digits_rows, primary_rows, after_name_rows, after_scalar_rows, end_of_selector_rows, in_parens_rows, in_pair_rows, in_point_rows, sign_rows, prod_rows, more_prod_rows, sum_rows, more_sum_rows, cmp_rows, more_cmp_rows, neg_rows, conj_rows, more_and_rows, scalar_rows, more_or_rows, point_rows, kind_rows, attribute_rows, more_attributes_rows, in_heading_rows, heading_rows, more_names_rows, in_names_rows, in_list_rows}
+use Rattle.utd_syntax.proofs.FormValues.{over_makes, make_name, make_comma, make_date_text, make_moment_text, make_negative_digits, make_primary, make_after_name, make_after_scalar, make_end_of_selector, make_in_parens, make_in_pair, make_in_point, make_sign, make_prod, make_more_prod, make_sum, make_more_sum, make_cmp, make_more_cmp, make_neg, make_conj, make_more_and, make_scalar, make_more_or, make_point, make_kind, make_attribute, make_more_attributes, make_in_heading, make_heading, make_more_names, make_in_names, make_in_list}
 use Rattle.utd_ranges.specs.Ranges.{Range}
 use Rattle.utd_ranges.proofs.RangeForms.{RowsIn, over-in, then-in, append-in}
 
@@ -18,11 +18,14 @@ comma-in out = ((λ p b o v h. tt), tt)
 pub date_text-in : (out : Range) → RowsIn out DateText date_text_rows make_date_text
 date_text-in out = ((λ p b o v h. o), tt)
 
+pub moment_text-in : (out : Range) → RowsIn out MomentText moment_text_rows make_moment_text
+moment_text-in out = ((λ p b o v h. o), tt)
+
 pub negative_digits-in : (out : Range) → RowsIn out NegativeDigits negative_digits_rows make_negative_digits
 negative_digits-in out = ((λ p b o v h. o), tt)
 
 pub primary-in : (out : Range) → RowsIn out ThePrimary primary_rows make_primary
-primary-in out = ((λ p b o v h. o), ((λ p b o v h. o), ((λ p b o v h. h.0), ((λ p b o v h. tt), ((λ p b o v h. tt), ((λ p b o v h. (h.0 (word p b) o)), ((λ p b o v h. (h.1.0 p v.0 h.0)), ((λ p b o v h. (h.0, h.1.1.0)), ((λ p b o v h. h.0), ((λ p b o v h. h.0), ((λ p b o v h. h.0), ((λ p b o v h. h.0), ((λ p b o v h. h.0), ((λ p b o v h. h.0), ((λ p b o v h. h.0), ((λ p b o v h. h.0), ((λ p b o v h. h.0), ((λ p b o v h. (h.0.0, h.0.1)), ((λ p b o v h. (h.0.0, h.0.1)), ((λ p b o v h. (h.0.0, h.0.1)), tt))))))))))))))))))))
+primary-in out = ((λ p b o v h. o), ((λ p b o v h. o), ((λ p b o v h. h.0), ((λ p b o v h. h.0), ((λ p b o v h. tt), ((λ p b o v h. tt), ((λ p b o v h. (h.0 (word p b) o)), ((λ p b o v h. (h.1.0 p v.0 h.0)), ((λ p b o v h. (h.0, h.1.1.0)), ((λ p b o v h. h.0), ((λ p b o v h. h.0), ((λ p b o v h. h.0), ((λ p b o v h. h.0), ((λ p b o v h. h.0), ((λ p b o v h. h.0), ((λ p b o v h. h.0), ((λ p b o v h. h.0), ((λ p b o v h. h.0), ((λ p b o v h. (h.0.0, h.0.1)), ((λ p b o v h. (h.0.0, h.0.1)), ((λ p b o v h. (h.0.0, h.0.1)), tt)))))))))))))))))))))
 
 pub after_name-in : (out : Range) → RowsIn out AfterName after_name_rows make_after_name
 after_name-in out = ((λ p b o v h w hw. (hw, h.0)), tt)
@@ -79,7 +82,7 @@ pub more_or-in : (out : Range) → RowsIn out MoreOr more_or_rows make_more_or
 more_or-in out = ((λ p b o v h x hx. (h.1.0 (Or x p v.0) (hx, h.0))), tt)
 
 pub point-in : (out : Range) → RowsIn out ThePoint point_rows make_point
-point-in out = ((λ p b o v h. tt), ((λ p b o v h. tt), ((λ p b o v h. o), tt)))
+point-in out = ((λ p b o v h. tt), ((λ p b o v h. tt), ((λ p b o v h. tt), ((λ p b o v h. o), tt))))
 
 pub kind-in : (out : Range) → RowsIn out TheKind kind_rows make_kind
 kind-in out = append-in out TheKind (on t.Boolean Plain [] ∷ on t.Char Plain [] ∷ on t.Interval Plain (InPoint ∷ []) ∷ []) point_rows ((λ p b v. BooleanKind p), ((λ p b v. CharKind p), ((λ p b v. IntervalKind p v.0), tt))) (over_makes ThePoint TheKind (λ u. PointKind u) point_rows make_point) ((λ p b o v h. tt), ((λ p b o v h. tt), ((λ p b o v h. h.0), tt))) (over-in out ThePoint TheKind (λ u. PointKind u) (λ u hu. hu) point_rows make_point (point-in out))

@@ -2,9 +2,9 @@
 use Rattle.std.specs.Prelude.{ℕ, List, [], ◌∷◌, Bool, false, ◌||◌, not, nat_lt, nat_le, length}
 use Rattle.utd_syntax.specs.declared.terminal.Terminal.{Terminal}
 use Rattle.utd_syntax.specs.declared.terminal.Terminal.TheVariants.{Name, Digits, Quoted}
-use Rattle.utd_syntax.specs.Literals.{value_of, is_date, has_control}
+use Rattle.utd_syntax.specs.Literals.{value_of, is_date, is_moment, has_control}
 use Rattle.utd_syntax.specs.Pieces.{Piece}
-use Rattle.utd_syntax.specs.Table.{Load, TheStatement, Taking, Operator, Negated, Dated, Opens, OperatorOpens}
+use Rattle.utd_syntax.specs.Table.{Load, TheStatement, Taking, Operator, Negated, Dated, Timed, Opens, OperatorOpens}
 use Rattle.utd_syntax.specs.Verdict.{Verdict, Limits, verdict, at_start}
 use Rattle.value_core.specs.Limits.{most_name_bytes, most_text_bytes, most_levels, most_operators}
 
@@ -13,12 +13,13 @@ abbrev pub is_bad_text : List ℕ → Bool
 is_bad_text bytes = nat_lt most_text_bytes (length bytes) || has_control bytes
 
 -- a name of too many bytes; an integer that leaves 64 bits, behind its "-" and without one; the text of a date that
--- does not exist; a bad text
+-- does not exist, and that of such a moment; a bad text
 abbrev pub is_out_of_range : Taking → Terminal → List ℕ → Bool
 is_out_of_range how Name bytes = nat_lt most_name_bytes (length bytes)
 is_out_of_range Negated Digits bytes = nat_lt 9223372036854775808 (value_of bytes)
 is_out_of_range how Digits bytes = nat_lt 9223372036854775807 (value_of bytes)
 is_out_of_range Dated Quoted bytes = not (is_date bytes)
+is_out_of_range Timed Quoted bytes = not (is_moment bytes)
 is_out_of_range how Quoted bytes = is_bad_text bytes
 is_out_of_range how x bytes = false
 

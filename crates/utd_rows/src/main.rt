@@ -10,7 +10,7 @@ use std::alloc::Global;
 use std::{fs, io};
 
 /// The files of data/, by subject.
-const FILES: [&str; 44] = [
+const FILES: [&str; 46] = [
     "arranged.txt",
     "ask.txt",
     "assign.txt",
@@ -33,7 +33,9 @@ const FILES: [&str; 44] = [
     "limit_expression.txt",
     "list.txt",
     "list_constraint.txt",
+    "list_four.txt",
     "literal.txt",
+    "moment.txt",
     "name.txt",
     "pack.txt",
     "page.txt",

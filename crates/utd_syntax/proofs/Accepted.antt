@@ -6,7 +6,7 @@ use Rattle.utd_syntax.specs.declared.terminal.Terminal.TheVariants as t
 use Rattle.utd_syntax.specs.Pieces.{Piece, first, place_of}
 use Rattle.utd_syntax.specs.Plain.{StatementP}
 use Rattle.utd_syntax.specs.Written.{Spells, of_statement}
-use Rattle.utd_syntax.specs.Table.{Load, Symbol, TheName, Comma, DateText, NegativeDigits, ThePrimary, AfterName, AfterScalar, EndOfSelector, InParens, InPair, InPoint, TheSign, TheProd, MoreProd, TheSum, MoreSum, TheCmp, MoreCmp, TheNeg, TheConj, MoreAnd, TheScalar, MoreOr, ThePoint, TheKind, TheAttribute, MoreAttributes, InHeading, TheHeading, MoreNames, InNames, InList, TheNames, TheList, TheSomeNames, TheParenName, TheElement, MoreElements, InElements, TheElements, TheSomeElements, TheTuple, MoreTuples, InTuples, TheTuples, TheLiteral, AfterRelation, TheSetItem, MoreSetItems, TheSets, EmptyParens, TheAggregateForm, TheAggregate, MoreAggregates, TheAggregates, TheRenaming, MoreRenamings, TheRenamings, ThePortion, MaybePortion, MaybeWhere, InProjection, TheOperand, TheExtend, TheSummarize, TheRelPrimary, TheTerm, MorePostfix, TheTerms, MoreInfix, TheUsing, TheRel, TheUsingPart, AfterOperand, TheKey, TheForeign, TheUsedConstraint, TheConstraint, MoreConstraints, InRel, TheVarForm, TheComparison, AfterLeft, TheTest, TheUsedDeletion, TheUsedItem, TheDeletion, TheItem, MoreItems, TheAssign, TheStatement, Just, Worded, Shut, Taking, Plain, Operator, Separator, Negated, Dated, Opens, OperatorOpens, Turn, Never, Ends, Takes, Row, on, spelt, before, rows, may_end, same, fits, chosen, find, turn}
+use Rattle.utd_syntax.specs.Table.{Load, Symbol, TheName, Comma, DateText, MomentText, NegativeDigits, ThePrimary, AfterName, AfterScalar, EndOfSelector, InParens, InPair, InPoint, TheSign, TheProd, MoreProd, TheSum, MoreSum, TheCmp, MoreCmp, TheNeg, TheConj, MoreAnd, TheScalar, MoreOr, ThePoint, TheKind, TheAttribute, MoreAttributes, InHeading, TheHeading, MoreNames, InNames, InList, TheNames, TheList, TheSomeNames, TheParenName, TheElement, MoreElements, InElements, TheElements, TheSomeElements, TheTuple, MoreTuples, InTuples, TheTuples, TheLiteral, AfterRelation, TheSetItem, MoreSetItems, TheSets, EmptyParens, TheAggregateForm, TheAggregate, MoreAggregates, TheAggregates, TheRenaming, MoreRenamings, TheRenamings, ThePortion, MaybePortion, MaybeWhere, InProjection, TheOperand, TheExtend, TheSummarize, TheRelPrimary, TheTerm, MorePostfix, TheTerms, MoreInfix, TheUsing, TheRel, TheUsingPart, AfterOperand, TheKey, TheForeign, TheUsedConstraint, TheConstraint, MoreConstraints, InRel, TheVarForm, TheComparison, AfterLeft, TheTest, TheUsedDeletion, TheUsedItem, TheDeletion, TheItem, MoreItems, TheAssign, TheStatement, Just, Worded, Shut, Taking, Plain, Operator, Separator, Negated, Dated, Timed, Opens, OperatorOpens, Turn, Never, Ends, Takes, Row, on, spelt, before, rows, may_end, same, fits, chosen, find, turn}
 use Rattle.utd_syntax.proofs.Reader.{Built, Go, build, on_turn, read_at, on_end, read_end, read}
 use Rattle.utd_syntax.proofs.FormValues.{inner}
 use Rattle.utd_syntax.specs.Verdict.{Verdict, Whole, no_limits, verdict, reach, taken, ended, at_form, Reach, counted, stack_after, load_after}
@@ -45,28 +45,29 @@ bare-rows : (s : Symbol) → BareRows (rows s)
 bare-rows TheName = (refl, tt)
 bare-rows Comma = (refl, tt)
 bare-rows DateText = (refl, tt)
+bare-rows MomentText = (refl, tt)
 bare-rows NegativeDigits = (refl, tt)
-bare-rows ThePrimary = (refl, (refl, (refl, (refl, (refl, (refl, (refl, (refl, (refl, (refl, (refl, (refl, (refl, (refl, (refl, (refl, (refl, (refl, (refl, (refl, tt))))))))))))))))))))
+bare-rows ThePrimary = (refl, (refl, (refl, (refl, (refl, (refl, (refl, (refl, (refl, (refl, (refl, (refl, (refl, (refl, (refl, (refl, (refl, (refl, (refl, (refl, (refl, tt)))))))))))))))))))))
 bare-rows AfterName = (refl, tt)
 bare-rows AfterScalar = (refl, (refl, tt))
 bare-rows EndOfSelector = (refl, (refl, tt))
 bare-rows InParens = (refl, tt)
 bare-rows InPair = (refl, tt)
 bare-rows InPoint = (refl, tt)
-bare-rows TheSign = ((refl, refl), (refl, (refl, (refl, (refl, (refl, (refl, (refl, (refl, (refl, (refl, (refl, (refl, (refl, (refl, (refl, (refl, (refl, (refl, (refl, (refl, tt)))))))))))))))))))))
-bare-rows TheProd = ((refl, refl), (refl, (refl, (refl, (refl, (refl, (refl, (refl, (refl, (refl, (refl, (refl, (refl, (refl, (refl, (refl, (refl, (refl, (refl, (refl, (refl, tt)))))))))))))))))))))
+bare-rows TheSign = ((refl, refl), (refl, (refl, (refl, (refl, (refl, (refl, (refl, (refl, (refl, (refl, (refl, (refl, (refl, (refl, (refl, (refl, (refl, (refl, (refl, (refl, (refl, tt))))))))))))))))))))))
+bare-rows TheProd = ((refl, refl), (refl, (refl, (refl, (refl, (refl, (refl, (refl, (refl, (refl, (refl, (refl, (refl, (refl, (refl, (refl, (refl, (refl, (refl, (refl, (refl, (refl, tt))))))))))))))))))))))
 bare-rows MoreProd = (refl, (refl, tt))
-bare-rows TheSum = ((refl, refl), (refl, (refl, (refl, (refl, (refl, (refl, (refl, (refl, (refl, (refl, (refl, (refl, (refl, (refl, (refl, (refl, (refl, (refl, (refl, (refl, tt)))))))))))))))))))))
+bare-rows TheSum = ((refl, refl), (refl, (refl, (refl, (refl, (refl, (refl, (refl, (refl, (refl, (refl, (refl, (refl, (refl, (refl, (refl, (refl, (refl, (refl, (refl, (refl, (refl, tt))))))))))))))))))))))
 bare-rows MoreSum = (refl, (refl, (refl, tt)))
-bare-rows TheCmp = ((refl, refl), (refl, (refl, (refl, (refl, (refl, (refl, (refl, (refl, (refl, (refl, (refl, (refl, (refl, (refl, (refl, (refl, (refl, (refl, (refl, (refl, tt)))))))))))))))))))))
+bare-rows TheCmp = ((refl, refl), (refl, (refl, (refl, (refl, (refl, (refl, (refl, (refl, (refl, (refl, (refl, (refl, (refl, (refl, (refl, (refl, (refl, (refl, (refl, (refl, (refl, tt))))))))))))))))))))))
 bare-rows MoreCmp = (refl, (refl, (refl, (refl, (refl, (refl, (refl, (refl, (refl, (refl, (refl, (refl, (refl, (refl, (refl, (refl, tt))))))))))))))))
-bare-rows TheNeg = (refl, ((refl, refl), (refl, (refl, (refl, (refl, (refl, (refl, (refl, (refl, (refl, (refl, (refl, (refl, (refl, (refl, (refl, (refl, (refl, (refl, (refl, (refl, tt))))))))))))))))))))))
-bare-rows TheConj = (refl, ((refl, refl), (refl, (refl, (refl, (refl, (refl, (refl, (refl, (refl, (refl, (refl, (refl, (refl, (refl, (refl, (refl, (refl, (refl, (refl, (refl, (refl, tt))))))))))))))))))))))
+bare-rows TheNeg = (refl, ((refl, refl), (refl, (refl, (refl, (refl, (refl, (refl, (refl, (refl, (refl, (refl, (refl, (refl, (refl, (refl, (refl, (refl, (refl, (refl, (refl, (refl, (refl, tt)))))))))))))))))))))))
+bare-rows TheConj = (refl, ((refl, refl), (refl, (refl, (refl, (refl, (refl, (refl, (refl, (refl, (refl, (refl, (refl, (refl, (refl, (refl, (refl, (refl, (refl, (refl, (refl, (refl, (refl, tt)))))))))))))))))))))))
 bare-rows MoreAnd = (refl, tt)
-bare-rows TheScalar = (refl, ((refl, refl), (refl, (refl, (refl, (refl, (refl, (refl, (refl, (refl, (refl, (refl, (refl, (refl, (refl, (refl, (refl, (refl, (refl, (refl, (refl, (refl, tt))))))))))))))))))))))
+bare-rows TheScalar = (refl, ((refl, refl), (refl, (refl, (refl, (refl, (refl, (refl, (refl, (refl, (refl, (refl, (refl, (refl, (refl, (refl, (refl, (refl, (refl, (refl, (refl, (refl, (refl, tt)))))))))))))))))))))))
 bare-rows MoreOr = (refl, tt)
-bare-rows ThePoint = (refl, (refl, (refl, tt)))
-bare-rows TheKind = (refl, (refl, (refl, (refl, (refl, (refl, tt))))))
+bare-rows ThePoint = (refl, (refl, (refl, (refl, tt))))
+bare-rows TheKind = (refl, (refl, (refl, (refl, (refl, (refl, (refl, tt)))))))
 bare-rows TheAttribute = (refl, tt)
 bare-rows MoreAttributes = (refl, tt)
 bare-rows InHeading = (refl, (refl, tt))
@@ -162,6 +163,7 @@ pub bare-after : (how : Taking) (load : Load) (more stack : List Symbol) → bar
 bare-after Plain load more stack h = bare-append more stack ∙ ap (λ x. x ++ bare stack) h
 bare-after Negated load more stack h = bare-append more stack ∙ ap (λ x. x ++ bare stack) h
 bare-after Dated load more stack h = bare-append more stack ∙ ap (λ x. x ++ bare stack) h
+bare-after Timed load more stack h = bare-append more stack ∙ ap (λ x. x ++ bare stack) h
 bare-after Operator load more stack h = bare-append more stack ∙ ap (λ x. x ++ bare stack) h
 bare-after Separator load more stack h = bare-append more stack ∙ ap (λ x. x ++ bare stack) h
 bare-after (Opens f) load more stack h = bare-append f (Shut load ∷ (more ++ stack)) ∙ ap (λ x. bare f ++ x) (bare-append more stack) ∙ sym (append_assoc (bare f) (bare more) (bare stack)) ∙ ap (λ x. x ++ bare stack) (sym (bare-append f more) ∙ h)

@@ -7,7 +7,7 @@ use Rattle.point_core.specs.declared.fault.Place.{Place}
 use Rattle.utd_syntax.specs.Pieces.{Piece, first, place_of}
 use Rattle.utd_syntax.specs.Plain.{StatementP}
 use Rattle.utd_syntax.specs.Terminals.{spelling, is_token, AreTokens}
-use Rattle.utd_syntax.specs.Table.{Load, Symbol, TheName, Comma, DateText, NegativeDigits, ThePrimary, AfterName, AfterScalar, EndOfSelector, InParens, InPair, InPoint, TheSign, TheProd, MoreProd, TheSum, MoreSum, TheCmp, MoreCmp, TheNeg, TheConj, MoreAnd, TheScalar, MoreOr, ThePoint, TheKind, TheAttribute, MoreAttributes, InHeading, TheHeading, MoreNames, InNames, InList, TheNames, TheList, TheSomeNames, TheParenName, TheElement, MoreElements, InElements, TheElements, TheSomeElements, TheTuple, MoreTuples, InTuples, TheTuples, TheLiteral, AfterRelation, TheSetItem, MoreSetItems, TheSets, EmptyParens, TheAggregateForm, TheAggregate, MoreAggregates, TheAggregates, TheRenaming, MoreRenamings, TheRenamings, ThePortion, MaybePortion, MaybeWhere, InProjection, TheOperand, TheExtend, TheSummarize, TheRelPrimary, TheTerm, MorePostfix, TheTerms, MoreInfix, TheUsing, TheRel, TheUsingPart, AfterOperand, TheKey, TheForeign, TheUsedConstraint, TheConstraint, MoreConstraints, InRel, TheVarForm, TheComparison, AfterLeft, TheTest, TheUsedDeletion, TheUsedItem, TheDeletion, TheItem, MoreItems, TheAssign, TheStatement, Just, Worded, Shut, Plain, Never, Takes, same, same_bytes}
+use Rattle.utd_syntax.specs.Table.{Load, Symbol, TheName, Comma, DateText, MomentText, NegativeDigits, ThePrimary, AfterName, AfterScalar, EndOfSelector, InParens, InPair, InPoint, TheSign, TheProd, MoreProd, TheSum, MoreSum, TheCmp, MoreCmp, TheNeg, TheConj, MoreAnd, TheScalar, MoreOr, ThePoint, TheKind, TheAttribute, MoreAttributes, InHeading, TheHeading, MoreNames, InNames, InList, TheNames, TheList, TheSomeNames, TheParenName, TheElement, MoreElements, InElements, TheElements, TheSomeElements, TheTuple, MoreTuples, InTuples, TheTuples, TheLiteral, AfterRelation, TheSetItem, MoreSetItems, TheSets, EmptyParens, TheAggregateForm, TheAggregate, MoreAggregates, TheAggregates, TheRenaming, MoreRenamings, TheRenamings, ThePortion, MaybePortion, MaybeWhere, InProjection, TheOperand, TheExtend, TheSummarize, TheRelPrimary, TheTerm, MorePostfix, TheTerms, MoreInfix, TheUsing, TheRel, TheUsingPart, AfterOperand, TheKey, TheForeign, TheUsedConstraint, TheConstraint, MoreConstraints, InRel, TheVarForm, TheComparison, AfterLeft, TheTest, TheUsedDeletion, TheUsedItem, TheDeletion, TheItem, MoreItems, TheAssign, TheStatement, Just, Worded, Shut, Plain, Never, Takes, same, same_bytes}
 use Rattle.utd_syntax.proofs.FormValues.{Val, Vals}
 use Rattle.utd_syntax.proofs.Reader.{Go, pick, split, on_turn, read_at, read}
 use Rattle.utd_syntax.proofs.FormEnds.{Halts, Calm2, Calm3, Calm4, Calm5, Calm6, Calm9, Calm11, Calm15, Calm16, Calm17, Calm19, Calm20, AfterName-end, MoreProd-end, MoreSum-end, MoreCmp-end, MoreAnd-end, MoreOr-end, MoreAttributes-end, MoreNames-end, MoreElements-end, MoreTuples-end, MoreSetItems-end, MoreAggregates-end, MoreRenamings-end, MaybePortion-end, MaybeWhere-end, MorePostfix-end, MoreInfix-end, MoreConstraints-end, MoreItems-end}
@@ -18,6 +18,7 @@ abbrev pub ending : Symbol → List (Terminal × List ℕ)
 ending TheName = (t.Name, spelling t.Name) ∷ []
 ending Comma = (t.Comma, spelling t.Comma) ∷ []
 ending DateText = (t.Quoted, spelling t.Quoted) ∷ []
+ending MomentText = (t.Quoted, spelling t.Quoted) ∷ []
 ending NegativeDigits = (t.Digits, spelling t.Digits) ∷ []
 ending ThePrimary = (t.True, spelling t.True) ∷ []
 ending AfterName = []
@@ -203,6 +204,7 @@ complete-reads [] g k = (k tt, refl)
 complete-reads (TheName ∷ st) g k = complete-reads st g.1 _
 complete-reads (Comma ∷ st) g k = complete-reads st g.1 _
 complete-reads (DateText ∷ st) g k = complete-reads st g.1 _
+complete-reads (MomentText ∷ st) g k = complete-reads st g.1 _
 complete-reads (NegativeDigits ∷ st) g k = complete-reads st g.1 _
 complete-reads (ThePrimary ∷ st) g k = complete-reads st g.1 _
 complete-reads (AfterName ∷ st) g k = by _ _ (AfterName-end (complete st) _ _ g.0) (complete-reads st g.1 _)
@@ -301,6 +303,7 @@ complete-tokens [] g = tt
 complete-tokens (TheName ∷ st) g = (refl, complete-tokens st g.1)
 complete-tokens (Comma ∷ st) g = (refl, complete-tokens st g.1)
 complete-tokens (DateText ∷ st) g = (refl, complete-tokens st g.1)
+complete-tokens (MomentText ∷ st) g = (refl, complete-tokens st g.1)
 complete-tokens (NegativeDigits ∷ st) g = (refl, complete-tokens st g.1)
 complete-tokens (ThePrimary ∷ st) g = (refl, complete-tokens st g.1)
 complete-tokens (AfterName ∷ st) g = complete-tokens st g.1

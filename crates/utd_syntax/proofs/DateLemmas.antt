@@ -6,18 +6,18 @@ use Rattle.std.proofs.lemmas.Bool.{le-leb, leb-true, eqb-true, and_parts}
 use Rattle.point_core.specs.Dates.{IsCalendarDate, IsDateText, date_text, date_number, four_digits, two_digits, days_of_month, month_days, is_leap}
 use Rattle.utd_syntax.specs.Literals.{value_of, is_digit, are_digits, is_day, is_date, number_of_date}
 
-two-value : (n : ℕ) → n ≤ 99 → value_of (two_digits n) ≡ n
+pub two-value : (n : ℕ) → n ≤ 99 → value_of (two_digits n) ≡ n
 two-value n h = omega arith
 
 four-value : (n : ℕ) → n ≤ 9999 → value_of (four_digits n) ≡ n
 four-value n h = omega arith
 
-all : (a b : Bool) → a ≡ true → b ≡ true → (a && b) ≡ true
+pub all : (a b : Bool) → a ≡ true → b ≡ true → (a && b) ≡ true
 all true true e f = refl
 all true false e f = absurd cc
 all false b e f = absurd cc
 
-digit : (n : ℕ) → n ≤ 9 → is_digit (48 + n) ≡ true
+pub digit : (n : ℕ) → n ≤ 9 → is_digit (48 + n) ≡ true
 digit n h = all (nat_le 48 (48 + n)) (nat_le (48 + n) 57) (le-leb 48 (48 + n) (omega arith)) (le-leb (48 + n) 57 (omega arith))
 
 digit-back : (c : ℕ) → is_digit c ≡ true → (48 ≤ c) × (c ≤ 57)
@@ -32,7 +32,7 @@ day year month date h =
     let e = le-leb date (days_of_month year month) h.5 in
     search (all)
 
-split : (c : ℕ) (cs : List ℕ) → are_digits (c ∷ cs) ≡ true → (is_digit c ≡ true) × (are_digits cs ≡ true)
+pub split : (c : ℕ) (cs : List ℕ) → are_digits (c ∷ cs) ≡ true → (is_digit c ≡ true) × (are_digits cs ≡ true)
 split c cs t = ((and_parts (is_digit c) (are_digits cs) t).0, (and_parts (is_digit c) (are_digits cs) t).1)
 
 are-digits : (a b c d e f g h : ℕ) → a ≤ 9 → b ≤ 9 → c ≤ 9 → d ≤ 9 → e ≤ 9 → f ≤ 9 → g ≤ 9 → h ≤ 9 →
@@ -62,7 +62,7 @@ few-days year (suc (suc (suc (suc (suc (suc (suc (suc (suc (suc zero)))))))))) =
 few-days year (suc (suc (suc (suc (suc (suc (suc (suc (suc (suc (suc zero))))))))))) = omega arith
 few-days year (suc (suc (suc (suc (suc (suc (suc (suc (suc (suc (suc (suc i)))))))))))) = omega arith
 
-dated : (year month date : ℕ) → IsCalendarDate year month date → is_date (date_text year month date) ≡ true
+pub dated : (year month date : ℕ) → IsCalendarDate year month date → is_date (date_text year month date) ≡ true
 dated year month date h =
     let small : date ≤ 99 = omega (arith, h.5, few-days year (month - 1)) in
     let y = four-value year h.1 in
@@ -73,7 +73,7 @@ dated year month date h =
     let e : is_day (value_of (four_digits year)) (value_of (two_digits month)) (value_of (two_digits date)) ≡ true = rw (y, m, d) (day year month date h) in
     search (all)
 
-numbered : (year month date : ℕ) → IsCalendarDate year month date → number_of_date (date_text year month date) ≡ date_number year month date
+pub numbered : (year month date : ℕ) → IsCalendarDate year month date → number_of_date (date_text year month date) ≡ date_number year month date
 numbered year month date h =
     let small : date ≤ 99 = omega (arith, h.5, few-days year (month - 1)) in
     let y = four-value year h.1 in
@@ -89,7 +89,7 @@ five-parts : (a b c d f : Bool) → (a && b && c && d && f) ≡ true → (a ≡ 
 five-parts true true true true true e = (refl, refl, refl, refl, refl)
 five-parts _ _ _ _ _ e = absurd cc
 
-two-digits : (a b n : ℕ) → is_digit a ≡ true → is_digit b ≡ true → n ≡ value_of (a ∷ b ∷ []) → (a ≡ 48 + n / 10) × (b ≡ 48 + n % 10)
+pub two-digits : (a b n : ℕ) → is_digit a ≡ true → is_digit b ≡ true → n ≡ value_of (a ∷ b ∷ []) → (a ≡ 48 + n / 10) × (b ≡ 48 + n % 10)
 two-digits a b n i j e =
     let x = digit-back a i in let y = digit-back b j in
     (omega (arith, x, y, e), omega (arith, x, y, e))
@@ -146,7 +146,7 @@ date-is bytes n h = rw h.4 (dated h.0 h.1 h.2 h.3)
 pub date-number : (bytes : List ℕ) (n : ℤ) → IsDateText bytes n → number_of_date bytes ≡ n
 date-number bytes n h = rw h.4 (numbered h.0 h.1 h.2 h.3 ∙ sym h.5)
 
-not-true : (b : Bool) → (b ≡ true → ⊥) → b ≡ false
+pub not-true : (b : Bool) → (b ≡ true → ⊥) → b ≡ false
 not-true true h = absurd (h refl)
 not-true false h = refl
 

@@ -16,7 +16,7 @@ use Rattle.utd_syntax.specs.declared.words.InfixWord.TheVariants as infixes
 use Rattle.utd_syntax.specs.declared.words.PackWord.TheVariants as pack_words
 use Rattle.utd_syntax.specs.declared.words.RelationComparison.TheVariants as relation_comparisons
 use Rattle.utd_syntax.specs.Pieces.{Piece, first}
-use Rattle.utd_syntax.specs.Plain.{ConjP, NegP, CmpP, SumP, ProdP, SignP, PrimaryP, LiteralP, PortionP, RelP, TermsP, TermP, RelPrimaryP, OperandP, ExtendP, SummarizeP, UsingP, KeyP, ForeignP, ConstraintP, ComparisonP, ItemP, AssignP, StatementP, OneConj, OneNeg, And, Not, OneCmp, OneSum, Compare, OneProd, Add, OneSign, Multiply, NegativeInteger, Negate, OnePrimary, IntegerLiteral, TextLiteral, DateLiteral, TrueLiteral, FalseLiteral, AttributeName, Dotted, Paren, Selector, Extreme, Function, PairFunction, PointKind, Attribute, Heading, Tuple, Tuples, Headed, Portion, Onto, AllBut, OfUsing, OfTerms, OneTerm, Infix, NotMatching, OneRelPrimary, Project, Filter, Rename, OfExtend, OfSummarize, OfOperand, Relvar, OfLiteral, ParenRel, PackOn, Extend, Summarize, Using, UsingExtend, UsingSummarize, Key, Foreign, UsedKey, UsedForeign, KeyOf, ForeignOf, PackedOn, WhenUnpacked, UsingConstraint, Comparison, OfComparison, UsedDeleteRows, DeletePortion, DeleteRows, SetRelvar, Insert, Delete, Update, Terminate, UsingItem, Assign, Assignment}
+use Rattle.utd_syntax.specs.Plain.{ConjP, NegP, CmpP, SumP, ProdP, SignP, PrimaryP, LiteralP, PortionP, RelP, TermsP, TermP, RelPrimaryP, OperandP, ExtendP, SummarizeP, UsingP, KeyP, ForeignP, ConstraintP, ComparisonP, ItemP, AssignP, StatementP, OneConj, OneNeg, And, Not, OneCmp, OneSum, Compare, OneProd, Add, OneSign, Multiply, NegativeInteger, Negate, OnePrimary, IntegerLiteral, TextLiteral, DateLiteral, MomentLiteral, TrueLiteral, FalseLiteral, AttributeName, Dotted, Paren, Selector, Extreme, Function, PairFunction, PointKind, Attribute, Heading, Tuple, Tuples, Headed, Portion, Onto, AllBut, OfUsing, OfTerms, OneTerm, Infix, NotMatching, OneRelPrimary, Project, Filter, Rename, OfExtend, OfSummarize, OfOperand, Relvar, OfLiteral, ParenRel, PackOn, Extend, Summarize, Using, UsingExtend, UsingSummarize, Key, Foreign, UsedKey, UsedForeign, KeyOf, ForeignOf, PackedOn, WhenUnpacked, UsingConstraint, Comparison, OfComparison, UsedDeleteRows, DeletePortion, DeleteRows, SetRelvar, Insert, Delete, Update, Terminate, UsingItem, Assign, Assignment}
 use Rattle.utd_syntax.specs.Written.{Spells, token, placed, of_scalar, of_conj, of_neg, of_cmp, of_sum, of_prod, of_sign, of_primary, of_literal, of_renamings, of_portion, of_projection, of_rel, of_terms, of_term, of_rel_primary, of_operand, of_extend, of_summarize, of_using, of_key, of_foreign, of_constraint, of_comparison, of_item, of_more_items, of_assign}
 use Rattle.utd_syntax.specs.Table.{Symbol, ThePrimary, TheSign, TheProd, MoreProd, TheSum, MoreSum, TheCmp, MoreCmp, TheNeg, TheConj, MoreAnd, TheScalar, MoreOr, ThePoint, TheKind, TheLiteral, ThePortion, MaybeWhere, TheOperand, TheExtend, TheSummarize, TheRelPrimary, TheTerm, MorePostfix, TheTerms, MoreInfix, TheUsing, TheRel, TheUsingPart, AfterOperand, TheKey, TheForeign, TheUsedConstraint, TheConstraint, MoreConstraints, TheComparison, AfterLeft, TheTest, TheUsedDeletion, TheDeletion, TheItem, MoreItems, TheAssign, TheStatement, Just}
 use Rattle.utd_syntax.proofs.Reader.{Go, read_at, read}
@@ -71,6 +71,7 @@ mutual
   primary-first (IntegerLiteral p c) ts rest h = begins Starts_primary _ ts rest tt h
   primary-first (TextLiteral p c) ts rest h = begins Starts_primary _ ts rest tt h
   primary-first (DateLiteral p q c) ts rest h = begins Starts_primary _ ts rest tt h
+  primary-first (MomentLiteral p q c) ts rest h = begins Starts_primary _ ts rest tt h
   primary-first (TrueLiteral p) ts rest h = begins Starts_primary _ ts rest tt h
   primary-first (FalseLiteral p) ts rest h = begins Starts_primary _ ts rest tt h
   primary-first (AttributeName n) ts rest h = begins Starts_primary _ ts rest tt h
@@ -189,6 +190,7 @@ scalar-is-conj t.First n p b next stack k h = refl
 scalar-is-conj t.Intersect n p b next stack k h = refl
 scalar-is-conj t.Last n p b next stack k h = refl
 scalar-is-conj t.Minus n p b next stack k h = refl
+scalar-is-conj t.Moment n p b next stack k h = refl
 scalar-is-conj t.Name n p b next stack k h = refl
 scalar-is-conj t.Next n p b next stack k h = refl
 scalar-is-conj t.Not n p b next stack k h = refl
@@ -219,6 +221,7 @@ conj-is-neg t.First n p b next stack k h = refl
 conj-is-neg t.Intersect n p b next stack k h = refl
 conj-is-neg t.Last n p b next stack k h = refl
 conj-is-neg t.Minus n p b next stack k h = refl
+conj-is-neg t.Moment n p b next stack k h = refl
 conj-is-neg t.Name n p b next stack k h = refl
 conj-is-neg t.Next n p b next stack k h = refl
 conj-is-neg t.Not n p b next stack k h = refl
@@ -249,6 +252,7 @@ neg-is-cmp t.First n p b next stack k h = refl
 neg-is-cmp t.Intersect n p b next stack k h = refl
 neg-is-cmp t.Last n p b next stack k h = refl
 neg-is-cmp t.Minus n p b next stack k h = refl
+neg-is-cmp t.Moment n p b next stack k h = refl
 neg-is-cmp t.Name n p b next stack k h = refl
 neg-is-cmp t.Next n p b next stack k h = refl
 neg-is-cmp t.Open n p b next stack k h = refl
@@ -278,6 +282,7 @@ cmp-is-sum t.First n p b next stack k h = refl
 cmp-is-sum t.Intersect n p b next stack k h = refl
 cmp-is-sum t.Last n p b next stack k h = refl
 cmp-is-sum t.Minus n p b next stack k h = refl
+cmp-is-sum t.Moment n p b next stack k h = refl
 cmp-is-sum t.Name n p b next stack k h = refl
 cmp-is-sum t.Next n p b next stack k h = refl
 cmp-is-sum t.Open n p b next stack k h = refl
@@ -307,6 +312,7 @@ sum-is-prod t.First n p b next stack k h = refl
 sum-is-prod t.Intersect n p b next stack k h = refl
 sum-is-prod t.Last n p b next stack k h = refl
 sum-is-prod t.Minus n p b next stack k h = refl
+sum-is-prod t.Moment n p b next stack k h = refl
 sum-is-prod t.Name n p b next stack k h = refl
 sum-is-prod t.Next n p b next stack k h = refl
 sum-is-prod t.Open n p b next stack k h = refl
@@ -336,6 +342,7 @@ prod-is-sign t.First n p b next stack k h = refl
 prod-is-sign t.Intersect n p b next stack k h = refl
 prod-is-sign t.Last n p b next stack k h = refl
 prod-is-sign t.Minus n p b next stack k h = refl
+prod-is-sign t.Moment n p b next stack k h = refl
 prod-is-sign t.Name n p b next stack k h = refl
 prod-is-sign t.Next n p b next stack k h = refl
 prod-is-sign t.Open n p b next stack k h = refl
@@ -363,6 +370,7 @@ sign-is-primary t.First n p b next stack k h = refl
 sign-is-primary t.Intersect n p b next stack k h = refl
 sign-is-primary t.Last n p b next stack k h = refl
 sign-is-primary t.Minus n p b next stack k h = refl
+sign-is-primary t.Moment n p b next stack k h = refl
 sign-is-primary t.Name n p b next stack k h = refl
 sign-is-primary t.Next n p b next stack k h = refl
 sign-is-primary t.Open n p b next stack k h = refl
@@ -382,6 +390,7 @@ sign-as-primary (x ∷ ts) stack k h = sign-is-primary x.terminal (first ts) x.p
 pub kind-is-point : (x n : Terminal) (p : Place) (b : List ℕ) (next : (st : List Symbol) → Go st → Option StatementP) (stack : List Symbol) (k : Go (TheKind ∷ stack)) → Starts_point x → read_at x n p b next (TheKind ∷ stack) k ≡ read_at x n p b next (ThePoint ∷ stack) (λ v. k (PointKind v.0, v.1))
 kind-is-point t.Date n p b next stack k h = refl
 kind-is-point t.Integer n p b next stack k h = refl
+kind-is-point t.Moment n p b next stack k h = refl
 kind-is-point t.Name n p b next stack k h = refl
 kind-is-point _ n p b next stack k h = absurd h
 

@@ -5,7 +5,7 @@ use Rattle.utd_syntax.specs.declared.terminal.Terminal.{Terminal}
 use Rattle.utd_syntax.specs.declared.terminal.Terminal.TheVariants as t
 use Rattle.point_core.specs.declared.fault.Place.{Place}
 use Rattle.utd_syntax.specs.Pieces.{Piece, first}
-use Rattle.utd_syntax.specs.Plain.{PointP, StatementP, IntegerType, DateType, NamedType, OneSum, AttributeName, NoPortion, NoCondition}
+use Rattle.utd_syntax.specs.Plain.{PointP, StatementP, IntegerType, DateType, MomentType, NamedType, OneSum, AttributeName, NoPortion, NoCondition}
 use Rattle.utd_syntax.specs.Written.{Spells, of_point}
 use Rattle.utd_syntax.specs.Table.{Symbol, AfterName, MoreProd, MoreSum, MoreCmp, MoreAnd, MoreOr, MoreAttributes, MoreNames, MoreElements, MoreTuples, MoreSetItems, MoreAggregates, MoreRenamings, MaybePortion, MaybeWhere, MorePostfix, MoreInfix, MoreConstraints, MoreItems, Taking, Turn, Ends, Takes, Row, on, spelt, before, same, fits, chosen, find, turn, after_name_rows, more_prod_rows, more_sum_rows, more_cmp_rows, more_and_rows, more_or_rows, more_attributes_rows, more_names_rows, more_elements_rows, more_tuples_rows, more_set_items_rows, more_aggregates_rows, more_renamings_rows, maybe_portion_rows, maybe_where_rows, more_postfix_rows, more_infix_rows, more_constraints_rows, more_items_rows}
 use Rattle.utd_syntax.proofs.FormValues.{Val, Makes, make_after_name, make_more_prod, make_more_sum, make_more_cmp, make_more_and, make_more_or, make_more_attributes, make_more_names}
@@ -177,6 +177,7 @@ MoreItems-end (x ∷ ts) stack k h = halting MoreItems more_items_rows make_more
 abbrev pub Starts_point : Terminal → Type 0
 Starts_point t.Date = Unit {0}
 Starts_point t.Integer = Unit {0}
+Starts_point t.Moment = Unit {0}
 Starts_point t.Name = Unit {0}
 Starts_point _ = ⊥
 
@@ -192,6 +193,7 @@ Starts_conj t.First = Unit {0}
 Starts_conj t.Intersect = Unit {0}
 Starts_conj t.Last = Unit {0}
 Starts_conj t.Minus = Unit {0}
+Starts_conj t.Moment = Unit {0}
 Starts_conj t.Name = Unit {0}
 Starts_conj t.Next = Unit {0}
 Starts_conj t.Not = Unit {0}
@@ -217,6 +219,7 @@ Starts_cmp t.First = Unit {0}
 Starts_cmp t.Intersect = Unit {0}
 Starts_cmp t.Last = Unit {0}
 Starts_cmp t.Minus = Unit {0}
+Starts_cmp t.Moment = Unit {0}
 Starts_cmp t.Name = Unit {0}
 Starts_cmp t.Next = Unit {0}
 Starts_cmp t.Open = Unit {0}
@@ -240,6 +243,7 @@ Starts_primary t.First = Unit {0}
 Starts_primary t.Intersect = Unit {0}
 Starts_primary t.Last = Unit {0}
 Starts_primary t.Minus = Unit {0}
+Starts_primary t.Moment = Unit {0}
 Starts_primary t.Name = Unit {0}
 Starts_primary t.Next = Unit {0}
 Starts_primary t.Open = Unit {0}
@@ -338,6 +342,7 @@ Starts_cmp-Starts_conj t.First h = tt
 Starts_cmp-Starts_conj t.Intersect h = tt
 Starts_cmp-Starts_conj t.Last h = tt
 Starts_cmp-Starts_conj t.Minus h = tt
+Starts_cmp-Starts_conj t.Moment h = tt
 Starts_cmp-Starts_conj t.Name h = tt
 Starts_cmp-Starts_conj t.Next h = tt
 Starts_cmp-Starts_conj t.Open h = tt
@@ -361,6 +366,7 @@ Starts_primary-Starts_cmp t.First h = tt
 Starts_primary-Starts_cmp t.Intersect h = tt
 Starts_primary-Starts_cmp t.Last h = tt
 Starts_primary-Starts_cmp t.Minus h = tt
+Starts_primary-Starts_cmp t.Moment h = tt
 Starts_primary-Starts_cmp t.Name h = tt
 Starts_primary-Starts_cmp t.Next h = tt
 Starts_primary-Starts_cmp t.Open h = tt
@@ -418,4 +424,5 @@ Starts_foreign-Starts_constraint _ h = absurd h
 pub point-first : (x : PointP) (ts rest : List Piece) → Spells (of_point x) ts rest → Starts_point (first ts)
 point-first (IntegerType p) ts rest h = begins Starts_point _ ts rest tt h
 point-first (DateType p) ts rest h = begins Starts_point _ ts rest tt h
+point-first (MomentType p) ts rest h = begins Starts_point _ ts rest tt h
 point-first (NamedType n) ts rest h = begins Starts_point _ ts rest tt h

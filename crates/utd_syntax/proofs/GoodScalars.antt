@@ -1,7 +1,7 @@
 -- Written by tools/grammar; change it there.
 -- The rows of row expressions and of parts of statements keep stacks good.
 use Rattle.std.proofs.Common.{List, [], ◌∷◌, ◌++◌, refl}
-use Rattle.utd_syntax.specs.Table.{Symbol, TheName, Comma, DateText, NegativeDigits, ThePrimary, AfterName, AfterScalar, EndOfSelector, InParens, InPair, InPoint, TheSign, TheProd, MoreProd, TheSum, MoreSum, TheCmp, MoreCmp, TheNeg, TheConj, MoreAnd, TheScalar, MoreOr, ThePoint, TheKind, TheAttribute, MoreAttributes, InHeading, TheHeading, MoreNames, InNames, InList, TheNames, Row, on, spelt, before, name_rows, comma_rows, date_text_rows, negative_digits_rows, primary_rows, after_name_rows, after_scalar_rows, end_of_selector_rows, in_parens_rows, in_pair_rows, in_point_rows, sign_rows, prod_rows, more_prod_rows, sum_rows, more_sum_rows, cmp_rows, more_cmp_rows, neg_rows, conj_rows, more_and_rows, scalar_rows, more_or_rows, point_rows, kind_rows, attribute_rows, more_attributes_rows, in_heading_rows, heading_rows, more_names_rows, in_names_rows, in_list_rows, names_rows}
+use Rattle.utd_syntax.specs.Table.{Symbol, TheName, Comma, DateText, MomentText, NegativeDigits, ThePrimary, AfterName, AfterScalar, EndOfSelector, InParens, InPair, InPoint, TheSign, TheProd, MoreProd, TheSum, MoreSum, TheCmp, MoreCmp, TheNeg, TheConj, MoreAnd, TheScalar, MoreOr, ThePoint, TheKind, TheAttribute, MoreAttributes, InHeading, TheHeading, MoreNames, InNames, InList, TheNames, Row, on, spelt, before, name_rows, comma_rows, date_text_rows, moment_text_rows, negative_digits_rows, primary_rows, after_name_rows, after_scalar_rows, end_of_selector_rows, in_parens_rows, in_pair_rows, in_point_rows, sign_rows, prod_rows, more_prod_rows, sum_rows, more_sum_rows, cmp_rows, more_cmp_rows, neg_rows, conj_rows, more_and_rows, scalar_rows, more_or_rows, point_rows, kind_rows, attribute_rows, more_attributes_rows, in_heading_rows, heading_rows, more_names_rows, in_names_rows, in_list_rows, names_rows}
 use Rattle.utd_syntax.proofs.FormValues.{inner}
 use Rattle.utd_syntax.proofs.Completions.{Good}
 
@@ -27,6 +27,9 @@ good-comma = ((λ st g. g.1), tt)
 pub good-date_text : GoodRows DateText date_text_rows
 good-date_text = ((λ st g. g.1), tt)
 
+pub good-moment_text : GoodRows MomentText moment_text_rows
+good-moment_text = ((λ st g. g.1), tt)
+
 pub good-negative_digits : GoodRows NegativeDigits negative_digits_rows
 good-negative_digits = ((λ st g. g.1), tt)
 
@@ -38,17 +41,17 @@ good-the_primary = (
     (
       (λ st g. (tt, g.1)),
       (
-        (λ st g. g.1),
+        (λ st g. (tt, g.1)),
         (
           (λ st g. g.1),
           (
-            (λ st g. (g.0, g.1)),
+            (λ st g. g.1),
             (
-              (λ st g. ((refl, (refl, (refl, (refl, (refl, refl))))), (tt, g.1))),
+              (λ st g. (g.0, g.1)),
               (
-                (λ st g. ((refl, (refl, (refl, (refl, (refl, refl))))), (refl, ((refl, (refl, (refl, (refl, (refl, refl))))), (tt, g.1))))),
+                (λ st g. ((refl, (refl, (refl, (refl, (refl, refl))))), (tt, g.1))),
                 (
-                  (λ st g. (tt, g.1)),
+                  (λ st g. ((refl, (refl, (refl, (refl, (refl, refl))))), (refl, ((refl, (refl, (refl, (refl, (refl, refl))))), (tt, g.1))))),
                   (
                     (λ st g. (tt, g.1)),
                     (
@@ -71,7 +74,10 @@ good-the_primary = (
                                       (λ st g. (tt, g.1)),
                                       (
                                         (λ st g. (tt, g.1)),
-                                        tt,
+                                        (
+                                          (λ st g. (tt, g.1)),
+                                          tt,
+                                        ),
                                       ),
                                     ),
                                   ),
@@ -133,17 +139,17 @@ good-the_sign = (
       (
         (λ st g. (tt, g.1)),
         (
-          (λ st g. g.1),
+          (λ st g. (tt, g.1)),
           (
             (λ st g. g.1),
             (
-              (λ st g. (g.0, g.1)),
+              (λ st g. g.1),
               (
-                (λ st g. ((refl, (refl, (refl, (refl, (refl, refl))))), (tt, g.1))),
+                (λ st g. (g.0, g.1)),
                 (
-                  (λ st g. ((refl, (refl, (refl, (refl, (refl, refl))))), (refl, ((refl, (refl, (refl, (refl, (refl, refl))))), (tt, g.1))))),
+                  (λ st g. ((refl, (refl, (refl, (refl, (refl, refl))))), (tt, g.1))),
                   (
-                    (λ st g. (tt, g.1)),
+                    (λ st g. ((refl, (refl, (refl, (refl, (refl, refl))))), (refl, ((refl, (refl, (refl, (refl, (refl, refl))))), (tt, g.1))))),
                     (
                       (λ st g. (tt, g.1)),
                       (
@@ -166,7 +172,10 @@ good-the_sign = (
                                         (λ st g. (tt, g.1)),
                                         (
                                           (λ st g. (tt, g.1)),
-                                          tt,
+                                          (
+                                            (λ st g. (tt, g.1)),
+                                            tt,
+                                          ),
                                         ),
                                       ),
                                     ),
@@ -199,17 +208,17 @@ good-the_prod = (
       (
         (λ st g. (tt, (g.0, g.1))),
         (
-          (λ st g. (g.0, g.1)),
+          (λ st g. (tt, (g.0, g.1))),
           (
             (λ st g. (g.0, g.1)),
             (
-              (λ st g. (g.0.1, (g.0, g.1))),
+              (λ st g. (g.0, g.1)),
               (
-                (λ st g. ((refl, (refl, (refl, (refl, (refl, refl))))), (tt, (g.0, g.1)))),
+                (λ st g. (g.0.1, (g.0, g.1))),
                 (
-                  (λ st g. ((refl, (refl, (refl, (refl, (refl, refl))))), (refl, ((refl, (refl, (refl, (refl, (refl, refl))))), (tt, (g.0, g.1)))))),
+                  (λ st g. ((refl, (refl, (refl, (refl, (refl, refl))))), (tt, (g.0, g.1)))),
                   (
-                    (λ st g. (tt, (g.0, g.1))),
+                    (λ st g. ((refl, (refl, (refl, (refl, (refl, refl))))), (refl, ((refl, (refl, (refl, (refl, (refl, refl))))), (tt, (g.0, g.1)))))),
                     (
                       (λ st g. (tt, (g.0, g.1))),
                       (
@@ -232,7 +241,10 @@ good-the_prod = (
                                         (λ st g. (tt, (g.0, g.1))),
                                         (
                                           (λ st g. (tt, (g.0, g.1))),
-                                          tt,
+                                          (
+                                            (λ st g. (tt, (g.0, g.1))),
+                                            tt,
+                                          ),
                                         ),
                                       ),
                                     ),
@@ -274,17 +286,17 @@ good-the_sum = (
       (
         (λ st g. (tt, (g.0.1, (g.0, g.1)))),
         (
-          (λ st g. (g.0.1, (g.0, g.1))),
+          (λ st g. (tt, (g.0.1, (g.0, g.1)))),
           (
             (λ st g. (g.0.1, (g.0, g.1))),
             (
-              (λ st g. (g.0.1.1, (g.0.1, (g.0, g.1)))),
+              (λ st g. (g.0.1, (g.0, g.1))),
               (
-                (λ st g. ((refl, (refl, (refl, (refl, (refl, refl))))), (tt, (g.0.1, (g.0, g.1))))),
+                (λ st g. (g.0.1.1, (g.0.1, (g.0, g.1)))),
                 (
-                  (λ st g. ((refl, (refl, (refl, (refl, (refl, refl))))), (refl, ((refl, (refl, (refl, (refl, (refl, refl))))), (tt, (g.0.1, (g.0, g.1))))))),
+                  (λ st g. ((refl, (refl, (refl, (refl, (refl, refl))))), (tt, (g.0.1, (g.0, g.1))))),
                   (
-                    (λ st g. (tt, (g.0.1, (g.0, g.1)))),
+                    (λ st g. ((refl, (refl, (refl, (refl, (refl, refl))))), (refl, ((refl, (refl, (refl, (refl, (refl, refl))))), (tt, (g.0.1, (g.0, g.1))))))),
                     (
                       (λ st g. (tt, (g.0.1, (g.0, g.1)))),
                       (
@@ -307,7 +319,10 @@ good-the_sum = (
                                         (λ st g. (tt, (g.0.1, (g.0, g.1)))),
                                         (
                                           (λ st g. (tt, (g.0.1, (g.0, g.1)))),
-                                          tt,
+                                          (
+                                            (λ st g. (tt, (g.0.1, (g.0, g.1)))),
+                                            tt,
+                                          ),
                                         ),
                                       ),
                                     ),
@@ -352,17 +367,17 @@ good-the_cmp = (
       (
         (λ st g. (tt, (g.0.1.1, (g.0.1, (g.0, g.1))))),
         (
-          (λ st g. (g.0.1.1, (g.0.1, (g.0, g.1)))),
+          (λ st g. (tt, (g.0.1.1, (g.0.1, (g.0, g.1))))),
           (
             (λ st g. (g.0.1.1, (g.0.1, (g.0, g.1)))),
             (
-              (λ st g. (g.0.1.1.1, (g.0.1.1, (g.0.1, (g.0, g.1))))),
+              (λ st g. (g.0.1.1, (g.0.1, (g.0, g.1)))),
               (
-                (λ st g. ((refl, (refl, (refl, (refl, (refl, refl))))), (tt, (g.0.1.1, (g.0.1, (g.0, g.1)))))),
+                (λ st g. (g.0.1.1.1, (g.0.1.1, (g.0.1, (g.0, g.1))))),
                 (
-                  (λ st g. ((refl, (refl, (refl, (refl, (refl, refl))))), (refl, ((refl, (refl, (refl, (refl, (refl, refl))))), (tt, (g.0.1.1, (g.0.1, (g.0, g.1)))))))),
+                  (λ st g. ((refl, (refl, (refl, (refl, (refl, refl))))), (tt, (g.0.1.1, (g.0.1, (g.0, g.1)))))),
                   (
-                    (λ st g. (tt, (g.0.1.1, (g.0.1, (g.0, g.1))))),
+                    (λ st g. ((refl, (refl, (refl, (refl, (refl, refl))))), (refl, ((refl, (refl, (refl, (refl, (refl, refl))))), (tt, (g.0.1.1, (g.0.1, (g.0, g.1)))))))),
                     (
                       (λ st g. (tt, (g.0.1.1, (g.0.1, (g.0, g.1))))),
                       (
@@ -385,7 +400,10 @@ good-the_cmp = (
                                         (λ st g. (tt, (g.0.1.1, (g.0.1, (g.0, g.1))))),
                                         (
                                           (λ st g. (tt, (g.0.1.1, (g.0.1, (g.0, g.1))))),
-                                          tt,
+                                          (
+                                            (λ st g. (tt, (g.0.1.1, (g.0.1, (g.0, g.1))))),
+                                            tt,
+                                          ),
                                         ),
                                       ),
                                     ),
@@ -471,17 +489,17 @@ good-the_neg = (
         (
           (λ st g. (tt, (g.0.1.1, (g.0.1, (g.0, g.1))))),
           (
-            (λ st g. (g.0.1.1, (g.0.1, (g.0, g.1)))),
+            (λ st g. (tt, (g.0.1.1, (g.0.1, (g.0, g.1))))),
             (
               (λ st g. (g.0.1.1, (g.0.1, (g.0, g.1)))),
               (
-                (λ st g. (g.0.1.1.1, (g.0.1.1, (g.0.1, (g.0, g.1))))),
+                (λ st g. (g.0.1.1, (g.0.1, (g.0, g.1)))),
                 (
-                  (λ st g. ((refl, (refl, (refl, (refl, (refl, refl))))), (tt, (g.0.1.1, (g.0.1, (g.0, g.1)))))),
+                  (λ st g. (g.0.1.1.1, (g.0.1.1, (g.0.1, (g.0, g.1))))),
                   (
-                    (λ st g. ((refl, (refl, (refl, (refl, (refl, refl))))), (refl, ((refl, (refl, (refl, (refl, (refl, refl))))), (tt, (g.0.1.1, (g.0.1, (g.0, g.1)))))))),
+                    (λ st g. ((refl, (refl, (refl, (refl, (refl, refl))))), (tt, (g.0.1.1, (g.0.1, (g.0, g.1)))))),
                     (
-                      (λ st g. (tt, (g.0.1.1, (g.0.1, (g.0, g.1))))),
+                      (λ st g. ((refl, (refl, (refl, (refl, (refl, refl))))), (refl, ((refl, (refl, (refl, (refl, (refl, refl))))), (tt, (g.0.1.1, (g.0.1, (g.0, g.1)))))))),
                       (
                         (λ st g. (tt, (g.0.1.1, (g.0.1, (g.0, g.1))))),
                         (
@@ -504,7 +522,10 @@ good-the_neg = (
                                           (λ st g. (tt, (g.0.1.1, (g.0.1, (g.0, g.1))))),
                                           (
                                             (λ st g. (tt, (g.0.1.1, (g.0.1, (g.0, g.1))))),
-                                            tt,
+                                            (
+                                              (λ st g. (tt, (g.0.1.1, (g.0.1, (g.0, g.1))))),
+                                              tt,
+                                            ),
                                           ),
                                         ),
                                       ),
@@ -540,17 +561,17 @@ good-the_conj = (
         (
           (λ st g. (tt, (g.0.1.1.1, (g.0.1.1, (g.0.1, (g.0, g.1)))))),
           (
-            (λ st g. (g.0.1.1.1, (g.0.1.1, (g.0.1, (g.0, g.1))))),
+            (λ st g. (tt, (g.0.1.1.1, (g.0.1.1, (g.0.1, (g.0, g.1)))))),
             (
               (λ st g. (g.0.1.1.1, (g.0.1.1, (g.0.1, (g.0, g.1))))),
               (
-                (λ st g. (g.0.1.1.1.1, (g.0.1.1.1, (g.0.1.1, (g.0.1, (g.0, g.1)))))),
+                (λ st g. (g.0.1.1.1, (g.0.1.1, (g.0.1, (g.0, g.1))))),
                 (
-                  (λ st g. ((refl, (refl, (refl, (refl, (refl, refl))))), (tt, (g.0.1.1.1, (g.0.1.1, (g.0.1, (g.0, g.1))))))),
+                  (λ st g. (g.0.1.1.1.1, (g.0.1.1.1, (g.0.1.1, (g.0.1, (g.0, g.1)))))),
                   (
-                    (λ st g. ((refl, (refl, (refl, (refl, (refl, refl))))), (refl, ((refl, (refl, (refl, (refl, (refl, refl))))), (tt, (g.0.1.1.1, (g.0.1.1, (g.0.1, (g.0, g.1))))))))),
+                    (λ st g. ((refl, (refl, (refl, (refl, (refl, refl))))), (tt, (g.0.1.1.1, (g.0.1.1, (g.0.1, (g.0, g.1))))))),
                     (
-                      (λ st g. (tt, (g.0.1.1.1, (g.0.1.1, (g.0.1, (g.0, g.1)))))),
+                      (λ st g. ((refl, (refl, (refl, (refl, (refl, refl))))), (refl, ((refl, (refl, (refl, (refl, (refl, refl))))), (tt, (g.0.1.1.1, (g.0.1.1, (g.0.1, (g.0, g.1))))))))),
                       (
                         (λ st g. (tt, (g.0.1.1.1, (g.0.1.1, (g.0.1, (g.0, g.1)))))),
                         (
@@ -573,7 +594,10 @@ good-the_conj = (
                                           (λ st g. (tt, (g.0.1.1.1, (g.0.1.1, (g.0.1, (g.0, g.1)))))),
                                           (
                                             (λ st g. (tt, (g.0.1.1.1, (g.0.1.1, (g.0.1, (g.0, g.1)))))),
-                                            tt,
+                                            (
+                                              (λ st g. (tt, (g.0.1.1.1, (g.0.1.1, (g.0.1, (g.0, g.1)))))),
+                                              tt,
+                                            ),
                                           ),
                                         ),
                                       ),
@@ -612,17 +636,17 @@ good-the_scalar = (
         (
           (λ st g. (tt, (g.0.1.1.1.1, (g.0.1.1.1, (g.0.1.1, (g.0.1, (g.0, g.1))))))),
           (
-            (λ st g. (g.0.1.1.1.1, (g.0.1.1.1, (g.0.1.1, (g.0.1, (g.0, g.1)))))),
+            (λ st g. (tt, (g.0.1.1.1.1, (g.0.1.1.1, (g.0.1.1, (g.0.1, (g.0, g.1))))))),
             (
               (λ st g. (g.0.1.1.1.1, (g.0.1.1.1, (g.0.1.1, (g.0.1, (g.0, g.1)))))),
               (
-                (λ st g. (g.0.1.1.1.1.1, (g.0.1.1.1.1, (g.0.1.1.1, (g.0.1.1, (g.0.1, (g.0, g.1))))))),
+                (λ st g. (g.0.1.1.1.1, (g.0.1.1.1, (g.0.1.1, (g.0.1, (g.0, g.1)))))),
                 (
-                  (λ st g. ((refl, (refl, (refl, (refl, (refl, refl))))), (tt, (g.0.1.1.1.1, (g.0.1.1.1, (g.0.1.1, (g.0.1, (g.0, g.1)))))))),
+                  (λ st g. (g.0.1.1.1.1.1, (g.0.1.1.1.1, (g.0.1.1.1, (g.0.1.1, (g.0.1, (g.0, g.1))))))),
                   (
-                    (λ st g. ((refl, (refl, (refl, (refl, (refl, refl))))), (refl, ((refl, (refl, (refl, (refl, (refl, refl))))), (tt, (g.0.1.1.1.1, (g.0.1.1.1, (g.0.1.1, (g.0.1, (g.0, g.1)))))))))),
+                    (λ st g. ((refl, (refl, (refl, (refl, (refl, refl))))), (tt, (g.0.1.1.1.1, (g.0.1.1.1, (g.0.1.1, (g.0.1, (g.0, g.1)))))))),
                     (
-                      (λ st g. (tt, (g.0.1.1.1.1, (g.0.1.1.1, (g.0.1.1, (g.0.1, (g.0, g.1))))))),
+                      (λ st g. ((refl, (refl, (refl, (refl, (refl, refl))))), (refl, ((refl, (refl, (refl, (refl, (refl, refl))))), (tt, (g.0.1.1.1.1, (g.0.1.1.1, (g.0.1.1, (g.0.1, (g.0, g.1)))))))))),
                       (
                         (λ st g. (tt, (g.0.1.1.1.1, (g.0.1.1.1, (g.0.1.1, (g.0.1, (g.0, g.1))))))),
                         (
@@ -645,7 +669,10 @@ good-the_scalar = (
                                           (λ st g. (tt, (g.0.1.1.1.1, (g.0.1.1.1, (g.0.1.1, (g.0.1, (g.0, g.1))))))),
                                           (
                                             (λ st g. (tt, (g.0.1.1.1.1, (g.0.1.1.1, (g.0.1.1, (g.0.1, (g.0, g.1))))))),
-                                            tt,
+                                            (
+                                              (λ st g. (tt, (g.0.1.1.1.1, (g.0.1.1.1, (g.0.1.1, (g.0.1, (g.0, g.1))))))),
+                                              tt,
+                                            ),
                                           ),
                                         ),
                                       ),
@@ -679,7 +706,10 @@ good-the_point = (
     (λ st g. g.1),
     (
       (λ st g. g.1),
-      tt,
+      (
+        (λ st g. g.1),
+        tt,
+      ),
     ),
   ),
 )
@@ -697,7 +727,10 @@ good-the_kind = (
           (λ st g. g.1),
           (
             (λ st g. g.1),
-            tt,
+            (
+              (λ st g. g.1),
+              tt,
+            ),
           ),
         ),
       ),

@@ -2,11 +2,11 @@
 -- The rows of relations and of statements keep stacks good.
 use Rattle.std.proofs.Common.{ℕ, List, [], ◌∷◌, ◌++◌, Bool, true, false, cond, refl}
 use Rattle.utd_syntax.specs.declared.terminal.Terminal.{Terminal}
-use Rattle.utd_syntax.specs.Table.{Symbol, TheName, Comma, DateText, NegativeDigits, ThePrimary, AfterName, AfterScalar, EndOfSelector, InParens, InPair, InPoint, TheSign, TheProd, MoreProd, TheSum, MoreSum, TheCmp, MoreCmp, TheNeg, TheConj, MoreAnd, TheScalar, MoreOr, ThePoint, TheKind, TheAttribute, MoreAttributes, InHeading, TheHeading, MoreNames, InNames, InList, TheNames, TheList, TheSomeNames, TheParenName, TheElement, MoreElements, InElements, TheElements, TheSomeElements, TheTuple, MoreTuples, InTuples, TheTuples, TheLiteral, AfterRelation, TheSetItem, MoreSetItems, TheSets, EmptyParens, TheAggregateForm, TheAggregate, MoreAggregates, TheAggregates, TheRenaming, MoreRenamings, TheRenamings, ThePortion, MaybePortion, MaybeWhere, InProjection, TheOperand, TheExtend, TheSummarize, TheRelPrimary, TheTerm, MorePostfix, TheTerms, MoreInfix, TheUsing, TheRel, TheUsingPart, AfterOperand, TheKey, TheForeign, TheUsedConstraint, TheConstraint, MoreConstraints, InRel, TheVarForm, TheComparison, AfterLeft, TheTest, TheUsedDeletion, TheUsedItem, TheDeletion, TheItem, MoreItems, TheAssign, TheStatement, Just, Worded, Shut, Taking, Turn, Takes, Row, on, spelt, before, rows, may_end, same, fits, chosen, find, turn, list_rows, some_names_rows, paren_name_rows, element_rows, more_elements_rows, in_elements_rows, elements_rows, some_elements_rows, tuple_rows, more_tuples_rows, in_tuples_rows, tuples_rows, literal_rows, after_relation_rows, set_item_rows, more_set_items_rows, sets_rows, empty_parens_rows, aggregate_form_rows, aggregate_rows, more_aggregates_rows, aggregates_rows, renaming_rows, more_renamings_rows, renamings_rows, portion_rows, maybe_portion_rows, maybe_where_rows, in_projection_rows, operand_rows, extend_rows, summarize_rows, rel_primary_rows, term_rows, more_postfix_rows, terms_rows, more_infix_rows, using_rows, rel_rows, using_part_rows, after_operand_rows, key_rows, foreign_rows, used_constraint_rows, constraint_rows, more_constraints_rows, in_rel_rows, var_form_rows, comparison_rows, after_left_rows, test_rows, used_deletion_rows, used_item_rows, deletion_rows, item_rows, more_items_rows, assign_rows, statement_rows}
+use Rattle.utd_syntax.specs.Table.{Symbol, TheName, Comma, DateText, MomentText, NegativeDigits, ThePrimary, AfterName, AfterScalar, EndOfSelector, InParens, InPair, InPoint, TheSign, TheProd, MoreProd, TheSum, MoreSum, TheCmp, MoreCmp, TheNeg, TheConj, MoreAnd, TheScalar, MoreOr, ThePoint, TheKind, TheAttribute, MoreAttributes, InHeading, TheHeading, MoreNames, InNames, InList, TheNames, TheList, TheSomeNames, TheParenName, TheElement, MoreElements, InElements, TheElements, TheSomeElements, TheTuple, MoreTuples, InTuples, TheTuples, TheLiteral, AfterRelation, TheSetItem, MoreSetItems, TheSets, EmptyParens, TheAggregateForm, TheAggregate, MoreAggregates, TheAggregates, TheRenaming, MoreRenamings, TheRenamings, ThePortion, MaybePortion, MaybeWhere, InProjection, TheOperand, TheExtend, TheSummarize, TheRelPrimary, TheTerm, MorePostfix, TheTerms, MoreInfix, TheUsing, TheRel, TheUsingPart, AfterOperand, TheKey, TheForeign, TheUsedConstraint, TheConstraint, MoreConstraints, InRel, TheVarForm, TheComparison, AfterLeft, TheTest, TheUsedDeletion, TheUsedItem, TheDeletion, TheItem, MoreItems, TheAssign, TheStatement, Just, Worded, Shut, Taking, Turn, Takes, Row, on, spelt, before, rows, may_end, same, fits, chosen, find, turn, list_rows, some_names_rows, paren_name_rows, element_rows, more_elements_rows, in_elements_rows, elements_rows, some_elements_rows, tuple_rows, more_tuples_rows, in_tuples_rows, tuples_rows, literal_rows, after_relation_rows, set_item_rows, more_set_items_rows, sets_rows, empty_parens_rows, aggregate_form_rows, aggregate_rows, more_aggregates_rows, aggregates_rows, renaming_rows, more_renamings_rows, renamings_rows, portion_rows, maybe_portion_rows, maybe_where_rows, in_projection_rows, operand_rows, extend_rows, summarize_rows, rel_primary_rows, term_rows, more_postfix_rows, terms_rows, more_infix_rows, using_rows, rel_rows, using_part_rows, after_operand_rows, key_rows, foreign_rows, used_constraint_rows, constraint_rows, more_constraints_rows, in_rel_rows, var_form_rows, comparison_rows, after_left_rows, test_rows, used_deletion_rows, used_item_rows, deletion_rows, item_rows, more_items_rows, assign_rows, statement_rows}
 use Rattle.utd_syntax.proofs.FormValues.{inner}
 use Rattle.utd_syntax.proofs.Accepted.{row}
 use Rattle.utd_syntax.proofs.Completions.{Good}
-use Rattle.utd_syntax.proofs.GoodScalars.{GoodForms, GoodRow, GoodRows, good-the_name, good-comma, good-date_text, good-negative_digits, good-the_primary, good-after_name, good-after_scalar, good-end_of_selector, good-in_parens, good-in_pair, good-in_point, good-the_sign, good-the_prod, good-more_prod, good-the_sum, good-more_sum, good-the_cmp, good-more_cmp, good-the_neg, good-the_conj, good-more_and, good-the_scalar, good-more_or, good-the_point, good-the_kind, good-the_attribute, good-more_attributes, good-in_heading, good-the_heading, good-more_names, good-in_names, good-in_list, good-the_names}
+use Rattle.utd_syntax.proofs.GoodScalars.{GoodForms, GoodRow, GoodRows, good-the_name, good-comma, good-date_text, good-moment_text, good-negative_digits, good-the_primary, good-after_name, good-after_scalar, good-end_of_selector, good-in_parens, good-in_pair, good-in_point, good-the_sign, good-the_prod, good-more_prod, good-the_sum, good-more_sum, good-the_cmp, good-more_cmp, good-the_neg, good-the_conj, good-more_and, good-the_scalar, good-more_or, good-the_point, good-the_kind, good-the_attribute, good-more_attributes, good-in_heading, good-the_heading, good-more_names, good-in_names, good-in_list, good-the_names}
 
 pub good-the_list : GoodRows TheList list_rows
 good-the_list = ((λ st g. (tt, g.1)), tt)
@@ -633,6 +633,7 @@ pub good-rows : (s : Symbol) → GoodRows s (rows s)
 good-rows TheName = good-the_name
 good-rows Comma = good-comma
 good-rows DateText = good-date_text
+good-rows MomentText = good-moment_text
 good-rows NegativeDigits = good-negative_digits
 good-rows ThePrimary = good-the_primary
 good-rows AfterName = good-after_name

@@ -15,4 +15,5 @@ pub mod Refused
 pub mod Laws
 pub mod Trees
 pub mod DateLemmas
+pub mod MomentLemmas
 pub mod DigitLemmas

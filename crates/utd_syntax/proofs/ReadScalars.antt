@@ -14,7 +14,7 @@ use Rattle.utd_syntax.specs.declared.words.FunctionWord.TheVariants as functions
 use Rattle.utd_syntax.specs.declared.words.PairWord.TheVariants as pair_functions
 use Rattle.utd_syntax.specs.declared.words.AggregateWord.TheVariants as aggregate_words
 use Rattle.utd_syntax.specs.Pieces.{Piece, first}
-use Rattle.utd_syntax.specs.Plain.{Word, PointP, ScalarP, ConjP, NegP, CmpP, SumP, ProdP, SignP, PrimaryP, KindP, AttributeP, HeadingP, NamesP, NameListP, SomeNamesP, ElementP, ElementsP, SomeElementsP, TupleP, LiteralP, SetItemP, SetsP, AggregateFormP, AggregateP, AggregatesP, RenamingP, RenamingsP, PortionP, MaybePortionP, ConditionP, ItemP, StatementP, IntegerType, DateType, NamedType, OneConj, Or, OneNeg, And, Not, OneCmp, OneSum, Compare, OneProd, Add, OneSign, Multiply, NegativeInteger, Negate, OnePrimary, IntegerLiteral, TextLiteral, DateLiteral, TrueLiteral, FalseLiteral, AttributeName, Dotted, Paren, Selector, Extreme, Function, PairFunction, BooleanKind, CharKind, PointKind, IntervalKind, Attribute, Heading, Names, NameList, SomeNames, Element, Elements, SomeElements, Tuple, Tuples, Headed, SetItem, Sets, CountRows, AggregateOf, Aggregate, Aggregates, Renaming, Renamings, Portion, NoPortion, OfPortion, NoCondition, Where}
+use Rattle.utd_syntax.specs.Plain.{Word, PointP, ScalarP, ConjP, NegP, CmpP, SumP, ProdP, SignP, PrimaryP, KindP, AttributeP, HeadingP, NamesP, NameListP, SomeNamesP, ElementP, ElementsP, SomeElementsP, TupleP, LiteralP, SetItemP, SetsP, AggregateFormP, AggregateP, AggregatesP, RenamingP, RenamingsP, PortionP, MaybePortionP, ConditionP, ItemP, StatementP, IntegerType, DateType, MomentType, NamedType, OneConj, Or, OneNeg, And, Not, OneCmp, OneSum, Compare, OneProd, Add, OneSign, Multiply, NegativeInteger, Negate, OnePrimary, IntegerLiteral, TextLiteral, DateLiteral, MomentLiteral, TrueLiteral, FalseLiteral, AttributeName, Dotted, Paren, Selector, Extreme, Function, PairFunction, BooleanKind, CharKind, PointKind, IntervalKind, Attribute, Heading, Names, NameList, SomeNames, Element, Elements, SomeElements, Tuple, Tuples, Headed, SetItem, Sets, CountRows, AggregateOf, Aggregate, Aggregates, Renaming, Renamings, Portion, NoPortion, OfPortion, NoCondition, Where}
 use Rattle.utd_syntax.specs.Written.{fixed, at, spelled, apart, Spells, token, placed, lexeme, word_of, of_name, of_point, of_scalar, of_conj, of_neg, of_cmp, of_sum, of_prod, of_sign, of_primary, of_kind, of_attribute, of_more_attributes, of_heading, of_more_words, of_names, of_list, of_some_names, of_paren_name, of_element, of_more_elements, of_elements, of_some_elements, of_tuple, of_more_tuples, of_tuples, of_literal, of_set_item, of_more_set_items, of_sets, of_aggregate_form, of_aggregate, of_more_aggregates, of_aggregates, of_renaming, of_more_renamings, of_renamings, of_portion, of_maybe_portion, of_condition, of_more_items}
 use Rattle.utd_syntax.specs.Table.{Symbol, TheName, ThePrimary, TheSign, TheProd, MoreProd, TheSum, MoreSum, TheCmp, MoreCmp, TheNeg, TheConj, MoreAnd, TheScalar, MoreOr, ThePoint, TheKind, TheAttribute, MoreAttributes, TheHeading, MoreNames, TheNames, TheList, TheSomeNames, TheParenName, TheElement, MoreElements, TheElements, TheSomeElements, TheTuple, MoreTuples, TheTuples, TheLiteral, TheSetItem, MoreSetItems, TheSets, TheAggregateForm, TheAggregate, MoreAggregates, TheAggregates, TheRenaming, MoreRenamings, TheRenamings, ThePortion, MaybePortion, MaybeWhere}
 use Rattle.utd_syntax.proofs.Reader.{Go, read_at, read}
@@ -55,6 +55,9 @@ point-reads (IntegerType p) ts rest sp stack go =
 point-reads (DateType p) ts rest sp stack go =
     let x0 = one (at t.Date p) ([]) ts rest sp in
     along ts _ _ _ (x0.is ∙ ap (λ z. seen (at t.Date p) x0.place x0.bytes ∷ z) (done x0.left rest x0.spells))
+point-reads (MomentType p) ts rest sp stack go =
+    let x0 = one (at t.Moment p) ([]) ts rest sp in
+    along ts _ _ _ (x0.is ∙ ap (λ z. seen (at t.Moment p) x0.place x0.bytes ∷ z) (done x0.left rest x0.spells))
 point-reads (NamedType n) ts rest sp stack go =
     let x0 = one (spelled t.Name n.place n.bytes) ([]) ts rest sp in
     along ts _ _ _ (x0.is ∙ ap (λ z. seen (spelled t.Name n.place n.bytes) x0.place x0.bytes ∷ z) (done x0.left rest x0.spells))
@@ -194,6 +197,10 @@ mutual
       let x0 = one (at t.Date p) (lexeme t.Quoted q c) ts rest sp in
       let x1 = one (spelled t.Quoted q c) ([]) x0.left rest x0.spells in
       along ts _ _ _ (x0.is ∙ ap (λ z. seen (at t.Date p) x0.place x0.bytes ∷ z) (x1.is ∙ ap (λ z. seen (spelled t.Quoted q c) x1.place x1.bytes ∷ z) (done x1.left rest x1.spells)))
+  primary-reads (MomentLiteral p q c) ts rest sp calm stack go =
+      let x0 = one (at t.Moment p) (lexeme t.Quoted q c) ts rest sp in
+      let x1 = one (spelled t.Quoted q c) ([]) x0.left rest x0.spells in
+      along ts _ _ _ (x0.is ∙ ap (λ z. seen (at t.Moment p) x0.place x0.bytes ∷ z) (x1.is ∙ ap (λ z. seen (spelled t.Quoted q c) x1.place x1.bytes ∷ z) (done x1.left rest x1.spells)))
   primary-reads (TrueLiteral p) ts rest sp calm stack go =
       let x0 = one (at t.True p) ([]) ts rest sp in
       along ts _ _ _ (x0.is ∙ ap (λ z. seen (at t.True p) x0.place x0.bytes ∷ z) (done x0.left rest x0.spells))

@@ -10,13 +10,13 @@ use Rattle.utd_syntax.specs.declared.words.EmptinessWord.TheVariants as emptines
 use Rattle.utd_syntax.specs.Pieces.{Piece, first, place_of}
 use Rattle.utd_syntax.specs.Plain.{word, StatementP, OfUsing, OfTerms, OneTerm, Infix, NotMatching, OneRelPrimary, Project, Filter, Rename, OfExtend, OfSummarize, OfOperand, Relvar, OfLiteral, ParenRel, PackOn, UsingExtend, UsingSummarize, UsedKey, UsedForeign, KeyOf, ForeignOf, PackedOn, WhenUnpacked, UsingConstraint, UsingTest, Emptiness, OfComparison, UsedDeleteWhere, UsedDeleteRows, DeleteWhere, DeletePortion, DeleteRows, Assign, Nothing, DeclareOrdinal, DeclareRelvar, DeclareHistory, Drop, Print, Ask, Assignment}
 use Rattle.utd_syntax.specs.Written.{fixed, at, spelled, Spells, ordinal_word, since_word, during_word, over_word, of_statement}
-use Rattle.utd_syntax.specs.Table.{Load, Symbol, TheName, Comma, DateText, NegativeDigits, ThePrimary, AfterName, AfterScalar, EndOfSelector, InParens, InPair, InPoint, TheSign, TheProd, MoreProd, TheSum, MoreSum, TheCmp, MoreCmp, TheNeg, TheConj, MoreAnd, TheScalar, MoreOr, ThePoint, TheKind, TheAttribute, MoreAttributes, InHeading, TheHeading, MoreNames, InNames, InList, TheNames, TheList, TheSomeNames, TheParenName, TheElement, MoreElements, InElements, TheElements, TheSomeElements, TheTuple, MoreTuples, InTuples, TheTuples, TheLiteral, AfterRelation, TheSetItem, MoreSetItems, TheSets, EmptyParens, TheAggregateForm, TheAggregate, MoreAggregates, TheAggregates, TheRenaming, MoreRenamings, TheRenamings, ThePortion, MaybePortion, MaybeWhere, InProjection, TheOperand, TheExtend, TheSummarize, TheRelPrimary, TheTerm, MorePostfix, TheTerms, MoreInfix, TheUsing, TheRel, TheUsingPart, AfterOperand, TheKey, TheForeign, TheUsedConstraint, TheConstraint, MoreConstraints, InRel, TheVarForm, TheComparison, AfterLeft, TheTest, TheUsedDeletion, TheUsedItem, TheDeletion, TheItem, MoreItems, TheAssign, TheStatement, Just, Worded, Shut, Taking, Plain, Opens, Turn, Never, Ends, Takes, Row, on, spelt, before, ◌▹◌, rows, may_end, number, same, same_bytes, fits, chosen, find, turn, literal_rows, after_relation_rows, set_item_rows, more_set_items_rows, sets_rows, empty_parens_rows, aggregate_form_rows, aggregate_rows, more_aggregates_rows, aggregates_rows, renaming_rows, more_renamings_rows, renamings_rows, portion_rows, maybe_portion_rows, maybe_where_rows, in_projection_rows, operand_rows, extend_rows, summarize_rows, rel_primary_rows, term_rows, more_postfix_rows, terms_rows, more_infix_rows, using_rows, rel_rows, using_part_rows, after_operand_rows, key_rows, foreign_rows, used_constraint_rows, constraint_rows, more_constraints_rows, in_rel_rows, var_form_rows, comparison_rows, after_left_rows, test_rows, used_deletion_rows, used_item_rows, deletion_rows, item_rows, more_items_rows, assign_rows, statement_rows}
+use Rattle.utd_syntax.specs.Table.{Load, Symbol, TheName, Comma, DateText, MomentText, NegativeDigits, ThePrimary, AfterName, AfterScalar, EndOfSelector, InParens, InPair, InPoint, TheSign, TheProd, MoreProd, TheSum, MoreSum, TheCmp, MoreCmp, TheNeg, TheConj, MoreAnd, TheScalar, MoreOr, ThePoint, TheKind, TheAttribute, MoreAttributes, InHeading, TheHeading, MoreNames, InNames, InList, TheNames, TheList, TheSomeNames, TheParenName, TheElement, MoreElements, InElements, TheElements, TheSomeElements, TheTuple, MoreTuples, InTuples, TheTuples, TheLiteral, AfterRelation, TheSetItem, MoreSetItems, TheSets, EmptyParens, TheAggregateForm, TheAggregate, MoreAggregates, TheAggregates, TheRenaming, MoreRenamings, TheRenamings, ThePortion, MaybePortion, MaybeWhere, InProjection, TheOperand, TheExtend, TheSummarize, TheRelPrimary, TheTerm, MorePostfix, TheTerms, MoreInfix, TheUsing, TheRel, TheUsingPart, AfterOperand, TheKey, TheForeign, TheUsedConstraint, TheConstraint, MoreConstraints, InRel, TheVarForm, TheComparison, AfterLeft, TheTest, TheUsedDeletion, TheUsedItem, TheDeletion, TheItem, MoreItems, TheAssign, TheStatement, Just, Worded, Shut, Taking, Plain, Opens, Turn, Never, Ends, Takes, Row, on, spelt, before, ◌▹◌, rows, may_end, number, same, same_bytes, fits, chosen, find, turn, literal_rows, after_relation_rows, set_item_rows, more_set_items_rows, sets_rows, empty_parens_rows, aggregate_form_rows, aggregate_rows, more_aggregates_rows, aggregates_rows, renaming_rows, more_renamings_rows, renamings_rows, portion_rows, maybe_portion_rows, maybe_where_rows, in_projection_rows, operand_rows, extend_rows, summarize_rows, rel_primary_rows, term_rows, more_postfix_rows, terms_rows, more_infix_rows, using_rows, rel_rows, using_part_rows, after_operand_rows, key_rows, foreign_rows, used_constraint_rows, constraint_rows, more_constraints_rows, in_rel_rows, var_form_rows, comparison_rows, after_left_rows, test_rows, used_deletion_rows, used_item_rows, deletion_rows, item_rows, more_items_rows, assign_rows, statement_rows}
 use Rattle.utd_syntax.proofs.FormValues.{Val, Vals, Case, Make, Makes, inner, over_makes, then_makes, append_makes}
 use Rattle.utd_syntax.proofs.Reader.{Ended, Built, Go, makes, end_value, by_case, made, pick, found_end, found, build, split, on_turn, read_at, on_end, read_end, read, make_literal, make_after_relation, make_set_item, make_more_set_items, make_sets, make_empty_parens, make_aggregate_form, make_aggregate, make_more_aggregates, make_aggregates, make_renaming, make_more_renamings, make_renamings, make_portion, make_maybe_portion, make_maybe_where, make_in_projection, make_operand, make_extend, make_summarize, make_rel_primary, make_term, make_more_postfix, make_terms, make_more_infix, make_using, make_rel, make_using_part, make_after_operand, make_key, make_foreign, make_used_constraint, make_constraint, make_more_constraints, make_in_rel, make_var_form, make_comparison, make_after_left, make_test, make_used_deletion, make_used_item, make_deletion, make_item, make_more_items, make_assign, make_statement}
 use Rattle.utd_syntax.specs.Verdict.{Whole, no_limits, verdict}
 use Rattle.utd_syntax.proofs.Accepted.{Agree, agrees}
 use Rattle.std.proofs.lemmas.Bool.{eqb-true}
-use Rattle.utd_syntax.proofs.SoundForms.{nil, cons, join, loose_word, Writes, WritesAll, Chain, chain, piece_at, SoundCase, SoundRow, SoundRows, over-sounds, then-sounds, append-sounds, name-sound, comma-sound, date_text-sound, negative_digits-sound, primary-sound, after_name-sound, after_scalar-sound, end_of_selector-sound, in_parens-sound, in_pair-sound, in_point-sound, sign-sound, prod-sound, more_prod-sound, sum-sound, more_sum-sound, cmp-sound, more_cmp-sound, neg-sound, conj-sound, more_and-sound, scalar-sound, more_or-sound, point-sound, kind-sound, attribute-sound, more_attributes-sound, in_heading-sound, heading-sound, more_names-sound, in_names-sound, in_list-sound, names-sound, list-sound, some_names-sound, paren_name-sound, element-sound, more_elements-sound, in_elements-sound, elements-sound, some_elements-sound, tuple-sound, more_tuples-sound, in_tuples-sound, tuples-sound}
+use Rattle.utd_syntax.proofs.SoundForms.{nil, cons, join, loose_word, Writes, WritesAll, Chain, chain, piece_at, SoundCase, SoundRow, SoundRows, over-sounds, then-sounds, append-sounds, name-sound, comma-sound, date_text-sound, moment_text-sound, negative_digits-sound, primary-sound, after_name-sound, after_scalar-sound, end_of_selector-sound, in_parens-sound, in_pair-sound, in_point-sound, sign-sound, prod-sound, more_prod-sound, sum-sound, more_sum-sound, cmp-sound, more_cmp-sound, neg-sound, conj-sound, more_and-sound, scalar-sound, more_or-sound, point-sound, kind-sound, attribute-sound, more_attributes-sound, in_heading-sound, heading-sound, more_names-sound, in_names-sound, in_list-sound, names-sound, list-sound, some_names-sound, paren_name-sound, element-sound, more_elements-sound, in_elements-sound, elements-sound, some_elements-sound, tuple-sound, more_tuples-sound, in_tuples-sound, tuples-sound}
 
 pub literal-sound : SoundRows TheLiteral literal_rows make_literal
 literal-sound = ((λ p b ts vs rest h. (h p (piece_at t.Relation p b ∷ ts) (cons (at t.Relation p) [] (piece_at t.Relation p b) ts _ (refl, refl) (nil refl)))), tt)
@@ -283,6 +283,7 @@ pub sounds : (s : Symbol) → SoundRows s (rows s) (makes s)
 sounds TheName = name-sound
 sounds Comma = comma-sound
 sounds DateText = date_text-sound
+sounds MomentText = moment_text-sound
 sounds NegativeDigits = negative_digits-sound
 sounds ThePrimary = primary-sound
 sounds AfterName = after_name-sound

@@ -9,8 +9,8 @@ use Rattle.utd_syntax.specs.declared.words.ProductWord.TheVariants as product_wo
 use Rattle.utd_syntax.specs.Pieces.{Piece, first}
 use Rattle.utd_syntax.specs.Plain.{Word, word, ScalarP, ConjP, SumP, ProdP, TermsP, TermP, OperandP, OneConj, Or, OneNeg, And, Not, OneCmp, OneProd, Add, OneSign, Multiply, NegativeInteger, Negate, OnePrimary, BooleanKind, CharKind, PointKind, IntervalKind}
 use Rattle.utd_syntax.specs.Written.{Mark, fixed, at, spelled, worded, apart, IsMark, Spells, token, placed, lexeme, word_of, end_bracket, of_name, of_point, of_scalar, of_conj, of_neg, of_cmp, of_sum, of_prod, of_sign, of_primary, of_kind, of_attribute, of_more_attributes, of_heading, of_more_words, of_names, of_list, of_some_names, of_paren_name, of_element, of_more_elements, of_elements, of_some_elements, of_tuple, of_more_tuples, of_tuples, of_literal, of_set_item, of_more_set_items, of_sets, of_aggregate_form, of_aggregate, of_more_aggregates, of_aggregates, of_renaming, of_more_renamings, of_renamings, of_portion, of_maybe_portion, of_condition, of_projection, of_rel, of_terms, of_term, of_rel_primary, of_operand, of_extend, of_summarize, of_using, of_using_part, of_key, of_foreign, of_used_constraint, of_constraint, of_constraints, of_var_form, of_comparison, of_test, of_used_deletion, of_used_item, of_deletion, of_item, of_more_items, of_assign, of_statement, of_attributes, of_words, of_element_list, of_tuple_list}
-use Rattle.utd_syntax.specs.Table.{Symbol, TheName, Comma, DateText, NegativeDigits, ThePrimary, AfterName, AfterScalar, EndOfSelector, InParens, InPair, InPoint, TheSign, TheProd, MoreProd, TheSum, MoreSum, TheCmp, MoreCmp, TheNeg, TheConj, MoreAnd, TheScalar, MoreOr, ThePoint, TheKind, TheAttribute, MoreAttributes, InHeading, TheHeading, MoreNames, InNames, InList, TheNames, TheList, TheSomeNames, TheParenName, TheElement, MoreElements, InElements, TheElements, TheSomeElements, TheTuple, MoreTuples, InTuples, TheTuples, TheLiteral, AfterRelation, TheSetItem, MoreSetItems, TheSets, EmptyParens, TheAggregateForm, TheAggregate, MoreAggregates, TheAggregates, TheRenaming, MoreRenamings, TheRenamings, ThePortion, MaybePortion, MaybeWhere, InProjection, TheOperand, TheExtend, TheSummarize, TheRelPrimary, TheTerm, MorePostfix, TheTerms, MoreInfix, TheUsing, TheRel, TheUsingPart, AfterOperand, TheKey, TheForeign, TheUsedConstraint, TheConstraint, MoreConstraints, InRel, TheVarForm, TheComparison, AfterLeft, TheTest, TheUsedDeletion, TheUsedItem, TheDeletion, TheItem, MoreItems, TheAssign, TheStatement, Just, Worded, Shut, Taking, Plain, Opens, Row, on, spelt, before, then_row, ◌▹◌, name_rows, comma_rows, date_text_rows, negative_digits_rows, primary_rows, after_name_rows, after_scalar_rows, end_of_selector_rows, in_parens_rows, in_pair_rows, in_point_rows, sign_rows, prod_rows, more_prod_rows, sum_rows, more_sum_rows, cmp_rows, more_cmp_rows, neg_rows, conj_rows, more_and_rows, scalar_rows, more_or_rows, point_rows, kind_rows, attribute_rows, more_attributes_rows, in_heading_rows, heading_rows, more_names_rows, in_names_rows, in_list_rows, names_rows, list_rows, some_names_rows, paren_name_rows, element_rows, more_elements_rows, in_elements_rows, elements_rows, some_elements_rows, tuple_rows, more_tuples_rows, in_tuples_rows, tuples_rows}
-use Rattle.utd_syntax.proofs.FormValues.{Val, Vals, Case, Make, Makes, inner, over_make, over_makes, last_of, last_behind, then_case, then_make, then_makes, append_makes, make_name, make_comma, make_date_text, make_negative_digits, make_primary, make_after_name, make_after_scalar, make_end_of_selector, make_in_parens, make_in_pair, make_in_point, make_sign, make_prod, make_more_prod, make_sum, make_more_sum, make_cmp, make_more_cmp, make_neg, make_conj, make_more_and, make_scalar, make_more_or, make_point, make_kind, make_attribute, make_more_attributes, make_in_heading, make_heading, make_more_names, make_in_names, make_in_list}
+use Rattle.utd_syntax.specs.Table.{Symbol, TheName, Comma, DateText, MomentText, NegativeDigits, ThePrimary, AfterName, AfterScalar, EndOfSelector, InParens, InPair, InPoint, TheSign, TheProd, MoreProd, TheSum, MoreSum, TheCmp, MoreCmp, TheNeg, TheConj, MoreAnd, TheScalar, MoreOr, ThePoint, TheKind, TheAttribute, MoreAttributes, InHeading, TheHeading, MoreNames, InNames, InList, TheNames, TheList, TheSomeNames, TheParenName, TheElement, MoreElements, InElements, TheElements, TheSomeElements, TheTuple, MoreTuples, InTuples, TheTuples, TheLiteral, AfterRelation, TheSetItem, MoreSetItems, TheSets, EmptyParens, TheAggregateForm, TheAggregate, MoreAggregates, TheAggregates, TheRenaming, MoreRenamings, TheRenamings, ThePortion, MaybePortion, MaybeWhere, InProjection, TheOperand, TheExtend, TheSummarize, TheRelPrimary, TheTerm, MorePostfix, TheTerms, MoreInfix, TheUsing, TheRel, TheUsingPart, AfterOperand, TheKey, TheForeign, TheUsedConstraint, TheConstraint, MoreConstraints, InRel, TheVarForm, TheComparison, AfterLeft, TheTest, TheUsedDeletion, TheUsedItem, TheDeletion, TheItem, MoreItems, TheAssign, TheStatement, Just, Worded, Shut, Taking, Plain, Opens, Row, on, spelt, before, then_row, ◌▹◌, name_rows, comma_rows, date_text_rows, moment_text_rows, negative_digits_rows, primary_rows, after_name_rows, after_scalar_rows, end_of_selector_rows, in_parens_rows, in_pair_rows, in_point_rows, sign_rows, prod_rows, more_prod_rows, sum_rows, more_sum_rows, cmp_rows, more_cmp_rows, neg_rows, conj_rows, more_and_rows, scalar_rows, more_or_rows, point_rows, kind_rows, attribute_rows, more_attributes_rows, in_heading_rows, heading_rows, more_names_rows, in_names_rows, in_list_rows, names_rows, list_rows, some_names_rows, paren_name_rows, element_rows, more_elements_rows, in_elements_rows, elements_rows, some_elements_rows, tuple_rows, more_tuples_rows, in_tuples_rows, tuples_rows}
+use Rattle.utd_syntax.proofs.FormValues.{Val, Vals, Case, Make, Makes, inner, over_make, over_makes, last_of, last_behind, then_case, then_make, then_makes, append_makes, make_name, make_comma, make_date_text, make_moment_text, make_negative_digits, make_primary, make_after_name, make_after_scalar, make_end_of_selector, make_in_parens, make_in_pair, make_in_point, make_sign, make_prod, make_more_prod, make_sum, make_more_sum, make_cmp, make_more_cmp, make_neg, make_conj, make_more_and, make_scalar, make_more_or, make_point, make_kind, make_attribute, make_more_attributes, make_in_heading, make_heading, make_more_names, make_in_names, make_in_list}
 use Rattle.utd_syntax.proofs.Reader.{make_names, make_list, make_some_names, make_paren_name, make_element, make_more_elements, make_in_elements, make_elements, make_some_elements, make_tuple, make_more_tuples, make_in_tuples, make_tuples}
 use Rattle.utd_syntax.proofs.Marks.{Spells-append}
 
@@ -35,6 +35,7 @@ abbrev pub Writes : (s : Symbol) → Val s → List Piece → List Piece → Typ
 Writes TheName v ts rest = Spells (of_name v) ts rest
 Writes Comma v ts rest = Spells (token t.Comma) ts rest
 Writes DateText v ts rest = Spells (lexeme t.Quoted v.place v.bytes) ts rest
+Writes MomentText v ts rest = Spells (lexeme t.Quoted v.place v.bytes) ts rest
 Writes NegativeDigits v ts rest = Spells (lexeme t.Digits v.place v.bytes) ts rest
 Writes ThePrimary v ts rest = Spells (of_primary v) ts rest
 Writes AfterName v ts rest = (w : Word) (from : List Piece) → Spells (word_of w) from ts → Spells (of_primary (v w)) from rest
@@ -213,6 +214,9 @@ comma-sound = ((λ p b ts vs rest h. (cons (fixed t.Comma) [] (piece_at t.Comma 
 pub date_text-sound : SoundRows DateText date_text_rows make_date_text
 date_text-sound = ((λ p b ts vs rest h. (cons (spelled t.Quoted p b) [] (piece_at t.Quoted p b) ts _ (refl, refl, refl) (nil h))), tt)
 
+pub moment_text-sound : SoundRows MomentText moment_text_rows make_moment_text
+moment_text-sound = ((λ p b ts vs rest h. (cons (spelled t.Quoted p b) [] (piece_at t.Quoted p b) ts _ (refl, refl, refl) (nil h))), tt)
+
 pub negative_digits-sound : SoundRows NegativeDigits negative_digits_rows make_negative_digits
 negative_digits-sound = ((λ p b ts vs rest h. (cons (spelled t.Digits p b) [] (piece_at t.Digits p b) ts _ (refl, refl, refl) (nil h))), tt)
 
@@ -224,40 +228,43 @@ primary-sound = (
     (
       (λ p b ts vs rest h. (join _ _ _ _ _ (cons (at t.Date p) [] (piece_at t.Date p b) ts _ (refl, refl) (nil refl)) h)),
       (
-        (λ p b ts vs rest h. (cons (at t.True p) [] (piece_at t.True p b) ts _ (refl, refl) (nil h))),
+        (λ p b ts vs rest h. (join _ _ _ _ _ (cons (at t.Moment p) [] (piece_at t.Moment p b) ts _ (refl, refl) (nil refl)) h)),
         (
-          (λ p b ts vs rest h. (cons (at t.False p) [] (piece_at t.False p b) ts _ (refl, refl) (nil h))),
+          (λ p b ts vs rest h. (cons (at t.True p) [] (piece_at t.True p b) ts _ (refl, refl) (nil h))),
           (
-            (λ p b ts vs rest h. (h (word p b) (piece_at t.Name p b ∷ ts) (cons (spelled t.Name p b) [] (piece_at t.Name p b) ts _ (refl, refl, refl) (nil refl)))),
+            (λ p b ts vs rest h. (cons (at t.False p) [] (piece_at t.False p b) ts _ (refl, refl) (nil h))),
             (
-              (λ p b ts vs rest h. (h.2 p vs.0 (piece_at t.Open p b ∷ ts) (join _ _ _ _ _ (cons (at t.Open p) [] (piece_at t.Open p b) ts _ (refl, refl) (nil refl)) h.1))),
+              (λ p b ts vs rest h. (h (word p b) (piece_at t.Name p b ∷ ts) (cons (spelled t.Name p b) [] (piece_at t.Name p b) ts _ (refl, refl, refl) (nil refl)))),
               (
-                (λ p b ts vs rest h. (join _ _ _ _ _ (join _ _ _ _ _ (join _ _ _ _ _ (join _ _ _ _ _ (cons (at t.OpenBracket p) [] (piece_at t.OpenBracket p b) ts _ (refl, refl) (nil refl)) h.1) h.2.1) h.2.2.1) h.2.2.2)),
+                (λ p b ts vs rest h. (h.2 p vs.0 (piece_at t.Open p b ∷ ts) (join _ _ _ _ _ (cons (at t.Open p) [] (piece_at t.Open p b) ts _ (refl, refl) (nil refl)) h.1))),
                 (
-                  (λ p b ts vs rest h. (join _ _ _ _ _ (cons (at t.First p) [] (piece_at t.First p b) ts _ (refl, refl) (nil refl)) h)),
+                  (λ p b ts vs rest h. (join _ _ _ _ _ (join _ _ _ _ _ (join _ _ _ _ _ (join _ _ _ _ _ (cons (at t.OpenBracket p) [] (piece_at t.OpenBracket p b) ts _ (refl, refl) (nil refl)) h.1) h.2.1) h.2.2.1) h.2.2.2)),
                   (
-                    (λ p b ts vs rest h. (join _ _ _ _ _ (cons (at t.Last p) [] (piece_at t.Last p b) ts _ (refl, refl) (nil refl)) h)),
+                    (λ p b ts vs rest h. (join _ _ _ _ _ (cons (at t.First p) [] (piece_at t.First p b) ts _ (refl, refl) (nil refl)) h)),
                     (
-                      (λ p b ts vs rest h. (join _ _ _ _ _ (cons (at t.Begin p) [] (piece_at t.Begin p b) ts _ (refl, refl) (nil refl)) h)),
+                      (λ p b ts vs rest h. (join _ _ _ _ _ (cons (at t.Last p) [] (piece_at t.Last p b) ts _ (refl, refl) (nil refl)) h)),
                       (
-                        (λ p b ts vs rest h. (join _ _ _ _ _ (cons (at t.End p) [] (piece_at t.End p b) ts _ (refl, refl) (nil refl)) h)),
+                        (λ p b ts vs rest h. (join _ _ _ _ _ (cons (at t.Begin p) [] (piece_at t.Begin p b) ts _ (refl, refl) (nil refl)) h)),
                         (
-                          (λ p b ts vs rest h. (join _ _ _ _ _ (cons (at t.Pre p) [] (piece_at t.Pre p b) ts _ (refl, refl) (nil refl)) h)),
+                          (λ p b ts vs rest h. (join _ _ _ _ _ (cons (at t.End p) [] (piece_at t.End p b) ts _ (refl, refl) (nil refl)) h)),
                           (
-                            (λ p b ts vs rest h. (join _ _ _ _ _ (cons (at t.Post p) [] (piece_at t.Post p b) ts _ (refl, refl) (nil refl)) h)),
+                            (λ p b ts vs rest h. (join _ _ _ _ _ (cons (at t.Pre p) [] (piece_at t.Pre p b) ts _ (refl, refl) (nil refl)) h)),
                             (
-                              (λ p b ts vs rest h. (join _ _ _ _ _ (cons (at t.Count p) [] (piece_at t.Count p b) ts _ (refl, refl) (nil refl)) h)),
+                              (λ p b ts vs rest h. (join _ _ _ _ _ (cons (at t.Post p) [] (piece_at t.Post p b) ts _ (refl, refl) (nil refl)) h)),
                               (
-                                (λ p b ts vs rest h. (join _ _ _ _ _ (cons (at t.Next p) [] (piece_at t.Next p b) ts _ (refl, refl) (nil refl)) h)),
+                                (λ p b ts vs rest h. (join _ _ _ _ _ (cons (at t.Count p) [] (piece_at t.Count p b) ts _ (refl, refl) (nil refl)) h)),
                                 (
-                                  (λ p b ts vs rest h. (join _ _ _ _ _ (cons (at t.Prior p) [] (piece_at t.Prior p b) ts _ (refl, refl) (nil refl)) h)),
+                                  (λ p b ts vs rest h. (join _ _ _ _ _ (cons (at t.Next p) [] (piece_at t.Next p b) ts _ (refl, refl) (nil refl)) h)),
                                   (
-                                    (λ p b ts vs rest h. (join _ _ _ _ _ (cons (at t.Union p) [] (piece_at t.Union p b) ts _ (refl, refl) (nil refl)) h)),
+                                    (λ p b ts vs rest h. (join _ _ _ _ _ (cons (at t.Prior p) [] (piece_at t.Prior p b) ts _ (refl, refl) (nil refl)) h)),
                                     (
-                                      (λ p b ts vs rest h. (join _ _ _ _ _ (cons (at t.Intersect p) [] (piece_at t.Intersect p b) ts _ (refl, refl) (nil refl)) h)),
+                                      (λ p b ts vs rest h. (join _ _ _ _ _ (cons (at t.Union p) [] (piece_at t.Union p b) ts _ (refl, refl) (nil refl)) h)),
                                       (
-                                        (λ p b ts vs rest h. (join _ _ _ _ _ (cons (at t.Minus p) [] (piece_at t.Minus p b) ts _ (refl, refl) (nil refl)) h)),
-                                        tt,
+                                        (λ p b ts vs rest h. (join _ _ _ _ _ (cons (at t.Intersect p) [] (piece_at t.Intersect p b) ts _ (refl, refl) (nil refl)) h)),
+                                        (
+                                          (λ p b ts vs rest h. (join _ _ _ _ _ (cons (at t.Minus p) [] (piece_at t.Minus p b) ts _ (refl, refl) (nil refl)) h)),
+                                          tt,
+                                        ),
                                       ),
                                     ),
                                   ),
@@ -414,8 +421,11 @@ point-sound = (
   (
     (λ p b ts vs rest h. (cons (at t.Date p) [] (piece_at t.Date p b) ts _ (refl, refl) (nil h))),
     (
-      (λ p b ts vs rest h. (cons (spelled t.Name p b) [] (piece_at t.Name p b) ts _ (refl, refl, refl) (nil h))),
-      tt,
+      (λ p b ts vs rest h. (cons (at t.Moment p) [] (piece_at t.Moment p b) ts _ (refl, refl) (nil h))),
+      (
+        (λ p b ts vs rest h. (cons (spelled t.Name p b) [] (piece_at t.Name p b) ts _ (refl, refl, refl) (nil h))),
+        tt,
+      ),
     ),
   ),
 )

@@ -25,10 +25,11 @@ pub record Word : Type 0 where
 abbrev pub word : Place → List ℕ → Word
 word place bytes = record { place = place; bytes = bytes }
 
--- "INTEGER" | "DATE" | name
+-- "INTEGER" | "DATE" | "MOMENT" | name
 pub data PointP : Type 0 where
   IntegerType : Place → PointP
   DateType : Place → PointP
+  MomentType : Place → PointP
   NamedType : Word → PointP
 
 mutual
@@ -68,11 +69,12 @@ mutual
     Negate : Place → SignP → SignP
     OnePrimary : PrimaryP → SignP
 
-  -- integer | text | "DATE" text | "TRUE" | "FALSE" | name | name "." name | "(" scalar ")" | an interval | a function
+  -- integer | text | "DATE" text | "MOMENT" text | "TRUE" | "FALSE" | name | name "." name | "(" scalar ")" | an interval | a function
   pub data PrimaryP : Type 0 where
     IntegerLiteral : Place → List ℕ → PrimaryP
     TextLiteral : Place → List ℕ → PrimaryP
     DateLiteral : Place → Place → List ℕ → PrimaryP
+    MomentLiteral : Place → Place → List ℕ → PrimaryP
     TrueLiteral : Place → PrimaryP
     FalseLiteral : Place → PrimaryP
     AttributeName : Word → PrimaryP

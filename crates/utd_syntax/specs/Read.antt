@@ -101,6 +101,7 @@ read_name_list (x ∷ xs) = read_name x ∷ read_name_list xs
 abbrev pub read_point : PointNameTree → PointP
 read_point (rust_point.Integer v0) = plain.IntegerType v0
 read_point (rust_point.Date v0) = plain.DateType v0
+read_point (rust_point.Moment v0) = plain.MomentType v0
 read_point (rust_point.Named v0) = plain.NamedType (read_name v0)
 
 abbrev mutual
@@ -137,6 +138,7 @@ abbrev mutual
   read_primary (rust_primary.Integer v0 v1) = plain.IntegerLiteral v0 v1.list.items
   read_primary (rust_primary.Text v0 v1) = plain.TextLiteral v0 v1.list.items
   read_primary (rust_primary.Date v0 v1 v2) = plain.DateLiteral v0 v1 v2.list.items
+  read_primary (rust_primary.Moment v0 v1 v2) = plain.MomentLiteral v0 v1 v2.list.items
   read_primary (rust_primary.True v0) = plain.TrueLiteral v0
   read_primary (rust_primary.False v0) = plain.FalseLiteral v0
   read_primary (rust_primary.Attribute v0) = plain.AttributeName (read_name v0)

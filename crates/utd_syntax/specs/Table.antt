@@ -13,7 +13,7 @@ pub record Load : Type 0 where
 
 -- A form that may stand here, or the rest of one that has begun.
 pub data Symbol : Type 0 where
-  TheName Comma DateText NegativeDigits ThePrimary AfterName AfterScalar EndOfSelector InParens InPair InPoint TheSign TheProd MoreProd TheSum MoreSum TheCmp MoreCmp TheNeg TheConj MoreAnd TheScalar MoreOr ThePoint TheKind TheAttribute MoreAttributes InHeading TheHeading MoreNames InNames InList TheNames TheList TheSomeNames TheParenName TheElement MoreElements InElements TheElements TheSomeElements TheTuple MoreTuples InTuples TheTuples TheLiteral AfterRelation TheSetItem MoreSetItems TheSets EmptyParens TheAggregateForm TheAggregate MoreAggregates TheAggregates TheRenaming MoreRenamings TheRenamings ThePortion MaybePortion MaybeWhere InProjection TheOperand TheExtend TheSummarize TheRelPrimary TheTerm MorePostfix TheTerms MoreInfix TheUsing TheRel TheUsingPart AfterOperand TheKey TheForeign TheUsedConstraint TheConstraint MoreConstraints InRel TheVarForm TheComparison AfterLeft TheTest TheUsedDeletion TheUsedItem TheDeletion TheItem MoreItems TheAssign TheStatement : Symbol
+  TheName Comma DateText MomentText NegativeDigits ThePrimary AfterName AfterScalar EndOfSelector InParens InPair InPoint TheSign TheProd MoreProd TheSum MoreSum TheCmp MoreCmp TheNeg TheConj MoreAnd TheScalar MoreOr ThePoint TheKind TheAttribute MoreAttributes InHeading TheHeading MoreNames InNames InList TheNames TheList TheSomeNames TheParenName TheElement MoreElements InElements TheElements TheSomeElements TheTuple MoreTuples InTuples TheTuples TheLiteral AfterRelation TheSetItem MoreSetItems TheSets EmptyParens TheAggregateForm TheAggregate MoreAggregates TheAggregates TheRenaming MoreRenamings TheRenamings ThePortion MaybePortion MaybeWhere InProjection TheOperand TheExtend TheSummarize TheRelPrimary TheTerm MorePostfix TheTerms MoreInfix TheUsing TheRel TheUsingPart AfterOperand TheKey TheForeign TheUsedConstraint TheConstraint MoreConstraints InRel TheVarForm TheComparison AfterLeft TheTest TheUsedDeletion TheUsedItem TheDeletion TheItem MoreItems TheAssign TheStatement : Symbol
   -- this token; this word where it stands for itself
   Just : Terminal → Symbol
   Worded : List ℕ → Symbol
@@ -21,9 +21,9 @@ pub data Symbol : Type 0 where
   Shut : Load → Symbol
 
 -- How a token is taken: it counts as an operator; it is a comma; it is an integer behind its "-"; it is the text of a
--- date; it opens a level, which ends behind these forms; or it is an operator that opens one.
+-- date, or of a moment; it opens a level, which ends behind these forms; or it is an operator that opens one.
 pub data Taking : Type 0 where
-  Plain Operator Separator Negated Dated : Taking
+  Plain Operator Separator Negated Dated Timed : Taking
   Opens OperatorOpens : List Symbol → Taking
 
 -- What a token does where a form may stand: it cannot stand there; the form ends before it; or it is taken, and these
@@ -59,6 +59,9 @@ comma_rows = on t.Comma Separator [] ∷ []
 abbrev pub date_text_rows : List Row
 date_text_rows = on t.Quoted Dated [] ∷ []
 
+abbrev pub moment_text_rows : List Row
+moment_text_rows = on t.Quoted Timed [] ∷ []
+
 abbrev pub negative_digits_rows : List Row
 negative_digits_rows = on t.Digits Negated [] ∷ []
 
@@ -67,6 +70,7 @@ primary_rows =
     on t.Digits Plain [] ∷
     on t.Quoted Plain [] ∷
     on t.Date Plain (DateText ∷ []) ∷
+    on t.Moment Plain (MomentText ∷ []) ∷
     on t.True Plain [] ∷
     on t.False Plain [] ∷
     on t.Name Plain (AfterName ∷ []) ∷
@@ -174,6 +178,7 @@ abbrev pub point_rows : List Row
 point_rows =
     on t.Integer Plain [] ∷
     on t.Date Plain [] ∷
+    on t.Moment Plain [] ∷
     on t.Name Plain [] ∷
     []
 
@@ -447,6 +452,7 @@ abbrev pub rows : Symbol → List Row
 rows TheName = name_rows
 rows Comma = comma_rows
 rows DateText = date_text_rows
+rows MomentText = moment_text_rows
 rows NegativeDigits = negative_digits_rows
 rows ThePrimary = primary_rows
 rows AfterName = after_name_rows

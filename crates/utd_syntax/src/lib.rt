@@ -10,7 +10,7 @@ mod terminal;
 mod word;
 mod words;
 
-pub use literals::{exceeds, is_date, number_up_to};
+pub use literals::{exceeds, is_date, is_moment, number_up_to};
 pub use parts::{
     Aggregate, AggregateForm, AggregateList, Aggregates, Attribute, Attributes, Condition, Element,
     ElementList, Elements, Heading, Kind, Literal, MaybePortion, NameList, Names, Portion,

@@ -1,9 +1,9 @@
-// The numbers and the dates that literals write.
+// The numbers, the dates and the moments that literals write.
 ghost use Rattle.std.specs.Prelude.{◌≡◌, Some, None, nat_le, nat_lt, if◌then◌else◌};
 ghost use Rattle.utd_syntax.specs.Literals.{value_of};
 ghost use Rattle.utd_syntax.specs.Literals as literals;
 
-use point_core::read_date;
+use point_core::{read_date, read_moment};
 
 /// The number that the digits write, where it is at most that.
 pub fn number_up_to(most: u64, digits: &[u8]) -> Option<u64>
@@ -31,4 +31,12 @@ pub fn is_date(text: &[u8]) -> bool
     ensures { result ≡ literals.is_date text.now }
 {
     read_date(text).is_some()
+}
+
+/// The text is a moment as `YYYY-MM-DDTHH:MM:SS`: a day that exists, from 0001-01-01 to 9999-12-31, and an hour up to 23, a
+/// minute up to 59 and a second up to 59.
+pub fn is_moment(text: &[u8]) -> bool
+    ensures { result ≡ literals.is_moment text.now }
+{
+    read_moment(text).is_some()
 }

@@ -6,11 +6,12 @@ use crate::words::{
 };
 use point_core::Place;
 
-/// `INTEGER`, `DATE`, or the name of an ordinal type.
+/// `INTEGER`, `DATE`, `MOMENT`, or the name of an ordinal type.
 #[derive(Drop)]
 pub enum PointName {
     Integer(Place),
     Date(Place),
+    Moment(Place),
     Named(Word),
 }
 
@@ -73,13 +74,14 @@ pub enum Sign {
 }
 
 /// A literal, an attribute, a value of an ordinal type, a scalar in parentheses, an interval, or a function. The first
-/// place is that of the first token; a date has that of its text too.
+/// place is that of the first token; a date and a moment have that of their text too.
 #[cycle(scalar)]
 #[derive(Drop)]
 pub enum Primary {
     Integer(Place, Bytes),
     Text(Place, Bytes),
     Date(Place, Place, Bytes),
+    Moment(Place, Place, Bytes),
     True(Place),
     False(Place),
     Attribute(Word),

@@ -27,26 +27,26 @@ use Rattle.cell_boxes.proofs.covering.+covered.Goals as goal
 
 pub returns-then-sides-eq0-clause-grid_points : goal.returns-then-sides-eq0-clause-grid_points
 returns-then-sides-eq0-clause-grid_points g t c =
-    leaf_grid_points (g.O.CellOp.means c.args.op.now) (sides_of c.args.boxes.now) c.args.live.now c.as_slice.result.now
-    (is_not_nil c.args.live.now c.is_empty.result c.is_empty.ensures c.if-is_empty.false) (c.as_slice.ensures.value ∙ c.new-none.ensures.items) c.args.sides (omega arith) c.in_ok-rows.rows.items c.in_ok-rows.ensures.rows
+    leaf_grid_points (λ a b. g.O.CellRule.means c.args.rule.now a) (sides_of c.args.boxes.now) c.args.live.now []
+    (is_not_nil c.args.live.now c.is_empty.result c.is_empty.ensures c.if-is_empty.false) refl c.args.sides (omega arith) c.in_ok-rows.rows.items c.in_ok-rows.ensures.rows
 
 pub returns-then-sides-eq0-clause-lengths : goal.returns-then-sides-eq0-clause-lengths
 returns-then-sides-eq0-clause-lengths g t c =
     all_from_members (λ (x : PlainCellBox _). length x.1 ≡ c.args.sides) c.in_ok-rows.rows.items
-    (leaf_lengths (g.O.CellOp.means c.args.op.now) (sides_of c.args.boxes.now) c.args.live.now c.as_slice.result.now
-    (is_not_nil c.args.live.now c.is_empty.result c.is_empty.ensures c.if-is_empty.false) (c.as_slice.ensures.value ∙ c.new-none.ensures.items) c.args.sides (omega arith) c.in_ok-rows.rows.items c.in_ok-rows.ensures.rows)
+    (leaf_lengths (λ a b. g.O.CellRule.means c.args.rule.now a) (sides_of c.args.boxes.now) c.args.live.now []
+    (is_not_nil c.args.live.now c.is_empty.result c.is_empty.ensures c.if-is_empty.false) refl c.args.sides (omega arith) c.in_ok-rows.rows.items c.in_ok-rows.ensures.rows)
 
 pub returns-then-sides-eq0-clause-ends : goal.returns-then-sides-eq0-clause-ends
 returns-then-sides-eq0-clause-ends g t c =
-    leaf_ends (g.O.CellOp.means c.args.op.now) (sides_of c.args.boxes.now) c.args.live.now c.as_slice.result.now
-    (is_not_nil c.args.live.now c.is_empty.result c.is_empty.ensures c.if-is_empty.false) (c.as_slice.ensures.value ∙ c.new-none.ensures.items) c.args.sides (omega arith) c.in_ok-rows.rows.items c.in_ok-rows.ensures.rows
+    leaf_ends (λ a b. g.O.CellRule.means c.args.rule.now a) (sides_of c.args.boxes.now) c.args.live.now []
+    (is_not_nil c.args.live.now c.is_empty.result c.is_empty.ensures c.if-is_empty.false) refl c.args.sides (omega arith) c.in_ok-rows.rows.items c.in_ok-rows.ensures.rows
 
 pub returns-then-sides-eq0-clause-least : goal.returns-then-sides-eq0-clause-least
 returns-then-sides-eq0-clause-least g t c =
-    let f = GivesFault (g.O.CellOp.means c.args.op.now) 0 in
-    least_more (λ e. f e c.args.live.now c.as_slice.result.now) (IsSomewhere c.args.sides f (sides_of c.args.boxes.now) c.args.live.now []) c.args.least.now c.leaf.new.least
-    (leaf_least (g.O.CellOp.means c.args.op.now) (sides_of c.args.boxes.now) c.args.live.now c.as_slice.result.now
-    (is_not_nil c.args.live.now c.is_empty.result c.is_empty.ensures c.if-is_empty.false) (c.as_slice.ensures.value ∙ c.new-none.ensures.items) c.args.sides (omega arith))
+    let f = GivesFault (λ a b. g.O.CellRule.means c.args.rule.now a) 0 in
+    least_more (λ e. f e c.args.live.now []) (IsSomewhere c.args.sides f (sides_of c.args.boxes.now) c.args.live.now []) c.args.least.now c.labels_at.new.least
+    (leaf_least (λ a b. g.O.CellRule.means c.args.rule.now a) (sides_of c.args.boxes.now) c.args.live.now []
+    (is_not_nil c.args.live.now c.is_empty.result c.is_empty.ensures c.if-is_empty.false) refl c.args.sides (omega arith))
     c.in_ok-rows.ensures.least
 
 -- ---- one side more
@@ -69,18 +69,15 @@ pub covered-requires : goal.covered-requires
 covered-requires g t c = λ κs within.
     let side : ℕ = c.args.sides - 1 in
     let n : ℕ = length c.args.boxes.now in
-    let e = c.as_slice-then-begin-end.ensures.value ∙ c.in_ok-sweep-2.ensures.live 0 n c.loop-i.begin c.args.live.now c.requires.rows (omega arith) c.loop-i.invariant.sweep in (
+    let e = c.as_slice.ensures.value ∙ c.in_ok-sweep-2.ensures.live 0 n c.loop-i.begin c.args.live.now c.requires.rows (omega arith) c.loop-i.invariant.sweep in (
       omega arith,
       (
         within.0,
         (
-          within.1.0,
+          within.1,
           (
-            within.1.1,
-            (
-              subst (AreRows 0 n) (sym e) (AreRows-filter (side_has (sides_of c.args.boxes.now) side c.loop-i.begin) 0 n c.args.live.now c.requires.rows),
-              (λ k d h. let w = c.requires.sides k d h in omega arith, c.requires.can),
-            ),
+            subst (AreRows 0 n) (sym e) (AreRows-filter (side_has (sides_of c.args.boxes.now) side c.loop-i.begin) 0 n c.args.live.now c.requires.rows),
+            (λ k d h. let w = c.requires.sides k d h in omega arith, c.requires.can),
           ),
         ),
       ),
@@ -95,8 +92,8 @@ loop-i-preserved g t c =
     let i : ℕ = c.loop-i.i in
     let a : ℕ = c.loop-i.begin in
     let z : ℕ = c.index-end.result.now in
-    let f = GivesLabel (g.O.CellOp.means c.args.op.now) 0 in
-    let h = GivesFault (g.O.CellOp.means c.args.op.now) 0 in
+    let f = GivesLabel (λ a b. g.O.CellRule.means c.args.rule.now a) 0 in
+    let h = GivesFault (λ a b. g.O.CellRule.means c.args.rule.now a) 0 in
     let l : i < length cuts = omega arith in
     let e : get_or cuts i 0 ≡ z = get_or_default cuts i 0 z l ∙ sym c.index-end.ensures in
     let order : (j k : ℕ) → j ≤ k → k < length cuts → get_or cuts j 0 ≤ get_or cuts k 0 = c.in_ok-cuts.ensures.order in
@@ -112,7 +109,7 @@ loop-i-preserved g t c =
       grid_points = elim c.if-begin-end.branch [
         | then-begin-end+in_ok-sweep-2+in_ok-rows-2+in_ok-push_longer w ↦
             let q : c.if-begin-end.out.items ≡ c.loop-i.out.items ++ map (longer (a, z)) w.in_ok-rows-2.rows.items = ap (λ (v : Vec (CellBox _) Global). v.items) w.out-is ∙ w.in_ok-push_longer.ensures in
-            let s = w.as_slice-then-begin-end.ensures.value ∙ w.in_ok-sweep-2.ensures.live 0 (length c.args.boxes.now) a live c.requires.rows (omega arith) c.loop-i.invariant.sweep in
+            let s = w.as_slice.ensures.value ∙ w.in_ok-sweep-2.ensures.live 0 (length c.args.boxes.now) a live c.requires.rows (omega arith) c.loop-i.invariant.sweep in
             turn_grid_points S side a z up c.loop-i.out.items c.if-begin-end.out.items w.in_ok-rows-2.rows.items q
             (λ x m. let r = among_row w.in_ok-rows-2.rows.items x m in row_all (λ (y : PlainCellBox _). length y.1 ≡ side) w.in_ok-rows-2.rows.items w.in_ok-rows-2.ensures.lengths r.0 x r.1)
             (λ t grid_point p. subst (λ m. HasRow w.in_ok-rows-2.rows.items t grid_point ↔ InLive f b m [] t grid_point) s (w.in_ok-rows-2.ensures.grid_points t grid_point p))
@@ -137,7 +134,7 @@ loop-i-preserved g t c =
       ends = elim c.if-begin-end.branch [
         | then-begin-end+in_ok-sweep-2+in_ok-rows-2+in_ok-push_longer w ↦
             let q : c.if-begin-end.out.items ≡ c.loop-i.out.items ++ map (longer (a, z)) w.in_ok-rows-2.rows.items = ap (λ (v : Vec (CellBox _) Global). v.items) w.out-is ∙ w.in_ok-push_longer.ensures in
-            let s = w.as_slice-then-begin-end.ensures.value ∙ w.in_ok-sweep-2.ensures.live 0 (length c.args.boxes.now) a live c.requires.rows (omega arith) c.loop-i.invariant.sweep in
+            let s = w.as_slice.ensures.value ∙ w.in_ok-sweep-2.ensures.live 0 (length c.args.boxes.now) a live c.requires.rows (omega arith) c.loop-i.invariant.sweep in
             turn_ends b live side a z cut c.loop-i.out.items c.if-begin-end.out.items w.in_ok-rows-2.rows.items q
             (λ x m. let r = among_row w.in_ok-rows-2.rows.items x m in row_all (λ (y : PlainCellBox _). length y.1 ≡ side) w.in_ok-rows-2.rows.items w.in_ok-rows-2.ensures.lengths r.0 x r.1)
             (λ x m. subst (λ ns. (r : ℕ) × Among r ns × EndsBy (box b r) x.1) s (w.in_ok-rows-2.ensures.ends x m))
@@ -149,7 +146,7 @@ loop-i-preserved g t c =
       least = elim c.if-begin-end.branch [
         | then-begin-end+in_ok-sweep-2+in_ok-rows-2+in_ok-push_longer w ↦
             let less : a < z = w.if-begin-end.true in
-            let s = w.as_slice-then-begin-end.ensures.value ∙ w.in_ok-sweep-2.ensures.live 0 (length c.args.boxes.now) a live c.requires.rows (omega arith) c.loop-i.invariant.sweep in
+            let s = w.as_slice.ensures.value ∙ w.in_ok-sweep-2.ensures.live 0 (length c.args.boxes.now) a live c.requires.rows (omega arith) c.loop-i.invariant.sweep in
             let more : IsLeast (λ d. (c.loop-i.least ≡ Some d) ⊎ Q a d) w.covered.new.least = subst (λ m. IsLeast (λ d. (c.loop-i.least ≡ Some d) ⊎ IsSomewhere side h b m [] d) w.covered.new.least) s w.in_ok-rows-2.ensures.least in
             subst (λ o. Least o z) (sym w.least-is)
             (turn_least Q a z less (λ j d p r. ap (λ m. IsSomewhere side h b m [] d) (alike j p r)) c.args.least.now c.loop-i.least w.covered.new.least c.loop-i.invariant.least more)
@@ -177,7 +174,7 @@ returns-clause-grid_points g t c =
     let b = sides_of c.args.boxes.now in
     let live = c.args.live.now in
     let cuts = c.in_ok-cuts.cuts.items in
-    let f = GivesLabel (g.O.CellOp.means c.args.op.now) 0 in
+    let f = GivesLabel (λ a b. g.O.CellRule.means c.args.rule.now a) 0 in
     let e : suc side ≡ c.args.sides = omega arith in
     let end : length cuts ≤ c.loop-i.i = omega arith in
     let last : (i : ℕ) → c.loop-i.begin ≤ i → filter (side_has b side i) live ≡ [] = none_after b side live c.loop-i.begin (λ m h. all_passed cuts c.loop-i.begin (λ j q. c.loop-i.invariant.passed j (omega arith)) m (c.in_ok-cuts.ensures.cuts m h)) in
@@ -192,7 +189,7 @@ returns-clause-least g t c =
     let b = sides_of c.args.boxes.now in
     let live = c.args.live.now in
     let cuts = c.in_ok-cuts.cuts.items in
-    let h = GivesFault (g.O.CellOp.means c.args.op.now) 0 in
+    let h = GivesFault (λ a b. g.O.CellRule.means c.args.rule.now a) 0 in
     let e : suc side ≡ c.args.sides = omega arith in
     let end : length cuts ≤ c.loop-i.i = omega arith in
     let last : (i : ℕ) → c.loop-i.begin ≤ i → filter (side_has b side i) live ≡ [] = none_after b side live c.loop-i.begin (λ m h. all_passed cuts c.loop-i.begin (λ j q. c.loop-i.invariant.passed j (omega arith)) m (c.in_ok-cuts.ensures.cuts m h)) in

@@ -15,7 +15,7 @@ decreases-covered g l = l.sides
 
 abbrev pub invariant-loop-i : goal.invariant-loop-i
 invariant-loop-i g l =
-    let m = g.O.CellOp.means l.op in
+    let m : List ℕ → List ℕ → _ = λ a b. g.O.CellRule.means l.rule a in
     let b = sides_of l.boxes in
     record {
       grid_points : (t : _) (grid_point : List ℕ) (j : ℕ) → length grid_point ≡ l.side → HasRow l.out.items t (grid_point ++ j ∷ []) ↔ (j < l.begin) × InLive (GivesLabel m 0) b (filter (side_has b l.side j) l.live) [] t grid_point;

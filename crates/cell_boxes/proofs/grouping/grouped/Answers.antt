@@ -17,7 +17,7 @@ use Rattle.cell_boxes.proofs.grouping.grouped.Goals as goal
 
 pub loop-first-init : goal.loop-first-init
 loop-first-init g c =
-    let m = g.O.CellOp.means c.args.op.now in
+    let m : List ℕ → List ℕ → _ = λ a b. g.O.CellRule.means c.args.rule.now a in
     let rows = c.args.rows.now in
     record {
       within = omega arith;
@@ -44,7 +44,7 @@ loop-first-preserved g c =
     let o = g.P.Label.order in
     let total = g.met.P.Label.total in
     let sep = g.met.P.Label.separates in
-    let m = g.O.CellOp.means c.args.op.now in
+    let m : List ℕ → List ℕ → _ = λ a b. g.O.CellRule.means c.args.rule.now a in
     let rows = c.args.rows.now in
     let k : ℕ = c.args.sides in
     let first : ℕ = c.loop-first.first in
@@ -91,14 +91,14 @@ loop-first-preserved g c =
 
 pub returns-clause-grid_points : goal.returns-clause-grid_points
 returns-clause-grid_points g c = λ l grid_point f.
-    let m = g.O.CellOp.means c.args.op.now in
+    let m : List ℕ → List ℕ → _ = λ a b. g.O.CellRule.means c.args.rule.now a in
     let v = c.loop-first.invariant.grid_points l grid_point f in
     let w = done_all c.args.rows.now c.loop-first.first (omega arith) (λ a. Gives (m a []) l) grid_point in
     (λ h. w.0 (v.0 h), λ h. v.1 (w.1 h))
 
 pub returns-clause-least : goal.returns-clause-least
 returns-clause-least g c =
-    let m = g.O.CellOp.means c.args.op.now in
+    let m : List ℕ → List ℕ → _ = λ a b. g.O.CellRule.means c.args.rule.now a in
     let rows = c.args.rows.now in
     let k : ℕ = c.args.sides in
     let all : length rows ≤ c.loop-first.first = omega arith in

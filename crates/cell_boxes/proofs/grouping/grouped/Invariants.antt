@@ -13,7 +13,7 @@ decreases-loop-first g l = length l.rows - l.first
 
 abbrev pub invariant-loop-first : goal.invariant-loop-first
 invariant-loop-first g l =
-    let m = g.O.CellOp.means l.op in
+    let m : List ℕ → List ℕ → _ = λ a b. g.O.CellRule.means l.rule a in
     record {
       within : l.first ≤ length l.rows;
       split : Split l.rows l.first;

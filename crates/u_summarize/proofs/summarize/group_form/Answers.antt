@@ -18,12 +18,12 @@ use Rattle.u_summarize.specs.Groups.{HasGroupFault, IsGroupForm}
 use Rattle.u_summarize.proofs.PointGroups.{many_cells, parts_on, places, faults, packed_groups}
 use Rattle.u_summarize.proofs.summarize.group_form.Goals as goal
 
-pub given-requires-clause-sides : goal.given-requires-clause-sides
-given-requires-clause-sides g c =
+pub given_at_cells-requires-clause-sides : goal.given_at_cells-requires-clause-sides
+given_at_cells-requires-clause-sides g c =
     All-same (λ (x : PlainCellBox Row). length x.1 ≡ length c.args.types.now) c.as_slice-2.result.now c.in_ok-sides.field-0.left.items c.as_slice-2.ensures.value c.in_ok-sides.ensures.left_sides
 
-pub given-requires-clause-can : goal.given-requires-clause-can
-given-requires-clause-can g c = λ a n r.
+pub given_at_cells-requires-clause-can : goal.given_at_cells-requires-clause-can
+given_at_cells-requires-clause-can g c = λ a n r.
     let many = ap length c.as_slice-2.ensures.value ∙ many_cells g.T.PointType.number_of g.T.PointType.IsPoint g.T.PointType.last_number (λ t. (g.met.T.PointType.each t (g.T.PointType.first_number t) (omega (arith, ints)) (g.met.T.PointType.nonempty t)).0) c.args.types.now c.args.rows.now c.as_slice.result.now c.in_ok-sides.field-0.sides.items c.in_ok-sides.field-0.left.items c.in_ok-sides.field-0.right.items c.in_ok-sides.ensures.rows in
     c.requires.can a n (subst (λ m. AreRows 0 m a) many r)
 

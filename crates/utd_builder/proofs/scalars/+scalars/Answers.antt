@@ -153,11 +153,17 @@ primary-date-requires u c = (sym c.terminal-terminal.ensures ∙ c.in-Date.is)
 pub primary-returns-in-Date : goal.primary-returns-in-Date
 primary-returns-in-Date u c = c.date.ensures
 
+pub primary-moment-requires : goal.primary-moment-requires
+primary-moment-requires u c = (sym c.terminal-terminal.ensures ∙ c.in-Moment.is)
+
+pub primary-returns-in-Moment : goal.primary-returns-in-Moment
+primary-returns-in-Moment u c = c.moment.ensures
+
 pub primary-returns-in-True : goal.primary-returns-in-True
 primary-returns-in-True u c = record { shorter = omega (arith, no-more (left c.args.cursor) (left c.skip.result) c.skip.ensures); goes_on = λ stack k x h. at t.True _ _ (left c.args.cursor) (left c.skip.result) (ThePrimary ∷ stack) k x (sym c.terminal-terminal.ensures ∙ c.in-True.is) refl c.place.ensures refl c.skip.ensures h }
 
 pub primary-returns-in_default-terminal : goal.primary-returns-in_default-terminal
-primary-returns-in_default-terminal u c = record { shorter = omega (arith, no-more (left c.args.cursor) (left c.skip-in_default-terminal.result) c.skip-in_default-terminal.ensures); goes_on = λ stack k x h. step-ThePrimary _ _ (left c.args.cursor) (left c.skip-in_default-terminal.result) _ k x (ap function_at (sym c.terminal-terminal.ensures) ∙ sym c.function_word.ensures ∙ c.in_default.is) (ap pair_function_at (sym c.terminal-terminal.ensures) ∙ sym c.pair_word.ensures ∙ c.in_default-pair_word.is) (λ e. c.in_default-terminal.not-Open (c.terminal-terminal.ensures ∙ e)) (λ e. c.in_default-terminal.not-OpenBracket (c.terminal-terminal.ensures ∙ e)) (λ e. c.in_default-terminal.not-First (c.terminal-terminal.ensures ∙ e)) (λ e. c.in_default-terminal.not-Last (c.terminal-terminal.ensures ∙ e)) (λ e. c.in_default-terminal.not-Name (c.terminal-terminal.ensures ∙ e)) (λ e. c.in_default-terminal.not-Digits (c.terminal-terminal.ensures ∙ e)) (λ e. c.in_default-terminal.not-Quoted (c.terminal-terminal.ensures ∙ e)) (λ e. c.in_default-terminal.not-Date (c.terminal-terminal.ensures ∙ e)) (λ e. c.in_default-terminal.not-True (c.terminal-terminal.ensures ∙ e)) c.place-in_default-terminal.ensures refl c.skip-in_default-terminal.ensures h }
+primary-returns-in_default-terminal u c = record { shorter = omega (arith, no-more (left c.args.cursor) (left c.skip-in_default-terminal.result) c.skip-in_default-terminal.ensures); goes_on = λ stack k x h. step-ThePrimary _ _ (left c.args.cursor) (left c.skip-in_default-terminal.result) _ k x (ap function_at (sym c.terminal-terminal.ensures) ∙ sym c.function_word.ensures ∙ c.in_default.is) (ap pair_function_at (sym c.terminal-terminal.ensures) ∙ sym c.pair_word.ensures ∙ c.in_default-pair_word.is) (λ e. c.in_default-terminal.not-Open (c.terminal-terminal.ensures ∙ e)) (λ e. c.in_default-terminal.not-OpenBracket (c.terminal-terminal.ensures ∙ e)) (λ e. c.in_default-terminal.not-First (c.terminal-terminal.ensures ∙ e)) (λ e. c.in_default-terminal.not-Last (c.terminal-terminal.ensures ∙ e)) (λ e. c.in_default-terminal.not-Name (c.terminal-terminal.ensures ∙ e)) (λ e. c.in_default-terminal.not-Digits (c.terminal-terminal.ensures ∙ e)) (λ e. c.in_default-terminal.not-Quoted (c.terminal-terminal.ensures ∙ e)) (λ e. c.in_default-terminal.not-Date (c.terminal-terminal.ensures ∙ e)) (λ e. c.in_default-terminal.not-Moment (c.terminal-terminal.ensures ∙ e)) (λ e. c.in_default-terminal.not-True (c.terminal-terminal.ensures ∙ e)) c.place-in_default-terminal.ensures refl c.skip-in_default-terminal.ensures h }
 
 pub disjunction-conjunction-requires : goal.disjunction-conjunction-requires
 disjunction-conjunction-requires u c = (omega arith, tt)
