@@ -4,7 +4,7 @@ use Rattle.std.proofs.Common.{sym}
 use Rattle.std.specs.List.{list_all}
 use Rattle.std.proofs.lemmas.Bool.{and_parts, and_from, true≢false}
 use Rattle.point_core.specs.declared.any_type.AnyType.{AnyType}
-use Rattle.point_core.specs.declared.any_type.AnyType.TheVariants.{Integer, Date, Ordinal}
+use Rattle.point_core.specs.declared.any_type.AnyType.TheVariants.{Integer, Date, Ordinal, Moment}
 use Rattle.value_core.specs.declared.kind.Kind.{Kind}
 use Rattle.value_core.specs.declared.kind.Kind.TheVariants.{Truth, Char, Point, Span}
 use Rattle.value_core.specs.Values.{Heading, is_heading}
@@ -27,6 +27,7 @@ module _ (sizes more : List ℕ) where
   type-more Integer h = refl
   type-more Date h = refl
   type-more (Ordinal of last) h = ordinal-more of last h
+  type-more Moment h = refl
 
   kind-more : (k : Kind) → IsTrue (is_kind sizes k) → IsTrue (is_kind (sizes ++ more) k)
   kind-more Truth h = refl

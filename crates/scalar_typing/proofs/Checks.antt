@@ -2,9 +2,9 @@
 use Rattle.std.specs.Prelude.{◌≡◌, ℕ, List, [], ◌∷◌, pos, negsuc, Ok, Err, refl}
 use Rattle.point_core.specs.declared.fault.Place.{Place}
 use Rattle.point_core.specs.declared.fault.Code.TheVariants.{E06, E10, E12, E14}
-use Rattle.point_core.specs.declared.any_type.AnyType.TheVariants.{Integer, Ordinal}
+use Rattle.point_core.specs.declared.any_type.AnyType.TheVariants.{Integer, Ordinal, Moment}
 use Rattle.point_core.specs.Faults.{fault}
-use Rattle.point_core.specs.Points.{integers, values_of}
+use Rattle.point_core.specs.Points.{integers, values_of, seconds}
 use Rattle.interval_core.specs.declared.selector.Ends.TheVariants as ends
 use Rattle.utd_syntax.specs.declared.words.ComparisonWord.TheVariants as comparison
 use Rattle.utd_syntax.specs.declared.words.SumWord.TheVariants as sums
@@ -12,7 +12,7 @@ use Rattle.utd_syntax.specs.declared.words.ExtremeWord.TheVariants as extremes
 use Rattle.utd_syntax.specs.declared.words.FunctionWord.TheVariants as functions
 use Rattle.utd_syntax.specs.declared.words.BeginBracket.TheVariants as begins
 use Rattle.utd_syntax.specs.declared.words.EndBracket.TheVariants as finishes
-use Rattle.utd_syntax.specs.Plain.{word, ScalarP, OneConj, Or, OneNeg, Not, OneCmp, CmpP, OneSum, Compare, SumP, OneProd, Add, ProdP, OneSign, NegativeInteger, Negate, OnePrimary, PrimaryP, IntegerLiteral, TrueLiteral, AttributeName, Dotted, Paren, Selector, Extreme, Function, IntegerType, NamedType}
+use Rattle.utd_syntax.specs.Plain.{word, ScalarP, OneConj, Or, OneNeg, Not, OneCmp, CmpP, OneSum, Compare, SumP, OneProd, Add, ProdP, OneSign, NegativeInteger, Negate, OnePrimary, PrimaryP, IntegerLiteral, MomentLiteral, TrueLiteral, AttributeName, Dotted, Paren, Selector, Extreme, Function, IntegerType, MomentType, NamedType}
 use Rattle.value_core.specs.declared.kind.Kind.TheVariants.{Truth, Char, Point}
 use Rattle.value_core.specs.declared.list.OrdinalNames.{OrdinalNames}
 use Rattle.value_core.specs.Values.{Heading, point}
@@ -109,6 +109,13 @@ no_type = refl
 
 last_of_type : typed_scalar types [] (whole (Extreme (at 1) extremes.Last (NamedType (word (at 6) size)))) ≡ Ok (constant (at 1) (Point (Ordinal 0 2)) (point (values_of 0) (pos 2)), Point (Ordinal 0 2))
 last_of_type = refl
+
+-- LAST(MOMENT), and no hour 24: refused at the text
+last_moment : typed_scalar types [] (whole (Extreme (at 1) extremes.Last (MomentType (at 6)))) ≡ Ok (constant (at 1) (Point Moment) (point seconds (pos 253402300799)), Point Moment)
+last_moment = refl
+
+no_moment : typed_scalar types [] (whole (MomentLiteral (at 1) (at 8) (50 ∷ 48 ∷ 49 ∷ 50 ∷ 45 ∷ 48 ∷ 49 ∷ 45 ∷ 48 ∷ 49 ∷ 84 ∷ 50 ∷ 52 ∷ 58 ∷ 48 ∷ 48 ∷ 58 ∷ 48 ∷ 48 ∷ []))) ≡ Err (fault (at 8) E06)
+no_moment = refl
 
 -- an attribute by its position
 second_attribute : typed_scalar types heading (whole (named 1 (78 ∷ []))) ≡ Ok (attribute (at 1) 1, Point Integer)

@@ -1,8 +1,9 @@
--- A date of the calendar has the number of a day.
-use Rattle.std.specs.Prelude.{◌≡◌, ℕ, zero, suc, ◌+◌, ◌-◌, ◌≤◌, Bool, true, false, if◌then◌else◌, refl}
+-- A date of the calendar has the number of a day, and a moment that of a second of the days.
+use Rattle.std.specs.Prelude.{◌≡◌, ℕ, zero, suc, ◌+◌, ◌-◌, ◌*◌, ◌≤◌, ℤ, pos, ◌+ℤ◌, ◌*ℤ◌, Bool, true, false, if◌then◌else◌, refl}
 use Rattle.std.proofs.Common.{arith}
 use Rattle.std.proofs.lemmas.Int.{ints}
 use Rattle.point_core.specs.Dates.{is_leap, days_of_year, days_of_month, days_of_years, days_of_months, day_place, date_number, IsCalendarDate, IsDay}
+use Rattle.point_core.specs.Moments.{IsClock, IsSecond, clock_number, moment_number}
 use Rattle.point_core.proofs.CalendarLemmas.{epoch_place, years_rise}
 
 leap-year : (b : Bool) → (if b then 29 else 28) + 337 ≡ (if b then 366 else 365)
@@ -45,3 +46,14 @@ is-day year month day h =
     let whole = whole-year year h.0 in
     let below = years_rise year 9999 h.1 in
     (omega (arith, ints, epoch_place, h.4), omega (arith, ints, epoch_place, months, whole, below, all-years, h.5))
+
+-- the second of a day that a clock shows
+second-within : (hour minute second : ℕ) → IsClock hour minute second → clock_number hour minute second ≤ 86399
+second-within hour minute second h = omega (arith, h.0, h.1, h.2)
+
+second-of-day : (day : ℤ) (clock : ℕ) → IsDay day → clock ≤ 86399 → IsSecond (day *ℤ pos 86400 +ℤ pos clock)
+second-of-day day clock h low = (omega (arith, ints, h.0, low), omega (arith, ints, h.1, low))
+
+pub is-second : (year month day hour minute second : ℕ) → IsCalendarDate year month day → IsClock hour minute second → IsSecond (moment_number year month day hour minute second)
+is-second year month day hour minute second date clock =
+    second-of-day (date_number year month day) (clock_number hour minute second) (is-day year month day date) (second-within hour minute second clock)

@@ -1,17 +1,20 @@
--- Dates and texts.
+-- Dates, moments and texts.
 use Rattle.std.specs.Prelude.{◌≡◌, ◌≤◌, ◌<◌, ℕ, ℤ, Bool, true, false, ◌&&◌, nat_le, nat_eq, List, Option, Some, None, if◌then◌else◌, IsNone, IfSome, IfOk, MatchOption, Result, Ok, Err, length, option_map, refl}
 use Rattle.std.proofs.Common.{arith, ◌⊎◌, inl, inr, sym, ◌∙◌, ap, subst, eq-eqb}
 use Rattle.std.proofs.lemmas.Bool.{le-leb, eqb-true}
 use Rattle.point_core.specs.Dates.{IsDateText}
+use Rattle.point_core.specs.Moments.{IsMomentText}
 use Rattle.utd_syntax.proofs.DateLemmas.{date-is, date-number, date-not}
+use Rattle.utd_syntax.proofs.MomentLemmas.{moment-is, moment-number, moment-not}
 use Rattle.utd_syntax.proofs.DigitLemmas.{above}
 use Rattle.std.specs.Str.{IsUtf8, IsValidUpTo}
 use Rattle.std.specs.Str.Lossy.{utf8_valid_len}
 use Rattle.std.proofs.lemmas.Str.{utf8_valid_len-IsUtf8}
 use Rattle.point_core.specs.declared.date_type.Day.{Day}
+use Rattle.point_core.specs.declared.moment_type.Second.{Second}
 use Rattle.value_core.specs.Lengths.{IsTextLength, is_utf8}
 use Rattle.value_core.specs.Limits.{most_text_bytes}
-use Rattle.scalar_typing.specs.Literals.{date_of, text_of}
+use Rattle.scalar_typing.specs.Literals.{date_of, moment_of, text_of}
 
 -- ---- dates
 
@@ -26,6 +29,20 @@ pub date-found : (bytes : List ℕ) (found : Option Day) → IfSome found (λ da
     option_map (λ (d : Day). d.number) found ≡ date_of bytes
 date-found bytes (Some day) is none = sym (date-some bytes day.number is)
 date-found bytes None is none = sym (date-none bytes (none refl))
+
+-- ---- moments
+
+-- the moment that is written, and none where none is
+pub moment-some : (bytes : List ℕ) (n : ℤ) → IsMomentText bytes n → moment_of bytes ≡ Some n
+moment-some bytes n h = rw (moment-is bytes n h) (ap Some (moment-number bytes n h))
+
+pub moment-none : (bytes : List ℕ) → ((n : ℤ) → ¬ IsMomentText bytes n) → moment_of bytes ≡ None
+moment-none bytes never = rw (moment-not bytes never)
+
+pub moment-found : (bytes : List ℕ) (found : Option Second) → IfSome found (λ m. IsMomentText bytes m.number) → (IsNone found → (n : ℤ) → ¬ IsMomentText bytes n) →
+    option_map (λ (m : Second). m.number) found ≡ moment_of bytes
+moment-found bytes (Some m) is none = sym (moment-some bytes m.number is)
+moment-found bytes None is none = sym (moment-none bytes (none refl))
 
 -- ---- texts
 

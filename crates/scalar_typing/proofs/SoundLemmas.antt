@@ -8,15 +8,16 @@ use Rattle.base_core.proofs.BoolLemmas.{and_right}
 use Rattle.point_core.specs.declared.fault.Place.{Place}
 use Rattle.point_core.specs.declared.fault.Stop.{Stop}
 use Rattle.point_core.specs.declared.any_type.AnyType.{AnyType}
-use Rattle.point_core.specs.declared.any_type.AnyType.TheVariants.{Integer, Date, Ordinal}
+use Rattle.point_core.specs.declared.any_type.AnyType.TheVariants.{Integer, Date, Ordinal, Moment}
 use Rattle.point_core.specs.Dates.{IsDay}
+use Rattle.point_core.specs.Moments.{IsSecond}
 use Rattle.point_core.specs.Faults.{OrFault}
 use Rattle.point_core.specs.Points.{IsNumber, is_number, line_of, first_of, last_of}
 use Rattle.utd_syntax.specs.declared.words.ExtremeWord.{ExtremeWord}
 use Rattle.utd_syntax.specs.declared.words.ExtremeWord.TheVariants.{First, Last}
 use Rattle.utd_syntax.specs.Plain as syntax
 use Rattle.utd_syntax.specs.Plain.{Word, PointP, ScalarP, ConjP, NegP, CmpP, SumP, ProdP, SignP, PrimaryP}
-use Rattle.utd_syntax.specs.Literals.{is_date}
+use Rattle.utd_syntax.specs.Literals.{is_date, is_moment}
 use Rattle.value_core.specs.declared.kind.Kind.{Kind}
 use Rattle.value_core.specs.declared.kind.Kind.TheVariants.{Truth}
 use Rattle.value_core.specs.declared.list.OrdinalNames.{OrdinalNames}
@@ -28,13 +29,14 @@ use Rattle.scalar_core.proofs.PointLemmas.{same_line-self, number-is_number, las
 use Rattle.value_core.specs.Limits.{most_text_bytes}
 use Rattle.scalar_typing.specs.declared.typed.Typed.{Typed as TypedTree}
 use Rattle.scalar_typing.specs.Typings.{Typed, ◌>>=◌, value_or, typed}
-use Rattle.scalar_typing.specs.Literals.{integer_of, negative_of, text_of, number_of_date, date_of, point_constant, integer_literal, text_literal, date_literal, extreme_constant}
+use Rattle.scalar_typing.specs.Literals.{integer_of, negative_of, text_of, number_of_date, date_of, number_of_moment, moment_of, point_constant, integer_literal, text_literal, date_literal, moment_literal, extreme_constant}
 use Rattle.value_core.specs.Lengths.{is_utf8}
 use Rattle.scalar_typing.specs.Names.{first_from, attribute_of, attribute_typed, ordinal_of, value_of, ordinal_type, point_type, ordinal_value, extreme_typed}
 use Rattle.scalar_typing.specs.Operators.{when, both_are, function_rule, sum_rule, product_rule, comparison_rule, pairing_rule, ends_of, selector_rule, not_rule, negate_rule, logic_typed}
 use Rattle.scalar_typing.specs.Scalars.{typed_scalar, typed_conj, typed_neg, typed_cmp, typed_sum, typed_prod, typed_sign, typed_primary}
-use Rattle.scalar_typing.proofs.DayLemmas.{is-day}
+use Rattle.scalar_typing.proofs.DayLemmas.{is-day, is-second}
 use Rattle.utd_syntax.proofs.DateLemmas.{undated}
+use Rattle.utd_syntax.proofs.MomentLemmas.{untimed}
 use Rattle.scalar_typing.proofs.NameLemmas.{first-stands}
 use Rattle.scalar_typing.proofs.TypedLemmas.{IsTypedPart, Sound, or-refused, mapped, when-holds, one-part, two-parts, both-are, not-sound, negate-sound, function-sound, sum-sound, product-sound, comparison-sound, pairing-sound, selector-sound}
 
@@ -81,6 +83,17 @@ date-sound heading at quoted bytes =
     (or-refused (IsNumber Date) quoted _ (date_of bytes) (if-some (IsNumber Date) (is_date bytes) (number_of_date bytes) (date-number bytes)))
     (λ n h. point-sound heading at Date n h)
 
+moment-number : (bytes : List ℕ) → is_moment bytes ≡ true → IsNumber Moment (number_of_moment bytes)
+moment-number bytes h =
+    let is = untimed bytes h in
+    subst IsSecond (sym is.9) (is-second is.0 is.1 is.2 is.3 is.4 is.5 is.6 is.7)
+
+moment-sound : (heading : Heading) (at quoted : Place) (bytes : List ℕ) → Sound heading (moment_literal at quoted bytes)
+moment-sound heading at quoted bytes =
+    then-sound (IsNumber Moment) (IsTypedPart heading) (value_or quoted _ (moment_of bytes)) _
+    (or-refused (IsNumber Moment) quoted _ (moment_of bytes) (if-some (IsNumber Moment) (is_moment bytes) (number_of_moment bytes) (moment-number bytes)))
+    (λ n h. point-sound heading at Moment n h)
+
 text-sound : (heading : Heading) (at : Place) (bytes : List ℕ) → Sound heading (text_literal at bytes)
 text-sound heading at bytes =
     then-sound (λ (b : List ℕ). nat_le (length b) most_text_bytes ≡ true) (IsTypedPart heading) (value_or at _ (text_of bytes)) _
@@ -91,6 +104,7 @@ first-number : (t : AnyType) → IsNumber t (first_of t)
 first-number Integer = (omega (arith, ints), omega (arith, ints))
 first-number Date = (omega (arith, ints), omega (arith, ints))
 first-number (Ordinal of last) = (omega (arith, ints), omega (arith, ints))
+first-number Moment = (omega (arith, ints), omega (arith, ints))
 
 extreme-sound : (heading : Heading) (at : Place) (w : ExtremeWord) (t : AnyType) → IsTypedPart heading (extreme_constant at w t)
 extreme-sound heading at First t = point-sound heading at t (first_of t) (first-number t)
@@ -194,6 +208,7 @@ mutual
   primary-sound types heading (syntax.IntegerLiteral at bytes) = integer-sound heading at at (integer_of bytes) (integer-some bytes)
   primary-sound types heading (syntax.TextLiteral at bytes) = text-sound heading at bytes
   primary-sound types heading (syntax.DateLiteral at quoted bytes) = date-sound heading at quoted bytes
+  primary-sound types heading (syntax.MomentLiteral at quoted bytes) = moment-sound heading at quoted bytes
   primary-sound types heading (syntax.TrueLiteral at) = (refl, refl)
   primary-sound types heading (syntax.FalseLiteral at) = (refl, refl)
   primary-sound types heading (syntax.AttributeName w) = attribute-sound heading w

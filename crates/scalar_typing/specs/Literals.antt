@@ -3,13 +3,13 @@ use Rattle.std.specs.Prelude.{ℕ, ℤ, pos, neg_ℤ, Bool, ◌&&◌, List, [], 
 use Rattle.point_core.specs.declared.fault.Place.{Place}
 use Rattle.point_core.specs.declared.fault.Code.TheVariants.{E06}
 use Rattle.point_core.specs.declared.any_type.AnyType.{AnyType}
-use Rattle.point_core.specs.declared.any_type.AnyType.TheVariants.{Integer, Date}
+use Rattle.point_core.specs.declared.any_type.AnyType.TheVariants.{Integer, Date, Moment}
 use Rattle.point_core.specs.Faults.{OrFault}
 use Rattle.point_core.specs.Points.{line_of, first_of, last_of}
 use Rattle.utd_syntax.specs.declared.words.ExtremeWord.{ExtremeWord}
 use Rattle.utd_syntax.specs.declared.words.ExtremeWord.TheVariants.{First, Last}
-use Rattle.utd_syntax.specs.Literals.{value_of, is_date}
-pub use Rattle.utd_syntax.specs.Literals.{number_of_date}
+use Rattle.utd_syntax.specs.Literals.{value_of, is_date, is_moment}
+pub use Rattle.utd_syntax.specs.Literals.{number_of_date, number_of_moment}
 use Rattle.value_core.specs.declared.kind.Kind.TheVariants.{Truth, Char, Point}
 use Rattle.value_core.specs.Lengths.{is_utf8}
 use Rattle.value_core.specs.Limits.{most_text_bytes}
@@ -32,6 +32,9 @@ text_of bytes = if is_utf8 bytes && nat_le (length bytes) most_text_bytes then S
 
 abbrev pub date_of : List ℕ → Option ℤ
 date_of bytes = if is_date bytes then Some (number_of_date bytes) else None
+
+abbrev pub moment_of : List ℕ → Option ℤ
+moment_of bytes = if is_moment bytes then Some (number_of_moment bytes) else None
 
 -- ---- the constants that stand for them
 
@@ -58,6 +61,12 @@ abbrev pub date_literal : Place → Place → List ℕ → OrFault Typed
 date_literal at quoted bytes = do
   number ← value_or quoted E06 (date_of bytes)
   Ok (point_constant at Date number)
+
+-- a moment stands at MOMENT, and is refused at its text
+abbrev pub moment_literal : Place → Place → List ℕ → OrFault Typed
+moment_literal at quoted bytes = do
+  number ← value_or quoted E06 (moment_of bytes)
+  Ok (point_constant at Moment number)
 
 -- FIRST and LAST of a type
 abbrev pub extreme_constant : Place → ExtremeWord → AnyType → Typed

@@ -4,10 +4,10 @@ use Rattle.std.specs.Str.{bytes_eq}
 use Rattle.point_core.specs.declared.fault.Place.{Place}
 use Rattle.point_core.specs.declared.fault.Code.TheVariants.{E10, E14}
 use Rattle.point_core.specs.declared.any_type.AnyType.{AnyType}
-use Rattle.point_core.specs.declared.any_type.AnyType.TheVariants.{Integer, Date, Ordinal}
+use Rattle.point_core.specs.declared.any_type.AnyType.TheVariants.{Integer, Date, Ordinal, Moment}
 use Rattle.point_core.specs.Faults.{OrFault}
 use Rattle.utd_syntax.specs.declared.words.ExtremeWord.{ExtremeWord}
-use Rattle.utd_syntax.specs.Plain.{Word, PointP, IntegerType, DateType, NamedType}
+use Rattle.utd_syntax.specs.Plain.{Word, PointP, IntegerType, DateType, MomentType, NamedType}
 use Rattle.value_core.specs.declared.kind.Kind.{Kind}
 use Rattle.value_core.specs.declared.list.OrdinalNames.{OrdinalNames}
 use Rattle.value_core.specs.Limits.{most_ordinal_types, most_ordinal_values}
@@ -54,6 +54,7 @@ ordinal_type found = Ordinal found.0 (length found.1.values - 1)
 abbrev pub point_type : List OrdinalNames → PointP → OrFault AnyType
 point_type types (IntegerType at) = Ok Integer
 point_type types (DateType at) = Ok Date
+point_type types (MomentType at) = Ok Moment
 point_type types (NamedType w) = do
   found ← value_or w.place E10 (ordinal_of types w.bytes)
   Ok (ordinal_type found)

@@ -9,7 +9,7 @@ use Rattle.value_core.specs.declared.list.OrdinalNames.{OrdinalNames}
 use Rattle.value_core.specs.Values.{Heading}
 use Rattle.scalar_core.specs.Expressions.{and_expr, or_expr}
 use Rattle.scalar_typing.specs.Typings.{Typed, ◌>>=◌}
-use Rattle.scalar_typing.specs.Literals.{integer_of, negative_of, integer_literal, text_literal, date_literal, truth_constant}
+use Rattle.scalar_typing.specs.Literals.{integer_of, negative_of, integer_literal, text_literal, date_literal, moment_literal, truth_constant}
 use Rattle.scalar_typing.specs.Names.{attribute_typed, ordinal_value, extreme_typed}
 use Rattle.scalar_typing.specs.Operators.{not_rule, negate_rule, function_rule, sum_rule, product_rule, comparison_rule, pairing_rule, ends_of, selector_rule, one_typed, pair_typed, logic_typed}
 
@@ -66,6 +66,7 @@ abbrev mutual
   typed_primary types heading (syntax.IntegerLiteral at bytes) = integer_literal at at (integer_of bytes)
   typed_primary types heading (syntax.TextLiteral at bytes) = text_literal at bytes
   typed_primary types heading (syntax.DateLiteral at quoted bytes) = date_literal at quoted bytes
+  typed_primary types heading (syntax.MomentLiteral at quoted bytes) = moment_literal at quoted bytes
   typed_primary types heading (syntax.TrueLiteral at) = Ok (truth_constant at true)
   typed_primary types heading (syntax.FalseLiteral at) = Ok (truth_constant at false)
   typed_primary types heading (syntax.AttributeName w) = attribute_typed heading w

@@ -19,6 +19,7 @@ pub fn same_type(a: AnyType, b: AnyType) -> bool
         (AnyType::Date, AnyType::Date) => true,
         (AnyType::Ordinal { of, last }, AnyType::Ordinal { of: at, last: end }) => of == at
             && last == end,
+        (AnyType::Moment, AnyType::Moment) => true,
         _ => false,
     }
 }

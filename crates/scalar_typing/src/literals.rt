@@ -4,13 +4,17 @@ ghost use Rattle.point_core.specs.declared.fault.Stop.TheVariants.{Fault as Faul
 ghost use Rattle.point_core.specs.declared.fault.Code.TheVariants.{E06};
 ghost use Rattle.point_core.specs.Faults.{fault};
 ghost use Rattle.point_core.specs.declared.date_type.Day.{Day};
+ghost use Rattle.point_core.specs.declared.moment_type.Second.{Second};
 ghost use Rattle.point_core.specs.Points.{line, line_of, number};
 ghost use Rattle.scalar_core.specs.Answers.{Gives};
 ghost use Rattle.scalar_typing.specs.Typings.{typed};
 ghost use Rattle.scalar_typing.specs.Literals as literals;
 
 use crate::typed::{Typed, at_place};
-use point_core::{AnyPoint, AnyType, Code, Day, Fault, Memory, Place, PointType, Stop, read_date};
+use point_core::{
+    AnyPoint, AnyType, Code, Day, Fault, Memory, Place, PointType, Second, Stop, read_date,
+    read_moment,
+};
 use scalar_core::ScalarForm;
 use std::alloc::Global;
 use std::str;
@@ -114,6 +118,27 @@ pub fn date_literal(at: Place, quoted: Place, bytes: &[u8]) -> Result<Typed, Sto
 {
     match date_of(bytes) {
         Some(day) => Ok(point_constant(at, AnyType::Date, AnyPoint::Date(day.number))),
+        None => Err(out_of_range(quoted)),
+    }
+}
+
+/// The moment that is written.
+fn moment_of(bytes: &[u8]) -> Option<Second>
+    ensures { option_map (λ (m : Second). m.number) result ≡ literals.moment_of bytes.now }
+{
+    let moment = read_moment(bytes);
+    moment
+}
+
+/// A moment, which stands at MOMENT.
+pub fn moment_literal(at: Place, quoted: Place, bytes: &[u8]) -> Result<Typed, Stop>
+    ensures { Gives typed result (literals.moment_literal at quoted bytes.now) }
+{
+    match moment_of(bytes) {
+        Some(moment) => {
+            let p = AnyPoint::Moment(moment.number);
+            Ok(point_constant(at, AnyType::Moment, p))
+        }
         None => Err(out_of_range(quoted)),
     }
 }

@@ -103,6 +103,7 @@ pub fn point_type(types: &OrdinalTypes, name: &PointName) -> Result<AnyType, Fau
     match name {
         PointName::Integer(_) => Ok(AnyType::Integer),
         PointName::Date(_) => Ok(AnyType::Date),
+        PointName::Moment(_) => Ok(AnyType::Moment),
         PointName::Named(word) => match ordinal_of(types, word.bytes.list.as_slice()) {
             Some((at, ordinal)) => Ok(ordinal_type(at, ordinal)),
             None => Err(unknown(word, Code::E10)),

@@ -188,6 +188,11 @@ fn primary(
             *quoted,
             bytes.list.as_slice(),
         ),
+        Primary::Moment(place, quoted, bytes) => literals::moment_literal(
+            *place,
+            *quoted,
+            bytes.list.as_slice(),
+        ),
         Primary::True(place) => Ok(literals::truth_constant(*place, true)),
         Primary::False(place) => Ok(literals::truth_constant(*place, false)),
         Primary::Attribute(word) => names::attribute_typed(heading, word),

@@ -98,7 +98,7 @@ part-more sizes heading before i e h within is new = record {
 }
 
 -- few of them are a portion
-as-portion : (sizes : List ℕ) (heading : Heading) (name : Name) (names : List Name) (m : PlainPortion) → AreParts sizes heading m → AreNamed heading (name ∷ names) (attributes_of_portion m) → length m ≤ 3
+as-portion : (sizes : List ℕ) (heading : Heading) (name : Name) (names : List Name) (m : PlainPortion) → AreParts sizes heading m → AreNamed heading (name ∷ names) (attributes_of_portion m) → length m ≤ most_listed
     → IsPortionIf sizes heading None (Some m)
 as-portion sizes heading name names [] h is few = absurd (let e = is.positions in cc)
 as-portion sizes heading name names (p ∷ m) h is few =

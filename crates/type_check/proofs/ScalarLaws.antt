@@ -5,10 +5,10 @@ use Rattle.base_core.proofs.BoolLemmas.{left_false}
 use Rattle.point_core.specs.declared.fault.Place.{Place}
 use Rattle.point_core.specs.declared.fault.Code.TheVariants.{E06, E10, E12, E14}
 use Rattle.utd_syntax.specs.declared.terminal.Terminal.TheVariants as t
-use Rattle.utd_syntax.specs.Literals.{value_of, is_date, has_control}
+use Rattle.utd_syntax.specs.Literals.{value_of, is_date, is_moment, has_control}
 use Rattle.utd_syntax.specs.Plain as syntax
 use Rattle.utd_syntax.specs.Plain.{Word, PointP, ScalarP, ConjP, NegP, CmpP, SumP, ProdP, SignP, PrimaryP}
-use Rattle.utd_syntax.specs.Table.{Plain, Negated, Dated}
+use Rattle.utd_syntax.specs.Table.{Plain, Negated, Dated, Timed}
 use Rattle.utd_ranges.specs.Ranges.{IsIn, NameIn, PointIn, ScalarIn, ConjIn, NegIn, CmpIn, SumIn, ProdIn, SignIn, PrimaryIn, is_unwritten, has_no_value}
 use Rattle.value_core.specs.Lengths.{is_utf8}
 use Rattle.value_core.specs.declared.list.OrdinalNames.{OrdinalNames}
@@ -16,7 +16,7 @@ use Rattle.value_core.specs.Limits.{most_text_bytes}
 use Rattle.value_core.specs.Values.{Heading}
 use Rattle.scalar_core.specs.Expressions.{and_expr, or_expr}
 use Rattle.scalar_typing.specs.Typings.{Typed, ◌>>=◌, value_or}
-use Rattle.scalar_typing.specs.Literals.{integer_of, negative_of, text_of, date_of, integer_literal, text_literal, date_literal}
+use Rattle.scalar_typing.specs.Literals.{integer_of, negative_of, text_of, date_of, moment_of, integer_literal, text_literal, date_literal, moment_literal}
 use Rattle.scalar_typing.specs.Names.{attribute_of, attribute_typed, ordinal_of, value_of as number_of, point_type, ordinal_value, extreme_typed}
 use Rattle.scalar_typing.specs.Operators.{not_rule, negate_rule, function_rule, sum_rule, product_rule, comparison_rule, pairing_rule, ends_of, selector_rule, one_typed, pair_typed, logic_typed}
 use Rattle.scalar_typing.specs.Scalars.{typed_scalar, typed_conj, typed_neg, typed_cmp, typed_sum, typed_prod, typed_sign, typed_primary}
@@ -43,6 +43,9 @@ text-fine at bytes h =
 date-fine : (at quoted : Place) (bytes : List ℕ) → IsIn has_no_value Dated t.Quoted bytes → IsNotE06 (date_literal at quoted bytes)
 date-fine at quoted bytes h = then-fine (value_or quoted E06 (date_of bytes)) _ (there-fine quoted E06 (is_date bytes) _ (not-false (is_date bytes) (left_false _ (is_unwritten t.Quoted bytes) h))) (λ n. tt)
 
+moment-fine : (at quoted : Place) (bytes : List ℕ) → IsIn has_no_value Timed t.Quoted bytes → IsNotE06 (moment_literal at quoted bytes)
+moment-fine at quoted bytes h = then-fine (value_or quoted E06 (moment_of bytes)) _ (there-fine quoted E06 (is_moment bytes) _ (not-false (is_moment bytes) (left_false _ (is_unwritten t.Quoted bytes) h))) (λ n. tt)
+
 -- ---- names that are looked for
 
 attribute-fine : (heading : Heading) (w : Word) → IsNotE06 (attribute_typed heading w)
@@ -51,6 +54,7 @@ attribute-fine heading w = then-fine (value_or w.place E14 (attribute_of heading
 pub point-fine : (types : List OrdinalNames) (p : PointP) → IsNotE06 (point_type types p)
 point-fine types (syntax.IntegerType at) = tt
 point-fine types (syntax.DateType at) = tt
+point-fine types (syntax.MomentType at) = tt
 point-fine types (syntax.NamedType w) = then-fine (value_or w.place E10 (ordinal_of types w.bytes)) _ (value-fine w.place E10 (λ e. cc) (ordinal_of types w.bytes)) (λ found. tt)
 
 ordinal-fine : (types : List OrdinalNames) (n v : Word) → IsNotE06 (ordinal_value types n v)
@@ -102,6 +106,7 @@ mutual
   primary-fine types heading (syntax.IntegerLiteral at bytes) h = integer-fine at at bytes h
   primary-fine types heading (syntax.TextLiteral at bytes) h = text-fine at bytes h
   primary-fine types heading (syntax.DateLiteral at quoted bytes) h = date-fine at quoted bytes h
+  primary-fine types heading (syntax.MomentLiteral at quoted bytes) h = moment-fine at quoted bytes h
   primary-fine types heading (syntax.TrueLiteral at) h = tt
   primary-fine types heading (syntax.FalseLiteral at) h = tt
   primary-fine types heading (syntax.AttributeName w) h = attribute-fine heading w

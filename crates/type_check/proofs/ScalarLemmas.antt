@@ -24,7 +24,7 @@ use Rattle.scalar_core.specs.declared.operators.PairOp.TheVariants as pair_op
 use Rattle.scalar_core.specs.Expressions.{Expr, constant, attribute, one, pair, and_expr, or_expr}
 use Rattle.scalar_core.specs.Kinds.{OneKinds, PairKinds, IsTyped}
 use Rattle.scalar_typing.specs.Typings.{Typed, ◌>>=◌, value_or}
-use Rattle.scalar_typing.specs.Literals.{integer_of, negative_of, text_of, date_of, integer_literal, extreme_constant}
+use Rattle.scalar_typing.specs.Literals.{integer_of, negative_of, text_of, date_of, moment_of, integer_literal, extreme_constant}
 use Rattle.scalar_typing.specs.Names.{attribute_of, ordinal_of, value_of, ordinal_type, point_type, ordinal_value}
 use Rattle.scalar_typing.specs.Operators.{OneRule, PairRule, both_are, one_on, pair_on, one_typed, pair_typed, logic_typed, not_rule, negate_rule, function_rule, sum_rule, product_rule, comparison_rule, pairing_rule, ends_of, selector_rule}
 use Rattle.scalar_typing.specs.Scalars.{typed_scalar, typed_conj, typed_neg, typed_cmp, typed_sum, typed_prod, typed_sign, typed_primary}
@@ -58,6 +58,7 @@ ordinal-declared types name h = by-cases (ordinal_of types name) refl
 pub point-declared : (types : List OrdinalNames) (p : PointP) → All IsOrdinalType types → IfOk (point_type types p) (IsType types)
 point-declared types (syntax.IntegerType at) h = refl
 point-declared types (syntax.DateType at) h = refl
+point-declared types (syntax.MomentType at) h = refl
 point-declared types (syntax.NamedType w) h =
     then-sound (λ found. IsType types (ordinal_type found)) (IsType types) (value_or w.place _ (ordinal_of types w.bytes)) _
     (or-refused (λ found. IsType types (ordinal_type found)) w.place _ (ordinal_of types w.bytes) (ordinal-declared types w.bytes h)) (λ found k. k)
@@ -157,6 +158,7 @@ module _ (types : List OrdinalNames) (ordinals : All IsOrdinalType types) (headi
     primary-declared (syntax.IntegerLiteral at bytes) = integer-declared types at at (integer_of bytes)
     primary-declared (syntax.TextLiteral at bytes) = some-declared types at _ (text_of bytes) _ (λ written. refl)
     primary-declared (syntax.DateLiteral at quoted bytes) = some-declared types quoted _ (date_of bytes) _ (λ number. refl)
+    primary-declared (syntax.MomentLiteral at quoted bytes) = some-declared types quoted _ (moment_of bytes) _ (λ number. refl)
     primary-declared (syntax.TrueLiteral at) = refl
     primary-declared (syntax.FalseLiteral at) = refl
     primary-declared (syntax.AttributeName w) = some-declared types w.place _ (attribute_of heading w.bytes) _ (λ found. refl)
