@@ -74,7 +74,7 @@ returns-in-Err-clause-rows g c =
     left.rows right.rows (rows_ascend left l) (rows_ascend right r) (relation_shaped left l here c.requires.left) (relation_shaped right r there c.requires.right)
     c.args.heading.now commalist c.requires.heading c.requires.intervals c.requires.listed in
     refusal_read c.args.heading.now commalist (packed commalist (joined left.heading right.heading (unpacked here left.rows) (unpacked there right.rows))) (packed_boxes row_cmp (length here) (joined_boxes (inner here (common_positions left.heading left.heading right.heading)) (inner there (common_positions right.heading left.heading right.heading)) (joined_label (inner (positions_of_both (length left.heading) here there) (positions_in (left.heading ++ right.heading) c.args.heading.now))) (unpacked_boxes row_cmp (length here) (map (boxed here) left.rows)) (unpacked_boxes row_cmp (length here) (map (boxed there) right.rows)))) are
-    c.in-Err.refuse c.refusal.result c.refusal.ensures (λ e. c.in-Err.ensures.limit (ap (λ x. Err x) e))
+    c.in-Err.refuse c.refusal.result c.refusal.ensures.0 (λ e. c.in-Err.ensures.limit (ap (λ x. Err x) e))
 
 pub returns-in-Ok-clause-cost : goal.returns-in-Ok-clause-cost
 returns-in-Ok-clause-cost g c =

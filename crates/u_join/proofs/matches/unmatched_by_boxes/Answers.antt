@@ -55,4 +55,4 @@ returns-in-Err-clause-rows g c =
     unmatched_at left.heading right.heading commalist there c.requires.same c.requires.kinds (heading_ascends left.heading l.headed) (heading_ascends right.heading r.headed) c.requires.left c.requires.right
     left.rows right.rows (rows_ascend left l) (rows_ascend right r) (relation_shaped left l commalist c.requires.left) (relation_shaped right r there c.requires.right) in
     refusal_read left.heading commalist (packed commalist (unmatched left.heading right.heading (unpacked commalist left.rows) (unpacked there right.rows))) (packed_boxes row_cmp (length commalist) (unmatched_boxes (inner commalist (common_positions left.heading left.heading right.heading)) (inner there (common_positions right.heading left.heading right.heading)) (unpacked_boxes row_cmp (length commalist) (map (boxed commalist) left.rows)) (unpacked_boxes row_cmp (length commalist) (map (boxed there) right.rows)))) are
-    c.in-Err.refuse c.refusal.result c.refusal.ensures (λ e. c.in-Err.ensures.limit (ap (λ x. Err x) e))
+    c.in-Err.refuse c.refusal.result c.refusal.ensures.0 (λ e. c.in-Err.ensures.limit (ap (λ x. Err x) e))

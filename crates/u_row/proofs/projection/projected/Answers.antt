@@ -64,7 +64,7 @@ returns-clause-rows g c =
     let is = c.as_slice.ensures.value ∙ c.in_ok-listed.ensures in
     let are = whole_rows c.args.heading.now r kept commalist listed c.requires.ascending c.requires.within c.requires.heading c.requires.intervals is c.projected_form.ensures.relation in
     refusal_read c.args.heading.now commalist (packed commalist (projected kept (unpacked (beneath kept commalist) r.rows))) (packed_boxes row_cmp (length listed) (map (relabelled (part_of (inner listed kept))) (unpacked_boxes row_cmp (length listed) (map (boxed listed) r.rows)))) are
-    c.in-Err.refuse c.refusal.result c.refusal.ensures (λ e. c.in-Err.ensures.limit (ap (λ x. Err x) e))
+    c.in-Err.refuse c.refusal.result c.refusal.ensures.0 (λ e. c.in-Err.ensures.limit (ap (λ x. Err x) e))
 
 pub returns-in-Ok-clause-cost : goal.returns-in-Ok-clause-cost
 returns-in-Ok-clause-cost g c =

@@ -50,4 +50,4 @@ returns-in-Err-clause-rows g c =
     intersected_rows left.heading commalist c.requires.intervals left.rows right.rows (rows_ascend left l) (rows_ascend right r)
     (relation_shaped left l commalist c.requires.intervals) (shaped_under left.heading right c.requires.heading r commalist c.requires.intervals) in
     refusal_read left.heading commalist (packed commalist (intersected (unpacked commalist left.rows) (unpacked commalist right.rows))) (packed_boxes row_cmp (length commalist) (common_of (boxed_cmp row_cmp) (unpacked_boxes row_cmp (length commalist) (map (boxed commalist) left.rows)) (unpacked_boxes row_cmp (length commalist) (map (boxed commalist) right.rows)))) are
-    c.in-Err.refuse c.refusal.result c.refusal.ensures (λ e. c.in-Err.ensures.limit (ap (λ x. Err x) e))
+    c.in-Err.refuse c.refusal.result c.refusal.ensures.0 (λ e. c.in-Err.ensures.limit (ap (λ x. Err x) e))

@@ -35,5 +35,5 @@ returns-in-Err-clause-rows g c =
     let commalist = c.args.commalist.now in
     let is = c.heading.ensures.relation in
     let are = unpacked_rows r.heading commalist c.requires r.rows (rows_ascend r is) (relation_shaped r is commalist c.requires) in
-    refusal_read r.heading commalist (unpacked commalist r.rows) (unpacked_boxes row_cmp (length commalist) (map (boxed commalist) r.rows)) are c.in-Err.refuse c.refusal.result c.refusal.ensures
+    refusal_read r.heading commalist (unpacked commalist r.rows) (unpacked_boxes row_cmp (length commalist) (map (boxed commalist) r.rows)) are c.in-Err.refuse c.refusal.result c.refusal.ensures.0
     (λ e. c.in-Err.ensures.limit (ap (λ x. Err x) e))
