@@ -1,4 +1,5 @@
 pub mod CharacterLemmas
 pub mod DateLemmas
+pub mod IntervalLemmas
 pub mod MomentLemmas
 pub mod TableLemmas
