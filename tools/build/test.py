@@ -263,7 +263,7 @@ class Building(unittest.TestCase):
         self.assertEqual(self.run_it('prices', 'watch', '../record', str(above.pid)), ('', '', 0))
         above.wait()
         with open(f'{self.folder}/record', encoding='utf-8') as file:
-            self.assertRegex(file.read(), r'^\(piece\) [0-9.]+\n +[0-9.]+ +[0-9]+ +[0-9]+ low build /\S+ pid=[0-9]+ parent=[0-9]+\n$')
+            self.assertRegex(file.read(), r'^\(piece\) [0-9.]+\n +[0-9.]+ +[0-9]+ +-?[0-9]+ low build /\S+ pid=[0-9]+ parent=[0-9]+\n$')
 
 
 class Forecasts(unittest.TestCase):
