@@ -1,11 +1,12 @@
 #!/usr/bin/env python3
 """sides: how long PACK takes on several attributes.
 
-    sides.py PROGRAM SIDES ROWS LABELS [RUNS]
+    sides.py PROGRAM SIDES ROWS LABELS [TIMES]
 
 ROWS rows with LABELS labels on SIDES integer intervals: each begins at random below SPREAD and is at most LONGEST long on each side, so
-that rows overlap on some sides and meet on others. Prints the least processor time of RUNS runs (5) of a script that
-packs them and counts what comes, less that of one that counts them as they are, in milliseconds, and how many rows come.
+that rows overlap on some sides and meet on others. They stand in a relvar. Prints the processor time of one statement that packs them and
+counts what comes, less that of one that counts them as they are: the least of five runs, each with TIMES (20) such statements, in
+milliseconds; and how many rows come.
 """
 import os
 import random
@@ -13,7 +14,7 @@ import subprocess
 import sys
 import tempfile
 
-SPREAD, LONGEST = 100, 20
+SPREAD, LONGEST, RUNS = 100, 20, 5
 NAMES = 'ABCD'
 
 
@@ -25,16 +26,18 @@ def box(random_, sides):
     return ', '.join(ends)
 
 
-def literal(sides, rows, labels):
+# The rows in a relvar.
+def rows_in(sides, rows, labels):
     random_ = random.Random(1)
-    return 'RELATION {%s}' % ', '.join('TUPLE {N %d, %s}' % (random_.randrange(labels), box(random_, sides)) for _ in range(rows))
+    names = NAMES[:sides]
+    heading = ', '.join('%s INTERVAL(INTEGER)' % name for name in names)
+    tuples = ', '.join('TUPLE {N %d, %s}' % (random_.randrange(labels), box(random_, sides)) for _ in range(rows))
+    return 'VAR R RELATION {N INTEGER, %s} KEY {N, %s};\nINSERT R RELATION {%s};\n' % (heading, ', '.join(names), tuples)
 
 
-def script(sides, rows, labels, packs):
-    operand = literal(sides, rows, labels)
-    if packs:
-        operand = 'PACK %s ON (%s)' % (operand, ', '.join(NAMES[:sides]))
-    return 'PRINT SUMMARIZE %s BY {}: {ROWS_ := COUNT()};\n' % operand
+def script(sides, rows, labels, packs, times):
+    operand = '(PACK R ON (%s))' % ', '.join(NAMES[:sides]) if packs else 'R'
+    return rows_in(sides, rows, labels) + times * ('PRINT SUMMARIZE %s BY {}: {ROWS_ := COUNT()};\n' % operand)
 
 
 # The processor time of one run in milliseconds, and the count that it printed.
@@ -50,18 +53,18 @@ def run(program, text):
     return 1000 * spent, lines[1].strip('| ') if len(lines) > 1 else out.strip()
 
 
-def least(program, text, runs):
-    found = [run(program, text) for _ in range(runs)]
+def least(program, text):
+    found = [run(program, text) for _ in range(RUNS)]
     return min(found)[0], found[0][1]
 
 
 def main():
     program = sys.argv[1]
     sides, rows, labels = map(int, sys.argv[2:5])
-    runs = int(sys.argv[5]) if len(sys.argv) > 5 else 5
-    plain, _ = least(program, script(sides, rows, labels, False), runs)
-    packed, count = least(program, script(sides, rows, labels, True), runs)
-    print('%d sides, %d rows, %d labels: %.0f ms; %s rows come' % (sides, rows, labels, packed - plain, count))
+    times = int(sys.argv[5]) if len(sys.argv) > 5 else 20
+    plain, _ = least(program, script(sides, rows, labels, False, times))
+    packed, count = least(program, script(sides, rows, labels, True, times))
+    print('%d sides, %d rows, %d labels: %.2f ms; %s rows come' % (sides, rows, labels, (packed - plain) / times, count))
 
 
 if __name__ == '__main__':
