@@ -67,10 +67,20 @@ def is_token(match):
     return match and (match.lastgroup != 'word' or match[0].isidentifier())
 
 
+def holds_the_rest(script, at):
+    """Whether a comment or a text begins here that does not end, so that no `;` behind it ends a statement."""
+    if script.startswith('/*', at):
+        return script.find('*/', at + 2) < 0
+    return script[at] == "'" and not TOKEN.match(script, at)
+
+
 def statements_of(script):
     """For each statement its text and its tokens, or the refusal of a text that has none."""
     at, begin, found, fault = 0, 0, [], None
     while at < len(script):
+        if holds_the_rest(script, at):
+            fault = Refusal('E04', 'the statement is not ended')
+            break
         match = TOKEN.match(script, at)
         if not is_token(match):
             fault = fault or Refusal('E01', f'no token begins with {script[at]!r}')

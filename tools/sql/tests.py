@@ -57,6 +57,8 @@ CASES = [
     ('PRINT PACK R ON (K);', 'E16'),
     ('DROP VAR Q;', 'E10'),
     ('PRINT R', 'E04'),
+    ('PRINT R; /* PRINT R;', 'E04'),
+    ("PRINT R; PRINT 'a; PRINT R;", 'E04'),
     ('SELECT 1;', 'E01'),
     ('VAR xmin RELATION {xmin INTEGER};', 'SQL'),
 ]
