@@ -523,8 +523,14 @@ form_rows('statement',
         just('Semicolon'),
         sequence=[TOKEN, 0, 1, 2, loose(3), 4, 5, loose(6), 7, 8, loose(9), 10, 11],
     ),
-    on('Drop', 'Drop p $1', just('Var'), 'TheName', just('Semicolon')),
+    on('Constraint', 'DeclareRule p $0 $1', 'TheName', 'TheTest', just('Semicolon')),
+    on('Drop', '$0 p', 'AfterDrop', sequence=[applied(0, ['p'], [TOKEN])]),
     on('Print', 'Print p $0', 'TheRel', just('Semicolon')),
     on('Ask', 'Ask p $0', 'TheTest', just('Semicolon')),
     then('TheAssign', just('Semicolon'), 'Assignment $0'),
+)
+
+rest_rows('AfterDrop', [('q', 'Place')], 'placed t.Drop q', 'of_statement', 'StatementP',
+    on('Var', 'Drop q $0', 'TheName', just('Semicolon'), mark='fixed'),
+    on('Constraint', 'DropRule q p $0', 'TheName', just('Semicolon')),
 )

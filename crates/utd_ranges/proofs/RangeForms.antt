@@ -4,7 +4,7 @@ use Rattle.utd_syntax.specs.declared.terminal.Terminal.{Terminal}
 use Rattle.utd_syntax.specs.declared.terminal.Terminal.TheVariants as t
 use Rattle.point_core.specs.declared.fault.Place.{Place}
 use Rattle.utd_syntax.specs.Plain.{Word, ScalarP, ConjP, SumP, ProdP, TermsP, TermP, OperandP}
-use Rattle.utd_syntax.specs.Table.{Symbol, TheName, Comma, DateText, MomentText, NegativeDigits, ThePrimary, AfterName, AfterScalar, EndOfSelector, InParens, InPair, InPoint, TheSign, TheProd, MoreProd, TheSum, MoreSum, TheCmp, MoreCmp, TheNeg, TheConj, MoreAnd, TheScalar, MoreOr, ThePoint, TheKind, TheAttribute, MoreAttributes, InHeading, TheHeading, MoreNames, InNames, InList, TheNames, TheList, TheSomeNames, TheParenName, TheElement, MoreElements, InElements, TheElements, TheSomeElements, TheTuple, MoreTuples, InTuples, TheTuples, TheLiteral, AfterRelation, TheSetItem, MoreSetItems, TheSets, EmptyParens, TheAggregateForm, TheAggregate, MoreAggregates, TheAggregates, TheRenaming, MoreRenamings, TheRenamings, ThePortion, MaybePortion, MaybeWhere, InProjection, TheOperand, TheExtend, TheSummarize, TheRelPrimary, TheTerm, MorePostfix, TheTerms, MoreInfix, TheUsing, TheRel, TheUsingPart, AfterOperand, TheKey, TheForeign, TheUsedConstraint, TheConstraint, MoreConstraints, InRel, TheVarForm, TheComparison, AfterLeft, TheTest, TheUsedDeletion, TheUsedItem, TheDeletion, TheItem, MoreItems, TheAssign, TheStatement, Just, Worded, Shut, Taking, Plain, Negated, Dated, Timed, Row, on, spelt, before, then_row, ◌▹◌}
+use Rattle.utd_syntax.specs.Table.{Symbol, TheName, Comma, DateText, MomentText, NegativeDigits, ThePrimary, AfterName, AfterScalar, EndOfSelector, InParens, InPair, InPoint, TheSign, TheProd, MoreProd, TheSum, MoreSum, TheCmp, MoreCmp, TheNeg, TheConj, MoreAnd, TheScalar, MoreOr, ThePoint, TheKind, TheAttribute, MoreAttributes, InHeading, TheHeading, MoreNames, InNames, InList, TheNames, TheList, TheSomeNames, TheParenName, TheElement, MoreElements, InElements, TheElements, TheSomeElements, TheTuple, MoreTuples, InTuples, TheTuples, TheLiteral, AfterRelation, TheSetItem, MoreSetItems, TheSets, EmptyParens, TheAggregateForm, TheAggregate, MoreAggregates, TheAggregates, TheRenaming, MoreRenamings, TheRenamings, ThePortion, MaybePortion, MaybeWhere, InProjection, TheOperand, TheExtend, TheSummarize, TheRelPrimary, TheTerm, MorePostfix, TheTerms, MoreInfix, TheUsing, TheRel, TheUsingPart, AfterOperand, TheKey, TheForeign, TheUsedConstraint, TheConstraint, MoreConstraints, InRel, TheVarForm, TheComparison, AfterLeft, TheTest, TheUsedDeletion, TheUsedItem, TheDeletion, TheItem, MoreItems, TheAssign, TheStatement, AfterDrop, Just, Worded, Shut, Taking, Plain, Negated, Dated, Timed, Row, on, spelt, before, then_row, ◌▹◌}
 use Rattle.utd_syntax.proofs.FormValues.{Val, Vals, inner, Case, Make, Makes, over_make, over_makes, last_of, last_behind, then_case, then_make, then_makes, append_makes}
 use Rattle.utd_ranges.specs.Ranges.{Range, IsIn, Each, IsIn, NameIn, PointIn, ScalarIn, ConjIn, NegIn, CmpIn, SumIn, ProdIn, SignIn, PrimaryIn, KindIn, AttributeIn, HeadingIn, NamesIn, NameListIn, SomeNamesIn, ElementIn, ElementsIn, SomeElementsIn, TupleIn, LiteralIn, SetItemIn, SetsIn, AggregateFormIn, AggregateIn, AggregatesIn, RenamingIn, RenamingsIn, PortionIn, MaybePortionIn, ConditionIn, ProjectionIn, RelIn, TermsIn, TermIn, RelPrimaryIn, OperandIn, ExtendIn, SummarizeIn, UsingIn, UsingPartIn, KeyIn, ForeignIn, UsedConstraintIn, ConstraintIn, VarFormIn, ComparisonIn, TestIn, UsedDeletionIn, UsedItemIn, DeletionIn, ItemIn, AssignIn, StatementIn}
 
@@ -102,6 +102,7 @@ Good out TheItem v = ItemIn out v
 Good out MoreItems v = Each (ItemIn out) v
 Good out TheAssign v = AssignIn out v
 Good out TheStatement v = StatementIn out v
+Good out AfterDrop f = (x : Place) → StatementIn out (f x)
 Good out (Just x) v = Unit {0}
 Good out (Worded b) v = Unit {0}
 Good out (Shut outer) v = Unit {0}

@@ -7,7 +7,7 @@ use Rattle.utd_syntax.specs.declared.words.PackWord.TheVariants as pack_words
 use Rattle.utd_syntax.specs.declared.words.RelationComparison.TheVariants as relation_comparisons
 use Rattle.utd_syntax.specs.declared.words.EmptinessWord.TheVariants as emptinesses
 use Rattle.utd_syntax.specs.Pieces.{Piece, first}
-use Rattle.utd_syntax.specs.Plain.{RelP, TermsP, TermP, RelPrimaryP, OperandP, ExtendP, SummarizeP, UsingP, UsingPartP, KeyP, ForeignP, UsedConstraintP, ConstraintP, VarFormP, ComparisonP, TestP, UsedDeletionP, UsedItemP, DeletionP, ItemP, AssignP, StatementP, Onto, AllBut, OfUsing, OfTerms, OneTerm, Infix, NotMatching, OneRelPrimary, Project, Filter, Rename, OfExtend, OfSummarize, OfOperand, Relvar, OfLiteral, ParenRel, PackOn, Extend, Summarize, Using, UsingExtend, UsingSummarize, UsingInfix, UsingNotMatching, UsingProject, UsingFilter, Key, Foreign, UsedKey, UsedForeign, KeyOf, ForeignOf, PackedOn, WhenUnpacked, UsingConstraint, BaseRelvar, View, Comparison, UsingTest, Emptiness, OfComparison, UsedDeleteWhere, UsedDeleteRows, UsedInsert, UsedDelete, UsedUpdate, DeleteWhere, DeletePortion, DeleteRows, SetRelvar, Insert, Delete, Update, Terminate, UsingItem, Assign, Nothing, DeclareOrdinal, DeclareRelvar, DeclareHistory, Drop, Print, Ask, Assignment}
+use Rattle.utd_syntax.specs.Plain.{RelP, TermsP, TermP, RelPrimaryP, OperandP, ExtendP, SummarizeP, UsingP, UsingPartP, KeyP, ForeignP, UsedConstraintP, ConstraintP, VarFormP, ComparisonP, TestP, UsedDeletionP, UsedItemP, DeletionP, ItemP, AssignP, StatementP, Onto, AllBut, OfUsing, OfTerms, OneTerm, Infix, NotMatching, OneRelPrimary, Project, Filter, Rename, OfExtend, OfSummarize, OfOperand, Relvar, OfLiteral, ParenRel, PackOn, Extend, Summarize, Using, UsingExtend, UsingSummarize, UsingInfix, UsingNotMatching, UsingProject, UsingFilter, Key, Foreign, UsedKey, UsedForeign, KeyOf, ForeignOf, PackedOn, WhenUnpacked, UsingConstraint, BaseRelvar, View, Comparison, UsingTest, Emptiness, OfComparison, UsedDeleteWhere, UsedDeleteRows, UsedInsert, UsedDelete, UsedUpdate, DeleteWhere, DeletePortion, DeleteRows, SetRelvar, Insert, Delete, Update, Terminate, UsingItem, Assign, Nothing, DeclareOrdinal, DeclareRelvar, DeclareHistory, DeclareRule, Drop, DropRule, Print, Ask, Assignment}
 use Rattle.utd_syntax.specs.Written.{fixed, at, spelled, worded, Spells, token, placed, lexeme, word_of, contextual, ordinal_word, since_word, during_word, over_word, at_word, of_point, of_scalar, of_heading, of_more_words, of_names, of_list, of_some_names, of_paren_name, of_sets, of_aggregates, of_renamings, of_portion, of_maybe_portion, of_condition, of_projection, of_rel, of_terms, of_term, of_rel_primary, of_operand, of_extend, of_summarize, of_using, of_using_part, of_key, of_foreign, of_used_constraint, of_constraint, of_constraints, of_var_form, of_comparison, of_test, of_used_deletion, of_used_item, of_deletion, of_item, of_more_items, of_assign, of_statement}
 use Rattle.utd_syntax.specs.Table.{Symbol, MoreOr, MaybePortion, TheOperand, TheExtend, TheSummarize, TheRelPrimary, TheTerm, MorePostfix, TheTerms, MoreInfix, TheUsing, TheRel, TheUsingPart, TheKey, TheForeign, TheUsedConstraint, TheConstraint, MoreConstraints, TheVarForm, TheComparison, TheTest, TheUsedDeletion, TheUsedItem, TheDeletion, TheItem, MoreItems, TheAssign, TheStatement}
 use Rattle.utd_syntax.proofs.Reader.{Go, read}
@@ -381,12 +381,23 @@ statement-reads (DeclareHistory p n h k s b d i y) ts rest sp stack go =
     let x10 = last (of_heading h ++ of_key k) (worded since_word) x1.left _ x9.spells in
     let x11 = two (of_heading h) (of_key k) x1.left _ x10.spells in
     along ts _ _ _ (x0.is ∙ ap (λ z. seen (at t.History p) x0.place x0.bytes ∷ z) (x1.is)) ∙ heading-reads h x1.left x11.mid x11.before _ _ ∙ key-reads k x11.mid _ x11.after _ _ ∙ paren_name-reads b x8.mid _ x8.after _ _ ∙ paren_name-reads i x5.mid _ x5.after _ _ ∙ point-reads y x3.mid _ x3.after _ _
+statement-reads (DeclareRule p n y) ts rest sp stack go =
+    let x0 = one (at t.Constraint p) (word_of n ++ of_test y ++ token t.Semicolon) ts rest sp in
+    let x1 = one (spelled t.Name n.place n.bytes) (of_test y ++ token t.Semicolon) x0.left rest x0.spells in
+    let x2 = last (of_test y) (fixed t.Semicolon) x1.left rest x1.spells in
+    along ts _ _ _ (x0.is ∙ ap (λ z. seen (at t.Constraint p) x0.place x0.bytes ∷ z) (x1.is)) ∙ test-reads y x1.left _ x2.spells _ _
 statement-reads (Drop p n) ts rest sp stack go =
     let x0 = one (at t.Drop p) (token t.Var ++ word_of n ++ token t.Semicolon) ts rest sp in
     let x1 = one (fixed t.Var) (word_of n ++ token t.Semicolon) x0.left rest x0.spells in
     let x2 = one (spelled t.Name n.place n.bytes) (token t.Semicolon) x1.left rest x1.spells in
     let x3 = one (fixed t.Semicolon) ([]) x2.left rest x2.spells in
     along ts _ _ _ (x0.is ∙ ap (λ z. seen (at t.Drop p) x0.place x0.bytes ∷ z) (x1.is ∙ ap (λ z. seen (fixed t.Var) x1.place x1.bytes ∷ z) (x2.is ∙ ap (λ z. seen (spelled t.Name n.place n.bytes) x2.place x2.bytes ∷ z) (x3.is ∙ ap (λ z. seen (fixed t.Semicolon) x3.place x3.bytes ∷ z) (done x3.left rest x3.spells)))))
+statement-reads (DropRule p q n) ts rest sp stack go =
+    let x0 = one (at t.Drop p) (placed t.Constraint q ++ word_of n ++ token t.Semicolon) ts rest sp in
+    let x1 = one (at t.Constraint q) (word_of n ++ token t.Semicolon) x0.left rest x0.spells in
+    let x2 = one (spelled t.Name n.place n.bytes) (token t.Semicolon) x1.left rest x1.spells in
+    let x3 = one (fixed t.Semicolon) ([]) x2.left rest x2.spells in
+    along ts _ _ _ (x0.is ∙ ap (λ z. seen (at t.Drop p) x0.place x0.bytes ∷ z) (x1.is ∙ ap (λ z. seen (at t.Constraint q) x1.place x1.bytes ∷ z) (x2.is ∙ ap (λ z. seen (spelled t.Name n.place n.bytes) x2.place x2.bytes ∷ z) (x3.is ∙ ap (λ z. seen (fixed t.Semicolon) x3.place x3.bytes ∷ z) (done x3.left rest x3.spells)))))
 statement-reads (Print p r) ts rest sp stack go =
     let x0 = one (at t.Print p) (of_rel r ++ token t.Semicolon) ts rest sp in
     let x1 = last (of_rel r) (fixed t.Semicolon) x0.left rest x0.spells in

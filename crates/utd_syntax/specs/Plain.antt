@@ -306,7 +306,9 @@ pub data StatementP : Type 0 where
   DeclareOrdinal : Place → Word → SomeNamesP → StatementP
   DeclareRelvar : Place → Word → VarFormP → StatementP
   DeclareHistory : Place → Word → HeadingP → KeyP → Word → Word → Word → Word → PointP → StatementP
+  DeclareRule : Place → Word → TestP → StatementP
   Drop : Place → Word → StatementP
+  DropRule : Place → Place → Word → StatementP
   Print : Place → RelP → StatementP
   Ask : Place → TestP → StatementP
   Assignment : AssignP → StatementP

@@ -130,14 +130,16 @@ pub struct History {
     pub point: PointName,
 }
 
-/// A statement; the place is that of its first word.
+/// A statement; the place is that of its first word, and the second of DropRule that of CONSTRAINT.
 #[derive(Drop)]
 pub enum Statement {
     Nothing,
     Ordinal(Place, Word, SomeNames),
     Var(Place, Word, VarForm),
     History(History),
+    DeclareRule(Place, Word, Test),
     Drop(Place, Word),
+    DropRule(Place, Place, Word),
     Print(Place, Box<Rel>),
     Ask(Place, Test),
     Assign(Assignment),
