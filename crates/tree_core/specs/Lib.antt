@@ -1,3 +1,4 @@
 pub mod Trees
 pub mod Items
 pub mod Relvars
+pub mod Uses

@@ -1,4 +1,4 @@
--- The state that expressions are evaluated in, as plain data: relvars, views and ordinal types, in order of declaration.
+-- The state that expressions are evaluated in, as plain data: relvars, views, ordinal types and database constraints, each in order of declaration.
 --     State, read_relvars      what relvars are read as, and how
 --     relvar_named, heading_if ..      what is looked up in a state
 use Rattle.std.specs.Prelude.{List, [], ◌∷◌, map, Option, Some, None, if◌then◌else◌}
@@ -8,10 +8,11 @@ use Rattle.value_core.specs.declared.list.OrdinalNames.{OrdinalNames}
 use Rattle.value_core.specs.declared.constraint.Constraint.{Constraint}
 use Rattle.value_core.specs.declared.constraint.Constraint.TheVariants.{History}
 use Rattle.value_core.specs.declared.constraint.HistoryRule.{HistoryRule}
-use Rattle.tree_core.specs.Trees.{Tree, heading_of, read_tree}
+use Rattle.tree_core.specs.Trees.{Tree, Test, heading_of, read_tree, read_test}
 use Rattle.tree_core.specs.declared.relvar.Relvar.{Relvar}
 use Rattle.tree_core.specs.declared.relvar.Relvar.TheVariants.{Base, View}
 use Rattle.tree_core.specs.declared.relvar.Relvars.{Relvars}
+use Rattle.tree_core.specs.declared.test.RelTest.{RelTest}
 
 -- a base relvar, or a view; a history's view with its since relvar and its during relvar
 pub data PlainRelvar : Type 0 where
@@ -22,9 +23,14 @@ pub data PlainRelvar : Type 0 where
 abbrev pub Entries : Type 0
 Entries = List (Name × PlainRelvar)
 
+-- database constraints: named tests
+abbrev pub Rules : Type 0
+Rules = List (Name × Test)
+
 pub record State : Type 0 where
   pub ordinals : List OrdinalNames
   pub relvars : Entries
+  pub rules : Rules
 
 -- ---- reading
 
@@ -35,8 +41,11 @@ read_relvar (View tree history) = view (read_tree tree) history
 abbrev pub read_entry : Name × Relvar → Name × PlainRelvar
 read_entry e = (e.0, read_relvar e.1)
 
+abbrev pub read_rule : Name × RelTest → Name × Test
+read_rule r = (r.0, read_test r.1)
+
 abbrev pub read_relvars : Relvars → State
-read_relvars relvars = record { ordinals = relvars.ordinals; relvars = map read_entry relvars.list.entries }
+read_relvars relvars = record { ordinals = relvars.ordinals; relvars = map read_entry relvars.list.entries; rules = map read_rule relvars.rules.entries }
 
 -- ---- what is looked up
 
@@ -62,3 +71,9 @@ abbrev pub rule_among : List Constraint → Option HistoryRule
 rule_among [] = None
 rule_among (History rule ∷ rest) = Some rule
 rule_among (c ∷ rest) = rule_among rest
+
+-- the since relvar and the during relvar of the view of a history
+abbrev pub history_if : Option PlainRelvar → Option (Name × Name)
+history_if None = None
+history_if (Some (base value constraints)) = None
+history_if (Some (view t history)) = history

@@ -1,9 +1,9 @@
-// The rule that ties the relvars of a history.
+// The relvars of a history, and the rule that ties them.
 ghost use Rattle.std.specs.Prelude.{◌≡◌, option_map};
-ghost use Rattle.tree_core.specs.Relvars.{constraints_if, read_relvar, rule_among};
+ghost use Rattle.tree_core.specs.Relvars.{constraints_if, history_if, read_relvar, rule_among};
 
 use crate::relvar::Relvar;
-use value_core::{Constraint, HistoryRule};
+use value_core::{Constraint, HistoryRule, Name};
 
 // The first history rule among the constraints.
 fn rule_among<'a>(constraints: &'a [Constraint]) -> Option<&'a HistoryRule>
@@ -32,6 +32,22 @@ pub fn rule_if<'a>(relvar: Option<&'a Relvar>) -> Option<&'a HistoryRule>
             Relvar::View {
                 tree: _,
                 history: _,
+            },
+        ) => None,
+        None => None,
+    }
+}
+
+/// The names of the since relvar and the during relvar of the view of a history.
+pub fn history_if<'a>(relvar: Option<&'a Relvar>) -> Option<&'a (Name, Name)>
+    ensures { option_map (λ n. n.now) result ≡ history_if (option_map (λ r. read_relvar r.now) relvar.entry) }
+{
+    match relvar {
+        Some(Relvar::View { tree: _, history }) => history.as_ref(),
+        Some(
+            Relvar::Base {
+                value: _,
+                constraints: _,
             },
         ) => None,
         None => None,

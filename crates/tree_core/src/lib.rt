@@ -10,11 +10,12 @@ mod relvar;
 mod scalars;
 mod test;
 mod tree;
+mod uses;
 mod wrapping;
 
 pub use copy::{copy_aggregates, copy_sets};
 pub use declaration::{Assignment, Declaration, HistoryData};
-pub use histories::rule_if;
+pub use histories::{history_if, rule_if};
 pub use item::{Change, Item, ItemForm, Items, Portion};
 pub use relvar::{Relvar, Relvars};
 pub use scalars::{
@@ -22,3 +23,4 @@ pub use scalars::{
 };
 pub use test::{RelTest, RelateWord, TestForm};
 pub use tree::{Aggregate, AggregateForm, Aggregates, InfixWord, RelForm, RelTree, Sets, Tuples};
+pub use uses::{is_one_of, names_any, references_any, relvar_names_any, test_names_any};

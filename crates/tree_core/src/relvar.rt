@@ -1,7 +1,8 @@
-// Relvars and views.
+// Relvars, views and database constraints.
 ghost use Rattle.std.specs.Prelude.{◌≡◌, option_map};
 ghost use Rattle.tree_core.specs.Relvars.{read_relvar, read_relvars, relvar_heading, relvar_named};
 
+use crate::test::RelTest;
 use crate::tree::RelTree;
 use indexmap::IndexMap;
 use value_core::{Constraints, Heading, Name, OrdinalTypes, Relation};
@@ -35,11 +36,13 @@ impl Relvar {
     }
 }
 
-/// The relvars and views by their names, and the declared ordinal types, each in the order of declaration.
+/// The relvars and views by their names, the declared ordinal types, and the database constraints, which are rules over several
+/// relvars, by theirs; each in the order of declaration.
 #[derive(Drop)]
 pub struct Relvars {
     pub list: IndexMap<Name, Relvar>,
     pub ordinals: OrdinalTypes,
+    pub rules: IndexMap<Name, RelTest>,
 }
 
 impl Relvars {
