@@ -1,3 +1,4 @@
+pub mod ElsewhereLemmas
 pub mod EntryLemmas
 pub mod GroupFits
 pub mod LimitLemmas
@@ -6,3 +7,4 @@ pub mod MadeLemmas
 pub mod RowlessLemmas
 pub mod PositionLemmas
 pub mod RelvarLemmas
+pub mod StaysTyped

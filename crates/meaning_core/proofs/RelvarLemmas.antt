@@ -34,6 +34,6 @@ more_relvars sizes before (e ∷ entries) own r all is =
 
 pub more_names : (s : State) (own : Name) (r : PlainRelvar) → all_names s ++ own ∷ [] ≡ all_names (with_relvar s own r)
 more_names s own r =
-    let ordinals : List Name = map (λ o. o.name) s.ordinals in
-    append_assoc ordinals (map (λ (e : Name × PlainRelvar). e.0) s.relvars) (own ∷ [])
-    ∙ ap (λ (names : List Name). ordinals ++ names) (sym (map-append (λ (e : Name × PlainRelvar). e.0) s.relvars ((own, r) ∷ [])))
+    let before : List Name = map (λ k. k.0) s.rules ++ map (λ o. o.name) s.ordinals in
+    append_assoc before (map (λ (e : Name × PlainRelvar). e.0) s.relvars) (own ∷ [])
+    ∙ ap (λ (names : List Name). before ++ names) (sym (map-append (λ (e : Name × PlainRelvar). e.0) s.relvars ((own, r) ∷ [])))

@@ -16,7 +16,7 @@ use Rattle.tree_core.specs.Relvars.{PlainRelvar, base, view, Entries, State, rel
 use Rattle.tree_core.specs.Trees.{Tree, named}
 use Rattle.meaning_core.specs.Histories.{joined_history, last_point, type_at, name_at}
 use Rattle.meaning_core.specs.Names.{with_value}
-use Rattle.meaning_core.specs.Typing.{is_declared, IsTypedTree}
+use Rattle.meaning_core.specs.Typing.{Headings, is_declared, IsTypedTree, IsTypedTest}
 use Rattle.meaning_core.specs.WellMade.{sizes_of, headings_of, IsBase, FitsHeadings, FitsNamed, IsConstraint, IsOfRule, IsHistory, IsRelvar, AreRelvars, IsWellMade, IsGiven}
 
 -- ---- relvars without their rows
@@ -137,12 +137,15 @@ is_base-keeps entries old e name h =
 pub bare-keeps : (s : State) (entries : Entries) → bare_all entries ≡ bare_all s.relvars → IsWellMade s → IsWellMade (record s { relvars = entries })
 bare-keeps s entries e h =
     let names = sym (names-bare s.relvars) ∙ (ap (map (λ r. r.0)) (sym e) ∙ names-bare entries) in
+    let headings = sym (headings-bare s.relvars) ∙ (ap headings_of (sym e) ∙ headings-bare entries) in
     let same = sym (AreRelvars-bare (sizes_of s.ordinals) [] s.relvars) ∙ (ap (AreRelvars (sizes_of s.ordinals) []) (sym e) ∙ AreRelvars-bare (sizes_of s.ordinals) [] entries) in
     record {
       few = h.few;
       ordinals = h.ordinals;
-      different = subst (λ (ns : List Name). IsDistinct bytes_eq (map (λ o. o.name) s.ordinals ++ ns)) names h.different;
+      different = subst (λ (ns : List Name). IsDistinct bytes_eq (map (λ k. k.0) s.rules ++ map (λ o. o.name) s.ordinals ++ ns)) names h.different;
       relvars = subst (λ (T : Type 0). T) same h.relvars;
+      few_rules = h.few_rules;
+      rules = subst (λ (hs : Headings). All (λ k. IsTypedTest (sizes_of s.ordinals) hs k.1) s.rules) headings h.rules;
     }
 
 -- ---- another value of a base relvar

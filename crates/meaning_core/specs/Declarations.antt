@@ -1,15 +1,17 @@
 -- What declarations make of a state.
 --     PlainDeclaration, read_declaration      declarations as plain data, and how they are read
 --     with_declaration      the state with what is declared: a relvar begins with no rows
---     without      the state without a relvar or view
+--     without_group      the state without a relvar or view; the view of a history takes its two relvars along
+--     with_rule, without_rule      the state with one database constraint more, or without one
 use Rattle.std.specs.Prelude.{not, List, [], ◌∷◌, ◌++◌, filter, Option, Some, None}
 use Rattle.std.specs.Str.{bytes_eq}
 use Rattle.value_core.specs.declared.constraint.Constraint.{Constraint}
 use Rattle.value_core.specs.Values.{Name, Heading}
 use Rattle.tree_core.specs.declared.declaration.Declaration.{Declaration}
 use Rattle.tree_core.specs.declared.declaration.Declaration.TheVariants as variants
-use Rattle.tree_core.specs.Relvars.{State, PlainRelvar, base, view}
-use Rattle.tree_core.specs.Trees.{Tree, read_tree}
+use Rattle.tree_core.specs.Relvars.{State, PlainRelvar, base, view, Entries, relvar_named, history_if}
+use Rattle.tree_core.specs.Trees.{Tree, Test, read_tree}
+use Rattle.tree_core.specs.Uses.{is_one_of}
 
 pub data PlainDeclaration : Type 0 where
   ordinal_type : Name → List Name → PlainDeclaration
@@ -31,6 +33,28 @@ with_declaration s (ordinal_type name values) = record s { ordinals = s.ordinals
 with_declaration s (base_relvar name heading constraints) = with_relvar s name (base (record { heading = heading; rows = [] }) constraints)
 with_declaration s (view_relvar name t history) = with_relvar s name (view t history)
 
--- the state without the relvar or view of this name
-abbrev pub without : Name → State → State
-without name s = record s { relvars = filter (λ r. not (bytes_eq r.0 name)) s.relvars }
+-- ---- what is dropped with a name
+
+abbrev pub with_history : Name → Option (Name × Name) → List Name
+with_history name None = name ∷ []
+with_history name (Some names) = name ∷ names.1 ∷ names.0 ∷ []
+
+-- the names that go with a name
+abbrev pub group : Entries → Name → List Name
+group entries name = with_history name (history_if (relvar_named entries name))
+
+-- the state without the relvars and views of these names
+abbrev pub without_all : List Name → State → State
+without_all names s = record s { relvars = filter (λ r. not (is_one_of names r.0)) s.relvars }
+
+-- the state without the relvar or view of this name; without the three of a history, where it is a history's view
+abbrev pub without_group : Name → State → State
+without_group name s = without_all (group s.relvars name) s
+
+-- ---- database constraints
+
+abbrev pub with_rule : Name → Test → State → State
+with_rule name t s = record s { rules = s.rules ++ (name, t) ∷ [] }
+
+abbrev pub without_rule : Name → State → State
+without_rule name s = record s { rules = filter (λ r. not (bytes_eq r.0 name)) s.rules }

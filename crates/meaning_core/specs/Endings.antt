@@ -3,14 +3,9 @@
 use Rattle.std.specs.Prelude.{Option, Some, None}
 use Rattle.value_core.specs.declared.constraint.HistoryRule.{HistoryRule}
 use Rattle.value_core.specs.Values.{Name}
-use Rattle.tree_core.specs.Relvars.{PlainRelvar, base, view, Entries, relvar_named, constraints_if, rule_among}
+use Rattle.tree_core.specs.Relvars.{Entries, relvar_named, constraints_if, rule_among, history_if}
 
 -- the since relvar and the during relvar of the view of a history
-abbrev pub history_if : Option PlainRelvar → Option (Name × Name)
-history_if None = None
-history_if (Some (base value constraints)) = None
-history_if (Some (view t history)) = history
-
 abbrev pub history_of : Entries → Name → Option (Name × Name)
 history_of entries name = history_if (relvar_named entries name)
 

@@ -1,7 +1,8 @@
 -- Whether a test holds, or its fault.
 --     truth_of      where names mean that
 --     truth_in      in a state
-use Rattle.std.specs.Prelude.{ℕ, Bool, true, false, not, ◌&&◌, List, [], ◌∷◌, Option, Some, None, Ok}
+--     holds_in      whether a database constraint holds
+use Rattle.std.specs.Prelude.{ℕ, Bool, true, false, not, ◌&&◌, List, [], ◌∷◌, Option, Some, None, Ok, Err}
 use Rattle.base_core.specs.Outcomes.{then_give, both}
 use Rattle.base_core.specs.Sets.{is_within}
 use Rattle.point_core.specs.Faults.{OrFault}
@@ -43,3 +44,12 @@ truth_of known (is_not_empty place t) = then_give (meaning known plainly t) (λ 
 
 abbrev pub truth_in : Entries → Test → OrFault Bool
 truth_in entries t = truth_of (known_in entries) t
+
+-- TRUE; a fault is not
+abbrev pub is_held : OrFault Bool → Bool
+is_held (Ok b) = b
+is_held (Err e) = false
+
+-- whether a database constraint with this test holds: FALSE and a fault both break it
+abbrev pub holds_in : Entries → Test → Bool
+holds_in entries t = is_held (truth_in entries t)

@@ -10,7 +10,7 @@ use Rattle.value_core.specs.declared.kind.Kind.{Kind}
 use Rattle.value_core.specs.declared.kind.Kind.TheVariants.{Truth, Char, Point, Span}
 use Rattle.value_core.specs.declared.list.OrdinalNames.{OrdinalNames}
 use Rattle.value_core.specs.Attributes.{among}
-use Rattle.value_core.specs.Limits.{most_ordinal_types, most_ordinal_values}
+use Rattle.value_core.specs.Limits.{most_ordinal_types, most_ordinal_values, most_rules}
 use Rattle.value_core.specs.Values.{Name, Heading, Relation}
 use Rattle.relation_core.specs.Parts.{kind_at}
 use Rattle.tree_core.specs.Relvars.{PlainRelvar, base, view, Entries, State, relvar_named, relvar_heading, heading_if, constraints_if, rule_among}
@@ -32,8 +32,9 @@ pub record IsOrdinalType (o : OrdinalNames) : Type 0 where
 abbrev pub headings_of : Entries → Headings
 headings_of entries = map (λ r. (r.0, relvar_heading r.1)) entries
 
+-- the names of database constraints, ordinal types, relvars and views, which are one set
 abbrev pub all_names : State → List Name
-all_names s = map (λ o. o.name) s.ordinals ++ map (λ r. r.0) s.relvars
+all_names s = map (λ r. r.0) s.rules ++ map (λ o. o.name) s.ordinals ++ map (λ r. r.0) s.relvars
 
 -- ---- constraints
 
@@ -119,13 +120,6 @@ abbrev pub AreRelvars : List ℕ → Entries → Entries → Type 0
 AreRelvars sizes before [] = Unit {0}
 AreRelvars sizes before (r ∷ rest) = IsRelvar sizes before r.0 r.1 × AreRelvars sizes (before ++ r ∷ []) rest
 
--- a well made state
-pub record IsWellMade (s : State) : Type 0 where
-  pub few : length s.ordinals ≤ most_ordinal_types
-  pub ordinals : All IsOrdinalType s.ordinals
-  pub different : IsDistinct bytes_eq (all_names s)
-  pub relvars : AreRelvars (sizes_of s.ordinals) [] s.relvars
-
 -- ---- what is typed for a state
 
 abbrev pub IsTypedFor : State → Tree → Type 0
@@ -133,6 +127,17 @@ IsTypedFor s t = IsTypedTree (sizes_of s.ordinals) (headings_of s.relvars) t
 
 abbrev pub IsTypedTestFor : State → Test → Type 0
 IsTypedTestFor s t = IsTypedTest (sizes_of s.ordinals) (headings_of s.relvars) t
+
+-- ---- well made states
+
+-- a well made state: each database constraint is typed for it
+pub record IsWellMade (s : State) : Type 0 where
+  pub few : length s.ordinals ≤ most_ordinal_types
+  pub ordinals : All IsOrdinalType s.ordinals
+  pub different : IsDistinct bytes_eq (all_names s)
+  pub relvars : AreRelvars (sizes_of s.ordinals) [] s.relvars
+  pub few_rules : length s.rules ≤ most_rules
+  pub rules : All (λ r. IsTypedTestFor s r.1) s.rules
 
 -- a name of a base relvar and a relation of its heading, both or neither
 abbrev pub IsGiven : Entries → Option Name → Option Relation → Type 0
