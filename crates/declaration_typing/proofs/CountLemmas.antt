@@ -8,9 +8,9 @@ use Rattle.std.proofs.lemmas.List.{map-append}
 use Rattle.value_core.specs.Limits.{most_nodes}
 use Rattle.value_core.specs.Values.{Name}
 use Rattle.tree_core.specs.Relvars.{PlainRelvar, base, view, Entries}
-use Rattle.tree_core.specs.Trees.{Tree, named, literal, infix_of, project, rename, restrict, extend, summarize, pack, unpack, using}
+use Rattle.tree_core.specs.Trees.{Tree, named, literal, infix_of, project, rename, restrict, extend, summarize, pack, unpack, using, Test, relate, is_empty, is_not_empty}
 use Rattle.meaning_core.specs.Names.{found, each_after, each_in}
-use Rattle.declaration_typing.specs.Nodes.{capped, count, relvar_count, nodes_of, capped_count}
+use Rattle.declaration_typing.specs.Nodes.{capped, count, relvar_count, nodes_of, test_count, test_nodes, capped_count}
 
 abbrev Known : Type 0
 Known = List (Name × ℕ)
@@ -23,6 +23,9 @@ twice n = omega (arith, clamps)
 
 sum-capped : (a b c d : ℕ) → capped a ≡ capped c → capped b ≡ capped d → capped (a + b + 1) ≡ capped (c + d + 1)
 sum-capped a b c d e f = omega (arith, clamps, e, f)
+
+both-capped : (a b c d : ℕ) → capped a ≡ capped c → capped b ≡ capped d → capped (a + b) ≡ capped (c + d)
+both-capped a b c d e f = omega (arith, clamps, e, f)
 
 more-capped : (a c : ℕ) → capped a ≡ capped c → capped (a + 1) ≡ capped (c + 1)
 more-capped a c e = omega (arith, clamps, e)
@@ -64,6 +67,12 @@ each-capped known (r ∷ rest) =
 pub nodes-capped : (entries : Entries) (t : Tree) → capped (count (each_in capped_count entries) t) ≡ capped (nodes_of entries t)
 nodes-capped entries t =
     ap (λ (k : Known). capped (count k t)) (each-capped [] entries) ∙ count-capped (each_in relvar_count entries) t
+
+pub test-capped : (entries : Entries) (t : Test) → capped (test_count (each_in capped_count entries) t) ≡ capped (test_nodes entries t)
+test-capped entries (relate place word commalist l r) =
+    both-capped (count (each_in capped_count entries) l) (count (each_in capped_count entries) r) (nodes_of entries l) (nodes_of entries r) (nodes-capped entries l) (nodes-capped entries r)
+test-capped entries (is_empty place t) = nodes-capped entries t
+test-capped entries (is_not_empty place t) = nodes-capped entries t
 
 -- the most there may be are counted
 pub few-capped : (r n : ℕ) → r ≡ capped n → nat_le r most_nodes ≡ nat_le n most_nodes

@@ -1,11 +1,13 @@
--- Lists without repeats, and what holds of each member, where one more is put in.
-use Rattle.std.proofs.Common.{◌≡◌, ℕ, zero, suc, Bool, true, false, List, [], ◌∷◌, ◌++◌, nat_eq, refl, sym, ◌∙◌, arith}
+-- Lists without repeats, and what holds of each member, where one more is put in, or some are left out.
+use Rattle.std.proofs.Common.{◌≡◌, ℕ, zero, suc, Bool, true, false, not, cond, List, [], ◌∷◌, ◌++◌, map, nat_eq, refl, sym, ◌∙◌, subst, arith}
+use Rattle.std.proofs.lemmas.List.{append-nil}
 use Rattle.std.proofs.lemmas.Bool.{or_parts, true≢false, eqb-true, eq-eqb}
 use Rattle.std.specs.List.{All, AllByRecursion, IsDistinct, list_any}
 use Rattle.std.specs.Str.{bytes_eq}
 use Rattle.base_core.proofs.ListLemmas.{bytes_eq-sym}
 use Rattle.value_core.specs.Attributes.{among}
 use Rattle.value_core.specs.Values.{Name}
+use Rattle.meaning_core.proofs.ElsewhereLemmas.{left}
 
 pub all-between : {X : Type 0} (P : X → Type 0) (xs : List X) (n : X) (ys : List X) → AllByRecursion P (xs ++ ys) → P n → AllByRecursion P (xs ++ n ∷ ys)
 all-between P [] n ys h p = (p, h)
@@ -55,3 +57,37 @@ not-among [] i e = tt
 not-among (j ∷ before) i e =
     let parts = or_parts (nat_eq i j) (among before i) e in
     (same-numbers j i ∙ parts.0, not-among before i parts.1)
+
+-- ---- where some are left out
+
+module _ {A : Type 0} (some : Name → Bool) where
+  abbrev names_of : List (Name × A) → List Name
+  names_of ks = map (λ k. k.0) ks
+
+  others-left : (P : Name → Type 0) (ks : List (Name × A)) (after : List Name) → AllByRecursion P (names_of ks ++ after) → AllByRecursion P (names_of (left some ks) ++ after)
+  others-left P [] after all = all
+  others-left P (k ∷ ks) after all =
+      elim (not (some k.0)) as (λ (b : Bool). AllByRecursion P (names_of (cond b (k ∷ left some ks) (left some ks)) ++ after)) [
+        | true ↦ (all.0, others-left P ks after all.1)
+        | false ↦ others-left P ks after all.1
+      ]
+
+  -- of the first names
+  pub distinct-left : (ks : List (Name × A)) (after : List Name) → IsDistinct bytes_eq (names_of ks ++ after) → IsDistinct bytes_eq (names_of (left some ks) ++ after)
+  unfolding IsDistinct
+  distinct-left [] after d = d
+  distinct-left (k ∷ ks) after d =
+      elim (not (some k.0)) as (λ (b : Bool). IsDistinct bytes_eq (names_of (cond b (k ∷ left some ks) (left some ks)) ++ after)) [
+        | true ↦ (others-left (λ (n : Name). bytes_eq k.0 n ≡ false) ks after d.0, distinct-left ks after d.1)
+        | false ↦ distinct-left ks after d.1
+      ]
+
+  others-behind : (P : Name → Type 0) (before : List Name) (ks : List (Name × A)) → AllByRecursion P (before ++ names_of ks) → AllByRecursion P (before ++ names_of (left some ks))
+  others-behind P [] ks all = subst (AllByRecursion P) (append-nil _) (others-left P ks [] (subst (AllByRecursion P) (sym (append-nil _)) all))
+  others-behind P (n ∷ before) ks all = (all.0, others-behind P before ks all.1)
+
+  -- of the last names
+  pub distinct-behind : (before : List Name) (ks : List (Name × A)) → IsDistinct bytes_eq (before ++ names_of ks) → IsDistinct bytes_eq (before ++ names_of (left some ks))
+  unfolding IsDistinct
+  distinct-behind [] ks d = subst (IsDistinct bytes_eq) (append-nil _) (distinct-left ks [] (subst (IsDistinct bytes_eq) (sym (append-nil _)) d))
+  distinct-behind (n ∷ before) ks d = (others-behind (λ (m : Name). bytes_eq n m ≡ false) before ks d.0, distinct-behind before ks d.1)

@@ -1,5 +1,5 @@
 -- What HISTORY declares has free names, which differ, and a key of the facts, which leave room for two attributes more.
-use Rattle.std.specs.Prelude.{◌≡◌, ◌≤◌, ◌-◌, ℕ, Bool, true, false, not, ◌||◌, List, [], length, map, nat_le, Ok, IfOk, IsTrue, refl, if◌then◌else◌}
+use Rattle.std.specs.Prelude.{◌≡◌, ◌≤◌, ◌-◌, ℕ, Bool, true, false, not, ◌||◌, List, [], length, nat_le, Ok, IfOk, IsTrue, refl, if◌then◌else◌}
 use Rattle.std.specs.Str.{bytes_eq}
 use Rattle.std.proofs.lemmas.Bool.{or_parts, not-true, leb-true}
 use Rattle.point_core.specs.declared.fault.Place.{Place}
@@ -23,7 +23,7 @@ use Rattle.declaration_typing.specs.Constraints.{names_typed}
 use Rattle.declaration_typing.specs.Histories.{relvars_named, brace_of, facts_typed, attributes_named, room_for_three, history_declared}
 use Rattle.declaration_typing.specs.Names.{new_name}
 use Rattle.declaration_typing.proofs.PositionLemmas.{held, AreAt, key-at}
-use Rattle.declaration_typing.proofs.StateLemmas.{AreOther, other-both, IsFree, free-name}
+use Rattle.declaration_typing.proofs.StateLemmas.{AreOther, IsFree, free-name, free-in}
 
 -- ---- the names of the view and of its relvars
 
@@ -45,10 +45,6 @@ relvars-free s v b d =
     (held d.place E11 (not (bytes_eq view during || bytes_eq since during))) (λ _ third.
     let parts = or_parts (bytes_eq view during) (bytes_eq since during) (not-true (bytes_eq view during || bytes_eq since during) third) in
     record { view = one; since = two; during = three; second = not-true (bytes_eq view since) second; third = parts.0; both = parts.1 })))))
-
--- none of all names is this one
-free-in : (s : State) (name : Name) → IsFree s name → AreOther name (all_names s)
-free-in s name free = other-both name (map (λ o. o.name) s.ordinals) (map (λ r. r.0) s.relvars) free.ordinals free.relvars
 
 -- ---- the facts
 

@@ -10,3 +10,4 @@ mod MoreTypes
 pub mod OrdinalLaws
 pub mod ViewLaws
 pub mod DropLaws
+pub mod RuleLaws

@@ -10,8 +10,8 @@ use Rattle.value_core.specs.declared.kind.Kind.TheVariants.{Truth, Char, Point, 
 use Rattle.value_core.specs.Values.{Heading, is_heading}
 use Rattle.scalar_core.specs.Expressions.{Expr, constant, attribute, one, pair, and_expr, or_expr}
 use Rattle.tree_core.specs.Relvars.{PlainRelvar, base, view, Entries}
-use Rattle.tree_core.specs.Trees.{PlainSets, PlainAggregateForm, count_rows, sum_of, min_of, max_of, PlainAggregate, Tree, named, literal, infix_of, project, rename, restrict, extend, summarize, pack, unpack, using}
-use Rattle.meaning_core.specs.Typing.{is_ordinal, is_type, is_kind, is_declared, has_declared, IsScalar, Makes, HasKind, Sums, IsTuple, Headings, IsTypedTree}
+use Rattle.tree_core.specs.Trees.{PlainSets, PlainAggregateForm, count_rows, sum_of, min_of, max_of, PlainAggregate, Tree, named, literal, infix_of, project, rename, restrict, extend, summarize, pack, unpack, using, Test, relate, is_empty, is_not_empty}
+use Rattle.meaning_core.specs.Typing.{is_ordinal, is_type, is_kind, is_declared, has_declared, IsScalar, Makes, HasKind, Sums, IsTuple, Headings, IsTypedTree, IsTypedTest}
 use Rattle.meaning_core.specs.WellMade.{headings_of, IsRelvar, AreRelvars}
 
 module _ (sizes more : List ℕ) where
@@ -103,6 +103,11 @@ module _ (sizes more : List ℕ) where
   tree-more headings (pack place h commalist t) is = (tree-more headings t is.0, is.1, is.2)
   tree-more headings (unpack place h commalist t) is = (tree-more headings t is.0, is.1, is.2)
   tree-more headings (using place h commalist t) is = (tree-more headings t is.0, is.1, is.2, is.3)
+
+  pub test-more : (headings : Headings) (t : Test) → IsTypedTest sizes headings t → IsTypedTest (sizes ++ more) headings t
+  test-more headings (relate place word commalist l r) is = (tree-more headings l is.0, tree-more headings r is.1, is.2, is.3)
+  test-more headings (is_empty place t) is = tree-more headings t is
+  test-more headings (is_not_empty place t) is = tree-more headings t is
 
   -- ---- relvars and views
 

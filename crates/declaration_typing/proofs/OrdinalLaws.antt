@@ -1,11 +1,11 @@
 -- What TYPE declares keeps a state well made.
-use Rattle.std.specs.Prelude.{◌≡◌, ◌≤◌, ℕ, suc, false, not, List, [], ◌∷◌, ◌++◌, map, length, nat_le, nat_lt, IfOk, IsTrue}
-use Rattle.std.proofs.Common.{arith, sym, ◌∙◌, ap, subst, append_assoc}
-use Rattle.std.specs.List.{AllByRecursion, IsDistinct}
+use Rattle.std.specs.Prelude.{◌≡◌, ◌≤◌, ℕ, suc, not, List, [], ◌∷◌, ◌++◌, map, length, nat_le, nat_lt, IfOk, IsTrue}
+use Rattle.std.proofs.Common.{arith, get_or, sym, ◌∙◌, ap, subst, append_assoc}
+use Rattle.std.specs.List.{All, IsDistinct}
 use Rattle.std.specs.Str.{bytes_eq}
 use Rattle.std.proofs.lemmas.Bool.{leb-true, ltb-true, not-true}
 use Rattle.std.proofs.lemmas.List.{map-append, length-append}
-use Rattle.base_core.proofs.ListLemmas.{IsDistinct-push, bytes_eq-sym}
+use Rattle.base_core.proofs.ListLemmas.{IsDistinct-push}
 use Rattle.point_core.specs.declared.fault.Code.TheVariants.{E15, E22}
 use Rattle.utd_syntax.specs.Plain as syntax
 use Rattle.utd_syntax.specs.Plain.{Word, SomeNamesP}
@@ -16,15 +16,16 @@ use Rattle.scalar_typing.proofs.SoundLemmas.{then-sound, any-given}
 use Rattle.relation_typing.specs.Attributes.{name_typed}
 use Rattle.tree_core.specs.Relvars.{State}
 use Rattle.meaning_core.specs.Declarations.{PlainDeclaration, with_declaration}
-use Rattle.meaning_core.specs.WellMade.{sizes_of, all_names, IsOrdinalType, AreRelvars, IsWellMade}
+use Rattle.meaning_core.specs.Typing.{IsTypedTest}
+use Rattle.meaning_core.specs.WellMade.{sizes_of, headings_of, all_names, IsOrdinalType, AreRelvars, IsWellMade}
 use Rattle.node_typing.specs.Lists.{named_in}
 use Rattle.node_typing.specs.Positions.{check}
 use Rattle.declaration_typing.specs.Names.{new_name}
 use Rattle.declaration_typing.specs.Ordinals.{with_value, values_typed, few_values, ordinal_declared}
 use Rattle.declaration_typing.proofs.DistinctLemmas.{distinct-between, no-distinct, none-named, all-push}
-use Rattle.declaration_typing.proofs.MoreTypes.{relvars-more}
+use Rattle.declaration_typing.proofs.MoreTypes.{relvars-more, test-more}
 use Rattle.declaration_typing.proofs.PositionLemmas.{held}
-use Rattle.declaration_typing.proofs.StateLemmas.{AreOther, IsFree, free-name}
+use Rattle.declaration_typing.proofs.StateLemmas.{other-both, others-from, IsFree, free-name}
 
 -- ---- values
 
@@ -61,28 +62,36 @@ few-make (syntax.SomeNames at first more) =
 
 -- ---- states
 
-others-from : (name : Name) (names : List Name) → AreOther name names → AllByRecursion (λ n. bytes_eq name n ≡ false) names
-others-from name [] h = tt
-others-from name (n ∷ names) h = (bytes_eq-sym name n ∙ h.0, others-from name names h.1)
-
 abbrev with_type : State → OrdinalNames → State
 with_type s o = record s { ordinals = s.ordinals ++ o ∷ [] }
 
-names-with : (s : State) (o : OrdinalNames) → map (λ (t : OrdinalNames). t.name) s.ordinals ++ o.name ∷ map (λ r. r.0) s.relvars ≡ all_names (with_type s o)
+names-with : (s : State) (o : OrdinalNames) → (map (λ k. k.0) s.rules ++ map (λ (t : OrdinalNames). t.name) s.ordinals) ++ o.name ∷ map (λ r. r.0) s.relvars ≡ all_names (with_type s o)
 names-with s o =
+    let rules : List Name = map (λ k. k.0) s.rules in
+    let types : List Name = map (λ (t : OrdinalNames). t.name) s.ordinals in
     let relvars : List Name = map (λ r. r.0) s.relvars in
-    sym (append_assoc (map (λ (t : OrdinalNames). t.name) s.ordinals) (o.name ∷ []) relvars)
-    ∙ ap (λ (names : List Name). names ++ relvars) (sym (map-append (λ (t : OrdinalNames). t.name) s.ordinals (o ∷ [])))
+    sym (append_assoc (rules ++ types) (o.name ∷ []) relvars)
+    ∙ (ap (λ (names : List Name). names ++ relvars) (append_assoc rules types (o.name ∷ []))
+    ∙ ap (λ (names : List Name). (rules ++ names) ++ relvars) (sym (map-append (λ (t : OrdinalNames). t.name) s.ordinals (o ∷ []))))
+
+sizes-with : (s : State) (o : OrdinalNames) → sizes_of s.ordinals ++ length o.values ∷ [] ≡ sizes_of (with_type s o).ordinals
+sizes-with s o = sym (map-append (λ (t : OrdinalNames). length t.values) s.ordinals (o ∷ []))
 
 types-more : (s : State) (o : OrdinalNames) → IsWellMade s → IsFree s o.name → IsOrdinalType o → suc (length s.ordinals) ≤ most_ordinal_types → IsWellMade (with_type s o)
-types-more s o made free is room = record {
-  few = let long = length-append s.ordinals (o ∷ []) in omega (arith, long, room);
-  ordinals = all-push IsOrdinalType s.ordinals o made.ordinals is;
-  different = subst (IsDistinct bytes_eq) (names-with s o)
-      (distinct-between bytes_eq (map (λ (t : OrdinalNames). t.name) s.ordinals) o.name (map (λ r. r.0) s.relvars) made.different free.ordinals (others-from o.name (map (λ r. r.0) s.relvars) free.relvars));
-  relvars = subst (λ (sizes : List ℕ). AreRelvars sizes [] s.relvars) (sym (map-append (λ (t : OrdinalNames). length t.values) s.ordinals (o ∷ [])))
-      (relvars-more (sizes_of s.ordinals) (length o.values ∷ []) [] s.relvars made.relvars);
-}
+types-more s o made free is room =
+    let rules : List Name = map (λ k. k.0) s.rules in
+    let types : List Name = map (λ (t : OrdinalNames). t.name) s.ordinals in
+    let relvars : List Name = map (λ r. r.0) s.relvars in
+    record {
+      few = let long = length-append s.ordinals (o ∷ []) in omega (arith, long, room);
+      ordinals = all-push IsOrdinalType s.ordinals o made.ordinals is;
+      different = subst (IsDistinct bytes_eq) (names-with s o)
+          (distinct-between bytes_eq (rules ++ types) o.name relvars made.different (other-both o.name rules types free.rules free.ordinals) (others-from o.name relvars free.relvars));
+      relvars = subst (λ (sizes : List ℕ). AreRelvars sizes [] s.relvars) (sizes-with s o) (relvars-more (sizes_of s.ordinals) (length o.values ∷ []) [] s.relvars made.relvars);
+      few_rules = made.few_rules;
+      rules = subst (λ (sizes : List ℕ). All (λ k. IsTypedTest sizes (headings_of s.relvars) k.1) s.rules) (sizes-with s o)
+          (λ k d l. test-more (sizes_of s.ordinals) (length o.values ∷ []) (headings_of s.relvars) (get_or s.rules k d).1 (made.rules k d l));
+    }
 
 module _ (s : State) (w : Word) (list : SomeNamesP) where
   abbrev IsKept : PlainDeclaration → Type 0

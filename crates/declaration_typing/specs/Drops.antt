@@ -1,56 +1,46 @@
 -- The typing of DROP VAR.
 --     dropped state name      the name of the relvar or view, or the first refusal
-use Rattle.std.specs.Prelude.{Bool, false, not, ◌&&◌, ◌||◌, is_some, Ok}
+use Rattle.std.specs.Prelude.{Bool, false, not, ◌&&◌, ◌||◌, is_some, Option, Some, None, Ok}
 use Rattle.std.specs.List.{list_any}
 use Rattle.std.specs.Str.{bytes_eq}
 use Rattle.point_core.specs.declared.fault.Code.TheVariants.{E10, E21}
 use Rattle.point_core.specs.Faults.{OrFault}
 use Rattle.utd_syntax.specs.Plain.{Word}
-use Rattle.value_core.specs.declared.constraint.Constraint.{Constraint}
-use Rattle.value_core.specs.declared.constraint.Constraint.TheVariants.{Key, Packed, WhenUnpacked, UKey, Foreign, History}
 use Rattle.value_core.specs.Values.{Name}
 use Rattle.scalar_typing.specs.Typings.{◌>>=◌}
 use Rattle.relation_typing.specs.Attributes.{name_typed}
-use Rattle.tree_core.specs.Relvars.{State, PlainRelvar, base, view, Entries, relvar_named}
-use Rattle.tree_core.specs.Trees.{Tree, named, literal, infix_of, project, rename, restrict, extend, summarize, pack, unpack, using}
+use Rattle.tree_core.specs.Relvars.{State, PlainRelvar, base, view, Entries, Rules, relvar_named}
+use Rattle.tree_core.specs.Uses.{is_one_of, relvar_names_any, test_names_any}
+use Rattle.meaning_core.specs.Declarations.{group}
 use Rattle.node_typing.specs.Positions.{check}
 
--- whether the expression itself names the relvar or view
-abbrev pub names_in : Name → Tree → Bool
-names_in name (named place h other) = bytes_eq name other
-names_in name (literal place h tuples) = false
-names_in name (infix_of place h word l r) = names_in name l || names_in name r
-names_in name (project place h kept t) = names_in name t
-names_in name (rename place h names t) = names_in name t
-names_in name (restrict place h c t) = names_in name t
-names_in name (extend place h sets t) = names_in name t
-names_in name (summarize place h by aggregates t) = names_in name t
-names_in name (pack place h commalist t) = names_in name t
-names_in name (unpack place h commalist t) = names_in name t
-names_in name (using place h commalist t) = names_in name t
+-- whether the view is a history's, and the name that of its since relvar or its during relvar
+abbrev pub is_in_history : Name → PlainRelvar → Bool
+is_in_history name (base value constraints) = false
+is_in_history name (view t None) = false
+is_in_history name (view t (Some names)) = bytes_eq name names.0 || bytes_eq name names.1
 
--- whether the constraint names the relvar
-abbrev pub references : Name → Constraint → Bool
-references name (Key k) = false
-references name (Packed commalist) = false
-references name (WhenUnpacked commalist k) = false
-references name (UKey commalist k) = false
-references name (Foreign commalist k other there) = bytes_eq name other
-references name (History rule) = bytes_eq name rule.since
+-- whether a history has the name as that of its since relvar or its during relvar
+abbrev pub is_of_history : Entries → Name → Bool
+is_of_history entries name = list_any (λ e. is_in_history name e.1) entries
 
--- whether a view's expression or a relvar's constraint names it
-abbrev pub relvar_names : Name → PlainRelvar → Bool
-relvar_names name (base value constraints) = list_any (references name) constraints
-relvar_names name (view t history) = names_in name t
+-- whether a relvar or view that is none of these names one of these
+abbrev pub relvars_use : Entries → (Name → Bool) → Bool
+relvars_use entries these = list_any (λ e. not (these e.0) && relvar_names_any these e.1) entries
 
--- whether another than itself names it
-abbrev pub is_used : Entries → Name → Bool
-is_used entries name = list_any (λ e. not (bytes_eq name e.0) && relvar_names name e.1) entries
+-- whether a database constraint names one of these
+abbrev pub rules_use : Rules → (Name → Bool) → Bool
+rules_use rules these = list_any (λ r. test_names_any these r.1) rules
 
--- E10 at a name that is no relvar and no view, E21 at one that is used
+abbrev pub is_used : State → (Name → Bool) → Bool
+is_used s these = relvars_use s.relvars these || rules_use s.rules these
+
+-- E10 at a name that is no relvar and no view; E21 at one of the two relvars of a history, which go with its view; E21 where the relvar or
+-- view, or one of the three of a history, is used by another
 unfoldable pub dropped : State → Word → OrFault Name
 dropped s w = do
   name ← name_typed w
   known ← check w.place E10 (is_some (relvar_named s.relvars name))
-  free ← check w.place E21 (not (is_used s.relvars name))
+  alone ← check w.place E21 (not (is_of_history s.relvars name))
+  free ← check w.place E21 (not (is_used s (is_one_of (group s.relvars name))))
   Ok name

@@ -6,3 +6,4 @@ pub mod Drops
 pub mod Nodes
 pub mod Views
 pub mod Histories
+pub mod Rules

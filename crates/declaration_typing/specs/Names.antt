@@ -1,4 +1,4 @@
--- The names of ordinal types, relvars and views, which are one set.
+-- The names of ordinal types, relvars, views and database constraints, which are one set.
 --     new_name      a name that nothing has
 --     room_for      whether there is room for one relvar or view more
 use Rattle.std.specs.Prelude.{Bool, not, ◌||◌, length, nat_lt, is_some, Ok}
@@ -15,9 +15,13 @@ use Rattle.relation_typing.specs.Attributes.{name_typed}
 use Rattle.tree_core.specs.Relvars.{State, relvar_named}
 use Rattle.node_typing.specs.Positions.{check}
 
--- whether an ordinal type, a relvar or a view has the name
+-- whether a database constraint has the name
+abbrev pub is_rule : State → Name → Bool
+is_rule s name = list_any (λ r. bytes_eq name r.0) s.rules
+
+-- whether an ordinal type, a relvar, a view or a database constraint has the name
 abbrev pub is_taken : State → Name → Bool
-is_taken s name = list_any (λ o. bytes_eq name o.name) s.ordinals || is_some (relvar_named s.relvars name)
+is_taken s name = list_any (λ o. bytes_eq name o.name) s.ordinals || is_some (relvar_named s.relvars name) || is_rule s name
 
 -- E11 at a name that is taken
 abbrev pub new_name : State → Word → OrFault Name

@@ -1,11 +1,12 @@
 -- How many nodes an expression has, those of the views that it names counted in.
 --     nodes_of entries tree      where these are the relvars and views
+--     test_nodes entries test      of the expressions of a test together
 --     capped_count      what a name counts for, as far as it is counted
 use Rattle.std.specs.Prelude.{ℕ, ◌+◌, min, List}
 use Rattle.value_core.specs.Limits.{most_nodes}
 use Rattle.value_core.specs.Values.{Name}
 use Rattle.tree_core.specs.Relvars.{PlainRelvar, base, view, Entries}
-use Rattle.tree_core.specs.Trees.{Tree, named, literal, infix_of, project, rename, restrict, extend, summarize, pack, unpack, using}
+use Rattle.tree_core.specs.Trees.{Tree, named, literal, infix_of, project, rename, restrict, extend, summarize, pack, unpack, using, Test, relate, is_empty, is_not_empty}
 use Rattle.meaning_core.specs.Names.{found, each_in}
 
 -- the nodes of an expression, where it is known how many a name counts for
@@ -29,6 +30,17 @@ relvar_count known (view t history) = count known t
 
 abbrev pub nodes_of : Entries → Tree → ℕ
 nodes_of entries t = count (each_in relvar_count entries) t
+
+-- ---- tests
+
+-- how many nodes the expressions of a test have together, where it is known how many a name counts for
+abbrev pub test_count : List (Name × ℕ) → Test → ℕ
+test_count known (relate place word commalist l r) = count known l + count known r
+test_count known (is_empty place t) = count known t
+test_count known (is_not_empty place t) = count known t
+
+abbrev pub test_nodes : Entries → Test → ℕ
+test_nodes entries t = test_count (each_in relvar_count entries) t
 
 -- ---- the same, as far as it is counted
 

@@ -1,11 +1,12 @@
 // What is dropped, and what names it.
-ghost use Rattle.std.specs.Prelude.{◌≡◌, not, ◌&&◌};
+ghost use Rattle.std.specs.Prelude.{◌≡◌, map, not, ◌&&◌};
 ghost use Rattle.std.specs.List.{list_any};
-ghost use Rattle.std.specs.Str.{bytes_eq};
 ghost use Rattle.utd_syntax.specs.Read.{read_name};
 ghost use Rattle.scalar_core.specs.Answers.{Gives};
 ghost use Rattle.tree_core.specs.Relvars.{read_relvar, read_relvars};
-ghost use Rattle.tree_core.specs.Trees.{read_tree};
+ghost use Rattle.tree_core.specs.Uses as uses;
+ghost use Rattle.tree_core.specs.Uses.{is_one_of};
+ghost use Rattle.meaning_core.specs.Declarations.{group};
 ghost use Rattle.declaration_typing.specs.Drops as rules;
 
 use crate::references::is_known;
@@ -13,72 +14,81 @@ use node_typing::check;
 use point_core::{Code, Stop};
 use relation_typing::name_typed;
 use std::alloc::Global;
-use tree_core::{RelForm, RelTree, Relvar, Relvars};
+use tree_core::{Relvar, Relvars, history_if, is_one_of, relvar_names_any, test_names_any};
 use utd_syntax::Word;
-use value_core::{Constraint, Name};
+use value_core::Name;
 
-/// Whether the expression itself names the relvar or view.
-fn names_in(name: &Name, tree: &RelTree) -> bool
-    ensures { result ≡ rules.names_in name.now (read_tree tree.now) }
-{
-    match &tree.form {
-        RelForm::Named(other) => *name == *other,
-        RelForm::Literal(_) => false,
-        RelForm::Infix(_, left, right) => names_in(name, left) || names_in(name, right),
-        RelForm::Project(_, part) => names_in(name, part),
-        RelForm::Rename(_, part) => names_in(name, part),
-        RelForm::Restrict(_, part) => names_in(name, part),
-        RelForm::Extend(_, part) => names_in(name, part),
-        RelForm::Summarize(_, _, part) => names_in(name, part),
-        RelForm::Pack(_, part) => names_in(name, part),
-        RelForm::Unpack(_, part) => names_in(name, part),
-        RelForm::Using(_, part) => names_in(name, part),
-    }
-}
-
-/// Whether the constraint names the relvar.
-fn references(name: &Name, constraint: &Constraint) -> bool
-    ensures { result ≡ rules.references name.now constraint.now }
-{
-    match constraint {
-        Constraint::Foreign(_, _, other, _) => *name == *other,
-        Constraint::History(rule) => *name == rule.since,
-        _ => false,
-    }
-}
-
-/// Whether one of the constraints names the relvar.
-fn any_references(name: &Name, constraints: &[Constraint]) -> bool
-    ensures { result ≡ list_any (rules.references name.now) constraints.now }
-{
-    constraints
-        .iter()
-        .any(|constraint| references(name, constraint))
-}
-
-/// Whether a view's expression or a relvar's constraint names it.
-fn relvar_names(name: &Name, relvar: &Relvar) -> bool
-    ensures { result ≡ rules.relvar_names name.now (read_relvar relvar.now) }
+/// Whether the view is a history's, and the name that of its since relvar or its during relvar.
+fn is_in_history(name: &Name, relvar: &Relvar) -> bool
+    ensures { result ≡ rules.is_in_history name.now (read_relvar relvar.now) }
 {
     match relvar {
+        Relvar::View {
+            tree: _,
+            history: Some((since, during)),
+        } => *name == *since || *name == *during,
+        Relvar::View {
+            tree: _,
+            history: None,
+        } => false,
         Relvar::Base {
             value: _,
-            constraints,
-        } => any_references(name, constraints.list.as_slice()),
-        Relvar::View { tree, history: _ } => names_in(name, tree),
+            constraints: _,
+        } => false,
     }
 }
 
-/// Whether another than itself names it.
-fn is_used(relvars: &Relvars, name: &Name) -> bool
-    ensures { result ≡ rules.is_used (read_relvars relvars.now).relvars name.now }
+/// Whether a history has the name as that of its since relvar or its during relvar.
+fn is_of_history(relvars: &Relvars, name: &Name) -> bool
+    ensures { result ≡ rules.is_of_history (read_relvars relvars.now).relvars name.now }
 {
-    for (other, relvar) in &relvars.list {
-        if *name != *other && relvar_names(name, relvar) {
+    for (_, relvar) in &relvars.list {
+        if is_in_history(name, relvar) {
             return true;
         }
     }
     false
+}
+
+/// Whether a relvar or view that is none of these names one of these.
+fn relvars_use(relvars: &Relvars, names: &[&Name]) -> bool
+    ensures { result ≡ rules.relvars_use (read_relvars relvars.now).relvars (is_one_of (map (λ n. n.now) names.now)) }
+{
+    for (other, relvar) in &relvars.list {
+        if !is_one_of(other, names) && relvar_names_any(relvar, names) {
+            return true;
+        }
+    }
+    false
+}
+
+/// Whether a database constraint names one of these.
+fn rules_use(relvars: &Relvars, names: &[&Name]) -> bool
+    ensures { result ≡ rules.rules_use (read_relvars relvars.now).rules (is_one_of (map (λ n. n.now) names.now)) }
+{
+    for (_, test) in &relvars.rules {
+        if test_names_any(test, names) {
+            return true;
+        }
+    }
+    false
+}
+
+/// Whether one of these is named by a relvar or view that is none of them, or by a database constraint.
+fn is_used(relvars: &Relvars, names: &[&Name]) -> bool
+    ensures { result ≡ rules.is_used (read_relvars relvars.now) (is_one_of (map (λ n. n.now) names.now)) }
+{
+    relvars_use(relvars, names) || rules_use(relvars, names)
+}
+
+/// Whether what is dropped with the name is used by another.
+fn group_is_used(relvars: &Relvars, name: &Name) -> bool
+    ensures { result ≡ rules.is_used (read_relvars relvars.now) (is_one_of (group (read_relvars relvars.now).relvars name.now)) }
+{
+    match history_if(relvars.named(name)) {
+        Some((since, during)) => is_used(relvars, &[name, during, since]),
+        None => is_used(relvars, &[name]),
+    }
 }
 
 /// The name of the relvar or view that DROP VAR drops where these are the relvars, or the first refusal.
@@ -88,6 +98,7 @@ pub fn type_drop(alloc: Global, word: &Word, relvars: &Relvars) -> Result<Name, 
 {
     let name = name_typed(alloc, word)?;
     check(word.place, Code::E10, is_known(relvars, &name))?;
-    check(word.place, Code::E21, !is_used(relvars, &name))?;
+    check(word.place, Code::E21, !is_of_history(relvars, &name))?;
+    check(word.place, Code::E21, !group_is_used(relvars, &name))?;
     Ok(name)
 }

@@ -1,4 +1,5 @@
-//! The typing of what declares and drops: ordinal types, base relvars with their constraints, views, and histories.
+//! The typing of what declares and drops: ordinal types, base relvars with their constraints, views, histories, and database
+//! constraints.
 #![tactic(auto)]
 
 mod constraints;
@@ -10,10 +11,12 @@ mod nodes;
 mod ordinals;
 mod references;
 mod relvars;
+mod rules;
 mod views;
 
 pub use drops::type_drop;
 pub use histories::type_history;
 pub use ordinals::type_ordinal;
 pub use relvars::type_relvar;
+pub use rules::{type_rule, type_rule_drop};
 pub use views::type_view;

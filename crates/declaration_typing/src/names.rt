@@ -1,4 +1,4 @@
-// The names of ordinal types, relvars and views, which are one set.
+// The names of ordinal types, relvars, views and database constraints, which are one set.
 ghost use Rattle.std.specs.Prelude.{◌≡◌};
 ghost use Rattle.std.specs.List.{list_any};
 ghost use Rattle.std.specs.Str.{bytes_eq};
@@ -23,11 +23,23 @@ fn is_ordinal(types: &OrdinalTypes, name: &Name) -> bool
     types.list.iter().any(|ordinal| *name == ordinal.name)
 }
 
-/// Whether an ordinal type, a relvar or a view has the name.
+/// Whether a database constraint has the name.
+pub(crate) fn is_rule(relvars: &Relvars, name: &Name) -> bool
+    ensures { result ≡ rules.is_rule (read_relvars relvars.now) name.now }
+{
+    for (other, _) in &relvars.rules {
+        if *name == *other {
+            return true;
+        }
+    }
+    false
+}
+
+/// Whether an ordinal type, a relvar, a view or a database constraint has the name.
 fn is_taken(relvars: &Relvars, name: &Name) -> bool
     ensures { result ≡ rules.is_taken (read_relvars relvars.now) name.now }
 {
-    is_ordinal(&relvars.ordinals, name) || is_known(relvars, name)
+    is_ordinal(&relvars.ordinals, name) || is_known(relvars, name) || is_rule(relvars, name)
 }
 
 /// The name, which nothing has.

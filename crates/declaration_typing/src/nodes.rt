@@ -2,14 +2,14 @@
 ghost use Rattle.std.specs.Prelude.{◌≡◌, ◌+◌, IfOk, nat_le};
 ghost use Rattle.value_core.specs.Limits.{most_nodes};
 ghost use Rattle.tree_core.specs.Relvars.{read_relvar, read_relvars};
-ghost use Rattle.tree_core.specs.Trees.{read_tree};
+ghost use Rattle.tree_core.specs.Trees.{read_test, read_tree};
 ghost use Rattle.meaning_core.specs.Names.{found, each_in};
 ghost use Rattle.declaration_typing.specs.Nodes as rules;
 ghost use Rattle.declaration_typing.specs.Nodes.{capped};
 
 use point_core::Memory;
 use std::alloc::Global;
-use tree_core::{RelForm, RelTree, Relvar, Relvars};
+use tree_core::{RelForm, RelTest, RelTree, Relvar, Relvars, TestForm};
 use value_core::{MOST_NODES, Name};
 
 /// The number, or one more than there may be.
@@ -88,4 +88,30 @@ pub(crate) fn are_few(alloc: Global, tree: &RelTree, relvars: &Relvars) -> Resul
 {
     let known = counts(alloc, relvars)?;
     Ok(count(known.as_slice(), tree) <= MOST_NODES)
+}
+
+/// The nodes of two expressions.
+fn both(left: usize, right: usize) -> usize
+    ensures { result ≡ capped (left + right) }
+{
+    capped(left.saturating_add(right))
+}
+
+/// The nodes of the expressions of a test.
+fn test_count(known: &[(Name, usize)], test: &RelTest) -> usize
+    ensures { result ≡ capped (rules.test_count known.now (read_test test.now)) }
+{
+    match &test.form {
+        TestForm::Relate(_, _, left, right) => both(count(known, left), count(known, right)),
+        TestForm::IsEmpty(tree) => count(known, tree),
+        TestForm::IsNotEmpty(tree) => count(known, tree),
+    }
+}
+
+/// Whether the expressions of a test have no more nodes together than a view may have.
+pub(crate) fn test_is_few(alloc: Global, test: &RelTest, relvars: &Relvars) -> Result<bool, Memory>
+    ensures { IfOk result (λ few. few ≡ nat_le (rules.test_nodes (read_relvars relvars.now).relvars (read_test test.now)) most_nodes) }
+{
+    let known = counts(alloc, relvars)?;
+    Ok(test_count(known.as_slice(), test) <= MOST_NODES)
 }

@@ -15,9 +15,9 @@ use Rattle.relation_core.specs.Parts.{kind_at}
 use Rattle.scalar_typing.specs.Scalars.{typed_scalar}
 use Rattle.scalar_typing.specs.Typings.{◌>>=◌, value_or}
 use Rattle.tree_core.specs.Items.{PlainItemForm, terminate, PlainItem}
-use Rattle.tree_core.specs.Relvars.{PlainRelvar, State, relvar_named, relvar_heading}
+use Rattle.tree_core.specs.Relvars.{PlainRelvar, State, relvar_named, relvar_heading, history_if}
 use Rattle.relation_typing.specs.Attributes.{name_typed}
-use Rattle.meaning_core.specs.Endings.{history_if, rule_if}
+use Rattle.meaning_core.specs.Endings.{rule_if}
 use Rattle.node_typing.specs.Positions.{check}
 use Rattle.item_typing.specs.Changes.{condition_if}
 use Rattle.item_typing.specs.Targets.{item_of}

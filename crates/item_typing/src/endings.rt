@@ -8,8 +8,8 @@ ghost use Rattle.scalar_typing.specs.Names.{AreOrdinals};
 ghost use Rattle.scalar_typing.specs.Typings.{value_or};
 ghost use Rattle.point_core.specs.declared.fault.Code.TheVariants.{E20};
 ghost use Rattle.tree_core.specs.Items.{read_item, read_item_form};
-ghost use Rattle.tree_core.specs.Relvars.{constraints_if, read_relvar, read_relvars, rule_among};
-ghost use Rattle.meaning_core.specs.Endings.{history_if, rule_if};
+ghost use Rattle.tree_core.specs.Relvars.{constraints_if, read_relvar, read_relvars, rule_among, history_if};
+ghost use Rattle.meaning_core.specs.Endings.{rule_if};
 ghost use Rattle.item_typing.specs.Endings as rules;
 
 use crate::changes::condition_if;

@@ -18,9 +18,9 @@ use Rattle.relation_core.specs.Agreement.{position_of}
 use Rattle.relation_core.specs.Parts.{no_attribute, kind_at}
 use Rattle.relation_core.proofs.HeadingLemmas.{heading_ascends}
 use Rattle.tree_core.specs.Items.{PlainItemForm, set_to, insert, delete, delete_rows, update, terminate, PlainItem, PlainAssignment}
-use Rattle.tree_core.specs.Relvars.{PlainRelvar, base, view, State, relvar_named, heading_if, constraints_if, rule_among}
+use Rattle.tree_core.specs.Relvars.{PlainRelvar, base, view, State, relvar_named, heading_if, constraints_if, rule_among, history_if}
 use Rattle.tree_core.specs.Trees.{Tree, named, restrict}
-use Rattle.meaning_core.specs.Endings.{history_if, rule_if}
+use Rattle.meaning_core.specs.Endings.{rule_if}
 use Rattle.meaning_core.specs.Histories.{joined_history, last_point, type_at, name_at}
 use Rattle.meaning_core.specs.Typing.{IsScalar, IsTypedTree, is_kind}
 use Rattle.meaning_core.specs.Updates.{IsEnding, IsTypedForm, IsTypedItem, IsTypedAssignment}

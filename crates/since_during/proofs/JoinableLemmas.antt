@@ -11,9 +11,9 @@ use Rattle.value_core.specs.declared.kind.Kind.TheVariants.{Span}
 use Rattle.value_core.specs.Limits.{most_attributes}
 use Rattle.value_core.specs.Values.{Name}
 use Rattle.relation_core.proofs.HeadingLemmas.{few_attributes}
-use Rattle.tree_core.specs.Relvars.{PlainRelvar, base, view, Entries, State, relvar_named, heading_if, constraints_if, rule_among}
+use Rattle.tree_core.specs.Relvars.{PlainRelvar, base, view, Entries, State, relvar_named, heading_if, constraints_if, rule_among, history_if}
 use Rattle.tree_core.specs.Trees.{Tree}
-use Rattle.meaning_core.specs.Endings.{history_if, history_of, rule_if}
+use Rattle.meaning_core.specs.Endings.{history_of, rule_if}
 use Rattle.meaning_core.specs.Histories.{with_attribute, type_at, name_at}
 use Rattle.meaning_core.specs.Typing.{IsTypedTree}
 use Rattle.meaning_core.specs.WellMade.{sizes_of, headings_of, IsBase, IsConstraint, IsOfRule, IsRelvar, AreRelvars, IsWellMade}

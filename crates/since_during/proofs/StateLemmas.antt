@@ -13,6 +13,7 @@ use Rattle.tree_core.specs.Relvars.{State, PlainRelvar, Entries, relvar_named}
 use Rattle.meaning_core.specs.Declarations.{with_relvar}
 use Rattle.meaning_core.specs.WellMade.{sizes_of, all_names, IsRelvar, IsWellMade}
 use Rattle.meaning_core.proofs.RelvarLemmas.{more_relvars, more_names}
+use Rattle.meaning_core.proofs.StaysTyped.{rules-behind}
 use Rattle.since_during.specs.Histories.{IsFreeIn}
 
 -- ---- names
@@ -23,9 +24,9 @@ AreOther name names = AllByRecursion (λ (n : Name). bytes_eq n name ≡ false) 
 pub free-more : (s : State) (own : Name) (r : PlainRelvar) (name : Name) → IsFreeIn s name → bytes_eq own name ≡ false → IsFreeIn (with_relvar s own r) name
 free-more s own r name free other = subst (AreOther name) (more_names s own r) (AllByRecursion-push (λ (n : Name). bytes_eq n name ≡ false) (all_names s) own free other)
 
-behind : (name : Name) (ordinals names : List Name) → AreOther name (ordinals ++ names) → AreOther name names
+behind : (name : Name) (before names : List Name) → AreOther name (before ++ names) → AreOther name names
 behind name [] names h = h
-behind name (o ∷ ordinals) names h = behind name ordinals names h.1
+behind name (n ∷ before) names h = behind name before names h.1
 
 none-of : (entries : Entries) (name : Name) → AreOther name (map (λ r. r.0) entries) → relvar_named entries name ≡ None
 none-of [] name h = refl
@@ -33,7 +34,9 @@ none-of (r ∷ entries) name h = ap (λ (b : Bool). if b then Some r.1 else relv
 
 -- nothing has a free name
 pub none-named : (s : State) (name : Name) → IsFreeIn s name → relvar_named s.relvars name ≡ None
-none-named s name free = none-of s.relvars name (behind name (map (λ (o : OrdinalNames). o.name) s.ordinals) (map (λ r. r.0) s.relvars) free)
+none-named s name free =
+    let before : List Name = map (λ k. k.0) s.rules ++ map (λ (o : OrdinalNames). o.name) s.ordinals in
+    none-of s.relvars name (behind name before (map (λ r. r.0) s.relvars) free)
 
 -- the new relvar is what its name stands for
 pub own-named : (entries : Entries) (own : Name) (r : PlainRelvar) → bytes_eq own own ≡ true → relvar_named entries own ≡ None → relvar_named (entries ++ (own, r) ∷ []) own ≡ Some r
@@ -53,4 +56,6 @@ with-relvar s own r made free is = record {
   ordinals = made.ordinals;
   different = subst (IsDistinct bytes_eq) (more_names s own r) (IsDistinct-push bytes_eq (all_names s) own made.different free);
   relvars = more_relvars (sizes_of s.ordinals) [] s.relvars own r made.relvars is;
+  few_rules = made.few_rules;
+  rules = rules-behind s own r made.rules;
 }

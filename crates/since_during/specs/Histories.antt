@@ -96,7 +96,7 @@ declared_history h =
 abbrev pub declared_in : State → List PlainDeclaration → State
 declared_in s list = fold with_declaration s list
 
--- no ordinal type, relvar or view has the name
+-- no ordinal type, relvar, view or database constraint has the name
 abbrev pub IsFreeIn : State → Name → Type 0
 IsFreeIn s name = AllByRecursion (λ (n : Name). bytes_eq n name ≡ false) (all_names s)
 

@@ -1,10 +1,10 @@
 // The relvars and views of names, and what ties those of a history.
 ghost use Rattle.std.specs.Prelude.{◌≡◌, option_map};
-ghost use Rattle.tree_core.specs.Relvars.{constraints_if, heading_if, read_relvar, read_relvars, relvar_named, rule_among};
-ghost use Rattle.meaning_core.specs.Endings.{history_if, history_of};
+ghost use Rattle.tree_core.specs.Relvars.{constraints_if, heading_if, read_relvars, relvar_named, rule_among};
+ghost use Rattle.meaning_core.specs.Endings.{history_of};
 ghost use Rattle.meaning_core.specs.WellMade.{IsBase};
 
-use tree_core::{Relvar, Relvars, rule_if};
+use tree_core::{Relvars, history_if, rule_if};
 use value_core::{Heading, HistoryRule, Name};
 
 /// The heading of the base relvar of the name.
@@ -15,22 +15,6 @@ pub(crate) fn heading_named<'a>(relvars: &'a Relvars, name: &Name) -> &'a Headin
     match relvars.named(name) {
         Some(relvar) => relvar.heading(),
         None => unreachable!(),
-    }
-}
-
-/// The since relvar and the during relvar of a history's view.
-fn history_if<'a>(relvar: Option<&'a Relvar>) -> Option<&'a (Name, Name)>
-    ensures { option_map (λ n. n.now) result ≡ history_if (option_map (λ r. read_relvar r.now) relvar.entry) }
-{
-    match relvar {
-        Some(Relvar::View { tree: _, history }) => history.as_ref(),
-        Some(
-            Relvar::Base {
-                value: _,
-                constraints: _,
-            },
-        ) => None,
-        None => None,
     }
 }
 
