@@ -12,11 +12,12 @@ use Rattle.declaration_typing.specs.Drops.{dropped}
 use Rattle.declaration_typing.specs.Histories.{history_declared}
 use Rattle.declaration_typing.specs.Ordinals.{ordinal_declared}
 use Rattle.declaration_typing.specs.Relvars.{relvar_declared}
+use Rattle.declaration_typing.specs.Rules.{rule_declared, rule_dropped}
 use Rattle.declaration_typing.specs.Views.{view_declared}
 use Rattle.item_typing.specs.Items.{assignment_typed}
 use Rattle.type_check.specs.declared.checked.Checked.{Checked}
-use Rattle.type_check.specs.Checks.{Plain, declare_ordinal, declare_base, declare_view, declare_history, remove, assign, print, ask, read_checked, giving, checked_var, checked, Checks, IsTypedPlain}
-use Rattle.type_check.proofs.DeclarationLemmas.{ordinal-made, relvar-made, view-made, history-made, drop-made}
+use Rattle.type_check.specs.Checks.{Plain, declare_ordinal, declare_base, declare_view, declare_history, remove, declare_rule, remove_rule, assign, print, ask, read_checked, giving, checked_var, checked, Checks, IsTypedPlain}
+use Rattle.type_check.proofs.DeclarationLemmas.{ordinal-made, relvar-made, view-made, history-made, drop-made, rule-made, rule-gone}
 use Rattle.type_check.proofs.ItemTypedLemmas.{assignment-sound}
 use Rattle.type_check.proofs.TreeLemmas.{tree-sound, test-sound}
 
@@ -41,6 +42,8 @@ module _ (state : State) (made : IsWellMade state) where
       given declare_history (IsTypedPlain state) (history_declared state at w h key since began during lasted point)
       (history-made state made at w h key since began during lasted point)
   checked-typed (syntax.Drop at w) = given remove (IsTypedPlain state) (dropped state w) (drop-made state made w)
+  checked-typed (syntax.DeclareRule at w test) = given (λ r. declare_rule r.0 r.1) (IsTypedPlain state) (rule_declared state w test) (rule-made state made w test)
+  checked-typed (syntax.DropRule at con w) = given remove_rule (IsTypedPlain state) (rule_dropped state w) (rule-gone state made w)
   checked-typed (syntax.Print at rel) = given print (IsTypedPlain state) (tree_typed state rel) (tree-sound state made rel)
   checked-typed (syntax.Ask at test) = given ask (IsTypedPlain state) (test_typed state test) (test-sound state made test)
   checked-typed (syntax.Assignment a) = given assign (IsTypedPlain state) (assignment_typed state a) (assignment-sound state made a)

@@ -4,39 +4,42 @@ use Rattle.std.specs.Str.{bytes_eq}
 use Rattle.point_core.specs.declared.fault.Place.{Place}
 use Rattle.point_core.specs.declared.fault.Code.TheVariants.{E06, E10, E11, E12, E15, E17, E19, E20, E21, E22}
 use Rattle.utd_syntax.specs.Plain as syntax
-use Rattle.utd_syntax.specs.Plain.{Word, PointP, HeadingP, NamesP, NameListP, SomeNamesP, RelP, KeyP, ForeignP, UsedConstraintP, ConstraintP}
-use Rattle.utd_ranges.specs.Ranges.{Each, NameIn, SomeNamesIn, HeadingIn, RelIn, ForeignIn, UsedConstraintIn, ConstraintIn, has_no_value}
+use Rattle.utd_syntax.specs.Plain.{Word, PointP, HeadingP, NamesP, NameListP, SomeNamesP, RelP, KeyP, ForeignP, UsedConstraintP, ConstraintP, TestP}
+use Rattle.utd_ranges.specs.Ranges.{Each, NameIn, SomeNamesIn, HeadingIn, RelIn, ForeignIn, UsedConstraintIn, ConstraintIn, TestIn, has_no_value}
 use Rattle.value_core.specs.declared.constraint.Constraint.{Constraint}
 use Rattle.value_core.specs.declared.list.OrdinalNames.{OrdinalNames}
 use Rattle.value_core.specs.Attributes.{among}
-use Rattle.value_core.specs.Limits.{most_attributes, most_nodes, most_ordinal_types, most_ordinal_values, most_relvars}
+use Rattle.value_core.specs.Limits.{most_attributes, most_nodes, most_ordinal_types, most_ordinal_values, most_relvars, most_rules}
 use Rattle.value_core.specs.Values.{Name, Heading}
 use Rattle.relation_core.specs.Agreement.{position_of}
 use Rattle.scalar_core.specs.KindOf.{same_kind}
 use Rattle.tree_core.specs.Relvars.{State, PlainRelvar, base, view, relvar_named}
-use Rattle.tree_core.specs.Trees.{Tree}
+use Rattle.tree_core.specs.Trees.{Tree, Test}
+use Rattle.tree_core.specs.Uses.{is_one_of}
+use Rattle.meaning_core.specs.Declarations.{group}
 use Rattle.scalar_typing.specs.Names.{point_type}
 use Rattle.relation_typing.specs.Attributes.{name_typed, new_name as new_attribute}
 use Rattle.relation_typing.specs.Headings.{heading_typed}
 use Rattle.node_typing.specs.Positions.{check, position_typed}
 use Rattle.node_typing.specs.Lists.{named_in, kind_named, list_checked, words_of}
-use Rattle.tree_typing.specs.Trees.{tree_typed}
-use Rattle.declaration_typing.specs.Names.{is_taken, new_name, room_for}
+use Rattle.tree_typing.specs.Trees.{tree_typed, test_typed}
+use Rattle.declaration_typing.specs.Names.{is_rule, is_taken, new_name, room_for}
 use Rattle.declaration_typing.specs.Ordinals.{with_value, values_typed, few_values, ordinal_declared}
 use Rattle.declaration_typing.specs.Constraints.{names_typed, key_words, base_heading, heading_there, position_there, positions_there, reference_typed, foreign_typed, key_typed, list_typed, kept_by, listed_key, packed_typed, unpacked_typed, used_typed, constraint_typed, constraints_typed, refused_at, few_constraints}
 use Rattle.declaration_typing.specs.Relvars.{relvar_declared}
-use Rattle.declaration_typing.specs.Nodes.{nodes_of}
+use Rattle.declaration_typing.specs.Nodes.{nodes_of, test_nodes}
 use Rattle.declaration_typing.specs.Views.{room_for_view, view_declared}
 use Rattle.declaration_typing.specs.Histories.{relvars_named, brace_of, key_names, facts_typed, attributes_named, room_for_three, history_declared}
-use Rattle.declaration_typing.specs.Drops.{is_used, dropped}
+use Rattle.declaration_typing.specs.Drops.{is_of_history, is_used, dropped}
+use Rattle.declaration_typing.specs.Rules.{room_for_rule, rule_declared, rule_dropped}
 use Rattle.type_check.specs.Refusals.{IsNotE06}
 use Rattle.type_check.proofs.Refused.{then-fine, choice-fine}
 use Rattle.type_check.proofs.ScalarLaws.{point-fine}
 use Rattle.type_check.proofs.RelationLaws.{name-fine, new-name-fine, heading-fine}
 use Rattle.type_check.proofs.NodeLaws.{check-fine, checked-fine, position-fine, positions-fine, list-fine}
-use Rattle.type_check.proofs.TreeLaws.{tree-fine}
+use Rattle.type_check.proofs.TreeLaws.{tree-fine, test-fine}
 
--- ---- names of ordinal types, relvars and views
+-- ---- names of ordinal types, relvars, views and database constraints
 
 free-name-fine : (s : State) (w : Word) → NameIn has_no_value w → IsNotE06 (new_name s w)
 free-name-fine s w h = then-fine (name_typed w) _ (name-fine w h) (λ name. checked-fine w.place E11 (λ e. cc) (not (is_taken s name)) _ (λ free. tt))
@@ -193,4 +196,23 @@ unfolding dropped
 dropped-fine s w h =
     then-fine (name_typed w) _ (name-fine w h) (λ name.
     checked-fine w.place E10 (λ e. cc) (is_some (relvar_named s.relvars name)) _ (λ known.
-    checked-fine w.place E21 (λ e. cc) (not (is_used s.relvars name)) _ (λ free. tt)))
+    checked-fine w.place E21 (λ e. cc) (not (is_of_history s.relvars name)) _ (λ alone.
+    checked-fine w.place E21 (λ e. cc) (not (is_used s (is_one_of (group s.relvars name)))) _ (λ free. tt))))
+
+-- ---- database constraints
+
+room-for-rule-fine : (s : State) (place : Place) (t : Test) → IsNotE06 (room_for_rule s place t)
+room-for-rule-fine s place t = checked-fine place E22 (λ e. cc) (nat_le (test_nodes s.relvars t) most_nodes) _ (λ few. check-fine place E22 (λ e. cc) (nat_lt (length s.rules) most_rules))
+
+pub rule-fine : (s : State) (w : Word) (test : TestP) → NameIn has_no_value w → TestIn has_no_value test → IsNotE06 (rule_declared s w test)
+unfolding rule_declared
+rule-fine s w test h g =
+    then-fine (new_name s w) _ (free-name-fine s w h) (λ name.
+    then-fine (test_typed s test) _ (test-fine s test g) (λ t.
+    then-fine (room_for_rule s w.place t) _ (room-for-rule-fine s w.place t) (λ room. tt)))
+
+pub rule-dropped-fine : (s : State) (w : Word) → NameIn has_no_value w → IsNotE06 (rule_dropped s w)
+unfolding rule_dropped
+rule-dropped-fine s w h =
+    then-fine (name_typed w) _ (name-fine w h) (λ name.
+    checked-fine w.place E10 (λ e. cc) (is_rule s name) _ (λ known. tt))

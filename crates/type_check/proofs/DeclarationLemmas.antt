@@ -2,31 +2,33 @@
 use Rattle.std.specs.Prelude.{List, Ok, Err, IfOk}
 use Rattle.point_core.specs.Faults.{OrFault}
 use Rattle.point_core.specs.declared.fault.Place.{Place}
-use Rattle.utd_syntax.specs.Plain.{Word, PointP, NameListP, SomeNamesP, HeadingP, KeyP, ConstraintP, RelP}
+use Rattle.utd_syntax.specs.Plain.{Word, PointP, NameListP, SomeNamesP, HeadingP, KeyP, ConstraintP, RelP, TestP}
 use Rattle.value_core.specs.Values.{Name, Heading}
 use Rattle.tree_core.specs.declared.declaration.HistoryData.{HistoryData}
 use Rattle.tree_core.specs.Relvars.{State}
-use Rattle.meaning_core.specs.Declarations.{with_declaration, without}
+use Rattle.meaning_core.specs.Declarations.{with_declaration, without_group, with_rule, without_rule}
 use Rattle.meaning_core.specs.Meanings.{positions_of}
 use Rattle.meaning_core.specs.Typing.{IsList}
-use Rattle.meaning_core.specs.WellMade.{IsWellMade}
+use Rattle.meaning_core.specs.WellMade.{IsWellMade, IsTypedTestFor}
 use Rattle.since_during.specs.Histories.{IsTypedHistory}
 use Rattle.node_typing.specs.Lists.{list_checked}
 use Rattle.declaration_typing.specs.Drops.{dropped}
 use Rattle.declaration_typing.specs.Histories.{history_declared}
 use Rattle.declaration_typing.specs.Ordinals.{ordinal_declared}
 use Rattle.declaration_typing.specs.Relvars.{relvar_declared}
+use Rattle.declaration_typing.specs.Rules.{rule_declared, rule_dropped}
 use Rattle.declaration_typing.specs.Views.{view_declared}
 use Rattle.declaration_typing.proofs.DropLaws.{dropped-kept}
 use Rattle.declaration_typing.proofs.HistoryLaws.{IsHistoryOf, history-kept}
 use Rattle.declaration_typing.proofs.OrdinalLaws.{ordinal-kept}
 use Rattle.declaration_typing.proofs.RelvarLaws.{relvar-kept}
+use Rattle.declaration_typing.proofs.RuleLaws.{rule-kept, rule-dropped}
 use Rattle.declaration_typing.proofs.ViewLaws.{view-kept}
 use Rattle.type_check.proofs.ListLemmas.{AreListed, list-sound, left-list}
 use Rattle.type_check.proofs.LiteralLemmas.{heading-declared}
 use Rattle.type_check.proofs.ScalarLemmas.{point-declared}
 use Rattle.type_check.proofs.SetTypedLemmas.{onward}
-use Rattle.type_check.proofs.TreeLemmas.{tree-sound}
+use Rattle.type_check.proofs.TreeLemmas.{tree-sound, test-sound}
 
 -- a list over one heading
 list-made : (to : Heading) (list : NameListP) → IfOk (list_checked to to list) (λ (names : List Name). IsList to (positions_of to names))
@@ -61,5 +63,11 @@ module _ (state : State) (made : IsWellMade state) where
         during = is.free_during;
       }
 
-  pub drop-made : (w : Word) → IfOk (dropped state w) (λ name. IsWellMade (without name state))
+  pub drop-made : (w : Word) → IfOk (dropped state w) (λ name. IsWellMade (without_group name state))
   drop-made w = dropped-kept state w made
+
+  pub rule-made : (w : Word) (test : TestP) → IfOk (rule_declared state w test) (λ r. IsWellMade (with_rule r.0 r.1 state) × IsTypedTestFor state r.1)
+  rule-made w test = rule-kept state w test made (test-sound state made test)
+
+  pub rule-gone : (w : Word) → IfOk (rule_dropped state w) (λ name. IsWellMade (without_rule name state))
+  rule-gone w = rule-dropped state w made

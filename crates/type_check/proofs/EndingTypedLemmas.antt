@@ -18,8 +18,8 @@ use Rattle.scalar_typing.specs.Typings.{value_or}
 use Rattle.scalar_typing.proofs.SoundLemmas.{then-sound, any-given}
 use Rattle.scalar_core.proofs.KindOfLemmas.{same_kind-same}
 use Rattle.relation_typing.specs.Attributes.{name_typed}
-use Rattle.tree_core.specs.Relvars.{PlainRelvar, State, relvar_named, relvar_heading, heading_if}
-use Rattle.meaning_core.specs.Endings.{history_if, rule_if, history_of, rule_of}
+use Rattle.tree_core.specs.Relvars.{PlainRelvar, State, relvar_named, relvar_heading, heading_if, history_if}
+use Rattle.meaning_core.specs.Endings.{rule_if, history_of, rule_of}
 use Rattle.meaning_core.specs.Typing.{IsScalar}
 use Rattle.meaning_core.specs.Updates.{IsConditionIf, IsEnding, IsTypedForm, IsTypedItem}
 use Rattle.meaning_core.specs.WellMade.{sizes_of, IsWellMade}

@@ -16,9 +16,9 @@ use Rattle.scalar_typing.specs.Names.{attribute_of}
 use Rattle.scalar_typing.specs.Scalars.{typed_scalar}
 use Rattle.scalar_typing.specs.Typings.{value_or}
 use Rattle.tree_core.specs.Items.{PlainPortion, PlainItem}
-use Rattle.tree_core.specs.Relvars.{State, PlainRelvar, base, view, relvar_named}
+use Rattle.tree_core.specs.Relvars.{State, PlainRelvar, base, view, relvar_named, history_if}
 use Rattle.tree_core.specs.Trees.{PlainSets, heading_of}
-use Rattle.meaning_core.specs.Endings.{history_if, rule_if}
+use Rattle.meaning_core.specs.Endings.{rule_if}
 use Rattle.meaning_core.specs.Meanings.{positions_of}
 use Rattle.meaning_core.specs.Typing.{is_span}
 use Rattle.meaning_core.specs.Updates.{attributes_of_portion}

@@ -13,6 +13,7 @@ use Rattle.tree_core.specs.Relvars.{State}
 use Rattle.tree_typing.specs.Trees.{tree_typed, test_typed}
 use Rattle.declaration_typing.specs.Ordinals.{ordinal_declared}
 use Rattle.declaration_typing.specs.Relvars.{relvar_declared}
+use Rattle.declaration_typing.specs.Rules.{rule_declared, rule_dropped}
 use Rattle.declaration_typing.specs.Views.{view_declared}
 use Rattle.declaration_typing.specs.Histories.{history_declared}
 use Rattle.declaration_typing.specs.Drops.{dropped}
@@ -21,7 +22,7 @@ use Rattle.type_check.specs.Checks.{Plain, giving, checked_var, checked}
 use Rattle.type_check.specs.Refusals.{IsNotE06}
 use Rattle.type_check.proofs.Refused.{then-fine}
 use Rattle.type_check.proofs.TreeLaws.{tree-fine, test-fine}
-use Rattle.type_check.proofs.DeclarationLaws.{ordinal-fine, base-relvar-fine, view-fine, history-fine, dropped-fine}
+use Rattle.type_check.proofs.DeclarationLaws.{ordinal-fine, base-relvar-fine, view-fine, history-fine, dropped-fine, rule-fine, rule-dropped-fine}
 use Rattle.type_check.proofs.ItemLaws.{assignment-fine}
 
 giving-fine : {A : Type 0} (f : A → Plain) (typed : OrFault A) → IsNotE06 typed → IsNotE06 (giving f typed)
@@ -40,6 +41,8 @@ statement-fine state (syntax.DeclareHistory at w heading key since began during 
     giving-fine _ (history_declared state at w heading key since began during lasted point)
     (history-fine state at w heading key since began during lasted point h.0 h.1 h.3 h.4 h.5 h.6)
 statement-fine state (syntax.Drop at w) h = giving-fine _ (dropped state w) (dropped-fine state w h)
+statement-fine state (syntax.DeclareRule at w test) h = giving-fine _ (rule_declared state w test) (rule-fine state w test h.0 h.1)
+statement-fine state (syntax.DropRule at con w) h = giving-fine _ (rule_dropped state w) (rule-dropped-fine state w h)
 statement-fine state (syntax.Print at rel) h = giving-fine _ (tree_typed state rel) (tree-fine state rel h)
 statement-fine state (syntax.Ask at test) h = giving-fine _ (test_typed state test) (test-fine state test h)
 statement-fine state (syntax.Assignment a) h = giving-fine _ (assignment_typed state a) (assignment-fine state a h)

@@ -15,7 +15,7 @@ use Rattle.tree_core.specs.declared.declaration.HistoryData.{HistoryData}
 use Rattle.tree_core.specs.Items.{PlainItem, read_item}
 use Rattle.tree_core.specs.Relvars.{State}
 use Rattle.tree_core.specs.Trees.{Tree, Test, read_tree, read_test}
-use Rattle.meaning_core.specs.Declarations.{PlainDeclaration, read_declaration, with_declaration, without}
+use Rattle.meaning_core.specs.Declarations.{PlainDeclaration, read_declaration, with_declaration, without_group, with_rule, without_rule}
 use Rattle.meaning_core.specs.Updates.{IsTypedItem}
 use Rattle.meaning_core.specs.WellMade.{IsWellMade, IsTypedFor, IsTypedTestFor}
 use Rattle.since_during.specs.Histories.{IsTypedHistory}
@@ -24,13 +24,14 @@ use Rattle.declaration_typing.specs.Drops.{dropped}
 use Rattle.declaration_typing.specs.Histories.{history_declared}
 use Rattle.declaration_typing.specs.Ordinals.{ordinal_declared}
 use Rattle.declaration_typing.specs.Relvars.{relvar_declared}
+use Rattle.declaration_typing.specs.Rules.{rule_declared, rule_dropped}
 use Rattle.declaration_typing.specs.Views.{view_declared}
 use Rattle.item_typing.specs.Items.{assignment_typed}
 use Rattle.type_check.specs.declared.checked.Checked.{Checked}
 use Rattle.type_check.specs.declared.checked.Checked.TheVariants as variants
 
--- nothing; an ordinal type, a base relvar, a view or a history that is declared; a relvar or view that goes; items of an assignment;
--- a relation to be printed; a test whose truth is asked for
+-- nothing; an ordinal type, a base relvar, a view or a history that is declared; a relvar or view that goes; a database constraint that
+-- is declared, or goes; items of an assignment; a relation to be printed; a test whose truth is asked for
 pub data Plain : Type 0 where
   nothing : Plain
   declare_ordinal : PlainDeclaration → Plain
@@ -38,6 +39,8 @@ pub data Plain : Type 0 where
   declare_view : PlainDeclaration → Plain
   declare_history : HistoryData → Plain
   remove : Name → Plain
+  declare_rule : Name → Test → Plain
+  remove_rule : Name → Plain
   assign : List PlainItem → Plain
   print : Tree → Plain
   ask : Test → Plain
@@ -49,6 +52,8 @@ read_checked (variants.Base d) = declare_base (read_declaration d)
 read_checked (variants.View d) = declare_view (read_declaration d)
 read_checked (variants.History h) = declare_history h
 read_checked (variants.Remove name) = remove name
+read_checked (variants.Rule name t) = declare_rule name (read_test t)
+read_checked (variants.Unrule name) = remove_rule name
 read_checked (variants.Assign items) = assign (map read_item items)
 read_checked (variants.Print t) = print (read_tree t)
 read_checked (variants.Ask t) = ask (read_test t)
@@ -70,6 +75,8 @@ checked state syntax.Nothing = Ok nothing
 checked state (syntax.DeclareOrdinal at w values) = giving declare_ordinal (ordinal_declared state w values)
 checked state (syntax.DeclareRelvar at w form) = checked_var state w form
 checked state (syntax.Drop at w) = giving remove (dropped state w)
+checked state (syntax.DeclareRule at w test) = giving (λ r. declare_rule r.0 r.1) (rule_declared state w test)
+checked state (syntax.DropRule at con w) = giving remove_rule (rule_dropped state w)
 checked state (syntax.Assignment assignment) = giving assign (assignment_typed state assignment)
 checked state (syntax.Print at rel) = giving print (tree_typed state rel)
 checked state (syntax.Ask at test) = giving ask (test_typed state test)
@@ -92,7 +99,9 @@ IsTypedPlain state (declare_ordinal d) = IsWellMade (with_declaration state d)
 IsTypedPlain state (declare_base d) = IsWellMade (with_declaration state d)
 IsTypedPlain state (declare_view d) = IsWellMade (with_declaration state d)
 IsTypedPlain state (declare_history h) = IsTypedHistory state h
-IsTypedPlain state (remove name) = IsWellMade (without name state)
+IsTypedPlain state (remove name) = IsWellMade (without_group name state)
+IsTypedPlain state (declare_rule name t) = IsWellMade (with_rule name t state) × IsTypedTestFor state t
+IsTypedPlain state (remove_rule name) = IsWellMade (without_rule name state)
 IsTypedPlain state (assign items) = All (IsTypedItem state) items
 IsTypedPlain state (print t) = IsTypedFor state t
 IsTypedPlain state (ask t) = IsTypedTestFor state t

@@ -1,21 +1,23 @@
 // What type checking answers to a statement.
 ghost use Rattle.std.specs.Prelude.{IfOk};
-ghost use Rattle.utd_syntax.specs.Read.{read_statement};
+ghost use Rattle.utd_syntax.specs.Read.{read_name, read_statement, read_var_form};
 ghost use Rattle.scalar_typing.specs.Names.{AreOrdinals};
 ghost use Rattle.tree_core.specs.Relvars.{read_relvars};
 ghost use Rattle.meaning_core.specs.WellMade.{IsWellMade};
-ghost use Rattle.type_check.specs.Checks.{Checks, checked, read_checked, IsTypedPlain};
+ghost use Rattle.type_check.specs.Checks.{Checks, checked, checked_var, read_checked, IsTypedPlain};
 
-use declaration_typing::{type_drop, type_history, type_ordinal, type_relvar, type_view};
+use declaration_typing::{
+    type_drop, type_history, type_ordinal, type_relvar, type_rule, type_rule_drop, type_view,
+};
 use item_typing::type_items;
 use std::alloc::Global;
 use tree_core::{Declaration, HistoryData, Items, RelTest, RelTree, Relvars};
 use tree_typing::{type_test, type_tree};
-use utd_syntax::{Statement, VarForm};
+use utd_syntax::{Statement, VarForm, Word};
 use value_core::{Name, Refuse};
 
-/// What a statement does: nothing, declare an ordinal type, a base relvar, a view or a history, remove a relvar or view, assign, print a
-/// relation, or tell whether a test holds.
+/// What a statement does: nothing, declare an ordinal type, a base relvar, a view or a history, remove a relvar or view, declare or
+/// remove a database constraint, assign, print a relation, or tell whether a test holds.
 #[derive(Drop)]
 pub enum Checked {
     Nothing,
@@ -24,9 +26,33 @@ pub enum Checked {
     View(Declaration),
     History(HistoryData),
     Remove(Name),
+    Rule(Name, RelTest),
+    Unrule(Name),
     Assign(Items),
     Print(RelTree),
     Ask(RelTest),
+}
+
+/// The base relvar or view that VAR declares.
+fn type_var(
+    alloc: Global,
+    word: &Word,
+    form: &VarForm,
+    relvars: &Relvars,
+) -> Result<Checked, Refuse>
+    requires { AreOrdinals (read_relvars relvars.now).ordinals }
+    ensures { Checks result (checked_var (read_relvars relvars.now) (read_name word.now) (read_var_form form.now)) }
+{
+    match form {
+        VarForm::Relation(_, heading, constraints) => {
+            let declaration = type_relvar(alloc, word, heading, constraints, relvars)?;
+            Ok(Checked::Base(declaration))
+        }
+        VarForm::Virtual(_, rel) => {
+            let declaration = type_view(alloc, word, rel, relvars)?;
+            Ok(Checked::View(declaration))
+        }
+    }
 }
 
 /// What the statement does, without what is known of a well made state.
@@ -44,14 +70,7 @@ fn type_statement(
             let declaration = type_ordinal(alloc, word, values, relvars)?;
             Ok(Checked::Ordinal(declaration))
         }
-        Statement::Var(_, word, VarForm::Relation(_, heading, constraints)) => {
-            let declaration = type_relvar(alloc, word, heading, constraints, relvars)?;
-            Ok(Checked::Base(declaration))
-        }
-        Statement::Var(_, word, VarForm::Virtual(_, rel)) => {
-            let declaration = type_view(alloc, word, rel, relvars)?;
-            Ok(Checked::View(declaration))
-        }
+        Statement::Var(_, word, form) => type_var(alloc, word, form, relvars),
         Statement::History(history) => {
             let declared = type_history(alloc, history, relvars)?;
             Ok(Checked::History(declared))
@@ -59,6 +78,14 @@ fn type_statement(
         Statement::Drop(_, word) => {
             let name = type_drop(alloc, word, relvars)?;
             Ok(Checked::Remove(name))
+        }
+        Statement::DeclareRule(_, word, test) => {
+            let (name, typed) = type_rule(alloc, word, test, relvars)?;
+            Ok(Checked::Rule(name, typed))
+        }
+        Statement::DropRule(_, _, word) => {
+            let name = type_rule_drop(alloc, word, relvars)?;
+            Ok(Checked::Unrule(name))
         }
         Statement::Assign(assignment) => {
             let items = type_items(alloc, assignment, relvars)?;
