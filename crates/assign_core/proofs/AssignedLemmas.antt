@@ -18,12 +18,14 @@ use Rattle.tree_core.specs.declared.declaration.Assignment.{Assignment}
 use Rattle.tree_core.specs.Items.{PlainAssignment, read_assignment}
 use Rattle.tree_core.specs.Relvars.{State, PlainRelvar, base, view, Entries}
 use Rattle.assign_core.specs.Assignments.{evaluated, unless_broken, kept_or_refused, of_values, after_assignments, IsRefusedFor}
-use Rattle.assign_core.specs.Breaches.{rows_of_all, first_broken}
+use Rattle.assign_core.specs.Breaches.{rows_of_all, first_broken, first_rule_broken}
 use Rattle.assign_core.specs.Changes.{Changes, AreChanges, changed}
 use Rattle.assign_core.specs.Checks.{IsChecked, AreChecked, AllChecked}
 use Rattle.assign_core.specs.Databases.{IsKept}
 use Rattle.assign_core.proofs.ChangeLemmas.{bare_changed, none_changed}
+use Rattle.assign_core.proofs.RuleLemmas.{rules_hold}
 use Rattle.assign_core.proofs.RemovedLemmas.{AreFitting, AllFit, constraints_of, all_fit}
+use Rattle.meaning_core.specs.WellMade.{IsWellMade}
 use Rattle.meaning_core.proofs.RowlessLemmas.{bare-keeps}
 
 -- ---- what is meant
@@ -86,8 +88,8 @@ kept_checked s cs kept are =
     all_checked new new (all_fit (record s { relvars = new }) made)
 
 pub assigned_kept : (s : State) (cs : Changes) (list : List PlainAssignment) → IsKept s → AreChanges cs s.relvars → after_assignments s.relvars list ≡ Ok (changed cs s.relvars)
-    → IsKept (record s { relvars = changed cs s.relvars })
-assigned_kept s cs list kept are e =
+    → first_rule_broken (changed cs s.relvars) s.rules ≡ None → IsKept (record s { relvars = changed cs s.relvars })
+assigned_kept s cs list kept are e none =
     let new = changed cs s.relvars in
     let bare = bare_changed cs s.relvars are in
     let fine = is_fine (evaluated s.relvars s.relvars list) new e in
@@ -95,4 +97,9 @@ assigned_kept s cs list kept are e =
       well_made = bare-keeps s new bare kept.well_made;
       holds = fine.1;
       few = fine.0;
+      rules = rules_hold new s.rules none;
     }
+
+-- the state is well made with other values, also where a database constraint is broken
+pub changed_made : (s : State) (cs : Changes) → IsKept s → AreChanges cs s.relvars → IsWellMade (record s { relvars = changed cs s.relvars })
+changed_made s cs kept are = bare-keeps s (changed cs s.relvars) (bare_changed cs s.relvars are) kept.well_made

@@ -1,15 +1,19 @@
 -- What declarations append, and that it breaks no constraint.
 use Rattle.std.proofs.Common.{◌≡◌, ℕ, suc, ◌+◌, Bool, true, false, cond, List, [], ◌∷◌, ◌++◌, map, length, refl, sym, ap, subst, ◌∙◌, arith, Option, Some, None, option_map}
-use Rattle.std.specs.List.{IsDistinct}
+use Rattle.std.specs.List.{All, IsDistinct}
 use Rattle.std.specs.Str.{bytes_eq}
+use Rattle.std.proofs.lemmas.List.Elements.{All-nil, All-cons, All-head, All-tail}
 use Rattle.value_core.specs.declared.constraint.Constraint.{Constraint}
 use Rattle.value_core.specs.declared.refuse.Refuse.{Refuse}
 use Rattle.value_core.specs.declared.refuse.Refuse.TheVariants.{Broken}
 use Rattle.value_core.specs.Values.{Name, Row}
 use Rattle.tree_core.specs.declared.declaration.Declaration.{Declaration}
-use Rattle.tree_core.specs.Relvars.{State, PlainRelvar, base, view, Entries, relvar_named}
+use Rattle.tree_core.specs.Relvars.{State, PlainRelvar, base, view, Entries, Rules, relvar_named}
 use Rattle.meaning_core.specs.Declarations.{PlainDeclaration, ordinal_type, base_relvar, view_relvar, with_declaration, read_declaration}
-use Rattle.meaning_core.specs.WellMade.{IsWellMade}
+use Rattle.meaning_core.specs.Truths.{holds_in, is_held}
+use Rattle.meaning_core.specs.Typing.{IsTypedTest}
+use Rattle.meaning_core.specs.WellMade.{sizes_of, headings_of, IsWellMade}
+use Rattle.meaning_core.proofs.ElsewhereLemmas.{truth-appended}
 use Rattle.u_constraints.specs.Constraints.{broken, names_relvar, rows_or_none}
 use Rattle.u_constraints.proofs.ConstraintLemmas.{broken_none}
 use Rattle.assign_core.specs.Breaches.{value_of, value_if, value_at, count_of, rows_of_all, rows_named, or_later, breach, first_of, first_in, first_among, first_broken}
@@ -179,6 +183,24 @@ rows_of_both (x ∷ xs) ys = let rest = rows_of_both xs ys in omega (arith, rest
 
 -- ---- databases
 
+same_rules : (s : State) (ds : List PlainDeclaration) → (declared s ds).rules ≡ s.rules
+same_rules s [] = refl
+same_rules s (d ∷ ds) = same_rules (with_declaration s d) ds ∙ one s d
+  where
+    one : (t : State) (e : PlainDeclaration) → (with_declaration t e).rules ≡ t.rules
+    one t (ordinal_type name values) = refl
+    one t (base_relvar name heading constraints) = refl
+    one t (view_relvar name v history) = refl
+
+-- what is declared behind is named by no database constraint
+rules_stay : (sizes : List ℕ) (es more : Entries) (rs : Rules) → All (λ r. IsTypedTest sizes (headings_of es) r.1) rs → All (λ r. holds_in es r.1 ≡ true) rs
+    → All (λ r. holds_in (es ++ more) r.1 ≡ true) rs
+rules_stay sizes es more [] typed held = All-nil (λ r. holds_in (es ++ more) r.1 ≡ true)
+rules_stay sizes es more (r ∷ rs) typed held =
+    All-cons (λ z. holds_in (es ++ more) z.1 ≡ true) r rs
+    (ap is_held (truth-appended sizes es more r.1 (All-head (λ z. IsTypedTest sizes (headings_of es) z.1) r rs typed)) ∙ All-head (λ z. holds_in es z.1 ≡ true) r rs held)
+    (rules_stay sizes es more rs (All-tail (λ z. IsTypedTest sizes (headings_of es) z.1) r rs typed) (All-tail (λ z. holds_in es z.1 ≡ true) r rs held))
+
 pub declared_kept : (s now : State) (ds : List PlainDeclaration) → now ≡ declared s ds → IsKept s → IsWellMade (declared s ds) → IsKept now
 declared_kept s now ds e kept made = subst IsKept (sym e) (record {
   well_made = made;
@@ -192,4 +214,8 @@ declared_kept s now ds e kept made = subst IsKept (sym e) (record {
       let none = no_rows_of (all_added ds) (all_empty ds) in
       let few = kept.few in
       omega (arith, is, both, none, few);
+  rules =
+      subst (λ (z : Entries). All (λ r. holds_in z r.1 ≡ true) (declared s ds).rules) (sym (declared_added s ds))
+      (subst (λ (rs : Rules). All (λ r. holds_in (s.relvars ++ all_added ds) r.1 ≡ true) rs) (sym (same_rules s ds))
+      (rules_stay (sizes_of s.ordinals) s.relvars (all_added ds) s.rules kept.well_made.rules kept.rules));
 })

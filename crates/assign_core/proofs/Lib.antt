@@ -11,6 +11,7 @@ pub mod RenewedLemmas
 pub mod TurnoverLemmas
 pub mod HashedLemmas
 pub mod InsertionLemmas
+pub mod LeaningLemmas
 pub mod NameLemmas
 pub mod PackingLemmas
 pub mod PlainLemmas
@@ -23,6 +24,8 @@ pub mod RenewalLemmas
 pub mod RevisionLemmas
 pub mod RemovalLemmas
 pub mod RemovedLemmas
+pub mod RuleLemmas
 pub mod SourceLemmas
+pub mod StateLemmas
 pub mod ToldLemmas
 pub mod TouchLemmas

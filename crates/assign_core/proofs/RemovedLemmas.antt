@@ -1,21 +1,24 @@
--- What is left where a relvar or view is removed, and that each constraint finds the relvar that it names.
-use Rattle.std.proofs.Common.{◌≡◌, ℕ, ◌+◌, ◌≤◌, Bool, true, false, not, cond, List, [], ◌∷◌, ◌++◌, filter, refl, sym, ap, subst, ◌∙◌, arith, Option, Some, None}
+-- What is left where relvars and views are removed, and that each constraint finds the relvar that it names.
+use Rattle.std.proofs.Common.{◌≡◌, ℕ, ◌+◌, ◌≤◌, Bool, true, false, not, cond, List, [], ◌∷◌, ◌++◌, filter, refl, sym, ap, subst, ◌∙◌, arith, true≢false, Option, Some, None}
 use Rattle.std.specs.List.{All}
 use Rattle.std.specs.Str.{bytes_eq}
-use Rattle.std.proofs.lemmas.List.Elements.{All-head, All-tail}
+use Rattle.std.proofs.lemmas.Bool.{false_from_ne_true}
+use Rattle.std.proofs.lemmas.List.Elements.{All-nil, All-cons, All-head, All-tail}
 use Rattle.value_core.specs.declared.constraint.Constraint.{Constraint}
 use Rattle.value_core.specs.declared.constraint.Constraint.TheVariants.{Key, Packed, WhenUnpacked, UKey, Foreign, History}
 use Rattle.value_core.specs.Values.{Name}
-use Rattle.tree_core.specs.Relvars.{State, PlainRelvar, base, view, Entries, relvar_named, relvar_heading, heading_if}
-use Rattle.meaning_core.specs.Declarations.{without}
-use Rattle.meaning_core.specs.WellMade.{IsBase, IsConstraint, IsRelvar, AreRelvars, FitsHeadings, IsWellMade, sizes_of}
+use Rattle.tree_core.specs.Relvars.{State, PlainRelvar, base, view, Entries, Rules, relvar_named, relvar_heading, heading_if}
+use Rattle.tree_core.specs.Uses.{is_one_of}
+use Rattle.meaning_core.specs.Declarations.{without_all}
+use Rattle.meaning_core.specs.Truths.{holds_in, is_held}
+use Rattle.meaning_core.specs.WellMade.{IsBase, IsConstraint, IsRelvar, AreRelvars, FitsHeadings, IsTypedTestFor, IsWellMade, sizes_of}
+use Rattle.meaning_core.proofs.ElsewhereLemmas.{truth-dropped}
 use Rattle.meaning_core.proofs.MadeLemmas.{same_name}
 use Rattle.u_constraints.specs.Constraints.{names_relvar, rows_or_none}
 use Rattle.assign_core.specs.Breaches.{value_if, value_at, count_of, rows_of_all, first_in, first_among}
 use Rattle.assign_core.specs.Checks.{heading_at, NamesBase}
 use Rattle.assign_core.specs.Databases.{IsKept}
 use Rattle.assign_core.proofs.DeclaredLemmas.{NameTheSame, same_of, neither, none_of_two, in_turn}
-use Rattle.assign_core.proofs.NameLemmas.{turned}
 
 -- ---- what constraints name
 
@@ -84,30 +87,34 @@ fit_after sizes before (r ∷ es) all e h =
 pub all_fit : (s : State) → IsWellMade s → AllFit s.relvars s.relvars
 all_fit s made = fit_after (sizes_of s.ordinals) [] s.relvars s.relvars refl made.relvars
 
--- ---- a name removed
+-- ---- names removed
 
-module _ (name : Name) where
+module _ (names : List Name) where
   abbrev pub left : Entries → Entries
-  left es = filter (λ r. not (bytes_eq r.0 name)) es
+  left es = filter (λ r. not (is_one_of names r.0)) es
 
-  gone : (es : Entries) → relvar_named (left es) name ≡ None
-  gone [] = refl
-  gone (e ∷ es) = by (bytes_eq e.0 name) refl (gone es)
+  is_one : (a b : Name) → bytes_eq a b ≡ true → is_one_of names a ≡ is_one_of names b
+  is_one a b e = ap (is_one_of names) (same_name a b e)
+
+  gone : (es : Entries) (n : Name) → is_one_of names n ≡ true → relvar_named (left es) n ≡ None
+  gone [] n g = refl
+  gone (e ∷ es) n g = by (is_one_of names e.0) refl (gone es n g)
     where
-      by : (b : Bool) → bytes_eq e.0 name ≡ b → relvar_named (left es) name ≡ None → relvar_named (cond (not (bytes_eq e.0 name)) (e ∷ left es) (left es)) name ≡ None
-      by true q ih = ap (λ (t : Bool). relvar_named (cond (not t) (e ∷ left es) (left es)) name) q ∙ ih
+      by : (b : Bool) → is_one_of names e.0 ≡ b → relvar_named (left es) n ≡ None → relvar_named (cond (not (is_one_of names e.0)) (e ∷ left es) (left es)) n ≡ None
+      by true q ih = ap (λ (t : Bool). relvar_named (cond (not t) (e ∷ left es) (left es)) n) q ∙ ih
       by false q ih =
-          ap (λ (t : Bool). relvar_named (cond (not t) (e ∷ left es) (left es)) name) q
-          ∙ (ap (λ (t : Bool). cond t (Some e.1) (relvar_named (left es) name)) q ∙ ih)
+          let other : bytes_eq e.0 n ≡ false = false_from_ne_true (bytes_eq e.0 n) (λ s. true≢false (sym g ∙ (sym (is_one e.0 n s) ∙ q))) in
+          ap (λ (t : Bool). relvar_named (cond (not t) (e ∷ left es) (left es)) n) q
+          ∙ (ap (λ (t : Bool). cond t (Some e.1) (relvar_named (left es) n)) other ∙ ih)
 
-  still : (es : Entries) (n : Name) → bytes_eq n name ≡ false → relvar_named (left es) n ≡ relvar_named es n
+  still : (es : Entries) (n : Name) → is_one_of names n ≡ false → relvar_named (left es) n ≡ relvar_named es n
   still [] n d = refl
-  still (e ∷ es) n d = by (bytes_eq e.0 name) refl (still es n d)
+  still (e ∷ es) n d = by (is_one_of names e.0) refl (still es n d)
     where
-      by : (b : Bool) → bytes_eq e.0 name ≡ b → relvar_named (left es) n ≡ relvar_named es n
-          → relvar_named (cond (not (bytes_eq e.0 name)) (e ∷ left es) (left es)) n ≡ cond (bytes_eq e.0 n) (Some e.1) (relvar_named es n)
+      by : (b : Bool) → is_one_of names e.0 ≡ b → relvar_named (left es) n ≡ relvar_named es n
+          → relvar_named (cond (not (is_one_of names e.0)) (e ∷ left es) (left es)) n ≡ cond (bytes_eq e.0 n) (Some e.1) (relvar_named es n)
       by true q ih =
-          let other : bytes_eq e.0 n ≡ false = ap (λ (z : Name). bytes_eq z n) (same_name e.0 name q) ∙ turned n name d in
+          let other : bytes_eq e.0 n ≡ false = false_from_ne_true (bytes_eq e.0 n) (λ s. true≢false (sym q ∙ (is_one e.0 n s ∙ d))) in
           ap (λ (t : Bool). relvar_named (cond (not t) (e ∷ left es) (left es)) n) q
           ∙ (ih ∙ sym (ap (λ (t : Bool). cond t (Some e.1) (relvar_named es n)) other))
       by false q ih =
@@ -115,10 +122,10 @@ module _ (name : Name) where
           ∙ ap (λ (z : Option PlainRelvar). cond (bytes_eq e.0 n) (Some e.1) z) ih
 
   base_stays : (es : Entries) (n : Name) → IsBase (relvar_named (left es) n) → relvar_named (left es) n ≡ relvar_named es n
-  base_stays es n h = by (bytes_eq n name) refl
+  base_stays es n h = by (is_one_of names n) refl
     where
-      by : (b : Bool) → bytes_eq n name ≡ b → relvar_named (left es) n ≡ relvar_named es n
-      by true q = absurd (subst IsBase (ap (relvar_named (left es)) (same_name n name q) ∙ gone es) h)
+      by : (b : Bool) → is_one_of names n ≡ b → relvar_named (left es) n ≡ relvar_named es n
+      by true q = absurd (subst IsBase (gone es n q) h)
       by false q = still es n q
 
   same_at : (all : Entries) (n : Option Name) → NamesBase (left all) n → rows_or_none (value_at (left all) n) ≡ rows_or_none (value_at all n)
@@ -137,27 +144,37 @@ module _ (name : Name) where
   none_left all [] fit none = refl
   none_left all (e ∷ es) fit none =
       let parts = neither (first_in all e.0 e.1) (first_among all es) none in
-      by (bytes_eq e.0 name) (λ f. none_left all es f parts.1) parts.0 fit
+      by (is_one_of names e.0) (λ f. none_left all es f parts.1) parts.0 fit
     where
       by : (b : Bool) → (AllFit (left all) (left es) → first_among (left all) (left es) ≡ None) → first_in all e.0 e.1 ≡ None
           → AllFit (left all) (cond (not b) (e ∷ left es) (left es)) → first_among (left all) (cond (not b) (e ∷ left es) (left es)) ≡ None
       by true ih own f = ih f
       by false ih own f = none_of_two (first_in (left all) e.0 e.1) (first_among (left all) (left es)) (same_in all e.0 e.1 f.0 ∙ own) (ih f.1)
 
-  prepacked : (es : Entries) → rows_of_all (left es) ≤ rows_of_all es
-  prepacked [] = omega arith
-  prepacked (e ∷ es) = by (bytes_eq e.0 name) (prepacked es)
+  fewer_rows : (es : Entries) → rows_of_all (left es) ≤ rows_of_all es
+  fewer_rows [] = omega arith
+  fewer_rows (e ∷ es) = by (is_one_of names e.0) (fewer_rows es)
     where
       by : (b : Bool) → rows_of_all (left es) ≤ rows_of_all es → rows_of_all (cond (not b) (e ∷ left es) (left es)) ≤ count_of e + rows_of_all es
       by true ih = omega (arith, ih)
       by false ih = omega (arith, ih)
 
-pub removed_kept : (s now : State) (name : Name) → now ≡ without name s → IsKept s → IsWellMade (without name s) → IsKept now
-removed_kept s now name e kept made = subst IsKept (sym e) (record {
+-- what is removed is named by no database constraint
+rules_left : (names : List Name) (s : State) (rs : Rules) → IsWellMade (without_all names s) → All (λ r. IsTypedTestFor (without_all names s) r.1) rs → All (λ r. holds_in s.relvars r.1 ≡ true) rs
+    → All (λ r. holds_in (without_all names s).relvars r.1 ≡ true) rs
+rules_left names s [] made typed held = All-nil (λ r. holds_in (without_all names s).relvars r.1 ≡ true)
+rules_left names s (r ∷ rs) made typed held =
+    All-cons (λ z. holds_in (without_all names s).relvars z.1 ≡ true) r rs
+    (ap is_held (truth-dropped names s r.1 made (All-head (λ z. IsTypedTestFor (without_all names s) z.1) r rs typed)) ∙ All-head (λ z. holds_in s.relvars z.1 ≡ true) r rs held)
+    (rules_left names s rs made (All-tail (λ z. IsTypedTestFor (without_all names s) z.1) r rs typed) (All-tail (λ z. holds_in s.relvars z.1 ≡ true) r rs held))
+
+pub removed_kept : (s now : State) (names : List Name) → now ≡ without_all names s → IsKept s → IsWellMade (without_all names s) → IsKept now
+removed_kept s now names e kept made = subst IsKept (sym e) (record {
   well_made = made;
-  holds = none_left name s.relvars s.relvars (all_fit (without name s) made) kept.holds;
+  holds = none_left names s.relvars s.relvars (all_fit (without_all names s) made) kept.holds;
   few =
-      let fewer = prepacked name s.relvars in
+      let fewer = fewer_rows names s.relvars in
       let few = kept.few in
       omega (arith, fewer, few);
+  rules = rules_left names s s.rules made made.rules kept.rules;
 })

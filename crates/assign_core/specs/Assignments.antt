@@ -1,10 +1,12 @@
 -- Assignments: all targets change together, or none.
 --     seen_by      the state as a source sees it
 --     evaluated      the values of all sources
---     after_assignments      the state with these values, or why they are refused
+--     after_assignments      the relvars with these values, or why they are refused by their own constraints
+--     assigned_in      the same, the database constraints of the state asked last
+--     constrained      the state with one database constraint more, or why it is refused
 use Rattle.std.specs.Prelude.{◌≡◌, nat_le, List, [], ◌∷◌, Option, Some, None, Result, Ok, Err, if◌then◌else◌}
 use Rattle.base_core.specs.Outcomes.{then_give}
-use Rattle.point_core.specs.declared.fault.Code.TheVariants.{E46}
+use Rattle.point_core.specs.declared.fault.Code.TheVariants.{E45, E46}
 use Rattle.point_core.specs.Faults.{OrFault}
 use Rattle.relation_core.specs.Answers.{under}
 use Rattle.value_core.specs.Limits.{most_rows_in_all}
@@ -12,11 +14,13 @@ use Rattle.value_core.specs.declared.refuse.Refuse.{Refuse}
 use Rattle.value_core.specs.declared.refuse.Refuse.TheVariants.{Plain, At, Broken, Memory}
 use Rattle.value_core.specs.Values.{Name, Relation}
 use Rattle.tree_core.specs.Items.{PlainAssignment}
-use Rattle.tree_core.specs.Relvars.{Entries, State, relvar_named}
-use Rattle.tree_core.specs.Trees.{heading_of}
+use Rattle.tree_core.specs.Relvars.{Entries, Rules, State, relvar_named}
+use Rattle.tree_core.specs.Trees.{Test, heading_of}
+use Rattle.meaning_core.specs.Declarations.{with_rule}
 use Rattle.meaning_core.specs.Meanings.{meaning_in}
 use Rattle.meaning_core.specs.Names.{given}
-use Rattle.assign_core.specs.Breaches.{value_if, rows_of_all, first_broken}
+use Rattle.meaning_core.specs.Truths.{holds_in}
+use Rattle.assign_core.specs.Breaches.{value_if, rows_of_all, first_broken, first_rule_broken}
 
 -- ---- sources
 
@@ -55,10 +59,25 @@ of_values (Err fault) = Err (At fault)
 abbrev pub after_assignments : Entries → List PlainAssignment → Result Entries Refuse
 after_assignments entries list = of_values (evaluated entries entries list)
 
+-- the relvars, unless they break a database constraint
+abbrev pub unless_rule_broken : Rules → Result Entries Refuse → Result Entries Refuse
+unless_rule_broken rules (Ok new) = unless_broken new (first_rule_broken new rules)
+unless_rule_broken rules (Err refuse) = Err refuse
+
+-- the relvars after assignments in a state, whose database constraints are asked after the constraints of its relvars
+abbrev pub assigned_in : State → List PlainAssignment → Result Entries Refuse
+assigned_in s list = unless_rule_broken s.rules (after_assignments s.relvars list)
+
+-- ---- database constraints
+
+-- the state with one database constraint more, which must hold in it
+abbrev pub constrained : State → Name → Test → Result State Refuse
+constrained s name t = if holds_in s.relvars t then Ok (with_rule name t s) else Err (Broken E45 name 0)
+
 -- ---- answers
 
 -- a refusal is the one that is meant, or want of memory
-abbrev pub IsRefusedFor : Refuse → Result Entries Refuse → Type 0
+abbrev pub IsRefusedFor : {A : Type 0} → Refuse → Result A Refuse → Type 0
 IsRefusedFor (Plain code) meant = meant ≡ Err (Plain code)
 IsRefusedFor (At fault) meant = meant ≡ Err (At fault)
 IsRefusedFor (Broken code relvar number) meant = meant ≡ Err (Broken code relvar number)
@@ -72,5 +91,10 @@ IsAdmitted (Err refuse) new = IsRefusedFor refuse (kept_or_refused new)
 -- the state becomes what is meant; where that is refused, or memory is wanting, it stays
 abbrev pub IsAssigned : Result (Unit {0}) Refuse → State → State → List PlainAssignment → Type 0
 IsAssigned (Ok done) old new list =
-    (after_assignments old.relvars list ≡ Ok new.relvars) × (new ≡ record old { relvars = new.relvars })
-IsAssigned (Err refuse) old new list = IsRefusedFor refuse (after_assignments old.relvars list) × (new ≡ old)
+    (assigned_in old list ≡ Ok new.relvars) × (new ≡ record old { relvars = new.relvars })
+IsAssigned (Err refuse) old new list = IsRefusedFor refuse (assigned_in old list) × (new ≡ old)
+
+-- the state becomes what is meant; where that is refused, or memory is wanting, it stays
+abbrev pub IsDone : Result (Unit {0}) Refuse → State → State → Result State Refuse → Type 0
+IsDone (Ok done) old new meant = meant ≡ Ok new
+IsDone (Err refuse) old new meant = IsRefusedFor refuse meant × (new ≡ old)

@@ -1,12 +1,15 @@
 -- The first broken constraint of a state, and how many rows a state has.
 --     rows_of_all      the rows of all base relvars, counted
 --     first_broken      the first broken constraint, by relvars in order of declaration and by number
-use Rattle.std.specs.Prelude.{ℕ, suc, ◌+◌, List, [], ◌∷◌, length, Option, Some, None, option_map}
+--     first_rule_broken      the first broken database constraint, in order of declaration
+use Rattle.std.specs.Prelude.{ℕ, suc, ◌+◌, List, [], ◌∷◌, length, Option, Some, None, option_map, if◌then◌else◌}
+use Rattle.point_core.specs.declared.fault.Code.TheVariants.{E45}
 use Rattle.value_core.specs.declared.constraint.Constraint.{Constraint}
 use Rattle.value_core.specs.declared.refuse.Refuse.{Refuse}
 use Rattle.value_core.specs.declared.refuse.Refuse.TheVariants.{Broken}
 use Rattle.value_core.specs.Values.{Name, Row, Relation}
-use Rattle.tree_core.specs.Relvars.{PlainRelvar, base, view, Entries, relvar_named}
+use Rattle.tree_core.specs.Relvars.{PlainRelvar, base, view, Entries, Rules, relvar_named}
+use Rattle.meaning_core.specs.Truths.{holds_in}
 use Rattle.u_constraints.specs.Constraints.{broken, names_relvar, rows_or_none}
 
 -- ---- rows
@@ -64,3 +67,10 @@ first_among entries (r ∷ rest) = or_later (first_in entries r.0 r.1) (first_am
 -- the first broken constraint, by relvars in order of declaration and by number
 abbrev pub first_broken : Entries → Option Refuse
 first_broken entries = first_among entries entries
+
+-- ---- database constraints
+
+-- the first database constraint that does not hold
+abbrev pub first_rule_broken : Entries → Rules → Option Refuse
+first_rule_broken entries [] = None
+first_rule_broken entries (r ∷ rest) = if holds_in entries r.1 then first_rule_broken entries rest else Some (Broken E45 r.0 0)

@@ -1,6 +1,7 @@
 -- New values that stand ready for base relvars, one place for each relvar and view.
 --     AreChanges      each new value has the heading of its base relvar
 --     changed      the relvars with the values that stand ready for them
+--     replaced      the values that these take the place of
 use Rattle.std.specs.Prelude.{◌≡◌, ℕ, zero, suc, List, [], ◌∷◌, Option, Some, None, Result, Ok, Err}
 use Rattle.value_core.specs.declared.refuse.Refuse.{Refuse}
 use Rattle.value_core.specs.declared.refuse.Refuse.TheVariants.{Plain, At, Broken, Memory}
@@ -51,3 +52,27 @@ abbrev pub changed_at : ℕ → Option Relation → Entries → Entries
 changed_at i c [] = []
 changed_at zero c (r ∷ rest) = (r.0, changed_relvar c r.1) ∷ rest
 changed_at (suc i) c (r ∷ rest) = r ∷ changed_at i c rest
+
+-- ---- values that are replaced
+
+-- the value of a base relvar; other, of a view
+abbrev pub value_or : Relation → PlainRelvar → Relation
+value_or other (base value constraints) = value
+value_or other (view t history) = other
+
+-- the value in whose place a new one is put; none, where none is put
+abbrev pub replaced_value : Option Relation → PlainRelvar → Option Relation
+replaced_value None r = None
+replaced_value (Some value) r = Some (value_or value r)
+
+-- the same of the relvar at a place
+abbrev pub replaced_at : ℕ → Option Relation → Entries → Option Relation
+replaced_at i c [] = c
+replaced_at zero c (r ∷ rest) = replaced_value c r.1
+replaced_at (suc i) c (r ∷ rest) = replaced_at i c rest
+
+-- the same of all relvars
+abbrev pub replaced : Changes → Entries → Changes
+replaced [] entries = []
+replaced (c ∷ cs) [] = c ∷ cs
+replaced (c ∷ cs) (r ∷ rest) = replaced_value c r.1 ∷ replaced cs rest

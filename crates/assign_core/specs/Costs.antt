@@ -2,17 +2,21 @@
 --     sources_cost      of the sources that are evaluated
 --     looked_at_all      of the constraints that are looked at
 --     assignments_cost      of both
-use Rattle.std.specs.Prelude.{ℕ, ◌+◌, nat_le, List, [], ◌∷◌, Option, Some, None, Ok, Err, if◌then◌else◌}
+--     rules_cost      of the database constraints that are looked at
+--     cost_of_assignments      of all of these
+use Rattle.std.specs.Prelude.{ℕ, ◌+◌, nat_le, List, [], ◌∷◌, Option, Some, None, Result, Ok, Err, if◌then◌else◌}
 use Rattle.point_core.specs.Faults.{OrFault}
 use Rattle.value_core.specs.Limits.{most_rows_in_all}
 use Rattle.value_core.specs.declared.constraint.Constraint.{Constraint}
+use Rattle.value_core.specs.declared.refuse.Refuse.{Refuse}
 use Rattle.value_core.specs.Values.{Row, Relation}
 use Rattle.tree_core.specs.Items.{PlainAssignment}
-use Rattle.tree_core.specs.Relvars.{PlainRelvar, base, view, Entries}
-use Rattle.algebra_core.specs.Costs.{cost_in}
+use Rattle.tree_core.specs.Relvars.{PlainRelvar, base, view, Entries, Rules, State}
+use Rattle.meaning_core.specs.Truths.{holds_in}
+use Rattle.algebra_core.specs.Costs.{cost_in, test_cost}
 use Rattle.u_constraints.specs.Constraints.{broken}
 use Rattle.u_constraints.specs.Costs.{constraint_cost}
-use Rattle.assign_core.specs.Assignments.{seen_by, source_value, with_target, evaluated}
+use Rattle.assign_core.specs.Assignments.{seen_by, source_value, with_target, evaluated, after_assignments}
 use Rattle.assign_core.specs.Breaches.{rows_of_all, rows_named, first_in}
 
 -- ---- sources
@@ -70,3 +74,19 @@ constraints_cost_of (Err fault) = 0
 
 abbrev pub assignments_cost : Entries → List PlainAssignment → ℕ
 assignments_cost entries list = sources_cost entries entries list + constraints_cost_of (evaluated entries entries list)
+
+-- ---- database constraints
+
+-- the steps of database constraints, up to and with the first one that does not hold
+abbrev pub rules_cost : Entries → Rules → ℕ
+rules_cost entries [] = 0
+rules_cost entries (r ∷ rest) = test_cost entries r.1 + (if holds_in entries r.1 then rules_cost entries rest else 0)
+
+-- they are looked at where nothing is refused before them
+abbrev pub rules_cost_of : Rules → Result Entries Refuse → ℕ
+rules_cost_of rules (Ok new) = rules_cost new rules
+rules_cost_of rules (Err refuse) = 0
+
+-- the steps of assignments in a state
+abbrev pub cost_of_assignments : State → List PlainAssignment → ℕ
+cost_of_assignments s list = assignments_cost s.relvars list + rules_cost_of s.rules (after_assignments s.relvars list)

@@ -8,6 +8,7 @@ pub mod Differences
 pub mod Hashed
 pub mod Turnovers
 pub mod Insertions
+pub mod Leanings
 pub mod Parts
 pub mod PlainChanges
 pub mod Portions

@@ -10,7 +10,7 @@ ghost use Rattle.assign_core.specs.Parts.{names_in, Begins};
 
 use point_core::Memory;
 use std::alloc::Global;
-use tree_core::{Declaration, Relvar, Relvars};
+use tree_core::{Declaration, RelTest, Relvar, Relvars};
 use value_core::{Heading, Name, OrdinalNames, Relation};
 
 /// Appends what is declared, in the order of the list. For want of memory, what was there stays in front.
@@ -62,6 +62,7 @@ fn append_type(relvars: &mut Relvars, ordinal: OrdinalNames) -> Result<(), Memor
     ensures ok { OnOk result (relvars.new.ordinals ≡ relvars.old.ordinals ++ ordinal ∷ []) }
     ensures err { OnErr result (relvars.new.ordinals ≡ relvars.old.ordinals) }
     ensures list { relvars.new.list ≡ relvars.old.list }
+    ensures rules { relvars.new.rules ≡ relvars.old.rules }
 {
     relvars.ordinals.list.push(ordinal)?;
     Ok(())
@@ -73,8 +74,21 @@ fn append_relvar(relvars: &mut Relvars, name: Name, relvar: Relvar) -> Result<()
     ensures ok { OnOk result (relvars.new.list.entries ≡ relvars.old.list.entries ++ (name, relvar) ∷ []) }
     ensures err { OnErr result (relvars.new.list.entries ≡ relvars.old.list.entries) }
     ensures ordinals { relvars.new.ordinals ≡ relvars.old.ordinals }
+    ensures rules { relvars.new.rules ≡ relvars.old.rules }
 {
     drop(relvars.list.insert(name, relvar)?);
+    Ok(())
+}
+
+/// Appends a database constraint of a new name. For want of memory nothing changes.
+pub(crate) fn append_rule(relvars: &mut Relvars, name: Name, test: RelTest) -> Result<(), Memory>
+    requires { IsDistinct bytes_eq (keys relvars.old.rules ++ name ∷ []) }
+    ensures ok { OnOk result (relvars.new.rules.entries ≡ relvars.old.rules.entries ++ (name, test) ∷ []) }
+    ensures err { OnErr result (relvars.new.rules.entries ≡ relvars.old.rules.entries) }
+    ensures list { relvars.new.list ≡ relvars.old.list }
+    ensures ordinals { relvars.new.ordinals ≡ relvars.old.ordinals }
+{
+    drop(relvars.rules.insert(name, test)?);
     Ok(())
 }
 

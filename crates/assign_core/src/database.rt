@@ -3,28 +3,32 @@ ghost use Rattle.std.specs.Prelude.{◌≡◌, ◌≤◌, ◌+◌, map, take, On
 ghost use Rattle.std.specs.List.{All};
 ghost use Rattle.tree_core.specs.Items.{read_assignment};
 ghost use Rattle.tree_core.specs.Relvars.{read_relvars};
-ghost use Rattle.meaning_core.specs.Declarations.{read_declaration, without};
+ghost use Rattle.tree_core.specs.Trees.{read_test};
+ghost use Rattle.meaning_core.specs.Declarations.{read_declaration, with_rule, without_group, without_rule};
 ghost use Rattle.meaning_core.specs.WellMade.{IsWellMade};
 ghost use Rattle.meaning_core.specs.Updates.{IsTypedAssignment};
-ghost use Rattle.assign_core.specs.Assignments.{IsAssigned};
-ghost use Rattle.assign_core.specs.Costs.{assignments_cost};
+ghost use Rattle.algebra_core.specs.Costs.{test_cost};
+ghost use Rattle.assign_core.specs.Assignments.{constrained, IsAssigned, IsDone};
+ghost use Rattle.assign_core.specs.Costs.{cost_of_assignments};
 ghost use Rattle.assign_core.specs.Databases.{no_relvars, declared, IsKept};
 
 use crate::appending::append_all;
-use crate::exchange::{exchange_all, exchange_rows};
+use crate::dropping::drop_group;
 use crate::filling::fill;
 use crate::hashed::{Hashed, no_hashes};
-use crate::preparing::{Ready, prepare};
+use crate::preparing::prepare;
+use crate::rules::add_rule;
+use crate::settling::settle;
 use indexmap::IndexMap;
 use point_core::{Memory, Steps};
 use std::alloc::Global;
 use std::marker::Model;
 use std::sync::ledger::Ledger;
-use tree_core::{Assignment, Declaration, Relvars};
+use tree_core::{Assignment, Declaration, RelTest, Relvars};
 use value_core::{Name, OrdinalTypes, Refuse};
 
-/// The ordinal types, relvars and views. They are well made, each constraint holds, and the base relvars have at most 200,000
-/// rows together.
+/// The ordinal types, relvars and views, and the database constraints. They are well made, each constraint of a relvar and each database
+/// constraint holds, and the base relvars have at most 200,000 rows together.
 #[derive(Drop)]
 pub struct Database {
     alloc: Global,
@@ -49,7 +53,7 @@ impl Model for Database {
 }
 
 impl Database {
-    /// No relvars, views and types. It takes no memory.
+    /// No relvars, views, types and database constraints. It takes no memory.
     pub fn new(alloc: Global) -> Database
         ensures { read_relvars result ≡ no_relvars }
     {
@@ -60,12 +64,13 @@ impl Database {
                 ordinals: OrdinalTypes {
                     list: Vec::new(alloc),
                 },
+                rules: IndexMap::new(alloc),
             },
             hashed: no_hashes(alloc),
         }
     }
 
-    /// The relvars and views, and the ordinal types.
+    /// The relvars and views, the ordinal types, and the database constraints.
     pub fn relvars(&self) -> &Relvars
         ensures state { read_relvars result.now ≡ read_relvars self.now }
         ensures kept { IsKept (read_relvars result.now) }
@@ -96,7 +101,8 @@ impl Database {
     /// Gives each target the value of its source, all together, or refuses and changes nothing.
     ///
     /// The sources are evaluated in order. Each sees the relvars as they are, its own target alone with the value of the latest
-    /// earlier assignment to it. The first fault counts; then more than 200,000 rows; then the first broken constraint.
+    /// earlier assignment to it. The first fault counts; then more than 200,000 rows; then the first broken constraint of a relvar; then
+    /// the first broken database constraint.
     pub fn assign<L: Ledger>(
         &mut self,
         list: &[Assignment],
@@ -104,29 +110,52 @@ impl Database {
     ) -> Result<(), Refuse>
         requires typed { All (IsTypedAssignment (read_relvars self.old)) (map read_assignment list.now) }
         ensures assigned { IsAssigned result (read_relvars self.old) (read_relvars self.new) (map read_assignment list.now) }
-        ensures cost { steps.new ≤ steps.old + assignments_cost (read_relvars self.old).relvars (map read_assignment list.now) }
+        ensures cost { steps.new ≤ steps.old + cost_of_assignments (read_relvars self.old) (map read_assignment list.now) }
     {
         fill(self.alloc, list, &self.relvars, &mut self.hashed)?;
-        match prepare(self.alloc, list, &self.relvars, &self.hashed, steps)? {
-            Ready::Values(changes) => {
-                exchange_all(&mut self.relvars, &mut self.hashed, self.alloc, changes);
-                Ok(())
-            }
-            Ready::Rows(at, rows) => {
-                exchange_rows(&mut self.relvars, &mut self.hashed, self.alloc, at, rows)?;
-                Ok(())
-            }
+        match prepare(self.alloc, list, &self.relvars, &self.hashed, steps) {
+            Ok(ready) => settle(
+                self.alloc,
+                &mut self.relvars,
+                &mut self.hashed,
+                ready,
+                steps,
+            ),
+            Err(refuse) => Err(refuse),
         }
     }
 
-    /// Removes the relvar or view of this name. The others keep their order.
+    /// Removes the relvar or view of this name, and with the view of a history its two relvars. The others keep their order.
     pub fn remove(&mut self, name: &Name) -> Result<(), Memory>
-        requires well_made { IsWellMade (without name.now (read_relvars self.old)) }
-        ensures state { read_relvars self.new ≡ without name.now (read_relvars self.old) }
+        requires well_made { IsWellMade (without_group name.now (read_relvars self.old)) }
+        ensures state { read_relvars self.new ≡ without_group name.now (read_relvars self.old) }
         ensures ok { IsOk result }
     {
         self.hashed = no_hashes(self.alloc);
-        drop(self.relvars.list.shift_remove(name));
+        drop_group(&mut self.relvars, name);
+        Ok(())
+    }
+
+    /// Adds the database constraint behind the others, or refuses where it does not hold, and changes nothing.
+    pub fn constrain<L: Ledger>(
+        &mut self,
+        name: Name,
+        test: RelTest,
+        steps: &mut Steps<L>,
+    ) -> Result<(), Refuse>
+        requires well_made { IsWellMade (with_rule name (read_test test) (read_relvars self.old)) }
+        ensures done { IsDone result (read_relvars self.old) (read_relvars self.new) (constrained (read_relvars self.old) name (read_test test)) }
+        ensures cost { steps.new ≤ steps.old + test_cost (read_relvars self.old).relvars (read_test test) }
+    {
+        add_rule(self.alloc, &mut self.relvars, name, test, steps)
+    }
+
+    /// Removes the database constraint of this name. The others keep their order.
+    pub fn unconstrain(&mut self, name: &Name) -> Result<(), Memory>
+        ensures state { read_relvars self.new ≡ without_rule name.now (read_relvars self.old) }
+        ensures ok { IsOk result }
+    {
+        drop(self.relvars.rules.shift_remove(name));
         Ok(())
     }
 }
@@ -135,6 +164,7 @@ impl Database {
 fn cut(relvars: &mut Relvars, to: (usize, usize))
     ensures list { relvars.new.list.entries ≡ take to.0 relvars.old.list.entries }
     ensures ordinals { relvars.new.ordinals ≡ take to.1 relvars.old.ordinals }
+    ensures rules { relvars.new.rules ≡ relvars.old.rules }
 {
     relvars.list.truncate(to.0);
     relvars.ordinals.list.truncate(to.1);

@@ -4,7 +4,7 @@ ghost use Rattle.value_core.specs.Values.{most_rows};
 ghost use Rattle.relation_core.specs.Operators.{united};
 ghost use Rattle.tree_core.specs.Relvars.{read_entry, read_relvar};
 ghost use Rattle.meaning_core.specs.Names.{with_value};
-ghost use Rattle.assign_core.specs.Changes.{changed, changed_at};
+ghost use Rattle.assign_core.specs.Changes.{changed, changed_at, replaced, replaced_at, value_or};
 ghost use Rattle.assign_core.specs.Hashed.{AreHashed, AreHashesIn};
 ghost use Rattle.assign_core.specs.Turnovers.{renewed, renewed_at, renewed_relvar, IsExchangeAt, MayExchange};
 
@@ -19,60 +19,64 @@ use std::alloc::Global;
 use tree_core::{Relvar, Relvars};
 use value_core::Relation;
 
-/// Puts the values that stand ready in place of the old ones. It takes no memory. The hashes of the relvars that change are dropped.
-pub(crate) fn exchange_all(
+/// Exchanges the values of relvars with those that stand ready for them, where the old ones stand afterwards: a second exchange takes
+/// the first one back. It takes no memory. The hashes of the relvars that change are dropped.
+pub(crate) fn exchange_values(
     relvars: &mut Relvars,
     hashed: &mut Hashed,
     alloc: Global,
-    changes: Vec<Option<Relation>>,
+    changes: &mut Vec<Option<Relation>>,
 )
-    requires long { length changes.items ≡ length relvars.old.list.entries }
+    requires long { length changes.old.items ≡ length (map read_entry relvars.old.list.entries) }
     requires hashed { AreHashed hashed.old (map read_entry relvars.old.list.entries) }
-    ensures list { map read_entry relvars.new.list.entries ≡ changed changes.items (map read_entry relvars.old.list.entries) }
+    ensures list { map read_entry relvars.new.list.entries ≡ changed changes.old.items (map read_entry relvars.old.list.entries) }
+    ensures back { changes.new.items ≡ replaced changes.old.items (map read_entry relvars.old.list.entries) }
     ensures ordinals { relvars.new.ordinals ≡ relvars.old.ordinals }
+    ensures rules { relvars.new.rules ≡ relvars.old.rules }
     ensures hashed { AreHashed hashed.new (map read_entry relvars.new.list.entries) }
 {
-    let mut changes = changes;
-    while let Some(change) = changes.pop() {
-        let at = changes.len();
-        exchange_at(relvars, hashed, alloc, at, change);
+    for at in 0..changes.len() {
+        exchange_at(relvars, hashed, alloc, at, &mut changes[at]);
     }
 }
 
-// Puts the value that stands ready for the relvar at a place, if there is one, in place of the old one, and drops its hashes.
+// Exchanges the value of the relvar at a place with the one that stands ready for it, if there is one, and drops its hashes.
 fn exchange_at(
     relvars: &mut Relvars,
     hashed: &mut Hashed,
     alloc: Global,
     at: usize,
-    change: Option<Relation>,
+    change: &mut Option<Relation>,
 )
     requires at { at < length relvars.old.list.entries }
     requires hashed { AreHashed hashed.old (map read_entry relvars.old.list.entries) }
-    ensures list { map read_entry relvars.new.list.entries ≡ changed_at at change (map read_entry relvars.old.list.entries) }
+    ensures list { map read_entry relvars.new.list.entries ≡ changed_at at change.old (map read_entry relvars.old.list.entries) }
+    ensures back { change.new ≡ replaced_at at change.old (map read_entry relvars.old.list.entries) }
     ensures ordinals { relvars.new.ordinals ≡ relvars.old.ordinals }
+    ensures rules { relvars.new.rules ≡ relvars.old.rules }
     ensures hashed { AreHashed hashed.new (map read_entry relvars.new.list.entries) }
 {
     match change {
         Some(value) => {
             drop(take_hashes(hashed, alloc, at));
             let (_, relvar) = relvars.list.pair_mut(at);
-            put(relvar, value);
+            exchange_value(relvar, value);
         }
         None => {}
     }
 }
 
-// Puts a value in place of that of a base relvar.
-fn put(relvar: &mut Relvar, new: Relation)
-    ensures { read_relvar relvar.new ≡ with_value new (read_relvar relvar.old) }
+// Exchanges the value of a base relvar with another one.
+fn exchange_value(relvar: &mut Relvar, other: &mut Relation)
+    ensures value { read_relvar relvar.new ≡ with_value other.old (read_relvar relvar.old) }
+    ensures back { other.new ≡ value_or other.old (read_relvar relvar.old) }
 {
     if let Relvar::Base {
         value,
         constraints: _,
     } = relvar
     {
-        drop(std::mem::replace(value, new));
+        std::mem::swap(value, other);
     }
 }
 
@@ -90,6 +94,7 @@ pub(crate) fn exchange_rows(
     ensures list { OnOk result (map read_entry relvars.new.list.entries ≡ renewed_at at rows (map read_entry relvars.old.list.entries)) }
     ensures err { OnErr result (map read_entry relvars.new.list.entries ≡ map read_entry relvars.old.list.entries) }
     ensures ordinals { relvars.new.ordinals ≡ relvars.old.ordinals }
+    ensures rules { relvars.new.rules ≡ relvars.old.rules }
     ensures hashed { AreHashed hashed.new (map read_entry relvars.new.list.entries) }
 {
     if are_few(&rows) {
@@ -120,6 +125,7 @@ fn exchange_few(
     ensures list { OnOk result (map read_entry relvars.new.list.entries ≡ renewed_at at rows (map read_entry relvars.old.list.entries)) }
     ensures err { OnErr result (map read_entry relvars.new.list.entries ≡ map read_entry relvars.old.list.entries) }
     ensures ordinals { relvars.new.ordinals ≡ relvars.old.ordinals }
+    ensures rules { relvars.new.rules ≡ relvars.old.rules }
     ensures hashed { AreHashed hashed.new (map read_entry relvars.new.list.entries) }
 {
     let mut list = take_hashes(hashed, alloc, at);
@@ -142,6 +148,7 @@ fn exchange_many(
     ensures list { OnOk result (map read_entry relvars.new.list.entries ≡ renewed_at at rows (map read_entry relvars.old.list.entries)) }
     ensures err { OnErr result (map read_entry relvars.new.list.entries ≡ map read_entry relvars.old.list.entries) }
     ensures ordinals { relvars.new.ordinals ≡ relvars.old.ordinals }
+    ensures rules { relvars.new.rules ≡ relvars.old.rules }
     ensures hashed { AreHashed hashed.new (map read_entry relvars.new.list.entries) }
 {
     drop(take_hashes(hashed, alloc, at));
@@ -192,8 +199,12 @@ fn renew(relvar: &mut Relvar, alloc: Global, rows: Exchange) -> Result<(), Memor
     }
 }
 
-// Puts the rows that come among those of a relation, and takes out those that go.
-fn put_and_remove(value: &mut Relation, alloc: Global, rows: Exchange) -> Result<(), Memory>
+/// Puts the rows that come among those of a relation, and takes out those that go. For want of memory nothing changes.
+pub(crate) fn put_and_remove(
+    value: &mut Relation,
+    alloc: Global,
+    rows: Exchange,
+) -> Result<(), Memory>
     requires heading { rows.come.heading ≡ value.old.heading }
     requires few { length (united value.old.rows rows.come.rows) ≤ most_rows }
     ensures ok { OnOk result (value.new ≡ renewed value.old rows) }

@@ -1,4 +1,4 @@
-use Rattle.std.proofs.Common.{◌≡◌, ◌≤◌, ◌<◌, List, [], length, map, refl, sym, ap, ◌∙◌, arith}
+use Rattle.std.proofs.Common.{◌≡◌, ◌≤◌, ◌<◌, List, [], length, refl, sym, ap, ◌∙◌, arith}
 use Rattle.base_core.proofs.SetLemmas.{Ascends-from_sorted}
 use Rattle.value_core.specs.Values.{row_cmp, Row, Relation, most_rows}
 use Rattle.relation_core.specs.Answers.{under}
@@ -7,11 +7,11 @@ use Rattle.tree_core.specs.Items.{read_assignment}
 use Rattle.meaning_core.specs.Meanings.{limited}
 use Rattle.u_constraints.specs.Growth.{exchanged}
 use Rattle.change_rows.specs.declared.exchange.Exchange.{Exchange}
+use Rattle.tree_core.specs.Relvars.{read_relvars}
 use Rattle.assign_core.specs.Insertions.{entries_of, list_in, united_in}
-use Rattle.assign_core.specs.Parts.{names_in}
 use Rattle.assign_core.proofs.AdditionLemmas.{by_new, sum_ready, sum_over}
 use Rattle.assign_core.proofs.TurnoverLemmas.{long_new, long_exchanged, none_go, united_new}
-use Rattle.assign_core.proofs.NameLemmas.{distinct_later}
+use Rattle.assign_core.proofs.NameLemmas.{relvars_differ}
 use Rattle.assign_core.proofs.ToldLemmas.{are_packed}
 use Rattle.assign_core.proofs.addition.new_rows.Goals as goal
 
@@ -84,7 +84,7 @@ returns-clause-ready c =
     let less = c.if-rows-room.false in
     let few = c.rows.ensures.relation.few in
     let fits : length (exchanged value.rows x.gone.rows x.come.rows) ≤ most_rows = omega (arith, here, there, long, less, few) in
-    let different = distinct_later (map (λ o. o.name) a.relvars.now.ordinals) (names_in es) c.requires.kept.well_made.different in
+    let different = relvars_differ (read_relvars a.relvars.now) c.requires.kept.well_made in
     let meant = k.meant ∙ ap (λ (r : List Row). under value.heading (limited t.tree.place r)) c.requires.plain in
     sum_ready es (read_assignment t) a.at value k.constraints k.first t.tree.place x (by_new es (read_assignment t) a.at value k.constraints k.first t.tree.place x a.operand.now.rows meant new none) fits different
 

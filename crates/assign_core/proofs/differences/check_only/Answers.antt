@@ -4,13 +4,12 @@ use Rattle.assign_core.specs.Breaches.{first_broken}
 use Rattle.assign_core.specs.Changes.{Changes, Tells}
 use Rattle.assign_core.specs.Checks.{before, AllChecked}
 use Rattle.assign_core.specs.Costs.{looked_at_all}
-use Rattle.assign_core.specs.Parts.{names_in}
 use Rattle.assign_core.specs.Turnovers.{after_turnover, before_turnover, IsKnown, IsMade, IsTurnover}
 use Rattle.assign_core.specs.declared.turnover.Turnover.{Turnover}
 use Rattle.assign_core.proofs.AssignedLemmas.{kept_checked}
 use Rattle.assign_core.proofs.ChangeLemmas.{none_are, none_changed}
 use Rattle.assign_core.proofs.DifferenceLemmas.{changed_only, first_placed, headed_placed}
-use Rattle.assign_core.proofs.NameLemmas.{distinct_later}
+use Rattle.assign_core.proofs.NameLemmas.{relvars_differ}
 use Rattle.std.specs.List.{All}
 use Rattle.std.proofs.lemmas.List.Elements.{All-nil}
 use Rattle.relation_core.specs.Hashes.{AreHashesOf}
@@ -28,7 +27,7 @@ pub check_turnover-requires-clause-turnover : goal.check_turnover-requires-claus
 check_turnover-requires-clause-turnover g c =
     let o = c.args.only in
     let k = c.requires.only in
-    let different = distinct_later (map (λ z. z.name) c.args.new.relvars.now.ordinals) (names_in (before c.args.new)) c.requires.kept.well_made.different in
+    let different = relvars_differ (read_relvars c.args.new.relvars.now) c.requires.kept.well_made in
     let d = c.in_ok-rows.ensures in
     subst IsTurnover (sym c.turnover_of-turnover.ensures)
     (record {

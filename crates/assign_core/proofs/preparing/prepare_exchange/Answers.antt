@@ -1,20 +1,19 @@
-use Rattle.std.proofs.Common.{◌≡◌, ◌≤◌, [], ◌∷◌, length, map, Err, sym, ap, subst, ◌∙◌, arith}
+use Rattle.std.proofs.Common.{◌≡◌, ◌≤◌, [], ◌∷◌, length, Err, sym, ap, subst, ◌∙◌, arith}
 use Rattle.std.proofs.lemmas.Result.{err_from_is_err_and}
 use Rattle.point_core.specs.Faults.{OrFault}
 use Rattle.value_core.specs.Values.{Relation, most_rows}
 use Rattle.relation_core.specs.Answers.{Answers}
 use Rattle.tree_core.specs.Items.{read_assignment}
-use Rattle.tree_core.specs.Relvars.{Entries}
+use Rattle.tree_core.specs.Relvars.{Entries, read_relvars}
 use Rattle.meaning_core.specs.Meanings.{limited}
 use Rattle.meaning_core.proofs.LookupLemmas.{under_ok}
 use Rattle.u_constraints.specs.Growth.{exchanged}
 use Rattle.assign_core.specs.Costs.{constraints_cost, constraints_cost_of}
 use Rattle.assign_core.specs.Targets.{entries_before, entries_given}
-use Rattle.assign_core.specs.Parts.{names_in}
 use Rattle.assign_core.specs.Turnovers.{renewed_at}
 use Rattle.assign_core.proofs.AdditionLemmas.{value_refused, sum_ready}
 use Rattle.assign_core.proofs.AssignedLemmas.{admitted, not_admitted}
-use Rattle.assign_core.proofs.NameLemmas.{distinct_later}
+use Rattle.assign_core.proofs.NameLemmas.{relvars_differ}
 use Rattle.assign_core.proofs.PackingLemmas.{few_left}
 use Rattle.assign_core.proofs.TurnoverLemmas.{is_exchange_at}
 use Rattle.assign_core.proofs.preparing.prepare_exchange.Goals as goal
@@ -57,7 +56,7 @@ returns-in_err-admit_rows-clause-refused g c =
     let x = c.args.rows in
     let room = c.have_room.ensures c.if-not-have_room.false in
     let fits : length (exchanged a.value.now.rows x.gone.rows x.come.rows) ≤ most_rows = few_left a.value.now.rows x.gone.rows x.come.rows most_rows room in
-    let different = distinct_later (map (λ o. o.name) a.relvars.now.ordinals) (names_in es) c.requires.kept.well_made.different in
+    let different = relvars_differ (read_relvars a.relvars.now) c.requires.kept.well_made in
     let made = sum_ready es t a.at a.value.now k.constraints k.first c.args.place x c.requires.meant fits different in
     let refuse = c.in_err-admit_rows.field-0.0 in
     let p = err_from_is_err_and c.from_residual-in_err-admit_rows.result c.from_residual-in_err-admit_rows.ensures.1 in
@@ -72,7 +71,7 @@ returns-in_err-admit_rows-clause-cost g c =
     let x = c.args.rows in
     let room = c.have_room.ensures c.if-not-have_room.false in
     let fits : length (exchanged a.value.now.rows x.gone.rows x.come.rows) ≤ most_rows = few_left a.value.now.rows x.gone.rows x.come.rows most_rows room in
-    let different = distinct_later (map (λ o. o.name) a.relvars.now.ordinals) (names_in es) c.requires.kept.well_made.different in
+    let different = relvars_differ (read_relvars a.relvars.now) c.requires.kept.well_made in
     let made = sum_ready es t a.at a.value.now k.constraints k.first c.args.place x c.requires.meant fits different in
     let both : constraints_cost_of (entries_given a) ≡ constraints_cost (renewed_at a.at x es) = ap (λ (r : OrFault Entries). constraints_cost_of r) made in
     let constraints = c.admit_rows.ensures.cost in
@@ -93,7 +92,7 @@ returns-clause-meant g c =
     let x = c.args.rows in
     let room = c.have_room.ensures c.if-not-have_room.false in
     let fits : length (exchanged a.value.now.rows x.gone.rows x.come.rows) ≤ most_rows = few_left a.value.now.rows x.gone.rows x.come.rows most_rows room in
-    let different = distinct_later (map (λ o. o.name) a.relvars.now.ordinals) (names_in es) c.requires.kept.well_made.different in
+    let different = relvars_differ (read_relvars a.relvars.now) c.requires.kept.well_made in
     let made = sum_ready es t a.at a.value.now k.constraints k.first c.args.place x c.requires.meant fits different in
     admitted es (renewed_at a.at x es) (t ∷ []) made c.in_ok-admit_rows.ensures.admitted
 
@@ -106,7 +105,7 @@ returns-clause-cost g c =
     let x = c.args.rows in
     let room = c.have_room.ensures c.if-not-have_room.false in
     let fits : length (exchanged a.value.now.rows x.gone.rows x.come.rows) ≤ most_rows = few_left a.value.now.rows x.gone.rows x.come.rows most_rows room in
-    let different = distinct_later (map (λ o. o.name) a.relvars.now.ordinals) (names_in es) c.requires.kept.well_made.different in
+    let different = relvars_differ (read_relvars a.relvars.now) c.requires.kept.well_made in
     let made = sum_ready es t a.at a.value.now k.constraints k.first c.args.place x c.requires.meant fits different in
     let both : constraints_cost_of (entries_given a) ≡ constraints_cost (renewed_at a.at x es) = ap (λ (r : OrFault Entries). constraints_cost_of r) made in
     let constraints = c.admit_rows.ensures.cost in

@@ -1,13 +1,12 @@
 use Rattle.std.proofs.Common.{◌≡◌, length, map, ◌∙◌, subst, arith, Some, Ok}
-use Rattle.tree_core.specs.Relvars.{read_entry}
+use Rattle.tree_core.specs.Relvars.{read_entry, read_relvars}
 use Rattle.tree_core.specs.Items.{read_assignment}
 use Rattle.meaning_core.proofs.EntryLemmas.{named_first}
 use Rattle.assign_core.specs.Assignments.{source_value}
 use Rattle.assign_core.specs.Changes.{Changes, IsChange, changed}
-use Rattle.assign_core.specs.Parts.{names_in}
 use Rattle.std.specs.Prelude.{slice_set}
 use Rattle.assign_core.proofs.ChangeLemmas.{same_length, entries_length, is_change, put_change, put_given}
-use Rattle.assign_core.proofs.NameLemmas.{distinct_later}
+use Rattle.assign_core.proofs.NameLemmas.{relvars_differ}
 use Rattle.assign_core.proofs.SourceLemmas.{source_heading, one_given}
 use Rattle.assign_core.proofs.sources.evaluate_one.Goals as goal
 
@@ -44,6 +43,6 @@ returns-clause-value g c =
     let cs = c.args.changes.now.items in
     let a = read_assignment c.args.assignment.now in
     let after = changed (slice_set cs c.place-at.result (Some c.in_ok-value.value)) es in
-    let different = distinct_later (map (λ o. o.name) c.args.relvars.now.ordinals) (names_in es) c.requires.well_made.different in
+    let different = relvars_differ (read_relvars c.args.relvars.now) c.requires.well_made in
     one_given es (changed cs es) after a c.in_ok-value.value (told g c)
     (put_given es cs a.target c.place-at.result c.place-at.ensures.first.0 c.in_ok-value.value different c.requires.changes c.place-at.ensures.first.1)

@@ -4,16 +4,14 @@ use Rattle.tree_core.specs.Relvars.{read_relvars}
 use Rattle.meaning_core.specs.Declarations.{read_declaration}
 use Rattle.meaning_core.specs.WellMade.{IsWellMade}
 use Rattle.assign_core.specs.Databases.{declared}
-use Rattle.assign_core.specs.Parts.{names_in}
 use Rattle.assign_core.proofs.DeclaredLemmas.{declared_kept}
-use Rattle.assign_core.proofs.NameLemmas.{distinct_later}
+use Rattle.assign_core.proofs.NameLemmas.{relvars_differ}
 use Rattle.assign_core.proofs.database.Database.declare.Goals as goal
 
 pub append_all-requires : goal.append_all-requires
 append_all-requires c =
     let made = subst (λ (r : Relvars). IsWellMade (declared (read_relvars r) (map read_declaration c.args.list.items))) (sym c.self.view_is) c.requires in
-    let s = declared (read_relvars c.self.inside.relvars) (map read_declaration c.args.list.items) in
-    distinct_later (map (λ o. o.name) s.ordinals) (names_in s.relvars) made.different
+    relvars_differ (declared (read_relvars c.self.inside.relvars) (map read_declaration c.args.list.items)) made
 
 pub invariant_of-self : goal.invariant_of-self
 invariant_of-self c =

@@ -1,0 +1,97 @@
+-- States as relvars are read after a change.
+--     changed_state      where the relvars are others and all else stays
+--     state_back      where an exchange of values is taken back
+--     rule_appended, rule_removed, group_removed      with one database constraint more or less, and without relvars
+use Rattle.std.proofs.Common.{◌≡◌, Bool, true, false, cond, List, [], ◌∷◌, ◌++◌, map, length, not, filter, refl, sym, ap, ◌∙◌, Option, Some, None}
+use Rattle.std.specs.Prelude.{option_map}
+use Rattle.std.specs.List.{IsDistinct}
+use Rattle.std.specs.Map.{keys_of, lookup}
+use Rattle.std.specs.Str.{bytes_eq}
+use Rattle.std.proofs.lemmas.List.{map-append}
+use Rattle.indexmap.specs.IndexMap.{shift_remove_entry}
+use Rattle.base_core.proofs.ListLemmas.{bytes_eq-sym}
+use Rattle.value_core.specs.Values.{Name}
+use Rattle.tree_core.specs.declared.relvar.Relvar.{Relvar}
+use Rattle.tree_core.specs.declared.relvar.Relvars.{Relvars}
+use Rattle.tree_core.specs.declared.test.RelTest.{RelTest}
+use Rattle.tree_core.specs.Relvars.{PlainRelvar, Entries, Rules, State, read_entry, read_relvar, read_relvars, read_rule, relvar_named, history_if}
+use Rattle.tree_core.specs.Trees.{read_test}
+use Rattle.tree_core.specs.Uses.{is_one_of}
+use Rattle.meaning_core.specs.Declarations.{group, with_history, with_rule, without_all, without_group, without_rule}
+use Rattle.assign_core.specs.Changes.{Changes, changed, replaced}
+use Rattle.assign_core.proofs.ExchangeLemmas.{length_changed, length_replaced, taken_back}
+use Rattle.assign_core.proofs.NameLemmas.{apart_from, distinct_apart, filter_read, none_of, one_removed, shift_apart, three_removed}
+
+pub changed_state : (old new : Relvars) (es : Entries) → map read_entry new.list.entries ≡ es → new.ordinals ≡ old.ordinals → new.rules ≡ old.rules
+    → read_relvars new ≡ record (read_relvars old) { relvars = es }
+changed_state old new es list ordinals rules = λ i. record { ordinals = ordinals i; relvars = list i; rules = map read_rule (rules i).entries }
+
+pub rule_appended : (old new : Relvars) (name : Name) (test : RelTest) → new.list ≡ old.list → new.ordinals ≡ old.ordinals
+    → new.rules.entries ≡ old.rules.entries ++ (name, test) ∷ [] → read_relvars new ≡ with_rule name (read_test test) (read_relvars old)
+rule_appended old new name test list ordinals rules =
+    let more = ap (map read_rule) rules ∙ map-append read_rule old.rules.entries ((name, test) ∷ []) in
+    λ i. record { ordinals = ordinals i; relvars = map read_entry (list i).entries; rules = more i }
+
+pub rules_stay : (old new : Relvars) → new.list ≡ old.list → new.ordinals ≡ old.ordinals → new.rules.entries ≡ old.rules.entries → read_relvars new ≡ read_relvars old
+rules_stay old new list ordinals rules = λ i. record { ordinals = ordinals i; relvars = map read_entry (list i).entries; rules = map read_rule (rules i) }
+
+pub rule_removed : (rs left : List (Name × RelTest)) (name : Name) → IsDistinct bytes_eq (keys_of rs) → left ≡ shift_remove_entry (bytes_eq name) rs
+    → map read_rule left ≡ filter (λ r. not (bytes_eq r.0 name)) (map read_rule rs)
+rule_removed rs left name different e =
+    ap (map read_rule) (e ∙ shift_apart rs name different) ∙ filter_read read_test (λ n. not (bytes_eq n name)) rs
+
+-- ---- groups
+
+-- the entry alone
+pub alone_removed : (es left : List (Name × Relvar)) (name : Name) (o : Option (Name × Name)) → IsDistinct bytes_eq (keys_of es) → left ≡ shift_remove_entry (bytes_eq name) es
+    → o ≡ None → map read_entry left ≡ filter (λ r. not (is_one_of (with_history name o) r.0)) (map read_entry es)
+alone_removed es left name o different e none =
+    ap (map read_entry) (e ∙ (shift_apart es name different ∙ one_removed es name))
+    ∙ (filter_read read_relvar (λ n. not (is_one_of (name ∷ []) n)) es
+    ∙ ap (λ (p : Option (Name × Name)). filter (λ r. not (is_one_of (with_history name p) r.0)) (map read_entry es)) (sym none))
+
+-- the view of a history, its during relvar, its since relvar
+pub all_removed : (es first second third : List (Name × Relvar)) (name since during : Name) (o : Option (Name × Name)) → IsDistinct bytes_eq (keys_of es)
+    → first ≡ shift_remove_entry (bytes_eq name) es → second ≡ shift_remove_entry (bytes_eq during) first → third ≡ shift_remove_entry (bytes_eq since) second
+    → o ≡ Some (since, during) → map read_entry third ≡ filter (λ r. not (is_one_of (with_history name o) r.0)) (map read_entry es)
+all_removed es first second third name since during o different e f g some =
+    let one : first ≡ apart_from name es = e ∙ shift_apart es name different in
+    let two : second ≡ apart_from during (apart_from name es) =
+    f ∙ (ap (shift_remove_entry (bytes_eq during)) one ∙ shift_apart (apart_from name es) during (distinct_apart es name different)) in
+    let three : third ≡ apart_from since (apart_from during (apart_from name es)) =
+    g ∙ (ap (shift_remove_entry (bytes_eq since)) two
+    ∙ shift_apart (apart_from during (apart_from name es)) since (distinct_apart (apart_from name es) during (distinct_apart es name different))) in
+    ap (map read_entry) (three ∙ three_removed es name during since)
+    ∙ (filter_read read_relvar (λ n. not (is_one_of (name ∷ during ∷ since ∷ []) n)) es
+    ∙ ap (λ (p : Option (Name × Name)). filter (λ r. not (is_one_of (with_history name p) r.0)) (map read_entry es)) (sym some))
+
+looked_up : (es : List (Name × Relvar)) (name : Name) → option_map read_relvar (lookup (bytes_eq name) es) ≡ relvar_named (map read_entry es) name
+looked_up [] name = refl
+looked_up (e ∷ es) name =
+    ap (λ (b : Bool). option_map read_relvar (cond b (Some e.1) (lookup (bytes_eq name) es))) (bytes_eq-sym name e.0) ∙ by (bytes_eq e.0 name) (looked_up es name)
+  where
+    by : (b : Bool) → option_map read_relvar (lookup (bytes_eq name) es) ≡ relvar_named (map read_entry es) name
+        → option_map read_relvar (cond b (Some e.1) (lookup (bytes_eq name) es)) ≡ cond b (Some (read_relvar e.1)) (relvar_named (map read_entry es) name)
+    by true ih = refl
+    by false ih = ih
+
+pub history_found : (es : List (Name × Relvar)) (name : Name) (out : Option Relvar) → out ≡ lookup (bytes_eq name) es
+    → history_if (option_map read_relvar out) ≡ history_if (relvar_named (map read_entry es) name)
+history_found es name out e = ap history_if (ap (option_map read_relvar) e ∙ looked_up es name)
+
+-- ---- taken back
+
+-- a second exchange of values takes the first one back
+pub state_back : (old mid new : Relvars) (cs ds : Changes) → map read_entry mid.list.entries ≡ changed cs (map read_entry old.list.entries)
+    → ds ≡ replaced cs (map read_entry old.list.entries) → map read_entry new.list.entries ≡ changed ds (map read_entry mid.list.entries)
+    → mid.ordinals ≡ old.ordinals → mid.rules ≡ old.rules → new.ordinals ≡ mid.ordinals → new.rules ≡ mid.rules → read_relvars new ≡ read_relvars old
+state_back old mid new cs ds first back second ordinals rules ordinals_too rules_too =
+    let es = map read_entry old.list.entries in
+    let list = second ∙ ((λ i. changed (back i) (first i)) ∙ taken_back cs es) in
+    changed_state old new es list (ordinals_too ∙ ordinals) (rules_too ∙ rules)
+
+pub length_back : (old mid : Relvars) (cs ds : Changes) → map read_entry mid.list.entries ≡ changed cs (map read_entry old.list.entries) → ds ≡ replaced cs (map read_entry old.list.entries)
+    → length cs ≡ length (map read_entry old.list.entries) → length ds ≡ length (map read_entry mid.list.entries)
+length_back old mid cs ds first back long =
+    let es = map read_entry old.list.entries in
+    ap length back ∙ (length_replaced cs es ∙ (long ∙ (sym (length_changed cs es) ∙ ap length (sym first))))
