@@ -238,9 +238,22 @@ pub fn statement(out: &mut Notes, tree: &Statement) {
             out.close();
         }
         Statement::History(part) => history(out, part),
+        Statement::DeclareRule(place, name, part) => {
+            out.open("CONSTRAINT", *place);
+            out.word(name);
+            test(out, part);
+            out.close();
+        }
         Statement::Drop(place, name) => {
             out.open("DROP", *place);
             out.word(name);
+            out.close();
+        }
+        Statement::DropRule(place, of_rule, name) => {
+            out.open("DROP", *place);
+            out.open("CONSTRAINT", *of_rule);
+            out.word(name);
+            out.close();
             out.close();
         }
         Statement::Print(place, part) => {

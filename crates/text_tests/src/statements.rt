@@ -16,7 +16,7 @@ fn outcome(alloc: Global, text: &[u8]) -> Result<(), Refuse>
 
 #[test]
 fn statements_are_accepted(rt: HostRuntime) {
-    let table: [&[u8]; 8] = [
+    let table: [&[u8]; 10] = [
         b";",
         b"PRINT X;",
         b"PRINT RELATION {TUPLE {N -9223372036854775808}};",
@@ -25,6 +25,8 @@ fn statements_are_accepted(rt: HostRuntime) {
         b"VAR R RELATION {D INTERVAL(DATE)} USING (D): KEY {D} WHEN UNPACKED ON (D) THEN KEY {D};",
         b"USING (D): UPDATE A WHERE NOT X = 1 OR B IN [1:- 2) : {B := - - 3 * C + 4}, A := B MINUS C;",
         b"ASK USING (D): (A JOIN B) = PACK A RENAME {X AS Y} ON (D);",
+        b"CONSTRAINT C (A {X}) <= B;",
+        b"DROP CONSTRAINT C;",
     ];
     for text in table.iter() {
         assert!(rt; text.len() < 1000);
@@ -52,6 +54,13 @@ fn texts_are_refused_at_the_first_token(rt: HostRuntime) {
         ),
         Refused(b"INSERT V A WHERE P = DATE '1900-02-29';", Code::E06, 27),
         Refused(b"TYPE T {A};", Code::E01, 8),
+        Refused(b"DROP TYPE T;", Code::E01, 6),
+        Refused(b"CONSTRAINT C A;", Code::E01, 15),
+        Refused(
+            b"CONSTRAINT C X = RELATION {TUPLE {N 9223372036854775808}};",
+            Code::E06,
+            37,
+        ),
         Refused(b"PRINT X", Code::E01, 0),
         Refused(b"PRINT X; ;", Code::E01, 10),
     ];

@@ -10,7 +10,7 @@ use Rattle.utd_syntax.specs.declared.words.EmptinessWord.TheVariants as emptines
 use Rattle.utd_syntax.specs.Pieces.{Piece, first, place_of, bytes_of}
 use Rattle.utd_builder.specs.Building.{behind}
 use Rattle.utd_syntax.specs.Plain.{StatementP, ConstraintP, ItemP, Assign, Assignment, Comparison, DeleteRows, Emptiness, OfComparison, UsedDeleteRows, UsedKey}
-use Rattle.utd_syntax.specs.Table.{Symbol, Just, same, TheOperand, TheRel, TheKey, TheForeign, TheUsedConstraint, TheConstraint, MoreConstraints, InRel, TheVarForm, TheComparison, AfterLeft, TheTest, TheUsedDeletion, TheUsedItem, TheDeletion, TheItem, MoreItems, TheAssign, TheStatement}
+use Rattle.utd_syntax.specs.Table.{Symbol, Just, same, TheOperand, TheRel, TheKey, TheForeign, TheUsedConstraint, TheConstraint, MoreConstraints, InRel, TheVarForm, TheComparison, AfterLeft, TheTest, TheUsedDeletion, TheUsedItem, TheDeletion, TheItem, MoreItems, TheAssign, TheStatement, AfterDrop}
 use Rattle.utd_syntax.specs.Written.{emptiness}
 use Rattle.utd_syntax.proofs.Reader.{Go, read, read_at}
 use Rattle.utd_syntax.proofs.FormEnds.{Halts, Starts_constraint, Starts_item, Starts_key, Starts_operand, Starts_rel, MoreConstraints-end, MoreItems-end}
@@ -140,25 +140,26 @@ pub assign-to-item : (ts : List Piece) (stack : List Symbol) (k : Go (TheAssign 
 assign-to-item [] stack k s h = differs h
 assign-to-item (x ∷ ts) stack k s h = sym (assign-as-item (x ∷ ts) stack k (starts-assign-item x.terminal (first ts) x.place x.bytes (read ts) stack k s h)) ∙ h
 
-starts-statement-assign : (x n : Terminal) (p : Place) (b : List ℕ) (next : (st : List Symbol) → Go st → Option StatementP) (stack : List Symbol) (k : Go (TheStatement ∷ stack)) (s : StatementP) → (x ≡ t.Semicolon → ⊥) → (x ≡ t.TypeWord → ⊥) → (x ≡ t.Var → ⊥) → (x ≡ t.History → ⊥) → (x ≡ t.Drop → ⊥) → (x ≡ t.Print → ⊥) → (x ≡ t.Ask → ⊥) → read_at x n p b next (TheStatement ∷ stack) k ≡ Some s → Starts_item x
-starts-statement-assign t.Semicolon n p b next stack k s n0 n1 n2 n3 n4 n5 n6 h = absurd (n0 refl)
-starts-statement-assign t.TypeWord n p b next stack k s n0 n1 n2 n3 n4 n5 n6 h = absurd (n1 refl)
-starts-statement-assign t.Var n p b next stack k s n0 n1 n2 n3 n4 n5 n6 h = absurd (n2 refl)
-starts-statement-assign t.History n p b next stack k s n0 n1 n2 n3 n4 n5 n6 h = absurd (n3 refl)
-starts-statement-assign t.Drop n p b next stack k s n0 n1 n2 n3 n4 n5 n6 h = absurd (n4 refl)
-starts-statement-assign t.Print n p b next stack k s n0 n1 n2 n3 n4 n5 n6 h = absurd (n5 refl)
-starts-statement-assign t.Ask n p b next stack k s n0 n1 n2 n3 n4 n5 n6 h = absurd (n6 refl)
-starts-statement-assign t.Name n p b next stack k s n0 n1 n2 n3 n4 n5 n6 h = tt
-starts-statement-assign t.Insert n p b next stack k s n0 n1 n2 n3 n4 n5 n6 h = tt
-starts-statement-assign t.Delete n p b next stack k s n0 n1 n2 n3 n4 n5 n6 h = tt
-starts-statement-assign t.Update n p b next stack k s n0 n1 n2 n3 n4 n5 n6 h = tt
-starts-statement-assign t.Terminate n p b next stack k s n0 n1 n2 n3 n4 n5 n6 h = tt
-starts-statement-assign t.Using n p b next stack k s n0 n1 n2 n3 n4 n5 n6 h = tt
-starts-statement-assign _ n p b next stack k s n0 n1 n2 n3 n4 n5 n6 h = differs h
+starts-statement-assign : (x n : Terminal) (p : Place) (b : List ℕ) (next : (st : List Symbol) → Go st → Option StatementP) (stack : List Symbol) (k : Go (TheStatement ∷ stack)) (s : StatementP) → (x ≡ t.Semicolon → ⊥) → (x ≡ t.TypeWord → ⊥) → (x ≡ t.Var → ⊥) → (x ≡ t.History → ⊥) → (x ≡ t.Constraint → ⊥) → (x ≡ t.Drop → ⊥) → (x ≡ t.Print → ⊥) → (x ≡ t.Ask → ⊥) → read_at x n p b next (TheStatement ∷ stack) k ≡ Some s → Starts_item x
+starts-statement-assign t.Semicolon n p b next stack k s n0 n1 n2 n3 n4 n5 n6 n7 h = absurd (n0 refl)
+starts-statement-assign t.TypeWord n p b next stack k s n0 n1 n2 n3 n4 n5 n6 n7 h = absurd (n1 refl)
+starts-statement-assign t.Var n p b next stack k s n0 n1 n2 n3 n4 n5 n6 n7 h = absurd (n2 refl)
+starts-statement-assign t.History n p b next stack k s n0 n1 n2 n3 n4 n5 n6 n7 h = absurd (n3 refl)
+starts-statement-assign t.Constraint n p b next stack k s n0 n1 n2 n3 n4 n5 n6 n7 h = absurd (n4 refl)
+starts-statement-assign t.Drop n p b next stack k s n0 n1 n2 n3 n4 n5 n6 n7 h = absurd (n5 refl)
+starts-statement-assign t.Print n p b next stack k s n0 n1 n2 n3 n4 n5 n6 n7 h = absurd (n6 refl)
+starts-statement-assign t.Ask n p b next stack k s n0 n1 n2 n3 n4 n5 n6 n7 h = absurd (n7 refl)
+starts-statement-assign t.Name n p b next stack k s n0 n1 n2 n3 n4 n5 n6 n7 h = tt
+starts-statement-assign t.Insert n p b next stack k s n0 n1 n2 n3 n4 n5 n6 n7 h = tt
+starts-statement-assign t.Delete n p b next stack k s n0 n1 n2 n3 n4 n5 n6 n7 h = tt
+starts-statement-assign t.Update n p b next stack k s n0 n1 n2 n3 n4 n5 n6 n7 h = tt
+starts-statement-assign t.Terminate n p b next stack k s n0 n1 n2 n3 n4 n5 n6 n7 h = tt
+starts-statement-assign t.Using n p b next stack k s n0 n1 n2 n3 n4 n5 n6 n7 h = tt
+starts-statement-assign _ n p b next stack k s n0 n1 n2 n3 n4 n5 n6 n7 h = differs h
 
-pub statement-to-assign : (ts : List Piece) (stack : List Symbol) (k : Go (TheStatement ∷ stack)) (s : StatementP) → ((first ts) ≡ t.Semicolon → ⊥) → ((first ts) ≡ t.TypeWord → ⊥) → ((first ts) ≡ t.Var → ⊥) → ((first ts) ≡ t.History → ⊥) → ((first ts) ≡ t.Drop → ⊥) → ((first ts) ≡ t.Print → ⊥) → ((first ts) ≡ t.Ask → ⊥) → read ts (TheStatement ∷ stack) k ≡ Some s → read ts (TheAssign ∷ Just t.Semicolon ∷ stack) (λ v. k (Assignment v.0, v.1.1)) ≡ Some s
-statement-to-assign [] stack k s n0 n1 n2 n3 n4 n5 n6 h = differs h
-statement-to-assign (x ∷ ts) stack k s n0 n1 n2 n3 n4 n5 n6 h = sym (statement-as-assign (x ∷ ts) stack k (starts-statement-assign x.terminal (first ts) x.place x.bytes (read ts) stack k s n0 n1 n2 n3 n4 n5 n6 h)) ∙ h
+pub statement-to-assign : (ts : List Piece) (stack : List Symbol) (k : Go (TheStatement ∷ stack)) (s : StatementP) → ((first ts) ≡ t.Semicolon → ⊥) → ((first ts) ≡ t.TypeWord → ⊥) → ((first ts) ≡ t.Var → ⊥) → ((first ts) ≡ t.History → ⊥) → ((first ts) ≡ t.Constraint → ⊥) → ((first ts) ≡ t.Drop → ⊥) → ((first ts) ≡ t.Print → ⊥) → ((first ts) ≡ t.Ask → ⊥) → read ts (TheStatement ∷ stack) k ≡ Some s → read ts (TheAssign ∷ Just t.Semicolon ∷ stack) (λ v. k (Assignment v.0, v.1.1)) ≡ Some s
+statement-to-assign [] stack k s n0 n1 n2 n3 n4 n5 n6 n7 h = differs h
+statement-to-assign (x ∷ ts) stack k s n0 n1 n2 n3 n4 n5 n6 n7 h = sym (statement-as-assign (x ∷ ts) stack k (starts-statement-assign x.terminal (first ts) x.place x.bytes (read ts) stack k s n0 n1 n2 n3 n4 n5 n6 n7 h)) ∙ h
 
 is-TheKey : (x n : Terminal) (p : Place) (b : List ℕ) (next : (st : List Symbol) → Go st → Option StatementP) (stack : List Symbol) (k : Go (TheKey ∷ stack)) (s : StatementP) → read_at x n p b next (TheKey ∷ stack) k ≡ Some s → x ≡ t.Key
 is-TheKey t.Key n p b next stack k s h = refl
@@ -248,6 +249,18 @@ must-TheItem (x ∷ ts) stack k s n0 n1 n2 n3 n4 h = is-TheItem x.terminal (firs
 
 pub step-TheItem : (p : Place) (b : List ℕ) (old new : List Piece) (stack : List Symbol) (k : Go (TheItem ∷ stack)) (s : StatementP) → ((first old) ≡ t.Insert → ⊥) → ((first old) ≡ t.Delete → ⊥) → ((first old) ≡ t.Update → ⊥) → ((first old) ≡ t.Terminate → ⊥) → ((first old) ≡ t.Using → ⊥) → p ≡ place_of old → b ≡ bytes_of old → new ≡ behind old → read old (TheItem ∷ stack) k ≡ Some s → read_at t.Name (first new) p b (read new) (TheItem ∷ stack) k ≡ Some s
 step-TheItem p b old new stack k s n0 n1 n2 n3 n4 hp hb hn h = at t.Name p b old new (TheItem ∷ stack) k s (must-TheItem old stack k s n0 n1 n2 n3 n4 h) refl hp hb hn h
+
+is-AfterDrop : (x n : Terminal) (p : Place) (b : List ℕ) (next : (st : List Symbol) → Go st → Option StatementP) (stack : List Symbol) (k : Go (AfterDrop ∷ stack)) (s : StatementP) → (x ≡ t.Constraint → ⊥) → read_at x n p b next (AfterDrop ∷ stack) k ≡ Some s → x ≡ t.Var
+is-AfterDrop t.Var n p b next stack k s n0 h = refl
+is-AfterDrop t.Constraint n p b next stack k s n0 h = absurd (n0 refl)
+is-AfterDrop _ n p b next stack k s n0 h = differs h
+
+must-AfterDrop : (ts : List Piece) (stack : List Symbol) (k : Go (AfterDrop ∷ stack)) (s : StatementP) → ((first ts) ≡ t.Constraint → ⊥) → read ts (AfterDrop ∷ stack) k ≡ Some s → first ts ≡ t.Var
+must-AfterDrop [] stack k s n0 h = differs h
+must-AfterDrop (x ∷ ts) stack k s n0 h = is-AfterDrop x.terminal (first ts) x.place x.bytes (read ts) stack k s n0 h
+
+pub step-AfterDrop : (p : Place) (b : List ℕ) (old new : List Piece) (stack : List Symbol) (k : Go (AfterDrop ∷ stack)) (s : StatementP) → ((first old) ≡ t.Constraint → ⊥) → p ≡ place_of old → b ≡ bytes_of old → new ≡ behind old → read old (AfterDrop ∷ stack) k ≡ Some s → read_at t.Var (first new) p b (read new) (AfterDrop ∷ stack) k ≡ Some s
+step-AfterDrop p b old new stack k s n0 hp hb hn h = at t.Var p b old new (AfterDrop ∷ stack) k s (must-AfterDrop old stack k s n0 h) refl hp hb hn h
 
 pub more-emptiness : (w : EmptinessWord) → same (emptiness w) t.Finish ≡ false
 more-emptiness emptinesses.IsEmpty = refl

@@ -410,7 +410,8 @@ pub fn statement<'a>(
             let (only, next) = history(alloc, cursor)?;
             Ok((Statement::History(only), next))
         }
-        Terminal::Drop => drop_relvar(alloc, cursor),
+        Terminal::Constraint => rule(alloc, cursor),
+        Terminal::Drop => removal(alloc, cursor),
         Terminal::Print => print(alloc, cursor),
         Terminal::Ask => ask(alloc, cursor),
         _ => {
@@ -440,13 +441,34 @@ fn variable<'a>(alloc: Global, cursor: Cursor<'a>) -> Result<(Statement, Cursor<
     Ok((Statement::Var(place, name, form), end.skip()))
 }
 
-fn drop_relvar<'a>(alloc: Global, cursor: Cursor<'a>) -> Result<(Statement, Cursor<'a>), AllocError>
+fn rule<'a>(alloc: Global, cursor: Cursor<'a>) -> Result<(Statement, Cursor<'a>), AllocError>
+    requires { first_of (left cursor) ≡ Terminal.Constraint }
+    ensures { Builds TheStatement read_statement (left cursor.entry) result }
+{
+    let place = cursor.place();
+    let (name, next) = cursor.skip().name(alloc)?;
+    let (test, end) = test(alloc, next)?;
+    Ok((Statement::DeclareRule(place, name, test), end.skip()))
+}
+
+// DROP of a relvar or of a database constraint.
+fn removal<'a>(alloc: Global, cursor: Cursor<'a>) -> Result<(Statement, Cursor<'a>), AllocError>
     requires { first_of (left cursor) ≡ Terminal.Drop }
     ensures { Builds TheStatement read_statement (left cursor.entry) result }
 {
     let place = cursor.place();
-    let (name, next) = cursor.skip().skip().name(alloc)?;
-    Ok((Statement::Drop(place, name), next.skip()))
+    let behind = cursor.skip();
+    match behind.terminal() {
+        Terminal::Constraint => {
+            let of_rule = behind.place();
+            let (name, next) = behind.skip().name(alloc)?;
+            Ok((Statement::DropRule(place, of_rule, name), next.skip()))
+        }
+        _ => {
+            let (name, next) = behind.skip().name(alloc)?;
+            Ok((Statement::Drop(place, name), next.skip()))
+        }
+    }
 }
 
 fn print<'a>(alloc: Global, cursor: Cursor<'a>) -> Result<(Statement, Cursor<'a>), AllocError>

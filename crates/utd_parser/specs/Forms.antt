@@ -115,6 +115,7 @@ form_of forms.TheItem = table.TheItem
 form_of forms.MoreItems = table.MoreItems
 form_of forms.TheAssign = table.TheAssign
 form_of forms.TheStatement = table.TheStatement
+form_of forms.AfterDrop = table.AfterDrop
 form_of (forms.Just x) = table.Just x
 form_of (forms.Worded w) = table.Worded (spelled_as w)
 

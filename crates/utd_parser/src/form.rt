@@ -107,6 +107,7 @@ pub enum Form {
     MoreItems,
     TheAssign,
     TheStatement,
+    AfterDrop,
     Just(Terminal),
     Worded(PlaceWord),
 }

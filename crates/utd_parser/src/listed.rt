@@ -104,6 +104,7 @@ pub fn rows_at(form: Form) -> &'static [Row]
         Form::MoreItems => &statement_rows::MORE_ITEMS,
         Form::TheAssign => &statement_rows::THE_ASSIGN,
         Form::TheStatement => &statement_rows::THE_STATEMENT,
+        Form::AfterDrop => &statement_rows::AFTER_DROP,
         Form::Just(_) => &[],
         Form::Worded(_) => &[],
     }

@@ -441,7 +441,7 @@ pub static THE_ASSIGN: [Row; 6] = [
     ),
 ];
 
-pub static THE_STATEMENT: [Row; 13] = [
+pub static THE_STATEMENT: [Row; 14] = [
     Row::On(Terminal::Semicolon, Taking::Plain, &[]),
     Row::On(
         Terminal::TypeWord,
@@ -481,14 +481,15 @@ pub static THE_STATEMENT: [Row; 13] = [
         ],
     ),
     Row::On(
-        Terminal::Drop,
+        Terminal::Constraint,
         Taking::Plain,
         &[
-            Form::Just(Terminal::Var),
             Form::TheName,
+            Form::TheTest,
             Form::Just(Terminal::Semicolon),
         ],
     ),
+    Row::On(Terminal::Drop, Taking::Plain, &[Form::AfterDrop]),
     Row::On(
         Terminal::Print,
         Taking::Plain,
@@ -562,5 +563,18 @@ pub static THE_STATEMENT: [Row; 13] = [
             Form::TheUsedItem,
         ]),
         &[Form::MoreItems, Form::Just(Terminal::Semicolon)],
+    ),
+];
+
+pub static AFTER_DROP: [Row; 2] = [
+    Row::On(
+        Terminal::Var,
+        Taking::Plain,
+        &[Form::TheName, Form::Just(Terminal::Semicolon)],
+    ),
+    Row::On(
+        Terminal::Constraint,
+        Taking::Plain,
+        &[Form::TheName, Form::Just(Terminal::Semicolon)],
     ),
 ];

@@ -21,11 +21,17 @@ variable-requires c = (sym c.terminal.ensures ∙ c.in-Var.is)
 pub returns-in-Var : goal.returns-in-Var
 returns-in-Var c = c.variable.ensures
 
-pub drop_relvar-requires : goal.drop_relvar-requires
-drop_relvar-requires c = (sym c.terminal.ensures ∙ c.in-Drop.is)
+pub rule-requires : goal.rule-requires
+rule-requires c = (sym c.terminal.ensures ∙ c.in-Constraint.is)
+
+pub returns-in-Constraint : goal.returns-in-Constraint
+returns-in-Constraint c = c.rule.ensures
+
+pub removal-requires : goal.removal-requires
+removal-requires c = (sym c.terminal.ensures ∙ c.in-Drop.is)
 
 pub returns-in-Drop : goal.returns-in-Drop
-returns-in-Drop c = c.drop_relvar.ensures
+returns-in-Drop c = c.removal.ensures
 
 pub print-requires : goal.print-requires
 print-requires c = (sym c.terminal.ensures ∙ c.in-Print.is)
@@ -46,4 +52,4 @@ pub returns-in_ok-only-in-History : goal.returns-in_ok-only-in-History
 returns-in_ok-only-in-History c = record { shorter = c.in_ok-only-in-History.ensures.shorter; goes_on = c.in_ok-only-in-History.ensures.goes_on }
 
 pub returns-in_ok-only-in_default : goal.returns-in_ok-only-in_default
-returns-in_ok-only-in_default c = record { shorter = omega (arith, c.in_ok-only-in_default.ensures.shorter, no-more (left c.in_ok-only-in_default.next) (left c.skip-in_default.result) c.skip-in_default.ensures); goes_on = λ stack k x h. let h1 = statement-to-assign (left c.args.cursor) _ k x (λ e. c.in_default.not-Semicolon (c.terminal.ensures ∙ e)) (λ e. c.in_default.not-TypeWord (c.terminal.ensures ∙ e)) (λ e. c.in_default.not-Var (c.terminal.ensures ∙ e)) (λ e. c.in_default.not-History (c.terminal.ensures ∙ e)) (λ e. c.in_default.not-Drop (c.terminal.ensures ∙ e)) (λ e. c.in_default.not-Print (c.terminal.ensures ∙ e)) (λ e. c.in_default.not-Ask (c.terminal.ensures ∙ e)) h in let h2 = c.in_ok-only-in_default.ensures.goes_on _ _ x h1 in just t.Semicolon (left c.in_ok-only-in_default.next) (left c.skip-in_default.result) _ _ x c.skip-in_default.ensures h2 }
+returns-in_ok-only-in_default c = record { shorter = omega (arith, c.in_ok-only-in_default.ensures.shorter, no-more (left c.in_ok-only-in_default.next) (left c.skip-in_default.result) c.skip-in_default.ensures); goes_on = λ stack k x h. let h1 = statement-to-assign (left c.args.cursor) _ k x (λ e. c.in_default.not-Semicolon (c.terminal.ensures ∙ e)) (λ e. c.in_default.not-TypeWord (c.terminal.ensures ∙ e)) (λ e. c.in_default.not-Var (c.terminal.ensures ∙ e)) (λ e. c.in_default.not-History (c.terminal.ensures ∙ e)) (λ e. c.in_default.not-Constraint (c.terminal.ensures ∙ e)) (λ e. c.in_default.not-Drop (c.terminal.ensures ∙ e)) (λ e. c.in_default.not-Print (c.terminal.ensures ∙ e)) (λ e. c.in_default.not-Ask (c.terminal.ensures ∙ e)) h in let h2 = c.in_ok-only-in_default.ensures.goes_on _ _ x h1 in just t.Semicolon (left c.in_ok-only-in_default.next) (left c.skip-in_default.result) _ _ x c.skip-in_default.ensures h2 }
