@@ -2,4 +2,5 @@ pub mod CharacterLemmas
 pub mod DateLemmas
 pub mod IntervalLemmas
 pub mod MomentLemmas
+pub mod RefusalLemmas
 pub mod TableLemmas

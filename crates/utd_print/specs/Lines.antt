@@ -8,6 +8,7 @@ use Rattle.point_core.specs.declared.fault.Code.{Code}
 use Rattle.point_core.specs.declared.fault.Code.TheVariants.{E01, E02, E03, E04, E05, E06, E10, E11, E12, E13, E14, E15, E16, E17, E18, E19, E20, E21, E22, E30, E31, E32, E33, E34, E35, E36, E40, E41, E42, E43, E44, E45, E46}
 use Rattle.value_core.specs.declared.refuse.Refuse.{Refuse}
 use Rattle.value_core.specs.declared.refuse.Refuse.TheVariants.{Plain, At, Broken, Memory}
+use Rattle.value_core.specs.Values.{Name}
 
 -- a code and its words
 abbrev pub code_text : Code → List ℕ
@@ -53,11 +54,20 @@ HasLine refuse = refuse ≡ Memory → ⊥
 abbrev pub place_text : Place → List ℕ
 place_text p = decimal p.line ++ 58 ∷ decimal p.column
 
--- a code with its place, or with its constraint by the relvar's name and the constraint's number
+-- the number of a relvar's constraint; a database constraint, which has a name of its own, has none
+abbrev pub number_text : Code → ℕ → List ℕ
+number_text E45 number = []
+number_text code number = codes " constraint " ++ decimal number
+
+-- a broken constraint of a relvar by the relvar's name and its number, a broken database constraint by its name
+unfoldable pub broken_text : Code → Name → ℕ → List ℕ
+broken_text code name number = code_text code ++ codes " in " ++ name ++ number_text code number
+
+-- a code with its place, or with the constraint that is broken
 unfoldable pub cause_text : Refuse → List ℕ
 cause_text (Plain code) = code_text code
 cause_text (At fault) = code_text fault.code ++ codes " at " ++ place_text fault.place
-cause_text (Broken code relvar number) = code_text code ++ codes " in " ++ relvar ++ codes " constraint " ++ decimal number
+cause_text (Broken code relvar number) = broken_text code relvar number
 cause_text Memory = []
 
 -- the line of the n-th statement, refused

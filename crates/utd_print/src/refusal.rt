@@ -1,11 +1,11 @@
 // The line of a refused statement.
 ghost use Rattle.std.specs.Prelude.{◌≡◌, ◌++◌, IfOk, OnOk};
-ghost use Rattle.utd_print.specs.Lines.{code_text, place_text, cause_text, HasLine, refusal_line};
+ghost use Rattle.utd_print.specs.Lines.{broken_text, code_text, number_text, place_text, cause_text, HasLine, refusal_line};
 
 use crate::numbers::put_number;
 use point_core::{Code, Memory, Place};
 use std::alloc::Global;
-use value_core::Refuse;
+use value_core::{Name, Refuse};
 
 /// A code and its words.
 fn code_text(code: Code) -> &'static [u8]
@@ -57,6 +57,30 @@ fn put_place(out: &mut Vec<u8>, place: Place) -> Result<(), Memory>
     put_number(out, place.column)
 }
 
+/// Writes the number of a relvar's constraint; a database constraint has none.
+fn put_constraint_number(out: &mut Vec<u8>, code: Code, number: u32) -> Result<(), Memory>
+    ensures { OnOk result (out.new.items ≡ out.old.items ++ number_text code number) }
+{
+    match code {
+        Code::E45 => Ok(()),
+        _ => {
+            out.extend_from_slice(b" constraint ")?;
+            put_number(out, number)
+        }
+    }
+}
+
+/// Writes a broken constraint: of a relvar by its name and the constraint's number, of the database by its own name.
+#[tactic(auto, unfolding(crate::specs::Lines::broken_text))]
+fn put_broken(out: &mut Vec<u8>, code: Code, name: &Name, number: u32) -> Result<(), Memory>
+    ensures { OnOk result (out.new.items ≡ out.old.items ++ broken_text code name.now number) }
+{
+    out.extend_from_slice(code_text(code))?;
+    out.extend_from_slice(b" in ")?;
+    out.extend_from_slice(name.as_str().as_bytes())?;
+    put_constraint_number(out, code, number)
+}
+
 /// Writes the code with its words, and with its place or its constraint.
 #[tactic(auto, unfolding(crate::specs::Lines::cause_text))]
 fn put_cause(out: &mut Vec<u8>, refuse: &Refuse) -> Result<(), Memory>
@@ -74,13 +98,7 @@ fn put_cause(out: &mut Vec<u8>, refuse: &Refuse) -> Result<(), Memory>
             code,
             relvar,
             number,
-        } => {
-            out.extend_from_slice(code_text(*code))?;
-            out.extend_from_slice(b" in ")?;
-            out.extend_from_slice(relvar.as_str().as_bytes())?;
-            out.extend_from_slice(b" constraint ")?;
-            put_number(out, *number)?;
-        }
+        } => put_broken(out, *code, relvar, *number)?,
         Refuse::Memory => unreachable!(),
     }
     Ok(())
