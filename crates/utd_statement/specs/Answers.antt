@@ -12,14 +12,14 @@ use Rattle.relation_core.specs.Answers.{under}
 use Rattle.tree_core.specs.Items.{PlainItem, PlainAssignment}
 use Rattle.tree_core.specs.Relvars.{Entries, State}
 use Rattle.tree_core.specs.Trees.{Tree, heading_of}
-use Rattle.meaning_core.specs.Declarations.{with_declaration, without}
+use Rattle.meaning_core.specs.Declarations.{with_declaration, without_group, without_rule}
 use Rattle.meaning_core.specs.Meanings.{meaning_in}
 use Rattle.meaning_core.specs.Truths.{truth_in}
 use Rattle.update_core.specs.Endings.{meant_by}
-use Rattle.assign_core.specs.Assignments.{after_assignments}
+use Rattle.assign_core.specs.Assignments.{assigned_in, constrained}
 use Rattle.since_during.specs.Histories.{declared_history, declared_in}
 use Rattle.utd_syntax.specs.Plain.{StatementP}
-use Rattle.type_check.specs.Checks.{Plain, nothing, declare_ordinal, declare_base, declare_view, declare_history, remove, assign, print, ask, checked}
+use Rattle.type_check.specs.Checks.{Plain, nothing, declare_ordinal, declare_base, declare_view, declare_history, remove, declare_rule, remove_rule, assign, print, ask, checked}
 use Rattle.utd_print.specs.Lines.{refusal_line, truth_line}
 use Rattle.utd_print.specs.Tables.{table}
 use Rattle.utd_statement.specs.Readings.{Reading, Tree as TreeOf, Refused}
@@ -51,6 +51,11 @@ abbrev pub unless_refused : State → Result Entries Refuse → Answer
 unless_refused state (Ok relvars) = Changed (record state { relvars = relvars })
 unless_refused state (Err refuse) = Refusal refuse
 
+-- the new state, or why it is refused
+abbrev pub if_allowed : Result State Refuse → Answer
+if_allowed (Ok state) = Changed state
+if_allowed (Err refuse) = Refusal refuse
+
 -- the answer to a typed statement
 abbrev pub of_checked : State → Plain → Answer
 of_checked state nothing = Done
@@ -58,8 +63,10 @@ of_checked state (declare_ordinal d) = Changed (with_declaration state d)
 of_checked state (declare_base d) = Changed (with_declaration state d)
 of_checked state (declare_view d) = Changed (with_declaration state d)
 of_checked state (declare_history h) = Changed (declared_in state (declared_history h))
-of_checked state (remove name) = Changed (without name state)
-of_checked state (assign items) = unless_refused state (after_assignments state.relvars (assignments_of state.relvars items))
+of_checked state (remove name) = Changed (without_group name state)
+of_checked state (declare_rule name t) = if_allowed (constrained state name t)
+of_checked state (remove_rule name) = Changed (without_rule name state)
+of_checked state (assign items) = unless_refused state (assigned_in state (assignments_of state.relvars items))
 of_checked state (print t) = unless_fault (Table state.ordinals) (relation_in state t)
 of_checked state (ask t) = unless_fault Truth (truth_in state.relvars t)
 

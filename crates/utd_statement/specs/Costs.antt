@@ -5,13 +5,13 @@ use Rattle.std.specs.Prelude.{ℕ, Ok, Err}
 use Rattle.point_core.specs.Faults.{OrFault}
 use Rattle.tree_core.specs.Relvars.{State}
 use Rattle.algebra_core.specs.Costs.{cost_in, test_cost}
-use Rattle.assign_core.specs.Costs.{assignments_cost}
+use Rattle.assign_core.specs.Costs.{cost_of_assignments}
 use Rattle.utd_syntax.specs.Plain.{StatementP}
-use Rattle.type_check.specs.Checks.{Plain, nothing, declare_ordinal, declare_base, declare_view, declare_history, remove, assign, print, ask, checked}
+use Rattle.type_check.specs.Checks.{Plain, nothing, declare_ordinal, declare_base, declare_view, declare_history, remove, declare_rule, remove_rule, assign, print, ask, checked}
 use Rattle.utd_statement.specs.Answers.{assignments_of}
 use Rattle.utd_statement.specs.Readings.{Reading, Tree, Refused}
 
--- the steps of the expression that is printed, of the test that is asked, or of the sources and the constraints of assignments
+-- the steps of the expression that is printed, of the test that is asked or declared, or of the sources and the constraints of assignments
 abbrev pub cost_of_checked : State → Plain → ℕ
 cost_of_checked state nothing = 0
 cost_of_checked state (declare_ordinal d) = 0
@@ -19,7 +19,9 @@ cost_of_checked state (declare_base d) = 0
 cost_of_checked state (declare_view d) = 0
 cost_of_checked state (declare_history h) = 0
 cost_of_checked state (remove name) = 0
-cost_of_checked state (assign items) = assignments_cost state.relvars (assignments_of state.relvars items)
+cost_of_checked state (declare_rule name t) = test_cost state.relvars t
+cost_of_checked state (remove_rule name) = 0
+cost_of_checked state (assign items) = cost_of_assignments state (assignments_of state.relvars items)
 cost_of_checked state (print t) = cost_in state.relvars t
 cost_of_checked state (ask t) = test_cost state.relvars t
 

@@ -3,15 +3,17 @@ ghost use Rattle.std.specs.Prelude.{◌≡◌, ◌≤◌, ◌+◌, IfOk, map};
 ghost use Rattle.std.specs.List.{All};
 ghost use Rattle.tree_core.specs.Items.{read_item, read_assignment};
 ghost use Rattle.tree_core.specs.Relvars.{read_relvars};
-ghost use Rattle.meaning_core.specs.Declarations.{read_declaration, with_declaration, without};
+ghost use Rattle.tree_core.specs.Trees.{read_test};
+ghost use Rattle.meaning_core.specs.Declarations.{read_declaration, with_declaration, with_rule, without_group, without_rule};
 ghost use Rattle.meaning_core.specs.Updates.{IsTypedItem, IsTypedAssignment};
 ghost use Rattle.meaning_core.specs.WellMade.{IsWellMade};
 ghost use Rattle.update_core.specs.Endings.{meant_by};
 ghost use Rattle.since_during.specs.Histories.{declared_history, declared_in, IsTypedHistory};
-ghost use Rattle.assign_core.specs.Assignments.{after_assignments};
-ghost use Rattle.assign_core.specs.Costs.{assignments_cost};
+ghost use Rattle.algebra_core.specs.Costs.{test_cost};
+ghost use Rattle.assign_core.specs.Assignments.{assigned_in, constrained};
+ghost use Rattle.assign_core.specs.Costs.{cost_of_assignments};
 ghost use Rattle.assign_core.specs.Databases.{IsKept};
-ghost use Rattle.utd_statement.specs.Answers.{Changed, assignments_of, unless_refused};
+ghost use Rattle.utd_statement.specs.Answers.{Changed, assignments_of, if_allowed, unless_refused};
 ghost use Rattle.utd_statement.specs.Replies.{IsPerformed};
 
 use assign_core::Database;
@@ -19,7 +21,7 @@ use point_core::{Memory, Steps};
 use since_during::{declare_history, terminate};
 use std::alloc::Global;
 use std::sync::ledger::Ledger;
-use tree_core::{Assignment, Declaration, HistoryData, Item, ItemForm, Items, Relvars};
+use tree_core::{Assignment, Declaration, HistoryData, Item, ItemForm, Items, RelTest, Relvars};
 use update_core::expand;
 use value_core::{Name, Refuse};
 
@@ -54,12 +56,38 @@ pub fn history_declared(
     Ok(Vec::new(alloc))
 }
 
-/// Removes the relvar or view of this name.
+/// Removes the relvar or view of this name, and with the view of a history its two relvars.
 pub fn removed(alloc: Global, name: &Name, database: &mut Database) -> Result<Vec<u8>, Refuse>
-    requires well_made { IsWellMade (without name.now (read_relvars database.old)) }
-    ensures { IsPerformed result (read_relvars database.old) (read_relvars database.new) (Changed (without name.now (read_relvars database.old))) }
+    requires well_made { IsWellMade (without_group name.now (read_relvars database.old)) }
+    ensures { IsPerformed result (read_relvars database.old) (read_relvars database.new) (Changed (without_group name.now (read_relvars database.old))) }
 {
     database.remove(name)?;
+    Ok(Vec::new(alloc))
+}
+
+/// Declares a database constraint, which must hold.
+pub fn constrained<L: Ledger>(
+    alloc: Global,
+    name: Name,
+    test: RelTest,
+    database: &mut Database,
+    steps: &mut Steps<L>,
+) -> Result<Vec<u8>, Refuse>
+    requires well_made { IsWellMade (with_rule name (read_test test) (read_relvars database.old)) }
+    ensures performed { IsPerformed result (read_relvars database.old) (read_relvars database.new)
+        (if_allowed (constrained (read_relvars database.old) name (read_test test))) }
+    ensures cost { steps.new ≤ steps.old + test_cost (read_relvars database.old).relvars (read_test test) }
+{
+    database.constrain(name, test, steps)?;
+    Ok(Vec::new(alloc))
+}
+
+/// Removes the database constraint of this name.
+pub fn unconstrained(alloc: Global, name: &Name, database: &mut Database) -> Result<Vec<u8>, Refuse>
+    requires well_made { IsWellMade (without_rule name.now (read_relvars database.old)) }
+    ensures { IsPerformed result (read_relvars database.old) (read_relvars database.new) (Changed (without_rule name.now (read_relvars database.old))) }
+{
+    database.unconstrain(name)?;
     Ok(Vec::new(alloc))
 }
 
@@ -117,8 +145,8 @@ pub fn assigned<L: Ledger>(
     requires kept { IsKept (read_relvars database.old) }
     requires typed { All (IsTypedItem (read_relvars database.old)) (map read_item items.now) }
     ensures performed { IsPerformed result (read_relvars database.old) (read_relvars database.new)
-        (unless_refused (read_relvars database.old) (after_assignments (read_relvars database.old).relvars (assignments_of (read_relvars database.old).relvars (map read_item items.now)))) }
-    ensures cost { steps.new ≤ steps.old + assignments_cost (read_relvars database.old).relvars (assignments_of (read_relvars database.old).relvars (map read_item items.now)) }
+        (unless_refused (read_relvars database.old) (assigned_in (read_relvars database.old) (assignments_of (read_relvars database.old).relvars (map read_item items.now)))) }
+    ensures cost { steps.new ≤ steps.old + cost_of_assignments (read_relvars database.old) (assignments_of (read_relvars database.old).relvars (map read_item items.now)) }
 {
     let list = assignments(alloc, items.list.as_slice(), database.relvars())?;
     database.assign(&list, steps)?;

@@ -10,7 +10,7 @@ ghost use Rattle.utd_statement.specs.Answers.{of_checked, unless_fault};
 ghost use Rattle.utd_statement.specs.Costs.{cost_of_checked, cost_of_tree};
 ghost use Rattle.utd_statement.specs.Replies.{IsPerformed};
 
-use crate::changing::{assigned, declared, history_declared, removed};
+use crate::changing::{assigned, constrained, declared, history_declared, removed, unconstrained};
 use algebra_core::{eval, test};
 use assign_core::Database;
 use point_core::Steps;
@@ -73,6 +73,8 @@ fn performed_typed<L: Ledger>(
         Checked::View(declaration) => declared(alloc, declaration, database),
         Checked::History(history) => history_declared(alloc, &history, database),
         Checked::Remove(name) => removed(alloc, &name, database),
+        Checked::Rule(name, question) => constrained(alloc, name, question, database, steps),
+        Checked::Unrule(name) => unconstrained(alloc, &name, database),
         Checked::Assign(items) => assigned(alloc, &items, database, steps),
         Checked::Print(tree) => printed(alloc, &tree, database.relvars(), steps),
         Checked::Ask(question) => asked(alloc, &question, database.relvars(), steps),
