@@ -9,13 +9,14 @@ use crate::runs::first_wrong_piece;
 use std::{fs, io};
 
 /// The files of data/, by subject.
-const FILES: [&str; 46] = [
+const FILES: [&str; 47] = [
     "arranged.txt",
     "ask.txt",
     "assign.txt",
     "compare.txt",
     "concerned.txt",
     "constraint.txt",
+    "database_constraint.txt",
     "drop.txt",
     "exchange.txt",
     "extend.txt",
