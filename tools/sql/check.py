@@ -136,7 +136,8 @@ class Comparison:
         self.faults = []
 
     def play(self, server, script):
-        statements = list(translated(script.text))
+        broken = {int(number) for number, code in REFUSED.findall(script.output) if code == 'E45'}
+        statements = list(translated(script.text, broken=broken))
         self.counts['scripts'] += 1
         fresh = FRESH.format(seconds=SECONDS, schema=f'script_{self.counts["scripts"]}')
         answers = server.answers([statement.sql for statement in statements], fresh)

@@ -52,13 +52,13 @@ class View:
 
 
 class Names:
-    """What names stand for: types, relvars and views, and the tables in whose place a new value stands during an assignment."""
+    """What names stand for: types, relvars, views and rules, and the tables in whose place a new value stands during an assignment."""
 
     def __init__(self):
-        self.types, self.relvars, self.views, self.values = {}, {}, {}, {}
+        self.types, self.relvars, self.views, self.rules, self.values = {}, {}, {}, {}, {}
 
     def free(self, name, *others):
-        if name in self.types or name in self.relvars or name in self.views or name in others:
+        if name in self.types or name in self.relvars or name in self.views or name in self.rules or name in others:
             raise Refusal('E11', f'the name {name} is taken')
         return quoted(name)
 
@@ -84,7 +84,8 @@ class Names:
     def with_value(self, name, table):
         """The names where a new value stands for a relvar."""
         found = Names()
-        found.types, found.relvars, found.views, found.values = self.types, self.relvars, self.views, {name: table} if table else {}
+        found.types, found.relvars, found.views, found.rules = self.types, self.relvars, self.views, self.rules
+        found.values = {name: table} if table else {}
         return found
 
 
@@ -167,18 +168,77 @@ def relvars_in(tree):
     return {tree[1]} if tree[0] == 'Relvar' else {name for part in tree for name in relvars_in(part)}
 
 
+def group_of(names, name):
+    """What goes with a name: the view of a history takes its two relvars along."""
+    history = names.views[name].history if name in names.views else None
+    return [name, history.during, history.since] if history else [name]
+
+
+def users_of(names, group):
+    """The views, relvars and rules besides the group itself that name one of it."""
+    found = [other for other, view in names.views.items() if other not in group and relvars_in(view.tree) & {*group}]
+    found += [other for other, relvar in names.relvars.items() if other not in group and any(part.other in group for part in relvar.constraints)]
+    return found + [rule for rule, test in names.rules.items() if relvars_in(test) & {*group}]
+
+
+def drop_one(names, name):
+    if name in names.views:
+        del names.views[name]
+        return [f'DROP VIEW {quoted(name)};']
+    functions = names.relvars.pop(name).functions
+    return [f'DROP TABLE {quoted(name)};', *(f'DROP FUNCTION {function} CASCADE;' for function in functions)]
+
+
 def drop(names, name):
     if name not in names.relvars and name not in names.views:
         raise Refusal('E10', f'there is no relvar {name}')
-    users = [other for other, view in names.views.items() if other != name and name in relvars_in(view.tree)]
-    users += [other for other, relvar in names.relvars.items() if other != name and any(name == part.other for part in relvar.constraints)]
+    if any(view.history and name in (view.history.since, view.history.during) for view in names.views.values()):
+        raise Refusal('E21', f'{name} is one of a history')
+    group = group_of(names, name)
+    users = users_of(names, group)
     if users:
         raise Refusal('E21', f'{users[0]} uses {name}')
-    if name in names.views:
-        del names.views[name]
-        return f'DROP VIEW {quoted(name)};'
-    functions = names.relvars.pop(name).functions
-    return '\n'.join([f'DROP TABLE {quoted(name)};', *(f'DROP FUNCTION {function} CASCADE;' for function in functions)])
+    return '\n'.join(line for part in group for line in drop_one(names, part))
+
+
+# ---------------------------------------------------------------- rules of the database
+
+def tables_under(names, tree):
+    """The relvars on which an expression or a test leans, itself or through views."""
+    found = set()
+    for name in relvars_in(tree):
+        found |= tables_under(names, names.views[name].tree) if name in names.views else {name}
+    return found
+
+
+def rule_function(name):
+    return quoted(f'{name} constraint')
+
+
+def asked_in(names, name, test):
+    """Lines of a PL/pgSQL block that fail where the test does not hold; a fault of it breaks the rule too."""
+    query = truth(names, test).replace('\n', '\n      ')
+    return (f"DECLARE held boolean;\nBEGIN\n  BEGIN\n    held := (\n      {query});\n  EXCEPTION WHEN OTHERS THEN held := false;\n  END;\n"
+            f"  IF NOT held THEN\n    RAISE EXCEPTION USING ERRCODE = 'UTE45', MESSAGE = {text_literal(f'constraint {name} is broken')};\n  END IF;")
+
+
+def declare_rule(names, name, test):
+    names.free(name)
+    asked, function = asked_in(names, name, test), rule_function(name)
+    tables = by_bytes(tables_under(names, test))
+    names.rules[name] = test
+    return '\n'.join([
+        f'DO $$\n{asked}\nEND\n$$;',
+        f'CREATE FUNCTION {function}() RETURNS trigger LANGUAGE plpgsql AS $$\n{asked}\n  RETURN NULL;\nEND\n$$;',
+        *(f'CREATE CONSTRAINT TRIGGER {function} AFTER INSERT OR UPDATE OR DELETE ON {quoted(table)}'
+          f' DEFERRABLE INITIALLY DEFERRED FOR EACH ROW EXECUTE FUNCTION {function}();' for table in tables)])
+
+
+def drop_rule(names, name):
+    if name not in names.rules:
+        raise Refusal('E10', f'there is no rule {name}')
+    del names.rules[name]
+    return f'DROP FUNCTION {rule_function(name)} CASCADE;'
 
 
 # ---------------------------------------------------------------- PRINT and ASK
@@ -203,11 +263,12 @@ def print_relation(names, tree):
     return f'SELECT {columns}\nFROM {relation.source} t' + (f'\nORDER BY {order};' if order else ';'), relation.heading
 
 
-def ask(names, tree):
+def truth(names, tree):
+    """A query of one truth value."""
     form, *parts = tree
     if form == 'Emptiness':
         word, operand = parts
-        return f'SELECT {"NOT " if word == "IsEmpty" else ""}EXISTS {nested(relation_of(operand, names).sql)} AS answer;', 'truth'
+        return f'SELECT {"NOT " if word == "IsEmpty" else ""}EXISTS {nested(relation_of(operand, names).sql)} AS answer'
     attributes, comparison = parts if form == 'UsingTest' else ([], parts[0])
     _, left, word, right = comparison
     left, right = relation_of(left, names), relation_of(right, names)
@@ -216,7 +277,11 @@ def ask(names, tree):
     sides = [of_table(side.heading, table) for side, table in ((left, '"the first side"'), (right, '"the second side"'))]
     fewer, more = (f'NOT EXISTS {nested(by_points("Minus", *pair, attributes).sql)}' for pair in (sides, sides[::-1]))
     tables = ',\n'.join(f'{side.table} AS {nested(operand.sql)}' for side, operand in zip(sides, (left, right)))
-    return f'WITH {tables}\nSELECT {COMPARISONS[word].format(fewer=fewer, more=more)} AS answer;', 'truth'
+    return f'WITH {tables}\nSELECT {COMPARISONS[word].format(fewer=fewer, more=more)} AS answer'
+
+
+def ask(names, tree):
+    return f'{truth(names, tree)};', 'truth'
 
 
 # ---------------------------------------------------------------- assignments
@@ -398,12 +463,15 @@ def updated(names, name, condition, sets):
 # a later statement is one more function here
 STATEMENTS = {
     'Nothing': lambda names: '', 'DeclareOrdinal': declare_type, 'DeclareRelvar': declare_relvar, 'DeclareHistory': declare_history, 'Drop': drop,
+    'DeclareRule': declare_rule, 'DropRule': drop_rule,
     'Print': print_relation, 'Ask': ask, 'Assignment': assign,
 }
 
 
-def translated(script, names=None):
-    """The statements of a script, each in SQL or with what refuses it, over names that are declared already."""
+def translated(script, names=None, broken=()):
+    """The statements of a script, each in SQL or with what refuses it, over names that are declared already. Whether a rule holds where it is
+    declared only its rows tell: broken has the numbers of statements that are known to be refused for it.
+    """
     names = names or Names()
     for number, (text, tokens) in enumerate(statements_of(script), 1):
         try:
@@ -411,6 +479,8 @@ def translated(script, names=None):
                 raise tokens
             form, *parts = tree_of(tokens)
             found = STATEMENTS[form](names, *parts)
+            if form == 'DeclareRule' and number in broken:
+                del names.rules[parts[0]]
             sql, prints = found if isinstance(found, tuple) else (found, None)
             yield Translated(number, text, sql, None, prints)
         except Refusal as refusal:
