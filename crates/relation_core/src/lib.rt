@@ -32,6 +32,7 @@ pub use joining::join;
 pub use list::{Hashes, hashes_of};
 pub use merging::keep;
 pub use names::common_positions;
+pub use numbers::row_hash;
 pub use parts::{contains, part, sorted_parts};
 pub use projection::project;
 pub use renaming::{rename, renamed};

@@ -4,7 +4,7 @@ ghost use Rattle.std.specs.List.{All};
 ghost use Rattle.point_core.specs.Points.{line};
 ghost use Rattle.value_core.specs.Plain.{plain, ends};
 ghost use Rattle.value_core.specs.Values.{same_line};
-ghost use Rattle.relation_core.specs.Hashes.{mixed, value_hash, hash_of};
+ghost use Rattle.relation_core.specs.Hashes.{mixed, value_hash, row_hash, hash_of};
 
 use interval_core::Interval;
 use point_core::{AnyPoint, AnyType};
@@ -69,6 +69,18 @@ fn value_hash(v: &Value) -> u64
             mixed(begin.cast_unsigned(), end.cast_unsigned())
         }
     }
+}
+
+/// The hash of the row's values, one after the other.
+pub fn row_hash(row: &Row) -> u64
+    ensures { result ≡ row_hash row.now }
+{
+    let values = row.values();
+    let mut hash = 0;
+    for value in values {
+        hash = mixed(hash, value_hash(value));
+    }
+    hash
 }
 
 /// The hash of the row's values at the positions.
