@@ -11,3 +11,4 @@ pub use attributes::{Attributes, few_attributes, heading_of, listed, name_typed,
 pub use headings::{heading_typed, kind_typed, same_heading};
 pub use items::{Made, item_typed, none_made};
 pub use literals::{empty_heading, type_literal};
+pub use shapes::makes;

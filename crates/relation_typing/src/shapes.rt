@@ -75,8 +75,8 @@ fn has_bytes(word: &Word, name: &Name) -> bool
     *word.bytes.list.as_slice() == *name.as_str().as_bytes()
 }
 
-/// Whether tuples of the shape have the heading.
-fn makes(alloc: Global, shape: &[(Name, Kind)], heading: &Heading) -> Result<bool, Memory>
+/// Whether tuples of the shape have the heading, in whatever order its names stand.
+pub fn makes(alloc: Global, shape: &[(Name, Kind)], heading: &Heading) -> Result<bool, Memory>
     ensures { IfOk result (λ b. IsTrue b → shape_made [] shape.now ≡ Some heading.now) }
 {
     match attributes_of(alloc, shape)? {
