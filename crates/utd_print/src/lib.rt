@@ -7,6 +7,8 @@ mod tables;
 mod truth;
 mod values;
 
+pub use numbers::{put_day, put_integer, put_moment};
 pub use refusal::refusal_line;
 pub use tables::table;
-pub use truth::truth_line;
+pub use truth::{truth_line, truth_text};
+pub use values::put_doubled;

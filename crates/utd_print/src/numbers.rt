@@ -27,8 +27,8 @@ pub(crate) fn put_count(out: &mut Vec<u8>, count: usize) -> Result<(), Memory>
     Ok(())
 }
 
-/// Writes an integer.
-pub(crate) fn put_integer(out: &mut Vec<u8>, number: i64) -> Result<(), Memory>
+/// Writes an integer in decimal.
+pub fn put_integer(out: &mut Vec<u8>, number: i64) -> Result<(), Memory>
     ensures { OnOk result (out.new.items ≡ out.old.items ++ signed_decimal number) }
 {
     let mut buffer = Buffer::new();
@@ -58,8 +58,8 @@ fn put_date(out: &mut Vec<u8>, year: u16, month: u8, day: u8) -> Result<(), Memo
     put_two_digits(out, day)
 }
 
-/// Writes a day by its date.
-pub(crate) fn put_day(out: &mut Vec<u8>, day: Day) -> Result<(), Memory>
+/// Writes a day by its date, as `YYYY-MM-DD`.
+pub fn put_day(out: &mut Vec<u8>, day: Day) -> Result<(), Memory>
     requires { IsDay day.number }
     ensures { OnOk result (out.new.items ≡ out.old.items ++ day_text day.number) }
 {
@@ -78,8 +78,8 @@ fn put_clock(out: &mut Vec<u8>, hour: u8, minute: u8, second: u8) -> Result<(), 
     put_two_digits(out, second)
 }
 
-/// Writes a moment by its date and its clock.
-pub(crate) fn put_moment(out: &mut Vec<u8>, moment: Second) -> Result<(), Memory>
+/// Writes a moment by its date and its clock, as `YYYY-MM-DDTHH:MM:SS`.
+pub fn put_moment(out: &mut Vec<u8>, moment: Second) -> Result<(), Memory>
     requires { IsSecond moment.number }
     ensures { OnOk result (out.new.items ≡ out.old.items ++ second_text moment.number) }
 {

@@ -4,7 +4,7 @@ ghost use Rattle.utd_print.specs.Lines.{truth_line};
 ghost use Rattle.utd_print.specs.Tables.{truth_text};
 
 /// The text of a truth value.
-pub(crate) fn truth_text(b: bool) -> &'static [u8]
+pub fn truth_text(b: bool) -> &'static [u8]
     ensures { result.now ≡ truth_text b }
 {
     if b { b"TRUE" } else { b"FALSE" }

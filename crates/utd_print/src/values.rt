@@ -53,7 +53,7 @@ fn put_quoted(out: &mut Vec<u8>, byte: u8) -> Result<(), Memory>
 }
 
 /// Writes a text with each quote doubled.
-fn put_doubled(out: &mut Vec<u8>, text: &[u8]) -> Result<(), Memory>
+pub fn put_doubled(out: &mut Vec<u8>, text: &[u8]) -> Result<(), Memory>
     ensures { OnOk result (out.new.items ≡ out.old.items ++ quotes_doubled text.now) }
 {
     for byte in text {
