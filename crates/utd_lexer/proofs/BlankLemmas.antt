@@ -177,3 +177,8 @@ pub resting-answers : (bytes : List ℕ) (m : Mode) (ok r : Bool) → m ≡ run 
 resting-answers bytes m ok r a b h =
     let e : r ≡ blank_answer bytes = h ∙ ap (λ x. x && is_resting m) b ∙ ap (λ x. can_be_blank Between true bytes && is_resting x) a in
     (λ g. (answers bytes).0 (sym e ∙ g), λ w. e ∙ (answers bytes).1 w)
+
+-- bytes that can still be blank and end between parts are white space and whole comments
+pub blank-parts : (bytes : List ℕ) → can_be_blank Between true bytes ≡ true → run Between bytes ≡ Between
+    → (ps : List Part) × AreParts ps × AllBlank ps × (bytes ≡ bytes_of ps)
+blank-parts bytes blank ends = subst (λ m. Held m bytes) ends (held_run Between true [] bytes (λ g. ([], tt, tt, refl)) blank)

@@ -2,6 +2,7 @@ pub mod BlankLemmas
 pub mod CutLemmas
 pub mod EncodingLemmas
 pub mod GapLemmas
+pub mod GapLengthLemmas
 pub mod ListLemmas
 pub mod OnePrefixLemmas
 pub mod OneReadingLemmas

@@ -27,6 +27,11 @@ is_outside Between = true
 is_outside Slash = true
 is_outside _ = false
 
+-- between parts
+abbrev pub is_between : Mode → Bool
+is_between Between = true
+is_between _ = false
+
 -- whether the bytes can still be blank with one more
 abbrev pub blank_next : Mode → Bool → ℕ → Bool
 blank_next Between ok b = ok && (is_space b || (b == 47))

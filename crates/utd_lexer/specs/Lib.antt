@@ -1,4 +1,5 @@
 pub mod Cutting
+pub mod Gaps
 pub mod Prefixes
 pub mod Parts
 pub mod Reading

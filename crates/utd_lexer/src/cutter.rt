@@ -1,7 +1,7 @@
 // The cut of a script's bytes into statements.
 ghost use Rattle.std.specs.Prelude.{◌≡◌, ◌↔◌, ℕ, List, [], ◌∷◌, ◌++◌, true};
 ghost use Rattle.utd_lexer.specs.Parts.{IsWhole, IsBlank};
-ghost use Rattle.utd_lexer.specs.Cutting.{next, is_outside, blank_next, is_resting, Since, since_then};
+ghost use Rattle.utd_lexer.specs.Cutting.{next, is_outside, is_between, blank_next, is_resting, Since, since_then};
 
 use crate::space::is_space;
 
@@ -17,7 +17,7 @@ pub enum Cut {
 // Where the bytes so far end: between parts, behind a `/`, in a text, in a `/*` comment, there behind a
 // `*`, or in a `//` comment.
 #[derive(Clone, Copy, Debug, PartialEq, Eq)]
-enum Mode {
+pub(crate) enum Mode {
     Between,
     Slash,
     Text,
@@ -33,8 +33,14 @@ impl Mode {
         matches!(self, Mode::Between | Mode::Line)
     }
 
+    pub(crate) fn is_between(self) -> bool
+        ensures { result ≡ is_between self }
+    {
+        matches!(self, Mode::Between)
+    }
+
     // Whether the bytes can still be blank with this one.
-    fn blank_next(self, blank: bool, byte: u8) -> bool
+    pub(crate) fn blank_next(self, blank: bool, byte: u8) -> bool
         ensures { result ≡ blank_next self blank byte }
     {
         match self {
@@ -50,7 +56,7 @@ impl Mode {
         matches!(self, Mode::Between | Mode::Slash)
     }
 
-    fn next(self, byte: u8) -> Mode
+    pub(crate) fn next(self, byte: u8) -> Mode
         ensures { result ≡ next self byte }
     {
         match self {
