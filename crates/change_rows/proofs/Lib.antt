@@ -4,7 +4,7 @@ pub mod InsertionLemmas
 pub mod LabelLemmas
 pub mod PartLemmas
 pub mod PlaceLemmas
-pub mod PrefixLemmas
 pub mod ReplacementLemmas
+pub mod RequirementLemmas
 pub mod RowFilterLemmas
 pub mod TwiceLemmas

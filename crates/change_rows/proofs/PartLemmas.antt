@@ -163,12 +163,10 @@ both_typed commalist heading place c d (Some e) same t u =
 
 -- ---- a pass over rows
 
-pub stays_more : (g : Expr) (rows : List Row) (i : ℕ) (row : Row) (s : Bool) (old new : List Row) → i < length rows → row ≡ get_or rows i row → s ≡ stays (condition g row)
-    → old ≡ filter (λ x. stays (condition g x)) (take i rows) → new ≡ old ++ (if s then row ∷ [] else []) → new ≡ filter (λ x. stays (condition g x)) (take (i + 1) rows)
-stays_more g rows i row s old new l at same so_far is =
+pub stays_more : (g : Expr) (rows : List Row) (i : ℕ) (row : Row) (old new : List Row) → i < length rows → row ≡ get_or rows i row → old ≡ filter (λ x. stays (condition g x)) (take i rows)
+    → new ≡ old ++ (if stays (condition g row) then row ∷ [] else []) → new ≡ filter (λ x. stays (condition g x)) (take (i + 1) rows)
+stays_more g rows i row old new l at so_far is =
     let p : Row → Bool = λ x. stays (condition g x) in
-    let prefix : List Row = filter p (take i rows) in
     is
-    ∙ (ap (λ (b : List Row). b ++ (if s then row ∷ [] else [])) so_far
-    ∙ (ap (λ (k : Bool). prefix ++ (if k then row ∷ [] else [])) same
-    ∙ (ap (λ (z : Row). prefix ++ (if p z then z ∷ [] else [])) at ∙ sym (filter_more p rows i row l))))
+    ∙ (ap (λ (b : List Row). b ++ (if p row then row ∷ [] else [])) so_far
+    ∙ (ap (λ (z : Row). filter p (take i rows) ++ (if p z then z ∷ [] else [])) at ∙ sym (filter_more p rows i row l)))

@@ -1,4 +1,4 @@
 pub mod Affected
 pub mod Exchanges
-pub mod Prefixes
+pub mod Requirements
 pub mod RowFilters

@@ -4,8 +4,8 @@
 mod exchange;
 mod finding;
 mod insertion;
-mod prefixes;
 mod replacement;
+mod requirements;
 mod row_filters;
 mod safety;
 mod telling;
