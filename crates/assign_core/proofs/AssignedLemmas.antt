@@ -51,7 +51,7 @@ each_of P (x ∷ xs) h =
 
 -- ---- what is admitted
 
-abbrev IsFine : Entries → Type 0
+abbrev pub IsFine : Entries → Type 0
 IsFine new = (rows_of_all new ≤ most_rows_in_all) × (first_broken new ≡ None)
 
 unless_known : (n new : Entries) (o : Option Refuse) → first_broken n ≡ o → rows_of_all n ≤ most_rows_in_all → unless_broken n o ≡ Ok new → IsFine new
@@ -62,7 +62,7 @@ few_known : (n new : Entries) (t : Bool) → nat_le (rows_of_all n) most_rows_in
 few_known n new false q e = absurd (cc)
 few_known n new true q e = let few : rows_of_all n ≤ most_rows_in_all = grind (arith, nat_tests) in unless_known n new (first_broken n) refl few e
 
-is_fine : (r : OrFault Entries) (new : Entries) → of_values r ≡ Ok new → IsFine new
+pub is_fine : (r : OrFault Entries) (new : Entries) → of_values r ≡ Ok new → IsFine new
 is_fine (Err f) new e = absurd (cc)
 is_fine (Ok n) new e = few_known n new (nat_le (rows_of_all n) most_rows_in_all) refl e
 

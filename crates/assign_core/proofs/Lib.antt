@@ -1,5 +1,6 @@
 pub mod AdditionLemmas
 pub mod AssignedLemmas
+pub mod BroughtLemmas
 pub mod ChangeLemmas
 pub mod CheckLemmas
 pub mod CostLemmas
@@ -13,6 +14,7 @@ pub mod HashedLemmas
 pub mod InsertionLemmas
 pub mod LeaningLemmas
 pub mod NameLemmas
+pub mod NewRowLemmas
 pub mod PackingLemmas
 pub mod PlainLemmas
 pub mod PlainRenewalLemmas

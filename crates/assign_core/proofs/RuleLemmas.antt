@@ -104,7 +104,7 @@ module _ (es : Entries) where
 
 -- ---- what assignments come to
 
-broken_told : (refuse : Refuse) (new : Entries) (o : Option Refuse) → Tells (Err refuse) o → IsRefusedFor refuse (unless_broken new o)
+pub broken_told : (refuse : Refuse) (new : Entries) (o : Option Refuse) → Tells (Err refuse) o → IsRefusedFor refuse (unless_broken new o)
 broken_told (Plain code) new o told = absurd told
 broken_told (At fault) new o told = absurd told
 broken_told (Broken code relvar number) new o told = ap (unless_broken new) told

@@ -1,3 +1,4 @@
+pub mod Arrivals
 pub mod Assignments
 pub mod Breaches
 pub mod Changes
@@ -9,6 +10,7 @@ pub mod Hashed
 pub mod Turnovers
 pub mod Insertions
 pub mod Leanings
+pub mod NewRows
 pub mod Parts
 pub mod PlainChanges
 pub mod Portions

@@ -163,8 +163,8 @@ fn new_rows(alloc: Global, addition: Addition<'_>) -> Result<Exchange, Refuse>
     Ok(Exchange { come, gone })
 }
 
-// No rows, under the heading of a relation.
-fn no_rows(alloc: Global, value: &Relation) -> Result<Relation, Memory>
+/// No rows, under the heading of a relation.
+pub(crate) fn no_rows(alloc: Global, value: &Relation) -> Result<Relation, Memory>
     ensures { IfOk result (λ r. r ≡ record { heading = value.now.heading; rows = [] }) }
 {
     let heading = value.heading().copy(alloc)?;
@@ -172,8 +172,8 @@ fn no_rows(alloc: Global, value: &Relation) -> Result<Relation, Memory>
     Ok(none)
 }
 
-// Refuses too many rows of all relvars, and then a broken constraint.
-fn admit_turnover<L: Ledger>(
+/// Refuses too many rows of all relvars, and then a broken constraint.
+pub(crate) fn admit_turnover<L: Ledger>(
     alloc: Global,
     turnover: Turnover<'_>,
     none: &[Option<Relation>],

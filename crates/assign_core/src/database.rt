@@ -1,8 +1,11 @@
 // The database.
-ghost use Rattle.std.specs.Prelude.{◌≡◌, ◌≤◌, ◌+◌, map, take, OnOk, OnErr, IsOk};
+ghost use Rattle.std.specs.Prelude.{◌≡◌, ◌≤◌, ◌+◌, List, Some, map, take, OnOk, OnErr, IsOk};
 ghost use Rattle.std.specs.List.{All};
+ghost use Rattle.point_core.specs.declared.fault.Place.{Place};
+ghost use Rattle.value_core.specs.declared.constraint.Constraint.{Constraint};
+ghost use Rattle.value_core.specs.Values.{rows_of, Relation as PlainRelation, Row as PlainRow};
 ghost use Rattle.tree_core.specs.Items.{read_assignment};
-ghost use Rattle.tree_core.specs.Relvars.{read_relvars};
+ghost use Rattle.tree_core.specs.Relvars.{base, read_relvars, relvar_named};
 ghost use Rattle.tree_core.specs.Trees.{read_test};
 ghost use Rattle.meaning_core.specs.Declarations.{read_declaration, with_rule, without_group, without_rule};
 ghost use Rattle.meaning_core.specs.WellMade.{IsWellMade};
@@ -11,11 +14,13 @@ ghost use Rattle.algebra_core.specs.Costs.{test_cost};
 ghost use Rattle.assign_core.specs.Assignments.{constrained, IsAssigned, IsDone};
 ghost use Rattle.assign_core.specs.Costs.{cost_of_assignments};
 ghost use Rattle.assign_core.specs.Databases.{no_relvars, declared, IsKept};
+ghost use Rattle.assign_core.specs.NewRows.{brought_cost, brought_in, IsBrought, IsFoundIf, StaysUnless, TakesNoneIf};
 
 use crate::appending::append_all;
 use crate::dropping::drop_group;
 use crate::filling::fill;
 use crate::hashed::{Hashed, no_hashes};
+use crate::new_rows::bring;
 use crate::preparing::prepare;
 use crate::rules::add_rule;
 use crate::settling::settle;
@@ -25,7 +30,7 @@ use std::alloc::Global;
 use std::marker::Model;
 use std::sync::ledger::Ledger;
 use tree_core::{Assignment, Declaration, RelTest, Relvars};
-use value_core::{Name, OrdinalTypes, Refuse};
+use value_core::{Name, OrdinalTypes, Refuse, Relation};
 
 /// The ordinal types, relvars and views, and the database constraints. They are well made, each constraint of a relvar and each database
 /// constraint holds, and the base relvars have at most 200,000 rows together.
@@ -123,6 +128,38 @@ impl Database {
             ),
             Err(refuse) => Err(refuse),
         }
+    }
+
+    /// Adds the rows to the base relvar of this name, or puts them in place of its rows; or refuses and changes nothing.
+    ///
+    /// It is `Ok(false)`, with nothing changed and no step taken, where no base relvar of this name has the rows' heading, and where it
+    /// would have more than 100,000 rows.
+    pub fn put_rows<L: Ledger>(
+        &mut self,
+        target: &Name,
+        sets: bool,
+        rows: Relation,
+        steps: &mut Steps<L>,
+    ) -> Result<bool, Refuse>
+        ensures brought { (old : PlainRelation) (constraints : List Constraint) (at there : Place) (given : List PlainRow)
+            → relvar_named (read_relvars self.old).relvars target.now ≡ Some (base old constraints) → rows.heading ≡ old.heading → rows.rows ≡ rows_of given
+            → IsBrought result (read_relvars self.old) (read_relvars self.new) (brought_in (read_relvars self.old) sets at there target.now old given) }
+        ensures found { IsFoundIf result (read_relvars self.old) target.now rows.heading steps.old steps.new }
+        ensures stays { StaysUnless result (read_relvars self.old) (read_relvars self.new) }
+        ensures none { TakesNoneIf result steps.old steps.new }
+        ensures cost { (old : PlainRelation) (constraints : List Constraint) (at there : Place) (given : List PlainRow)
+            → relvar_named (read_relvars self.old).relvars target.now ≡ Some (base old constraints) → rows.heading ≡ old.heading → rows.rows ≡ rows_of given
+            → steps.new ≤ steps.old + brought_cost (read_relvars self.old) sets at there target.now old given }
+    {
+        bring(
+            self.alloc,
+            &mut self.relvars,
+            &mut self.hashed,
+            target,
+            sets,
+            rows,
+            steps,
+        )
     }
 
     /// Removes the relvar or view of this name, and with the view of a history its two relvars. The others keep their order.

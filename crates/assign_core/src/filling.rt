@@ -34,8 +34,8 @@ pub(crate) fn fill(
     fill_target(alloc, &assignment.target, relvars, hashed)
 }
 
-// Hashes the rows of the relvar of the name, if it has hashes.
-fn fill_target(
+/// Hashes the rows of the relvar of the name, if it has hashes.
+pub(crate) fn fill_target(
     alloc: Global,
     target: &Name,
     relvars: &Relvars,

@@ -16,6 +16,7 @@ mod finding;
 mod hashed;
 mod insertion;
 mod marking;
+mod new_rows;
 mod packing;
 mod plain;
 mod plain_rows;

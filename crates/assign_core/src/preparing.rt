@@ -292,8 +292,8 @@ fn prepare_values<L: Ledger>(
     Ok(changes)
 }
 
-// Refuses too many rows, and then a broken constraint.
-fn admit<L: Ledger>(
+/// Refuses too many rows, and then a broken constraint.
+pub(crate) fn admit<L: Ledger>(
     alloc: Global,
     relvars: &Relvars,
     changes: &[Option<Relation>],

@@ -312,8 +312,8 @@ fn named<'a>(relvars: &'a Relvars, constraint: &Constraint) -> Option<&'a Relati
     }
 }
 
-// The value of the base relvar of this name, if there is one.
-fn value_named<'a>(relvars: &'a Relvars, name: &Name) -> Option<&'a Relation>
+/// The value of the base relvar of this name, if there is one.
+pub(crate) fn value_named<'a>(relvars: &'a Relvars, name: &Name) -> Option<&'a Relation>
     ensures { option_map (λ v. v.now) result ≡ value_if (relvar_named (read_relvars relvars.now).relvars name.now) }
 {
     match relvars.list.get_full(name) {
