@@ -1,0 +1,4 @@
+pub mod DraftLemmas
+pub mod InsertLemmas
+pub mod ListedLemmas
+pub mod ScriptLemmas

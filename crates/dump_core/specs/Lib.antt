@@ -1,0 +1,5 @@
+pub mod Drafts
+pub mod Dumps
+pub mod Inserts
+pub mod Texts
+pub mod Values
