@@ -1,0 +1,9 @@
+pub mod WrittenPoints
+pub mod TypedScalars
+pub mod TypedTuples
+pub mod TypedInsertions
+pub mod CheckedInsertions
+pub mod MeantInsertions
+pub mod TokenSteps
+pub mod WholeScalars
+pub mod WholeInsertions
