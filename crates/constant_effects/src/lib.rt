@@ -1,0 +1,2 @@
+//! What statements that insert constants make of a database: lemmas alone.
+#![tactic(auto)]
