@@ -1,0 +1,10 @@
+use Rattle.std.proofs.Common.{sym, ap, ◌∙◌}
+use Rattle.plain_rows.specs.Lexemes.{ends_before, continues_word}
+use Rattle.plain_rows.proofs.WordLemmas.{ends-nothing}
+use Rattle.plain_rows.proofs.scan.ends_word.Goals as goal
+
+pub returns-in-None : goal.returns-in-None
+returns-in-None c = sym (ends-nothing continues_word c.args.rest.now c.in-None.ensures.cases)
+
+pub returns-in-Some : goal.returns-in-Some
+returns-in-Some c = c.is_stopping.ensures ∙ ap (ends_before continues_word) (sym c.in-Some.ensures.cases.0)

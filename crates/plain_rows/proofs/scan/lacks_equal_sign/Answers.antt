@@ -1,0 +1,10 @@
+use Rattle.std.proofs.Common.{sym, ap, ◌∙◌}
+use Rattle.plain_rows.specs.Lexemes.{ends_before, is_equal_sign}
+use Rattle.plain_rows.proofs.WordLemmas.{ends-nothing}
+use Rattle.plain_rows.proofs.scan.lacks_equal_sign.Goals as goal
+
+pub returns-in-None : goal.returns-in-None
+returns-in-None c = sym (ends-nothing is_equal_sign c.args.rest.now c.in-None.ensures.cases)
+
+pub returns-in-Some : goal.returns-in-Some
+returns-in-Some c = c.is_no_equal_sign.ensures ∙ ap (ends_before is_equal_sign) (sym c.in-Some.ensures.cases.0)

@@ -1,0 +1,7 @@
+pub mod Brought
+pub mod Lexemes
+pub mod Names
+pub mod Numbers
+pub mod Texts
+pub mod Tuples
+pub mod Written

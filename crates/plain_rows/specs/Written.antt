@@ -1,0 +1,133 @@
+-- The tokens that constants are written as.
+--     IsInteger n ls      the tokens write the integer
+--     IsPoint t n ls, IsInterval t i ls      the tokens write the point that has the number, and the interval
+--     IsConstant k v ls      the tokens write the value, which is of this kind
+--     BeginsWithText, BeginsWithInteger, BeginsWithDate, BeginsWithMoment, BeginsWithPoint,
+--     BeginsWithInterval, BeginsWithConstant      the bytes begin with the tokens of this one
+use Rattle.std.specs.Prelude.{◌≡◌, ◌⊎◌, ℕ, ℤ, List, [], ◌∷◌, ◌++◌, Bool, true, false, Some, Ok}
+use Rattle.std.specs.Str.{IsUtf8}
+use Rattle.utd_syntax.specs.Literals.{has_control}
+use Rattle.utd_lexer.specs.declared.token.TokenKind.TheVariants.{Word, Integer, Text, Symbol}
+use Rattle.scalar_typing.specs.Literals.{integer_of, negative_of, date_of, moment_of}
+use Rattle.point_core.specs.declared.any_type.AnyType.{AnyType}
+use Rattle.point_core.specs.declared.any_type.AnyType.TheVariants as types
+use Rattle.point_core.specs.Points.{first_of, last_of}
+use Rattle.interval_core.specs.declared.selector.Ends.{Ends}
+use Rattle.interval_core.specs.declared.selector.Ends.TheVariants as ends
+use Rattle.interval_core.specs.Members.{Span}
+use Rattle.interval_core.specs.Selector.{selected}
+use Rattle.point_core.specs.Points.{line_of}
+use Rattle.value_core.specs.declared.kind.Kind.{Kind}
+use Rattle.value_core.specs.declared.kind.Kind.TheVariants as kinds
+use Rattle.value_core.specs.Lengths.{IsTextLength}
+use Rattle.value_core.specs.Values.{Value, truth, text, point, interval}
+use Rattle.plain_rows.specs.Lexemes.{Lexeme, Begins}
+
+-- a `-`, and the words DATE and MOMENT
+abbrev pub dash : Lexeme
+dash = (Symbol, 45 ∷ [])
+
+abbrev pub date_word : Lexeme
+date_word = (Word, 68 ∷ 65 ∷ 84 ∷ 69 ∷ [])
+
+abbrev pub moment_word : Lexeme
+moment_word = (Word, 77 ∷ 79 ∷ 77 ∷ 69 ∷ 78 ∷ 84 ∷ [])
+
+-- digits, or a `-` and digits
+abbrev pub IsInteger : ℤ → List Lexeme → Type 0
+IsInteger n ls =
+    ((digits : List ℕ) × (ls ≡ (Integer, digits) ∷ []) × (integer_of digits ≡ Some n))
+    ⊎ ((digits : List ℕ) × (ls ≡ dash ∷ (Integer, digits) ∷ []) × (negative_of digits ≡ Some n))
+
+pub record BeginsWithInteger (bytes : List ℕ) (n : ℤ) (rest : List ℕ) : Type 0 where
+  pub lexemes : List Lexeme
+  pub begins : Begins bytes lexemes rest
+  pub written : IsInteger n lexemes
+
+-- a text without control characters
+pub record BeginsWithText (bytes text rest : List ℕ) : Type 0 where
+  pub begins : Begins bytes ((Text, text) ∷ []) rest
+  pub utf8 : IsUtf8 text
+  pub printed : has_control text ≡ false
+
+-- DATE and the text of a day
+pub record BeginsWithDate (bytes : List ℕ) (n : ℤ) (rest : List ℕ) : Type 0 where
+  pub text : List ℕ
+  pub begins : Begins bytes (date_word ∷ (Text, text) ∷ []) rest
+  pub written : date_of text ≡ Some n
+
+-- MOMENT and the text of a second of a day
+pub record BeginsWithMoment (bytes : List ℕ) (n : ℤ) (rest : List ℕ) : Type 0 where
+  pub text : List ℕ
+  pub begins : Begins bytes (moment_word ∷ (Text, text) ∷ []) rest
+  pub written : moment_of text ≡ Some n
+
+-- ---- points
+
+abbrev pub IsPoint : AnyType → ℤ → List Lexeme → Type 0
+IsPoint types.Integer n ls = IsInteger n ls
+IsPoint types.Date n ls = (text : List ℕ) × (ls ≡ date_word ∷ (Text, text) ∷ []) × (date_of text ≡ Some n)
+IsPoint types.Moment n ls = (text : List ℕ) × (ls ≡ moment_word ∷ (Text, text) ∷ []) × (moment_of text ≡ Some n)
+IsPoint (types.Ordinal of last) n ls = ⊥
+
+pub record BeginsWithPoint (bytes : List ℕ) (t : AnyType) (n : ℤ) (rest : List ℕ) : Type 0 where
+  pub lexemes : List Lexeme
+  pub begins : Begins bytes lexemes rest
+  pub written : IsPoint t n lexemes
+
+-- ---- intervals
+
+-- the brackets, each of which takes its point in or leaves it out
+abbrev pub opening : Bool → Lexeme
+opening true = (Symbol, 91 ∷ [])
+opening false = (Symbol, 40 ∷ [])
+
+abbrev pub closing : Bool → Lexeme
+closing true = (Symbol, 93 ∷ [])
+closing false = (Symbol, 41 ∷ [])
+
+abbrev pub brackets_of : Bool → Bool → Ends
+brackets_of true true = ends.Closed
+brackets_of true false = ends.ClosedOpen
+brackets_of false true = ends.OpenClosed
+brackets_of false false = ends.Open
+
+abbrev pub colon : Lexeme
+colon = (Symbol, 58 ∷ [])
+
+-- two points of the type between brackets, and the interval has members
+pub record IsInterval (t : AnyType) (i : Span) (ls : List Lexeme) : Type 0 where
+  pub begin : Bool
+  pub end : Bool
+  pub from : ℤ
+  pub to : ℤ
+  pub first : List Lexeme
+  pub second : List Lexeme
+  pub spelled : ls ≡ (opening begin ∷ []) ++ (first ++ ((colon ∷ []) ++ (second ++ closing end ∷ [])))
+  pub begins_at : IsPoint t from first
+  pub ends_at : IsPoint t to second
+  pub selects : selected (first_of t) (last_of t) (brackets_of begin end) from to ≡ Ok i
+
+pub record BeginsWithInterval (bytes : List ℕ) (t : AnyType) (i : Span) (rest : List ℕ) : Type 0 where
+  pub lexemes : List Lexeme
+  pub begins : Begins bytes lexemes rest
+  pub written : IsInterval t i lexemes
+
+-- ---- constants
+
+-- TRUE and FALSE
+abbrev pub truth_word : Bool → Lexeme
+truth_word true = (Word, 84 ∷ 82 ∷ 85 ∷ 69 ∷ [])
+truth_word false = (Word, 70 ∷ 65 ∷ 76 ∷ 83 ∷ 69 ∷ [])
+
+abbrev pub IsConstant : Kind → Value → List Lexeme → Type 0
+IsConstant kinds.Truth (truth b) ls = ls ≡ truth_word b ∷ []
+IsConstant kinds.Char (text bytes) ls = (ls ≡ (Text, bytes) ∷ []) × IsUtf8 bytes × IsTextLength bytes × (has_control bytes ≡ false)
+IsConstant (kinds.Point t) (point l n) ls = (l ≡ line_of t) × IsPoint t n ls
+IsConstant (kinds.Span t) (interval l i) ls = (l ≡ line_of t) × IsInterval t i ls
+IsConstant _ _ _ = ⊥
+
+pub record BeginsWithConstant (bytes : List ℕ) (k : Kind) (v : Value) (rest : List ℕ) : Type 0 where
+  pub lexemes : List Lexeme
+  pub begins : Begins bytes lexemes rest
+  pub written : IsConstant k v lexemes

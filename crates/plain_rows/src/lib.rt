@@ -1,0 +1,19 @@
+//! The statement that brings data, from its bytes to rows in one walk: an insertion or a setting of a relvar by tuples of constants.
+#![tactic(auto)]
+
+mod arranged;
+mod columns;
+mod constants;
+mod dates;
+mod doubled;
+mod headings;
+mod numbers;
+mod points;
+mod quoted;
+mod rows;
+mod scan;
+mod spans;
+mod statement;
+mod tuples;
+
+pub use statement::{PlainRows, read};
