@@ -1,7 +1,8 @@
--- The value of the option, in what a parse found.
-use Rattle.std.proofs.Common.{◌≡◌, ◌⊎◌, ◌∙◌, ◌<◌, ap, ℕ, true, false, List, [], ◌∷◌, length, map, Option, Some, None, refl, sym, subst, inl, inr, arith, codes, slice_index}
+-- The values of the option and of the flag, in what a parse found.
+use Rattle.std.proofs.Common.{◌≡◌, ◌⊎◌, ◌∙◌, ◌<◌, ap, ℕ, zero, suc, Bool, true, false, List, [], ◌∷◌, length, map, Option, Some, None, refl, sym, subst, inl, inr, arith, codes, slice_index}
 use Rattle.std.specs.List.{All, slice_index_or}
 use Rattle.std.specs.Str.{bytes_eq}
+use Rattle.std.specs.Str.Parse.{ParsesBool}
 use Rattle.std.specs.Prelude.{option_map, slice_get, unwrap_or}
 use Rattle.std.specs.Borrow.{Bor}
 use Rattle.std.proofs.lemmas.Bool.Decides.{nat_tests}
@@ -10,7 +11,7 @@ use Rattle.std.proofs.lemmas.Slice.Eq.{bytes_eq-Decides}
 use Rattle.std.proofs.lemmas.List.Elements.{All-get_or, All-nil, All-push}
 use Rattle.clap.specs.Facts.{args_of, groups_of, Entry, EntryPasses, PassesArg, HasReading, parser_of, parser_of_value}
 use Rattle.clap.specs.Built.{IsPlain, IsPlainArg, IsParsedFrom}
-use Rattle.clap.specs.Matches.{matched_of, one_text, found_of}
+use Rattle.clap.specs.Matches.{matched_of, one_text, found_of, ReadsOne}
 use Rattle.clap.specs.Values.{Accepts, IsUnsignedIn, read_as, reading_of, kind_of}
 use Rattle.clap.specs.declared.error.Error.{Error}
 use Rattle.clap.specs.declared.error.kind.ErrorKind.TheVariants.{OutOfMemory}
@@ -31,44 +32,51 @@ use Rattle.clap.specs.declared.builder.value_parser.Reading.TheVariants.{AsWritt
 use Rattle.clap.specs.declared.parser.matches.ArgMatches.{ArgMatches}
 use Rattle.clap.specs.declared.parser.matches.MatchedArg.{MatchedArg}
 use Rattle.utd_gen.specs.Script.{most_tuples}
-use Rattle.std.proofs.lemmas.Bool.{and_parts, not-true}
+use Rattle.std.proofs.lemmas.Bool.{and_parts, false_from_ne_true, not-true}
 use Rattle.utd_words.specs.declared.words.Script.{Script}
 use Rattle.utd_words.specs.declared.words.Script.TheVariants.{OfInput, Generated}
-use Rattle.utd_words.specs.Words.{generate, generate_option, utd_command, number_in, script_by, generate_value, unless_fault, asked, IsInRange}
+use Rattle.utd_words.specs.declared.words.Asked.TheVariants.{Answers, Dump}
+use Rattle.utd_words.specs.Words.{generate, dump, generate_option, dump_flag, utd_command, number_in, script_by, generate_value, dump_value, is_true, asked_by, unless_fault, asked, IsScript, IsInRange}
 
--- ---- the one argument of the command
+-- ---- the arguments of the command
 
 nothing : {X : Type 0} (xs : List X) → is_empty xs ≡ true → xs ≡ []
 nothing xs e =
     let none : length xs ≡ 0 = grind (arith, nat_tests) in
     nil_from_length xs none
 
--- a list that a function makes one of has one
-only_one : {X Y : Type 0} (f : X → Y) (xs : List X) (y : Y) → map f xs ≡ y ∷ [] → (x : X) × (xs ≡ x ∷ []) × (f x ≡ y)
-only_one f [] y e = cc
-only_one f (x ∷ []) y e = (x, refl, ap (λ zs. slice_index_or zs 0 y) e)
-only_one f (x ∷ z ∷ xs) y e =
-    let count : length (map f (x ∷ z ∷ xs)) ≡ 1 = ap length e in
+-- a list that a function makes two of has two
+only_two : {X Y : Type 0} (f : X → Y) (xs : List X) (y z : Y) → map f xs ≡ y ∷ z ∷ []
+    → (a : X) × (b : X) × (xs ≡ a ∷ b ∷ []) × (f a ≡ y) × (f b ≡ z)
+only_two f [] y z e = cc
+only_two f (a ∷ []) y z e =
+    let count : length (map f (a ∷ [])) ≡ 2 = ap length e in
+    absurd (omega arith)
+only_two f (a ∷ b ∷ []) y z e = (a, b, refl, ap (λ ws. slice_index_or ws 0 y) e, ap (λ ws. slice_index_or ws 1 z) e)
+only_two f (a ∷ b ∷ x ∷ xs) y z e =
+    let count : length (map f (a ∷ b ∷ x ∷ xs)) ≡ 2 = ap length e in
     absurd (omega arith)
 
--- an argument with the rules of the option, and no other
-record HasOption (c : Command) : Type 0 where
-  arg : Arg
-  args : args_of c ≡ arg ∷ []
-  rule : rule_of arg ≡ generate_option
+-- an argument with the rules of the option and one with those of the flag, and no other
+record HasArguments (c : Command) : Type 0 where
+  option : Arg
+  flag : Arg
+  args : args_of c ≡ option ∷ flag ∷ []
+  option_rule : rule_of option ≡ generate_option
+  flag_rule : rule_of flag ≡ dump_flag
 
-option_of : (c : Command) → app_of c ≡ utd_command → HasOption c
-option_of c is =
-    let one = only_one rule_of (args_of c) generate_option (ap (λ (a : App). a.top.rules) is) in
-    record { arg = one.0; args = one.1; rule = one.2 }
+arguments_of : (c : Command) → app_of c ≡ utd_command → HasArguments c
+arguments_of c is =
+    let two = only_two rule_of (args_of c) generate_option dump_flag (ap (λ (a : App). a.top.rules) is) in
+    record { option = two.0; flag = two.1; args = two.2; option_rule = two.3; flag_rule = two.4 }
 
-plain_option : (a : Arg) → rule_of a ≡ generate_option → IsPlainArg a
-plain_option a is =
-    let simple = ap (λ (r : Rule). r.is_simple) is in
+plain_arg : (a : Arg) (r : Rule) → rule_of a ≡ r → r.is_simple ≡ true → r.is_free ≡ true → IsPlainArg a
+plain_arg a r is s f =
+    let simple = ap (λ (q : Rule). q.is_simple) is ∙ s in
     let s0 = and_parts _ _ simple in
     let s1 = and_parts _ _ s0.1 in
     let s2 = and_parts _ _ s1.1 in
-    let free = ap (λ (r : Rule). r.is_free) is in
+    let free = ap (λ (q : Rule). q.is_free) is ∙ f in
     let f0 = and_parts _ _ free in
     let f1 = and_parts _ _ f0.1 in
     (not-true a.exclusive f0.0, nothing a.conflicts.items f1.0, nothing a.overrides.items s0.0, nothing a.groups.items s2.0)
@@ -79,16 +87,18 @@ record IsBare (c : Command) : Type 0 where
 
 bare : (c : Command) → app_of c ≡ utd_command → IsBare c
 bare c is =
-    let o = option_of c is in
+    let o = arguments_of c is in
     let f0 = and_parts _ _ (ap (λ (a : App). a.top.is_plain) is) in
     let f1 = and_parts _ _ f0.1 in
     let f2 = and_parts _ _ f1.1 in
+    let one : All IsPlainArg (o.option ∷ []) = All-push IsPlainArg [] o.option (All-nil IsPlainArg) (plain_arg o.option generate_option o.option_rule refl refl) in
+    let both : All IsPlainArg (o.option ∷ o.flag ∷ []) = All-push IsPlainArg (o.option ∷ []) o.flag one (plain_arg o.flag dump_flag o.flag_rule refl refl) in
     record {
-      plain = (subst (All IsPlainArg) (sym o.args) (All-push IsPlainArg [] o.arg (All-nil IsPlainArg) (plain_option o.arg o.rule)), nothing (groups_of c) f0.0);
+      plain = (subst (All IsPlainArg) (sym o.args) both, nothing (groups_of c) f0.0);
       globals = not-true (out-Command c).has_globals f2.0;
     }
 
--- ---- the argument of the command as it was built
+-- ---- the option of the command as it was built
 
 not_auto : (t : List ℕ) → t ≡ generate → (t ≡ codes "help") ⊎ (t ≡ codes "version") → ⊥
 not_auto t is (inl e) =
@@ -98,17 +108,34 @@ not_auto t is (inr e) =
     let bad : ◌≡◌ {A = ℕ} 103 118 = ap (λ (w : List ℕ). slice_index w 0) (sym is ∙ e) in
     absurd (omega arith)
 
+-- no other argument has the id of the option
+alone : (xs : List Arg) (a b y : Arg) → xs ≡ a ∷ b ∷ [] → a.id.now ≡ generate → b.id.now ≡ dump
+    → (i : ℕ) (e : Arg) → i < length xs → bytes_eq (slice_index_or xs i e).id.now (slice_index_or xs 0 y).id.now ≡ true → i ≡ 0
+alone xs a b y is option flag zero e low same = refl
+alone xs a b y is option flag (suc zero) e low same =
+    let second : slice_index_or xs 1 e ≡ b = ap (λ (ys : List Arg). slice_index_or ys 1 e) is in
+    let first : slice_index_or xs 0 y ≡ a = ap (λ (ys : List Arg). slice_index_or ys 0 y) is in
+    let ids : (slice_index_or xs 1 e).id.now ≡ (slice_index_or xs 0 y).id.now = (bytes_eq-Decides _ _).0 same in
+    let both : dump ≡ generate = sym (ap (λ (x : Arg). x.id.now) second ∙ flag) ∙ ids ∙ ap (λ (x : Arg). x.id.now) first ∙ option in
+    let bad : ◌≡◌ {A = ℕ} 100 103 = ap (λ (w : List ℕ). slice_index w 0) both in
+    absurd (omega arith)
+alone xs a b y is option flag (suc (suc n)) e low same =
+    let count : length xs ≡ 2 = ap length is in
+    absurd (omega arith)
+
 -- an argument of that id has the parser of the option
 parser_is : (c : Command) (m : ArgMatches) (p : IsParsedFrom c m) → app_of c ≡ utd_command
     → (j : ℕ) (y : Arg) → j < length (args_of p.built) → slice_index_or (args_of p.built) j y ≡ y → bytes_eq y.id.now generate ≡ true
     → parser_of y ≡ Unsigned 1 most_tuples
 parser_is c m p is j y within at same =
-    let o = option_of c is in
-    let first : slice_index_or (args_of c) 0 y ≡ o.arg = ap (λ (xs : List Arg). slice_index_or xs 0 y) o.args in
-    let id : (slice_index_or (args_of c) 0 y).id.now ≡ generate = ap (λ (a : Arg). a.id.now) first ∙ ap (λ (r : Rule). r.id) o.rule in
-    let parser : (slice_index_or (args_of c) 0 y).value_parser ≡ Some (Unsigned 1 most_tuples) = ap (λ (a : Arg). a.value_parser) first ∙ ap (λ (r : Rule). r.parser) o.rule in
-    let count : length (args_of c) ≡ 1 = ap length o.args in
-    let rules = same_rules_by_id c m p 0 y (omega arith) (λ i e low _. omega arith) (not_auto _ id) j y within at
+    let o = arguments_of c is in
+    let first : slice_index_or (args_of c) 0 y ≡ o.option = ap (λ (xs : List Arg). slice_index_or xs 0 y) o.args in
+    let option : o.option.id.now ≡ generate = ap (λ (r : Rule). r.id) o.option_rule in
+    let flag : o.flag.id.now ≡ dump = ap (λ (r : Rule). r.id) o.flag_rule in
+    let id : (slice_index_or (args_of c) 0 y).id.now ≡ generate = ap (λ (a : Arg). a.id.now) first ∙ option in
+    let parser : (slice_index_or (args_of c) 0 y).value_parser ≡ Some (Unsigned 1 most_tuples) = ap (λ (a : Arg). a.value_parser) first ∙ ap (λ (r : Rule). r.parser) o.option_rule in
+    let count : length (args_of c) ≡ 2 = ap length o.args in
+    let rules = same_rules_by_id c m p 0 y (omega arith) (alone (args_of c) o.option o.flag y o.args option flag) (not_auto _ id) j y within at
     (subst (λ (w : List ℕ). bytes_eq y.id.now w ≡ true) (sym id) same) in
     ap parser_of_value (rules.parser (Unsigned 1 most_tuples) parser)
 
@@ -179,23 +206,47 @@ free = refl
 pub script_is : (value : Option (List ℕ)) (script : Script) → (value ≡ None → script ≡ OfInput)
     → ((text : List ℕ) → value ≡ Some text → IsUnsignedIn 1 most_tuples text → script ≡ Generated (number_in text))
     → ((text : List ℕ) → value ≡ Some text → IsUnsignedIn 1 most_tuples text)
-    → (script ≡ script_by value) × IsInRange (Some script)
+    → (script ≡ script_by value) × IsScript script
 script_is None script none some range =
     let is : script ≡ OfInput = none refl in
-    (is, subst (λ s. IsInRange (Some s)) (sym is) tt)
+    (is, subst IsScript (sym is) tt)
 script_is (Some text) script none some range =
     let is : script ≡ Generated (number_in text) = some text refl (range text refl) in
-    (is, subst (λ s. IsInRange (Some s)) (sym is) ((range text refl).2, (range text refl).3))
+    (is, subst IsScript (sym is) ((range text refl).2, (range text refl).3))
 
-pub taken : (c : Command) (m : ArgMatches) (words : List (List ℕ)) (script : Script) → app_of c ≡ utd_command
+-- the flag by the value that is read
+pub flag_is : (E : Type 0) (value : Option (List ℕ)) (flag : Option Bool) → (value ≡ None → flag ≡ None)
+    → ((text : List ℕ) → value ≡ Some text → ReadsOne {T = Bool} {E = E} ParsesBool text flag)
+    → unwrap_or flag false ≡ is_true value
+flag_is E None flag none some =
+    let is : flag ≡ None = none refl in
+    ap (λ (o : Option Bool). unwrap_or o false) is
+flag_is E (Some text) None none some =
+    let not_true = (some text refl).1.0 in
+    sym (false_from_ne_true (bytes_eq text (codes "true")) (λ e. not_true ((bytes_eq-Decides text (codes "true")).0 e)))
+flag_is E (Some text) (Some true) none some =
+    let is : text ≡ codes "true" = some text refl in
+    sym ((bytes_eq-Decides text (codes "true")).1 is)
+flag_is E (Some text) (Some false) none some =
+    let is : text ≡ codes "false" = some text refl in
+    let other : bytes_eq (codes "false") (codes "true") ≡ false = refl in
+    sym (ap (λ (t : List ℕ). bytes_eq t (codes "true")) is ∙ other)
+
+pub in_range : (flag : Bool) (script : Script) → IsScript script → IsInRange (Some (asked_by flag script))
+in_range true script h = h
+in_range false script h = h
+
+pub taken : (c : Command) (m : ArgMatches) (words : List (List ℕ)) (flag : Bool) (script : Script) → app_of c ≡ utd_command
     → (is_simple_and_free (app_of c) ≡ true → fault_of (app_of c) words ≡ []) → HasMatchesOf (app_of c) words m
-    → script ≡ script_by (one_text (found_of m) generate) → Some script ≡ asked words
+    → flag ≡ is_true (one_text (found_of m) dump) → script ≡ script_by (one_text (found_of m) generate) → Some (asked_by flag script) ≡ asked words
 unfolding asked
-taken c m words script is kinds matches by =
+taken c m words flag script is kinds matches by_flag by =
     let fine : fault_of utd_command words ≡ [] = sym (ap (λ a. fault_of a words) is) ∙ kinds (ap is_simple_and_free is ∙ free) in
     let rows = (matches (ap is_simple is ∙ simple)).0 ∙ ap (λ a. matches_of a words) is in
-    ap Some (by ∙ ap script_by (one_text-rows (found_of m) generate ∙ ap (one_of generate) rows))
-    ∙ ap (λ kinds. unless_fault kinds (script_by (generate_value words))) (sym fine)
+    let script_same : script ≡ script_by (generate_value words) = by ∙ ap script_by (one_text-rows (found_of m) generate ∙ ap (one_of generate) rows) in
+    let flag_same : flag ≡ is_true (dump_value words) = by_flag ∙ ap is_true (one_text-rows (found_of m) dump ∙ ap (one_of dump) rows) in
+    (λ i. Some (asked_by (flag_same i) (script_same i)))
+    ∙ ap (λ kinds. unless_fault kinds (asked_by (is_true (dump_value words)) (script_by (generate_value words)))) (sym fine)
 
 pub not_taken : (c : Command) (e : Error) (words : List (List ℕ)) → app_of c ≡ utd_command
     → (is_simple_and_free (app_of c) ≡ true → HasKind (fault_of (app_of c) words) e) → (kind_of e ≡ OutOfMemory → ⊥)
@@ -204,11 +255,19 @@ unfolding asked
 not_taken c e words is kinds other =
     go (fault_of utd_command words) (subst (λ a. HasKind (fault_of a words) e) is (kinds (ap is_simple_and_free is ∙ free)))
   where
-    go : (ks : Kinds) → HasKind ks e → None ≡ unless_fault ks (script_by (generate_value words))
+    go : (ks : Kinds) → HasKind ks e → None ≡ unless_fault ks (asked_by (is_true (dump_value words)) (script_by (generate_value words)))
     go [] h = elim h [ inl is_other ↦ absurd (other is_other) | inr bad ↦ absurd bad ]
     go (k ∷ ks) h = refl
 
 -- ---- words that are written out
+
+-- what is asked by words without a fault
+by_words : (words : List (List ℕ)) (flag value : Option (List ℕ)) → fault_of utd_command words ≡ [] → dump_value words ≡ flag → generate_value words ≡ value
+    → asked words ≡ Some (asked_by (is_true flag) (script_by value))
+unfolding asked
+by_words words flag value fine f v =
+    ap (λ kinds. unless_fault kinds (asked_by (is_true (dump_value words)) (script_by (generate_value words)))) fine
+    ∙ (λ i. Some (asked_by (is_true (f i)) (script_by (v i))))
 
 no_fault : fault_of utd_command [] ≡ []
 unfolding clap_on_literals
@@ -218,7 +277,26 @@ no_value : generate_value [] ≡ None
 unfolding clap_on_literals
 no_value = refl
 
--- no word asks for the script of the input
-pub asked_by_none : asked [] ≡ Some OfInput
-unfolding asked
-asked_by_none = ap (λ kinds. unless_fault kinds (script_by (generate_value []))) no_fault ∙ ap (λ value. Some (script_by value)) no_value
+no_flag : dump_value [] ≡ Some (codes "false")
+unfolding clap_on_literals
+no_flag = refl
+
+-- no word asks for the answers to the script of the input
+pub asked_by_none : asked [] ≡ Some (Answers OfInput)
+asked_by_none = by_words [] (Some (codes "false")) None no_fault no_flag no_value
+
+flag_fault : fault_of utd_command (codes "--dump" ∷ []) ≡ []
+unfolding clap_on_literals
+flag_fault = refl
+
+flag_no_value : generate_value (codes "--dump" ∷ []) ≡ None
+unfolding clap_on_literals
+flag_no_value = refl
+
+flag_given : dump_value (codes "--dump" ∷ []) ≡ Some (codes "true")
+unfolding clap_on_literals
+flag_given = refl
+
+-- the flag asks for the dump
+pub asked_by_dump : asked (codes "--dump" ∷ []) ≡ Some (Dump OfInput)
+asked_by_dump = by_words (codes "--dump" ∷ []) (Some (codes "true")) None flag_fault flag_given flag_no_value

@@ -1,7 +1,7 @@
 // The command `utd`.
 ghost use Rattle.std.specs.Prelude.{◌≡◌, false, IfOk};
 ghost use Rattle.clap.specs.Words.{app_of, rule_of};
-ghost use Rattle.utd_words.specs.Words.{generate_option, bare_command, utd_command};
+ghost use Rattle.utd_words.specs.Words.{generate_option, dump_flag, bare_command, utd_command};
 
 use clap::builder::ValueParser;
 use clap::{Arg, ArgAction, Command};
@@ -19,7 +19,17 @@ fn generate_option<'a>(alloc: Global) -> Arg<'a>
         .value_parser(ValueParser::unsigned(1, u64::from(MOST_TUPLES)))
 }
 
-/// The command without its option.
+/// The flag `--dump`.
+fn dump_flag<'a>(alloc: Global) -> Arg<'a>
+    ensures rule { rule_of result ≡ dump_flag }
+    ensures local { result.global ≡ false }
+{
+    Arg::new(alloc, "dump")
+        .long("dump")
+        .action(ArgAction::SetTrue)
+}
+
+/// The command without its option and its flag.
 fn bare_command<'a>(alloc: Global) -> Command<'a>
     ensures { app_of result ≡ bare_command }
 {
@@ -33,6 +43,7 @@ fn bare_command<'a>(alloc: Global) -> Command<'a>
 pub(crate) fn utd_command<'a>(alloc: Global) -> Result<Command<'a>, AllocError>
     ensures { IfOk result (λ c. app_of c ≡ utd_command) }
 {
-    let command = bare_command(alloc).arg(generate_option(alloc))?;
+    let with_option = bare_command(alloc).arg(generate_option(alloc))?;
+    let command = with_option.arg(dump_flag(alloc))?;
     Ok(command)
 }

@@ -4,4 +4,4 @@
 mod command;
 mod words;
 
-pub use words::{Script, read_words};
+pub use words::{Asked, Script, read_words};
