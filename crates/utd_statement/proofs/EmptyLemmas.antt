@@ -18,6 +18,7 @@ use Rattle.utd_syntax.specs.Verdict.{Whole, verdict, reach}
 use Rattle.utd_ranges.specs.Limits.{verdict_on}
 use Rattle.utd_syntax.specs.Written.{Spells, of_statement}
 use Rattle.utd_parser.specs.Tokens.{pieces}
+use Rattle.plain_rows.proofs.BeginLemmas.{one-ascii}
 use Rattle.utd_statement.specs.Readings.{IsText, Tree}
 
 -- ---- ASCII
@@ -31,9 +32,6 @@ is-ascii b h = by (b == 9) (b == 10) (b == 13) (b == 32) refl refl refl refl h
 are-ascii : (prefix : List ℕ) → list_all is_space prefix ≡ true → All (λ b. b < 128) prefix
 are-ascii [] h = All-nil (λ b. b < 128)
 are-ascii (b ∷ bs) h = let parts = and_parts (is_space b) (list_all is_space bs) h in All-cons (λ b. b < 128) b bs (is-ascii b parts.0) (are-ascii bs parts.1)
-
-one-ascii : (b : ℕ) → b < 128 → IsAscii (b ∷ [])
-one-ascii b h = IsAscii-from_all (b ∷ []) (All-cons (λ b. b < 128) b [] h (All-nil (λ b. b < 128)))
 
 -- ---- tokens
 

@@ -5,3 +5,5 @@ pub mod EmptyLemmas
 pub mod ChangeLemmas
 pub mod RangeLaws
 pub mod CostLemmas
+pub mod BringingLemmas
+pub mod AnswerLemmas

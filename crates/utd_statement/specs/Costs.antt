@@ -1,7 +1,9 @@
 -- How many steps a statement may take in a state: a bound by numbers of rows and not of points.
 --     cost_of_checked      of a typed statement
 --     statement_cost      of what a statement is read as
-use Rattle.std.specs.Prelude.{ℕ, Ok, Err}
+--     TakesAtMost      what a statement of some bytes takes
+use Rattle.std.specs.Prelude.{◌≡◌, ◌⊎◌, ◌≤◌, ◌+◌, ℕ, List, Ok, Err}
+use Rattle.point_core.specs.declared.fault.Place.{Place}
 use Rattle.point_core.specs.Faults.{OrFault}
 use Rattle.tree_core.specs.Relvars.{State}
 use Rattle.algebra_core.specs.Costs.{cost_in, test_cost}
@@ -9,7 +11,7 @@ use Rattle.assign_core.specs.Costs.{cost_of_assignments}
 use Rattle.utd_syntax.specs.Plain.{StatementP}
 use Rattle.type_check.specs.Checks.{Plain, nothing, declare_ordinal, declare_base, declare_view, declare_history, remove, declare_rule, remove_rule, assign, print, ask, checked}
 use Rattle.utd_statement.specs.Answers.{assignments_of}
-use Rattle.utd_statement.specs.Readings.{Reading, Tree, Refused}
+use Rattle.utd_statement.specs.Readings.{Reading, Tree, Refused, IsText}
 
 -- the steps of the expression that is printed, of the test that is asked or declared, or of the sources and the constraints of assignments
 abbrev pub cost_of_checked : State → Plain → ℕ
@@ -37,3 +39,8 @@ cost_of_tree state tree = cost_if_typed state (checked state tree)
 abbrev pub statement_cost : State → Reading → ℕ
 statement_cost state (Tree tree) = cost_of_tree state tree
 statement_cost state (Refused refuse) = 0
+
+-- the statement is not even read, for which no step is taken, or takes at most what it costs
+abbrev pub TakesAtMost : Place → List ℕ → State → ℕ → ℕ → Type 0
+TakesAtMost start bytes state before now =
+    (now ≡ before) ⊎ ((r : Reading) × IsText start bytes r × (now ≤ before + statement_cost state r))

@@ -1,12 +1,16 @@
 -- How an answer is told: by a text, whether the statement is accepted, and the state that is left.
-use Rattle.std.specs.Prelude.{◌≡◌, ℕ, true, Vec, Result, Ok, Err}
+use Rattle.std.specs.Prelude.{◌≡◌, ℕ, List, true, Vec, Result, Ok, Err}
 use Rattle.std.specs.Global.{Global}
+use Rattle.point_core.specs.declared.fault.Place.{Place}
 use Rattle.point_core.specs.declared.memory.Memory.{Memory as NoMemory}
 use Rattle.value_core.specs.declared.refuse.Refuse.{Refuse}
 use Rattle.value_core.specs.declared.refuse.Refuse.TheVariants as refuses
 use Rattle.tree_core.specs.Relvars.{State}
+use Rattle.dump_core.specs.Texts.{SourceText}
 use Rattle.utd_statement.specs.declared.reply.Reply.{Reply}
-use Rattle.utd_statement.specs.Answers.{Answer, Refusal, text_of, is_accepted, state_after}
+use Rattle.utd_statement.specs.Answers.{Answer, Refusal, answer, text_of, is_accepted, state_after}
+use Rattle.utd_statement.specs.Keeping.{texts_after}
+use Rattle.utd_statement.specs.Readings.{Reading, IsText}
 
 -- the reply to the n-th statement
 abbrev pub IsReply : ℕ → Answer → Reply → Type 0
@@ -32,3 +36,9 @@ IsRefusedWith (refuses.Broken code relvar number) answer = answer ≡ Refusal (r
 abbrev pub IsPerformed : Result (Vec ℕ Global) Refuse → State → State → Answer → Type 0
 IsPerformed (Ok text) old new answer = IsTextOf answer text × (new ≡ state_after old answer)
 IsPerformed (Err refuse) old new answer = IsRefusedWith refuse answer × (new ≡ old)
+
+-- a statement of these bytes is replied to by what it is read as, which leaves its state and its texts
+abbrev pub IsAnswerTo : Place → List ℕ → ℕ → State → State → List SourceText → List SourceText → Reply → Type 0
+IsAnswerTo start bytes n old new texts texts_now reply =
+    (r : Reading) × IsText start bytes r × IsReply n (answer old r) reply × (new ≡ state_after old (answer old r))
+    × (texts_now ≡ texts_after bytes r (is_accepted (answer old r)) texts)

@@ -19,7 +19,7 @@ use value_core::Refuse;
 
 /// The tree of a statement, or the refusal of its text.
 #[derive(Drop)]
-pub enum Parsed {
+pub(crate) enum Parsed {
     Tree(Statement),
     Refused(Refuse),
 }
@@ -69,7 +69,7 @@ fn refused(refuse: Refuse) -> Result<Parsed, Memory>
 /// The reading of the text from this place on. An empty statement is known without its tokens. Typing never refuses a tree that is read as
 /// out of range, whatever the state: its text is refused before.
 #[tactic(auto, using(crate::proofs::RangeLaws::text_in_range))]
-pub fn read_text(alloc: Global, text: &[u8], start: Place) -> Result<Parsed, Memory>
+pub(crate) fn read_text(alloc: Global, text: &[u8], start: Place) -> Result<Parsed, Memory>
     requires { start.line + start.column + length text.now ≤ 2 ^ 32 - 1 }
     ensures read { IfOk result (λ p. IsText start text.now (reading_of p)) }
     ensures in_range { IfOk result (λ p. IsInRange (reading_of p)) }
