@@ -28,7 +28,10 @@ use Rattle.utd_session.specs.Machine.{performed, performed_after}
 use Rattle.utd_session.specs.Run.{IsPrefixOf}
 use Rattle.utd_session.specs.Feeding.{HasReading}
 use Rattle.utd_session.specs.Costs.{cost_after, TakesAtMost}
+use Rattle.dump_core.specs.Texts.{SourceText}
+use Rattle.utd_session.specs.Texts.{kept_after, texts_of, AreTextsOf}
 use Rattle.utd_session.specs.Sessions.{StandsFor, GoesOn, IsCutOff, IsFinished}
+use Rattle.utd_session.proofs.TextLemmas.{texts-push}
 use Rattle.utd_session.proofs.CostLemmas.{cost_after-push, takes-of}
 use Rattle.utd_session.proofs.StatementLemmas.{place_bound, ends_is, is_blank_is, cut-end, cut-keep, cut-more}
 use Rattle.utd_session.proofs.MachineLemmas.{state-push, output-push, output-one, accepted-push, readings-push, readings-prefix}
@@ -164,7 +167,7 @@ pub after_one : (s : Session) (bytes : List ℕ) (rs : List Reading) (r : Readin
 after_one s bytes rs r new h left = left ∙ ap (λ st. state_after st (answer st r)) h.state_is ∙ sym (state-push rs r)
 
 -- what a session stands for after one statement more
-pub record IsEnd (s : Session) (bytes prefix : List ℕ) (rs : List Reading) (r : Reading) (one : Bool) (new : State) : Type 0 where
+pub record IsEnd (s : Session) (bytes prefix : List ℕ) (rs : List Reading) (r : Reading) (one : Bool) (new : State) (now : List SourceText) : Type 0 where
   pub read : AreReadings (complete_statements (bytes ++ prefix)) (rs ++ r ∷ [])
   pub accepted : (one && s.all_accepted) ≡ (performed (rs ++ r ∷ [])).accepted
   pub number : s.number + 1 ≡ length (rs ++ r ∷ []) + 1
@@ -172,12 +175,15 @@ pub record IsEnd (s : Session) (bytes prefix : List ℕ) (rs : List Reading) (r 
   pub rest_is : (cut (bytes ++ prefix)).rest ≡ []
   pub fed : s.fed + length prefix ≡ length (bytes ++ prefix)
   pub left : new ≡ (performed (rs ++ r ∷ [])).state
+  pub texts : now ≡ texts_of (complete_statements (bytes ++ prefix)) (rs ++ r ∷ [])
 
-pub is_end : (s : Session) (bytes prefix : List ℕ) (rs : List Reading) (r : Reading) (one : Bool) (new : State) → StandsFor s bytes rs → EndsOne (cut bytes).place (cut bytes).rest prefix
+pub is_end : (s : Session) (bytes prefix : List ℕ) (rs : List Reading) (r : Reading) (one : Bool) (new : State) (now : List SourceText) → StandsFor s bytes rs → EndsOne (cut bytes).place (cut bytes).rest prefix
     → IsReading (Complete (cut bytes).place ((cut bytes).rest ++ prefix)) r → one ≡ is_accepted (answer (state_of s.database) r)
-    → new ≡ state_after (state_of s.database) (answer (state_of s.database) r) → IsEnd s bytes prefix rs r one new
-is_end s bytes prefix rs r one new h ends is accepts left =
+    → new ≡ state_after (state_of s.database) (answer (state_of s.database) r)
+    → now ≡ kept_after (state_of s.database) s.texts (Complete (cut bytes).place ((cut bytes).rest ++ prefix)) r → IsEnd s bytes prefix rs r one new now
+is_end s bytes prefix rs r one new now h ends is accepts left kept =
     let c = cut-end bytes prefix ends in
+    let statement : Statement = Complete (cut bytes).place ((cut bytes).rest ++ prefix) in
     let len : length (rs ++ r ∷ []) ≡ length rs + 1 = length-append rs (r ∷ []) in
     record {
       read = subst (λ ss. AreReadings ss (rs ++ r ∷ [])) (sym (ap (λ (x : Cut). x.ended) c)) (readings-push (complete_statements bytes) _ rs r h.read is);
@@ -187,6 +193,8 @@ is_end s bytes prefix rs r one new h ends is accepts left =
       rest_is = ap (λ (x : Cut). x.rest) c;
       fed = omega (arith, h.fed, length-append bytes prefix);
       left = after_one s bytes rs r new h left;
+      texts = kept ∙ (λ i. kept_after (h.state_is i) (h.texts i) statement r) ∙ sym (texts-push (complete_statements bytes) rs statement r h.read)
+          ∙ ap (λ ss. texts_of ss (rs ++ r ∷ [])) (sym (ap (λ (x : Cut). x.ended) c));
     }
 
 -- a session's bounds, with more bytes of the statement that is not ended
@@ -220,6 +228,7 @@ pub record IsKept (s : Session) (bytes piece : List ℕ) (rs : List Reading) : T
   pub place_is : (cut (bytes ++ piece)).place ≡ (cut bytes).place
   pub rest_is : (cut (bytes ++ piece)).rest ≡ (cut bytes).rest ++ piece
   pub fed : s.fed + length piece ≡ length (bytes ++ piece)
+  pub texts : s.texts ≡ texts_of (complete_statements (bytes ++ piece)) rs
 
 pub is_kept : (s : Session) (bytes piece : List ℕ) (rs : List Reading) → StandsFor s bytes rs → NoEnd (cut bytes).place (cut bytes).rest piece → IsKept s bytes piece rs
 is_kept s bytes piece rs h none =
@@ -229,6 +238,7 @@ is_kept s bytes piece rs h none =
       place_is = ap (λ (x : Cut). x.place) c;
       rest_is = ap (λ (x : Cut). x.rest) c;
       fed = omega (arith, h.fed, length-append bytes piece);
+      texts = h.texts ∙ ap (λ ss. texts_of ss rs) (sym (ap (λ (x : Cut). x.ended) c));
     }
 
 -- the piece is at its end
@@ -285,6 +295,21 @@ finish-open s bytes rs before now one both h e accepts b gains =
         left = after_one s bytes rs not_ended (state_of s.database) h refl;
         accepted = b ∙ (λ i. accepts i && h.accepted i) ∙ ap (λ st. is_accepted (answer st not_ended) && (performed rs).accepted) h.state_is ∙ sym (accepted-push rs not_ended);
       },
+    )
+
+-- the texts at the end of a script
+pub finish-blank-texts : (s : Session) (bytes : List ℕ) (rs : List Reading) → StandsFor s bytes rs → is_blank (cut bytes).rest ≡ true → AreTextsOf bytes s.texts
+finish-blank-texts s bytes rs h e =
+    let same = sym (blank_statements bytes e) in
+    (rs, subst (λ ss. AreReadings ss rs) same h.read, h.texts ∙ ap (λ ss. texts_of ss rs) same)
+
+pub finish-open-texts : (s : Session) (bytes : List ℕ) (rs : List Reading) → StandsFor s bytes rs → is_blank (cut bytes).rest ≡ false → AreTextsOf bytes s.texts
+finish-open-texts s bytes rs h e =
+    let all : List Reading = rs ++ not_ended ∷ [] in
+    let same = sym (open_statements bytes e) in (
+      all,
+      subst (λ ss. AreReadings ss all) same (readings-push (complete_statements bytes) Incomplete rs not_ended h.read refl),
+      h.texts ∙ sym (texts-push (complete_statements bytes) rs Incomplete not_ended h.read) ∙ ap (λ ss. texts_of ss all) same,
     )
 
 pub finish-stop : (s : Session) (bytes : List ℕ) (rs : List Reading) (before now : Option (List ℕ)) → StandsFor s bytes rs → now ≡ before

@@ -99,7 +99,7 @@ pub within_short : (all : List ℕ) → length all ≤ most_bytes → statements
 unfolding statements_within
 within_short all l = ap (λ t. cond t (statements all) (complete_statements (take most_bytes all))) (le-leb (length all) most_bytes l)
 
-not_le : (a b : ℕ) → b < a → nat_le a b ≡ false
+pub not_le : (a b : ℕ) → b < a → nat_le a b ≡ false
 not_le a b l = grind (arith, nat_tests)
 
 pub within_long : (all : List ℕ) → most_bytes < length all → statements_within all ≡ complete_statements (take most_bytes all)

@@ -1,10 +1,10 @@
 -- A number is that of one status.
 use Rattle.std.proofs.Common.{◌≡◌, ℕ, zero, suc, ◌≤◌, refl, arith}
 use Rattle.utd_session.specs.declared.status.Status.{Status}
-use Rattle.utd_session.specs.declared.status.Status.TheVariants.{AllAccepted, SomeRefused, BadUsage, ReadFailed, WriteFailed, NoMemory, TooLong}
+use Rattle.utd_session.specs.declared.status.Status.TheVariants.{AllAccepted, SomeRefused, BadUsage, ReadFailed, WriteFailed, NoMemory, TooLong, CannotDump}
 use Rattle.utd_session.specs.Status.{number_of, IsStatus}
 
-bound : (s : Status) → number_of s ≤ 6
+bound : (s : Status) → number_of s ≤ 7
 bound AllAccepted = omega arith
 bound SomeRefused = omega arith
 bound BadUsage = omega arith
@@ -12,8 +12,9 @@ bound ReadFailed = omega arith
 bound WriteFailed = omega arith
 bound NoMemory = omega arith
 bound TooLong = omega arith
+bound CannotDump = omega arith
 
-pub most : (answered : ℕ) → IsStatus answered → answered ≤ 6
+pub most : (answered : ℕ) → IsStatus answered → answered ≤ 7
 most answered (s, e) = omega (arith, e, bound s)
 
 status_at : ℕ → Status
@@ -23,7 +24,8 @@ status_at (suc (suc zero)) = BadUsage
 status_at (suc (suc (suc zero))) = ReadFailed
 status_at (suc (suc (suc (suc zero)))) = WriteFailed
 status_at (suc (suc (suc (suc (suc zero))))) = NoMemory
-status_at (suc (suc (suc (suc (suc (suc n)))))) = TooLong
+status_at (suc (suc (suc (suc (suc (suc zero)))))) = TooLong
+status_at (suc (suc (suc (suc (suc (suc (suc n))))))) = CannotDump
 
 back : (s : Status) → status_at (number_of s) ≡ s
 unfolding status_at
@@ -34,3 +36,4 @@ back ReadFailed = refl
 back WriteFailed = refl
 back NoMemory = refl
 back TooLong = refl
+back CannotDump = refl

@@ -11,6 +11,7 @@ use Rattle.utd_session.specs.Readings.{AreReadings}
 use Rattle.utd_statement.specs.Answers.{text_of, answer}
 use Rattle.utd_session.specs.Databases.{state_of}
 use Rattle.utd_session.specs.Machine.{performed, performed_after}
+use Rattle.utd_session.specs.Texts.{texts_of}
 use Rattle.utd_session.specs.Run.{IsPrefixOf}
 
 abbrev pub fed_of : Session → ℕ
@@ -21,10 +22,11 @@ abbrev pub state_in : Session → State
 state_in s = state_of s.database
 
 -- A session stands for these bytes, whose statements are read as these. Of the statement that is not ended it keeps
--- where it begins, the place behind it, its length, and unless it is too long its bytes.
+-- where it begins, the place behind it, its length, and unless it is too long its bytes. It keeps the texts of declarations.
 pub record StandsFor (s : Session) (bytes : List ℕ) (rs : List Reading) : Type 0 where
   pub read : AreReadings (complete_statements bytes) rs
   pub state_is : state_of s.database ≡ (performed rs).state
+  pub texts : s.texts ≡ texts_of (complete_statements bytes) rs
   pub accepted : s.all_accepted ≡ (performed rs).accepted
   pub number : s.number ≡ length rs + 1
   pub unfinished : IsUnfinished s.unfinished (cut bytes).place (cut bytes).rest

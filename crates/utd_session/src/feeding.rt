@@ -14,12 +14,13 @@ ghost use Rattle.utd_session.specs.Costs.{TakesAtMost};
 use crate::fault::SessionFault;
 use crate::unfinished::Unfinished;
 use assign_core::Database;
+use dump_core::Texts;
 use point_core::{Code, Memory, Steps};
 use std::alloc::Global;
 use std::sync::ledger::Ledger;
 use utd_io::{Sink, write_all};
 use utd_lexer::{Cut, Cutter};
-use utd_statement::{Reply, answer_to, refusal};
+use utd_statement::{Reply, answer_to_text, refusal};
 use value_core::Refuse;
 
 /// Why a session ended, and the database after the last statement that was performed.
@@ -29,10 +30,11 @@ pub struct Ended {
     pub database: Database,
 }
 
-/// The database after all statements, and whether all were accepted.
+/// The database after all statements, the texts of its declarations, and whether all statements were accepted.
 #[derive(Drop)]
 pub struct Finished {
     pub database: Database,
+    pub texts: Texts,
     pub all_accepted: bool,
 }
 
@@ -42,6 +44,7 @@ pub struct Finished {
 pub struct Session {
     alloc: Global,
     database: Database,
+    texts: Texts,
     all_accepted: bool,
     fed: u64,
     number: u32,
@@ -53,11 +56,43 @@ pub struct Session {
     ghost placed: { (unfinished.next.line ≤ fed + 1) × (unfinished.next.column ≤ fed + 1) },
 }
 
-// What a `;` makes of the statement before it: its answer and the database after it, with its bytes kept. For want of memory the
+// The answer to the statement that is ended, and the database and the texts after it. One that is too long is refused unread. For want of
+// memory the database stays.
+fn answer_to_ended<L: Ledger>(
+    alloc: Global,
+    database: &mut Database,
+    texts: &mut Texts,
+    number: u32,
+    unfinished: &Unfinished,
+    steps: &mut Steps<L>,
+) -> Result<Reply, Memory>
+    requires { unfinished.now.start.line + unfinished.now.start.column ≤ 2 ^ 31 }
+    ensures reply { (place : Place) (bytes : List ℕ) → IsUnfinished unfinished.now place bytes
+        → IfOk result (λ r. IsReplyTo (Complete place bytes) (state_of database.old) (state_of database.new) texts.old texts.new number r) }
+    ensures stays { OnErr result (state_of database.new ≡ state_of database.old) }
+    ensures cost { (place : Place) (bytes : List ℕ) → IsUnfinished unfinished.now place bytes
+        → TakesAtMost (Complete place bytes) (state_of database.old) steps.old steps.new }
+{
+    match unfinished.text() {
+        Some(text) => answer_to_text(
+            alloc,
+            database,
+            texts,
+            number,
+            text,
+            unfinished.start(),
+            steps,
+        ),
+        None => refusal(alloc, number, &Refuse::Plain(Code::E03)),
+    }
+}
+
+// What a `;` makes of the statement before it: its answer and what is left after it, with its bytes kept. For want of memory the
 // database stays.
 fn reply_to_end<L: Ledger>(
     alloc: Global,
     database: &mut Database,
+    texts: &mut Texts,
     number: u32,
     unfinished: &mut Unfinished,
     prefix: &[u8],
@@ -67,7 +102,8 @@ fn reply_to_end<L: Ledger>(
     requires start { unfinished.old.start.line + unfinished.old.start.column ≤ 2 ^ 31 }
     requires few { unfinished.old.size + length prefix.now ≤ 2 ^ 32 - 1 }
     ensures reply { (place : Place) (bytes : List ℕ) → IsUnfinished unfinished.old place bytes
-        → IfOk result (λ r. IsReplyTo (Complete place (bytes ++ prefix.now)) (state_of database.old) (state_of database.new) number r) }
+        → IfOk result (λ r. IsReplyTo (Complete place (bytes ++ prefix.now))
+        (state_of database.old) (state_of database.new) texts.old texts.new number r) }
     ensures stays { OnErr result (state_of database.new ≡ state_of database.old) }
     ensures more { (place : Place) (bytes : List ℕ) → IsUnfinished unfinished.old place bytes
         → OnOk result (IsUnfinished unfinished.new place (bytes ++ prefix.now)) }
@@ -78,8 +114,7 @@ fn reply_to_end<L: Ledger>(
         → TakesAtMost (Complete place (bytes ++ prefix.now)) (state_of database.old) steps.old steps.new }
 {
     unfinished.extend(prefix)?;
-    let parsed = unfinished.read(alloc)?;
-    let reply = answer_to(alloc, database, number, &parsed, steps)?;
+    let reply = answer_to_ended(alloc, database, texts, number, unfinished, steps)?;
     Ok(reply)
 }
 
@@ -114,6 +149,7 @@ impl Session {
     ghost use Rattle.utd_statement.specs.Readings.{Reading};
     ghost use Rattle.utd_statement.specs.Answers.{text_of, answer};
     ghost use Rattle.utd_session.specs.Machine.{performed, performed_after};
+    ghost use Rattle.utd_session.specs.Texts.{AreTextsOf};
     ghost use Rattle.utd_session.specs.Feeding.{HasReading};
     ghost use Rattle.utd_session.specs.Unfinished.{kept_of};
     ghost use Rattle.utd_session.specs.Costs.{IsWithinCost};
@@ -127,6 +163,7 @@ impl Session {
         Session {
             alloc,
             database: Database::new(alloc),
+            texts: Texts::new(alloc),
             all_accepted: true,
             fed: 0,
             number: 1,
@@ -164,6 +201,7 @@ impl Session {
         let Session {
             alloc,
             database,
+            texts,
             all_accepted,
             fed,
             number,
@@ -178,6 +216,7 @@ impl Session {
         Ok(Session {
             alloc,
             database,
+            texts,
             all_accepted,
             fed: fed + piece.len() as u64,
             number,
@@ -217,6 +256,7 @@ impl Session {
         let Ok(reply) = reply_to_end(
             self.alloc,
             &mut self.database,
+            &mut self.texts,
             self.number,
             &mut self.unfinished,
             prefix,
@@ -286,6 +326,7 @@ impl Session {
         ensures finished { (bytes : List ℕ) (rs : List Reading) → StandsFor self bytes rs
             → IfOk result (λ f. (more : List Reading) × IsFinished (statements bytes) rs more
             (K.written out.old) (K.written out.new) (state_of f.database) f.all_accepted) }
+        ensures texts { (bytes : List ℕ) (rs : List Reading) → StandsFor self bytes rs → IfOk result (λ f. AreTextsOf bytes f.texts) }
         ensures blank { (bytes : List ℕ) (rs : List Reading) → StandsFor self bytes rs → IsBlank (cut bytes).rest
             → IsOk result × (out.new ≡ out.old) }
         ensures memory { (bytes : List ℕ) (rs : List Reading) → StandsFor self bytes rs
@@ -303,6 +344,7 @@ impl Session {
         let Session {
             alloc,
             database,
+            texts,
             all_accepted,
             fed: _,
             number,
@@ -312,6 +354,7 @@ impl Session {
         if cutter.is_blank() {
             return Ok(Finished {
                 database,
+                texts,
                 all_accepted,
             });
         }
@@ -325,6 +368,7 @@ impl Session {
         };
         Ok(Finished {
             database,
+            texts,
             all_accepted: both(reply.accepted, all_accepted),
         })
     }

@@ -12,6 +12,7 @@ pub enum Status {
     WriteFailed,
     NoMemory,
     TooLong,
+    CannotDump,
 }
 
 impl Status {
@@ -27,6 +28,7 @@ impl Status {
             Status::WriteFailed => 4,
             Status::NoMemory => 5,
             Status::TooLong => 6,
+            Status::CannotDump => 7,
         }
     }
 
@@ -37,11 +39,12 @@ impl Status {
     {
         match self {
             Status::AllAccepted | Status::SomeRefused => b"",
-            Status::BadUsage => b"usage: utd [--generate N]\n",
+            Status::BadUsage => b"usage: utd [--generate N] [--dump]\n",
             Status::ReadFailed => b"utd: read failed\n",
             Status::WriteFailed => b"utd: write failed\n",
             Status::NoMemory => b"utd: out of memory\n",
             Status::TooLong => b"utd: more than 16777216 bytes\n",
+            Status::CannotDump => b"utd: cannot dump\n",
         }
     }
 }

@@ -1,13 +1,12 @@
 // The statement that no `;` has ended yet.
-ghost use Rattle.std.specs.Prelude.{◌≡◌, ℕ, ◌+◌, ◌-◌, ◌^◌, ◌<◌, ◌≤◌, List, [], ◌++◌, length, IfOk, OnOk, OnErr};
+ghost use Rattle.std.specs.Prelude.{◌≡◌, ℕ, ◌+◌, ◌-◌, ◌^◌, ◌<◌, ◌≤◌, List, [], ◌++◌, length, IfSome, MatchOption, OnOk, OnErr};
 ghost use Rattle.value_core.specs.Limits.{most_statement_bytes};
 ghost use Rattle.utd_lexer.specs.Tokens.{Fits, place_after};
 
-use point_core::{Code, Memory, Place};
+use point_core::Place;
 use std::alloc::{AllocError, Global};
 use utd_lexer::place_behind;
-use utd_statement::{Parsed, read_text};
-use value_core::{MOST_STATEMENT_BYTES, Refuse};
+use value_core::MOST_STATEMENT_BYTES;
 
 /// The statement that is not ended: where it begins, the place of the next byte, its length, and its bytes, or none where
 /// there are too many.
@@ -35,9 +34,8 @@ fn keep(kept: &mut Vec<u8>, size: usize, piece: &[u8]) -> Result<(), AllocError>
 
 impl Unfinished {
     ghost use Rattle.utd_session.specs.Unfinished.{IsUnfinished, kept_of};
-    ghost use Rattle.utd_session.specs.Statements.{Complete, first_place};
-    ghost use Rattle.utd_session.specs.Readings.{IsReading};
-    ghost use Rattle.utd_statement.specs.Parsed.{reading_of, HasAnswer};
+    ghost use Rattle.utd_session.specs.Statements.{first_place};
+    ghost use Rattle.utd_session.specs.Readings.{most_in_statement};
 
     /// Nothing, at the start of a script.
     pub fn new(alloc: Global) -> Unfinished
@@ -88,16 +86,22 @@ impl Unfinished {
         self.bytes.as_slice()
     }
 
-    /// What its bytes are read as, where they end with its `;`.
-    pub fn read(&self, alloc: Global) -> Result<Parsed, Memory>
-        requires { self.now.start.line + self.now.start.column ≤ 2 ^ 31 }
-        ensures read { (place : Place) (bytes : List ℕ) → IsUnfinished self.now place bytes
-            → IfOk result (λ p. IsReading (Complete place bytes) (reading_of p)) }
-        ensures told { IfOk result (λ p. HasAnswer (reading_of p)) }
+    /// Where it begins.
+    pub fn start(&self) -> Place
+        ensures { result ≡ self.now.start }
+    {
+        self.start
+    }
+
+    /// Its bytes, or `None` where they are too many.
+    pub fn text(&self) -> Option<&[u8]>
+        ensures is { (place : Place) (bytes : List ℕ) → IsUnfinished self.now place bytes
+            → MatchOption result (most_in_statement < length bytes) (λ text. (length bytes ≤ most_in_statement) × (text.now ≡ bytes)) }
+        ensures few { IfSome result (λ text. length text.now ≤ most_statement_bytes) }
     {
         if self.size > MOST_STATEMENT_BYTES {
-            return Ok(Parsed::Refused(Refuse::Plain(Code::E03)));
+            return None;
         }
-        read_text(alloc, &self.bytes, self.start)
+        Some(self.bytes.as_slice())
     }
 }

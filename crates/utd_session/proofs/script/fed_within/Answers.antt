@@ -1,6 +1,7 @@
 use Rattle.std.proofs.Common.{arith, refl}
 use Rattle.utd_session.proofs.RunLemmas.{fed_piece, fed_too_long, ended_in_piece}
 use Rattle.utd_session.proofs.PaidLemmas.{paid_in_piece}
+use Rattle.utd_session.proofs.EndLemmas.{not_at_end}
 use Rattle.utd_session.proofs.script.fed_within.Goals as goal
 
 pub returns-then-is_whole-clause-goes_on : goal.returns-then-is_whole-clause-goes_on
@@ -23,3 +24,9 @@ returns-in-Err-clause-run g c all left before now paid h comes =
 pub returns-in-Err-clause-cost : goal.returns-in-Err-clause-cost
 returns-in-Err-clause-cost g c all left before now paid h comes =
     paid_in_piece all left now before _ c.args.session c.args.piece.now c.split_at.result.0.now c.least-count.result paid _ _ _ h comes c.split_at.ensures.front (omega arith) (omega arith) c.in-Err.ensures.cost
+
+pub returns-else-is_whole-clause-early : goal.returns-else-is_whole-clause-early
+returns-else-is_whole-clause-early g c = (refl, not_at_end 6 (omega arith))
+
+pub returns-in-Err-clause-early : goal.returns-in-Err-clause-early
+returns-in-Err-clause-early g c = c.stopped.ensures.early

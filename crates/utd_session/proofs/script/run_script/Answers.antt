@@ -1,6 +1,7 @@
 use Rattle.std.proofs.Common.{refl, le_refl, arith, take, sym, subst, IfSome}
 use Rattle.utd_session.specs.Costs.{IsPaid}
 use Rattle.utd_session.proofs.RunLemmas.{may_start, may_go_on, may_stop, may_finish, may_fail}
+use Rattle.utd_session.proofs.EndLemmas.{not_at_end, early_end, early_texts, no_texts, may_have_texts}
 use Rattle.utd_session.proofs.PaidLemmas.{may_have_paid, may_have_paid_all, may_have_paid_in_piece}
 use Rattle.utd_session.proofs.script.run_script.Goals as goal
 
@@ -53,3 +54,23 @@ pub returns-clause-cost : goal.returns-clause-cost
 returns-clause-cost g c =
     may_have_paid (g.S.Source.left c.args.input.now) (g.S.Source.left c.script.input) (g.S.Source.left c.read.new.self) (g.K.Sink.written c.args.out.now) (g.K.Sink.written c.script.out) c.script.session _ _
     c.script.invariant.fed c.in_default.ensures.failed c.script.session.few
+
+pub returns-then-n-eq0-clause-texts : goal.returns-then-n-eq0-clause-texts
+returns-then-n-eq0-clause-texts g c =
+    may_have_texts (g.S.Source.left c.args.input.now) (g.S.Source.left c.script.input) (g.S.Source.left c.read.new.self) (g.K.Sink.written c.args.out.now) (g.K.Sink.written c.script.out)
+    c.script.session c.read.new.buf c.in-Ok.n _ _ c.finished.result.texts c.script.invariant.fed c.in-Ok.ensures.bytes c.if-n-eq0.true c.finished.ensures.texts
+
+pub returns-then-n-eq0-clause-end : goal.returns-then-n-eq0-clause-end
+returns-then-n-eq0-clause-end g c = c.finished.ensures.end
+
+pub returns-in-Err-clause-texts : goal.returns-in-Err-clause-texts
+returns-in-Err-clause-texts g c = early_texts (g.S.Source.left c.args.input.now) c.in-Err.ran c.in-Err.ensures.early
+
+pub returns-in-Err-clause-end : goal.returns-in-Err-clause-end
+returns-in-Err-clause-end g c = early_end c.in-Err.ran c.in-Err.ensures.early
+
+pub returns-clause-texts : goal.returns-clause-texts
+returns-clause-texts g c = no_texts (g.S.Source.left c.args.input.now)
+
+pub returns-clause-end : goal.returns-clause-end
+returns-clause-end g c = not_at_end 3 (omega arith)

@@ -56,7 +56,7 @@ returns-clause-performed g c bytes rs h ends =
     let u = c.in-Ok.ensures.more (cut bytes).place (cut bytes).rest h.unfinished in
     let q = c.in-Ok.ensures.reply (cut bytes).place (cut bytes).rest h.unfinished in
     let r : Reading = q.0 in
-    let e = is_end old bytes prefix rs r c.in-Ok.reply.accepted (state_of c.reply_to_end.new.database) h ends q.1 q.2.1 q.3 in
+    let e = is_end old bytes prefix rs r c.in-Ok.reply.accepted (state_of c.reply_to_end.new.database) c.reply_to_end.new.texts h ends q.1 q.2.1 q.3 q.4 in
     let text = q.2.0 ∙ text_is old bytes rs r h in
     let w = c.restart.ensures.next (cut bytes).place ((cut bytes).rest ++ prefix) u in (
       r,
@@ -65,6 +65,7 @@ returns-clause-performed g c bytes rs h ends =
         record {
           read = e.read;
           state_is = e.left;
+          texts = e.texts;
           accepted = c.both-self.ensures ∙ e.accepted;
           number = e.number;
           unfinished = subst (λ p. IsUnfinished new p (cut (bytes ++ prefix)).rest) (sym e.place_is) (subst (IsUnfinished new _) (sym e.rest_is) w);

@@ -2,7 +2,7 @@ use Rattle.std.proofs.Common.{◌≡◌, ◌∙◌, true, false, sym, subst, ref
 use Rattle.utd_io.specs.Io.{Gains, GainsPrefix}
 use Rattle.utd_session.specs.Statements.{cut, is_blank}
 use Rattle.utd_session.proofs.StatementLemmas.{is_blank_is}
-use Rattle.utd_session.proofs.SessionLemmas.{blank_is, finish-blank, finish-open, finish-stop, finish-cut-off}
+use Rattle.utd_session.proofs.SessionLemmas.{blank_is, finish-blank, finish-open, finish-blank-texts, finish-open-texts, finish-stop, finish-cut-off}
 use Rattle.utd_session.proofs.feeding.Session.finish.Goals as goal
 
 pub returns-then-is_blank-clause-finished : goal.returns-then-is_blank-clause-finished
@@ -43,3 +43,15 @@ pub returns-clause-blank : goal.returns-clause-blank
 returns-clause-blank g c bytes rs h blank =
     let rest = (cut bytes).rest in
     let f : true ≡ false = sym ((is_blank_is rest).1 blank) ∙ sym (blank_is rest c.is_blank.result (c.is_blank.ensures rest h.since)) ∙ c.if-is_blank.false in cc
+
+pub returns-then-is_blank-clause-texts : goal.returns-then-is_blank-clause-texts
+returns-then-is_blank-clause-texts g c bytes rs h =
+    let rest = (cut bytes).rest in
+    let blank : is_blank rest ≡ true = sym (blank_is rest c.is_blank.result (c.is_blank.ensures rest h.since)) ∙ c.if-is_blank.true in
+    finish-blank-texts c.args.self bytes rs h blank
+
+pub returns-clause-texts : goal.returns-clause-texts
+returns-clause-texts g c bytes rs h =
+    let rest = (cut bytes).rest in
+    let more : is_blank rest ≡ false = sym (blank_is rest c.is_blank.result (c.is_blank.ensures rest h.since)) ∙ c.if-is_blank.false in
+    finish-open-texts c.args.self bytes rs h more

@@ -32,6 +32,7 @@ returns-clause-kept c bytes rs h none since =
     record {
       read = k.read;
       state_is = h.state_is;
+      texts = k.texts;
       accepted = h.accepted;
       number = h.number;
       unfinished = subst (λ p. IsUnfinished new p (cut (bytes ++ piece)).rest) (sym k.place_is) (subst (IsUnfinished new (cut bytes).place) (sym k.rest_is) u);
