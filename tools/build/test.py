@@ -13,7 +13,7 @@ import unittest
 from forecast import Forecast
 
 ROOT = os.path.dirname(os.path.dirname(os.path.dirname(os.path.abspath(__file__))))
-USAGE = 'usage: utd [--generate N]'
+USAGE = 'usage: utd [--generate N] [--dump]'
 # what stands for tools/build: it says with which words it was called, waits while the file hold is there, and makes a program that says what it was given
 STUB = '''
 import os, sys, time
@@ -72,6 +72,7 @@ PRICES = '''| Crate | Proof | Wrong bodies | Tests | Compiled | All |
 TAKEN = [
     [], ['--'], ['--generate', '1'], ['--generate', '30000'], ['--generate=30000'], ['--generate', '+3'], ['--generate=+003'],
     ['--generate', '7', '--'], ['--generate=7', '--'], ['--generate', '0000000000000000000000007'],
+    ['--dump'], ['--dump', '--'], ['--dump', '--generate', '7'], ['--generate=7', '--dump'],
 ]
 REFUSED = [
     ['--help'], ['--version'], ['-h'], ['examples/cover.td'], [''], ['-'], ['--', '--'], ['--', 'x'], ['--generate'], ['--generate='], ['--generate', '--'],
@@ -80,6 +81,7 @@ REFUSED = [
     ['--generate', '0x7'], ['--generate', '7.0'], ['--generate', '7', '8'], ['--generate', '7', '--generate', '8'], ['--generate=7', '--generate=7'],
     ['--generate', '99999999999999999999999'], ['--gen', '7'], ['--generat=7'], ['--Generate', '7'], ['-generate', '7'], ['--generate=7=7'],
     ['--generate', b'7\xff'], ['--generate', '\u0667'],
+    ['--dump', '--dump'], ['--dump='], ['--dump=true'], ['--dumps'], ['-dump'], ['--Dump'], ['--dump', 'x'], ['--generate', '--dump'],
 ]
 
 

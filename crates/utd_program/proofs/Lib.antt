@@ -1,1 +1,3 @@
 pub mod GeneratedLemmas
+pub mod SinkLemmas
+pub mod WritingLemmas

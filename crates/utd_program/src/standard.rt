@@ -4,10 +4,11 @@ ghost use Rattle.std.specs.IoError.{error_kind};
 ghost use Rattle.std.specs.Process.{exit_status};
 ghost use Rattle.std.specs.declared.io.ErrorKind.TheVariants.{OutOfMemory};
 ghost use Rattle.utd_io.specs.Io.{Rose};
-ghost use Rattle.utd_words.specs.Words.{asked};
+ghost use Rattle.utd_words.specs.Words.{script_asked, asked};
 ghost use Rattle.utd_session.specs.Status.{number_of, IsStatus};
 ghost use Rattle.utd_session.specs.Run.{IsRun, IsTold};
 ghost use Rattle.utd_session.specs.Generated.{IsGeneratedRun};
+ghost use Rattle.utd_session.specs.Dumped.{IsDumped, IsGeneratedDump};
 
 use crate::outcome::Outcome;
 use crate::top::run;
@@ -19,7 +20,7 @@ use std::sync::ledger::{Blank, Ledger};
 use std::{env, io};
 use utd_io::{Sink, Source, StdErrSink, StdSink, StdSource, write_all};
 use utd_session::Status;
-use utd_words::Script;
+use utd_words::{Asked, Script};
 
 // A run over these streams with a counter of steps that nobody reads. What `run` says of its status is handed on.
 fn outcome<S: Source, K: Sink, E: Sink, L: Ledger>(
@@ -37,11 +38,17 @@ fn outcome<S: Source, K: Sink, E: Sink, L: Ledger>(
     ensures refused { result.status ≡ number_of Status.BadUsage → asked (map string_bytes words.now) ≡ None }
     ensures refuses { asked (map string_bytes words.now) ≡ None
         → (result.status ≡ number_of Status.BadUsage) ⊎ (result.status ≡ number_of Status.NoMemory) }
-    ensures unread { (asked (map string_bytes words.now) ≡ Some Script.OfInput → ⊥) → input.new ≡ input.old }
-    ensures machine { asked (map string_bytes words.now) ≡ Some Script.OfInput → IfSome (S.left input.old) (λ bytes.
+    ensures unread { (script_asked (asked (map string_bytes words.now)) ≡ Some Script.OfInput → ⊥) → input.new ≡ input.old }
+    ensures machine { asked (map string_bytes words.now) ≡ Some (Asked.Answers Script.OfInput) → IfSome (S.left input.old) (λ bytes.
         IsRun bytes (S.left input.new) (K.written out.old) (K.written out.new) result.database result.status) }
-    ensures generated { (number : ℕ) → asked (map string_bytes words.now) ≡ Some (Script.Generated number)
+    ensures generated { (number : ℕ) → asked (map string_bytes words.now) ≡ Some (Asked.Answers (Script.Generated number))
         → IsGeneratedRun number (K.written out.old) (K.written out.new) result.database result.status }
+    ensures dumped { asked (map string_bytes words.now) ≡ Some (Asked.Dump Script.OfInput) → IfSome (S.left input.old) (λ bytes.
+        IsDumped bytes (S.left input.new) (K.written out.old) (K.written out.new) result.database result.status) }
+    ensures generated_dump { (number : ℕ) → asked (map string_bytes words.now) ≡ Some (Asked.Dump (Script.Generated number))
+        → IsGeneratedDump number (K.written out.old) (K.written out.new) result.database result.status }
+    ensures cannot_dump { result.status ≡ number_of Status.CannotDump
+        → (script : Script) × (asked (map string_bytes words.now) ≡ Some (Asked.Dump script)) }
     ensures read { result.status ≡ number_of Status.ReadFailed → Rose (S.faults input.old) (S.faults input.new) }
     ensures write { result.status ≡ number_of Status.WriteFailed → Rose (K.faults out.old) (K.faults out.new) }
     ensures line { (status : Status) → result.status ≡ number_of status
@@ -84,8 +91,8 @@ fn status_without_words(error: &io::Error, err: &mut StdErrSink) -> u8
     status.number()
 }
 
-/// Reads the script from standard input, writes the answers to standard output and the line of the status to standard error, and ends with
-/// the status; the words of the command line but the first are its words.
+/// Reads the script from standard input, writes the answers or the dump to standard output and the line of the status to standard error,
+/// and ends with the status; the words of the command line but the first are its words.
 pub fn run_utd(rt: HostRuntime) -> ExitCode
     ensures known { IsStatus (exit_status result) }
 {

@@ -1,6 +1,6 @@
 use Rattle.std.proofs.Common.{ap}
 use Rattle.utd_session.specs.Status.{number_of}
-use Rattle.utd_program.proofs.GeneratedLemmas.{may_run_not, generates_not, may_pay_not, generates_free}
+use Rattle.utd_program.proofs.GeneratedLemmas.{may_run_not, may_dump_not, generates_not, dumps_no_generated, may_pay_not, generates_free}
 use Rattle.utd_program.proofs.top.run_words.Goals as goal
 
 pub returns-in-Err-clause-machine : goal.returns-in-Err-clause-machine
@@ -13,6 +13,17 @@ pub returns-in-Err-clause-generated : goal.returns-in-Err-clause-generated
 returns-in-Err-clause-generated g c number generated =
     let nothing = c.without_memory in
     generates_not number (g.K.Sink.written c.args.out.now) nothing.result.database (number_of nothing.result.status) (ap number_of nothing.ensures.status) nothing.ensures.empty
+
+pub returns-in-Err-clause-dumped : goal.returns-in-Err-clause-dumped
+returns-in-Err-clause-dumped g c of_input =
+    let nothing = c.without_memory in
+    let left = g.S.Source.left c.args.input.now in
+    may_dump_not left (g.K.Sink.written c.args.out.now) nothing.result.database (number_of nothing.result.status) (ap number_of nothing.ensures.status) nothing.ensures.empty
+
+pub returns-in-Err-clause-generated_dump : goal.returns-in-Err-clause-generated_dump
+returns-in-Err-clause-generated_dump g c number generated =
+    let nothing = c.without_memory in
+    dumps_no_generated number (g.K.Sink.written c.args.out.now) nothing.result.database (number_of nothing.result.status) (ap number_of nothing.ensures.status) nothing.ensures.empty
 
 pub returns-in-Err-clause-cost : goal.returns-in-Err-clause-cost
 returns-in-Err-clause-cost g c of_input = may_pay_not (g.S.Source.left c.args.input.now) c.args.steps.now
