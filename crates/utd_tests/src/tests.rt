@@ -39,7 +39,7 @@ const PLAIN: Example = Example {
     status: 0,
 };
 
-fn examples() -> [Example; 16] {
+fn examples() -> [Example; 21] {
     [
         Example {
             // empty statements
@@ -70,7 +70,7 @@ fn examples() -> [Example; 16] {
             // a word
             script: PACK,
             words: &["--help"],
-            line: b"usage: utd [--generate N]\n",
+            line: b"usage: utd [--generate N] [--dump]\n",
             status: 2,
             ..PLAIN
         },
@@ -92,6 +92,49 @@ fn examples() -> [Example; 16] {
         Example {
             words: &["--generate", "30000"],
             output: b"| N     |\n| 30000 |\nrows: 1\n| N     |\n| 89998 |\nrows: 1\n| D         |\n| [0:90001] |\nrows: 1\n",
+            ..PLAIN
+        },
+        Example {
+            // the dump of what a script leaves, without its answers
+            script: b"PRINT X;\nVAR A RELATION {N INTEGER} KEY {N};\nVAR X RELATION {N INTEGER};\nVAR V VIRTUAL (A WHERE N > 1);\nINSERT A RELATION {TUPLE {N 2}, TUPLE {N 1}};\nPRINT A;\nDROP VAR X;\n",
+            words: &["--dump"],
+            output: b"VAR A RELATION {N INTEGER} KEY {N};\nINSERT A RELATION {TUPLE {N 1}, TUPLE {N 2}};\nVAR V VIRTUAL (A WHERE N > 1);\n",
+            status: 1,
+            ..PLAIN
+        },
+        Example {
+            // the dump of the generated script
+            words: &["--generate", "3", "--dump"],
+            output: b"VAR GEN RELATION {K INTEGER, D INTERVAL(INTEGER)} USING (D): KEY {K, D};\nINSERT GEN RELATION {TUPLE {D [0:4], K 0}, TUPLE {D [3:7], K 1}, TUPLE {D [6:10], K 2}};\n",
+            ..PLAIN
+        },
+        Example {
+            // a read that fails: nothing is dumped
+            script: b"VAR A RELATION {N INTEGER};VAR B RELATION {N INTEGER};",
+            words: &["--dump"],
+            read_piece: 30,
+            failing_read: 2,
+            line: b"utd: read failed\n",
+            status: 3,
+            ..PLAIN
+        },
+        Example {
+            // the flag twice
+            script: PACK,
+            words: &["--dump", "--dump"],
+            line: b"usage: utd [--generate N] [--dump]\n",
+            status: 2,
+            ..PLAIN
+        },
+        Example {
+            // a write that fails in a dump
+            script: b"VAR A RELATION {N INTEGER};",
+            words: &["--dump"],
+            write_piece: 5,
+            failing_write: 3,
+            output: b"VAR A RELA",
+            line: b"utd: write failed\n",
+            status: 4,
             ..PLAIN
         },
         Example {
