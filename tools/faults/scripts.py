@@ -9,6 +9,10 @@ class Script:
     def __init__(self, name, words=(), text=b'', output=None):
         self.name, self.words, self.text, self.output = name, list(words), text, output
 
+    def dumps(self):
+        """Whether it writes the database at its end and no answers."""
+        return '--dump' in self.words
+
 
 def bytes_of(path):
     with open(path, 'rb') as file:
@@ -27,7 +31,13 @@ def by_statements(path):
     return Script(os.path.relpath(path), text=b''.join(text for text, _ in parts), output=b''.join(output for _, output in parts))
 
 
+def dumped(script):
+    """The script, of which the database is written at its end."""
+    return Script(f'{script.name} --dump', words=('--dump',), text=script.text)
+
+
 def all_scripts(root):
     found = [by_statements(path) for path in sorted(glob.glob(f'{root}/crates/utd_faults/data/*.txt'))]
+    found += [dumped(script) for script in found]
     found += [of_file(path) for path in sorted(glob.glob(f'{root}/examples/*.td'))]
     return [*found, Script('--generate 100', words=('--generate', '100'))]

@@ -57,7 +57,10 @@ class Judge:
     """What a script writes as a whole, and what of it where a call is refused."""
 
     def __init__(self, tried, script, whole, reads):
-        self.whole, self.fronts = whole, fronts(whole.output)
+        self.whole, self.fronts = whole, {b''} if script.dumps() else fronts(whole.output)
+        if script.dumps():
+            self.before_reads = [b''] * reads
+            return
         cut = [Script(script.name, script.words, script.text[:PIECE * read]) for read in range(reads)]
         self.before_reads = [without_rest(tried.run(part).output) for part in cut]
 
