@@ -1,1 +1,1 @@
-mod NameLemmas
+pub mod NameLemmas

@@ -10,6 +10,20 @@ use scalar_core::Scalar;
 use std::alloc::Global;
 use value_core::{Heading, Name, Positions};
 
+/// The heading of a node, and its part in a block of its own.
+fn wrapped(
+    alloc: Global,
+    heading: &Heading,
+    part: RelTree,
+) -> Result<(Heading, Box<RelTree>), Memory>
+    ensures heading { IfOk result (λ w. w.0 ≡ heading.now) }
+    ensures part { IfOk result (λ w. w.1.value ≡ part) }
+{
+    let part = Box::new(alloc, part)?;
+    let heading = heading.copy(alloc)?;
+    Ok((heading, part))
+}
+
 impl RelTree {
     /// The relvar or view of the name.
     pub fn of_name(
@@ -35,8 +49,7 @@ impl RelTree {
     ) -> Result<RelTree, Memory>
         ensures { IfOk result (λ t. read_tree t ≡ trees.restrict place heading.now (read c) (read_tree self)) }
     {
-        let heading = heading.copy(alloc)?;
-        let part = Box::new(alloc, self)?;
+        let (heading, part) = wrapped(alloc, heading, self)?;
         Ok(RelTree::restrict(place, heading, c, part))
     }
 
@@ -50,8 +63,7 @@ impl RelTree {
     ) -> Result<RelTree, Memory>
         ensures { IfOk result (λ t. read_tree t ≡ trees.extend place heading.now (read_sets sets) (read_tree self)) }
     {
-        let heading = heading.copy(alloc)?;
-        let part = Box::new(alloc, self)?;
+        let (heading, part) = wrapped(alloc, heading, self)?;
         Ok(RelTree::extend(place, heading, sets, part))
     }
 
@@ -65,8 +77,7 @@ impl RelTree {
     ) -> Result<RelTree, Memory>
         ensures { IfOk result (λ t. read_tree t ≡ trees.project place heading.now kept (read_tree self)) }
     {
-        let heading = heading.copy(alloc)?;
-        let part = Box::new(alloc, self)?;
+        let (heading, part) = wrapped(alloc, heading, self)?;
         Ok(RelTree::project(place, heading, kept, part))
     }
 
@@ -81,10 +92,9 @@ impl RelTree {
     ) -> Result<RelTree, Memory>
         ensures { IfOk result (λ t. read_tree t ≡ trees.infix_of place heading.now word (read_tree self) (read_tree right)) }
     {
-        let heading = heading.copy(alloc)?;
-        let left = Box::new(alloc, self)?;
-        let right = Box::new(alloc, right)?;
-        Ok(RelTree::infix(place, heading, word, left, right))
+        let right = Box::new(alloc, right);
+        let (heading, left) = wrapped(alloc, heading, self)?;
+        Ok(RelTree::infix(place, heading, word, left, right?))
     }
 
     /// The expression under USING.
@@ -97,8 +107,7 @@ impl RelTree {
     ) -> Result<RelTree, Memory>
         ensures { IfOk result (λ t. read_tree t ≡ trees.using place heading.now commalist (read_tree self)) }
     {
-        let heading = heading.copy(alloc)?;
-        let part = Box::new(alloc, self)?;
+        let (heading, part) = wrapped(alloc, heading, self)?;
         Ok(RelTree::using(place, heading, commalist, part))
     }
 }
