@@ -16,6 +16,7 @@ use Rattle.scalar_typing.specs.Typings.{refused, value_or}
 use Rattle.relation_typing.specs.Attributes.{is_name}
 use Rattle.relation_typing.specs.Headings.{same_heading}
 use Rattle.relation_typing.specs.Literals.{literal_typed}
+use Rattle.relation_typing.proofs.ShapeLemmas.{same-itself}
 use Rattle.tree_core.specs.declared.tree.InfixWord.TheVariants.{Union}
 use Rattle.tree_core.specs.Items.{PlainItem, PlainItemForm, set_to, insert}
 use Rattle.tree_core.specs.Relvars.{State, PlainRelvar, base, Entries, relvar_named}
@@ -26,7 +27,7 @@ use Rattle.item_typing.specs.Targets.{Target, base_heading, target_typed, rows_t
 use Rattle.item_typing.specs.Items.{setting_typed, insertion_typed, items_typed, assignment_typed}
 use Rattle.update_core.specs.Endings.{meant_by}
 use Rattle.constant_laws.specs.Insertions.{of_literal}
-use Rattle.constant_laws.proofs.TypedTuples.{literal_place, IsTypedLiteral, same-itself}
+use Rattle.constant_laws.proofs.TypedTuples.{literal_place, IsTypedLiteral}
 
 -- a name that is written, of a base relvar of the state
 pub record IsBaseNamed (state : State) (w : Word) (old : Relation) (constraints : List Constraint) : Type 0 where

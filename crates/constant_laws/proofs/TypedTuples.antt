@@ -3,11 +3,9 @@
 --     tuples-typed      the tuples of a literal, behind some before them
 --     literal-typed      a literal: the heading, and the rows in the order of the text
 use Rattle.std.proofs.Common.{◌≡◌, Bool, true, false, List, [], ◌∷◌, ◌++◌, length, map, Option, Some, None, Ok, refl, sym, ap, ap₂, ◌∙◌, append_assoc}
-use Rattle.std.specs.Prelude.{◌&&◌, if◌then◌else◌}
-use Rattle.std.specs.Str.{bytes_eq}
-use Rattle.std.proofs.lemmas.Bool.{le-leb, and_from}
+use Rattle.std.specs.Prelude.{if◌then◌else◌}
+use Rattle.std.proofs.lemmas.Bool.{le-leb}
 use Rattle.std.proofs.lemmas.List.{append-nil}
-use Rattle.std.proofs.lemmas.Slice.Eq.{bytes_eq-Decides}
 use Rattle.base_core.specs.Outcomes.{then_give, both, first_of_all}
 use Rattle.point_core.specs.declared.fault.Place.{Place}
 use Rattle.point_core.specs.declared.fault.Code.TheVariants.{E06, E13, E15, E17}
@@ -20,18 +18,16 @@ use Rattle.value_core.specs.Headings.{has_name}
 use Rattle.value_core.specs.Limits.{most_attributes}
 use Rattle.value_core.specs.Values.{Name, Value, Row, Heading, rows_of}
 use Rattle.scalar_core.specs.Expressions.{Expr}
-use Rattle.scalar_core.specs.KindOf.{same_kind}
 use Rattle.scalar_core.specs.ScalarValues.{value}
-use Rattle.scalar_core.proofs.KindOfLemmas.{same_kind-self}
 use Rattle.scalar_typing.specs.Typings.{Typed, refused}
 use Rattle.scalar_typing.specs.Scalars.{typed_scalar}
 use Rattle.tree_core.specs.Trees.{PlainSets, literal}
 use Rattle.relation_core.specs.Agreement.{part_of}
 use Rattle.relation_typing.specs.Attributes.{with_attribute, is_name, new_name, few_attributes}
-use Rattle.relation_typing.specs.Headings.{same_heading}
 use Rattle.relation_typing.specs.Items.{Made, item_typed, elements_typed}
 use Rattle.relation_typing.specs.Literals.{tuple_typed, under_heading, next_tuple, tuples_typed, literal_typed}
 use Rattle.relation_typing.specs.Shapes.{shape_made}
+use Rattle.relation_typing.proofs.ShapeLemmas.{same-itself}
 use Rattle.meaning_core.specs.Places.{places}
 use Rattle.meaning_core.specs.Rows.{set_names, values_on, literal_row}
 use Rattle.meaning_core.specs.Meanings.{literal_rows}
@@ -98,11 +94,6 @@ tuple-typed types heading shape vs (syntax.Tuple at (syntax.Elements there list)
           ∙ ap (λ (m : OrFault Heading). then_give m (λ of. Ok (got.0, of))) few,
       got.2,
     )
-
--- a heading is the same as itself
-pub same-itself : (heading : Heading) → same_heading heading heading ≡ true
-same-itself [] = refl
-same-itself (a ∷ rest) = and_from (bytes_eq a.0 a.0 && same_kind a.1 a.1) (same_heading rest rest) (and_from (bytes_eq a.0 a.0) (same_kind a.1 a.1) ((bytes_eq-Decides a.0 a.0).1 refl) (same_kind-self a.1)) (same-itself rest)
 
 next-typed : (types : List OrdinalNames) (heading : Heading) (sets : PlainSets) (t : TupleP) → tuple_typed types t ≡ Ok (sets, heading) → next_tuple types heading t ≡ Ok sets
 next-typed types heading sets (syntax.Tuple at elements) h =

@@ -41,7 +41,7 @@ same-headings (a ∷ rest) (b ∷ bs) h =
 
 -- ---- a tuple
 
-same-itself : (heading : Heading) → same_heading heading heading ≡ true
+pub same-itself : (heading : Heading) → same_heading heading heading ≡ true
 same-itself [] = refl
 same-itself (a ∷ rest) = and_from (bytes_eq a.0 a.0 && same_kind a.1 a.1) (same_heading rest rest) (and_from (bytes_eq a.0 a.0) (same_kind a.1 a.1) ((bytes_eq-Decides a.0 a.0).1 refl) (same_kind-self a.1)) (same-itself rest)
 
