@@ -2,21 +2,21 @@
 --     changed_state      where the relvars are others and all else stays
 --     state_back      where an exchange of values is taken back
 --     rule_appended, rule_removed, group_removed      with one database constraint more or less, and without relvars
-use Rattle.std.proofs.Common.{◌≡◌, Bool, true, false, cond, List, [], ◌∷◌, ◌++◌, map, length, not, filter, refl, sym, ap, ◌∙◌, Option, Some, None}
+use Rattle.std.proofs.Common.{◌≡◌, List, [], ◌∷◌, ◌++◌, map, length, not, filter, sym, ap, ◌∙◌, Option, Some, None}
 use Rattle.std.specs.Prelude.{option_map}
 use Rattle.std.specs.List.{IsDistinct}
 use Rattle.std.specs.Map.{keys_of, lookup}
 use Rattle.std.specs.Str.{bytes_eq}
 use Rattle.std.proofs.lemmas.List.{map-append}
 use Rattle.indexmap.specs.IndexMap.{shift_remove_entry}
-use Rattle.base_core.proofs.ListLemmas.{bytes_eq-sym}
 use Rattle.value_core.specs.Values.{Name}
 use Rattle.tree_core.specs.declared.relvar.Relvar.{Relvar}
 use Rattle.tree_core.specs.declared.relvar.Relvars.{Relvars}
 use Rattle.tree_core.specs.declared.test.RelTest.{RelTest}
-use Rattle.tree_core.specs.Relvars.{PlainRelvar, Entries, Rules, State, read_entry, read_relvar, read_relvars, read_rule, relvar_named, history_if}
+use Rattle.tree_core.specs.Relvars.{Entries, Rules, State, read_entry, read_relvar, read_relvars, read_rule, relvar_named, history_if}
 use Rattle.tree_core.specs.Trees.{read_test}
 use Rattle.tree_core.specs.Uses.{is_one_of}
+use Rattle.tree_core.proofs.NameLemmas.{looked-up}
 use Rattle.meaning_core.specs.Declarations.{group, with_history, with_rule, without_all, without_group, without_rule}
 use Rattle.assign_core.specs.Changes.{Changes, changed, replaced}
 use Rattle.assign_core.proofs.ExchangeLemmas.{length_changed, length_replaced, taken_back}
@@ -65,19 +65,9 @@ all_removed es first second third name since during o different e f g some =
     ∙ (filter_read read_relvar (λ n. not (is_one_of (name ∷ during ∷ since ∷ []) n)) es
     ∙ ap (λ (p : Option (Name × Name)). filter (λ r. not (is_one_of (with_history name p) r.0)) (map read_entry es)) (sym some))
 
-looked_up : (es : List (Name × Relvar)) (name : Name) → option_map read_relvar (lookup (bytes_eq name) es) ≡ relvar_named (map read_entry es) name
-looked_up [] name = refl
-looked_up (e ∷ es) name =
-    ap (λ (b : Bool). option_map read_relvar (cond b (Some e.1) (lookup (bytes_eq name) es))) (bytes_eq-sym name e.0) ∙ by (bytes_eq e.0 name) (looked_up es name)
-  where
-    by : (b : Bool) → option_map read_relvar (lookup (bytes_eq name) es) ≡ relvar_named (map read_entry es) name
-        → option_map read_relvar (cond b (Some e.1) (lookup (bytes_eq name) es)) ≡ cond b (Some (read_relvar e.1)) (relvar_named (map read_entry es) name)
-    by true ih = refl
-    by false ih = ih
-
 pub history_found : (es : List (Name × Relvar)) (name : Name) (out : Option Relvar) → out ≡ lookup (bytes_eq name) es
     → history_if (option_map read_relvar out) ≡ history_if (relvar_named (map read_entry es) name)
-history_found es name out e = ap history_if (ap (option_map read_relvar) e ∙ looked_up es name)
+history_found es name out e = ap history_if (ap (option_map read_relvar) e ∙ looked-up es name)
 
 -- ---- taken back
 
