@@ -3,9 +3,7 @@
 NO_CRATE = 'it speaks of meaning_core and of u_set, and no crate below both of these stands on both'
 
 PRIVATE = 'the lemmas of u_summary are its own: all typing would be proved again with them'
-OWN = 'the lemmas of tree_core are its own: all that stands on trees would be proved again with them'
 TEXTS = 'the lemmas of utd_lexer are its own: all that reads texts would be proved again with them'
-SHAPES = 'the lemmas of relation_typing are its own: all typing would be proved again with them'
 WORDS = 'each contract says the result in the words that its callers prove by'
 
 APART = {
@@ -17,14 +15,6 @@ APART = {
         ('crates/plain_rows/proofs/NumberLemmas.antt', 'digits-kind'),
         ('crates/utd_lexer/proofs/WordLemmas.antt', 'integer-kind'),
     }): TEXTS,
-    frozenset({
-        ('crates/constant_laws/proofs/TypedTuples.antt', 'same-itself'),
-        ('crates/relation_typing/proofs/ShapeLemmas.antt', 'same-itself'),
-    }): SHAPES,
-    frozenset({
-        ('crates/assign_core/proofs/StateLemmas.antt', 'looked_up'),
-        ('crates/tree_core/proofs/NameLemmas.antt', 'looked-up'),
-    }): OWN,
     frozenset({
         ('crates/row_making/proofs/SummaryLemmas.antt', 'before_ranks'),
         ('crates/u_summary/proofs/ExtremeLemmas.antt', 'before_ranks'),
