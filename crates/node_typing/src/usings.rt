@@ -20,37 +20,41 @@ use utd_syntax as syntax;
 use utd_syntax::{NameList, Projection};
 use value_core::OrdinalTypes;
 
+/// What stands around an operator under USING: the place of the whole, the list, and the operator's own place.
+#[derive(Clone, Copy)]
+pub struct UsingList<'a> {
+    pub place: Place,
+    pub list: &'a NameList,
+    pub at: Place,
+}
+
 /// An operator between two relations under USING: the refusals of the list, then those of the operator.
 pub fn type_using_infix(
     alloc: Global,
-    place: Place,
-    list: &NameList,
-    at: Place,
+    using: UsingList<'_>,
     word: InfixWord,
     left: RelTree,
     right: RelTree,
 ) -> Result<RelTree, Stop>
-    ensures { Gives read_tree result (rules.using_infix_rule place (read_list list.now) at word (read_tree left) (read_tree right)) }
+    ensures { Gives read_tree result (rules.using_infix_rule using.entry.place (read_list using.entry.list.now) using.entry.at word (read_tree left) (read_tree right)) }
 {
     let (left, right) = both_boxed(alloc, left, right)?;
-    infix_used(alloc, place, list, at, word, left, right)
+    infix_used(alloc, using, word, left, right)
 }
 
 /// The operator between operands in blocks of their own.
 fn infix_used(
     alloc: Global,
-    place: Place,
-    list: &NameList,
-    at: Place,
+    using: UsingList<'_>,
     word: InfixWord,
     left: Box<RelTree>,
     right: Box<RelTree>,
 ) -> Result<RelTree, Stop>
-    ensures { Gives read_tree result (rules.using_infix_rule place (read_list list.now) at word (read_tree left.value) (read_tree right.value)) }
+    ensures { Gives read_tree result (rules.using_infix_rule using.entry.place (read_list using.entry.list.now) using.entry.at word (read_tree left.value) (read_tree right.value)) }
 {
-    list_checked(heading(&left), heading(&right), list)?;
-    let part = infix_typed(alloc, at, word, left, right)?;
-    trees::used(alloc, place, list, part)
+    list_checked(heading(&left), heading(&right), using.list)?;
+    let part = infix_typed(alloc, using.at, word, left, right)?;
+    trees::used(alloc, using.place, using.list, part)
 }
 
 /// A projection under USING: the refusals of the list and of the projection, then E19 at a listed name.
@@ -88,37 +92,36 @@ fn projection_used(
 pub fn type_using_restriction(
     alloc: Global,
     types: &OrdinalTypes,
-    place: Place,
-    list: &NameList,
-    at: Place,
+    using: UsingList<'_>,
     scalar: &syntax::Scalar,
     t: RelTree,
 ) -> Result<RelTree, Stop>
     requires { AreOrdinals types.now }
-    ensures { Gives read_tree result (rules.using_restriction_rule types.now place (read_list list.now) at (read_scalar scalar.now) (read_tree t)) }
+    ensures { Gives read_tree result (rules.using_restriction_rule types.now using.entry.place (read_list using.entry.list.now) using.entry.at (read_scalar scalar.now) (read_tree t)) }
 {
     let of = boxed(alloc, t)?;
-    restriction_used(alloc, types, place, list, at, scalar, of)
+    restriction_used(alloc, types, using, scalar, of)
 }
 
 /// The WHERE over an operand in a block of its own.
 fn restriction_used(
     alloc: Global,
     types: &OrdinalTypes,
-    place: Place,
-    list: &NameList,
-    at: Place,
+    using: UsingList<'_>,
     scalar: &syntax::Scalar,
     of: Box<RelTree>,
 ) -> Result<RelTree, Stop>
     requires { AreOrdinals types.now }
-    ensures { Gives read_tree result (rules.using_restriction_rule types.now place (read_list list.now) at (read_scalar scalar.now) (read_tree of.value)) }
+    ensures { Gives read_tree result (rules.using_restriction_rule types.now using.entry.place (read_list using.entry.list.now) using.entry.at (read_scalar scalar.now) (read_tree of.value)) }
 {
     let to = heading(&of).copy(alloc)?;
-    let commalist = listed(alloc, heading(&of), heading(&of), list)?;
-    let c = condition_typed(alloc, types, at, heading(&of), scalar)?;
+    let commalist = listed(alloc, heading(&of), heading(&of), using.list)?;
+    let c = condition_typed(alloc, types, using.at, heading(&of), scalar)?;
     match swept(commalist.list.as_slice(), &c) {
-        Ok(()) => trees::used(alloc, place, list, RelTree::restrict(at, to, c, of)),
+        Ok(()) => {
+            let part = RelTree::restrict(using.at, to, c, of);
+            trees::used(alloc, using.place, using.list, part)
+        }
         Err(stop) => {
             drop(c);
             Err(stop)
@@ -130,39 +133,35 @@ fn restriction_used(
 pub fn type_using_extension(
     alloc: Global,
     types: &OrdinalTypes,
-    place: Place,
-    list: &NameList,
-    at: Place,
+    using: UsingList<'_>,
     sets: &syntax::Sets,
     t: RelTree,
 ) -> Result<RelTree, Stop>
     requires { AreOrdinals types.now }
-    ensures { Gives read_tree result (rules.using_extension_rule types.now place (read_list list.now) at (read_sets sets.now) (read_tree t)) }
+    ensures { Gives read_tree result (rules.using_extension_rule types.now using.entry.place (read_list using.entry.list.now) using.entry.at (read_sets sets.now) (read_tree t)) }
 {
     let of = boxed(alloc, t)?;
-    extension_used(alloc, types, place, list, at, sets, of)
+    extension_used(alloc, types, using, sets, of)
 }
 
 /// The EXTEND of an operand in a block of its own.
 fn extension_used(
     alloc: Global,
     types: &OrdinalTypes,
-    place: Place,
-    list: &NameList,
-    at: Place,
+    using: UsingList<'_>,
     sets: &syntax::Sets,
     of: Box<RelTree>,
 ) -> Result<RelTree, Stop>
     requires { AreOrdinals types.now }
-    ensures { Gives read_tree result (rules.using_extension_rule types.now place (read_list list.now) at (read_sets sets.now) (read_tree of.value)) }
+    ensures { Gives read_tree result (rules.using_extension_rule types.now using.entry.place (read_list using.entry.list.now) using.entry.at (read_sets sets.now) (read_tree of.value)) }
 {
-    let commalist = listed(alloc, heading(&of), heading(&of), list)?;
-    let made = extension_made(alloc, types, at, heading(&of), sets)?;
-    let words = list.names.list.as_slice();
+    let commalist = listed(alloc, heading(&of), heading(&of), using.list)?;
+    let made = extension_made(alloc, types, using.at, heading(&of), sets)?;
+    let words = using.list.names.list.as_slice();
     none_assigned(words, &sets.first, sets.more.list.as_slice())?;
     sets_swept(commalist.list.as_slice(), made.sets.list.as_slice())?;
-    let part = RelTree::extend(at, made.heading, made.sets, of);
-    trees::used(alloc, place, list, part)
+    let part = RelTree::extend(using.at, made.heading, made.sets, of);
+    trees::used(alloc, using.place, using.list, part)
 }
 
 /// A SUMMARIZE under USING: the refusals of the list and of the summary, then E19 at a listed name, then E18 at a listed name in
@@ -170,39 +169,35 @@ fn extension_used(
 pub fn type_using_summary(
     alloc: Global,
     types: &OrdinalTypes,
-    place: Place,
-    list: &NameList,
-    at: Place,
+    using: UsingList<'_>,
     by: &syntax::Names,
     aggregates: &syntax::Aggregates,
     t: RelTree,
 ) -> Result<RelTree, Stop>
     requires { AreOrdinals types.now }
-    ensures { Gives read_tree result (rules.using_summary_rule types.now place (read_list list.now) at (read_names by.now) (read_aggregates aggregates.now) (read_tree t)) }
+    ensures { Gives read_tree result (rules.using_summary_rule types.now using.entry.place (read_list using.entry.list.now) using.entry.at (read_names by.now) (read_aggregates aggregates.now) (read_tree t)) }
 {
     let of = boxed(alloc, t)?;
-    summary_used(alloc, types, place, list, at, by, aggregates, of)
+    summary_used(alloc, types, using, by, aggregates, of)
 }
 
 /// The SUMMARIZE of an operand in a block of its own.
 fn summary_used(
     alloc: Global,
     types: &OrdinalTypes,
-    place: Place,
-    list: &NameList,
-    at: Place,
+    using: UsingList<'_>,
     by: &syntax::Names,
     aggregates: &syntax::Aggregates,
     of: Box<RelTree>,
 ) -> Result<RelTree, Stop>
     requires { AreOrdinals types.now }
-    ensures { Gives read_tree result (rules.using_summary_rule types.now place (read_list list.now) at (read_names by.now) (read_aggregates aggregates.now) (read_tree of.value)) }
+    ensures { Gives read_tree result (rules.using_summary_rule types.now using.entry.place (read_list using.entry.list.now) using.entry.at (read_names by.now) (read_aggregates aggregates.now) (read_tree of.value)) }
 {
-    let commalist = listed(alloc, heading(&of), heading(&of), list)?;
+    let commalist = listed(alloc, heading(&of), heading(&of), using.list)?;
     let (positions, groups) = groups_typed(alloc, heading(&of), by)?;
-    let made = aggregates_made(alloc, types, at, heading(&of), &groups, aggregates)?;
-    all_kept(groups.attributes(), list.names.list.as_slice())?;
+    let made = aggregates_made(alloc, types, using.at, heading(&of), &groups, aggregates)?;
+    all_kept(groups.attributes(), using.list.names.list.as_slice())?;
     aggregates_name_no(commalist.list.as_slice(), made.aggregates.list.as_slice())?;
-    let part = RelTree::summarize(at, made.heading, positions, made.aggregates, of);
-    trees::used(alloc, place, list, part)
+    let part = RelTree::summarize(using.at, made.heading, positions, made.aggregates, of);
+    trees::used(alloc, using.place, using.list, part)
 }

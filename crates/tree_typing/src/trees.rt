@@ -9,6 +9,7 @@ ghost use Rattle.tree_typing.specs.Trees as rules;
 
 use crate::relvars::type_relvar;
 use node_typing as nodes;
+use node_typing::UsingList;
 use point_core::{Place, Stop};
 use relation_typing::type_literal;
 use std::alloc::Global;
@@ -160,16 +161,26 @@ fn used(
         UsingPart::Infix(l, at, word, r) => {
             let left = operand(alloc, l, relvars)?;
             let word = nodes::infix_named(*word);
+            let using = UsingList {
+                place,
+                list,
+                at: *at,
+            };
             match operand(alloc, r, relvars) {
-                Ok(right) => nodes::type_using_infix(alloc, place, list, *at, word, left, right),
+                Ok(right) => nodes::type_using_infix(alloc, using, word, left, right),
                 Err(stop) => refused(left, stop),
             }
         }
         UsingPart::NotMatching(l, at, r) => {
             let left = operand(alloc, l, relvars)?;
             let word = InfixWord::NotMatching;
+            let using = UsingList {
+                place,
+                list,
+                at: *at,
+            };
             match operand(alloc, r, relvars) {
-                Ok(right) => nodes::type_using_infix(alloc, place, list, *at, word, left, right),
+                Ok(right) => nodes::type_using_infix(alloc, using, word, left, right),
                 Err(stop) => refused(left, stop),
             }
         }
@@ -179,7 +190,12 @@ fn used(
         }
         UsingPart::Where(of, at, condition) => {
             let t = operand(alloc, of, relvars)?;
-            nodes::type_using_restriction(alloc, &relvars.ordinals, place, list, *at, condition, t)
+            let using = UsingList {
+                place,
+                list,
+                at: *at,
+            };
+            nodes::type_using_restriction(alloc, &relvars.ordinals, using, condition, t)
         }
     }
 }
@@ -199,7 +215,12 @@ fn used_extension(
     match e {
         Extend::Of(at, of, sets) => {
             let t = whole(alloc, of, relvars)?;
-            nodes::type_using_extension(alloc, &relvars.ordinals, place, list, *at, sets, t)
+            let using = UsingList {
+                place,
+                list,
+                at: *at,
+            };
+            nodes::type_using_extension(alloc, &relvars.ordinals, using, sets, t)
         }
     }
 }
@@ -219,16 +240,12 @@ fn used_summary(
     match s {
         Summarize::Of(at, of, by, aggregates) => {
             let t = whole(alloc, of, relvars)?;
-            nodes::type_using_summary(
-                alloc,
-                &relvars.ordinals,
+            let using = UsingList {
                 place,
                 list,
-                *at,
-                by,
-                aggregates,
-                t,
-            )
+                at: *at,
+            };
+            nodes::type_using_summary(alloc, &relvars.ordinals, using, by, aggregates, t)
         }
     }
 }
