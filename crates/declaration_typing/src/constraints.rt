@@ -67,17 +67,8 @@ fn used_foreign_typed(
 ) -> Result<Constraint, Stop>
     ensures { Gives (λ c. c) result (rules.used_foreign_typed (read_relvars relvars.now) own.now heading.now (read_list list.now) (read_foreign foreign.now)) }
 {
-    let (commalist, key) = listed_key(alloc, heading, list, &foreign.names)?;
-    reference_typed(
-        alloc,
-        relvars,
-        own,
-        heading,
-        commalist,
-        key,
-        &foreign.names,
-        &foreign.relvar,
-    )
+    let key = listed_key(alloc, heading, list, &foreign.names)?;
+    reference_typed(alloc, relvars, own, heading, key, foreign)
 }
 
 /// A constraint under USING.

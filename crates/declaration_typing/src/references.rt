@@ -110,24 +110,22 @@ pub(crate) fn names_typed(
     Ok(Positions { list })
 }
 
-/// The foreign key of these positions.
+/// The foreign key of these positions: those of a list under USING, and those of the K names.
 pub(crate) fn reference_typed(
     alloc: Global,
     relvars: &Relvars,
     own: &Name,
     heading: &Heading,
-    commalist: Positions,
-    key: Positions,
-    names: &Names,
-    word: &Word,
+    key: (Positions, Positions),
+    foreign: &Foreign,
 ) -> Result<Constraint, Stop>
-    ensures { Gives (λ c. c) result (rules.reference_typed (read_relvars relvars.now) own.now heading.now commalist key (read_names names.now) (read_name word.now)) }
+    ensures { Gives (λ c. c) result (rules.reference_typed (read_relvars relvars.now) own.now heading.now key.0 key.1 (read_names foreign.now.names) (read_name foreign.now.relvar)) }
 {
-    let name = name_typed(alloc, word)?;
-    let there = heading_there(relvars, own, heading, word.place, &name)?;
-    let words = names.names.list.as_slice();
+    let name = name_typed(alloc, &foreign.relvar)?;
+    let there = heading_there(relvars, own, heading, foreign.relvar.place, &name)?;
+    let words = foreign.names.names.list.as_slice();
     let list = positions_there(alloc, heading.attributes(), there.attributes(), words)?;
-    Ok(Constraint::Foreign(commalist, key, name, Positions { list }))
+    Ok(Constraint::Foreign(key.0, key.1, name, Positions { list }))
 }
 
 /// FOREIGN KEY.
@@ -144,14 +142,5 @@ pub(crate) fn foreign_typed(
     let commalist = Positions {
         list: Vec::new(alloc),
     };
-    reference_typed(
-        alloc,
-        relvars,
-        own,
-        heading,
-        commalist,
-        key,
-        &foreign.names,
-        &foreign.relvar,
-    )
+    reference_typed(alloc, relvars, own, heading, (commalist, key), foreign)
 }
