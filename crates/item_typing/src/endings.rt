@@ -149,23 +149,30 @@ fn end_typed(
     }
 }
 
+/// What a TERMINATE says: the name of a view, the place of AT, the point up to which facts last, and the facts that end.
+#[derive(Clone, Copy)]
+pub(crate) struct Ending<'a> {
+    pub(crate) word: &'a Word,
+    pub(crate) at: Place,
+    pub(crate) scalar: &'a syntax::Scalar,
+    pub(crate) condition: &'a Condition,
+}
+
 /// `"TERMINATE" name "AT" scalar condition`.
 pub(crate) fn type_ending(
     alloc: Global,
     place: Place,
-    word: &Word,
-    at: Place,
-    scalar: &syntax::Scalar,
-    condition: &Condition,
+    ending: Ending<'_>,
     relvars: &Relvars,
 ) -> Result<Item, Stop>
     requires { AreOrdinals (read_relvars relvars.now).ordinals }
-    ensures { Gives read_item result (rules.ending_typed (read_relvars relvars.now) place (read_name word.now) at (read_scalar scalar.now) (read_condition condition.now)) }
+    ensures { Gives read_item result (rules.ending_typed (read_relvars relvars.now) place (read_name ending.entry.word.now) ending.entry.at (read_scalar ending.entry.scalar.now) (read_condition ending.entry.condition.now)) }
 {
+    let word = ending.word;
     let name = name_typed(alloc, word)?;
     let relvar = known_relvar(relvars, &name, word.place)?;
     let facts = facts_of(relvars, word.place, relvar)?;
     let heading = relvar.heading().copy(alloc)?;
-    let form = end_typed(alloc, relvars, facts, at, scalar, condition)?;
+    let form = end_typed(alloc, relvars, facts, ending.at, ending.scalar, ending.condition)?;
     Ok(item_of(place, Target { name, heading }, form))
 }

@@ -9,7 +9,7 @@ ghost use Rattle.tree_core.specs.Relvars.{read_relvars};
 ghost use Rattle.item_typing.specs.Items as rules;
 
 use crate::changes::{condition_if, of_rows};
-use crate::endings::type_ending;
+use crate::endings::{Ending, type_ending};
 use crate::points::{portion_deleted, portion_updated, used_deletion, used_update};
 use crate::sets::sets_made;
 use crate::targets::{item_of, rows_typed, target_typed};
@@ -96,6 +96,14 @@ fn type_deletion(
     Ok(item_of(place, target, form))
 }
 
+/// What an UPDATE says: the name of its target, the condition of the rows that change, and their new values.
+#[derive(Clone, Copy)]
+struct Update<'a> {
+    word: &'a Word,
+    condition: &'a Condition,
+    sets: &'a Sets,
+}
+
 /// What an UPDATE changes.
 fn type_updated(
     alloc: Global,
@@ -121,16 +129,14 @@ fn type_updated(
 fn type_update(
     alloc: Global,
     place: Place,
-    word: &Word,
-    condition: &Condition,
-    sets: &Sets,
+    update: Update<'_>,
     relvars: &Relvars,
 ) -> Result<Item, Stop>
     requires { AreOrdinals (read_relvars relvars.now).ordinals }
-    ensures { Gives typed.read_item result (rules.update_item_typed (read_relvars relvars.now) place (read_name word.now) NoPortion (read_condition condition.now) (read_sets sets.now)) }
+    ensures { Gives typed.read_item result (rules.update_item_typed (read_relvars relvars.now) place (read_name update.entry.word.now) NoPortion (read_condition update.entry.condition.now) (read_sets update.entry.sets.now)) }
 {
-    let target = target_typed(alloc, word, relvars)?;
-    let form = type_updated(alloc, &target.heading, condition, sets, relvars)?;
+    let target = target_typed(alloc, update.word, relvars)?;
+    let form = type_updated(alloc, &target.heading, update.condition, update.sets, relvars)?;
     Ok(item_of(place, target, form))
 }
 
@@ -138,17 +144,22 @@ fn type_update(
 fn type_portion_update(
     alloc: Global,
     place: Place,
-    word: &Word,
     elements: &SomeElements,
-    condition: &Condition,
-    sets: &Sets,
+    update: Update<'_>,
     relvars: &Relvars,
 ) -> Result<Item, Stop>
     requires { AreOrdinals (read_relvars relvars.now).ordinals }
-    ensures { (at : Place) → Gives typed.read_item result (rules.update_item_typed (read_relvars relvars.now) place (read_name word.now) (OfPortion at (read_some_elements elements.now)) (read_condition condition.now) (read_sets sets.now)) }
+    ensures { (at : Place) → Gives typed.read_item result (rules.update_item_typed (read_relvars relvars.now) place (read_name update.entry.word.now) (OfPortion at (read_some_elements elements.now)) (read_condition update.entry.condition.now) (read_sets update.entry.sets.now)) }
 {
-    let target = target_typed(alloc, word, relvars)?;
-    let form = portion_updated(alloc, &target.heading, elements, condition, sets, relvars)?;
+    let target = target_typed(alloc, update.word, relvars)?;
+    let form = portion_updated(
+        alloc,
+        &target.heading,
+        elements,
+        update.condition,
+        update.sets,
+        relvars,
+    )?;
     Ok(item_of(place, target, form))
 }
 
@@ -197,16 +208,21 @@ fn type_used_update(
     alloc: Global,
     place: Place,
     list: &NameList,
-    word: &Word,
-    condition: &Condition,
-    sets: &Sets,
+    update: Update<'_>,
     relvars: &Relvars,
 ) -> Result<Item, Stop>
     requires { AreOrdinals (read_relvars relvars.now).ordinals }
-    ensures { (at : Place) → Gives typed.read_item result (rules.used_item_typed (read_relvars relvars.now) place (read_list list.now) (UsedUpdate at (read_name word.now) (read_condition condition.now) (read_sets sets.now))) }
+    ensures { (at : Place) → Gives typed.read_item result (rules.used_item_typed (read_relvars relvars.now) place (read_list list.now) (UsedUpdate at (read_name update.entry.word.now) (read_condition update.entry.condition.now) (read_sets update.entry.sets.now))) }
 {
-    let target = target_typed(alloc, word, relvars)?;
-    let form = used_update(alloc, &target.heading, list, condition, sets, relvars)?;
+    let target = target_typed(alloc, update.word, relvars)?;
+    let form = used_update(
+        alloc,
+        &target.heading,
+        list,
+        update.condition,
+        update.sets,
+        relvars,
+    )?;
     Ok(item_of(place, target, form))
 }
 
@@ -229,7 +245,12 @@ fn type_used(
             type_used_deletion(alloc, place, list, word, deletion, relvars)
         }
         UsedItem::Update(_, word, condition, sets) => {
-            type_used_update(alloc, place, list, word, condition, sets, relvars)
+            let update = Update {
+                word,
+                condition,
+                sets,
+            };
+            type_used_update(alloc, place, list, update, relvars)
         }
     }
 }
@@ -245,15 +266,31 @@ pub fn type_item(alloc: Global, item: &syntax::Item, relvars: &Relvars) -> Resul
         syntax::Item::Delete(place, word, deletion) => type_deletion(
             alloc, *place, word, deletion, relvars,
         ),
-        syntax::Item::Update(place, word, MaybePortion::None, condition, sets) => type_update(
-            alloc, *place, word, condition, sets, relvars,
-        ),
-        syntax::Item::Update(place, word, MaybePortion::Of(_, elements), condition, sets) => {
-            type_portion_update(alloc, *place, word, elements, condition, sets, relvars)
+        syntax::Item::Update(place, word, MaybePortion::None, condition, sets) => {
+            let update = Update {
+                word,
+                condition,
+                sets,
+            };
+            type_update(alloc, *place, update, relvars)
         }
-        syntax::Item::Terminate(place, word, at, scalar, condition) => type_ending(
-            alloc, *place, word, *at, scalar, condition, relvars,
-        ),
+        syntax::Item::Update(place, word, MaybePortion::Of(_, elements), condition, sets) => {
+            let update = Update {
+                word,
+                condition,
+                sets,
+            };
+            type_portion_update(alloc, *place, elements, update, relvars)
+        }
+        syntax::Item::Terminate(place, word, at, scalar, condition) => {
+            let ending = Ending {
+                word,
+                at: *at,
+                scalar,
+                condition,
+            };
+            type_ending(alloc, *place, ending, relvars)
+        }
         syntax::Item::Using(place, list, used) => type_used(alloc, *place, list, used, relvars),
     }
 }
