@@ -61,8 +61,11 @@ under_using item None t = t
 under_using item (Some commalist) t = using item.place item.heading commalist t
 
 -- the target and an operand, joined by a word
+abbrev pub beside : PlainItem → InfixWord → Tree → Tree
+beside item word t = infix_of item.place item.heading word (target_of item) t
+
 abbrev pub with_operand : PlainItem → Option (List ℕ) → InfixWord → Tree → Tree
-with_operand item commalist word t = under_using item commalist (infix_of item.place item.heading word (target_of item) t)
+with_operand item commalist word t = under_using item commalist (beside item word t)
 
 -- the target's rows that meet the condition
 abbrev pub rows_where : PlainItem → Option (List ℕ) → Expr → Tree

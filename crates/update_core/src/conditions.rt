@@ -22,8 +22,7 @@ pub(crate) fn change_condition(
     ensures { IfOk result (λ e. read e ≡ condition_of_change (read_item item.now) (read_change change.now)) }
 {
     let c = condition(alloc, item.place, &change.condition)?;
-    let c = inside_if(alloc, item.place, &item.heading, &change.portion, c)?;
-    Ok(c)
+    inside_if(alloc, item.place, &item.heading, &change.portion, c)
 }
 
 /// The condition, or TRUE where it is missing.
@@ -41,8 +40,7 @@ pub fn negated(alloc: Global, place: Place, c: &Scalar) -> Result<Scalar, Memory
     ensures { IfOk result (λ e. read e ≡ negated place (read c.now)) }
 {
     let c = c.copy(alloc)?;
-    let not = negation(alloc, place, c)?;
-    Ok(not)
+    negation(alloc, place, c)
 }
 
 /// That the interval of the attribute at the position lies in the one given.
@@ -57,8 +55,7 @@ fn lies_in(
     let over = type_at(heading, part.0);
     let interval = part.1.copy(alloc)?;
     let own = attribute(place, part.0);
-    let inside = intervals_compared(alloc, place, AllenWord::IncludedIn, over, own, interval)?;
-    Ok(inside)
+    intervals_compared(alloc, place, AllenWord::IncludedIn, over, own, interval)
 }
 
 /// The condition and those of the parts, from the left.
@@ -94,7 +91,7 @@ fn inside(
         Some((first, rest)) => {
             let first = lies_in(alloc, place, heading, first)?;
             let all = all_of(alloc, place, heading, first, rest)?;
-            Ok(conjunction(alloc, place, all, c)?)
+            conjunction(alloc, place, all, c)
         }
     }
 }
@@ -111,6 +108,6 @@ fn inside_if(
 {
     match portion {
         None => Ok(c),
-        Some(portion) => Ok(inside(alloc, place, heading, portion.list.as_slice(), c)?),
+        Some(portion) => inside(alloc, place, heading, portion.list.as_slice(), c),
     }
 }

@@ -18,8 +18,7 @@ pub fn expand(alloc: Global, item: &Item) -> Result<Vec<Assignment>, Memory>
     ensures { IfOk result (λ v. map read_assignment v.items ≡ expanded (read_item item.now)) }
 {
     let one = assignment(alloc, item)?;
-    let mut list = Vec::with_capacity(alloc, 1)?;
-    list.push(one)?;
+    let list = vec![in alloc; one]?;
     Ok(list)
 }
 
@@ -54,8 +53,8 @@ fn source(alloc: Global, item: &Item) -> Result<RelTree, Memory>
             InfixWord::Minus,
             t,
         )?),
-        ItemForm::DeleteRows(change) => Ok(without_rows(alloc, item, change)?),
-        ItemForm::Update(change, sets) => Ok(with_changes(alloc, item, change, sets)?),
+        ItemForm::DeleteRows(change) => without_rows(alloc, item, change),
+        ItemForm::Update(change, sets) => with_changes(alloc, item, change, sets),
         ItemForm::Terminate { .. } => unreachable!(),
     }
 }
@@ -84,7 +83,7 @@ fn change_list(alloc: Global, change: &Change) -> Result<Option<Positions>, Memo
 {
     match &change.portion {
         Some(portion) => Ok(Some(attributes(alloc, portion)?)),
-        None => Ok(copy_if(alloc, &change.commalist)?),
+        None => copy_if(alloc, &change.commalist),
     }
 }
 

@@ -3,7 +3,7 @@ ghost use Rattle.std.specs.Prelude.{◌≡◌, IfOk};
 ghost use Rattle.scalar_core.specs.Expressions.{read};
 ghost use Rattle.tree_core.specs.Trees.{read_tree, read_sets};
 ghost use Rattle.tree_core.specs.Items.{read_item};
-ghost use Rattle.update_core.specs.Updates.{target_of, under_using, with_operand, rows_where, other_rows, changed_rows, replaced, updated};
+ghost use Rattle.update_core.specs.Updates.{target_of, under_using, beside, with_operand, rows_where, other_rows, changed_rows, replaced, updated};
 
 use crate::conditions::negated;
 use point_core::Memory;
@@ -37,6 +37,19 @@ fn under_using(
     }
 }
 
+/// The target beside an operand.
+fn beside(
+    alloc: Global,
+    item: &Item,
+    word: InfixWord,
+    right: RelTree,
+) -> Result<RelTree, Memory>
+    ensures { IfOk result (λ r. read_tree r ≡ beside (read_item item.now) word (read_tree right)) }
+{
+    let left = target(alloc, item)?;
+    left.joined(alloc, item.place, &item.heading, word, right)
+}
+
 /// The target and an operand, joined by a word.
 pub(crate) fn with_operand(
     alloc: Global,
@@ -47,11 +60,9 @@ pub(crate) fn with_operand(
 ) -> Result<RelTree, Memory>
     ensures { IfOk result (λ r. read_tree r ≡ with_operand (read_item item.now) commalist.now word (read_tree t.now)) }
 {
-    let left = target(alloc, item)?;
     let right = t.copy(alloc)?;
-    let whole = left.joined(alloc, item.place, &item.heading, word, right)?;
-    let whole = under_using(alloc, item, commalist, whole)?;
-    Ok(whole)
+    let whole = beside(alloc, item, word, right)?;
+    under_using(alloc, item, commalist, whole)
 }
 
 /// The target's rows that meet the condition.
@@ -65,8 +76,7 @@ fn rows_where(
 {
     let rows = target(alloc, item)?;
     let rows = rows.restricted(alloc, item.place, &item.heading, c)?;
-    let rows = under_using(alloc, item, commalist, rows)?;
-    Ok(rows)
+    under_using(alloc, item, commalist, rows)
 }
 
 /// The other rows.
@@ -79,8 +89,7 @@ pub(crate) fn other_rows(
     ensures { IfOk result (λ r. read_tree r ≡ other_rows (read_item item.now) commalist.now (read c.now)) }
 {
     let not = negated(alloc, item.place, c)?;
-    let rows = rows_where(alloc, item, commalist, not)?;
-    Ok(rows)
+    rows_where(alloc, item, commalist, not)
 }
 
 /// The rows that meet the condition, with new values.
@@ -93,11 +102,10 @@ fn changed_rows(
 ) -> Result<RelTree, Memory>
     ensures { IfOk result (λ r. read_tree r ≡ changed_rows (read_item item.now) commalist.now (read c) (read_sets sets.now)) }
 {
-    let rows = rows_where(alloc, item, commalist, c)?;
     let sets = copy_sets(alloc, sets)?;
+    let rows = rows_where(alloc, item, commalist, c)?;
     let rows = rows.extended(alloc, item.place, &item.heading, sets)?;
-    let rows = under_using(alloc, item, commalist, rows)?;
-    Ok(rows)
+    under_using(alloc, item, commalist, rows)
 }
 
 /// The other rows, and the changed ones.
@@ -112,8 +120,7 @@ fn replaced(
 {
     let others = other_rows(alloc, item, commalist, &c)?;
     let changed = changed_rows(alloc, item, commalist, c, sets)?;
-    let rows = others.joined(alloc, item.place, &item.heading, InfixWord::Union, changed)?;
-    Ok(rows)
+    others.joined(alloc, item.place, &item.heading, InfixWord::Union, changed)
 }
 
 /// The other rows and the changed ones, under USING where a list is given.
@@ -127,5 +134,5 @@ pub(crate) fn updated(
     ensures { IfOk result (λ r. read_tree r ≡ updated (read_item item.now) commalist.now (read c) (read_sets sets.now)) }
 {
     let rows = replaced(alloc, item, commalist, c, sets)?;
-    Ok(under_using(alloc, item, commalist, rows)?)
+    under_using(alloc, item, commalist, rows)
 }
