@@ -10,7 +10,8 @@ use Rattle.value_core.specs.Values.{Heading}
 use Rattle.scalar_core.specs.declared.operators.PairOp.TheVariants.{Select}
 use Rattle.scalar_core.specs.Expressions.{Expr, attribute, pair}
 use Rattle.relation_core.specs.Agreement.{position_of}
-use Rattle.tree_core.specs.Trees.{Tree, project, extend}
+use Rattle.tree_core.specs.declared.tree.InfixWord.TheVariants.{Union}
+use Rattle.tree_core.specs.Trees.{Tree, named, infix_of, project, extend, using}
 use Rattle.meaning_core.specs.Histories.{joined_history, with_attribute, all_but}
 use Rattle.since_during.specs.declared.joining.Sides.{Sides}
 
@@ -32,6 +33,13 @@ narrowed s wide e t =
 
 abbrev pub ended : Sides → Place → Expr → Tree → Tree
 ended s at e t = narrowed s (wide_of s) (lasting s at e) t
+
+-- the during relvar's rows beside others, and rows point by point
+abbrev pub united : Sides → Tree → Tree
+united s t = infix_of s.place s.during.now Union (named s.place s.during.now s.during_name.now) t
+
+abbrev pub at_points : Sides → Tree → Tree
+at_points s t = using s.place s.during.now (position_of s.during.now s.span.now ∷ []) t
 
 abbrev pub joined : Sides → Place → Expr → Tree → Tree
 joined s at e t = joined_history s.place at s.over s.point.now s.span.now s.during_name.now s.since.now s.during.now e t

@@ -8,7 +8,7 @@ ghost use Rattle.meaning_core.specs.Endings.{history_of, rule_if, rule_of};
 ghost use Rattle.meaning_core.specs.WellMade.{IsWellMade};
 ghost use Rattle.update_core.specs.Endings.{ended_in, meant_by};
 ghost use Rattle.since_during.specs.Joinable.{AreJoinable, IsEndingForm, IsJoinable};
-ghost use Rattle.since_during.specs.Ended.{both_of, facts, with_ended, without_ended};
+ghost use Rattle.since_during.specs.Ended.{both_of, facts, other_facts, with_ended, with_facts, without_ended};
 ghost use Rattle.since_during.specs.Sides.{IsNarrow};
 
 use crate::headings::name_at;
@@ -130,9 +130,7 @@ fn both(
 {
     let more = with_ended(alloc, sides, since, ending)?;
     let rest = without_ended(alloc, sides, since, ending)?;
-    let mut list = Vec::with_capacity(alloc, 2)?;
-    list.push(more)?;
-    list.push(rest)?;
+    let list = vec![in alloc; more, rest]?;
     Ok(list)
 }
 
@@ -141,8 +139,23 @@ fn facts(alloc: Global, sides: Sides<'_>, since: &Name, c: Scalar) -> Result<Rel
     ensures { IfOk result (λ t. read_tree t ≡ facts sides.entry since.now (read c)) }
 {
     let own = RelTree::of_name(alloc, sides.place, sides.since, since)?;
-    let rows = own.restricted(alloc, sides.place, sides.since, c)?;
-    Ok(rows)
+    own.restricted(alloc, sides.place, sides.since, c)
+}
+
+/// The during relvar's rows, and the facts that end.
+fn ended_facts(
+    alloc: Global,
+    sides: Sides<'_>,
+    since: &Name,
+    ending: Ending<'_>,
+) -> Result<RelTree, Memory>
+    requires { IsNarrow sides }
+    ensures { IfOk result (λ t. read_tree t ≡ with_facts sides.entry since.now ending.entry) }
+{
+    let c = condition(alloc, sides.place, ending.condition)?;
+    let rows = facts(alloc, sides, since, c)?;
+    let end = ending.end.copy(alloc)?;
+    joined_history(alloc, sides, ending.at, end, rows)
 }
 
 /// The during relvar gets the facts that end.
@@ -155,12 +168,23 @@ fn with_ended(
     requires { IsNarrow sides }
     ensures { IfOk result (λ a. read_assignment a ≡ with_ended sides.entry since.now ending.entry) }
 {
-    let c = condition(alloc, sides.place, ending.condition)?;
-    let rows = facts(alloc, sides, since, c)?;
-    let end = ending.end.copy(alloc)?;
-    let tree = joined_history(alloc, sides, ending.at, end, rows)?;
     let target = sides.during_name.copy(alloc)?;
+    let tree = ended_facts(alloc, sides, since, ending)?;
     Ok(Assignment { target, tree })
+}
+
+/// The other facts.
+fn other_facts(
+    alloc: Global,
+    sides: Sides<'_>,
+    since: &Name,
+    ending: Ending<'_>,
+) -> Result<RelTree, Memory>
+    ensures { IfOk result (λ t. read_tree t ≡ other_facts sides.entry since.now ending.entry) }
+{
+    let c = condition(alloc, sides.place, ending.condition)?;
+    let not = negation(alloc, sides.place, c)?;
+    facts(alloc, sides, since, not)
 }
 
 /// The since relvar keeps the others.
@@ -172,9 +196,7 @@ fn without_ended(
 ) -> Result<Assignment, Memory>
     ensures { IfOk result (λ a. read_assignment a ≡ without_ended sides.entry since.now ending.entry) }
 {
-    let c = condition(alloc, sides.place, ending.condition)?;
-    let c = negation(alloc, sides.place, c)?;
-    let tree = facts(alloc, sides, since, c)?;
     let target = since.copy(alloc)?;
+    let tree = other_facts(alloc, sides, since, ending)?;
     Ok(Assignment { target, tree })
 }

@@ -81,8 +81,7 @@ fn since_constraints(
     ensures { IfOk result (λ c. c ≡ constraints.Key (key_in h.now heading.now) ∷ []) }
 {
     let key = key_in(alloc, h, heading)?;
-    let mut list = Vec::with_capacity(alloc, 1)?;
-    list.push(Constraint::Key(Positions { list: key }))?;
+    let list = vec![in alloc; Constraint::Key(Positions { list: key })]?;
     Ok(ListOf { list })
 }
 
@@ -97,16 +96,40 @@ fn since_relvar(alloc: Global, h: &HistoryData) -> Result<Declaration, Memory>
     Ok(Declaration::Base(name, heading, constraints))
 }
 
+/// Where the attributes of the key stand in the heading, and one position more.
+fn key_and(alloc: Global, h: &HistoryData, heading: &Heading, at: usize) -> Result<Vec<usize>, Memory>
+    requires { IsHistoryData h.now }
+    ensures { IfOk result (λ v. v.items ≡ key_in h.now heading.now ++ at ∷ []) }
+{
+    let mut list = key_in(alloc, h, heading)?;
+    list.push(at)?;
+    Ok(list)
+}
+
 /// The key under USING of a relvar with the interval, whose attribute is one of the key.
 fn packed_key(alloc: Global, h: &HistoryData, heading: &Heading) -> Result<Constraint, Memory>
     requires { IsHistoryData h.now }
     ensures { IfOk result (λ c. c ≡ constraints.UKey (position_of heading.now h.now.span ∷ []) (key_in h.now heading.now ++ position_of heading.now h.now.span ∷ [])) }
 {
     let span = position(heading.attributes(), &h.span);
+    let list = key_and(alloc, h, heading, span)?;
     let commalist = one_position(alloc, span)?;
-    let mut key = key_in(alloc, h, heading)?;
-    key.push(span)?;
-    Ok(Constraint::UKey(commalist, Positions { list: key }))
+    Ok(Constraint::UKey(commalist, Positions { list }))
+}
+
+/// Where the attributes of the key stand in the heading, and where all of the facts do.
+fn facts_in(
+    alloc: Global,
+    h: &HistoryData,
+    heading: &Heading,
+) -> Result<(Positions, Positions), Memory>
+    requires { IsHistoryData h.now }
+    ensures key { IfOk result (λ p. p.0 ≡ key_in h.now heading.now) }
+    ensures all { IfOk result (λ p. p.1 ≡ all_in h.now heading.now) }
+{
+    let list = key_in(alloc, h, heading)?;
+    let all = all_in(alloc, h, heading)?;
+    Ok((Positions { list }, all))
 }
 
 /// The rule between the two relvars of these headings.
@@ -119,17 +142,27 @@ fn rule_between(
     requires { IsHistoryData h.now }
     ensures { IfOk result (λ r. r ≡ rule_between h.now since.now during.now) }
 {
-    let key_here = key_in(alloc, h, during)?;
-    let key_there = key_in(alloc, h, since)?;
+    let (key_here, all_here) = facts_in(alloc, h, during)?;
+    let (key_there, all_there) = facts_in(alloc, h, since)?;
+    let name = h.since.copy(alloc)?;
     Ok(HistoryRule {
-        since: h.since.copy(alloc)?,
-        key_here: Positions { list: key_here },
-        key_there: Positions { list: key_there },
-        all_here: all_in(alloc, h, during)?,
-        all_there: all_in(alloc, h, since)?,
+        since: name,
+        key_here,
+        key_there,
+        all_here,
+        all_there,
         point_there: position(since.attributes(), &h.point),
         span_here: position(during.attributes(), &h.span),
     })
+}
+
+/// The rule of the during relvar, which has this heading.
+fn own_rule(alloc: Global, h: &HistoryData, heading: &Heading) -> Result<HistoryRule, Memory>
+    requires { IsHistoryData h.now }
+    ensures { IfOk result (λ r. r ≡ rule_between h.now (since_heading h.now) heading.now) }
+{
+    let since = since_heading(alloc, h)?;
+    rule_between(alloc, h, &since, heading)
 }
 
 /// The key and the rule of the during relvar.
@@ -143,11 +176,8 @@ fn during_constraints(
     ensures { IfOk result (λ c. c ≡ during_constraints h.now) }
 {
     let key = packed_key(alloc, h, heading)?;
-    let since = since_heading(alloc, h)?;
-    let rule = rule_between(alloc, h, &since, heading)?;
-    let mut list = Vec::with_capacity(alloc, 2)?;
-    list.push(key)?;
-    list.push(Constraint::History(rule))?;
+    let rule = own_rule(alloc, h, heading)?;
+    let list = vec![in alloc; key, Constraint::History(rule)]?;
     Ok(ListOf { list })
 }
 
@@ -173,7 +203,7 @@ fn last_point(place: Place, over: AnyType) -> Scalar
 }
 
 /// The expression of the view of relvars of these headings.
-fn view_tree(
+fn view_between(
     alloc: Global,
     h: &HistoryData,
     since: &Heading,
@@ -195,8 +225,17 @@ fn view_tree(
         during,
     };
     let end = last_point(h.place, h.over);
-    let tree = joined_history(alloc, sides, h.place, end, own)?;
-    Ok(tree)
+    joined_history(alloc, sides, h.place, end, own)
+}
+
+/// The expression of the view.
+fn view_tree(alloc: Global, h: &HistoryData) -> Result<RelTree, Memory>
+    requires { IsHistoryData h.now }
+    ensures { IfOk result (λ t. read_tree t ≡ view_of h.now) }
+{
+    let since = since_heading(alloc, h)?;
+    let during = during_heading(alloc, h)?;
+    view_between(alloc, h, &since, &during)
 }
 
 /// The view.
@@ -204,12 +243,10 @@ fn history_view(alloc: Global, h: &HistoryData) -> Result<Declaration, Memory>
     requires { IsHistoryData h.now }
     ensures { IfOk result (λ d. read_declaration d ≡ view_relvar h.now.view (view_of h.now) (Some (h.now.since, h.now.during))) }
 {
-    let since_heading = since_heading(alloc, h)?;
-    let during_heading = during_heading(alloc, h)?;
-    let tree = view_tree(alloc, h, &since_heading, &during_heading)?;
     let view = h.view.copy(alloc)?;
     let since = h.since.copy(alloc)?;
     let during = h.during.copy(alloc)?;
+    let tree = view_tree(alloc, h)?;
     Ok(Declaration::HistoryView {
         view,
         tree,
@@ -226,9 +263,6 @@ pub fn declare_history(alloc: Global, h: &HistoryData) -> Result<Vec<Declaration
     let since = since_relvar(alloc, h)?;
     let during = during_relvar(alloc, h)?;
     let view = history_view(alloc, h)?;
-    let mut list = Vec::with_capacity(alloc, 3)?;
-    list.push(since)?;
-    list.push(during)?;
-    list.push(view)?;
+    let list = vec![in alloc; since, during, view]?;
     Ok(list)
 }

@@ -2,14 +2,16 @@
 ghost use Rattle.std.specs.Prelude.{◌≡◌, [], ◌∷◌, IfOk};
 ghost use Rattle.scalar_core.specs.Expressions.{read};
 ghost use Rattle.tree_core.specs.Trees.{read_sets, read_tree};
-ghost use Rattle.since_during.specs.Sides.{ended, joined, lasting, narrowed, IsNarrow};
+ghost use Rattle.since_during.specs.Sides.{at_points, ended, joined, lasting, narrowed, united, IsNarrow};
+ghost use Rattle.meaning_core.specs.Histories.{all_but};
+ghost use Rattle.relation_core.specs.Agreement.{position_of};
 
 use crate::headings::{all_but, one_position, with_attribute};
 use point_core::{AnyType, Memory, Place};
 use scalar_core::Scalar;
 use std::alloc::Global;
 use tree_core::{InfixWord, RelTree, Sets, attribute, closed_interval};
-use value_core::{Heading, Kind, ListOf, Name, position};
+use value_core::{Heading, Kind, ListOf, Name, Positions, position};
 
 /// The two relvars of a history as its view joins them: their headings, the attribute of the since relvar's points and that
 /// of the during relvar's intervals, the type of the points, the during relvar's name, and the place of the nodes.
@@ -41,6 +43,21 @@ fn one_set(alloc: Global, name: &Name, e: Scalar) -> Result<Sets, Memory>
     Ok(ListOf { list })
 }
 
+/// The intervals as values of the rows, and the attributes that the rows keep.
+fn intervals(
+    alloc: Global,
+    sides: Sides<'_>,
+    wide: &Heading,
+    e: Scalar,
+) -> Result<(Sets, Positions), Memory>
+    ensures sets { IfOk result (λ p. read_sets p.0 ≡ (sides.entry.span.now, read e) ∷ []) }
+    ensures kept { IfOk result (λ p. p.1 ≡ all_but (position_of wide.now sides.entry.point.now) wide.now) }
+{
+    let sets = one_set(alloc, sides.span, e)?;
+    let kept = all_but(alloc, position(wide.attributes(), sides.point), wide)?;
+    Ok((sets, kept))
+}
+
 /// The rows with these intervals, without the points.
 fn narrowed(
     alloc: Global,
@@ -51,11 +68,9 @@ fn narrowed(
 ) -> Result<RelTree, Memory>
     ensures { IfOk result (λ r. read_tree r ≡ narrowed sides.entry wide.now (read e) (read_tree t)) }
 {
-    let set = one_set(alloc, sides.span, e)?;
-    let rows = t.extended(alloc, sides.place, wide, set)?;
-    let kept = all_but(alloc, position(wide.attributes(), sides.point), wide)?;
-    let rows = rows.projected(alloc, sides.place, sides.during, kept)?;
-    Ok(rows)
+    let (sets, kept) = intervals(alloc, sides, wide, e)?;
+    let rows = t.extended(alloc, sides.place, wide, sets)?;
+    rows.projected(alloc, sides.place, sides.during, kept)
 }
 
 /// The rows of an expression of the since relvar's heading as rows of the during relvar's: each lasts up to the end.
@@ -71,8 +86,23 @@ fn ended(
 {
     let wide = with_attribute(alloc, sides.since, sides.span, Kind::Span(sides.over))?;
     let e = lasting(alloc, sides, at, end)?;
-    let rows = narrowed(alloc, sides, &wide, e, t)?;
-    Ok(rows)
+    narrowed(alloc, sides, &wide, e, t)
+}
+
+/// The during relvar's rows, and others of its heading.
+fn united(alloc: Global, sides: Sides<'_>, more: RelTree) -> Result<RelTree, Memory>
+    ensures { IfOk result (λ r. read_tree r ≡ united sides.entry (read_tree more)) }
+{
+    let own = RelTree::of_name(alloc, sides.place, sides.during, sides.during_name)?;
+    own.joined(alloc, sides.place, sides.during, InfixWord::Union, more)
+}
+
+/// The rows point by point.
+fn at_points(alloc: Global, sides: Sides<'_>, rows: RelTree) -> Result<RelTree, Memory>
+    ensures { IfOk result (λ r. read_tree r ≡ at_points sides.entry (read_tree rows)) }
+{
+    let swept = one_position(alloc, position(sides.during.attributes(), sides.span))?;
+    rows.under_using(alloc, sides.place, sides.during, swept)
 }
 
 /// The during relvar's rows, and those of an expression of the since relvar's heading, which last up to the end.
@@ -87,9 +117,6 @@ pub(crate) fn joined_history(
     ensures { IfOk result (λ r. read_tree r ≡ joined sides.entry at (read end) (read_tree t)) }
 {
     let more = ended(alloc, sides, at, end, t)?;
-    let own = RelTree::of_name(alloc, sides.place, sides.during, sides.during_name)?;
-    let rows = own.joined(alloc, sides.place, sides.during, InfixWord::Union, more)?;
-    let swept = one_position(alloc, position(sides.during.attributes(), sides.span))?;
-    let rows = rows.under_using(alloc, sides.place, sides.during, swept)?;
-    Ok(rows)
+    let rows = united(alloc, sides, more)?;
+    at_points(alloc, sides, rows)
 }

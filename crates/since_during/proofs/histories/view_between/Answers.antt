@@ -4,7 +4,7 @@ use Rattle.value_core.specs.Limits.{most_attributes}
 use Rattle.value_core.specs.Values.{Heading}
 use Rattle.meaning_core.specs.Histories.{with_attribute}
 use Rattle.since_during.proofs.RoomLemmas.{room-two}
-use Rattle.since_during.proofs.histories.view_tree.Goals as goal
+use Rattle.since_during.proofs.histories.view_between.Goals as goal
 
 pub joined_history-requires : goal.joined_history-requires
 joined_history-requires c =
