@@ -2,7 +2,6 @@
 
 NO_CRATE = 'it speaks of meaning_core and of u_set, and no crate below both of these stands on both'
 
-PRIVATE = 'the lemmas of u_summary are its own: all typing would be proved again with them'
 TEXTS = 'the lemmas of utd_lexer are its own: all that reads texts would be proved again with them'
 WORDS = 'each contract says the result in the words that its callers prove by'
 
@@ -16,13 +15,6 @@ APART = {
         ('crates/utd_lexer/proofs/WordLemmas.antt', 'integer-kind'),
     }): TEXTS,
     frozenset({
-        ('crates/row_making/proofs/SummaryLemmas.antt', 'before_ranks'),
-        ('crates/u_summary/proofs/ExtremeLemmas.antt', 'before_ranks'),
-    }): PRIVATE,
-    frozenset({
-        ('crates/row_making/proofs/SummaryLemmas.antt', 'after_ranks'),
-        ('crates/u_summary/proofs/ExtremeLemmas.antt', 'after_ranks'),
-    }): PRIVATE,
     frozenset({
         ('crates/eval_using/src/cell_rows.rt', 'copied'),
         ('crates/u_join/src/labels.rt', 'copied'),

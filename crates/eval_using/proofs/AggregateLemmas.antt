@@ -20,7 +20,7 @@ use Rattle.scalar_core.specs.Sweeping.{names_any}
 use Rattle.scalar_core.proofs.SweepLemmas.{at_place-other, unnamed}
 use Rattle.tree_core.specs.Trees.{PlainAggregateForm, count_rows, sum_of, min_of, max_of, PlainAggregate}
 use Rattle.u_summary.specs.Summaries.{total, is_before}
-use Rattle.row_making.proofs.SummaryLemmas.{before_ranks, after_ranks}
+use Rattle.u_summary.proofs.ExtremeLemmas.{before_ranks, after_ranks}
 use Rattle.meaning_core.specs.Rows.{extreme, values_over, aggregate_value, aggregates_on}
 use Rattle.meaning_core.specs.Typing.{names_none}
 use Rattle.eval_using.proofs.OrderLemmas.{AreApart, HaveSame, weights, total_is, counted, weights_same, extreme_same, before_ties, map_same}

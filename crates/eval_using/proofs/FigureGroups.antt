@@ -32,7 +32,7 @@ use Rattle.u_set.specs.Boxes.{others}
 use Rattle.relation_core.specs.Groups.{rows_at}
 use Rattle.tree_core.specs.Trees.{PlainAggregateForm, count_rows, sum_of, min_of, max_of, PlainAggregate}
 use Rattle.u_summary.specs.Summaries.{total, is_before}
-use Rattle.row_making.proofs.SummaryLemmas.{before_ranks, after_ranks}
+use Rattle.u_summary.proofs.ExtremeLemmas.{before_ranks, after_ranks}
 use Rattle.meaning_core.specs.Rows.{extreme, values_over, aggregate_value, aggregates_on}
 use Rattle.cell_boxes.specs.Totals.{sum_of as sum_flagged}
 use Rattle.u_summarize.specs.Extremes.{best_flagged, or_zero}

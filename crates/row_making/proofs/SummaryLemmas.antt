@@ -2,7 +2,7 @@
 use Rattle.std.proofs.Common.{◌≡◌, ◌↔◌, ℕ, zero, suc, ◌<◌, Bool, false, List, [], ◌∷◌, length, map, get_or, refl, sym, ap, ◌∙◌, subst, arith, Option, Some, None, IsNone, IfSome}
 use Rattle.std.specs.Cmp.{IsStrictWeakOrder}
 use Rattle.std.specs.List.{IsFirstBest}
-use Rattle.std.proofs.lemmas.List.MinMax.{ranks_by, IsStrictWeakOrder-flip, IsFirstBest-unique, IsFirstBest-from_best_of}
+use Rattle.std.proofs.lemmas.List.MinMax.{IsFirstBest-unique, IsFirstBest-from_best_of}
 use Rattle.std.proofs.lemmas.List.{get_or_default}
 use Rattle.point_core.specs.Faults.{OrFault}
 use Rattle.base_core.specs.Outcomes.{least_of_all}
@@ -17,16 +17,8 @@ use Rattle.tree_core.specs.Trees.{read_aggregate, read_aggregate_form}
 use Rattle.tree_core.specs.declared.tree.Aggregate.{Aggregate}
 use Rattle.meaning_core.specs.Rows.{extreme, picked, values_over}
 use Rattle.meaning_core.specs.Scalars.{AreSummedOver, IsSummedOver}
-use Rattle.u_summary.specs.Summaries.{is_before}
-use Rattle.value_core.specs.Order.{value_total}
 
 -- ---- extremes
-
-pub before_ranks : IsStrictWeakOrder is_before
-before_ranks = ranks_by value_total (λ (v : PlainValue). v)
-
-pub after_ranks : IsStrictWeakOrder (λ v w. is_before w v)
-after_ranks = IsStrictWeakOrder-flip is_before before_ranks
 
 pub picked_best : (beats : PlainValue → PlainValue → Bool) → IsStrictWeakOrder beats → (values : List Value) (best : Option ℕ)
     → IfSome best (IsFirstBest beats (map plain values) (length (map plain values))) → (IsNone best ↔ (values ≡ [])) → picked best (map plain values) ≡ extreme beats (map plain values)

@@ -1,1 +1,1 @@
-mod ExtremeLemmas
+pub mod ExtremeLemmas

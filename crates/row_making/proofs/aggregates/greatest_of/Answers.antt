@@ -5,7 +5,7 @@ use Rattle.value_core.specs.Plain.{plain}
 use Rattle.value_core.specs.Values.{Value as PlainValue}
 use Rattle.value_core.specs.declared.value.Value.{Value}
 use Rattle.u_summary.specs.Summaries.{is_before}
-use Rattle.row_making.proofs.SummaryLemmas.{after_ranks}
+use Rattle.u_summary.proofs.ExtremeLemmas.{after_ranks}
 use Rattle.meaning_core.specs.Rows.{extreme, picked}
 use Rattle.row_making.proofs.SummaryLemmas.{picked_best}
 use Rattle.row_making.proofs.aggregates.greatest_of.Goals as goal

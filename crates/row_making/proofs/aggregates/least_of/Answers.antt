@@ -5,7 +5,7 @@ use Rattle.value_core.specs.Plain.{plain}
 use Rattle.value_core.specs.Values.{Value as PlainValue}
 use Rattle.value_core.specs.declared.value.Value.{Value}
 use Rattle.u_summary.specs.Summaries.{is_before}
-use Rattle.row_making.proofs.SummaryLemmas.{before_ranks}
+use Rattle.u_summary.proofs.ExtremeLemmas.{before_ranks}
 use Rattle.meaning_core.specs.Rows.{extreme, picked}
 use Rattle.row_making.proofs.SummaryLemmas.{picked_best}
 use Rattle.row_making.proofs.aggregates.least_of.Goals as goal
