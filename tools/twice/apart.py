@@ -24,10 +24,6 @@ APART = {
         ('crates/u_set/src/intervals.rt', 'interval_of'),
     }): WORDS,
     frozenset({
-        ('crates/row_making/src/places.rt', 'place_in'),
-        ('crates/value_core/src/heading.rt', 'position'),
-    }): WORDS,
-    frozenset({
         ('crates/u_constraints/proofs/IntervalLemmas.antt', 'span_kind'),
         ('crates/eval_using/proofs/ListLemmas.antt', 'span_kind'),
     }): NO_CRATE,

@@ -7,7 +7,7 @@ ghost use Rattle.meaning_core.specs.Places.{place_among};
 
 use point_core::Memory;
 use std::alloc::Global;
-use value_core::{Kind, Name, Row, Value};
+use value_core::{Kind, Name, Row, Value, position};
 
 /// Where a name stands among made ones and then those of a heading, by its place among the made ones and their number.
 pub(crate) fn place_behind(
@@ -28,12 +28,7 @@ pub(crate) fn place_behind(
 fn place_in(from: &[(Name, Kind)], name: &Name) -> usize
     ensures { result ≡ place_among (names_of from.now) name.now }
 {
-    for (at, attribute) in from.iter().enumerate() {
-        if attribute.0 == *name {
-            return at;
-        }
-    }
-    from.len()
+    position(from, name)
 }
 
 /// The row of the values at the places: first the made ones, then those of another row.
