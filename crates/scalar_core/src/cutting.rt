@@ -51,7 +51,7 @@ pub fn cuts(
 {
     let at = commalist[side];
     let mut numbers: Vec<i128> = Vec::new(alloc);
-    push_cuts(alloc, &mut numbers, e, row, commalist, at)?;
+    push_cuts(alloc, &mut numbers, e, row, &Sought { commalist, at })?;
     let numbers = distinct(numbers)?;
     let points = points_inside(alloc, interval_at(row, at), numbers.as_slice())?;
     Ok(points)
@@ -70,45 +70,51 @@ fn interval_at(row: &Row, at: usize) -> &Interval<AnyType>
     }
 }
 
-/// Adds the cuts of the attribute at the position by the expression.
+/// The attribute whose cuts are sought: where it stands, and the positions of all listed attributes.
+#[derive(Clone, Copy)]
+struct Sought<'a> {
+    commalist: &'a [usize],
+    at: usize,
+}
+
+/// Adds the cuts of the attribute by the expression.
 #[cycle(pushed)]
 fn push_cuts(
     alloc: Global,
     numbers: &mut Vec<i128>,
     e: &Scalar,
     row: &Row,
-    commalist: &[usize],
-    at: usize,
+    of: &Sought<'_>,
 ) -> Result<(), Memory>
     requires { IsTypedOver row.now (read e.now) }
-    ensures { OnOk result (numbers.new.items ≡ numbers.old.items ++ rules.cuts commalist.now at (read e.now) row.now) }
+    ensures { OnOk result (numbers.new.items ≡ numbers.old.items ++ rules.cuts of.now.commalist.now of.now.at (read e.now) row.now) }
 {
     match &e.form {
         ScalarForm::Constant(_, _) => Ok(()),
         ScalarForm::Attribute(_) => Ok(()),
-        ScalarForm::Not(p) => push_cuts(alloc, numbers, p, row, commalist, at),
-        ScalarForm::Negate(p) => push_cuts(alloc, numbers, p, row, commalist, at),
-        ScalarForm::BeginOf(p) => push_cuts(alloc, numbers, p, row, commalist, at),
-        ScalarForm::EndOf(p) => push_cuts(alloc, numbers, p, row, commalist, at),
-        ScalarForm::PreOf(_, p) => push_cuts(alloc, numbers, p, row, commalist, at),
-        ScalarForm::PostOf(_, p) => push_cuts(alloc, numbers, p, row, commalist, at),
-        ScalarForm::CountOf(_, p) => push_cuts(alloc, numbers, p, row, commalist, at),
-        ScalarForm::NextOf(_, p) => push_cuts(alloc, numbers, p, row, commalist, at),
-        ScalarForm::PriorOf(_, p) => push_cuts(alloc, numbers, p, row, commalist, at),
-        ScalarForm::And(p) => push_in_parts(alloc, numbers, p, row, commalist, at),
-        ScalarForm::Or(p) => push_in_parts(alloc, numbers, p, row, commalist, at),
-        ScalarForm::Add(p) => push_in_parts(alloc, numbers, p, row, commalist, at),
-        ScalarForm::Subtract(p) => push_in_parts(alloc, numbers, p, row, commalist, at),
-        ScalarForm::Multiply(p) => push_in_parts(alloc, numbers, p, row, commalist, at),
-        ScalarForm::Divide(p) => push_in_parts(alloc, numbers, p, row, commalist, at),
-        ScalarForm::Concat(p) => push_in_parts(alloc, numbers, p, row, commalist, at),
-        ScalarForm::Compare(_, p) => push_in_comparison(alloc, numbers, p, row, commalist, at),
-        ScalarForm::Allen(_, _, p) => push_in_comparison(alloc, numbers, p, row, commalist, at),
-        ScalarForm::Member(_, p) => push_in_comparison(alloc, numbers, p, row, commalist, at),
-        ScalarForm::Select(_, _, p) => push_in_parts(alloc, numbers, p, row, commalist, at),
-        ScalarForm::UnionOf(_, p) => push_in_parts(alloc, numbers, p, row, commalist, at),
-        ScalarForm::IntersectOf(_, p) => push_in_parts(alloc, numbers, p, row, commalist, at),
-        ScalarForm::MinusOf(_, p) => push_in_parts(alloc, numbers, p, row, commalist, at),
+        ScalarForm::Not(p) => push_cuts(alloc, numbers, p, row, of),
+        ScalarForm::Negate(p) => push_cuts(alloc, numbers, p, row, of),
+        ScalarForm::BeginOf(p) => push_cuts(alloc, numbers, p, row, of),
+        ScalarForm::EndOf(p) => push_cuts(alloc, numbers, p, row, of),
+        ScalarForm::PreOf(_, p) => push_cuts(alloc, numbers, p, row, of),
+        ScalarForm::PostOf(_, p) => push_cuts(alloc, numbers, p, row, of),
+        ScalarForm::CountOf(_, p) => push_cuts(alloc, numbers, p, row, of),
+        ScalarForm::NextOf(_, p) => push_cuts(alloc, numbers, p, row, of),
+        ScalarForm::PriorOf(_, p) => push_cuts(alloc, numbers, p, row, of),
+        ScalarForm::And(p) => push_in_parts(alloc, numbers, p, row, of),
+        ScalarForm::Or(p) => push_in_parts(alloc, numbers, p, row, of),
+        ScalarForm::Add(p) => push_in_parts(alloc, numbers, p, row, of),
+        ScalarForm::Subtract(p) => push_in_parts(alloc, numbers, p, row, of),
+        ScalarForm::Multiply(p) => push_in_parts(alloc, numbers, p, row, of),
+        ScalarForm::Divide(p) => push_in_parts(alloc, numbers, p, row, of),
+        ScalarForm::Concat(p) => push_in_parts(alloc, numbers, p, row, of),
+        ScalarForm::Compare(_, p) => push_in_comparison(alloc, numbers, p, row, of),
+        ScalarForm::Allen(_, _, p) => push_in_comparison(alloc, numbers, p, row, of),
+        ScalarForm::Member(_, p) => push_in_comparison(alloc, numbers, p, row, of),
+        ScalarForm::Select(_, _, p) => push_in_parts(alloc, numbers, p, row, of),
+        ScalarForm::UnionOf(_, p) => push_in_parts(alloc, numbers, p, row, of),
+        ScalarForm::IntersectOf(_, p) => push_in_parts(alloc, numbers, p, row, of),
+        ScalarForm::MinusOf(_, p) => push_in_parts(alloc, numbers, p, row, of),
     }
 }
 
@@ -118,15 +124,14 @@ fn push_in_parts(
     numbers: &mut Vec<i128>,
     p: &Parts,
     row: &Row,
-    commalist: &[usize],
-    at: usize,
+    of: &Sought<'_>,
 ) -> Result<(), Memory>
     requires left { IsTypedOver row.now (read_left p.now) }
     requires right { IsTypedOver row.now (read_right p.now) }
-    ensures { OnOk result (numbers.new.items ≡ numbers.old.items ++ (rules.cuts commalist.now at (read_left p.now) row.now ++ rules.cuts commalist.now at (read_right p.now) row.now)) }
+    ensures { OnOk result (numbers.new.items ≡ numbers.old.items ++ (rules.cuts of.now.commalist.now of.now.at (read_left p.now) row.now ++ rules.cuts of.now.commalist.now of.now.at (read_right p.now) row.now)) }
 {
-    push_cuts(alloc, numbers, &p.left, row, commalist, at)?;
-    push_cuts(alloc, numbers, &p.right, row, commalist, at)?;
+    push_cuts(alloc, numbers, &p.left, row, of)?;
+    push_cuts(alloc, numbers, &p.right, row, of)?;
     Ok(())
 }
 
@@ -136,17 +141,16 @@ fn push_in_comparison(
     numbers: &mut Vec<i128>,
     p: &Parts,
     row: &Row,
-    commalist: &[usize],
-    at: usize,
+    of: &Sought<'_>,
 ) -> Result<(), Memory>
     requires left { IsTypedOver row.now (read_left p.now) }
     requires right { IsTypedOver row.now (read_right p.now) }
-    ensures { OnOk result (numbers.new.items ≡ numbers.old.items ++ (rules.atom_cuts commalist.now at (read_left p.now) (read_right p.now) row.now ++
-        (rules.cuts commalist.now at (read_left p.now) row.now ++ rules.cuts commalist.now at (read_right p.now) row.now))) }
+    ensures { OnOk result (numbers.new.items ≡ numbers.old.items ++ (rules.atom_cuts of.now.commalist.now of.now.at (read_left p.now) (read_right p.now) row.now ++
+        (rules.cuts of.now.commalist.now of.now.at (read_left p.now) row.now ++ rules.cuts of.now.commalist.now of.now.at (read_right p.now) row.now))) }
 {
-    push_by_side(alloc, numbers, &p.left, &p.right, row, commalist, at)?;
-    push_by_side(alloc, numbers, &p.right, &p.left, row, commalist, at)?;
-    push_in_parts(alloc, numbers, p, row, commalist, at)?;
+    push_by_side(alloc, numbers, &p.left, &p.right, row, of)?;
+    push_by_side(alloc, numbers, &p.right, &p.left, row, of)?;
+    push_in_parts(alloc, numbers, p, row, of)?;
     Ok(())
 }
 
@@ -157,25 +161,24 @@ fn push_by_side(
     side: &Scalar,
     other: &Scalar,
     row: &Row,
-    commalist: &[usize],
-    at: usize,
+    of: &Sought<'_>,
 ) -> Result<(), Memory>
     requires { IsTypedOver row.now (read other.now) }
-    ensures { OnOk result (numbers.new.items ≡ numbers.old.items ++ rules.side_cuts commalist.now at (read side.now) (read other.now) row.now) }
+    ensures { OnOk result (numbers.new.items ≡ numbers.old.items ++ rules.side_cuts of.now.commalist.now of.now.at (read side.now) (read other.now) row.now) }
 {
-    if sweeps(side, other, commalist, at) {
+    if sweeps(side, other, of) {
         push_by(alloc, numbers, other, row)
     } else {
         Ok(())
     }
 }
 
-/// Whether the one side is the attribute at the position or its end, and the other names no listed attribute.
-fn sweeps(side: &Scalar, other: &Scalar, commalist: &[usize], at: usize) -> bool
-    ensures { result ≡ rules.sweeps commalist.now at (swept_attribute commalist.now (read side.now)) (read other.now) }
+/// Whether the one side is the attribute or its end, and the other names no listed attribute.
+fn sweeps(side: &Scalar, other: &Scalar, of: &Sought<'_>) -> bool
+    ensures { result ≡ rules.sweeps of.now.commalist.now of.now.at (swept_attribute of.now.commalist.now (read side.now)) (read other.now) }
 {
-    match swept_attribute(side, commalist) {
-        Some(i) => i == at && !names_any(other, commalist),
+    match swept_attribute(side, of.commalist) {
+        Some(i) => i == of.at && !names_any(other, of.commalist),
         None => false,
     }
 }
