@@ -57,75 +57,77 @@ fn left_of(alloc: Global, all: Relation, gone: &Relation) -> Result<Relation, Me
     rest(alloc, &all, gone)
 }
 
-/// Whether the constraint, which holds of the rows of `of`, holds still where those of `come` are added and those of `gone` taken away. It
-/// is asked of the rows with the values of those that come at the positions.
+/// A relation that changes: hashes of its rows, rows that it gains, and rows that it then loses.
+#[derive(Clone, Copy)]
+pub struct Change<'a> {
+    pub of: &'a Relation,
+    pub hashes: &'a [Hashes],
+    pub come: &'a Relation,
+    pub gone: &'a Relation,
+}
+
+/// Whether the constraint, which holds of the relation, holds still after the change. It is asked of the rows with the values of those
+/// that come at the positions.
 fn holds_by<L: Ledger>(
     alloc: Global,
     c: &Constraint,
-    of: &Relation,
-    hashes: &[Hashes],
-    gone: &Relation,
-    come: &Relation,
+    change: Change<'_>,
     positions: &[usize],
     other: Option<&Relation>,
     steps: &mut Steps<L>,
 ) -> Result<Result<(), Code>, Memory>
-    requires relation { IsRelation of.now }
-    requires relation_come { IsRelation come.now }
-    requires heading { come.now.heading ≡ of.now.heading }
-    requires hashes { All (AreHashesOf of.now.rows) hashes.now }
-    requires gone { gone.now.heading ≡ of.now.heading }
-    requires few { length (united of.now.rows come.now.rows) ≤ most_rows }
-    requires fits { FitsHeadings of.now.heading (heading_or_none (option_map (λ r. r.now) other)) c.now }
+    requires relation { IsRelation change.of.now }
+    requires relation_come { IsRelation change.come.now }
+    requires heading { change.come.now.heading ≡ change.of.now.heading }
+    requires hashes { All (AreHashesOf change.of.now.rows) change.hashes.now }
+    requires gone { change.gone.now.heading ≡ change.of.now.heading }
+    requires few { length (united change.of.now.rows change.come.now.rows) ≤ most_rows }
+    requires fits { FitsHeadings change.of.now.heading (heading_or_none (option_map (λ r. r.now) other)) c.now }
     requires named { IsNamed c.now (option_map (λ r. r.now) other) }
-    requires held { broken c.now of.now.rows (rows_or_none (option_map (λ r. r.now) other)) ≡ None }
-    requires telling { Some positions.now ≡ telling_of c.now (length of.now.heading) }
-    ensures answer { IfOk result (λ answer. result_err answer ≡ broken c.now (exchanged of.now.rows gone.now.rows come.now.rows) (rows_or_none (option_map (λ r. r.now) other.entry))) }
-    ensures cost { steps.new ≤ steps.old + constraint_cost c.now (exchanged of.now.rows gone.now.rows come.now.rows) (rows_or_none (option_map (λ r. r.now) other.entry)) }
+    requires held { broken c.now change.of.now.rows (rows_or_none (option_map (λ r. r.now) other)) ≡ None }
+    requires telling { Some positions.now ≡ telling_of c.now (length change.of.now.heading) }
+    ensures answer { IfOk result (λ answer. result_err answer ≡ broken c.now (exchanged change.entry.of.now.rows change.entry.gone.now.rows change.entry.come.now.rows) (rows_or_none (option_map (λ r. r.now) other.entry))) }
+    ensures cost { steps.new ≤ steps.old + constraint_cost c.now (exchanged change.entry.of.now.rows change.entry.gone.now.rows change.entry.come.now.rows) (rows_or_none (option_map (λ r. r.now) other.entry)) }
 {
-    let part = touched_with(alloc, of, come, positions, hashes)?;
-    let all = joined(alloc, &part, come)?;
-    let small = left_of(alloc, all, gone)?;
+    let part = touched_with(alloc, change.of, change.come, positions, change.hashes)?;
+    let all = joined(alloc, &part, change.come)?;
+    let small = left_of(alloc, all, change.gone)?;
     holds(alloc, c, &small, other, steps)
 }
 
-/// Whether the constraint, which holds of the rows of `of`, holds still where those of `come` are added and then those of `gone` taken
-/// away; if not, the code of the first of its lines that is then broken. `other` is the relvar that the constraint names, if it names one,
-/// which is not the one that changes.
+/// Whether the constraint, which holds of the relation, holds still after the change; if not, the code of the first of its lines that is
+/// then broken. `other` is the relvar that the constraint names, if it names one, which is not the one that changes.
 ///
-/// Only rows that a row of `come` is held against are looked at: those with its values at the attributes of a key, say. They are found by
-/// the hashes, which are those of the rows of `of`, where some are for these attributes.
+/// Only rows that a row that comes is held against are looked at: those with its values at the attributes of a key, say. They are found
+/// by the hashes, where some are for these attributes.
 pub fn holds_with<L: Ledger>(
     alloc: Global,
     c: &Constraint,
-    of: &Relation,
-    hashes: &[Hashes],
-    gone: &Relation,
-    come: &Relation,
+    change: Change<'_>,
     other: Option<&Relation>,
     steps: &mut Steps<L>,
 ) -> Result<Result<(), Code>, Memory>
-    requires heading { come.now.heading ≡ of.now.heading }
-    requires hashes { All (AreHashesOf of.now.rows) hashes.now }
-    requires gone { gone.now.heading ≡ of.now.heading }
-    requires few { length (united of.now.rows come.now.rows) ≤ most_rows }
-    requires fits { FitsHeadings of.now.heading (heading_or_none (option_map (λ r. r.now) other)) c.now }
+    requires heading { change.come.now.heading ≡ change.of.now.heading }
+    requires hashes { All (AreHashesOf change.of.now.rows) change.hashes.now }
+    requires gone { change.gone.now.heading ≡ change.of.now.heading }
+    requires few { length (united change.of.now.rows change.come.now.rows) ≤ most_rows }
+    requires fits { FitsHeadings change.of.now.heading (heading_or_none (option_map (λ r. r.now) other)) c.now }
     requires named { IsNamed c.now (option_map (λ r. r.now) other) }
-    requires held { broken c.now of.now.rows (rows_or_none (option_map (λ r. r.now) other)) ≡ None }
-    ensures answer { IfOk result (λ answer. result_err answer ≡ broken c.now (exchanged of.now.rows gone.now.rows come.now.rows) (rows_or_none (option_map (λ r. r.now) other.entry))) }
-    ensures cost { steps.new ≤ steps.old + constraint_cost c.now (exchanged of.now.rows gone.now.rows come.now.rows) (rows_or_none (option_map (λ r. r.now) other.entry)) }
+    requires held { broken c.now change.of.now.rows (rows_or_none (option_map (λ r. r.now) other)) ≡ None }
+    ensures answer { IfOk result (λ answer. result_err answer ≡ broken c.now (exchanged change.entry.of.now.rows change.entry.gone.now.rows change.entry.come.now.rows) (rows_or_none (option_map (λ r. r.now) other.entry))) }
+    ensures cost { steps.new ≤ steps.old + constraint_cost c.now (exchanged change.entry.of.now.rows change.entry.gone.now.rows change.entry.come.now.rows) (rows_or_none (option_map (λ r. r.now) other.entry)) }
 {
-    let many = of.heading().attributes().len();
-    if come.rows().is_empty() {
+    let many = change.of.heading().attributes().len();
+    if change.come.rows().is_empty() {
         return Ok(Ok(()));
     }
     match telling(alloc, c, many)? {
         Some(positions) => {
             let positions = positions.list.as_slice();
-            holds_by(alloc, c, of, hashes, gone, come, positions, other, steps)
+            holds_by(alloc, c, change, positions, other, steps)
         }
         None => {
-            let left = rest(alloc, come, gone)?;
+            let left = rest(alloc, change.come, change.gone)?;
             holds(alloc, c, &left, other, steps)
         }
     }

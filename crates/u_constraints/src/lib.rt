@@ -19,6 +19,6 @@ mod unpacked;
 
 pub use beginning::with_prefix;
 pub use constraints::holds;
-pub use growth::{holds_beside, holds_with};
+pub use growth::{Change, holds_beside, holds_with};
 pub use positions::are_all;
 pub use search::{ROWS_PASSED_FOR_ONE_SOUGHT, touched_by, touched_with};
