@@ -23,7 +23,7 @@ use relation_core::Hashes;
 use std::alloc::Global;
 use std::sync::ledger::Ledger;
 use tree_core::{Relvar, Relvars};
-use u_constraints::{are_all, holds, holds_beside, holds_with};
+use u_constraints::{Change, are_all, holds, holds_beside, holds_with};
 use value_core::{Constraint, MOST_ROWS, Name, Positions, Refuse, Relation};
 
 /// What is known of a relation whose rows are exchanged: hashes of those before, and the list on which those after are packed, if one is.
@@ -191,8 +191,13 @@ fn check_one<L: Ledger>(
         (true, false) => {
             let other = named(turnover.relvars, constraint);
             let Exchange { come, gone } = turnover.rows;
-            let hashes = turnover.known.hashes;
-            holds_with(alloc, constraint, own.of, hashes, gone, come, other, steps)
+            let change = Change {
+                of: own.of,
+                hashes: turnover.known.hashes,
+                come,
+                gone,
+            };
+            holds_with(alloc, constraint, change, other, steps)
         }
         (false, true) => holds_of_other(alloc, turnover, own.of, constraint, steps),
         (false, false) => Ok(Ok(())),
