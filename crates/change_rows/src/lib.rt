@@ -13,4 +13,4 @@ mod telling;
 pub use exchange::Exchange;
 pub use finding::{affected, affected_by_both};
 pub use insertion::inserted;
-pub use replacement::{replaced, replaced_and_inserted};
+pub use replacement::{Replacement, replaced, replaced_and_inserted};

@@ -40,6 +40,13 @@ pub fn replaced(
     Ok(Exchange { come, gone })
 }
 
+/// Some rows of a relation, and the rows that take their place.
+#[derive(Clone, Copy)]
+pub struct Replacement<'a> {
+    pub part: &'a Relation,
+    pub left: &'a Relation,
+}
+
 /// What a packed relation gains and loses where some of its rows, all that have their labels, give way to others with these labels, and
 /// the rows of another relation of its heading are then added under USING of the attributes at the positions.
 ///
@@ -50,24 +57,24 @@ pub fn replaced_and_inserted<L: Ledger>(
     alloc: Global,
     value: &Relation,
     hashes: &[Hashes],
-    part: &Relation,
-    left: &Relation,
+    replacement: Replacement<'_>,
     added: &Relation,
     commalist: &[usize],
     steps: &mut Steps<L>,
 ) -> Result<Exchange, RowsRefuse>
-    requires heading { (part.now.heading ≡ value.now.heading) × (left.now.heading ≡ value.now.heading) × (added.now.heading ≡ value.now.heading) }
+    requires heading { (replacement.part.now.heading ≡ value.now.heading) × (replacement.left.now.heading ≡ value.now.heading) × (added.now.heading ≡ value.now.heading) }
     requires hashes { All (AreHashesOf value.now.rows) hashes.now }
     requires intervals { AreIntervals value.now.heading commalist.now }
-    requires closed { part.now.rows ≡ touched (outside commalist.now value.now.heading) part.now.rows value.now.rows }
-    requires labels { touched (outside commalist.now value.now.heading) part.now.rows left.now.rows ≡ left.now.rows }
+    requires closed { replacement.part.now.rows ≡ touched (outside commalist.now value.now.heading) replacement.part.now.rows value.now.rows }
+    requires labels { touched (outside commalist.now value.now.heading) replacement.part.now.rows replacement.left.now.rows ≡ replacement.left.now.rows }
     requires packed { packed commalist.now value.now.rows ≡ value.now.rows }
-    requires few { length (united (subtracted value.now.rows part.now.rows) left.now.rows) ≤ most_rows }
+    requires few { length (united (subtracted value.now.rows replacement.part.now.rows) replacement.left.now.rows) ≤ most_rows }
     ensures exchange { IfOk result (IsExchange value.now) }
-    ensures rows { let rows = packed commalist.now (united (unpacked commalist.now (united (subtracted value.now.rows part.now.rows) left.now.rows)) (unpacked commalist.now added.now.rows)) in
+    ensures rows { let rows = packed commalist.now (united (unpacked commalist.now (united (subtracted value.now.rows replacement.entry.part.now.rows) replacement.entry.left.now.rows)) (unpacked commalist.now added.now.rows)) in
         MatchResult result (λ x. exchanged value.now.rows x.gone.rows x.come.rows ≡ rows) (IsRefusal rows) }
-    ensures cost { steps.new ≤ steps.old + bound (length (united (subtracted value.now.rows part.now.rows) left.now.rows) + length added.now.rows) (length commalist.now) }
+    ensures cost { steps.new ≤ steps.old + bound (length (united (subtracted value.now.rows replacement.entry.part.now.rows) replacement.entry.left.now.rows) + length added.now.rows) (length commalist.now) }
 {
+    let Replacement { part, left } = replacement;
     let label = outside(alloc, left.heading().attributes(), commalist)?;
     let touched = touched_with(alloc, value, added, label.as_slice(), hashes)?;
     let aside = without(alloc, &touched, part)?;

@@ -22,8 +22,8 @@ pub returns-in_err-before-clause-rows : goal.returns-in_err-before-clause-rows
 returns-in_err-before-clause-rows g c =
     let commalist = c.args.commalist.now in
     let value = c.args.value.now in
-    let part = c.args.part.now.rows in
-    let left = c.args.left.now in
+    let part = c.args.replacement.part.now.rows in
+    let left = c.args.replacement.left.now in
     let added = c.args.added.now in
     let label : c.as_slice.result.now ≡ outside commalist value.heading =
     c.as_slice.ensures.value ∙ c.in_ok-label.ensures ∙ ap (λ (h : Heading). outside commalist h) (c.attributes.ensures.list ∙ c.heading.ensures.heading ∙ c.requires.heading.1) in
@@ -38,8 +38,8 @@ pub returns-in_err-after-clause-rows : goal.returns-in_err-after-clause-rows
 returns-in_err-after-clause-rows g c =
     let commalist = c.args.commalist.now in
     let value = c.args.value.now in
-    let part = c.args.part.now.rows in
-    let left = c.args.left.now in
+    let part = c.args.replacement.part.now.rows in
+    let left = c.args.replacement.left.now in
     let added = c.args.added.now in
     let label : c.as_slice.result.now ≡ outside commalist value.heading =
     c.as_slice.ensures.value ∙ c.in_ok-label.ensures ∙ ap (λ (h : Heading). outside commalist h) (c.attributes.ensures.list ∙ c.heading.ensures.heading ∙ c.requires.heading.1) in
@@ -54,8 +54,8 @@ pub returns-in_err-new-clause-rows : goal.returns-in_err-new-clause-rows
 returns-in_err-new-clause-rows g c =
     let commalist = c.args.commalist.now in
     let value = c.args.value.now in
-    let part = c.args.part.now.rows in
-    let left = c.args.left.now in
+    let part = c.args.replacement.part.now.rows in
+    let left = c.args.replacement.left.now in
     let added = c.args.added.now in
     let label : c.as_slice.result.now ≡ outside commalist value.heading =
     c.as_slice.ensures.value ∙ c.in_ok-label.ensures ∙ ap (λ (h : Heading). outside commalist h) (c.attributes.ensures.list ∙ c.heading.ensures.heading ∙ c.requires.heading.1) in
@@ -71,8 +71,8 @@ pub returns-in_err-new-clause-cost : goal.returns-in_err-new-clause-cost
 returns-in_err-new-clause-cost g c =
     let commalist = c.args.commalist.now in
     let value = c.args.value.now in
-    let part = c.args.part.now.rows in
-    let left = c.args.left.now in
+    let part = c.args.replacement.part.now.rows in
+    let left = c.args.replacement.left.now in
     let added = c.args.added.now in
     let label : c.as_slice.result.now ≡ outside commalist value.heading =
     c.as_slice.ensures.value ∙ c.in_ok-label.ensures ∙ ap (λ (h : Heading). outside commalist h) (c.attributes.ensures.list ∙ c.heading.ensures.heading ∙ c.requires.heading.1) in
@@ -85,8 +85,8 @@ pub returns-in_err-come-clause-cost : goal.returns-in_err-come-clause-cost
 returns-in_err-come-clause-cost g c =
     let commalist = c.args.commalist.now in
     let value = c.args.value.now in
-    let part = c.args.part.now.rows in
-    let left = c.args.left.now in
+    let part = c.args.replacement.part.now.rows in
+    let left = c.args.replacement.left.now in
     let added = c.args.added.now in
     let label : c.as_slice.result.now ≡ outside commalist value.heading =
     c.as_slice.ensures.value ∙ c.in_ok-label.ensures ∙ ap (λ (h : Heading). outside commalist h) (c.attributes.ensures.list ∙ c.heading.ensures.heading ∙ c.requires.heading.1) in
@@ -99,8 +99,8 @@ pub returns-in_err-gone-clause-cost : goal.returns-in_err-gone-clause-cost
 returns-in_err-gone-clause-cost g c =
     let commalist = c.args.commalist.now in
     let value = c.args.value.now in
-    let part = c.args.part.now.rows in
-    let left = c.args.left.now in
+    let part = c.args.replacement.part.now.rows in
+    let left = c.args.replacement.left.now in
     let added = c.args.added.now in
     let label : c.as_slice.result.now ≡ outside commalist value.heading =
     c.as_slice.ensures.value ∙ c.in_ok-label.ensures ∙ ap (λ (h : Heading). outside commalist h) (c.attributes.ensures.list ∙ c.heading.ensures.heading ∙ c.requires.heading.1) in
@@ -113,8 +113,8 @@ pub returns-clause-cost : goal.returns-clause-cost
 returns-clause-cost g c =
     let commalist = c.args.commalist.now in
     let value = c.args.value.now in
-    let part = c.args.part.now.rows in
-    let left = c.args.left.now in
+    let part = c.args.replacement.part.now.rows in
+    let left = c.args.replacement.left.now in
     let added = c.args.added.now in
     let label : c.as_slice.result.now ≡ outside commalist value.heading =
     c.as_slice.ensures.value ∙ c.in_ok-label.ensures ∙ ap (λ (h : Heading). outside commalist h) (c.attributes.ensures.list ∙ c.heading.ensures.heading ∙ c.requires.heading.1) in
@@ -127,8 +127,8 @@ pub returns-clause-rows : goal.returns-clause-rows
 returns-clause-rows g c =
     let commalist = c.args.commalist.now in
     let value = c.args.value.now in
-    let part = c.args.part.now.rows in
-    let left = c.args.left.now in
+    let part = c.args.replacement.part.now.rows in
+    let left = c.args.replacement.left.now in
     let added = c.args.added.now in
     let label : c.as_slice.result.now ≡ outside commalist value.heading =
     c.as_slice.ensures.value ∙ c.in_ok-label.ensures ∙ ap (λ (h : Heading). outside commalist h) (c.attributes.ensures.list ∙ c.heading.ensures.heading ∙ c.requires.heading.1) in
@@ -143,8 +143,8 @@ pub returns-clause-exchange : goal.returns-clause-exchange
 returns-clause-exchange g c =
     let commalist = c.args.commalist.now in
     let value = c.args.value.now in
-    let part = c.args.part.now.rows in
-    let left = c.args.left.now in
+    let part = c.args.replacement.part.now.rows in
+    let left = c.args.replacement.left.now in
     let added = c.args.added.now in
     let label : c.as_slice.result.now ≡ outside commalist value.heading =
     c.as_slice.ensures.value ∙ c.in_ok-label.ensures ∙ ap (λ (h : Heading). outside commalist h) (c.attributes.ensures.list ∙ c.heading.ensures.heading ∙ c.requires.heading.1) in
