@@ -29,7 +29,7 @@ use crate::insertion::base_at;
 use crate::plain_rows::lists_none;
 use crate::reduction::{if_few, is_packed_at, portion_rows};
 use crate::revision::{Changed, Revision};
-use change_rows::{Exchange, affected_by_both, replaced, replaced_and_inserted};
+use change_rows::{Exchange, Replacement, affected_by_both, replaced, replaced_and_inserted};
 use eval_using::using_extension;
 use point_core::{Code, Fault, Memory, Steps, Stop};
 use relation_core::{Hashes, union};
@@ -232,7 +232,8 @@ fn exchange_at_points<L: Ledger>(
     let commalist = renewal.revision.commalist;
     let list = commalist.list.as_slice();
     let (value, hashes, part) = (renewal.value, renewal.hashes, renewal.part);
-    match replaced_and_inserted(alloc, value, hashes, part, left, added, list, steps) {
+    let replacement = Replacement { part, left };
+    match replaced_and_inserted(alloc, value, hashes, replacement, added, list, steps) {
         Ok(rows) => Ok(rows),
         Err(RowsRefuse::TooMany) => Err(Stop::Fault(Fault {
             place: renewal.revision.assignment.tree.place,
