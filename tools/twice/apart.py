@@ -16,10 +16,6 @@ APART = {
     }): TEXTS,
     frozenset({
     frozenset({
-        ('crates/eval_using/src/cell_rows.rt', 'copied'),
-        ('crates/u_join/src/labels.rt', 'copied'),
-    }): WORDS,
-    frozenset({
         ('crates/eval_using/src/in_place.rt', 'interval_of'),
         ('crates/u_set/src/intervals.rt', 'interval_of'),
     }): WORDS,

@@ -12,20 +12,9 @@ ghost use Rattle.cell_core.specs.Cells.{box_numbers};
 ghost use Rattle.eval_using.specs.PlaceRows.{HaveLines};
 
 use interval_core::Interval;
-use point_core::{AnyType, Memory};
+use point_core::{AnyType, Label, Memory};
 use std::alloc::Global;
 use value_core::{Row, Value};
-
-/// The same values.
-pub(crate) fn copied(alloc: Global, values: &[Value]) -> Result<Vec<Value>, Memory>
-    ensures { IfOk result (λ v. v.items ≡ values.now) }
-{
-    let mut out = Vec::with_capacity(alloc, values.len())?;
-    for value in values {
-        out.push(value.copy(alloc)?)?;
-    }
-    Ok(out)
-}
 
 /// The row with the first point of each side in place of the interval of its attribute.
 pub(crate) fn row_at(
@@ -39,7 +28,8 @@ pub(crate) fn row_at(
     requires lines { HaveLines commalist.now at.now row.now }
     ensures { IfOk result (λ r. r ≡ at_place commalist.now (firsts (box_numbers number at.now)) row.now) }
 {
-    let mut values = copied(alloc, row.values())?;
+    let same = row.copy(alloc)?;
+    let mut values = same.into_values();
     for j in 0..commalist.len() {
         put_first(&mut values, commalist[j], &at[j]);
     }

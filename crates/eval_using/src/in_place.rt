@@ -32,10 +32,9 @@ ghost use Rattle.meaning_core.specs.Meanings.{condition, limited};
 ghost use Rattle.eval_using.specs.Holding.{at_number, InSpans, HoldsIn, FailsIn, CanAsk, IsPart};
 ghost use Rattle.eval_using.specs.Swept.{met, swept, swept_rows};
 
-use crate::cell_rows::copied;
 use crate::runs::{add_part, parts_of};
 use interval_core::Interval;
-use point_core::{AnyType, Fault, Memory, Stop};
+use point_core::{AnyType, Fault, Label, Memory, Stop};
 use row_making::holds;
 use scalar_core::{Scalar, cuts};
 use std::alloc::Global;
@@ -51,7 +50,8 @@ fn with_interval(alloc: Global, row: &Row, at: usize, i: &Interval<AnyType>) -> 
     ensures ordered { number i.now.0 ≤ℤ number i.now.1 }
 {
     let value = Value::Span(Interval::of(i.begin(), i.end()));
-    let mut values = copied(alloc, row.values())?;
+    let same = row.copy(alloc)?;
+    let mut values = same.into_values();
     values[at] = value;
     Ok(Row::make(values))
 }

@@ -12,8 +12,8 @@ pub returns-clause-row : goal.returns-clause-row
 returns-clause-row c =
     let i = c.args.i.now in
     let at = c.args.at in
-    let items = c.in_ok-values.values.items in
+    let items = c.into_values-values.result.items in
     let is : c.of.result ≡ i = c.of.ensures ∙ (λ t. (c.begin.ensures.point t, c.end.ensures.point t)) in
-    let same : map plain items ≡ c.args.row.now = ap (map plain) c.in_ok-values.ensures ∙ c.values.ensures in
+    let same : map plain items ≡ c.args.row.now = c.into_values-values.ensures ∙ c.in_ok-same.ensures in
     let first = subst (λ (r : Row). value_at r at ≡ interval (line i.0) (span_of (value_at r at))) (sym same) c.requires.first in
     c.make.ensures ∙ (λ t. map plain (set items at (SpanValue (is t)))) ∙ interval_put items at i first c.requires.last ∙ ap (λ r. put_span r at (numbers_of number i)) same
