@@ -63,26 +63,32 @@ fn least_so_far(least: Option<Fault>, e: Fault) -> Fault
     Fault::least_of(least, e)
 }
 
+// A condition, and the position of the interval at whose points it is asked.
+#[derive(Clone, Copy)]
+struct Asked<'a> {
+    c: &'a Scalar,
+    at: usize,
+}
+
 // Adds the part to the runs where the condition holds at its first point. A fault there counts where it is the least.
 fn ask(
     alloc: Global,
-    c: &Scalar,
+    asked: Asked<'_>,
     row: &Row,
-    at: usize,
     part: &Interval<AnyType>,
     runs: &mut Vec<Interval<AnyType>>,
     least: &mut Option<Fault>,
 ) -> Result<(), Memory>
-    requires can { (heading : PlainHeading) × CanAsk heading at (read c.now) row.now × IsPart heading at row.now part.now }
+    requires can { (heading : PlainHeading) × CanAsk heading asked.at (read asked.c.now) row.now × IsPart heading asked.at row.now part.now }
     ensures runs { OnOk result ((p : ℤ) → InSpans (box_numbers number runs.new.items) p ↔ InSpans (box_numbers number runs.old.items) p ⊎
-        (IsWithin (numbers_of number part.now) p × (condition (read c.now) (at_number at row.now (number part.now.0)) ≡ Ok true))) }
+        (IsWithin (numbers_of number part.now) p × (condition (read asked.entry.c.now) (at_number asked.entry.at row.now (number part.now.0)) ≡ Ok true))) }
     ensures points { (t : AnyType) → HasEndsIn IsPointOf t part.now →
         OnOk result (All (HasEndsIn IsPointOf t) runs.old.items → All (HasEndsIn IsPointOf t) runs.new.items) }
-    ensures least { OnOk result (IsLeast (λ e. (least.old ≡ Some e) ⊎ (condition (read c.now) (at_number at row.now (number part.now.0)) ≡ Err e)) least.new) }
+    ensures least { OnOk result (IsLeast (λ e. (least.old ≡ Some e) ⊎ (condition (read asked.entry.c.now) (at_number asked.entry.at row.now (number part.now.0)) ≡ Err e)) least.new) }
 {
     let p = part.begin();
-    let there = with_interval(alloc, row, at, &Interval::of(p, p))?;
-    match holds(alloc, c, &there) {
+    let there = with_interval(alloc, row, asked.at, &Interval::of(p, p))?;
+    match holds(alloc, asked.c, &there) {
         Ok(true) => add_part(runs, part),
         Ok(false) => Ok(()),
         Err(Stop::Fault(e)) => {
@@ -96,20 +102,19 @@ fn ask(
 // The runs of the parts at whose first points the condition holds. The least fault there counts where it is the least.
 fn runs_of(
     alloc: Global,
-    c: &Scalar,
+    asked: Asked<'_>,
     row: &Row,
-    at: usize,
     parts: &[Interval<AnyType>],
     least: &mut Option<Fault>,
 ) -> Result<Vec<Interval<AnyType>>, Memory>
-    requires can { (heading : PlainHeading) × CanAsk heading at (read c.now) row.now × All (IsPart heading at row.now) parts.now }
-    ensures runs { IfOk result (λ v. (p : ℤ) → InSpans (box_numbers number v.items) p ↔ HoldsIn (read c.now) at row.now (box_numbers number parts.now) p) }
+    requires can { (heading : PlainHeading) × CanAsk heading asked.at (read asked.c.now) row.now × All (IsPart heading asked.at row.now) parts.now }
+    ensures runs { IfOk result (λ v. (p : ℤ) → InSpans (box_numbers number v.items) p ↔ HoldsIn (read asked.entry.c.now) asked.entry.at row.now (box_numbers number parts.now) p) }
     ensures points { (t : AnyType) → All (HasEndsIn IsPointOf t) parts.now → IfOk result (λ v. All (HasEndsIn IsPointOf t) v.items) }
-    ensures least { IfOk result (λ v. IsLeast (λ e. (least.old ≡ Some e) ⊎ FailsIn (read c.now) at row.now (box_numbers number parts.now) e) least.new) }
+    ensures least { IfOk result (λ v. IsLeast (λ e. (least.old ≡ Some e) ⊎ FailsIn (read asked.entry.c.now) asked.entry.at row.now (box_numbers number parts.now) e) least.new) }
 {
     let mut runs = Vec::new(alloc);
     for part in parts {
-        ask(alloc, c, row, at, part, &mut runs, least)?;
+        ask(alloc, asked, row, part, &mut runs, least)?;
     }
     Ok(runs)
 }
@@ -164,22 +169,21 @@ fn interval_at(row: &Row, at: usize) -> Interval<AnyType>
 fn runs_left(
     alloc: Global,
     t: &AnyType,
-    c: &Scalar,
+    asked: Asked<'_>,
     row: &Row,
-    at: usize,
     least: &mut Option<Fault>,
 ) -> Result<Vec<Interval<AnyType>>, Memory>
-    requires can { (heading : PlainHeading) × CanAsk heading at (read c.now) row.now × (t.now ≡ type_of (kind_at heading at)) }
+    requires can { (heading : PlainHeading) × CanAsk heading asked.at (read asked.c.now) row.now × (t.now ≡ type_of (kind_at heading asked.at)) }
     ensures runs { IfOk result (λ v. (p : ℤ) → InSpans (box_numbers number v.items) p ↔
-        (IsWithin (span_of (value_at row.now at)) p × (condition (read c.now) (at_number at row.now p) ≡ Ok true))) }
+        (IsWithin (span_of (value_at row.now asked.entry.at)) p × (condition (read asked.entry.c.now) (at_number asked.entry.at row.now p) ≡ Ok true))) }
     ensures points { IfOk result (λ v. All (HasEndsIn IsPointOf t.now) v.items) }
     ensures least { IfOk result (λ v. IsLeast (λ e. (least.old ≡ Some e) ⊎
-        ((p : ℤ) × IsWithin (span_of (value_at row.now at)) p × (condition (read c.now) (at_number at row.now p) ≡ Err e))) least.new) }
+        ((p : ℤ) × IsWithin (span_of (value_at row.now asked.entry.at)) p × (condition (read asked.entry.c.now) (at_number asked.entry.at row.now p) ≡ Err e))) least.new) }
 {
-    let cuts = cuts(alloc, c, row, &[at], 0)?;
-    let side = interval_at(row, at);
+    let cuts = cuts(alloc, asked.c, row, &[asked.at], 0)?;
+    let side = interval_at(row, asked.at);
     let parts = parts_of(alloc, t, &side, cuts.as_slice())?;
-    let runs = runs_of(alloc, c, row, at, parts.as_slice(), least)?;
+    let runs = runs_of(alloc, asked, row, parts.as_slice(), least)?;
     Ok(runs)
 }
 
@@ -187,23 +191,22 @@ fn runs_left(
 fn keep_row(
     alloc: Global,
     t: &AnyType,
-    c: &Scalar,
+    asked: Asked<'_>,
     row: &Row,
-    at: usize,
     out: &mut Vec<Row>,
     least: &mut Option<Fault>,
 ) -> Result<(), Memory>
-    requires can { (heading : PlainHeading) × CanAsk heading at (read c.now) row.now × (t.now ≡ type_of (kind_at heading at)) }
-    ensures places { OnOk result ((l : PlainRow) (place : List ℤ) → InBoxes (map (boxed (at ∷ [])) out.new.items) l place ↔
-        InBoxes (map (boxed (at ∷ [])) out.old.items) l place ⊎
-        (Has (spans_at (at ∷ []) row.now) place × (swept (at ∷ []) (at ∷ []) (met (read c.now)) row.now place ≡ Ok (Some l)))) }
-    ensures fits { (heading : PlainHeading) → CanAsk heading at (read c.now) row.now → t.now ≡ type_of (kind_at heading at) →
+    requires can { (heading : PlainHeading) × CanAsk heading asked.at (read asked.c.now) row.now × (t.now ≡ type_of (kind_at heading asked.at)) }
+    ensures places { OnOk result ((l : PlainRow) (place : List ℤ) → InBoxes (map (boxed (asked.entry.at ∷ [])) out.new.items) l place ↔
+        InBoxes (map (boxed (asked.entry.at ∷ [])) out.old.items) l place ⊎
+        (Has (spans_at (asked.entry.at ∷ []) row.now) place × (swept (asked.entry.at ∷ []) (asked.entry.at ∷ []) (met (read asked.entry.c.now)) row.now place ≡ Ok (Some l)))) }
+    ensures fits { (heading : PlainHeading) → CanAsk heading asked.entry.at (read asked.entry.c.now) row.now → t.now ≡ type_of (kind_at heading asked.entry.at) →
         OnOk result (IsTrue (all_fit heading out.old.items) → IsTrue (all_fit heading out.new.items)) }
     ensures least { OnOk result (IsLeast (λ e. (least.old ≡ Some e) ⊎
-        ((place : List ℤ) × Has (spans_at (at ∷ []) row.now) place × (swept (at ∷ []) (at ∷ []) (met (read c.now)) row.now place ≡ Err e))) least.new) }
+        ((place : List ℤ) × Has (spans_at (asked.entry.at ∷ []) row.now) place × (swept (asked.entry.at ∷ []) (asked.entry.at ∷ []) (met (read asked.entry.c.now)) row.now place ≡ Err e))) least.new) }
 {
-    let runs = runs_left(alloc, t, c, row, at, least)?;
-    push_rows(alloc, row, at, runs.as_slice(), out)?;
+    let runs = runs_left(alloc, t, asked, row, least)?;
+    push_rows(alloc, row, asked.at, runs.as_slice(), out)?;
     Ok(())
 }
 
@@ -235,10 +238,11 @@ fn rows_left(
         (map (spans_at (at ∷ [])) rows.now)) v.1) }
 {
     let t = type_at(heading, at);
+    let asked = Asked { c, at };
     let mut out = Vec::new(alloc);
     let mut least = None;
     for row in rows {
-        keep_row(alloc, &t, c, row, at, &mut out, &mut least)?;
+        keep_row(alloc, &t, asked, row, &mut out, &mut least)?;
     }
     Ok((out, least))
 }

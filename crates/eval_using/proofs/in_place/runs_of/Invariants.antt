@@ -11,7 +11,7 @@ use Rattle.eval_using.proofs.in_place.runs_of.Given as goal
 
 abbrev pub invariant-loop-part : goal.invariant-loop-part
 invariant-loop-part l = record {
-  runs : (p : ℤ) → InSpans (box_numbers number l.runs.items) p ↔ HoldsIn (read l.c) l.at l.row (box_numbers number (take l.part-index l.parts)) p;
+  runs : (p : ℤ) → InSpans (box_numbers number l.runs.items) p ↔ HoldsIn (read l.asked.c.now) l.asked.at l.row (box_numbers number (take l.part-index l.parts)) p;
   points : (t : AnyType) → All (HasEndsIn IsPointOf t) l.parts → All (HasEndsIn IsPointOf t) l.runs.items;
-  least : IsLeast (λ e. (l.fn.least ≡ Some e) ⊎ FailsIn (read l.c) l.at l.row (box_numbers number (take l.part-index l.parts)) e) l.least;
+  least : IsLeast (λ e. (l.fn.least ≡ Some e) ⊎ FailsIn (read l.asked.c.now) l.asked.at l.row (box_numbers number (take l.part-index l.parts)) e) l.least;
 }
