@@ -16,6 +16,16 @@ use tree_core::Aggregate;
 use u_summarize::Column;
 use value_core::{Relation, Row};
 
+/// What the groups of a relation's rows are made by: the positions of the listed attributes and of those by which rows are grouped, the
+/// aggregates, and the places of the values of a group's row among those of the aggregates and then of the group's first row.
+#[derive(Clone, Copy)]
+pub(crate) struct Grouping<'a> {
+    pub commalist: &'a [usize],
+    pub by: &'a [usize],
+    pub aggregates: &'a [Aggregate],
+    pub at: &'a [usize],
+}
+
 /// What aggregates count, sum and compare, a row each, and where the values of a label stand among those of the aggregates and then
 /// those of its part.
 #[derive(Drop)]
@@ -43,24 +53,21 @@ fn with_columns(
 /// What the labels of groups are made of, where one attribute is listed and figures of columns give them.
 pub(crate) fn figure_parts(
     alloc: Global,
-    commalist: &[usize],
+    of: Grouping<'_>,
     to: &[usize],
-    at: &[usize],
-    by: &[usize],
-    aggregates: &[Aggregate],
     r: &Relation,
 ) -> Result<Option<FigureParts>, Memory>
-    requires typed { AreSummedOver r.now.rows (map read_aggregate aggregates.now) }
-    requires unnamed { IsTrue (list_all (λ a. names_none commalist.now a.form) (map read_aggregate aggregates.now)) }
-    ensures { IfOk result (λ o. IfSome o (λ p. (length commalist.now ≡ 1) × AreFigured p.places.items to.now at.now (inner commalist.now by.now)
-        (map read_aggregate aggregates.now) r.now.rows (map (others commalist.now) r.now.rows) p.columns.items)) }
+    requires typed { AreSummedOver r.now.rows (map read_aggregate of.aggregates.now) }
+    requires unnamed { IsTrue (list_all (λ a. names_none of.commalist.now a.form) (map read_aggregate of.aggregates.now)) }
+    ensures { IfOk result (λ o. IfSome o (λ p. (length of.entry.commalist.now ≡ 1) × AreFigured p.places.items to.now of.entry.at.now (inner of.entry.commalist.now of.entry.by.now)
+        (map read_aggregate of.entry.aggregates.now) r.now.rows (map (others of.entry.commalist.now) r.now.rows) p.columns.items)) }
 {
     let rows = r.rows();
-    if commalist.len() != 1 {
+    if of.commalist.len() != 1 {
         return Ok(None);
     }
-    match label_spots(alloc, to, at, aggregates.len(), commalist, by)? {
-        Some(places) => with_columns(alloc, aggregates, rows, places),
+    match label_spots(alloc, to, of.at, of.aggregates.len(), of.commalist, of.by)? {
+        Some(places) => with_columns(alloc, of.aggregates, rows, places),
         None => Ok(None),
     }
 }

@@ -14,12 +14,13 @@ ghost use Rattle.eval_using.specs.Using.{around, listed, HasList, IsSummedBy};
 
 use crate::boxes::summary_form;
 use crate::listed;
+use crate::parts::Grouping;
 use cell_core::CellRefuse;
 use point_core::{Place, Steps, Stop};
 use row_making::{aggregate_places, or_fault_at};
 use std::alloc::Global;
 use std::sync::ledger::Ledger;
-use tree_core::{Aggregate, Aggregates};
+use tree_core::Aggregates;
 use u_set::from_boxes;
 use value_core::{Heading, Relation, RowsRefuse};
 
@@ -51,18 +52,13 @@ pub fn using_summary<L: Ledger>(
     let list = aggregates.list.as_slice();
     let here = listed(alloc, attributes, commalist, from)?;
     let at = aggregate_places(alloc, list, from, attributes)?;
-    summarized_by_boxes(
-        alloc,
-        place,
-        heading,
-        commalist,
-        here.as_slice(),
-        at.as_slice(),
+    let of = Grouping {
+        commalist: here.as_slice(),
         by,
-        list,
-        r,
-        steps,
-    )
+        aggregates: list,
+        at: at.as_slice(),
+    };
+    summarized_by_boxes(alloc, place, heading, commalist, of, r, steps)
 }
 
 // The same by the positions of the listed attributes among the relation's, and the places of the values of a group's row.
@@ -71,22 +67,19 @@ fn summarized_by_boxes<L: Ledger>(
     place: Place,
     heading: &Heading,
     commalist: &[usize],
-    here: &[usize],
-    at: &[usize],
-    by: &[usize],
-    aggregates: &[Aggregate],
+    of: Grouping<'_>,
     r: &Relation,
     steps: &mut Steps<L>,
 ) -> Result<Relation, Stop>
-    requires summary { (sizes : List ℕ) × IsSummary sizes r.now.heading heading.now by.now (map read_aggregate aggregates.now) }
+    requires summary { (sizes : List ℕ) × IsSummary sizes r.now.heading heading.now of.by.now (map read_aggregate of.aggregates.now) }
     requires list { IsList heading.now commalist.now }
     requires listed { HasList heading.now commalist.now r.now.heading }
-    requires summed { IsSummedBy heading.now commalist.now r.now.heading by.now (map read_aggregate aggregates.now) }
-    requires here { here.now ≡ listed heading.now commalist.now r.now.heading }
-    requires places { at.now ≡ places (aggregate_names (map read_aggregate aggregates.now) ++ names_of r.now.heading) heading.now }
+    requires summed { IsSummedBy heading.now commalist.now r.now.heading of.by.now (map read_aggregate of.aggregates.now) }
+    requires here { of.commalist.now ≡ listed heading.now commalist.now r.now.heading }
+    requires places { of.at.now ≡ places (aggregate_names (map read_aggregate of.aggregates.now) ++ names_of r.now.heading) heading.now }
     ensures value { Answers result (under heading.now
-        (then_give (summarized by.now
-        (λ numbers. group_row r.now.heading heading.now (map read_aggregate aggregates.now)
+        (then_give (summarized of.entry.by.now
+        (λ numbers. group_row r.now.heading heading.now (map read_aggregate of.entry.aggregates.now)
         (rows_at (opened (around place heading.now commalist.now) r.now.heading r.now.rows) numbers))
         (opened (around place heading.now commalist.now) r.now.heading r.now.rows))
         (closed (around place heading.now commalist.now) place heading.now))) }
@@ -95,7 +88,7 @@ fn summarized_by_boxes<L: Ledger>(
     let _attributes = heading.attributes();
     let _rows = r.rows();
     let whole = heading.copy(alloc)?;
-    match summary_form(alloc, here, commalist, at, by, aggregates, r, steps) {
+    match summary_form(alloc, of, commalist, r, steps) {
         Ok(form) => or_fault_at(place, from_boxes(alloc, whole, commalist, form)),
         Err(CellRefuse::Limit) => or_fault_at(place, Err(RowsRefuse::TooMany)),
         Err(CellRefuse::Op(fault)) => Err(Stop::Fault(fault)),

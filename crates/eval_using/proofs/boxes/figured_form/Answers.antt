@@ -20,38 +20,38 @@ use Rattle.eval_using.proofs.boxes.figured_form.Goals as goal
 
 pub u_tally-requires-clause-side : goal.u_tally-requires-clause-side
 u_tally-requires-clause-side g c =
-    let commalist = c.args.commalist.now in
+    let commalist = c.args.of.commalist.now in
     ap length (c.as_slice.ensures.value ∙ c.in_ok-types.ensures) ∙ length-map commalist (λ i. type_of (kind_at c.attributes.result.now i)) ∙ c.requires.side
 
 pub u_tally-requires-clause-takes : goal.u_tally-requires-clause-takes
 u_tally-requires-clause-takes g c =
     let r = c.args.r.now in
-    let commalist = c.args.commalist.now in
+    let commalist = c.args.of.commalist.now in
     let same = c.in_ok-boxes.ensures.rows in
     let many : length c.in_ok-boxes.boxes.items ≡ length r.rows = sym (length-map c.in_ok-boxes.boxes.items (row_numbers number)) ∙ ap length same ∙ length-map r.rows (boxed commalist) in
-    all_long r.rows (map read_aggregate c.args.aggregates.now) c.args.parts.columns.items (length c.in_ok-boxes.boxes.items) c.requires.figured.columns (sym many)
+    all_long r.rows (map read_aggregate c.args.of.aggregates.now) c.args.parts.columns.items (length c.in_ok-boxes.boxes.items) c.requires.figured.columns (sym many)
 
 pub u_tally-requires-clause-fits : goal.u_tally-requires-clause-fits
 u_tally-requires-clause-fits g c =
     let r = c.args.r.now in
-    let commalist = c.args.commalist.now in
-    let gs = map read_aggregate c.args.aggregates.now in
+    let commalist = c.args.of.commalist.now in
+    let gs = map read_aggregate c.args.of.aggregates.now in
     let same = c.in_ok-boxes.ensures.rows in
     let labels = labels_of_boxes commalist r.rows c.in_ok-boxes.boxes.items same in
     let count : length (labels_in c.in_ok-boxes.boxes.items) ≡ length r.rows = ap length labels ∙ length-map r.rows (others commalist) in (
-      fits_labels commalist c.args.parts.places.items c.args.to.now c.args.at.now (inner commalist c.args.by.now) c.as_slice-2.result.now gs r.rows c.rows.result.now (labels_in c.in_ok-boxes.boxes.items) c.args.parts.columns.items c.requires.figured
+      fits_labels commalist c.args.parts.places.items c.args.to.now c.args.of.at.now (inner commalist c.args.of.by.now) c.as_slice-2.result.now gs r.rows c.rows.result.now (labels_in c.in_ok-boxes.boxes.items) c.args.parts.columns.items c.requires.figured
           (c.as_slice-2.ensures.value ∙ c.in_ok-keys.ensures) c.rows.ensures.rows labels,
       all_long r.rows gs c.args.parts.columns.items (length (labels_in c.in_ok-boxes.boxes.items)) c.requires.figured.columns (sym count),
     )
 
 pub returns-clause-rows : goal.returns-clause-rows
 returns-clause-rows g c =
-    let commalist = c.args.commalist.now in
+    let commalist = c.args.of.commalist.now in
     let many = ap length (c.as_slice.ensures.value ∙ c.in_ok-types.ensures) ∙ length-map commalist (λ i. type_of (kind_at c.attributes.result.now i)) in
     let same = c.in_ok-boxes.ensures.rows in
     let keys = c.as_slice-2.ensures.value ∙ c.in_ok-keys.ensures in
     subst (λ (w : ℕ × List Row × List ℕ × List (Boxed Row)). IfOk c.u_tally.result (λ v.
-    IsGroupForm {F = Fault} row_cmp w.0 (group_label c.args.to.now c.args.at.now (map read_aggregate c.args.aggregates.now) w.1) w.2 w.3 (map (row_numbers number) v.items)))
+    IsGroupForm {F = Fault} row_cmp w.0 (group_label c.args.to.now c.args.of.at.now (map read_aggregate c.args.of.aggregates.now) w.1) w.2 w.3 (map (row_numbers number) v.items)))
     (λ t. (many t, c.rows.ensures.rows t, keys t, same t)) c.u_tally.ensures.rows
 
 pub returns-clause-no_fault : goal.returns-clause-no_fault
@@ -59,7 +59,7 @@ returns-clause-no_fault g c =
     let same = c.in_ok-boxes.ensures.rows in
     let keys = c.as_slice-2.ensures.value ∙ c.in_ok-keys.ensures in
     subst (λ (w : List Row × List ℕ × List (Boxed Row)). IfOk c.u_tally.result (λ v.
-    IsLeast (HasGroupFault (group_label c.args.to.now c.args.at.now (map read_aggregate c.args.aggregates.now) w.0) w.1 w.2) None))
+    IsLeast (HasGroupFault (group_label c.args.to.now c.args.of.at.now (map read_aggregate c.args.of.aggregates.now) w.0) w.1 w.2) None))
     (λ t. (c.rows.ensures.rows t, keys t, same t)) c.u_tally.ensures.no_fault
 
 pub returns-clause-fault : goal.returns-clause-fault
@@ -67,24 +67,24 @@ returns-clause-fault g c =
     let same = c.in_ok-boxes.ensures.rows in
     let keys = c.as_slice-2.ensures.value ∙ c.in_ok-keys.ensures in
     subst (λ (w : List Row × List ℕ × List (Boxed Row)). (e : Fault) → c.u_tally.result ≡ Err (OfOp e) →
-    IsLeast (HasGroupFault (group_label c.args.to.now c.args.at.now (map read_aggregate c.args.aggregates.now) w.0) w.1 w.2) (Some e))
+    IsLeast (HasGroupFault (group_label c.args.to.now c.args.of.at.now (map read_aggregate c.args.of.aggregates.now) w.0) w.1 w.2) (Some e))
     (λ t. (c.rows.ensures.rows t, keys t, same t)) c.u_tally.ensures.fault
 
 pub returns-clause-limit : goal.returns-clause-limit
 returns-clause-limit g c =
-    let commalist = c.args.commalist.now in
+    let commalist = c.args.of.commalist.now in
     let many = ap length (c.as_slice.ensures.value ∙ c.in_ok-types.ensures) ∙ length-map commalist (λ i. type_of (kind_at c.attributes.result.now i)) in
     let same = c.in_ok-boxes.ensures.rows in
     let keys = c.as_slice-2.ensures.value ∙ c.in_ok-keys.ensures in
     subst (λ (w : ℕ × List Row × List ℕ × List (Boxed Row)). c.u_tally.result ≡ Err OfLimit →
-    IsLeast (HasGroupFault (group_label c.args.to.now c.args.at.now (map read_aggregate c.args.aggregates.now) w.1) w.2 w.3) None
-    × ((form : List (Boxed Row)) × IsGroupForm {F = Fault} row_cmp w.0 (group_label c.args.to.now c.args.at.now (map read_aggregate c.args.aggregates.now) w.1) w.2 w.3 form × (most_rows < length form)))
+    IsLeast (HasGroupFault (group_label c.args.to.now c.args.of.at.now (map read_aggregate c.args.of.aggregates.now) w.1) w.2 w.3) None
+    × ((form : List (Boxed Row)) × IsGroupForm {F = Fault} row_cmp w.0 (group_label c.args.to.now c.args.of.at.now (map read_aggregate c.args.of.aggregates.now) w.1) w.2 w.3 form × (most_rows < length form)))
     (λ t. (many t, c.rows.ensures.rows t, keys t, same t)) c.u_tally.ensures.limit
 
 pub returns-clause-cost : goal.returns-clause-cost
 returns-clause-cost g c =
     let r = c.args.r.now in
-    let commalist = c.args.commalist.now in
+    let commalist = c.args.of.commalist.now in
     let many = ap length (c.as_slice.ensures.value ∙ c.in_ok-types.ensures) ∙ length-map commalist (λ i. type_of (kind_at c.attributes.result.now i)) in
     let same = c.in_ok-boxes.ensures.rows in
     let rows : length c.in_ok-boxes.boxes.items ≡ length r.rows = sym (length-map c.in_ok-boxes.boxes.items (row_numbers number)) ∙ ap length same ∙ length-map r.rows (boxed commalist) in

@@ -22,23 +22,23 @@ use Rattle.eval_using.proofs.boxes.grouped_form.Goals as goal
 pub u_summarize-requires-clause-can : goal.u_summarize-requires-clause-can
 u_summarize-requires-clause-can g c =
     let r = c.args.r.now in
-    let commalist = c.args.commalist.now in
+    let commalist = c.args.of.commalist.now in
     let same = (λ t. map (row_numbers number) (c.as_slice-2.ensures.value t)) ∙ c.in_ok-boxes.ensures.rows in
     let many : length c.as_slice-2.result.now ≡ length c.rows.result.now =
     sym (length-map c.as_slice-2.result.now (row_numbers number)) ∙ ap length same ∙ length-map r.rows (boxed commalist) ∙ ap length (sym c.rows.ensures.rows) in
     λ a n h. (
       all_below (length c.rows.result.now) a (subst (λ m. AreRows 0 m a) many h),
-      subst (λ (rows : List Row). AreSummedOver rows (map read_aggregate c.args.aggregates.now)) (sym c.rows.ensures.rows) c.requires.typed,
+      subst (λ (rows : List Row). AreSummedOver rows (map read_aggregate c.args.of.aggregates.now)) (sym c.rows.ensures.rows) c.requires.typed,
     )
 
 pub returns-clause-rows : goal.returns-clause-rows
 returns-clause-rows g c =
-    let commalist = c.args.commalist.now in
+    let commalist = c.args.of.commalist.now in
     let many = ap length (c.as_slice.ensures.value ∙ c.in_ok-types.ensures) ∙ length-map commalist (λ i. type_of (kind_at c.attributes.result.now i)) in
     let same = (λ t. map (row_numbers number) (c.as_slice-2.ensures.value t)) ∙ c.in_ok-boxes.ensures.rows in
     let keys = c.as_slice-3.ensures.value ∙ c.in_ok-keys.ensures in
     subst (λ (w : ℕ × List Row × List ℕ × List (Boxed Row)). IfOk c.u_summarize.result (λ v.
-    IsGroupForm {F = Fault} row_cmp w.0 (group_label c.args.to.now c.args.at.now (map read_aggregate c.args.aggregates.now) w.1) w.2 w.3 (map (row_numbers number) v.items)))
+    IsGroupForm {F = Fault} row_cmp w.0 (group_label c.args.to.now c.args.of.at.now (map read_aggregate c.args.of.aggregates.now) w.1) w.2 w.3 (map (row_numbers number) v.items)))
     (λ t. (many t, c.rows.ensures.rows t, keys t, same t)) c.u_summarize.ensures.rows
 
 pub returns-clause-no_fault : goal.returns-clause-no_fault
@@ -46,7 +46,7 @@ returns-clause-no_fault g c =
     let same = (λ t. map (row_numbers number) (c.as_slice-2.ensures.value t)) ∙ c.in_ok-boxes.ensures.rows in
     let keys = c.as_slice-3.ensures.value ∙ c.in_ok-keys.ensures in
     subst (λ (w : List Row × List ℕ × List (Boxed Row)). IfOk c.u_summarize.result (λ v.
-    IsLeast (HasGroupFault (group_label c.args.to.now c.args.at.now (map read_aggregate c.args.aggregates.now) w.0) w.1 w.2) None))
+    IsLeast (HasGroupFault (group_label c.args.to.now c.args.of.at.now (map read_aggregate c.args.of.aggregates.now) w.0) w.1 w.2) None))
     (λ t. (c.rows.ensures.rows t, keys t, same t)) c.u_summarize.ensures.no_fault
 
 pub returns-clause-fault : goal.returns-clause-fault
@@ -54,24 +54,24 @@ returns-clause-fault g c =
     let same = (λ t. map (row_numbers number) (c.as_slice-2.ensures.value t)) ∙ c.in_ok-boxes.ensures.rows in
     let keys = c.as_slice-3.ensures.value ∙ c.in_ok-keys.ensures in
     subst (λ (w : List Row × List ℕ × List (Boxed Row)). (e : Fault) → c.u_summarize.result ≡ Err (OfOp e) →
-    IsLeast (HasGroupFault (group_label c.args.to.now c.args.at.now (map read_aggregate c.args.aggregates.now) w.0) w.1 w.2) (Some e))
+    IsLeast (HasGroupFault (group_label c.args.to.now c.args.of.at.now (map read_aggregate c.args.of.aggregates.now) w.0) w.1 w.2) (Some e))
     (λ t. (c.rows.ensures.rows t, keys t, same t)) c.u_summarize.ensures.fault
 
 pub returns-clause-limit : goal.returns-clause-limit
 returns-clause-limit g c =
-    let commalist = c.args.commalist.now in
+    let commalist = c.args.of.commalist.now in
     let many = ap length (c.as_slice.ensures.value ∙ c.in_ok-types.ensures) ∙ length-map commalist (λ i. type_of (kind_at c.attributes.result.now i)) in
     let same = (λ t. map (row_numbers number) (c.as_slice-2.ensures.value t)) ∙ c.in_ok-boxes.ensures.rows in
     let keys = c.as_slice-3.ensures.value ∙ c.in_ok-keys.ensures in
     subst (λ (w : ℕ × List Row × List ℕ × List (Boxed Row)). c.u_summarize.result ≡ Err OfLimit →
-    IsLeast (HasGroupFault (group_label c.args.to.now c.args.at.now (map read_aggregate c.args.aggregates.now) w.1) w.2 w.3) None
-    × ((form : List (Boxed Row)) × IsGroupForm {F = Fault} row_cmp w.0 (group_label c.args.to.now c.args.at.now (map read_aggregate c.args.aggregates.now) w.1) w.2 w.3 form × (most_rows < length form)))
+    IsLeast (HasGroupFault (group_label c.args.to.now c.args.of.at.now (map read_aggregate c.args.of.aggregates.now) w.1) w.2 w.3) None
+    × ((form : List (Boxed Row)) × IsGroupForm {F = Fault} row_cmp w.0 (group_label c.args.to.now c.args.of.at.now (map read_aggregate c.args.of.aggregates.now) w.1) w.2 w.3 form × (most_rows < length form)))
     (λ t. (many t, c.rows.ensures.rows t, keys t, same t)) c.u_summarize.ensures.limit
 
 pub returns-clause-cost : goal.returns-clause-cost
 returns-clause-cost g c =
     let r = c.args.r.now in
-    let commalist = c.args.commalist.now in
+    let commalist = c.args.of.commalist.now in
     let many = ap length (c.as_slice.ensures.value ∙ c.in_ok-types.ensures) ∙ length-map commalist (λ i. type_of (kind_at c.attributes.result.now i)) in
     let same = (λ t. map (row_numbers number) (c.as_slice-2.ensures.value t)) ∙ c.in_ok-boxes.ensures.rows in
     let rows : length c.as_slice-2.result.now ≡ length r.rows = sym (length-map c.as_slice-2.result.now (row_numbers number)) ∙ ap length same ∙ length-map r.rows (boxed commalist) in
