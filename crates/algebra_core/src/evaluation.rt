@@ -151,13 +151,11 @@ fn infix<L: Ledger>(
 {
     let left = operand(alloc, l, scope, steps)?;
     let right = operand(alloc, r, scope, steps)?;
-    let place = tree.place;
     surrounded::infix(
         alloc,
         around,
-        place,
+        tree,
         word,
-        &tree.heading,
         left.relation(),
         right.relation(),
         steps,

@@ -17,40 +17,45 @@ ghost use Rattle.algebra_core.specs.Surroundings.{around_of, IsListed, KeepsList
 use crate::surrounding::Surrounding;
 use crate::{operators, summary};
 use eval_using::{
-    using_extension, using_infix, using_projection, using_restriction, using_summary,
+    Node, using_extension, using_infix, using_projection, using_restriction, using_summary,
 };
-use point_core::{Place, Steps, Stop};
+use point_core::{Steps, Stop};
 use scalar_core::Scalar;
 use std::alloc::Global;
 use std::sync::ledger::Ledger;
-use tree_core::{Aggregates, InfixWord, Sets};
+use tree_core::{Aggregates, InfixWord, RelTree, Sets};
 use value_core::{Heading, Positions, Relation};
 
 /// What the operator gives of two relations.
 pub(crate) fn infix<L: Ledger>(
     alloc: Global,
     around: Surrounding<'_>,
-    place: Place,
+    tree: &RelTree,
     word: InfixWord,
-    heading: &Heading,
     left: &Relation,
     right: &Relation,
     steps: &mut Steps<L>,
 ) -> Result<Relation, Stop>
-    requires infix { IsInfix word left.now.heading right.now.heading heading.now }
-    requires list { IsListed around heading.now }
-    requires left { KeepsList around heading.now left.now.heading }
-    requires right { KeepsList around heading.now right.now.heading }
-    ensures value { Answers result (under heading.now (closed (around_of around.entry heading.now) place heading.now
+    requires infix { IsInfix word left.now.heading right.now.heading tree.now.heading }
+    requires list { IsListed around tree.now.heading }
+    requires left { KeepsList around tree.now.heading left.now.heading }
+    requires right { KeepsList around tree.now.heading right.now.heading }
+    ensures value { Answers result (under tree.now.heading (closed (around_of around.entry tree.now.heading) tree.now.place tree.now.heading
         (infix_rows word left.now.heading right.now.heading
-        (opened (around_of around.entry heading.now) left.now.heading left.now.rows)
-        (opened (around_of around.entry heading.now) right.now.heading right.now.rows)))) }
-    ensures cost { steps.new ≤ steps.old + operator_cost (around_of around.entry heading.now) (length left.now.rows + length right.now.rows) }
+        (opened (around_of around.entry tree.now.heading) left.now.heading left.now.rows)
+        (opened (around_of around.entry tree.now.heading) right.now.heading right.now.rows)))) }
+    ensures cost { steps.new ≤ steps.old + operator_cost (around_of around.entry tree.now.heading) (length left.now.rows + length right.now.rows) }
 {
     match around {
-        Surrounding::Plainly => operators::infix(alloc, place, word, left, right),
-        Surrounding::Using(at, commalist) => {
-            using_infix(alloc, at, word, heading, commalist, left, right, steps)
+        Surrounding::Plainly => operators::infix(alloc, tree.place, word, left, right),
+        Surrounding::Using(place, commalist) => {
+            let heading = &tree.heading;
+            let node = Node {
+                place,
+                heading,
+                commalist,
+            };
+            using_infix(alloc, node, word, left, right, steps)
         }
     }
 }
@@ -73,16 +78,13 @@ pub(crate) fn projection<L: Ledger>(
 {
     match around {
         Surrounding::Plainly => operators::projected(alloc, r, kept),
-        Surrounding::Using(at, commalist) => {
-            using_projection(
-                alloc,
-                at,
+        Surrounding::Using(place, commalist) => {
+            let node = Node {
+                place,
                 heading,
                 commalist,
-                kept.list.as_slice(),
-                r,
-                steps,
-            )
+            };
+            using_projection(alloc, node, kept.list.as_slice(), r, steps)
         }
     }
 }
@@ -106,9 +108,14 @@ pub(crate) fn restriction<L: Ledger>(
 {
     match around {
         Surrounding::Plainly => row_making::restricted(alloc, r, c),
-        Surrounding::Using(at, commalist) => using_restriction(
-            alloc, at, heading, commalist, c, r, steps,
-        ),
+        Surrounding::Using(place, commalist) => {
+            let node = Node {
+                place,
+                heading,
+                commalist,
+            };
+            using_restriction(alloc, node, c, r, steps)
+        }
     }
 }
 
@@ -132,9 +139,14 @@ pub(crate) fn extension<L: Ledger>(
 {
     match around {
         Surrounding::Plainly => row_making::extended(alloc, r, heading, sets),
-        Surrounding::Using(at, commalist) => using_extension(
-            alloc, at, heading, commalist, sets, r, steps,
-        ),
+        Surrounding::Using(place, commalist) => {
+            let node = Node {
+                place,
+                heading,
+                commalist,
+            };
+            using_extension(alloc, node, sets, r, steps)
+        }
     }
 }
 
@@ -162,17 +174,13 @@ pub(crate) fn grouping<L: Ledger>(
 {
     match around {
         Surrounding::Plainly => summary::summarized(alloc, r, heading, by, aggregates),
-        Surrounding::Using(at, commalist) => {
-            using_summary(
-                alloc,
-                at,
+        Surrounding::Using(place, commalist) => {
+            let node = Node {
+                place,
                 heading,
                 commalist,
-                by.list.as_slice(),
-                aggregates,
-                r,
-                steps,
-            )
+            };
+            using_summary(alloc, node, by.list.as_slice(), aggregates, r, steps)
         }
     }
 }

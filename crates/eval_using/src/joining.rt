@@ -10,44 +10,53 @@ ghost use Rattle.meaning_core.specs.Typing.{IsList};
 ghost use Rattle.eval_using.specs.Using.{around, HasList};
 
 use crate::listing::listed;
-use point_core::{Place, Steps, Stop};
+use crate::node::Node;
+use point_core::{Steps, Stop};
 use row_making::or_fault_at;
 use std::alloc::Global;
 use std::sync::ledger::Ledger;
 use u_join::{joined, matched, unmatched};
-use value_core::{Heading, Relation};
+use value_core::Relation;
 
 /// The rows of either relation that agree, put together, under USING.
 pub(crate) fn using_join<L: Ledger>(
     alloc: Global,
-    place: Place,
-    heading: &Heading,
-    commalist: &[usize],
+    node: Node<'_>,
     left: &Relation,
     right: &Relation,
     steps: &mut Steps<L>,
 ) -> Result<Relation, Stop>
     requires kinds { HaveEqualKinds left.now.heading right.now.heading }
-    requires heading { heading.now ≡ joined_heading left.now.heading right.now.heading }
-    requires few { length heading.now ≤ most_attributes }
-    requires list { IsList heading.now commalist.now }
-    requires left { HasList heading.now commalist.now left.now.heading }
-    requires right { HasList heading.now commalist.now right.now.heading }
-    ensures value { Answers result (under heading.now (closed (around place heading.now commalist.now) place heading.now
+    requires heading { node.heading.now ≡ joined_heading left.now.heading right.now.heading }
+    requires few { length node.heading.now ≤ most_attributes }
+    requires list { IsList node.heading.now node.commalist.now }
+    requires left { HasList node.heading.now node.commalist.now left.now.heading }
+    requires right { HasList node.heading.now node.commalist.now right.now.heading }
+    ensures value { Answers result (under node.entry.heading.now (closed (around node.entry.place node.entry.heading.now node.entry.commalist.now) node.entry.place node.entry.heading.now
         (joined left.now.heading right.now.heading
-        (opened (around place heading.now commalist.now) left.now.heading left.now.rows)
-        (opened (around place heading.now commalist.now) right.now.heading right.now.rows)))) }
-    ensures cost { steps.new ≤ steps.old + bound (length left.now.rows + length right.now.rows) (length commalist.now) }
+        (opened (around node.entry.place node.entry.heading.now node.entry.commalist.now) left.now.heading left.now.rows)
+        (opened (around node.entry.place node.entry.heading.now node.entry.commalist.now) right.now.heading right.now.rows)))) }
+    ensures cost { steps.new ≤ steps.old + bound (length left.now.rows + length right.now.rows) (length node.entry.commalist.now) }
 {
-    let attributes = heading.attributes();
-    let here = listed(alloc, attributes, commalist, left.heading().attributes())?;
-    let there = listed(alloc, attributes, commalist, right.heading().attributes())?;
+    let attributes = node.heading.attributes();
+    let here = listed(
+        alloc,
+        attributes,
+        node.commalist,
+        left.heading().attributes(),
+    )?;
+    let there = listed(
+        alloc,
+        attributes,
+        node.commalist,
+        right.heading().attributes(),
+    )?;
     or_fault_at(
-        place,
+        node.place,
         joined(
             alloc,
-            heading,
-            commalist,
+            node.heading,
+            node.commalist,
             left,
             right,
             here.as_slice(),
@@ -60,55 +69,61 @@ pub(crate) fn using_join<L: Ledger>(
 /// The rows of the left relation that agree with some row of the right one, under USING.
 pub(crate) fn using_matching<L: Ledger>(
     alloc: Global,
-    place: Place,
-    heading: &Heading,
-    commalist: &[usize],
+    node: Node<'_>,
     left: &Relation,
     right: &Relation,
     steps: &mut Steps<L>,
 ) -> Result<Relation, Stop>
     requires kinds { HaveEqualKinds left.now.heading right.now.heading }
-    requires heading { heading.now ≡ left.now.heading }
-    requires list { IsList heading.now commalist.now }
-    requires right { HasList heading.now commalist.now right.now.heading }
-    ensures value { Answers result (under heading.now (closed (around place heading.now commalist.now) place heading.now
+    requires heading { node.heading.now ≡ left.now.heading }
+    requires list { IsList node.heading.now node.commalist.now }
+    requires right { HasList node.heading.now node.commalist.now right.now.heading }
+    ensures value { Answers result (under node.entry.heading.now (closed (around node.entry.place node.entry.heading.now node.entry.commalist.now) node.entry.place node.entry.heading.now
         (matched left.now.heading right.now.heading
-        (opened (around place heading.now commalist.now) left.now.heading left.now.rows)
-        (opened (around place heading.now commalist.now) right.now.heading right.now.rows)))) }
-    ensures cost { steps.new ≤ steps.old + bound (length left.now.rows + length right.now.rows) (length commalist.now) }
+        (opened (around node.entry.place node.entry.heading.now node.entry.commalist.now) left.now.heading left.now.rows)
+        (opened (around node.entry.place node.entry.heading.now node.entry.commalist.now) right.now.heading right.now.rows)))) }
+    ensures cost { steps.new ≤ steps.old + bound (length left.now.rows + length right.now.rows) (length node.entry.commalist.now) }
 {
-    let attributes = heading.attributes();
-    let there = listed(alloc, attributes, commalist, right.heading().attributes())?;
+    let attributes = node.heading.attributes();
+    let there = listed(
+        alloc,
+        attributes,
+        node.commalist,
+        right.heading().attributes(),
+    )?;
     or_fault_at(
-        place,
-        matched(alloc, left, right, commalist, there.as_slice(), steps),
+        node.place,
+        matched(alloc, left, right, node.commalist, there.as_slice(), steps),
     )
 }
 
 /// The rows of the left relation that agree with no row of the right one, under USING.
 pub(crate) fn using_not_matching<L: Ledger>(
     alloc: Global,
-    place: Place,
-    heading: &Heading,
-    commalist: &[usize],
+    node: Node<'_>,
     left: &Relation,
     right: &Relation,
     steps: &mut Steps<L>,
 ) -> Result<Relation, Stop>
     requires kinds { HaveEqualKinds left.now.heading right.now.heading }
-    requires heading { heading.now ≡ left.now.heading }
-    requires list { IsList heading.now commalist.now }
-    requires right { HasList heading.now commalist.now right.now.heading }
-    ensures value { Answers result (under heading.now (closed (around place heading.now commalist.now) place heading.now
+    requires heading { node.heading.now ≡ left.now.heading }
+    requires list { IsList node.heading.now node.commalist.now }
+    requires right { HasList node.heading.now node.commalist.now right.now.heading }
+    ensures value { Answers result (under node.entry.heading.now (closed (around node.entry.place node.entry.heading.now node.entry.commalist.now) node.entry.place node.entry.heading.now
         (unmatched left.now.heading right.now.heading
-        (opened (around place heading.now commalist.now) left.now.heading left.now.rows)
-        (opened (around place heading.now commalist.now) right.now.heading right.now.rows)))) }
-    ensures cost { steps.new ≤ steps.old + bound (length left.now.rows + length right.now.rows) (length commalist.now) }
+        (opened (around node.entry.place node.entry.heading.now node.entry.commalist.now) left.now.heading left.now.rows)
+        (opened (around node.entry.place node.entry.heading.now node.entry.commalist.now) right.now.heading right.now.rows)))) }
+    ensures cost { steps.new ≤ steps.old + bound (length left.now.rows + length right.now.rows) (length node.entry.commalist.now) }
 {
-    let attributes = heading.attributes();
-    let there = listed(alloc, attributes, commalist, right.heading().attributes())?;
+    let attributes = node.heading.attributes();
+    let there = listed(
+        alloc,
+        attributes,
+        node.commalist,
+        right.heading().attributes(),
+    )?;
     or_fault_at(
-        place,
-        unmatched(alloc, left, right, commalist, there.as_slice(), steps),
+        node.place,
+        unmatched(alloc, left, right, node.commalist, there.as_slice(), steps),
     )
 }

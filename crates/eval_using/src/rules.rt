@@ -15,68 +15,65 @@ ghost use Rattle.eval_using.specs.Using.{around, listed, HasList, IsSweptBy, Are
 use crate::extension::extended_by_boxes;
 use crate::items::Items;
 use crate::listing::listed;
+use crate::node::Node;
 use crate::restriction::restricted_by_boxes;
-use point_core::{Place, Steps, Stop};
+use point_core::{Steps, Stop};
 use row_making::set_places;
 use scalar_core::Scalar;
 use std::alloc::Global;
 use std::sync::ledger::Ledger;
 use tree_core::Sets;
-use value_core::{Heading, Relation};
+use value_core::Relation;
 
 /// The relation at the points of which the condition holds, or the least fault of the condition at any point.
 pub fn using_restriction<L: Ledger>(
     alloc: Global,
-    place: Place,
-    heading: &Heading,
-    commalist: &[usize],
+    node: Node<'_>,
     c: &Scalar,
     r: &Relation,
     steps: &mut Steps<L>,
 ) -> Result<Relation, Stop>
-    requires restriction { (sizes : List ℕ) × IsRestriction sizes r.now.heading heading.now (read c.now) }
-    requires list { IsList heading.now commalist.now }
-    requires swept { IsSweptBy heading.now commalist.now r.now.heading (read c.now) }
-    ensures value { Answers result (under heading.now
-        (then_give (restricted (condition (read c.now)) (opened (around place heading.now commalist.now) r.now.heading r.now.rows))
-        (closed (around place heading.now commalist.now) place heading.now))) }
-    ensures cost { steps.new ≤ steps.old + bound (cells_of_all (listed heading.now commalist.now r.now.heading) (read c.now ∷ []) r.now.rows) (length commalist.now) }
+    requires restriction { (sizes : List ℕ) × IsRestriction sizes r.now.heading node.heading.now (read c.now) }
+    requires list { IsList node.heading.now node.commalist.now }
+    requires swept { IsSweptBy node.heading.now node.commalist.now r.now.heading (read c.now) }
+    ensures value { Answers result (under node.entry.heading.now
+        (then_give (restricted (condition (read c.now)) (opened (around node.entry.place node.entry.heading.now node.entry.commalist.now) r.now.heading r.now.rows))
+        (closed (around node.entry.place node.entry.heading.now node.entry.commalist.now) node.entry.place node.entry.heading.now))) }
+    ensures cost { steps.new ≤ steps.old + bound (cells_of_all (listed node.entry.heading.now node.entry.commalist.now r.now.heading) (read c.now ∷ []) r.now.rows) (length node.entry.commalist.now) }
 {
     // The names of a heading are different, so the names at the positions lead back to these.
-    let _attributes = heading.attributes();
-    restricted_by_boxes(alloc, place, commalist, c, r, steps)
+    let _attributes = node.heading.attributes();
+    restricted_by_boxes(alloc, node.place, node.commalist, c, r, steps)
 }
 
 /// The relation with the values of the items at each point, or their least fault at any point.
 pub fn using_extension<L: Ledger>(
     alloc: Global,
-    place: Place,
-    heading: &Heading,
-    commalist: &[usize],
+    node: Node<'_>,
     sets: &Sets,
     r: &Relation,
     steps: &mut Steps<L>,
 ) -> Result<Relation, Stop>
-    requires extension { (sizes : List ℕ) × IsExtension sizes r.now.heading heading.now (read_sets sets.now) }
-    requires list { IsList heading.now commalist.now }
-    requires listed { HasList heading.now commalist.now r.now.heading }
-    requires swept { AreSweptBy heading.now commalist.now r.now.heading (read_sets sets.now) }
-    ensures value { Answers result (under heading.now
-        (then_give (extended (extended_row r.now.heading heading.now (read_sets sets.now)) (opened (around place heading.now commalist.now) r.now.heading r.now.rows))
-        (closed (around place heading.now commalist.now) place heading.now))) }
-    ensures cost { steps.new ≤ steps.old + bound (cells_of_all (listed heading.now commalist.now r.now.heading) (scalars_of (read_sets sets.now)) r.now.rows) (length commalist.now) }
+    requires extension { (sizes : List ℕ) × IsExtension sizes r.now.heading node.heading.now (read_sets sets.now) }
+    requires list { IsList node.heading.now node.commalist.now }
+    requires listed { HasList node.heading.now node.commalist.now r.now.heading }
+    requires swept { AreSweptBy node.heading.now node.commalist.now r.now.heading (read_sets sets.now) }
+    ensures value { Answers result (under node.entry.heading.now
+        (then_give (extended (extended_row r.now.heading node.entry.heading.now (read_sets sets.now)) (opened (around node.entry.place node.entry.heading.now node.entry.commalist.now) r.now.heading r.now.rows))
+        (closed (around node.entry.place node.entry.heading.now node.entry.commalist.now) node.entry.place node.entry.heading.now))) }
+    ensures cost { steps.new ≤ steps.old + bound (cells_of_all (listed node.entry.heading.now node.entry.commalist.now r.now.heading) (scalars_of (read_sets sets.now)) r.now.rows) (length node.entry.commalist.now) }
 {
     // The names of a heading are different, so the names at the positions lead back to these.
-    let attributes = heading.attributes();
+    let attributes = node.heading.attributes();
     let from = r.heading().attributes();
-    let commalist_there = listed(alloc, attributes, commalist, from)?;
+    let commalist_there = listed(alloc, attributes, node.commalist, from)?;
     let list = sets.list.as_slice();
     let places = set_places(alloc, list, from, attributes)?;
     let items = Items {
         commalist: commalist_there.as_slice(),
-        to: commalist,
+        to: node.commalist,
         places: places.as_slice(),
         sets: list,
     };
-    extended_by_boxes(alloc, place, heading, items, r, steps)
+    extended_by_boxes(alloc, node.place, node.heading, items, r, steps)
 }

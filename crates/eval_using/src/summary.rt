@@ -14,43 +14,42 @@ ghost use Rattle.eval_using.specs.Using.{around, listed, HasList, IsSummedBy};
 
 use crate::boxes::summary_form;
 use crate::listed;
+use crate::node::Node;
 use crate::parts::Grouping;
 use cell_core::CellRefuse;
-use point_core::{Place, Steps, Stop};
+use point_core::{Steps, Stop};
 use row_making::{aggregate_places, or_fault_at};
 use std::alloc::Global;
 use std::sync::ledger::Ledger;
 use tree_core::Aggregates;
 use u_set::from_boxes;
-use value_core::{Heading, Relation, RowsRefuse};
+use value_core::{Relation, RowsRefuse};
 
 /// A row for each group of the relation's rows at each point, or the least fault of an aggregate.
 pub fn using_summary<L: Ledger>(
     alloc: Global,
-    place: Place,
-    heading: &Heading,
-    commalist: &[usize],
+    node: Node<'_>,
     by: &[usize],
     aggregates: &Aggregates,
     r: &Relation,
     steps: &mut Steps<L>,
 ) -> Result<Relation, Stop>
-    requires summary { (sizes : List ℕ) × IsSummary sizes r.now.heading heading.now by.now (map read_aggregate aggregates.now) }
-    requires list { IsList heading.now commalist.now }
-    requires listed { HasList heading.now commalist.now r.now.heading }
-    requires summed { IsSummedBy heading.now commalist.now r.now.heading by.now (map read_aggregate aggregates.now) }
-    ensures value { Answers result (under heading.now
+    requires summary { (sizes : List ℕ) × IsSummary sizes r.now.heading node.heading.now by.now (map read_aggregate aggregates.now) }
+    requires list { IsList node.heading.now node.commalist.now }
+    requires listed { HasList node.heading.now node.commalist.now r.now.heading }
+    requires summed { IsSummedBy node.heading.now node.commalist.now r.now.heading by.now (map read_aggregate aggregates.now) }
+    ensures value { Answers result (under node.entry.heading.now
         (then_give (summarized by.now
-        (λ numbers. group_row r.now.heading heading.now (map read_aggregate aggregates.now)
-        (rows_at (opened (around place heading.now commalist.now) r.now.heading r.now.rows) numbers))
-        (opened (around place heading.now commalist.now) r.now.heading r.now.rows))
-        (closed (around place heading.now commalist.now) place heading.now))) }
-    ensures cost { steps.new ≤ steps.old + bound (length r.now.rows) (length commalist.now) }
+        (λ numbers. group_row r.now.heading node.entry.heading.now (map read_aggregate aggregates.now)
+        (rows_at (opened (around node.entry.place node.entry.heading.now node.entry.commalist.now) r.now.heading r.now.rows) numbers))
+        (opened (around node.entry.place node.entry.heading.now node.entry.commalist.now) r.now.heading r.now.rows))
+        (closed (around node.entry.place node.entry.heading.now node.entry.commalist.now) node.entry.place node.entry.heading.now))) }
+    ensures cost { steps.new ≤ steps.old + bound (length r.now.rows) (length node.entry.commalist.now) }
 {
-    let attributes = heading.attributes();
+    let attributes = node.heading.attributes();
     let from = r.heading().attributes();
     let list = aggregates.list.as_slice();
-    let here = listed(alloc, attributes, commalist, from)?;
+    let here = listed(alloc, attributes, node.commalist, from)?;
     let at = aggregate_places(alloc, list, from, attributes)?;
     let of = Grouping {
         commalist: here.as_slice(),
@@ -58,39 +57,37 @@ pub fn using_summary<L: Ledger>(
         aggregates: list,
         at: at.as_slice(),
     };
-    summarized_by_boxes(alloc, place, heading, commalist, of, r, steps)
+    summarized_by_boxes(alloc, node, of, r, steps)
 }
 
 // The same by the positions of the listed attributes among the relation's, and the places of the values of a group's row.
 fn summarized_by_boxes<L: Ledger>(
     alloc: Global,
-    place: Place,
-    heading: &Heading,
-    commalist: &[usize],
+    node: Node<'_>,
     of: Grouping<'_>,
     r: &Relation,
     steps: &mut Steps<L>,
 ) -> Result<Relation, Stop>
-    requires summary { (sizes : List ℕ) × IsSummary sizes r.now.heading heading.now of.by.now (map read_aggregate of.aggregates.now) }
-    requires list { IsList heading.now commalist.now }
-    requires listed { HasList heading.now commalist.now r.now.heading }
-    requires summed { IsSummedBy heading.now commalist.now r.now.heading of.by.now (map read_aggregate of.aggregates.now) }
-    requires here { of.commalist.now ≡ listed heading.now commalist.now r.now.heading }
-    requires places { of.at.now ≡ places (aggregate_names (map read_aggregate of.aggregates.now) ++ names_of r.now.heading) heading.now }
-    ensures value { Answers result (under heading.now
+    requires summary { (sizes : List ℕ) × IsSummary sizes r.now.heading node.heading.now of.by.now (map read_aggregate of.aggregates.now) }
+    requires list { IsList node.heading.now node.commalist.now }
+    requires listed { HasList node.heading.now node.commalist.now r.now.heading }
+    requires summed { IsSummedBy node.heading.now node.commalist.now r.now.heading of.by.now (map read_aggregate of.aggregates.now) }
+    requires here { of.commalist.now ≡ listed node.heading.now node.commalist.now r.now.heading }
+    requires places { of.at.now ≡ places (aggregate_names (map read_aggregate of.aggregates.now) ++ names_of r.now.heading) node.heading.now }
+    ensures value { Answers result (under node.entry.heading.now
         (then_give (summarized of.entry.by.now
-        (λ numbers. group_row r.now.heading heading.now (map read_aggregate of.entry.aggregates.now)
-        (rows_at (opened (around place heading.now commalist.now) r.now.heading r.now.rows) numbers))
-        (opened (around place heading.now commalist.now) r.now.heading r.now.rows))
-        (closed (around place heading.now commalist.now) place heading.now))) }
-    ensures cost { steps.new ≤ steps.old + bound (length r.now.rows) (length commalist.now) }
+        (λ numbers. group_row r.now.heading node.entry.heading.now (map read_aggregate of.entry.aggregates.now)
+        (rows_at (opened (around node.entry.place node.entry.heading.now node.entry.commalist.now) r.now.heading r.now.rows) numbers))
+        (opened (around node.entry.place node.entry.heading.now node.entry.commalist.now) r.now.heading r.now.rows))
+        (closed (around node.entry.place node.entry.heading.now node.entry.commalist.now) node.entry.place node.entry.heading.now))) }
+    ensures cost { steps.new ≤ steps.old + bound (length r.now.rows) (length node.entry.commalist.now) }
 {
-    let _attributes = heading.attributes();
+    let _attributes = node.heading.attributes();
     let _rows = r.rows();
-    let whole = heading.copy(alloc)?;
-    match summary_form(alloc, of, commalist, r, steps) {
-        Ok(form) => or_fault_at(place, from_boxes(alloc, whole, commalist, form)),
-        Err(CellRefuse::Limit) => or_fault_at(place, Err(RowsRefuse::TooMany)),
+    let whole = node.heading.copy(alloc)?;
+    match summary_form(alloc, of, node.commalist, r, steps) {
+        Ok(form) => or_fault_at(node.place, from_boxes(alloc, whole, node.commalist, form)),
+        Err(CellRefuse::Limit) => or_fault_at(node.place, Err(RowsRefuse::TooMany)),
         Err(CellRefuse::Op(fault)) => Err(Stop::Fault(fault)),
         Err(CellRefuse::Memory) => Err(Stop::Memory),
     }

@@ -33,6 +33,6 @@ returns-in-Using-clause-value g c = λ place.
     (closed (around_of s h) place h))))
     (sym c.in-Using.is)
     (subst (λ (l : List ℕ). Answers c.using_summary.result (under h (then_give
-    (summarized l (λ numbers. group_row from h aggregates (rows_at (opened (around c.in-Using.at h c.in-Using.commalist.now) from rows) numbers)) (opened (around c.in-Using.at h c.in-Using.commalist.now) from rows))
-    (closed (around c.in-Using.at h c.in-Using.commalist.now) place h))))
+    (summarized l (λ numbers. group_row from h aggregates (rows_at (opened (around c.in-Using.place h c.in-Using.commalist.now) from rows) numbers)) (opened (around c.in-Using.place h c.in-Using.commalist.now) from rows))
+    (closed (around c.in-Using.place h c.in-Using.commalist.now) place h))))
     by c.using_summary.ensures.value)

@@ -15,12 +15,12 @@ use Rattle.eval_using.proofs.combining.using_projection.Goals as goal
 
 pub returns-clause-value : goal.returns-clause-value
 returns-clause-value g c =
-    let h = c.args.heading.now in
+    let h = c.args.node.heading.now in
     let r = c.args.r.now in
-    let commalist = c.args.commalist.now in
+    let commalist = c.args.node.commalist.now in
     let kept = c.args.kept.now in
     let below = positions_kept h r.heading kept commalist c.requires.projection.headed (intervals_of_list h commalist c.requires.list) in
     let is = beneath_is h r.heading kept commalist c.heading-own.ensures.relation.headed c.requires.projection.headed c.requires.projection.positions.within below in
-    let same = rows_meant c.args.place h commalist c.attributes-attributes.ensures.heading c.requires.list (projected kept (unpacked (listed h commalist r.heading) r.rows)) in
-    subst (λ (m : OrFault Relation). Answers c.or_fault_at.result m) (ap (λ ps. under h (limited c.args.place (packed commalist (projected kept (unpacked ps r.rows))))) is ∙ same)
+    let same = rows_meant c.args.node.place h commalist c.attributes-attributes.ensures.heading c.requires.list (projected kept (unpacked (listed h commalist r.heading) r.rows)) in
+    subst (λ (m : OrFault Relation). Answers c.or_fault_at.result m) (ap (λ ps. under h (limited c.args.node.place (packed commalist (projected kept (unpacked ps r.rows))))) is ∙ same)
     (c.or_fault_at.ensures h (packed commalist (projected kept (unpacked (beneath kept commalist) r.rows))) c.projected.ensures.rows)

@@ -11,7 +11,7 @@ pub returns-clause-value : goal.returns-clause-value
 returns-clause-value g c =
     let left = c.args.left.now in
     let right = c.args.right.now in
-    let commalist = c.args.commalist.now in
-    let same = set_meant c.args.place c.args.heading.now commalist c.attributes-attributes.ensures.heading c.requires.list united left.heading right.heading left.rows right.rows c.requires.left c.requires.right in
+    let commalist = c.args.node.commalist.now in
+    let same = set_meant c.args.node.place c.args.node.heading.now commalist c.attributes-attributes.ensures.heading c.requires.list united left.heading right.heading left.rows right.rows c.requires.left c.requires.right in
     subst (λ (m : OrFault Relation). Answers c.or_fault_at.result m) same
     (c.or_fault_at.ensures left.heading (packed commalist (united (unpacked commalist left.rows) (unpacked commalist right.rows))) c.united.ensures.rows)

@@ -21,9 +21,9 @@ use Rattle.eval_using.proofs.rules.using_extension.Goals as goal
 
 pub extended_by_boxes-requires : goal.extended_by_boxes-requires
 extended_by_boxes-requires g c =
-    let h = c.args.heading.now in
+    let h = c.args.node.heading.now in
     let from = c.args.r.now.heading in
-    let commalist = c.args.commalist.now in
+    let commalist = c.args.node.commalist.now in
     let sets = c.as_slice-list.ensures.value ∙ c.sets.view_is in
     let there = c.as_slice.ensures.value ∙ c.in_ok-commalist_there.ensures ∙ ap₂ (λ (u v : Heading). listed u commalist v) c.attributes-attributes.ensures.list (c.attributes-from.ensures.list ∙ c.heading.ensures.heading) in
     let at = c.as_slice-2.ensures.value ∙ c.in_ok-places.ensures
@@ -33,22 +33,22 @@ extended_by_boxes-requires g c =
 
 pub returns-clause-value : goal.returns-clause-value
 returns-clause-value g c =
-    let h = c.args.heading.now in
+    let h = c.args.node.heading.now in
     let from = c.args.r.now.heading in
-    let commalist = c.args.commalist.now in
+    let commalist = c.args.node.commalist.now in
     let sets = c.as_slice-list.ensures.value ∙ c.sets.view_is in
     let there = c.as_slice.ensures.value ∙ c.in_ok-commalist_there.ensures ∙ ap₂ (λ (u v : Heading). listed u commalist v) c.attributes-attributes.ensures.list (c.attributes-from.ensures.list ∙ c.heading.ensures.heading) in
     let at = c.as_slice-2.ensures.value ∙ c.in_ok-places.ensures
     ∙ (λ t. places (set_names (read_sets (sets t)) ++ names_of ((c.attributes-from.ensures.list ∙ c.heading.ensures.heading) t)) (c.attributes-attributes.ensures.list t)) in
     let back = positions_back h commalist c.attributes-attributes.ensures.heading c.requires.list in
     subst (λ (m : OrFault Relation). Answers c.extended_by_boxes.result m)
-    (λ t. under h (then_give (extended (extended_at (at t) (read_sets (sets t))) (unpacked (there t) c.args.r.now.rows)) (λ rows. limited c.args.place (packed (sym back t) rows)))) c.extended_by_boxes.ensures.value
+    (λ t. under h (then_give (extended (extended_at (at t) (read_sets (sets t))) (unpacked (there t) c.args.r.now.rows)) (λ rows. limited c.args.node.place (packed (sym back t) rows)))) c.extended_by_boxes.ensures.value
 
 pub returns-clause-cost : goal.returns-clause-cost
 returns-clause-cost g c =
-    let h = c.args.heading.now in
+    let h = c.args.node.heading.now in
     let from = c.args.r.now.heading in
-    let commalist = c.args.commalist.now in
+    let commalist = c.args.node.commalist.now in
     let sets = c.as_slice-list.ensures.value ∙ c.sets.view_is in
     let there = c.as_slice.ensures.value ∙ c.in_ok-commalist_there.ensures ∙ ap₂ (λ (u v : Heading). listed u commalist v) c.attributes-attributes.ensures.list (c.attributes-from.ensures.list ∙ c.heading.ensures.heading) in
     let given = items_of h commalist c.attributes-attributes.ensures.heading c.requires.list from c.heading.ensures.relation.headed c.requires.listed (read_sets c.args.sets.now) c.requires.swept c.requires.extension.0 c.requires.extension.1 in

@@ -15,7 +15,7 @@ use Rattle.eval_using.proofs.summary.using_summary.Goals as goal
 pub summarized_by_boxes-requires-clause-here : goal.summarized_by_boxes-requires-clause-here
 summarized_by_boxes-requires-clause-here g c =
     c.as_slice.ensures.value ∙ c.in_ok-here.ensures
-    ∙ ap₂ (λ (u v : Heading). listed u c.args.commalist.now v) c.attributes-attributes.ensures.list (c.attributes-from.ensures.list ∙ c.heading.ensures.heading)
+    ∙ ap₂ (λ (u v : Heading). listed u c.args.node.commalist.now v) c.attributes-attributes.ensures.list (c.attributes-from.ensures.list ∙ c.heading.ensures.heading)
 
 pub summarized_by_boxes-requires-clause-places : goal.summarized_by_boxes-requires-clause-places
 summarized_by_boxes-requires-clause-places g c =
@@ -25,9 +25,9 @@ summarized_by_boxes-requires-clause-places g c =
 pub returns-clause-value : goal.returns-clause-value
 returns-clause-value g c =
     let r = c.args.r.now in
-    let h = c.args.heading.now in
-    let commalist = c.args.commalist.now in
+    let h = c.args.node.heading.now in
+    let commalist = c.args.node.commalist.now in
     let list : c.as_slice-list.result.now ≡ c.args.aggregates.now = c.as_slice-list.ensures.value ∙ c.aggregates.view_is in
     subst (λ (l : List Aggregate). Answers c.summarized_by_boxes.result (under h
-    (then_give (summarized c.args.by.now (λ numbers. group_row r.heading h (map read_aggregate l) (rows_at (opened (around c.args.place h commalist) r.heading r.rows) numbers)) (opened (around c.args.place h commalist) r.heading r.rows))
-    (closed (around c.args.place h commalist) c.args.place h)))) list c.summarized_by_boxes.ensures.value
+    (then_give (summarized c.args.by.now (λ numbers. group_row r.heading h (map read_aggregate l) (rows_at (opened (around c.args.node.place h commalist) r.heading r.rows) numbers)) (opened (around c.args.node.place h commalist) r.heading r.rows))
+    (closed (around c.args.node.place h commalist) c.args.node.place h)))) list c.summarized_by_boxes.ensures.value
