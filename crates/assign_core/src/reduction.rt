@@ -29,7 +29,7 @@ use crate::plain_rows::lists_none;
 use crate::portion::{Deletion, Portion};
 use crate::tuning::SMALL_PART_DIVISOR;
 use change_rows::{Exchange, affected, replaced};
-use eval_using::using_restriction;
+use eval_using::{Node, using_restriction};
 use point_core::{Memory, Steps, Stop};
 use relation_core::Hashes;
 use row_making::restricted;
@@ -142,15 +142,12 @@ fn rows_at_points<L: Ledger>(
     let heading = of.heading();
     let commalist = portion.commalist;
     let list = commalist.list.as_slice();
-    using_restriction(
-        alloc,
-        portion.place,
+    let node = Node {
+        place: portion.place,
         heading,
-        list,
-        portion.condition,
-        of,
-        steps,
-    )
+        commalist: list,
+    };
+    using_restriction(alloc, node, portion.condition, of, steps)
 }
 
 /// The rows that the target gains and loses, or the fault of the condition.

@@ -30,7 +30,7 @@ use crate::plain_rows::lists_none;
 use crate::reduction::{if_few, is_packed_at, portion_rows};
 use crate::revision::{Changed, Revision};
 use change_rows::{Exchange, Replacement, affected_by_both, replaced, replaced_and_inserted};
-use eval_using::using_extension;
+use eval_using::{Node, using_extension};
 use point_core::{Code, Fault, Memory, Steps, Stop};
 use relation_core::{Hashes, union};
 use row_making::{extended, or_fault_at};
@@ -144,7 +144,12 @@ fn new_values_at_points<L: Ledger>(
     let heading = of.heading();
     let commalist = changed.commalist;
     let list = commalist.list.as_slice();
-    using_extension(alloc, changed.place, heading, list, changed.sets, of, steps)
+    let node = Node {
+        place: changed.place,
+        heading,
+        commalist: list,
+    };
+    using_extension(alloc, node, changed.sets, of, steps)
 }
 
 // The rows of the relation at the points of a portion, with new values.
