@@ -13,7 +13,7 @@ use point_core::AnyType;
 use value_core::Value;
 
 /// The interval that a value of an interval type is.
-pub(crate) fn interval_of(v: &Value) -> Interval<AnyType>
+pub fn interval_of(v: &Value) -> Interval<AnyType>
     requires { (t : AnyType) × IsTrue (fits (kind.Span t) (plain v.now)) }
     ensures points { (t : AnyType) → IsTrue (fits (kind.Span t) (plain v.now)) → HasEndsIn IsPointOf t result }
     ensures numbers { span number result ≡ span_of (plain v.now) }

@@ -25,6 +25,7 @@ pub use common::{intersected, u_intersect};
 pub use comparison::{are_same, is_within, u_equal, u_subset};
 pub use difference::{subtracted, u_minus};
 pub use fewer::prepacked;
+pub use intervals::interval_of;
 pub use kept::{is_apart, outside, stay_apart};
 pub use labels::{label_of, part_of_label, value_or_false};
 pub use packing::{packed, unpacked};
