@@ -3,7 +3,6 @@
 NO_CRATE = 'it speaks of meaning_core and of u_set, and no crate below both of these stands on both'
 
 TEXTS = 'the lemmas of utd_lexer are its own: all that reads texts would be proved again with them'
-WORDS = 'each contract says the result in the words that its callers prove by'
 
 APART = {
     frozenset({
@@ -14,11 +13,6 @@ APART = {
         ('crates/plain_rows/proofs/NumberLemmas.antt', 'digits-kind'),
         ('crates/utd_lexer/proofs/WordLemmas.antt', 'integer-kind'),
     }): TEXTS,
-    frozenset({
-    frozenset({
-        ('crates/eval_using/src/in_place.rt', 'interval_of'),
-        ('crates/u_set/src/intervals.rt', 'interval_of'),
-    }): WORDS,
     frozenset({
         ('crates/u_constraints/proofs/IntervalLemmas.antt', 'span_kind'),
         ('crates/eval_using/proofs/ListLemmas.antt', 'span_kind'),

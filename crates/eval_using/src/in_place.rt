@@ -10,7 +10,6 @@ ghost use Rattle.interval_core.specs.Members.{HasEndsIn};
 ghost use Rattle.cell_packing.specs.Boxed.{InBoxes};
 ghost use Rattle.cell_packing.specs.Packed.{Has};
 ghost use Rattle.value_core.specs.Attributes.{value_at, span_of, put_span};
-ghost use Rattle.value_core.specs.Plain.{plain};
 ghost use Rattle.value_core.specs.Relations.{all_fit, IsRelationOf};
 ghost use Rattle.value_core.specs.RowPacking.{packed, unpacked};
 ghost use Rattle.value_core.specs.Values.{Row as PlainRow, Heading as PlainHeading, interval, fits, fits_heading};
@@ -38,7 +37,7 @@ use point_core::{AnyType, Fault, Label, Memory, Stop};
 use row_making::holds;
 use scalar_core::{Scalar, cuts};
 use std::alloc::Global;
-use u_set::is_apart;
+use u_set::{interval_of, is_apart};
 use value_core::{Heading, Kind, Name, Relation, Row, RowsRefuse, Value};
 
 // The row with another interval at the position.
@@ -139,18 +138,6 @@ fn push_rows(
         out.push(more)?;
     }
     Ok(())
-}
-
-// The interval that a value is.
-fn interval_of(v: &Value) -> Interval<AnyType>
-    requires { (t : AnyType) × IsTrue (fits (kind.Span t) (plain v.now)) }
-    ensures numbers { numbers_of number result ≡ span_of (plain v.now) }
-    ensures points { (t : AnyType) → IsTrue (fits (kind.Span t) (plain v.now)) → HasEndsIn IsPointOf t result }
-{
-    match v {
-        Value::Span(i) => i.copy(),
-        _ => unreachable!(),
-    }
 }
 
 // The interval at the position.
