@@ -1,3 +1,4 @@
+pub mod AppendingLemmas
 pub mod FitLemmas
 pub mod HeadingLemmas
 pub mod OrderLemmas
