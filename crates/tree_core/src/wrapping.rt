@@ -94,7 +94,8 @@ impl RelTree {
     {
         let right = Box::new(alloc, right);
         let (heading, left) = wrapped(alloc, heading, self)?;
-        Ok(RelTree::infix(place, heading, word, left, right?))
+        let right = right?;
+        Ok(RelTree::infix(place, heading, word, left, right))
     }
 
     /// The expression under USING.
