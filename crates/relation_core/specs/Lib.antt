@@ -4,6 +4,7 @@ pub mod Faults
 pub mod Groups
 pub mod Growth
 pub mod Hashes
+pub mod Intervals
 pub mod Joins
 pub mod Keys
 pub mod Merged
