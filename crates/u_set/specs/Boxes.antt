@@ -1,18 +1,14 @@
 -- Rows as labelled boxes, and back: the intervals at some positions are the sides of a box, in the order of these positions, and the
 -- other values, in the order of the heading, its label.
---     AreIntervals      different positions of interval attributes
 --     boxed, unboxed      the box of a row, and the row of a box
 --     IsShaped      a row with intervals at the positions, and values of their kinds elsewhere
-use Rattle.std.specs.Prelude.{◌≡◌, ℕ, suc, ◌<◌, Bool, true, false, List, [], ◌∷◌, map, drop, length, get_or, slice_index_or, nat_eq, IsTrue, if◌then◌else◌}
-use Rattle.std.specs.List.{All, IsDistinct}
+use Rattle.std.specs.Prelude.{◌≡◌, ℕ, suc, Bool, true, false, List, [], ◌∷◌, map, drop, length, get_or, slice_index_or, nat_eq, IsTrue, if◌then◌else◌}
 use Rattle.point_core.specs.declared.any_type.AnyType.{AnyType}
-use Rattle.point_core.specs.declared.any_type.AnyType.TheVariants.{Integer}
 use Rattle.point_core.specs.Points.{line_of}
 use Rattle.interval_core.specs.Members.{Span}
-use Rattle.value_core.specs.declared.kind.Kind.{Kind}
-use Rattle.value_core.specs.declared.kind.Kind.TheVariants.{Span as SpanOf}
 use Rattle.value_core.specs.Attributes.{value_at, span_of, among}
 use Rattle.value_core.specs.Values.{Row, Heading, truth, interval, fits_heading}
+pub use Rattle.relation_core.specs.Intervals.{AreIntervals, type_of}
 use Rattle.relation_core.specs.Parts.{kind_at}
 use Rattle.cell_packing.specs.Boxed.{Boxed}
 use Rattle.cell_packing.specs.Packed.{nowhere}
@@ -24,19 +20,8 @@ abbrev pub place_of : List ℕ → ℕ → ℕ
 place_of [] i = 0
 place_of (j ∷ commalist) i = if nat_eq i j then 0 else suc (place_of commalist i)
 
--- the point type of an interval attribute; no other one is asked
-abbrev pub type_of : Kind → AnyType
-type_of (SpanOf t) = t
-type_of _ = Integer
-
 abbrev pub types_at : Heading → List ℕ → List AnyType
 types_at heading commalist = map (λ i. type_of (kind_at heading i)) commalist
-
--- different positions of interval attributes
-pub record AreIntervals (heading : Heading) (commalist : List ℕ) : Type 0 where
-  pub within : All (λ (i : ℕ). i < length heading) commalist
-  pub different : IsDistinct nat_eq commalist
-  pub spans : All (λ (i : ℕ). kind_at heading i ≡ SpanOf (type_of (kind_at heading i))) commalist
 
 -- ---- the box of a row
 
