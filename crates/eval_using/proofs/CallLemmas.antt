@@ -32,7 +32,8 @@ use Rattle.u_row.specs.Kept.{inner}
 use Rattle.u_join.proofs.ListedLemmas.{same_types, same_count}
 use Rattle.u_summarize.specs.Groups.{HasGroupFault, IsGroupForm}
 use Rattle.eval_using.specs.Using.{around, listed, HasList, IsSummedBy}
-use Rattle.eval_using.proofs.ListLemmas.{intervals_of_list, positions_back}
+use Rattle.meaning_core.proofs.IntervalLemmas.{intervals_of_list}
+use Rattle.eval_using.proofs.ListLemmas.{positions_back}
 use Rattle.eval_using.proofs.OperandLemmas.{operand_intervals, same_attributes}
 use Rattle.eval_using.specs.Labels.{group_label}
 use Rattle.eval_using.proofs.SummaryLemmas.{summary_fault, summary_given}

@@ -30,7 +30,7 @@ use Rattle.u_join.proofs.NameLemmas.{one_name, position_at}
 use Rattle.eval_using.specs.Extended.{AreItems, IsFree}
 use Rattle.eval_using.specs.PlaceRows.{among_itself}
 use Rattle.eval_using.specs.Using.{listed, HasList, AreSweptBy}
-use Rattle.eval_using.proofs.ListLemmas.{intervals_of_list}
+use Rattle.meaning_core.proofs.IntervalLemmas.{intervals_of_list}
 use Rattle.eval_using.proofs.OperandLemmas.{below, own_position, held_name, listed_is, same_attributes, operand_intervals}
 
 -- ---- places among names

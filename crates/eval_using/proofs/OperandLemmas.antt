@@ -19,7 +19,7 @@ use Rattle.u_row.proofs.BeneathLemmas.{in_all}
 use Rattle.u_row.proofs.LabelLemmas.{map_twice}
 use Rattle.u_join.proofs.NameLemmas.{name_back, one_name, position_at}
 use Rattle.eval_using.specs.Using.{listed, HasList}
-use Rattle.eval_using.proofs.ListLemmas.{intervals_of_list}
+use Rattle.meaning_core.proofs.IntervalLemmas.{intervals_of_list}
 use Rattle.scalar_core.proofs.KindOfLemmas.{same_kind-same}
 use Rattle.relation_core.proofs.AgreementLemmas.{position_within}
 

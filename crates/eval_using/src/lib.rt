@@ -1,6 +1,6 @@
 //! Operators under USING, PACK and UNPACK, and comparisons under USING, on relations: each means what the plain operator gives of the
 //! unpacked operands, packed again, and works on the ends of intervals alone.
-#![tactic(auto, using(crate::proofs::ListLemmas::intervals_of_list))]
+#![tactic(auto, using(meaning_core::proofs::IntervalLemmas::intervals_of_list))]
 
 mod boxes;
 mod cell_rows;

@@ -1,6 +1,7 @@
 pub mod ElsewhereLemmas
 pub mod EntryLemmas
 pub mod GroupFits
+pub mod IntervalLemmas
 pub mod LimitLemmas
 pub mod LookupLemmas
 pub mod MadeLemmas

@@ -43,7 +43,7 @@ use Rattle.u_constraints.specs.Growth.{exchanged, is_history}
 use Rattle.u_constraints.proofs.BoundLemmas.{bound_grows}
 use Rattle.u_constraints.proofs.GrownKeyLemmas.{In-exchanged, comes, rows_touched, opened_touched, key_of_touched}
 use Rattle.u_constraints.proofs.GrownPackedLemmas.{prepacked, packed_of_touched}
-use Rattle.u_constraints.proofs.IntervalLemmas.{intervals_of_list}
+use Rattle.meaning_core.proofs.IntervalLemmas.{intervals_of_list}
 use Rattle.u_constraints.proofs.KeyLemmas.{is_key-AgreeOnce}
 use Rattle.u_constraints.proofs.OpenedLemmas.{in_unpack, unpack_within}
 use Rattle.u_constraints.proofs.TellingLemmas.{AreOutside, Relate, Names}

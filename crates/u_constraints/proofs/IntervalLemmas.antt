@@ -1,40 +1,18 @@
 -- What is unpacked here and there: interval attributes of the same types.
-use Rattle.std.proofs.Common.{◌≡◌, inl, inr, ℕ, ◌<◌, List, [], ◌∷◌, map, length, get_or, refl, sym, ap, ◌∙◌, subst}
-use Rattle.std.specs.Bool.{IsTrue}
-use Rattle.std.proofs.lemmas.Bool.{true≢false}
-use Rattle.std.proofs.lemmas.List.Elements.{Contains-get_or}
-use Rattle.base_core.proofs.SetLemmas.{In, In-from_Contains}
-use Rattle.base_core.proofs.MemberLemmas.{In-map, list_all-In}
+use Rattle.std.proofs.Common.{◌≡◌, inl, inr, ℕ, ◌<◌, List, [], ◌∷◌, map, length, refl, sym, ap, ◌∙◌, subst}
+use Rattle.base_core.proofs.SetLemmas.{In}
+use Rattle.base_core.proofs.MemberLemmas.{In-map}
 use Rattle.base_core.proofs.ListLemmas.{All-In, map-In, IsDistinct-map}
 use Rattle.value_core.specs.declared.kind.Kind.{Kind}
-use Rattle.value_core.specs.declared.kind.Kind.TheVariants.{Truth, Char, Point, Span}
+use Rattle.value_core.specs.declared.kind.Kind.TheVariants.{Span}
 use Rattle.value_core.specs.Values.{Heading}
 use Rattle.relation_core.specs.Parts.{kind_at}
-use Rattle.meaning_core.specs.Typing.{IsList, is_span}
 use Rattle.meaning_core.specs.WellMade.{AreAlike, AreAmong, AreDifferent}
 use Rattle.u_set.specs.Boxes.{AreIntervals, type_of, types_at}
 use Rattle.u_row.proofs.BeneathLemmas.{in_all}
 use Rattle.u_row.proofs.LabelLemmas.{map_twice}
 use Rattle.u_constraints.specs.Constraints.{counterpart}
 use Rattle.u_constraints.proofs.CounterpartLemmas.{Beside, beside_more, beside_kinds, at_counterpart, in_key, IsPair, all_pairs}
-
--- ---- lists of attributes
-
-span_kind : (k : Kind) → IsTrue (is_span k) → k ≡ Span (type_of k)
-span_kind Truth h = absurd (true≢false (sym h))
-span_kind Char h = absurd (true≢false (sym h))
-span_kind (Point t) h = absurd (true≢false (sym h))
-span_kind (Span t) h = refl
-
--- what a constraint lists are interval attributes
-pub intervals_of_list : (heading : Heading) (commalist : List ℕ) → IsList heading commalist → AreIntervals heading commalist
-intervals_of_list heading commalist h = record {
-  within = h.within;
-  different = h.different;
-  spans = λ j d l. span_kind (kind_at heading (get_or commalist j d)) ((list_all-In (λ i. is_span (kind_at heading i)) commalist).0 h.spans (get_or commalist j d) (In-from_Contains commalist (get_or commalist j d) (Contains-get_or commalist j d l)));
-}
-
--- ---- the same attributes of the other relvar
 
 beside_right : (R : ℕ → Type 0) (is ts : List ℕ) → Beside (λ i t. Unit {0}) is ts → ((t : ℕ) → In t ts → R t) → Beside (λ i t. R t) is ts
 beside_right R [] [] h r = tt

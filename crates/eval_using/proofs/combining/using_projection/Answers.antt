@@ -8,7 +8,7 @@ use Rattle.relation_core.specs.Parts.{projected}
 use Rattle.u_row.specs.Kept.{beneath}
 use Rattle.u_row.proofs.PartLemmas.{positions_kept}
 use Rattle.eval_using.specs.Using.{listed}
-use Rattle.eval_using.proofs.ListLemmas.{intervals_of_list}
+use Rattle.meaning_core.proofs.IntervalLemmas.{intervals_of_list}
 use Rattle.eval_using.proofs.PartLemmas.{beneath_is}
 use Rattle.eval_using.proofs.UnderLemmas.{rows_meant}
 use Rattle.eval_using.proofs.combining.using_projection.Goals as goal

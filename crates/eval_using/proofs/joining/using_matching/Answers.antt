@@ -8,7 +8,7 @@ use Rattle.relation_core.specs.Answers.{Answers, under}
 use Rattle.relation_core.specs.Parts.{attributes_at}
 use Rattle.u_set.specs.Boxes.{AreIntervals}
 use Rattle.eval_using.specs.Using.{listed}
-use Rattle.eval_using.proofs.ListLemmas.{intervals_of_list}
+use Rattle.meaning_core.proofs.IntervalLemmas.{intervals_of_list}
 use Rattle.eval_using.proofs.OperandLemmas.{same_attributes, operand_intervals}
 use Rattle.eval_using.proofs.UnderLemmas.{pair_meant}
 use Rattle.eval_using.proofs.joining.using_matching.Goals as goal

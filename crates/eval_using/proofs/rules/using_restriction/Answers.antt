@@ -8,7 +8,7 @@ use Rattle.cell_core.specs.Costs.{bound}
 use Rattle.u_set.specs.Boxes.{AreIntervals}
 use Rattle.meaning_core.specs.Meanings.{condition}
 use Rattle.eval_using.specs.Cells.{cells_of_all}
-use Rattle.eval_using.proofs.ListLemmas.{intervals_of_list}
+use Rattle.meaning_core.proofs.IntervalLemmas.{intervals_of_list}
 use Rattle.eval_using.proofs.UnderLemmas.{rule_meant, listed_back, sweepable_back}
 use Rattle.eval_using.proofs.rules.using_restriction.Goals as goal
 

@@ -1,4 +1,4 @@
-use Rattle.u_constraints.proofs.IntervalLemmas.{intervals_of_list}
+use Rattle.meaning_core.proofs.IntervalLemmas.{intervals_of_list}
 use Rattle.u_constraints.proofs.PackedLemmas.{packed_already}
 use Rattle.u_constraints.proofs.packed.is_packed.Goals as goal
 

@@ -13,7 +13,7 @@ use Rattle.u_set.specs.Boxes.{type_of, boxed}
 use Rattle.u_set.proofs.RelationLemmas.{relation_shaped}
 use Rattle.u_set.proofs.ApartLemmas.{if_ok}
 use Rattle.u_constraints.specs.Constraints.{is_packed}
-use Rattle.u_constraints.proofs.IntervalLemmas.{intervals_of_list}
+use Rattle.meaning_core.proofs.IntervalLemmas.{intervals_of_list}
 use Rattle.u_constraints.proofs.PackedLemmas.{packed_told}
 use Rattle.u_constraints.proofs.packed.is_packed_by_boxes.Goals as goal
 

@@ -21,7 +21,8 @@ use Rattle.u_row.specs.Kept.{inner}
 use Rattle.u_row.specs.Labels.{relabelled}
 use Rattle.u_constraints.specs.Constraints.{counterpart}
 use Rattle.u_constraints.proofs.CounterpartLemmas.{alike_many}
-use Rattle.u_constraints.proofs.IntervalLemmas.{intervals_of_list, intervals_there, types_there}
+use Rattle.meaning_core.proofs.IntervalLemmas.{intervals_of_list}
+use Rattle.u_constraints.proofs.IntervalLemmas.{intervals_there, types_there}
 use Rattle.u_constraints.proofs.UnpackedLemmas.{reference_told}
 use Rattle.u_constraints.proofs.references.is_referenced_unpacked.Goals as goal
 

@@ -2,7 +2,7 @@ use Rattle.std.proofs.Common.{◌≡◌, length, refl, arith, ◌∙◌}
 use Rattle.std.proofs.lemmas.Bool.Decides.{nat_tests}
 use Rattle.u_set.proofs.KeptLemmas.{one_intervals}
 use Rattle.u_set.proofs.RelationLemmas.{relation_shaped}
-use Rattle.u_constraints.proofs.IntervalLemmas.{intervals_of_list}
+use Rattle.meaning_core.proofs.IntervalLemmas.{intervals_of_list}
 use Rattle.u_constraints.proofs.PartedKeyLemmas.{parted_key}
 use Rattle.u_constraints.proofs.unpacked.are_parted.Goals as goal
 

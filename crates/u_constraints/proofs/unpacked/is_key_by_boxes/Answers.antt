@@ -16,7 +16,7 @@ use Rattle.u_set.proofs.ApartLemmas.{if_ok}
 use Rattle.u_row.proofs.PartLemmas.{labels_long}
 use Rattle.u_constraints.specs.Constraints.{is_key}
 use Rattle.u_constraints.specs.Places.{IsKeyAt}
-use Rattle.u_constraints.proofs.IntervalLemmas.{intervals_of_list}
+use Rattle.meaning_core.proofs.IntervalLemmas.{intervals_of_list}
 use Rattle.u_constraints.proofs.UnpackedLemmas.{key_told}
 use Rattle.u_constraints.proofs.unpacked.is_key_by_boxes.Goals as goal
 

@@ -2,7 +2,7 @@ use Rattle.std.proofs.Common.{◌<◌, length, sym, ◌∙◌, subst}
 use Rattle.value_core.specs.Values.{Heading}
 use Rattle.relation_core.proofs.FilterLemmas.{rows_ascend}
 use Rattle.u_set.proofs.RelationLemmas.{relation_shaped}
-use Rattle.u_constraints.proofs.IntervalLemmas.{intervals_of_list}
+use Rattle.meaning_core.proofs.IntervalLemmas.{intervals_of_list}
 use Rattle.u_constraints.proofs.WholeKeyLemmas.{whole_key}
 use Rattle.u_constraints.proofs.unpacked.is_unpacked_key.Goals as goal
 
