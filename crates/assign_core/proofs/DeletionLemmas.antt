@@ -29,7 +29,8 @@ use Rattle.change_rows.proofs.LabelLemmas.{IsSet}
 use Rattle.change_rows.proofs.ChangeLemmas.{closed_within}
 use Rattle.eval_using.specs.Cells.{cells_of_all}
 use Rattle.eval_using.specs.Using.{around, listed}
-use Rattle.eval_using.proofs.ListLemmas.{intervals_of_list, positions_back}
+use Rattle.meaning_core.proofs.IntervalLemmas.{intervals_of_list}
+use Rattle.eval_using.proofs.ListLemmas.{positions_back}
 use Rattle.assign_core.specs.declared.portion.Deletion.{Deletion}
 use Rattle.assign_core.specs.declared.portion.Portion.{Portion}
 use Rattle.assign_core.specs.Assignments.{source_value}

@@ -32,7 +32,7 @@ use Rattle.u_set.proofs.RelationLemmas.{relation_shaped}
 use Rattle.change_rows.proofs.LabelLemmas.{IsSet}
 use Rattle.change_rows.proofs.ChangeLemmas.{closed_within}
 use Rattle.eval_using.specs.Using.{around}
-use Rattle.eval_using.proofs.ListLemmas.{intervals_of_list}
+use Rattle.meaning_core.proofs.IntervalLemmas.{intervals_of_list}
 use Rattle.algebra_core.specs.Costs.{paid}
 use Rattle.assign_core.specs.declared.renewal.Renewal.{Renewal}
 use Rattle.assign_core.specs.Costs.{source_cost}

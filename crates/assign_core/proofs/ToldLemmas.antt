@@ -17,7 +17,7 @@ use Rattle.relation_core.specs.Operators.{united}
 use Rattle.relation_core.proofs.AgreementLemmas.{length_of_fit}
 use Rattle.meaning_core.specs.Typing.{IsListIf}
 use Rattle.meaning_core.proofs.MadeLemmas.{same_name}
-use Rattle.eval_using.proofs.ListLemmas.{intervals_of_list}
+use Rattle.meaning_core.proofs.IntervalLemmas.{intervals_of_list}
 use Rattle.u_set.specs.Boxes.{AreIntervals}
 use Rattle.u_set.proofs.RelationLemmas.{relation_shaped, shaped_under}
 use Rattle.u_constraints.specs.Constraints.{broken, first_failed, is_packed}

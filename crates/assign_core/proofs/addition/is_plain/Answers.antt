@@ -2,7 +2,7 @@ use Rattle.std.proofs.Common.{◌≡◌, ℕ, List, Bool, true, Option, Some, op
 use Rattle.std.specs.Prelude.{IfOk}
 use Rattle.relation_core.specs.Operators.{united}
 use Rattle.meaning_core.specs.Typing.{IsListIf}
-use Rattle.eval_using.proofs.ListLemmas.{intervals_of_list}
+use Rattle.meaning_core.proofs.IntervalLemmas.{intervals_of_list}
 use Rattle.assign_core.specs.Insertions.{list_in, united_in}
 use Rattle.assign_core.proofs.addition.is_plain.Goals as goal
 

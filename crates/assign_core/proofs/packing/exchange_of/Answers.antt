@@ -5,7 +5,7 @@ use Rattle.relation_core.specs.Answers.{under, IsRefusal}
 use Rattle.relation_core.specs.Operators.{united}
 use Rattle.meaning_core.specs.Meanings.{limited}
 use Rattle.meaning_core.specs.Typing.{IsListIf}
-use Rattle.eval_using.proofs.ListLemmas.{intervals_of_list}
+use Rattle.meaning_core.proofs.IntervalLemmas.{intervals_of_list}
 use Rattle.u_constraints.specs.Growth.{exchanged}
 use Rattle.assign_core.specs.Insertions.{list_in, united_in, united_cost}
 use Rattle.assign_core.proofs.AdditionLemmas.{limited_over}

@@ -4,7 +4,7 @@ use Rattle.scalar_core.specs.Expressions.{read}
 use Rattle.relation_core.specs.Operators.{subtracted}
 use Rattle.meaning_core.specs.Typing.{IsList}
 use Rattle.change_rows.specs.Affected.{AreFalse, IsClosedPart}
-use Rattle.eval_using.proofs.ListLemmas.{intervals_of_list}
+use Rattle.meaning_core.proofs.IntervalLemmas.{intervals_of_list}
 use Rattle.assign_core.proofs.DeletionLemmas.{affected_told}
 use Rattle.assign_core.proofs.PortionLemmas.{negated_typed}
 use Rattle.assign_core.proofs.renewal.revised_part.Goals as goal

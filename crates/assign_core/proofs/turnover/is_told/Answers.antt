@@ -4,7 +4,7 @@ use Rattle.value_core.specs.Attributes.{among}
 use Rattle.value_core.specs.RowPacking.{packed}
 use Rattle.value_core.specs.declared.constraint.Constraint.{Constraint}
 use Rattle.value_core.specs.Values.{Row, Heading, Relation}
-use Rattle.eval_using.proofs.ListLemmas.{intervals_of_list}
+use Rattle.meaning_core.proofs.IntervalLemmas.{intervals_of_list}
 use Rattle.meaning_core.specs.WellMade.{FitsHeadings}
 use Rattle.u_constraints.specs.Constraints.{broken, names_relvar}
 use Rattle.u_constraints.specs.Growth.{exchanged}
