@@ -173,6 +173,13 @@ pub(crate) fn type_ending(
     let relvar = known_relvar(relvars, &name, word.place)?;
     let facts = facts_of(relvars, word.place, relvar)?;
     let heading = relvar.heading().copy(alloc)?;
-    let form = end_typed(alloc, relvars, facts, ending.at, ending.scalar, ending.condition)?;
+    let form = end_typed(
+        alloc,
+        relvars,
+        facts,
+        ending.at,
+        ending.scalar,
+        ending.condition,
+    )?;
     Ok(item_of(place, Target { name, heading }, form))
 }

@@ -136,7 +136,13 @@ fn type_update(
     ensures { Gives typed.read_item result (rules.update_item_typed (read_relvars relvars.now) place (read_name update.entry.word.now) NoPortion (read_condition update.entry.condition.now) (read_sets update.entry.sets.now)) }
 {
     let target = target_typed(alloc, update.word, relvars)?;
-    let form = type_updated(alloc, &target.heading, update.condition, update.sets, relvars)?;
+    let form = type_updated(
+        alloc,
+        &target.heading,
+        update.condition,
+        update.sets,
+        relvars,
+    )?;
     Ok(item_of(place, target, form))
 }
 

@@ -25,6 +25,6 @@ pub use positions::{check, kind_named, position, position_typed, positions_typed
 pub use rows::condition_typed;
 pub use sweeps::{none_assigned, sets_swept, swept};
 pub use usings::{
-    UsingList, type_using_extension, type_using_infix, type_using_projection, type_using_restriction,
-    type_using_summary,
+    UsingList, type_using_extension, type_using_infix, type_using_projection,
+    type_using_restriction, type_using_summary,
 };

@@ -97,7 +97,12 @@ fn since_relvar(alloc: Global, h: &HistoryData) -> Result<Declaration, Memory>
 }
 
 /// Where the attributes of the key stand in the heading, and one position more.
-fn key_and(alloc: Global, h: &HistoryData, heading: &Heading, at: usize) -> Result<Vec<usize>, Memory>
+fn key_and(
+    alloc: Global,
+    h: &HistoryData,
+    heading: &Heading,
+    at: usize,
+) -> Result<Vec<usize>, Memory>
     requires { IsHistoryData h.now }
     ensures { IfOk result (λ v. v.items ≡ key_in h.now heading.now ++ at ∷ []) }
 {

@@ -38,12 +38,7 @@ fn under_using(
 }
 
 /// The target beside an operand.
-fn beside(
-    alloc: Global,
-    item: &Item,
-    word: InfixWord,
-    right: RelTree,
-) -> Result<RelTree, Memory>
+fn beside(alloc: Global, item: &Item, word: InfixWord, right: RelTree) -> Result<RelTree, Memory>
     ensures { IfOk result (λ r. read_tree r ≡ beside (read_item item.now) word (read_tree right)) }
 {
     let left = target(alloc, item)?;
