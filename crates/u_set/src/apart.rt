@@ -12,6 +12,7 @@ ghost use Rattle.u_set.specs.Boxes.{AreIntervals};
 use crate::intervals::interval_of;
 use interval_core::Interval;
 use point_core::{AnyType, Memory};
+use presort::{Numbers, SortKeys, arrange};
 use std::alloc::Global;
 use std::cmp::Ordering;
 use value_core::{Relation, Row, Value};
@@ -25,13 +26,35 @@ pub enum Gap {
     One,
 }
 
-// Adds the rows.
-fn push_rows<'a>(list: &mut Vec<&'a Row>, rows: &'a [Row]) -> Result<(), Memory>
-    ensures { OnOk result (map (λ r. r.now) list.new.items ≡ map (λ r. r.now) list.old.items ++ rows.now) }
+// A row with the positions of its label.
+#[derive(Clone, Copy)]
+struct Labelled<'a> {
+    row: &'a Row,
+    label: &'a [usize],
+}
+
+impl<'a> Numbers for Labelled<'a> {
+    fn put_numbers(&self, lines: &mut SortKeys) {
+        let values = self.row.values();
+        for position in self.label {
+            if *position < values.len() {
+                values[*position].put_numbers(lines);
+            }
+        }
+    }
+}
+
+// Adds the rows with the positions.
+fn push_rows<'a>(
+    list: &mut Vec<Labelled<'a>>,
+    rows: &'a [Row],
+    label: &'a [usize],
+) -> Result<(), Memory>
+    ensures { OnOk result (map (λ r. r.row.now) list.new.items ≡ map (λ r. r.row.now) list.old.items ++ rows.now) }
 {
     list.reserve(rows.len())?;
     for row in rows {
-        list.push(row)?;
+        list.push(Labelled { row, label })?;
     }
     Ok(())
 }
@@ -79,13 +102,18 @@ fn compare_rows(x: &Row, y: &Row, label: &[usize], at: usize) -> Ordering {
 }
 
 // The rows by their values at the label's positions and then by that at another one. Those of two relations, one after the other, are
-// merged first.
-fn by_label<'a>(rows: Vec<&'a Row>, label: &[usize], at: usize) -> Result<Vec<&'a Row>, Memory>
-    ensures { IfOk result (λ v. IsPermutation (map (λ r. r.now) rows.entry.items) (map (λ r. r.now) v.items)) }
+// merged first; then they are brought near the order of their labels.
+fn by_label<'a>(
+    alloc: Global,
+    rows: Vec<Labelled<'a>>,
+    at: usize,
+) -> Result<Vec<Labelled<'a>>, Memory>
+    ensures { IfOk result (λ v. IsPermutation (map (λ r. r.row.now) rows.entry.items) (map (λ r. r.row.now) v.items)) }
 {
     let mut list = rows;
-    list.sort_by(|x: &&Row, y: &&Row| x.cmp(y))?;
-    list.sort_by(|x: &&Row, y: &&Row| compare_rows(x, y, label, at))?;
+    list.sort_by(|x: &Labelled, y: &Labelled| x.row.cmp(y.row))?;
+    arrange(alloc, &mut list)?;
+    list.sort_by(|x: &Labelled, y: &Labelled| compare_rows(x.row, y.row, x.label, at))?;
     Ok(list)
 }
 
@@ -141,19 +169,19 @@ fn is_beyond(x: &Row, y: &Row, label: &[usize], at: usize, gap: Gap) -> bool
 }
 
 // Whether the row i is the first one or beyond the one before it.
-fn stands_apart(rows: &[&Row], i: usize, label: &[usize], at: usize, gap: Gap) -> bool
+fn stands_apart(rows: &[Labelled], i: usize, label: &[usize], at: usize, gap: Gap) -> bool
     requires within { i < length rows.now }
-    requires spans { All (λ r. HasInterval at r.now) rows.now }
+    requires spans { All (λ r. HasInterval at r.row.now) rows.now }
     ensures { result ≡ true → (j : ℕ) (d : PlainRow) → suc j ≡ i → IsBeyond label.now at gap
-        (get_or (map (λ r. r.now) rows.now) j d) (get_or (map (λ r. r.now) rows.now) i d) }
+        (get_or (map (λ r. r.row.now) rows.now) j d) (get_or (map (λ r. r.row.now) rows.now) i d) }
 {
-    i == 0 || is_beyond(rows[i - 1], rows[i], label, at, gap)
+    i == 0 || is_beyond(rows[i - 1].row, rows[i].row, label, at, gap)
 }
 
 // Whether each row but the first is beyond the one before it.
-fn stand_apart(rows: &[&Row], label: &[usize], at: usize, gap: Gap) -> bool
-    requires { All (λ r. HasInterval at r.now) rows.now }
-    ensures { result ≡ true → AreBeyond label.now at gap (map (λ r. r.now) rows.now) }
+fn stand_apart(rows: &[Labelled], label: &[usize], at: usize, gap: Gap) -> bool
+    requires { All (λ r. HasInterval at r.row.now) rows.now }
+    ensures { result ≡ true → AreBeyond label.now at gap (map (λ r. r.row.now) rows.now) }
 {
     for i in 0..rows.len() {
         if !stands_apart(rows, i, label, at, gap) {
@@ -164,11 +192,17 @@ fn stand_apart(rows: &[&Row], label: &[usize], at: usize, gap: Gap) -> bool
 }
 
 // Whether the rows are apart, by one sort.
-fn sorted_apart(rows: Vec<&Row>, label: &[usize], at: usize, gap: Gap) -> Result<bool, Memory>
-    requires { All (λ r. HasInterval at r.now) rows.items }
-    ensures { IfOk result (λ b. b ≡ true → IsChain label.now at gap (map (λ r. r.now) rows.entry.items)) }
+fn sorted_apart(
+    alloc: Global,
+    rows: Vec<Labelled>,
+    label: &[usize],
+    at: usize,
+    gap: Gap,
+) -> Result<bool, Memory>
+    requires { All (λ r. HasInterval at r.row.now) rows.items }
+    ensures { IfOk result (λ b. b ≡ true → IsChain label.now at gap (map (λ r. r.row.now) rows.entry.items)) }
 {
-    let list = by_label(rows, label, at)?;
+    let list = by_label(alloc, rows, at)?;
     Ok(stand_apart(list.as_slice(), label, at, gap))
 }
 
@@ -191,9 +225,9 @@ pub(crate) fn are_both_apart(
 {
     let (few, more) = (left.rows(), right.rows());
     let mut list = Vec::new(alloc);
-    push_rows(&mut list, few)?;
-    push_rows(&mut list, more)?;
-    sorted_apart(list, label, at, gap)
+    push_rows(&mut list, few, label)?;
+    push_rows(&mut list, more, label)?;
+    sorted_apart(alloc, list, label, at, gap)
 }
 
 /// Whether the rows, sorted by their values at the positions of the label and then by where their intervals at another position
@@ -214,6 +248,6 @@ pub fn are_apart(
 {
     let rows = r.rows();
     let mut list = Vec::new(alloc);
-    push_rows(&mut list, rows)?;
-    sorted_apart(list, label, at, gap)
+    push_rows(&mut list, rows, label)?;
+    sorted_apart(alloc, list, label, at, gap)
 }

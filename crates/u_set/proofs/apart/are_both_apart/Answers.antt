@@ -10,8 +10,8 @@ sorted_apart-requires c =
     let right = c.args.right.now in
     let more = c.rows-more.result.now in
     let items = c.in_ok-push_rows-2.ensures ∙ (λ t. c.in_ok-push_rows.ensures t ++ more)
-    ∙ (λ t. (map (λ r. r.now) (c.new-list.ensures.items t) ++ c.rows-few.ensures.rows t) ++ c.rows-more.ensures.rows t) in
-    held_all (λ r. r.now) (HasInterval c.args.at) c.push_rows-2.new.list.items (left.rows ++ right.rows) items
+    ∙ (λ t. (map (λ r. r.row.now) (c.new-list.ensures.items t) ++ c.rows-few.ensures.rows t) ++ c.rows-more.ensures.rows t) in
+    held_all (λ r. r.row.now) (HasInterval c.args.at) c.push_rows-2.new.list.items (left.rows ++ right.rows) items
     (λ x i. elim ((In-append x left.rows right.rows).0 i) [
       | inl j ↦ rows_have_spans left c.rows-few.ensures.relation left.heading refl c.args.at c.requires.interval x j
       | inr j ↦ rows_have_spans right c.rows-more.ensures.relation left.heading c.requires.heading c.args.at c.requires.interval x j
