@@ -13,7 +13,7 @@ ghost use Rattle.u_set.specs.Boxes.{AreIntervals};
 use crate::boxes::to_boxes;
 use crate::positions::types_at;
 use cell_core::{BoxRow, CellRows, push_keys, rows_over_cells, same_keys};
-use cell_sweep::pack_rows;
+use cell_sweep::pack_arranged;
 use point_core::{Memory, PointType, Steps};
 use std::alloc::Global;
 use std::sync::ledger::Ledger;
@@ -52,9 +52,9 @@ pub fn u_proper_subset<T: PointType, L: Ledger>(
     let mut all = Vec::new(alloc);
     push_keys(alloc, &mut all, left, 0, sides.as_slice())?;
     push_keys(alloc, &mut all, right, left.len(), sides.as_slice())?;
-    let all_form = pack_rows(alloc, types.len(), all)?;
-    let left_form = pack_rows(alloc, types.len(), l)?;
-    let right_form = pack_rows(alloc, types.len(), r)?;
+    let all_form = pack_arranged(alloc, types.len(), all)?;
+    let left_form = pack_arranged(alloc, types.len(), l)?;
+    let right_form = pack_arranged(alloc, types.len(), r)?;
     let within = same_keys(all_form.as_slice(), right_form.as_slice());
     let same = same_keys(left_form.as_slice(), right_form.as_slice());
     Ok(first_alone(within, same))

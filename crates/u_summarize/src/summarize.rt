@@ -15,7 +15,7 @@ ghost use Rattle.u_summarize.specs.Groups.{HasGroupFault, IsGroupForm};
 use crate::cells::given_at_cells;
 use crate::rule::GroupRule;
 use cell_core::{BoxRow, CellRefuse, CellRows, back, rows_over_cells};
-use cell_sweep::pack_rows;
+use cell_sweep::pack_arranged;
 use point_core::{Fault, Memory, PointType, Steps};
 use std::alloc::Global;
 use std::sync::ledger::Ledger;
@@ -46,7 +46,7 @@ fn group_form<T: PointType, G: GroupRule, L: Ledger>(
         right: _,
     } = rows_over_cells(alloc, types, rows, none.as_slice(), steps)?;
     let (parts, least) = given_at_cells(alloc, types.len(), left.as_slice(), by, rule)?;
-    let form = pack_rows(alloc, types.len(), parts)?;
+    let form = pack_arranged(alloc, types.len(), parts)?;
     let answer = back(alloc, types, sides.as_slice(), form)?;
     Ok((answer, least))
 }

@@ -14,7 +14,7 @@ ghost use Rattle.u_summarize.specs.Groups.{HasGroupFault, IsGroupForm, labels_in
 use crate::tally_cells::given_at_cells;
 use crate::tally_rule::GroupTally;
 use cell_core::{BoxRow, CellRefuse, CellRows, back, moved_over_cells};
-use cell_sweep::pack_rows;
+use cell_sweep::pack_arranged;
 use point_core::{Fault, Memory, PointType, Steps};
 use std::alloc::Global;
 use std::sync::ledger::Ledger;
@@ -47,7 +47,7 @@ fn group_form<T: PointType, G: GroupTally, L: Ledger>(
         right: _,
     } = moved_over_cells(alloc, types, rows, none, steps)?;
     let (parts, least) = given_at_cells(alloc, types.len(), left, by, rule)?;
-    let form = pack_rows(alloc, types.len(), parts)?;
+    let form = pack_arranged(alloc, types.len(), parts)?;
     let answer = back(alloc, types, sides.as_slice(), form)?;
     Ok((answer, least))
 }

@@ -17,8 +17,8 @@ push_keys-requires-2-clause-full g c =
     All-same (λ s. length c.args.left.now + length c.args.right.now ≤ length s.2) c.as_slice-2.result.now c.in_ok-sides.field-0.sides.items c.as_slice-2.ensures.value
     (right_full _ g.T.PointType.number_of g.T.PointType.IsPoint g.T.PointType.last_number (λ t. (g.met.T.PointType.each t (g.T.PointType.first_number t) (omega (arith, ints)) (g.met.T.PointType.nonempty t)).0) c.args.types.now c.in_ok-sides.field-0.sides.items c.args.left.now c.args.right.now c.in_ok-sides.ensures.rows.count c.in_ok-sides.ensures.rows.numbered c.requires.left c.requires.right (length c.args.left.now) refl)
 
-pub pack_rows-requires : goal.pack_rows-requires
-pack_rows-requires g c = record {
+pub pack_arranged-requires : goal.pack_arranged-requires
+pack_arranged-requires g c = record {
   sides = both_lengths _ g.T.PointType.number_of g.T.PointType.IsPoint g.T.PointType.last_number (λ t. (g.met.T.PointType.each t (g.T.PointType.first_number t) (omega (arith, ints)) (g.met.T.PointType.nonempty t)).0) c.args.types.now c.in_ok-sides.field-0.sides.items c.args.left.now c.args.right.now c.in_ok-sides.ensures.rows.count c.in_ok-sides.ensures.rows.numbered c.requires.left c.requires.right c.push_keys-2.new.out.items (c.in_ok-push_keys-2.ensures ∙ (λ i. c.in_ok-push_keys.ensures i ++ keys_from (length c.args.left.now) c.args.right.now (c.as_slice-2.ensures.value i)) ∙ (λ i. (c.new-all.ensures.items i ++ keys_from 0 c.args.left.now (c.as_slice.ensures.value i)) ++ keys_from (length c.args.left.now) c.args.right.now c.in_ok-sides.field-0.sides.items));
 }
 
