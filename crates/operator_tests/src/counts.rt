@@ -7,6 +7,7 @@ ghost use Rattle.point_core.specs.Whole.{IsWhole};
 use crate::boxes::{boxes_of, sides_list, spans_of};
 use cell_core::{BoxRow, CellOp, CellRefuse, Sides, combine, unpack_count};
 use point_core::{IntType, Label, Memory, Steps, Stop};
+use presort::{Numbers, SortKeys};
 use std::alloc::Global;
 use std::cmp::Ordering;
 use std::marker::Model;
@@ -44,6 +45,12 @@ impl Label for Tag {
     ghost total = { nat_cmp_total };
 
     ghost separates = { separates_numbers };
+}
+
+impl Numbers for Tag {
+    fn put_numbers(&self, lines: &mut SortKeys) {
+        lines.put(self.value);
+    }
 }
 
 /// At each place, how many left rows cover it.
@@ -122,6 +129,6 @@ pub(crate) fn count_of<L: Ledger>(
     let alloc = rt.alloc();
     let mut steps = Steps::<L>::new(blank, rt);
     let boxes = boxes_of(alloc, types, spans)?;
-    let count = unpack_count(alloc, types, boxes.as_slice(), 100, &mut steps)?;
+    let count = unpack_count(alloc, types, boxes, 100, &mut steps)?;
     Ok(count)
 }

@@ -82,6 +82,6 @@ pub fn u_rule<T: PointType, R: RowRule<T>, L: Ledger>(
     let (cells, least) = give_rows(alloc, types, rows, rule, steps)?;
     match least {
         Some(fault) => Err(CellRefuse::Op(fault)),
-        None => pack(alloc, types, cells.as_slice(), limit, steps),
+        None => pack(alloc, types, cells, limit, steps),
     }
 }

@@ -39,7 +39,7 @@ fn packed_form<L: Ledger>(
 {
     let types = types_at(alloc, r.heading().attributes(), commalist)?;
     let boxes = to_boxes(alloc, r, commalist)?;
-    pack(alloc, types.as_slice(), boxes.as_slice(), MOST_ROWS, steps)
+    pack(alloc, types.as_slice(), boxes, MOST_ROWS, steps)
 }
 
 // The unpacked boxes of the relation.
@@ -58,7 +58,7 @@ fn unpacked_form<L: Ledger>(
 {
     let types = types_at(alloc, r.heading().attributes(), commalist)?;
     let boxes = to_boxes(alloc, r, commalist)?;
-    unpack(alloc, types.as_slice(), boxes.as_slice(), MOST_ROWS, steps)
+    unpack(alloc, types.as_slice(), boxes, MOST_ROWS, steps)
 }
 
 /// The rows of the relation packed on the attributes at the positions: unpacked on all of them, then packed on the first, on the

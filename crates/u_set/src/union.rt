@@ -1,5 +1,5 @@
 // Union point by point.
-ghost use Rattle.std.specs.Prelude.{◌≡◌, ◌+◌, ◌<◌, ◌≤◌, ◌++◌, map, length, Err, IfOk, OnOk, MatchResult};
+ghost use Rattle.std.specs.Prelude.{◌≡◌, ◌+◌, ◌<◌, ◌≤◌, map, length, Err, IfOk, MatchResult};
 ghost use Rattle.std.specs.List.{All};
 ghost use Rattle.base_core.specs.Sets.{union_of};
 ghost use Rattle.point_core.specs.Points.{number, IsPointOf};
@@ -15,31 +15,42 @@ ghost use Rattle.cell_core.specs.Costs.{bound};
 ghost use Rattle.cell_core.specs.declared.boxes.CellRefuse.TheVariants.{Op as OfOp, Limit as OfLimit};
 ghost use Rattle.u_set.specs.Boxes.{AreIntervals, types_at, boxed};
 
-use crate::boxes::to_boxes;
+use crate::boxes::{copied_boxes, to_boxes};
 use crate::kept::stay_apart;
 use crate::positions::types_at;
 use crate::refusals::refusal;
 use crate::rows::from_boxes;
 use cell_core::{BoxRow, CellRefuse, pack};
-use point_core::{AnyType, Label, Memory, PointType, Steps};
+use point_core::{AnyType, PointType, Steps};
 use std::alloc::Global;
 use std::sync::ledger::Ledger;
 use value_core::{MOST_ROWS, Relation, Row, RowsRefuse};
 
-// Adds equal boxes.
-fn push_copies<T: PointType>(
+// The boxes of both, packed.
+fn union_boxes<T: PointType, L: Ledger>(
     alloc: Global,
-    out: &mut Vec<BoxRow<T, Row>>,
-    boxes: &[BoxRow<T, Row>],
-) -> Result<(), Memory>
-    ensures { OnOk result (out.new.items ≡ out.old.items ++ boxes.now) }
+    types: &[T],
+    left: Vec<BoxRow<T, Row>>,
+    right: Vec<BoxRow<T, Row>>,
+    limit: usize,
+    steps: &mut Steps<L>,
+) -> Result<Vec<BoxRow<T, Row>>, CellRefuse>
+    requires left { All (λ b. IsBox T.IsPoint types.now b.1) left.items }
+    requires right { All (λ b. IsBox T.IsPoint types.now b.1) right.items }
+    ensures rows { IfOk result (λ v. map (row_numbers T.number_of) v.items ≡ packed_boxes row_cmp (length types.now) (union_of (boxed_cmp row_cmp)
+        (unpacked_boxes row_cmp (length types.now) (map (row_numbers T.number_of) left.items))
+        (unpacked_boxes row_cmp (length types.now) (map (row_numbers T.number_of) right.items)))) }
+    ensures boxes { IfOk result (λ v. All (λ b. IsBox T.IsPoint types.now b.1) v.items) }
+    ensures few { IfOk result (λ v. length v.items ≤ limit) }
+    ensures no_fault { (e : AnyFault) → result ≡ Err (OfOp e) → ⊥ }
+    ensures limit { result ≡ Err OfLimit → limit < length (packed_boxes row_cmp (length types.now) (union_of (boxed_cmp row_cmp)
+        (unpacked_boxes row_cmp (length types.now) (map (row_numbers T.number_of) left.items))
+        (unpacked_boxes row_cmp (length types.now) (map (row_numbers T.number_of) right.items)))) }
+    ensures cost { steps.new ≤ steps.old + bound (length left.items + length right.items) (length types.now) }
 {
-    for b in boxes {
-        let label = b.label.copy(alloc)?;
-        let sides = b.sides.copy(alloc)?;
-        out.push(BoxRow { label, sides })?;
-    }
-    Ok(())
+    let (mut all, mut more) = (left, right);
+    all.append(&mut more)?;
+    pack(alloc, types, all, limit, steps)
 }
 
 /// The boxes of both, packed: at each point the labels of either.
@@ -66,10 +77,9 @@ pub fn u_union<T: PointType, L: Ledger>(
         (unpacked_boxes row_cmp (length types.now) (map (row_numbers T.number_of) right.now)))) }
     ensures cost { steps.new ≤ steps.old + bound (length left.now + length right.now) (length types.now) }
 {
-    let mut all = Vec::new(alloc);
-    push_copies(alloc, &mut all, left)?;
-    push_copies(alloc, &mut all, right)?;
-    pack(alloc, types, all.as_slice(), limit, steps)
+    let l = copied_boxes(alloc, left)?;
+    let r = copied_boxes(alloc, right)?;
+    union_boxes(alloc, types, l, r, limit, steps)
 }
 
 // The packed boxes of the union of two relations.
@@ -96,14 +106,7 @@ fn united_form<L: Ledger>(
     let types = types_at(alloc, left.heading().attributes(), commalist)?;
     let l = to_boxes(alloc, left, commalist)?;
     let r = to_boxes(alloc, right, commalist)?;
-    u_union(
-        alloc,
-        types.as_slice(),
-        l.as_slice(),
-        r.as_slice(),
-        MOST_ROWS,
-        steps,
-    )
+    union_boxes(alloc, types.as_slice(), l, r, MOST_ROWS, steps)
 }
 
 // The union under USING, by the boxes of all rows.

@@ -1,22 +1,14 @@
-use Rattle.std.proofs.Common.{◌≡◌, ◌<◌, ◌≤◌, ◌+◌, List, length, map, sym, ap, ◌∙◌, subst, arith}
-use Rattle.std.specs.Result.{IfOk}
-use Rattle.std.proofs.lemmas.List.Elements.{All-same}
+use Rattle.std.proofs.Common.{◌≡◌, length, map, sym, subst}
 use Rattle.value_core.specs.Order.{row_total, row_separates}
-use Rattle.value_core.specs.Values.{Row, row_cmp}
-use Rattle.cell_packing.specs.Boxed.{Boxed, packed_boxes}
+use Rattle.value_core.specs.Values.{row_cmp}
+use Rattle.cell_packing.specs.Boxed.{packed_boxes}
 use Rattle.point_core.specs.LeastFault.{IsLeast}
-use Rattle.cell_core.specs.Boxes.{IsBox}
 use Rattle.cell_core.specs.Cells.{row_numbers}
 use Rattle.u_set.proofs.ApartLemmas.{if_ok}
 use Rattle.u_row.specs.Cutting.{count_cells, count_cuts}
 use Rattle.u_row.specs.Rules.{HasRuleFault, sides_numbers, IsRuleForm}
 use Rattle.u_row.proofs.AllRowsLemmas.{sides_long, cells_have, rule_form, rule_bound, no_pack_bound, cuts_below}
 use Rattle.u_row.proofs.all_rows.u_rule.Goals as goal
-
-pub pack-requires : goal.pack-requires
-pack-requires g c = record {
-  rows = All-same (λ r. IsBox g.T.PointType.IsPoint c.args.types.now r.1) c.as_slice.result.now c.in_ok-cells.cells.items c.as_slice.ensures.value c.in_ok-cells.ensures.boxes;
-}
 
 pub returns-in_err-cells-clause-cost : goal.returns-in_err-cells-clause-cost
 returns-in_err-cells-clause-cost g c =
@@ -40,9 +32,8 @@ returns-clause-cost g c =
     let cuts = g.R.RowRule.cuts_of c.args.rule.now in
     let types = c.args.types.now in
     let few = cuts_below (length types) cuts 0 (sides_numbers n c.args.rows.now) (sides_long g.T.PointType.IsPoint n types c.args.rows.now c.requires.boxes) in
-    let cells = subst (λ (xs : List (Row × List _)). length xs ≤ count_cells cuts 0 (sides_numbers n c.args.rows.now)) (sym c.as_slice.ensures.value) c.in_ok-cells.ensures.few in
-    rule_bound (length c.as_slice.result.now) (count_cells cuts 0 (sides_numbers n c.args.rows.now)) (length types) c.args.steps.now c.give_rows.new.steps c.pack.new.steps (count_cuts cuts 0 (sides_numbers n c.args.rows.now))
-    c.give_rows.ensures.cost few cells c.pack.ensures.numbering
+    rule_bound (length c.in_ok-cells.cells.items) (count_cells cuts 0 (sides_numbers n c.args.rows.now)) (length types) c.args.steps.now c.give_rows.new.steps c.pack.new.steps (count_cuts cuts 0 (sides_numbers n c.args.rows.now))
+    c.give_rows.ensures.cost few c.in_ok-cells.ensures.few c.pack.ensures.numbering
 
 pub returns-clause-rows : goal.returns-clause-rows
 returns-clause-rows g c =
@@ -52,10 +43,9 @@ returns-clause-rows g c =
     let f = g.R.RowRule.means c.args.rule.now in
     let boxes = sides_numbers n c.args.rows.now in
     let cells = c.in_ok-cells.cells.items in
-    let same : packed_boxes row_cmp k (map (row_numbers n) c.as_slice.result.now) ≡ packed_boxes row_cmp k (map (row_numbers n) cells) = λ t. packed_boxes row_cmp k (map (row_numbers n) (c.as_slice.ensures.value t)) in
     let form = rule_form row_cmp row_total row_separates k f boxes (map (row_numbers n) cells) (cells_have g.T.PointType.IsPoint n types cells c.in_ok-cells.ensures.boxes) c.in_ok-cells.ensures.places in
-    if_ok (λ v. map (row_numbers n) v.items ≡ packed_boxes row_cmp k (map (row_numbers n) c.as_slice.result.now)) (λ v. IsRuleForm row_cmp k f boxes (map (row_numbers n) v.items))
-    (λ v e. subst (IsRuleForm row_cmp k f boxes) (sym (e ∙ same)) form) c.pack.result c.pack.ensures.rows
+    if_ok (λ v. map (row_numbers n) v.items ≡ packed_boxes row_cmp k (map (row_numbers n) cells)) (λ v. IsRuleForm row_cmp k f boxes (map (row_numbers n) v.items))
+    (λ v e. subst (IsRuleForm row_cmp k f boxes) (sym e) form) c.pack.result c.pack.ensures.rows
 
 pub returns-clause-limit : goal.returns-clause-limit
 returns-clause-limit g c = λ e.
@@ -65,7 +55,6 @@ returns-clause-limit g c = λ e.
     let f = g.R.RowRule.means c.args.rule.now in
     let boxes = sides_numbers n c.args.rows.now in
     let cells = c.in_ok-cells.cells.items in
-    let same : packed_boxes row_cmp k (map (row_numbers n) c.as_slice.result.now) ≡ packed_boxes row_cmp k (map (row_numbers n) cells) = λ t. packed_boxes row_cmp k (map (row_numbers n) (c.as_slice.ensures.value t)) in
     let form = rule_form row_cmp row_total row_separates k f boxes (map (row_numbers n) cells) (cells_have g.T.PointType.IsPoint n types cells c.in_ok-cells.ensures.boxes) c.in_ok-cells.ensures.places in
     let none = subst (IsLeast (HasRuleFault f boxes)) c.in-None.is c.in_ok-cells.ensures.least in
-    (none, (packed_boxes row_cmp k (map (row_numbers n) cells), form, subst (λ (xs : List (Boxed Row)). c.args.limit < length xs) same (c.pack.ensures.limit e)))
+    (none, (packed_boxes row_cmp k (map (row_numbers n) cells), form, c.pack.ensures.limit e))

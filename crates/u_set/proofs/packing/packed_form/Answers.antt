@@ -14,18 +14,18 @@ use Rattle.u_set.proofs.packing.packed_form.Goals as goal
 pub returns-clause-rows : goal.returns-clause-rows
 returns-clause-rows g c =
     let sides = ap length (c.as_slice.ensures.value ∙ c.in_ok-types.ensures) ∙ length-map c.args.commalist.now (λ i. type_of (kind_at c.attributes.result.now i)) in
-    let boxes = (λ t. map (row_numbers number) (c.as_slice-2.ensures.value t)) ∙ c.in_ok-boxes.ensures.rows in
+    let boxes = c.in_ok-boxes.ensures.rows in
     subst (λ s. IfOk c.pack.result (λ v. map (row_numbers number) v.items ≡ s)) (λ t. packed_boxes row_cmp (sides t) (boxes t)) c.pack.ensures.rows
 
 pub returns-clause-limit : goal.returns-clause-limit
 returns-clause-limit g c =
     let sides = ap length (c.as_slice.ensures.value ∙ c.in_ok-types.ensures) ∙ length-map c.args.commalist.now (λ i. type_of (kind_at c.attributes.result.now i)) in
-    let boxes = (λ t. map (row_numbers number) (c.as_slice-2.ensures.value t)) ∙ c.in_ok-boxes.ensures.rows in
+    let boxes = c.in_ok-boxes.ensures.rows in
     subst (λ s. c.pack.result ≡ Err OfLimit → most_rows < length s) (λ t. packed_boxes row_cmp (sides t) (boxes t)) c.pack.ensures.limit
 
 pub returns-clause-cost : goal.returns-clause-cost
 returns-clause-cost g c =
     let sides = ap length (c.as_slice.ensures.value ∙ c.in_ok-types.ensures) ∙ length-map c.args.commalist.now (λ i. type_of (kind_at c.attributes.result.now i)) in
-    let boxes = (λ t. map (row_numbers number) (c.as_slice-2.ensures.value t)) ∙ c.in_ok-boxes.ensures.rows in
-    let many = sym (length-map c.as_slice-2.result.now (row_numbers number)) ∙ ap length boxes ∙ length-map c.args.r.now.rows (boxed c.args.commalist.now) in
+    let boxes = c.in_ok-boxes.ensures.rows in
+    let many = sym (length-map c.in_ok-boxes.boxes.items (row_numbers number)) ∙ ap length boxes ∙ length-map c.args.r.now.rows (boxed c.args.commalist.now) in
     subst (λ b. c.pack.new.steps ≤ c.args.steps.now + b) (λ t. bound (many t) (sides t)) c.pack.ensures.cost
