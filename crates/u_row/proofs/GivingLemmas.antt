@@ -1,7 +1,7 @@
 -- One more cell under the label that a function gives.
-use Rattle.std.proofs.Common.{◌≡◌, ◌⊎◌, ℕ, ◌+◌, ◌<◌, ℤ, List, [], ◌∷◌, ◌++◌, map, take, length, get_or, Result, Ok, Err, Option, Some, None, refl, sym, ap, ◌∙◌, subst, inl, inr}
+use Rattle.std.proofs.Common.{◌≡◌, ◌⊎◌, ℤ, List, [], ◌∷◌, ◌++◌, map, Result, Ok, Err, Option, Some, None, refl, sym, ap, ◌∙◌, subst, inl, inr}
 use Rattle.std.specs.List.{All}
-use Rattle.std.proofs.lemmas.List.{map-append, map_more}
+use Rattle.std.proofs.lemmas.List.{map-append}
 use Rattle.std.proofs.lemmas.List.Elements.{All-same, All-push}
 use Rattle.point_core.specs.declared.fault.Fault.{Fault}
 use Rattle.interval_core.specs.Members.{Span}
@@ -37,26 +37,26 @@ labelled_more : {L F : Type 0} (f : List ℤ → Result (Option L) F) (xs : List
 labelled_more f [] x = with_none (given (f (firsts x)) x)
 labelled_more f (y ∷ ys) x = ap (λ zs. given (f (firsts y)) y ++ zs) (labelled_more f ys x) ∙ sym (assoc (given (f (firsts y)) y) (labelled f ys) (given (f (firsts x)) x))
 
-module _ {P : Type 0} (n : P → ℤ) (cells : List (List (P × P))) (i : ℕ) (cell sides : List (P × P)) (l : i < length cells) (e : cell ≡ get_or cells i cell) (copied : sides ≡ cell) where
-  one_more : boxes_of n (take (i + 1) cells) ≡ boxes_of n (take i cells) ++ box_numbers n sides ∷ []
-  one_more = map_more (box_numbers n) cells i cell l ∙ (λ t. boxes_of n (take i cells) ++ box_numbers n (sym (copied ∙ e) t) ∷ [])
+module _ {P : Type 0} (n : P → ℤ) (cells : List (List (P × P))) (sides : List (P × P)) where
+  one_more : boxes_of n (cells ++ sides ∷ []) ≡ boxes_of n cells ++ box_numbers n sides ∷ []
+  one_more = map-append (box_numbers n) cells (sides ∷ [])
 
   pub rows_step : {L F : Type 0} (f : List ℤ → Result (Option L) F) (old out new : List (L × List (P × P))) → new ≡ out ++ given (f (firsts (box_numbers n sides))) sides
-      → map (row_numbers n) out ≡ map (row_numbers n) old ++ labelled f (boxes_of n (take i cells)) → map (row_numbers n) new ≡ map (row_numbers n) old ++ labelled f (boxes_of n (take (i + 1) cells))
+      → map (row_numbers n) out ≡ map (row_numbers n) old ++ labelled f (boxes_of n cells) → map (row_numbers n) new ≡ map (row_numbers n) old ++ labelled f (boxes_of n (cells ++ sides ∷ []))
   rows_step f old out new push inv =
       let x : List Span = box_numbers n sides in
-      let xs : List (List Span) = boxes_of n (take i cells) in
+      let xs : List (List Span) = boxes_of n cells in
       ap (map (row_numbers n)) push ∙ map-append (row_numbers n) out (given (f (firsts x)) sides) ∙ (λ t. inv t ++ numbers_given n (f (firsts x)) sides t)
       ∙ assoc (map (row_numbers n) old) (labelled f xs) (given (f (firsts x)) x)
       ∙ ap (λ ys. map (row_numbers n) old ++ ys) (sym (labelled_more f xs x) ∙ ap (labelled f) (sym one_more))
 
   pub least_step : {L : Type 0} (f : List ℤ → Result (Option L) Fault) (o a b : Option Fault)
-      → IsLeast (λ e. (o ≡ Some e) ⊎ ((c : List Span) × Among c (boxes_of n (take i cells)) × (f (firsts c) ≡ Err e))) a
+      → IsLeast (λ e. (o ≡ Some e) ⊎ ((c : List Span) × Among c (boxes_of n cells) × (f (firsts c) ≡ Err e))) a
       → IsLeast (λ e. (a ≡ Some e) ⊎ (f (firsts (box_numbers n sides)) ≡ Err e)) b
-      → IsLeast (λ e. (o ≡ Some e) ⊎ ((c : List Span) × Among c (boxes_of n (take (i + 1) cells)) × (f (firsts c) ≡ Err e))) b
+      → IsLeast (λ e. (o ≡ Some e) ⊎ ((c : List Span) × Among c (boxes_of n (cells ++ sides ∷ [])) × (f (firsts c) ≡ Err e))) b
   least_step f o a b ha hb =
       let x : List Span = box_numbers n sides in
-      let xs : List (List Span) = boxes_of n (take i cells) in
+      let xs : List (List Span) = boxes_of n cells in
       let Q : Fault → Type 0 = λ e. (o ≡ Some e) ⊎ ((c : List Span) × Among c xs × (f (firsts c) ≡ Err e)) in
       let M : Fault → Type 0 = λ e. f (firsts x) ≡ Err e in
       let N : Fault → Type 0 = λ e. (o ≡ Some e) ⊎ ((c : List Span) × Among c (xs ++ x ∷ []) × (f (firsts c) ≡ Err e)) in

@@ -47,7 +47,7 @@ fn with_first<T: PointType>(
 ) -> Result<Sides<T>, Memory>
     ensures { IfOk result (λ v. v ≡ piece.now ∷ sides.now) }
 {
-    let mut list = Vec::new(alloc);
+    let mut list = Vec::with_capacity(alloc, sides.list.len().saturating_add(1))?;
     list.push(piece.copy())?;
     for side in &sides.list {
         list.push(side.copy())?;

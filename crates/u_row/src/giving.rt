@@ -57,22 +57,21 @@ pub(crate) fn give_cells<T: PointType, R: RowRule<T>>(
     alloc: Global,
     rule: &R,
     row: usize,
-    cells: &[Sides<T>],
+    cells: Vec<Sides<T>>,
     out: &mut Vec<BoxRow<T, Row>>,
     least: &mut Option<Fault>,
 ) -> Result<(), Memory>
     requires can { R.CanApply rule.now row }
-    requires cells { (s : List (T.Point × T.Point)) → Among s cells.now → Among (box_numbers T.number_of s) (cells_of (R.cuts_of rule.now row) (box_numbers T.number_of (R.sides rule.now row))) }
-    requires points { (s : List (T.Point × T.Point)) → Among s cells.now → (types : List T) × IsBox T.IsPoint types (R.sides rule.now row) × IsBox T.IsPoint types s }
-    ensures rows { OnOk result (map (row_numbers T.number_of) out.new.items ≡ map (row_numbers T.number_of) out.old.items ++ labelled (R.means rule.now row) (boxes_of T.number_of cells.now)) }
+    requires cells { (s : List (T.Point × T.Point)) → Among s cells.items → Among (box_numbers T.number_of s) (cells_of (R.cuts_of rule.now row) (box_numbers T.number_of (R.sides rule.now row))) }
+    requires points { (s : List (T.Point × T.Point)) → Among s cells.items → (types : List T) × IsBox T.IsPoint types (R.sides rule.now row) × IsBox T.IsPoint types s }
+    ensures rows { OnOk result (map (row_numbers T.number_of) out.new.items ≡ map (row_numbers T.number_of) out.old.items ++ labelled (R.means rule.now row) (boxes_of T.number_of cells.items)) }
     ensures least { OnOk result (IsLeast (λ e. (least.old ≡ Some e) ⊎
-        ((cell : List Span) × Among cell (boxes_of T.number_of cells.now) × (R.means rule.now row (firsts cell) ≡ Err e))) least.new) }
-    ensures boxes { (types : List T) → ((s : List (T.Point × T.Point)) → Among s cells.now → IsBox T.IsPoint types s) →
+        ((cell : List Span) × Among cell (boxes_of T.number_of cells.items) × (R.means rule.now row (firsts cell) ≡ Err e))) least.new) }
+    ensures boxes { (types : List T) → ((s : List (T.Point × T.Point)) → Among s cells.items → IsBox T.IsPoint types s) →
         OnOk result (All (λ b. IsBox T.IsPoint types b.1) out.old.items → All (λ b. IsBox T.IsPoint types b.1) out.new.items) }
 {
     for cell in cells {
-        let sides = cell.copy(alloc)?;
-        give_cell(alloc, rule, row, sides, out, least)?;
+        give_cell(alloc, rule, row, cell, out, least)?;
     }
     Ok(())
 }

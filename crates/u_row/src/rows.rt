@@ -47,6 +47,6 @@ pub fn give_row<T: PointType, R: RowRule<T>, L: Ledger>(
     ensures cost { steps.new ≤ steps.old + cuts_from (R.cuts_of rule.now row) 0 (box_numbers T.number_of sides.now) }
 {
     let cells = row_cells(alloc, types, sides, rule, row, steps)?;
-    give_cells(alloc, rule, row, cells.as_slice(), out, least)?;
+    give_cells(alloc, rule, row, cells, out, least)?;
     Ok(())
 }
