@@ -5,4 +5,3 @@ pub mod PairPlaces
 pub mod JoinedLemmas
 pub mod ListedLemmas
 pub mod CellLemmas
-pub mod PickLemmas

@@ -4,11 +4,11 @@ ghost use Rattle.relation_core.specs.Agreement.{part_of};
 ghost use Rattle.u_row.specs.Labels.{relabelled};
 ghost use Rattle.u_join.specs.KeyedCellBox.{keyed};
 
-use crate::picked::part_in_place;
 use cell_boxes::KeyedCellBox;
 use cell_sweep::CellBox;
 use point_core::Memory;
 use std::alloc::Global;
+use u_row::part_in_place;
 use u_set::part_of_label;
 use value_core::Row;
 

@@ -9,7 +9,6 @@ mod matches;
 mod matching;
 mod names;
 mod needed;
-mod picked;
 mod places;
 mod shared;
 mod tuning;

@@ -8,3 +8,4 @@ pub mod LabelLemmas
 pub mod BeneathLemmas
 pub mod ProjectionLemmas
 pub mod PartLemmas
+pub mod PickLemmas

@@ -5,6 +5,7 @@ mod all_rows;
 mod cells;
 mod cutting;
 mod giving;
+mod picked;
 mod places;
 mod positions;
 mod project;
@@ -13,6 +14,7 @@ mod rows;
 mod rule;
 
 pub use all_rows::u_rule;
+pub use picked::part_in_place;
 pub use places::{beneath, inner};
 pub use positions::unlisted;
 pub use project::u_project;

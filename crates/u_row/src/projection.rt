@@ -20,7 +20,7 @@ ghost use Rattle.u_row.specs.Kept.{inner, beneath};
 ghost use Rattle.u_row.specs.Labels.{relabelled};
 
 use crate::places::{beneath, inner};
-use crate::project::u_project;
+use crate::project::projected_boxes;
 use cell_core::{BoxRow, CellRefuse};
 use point_core::{AnyType, Steps};
 use std::alloc::Global;
@@ -50,10 +50,10 @@ fn projected_form<L: Ledger>(
     let types = types_at(alloc, r.heading().attributes(), commalist)?;
     let boxes = to_boxes(alloc, r, commalist)?;
     let places = inner(alloc, commalist, kept)?;
-    u_project(
+    projected_boxes(
         alloc,
         types.as_slice(),
-        boxes.as_slice(),
+        boxes,
         places.as_slice(),
         MOST_ROWS,
         steps,

@@ -1,5 +1,4 @@
-use Rattle.std.proofs.Common.{◌≡◌, ◌+◌, ◌<◌, ◌≤◌, ℕ, List, Err, length, map, sym, ap, ◌∙◌, subst}
-use Rattle.std.specs.List.{All}
+use Rattle.std.proofs.Common.{◌≡◌, ◌+◌, ◌<◌, ◌≤◌, Err, length, map, sym, ap, ◌∙◌, subst}
 use Rattle.std.specs.Result.{IfOk}
 use Rattle.std.proofs.lemmas.List.{length-map}
 use Rattle.point_core.specs.Points.{number}
@@ -11,38 +10,28 @@ use Rattle.cell_core.specs.Cells.{row_numbers}
 use Rattle.cell_core.specs.Costs.{bound}
 use Rattle.cell_core.specs.declared.boxes.CellRefuse.TheVariants.{Limit as OfLimit}
 use Rattle.u_set.specs.Boxes.{type_of, boxed}
-use Rattle.u_set.proofs.RelationLemmas.{relation_shaped}
 use Rattle.u_row.specs.Labels.{relabelled}
-use Rattle.u_row.proofs.PartLemmas.{labels_long}
 use Rattle.u_row.proofs.projection.projected_form.Goals as goal
-
-pub u_project-requires-clause-within : goal.u_project-requires-clause-within
-u_project-requires-clause-within g c =
-    let r = c.args.r.now in
-    let commalist = c.args.commalist.now in
-    let boxes = (λ t. map (row_numbers number) (c.as_slice-2.ensures.value t)) ∙ c.in_ok-boxes.ensures.rows in
-    subst (λ (ps : List ℕ). All (λ b. All (λ (i : ℕ). i < length b.0) ps) c.as_slice-2.result.now) (sym (c.as_slice-3.ensures.value ∙ c.in_ok-places.ensures))
-    (labels_long r.heading commalist c.args.kept.now c.requires.within r.rows (relation_shaped r c.heading.ensures.relation commalist c.requires.intervals) c.as_slice-2.result.now boxes)
 
 pub returns-clause-rows : goal.returns-clause-rows
 returns-clause-rows g c =
     let sides = ap length (c.as_slice.ensures.value ∙ c.in_ok-types.ensures) ∙ length-map c.args.commalist.now (λ i. type_of (kind_at c.attributes.result.now i)) in
-    let boxes = (λ t. map (row_numbers number) (c.as_slice-2.ensures.value t)) ∙ c.in_ok-boxes.ensures.rows in
-    let places = c.as_slice-3.ensures.value ∙ c.in_ok-places.ensures in
-    subst (λ s. IfOk c.u_project.result (λ v. map (row_numbers number) v.items ≡ s))
-    (λ t. packed_boxes row_cmp (sides t) (map (relabelled (part_of (places t))) (unpacked_boxes row_cmp (sides t) (boxes t)))) c.u_project.ensures.rows
+    let boxes = c.in_ok-boxes.ensures.rows in
+    let places = c.as_slice-2.ensures.value ∙ c.in_ok-places.ensures in
+    subst (λ s. IfOk c.projected_boxes.result (λ v. map (row_numbers number) v.items ≡ s))
+    (λ t. packed_boxes row_cmp (sides t) (map (relabelled (part_of (places t))) (unpacked_boxes row_cmp (sides t) (boxes t)))) c.projected_boxes.ensures.rows
 
 pub returns-clause-limit : goal.returns-clause-limit
 returns-clause-limit g c =
     let sides = ap length (c.as_slice.ensures.value ∙ c.in_ok-types.ensures) ∙ length-map c.args.commalist.now (λ i. type_of (kind_at c.attributes.result.now i)) in
-    let boxes = (λ t. map (row_numbers number) (c.as_slice-2.ensures.value t)) ∙ c.in_ok-boxes.ensures.rows in
-    let places = c.as_slice-3.ensures.value ∙ c.in_ok-places.ensures in
-    subst (λ s. c.u_project.result ≡ Err OfLimit → most_rows < length s)
-    (λ t. packed_boxes row_cmp (sides t) (map (relabelled (part_of (places t))) (unpacked_boxes row_cmp (sides t) (boxes t)))) c.u_project.ensures.limit
+    let boxes = c.in_ok-boxes.ensures.rows in
+    let places = c.as_slice-2.ensures.value ∙ c.in_ok-places.ensures in
+    subst (λ s. c.projected_boxes.result ≡ Err OfLimit → most_rows < length s)
+    (λ t. packed_boxes row_cmp (sides t) (map (relabelled (part_of (places t))) (unpacked_boxes row_cmp (sides t) (boxes t)))) c.projected_boxes.ensures.limit
 
 pub returns-clause-cost : goal.returns-clause-cost
 returns-clause-cost g c =
     let sides = ap length (c.as_slice.ensures.value ∙ c.in_ok-types.ensures) ∙ length-map c.args.commalist.now (λ i. type_of (kind_at c.attributes.result.now i)) in
-    let boxes = (λ t. map (row_numbers number) (c.as_slice-2.ensures.value t)) ∙ c.in_ok-boxes.ensures.rows in
-    let many = sym (length-map c.as_slice-2.result.now (row_numbers number)) ∙ ap length boxes ∙ length-map c.args.r.now.rows (boxed c.args.commalist.now) in
-    subst (λ b. c.u_project.new.steps ≤ c.args.steps.now + b) (λ t. bound (many t) (sides t)) c.u_project.ensures.cost
+    let boxes = c.in_ok-boxes.ensures.rows in
+    let many = sym (length-map c.in_ok-boxes.boxes.items (row_numbers number)) ∙ ap length boxes ∙ length-map c.args.r.now.rows (boxed c.args.commalist.now) in
+    subst (λ b. c.projected_boxes.new.steps ≤ c.args.steps.now + b) (λ t. bound (many t) (sides t)) c.projected_boxes.ensures.cost

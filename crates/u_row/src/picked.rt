@@ -40,7 +40,7 @@ fn picked(values: &mut Vec<Value>, positions: &[usize])
 
 /// The label's values at the positions, in their order; FALSE past its end. Where the positions rise, the label's own memory
 /// holds them.
-pub(crate) fn part_in_place(alloc: Global, label: Row, positions: &[usize]) -> Result<Row, Memory>
+pub fn part_in_place(alloc: Global, label: Row, positions: &[usize]) -> Result<Row, Memory>
     ensures { IfOk result (λ r. r ≡ part_of positions.now label) }
 {
     let mut values = label.into_values();

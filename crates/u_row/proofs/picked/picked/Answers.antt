@@ -1,8 +1,8 @@
 use Rattle.std.proofs.Common.{◌≡◌, get_or, length, refl, arith, false}
 use Rattle.value_core.specs.Plain.{plain}
 use Rattle.value_core.specs.Values.{truth}
-use Rattle.u_join.proofs.PickLemmas.{no_more, picked_none, picked_more, picked_all}
-use Rattle.u_join.proofs.picked.picked.Goals as goal
+use Rattle.u_row.proofs.PickLemmas.{no_more, picked_none, picked_more, picked_all}
+use Rattle.u_row.proofs.picked.picked.Goals as goal
 
 pub loop-at-init : goal.loop-at-init
 loop-at-init c = picked_none c.args.positions.now c.args.values.now.items
