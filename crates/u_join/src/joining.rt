@@ -19,25 +19,31 @@ use cell_core::{BoxRow, CellRefuse, CellRows, back, moved_over_cells};
 use point_core::{Memory, PointType, Steps};
 use std::alloc::Global;
 use std::sync::ledger::Ledger;
-use u_set::{copied_boxes, prepacked};
+use u_set::{copied_boxes, in_limit, prepacked};
 use value_core::Row;
 
-// What left and right boxes of one key have in common, with the labels that the rule gives of pairs, packed. Each operand is made fewer
-// first where that can be: so boxes of one label that overlap, of which many make the same pairs, are looked at once.
-fn joined_form<T: PointType, O: PairRule<Left = Row, Right = Row, Out = Row>, L: Ledger>(
+/// Where the keys stand in left and in right labels.
+#[derive(Clone, Copy)]
+pub(crate) struct KeyPlaces<'a> {
+    pub here: &'a [usize],
+    pub there: &'a [usize],
+}
+
+/// What left and right boxes of one key have in common, with the labels that the rule gives of pairs, packed. Each operand is made fewer
+/// first where that can be: so boxes of one label that overlap, of which many make the same pairs, are looked at once.
+pub(crate) fn joined_form<T: PointType, O: PairRule<Left = Row, Right = Row, Out = Row>, L: Ledger>(
     alloc: Global,
     types: &[T],
     left: Vec<BoxRow<T, Row>>,
     right: Vec<BoxRow<T, Row>>,
-    here: &[usize],
-    there: &[usize],
+    keys: KeyPlaces,
     rule: &O,
     steps: &mut Steps<L>,
 ) -> Result<Vec<BoxRow<T, Row>>, Memory>
     requires left { All (λ b. IsBox T.IsPoint types.now b.1) left.items }
     requires right { All (λ b. IsBox T.IsPoint types.now b.1) right.items }
     ensures rows { IfOk result (λ v. map (row_numbers T.number_of) v.items ≡ packed_boxes row_cmp (length types.now)
-        (joined_boxes here.now there.now (O.means rule.now)
+        (joined_boxes keys.entry.here.now keys.entry.there.now (O.means rule.now)
         (unpacked_boxes row_cmp (length types.now) (map (row_numbers T.number_of) left.items))
         (unpacked_boxes row_cmp (length types.now) (map (row_numbers T.number_of) right.items)))) }
     ensures boxes { IfOk result (λ v. All (λ b. IsBox T.IsPoint types.now b.1) v.items) }
@@ -50,48 +56,10 @@ fn joined_form<T: PointType, O: PairRule<Left = Row, Right = Row, Out = Row>, L:
     } = moved_over_cells(alloc, types, left, right, steps)?;
     let fewer_left = prepacked(alloc, types.len(), l)?;
     let fewer_right = prepacked(alloc, types.len(), r)?;
-    let lefts = with_keys(alloc, fewer_left, here)?;
-    let rights = with_keys(alloc, fewer_right, there)?;
+    let lefts = with_keys(alloc, fewer_left, keys.here)?;
+    let rights = with_keys(alloc, fewer_right, keys.there)?;
     let form = join(alloc, types.len(), lefts, rights, rule)?;
     let answer = back(alloc, types, sides.as_slice(), form)?;
-    Ok(answer)
-}
-
-/// The same where they are no more than the limit.
-pub(crate) fn joined_in_limit<
-    T: PointType,
-    O: PairRule<Left = Row, Right = Row, Out = Row>,
-    L: Ledger,
->(
-    alloc: Global,
-    types: &[T],
-    left: Vec<BoxRow<T, Row>>,
-    right: Vec<BoxRow<T, Row>>,
-    here: &[usize],
-    there: &[usize],
-    rule: &O,
-    limit: usize,
-    steps: &mut Steps<L>,
-) -> Result<Vec<BoxRow<T, Row>>, CellRefuse>
-    requires left { All (λ b. IsBox T.IsPoint types.now b.1) left.items }
-    requires right { All (λ b. IsBox T.IsPoint types.now b.1) right.items }
-    ensures rows { IfOk result (λ v. map (row_numbers T.number_of) v.items ≡ packed_boxes row_cmp (length types.now)
-        (joined_boxes here.now there.now (O.means rule.now)
-        (unpacked_boxes row_cmp (length types.now) (map (row_numbers T.number_of) left.items))
-        (unpacked_boxes row_cmp (length types.now) (map (row_numbers T.number_of) right.items)))) }
-    ensures boxes { IfOk result (λ v. All (λ b. IsBox T.IsPoint types.now b.1) v.items) }
-    ensures few { IfOk result (λ v. length v.items ≤ limit) }
-    ensures no_fault { (e : AnyFault) → result ≡ Err (OfOp e) → ⊥ }
-    ensures limit { result ≡ Err OfLimit → limit < length (packed_boxes row_cmp (length types.now)
-        (joined_boxes here.now there.now (O.means rule.now)
-        (unpacked_boxes row_cmp (length types.now) (map (row_numbers T.number_of) left.items))
-        (unpacked_boxes row_cmp (length types.now) (map (row_numbers T.number_of) right.items)))) }
-    ensures cost { steps.new ≤ steps.old + bound (length left.items + length right.items) (length types.now) }
-{
-    let answer = joined_form(alloc, types, left, right, here, there, rule, steps)?;
-    if answer.len() > limit {
-        return Err(CellRefuse::Limit);
-    }
     Ok(answer)
 }
 
@@ -127,15 +95,10 @@ pub fn u_join<T: PointType, L: Ledger>(
     let r = copied_boxes(alloc, right)?;
     let (here, positions) = apart(alloc, shared)?;
     let rule = Beside { positions };
-    joined_in_limit(
-        alloc,
-        types,
-        l,
-        r,
-        here.as_slice(),
-        rule.positions.as_slice(),
-        &rule,
-        limit,
-        steps,
-    )
+    let keys = KeyPlaces {
+        here: here.as_slice(),
+        there: rule.positions.as_slice(),
+    };
+    let form = joined_form(alloc, types, l, r, keys, &rule, steps)?;
+    in_limit(form, limit)
 }

@@ -20,14 +20,14 @@ ghost use Rattle.u_row.specs.Kept.{inner};
 ghost use Rattle.u_join.specs.Pairs.{joined_label, joined_boxes};
 ghost use Rattle.u_join.specs.Places.{positions_of_both};
 
-use crate::joining::joined_in_limit;
+use crate::joining::{KeyPlaces, joined_form};
 use crate::labels::Places;
 use crate::places::{key_places, label_places};
 use cell_core::{BoxRow, CellRefuse};
 use point_core::{AnyType, Steps};
 use std::alloc::Global;
 use std::sync::ledger::Ledger;
-use u_set::{from_boxes, refusal, to_boxes, types_at};
+use u_set::{from_boxes, in_limit, refusal, to_boxes, types_at};
 use value_core::{Heading, MOST_ROWS, Relation, Row, RowsRefuse};
 
 // The packed boxes of the joined rows. Their labels are in the order of the joined heading.
@@ -70,17 +70,12 @@ fn joining_boxes<L: Ledger>(
     let there_key = key_places(alloc, theirs, ours, theirs, there)?;
     let places = label_places(alloc, ours, theirs, heading.attributes(), here, there)?;
     let rule = Places { list: places };
-    joined_in_limit(
-        alloc,
-        types.as_slice(),
-        l,
-        r,
-        here_key.as_slice(),
-        there_key.as_slice(),
-        &rule,
-        MOST_ROWS,
-        steps,
-    )
+    let keys = KeyPlaces {
+        here: here_key.as_slice(),
+        there: there_key.as_slice(),
+    };
+    let form = joined_form(alloc, types.as_slice(), l, r, keys, &rule, steps)?;
+    in_limit(form, MOST_ROWS)
 }
 
 // The same as a relation.

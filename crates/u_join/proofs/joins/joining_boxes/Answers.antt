@@ -1,6 +1,6 @@
-use Rattle.std.proofs.Common.{◌≡◌, ◌+◌, ◌<◌, ◌≤◌, ◌++◌, ℕ, List, arith, Err, length, map, sym, ap, ◌∙◌, subst}
+use Rattle.std.proofs.Common.{◌≡◌, ◌+◌, ◌<◌, ◌≤◌, ◌++◌, ℕ, List, arith, length, map, sym, ap, ◌∙◌, subst}
 use Rattle.std.specs.List.{All}
-use Rattle.std.specs.Result.{IfOk}
+use Rattle.std.proofs.lemmas.Result.{IfOk-weaker}
 use Rattle.std.proofs.lemmas.List.{length-map}
 use Rattle.point_core.specs.Points.{number, IsPointOf}
 use Rattle.point_core.specs.declared.any_type.AnyType.{AnyType}
@@ -12,7 +12,6 @@ use Rattle.cell_packing.specs.Boxed.{packed_boxes, unpacked_boxes}
 use Rattle.cell_core.specs.Boxes.{IsBox}
 use Rattle.cell_core.specs.Cells.{row_numbers}
 use Rattle.cell_core.specs.Costs.{bound}
-use Rattle.cell_core.specs.declared.boxes.CellRefuse.TheVariants.{Limit as OfLimit}
 use Rattle.u_set.specs.Boxes.{type_of, types_at, boxed}
 use Rattle.u_row.specs.Kept.{inner}
 use Rattle.u_join.specs.Pairs.{joined_label, joined_boxes}
@@ -33,8 +32,8 @@ label_places-requires-clause-there g c =
     let theirs = c.attributes-theirs.ensures.list ∙ c.heading-2.ensures.heading in
     subst (λ (h : Heading). All (λ (i : ℕ). i < length h) c.args.there.now) (sym theirs) c.requires.right.within
 
-pub joined_in_limit-requires-clause-right : goal.joined_in_limit-requires-clause-right
-joined_in_limit-requires-clause-right g c =
+pub joined_form-requires-clause-right : goal.joined_form-requires-clause-right
+joined_form-requires-clause-right g c =
     let ours = c.attributes-ours.ensures.list ∙ c.heading.ensures.heading in
     let types = c.as_slice.ensures.value ∙ c.in_ok-types.ensures ∙ (λ t. types_at (ours t) c.args.here.now) in
     let same = same_types c.args.left.now.heading c.args.right.now.heading c.args.here.now c.args.there.now c.requires.same in
@@ -50,8 +49,8 @@ returns-clause-rows g c =
     let here = c.as_slice-2.ensures.value ∙ c.in_ok-here_key.ensures ∙ (λ t. inner c.args.here.now (common_positions (ours t) (ours t) (theirs t))) in
     let there = c.as_slice-3.ensures.value ∙ c.in_ok-there_key.ensures ∙ (λ t. inner c.args.there.now (common_positions (theirs t) (ours t) (theirs t))) in
     let places = c.in_ok-places.ensures ∙ (λ t. inner (positions_of_both (length (ours t)) c.args.here.now c.args.there.now) (positions_in (ours t ++ theirs t) (c.attributes.ensures.list t))) in
-    subst (λ s. IfOk c.joined_in_limit.result (λ v. map (row_numbers number) v.items ≡ s))
-    (λ t. packed_boxes row_cmp (sides t) (joined_boxes (here t) (there t) (joined_label (places t)) (unpacked_boxes row_cmp (sides t) (l t)) (unpacked_boxes row_cmp (sides t) (r t)))) c.joined_in_limit.ensures.rows
+    let e = c.in_ok-form.ensures.rows ∙ (λ t. packed_boxes row_cmp (sides t) (joined_boxes (here t) (there t) (joined_label (places t)) (unpacked_boxes row_cmp (sides t) (l t)) (unpacked_boxes row_cmp (sides t) (r t)))) in
+    IfOk-weaker c.in_limit.result (λ v. v.items ≡ c.in_ok-form.form.items) _ (λ v same. ap (map (row_numbers number)) same ∙ e) c.in_limit.ensures.same
 
 pub returns-clause-limit : goal.returns-clause-limit
 returns-clause-limit g c =
@@ -63,8 +62,8 @@ returns-clause-limit g c =
     let here = c.as_slice-2.ensures.value ∙ c.in_ok-here_key.ensures ∙ (λ t. inner c.args.here.now (common_positions (ours t) (ours t) (theirs t))) in
     let there = c.as_slice-3.ensures.value ∙ c.in_ok-there_key.ensures ∙ (λ t. inner c.args.there.now (common_positions (theirs t) (ours t) (theirs t))) in
     let places = c.in_ok-places.ensures ∙ (λ t. inner (positions_of_both (length (ours t)) c.args.here.now c.args.there.now) (positions_in (ours t ++ theirs t) (c.attributes.ensures.list t))) in
-    subst (λ s. c.joined_in_limit.result ≡ Err OfLimit → most_rows < length s)
-    (λ t. packed_boxes row_cmp (sides t) (joined_boxes (here t) (there t) (joined_label (places t)) (unpacked_boxes row_cmp (sides t) (l t)) (unpacked_boxes row_cmp (sides t) (r t)))) c.joined_in_limit.ensures.limit
+    let e = c.in_ok-form.ensures.rows ∙ (λ t. packed_boxes row_cmp (sides t) (joined_boxes (here t) (there t) (joined_label (places t)) (unpacked_boxes row_cmp (sides t) (l t)) (unpacked_boxes row_cmp (sides t) (r t)))) in
+    λ h. subst (λ n. most_rows < n) (sym (length-map c.in_ok-form.form.items (row_numbers number)) ∙ ap length e) (c.in_limit.ensures.limit h)
 
 pub returns-clause-cost : goal.returns-clause-cost
 returns-clause-cost g c =
@@ -73,4 +72,4 @@ returns-clause-cost g c =
     let r = c.in_ok-r.ensures.rows in
     let many = sym (length-map c.in_ok-l.l.items (row_numbers number)) ∙ ap length l ∙ length-map c.args.left.now.rows (boxed c.args.here.now) in
     let more = sym (length-map c.in_ok-r.r.items (row_numbers number)) ∙ ap length r ∙ length-map c.args.right.now.rows (boxed c.args.there.now) in
-    subst (λ b. c.joined_in_limit.new.steps ≤ c.args.steps.now + b) (λ t. bound (many t + more t) (sides t)) c.joined_in_limit.ensures.cost
+    subst (λ b. c.joined_form.new.steps ≤ c.args.steps.now + b) (λ t. bound (many t + more t) (sides t)) c.joined_form.ensures.cost
