@@ -7,3 +7,4 @@ pub mod Sweeping
 pub mod OneSideLemmas
 pub mod PartedLemmas
 pub mod MovedLemmas
+pub mod RunLemmas

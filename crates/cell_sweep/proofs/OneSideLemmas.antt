@@ -26,7 +26,7 @@ one_grid_point : (y : List (ℕ × ℕ)) (i : ℕ) → has_grid_point y (i ∷ [
 one_grid_point [] i = grind (arith, nat_tests)
 one_grid_point (s ∷ ss) i = and-true (span_has s i)
 
-one_side : (y : List (ℕ × ℕ)) → length y ≡ 1 → y ≡ get_or y 0 no_cells ∷ []
+pub one_side : (y : List (ℕ × ℕ)) → length y ≡ 1 → y ≡ get_or y 0 no_cells ∷ []
 one_side [] e = absurd (omega arith)
 one_side (s ∷ []) e = refl
 one_side (s ∷ t ∷ ts) e = absurd (omega arith)

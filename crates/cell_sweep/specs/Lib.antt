@@ -3,3 +3,4 @@ pub mod PackedRows
 pub mod Sweeps
 pub mod Parted
 pub mod TwoSides
+pub mod Runs

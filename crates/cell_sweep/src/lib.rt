@@ -15,7 +15,7 @@ mod runs;
 mod two_sides;
 mod united;
 
-pub use arranged::pack_arranged;
+pub use arranged::{arrange_unordered, pack_arranged};
 pub use by_label::pack_rows;
 pub use cell_op::CellOp;
 pub use cuts::cuts_at;
