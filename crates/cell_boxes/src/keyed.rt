@@ -11,9 +11,9 @@ ghost use Rattle.cell_sweep.specs.Rows.{key_cmp};
 ghost use Rattle.cell_boxes.specs.Keys.{keyed_cmp, keyed_total, key_of, label_of, ArePaired};
 ghost use Rattle.cell_boxes.specs.Rows.{Ascend, PlainCellBox};
 
-use cell_sweep::{CellBox, put_cells};
+use cell_sweep::{CellBox, arrange_unordered, put_cells};
 use point_core::{Label, Memory};
-use presort::{Numbers, SortKeys, arrange};
+use presort::{Numbers, SortKeys};
 use std::alloc::Global;
 use std::cmp::Ordering;
 use std::marker::Model;
@@ -128,7 +128,7 @@ pub fn keys_in_order<K: Label + Numbers, P: Drop>(
     ensures sides { IfOk result (λ v. (k : ℕ) → All (λ x. length x.2 ≡ k) rows.items → All (λ x. length x.1 ≡ k) v.0.items) }
 {
     let mut arranged = rows;
-    arrange(alloc, &mut arranged)?;
+    arrange_unordered(alloc, &mut arranged)?;
     let (keys, labels) = keys_sorted(alloc, arranged)?;
     Ok((keys, labels))
 }
@@ -153,7 +153,7 @@ pub fn rows_in_order<P: Label + Numbers>(
     ensures sides { IfOk result (λ v. (k : ℕ) → All (λ x. length x.1 ≡ k) rows.items → All (λ x. length x.1 ≡ k) v.items) }
 {
     let mut sorted = rows;
-    arrange(alloc, &mut sorted)?;
+    arrange_unordered(alloc, &mut sorted)?;
     sorted.sort_by(|a: &CellBox<P>, b: &CellBox<P>| by_label(a, b))?;
     Ok(sorted)
 }
