@@ -11,14 +11,15 @@ use crate::boxes::BoxRow;
 use crate::keys::push_keys;
 use crate::packed::same_keys;
 use crate::row_sides::numbered;
-use cell_sweep::pack_rows;
+use cell_sweep::pack_arranged;
 use point_core::{Label, Memory, PointType, Steps};
+use presort::Numbers;
 use std::alloc::Global;
 use std::sync::ledger::Ledger;
 
 /// Whether each point of a left row with the row's label is one of a right row of that label: whether the left rows,
 /// unpacked on all sides, are a subset of the right ones.
-pub fn within_points<T: PointType, P: Label, L: Ledger>(
+pub fn within_points<T: PointType, P: Label + Numbers, L: Ledger>(
     alloc: Global,
     types: &[T],
     left: &[BoxRow<T, P>],
@@ -38,14 +39,14 @@ pub fn within_points<T: PointType, P: Label, L: Ledger>(
     push_keys(alloc, &mut all, right, left.len(), sides.as_slice())?;
     let mut own = Vec::new(alloc);
     push_keys(alloc, &mut own, right, left.len(), sides.as_slice())?;
-    let all_form = pack_rows(alloc, types.len(), all)?;
-    let right_form = pack_rows(alloc, types.len(), own)?;
+    let all_form = pack_arranged(alloc, types.len(), all)?;
+    let right_form = pack_arranged(alloc, types.len(), own)?;
     Ok(same_keys(all_form.as_slice(), right_form.as_slice()))
 }
 
 /// Whether the left and the right rows have the same points with the same labels: whether they are equal, unpacked on
 /// all sides; and so whether they are equal packed.
-pub fn same_points<T: PointType, P: Label, L: Ledger>(
+pub fn same_points<T: PointType, P: Label + Numbers, L: Ledger>(
     alloc: Global,
     types: &[T],
     left: &[BoxRow<T, P>],
@@ -66,7 +67,7 @@ pub fn same_points<T: PointType, P: Label, L: Ledger>(
     push_keys(alloc, &mut l, left, 0, sides.as_slice())?;
     let mut r = Vec::new(alloc);
     push_keys(alloc, &mut r, right, left.len(), sides.as_slice())?;
-    let left_form = pack_rows(alloc, types.len(), l)?;
-    let right_form = pack_rows(alloc, types.len(), r)?;
+    let left_form = pack_arranged(alloc, types.len(), l)?;
+    let right_form = pack_arranged(alloc, types.len(), r)?;
     Ok(same_keys(left_form.as_slice(), right_form.as_slice()))
 }

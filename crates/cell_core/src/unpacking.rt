@@ -18,6 +18,7 @@ use crate::grid_points::{Numbers, Place, grid_points_of, in_order, push_grid_poi
 use crate::packing::packed_rows;
 use interval_core::Interval;
 use point_core::{Label, Memory, PointNumber, Steps};
+use presort::Numbers as SortNumbers;
 use std::alloc::Global;
 use std::sync::ledger::Ledger;
 
@@ -129,20 +130,20 @@ fn point_rows<T: PointNumber, P: Label>(
 
 /// How many rows the unpacked form has: how many pairs of a label and a point. It is `None` exactly where there are more
 /// than `limit`. The points are counted by their packed form and not listed.
-pub fn unpack_count<T: PointNumber, P: Label, L: Ledger>(
+pub fn unpack_count<T: PointNumber, P: Label + SortNumbers, L: Ledger>(
     alloc: Global,
     types: &[T],
-    rows: &[BoxRow<T, P>],
+    rows: Vec<BoxRow<T, P>>,
     limit: usize,
     steps: &mut Steps<L>,
 ) -> Result<Option<usize>, Memory>
-    requires { All (λ r. IsBox T.IsPoint types.now r.1) rows.now }
+    requires { All (λ r. IsBox T.IsPoint types.now r.1) rows.items }
     ensures count { IfOk result (λ o. IfSome o (λ n. n ≡
-        length (unpacked_boxes P.order (length types.now) (map (row_numbers T.number_of) rows.now)))) }
+        length (unpacked_boxes P.order (length types.now) (map (row_numbers T.number_of) rows.items)))) }
     ensures few { IfOk result (λ o. IfSome o (λ n. n ≤ limit)) }
     ensures many { result ≡ Ok None → limit < length (unpacked_boxes P.order (length types.now) (map (row_numbers
-        T.number_of) rows.now)) }
-    ensures cost { steps.new ≤ steps.old + bound (length rows.now) (length types.now) }
+        T.number_of) rows.items)) }
+    ensures cost { steps.new ≤ steps.old + bound (length rows.items) (length types.now) }
 {
     let packed = packed_rows(alloc, types, rows, steps)?;
     let sum = count(alloc, types, packed.as_slice())?;
@@ -156,22 +157,22 @@ pub fn unpack_count<T: PointNumber, P: Label, L: Ledger>(
 /// labels and then of points. The listing goes by numbers and takes no step.
 ///
 /// `Limit` comes exactly where these rows are more than `limit`, and then none is listed.
-pub fn unpack<T: PointNumber, P: Label, L: Ledger>(
+pub fn unpack<T: PointNumber, P: Label + SortNumbers, L: Ledger>(
     alloc: Global,
     types: &[T],
-    rows: &[BoxRow<T, P>],
+    rows: Vec<BoxRow<T, P>>,
     limit: usize,
     steps: &mut Steps<L>,
 ) -> Result<Vec<BoxRow<T, P>>, CellRefuse>
-    requires { All (λ r. IsBox T.IsPoint types.now r.1) rows.now }
+    requires { All (λ r. IsBox T.IsPoint types.now r.1) rows.items }
     ensures rows { IfOk result (λ v. map (row_numbers T.number_of) v.items ≡
-        unpacked_boxes P.order (length types.now) (map (row_numbers T.number_of) rows.now)) }
+        unpacked_boxes P.order (length types.now) (map (row_numbers T.number_of) rows.items)) }
     ensures boxes { IfOk result (λ v. All (λ r. IsBox T.IsPoint types.now r.1) v.items) }
     ensures few { IfOk result (λ v. length v.items ≤ limit) }
     ensures no_fault { (e : AnyFault) → result ≡ Err (OfOp e) → ⊥ }
     ensures limit { result ≡ Err OfLimit → limit < length (unpacked_boxes P.order (length types.now) (map (row_numbers
-        T.number_of) rows.now)) }
-    ensures cost { steps.new ≤ steps.old + bound (length rows.now) (length types.now) }
+        T.number_of) rows.items)) }
+    ensures cost { steps.new ≤ steps.old + bound (length rows.items) (length types.now) }
 {
     let packed = packed_rows(alloc, types, rows, steps)?;
     let sum = count(alloc, types, packed.as_slice())?;

@@ -52,12 +52,6 @@ fn measured<L: Ledger>(
         return Err(wants_memory());
     };
     let start = Instant::now(rt)?;
-    let packed = pack(alloc, types, boxes.as_slice(), usize::MAX, &mut steps);
-    let pack = start.elapsed(rt)?.as_nanos();
-    if packed.is_err() {
-        return Err(wants_memory());
-    }
-    let start = Instant::now(rt)?;
     let _packed = or_error(is_packed(alloc, types, boxes.as_slice(), &mut steps))?;
     let test = start.elapsed(rt)?.as_nanos();
     let start = Instant::now(rt)?;
@@ -67,6 +61,12 @@ fn measured<L: Ledger>(
     let start = Instant::now(rt)?;
     let _within = or_error(within_points(alloc, types, list, list, &mut steps))?;
     let within = start.elapsed(rt)?.as_nanos();
+    let start = Instant::now(rt)?;
+    let packed = pack(alloc, types, boxes, usize::MAX, &mut steps);
+    let pack = start.elapsed(rt)?.as_nanos();
+    if packed.is_err() {
+        return Err(wants_memory());
+    }
     Ok(Times {
         sort,
         pack,

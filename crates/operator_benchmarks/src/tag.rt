@@ -2,6 +2,7 @@
 ghost use Rattle.std.specs.Prelude.{◌≡◌, IfOk};
 
 use point_core::{Label, Memory};
+use presort::{Numbers, SortKeys};
 use std::alloc::Global;
 use std::cmp::Ordering;
 use std::marker::Model;
@@ -38,4 +39,10 @@ impl Label for Tag {
     ghost total = { nat_cmp_total };
 
     ghost separates = { separates_numbers };
+}
+
+impl Numbers for Tag {
+    fn put_numbers(&self, lines: &mut SortKeys) {
+        lines.put(self.value);
+    }
 }

@@ -20,15 +20,15 @@ push_keys-requires-3-clause-full g c =
     All-same (λ s. length c.args.left.now + length c.args.right.now ≤ length s.2) c.as_slice-3.result.now c.in_ok-sides.sides.items c.as_slice-3.ensures.value
     (right_full g.row.P.Denot g.T.PointType.number_of g.T.PointType.IsPoint g.T.PointType.last_number (λ t. (g.met.T.PointType.each t (g.T.PointType.first_number t) (omega (arith, ints)) (g.met.T.PointType.nonempty t)).0) c.args.types.now c.in_ok-sides.sides.items c.args.left.now c.args.right.now c.in_ok-sides.ensures.length c.in_ok-sides.ensures.sides c.requires.left c.requires.right (length c.args.left.now) refl)
 
-pub pack_rows-requires : goal.pack_rows-requires
-pack_rows-requires g c = record {
+pub pack_arranged-requires : goal.pack_arranged-requires
+pack_arranged-requires g c = record {
   sides = both_lengths g.row.P.Denot g.T.PointType.number_of g.T.PointType.IsPoint g.T.PointType.last_number (λ t. (g.met.T.PointType.each t (g.T.PointType.first_number t) (omega (arith, ints)) (g.met.T.PointType.nonempty t)).0) c.args.types.now c.in_ok-sides.sides.items c.args.left.now c.args.right.now c.in_ok-sides.ensures.length c.in_ok-sides.ensures.sides c.requires.left c.requires.right
       c.push_keys-2.new.out.items (c.in_ok-push_keys-2.ensures ∙ (λ i. c.in_ok-push_keys.ensures i ++ keys_from (length c.args.left.now) c.args.right.now (c.as_slice-2.ensures.value i))
       ∙ (λ i. (c.new-all.ensures.items i ++ keys_from 0 c.args.left.now (c.as_slice.ensures.value i)) ++ keys_from (length c.args.left.now) c.args.right.now c.in_ok-sides.sides.items));
 }
 
-pub pack_rows-requires-2 : goal.pack_rows-requires-2
-pack_rows-requires-2 g c = record {
+pub pack_arranged-requires-2 : goal.pack_arranged-requires-2
+pack_arranged-requires-2 g c = record {
   sides = right_lengths g.row.P.Denot g.T.PointType.number_of g.T.PointType.IsPoint g.T.PointType.last_number (λ t. (g.met.T.PointType.each t (g.T.PointType.first_number t) (omega (arith, ints)) (g.met.T.PointType.nonempty t)).0) c.args.types.now c.in_ok-sides.sides.items c.args.left.now c.args.right.now c.in_ok-sides.ensures.length c.in_ok-sides.ensures.sides c.requires.left c.requires.right
       c.push_keys-3.new.out.items (c.in_ok-push_keys-3.ensures ∙ (λ i. c.new-own.ensures.items i ++ keys_from (length c.args.left.now) c.args.right.now (c.as_slice-3.ensures.value i)));
 }

@@ -14,8 +14,8 @@ use Rattle.cell_core.proofs.unpacking.unpack.Goals as goal
 
 pub returns-then-sum-limit-clause-limit : goal.returns-then-sum-limit-clause-limit
 returns-then-sum-limit-clause-limit g c = λ e.
-    more_than c.in_ok-sum.sum (total (map (row_numbers g.T.PointType.number_of) c.as_slice.result.now)) (length (unpacked_boxes g.P.Label.order (length c.args.types.now) (map (row_numbers g.T.PointType.number_of) c.args.rows.now))) c.args.limit 340282366920938463463374607431768211455 c.in_ok-sum.ensures
-    (unpacked_length g.P.Label.order g.met.P.Label.total g.met.P.Label.separates (length c.args.types.now) (map (row_numbers g.T.PointType.number_of) c.args.rows.now) (rows_have g.T.PointType.number_of (length c.args.types.now) c.args.rows.now (recursion_from_All (λ r. length r.1 ≡ length c.args.types.now) c.args.rows.now (λ j d l. box_length g.T.PointType.IsPoint c.args.types.now _ (c.requires j d l))))
+    more_than c.in_ok-sum.sum (total (map (row_numbers g.T.PointType.number_of) c.as_slice.result.now)) (length (unpacked_boxes g.P.Label.order (length c.args.types.now) (map (row_numbers g.T.PointType.number_of) c.args.rows.items))) c.args.limit 340282366920938463463374607431768211455 c.in_ok-sum.ensures
+    (unpacked_length g.P.Label.order g.met.P.Label.total g.met.P.Label.separates (length c.args.types.now) (map (row_numbers g.T.PointType.number_of) c.args.rows.items) (rows_have g.T.PointType.number_of (length c.args.types.now) c.args.rows.items (recursion_from_All (λ r. length r.1 ≡ length c.args.types.now) c.args.rows.items (λ j d l. box_length g.T.PointType.IsPoint c.args.types.now _ (c.requires j d l))))
     ∙ ap total (sym c.in_ok-packed.ensures.rows) ∙ ap (λ xs. total (map (row_numbers g.T.PointType.number_of) xs)) (sym c.as_slice.ensures.value)) c.if-sum-limit.true
 
 pub point_rows-requires : goal.point_rows-requires
@@ -27,15 +27,15 @@ point_rows-requires g c =
 pub returns-clause-rows : goal.returns-clause-rows
 returns-clause-rows g c =
     c.in_ok-answer.ensures.rows ∙ ap (map point_row) (c.in_ok-set.ensures ∙ ap (in_order (placed_cmp g.P.Label.order)) (c.in_ok-list.ensures ∙ ap listing (ap (map (row_numbers g.T.PointType.number_of)) c.as_slice-2.ensures.value ∙ c.in_ok-packed.ensures.rows)))
-    ∙ unpacked_is g.P.Label.order g.met.P.Label.total g.met.P.Label.separates (length c.args.types.now) (map (row_numbers g.T.PointType.number_of) c.args.rows.now) (rows_have g.T.PointType.number_of (length c.args.types.now) c.args.rows.now (recursion_from_All (λ r. length r.1 ≡ length c.args.types.now) c.args.rows.now (λ j d l. box_length g.T.PointType.IsPoint c.args.types.now _ (c.requires j d l))))
+    ∙ unpacked_is g.P.Label.order g.met.P.Label.total g.met.P.Label.separates (length c.args.types.now) (map (row_numbers g.T.PointType.number_of) c.args.rows.items) (rows_have g.T.PointType.number_of (length c.args.types.now) c.args.rows.items (recursion_from_All (λ r. length r.1 ≡ length c.args.types.now) c.args.rows.items (λ j d l. box_length g.T.PointType.IsPoint c.args.types.now _ (c.requires j d l))))
 
 pub returns-clause-few : goal.returns-clause-few
 returns-clause-few g c =
     let w =
-    not_more c.in_ok-sum.sum (total (map (row_numbers g.T.PointType.number_of) c.as_slice.result.now)) (length (unpacked_boxes g.P.Label.order (length c.args.types.now) (map (row_numbers g.T.PointType.number_of) c.args.rows.now))) c.args.limit 340282366920938463463374607431768211455 c.in_ok-sum.ensures
-    (unpacked_length g.P.Label.order g.met.P.Label.total g.met.P.Label.separates (length c.args.types.now) (map (row_numbers g.T.PointType.number_of) c.args.rows.now) (rows_have g.T.PointType.number_of (length c.args.types.now) c.args.rows.now (recursion_from_All (λ r. length r.1 ≡ length c.args.types.now) c.args.rows.now (λ j d l. box_length g.T.PointType.IsPoint c.args.types.now _ (c.requires j d l))))
+    not_more c.in_ok-sum.sum (total (map (row_numbers g.T.PointType.number_of) c.as_slice.result.now)) (length (unpacked_boxes g.P.Label.order (length c.args.types.now) (map (row_numbers g.T.PointType.number_of) c.args.rows.items))) c.args.limit 340282366920938463463374607431768211455 c.in_ok-sum.ensures
+    (unpacked_length g.P.Label.order g.met.P.Label.total g.met.P.Label.separates (length c.args.types.now) (map (row_numbers g.T.PointType.number_of) c.args.rows.items) (rows_have g.T.PointType.number_of (length c.args.types.now) c.args.rows.items (recursion_from_All (λ r. length r.1 ≡ length c.args.types.now) c.args.rows.items (λ j d l. box_length g.T.PointType.IsPoint c.args.types.now _ (c.requires j d l))))
     ∙ ap total (sym c.in_ok-packed.ensures.rows) ∙ ap (λ xs. total (map (row_numbers g.T.PointType.number_of) xs)) (sym c.as_slice.ensures.value)) c.if-sum-limit.false (let r = c.ranges.limit in omega arith) in
     let rows = c.in_ok-answer.ensures.rows ∙ ap (map point_row) (c.in_ok-set.ensures ∙ ap (in_order (placed_cmp g.P.Label.order)) (c.in_ok-list.ensures ∙ ap listing (ap (map (row_numbers g.T.PointType.number_of)) c.as_slice-2.ensures.value ∙ c.in_ok-packed.ensures.rows)))
-    ∙ unpacked_is g.P.Label.order g.met.P.Label.total g.met.P.Label.separates (length c.args.types.now) (map (row_numbers g.T.PointType.number_of) c.args.rows.now) (rows_have g.T.PointType.number_of (length c.args.types.now) c.args.rows.now (recursion_from_All (λ r. length r.1 ≡ length c.args.types.now) c.args.rows.now (λ j d l. box_length g.T.PointType.IsPoint c.args.types.now _ (c.requires j d l)))) in
+    ∙ unpacked_is g.P.Label.order g.met.P.Label.total g.met.P.Label.separates (length c.args.types.now) (map (row_numbers g.T.PointType.number_of) c.args.rows.items) (rows_have g.T.PointType.number_of (length c.args.types.now) c.args.rows.items (recursion_from_All (λ r. length r.1 ≡ length c.args.types.now) c.args.rows.items (λ j d l. box_length g.T.PointType.IsPoint c.args.types.now _ (c.requires j d l)))) in
     let l = sym (length-map c.in_ok-answer.answer.items (row_numbers g.T.PointType.number_of)) ∙ ap length rows in
     subst (λ m. m ≤ c.args.limit) (sym l) w.1
