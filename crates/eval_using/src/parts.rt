@@ -63,10 +63,11 @@ pub(crate) fn figure_parts(
         (map read_aggregate of.entry.aggregates.now) r.now.rows (map (others of.entry.commalist.now) r.now.rows) p.columns.items)) }
 {
     let rows = r.rows();
-    if of.commalist.len() != 1 {
+    let commalist = of.commalist;
+    if commalist.len() != 1 {
         return Ok(None);
     }
-    match label_spots(alloc, to, of.at, of.aggregates.len(), of.commalist, of.by)? {
+    match label_spots(alloc, to, of.at, of.aggregates.len(), commalist, of.by)? {
         Some(places) => with_columns(alloc, of.aggregates, rows, places),
         None => Ok(None),
     }
