@@ -1,6 +1,7 @@
 pub mod BlankLemmas
 pub mod CutLemmas
 pub mod EncodingLemmas
+pub mod FirstLemmas
 pub mod GapLemmas
 pub mod GapLengthLemmas
 pub mod ListLemmas
@@ -9,6 +10,7 @@ pub mod OneReadingLemmas
 pub mod PlaceLemmas
 pub mod ReachLemmas
 pub mod ReadLemmas
+pub mod StayLemmas
 pub mod TextLemmas
 pub mod WordLemmas
 pub mod WrittenLemmas

@@ -1,5 +1,5 @@
 -- One gap or token further in a text.
-use Rattle.std.proofs.Common.{◌≡◌, ℕ, ◌+◌, ◌<◌, ◌≤◌, List, [], ◌∷◌, ◌++◌, length, drop, take, get_or, Some, Result, Ok, Err, IfOk, IfErr, ◌-◌, ◌^◌, inr, sym, ◌∙◌, ap, subst, arith, length-append, length-drop, append_assoc, append-nil, encode_utf8_all}
+use Rattle.std.proofs.Common.{◌≡◌, ℕ, ◌+◌, ◌<◌, ◌≤◌, List, [], ◌∷◌, ◌++◌, length, drop, take, get_or, Some, Result, Ok, Err, Vec, Global, IfOk, IfErr, MatchResult, ◌-◌, ◌^◌, inl, inr, sym, ◌∙◌, ap, subst, arith, length-append, length-drop, append_assoc, append-nil, encode_utf8_all}
 use Rattle.std.proofs.lemmas.List.{take_at, drop_at, drop-drop, drop_all, drop_more}
 use Rattle.std.proofs.lemmas.Str.{encodes-append, encodes-chars}
 use Rattle.point_core.specs.declared.fault.Place.{Place}
@@ -10,10 +10,13 @@ use Rattle.utd_lexer.specs.declared.prefix.Prefix.TheVariants.{Token as OfToken}
 use Rattle.value_core.specs.declared.refuse.Refuse.{Refuse}
 use Rattle.value_core.specs.declared.refuse.Refuse.TheVariants.{Plain, At, Broken, Memory}
 use Rattle.std.specs.Str.{IsUtf8, chars}
-use Rattle.utd_lexer.specs.Tokens.{Fits, past, Gap, blank, block, line, last, spelling_of_gap, IsToken, spelling, token_at, NoPrefix, Lexed, done, gap, token, Stuck, here, past_gap, past_token}
+use Rattle.std.specs.Str.Lossy.{utf8_valid_len}
+use Rattle.point_core.specs.declared.fault.Code.TheVariants.{E02}
+use Rattle.point_core.specs.Faults.{fault}
+use Rattle.utd_lexer.specs.Tokens.{Fits, place_after, past, Gap, blank, block, line, last, spelling_of_gap, IsToken, spelling, token_at, NoPrefix, Lexed, done, gap, token, Stuck, here, past_gap, past_token}
 use Rattle.utd_lexer.specs.Prefixes.{GapFront, PrefixIs}
 use Rattle.utd_lexer.specs.declared.prefix.Prefix.{Prefix}
-use Rattle.utd_lexer.specs.Reading.{Stops, Reads, Refuses}
+use Rattle.utd_lexer.specs.Reading.{AreCharacters, IsValidFront, Stops, Reads, Refuses}
 use Rattle.utd_lexer.proofs.PlaceLemmas.{chars-step}
 
 -- what is known of the text up to a place: what is read from there on, and where that stops, is so of the whole
@@ -106,6 +109,19 @@ all-read start cs at place out s le = subst (Lexed start cs) (append-nil out) (s
 -- what was found, of what is left of the text
 pub prefix-here : (rest all : List ℕ) (at : ℕ) (f g : Prefix) → rest ≡ drop at all → PrefixIs rest f → f ≡ g → PrefixIs (drop at all) g
 prefix-here rest all at f g is h e = subst (PrefixIs (drop at all)) e (subst (λ z. PrefixIs z f) is h)
+
+-- what was found of the bytes
+pub found-ok : (bytes : List ℕ) (r : Result (Vec ℕ Global) ℕ) (v : Vec ℕ Global) → r ≡ Ok v → MatchResult r (λ v. AreCharacters v.items bytes) (λ n. IsValidFront n bytes) → AreCharacters v.items bytes
+found-ok bytes r v is h = subst (λ (z : Result (Vec ℕ Global) ℕ). MatchResult z (λ v. AreCharacters v.items bytes) (λ n. IsValidFront n bytes)) is h
+
+pub found-broken : (bytes : List ℕ) (r : Result (Vec ℕ Global) ℕ) (n : ℕ) → r ≡ Err n → MatchResult r (λ v. AreCharacters v.items bytes) (λ n. IsValidFront n bytes) → IsValidFront n bytes
+found-broken bytes r n is h = subst (λ (z : Result (Vec ℕ Global) ℕ). MatchResult z (λ v. AreCharacters v.items bytes) (λ n. IsValidFront n bytes)) is h
+
+-- bytes that are not UTF-8 are refused behind their front that is
+pub refused-front : (start place : Place) (bytes prefix : List ℕ) (n : ℕ) → IsValidFront n bytes → prefix ≡ take n bytes → place ≡ place_after start prefix → Refuses start bytes (At (fault place E02))
+refused-front start place bytes prefix n valid front is =
+    let at : place ≡ place_after start (take (utf8_valid_len bytes) bytes) = is ∙ ap (place_after start) (front ∙ ap (λ z. take z bytes) valid.2) in
+    inl (valid.0, ap (λ z. fault z E02) at)
 
 pub text-fits : (start : Place) (cs bytes : List ℕ) → cs ≡ chars bytes → IsUtf8 bytes → start.line + start.column + length bytes ≤ 2 ^ 32 - 1 → Fits start (length (encode_utf8_all cs))
 text-fits start cs bytes is utf h =

@@ -23,7 +23,7 @@ ends-any v w (d ∷ rest) h = h
 pub doubled-plain : (c : ℕ) (cs : List ℕ) → c ≢ 39 → doubled (c ∷ cs) ≡ c ∷ doubled cs
 doubled-plain c cs h = rw (ne_eqb c 39 h) refl
 
-doubled-append : (a b : List ℕ) → doubled (a ++ b) ≡ doubled a ++ doubled b
+pub doubled-append : (a b : List ℕ) → doubled (a ++ b) ≡ doubled a ++ doubled b
 doubled-append [] b = refl
 doubled-append (c ∷ a) b = elim (eqb_tells c 39) [
   | inl p ↦ rw p.0 (ap (λ z. 39 ∷ (39 ∷ z)) (doubled-append a b))

@@ -59,7 +59,7 @@ word-found cs c rest n e s h =
     let (prefix, behind, split, all, stop, len) = taken continues cs n h in
     (prefix, behind, split, (word-kind prefix behind c rest (sym e ∙ split) s all stop, word-ends prefix behind stop), len)
 
-integer-kind : (prefix : List ℕ) → 0 < length prefix → AllOf is_ascii_digit prefix → IsOfKind Integer prefix
+pub integer-kind : (prefix : List ℕ) → 0 < length prefix → AllOf is_ascii_digit prefix → IsOfKind Integer prefix
 integer-kind [] lt all = absurd (omega (arith, lt))
 integer-kind (d ∷ prefix) lt all = all
 

@@ -1,5 +1,5 @@
 -- How the cutter takes one byte after another: where it stands, and what bytes it was given.
-use Rattle.std.specs.Prelude.{◌≡◌, ℕ, List, [], ◌∷◌, ◌++◌, if◌then◌else◌, ◌==◌, Bool, true, false, ◌&&◌, ◌||◌}
+use Rattle.std.specs.Prelude.{◌≡◌, ℕ, List, [], ◌∷◌, ◌++◌, if◌then◌else◌, ◌==◌, Bool, true, false, ◌&&◌, ◌||◌, not}
 use Rattle.utd_lexer.specs.declared.cutter.Mode.{Mode}
 use Rattle.utd_lexer.specs.declared.cutter.Mode.TheVariants.{Between, Slash, Text, Block, Star, Line}
 use Rattle.utd_lexer.specs.declared.cutter.Cutter.{Cutter}
@@ -48,6 +48,10 @@ abbrev pub is_resting : Mode → Bool
 is_resting Between = true
 is_resting Line = true
 is_resting _ = false
+
+-- whether the byte changes nothing
+abbrev pub stays : Cutter → ℕ → Bool
+stays c b = is_between c.mode && (not c.blank && (not (b == 39) && (not (b == 47) && not (b == 59))))
 
 -- these bytes were given since the last end of a statement
 abbrev pub Since : Cutter → List ℕ → Type 0

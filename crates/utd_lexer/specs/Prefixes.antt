@@ -1,12 +1,15 @@
 -- What the functions that look for one token or gap find at the front of characters.
-use Rattle.std.specs.Prelude.{◌≡◌, ◌≢◌, ℕ, List, [], ◌∷◌, ◌++◌, Option, Some, None, length, encode_utf8_all}
+use Rattle.std.specs.Prelude.{◌≡◌, ◌≢◌, ℕ, List, [], ◌∷◌, ◌++◌, Option, Some, None, true, length, encode_utf8_all}
 use Rattle.utd_lexer.specs.declared.token.TokenKind.{TokenKind}
 use Rattle.utd_lexer.specs.declared.token.TokenKind.TheVariants.{Word, Integer, Text, Symbol}
 use Rattle.utd_lexer.specs.declared.prefix.Prefix.{Prefix}
 use Rattle.utd_lexer.specs.declared.prefix.Prefix.TheVariants.{Gap as OfGap, Token as OfToken, Nothing}
+use Rattle.utd_lexer.specs.declared.prefix.First.{First}
+use Rattle.utd_lexer.specs.declared.prefix.First.TheVariants.{Word as OfWord, Integer as OfInteger, Lone, Other}
 use Rattle.utd_lexer.specs.declared.prefix.Turn.{Turn}
 use Rattle.utd_lexer.specs.declared.prefix.Turn.TheVariants.{Ends, Quote, Plain}
-use Rattle.utd_lexer.specs.Tokens.{IsToken, spelling, Gap, spelling_of_gap, IsGap, NoPrefix, EndsAt}
+use Rattle.std.specs.Char.{is_ascii_digit}
+use Rattle.utd_lexer.specs.Tokens.{starts, among, IsToken, spelling, Gap, spelling_of_gap, IsGap, NoPrefix, EndsAt}
 
 -- the length of the token of this kind at the front, or that none stands there
 abbrev pub TokenFront : TokenKind → List ℕ → Option ℕ → Type 0
@@ -34,6 +37,17 @@ PrefixIs cs (OfToken k bytes n) = (v : List ℕ) × (rest : List ℕ) × (cs ≡
 abbrev pub TextPrefix : List ℕ → Option Prefix → Type 0
 TextPrefix cs None = TokenFront Text cs None
 TextPrefix cs (Some f) = PrefixIs cs f
+
+-- the symbols of one character with which no symbol of two and no comment begins: ( ) [ ] { } , ; = + - * .
+abbrev pub lone : List ℕ
+lone = 40 ∷ 41 ∷ 91 ∷ 93 ∷ 123 ∷ 125 ∷ 44 ∷ 59 ∷ 61 ∷ 43 ∷ 45 ∷ 42 ∷ 46 ∷ []
+
+-- what the first character alone tells of the front
+abbrev pub FirstIs : ℕ → First → Type 0
+FirstIs c OfWord = starts c ≡ true
+FirstIs c OfInteger = is_ascii_digit c ≡ true
+FirstIs c Lone = among c lone ≡ true
+FirstIs c Other = Unit {0}
 
 -- how a text goes on behind its first quote
 abbrev pub TurnIs : List ℕ → Turn → Type 0

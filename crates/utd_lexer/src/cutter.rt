@@ -1,7 +1,7 @@
 // The cut of a script's bytes into statements.
 ghost use Rattle.std.specs.Prelude.{◌≡◌, ◌↔◌, ℕ, List, [], ◌∷◌, ◌++◌, true};
 ghost use Rattle.utd_lexer.specs.Parts.{IsWhole, IsBlank};
-ghost use Rattle.utd_lexer.specs.Cutting.{next, is_outside, is_between, blank_next, is_resting, Since, since_then};
+ghost use Rattle.utd_lexer.specs.Cutting.{next, is_outside, is_between, blank_next, is_resting, stays, Since, since_then};
 
 use crate::space::is_space;
 
@@ -111,6 +111,13 @@ impl Cutter {
         }
     }
 
+    // Whether the byte changes nothing: behind bytes that are not blank, most stand between parts.
+    fn stays(&self, byte: u8) -> bool
+        ensures { result ≡ stays self.now byte }
+    {
+        self.mode.is_between() && !self.blank && byte != b'\'' && byte != b'/' && byte != b';'
+    }
+
     /// Takes the next byte. It ends a statement exactly where it is a `;` outside texts and comments.
     pub fn step(&mut self, byte: u8) -> Cut
         ensures since { (bytes : List ℕ) → Since self.old bytes →
@@ -118,6 +125,9 @@ impl Cutter {
         ensures ends { (bytes : List ℕ) → Since self.old bytes →
             ((result ≡ Cut.Ends) ↔ ((byte ≡ 59) × IsWhole bytes)) }
     {
+        if self.stays(byte) {
+            return Cut::Inside;
+        }
         let outside = self.mode.is_outside();
         let blank = self.mode.blank_next(self.blank, byte);
         self.mode = self.mode.next(byte);

@@ -1,10 +1,10 @@
 // The token, or the white space or comment, at the front of characters.
-ghost use Rattle.std.specs.Prelude.{◌≡◌, ◌+◌, ◌<◌, ◌∷◌, ◌++◌, length, IfOk, IfSome, OnOk, encode_utf8, encode_utf8_all};
+ghost use Rattle.std.specs.Prelude.{◌≡◌, ◌==◌, ◌||◌, ◌+◌, ◌<◌, ◌∷◌, ◌++◌, length, Some, IfOk, IfSome, OnOk, encode_utf8, encode_utf8_all};
 ghost use Rattle.std.specs.List.{prefix_len};
-ghost use Rattle.std.specs.Char.{is_ascii_digit};
+ghost use Rattle.std.specs.Char.{is_ascii_alphabetic, is_ascii_alphanumeric, is_ascii_digit};
 ghost use Rattle.utd_lexer.specs.Parts.{is_space};
 ghost use Rattle.utd_lexer.specs.Tokens.{starts, continues, unquoted, singles, seconds, among, opens_comment};
-ghost use Rattle.utd_lexer.specs.Prefixes.{TokenFront, GapFront, PlainPrefix, PrefixIs, TextPrefix, TurnIs};
+ghost use Rattle.utd_lexer.specs.Prefixes.{lone, FirstIs, TokenFront, GapFront, PlainPrefix, PrefixIs, TextPrefix, TurnIs};
 
 use crate::encoding::split_behind;
 use crate::space::is_space;
@@ -21,6 +21,15 @@ pub(crate) enum Prefix<'a> {
     Nothing,
 }
 
+/// What the first character alone tells of the front.
+#[derive(Clone, Copy)]
+enum First {
+    Word,
+    Integer,
+    Lone,
+    Other,
+}
+
 /// How a text goes on.
 #[derive(Clone, Copy)]
 enum Turn {
@@ -35,10 +44,40 @@ fn is_space_char(c: char) -> bool
     c.is_ascii() && is_space(c as u8)
 }
 
-fn is_start(c: char) -> bool
+fn is_ascii_start(c: char) -> bool
+    ensures { result ≡ (is_ascii_alphabetic c || (c == 95)) }
+{
+    c.is_ascii_alphabetic() || c == '_'
+}
+
+fn is_any_start(c: char) -> bool
     ensures { result ≡ starts c }
 {
     unicode_ident::is_xid_start(c) || c == '_'
+}
+
+fn is_start(c: char) -> bool
+    ensures { result ≡ starts c }
+{
+    if c < '\u{80}' {
+        return is_ascii_start(c);
+    }
+    is_any_start(c)
+}
+
+fn is_ascii_continuing(c: char) -> bool
+    ensures { result ≡ (is_ascii_alphanumeric c || (c == 95)) }
+{
+    c.is_ascii_alphanumeric() || c == '_'
+}
+
+fn is_continuing(c: char) -> bool
+    ensures { result ≡ continues c }
+{
+    if c < '\u{80}' {
+        return is_ascii_continuing(c);
+    }
+    unicode_ident::is_xid_continue(c)
 }
 
 fn is_single(c: char) -> bool
@@ -60,6 +99,25 @@ fn is_single(c: char) -> bool
         || c == '-'
         || c == '*'
         || c == '/'
+        || c == '.'
+}
+
+/// Whether the character is a symbol whatever stands behind it.
+fn is_lone(c: char) -> bool
+    ensures { result ≡ among c lone }
+{
+    c == '('
+        || c == ')'
+        || c == '['
+        || c == ']'
+        || c == '{'
+        || c == '}'
+        || c == ','
+        || c == ';'
+        || c == '='
+        || c == '+'
+        || c == '-'
+        || c == '*'
         || c == '.'
 }
 
@@ -89,7 +147,7 @@ fn continuing(chars: &[char]) -> usize
     ensures { result ≡ prefix_len continues chars.now }
 {
     let mut n = 0;
-    'word: while n < chars.len() && unicode_ident::is_xid_continue(chars[n]) {
+    'word: while n < chars.len() && is_continuing(chars[n]) {
         n += 1;
     }
     n
@@ -141,6 +199,35 @@ fn symbol_len(chars: &[char]) -> Option<usize>
         Some(1)
     } else {
         None
+    }
+}
+
+fn first_of(c: char) -> First
+    ensures { FirstIs c result }
+{
+    if is_start(c) {
+        First::Word
+    } else if is_lone(c) {
+        First::Lone
+    } else if c.is_ascii_digit() {
+        First::Integer
+    } else {
+        First::Other
+    }
+}
+
+/// The word, integer or symbol that the first character alone tells of.
+fn known_len(chars: &[char]) -> Option<(TokenKind, usize)>
+    ensures { IfSome result (λ f. PlainPrefix chars.now (Some f)) }
+{
+    let Some((first, _)) = chars.split_first() else {
+        return None;
+    };
+    match first_of(*first) {
+        First::Word => Some((TokenKind::Word, continuing(chars))),
+        First::Integer => Some((TokenKind::Integer, digits(chars))),
+        First::Lone => Some((TokenKind::Symbol, 1)),
+        First::Other => None,
     }
 }
 
@@ -313,6 +400,16 @@ fn text<'a>(alloc: Global, chars: &[char], bytes: &'a [u8]) -> Result<Option<Pre
     Ok(found)
 }
 
+/// The word, integer or symbol of so many characters at the front.
+fn token_of<'a>(kind: TokenKind, n: usize, chars: &[char], bytes: &'a [u8]) -> Prefix<'a>
+    requires front { PlainPrefix chars.now (Some (kind, n)) }
+    requires encoded { bytes.now ≡ encode_utf8_all chars.now }
+    ensures { PrefixIs chars.now result }
+{
+    let list = CowSlice::Borrowed(split_behind(chars, n, bytes).0);
+    Prefix::Token(kind, TokenBytes { list }, n)
+}
+
 /// What stands at the front of the characters, which have these bytes.
 pub(crate) fn prefix_of<'a>(
     alloc: Global,
@@ -322,6 +419,9 @@ pub(crate) fn prefix_of<'a>(
     requires { bytes.now ≡ encode_utf8_all chars.now }
     ensures { IfOk result (λ f. PrefixIs chars.now f) }
 {
+    if let Some((kind, n)) = known_len(chars) {
+        return Ok(token_of(kind, n, chars, bytes));
+    }
     if let Some(n) = gap_len(chars) {
         return Ok(Prefix::Gap(n));
     }
@@ -329,10 +429,7 @@ pub(crate) fn prefix_of<'a>(
         return Ok(found);
     }
     match plain_len(chars) {
-        Some((kind, n)) => {
-            let list = CowSlice::Borrowed(split_behind(chars, n, bytes).0);
-            Ok(Prefix::Token(kind, TokenBytes { list }, n))
-        }
+        Some((kind, n)) => Ok(token_of(kind, n, chars, bytes)),
         None => Ok(Prefix::Nothing),
     }
 }

@@ -1,8 +1,8 @@
 // The tokens of a statement, and their places.
-ghost use Rattle.std.specs.Prelude.{◌≡◌, ◌+◌, ◌-◌, ◌^◌, ◌≤◌, length, IfOk, IfErr, encode_utf8_all};
+ghost use Rattle.std.specs.Prelude.{◌≡◌, ◌+◌, ◌-◌, ◌^◌, ◌≤◌, length, IfOk, IfErr, MatchResult, encode_utf8_all};
 ghost use Rattle.std.specs.Str.{chars};
 ghost use Rattle.utd_lexer.specs.Tokens.{Fits, next_place, place_after, Lexed};
-ghost use Rattle.utd_lexer.specs.Reading.{Stops, Reads, Refuses, HasReading, IsOnlyReading, RefusesOnly};
+ghost use Rattle.utd_lexer.specs.Reading.{AreCharacters, IsValidFront, Stops, Reads, Refuses, HasReading, IsOnlyReading, RefusesOnly};
 
 use crate::encoding::split_behind;
 use crate::prefix::{Prefix, prefix_of};
@@ -54,12 +54,28 @@ fn chars_of_ascii(alloc: Global, bytes: &[u8]) -> Result<Vec<char>, AllocError>
 fn chars_of(alloc: Global, text: &str) -> Result<Vec<char>, AllocError>
     ensures { IfOk result (λ v. v.items ≡ chars text.now) }
 {
-    if text.is_ascii() {
-        let list = chars_of_ascii(alloc, text.as_bytes())?;
-        return Ok(list);
-    }
     text.chars().collect(alloc)
 }
+
+/// The characters of bytes that are UTF-8; else how many of the first are.
+fn characters(alloc: Global, bytes: &[u8]) -> Result<Result<Vec<char>, usize>, AllocError>
+    ensures { IfOk result (λ found. MatchResult found (λ v. AreCharacters v.items bytes.now) (λ n. IsValidFront n bytes.now)) }
+{
+    if bytes.is_ascii() {
+        let list = chars_of_ascii(alloc, bytes)?;
+        return Ok(Ok(list));
+    }
+    match str::from_utf8(bytes) {
+        Ok(text) => {
+            let list = chars_of(alloc, text)?;
+            Ok(Ok(list))
+        }
+        Err(error) => Ok(Err(error.valid_up_to())),
+    }
+}
+
+// Room for the tokens of most statements.
+const FEW_TOKENS: usize = 16;
 
 fn read_all<'a>(
     alloc: Global,
@@ -72,7 +88,7 @@ fn read_all<'a>(
     ensures read { IfOk result (λ list. Lexed start chars.now list) }
     ensures refused { IfErr result (λ refuse. Stops start chars.now refuse) }
 {
-    let mut list = Vec::new(alloc);
+    let mut list = Vec::with_capacity(alloc, FEW_TOKENS)?;
     let mut at = 0;
     let mut left = text;
     let mut place = start;
@@ -114,13 +130,11 @@ pub fn tokens(alloc: Global, text: &[u8], start: Place) -> Result<TokenList<'_>,
     ensures refused { IfErr result (λ refuse. Refuses start text.now refuse) }
     ensures refused_only { IfErr result (λ refuse. RefusesOnly start text.now refuse) }
 {
-    match str::from_utf8(text) {
-        Ok(written) => {
-            let characters = chars_of(alloc, written)?;
-            read_all(alloc, &characters, text, start)
-        }
-        Err(error) => {
-            let place = place_behind(start, text.split_at(error.valid_up_to()).0);
+    let found = characters(alloc, text)?;
+    match found {
+        Ok(list) => read_all(alloc, &list, text, start),
+        Err(valid) => {
+            let place = place_behind(start, text.split_at(valid).0);
             let code = Code::E02;
             Err(Refuse::At(Fault { place, code }))
         }

@@ -3,8 +3,8 @@ use Rattle.std.proofs.lemmas.List.Sums.{prefix_len_is}
 use Rattle.utd_lexer.specs.Tokens.{continues}
 use Rattle.utd_lexer.proofs.prefix.continuing.Goals as goal
 
-pub returns-else-is_xid_continue : goal.returns-else-is_xid_continue
-returns-else-is_xid_continue c = sym (prefix_len_is continues c.args.chars.now c.word.n c.index-chars-n.result c.word.invariant.0 (λ k l. c.word.invariant.1 k c.index-chars-n.result l) (λ l. ap continues (sym c.index-chars-n.is) ∙ sym c.is_xid_continue.ensures.value ∙ c.if-is_xid_continue.false))
+pub returns-else-is_continuing : goal.returns-else-is_continuing
+returns-else-is_continuing c = sym (prefix_len_is continues c.args.chars.now c.word.n c.index-chars-n.result c.word.invariant.0 (λ k l. c.word.invariant.1 k c.index-chars-n.result l) (λ l. ap continues (sym c.index-chars-n.is) ∙ sym c.is_continuing.ensures ∙ c.if-is_continuing.false))
 
 pub returns-after-word : goal.returns-after-word
 returns-after-word c = sym (prefix_len_is continues c.args.chars.now c.word.n 0 c.word.invariant.0 (λ k l. c.word.invariant.1 k 0 l) (λ l. absurd (omega (arith, c.word-test.false))))

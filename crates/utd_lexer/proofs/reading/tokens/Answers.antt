@@ -1,35 +1,51 @@
-use Rattle.std.proofs.Common.{◌≡◌, ap, ◌∙◌}
+use Rattle.std.proofs.Common.{◌≡◌, ap, ◌∙◌, Err}
 use Rattle.std.specs.Str.{chars}
-use Rattle.utd_lexer.proofs.ReadLemmas.{text-encoded, text-fits, read-text, refused-text}
+use Rattle.point_core.specs.declared.fault.Code.TheVariants.{E02}
+use Rattle.point_core.specs.Faults.{fault}
+use Rattle.value_core.specs.declared.refuse.Refuse.TheVariants.{At}
+use Rattle.utd_lexer.proofs.ReadLemmas.{found-ok, found-broken, text-encoded, text-fits, read-text, refused-text, refused-front}
 use Rattle.utd_lexer.proofs.ReachLemmas.{bytes_read}
 use Rattle.utd_lexer.proofs.OneReadingLemmas.{only-list, only-refusal}
 use Rattle.utd_lexer.proofs.reading.tokens.Goals as goal
 
 pub read_all-requires : goal.read_all-requires
 read_all-requires c =
-    let is : c.deref.result.now ≡ chars c.args.text.now = c.deref.ensures.value ∙ c.in_ok-characters-in-Ok.ensures ∙ ap chars c.in-Ok.ensures.cases.0 in
+    let both = found-ok c.args.text.now _ c.in-Ok.list c.in-Ok.is c.in_ok-found.ensures in
+    let is : c.deref.result.now ≡ chars c.args.text.now = c.deref.ensures.value ∙ both.1 in
     record {
-      encoded = text-encoded c.deref.result.now c.args.text.now is c.in-Ok.ensures.cases.1;
-      fits = text-fits c.args.start c.deref.result.now c.args.text.now is c.in-Ok.ensures.cases.1 c.requires;
+      encoded = text-encoded c.deref.result.now c.args.text.now is both.0;
+      fits = text-fits c.args.start c.deref.result.now c.args.text.now is both.0 c.requires;
     }
 
-pub returns-in_ok-characters-in-Ok-clause-only : goal.returns-in_ok-characters-in-Ok-clause-only
-returns-in_ok-characters-in-Ok-clause-only c =
-    let is : c.deref.result.now ≡ chars c.args.text.now = c.deref.ensures.value ∙ c.in_ok-characters-in-Ok.ensures ∙ ap chars c.in-Ok.ensures.cases.0 in
-    only-list c.args.start c.args.text.now c.read_all.result
-    (read-text c.args.start c.deref.result.now c.args.text.now c.read_all.result is c.in-Ok.ensures.cases.1 c.read_all.ensures.read)
+pub returns-in-Ok : goal.returns-in-Ok
+returns-in-Ok c =
+    let both = found-ok c.args.text.now _ c.in-Ok.list c.in-Ok.is c.in_ok-found.ensures in
+    let is : c.deref.result.now ≡ chars c.args.text.now = c.deref.ensures.value ∙ both.1 in
+    let read = read-text c.args.start c.deref.result.now c.args.text.now c.read_all.result is both.0 c.read_all.ensures.read in
+    let refused = refused-text c.args.start c.deref.result.now c.args.text.now c.read_all.result is both.0 c.read_all.ensures.refused in
+    record {
+      some = bytes_read c.args.start c.args.text.now;
+      read = read;
+      only = only-list c.args.start c.args.text.now c.read_all.result read;
+      refused = refused;
+      refused_only = only-refusal c.args.start c.args.text.now c.read_all.result refused;
+    }
 
-pub returns-in_ok-characters-in-Ok-clause-refused_only : goal.returns-in_ok-characters-in-Ok-clause-refused_only
-returns-in_ok-characters-in-Ok-clause-refused_only c =
-    let is : c.deref.result.now ≡ chars c.args.text.now = c.deref.ensures.value ∙ c.in_ok-characters-in-Ok.ensures ∙ ap chars c.in-Ok.ensures.cases.0 in
-    only-refusal c.args.start c.args.text.now c.read_all.result
-    (refused-text c.args.start c.deref.result.now c.args.text.now c.read_all.result is c.in-Ok.ensures.cases.1 c.read_all.ensures.refused)
+pub split_at-requires : goal.split_at-requires
+split_at-requires c = (found-broken c.args.text.now _ c.in-Err.valid c.in-Err.is c.in_ok-found.ensures).1
 
-pub returns-in_err-characters-in-Ok-clause-some : goal.returns-in_err-characters-in-Ok-clause-some
-returns-in_err-characters-in-Ok-clause-some c = bytes_read c.args.start c.args.text.now
+pub returns-in-Err : goal.returns-in-Err
+returns-in-Err c =
+    let place = c.place_behind-place.result in
+    let valid = found-broken c.args.text.now _ c.in-Err.valid c.in-Err.is c.in_ok-found.ensures in
+    let refused = refused-front c.args.start place c.args.text.now c.split_at.result.0.now c.in-Err.valid valid c.split_at.ensures.front c.place_behind-place.ensures in
+    record {
+      some = bytes_read c.args.start c.args.text.now;
+      read = tt;
+      only = tt;
+      refused = refused;
+      refused_only = only-refusal c.args.start c.args.text.now (Err (At (fault place E02))) refused;
+    }
 
-pub returns-in_ok-characters-in-Ok-clause-some : goal.returns-in_ok-characters-in-Ok-clause-some
-returns-in_ok-characters-in-Ok-clause-some c = bytes_read c.args.start c.args.text.now
-
-pub returns-in-Err-clause-some : goal.returns-in-Err-clause-some
-returns-in-Err-clause-some c = bytes_read c.args.start c.args.text.now
+pub returns-in_err-found-clause-some : goal.returns-in_err-found-clause-some
+returns-in_err-found-clause-some c = bytes_read c.args.start c.args.text.now

@@ -4,7 +4,20 @@ use Rattle.utd_lexer.specs.Cutting.{next, run, blank_next}
 use Rattle.utd_lexer.proofs.CutLemmas.{run-append, whole-of, outside-of}
 use Rattle.utd_lexer.proofs.BlankLemmas.{can_be_blank-append}
 use Rattle.utd_lexer.proofs.cutter.Cutter.step.Goals.{else-outside-via-then-outside+else-byte-eq59, else-outside-via-else-outside}
+use Rattle.utd_lexer.proofs.StayLemmas.{stays-so, stays-mode, stays-blank}
 use Rattle.utd_lexer.proofs.cutter.Cutter.step.Goals as goal
+
+pub returns-then-stays-clause-since : goal.returns-then-stays-clause-since
+returns-then-stays-clause-since c bytes h =
+    let m = c.args.self.now.mode in
+    let blank = c.args.self.now.blank in
+    let s = stays-so m blank c.args.byte (sym c.stays.ensures ∙ c.if-stays.true) in
+    (stays-mode m blank c.args.byte bytes s h.0, stays-blank m blank c.args.byte bytes s h.0 h.1)
+
+pub returns-then-stays-clause-ends : goal.returns-then-stays-clause-ends
+returns-then-stays-clause-ends c bytes h =
+    let s = stays-so c.args.self.now.mode c.args.self.now.blank c.args.byte (sym c.stays.ensures ∙ c.if-stays.true) in
+    (λ e. cc, λ w. absurd (s.on w.0))
 
 pub returns-else-outside-clause-ends : goal.returns-else-outside-clause-ends
 returns-else-outside-clause-ends c bytes h = (
