@@ -3,7 +3,7 @@
 
     kernels.py [RUNS] [KIND ROWS]..
 
-Runs ./crates/operator_benchmarks/out/operator_benchmarks, which the gate builds, RUNS times (9 if it is not given); each run sorts the rows of both lists once and times each operator. Of each
+Runs out/operator_benchmarks, which `python3 tools/build --benchmarks` builds, RUNS times (9 if it is not given); each run sorts the rows of both lists once and times each operator. Of each
 the least and the middle run are told, in milliseconds and in sorts of the rows of both lists; and the middle one in sorts of the rows that the operator takes and gives, reckoned
 from that sort by rows times their logarithm. With no kinds named all are measured.
 """
@@ -14,7 +14,7 @@ import subprocess
 import sys
 
 ROOT = os.path.dirname(os.path.dirname(os.path.dirname(os.path.abspath(__file__))))
-PROGRAM = os.environ.get('KERNELS', f'{ROOT}/crates/operator_benchmarks/out/operator_benchmarks')
+PROGRAM = os.environ.get('KERNELS', f'{ROOT}/out/operator_benchmarks')
 CELLS = [(kind, rows)
          for kind, sizes in (('tenth', (1000, 10000, 100000)), ('one', (1000, 10000, 100000)), ('each', (1000, 10000, 100000)), ('cover', (1000, 10000)),
                              ('two', (300, 1000, 3000)), ('quarter', (1000, 10000, 100000)))

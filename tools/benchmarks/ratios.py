@@ -3,7 +3,7 @@
 
     ratios.py [RUNS] [SHAPE ROWS OPERATOR]..
 
-Runs ./crates/utd/out/utd and ./crates/operator_benchmarks/out/operator_benchmarks, which the gate builds. One statement is a run of a script of `using.py` that asks
+Runs crates/utd/out/utd, which the gate builds, and out/operator_benchmarks, which `python3 tools/build --benchmarks` builds. One statement is a run of a script of `using.py` that asks
 the operator many times, less a run of that with no operator, divided by how many times; a sort is what operator_benchmarks prints for as many rows as the operands
 have together. The three runs are made in turn, RUNS times (9 if it is not given), and of each the least and the middle one are taken. With no cells named all are measured.
 """
@@ -15,7 +15,7 @@ import time
 
 ROOT = os.path.dirname(os.path.dirname(os.path.dirname(os.path.abspath(__file__))))
 PROGRAM = os.environ.get('UTD', f'{ROOT}/crates/utd/out/utd')
-SORTS = os.environ.get('SORTS', f'{ROOT}/crates/operator_benchmarks/out/operator_benchmarks')
+SORTS = os.environ.get('SORTS', f'{ROOT}/out/operator_benchmarks')
 CELLS = [(shape, rows, operator)
          for shape, sizes in (('tenth', (1000, 10000, 100000)), ('each', (1000, 10000, 100000)), ('one', (1000, 10000, 100000)), ('two', (300, 1000, 3000)))
          for rows in sizes

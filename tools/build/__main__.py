@@ -1,11 +1,14 @@
-"""Proves and builds the program utd, or runs it unproved: python3 tools/build [--unproved [WORD..]]
+"""Proves and builds the program utd, or runs it unproved: python3 tools/build [--benchmarks] [--unproved [WORD..]]
 
-Without words it has `rt ci` prove, on a copy, the crate utd and those below it, several side by side, and puts the program at crates/utd/out/utd. What
-was proved is kept on this machine beside the kit, for a later build and for the gate; so after an interrupt the next build goes on from there.
-The copy has no wrong bodies and no tests: the gate tries those.
+Without words it has `rt ci` prove, on a copy, the crate utd and those below it, several side by side, and puts the program at crates/utd/out/utd. The copy
+has no wrong bodies and no tests: the gate tries those. A kit that keeps proofs has what was proved for a later build and for the gate, so after an interrupt
+the next build goes on from there; with one that keeps none it begins anew.
 
 With --unproved it compiles the program without its proofs and runs it on standard input with the words behind, which is what `rt try` does, and ends with the
 program's status.
+
+With --benchmarks it does the same for operator_benchmarks, which the gate leaves out, and puts that at out/operator_benchmarks. Its files stand in
+tools/benchmarks/operator_benchmarks, each .rt and .antt with .txt behind its name, since a repository may have none that its gate does not read.
 
 What the two commands say stands in out/build.log; what is told of them goes to standard error. Ends with 70 where there is no program, with 130 at an
 interrupt; then nothing half done is left.
@@ -26,7 +29,9 @@ from forecast import PIECE, UNPROVED, Forecast, minutes, read_table, seconds_her
 
 ROOT = os.path.dirname(os.path.dirname(os.path.dirname(os.path.abspath(__file__))))
 LOG = f'{ROOT}/out/build.log'
-PROGRAM = f'{ROOT}/crates/utd/out/utd'
+BENCHMARKS = 'operator_benchmarks'
+BENCHMARKS_FOLDER = f'{ROOT}/tools/benchmarks/{BENCHMARKS}'
+PROGRAMS = {'utd': f'{ROOT}/crates/utd/out/utd', BENCHMARKS: f'{ROOT}/out/{BENCHMARKS}'}
 # where no line can be written over, the part of the work after which a second forecast is told, once
 FIRST_PART = 0.1
 NO_PROGRAM = 70
@@ -56,15 +61,33 @@ def interrupt(_number, _frame):
 def crates_below(name):
     """The crate and those of the repository that it stands on, lowest first, each with its line of crates.txt and the names on it."""
     lines = lines_of_crates()
+    if name == BENCHMARKS:
+        with open(f'{BENCHMARKS_FOLDER}/line', encoding='utf-8') as file:
+            line = file.read()
+        lines[name] = (line, line.split()[1:])
     wanted = names_below(name, lines)
     return {crate: said for crate, said in lines.items() if crate in wanted}
+
+
+def copy_benchmarks(to):
+    """Copies the crate that stands outside of crates/, with the names that its files have in a crate."""
+    for folder, _, names in os.walk(BENCHMARKS_FOLDER):
+        at = os.path.join(to, os.path.relpath(folder, BENCHMARKS_FOLDER))
+        os.makedirs(at, exist_ok=True)
+        for name in names:
+            if name != 'line':
+                shutil.copyfile(f'{folder}/{name}', f'{at}/{name.removesuffix(".txt")}')
 
 
 def copy_to(room, crates):
     """Copies these crates, as rt ci wants a repository, without what it would try beside their proofs."""
     os.makedirs(f'{room}/.git')
     for crate in crates:
-        shutil.copytree(f'{ROOT}/crates/{crate}', f'{room}/crates/{crate}', symlinks=True, ignore=shutil.ignore_patterns('out', 'must-fail', 'wrong-bodies'))
+        to = f'{room}/crates/{crate}'
+        if crate == BENCHMARKS:
+            copy_benchmarks(to)
+        else:
+            shutil.copytree(f'{ROOT}/crates/{crate}', to, symlinks=True, ignore=shutil.ignore_patterns('out', 'must-fail', 'wrong-bodies'))
     shutil.copyfile(f'{ROOT}/HANDLES', f'{room}/HANDLES')
     with open(f'{room}/crates.txt', 'w', encoding='utf-8') as file:
         file.writelines(line for line, _ in crates.values())
@@ -191,20 +214,21 @@ def forecast_of(crates):
     return Forecast(below, table, processors(), pace(table))
 
 
-def announce(crates, forecast):
+def announce(name, crates, forecast):
     about = minutes(forecast.left)
-    tell(f'proving and building the program, once: {len(crates)} crates')
-    tell(f'about {about} on this machine, as busy as it is now; less where some are proved already')
-    tell(f'the log is {shown(LOG)}; what is proved is kept, also after an interrupt')
-    tell('UTD_UNPROVED=1 runs the program without its proofs')
+    tell(f'proving and building {name if name == BENCHMARKS else "the program"}, once: {len(crates)} crates')
+    tell(f'about {about} on this machine, as busy as it is now; less where the kit has kept proofs')
+    tell(f'the log is {shown(LOG)}; after an interrupt it goes on from there if the kit keeps proofs, and else begins anew')
+    if name == 'utd':
+        tell('UTD_UNPROVED=1 runs the program without its proofs')
 
 
-def put(made, began):
+def put(made, program, began):
     """Puts the program in its place, as old as the sources that were copied."""
-    os.makedirs(os.path.dirname(PROGRAM), exist_ok=True)
-    shutil.copy(made, f'{PROGRAM}.new')
-    os.utime(f'{PROGRAM}.new', (began, began))
-    os.replace(f'{PROGRAM}.new', PROGRAM)
+    os.makedirs(os.path.dirname(program), exist_ok=True)
+    shutil.copy(made, f'{program}.new')
+    os.utime(f'{program}.new', (began, began))
+    os.replace(f'{program}.new', program)
 
 
 def why_not():
@@ -215,24 +239,24 @@ def why_not():
     return (found or lines)[-8:]
 
 
-def build():
+def build(name):
     began = time.time()
     sweep(tempfile.gettempdir())
-    crates = crates_below('utd')
+    crates = crates_below(name)
     forecast = forecast_of(crates)
-    announce(crates, forecast)
+    announce(name, crates, forecast)
     folder = tempfile.mkdtemp(prefix=f'utd-build-{os.getpid()}-')
     try:
         room = f'{folder}/utd'
         copy_to(room, crates)
         progress = Progress(room, crates, forecast)
         status = prove(room, progress)
-        made = f'{room}/crates/utd/out/utd'
+        made = f'{room}/crates/{name}/out/{name}'
         if status or not os.path.isfile(made):
             tell(f'not built, after {clock(progress.elapsed())} min; {shown(LOG)} says why:')
             print('\n'.join(why_not()), file=sys.stderr)
             return NO_PROGRAM
-        put(made, began)
+        put(made, PROGRAMS[name], began)
         tell(f'proved and built in {clock(progress.elapsed())} min')
         return 0
     finally:
@@ -242,9 +266,9 @@ def build():
 # ---------------------------------------------------------------- without proofs
 
 def given(words):
-    """What the program reads: all of standard input, and nothing where it has words, since then it reads nothing."""
+    """What the program reads: all of standard input, and nothing where its words ask for the generated script, since then it reads nothing."""
     file = tempfile.TemporaryFile()
-    if not words:
+    if not any(word.startswith('--generate') for word in words):
         shutil.copyfileobj(sys.stdin.buffer, file)
         file.seek(0)
     return file
@@ -258,15 +282,26 @@ def tell_the_price():
     tell(f'./utd without UTD_UNPROVED proves and builds it in about {minutes(forecast.left)}, once; then runs start at once')
 
 
-def run_unproved(words):
+def run_benchmarks_unproved(words):
+    """Shows that the crate which the gate leaves out still fits those below it. It reads nothing."""
+    with tempfile.TemporaryDirectory(prefix=f'utd-build-{os.getpid()}-') as folder:
+        copy_to(f'{folder}/utd', crates_below(BENCHMARKS))
+        return run_unproved(f'{folder}/utd/crates/{BENCHMARKS}', words, tempfile.TemporaryFile())
+
+
+def run_utd_unproved(words):
     if words[-1:] == ['--']:
         # it asks for nothing, and so the script is read
         words = words[:-1]
     tell_the_price()
+    return run_unproved(f'{ROOT}/crates/utd', words, given(words))
+
+
+def run_unproved(crate, words, script):
     began = time.monotonic()
     command = ['rt', 'try', '--steps', '1', '--seconds', '86400', *(['--', *words] if words else [])]
-    with given(words) as script, open(LOG, 'w+b') as log:
-        rt = subprocess.Popen(command, cwd=f'{ROOT}/crates/utd', stdin=script, stderr=log, start_new_session=True)
+    with script, open(LOG, 'w+b') as log:
+        rt = subprocess.Popen(command, cwd=crate, stdin=script, stderr=log, start_new_session=True)
         try:
             rt.wait()
         finally:
@@ -284,8 +319,22 @@ def run_unproved(words):
     return int(ended[1])
 
 
+def call_for(words):
+    """The call that the words ask for, or None, and whether it runs the program unproved."""
+    name = 'utd'
+    if words[:1] == ['--benchmarks']:
+        name, words = BENCHMARKS, words[1:]
+    if not words:
+        return (lambda: build(name)), False
+    if words[0] != '--unproved':
+        return None, False
+    run = run_utd_unproved if name == 'utd' else run_benchmarks_unproved
+    return (lambda: run(words[1:])), True
+
+
 def main(words):
-    if words[:1] not in ([], ['--unproved']):
+    call, is_unproved = call_for(words)
+    if not call:
         print(__doc__.strip(), file=sys.stderr)
         return 2
     if not shutil.which('rt'):
@@ -295,9 +344,9 @@ def main(words):
         signal.signal(number, interrupt)
     os.makedirs(os.path.dirname(LOG), exist_ok=True)
     try:
-        return run_unproved(words[1:]) if words else build()
+        return call()
     except KeyboardInterrupt:
-        tell('interrupted' if words else 'interrupted; what was proved is kept, and the next run goes on from there')
+        tell('interrupted' if is_unproved else 'interrupted; the next run goes on from there if the kit keeps proofs')
         return INTERRUPTED
 
 

@@ -44,16 +44,19 @@ assert sys.argv[1:] == ['ci'], sys.argv
 if 'RT_STATUS' in os.environ:
     print('rt: low NOT PROVED')
     sys.exit(int(os.environ['RT_STATUS']))
-for crate, what in ('low', 'is kept: an earlier run'), ('middle', 'proved'), ('utd', 'proved'):
+top = 'utd' if os.path.exists('crates/utd') else 'operator_benchmarks'
+for crate, what in ('low', 'is kept: an earlier run'), ('middle', 'proved'), (top, 'proved'):
     os.makedirs(f'crates/{{crate}}/out')
     time.sleep(0.05)
     print('rt:', crate, what, flush=True)
-assert not os.path.exists('crates/other') and not os.path.exists('crates/utd/must-fail')
-with open('crates/utd/out/utd', 'w') as file:
+assert not os.path.exists('crates/other') and not os.path.exists(f'crates/{{top}}/must-fail')
+assert os.path.exists(f'crates/{{top}}/src/main.rt') and f'{{top}}: low middle\\n' in open('crates.txt').read()
+with open(f'crates/{{top}}/out/{{top}}', 'w') as file:
     file.write('#!/bin/sh\\necho program\\n')
-os.chmod('crates/utd/out/utd', 0o755)
+os.chmod(f'crates/{{top}}/out/{{top}}', 0o755)
 '''
 RECORD = '''(piece) 0.250
+     55.0     50   0 low build /tmp/rt-copy-7-x/repo/crates/low pid=9 parent=7
     100.0     90   0 low build /tmp/rt-copy-7-x/repo/crates/low pid=10 parent=7
      30.0     20   0 low build /tmp/rt-copy-7-x/repo/crates/low pid=11 parent=10
      40.4     90   0 low build --test /tmp/rt-copy-7-x/repo/crates/low pid=12 parent=7
@@ -200,6 +203,9 @@ class Building(unittest.TestCase):
         self.write('root/HANDLES', '')
         self.write('root/crates.txt', '# lowest first\nlow:\nother: low\nmiddle: low\nutd: low middle\n')
         self.write('root/tools/build/seconds.txt', '# seconds\n(piece) 0.1\n(unproved) 30\nlow 120\nutd 60\n')
+        self.write('root/crates/utd/src/main.rt', '')
+        self.write('root/tools/benchmarks/operator_benchmarks/line', 'operator_benchmarks: low middle\n')
+        self.write('root/tools/benchmarks/operator_benchmarks/src/main.rt.txt', '')
         self.write('bin/rt', RT)
         os.chmod(f'{self.folder}/bin/rt', 0o755)
 
@@ -235,6 +241,20 @@ class Building(unittest.TestCase):
         price = r'utd: unproved: compiling the program without its proofs takes about .* here, at this and at each further run\n'
         self.assertRegex(errors, f'^{price}utd: .*, once; then runs start at once\nutd: of the program\nutd: unproved: compiled and run in 0:0[0-9] min\n$')
 
+    def test_dump_unproved(self):
+        self.assertEqual(self.run_it('build', '--unproved', '--dump')[0], "['--steps', '1', '--seconds', '86400', '--', '--dump'] PRINT\n")
+        self.assertEqual(self.run_it('build', '--unproved', '--generate', '7')[0], "['--steps', '1', '--seconds', '86400', '--', '--generate', '7'] \n")
+
+    def test_benchmarks(self):
+        output, errors, status = self.run_it('build', '--benchmarks')
+        self.assertEqual((output, status), ('', 0))
+        self.assertRegex(errors, r'^utd: proving and building operator_benchmarks, once: 3 crates\n')
+        self.assertEqual(subprocess.run([f'{self.root}/out/operator_benchmarks'], capture_output=True).stdout, b'program\n')
+        self.assertEqual(sorted(os.listdir(self.folder)), ['bin', 'root'])
+        output, errors, status = self.run_it('build', '--benchmarks', '--unproved', 'cells')
+        self.assertEqual((output, status), ("['--steps', '1', '--seconds', '86400', '--', 'cells'] \n", 1))
+        self.assertEqual(self.run_it('build', '--benchmark')[2], 2)
+
     def test_no_kit(self):
         os.remove(f'{self.folder}/bin/rt')
         os.symlink(sys.executable, f'{self.folder}/bin/python3')
@@ -245,6 +265,7 @@ class Building(unittest.TestCase):
         self.write('record', RECORD)
         output, errors, status = self.run_it('prices', 'table', '../record', '--most', '1')
         self.assertEqual((output[:len(PRICES)], errors, status), (PRICES, '', 0))
+        self.assertEqual(self.run_it('prices', 'table', '../record', '../record', '--most', '1')[0], output)
         self.assertEqual(self.run_it('prices', 'seconds', '../record'), ('', '', 0))
         with open(f'{self.root}/tools/build/seconds.txt', encoding='utf-8') as file:
             lines = [line for line in file.read().splitlines() if not line.startswith('#')]

@@ -1,8 +1,8 @@
 """Prices a run of the gate by crate.
 
     .ci/run & python3 tools/prices watch RECORD $!
-    python3 tools/prices table RECORD [--most N]
-    python3 tools/prices seconds RECORD
+    python3 tools/prices table RECORD.. [--most N]
+    python3 tools/prices seconds RECORD..
 
 With watch it notes every second what each check has used that the process of this number started, until that ends; without a number those of the whole machine,
 until it is interrupted. It only reads /proc. The file RECORD has a line for each check: its seconds of processor, those on the clock, the niceness, the crate, the
@@ -11,6 +11,8 @@ seconds of processor are the first line.
 
 With table it prints the record as a table in Markdown, the dearest crates first: N of them and all others as one line. A crate's proof, its wrong bodies
 (with the proofs that they begin with and end with), its tests and what was compiled of it stand apart. A run from nothing is meant: what was kept is not there.
+Where a session has several runs, each of which keeps what the earlier ones proved, name their records in their order: of a check that was made again, as one that was
+interrupted, the last counts.
 
 With seconds it writes tools/build/seconds.txt, from which ./utd tells how long its build will take: the proofs of the crates below the program. What the record lacks
 keeps its seconds, in units of the record's machine.
@@ -33,6 +35,7 @@ TICK = os.sysconf('SC_CLK_TCK')
 COMPILERS = ('rattle', 'rattle-x64', 'rattle-link')
 FLAGS = ('--test', '--incremental', '--only', '--crate-checked')
 KINDS = ('proof', 'wrong bodies', 'tests', 'compiled')
+ONCE = ('proof', 'tests')
 # the crate by which the speed of a machine is told
 UNIT = 'utd_lexer'
 SECONDS_BETWEEN_PIECES = 60
@@ -146,6 +149,16 @@ def kind_of(command, flags, folder):
     return 'compiled' if '--crate-checked' in flags else 'proof'
 
 
+def read_records(paths):
+    """The seconds of the piece of work, None where it was not timed last, and the seconds by crate and kind; of each what the last record that has it says."""
+    piece, seconds = None, {}
+    for path in paths:
+        piece, found = read_record(path)
+        for crate, kinds in found.items():
+            seconds.setdefault(crate, dict.fromkeys(KINDS, 0.0)).update({kind: used for kind, used in kinds.items() if used})
+    return piece, seconds
+
+
 def read_record(path):
     """The seconds of the piece of work, None where it was not timed, and the seconds by crate and kind."""
     with open(path, encoding='utf-8') as file:
@@ -159,7 +172,8 @@ def read_record(path):
         # what a check starts is counted with it
         if crate != '?' and kind and parent not in numbers:
             kinds = seconds.setdefault(crate, dict.fromkeys(KINDS, 0.0))
-            kinds[kind] += float(used)
+            # a gate proves a crate and its tests once each
+            kinds[kind] = float(used) + (0.0 if kind in ONCE else kinds[kind])
     if not seconds:
         raise ValueError(f'{path} has no check of the gate')
     return piece, seconds
@@ -202,8 +216,8 @@ def told(seconds):
     return f'{first}{"; ".join(parts)}.\n\nThe longest chain: {" ".join(f"`{name}`" for name in names if seconds.get(name))}.'
 
 
-def print_table(path, most):
-    _, seconds = read_record(path)
+def print_table(paths, most):
+    _, seconds = read_records(paths)
     dearest = sorted(seconds.items(), key=lambda item: -sum(item[1].values()))
     print(f'| Crate | {" | ".join(kind.capitalize() for kind in KINDS)} | All |\n|{"---|" * (len(KINDS) + 2)}')
     for crate, kinds in dearest[:most]:
@@ -215,8 +229,8 @@ def print_table(path, most):
     print(f'\n{told(seconds)}')
 
 
-def write_seconds(path):
-    piece, seconds = read_record(path)
+def write_seconds(paths):
+    piece, seconds = read_records(paths)
     if piece is None:
         print('tools/prices: the record has no piece of work; it is timed now, here', file=sys.stderr)
         piece = statistics.median(time_piece(time.process_time) for _ in range(9))
@@ -234,15 +248,17 @@ def write_seconds(path):
 
 def call_for(words):
     """The call that the words ask for, or None."""
-    verb, path, more = words[:1], words[1:2], words[2:]
-    if not path:
+    verb, paths, most = words[:1], words[1:], None
+    if verb == ['table'] and paths[-2:-1] == ['--most'] and paths[-1].isdecimal():
+        paths, most = paths[:-2], int(paths[-1])
+    if not paths or paths[0].startswith('-'):
         return None
-    if verb == ['watch'] and (not more or len(more) == 1 and more[0].isdecimal()):
-        return lambda: watch(path[0], int(more[0]) if more else None)
-    if verb == ['table'] and (not more or len(more) == 2 and more[0] == '--most' and more[1].isdecimal()):
-        return lambda: print_table(path[0], int(more[1]) if more else None)
-    if verb == ['seconds'] and not more:
-        return lambda: write_seconds(path[0])
+    if verb == ['watch'] and (len(paths) == 1 or len(paths) == 2 and paths[1].isdecimal()):
+        return lambda: watch(paths[0], int(paths[1]) if paths[1:] else None)
+    if verb == ['table']:
+        return lambda: print_table(paths, most)
+    if verb == ['seconds']:
+        return lambda: write_seconds(paths)
     return None
 
 

@@ -5,7 +5,7 @@ Prints, with file and line,
   each lemma's statement that stands in two crates (variables by their order, explicit or not),
   each definition of specs/ that stands under one name in two crates,
   each number of a limit that stands elsewhere than at its constant, in code or in a definition (below 1,000 where something is at most so much),
-and ends with status 1 where it finds any. The product is all crates but tests, benchmarks and rows, without the files that tools/grammar writes.
+and ends with status 1 where it finds any. The product is all crates but tests and rows, without the files that tools/grammar writes.
 What stands twice for a reason is in apart.py. With --test it tries its own parts.
 """
 import sys

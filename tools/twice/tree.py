@@ -1,10 +1,10 @@
-"""The product's files: crates that are no tests, benchmarks or rows, and no file that tools/grammar writes."""
+"""The product's files: crates that are no tests or rows, and no file that tools/grammar writes."""
 import glob
 import os
 import re
 
 ROOT = os.path.dirname(os.path.dirname(os.path.dirname(os.path.abspath(__file__))))
-APART = re.compile(r'(_tests|_benchmarks)$|^utd_(rows|faults)$')
+APART = re.compile(r'_tests$|^utd_(rows|faults)$')
 WRITTEN = 'Written by tools/grammar'
 
 
