@@ -9,7 +9,7 @@ use crate::runs::first_wrong_piece;
 use std::{fs, io};
 
 /// The files of data/, by subject.
-const FILES: [&str; 48] = [
+const FILES: [&str; 51] = [
     "arranged.txt",
     "ask.txt",
     "assign.txt",
@@ -24,6 +24,7 @@ const FILES: [&str; 48] = [
     "extreme.txt",
     "fault.txt",
     "from_sql.txt",
+    "grammar.txt",
     "history.txt",
     "inside.txt",
     "insertion.txt",
@@ -48,10 +49,12 @@ const FILES: [&str; 48] = [
     "run.txt",
     "scalar.txt",
     "script.txt",
+    "shape.txt",
     "source.txt",
     "summarize.txt",
     "terminate.txt",
     "text.txt",
+    "token.txt",
     "type.txt",
     "typing.txt",
     "update.txt",
