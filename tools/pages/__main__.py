@@ -71,12 +71,13 @@ def wanted():
 
 
 def unrun():
-    """The files of rows that the program does not run, and their number where it is not the one that is wanted of it."""
-    run = re.findall(r'^    "(.*)",$', text_of(f'{ROWS}/src/main.rt'), re.M)
-    paths = paths_of(f'{ROWS}/data/*.txt')
-    faults = [f'{path}: src/main.rt does not name it' for path in paths if os.path.basename(path) not in run]
-    number = f'{sum(len(rows_of(path)) for path in paths)} scripts agree\n'
-    return faults + ([] if text_of(f'{ROWS}/stdout') == number else [f'{ROWS}/stdout: there are {number}'.rstrip()])
+    """The files of data/ that the program does not run, and the number of rows where it is not the one that is wanted of it."""
+    run = re.findall(r'"([a-z_/]+\.txt)"', text_of(f'{ROWS}/src/main.rt'))
+    paths = [*paths_of(f'{ROWS}/data/*.txt'), *paths_of(f'{ROWS}/data/streams/*.txt')]
+    faults = [f'{path}: src/main.rt does not name it' for path in [*paths, *paths_of(f'{ROWS}/data/faults/*.txt')]
+              if os.path.relpath(path, f'{ROWS}/data') not in run]
+    number = f'{sum(len(rows_of(path)) for path in paths)} scripts agree'
+    return faults + ([] if number in text_of(f'{ROWS}/stdout').splitlines() else [f'{ROWS}/stdout: there are {number}'])
 
 
 def lacking(scripts):

@@ -4,7 +4,7 @@ import os
 import re
 
 ROOT = os.path.dirname(os.path.dirname(os.path.dirname(os.path.abspath(__file__))))
-APART = re.compile(r'_tests$|^utd_(rows|faults)$')
+APART = re.compile(r'_tests$|^utd_rows$')
 WRITTEN = 'Written by tools/grammar'
 
 

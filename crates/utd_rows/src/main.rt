@@ -1,15 +1,25 @@
-//! Runs the scripts of data/ in pieces of several lengths, and tells those that write something else than what stands beside them.
+//! Runs the scripts of data/, and tells those that write something else than what stands beside them: in pieces of several lengths, over streams that are
+//! told, and over streams of which each call fails in turn.
 #![tactic(auto)]
 
+mod accepting;
+mod failing;
+mod faults;
+mod long;
 mod rows;
 mod runs;
+mod script;
+mod scripts;
+mod streams;
+mod stuck;
 
-use crate::rows::Rows;
-use crate::runs::first_wrong_piece;
-use std::{fs, io};
+use crate::accepting::is_accepting;
+use crate::faults::right_faults;
+use crate::scripts::right_rows;
+use std::io;
 
 /// The files of data/, by subject.
-const FILES: [&str; 51] = [
+const FILES: [&str; 52] = [
     "arranged.txt",
     "ask.txt",
     "assign.txt",
@@ -37,6 +47,7 @@ const FILES: [&str; 51] = [
     "list_constraint.txt",
     "list_four.txt",
     "literal.txt",
+    "many.txt",
     "moment.txt",
     "name.txt",
     "pack.txt",
@@ -66,27 +77,38 @@ const FILES: [&str; 51] = [
 /// The file whose scripts are run with `--dump`.
 const DUMPS: &str = "dump.txt";
 
-/// Runs each script of a file, tells those that come out wrong, and gives how many come out right.
-fn right_in(rt: &HostRuntime, file: &str) -> io::Result<u64> {
-    let text = fs::read_to_string(rt, file)?;
-    let rows = Rows::of(rt.alloc(), text.as_str())?;
+/// The files of scripts whose words and streams are told.
+const STREAMS: [&str; 3] = [
+    "streams/failing.txt",
+    "streams/long.txt",
+    "streams/words.txt",
+];
+
+/// The files of scripts of which each call fails in turn, each with the status of its script.
+const FAULTS: [(&str, u8); 2] = [("faults/suppliers.txt", 0), ("faults/changes.txt", 1)];
+
+/// How many scripts come out right.
+fn right_scripts(rt: &HostRuntime) -> io::Result<u64> {
     let mut right: u64 = 0;
-    for row in &rows.list {
-        match first_wrong_piece(rt, row, *file == *DUMPS)? {
-            None => right = right.saturating_add(1),
-            Some(piece) => {
-                let title = row.title.as_str();
-                println!(rt; "{file}: {title}: differs in pieces of {piece}")?;
-            }
-        }
+    for file in FILES {
+        let word = if *file == *DUMPS { "--dump" } else { "" };
+        right = right.saturating_add(right_rows(rt, file, word)?);
+    }
+    for file in STREAMS {
+        right = right.saturating_add(right_rows(rt, file, "")?);
     }
     Ok(right)
 }
 
 fn main(rt: HostRuntime) -> io::Result<()> {
-    let mut right: u64 = 0;
-    for file in FILES {
-        right = right.saturating_add(right_in(&rt, file)?);
+    let right = right_scripts(&rt)?;
+    println!(rt; "{right} scripts agree")?;
+    if !is_accepting(rt.alloc()) {
+        println!(rt; "accept differs")?;
     }
-    println!(rt; "{right} scripts agree")
+    let mut right: u64 = 0;
+    for (file, status) in FAULTS {
+        right = right.saturating_add(right_faults(&rt, file, status)?);
+    }
+    println!(rt; "{right} runs came out as told")
 }

@@ -1,58 +1,86 @@
-// Runs of a row's script.
-use crate::rows::Row;
-use std::alloc::{AllocError, Global};
+// Runs over streams in memory, and over an output that takes nothing.
+ghost use Rattle.std.specs.Prelude.{◌≡◌};
+
+use crate::streams::Streams;
+use crate::stuck::StuckSink;
+use point_core::Steps;
+use std::alloc::AllocError;
 use std::marker::Brand;
-use std::sync::ledger::Blank;
-use utd_io::{MemorySink, MemorySource};
-use utd_tests::{outcome, whole};
+use std::sync::ledger::{Blank, Ledger};
+use utd_io::{MemorySink, MemorySource, Sink};
+use utd_program::run;
 
-/// The most bytes that a script of a row writes.
-const ROOM: usize = 20_000;
-
-/// The words of the command line.
-fn words(alloc: Global, dumps: bool) -> Result<Vec<String>, AllocError> {
-    let mut words = Vec::new(alloc);
-    if dumps {
-        words.push(String::from_str(alloc, "--dump")?)?;
-    }
-    Ok(words)
+/// What a run is given, but for its streams.
+#[derive(Clone, Copy)]
+pub(crate) struct Given<'a> {
+    pub(crate) words: &'a [String],
+    pub(crate) script: &'a [u8],
 }
 
-/// Whether the script of the row comes out right where it is read and written in pieces of so many bytes.
-fn is_right(
+/// What has to come of it: the output, the line of the status, and the status.
+#[derive(Clone, Copy)]
+pub(crate) struct Wanted<'a> {
+    pub(crate) output: &'a [u8],
+    pub(crate) line: &'a [u8],
+    pub(crate) status: u8,
+}
+
+/// Runs with a counter of steps that nobody reads; gives the status.
+fn play<K: Sink, L: Ledger>(
     rt: &HostRuntime,
-    row: &Row,
     words: &[String],
-    script: &str,
-    piece: usize,
+    input: &mut MemorySource,
+    out: &mut K,
+    err: &mut MemorySink,
+    blank: Blank,
+) -> u8
+    requires name { blank.name ≡ L.name }
+    requires parts { blank.parts ≡ L.parts }
+    requires one { blank.parts ≡ 1 }
+{
+    let mut steps = Steps::<L>::new(blank, rt);
+    run(rt.alloc(), words, input, out, err, &mut steps).status
+}
+
+/// Whether a run over these streams comes out as is wanted.
+pub(crate) fn comes_out(
+    rt: &HostRuntime,
+    given: Given<'_>,
+    streams: &Streams,
+    wanted: Wanted<'_>,
 ) -> Result<bool, AllocError> {
     let alloc = rt.alloc();
-    let piece = piece.max(1);
-    let script = script.as_bytes().to_vec(alloc)?;
-    let mut input = MemorySource::new(script, piece, Vec::new(alloc));
-    let mut out = MemorySink::new(vec![in alloc; 0u8; ROOM]?, piece, Vec::new(alloc));
-    let mut err = MemorySink::new(Vec::new(alloc), 100, Vec::new(alloc));
-    let status = outcome::<Brand>(rt, words, &mut input, &mut out, &mut err, Blank::new(1)).status;
-    Ok(status == row.status && *out.bytes() == *row.output.as_bytes() && err.bytes().is_empty())
+    let mut input = streams.source(alloc, given.script)?;
+    let mut out = streams.sink(alloc)?;
+    let mut err = streams.line_sink(alloc)?;
+    let status = play::<MemorySink, Brand>(
+        rt,
+        given.words,
+        &mut input,
+        &mut out,
+        &mut err,
+        Blank::new(1),
+    );
+    Ok(status == wanted.status && *out.bytes() == *wanted.output && *err.bytes() == *wanted.line)
 }
 
-/// The first length of pieces in which the script comes out wrong. One that is written short, since it is long, is run once.
-pub(crate) fn first_wrong_piece(
+/// The status of a run whose output takes nothing.
+pub(crate) fn status_where_stuck(
     rt: &HostRuntime,
-    row: &Row,
-    dumps: bool,
-) -> Result<Option<usize>, AllocError> {
-    let words = words(rt.alloc(), dumps)?;
-    let script = whole(rt.alloc(), row.script.as_str())?;
-    let pieces: &[usize] = if script.len() == row.script.len() {
-        &[1, 7, 13, 65_536]
-    } else {
-        &[13]
-    };
-    for piece in pieces {
-        if !is_right(rt, row, &words, script.as_str(), *piece)? {
-            return Ok(Some(*piece));
-        }
-    }
-    Ok(None)
+    given: Given<'_>,
+    streams: &Streams,
+) -> Result<u8, AllocError> {
+    let alloc = rt.alloc();
+    let mut input = streams.source(alloc, given.script)?;
+    let mut out = StuckSink::new();
+    let mut err = streams.line_sink(alloc)?;
+    let status = play::<StuckSink, Brand>(
+        rt,
+        given.words,
+        &mut input,
+        &mut out,
+        &mut err,
+        Blank::new(1),
+    );
+    Ok(status)
 }

@@ -1,6 +1,6 @@
 // The kinds of calls that fail, and how a run ends in which one fails.
-use crate::runs::Streams;
 use crate::script::Script;
+use crate::streams::Streams;
 use std::alloc::{AllocError, Global};
 
 /// The most bytes that a read gives.
@@ -23,6 +23,17 @@ pub(crate) struct Ending {
     pub(crate) status: u8,
 }
 
+impl Ending {
+    /// The line that is written beside the status.
+    pub(crate) fn line(self) -> &'static [u8] {
+        match self.status {
+            3 => b"utd: read failed\n",
+            4 => b"utd: write failed\n",
+            _ => b"",
+        }
+    }
+}
+
 impl Failing {
     pub(crate) fn name(self) -> &'static str {
         match self {
@@ -34,24 +45,23 @@ impl Failing {
 
     /// Streams on which this call fails.
     pub(crate) fn streams(self, call: u64) -> Streams {
+        let none = Streams {
+            read_piece: READ,
+            ..Streams::of(ANSWER)
+        };
         match self {
             Failing::Read => Streams {
-                read_piece: READ,
                 failing_read: call,
-                write_piece: ANSWER,
-                failing_write: 0,
+                ..none
             },
             Failing::ByteWrite => Streams {
-                read_piece: READ,
-                failing_read: 0,
                 write_piece: 1,
                 failing_write: call,
+                ..none
             },
             Failing::AnswerWrite => Streams {
-                read_piece: READ,
-                failing_read: 0,
-                write_piece: ANSWER,
                 failing_write: call,
+                ..none
             },
         }
     }
