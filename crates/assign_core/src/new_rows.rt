@@ -18,11 +18,11 @@ use crate::changes::none_yet;
 use crate::filling::fill_target;
 use crate::hashed::{Hashed, hashes_at};
 use crate::preparing::{Ready, admit};
+use crate::removal::remove;
 use crate::settling::settle;
 use crate::turnover::{Known, Turnover, value_named};
 use change_rows::Exchange;
 use point_core::{Memory, Steps};
-use relation_core::absent;
 use std::alloc::Global;
 use std::sync::ledger::Ledger;
 use tree_core::{Relvar, Relvars};
@@ -175,7 +175,7 @@ fn ready_rows(
         let changes = only_new(alloc, relvars, at, rows)?;
         return Ok(Some(Ready::Values(changes)));
     }
-    let new = fresh(alloc, value, &rows)?;
+    let new = fresh(alloc, value, rows)?;
     match new {
         Some(exchange) => Ok(Some(Ready::Rows(at, exchange))),
         None => Ok(None),
@@ -225,13 +225,14 @@ fn only_new(
     Ok(changes)
 }
 
-// The rows that the value does not have, and none that go, if there is room for them.
-fn fresh(alloc: Global, value: &Relation, rows: &Relation) -> Result<Option<Exchange>, Memory>
-    requires { rows.now.heading ≡ value.now.heading }
-    ensures { IfOk result (λ o. IfSome o (λ x. IsFresh value.now rows.now x)) }
+// The rows that the value does not have, none of which is copied, and none that go, if there is room for them.
+fn fresh(alloc: Global, value: &Relation, rows: Relation) -> Result<Option<Exchange>, Memory>
+    requires { rows.heading ≡ value.now.heading }
+    ensures { IfOk result (λ o. IfSome o (λ x. IsFresh value.now rows x)) }
 {
     let room = MOST_ROWS - value.rows().len();
-    let come = absent(alloc, rows, value)?;
+    let mut come = rows;
+    remove(&mut come, alloc, value);
     if come.rows().len() > room {
         return Ok(None);
     }

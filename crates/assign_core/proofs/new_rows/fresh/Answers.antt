@@ -7,10 +7,10 @@ use Rattle.assign_core.proofs.new_rows.fresh.Goals as goal
 pub returns : goal.returns
 returns c =
     let value = c.args.value.now in
-    let rows = c.args.rows.now in
-    let come = c.in_ok-come.come in
+    let rows = c.args.rows in
+    let come = c.remove.new.value in
     let gone = c.in_ok-gone.gone in
-    let new = c.in_ok-come.ensures.1 in
+    let new = ap (λ (r : Relation). r.rows) c.remove.ensures in
     let none : gone.rows ≡ [] = ap (λ (r : Relation). r.rows) c.in_ok-gone.ensures in
     let nothing : length gone.rows ≡ 0 = ap (λ (r : List Row). length r) none in
     let here : length c.rows.result.now ≡ length value.rows = ap (λ (r : List Row). length r) c.rows.ensures.rows in
@@ -22,7 +22,7 @@ returns c =
     let less = c.if-rows-room.false in
     let few = c.rows.ensures.relation.few in
     record {
-      come = c.in_ok-come.ensures.0 ∙ c.requires;
+      come = ap (λ (r : Relation). r.heading) c.remove.ensures ∙ c.requires;
       new = new;
       gone = c.in_ok-gone.ensures;
       few = omega (arith, here, there, both, less, few);
