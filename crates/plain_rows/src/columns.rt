@@ -54,18 +54,27 @@ fn made_name(alloc: Global, bytes: &[u8]) -> Option<Name>
     }
 }
 
+/// The name that the word is, if it is no reserved one.
+pub(crate) fn word_name(alloc: Global, bytes: &[u8]) -> Option<Name>
+    ensures same { IfSome result (λ n. n ≡ bytes.now) }
+    ensures named { IfSome result (λ n. IsNameWord n) }
+{
+    let name = made_name(alloc, bytes)?;
+    if is_name_word(&name) {
+        Some(name)
+    } else {
+        None
+    }
+}
+
 /// The name at the front, which is no reserved word, and what is behind it.
 pub(crate) fn name_at(alloc: Global, text: &[u8]) -> Option<(Name, &[u8])>
     ensures begins { IfSome result (λ r. Begins text.now ((Word, r.0) ∷ []) r.1.now) }
     ensures named { IfSome result (λ r. IsNameWord r.0) }
 {
     let (bytes, rest) = word(text)?;
-    let name = made_name(alloc, bytes)?;
-    if is_name_word(&name) {
-        Some((name, rest))
-    } else {
-        None
-    }
+    let name = word_name(alloc, bytes)?;
+    Some((name, rest))
 }
 
 fn point_type(text: &[u8]) -> Option<AnyType> {

@@ -6,9 +6,9 @@ ghost use Rattle.plain_rows.specs.Names.{IsNameWord, IsPlainShape};
 ghost use Rattle.plain_rows.specs.Tuples.{target, relation_word, open_brace, close_brace, semicolon, are_words, BeginsWithTuples};
 
 use crate::arranged::relation_of;
-use crate::columns::{columns, name_at};
+use crate::columns::{columns, name_at, word_name};
 use crate::rows::more_rows;
-use crate::scan::{past_assign, past_space, past_symbol, past_word};
+use crate::scan::{past_assign, past_space, past_symbol, past_word, word};
 use crate::tuples::tuple;
 use std::alloc::Global;
 use value_core::{Kind, Name, Relation, Row};
@@ -40,9 +40,10 @@ fn set(alloc: Global, text: &[u8]) -> Option<(Name, &[u8])>
     ensures begins { IfSome result (λ r. Begins text.now (target true r.0) r.1.now) }
     ensures named { IfSome result (λ r. IsNameWord r.0) }
 {
-    let (name, behind) = name_at(alloc, text)?;
+    let (bytes, behind) = word(text)?;
     let here = past_space(behind);
     let rest = past_assign(here)?;
+    let name = word_name(alloc, bytes)?;
     Some((name, rest))
 }
 
