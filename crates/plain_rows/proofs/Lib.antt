@@ -1,4 +1,5 @@
 pub mod BeginLemmas
+pub mod CommentLemmas
 pub mod ConstantLemmas
 pub mod DoubledLemmas
 pub mod IntegerLemmas

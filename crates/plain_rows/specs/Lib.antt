@@ -1,4 +1,5 @@
 pub mod Brought
+pub mod Comments
 pub mod Lexemes
 pub mod Names
 pub mod Numbers

@@ -3,6 +3,7 @@
 
 mod arranged;
 mod columns;
+mod comments;
 mod constants;
 mod dates;
 mod doubled;

@@ -5,6 +5,8 @@ ghost use Rattle.utd_lexer.specs.Parts.{is_space};
 ghost use Rattle.utd_lexer.specs.declared.token.TokenKind.TheVariants.{Word, Symbol};
 ghost use Rattle.plain_rows.specs.Lexemes.{Begins, begins_word, continues_word, ends_before, is_equal_sign, is_lone, is_word};
 
+use crate::comments::past_comment;
+
 fn is_space(byte: u8) -> bool
     ensures value { result ≡ is_space byte }
     ensures small { result ≡ true → byte < 128 }
@@ -46,12 +48,23 @@ fn past_one_space(text: &[u8]) -> Option<&[u8]>
     if is_space(*first) { Some(rest) } else { None }
 }
 
-/// What is behind the white space at the front.
+/// What is behind one byte of white space, or one comment.
+fn past_one_gap(text: &[u8]) -> Option<&[u8]>
+    ensures begins { IfSome result (λ rest. Begins text.now [] rest.now) }
+    ensures less { IfSome result (λ rest. length rest.now < length text.now) }
+{
+    match past_one_space(text) {
+        Some(rest) => Some(rest),
+        None => past_comment(text),
+    }
+}
+
+/// What is behind the white space and the comments at the front.
 pub(crate) fn past_space(text: &[u8]) -> &[u8]
     ensures { Begins text.now [] result.now }
 {
     let mut rest = text;
-    'space: while let Some(behind) = past_one_space(rest) {
+    'space: while let Some(behind) = past_one_gap(rest) {
         rest = behind;
     }
     rest
