@@ -8,6 +8,7 @@ pub mod MoreLemmas
 pub mod NumberLemmas
 pub mod QuotedLemmas
 pub mod RowLemmas
+pub mod SwapLemmas
 pub mod SymbolLemmas
 pub mod TokenLemmas
 pub mod TupleLemmas

@@ -2,15 +2,13 @@
 --     shape-makes      they make themselves as a heading
 --     row-stays      and values beside them are in the order of the heading
 use Rattle.std.proofs.Common.{◌≡◌, ◌≤◌, ◌<◌, ℕ, suc, List, [], ◌∷◌, ◌++◌, map, length, Bool, true, false, ◌||◌, ◌&&◌, Some, None, Option, cond, Ordering, Less, Equal, Greater, refl, sym, ◌∙◌, ap, ap₂, subst, arith, append_assoc, bytes_eq}
-use Rattle.std.specs.Prelude.{slice_index_or, nat_le, nat_lt}
-use Rattle.std.specs.List.{list_all, All}
-use Rattle.std.proofs.lemmas.List.Sums.{AllPass-from_list_all}
+use Rattle.std.specs.Prelude.{slice_index_or, nat_le}
 use Rattle.std.specs.Ordering.{is_eq, ordering_reverse, nat_cmp, match_ordering}
 use Rattle.meaning_core.proofs.MadeLemmas.{own_name}
 use Rattle.std.specs.Cmp.Lexicographic.{nat_list_cmp_total, texts_ties, slice_cmp}
 use Rattle.std.specs.BTreeMap.{insert_entry}
 use Rattle.std.specs.Str.Lossy.{utf8_valid_len}
-use Rattle.std.proofs.lemmas.Bool.{true≢false, and_parts, le-leb, ltb-true, eq-eqb}
+use Rattle.std.proofs.lemmas.Bool.{true≢false, and_parts, le-leb, eq-eqb}
 use Rattle.std.proofs.lemmas.List.{append-nil}
 use Rattle.std.proofs.lemmas.Str.{utf8_valid_len-IsUtf8}
 use Rattle.plain_rows.specs.Names.{IsNameWord, AreNameWords, AllBehind, Ascending, IsPlainShape}
@@ -92,7 +90,3 @@ row-stays (a ∷ shape) [] up e = absurd (omega (arith, e))
 row-stays (a ∷ shape) (v ∷ vs) up e =
     ap₂ (λ (x : Value) (xs : List Value). x ∷ xs) (ap (λ t. slice_index_or (v ∷ vs) (cond t 0 (suc (place_among (map (λ b. b.0) shape) a.0))) (truth false)) (own_name a.0))
     (later-places a (map (λ b. b.0) shape) v vs shape up.0 ∙ row-stays shape vs up.1 (omega (arith, e)))
-
--- places that are all below the number of a row's values
-pub below : (places : List ℕ) (row : List Value) (n : ℕ) → n ≡ length row → list_all (λ p. nat_lt p n) places ≡ true → All (λ (i : ℕ). i < length row) places
-below places row n e h k d within = subst (λ z. slice_index_or places k d < z) e (ltb-true _ n (AllPass-from_list_all (λ p. nat_lt p n) places h k d within))

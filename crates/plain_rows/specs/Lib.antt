@@ -3,6 +3,7 @@ pub mod Comments
 pub mod Lexemes
 pub mod Names
 pub mod Numbers
+pub mod Swaps
 pub mod Texts
 pub mod Tuples
 pub mod Written

@@ -1,18 +1,18 @@
 // Rows in the order of their heading, and the relation that they are.
-ghost use Rattle.std.specs.Prelude.{◌≡◌, ◌∷◌, [], ◌++◌, List, map, IfSome, nat_lt};
-ghost use Rattle.std.specs.List.{list_all};
+ghost use Rattle.std.specs.Prelude.{◌≡◌, ◌∷◌, [], ◌++◌, List, length, map, IfSome};
 ghost use Rattle.value_core.specs.Headings.{position_of};
 ghost use Rattle.value_core.specs.Values.{rows_of};
 ghost use Rattle.relation_core.specs.Agreement.{part_of};
 ghost use Rattle.constant_laws.specs.Insertions.{MakesHeading, in_heading};
 ghost use Rattle.plain_rows.specs.Lexemes.{Lexeme};
 ghost use Rattle.plain_rows.specs.Names.{IsPlainShape};
+ghost use Rattle.plain_rows.specs.Swaps.{numbers, swapped};
 ghost use Rattle.plain_rows.specs.Tuples.{AreTuples};
 ghost use Rattle.plain_rows.specs.Brought.{HasRowsOf};
 
 use crate::headings::{ascend, heading_of};
 use crate::rows::pushed;
-use relation_core::part;
+use crate::swaps::{swap_all, swaps_to};
 use std::alloc::Global;
 use value_core::{Heading, Kind, Name, Relation, Row, position};
 
@@ -42,34 +42,27 @@ fn places_of(
     Some(places)
 }
 
-/// Whether each place is below the count.
-fn are_below(places: &[usize], count: usize) -> bool
-    ensures { result ≡ list_all (λ place. nat_lt place count) places.now }
+/// The row with its values exchanged, none of which is copied; none where there are not as many as places.
+fn arranged_row(row: Row, swaps: &[(usize, usize)], places: &[usize]) -> Option<Row>
+    requires { swapped swaps.now (numbers (length places.now)) ≡ places.now }
+    ensures { IfSome result (λ r. r ≡ part_of places.now row) }
 {
-    places.iter().all(|place| *place < count)
-}
-
-/// The row's values at the places; none where it has none at one of them.
-fn arranged_row(alloc: Global, row: &Row, places: &[usize]) -> Option<Row>
-    ensures { IfSome result (λ r. r ≡ part_of places.now row.now) }
-{
-    if are_below(places, row.values().len()) {
-        match part(alloc, row, places) {
-            Ok(made) => Some(made),
-            Err(_) => None,
-        }
-    } else {
-        None
+    let mut values = row.into_values();
+    if values.len() != places.len() {
+        return None;
     }
+    swap_all(&mut values, swaps);
+    Some(Row::make(values))
 }
 
 /// The values at the places of each row.
-fn arranged_rows(alloc: Global, rows: &[Row], places: &[usize]) -> Option<Vec<Row>>
-    ensures { IfSome result (λ v. v.items ≡ map (part_of places.now) rows.now) }
+fn arranged_rows(alloc: Global, rows: Vec<Row>, places: &[usize]) -> Option<Vec<Row>>
+    ensures { IfSome result (λ v. v.items ≡ map (part_of places.now) rows.items) }
 {
+    let swaps = swaps_to(alloc, places)?;
     let mut list = Vec::new(alloc);
     for row in rows {
-        let made = arranged_row(alloc, row, places)?;
+        let made = arranged_row(row, swaps.as_slice(), places)?;
         list = pushed(list, made)?;
     }
     Some(list)
@@ -90,7 +83,7 @@ fn arranged(
         return Some(rows);
     }
     let places = places_of(alloc, columns, heading.attributes())?;
-    let made = arranged_rows(alloc, rows.as_slice(), places.as_slice())?;
+    let made = arranged_rows(alloc, rows, places.as_slice())?;
     Some(made)
 }
 

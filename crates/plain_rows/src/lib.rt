@@ -15,6 +15,7 @@ mod rows;
 mod scan;
 mod spans;
 mod statement;
+mod swaps;
 mod tuples;
 
 pub use statement::{PlainRows, read};

@@ -1,8 +1,13 @@
-use Rattle.std.proofs.Common.{length, sym, ◌∙◌, ap}
+use Rattle.std.proofs.Common.{◌≡◌, length, map, sym, ◌∙◌, ap}
 use Rattle.std.proofs.lemmas.List.{length-map}
 use Rattle.value_core.specs.Plain.{plain}
-use Rattle.plain_rows.proofs.OrderLemmas.{below}
+use Rattle.plain_rows.specs.Swaps.{swapped}
+use Rattle.plain_rows.proofs.SwapLemmas.{part-swapped, swapped-map}
 use Rattle.plain_rows.proofs.arranged.arranged_row.Goals as goal
 
-pub part-requires : goal.part-requires
-part-requires c k d within = below _ _ _ (sym (length-map c.values.result.now plain) ∙ ap length c.values.ensures) (sym c.are_below.ensures ∙ c.if-are_below.true) k d within
+pub returns : goal.returns
+returns c =
+    let (ss, old) = (c.args.swaps.now, c.into_values-values.result.items) in
+    let same = c.into_values-values.ensures in
+    let long : length c.args.row ≡ length c.args.places.now = ap length (sym same) ∙ (length-map old plain ∙ cc) in
+    c.make.ensures ∙ (ap (map plain) c.swap_all.ensures ∙ (sym (swapped-map plain ss old) ∙ (ap (swapped ss) same ∙ part-swapped ss c.args.places.now c.args.row c.requires long)))
