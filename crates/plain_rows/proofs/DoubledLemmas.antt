@@ -1,7 +1,7 @@
 -- Texts in which quotes are doubled.
 --     body-end, body-more      up to the last quote, and up to a doubled one
 --     TextSoFar      the text up to a doubled quote
-use Rattle.std.proofs.Common.{◌≡◌, ℕ, List, [], ◌∷◌, ◌++◌, take, drop, Bool, true, false, cond, eqb, ltb, not, ◌&&◌, ◌||◌, map, refl, sym, ◌∙◌, ap, subst, append_assoc}
+use Rattle.std.proofs.Common.{◌≡◌, ℕ, List, [], ◌∷◌, ◌++◌, take, drop, Bool, true, false, eqb, ltb, not, ◌||◌, map, sym, ◌∙◌, ap, subst, append_assoc}
 use Rattle.std.proofs.lemmas.Bool.{and_parts, not-true}
 use Rattle.std.proofs.lemmas.List.{take_at, drop_at}
 use Rattle.std.proofs.lemmas.Str.{IsUtf8-append, IsUtf8-from_ascii, chars-append, encodes-chars}
@@ -9,6 +9,7 @@ use Rattle.std.specs.List.{prefix_len}
 use Rattle.std.specs.Str.{chars, IsUtf8}
 use Rattle.utd_lexer.specs.declared.token.TokenKind.TheVariants.{Text}
 use Rattle.utd_lexer.specs.Tokens.{Lexed, token, past, spelling, doubled, token_at, AllOf}
+use Rattle.utd_lexer.proofs.TextLemmas.{doubled-append}
 use Rattle.utd_lexer.proofs.WordLemmas.{taken}
 use Rattle.utd_syntax.specs.Literals.{has_control}
 use Rattle.plain_rows.specs.Lexemes.{Begins, lexeme_of, ends_before, is_quote, is_text_byte}
@@ -21,14 +22,6 @@ quote-utf8 : IsUtf8 (39 ∷ [])
 quote-utf8 = IsUtf8-from_ascii (39 ∷ []) (one-ascii 39 quote-small)
 
 -- ---- quotes that are doubled
-
-doubled-by : (t : Bool) (c : ℕ) (a b m : List ℕ) → m ≡ a ++ b → cond t (39 ∷ (39 ∷ m)) (c ∷ m) ≡ cond t (39 ∷ (39 ∷ a)) (c ∷ a) ++ b
-doubled-by true c a b m e = ap (λ z. 39 ∷ (39 ∷ z)) e
-doubled-by false c a b m e = ap (λ z. c ∷ z) e
-
-doubled-append : (a b : List ℕ) → doubled (a ++ b) ≡ doubled a ++ doubled b
-doubled-append [] b = refl
-doubled-append (c ∷ a) b = doubled-by (eqb c 39) c (doubled a) (doubled b) (doubled (a ++ b)) (doubled-append a b)
 
 control-append : (a b : List ℕ) → AllOf is_text_byte a → has_control b ≡ false → has_control (a ++ b) ≡ false
 control-append [] b h e = e

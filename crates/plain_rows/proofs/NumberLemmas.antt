@@ -1,5 +1,5 @@
 -- Integers at the front of bytes.
-use Rattle.std.proofs.Common.{◌≡◌, ℕ, ◌+◌, ◌-◌, ◌*◌, ◌<◌, ◌≤◌, leb, List, [], ◌∷◌, ◌++◌, length, take, drop, get_or, true, false, eqb, ltb, not, refl, sym, ◌∙◌, ap, subst, arith}
+use Rattle.std.proofs.Common.{◌≡◌, ℕ, ◌+◌, ◌-◌, ◌*◌, ◌<◌, ◌≤◌, leb, List, [], ◌∷◌, ◌++◌, length, take, drop, get_or, true, ltb, not, refl, sym, ◌∙◌, ap, subst, arith}
 use Rattle.std.proofs.lemmas.Bool.{ltb-true, leb-true, and_parts, not-true}
 use Rattle.std.proofs.lemmas.List.{take_at, drop_at, take_more}
 use Rattle.std.proofs.lemmas.Str.{chars-nil}
@@ -9,7 +9,7 @@ use Rattle.std.specs.List.{prefix_len}
 use Rattle.std.specs.Str.{chars, IsAscii}
 use Rattle.utd_lexer.specs.declared.token.TokenKind.TheVariants.{Integer}
 use Rattle.utd_lexer.specs.Tokens.{AllOf, IsOfKind, EndsAt}
-use Rattle.utd_lexer.proofs.WordLemmas.{taken}
+use Rattle.utd_lexer.proofs.WordLemmas.{integer-kind, taken}
 use Rattle.utd_syntax.specs.Literals.{value_after, value_of}
 use Rattle.plain_rows.specs.Lexemes.{Begins, ends_before}
 use Rattle.plain_rows.specs.Numbers.{BeginsWithNumber}
@@ -41,12 +41,8 @@ digits-end v (d ∷ rest) h =
     let parts = and_parts (ltb d 128) (not (is_ascii_digit d)) h in
     subst (EndsAt Integer v) (sym (chars-one d rest (ltb-true d 128 parts.0))) (not-true (is_ascii_digit d) parts.1)
 
-digits-kind : (front : List ℕ) → 0 < length front → AllOf is_ascii_digit front → IsOfKind Integer front
-digits-kind [] some all = absurd (omega (arith, some))
-digits-kind (d ∷ front) some all = all
-
 begins-split : (v rest : List ℕ) → 0 < length v → AllOf is_ascii_digit v → ends_before is_ascii_digit rest ≡ true → Begins (v ++ rest) ((Integer, v) ∷ []) rest
-begins-split v rest some all ends = begins-token Integer v rest (all-small v all) (all-small v all) (digits-kind v some all, digits-end v rest ends)
+begins-split v rest some all ends = begins-token Integer v rest (all-small v all) (all-small v all) (integer-kind v some all, digits-end v rest ends)
 
 pub begins-digits : (text front rest : List ℕ) (n : ℕ) → 0 < n → n ≡ prefix_len is_ascii_digit text → front ≡ take n text → rest ≡ drop n text → ends_before is_ascii_digit rest ≡ true → Begins text ((Integer, front) ∷ []) rest
 begins-digits text front rest n some h t d ends =
