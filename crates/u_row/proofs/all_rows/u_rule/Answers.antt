@@ -26,8 +26,8 @@ returns-in-Some-clause-cost g c =
     let few = cuts_below (length types) cuts 0 (sides_numbers n c.args.rows.now) (sides_long g.T.PointType.IsPoint n types c.args.rows.now c.requires.boxes) in
     no_pack_bound (count_cells cuts 0 (sides_numbers n c.args.rows.now)) (length types) c.args.steps.now c.give_rows.new.steps (count_cuts cuts 0 (sides_numbers n c.args.rows.now)) c.give_rows.ensures.cost few
 
-pub returns-clause-cost : goal.returns-clause-cost
-returns-clause-cost g c =
+pub returns-in-None-clause-cost : goal.returns-in-None-clause-cost
+returns-in-None-clause-cost g c =
     let n = g.T.PointType.number_of in
     let cuts = g.R.RowRule.cuts_of c.args.rule.now in
     let types = c.args.types.now in
@@ -35,8 +35,8 @@ returns-clause-cost g c =
     rule_bound (length c.in_ok-cells.cells.items) (count_cells cuts 0 (sides_numbers n c.args.rows.now)) (length types) c.args.steps.now c.give_rows.new.steps c.pack.new.steps (count_cuts cuts 0 (sides_numbers n c.args.rows.now))
     c.give_rows.ensures.cost few c.in_ok-cells.ensures.few c.pack.ensures.numbering
 
-pub returns-clause-rows : goal.returns-clause-rows
-returns-clause-rows g c =
+pub returns-in-None-clause-rows : goal.returns-in-None-clause-rows
+returns-in-None-clause-rows g c =
     let n = g.T.PointType.number_of in
     let types = c.args.types.now in
     let k = length types in
@@ -47,8 +47,8 @@ returns-clause-rows g c =
     if_ok (λ v. map (row_numbers n) v.items ≡ packed_boxes row_cmp k (map (row_numbers n) cells)) (λ v. IsRuleForm row_cmp k f boxes (map (row_numbers n) v.items))
     (λ v e. subst (IsRuleForm row_cmp k f boxes) (sym e) form) c.pack.result c.pack.ensures.rows
 
-pub returns-clause-limit : goal.returns-clause-limit
-returns-clause-limit g c = λ e.
+pub returns-in-None-clause-limit : goal.returns-in-None-clause-limit
+returns-in-None-clause-limit g c = λ e.
     let n = g.T.PointType.number_of in
     let types = c.args.types.now in
     let k = length types in
