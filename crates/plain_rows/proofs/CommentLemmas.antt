@@ -86,15 +86,15 @@ no-end x y r behind ys h is on star slash =
     let so : r ≡ 42 ∷ 47 ∷ ys = is ∙ ap₂ (λ (a : ℕ) (b : List ℕ). a ∷ b) star (on ∙ ap (λ z. z ∷ ys) slash) in
     true≢false (sym (ap is_end so) ∙ h)
 
-ends-more : (block : List ℕ) (x y : ℕ) → LacksEnd (block ++ x ∷ []) → (x ≡ 42 → y ≢ 47) → LacksEnd ((block ++ x ∷ []) ++ y ∷ [])
+ends-more : (xs : List ℕ) (x y : ℕ) → LacksEnd (xs ++ x ∷ []) → (x ≡ 42 → y ≢ 47) → LacksEnd ((xs ++ x ∷ []) ++ y ∷ [])
 ends-more [] x y h n = (n, tt)
 ends-more (a ∷ []) x y h n = (h.0, (n, tt))
-ends-more (a ∷ b ∷ block) x y h n = (h.0, ends-more (b ∷ block) x y h.1 n)
+ends-more (a ∷ b ∷ xs) x y h n = (h.0, ends-more (b ∷ xs) x y h.1 n)
 
-ends-less : (block : List ℕ) (x : ℕ) → LacksEnd (block ++ x ∷ []) → LacksEnd block
+ends-less : (xs : List ℕ) (x : ℕ) → LacksEnd (xs ++ x ∷ []) → LacksEnd xs
 ends-less [] x h = tt
 ends-less (a ∷ []) x h = tt
-ends-less (a ∷ b ∷ block) x h = (h.0, ends-less (b ∷ block) x h.1)
+ends-less (a ∷ b ∷ xs) x h = (h.0, ends-less (b ∷ xs) x h.1)
 
 pub block-none : (bytes : List ℕ) → IsBlockPart bytes bytes
 block-none bytes = record { block = []; is = refl; small = IsAscii-nil; lacks = λ y ys e. tt }

@@ -21,7 +21,7 @@ use Rattle.plain_rows.proofs.QuotedLemmas.{quote-small, part-chars, all-unquoted
 quote-utf8 : IsUtf8 (39 ∷ [])
 quote-utf8 = IsUtf8-from_ascii (39 ∷ []) (one-ascii 39 quote-small)
 
--- ---- quotes that are doubled
+-- ---- no control characters
 
 control-append : (a b : List ℕ) → AllOf is_text_byte a → has_control b ≡ false → has_control (a ++ b) ≡ false
 control-append [] b h e = e

@@ -1,5 +1,5 @@
 -- Integers at the front of bytes.
-use Rattle.std.proofs.Common.{◌≡◌, ℕ, ◌+◌, ◌-◌, ◌*◌, ◌<◌, ◌≤◌, leb, List, [], ◌∷◌, ◌++◌, length, take, drop, get_or, true, ltb, not, refl, sym, ◌∙◌, ap, subst, arith}
+use Rattle.std.proofs.Common.{◌≡◌, ℕ, ◌+◌, ◌-◌, ◌*◌, ◌<◌, ◌≤◌, leb, List, [], ◌∷◌, ◌++◌, length, take, drop, get_or, true, false, eqb, ltb, not, refl, sym, ◌∙◌, ap, subst, arith}
 use Rattle.std.proofs.lemmas.Bool.{ltb-true, leb-true, and_parts, not-true}
 use Rattle.std.proofs.lemmas.List.{take_at, drop_at, take_more}
 use Rattle.std.proofs.lemmas.Str.{chars-nil}
@@ -8,8 +8,8 @@ use Rattle.std.specs.Char.{is_ascii_digit}
 use Rattle.std.specs.List.{prefix_len}
 use Rattle.std.specs.Str.{chars, IsAscii}
 use Rattle.utd_lexer.specs.declared.token.TokenKind.TheVariants.{Integer}
-use Rattle.utd_lexer.specs.Tokens.{AllOf, IsOfKind, EndsAt}
-use Rattle.utd_lexer.proofs.WordLemmas.{integer-kind, taken}
+use Rattle.utd_lexer.specs.Tokens.{AllOf, EndsAt}
+use Rattle.utd_lexer.proofs.WordLemmas.{taken, integer-kind}
 use Rattle.utd_syntax.specs.Literals.{value_after, value_of}
 use Rattle.plain_rows.specs.Lexemes.{Begins, ends_before}
 use Rattle.plain_rows.specs.Numbers.{BeginsWithNumber}

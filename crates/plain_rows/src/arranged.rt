@@ -1,5 +1,5 @@
 // Rows in the order of their heading, and the relation that they are.
-ghost use Rattle.std.specs.Prelude.{◌≡◌, ◌∷◌, [], ◌++◌, List, length, map, IfSome};
+ghost use Rattle.std.specs.Prelude.{◌≡◌, List, length, map, IfSome};
 ghost use Rattle.value_core.specs.Headings.{position_of};
 ghost use Rattle.value_core.specs.Values.{rows_of};
 ghost use Rattle.relation_core.specs.Agreement.{part_of};
@@ -12,20 +12,9 @@ ghost use Rattle.plain_rows.specs.Brought.{HasRowsOf};
 
 use crate::headings::{ascend, heading_of};
 use crate::rows::pushed;
-use crate::swaps::{swap_all, swaps_to};
+use crate::swaps::{number_pushed, swap_all, swaps_to};
 use std::alloc::Global;
 use value_core::{Heading, Kind, Name, Relation, Row, position};
-
-/// The places with one more.
-fn place_pushed(places: Vec<usize>, place: usize) -> Option<Vec<usize>>
-    ensures { IfSome result (λ v. v.items ≡ places.items ++ place ∷ []) }
-{
-    let mut places = places;
-    match places.push(place) {
-        Ok(()) => Some(places),
-        Err(_) => None,
-    }
-}
 
 /// For each attribute where its name stands among the columns.
 fn places_of(
@@ -37,7 +26,7 @@ fn places_of(
 {
     let mut places = Vec::new(alloc);
     for attribute in attributes {
-        places = place_pushed(places, position(columns, &attribute.0))?;
+        places = number_pushed(places, position(columns, &attribute.0))?;
     }
     Some(places)
 }

@@ -10,5 +10,5 @@ returns-then-ascend c parts h = rows-in-order _ _ _ parts c.requires.plain c.req
 pub returns : goal.returns
 returns c parts h =
     let e = c.in_ok-places.ensures ∙ ap (λ z. map (λ a. position_of c.args.columns.now a.0) z) c.attributes.ensures.list in
-    let m = c.in_ok-made.ensures ∙ (ap (λ z. map (part_of z) c.as_slice.result.now) c.as_slice-2.ensures.value ∙ ap (λ z. map (part_of c.in_ok-places.places.items) z) c.as_slice.ensures.value) in
+    let m = c.in_ok-made.ensures ∙ ap (λ z. map (part_of z) c.args.rows.items) c.as_slice.ensures.value in
     rows-arranged _ _ _ _ _ e m
