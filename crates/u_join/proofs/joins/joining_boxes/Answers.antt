@@ -35,7 +35,7 @@ label_places-requires-clause-there g c =
 pub joined_form-requires-clause-right : goal.joined_form-requires-clause-right
 joined_form-requires-clause-right g c =
     let ours = c.attributes-ours.ensures.list ∙ c.heading.ensures.heading in
-    let types = c.as_slice.ensures.value ∙ c.in_ok-types.ensures ∙ (λ t. types_at (ours t) c.args.here.now) in
+    let types = c.as_slice-3.ensures.value ∙ c.in_ok-types.ensures ∙ (λ t. types_at (ours t) c.args.here.now) in
     let same = same_types c.args.left.now.heading c.args.right.now.heading c.args.here.now c.args.there.now c.requires.same in
     subst (λ (ts : List AnyType). All (λ b. IsBox IsPointOf ts b.1) c.in_ok-r.r.items) (same ∙ sym types) c.in_ok-r.ensures.boxes
 
@@ -43,11 +43,11 @@ pub returns-clause-rows : goal.returns-clause-rows
 returns-clause-rows g c =
     let ours = c.attributes-ours.ensures.list ∙ c.heading.ensures.heading in
     let theirs = c.attributes-theirs.ensures.list ∙ c.heading-2.ensures.heading in
-    let sides = ap length (c.as_slice.ensures.value ∙ c.in_ok-types.ensures) ∙ length-map c.args.here.now (λ i. type_of (kind_at c.attributes-ours.result.now i)) in
+    let sides = ap length (c.as_slice-3.ensures.value ∙ c.in_ok-types.ensures) ∙ length-map c.args.here.now (λ i. type_of (kind_at c.attributes-ours.result.now i)) in
     let l = c.in_ok-l.ensures.rows in
     let r = c.in_ok-r.ensures.rows in
-    let here = c.as_slice-2.ensures.value ∙ c.in_ok-here_key.ensures ∙ (λ t. inner c.args.here.now (common_positions (ours t) (ours t) (theirs t))) in
-    let there = c.as_slice-3.ensures.value ∙ c.in_ok-there_key.ensures ∙ (λ t. inner c.args.there.now (common_positions (theirs t) (ours t) (theirs t))) in
+    let here = c.as_slice.ensures.value ∙ c.in_ok-here_key.ensures ∙ (λ t. inner c.args.here.now (common_positions (ours t) (ours t) (theirs t))) in
+    let there = c.as_slice-2.ensures.value ∙ c.in_ok-there_key.ensures ∙ (λ t. inner c.args.there.now (common_positions (theirs t) (ours t) (theirs t))) in
     let places = c.in_ok-places.ensures ∙ (λ t. inner (positions_of_both (length (ours t)) c.args.here.now c.args.there.now) (positions_in (ours t ++ theirs t) (c.attributes.ensures.list t))) in
     let e = c.in_ok-form.ensures.rows ∙ (λ t. packed_boxes row_cmp (sides t) (joined_boxes (here t) (there t) (joined_label (places t)) (unpacked_boxes row_cmp (sides t) (l t)) (unpacked_boxes row_cmp (sides t) (r t)))) in
     IfOk-weaker c.in_limit.result (λ v. v.items ≡ c.in_ok-form.form.items) _ (λ v same. ap (map (row_numbers number)) same ∙ e) c.in_limit.ensures.same
@@ -56,18 +56,18 @@ pub returns-clause-limit : goal.returns-clause-limit
 returns-clause-limit g c =
     let ours = c.attributes-ours.ensures.list ∙ c.heading.ensures.heading in
     let theirs = c.attributes-theirs.ensures.list ∙ c.heading-2.ensures.heading in
-    let sides = ap length (c.as_slice.ensures.value ∙ c.in_ok-types.ensures) ∙ length-map c.args.here.now (λ i. type_of (kind_at c.attributes-ours.result.now i)) in
+    let sides = ap length (c.as_slice-3.ensures.value ∙ c.in_ok-types.ensures) ∙ length-map c.args.here.now (λ i. type_of (kind_at c.attributes-ours.result.now i)) in
     let l = c.in_ok-l.ensures.rows in
     let r = c.in_ok-r.ensures.rows in
-    let here = c.as_slice-2.ensures.value ∙ c.in_ok-here_key.ensures ∙ (λ t. inner c.args.here.now (common_positions (ours t) (ours t) (theirs t))) in
-    let there = c.as_slice-3.ensures.value ∙ c.in_ok-there_key.ensures ∙ (λ t. inner c.args.there.now (common_positions (theirs t) (ours t) (theirs t))) in
+    let here = c.as_slice.ensures.value ∙ c.in_ok-here_key.ensures ∙ (λ t. inner c.args.here.now (common_positions (ours t) (ours t) (theirs t))) in
+    let there = c.as_slice-2.ensures.value ∙ c.in_ok-there_key.ensures ∙ (λ t. inner c.args.there.now (common_positions (theirs t) (ours t) (theirs t))) in
     let places = c.in_ok-places.ensures ∙ (λ t. inner (positions_of_both (length (ours t)) c.args.here.now c.args.there.now) (positions_in (ours t ++ theirs t) (c.attributes.ensures.list t))) in
     let e = c.in_ok-form.ensures.rows ∙ (λ t. packed_boxes row_cmp (sides t) (joined_boxes (here t) (there t) (joined_label (places t)) (unpacked_boxes row_cmp (sides t) (l t)) (unpacked_boxes row_cmp (sides t) (r t)))) in
     λ h. subst (λ n. most_rows < n) (sym (length-map c.in_ok-form.form.items (row_numbers number)) ∙ ap length e) (c.in_limit.ensures.limit h)
 
 pub returns-clause-cost : goal.returns-clause-cost
 returns-clause-cost g c =
-    let sides = ap length (c.as_slice.ensures.value ∙ c.in_ok-types.ensures) ∙ length-map c.args.here.now (λ i. type_of (kind_at c.attributes-ours.result.now i)) in
+    let sides = ap length (c.as_slice-3.ensures.value ∙ c.in_ok-types.ensures) ∙ length-map c.args.here.now (λ i. type_of (kind_at c.attributes-ours.result.now i)) in
     let l = c.in_ok-l.ensures.rows in
     let r = c.in_ok-r.ensures.rows in
     let many = sym (length-map c.in_ok-l.l.items (row_numbers number)) ∙ ap length l ∙ length-map c.args.left.now.rows (boxed c.args.here.now) in
