@@ -268,6 +268,9 @@ pub fn declare_history(alloc: Global, h: &HistoryData) -> Result<Vec<Declaration
     let since = since_relvar(alloc, h)?;
     let during = during_relvar(alloc, h)?;
     let view = history_view(alloc, h)?;
-    let list = vec![in alloc; since, during, view]?;
+    let mut list = Vec::with_capacity(alloc, 3)?;
+    list.push(since)?;
+    list.push(during)?;
+    list.push(view)?;
     Ok(list)
 }
