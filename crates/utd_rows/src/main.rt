@@ -20,11 +20,11 @@ use std::io;
 
 /// The files of data/, by subject.
 const FILES: [&str; 52] = [
+    "affected.txt",
     "arranged.txt",
     "ask.txt",
     "assign.txt",
     "compare.txt",
-    "concerned.txt",
     "constraint.txt",
     "database_constraint.txt",
     "drop.txt",
