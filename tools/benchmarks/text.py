@@ -3,10 +3,10 @@
 
     text.py [TIMES]
 
-runs the program on four scripts, TIMES each (3 if not said), and prints the least seconds of processor and the most megabytes of memory: a literal of 1 MB;
-15 MB of literals in 15 statements; 16 MB of small statements; and a table of 100,000 rows, where the figure is what a second PRINT of it adds. SQLite
-reads the rows of the first two from INSERT statements of as many rows each, into a table in memory with the same key; what Python takes to
-start falls out. The program is crates/utd/out/utd, as the gate leaves it.
+runs the program on five scripts, TIMES each (3 if not said), and prints the least seconds of processor and the most megabytes of memory: a literal of 1 MB;
+15 MB of literals in 15 statements; 16 MB of small statements that ask, and as many that insert a row each; and a table of 100,000 rows, where the figure is
+what a second PRINT of it adds. SQLite reads the rows of the first two from INSERT statements of as many rows each, into a table in memory with the same key,
+and as many small statements of its own; what Python takes to start falls out. The program is crates/utd/out/utd, as the gate leaves it.
 """
 import os
 import subprocess
@@ -24,6 +24,9 @@ MEASURE = '--measure'
 IN_A_LITERAL = 25_000
 LITERALS = 15
 PRINTED = 100_000
+SMALL = 16_000_000
+# rows that single insertions put into one relvar
+SINGLE = 1_000
 
 
 def numbers(rows):
@@ -49,10 +52,24 @@ def emptied(rows):
     return HEAD + ''.join(part.replace('INSERT R', 'R :=', 1) for part in parts)
 
 
-def small(size):
-    """Statements that ask for little, so many bytes of them."""
-    one = 'ASK IS_EMPTY (RELATION {A INTEGER} {});\n'
-    return one * (size // len(one))
+def asked(size):
+    """Statements that ask for little, so many bytes of them, and as many for SQLite."""
+    one, other = 'ASK IS_EMPTY (RELATION {A INTEGER} {});\n', 'SELECT NOT EXISTS (SELECT 1 AS a WHERE FALSE);\n'
+    many = size // len(one)
+    return one * many, other * many
+
+
+def added(size):
+    """Insertions of a row each, each relvar emptied before it has too many: so many bytes of them, and as many for SQLite."""
+    one, other, many, length = ['VAR R RELATION {A INTEGER};\n'], ['CREATE TABLE r (a INTEGER);\n'], 0, 0
+    while length < size:
+        if many % SINGLE == SINGLE - 1:
+            one.append('DELETE R WHERE TRUE;\n')
+            other.append('DELETE FROM r;\n')
+        one.append(f'INSERT R RELATION {{TUPLE {{A {many}}}}};\n')
+        other.append(f'INSERT INTO r VALUES ({many});\n')
+        many, length = many + 1, length + len(one[-1])
+    return ''.join(one), ''.join(other)
 
 
 def measure(words):
@@ -101,7 +118,9 @@ def main():
     for name, script, sql in ('a literal', one, in_sql(rows[:IN_A_LITERAL], IN_A_LITERAL)), ('literals in 15 statements', many, in_sql(rows, IN_A_LITERAL)):
         told(f'{name}, {len(script) / 1e6:.1f} MB', *least(times, [PROGRAM], script))
         told('  SQLite', least(times, sqlite, sql)[0] - start)
-    told('small statements, 16 MB', *least(times, [PROGRAM], small(16_000_000)))
+    for name, (script, sql) in ('small questions', asked(SMALL)), ('insertions of a row', added(SMALL)):
+        told(f'{name}, {len(script) / 1e6:.0f} MB', *least(times, [PROGRAM], script))
+        told('  SQLite', least(times, sqlite, sql)[0] - start)
     once, twice = (least(times, [PROGRAM], printed + 'PRINT R;\n' * n) for n in (1, 2))
     told('a table of 100,000 rows', twice[0] - once[0], twice[1])
 
