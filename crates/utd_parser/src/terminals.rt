@@ -1,5 +1,5 @@
 // What a token is to the grammar.
-ghost use Rattle.std.specs.Prelude.{◌≡◌, ℕ, List, ◌∷◌};
+ghost use Rattle.std.specs.Prelude.{◌≡◌, ℕ, List, [], ◌∷◌};
 ghost use Rattle.utd_syntax.specs.Table.{same_bytes};
 ghost use Rattle.utd_syntax.specs.Terminals as terminals;
 ghost use Rattle.utd_syntax.specs.Terminals.{spelled_among, word_terminal, symbol_terminal};
@@ -120,6 +120,10 @@ fn spelling(terminal: Terminal) -> &'static [u8]
 pub fn is_same(left: &[u8], right: &[u8]) -> bool
     ensures { result ≡ same_bytes left.now right.now }
 {
+    // Most that are compared differ in their length.
+    if left.len() != right.len() {
+        return false;
+    }
     left == right
 }
 
@@ -127,16 +131,14 @@ pub fn is_same(left: &[u8], right: &[u8]) -> bool
 fn spelled_among(list: &[Terminal], other: Terminal, bytes: &[u8]) -> Terminal
     ensures { result ≡ spelled_among list.now other bytes.now }
 {
-    match list.split_first() {
-        None => other,
-        Some((first, rest)) => {
-            if is_same(spelling(*first), bytes) {
-                *first
-            } else {
-                spelled_among(rest, other, bytes)
-            }
+    let mut rest = list;
+    while let Some((first, more)) = rest.split_first() {
+        if is_same(spelling(*first), bytes) {
+            return *first;
         }
+        rest = more;
     }
+    other
 }
 
 // The reserved words that begin with this byte.
@@ -247,6 +249,32 @@ fn symbols_from(first: u8) -> &'static [Terminal]
     }
 }
 
+// The symbol that is this byte alone.
+fn lone_symbol(byte: u8) -> Terminal
+    ensures { result ≡ symbol_terminal (byte ∷ []) }
+{
+    match byte {
+        b'(' => Terminal::Open,
+        b')' => Terminal::Close,
+        b'[' => Terminal::OpenBracket,
+        b']' => Terminal::CloseBracket,
+        b'{' => Terminal::OpenBrace,
+        b'}' => Terminal::CloseBrace,
+        b',' => Terminal::Comma,
+        b';' => Terminal::Semicolon,
+        b':' => Terminal::Colon,
+        b'=' => Terminal::Equal,
+        b'<' => Terminal::Less,
+        b'>' => Terminal::Greater,
+        b'+' => Terminal::Plus,
+        b'-' => Terminal::Dash,
+        b'*' => Terminal::Star,
+        b'/' => Terminal::Slash,
+        b'.' => Terminal::Dot,
+        _ => Terminal::Finish,
+    }
+}
+
 fn word_terminal(bytes: &[u8]) -> Terminal
     ensures { result ≡ word_terminal bytes.now }
 {
@@ -261,7 +289,13 @@ fn symbol_terminal(bytes: &[u8]) -> Terminal
 {
     match bytes.split_first() {
         None => Terminal::Finish,
-        Some((first, _)) => spelled_among(symbols_from(*first), Terminal::Finish, bytes),
+        Some((first, rest)) => {
+            if rest.is_empty() {
+                lone_symbol(*first)
+            } else {
+                spelled_among(symbols_from(*first), Terminal::Finish, bytes)
+            }
+        }
     }
 }
 
