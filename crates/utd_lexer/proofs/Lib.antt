@@ -1,3 +1,4 @@
+pub mod AsciiLemmas
 pub mod BlankLemmas
 pub mod CutLemmas
 pub mod EncodingLemmas

@@ -16,15 +16,8 @@ use Rattle.point_core.specs.Faults.{fault}
 use Rattle.utd_lexer.specs.Tokens.{Fits, place_after, past, Gap, blank, block, line, last, spelling_of_gap, IsToken, spelling, token_at, NoPrefix, Lexed, done, gap, token, Stuck, here, past_gap, past_token}
 use Rattle.utd_lexer.specs.Prefixes.{GapFront, PrefixIs}
 use Rattle.utd_lexer.specs.declared.prefix.Prefix.{Prefix}
-use Rattle.utd_lexer.specs.Reading.{AreCharacters, IsValidFront, Stops, Reads, Refuses}
+use Rattle.utd_lexer.specs.Reading.{AreCharacters, IsValidFront, SoFar, Stops, Reads, Refuses}
 use Rattle.utd_lexer.proofs.PlaceLemmas.{chars-step}
-
--- what is known of the text up to a place: what is read from there on, and where that stops, is so of the whole
-pub record SoFar (start : Place) (cs : List ℕ) (at : ℕ) (place : Place) (out : List Token) : Type 0 where
-  pub within : at ≤ length cs
-  pub fits : Fits place (length (encode_utf8_all (drop at cs)))
-  pub read : (ts : List Token) → Lexed place (drop at cs) ts → Lexed start cs (out ++ ts)
-  pub stuck : (q : Place) → Stuck place (drop at cs) q → Stuck start cs q
 
 -- the front of what is left, cut off
 record Cut (cs : List ℕ) (at : ℕ) (place : Place) (prefix rest : List ℕ) (n : ℕ) : Type 0 where

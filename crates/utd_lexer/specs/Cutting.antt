@@ -1,5 +1,5 @@
 -- How the cutter takes one byte after another: where it stands, and what bytes it was given.
-use Rattle.std.specs.Prelude.{◌≡◌, ℕ, List, [], ◌∷◌, ◌++◌, if◌then◌else◌, ◌==◌, Bool, true, false, ◌&&◌, ◌||◌, not}
+use Rattle.std.specs.Prelude.{◌≡◌, ◌≢◌, ℕ, List, [], ◌∷◌, ◌++◌, if◌then◌else◌, ◌==◌, Bool, true, false, ◌&&◌, ◌||◌, not}
 use Rattle.utd_lexer.specs.declared.cutter.Mode.{Mode}
 use Rattle.utd_lexer.specs.declared.cutter.Mode.TheVariants.{Between, Slash, Text, Block, Star, Line}
 use Rattle.utd_lexer.specs.declared.cutter.Cutter.{Cutter}
@@ -48,6 +48,18 @@ abbrev pub is_resting : Mode → Bool
 is_resting Between = true
 is_resting Line = true
 is_resting _ = false
+
+-- a byte with which no text and no comment begins, and no statement ends: none of ' / ;
+abbrev pub is_plain : ℕ → Bool
+is_plain b = not (b == 39) && (not (b == 47) && not (b == 59))
+
+-- the byte changes nothing: the bytes stand after it where they stood, are blank or not as they were, and it ends no statement
+abbrev pub Passes : Cutter → ℕ → Type 0
+Passes c b = (next c.mode b ≡ c.mode) × (blank_next c.mode c.blank b ≡ c.blank) × (is_outside c.mode ≡ true → b ≢ 59)
+
+abbrev pub AllPass : Cutter → List ℕ → Type 0
+AllPass c [] = Unit {0}
+AllPass c (b ∷ bs) = Passes c b × AllPass c bs
 
 -- whether the byte changes nothing
 abbrev pub stays : Cutter → ℕ → Bool

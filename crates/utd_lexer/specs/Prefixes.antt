@@ -8,7 +8,10 @@ use Rattle.utd_lexer.specs.declared.prefix.First.{First}
 use Rattle.utd_lexer.specs.declared.prefix.First.TheVariants.{Word as OfWord, Integer as OfInteger, Lone, Other}
 use Rattle.utd_lexer.specs.declared.prefix.Turn.{Turn}
 use Rattle.utd_lexer.specs.declared.prefix.Turn.TheVariants.{Ends, Quote, Plain}
+use Rattle.utd_lexer.specs.declared.ascii.Step.{Step}
+use Rattle.utd_lexer.specs.declared.ascii.Step.TheVariants as steps
 use Rattle.std.specs.Char.{is_ascii_digit}
+use Rattle.utd_lexer.specs.Parts.{Lacks}
 use Rattle.utd_lexer.specs.Tokens.{starts, among, IsToken, spelling, Gap, spelling_of_gap, IsGap, NoPrefix, EndsAt}
 
 -- the length of the token of this kind at the front, or that none stands there
@@ -54,3 +57,14 @@ abbrev pub TurnIs : List ℕ → Turn → Type 0
 TurnIs cs Ends = (r : List ℕ) × (cs ≡ 39 ∷ r) × EndsAt Text [] r
 TurnIs cs Quote = (r : List ℕ) × (cs ≡ 39 ∷ (39 ∷ r))
 TurnIs cs (Plain c) = (r : List ℕ) × (cs ≡ c ∷ r) × (c ≢ 39)
+
+-- what stands at the front of bytes of ASCII
+abbrev pub StepIs : List ℕ → Step → Type 0
+StepIs cs steps.Blank = GapFront cs (Some 1)
+StepIs cs (steps.Token k bytes n) = PrefixIs cs (OfToken k bytes n)
+StepIs cs steps.Untold = Unit {0}
+
+-- no line ends among the bytes of a token of this kind, unless it is a text
+abbrev pub IsOneLine : TokenKind → List ℕ → Type 0
+IsOneLine Text bytes = Unit {0}
+IsOneLine k bytes = Lacks 10 bytes

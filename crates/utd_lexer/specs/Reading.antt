@@ -1,5 +1,5 @@
 -- What the bytes of a statement are read as, and when they are refused.
-use Rattle.std.specs.Prelude.{◌≡◌, ◌⊎◌, ◌≤◌, ℕ, List, length, take}
+use Rattle.std.specs.Prelude.{◌≡◌, ◌⊎◌, ◌≤◌, ℕ, List, ◌++◌, length, take, drop, encode_utf8_all}
 use Rattle.std.specs.Str.{IsUtf8, chars}
 use Rattle.std.specs.Str.Lossy.{utf8_valid_len}
 use Rattle.point_core.specs.declared.fault.Fault.{Fault}
@@ -9,7 +9,7 @@ use Rattle.point_core.specs.Faults.{fault}
 use Rattle.value_core.specs.declared.refuse.Refuse.{Refuse}
 use Rattle.value_core.specs.declared.refuse.Refuse.TheVariants.{Plain, At, Broken, Memory}
 use Rattle.utd_lexer.specs.declared.token.Token.{Token}
-use Rattle.utd_lexer.specs.Tokens.{Lexed, Stuck, place_after}
+use Rattle.utd_lexer.specs.Tokens.{Fits, Lexed, Stuck, place_after}
 
 -- these are the characters of bytes that are UTF-8
 abbrev pub AreCharacters : List ℕ → List ℕ → Type 0
@@ -18,6 +18,13 @@ AreCharacters cs bytes = IsUtf8 bytes × (cs ≡ chars bytes)
 -- the bytes are not UTF-8, and so many of the first are
 abbrev pub IsValidFront : ℕ → List ℕ → Type 0
 IsValidFront n bytes = (IsUtf8 bytes → ⊥) × (n ≤ length bytes) × (n ≡ utf8_valid_len bytes)
+
+-- what is known of the text up to a place: what is read from there on, and where that stops, is so of the whole
+pub record SoFar (start : Place) (cs : List ℕ) (at : ℕ) (place : Place) (out : List Token) : Type 0 where
+  pub within : at ≤ length cs
+  pub fits : Fits place (length (encode_utf8_all (drop at cs)))
+  pub read : (ts : List Token) → Lexed place (drop at cs) ts → Lexed start cs (out ++ ts)
+  pub stuck : (q : Place) → Stuck place (drop at cs) q → Stuck start cs q
 
 -- characters are refused at the first place at which no token begins
 abbrev pub Stops : Place → List ℕ → Refuse → Type 0

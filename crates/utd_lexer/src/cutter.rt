@@ -1,8 +1,10 @@
 // The cut of a script's bytes into statements.
-ghost use Rattle.std.specs.Prelude.{◌≡◌, ◌↔◌, ℕ, List, [], ◌∷◌, ◌++◌, true};
+ghost use Rattle.std.specs.Prelude.{◌≡◌, ◌≤◌, ◌↔◌, ℕ, List, [], ◌∷◌, ◌++◌, length, take, true};
+ghost use Rattle.std.specs.List.{prefix_len};
 ghost use Rattle.utd_lexer.specs.Parts.{IsWhole, IsBlank};
-ghost use Rattle.utd_lexer.specs.Cutting.{next, is_outside, is_between, blank_next, is_resting, stays, Since, since_then};
+ghost use Rattle.utd_lexer.specs.Cutting.{next, is_outside, is_between, blank_next, is_plain, is_resting, stays, AllPass, Since, since_then};
 
+use crate::ascii::unquoted_bytes;
 use crate::space::is_space;
 
 /// What a byte does to the statement that it stands in.
@@ -92,6 +94,23 @@ impl Mode {
     }
 }
 
+// A byte with which no text and no comment begins, and no statement ends.
+fn is_plain(byte: u8) -> bool
+    ensures { result ≡ is_plain byte }
+{
+    byte != b'\'' && byte != b'/' && byte != b';'
+}
+
+fn plain_bytes(bytes: &[u8]) -> usize
+    ensures { result ≡ prefix_len is_plain bytes.now }
+{
+    let mut n = 0;
+    'plain: while n < bytes.len() && is_plain(bytes[n]) {
+        n += 1;
+    }
+    n
+}
+
 /// Cuts a script into statements, byte by byte. `Since c bytes` says that the cutter `c` was given these
 /// bytes since the last end of a statement.
 #[derive(Clone, Copy, Debug)]
@@ -108,6 +127,18 @@ impl Cutter {
         Cutter {
             mode: Mode::Between,
             blank: true,
+        }
+    }
+
+    /// How many of the first bytes change nothing, so that they can be passed without a step.
+    pub fn passing(&self, bytes: &[u8]) -> usize
+        ensures within { result ≤ length bytes.now }
+        ensures pass { AllPass self.now (take result bytes.now) }
+    {
+        match self.mode {
+            Mode::Text => unquoted_bytes(bytes),
+            Mode::Between => { if self.blank { 0 } else { plain_bytes(bytes) } }
+            _ => 0,
         }
     }
 

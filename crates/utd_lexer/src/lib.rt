@@ -1,6 +1,7 @@
 //! A script's bytes into statements, and a statement's bytes into tokens.
 #![tactic(auto)]
 
+mod ascii;
 mod cutter;
 mod encoding;
 mod gaps;

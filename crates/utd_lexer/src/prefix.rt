@@ -23,7 +23,7 @@ pub(crate) enum Prefix<'a> {
 
 /// What the first character alone tells of the front.
 #[derive(Clone, Copy)]
-enum First {
+pub(crate) enum First {
     Word,
     Integer,
     Lone,
@@ -71,7 +71,7 @@ fn is_ascii_continuing(c: char) -> bool
     c.is_ascii_alphanumeric() || c == '_'
 }
 
-fn is_continuing(c: char) -> bool
+pub(crate) fn is_continuing(c: char) -> bool
     ensures { result ≡ continues c }
 {
     if c < '\u{80}' {
@@ -80,7 +80,7 @@ fn is_continuing(c: char) -> bool
     unicode_ident::is_xid_continue(c)
 }
 
-fn is_single(c: char) -> bool
+pub(crate) fn is_single(c: char) -> bool
     ensures { result ≡ among c singles }
 {
     c == '('
@@ -121,7 +121,7 @@ fn is_lone(c: char) -> bool
         || c == '.'
 }
 
-fn is_pair(c: char, d: char) -> bool
+pub(crate) fn is_pair(c: char, d: char) -> bool
     ensures { result ≡ among d (seconds c) }
 {
     if c == ':' {
@@ -137,7 +137,7 @@ fn is_pair(c: char, d: char) -> bool
     }
 }
 
-fn is_comment(c: char, d: char) -> bool
+pub(crate) fn is_comment(c: char, d: char) -> bool
     ensures { result ≡ opens_comment c d }
 {
     c == '/' && (d == '/' || d == '*')
@@ -202,7 +202,7 @@ fn symbol_len(chars: &[char]) -> Option<usize>
     }
 }
 
-fn first_of(c: char) -> First
+pub(crate) fn first_of(c: char) -> First
     ensures { FirstIs c result }
 {
     if is_start(c) {

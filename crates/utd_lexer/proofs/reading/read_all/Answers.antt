@@ -1,6 +1,7 @@
 use Rattle.std.proofs.Common.{◌+◌, ap, sym, ◌∙◌, subst, length, refl}
 use Rattle.utd_lexer.specs.Tokens.{Fits, place_after}
-use Rattle.utd_lexer.proofs.ReadLemmas.{SoFar, prefix-here, gap-fits, gap-step, token-fits, token-step, stuck-here, all-read, bytes-here, bytes-left}
+use Rattle.utd_lexer.specs.Reading.{SoFar}
+use Rattle.utd_lexer.proofs.ReadLemmas.{prefix-here, gap-fits, gap-step, token-fits, token-step, stuck-here, all-read, bytes-here, bytes-left}
 use Rattle.utd_lexer.proofs.reading.read_all.Goals as goal
 
 pub place_behind-place-requires : goal.place_behind-place-requires

@@ -1,5 +1,5 @@
 use Rattle.std.proofs.Common.{◌≡◌, ◌-◌, length, drop, encode_utf8_all}
-use Rattle.utd_lexer.proofs.ReadLemmas.{SoFar}
+use Rattle.utd_lexer.specs.Reading.{SoFar}
 use Rattle.utd_lexer.proofs.reading.read_all.Given as goal
 
 -- what is left of the bytes is that of the characters

@@ -1,4 +1,5 @@
-use Rattle.std.proofs.Common.{◌≡◌, ap, ◌∙◌, Err}
+use Rattle.std.proofs.Common.{◌≡◌, ap, sym, ◌∙◌, arith, Err}
+use Rattle.std.proofs.lemmas.Str.{IsUtf8-from_ascii, chars-IsAscii}
 use Rattle.std.specs.Str.{chars}
 use Rattle.point_core.specs.declared.fault.Code.TheVariants.{E02}
 use Rattle.point_core.specs.Faults.{fault}
@@ -49,3 +50,24 @@ returns-in-Err c =
 
 pub returns-in_err-found-clause-some : goal.returns-in_err-found-clause-some
 returns-in_err-found-clause-some c = bytes_read c.args.start c.args.text.now
+
+pub returns-then-is_ascii : goal.returns-then-is_ascii
+returns-then-is_ascii c =
+    let text = c.args.text.now in
+    let utf = IsUtf8-from_ascii text c.if-is_ascii.ensures.cases in
+    let is : text ≡ chars text = sym (chars-IsAscii text c.if-is_ascii.ensures.cases) in
+    let read = read-text c.args.start text text c.read_ascii.result is utf c.read_ascii.ensures.read in
+    let refused = refused-text c.args.start text text c.read_ascii.result is utf c.read_ascii.ensures.refused in
+    record {
+      some = bytes_read c.args.start text;
+      read = read;
+      only = only-list c.args.start text c.read_ascii.result read;
+      refused = refused;
+      refused_only = only-refusal c.args.start text c.read_ascii.result refused;
+    }
+
+pub read_ascii-requires : goal.read_ascii-requires
+read_ascii-requires c = record {
+  ascii = c.if-is_ascii.ensures.cases;
+  fits = (omega (arith, c.requires), omega (arith, c.requires));
+}
