@@ -22,3 +22,4 @@ pub mod PartedKeyLemmas
 pub mod GrownPackedLemmas
 pub mod GrowthLemmas
 pub mod TellingLemmas
+pub mod PlainKeyLemmas
