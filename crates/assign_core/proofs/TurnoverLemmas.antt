@@ -64,13 +64,6 @@ united_new value rows = in_order_by_members row_cmp row_total row_separates (val
 pub none_go : (value come : List Row) → exchanged value [] come ≡ united value come
 none_go value come = filter_all (λ (x : Row). not (has row_cmp [] x)) (united value come) (λ z i. refl)
 
--- rows that a test finds to be none
-pub found_none : (rows ys : List Row) (t : Bool) → ys ≡ rows → t ≡ nat_eq (length ys) 0 → t ≡ true → rows ≡ []
-found_none [] ys t same e told = refl
-found_none (x ∷ xs) ys t same e told =
-    let longer : nat_eq (length (x ∷ xs)) 0 ≡ false = grind (arith, nat_tests) in
-    absurd (true≢false (sym told ∙ (e ∙ (ap (λ (zs : List Row). nat_eq (length zs) 0) same ∙ longer))))
-
 -- and there are as many more
 pub long_new : (value rows new : List Row) → Ascends row_cmp value → Ascends row_cmp new → new ≡ subtracted rows value → length (united value new) ≡ length value + length new
 long_new value rows new a b is =
@@ -251,12 +244,6 @@ module _ (g : Turnover) (turnover : IsTurnover g) where
   pub value_after : (n : Option Name) → names_changed g n ≡ true → value_at (after_turnover g) n ≡ Some (renewed g.value.now g.rows.now)
   value_after None e = absurd (true≢false (sym e))
   value_after (Some name) e = ap value_if (named_renewed (before_turnover g) g.name.now name g.at g.value.now turnover.constraints g.rows.now turnover.first e)
-
-  -- its rows, where none go
-  pub grown_rows : (n : Option Name) → names_changed g n ≡ true → g.rows.now.gone.rows ≡ [] → rows_or_none (value_at (after_turnover g) n) ≡ united g.value.now.rows g.rows.now.come.rows
-  grown_rows n e none =
-      ap rows_or_none (value_after n e)
-      ∙ (ap (λ (rs : List Row). exchanged g.value.now.rows rs g.rows.now.come.rows) none ∙ none_go g.value.now.rows g.rows.now.come.rows)
 
   pub other_value : (n : Option Name) → names_changed g n ≡ false → value_at (after_turnover g) n ≡ value_at (before_turnover g) n
   other_value None e = refl

@@ -23,7 +23,7 @@ use relation_core::Hashes;
 use std::alloc::Global;
 use std::sync::ledger::Ledger;
 use tree_core::{Relvar, Relvars};
-use u_constraints::{Change, are_all, holds, holds_beside, holds_with};
+use u_constraints::{Change, are_all, holds, holds_across, holds_with};
 use value_core::{Constraint, MOST_ROWS, Name, Positions, Refuse, Relation};
 
 /// What is known of a relation whose rows are exchanged: hashes of those before, and the list on which those after are packed, if one is.
@@ -248,7 +248,8 @@ fn holds_within<L: Ledger>(
     }
 }
 
-// Whether a constraint of another relvar, which names the one that changes, holds after the turnover. Where rows go it is looked at whole.
+// Whether a constraint of another relvar, which names the one that changes, holds after the turnover. Only rows there with the key of a
+// row that goes are asked, and those that come are looked at.
 fn holds_of_other<L: Ledger>(
     alloc: Global,
     turnover: Turnover<'_>,
@@ -257,7 +258,6 @@ fn holds_of_other<L: Ledger>(
     steps: &mut Steps<L>,
 ) -> Result<Result<(), Code>, Memory>
     requires turnover { IsTurnover turnover }
-    requires made { IsMade turnover }
     requires names { names_changed turnover (names_relvar constraint.now) ≡ true }
     requires checked { IsChecked (before_turnover turnover) of.now.heading constraint.now }
     requires held { broken constraint.now of.now.rows (rows_named (before_turnover turnover) constraint.now) ≡ None }
@@ -265,16 +265,13 @@ fn holds_of_other<L: Ledger>(
     ensures cost { steps.new ≤ steps.old + cost_over (after_turnover turnover.entry) of.now.rows constraint.now }
 {
     let Exchange { come, gone } = turnover.rows;
-    if gone.rows().is_empty() {
-        return holds_beside(alloc, constraint, of, turnover.value, come, steps);
-    }
-    match turnover.new {
-        Some(all) => holds(alloc, constraint, of, Some(all), steps),
-        None => {
-            let all = renewed(alloc, turnover)?;
-            holds(alloc, constraint, of, Some(&all), steps)
-        }
-    }
+    let change = Change {
+        of: turnover.value,
+        hashes: turnover.known.hashes,
+        come,
+        gone,
+    };
+    holds_across(alloc, constraint, of, change, steps)
 }
 
 // The value of the relvar that changes, after the turnover.

@@ -103,11 +103,13 @@ module _ (h g : Heading) (here there commalist : List ℕ) (alike : AreAlike h h
         ap span_of (value_at-get x i ∙ v ∙ sym (value_at-get y (counterpart here there i))))
         ∙ sym (map_twice (λ i. span_of (value_at y i)) (counterpart here there) commalist)
 
+    -- and the same values at what is not unpacked
+    pub rest_agrees : part_of here x ≡ part_of there y → part_of (unlisted commalist here) x ≡ part_of (unlisted commalist' there) y
+    rest_agrees e =
+        unlisted_same x y commalist commalist' here there (beside_both (λ i t. at x i ≡ at y t) (λ i t. among commalist i ≡ among commalist' t) here there (same_beside x y here there long e) (are_listed here there commalist lies d d' long))
+
     pub labels_agree : part_of here x ≡ part_of there y → part_of (inner commalist here) (others commalist x) ≡ part_of (inner commalist' there) (others commalist' y)
-    labels_agree e =
-        inner_values commalist here x no_value
-        ∙ unlisted_same x y commalist commalist' here there (beside_both (λ i t. at x i ≡ at y t) (λ i t. among commalist i ≡ among commalist' t) here there (same_beside x y here there long e) (are_listed here there commalist lies d d' long))
-        ∙ sym (inner_values commalist' there y no_value)
+    labels_agree e = inner_values commalist here x no_value ∙ rest_agrees e ∙ sym (inner_values commalist' there y no_value)
 
     -- and the other way round
     pub boxes_agree : IsShaped h commalist x → IsShaped g commalist' y → spans_at commalist x ≡ spans_at commalist' y → part_of (inner commalist here) (others commalist x) ≡ part_of (inner commalist' there) (others commalist' y) → part_of here x ≡ part_of there y

@@ -4,7 +4,7 @@
 --     came_break      the rows that come, for constraints that name another relvar
 --     beside_break, beside_holds      where rows are added to the relvar that is named
 --     cost_grows      more rows cost no less
-use Rattle.std.proofs.Common.{◌≡◌, ◌↔◌, ◌⊎◌, inl, inr, ℕ, ◌+◌, ◌<◌, ◌≤◌, Bool, true, false, not, ◌||◌, List, [], ◌∷◌, ◌++◌, map, length, arith, None, refl, sym, ap, ◌∙◌, subst, suc}
+use Rattle.std.proofs.Common.{◌≡◌, ◌↔◌, ◌⊎◌, inl, inr, ℕ, ◌+◌, ◌<◌, ◌≤◌, Bool, true, false, not, ◌||◌, List, [], ◌∷◌, ◌++◌, map, length, arith, None, refl, sym, ap, ap₂, ◌∙◌, subst, suc}
 use Rattle.std.specs.Bool.{IsTrue}
 use Rattle.std.specs.List.{list_any, All}
 use Rattle.std.specs.Prelude.{Result, IfOk, ◌==◌}
@@ -30,7 +30,7 @@ use Rattle.relation_core.specs.Agreement.{part_of}
 use Rattle.relation_core.specs.Growth.{touched}
 use Rattle.relation_core.specs.Operators.{subtracted, united}
 use Rattle.relation_core.specs.Parts.{projected}
-use Rattle.relation_core.proofs.FilterLemmas.{length-filter_at_most}
+use Rattle.relation_core.proofs.FilterLemmas.{length-filter_at_most, rows_of-ascending}
 use Rattle.meaning_core.specs.Typing.{IsList}
 use Rattle.meaning_core.specs.WellMade.{AreAmong, FitsHeadings}
 use Rattle.u_set.specs.Boxes.{AreIntervals, IsShaped, unless}
@@ -56,7 +56,7 @@ lines_hold : (b : Bool) (code : Code) (rest : List (Bool × Code)) → first_fai
 lines_hold true code rest e = (refl, e)
 lines_hold false code rest e = let never : ⊥ = cc in absurd never
 
-one_line : (b : Bool) (code : Code) → first_failed ((b, code) ∷ []) ≡ None → b ≡ true
+pub one_line : (b : Bool) (code : Code) → first_failed ((b, code) ∷ []) ≡ None → b ≡ true
 one_line b code e = (lines_hold b code [] e).0
 
 -- ---- positions
@@ -168,6 +168,24 @@ module _ (h : HistoryRule) where
         λ t. let w = (one_contradicts few others).0 t in (one_contradicts all others).1 (w.0, w.1, w.2, is.among w.1 w.3, w.4),
       ))
 
+  -- rows that come to the others and stay tell, where rows come to them and others go
+  pub history_across : (rows old gone come : List Row) → keeps_history h rows old ≡ true → keeps_history h rows (subtracted come gone) ≡ keeps_history h rows (exchanged old gone come)
+  history_across rows old gone come held =
+      let left : (x : Row) → In x (subtracted come gone) ↔ (In x come × (In x gone → ⊥)) = λ x. In-difference_of row_cmp row_total row_separates x come gone in
+      ap not (same_tests (contradicts rows (subtracted come gone)) (contradicts rows (exchanged old gone come)) (
+        λ t.
+            let w = (one_contradicts rows (subtracted come gone)).0 t in
+            let v = (left w.0).0 w.2 in
+            (one_contradicts rows (exchanged old gone come)).1 (w.0, w.1, (In-exchanged old gone come w.0).1 (inr v.0, v.1), w.3, w.4),
+        λ t.
+            let w = (one_contradicts rows (exchanged old gone come)).0 t in
+            let v = (In-exchanged old gone come w.0).0 w.2 in
+            elim v.0 [
+              | inl l ↦ absurd (never rows old held ((one_contradicts rows old).1 (w.0, w.1, l, w.3, w.4)))
+              | inr r ↦ (one_contradicts rows (subtracted come gone)).1 (w.0, w.1, (left w.0).1 (r, v.1), w.3, w.4)
+            ],
+      ))
+
 history_beside : (h : HistoryRule) (rows others come : List Row) → keeps_history h rows others ≡ true → keeps_history h rows (united others come) ≡ keeps_history h rows come
 history_beside h rows others come held =
     ap not (any_united (λ x. list_any (contradict h x) rows) others come)
@@ -208,7 +226,7 @@ module _ (of : Relation) (is : IsRelation of) (rows : List Row) (up : Ascends ro
 
 -- ---- constraints of a relvar alone
 
-exchanged_ascends : (of gone come : List Row) → Ascends row_cmp (exchanged of gone come)
+pub exchanged_ascends : (of gone come : List Row) → Ascends row_cmp (exchanged of gone come)
 exchanged_ascends of gone come = Ascends-difference_of row_cmp row_total row_separates (united of come) gone (Ascends-union_of row_cmp row_total row_separates of come)
 
 module _ (of come : Relation) (gone : List Row) (is : IsRelation of) (is' : IsRelation come) (heading : come.heading ≡ of.heading) (positions : List ℕ) where
@@ -392,6 +410,11 @@ pub none_gone : (all gone rows : List Row) (b : Bool) → rows ≡ gone → b �
 none_gone all gone rows b same empty found =
     let none : 0 ≡ length gone = zero_long (length rows) (sym empty ∙ found) ∙ ap (λ (rs : List Row). length rs) same in
     all_left all ∙ ap (subtracted all) (no_rows gone none)
+
+-- where there were none and none goes, they are the rows that come
+pub come_alone : (come part gone : List Row) → Ascends row_cmp come → part ≡ [] → gone ≡ [] → come ≡ exchanged part gone come
+come_alone come part gone up none none' =
+    sym (rows_of-ascending come up) ∙ (all_left (united [] come) ∙ sym (ap₂ (λ (ps gs : List Row). exchanged ps gs come) none none'))
 
 -- what the rows that come answer, and in how many steps
 module _ (c : Constraint) (of gone come others left : List Row) (same : left ≡ subtracted come gone) where

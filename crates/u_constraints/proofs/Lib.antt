@@ -18,8 +18,10 @@ pub mod OpenedLemmas
 pub mod BoundLemmas
 pub mod FewerLemmas
 pub mod GrownKeyLemmas
+pub mod NearLemmas
 pub mod PartedKeyLemmas
 pub mod GrownPackedLemmas
 pub mod GrowthLemmas
+pub mod AcrossLemmas
 pub mod TellingLemmas
 pub mod PlainKeyLemmas

@@ -2,7 +2,7 @@
 --     Opens      the one is the other at a point of each side
 --     in_unpack      what is in an unpacked list
 --     unpack_within      what is in a greater one
---     AllKeep      what no side changes
+--     AllKeep, opens_keeps      what no side changes
 --     touched_unpack      unpacked, what is touched is touched
 use Rattle.std.proofs.Common.{◌≡◌, ◌↔◌, ℤ, Bool, List, [], ◌∷◌, refl, sym, ap, ◌∙◌, subst, Ordering}
 use Rattle.std.specs.Cmp.{IsTotalOrder}
@@ -22,7 +22,7 @@ abbrev pub AllKeep : {X Y : Type 0} → (X → Y) → List (Side X) → Type 0
 AllKeep f [] = Unit {0}
 AllKeep {X = X} f (a ∷ rest) = ((x : X) (i : Span) → f (a.put x i) ≡ f x) × AllKeep f rest
 
-opens_keeps : {X Y : Type 0} (f : X → Y) (sides : List (Side X)) → AllKeep f sides → (x y : X) → Opens sides x y → f y ≡ f x
+pub opens_keeps : {X Y : Type 0} (f : X → Y) (sides : List (Side X)) → AllKeep f sides → (x y : X) → Opens sides x y → f y ≡ f x
 opens_keeps f [] k x y w = ap f (sym w)
 opens_keeps f (a ∷ rest) k x y w = opens_keeps f rest k.1 (a.put x (at_point w.0)) y w.2 ∙ k.0 x (at_point w.0)
 

@@ -1,6 +1,7 @@
 -- Rows in order, found by their first values.
 --     prefixes_sorted      rows in order stand in the order of their first values
---     found      the rows with the first values of some rows are those that have these rows' parts
+--     found      the rows with the first values of some rows
+--     front_keys, front_touched      they are those that have keys, or these rows' parts
 --     all_sought      whether each of some rows' parts is the first values of a row
 --     none_selected, none_touched      of relations without rows
 use Rattle.std.proofs.Common.{◌≡◌, ◌⊎◌, ◌↔◌, inl, inr, ℕ, zero, suc, ◌+◌, ◌<◌, ◌≤◌, ◌==◌, List, [], ◌∷◌, ◌++◌, length, get_or, take, map, refl, sym, ap, ap₂, ◌∙◌, subst, arith, eq-eqb, Bool, true, false, not, Ok, Err, Ordering}
@@ -23,7 +24,8 @@ use Rattle.relation_core.specs.Agreement.{part_of}
 use Rattle.relation_core.specs.Growth.{touched, IsSelection}
 use Rattle.relation_core.specs.Parts.{projected}
 use Rattle.relation_core.proofs.AgreementLemmas.{length_of_fit}
-use Rattle.relation_core.proofs.FilterLemmas.{length-filter_at_most, rows_ascend}
+use Rattle.relation_core.proofs.FilterLemmas.{filter_same, length-filter_at_most, rows_ascend}
+use Rattle.u_constraints.specs.Near.{begins_with_any, with_keys}
 use Rattle.u_constraints.specs.Prefixes.{begins_with, counts_from}
 use Rattle.u_constraints.proofs.PrefixLemmas.{few_first, prefixes_of_less, part_is_prefix}
 
@@ -78,7 +80,7 @@ any_found p rows (x ∷ found) b is e =
 -- ---- parts at the first positions are first values
 
 -- the parts have as many values as there are positions
-part_length : (positions : List ℕ) (values : Row) (rows : List Row) → In values (projected positions rows) → length values ≡ length positions
+pub part_length : (positions : List ℕ) (values : Row) (rows : List Row) → In values (projected positions rows) → length values ≡ length positions
 part_length positions values rows i =
     let w = (In-map (part_of positions) values rows).0 ((In-in_order row_cmp row_total row_separates values (map (part_of positions) rows)).0 i) in
     ap (λ (z : Row). length z) w.2 ∙ length-map positions _
@@ -91,30 +93,15 @@ module _ (positions : List ℕ) (size : ℕ) (first : counts_from 0 positions �
       let both = eq_by_cmp-≡ row_cmp row_total row_separates (take (length values) x) values in
       (λ e. same ∙ (sym cut ∙ both.0 e), λ e. both.1 (cut ∙ (sym same ∙ e)))
 
-  found_rows : (many few prefixes rows : List Row) → ((x : Row) → In x many → length x ≡ size) → Ascends row_cmp many → prefixes ≡ projected positions few
-      → rows ≡ flat_map (λ values. filter (begins_with values) many) prefixes → rows_of rows ≡ touched positions few many
-  found_rows many few prefixes rows long up are is =
-      let test : Row → Bool = λ x. has row_cmp (projected positions few) (part_of positions x) in
-      same_by_members row_cmp row_total row_separates (rows_of rows) (filter test many)
-      (Ascends-in_order row_cmp row_total row_separates rows) (Ascends-filter row_cmp test many up) (λ x.
-      let set = In-in_order row_cmp row_total row_separates x rows in
-      let all = In-flat_map (λ (values : Row). filter (begins_with values) many) x prefixes in
-      let kept = In-filter test x many in
-      let told = has-In row_cmp row_total row_separates (projected positions few) (part_of positions x) in (
-        λ i.
-            let w = all.0 (subst (λ (zs : List Row). In x zs) is (set.0 i)) in
-            let v = (In-filter (begins_with w.0) x many).0 w.2 in
-            let among : In w.0 (projected positions few) = subst (λ (zs : List Row). In w.0 zs) are w.1 in
-            let same = (is_prefix x w.0 (long x v.0) (part_length positions w.0 few among)).0 v.1 in
-            kept.1 (v.0, told.1 (subst (λ (z : Row). In z (projected positions few)) (sym same) among)),
-        λ i.
-            let v = kept.0 i in
-            let own = part_of positions x in
-            let among : In own (projected positions few) = told.0 v.1 in
-            let begins = (is_prefix x own (long x v.0) (part_length positions own few among)).1 refl in
-            set.1 (subst (λ (zs : List Row). In x zs) (sym is)
-            (all.1 (own, subst (λ (zs : List Row). In own zs) (sym are) among, (In-filter (begins_with own) x many).1 (v.0, begins)))),
-      ))
+  -- keys of that length are the first values of a row where they are its part
+  pub found_part : (keys : List Row) (x : Row) → length x ≡ size → ((k : Row) → In k keys → length k ≡ length positions) → begins_with_any keys x ≡ has row_cmp keys (part_of positions x)
+  found_part keys x long many =
+      let any = list_any-In (λ values. begins_with values x) keys in
+      let told = has-In row_cmp row_total row_separates keys (part_of positions x) in
+      same_tests _ _ (
+        λ e. let w = any.0 e in told.1 (subst (λ (z : Row). In z keys) (sym ((is_prefix x w.0 long (many w.0 w.1)).0 w.2)) w.1),
+        λ e. let i = told.0 e in any.1 (part_of positions x, i, (is_prefix x (part_of positions x) long (many (part_of positions x) i)).1 refl),
+      )
 
   -- whether values are the first ones of some row
   sought : (others : List Row) (values : Row) → ((x : Row) → In x others → length x ≡ size) → length values ≡ length positions
@@ -151,21 +138,46 @@ within_heading : (positions : List ℕ) (r : Relation) → counts_from 0 positio
     → length positions ≤ length r.heading
 within_heading positions r first within = let few = few_first 0 (length r.heading) positions first (omega arith) within in omega (arith, few)
 
-module _ (positions : List ℕ) (many : Relation) (few prefixes rows : List Row) (is : IsRelation many) (first : counts_from 0 positions ≡ true)
-    (within : All (λ (i : ℕ). i < length many.heading) positions) (are : prefixes ≡ projected positions few)
-    (all : rows ≡ flat_map (λ values. filter (begins_with values) many.rows) prefixes) where
-  -- they are the touched ones
-  pub found : rows_of rows ≡ touched positions few many.rows
-  found =
-      found_rows positions (length many.heading) first (within_heading positions many first within) many.rows few prefixes rows (long_rows many is) (rows_ascend many is) are all
+-- the rows with the first values of some are those that begin with any of them
+pub found : (many prefixes rows : List Row) → Ascends row_cmp many → rows ≡ flat_map (λ values. filter (begins_with values) many) prefixes → rows_of rows ≡ filter (begins_with_any prefixes) many
+found many prefixes rows up is =
+    same_by_members row_cmp row_total row_separates (rows_of rows) (filter (begins_with_any prefixes) many)
+    (Ascends-in_order row_cmp row_total row_separates rows) (Ascends-filter row_cmp (begins_with_any prefixes) many up) (λ x.
+    let set = In-in_order row_cmp row_total row_separates x rows in
+    let all = In-flat_map (λ (values : Row). filter (begins_with values) many) x prefixes in
+    let kept = In-filter (begins_with_any prefixes) x many in
+    let any = list_any-In (λ values. begins_with values x) prefixes in (
+      λ i.
+          let w = all.0 (subst (λ (zs : List Row). In x zs) is (set.0 i)) in
+          let v = (In-filter (begins_with w.0) x many).0 w.2 in
+          kept.1 (v.0, any.1 (w.0, w.1, v.1)),
+      λ i.
+          let v = kept.0 i in
+          let w = any.0 v.1 in
+          set.1 (subst (λ (zs : List Row). In x zs) (sym is) (all.1 (w.0, w.1, (In-filter (begins_with w.0) x many).1 (v.0, w.2)))),
+    ))
 
-  -- and so not too many
-  pub found_few : length (rows_of rows) ≤ most_rows
-  found_few =
-      let less = length-filter_at_most (λ x. has row_cmp (projected positions few) (part_of positions x)) many.rows in
-      let size : length (rows_of rows) ≡ length (touched positions few many.rows) = ap (λ (zs : List Row). length zs) found in
-      let most = is.few in
-      omega (arith, less, size, most)
+-- and so not too many
+pub found_few : (many : Relation) (prefixes rows : List Row) → IsRelation many → rows ≡ flat_map (λ values. filter (begins_with values) many.rows) prefixes → length (rows_of rows) ≤ most_rows
+found_few many prefixes rows is all =
+    let less = length-filter_at_most (begins_with_any prefixes) many.rows in
+    let size : length (rows_of rows) ≡ length (filter (begins_with_any prefixes) many.rows) = ap (λ (zs : List Row). length zs) (found many.rows prefixes rows (rows_ascend many is) all) in
+    let most = is.few in
+    omega (arith, less, size, most)
+
+-- at the first positions they are those with one of the keys
+pub front_keys : (positions : List ℕ) (many : Relation) (keys : List Row) → IsRelation many → counts_from 0 positions ≡ true → All (λ (i : ℕ). i < length many.heading) positions
+    → ((k : Row) → In k keys → length k ≡ length positions) → filter (begins_with_any keys) many.rows ≡ with_keys positions keys many.rows
+front_keys positions many keys is first within long =
+    filter_same (begins_with_any keys) (λ x. has row_cmp keys (part_of positions x)) many.rows (λ x i.
+    found_part positions (length many.heading) first (within_heading positions many first within) keys x (long_rows many is x i) long)
+
+-- of parts they are the touched ones
+pub front_touched : (positions : List ℕ) (many : Relation) (few keys : List Row) → IsRelation many → counts_from 0 positions ≡ true → All (λ (i : ℕ). i < length many.heading) positions
+    → keys ≡ projected positions few → filter (begins_with_any keys) many.rows ≡ touched positions few many.rows
+front_touched positions many few keys is first within are =
+    front_keys positions many keys is first within (λ k i. part_length positions k few (subst (λ (zs : List Row). In k zs) are i))
+    ∙ ap (λ (ks : List Row). with_keys positions ks many.rows) are
 
 -- and fit the heading
 pub found_fit : (heading : Heading) (many : Relation) (prefixes rows : List Row) → IsRelation many → heading ≡ many.heading

@@ -1,5 +1,5 @@
 -- Keys and references of unpacked rows, by their boxes.
-use Rattle.std.proofs.Common.{◌≡◌, ◌↔◌, ℕ, ℤ, List, [], ◌∷◌, map, length, refl, sym, ap, ◌∙◌, subst, nat_eq, Bool}
+use Rattle.std.proofs.Common.{◌≡◌, ◌↔◌, true, ℕ, ℤ, List, [], ◌∷◌, map, length, refl, sym, ap, ◌∙◌, subst, nat_eq, Bool}
 use Rattle.std.specs.Bool.{IsTrue}
 use Rattle.std.specs.List.{IsDistinct}
 use Rattle.std.proofs.lemmas.List.{length-map}
@@ -158,6 +158,10 @@ module _ (h g : Heading) (here there commalist : List ℕ) (alike : AreAlike h h
       let at : InBoxes (map (boxed commalist') others') (others commalist' y.0) place = subst (InBoxes (map (boxed commalist') others') (others commalist' y.0)) (ap firsts spans ∙ firsts_at place) (label_there g commalist' intervals' others' up' shaped' y.0 y.1) in
       let label : part_of (inner commalist' there) (others commalist' y.0) ≡ l = sym (labels_agree h g here there commalist alike lies d d' x.0 y.0 y.2) ∙ ap (part_of (inner commalist here)) x.2 ∙ m.1 in
       (places_relabelled (part_of (inner commalist' there)) (map (boxed commalist') others') l place).1 (others commalist' y.0, label, at)
+
+  -- so the rows are referred to where the boxes have no other labels at any place
+  pub referred_at_places : Within → is_referenced commalist here there rows others' ≡ true
+  referred_at_places w = (is_within-In row_cmp row_total row_separates (projected here (unpacked commalist rows)) (projected there (unpacked commalist' others'))).1 (from_places w)
 
   -- the parts of the unpacked rows are among those of the others where the boxes under these parts are within those of the others
   pub reference_told : is_within (boxed_cmp row_cmp) (unpacked_boxes row_cmp (length commalist) lefts) (unpacked_boxes row_cmp (length commalist) rights) ≡ is_referenced commalist here there rows others'

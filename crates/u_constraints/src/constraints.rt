@@ -76,7 +76,7 @@ pub fn holds<L: Ledger>(
 
 /// Whether the values here of each of the unpacked rows are the values there of one of the other's rows, unpacked alike. Where nothing is
 /// unpacked it takes no step.
-fn refers<L: Ledger>(
+pub(crate) fn refers<L: Ledger>(
     alloc: Global,
     commalist: &[usize],
     of: &Relation,

@@ -1,5 +1,5 @@
 // Constraints that hold, and whether they hold still where rows come and go.
-ghost use Rattle.std.specs.Prelude.{◌≡◌, ◌≤◌, ◌+◌, None, Some, length, IfOk, option_map};
+ghost use Rattle.std.specs.Prelude.{◌≡◌, ◌≤◌, ◌+◌, [], true, None, Some, length, IfOk, option_map};
 ghost use Rattle.std.specs.List.{All};
 ghost use Rattle.std.specs.Result.{result_err};
 ghost use Rattle.meaning_core.specs.WellMade.{FitsHeadings};
@@ -20,7 +20,7 @@ use std::sync::ledger::Ledger;
 use value_core::{Constraint, Relation, RowsRefuse};
 
 /// The rows of either relation, which have one heading and few enough rows.
-fn joined(alloc: Global, left: &Relation, right: &Relation) -> Result<Relation, Memory>
+pub(crate) fn joined(alloc: Global, left: &Relation, right: &Relation) -> Result<Relation, Memory>
     requires heading { left.now.heading ≡ right.now.heading }
     requires few { length (united left.now.rows right.now.rows) ≤ most_rows }
     ensures { IfOk result (λ r. (r.heading ≡ left.now.heading) × (r.rows ≡ united left.now.rows right.now.rows)) }
@@ -33,7 +33,7 @@ fn joined(alloc: Global, left: &Relation, right: &Relation) -> Result<Relation, 
 }
 
 /// The rows of the left relation, which are few enough, that are not of the right one.
-fn rest(alloc: Global, left: &Relation, right: &Relation) -> Result<Relation, Memory>
+pub(crate) fn rest(alloc: Global, left: &Relation, right: &Relation) -> Result<Relation, Memory>
     requires heading { right.now.heading ≡ left.now.heading }
     requires few { length left.now.rows ≤ most_rows }
     ensures { IfOk result (λ r. (r.heading ≡ left.now.heading) × (r.rows ≡ subtracted left.now.rows right.now.rows)) }
@@ -46,7 +46,7 @@ fn rest(alloc: Global, left: &Relation, right: &Relation) -> Result<Relation, Me
 }
 
 /// The rows of the relation, which are few enough, that are not of those that go. Where none goes, no row is copied.
-fn left_of(alloc: Global, all: Relation, gone: &Relation) -> Result<Relation, Memory>
+pub(crate) fn left_of(alloc: Global, all: Relation, gone: &Relation) -> Result<Relation, Memory>
     requires heading { gone.now.heading ≡ all.heading }
     requires few { length all.rows ≤ most_rows }
     ensures { IfOk result (λ r. (r.heading ≡ all.heading) × (r.rows ≡ subtracted all.rows gone.now.rows)) }
@@ -66,8 +66,15 @@ pub struct Change<'a> {
     pub gone: &'a Relation,
 }
 
+/// Whether neither relation has rows.
+fn are_both_empty(left: &Relation, right: &Relation) -> bool
+    ensures { result ≡ true → (left.now.rows ≡ []) × (right.now.rows ≡ []) }
+{
+    left.rows().is_empty() && right.rows().is_empty()
+}
+
 /// Whether the constraint, which holds of the relation, holds still after the change. It is asked of the rows with the values of those
-/// that come at the positions.
+/// that come at the positions. Where there are none besides, and none goes, the rows that come are asked as they are.
 fn holds_by<L: Ledger>(
     alloc: Global,
     c: &Constraint,
@@ -90,6 +97,9 @@ fn holds_by<L: Ledger>(
     ensures cost { steps.new ≤ steps.old + constraint_cost c.now (exchanged change.entry.of.now.rows change.entry.gone.now.rows change.entry.come.now.rows) (rows_or_none (option_map (λ r. r.now) other.entry)) }
 {
     let part = touched_with(alloc, change.of, change.come, positions, change.hashes)?;
+    if are_both_empty(&part, change.gone) {
+        return holds(alloc, c, change.come, other, steps);
+    }
     let all = joined(alloc, &part, change.come)?;
     let small = left_of(alloc, all, change.gone)?;
     holds(alloc, c, &small, other, steps)

@@ -1,6 +1,7 @@
 //! Which constraints of a relvar hold.
 #![tactic(auto)]
 
+mod across;
 mod apart;
 mod beginning;
 mod constraints;
@@ -9,16 +10,20 @@ mod hashes;
 mod histories;
 mod keys;
 mod lines;
+mod near;
 mod packed;
 mod parts;
 mod positions;
 mod prefixes;
 mod references;
 mod search;
+mod tuning;
 mod unpacked;
 
+pub use across::holds_across;
 pub use beginning::with_prefix;
 pub use constraints::holds;
 pub use growth::{Change, holds_beside, holds_with};
 pub use positions::are_all;
-pub use search::{ROWS_PASSED_FOR_ONE_SOUGHT, touched_by, touched_with};
+pub use search::{touched_by, touched_with};
+pub use tuning::ROWS_PASSED_FOR_ONE_SOUGHT;

@@ -10,16 +10,20 @@ ghost use Rattle.cell_core.specs.Costs.{bound};
 ghost use Rattle.meaning_core.specs.Typing.{IsList};
 ghost use Rattle.meaning_core.specs.WellMade.{AreAlike, AreAmong, AreDifferent};
 ghost use Rattle.u_set.specs.Boxes.{AreIntervals, boxed, types_at};
-ghost use Rattle.u_row.specs.Kept.{inner};
+ghost use Rattle.relation_core.specs.Parts.{projected};
+ghost use Rattle.u_row.specs.Kept.{inner, unlisted};
 ghost use Rattle.u_row.specs.Labels.{relabelled};
 ghost use Rattle.u_constraints.specs.Constraints.{counterpart, is_referenced};
+ghost use Rattle.u_constraints.specs.Near.{with_keys};
 
+use crate::near::{are_fewer, rows_with_keys};
 use crate::parts::boxes_of_parts;
 use cell_core::{BoxRow, within_points};
 use point_core::{AnyType, Memory, Steps};
+use relation_core::sorted_parts;
 use std::alloc::Global;
 use std::sync::ledger::Ledger;
-use u_row::inner;
+use u_row::{inner, unlisted};
 use u_set::{to_boxes, types_at};
 use value_core::{Relation, Row};
 
@@ -71,8 +75,9 @@ fn boxes_at(
     boxes_of_parts(alloc, boxes.as_slice(), places.as_slice())
 }
 
-/// Whether the values here of each of the unpacked rows are the values there of one of the other's rows, unpacked alike.
-pub(crate) fn is_referenced_unpacked<L: Ledger>(
+/// Whether the values here of each of the unpacked rows are the values there of one of the other's rows, unpacked alike, by
+/// the boxes of all rows.
+fn is_referenced_by_boxes<L: Ledger>(
     alloc: Global,
     commalist: &[usize],
     of: &Relation,
@@ -100,4 +105,75 @@ pub(crate) fn is_referenced_unpacked<L: Ledger>(
         right.as_slice(),
         steps,
     )
+}
+
+/// The positions of a foreign key that are not unpacked, here and there.
+#[derive(Drop)]
+pub(crate) struct Rest {
+    pub own: Vec<usize>,
+    pub theirs: Vec<usize>,
+}
+
+/// What of a foreign key is not unpacked.
+pub(crate) fn rest_of_key(
+    alloc: Global,
+    commalist: &[usize],
+    here: &[usize],
+    there: &[usize],
+) -> Result<Rest, Memory>
+    requires { length here.now ≡ length there.now }
+    ensures own { IfOk result (λ rest. rest.own.items ≡ unlisted commalist.now here.now) }
+    ensures theirs { IfOk result (λ rest. rest.theirs.items ≡ unlisted (map (counterpart here.now there.now) commalist.now) there.now) }
+{
+    let commalist_there = counterparts(alloc, commalist, here, there)?;
+    let own = unlisted(alloc, commalist, here)?;
+    let theirs = unlisted(alloc, commalist_there.as_slice(), there)?;
+    Ok(Rest { own, theirs })
+}
+
+/// The rows there with the values of some row here at what is not unpacked. No others can hold an unpacked row here.
+fn rows_near(
+    alloc: Global,
+    commalist: &[usize],
+    of: &Relation,
+    here: &[usize],
+    other: &Relation,
+    there: &[usize],
+) -> Result<Relation, Memory>
+    requires here { AreDifferent of.now.heading here.now }
+    requires lies { AreAmong here.now commalist.now }
+    requires there { AreDifferent other.now.heading there.now }
+    requires alike { AreAlike of.now.heading here.now other.now.heading there.now }
+    ensures { IfOk result (λ r. (r.heading ≡ other.now.heading)
+        × (r.rows ≡ with_keys (unlisted (map (counterpart here.now there.now) commalist.now) there.now) (projected (unlisted commalist.now here.now) of.now.rows) other.now.rows)) }
+{
+    let rest = rest_of_key(alloc, commalist, here, there)?;
+    let keys = sorted_parts(alloc, of, rest.own.as_slice())?;
+    rows_with_keys(alloc, other, rest.theirs.as_slice(), keys.as_slice())
+}
+
+/// Whether the values here of each of the unpacked rows are the values there of one of the other's rows, unpacked alike. Of many rows
+/// there those alone are looked at that have the values of some row here at what is not unpacked, if that is not all.
+pub(crate) fn is_referenced_unpacked<L: Ledger>(
+    alloc: Global,
+    commalist: &[usize],
+    of: &Relation,
+    here: &[usize],
+    other: &Relation,
+    there: &[usize],
+    steps: &mut Steps<L>,
+) -> Result<bool, Memory>
+    requires list { IsList of.now.heading commalist.now }
+    requires here { AreDifferent of.now.heading here.now }
+    requires lies { AreAmong here.now commalist.now }
+    requires there { AreDifferent other.now.heading there.now }
+    requires alike { AreAlike of.now.heading here.now other.now.heading there.now }
+    ensures answer { IfOk result (λ kept. kept ≡ is_referenced commalist.now here.now there.now of.now.rows other.now.rows) }
+    ensures cost { steps.new ≤ steps.old + bound (length of.now.rows + length other.now.rows) (length commalist.now) }
+{
+    if commalist.len() == here.len() || !are_fewer(of, other) {
+        return is_referenced_by_boxes(alloc, commalist, of, here, other, there, steps);
+    }
+    let near = rows_near(alloc, commalist, of, here, other, there)?;
+    is_referenced_by_boxes(alloc, commalist, of, here, &near, there, steps)
 }

@@ -6,17 +6,16 @@ ghost use Rattle.value_core.specs.Relations.{all_fit, relation_of};
 ghost use Rattle.value_core.specs.Values.{most_rows, row_cmp, rows_of, IsRelation};
 ghost use Rattle.relation_core.specs.Growth.{touched};
 ghost use Rattle.relation_core.specs.Hashes.{AreHashesOf};
+ghost use Rattle.u_constraints.specs.Near.{begins_with_any};
 ghost use Rattle.u_constraints.specs.Prefixes.{begins_with, counts_from};
 
 use crate::beginning::with_prefix;
 use crate::prefixes::are_first;
+use crate::tuning::ROWS_PASSED_FOR_ONE_SOUGHT;
 use point_core::{Label, Memory};
 use relation_core::{Hashes, selection, sorted_parts, touched, touched_by_hashes};
 use std::alloc::Global;
 use value_core::{Heading, Relation, Row, RowsRefuse};
-
-/// To seek one row costs about as much as to pass over so many.
-pub const ROWS_PASSED_FOR_ONE_SOUGHT: usize = 16;
 
 /// Whether some row has these first values. The rows are in order.
 fn is_prefix(rows: &[Row], values: &Row) -> bool
@@ -75,6 +74,20 @@ fn relation_of(heading: Heading, rows: Vec<Row>) -> Result<Relation, Memory>
     }
 }
 
+/// The rows of many whose first values are one of the keys, found by search.
+pub(crate) fn rows_in_front(
+    alloc: Global,
+    many: &Relation,
+    keys: &[Row],
+) -> Result<Relation, Memory>
+    ensures { IfOk result (λ r. (r.heading ≡ many.now.heading) × (r.rows ≡ filter (begins_with_any keys.now) many.now.rows)) }
+{
+    let rows = rows_with_prefixes(alloc, many, keys)?;
+    let heading = many.heading().copy(alloc)?;
+    let relation = relation_of(heading, rows)?;
+    Ok(relation)
+}
+
 /// The rows of many whose values at the positions are those of some row of few. The positions are the first ones, in order, so that these
 /// rows are found by search.
 fn touched_in_prefix(
@@ -88,11 +101,10 @@ fn touched_in_prefix(
     requires first { counts_from 0 positions.now ≡ true }
     ensures { IfOk result (λ r. (r.heading ≡ many.now.heading) × (r.rows ≡ touched positions.now few.now.rows many.now.rows)) }
 {
-    let prefixes = sorted_parts(alloc, few, positions)?;
-    let rows = rows_with_prefixes(alloc, many, prefixes.as_slice())?;
-    let heading = many.heading().copy(alloc)?;
-    let relation = relation_of(heading, rows)?;
-    Ok(relation)
+    // The rows of many are as long as its heading.
+    let _rows = many.rows();
+    let keys = sorted_parts(alloc, few, positions)?;
+    rows_in_front(alloc, many, keys.as_slice())
 }
 
 /// Whether the rows of few are so few that searching many for each of them is cheaper than passing over many.

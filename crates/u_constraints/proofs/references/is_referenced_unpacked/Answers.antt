@@ -1,91 +1,43 @@
-use Rattle.std.proofs.Common.{◌≡◌, ◌+◌, ◌≤◌, ℕ, List, length, map, sym, ap, ◌∙◌, subst}
-use Rattle.std.specs.List.{All}
+use Rattle.std.proofs.Common.{◌≡◌, ◌≤◌, ◌+◌, length, map, List, sym, ap, ◌∙◌, subst, arith}
 use Rattle.std.specs.Prelude.{IfOk}
-use Rattle.std.proofs.lemmas.List.{length-map}
-use Rattle.std.proofs.lemmas.List.Elements.{All-same}
-use Rattle.base_core.specs.Sets.{is_within}
-use Rattle.point_core.specs.declared.any_type.AnyType.{AnyType}
-use Rattle.point_core.specs.declared.any_type.AnyPoint.{AnyPoint}
-use Rattle.point_core.specs.Points.{number, IsPointOf}
-use Rattle.value_core.specs.Values.{Row, row_cmp}
-use Rattle.relation_core.specs.Agreement.{part_of}
-use Rattle.relation_core.specs.Parts.{kind_at}
-use Rattle.relation_core.proofs.FilterLemmas.{rows_ascend}
-use Rattle.cell_packing.specs.Boxed.{boxed_cmp, unpacked_boxes}
-use Rattle.cell_core.specs.Boxes.{IsBox}
-use Rattle.cell_core.specs.Cells.{row_numbers}
+use Rattle.value_core.specs.Values.{Row, Heading}
+use Rattle.relation_core.specs.Parts.{projected}
 use Rattle.cell_core.specs.Costs.{bound}
-use Rattle.u_set.specs.Boxes.{AreIntervals, type_of, types_at, boxed}
-use Rattle.u_set.proofs.RelationLemmas.{relation_shaped}
-use Rattle.u_row.specs.Kept.{inner}
-use Rattle.u_row.specs.Labels.{relabelled}
-use Rattle.u_constraints.specs.Constraints.{counterpart}
-use Rattle.u_constraints.proofs.CounterpartLemmas.{alike_many}
-use Rattle.meaning_core.proofs.IntervalLemmas.{intervals_of_list}
-use Rattle.u_constraints.proofs.IntervalLemmas.{intervals_there, types_there}
-use Rattle.u_constraints.proofs.UnpackedLemmas.{reference_told}
+use Rattle.meaning_core.specs.WellMade.{AreAlike, AreDifferent}
+use Rattle.u_row.specs.Kept.{unlisted}
+use Rattle.u_constraints.specs.Constraints.{counterpart, is_referenced}
+use Rattle.u_constraints.proofs.BoundLemmas.{bound_grows}
+use Rattle.u_constraints.proofs.NearLemmas.{near_referred, near_fewer}
 use Rattle.u_constraints.proofs.references.is_referenced_unpacked.Goals as goal
 
-pub counterparts-requires : goal.counterparts-requires
-counterparts-requires g c = alike_many c.args.of.now.heading c.args.other.now.heading c.args.here.now c.args.there.now c.requires.alike
+pub is_referenced_by_boxes-requires-2-clause-there : goal.is_referenced_by_boxes-requires-2-clause-there
+is_referenced_by_boxes-requires-2-clause-there g c = subst (λ (h : Heading). AreDifferent h c.args.there.now) (sym c.in_ok-near.ensures.0) c.requires.there
 
-pub boxes_at-requires-clause-intervals : goal.boxes_at-requires-clause-intervals
-boxes_at-requires-clause-intervals g c = intervals_of_list c.args.of.now.heading c.args.commalist.now c.requires.list
-
-pub boxes_at-requires-2-clause-intervals : goal.boxes_at-requires-2-clause-intervals
-boxes_at-requires-2-clause-intervals g c =
-    let h = c.args.of.now.heading in
-    let commalist = c.args.commalist.now in
-    subst (λ (a : List ℕ). AreIntervals c.args.other.now.heading a) (sym (c.as_slice.ensures.value ∙ c.in_ok-commalist_there.ensures))
-    (intervals_there h c.args.other.now.heading c.args.here.now c.args.there.now commalist c.requires.alike c.requires.lies c.requires.here c.requires.there (intervals_of_list h commalist c.requires.list))
-
-pub within_points-requires-clause-right : goal.within_points-requires-clause-right
-within_points-requires-clause-right g c =
-    let h = c.args.of.now.heading in
-    let k = c.args.other.now.heading in
-    let commalist = c.args.commalist.now in
-    let types =
-    ap (λ (a : List ℕ). types_at k a) (c.as_slice.ensures.value ∙ c.in_ok-commalist_there.ensures)
-    ∙ types_there h k c.args.here.now c.args.there.now commalist c.requires.alike c.requires.lies c.requires.here c.requires.there (intervals_of_list h commalist c.requires.list)
-    ∙ sym (c.as_slice-2.ensures.value ∙ c.in_ok-types.ensures ∙ ap (λ a. types_at a commalist) (c.attributes.ensures.list ∙ c.heading.ensures.heading)) in
-    All-same (λ (b : Row × List (AnyPoint × AnyPoint)). IsBox IsPointOf c.as_slice-2.result.now b.1) c.as_slice-4.result.now c.in_ok-right.right.items c.as_slice-4.ensures.value
-    (subst (λ (ts : List AnyType). All (λ (b : Row × List (AnyPoint × AnyPoint)). IsBox IsPointOf ts b.1) c.in_ok-right.right.items) types c.in_ok-right.ensures.boxes)
+pub is_referenced_by_boxes-requires-2-clause-alike : goal.is_referenced_by_boxes-requires-2-clause-alike
+is_referenced_by_boxes-requires-2-clause-alike g c =
+    subst (λ (h : Heading). AreAlike c.args.of.now.heading c.args.here.now h c.args.there.now) (sym c.in_ok-near.ensures.0) c.requires.alike
 
 pub returns-clause-answer : goal.returns-clause-answer
 returns-clause-answer g c =
-    let r = c.args.of.now in
-    let s = c.args.other.now in
     let commalist = c.args.commalist.now in
     let here = c.args.here.now in
     let there = c.args.there.now in
-    let commalist' = map (counterpart here there) commalist in
-    let own = intervals_of_list r.heading commalist c.requires.list in
-    let other = intervals_there r.heading s.heading here there commalist c.requires.alike c.requires.lies c.requires.here c.requires.there own in
-    let listed = c.as_slice.ensures.value ∙ c.in_ok-commalist_there.ensures in
-    let sides = ap length (c.as_slice-2.ensures.value ∙ c.in_ok-types.ensures) ∙ length-map commalist (λ i. type_of (kind_at c.attributes.result.now i)) in
-    let left = (λ t. map (row_numbers number) (c.as_slice-3.ensures.value t)) ∙ c.in_ok-left.ensures.rows in
-    let right =
-    (λ t. map (row_numbers number) (c.as_slice-4.ensures.value t)) ∙ c.in_ok-right.ensures.rows
-    ∙ (λ t. map (relabelled (part_of (inner (listed t) there))) (map (boxed (listed t)) s.rows)) in
-    let told =
-    reference_told r.heading s.heading here there commalist c.requires.alike c.requires.lies c.requires.here.different c.requires.there.different own other r.rows s.rows
-    (rows_ascend r c.boxes_at.ensures.relation) (rows_ascend s c.boxes_at-2.ensures.relation) (relation_shaped r c.boxes_at.ensures.relation commalist own) (relation_shaped s c.boxes_at-2.ensures.relation commalist' other) in
-    subst (λ b. IfOk c.within_points.result (λ kept. kept ≡ b))
-    ((λ t. is_within (boxed_cmp row_cmp) (unpacked_boxes row_cmp (sides t) (left t)) (unpacked_boxes row_cmp (sides t) (right t))) ∙ told) c.within_points.ensures.answer
+    let rows = c.args.of.now.rows in
+    let same =
+    ap (λ (others : List Row). is_referenced commalist here there rows others) c.in_ok-near.ensures.1
+    ∙ near_referred c.args.of.now.heading c.args.other.now.heading here there commalist c.requires.alike c.requires.lies c.requires.here.different c.requires.there.different rows c.args.other.now.rows in
+    subst (λ b. IfOk c.is_referenced_by_boxes-2.result (λ kept. kept ≡ b)) same c.is_referenced_by_boxes-2.ensures.answer
 
 pub returns-clause-cost : goal.returns-clause-cost
 returns-clause-cost g c =
-    let r = c.args.of.now in
-    let s = c.args.other.now in
-    let commalist = c.args.commalist.now in
+    let rows = c.args.of.now.rows in
+    let others = c.args.other.now.rows in
     let here = c.args.here.now in
     let there = c.args.there.now in
-    let other = c.as_slice.result.now in
-    let sides = ap length (c.as_slice-2.ensures.value ∙ c.in_ok-types.ensures) ∙ length-map commalist (λ i. type_of (kind_at c.attributes.result.now i)) in
-    let left = (λ t. map (row_numbers number) (c.as_slice-3.ensures.value t)) ∙ c.in_ok-left.ensures.rows in
-    let right = (λ t. map (row_numbers number) (c.as_slice-4.ensures.value t)) ∙ c.in_ok-right.ensures.rows in
-    let many =
-    sym (length-map c.as_slice-3.result.now (row_numbers number)) ∙ ap length left ∙ length-map (map (boxed commalist) r.rows) (relabelled (part_of (inner commalist here))) ∙ length-map r.rows (boxed commalist) in
-    let more =
-    sym (length-map c.as_slice-4.result.now (row_numbers number)) ∙ ap length right ∙ length-map (map (boxed other) s.rows) (relabelled (part_of (inner other there))) ∙ length-map s.rows (boxed other) in
-    subst (λ b. c.within_points.new.steps ≤ c.args.steps.now + b) (λ t. bound (many t + more t) (sides t)) c.within_points.ensures.cost
+    let commalist = c.args.commalist.now in
+    let less : length c.in_ok-near.near.rows ≤ length others =
+    near_fewer (unlisted (map (counterpart here there) commalist) there) (projected (unlisted commalist here) rows) others c.in_ok-near.near.rows c.in_ok-near.ensures.1 in
+    let grows : bound (length rows + length c.in_ok-near.near.rows) (length commalist) ≤ bound (length rows + length others) (length commalist) =
+    bound_grows (length rows + length c.in_ok-near.near.rows) (length rows + length others) (length c.args.commalist.now) (omega (arith, less)) in
+    let told = c.is_referenced_by_boxes-2.ensures.cost in
+    omega (arith, grows, told)
