@@ -1,6 +1,10 @@
 -- How a session goes on, statement by statement.
-use Rattle.std.proofs.Common.{◌≡◌, ◌↔◌, ℕ, ◌+◌, ◌≤◌, Bool, true, false, cond, ◌&&◌, List, [], ◌∷◌, ◌++◌, length, take, drop, Option, Some, None, Result, Ok, Err, IfOk, IfErr, refl, sym, ap, ◌∙◌, subst, arith, append_assoc, append-nil, length-append, take-append-drop}
+use Rattle.std.proofs.Common.{◌≡◌, ◌↔◌, ℕ, ◌+◌, ◌≤◌, ◌<◌, Bool, true, false, cond, ◌&&◌, List, [], ◌∷◌, ◌++◌, length, take, drop, get_or, Option, Some, None, Result, Ok, Err, IfOk, IfErr, inl, inr, refl, sym, ap, ◌∙◌, subst, arith, append_assoc, append-nil, length-append, take-append-drop, take-add}
 use Rattle.std.proofs.lemmas.Bool.{false_from_ne_true}
+use Rattle.std.proofs.lemmas.Bool.Decides.{eqb_tells}
+use Rattle.std.proofs.lemmas.List.{take_more}
+use Rattle.utd_lexer.specs.declared.cutter.Mode.TheVariants.{Between}
+use Rattle.utd_lexer.proofs.StayLemmas.{pass-one}
 use Rattle.base_core.proofs.BoolLemmas.{same_bool}
 use Rattle.point_core.specs.declared.fault.Place.{Place}
 use Rattle.utd_io.specs.Io.{Gains, GainsPrefix}
@@ -9,7 +13,7 @@ use Rattle.utd_lexer.specs.declared.cutter.Cutter.{Cutter}
 use Rattle.utd_lexer.specs.declared.cutter.Cut.{Cut as Cuts}
 use Rattle.utd_lexer.specs.declared.cutter.Cut.TheVariants.{Inside, Ends}
 use Rattle.utd_lexer.specs.Parts.{IsWhole, IsBlank}
-use Rattle.utd_lexer.specs.Cutting.{Since, since_then}
+use Rattle.utd_lexer.specs.Cutting.{run, is_outside, Passes, AllPass, Since, since_then}
 use Rattle.utd_lexer.specs.Tokens.{place_after}
 use Rattle.tree_core.specs.Relvars.{State}
 use Rattle.tree_core.specs.declared.relvar.Relvars.{Relvars as Database}
@@ -33,7 +37,7 @@ use Rattle.utd_session.specs.Texts.{kept_after, texts_of, AreTextsOf}
 use Rattle.utd_session.specs.Sessions.{StandsFor, GoesOn, IsCutOff, IsFinished}
 use Rattle.utd_session.proofs.TextLemmas.{texts-push}
 use Rattle.utd_session.proofs.CostLemmas.{cost_after-push, takes-of}
-use Rattle.utd_session.proofs.StatementLemmas.{place_bound, ends_is, is_blank_is, cut-end, cut-keep, cut-more}
+use Rattle.utd_session.proofs.StatementLemmas.{place_bound, ends_is, is_blank_is, none-more, cut-end, cut-keep, cut-more}
 use Rattle.utd_session.proofs.MachineLemmas.{state-push, output-push, output-one, accepted-push, readings-push, readings-prefix}
 
 -- what a step of the cutter says
@@ -55,6 +59,31 @@ pub step-ends : (old new : Cutter) (r : Cuts) (b : ℕ) (bytes piece : List ℕ)
     → (ends (bytes ++ piece) b ≡ true) × Since new []
 step-ends old new Ends b bytes piece s e is h = ((ends_is (bytes ++ piece) b).1 ((e (bytes ++ piece) h).0 is), s (bytes ++ piece) h)
 step-ends old new Inside b bytes piece s e is h = absurd (let f : Inside ≡ Ends = is in cc)
+
+-- a byte that changes nothing ends nothing
+passes-on : (c : Cutter) (bytes : List ℕ) (b : ℕ) → Passes c b → Since c bytes → ends bytes b ≡ false
+passes-on c bytes b p since = elim (eqb_tells b 59) [
+  | inr q ↦ ap (λ z. z && is_outside (run Between bytes)) q.0
+  | inl q ↦ ap (λ z. z && is_outside (run Between bytes)) q.0 ∙ false_from_ne_true (is_outside (run Between bytes)) (λ o. p.2 (ap is_outside since.0 ∙ o) q.1)
+]
+
+passed-none : (place : Place) (bytes piece more : List ℕ) (c : Cutter) → NoEnd place bytes piece → Since c (bytes ++ piece) → AllPass c more → NoEnd place bytes (piece ++ more) × Since c (bytes ++ (piece ++ more))
+passed-none place bytes piece [] c none since h = subst (λ z. NoEnd place bytes z × Since c (bytes ++ z)) (sym (append-nil piece)) (none, since)
+passed-none place bytes piece (b ∷ more) c none since (p, h) =
+    let s : Since c (bytes ++ (piece ++ b ∷ [])) = subst (Since c) (append_assoc bytes piece (b ∷ [])) (pass-one c (bytes ++ piece) b p since) in
+    let now = none-more place bytes piece b none (passes-on c (bytes ++ piece) b p since) in
+    subst (λ z. NoEnd place bytes z × Since c (bytes ++ z)) (append_assoc piece (b ∷ []) more) (passed-none place bytes (piece ++ b ∷ []) more c now s h)
+
+-- a step that ends nothing, and the bytes behind it that are passed
+pub step-passing : (place : Place) (bytes piece rest : List ℕ) (at n : ℕ) (old new : Cutter) (r : Cuts) → at < length piece → SinceThen old r (get_or piece at 0) new → EndsThen old r (get_or piece at 0) → (r ≡ Ends → ⊥) → rest ≡ drop (at + 1) piece → AllPass new (take n rest)
+    → NoEnd place bytes (take at piece) → Since old (bytes ++ take at piece) → NoEnd place bytes (take (at + 1 + n) piece) × Since new (bytes ++ take (at + 1 + n) piece)
+step-passing place bytes piece rest at n old new r lt s e not_end left passed none since =
+    let b : ℕ = get_or piece at 0 in
+    let more : take (at + 1) piece ≡ take at piece ++ b ∷ [] = take_more piece at 0 lt in
+    let inside = step-inside old new r b bytes (take at piece) s e not_end since in
+    let first : NoEnd place bytes (take at piece ++ b ∷ []) = none-more place bytes (take at piece) b none inside.0 in
+    let whole : take (at + 1 + n) piece ≡ (take at piece ++ b ∷ []) ++ take n rest = take-add (at + 1) n piece ∙ ap (λ z. z ++ take n (drop (at + 1) piece)) more ∙ ap (λ z. (take at piece ++ b ∷ []) ++ take n z) (sym left) in
+    subst (λ z. NoEnd place bytes z × Since new (bytes ++ z)) (sym whole) (passed-none place bytes (take at piece ++ b ∷ []) (take n rest) new first inside.1 passed)
 
 -- a session that was fed a front of the piece
 pub record IsFed (session : Session) (cutter : Cutter) (piece rest bytes : List ℕ) (rs : List Reading) (before now : Option (List ℕ)) (paid steps : ℕ) : Type 0 where

@@ -127,11 +127,14 @@ fn next_end<'a>(cutter: &mut Cutter, piece: &'a [u8]) -> Option<(&'a [u8], &'a [
     ensures since { (bytes : List ℕ) → Since cutter.old bytes
         → MatchOption result (Since cutter.new (bytes ++ piece.now)) (λ p. Since cutter.new []) }
 {
-    for (i, byte) in piece.iter().enumerate() {
-        match cutter.step(*byte) {
+    let mut at = 0;
+    'byte: while at < piece.len() {
+        match cutter.step(piece[at]) {
             Cut::Inside => {}
-            Cut::Ends => return Some(piece.split_at(i + 1)),
+            Cut::Ends => return Some(piece.split_at(at + 1)),
         }
+        at += 1;
+        at += cutter.passing(piece.split_at(at).1);
     }
     None
 }
