@@ -1,11 +1,12 @@
 -- Texts of ASCII, each byte of which is a character.
-use Rattle.std.proofs.Common.{◌≡◌, ◌≢◌, ℕ, suc, ◌+◌, ◌≤◌, ◌<◌, ◌-◌, ◌^◌, List, [], ◌∷◌, ◌++◌, length, take, drop, get_or, Bool, true, false, cond, eqb, ◌||◌, Some, None, Option, Result, Ok, Err, IfOk, IfErr, refl, sym, ◌∙◌, ap, subst, arith, length-append, length-drop, append-nil, encode_utf8_all}
+use Rattle.std.proofs.Common.{◌≡◌, ◌≢◌, ℕ, suc, ◌+◌, List, [], ◌∷◌, ◌++◌, length, take, drop, inl, inr, Bool, true, false, cond, eqb, ◌||◌, Some, refl, sym, ◌∙◌, ap, subst, arith, encode_utf8_all}
 use Rattle.std.proofs.lemmas.List.{take_at}
-use Rattle.std.proofs.lemmas.Bool.{ne_eqb, eqb-true}
-use Rattle.std.proofs.lemmas.Str.{encodes-IsAscii, IsAscii-take, IsAscii-drop, IsUtf8-from_ascii, chars-IsAscii}
+use Rattle.std.proofs.lemmas.Bool.{ne_eqb}
+use Rattle.std.proofs.lemmas.Bool.Decides.{eqb_tells}
+use Rattle.std.specs.List.{list_any}
+use Rattle.std.proofs.lemmas.Str.{encodes-IsAscii, IsAscii-take, IsAscii-drop}
 use Rattle.std.specs.Str.{IsAscii, chars}
 use Rattle.std.specs.Char.{is_ascii_digit}
-use Rattle.unicode_ident.specs.Ident.{is_xid_start}
 use Rattle.unicode_ident.proofs.IdentLemmas.{is_xid_continue-ascii, is_xid_start-ascii}
 use Rattle.point_core.specs.declared.fault.Place.{Place}
 use Rattle.utd_lexer.specs.declared.token.Token.{Token}
@@ -13,15 +14,14 @@ use Rattle.utd_lexer.specs.declared.token.TokenKind.{TokenKind}
 use Rattle.utd_lexer.specs.declared.token.TokenKind.TheVariants.{Word, Integer, Text, Symbol}
 use Rattle.utd_lexer.specs.declared.prefix.Prefix.TheVariants.{Token as OfToken}
 use Rattle.utd_lexer.specs.Parts.{Lacks}
-use Rattle.utd_lexer.specs.Tokens.{Fits, next_place, place_after, past, starts, continues, unquoted, among, singles, seconds, AllOf, IsOfKind, IsToken, spelling, EndsAt, Lexed, Stuck}
+use Rattle.utd_lexer.specs.Tokens.{Fits, next_place, place_after, starts, continues, among, singles, seconds, AllOf, IsOfKind, spelling, Lexed, Stuck}
 use Rattle.utd_lexer.specs.Prefixes.{GapFront, PlainPrefix, PrefixIs, IsOneLine}
 use Rattle.value_core.specs.declared.refuse.Refuse.{Refuse}
 use Rattle.value_core.specs.declared.refuse.Refuse.TheVariants.{Plain, At, Broken, Memory}
 use Rattle.utd_lexer.specs.Reading.{SoFar, Stops}
-use Rattle.utd_lexer.proofs.FirstLemmas.{plain-within}
+use Rattle.utd_lexer.proofs.PlaceLemmas.{fits-less, fits-next}
 use Rattle.utd_lexer.proofs.WordLemmas.{plain-token}
 use Rattle.utd_lexer.proofs.ReadLemmas.{gap-fits, gap-step, token-fits, token-step}
-use Rattle.utd_lexer.proofs.WrittenLemmas.{text-written}
 
 -- the front of bytes of ASCII, as the bytes of its characters
 pub front-bytes : (cs prefix : List ℕ) (n : ℕ) → IsAscii cs → prefix ≡ take n cs → prefix ≡ encode_utf8_all (take n cs)
@@ -43,6 +43,27 @@ one-line p (b ∷ bs) h =
     ap (λ z. place_after z bs) next ∙ one-line (record { line = p.line; column = p.column + 1 }) bs h.1 in
     let e : p.column + 1 + length bs ≡ p.column + length (b ∷ bs) = omega arith in
     more ∙ ap (λ z. record { line = p.line; column = z }) e
+
+-- bytes of which none is a 10
+pub lacks-any : (bs : List ℕ) → list_any (λ y. eqb y 10) bs ≡ false → Lacks 10 bs
+lacks-any [] h = tt
+lacks-any (b ∷ bs) h = elim (eqb_tells b 10) [
+  | inl p ↦ let f : list_any (λ y. eqb y 10) (b ∷ bs) ≡ true = ap (λ z. z || list_any (λ y. eqb y 10) bs) p.0 in cc
+  | inr p ↦ (p.1, lacks-any bs (sym (ap (λ z. z || list_any (λ y. eqb y 10) bs) p.0) ∙ h))
+]
+
+-- the first byte, and those behind it
+pub first-fits : (start : Place) (bytes rest : List ℕ) (b : ℕ) → bytes ≡ b ∷ rest → Fits start (length bytes) → Fits start 1
+first-fits start bytes rest b split h = let e : length bytes ≡ length (b ∷ rest) = ap length split in fits-less start 1 (length bytes) h (omega (arith, e))
+
+pub rest-fits : (start place : Place) (bytes rest : List ℕ) (b : ℕ) → bytes ≡ b ∷ rest → place ≡ next_place start b → Fits start (length bytes) → Fits place (length rest)
+rest-fits start place bytes rest b split is h =
+    let s : length bytes ≡ length (b ∷ rest) = ap length split in
+    let e : length bytes ≡ length rest + 1 = omega (arith, s) in
+    subst (λ p. Fits p (length rest)) (sym is) (fits-next start b (length rest) (subst (Fits start) e h))
+
+pub behind-first : (start place after : Place) (bytes rest : List ℕ) (b : ℕ) → bytes ≡ b ∷ rest → place ≡ next_place start b → after ≡ place_after place rest → after ≡ place_after start bytes
+behind-first start place after bytes rest b split is h = h ∙ ap (λ p. place_after p rest) is ∙ ap (place_after start) (sym split)
 
 -- what fails of 10 does not hold of it
 fails-at : (p : ℕ → Bool) (c : ℕ) → p 10 ≡ false → p c ≡ true → c ≢ 10
@@ -113,12 +134,12 @@ token-pushed start place now cs left prefix bytes at n out now_out k ascii s bac
     let same = same-front cs prefix at n ascii (is ∙ ap (take n) back) in
     subst (λ z. SoFar start cs (at + n) z now_out) (ap (place_after place) same ∙ sym behind) (token-step start cs at n place out now_out k bytes s h grows)
 
--- the place behind a token that is no text
-pub past-line : (k : TokenKind) (p : Place) (bs : List ℕ) → (k ≡ Text → ⊥) → IsOneLine k bs → record { line = p.line; column = p.column + length bs } ≡ place_after p bs
-past-line Text p bs h line = absurd (h refl)
-past-line Word p bs h line = sym (one-line p bs line)
-past-line Integer p bs h line = sym (one-line p bs line)
-past-line Symbol p bs h line = sym (one-line p bs line)
+-- no line ends in a token that is no text
+pub lacks-line : (k : TokenKind) (bs : List ℕ) → (k ≡ Text → ⊥) → IsOneLine k bs → Lacks 10 bs
+lacks-line Text bs h line = absurd (h refl)
+lacks-line Word bs h line = line
+lacks-line Integer bs h line = line
+lacks-line Symbol bs h line = line
 
 -- the text goes on where it was left
 

@@ -1,6 +1,7 @@
 // The tokens of a statement, and their places.
 ghost use Rattle.std.specs.Prelude.{◌≡◌, ◌+◌, ◌++◌, ◌-◌, ◌^◌, ◌≤◌, length, IfOk, IfErr, MatchResult, encode_utf8_all};
 ghost use Rattle.std.specs.Str.{IsAscii, chars};
+ghost use Rattle.utd_lexer.specs.Parts.{Lacks};
 ghost use Rattle.utd_lexer.specs.Tokens.{Fits, next_place, place_after, Lexed};
 ghost use Rattle.utd_lexer.specs.Prefixes.{IsOneLine};
 ghost use Rattle.utd_lexer.specs.Reading.{AreCharacters, IsValidFront, SoFar, Stops, Reads, Refuses, HasReading, IsOnlyReading, RefusesOnly};
@@ -31,8 +32,19 @@ fn next_place(place: Place, byte: u8) -> Place
     }
 }
 
-/// The place of the byte behind these, the first of which has the place `start`. A byte 10 ends a line.
-pub fn place_behind(start: Place, bytes: &[u8]) -> Place
+// The place behind bytes among which no line ends.
+fn place_in_line(place: Place, bytes: &[u8]) -> Place
+    requires fits { Fits place (length bytes.now) }
+    requires line { Lacks 10 bytes.now }
+    ensures { result ≡ place_after place bytes.now }
+{
+    Place {
+        line: place.line,
+        column: place.column + bytes.len() as u32,
+    }
+}
+
+fn place_over_lines(start: Place, bytes: &[u8]) -> Place
     requires { Fits start (length bytes.now) }
     ensures { result ≡ place_after start bytes.now }
 {
@@ -41,6 +53,23 @@ pub fn place_behind(start: Place, bytes: &[u8]) -> Place
         place = next_place(place, *byte);
     }
     place
+}
+
+/// The place of the byte behind these, the first of which has the place `start`. A byte 10 ends a line.
+pub fn place_behind(start: Place, bytes: &[u8]) -> Place
+    requires { Fits start (length bytes.now) }
+    ensures { result ≡ place_after start bytes.now }
+{
+    let Some((first, rest)) = bytes.split_first() else {
+        return start;
+    };
+    // The line of most statements ends before their first byte.
+    let place = next_place(start, *first);
+    if rest.contains(&b'\n') {
+        place_over_lines(place, rest)
+    } else {
+        place_in_line(place, rest)
+    }
 }
 
 fn chars_of_ascii(alloc: Global, bytes: &[u8]) -> Result<Vec<char>, AllocError>
@@ -123,10 +152,7 @@ fn place_past(place: Place, kind: TokenKind, bytes: &[u8]) -> Place
 {
     match kind {
         TokenKind::Text => place_behind(place, bytes),
-        _ => Place {
-            line: place.line,
-            column: place.column + bytes.len() as u32,
-        },
+        _ => place_in_line(place, bytes),
     }
 }
 

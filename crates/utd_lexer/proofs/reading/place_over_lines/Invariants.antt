@@ -1,6 +1,6 @@
 use Rattle.std.proofs.Common.{◌≡◌, ◌-◌, length, drop}
 use Rattle.utd_lexer.specs.Tokens.{Fits, place_after}
-use Rattle.utd_lexer.proofs.reading.place_behind.Given as goal
+use Rattle.utd_lexer.proofs.reading.place_over_lines.Given as goal
 
 abbrev pub invariant-loop-byte : goal.invariant-loop-byte
 invariant-loop-byte l = record {
