@@ -2,26 +2,33 @@
 --     base-means      what the name of a base relvar means
 --     literal-means      what a literal means
 --     union-means      what the union of both means
---     insertion-means, setting-means      the relation that an assignment gives its target, as its source sees the relvars
-use Rattle.std.proofs.Common.{◌≡◌, ℕ, zero, suc, ◌<◌, ◌≤◌, Bool, true, false, List, [], ◌∷◌, length, refl, sym, ap, ◌∙◌, arith, Some, Ok, Err}
+--     union-under-means      what it means under USING
+--     insertion-means, insertion-under-means, setting-means      the relation that an assignment gives its target, as its source sees the relvars
+use Rattle.std.proofs.Common.{◌≡◌, ℕ, zero, suc, ◌<◌, ◌≤◌, Bool, true, false, List, [], ◌∷◌, length, refl, sym, ap, ◌∙◌, subst, arith, Some, Ok, Err}
+use Rattle.std.specs.Bool.{IsTrue}
 use Rattle.std.specs.Prelude.{if◌then◌else◌}
 use Rattle.std.specs.Str.{bytes_eq}
 use Rattle.base_core.specs.Outcomes.{then_give}
+use Rattle.base_core.proofs.SetLemmas.{Contains-from_In}
 use Rattle.point_core.specs.declared.fault.Place.{Place}
 use Rattle.value_core.specs.declared.constraint.Constraint.{Constraint}
 use Rattle.value_core.specs.Limits.{most_rows}
-use Rattle.value_core.specs.Values.{Name, Row, Heading, Relation, rows_of}
+use Rattle.value_core.specs.RowPacking.{packed, unpacked}
+use Rattle.value_core.specs.Values.{Name, Row, Heading, Relation, rows_of, is_heading}
 use Rattle.relation_core.specs.Answers.{under}
 use Rattle.relation_core.specs.Operators.{united}
 use Rattle.relation_core.proofs.FilterLemmas.{take_all}
+use Rattle.relation_core.proofs.HeadingLemmas.{heading_ascends}
 use Rattle.tree_core.specs.declared.tree.InfixWord.TheVariants.{Union}
 use Rattle.tree_core.specs.Relvars.{PlainRelvar, base, Entries, relvar_named}
-use Rattle.tree_core.specs.Trees.{PlainSets, named, literal, infix_of}
-use Rattle.meaning_core.specs.Meanings.{RowsMeant, at_name, limited, literal_rows, meaning_in, relvar_meaning, known_in}
+use Rattle.tree_core.specs.Trees.{PlainSets, named, literal, infix_of, using}
+use Rattle.meaning_core.specs.Meanings.{RowsMeant, at_name, limited, literal_rows, meaning_in, relvar_meaning, known_in, positions_of, names_at}
 use Rattle.meaning_core.specs.Names.{IsFirstAt, found, each_in, given, given_relvar}
+use Rattle.meaning_core.specs.Typing.{IsList}
 use Rattle.meaning_core.proofs.EntryLemmas.{found_first, given_first, named_first}
 use Rattle.meaning_core.proofs.LimitLemmas.{limited_few}
 use Rattle.meaning_core.proofs.MadeLemmas.{own_name}
+use Rattle.meaning_core.proofs.PositionLemmas.{positions-back}
 
 -- ---- names
 
@@ -69,6 +76,28 @@ union-means entries at there heading name tuples rows old constraints e few mean
     ap (λ (m : RowsMeant). then_give m (λ a. then_give (meaning_in entries (literal there heading tuples)) (λ b. limited at (united a b)))) (base-means entries at heading name old constraints e few)
     ∙ ap (λ (m : RowsMeant). then_give m (λ b. limited at (united old.rows b))) (literal-means entries there heading tuples rows means)
 
+-- ---- insertions under USING
+
+-- the rows of both, point by point for the attributes at the positions
+abbrev pub united_under : List ℕ → List Row → List Row → List Row
+united_under commalist rows new = packed commalist (united (unpacked commalist rows) (unpacked commalist new))
+
+-- the positions that the names at them have
+positions-kept : (heading : Heading) (commalist : List ℕ) → IsTrue (is_heading heading) → IsList heading commalist → positions_of heading (names_at heading commalist) ≡ commalist
+positions-kept heading commalist headed list = positions-back heading commalist (heading_ascends heading headed) (λ i m.
+    let at = Contains-from_In commalist i m in
+    subst (λ j. j < length heading) at.2 (list.within at.0 i at.1))
+
+-- too many rows of both are told at the USING
+pub union-under-means : (entries : Entries) (at there : Place) (heading : Heading) (name : Name) (tuples : List PlainSets) (rows : List Row) (old : Relation) (constraints : List Constraint) (commalist : List ℕ)
+    → relvar_named entries name ≡ Some (base old constraints) → length old.rows ≤ most_rows → IsTrue (is_heading heading) → IsList heading commalist → literal_rows heading tuples ≡ Ok (rows_of rows)
+    → meaning_in entries (using at heading commalist (infix_of at heading Union (named at heading name) (literal there heading tuples))) ≡ then_give (limited there (rows_of rows)) (λ new. limited at (united_under commalist old.rows new))
+union-under-means entries at there heading name tuples rows old constraints commalist e few headed list means =
+    let own = positions_of heading (names_at heading commalist) in
+    ap (λ (m : RowsMeant). then_give m (λ a. then_give (meaning_in entries (literal there heading tuples)) (λ b. limited at (united_under own a b)))) (base-means entries at heading name old constraints e few)
+    ∙ (ap (λ (m : RowsMeant). then_give m (λ b. limited at (united_under own old.rows b))) (literal-means entries there heading tuples rows means)
+    ∙ ap (λ (c : List ℕ). then_give (limited there (rows_of rows)) (λ new. limited at (united_under c old.rows new))) (positions-kept heading commalist headed list))
+
 -- ---- as an assignment's source sees it
 
 -- the relvar has its own value given again
@@ -92,6 +121,15 @@ pub insertion-means : (entries : Entries) (at there : Place) (name : Name) (tupl
 insertion-means entries at there name tuples rows old constraints e few means =
     ap (under old.heading) (union-means (given (Some name) (Some old) entries) at there old.heading name tuples rows old constraints (given-same entries name old constraints e) few means)
     ∙ under-then old.heading (limited there (rows_of rows)) (λ new. limited at (united old.rows new))
+
+-- the relation that an insertion under USING gives its target, likewise
+pub insertion-under-means : (entries : Entries) (at there : Place) (name : Name) (tuples : List PlainSets) (rows : List Row) (old : Relation) (constraints : List Constraint) (commalist : List ℕ)
+    → relvar_named entries name ≡ Some (base old constraints) → length old.rows ≤ most_rows → IsTrue (is_heading old.heading) → IsList old.heading commalist → literal_rows old.heading tuples ≡ Ok (rows_of rows)
+    → under old.heading (meaning_in (given (Some name) (Some old) entries) (using at old.heading commalist (infix_of at old.heading Union (named at old.heading name) (literal there old.heading tuples))))
+    ≡ then_give (limited there (rows_of rows)) (λ new. under old.heading (limited at (united_under commalist old.rows new)))
+insertion-under-means entries at there name tuples rows old constraints commalist e few headed list means =
+    ap (under old.heading) (union-under-means (given (Some name) (Some old) entries) at there old.heading name tuples rows old constraints commalist (given-same entries name old constraints e) few headed list means)
+    ∙ under-then old.heading (limited there (rows_of rows)) (λ new. limited at (united_under commalist old.rows new))
 
 -- the relation that a relvar is set to
 pub setting-means : (entries : Entries) (there : Place) (heading : Heading) (tuples : List PlainSets) (rows : List Row) → literal_rows heading tuples ≡ Ok (rows_of rows)

@@ -1,15 +1,16 @@
 -- A statement that inserts constants, or sets a relvar to them, is typed without a refusal where the literal has the heading of the
 -- relvar.
---     insertion-typed, setting-typed      the items that typing gives
---     insertion-expands, setting-expands      the assignments that these stand for
-use Rattle.std.proofs.Common.{◌≡◌, Bool, true, List, [], ◌∷◌, ◌++◌, Option, Some, None, Ok, refl, ap, ◌∙◌}
-use Rattle.std.specs.Prelude.{if◌then◌else◌}
+--     listed-is_list      names that a list is typed as stand at different positions of intervals, and are few
+--     insertion-typed, insertion-under-typed, setting-typed      the items that typing gives
+--     insertion-expands, insertion-under-expands, setting-expands      the assignments that these stand for
+use Rattle.std.proofs.Common.{◌≡◌, ℕ, Bool, true, List, [], ◌∷◌, ◌++◌, Option, Some, None, Ok, refl, sym, ap, ◌∙◌, subst}
+use Rattle.std.specs.Prelude.{if◌then◌else◌, IfOk}
 use Rattle.base_core.specs.Outcomes.{then_give}
 use Rattle.point_core.specs.declared.fault.Place.{Place}
 use Rattle.point_core.specs.declared.fault.Code.TheVariants.{E06, E10, E13}
 use Rattle.point_core.specs.Faults.{OrFault}
 use Rattle.utd_syntax.specs.Plain as syntax
-use Rattle.utd_syntax.specs.Plain.{Word, LiteralP, RelP}
+use Rattle.utd_syntax.specs.Plain.{Word, NameListP, LiteralP, RelP}
 use Rattle.value_core.specs.declared.constraint.Constraint.{Constraint}
 use Rattle.value_core.specs.Values.{Name, Row, Heading, Relation}
 use Rattle.scalar_typing.specs.Typings.{refused, value_or}
@@ -20,13 +21,17 @@ use Rattle.relation_typing.proofs.ShapeLemmas.{same-itself}
 use Rattle.tree_core.specs.declared.tree.InfixWord.TheVariants.{Union}
 use Rattle.tree_core.specs.Items.{PlainItem, PlainItemForm, set_to, insert}
 use Rattle.tree_core.specs.Relvars.{State, PlainRelvar, base, Entries, relvar_named}
-use Rattle.tree_core.specs.Trees.{PlainSets, Tree, named, literal, infix_of, heading_of}
+use Rattle.tree_core.specs.Trees.{PlainSets, Tree, named, literal, infix_of, using, heading_of}
+use Rattle.meaning_core.specs.Meanings.{positions_of}
+use Rattle.meaning_core.specs.Typing.{IsList}
+use Rattle.node_typing.specs.Lists.{listed_names, list_checked}
 use Rattle.node_typing.specs.Positions.{check}
 use Rattle.tree_typing.specs.Trees.{tree_typed}
 use Rattle.item_typing.specs.Targets.{Target, base_heading, target_typed, rows_typed, item_of}
-use Rattle.item_typing.specs.Items.{setting_typed, insertion_typed, items_typed, assignment_typed}
+use Rattle.item_typing.specs.Items.{setting_typed, insertion_typed, used_item_typed, items_typed, assignment_typed}
+use Rattle.type_check.proofs.ListLemmas.{AreListed, list-sound, left-list}
 use Rattle.update_core.specs.Endings.{meant_by}
-use Rattle.constant_laws.specs.Insertions.{of_literal}
+use Rattle.constant_laws.specs.Insertions.{of_literal, IsListed}
 use Rattle.constant_laws.proofs.TypedTuples.{literal_place, IsTypedLiteral}
 
 -- a name that is written, of a base relvar of the state
@@ -73,6 +78,32 @@ insertion-typed state at w l old constraints rows found h =
     only-item state (insertion_typed state at w (of_literal l)) (item_of at (w.bytes, old.heading) (insert None (literal_tree old.heading l h.tuples)))
     (item-typed state w l old constraints rows (insert None) at found h)
 
+-- the list of a USING that is typed is a list of positions
+pub listed-is_list : (heading : Heading) (commalist : List ℕ) (list : NameListP) → IsListed heading commalist list → IsList heading commalist
+listed-is_list heading commalist list h =
+    let are : AreListed heading heading list (listed_names list) =
+    subst (λ (m : OrFault (List Name)). IfOk m (AreListed heading heading list)) h.is_fine (list-sound heading heading list) in
+    subst (IsList heading) (sym h.at) (left-list heading heading list (listed_names list) are)
+
+under-item-typed : (state : State) (at : Place) (list : NameListP) (there : Place) (w : Word) (l : LiteralP) (old : Relation) (constraints : List Constraint) (commalist : List ℕ) (rows : List Row) → IsBaseNamed state w old constraints
+    → IsListed old.heading commalist list → (h : IsTypedLiteral state.ordinals old.heading rows l)
+    → used_item_typed state at list (syntax.UsedInsert there w (of_literal l)) ≡ Ok (item_of at (w.bytes, old.heading) (insert (Some commalist) (literal_tree old.heading l h.tuples)))
+under-item-typed state at list there w l old constraints commalist rows found listed h =
+    let t = literal_tree old.heading l h.tuples in
+    ap (λ (m : OrFault Target). then_give m (λ target. then_give (rows_typed state w target.1 (of_literal l)) (λ t. then_give (list_checked target.1 (heading_of t) list) (λ names. Ok (item_of at target (insert (Some (positions_of target.1 names)) t))))))
+    (target-found state w old constraints found)
+    ∙ (ap (λ (m : OrFault Tree). then_give m (λ t. then_give (list_checked old.heading (heading_of t) list) (λ names. Ok (item_of at (w.bytes, old.heading) (insert (Some (positions_of old.heading names)) t))))) (rows-found state w l t h.typed)
+    ∙ (ap (λ (m : OrFault (List Name)). then_give m (λ names. Ok (item_of at (w.bytes, old.heading) (insert (Some (positions_of old.heading names)) t)))) listed.is_fine
+    ∙ ap (λ (c : List ℕ). Ok (item_of at (w.bytes, old.heading) (insert (Some c) t))) (sym listed.at)))
+
+-- the item inserts them point by point
+pub insertion-under-typed : (state : State) (at : Place) (list : NameListP) (there : Place) (w : Word) (l : LiteralP) (old : Relation) (constraints : List Constraint) (commalist : List ℕ) (rows : List Row) → IsBaseNamed state w old constraints
+    → IsListed old.heading commalist list → (h : IsTypedLiteral state.ordinals old.heading rows l)
+    → assignment_typed state (syntax.Assign (syntax.UsingItem at list (syntax.UsedInsert there w (of_literal l))) []) ≡ Ok (item_of at (w.bytes, old.heading) (insert (Some commalist) (literal_tree old.heading l h.tuples)) ∷ [])
+insertion-under-typed state at list there w l old constraints commalist rows found listed h =
+    only-item state (used_item_typed state at list (syntax.UsedInsert there w (of_literal l))) (item_of at (w.bytes, old.heading) (insert (Some commalist) (literal_tree old.heading l h.tuples)))
+    (under-item-typed state at list there w l old constraints commalist rows found listed h)
+
 -- the item sets the relvar to them
 pub setting-typed : (state : State) (w : Word) (l : LiteralP) (old : Relation) (constraints : List Constraint) (rows : List Row) → IsBaseNamed state w old constraints
     → (h : IsTypedLiteral state.ordinals old.heading rows l)
@@ -86,6 +117,10 @@ setting-typed state w l old constraints rows found h =
 pub insertion-expands : (entries : Entries) (at : Place) (name : Name) (heading : Heading) (t : Tree)
     → meant_by entries (item_of at (name, heading) (insert None t)) ≡ record { target = name; tree = infix_of at heading Union (named at heading name) t } ∷ []
 insertion-expands entries at name heading t = refl
+
+pub insertion-under-expands : (entries : Entries) (at : Place) (name : Name) (heading : Heading) (commalist : List ℕ) (t : Tree)
+    → meant_by entries (item_of at (name, heading) (insert (Some commalist) t)) ≡ record { target = name; tree = using at heading commalist (infix_of at heading Union (named at heading name) t) } ∷ []
+insertion-under-expands entries at name heading commalist t = refl
 
 pub setting-expands : (entries : Entries) (at : Place) (name : Name) (heading : Heading) (t : Tree) → meant_by entries (item_of at (name, heading) (set_to t)) ≡ record { target = name; tree = t } ∷ []
 setting-expands entries at name heading t = refl

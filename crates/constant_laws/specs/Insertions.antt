@@ -6,11 +6,13 @@
 --     in_heading shape heading vs      these values in the order of the heading: the row of such a tuple
 --     WritesLiteral types heading rows l      the literal is of the heading, and its tuples have these rows, in the order of the text
 --     insertion at w l, setting w l      the statements `INSERT w l;` and `w := l;`
---     IsPlainInsertion sets relvar heading rows tree      the tree inserts just these rows, or sets the relvar to them
-use Rattle.std.specs.Prelude.{◌≡◌, ◌≤◌, Bool, true, false, List, [], ◌∷◌, map, length, Some, Ok}
+--     insertion_under at list there w l      the statement `USING list: INSERT w l;`
+--     Bringing      how rows come to a relvar
+--     IsPlainInsertion types bringing relvar heading rows tree      the tree brings just these rows to the relvar in this way
+use Rattle.std.specs.Prelude.{◌≡◌, ◌≤◌, ℕ, List, [], ◌∷◌, map, length, Some, Ok}
 use Rattle.point_core.specs.declared.fault.Place.{Place}
 use Rattle.utd_syntax.specs.Plain as syntax
-use Rattle.utd_syntax.specs.Plain.{Word, HeadingP, ElementP, TupleP, LiteralP, RelP, StatementP}
+use Rattle.utd_syntax.specs.Plain.{Word, NameListP, HeadingP, ElementP, TupleP, LiteralP, RelP, StatementP}
 use Rattle.value_core.specs.declared.kind.Kind.{Kind}
 use Rattle.value_core.specs.declared.list.OrdinalNames.{OrdinalNames}
 use Rattle.value_core.specs.Limits.{most_attributes}
@@ -18,7 +20,9 @@ use Rattle.value_core.specs.Values.{Name, Value, Row, Heading}
 use Rattle.relation_core.specs.Agreement.{part_of}
 use Rattle.relation_typing.specs.Headings.{heading_typed}
 use Rattle.relation_typing.specs.Shapes.{shape_made}
+use Rattle.meaning_core.specs.Meanings.{positions_of}
 use Rattle.meaning_core.specs.Places.{places}
+use Rattle.node_typing.specs.Lists.{listed_names, list_checked}
 use Rattle.constant_laws.specs.Constants.{Writes}
 
 -- names with kinds, in the order of the text
@@ -81,15 +85,33 @@ insertion at w l = syntax.Assignment (syntax.Assign (syntax.Insert at w (of_lite
 abbrev pub setting : Word → LiteralP → StatementP
 setting w l = syntax.Assignment (syntax.Assign (syntax.SetRelvar w (of_literal l)) [])
 
--- the tree sets the relvar to the literal, or inserts it
-abbrev pub IsStatementOf : Bool → StatementP → Word → LiteralP → Type 0
-IsStatementOf true tree w l = tree ≡ setting w l
-IsStatementOf false tree w l = (at : Place) × (tree ≡ insertion at w l)
+-- `USING list: INSERT w l;`
+abbrev pub insertion_under : Place → NameListP → Place → Word → LiteralP → StatementP
+insertion_under at list there w l = syntax.Assignment (syntax.Assign (syntax.UsingItem at list (syntax.UsedInsert there w (of_literal l))) [])
 
--- the tree does this with these rows and no others, whatever the ordinal types are
-pub record IsPlainInsertion (sets : Bool) (relvar : Name) (heading : Heading) (rows : List Row) (tree : StatementP) : Type 0 where
+-- how rows come to a relvar: in place of its rows, among them, or among them point by point for the attributes at the positions
+pub data Bringing : Type 0 where
+  Setting : Bringing
+  Adding : Bringing
+  AddingUnder : List ℕ → Bringing
+
+-- the list names interval attributes of the heading, at most three and none twice, and they stand at these positions, in the order
+-- of the list
+pub record IsListed (heading : Heading) (commalist : List ℕ) (list : NameListP) : Type 0 where
+  pub is_fine : list_checked heading heading list ≡ Ok (listed_names list)
+  pub at : commalist ≡ positions_of heading (listed_names list)
+
+-- the tree brings the literal to the relvar in this way
+abbrev pub IsStatementOf : Bringing → Heading → StatementP → Word → LiteralP → Type 0
+IsStatementOf Setting heading tree w l = tree ≡ setting w l
+IsStatementOf Adding heading tree w l = (at : Place) × (tree ≡ insertion at w l)
+IsStatementOf (AddingUnder commalist) heading tree w l =
+    (at : Place) × (list : NameListP) × (there : Place) × IsListed heading commalist list × (tree ≡ insertion_under at list there w l)
+
+-- the tree does this with these rows and no others, where these are the ordinal types
+pub record IsPlainInsertion (types : List OrdinalNames) (bringing : Bringing) (relvar : Name) (heading : Heading) (rows : List Row) (tree : StatementP) : Type 0 where
   pub w : Word
   pub l : LiteralP
   pub named : w.bytes ≡ relvar
-  pub is : IsStatementOf sets tree w l
-  pub writes : (types : List OrdinalNames) → WritesLiteral types heading rows l
+  pub is : IsStatementOf bringing heading tree w l
+  pub writes : WritesLiteral types heading rows l
