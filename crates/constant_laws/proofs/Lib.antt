@@ -1,3 +1,5 @@
+pub mod ListedNames
+pub mod ListedPositions
 pub mod WrittenPoints
 pub mod TypedScalars
 pub mod TypedTuples

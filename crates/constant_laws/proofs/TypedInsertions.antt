@@ -1,10 +1,9 @@
 -- A statement that inserts constants, or sets a relvar to them, is typed without a refusal where the literal has the heading of the
 -- relvar.
---     listed-is_list      names that a list is typed as stand at different positions of intervals, and are few
 --     insertion-typed, insertion-under-typed, setting-typed      the items that typing gives
 --     insertion-expands, insertion-under-expands, setting-expands      the assignments that these stand for
-use Rattle.std.proofs.Common.{◌≡◌, ℕ, Bool, true, List, [], ◌∷◌, ◌++◌, Option, Some, None, Ok, refl, sym, ap, ◌∙◌, subst}
-use Rattle.std.specs.Prelude.{if◌then◌else◌, IfOk}
+use Rattle.std.proofs.Common.{◌≡◌, ℕ, Bool, true, List, [], ◌∷◌, ◌++◌, Option, Some, None, Ok, refl, sym, ap, ◌∙◌}
+use Rattle.std.specs.Prelude.{if◌then◌else◌}
 use Rattle.base_core.specs.Outcomes.{then_give}
 use Rattle.point_core.specs.declared.fault.Place.{Place}
 use Rattle.point_core.specs.declared.fault.Code.TheVariants.{E06, E10, E13}
@@ -23,13 +22,11 @@ use Rattle.tree_core.specs.Items.{PlainItem, PlainItemForm, set_to, insert}
 use Rattle.tree_core.specs.Relvars.{State, PlainRelvar, base, Entries, relvar_named}
 use Rattle.tree_core.specs.Trees.{PlainSets, Tree, named, literal, infix_of, using, heading_of}
 use Rattle.meaning_core.specs.Meanings.{positions_of}
-use Rattle.meaning_core.specs.Typing.{IsList}
 use Rattle.node_typing.specs.Lists.{listed_names, list_checked}
 use Rattle.node_typing.specs.Positions.{check}
 use Rattle.tree_typing.specs.Trees.{tree_typed}
 use Rattle.item_typing.specs.Targets.{Target, base_heading, target_typed, rows_typed, item_of}
 use Rattle.item_typing.specs.Items.{setting_typed, insertion_typed, used_item_typed, items_typed, assignment_typed}
-use Rattle.type_check.proofs.ListLemmas.{AreListed, list-sound, left-list}
 use Rattle.update_core.specs.Endings.{meant_by}
 use Rattle.constant_laws.specs.Insertions.{of_literal, IsListed}
 use Rattle.constant_laws.proofs.TypedTuples.{literal_place, IsTypedLiteral}
@@ -77,13 +74,6 @@ pub insertion-typed : (state : State) (at : Place) (w : Word) (l : LiteralP) (ol
 insertion-typed state at w l old constraints rows found h =
     only-item state (insertion_typed state at w (of_literal l)) (item_of at (w.bytes, old.heading) (insert None (literal_tree old.heading l h.tuples)))
     (item-typed state w l old constraints rows (insert None) at found h)
-
--- the list of a USING that is typed is a list of positions
-pub listed-is_list : (heading : Heading) (commalist : List ℕ) (list : NameListP) → IsListed heading commalist list → IsList heading commalist
-listed-is_list heading commalist list h =
-    let are : AreListed heading heading list (listed_names list) =
-    subst (λ (m : OrFault (List Name)). IfOk m (AreListed heading heading list)) h.is_fine (list-sound heading heading list) in
-    subst (IsList heading) (sym h.at) (left-list heading heading list (listed_names list) are)
 
 under-item-typed : (state : State) (at : Place) (list : NameListP) (there : Place) (w : Word) (l : LiteralP) (old : Relation) (constraints : List Constraint) (commalist : List ℕ) (rows : List Row) → IsBaseNamed state w old constraints
     → IsListed old.heading commalist list → (h : IsTypedLiteral state.ordinals old.heading rows l)

@@ -95,8 +95,8 @@ pub data Bringing : Type 0 where
   Adding : Bringing
   AddingUnder : List ℕ → Bringing
 
--- the list names interval attributes of the heading, at most three and none twice, and they stand at these positions, in the order
--- of the list
+-- the list names interval attributes of the heading, none twice and not too many, and they stand at these positions, in the order of
+-- the list
 pub record IsListed (heading : Heading) (commalist : List ℕ) (list : NameListP) : Type 0 where
   pub is_fine : list_checked heading heading list ≡ Ok (listed_names list)
   pub at : commalist ≡ positions_of heading (listed_names list)
