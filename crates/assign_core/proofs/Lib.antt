@@ -24,6 +24,7 @@ pub mod PortionLemmas
 pub mod ReductionLemmas
 pub mod RenewalLemmas
 pub mod RevisionLemmas
+pub mod RoomLemmas
 pub mod RemovalLemmas
 pub mod RemovedLemmas
 pub mod RuleLemmas

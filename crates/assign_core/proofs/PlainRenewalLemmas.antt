@@ -16,8 +16,7 @@ use Rattle.meaning_core.specs.Meanings.{limited}
 use Rattle.meaning_core.proofs.LookupLemmas.{under_ok}
 use Rattle.u_constraints.proofs.TouchedLemmas.{within_length}
 use Rattle.assign_core.specs.declared.renewal.Renewal.{Renewal}
-use Rattle.assign_core.specs.Renewals.{renewed_target, AreAdded, IsLeft, IsRenewal}
-use Rattle.assign_core.specs.Targets.{value_given}
+use Rattle.assign_core.specs.Renewals.{value_renewed, AreAdded, IsLeft, IsRenewal}
 use Rattle.assign_core.proofs.AdditionLemmas.{limited_over}
 use Rattle.assign_core.proofs.ReductionLemmas.{limited_told, limited_failed}
 use Rattle.assign_core.proofs.RenewalLemmas.{both_meant, under_failed}
@@ -67,7 +66,7 @@ module _ (r : Renewal) (k : IsRenewal r) (none : r.revision.commalist.now ≡ []
   abbrev both : List Row
   both = united left.rows added.rows
 
-  all_meant : value_given (renewed_target r) ≡ under h (limited place (united rest both))
+  all_meant : value_renewed r ≡ under h (limited place (united rest both))
   all_meant =
       both_meant r k left is added are
       ∙ (ap (λ (l : List ℕ). under h (limited place (packed l (united (unpacked l (united rest left.rows)) (unpacked l added.rows))))) none
@@ -80,11 +79,11 @@ module _ (r : Renewal) (k : IsRenewal r) (none : r.revision.commalist.now ≡ []
   pub new_headed : (new : Relation) → new_rows ≡ Ok new → new.heading ≡ h
   new_headed new told = sym (under_ok left.heading (limited place both) new told).1 ∙ is.heading
 
-  pub new_meant : (new : Relation) → new_rows ≡ Ok new → value_given (renewed_target r) ≡ under h (limited place (united rest new.rows))
+  pub new_meant : (new : Relation) → new_rows ≡ Ok new → value_renewed r ≡ under h (limited place (united rest new.rows))
   new_meant new told =
       all_meant ∙ ap (λ (rows : List Row). under h (limited place (united rest rows))) (limited_told place both new.rows (under_ok left.heading (limited place both) new told).0)
 
-  pub new_refused : (stop : Stop) → Answers {A = Relation} (Err stop) new_rows → Answers {A = Relation} (Err stop) (value_given (renewed_target r))
+  pub new_refused : (stop : Stop) → Answers {A = Relation} (Err stop) new_rows → Answers {A = Relation} (Err stop) (value_renewed r)
   new_refused (Faulted e) told =
       let w = limited_failed place both e (under_failed left.heading (limited place both) e told) in
       let many = w.0 in

@@ -37,9 +37,8 @@ use Rattle.algebra_core.specs.Costs.{paid}
 use Rattle.assign_core.specs.declared.renewal.Renewal.{Renewal}
 use Rattle.assign_core.specs.Costs.{source_cost}
 use Rattle.assign_core.specs.Portions.{portion_rows, point_cost, portion_cost}
-use Rattle.assign_core.specs.Renewals.{renewed_target, after_left, AreAdded, IsLeft, IsRenewal}
+use Rattle.assign_core.specs.Renewals.{entries_renewed, value_renewed, after_left, AreAdded, IsLeft, IsRenewal}
 use Rattle.assign_core.specs.Revisions.{changed_rows, changed_cost, left_of, taken_of, added_of, revised_rows, IsChangedFor}
-use Rattle.assign_core.specs.Targets.{entries_before, value_given}
 use Rattle.assign_core.proofs.AdditionLemmas.{limited_over}
 use Rattle.assign_core.proofs.PortionLemmas.{rule_rows}
 use Rattle.assign_core.proofs.ReductionLemmas.{negated_passes, left_meant, left_failed, left_labels, dropped_meant, fewer_paid}
@@ -100,7 +99,7 @@ module _ (r : Renewal) (k : IsRenewal r) where
   sets = read_sets r.revision.changed.sets.now
 
   abbrev es : Entries
-  es = entries_before (renewed_target r)
+  es = entries_renewed r
 
   pub intervals : AreIntervals h commalist
   intervals = intervals_of_list h commalist (subst (λ (l : List ℕ). IsList h l) k.revision.alike.kept k.revision.kept.list)
@@ -204,17 +203,17 @@ module _ (r : Renewal) (k : IsRenewal r) where
   stopped_before m f (Faulted e) told = ap (λ (rows : RowsMeant). under h (then_give rows f)) (under_failed h m e told)
   stopped_before m f OfMemory told = tt
 
-  given : (stop : Stop) → Answers {A = Relation} (Err stop) (under h (revised_rows h r.revision own)) → Answers {A = Relation} (Err stop) (value_given (renewed_target r))
+  given : (stop : Stop) → Answers {A = Relation} (Err stop) (under h (revised_rows h r.revision own)) → Answers {A = Relation} (Err stop) (value_renewed r)
   given stop told = subst (λ (m : OrFault Relation). Answers {A = Relation} (Err stop) m) (sym k.revision.meant) told
 
-  pub no_left : (stop : Stop) → Answers {A = Relation} (Err stop) (under h (left_of r.revision own)) → Answers {A = Relation} (Err stop) (value_given (renewed_target r))
+  pub no_left : (stop : Stop) → Answers {A = Relation} (Err stop) (under h (left_of r.revision own)) → Answers {A = Relation} (Err stop) (value_renewed r)
   no_left stop told = given stop (stopped_before (left_of r.revision own) (λ a. then_give added_all (closing a)) stop told)
 
   module _ (left : Relation) (is : IsLeft r left) where
     left_first : revised_rows h r.revision own ≡ then_give added_all (closing (united rest left.rows))
     left_first = ap (λ (m : RowsMeant). then_give m (λ a. then_give added_all (closing a))) is.meant
 
-    pub no_added : (stop : Stop) → Answers {A = Relation} (Err stop) added_part → Answers {A = Relation} (Err stop) (value_given (renewed_target r))
+    pub no_added : (stop : Stop) → Answers {A = Relation} (Err stop) added_part → Answers {A = Relation} (Err stop) (value_renewed r)
     no_added stop told =
         given stop (subst (λ (m : RowsMeant). Answers {A = Relation} (Err stop) (under h m)) (sym left_first)
         (stopped_before added_all (closing (united rest left.rows)) stop (subst (λ (m : OrFault Relation). Answers {A = Relation} (Err stop) m) added_is told)))
@@ -230,7 +229,7 @@ module _ (r : Renewal) (k : IsRenewal r) where
         omega (arith, known, steps)
 
     module _ (added : Relation) (are : AreAdded r added) where
-      pub both_meant : value_given (renewed_target r) ≡ under h (closing (united rest left.rows) added.rows)
+      pub both_meant : value_renewed r ≡ under h (closing (united rest left.rows) added.rows)
       both_meant = k.revision.meant ∙ ap (under h) (left_first ∙ ap (λ (m : RowsMeant). then_give m (closing (united rest left.rows))) are.meant)
 
       pub all_paid : first_cost + after_left r left added ≤ source_cost es es (read_assignment r.revision.assignment.now)

@@ -1,9 +1,11 @@
--- Assignments that add rows to their own targets.
+-- Assignments that add rows to their own targets, and rows that are added to a base relvar's own.
 --     IsInsertion      an assignment that adds the rows of an expression to its own target
 --     united_in, united_cost      the rows of both, point by point where there is a list, and the steps that they take
---     IsSumOf, IsAddition      what an insertion makes of its target, once its operand has a value
+--     IsSumOf      what an insertion makes of its target, once its operand has a value
+--     IsAddition      rows that are added to a base relvar's own
+--     rows_of_both, sum_of, outcome      the rows that it then has, the relvars with them, or why they are refused
 --     IsPlain      the rows of both are united as they are
---     IsPackedOn      the target is packed on the list of the insertion
+--     IsPackedOn      the target is packed on the list
 use Rattle.std.specs.Prelude.{◌≡◌, ℕ, ◌+◌, Bool, false, nat_eq, List, [], ◌∷◌, length, Option, Some, None, option_map, Result}
 use Rattle.std.specs.Cmp.Lexicographic.{pointwise}
 use Rattle.std.specs.List.{list_any}
@@ -20,7 +22,7 @@ use Rattle.cell_core.specs.Costs.{bound}
 use Rattle.tree_core.specs.declared.tree.InfixWord.{InfixWord}
 use Rattle.tree_core.specs.declared.tree.InfixWord.TheVariants.{Union}
 use Rattle.tree_core.specs.Items.{PlainAssignment, read_assignment}
-use Rattle.tree_core.specs.Relvars.{PlainRelvar, base, view, Entries, read_relvars}
+use Rattle.tree_core.specs.Relvars.{PlainRelvar, base, view, Entries}
 use Rattle.tree_core.specs.Trees.{Tree, named, infix_of, using, read_tree}
 use Rattle.meaning_core.specs.Meanings.{limited}
 use Rattle.meaning_core.specs.Names.{IsFirstAt}
@@ -28,7 +30,8 @@ use Rattle.meaning_core.specs.Typing.{IsListIf}
 use Rattle.assign_core.specs.declared.addition.Addition.{Addition}
 use Rattle.assign_core.specs.declared.insertion.Insertion.{Insertion}
 use Rattle.assign_core.specs.declared.target.Target.{Target}
-use Rattle.assign_core.specs.Assignments.{source_value, evaluated, of_values}
+use Rattle.assign_core.specs.Assignments.{source_value, of_values}
+use Rattle.assign_core.specs.Targets.{IsTarget, entries_with}
 
 -- ---- insertions
 
@@ -82,20 +85,26 @@ pub record IsSumOf (entries : Entries) (i : Insertion) (at : ℕ) (value operand
   pub meant : source_value entries entries (read_assignment i.assignment.now)
       ≡ under value.heading (limited i.assignment.now.tree.place (united_in (list_in i) value.rows operand.rows))
 
--- the relvars before the insertion
-abbrev pub entries_of : Addition → Entries
-entries_of a = (read_relvars a.relvars.now).relvars
+-- ---- rows that are added to a base relvar's own
 
--- the target of the insertion
-abbrev pub target_of : Addition → Target
-target_of a = record { relvars = a.relvars; assignment = a.insertion.assignment; at = a.at; value = a.value }
+-- the list under which they are added, if there is one
+abbrev pub list_under : Addition → Option (List ℕ)
+list_under a = option_map (λ l. l.now) a.commalist
 
-abbrev pub IsAddition : Addition → Type 0
-IsAddition a = IsSumOf (entries_of a) a.insertion a.at a.value.now a.operand.now
+-- the target has the heading of the rows, and the list is one of it
+pub record IsAddition (a : Addition) : Type 0 where
+  pub target : IsTarget a.target
+  pub headed : a.target.value.now.heading ≡ a.operand.now.heading
+  pub relation : IsRelation a.target.value.now
+  pub listed : IsListIf a.target.value.now.heading (list_under a)
 
--- the rows of both are united as they are
+-- the rows of both
+abbrev pub rows_of_both : Addition → List Row
+rows_of_both a = united_in (list_under a) a.target.value.now.rows a.operand.now.rows
+
+-- they are united as they are
 abbrev pub IsPlain : Addition → Type 0
-IsPlain a = united_in (list_in a.insertion) a.value.now.rows a.operand.now.rows ≡ united a.value.now.rows a.operand.now.rows
+IsPlain a = rows_of_both a ≡ united a.target.value.now.rows a.operand.now.rows
 
 -- whether a constraint keeps the rows of its relvar packed on a list
 abbrev pub keeps_packed : List ℕ → Constraint → Bool
@@ -108,23 +117,26 @@ abbrev pub is_kept_packed : List ℕ → PlainRelvar → Bool
 is_kept_packed commalist (base value constraints) = list_any (keeps_packed commalist) constraints
 is_kept_packed commalist (view t history) = false
 
--- the insertion stands under the list, and the target is packed on it
+-- the rows are added under the list, and the target is packed on it
 pub record IsPackedOn (a : Addition) (commalist : List ℕ) : Type 0 where
-  pub listed : list_in a.insertion ≡ Some commalist
-  pub same : packed commalist a.value.now.rows ≡ a.value.now.rows
+  pub listed : list_under a ≡ Some commalist
+  pub same : packed commalist a.target.value.now.rows ≡ a.target.value.now.rows
 
--- the steps that their rows take, united under the list
+-- the steps that the rows of both take
 abbrev pub addition_cost : Addition → ℕ
-addition_cost a = united_cost (list_in a.insertion) (length a.value.now.rows + length a.operand.now.rows)
+addition_cost a = united_cost (list_under a) (length a.target.value.now.rows + length a.operand.now.rows)
 
--- the value that the assignment gives its target, or its fault
+-- the value that the target gets, or the fault of too many rows
 abbrev pub value_meant : Addition → OrFault Relation
-value_meant a = source_value (entries_of a) (entries_of a) (read_assignment a.insertion.assignment.now)
+value_meant a = under a.target.value.now.heading (limited a.target.place (rows_of_both a))
 
--- the relvars in which the target has its value, or the fault that comes in their place
+-- the relvars in which the target has the rows of both, or the fault that comes in their place
+abbrev pub sum_in : Target → Option (List ℕ) → List Row → OrFault Entries
+sum_in t list new = entries_with t (under t.value.now.heading (limited t.place (united_in list t.value.now.rows new)))
+
 abbrev pub sum_of : Addition → OrFault Entries
-sum_of a = evaluated (entries_of a) (entries_of a) (read_assignment a.insertion.assignment.now ∷ [])
+sum_of a = sum_in a.target (list_under a) a.operand.now.rows
 
--- the relvars after the insertion, or why it is refused
+-- the relvars afterwards, or why the rows are refused
 abbrev pub outcome : Addition → Result Entries Refuse
 outcome a = of_values (sum_of a)

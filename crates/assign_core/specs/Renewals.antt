@@ -1,27 +1,34 @@
 -- Revisions by conditions that concern some rows of a packed target alone.
 --     IsRenewal      a revision, its target with the hashes of its rows, and the rows that its conditions concern
+--     entries_renewed, value_renewed      the relvars before it, and the value that it gives its target
 --     IsLeft, AreAdded      what is left of these rows, and what is added
 use Rattle.std.specs.Prelude.{◌≡◌, ℕ, ◌+◌, ◌≤◌, length, Ok}
 use Rattle.std.specs.List.{All}
 use Rattle.base_core.specs.Outcomes.{then_give}
+use Rattle.point_core.specs.Faults.{OrFault}
 use Rattle.value_core.specs.Values.{Relation, most_rows}
 use Rattle.scalar_core.specs.Expressions.{read}
 use Rattle.relation_core.specs.Growth.{touched}
 use Rattle.relation_core.specs.Operators.{subtracted, united}
 use Rattle.relation_core.specs.Hashes.{AreHashesOf}
+use Rattle.tree_core.specs.Items.{read_assignment}
+use Rattle.tree_core.specs.Relvars.{Entries, read_relvars}
 use Rattle.u_set.specs.Apart.{outside}
+use Rattle.assign_core.specs.Assignments.{source_value}
 use Rattle.assign_core.specs.declared.renewal.Renewal.{Renewal}
-use Rattle.assign_core.specs.declared.target.Target.{Target}
 use Rattle.assign_core.specs.Portions.{point_cost, IsAffected}
 use Rattle.assign_core.specs.Revisions.{left_of, taken_of, added_of, IsRevisionOf}
-use Rattle.assign_core.specs.Targets.{entries_before}
 
--- the target of the revision
-abbrev pub renewed_target : Renewal → Target
-renewed_target r = record { relvars = r.relvars; assignment = r.revision.assignment; at = r.at; value = r.value }
+-- the relvars before the revision
+abbrev pub entries_renewed : Renewal → Entries
+entries_renewed r = (read_relvars r.relvars.now).relvars
+
+-- the value that it gives its target, or its fault
+abbrev pub value_renewed : Renewal → OrFault Relation
+value_renewed r = source_value (entries_renewed r) (entries_renewed r) (read_assignment r.revision.assignment.now)
 
 pub record IsRenewal (r : Renewal) : Type 0 where
-  pub revision : IsRevisionOf (entries_before (renewed_target r)) r.revision r.at r.value.now
+  pub revision : IsRevisionOf (entries_renewed r) r.revision r.at r.value.now
   pub gone : IsAffected r.revision.commalist.now (read r.revision.gone.now) r.value.now r.part.now
   pub changed : IsAffected r.revision.commalist.now (read r.revision.changed.portion.condition.now) r.value.now r.part.now
   pub hashed : All (AreHashesOf r.value.now.rows) r.hashes.now

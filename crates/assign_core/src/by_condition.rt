@@ -10,9 +10,8 @@ ghost use Rattle.assign_core.specs.Costs.{assignments_cost};
 ghost use Rattle.assign_core.specs.Databases.{IsKept};
 ghost use Rattle.assign_core.specs.Hashed.{AreHashed};
 ghost use Rattle.assign_core.specs.PlainChanges.{IsAnyDeletion, IsAnyRevision};
-ghost use Rattle.assign_core.specs.Reductions.{reduced_target, IsReduction};
-ghost use Rattle.assign_core.specs.Renewals.{renewed_target, IsRenewal};
-ghost use Rattle.assign_core.specs.Targets.{entries_before, result_given};
+ghost use Rattle.assign_core.specs.Reductions.{entries_reduced, IsReduction};
+ghost use Rattle.assign_core.specs.Renewals.{entries_renewed, IsRenewal};
 ghost use Rattle.assign_core.specs.Turnovers.{with_ready, IsReady};
 
 use crate::changes::none_yet;
@@ -102,22 +101,22 @@ fn prepare_reduction<L: Ledger>(
     requires kept { IsKept (read_relvars reduction.relvars.now) }
     requires reduction { IsReduction reduction }
     requires hashed { All (AreHashesOf reduction.value.now.rows) hashes.now }
-    ensures ready { IfOk result (λ r. IsReady r (entries_before (reduced_target reduction.entry))) }
-    ensures meant { IfOk result (λ r. result_given (reduced_target reduction.entry) ≡ Ok (with_ready r (entries_before (reduced_target reduction.entry)))) }
-    ensures refused { IfErr result (λ refuse. IsRefusedFor refuse (result_given (reduced_target reduction.entry))) }
-    ensures cost { steps.new ≤ steps.old + assignments_cost (entries_before (reduced_target reduction.entry)) (read_assignment reduction.entry.deletion.assignment.now ∷ []) }
+    ensures ready { IfOk result (λ r. IsReady r (entries_reduced reduction.entry)) }
+    ensures meant { IfOk result (λ r. after_assignments (entries_reduced reduction.entry) (read_assignment reduction.entry.deletion.assignment.now ∷ []) ≡ Ok (with_ready r (entries_reduced reduction.entry))) }
+    ensures refused { IfErr result (λ refuse. IsRefusedFor refuse (after_assignments (entries_reduced reduction.entry) (read_assignment reduction.entry.deletion.assignment.now ∷ []))) }
+    ensures cost { steps.new ≤ steps.old + assignments_cost (entries_reduced reduction.entry) (read_assignment reduction.entry.deletion.assignment.now ∷ []) }
 {
     let none = none_yet(alloc, reduction.relvars)?;
     let rows = deleted(alloc, reduction, steps)?;
     let target = Target {
         relvars: reduction.relvars,
-        assignment: reduction.deletion.assignment,
+        name: &reduction.deletion.assignment.target,
+        place: reduction.deletion.kept.place,
         at: reduction.at,
         value: reduction.value,
     };
-    let place = reduction.deletion.kept.place;
     let known = hashed_alone(hashes);
-    prepare_exchange(alloc, target, place, rows, known, none.as_slice(), steps)
+    prepare_exchange(alloc, target, rows, known, none.as_slice(), steps)
 }
 
 // What stands ready for all targets, or why the assignments are refused. A revision by conditions looks at the rows that these affect,
@@ -189,26 +188,26 @@ fn prepare_renewal<L: Ledger>(
 ) -> Result<Ready, Refuse>
     requires kept { IsKept (read_relvars renewal.relvars.now) }
     requires renewal { IsRenewal renewal }
-    ensures ready { IfOk result (λ r. IsReady r (entries_before (renewed_target renewal.entry))) }
-    ensures meant { IfOk result (λ r. result_given (renewed_target renewal.entry) ≡ Ok (with_ready r (entries_before (renewed_target renewal.entry)))) }
-    ensures refused { IfErr result (λ refuse. IsRefusedFor refuse (result_given (renewed_target renewal.entry))) }
-    ensures cost { steps.new ≤ steps.old + assignments_cost (entries_before (renewed_target renewal.entry)) (read_assignment renewal.entry.revision.assignment.now ∷ []) }
+    ensures ready { IfOk result (λ r. IsReady r (entries_renewed renewal.entry)) }
+    ensures meant { IfOk result (λ r. after_assignments (entries_renewed renewal.entry) (read_assignment renewal.entry.revision.assignment.now ∷ []) ≡ Ok (with_ready r (entries_renewed renewal.entry))) }
+    ensures refused { IfErr result (λ refuse. IsRefusedFor refuse (after_assignments (entries_renewed renewal.entry) (read_assignment renewal.entry.revision.assignment.now ∷ []))) }
+    ensures cost { steps.new ≤ steps.old + assignments_cost (entries_renewed renewal.entry) (read_assignment renewal.entry.revision.assignment.now ∷ []) }
 {
     let none = none_yet(alloc, renewal.relvars)?;
     let rows = revised(alloc, renewal, steps)?;
     let target = Target {
         relvars: renewal.relvars,
-        assignment: renewal.revision.assignment,
+        name: &renewal.revision.assignment.target,
+        place: renewal.revision.assignment.tree.place,
         at: renewal.at,
         value: renewal.value,
     };
-    let place = renewal.revision.assignment.tree.place;
     let known = hashed_alone(renewal.hashes);
-    prepare_exchange(alloc, target, place, rows, known, none.as_slice(), steps)
+    prepare_exchange(alloc, target, rows, known, none.as_slice(), steps)
 }
 
-// The hashes of rows, where nothing is known of those that come after them.
-fn hashed_alone(hashes: &[Hashes]) -> Known<'_>
+/// The hashes of rows, where nothing is known of those that come after them.
+pub(crate) fn hashed_alone(hashes: &[Hashes]) -> Known<'_>
     ensures { result ≡ record { hashes = hashes.entry; packed = None } }
 {
     Known {

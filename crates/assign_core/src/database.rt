@@ -1,26 +1,24 @@
 // The database.
-ghost use Rattle.std.specs.Prelude.{◌≡◌, ◌≤◌, ◌+◌, List, Some, map, take, OnOk, OnErr, IsOk};
+ghost use Rattle.std.specs.Prelude.{◌≡◌, ◌≤◌, ◌+◌, map, option_map, take, OnOk, OnErr, IsOk};
 ghost use Rattle.std.specs.List.{All};
-ghost use Rattle.point_core.specs.declared.fault.Place.{Place};
-ghost use Rattle.value_core.specs.declared.constraint.Constraint.{Constraint};
-ghost use Rattle.value_core.specs.Values.{rows_of, Relation as PlainRelation, Row as PlainRow};
 ghost use Rattle.tree_core.specs.Items.{read_assignment};
-ghost use Rattle.tree_core.specs.Relvars.{base, read_relvars, relvar_named};
+ghost use Rattle.tree_core.specs.Relvars.{read_relvars};
 ghost use Rattle.tree_core.specs.Trees.{read_test};
 ghost use Rattle.meaning_core.specs.Declarations.{read_declaration, with_rule, without_group, without_rule};
+ghost use Rattle.meaning_core.specs.Typing.{IsListIf};
 ghost use Rattle.meaning_core.specs.WellMade.{IsWellMade};
 ghost use Rattle.meaning_core.specs.Updates.{IsTypedAssignment};
 ghost use Rattle.algebra_core.specs.Costs.{test_cost};
 ghost use Rattle.assign_core.specs.Assignments.{constrained, IsAssigned, IsDone};
 ghost use Rattle.assign_core.specs.Costs.{cost_of_assignments};
 ghost use Rattle.assign_core.specs.Databases.{no_relvars, declared, IsKept};
-ghost use Rattle.assign_core.specs.NewRows.{brought_cost, brought_in, IsBrought, IsFoundIf, StaysUnless, TakesNoneIf};
+ghost use Rattle.assign_core.specs.NewRows.{joining, replacing, IsFoundIf, IsPaidFor, IsToldOf, StaysUnless, TakesNoneIf};
 
 use crate::appending::append_all;
 use crate::dropping::drop_group;
 use crate::filling::fill;
 use crate::hashed::{Hashed, no_hashes};
-use crate::new_rows::bring;
+use crate::new_rows::{Coming, bring};
 use crate::preparing::prepare;
 use crate::rules::add_rule;
 use crate::settling::settle;
@@ -30,7 +28,7 @@ use std::alloc::Global;
 use std::marker::Model;
 use std::sync::ledger::Ledger;
 use tree_core::{Assignment, Declaration, RelTest, Relvars};
-use value_core::{Name, OrdinalTypes, Refuse, Relation};
+use value_core::{Name, OrdinalTypes, Positions, Refuse, Relation};
 
 /// The ordinal types, relvars and views, and the database constraints. They are well made, each constraint of a relvar and each database
 /// constraint holds, and the base relvars have at most 200,000 rows together.
@@ -130,33 +128,57 @@ impl Database {
         }
     }
 
-    /// Adds the rows to the base relvar of this name, or puts them in place of its rows; or refuses and changes nothing.
+    /// Puts the rows in place of those of the base relvar of this name; or refuses and changes nothing.
     ///
-    /// It is `Ok(false)`, with nothing changed and no step taken, where no base relvar of this name has the rows' heading, and where it
-    /// would have more than 100,000 rows.
-    pub fn put_rows<L: Ledger>(
+    /// It is `Ok(false)`, with nothing changed and no step taken, where no base relvar of this name has the rows' heading.
+    pub fn set_rows<L: Ledger>(
         &mut self,
         target: &Name,
-        sets: bool,
         rows: Relation,
         steps: &mut Steps<L>,
     ) -> Result<bool, Refuse>
-        ensures brought { (old : PlainRelation) (constraints : List Constraint) (at there : Place) (given : List PlainRow)
-            → relvar_named (read_relvars self.old).relvars target.now ≡ Some (base old constraints) → rows.heading ≡ old.heading → rows.rows ≡ rows_of given
-            → IsBrought result (read_relvars self.old) (read_relvars self.new) (brought_in (read_relvars self.old) sets at there target.now old given) }
-        ensures found { IsFoundIf result (read_relvars self.old) target.now rows.heading steps.old steps.new }
+        ensures brought { IsToldOf replacing result (read_relvars self.old) (read_relvars self.new) target.now rows }
+        ensures found { IsFoundIf result (read_relvars self.old) target.now rows.heading }
         ensures stays { StaysUnless result (read_relvars self.old) (read_relvars self.new) }
         ensures none { TakesNoneIf result steps.old steps.new }
-        ensures cost { (old : PlainRelation) (constraints : List Constraint) (at there : Place) (given : List PlainRow)
-            → relvar_named (read_relvars self.old).relvars target.now ≡ Some (base old constraints) → rows.heading ≡ old.heading → rows.rows ≡ rows_of given
-            → steps.new ≤ steps.old + brought_cost (read_relvars self.old) sets at there target.now old given }
+        ensures cost { IsPaidFor replacing (read_relvars self.old) target.now rows steps.old steps.new }
     {
         bring(
             self.alloc,
             &mut self.relvars,
             &mut self.hashed,
             target,
-            sets,
+            Coming::Set,
+            rows,
+            steps,
+        )
+    }
+
+    /// Adds the rows to those of the base relvar of this name, under USING of the attributes of a list where one is given; or refuses and
+    /// changes nothing.
+    ///
+    /// It is `Ok(false)`, with nothing changed and no step taken, where no base relvar of this name has the rows' heading, where it has
+    /// more than 100,000 rows with them, each counted, and where the list is not one attribute.
+    pub fn insert_rows<L: Ledger>(
+        &mut self,
+        target: &Name,
+        commalist: Option<&Positions>,
+        rows: Relation,
+        steps: &mut Steps<L>,
+    ) -> Result<bool, Refuse>
+        requires { IsListIf rows.heading (option_map (λ l. l.now) commalist) }
+        ensures brought { IsToldOf (joining (option_map (λ l. l.now) commalist.entry)) result (read_relvars self.old) (read_relvars self.new) target.now rows }
+        ensures found { IsFoundIf result (read_relvars self.old) target.now rows.heading }
+        ensures stays { StaysUnless result (read_relvars self.old) (read_relvars self.new) }
+        ensures none { TakesNoneIf result steps.old steps.new }
+        ensures cost { IsPaidFor (joining (option_map (λ l. l.now) commalist.entry)) (read_relvars self.old) target.now rows steps.old steps.new }
+    {
+        bring(
+            self.alloc,
+            &mut self.relvars,
+            &mut self.hashed,
+            target,
+            Coming::Insert(commalist),
             rows,
             steps,
         )

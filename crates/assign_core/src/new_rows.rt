@@ -1,185 +1,129 @@
 // Rows that come to a base relvar as they are, and not as the value of an expression.
-ghost use Rattle.std.specs.Prelude.{◌≡◌, ◌+◌, ◌<◌, ◌≤◌, List, length, replicate, slice_set, true, None, Some, IfOk, IfSome};
-ghost use Rattle.point_core.specs.declared.fault.Place.{Place};
+ghost use Rattle.std.specs.Prelude.{◌≡◌, ◌+◌, ◌≤◌, List, length, option_map, true, Ok, IfErr, IfOk, IfSome};
+ghost use Rattle.std.specs.List.{All};
 ghost use Rattle.value_core.specs.declared.constraint.Constraint.{Constraint};
-ghost use Rattle.value_core.specs.Values.{most_rows, rows_of, Relation as PlainRelation, Row as PlainRow};
-ghost use Rattle.tree_core.specs.Relvars.{base, read_relvars, relvar_named};
+ghost use Rattle.value_core.specs.Values.{most_rows, IsRelation};
+ghost use Rattle.relation_core.specs.Hashes.{AreHashesOf};
+ghost use Rattle.tree_core.specs.Relvars.{base, read_relvars};
 ghost use Rattle.meaning_core.specs.Names.{IsFirstAt};
-ghost use Rattle.assign_core.specs.Arrivals.{IsFresh, IsReadyFor, MayEnter};
-ghost use Rattle.assign_core.specs.Assignments.{kept_or_refused, unless_rule_broken, IsAdmitted};
-ghost use Rattle.assign_core.specs.Costs.{constraints_cost, rules_cost_of};
+ghost use Rattle.meaning_core.specs.Typing.{IsListIf};
+ghost use Rattle.assign_core.specs.Arrivals.{entries_then, way_of, IsBaseFor, IsOneAtMost, IsReadied};
+ghost use Rattle.assign_core.specs.Assignments.{kept_or_refused, of_values, IsRefusedFor};
+ghost use Rattle.assign_core.specs.Costs.{constraints_cost, constraints_cost_of};
 ghost use Rattle.assign_core.specs.Databases.{IsKept};
 ghost use Rattle.assign_core.specs.Hashed.{AreHashed};
-ghost use Rattle.assign_core.specs.NewRows.{brought_cost, brought_in, IsBrought, IsFoundIf, StaysUnless, TakesNoneIf};
-ghost use Rattle.assign_core.specs.Turnovers.{renewed_at, with_ready, IsCounted, IsTurnoverOf};
+ghost use Rattle.assign_core.specs.Insertions.{sum_in, united_cost};
+ghost use Rattle.assign_core.specs.NewRows.{joined_cost, rows_then, IsFoundIf, IsListFor, IsPaidFor, IsToldOf, StaysUnless, TakesNoneIf};
+ghost use Rattle.assign_core.specs.Targets.{entries_before, IsTarget};
+ghost use Rattle.assign_core.specs.Turnovers.{with_ready, IsReady};
 
-use crate::addition::{admit_turnover, no_rows};
+use crate::addition::{Addition, coming};
+use crate::by_condition::hashed_alone;
 use crate::changes::none_yet;
 use crate::filling::fill_target;
 use crate::hashed::{Hashed, hashes_at};
-use crate::preparing::{Ready, admit};
+use crate::preparing::{Ready, prepare_addition, prepare_exchange, prepare_value};
 use crate::removal::remove;
 use crate::settling::settle;
-use crate::turnover::{Known, Turnover, value_named};
-use change_rows::Exchange;
-use point_core::{Memory, Steps};
+use crate::target::Target;
+use point_core::{Memory, Place, Steps};
+use relation_core::Hashes;
 use std::alloc::Global;
 use std::sync::ledger::Ledger;
 use tree_core::{Relvar, Relvars};
-use value_core::{MOST_ROWS, Name, Refuse, Relation};
+use value_core::{MOST_ROWS, Name, Positions, Refuse, Relation};
 
-/// Adds the rows to the base relvar of the name, or puts them in place of its rows; or refuses, and changes nothing. They are left where
-/// no base relvar of the name has their heading, and where it would have too many rows.
+/// The place of a fault that cannot come, since there is room for all rows.
+const NOWHERE: Place = Place { line: 1, column: 1 };
+
+/// How rows come: in place of the relvar's own, or to be added to them, under USING where there is a list.
+#[derive(Clone, Copy)]
+pub(crate) enum Coming<'a> {
+    Set,
+    Insert(Option<&'a Positions>),
+}
+
+/// Brings the rows to the base relvar of the name; or refuses, and changes nothing. They are left where no base relvar of the name has
+/// their heading, where it might have too many rows, and where they come under a list of several attributes.
 pub(crate) fn bring<L: Ledger>(
     alloc: Global,
     relvars: &mut Relvars,
     hashed: &mut Hashed,
     target: &Name,
-    sets: bool,
+    way: Coming<'_>,
     rows: Relation,
     steps: &mut Steps<L>,
 ) -> Result<bool, Refuse>
     requires kept { IsKept (read_relvars relvars.old) }
     requires hashed { AreHashed hashed.old (read_relvars relvars.old).relvars }
-    ensures brought { (old : PlainRelation) (constraints : List Constraint) (at there : Place) (given : List PlainRow)
-        → relvar_named (read_relvars relvars.old).relvars target.now ≡ Some (base old constraints) → rows.heading ≡ old.heading → rows.rows ≡ rows_of given
-        → IsBrought result (read_relvars relvars.old) (read_relvars relvars.new) (brought_in (read_relvars relvars.old) sets at there target.now old given) }
-    ensures found { IsFoundIf result (read_relvars relvars.old) target.now rows.heading steps.old steps.new }
+    requires listed { IsListFor rows.heading (way_of way) }
+    ensures brought { IsToldOf (way_of way.entry) result (read_relvars relvars.old) (read_relvars relvars.new) target.now rows }
+    ensures found { IsFoundIf result (read_relvars relvars.old) target.now rows.heading }
     ensures stays { StaysUnless result (read_relvars relvars.old) (read_relvars relvars.new) }
     ensures none { TakesNoneIf result steps.old steps.new }
     ensures kept { IsKept (read_relvars relvars.new) }
     ensures hashed { AreHashed hashed.new (read_relvars relvars.new).relvars }
-    ensures cost { (old : PlainRelation) (constraints : List Constraint) (at there : Place) (given : List PlainRow)
-        → relvar_named (read_relvars relvars.old).relvars target.now ≡ Some (base old constraints) → rows.heading ≡ old.heading → rows.rows ≡ rows_of given
-        → steps.new ≤ steps.old + brought_cost (read_relvars relvars.old) sets at there target.now old given }
+    ensures cost { IsPaidFor (way_of way.entry) (read_relvars relvars.old) target.now rows steps.old steps.new }
 {
-    let found = ready_rows(alloc, relvars, target, sets, rows)?;
+    let found = ready_rows(alloc, relvars, hashed, target, way, rows, steps)?;
     match found {
-        Some(ready) => enter(alloc, relvars, hashed, target, ready, steps),
+        Some(ready) => {
+            settle(alloc, relvars, hashed, ready, steps)?;
+            Ok(true)
+        }
         None => Ok(false),
     }
 }
 
-// Exchanges what stands ready, or tells why it is refused.
-fn enter<L: Ledger>(
-    alloc: Global,
-    relvars: &mut Relvars,
-    hashed: &mut Hashed,
-    target: &Name,
-    ready: Ready,
-    steps: &mut Steps<L>,
-) -> Result<bool, Refuse>
-    requires kept { IsKept (read_relvars relvars.old) }
-    requires hashed { AreHashed hashed.old (read_relvars relvars.old).relvars }
-    requires may { MayEnter ready (read_relvars relvars.old).relvars target.now }
-    ensures brought { IsBrought result (read_relvars relvars.old) (read_relvars relvars.new)
-        (unless_rule_broken (read_relvars relvars.old).rules (kept_or_refused (with_ready ready (read_relvars relvars.old).relvars))) }
-    ensures none { TakesNoneIf result steps.old steps.new }
-    ensures kept { IsKept (read_relvars relvars.new) }
-    ensures hashed { AreHashed hashed.new (read_relvars relvars.new).relvars }
-    ensures cost { steps.new ≤ steps.old + (constraints_cost (with_ready ready (read_relvars relvars.old).relvars)
-        + rules_cost_of (read_relvars relvars.old).rules (kept_or_refused (with_ready ready (read_relvars relvars.old).relvars))) }
-{
-    admit_ready(alloc, relvars, hashed, target, &ready, steps)?;
-    settle(alloc, relvars, hashed, ready, steps)?;
-    Ok(true)
-}
-
-// Refuses too many rows of all relvars, and then a broken constraint. Rows to which others come are hashed first.
-fn admit_ready<L: Ledger>(
+// What stands ready where rows are brought to the base relvar of the name, or why that is refused; nothing where the rows are left.
+fn ready_rows<L: Ledger>(
     alloc: Global,
     relvars: &Relvars,
     hashed: &mut Hashed,
     target: &Name,
-    ready: &Ready,
+    way: Coming<'_>,
+    rows: Relation,
     steps: &mut Steps<L>,
-) -> Result<(), Refuse>
+) -> Result<Option<Ready>, Refuse>
     requires kept { IsKept (read_relvars relvars.now) }
     requires hashed { AreHashed hashed.old (read_relvars relvars.now).relvars }
-    requires may { MayEnter ready.now (read_relvars relvars.now).relvars target.now }
-    ensures admitted { IsAdmitted result (with_ready ready.now (read_relvars relvars.now).relvars) }
+    requires listed { IsListFor rows.heading (way_of way) }
+    ensures readied { IsReadied result (read_relvars relvars.now) (way_of way.entry) target.now rows steps.old steps.new }
     ensures hashed { AreHashed hashed.new (read_relvars relvars.now).relvars }
-    ensures cost { steps.new ≤ steps.old + constraints_cost (with_ready ready.now (read_relvars relvars.now).relvars) }
 {
-    match ready {
-        Ready::Values(changes) => admit(alloc, relvars, changes.as_slice(), steps),
-        Ready::Rows(at, rows) => {
-            fill_target(alloc, target, relvars, hashed)?;
-            admit_new(alloc, relvars, hashed, target, *at, rows, steps)
-        }
-    }
-}
-
-// The same of rows that come to the base relvar of the name, which stands at a place.
-fn admit_new<'a, L: Ledger>(
-    alloc: Global,
-    relvars: &'a Relvars,
-    hashed: &'a Hashed,
-    target: &'a Name,
-    at: usize,
-    rows: &'a Exchange,
-    steps: &mut Steps<L>,
-) -> Result<(), Refuse>
-    requires kept { IsKept (read_relvars relvars.now) }
-    requires hashed { AreHashed hashed.now (read_relvars relvars.now).relvars }
-    requires new { (value : PlainRelation) × IsTurnoverOf (read_relvars relvars.now).relvars target.now at value rows.now × IsCounted value rows.now }
-    ensures admitted { IsAdmitted result (renewed_at at rows.now (read_relvars relvars.now).relvars) }
-    ensures cost { steps.new ≤ steps.old + constraints_cost (renewed_at at rows.now (read_relvars relvars.now).relvars) }
-{
-    let none = none_yet(alloc, relvars)?;
-    let turnover = Turnover {
+    let Some((at, value)) = base_for(relvars, target, way, &rows) else {
+        return Ok(None);
+    };
+    fill_for(alloc, way, target, relvars, hashed)?;
+    let base = Target {
         relvars,
-        at,
         name: target,
-        value: value_there(relvars, target),
-        rows,
-        new: None,
-        known: Known {
-            hashes: hashes_at(hashed, at),
-            packed: None,
-        },
+        place: NOWHERE,
+        at,
+        value,
     };
-    admit_turnover(alloc, turnover, none.as_slice(), steps)
+    let ready = ready_for(alloc, base, hashes_at(hashed, at), way, rows, steps)?;
+    Ok(Some(ready))
 }
 
-// The value of the base relvar of the name.
-fn value_there<'a>(relvars: &'a Relvars, target: &Name) -> &'a Relation
-    requires { (value : PlainRelation) × (constraints : List Constraint) × (relvar_named (read_relvars relvars.now).relvars target.now ≡ Some (base value constraints)) }
-    ensures { (value : PlainRelation) (constraints : List Constraint) → relvar_named (read_relvars relvars.now).relvars target.now ≡ Some (base value constraints) → result.now ≡ value }
-{
-    match value_named(relvars, target) {
-        Some(value) => value,
-        None => unreachable!(),
-    }
-}
-
-// What stands ready where rows are brought to the base relvar of the name: nothing where there is none with their heading, or where it
-// would have too many rows.
-fn ready_rows(
-    alloc: Global,
-    relvars: &Relvars,
+// The place and the value of the base relvar of the name, if there is one with the heading of the rows, and with room for them.
+fn base_for<'a>(
+    relvars: &'a Relvars,
     target: &Name,
-    sets: bool,
-    rows: Relation,
-) -> Result<Option<Ready>, Memory>
-    requires kept { IsKept (read_relvars relvars.now) }
-    ensures { IfOk result (λ o. IfSome o (λ r. IsReadyFor (read_relvars relvars.now).relvars target.now sets rows r)) }
+    way: Coming<'_>,
+    rows: &Relation,
+) -> Option<(usize, &'a Relation)>
+    requires { IsListFor rows.now.heading (way_of way) }
+    ensures { IfSome result (λ r. IsBaseFor (read_relvars relvars.now).relvars target.now (way_of way.entry) rows.now r.0 r.1.now) }
 {
-    let Some((at, value)) = base_of(relvars, target) else {
-        return Ok(None);
-    };
-    if !has_heading_of(&rows, value) {
-        return Ok(None);
+    let (at, value) = base_of(relvars, target)?;
+    if !has_heading_of(rows, value) {
+        return None;
     }
-    if sets {
-        let changes = only_new(alloc, relvars, at, rows)?;
-        return Ok(Some(Ready::Values(changes)));
+    if !has_room(value, way, rows) {
+        return None;
     }
-    let new = fresh(alloc, value, rows)?;
-    match new {
-        Some(exchange) => Ok(Some(Ready::Rows(at, exchange))),
-        None => Ok(None),
-    }
+    Some((at, value))
 }
 
 // The place and the value of the base relvar of the name, if there is one.
@@ -203,39 +147,115 @@ fn base_of<'a>(relvars: &'a Relvars, target: &Name) -> Option<(usize, &'a Relati
 
 // Whether the rows have the heading of the value.
 fn has_heading_of(rows: &Relation, value: &Relation) -> bool
-    ensures same { result ≡ true → rows.now.heading ≡ value.now.heading }
-    ensures few { length rows.now.rows ≤ most_rows }
-    ensures own { length value.now.rows ≤ most_rows }
+    ensures { result ≡ true → rows.now.heading ≡ value.now.heading }
 {
     rows.heading().attributes() == value.heading().attributes()
 }
 
-// The rows as the only new value, of the base relvar at a place.
-fn only_new(
-    alloc: Global,
-    relvars: &Relvars,
-    at: usize,
-    rows: Relation,
-) -> Result<Vec<Option<Relation>>, Memory>
-    requires { at < length relvars.now.list.entries }
-    ensures { IfOk result (λ v. v.items ≡ slice_set (replicate (length relvars.now.list.entries) None) at (Some rows)) }
+// Whether the rows of both are surely not too many: on one attribute they are packed to no more rows.
+fn has_room(value: &Relation, way: Coming<'_>, rows: &Relation) -> bool
+    ensures room { result ≡ true → rows.now.heading ≡ value.now.heading → IsListFor rows.now.heading (way_of way.entry) → length (rows_then (way_of way.entry) value.now.rows rows.now.rows) ≤ most_rows }
+    ensures relation { IsRelation value.now }
+    ensures few { length rows.now.rows ≤ most_rows }
 {
-    let mut changes = none_yet(alloc, relvars)?;
-    changes[at] = Some(rows);
-    Ok(changes)
+    let together = value.rows().len() + rows.rows().len();
+    match way {
+        Coming::Set => true,
+        Coming::Insert(commalist) => is_one_at_most(commalist) && together <= MOST_ROWS,
+    }
 }
 
-// The rows that the value does not have, none of which is copied, and none that go, if there is room for them.
-fn fresh(alloc: Global, value: &Relation, rows: Relation) -> Result<Option<Exchange>, Memory>
-    requires { rows.heading ≡ value.now.heading }
-    ensures { IfOk result (λ o. IfSome o (λ x. IsFresh value.now rows x)) }
+// Whether there is no list, or one of one attribute.
+fn is_one_at_most(commalist: Option<&Positions>) -> bool
+    ensures { result ≡ true → IsOneAtMost (option_map (λ l. l.now) commalist.entry) }
 {
-    let room = MOST_ROWS - value.rows().len();
-    let mut come = rows;
-    remove(&mut come, alloc, value);
-    if come.rows().len() > room {
-        return Ok(None);
+    match commalist {
+        Some(list) => list.list.as_slice().len() == 1,
+        None => true,
     }
-    let gone = no_rows(alloc, value)?;
-    Ok(Some(Exchange { come, gone }))
+}
+
+// Hashes the rows of the base relvar to which others are added, if it has hashes.
+fn fill_for(
+    alloc: Global,
+    way: Coming<'_>,
+    target: &Name,
+    relvars: &Relvars,
+    hashed: &mut Hashed,
+) -> Result<(), Memory>
+    requires { AreHashed hashed.old (read_relvars relvars.now).relvars }
+    ensures { AreHashed hashed.new (read_relvars relvars.now).relvars }
+{
+    match way {
+        Coming::Set => Ok(()),
+        Coming::Insert(_) => fill_target(alloc, target, relvars, hashed),
+    }
+}
+
+// What stands ready where rows come to a base relvar that has room for them, or why that is refused.
+fn ready_for<L: Ledger>(
+    alloc: Global,
+    target: Target<'_>,
+    hashes: &[Hashes],
+    way: Coming<'_>,
+    rows: Relation,
+    steps: &mut Steps<L>,
+) -> Result<Ready, Refuse>
+    requires kept { IsKept (read_relvars target.relvars.now) }
+    requires base { IsBaseFor (entries_before target) target.name.now (way_of way) rows target.at target.value.now }
+    requires hashed { All (AreHashesOf target.value.now.rows) hashes.now }
+    requires listed { IsListFor rows.heading (way_of way) }
+    ensures ready { IfOk result (λ r. IsReady r (entries_before target.entry)) }
+    ensures meant { IfOk result (λ r. kept_or_refused (entries_then (entries_before target.entry) (way_of way.entry) target.entry.name.now target.entry.value.now.rows rows) ≡ Ok (with_ready r (entries_before target.entry))) }
+    ensures refused { IfErr result (λ refuse. IsRefusedFor refuse (kept_or_refused (entries_then (entries_before target.entry) (way_of way.entry) target.entry.name.now target.entry.value.now.rows rows))) }
+    ensures cost { steps.new ≤ steps.old + (joined_cost (way_of way.entry) target.entry.value.now.rows rows.rows + constraints_cost (entries_then (entries_before target.entry) (way_of way.entry) target.entry.name.now target.entry.value.now.rows rows)) }
+{
+    match way {
+        Coming::Set => prepare_value(alloc, target, rows, steps),
+        Coming::Insert(commalist) => join(alloc, target, hashes, commalist, rows, steps),
+    }
+}
+
+// What stands ready where rows are added to those of a base relvar, or why that is refused. Without a list none of them is copied.
+fn join<L: Ledger>(
+    alloc: Global,
+    target: Target<'_>,
+    hashes: &[Hashes],
+    commalist: Option<&Positions>,
+    rows: Relation,
+    steps: &mut Steps<L>,
+) -> Result<Ready, Refuse>
+    requires kept { IsKept (read_relvars target.relvars.now) }
+    requires target { IsTarget target }
+    requires headed { rows.heading ≡ target.value.now.heading }
+    requires relation { IsRelation target.value.now }
+    requires hashed { All (AreHashesOf target.value.now.rows) hashes.now }
+    requires listed { IsListIf rows.heading (option_map (λ l. l.now) commalist) }
+    ensures ready { IfOk result (λ r. IsReady r (entries_before target.entry)) }
+    ensures meant { let sum = sum_in target.entry (option_map (λ l. l.now) commalist.entry) rows.rows in
+        IfOk result (λ r. of_values sum ≡ Ok (with_ready r (entries_before target.entry))) }
+    ensures refused { let sum = sum_in target.entry (option_map (λ l. l.now) commalist.entry) rows.rows in
+        IfErr result (λ refuse. IsRefusedFor refuse (of_values sum)) }
+    ensures cost { let sum = sum_in target.entry (option_map (λ l. l.now) commalist.entry) rows.rows in
+        steps.new ≤ steps.old + (united_cost (option_map (λ l. l.now) commalist.entry) (length target.entry.value.now.rows + length rows.rows) + constraints_cost_of sum) }
+{
+    let none = none_yet(alloc, target.relvars)?;
+    match commalist {
+        Some(_) => {
+            let addition = Addition {
+                target,
+                commalist,
+                hashes,
+                operand: &rows,
+            };
+            prepare_addition(alloc, addition, none.as_slice(), steps)
+        }
+        None => {
+            let mut come = rows;
+            remove(&mut come, alloc, target.value);
+            let exchange = coming(alloc, target.value, come)?;
+            let known = hashed_alone(hashes);
+            prepare_exchange(alloc, target, exchange, known, none.as_slice(), steps)
+        }
+    }
 }

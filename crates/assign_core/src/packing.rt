@@ -11,7 +11,7 @@ ghost use Rattle.meaning_core.specs.Meanings.{limited};
 ghost use Rattle.u_constraints.specs.Growth.{exchanged};
 ghost use Rattle.change_rows.specs.Exchanges.{IsExchange};
 ghost use Rattle.assign_core.specs.Databases.{IsKept};
-ghost use Rattle.assign_core.specs.Insertions.{addition_cost, is_kept_packed, keeps_packed, list_in, value_meant, IsAddition, IsPackedOn};
+ghost use Rattle.assign_core.specs.Insertions.{addition_cost, is_kept_packed, keeps_packed, list_under, rows_of_both, value_meant, IsAddition, IsPackedOn};
 ghost use Rattle.assign_core.specs.Turnovers.{ArePackedIf};
 
 use crate::addition::Addition;
@@ -24,13 +24,13 @@ use std::sync::ledger::Ledger;
 use tree_core::Relvar;
 use value_core::{Constraint, Positions, Relation, RowsRefuse};
 
-/// The list of the insertion's USING, where a constraint of the target keeps its rows packed on the very list.
+/// The list of the addition, where a constraint of the target keeps its rows packed on the very list.
 pub(crate) fn packed_list(addition: Addition<'_>) -> Option<&Positions>
-    requires kept { IsKept (read_relvars addition.relvars.now) }
+    requires kept { IsKept (read_relvars addition.target.relvars.now) }
     requires addition { IsAddition addition }
     ensures { IfSome result (λ l. IsPackedOn addition.entry l.now) }
 {
-    match addition.insertion.list {
+    match addition.commalist {
         Some(commalist) if is_packed_on(addition, commalist) => Some(commalist),
         _ => None,
     }
@@ -38,11 +38,12 @@ pub(crate) fn packed_list(addition: Addition<'_>) -> Option<&Positions>
 
 // Whether a constraint of the target keeps its rows packed on the list.
 fn is_packed_on(addition: Addition<'_>, commalist: &Positions) -> bool
-    requires kept { IsKept (read_relvars addition.relvars.now) }
+    requires kept { IsKept (read_relvars addition.target.relvars.now) }
     requires addition { IsAddition addition }
-    ensures { result ≡ true → packed commalist.now addition.entry.value.now.rows ≡ addition.entry.value.now.rows }
+    ensures { result ≡ true → packed commalist.now addition.entry.target.value.now.rows ≡ addition.entry.target.value.now.rows }
 {
-    match addition.relvars.list.get_index(addition.at) {
+    let target = addition.target;
+    match target.relvars.list.get_index(target.at) {
         Some((_, relvar)) => is_kept_packed(relvar, commalist),
         None => false,
     }
@@ -100,29 +101,28 @@ pub(crate) fn exchange_of<L: Ledger>(
     steps: &mut Steps<L>,
 ) -> Result<Exchange, Stop>
     requires addition { IsAddition addition }
-    requires hashed { All (AreHashesOf addition.value.now.rows) addition.hashes.now }
+    requires hashed { All (AreHashesOf addition.target.value.now.rows) addition.hashes.now }
     requires packed { IsPackedOn addition commalist.now }
-    ensures exchange { IfOk result (IsExchange addition.entry.value.now) }
-    ensures packed { IfOk result (λ x. ArePackedIf (list_in addition.entry.insertion) (exchanged addition.entry.value.now.rows x.gone.rows x.come.rows)) }
-    ensures meant { IfOk result (λ x. value_meant addition.entry
-        ≡ under addition.entry.value.now.heading (limited addition.entry.insertion.assignment.now.tree.place (exchanged addition.entry.value.now.rows x.gone.rows x.come.rows))) }
+    ensures exchange { IfOk result (IsExchange addition.entry.target.value.now) }
+    ensures packed { IfOk result (λ x. ArePackedIf (list_under addition.entry) (exchanged addition.entry.target.value.now.rows x.gone.rows x.come.rows)) }
+    ensures rows { IfOk result (λ x. exchanged addition.entry.target.value.now.rows x.gone.rows x.come.rows ≡ rows_of_both addition.entry) }
     ensures refused { IfErr result (λ stop. Answers {A = PlainRelation} (Err stop) (value_meant addition.entry)) }
     ensures cost { steps.new ≤ steps.old + addition_cost addition.entry }
 {
     // Each row has the values of its heading.
-    let _rows = addition.value.rows();
+    let _rows = addition.target.value.rows();
     let _more = addition.operand.rows();
     let list = commalist.list.as_slice();
     let Addition {
-        value,
+        target,
         hashes,
         operand,
         ..
     } = addition;
-    match inserted(alloc, value, hashes, operand, list, steps) {
+    match inserted(alloc, target.value, hashes, operand, list, steps) {
         Ok(rows) => Ok(rows),
         Err(RowsRefuse::TooMany) => Err(Stop::Fault(Fault {
-            place: addition.insertion.assignment.tree.place,
+            place: target.place,
             code: Code::E35,
         })),
         Err(RowsRefuse::Memory) => Err(Stop::Memory),

@@ -1,26 +1,21 @@
 // What stands ready before anything changes.
 ghost use Rattle.std.specs.Prelude.{◌≡◌, ◌≤◌, ◌+◌, [], ◌∷◌, length, map, replicate, None, Ok, IfOk, IfErr};
 ghost use Rattle.std.specs.List.{All};
-ghost use Rattle.relation_core.specs.Answers.{under};
 ghost use Rattle.relation_core.specs.Hashes.{AreHashesOf};
 ghost use Rattle.tree_core.specs.Items.{read_assignment};
 ghost use Rattle.tree_core.specs.Relvars.{read_relvars};
-ghost use Rattle.meaning_core.specs.Meanings.{limited};
 ghost use Rattle.meaning_core.specs.Updates.{IsTypedAssignment};
-ghost use Rattle.u_constraints.specs.Growth.{exchanged};
 ghost use Rattle.change_rows.specs.Exchanges.{IsExchange};
-ghost use Rattle.assign_core.specs.Assignments.{after_assignments, IsRefusedFor, IsAdmitted};
+ghost use Rattle.assign_core.specs.Assignments.{after_assignments, kept_or_refused, of_values, with_target, IsRefusedFor, IsAdmitted};
 ghost use Rattle.assign_core.specs.Changes.{AreChanges, changed};
 ghost use Rattle.assign_core.specs.Costs.{assignments_cost, constraints_cost, constraints_cost_of};
 ghost use Rattle.assign_core.specs.Databases.{IsKept};
 ghost use Rattle.assign_core.specs.Turnovers.{with_ready, IsKnown, IsReady};
 ghost use Rattle.assign_core.specs.Hashed.{AreHashed};
-ghost use Rattle.assign_core.specs.Insertions.{addition_cost, entries_of, outcome, sum_of, IsAddition, IsInsertion, IsPackedOn, IsPlain};
-ghost use Rattle.assign_core.specs.Targets.{entries_before, entries_given, result_given, value_given, IsTarget};
+ghost use Rattle.assign_core.specs.Insertions.{addition_cost, outcome, sum_of, IsAddition, IsInsertion, IsPackedOn, IsPlain};
+ghost use Rattle.assign_core.specs.Targets.{entries_after, entries_before, IsTarget};
 
-use crate::addition::{
-    Addition, admit_rows, is_plain, known_of, prepare_rows, put_value, target_of, unite,
-};
+use crate::addition::{Addition, admit_rows, is_plain, known_of, new_rows, unite};
 use crate::by_condition::prepare_change;
 use crate::changes::none_yet;
 use crate::checking::After;
@@ -34,8 +29,7 @@ use crate::target::Target;
 use crate::tuning::ROWS_LOOKED_AT_FOR_ONE;
 use crate::turnover::{Known, have_room};
 use change_rows::Exchange;
-use point_core::{Code, Place, Steps};
-use relation_core::Hashes;
+use point_core::{Code, Steps};
 use std::alloc::Global;
 use std::sync::ledger::Ledger;
 use tree_core::{Assignment, Relvars};
@@ -109,30 +103,35 @@ fn prepare_insertion<L: Ledger>(
 {
     let none = none_yet(alloc, relvars)?;
     let (at, value, operand) = evaluate_operand(alloc, insertion, relvars, none.as_slice(), steps)?;
-    let addition = Addition {
-        insertion,
+    let target = Target {
         relvars,
+        name: &insertion.assignment.target,
+        place: insertion.assignment.tree.place,
         at,
         value,
+    };
+    let addition = Addition {
+        target,
+        commalist: insertion.list,
         hashes: hashes_at(hashed, at),
         operand: &operand,
     };
     prepare_addition(alloc, addition, none.as_slice(), steps)
 }
 
-// What stands ready once the operand has a value, or why the insertion is refused.
-fn prepare_addition<L: Ledger>(
+/// What stands ready where rows are added to a base relvar's own, or why that is refused.
+pub(crate) fn prepare_addition<L: Ledger>(
     alloc: Global,
     addition: Addition<'_>,
     none: &[Option<Relation>],
     steps: &mut Steps<L>,
 ) -> Result<Ready, Refuse>
-    requires kept { IsKept (read_relvars addition.relvars.now) }
-    requires none { none.now ≡ replicate (length addition.relvars.now.list.entries) None }
+    requires kept { IsKept (read_relvars addition.target.relvars.now) }
+    requires none { none.now ≡ replicate (length addition.target.relvars.now.list.entries) None }
     requires addition { IsAddition addition }
-    requires hashed { All (AreHashesOf addition.value.now.rows) addition.hashes.now }
-    ensures ready { IfOk result (λ r. IsReady r (entries_of addition.entry)) }
-    ensures meant { IfOk result (λ r. outcome addition.entry ≡ Ok (with_ready r (entries_of addition.entry))) }
+    requires hashed { All (AreHashesOf addition.target.value.now.rows) addition.hashes.now }
+    ensures ready { IfOk result (λ r. IsReady r (entries_before addition.entry.target)) }
+    ensures meant { IfOk result (λ r. outcome addition.entry ≡ Ok (with_ready r (entries_before addition.entry.target))) }
     ensures refused { IfErr result (λ refuse. IsRefusedFor refuse (outcome addition.entry)) }
     ensures cost { steps.new ≤ steps.old + (addition_cost addition.entry + constraints_cost_of (sum_of addition.entry)) }
 {
@@ -144,7 +143,7 @@ fn prepare_addition<L: Ledger>(
 
 // Whether the rows that come are so many that a look at all rows that are there is cheap beside reading them.
 fn comes_in_bulk(addition: Addition<'_>) -> bool {
-    addition.operand.rows().len() > addition.value.rows().len() / ROWS_LOOKED_AT_FOR_ONE
+    addition.operand.rows().len() > addition.target.value.rows().len() / ROWS_LOOKED_AT_FOR_ONE
 }
 
 // What stands ready where the target is kept packed on the list: rows of the labels that come are exchanged. Many rows that come are first
@@ -156,13 +155,13 @@ fn prepare_packed<L: Ledger>(
     none: &[Option<Relation>],
     steps: &mut Steps<L>,
 ) -> Result<Ready, Refuse>
-    requires kept { IsKept (read_relvars addition.relvars.now) }
-    requires none { none.now ≡ replicate (length addition.relvars.now.list.entries) None }
+    requires kept { IsKept (read_relvars addition.target.relvars.now) }
+    requires none { none.now ≡ replicate (length addition.target.relvars.now.list.entries) None }
     requires addition { IsAddition addition }
-    requires hashed { All (AreHashesOf addition.value.now.rows) addition.hashes.now }
+    requires hashed { All (AreHashesOf addition.target.value.now.rows) addition.hashes.now }
     requires packed { IsPackedOn addition commalist.now }
-    ensures ready { IfOk result (λ r. IsReady r (entries_of addition.entry)) }
-    ensures meant { IfOk result (λ r. outcome addition.entry ≡ Ok (with_ready r (entries_of addition.entry))) }
+    ensures ready { IfOk result (λ r. IsReady r (entries_before addition.entry.target)) }
+    ensures meant { IfOk result (λ r. outcome addition.entry ≡ Ok (with_ready r (entries_before addition.entry.target))) }
     ensures refused { IfErr result (λ refuse. IsRefusedFor refuse (outcome addition.entry)) }
     ensures cost { steps.new ≤ steps.old + (addition_cost addition.entry + constraints_cost_of (sum_of addition.entry)) }
 {
@@ -170,16 +169,59 @@ fn prepare_packed<L: Ledger>(
         return prepare_plain(alloc, addition, none, steps);
     }
     let rows = exchange_of(alloc, addition, commalist, steps)?;
-    let place = addition.insertion.assignment.tree.place;
     let known = known_of(addition);
-    prepare_exchange(alloc, target_of(addition), place, rows, known, none, steps)
+    prepare_exchange(alloc, addition.target, rows, known, none, steps)
+}
+
+// What stands ready where the target's rows may be any.
+fn prepare_any<L: Ledger>(
+    alloc: Global,
+    addition: Addition<'_>,
+    none: &[Option<Relation>],
+    steps: &mut Steps<L>,
+) -> Result<Ready, Refuse>
+    requires kept { IsKept (read_relvars addition.target.relvars.now) }
+    requires none { none.now ≡ replicate (length addition.target.relvars.now.list.entries) None }
+    requires addition { IsAddition addition }
+    requires hashed { All (AreHashesOf addition.target.value.now.rows) addition.hashes.now }
+    ensures ready { IfOk result (λ r. IsReady r (entries_before addition.entry.target)) }
+    ensures meant { IfOk result (λ r. outcome addition.entry ≡ Ok (with_ready r (entries_before addition.entry.target))) }
+    ensures refused { IfErr result (λ refuse. IsRefusedFor refuse (outcome addition.entry)) }
+    ensures cost { steps.new ≤ steps.old + (addition_cost addition.entry + constraints_cost_of (sum_of addition.entry)) }
+{
+    if is_plain(alloc, addition)? {
+        return prepare_plain(alloc, addition, none, steps);
+    }
+    let value = unite(alloc, addition, steps)?;
+    prepare_value(alloc, addition.target, value, steps)
+}
+
+// What stands ready where the rows of both stay as they are: those that come are put among those that are there.
+fn prepare_plain<L: Ledger>(
+    alloc: Global,
+    addition: Addition<'_>,
+    none: &[Option<Relation>],
+    steps: &mut Steps<L>,
+) -> Result<Ready, Refuse>
+    requires kept { IsKept (read_relvars addition.target.relvars.now) }
+    requires none { none.now ≡ replicate (length addition.target.relvars.now.list.entries) None }
+    requires addition { IsAddition addition }
+    requires hashed { All (AreHashesOf addition.target.value.now.rows) addition.hashes.now }
+    requires plain { IsPlain addition }
+    ensures ready { IfOk result (λ r. IsReady r (entries_before addition.entry.target)) }
+    ensures meant { IfOk result (λ r. outcome addition.entry ≡ Ok (with_ready r (entries_before addition.entry.target))) }
+    ensures refused { IfErr result (λ refuse. IsRefusedFor refuse (outcome addition.entry)) }
+    ensures cost { steps.new ≤ steps.old + (addition_cost addition.entry + constraints_cost_of (sum_of addition.entry)) }
+{
+    let rows = new_rows(alloc, addition)?;
+    let known = known_of(addition);
+    prepare_exchange(alloc, addition.target, rows, known, none, steps)
 }
 
 /// What stands ready where rows of the target are exchanged, or why that is refused.
 pub(crate) fn prepare_exchange<L: Ledger>(
     alloc: Global,
     target: Target<'_>,
-    place: Place,
     rows: Exchange,
     known: Known<'_>,
     none: &[Option<Relation>],
@@ -190,86 +232,38 @@ pub(crate) fn prepare_exchange<L: Ledger>(
     requires target { IsTarget target }
     requires exchange { IsExchange target.value.now rows }
     requires known { IsKnown target.value.now rows known }
-    requires meant { value_given target ≡ under target.value.now.heading (limited place (exchanged target.value.now.rows rows.gone.rows rows.come.rows)) }
     ensures ready { IfOk result (λ r. IsReady r (entries_before target.entry)) }
-    ensures meant { IfOk result (λ r. result_given target.entry ≡ Ok (with_ready r (entries_before target.entry))) }
-    ensures refused { IfErr result (λ refuse. IsRefusedFor refuse (result_given target.entry)) }
-    ensures cost { steps.new ≤ steps.old + constraints_cost_of (entries_given target.entry) }
+    ensures meant { IfOk result (λ r. of_values (entries_after target.entry rows) ≡ Ok (with_ready r (entries_before target.entry))) }
+    ensures refused { IfErr result (λ refuse. IsRefusedFor refuse (of_values (entries_after target.entry rows))) }
+    ensures cost { steps.new ≤ steps.old + constraints_cost_of (entries_after target.entry rows) }
 {
     if !have_room(target.value, &rows) {
-        let value = whole(alloc, target.value, place, &rows)?;
-        let changes = prepare_value(alloc, target, value, steps)?;
-        return Ok(Ready::Values(changes));
+        let value = whole(alloc, target.value, target.place, &rows)?;
+        return prepare_value(alloc, target, value, steps);
     }
     admit_rows(alloc, target, &rows, known, none, steps)?;
     Ok(Ready::Rows(target.at, rows))
 }
 
-// What stands ready where the target's rows may be any.
-fn prepare_any<L: Ledger>(
-    alloc: Global,
-    addition: Addition<'_>,
-    none: &[Option<Relation>],
-    steps: &mut Steps<L>,
-) -> Result<Ready, Refuse>
-    requires kept { IsKept (read_relvars addition.relvars.now) }
-    requires none { none.now ≡ replicate (length addition.relvars.now.list.entries) None }
-    requires addition { IsAddition addition }
-    requires hashed { All (AreHashesOf addition.value.now.rows) addition.hashes.now }
-    ensures ready { IfOk result (λ r. IsReady r (entries_of addition.entry)) }
-    ensures meant { IfOk result (λ r. outcome addition.entry ≡ Ok (with_ready r (entries_of addition.entry))) }
-    ensures refused { IfErr result (λ refuse. IsRefusedFor refuse (outcome addition.entry)) }
-    ensures cost { steps.new ≤ steps.old + (addition_cost addition.entry + constraints_cost_of (sum_of addition.entry)) }
-{
-    if is_plain(alloc, addition)? {
-        return prepare_plain(alloc, addition, none, steps);
-    }
-    let value = unite(alloc, addition, steps)?;
-    let changes = prepare_value(alloc, target_of(addition), value, steps)?;
-    Ok(Ready::Values(changes))
-}
-
-// What stands ready where the rows of both stay as they are: those that come are put among those that are there.
-fn prepare_plain<L: Ledger>(
-    alloc: Global,
-    addition: Addition<'_>,
-    none: &[Option<Relation>],
-    steps: &mut Steps<L>,
-) -> Result<Ready, Refuse>
-    requires kept { IsKept (read_relvars addition.relvars.now) }
-    requires none { none.now ≡ replicate (length addition.relvars.now.list.entries) None }
-    requires addition { IsAddition addition }
-    requires hashed { All (AreHashesOf addition.value.now.rows) addition.hashes.now }
-    requires plain { IsPlain addition }
-    ensures ready { IfOk result (λ r. IsReady r (entries_of addition.entry)) }
-    ensures meant { IfOk result (λ r. outcome addition.entry ≡ Ok (with_ready r (entries_of addition.entry))) }
-    ensures refused { IfErr result (λ refuse. IsRefusedFor refuse (outcome addition.entry)) }
-    ensures cost { steps.new ≤ steps.old + (addition_cost addition.entry + constraints_cost_of (sum_of addition.entry)) }
-{
-    let rows = prepare_rows(alloc, addition, none, steps)?;
-    Ok(Ready::Rows(addition.at, rows))
-}
-
-// The target's new value, or why it is refused.
-fn prepare_value<L: Ledger>(
+/// What stands ready where the target gets the value, or why that is refused.
+pub(crate) fn prepare_value<L: Ledger>(
     alloc: Global,
     target: Target<'_>,
     value: Relation,
     steps: &mut Steps<L>,
-) -> Result<Vec<Option<Relation>>, Refuse>
+) -> Result<Ready, Refuse>
     requires kept { IsKept (read_relvars target.relvars.now) }
     requires target { IsTarget target }
     requires headed { value.heading ≡ target.value.now.heading }
-    requires meant { value_given target ≡ Ok value }
-    ensures changes { IfOk result (λ v. AreChanges v.items (entries_before target.entry)) }
-    ensures ready { IfOk result (λ v. result_given target.entry ≡ Ok (changed v.items (entries_before target.entry))) }
-    ensures refused { IfErr result (λ refuse. IsRefusedFor refuse (result_given target.entry)) }
-    ensures cost { steps.new ≤ steps.old + constraints_cost_of (entries_given target.entry) }
+    ensures ready { IfOk result (λ r. IsReady r (entries_before target.entry)) }
+    ensures meant { IfOk result (λ r. kept_or_refused (with_target (entries_before target.entry) target.entry.name.now value) ≡ Ok (with_ready r (entries_before target.entry))) }
+    ensures refused { IfErr result (λ refuse. IsRefusedFor refuse (kept_or_refused (with_target (entries_before target.entry) target.entry.name.now value))) }
+    ensures cost { steps.new ≤ steps.old + constraints_cost (with_target (entries_before target.entry) target.entry.name.now value) }
 {
     let mut changes = none_yet(alloc, target.relvars)?;
-    put_value(target, &mut changes, value);
+    changes[target.at] = Some(value);
     admit(alloc, target.relvars, changes.as_slice(), steps)?;
-    Ok(changes)
+    Ok(Ready::Values(changes))
 }
 
 // The new values of all targets, or why the assignments are refused.

@@ -20,8 +20,7 @@ ghost use Rattle.assign_core.specs.Costs.{source_cost};
 ghost use Rattle.assign_core.specs.Databases.{IsKept};
 ghost use Rattle.assign_core.specs.PlainChanges.{IsAnyDeletion};
 ghost use Rattle.assign_core.specs.Portions.{portion_cost, portion_rows, IsAffected, IsDeletionOf, IsPortionFor};
-ghost use Rattle.assign_core.specs.Reductions.{reduced_target, IsReduction};
-ghost use Rattle.assign_core.specs.Targets.{entries_before, value_given};
+ghost use Rattle.assign_core.specs.Reductions.{entries_reduced, value_reduced, IsReduction};
 
 use crate::insertion::base_at;
 use crate::packing::is_kept_packed;
@@ -158,10 +157,10 @@ pub(crate) fn deleted<L: Ledger>(
 ) -> Result<Exchange, Stop>
     requires { IsReduction reduction }
     ensures exchange { IfOk result (IsExchange reduction.entry.value.now) }
-    ensures meant { IfOk result (λ x. value_given (reduced_target reduction.entry)
+    ensures meant { IfOk result (λ x. value_reduced reduction.entry
         ≡ under reduction.entry.value.now.heading (limited reduction.entry.deletion.kept.place (exchanged reduction.entry.value.now.rows x.gone.rows x.come.rows))) }
-    ensures refused { IfErr result (λ stop. Answers {A = PlainRelation} (Err stop) (value_given (reduced_target reduction.entry))) }
-    ensures cost { steps.new ≤ steps.old + source_cost (entries_before (reduced_target reduction.entry)) (entries_before (reduced_target reduction.entry)) (read_assignment reduction.entry.deletion.assignment.now) }
+    ensures refused { IfErr result (λ stop. Answers {A = PlainRelation} (Err stop) (value_reduced reduction.entry)) }
+    ensures cost { steps.new ≤ steps.old + source_cost (entries_reduced reduction.entry) (entries_reduced reduction.entry) (read_assignment reduction.entry.deletion.assignment.now) }
 {
     let left = portion_rows(alloc, reduction.deletion.kept, reduction.part, steps)?;
     let rows = replaced(alloc, reduction.value, reduction.part, &left)?;

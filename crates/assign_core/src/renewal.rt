@@ -21,9 +21,8 @@ ghost use Rattle.assign_core.specs.Costs.{source_cost};
 ghost use Rattle.assign_core.specs.Databases.{IsKept};
 ghost use Rattle.assign_core.specs.PlainChanges.{IsAnyRevision};
 ghost use Rattle.assign_core.specs.Portions.{portion_cost, portion_rows, IsAffected};
-ghost use Rattle.assign_core.specs.Renewals.{after_left, renewed_target, AreAdded, IsLeft, IsRenewal};
+ghost use Rattle.assign_core.specs.Renewals.{after_left, entries_renewed, value_renewed, AreAdded, IsLeft, IsRenewal};
 ghost use Rattle.assign_core.specs.Revisions.{changed_cost, changed_rows, left_of, IsChangedFor, IsRevisionOf};
-ghost use Rattle.assign_core.specs.Targets.{entries_before, value_given};
 
 use crate::insertion::base_at;
 use crate::plain_rows::lists_none;
@@ -183,9 +182,9 @@ fn exchange_with<L: Ledger>(
     requires left { IsLeft renewal left.now }
     requires added { AreAdded renewal added.now }
     ensures exchange { IfOk result (IsExchange renewal.entry.value.now) }
-    ensures meant { IfOk result (λ x. value_given (renewed_target renewal.entry)
+    ensures meant { IfOk result (λ x. value_renewed renewal.entry
         ≡ under renewal.entry.value.now.heading (limited renewal.entry.revision.assignment.now.tree.place (exchanged renewal.entry.value.now.rows x.gone.rows x.come.rows))) }
-    ensures refused { IfErr result (λ stop. Answers {A = PlainRelation} (Err stop) (value_given (renewed_target renewal.entry))) }
+    ensures refused { IfErr result (λ stop. Answers {A = PlainRelation} (Err stop) (value_renewed renewal.entry)) }
     ensures cost { steps.new ≤ steps.old + after_left renewal.entry left.now added.now }
 {
     if lists_none(renewal.revision.commalist) {
@@ -206,9 +205,9 @@ fn exchange_plainly(
     requires left { IsLeft renewal left.now }
     requires added { AreAdded renewal added.now }
     ensures exchange { IfOk result (IsExchange renewal.entry.value.now) }
-    ensures meant { IfOk result (λ x. value_given (renewed_target renewal.entry)
+    ensures meant { IfOk result (λ x. value_renewed renewal.entry
         ≡ under renewal.entry.value.now.heading (limited renewal.entry.revision.assignment.now.tree.place (exchanged renewal.entry.value.now.rows x.gone.rows x.come.rows))) }
-    ensures refused { IfErr result (λ stop. Answers {A = PlainRelation} (Err stop) (value_given (renewed_target renewal.entry))) }
+    ensures refused { IfErr result (λ stop. Answers {A = PlainRelation} (Err stop) (value_renewed renewal.entry)) }
 {
     let place = renewal.revision.assignment.tree.place;
     let new = or_fault_at(place, union(alloc, left, added))?;
@@ -228,9 +227,9 @@ fn exchange_at_points<L: Ledger>(
     requires left { IsLeft renewal left.now }
     requires added { AreAdded renewal added.now }
     ensures exchange { IfOk result (IsExchange renewal.entry.value.now) }
-    ensures meant { IfOk result (λ x. value_given (renewed_target renewal.entry)
+    ensures meant { IfOk result (λ x. value_renewed renewal.entry
         ≡ under renewal.entry.value.now.heading (limited renewal.entry.revision.assignment.now.tree.place (exchanged renewal.entry.value.now.rows x.gone.rows x.come.rows))) }
-    ensures refused { IfErr result (λ stop. Answers {A = PlainRelation} (Err stop) (value_given (renewed_target renewal.entry))) }
+    ensures refused { IfErr result (λ stop. Answers {A = PlainRelation} (Err stop) (value_renewed renewal.entry)) }
     ensures cost { steps.new ≤ steps.old + bound (length (united (subtracted renewal.entry.value.now.rows renewal.entry.part.now.rows) left.now.rows) + length added.now.rows)
         (length renewal.entry.revision.commalist.now) }
 {
@@ -256,10 +255,10 @@ pub(crate) fn revised<L: Ledger>(
 ) -> Result<Exchange, Stop>
     requires { IsRenewal renewal }
     ensures exchange { IfOk result (IsExchange renewal.entry.value.now) }
-    ensures meant { IfOk result (λ x. value_given (renewed_target renewal.entry)
+    ensures meant { IfOk result (λ x. value_renewed renewal.entry
         ≡ under renewal.entry.value.now.heading (limited renewal.entry.revision.assignment.now.tree.place (exchanged renewal.entry.value.now.rows x.gone.rows x.come.rows))) }
-    ensures refused { IfErr result (λ stop. Answers {A = PlainRelation} (Err stop) (value_given (renewed_target renewal.entry))) }
-    ensures cost { steps.new ≤ steps.old + source_cost (entries_before (renewed_target renewal.entry)) (entries_before (renewed_target renewal.entry)) (read_assignment renewal.entry.revision.assignment.now) }
+    ensures refused { IfErr result (λ stop. Answers {A = PlainRelation} (Err stop) (value_renewed renewal.entry)) }
+    ensures cost { steps.new ≤ steps.old + source_cost (entries_renewed renewal.entry) (entries_renewed renewal.entry) (read_assignment renewal.entry.revision.assignment.now) }
 {
     let left = left_rows(alloc, renewal, steps)?;
     let added = added_rows(alloc, renewal.revision.changed, renewal.part, steps)?;

@@ -1,125 +1,39 @@
--- A statement that inserts constants, or sets a relvar to them, is typed, and its assignments make of the relvars what the rows make.
---     insertion-done, setting-done      the laws
---     insertion-kept      where neither the literal nor both together have too many rows
---     plain-done      both laws of a tree that brings rows, with its only assignment and the value of its source
-use Rattle.std.proofs.Common.{◌≡◌, ◌≤◌, Bool, true, false, List, [], ◌∷◌, length, Option, Some, None, Result, Ok, Err, refl, sym, ap, ◌∙◌, subst}
+-- A statement that brings rows of constants is typed, and its only assignment makes of the relvars what the rows make.
+--     plain-done      the law: where the name is that of a base relvar with this heading
+use Rattle.std.proofs.Common.{◌≡◌, ◌≤◌, ◌+◌, ℕ, true, List, [], ◌∷◌, length, Option, Some, None, Ok, Err, refl, sym, ap, ◌∙◌, subst, arith}
 use Rattle.std.specs.Prelude.{flat_map}
-use Rattle.base_core.specs.Outcomes.{then_give}
+use Rattle.std.specs.Bool.{IsTrue}
 use Rattle.point_core.specs.declared.fault.Place.{Place}
-use Rattle.point_core.specs.Faults.{OrFault}
-use Rattle.utd_syntax.specs.Plain.{Word, LiteralP, StatementP}
+use Rattle.utd_syntax.specs.Plain.{Word, LiteralP, NameListP, StatementP}
 use Rattle.value_core.specs.declared.constraint.Constraint.{Constraint}
-use Rattle.value_core.specs.declared.refuse.Refuse.{Refuse}
-use Rattle.value_core.specs.Limits.{most_rows}
-use Rattle.value_core.specs.Values.{Name, Row, Heading, Relation, rows_of}
+use Rattle.value_core.specs.Values.{Name, Row, Heading, Relation, IsRelation, is_heading, most_rows, rows_of}
 use Rattle.relation_core.specs.Answers.{under}
-use Rattle.relation_core.specs.Operators.{united}
 use Rattle.tree_core.specs.declared.tree.InfixWord.TheVariants.{Union}
 use Rattle.tree_core.specs.Items.{PlainItem, PlainAssignment, set_to, insert}
 use Rattle.tree_core.specs.Relvars.{PlainRelvar, base, Entries, State, relvar_named}
-use Rattle.tree_core.specs.Trees.{PlainSets, named, literal, infix_of}
+use Rattle.tree_core.specs.Trees.{PlainSets, Tree, literal}
 use Rattle.relation_typing.specs.Attributes.{is_name}
 use Rattle.meaning_core.specs.Meanings.{RowsMeant, limited, literal_rows, meaning_in}
 use Rattle.meaning_core.specs.Names.{given}
-use Rattle.meaning_core.proofs.LimitLemmas.{limited_few}
 use Rattle.update_core.specs.Endings.{meant_by}
 use Rattle.type_check.specs.Checks.{assign, checked}
-use Rattle.assign_core.specs.Assignments.{with_target, source_value, kept_or_refused, of_values, after_assignments}
+use Rattle.algebra_core.specs.Costs.{paid}
+use Rattle.assign_core.specs.Assignments.{seen_by, source_value}
 use Rattle.assign_core.specs.Breaches.{value_if}
-use Rattle.assign_core.specs.NewRows.{with_rows, after_rows, after_setting, brought, value_brought}
-use Rattle.constant_laws.specs.Insertions.{WritesLiteral, insertion, setting, IsStatementOf, IsPlainInsertion}
+use Rattle.assign_core.specs.Costs.{source_cost}
+use Rattle.assign_core.specs.Insertions.{Nodes, insertion_of}
+use Rattle.assign_core.specs.NewRows.{replacing, joining, arriving_cost, joined_cost, value_brought}
+use Rattle.assign_core.proofs.InsertionLemmas.{both_cost}
+use Rattle.constant_effects.specs.Ways.{arriving_of}
+use Rattle.constant_laws.specs.Insertions.{WritesLiteral, insertion, insertion_under, setting, Bringing, Setting, Adding, AddingUnder, IsListed, IsStatementOf, IsPlainInsertion}
+use Rattle.constant_laws.proofs.ListedPositions.{listed-is_list}
 use Rattle.constant_laws.proofs.TypedTuples.{literal_place}
 use Rattle.constant_laws.proofs.TypedInsertions.{IsBaseNamed}
-use Rattle.constant_laws.proofs.CheckedInsertions.{insertion-checked, setting-checked}
-use Rattle.constant_laws.proofs.MeantInsertions.{insertion-means, setting-means}
+use Rattle.constant_laws.proofs.CheckedInsertions.{insertion-checked, insertion-under-checked, setting-checked}
+use Rattle.constant_laws.proofs.MeantInsertions.{first-found, insertion-means, insertion-under-means, literal-means, setting-means}
 
--- ---- assignments
-
-under-then : (heading : Heading) (m : RowsMeant) (k : Relation → OrFault Entries) → then_give (under heading m) k ≡ then_give m (λ rows. k (record { heading = heading; rows = rows }))
-under-then heading (Ok rows) k = refl
-under-then heading (Err e) k = refl
-
-regrouped : (heading : Heading) (m : RowsMeant) (f : List Row → RowsMeant) (k : Relation → OrFault Entries)
-    → then_give (then_give m (λ new. under heading (f new))) k ≡ then_give m (λ new. then_give (f new) (λ rows. k (record { heading = heading; rows = rows })))
-regrouped heading (Ok rows) f k = under-then heading (f rows) k
-regrouped heading (Err e) f k = refl
-
--- the assignment of an insertion
-abbrev pub inserting : Place → Place → Name → Heading → List PlainSets → PlainAssignment
-inserting at there name heading tuples = record { target = name; tree = infix_of at heading Union (named at heading name) (literal there heading tuples) }
-
-pub insertion-after : (entries : Entries) (at there : Place) (name : Name) (tuples : List PlainSets) (rows : List Row) (old : Relation) (constraints : List Constraint) → relvar_named entries name ≡ Some (base old constraints)
-    → length old.rows ≤ most_rows → literal_rows old.heading tuples ≡ Ok (rows_of rows) → after_assignments entries (inserting at there name old.heading tuples ∷ []) ≡ after_rows entries at there name old rows
-insertion-after entries at there name tuples rows old constraints e few means =
-    ap (λ (o : Option PlainRelvar). of_values (then_give (under old.heading (meaning_in (given (Some name) (value_if o) entries) (inserting at there name old.heading tuples).tree)) (λ value. Ok (with_target entries name value)))) e
-    ∙ (ap (λ (m : OrFault Relation). of_values (then_give m (λ value. Ok (with_target entries name value)))) (insertion-means entries at there name tuples rows old constraints e few means)
-    ∙ ap of_values (regrouped old.heading (limited there (rows_of rows)) (λ new. limited at (united old.rows new)) (λ value. Ok (with_target entries name value))))
-
-pub setting-after : (entries : Entries) (there : Place) (name : Name) (tuples : List PlainSets) (rows : List Row) (old : Relation) → literal_rows old.heading tuples ≡ Ok (rows_of rows)
-    → after_assignments entries (record { target = name; tree = literal there old.heading tuples } ∷ []) ≡ after_setting entries there name old rows
-setting-after entries there name tuples rows old means =
-    ap (λ (m : OrFault Relation). of_values (then_give m (λ value. Ok (with_target entries name value)))) (setting-means (given (Some name) (value_if (relvar_named entries name)) entries) there old.heading tuples rows means)
-    ∙ ap of_values (under-then old.heading (limited there (rows_of rows)) (λ value. Ok (with_target entries name value)))
-
--- where there are not too many rows, only the constraints and the limit of all rows are left
-pub insertion-kept : (entries : Entries) (at there : Place) (name : Name) (rows : List Row) (old : Relation) → length (rows_of rows) ≤ most_rows → length (united old.rows (rows_of rows)) ≤ most_rows
-    → after_rows entries at there name old rows ≡ kept_or_refused (with_rows entries name old (united old.rows (rows_of rows)))
-insertion-kept entries at there name rows old few both =
-    ap (λ (m : RowsMeant). of_values (then_give m (λ new. then_give (limited at (united old.rows new)) (λ all. Ok (with_rows entries name old all))))) (limited_few there (rows_of rows) few)
-    ∙ ap (λ (m : RowsMeant). of_values (then_give m (λ all. Ok (with_rows entries name old all)))) (limited_few at (united old.rows (rows_of rows)) both)
-
--- ---- statements
-
--- the statement is typed as items, whose assignments give this
-pub record IsDone (state : State) (tree : StatementP) (outcome : Result Entries Refuse) : Type 0 where
-  pub items : List PlainItem
-  pub typed : checked state tree ≡ Ok (assign items)
-  pub after : after_assignments state.relvars (flat_map (meant_by state.relvars) items) ≡ outcome
-
-pub insertion-done : (state : State) (at : Place) (w : Word) (l : LiteralP) (old : Relation) (constraints : List Constraint) (rows : List Row) → IsBaseNamed state w old constraints → length old.rows ≤ most_rows
-    → WritesLiteral state.ordinals old.heading rows l → IsDone state (insertion at w l) (after_rows state.relvars at (literal_place l) w.bytes old rows)
-insertion-done state at w l old constraints rows found few writes =
-    let c = insertion-checked state at w l old constraints rows found writes in
-    record {
-      items = record { place = at; target = w.bytes; heading = old.heading; form = insert None (literal (literal_place l) old.heading c.tuples) } ∷ [];
-      typed = c.is;
-      after = insertion-after state.relvars at (literal_place l) w.bytes c.tuples rows old constraints found.there few c.means;
-    }
-
-pub setting-done : (state : State) (w : Word) (l : LiteralP) (old : Relation) (constraints : List Constraint) (rows : List Row) → IsBaseNamed state w old constraints
-    → WritesLiteral state.ordinals old.heading rows l → IsDone state (setting w l) (after_setting state.relvars (literal_place l) w.bytes old rows)
-setting-done state w l old constraints rows found writes =
-    let c = setting-checked state w l old constraints rows found writes in
-    record {
-      items = record { place = w.place; target = w.bytes; heading = old.heading; form = set_to (literal (literal_place l) old.heading c.tuples) } ∷ [];
-      typed = c.is;
-      after = setting-after state.relvars (literal_place l) w.bytes c.tuples rows old c.means;
-    }
-
--- ---- a tree that brings rows
-
-under-is : (heading : Heading) (m : RowsMeant) → under heading m ≡ then_give m (λ rows. Ok (record { heading = heading; rows = rows }))
-under-is heading (Ok rows) = refl
-under-is heading (Err e) = refl
-
-under-each : (heading : Heading) (m : RowsMeant) (f : List Row → RowsMeant) → then_give m (λ new. under heading (f new)) ≡ then_give m (λ new. then_give (f new) (λ rows. Ok (record { heading = heading; rows = rows })))
-under-each heading (Ok rows) f = under-is heading (f rows)
-under-each heading (Err e) f = refl
-
-insertion-source : (entries : Entries) (at there : Place) (name : Name) (tuples : List PlainSets) (rows : List Row) (old : Relation) (constraints : List Constraint) → relvar_named entries name ≡ Some (base old constraints)
-    → length old.rows ≤ most_rows → literal_rows old.heading tuples ≡ Ok (rows_of rows) → source_value entries entries (inserting at there name old.heading tuples) ≡ value_brought false at there old rows
-insertion-source entries at there name tuples rows old constraints e few means =
-    ap (λ (o : Option PlainRelvar). under old.heading (meaning_in (given (Some name) (value_if o) entries) (inserting at there name old.heading tuples).tree)) e
-    ∙ (insertion-means entries at there name tuples rows old constraints e few means
-    ∙ under-each old.heading (limited there (rows_of rows)) (λ new. limited at (united old.rows new)))
-
-setting-source : (entries : Entries) (at there : Place) (name : Name) (tuples : List PlainSets) (rows : List Row) (old : Relation) → literal_rows old.heading tuples ≡ Ok (rows_of rows)
-    → source_value entries entries (record { target = name; tree = literal there old.heading tuples }) ≡ value_brought true at there old rows
-setting-source entries at there name tuples rows old means =
-    setting-means (given (Some name) (value_if (relvar_named entries name)) entries) there old.heading tuples rows means ∙ under-is old.heading (limited there (rows_of rows))
-
--- the tree is typed as one item, which stands for one assignment; its source has this value, and the relvars become these
-pub record IsPlainDone (state : State) (sets : Bool) (relvar : Name) (old : Relation) (rows : List Row) (tree : StatementP) : Type 0 where
+-- the tree is typed as one item, which stands for one assignment; its source has this value, and takes at least the steps of the rows
+pub record IsPlainDone (state : State) (bringing : Bringing) (relvar : Name) (old : Relation) (rows : List Row) (tree : StatementP) : Type 0 where
   pub at : Place
   pub there : Place
   pub items : List PlainItem
@@ -127,53 +41,106 @@ pub record IsPlainDone (state : State) (sets : Bool) (relvar : Name) (old : Rela
   pub typed : checked state tree ≡ Ok (assign items)
   pub meant : flat_map (meant_by state.relvars) items ≡ assignment ∷ []
   pub target : assignment.target ≡ relvar
-  pub source : source_value state.relvars state.relvars assignment ≡ value_brought sets at there old rows
-  pub after : after_assignments state.relvars (flat_map (meant_by state.relvars) items) ≡ brought state.relvars sets at there relvar old rows
+  pub source : source_value state.relvars state.relvars assignment ≡ value_brought (arriving_of bringing) at there old rows
+  pub cost : arriving_cost (arriving_of bringing) there old rows ≤ source_cost state.relvars state.relvars assignment
 
-insertion-plain : (state : State) (at : Place) (w : Word) (l : LiteralP) (old : Relation) (constraints : List Constraint) (rows : List Row) → IsBaseNamed state w old constraints → length old.rows ≤ most_rows
-    → WritesLiteral state.ordinals old.heading rows l → IsPlainDone state false w.bytes old rows (insertion at w l)
-insertion-plain state at w l old constraints rows found few writes =
-    let c = insertion-checked state at w l old constraints rows found writes in
-    record {
-      at = at;
-      there = literal_place l;
-      items = record { place = at; target = w.bytes; heading = old.heading; form = insert None (literal (literal_place l) old.heading c.tuples) } ∷ [];
-      assignment = inserting at (literal_place l) w.bytes old.heading c.tuples;
-      typed = c.is;
-      meant = refl;
-      target = refl;
-      source = insertion-source state.relvars at (literal_place l) w.bytes c.tuples rows old constraints found.there few c.means;
-      after = insertion-after state.relvars at (literal_place l) w.bytes c.tuples rows old constraints found.there few c.means;
-    }
+-- ---- assignments
 
-setting-plain : (state : State) (w : Word) (l : LiteralP) (old : Relation) (constraints : List Constraint) (rows : List Row) → IsBaseNamed state w old constraints
-    → WritesLiteral state.ordinals old.heading rows l → IsPlainDone state true w.bytes old rows (setting w l)
-setting-plain state w l old constraints rows found writes =
-    let c = setting-checked state w l old constraints rows found writes in
-    record {
-      at = w.place;
-      there = literal_place l;
-      items = record { place = w.place; target = w.bytes; heading = old.heading; form = set_to (literal (literal_place l) old.heading c.tuples) } ∷ [];
-      assignment = record { target = w.bytes; tree = literal (literal_place l) old.heading c.tuples };
-      typed = c.is;
-      meant = refl;
-      target = refl;
-      source = setting-source state.relvars w.place (literal_place l) w.bytes c.tuples rows old c.means;
-      after = setting-after state.relvars (literal_place l) w.bytes c.tuples rows old c.means;
-    }
+module _ (entries : Entries) (at there : Place) (name : Name) (tuples : List PlainSets) (rows : List Row) (old : Relation) (constraints : List Constraint) (found : relvar_named entries name ≡ Some (base old constraints))
+    (is : IsRelation old) (means : literal_rows old.heading tuples ≡ Ok (rows_of rows)) where
+  -- the assignment of an insertion
+  abbrev inserting : Option (List ℕ) → PlainAssignment
+  inserting list = insertion_of at old.heading list (record { place = at; heading = old.heading; at = at; headed = old.heading }) name (literal there old.heading tuples)
 
-statement-plain : (state : State) (sets : Bool) (tree : StatementP) (w : Word) (l : LiteralP) (old : Relation) (constraints : List Constraint) (rows : List Row) → IsStatementOf sets tree w l → IsBaseNamed state w old constraints
-    → length old.rows ≤ most_rows → WritesLiteral state.ordinals old.heading rows l → IsPlainDone state sets w.bytes old rows tree
-statement-plain state true tree w l old constraints rows is found few writes =
-    subst (λ (t : StatementP). IsPlainDone state true w.bytes old rows t) (sym is) (setting-plain state w l old constraints rows found writes)
-statement-plain state false tree w l old constraints rows is found few writes =
-    subst (λ (t : StatementP). IsPlainDone state false w.bytes old rows t) (sym is.1) (insertion-plain state is.0 w l old constraints rows found few writes)
+  inserting-cost : (list : Option (List ℕ)) → arriving_cost (joining list) there old rows ≤ source_cost entries entries (inserting list)
+  inserting-cost list = by (limited there (rows_of rows)) refl
+    where
+      by : (m : RowsMeant) → limited there (rows_of rows) ≡ m → paid m (joined_cost (joining list) old.rows) ≤ source_cost entries entries (inserting list)
+      by (Err fault) e = omega arith
+      by (Ok new) e =
+          let first = first-found entries name (base old constraints) found in
+          let n : Nodes = record { place = at; heading = old.heading; at = at; headed = old.heading } in
+          let more = both_cost entries name first.at old constraints first.first at old.heading n (literal there old.heading tuples) is.few list (record { heading = old.heading; rows = new })
+          (ap (under old.heading) (literal-means (seen_by entries entries name) there old.heading tuples rows means ∙ e)) in
+          omega (arith, more)
+
+  insertion-source : source_value entries entries (inserting None) ≡ value_brought (joining None) at there old rows
+  insertion-source =
+      ap (λ (o : Option PlainRelvar). under old.heading (meaning_in (given (Some name) (value_if o) entries) (inserting None).tree)) found
+      ∙ insertion-means entries at there name tuples rows old constraints found is.few means
+
+  insertion-under-source : (commalist : List ℕ) (list : NameListP) → IsListed old.heading commalist list → source_value entries entries (inserting (Some commalist)) ≡ value_brought (joining (Some commalist)) at there old rows
+  insertion-under-source commalist list listed =
+      ap (λ (o : Option PlainRelvar). under old.heading (meaning_in (given (Some name) (value_if o) entries) (inserting (Some commalist)).tree)) found
+      ∙ insertion-under-means entries at there name tuples rows old constraints commalist found is.few is.headed (listed-is_list old.heading commalist list listed) means
+
+setting-cost : (there : Place) (old : Relation) (rows : List Row) (n : ℕ) → arriving_cost replacing there old rows ≤ n
+setting-cost there old rows n = by (limited there (rows_of rows))
+  where
+    by : (m : RowsMeant) → paid m (joined_cost replacing old.rows) ≤ n
+    by (Ok new) = omega arith
+    by (Err fault) = omega arith
+
+-- ---- statements
+
+module _ (state : State) (w : Word) (l : LiteralP) (old : Relation) (constraints : List Constraint) (rows : List Row) (found : IsBaseNamed state w old constraints) (is : IsRelation old)
+    (writes : WritesLiteral state.ordinals old.heading rows l) where
+  setting-plain : IsPlainDone state Setting w.bytes old rows (setting w l)
+  setting-plain =
+      let c = setting-checked state w l old constraints rows found writes in
+      record {
+        at = w.place;
+        there = literal_place l;
+        items = record { place = w.place; target = w.bytes; heading = old.heading; form = set_to (literal (literal_place l) old.heading c.tuples) } ∷ [];
+        assignment = record { target = w.bytes; tree = literal (literal_place l) old.heading c.tuples };
+        typed = c.is;
+        meant = refl;
+        target = refl;
+        source = setting-means (given (Some w.bytes) (value_if (relvar_named state.relvars w.bytes)) state.relvars) (literal_place l) old.heading c.tuples rows c.means;
+        cost = setting-cost (literal_place l) old rows _;
+      }
+
+  insertion-plain : (at : Place) → IsPlainDone state Adding w.bytes old rows (insertion at w l)
+  insertion-plain at =
+      let c = insertion-checked state at w l old constraints rows found writes in
+      record {
+        at = at;
+        there = literal_place l;
+        items = record { place = at; target = w.bytes; heading = old.heading; form = insert None (literal (literal_place l) old.heading c.tuples) } ∷ [];
+        assignment = inserting state.relvars at (literal_place l) w.bytes c.tuples rows old constraints found.there is c.means None;
+        typed = c.is;
+        meant = refl;
+        target = refl;
+        source = insertion-source state.relvars at (literal_place l) w.bytes c.tuples rows old constraints found.there is c.means;
+        cost = inserting-cost state.relvars at (literal_place l) w.bytes c.tuples rows old constraints found.there is c.means None;
+      }
+
+  insertion-under-plain : (at : Place) (list : NameListP) (there : Place) (commalist : List ℕ) → IsListed old.heading commalist list
+      → IsPlainDone state (AddingUnder commalist) w.bytes old rows (insertion_under at list there w l)
+  insertion-under-plain at list there commalist listed =
+      let c = insertion-under-checked state at list there w l old constraints commalist rows found listed writes in
+      record {
+        at = at;
+        there = literal_place l;
+        items = record { place = at; target = w.bytes; heading = old.heading; form = insert (Some commalist) (literal (literal_place l) old.heading c.tuples) } ∷ [];
+        assignment = inserting state.relvars at (literal_place l) w.bytes c.tuples rows old constraints found.there is c.means (Some commalist);
+        typed = c.is;
+        meant = refl;
+        target = refl;
+        source = insertion-under-source state.relvars at (literal_place l) w.bytes c.tuples rows old constraints found.there is c.means commalist list listed;
+        cost = inserting-cost state.relvars at (literal_place l) w.bytes c.tuples rows old constraints found.there is c.means (Some commalist);
+      }
+
+  statement-plain : (bringing : Bringing) (tree : StatementP) → IsStatementOf bringing old.heading tree w l → IsPlainDone state bringing w.bytes old rows tree
+  statement-plain Setting tree e = subst (IsPlainDone state Setting w.bytes old rows) (sym e) setting-plain
+  statement-plain Adding tree e = subst (IsPlainDone state Adding w.bytes old rows) (sym e.1) (insertion-plain e.0)
+  statement-plain (AddingUnder commalist) tree e = subst (IsPlainDone state (AddingUnder commalist) w.bytes old rows) (sym e.4) (insertion-under-plain e.0 e.1 e.2 commalist e.3)
 
 -- where the name is that of a base relvar with this heading
-pub plain-done : (state : State) (sets : Bool) (relvar : Name) (heading : Heading) (rows : List Row) (tree : StatementP) (old : Relation) (constraints : List Constraint) → IsPlainInsertion sets relvar heading rows tree → is_name relvar ≡ true
-    → relvar_named state.relvars relvar ≡ Some (base old constraints) → old.heading ≡ heading → length old.rows ≤ most_rows → IsPlainDone state sets relvar old rows tree
-plain-done state sets relvar heading rows tree old constraints plain is_one there headed few =
-    subst (λ (n : Name). IsPlainDone state sets n old rows tree) plain.named
-    (statement-plain state sets tree plain.w plain.l old constraints rows plain.is
-    (record { is_one = ap is_name plain.named ∙ is_one; there = ap (relvar_named state.relvars) plain.named ∙ there }) few
-    (subst (λ (h : Heading). WritesLiteral state.ordinals h rows plain.l) (sym headed) (plain.writes state.ordinals)))
+pub plain-done : (state : State) (bringing : Bringing) (relvar : Name) (heading : Heading) (rows : List Row) (tree : StatementP) (old : Relation) (constraints : List Constraint)
+    → IsPlainInsertion state.ordinals bringing relvar heading rows tree → is_name relvar ≡ true → relvar_named state.relvars relvar ≡ Some (base old constraints) → old.heading ≡ heading → IsRelation old
+    → IsPlainDone state bringing relvar old rows tree
+plain-done state bringing relvar heading rows tree old constraints plain is_one there headed is =
+    subst (λ (n : Name). IsPlainDone state bringing n old rows tree) plain.named
+    (statement-plain state plain.w plain.l old constraints rows (record { is_one = ap is_name plain.named ∙ is_one; there = ap (relvar_named state.relvars) plain.named ∙ there }) is
+    (subst (λ (h : Heading). WritesLiteral state.ordinals h rows plain.l) (sym headed) plain.writes) bringing tree (subst (λ (h : Heading). IsStatementOf bringing h tree plain.w plain.l) (sym headed) plain.is))

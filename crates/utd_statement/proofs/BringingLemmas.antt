@@ -1,19 +1,21 @@
 -- A statement that brings rows is read as a tree, and the tree makes of the state what the rows make.
+--     listed_so      a list is one of the rows' heading
 --     tried_so      whether the rows are brought, refused or left
-use Rattle.std.proofs.Common.{◌≡◌, ◌⊎◌, ◌≤◌, ◌+◌, ℕ, Bool, true, false, List, [], ◌∷◌, Option, Some, None, Result, Ok, Err, Vec, Global, inl, inr, refl, sym, ap, ◌∙◌, subst, arith}
+use Rattle.std.proofs.Common.{◌≡◌, ◌≤◌, ◌+◌, ℕ, Bool, true, false, List, [], ◌∷◌, Option, Some, None, Result, Ok, Err, Vec, Global, refl, sym, ap, ◌∙◌, subst, arith}
 use Rattle.point_core.specs.declared.fault.Place.{Place}
-use Rattle.value_core.specs.declared.constraint.Constraint.{Constraint}
 use Rattle.value_core.specs.declared.refuse.Refuse.{Refuse}
 use Rattle.value_core.specs.declared.refuse.Refuse.TheVariants.{Plain, At, Broken, Memory}
-use Rattle.value_core.specs.Values.{Name, Heading, Row, Relation, rows_of}
-use Rattle.tree_core.specs.Relvars.{base, Entries, State, relvar_named}
+use Rattle.value_core.specs.Values.{Name, Heading, Relation}
+use Rattle.tree_core.specs.Relvars.{Entries, State}
 use Rattle.utd_syntax.specs.Plain.{Word, LiteralP, StatementP}
 use Rattle.assign_core.specs.Assignments.{assigned_in, IsRefusedFor}
 use Rattle.assign_core.specs.Costs.{cost_of_assignments}
-use Rattle.assign_core.specs.NewRows.{brought_cost, brought_in, IsBaseWith, IsBrought, IsFoundIf, StaysUnless, TakesNoneIf}
+use Rattle.assign_core.specs.NewRows.{Arriving, brought_cost, brought_in, IsBaseWith, IsBrought, IsFoundIf, IsGivenTo, IsListFor, IsPaidFor, IsToldOf, StaysUnless, TakesNoneIf}
 use Rattle.assign_core.proofs.BroughtLemmas.{brought_assigned, brought_costs}
-use Rattle.constant_laws.specs.Insertions.{IsStatementOf}
+use Rattle.constant_laws.proofs.ListedPositions.{listed-is_list}
+use Rattle.constant_laws.specs.Insertions.{Bringing, Setting, Adding, AddingUnder, IsStatementOf}
 use Rattle.constant_effects.proofs.EffectLemmas.{IsPlainDone, plain-done}
+use Rattle.constant_effects.specs.Ways.{arriving_of}
 use Rattle.plain_rows.specs.Brought.{BringsRows, IsBrought as AreRowsOf}
 use Rattle.utd_statement.specs.Answers.{Answer, Changed, assignments_of, of_checked, of_tree, unless_fault, unless_refused}
 use Rattle.utd_statement.specs.Bringing.{IsDoneBy, IsToldBy, IsTried}
@@ -22,9 +24,10 @@ use Rattle.utd_statement.specs.Keeping.{Leaves, keeping_of}
 use Rattle.utd_statement.specs.Readings.{Tree, IsText}
 use Rattle.utd_statement.specs.Replies.{IsPerformed, IsRefusedWith}
 
-leaves_of : (sets : Bool) (tree : StatementP) (w : Word) (l : LiteralP) → IsStatementOf sets tree w l → keeping_of tree ≡ Leaves
-leaves_of true tree w l is = ap keeping_of is
-leaves_of false tree w l is = ap keeping_of is.1
+leaves_of : (bringing : Bringing) (heading : Heading) (tree : StatementP) (w : Word) (l : LiteralP) → IsStatementOf bringing heading tree w l → keeping_of tree ≡ Leaves
+leaves_of Setting heading tree w l is = ap keeping_of is
+leaves_of Adding heading tree w l is = ap keeping_of is.1
+leaves_of (AddingUnder commalist) heading tree w l is = ap keeping_of is.4
 
 refused_with : (state : State) (refuse : Refuse) (meant : Result Entries Refuse) → IsRefusedFor refuse meant → IsRefusedWith refuse (unless_refused state meant)
 refused_with state Memory meant told = tt
@@ -32,37 +35,43 @@ refused_with state (Plain code) meant told = ap (unless_refused state) told
 refused_with state (At fault) meant told = ap (unless_refused state) told
 refused_with state (Broken code relvar number) meant told = ap (unless_refused state) told
 
-module _ (start : Place) (bytes : List ℕ) (sets : Bool) (relvar : Name) (relation : Relation) (state : State) (brings : AreRowsOf bytes sets relvar relation) where
-  abbrev from : BringsRows start bytes sets relvar relation.heading brings.given
+module _ (start : Place) (bytes : List ℕ) (bringing : Bringing) (relvar : Name) (relation : Relation) (state : State) (brings : AreRowsOf state.ordinals bytes bringing relvar relation) where
+  abbrev way : Arriving
+  way = arriving_of bringing
+
+  abbrev from : BringsRows state.ordinals start bytes bringing relvar relation.heading brings.given
   from = brings.brings start
 
   text_is : IsText start bytes (Tree from.tree)
   text_is = (from.tokens, from.reads, from.whole, from.spelled)
 
-  leaves : keeping_of from.tree ≡ Leaves
-  leaves = leaves_of sets from.tree from.plain.w from.plain.l from.plain.is
+  -- a list is one of the rows' heading
+  pub listed_so : IsListFor relation.heading way
+  listed_so = by bringing from.tree from.plain.w from.plain.l from.plain.is
+    where
+      by : (b : Bringing) (tree : StatementP) (w : Word) (l : LiteralP) → IsStatementOf b relation.heading tree w l → IsListFor relation.heading (arriving_of b)
+      by Setting tree w l is = tt
+      by Adding tree w l is = tt
+      by (AddingUnder commalist) tree w l is = listed-is_list relation.heading commalist is.1 is.3
 
-  -- memory is wanting before the relvar is found
-  unpaid : (new : State) (before now : ℕ) → new ≡ state → now ≡ before → IsDoneBy start bytes (Err Memory) state new before now
-  unpaid new before now stays none =
-      let cost : now ≤ before + cost_of_tree state from.tree = omega (arith, none) in
-      record { tree = from.tree; text = text_is; leaves = leaves; performed = (tt, stays); cost = cost }
+  leaves : keeping_of from.tree ≡ Leaves
+  leaves = leaves_of bringing relation.heading from.tree from.plain.w from.plain.l from.plain.is
 
   module _ (found : IsBaseWith state relvar relation.heading) where
-    abbrev done : IsPlainDone state sets relvar found.old brings.given from.tree
-    done = plain-done state sets relvar relation.heading brings.given from.tree found.old found.constraints from.plain brings.named found.there (sym found.headed) found.few
+    abbrev done : IsPlainDone state bringing relvar found.old brings.given from.tree
+    done = plain-done state bringing relvar relation.heading brings.given from.tree found.old found.constraints from.plain brings.named found.there (sym found.headed) found.relation
 
     abbrev meant : Result Entries Refuse
-    meant = brought_in state sets done.at done.there relvar found.old brings.given
+    meant = brought_in state way done.at done.there relvar found.old brings.given
 
     abbrev cost_meant : ℕ
-    cost_meant = brought_cost state sets done.at done.there relvar found.old brings.given
+    cost_meant = brought_cost state way done.at done.there relvar found.old brings.given
 
     assigned_so : assigned_in state (assignments_of state.relvars done.items) ≡ meant
     assigned_so =
         ap (assigned_in state) done.meant
-        ∙ (brought_assigned state done.assignment sets done.at done.there found.old brings.given done.source
-        ∙ ap (λ (name : Name). brought_in state sets done.at done.there name found.old brings.given) done.target)
+        ∙ (brought_assigned state done.assignment way done.at done.there found.old brings.given done.source
+        ∙ ap (λ (name : Name). brought_in state way done.at done.there name found.old brings.given) done.target)
 
     answered_so : of_tree state from.tree ≡ unless_refused state meant
     answered_so = ap (unless_fault (of_checked state)) done.typed ∙ ap (unless_refused state) assigned_so
@@ -70,8 +79,8 @@ module _ (start : Place) (bytes : List ℕ) (sets : Bool) (relvar : Name) (relat
     costs_so : cost_meant ≤ cost_of_tree state from.tree
     costs_so =
         subst (λ (n : ℕ). cost_meant ≤ n) (sym (ap (cost_if_typed state) done.typed ∙ ap (cost_of_assignments state) done.meant))
-        (subst (λ (name : Name). brought_cost state sets done.at done.there name found.old brings.given ≤ cost_of_assignments state (done.assignment ∷ [])) done.target
-        (brought_costs state done.assignment sets done.at done.there found.old brings.given done.source))
+        (subst (λ (name : Name). brought_cost state way done.at done.there name found.old brings.given ≤ cost_of_assignments state (done.assignment ∷ [])) done.target
+        (brought_costs state done.assignment way done.at done.there found.old brings.given done.source done.cost))
 
     within : (before now : ℕ) → now ≤ before + cost_meant → now ≤ before + cost_of_tree state from.tree
     within before now least = let more = costs_so in omega (arith, least, more)
@@ -98,48 +107,23 @@ module _ (start : Place) (bytes : List ℕ) (sets : Bool) (relvar : Name) (relat
 
   -- ---- what the database tells of the rows that it is given
 
-  -- for each relvar of the name that has their heading, wherever the tree stands
-  abbrev IsToldOf : Result Bool Refuse → State → Type 0
-  IsToldOf result new =
-      (old : Relation) (constraints : List Constraint) (at there : Place) (given : List Row) → relvar_named state.relvars relvar ≡ Some (base old constraints) → relation.heading ≡ old.heading → relation.rows ≡ rows_of given
-      → IsBrought result state new (brought_in state sets at there relvar old given)
+  given_to : (found : IsBaseWith state relvar relation.heading) → IsGivenTo state relvar relation found.old brings.given
+  given_to found = record { constraints = found.constraints; there = found.there; headed = found.headed; are = brings.rows }
 
-  abbrev IsPaidFor : ℕ → ℕ → Type 0
-  IsPaidFor before now =
-      (old : Relation) (constraints : List Constraint) (at there : Place) (given : List Row) → relvar_named state.relvars relvar ≡ Some (base old constraints) → relation.heading ≡ old.heading → relation.rows ≡ rows_of given
-      → now ≤ before + brought_cost state sets at there relvar old given
+  told_at : (result : Result Bool Refuse) (new : State) (found : IsBaseWith state relvar relation.heading) → IsToldOf way result state new relvar relation → IsBrought result state new (meant found)
+  told_at result new found told = told found.old (done found).at (done found).there brings.given (given_to found)
 
-  told_at : (result : Result Bool Refuse) (new : State) (found : IsBaseWith state relvar relation.heading) → IsToldOf result new → IsBrought result state new (meant found)
-  told_at result new found told = told found.old found.constraints (done found).at (done found).there brings.given found.there found.headed brings.rows
+  paid_at : (before now : ℕ) (found : IsBaseWith state relvar relation.heading) → IsPaidFor way state relvar relation before now → now ≤ before + cost_meant found
+  paid_at before now found paid = paid found.old (done found).at (done found).there brings.given (given_to found)
 
-  paid_at : (before now : ℕ) (found : IsBaseWith state relvar relation.heading) → IsPaidFor before now → now ≤ before + cost_meant found
-  paid_at before now found paid = paid found.old found.constraints (done found).at (done found).there brings.given found.there found.headed brings.rows
-
-  rows_added_so : (new : State) (text : Vec ℕ Global) (before now : ℕ) → IsBaseWith state relvar relation.heading → IsToldOf (Ok true) new → text.items ≡ [] → IsPaidFor before now
-      → IsDoneBy start bytes (Ok text) state new before now
-  rows_added_so new text before now found told empty paid = added found new text before now (told_at (Ok true) new found told) empty (paid_at before now found paid)
-
-  refused_at : (refuse : Refuse) (new : State) (before now : ℕ) → IsBaseWith state relvar relation.heading → IsToldOf (Err refuse) new → IsPaidFor before now → IsDoneBy start bytes (Err refuse) state new before now
-  refused_at refuse new before now found told paid = refused found refuse new before now (told_at (Err refuse) new found told) (paid_at before now found paid)
-
-  rows_refused_so : (refuse : Refuse) (new : State) (before now : ℕ) → IsFoundIf (Err refuse) state relvar relation.heading before now → IsToldOf (Err refuse) new → new ≡ state → IsPaidFor before now
-      → IsDoneBy start bytes (Err refuse) state new before now
-  rows_refused_so Memory new before now found told stays paid = elim found [
-    | inl there ↦ refused_at Memory new before now there told paid
-    | inr none ↦ unpaid new before now stays none
-  ]
-  rows_refused_so (Plain code) new before now found told stays paid = refused_at (Plain code) new before now found told paid
-  rows_refused_so (At fault) new before now found told stays paid = refused_at (At fault) new before now found told paid
-  rows_refused_so (Broken code name number) new before now found told stays paid = refused_at (Broken code name number) new before now found told paid
-
-  pub tried_so : (done_so : Result Bool Refuse) (result : Option (Result (Vec ℕ Global) Refuse)) (new : State) (before now : ℕ) → IsToldBy done_so result → IsFoundIf done_so state relvar relation.heading before now
-      → IsToldOf done_so new → StaysUnless done_so state new → TakesNoneIf done_so before now → IsPaidFor before now → IsTried start bytes result state new before now
-  tried_so (Ok true) (Some (Ok text)) new before now empty found told stays none paid = rows_added_so new text before now found told empty paid
+  pub tried_so : (done_so : Result Bool Refuse) (result : Option (Result (Vec ℕ Global) Refuse)) (new : State) (before now : ℕ) → IsToldBy done_so result → IsFoundIf done_so state relvar relation.heading
+      → IsToldOf way done_so state new relvar relation → StaysUnless done_so state new → TakesNoneIf done_so before now → IsPaidFor way state relvar relation before now → IsTried start bytes result state new before now
+  tried_so (Ok true) (Some (Ok text)) new before now empty found told stays none paid = added found new text before now (told_at (Ok true) new found told) empty (paid_at before now found paid)
   tried_so (Ok true) (Some (Err refuse)) new before now h found told stays none paid = absurd h
   tried_so (Ok true) None new before now h found told stays none paid = absurd h
   tried_so (Ok false) (Some written) new before now h found told stays none paid = absurd h
   tried_so (Ok false) None new before now h found told stays none paid = (stays, none)
   tried_so (Err refuse) (Some (Ok text)) new before now h found told stays none paid = absurd h
   tried_so (Err refuse) (Some (Err other)) new before now same found told stays none paid =
-      subst (λ (r : Refuse). IsDoneBy start bytes (Err r) state new before now) (sym same) (rows_refused_so refuse new before now found told stays paid)
+      subst (λ (r : Refuse). IsDoneBy start bytes (Err r) state new before now) (sym same) (refused found refuse new before now (told_at (Err refuse) new found told) (paid_at before now found paid))
   tried_so (Err refuse) None new before now h found told stays none paid = absurd h

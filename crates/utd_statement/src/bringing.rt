@@ -1,14 +1,17 @@
 // Statements that bring rows, performed straight from their bytes.
 ghost use Rattle.point_core.specs.declared.fault.Place.{Place};
 ghost use Rattle.tree_core.specs.Relvars.{read_relvars};
+ghost use Rattle.assign_core.specs.NewRows.{IsFoundIf, IsListFor, IsPaidFor, IsToldOf, StaysUnless, TakesNoneIf};
+ghost use Rattle.constant_effects.specs.Ways.{arriving_of};
+ghost use Rattle.plain_rows.specs.Brought.{bringing_of};
 ghost use Rattle.utd_statement.specs.Bringing.{IsToldBy, IsTried};
 
 use assign_core::Database;
-use plain_rows::{PlainRows, read};
+use plain_rows::{PlainRows, Way, read};
 use point_core::Steps;
 use std::alloc::Global;
 use std::sync::ledger::Ledger;
-use value_core::Refuse;
+use value_core::{Name, Refuse, Relation};
 
 // What is written of rows that the database took, or why it refused them; none where it left them.
 fn told(alloc: Global, done: Result<bool, Refuse>) -> Option<Result<Vec<u8>, Refuse>>
@@ -21,8 +24,33 @@ fn told(alloc: Global, done: Result<bool, Refuse>) -> Option<Result<Vec<u8>, Ref
     }
 }
 
+// Brings the rows to the base relvar of the name, in the way that the statement says.
+fn put<L: Ledger>(
+    database: &mut Database,
+    way: &Way,
+    relvar: &Name,
+    rows: Relation,
+    steps: &mut Steps<L>,
+) -> Result<bool, Refuse>
+    requires { IsListFor rows.heading (arriving_of (bringing_of way.now)) }
+    ensures brought { IsToldOf (arriving_of (bringing_of way.now)) result (read_relvars database.old) (read_relvars database.new) relvar.now rows }
+    ensures found { IsFoundIf result (read_relvars database.old) relvar.now rows.heading }
+    ensures stays { StaysUnless result (read_relvars database.old) (read_relvars database.new) }
+    ensures none { TakesNoneIf result steps.old steps.new }
+    ensures cost { IsPaidFor (arriving_of (bringing_of way.now)) (read_relvars database.old) relvar.now rows steps.old steps.new }
+{
+    match way {
+        Way::Set => database.set_rows(relvar, rows, steps),
+        Way::Insert => database.insert_rows(relvar, None, rows, steps),
+        Way::InsertUnder(commalist) => {
+            database.insert_rows(relvar, Some(commalist), rows, steps)
+        }
+    }
+}
+
 /// What a statement writes that brings rows, or why it is refused: performed straight from its bytes, with no tree. It is left, and changes
-/// nothing, where its bytes are none of these, where its relvar is none with the rows' heading, and where that would have too many rows.
+/// nothing, where its bytes are none of these, where its relvar is none with the rows' heading, where that might have too many rows, and
+/// where they come under a list of several attributes.
 pub(crate) fn bring<L: Ledger>(
     alloc: Global,
     text: &[u8],
@@ -31,10 +59,10 @@ pub(crate) fn bring<L: Ledger>(
 ) -> Option<Result<Vec<u8>, Refuse>>
     ensures { (start : Place) → IsTried start text.now result (read_relvars database.old) (read_relvars database.new) steps.old steps.new }
 {
-    let Some(plain) = read(alloc, text) else {
+    let Some(plain) = read(alloc, text, &database.relvars().ordinals) else {
         return None;
     };
-    let PlainRows { sets, relvar, rows } = plain;
-    let done = database.put_rows(&relvar, sets, rows, steps);
+    let PlainRows { way, relvar, rows } = plain;
+    let done = put(database, &way, &relvar, rows, steps);
     told(alloc, done)
 }

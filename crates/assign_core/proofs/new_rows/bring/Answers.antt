@@ -1,38 +1,108 @@
-use Rattle.std.proofs.Common.{Option, subst}
-use Rattle.std.specs.Prelude.{IfSome}
+use Rattle.std.proofs.Common.{◌≡◌, Bool, true, Option, Result, Ok, Err, refl, sym, subst, arith}
+use Rattle.std.proofs.lemmas.Result.{err_from_is_err_and}
+use Rattle.value_core.specs.declared.refuse.Refuse.{Refuse}
 use Rattle.tree_core.specs.Relvars.{read_relvars}
 use Rattle.assign_core.specs.declared.preparing.Ready.{Ready}
-use Rattle.assign_core.specs.Arrivals.{IsReadyFor}
-use Rattle.assign_core.specs.Assignments.{kept_or_refused, unless_rule_broken}
+use Rattle.assign_core.specs.Arrivals.{entries_then, way_of, IsReadied}
+use Rattle.assign_core.specs.Assignments.{kept_or_refused, IsRefusedFor}
+use Rattle.assign_core.specs.NewRows.{IsFoundIf}
 use Rattle.assign_core.specs.Turnovers.{with_ready}
-use Rattle.assign_core.proofs.NewRowLemmas.{brought_so, cost_so, found_so, stays_so}
+use Rattle.assign_core.proofs.NewRowLemmas.{brought_of, paid_of, refused_so, refused_rule, entered, entered_keeps, rules_price}
 use Rattle.assign_core.proofs.new_rows.bring.Goals as goal
 
-pub enter-requires-clause-may : goal.enter-requires-clause-may
-enter-requires-clause-may g c =
+pub returns-in_err-found-clause-brought : goal.returns-in_err-found-clause-brought
+returns-in_err-found-clause-brought g c =
     let s = read_relvars c.args.relvars.now in
-    let told = subst (λ (o : Option Ready). IfSome o (λ r. IsReadyFor s.relvars c.args.target.now c.args.sets c.args.rows r)) c.in-Some.is c.in_ok-found.ensures in
-    told.may
+    let refuse = c.in_err-found.field-0.0 in
+    let k = c.in_err-found.ensures.readied in
+    let p = err_from_is_err_and c.from_residual.result c.from_residual.ensures.1 in
+    rw (p.1, p.2) (brought_of s (way_of c.args.way) c.args.target.now c.args.rows (IsRefusedFor refuse) c.args.steps.now c.ready_rows.new.steps k (Err refuse) s
+    (refused_so refuse s.rules (entries_then s.relvars (way_of c.args.way) c.args.target.now k.base.old.rows c.args.rows) k.told, refl))
 
-pub returns-in-Some-clause-brought : goal.returns-in-Some-clause-brought
-returns-in-Some-clause-brought g c =
-    let s = read_relvars c.args.relvars.now in
-    let told = subst (λ (o : Option Ready). IfSome o (λ r. IsReadyFor s.relvars c.args.target.now c.args.sets c.args.rows r)) c.in-Some.is c.in_ok-found.ensures in
-    brought_so s c.args.target.now c.args.sets c.args.rows c.in-Some.ready told c.enter.result (read_relvars c.enter.new.relvars) c.enter.ensures.brought
+pub returns-in_err-found-clause-found : goal.returns-in_err-found-clause-found
+returns-in_err-found-clause-found g c =
+    let p = err_from_is_err_and c.from_residual.result c.from_residual.ensures.1 in
+    subst (λ (r : Result Bool Refuse). IsFoundIf r (read_relvars c.args.relvars.now) c.args.target.now c.args.rows.heading) (sym p.1) c.in_err-found.ensures.readied.base
 
-pub returns-in-Some-clause-found : goal.returns-in-Some-clause-found
-returns-in-Some-clause-found g c =
+pub returns-in_err-found-clause-cost : goal.returns-in_err-found-clause-cost
+returns-in_err-found-clause-cost g c =
     let s = read_relvars c.args.relvars.now in
-    let told = subst (λ (o : Option Ready). IfSome o (λ r. IsReadyFor s.relvars c.args.target.now c.args.sets c.args.rows r)) c.in-Some.is c.in_ok-found.ensures in
-    found_so s c.args.target.now c.args.sets c.args.rows c.in-Some.ready told c.enter.result c.args.steps.now c.enter.new.steps
+    paid_of s (way_of c.args.way) c.args.target.now c.args.rows (IsRefusedFor c.in_err-found.field-0.0) c.args.steps.now c.ready_rows.new.steps c.in_err-found.ensures.readied c.ready_rows.new.steps (omega arith)
 
-pub returns-in-Some-clause-stays : goal.returns-in-Some-clause-stays
-returns-in-Some-clause-stays g c =
+pub settle-requires-clause-ready : goal.settle-requires-clause-ready
+settle-requires-clause-ready g c =
     let s = read_relvars c.args.relvars.now in
-    stays_so c.enter.result s (read_relvars c.enter.new.relvars) (unless_rule_broken s.rules (kept_or_refused (with_ready c.in-Some.ready s.relvars))) c.enter.ensures.brought
+    let told = subst (λ (o : Option Ready). IsReadied (Ok o) s (way_of c.args.way) c.args.target.now c.args.rows c.args.steps.now c.ready_rows.new.steps) c.in-Some.is c.in_ok-found.ensures.readied in
+    told.0
 
-pub returns-in-Some-clause-cost : goal.returns-in-Some-clause-cost
-returns-in-Some-clause-cost g c =
+pub returns-in_err-settle-in-Some-clause-brought : goal.returns-in_err-settle-in-Some-clause-brought
+returns-in_err-settle-in-Some-clause-brought g c =
     let s = read_relvars c.args.relvars.now in
-    let told = subst (λ (o : Option Ready). IfSome o (λ r. IsReadyFor s.relvars c.args.target.now c.args.sets c.args.rows r)) c.in-Some.is c.in_ok-found.ensures in
-    cost_so s c.args.target.now c.args.sets c.args.rows c.in-Some.ready told c.args.steps.now c.enter.new.steps c.enter.ensures.cost
+    let r = c.in-Some.ready in
+    let told = subst (λ (o : Option Ready). IsReadied (Ok o) s (way_of c.args.way) c.args.target.now c.args.rows c.args.steps.now c.ready_rows.new.steps) c.in-Some.is c.in_ok-found.ensures.readied in
+    let refuse = c.in_err-settle-in-Some.field-0.0 in
+    let now = read_relvars c.settle.new.relvars in
+    let p = err_from_is_err_and c.from_residual-in_err-settle-in-Some.result c.from_residual-in_err-settle-in-Some.ensures.1 in
+    rw (p.1, p.2) (brought_of s (way_of c.args.way) c.args.target.now c.args.rows (λ m. m ≡ Ok (with_ready r s.relvars)) c.args.steps.now c.ready_rows.new.steps told.1 (Err refuse) now
+    (refused_rule s now (kept_or_refused (entries_then s.relvars (way_of c.args.way) c.args.target.now told.1.base.old.rows c.args.rows)) (with_ready r s.relvars) told.1.told refuse c.in_err-settle-in-Some.ensures.settled))
+
+pub returns-in_err-settle-in-Some-clause-found : goal.returns-in_err-settle-in-Some-clause-found
+returns-in_err-settle-in-Some-clause-found g c =
+    let s = read_relvars c.args.relvars.now in
+    let told = subst (λ (o : Option Ready). IsReadied (Ok o) s (way_of c.args.way) c.args.target.now c.args.rows c.args.steps.now c.ready_rows.new.steps) c.in-Some.is c.in_ok-found.ensures.readied in
+    let p = err_from_is_err_and c.from_residual-in_err-settle-in-Some.result c.from_residual-in_err-settle-in-Some.ensures.1 in
+    subst (λ (z : Result Bool Refuse). IsFoundIf z s c.args.target.now c.args.rows.heading) (sym p.1) told.1.base
+
+pub returns-in_err-settle-in-Some-clause-cost : goal.returns-in_err-settle-in-Some-clause-cost
+returns-in_err-settle-in-Some-clause-cost g c =
+    let s = read_relvars c.args.relvars.now in
+    let r = c.in-Some.ready in
+    let told = subst (λ (o : Option Ready). IsReadied (Ok o) s (way_of c.args.way) c.args.target.now c.args.rows c.args.steps.now c.ready_rows.new.steps) c.in-Some.is c.in_ok-found.ensures.readied in
+    let now = read_relvars c.settle.new.relvars in
+    let price = rules_price s now (kept_or_refused (entries_then s.relvars (way_of c.args.way) c.args.target.now told.1.base.old.rows c.args.rows)) (with_ready r s.relvars) told.1.told in
+    let taken = c.settle.ensures.cost in
+    paid_of s (way_of c.args.way) c.args.target.now c.args.rows (λ m. m ≡ Ok (with_ready r s.relvars)) c.args.steps.now c.ready_rows.new.steps told.1 c.settle.new.steps (omega (arith, price, taken))
+
+pub returns-in_err-settle-in-Some-clause-kept : goal.returns-in_err-settle-in-Some-clause-kept
+returns-in_err-settle-in-Some-clause-kept g c =
+    let s = read_relvars c.args.relvars.now in
+    let r = c.in-Some.ready in
+    let told = subst (λ (o : Option Ready). IsReadied (Ok o) s (way_of c.args.way) c.args.target.now c.args.rows c.args.steps.now c.ready_rows.new.steps) c.in-Some.is c.in_ok-found.ensures.readied in
+    entered_keeps c.settle.result s (read_relvars c.settle.new.relvars) r (entries_then s.relvars (way_of c.args.way) c.args.target.now told.1.base.old.rows c.args.rows) c.requires.kept told.0 told.1.told c.settle.ensures.settled
+
+pub returns-in_ok-settle-in-Some-clause-brought : goal.returns-in_ok-settle-in-Some-clause-brought
+returns-in_ok-settle-in-Some-clause-brought g c =
+    let s = read_relvars c.args.relvars.now in
+    let r = c.in-Some.ready in
+    let told = subst (λ (o : Option Ready). IsReadied (Ok o) s (way_of c.args.way) c.args.target.now c.args.rows c.args.steps.now c.ready_rows.new.steps) c.in-Some.is c.in_ok-found.ensures.readied in
+    let now = read_relvars c.settle.new.relvars in
+    brought_of s (way_of c.args.way) c.args.target.now c.args.rows (λ m. m ≡ Ok (with_ready r s.relvars)) c.args.steps.now c.ready_rows.new.steps told.1 (Ok true) now
+    (entered s now (kept_or_refused (entries_then s.relvars (way_of c.args.way) c.args.target.now told.1.base.old.rows c.args.rows)) (with_ready r s.relvars) told.1.told c.in_ok-settle-in-Some.ensures.settled)
+
+pub returns-in_ok-settle-in-Some-clause-found : goal.returns-in_ok-settle-in-Some-clause-found
+returns-in_ok-settle-in-Some-clause-found g c =
+    let s = read_relvars c.args.relvars.now in
+    let told = subst (λ (o : Option Ready). IsReadied (Ok o) s (way_of c.args.way) c.args.target.now c.args.rows c.args.steps.now c.ready_rows.new.steps) c.in-Some.is c.in_ok-found.ensures.readied in
+    told.1.base
+
+pub returns-in_ok-settle-in-Some-clause-cost : goal.returns-in_ok-settle-in-Some-clause-cost
+returns-in_ok-settle-in-Some-clause-cost g c =
+    let s = read_relvars c.args.relvars.now in
+    let r = c.in-Some.ready in
+    let told = subst (λ (o : Option Ready). IsReadied (Ok o) s (way_of c.args.way) c.args.target.now c.args.rows c.args.steps.now c.ready_rows.new.steps) c.in-Some.is c.in_ok-found.ensures.readied in
+    let now = read_relvars c.settle.new.relvars in
+    let price = rules_price s now (kept_or_refused (entries_then s.relvars (way_of c.args.way) c.args.target.now told.1.base.old.rows c.args.rows)) (with_ready r s.relvars) told.1.told in
+    let taken = c.settle.ensures.cost in
+    paid_of s (way_of c.args.way) c.args.target.now c.args.rows (λ m. m ≡ Ok (with_ready r s.relvars)) c.args.steps.now c.ready_rows.new.steps told.1 c.settle.new.steps (omega (arith, price, taken))
+
+pub returns-in_ok-settle-in-Some-clause-kept : goal.returns-in_ok-settle-in-Some-clause-kept
+returns-in_ok-settle-in-Some-clause-kept g c =
+    let s = read_relvars c.args.relvars.now in
+    let r = c.in-Some.ready in
+    let told = subst (λ (o : Option Ready). IsReadied (Ok o) s (way_of c.args.way) c.args.target.now c.args.rows c.args.steps.now c.ready_rows.new.steps) c.in-Some.is c.in_ok-found.ensures.readied in
+    entered_keeps c.settle.result s (read_relvars c.settle.new.relvars) r (entries_then s.relvars (way_of c.args.way) c.args.target.now told.1.base.old.rows c.args.rows) c.requires.kept told.0 told.1.told c.settle.ensures.settled
+
+pub returns-in-None-clause-none : goal.returns-in-None-clause-none
+returns-in-None-clause-none g c =
+    let s = read_relvars c.args.relvars.now in
+    subst (λ (o : Option Ready). IsReadied (Ok o) s (way_of c.args.way) c.args.target.now c.args.rows c.args.steps.now c.ready_rows.new.steps) c.in-None.is c.in_ok-found.ensures.readied

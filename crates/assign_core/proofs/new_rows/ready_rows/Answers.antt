@@ -1,44 +1,41 @@
-use Rattle.std.proofs.Common.{Bool, Option, length, map, refl, sym, subst, arith}
-use Rattle.std.specs.Prelude.{IfSome}
-use Rattle.change_rows.specs.declared.exchange.Exchange.{Exchange}
-use Rattle.tree_core.specs.Relvars.{base, read_entry, read_relvars}
-use Rattle.assign_core.specs.declared.preparing.Ready.TheVariants.{Values, Rows}
-use Rattle.assign_core.specs.Arrivals.{IsFresh, IsReadyFor}
-use Rattle.assign_core.proofs.ChangeLemmas.{none_are, entries_length}
-use Rattle.assign_core.proofs.InsertionLemmas.{within}
-use Rattle.assign_core.proofs.NameLemmas.{relvars_differ}
-use Rattle.assign_core.proofs.NewRowLemmas.{put_are, ready_added, ready_put}
+use Rattle.std.proofs.Common.{◌≡◌, ◌+◌, ◌≤◌, ℕ, Ok, arith}
+use Rattle.std.proofs.lemmas.Result.{err_from_is_err_and}
+use Rattle.value_core.specs.declared.refuse.Refuse.TheVariants.{Memory}
+use Rattle.tree_core.specs.Relvars.{read_relvars}
+use Rattle.assign_core.specs.Arrivals.{way_of}
+use Rattle.assign_core.specs.Assignments.{IsRefusedFor}
+use Rattle.assign_core.specs.Turnovers.{with_ready}
+use Rattle.assign_core.proofs.HashedLemmas.{hashes_of_first}
+use Rattle.assign_core.proofs.NewRowLemmas.{readied_so}
 use Rattle.assign_core.proofs.new_rows.ready_rows.Goals as goal
 
-pub only_new-requires : goal.only_new-requires
-only_new-requires c =
-    let raw = c.args.relvars.now.list.entries in
+pub ready_for-requires-clause-hashed : goal.ready_for-requires-clause-hashed
+ready_for-requires-clause-hashed g c =
+    let es = (read_relvars c.args.relvars.now).relvars in
     let x = c.in-Some in
-    let there = within (map read_entry raw) c.args.target.now x.at (base x.value.now x.ensures.0) x.ensures.1 in
-    let long = entries_length raw in
-    omega (arith, there, long)
+    hashes_of_first es c.args.target.now x.at x.value.now x.ensures.constraints c.hashes_at.result.now x.ensures.first (c.hashes_at.ensures es c.fill_for.ensures)
 
-pub returns-then-sets : goal.returns-then-sets
-returns-then-sets c =
-    let raw = c.args.relvars.now.list.entries in
-    let es = map read_entry raw in
-    let name = c.args.target.now in
+pub returns-in_err-fill_for-clause-readied : goal.returns-in_err-fill_for-clause-readied
+returns-in_err-fill_for-clause-readied g c =
     let x = c.in-Some in
-    let different = relvars_differ (read_relvars c.args.relvars.now) c.requires.kept.well_made in
-    let headed = c.has_heading_of.ensures.same c.if-not-has_heading_of.false in
-    let cs = c.in_ok-changes.changes.items in
-    let are = put_are es name x.at x.value.now x.ensures.0 different x.ensures.1 c.args.rows cs (length raw) headed (none_are raw) c.in_ok-changes.ensures in
-    subst (λ (b : Bool). IsReadyFor es name b c.args.rows (Values c.in_ok-changes.changes)) (sym c.if-sets.true)
-    (ready_put es name x.at x.value.now x.ensures.0 different x.ensures.1 c.args.rows (Values c.in_ok-changes.changes) cs (length raw) headed c.has_heading_of.ensures.own c.has_heading_of.ensures.few (none_are raw)
-    c.in_ok-changes.ensures are refl)
+    let p = err_from_is_err_and c.from_residual.result c.from_residual.ensures.1 in
+    rw (p.1, p.2) (readied_so (read_relvars c.args.relvars.now) c.args.target.now (way_of c.args.way) c.args.rows x.at x.value.now x.ensures (IsRefusedFor Memory) c.args.steps.now c.args.steps.now tt
+    (omega arith))
 
-pub returns-in-Some-new : goal.returns-in-Some-new
-returns-in-Some-new c =
-    let es = map read_entry c.args.relvars.now.list.entries in
+pub returns-in_err-ready-clause-readied : goal.returns-in_err-ready-clause-readied
+returns-in_err-ready-clause-readied g c =
     let x = c.in-Some in
-    let different = relvars_differ (read_relvars c.args.relvars.now) c.requires.kept.well_made in
-    let headed = c.has_heading_of.ensures.same c.if-not-has_heading_of.false in
-    let exchange = c.in-Some-new.exchange in
-    let come : IsFresh x.value.now c.args.rows exchange = subst (λ (o : Option Exchange). IfSome o (λ z. IsFresh x.value.now c.args.rows z)) c.in-Some-new.is c.in_ok-new.ensures in
-    subst (λ (b : Bool). IsReadyFor es c.args.target.now b c.args.rows (Rows x.at exchange)) (sym c.if-sets.false)
-    (ready_added es c.args.target.now x.at x.value.now x.ensures.0 different x.ensures.1 c.args.rows exchange headed c.has_heading_of.ensures.own c.has_heading_of.ensures.few come)
+    let refuse = c.in_err-ready.field-0.0 in
+    let p = err_from_is_err_and c.from_residual-in_err-ready.result c.from_residual-in_err-ready.ensures.1 in
+    rw (p.1, p.2) (readied_so (read_relvars c.args.relvars.now) c.args.target.now (way_of c.args.way) c.args.rows x.at x.value.now x.ensures (IsRefusedFor refuse) c.args.steps.now c.ready_for.new.steps
+    c.in_err-ready.ensures.refused c.ready_for.ensures.cost)
+
+pub returns-clause-readied : goal.returns-clause-readied
+returns-clause-readied g c =
+    let s = read_relvars c.args.relvars.now in
+    let x = c.in-Some in
+    let r = c.in_ok-ready.ready in (
+      c.in_ok-ready.ensures.ready,
+      readied_so s c.args.target.now (way_of c.args.way) c.args.rows x.at x.value.now x.ensures (λ m. m ≡ Ok (with_ready r s.relvars)) c.args.steps.now c.ready_for.new.steps
+          c.in_ok-ready.ensures.meant c.ready_for.ensures.cost,
+    )

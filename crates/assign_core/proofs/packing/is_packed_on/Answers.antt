@@ -6,5 +6,5 @@ pub returns-in-Some : goal.returns-in-Some
 returns-in-Some c told =
     let a = c.args.addition in
     let k = c.requires.addition in
-    target_packed a.relvars.now.list.entries a.insertion.assignment.now.target _ a.at a.value.now k.constraints c.in-Some.relvar.now c.args.commalist.now k.relation c.requires.kept.holds k.first
+    target_packed a.target.relvars.now.list.entries a.target.name.now _ a.target.at a.target.value.now k.target.constraints c.in-Some.relvar.now c.args.commalist.now k.relation c.requires.kept.holds k.target.first
     (sym c.in-Some.ensures.entry) (sym c.is_kept_packed.ensures ∙ told)

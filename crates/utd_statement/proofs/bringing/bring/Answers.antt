@@ -1,10 +1,22 @@
-use Rattle.tree_core.specs.Relvars.{read_relvars}
-use Rattle.utd_statement.proofs.BringingLemmas.{tried_so}
+use Rattle.std.proofs.Common.{◌≡◌, List, sym, ap, subst}
+use Rattle.value_core.specs.declared.list.OrdinalNames.{OrdinalNames}
+use Rattle.tree_core.specs.Relvars.{State, read_relvars}
+use Rattle.plain_rows.specs.Brought.{bringing_of, IsBrought}
+use Rattle.utd_statement.proofs.BringingLemmas.{listed_so, tried_so}
 use Rattle.utd_statement.proofs.bringing.bring.Goals as goal
+
+pub put-done-requires : goal.put-done-requires
+put-done-requires g c =
+    let plain = c.in-Some.plain in
+    let s = read_relvars c.args.database.now in
+    let brings = subst (λ (types : List OrdinalNames). IsBrought types c.args.text.now (bringing_of plain.way) plain.relvar plain.rows) (ap (λ (t : State). t.ordinals) c.relvars.ensures.state) c.in-Some.ensures in
+    listed_so (record { line = 1; column = 1 }) c.args.text.now (bringing_of plain.way) plain.relvar plain.rows s brings
 
 pub returns : goal.returns
 returns g c = λ start.
     let plain = c.in-Some.plain in
-    let put = c.put_rows-done in
-    tried_so start c.args.text.now plain.sets plain.relvar plain.rows (read_relvars c.args.database.now) c.in-Some.ensures put.result c.told.result (read_relvars put.new.self) c.args.steps.now put.new.steps
+    let s = read_relvars c.args.database.now in
+    let put = c.put-done in
+    let brings = subst (λ (types : List OrdinalNames). IsBrought types c.args.text.now (bringing_of plain.way) plain.relvar plain.rows) (ap (λ (t : State). t.ordinals) c.relvars.ensures.state) c.in-Some.ensures in
+    tried_so start c.args.text.now (bringing_of plain.way) plain.relvar plain.rows s brings put.result c.told.result (read_relvars put.new.database) c.args.steps.now put.new.steps
     c.told.ensures put.ensures.found put.ensures.brought put.ensures.stays put.ensures.none put.ensures.cost
