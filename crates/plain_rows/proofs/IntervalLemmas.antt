@@ -5,10 +5,11 @@ use Rattle.std.proofs.lemmas.Int.{ints, to_z-of_z}
 use Rattle.utd_syntax.specs.Literals.{value_of}
 use Rattle.utd_lexer.specs.declared.token.TokenKind.TheVariants.{Text}
 use Rattle.point_core.specs.declared.any_type.AnyType.{AnyType}
-use Rattle.point_core.specs.declared.any_type.AnyType.TheVariants as types
+use Rattle.point_core.specs.declared.any_type.AnyType.TheVariants as points
 use Rattle.point_core.specs.Points.{first_of, last_of}
 use Rattle.interval_core.specs.Members.{Span}
 use Rattle.interval_core.specs.Selector.{selected}
+use Rattle.value_core.specs.declared.list.OrdinalNames.{OrdinalNames}
 use Rattle.plain_rows.specs.Lexemes.{Lexeme, Begins}
 use Rattle.plain_rows.specs.Written.{date_word, moment_word, brackets_of, opening, closing, colon, BeginsWithInteger, BeginsWithDate, BeginsWithMoment, BeginsWithPoint, BeginsWithInterval}
 use Rattle.plain_rows.proofs.BeginLemmas.{begins-then}
@@ -35,24 +36,24 @@ integer-fits text n rest h = elim h.written [
       fits-signed n (value_of k.0) s.1 (leb-true (value_of k.0) 9223372036854775808 s.0)
 ]
 
-pub integer-point : (text : List ℕ) (n m : ℤ) (rest : List ℕ) → m ≡ n → BeginsWithInteger text n rest → BeginsWithPoint text types.Integer m rest
-integer-point text n m rest e h = subst (λ z. BeginsWithPoint text types.Integer z rest) (sym e) (record { lexemes = h.lexemes; begins = h.begins; written = h.written })
+pub integer-point : {types : List OrdinalNames} → (text : List ℕ) (n m : ℤ) (rest : List ℕ) → m ≡ n → BeginsWithInteger text n rest → BeginsWithPoint types text points.Integer m rest
+integer-point {types} text n m rest e h = subst (λ z. BeginsWithPoint types text points.Integer z rest) (sym e) (record { lexemes = h.lexemes; begins = h.begins; written = h.written })
 
-pub date-point : (text : List ℕ) (n m : ℤ) (rest : List ℕ) → m ≡ n → BeginsWithDate text n rest → BeginsWithPoint text types.Date m rest
-date-point text n m rest e h = subst (λ z. BeginsWithPoint text types.Date z rest) (sym e) (record { lexemes = date_word ∷ (Text, h.text) ∷ []; begins = h.begins; written = (h.text, refl, h.written) })
+pub date-point : {types : List OrdinalNames} → (text : List ℕ) (n m : ℤ) (rest : List ℕ) → m ≡ n → BeginsWithDate text n rest → BeginsWithPoint types text points.Date m rest
+date-point {types} text n m rest e h = subst (λ z. BeginsWithPoint types text points.Date z rest) (sym e) (record { lexemes = date_word ∷ (Text, h.text) ∷ []; begins = h.begins; written = (h.text, refl, h.written) })
 
-pub moment-point : (text : List ℕ) (n m : ℤ) (rest : List ℕ) → m ≡ n → BeginsWithMoment text n rest → BeginsWithPoint text types.Moment m rest
-moment-point text n m rest e h = subst (λ z. BeginsWithPoint text types.Moment z rest) (sym e) (record { lexemes = moment_word ∷ (Text, h.text) ∷ []; begins = h.begins; written = (h.text, refl, h.written) })
+pub moment-point : {types : List OrdinalNames} → (text : List ℕ) (n m : ℤ) (rest : List ℕ) → m ≡ n → BeginsWithMoment text n rest → BeginsWithPoint types text points.Moment m rest
+moment-point {types} text n m rest e h = subst (λ z. BeginsWithPoint types text points.Moment z rest) (sym e) (record { lexemes = moment_word ∷ (Text, h.text) ∷ []; begins = h.begins; written = (h.text, refl, h.written) })
 
 -- with a gap behind
 pub begins-gap : (a b c : List ℕ) (f : List Lexeme) → Begins a f b → Begins b [] c → Begins a f c
 begins-gap a b c f h k = record { goes_on = λ ls r. h.goes_on ls (k.goes_on ls r) }
 
-pub interval : (a b c d e f g i rest : List ℕ) (t : AnyType) (begin end : Bool) (from to : ℤ) (span : Span)
-    → Begins a (opening begin ∷ []) b → Begins b [] c → BeginsWithPoint c t from d → Begins d [] e → Begins e (colon ∷ []) f → Begins f [] g
-    → BeginsWithPoint g t to i → (j : List ℕ) → Begins i [] j → Begins j (closing end ∷ []) rest
-    → selected (first_of t) (last_of t) (brackets_of begin end) from to ≡ Ok span → BeginsWithInterval a t span rest
-interval a b c d e f g i rest t begin end from to span opens gap first gap2 middle gap3 second j gap4 closes selects =
+pub interval : {types : List OrdinalNames} → (a b c d e f g i rest : List ℕ) (t : AnyType) (begin end : Bool) (from to : ℤ) (span : Span)
+    → Begins a (opening begin ∷ []) b → Begins b [] c → BeginsWithPoint types c t from d → Begins d [] e → Begins e (colon ∷ []) f → Begins f [] g
+    → BeginsWithPoint types g t to i → (j : List ℕ) → Begins i [] j → Begins j (closing end ∷ []) rest
+    → selected (first_of t) (last_of t) (brackets_of begin end) from to ≡ Ok span → BeginsWithInterval types a t span rest
+interval {types} a b c d e f g i rest t begin end from to span opens gap first gap2 middle gap3 second j gap4 closes selects =
     let last = begins-then g j rest second.lexemes (closing end ∷ []) (begins-gap g i j second.lexemes second.begins gap4) closes in
     let behind = begins-then e g rest (colon ∷ []) (second.lexemes ++ closing end ∷ []) (begins-gap e f g (colon ∷ []) middle gap3) last in
     let points = begins-then c e rest first.lexemes ((colon ∷ []) ++ (second.lexemes ++ closing end ∷ [])) (begins-gap c d e first.lexemes first.begins gap2) behind in

@@ -2,10 +2,12 @@ pub mod BeginLemmas
 pub mod CommentLemmas
 pub mod ConstantLemmas
 pub mod DoubledLemmas
+pub mod HeadLemmas
 pub mod IntegerLemmas
 pub mod IntervalLemmas
 pub mod MoreLemmas
 pub mod NumberLemmas
+pub mod OrdinalLemmas
 pub mod QuotedLemmas
 pub mod RowLemmas
 pub mod SwapLemmas

@@ -1,6 +1,6 @@
 -- The whole statement, put together from its parts.
 --     tuples-begin      the tuples, of the first and the others
---     brings      what the bytes bring
+--     is-body, brings      a body, and what it brings behind a head
 use Rattle.std.proofs.Common.{◌≡◌, ◌≤◌, ℕ, suc, List, [], ◌∷◌, ◌++◌, map, length, Bool, true, false, ◌&&◌, Some, refl, sym, ◌∙◌, ap, ap₂, subst, arith, append_assoc}
 use Rattle.std.specs.Prelude.{nat_le}
 use Rattle.std.specs.Str.{IsUtf8, chars}
@@ -19,11 +19,13 @@ use Rattle.relation_core.specs.Agreement.{part_of}
 use Rattle.meaning_core.specs.Places.{places}
 use Rattle.meaning_core.proofs.MadeLemmas.{place-position}
 use Rattle.relation_typing.specs.Attributes.{is_name}
-use Rattle.constant_laws.specs.Insertions.{MakesHeading, in_heading}
-use Rattle.plain_rows.specs.Brought.{HasRowsOf, IsBrought}
+use Rattle.constant_laws.specs.Insertions.{MakesHeading, in_heading, Bringing}
+use Rattle.value_core.specs.declared.list.OrdinalNames.{OrdinalNames}
+use Rattle.plain_rows.specs.Brought.{HasRowsOf, IsBody, IsBrought}
+use Rattle.plain_rows.specs.Heads.{AreListNames, IsWayOf}
 use Rattle.plain_rows.specs.Lexemes.{Lexeme, AreLexemes, Begins, is_word, begins_word, all_continue}
 use Rattle.plain_rows.specs.Names.{IsNameWord, AreNameWords, Ascending, IsPlainShape}
-use Rattle.plain_rows.specs.Tuples.{Shape, are_words, open_brace, close_brace, semicolon, relation_word, separated, followed, target, AreElements, IsTuple, AreTuples, IsPlain, HasRows, BeginsWithTuple, BeginsWithTuples}
+use Rattle.plain_rows.specs.Tuples.{Shape, are_words, open_brace, close_brace, semicolon, relation_word, separated, followed, Head, target, body, AreElements, IsTuple, AreTuples, HasRows, BeginsWithTuple, BeginsWithTuples}
 use Rattle.plain_rows.proofs.BeginLemmas.{begins-then}
 use Rattle.plain_rows.proofs.IntervalLemmas.{begins-gap}
 use Rattle.plain_rows.proofs.OrderLemmas.{AreNames, shape-makes, row-stays}
@@ -55,22 +57,22 @@ heading-same shape heading plain up makes =
 
 -- ---- rows
 
-as-many : (shape : Shape) (vs : List Value) (parts : List (List Lexeme)) → AreElements shape vs parts → length vs ≡ length shape
-as-many [] [] [] h = refl
-as-many (a ∷ shape) (v ∷ vs) (p ∷ parts) h = ap suc (as-many shape vs parts h.1)
-as-many _ _ _ h = absurd h
+as-many : (types : List OrdinalNames) (shape : Shape) (vs : List Value) (parts : List (List Lexeme)) → AreElements types shape vs parts → length vs ≡ length shape
+as-many types [] [] [] h = refl
+as-many types (a ∷ shape) (v ∷ vs) (p ∷ parts) h = ap suc (as-many types shape vs parts h.1)
+as-many types _ _ _ h = absurd h
 
-rows-stay : (shape : Shape) (rows : List (List Value)) (parts : List (List Lexeme)) → Ascending shape → AreTuples shape rows parts → rows ≡ map (in_heading shape shape) rows
-rows-stay shape [] [] up h = refl
-rows-stay shape (vs ∷ rows) (p ∷ parts) up h =
-    ap₂ (λ (x : List Value) (xs : List (List Value)). x ∷ xs) (sym (row-stays shape vs up (as-many shape vs h.0.elements h.0.written))) (rows-stay shape rows parts up h.1)
-rows-stay shape _ _ up h = absurd h
+rows-stay : (types : List OrdinalNames) (shape : Shape) (rows : List (List Value)) (parts : List (List Lexeme)) → Ascending shape → AreTuples types shape rows parts → rows ≡ map (in_heading shape shape) rows
+rows-stay types shape [] [] up h = refl
+rows-stay types shape (vs ∷ rows) (p ∷ parts) up h =
+    ap₂ (λ (x : List Value) (xs : List (List Value)). x ∷ xs) (sym (row-stays shape vs up (as-many types shape vs h.0.elements h.0.written))) (rows-stay types shape rows parts up h.1)
+rows-stay types shape _ _ up h = absurd h
 
 -- the rows of columns that are in order stay as they are
-pub rows-in-order : (shape : Shape) (heading : Heading) (rows : List (List Value)) (parts : List (List Lexeme)) → IsPlainShape shape → MakesHeading heading shape → Ascending shape → AreTuples shape rows parts
+pub rows-in-order : (types : List OrdinalNames) (shape : Shape) (heading : Heading) (rows : List (List Value)) (parts : List (List Lexeme)) → IsPlainShape shape → MakesHeading heading shape → Ascending shape → AreTuples types shape rows parts
     → rows ≡ map (in_heading shape heading) rows
-rows-in-order shape heading rows parts plain makes up h =
-    subst (λ (z : Heading). rows ≡ map (in_heading shape z) rows) (heading-same shape heading plain up makes) (rows-stay shape rows parts up h)
+rows-in-order types shape heading rows parts plain makes up h =
+    subst (λ (z : Heading). rows ≡ map (in_heading shape z) rows) (heading-same shape heading plain up makes) (rows-stay types shape rows parts up h)
 
 places-same : (shape : Shape) (heading : Heading) → map (λ (a : Name × Kind). position_of shape a.0) heading ≡ places (map (λ (a : Name × Kind). a.0) shape) heading
 places-same shape [] = refl
@@ -88,14 +90,14 @@ has-rows-of shape values made heading relation makes headed rows so = record {
   rows = rows ∙ ap rows_of (so ∙ ap (λ (z : Heading). map (in_heading shape z) values) (sym headed));
 }
 
-pub tuples-begin : (bytes b more rest : List ℕ) (shape : Shape) (vs first : List Value) (rows : List (List Value)) → first ≡ vs → BeginsWithTuple bytes shape vs b → Begins b [] more → HasRows shape more first rows rest → BeginsWithTuples bytes shape rows rest
-tuples-begin bytes b more rest shape vs first rows is h gap m = record {
+pub tuples-begin : {types : List OrdinalNames} → (bytes b more rest : List ℕ) (shape : Shape) (vs first : List Value) (rows : List (List Value)) → first ≡ vs → BeginsWithTuple types bytes shape vs b → Begins b [] more → HasRows types shape more first rows rest → BeginsWithTuples types bytes shape rows rest
+tuples-begin {types} bytes b more rest shape vs first rows is h gap m = record {
   first = first;
   others = m.others;
   held = m.held;
   tuples = h.lexemes ∷ m.tuples;
   begins = begins-then bytes more rest h.lexemes (followed m.tuples) (begins-gap bytes b more h.lexemes h.begins gap) m.begins;
-  written = (subst (λ z. IsTuple shape z h.lexemes) (sym is) h.written, m.written);
+  written = (subst (λ z. IsTuple types shape z h.lexemes) (sym is) h.written, m.written);
 }
 
 -- ---- the whole
@@ -107,29 +109,36 @@ nothing-read bytes is = subst (λ z. AreLexemes z []) (sym is) (λ p. ([], (IsUt
 whole-read : (bytes rest : List ℕ) (ls : List Lexeme) → Begins bytes ls rest → rest ≡ [] → AreLexemes bytes ls
 whole-read bytes rest ls h is = subst (AreLexemes bytes) (append-nil ls) (h.goes_on [] (nothing-read rest is))
 
--- the lexemes of the whole statement
-spelled-so : (bytes text opened behind rest : List ℕ) (head : List Lexeme) (tuples : List (List Lexeme)) → Begins bytes head text → Begins text (relation_word ∷ open_brace ∷ []) opened → Begins opened (separated tuples) behind
-    → Begins behind (close_brace ∷ semicolon ∷ []) rest → rest ≡ [] → AreLexemes bytes (head ++ relation_word ∷ open_brace ∷ (separated tuples ++ close_brace ∷ semicolon ∷ []))
-spelled-so bytes text opened behind rest head tuples target relation rows end is =
+-- the lexemes of the body
+spelled-so : (text opened behind rest : List ℕ) (tuples : List (List Lexeme)) → Begins text (relation_word ∷ open_brace ∷ []) opened → Begins opened (separated tuples) behind → Begins behind (close_brace ∷ semicolon ∷ []) rest → rest ≡ []
+    → AreLexemes text (body tuples)
+spelled-so text opened behind rest tuples relation rows end is =
     let ends = begins-then opened behind rest (separated tuples) (close_brace ∷ semicolon ∷ []) rows end in
-    let body = begins-then text opened rest (relation_word ∷ open_brace ∷ []) (separated tuples ++ close_brace ∷ semicolon ∷ []) relation ends in
-    whole-read bytes rest (head ++ relation_word ∷ open_brace ∷ (separated tuples ++ close_brace ∷ semicolon ∷ []))
-    (begins-then bytes text rest head (relation_word ∷ open_brace ∷ (separated tuples ++ close_brace ∷ semicolon ∷ [])) target body) is
+    whole-read text rest (body tuples) (begins-then text opened rest (relation_word ∷ open_brace ∷ []) (separated tuples ++ close_brace ∷ semicolon ∷ []) relation ends) is
 
-brought : (bytes : List ℕ) (sets : Bool) (relvar : Name) (shape : Shape) (first : List Value) (others : List (List Value)) (tuples : List (List Lexeme)) (relation : Relation) → IsNameWord relvar → AreNameWords shape
-    → AreTuples shape (first ∷ others) tuples → AreLexemes bytes (target sets relvar ++ relation_word ∷ open_brace ∷ (separated tuples ++ close_brace ∷ semicolon ∷ [])) → HasRowsOf shape (first ∷ others) relation
-    → IsBrought bytes sets relvar relation
-brought bytes sets relvar shape first others tuples relation name named written read has = record {
-  named = word-is-name relvar name.2 name.1;
-  given = map (in_heading shape relation.heading) (first ∷ others);
-  rows = has.rows;
-  brings = λ start. statement-found sets relvar relation.heading shape first others (map (in_heading shape relation.heading) (first ∷ others)) bytes
-      (target sets relvar ++ relation_word ∷ open_brace ∷ (separated tuples ++ close_brace ∷ semicolon ∷ [])) has.makes named name refl (record { tuples = tuples; spelled = refl; written = written }) read start;
+pub is-body : {types : List OrdinalNames} → (text opened behind rest : List ℕ) (shape : Shape) (rows : List (List Value)) (relation : Relation) → Begins text (relation_word ∷ open_brace ∷ []) opened → IsPlainShape shape
+    → BeginsWithTuples types opened shape rows behind → Begins behind (close_brace ∷ semicolon ∷ []) rest → rest ≡ [] → ((parts : List (List Lexeme)) → AreTuples types shape rows parts → HasRowsOf shape rows relation)
+    → IsBody types text relation
+is-body {types} text opened behind rest shape rows relation opens plain t end is has = record {
+  shape = shape;
+  first = t.first;
+  others = t.others;
+  tuples = t.tuples;
+  named = plain.named;
+  written = t.written;
+  spelled = spelled-so text opened behind rest t.tuples opens t.begins end is;
+  has = subst (λ (z : List (List Value)). HasRowsOf shape z relation) t.held (has t.tuples (subst (λ (z : List (List Value)). AreTuples types shape z t.tuples) (sym t.held) t.written));
 }
 
-pub brings : (bytes text opened behind rest : List ℕ) (sets : Bool) (relvar : Name) (shape : Shape) (rows : List (List Value)) (relation : Relation) → IsNameWord relvar → Begins bytes (target sets relvar) text
-    → Begins text (relation_word ∷ open_brace ∷ []) opened → IsPlainShape shape → BeginsWithTuples opened shape rows behind → Begins behind (close_brace ∷ semicolon ∷ []) rest → rest ≡ []
-    → ((parts : List (List Lexeme)) → AreTuples shape rows parts → HasRowsOf shape rows relation) → IsBrought bytes sets relvar relation
-brings bytes text opened behind rest sets relvar shape rows relation name head opens plain t end is has =
-    brought bytes sets relvar shape t.first t.others t.tuples relation name plain.named t.written (spelled-so bytes text opened behind rest (target sets relvar) t.tuples head opens t.begins end is)
-    (subst (λ (z : List (List Value)). HasRowsOf shape z relation) t.held (has t.tuples (subst (λ (z : List (List Value)). AreTuples shape z t.tuples) (sym t.held) t.written)))
+-- what a head and a body bring
+pub brings : {types : List OrdinalNames} → (bytes here behind at : List ℕ) (head : Head) (bringing : Bringing) (relvar : Name) (relation : Relation) → Begins bytes [] here → Begins here (target head relvar) behind → Begins behind [] at
+    → AreListNames head → IsNameWord relvar → IsBody types at relation → IsWayOf head relation.heading bringing → IsBrought types bytes bringing relvar relation
+brings {types} bytes here behind at head bringing relvar relation gap begins more listed name b way =
+    let front = begins-then bytes here at [] (target head relvar) gap (begins-gap here behind at (target head relvar) begins more) in
+    let rows = map (in_heading b.shape relation.heading) (b.first ∷ b.others) in record {
+      named = word-is-name relvar name.2 name.1;
+      given = rows;
+      rows = b.has.rows;
+      brings = λ start. statement-found types head bringing relvar relation.heading b.shape b.first b.others rows bytes (target head relvar ++ body b.tuples) b.has.makes b.named listed name way refl
+          (record { tuples = b.tuples; spelled = refl; written = b.written }) (front.goes_on (body b.tuples) b.spelled) start;
+    }

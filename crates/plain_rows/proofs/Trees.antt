@@ -8,7 +8,7 @@ use Rattle.std.proofs.Common.{◌&&◌, ◌≡◌, inl, inr, ◌≤◌, ℕ, ℤ
 use Rattle.std.specs.Prelude.{nat_lt, nat_le}
 use Rattle.std.specs.Str.{IsUtf8}
 use Rattle.point_core.specs.declared.any_type.AnyType.{AnyType}
-use Rattle.point_core.specs.declared.any_type.AnyType.TheVariants as types
+use Rattle.point_core.specs.declared.any_type.AnyType.TheVariants as points
 use Rattle.point_core.specs.declared.fault.Place.{Place}
 use Rattle.point_core.specs.Points.{line_of, first_of, last_of}
 use Rattle.interval_core.specs.Selector.{selected}
@@ -22,7 +22,7 @@ use Rattle.utd_syntax.specs.declared.words.EndBracket.TheVariants as finishes
 use Rattle.utd_syntax.specs.Literals.{value_of, is_date, is_moment, has_control}
 use Rattle.utd_syntax.specs.Pieces.{Piece}
 use Rattle.utd_syntax.specs.Plain as syntax
-use Rattle.utd_syntax.specs.Plain.{ScalarP, SignP}
+use Rattle.utd_syntax.specs.Plain.{word, ScalarP, SignP}
 use Rattle.utd_syntax.specs.Written.{Mark, fixed, at, spelled, token, begin_bracket, end_bracket, Spells, of_scalar, of_sign}
 use Rattle.utd_syntax.proofs.Marks.{Spells-append}
 use Rattle.interval_core.specs.declared.selector.Ends.{Ends}
@@ -36,13 +36,13 @@ use Rattle.value_core.specs.declared.kind.Kind.{Kind}
 use Rattle.value_core.specs.declared.kind.Kind.TheVariants as kinds
 use Rattle.value_core.specs.declared.list.OrdinalNames.{OrdinalNames}
 use Rattle.value_core.specs.Lengths.{IsTextLength, is_utf8}
-use Rattle.value_core.specs.Limits.{most_text_bytes}
+use Rattle.value_core.specs.Limits.{most_name_bytes, most_text_bytes}
 use Rattle.value_core.specs.Values.{Value, truth, text, point, interval}
 use Rattle.scalar_typing.specs.Literals.{integer_of, negative_of, text_of, date_of, moment_of}
 use Rattle.scalar_typing.specs.Operators.{ends_of}
 use Rattle.constant_laws.specs.Constants.{alone, WritesPoint, IsBetween, SignWrites, Writes}
 use Rattle.plain_rows.specs.Lexemes.{Lexeme, lexeme_of}
-use Rattle.plain_rows.specs.Written.{dash, date_word, moment_word, colon, opening, closing, brackets_of, truth_word, IsInteger, IsPoint, IsInterval, IsConstant}
+use Rattle.plain_rows.specs.Written.{dash, date_word, moment_word, colon, opening, closing, brackets_of, truth_word, dot, IsInteger, IsDotted, IsPoint, IsInterval, IsConstant}
 
 -- ---- one token
 
@@ -126,69 +126,86 @@ text-made bytes utf8 short = taken-if (is_utf8 bytes) (nat_le (length bytes) mos
 -- ---- points
 
 -- the tokens begin with a sign that writes the point
-pub record FoundPoint (u : AnyType) (n : ℤ) (ts : List Token) (ls : List Lexeme) : Type 0 where
+pub record FoundPoint (types : List OrdinalNames) (u : AnyType) (n : ℤ) (ts : List Token) (ls : List Lexeme) : Type 0 where
   x : SignP
   left : List Token
   others : map lexeme_of left ≡ ls
-  writes : (names : List OrdinalNames) → WritesPoint names u n x
-  is_point : (names : List OrdinalNames) → SignWrites names (kinds.Point u) (point (line_of u) n) x
+  writes : WritesPoint types u n x
+  is_point : SignWrites types (kinds.Point u) (point (line_of u) n) x
   in_range : SignIn is_out_of_range x
   spells : Spells (of_sign x) (pieces ts) (pieces left)
 
-integer-found : (n : ℤ) (p ls : List Lexeme) (ts : List Token) → IsInteger n p → map lexeme_of ts ≡ p ++ ls → FoundPoint types.Integer n ts ls
-integer-found n p ls ts (inl h) e =
+integer-found : (types : List OrdinalNames) (n : ℤ) (p ls : List Lexeme) (ts : List Token) → IsInteger n p → map lexeme_of ts ≡ p ++ ls → FoundPoint types points.Integer n ts ls
+integer-found types n p ls ts (inl h) e =
     let a = next (Integer, h.0) ls ts (e ∙ ap (λ (z : List Lexeme). z ++ ls) h.1) in record {
       x = syntax.OnePrimary (syntax.IntegerLiteral a.place h.0);
       left = a.left;
       others = a.others;
-      writes = λ names. (refl, h.2);
-      is_point = λ names. (types.Integer, n, (refl, h.2), refl, refl);
+      writes = (refl, h.2);
+      is_point = (points.Integer, n, (refl, h.2), refl, refl);
       in_range = integer-in h.0 n h.2;
       spells = spelled-next t.Digits [] (Integer, h.0) ls ts (pieces a.left) a refl (nothing (pieces a.left));
     }
-integer-found n p ls ts (inr h) e =
+integer-found types n p ls ts (inr h) e =
     let a = next dash ((Integer, h.0) ∷ ls) ts (e ∙ ap (λ (z : List Lexeme). z ++ ls) h.1) in
     let b = next (Integer, h.0) ls a.left a.others in record {
       x = syntax.NegativeInteger a.place b.place h.0;
       left = b.left;
       others = b.others;
-      writes = λ names. (refl, h.2);
-      is_point = λ names. (types.Integer, n, (refl, h.2), refl, refl);
+      writes = (refl, h.2);
+      is_point = (points.Integer, n, (refl, h.2), refl, refl);
       in_range = negative-in h.0 n h.2;
       spells = at-next t.Dash (spelled t.Digits b.place h.0 ∷ []) dash ((Integer, h.0) ∷ ls) ts (pieces b.left) a refl (spelled-next t.Digits [] (Integer, h.0) ls a.left (pieces b.left) b refl (nothing (pieces b.left)));
     }
 
-date-found : (n : ℤ) (bytes : List ℕ) (p ls : List Lexeme) (ts : List Token) → p ≡ date_word ∷ (Text, bytes) ∷ [] → date_of bytes ≡ Some n → map lexeme_of ts ≡ p ++ ls → FoundPoint types.Date n ts ls
-date-found n bytes p ls ts is h e =
+date-found : (types : List OrdinalNames) (n : ℤ) (bytes : List ℕ) (p ls : List Lexeme) (ts : List Token) → p ≡ date_word ∷ (Text, bytes) ∷ [] → date_of bytes ≡ Some n → map lexeme_of ts ≡ p ++ ls → FoundPoint types points.Date n ts ls
+date-found types n bytes p ls ts is h e =
     let a = next date_word ((Text, bytes) ∷ ls) ts (e ∙ ap (λ (z : List Lexeme). z ++ ls) is) in
     let b = next (Text, bytes) ls a.left a.others in record {
       x = syntax.OnePrimary (syntax.DateLiteral a.place b.place bytes);
       left = b.left;
       others = b.others;
-      writes = λ names. (refl, h);
-      is_point = λ names. (types.Date, n, (refl, h), refl, refl);
+      writes = (refl, h);
+      is_point = (points.Date, n, (refl, h), refl, refl);
       in_range = date-in bytes n h;
       spells = at-next t.Date (spelled t.Quoted b.place bytes ∷ []) date_word ((Text, bytes) ∷ ls) ts (pieces b.left) a refl (spelled-next t.Quoted [] (Text, bytes) ls a.left (pieces b.left) b refl (nothing (pieces b.left)));
     }
 
-moment-found : (n : ℤ) (bytes : List ℕ) (p ls : List Lexeme) (ts : List Token) → p ≡ moment_word ∷ (Text, bytes) ∷ [] → moment_of bytes ≡ Some n → map lexeme_of ts ≡ p ++ ls → FoundPoint types.Moment n ts ls
-moment-found n bytes p ls ts is h e =
+moment-found : (types : List OrdinalNames) (n : ℤ) (bytes : List ℕ) (p ls : List Lexeme) (ts : List Token) → p ≡ moment_word ∷ (Text, bytes) ∷ [] → moment_of bytes ≡ Some n → map lexeme_of ts ≡ p ++ ls → FoundPoint types points.Moment n ts ls
+moment-found types n bytes p ls ts is h e =
     let a = next moment_word ((Text, bytes) ∷ ls) ts (e ∙ ap (λ (z : List Lexeme). z ++ ls) is) in
     let b = next (Text, bytes) ls a.left a.others in record {
       x = syntax.OnePrimary (syntax.MomentLiteral a.place b.place bytes);
       left = b.left;
       others = b.others;
-      writes = λ names. (refl, h);
-      is_point = λ names. (types.Moment, n, (refl, h), refl, refl);
+      writes = (refl, h);
+      is_point = (points.Moment, n, (refl, h), refl, refl);
       in_range = moment-in bytes n h;
       spells = at-next t.Moment (spelled t.Quoted b.place bytes ∷ []) moment_word ((Text, bytes) ∷ ls) ts (pieces b.left) a refl (spelled-next t.Quoted [] (Text, bytes) ls a.left (pieces b.left) b refl (nothing (pieces b.left)));
     }
 
-point-found : (u : AnyType) (n : ℤ) (p ls : List Lexeme) (ts : List Token) → IsPoint u n p → map lexeme_of ts ≡ p ++ ls → FoundPoint u n ts ls
-point-found types.Integer n p ls ts h e = integer-found n p ls ts h e
-point-found types.Date n p ls ts h e = date-found n h.0 p ls ts h.1 h.2 e
-point-found types.Moment n p ls ts h e = moment-found n h.0 p ls ts h.1 h.2 e
-point-found (types.Ordinal of last) n p ls ts h e = absurd h
+dotted-found : (types : List OrdinalNames) (u : AnyType) (n : ℤ) (p ls : List Lexeme) (ts : List Token) → IsDotted types u n p → map lexeme_of ts ≡ p ++ ls → FoundPoint types u n ts ls
+dotted-found types u n p ls ts h e =
+    let a = next (Word, h.name) (dot ∷ (Word, h.value) ∷ ls) ts (e ∙ ap (λ (z : List Lexeme). z ++ ls) h.spelled) in
+    let d = next dot ((Word, h.value) ∷ ls) a.left a.others in
+    let v = next (Word, h.value) ls d.left d.others in record {
+      x = syntax.OnePrimary (syntax.Dotted (word a.place h.name) (word v.place h.value));
+      left = v.left;
+      others = v.others;
+      writes = h.written a.place v.place;
+      is_point = (u, n, h.written a.place v.place, refl, refl);
+      in_range = (le-ltb most_name_bytes (length h.name) h.names.0.1, le-ltb most_name_bytes (length h.value) h.names.1.1);
+      spells =
+          spelled-next t.Name (fixed t.Dot ∷ spelled t.Name v.place h.value ∷ []) (Word, h.name) (dot ∷ (Word, h.value) ∷ ls) ts (pieces v.left) a h.names.0.0
+          (fixed-next t.Dot (spelled t.Name v.place h.value ∷ []) dot ((Word, h.value) ∷ ls) a.left (pieces v.left) d refl
+          (spelled-next t.Name [] (Word, h.value) ls d.left (pieces v.left) v h.names.1.0 (nothing (pieces v.left))));
+    }
+
+point-found : (types : List OrdinalNames) (u : AnyType) (n : ℤ) (p ls : List Lexeme) (ts : List Token) → IsPoint types u n p → map lexeme_of ts ≡ p ++ ls → FoundPoint types u n ts ls
+point-found types points.Integer n p ls ts h e = integer-found types n p ls ts h e
+point-found types points.Date n p ls ts h e = date-found types n h.0 p ls ts h.1 h.2 e
+point-found types points.Moment n p ls ts h e = moment-found types n h.0 p ls ts h.1 h.2 e
+point-found types (points.Ordinal of last) n p ls ts h e = dotted-found types (points.Ordinal of last) n p ls ts h e
 
 -- ---- brackets
 
@@ -220,22 +237,22 @@ end-terminal false = refl
 -- ---- constants
 
 -- the tokens begin with a scalar that writes the value
-pub record FoundScalar (k : Kind) (v : Value) (ts : List Token) (ls : List Lexeme) : Type 0 where
+pub record FoundScalar (types : List OrdinalNames) (k : Kind) (v : Value) (ts : List Token) (ls : List Lexeme) : Type 0 where
   pub s : ScalarP
   pub left : List Token
   pub others : map lexeme_of left ≡ ls
-  pub writes : (names : List OrdinalNames) → Writes names k v s
+  pub writes : Writes types k v s
   pub in_range : ScalarIn is_out_of_range s
   pub spells : Spells (of_scalar s) (pieces ts) (pieces left)
 
 -- the parts of an interval, found one after another
-between-found : (u : AnyType) (i : Span) (b e : Bool) (n m : ℤ) (ts : List Token) (al fs cs gs ls : List Lexeme) (a : Next (opening b) al ts) (f : FoundPoint u n a.left fs) (c : Next colon cs f.left) (g : FoundPoint u m c.left gs)
-    (z : Next (closing e) ls g.left) → selected (first_of u) (last_of u) (brackets_of b e) n m ≡ Ok i → FoundScalar (kinds.Span u) (interval (line_of u) i) ts ls
-between-found u i b e n m ts al fs cs gs ls a f c g z selects = record {
+between-found : (types : List OrdinalNames) (u : AnyType) (i : Span) (b e : Bool) (n m : ℤ) (ts : List Token) (al fs cs gs ls : List Lexeme) (a : Next (opening b) al ts) (f : FoundPoint types u n a.left fs) (c : Next colon cs f.left) (g : FoundPoint types u m c.left gs)
+    (z : Next (closing e) ls g.left) → selected (first_of u) (last_of u) (brackets_of b e) n m ≡ Ok i → FoundScalar types (kinds.Span u) (interval (line_of u) i) ts ls
+between-found types u i b e n m ts al fs cs gs ls a f c g z selects = record {
   s = alone (syntax.OnePrimary (syntax.Selector a.place (begin_of b) (alone f.x) (alone g.x) (end_of e)));
   left = z.left;
   others = z.others;
-  writes = λ names. (
+  writes = (
     syntax.OnePrimary (syntax.Selector a.place (begin_of b) (alone f.x) (alone g.x) (end_of e)),
     refl,
     (
@@ -248,8 +265,8 @@ between-found u i b e n m ts al fs cs gs ls a f c g z selects = record {
         to = m;
         begins_so = refl;
         ends_so = refl;
-        begins_at = f.writes names;
-        ends_at = g.writes names;
+        begins_at = f.writes;
+        ends_at = g.writes;
         selects = subst (λ (o : Ends). selected (first_of u) (last_of u) o n m ≡ Ok i) (same-ends b e) selects;
       },
       refl,
@@ -266,56 +283,56 @@ between-found u i b e n m ts al fs cs gs ls a f c g z selects = record {
       (fixed-next (end_bracket (end_of e)) [] (closing e) ls g.left (pieces z.left) z (end-terminal e) (nothing (pieces z.left))));
 }
 
-interval-found : (u : AnyType) (i : Span) (p ls : List Lexeme) (ts : List Token) → IsInterval u i p → map lexeme_of ts ≡ p ++ ls → FoundScalar (kinds.Span u) (interval (line_of u) i) ts ls
-interval-found u i p ls ts h e =
+interval-found : (types : List OrdinalNames) (u : AnyType) (i : Span) (p ls : List Lexeme) (ts : List Token) → IsInterval types u i p → map lexeme_of ts ≡ p ++ ls → FoundScalar types (kinds.Span u) (interval (line_of u) i) ts ls
+interval-found types u i p ls ts h e =
     let a = next (opening h.begin) ((h.first ++ (colon ∷ (h.second ++ closing h.end ∷ []))) ++ ls) ts (e ∙ ap (λ (z : List Lexeme). z ++ ls) h.spelled) in
-    let f = point-found u h.from h.first (colon ∷ ((h.second ++ closing h.end ∷ []) ++ ls)) a.left h.begins_at (a.others ∙ append_assoc h.first (colon ∷ (h.second ++ closing h.end ∷ [])) ls) in
+    let f = point-found types u h.from h.first (colon ∷ ((h.second ++ closing h.end ∷ []) ++ ls)) a.left h.begins_at (a.others ∙ append_assoc h.first (colon ∷ (h.second ++ closing h.end ∷ [])) ls) in
     let c = next colon ((h.second ++ closing h.end ∷ []) ++ ls) f.left f.others in
-    let g = point-found u h.to h.second (closing h.end ∷ ls) c.left h.ends_at (c.others ∙ append_assoc h.second (closing h.end ∷ []) ls) in
+    let g = point-found types u h.to h.second (closing h.end ∷ ls) c.left h.ends_at (c.others ∙ append_assoc h.second (closing h.end ∷ []) ls) in
     let z = next (closing h.end) ls g.left g.others in
-    between-found u i h.begin h.end h.from h.to ts ((h.first ++ (colon ∷ (h.second ++ closing h.end ∷ []))) ++ ls) (colon ∷ ((h.second ++ closing h.end ∷ []) ++ ls)) ((h.second ++ closing h.end ∷ []) ++ ls) (closing h.end ∷ ls) ls a f c g z h.selects
+    between-found types u i h.begin h.end h.from h.to ts ((h.first ++ (colon ∷ (h.second ++ closing h.end ∷ []))) ++ ls) (colon ∷ ((h.second ++ closing h.end ∷ []) ++ ls)) ((h.second ++ closing h.end ∷ []) ++ ls) (closing h.end ∷ ls) ls a f c g z h.selects
 
-truth-found : (b : Bool) (p ls : List Lexeme) (ts : List Token) → p ≡ truth_word b ∷ [] → map lexeme_of ts ≡ p ++ ls → FoundScalar kinds.Truth (truth b) ts ls
-truth-found true p ls ts h e = let a = next (truth_word true) ls ts (e ∙ ap (λ (z : List Lexeme). z ++ ls) h) in record {
+truth-found : (types : List OrdinalNames) (b : Bool) (p ls : List Lexeme) (ts : List Token) → p ≡ truth_word b ∷ [] → map lexeme_of ts ≡ p ++ ls → FoundScalar types kinds.Truth (truth b) ts ls
+truth-found types true p ls ts h e = let a = next (truth_word true) ls ts (e ∙ ap (λ (z : List Lexeme). z ++ ls) h) in record {
   s = alone (syntax.OnePrimary (syntax.TrueLiteral a.place));
   left = a.left;
   others = a.others;
-  writes = λ names. (syntax.OnePrimary (syntax.TrueLiteral a.place), refl, (refl, refl));
+  writes = (syntax.OnePrimary (syntax.TrueLiteral a.place), refl, (refl, refl));
   in_range = tt;
   spells = at-next t.True [] (truth_word true) ls ts (pieces a.left) a refl (nothing (pieces a.left));
 }
-truth-found false p ls ts h e = let a = next (truth_word false) ls ts (e ∙ ap (λ (z : List Lexeme). z ++ ls) h) in record {
+truth-found types false p ls ts h e = let a = next (truth_word false) ls ts (e ∙ ap (λ (z : List Lexeme). z ++ ls) h) in record {
   s = alone (syntax.OnePrimary (syntax.FalseLiteral a.place));
   left = a.left;
   others = a.others;
-  writes = λ names. (syntax.OnePrimary (syntax.FalseLiteral a.place), refl, (refl, refl));
+  writes = (syntax.OnePrimary (syntax.FalseLiteral a.place), refl, (refl, refl));
   in_range = tt;
   spells = at-next t.False [] (truth_word false) ls ts (pieces a.left) a refl (nothing (pieces a.left));
 }
 
-text-found : (bytes : List ℕ) (p ls : List Lexeme) (ts : List Token) → p ≡ (Text, bytes) ∷ [] → IsUtf8 bytes → IsTextLength bytes → has_control bytes ≡ false → map lexeme_of ts ≡ p ++ ls → FoundScalar kinds.Char (text bytes) ts ls
-text-found bytes p ls ts h utf8 short printed e = let a = next (Text, bytes) ls ts (e ∙ ap (λ (z : List Lexeme). z ++ ls) h) in record {
+text-found : (types : List OrdinalNames) (bytes : List ℕ) (p ls : List Lexeme) (ts : List Token) → p ≡ (Text, bytes) ∷ [] → IsUtf8 bytes → IsTextLength bytes → has_control bytes ≡ false → map lexeme_of ts ≡ p ++ ls → FoundScalar types kinds.Char (text bytes) ts ls
+text-found types bytes p ls ts h utf8 short printed e = let a = next (Text, bytes) ls ts (e ∙ ap (λ (z : List Lexeme). z ++ ls) h) in record {
   s = alone (syntax.OnePrimary (syntax.TextLiteral a.place bytes));
   left = a.left;
   others = a.others;
-  writes = λ names. (syntax.OnePrimary (syntax.TextLiteral a.place bytes), refl, (bytes, text-made bytes utf8 short, refl, refl));
+  writes = (syntax.OnePrimary (syntax.TextLiteral a.place bytes), refl, (bytes, text-made bytes utf8 short, refl, refl));
   in_range = text-in bytes short printed;
   spells = spelled-next t.Quoted [] (Text, bytes) ls ts (pieces a.left) a refl (nothing (pieces a.left));
 }
 
-of-point : (u : AnyType) (n : ℤ) (ts : List Token) (ls : List Lexeme) → FoundPoint u n ts ls → FoundScalar (kinds.Point u) (point (line_of u) n) ts ls
-of-point u n ts ls f = record {
+of-point : (types : List OrdinalNames) (u : AnyType) (n : ℤ) (ts : List Token) (ls : List Lexeme) → FoundPoint types u n ts ls → FoundScalar types (kinds.Point u) (point (line_of u) n) ts ls
+of-point types u n ts ls f = record {
   s = alone f.x;
   left = f.left;
   others = f.others;
-  writes = λ names. (f.x, refl, f.is_point names);
+  writes = (f.x, refl, f.is_point);
   in_range = f.in_range;
   spells = f.spells;
 }
 
-pub constant-found : (k : Kind) (v : Value) (p ls : List Lexeme) (ts : List Token) → IsConstant k v p → map lexeme_of ts ≡ p ++ ls → FoundScalar k v ts ls
-constant-found kinds.Truth (truth b) p ls ts h e = truth-found b p ls ts h e
-constant-found kinds.Char (text bytes) p ls ts h e = text-found bytes p ls ts h.0 h.1 h.2 h.3 e
-constant-found (kinds.Point u) (point l n) p ls ts h e = subst (λ z. FoundScalar (kinds.Point u) (point z n) ts ls) (sym h.0) (of-point u n ts ls (point-found u n p ls ts h.1 e))
-constant-found (kinds.Span u) (interval l i) p ls ts h e = subst (λ z. FoundScalar (kinds.Span u) (interval z i) ts ls) (sym h.0) (interval-found u i p ls ts h.1 e)
-constant-found _ _ p ls ts h e = absurd h
+pub constant-found : (types : List OrdinalNames) (k : Kind) (v : Value) (p ls : List Lexeme) (ts : List Token) → IsConstant types k v p → map lexeme_of ts ≡ p ++ ls → FoundScalar types k v ts ls
+constant-found types kinds.Truth (truth b) p ls ts h e = truth-found types b p ls ts h e
+constant-found types kinds.Char (text bytes) p ls ts h e = text-found types bytes p ls ts h.0 h.1 h.2 h.3 e
+constant-found types (kinds.Point u) (point l n) p ls ts h e = subst (λ z. FoundScalar types (kinds.Point u) (point z n) ts ls) (sym h.0) (of-point types u n ts ls (point-found types u n p ls ts h.1 e))
+constant-found types (kinds.Span u) (interval l i) p ls ts h e = subst (λ z. FoundScalar types (kinds.Span u) (interval z i) ts ls) (sym h.0) (interval-found types u i p ls ts h.1 e)
+constant-found types _ _ p ls ts h e = absurd h

@@ -3,14 +3,15 @@ use Rattle.std.proofs.Common.{ℕ, List, [], ◌∷◌, refl}
 use Rattle.utd_lexer.specs.declared.token.TokenKind.TheVariants.{Word}
 use Rattle.value_core.specs.declared.kind.Kind.{Kind}
 use Rattle.value_core.specs.Values.{Name, Value}
+use Rattle.value_core.specs.declared.list.OrdinalNames.{OrdinalNames}
 use Rattle.plain_rows.specs.Lexemes.{Lexeme, Begins}
 use Rattle.plain_rows.specs.Written.{BeginsWithConstant}
 use Rattle.plain_rows.specs.Tuples.{tuple_word, open_brace, BeginsWithElement}
 use Rattle.plain_rows.proofs.BeginLemmas.{begins-then}
 use Rattle.plain_rows.proofs.IntervalLemmas.{begins-gap}
 
-pub element : (bytes a b rest : List ℕ) (name : Name) (kind : Kind) (v : Value) → Begins bytes ((Word, name) ∷ []) a → Begins a [] b → BeginsWithConstant b kind v rest → BeginsWithElement bytes (name, kind) v rest
-element bytes a b rest name kind v word gap h = record {
+pub element : {types : List OrdinalNames} → (bytes a b rest : List ℕ) (name : Name) (kind : Kind) (v : Value) → Begins bytes ((Word, name) ∷ []) a → Begins a [] b → BeginsWithConstant types b kind v rest → BeginsWithElement types bytes (name, kind) v rest
+element {types} bytes a b rest name kind v word gap h = record {
   lexemes = (Word, name) ∷ h.lexemes;
   begins = begins-then bytes b rest ((Word, name) ∷ []) h.lexemes (begins-gap bytes a b ((Word, name) ∷ []) word gap) h.begins;
   written = (h.lexemes, refl, h.written);

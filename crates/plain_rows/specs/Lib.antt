@@ -1,9 +1,11 @@
 pub mod Brought
 pub mod Comments
+pub mod Heads
 pub mod Lexemes
 pub mod Names
 pub mod Numbers
 pub mod Swaps
 pub mod Texts
 pub mod Tuples
+pub mod Words
 pub mod Written

@@ -1,20 +1,18 @@
 -- Names that stand for themselves, and the columns of tuples that are read here.
---     IsNameWord      a word of ASCII that is no reserved one, and not too long
---     AreNameWords      those of a shape
+--     AllNames, AreNameWords      words of ASCII that are no reserved ones, and not too long: all of a list, those of a shape
 --     Ascending      the names of a shape are in the order of their bytes, each once
 --     IsPlainShape      what a shape must be for its tuples to be read
 use Rattle.std.specs.Prelude.{◌≡◌, ◌≤◌, ℕ, true, List, [], ◌∷◌, length}
 use Rattle.std.specs.declared.cmp.Ordering.TheVariants.{Less}
-use Rattle.utd_syntax.specs.declared.terminal.Terminal.TheVariants.{Name as TheName}
-use Rattle.utd_syntax.specs.Terminals.{word_terminal}
 use Rattle.value_core.specs.declared.kind.Kind.{Kind}
-use Rattle.value_core.specs.Limits.{most_name_bytes, most_attributes}
+use Rattle.value_core.specs.Limits.{most_attributes}
 use Rattle.value_core.specs.Values.{Name, name_cmp}
-use Rattle.plain_rows.specs.Lexemes.{is_word}
 use Rattle.plain_rows.specs.Tuples.{Shape, are_words}
+pub use Rattle.plain_rows.specs.Words.{IsNameWord}
 
-abbrev pub IsNameWord : Name → Type 0
-IsNameWord bytes = (word_terminal bytes ≡ TheName) × (length bytes ≤ most_name_bytes) × (is_word bytes ≡ true)
+abbrev pub AllNames : List Name → Type 0
+AllNames [] = Unit {0}
+AllNames (n ∷ names) = IsNameWord n × AllNames names
 
 abbrev pub AreNameWords : Shape → Type 0
 AreNameWords [] = Unit {0}

@@ -66,7 +66,7 @@ fn arranged(
 ) -> Option<Vec<Row>>
     requires plain { IsPlainShape columns.now }
     requires makes { MakesHeading heading.now columns.now }
-    ensures { IfSome result (λ v. (parts : List (List Lexeme)) → AreTuples columns.now rows.items parts → v.items ≡ map (in_heading columns.now heading.now) rows.items) }
+    ensures { IfSome result (λ v. (types : _) (parts : List (List Lexeme)) → AreTuples types columns.now rows.items parts → v.items ≡ map (in_heading columns.now heading.now) rows.items) }
 {
     if ascend(columns) {
         return Some(rows);
@@ -94,7 +94,7 @@ pub(crate) fn relation_of(
     given: Vec<Row>,
 ) -> Option<Relation>
     requires { IsPlainShape columns.now }
-    ensures { IfSome result (λ r. (parts : List (List Lexeme)) → AreTuples columns.now given.items parts → HasRowsOf columns.now given.items r) }
+    ensures { IfSome result (λ r. (types : _) (parts : List (List Lexeme)) → AreTuples types columns.now given.items parts → HasRowsOf columns.now given.items r) }
 {
     let heading = heading_of(alloc, columns)?;
     let rows = arranged(alloc, given, columns, &heading)?;

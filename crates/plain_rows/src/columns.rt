@@ -8,9 +8,10 @@ ghost use Rattle.plain_rows.specs.Lexemes.{Begins};
 ghost use Rattle.plain_rows.specs.Names.{IsNameWord, AreNameWords, IsPlainShape};
 ghost use Rattle.plain_rows.specs.Tuples as tuples;
 
-use crate::constants::constant;
+use crate::constants::{constant, truth};
+use crate::ordinals::ordinal;
 use crate::quoted::utf8;
-use crate::scan::{is_continuing, is_start, past_space, past_symbol, word};
+use crate::scan::{is_continuing, is_start, past_space, past_symbol, past_word, word};
 use crate::tuples::past_opening;
 use point_core::{AnyType, Place};
 use std::alloc::Global;
@@ -18,10 +19,10 @@ use std::borrow::CowSlice;
 use utd_lexer::{Token, TokenBytes, TokenKind};
 use utd_parser::terminal_of;
 use utd_syntax::Terminal;
-use value_core::{Kind, MOST_ATTRIBUTES, Name};
+use value_core::{Kind, MOST_ATTRIBUTES, Name, OrdinalTypes};
 
 /// Whether the word is no reserved one.
-fn is_unreserved(bytes: &[u8]) -> bool
+pub(crate) fn is_unreserved(bytes: &[u8]) -> bool
     ensures { result ≡ true → word_terminal bytes.now ≡ terminals.Name }
 {
     let list = CowSlice::Borrowed(bytes);
@@ -77,46 +78,68 @@ pub(crate) fn name_at(alloc: Global, text: &[u8]) -> Option<(Name, &[u8])>
     Some((name, rest))
 }
 
-fn point_type(text: &[u8]) -> Option<AnyType> {
-    let (first, _) = text.split_first()?;
-    if first.is_ascii_digit() || *first == b'-' {
-        Some(AnyType::Integer)
-    } else if *first == b'D' {
-        Some(AnyType::Date)
-    } else if *first == b'M' {
-        Some(AnyType::Moment)
-    } else {
-        None
+fn ordinal_type(text: &[u8], types: &OrdinalTypes) -> Option<AnyType> {
+    let (t, _, _) = ordinal(text, types)?;
+    Some(t)
+}
+
+/// Of which type the point can be that begins with a word.
+fn word_type(text: &[u8], types: &OrdinalTypes) -> Option<AnyType> {
+    match past_word(text, b"DATE") {
+        Some(_) => Some(AnyType::Date),
+        None => match past_word(text, b"MOMENT") {
+            Some(_) => Some(AnyType::Moment),
+            None => ordinal_type(text, types),
+        },
     }
 }
 
-fn point_kind(text: &[u8]) -> Option<Kind> {
-    let of = point_type(text)?;
-    Some(Kind::Point(of))
+/// Of which type the point can be that begins here.
+fn point_type(text: &[u8], types: &OrdinalTypes) -> Option<AnyType> {
+    let (first, _) = text.split_first()?;
+    if first.is_ascii_digit() || *first == b'-' {
+        Some(AnyType::Integer)
+    } else {
+        word_type(text, types)
+    }
 }
 
-fn span_kind(text: &[u8]) -> Option<Kind> {
-    let of = point_type(past_space(text))?;
+fn span_kind(text: &[u8], types: &OrdinalTypes) -> Option<Kind> {
+    let of = point_type(past_space(text), types)?;
     Some(Kind::Span(of))
 }
 
+/// Of what kind the truth value or the point can be that begins here.
+fn other_kind(text: &[u8], types: &OrdinalTypes) -> Option<Kind> {
+    match truth(text) {
+        Some(_) => Some(Kind::Truth),
+        None => {
+            let of = point_type(text, types)?;
+            Some(Kind::Point(of))
+        }
+    }
+}
+
 /// Of what kind the constant can be that begins here.
-fn kind_at(text: &[u8]) -> Option<Kind> {
+fn kind_at(text: &[u8], types: &OrdinalTypes) -> Option<Kind> {
     let (first, behind) = text.split_first()?;
     match *first {
         b'\'' => Some(Kind::Char),
-        b'T' | b'F' => Some(Kind::Truth),
-        b'[' | b'(' => span_kind(behind),
-        _ => point_kind(text),
+        b'[' | b'(' => span_kind(behind, types),
+        _ => other_kind(text, types),
     }
 }
 
 /// The name and the kind of the element at the front, and what is behind it.
-fn column_at(alloc: Global, text: &[u8]) -> Option<((Name, Kind), &[u8])> {
+fn column_at<'a>(
+    alloc: Global,
+    text: &'a [u8],
+    types: &OrdinalTypes,
+) -> Option<((Name, Kind), &'a [u8])> {
     let (name, behind) = name_at(alloc, text)?;
     let here = past_space(behind);
-    let kind = kind_at(here)?;
-    let (_value, rest) = constant(alloc, here, kind)?;
+    let kind = kind_at(here, types)?;
+    let (_value, rest) = constant(alloc, here, kind, types)?;
     Some(((name, kind), past_space(rest)))
 }
 
@@ -130,12 +153,12 @@ pub(crate) fn pushed(list: Vec<(Name, Kind)>, column: (Name, Kind)) -> Option<Ve
 }
 
 /// The names and kinds of the elements of the tuple at the front.
-fn columns_met(alloc: Global, text: &[u8]) -> Option<Vec<(Name, Kind)>> {
+fn columns_met(alloc: Global, text: &[u8], types: &OrdinalTypes) -> Option<Vec<(Name, Kind)>> {
     let mut list: Vec<(Name, Kind)> = Vec::new(alloc);
     let mut rest = past_opening(text)?;
     let mut turn = 0;
     'columns: while turn < MOST_ATTRIBUTES {
-        let (column, behind) = column_at(alloc, rest)?;
+        let (column, behind) = column_at(alloc, rest, types)?;
         list = pushed(list, column)?;
         match past_symbol(behind, b',') {
             None => {
@@ -203,10 +226,10 @@ fn are_plain(columns: &[(Name, Kind)]) -> bool
 }
 
 /// The columns of the tuple at the front, if its names are words and none of them is reserved.
-pub(crate) fn columns(alloc: Global, text: &[u8]) -> Option<Vec<(Name, Kind)>>
+pub(crate) fn columns(alloc: Global, text: &[u8], types: &OrdinalTypes) -> Option<Vec<(Name, Kind)>>
     ensures { IfSome result (λ c. IsPlainShape c.items) }
 {
-    let list = columns_met(alloc, text)?;
+    let list = columns_met(alloc, text, types)?;
     if are_plain(list.as_slice()) {
         Some(list)
     } else {

@@ -12,10 +12,10 @@ use crate::scan::past_word;
 use crate::spans::interval;
 use point_core::AnyType;
 use std::alloc::Global;
-use value_core::{Kind, Text, Value};
+use value_core::{Kind, OrdinalTypes, Text, Value};
 
 /// The truth value at the front, and what is behind it.
-fn truth(text: &[u8]) -> Option<(bool, &[u8])>
+pub(crate) fn truth(text: &[u8]) -> Option<(bool, &[u8])>
     ensures { IfSome result (λ r. Begins text.now (truth_word r.0 ∷ []) r.1.now) }
 {
     match past_word(text, b"TRUE") {
@@ -38,7 +38,7 @@ fn made_text(alloc: Global, written: &str) -> Option<Text>
 }
 
 fn truth_value(text: &[u8]) -> Option<(Value, &[u8])>
-    ensures { IfSome result (λ r. BeginsWithConstant text.now Kind.Truth (plain r.0) r.1.now) }
+    ensures { IfSome result (λ r. (types : _) → BeginsWithConstant types text.now Kind.Truth (plain r.0) r.1.now) }
 {
     let (b, rest) = truth(text)?;
     Some((Value::Truth(b), rest))
@@ -46,7 +46,7 @@ fn truth_value(text: &[u8]) -> Option<(Value, &[u8])>
 
 /// The text at the front without quotes in it, and what is behind it.
 fn plain_text(alloc: Global, text: &[u8]) -> Option<(Value, &[u8])>
-    ensures { IfSome result (λ r. BeginsWithConstant text.now Kind.Char (plain r.0) r.1.now) }
+    ensures { IfSome result (λ r. (types : _) → BeginsWithConstant types text.now Kind.Char (plain r.0) r.1.now) }
 {
     let (written, rest) = quoted(text)?;
     let made = made_text(alloc, written)?;
@@ -55,7 +55,7 @@ fn plain_text(alloc: Global, text: &[u8]) -> Option<(Value, &[u8])>
 
 /// The text at the front, in which quotes are doubled, and what is behind it.
 fn doubled_text(alloc: Global, text: &[u8]) -> Option<(Value, &[u8])>
-    ensures { IfSome result (λ r. BeginsWithConstant text.now Kind.Char (plain r.0) r.1.now) }
+    ensures { IfSome result (λ r. (types : _) → BeginsWithConstant types text.now Kind.Char (plain r.0) r.1.now) }
 {
     let (written, rest) = doubled(alloc, text)?;
     let made = made_text(alloc, written.as_str())?;
@@ -63,7 +63,7 @@ fn doubled_text(alloc: Global, text: &[u8]) -> Option<(Value, &[u8])>
 }
 
 fn text_value(alloc: Global, text: &[u8]) -> Option<(Value, &[u8])>
-    ensures { IfSome result (λ r. BeginsWithConstant text.now Kind.Char (plain r.0) r.1.now) }
+    ensures { IfSome result (λ r. (types : _) → BeginsWithConstant types text.now Kind.Char (plain r.0) r.1.now) }
 {
     match plain_text(alloc, text) {
         Some(found) => Some(found),
@@ -71,28 +71,33 @@ fn text_value(alloc: Global, text: &[u8]) -> Option<(Value, &[u8])>
     }
 }
 
-fn point_value(text: &[u8], of: AnyType) -> Option<(Value, &[u8])>
-    ensures { IfSome result (λ r. BeginsWithConstant text.now (Kind.Point of) (plain r.0) r.1.now) }
+fn point_value<'a>(text: &'a [u8], of: AnyType, types: &OrdinalTypes) -> Option<(Value, &'a [u8])>
+    ensures { IfSome result (λ r. BeginsWithConstant types.now text.now (Kind.Point of) (plain r.0) r.1.now) }
 {
-    let (p, rest) = point(text, of)?;
+    let (p, rest) = point(text, of, types)?;
     Some((Value::Point(p), rest))
 }
 
-fn span_value(text: &[u8], of: AnyType) -> Option<(Value, &[u8])>
-    ensures { IfSome result (λ r. BeginsWithConstant text.now (Kind.Span of) (plain r.0) r.1.now) }
+fn span_value<'a>(text: &'a [u8], of: AnyType, types: &OrdinalTypes) -> Option<(Value, &'a [u8])>
+    ensures { IfSome result (λ r. BeginsWithConstant types.now text.now (Kind.Span of) (plain r.0) r.1.now) }
 {
-    let (i, rest) = interval(text, of)?;
+    let (i, rest) = interval(text, of, types)?;
     Some((Value::Span(i), rest))
 }
 
 /// The constant of the kind at the front, and what is behind it.
-pub(crate) fn constant(alloc: Global, text: &[u8], kind: Kind) -> Option<(Value, &[u8])>
-    ensures { IfSome result (λ r. BeginsWithConstant text.now kind (plain r.0) r.1.now) }
+pub(crate) fn constant<'a>(
+    alloc: Global,
+    text: &'a [u8],
+    kind: Kind,
+    types: &OrdinalTypes,
+) -> Option<(Value, &'a [u8])>
+    ensures { IfSome result (λ r. BeginsWithConstant types.now text.now kind (plain r.0) r.1.now) }
 {
     match kind {
         Kind::Truth => truth_value(text),
         Kind::Char => text_value(alloc, text),
-        Kind::Point(of) => point_value(text, of),
-        Kind::Span(of) => span_value(text, of),
+        Kind::Point(of) => point_value(text, of, types),
+        Kind::Span(of) => span_value(text, of, types),
     }
 }

@@ -8,7 +8,9 @@ mod constants;
 mod dates;
 mod doubled;
 mod headings;
+mod heads;
 mod numbers;
+mod ordinals;
 mod points;
 mod quoted;
 mod rows;
@@ -18,4 +20,4 @@ mod statement;
 mod swaps;
 mod tuples;
 
-pub use statement::{PlainRows, read};
+pub use statement::{PlainRows, Way, read};

@@ -5,16 +5,21 @@ ghost use Rattle.plain_rows.specs.Tuples.{BeginsWithNextTuple, HasRows, are_word
 use crate::scan::{past_space, past_symbol};
 use crate::tuples::tuple;
 use std::alloc::Global;
-use value_core::{Kind, Name, Row};
+use value_core::{Kind, Name, OrdinalTypes, Row};
 
 /// The row of the next tuple, which stands behind a comma, and what is behind it and the gaps.
-fn next_row<'a>(alloc: Global, text: &'a [u8], columns: &[(Name, Kind)]) -> Option<(Row, &'a [u8])>
+fn next_row<'a>(
+    alloc: Global,
+    text: &'a [u8],
+    columns: &[(Name, Kind)],
+    types: &OrdinalTypes,
+) -> Option<(Row, &'a [u8])>
     requires { are_words columns.now ≡ true }
-    ensures { IfSome result (λ r. BeginsWithNextTuple text.now columns.now r.0 r.1.now) }
+    ensures { IfSome result (λ r. BeginsWithNextTuple types.now text.now columns.now r.0 r.1.now) }
 {
     let behind = past_symbol(text, b',')?;
     let here = past_space(behind);
-    let (values, rest) = tuple(alloc, here, columns)?;
+    let (values, rest) = tuple(alloc, here, columns, types)?;
     let past = past_space(rest);
     let row = Row::make(values);
     Some((row, past))
@@ -39,15 +44,16 @@ pub(crate) fn more_rows<'a>(
     columns: &[(Name, Kind)],
     first: Row,
     most: usize,
+    types: &OrdinalTypes,
 ) -> Option<(Vec<Row>, &'a [u8])>
     requires { are_words columns.now ≡ true }
-    ensures { IfSome result (λ r. HasRows columns.now text.now first r.0.items r.1.now) }
+    ensures { IfSome result (λ r. HasRows types.now columns.now text.now first r.0.items r.1.now) }
 {
     let mut rows = pushed(Vec::new(alloc), first)?;
     let mut rest = text;
     let mut turn = 0;
     'rows: while turn < most {
-        match next_row(alloc, rest, columns) {
+        match next_row(alloc, rest, columns, types) {
             None => {
                 return Some((rows, rest));
             }

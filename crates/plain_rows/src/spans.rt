@@ -10,6 +10,7 @@ use crate::points::point;
 use crate::scan::{past_colon, past_space, past_symbol};
 use interval_core::{Ends, Interval};
 use point_core::{AnyPoint, AnyType};
+use value_core::OrdinalTypes;
 
 /// The interval of the two points, if it has members.
 fn selected(of: AnyType, brackets: Ends, b: AnyPoint, e: AnyPoint) -> Option<Interval<AnyType>>
@@ -64,18 +65,22 @@ fn past_end(text: &[u8]) -> Option<(bool, &[u8])>
 }
 
 /// The interval of points of the type at the front, and what is behind it.
-pub(crate) fn interval(text: &[u8], of: AnyType) -> Option<(Interval<AnyType>, &[u8])>
+pub(crate) fn interval<'a>(
+    text: &'a [u8],
+    of: AnyType,
+    types: &OrdinalTypes,
+) -> Option<(Interval<AnyType>, &'a [u8])>
     ensures begin_point { IfSome result (λ r. IsPointOf of r.0.0) }
     ensures end_point { IfSome result (λ r. IsPointOf of r.0.1) }
-    ensures begins { IfSome result (λ r. BeginsWithInterval text.now of (span number r.0) r.1.now) }
+    ensures begins { IfSome result (λ r. BeginsWithInterval types.now text.now of (span number r.0) r.1.now) }
 {
     let (begin, opened) = past_begin(text)?;
     let first = past_space(opened);
-    let (b, behind_first) = point(first, of)?;
+    let (b, behind_first) = point(first, of, types)?;
     let middle = past_space(behind_first);
     let parted = past_colon(middle)?;
     let second = past_space(parted);
-    let (e, behind_second) = point(second, of)?;
+    let (e, behind_second) = point(second, of, types)?;
     let last = past_space(behind_second);
     let (end, rest) = past_end(last)?;
     let found = selected(of, brackets_of(begin, end), b, e)?;

@@ -1,63 +1,61 @@
 // The whole statement.
-ghost use Rattle.std.specs.Prelude.{◌≡◌, ◌∷◌, [], IfSome, true, false};
-ghost use Rattle.plain_rows.specs.Brought.{IsBrought};
+ghost use Rattle.std.specs.Prelude.{◌≡◌, ◌∷◌, [], IfSome, true};
+ghost use Rattle.plain_rows.specs.Brought.{bringing_of, IsBody, IsBrought};
+ghost use Rattle.plain_rows.specs.Heads.{list_names, head_of, IsWayOf};
 ghost use Rattle.plain_rows.specs.Lexemes.{Begins};
-ghost use Rattle.plain_rows.specs.Names.{IsNameWord, IsPlainShape};
-ghost use Rattle.plain_rows.specs.Tuples.{target, relation_word, open_brace, close_brace, semicolon, are_words, BeginsWithTuples};
+ghost use Rattle.plain_rows.specs.Tuples.{InsertsUnder, relation_word, open_brace, close_brace, semicolon, are_words, BeginsWithTuples};
 
 use crate::arranged::relation_of;
-use crate::columns::{columns, name_at, word_name};
+use crate::columns::columns;
+use crate::heads::{Head, head_at};
 use crate::rows::more_rows;
-use crate::scan::{past_assign, past_space, past_symbol, past_word, word};
+use crate::scan::{past_space, past_symbol, past_word};
 use crate::tuples::tuple;
+use node_typing::listed;
 use std::alloc::Global;
-use value_core::{Kind, Name, Relation, Row};
+use utd_syntax::NameList;
+use value_core::{Heading, Kind, Name, OrdinalTypes, Positions, Relation, Row};
 
-/// A statement that puts rows into a relvar, or in place of its rows.
+/// How the rows come to the relvar.
+#[derive(Drop)]
+pub enum Way {
+    /// In place of its rows.
+    Set,
+    /// Among its rows.
+    Insert,
+    /// Among its rows, point by point for the attributes at the positions.
+    InsertUnder(Positions),
+}
+
+/// A statement that brings rows to a relvar.
 #[derive(Drop)]
 pub struct PlainRows {
-    /// Whether the rows take the place of the relvar's.
-    pub sets: bool,
+    /// How the rows come to the relvar.
+    pub way: Way,
     /// The relvar's name.
     pub relvar: Name,
     /// The rows that are written.
     pub rows: Relation,
 }
 
-/// The name behind INSERT, and what is behind it.
-fn inserted(alloc: Global, text: &[u8]) -> Option<(Name, &[u8])>
-    ensures begins { IfSome result (λ r. Begins text.now (target false r.0) r.1.now) }
-    ensures named { IfSome result (λ r. IsNameWord r.0) }
+/// How rows come under USING, if the list fits their heading.
+fn way_under(alloc: Global, list: &NameList, heading: &Heading) -> Option<Way>
+    ensures { IfSome result (λ way. IsWayOf (InsertsUnder (list_names list.now)) heading.now (bringing_of way)) }
 {
-    let behind = past_word(text, b"INSERT")?;
-    let here = past_space(behind);
-    let (name, rest) = name_at(alloc, here)?;
-    Some((name, rest))
+    match listed(alloc, heading, heading, list) {
+        Ok(positions) => Some(Way::InsertUnder(positions)),
+        Err(_) => None,
+    }
 }
 
-/// The name before `:=`, and what is behind that.
-fn set(alloc: Global, text: &[u8]) -> Option<(Name, &[u8])>
-    ensures begins { IfSome result (λ r. Begins text.now (target true r.0) r.1.now) }
-    ensures named { IfSome result (λ r. IsNameWord r.0) }
+/// How rows of the heading come by a statement that begins so.
+fn way_of(alloc: Global, head: &Head, heading: &Heading) -> Option<Way>
+    ensures { IfSome result (λ way. IsWayOf (head_of head.now) heading.now (bringing_of way)) }
 {
-    let (bytes, behind) = word(text)?;
-    let here = past_space(behind);
-    let rest = past_assign(here)?;
-    let name = word_name(alloc, bytes)?;
-    Some((name, rest))
-}
-
-/// Whether a relvar is set, its name, and what is behind.
-fn head(alloc: Global, text: &[u8]) -> Option<(bool, Name, &[u8])>
-    ensures begins { IfSome result (λ r. Begins text.now (target r.0 r.1) r.2.now) }
-    ensures named { IfSome result (λ r. IsNameWord r.1) }
-{
-    match inserted(alloc, text) {
-        Some((name, rest)) => Some((false, name, rest)),
-        None => match set(alloc, text) {
-            Some((name, rest)) => Some((true, name, rest)),
-            None => None,
-        },
+    match head {
+        Head::Set => Some(Way::Set),
+        Head::Insert => Some(Way::Insert),
+        Head::InsertUnder(list) => way_under(alloc, list, heading),
     }
 }
 
@@ -87,37 +85,38 @@ fn all_rows<'a>(
     alloc: Global,
     text: &'a [u8],
     columns: &[(Name, Kind)],
+    types: &OrdinalTypes,
 ) -> Option<(Vec<Row>, &'a [u8])>
     requires { are_words columns.now ≡ true }
-    ensures { IfSome result (λ r. BeginsWithTuples text.now columns.now r.0.items r.1.now) }
+    ensures { IfSome result (λ r. BeginsWithTuples types.now text.now columns.now r.0.items r.1.now) }
 {
-    let (values, behind) = tuple(alloc, text, columns)?;
+    let (values, behind) = tuple(alloc, text, columns, types)?;
     let first = Row::make(values);
     let more = past_space(behind);
-    let (rows, rest) = more_rows(alloc, more, columns, first, text.len())?;
+    let (rows, rest) = more_rows(alloc, more, columns, first, text.len(), types)?;
     Some((rows, rest))
 }
 
-/// The whole statement's parts. The relvar's name and whether it is set are those of the head.
-fn body(alloc: Global, text: &[u8], sets: bool, relvar: Name) -> Option<PlainRows>
-    requires { IsNameWord relvar }
-    ensures { IfSome result (λ plain. (bytes : _) → Begins bytes (target sets relvar) text.now → IsBrought bytes plain.sets plain.relvar plain.rows) }
+/// The relation of the tuples at the front, behind which the statement ends.
+fn body(alloc: Global, text: &[u8], types: &OrdinalTypes) -> Option<Relation>
+    ensures { IfSome result (λ relation. IsBody types.now text.now relation) }
 {
     let opened = past_relation(text)?;
-    let columns = columns(alloc, opened)?;
-    let (given, behind) = all_rows(alloc, opened, columns.as_slice())?;
+    let columns = columns(alloc, opened, types)?;
+    let (given, behind) = all_rows(alloc, opened, columns.as_slice(), types)?;
     let _rest = past_end(behind)?;
     let rows = relation_of(alloc, columns.as_slice(), given)?;
-    Some(PlainRows { sets, relvar, rows })
+    Some(rows)
 }
 
-/// The rows that a statement brings; none where it is not read here, or memory is short.
-pub fn read(alloc: Global, text: &[u8]) -> Option<PlainRows>
-    ensures { IfSome result (λ plain. IsBrought text.now plain.sets plain.relvar plain.rows) }
+/// The rows that a statement brings where these are the ordinal types; none where it is not read here, or memory is short.
+pub fn read(alloc: Global, text: &[u8], types: &OrdinalTypes) -> Option<PlainRows>
+    ensures { IfSome result (λ plain. IsBrought types.now text.now (bringing_of plain.way) plain.relvar plain.rows) }
 {
     let here = past_space(text);
-    let (sets, relvar, behind) = head(alloc, here)?;
+    let (head, relvar, behind) = head_at(alloc, here)?;
     let body_at = past_space(behind);
-    let plain = body(alloc, body_at, sets, relvar)?;
-    Some(plain)
+    let rows = body(alloc, body_at, types)?;
+    let way = way_of(alloc, &head, rows.heading())?;
+    Some(PlainRows { way, relvar, rows })
 }

@@ -7,7 +7,7 @@ ghost use Rattle.plain_rows.specs.Tuples.{tuple_word, open_brace, BeginsWithElem
 use crate::constants::constant;
 use crate::scan::{past_space, past_symbol, past_word};
 use std::alloc::Global;
-use value_core::{Kind, Name, Value};
+use value_core::{Kind, Name, OrdinalTypes, Value};
 
 /// What is behind `TUPLE {`.
 pub(crate) fn past_opening(text: &[u8]) -> Option<&[u8]>
@@ -25,13 +25,14 @@ pub(crate) fn element<'a>(
     text: &'a [u8],
     name: &Name,
     kind: Kind,
+    types: &OrdinalTypes,
 ) -> Option<(Value, &'a [u8])>
     requires { is_word name.now ≡ true }
-    ensures { IfSome result (λ r. BeginsWithElement text.now (name.now, kind) (plain r.0) r.1.now) }
+    ensures { IfSome result (λ r. BeginsWithElement types.now text.now (name.now, kind) (plain r.0) r.1.now) }
 {
     let behind = past_word(text, name.as_str().as_bytes())?;
     let here = past_space(behind);
-    let (v, rest) = constant(alloc, here, kind)?;
+    let (v, rest) = constant(alloc, here, kind, types)?;
     Some((v, rest))
 }
 
@@ -41,13 +42,14 @@ fn next_value<'a>(
     text: &'a [u8],
     name: &Name,
     kind: Kind,
+    types: &OrdinalTypes,
 ) -> Option<(Value, &'a [u8])>
     requires { is_word name.now ≡ true }
-    ensures { IfSome result (λ r. BeginsWithNext text.now (name.now, kind) (plain r.0) r.1.now) }
+    ensures { IfSome result (λ r. BeginsWithNext types.now text.now (name.now, kind) (plain r.0) r.1.now) }
 {
     let behind = past_symbol(text, b',')?;
     let here = past_space(behind);
-    let (v, rest) = element(alloc, here, name, kind)?;
+    let (v, rest) = element(alloc, here, name, kind, types)?;
     let past = past_space(rest);
     Some((v, past))
 }
@@ -79,16 +81,17 @@ pub(crate) fn more_values<'a>(
     text: &'a [u8],
     columns: &[(Name, Kind)],
     first: Value,
+    types: &OrdinalTypes,
 ) -> Option<(Vec<Value>, &'a [u8])>
     requires { are_words columns.now ≡ true }
-    ensures { IfSome result (λ r. HasValues columns.now text.now (plain first) (map plain r.0.items) r.1.now) }
+    ensures { IfSome result (λ r. HasValues types.now columns.now text.now (plain first) (map plain r.0.items) r.1.now) }
 {
     let empty = room(alloc, columns.len().saturating_add(1))?;
     let mut values = pushed(empty, first)?;
     let mut rest = text;
     let mut left = columns;
     'columns: while let Some((column, others)) = left.split_first() {
-        let (value, behind) = next_value(alloc, rest, &column.0, column.1)?;
+        let (value, behind) = next_value(alloc, rest, &column.0, column.1, types)?;
         values = pushed(values, value)?;
         rest = behind;
         left = others;
@@ -101,15 +104,16 @@ pub(crate) fn tuple<'a>(
     alloc: Global,
     text: &'a [u8],
     columns: &[(Name, Kind)],
+    types: &OrdinalTypes,
 ) -> Option<(Vec<Value>, &'a [u8])>
     requires { are_words columns.now ≡ true }
-    ensures { IfSome result (λ r. BeginsWithTuple text.now columns.now (map plain r.0.items) r.1.now) }
+    ensures { IfSome result (λ r. BeginsWithTuple types.now text.now columns.now (map plain r.0.items) r.1.now) }
 {
     let (column, others) = columns.split_first()?;
     let opened = past_opening(text)?;
-    let (first, behind) = element(alloc, opened, &column.0, column.1)?;
+    let (first, behind) = element(alloc, opened, &column.0, column.1, types)?;
     let more = past_space(behind);
-    let (values, end) = more_values(alloc, more, others, first)?;
+    let (values, end) = more_values(alloc, more, others, first, types)?;
     let rest = past_symbol(end, b'}')?;
     Some((values, rest))
 }

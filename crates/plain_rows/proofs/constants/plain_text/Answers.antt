@@ -5,4 +5,4 @@ use Rattle.plain_rows.proofs.ConstantLemmas.{text-constant}
 use Rattle.plain_rows.proofs.constants.plain_text.Goals as goal
 
 pub returns : goal.returns
-returns c = text-constant _ _ _ (subst (λ z. BeginsWithText c.args.text.now z c.in_ok-written.rest.now) (sym c.in_ok-made.ensures.same) c.in_ok-written.ensures) (subst IsTextLength (sym c.in_ok-made.ensures.same) c.in_ok-made.ensures.length)
+returns c types = text-constant _ _ _ (subst (λ z. BeginsWithText c.args.text.now z c.in_ok-written.rest.now) (sym c.in_ok-made.ensures.same) c.in_ok-written.ensures) (subst IsTextLength (sym c.in_ok-made.ensures.same) c.in_ok-made.ensures.length)

@@ -2,4 +2,4 @@ use Rattle.plain_rows.proofs.ConstantLemmas.{truth-constant}
 use Rattle.plain_rows.proofs.constants.truth_value.Goals as goal
 
 pub returns : goal.returns
-returns c = truth-constant _ _ _ c.in_ok-b.ensures
+returns c types = truth-constant _ _ _ c.in_ok-b.ensures

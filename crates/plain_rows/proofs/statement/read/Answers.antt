@@ -1,10 +1,10 @@
-use Rattle.std.proofs.Common.{[]}
-use Rattle.plain_rows.specs.Tuples.{target}
-use Rattle.plain_rows.proofs.BeginLemmas.{begins-then}
-use Rattle.plain_rows.proofs.IntervalLemmas.{begins-gap}
+use Rattle.std.proofs.Common.{subst}
+use Rattle.plain_rows.specs.Brought.{bringing_of}
+use Rattle.plain_rows.specs.Heads.{head_of, IsWayOf}
+use Rattle.plain_rows.proofs.ReadLemmas.{brings}
 use Rattle.plain_rows.proofs.statement.read.Goals as goal
 
 pub returns : goal.returns
 returns c =
-    c.in_ok-plain.ensures _
-    (begins-then _ _ _ [] (target c.in_ok-sets.sets c.in_ok-sets.relvar) c.past_space-here.ensures (begins-gap _ _ _ (target c.in_ok-sets.sets c.in_ok-sets.relvar) c.in_ok-sets.ensures.begins c.past_space-body_at.ensures))
+    brings _ _ _ _ (head_of c.in_ok-head.head) (bringing_of c.in_ok-way.way) _ _ c.past_space-here.ensures c.in_ok-head.ensures.begins c.past_space-body_at.ensures c.in_ok-head.ensures.listed c.in_ok-head.ensures.named c.in_ok-rows.ensures
+    (subst (λ h. IsWayOf (head_of c.in_ok-head.head) h (bringing_of c.in_ok-way.way)) c.heading.ensures.heading c.in_ok-way.ensures)

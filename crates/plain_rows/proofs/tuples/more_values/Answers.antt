@@ -6,7 +6,7 @@ use Rattle.plain_rows.proofs.tuples.more_values.Goals as goal
 pub columns-init : goal.columns-init
 columns-init c =
     let one = c.in_ok-values.ensures ∙ ap (λ z. z ++ c.args.first ∷ []) c.in_ok-empty.ensures in
-    subst (λ z. SoFar c.args.columns.now c.args.columns.now c.args.text.now (plain c.args.first) (map plain z) c.args.text.now) (sym one) (so-far-none c.args.columns.now c.args.text.now (plain c.args.first) c.requires)
+    subst (λ z. SoFar c.args.types.now c.args.columns.now c.args.columns.now c.args.text.now (plain c.args.first) (map plain z) c.args.text.now) (sym one) (so-far-none c.args.columns.now c.args.text.now (plain c.args.first) c.requires)
 
 pub next_value-requires : goal.next_value-requires
 next_value-requires c = so-far-word _ c.in-Some.column.now c.in-Some.others.now _ _ _ _ _ c.in-Some.ensures.cases.0 c.columns.invariant

@@ -3,7 +3,7 @@ use Rattle.utd_lexer.specs.declared.token.TokenKind.TheVariants.{Word}
 use Rattle.plain_rows.specs.Lexemes.{Begins}
 use Rattle.plain_rows.specs.Tuples.{assign_symbol}
 use Rattle.plain_rows.proofs.IntervalLemmas.{begins-both}
-use Rattle.plain_rows.proofs.statement.set.Goals as goal
+use Rattle.plain_rows.proofs.heads.set.Goals as goal
 
 pub returns-clause-begins : goal.returns-clause-begins
 returns-clause-begins c =
