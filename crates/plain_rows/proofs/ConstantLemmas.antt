@@ -1,10 +1,10 @@
 -- Constants at the front of bytes.
-use Rattle.std.proofs.Common.{◌≡◌, ℕ, ℤ, pos, Bool, true, cond, List, [], ◌∷◌, refl, sym, ◌∙◌, ap, subst}
+use Rattle.std.proofs.Common.{◌≡◌, ℕ, pos, Bool, true, cond, List, [], ◌∷◌, refl, sym, ◌∙◌, ap, subst}
 use Rattle.utd_lexer.specs.declared.token.TokenKind.TheVariants.{Text}
 use Rattle.point_core.specs.declared.any_type.AnyType.{AnyType}
 use Rattle.point_core.specs.declared.any_type.AnyPoint.{AnyPoint}
 use Rattle.point_core.specs.Points.{line, number, line_of, IsPointOf}
-use Rattle.interval_core.specs.Members.{Span, span}
+use Rattle.interval_core.specs.Members.{span}
 use Rattle.value_core.specs.declared.kind.Kind.TheVariants as kinds
 use Rattle.value_core.specs.Lengths.{IsTextLength}
 use Rattle.value_core.specs.Plain.{ends}

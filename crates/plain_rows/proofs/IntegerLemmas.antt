@@ -1,5 +1,5 @@
 -- Integers, dates and moments at the front of bytes.
-use Rattle.std.proofs.Common.{◌≡◌, ◌⊎◌, inl, inr, ℕ, ◌≤◌, ℤ, pos, neg_ℤ, List, [], ◌∷◌, Option, Some, None, cond, leb, refl, sym, ◌∙◌, ap, subst}
+use Rattle.std.proofs.Common.{◌≡◌, inl, inr, ℕ, ◌≤◌, ℤ, pos, neg_ℤ, List, [], ◌∷◌, Some, None, cond, leb, refl, sym, ◌∙◌, ap, subst}
 use Rattle.std.proofs.lemmas.Bool.{le-leb}
 use Rattle.utd_lexer.specs.declared.token.TokenKind.TheVariants.{Integer, Text}
 use Rattle.utd_syntax.specs.Literals.{value_of}

@@ -1,5 +1,5 @@
 -- Points and intervals at the front of bytes.
-use Rattle.std.proofs.Common.{◌≡◌, ◌⊎◌, inl, inr, ℕ, ◌≤◌, ℤ, pos, neg_ℤ, w64, to_z, of_z, arith, Bool, true, false, cond, leb, Option, Some, None, List, [], ◌∷◌, ◌++◌, Ok, refl, sym, ◌∙◌, ap, subst}
+use Rattle.std.proofs.Common.{◌≡◌, inl, inr, ℕ, ◌≤◌, ℤ, pos, neg_ℤ, w64, to_z, of_z, arith, Bool, true, false, cond, leb, Some, None, List, [], ◌∷◌, ◌++◌, Ok, refl, sym, subst}
 use Rattle.std.proofs.lemmas.Bool.{leb-true}
 use Rattle.std.proofs.lemmas.Int.{ints, to_z-of_z}
 use Rattle.utd_syntax.specs.Literals.{value_of}

@@ -1,5 +1,5 @@
 -- Elements one after another.
-use Rattle.std.proofs.Common.{◌≡◌, ℕ, ◌+◌, arith, length, List, [], ◌∷◌, ◌++◌, true, ◌&&◌, map, refl, sym, ◌∙◌, ap, subst, append_assoc, append-nil}
+use Rattle.std.proofs.Common.{◌≡◌, ℕ, arith, length, List, [], ◌∷◌, ◌++◌, true, map, refl, sym, ◌∙◌, ap, subst, append_assoc, append-nil}
 use Rattle.std.proofs.lemmas.Bool.{and_parts}
 use Rattle.value_core.specs.declared.kind.Kind.{Kind}
 use Rattle.value_core.specs.declared.list.OrdinalNames.{OrdinalNames}

@@ -1,20 +1,17 @@
 -- Names that stand in the order of their bytes: the heading that they make, and rows that are as they are written.
 --     shape-makes      they make themselves as a heading
 --     row-stays      and values beside them are in the order of the heading
-use Rattle.std.proofs.Common.{◌≡◌, ◌≤◌, ◌<◌, ℕ, suc, List, [], ◌∷◌, ◌++◌, map, length, Bool, true, false, ◌||◌, ◌&&◌, Some, None, Option, cond, Ordering, Less, Equal, Greater, refl, sym, ◌∙◌, ap, ap₂, subst, arith, append_assoc, bytes_eq}
-use Rattle.std.specs.Prelude.{slice_index_or, nat_le}
-use Rattle.std.specs.Ordering.{is_eq, ordering_reverse, nat_cmp, match_ordering}
+use Rattle.std.proofs.Common.{◌≡◌, suc, List, [], ◌∷◌, ◌++◌, map, length, Bool, true, false, ◌||◌, Some, None, cond, Less, refl, sym, ◌∙◌, ap, ap₂, arith, append_assoc, bytes_eq}
+use Rattle.std.specs.Prelude.{slice_index_or}
+use Rattle.std.specs.Ordering.{is_eq, ordering_reverse, match_ordering}
 use Rattle.meaning_core.proofs.MadeLemmas.{own_name}
-use Rattle.std.specs.Cmp.Lexicographic.{nat_list_cmp_total, texts_ties, slice_cmp}
+use Rattle.std.specs.Cmp.Lexicographic.{nat_list_cmp_total, texts_ties}
 use Rattle.std.specs.BTreeMap.{insert_entry}
-use Rattle.std.specs.Str.Lossy.{utf8_valid_len}
-use Rattle.std.proofs.lemmas.Bool.{true≢false, and_parts, le-leb, eq-eqb}
+use Rattle.std.proofs.lemmas.Bool.{true≢false}
 use Rattle.std.proofs.lemmas.List.{append-nil}
-use Rattle.std.proofs.lemmas.Str.{utf8_valid_len-IsUtf8}
-use Rattle.plain_rows.specs.Names.{IsNameWord, AreNameWords, AllBehind, Ascending, IsPlainShape}
+use Rattle.plain_rows.specs.Names.{AllBehind, Ascending}
 use Rattle.value_core.specs.declared.kind.Kind.{Kind}
 use Rattle.value_core.specs.Headings.{has_name}
-use Rattle.value_core.specs.Limits.{most_attributes, most_name_bytes}
 use Rattle.value_core.specs.Values.{Name, Value, Heading, truth, name_cmp}
 use Rattle.meaning_core.specs.Places.{place_among, places}
 use Rattle.relation_core.specs.Agreement.{part_of}

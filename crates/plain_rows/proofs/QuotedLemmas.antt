@@ -1,14 +1,12 @@
 -- Texts at the front of bytes.
-use Rattle.std.proofs.Common.{◌≡◌, ℕ, ◌<◌, lit<, List, [], ◌∷◌, ◌++◌, length, take, drop, Bool, true, false, cond, eqb, ltb, not, ◌&&◌, ◌||◌, map, refl, sym, ◌∙◌, ap, subst, append_assoc, encode_utf8, encode_utf8_all}
-use Rattle.std.proofs.lemmas.Bool.{true≢false, false≢true, eqb-true, ltb-true, and_parts, not-true}
+use Rattle.std.proofs.Common.{◌≡◌, ℕ, ◌<◌, lit<, List, [], ◌∷◌, ◌++◌, take, drop, Bool, true, false, cond, eqb, ltb, not, ◌||◌, map, refl, sym, ◌∙◌, ap, subst, append_assoc, encode_utf8, encode_utf8_all}
+use Rattle.std.proofs.lemmas.Bool.{true≢false, eqb-true, ltb-true, and_parts, not-true}
 use Rattle.std.proofs.lemmas.List.{take_at, drop_at}
 use Rattle.std.proofs.lemmas.Str.{IsUtf8-append, IsUtf8-from_ascii, chars-append, chars-nil, encodes-chars}
 use Rattle.std.proofs.lemmas.Str.Ascii.{encode_ascii}
 use Rattle.std.specs.List.{prefix_len}
 use Rattle.std.specs.Str.{chars, IsUtf8}
-use Rattle.point_core.specs.declared.fault.Place.{Place}
 use Rattle.utd_lexer.specs.declared.token.TokenKind.TheVariants.{Text}
-use Rattle.utd_lexer.specs.declared.token.Token.{Token}
 use Rattle.utd_lexer.specs.Tokens.{Lexed, token, past, spelling, doubled, token_at, unquoted, AllOf, EndsAt}
 use Rattle.utd_lexer.proofs.WordLemmas.{taken}
 use Rattle.plain_rows.specs.Lexemes.{Begins, lexeme_of, ends_before, is_quote, is_text_byte}

@@ -1,18 +1,15 @@
 -- The whole statement, put together from its parts.
 --     tuples-begin      the tuples, of the first and the others
 --     is-body, brings      a body, and what it brings behind a head
-use Rattle.std.proofs.Common.{◌≡◌, ◌≤◌, ℕ, suc, List, [], ◌∷◌, ◌++◌, map, length, Bool, true, false, ◌&&◌, Some, refl, sym, ◌∙◌, ap, ap₂, subst, arith, append_assoc}
+use Rattle.std.proofs.Common.{◌≡◌, ◌≤◌, ℕ, suc, List, [], ◌∷◌, ◌++◌, map, length, true, Some, refl, sym, ◌∙◌, ap, ap₂, subst, arith}
 use Rattle.std.specs.Prelude.{nat_le}
-use Rattle.std.specs.Str.{IsUtf8, chars}
 use Rattle.std.specs.Str.Lossy.{utf8_valid_len}
 use Rattle.std.proofs.lemmas.Bool.{true≢false, and_parts, le-leb, eq-eqb, and_from}
 use Rattle.std.proofs.lemmas.List.{append-nil}
 use Rattle.std.proofs.lemmas.Str.{IsUtf8-nil, IsUtf8-from_ascii, chars-nil, utf8_valid_len-IsUtf8}
-use Rattle.std.proofs.lemmas.Str.Ascii.{IsAscii-nil, IsAscii-cons}
-use Rattle.point_core.specs.declared.fault.Place.{Place}
 use Rattle.utd_lexer.specs.Tokens.{Lexed, done}
 use Rattle.value_core.specs.declared.kind.Kind.{Kind}
-use Rattle.value_core.specs.Limits.{most_name_bytes, most_attributes}
+use Rattle.value_core.specs.Limits.{most_name_bytes}
 use Rattle.value_core.specs.Headings.{position_of}
 use Rattle.value_core.specs.Values.{Name, Value, Heading, Relation, rows_of}
 use Rattle.relation_core.specs.Agreement.{part_of}
@@ -23,7 +20,7 @@ use Rattle.constant_laws.specs.Insertions.{MakesHeading, in_heading, Bringing}
 use Rattle.value_core.specs.declared.list.OrdinalNames.{OrdinalNames}
 use Rattle.plain_rows.specs.Brought.{HasRowsOf, IsBody, IsBrought}
 use Rattle.plain_rows.specs.Heads.{AreListNames, IsWayOf}
-use Rattle.plain_rows.specs.Lexemes.{Lexeme, AreLexemes, Begins, is_word, begins_word, all_continue}
+use Rattle.plain_rows.specs.Lexemes.{Lexeme, AreLexemes, Begins, is_word}
 use Rattle.plain_rows.specs.Names.{IsNameWord, AreNameWords, Ascending, IsPlainShape}
 use Rattle.plain_rows.specs.Tuples.{Shape, are_words, open_brace, close_brace, semicolon, relation_word, separated, followed, Head, target, body, AreElements, IsTuple, AreTuples, HasRows, BeginsWithTuple, BeginsWithTuples}
 use Rattle.plain_rows.proofs.BeginLemmas.{begins-then}

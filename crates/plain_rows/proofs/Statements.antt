@@ -1,10 +1,10 @@
 -- Tokens of tuples and of whole statements, taken one after another: the tree that they spell.
 --     statement-found      the tree of a plain statement's tokens
 use Rattle.std.proofs.lemmas.Bool.{le-ltb}
-use Rattle.std.proofs.Common.{◌≡◌, ◌≤◌, ℕ, suc, arith, List, [], ◌∷◌, ◌++◌, map, length, refl, sym, ◌∙◌, ap, subst, append_assoc}
+use Rattle.std.proofs.Common.{◌≡◌, ℕ, suc, arith, List, [], ◌∷◌, ◌++◌, map, length, refl, sym, ◌∙◌, ap, subst, append_assoc}
 use Rattle.std.proofs.lemmas.List.{append-nil}
 use Rattle.point_core.specs.declared.fault.Place.{Place}
-use Rattle.utd_lexer.specs.declared.token.TokenKind.TheVariants.{Word, Symbol}
+use Rattle.utd_lexer.specs.declared.token.TokenKind.TheVariants.{Word}
 use Rattle.utd_lexer.specs.declared.token.Token.{Token}
 use Rattle.utd_lexer.specs.Reading.{Reads}
 use Rattle.utd_parser.specs.Tokens.{pieces}
@@ -12,11 +12,10 @@ use Rattle.utd_syntax.specs.declared.terminal.Terminal.TheVariants as t
 use Rattle.utd_syntax.specs.Plain as syntax
 use Rattle.utd_syntax.specs.Plain.{word, Word as SyntaxWord, NameListP, ElementP, TupleP, LiteralP}
 use Rattle.utd_syntax.specs.Pieces.{Piece}
-use Rattle.utd_syntax.specs.Verdict.{Whole}
 use Rattle.utd_syntax.specs.Written.{Mark, fixed, at, spelled, token, word_of, Spells, of_more_words, of_words, of_list, of_scalar, of_element, of_more_elements, of_element_list, of_tuple, of_more_tuples, of_literal, of_statement}
 use Rattle.utd_syntax.proofs.Marks.{Spells-append}
-use Rattle.utd_ranges.specs.Limits.{is_out_of_range, verdict_on}
-use Rattle.utd_ranges.specs.Ranges.{Each, NameIn, ElementIn, TupleIn, LiteralIn, HasLiteralsInRange}
+use Rattle.utd_ranges.specs.Limits.{is_out_of_range}
+use Rattle.utd_ranges.specs.Ranges.{Each, NameIn, ElementIn, TupleIn, LiteralIn}
 use Rattle.value_core.specs.declared.kind.Kind.{Kind}
 use Rattle.value_core.specs.declared.list.OrdinalNames.{OrdinalNames}
 use Rattle.value_core.specs.Limits.{most_name_bytes}

@@ -1,8 +1,8 @@
 -- Symbols at the front of bytes.
-use Rattle.std.proofs.Common.{◌≡◌, ℕ, lit<, List, [], ◌∷◌, Bool, true, false, eqb, ltb, not, ◌||◌, ◌&&◌, refl, sym, ◌∙◌, ap, subst}
+use Rattle.std.proofs.Common.{◌≡◌, ℕ, lit<, List, [], ◌∷◌, true, false, eqb, ltb, not, ◌||◌, ◌&&◌, refl, sym, ◌∙◌, ap, subst}
 use Rattle.std.proofs.lemmas.Bool.{true≢false, ltb-true, and_parts, not-true}
 use Rattle.std.proofs.lemmas.Str.{chars-nil}
-use Rattle.std.proofs.lemmas.Str.Ascii.{IsAscii-nil, IsAscii-cons}
+use Rattle.std.proofs.lemmas.Str.Ascii.{IsAscii-cons}
 use Rattle.std.specs.Str.{chars}
 use Rattle.utd_lexer.specs.declared.token.TokenKind.TheVariants.{Symbol}
 use Rattle.utd_lexer.specs.Tokens.{among, singles, seconds, opens_comment, EndsAt}

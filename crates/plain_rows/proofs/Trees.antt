@@ -4,7 +4,7 @@ use Rattle.std.proofs.lemmas.Bool.{true≢false, le-ltb, leb-true, le-leb, eq-eq
 use Rattle.std.proofs.lemmas.Option.{none-some}
 use Rattle.std.proofs.lemmas.Str.{utf8_valid_len-IsUtf8}
 use Rattle.std.specs.Str.Lossy.{utf8_valid_len}
-use Rattle.std.proofs.Common.{◌&&◌, ◌≡◌, inl, inr, ◌≤◌, ℕ, ℤ, List, [], ◌∷◌, ◌++◌, map, length, Bool, true, false, not, ◌||◌, Some, None, cond, ltb, leb, refl, sym, ◌∙◌, ap, subst, arith, append_assoc}
+use Rattle.std.proofs.Common.{◌&&◌, ◌≡◌, inl, inr, ℕ, ℤ, List, [], ◌∷◌, ◌++◌, map, length, Bool, true, false, not, ◌||◌, Some, None, cond, refl, sym, ◌∙◌, ap, subst, arith, append_assoc}
 use Rattle.std.specs.Prelude.{nat_lt, nat_le}
 use Rattle.std.specs.Str.{IsUtf8}
 use Rattle.point_core.specs.declared.any_type.AnyType.{AnyType}
@@ -29,7 +29,7 @@ use Rattle.interval_core.specs.declared.selector.Ends.{Ends}
 use Rattle.std.specs.Prelude.{Ok}
 use Rattle.utd_ranges.specs.Limits.{is_out_of_range}
 use Rattle.utd_ranges.specs.Ranges.{SignIn, ScalarIn}
-use Rattle.utd_lexer.specs.declared.token.TokenKind.TheVariants.{Word, Integer, Text, Symbol}
+use Rattle.utd_lexer.specs.declared.token.TokenKind.TheVariants.{Word, Integer, Text}
 use Rattle.utd_lexer.specs.declared.token.Token.{Token}
 use Rattle.utd_parser.specs.Tokens.{terminal_of, seen, pieces}
 use Rattle.value_core.specs.declared.kind.Kind.{Kind}
@@ -40,7 +40,7 @@ use Rattle.value_core.specs.Limits.{most_name_bytes, most_text_bytes}
 use Rattle.value_core.specs.Values.{Value, truth, text, point, interval}
 use Rattle.scalar_typing.specs.Literals.{integer_of, negative_of, text_of, date_of, moment_of}
 use Rattle.scalar_typing.specs.Operators.{ends_of}
-use Rattle.constant_laws.specs.Constants.{alone, WritesPoint, IsBetween, SignWrites, Writes}
+use Rattle.constant_laws.specs.Constants.{alone, WritesPoint, SignWrites, Writes}
 use Rattle.plain_rows.specs.Lexemes.{Lexeme, lexeme_of}
 use Rattle.plain_rows.specs.Written.{dash, date_word, moment_word, colon, opening, closing, brackets_of, truth_word, dot, IsInteger, IsDotted, IsPoint, IsInterval, IsConstant}
 

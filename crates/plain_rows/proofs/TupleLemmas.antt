@@ -4,7 +4,7 @@ use Rattle.utd_lexer.specs.declared.token.TokenKind.TheVariants.{Word}
 use Rattle.value_core.specs.declared.kind.Kind.{Kind}
 use Rattle.value_core.specs.Values.{Name, Value}
 use Rattle.value_core.specs.declared.list.OrdinalNames.{OrdinalNames}
-use Rattle.plain_rows.specs.Lexemes.{Lexeme, Begins}
+use Rattle.plain_rows.specs.Lexemes.{Begins}
 use Rattle.plain_rows.specs.Written.{BeginsWithConstant}
 use Rattle.plain_rows.specs.Tuples.{tuple_word, open_brace, BeginsWithElement}
 use Rattle.plain_rows.proofs.BeginLemmas.{begins-then}

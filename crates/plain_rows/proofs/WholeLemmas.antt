@@ -1,10 +1,10 @@
 -- Whole tuples at the front of bytes.
-use Rattle.std.proofs.Common.{◌≡◌, ℕ, List, [], ◌∷◌, ◌++◌, true, ◌&&◌, refl, sym, ◌∙◌, ap, subst}
+use Rattle.std.proofs.Common.{◌≡◌, ℕ, List, [], ◌∷◌, ◌++◌, true, refl, sym, subst}
 use Rattle.std.proofs.lemmas.Bool.{and_parts}
 use Rattle.value_core.specs.declared.kind.Kind.{Kind}
 use Rattle.value_core.specs.Values.{Name, Value}
 use Rattle.value_core.specs.declared.list.OrdinalNames.{OrdinalNames}
-use Rattle.plain_rows.specs.Lexemes.{Lexeme, Begins, is_word}
+use Rattle.plain_rows.specs.Lexemes.{Begins, is_word}
 use Rattle.plain_rows.specs.Tuples.{Shape, tuple_word, open_brace, close_brace, followed, separated, AreElements, BeginsWithElement, HasValues, BeginsWithTuple, are_words}
 use Rattle.plain_rows.proofs.BeginLemmas.{begins-then}
 use Rattle.plain_rows.proofs.IntervalLemmas.{begins-gap}

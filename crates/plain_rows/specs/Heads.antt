@@ -4,7 +4,7 @@
 --     IsListing heading commalist names      a list of these names stands at these positions of the heading
 --     IsWayOf head heading bringing      what begins so brings rows in this way
 --     BeginsWithNames, HasNames      names at the front of bytes
-use Rattle.std.specs.Prelude.{◌≡◌, ℕ, List, [], ◌∷◌, map}
+use Rattle.std.specs.Prelude.{◌≡◌, ℕ, List, ◌∷◌, map}
 use Rattle.utd_syntax.specs.declared.word.Word.{Word}
 use Rattle.utd_syntax.specs.declared.parts.NameList.{NameList}
 use Rattle.utd_syntax.specs.Plain.{NameListP}

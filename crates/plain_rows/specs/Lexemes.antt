@@ -2,11 +2,10 @@
 --     Lexeme      a token without its place
 --     AreLexemes      wherever they stand, the bytes are read as these tokens
 --     Begins      the bytes begin with these tokens, and these bytes are behind them
-use Rattle.std.specs.Prelude.{◌≡◌, ℕ, ◌<◌, List, [], ◌∷◌, ◌++◌, map, Bool, true, false, ◌||◌, ◌&&◌, ◌==◌, not, nat_lt}
+use Rattle.std.specs.Prelude.{◌≡◌, ℕ, List, [], ◌∷◌, ◌++◌, map, Bool, true, false, ◌||◌, ◌&&◌, ◌==◌, not, nat_lt}
 use Rattle.std.specs.Char.{is_ascii_alphabetic, is_ascii_alphanumeric}
 use Rattle.point_core.specs.declared.fault.Place.{Place}
 use Rattle.utd_lexer.specs.declared.token.TokenKind.{TokenKind}
-use Rattle.utd_lexer.specs.declared.token.TokenKind.TheVariants.{Word, Integer, Text, Symbol}
 use Rattle.utd_lexer.specs.declared.token.Token.{Token}
 use Rattle.utd_lexer.specs.Reading.{Reads}
 use Rattle.utd_lexer.specs.Tokens.{among, singles, seconds}

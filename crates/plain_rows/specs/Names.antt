@@ -2,7 +2,7 @@
 --     AllNames, AreNameWords      words of ASCII that are no reserved ones, and not too long: all of a list, those of a shape
 --     Ascending      the names of a shape are in the order of their bytes, each once
 --     IsPlainShape      what a shape must be for its tuples to be read
-use Rattle.std.specs.Prelude.{◌≡◌, ◌≤◌, ℕ, true, List, [], ◌∷◌, length}
+use Rattle.std.specs.Prelude.{◌≡◌, ◌≤◌, true, List, [], ◌∷◌, length}
 use Rattle.std.specs.declared.cmp.Ordering.TheVariants.{Less}
 use Rattle.value_core.specs.declared.kind.Kind.{Kind}
 use Rattle.value_core.specs.Limits.{most_attributes}

@@ -1,7 +1,7 @@
 -- Texts between quotes, in which each quote is written twice.
 --     IsTextPart      what is before the first quote
 --     IsTextBody      what is before the last quote
-use Rattle.std.specs.Prelude.{◌≡◌, ℕ, List, ◌∷◌, ◌++◌, Bool, false}
+use Rattle.std.specs.Prelude.{◌≡◌, ℕ, List, ◌∷◌, ◌++◌, false}
 use Rattle.std.specs.Str.{chars, IsUtf8}
 use Rattle.utd_lexer.specs.Tokens.{doubled, AllOf}
 use Rattle.utd_syntax.specs.Literals.{has_control}

@@ -1,4 +1,4 @@
-use Rattle.std.proofs.Common.{◌∷◌, [], true, ◌≡◌, sym, ◌∙◌, ap, subst}
+use Rattle.std.proofs.Common.{◌∷◌, [], true, ◌≡◌, sym, ◌∙◌, subst}
 use Rattle.utd_lexer.specs.declared.token.TokenKind.TheVariants.{Word}
 use Rattle.plain_rows.specs.Lexemes.{Begins, is_word}
 use Rattle.plain_rows.proofs.TupleLemmas.{element}
