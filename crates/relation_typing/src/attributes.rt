@@ -72,7 +72,11 @@ pub fn new_name(alloc: Global, attributes: &Attributes, word: &Word) -> Result<N
 pub fn listed(alloc: Global, attributes: Attributes) -> Result<Vec<(Name, Kind)>, Memory>
     ensures { IfOk result (λ list. list.items ≡ attributes.entries) }
 {
-    let list: Vec<(Name, Kind)> = attributes.into_iter().collect(alloc)?;
+    let mut rest = attributes;
+    let mut list = Vec::with_capacity(alloc, rest.len())?;
+    'rest: while let Some(attribute) = rest.pop_first() {
+        list.push(attribute)?;
+    }
     Ok(list)
 }
 

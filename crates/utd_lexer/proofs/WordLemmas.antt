@@ -1,9 +1,10 @@
 -- Words, integers and symbols at the front of characters.
-use Rattle.std.proofs.Common.{◌≡◌, ℕ, ◌+◌, ◌<◌, List, [], ◌∷◌, ◌++◌, length, take, Bool, true, false, cond, eqb, ◌||◌, Some, refl, sym, ◌∙◌, ap, subst, arith, ◌⊎◌, inl, inr, lit<, encode_utf8_all}
+use Rattle.std.proofs.Common.{◌≡◌, ℕ, ◌+◌, ◌<◌, List, [], ◌∷◌, ◌++◌, length, take, Bool, true, false, cond, eqb, ◌==◌, ◌||◌, Some, refl, sym, ◌∙◌, ap, subst, arith, ◌⊎◌, inl, inr, lit<, encode_utf8_all}
 use Rattle.std.proofs.lemmas.List.{take_at}
 use Rattle.std.proofs.lemmas.Bool.{eqb-true}
 use Rattle.std.specs.List.{prefix_len}
-use Rattle.std.specs.Char.{is_ascii_digit}
+use Rattle.std.specs.Int.{is_in_range}
+use Rattle.std.specs.Char.{is_ascii_digit, is_ascii_alphabetic, IsAsciiAlphabetic}
 use Rattle.unicode_ident.specs.Ident.{is_xid_start, is_xid_continue}
 use Rattle.unicode_ident.proofs.IdentLemmas.{is_xid_continue-ascii, is_xid_start-is_xid_continue}
 use Rattle.utd_lexer.specs.declared.token.TokenKind.{TokenKind}
@@ -34,6 +35,21 @@ taken p (x ∷ xs) n e = taken-go p x xs n (p x) refl e (taken p xs (prefix_len 
 pub or-cases : (a b : Bool) → (a || b) ≡ true → (a ≡ true) ⊎ (b ≡ true)
 or-cases true b h = inl refl
 or-cases false b h = inr h
+
+one-of-four : (d u l e : Bool) → (u || l) ≡ true → true ≡ (((d || u) || l) || e)
+one-of-four true u l e h = refl
+one-of-four false true l e h = refl
+one-of-four false false true e h = refl
+one-of-four false false false e h = absurd cc
+
+letter-below : (b : ℕ) → IsAsciiAlphabetic b → b < 128
+letter-below b (inl h) = omega (arith, h.1)
+letter-below b (inr h) = omega (arith, h.1)
+
+-- a word goes on with a letter
+pub letter-continues : (b : ℕ) → IsAsciiAlphabetic b → is_ascii_alphabetic b ≡ true → true ≡ continues b
+letter-continues b within is =
+    one-of-four (is_ascii_digit b) (is_in_range 65 90 b) (is_in_range 97 122 b) (b == 95) is ∙ sym (is_xid_continue-ascii b (letter-below b within))
 
 underscore : continues 95 ≡ true
 underscore = is_xid_continue-ascii 95 (lit< tt)

@@ -19,11 +19,19 @@ pub(crate) enum Step<'a> {
     Untold,
 }
 
+// Whether a word goes on with the byte. Most bytes of words are letters, so these are looked for first.
+#[inline(always)]
+fn goes_on(byte: u8) -> bool
+    ensures { result ≡ continues byte }
+{
+    byte.is_ascii_alphabetic() || is_continuing(byte as char)
+}
+
 fn word_bytes(bytes: &[u8]) -> usize
     ensures { result ≡ prefix_len continues bytes.now }
 {
     let mut n = 0;
-    'word: while n < bytes.len() && is_continuing(bytes[n] as char) {
+    'word: while n < bytes.len() && goes_on(bytes[n]) {
         n += 1;
     }
     n

@@ -1,5 +1,5 @@
 // The cut of a script's bytes into statements.
-ghost use Rattle.std.specs.Prelude.{◌≡◌, ◌≤◌, ◌↔◌, ℕ, List, [], ◌∷◌, ◌++◌, length, take, true};
+ghost use Rattle.std.specs.Prelude.{◌≡◌, ◌≤◌, ◌↔◌, ℕ, List, [], ◌∷◌, ◌++◌, ◌<◌, get_or, length, take, true};
 ghost use Rattle.std.specs.List.{prefix_len};
 ghost use Rattle.utd_lexer.specs.Parts.{IsWhole, IsBlank};
 ghost use Rattle.utd_lexer.specs.Cutting.{next, is_outside, is_between, blank_next, is_plain, is_resting, stays, AllPass, Since, since_then};
@@ -101,10 +101,27 @@ fn is_plain(byte: u8) -> bool
     byte != b'\'' && byte != b'/' && byte != b';'
 }
 
+// Four by four, how many of the first bytes are plain.
+fn plain_fours(bytes: &[u8]) -> usize
+    ensures within { result ≤ length bytes.now }
+    ensures plain { (k d : ℕ) → k < result → is_plain (get_or bytes.now k d) ≡ true }
+{
+    let mut n = 0;
+    'fours: while bytes.len() - n >= 4
+        && is_plain(bytes[n])
+        && is_plain(bytes[n + 1])
+        && is_plain(bytes[n + 2])
+        && is_plain(bytes[n + 3])
+    {
+        n += 4;
+    }
+    n
+}
+
 fn plain_bytes(bytes: &[u8]) -> usize
     ensures { result ≡ prefix_len is_plain bytes.now }
 {
-    let mut n = 0;
+    let mut n = plain_fours(bytes);
     'plain: while n < bytes.len() && is_plain(bytes[n]) {
         n += 1;
     }

@@ -202,6 +202,7 @@ fn symbol_len(chars: &[char]) -> Option<usize>
     }
 }
 
+#[inline(always)]
 pub(crate) fn first_of(c: char) -> First
     ensures { FirstIs c result }
 {
