@@ -9,7 +9,6 @@ use Rattle.utd_syntax.specs.Verdict.{reach, at_form, outside}
 use Rattle.utd_parser.specs.declared.form.Form.{Form}
 use Rattle.utd_parser.specs.declared.form.Form.TheVariants as forms
 use Rattle.utd_parser.specs.declared.stack.Frame.{Frame}
-use Rattle.utd_parser.specs.declared.stack.Frame.TheVariants.{Shut}
 use Rattle.utd_parser.specs.declared.stack.Load.{Load}
 use Rattle.utd_parser.specs.Forms.{form_of, forms_of}
 use Rattle.utd_parser.specs.Frames.{load_of, symbols_in, above, stack_of}
@@ -45,8 +44,8 @@ pub reach-shut : (outer load : table.Load) (base : List table.Symbol) (x : Termi
 unfolding reach
 reach-shut outer load base x b n = refl
 
-pub reach-shut-frame : (old : List table.Symbol) (f : Frame) (outer : Load) (base : List table.Symbol) (load : table.Load) (x : Terminal) (b : List ℕ) (n : Terminal) → old ≡ symbols_in f ++ base → f ≡ Shut outer → reach old load x b n ≡ reach base (load_of outer) x b n
-reach-shut-frame old f outer base load x b n is at = ap (λ s. reach s load x b n) (is ∙ ap (λ g. symbols_in g ++ base) at) ∙ reach-shut (load_of outer) load base x b n
+pub reach-level : (old : List table.Symbol) (f : Frame) (outer : Load) (forms : List Form) (base : List table.Symbol) (load : table.Load) (x : Terminal) (b : List ℕ) (n : Terminal) → old ≡ symbols_in f ++ base → symbols_in f ≡ table.Shut (load_of outer) ∷ forms_of forms → reach old load x b n ≡ reach (forms_of forms ++ base) (load_of outer) x b n
+reach-level old f outer forms base load x b n is at = ap (λ s. reach s load x b n) (is ∙ ap (λ g. g ++ base) at) ∙ reach-shut (load_of outer) load (forms_of forms ++ base) x b n
 
 pub reach-over : (old : List table.Symbol) (load : table.Load) (x : Terminal) (b : List ℕ) (n : Terminal) → old ≡ [] → reach old load x b n ≡ verdict.Over
 unfolding reach

@@ -1,16 +1,19 @@
 -- What the tree that was built says of the statement.
-use Rattle.std.proofs.Common.{◌≡◌, ℕ, zero, suc, ◌+◌, ◌<◌, List, [], ◌∷◌, ◌++◌, Option, Some, None, refl, sym, ◌∙◌, ap, subst, take, drop, get_or, length, arith}
+use Rattle.std.proofs.Common.{◌≡◌, ℕ, zero, suc, ◌+◌, ◌<◌, ◌≤◌, ◌==◌, true, false, List, [], ◌∷◌, ◌++◌, Option, Some, None, refl, sym, ◌∙◌, ap, subst, take, drop, get_or, length, arith}
 use Rattle.std.proofs.lemmas.List.{take_more}
+use Rattle.std.proofs.lemmas.Bool.{eqb-true}
 use Rattle.utd_syntax.specs.Pieces.{Piece}
 use Rattle.utd_syntax.specs.Plain.{StatementP}
-use Rattle.utd_syntax.specs.Table.{TheStatement}
+use Rattle.utd_syntax.specs.Table.{Symbol, Load, TheStatement}
+use Rattle.utd_syntax.specs.Verdict.{Whole, verdict}
+use Rattle.utd_ranges.specs.Limits.{limits}
 use Rattle.utd_syntax.specs.Written.{Spells, of_statement}
 use Rattle.utd_syntax.proofs.Reader.{read}
 use Rattle.utd_syntax.proofs.Complete.{statement-reads}
 use Rattle.utd_builder.specs.declared.cursor.Lexeme.{Lexeme}
 use Rattle.utd_builder.specs.Building as building
 use Rattle.utd_lexer.specs.declared.token.Token.{Token}
-use Rattle.utd_parser.specs.Frames.{IsStatement}
+use Rattle.utd_parser.specs.Frames.{IsStatement, verdict_behind}
 use Rattle.utd_parser.specs.Tokens.{piece, pieces}
 
 or_else : StatementP → Option StatementP → StatementP
@@ -62,3 +65,24 @@ pub behind-first : (ls rest : List Lexeme) (n : ℕ) → rest ≡ drop n ls → 
 behind-first ls rest n is =
     let on : suc n ≡ n + 1 = omega arith in
     ap (λ z. building.behind (building.pieces z)) is ∙ behind-next ls n ∙ ap (λ m. building.pieces (drop m ls)) on
+
+-- where a token is left, the verdict behind it is that on those that follow
+pub verdict-left : (ls rest : List Lexeme) (n : ℕ) (stack : List Symbol) (load : Load) → rest ≡ drop n ls → ((length rest == 0) ≡ false) → verdict_behind (building.pieces rest) stack load ≡ verdict limits (building.pieces (drop (n + 1) ls)) stack load
+verdict-left ls [] n stack load is some = cc
+verdict-left ls (x ∷ xs) n stack load is some = ap (λ z. verdict limits z stack load) (behind-first ls (x ∷ xs) n is)
+
+pub some-left : (rest : List Lexeme) → ((length rest == 0) ≡ false) → 1 ≤ length rest
+some-left [] some = cc
+some-left (x ∷ xs) some = omega arith
+
+past-none : (xs : List Lexeme) → suc (length xs) ≡ 0 → ⊥
+past-none xs e = omega (arith, e)
+
+-- no token is left
+pub verdict-over : (rest : List Lexeme) (stack : List Symbol) (load : Load) → ((length rest == 0) ≡ true) → verdict_behind (building.pieces rest) stack load ≡ Whole
+verdict-over [] stack load none = refl
+verdict-over (x ∷ xs) stack load none = let bad : length (x ∷ xs) ≡ 0 = eqb-true (length (x ∷ xs)) 0 none in absurd (past-none xs bad)
+
+pub no-pieces : (ls : List Lexeme) → length ls ≡ 0 → building.pieces ls ≡ []
+no-pieces [] e = refl
+no-pieces (x ∷ xs) e = absurd (past-none xs e)

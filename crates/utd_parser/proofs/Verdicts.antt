@@ -1,24 +1,48 @@
 -- The verdict by where the next token stands.
-use Rattle.std.proofs.Common.{◌≡◌, ℕ, List, [], ◌∷◌, Bool, true, false, cond, Option, Some, None, refl, sym, ◌∙◌, ap}
+use Rattle.std.proofs.Common.{◌≡◌, ℕ, List, [], ◌∷◌, Bool, true, false, cond, Option, Some, None, Result, refl, sym, ◌∙◌, ap, subst}
 use Rattle.point_core.specs.declared.fault.Place.{Place}
 use Rattle.point_core.specs.declared.fault.Code.{Code}
 use Rattle.point_core.specs.declared.fault.Code.TheVariants.{E01, E05, E06}
 use Rattle.utd_syntax.specs.declared.terminal.Terminal.{Terminal}
 use Rattle.utd_syntax.specs.declared.terminal.Terminal.TheVariants.{Finish}
-use Rattle.utd_syntax.specs.Pieces.{Piece, first}
+use Rattle.utd_syntax.specs.Pieces.{Piece, first, bytes_of}
 use Rattle.utd_syntax.specs.Table.{Symbol, Load, Taking}
-use Rattle.utd_syntax.specs.Verdict.{Verdict, Refused, Reach, Reaches, verdict, reach, taken, ended, stack_after, load_after}
+use Rattle.utd_syntax.specs.Verdict.{Verdict, Whole, Refused, Reach, Reaches, verdict, reach, taken, ended, stack_after, load_after}
 use Rattle.utd_ranges.specs.Limits.{is_too_deep, is_out_of_range, limits}
 use Rattle.utd_parser.specs.Tokens.{seen}
-use Rattle.utd_parser.specs.Frames.{excess_of}
+use Rattle.value_core.specs.declared.refuse.Refuse.{Refuse}
+use Rattle.utd_builder.specs.Building.{behind}
+use Rattle.utd_parser.specs.Frames.{excess_of, verdict_behind, Comes}
 
-pub verdict-reach : (x : Terminal) (p : Place) (b : List ℕ) (ts : List Piece) (stack : List Symbol) (load : Load) (n : Terminal) (r : Reach) → n ≡ first ts → reach stack load x b n ≡ r → verdict limits (seen x p b ∷ ts) stack load ≡ taken limits r (seen x p b) (verdict limits ts)
-unfolding verdict
-verdict-reach x p b ts stack load n r behind is = ap (λ q. taken limits q (seen x p b) (verdict limits ts)) (ap (reach stack load x b) (sym behind) ∙ is)
+-- where no token is left, and where one is
+reach-first : (ps : List Piece) (stack : List Symbol) (load : Load) (x : Terminal) (b : List ℕ) (n : Terminal) (r : Reach) → x ≡ first ps → b ≡ bytes_of ps → n ≡ first (behind ps) → reach stack load x b n ≡ r → reach stack load (first ps) (bytes_of ps) (first (behind ps)) ≡ r
+reach-first ps stack load x b n r ex eb en is = ap (λ z. reach stack load z (bytes_of ps) (first (behind ps))) (sym ex) ∙ ap (λ z. reach stack load x z (first (behind ps))) (sym eb) ∙ ap (reach stack load x b) (sym en) ∙ is
 
-pub verdict-end : (stack : List Symbol) (load : Load) (r : Reach) → reach stack load Finish [] Finish ≡ r → verdict limits [] stack load ≡ ended r
+verdict-none : (stack : List Symbol) (load : Load) → verdict limits [] stack load ≡ ended (reach stack load Finish [] Finish)
 unfolding verdict
-verdict-end stack load r is = ap ended is
+verdict-none stack load = refl
+
+verdict-some : (t : Piece) (ts : List Piece) (stack : List Symbol) (load : Load) → verdict limits (t ∷ ts) stack load ≡ taken limits (reach stack load t.terminal t.bytes (first ts)) t (verdict limits ts)
+unfolding verdict
+verdict-some t ts stack load = refl
+
+-- what is so of one verdict and the next is so of those that they are
+comes-by : {A : Type 0} → (r : Result A Refuse) (old old' new new' : Verdict) → old' ≡ old → new ≡ new' → Comes r old new → Comes r old' new'
+comes-by r old old' new new' e f h = subst (λ z. Comes r z new') (sym e) (subst (λ z. Comes r old z) f h)
+
+pub comes-end : {A : Type 0} → (res : Result A Refuse) (ps : List Piece) (stack stack' : List Symbol) (load load' : Load) (x : Terminal) (b : List ℕ) (n : Terminal) (r : Reach) → ps ≡ [] → x ≡ first ps → b ≡ bytes_of ps → n ≡ first (behind ps) → reach stack load x b n ≡ r → Comes res (ended r) Whole → Comes res (verdict limits ps stack load) (verdict_behind ps stack' load')
+comes-end res ps stack stack' load load' x b n r is ex eb en er h =
+    let f : first ps ≡ Finish = ap first is in
+    let g : bytes_of ps ≡ [] = ap bytes_of is in
+    let k : first (behind ps) ≡ Finish = ap (λ q. first (behind q)) is in
+    comes-by res _ _ _ _ (ap (λ q. verdict limits q stack load) is ∙ verdict-none stack load ∙ ap ended (reach-first [] stack load x b n r (ex ∙ f) (eb ∙ g) (en ∙ k) er)) (sym (ap (λ q. verdict_behind q stack' load') is)) h
+
+pub comes-token : {A : Type 0} → (res : Result A Refuse) (ps : List Piece) (t : Piece) (ts : List Piece) (stack stack' : List Symbol) (load load' : Load) (x : Terminal) (b : List ℕ) (n : Terminal) (r : Reach) → ps ≡ t ∷ ts → x ≡ first ps → b ≡ bytes_of ps → n ≡ first (behind ps) → reach stack load x b n ≡ r → Comes res (taken limits r t (verdict limits ts)) (verdict limits ts stack' load') → Comes res (verdict limits ps stack load) (verdict_behind ps stack' load')
+comes-token res ps t ts stack stack' load load' x b n r is ex eb en er h =
+    let f : first ps ≡ t.terminal = ap first is in
+    let g : bytes_of ps ≡ t.bytes = ap bytes_of is in
+    let k : first (behind ps) ≡ first ts = ap (λ q. first (behind q)) is in
+    comes-by res _ _ _ _ (ap (λ q. verdict limits q stack load) is ∙ verdict-some t ts stack load ∙ ap (λ q. taken limits q t (verdict limits ts)) (reach-first (t ∷ ts) stack load x b n r (ex ∙ f) (eb ∙ g) (en ∙ k) er)) (sym (ap (λ q. verdict_behind q stack' load') is)) h
 
 code_or : Option Code → Code
 code_or None = E01

@@ -11,11 +11,13 @@ use Rattle.utd_syntax.specs.Plain.{StatementP}
 use Rattle.utd_syntax.specs.Written.{Spells, of_statement}
 use Rattle.utd_syntax.specs.Table as table
 use Rattle.utd_syntax.specs.Verdict as verdict
-use Rattle.utd_syntax.specs.Verdict.{Verdict, Refused, reach}
+use Rattle.utd_syntax.specs.Verdict.{Verdict, Whole, Refused, reach}
+use Rattle.utd_ranges.specs.Limits.{limits}
 use Rattle.utd_parser.specs.Forms.{forms_of, taking_of}
 use Rattle.utd_parser.specs.declared.stack.Load.{Load}
 use Rattle.utd_parser.specs.declared.stack.Frame.{Frame}
-use Rattle.utd_parser.specs.declared.stack.Frame.TheVariants.{Forms, Shut}
+use Rattle.utd_parser.specs.declared.stack.Frame.TheVariants.{Forms, Level}
+use Rattle.utd_parser.specs.declared.stack.Stack.{Stack}
 use Rattle.utd_parser.specs.declared.stack.Passing.{Passing}
 use Rattle.utd_parser.specs.declared.stack.Passing.TheVariants as passings
 use Rattle.utd_parser.specs.declared.stack.Reach.{Reach}
@@ -27,7 +29,7 @@ load_of l = record { levels = l.levels; outside = l.outside; operators = l.opera
 -- the forms of one frame, and those of all of them, of which the last stands innermost
 abbrev pub symbols_in : Frame → List table.Symbol
 symbols_in (Forms forms) = forms_of forms.now
-symbols_in (Shut outer) = table.Shut (load_of outer) ∷ []
+symbols_in (Level outer forms) = table.Shut (load_of outer) ∷ forms_of forms.now
 
 abbrev pub above : List table.Symbol → List Frame → List table.Symbol
 above base [] = base
@@ -35,6 +37,14 @@ above base (f ∷ fs) = above (symbols_in f ++ base) fs
 
 abbrev pub stack_of : List Frame → List table.Symbol
 stack_of frames = above [] frames
+
+-- the next forms, and those behind them
+abbrev pub symbols_of : Stack → List table.Symbol
+symbols_of s = forms_of s.next.now ++ stack_of s.frames.items
+
+-- past the next forms of the old stack, under its load, a token is taken as over the new stack under the load there
+abbrev pub Leaves : Stack → Load → Stack → Load → Type 0
+Leaves old load new after = (x : Terminal) (b : List ℕ) (behind : Terminal) → reach (stack_of old.frames.items) (load_of load) x b behind ≡ reach (symbols_of new) (load_of after) x b behind
 
 -- what the forms of one frame do with a token, over those of the frames below
 abbrev pub passed : Passing → List table.Symbol → table.Load → Terminal → List ℕ → Terminal → verdict.Reach
@@ -47,6 +57,11 @@ abbrev pub reach_of : Reach → List table.Symbol → verdict.Reach
 reach_of reaches.Over stack = verdict.Over
 reach_of reaches.Stuck stack = verdict.Stuck
 reach_of (reaches.Reaches how load) stack = verdict.Reaches (taking_of how) stack (load_of load)
+
+-- the verdict behind the first token; behind the end of the text nothing is refused
+abbrev pub verdict_behind : List Piece → List table.Symbol → table.Load → Verdict
+verdict_behind [] stack load = Whole
+verdict_behind (t ∷ ts) stack load = verdict.verdict limits ts stack load
 
 -- the code of a token that is too deep, or else out of its range
 abbrev pub excess_of : Bool → Bool → Option Code

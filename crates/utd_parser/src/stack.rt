@@ -6,7 +6,7 @@ ghost use Rattle.utd_ranges.specs.Limits.{is_too_deep};
 ghost use Rattle.value_core.specs.Limits.{most_levels, most_operators};
 ghost use Rattle.utd_builder.specs.Closing.{closes};
 ghost use Rattle.utd_parser.specs.Forms.{forms_of, taking_of};
-ghost use Rattle.utd_parser.specs.Frames.{load_of, symbols_in, stack_of, passed, reach_of};
+ghost use Rattle.utd_parser.specs.Frames.{load_of, symbols_in, stack_of, symbols_of, passed, reach_of, Leaves};
 
 use crate::form::{Form, Taking, Turn};
 use crate::table::{ends_at_closing, turn};
@@ -22,11 +22,18 @@ pub struct Load {
     pub operators: usize,
 }
 
-/// Forms to come, or the end of a level with the load outside it.
+/// Forms to come, or the end of a level with the load and the forms to come outside it.
 #[derive(Clone, Copy)]
 pub enum Frame {
     Forms(&'static [Form]),
-    Shut(Load),
+    Level(Load, &'static [Form]),
+}
+
+/// The forms to come: the next ones, and behind them those of the frames, the last of which comes first.
+#[derive(Drop)]
+pub struct Stack {
+    pub next: &'static [Form],
+    pub frames: Vec<Frame>,
 }
 
 /// What the forms of a frame do with a token: all end before it; it cannot stand there; or it is taken, and the next
@@ -46,20 +53,10 @@ pub enum Reach {
     Reaches(Taking, Load),
 }
 
-fn push_forms(frames: &mut Vec<Frame>, forms: &'static [Form]) -> Result<(), AllocError>
-    ensures { IfOk result (λ _. stack_of frames.new.items ≡ forms_of forms.now ++ stack_of frames.old.items) }
+fn push(frames: &mut Vec<Frame>, frame: Frame) -> Result<(), AllocError>
+    ensures { IfOk result (λ _. stack_of frames.new.items ≡ symbols_in frame ++ stack_of frames.old.items) }
 {
-    if forms.is_empty() {
-        return Ok(());
-    }
-    frames.push(Frame::Forms(forms))?;
-    Ok(())
-}
-
-fn push_end(frames: &mut Vec<Frame>, outer: Load) -> Result<(), AllocError>
-    ensures { IfOk result (λ _. stack_of frames.new.items ≡ table.Shut (load_of outer) ∷ stack_of frames.old.items) }
-{
-    frames.push(Frame::Shut(outer))?;
+    frames.push(frame)?;
     Ok(())
 }
 
@@ -69,6 +66,40 @@ fn pop(frames: &mut Vec<Frame>) -> Option<Frame>
     ensures none { IsNone result → stack_of frames.old.items ≡ [] }
 {
     frames.pop()
+}
+
+// These forms come next, then the others, and then those of the frames.
+fn put(stack: &mut Stack, forms: &'static [Form], behind: &'static [Form]) -> Result<(), AllocError>
+    ensures { IfOk result (λ _. symbols_of stack.new ≡ forms_of forms.now ++ (forms_of behind.now ++ stack_of stack.old.frames.items)) }
+{
+    if forms.is_empty() {
+        stack.next = behind;
+        return Ok(());
+    }
+    if !behind.is_empty() {
+        push(&mut stack.frames, Frame::Forms(behind))?;
+    }
+    stack.next = forms;
+    Ok(())
+}
+
+// Past the next forms, to those of the last frame, if there is one, and the load there.
+fn leave(stack: &mut Stack, load: Load) -> Option<Load>
+    ensures some { IfSome result (λ l. Leaves stack.old load stack.new l) }
+    ensures shorter { IfSome result (λ _. length stack.old.frames.items ≡ length stack.new.frames.items + 1) }
+    ensures none { IsNone result → stack_of stack.old.frames.items ≡ [] }
+{
+    match pop(&mut stack.frames) {
+        None => None,
+        Some(Frame::Forms(forms)) => {
+            stack.next = forms;
+            Some(load)
+        }
+        Some(Frame::Level(outer, forms)) => {
+            stack.next = forms;
+            Some(outer)
+        }
+    }
 }
 
 // Past the forms at the front that end before every token that closes.
@@ -89,7 +120,10 @@ fn behind_closed(forms: &'static [Form]) -> &'static [Form]
 fn left_for(forms: &'static [Form], terminal: Terminal) -> &'static [Form]
     ensures { (base : List table.Symbol) (load : table.Load) (bytes : List ℕ) (behind : Terminal) → verdict.reach (forms_of forms.now ++ base) load terminal bytes behind ≡ verdict.reach (forms_of result.now ++ base) load terminal bytes behind }
 {
-    if closes(terminal) {
+    let Some((next, _)) = forms.split_first() else {
+        return forms;
+    };
+    if ends_at_closing(*next) && closes(terminal) {
         behind_closed(forms)
     } else {
         forms
@@ -113,37 +147,44 @@ fn pass(forms: &'static [Form], terminal: Terminal, bytes: &[u8], behind: Termin
 
 /// The forms that end before the token are passed, and the others are what is left.
 pub fn advance(
-    frames: &mut Vec<Frame>,
+    stack: &mut Stack,
     load: Load,
     terminal: Terminal,
     bytes: &[u8],
     behind: Terminal,
 ) -> Result<Reach, AllocError>
-    ensures { IfOk result (λ r. verdict.reach (stack_of frames.old.items) (load_of load) terminal bytes.now behind ≡ reach_of r (stack_of frames.new.items)) }
+    ensures { IfOk result (λ r. verdict.reach (symbols_of stack.old) (load_of load) terminal bytes.now behind ≡ reach_of r (symbols_of stack.new)) }
 {
     let mut load = load;
-    while let Some(frame) = pop(frames) {
-        match frame {
-            Frame::Shut(outer) => load = outer,
-            Frame::Forms(forms) => match pass(forms, terminal, bytes, behind) {
-                Passing::Passed => {}
-                Passing::Stuck => return Ok(Reach::Stuck),
-                Passing::Takes(how, next, rest) => {
-                    push_forms(frames, rest)?;
-                    push_forms(frames, next)?;
-                    return Ok(Reach::Reaches(how, load));
-                }
+    'frame: loop {
+        match pass(stack.next, terminal, bytes, behind) {
+            Passing::Passed => match leave(stack, load) {
+                None => return Ok(Reach::Over),
+                Some(outer) => load = outer,
             },
+            Passing::Stuck => return Ok(Reach::Stuck),
+            Passing::Takes(how, next, rest) => {
+                put(stack, next, rest)?;
+                return Ok(Reach::Reaches(how, load));
+            }
         }
     }
-    Ok(Reach::Over)
+}
+
+// A level opens with these forms.
+fn open(stack: &mut Stack, outer: Load, inner: &'static [Form]) -> Result<(), AllocError>
+    ensures { IfOk result (λ _. symbols_of stack.new ≡ forms_of inner.now ++ (table.Shut (load_of outer) ∷ symbols_of stack.old)) }
+{
+    push(&mut stack.frames, Frame::Level(outer, stack.next))?;
+    stack.next = inner;
+    Ok(())
 }
 
 /// The load behind the token, and the forms of the level that it opens.
-pub fn enter(frames: &mut Vec<Frame>, how: Taking, load: Load) -> Result<Load, AllocError>
+pub fn enter(stack: &mut Stack, how: Taking, load: Load) -> Result<Load, AllocError>
     requires { is_too_deep (taking_of how) (load_of load) ≡ false }
     ensures load { IfOk result (λ after. load_of after ≡ verdict.load_after (taking_of how) (load_of load)) }
-    ensures forms { IfOk result (λ after. stack_of frames.new.items ≡ verdict.stack_after (taking_of how) (load_of load) (stack_of frames.old.items)) }
+    ensures forms { IfOk result (λ after. symbols_of stack.new ≡ verdict.stack_after (taking_of how) (load_of load) (symbols_of stack.old)) }
 {
     match how {
         Taking::Operator => Ok(counted(load)),
@@ -153,14 +194,12 @@ pub fn enter(frames: &mut Vec<Frame>, how: Taking, load: Load) -> Result<Load, A
             operators: load.outside,
         }),
         Taking::Opens(inner) => {
-            push_end(frames, load)?;
-            push_forms(frames, inner)?;
+            open(stack, load, inner)?;
             Ok(opened(load))
         }
         Taking::OperatorOpens(inner) => {
             let outer = counted(load);
-            push_end(frames, outer)?;
-            push_forms(frames, inner)?;
+            open(stack, outer, inner)?;
             Ok(opened(outer))
         }
         Taking::Plain => Ok(load),

@@ -98,6 +98,7 @@ pub fn turn(form: Form, terminal: Terminal, bytes: &[u8], behind: Terminal) -> T
 }
 
 /// The form ends before every token that closes.
+#[inline(always)]
 pub fn ends_at_closing(form: Form) -> bool
     ensures { result ≡ ends_at_closing form }
 {

@@ -141,74 +141,71 @@ fn spelled_among(list: &[Terminal], other: Terminal, bytes: &[u8]) -> Terminal
     other
 }
 
-// The reserved words that begin with this byte.
-fn words_from(first: u8) -> &'static [Terminal]
-    ensures { (rest : List ℕ) → spelled_among result.now Terminal.Name (first ∷ rest) ≡ word_terminal (first ∷ rest) }
+// The reserved words that begin with these two bytes; where few begin with the first, all of those.
+fn words_from(first: u8, second: u8) -> &'static [Terminal]
+    ensures { (rest : List ℕ) → spelled_among result.now Terminal.Name (first ∷ (second ∷ rest)) ≡ word_terminal (first ∷ (second ∷ rest)) }
 {
     match first {
-        b'A' => &[
-            Terminal::All,
-            Terminal::After,
-            Terminal::And,
-            Terminal::As,
-            Terminal::Ask,
-        ],
-        b'B' => &[
-            Terminal::Before,
-            Terminal::Begin,
-            Terminal::Begins,
-            Terminal::Boolean,
-            Terminal::But,
-            Terminal::By,
-        ],
+        b'A' => match second {
+            b'F' => &[Terminal::After],
+            b'L' => &[Terminal::All],
+            b'N' => &[Terminal::And],
+            b'S' => &[Terminal::As, Terminal::Ask],
+            _ => &[],
+        },
+        b'B' => match second {
+            b'E' => &[Terminal::Before, Terminal::Begin, Terminal::Begins],
+            b'O' => &[Terminal::Boolean],
+            b'U' => &[Terminal::But],
+            b'Y' => &[Terminal::By],
+            _ => &[],
+        },
         b'C' => &[Terminal::Char, Terminal::Constraint, Terminal::Count],
         b'D' => &[Terminal::Date, Terminal::Delete, Terminal::Drop],
         b'E' => &[Terminal::End, Terminal::Ends, Terminal::Extend],
         b'F' => &[Terminal::False, Terminal::First, Terminal::Foreign],
         b'H' => &[Terminal::History],
-        b'I' => &[
-            Terminal::In,
-            Terminal::IncludedIn,
-            Terminal::Includes,
-            Terminal::Insert,
-            Terminal::Integer,
-            Terminal::Intersect,
-            Terminal::Interval,
-            Terminal::IsEmpty,
-            Terminal::IsNotEmpty,
-        ],
+        b'I' => match second {
+            b'N' => &[
+                Terminal::In,
+                Terminal::IncludedIn,
+                Terminal::Includes,
+                Terminal::Insert,
+                Terminal::Integer,
+                Terminal::Intersect,
+                Terminal::Interval,
+            ],
+            b'S' => &[Terminal::IsEmpty, Terminal::IsNotEmpty],
+            _ => &[],
+        },
         b'J' => &[Terminal::Join],
         b'K' => &[Terminal::Key],
         b'L' => &[Terminal::Last],
-        b'M' => &[
-            Terminal::Matching,
-            Terminal::Max,
-            Terminal::Meets,
-            Terminal::Merges,
-            Terminal::Min,
-            Terminal::Minus,
-            Terminal::Moment,
-        ],
+        b'M' => match second {
+            b'A' => &[Terminal::Matching, Terminal::Max],
+            b'E' => &[Terminal::Meets, Terminal::Merges],
+            b'I' => &[Terminal::Min, Terminal::Minus],
+            b'O' => &[Terminal::Moment],
+            _ => &[],
+        },
         b'N' => &[Terminal::Next, Terminal::Not],
         b'O' => &[Terminal::On, Terminal::Or, Terminal::Overlaps],
-        b'P' => &[
-            Terminal::Pack,
-            Terminal::Packed,
-            Terminal::Portion,
-            Terminal::Post,
-            Terminal::Pre,
-            Terminal::Print,
-            Terminal::Prior,
-        ],
+        b'P' => match second {
+            b'A' => &[Terminal::Pack, Terminal::Packed],
+            b'O' => &[Terminal::Portion, Terminal::Post],
+            b'R' => &[Terminal::Pre, Terminal::Print, Terminal::Prior],
+            _ => &[],
+        },
         b'R' => &[Terminal::References, Terminal::Relation, Terminal::Rename],
         b'S' => &[Terminal::Sum, Terminal::Summarize],
-        b'T' => &[
-            Terminal::Terminate,
-            Terminal::Then,
-            Terminal::True,
-            Terminal::Tuple,
-            Terminal::TypeWord,
-        ],
+        b'T' => match second {
+            b'E' => &[Terminal::Terminate],
+            b'H' => &[Terminal::Then],
+            b'R' => &[Terminal::True],
+            b'U' => &[Terminal::Tuple],
+            b'Y' => &[Terminal::TypeWord],
+            _ => &[],
+        },
         b'U' => &[
             Terminal::Union,
             Terminal::Unpack,
@@ -278,10 +275,14 @@ fn lone_symbol(byte: u8) -> Terminal
 fn word_terminal(bytes: &[u8]) -> Terminal
     ensures { result ≡ word_terminal bytes.now }
 {
-    match bytes.split_first() {
-        None => Terminal::Name,
-        Some((first, _)) => spelled_among(words_from(*first), Terminal::Name, bytes),
-    }
+    let Some((first, behind)) = bytes.split_first() else {
+        return Terminal::Name;
+    };
+    // Each reserved word has two letters or more.
+    let Some((second, _)) = behind.split_first() else {
+        return Terminal::Name;
+    };
+    spelled_among(words_from(*first, *second), Terminal::Name, bytes)
 }
 
 fn symbol_terminal(bytes: &[u8]) -> Terminal

@@ -4,22 +4,23 @@ ghost use Rattle.point_core.specs.declared.fault.Place.{Place};
 ghost use Rattle.point_core.specs.declared.fault.Code.{Code};
 ghost use Rattle.point_core.specs.declared.fault.Code.TheVariants.{E01};
 ghost use Rattle.value_core.specs.declared.refuse.Refuse.TheVariants as refuses;
+ghost use Rattle.utd_syntax.specs.Pieces as front;
 ghost use Rattle.utd_syntax.specs.Pieces.{Piece, first};
 ghost use Rattle.utd_syntax.specs.Continues.{Continues, NoStatement};
 ghost use Rattle.utd_syntax.specs.Plain.{StatementP};
 ghost use Rattle.utd_syntax.specs.Read.{read_statement};
-ghost use Rattle.utd_syntax.specs.Table.{TheStatement};
-ghost use Rattle.utd_syntax.specs.Verdict.{Verdict, Whole, Refused, at_start, verdict};
+ghost use Rattle.utd_syntax.specs.Table.{Symbol, TheStatement};
+ghost use Rattle.utd_syntax.specs.Verdict.{Verdict, Whole, Refused, at_start, ended, taken, verdict};
 ghost use Rattle.utd_syntax.specs.Written.{Spells, of_statement};
 ghost use Rattle.utd_ranges.specs.Limits.{limits, verdict_on};
 ghost use Rattle.utd_ranges.specs.Ranges.{HasLiteralsInRange, AreWritten, HasValues};
 ghost use Rattle.utd_builder.specs.Building as building;
 ghost use Rattle.utd_parser.specs.Tokens.{pieces, seen};
-ghost use Rattle.utd_parser.specs.Frames.{load_of, stack_of, Comes, Fails, IsStatement, RefusedAt};
+ghost use Rattle.utd_parser.specs.Frames.{load_of, symbols_of, reach_of, verdict_behind, Comes, Fails, IsStatement, RefusedAt};
 
 use crate::excess::excess;
 use crate::form::Form;
-use crate::stack::{Frame, Load, Reach, advance, enter};
+use crate::stack::{Load, Reach, Stack, advance, enter};
 use crate::terminals::{bytes_of, terminal_of};
 use point_core::{Code, Fault, Place};
 use std::alloc::{AllocError, Global};
@@ -28,13 +29,13 @@ use utd_lexer::{Token, TokenList};
 use utd_syntax::{Statement, Terminal};
 use value_core::Refuse;
 
-// Room for the forms to come in most statements.
-const ROOM: usize = 32;
+// Room for the frames of most statements.
+const ROOM: usize = 16;
 
 // The forms to come, and the load.
 #[derive(Drop)]
 struct Reading {
-    frames: Vec<Frame>,
+    stack: Stack,
     load: Load,
 }
 
@@ -48,29 +49,60 @@ fn first_of(tokens: &[Lexeme]) -> Terminal
     }
 }
 
+// The bytes of the first of these tokens.
+fn first_bytes<'a>(tokens: &[Lexeme<'a>]) -> &'a [u8]
+    ensures { result.now ≡ front.bytes_of (building.pieces tokens.now) }
+{
+    match tokens.split_first() {
+        None => &[],
+        Some((token, _)) => token.bytes,
+    }
+}
+
+// What the second of these tokens is to the grammar.
+fn second_of(tokens: &[Lexeme]) -> Terminal
+    ensures { result ≡ first (building.behind (building.pieces tokens.now)) }
+{
+    match tokens.split_first() {
+        None => Terminal::Finish,
+        Some((_, more)) => first_of(more),
+    }
+}
+
 fn refusal(code: Code, place: Place) -> Refuse
     ensures { (v : Verdict) → v ≡ Refused code place → Fails result v }
 {
     Refuse::At(Fault { place, code })
 }
 
+// Past the end of the text, given where it stands.
+fn end(reach: Reach) -> Result<(), Refuse>
+    ensures { (stack : List Symbol) → Comes result (ended (reach_of reach stack)) Whole }
+{
+    match reach {
+        Reach::Over => Ok(()),
+        Reach::Stuck => Err(refusal(Code::E01, Place { line: 0, column: 0 })),
+        Reach::Reaches(_, _) => Err(refusal(Code::E01, Place { line: 0, column: 0 })),
+    }
+}
+
 impl Reading {
-    // Past the token, given what the one behind it is.
+    // Past the token, given where it stands.
     fn take(
         &mut self,
+        reach: Reach,
         terminal: Terminal,
         place: Place,
         bytes: &[u8],
-        behind: Terminal,
     ) -> Result<(), Refuse>
-        ensures { (ts : List Piece) → behind ≡ first ts → Comes result (verdict limits (seen terminal place bytes.now ∷ ts) (stack_of self.old.frames.items) (load_of self.old.load)) (verdict limits ts (stack_of self.new.frames.items) (load_of self.new.load)) }
+        ensures { (ts : List Piece) → Comes result (taken limits (reach_of reach (symbols_of self.old.stack)) (seen terminal place bytes.now) (verdict limits ts)) (verdict limits ts (symbols_of self.new.stack) (load_of self.new.load)) }
     {
-        match advance(&mut self.frames, self.load, terminal, bytes, behind)? {
+        match reach {
             Reach::Reaches(how, load) => {
                 if let Some(code) = excess(how, load, terminal, bytes) {
                     return Err(refusal(code, place));
                 }
-                self.load = enter(&mut self.frames, how, load)?;
+                self.load = enter(&mut self.stack, how, load)?;
                 Ok(())
             }
             Reach::Over => Err(refusal(Code::E01, place)),
@@ -78,57 +110,50 @@ impl Reading {
         }
     }
 
-    // Past the first of these tokens.
+    // Past the first of these tokens, or past the end of the text where there is none.
     fn pass(&mut self, tokens: &[Lexeme]) -> Result<(), Refuse>
-        ensures { Comes result (verdict limits (building.pieces tokens.now) (stack_of self.old.frames.items) (load_of self.old.load)) (verdict limits (building.behind (building.pieces tokens.now)) (stack_of self.new.frames.items) (load_of self.new.load)) }
+        ensures { Comes result (verdict limits (building.pieces tokens.now) (symbols_of self.old.stack) (load_of self.old.load)) (verdict_behind (building.pieces tokens.now) (symbols_of self.new.stack) (load_of self.new.load)) }
     {
-        match tokens.split_first() {
-            None => Ok(()),
-            Some((token, more)) => {
-                self.take(token.terminal, token.place, token.bytes, first_of(more))
-            }
-        }
-    }
-
-    // At the end of the text.
-    fn end(&mut self) -> Result<(), Refuse>
-        ensures { Comes result (verdict limits [] (stack_of self.old.frames.items) (load_of self.old.load)) Whole }
-    {
-        match advance(
-            &mut self.frames,
+        let reach = advance(
+            &mut self.stack,
             self.load,
-            Terminal::Finish,
-            &[],
-            Terminal::Finish,
-        )? {
-            Reach::Over => Ok(()),
-            Reach::Stuck => Err(refusal(Code::E01, Place { line: 0, column: 0 })),
-            Reach::Reaches(_, _) => Err(refusal(Code::E01, Place { line: 0, column: 0 })),
+            first_of(tokens),
+            first_bytes(tokens),
+            second_of(tokens),
+        )?;
+        match tokens.split_first() {
+            None => end(reach),
+            Some((token, _)) => self.take(reach, token.terminal, token.place, token.bytes),
         }
     }
 }
 
-// Past all of these tokens, and to the end of the text.
+// Past all of these tokens, and past the end of the text.
 fn read(reading: Reading, tokens: &[Lexeme]) -> Result<(), Refuse>
-    ensures { Comes result (verdict limits (building.pieces tokens.now) (stack_of reading.frames.items) (load_of reading.load)) Whole }
+    ensures { Comes result (verdict limits (building.pieces tokens.now) (symbols_of reading.stack) (load_of reading.load)) Whole }
 {
     let mut reading = reading;
     let mut at = 0;
-    'token: while at < tokens.len() {
-        reading.pass(tokens.split_at(at).1)?;
+    'token: loop {
+        let rest = tokens.split_at(at).1;
+        reading.pass(rest)?;
+        if rest.is_empty() {
+            return Ok(());
+        }
         at += 1;
     }
-    reading.end()
 }
 
 fn at_start(alloc: Global) -> Result<Reading, Refuse>
-    ensures start { IfOk result (λ r. (stack_of r.frames.items ≡ TheStatement ∷ []) × (load_of r.load ≡ at_start)) }
+    ensures start { IfOk result (λ r. (symbols_of r.stack ≡ TheStatement ∷ []) × (load_of r.load ≡ at_start)) }
     ensures memory { IfErr result (λ e. e ≡ refuses.Memory) }
 {
-    let mut frames = Vec::with_capacity(alloc, ROOM)?;
-    frames.push(Frame::Forms(&[Form::TheStatement]))?;
+    let frames = Vec::with_capacity(alloc, ROOM)?;
     Ok(Reading {
-        frames,
+        stack: Stack {
+            next: &[Form::TheStatement],
+            frames,
+        },
         load: Load {
             levels: 0,
             outside: 0,

@@ -1,8 +1,0 @@
-use Rattle.std.proofs.Common.{◌∙◌, ap}
-use Rattle.utd_parser.specs.declared.stack.Frame.TheVariants.{Shut}
-use Rattle.utd_parser.specs.Frames.{stack_of}
-use Rattle.utd_parser.proofs.Stacks.{stack-push}
-use Rattle.utd_parser.proofs.stack.push_end.Goals as goal
-
-pub returns : goal.returns
-returns c = ap stack_of c.in_ok-push.ensures.items ∙ stack-push c.args.frames.now.items (Shut c.args.outer)
