@@ -44,12 +44,12 @@ if_ok P Q f (Err e) h = tt
 
 -- ---- how parts stand to each other, from a place on
 
-then_stop : (r z : Ordering) → is_eq r ≡ false → ordering_then r z ≡ r
+pub then_stop : (r z : Ordering) → is_eq r ≡ false → ordering_then r z ≡ r
 then_stop Less z e = refl
 then_stop Equal z e = absurd (true≢false e)
 then_stop Greater z e = refl
 
-then_go : (r z : Ordering) → is_eq r ≡ true → ordering_then r z ≡ z
+pub then_go : (r z : Ordering) → is_eq r ≡ true → ordering_then r z ≡ z
 then_go Less z e = absurd (true≢false (sym e))
 then_go Equal z e = refl
 then_go Greater z e = absurd (true≢false (sym e))
@@ -177,7 +177,7 @@ module _ (label : List ℕ) (at : ℕ) (gap : Gap) where
   order x y = row_cmp (part_of label x) (part_of label y)
 
   -- each row is beyond all before it
-  abbrev AllBeyond : List Row → Type 0
+  abbrev pub AllBeyond : List Row → Type 0
   AllBeyond [] = Unit {0}
   AllBeyond (x ∷ xs) = HasInterval at x × AllByRecursion (Beyond x) xs × AllBeyond xs
 
@@ -198,7 +198,7 @@ module _ (label : List ℕ) (at : ℕ) (gap : Gap) where
     ]
   ]
 
-  all_after : (x y : Row) (ys : List Row) → Beyond x y → HasInterval at y → AllByRecursion (Beyond y) ys → AllByRecursion (Beyond x) ys
+  pub all_after : (x y : Row) (ys : List Row) → Beyond x y → HasInterval at y → AllByRecursion (Beyond y) ys → AllByRecursion (Beyond x) ys
   all_after x y [] a s h = tt
   all_after x y (z ∷ zs) a s h = (beyond_trans x y z s a h.0, all_after x y zs a s h.1)
 

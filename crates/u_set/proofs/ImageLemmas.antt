@@ -6,7 +6,7 @@ use Rattle.std.specs.Cmp.{IsTotalOrder}
 use Rattle.std.specs.Int.RustNames.{int_le}
 use Rattle.std.specs.List.{filter, flat_map, list_all}
 use Rattle.std.proofs.lemmas.List.{length-map}
-use Rattle.base_core.specs.Sets.{put, in_order, is_within, are_same}
+use Rattle.base_core.specs.Sets.{in_order, is_within, are_same}
 use Rattle.base_core.proofs.SetLemmas.{In, Ascends, Separates, In-in_order, Ascends-in_order, in_after, same_by_members}
 use Rattle.base_core.proofs.MemberLemmas.{In-map, In-flat_map, In-filter, has-In}
 use Rattle.base_core.proofs.SetOperatorLemmas.{same_tests, is_within-In}

@@ -2,6 +2,7 @@ pub mod ApartLemmas
 pub mod BoxLemmas
 pub mod BridgeLemmas
 pub mod CellLemmas
+pub mod CoalescingLemmas
 pub mod CommonLemmas
 pub mod ComparisonLemmas
 pub mod ImageLemmas
@@ -10,4 +11,6 @@ pub mod KernelLemmas
 pub mod PlaceLemmas
 pub mod RelationLemmas
 pub mod RowLemmas
+pub mod TimeLemmas
+pub mod UnboxedLemmas
 pub mod UnionLemmas

@@ -2,6 +2,7 @@
 --     gap_of      the numbers that are left between two intervals at least
 --     IsBeyond, AreBeyond      a row and the next one in a list where this is seen
 --     AreApart      what it tells of any two rows
+--     Follows      a row and the next one in order of time
 --     outside      the positions that are not listed
 use Rattle.std.specs.Prelude.{◌≡◌, ℕ, suc, ◌<◌, ◌⊎◌, ℤ, pos, ◌+ℤ◌, ◌<ℤ◌, List, [], ◌∷◌, length, get_or, IsTrue}
 use Rattle.std.specs.List.{All}
@@ -48,6 +49,12 @@ abbrev pub IsBeyond : List ℕ → ℕ → Gap → Row → Row → Type 0
 IsBeyond label at gap x y =
     let order = row_cmp (part_of label x) (part_of label y) in
     (order ≡ Less) ⊎ ((order ≡ Equal) × (((span_in at x).1 +ℤ gap_of gap) <ℤ (span_in at y).0))
+
+-- y begins after the end of x, and with a point between where both have the same values at the label's positions
+abbrev pub Follows : List ℕ → ℕ → Row → Row → Type 0
+Follows label at x y =
+    let order = row_cmp (part_of label x) (part_of label y) in
+    ((span_in at x).1 <ℤ (span_in at y).0) × (order ≡ Equal → ((span_in at x).1 +ℤ gap_of One) <ℤ (span_in at y).0)
 
 -- each row has an interval, and each but the first is beyond the one before it
 pub record AreBeyond (label : List ℕ) (at : ℕ) (gap : Gap) (rows : List Row) : Type 0 where

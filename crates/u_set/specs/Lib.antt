@@ -1,4 +1,5 @@
 pub mod Apart
 pub mod Boxes
+pub mod Coalescing
 pub mod Fewer
 pub mod FewerCells

@@ -59,8 +59,8 @@ fn push_rows<'a>(
     Ok(())
 }
 
-// The value at the position, or another one past the end.
-fn value_or<'a>(values: &'a [Value], position: usize, other: &'a Value) -> &'a Value
+/// The value at the position, or another one past the end.
+pub fn value_or<'a>(values: &'a [Value], position: usize, other: &'a Value) -> &'a Value
     ensures { plain result.now ≡ slice_index_or (map plain values.now) position (plain other.now) }
 {
     if position < values.len() {
@@ -77,8 +77,8 @@ fn compare_values(x: &[Value], y: &[Value], position: usize) -> Ordering
     value_or(x, position, &past).cmp(value_or(y, position, &past))
 }
 
-// How the values of two rows at the positions stand to each other. FALSE stands past the end.
-fn compare_at(x: &Row, y: &Row, positions: &[usize]) -> Ordering
+/// How the values of two rows at the positions stand to each other. FALSE stands past the end.
+pub fn compare_at(x: &Row, y: &Row, positions: &[usize]) -> Ordering
     ensures { result ≡ row_cmp (part_of positions.now x.now) (part_of positions.now y.now) }
 {
     let (left, right) = (x.values(), y.values());
@@ -144,8 +144,8 @@ fn is_past(end: i64, begin: i64, gap: Gap) -> bool
     }
 }
 
-// Whether y begins after the end of x, with the gap between.
-fn begins_past(x: &Row, y: &Row, at: usize, gap: Gap) -> bool
+/// Whether y begins after the end of x, with the gap between.
+pub(crate) fn begins_past(x: &Row, y: &Row, at: usize, gap: Gap) -> bool
     requires x { HasInterval at x.now }
     requires y { HasInterval at y.now }
     ensures { result ≡ true → ((span_in at x.now).1 +ℤ gap_of gap) <ℤ (span_in at y.now).0 }
@@ -155,8 +155,8 @@ fn begins_past(x: &Row, y: &Row, at: usize, gap: Gap) -> bool
     is_past(before.1, next.0, gap)
 }
 
-// Whether y has later values at the label's positions than x, or the same and begins after the end of x, with the gap between.
-fn is_beyond(x: &Row, y: &Row, label: &[usize], at: usize, gap: Gap) -> bool
+/// Whether y has later values at the label's positions than x, or the same and begins after the end of x, with the gap between.
+pub(crate) fn is_beyond(x: &Row, y: &Row, label: &[usize], at: usize, gap: Gap) -> bool
     requires x { HasInterval at x.now }
     requires y { HasInterval at y.now }
     ensures { result ≡ true → IsBeyond label.now at gap x.now y.now }

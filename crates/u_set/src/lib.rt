@@ -4,10 +4,12 @@
 mod apart;
 mod boxes;
 mod cells;
+mod coalescing;
 mod common;
 mod comparison;
 mod difference;
 mod fewer;
+mod in_time;
 mod intervals;
 mod kept;
 mod labels;
@@ -18,9 +20,10 @@ mod rows;
 mod strict;
 mod union;
 
-pub use apart::{Gap, are_apart};
+pub use apart::{Gap, are_apart, compare_at, value_or};
 pub use boxes::{copied_boxes, to_boxes};
 pub use cells::copied_cells;
+pub use coalescing::{coalesced, coalesced_boxes};
 pub use common::{intersected, u_intersect};
 pub use comparison::{are_same, is_within, u_equal, u_subset};
 pub use difference::{subtracted, u_minus};

@@ -1,5 +1,5 @@
 // PACK and UNPACK of a relation.
-ghost use Rattle.std.specs.Prelude.{◌≡◌, ◌≤◌, ◌<◌, ◌+◌, map, length, Err, IfOk, MatchResult};
+ghost use Rattle.std.specs.Prelude.{◌≡◌, ◌≤◌, ◌<◌, ◌+◌, map, length, Err, IfOk, IfSome, MatchResult};
 ghost use Rattle.std.specs.List.{All};
 ghost use Rattle.point_core.specs.declared.fault.Fault.{Fault as AnyFault};
 ghost use Rattle.point_core.specs.Points.{number, IsPointOf};
@@ -14,6 +14,7 @@ ghost use Rattle.cell_core.specs.declared.boxes.CellRefuse.TheVariants.{Op as Of
 ghost use Rattle.u_set.specs.Boxes.{AreIntervals, types_at, boxed};
 
 use crate::boxes::to_boxes;
+use crate::coalescing::{coalesced, push_copies};
 use crate::positions::types_at;
 use crate::refusals::refusal;
 use crate::rows::from_boxes;
@@ -61,9 +62,8 @@ fn unpacked_form<L: Ledger>(
     unpack(alloc, types.as_slice(), boxes, MOST_ROWS, steps)
 }
 
-/// The rows of the relation packed on the attributes at the positions: unpacked on all of them, then packed on the first, on the
-/// second, and so on.
-pub fn packed<L: Ledger>(
+// The packed rows of the relation, by the boxes of its rows.
+fn packed_by_boxes<L: Ledger>(
     alloc: Global,
     r: &Relation,
     commalist: &[usize],
@@ -77,6 +77,46 @@ pub fn packed<L: Ledger>(
     match packed_form(alloc, r, commalist, steps) {
         Ok(form) => from_boxes(alloc, heading, commalist, form),
         Err(refuse) => Err(refusal(refuse)),
+    }
+}
+
+// The packed rows of the relation where a single attribute is listed, without boxes. There are none where the rows could not be brought
+// in order.
+fn packed_on_one(
+    alloc: Global,
+    r: &Relation,
+    commalist: &[usize],
+) -> Result<Option<Relation>, RowsRefuse>
+    requires { AreIntervals r.now.heading commalist.now }
+    ensures { MatchResult result (λ o. IfSome o (IsAnswer r.now.heading (packed commalist.now r.now.rows))) (IsRefusal (packed commalist.now r.now.rows)) }
+{
+    if commalist.len() != 1 {
+        return Ok(None);
+    }
+    let heading = r.heading().copy(alloc)?;
+    let own = r.rows();
+    let mut rows = Vec::with_capacity(alloc, own.len())?;
+    push_copies(alloc, &mut rows, own)?;
+    coalesced(alloc, heading, commalist[0], rows)
+}
+
+/// The rows of the relation packed on the attributes at the positions: unpacked on all of them, then packed on the first, on the
+/// second, and so on.
+///
+/// On a single attribute the rows themselves are joined. On more the sweep goes over their boxes.
+pub fn packed<L: Ledger>(
+    alloc: Global,
+    r: &Relation,
+    commalist: &[usize],
+    steps: &mut Steps<L>,
+) -> Result<Relation, RowsRefuse>
+    requires { AreIntervals r.now.heading commalist.now }
+    ensures rows { MatchResult result (IsAnswer r.now.heading (packed commalist.now r.now.rows)) (IsRefusal (packed commalist.now r.now.rows)) }
+    ensures cost { steps.new ≤ steps.old + bound (length r.now.rows) (length commalist.now) }
+{
+    match packed_on_one(alloc, r, commalist)? {
+        Some(relation) => Ok(relation),
+        None => packed_by_boxes(alloc, r, commalist, steps),
     }
 }
 

@@ -75,8 +75,8 @@ fn to_row(
     Ok(Row::make(values))
 }
 
-// The row of each box.
-fn to_rows(
+/// The row of each box.
+pub(crate) fn to_rows(
     alloc: Global,
     heading: &[(Name, Kind)],
     commalist: &[usize],

@@ -1,5 +1,5 @@
 // Union point by point.
-ghost use Rattle.std.specs.Prelude.{◌≡◌, ◌+◌, ◌<◌, ◌≤◌, map, length, Err, IfOk, MatchResult};
+ghost use Rattle.std.specs.Prelude.{◌≡◌, ◌+◌, ◌<◌, ◌≤◌, ◌++◌, map, length, Err, IfOk, IfSome, MatchResult};
 ghost use Rattle.std.specs.List.{All};
 ghost use Rattle.base_core.specs.Sets.{union_of};
 ghost use Rattle.point_core.specs.Points.{number, IsPointOf};
@@ -16,12 +16,12 @@ ghost use Rattle.cell_core.specs.declared.boxes.CellRefuse.TheVariants.{Op as Of
 ghost use Rattle.u_set.specs.Boxes.{AreIntervals, types_at, boxed};
 
 use crate::boxes::{copied_boxes, to_boxes};
-use crate::kept::stay_apart;
+use crate::coalescing::{coalesced, push_copies};
 use crate::positions::types_at;
 use crate::refusals::refusal;
 use crate::rows::from_boxes;
 use cell_core::{BoxRow, CellRefuse, pack};
-use point_core::{AnyType, PointType, Steps};
+use point_core::{AnyType, Memory, PointType, Steps};
 use std::alloc::Global;
 use std::sync::ledger::Ledger;
 use value_core::{MOST_ROWS, Relation, Row, RowsRefuse};
@@ -130,10 +130,43 @@ fn united_by_boxes<L: Ledger>(
     }
 }
 
+// The rows of both, one after the other.
+fn rows_of_both(alloc: Global, left: &Relation, right: &Relation) -> Result<Vec<Row>, Memory>
+    ensures rows { IfOk result (λ v. v.items ≡ left.now.rows ++ right.now.rows) }
+    ensures left { IsRelation left.now }
+    ensures right { IsRelation right.now }
+{
+    let (few, more) = (left.rows(), right.rows());
+    let mut rows = Vec::with_capacity(alloc, few.len().saturating_add(more.len()))?;
+    push_copies(alloc, &mut rows, few)?;
+    push_copies(alloc, &mut rows, more)?;
+    Ok(rows)
+}
+
+// The union under USING of a single attribute, without boxes. There is none where the rows could not be brought in order.
+fn united_on_one(
+    alloc: Global,
+    left: &Relation,
+    right: &Relation,
+    commalist: &[usize],
+) -> Result<Option<Relation>, RowsRefuse>
+    requires heading { left.now.heading ≡ right.now.heading }
+    requires intervals { AreIntervals left.now.heading commalist.now }
+    ensures { let rows = packed commalist.now (united (unpacked commalist.now left.now.rows) (unpacked commalist.now right.now.rows)) in
+        MatchResult result (λ o. IfSome o (IsAnswer left.now.heading rows)) (IsRefusal rows) }
+{
+    if commalist.len() != 1 {
+        return Ok(None);
+    }
+    let heading = left.heading().copy(alloc)?;
+    let rows = rows_of_both(alloc, left, right)?;
+    coalesced(alloc, heading, commalist[0], rows)
+}
+
 /// The union of two relations of one heading under USING of the attributes at the positions: the rows of either, both unpacked, are
 /// packed.
 ///
-/// Rows that are apart stay as they are, so that there is no more to do than to merge them.
+/// Under USING of a single attribute the rows themselves are joined. Else the sweep goes over their boxes.
 pub fn united<L: Ledger>(
     alloc: Global,
     left: &Relation,
@@ -147,9 +180,8 @@ pub fn united<L: Ledger>(
         MatchResult result (IsAnswer left.now.heading rows) (IsRefusal rows) }
     ensures cost { steps.new ≤ steps.old + bound (length left.now.rows + length right.now.rows) (length commalist.now) }
 {
-    let apart = stay_apart(alloc, left, right, commalist)?;
-    if apart {
-        return relation_core::union(alloc, left, right);
+    match united_on_one(alloc, left, right, commalist)? {
+        Some(relation) => Ok(relation),
+        None => united_by_boxes(alloc, left, right, commalist, steps),
     }
-    united_by_boxes(alloc, left, right, commalist, steps)
 }

@@ -8,7 +8,7 @@ use Rattle.cell_packing.specs.Boxed.{packed_boxes}
 use Rattle.u_set.specs.Boxes.{others, boxed}
 use Rattle.u_set.proofs.BridgeLemmas.{packed_rows}
 use Rattle.u_set.proofs.RelationLemmas.{relation_shaped, answer_read, refusal_read, labels_read}
-use Rattle.u_set.proofs.packing.packed.Goals as goal
+use Rattle.u_set.proofs.packing.packed_by_boxes.Goals as goal
 
 pub from_boxes-requires-clause-labels : goal.from_boxes-requires-clause-labels
 from_boxes-requires-clause-labels g c =
