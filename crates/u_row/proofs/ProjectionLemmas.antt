@@ -1,5 +1,5 @@
 -- The parts of unpacked rows, packed, are those of the boxes under the parts of their labels.
-use Rattle.std.proofs.Common.{◌≡◌, ◌↔◌, inl, inr, ℕ, ◌<◌, false, List, [], ◌∷◌, map, length, get_or, refl, sym, ap, ap₂, ◌∙◌, subst}
+use Rattle.std.proofs.Common.{◌≡◌, ◌↔◌, ℕ, ◌<◌, false, List, map, length, get_or, refl, sym, ap, ◌∙◌, subst}
 use Rattle.std.specs.Bool.{IsTrue}
 use Rattle.std.specs.List.{All}
 use Rattle.std.specs.Ordering.{nat_cmp}
@@ -7,28 +7,25 @@ use Rattle.std.proofs.lemmas.List.{get_or-map, length-map}
 use Rattle.base_core.proofs.SetLemmas.{In, Ascends, In-in_order, Ascends-in_order}
 use Rattle.base_core.proofs.MemberLemmas.{In-map}
 use Rattle.base_core.proofs.ListLemmas.{map-In}
-use Rattle.interval_core.specs.Members.{Span}
 use Rattle.point_core.specs.Points.{line_of}
-use Rattle.point_core.specs.declared.any_type.AnyType.{AnyType}
 use Rattle.value_core.specs.Attributes.{value_at, span_of, among}
 use Rattle.value_core.specs.Order.{row_total, row_separates}
 use Rattle.value_core.specs.RowPacking.{packed, unpacked}
-use Rattle.value_core.specs.Values.{Value, Row, Heading, truth, interval, row_cmp, fits_heading}
-use Rattle.value_core.specs.declared.kind.Kind.{Kind}
+use Rattle.value_core.specs.Values.{Row, Heading, truth, interval, row_cmp, rows_of, fits_heading}
 use Rattle.relation_core.specs.Agreement.{part_of}
 use Rattle.relation_core.specs.Parts.{no_attribute, kind_at, attributes_at, projected}
 use Rattle.relation_core.proofs.HeadingLemmas.{part_fits}
 use Rattle.cell_packing.specs.Boxed.{Boxed, packed_boxes, unpacked_boxes}
 use Rattle.cell_core.proofs.PackedGridPoints.{AllHave}
 use Rattle.cell_core.proofs.UnpackedLemmas.{in_unpacked_boxes}
-use Rattle.u_set.specs.Boxes.{AreIntervals, IsShaped, type_of, types_at, others, spans_at, boxed}
-use Rattle.u_set.proofs.BoxLemmas.{value_at-get, kind_listed}
+use Rattle.u_set.specs.Boxes.{AreIntervals, IsShaped, type_of, types_at, others, spans_at, boxed, unboxed}
+use Rattle.u_set.proofs.BoxLemmas.{value_at-get}
 use Rattle.u_set.proofs.BridgeLemmas.{AreRowsOf, boxes_have, unpacked_image, same_places, closed_by_boxes}
-use Rattle.u_row.specs.Kept.{inner, unlisted, beneath}
+use Rattle.u_row.specs.Kept.{inner, beneath}
 use Rattle.u_row.specs.Labels.{relabelled}
-use Rattle.u_row.proofs.BeneathLemmas.{among_in, in_among, in_all, beneath_listed, beneath_intervals, kind_beneath}
+use Rattle.u_row.proofs.BeneathLemmas.{among_in, in_all, beneath_listed, beneath_intervals, kind_beneath}
 use Rattle.u_row.proofs.LabelLemmas.{map_twice, label_of_kept, inner_within}
-use Rattle.u_row.proofs.PlaceLemmas.{relabelled_have}
+use Rattle.u_row.proofs.PlaceLemmas.{relabelled_have, packed_relabelled}
 
 module _ (from : Heading) (kept commalist : List ℕ) (within : All (λ (i : ℕ). i < length from) kept) (up : Ascends nat_cmp kept)
     (intervals : AreIntervals (attributes_at kept from) commalist) where
@@ -134,3 +131,15 @@ module _ (from : Heading) (kept commalist : List ℕ) (within : All (λ (i : ℕ
         subst (λ k. AreRowsOf to commalist (packed commalist parts) (packed_boxes row_cmp (length commalist) (map (relabelled (part_of (inner listed kept))) (unpacked_boxes row_cmp k (map (boxed listed) rows))))) same
         (closed_by_boxes to commalist intervals parts (Ascends-in_order row_cmp row_total row_separates (map part (unpacked listed rows))) parts_shaped
         (map (relabelled (part_of (inner listed kept))) boxes) points_have (same_places (map (boxed commalist) parts) (map (relabelled (part_of (inner listed kept))) boxes) members))
+
+    -- the boxes of the parts of the rows themselves pack to the same rows
+    pub own_rows : rows_of (map (unboxed to commalist) (packed_boxes row_cmp (length commalist) (map (boxed commalist) (map part rows)))) ≡ packed commalist (projected kept (unpacked listed rows))
+    own_rows =
+        let label : Row → Row = part_of (inner listed kept) in
+        let same : length listed ≡ length commalist = length-map commalist (λ j. get_or kept j 0) in
+        let have : AllHave (length commalist) (map (boxed listed) rows) = subst (λ k. AllHave k (map (boxed listed) rows)) same (boxes_have from listed (beneath_intervals from kept commalist within up intervals) rows) in
+        let own : map (boxed commalist) (map part rows) ≡ map (relabelled label) (map (boxed listed) rows) =
+        map_twice (boxed commalist) part rows ∙ (λ t. map (λ x. boxed_kept x t) rows) ∙ sym (map_twice (relabelled label) (boxed listed) rows) in
+        let form : packed_boxes row_cmp (length commalist) (map (boxed commalist) (map part rows)) ≡ packed_boxes row_cmp (length commalist) (map (relabelled label) (unpacked_boxes row_cmp (length commalist) (map (boxed listed) rows))) =
+        ap (packed_boxes row_cmp (length commalist)) own ∙ packed_relabelled label row_cmp row_total row_separates row_cmp row_total row_separates (length commalist) (map (boxed listed) rows) have in
+        ap (λ bs. rows_of (map (unboxed to commalist) bs)) form ∙ sym projected_rows.are

@@ -1,4 +1,4 @@
-use Rattle.std.proofs.Common.{◌≡◌, ◌+◌, ◌≤◌, Err, List, length, map, sym, ap, ◌∙◌, subst}
+use Rattle.std.proofs.Common.{◌+◌, ◌≤◌, Err, List, length, map, sym, ap, ◌∙◌, subst}
 use Rattle.std.specs.Bool.{IsTrue}
 use Rattle.std.specs.List.{All}
 use Rattle.point_core.specs.Points.{IsPointOf}
@@ -15,7 +15,7 @@ use Rattle.u_set.proofs.RelationLemmas.{answer_read, refusal_read, labels_read}
 use Rattle.u_row.specs.Kept.{inner, beneath}
 use Rattle.u_row.specs.Labels.{relabelled}
 use Rattle.u_row.proofs.PartLemmas.{whole_intervals, whole_types, whole_count, whole_rows, positions_kept}
-use Rattle.u_row.proofs.projection.projected.Goals as goal
+use Rattle.u_row.proofs.projection.projected_by_boxes.Goals as goal
 
 pub beneath-requires : goal.beneath-requires
 beneath-requires g c = positions_kept c.args.heading.now c.args.r.now.heading c.args.kept.now c.args.commalist.now c.requires.heading c.requires.intervals
