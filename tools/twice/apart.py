@@ -8,4 +8,12 @@ APART = {
     frozenset({('crates/u_constraints/src/near.rt', 'is_sought'), ('crates/relation_core/src/found.rt', 'is_sought')}): LOWER,
     frozenset({('crates/constant_laws/proofs/MeantInsertions.antt', 'positions-kept'), ('crates/eval_using/proofs/ListLemmas.antt', 'positions_back')}):
         'neither stands on the other; its place is meaning_core, on which nearly all others stand',
+    frozenset({('crates/cell_boxes/src/later.rt', 'push_range'), ('crates/u_join/src/sweeping.rt', 'push_range')}): LOWER,
+    frozenset({('crates/cell_boxes/src/later.rt', 'push_turned'), ('crates/u_join/src/sweeping.rt', 'push_turned')}): LOWER,
+    frozenset({('crates/scalar_core/proofs/PointLemmas.antt', 'same_line-self'), ('crates/u_join/proofs/MadeLemmas.antt', 'same_line-self')}):
+        'u_join does not stand on scalar_core; its place is value_core, on which nearly all others stand',
+    frozenset({('crates/relation_core/src/parts.rt', 'parts'), ('crates/u_row/src/projection.rt', 'all_parts')}): LOWER,
+    frozenset({('crates/relation_core/src/numbers.rt', 'bytes_hash'), ('crates/u_constraints/src/marks.rt', 'bytes_hash')}): LOWER,
+    frozenset({('crates/since_during/proofs/PlaceLemmas.antt', 'each-from'), ('crates/u_set/proofs/TimeLemmas.antt', 'each_from')}):
+        'neither stands on the other; its place is base_core, on which all others stand',
 }

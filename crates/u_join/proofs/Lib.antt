@@ -5,3 +5,9 @@ pub mod PairPlaces
 pub mod JoinedLemmas
 pub mod ListedLemmas
 pub mod CellLemmas
+pub mod StandingLemmas
+pub mod SweepingLemmas
+pub mod MadePlaces
+pub mod PairRowLemmas
+pub mod MadeLemmas
+pub mod MatchedRowLemmas

@@ -13,7 +13,7 @@ use Rattle.value_core.specs.RowPacking.{packed, unpacked}
 use Rattle.value_core.specs.Values.{Name, Heading, Row, attribute_cmp, row_cmp}
 use Rattle.value_core.specs.declared.kind.Kind.{Kind}
 use Rattle.relation_core.specs.Agreement.{names_of, position_of, common_positions, matched, unmatched}
-use Rattle.relation_core.specs.Joins.{joined_heading, HaveEqualKinds, joined}
+use Rattle.relation_core.specs.Joins.{joined_heading, HaveEqualKinds, joined_row, joined}
 use Rattle.relation_core.specs.Parts.{no_attribute, kind_at, attributes_at, positions_in}
 use Rattle.relation_core.proofs.AttributeLemmas.{one_attribute, joined_ascends, of_name}
 use Rattle.relation_core.proofs.AgreementLemmas.{position_within}
@@ -23,10 +23,10 @@ use Rattle.u_set.proofs.BridgeLemmas.{AreRowsOf}
 use Rattle.u_row.specs.Kept.{inner}
 use Rattle.u_row.proofs.BeneathLemmas.{in_all}
 use Rattle.u_row.proofs.LabelLemmas.{map_twice}
-use Rattle.u_join.specs.Pairs.{matched_boxes, unmatched_boxes, joined_label, joined_boxes}
+use Rattle.u_join.specs.Pairs.{matched_boxes, unmatched_boxes, joined_label, joined_box, joined_boxes}
 use Rattle.u_join.specs.Places.{positions_of_both}
 use Rattle.u_join.proofs.AgreeingLemmas.{keys_alike}
-use Rattle.u_join.proofs.JoinedLemmas.{joined_rows}
+use Rattle.u_join.proofs.JoinedLemmas.{boxed_joined, shaped_joined, joined_rows}
 use Rattle.u_join.proofs.MatchedLemmas.{matched_rows, unmatched_rows}
 use Rattle.u_join.proofs.NameLemmas.{name_back, position_at}
 
@@ -209,3 +209,33 @@ module _ (left right : Heading) (here there : List ℕ) (same : attributes_at he
         (packed_boxes row_cmp (n t) (joined_boxes (inner here (common_positions left left right)) (inner there (common_positions right left right))
         (joined_label (inner (positions_of_both (length left) here there) (positions_in (left ++ right) (e t))))
         (unpacked_boxes row_cmp (n t) (map (boxed here) r)) (unpacked_boxes row_cmp (n t) (map (boxed there) s))))) own
+
+  -- ---- one joined row
+
+  module _ (commalist : List ℕ) (whole_intervals : AreIntervals (joined_heading left right) commalist) (whole_up : Ascends attribute_cmp (joined_heading left right))
+      (whole_same : attributes_at commalist (joined_heading left right) ≡ attributes_at here left)
+      (x y : Row) (shaped : IsShaped left here x) (shaped' : IsShaped right there y) where
+    abbrev own : List ℕ
+    own = map (position_of (joined_heading left right)) names
+
+    listed_is : commalist ≡ own
+    listed_is = positions_back (joined_heading left right) commalist whole_up whole_intervals.within ∙ ap (λ (h : Heading). map (position_of (joined_heading left right)) (names_of h)) whole_same
+
+    pub shaped_at : IsShaped (joined_heading left right) commalist (joined_row left right x y)
+    shaped_at =
+        subst (λ ps. IsShaped (joined_heading left right) ps (joined_row left right x y)) (sym listed_is)
+        (shaped_joined left right first second kinds names in_left in_right x y (subst (λ ps. IsShaped left ps x) here_is shaped) (subst (λ ps. IsShaped right ps y) there_is shaped'))
+
+    abbrev IsBoxOfBoth : List ℕ → List ℕ → List ℕ → Type 0
+    IsBoxOfBoth a h t = boxed a (joined_row left right x y)
+        ≡ joined_box (joined_label (inner (positions_of_both (length left) h t) (positions_in (left ++ right) (joined_heading left right)))) (boxed h x) (boxed t y)
+
+    pub boxed_at : boxed commalist (joined_row left right x y)
+        ≡ joined_box (joined_label (inner (positions_of_both (length left) here there) (positions_in (left ++ right) (joined_heading left right)))) (boxed here x) (boxed there y)
+    boxed_at =
+        let made : IsBoxOfBoth own own_here own_there =
+        boxed_joined left right first second kinds names in_left in_right x y (subst (λ ps. IsShaped left ps x) here_is shaped) (subst (λ ps. IsShaped right ps y) there_is shaped') in
+        let a = sym listed_is in
+        let h = sym here_is in
+        let t = sym there_is in
+        subst (λ T. T) (λ i. IsBoxOfBoth (a i) (h i) (t i)) made

@@ -2,3 +2,4 @@ pub mod Pairs
 pub mod KeyedCellBox
 pub mod Places
 pub mod Shared
+pub mod RowPairs

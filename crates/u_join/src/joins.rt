@@ -23,6 +23,7 @@ ghost use Rattle.u_join.specs.Places.{positions_of_both};
 use crate::joining::{KeyPlaces, joined_form};
 use crate::labels::Places;
 use crate::places::{key_places, label_places};
+use crate::row_joins::joined_by_rows;
 use cell_core::{BoxRow, CellRefuse};
 use point_core::{AnyType, Steps};
 use std::alloc::Global;
@@ -134,5 +135,9 @@ pub fn joined<L: Ledger>(
     if commalist.len() == 0 {
         return relation_core::join(alloc, left, right);
     }
-    joined_by_boxes(alloc, heading, commalist, left, right, here, there, steps)
+    match joined_by_rows(alloc, heading, commalist, left, right, here, there) {
+        Ok(Some(answer)) => Ok(answer),
+        Ok(None) => joined_by_boxes(alloc, heading, commalist, left, right, here, there, steps),
+        Err(refuse) => Err(refuse),
+    }
 }

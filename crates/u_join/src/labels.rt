@@ -41,8 +41,8 @@ impl Model for Places {
     ghost view = { λ p. p.list.items };
 }
 
-// The values at the places among those of both labels.
-fn joined_values(
+/// The values at the places among those of both labels.
+pub(crate) fn joined_values(
     alloc: Global,
     ours: &[Value],
     theirs: &[Value],

@@ -9,8 +9,14 @@ mod matches;
 mod matching;
 mod names;
 mod needed;
+mod pairing;
 mod places;
+mod row_joins;
+mod row_matches;
+mod row_pairs;
 mod shared;
+mod standing;
+mod sweeping;
 mod tuning;
 
 pub use joining::u_join;

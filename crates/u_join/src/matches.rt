@@ -20,6 +20,7 @@ ghost use Rattle.u_join.specs.Pairs.{matched_boxes, unmatched_boxes};
 
 use crate::matching::{matched_in_limit, unmatched_in_limit};
 use crate::places::key_pairs;
+use crate::row_matches::matched_by_rows;
 use cell_core::{BoxRow, CellRefuse};
 use point_core::{AnyType, Steps};
 use std::alloc::Global;
@@ -186,7 +187,11 @@ pub fn matched<L: Ledger>(
     if here.len() == 0 {
         return relation_core::matching(alloc, left, right);
     }
-    matched_by_boxes(alloc, left, right, here, there, steps)
+    match matched_by_rows(alloc, left, right, here, there) {
+        Ok(Some(answer)) => Ok(answer),
+        Ok(None) => matched_by_boxes(alloc, left, right, here, there, steps),
+        Err(refuse) => Err(refuse),
+    }
 }
 
 /// NOT MATCHING under USING of the attributes that stand at these positions of both headings: of the left rows those that agree with no

@@ -1,4 +1,4 @@
-// The numbers by which the left rows are made fewer first or not. Only speed hangs on them.
+// Numbers on which only speed hangs: by which the left rows are made fewer first or not, and rows are paired or not.
 
 /// Of fewer left rows than these none is tried.
 pub(crate) const FEWEST_TRIED: usize = 512;
@@ -11,3 +11,6 @@ pub(crate) const MANY_LABELS: usize = 60;
 
 /// So many rights at most, for each left row that is tried, are few.
 pub(crate) const FEW_RIGHTS: usize = 4;
+
+/// So many pairs at most, for each row of the operands, are few.
+pub(crate) const PAIRS_A_ROW: usize = 4;
