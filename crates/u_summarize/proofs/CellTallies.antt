@@ -89,10 +89,14 @@ module _ (by : List ℕ) (rows : List (PlainCellBox Row)) (entries : List (Plain
   label_same : (r s : ℕ) → get_or labels r [] ≡ get_or labels s [] → (row_at rows r).0 ≡ (row_at rows s).0
   label_same r s e = label_at r ∙ e ∙ sym (label_at s)
 
-  pub entry_sides : (k : ℕ) → All (λ (x : PlainCellBox Row). length x.1 ≡ k) rows → All (λ (z : PlainKeyedCellBox Row ℕ). length z.2 ≡ k) entries
-  entry_sides k all = all_from_members (λ (z : PlainKeyedCellBox Row ℕ). length z.2 ≡ k) entries (λ z m.
-      let w = are.from z m in
-      ap length w.2 ∙ row_all (λ (x : PlainCellBox Row). length x.1 ≡ k) rows all w.0 (row_at rows w.0) (some_row rows w.0 none w.1))
+  pub keys_sides : (k : ℕ) → All (λ (x : PlainCellBox Row). length x.1 ≡ k) rows → All (λ (x : PlainCellBox Row). length x.1 ≡ k) keys
+  keys_sides k all = all_from_members (λ (x : PlainCellBox Row). length x.1 ≡ k) keys (λ x m.
+      let w = among_row keys x m in
+      let c = paired.count in
+      let l = w.1.0 in
+      let n = row_there numbers w.0 (omega (arith, c, l)) in
+      let v = are.from (x.0, n.0, x.1) (paired.from w.0 x n.0 w.1 n.1) in
+      ap length v.2 ∙ row_all (λ (y : PlainCellBox Row). length y.1 ≡ k) rows all v.0 (row_at rows v.0) (some_row rows v.0 none v.1))
 
   pub numbers_low : All (λ (m : ℕ). m < n) numbers
   numbers_low = all_from_members (λ (m : ℕ). m < n) numbers (λ m h.

@@ -1,22 +1,27 @@
 -- Rows by their labels, and the numbers that stand for these.
-use Rattle.std.proofs.Common.{◌≡◌, ◌↔◌, ◌⊎◌, inl, inr, ℕ, zero, suc, ◌+◌, ◌<◌, ◌≤◌, Bool, true, false, List, [], ◌∷◌, ◌++◌, length, get_or, arith, refl, sym, ap, ◌∙◌, subst}
+use Rattle.std.proofs.Common.{◌≡◌, ◌↔◌, ◌⊎◌, inl, inr, ℕ, zero, suc, ◌+◌, ◌<◌, ◌≤◌, Bool, true, false, List, [], ◌∷◌, ◌++◌, map, length, get_or, set, arith, refl, sym, ap, ◌∙◌, subst}
 use Rattle.std.specs.Prelude.{if◌then◌else◌}
-use Rattle.std.specs.Ordering.{eq_by_cmp}
+use Rattle.std.specs.Ordering.{eq_by_cmp, is_lt}
 use Rattle.std.specs.declared.cmp.Ordering.TheVariants.{Less, Equal}
 use Rattle.std.proofs.lemmas.Bool.{cases_lt, cases_Bool}
 use Rattle.std.proofs.lemmas.Cmp.{tied_itself}
-use Rattle.std.proofs.lemmas.List.{get_or_default}
+use Rattle.std.proofs.lemmas.List.{get_or_default, get_or-set_same, get_or-set_other, length-map}
+use Rattle.std.specs.List.{All}
+use Rattle.std.specs.List.Sorted.{IsPermutation, IsSortedBy}
 use Rattle.base_core.proofs.MemberLemmas.{eq_by_cmp-≡}
 use Rattle.value_core.specs.Order.{row_total, row_separates}
 use Rattle.value_core.specs.Values.{Row, row_cmp}
 use Rattle.relation_core.specs.Agreement.{part_of}
 use Rattle.cell_packing.specs.Covering.{Among}
-use Rattle.cell_packing.proofs.AmongLemmas.{among_append}
+use Rattle.cell_packing.proofs.AmongLemmas.{among_append, all_from_members}
+use Rattle.cell_sweep.specs.Rows.{key_cmp}
 use Rattle.cell_boxes.specs.Answers.{PlainKeyedCellBox}
-use Rattle.cell_boxes.specs.Keys.{ArePaired}
-use Rattle.cell_boxes.specs.Rows.{Ascend, PlainCellBox}
-use Rattle.cell_boxes.proofs.RowLemmas.{some_row}
-use Rattle.u_summarize.specs.Entries.{Listed, row_at, labelled_row, standing, keyed_row, AreKeyed}
+use Rattle.cell_boxes.specs.Keys.{key_of, keyed_cmp}
+use Rattle.cell_boxes.specs.Rows.{Ascend, IsRow, PlainCellBox}
+use Rattle.cell_boxes.proofs.RowLemmas.{some_row, among_row, row_among, map_row, ascend_from_sorted}
+use Rattle.cell_boxes.proofs.OperatorLemmas.{keys_ascend}
+use Rattle.cell_sweep.proofs.MovedLemmas.{among_moved}
+use Rattle.u_summarize.specs.Entries.{Listed, row_at, entry_at, bare_row, part_row, standing, numbered_row, AreDealt, AreKeyed, AreArranged}
 
 -- ---- lists that are made one by one
 
@@ -39,52 +44,139 @@ listed_more f old new r y made e is z =
           ])),
     )
 
-pub labelled_is : (rows : List (PlainCellBox Row)) (r : ℕ) (x : PlainCellBox Row) (y : PlainKeyedCellBox Row ℕ) → get_or rows r ([], []) ≡ x → y ≡ (x.0, r, x.1) → y ≡ labelled_row rows r
-labelled_is rows r x y at made = made ∙ ap (λ (w : PlainCellBox Row). (w.0, r, w.1)) (sym at)
+pub bare_is : (rows : List (PlainCellBox Row)) (r m : ℕ) (x : PlainCellBox Row) (y : PlainKeyedCellBox Row ℕ) → get_or rows r ([], []) ≡ x → m ≡ r → y ≡ (x.0, m, []) → y ≡ bare_row rows r
+bare_is rows r m x y at e made = made ∙ ap (λ (w : PlainCellBox Row). (w.0, m, [])) (sym at) ∙ ap (λ (k : ℕ). ((row_at rows r).0, k, [])) e
 
-pub keyed_is : (by : List ℕ) (keys : List (PlainCellBox Row)) (numbers : List ℕ) (i : ℕ) (x : PlainCellBox Row) (m : ℕ) (y : PlainKeyedCellBox Row ℕ) → get_or keys i ([], []) ≡ x → m ≡ standing keys numbers i → y ≡ (part_of by x.0, m, x.1) → y ≡ keyed_row by keys numbers i
-keyed_is by keys numbers i x m y at s made = made ∙ ap (λ (w : PlainCellBox Row). (part_of by w.0, m, w.1)) (sym at) ∙ ap (λ k. (part_of by (row_at keys i).0, k, (row_at keys i).1)) s
+pub numbered_is : (rows : List (PlainCellBox Row)) (numbers : List ℕ) (r m : ℕ) (x : PlainCellBox Row) (y : PlainKeyedCellBox Row ℕ) → get_or rows r ([], []) ≡ x → m ≡ get_or numbers r 0 → y ≡ (x.0, m, x.1) → y ≡ numbered_row rows numbers r
+numbered_is rows numbers r m x y at e made = made ∙ ap (λ (w : PlainCellBox Row). (w.0, m, w.1)) (sym at) ∙ ap (λ k. ((row_at rows r).0, k, (row_at rows r).1)) e
+
+-- ---- numbers that are put at the places that numbers name
+
+pub dealt_more : (labels : List (PlainKeyedCellBox Row ℕ)) (out new : List ℕ) (i s : ℕ) → (entry_at labels i).1 < length out → s ≡ standing labels i → new ≡ set out (entry_at labels i).1 s → AreDealt labels i out → AreDealt labels (i + 1) new
+dealt_more labels out new i s low is made before = λ j l. elim (cases_eq (number j) (number i)) [
+  | inl e ↦ (
+    i,
+    omega arith,
+    sym e,
+    ap (λ (xs : List ℕ). get_or xs (number j) 0) made ∙ ap (λ k. get_or (set out (number i) s) k 0) e ∙ get_or-set_same out (number i) s 0 low ∙ is,
+  )
+  | inr n ↦ elim (cases_lt j i) [
+    | inl k ↦ let w = before j k in let b = w.1 in (
+      w.0,
+      omega (arith, b),
+      w.2,
+      ap (λ (xs : List ℕ). get_or xs (number j) 0) made ∙ get_or-set_other out (number i) (number j) s 0 n ∙ w.3,
+    )
+    | inr k ↦ let q : j ≡ i = omega (arith, l, k) in absurd (n (ap number q))
+  ]
+]
+  where
+    number : ℕ → ℕ
+    number j = (entry_at labels j).1
+
+    cases_eq : (x y : ℕ) → (x ≡ y) ⊎ (x ≡ y → ⊥)
+    cases_eq x y = elim (cases_lt x y) [
+      | inl k ↦ inr (λ e. omega (arith, k, e))
+      | inr k ↦ elim (cases_lt y x) [
+        | inl h ↦ inr (λ e. omega (arith, h, e))
+        | inr h ↦ inl (omega (arith, k, h))
+      ]
+    ]
+
+-- ---- rows that stand in order, with their numbers
+
+pub stand : (rows : List (PlainCellBox Row)) → ((k : ℕ) → k + 1 < length rows → is_lt (key_cmp row_cmp (row_at rows (k + 1)) (row_at rows k)) ≡ false) → Ascend row_cmp rows
+stand rows each = ascend_from_sorted row_cmp row_total rows (λ k d low high.
+    subst (λ x. is_lt (key_cmp row_cmp x (get_or rows k d)) ≡ false) (get_or_default rows (k + 1) ([], []) d high)
+    (subst (λ y. is_lt (key_cmp row_cmp (row_at rows (k + 1)) y) ≡ false) (get_or_default rows k ([], []) d (omega (arith, high))) (each k high)))
+
+-- the rows and their numbers, as entries
+abbrev zipped : List (PlainCellBox Row) → List ℕ → List (PlainKeyedCellBox Row ℕ)
+zipped [] ms = []
+zipped (x ∷ xs) [] = []
+zipped (x ∷ xs) (m ∷ ms) = (x.0, m, x.1) ∷ zipped xs ms
+
+zipped_from : (xs : List (PlainCellBox Row)) (ms : List ℕ) (i : ℕ) (x : PlainCellBox Row) (m : ℕ) → IsRow xs i x → IsRow ms i m → Among (x.0, m, x.1) (zipped xs ms)
+zipped_from [] ms i x m a b = absurd (let l = a.0 in omega (arith, l))
+zipped_from (y ∷ ys) [] i x m a b = absurd (let l = b.0 in omega (arith, l))
+zipped_from (y ∷ ys) (n ∷ ns) zero x m a b = inl (λ t. ((a.1 t).0, b.1 t, (a.1 t).1))
+zipped_from (y ∷ ys) (n ∷ ns) (suc i) x m a b = let k = a.0 in let l = b.0 in inr (zipped_from ys ns i x m (omega (arith, k), a.1) (omega (arith, l), b.1))
+
+zipped_to : (xs : List (PlainCellBox Row)) (ms : List ℕ) (z : PlainKeyedCellBox Row ℕ) → Among z (zipped xs ms) → (i : ℕ) × IsRow xs i (z.0, z.2) × IsRow ms i z.1
+zipped_to [] ms z h = absurd h
+zipped_to (y ∷ ys) [] z h = absurd h
+zipped_to (y ∷ ys) (n ∷ ns) z h = elim h [
+  | inl e ↦ (zero, (omega arith, λ t. ((e t).0, (e t).2)), (omega arith, ap (λ (w : PlainKeyedCellBox Row ℕ). w.1) e))
+  | inr m ↦ let w = zipped_to ys ns z m in let a = w.1.0 in let b = w.2.0 in (suc w.0, (omega (arith, a), w.1.1), (omega (arith, b), w.2.1))
+]
+
+pub in_turn : (rows : List (PlainCellBox Row)) (numbers : List ℕ) → length numbers ≡ length rows → AreArranged rows numbers rows numbers
+in_turn rows numbers many = record {
+  entries = zipped rows numbers;
+  listed = λ z. (
+    λ h.
+        let w = zipped_to rows numbers z h in
+        let x : PlainCellBox Row = (z.0, z.2) in
+        let k : row_at rows w.0 ≡ x = get_or_default rows w.0 ([], []) x w.1.0 ∙ w.1.1 in
+        let n : get_or numbers w.0 0 ≡ z.1 = get_or_default numbers w.0 0 z.1 w.2.0 ∙ w.2.1 in
+        (w.0, w.1.0, λ t. ((sym k t).0, sym n t, (sym k t).1)),
+    λ h.
+        let l = h.1 in
+        subst (λ y. Among y (zipped rows numbers)) (sym h.2)
+        (zipped_from rows numbers h.0 (row_at rows h.0) (get_or numbers h.0 0) (some_row rows h.0 ([], []) l) (some_row numbers h.0 0 (omega (arith, l, many)))),
+  );
+  paired = record { count = many; from = λ i x m a b. zipped_from rows numbers i x m a b; to = λ z h. zipped_to rows numbers z h };
+}
 
 -- ---- numbers that stand for labels
 
-module _ (rows : List (PlainCellBox Row)) (given : List (PlainKeyedCellBox Row ℕ)) (are : Listed (labelled_row rows) (length rows) given)
-    (keys : List (PlainCellBox Row)) (numbers : List ℕ) (paired : ArePaired given keys numbers) (up : Ascend row_cmp keys) where
+module _ (rows : List (PlainCellBox Row)) (given : List (PlainKeyedCellBox Row ℕ)) (are : Listed (bare_row rows) (length rows) given)
+    (list : List (PlainKeyedCellBox Row ℕ)) (moved : IsPermutation given list) (order : IsSortedBy (λ x y. is_lt (keyed_cmp row_cmp x y)) list) where
   abbrev none : PlainCellBox Row
   none = ([], [])
 
+  abbrev no_entry : PlainKeyedCellBox Row ℕ
+  no_entry = ([], 0, [])
+
   abbrev label_of : ℕ → Row
-  label_of i = (row_at keys i).0
+  label_of i = (entry_at list i).0
+
+  abbrev number_of : ℕ → ℕ
+  number_of i = (entry_at list i).1
 
   same_test : (i j : ℕ) → (eq_by_cmp row_cmp (label_of i) (label_of j) ≡ true) ↔ (label_of i ≡ label_of j)
   same_test i j = eq_by_cmp-≡ row_cmp row_total row_separates (label_of i) (label_of j)
 
-  many : length numbers ≡ length keys
-  many = paired.count
+  same : (z : PlainKeyedCellBox Row ℕ) → Among z list ↔ Among z given
+  same z = among_moved given list moved z
 
-  -- the row with the number of a key has its label and its cells
-  own_row : (i : ℕ) → i < length keys → (get_or numbers i 0 < length rows) × (label_of i ≡ (row_at rows (get_or numbers i 0)).0) × ((row_at keys i).1 ≡ (row_at rows (get_or numbers i 0)).1)
-  own_row i l =
-      let c = many in
-      let k = some_row keys i none l in
-      let n = some_row numbers i 0 (omega (arith, l, c)) in
-      let z : PlainKeyedCellBox Row ℕ = ((row_at keys i).0, get_or numbers i 0, (row_at keys i).1) in
-      let w = (are z).0 (paired.from i (row_at keys i) (get_or numbers i 0) k n) in
-      let e : get_or numbers i 0 ≡ w.0 = ap (λ (x : PlainKeyedCellBox Row ℕ). x.1) w.2 in
-      let m = w.1 in (
-        omega (arith, e, m),
+  -- the row with the number of a label has it
+  own : (z : PlainKeyedCellBox Row ℕ) → Among z list → (z.1 < length rows) × (z.0 ≡ (row_at rows z.1).0)
+  own z h =
+      let w = (are z).0 ((same z).0 h) in
+      let e : z.1 ≡ w.0 = ap (λ (x : PlainKeyedCellBox Row ℕ). x.1) w.2 in (
+        subst (λ k. k < length rows) (sym e) w.1,
         ap (λ (x : PlainKeyedCellBox Row ℕ). x.0) w.2 ∙ ap (λ r. (row_at rows r).0) (sym e),
-        ap (λ (x : PlainKeyedCellBox Row ℕ). x.2) w.2 ∙ ap (λ r. (row_at rows r).1) (sym e),
       )
+
+  own_row : (i : ℕ) → i < length list → (number_of i < length rows) × (label_of i ≡ (row_at rows (number_of i)).0)
+  own_row i l = own (entry_at list i) (row_among list i (entry_at list i) (some_row list i no_entry l))
+
+  pub numbers_within : All (λ (z : PlainKeyedCellBox Row ℕ). z.1 < length rows) list
+  numbers_within = all_from_members (λ (z : PlainKeyedCellBox Row ℕ). z.1 < length rows) list (λ z h. (own z h).0)
+
+  up : Ascend row_cmp (map key_of list)
+  up = keys_ascend row_cmp row_total given list moved (map key_of list) (map (λ (z : PlainKeyedCellBox Row ℕ). z.1) list) refl refl order
 
   chosen : (b : Bool) (x y : ℕ) → (b ≡ true → (if b then x else y) ≡ x) × (b ≡ false → (if b then x else y) ≡ y)
   chosen true x y = (λ e. refl, λ e. absurd cc)
   chosen false x y = (λ e. absurd cc, λ e. refl)
 
-  stands_for : (i : ℕ) → i < length keys → (standing keys numbers i < length rows) × ((row_at rows (standing keys numbers i)).0 ≡ label_of i)
+  stands_for : (i : ℕ) → i < length list → (standing list i < length rows) × ((row_at rows (standing list i)).0 ≡ label_of i)
   stands_for zero l = let w = own_row 0 l in (w.0, sym w.1)
   stands_for (suc i) l =
       let t = eq_by_cmp row_cmp (label_of i) (label_of (suc i)) in
-      let ch = chosen t (standing keys numbers i) (get_or numbers (suc i) 0) in
+      let ch = chosen t (standing list i) (number_of (suc i)) in
       elim (cases_Bool t) [
         | inl e ↦
             let w = stands_for i (omega (arith, l)) in
@@ -100,14 +192,17 @@ module _ (rows : List (PlainCellBox Row)) (given : List (PlainKeyedCellBox Row �
             )
       ]
 
-  before_or_same : (i j : ℕ) → i ≤ j → j < length keys → (row_cmp (label_of i) (label_of j) ≡ Less) ⊎ (label_of i ≡ label_of j)
-  before_or_same i j l m = elim (up i j (row_at keys i) (row_at keys j) l (some_row keys i none (omega (arith, l, m))) (some_row keys j none m)) [
+  key_row : (i : ℕ) → i < length list → IsRow (map key_of list) i (key_of (entry_at list i))
+  key_row i l = map_row key_of list i (entry_at list i) (some_row list i no_entry l)
+
+  before_or_same : (i j : ℕ) → i ≤ j → j < length list → (row_cmp (label_of i) (label_of j) ≡ Less) ⊎ (label_of i ≡ label_of j)
+  before_or_same i j l m = elim (up i j (key_of (entry_at list i)) (key_of (entry_at list j)) l (key_row i (omega (arith, l, m))) (key_row j m)) [
     | inl e ↦ inl e
     | inr w ↦ inr (row_separates (label_of i) (label_of j) w.0)
   ]
 
   -- what stands between equal labels is equal
-  between : (i j k : ℕ) → i ≤ j → j ≤ k → k < length keys → label_of i ≡ label_of k → label_of i ≡ label_of j
+  between : (i j k : ℕ) → i ≤ j → j ≤ k → k < length list → label_of i ≡ label_of k → label_of i ≡ label_of j
   between i j k l m n e = elim (before_or_same i j l (omega (arith, m, n))) [
     | inl a ↦ elim (before_or_same j k m n) [
       | inl b ↦ absurd (not_both (label_of i) (label_of j) a (subst (λ x. row_cmp (label_of j) x ≡ Less) (sym e) b))
@@ -119,54 +214,91 @@ module _ (rows : List (PlainCellBox Row)) (given : List (PlainKeyedCellBox Row �
       not_both : (x y : Row) → row_cmp x y ≡ Less → row_cmp y x ≡ Less → ⊥
       not_both x y a b = let e : Less ≡ Equal = sym (row_total.trans x y x a b) ∙ tied_itself row_total x in cc
 
-  one_stands : (i j : ℕ) → i ≤ j → j < length keys → label_of i ≡ label_of j → standing keys numbers i ≡ standing keys numbers j
-  one_stands i zero l m e = let q : i ≡ 0 = omega (arith, l) in ap (standing keys numbers) q
+  one_stands : (i j : ℕ) → i ≤ j → j < length list → label_of i ≡ label_of j → standing list i ≡ standing list j
+  one_stands i zero l m e = let q : i ≡ 0 = omega (arith, l) in ap (standing list) q
   one_stands i (suc j) l m e = elim (cases_lt i (suc j)) [
     | inl k ↦
         let b = between i j (suc j) (omega (arith, k)) (omega arith) m e in
-        let s = (chosen (eq_by_cmp row_cmp (label_of j) (label_of (suc j))) (standing keys numbers j) (get_or numbers (suc j) 0)).0 ((same_test j (suc j)).1 (sym b ∙ e)) in
+        let s = (chosen (eq_by_cmp row_cmp (label_of j) (label_of (suc j))) (standing list j) (number_of (suc j))).0 ((same_test j (suc j)).1 (sym b ∙ e)) in
         one_stands i j (omega (arith, k)) (omega (arith, m)) b ∙ sym s
-    | inr k ↦ let q : i ≡ suc j = omega (arith, k, l) in ap (standing keys numbers) q
+    | inr k ↦ let q : i ≡ suc j = omega (arith, k, l) in ap (standing list) q
   ]
 
-  pub keyed : (by : List ℕ) (entries : List (PlainKeyedCellBox Row ℕ)) → Listed (keyed_row by keys numbers) (length keys) entries → AreKeyed by rows entries
-  keyed by entries made = record {
-    within = λ z m.
-        let w = (made z).0 m in
-        subst (λ k. k < length rows) (sym (ap (λ (x : PlainKeyedCellBox Row ℕ). x.1) w.2)) (stands_for w.0 w.1).0;
-    from = λ z m.
-        let w = (made z).0 m in
-        let o = own_row w.0 w.1 in
-        let s = stands_for w.0 w.1 in
-        let e : z.1 ≡ standing keys numbers w.0 = ap (λ (x : PlainKeyedCellBox Row ℕ). x.1) w.2 in (
-          get_or numbers w.0 0,
-          o.0,
-          ap (λ (x : PlainKeyedCellBox Row ℕ). x.2) w.2 ∙ o.2,
-          ap (λ k. (row_at rows k).0) e ∙ s.1 ∙ o.1,
-          ap (λ (x : PlainKeyedCellBox Row ℕ). x.0) w.2 ∙ ap (part_of by) o.1,
-        );
-    to = λ r l.
-        let m : Among (labelled_row rows r) given = (are (labelled_row rows r)).1 (r, l, refl) in
-        let w = paired.to (labelled_row rows r) m in
-        let i = w.0 in
-        let b : i < length keys = w.1.0 in
-        let k : row_at keys i ≡ row_at rows r = get_or_default keys i none (row_at rows r) b ∙ w.1.1 in
-        let s = stands_for i b in (
-          keyed_row by keys numbers i,
-          (made (keyed_row by keys numbers i)).1 (i, b, refl),
-          ap (λ (x : PlainCellBox Row). x.1) k,
-          s.1 ∙ ap (λ (x : PlainCellBox Row). x.0) k,
-        );
-    one = λ z w m n e.
-        let a = (made z).0 m in
-        let b = (made w).0 n in
-        let ea : z.1 ≡ standing keys numbers a.0 = ap (λ (x : PlainKeyedCellBox Row ℕ). x.1) a.2 in
-        let eb : w.1 ≡ standing keys numbers b.0 = ap (λ (x : PlainKeyedCellBox Row ℕ). x.1) b.2 in
-        let la = (stands_for a.0 a.1).1 in
-        let lb = (stands_for b.0 b.1).1 in
-        let same : label_of a.0 ≡ label_of b.0 = sym la ∙ ap (λ k. (row_at rows k).0) (sym ea) ∙ e ∙ ap (λ k. (row_at rows k).0) eb ∙ lb in
-        ea ∙ elim (cases_lt a.0 b.0) [
-          | inl l ↦ one_stands a.0 b.0 (omega (arith, l)) b.1 same
-          | inr l ↦ sym (one_stands b.0 a.0 l a.1 (sym same))
-        ] ∙ sym eb;
-  }
+  module _ (out : List ℕ) (dealt : AreDealt list (length list) out) where
+    -- what is put for a row stands for its label
+    placed : (r : ℕ) → r < length rows → (k : ℕ) × (k < length list) × (get_or out r 0 ≡ standing list k) × (label_of k ≡ (row_at rows r).0)
+    placed r l =
+        let m : Among (bare_row rows r) given = (are (bare_row rows r)).1 (r, l, refl) in
+        let w = among_row list (bare_row rows r) ((same (bare_row rows r)).1 m) in
+        let d = dealt w.0 w.1.0 in
+        let e : entry_at list w.0 ≡ bare_row rows r = get_or_default list w.0 no_entry (bare_row rows r) w.1.0 ∙ w.1.1 in
+        let n : number_of w.0 ≡ r = ap (λ (x : PlainKeyedCellBox Row ℕ). x.1) e in (
+          d.0,
+          d.1,
+          ap (λ x. get_or out x 0) (sym n) ∙ d.3,
+          (own_row d.0 d.1).1 ∙ ap (λ x. (row_at rows x).0) (d.2 ∙ n),
+        )
+
+    -- it is the number of a row with its label
+    put : (r : ℕ) → r < length rows → (get_or out r 0 < length rows) × ((row_at rows (get_or out r 0)).0 ≡ (row_at rows r).0)
+    put r l =
+        let p = placed r l in
+        let s = stands_for p.0 p.1 in (
+          subst (λ k. k < length rows) (sym p.2) s.0,
+          ap (λ k. (row_at rows k).0) p.2 ∙ s.1 ∙ p.3,
+        )
+
+    one_put : (r q : ℕ) → r < length rows → q < length rows → (row_at rows r).0 ≡ (row_at rows q).0 → get_or out r 0 ≡ get_or out q 0
+    one_put r q l m e =
+        let a = placed r l in
+        let b = placed q m in
+        let same : label_of a.0 ≡ label_of b.0 = a.3 ∙ e ∙ sym b.3 in
+        a.2 ∙ elim (cases_lt a.0 b.0) [
+          | inl k ↦ one_stands a.0 b.0 (omega (arith, k)) b.1 same
+          | inr k ↦ sym (one_stands b.0 a.0 k a.1 (sym same))
+        ] ∙ sym b.2
+
+    part_at : (by : List ℕ) (r : ℕ) → r < length rows → row_at (map (part_row by) rows) r ≡ part_row by (row_at rows r)
+    part_at by r l = let w = map_row (part_row by) rows r (row_at rows r) (some_row rows r none l) in get_or_default (map (part_row by) rows) r none (part_row by (row_at rows r)) w.0 ∙ w.1
+
+    pub keyed : (by : List ℕ) (entries : List (PlainKeyedCellBox Row ℕ)) → Listed (numbered_row (map (part_row by) rows) out) (length (map (part_row by) rows)) entries → AreKeyed by rows entries
+    keyed by entries made = record {
+      within = λ z m. let w = come z m in subst (λ k. k < length rows) (sym (number_of z w.0 w.2)) (put w.0 w.1).0;
+      from = λ z m. let w = come z m in (
+        w.0,
+        w.1,
+        ap (λ (x : PlainKeyedCellBox Row ℕ). x.2) w.2,
+        ap (λ k. (row_at rows k).0) (number_of z w.0 w.2) ∙ (put w.0 w.1).1,
+        ap (λ (x : PlainKeyedCellBox Row ℕ). x.0) w.2,
+      );
+      to = λ r l. (
+        row_of r,
+        (made (row_of r)).1 (r, subst (λ k. r < k) (sym count) l, sym (made_at r l)),
+        refl,
+        (put r l).1,
+      );
+      one = λ z w m n e.
+          let a = come z m in
+          let b = come w n in
+          let ea = number_of z a.0 a.2 in
+          let eb = number_of w b.0 b.2 in
+          let la = (put a.0 a.1).1 in
+          let lb = (put b.0 b.1).1 in
+          let same : (row_at rows a.0).0 ≡ (row_at rows b.0).0 = sym la ∙ ap (λ k. (row_at rows k).0) (sym ea) ∙ e ∙ ap (λ k. (row_at rows k).0) eb ∙ lb in
+          ea ∙ one_put a.0 b.0 a.1 b.1 same ∙ sym eb;
+    }
+      where
+        count : length (map (part_row by) rows) ≡ length rows
+        count = length-map rows (part_row by)
+
+        row_of : ℕ → PlainKeyedCellBox Row ℕ
+        row_of r = (part_of by (row_at rows r).0, get_or out r 0, (row_at rows r).1)
+
+        made_at : (r : ℕ) → r < length rows → numbered_row (map (part_row by) rows) out r ≡ row_of r
+        made_at r l = ap (λ (x : PlainCellBox Row). (x.0, get_or out r 0, x.1)) (part_at by r l)
+
+        come : (z : PlainKeyedCellBox Row ℕ) → Among z entries → (r : ℕ) × (r < length rows) × (z ≡ row_of r)
+        come z m = let w = (made z).0 m in let l = subst (λ k. w.0 < k) count w.1 in (w.0, l, w.2 ∙ made_at w.0 l)
+
+        number_of : (z : PlainKeyedCellBox Row ℕ) (r : ℕ) → z ≡ row_of r → z.1 ≡ get_or out r 0
+        number_of z r e = ap (λ (x : PlainKeyedCellBox Row ℕ). x.1) e

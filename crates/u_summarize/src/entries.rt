@@ -1,24 +1,126 @@
 // Rows with the numbers that stand for their labels, under the parts of these.
-ghost use Rattle.std.specs.Prelude.{◌≡◌, ◌<◌, ◌+◌, ℕ, length, get_or, IfOk};
-ghost use Rattle.std.specs.Ordering.{eq_by_cmp};
+ghost use Rattle.std.specs.Prelude.{◌≡◌, ◌<◌, ◌+◌, ℕ, true, map, length, IfOk};
+ghost use Rattle.std.specs.List.{All};
+ghost use Rattle.std.specs.List.Sorted.{IsPermutation, IsSortedBy};
+ghost use Rattle.std.specs.Ordering.{eq_by_cmp, is_lt};
 ghost use Rattle.value_core.specs.Values.{row_cmp};
-ghost use Rattle.relation_core.specs.Agreement.{part_of};
-ghost use Rattle.u_summarize.specs.Entries.{Listed, labelled_row, standing, keyed_row, row_at, AreKeyed};
+ghost use Rattle.cell_sweep.specs.Rows.{key_cmp};
+ghost use Rattle.cell_boxes.specs.Keys.{keyed_cmp};
+ghost use Rattle.cell_boxes.specs.Rows.{Ascend};
+ghost use Rattle.u_summarize.specs.Entries.{Listed, part_row, bare_row, entry_at, standing, numbered_row, row_at, AreDealt, AreArranged, AreNumbered};
 
 use cell_boxes::{KeyedCellBox, keys_in_order};
-use cell_sweep::CellBox;
+use cell_sweep::{CellBox, arrange_unordered};
 use point_core::{Label, Memory};
 use std::alloc::Global;
 use u_set::part_of_label;
 use value_core::Row;
 
-// The rows with their numbers, moved under their labels.
-fn labelled(alloc: Global, rows: Vec<CellBox<Row>>) -> Result<Vec<KeyedCellBox<Row, usize>>, Memory>
-    ensures { IfOk result (λ v. Listed (labelled_row rows.items) (length rows.items) v.items) }
+// The rows under the parts of their labels, and these labels with the rows' numbers. The cells are moved, and so are the labels.
+fn parted(
+    alloc: Global,
+    rows: Vec<CellBox<Row>>,
+    by: &[usize],
+) -> Result<(Vec<CellBox<Row>>, Vec<KeyedCellBox<Row, usize>>), Memory>
+    ensures parts { IfOk result (λ v. v.0.items ≡ map (part_row by.now) rows.items) }
+    ensures labels { IfOk result (λ v. Listed (bare_row rows.items) (length rows.items) v.1.items) }
+{
+    let mut parts = Vec::with_capacity(alloc, rows.len())?;
+    let mut labels = Vec::with_capacity(alloc, rows.len())?;
+    for row in rows {
+        let key = part_of_label(alloc, &row.label, by)?;
+        let number = labels.len();
+        parts.push(CellBox {
+            label: key,
+            sides: row.sides,
+        })?;
+        labels.push(KeyedCellBox {
+            key: row.label,
+            label: number,
+            sides: Vec::new(alloc),
+        })?;
+    }
+    Ok((parts, labels))
+}
+
+// The labels in order. They are arranged by their numbers first, so that the sort has little to do.
+fn sorted(
+    alloc: Global,
+    labels: Vec<KeyedCellBox<Row, usize>>,
+) -> Result<Vec<KeyedCellBox<Row, usize>>, Memory>
+    ensures moved { IfOk result (λ v. IsPermutation labels.items v.items) }
+    ensures order { IfOk result (λ v. IsSortedBy (λ x y. is_lt (keyed_cmp row_cmp x y)) v.items) }
+{
+    let mut list = labels;
+    arrange_unordered(alloc, &mut list)?;
+    list.sort()?;
+    Ok(list)
+}
+
+// Whether the next label is the same.
+fn follows(labels: &[KeyedCellBox<Row, usize>], i: usize) -> bool
+    requires { i + 1 < length labels.now }
+    ensures { result ≡ eq_by_cmp row_cmp (entry_at labels.now i).0 (entry_at labels.now (i + 1)).0 }
+{
+    let one = &labels[i];
+    let other = &labels[i + 1];
+    one.key.compare(&other.key).is_eq()
+}
+
+// The number of the label.
+fn number_at(labels: &[KeyedCellBox<Row, usize>], i: usize) -> usize
+    requires { i < length labels.now }
+    ensures { result ≡ (entry_at labels.now i).1 }
+{
+    let own = &labels[i];
+    own.label
+}
+
+// The number that stands for the label, where that of the one before it is known.
+fn next_standing(labels: &[KeyedCellBox<Row, usize>], i: usize, before: usize) -> usize
+    requires some { i < length labels.now }
+    requires before { (j : ℕ) → i ≡ j + 1 → before ≡ standing labels.now j }
+    ensures { result ≡ standing labels.now i }
+{
+    if i > 0 && follows(labels, i - 1) {
+        return before;
+    }
+    number_at(labels, i)
+}
+
+// For the number of each label the one that stands for the label.
+fn numbers_standing(
+    alloc: Global,
+    count: usize,
+    labels: &[KeyedCellBox<Row, usize>],
+) -> Result<Vec<usize>, Memory>
+    requires { All (λ z. z.1 < count) labels.now }
+    ensures count { IfOk result (λ v. length v.items ≡ count) }
+    ensures each { IfOk result (λ v. AreDealt labels.now (length labels.now) v.items) }
+{
+    let mut out = vec![in alloc; 0; count]?;
+    let mut before = 0;
+    for i in 0..labels.len() {
+        let number = next_standing(labels, i, before);
+        let place = number_at(labels, i);
+        out[place] = number;
+        before = number;
+    }
+    Ok(out)
+}
+
+// The rows with the numbers.
+fn with_numbers(
+    alloc: Global,
+    rows: Vec<CellBox<Row>>,
+    numbers: &[usize],
+) -> Result<Vec<KeyedCellBox<Row, usize>>, Memory>
+    requires { length numbers.now ≡ length rows.items }
+    ensures { IfOk result (λ v. Listed (numbered_row rows.items numbers.now) (length rows.items) v.items) }
 {
     let mut out = Vec::with_capacity(alloc, rows.len())?;
     for row in rows {
-        let number = out.len();
+        let number = numbers[out.len()];
         out.push(KeyedCellBox {
             key: row.label,
             label: number,
@@ -28,96 +130,59 @@ fn labelled(alloc: Global, rows: Vec<CellBox<Row>>) -> Result<Vec<KeyedCellBox<R
     Ok(out)
 }
 
-// Whether the row has the label of the one before it.
-fn follows(keys: &[CellBox<Row>], i: usize) -> bool
-    requires { i + 1 < length keys.now }
-    ensures { result ≡ eq_by_cmp row_cmp (row_at keys.now i).0 (row_at keys.now (i + 1)).0 }
+// Whether the next row is before the row, by their labels and cells.
+fn goes_back(rows: &[CellBox<Row>], i: usize) -> bool
+    requires { i + 1 < length rows.now }
+    ensures { result ≡ is_lt (key_cmp row_cmp (row_at rows.now (i + 1)) (row_at rows.now i)) }
 {
-    let one = &keys[i];
-    let other = &keys[i + 1];
-    one.label.compare(&other.label).is_eq()
+    let one = &rows[i];
+    let next = &rows[i + 1];
+    next.cmp(one).is_lt()
 }
 
-// The number that stands for the row's label, where that of the one before it is known.
-fn next_standing(keys: &[CellBox<Row>], numbers: &[usize], i: usize, before: usize) -> usize
-    requires some { i < length keys.now }
-    requires count { length numbers.now ≡ length keys.now }
-    requires before { (j : ℕ) → i ≡ j + 1 → before ≡ standing keys.now numbers.now j }
-    ensures { result ≡ standing keys.now numbers.now i }
+// Whether the rows stand by their labels and cells.
+fn stand_in_order(rows: &[CellBox<Row>]) -> bool
+    ensures { result ≡ true → Ascend row_cmp rows.now }
 {
-    if i > 0 && follows(keys, i - 1) {
-        return before;
+    let mut i = 0;
+    while i + 1 < rows.len() && !goes_back(rows, i) {
+        i += 1;
     }
-    numbers[i]
+    i + 1 >= rows.len()
 }
 
-// The numbers that stand for the labels of the rows.
-fn numbers_standing(
+// The rows by their labels and first cells, with their numbers. Rows that stand so keep their turn.
+fn arranged(
     alloc: Global,
-    keys: &[CellBox<Row>],
-    numbers: &[usize],
-) -> Result<Vec<usize>, Memory>
-    requires { length numbers.now ≡ length keys.now }
-    ensures many { IfOk result (λ v. length v.items ≡ length keys.now) }
-    ensures each { IfOk result (λ v. (i : ℕ) → i < length keys.now → get_or v.items i 0 ≡ standing keys.now numbers.now i) }
+    rows: Vec<CellBox<Row>>,
+    numbers: Vec<usize>,
+) -> Result<(Vec<CellBox<Row>>, Vec<usize>), Memory>
+    requires { length numbers.items ≡ length rows.items }
+    ensures rows { IfOk result (λ v. AreArranged rows.items numbers.items v.0.items v.1.items) }
+    ensures order { IfOk result (λ v. Ascend row_cmp v.0.items) }
 {
-    let mut out = Vec::with_capacity(alloc, keys.len())?;
-    let mut before = 0;
-    for i in 0..keys.len() {
-        let number = next_standing(keys, numbers, i, before);
-        out.push(number)?;
-        before = number;
+    if stand_in_order(rows.as_slice()) {
+        return Ok((rows, numbers));
     }
-    Ok(out)
+    let list = with_numbers(alloc, rows, numbers.as_slice())?;
+    let (keys, own) = keys_in_order(alloc, list)?;
+    Ok((keys, own))
 }
 
-// The row with the number that stands for its label, moved under the part of this.
-fn with_part(
-    alloc: Global,
-    row: CellBox<Row>,
-    by: &[usize],
-    number: usize,
-) -> Result<KeyedCellBox<Row, usize>, Memory>
-    ensures { IfOk result (λ z. z ≡ (part_of by.now row.0, number, row.1)) }
-{
-    let key = part_of_label(alloc, &row.label, by)?;
-    Ok(KeyedCellBox {
-        key,
-        label: number,
-        sides: row.sides,
-    })
-}
-
-// The rows by their labels, with the numbers that stand for these, moved under the parts of them.
-fn with_parts(
-    alloc: Global,
-    by: &[usize],
-    keys: Vec<CellBox<Row>>,
-    numbers: &[usize],
-) -> Result<Vec<KeyedCellBox<Row, usize>>, Memory>
-    requires { length numbers.now ≡ length keys.items }
-    ensures { IfOk result (λ v. Listed (keyed_row by.now keys.items numbers.now) (length keys.items) v.items) }
-{
-    let standing = numbers_standing(alloc, keys.as_slice(), numbers)?;
-    let mut out = Vec::with_capacity(alloc, keys.len())?;
-    for row in keys {
-        let number = standing[out.len()];
-        let entry = with_part(alloc, row, by, number)?;
-        out.push(entry)?;
-    }
-    Ok(out)
-}
-
-/// The rows under the parts of their labels, with one number for each label: that of a row that has it. Their cells are moved.
-pub(crate) fn entries(
+/// The rows under the parts of their labels, by these and by their first cells, with one number for each label: that of a row that has
+/// it. Their cells are moved. Only labels are sorted for the numbers, so rows that stand by parts and cells are not brought in order again.
+pub(crate) fn keyed_rows(
     alloc: Global,
     rows: Vec<CellBox<Row>>,
     by: &[usize],
-) -> Result<Vec<KeyedCellBox<Row, usize>>, Memory>
-    ensures { IfOk result (λ v. AreKeyed by.now rows.items v.items) }
+) -> Result<(Vec<CellBox<Row>>, Vec<usize>), Memory>
+    ensures rows { IfOk result (λ v. AreNumbered by.now rows.items v.0.items v.1.items) }
+    ensures order { IfOk result (λ v. Ascend row_cmp v.0.items) }
 {
-    let given = labelled(alloc, rows)?;
-    let (keys, numbers) = keys_in_order(alloc, given)?;
-    let list = with_parts(alloc, by, keys, numbers.as_slice())?;
-    Ok(list)
+    let count = rows.len();
+    let (parts, labels) = parted(alloc, rows, by)?;
+    let names = sorted(alloc, labels)?;
+    let numbers = numbers_standing(alloc, count, names.as_slice())?;
+    let (keys, own) = arranged(alloc, parts, numbers)?;
+    Ok((keys, own))
 }

@@ -53,7 +53,7 @@ pub(crate) fn read_all(
     requires { length kept.now ≡ length columns.now }
     ensures { IfOk result (λ v. (f : List Bool) → AreKept columns.now kept.now f → v.items ≡ figures_of columns.now f) }
 {
-    let mut list = Vec::new(alloc);
+    let mut list = Vec::with_capacity(alloc, columns.len())?;
     for j in 0..columns.len() {
         let column = &columns[j];
         list.push(figure(column, &kept[j]))?;

@@ -11,9 +11,9 @@ ghost use Rattle.u_summarize.specs.Asked.{InCellGroup, HasCellFault};
 ghost use Rattle.u_summarize.specs.Groups.{labels_in};
 
 use crate::counting::Counting;
-use crate::entries::entries;
+use crate::entries::keyed_rows;
 use crate::tally_rule::GroupTally;
-use cell_boxes::{keys_in_order, tallied};
+use cell_boxes::tallied;
 use cell_sweep::CellBox;
 use point_core::{Fault, Memory};
 use std::alloc::Global;
@@ -39,8 +39,7 @@ pub(crate) fn given_at_cells<G: GroupTally>(
     ensures least { IfOk result (λ v. IsLeast (HasCellFault sides (G.means rule.now) by.now rows.items) v.1) }
 {
     let count = rows.len();
-    let list = entries(alloc, rows, by)?;
-    let (keys, numbers) = keys_in_order(alloc, list)?;
+    let (keys, numbers) = keyed_rows(alloc, rows, by)?;
     let tally = Counting {
         rule,
         numbers,
