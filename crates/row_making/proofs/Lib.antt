@@ -1,3 +1,4 @@
+pub mod IntegerLemmas
 pub mod ItemLemmas
 pub mod PlaceLemmas
 pub mod SummaryLemmas

@@ -17,8 +17,9 @@ ghost use Rattle.meaning_core.specs.Rows.{picked, values_over, aggregate_value, 
 ghost use Rattle.meaning_core.specs.Scalars.{AllOver, AreSummedOver, IsSummedOver};
 ghost use Rattle.u_summary.specs.Summaries.{total, is_before};
 
+use crate::integers::{sum_over, value_on};
 use point_core::{AnyPoint, Code, Fault, Memory, Place, Stop};
-use scalar_core::{Scalar, eval, point_number};
+use scalar_core::{Scalar, point_number};
 use std::alloc::Global;
 use tree_core::{Aggregate, AggregateForm};
 use u_summary::{greatest, least, sum};
@@ -70,6 +71,24 @@ fn count_of(numbers: &[usize]) -> Value
 
 /// The sum of the expression's values, at most of 64 bits.
 fn sum_of(
+    alloc: Global,
+    place: Place,
+    e: &Scalar,
+    rows: &[Row],
+    numbers: &[usize],
+) -> Result<Value, Stop>
+    requires within { All (λ (i : ℕ). i < length rows.now) numbers.now }
+    requires typed { AllOver rows.now (read e.now) }
+    ensures { Gives plain result (then_give (values_over (read e.now) (rows_at rows.now numbers.now)) (λ vs. integer place (total (map number_of vs)))) }
+{
+    match sum_over(e, rows, numbers) {
+        Some(sum) => Ok(Value::Point(AnyPoint::Integer(sum))),
+        None => sum_of_values(alloc, place, e, rows, numbers),
+    }
+}
+
+/// The sum of the expression's values, each of which is made first; or the least of their faults, or that of the sum.
+fn sum_of_values(
     alloc: Global,
     place: Place,
     e: &Scalar,
@@ -160,7 +179,7 @@ fn values_over(
     let mut values = Vec::new(alloc);
     let mut least: Option<Fault> = None;
     for number in numbers {
-        let answer = eval(alloc, e, &rows[*number]);
+        let answer = value_on(alloc, e, &rows[*number]);
         take_value(answer, &mut values, &mut least)?;
     }
     match least {

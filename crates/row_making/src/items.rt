@@ -11,6 +11,7 @@ ghost use Rattle.meaning_core.specs.Places.{place_among, places};
 ghost use Rattle.meaning_core.specs.Rows.{extended_at, set_names, values_on};
 ghost use Rattle.meaning_core.specs.Scalars.{AreTypedOver, IsConditionOver};
 
+use crate::integers::{comparison, value_on};
 use crate::places::{pick, place_behind};
 use point_core::{Memory, Stop};
 use scalar_core::{Scalar, eval};
@@ -19,6 +20,17 @@ use value_core::{Kind, Name, Row, Value};
 
 /// Whether the condition holds of the row.
 pub fn holds(alloc: Global, c: &Scalar, row: &Row) -> Result<bool, Stop>
+    requires { IsConditionOver row.now (read c.now) }
+    ensures { Answers result (condition (read c.now) row.now) }
+{
+    match comparison(c, row.values()) {
+        Some(b) => Ok(b),
+        None => truth_on(alloc, c, row),
+    }
+}
+
+/// The truth value that the condition has on the row, or its fault.
+fn truth_on(alloc: Global, c: &Scalar, row: &Row) -> Result<bool, Stop>
     requires { IsConditionOver row.now (read c.now) }
     ensures { Answers result (condition (read c.now) row.now) }
 {
@@ -71,7 +83,7 @@ fn values_on(alloc: Global, row: &Row, sets: &[(Name, Scalar)]) -> Result<Vec<Va
 {
     let mut values = Vec::with_capacity(alloc, sets.len())?;
     for set in sets {
-        values.push(eval(alloc, &set.1, row)?)?;
+        values.push(value_on(alloc, &set.1, row)?)?;
     }
     Ok(values)
 }

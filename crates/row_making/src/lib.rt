@@ -4,6 +4,7 @@
 mod aggregates;
 mod faults;
 mod groups;
+mod integers;
 mod items;
 mod places;
 mod plain_rows;

@@ -14,8 +14,8 @@ use Rattle.relation_core.proofs.FilterLemmas.{take_all}
 use Rattle.row_making.proofs.SummaryLemmas.{values_by_numbers, row_at}
 use Rattle.row_making.proofs.aggregates.values_over.Goals as goal
 
-pub eval-answer-requires : goal.eval-answer-requires
-eval-answer-requires c =
+pub value_on-answer-requires : goal.value_on-answer-requires
+value_on-answer-requires c =
     let l : c.loop-number.number-index < length c.args.numbers.now = omega arith in
     let below = c.requires.within c.loop-number.number-index 0 l in
     subst (λ (z : Row). IsTypedOver z (read c.args.e.now)) (sym c.index-rows-number.is) (c.requires.typed (get_or c.args.numbers.now c.loop-number.number-index 0) c.index-rows-number.result below)
@@ -28,8 +28,8 @@ loop-number-preserved c =
     let m = value (read c.args.e.now) c.index-rows-number.result in
     let same : value (read c.args.e.now) (get_or c.args.rows.now (get_or c.args.numbers.now c.loop-number.number-index 0) []) ≡ value (read c.args.e.now) c.index-rows-number.result =
     ap (value (read c.args.e.now)) (sym (row_at c.args.rows.now (get_or c.args.numbers.now c.loop-number.number-index 0) c.index-rows-number.result below c.index-rows-number.is)) in
-    let fault = c.in_ok-take_value.ensures.fault m c.eval-answer.ensures.value in
-    let values = c.in_ok-take_value.ensures.rows m c.eval-answer.ensures.value in
+    let fault = c.in_ok-take_value.ensures.fault m c.value_on-answer.ensures in
+    let values = c.in_ok-take_value.ensures.rows m c.value_on-answer.ensures in
     let e0 = least_more f c.args.numbers.now c.loop-number.number-index 0 l in
     let e1 = values_more f c.args.numbers.now c.loop-number.number-index 0 l in
     record {
