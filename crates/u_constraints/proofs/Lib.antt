@@ -25,3 +25,4 @@ pub mod GrowthLemmas
 pub mod AcrossLemmas
 pub mod TellingLemmas
 pub mod PlainKeyLemmas
+pub mod CoverLemmas

@@ -87,7 +87,7 @@ from_rows : (commalist : List ℕ) (rows : List Row) (y : Row) → In y (unpacke
 from_rows commalist rows y = in_unpack row_cmp row_total row_separates (map attribute commalist) rows y
 
 module _ (h g : Heading) (here there commalist : List ℕ) (alike : AreAlike h here g there) (lies : AreAmong here commalist) (d : IsDistinct nat_eq here) (d' : IsDistinct nat_eq there) where
-  abbrev back : List ℕ
+  abbrev pub back : List ℕ
   back = map (counterpart here there) commalist
 
   -- the positions that are not unpacked
@@ -102,10 +102,10 @@ module _ (h g : Heading) (here there commalist : List ℕ) (alike : AreAlike h h
       same_many commalist back here there (are_listed here there commalist lies d d' (beside_more (λ i t. kind_at h i ≡ kind_at g t) (λ i t. Unit {0}) (λ i t e. tt) here there (beside_kinds h g here there alike)))
 
   -- each unpacked row agrees with one of the others
-  abbrev Refer : List Row → List Row → Type 0
+  abbrev pub Refer : List Row → List Row → Type 0
   Refer rows others = (x : Row) → In x (unpacked commalist rows) → (y : Row) × In y (unpacked back others) × (part_of here x ≡ part_of there y)
 
-  refers : (rows others : List Row) → IsTrue (is_referenced commalist here there rows others) ↔ Refer rows others
+  pub refers : (rows others : List Row) → IsTrue (is_referenced commalist here there rows others) ↔ Refer rows others
   refers rows others =
       let within = is_within-In row_cmp row_total row_separates (projected here (unpacked commalist rows)) (projected there (unpacked back others)) in (
         λ t x i. (in_parts there (unpacked back others) (part_of here x)).0 (within.0 t (part_of here x) ((in_parts here (unpacked commalist rows) (part_of here x)).1 (x, i, refl))),

@@ -47,7 +47,7 @@ module _ (heading : Heading) (k : ℕ) where
   commalist = k ∷ []
 
   -- the point that a row is unpacked to
-  point_there : (x : Row) → IsShaped heading commalist x → (p : ℤ) → span_of (value_at (put_span x k (at_point p)) k) ≡ at_point p
+  pub point_there : (x : Row) → IsShaped heading commalist x → (p : ℤ) → span_of (value_at (put_span x k (at_point p)) k) ≡ at_point p
   point_there x shaped p =
       ap span_of (span_there x k (at_point p)) ∙ ap (λ v. span_of (with_span v (at_point p))) (shaped.spans k (in_among commalist k (inl refl)))
 
@@ -56,7 +56,7 @@ module _ (heading : Heading) (k : ℕ) where
     label = unlisted commalist key
 
     -- what is not unpacked stays
-    label_there : (x : Row) (p : ℤ) → part_of label (put_span x k (at_point p)) ≡ part_of label x
+    pub label_there : (x : Row) (p : ℤ) → part_of label (put_span x k (at_point p)) ≡ part_of label x
     label_there x p = (rows_keep commalist label (λ i m w.
         both_ways (among commalist i) (not-true (among commalist i) ((In-filter (λ j. not (among commalist j)) i key).0 m).1) (in_among commalist i w))).0 x (at_point p)
 

@@ -5,3 +5,4 @@ pub mod Near
 pub mod Growth
 pub mod Hashes
 pub mod Places
+pub mod Covers

@@ -1,5 +1,5 @@
 // Foreign keys over what is unpacked.
-ghost use Rattle.std.specs.Prelude.{◌≡◌, ◌+◌, ◌<◌, ◌≤◌, ℕ, length, map, IfOk};
+ghost use Rattle.std.specs.Prelude.{◌≡◌, ◌+◌, ◌<◌, ◌≤◌, ℕ, true, length, map, IfOk};
 ghost use Rattle.std.specs.List.{All};
 ghost use Rattle.point_core.specs.Points.{number, IsPointOf};
 ghost use Rattle.value_core.specs.Values.{IsRelation};
@@ -18,6 +18,9 @@ ghost use Rattle.u_constraints.specs.Near.{with_keys};
 
 use crate::near::{are_fewer, rows_with_keys};
 use crate::parts::boxes_of_parts;
+use crate::prefixes::are_first;
+use crate::runs::{KeySide, are_covered};
+use crate::search::are_few;
 use cell_core::{BoxRow, within_points};
 use point_core::{AnyType, Memory, Steps};
 use relation_core::sorted_parts;
@@ -152,8 +155,81 @@ fn rows_near(
     rows_with_keys(alloc, other, rest.theirs.as_slice(), keys.as_slice())
 }
 
-/// Whether the values here of each of the unpacked rows are the values there of one of the other's rows, unpacked alike. Of many rows
-/// there those alone are looked at that have the values of some row here at what is not unpacked, if that is not all.
+/// Whether the rows there are found best by search: these are many, and what is not unpacked stands first.
+fn are_found_by_search(
+    alloc: Global,
+    commalist: &[usize],
+    of: &Relation,
+    here: &[usize],
+    other: &Relation,
+    there: &[usize],
+) -> Result<bool, Memory>
+    requires { length here.now ≡ length there.now }
+{
+    let rest = rest_of_key(alloc, commalist, here, there)?;
+    Ok(are_few(of, other) && are_first(rest.theirs.as_slice()))
+}
+
+/// Whether it is seen without boxes that each of the rows, unpacked on one attribute, has its values there, by runs of all rows there.
+fn is_seen_among(
+    alloc: Global,
+    commalist: &[usize],
+    of: &Relation,
+    here: &[usize],
+    other: &Relation,
+    there: &[usize],
+) -> Result<bool, Memory>
+    requires one { length commalist.now ≡ 1 }
+    requires list { IsList of.now.heading commalist.now }
+    requires here { AreDifferent of.now.heading here.now }
+    requires lies { AreAmong here.now commalist.now }
+    requires there { AreDifferent other.now.heading there.now }
+    requires alike { AreAlike of.now.heading here.now other.now.heading there.now }
+    ensures { IfOk result (λ b. b ≡ true → is_referenced commalist.now here.now there.now of.now.rows other.now.rows ≡ true) }
+{
+    let rest = rest_of_key(alloc, commalist, here, there)?;
+    let at = commalist[0];
+    let own = KeySide {
+        label: rest.own.as_slice(),
+        at,
+    };
+    let theirs = KeySide {
+        label: rest.theirs.as_slice(),
+        at: counterpart(here, there, at),
+    };
+    are_covered(alloc, of, own, other, theirs)
+}
+
+/// Whether it is seen without boxes that the values here of each of the unpacked rows are those there of one of the other's rows, unpacked
+/// alike. Where more than one attribute is unpacked it is not seen.
+fn is_seen(
+    alloc: Global,
+    commalist: &[usize],
+    of: &Relation,
+    here: &[usize],
+    other: &Relation,
+    there: &[usize],
+) -> Result<bool, Memory>
+    requires list { IsList of.now.heading commalist.now }
+    requires here { AreDifferent of.now.heading here.now }
+    requires lies { AreAmong here.now commalist.now }
+    requires there { AreDifferent other.now.heading there.now }
+    requires alike { AreAlike of.now.heading here.now other.now.heading there.now }
+    ensures { IfOk result (λ b. b ≡ true → is_referenced commalist.now here.now there.now of.now.rows other.now.rows ≡ true) }
+{
+    if commalist.len() != 1 {
+        return Ok(false);
+    }
+    if are_found_by_search(alloc, commalist, of, here, other, there)? {
+        let near = rows_near(alloc, commalist, of, here, other, there)?;
+        return is_seen_among(alloc, commalist, of, here, &near, there);
+    }
+    is_seen_among(alloc, commalist, of, here, other, there)
+}
+
+/// Whether the values here of each of the unpacked rows are the values there of one of the other's rows, unpacked alike. Where it is not
+/// seen without boxes, these tell it. Of many rows there those alone are looked at that have the values of some row here at what is not
+/// unpacked, if that is not all.
 pub(crate) fn is_referenced_unpacked<L: Ledger>(
     alloc: Global,
     commalist: &[usize],
@@ -171,6 +247,9 @@ pub(crate) fn is_referenced_unpacked<L: Ledger>(
     ensures answer { IfOk result (λ kept. kept ≡ is_referenced commalist.now here.now there.now of.now.rows other.now.rows) }
     ensures cost { steps.new ≤ steps.old + bound (length of.now.rows + length other.now.rows) (length commalist.now) }
 {
+    if is_seen(alloc, commalist, of, here, other, there)? {
+        return Ok(true);
+    }
     if commalist.len() == here.len() || !are_fewer(of, other) {
         return is_referenced_by_boxes(alloc, commalist, of, here, other, there, steps);
     }

@@ -13,7 +13,7 @@ use crate::beginning::with_prefix;
 use crate::prefixes::are_first;
 use crate::tuning::ROWS_PASSED_FOR_ONE_SOUGHT;
 use point_core::{Label, Memory};
-use relation_core::{Hashes, selection, sorted_parts, touched, touched_by_hashes};
+use relation_core::{Hashes, hashes_of, selection, sorted_parts, touched_by_hashes};
 use std::alloc::Global;
 use value_core::{Heading, Relation, Row, RowsRefuse};
 
@@ -130,6 +130,22 @@ fn without_rows(alloc: Global, r: &Relation) -> Result<Relation, Memory>
     selection(alloc, r, Vec::new(alloc))
 }
 
+/// The rows of many whose values at the positions are those of some row of few, by one pass over hashes that are made for it: numbers are
+/// compared, and values alone where some row of few has their hash.
+fn touched_by_pass(
+    alloc: Global,
+    many: &Relation,
+    few: &Relation,
+    positions: &[usize],
+) -> Result<Relation, Memory>
+    requires heading { few.now.heading ≡ many.now.heading }
+    requires within { All (λ (i : ℕ). i < length many.now.heading) positions.now }
+    ensures { IfOk result (λ r. (r.heading ≡ many.now.heading) × (r.rows ≡ touched positions.now few.now.rows many.now.rows)) }
+{
+    let hashes = hashes_of(alloc, many, positions)?;
+    touched_by_hashes(alloc, many, few, &hashes)
+}
+
 /// The rows of many whose values at the positions are those of some row of few: by search, where the positions are the first ones. Where
 /// one of the relations has no rows, nothing is sorted or sought.
 pub fn touched_by(
@@ -149,7 +165,7 @@ pub fn touched_by(
     if are_few(few, many) && are_first(positions) {
         return touched_in_prefix(alloc, many, few, positions);
     }
-    touched(alloc, many, few, positions)
+    touched_by_pass(alloc, many, few, positions)
 }
 
 /// Whether the hashes are for these positions.
