@@ -1,7 +1,7 @@
 -- Rows that are each beyond the one before it are apart.
 use Rattle.std.proofs.Common.{◌≡◌, ◌⊎◌, inl, inr, ℕ, zero, suc, ◌+◌, ◌-◌, ◌<◌, ◌≤◌, pos, ◌+ℤ◌, ◌≤ℤ◌, ◌<ℤ◌, true, false, ◌&&◌, List, [], ◌∷◌, map, drop, length, get_or, refl, sym, ap, ◌∙◌, subst, arith, Ordering}
 use Rattle.std.proofs.Math.Seq.{drop-cons}
-use Rattle.std.specs.Prelude.{Result, Ok, Err, IfOk, int_le, slice_index_or}
+use Rattle.std.specs.Prelude.{Option, Some, Result, Ok, Err, IfOk, IfSome, int_le, slice_index_or}
 use Rattle.std.specs.Ordering.{is_eq, ordering_then}
 use Rattle.std.specs.Bool.{IsTrue}
 use Rattle.std.specs.List.{All, AllByRecursion}
@@ -41,6 +41,10 @@ use Rattle.u_set.proofs.RowLemmas.{value_held}
 pub if_ok : {X E : Type 0} (P Q : X → Type 0) → ((x : X) → P x → Q x) → (r : Result X E) → IfOk r P → IfOk r Q
 if_ok P Q f (Ok x) h = f x h
 if_ok P Q f (Err e) h = tt
+
+-- what holds of a value that there is
+pub some_holds : {X : Type 0} (P : X → Type 0) (o : Option X) (x : X) → o ≡ Some x → IfSome o P → P x
+some_holds P o x is h = subst (λ q. IfSome q P) is h
 
 -- ---- how parts stand to each other, from a place on
 
@@ -181,7 +185,7 @@ module _ (label : List ℕ) (at : ℕ) (gap : Gap) where
   AllBeyond [] = Unit {0}
   AllBeyond (x ∷ xs) = HasInterval at x × AllByRecursion (Beyond x) xs × AllBeyond xs
 
-  beyond_trans : (x y z : Row) → HasInterval at y → Beyond x y → Beyond y z → Beyond x z
+  pub beyond_trans : (x y z : Row) → HasInterval at y → Beyond x y → Beyond y z → Beyond x z
   beyond_trans x y z s a b = elim a [
     | inl p ↦ elim b [
       | inl q ↦ inl (row_total.trans (part_of label x) (part_of label y) (part_of label z) p q)
@@ -202,7 +206,7 @@ module _ (label : List ℕ) (at : ℕ) (gap : Gap) where
   all_after x y [] a s h = tt
   all_after x y (z ∷ zs) a s h = (beyond_trans x y z s a h.0, all_after x y zs a s h.1)
 
-  all_beyond : (rows : List Row) → AreBeyond label at gap rows → AllBeyond rows
+  pub all_beyond : (rows : List Row) → AreBeyond label at gap rows → AllBeyond rows
   all_beyond [] h = tt
   all_beyond (x ∷ []) h = (h.spans 0 x (omega arith), tt, tt)
   all_beyond (x ∷ y ∷ ys) h =
@@ -210,7 +214,7 @@ module _ (label : List ℕ) (at : ℕ) (gap : Gap) where
       let first : Beyond x y = h.beyond 0 x (omega arith) in
       (h.spans 0 x (omega arith), (first, all_after x y ys first rest.0 rest.1), rest)
 
-  from_all : (x y : Row) (ys : List Row) → AllByRecursion (Beyond x) ys → In y ys → Beyond x y
+  pub from_all : (x y : Row) (ys : List Row) → AllByRecursion (Beyond x) ys → In y ys → Beyond x y
   from_all x y [] h m = absurd m
   from_all x y (z ∷ zs) h m = elim m [ inl e ↦ subst (Beyond x) (sym e) h.0 | inr w ↦ from_all x y zs h.1 w ]
 

@@ -17,7 +17,7 @@ use Rattle.std.proofs.lemmas.List.Sorted.{IsPermutation-refl, IsPermutation-sym}
 use Rattle.base_core.specs.Sets.{are_same, union_of}
 use Rattle.base_core.proofs.SetLemmas.{In, In-from_Contains}
 use Rattle.base_core.proofs.MemberLemmas.{In-append, In-map, list_all-In}
-use Rattle.base_core.proofs.SetOperatorLemmas.{In-permutation, are_same-In}
+use Rattle.base_core.proofs.SetOperatorLemmas.{In-permutation, are_same-In, in_order-permutation}
 use Rattle.interval_core.specs.Members.{Span, members}
 use Rattle.interval_core.specs.Operators.{hull_of, interval_of, union}
 use Rattle.interval_core.proofs.MembersLemmas.{In-members}
@@ -42,9 +42,9 @@ use Rattle.relation_core.specs.Operators.{united}
 use Rattle.relation_core.specs.Parts.{kind_at}
 use Rattle.relation_core.proofs.FilterLemmas.{rows_ascend}
 use Rattle.u_set.specs.declared.apart.Gap.TheVariants.{One}
-use Rattle.u_set.specs.Apart.{span_in, HasInterval, IsBeyond, AreBeyond, IsChain, outside}
+use Rattle.u_set.specs.Apart.{span_in, HasInterval, IsBeyond, IsChain, outside}
 use Rattle.u_set.specs.Boxes.{AreIntervals, type_of, others, boxed, unboxed}
-use Rattle.u_set.specs.Coalescing.{AreJoined}
+use Rattle.u_set.specs.Coalescing.{AreJoined, IsFormByLabel}
 use Rattle.u_set.proofs.ApartLemmas.{beyond_at, row_has, span_within, value_there}
 use Rattle.u_set.proofs.BoxLemmas.{others-set, place_listed, kind_listed, value_at-get, span_fits, shaped_from_fit}
 use Rattle.u_set.proofs.BridgeLemmas.{box_cmp, boxes_have, same_places, packed_rows}
@@ -120,7 +120,7 @@ module _ (heading : Heading) (at : ℕ) (intervals : AreIntervals heading (at �
   abbrev Places : List Row → Row → List ℤ → Type 0
   Places rows l place = InBoxes (map box rows) l place
 
-  places_append : (xs ys : List Row) (l : Row) (place : List ℤ) → Places (xs ++ ys) l place ↔ (Places xs l place ⊎ Places ys l place)
+  pub places_append : (xs ys : List Row) (l : Row) (place : List ℤ) → Places (xs ++ ys) l place ↔ (Places xs l place ⊎ Places ys l place)
   places_append xs ys l place = subst (λ bs. InBoxes bs l place ↔ (Places xs l place ⊎ Places ys l place)) (sym (map-append box xs ys)) (both_boxes (map box xs) (map box ys) l place)
 
   long : (x : Row) → IsTrue (fits_heading heading x) → length x ≡ length heading
@@ -217,17 +217,32 @@ module _ (heading : Heading) (at : ℕ) (intervals : AreIntervals heading (at �
   pub chain_packed : (rows : List Row) → IsTrue (all_fit heading rows) → IsChain (outside (at ∷ []) heading) at One rows → rows_of (map (unboxed heading (at ∷ [])) (packed_boxes row_cmp 1 (map box rows))) ≡ rows_of rows
   chain_packed rows fit = given_back heading at intervals rows (λ x i. shaped_from_fit heading (at ∷ []) intervals x ((list_all-In (fits_heading heading) rows).0 fit x i))
 
-  -- joined rows that stand apart are the packed rows
-  pub joined_packed : (rows moved after : List Row) → IsPermutation rows moved → AreJoined heading at moved after → AreBeyond (outside (at ∷ []) heading) at One after
+  pub joined_itself : (rows : List Row) → IsTrue (all_fit heading rows) → AreJoined heading at rows rows
+  joined_itself rows fit = record { fit = fit; places = λ l place. (λ h. h, λ h. h) }
+
+  pub joined_moved : (rows moved after : List Row) → IsPermutation rows moved → AreJoined heading at moved after → AreJoined heading at rows after
+  joined_moved rows moved after p h = record {
+    fit = h.fit;
+    places = λ l place.
+        let a = moved_places rows moved p l place in
+        let b = h.places l place in
+        (λ k. b.0 (a.0 k), λ k. a.1 (b.1 k));
+  }
+
+  -- joined rows are packed to what the rows before are
+  pub given_joined : (rows after : List Row) → AreJoined heading at rows after
+      → rows_of (map (unboxed heading (at ∷ [])) (packed_boxes row_cmp 1 (map box rows))) ≡ rows_of (map (unboxed heading (at ∷ [])) (packed_boxes row_cmp 1 (map box after)))
+  given_joined rows after h =
+      ap (λ bs. rows_of (map (unboxed heading (at ∷ [])) bs))
+      (packed_from_same row_cmp row_total row_separates 1 (map box rows) (map box after) (boxes_have heading (at ∷ []) intervals rows) (boxes_have heading (at ∷ []) intervals after) h.places)
+
+  -- and are the packed rows where they are a chain
+  pub joined_chain : (rows after : List Row) → AreJoined heading at rows after → IsChain (outside (at ∷ []) heading) at One after
       → rows_of (map (unboxed heading (at ∷ [])) (packed_boxes row_cmp 1 (map box rows))) ≡ rows_of after
-  joined_packed rows moved after p h apart =
-      let form : packed_boxes row_cmp 1 (map box rows) ≡ packed_boxes row_cmp 1 (map box after) =
-      packed_from_same row_cmp row_total row_separates 1 (map box rows) (map box after) (boxes_have heading (at ∷ []) intervals rows) (boxes_have heading (at ∷ []) intervals after) (λ l place.
-      let a = moved_places rows moved p l place in
-      let b = h.places l place in
-      (λ k. b.0 (a.0 k), λ k. a.1 (b.1 k))) in
-      ap (λ bs. rows_of (map (unboxed heading (at ∷ [])) bs)) form
-      ∙ chain_packed after h.fit (record { list = after; moved = IsPermutation-refl after; beyond = apart })
+  joined_chain rows after h chain = given_joined rows after h ∙ chain_packed after h.fit chain
+
+  pub form_packed : (rows after : List Row) → IsFormByLabel heading at rows after → rows_of (map (unboxed heading (at ∷ [])) (packed_boxes row_cmp 1 (map box rows))) ≡ rows_of after
+  form_packed rows after h = joined_chain rows after h.joined (record { list = after; moved = IsPermutation-refl after; beyond = h.beyond })
 
 -- ---- rows that stand apart
 
@@ -239,6 +254,13 @@ next_apart label at rows i a b l first second h =
 pub all_have : (heading : Heading) (at : ℕ) → AreIntervals heading (at ∷ []) → (rows : List Row) → IsTrue (all_fit heading rows) → All (HasInterval at) rows
 all_have heading at intervals rows f = λ i d l.
     row_has heading at intervals (get_or rows i d) ((list_all-In (fits_heading heading) rows).0 f (get_or rows i d) (In-from_Contains rows (get_or rows i d) (Contains-get_or rows i d l)))
+
+pub all_moved : (heading : Heading) (rows moved : List Row) → IsPermutation rows moved → IsTrue (all_fit heading rows) → IsTrue (all_fit heading moved)
+all_moved heading rows moved p f =
+    (list_all-In (fits_heading heading) moved).1 (λ x i. (list_all-In (fits_heading heading) rows).0 f x (In-permutation moved rows x (IsPermutation-sym rows moved p) i))
+
+pub rows_moved : (rows moved : List Row) → IsPermutation rows moved → rows_of rows ≡ rows_of moved
+rows_moved rows moved p = in_order-permutation row_cmp row_total row_separates rows moved p
 
 pub each_fits : {A : Type 0} (heading : Heading) (row : A → Row) (items : List A) (rows : List Row) → IsPermutation rows (map row items) → IsTrue (all_fit heading rows) → All (λ a. IsTrue (fits_heading heading (row a))) items
 each_fits heading row items rows p f = λ i d l.

@@ -8,6 +8,7 @@ pub mod ComparisonLemmas
 pub mod ImageLemmas
 pub mod KeptLemmas
 pub mod KernelLemmas
+pub mod PackedLemmas
 pub mod PlaceLemmas
 pub mod RelationLemmas
 pub mod RowLemmas

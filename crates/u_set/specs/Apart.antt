@@ -2,7 +2,7 @@
 --     gap_of      the numbers that are left between two intervals at least
 --     IsBeyond, AreBeyond      a row and the next one in a list where this is seen
 --     AreApart      what it tells of any two rows
---     Follows      a row and the next one in order of time
+--     Follows, FollowsIn      a row and the next one in order of time, or of keys and time
 --     outside      the positions that are not listed
 use Rattle.std.specs.Prelude.{◌≡◌, ℕ, suc, ◌<◌, ◌⊎◌, ℤ, pos, ◌+ℤ◌, ◌<ℤ◌, List, [], ◌∷◌, length, get_or, IsTrue}
 use Rattle.std.specs.List.{All}
@@ -55,6 +55,12 @@ abbrev pub Follows : List ℕ → ℕ → Row → Row → Type 0
 Follows label at x y =
     let order = row_cmp (part_of label x) (part_of label y) in
     ((span_in at x).1 <ℤ (span_in at y).0) × (order ≡ Equal → ((span_in at x).1 +ℤ gap_of One) <ℤ (span_in at y).0)
+
+-- y is of a later key than x, or of the same and follows it in time
+abbrev pub FollowsIn : List ℕ → List ℕ → ℕ → Row → Row → Type 0
+FollowsIn key label at x y =
+    let order = row_cmp (part_of key x) (part_of key y) in
+    (order ≡ Less) ⊎ ((order ≡ Equal) × Follows label at x y)
 
 -- each row has an interval, and each but the first is beyond the one before it
 pub record AreBeyond (label : List ℕ) (at : ℕ) (gap : Gap) (rows : List Row) : Type 0 where

@@ -16,7 +16,7 @@ ghost use Rattle.u_set.specs.Apart.{span_in, HasInterval, AreBeyond, outside};
 ghost use Rattle.cell_core.specs.Boxes.{IsBox};
 ghost use Rattle.cell_core.specs.Cells.{row_numbers};
 ghost use Rattle.u_set.specs.Boxes.{AreIntervals, types_at, others, boxed, unboxed};
-ghost use Rattle.u_set.specs.Coalescing.{AreJoined};
+ghost use Rattle.u_set.specs.Coalescing.{AreJoined, IsFormByLabel};
 ghost use Rattle.u_set.specs.declared.apart.Gap.TheVariants.{One};
 
 use crate::apart::{Gap, compare_at, is_beyond};
@@ -27,7 +27,7 @@ use crate::positions::type_of;
 use crate::rows::to_rows;
 use cell_core::BoxRow;
 use point_core::{AnyType, Label, Memory};
-use presort::{Numbers, SortKeys, arrange, unsigned};
+use presort::{Numbers, Places, SortKeys, arrange, unsigned};
 use std::alloc::Global;
 use std::cmp::Ordering;
 use value_core::{Heading, Kind, Name, Relation, Row, RowsRefuse, Value};
@@ -45,6 +45,12 @@ pub(crate) fn push_copies(alloc: Global, list: &mut Vec<Row>, rows: &[Row]) -> R
 
 // ---- the order in which rows are joined
 
+// Fewer rows than these are left to the sort.
+const FEWEST_BY_INTERVAL: usize = 512;
+
+// The turn of each row where the rows of one label need no number.
+const AS_THEY_COME: i64 = i64::MIN;
+
 // A row with the positions of its label, and the number by which rows of one label are ordered.
 #[derive(Drop)]
 struct RowByLabel<'a> {
@@ -61,13 +67,10 @@ impl<'a> Numbers for RowByLabel<'a> {
                 values[*position].put_numbers(lines);
             }
         }
-        lines.put(unsigned(self.turn));
+        if self.turn != AS_THEY_COME {
+            lines.put(unsigned(self.turn));
+        }
     }
-}
-
-// By the values at the label's positions, and then in turn.
-fn compare_by_label(x: &RowByLabel, y: &RowByLabel) -> Ordering {
-    compare_at(&x.row, &y.row, x.label).then(x.turn.cmp(&y.turn))
 }
 
 // The number at which the row's interval begins; 0 where it has none.
@@ -79,6 +82,22 @@ fn begin_of(row: &Row, at: usize) -> i64 {
         }
     }
     0
+}
+
+// The number at which it ends; 0 where the row has none.
+fn end_of(row: &Row, at: usize) -> i64 {
+    let values = row.values();
+    if at < values.len() {
+        if let Value::Span(i) = &values[at] {
+            return i.end().number();
+        }
+    }
+    0
+}
+
+// By the values at the label's positions, and then in turn.
+fn compare_by_label(x: &RowByLabel, y: &RowByLabel) -> Ordering {
+    compare_at(&x.row, &y.row, x.label).then(x.turn.cmp(&y.turn))
 }
 
 // Whether no interval begins before that of the row before it.
@@ -106,7 +125,11 @@ fn with_turns<'a>(
     let ascend = begins_ascend(rows.as_slice(), at);
     let mut list = Vec::with_capacity(alloc, rows.len())?;
     for row in rows {
-        let turn = if ascend { 0 } else { begin_of(&row, at) };
+        let turn = if ascend {
+            AS_THEY_COME
+        } else {
+            begin_of(&row, at)
+        };
         list.push(RowByLabel { row, label, turn })?;
     }
     Ok(list)
@@ -125,6 +148,25 @@ fn by_label<'a>(
     arrange(alloc, &mut list)?;
     list.sort_by(|x: &RowByLabel, y: &RowByLabel| compare_by_label(x, y))?;
     Ok(list)
+}
+
+// Whether y has later values than x at the label's positions, or the same and begins no earlier.
+fn comes_by_label(x: &Row, y: &Row, label: &[usize], at: usize) -> bool {
+    match compare_at(x, y, label) {
+        Ordering::Less => true,
+        Ordering::Equal => begin_of(x, at) <= begin_of(y, at),
+        Ordering::Greater => false,
+    }
+}
+
+// Whether the rows stand in this order already.
+fn stand_by_label(rows: &[Row], label: &[usize], at: usize) -> bool {
+    for i in 1..rows.len() {
+        if !comes_by_label(&rows[i - 1], &rows[i], label, at) {
+            return false;
+        }
+    }
+    true
 }
 
 // ---- two rows as one
@@ -198,6 +240,26 @@ fn add(
 // are those of one.
 fn joined(
     alloc: Global,
+    rows: Vec<Row>,
+    heading: &[(Name, Kind)],
+    label: &[usize],
+    at: usize,
+) -> Result<Vec<Row>, Memory>
+    requires interval { AreIntervals heading.now (at ∷ []) }
+    requires label { label.now ≡ outside (at ∷ []) heading.now }
+    requires fit { IsTrue (all_fit heading.now rows.items) }
+    ensures { IfOk result (λ v. AreJoined heading.now at rows.items v.items) }
+{
+    let mut list = Vec::with_capacity(alloc, rows.len())?;
+    for row in rows {
+        add(&mut list, row, heading, label, at)?;
+    }
+    Ok(list)
+}
+
+// The rows in the order of their labels, joined so.
+fn joined_in_turn(
+    alloc: Global,
     rows: Vec<RowByLabel>,
     heading: &[(Name, Kind)],
     label: &[usize],
@@ -215,6 +277,74 @@ fn joined(
     Ok(list)
 }
 
+// The rows, joined in the order of their labels. Those that stand in it already are not sorted.
+fn joined_by_label(
+    alloc: Global,
+    rows: Vec<Row>,
+    heading: &[(Name, Kind)],
+    label: &[usize],
+    at: usize,
+) -> Result<Vec<Row>, Memory>
+    requires interval { AreIntervals heading.now (at ∷ []) }
+    requires label { label.now ≡ outside (at ∷ []) heading.now }
+    requires fit { IsTrue (all_fit heading.now rows.items) }
+    ensures { IfOk result (λ v. AreJoined heading.now at rows.items v.items) }
+{
+    if stand_by_label(rows.as_slice(), label, at) {
+        return joined(alloc, rows, heading, label, at);
+    }
+    let list = by_label(alloc, rows, label, at)?;
+    joined_in_turn(alloc, list, heading, label, at)
+}
+
+// ---- rows that come in order of time
+
+// Whether y begins after the end of x, or no earlier than x does where both have the same values at the label's positions.
+fn begins_after(x: &Row, y: &Row, label: &[usize], at: usize) -> bool {
+    let begin = begin_of(y, at);
+    end_of(x, at) < begin || begin_of(x, at) <= begin && compare_at(x, y, label).is_eq()
+}
+
+// Whether y has a later key than x, or the same and begins after it so.
+fn comes_after(x: &Row, y: &Row, key: &[usize], label: &[usize], at: usize) -> bool {
+    match compare_at(x, y, key) {
+        Ordering::Less => true,
+        Ordering::Equal => begins_after(x, y, label, at),
+        Ordering::Greater => false,
+    }
+}
+
+// Whether each row but the first has a later key than the one before it, or the same and comes after it. Once rows that meet are joined,
+// such rows mostly stand in order of keys and of time.
+fn come_in_time(rows: &[Row], key: &[usize], label: &[usize], at: usize) -> bool {
+    for i in 1..rows.len() {
+        if !comes_after(&rows[i - 1], &rows[i], key, label, at) {
+            return false;
+        }
+    }
+    true
+}
+
+// The rows, joined as they come where they come in order of keys and of time. Others stay as they are, for a single look at the first that do not.
+fn joined_in_time(
+    alloc: Global,
+    rows: Vec<Row>,
+    heading: &[(Name, Kind)],
+    key: &[usize],
+    label: &[usize],
+    at: usize,
+) -> Result<Vec<Row>, Memory>
+    requires interval { AreIntervals heading.now (at ∷ []) }
+    requires label { label.now ≡ outside (at ∷ []) heading.now }
+    requires fit { IsTrue (all_fit heading.now rows.items) }
+    ensures { IfOk result (λ v. AreJoined heading.now at rows.items v.items) }
+{
+    if !come_in_time(rows.as_slice(), key, label, at) {
+        return Ok(rows);
+    }
+    joined(alloc, rows, heading, label, at)
+}
+
 // ---- the packed rows
 
 // Whether each row but the first is beyond the one before it.
@@ -230,11 +360,79 @@ fn stand_apart(rows: &[Row], label: &[usize], at: usize) -> bool
     true
 }
 
-// The rows, packed on the attribute at the position. Those that stand apart in order of time stay as they are.
+// The rows, packed on the attribute at the position by the order of their labels.
+fn packed_by_label(
+    alloc: Global,
+    rows: Vec<Row>,
+    heading: &[(Name, Kind)],
+    label: &[usize],
+    at: usize,
+) -> Result<Option<Vec<Row>>, Memory>
+    requires interval { AreIntervals heading.now (at ∷ []) }
+    requires label { label.now ≡ outside (at ∷ []) heading.now }
+    requires fit { IsTrue (all_fit heading.now rows.items) }
+    ensures { IfOk result (λ o. IfSome o (λ v. IsFormByLabel heading.now at rows.items v.items)) }
+{
+    let joined = joined_by_label(alloc, rows, heading, label, at)?;
+    if stand_apart(joined.as_slice(), label, at) {
+        return Ok(Some(joined));
+    }
+    Ok(None)
+}
+
+/// The rows, packed on the attribute at the position, in the order of their other values and then of their intervals. So two lists of
+/// rows are packed to one list where they are packed to the same rows.
+///
+/// There is none where `coalesced` has none.
+pub(crate) fn form_by_label(
+    alloc: Global,
+    heading: &[(Name, Kind)],
+    at: usize,
+    rows: Vec<Row>,
+) -> Result<Option<Vec<Row>>, Memory>
+    requires interval { AreIntervals heading.now (at ∷ []) }
+    requires fit { IsTrue (all_fit heading.now rows.items) }
+    ensures { IfOk result (λ o. IfSome o (λ v. IsFormByLabel heading.now at rows.items v.items)) }
+{
+    let label = outside(alloc, heading, &[at])?;
+    packed_by_label(alloc, rows, heading, label.as_slice(), at)
+}
+
+// The begins of the rows' intervals and their ends, as numbers to order them by.
+fn end_columns(alloc: Global, rows: &[Row], at: usize) -> Result<(Vec<u64>, Vec<u64>), Memory> {
+    let mut begins = Vec::with_capacity(alloc, rows.len())?;
+    let mut ends = Vec::with_capacity(alloc, rows.len())?;
+    for row in rows {
+        begins.push(unsigned(begin_of(row, at)))?;
+        ends.push(unsigned(end_of(row, at)))?;
+    }
+    Ok((begins, ends))
+}
+
+// The rows by their intervals, and those of one interval as they come. So rows that stand by their labels come in the printing order
+// where the interval comes first in it; else they stay as they are.
+fn by_interval(alloc: Global, rows: Vec<Row>, at: usize) -> Result<Vec<Row>, Memory>
+    ensures { IfOk result (λ v. IsPermutation rows.items v.items) }
+{
+    if at > 0 || rows.len() < FEWEST_BY_INTERVAL {
+        return Ok(rows);
+    }
+    let (begins, ends) = end_columns(alloc, rows.as_slice(), at)?;
+    let mut places = Places::new(alloc, rows.len())?;
+    places.refine(alloc, ends.as_slice())?;
+    places.refine(alloc, begins.as_slice())?;
+    let mut list = rows;
+    places.put(&mut list);
+    Ok(list)
+}
+
+// The rows, packed on the attribute at the position. Those that stand apart in order of time, be it key by key, stay as they are, and
+// those that do once they are joined as they come are not sorted.
 fn joined_rows(
     alloc: Global,
     heading: &[(Name, Kind)],
     at: usize,
+    key: &[usize],
     rows: Vec<Row>,
 ) -> Result<Option<Vec<Row>>, Memory>
     requires interval { AreIntervals heading.now (at ∷ []) }
@@ -244,15 +442,76 @@ fn joined_rows(
         rows_of (map (unboxed heading.now (at ∷ [])) (packed_boxes row_cmp 1 (map (boxed (at ∷ [])) rows.items))) ≡ rows_of v.items)) }
 {
     let label = outside(alloc, heading, &[at])?;
-    if stand_in_time(rows.as_slice(), label.as_slice(), at) {
+    if stand_in_time(rows.as_slice(), key, label.as_slice(), at) {
         return Ok(Some(rows));
     }
-    let list = by_label(alloc, rows, label.as_slice(), at)?;
-    let joined = joined(alloc, list, heading, label.as_slice(), at)?;
-    if stand_apart(joined.as_slice(), label.as_slice(), at) {
-        return Ok(Some(joined));
+    let near = joined_in_time(alloc, rows, heading, key, label.as_slice(), at)?;
+    if stand_in_time(near.as_slice(), key, label.as_slice(), at) {
+        return Ok(Some(near));
     }
-    Ok(None)
+    let Some(packed) = packed_by_label(alloc, near, heading, label.as_slice(), at)? else {
+        return Ok(None);
+    };
+    let list = by_interval(alloc, packed, at)?;
+    Ok(Some(list))
+}
+
+// The rows, by their intervals where a key tells that they stand key by key.
+fn in_printing_order(
+    alloc: Global,
+    rows: Vec<Row>,
+    key: &[usize],
+    at: usize,
+) -> Result<Vec<Row>, Memory>
+    ensures { IfOk result (λ v. IsPermutation rows.items v.items) }
+{
+    if key.is_empty() {
+        return Ok(rows);
+    }
+    by_interval(alloc, rows, at)
+}
+
+// The rows, packed on the attribute at the position, near the printing order.
+fn packed_rows(
+    alloc: Global,
+    heading: &[(Name, Kind)],
+    at: usize,
+    key: &[usize],
+    rows: Vec<Row>,
+) -> Result<Option<Vec<Row>>, Memory>
+    requires interval { AreIntervals heading.now (at ∷ []) }
+    requires fit { IsTrue (all_fit heading.now rows.items) }
+    ensures fit { IfOk result (λ o. IfSome o (λ v. IsTrue (all_fit heading.now v.items))) }
+    ensures rows { IfOk result (λ o. IfSome o (λ v.
+        rows_of (map (unboxed heading.now (at ∷ [])) (packed_boxes row_cmp 1 (map (boxed (at ∷ [])) rows.items))) ≡ rows_of v.items)) }
+{
+    let Some(packed) = joined_rows(alloc, heading, at, key, rows)? else {
+        return Ok(None);
+    };
+    let list = in_printing_order(alloc, packed, key, at)?;
+    Ok(Some(list))
+}
+
+// The relation of the rows, packed on the attribute at the position.
+fn coalesced_by(
+    alloc: Global,
+    heading: Heading,
+    at: usize,
+    key: &[usize],
+    rows: Vec<Row>,
+) -> Result<Option<Relation>, RowsRefuse>
+    requires interval { AreIntervals heading (at ∷ []) }
+    requires fit { IsTrue (all_fit heading rows.items) }
+    ensures answer { let packed = rows_of (map (unboxed heading (at ∷ [])) (packed_boxes row_cmp 1 (map (boxed (at ∷ [])) rows.items))) in
+        MatchResult result (λ o. IfSome o (IsAnswer heading packed)) (IsRefusal packed) }
+{
+    match packed_rows(alloc, heading.attributes(), at, key, rows)? {
+        Some(packed) => {
+            let relation = Relation::of_fitting(heading, packed)?;
+            Ok(Some(relation))
+        }
+        None => Ok(None),
+    }
 }
 
 /// The relation of the rows, packed on the attribute at the position: rows with the same values elsewhere whose intervals there overlap
@@ -271,23 +530,19 @@ pub fn coalesced(
     ensures answer { let packed = rows_of (map (unboxed heading (at ∷ [])) (packed_boxes row_cmp 1 (map (boxed (at ∷ [])) rows.items))) in
         MatchResult result (λ o. IfSome o (IsAnswer heading packed)) (IsRefusal packed) }
 {
-    match joined_rows(alloc, heading.attributes(), at, rows)? {
-        Some(joined) => {
-            let relation = Relation::of_fitting(heading, joined)?;
-            Ok(Some(relation))
-        }
-        None => Ok(None),
-    }
+    coalesced_by(alloc, heading, at, &[], rows)
 }
 
 /// The relation of the rows of boxes with one side, packed on the attribute at the position, of which the sides are the intervals. The
-/// boxes may stand in any order, and the same box more than once.
+/// boxes may stand in any order, and the same box more than once. Where their rows stand by their values at the positions of the key,
+/// and those of one key in order of time, none is sorted.
 ///
 /// It is `Ok(None)` where `coalesced` is.
 pub fn coalesced_boxes(
     alloc: Global,
     heading: Heading,
     at: usize,
+    key: &[usize],
     boxes: Vec<BoxRow<AnyType, Row>>,
 ) -> Result<Option<Relation>, RowsRefuse>
     requires intervals { AreIntervals heading (at ∷ []) }
@@ -297,5 +552,5 @@ pub fn coalesced_boxes(
         MatchResult result (λ o. IfSome o (IsAnswer heading rows)) (IsRefusal rows) }
 {
     let rows = to_rows(alloc, heading.attributes(), &[at], boxes)?;
-    coalesced(alloc, heading, at, rows)
+    coalesced_by(alloc, heading, at, key, rows)
 }

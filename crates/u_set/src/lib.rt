@@ -16,6 +16,7 @@ mod labels;
 mod packing;
 mod positions;
 mod refusals;
+mod row_comparison;
 mod rows;
 mod strict;
 mod union;

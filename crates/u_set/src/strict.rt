@@ -12,6 +12,7 @@ ghost use Rattle.u_set.specs.Boxes.{AreIntervals};
 
 use crate::boxes::to_boxes;
 use crate::positions::types_at;
+use crate::row_comparison::properly_within_on_one;
 use cell_core::{BoxRow, CellRows, push_keys, rows_over_cells, same_keys};
 use cell_sweep::pack_arranged;
 use point_core::{Memory, PointType, Steps};
@@ -60,9 +61,8 @@ pub fn u_proper_subset<T: PointType, L: Ledger>(
     Ok(first_alone(within, same))
 }
 
-/// Whether a relation, unpacked on the attributes at the positions, is a subset of another of the same heading, unpacked alike, and not
-/// equal to it.
-pub fn is_properly_within<L: Ledger>(
+// Whether a relation is unpacked a subset of another of the same heading and not equal to it, by the boxes of their rows.
+fn is_properly_within_by_boxes<L: Ledger>(
     alloc: Global,
     left: &Relation,
     right: &Relation,
@@ -79,4 +79,27 @@ pub fn is_properly_within<L: Ledger>(
     let l = to_boxes(alloc, left, commalist)?;
     let r = to_boxes(alloc, right, commalist)?;
     u_proper_subset(alloc, types.as_slice(), l.as_slice(), r.as_slice(), steps)
+}
+
+/// Whether a relation, unpacked on the attributes at the positions, is a subset of another of the same heading, unpacked alike, and not
+/// equal to it.
+///
+/// Under USING of a single attribute packed rows are compared. Else the sweep goes over the boxes.
+pub fn is_properly_within<L: Ledger>(
+    alloc: Global,
+    left: &Relation,
+    right: &Relation,
+    commalist: &[usize],
+    steps: &mut Steps<L>,
+) -> Result<bool, Memory>
+    requires heading { left.now.heading ≡ right.now.heading }
+    requires intervals { AreIntervals left.now.heading commalist.now }
+    ensures answer { IfOk result (λ b. b ≡ (is_within row_cmp (unpacked commalist.now left.now.rows) (unpacked commalist.now right.now.rows)
+        && not (same_rows (unpacked commalist.now left.now.rows) (unpacked commalist.now right.now.rows)))) }
+    ensures cost { steps.new ≤ steps.old + bound (length left.now.rows + length right.now.rows) (length commalist.now) }
+{
+    match properly_within_on_one(alloc, left, right, commalist)? {
+        Some(strict) => Ok(strict),
+        None => is_properly_within_by_boxes(alloc, left, right, commalist, steps),
+    }
 }

@@ -130,8 +130,12 @@ fn united_by_boxes<L: Ledger>(
     }
 }
 
-// The rows of both, one after the other.
-fn rows_of_both(alloc: Global, left: &Relation, right: &Relation) -> Result<Vec<Row>, Memory>
+/// The rows of both, one after the other.
+pub(crate) fn rows_of_both(
+    alloc: Global,
+    left: &Relation,
+    right: &Relation,
+) -> Result<Vec<Row>, Memory>
     ensures rows { IfOk result (λ v. v.items ≡ left.now.rows ++ right.now.rows) }
     ensures left { IsRelation left.now }
     ensures right { IsRelation right.now }

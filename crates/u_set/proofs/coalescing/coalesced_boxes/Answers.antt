@@ -10,4 +10,4 @@ pub returns : goal.returns
 returns c =
     let are : c.in_ok-rows.rows.items ≡ map (unboxed c.args.heading (c.args.at ∷ [])) (map (row_numbers number) c.args.boxes.items) =
     c.in_ok-rows.ensures.rows ∙ ap (λ (h : Heading). map (unboxed h (c.args.at ∷ [])) (map (row_numbers number) c.args.boxes.items)) c.attributes.ensures.list in
-    answer_back c.args.heading c.args.at c.requires.intervals c.args.boxes.items c.requires.sides c.requires.labels c.in_ok-rows.rows.items are c.coalesced.result c.coalesced.ensures.answer
+    answer_back c.args.heading c.args.at c.requires.intervals c.args.boxes.items c.requires.sides c.requires.labels c.in_ok-rows.rows.items are c.coalesced_by.result c.coalesced_by.ensures.answer

@@ -12,7 +12,7 @@ use Rattle.cell_core.specs.Costs.{bound}
 use Rattle.u_set.specs.Boxes.{type_of, boxed}
 use Rattle.u_set.proofs.ComparisonLemmas.{same_rows}
 use Rattle.u_set.proofs.RelationLemmas.{relation_shaped, shaped_under}
-use Rattle.u_set.proofs.comparison.are_same.Goals as goal
+use Rattle.u_set.proofs.comparison.are_same_by_boxes.Goals as goal
 
 pub returns-clause-answer : goal.returns-clause-answer
 returns-clause-answer g c =

@@ -1,0 +1,13 @@
+use Rattle.std.proofs.Common.{◌≡◌, ℕ, Bool, List, length, arith}
+use Rattle.std.proofs.lemmas.Bool.Decides.{nat_tests}
+use Rattle.base_core.specs.Sets.{are_same}
+use Rattle.value_core.specs.RowPacking.{unpacked}
+use Rattle.value_core.specs.Values.{row_cmp}
+use Rattle.u_set.proofs.PackedLemmas.{told_of_list}
+use Rattle.u_set.proofs.row_comparison.same_on_one.Goals as goal
+
+pub returns : goal.returns
+returns c =
+    let one : length c.args.commalist.now ≡ 1 = grind (arith, nat_tests) in
+    let answer : List ℕ → Bool = λ ps. are_same row_cmp (unpacked ps c.args.left.now.rows) (unpacked ps c.args.right.now.rows) in
+    told_of_list answer c.args.commalist.now one c.same_at.result c.same_at.ensures
