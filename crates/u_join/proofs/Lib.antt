@@ -11,3 +11,8 @@ pub mod MadePlaces
 pub mod PairRowLemmas
 pub mod MadeLemmas
 pub mod MatchedRowLemmas
+pub mod RunLemmas
+pub mod RestLemmas
+pub mod LeftRowLemmas
+pub mod SameHeadingLemmas
+pub mod PackedOperandLemmas

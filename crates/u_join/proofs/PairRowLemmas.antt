@@ -121,7 +121,7 @@ both_ordered : (i j : Span) → i.0 ≤ℤ i.1 → j.0 ≤ℤ j.1 → Meet i j �
 both_ordered i j h g m = let a = m.0 in let b = m.1 in omega (arith, ints, clamps)
 
 module _ (t : AnyType) where
-  inside : (v : Value) → IsTrue (fits (SpanOf t) v) → IsTrue (is_interval t (span_of v))
+  pub inside : (v : Value) → IsTrue (fits (SpanOf t) v) → IsTrue (is_interval t (span_of v))
   inside (truth b) h = absurd (true≢false (sym h))
   inside (text bytes) h = absurd (true≢false (sym h))
   inside (point l p) h = absurd (true≢false (sym h))

@@ -3,3 +3,4 @@ pub mod KeyedCellBox
 pub mod Places
 pub mod Shared
 pub mod RowPairs
+pub mod Rests

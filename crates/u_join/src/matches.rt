@@ -21,6 +21,7 @@ ghost use Rattle.u_join.specs.Pairs.{matched_boxes, unmatched_boxes};
 use crate::matching::{matched_in_limit, unmatched_in_limit};
 use crate::places::key_pairs;
 use crate::row_matches::matched_by_rows;
+use crate::row_unmatched::unmatched_by_rows;
 use cell_core::{BoxRow, CellRefuse};
 use point_core::{AnyType, Steps};
 use std::alloc::Global;
@@ -215,5 +216,9 @@ pub fn unmatched<L: Ledger>(
     if here.len() == 0 {
         return relation_core::not_matching(alloc, left, right);
     }
-    unmatched_by_boxes(alloc, left, right, here, there, steps)
+    match unmatched_by_rows(alloc, left, right, here, there) {
+        Ok(Some(answer)) => Ok(answer),
+        Ok(None) => unmatched_by_boxes(alloc, left, right, here, there, steps),
+        Err(refuse) => Err(refuse),
+    }
 }

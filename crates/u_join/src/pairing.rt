@@ -18,8 +18,8 @@ use u_row::unlisted;
 use u_set::is_apart;
 use value_core::{Kind, Name, Relation, Row};
 
-// The positions of the key in a heading's rows: the common ones, but for that of the interval.
-fn key_positions(
+/// The positions of the key in a heading's rows: the common ones, but for that of the interval.
+pub(crate) fn key_positions(
     alloc: Global,
     heading: &[(Name, Kind)],
     left: &[(Name, Kind)],
@@ -43,9 +43,14 @@ pub(crate) fn type_at(heading: &[(Name, Kind)], at: usize) -> AnyType
     }
 }
 
-// Whether rows that agree beside the interval have intervals that are apart, or at least those that have all values else alike. Only
-// speed hangs on it: of such operands there are not many more pairs than joined rows.
-fn are_few(alloc: Global, r: &Relation, at: usize, rows: &[Standing]) -> Result<bool, Memory>
+/// Whether rows that agree beside the interval have intervals that are apart, or at least those that have all values else alike. Only
+/// speed hangs on it: of such operands there are not many more pairs than joined rows.
+pub(crate) fn are_few(
+    alloc: Global,
+    r: &Relation,
+    at: usize,
+    rows: &[Standing],
+) -> Result<bool, Memory>
     requires { AreIntervals r.now.heading (at ∷ []) }
 {
     if stand_apart(rows) {
@@ -84,14 +89,52 @@ fn are_few_by_keys(left: &[Standing], right: &[Standing]) -> bool {
     true
 }
 
+/// What is asked before rows are paired, so that their pairs are not too many. Only speed hangs on it.
+#[derive(Clone, Copy)]
+pub(crate) enum Look {
+    /// Whether the rows of either operand are apart: then the pairs are not many more than the joined rows.
+    Operands,
+    /// Whether the pairs are few, for as many rows.
+    Pairs,
+    /// Nothing, where the rows are known to be apart.
+    Nothing,
+}
+
+// Whether the pairs of the rows, which stand for those of the relations, are seen to be few.
+fn are_seen_few(
+    alloc: Global,
+    left: &Relation,
+    right: &Relation,
+    places: (usize, usize),
+    rows: (&[Standing], &[Standing]),
+    look: Look,
+) -> Result<bool, Memory>
+    requires left { AreIntervals left.now.heading (places.0 ∷ []) }
+    requires right { AreIntervals right.now.heading (places.1 ∷ []) }
+{
+    match look {
+        Look::Operands => {
+            let few = are_few(alloc, left, places.0, rows.0)?;
+            if !few {
+                return Ok(false);
+            }
+            are_few(alloc, right, places.1, rows.1)
+        }
+        Look::Pairs => Ok(
+            stand_apart(rows.0) && stand_apart(rows.1) || are_few_by_keys(rows.0, rows.1),
+        ),
+        Look::Nothing => Ok(true),
+    }
+}
+
 /// The rows that the pairs of a left and a right row give that agree beside the interval and whose intervals meet. There are none
-/// where the pairs may be many more than the rows of the operands, or, for a join, than its rows.
+/// where the pairs are not seen to be few.
 pub(crate) fn rows_of_pairs(
     alloc: Global,
     left: &Relation,
     right: &Relation,
     sources: &Sources,
-    joining: bool,
+    look: Look,
 ) -> Result<Option<Vec<Row>>, Memory>
     requires same { attributes_at (sources.now.here ∷ []) left.now.heading ≡ attributes_at (sources.now.there ∷ []) right.now.heading }
     requires left { AreIntervals left.now.heading (sources.now.here ∷ []) }
@@ -114,11 +157,7 @@ pub(crate) fn rows_of_pairs(
     let lefts = rows_standing(alloc, left, key.as_slice(), here)?;
     let rights = rows_standing(alloc, right, other_key.as_slice(), there)?;
     let (ls, rs) = (lefts.as_slice(), rights.as_slice());
-    if joining {
-        if !are_few(alloc, left, here, ls)? || !are_few(alloc, right, there, rs)? {
-            return Ok(None);
-        }
-    } else if !(stand_apart(ls) && stand_apart(rs)) && !are_few_by_keys(ls, rs) {
+    if !are_seen_few(alloc, left, right, (here, there), (ls, rs), look)? {
         return Ok(None);
     }
     let pairs = meeting_pairs(alloc, ls, rs)?;

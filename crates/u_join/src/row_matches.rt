@@ -10,7 +10,7 @@ ghost use Rattle.relation_core.specs.Joins.{HaveEqualKinds};
 ghost use Rattle.relation_core.specs.Parts.{attributes_at};
 ghost use Rattle.u_set.specs.Boxes.{AreIntervals, boxed, unboxed};
 
-use crate::pairing::{rows_of_pairs, type_at};
+use crate::pairing::{Look, rows_of_pairs, type_at};
 use crate::row_pairs::Sources;
 use point_core::Memory;
 use std::alloc::Global;
@@ -44,7 +44,7 @@ fn matching_rows(
         here,
         there,
     };
-    rows_of_pairs(alloc, left, right, &sources, false)
+    rows_of_pairs(alloc, left, right, &sources, Look::Pairs)
 }
 
 // MATCHING under USING of the attribute that stands at the positions, or nothing where the pairs may be many.

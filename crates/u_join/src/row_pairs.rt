@@ -58,8 +58,8 @@ fn common(i: &Interval<AnyType>, j: &Interval<AnyType>) -> Interval<AnyType>
     Interval::of(begin, end)
 }
 
-// The value of an interval of the type.
-fn value_of(point_type: AnyType, i: &Interval<AnyType>) -> Value
+/// The value of an interval of the type.
+pub(crate) fn value_of(point_type: AnyType, i: &Interval<AnyType>) -> Value
     requires { HasEndsIn IsPointOf point_type i.now }
     ensures { plain result ≡ interval (line_of point_type) (span number i.now) }
 {
@@ -78,8 +78,8 @@ fn common_value(point_type: AnyType, x: &Value, y: &Value) -> Value
     value_of(point_type, &common(&i, &j))
 }
 
-// Puts the value at the place.
-fn put(values: &mut Vec<Value>, at: usize, value: Value)
+/// Puts the value at the place.
+pub(crate) fn put(values: &mut Vec<Value>, at: usize, value: Value)
     requires { at < length values.old.items }
     ensures { map plain values.new.items ≡ set (map plain values.old.items) at (plain value) }
 {

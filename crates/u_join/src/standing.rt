@@ -1,6 +1,7 @@
 // Rows in the order of some of their values and of where their intervals begin.
-ghost use Rattle.std.specs.Prelude.{◌≡◌, ◌∷◌, [], false, map, slice_index_or, IfOk, IsPermutation};
+ghost use Rattle.std.specs.Prelude.{◌≡◌, ◌≤ℤ◌, ◌∷◌, [], false, map, slice_index_or, IfOk, IsPermutation};
 ghost use Rattle.std.specs.List.{All};
+ghost use Rattle.std.specs.declared.cmp.Ordering.TheVariants.{Equal};
 ghost use Rattle.point_core.specs.Points.{number};
 ghost use Rattle.interval_core.specs.Members.{span};
 ghost use Rattle.value_core.specs.Plain.{plain};
@@ -146,8 +147,10 @@ pub(crate) fn rows_standing<'a>(
     Ok(list)
 }
 
-// Whether y is of another key than x, or begins after the end of x.
-fn are_apart(x: &Standing, y: &Standing) -> bool {
+/// Whether y is of another key than x, or begins after the end of x.
+pub(crate) fn are_apart(x: &Standing, y: &Standing) -> bool
+    ensures { result ≡ false → (row_cmp (seen x.now).1 (seen y.now).1 ≡ Equal) × (y.now.begin ≤ℤ x.now.end) }
+{
     x.end < y.begin || !compare_keys(x, y).is_eq()
 }
 

@@ -27,9 +27,15 @@ fn is_behind(row: &Standing, other: &Standing, point: i64, too: bool) -> bool
     }
 }
 
-// How many rows are behind, of which the first `known` are. It goes on from these row by row: who asks for keys and points that rise
-// comes past each row once.
-fn count_behind(rows: &[Standing], other: &Standing, point: i64, too: bool, known: usize) -> usize
+/// How many rows are behind, of which the first `known` are. It goes on from these row by row: who asks for keys and points that rise
+/// comes past each row once.
+pub(crate) fn count_behind(
+    rows: &[Standing],
+    other: &Standing,
+    point: i64,
+    too: bool,
+    known: usize,
+) -> usize
     requires within { known ≤ length rows.now }
     requires known { AreBehind seen too (seen other.now).1 point rows.now known }
     requires order { Ascend seen rows.now }
