@@ -1,8 +1,9 @@
 -- Rows by their labels, and the numbers that stand for these.
-use Rattle.std.proofs.Common.{◌≡◌, ◌↔◌, ◌⊎◌, inl, inr, ℕ, zero, suc, ◌+◌, ◌<◌, ◌≤◌, Bool, true, false, List, [], ◌∷◌, ◌++◌, map, length, get_or, set, arith, refl, sym, ap, ◌∙◌, subst}
+use Rattle.std.proofs.Common.{◌≡◌, ◌≢◌, ◌↔◌, ◌⊎◌, inl, inr, ℕ, zero, suc, ◌+◌, ◌<◌, ◌≤◌, Bool, true, false, List, [], ◌∷◌, ◌++◌, map, length, get_or, set, arith, refl, sym, ap, ◌∙◌, subst}
 use Rattle.std.specs.Prelude.{if◌then◌else◌}
 use Rattle.std.specs.Ordering.{eq_by_cmp, is_lt}
-use Rattle.std.specs.declared.cmp.Ordering.TheVariants.{Less, Equal}
+use Rattle.std.specs.declared.cmp.Ordering.{Ordering}
+use Rattle.std.specs.declared.cmp.Ordering.TheVariants.{Less, Equal, Greater}
 use Rattle.std.proofs.lemmas.Bool.{cases_lt, cases_Bool}
 use Rattle.std.proofs.lemmas.Cmp.{tied_itself}
 use Rattle.std.proofs.lemmas.List.{get_or_default, get_or-set_same, get_or-set_other, length-map}
@@ -21,7 +22,7 @@ use Rattle.cell_boxes.specs.Rows.{Ascend, IsRow, PlainCellBox}
 use Rattle.cell_boxes.proofs.RowLemmas.{some_row, among_row, row_among, map_row, ascend_from_sorted}
 use Rattle.cell_boxes.proofs.OperatorLemmas.{keys_ascend}
 use Rattle.cell_sweep.proofs.MovedLemmas.{among_moved}
-use Rattle.u_summarize.specs.Entries.{Listed, row_at, entry_at, bare_row, part_row, standing, numbered_row, AreDealt, AreKeyed, AreArranged}
+use Rattle.u_summarize.specs.Entries.{Listed, row_at, entry_at, bare_row, part_row, standing, turn, numbered_row, AreDealt, AreStanding, AreKeyed, AreArranged}
 
 -- ---- lists that are made one by one
 
@@ -258,47 +259,142 @@ module _ (rows : List (PlainCellBox Row)) (given : List (PlainKeyedCellBox Row �
           | inr k ↦ sym (one_stands b.0 a.0 k a.1 (sym same))
         ] ∙ sym b.2
 
-    part_at : (by : List ℕ) (r : ℕ) → r < length rows → row_at (map (part_row by) rows) r ≡ part_row by (row_at rows r)
-    part_at by r l = let w = map_row (part_row by) rows r (row_at rows r) (some_row rows r none l) in get_or_default (map (part_row by) rows) r none (part_row by (row_at rows r)) w.0 ∙ w.1
+    pub stands_all : length out ≡ length rows → AreStanding rows out
+    stands_all count = record { count = count; has = put; one = one_put }
 
-    pub keyed : (by : List ℕ) (entries : List (PlainKeyedCellBox Row ℕ)) → Listed (numbered_row (map (part_row by) rows) out) (length (map (part_row by) rows)) entries → AreKeyed by rows entries
-    keyed by entries made = record {
-      within = λ z m. let w = come z m in subst (λ k. k < length rows) (sym (number_of z w.0 w.2)) (put w.0 w.1).0;
-      from = λ z m. let w = come z m in (
-        w.0,
-        w.1,
-        ap (λ (x : PlainKeyedCellBox Row ℕ). x.2) w.2,
-        ap (λ k. (row_at rows k).0) (number_of z w.0 w.2) ∙ (put w.0 w.1).1,
-        ap (λ (x : PlainKeyedCellBox Row ℕ). x.0) w.2,
-      );
-      to = λ r l. (
-        row_of r,
-        (made (row_of r)).1 (r, subst (λ k. r < k) (sym count) l, sym (made_at r l)),
-        refl,
-        (put r l).1,
-      );
-      one = λ z w m n e.
-          let a = come z m in
-          let b = come w n in
-          let ea = number_of z a.0 a.2 in
-          let eb = number_of w b.0 b.2 in
-          let la = (put a.0 a.1).1 in
-          let lb = (put b.0 b.1).1 in
-          let same : (row_at rows a.0).0 ≡ (row_at rows b.0).0 = sym la ∙ ap (λ k. (row_at rows k).0) (sym ea) ∙ e ∙ ap (λ k. (row_at rows k).0) eb ∙ lb in
-          ea ∙ one_put a.0 b.0 a.1 b.1 same ∙ sym eb;
-    }
-      where
-        count : length (map (part_row by) rows) ≡ length rows
-        count = length-map rows (part_row by)
+-- ---- rows that stand by their labels
 
-        row_of : ℕ → PlainKeyedCellBox Row ℕ
-        row_of r = (part_of by (row_at rows r).0, get_or out r 0, (row_at rows r).1)
+module _ (rows : List (PlainCellBox Row)) (n : ℕ) (within : n ≤ length rows) (order : (j : ℕ) → suc j < n → row_cmp (row_at rows j).0 (row_at rows (suc j)).0 ≢ Greater) where
+  abbrev name : ℕ → Row
+  name r = (row_at rows r).0
 
-        made_at : (r : ℕ) → r < length rows → numbered_row (map (part_row by) rows) out r ≡ row_of r
-        made_at r l = ap (λ (x : PlainCellBox Row). (x.0, get_or out r 0, x.1)) (part_at by r l)
+  turned : (b : Bool) (x y : ℕ) → (b ≡ true → (if b then x else y) ≡ x) × (b ≡ false → (if b then x else y) ≡ y)
+  turned true x y = (λ e. refl, λ e. absurd cc)
+  turned false x y = (λ e. absurd cc, λ e. refl)
 
-        come : (z : PlainKeyedCellBox Row ℕ) → Among z entries → (r : ℕ) × (r < length rows) × (z ≡ row_of r)
-        come z m = let w = (made z).0 m in let l = subst (λ k. w.0 < k) count w.1 in (w.0, l, w.2 ∙ made_at w.0 l)
+  same_name : (i j : ℕ) → (eq_by_cmp row_cmp (name i) (name j) ≡ true) ↔ (name i ≡ name j)
+  same_name i j = eq_by_cmp-≡ row_cmp row_total row_separates (name i) (name j)
 
-        number_of : (z : PlainKeyedCellBox Row ℕ) (r : ℕ) → z ≡ row_of r → z.1 ≡ get_or out r 0
-        number_of z r e = ap (λ (x : PlainKeyedCellBox Row ℕ). x.1) e
+  -- the number is that of a row with the label, and of none after it
+  turn_of : (r : ℕ) → (turn rows r ≤ r) × (name (turn rows r) ≡ name r)
+  turn_of zero = (omega arith, refl)
+  turn_of (suc r) =
+      let t = eq_by_cmp row_cmp (name r) (name (suc r)) in
+      let ch = turned t (turn rows r) (suc r) in
+      elim (cases_Bool t) [
+        | inl e ↦ let w = turn_of r in let l = w.0 in let q = ch.0 e in (omega (arith, l, q), ap name q ∙ w.1 ∙ (same_name r (suc r)).0 e)
+        | inr e ↦ let q = ch.1 e in (omega (arith, q), ap name q)
+      ]
+
+  less_or_same : (x y : Row) → row_cmp x y ≢ Greater → (row_cmp x y ≡ Less) ⊎ (x ≡ y)
+  less_or_same x y h = go (row_cmp x y) refl
+    where
+      go : (o : Ordering) → row_cmp x y ≡ o → (row_cmp x y ≡ Less) ⊎ (x ≡ y)
+      go Less e = inl e
+      go Equal e = inr (row_separates x y e)
+      go Greater e = absurd (h e)
+
+  ahead_or_same : (i j : ℕ) → i ≤ j → j < n → (row_cmp (name i) (name j) ≡ Less) ⊎ (name i ≡ name j)
+  ahead_or_same i zero l m = let q : i ≡ 0 = omega (arith, l) in inr (ap name q)
+  ahead_or_same i (suc j) l m = elim (cases_lt i (suc j)) [
+    | inl k ↦ elim (ahead_or_same i j (omega (arith, k)) (omega (arith, m))) [
+      | inl a ↦ elim (less_or_same (name j) (name (suc j)) (order j m)) [
+        | inl b ↦ inl (row_total.trans (name i) (name j) (name (suc j)) a b)
+        | inr b ↦ inl (subst (λ x. row_cmp (name i) x ≡ Less) b a)
+      ]
+      | inr a ↦ subst (λ x. (row_cmp x (name (suc j)) ≡ Less) ⊎ (x ≡ name (suc j))) (sym a) (less_or_same (name j) (name (suc j)) (order j m))
+    ]
+    | inr k ↦ let q : i ≡ suc j = omega (arith, k, l) in inr (ap name q)
+  ]
+
+  -- what stands between equal labels is equal
+  amid : (i j k : ℕ) → i ≤ j → j ≤ k → k < n → name i ≡ name k → name i ≡ name j
+  amid i j k l m b e = elim (ahead_or_same i j l (omega (arith, m, b))) [
+    | inl x ↦ elim (ahead_or_same j k m b) [
+      | inl y ↦ absurd (never (name i) (name j) x (subst (λ z. row_cmp (name j) z ≡ Less) (sym e) y))
+      | inr y ↦ e ∙ sym y
+    ]
+    | inr x ↦ x
+  ]
+    where
+      never : (x y : Row) → row_cmp x y ≡ Less → row_cmp y x ≡ Less → ⊥
+      never x y a b = let e : Less ≡ Equal = sym (row_total.trans x y x a b) ∙ tied_itself row_total x in cc
+
+  one_turn : (i j : ℕ) → i ≤ j → j < n → name i ≡ name j → turn rows i ≡ turn rows j
+  one_turn i zero l m e = let q : i ≡ 0 = omega (arith, l) in ap (turn rows) q
+  one_turn i (suc j) l m e = elim (cases_lt i (suc j)) [
+    | inl k ↦
+        let b = amid i j (suc j) (omega (arith, k)) (omega arith) m e in
+        let s = (turned (eq_by_cmp row_cmp (name j) (name (suc j))) (turn rows j) (suc j)).0 ((same_name j (suc j)).1 (sym b ∙ e)) in
+        one_turn i j (omega (arith, k)) (omega (arith, m)) b ∙ sym s
+    | inr k ↦ let q : i ≡ suc j = omega (arith, k, l) in ap (turn rows) q
+  ]
+
+  pub stands_in_turn : (out : List ℕ) → length out ≡ length rows → n ≡ length rows → ((r : ℕ) → r < n → get_or out r 0 ≡ turn rows r) → AreStanding rows out
+  stands_in_turn out count all each = record {
+    count = count;
+    has = λ r l.
+        let k : r < n = subst (λ m. r < m) (sym all) l in
+        let w = turn_of r in
+        let b = w.0 in
+        let e = each r k in
+        (omega (arith, l, b, e), ap name e ∙ w.1);
+    one = λ r s l m e.
+        let a : r < n = subst (λ k. r < k) (sym all) l in
+        let b : s < n = subst (λ k. s < k) (sym all) m in
+        each r a ∙ elim (cases_lt r s) [
+          | inl k ↦ one_turn r s (omega (arith, k)) b e
+          | inr k ↦ sym (one_turn s r k a (sym e))
+        ] ∙ sym (each s b);
+  }
+
+-- ---- rows under the parts of their labels
+
+module _ (rows : List (PlainCellBox Row)) (out : List ℕ) (are : AreStanding rows out) where
+  abbrev blank : PlainCellBox Row
+  blank = ([], [])
+
+  part_at : (by : List ℕ) (r : ℕ) → r < length rows → row_at (map (part_row by) rows) r ≡ part_row by (row_at rows r)
+  part_at by r l = let w = map_row (part_row by) rows r (row_at rows r) (some_row rows r blank l) in get_or_default (map (part_row by) rows) r blank (part_row by (row_at rows r)) w.0 ∙ w.1
+
+  pub keyed : (by : List ℕ) (entries : List (PlainKeyedCellBox Row ℕ)) → Listed (numbered_row (map (part_row by) rows) out) (length (map (part_row by) rows)) entries → AreKeyed by rows entries
+  keyed by entries made = record {
+    within = λ z m. let w = come z m in subst (λ k. k < length rows) (sym (number_of z w.0 w.2)) (are.has w.0 w.1).0;
+    from = λ z m. let w = come z m in (
+      w.0,
+      w.1,
+      ap (λ (x : PlainKeyedCellBox Row ℕ). x.2) w.2,
+      ap (λ k. (row_at rows k).0) (number_of z w.0 w.2) ∙ (are.has w.0 w.1).1,
+      ap (λ (x : PlainKeyedCellBox Row ℕ). x.0) w.2,
+    );
+    to = λ r l. (
+      row_of r,
+      (made (row_of r)).1 (r, subst (λ k. r < k) (sym count) l, sym (made_at r l)),
+      refl,
+      (are.has r l).1,
+    );
+    one = λ z w m n e.
+        let a = come z m in
+        let b = come w n in
+        let ea = number_of z a.0 a.2 in
+        let eb = number_of w b.0 b.2 in
+        let la = (are.has a.0 a.1).1 in
+        let lb = (are.has b.0 b.1).1 in
+        let same : (row_at rows a.0).0 ≡ (row_at rows b.0).0 = sym la ∙ ap (λ k. (row_at rows k).0) (sym ea) ∙ e ∙ ap (λ k. (row_at rows k).0) eb ∙ lb in
+        ea ∙ are.one a.0 b.0 a.1 b.1 same ∙ sym eb;
+  }
+    where
+      count : length (map (part_row by) rows) ≡ length rows
+      count = length-map rows (part_row by)
+
+      row_of : ℕ → PlainKeyedCellBox Row ℕ
+      row_of r = (part_of by (row_at rows r).0, get_or out r 0, (row_at rows r).1)
+
+      made_at : (r : ℕ) → r < length rows → numbered_row (map (part_row by) rows) out r ≡ row_of r
+      made_at r l = ap (λ (x : PlainCellBox Row). (x.0, get_or out r 0, x.1)) (part_at by r l)
+
+      come : (z : PlainKeyedCellBox Row ℕ) → Among z entries → (r : ℕ) × (r < length rows) × (z ≡ row_of r)
+      come z m = let w = (made z).0 m in let l = subst (λ k. w.0 < k) count w.1 in (w.0, l, w.2 ∙ made_at w.0 l)
+
+      number_of : (z : PlainKeyedCellBox Row ℕ) (r : ℕ) → z ≡ row_of r → z.1 ≡ get_or out r 0
+      number_of z r e = ap (λ (x : PlainKeyedCellBox Row ℕ). x.1) e

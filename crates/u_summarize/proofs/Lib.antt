@@ -8,6 +8,7 @@ pub mod FigureLemmas
 pub mod FirstLemmas
 pub mod NumberedLemmas
 pub mod PickedLemmas
+pub mod PointCellLemmas
 pub mod PointGroups
 pub mod RankLemmas
 pub mod SumLemmas

@@ -94,11 +94,11 @@ cell_place (g ∷ gs) (i ∷ is) e (x ∷ xs) q =
 
 -- ---- rows of points and of cells by their numbers
 
-labels_grid : (ns : List (List ℤ × ℤ)) (xs : List (PlainCellBox Row)) → labels_in (map (grid_row ns) xs) ≡ labels_in xs
+pub labels_grid : (ns : List (List ℤ × ℤ)) (xs : List (PlainCellBox Row)) → labels_in (map (grid_row ns) xs) ≡ labels_in xs
 labels_grid ns [] = refl
 labels_grid ns (x ∷ xs) = ap (λ ls. x.0 ∷ ls) (labels_grid ns xs)
 
-sides_grid : (ns : List (List ℤ × ℤ)) (xs : List (PlainCellBox Row)) (r : ℕ) → r < length xs → get_or (sides_in (map (grid_row ns) xs)) r [] ≡ grid_box ns (get_or (sides_in xs) r [])
+pub sides_grid : (ns : List (List ℤ × ℤ)) (xs : List (PlainCellBox Row)) (r : ℕ) → r < length xs → get_or (sides_in (map (grid_row ns) xs)) r [] ≡ grid_box ns (get_or (sides_in xs) r [])
 sides_grid ns [] r l = absurd (omega arith)
 sides_grid ns (x ∷ xs) zero l = refl
 sides_grid ns (x ∷ xs) (suc r) l = sides_grid ns xs r (omega arith)

@@ -3,6 +3,8 @@
 --     bare_row      a row's label with the row's number, and no cells
 --     part_row      a row under a part of its label
 --     AreDealt      for numbers of rows those that stand for their labels
+--     turn      a number that stands for a row's label, where the rows stand by their labels
+--     AreStanding      numbers that stand for the labels of rows
 --     AreKeyed      the rows under parts of their labels, with one number for each label
 --     AreArranged      rows with their numbers, in another order
 --     AreNumbered      the rows under parts of their labels, with the numbers beside them
@@ -41,6 +43,17 @@ numbered_row rows numbers r = ((row_at rows r).0, get_or numbers r 0, (row_at ro
 -- out has for the numbers of the first n labels those that stand for these
 abbrev pub AreDealt : List (PlainKeyedCellBox Row ℕ) → ℕ → List ℕ → Type 0
 AreDealt labels n out = (j : ℕ) → j < n → (k : ℕ) × (k < n) × ((entry_at labels k).1 ≡ (entry_at labels j).1) × (get_or out (entry_at labels j).1 0 ≡ standing labels k)
+
+-- the number of the first of the rows up to the row that have its label, where equal labels follow each other
+abbrev pub turn : List (PlainCellBox Row) → ℕ → ℕ
+turn rows zero = 0
+turn rows (suc i) = if eq_by_cmp row_cmp (row_at rows i).0 (row_at rows (suc i)).0 then turn rows i else suc i
+
+-- for each row the number of a row with its label, one for each label
+pub record AreStanding (rows : List (PlainCellBox Row)) (numbers : List ℕ) : Type 0 where
+  pub count : length numbers ≡ length rows
+  pub has : (r : ℕ) → r < length rows → (get_or numbers r 0 < length rows) × ((row_at rows (get_or numbers r 0)).0 ≡ (row_at rows r).0)
+  pub one : (r s : ℕ) → r < length rows → s < length rows → (row_at rows r).0 ≡ (row_at rows s).0 → get_or numbers r 0 ≡ get_or numbers s 0
 
 pub record AreKeyed (by : List ℕ) (rows : List (PlainCellBox Row)) (entries : List (PlainKeyedCellBox Row ℕ)) : Type 0 where
   pub within : (z : PlainKeyedCellBox Row ℕ) → Among z entries → z.1 < length rows

@@ -5,3 +5,4 @@ pub mod Extremes
 pub mod Figures
 pub mod Groups
 pub mod Picked
+pub mod PointCells

@@ -1,18 +1,20 @@
 // Rows with the numbers that stand for their labels, under the parts of these.
-ghost use Rattle.std.specs.Prelude.{◌≡◌, ◌<◌, ◌+◌, ℕ, true, map, length, IfOk};
+ghost use Rattle.std.specs.Prelude.{◌≡◌, ◌≢◌, ◌<◌, ◌+◌, ℕ, true, map, length, IfOk, IfSome};
 ghost use Rattle.std.specs.List.{All};
 ghost use Rattle.std.specs.List.Sorted.{IsPermutation, IsSortedBy};
 ghost use Rattle.std.specs.Ordering.{eq_by_cmp, is_lt};
+ghost use Rattle.std.specs.declared.cmp.Ordering.TheVariants.{Greater};
 ghost use Rattle.value_core.specs.Values.{row_cmp};
 ghost use Rattle.cell_sweep.specs.Rows.{key_cmp};
 ghost use Rattle.cell_boxes.specs.Keys.{keyed_cmp};
 ghost use Rattle.cell_boxes.specs.Rows.{Ascend};
-ghost use Rattle.u_summarize.specs.Entries.{Listed, part_row, bare_row, entry_at, standing, numbered_row, row_at, AreDealt, AreArranged, AreNumbered};
+ghost use Rattle.u_summarize.specs.Entries.{Listed, part_row, bare_row, entry_at, standing, numbered_row, row_at, turn, AreDealt, AreStanding, AreArranged, AreNumbered};
 
 use cell_boxes::{KeyedCellBox, keys_in_order};
 use cell_sweep::{CellBox, arrange_unordered};
 use point_core::{Label, Memory};
 use std::alloc::Global;
+use std::cmp::Ordering;
 use u_set::part_of_label;
 use value_core::Row;
 
@@ -169,8 +171,108 @@ fn arranged(
     Ok((keys, own))
 }
 
+// How the label of the row stands to that of the next one.
+fn order_to_next(rows: &[CellBox<Row>], i: usize) -> Ordering
+    requires { i + 1 < length rows.now }
+    ensures { result ≡ row_cmp (row_at rows.now i).0 (row_at rows.now (i + 1)).0 }
+{
+    let one = &rows[i];
+    let next = &rows[i + 1];
+    one.label.compare(&next.label)
+}
+
+// The number of the first row that has the row's label, where that of the row before it is known. There is none where the label is
+// before that of the row before.
+fn next_in_turn(rows: &[CellBox<Row>], i: usize, before: usize) -> Option<usize>
+    requires some { i < length rows.now }
+    requires before { (j : ℕ) → i ≡ j + 1 → before ≡ turn rows.now j }
+    ensures number { IfSome result (λ n. n ≡ turn rows.now i) }
+    ensures order { (j : ℕ) → i ≡ j + 1 → IfSome result (λ _. row_cmp (row_at rows.now j).0 (row_at rows.now i).0 ≢ Greater) }
+{
+    if i == 0 {
+        return Some(0);
+    }
+    match order_to_next(rows, i - 1) {
+        Ordering::Less => Some(i),
+        Ordering::Equal => Some(before),
+        Ordering::Greater => None,
+    }
+}
+
+// The numbers that stand for the labels of rows that stand by their labels.
+fn numbers_in_turn(alloc: Global, rows: &[CellBox<Row>]) -> Result<Option<Vec<usize>>, Memory>
+    ensures { IfOk result (λ o. IfSome o (λ v. AreStanding rows.now v.items)) }
+{
+    let mut out = Vec::with_capacity(alloc, rows.len())?;
+    let mut before = 0;
+    for i in 0..rows.len() {
+        match next_in_turn(rows, i, before) {
+            Some(number) => {
+                out.push(number)?;
+                before = number;
+            }
+            None => return Ok(None),
+        }
+    }
+    Ok(Some(out))
+}
+
+// The rows under the parts of their labels. The cells are moved.
+fn under_parts(
+    alloc: Global,
+    rows: Vec<CellBox<Row>>,
+    by: &[usize],
+) -> Result<Vec<CellBox<Row>>, Memory>
+    ensures { IfOk result (λ v. v.items ≡ map (part_row by.now) rows.items) }
+{
+    let mut parts = Vec::with_capacity(alloc, rows.len())?;
+    for row in rows {
+        let key = part_of_label(alloc, &row.label, by)?;
+        parts.push(CellBox {
+            label: key,
+            sides: row.sides,
+        })?;
+    }
+    Ok(parts)
+}
+
+// The rows under the parts of their labels, and the numbers that stand for these, by their places among the sorted labels.
+fn parts_and_numbers(
+    alloc: Global,
+    rows: Vec<CellBox<Row>>,
+    by: &[usize],
+) -> Result<(Vec<CellBox<Row>>, Vec<usize>), Memory>
+    ensures parts { IfOk result (λ v. v.0.items ≡ map (part_row by.now) rows.items) }
+    ensures numbers { IfOk result (λ v. AreStanding rows.items v.1.items) }
+{
+    let count = rows.len();
+    let (parts, labels) = parted(alloc, rows, by)?;
+    let names = sorted(alloc, labels)?;
+    let numbers = numbers_standing(alloc, count, names.as_slice())?;
+    Ok((parts, numbers))
+}
+
+// The same, without a sort where the rows stand by their labels.
+fn parts_in_turn(
+    alloc: Global,
+    rows: Vec<CellBox<Row>>,
+    by: &[usize],
+) -> Result<(Vec<CellBox<Row>>, Vec<usize>), Memory>
+    ensures parts { IfOk result (λ v. v.0.items ≡ map (part_row by.now) rows.items) }
+    ensures numbers { IfOk result (λ v. AreStanding rows.items v.1.items) }
+{
+    match numbers_in_turn(alloc, rows.as_slice())? {
+        Some(numbers) => {
+            let parts = under_parts(alloc, rows, by)?;
+            Ok((parts, numbers))
+        }
+        None => parts_and_numbers(alloc, rows, by),
+    }
+}
+
 /// The rows under the parts of their labels, by these and by their first cells, with one number for each label: that of a row that has
-/// it. Their cells are moved. Only labels are sorted for the numbers, so rows that stand by parts and cells are not brought in order again.
+/// it. Their cells are moved. Only labels are sorted for the numbers, and only such as do not stand in order; so rows that stand by parts
+/// and cells are not brought in order again.
 pub(crate) fn keyed_rows(
     alloc: Global,
     rows: Vec<CellBox<Row>>,
@@ -179,10 +281,7 @@ pub(crate) fn keyed_rows(
     ensures rows { IfOk result (λ v. AreNumbered by.now rows.items v.0.items v.1.items) }
     ensures order { IfOk result (λ v. Ascend row_cmp v.0.items) }
 {
-    let count = rows.len();
-    let (parts, labels) = parted(alloc, rows, by)?;
-    let names = sorted(alloc, labels)?;
-    let numbers = numbers_standing(alloc, count, names.as_slice())?;
+    let (parts, numbers) = parts_in_turn(alloc, rows, by)?;
     let (keys, own) = arranged(alloc, parts, numbers)?;
     Ok((keys, own))
 }
