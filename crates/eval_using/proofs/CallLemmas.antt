@@ -4,12 +4,16 @@ use Rattle.std.specs.Bool.{IsTrue}
 use Rattle.std.specs.List.{All}
 use Rattle.base_core.specs.Outcomes.{then_give}
 use Rattle.point_core.specs.Faults.{OrFault}
-use Rattle.point_core.specs.Points.{IsPointOf}
+use Rattle.point_core.specs.Points.{number, IsPointOf}
 use Rattle.point_core.specs.declared.any_type.AnyPoint.{AnyPoint}
 use Rattle.point_core.specs.declared.any_type.AnyType.{AnyType}
 use Rattle.point_core.specs.declared.fault.Fault.{Fault}
 use Rattle.point_core.specs.declared.fault.Place.{Place}
-use Rattle.cell_packing.specs.Boxed.{Boxed}
+use Rattle.cell_packing.specs.Boxed.{Boxed, packed_boxes}
+use Rattle.cell_core.proofs.PackedGridPoints.{AllHave}
+use Rattle.cell_core.specs.Cells.{row_numbers}
+use Rattle.value_core.specs.Order.{row_total, row_separates}
+use Rattle.u_summarize.proofs.PointGroups.{packed_groups}
 use Rattle.point_core.specs.LeastFault.{IsLeast}
 use Rattle.value_core.specs.RowPacking.{packed, unpacked}
 use Rattle.value_core.specs.Values.{Row, Relation, Heading, IsRelation, row_cmp, is_heading}
@@ -35,7 +39,7 @@ use Rattle.eval_using.specs.Using.{around, listed, HasList, IsSummedBy}
 use Rattle.meaning_core.proofs.IntervalLemmas.{intervals_of_list}
 use Rattle.eval_using.proofs.ListLemmas.{positions_back}
 use Rattle.eval_using.proofs.OperandLemmas.{operand_intervals, same_attributes}
-use Rattle.eval_using.specs.Labels.{group_label}
+use Rattle.eval_using.specs.Labels.{group_label, AreGroupCells}
 use Rattle.eval_using.proofs.SummaryLemmas.{summary_fault, summary_given}
 
 module _ (sizes : List ℕ) (heading : Heading) (commalist : List ℕ) (by : List ℕ) (aggregates : List PlainAggregate) (r : Relation) (is : IsRelation r) (headed : IsTrue (is_heading heading))
@@ -142,3 +146,12 @@ module _ (sizes : List ℕ) (heading : Heading) (commalist : List ℕ) (by : Lis
     -- the boxes have the types of the node
     pub sides_by : (boxes : List (Row × List (AnyPoint × AnyPoint))) → All (λ b. IsBox IsPointOf (types_at r.heading hs) b.1) boxes → All (λ b. IsBox IsPointOf (types_at heading commalist) b.1) boxes
     sides_by boxes h = subst (λ (ts : List AnyType). All (λ b. IsBox IsPointOf ts b.1) boxes) (ap (types_at r.heading) hs_is ∙ types) h
+
+    -- the same by boxes with the labels of the groups, packed
+    pub packed_by : (place : Place) (cells : List (Row × List (AnyPoint × AnyPoint))) → AllHave (length hs) (map (row_numbers number) cells)
+        → AreGroupCells (group_label commalist ps aggregates r.rows) (inner hs by) (map (boxed hs) r.rows) (map (row_numbers number) cells) None
+        → (rows : List Row) × (under heading (limited place rows) ≡ node place) × AreRowsOf heading commalist rows (packed_boxes row_cmp (length hs) (map (row_numbers number) cells))
+    packed_by place cells have h =
+        let w = answered place h.least in
+        let form : List (Boxed Row) = packed_boxes row_cmp (length hs) (map (row_numbers number) cells) in
+        (w.0, w.1, w.2 form (packed_groups row_cmp row_total row_separates (length hs) (group_label commalist ps aggregates r.rows) (inner hs by) (map (boxed hs) r.rows) (map (row_numbers number) cells) have h.places))

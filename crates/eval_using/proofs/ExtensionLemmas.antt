@@ -20,12 +20,12 @@ use Rattle.relation_core.specs.Agreement.{part_of}
 use Rattle.relation_core.specs.Operators.{extended}
 use Rattle.point_core.specs.Orders.{fault_order}
 use Rattle.tree_core.specs.Trees.{PlainSets}
-use Rattle.cell_packing.specs.Boxed.{Boxed}
+use Rattle.cell_packing.specs.Boxed.{Boxed, InBoxes, packed_boxes}
 use Rattle.point_core.specs.LeastFault.{IsLeast}
-use Rattle.u_set.specs.Boxes.{IsShaped, spans_at}
+use Rattle.u_set.specs.Boxes.{IsShaped, spans_at, boxed, unboxed}
 use Rattle.u_set.proofs.BoxLemmas.{shaped_from_fit, value_at-get}
 use Rattle.u_set.proofs.BridgeLemmas.{AreRowsOf}
-use Rattle.u_row.specs.Rules.{HasRuleFault, IsRuleForm}
+use Rattle.u_row.specs.Rules.{InRule, HasRuleFault, IsRuleForm}
 use Rattle.meaning_core.specs.Rows.{values_on, extended_at}
 use Rattle.meaning_core.proofs.MadeLemmas.{split_ok}
 use Rattle.eval_using.specs.Extended.{made_of, AreItems}
@@ -34,7 +34,7 @@ use Rattle.eval_using.specs.Swept.{swept_rows}
 use Rattle.eval_using.proofs.FaultLemmas.{least_over}
 use Rattle.scalar_core.proofs.AtPlaceLemmas.{at_place-fits}
 use Rattle.cell_sweep.proofs.Turns.{least_iff}
-use Rattle.eval_using.proofs.SweptLemmas.{fault_there, swept_rows_of}
+use Rattle.eval_using.proofs.SweptLemmas.{fault_there, swept_given, swept_rows_of}
 
 -- ---- one row
 
@@ -125,17 +125,25 @@ module _ (from heading : Heading) (commalist to : List ℕ) (sets : PlainSets) (
   pub extended_given : IsLeastThere None → (vs : List Row) × (least_of_all fault_order (map f (unpacked commalist rows)) ≡ Ok vs)
   extended_given h = (least_over f (unpacked commalist rows) None (least_there None h)).1 refl
 
-  -- they, packed, are those of the labels that are given at places
-  pub extended_rows : (vs : List Row) → least_of_all fault_order (map f (unpacked commalist rows)) ≡ Ok vs → (form : List (Boxed Row)) → IsRuleForm row_cmp (length commalist) means boxes form
-      → AreRowsOf heading to (packed to (rows_of vs)) form
-  extended_rows vs e form h =
-      let all : (y : Row) → In y (rows_of vs) ↔ ((x : Row) × In x (unpacked commalist rows) × (made_of at sets x ≡ Ok (Some y))) = λ y.
-      let set = In-in_order row_cmp row_total row_separates y vs in
-      let each = all_made f (unpacked commalist rows) vs e y in (
-        λ m. let w = each.0 (set.0 m) in (w.0, w.1, (some_made (f w.0) y).1 w.2),
-        λ w. set.1 (each.1 (w.0, w.1, (some_made (f w.0) y).0 w.2)),
-      ) in
-      swept_rows_of from commalist items.here rows ascends shaped (made_of at sets) to heading items.there items.count (rows_of vs) (Ascends-in_order row_cmp row_total row_separates vs) all made form h
+  module _ (vs : List Row) (e : least_of_all fault_order (map f (unpacked commalist rows)) ≡ Ok vs) where
+    members : (y : Row) → In y (rows_of vs) ↔ ((x : Row) × In x (unpacked commalist rows) × (made_of at sets x ≡ Ok (Some y)))
+    members y =
+        let set = In-in_order row_cmp row_total row_separates y vs in
+        let each = all_made f (unpacked commalist rows) vs e y in (
+          λ m. let w = each.0 (set.0 m) in (w.0, w.1, (some_made (f w.0) y).1 w.2),
+          λ w. set.1 (each.1 (w.0, w.1, (some_made (f w.0) y).0 w.2)),
+        )
+
+    -- they, packed, are those of the labels that are given at places
+    pub extended_rows : (form : List (Boxed Row)) → IsRuleForm row_cmp (length commalist) means boxes form → AreRowsOf heading to (packed to (rows_of vs)) form
+    extended_rows =
+        swept_rows_of from commalist items.here rows ascends shaped (made_of at sets) to heading items.there items.count (rows_of vs) (Ascends-in_order row_cmp row_total row_separates vs) members made
+
+    -- so are other rows with these labels
+    pub extended_boxes : (left : List Row) → ((l : Row) (place : List ℤ) → InBoxes (map (boxed to) left) l place ↔ InRule means boxes l place)
+        → packed to (rows_of vs) ≡ rows_of (map (unboxed heading to) (packed_boxes row_cmp (length to) (map (boxed to) left)))
+    extended_boxes =
+        swept_given from commalist items.here rows ascends shaped (made_of at sets) to heading items.there items.count (rows_of vs) (Ascends-in_order row_cmp row_total row_separates vs) members made
 
   -- the least fault is that at places
   pub extended_fault : (e : Fault) → IsLeastThere (Some e) → extended f (unpacked commalist rows) ≡ Err e

@@ -55,7 +55,7 @@ module _ (at : ℕ) (row : Row) (l : Line) (is : value_at row at ≡ interval l 
   commalist = at ∷ []
 
   -- the box of the row with another interval
-  box_put : (s : Span) → boxed commalist (put_span row at s) ≡ (others commalist row, s ∷ [])
+  pub box_put : (s : Span) → boxed commalist (put_span row at s) ≡ (others commalist row, s ∷ [])
   box_put s =
       let z : at ≡ 0 + at = omega arith in
       let label : others commalist (put_span row at s) ≡ others commalist row = others-set 0 commalist row at (with_span (value_at row at) s) (subst (λ k. IsTrue (among commalist k)) z (among_itself commalist at (inl refl))) in
@@ -167,10 +167,13 @@ module _ (at : ℕ) (row : Row) (l : Line) (is : value_at row at ≡ interval l 
 -- ---- a row with a heading
 
 -- the row's interval
+pub row_interval : (heading : Heading) (at : ℕ) (row : Row) → AreIntervals heading (at ∷ []) → IsTrue (fits_heading heading row) → (l : Line) × (value_at row at ≡ interval l (span_of (value_at row at)))
+row_interval heading at row intervals fit =
+    (line_of (type_of (kind_at heading at)), (shaped_from_fit heading (at ∷ []) intervals row fit).spans at (among_itself (at ∷ []) at (inl refl)))
+
 pub own_interval : (heading : Heading) (at : ℕ) (c : Expr) (row : Row) → CanAsk heading at c row
     → (l : Line) × (value_at row at ≡ interval l (span_of (value_at row at)))
-own_interval heading at c row can =
-    (line_of (type_of (kind_at heading at)), (shaped_from_fit heading (at ∷ []) can.intervals row can.fits).spans at (among_itself (at ∷ []) at (inl refl)))
+own_interval heading at c row can = row_interval heading at row can.intervals can.fits
 
 module _ (heading : Heading) (at : ℕ) (row : Row) (intervals : AreIntervals heading (at ∷ [])) (fit : IsTrue (fits_heading heading row)) where
   pub row_within : at < length row

@@ -10,13 +10,16 @@ pub mod FaultsAlike
 pub mod FigureGroups
 pub mod FigureValueLemmas
 pub mod FirstLemmas
+pub mod GroupCellLemmas
 pub mod HeadingLemmas
 pub mod InPlaceLemmas
 pub mod ItemCutLemmas
 pub mod ItemLemmas
 pub mod LeftLemmas
 pub mod ListLemmas
+pub mod MadePartLemmas
 pub mod MadeRowLemmas
+pub mod MovedLemmas
 pub mod OperandLemmas
 pub mod OrderLemmas
 pub mod PartLemmas

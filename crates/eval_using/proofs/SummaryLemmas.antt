@@ -20,7 +20,7 @@ use Rattle.interval_core.specs.Members.{Span, at_point}
 use Rattle.cell_packing.specs.Boxed.{Boxed, InBoxes}
 use Rattle.cell_packing.specs.Packed.{Has}
 use Rattle.cell_packing.proofs.PackedBoxes.{among_in}
-use Rattle.point_core.specs.LeastFault.{fault_total, IsLeast}
+use Rattle.point_core.specs.LeastFault.{IsLeast}
 use Rattle.cell_sweep.specs.Rows.{AreRows}
 use Rattle.value_core.specs.Attributes.{among}
 use Rattle.value_core.specs.Order.{row_total, row_separates}

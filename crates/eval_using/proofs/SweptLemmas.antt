@@ -12,14 +12,14 @@ use Rattle.point_core.specs.declared.fault.Fault.{Fault}
 use Rattle.interval_core.specs.Members.{Span, at_point}
 use Rattle.value_core.specs.Attributes.{among}
 use Rattle.value_core.specs.RowPacking.{packed, unpacked}
-use Rattle.value_core.specs.Values.{Row, Heading, row_cmp}
+use Rattle.value_core.specs.Values.{Row, Heading, row_cmp, rows_of}
 use Rattle.scalar_core.specs.AtPlaces.{at_place}
-use Rattle.cell_packing.specs.Boxed.{Boxed, InBoxes}
+use Rattle.cell_packing.specs.Boxed.{Boxed, InBoxes, packed_boxes}
 use Rattle.cell_packing.specs.Packed.{Has}
 use Rattle.cell_packing.proofs.PackedBoxes.{among_in}
 use Rattle.relation_core.specs.Parts.{kind_at}
-use Rattle.u_set.specs.Boxes.{AreIntervals, type_of, IsShaped, others, spans_at, boxed}
-use Rattle.u_set.proofs.BridgeLemmas.{AreRowsOf, IsFormOf, closed_by_form, box_cmp}
+use Rattle.u_set.specs.Boxes.{AreIntervals, type_of, IsShaped, others, spans_at, boxed, unboxed}
+use Rattle.u_set.proofs.BridgeLemmas.{AreRowsOf, IsFormOf, boxes_have, closed_by_boxes, closed_by_form, box_cmp}
 use Rattle.u_set.proofs.PlaceLemmas.{opened_shaped}
 use Rattle.u_row.specs.Rules.{InRule, HasRuleFault, IsRuleForm}
 use Rattle.eval_using.specs.Swept.{labelled_if, swept_rows}
@@ -139,3 +139,12 @@ module _ (from : Heading) (commalist : List ℕ) (intervals : AreIntervals from 
         closed_by_form heading to here given up given_shaped (InRule means boxes) form
         (subst (λ k. IsFormOf k (InRule means boxes) form) (sym same_count) (record { ascends = Ascends-from_sorted box_cmp form h.sorted; members = h.members }))
         labels_there
+
+    -- and rows with these labels have the packed rows in their boxes
+    pub swept_given : (left : List Row) → ((l : Row) (place : List ℤ) → InBoxes (map (boxed to) left) l place ↔ InRule means boxes l place)
+        → packed to given ≡ rows_of (map (unboxed heading to) (packed_boxes row_cmp (length to) (map (boxed to) left)))
+    swept_given left h =
+        (closed_by_boxes heading to here given up given_shaped (map (boxed to) left) (boxes_have heading to here left) (λ l place. (
+          λ w. (h l place).1 ((labels_there l place).0 w),
+          λ w. (labels_there l place).1 ((h l place).0 w),
+        ))).are

@@ -1,5 +1,5 @@
 -- Values at the places from the first on.
-use Rattle.std.proofs.Common.{◌≡◌, ℕ, zero, suc, ◌+◌, ◌<◌, List, [], ◌∷◌, ◌++◌, length, get_or, arith, false, sym, ap, ap₂, refl, ◌∙◌}
+use Rattle.std.proofs.Common.{◌≡◌, ℕ, suc, ◌+◌, ◌<◌, List, [], ◌∷◌, ◌++◌, length, get_or, arith, false, sym, ap, ap₂, refl, ◌∙◌}
 use Rattle.value_core.specs.Values.{Row, Value, truth}
 use Rattle.relation_core.specs.Agreement.{part_of}
 

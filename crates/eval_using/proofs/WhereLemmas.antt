@@ -11,19 +11,19 @@ use Rattle.point_core.specs.Faults.{OrFault}
 use Rattle.point_core.specs.declared.fault.Fault.{Fault}
 use Rattle.interval_core.specs.Members.{Span}
 use Rattle.value_core.specs.RowPacking.{packed, unpacked}
-use Rattle.value_core.specs.Values.{Row, Heading, row_cmp}
+use Rattle.value_core.specs.Values.{Row, Heading, row_cmp, rows_of}
 use Rattle.scalar_core.specs.Expressions.{Expr}
 use Rattle.relation_core.specs.Operators.{restricted, is_true}
-use Rattle.cell_packing.specs.Boxed.{Boxed, InBoxes}
+use Rattle.cell_packing.specs.Boxed.{Boxed, InBoxes, packed_boxes}
 use Rattle.point_core.specs.LeastFault.{IsLeast}
-use Rattle.u_set.specs.Boxes.{AreIntervals, IsShaped, spans_at, boxed}
-use Rattle.u_set.proofs.BridgeLemmas.{AreRowsOf, unpacked_ascends, unpacked_image, boxes_have, packed_rows, closed_by_boxes}
+use Rattle.u_set.specs.Boxes.{AreIntervals, IsShaped, spans_at, boxed, unboxed}
+use Rattle.u_set.proofs.BridgeLemmas.{AreRowsOf, unpacked_ascends}
 use Rattle.u_row.specs.Rules.{InRule, HasRuleFault, IsRuleForm}
 use Rattle.meaning_core.specs.Meanings.{condition}
 use Rattle.cell_sweep.proofs.Turns.{least_iff}
 use Rattle.eval_using.specs.Swept.{met, swept_rows}
 use Rattle.eval_using.proofs.FaultLemmas.{least_over}
-use Rattle.eval_using.proofs.SweptLemmas.{fault_there, labels_there, swept_rows_of}
+use Rattle.eval_using.proofs.SweptLemmas.{fault_there, swept_given, swept_rows_of}
 
 -- ---- one row
 
@@ -85,19 +85,10 @@ module _ (heading : Heading) (commalist : List ℕ) (intervals : AreIntervals he
   given_ascends : Ascends row_cmp given
   given_ascends = Ascends-filter row_cmp (λ x. is_true (condition c x)) (unpacked commalist rows) (unpacked_ascends heading commalist intervals rows ascends shaped)
 
-  given_shaped : (y : Row) → In y given → IsShaped heading commalist y
-  given_shaped y m = (unpacked_image heading commalist intervals rows ascends shaped).shaped y ((In-filter (λ x. is_true (condition c x)) y (unpacked commalist rows)).0 m).0
-
-  -- rows with the labels that are given at places pack to the same
-  pub held_packed : (kept : List Row) → Ascends row_cmp kept → ((x : Row) → In x kept → IsShaped heading commalist x)
-      → ((l : Row) (place : List ℤ) → InBoxes (map (boxed commalist) kept) l place ↔ InRule means boxes l place) → packed commalist given ≡ packed commalist kept
-  held_packed kept up own h =
-      let labels = labels_there heading commalist intervals rows ascends shaped (met c) commalist heading intervals refl given given_ascends members made in
-      let first = closed_by_boxes heading commalist intervals given given_ascends given_shaped (map (boxed commalist) kept) (boxes_have heading commalist intervals kept) (λ l place. (
-        λ w. (h l place).1 ((labels l place).0 w),
-        λ w. (labels l place).1 ((h l place).0 w),
-      )) in
-      first.are ∙ sym (packed_rows heading commalist intervals kept up own).are
+  -- other rows with the labels that are given at places have the packed rows in their boxes
+  pub held_given : (left : List Row) → ((l : Row) (place : List ℤ) → InBoxes (map (boxed commalist) left) l place ↔ InRule means boxes l place)
+      → packed commalist given ≡ rows_of (map (unboxed heading commalist) (packed_boxes row_cmp (length commalist) (map (boxed commalist) left)))
+  held_given = swept_given heading commalist intervals rows ascends shaped (met c) commalist heading intervals refl given given_ascends members made
 
   least_there : (o : Option Fault) → IsLeast (HasRuleFault means boxes) o → IsLeast (λ e. (x : Row) × In x (unpacked commalist rows) × (condition c x ≡ Err e)) o
   least_there o h =

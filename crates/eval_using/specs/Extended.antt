@@ -4,11 +4,15 @@
 --     IsFree      a value that does not hang on the place
 --     AreItems      items that can be asked at each place of rows of a heading, and the rows that they make
 --     CanExtend      items can be asked of a row at each place
-use Rattle.std.specs.Prelude.{◌≡◌, ℕ, ◌+◌, ◌<◌, ◌⊎◌, false, List, length, get_or, Ok, Option, Some, IsTrue}
+--     CanMake      the same of a row with one listed attribute
+--     label_made      the label of the row that is made
+--     alone      boxes of one side
+use Rattle.std.specs.Prelude.{◌≡◌, ℕ, ◌+◌, ◌<◌, ◌⊎◌, false, List, [], ◌∷◌, map, length, get_or, Ok, Option, Some, IsTrue}
 use Rattle.base_core.specs.Outcomes.{then_give}
 use Rattle.base_core.proofs.SetLemmas.{In}
 use Rattle.point_core.specs.Faults.{OrFault}
 use Rattle.point_core.specs.declared.any_type.AnyPoint.{AnyPoint}
+use Rattle.interval_core.specs.Members.{Span}
 use Rattle.value_core.specs.Attributes.{among}
 use Rattle.value_core.specs.Values.{Name, Row, Heading, fits_heading}
 use Rattle.scalar_core.specs.Expressions.{Expr}
@@ -17,7 +21,7 @@ use Rattle.tree_core.specs.Trees.{PlainSets}
 use Rattle.u_set.specs.Boxes.{AreIntervals, types_at}
 use Rattle.meaning_core.specs.Rows.{extended_at}
 use Rattle.meaning_core.specs.Scalars.{AreTypedOver}
-use Rattle.eval_using.specs.Swept.{AreBoxed}
+use Rattle.eval_using.specs.Swept.{AreBoxed, labelled_if}
 
 abbrev pub made_of : List ℕ → PlainSets → Row → OrFault (Option Row)
 made_of at sets x = then_give (extended_at at sets x) (λ y. Ok (Some y))
@@ -48,3 +52,15 @@ pub record CanExtend (commalist to : List ℕ) (sets : PlainSets) (at : List ℕ
   pub boxed : AreBoxed commalist rows boxes row
   pub heading : Heading
   pub items : AreItems boxed.heading heading commalist to sets at
+
+-- the items can be asked at each point of the row's interval at the position `at`; it stands at `to` in the rows that they make
+pub record CanMake (from heading : Heading) (at to : ℕ) (sets : PlainSets) (places : List ℕ) (row : Row) : Type 0 where
+  pub items : AreItems from heading (at ∷ []) (to ∷ []) sets places
+  pub fits : IsTrue (fits_heading from row)
+
+abbrev pub label_made : ℕ → PlainSets → List ℕ → Row → OrFault (Option Row)
+label_made to sets places x = then_give (made_of places sets x) (labelled_if (to ∷ []))
+
+-- the boxes of one side
+abbrev pub alone : List Span → List (List Span)
+alone spans = map (λ s. s ∷ []) spans

@@ -1,3 +1,4 @@
+pub mod Answered
 pub mod BoxedLaws
 pub mod Cells
 pub mod Columns
@@ -6,6 +7,7 @@ pub mod Extended
 pub mod ExtensionLaws
 pub mod Holding
 pub mod Labels
+pub mod Moved
 pub mod PlaceRows
 pub mod Spots
 pub mod SteadyLaws

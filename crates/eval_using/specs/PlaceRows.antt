@@ -180,7 +180,7 @@ abbrev pub HaveLines : List ℕ → List (AnyPoint × AnyPoint) → Row → Type
 HaveLines commalist at row =
     (j : ℕ) (d : AnyPoint × AnyPoint) → j < length commalist → value_at row (slice_index commalist j) ≡ interval (line (get_or at j d).0) (span_of (value_at row (slice_index commalist j)))
 
-line_kept : (row : Row) (i k : ℕ) (s : Span) (l : Line) → value_at row k ≡ interval l (span_of (value_at row k)) → value_at (put_span row i s) k ≡ interval l (span_of (value_at (put_span row i s) k))
+pub line_kept : (row : Row) (i k : ℕ) (s : Span) (l : Line) → value_at row k ≡ interval l (span_of (value_at row k)) → value_at (put_span row i s) k ≡ interval l (span_of (value_at (put_span row i s) k))
 line_kept row i k s l h = elim (cases_eq k i) [
   | inl e ↦
       let here : value_at row i ≡ interval l (span_of (value_at row i)) = subst (λ m. value_at row m ≡ interval l (span_of (value_at row m))) e h in

@@ -15,8 +15,9 @@ use row_making::or_fault_at;
 use std::alloc::Global;
 use std::sync::ledger::Ledger;
 use tree_core::InfixWord;
+use u_join::{intersected, subtracted};
 use u_row::projected;
-use u_set::{intersected, subtracted, united};
+use u_set::united;
 use value_core::Relation;
 
 /// What the operator gives of two relations under USING; or the fault of too many rows.

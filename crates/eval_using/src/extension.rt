@@ -25,6 +25,7 @@ ghost use Rattle.eval_using.specs.Extended.{made_of, AreItems};
 ghost use Rattle.eval_using.specs.Swept.{swept_rows};
 
 use crate::items::{Extension, Items};
+use crate::row_extension::extended_by_rows;
 use cell_core::{BoxRow, CellRefuse};
 use point_core::{AnyType, Place, Steps, Stop};
 use row_making::or_fault_at;
@@ -72,9 +73,9 @@ pub(crate) fn extended_form<L: Ledger>(
     )
 }
 
-/// The relation of the rows that the items make at each point, or their least fault at any point, or that of too many rows at the
-/// place.
-pub(crate) fn extended_by_boxes<L: Ledger>(
+// The relation of the rows that the items make at each point, or their least fault at any point, or that of too many rows at the
+// place, by the boxes of all rows.
+fn extended_and_packed<L: Ledger>(
     alloc: Global,
     place: Place,
     heading: &Heading,
@@ -93,5 +94,27 @@ pub(crate) fn extended_by_boxes<L: Ledger>(
         Err(CellRefuse::Limit) => or_fault_at(place, Err(RowsRefuse::TooMany)),
         Err(CellRefuse::Op(fault)) => Err(Stop::Fault(fault)),
         Err(CellRefuse::Memory) => Err(Stop::Memory),
+    }
+}
+
+/// The relation of the rows that the items make at each point, or their least fault at any point, or that of too many rows at the
+/// place.
+pub(crate) fn extended_by_boxes<L: Ledger>(
+    alloc: Global,
+    place: Place,
+    heading: &Heading,
+    items: Items<'_>,
+    r: &Relation,
+    steps: &mut Steps<L>,
+) -> Result<Relation, Stop>
+    requires items { AreItems r.now.heading heading.now items.commalist.now items.to.now (read_sets items.sets.now) items.places.now }
+    ensures value { Answers result (under heading.now
+        (then_give (extended (extended_at items.entry.places.now (read_sets items.entry.sets.now)) (unpacked items.entry.commalist.now r.now.rows)) (λ rows. limited place (packed items.entry.to.now rows)))) }
+    ensures cost { steps.new ≤ steps.old + bound (cells_of_all items.entry.commalist.now (scalars_of (read_sets items.entry.sets.now)) r.now.rows) (length items.entry.commalist.now) }
+{
+    match extended_by_rows(alloc, place, heading, items, r) {
+        Ok(Some(relation)) => Ok(relation),
+        Ok(None) => extended_and_packed(alloc, place, heading, items, r, steps),
+        Err(stop) => Err(stop),
     }
 }

@@ -14,6 +14,7 @@ ghost use Rattle.scalar_core.specs.AtPlaces.{HasSpanAt};
 ghost use Rattle.scalar_core.specs.Cuts.{inner_cuts};
 ghost use Rattle.tree_core.specs.Trees.{read_sets};
 ghost use Rattle.meaning_core.specs.Scalars.{AreTypedOver};
+ghost use Rattle.eval_using.specs.Cells.{cuts_of_all, scalars_of};
 ghost use Rattle.eval_using.specs.Extended.{made_of, AreSweepable};
 ghost use Rattle.eval_using.specs.Swept.{labelled_if};
 
@@ -64,14 +65,13 @@ impl RowRule<AnyType> for Extension<'_> {
     ghost means = { λ rule row place. swept_rows rule.items.commalist.now rule.items.to.now (made_of rule.items.places.now (read_sets rule.items.sets.now)) rule.rows.now row place };
 
     fn cuts(&self, alloc: Global, row: usize, side: usize) -> Result<Vec<AnyPoint>, Memory> {
-        let all = all_cuts(
+        let points = item_cuts(
             alloc,
             self.items.sets,
             &self.rows[row],
             self.items.commalist,
             side,
         )?;
-        let points = in_order(all)?;
         Ok(points)
     }
 
@@ -129,6 +129,26 @@ fn in_order(points: Vec<AnyPoint>) -> Result<Vec<AnyPoint>, Memory>
     list.sort()?;
     list.dedup();
     Ok(list)
+}
+
+/// The cuts of the listed attribute at `side` by all items, in order, each once.
+pub(crate) fn item_cuts(
+    alloc: Global,
+    sets: &[(Name, Scalar)],
+    row: &Row,
+    commalist: &[usize],
+    side: usize,
+) -> Result<Vec<AnyPoint>, Memory>
+    requires typed { AreTypedOver row.now (read_sets sets.now) }
+    requires sweepable { AreSweepable commalist.now (read_sets sets.now) }
+    requires side { side < length commalist.now }
+    requires interval { HasSpanAt row.now (slice_index commalist.now side) }
+    ensures cuts { IfOk result (λ v. map number v.items ≡ cuts_of_all commalist.now (scalars_of (read_sets sets.now)) row.now (slice_index commalist.now side)) }
+    ensures points { (t : AnyTypeSpec) → IsTrue (fits (kind.Span t) (value_at row.now (slice_index commalist.now side))) → IfOk result (λ v. All (IsPointOf t) v.items) }
+{
+    let all = all_cuts(alloc, sets, row, commalist, side)?;
+    let points = in_order(all)?;
+    Ok(points)
 }
 
 // The values that are not listed of the row that the items make.

@@ -25,7 +25,7 @@ ghost use Rattle.eval_using.specs.Cells.{cells_of_all};
 ghost use Rattle.eval_using.specs.Swept.{met, swept_rows};
 
 use crate::conditions::Condition;
-use crate::in_place::restricted_if_apart;
+use crate::in_place::restricted_by_rows;
 use cell_core::{BoxRow, CellRefuse};
 use point_core::{AnyType, Place, Steps, Stop};
 use row_making::or_fault_at;
@@ -121,7 +121,7 @@ pub(crate) fn restricted_by_boxes<L: Ledger>(
         (then_give (restricted (condition (read c.now)) (unpacked commalist.now r.now.rows)) (λ rows. limited place (packed commalist.now rows)))) }
     ensures cost { steps.new ≤ steps.old + bound (cells_of_all commalist.now (read c.now ∷ []) r.now.rows) (length commalist.now) }
 {
-    match restricted_if_apart(alloc, commalist, c, r) {
+    match restricted_by_rows(alloc, place, commalist, c, r) {
         Ok(Some(relation)) => Ok(relation),
         Ok(None) => restricted_and_packed(alloc, place, commalist, c, r, steps),
         Err(stop) => Err(stop),

@@ -1,6 +1,4 @@
-use Rattle.std.proofs.Common.{◌++◌, map, ◌∙◌}
 use Rattle.point_core.specs.Points.{number}
-use Rattle.value_core.specs.Attributes.{put_span}
 use Rattle.scalar_core.specs.Expressions.{read}
 use Rattle.cell_core.specs.Cells.{box_numbers}
 use Rattle.eval_using.proofs.InPlaceLemmas.{own_interval, left_grid_points, left_least}
@@ -15,7 +13,7 @@ returns-clause-places c =
     let own = own_interval w.0 at e row w.1 in
     let old = c.args.out.now.items in
     left_grid_points at row own.0 own.1 e (box_numbers number c.in_ok-runs.runs.items) c.in_ok-runs.ensures.runs old c.push_rows.new.out.items
-    (c.in_ok-push_rows.ensures.rows ∙ (λ t. old ++ map (put_span row at) (box_numbers number (c.as_slice.ensures.value t))))
+    c.in_ok-push_rows.ensures.rows
 
 pub returns-clause-least : goal.returns-clause-least
 returns-clause-least c =

@@ -21,9 +21,9 @@ loop-row-preserved c =
     let can = subst (CanAsk c.args.heading.now at e) (sym c.row-item.is) (c.requires.can i row lt) in
     record {
       within = omega (arith, lt);
-      places = row_places at e rows i row lt c.row-item.is (map (boxed (at ∷ [])) c.loop-row.out.items) (map (boxed (at ∷ [])) c.keep_row.new.out.items) c.loop-row.invariant.places c.in_ok-keep_row.ensures.places;
+      places = row_places at at (met e) rows i row lt c.row-item.is (map (boxed (at ∷ [])) c.loop-row.out.items) (map (boxed (at ∷ [])) c.keep_row.new.out.items) c.loop-row.invariant.places c.in_ok-keep_row.ensures.places;
       fits = c.in_ok-keep_row.ensures.fits c.args.heading.now can c.type_at-t.ensures c.loop-row.invariant.fits;
-      least = row_least at e rows i row lt c.row-item.is c.loop-row.least c.keep_row.new.least c.loop-row.invariant.least c.in_ok-keep_row.ensures.least;
+      least = row_least at at (met e) rows i row lt c.row-item.is c.loop-row.least c.keep_row.new.least c.loop-row.invariant.least c.in_ok-keep_row.ensures.least;
     }
 
 pub returns-clause-places : goal.returns-clause-places

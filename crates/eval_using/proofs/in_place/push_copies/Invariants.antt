@@ -9,7 +9,7 @@ use Rattle.value_core.specs.Values.{Heading, fits_heading}
 use Rattle.relation_core.specs.Parts.{kind_at}
 use Rattle.cell_core.specs.Cells.{box_numbers}
 use Rattle.u_set.specs.Boxes.{AreIntervals, type_of}
-use Rattle.eval_using.proofs.in_place.push_rows.Given as goal
+use Rattle.eval_using.proofs.in_place.push_copies.Given as goal
 
 abbrev pub invariant-loop-i : goal.invariant-loop-i
 invariant-loop-i l = record {

@@ -13,7 +13,7 @@ use Rattle.cell_core.specs.Cells.{row_numbers}
 use Rattle.u_set.specs.Boxes.{AreIntervals, others, types_at}
 use Rattle.u_set.proofs.RelationLemmas.{labels_read, answer_read}
 use Rattle.eval_using.proofs.MadeRowLemmas.{made_rows, rows_made, made_meant, fault_meant, too_many_there}
-use Rattle.eval_using.proofs.extension.extended_by_boxes.Goals as goal
+use Rattle.eval_using.proofs.extension.extended_and_packed.Goals as goal
 
 pub from_boxes-requires-clause-labels : goal.from_boxes-requires-clause-labels
 from_boxes-requires-clause-labels g c =

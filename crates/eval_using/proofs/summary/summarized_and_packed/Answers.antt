@@ -11,7 +11,7 @@ use Rattle.cell_core.specs.Cells.{row_numbers}
 use Rattle.u_set.specs.Boxes.{AreIntervals, types_at, others}
 use Rattle.u_set.proofs.RelationLemmas.{labels_read, answer_read, too_many}
 use Rattle.eval_using.proofs.CallLemmas.{own_intervals, typed, faulted, answered, intervals_by, sides_by}
-use Rattle.eval_using.proofs.summary.summarized_by_boxes.Goals as goal
+use Rattle.eval_using.proofs.summary.summarized_and_packed.Goals as goal
 
 pub summary_form-requires-clause-intervals : goal.summary_form-requires-clause-intervals
 summary_form-requires-clause-intervals g c =
