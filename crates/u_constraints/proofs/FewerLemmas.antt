@@ -1,6 +1,6 @@
 -- Some of the boxes of a packed form are packed.
 --     Covered, ArePackedAlone      sets of boxes, each a packed one of the places that they have
---     fewer_packed      of one label, in lists of labelled boxes
+--     all_packed, fewer_packed      of one label, in lists of labelled boxes
 use Rattle.std.proofs.Common.{◌≡◌, ◌↔◌, ℕ, zero, suc, ◌+◌, ◌<◌, ◌≤◌, ℤ, ◌≤ℤ◌, List, [], ◌∷◌, length, get_or, drop, refl, sym, ◌∙◌, subst, arith, Ordering}
 use Rattle.std.specs.Cmp.{IsTotalOrder}
 use Rattle.std.proofs.lemmas.Int.{ints}
@@ -128,6 +128,15 @@ module _ {P : Type 0} (order : P → P → Ordering) (o : IsTotalOrder order) (s
         let q = IsPacked-iff (Covered (Back r)) (λ ps. InBoxes r l (onto ps [])) (sides_back (length y) y) (λ ps. ((places_back r ps).1, (places_back r ps).0)) h in
         (members y).1 (e, subst (λ (n : ℕ). packs n (points_of (InBoxes r l)) y) e ((packs_is (InBoxes r l) y).1 q))
 
+  -- where each box of the label is a packed one, there are no other packed ones
+  pub all_packed : (s : List (Boxed P)) → AllHave k s → ((y : List Span) → Among (l, y) s → Among (l, y) (form s)) → (y : List Span) → Among (l, y) (form s) → Among (l, y) s
+  all_packed s hs into y i =
+      let p = some_place (Covered (Back s)) (sides_back (length y) y) (to_back s hs y i) in
+      let w = (places_back s p.0).1 p.1 in
+      let long : length p.0 ≡ length y = has_length (sides_back (length y) y) p.0 p.2 ∙ length_sides_back (length y) y in
+      let one : w.0 ≡ y = one_box order o same k s hs l (onto p.0 []) w.0 y (into w.0 w.1) i w.2 ((has_all y p.0 long).0 p.2) in
+      subst (λ (z : List Span). Among (l, z) s) one w.1
+
   -- where the boxes of the label are packed in a list, so are some of them
   pub fewer_packed : (r s : List (Boxed P)) → AllHave k r → AllHave k s → ((y : List Span) → Among (l, y) s → Among (l, y) r) → ((y : List Span) → Among (l, y) r → Among (l, y) (form r))
       → (y : List Span) → Among (l, y) s ↔ Among (l, y) (form s)
@@ -137,10 +146,5 @@ module _ {P : Type 0} (order : P → P → Ordering) (o : IsTotalOrder order) (s
       from_back s hs z (hs (l, z) i)
       (fewer_alone (length z) (Back r) (Back s) alone (λ is w. (w.0, within w.0 w.1, w.2)) (sides_back (length z) z) (length_sides_back (length z) z) (z, i, refl)) in (
         into y,
-        λ i.
-            let p = some_place (Covered (Back s)) (sides_back (length y) y) (to_back s hs y i) in
-            let w = (places_back s p.0).1 p.1 in
-            let long : length p.0 ≡ length y = has_length (sides_back (length y) y) p.0 p.2 ∙ length_sides_back (length y) y in
-            let one : w.0 ≡ y = one_box order o same k s hs l (onto p.0 []) w.0 y (into w.0 w.1) i w.2 ((has_all y p.0 long).0 p.2) in
-            subst (λ (z : List Span). Among (l, z) s) one w.1,
+        all_packed s hs into y,
       )

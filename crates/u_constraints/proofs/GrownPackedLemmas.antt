@@ -44,13 +44,13 @@ module _ (k : ℕ) where
   SameAt l r s = (y : List Span) → In (l, y) r ↔ In (l, y) s
 
   -- the boxes of one label are the packed ones
-  abbrev IsFixed : Row → List (Boxed Row) → Type 0
+  abbrev pub IsFixed : Row → List (Boxed Row) → Type 0
   IsFixed l r = (y : List Span) → In (l, y) (in_order box_cmp r) ↔ In (l, y) (packed_boxes row_cmp k r)
 
-  own : (r : List (Boxed Row)) (l : Row) (y : List Span) → In (l, y) (in_order box_cmp r) ↔ In (l, y) r
+  pub own : (r : List (Boxed Row)) (l : Row) (y : List Span) → In (l, y) (in_order box_cmp r) ↔ In (l, y) r
   own r l y = In-in_order box_cmp box_total box_separates (l, y) r
 
-  in_packed : (r : List (Boxed Row)) → AllHave k r → (l : Row) (y : List Span) → In (l, y) (packed_boxes row_cmp k r) ↔ ((length y ≡ k) × packs k (points_of (InBoxes r l)) y)
+  pub in_packed : (r : List (Boxed Row)) → AllHave k r → (l : Row) (y : List Span) → In (l, y) (packed_boxes row_cmp k r) ↔ ((length y ≡ k) × packs k (points_of (InBoxes r l)) y)
   in_packed r have l y =
       let a = among_in (l, y) (packed_boxes row_cmp k r) in
       let m = in_packed_form box_cmp box_total box_separates k r have (l, y) in
@@ -95,10 +95,10 @@ module _ (k : ℕ) where
   abbrev pub ArePacked : List (Boxed Row) → Type 0
   ArePacked r = in_order box_cmp r ≡ packed_boxes row_cmp k r
 
-  each_fixed : (r : List (Boxed Row)) → ArePacked r → (l : Row) → IsFixed l r
+  pub each_fixed : (r : List (Boxed Row)) → ArePacked r → (l : Row) → IsFixed l r
   each_fixed r e l y = (λ i. subst (λ (s : List (Boxed Row)). In (l, y) s) e i, λ i. subst (λ (s : List (Boxed Row)). In (l, y) s) (sym e) i)
 
-  all_fixed : (r : List (Boxed Row)) → ((l : Row) → IsFixed l r) → ArePacked r
+  pub all_fixed : (r : List (Boxed Row)) → ((l : Row) → IsFixed l r) → ArePacked r
   all_fixed r f =
       same_by_members box_cmp box_total box_separates (in_order box_cmp r) (packed_boxes row_cmp k r)
       (Ascends-in_order box_cmp box_total box_separates r) (packed_ascends box_cmp box_total box_separates k r) (λ x. f x.0 x.1)
@@ -132,7 +132,7 @@ unlisted_all commalist [] outside = refl
 unlisted_all commalist (i ∷ positions) outside =
     ap (λ b. if not b then i ∷ unlisted commalist positions else unlisted commalist positions) (outside i (inl refl)) ∙ ap (λ (is : List ℕ). i ∷ is) (unlisted_all commalist positions (λ k m. outside k (inr m)))
 
-abbrev IsSet : Heading → List ℕ → List Row → Type 0
+abbrev pub IsSet : Heading → List ℕ → List Row → Type 0
 IsSet heading commalist rows = Ascends row_cmp rows × ((x : Row) → In x rows → IsShaped heading commalist x)
 
 -- some of packed rows are packed
@@ -148,7 +148,7 @@ prepacked heading commalist intervals old rows so sr within held =
 
 module _ (heading : Heading) (commalist : List ℕ) (intervals : AreIntervals heading commalist) (positions : List ℕ) (outside : (i : ℕ) → In i positions → among commalist i ≡ false) (test : Row → Bool) where
   -- a part of other positions is one of the label
-  label_part : (x : Row) → part_of (inner commalist positions) (others commalist x) ≡ part_of positions x
+  pub label_part : (x : Row) → part_of (inner commalist positions) (others commalist x) ≡ part_of positions x
   label_part x = inner_values commalist positions x no_value ∙ ap (λ (is : List ℕ). part_of is x) (unlisted_all commalist positions outside)
 
   -- where the old rows are packed, all are exactly where the touched ones are

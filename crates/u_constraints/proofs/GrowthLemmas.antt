@@ -14,7 +14,7 @@ use Rattle.std.proofs.lemmas.Bool.Decides.{nat_tests}
 use Rattle.std.proofs.lemmas.List.Folds.{list_any-append}
 use Rattle.base_core.specs.Sets.{has}
 use Rattle.base_core.proofs.SetLemmas.{In, Ascends, In-in_order, Ascends-from_sorted}
-use Rattle.base_core.proofs.MemberLemmas.{In-map, In-filter, list_all-In, list_any-In}
+use Rattle.base_core.proofs.MemberLemmas.{In-map, list_all-In, list_any-In}
 use Rattle.base_core.proofs.SetOperatorLemmas.{same_tests, In-union_of, In-difference_of, Ascends-union_of, Ascends-difference_of, is_within-In, list_any-in_order}
 use Rattle.base_core.proofs.ListLemmas.{All-In}
 use Rattle.point_core.specs.declared.fault.Code.{Code}
@@ -52,7 +52,7 @@ use Rattle.u_constraints.proofs.TouchedLemmas.{IsTouched, within_length}
 -- ---- lines
 
 -- where no line fails, the first holds, and none of the rest fails
-lines_hold : (b : Bool) (code : Code) (rest : List (Bool × Code)) → first_failed ((b, code) ∷ rest) ≡ None → (b ≡ true) × (first_failed rest ≡ None)
+pub lines_hold : (b : Bool) (code : Code) (rest : List (Bool × Code)) → first_failed ((b, code) ∷ rest) ≡ None → (b ≡ true) × (first_failed rest ≡ None)
 lines_hold true code rest e = (refl, e)
 lines_hold false code rest e = let never : ⊥ = cc in absurd never
 
@@ -61,13 +61,13 @@ one_line b code e = (lines_hold b code [] e).0
 
 -- ---- positions
 
-key_positions : (key positions : List ℕ) → AreAmong key positions → (i : ℕ) → In i positions → In i key
+pub key_positions : (key positions : List ℕ) → AreAmong key positions → (i : ℕ) → In i positions → In i key
 key_positions key positions h i m = among_in key i ((list_all-In (among key) positions).0 h i m)
 
-outside_false : (commalist positions : List ℕ) → AreOutside commalist positions → (i : ℕ) → In i positions → among commalist i ≡ false
+pub outside_false : (commalist positions : List ℕ) → AreOutside commalist positions → (i : ℕ) → In i positions → among commalist i ≡ false
 outside_false commalist positions h i m = not-true (among commalist i) ((list_all-In (λ k. not (among commalist k)) positions).0 h i m)
 
-outside_apart : (commalist positions : List ℕ) → AreOutside commalist positions → (i : ℕ) → In i positions → In i commalist → ⊥
+pub outside_apart : (commalist positions : List ℕ) → AreOutside commalist positions → (i : ℕ) → In i positions → In i commalist → ⊥
 outside_apart commalist positions h i m n = true≢false (sym (in_among commalist i n) ∙ outside_false commalist positions h i m)
 
 -- ---- more rows
@@ -75,7 +75,7 @@ outside_apart commalist positions h i m n = true≢false (sym (in_among commalis
 pub In-united : (a b : List Row) (x : Row) → In x (united a b) ↔ (In x a ⊎ In x b)
 In-united a b x = In-union_of row_cmp row_total row_separates x a b
 
-In-projected : (positions : List ℕ) (rows : List Row) (z : Row) → In z (projected positions rows) ↔ ((x : Row) × In x rows × (z ≡ part_of positions x))
+pub In-projected : (positions : List ℕ) (rows : List Row) (z : Row) → In z (projected positions rows) ↔ ((x : Row) × In x rows × (z ≡ part_of positions x))
 In-projected positions rows z =
     let set = In-in_order row_cmp row_total row_separates z (map (part_of positions) rows) in
     let all = In-map (part_of positions) z rows in
@@ -194,10 +194,10 @@ history_beside h rows others come held =
 -- ---- fewer rows
 
 -- where a key, fewer rows have it
-key_fewer : (key : List ℕ) (rows all : List Row) → ((x : Row) → In x rows → In x all) → is_key key all ≡ true → is_key key rows ≡ true
+pub key_fewer : (key : List ℕ) (rows all : List Row) → ((x : Row) → In x rows → In x all) → is_key key all ≡ true → is_key key rows ≡ true
 key_fewer key rows all less held = (is_key-AgreeOnce key rows).1 (λ x y i j e. (is_key-AgreeOnce key all).0 held x y (less x i) (less y j) e)
 
-opened_fewer : (commalist key : List ℕ) (rows all : List Row) → ((x : Row) → In x rows → In x all) → is_key key (unpacked commalist all) ≡ true → is_key key (unpacked commalist rows) ≡ true
+pub opened_fewer : (commalist key : List ℕ) (rows all : List Row) → ((x : Row) → In x rows → In x all) → is_key key (unpacked commalist all) ≡ true → is_key key (unpacked commalist rows) ≡ true
 opened_fewer commalist key rows all less held = key_fewer key (unpacked commalist rows) (unpacked commalist all) (unpack_within row_cmp row_total row_separates (map attribute commalist) rows all less) held
 
 module _ (of : Relation) (is : IsRelation of) (rows : List Row) (up : Ascends row_cmp rows) (less : (x : Row) → In x rows → In x of.rows) where
@@ -239,7 +239,7 @@ module _ (of come : Relation) (gone : List Row) (is : IsRelation of) (is' : IsRe
   abbrev told : IsTouched (part_of positions) (comes positions come.rows) of.rows all few
   told = rows_touched positions come.rows of.rows gone
 
-  shaped : (commalist : List ℕ) → AreIntervals of.heading commalist → (x : Row) → In x all → IsShaped of.heading commalist x
+  pub shaped : (commalist : List ℕ) → AreIntervals of.heading commalist → (x : Row) → In x all → IsShaped of.heading commalist x
   shaped commalist intervals x i = elim ((In-exchanged of.rows gone come.rows x).0 i).0 [
     | inl w ↦ relation_shaped of is commalist intervals x w
     | inr w ↦ shaped_under of.heading come (sym heading) is' commalist intervals x w
@@ -278,19 +278,6 @@ module _ (of come : Relation) (gone : List Row) (is : IsRelation of) (is' : IsRe
       λ t. first_failed ((packed t, E41) ∷ (opened t, E42) ∷ (keyed t, E40) ∷ [])
   same_break (Foreign commalist here name there) g others fits relate held = absurd relate
   same_break (History h) g others fits relate held = absurd relate
-
-  pub few_rows : length few ≤ length all
-  few_rows =
-      within_length row_cmp row_total row_separates few all (exchanged_ascends (touched positions come.rows of.rows) gone come.rows)
-      (exchanged_ascends of.rows gone come.rows) (λ x i. ((told.touched x).0 i).0)
-
--- the touched rows are no more, where others come to them
-pub joined_rows : (positions : List ℕ) (come of : List Row) → length (united (touched positions come of) come) ≤ length (united of come)
-joined_rows positions come of =
-    let part : List Row = touched positions come of in
-    within_length row_cmp row_total row_separates (united part come) (united of come) (Ascends-union_of row_cmp row_total row_separates part come)
-    (Ascends-union_of row_cmp row_total row_separates of come) (λ x i.
-    (In-united of come x).1 (elim ((In-united part come x).0 i) [ inl w ↦ inl ((In-filter (λ y. comes positions come (part_of positions y)) x of).0 w).0 | inr w ↦ inr w ]))
 
 -- ---- constraints that name another relvar
 

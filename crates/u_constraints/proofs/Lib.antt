@@ -4,6 +4,7 @@ pub mod PrefixLemmas
 pub mod HistoryLemmas
 pub mod KeyLemmas
 pub mod SearchLemmas
+pub mod MarkLemmas
 pub mod HashLemmas
 pub mod PairLemmas
 pub mod PlacedKeyLemmas
@@ -21,7 +22,12 @@ pub mod GrownKeyLemmas
 pub mod NearLemmas
 pub mod PartedKeyLemmas
 pub mod GrownPackedLemmas
+pub mod RunPairLemmas
 pub mod GrowthLemmas
+pub mod BesideLemmas
+pub mod HullLemmas
+pub mod FrontLemmas
+pub mod TellsLemmas
 pub mod AcrossLemmas
 pub mod TellingLemmas
 pub mod PlainKeyLemmas

@@ -64,7 +64,7 @@ module _ (heading : Heading) (k : ℕ) where
     labels_agree : (x y : Row) → part_of key x ≡ part_of key y → part_of label x ≡ part_of label y
     labels_agree x y e = map-In (at x) (at y) label (λ i m. same_of (at x) (at y) no_value key e i ((In-filter (λ j. not (among commalist j)) i key).0 m).0)
 
-    spans_agree : AreAmong key commalist → (x y : Row) → part_of key x ≡ part_of key y → span_of (value_at x k) ≡ span_of (value_at y k)
+    pub spans_agree : AreAmong key commalist → (x y : Row) → part_of key x ≡ part_of key y → span_of (value_at x k) ≡ span_of (value_at y k)
     spans_agree lies x y e =
         ap span_of (value_at-get x k ∙ same_of (at x) (at y) no_value key e k (in_key key commalist lies k (inl refl)) ∙ sym (value_at-get y k))
 

@@ -1,7 +1,7 @@
 -- A key of the unpacked rows, which has all attributes that are unpacked, is one of the rows themselves.
 --     plain_key      this, of a relation's rows
 --     no_line_fails      so where the first two lines of a key under USING hold, all do
-use Rattle.std.proofs.Common.{◌≡◌, inl, inr, ℕ, ℤ, ◌<◌, ◌≤ℤ◌, Bool, true, false, List, [], ◌∷◌, length, get_or, None, refl, sym, ap, ◌∙◌, subst, arith}
+use Rattle.std.proofs.Common.{◌≡◌, inl, inr, ℕ, ℤ, ◌<◌, ◌≤ℤ◌, Bool, true, false, List, [], ◌∷◌, length, None, refl, sym, ap, ◌∙◌, subst, arith}
 use Rattle.std.proofs.lemmas.Bool.{cases_eq}
 use Rattle.std.proofs.lemmas.Int.{ints}
 use Rattle.std.proofs.lemmas.List.{length-set, same_lists, get_or_default}
@@ -17,7 +17,7 @@ use Rattle.value_core.specs.Attributes.{value_at, span_of, with_span, put_span}
 use Rattle.value_core.specs.declared.kind.Kind.TheVariants.{Span as SpanOf}
 use Rattle.value_core.specs.Order.{row_total, row_separates}
 use Rattle.value_core.specs.RowPacking.{attribute, unpacked}
-use Rattle.value_core.specs.Values.{Value, interval, truth, Row, Heading, Relation, IsRelation, fits_heading, row_cmp}
+use Rattle.value_core.specs.Values.{Value, interval, truth, Row, Relation, IsRelation, fits_heading, row_cmp}
 use Rattle.value_core.proofs.PlainLemmas.{set_elsewhere}
 use Rattle.scalar_core.proofs.SweepLemmas.{span_there}
 use Rattle.relation_core.specs.Agreement.{part_of}
@@ -26,7 +26,6 @@ use Rattle.relation_core.specs.Parts.{kind_at}
 use Rattle.meaning_core.specs.Typing.{IsList}
 use Rattle.meaning_core.specs.WellMade.{AreAmong}
 use Rattle.meaning_core.proofs.IntervalLemmas.{intervals_of_list}
-use Rattle.u_set.specs.Boxes.{IsShaped}
 use Rattle.u_set.proofs.BoxLemmas.{value_at-get}
 use Rattle.u_set.proofs.ImageLemmas.{In-unpack1}
 use Rattle.u_set.proofs.RelationLemmas.{relation_shaped}

@@ -3,13 +3,17 @@
 --     is_history      whether a constraint is that of a history
 --     outside_below      the positions below a number that are not unpacked
 --     telling      the positions whose values tell which rows a new one is held against
-use Rattle.std.specs.Prelude.{ℕ, zero, suc, Bool, true, false, List, [], ◌∷◌, ◌++◌, Option, Some, None, if◌then◌else◌}
+--     only_unpacked      the attribute that alone is unpacked
+--     Tells      whether some of the rows, with those that come, tell it
+use Rattle.std.specs.Prelude.{◌≡◌, ℕ, zero, suc, Bool, true, false, List, [], ◌∷◌, ◌++◌, Option, Some, None, if◌then◌else◌}
+use Rattle.cell_packing.specs.Covering.{Among}
 use Rattle.value_core.specs.Attributes.{among}
 use Rattle.value_core.specs.declared.constraint.Constraint.{Constraint}
 use Rattle.value_core.specs.declared.constraint.Constraint.TheVariants.{Key, Packed, WhenUnpacked, UKey, Foreign, History}
 use Rattle.value_core.specs.Values.{Row}
 use Rattle.relation_core.specs.Operators.{subtracted, united}
 use Rattle.u_row.specs.Kept.{unlisted}
+use Rattle.u_constraints.specs.Constraints.{broken}
 
 -- the rows after some have come and then others have gone
 abbrev pub exchanged : List Row → List Row → List Row → List Row
@@ -33,3 +37,20 @@ telling (WhenUnpacked commalist k) many = Some (unlisted commalist k)
 telling (UKey commalist k) many = Some (unlisted commalist k)
 telling (Foreign commalist here name there) many = None
 telling (History h) many = None
+
+-- the position that a list alone has
+abbrev pub only : List ℕ → Option ℕ
+only (i ∷ []) = Some i
+only _ = None
+
+-- the attribute that the constraint alone unpacks, where it holds the rows of one relvar against one another
+abbrev pub only_unpacked : Constraint → Option ℕ
+only_unpacked (Packed commalist) = only commalist
+only_unpacked (WhenUnpacked commalist k) = only commalist
+only_unpacked (UKey commalist k) = only commalist
+only_unpacked _ = None
+
+-- some of the rows: whichever go, these and the rows that come break what all break, where the rows broke nothing before
+pub record Tells (c : Constraint) (rows come some : List Row) : Type 0 where
+  pub within : (x : Row) → Among x some → Among x rows
+  pub same : (gone others : List Row) → broken c rows others ≡ None → broken c (exchanged some gone come) others ≡ broken c (exchanged rows gone come) others

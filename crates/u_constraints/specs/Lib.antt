@@ -2,7 +2,9 @@ pub mod Constraints
 pub mod Costs
 pub mod Prefixes
 pub mod Near
+pub mod Marks
 pub mod Growth
 pub mod Hashes
 pub mod Places
 pub mod Covers
+pub mod Beside

@@ -3,15 +3,17 @@ ghost use Rattle.std.specs.Prelude.{◌≡◌, ◌≤◌, ◌+◌, [], true, Non
 ghost use Rattle.std.specs.List.{All};
 ghost use Rattle.std.specs.Result.{result_err};
 ghost use Rattle.meaning_core.specs.WellMade.{FitsHeadings};
-ghost use Rattle.value_core.specs.Values.{most_rows, IsRelation};
+ghost use Rattle.value_core.specs.Values.{most_rows, Heading, IsRelation};
 ghost use Rattle.relation_core.specs.Operators.{subtracted, united};
 ghost use Rattle.relation_core.specs.Hashes.{AreHashesOf};
 ghost use Rattle.u_constraints.specs.Constraints.{broken, heading_or_none, rows_or_none, IsNamed};
 ghost use Rattle.u_constraints.specs.Costs.{constraint_cost};
-ghost use Rattle.u_constraints.specs.Growth.{exchanged, is_history, telling as telling_of};
+ghost use Rattle.u_constraints.specs.Growth.{exchanged, is_history, only, only_unpacked, telling as telling_of, Tells};
 
+use crate::beside::touched_beside;
 use crate::constraints::holds;
 use crate::positions::telling;
+use crate::runs::KeySide;
 use crate::search::touched_with;
 use point_core::{Code, Memory, Steps};
 use relation_core::{Hashes, minus, union};
@@ -73,8 +75,60 @@ fn are_both_empty(left: &Relation, right: &Relation) -> bool
     left.rows().is_empty() && right.rows().is_empty()
 }
 
-/// Whether the constraint, which holds of the relation, holds still after the change. It is asked of the rows with the values of those
-/// that come at the positions. Where there are none besides, and none goes, the rows that come are asked as they are.
+/// The position that a list alone has.
+fn only(positions: &[usize]) -> Option<usize>
+    ensures { result ≡ only positions.now }
+{
+    if positions.len() == 1 {
+        return Some(positions[0]);
+    }
+    None
+}
+
+/// The attribute that the constraint alone unpacks, where it holds rows of one relvar against one another.
+fn only_unpacked(c: &Constraint) -> Option<usize>
+    ensures { result ≡ only_unpacked c.now }
+{
+    match c {
+        Constraint::Packed(commalist) => only(commalist.list.as_slice()),
+        Constraint::WhenUnpacked(commalist, _) => only(commalist.list.as_slice()),
+        Constraint::UKey(commalist, _) => only(commalist.list.as_slice()),
+        Constraint::Key(_) => None,
+        Constraint::Foreign(..) => None,
+        Constraint::History(_) => None,
+    }
+}
+
+/// Rows of the relation that, with those that come, tell whether the constraint holds still: those with the values at the positions of
+/// some row that comes. Where one attribute alone is unpacked, rows that are not beside one that comes may be left out.
+fn rows_that_tell(
+    alloc: Global,
+    c: &Constraint,
+    change: Change<'_>,
+    positions: &[usize],
+) -> Result<Relation, Memory>
+    requires relation { IsRelation change.of.now }
+    requires relation_come { IsRelation change.come.now }
+    requires heading { change.come.now.heading ≡ change.of.now.heading }
+    requires hashes { All (AreHashesOf change.of.now.rows) change.hashes.now }
+    requires fits { (g : Heading) × FitsHeadings change.of.now.heading g c.now }
+    requires telling { Some positions.now ≡ telling_of c.now (length change.of.now.heading) }
+    ensures { IfOk result (λ r. (r.heading ≡ change.entry.of.now.heading) × Tells c.now change.entry.of.now.rows change.entry.come.now.rows r.rows) }
+{
+    match only_unpacked(c) {
+        Some(at) => {
+            let side = KeySide {
+                label: positions,
+                at,
+            };
+            touched_beside(alloc, change.of, change.come, side, change.hashes)
+        }
+        None => touched_with(alloc, change.of, change.come, positions, change.hashes),
+    }
+}
+
+/// Whether the constraint, which holds of the relation, holds still after the change. It is asked of the rows that tell and those that
+/// come. Where there are none besides, and none goes, the rows that come are asked as they are.
 fn holds_by<L: Ledger>(
     alloc: Global,
     c: &Constraint,
@@ -96,7 +150,7 @@ fn holds_by<L: Ledger>(
     ensures answer { IfOk result (λ answer. result_err answer ≡ broken c.now (exchanged change.entry.of.now.rows change.entry.gone.now.rows change.entry.come.now.rows) (rows_or_none (option_map (λ r. r.now) other.entry))) }
     ensures cost { steps.new ≤ steps.old + constraint_cost c.now (exchanged change.entry.of.now.rows change.entry.gone.now.rows change.entry.come.now.rows) (rows_or_none (option_map (λ r. r.now) other.entry)) }
 {
-    let part = touched_with(alloc, change.of, change.come, positions, change.hashes)?;
+    let part = rows_that_tell(alloc, c, change, positions)?;
     if are_both_empty(&part, change.gone) {
         return holds(alloc, c, change.come, other, steps);
     }
@@ -109,7 +163,8 @@ fn holds_by<L: Ledger>(
 /// then broken. `other` is the relvar that the constraint names, if it names one, which is not the one that changes.
 ///
 /// Only rows that a row that comes is held against are looked at: those with its values at the attributes of a key, say. They are found
-/// by the hashes, where some are for these attributes.
+/// by the hashes, where some are for these attributes. Where one attribute alone is unpacked, rows that are not beside one that comes
+/// are left out.
 pub fn holds_with<L: Ledger>(
     alloc: Global,
     c: &Constraint,

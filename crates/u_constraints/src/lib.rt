@@ -4,6 +4,7 @@
 mod across;
 mod apart;
 mod beginning;
+mod beside;
 mod constraints;
 mod growth;
 mod hashes;
@@ -14,6 +15,7 @@ mod marks;
 mod near;
 mod packed;
 mod parts;
+mod pass;
 mod positions;
 mod prefixes;
 mod references;

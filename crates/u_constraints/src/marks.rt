@@ -1,5 +1,9 @@
-// Marks: a table by which most rows whose key is not sought are passed over. Only speed hangs on it: nothing is said of it but that it ends.
-use crate::tuning::{BITS_LEFT_OUT, FEWEST_MARKS, MARKS_FOR_ONE, SPREAD};
+// Marks: a table by which most rows whose key is not sought are passed over.
+ghost use Rattle.std.specs.Prelude.{◌≡◌, ℕ, true, IfOk};
+ghost use Rattle.std.specs.List.{list_all};
+ghost use Rattle.u_constraints.specs.Marks.{is_marked, place};
+
+use crate::tuning::{BITS_LEFT_OUT, FEW_SOUGHT, FEWEST_MARKS, MARKS_FOR_ONE, SPREAD};
 use point_core::Memory;
 use std::alloc::Global;
 use value_core::{Row, Value};
@@ -44,27 +48,59 @@ pub(crate) fn key_hash(row: &Row, label: &[usize]) -> u64 {
 }
 
 /// Where a hash has its mark, among so many marks, which are a power of two. Multiples of one number are spread over them too.
-fn place_of(hash: u64, many: usize) -> usize {
+#[tactic(auto, unfolding(crate::specs::Marks::place))]
+fn place_of(hash: u64, many: usize) -> usize
+    ensures { result ≡ place many hash }
+{
     (hash.wrapping_mul(SPREAD) >> BITS_LEFT_OUT) as usize & many.saturating_sub(1)
 }
 
-/// Marks at the places of the hashes of the rows' keys. Few other hashes have a place with a mark.
+/// A table for so many hashes, with no mark.
+fn table_for(alloc: Global, many: usize) -> Result<Vec<bool>, Memory> {
+    let wanted = FEWEST_MARKS.max(many.saturating_mul(MARKS_FOR_ONE));
+    let places = wanted.checked_next_power_of_two().unwrap_or(FEWEST_MARKS);
+    let table = vec![in alloc; false; places]?;
+    Ok(table)
+}
+
+/// Marks the hash.
+fn set_mark(marks: &mut Vec<bool>, hash: u64)
+    ensures own { is_marked marks.new.items hash ≡ true }
+    ensures others { (h : ℕ) → is_marked marks.old.items h ≡ true → is_marked marks.new.items h ≡ true }
+{
+    let place = place_of(hash, marks.len());
+    if place < marks.len() {
+        marks[place] = true;
+    }
+}
+
+/// Marks of the hashes of the rows' keys. Few other hashes have a place with a mark.
 pub(crate) fn marks_of(alloc: Global, rows: &[Row], label: &[usize]) -> Result<Vec<bool>, Memory> {
-    let wanted = FEWEST_MARKS.max(rows.len().saturating_mul(MARKS_FOR_ONE));
-    let many = wanted.checked_next_power_of_two().unwrap_or(FEWEST_MARKS);
-    let mut marks = vec![in alloc; false; many]?;
+    let mut marks = table_for(alloc, rows.len())?;
     for row in rows {
-        if let Some(mark) = marks.get_mut(place_of(key_hash(row, label), many)) {
-            *mark = true;
-        }
+        set_mark(&mut marks, key_hash(row, label));
+    }
+    Ok(marks)
+}
+
+/// Marks of the hashes. Where these are few there is no table: then each hash has a mark.
+pub(crate) fn marks_for(alloc: Global, hashes: &[u64]) -> Result<Vec<bool>, Memory>
+    ensures { IfOk result (λ marks. list_all (is_marked marks.items) hashes.now ≡ true) }
+{
+    if hashes.len() <= FEW_SOUGHT {
+        return Ok(Vec::new(alloc));
+    }
+    let mut marks = table_for(alloc, hashes.len())?;
+    for hash in hashes {
+        set_mark(&mut marks, *hash);
     }
     Ok(marks)
 }
 
 /// Whether the hash may be one of those that the marks are for.
-pub(crate) fn is_marked(marks: &[bool], hash: u64) -> bool {
-    marks
-        .get(place_of(hash, marks.len()))
-        .copied()
-        .unwrap_or(false)
+pub(crate) fn is_marked(marks: &[bool], hash: u64) -> bool
+    ensures { result ≡ is_marked marks.now hash }
+{
+    let place = place_of(hash, marks.len());
+    place >= marks.len() || marks[place]
 }

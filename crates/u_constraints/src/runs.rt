@@ -75,7 +75,7 @@ fn ends_of(interval: &Interval<AnyType>) -> (i64, i64)
 }
 
 /// The numbers of the ends of the row's interval.
-fn ends_at(row: &Row, at: usize) -> (i64, i64)
+pub(crate) fn ends_at(row: &Row, at: usize) -> (i64, i64)
     requires { HasInterval at row.now }
     ensures { result ≡ span_in at row.now }
 {

@@ -1,19 +1,20 @@
 // Rows found by their first values, among rows in order, or by hashes.
-ghost use Rattle.std.specs.Prelude.{◌≡◌, ◌⊎◌, ◌++◌, ◌<◌, ◌≤◌, [], ℕ, true, filter, length, IfOk, IsTrue, OnOk};
+ghost use Rattle.std.specs.Prelude.{◌≡◌, ◌⊎◌, ◌++◌, ◌<◌, ◌≤◌, [], ℕ, List, true, filter, length, IfOk, IfSome, IsTrue, OnOk};
 ghost use Rattle.std.specs.List.{All, flat_map, list_all, list_any};
 ghost use Rattle.std.specs.List.Sorted.{IsStrictlySortedBy};
 ghost use Rattle.value_core.specs.Relations.{all_fit, relation_of};
-ghost use Rattle.value_core.specs.Values.{most_rows, row_cmp, rows_of, IsRelation};
+ghost use Rattle.value_core.specs.Values.{Row as PlainRow, most_rows, row_cmp, rows_of, IsRelation};
 ghost use Rattle.relation_core.specs.Growth.{touched};
 ghost use Rattle.relation_core.specs.Hashes.{AreHashesOf};
 ghost use Rattle.u_constraints.specs.Near.{begins_with_any};
 ghost use Rattle.u_constraints.specs.Prefixes.{begins_with, counts_from};
 
 use crate::beginning::with_prefix;
+use crate::pass::passed_over;
 use crate::prefixes::are_first;
 use crate::tuning::ROWS_PASSED_FOR_ONE_SOUGHT;
 use point_core::{Label, Memory};
-use relation_core::{Hashes, hashes_of, selection, sorted_parts, touched_by_hashes};
+use relation_core::{Hashes, hashes_of, selection, sorted_parts};
 use std::alloc::Global;
 use value_core::{Heading, Relation, Row, RowsRefuse};
 
@@ -62,7 +63,7 @@ fn rows_with_prefixes(alloc: Global, r: &Relation, list: &[Row]) -> Result<Vec<R
 }
 
 /// The relation of the heading with these rows, which are known to fit it and to be few enough where each is counted once.
-fn relation_of(heading: Heading, rows: Vec<Row>) -> Result<Relation, Memory>
+pub(crate) fn relation_of(heading: Heading, rows: Vec<Row>) -> Result<Relation, Memory>
     requires fitting { IsTrue (all_fit heading rows.items) }
     requires few { length (rows_of rows.items) ≤ most_rows }
     ensures { IfOk result (λ r. r ≡ relation_of heading rows.items) }
@@ -115,7 +116,7 @@ pub(crate) fn are_few(few: &Relation, many: &Relation) -> bool
 }
 
 /// Whether one of the relations has no rows, so that no row of the one has values of a row of the other.
-fn is_either_empty(few: &Relation, many: &Relation) -> bool
+pub(crate) fn is_either_empty(few: &Relation, many: &Relation) -> bool
     ensures empty { result ≡ true → (few.now.rows ≡ []) ⊎ (many.now.rows ≡ []) }
     ensures relations { IsRelation few.now × IsRelation many.now }
 {
@@ -130,8 +131,27 @@ fn without_rows(alloc: Global, r: &Relation) -> Result<Relation, Memory>
     selection(alloc, r, Vec::new(alloc))
 }
 
-/// The rows of many whose values at the positions are those of some row of few, by one pass over hashes that are made for it: numbers are
-/// compared, and values alone where some row of few has their hash.
+/// The rows of many whose values at the hashes' positions are those of some row of few, by one pass over the hashes. A single hash is
+/// compared with each, and needs no marks.
+fn touched_by_hashes(
+    alloc: Global,
+    many: &Relation,
+    few: &Relation,
+    hashes: &Hashes,
+) -> Result<Relation, Memory>
+    requires heading { few.now.heading ≡ many.now.heading }
+    requires within { All (λ (i : ℕ). i < length many.now.heading) hashes.now.positions }
+    requires hashes { AreHashesOf many.now.rows hashes.now }
+    ensures { IfOk result (λ r. (r.heading ≡ many.now.heading) × (r.rows ≡ touched hashes.now.positions few.now.rows many.now.rows)) }
+{
+    let keys = sorted_parts(alloc, few, hashes.positions())?;
+    if keys.len() == 1 {
+        return relation_core::touched_by_hashes(alloc, many, few, hashes);
+    }
+    passed_over(alloc, many, hashes, keys.as_slice())
+}
+
+/// The rows of many whose values at the positions are those of some row of few, by one pass over hashes that are made for it.
 fn touched_by_pass(
     alloc: Global,
     many: &Relation,
@@ -175,6 +195,18 @@ fn are_for(hashes: &Hashes, positions: &[usize]) -> bool
     *hashes.positions() == *positions
 }
 
+/// The hashes that are for these positions, if some are.
+pub(crate) fn hashes_for<'a>(hashes: &'a [Hashes], positions: &[usize]) -> Option<&'a Hashes>
+    ensures { (rows : List PlainRow) → All (AreHashesOf rows) hashes.now → IfSome result (λ own. (own.now.positions ≡ positions.now) × AreHashesOf rows own.now) }
+{
+    for own in hashes {
+        if are_for(own, positions) {
+            return Some(own);
+        }
+    }
+    None
+}
+
 /// The rows of many whose values at the positions are those of some row of few: by hashes, where some are for these positions.
 fn touched_by_some(
     alloc: Global,
@@ -188,12 +220,10 @@ fn touched_by_some(
     requires hashes { All (AreHashesOf many.now.rows) hashes.now }
     ensures { IfOk result (λ r. (r.heading ≡ many.now.heading) × (r.rows ≡ touched positions.now few.now.rows many.now.rows)) }
 {
-    for own in hashes {
-        if are_for(own, positions) {
-            return touched_by_hashes(alloc, many, few, own);
-        }
+    match hashes_for(hashes, positions) {
+        Some(own) => touched_by_hashes(alloc, many, few, own),
+        None => touched_by(alloc, many, few, positions),
     }
-    touched_by(alloc, many, few, positions)
 }
 
 /// The rows of many whose values at the positions are those of some row of few, as `touched_by` gives them. Where the rows of few are

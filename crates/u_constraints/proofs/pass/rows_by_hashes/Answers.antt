@@ -6,8 +6,8 @@ use Rattle.relation_core.specs.Agreement.{part_of}
 use Rattle.relation_core.specs.Hashes.{hash_of}
 use Rattle.relation_core.proofs.HashLemmas.{below_rows, row_long, kept_more, left_out}
 use Rattle.u_constraints.proofs.NearLemmas.{sought_too}
-use Rattle.u_constraints.proofs.near.rows_by_hashes.Goals as goal
-use Rattle.u_constraints.proofs.near.rows_by_hashes.Goals.{then-is_sought+in_ok-keep_with_key, else-is_sought}
+use Rattle.u_constraints.proofs.pass.rows_by_hashes.Goals as goal
+use Rattle.u_constraints.proofs.pass.rows_by_hashes.Goals.{then-is_sought+in_ok-keep_with_key, else-is_sought}
 
 pub keep_with_key-requires-clause-within : goal.keep_with_key-requires-clause-within
 keep_with_key-requires-clause-within c =

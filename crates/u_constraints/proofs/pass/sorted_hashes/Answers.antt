@@ -2,7 +2,7 @@ use Rattle.std.proofs.Common.{ℕ, List, ap, ◌∙◌}
 use Rattle.std.specs.Ordering.{nat_cmp}
 use Rattle.base_core.specs.Sets.{in_order}
 use Rattle.relation_core.proofs.HashLemmas.{hashes_from_sort}
-use Rattle.u_constraints.proofs.near.sorted_hashes.Goals as goal
+use Rattle.u_constraints.proofs.pass.sorted_hashes.Goals as goal
 
 pub returns-clause-hashes : goal.returns-clause-hashes
 returns-clause-hashes c =
