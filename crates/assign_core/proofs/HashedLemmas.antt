@@ -1,5 +1,6 @@
 -- Hashes of rows that come and go.
 --     hash_put, hash_cut      the hashes of rows among which one is put, or from which one is taken
+--     hash_kept      those of rows of which one takes the place of another with its hash
 --     none_hashed      no hashes are right for each relvar
 --     hashes_entry, hashes_put, set_hashed      hashes for an entry, and for what is put in its place
 --     first_hashes, hashes_of_first      hashes for the first entry of a name
@@ -7,12 +8,13 @@
 --     hashed_removed, others_hashed      those that are left, and those of other places than the one that changes
 use Rattle.std.proofs.Common.{◌≡◌, ◌≢◌, ℕ, zero, suc, ◌<◌, ◌≤◌, List, [], ◌∷◌, map, length, take, drop, get_or, refl, sym, ap, subst, ◌∙◌, arith, Some, None, Bool, true, false, nat_eq, nat_lt}
 use Rattle.std.proofs.lemmas.Bool.Decides.{nat_tests}
+use Rattle.std.proofs.lemmas.List.{length-map}
 use Rattle.std.proofs.lemmas.List.Elements.{All-nil, All-weaker, All-append, All-take, All-drop}
 use Rattle.std.proofs.lemmas.List.Quantifiers.{position-Some}
 use Rattle.std.proofs.lemmas.List.Sums.{fails_before_first}
 use Rattle.std.proofs.lemmas.Grind.{common_steps}
 use Rattle.std.specs.Prelude.{slice_get}
-use Rattle.std.specs.List.{All, insert, remove, list_all, position, position_or_len}
+use Rattle.std.specs.List.{All, HoldsAt, insert, remove, list_all, position, position_or_len}
 use Rattle.std.specs.Bool.{IsTrue}
 use Rattle.indexmap.specs.IndexMap.{set_value_at}
 use Rattle.value_core.specs.declared.constraint.Constraint.{Constraint}
@@ -58,6 +60,31 @@ hash_cut heading rows m new i h is = subst (IsHashesOf heading (remove rows i)) 
   are = ap (λ (ms : List ℕ). remove ms i) h.are ∙ cut_map (hash_of m.positions) rows i;
   within = h.within;
 })
+
+-- a row that takes the place of one with its hash
+same_hash : (hashes : List ℕ) (i : ℕ) (h : ℕ) → i < length hashes → HoldsAt (λ k. k ≡ h) hashes i → insert (remove hashes i) i h ≡ hashes
+same_hash [] i h l e = absurd (omega (arith, l))
+same_hash (k ∷ ks) zero h l e = ap (λ (m : ℕ). m ∷ ks) (sym (e h))
+same_hash (k ∷ ks) (suc i) h l e = ap (λ (ms : List ℕ). k ∷ ms) (same_hash ks i h (omega (arith, l)) e)
+
+pub hash_kept : (heading : Heading) (rows : List Row) (m : HashList) (from to : ℕ) (x : Row) → IsHashesOf heading rows m → from ≡ to → from < length rows
+    → HoldsAt (λ k. k ≡ hash_of m.positions x) m.list from → IsHashesOf heading (insert (remove rows from) to x) m
+hash_kept heading rows m from to x h same l there =
+    let f = hash_of m.positions in
+    let long : from < length m.list = subst (λ (ms : List ℕ). from < length ms) (sym h.are) (omega (arith, length-map rows f, l)) in
+    let now : insert (remove m.list from) from (f x) ≡ m.list = same_hash m.list from (f x) long there in
+    subst (λ (k : ℕ). IsHashesOf heading (insert (remove rows from) k x) m) same (record {
+      are = sym now ∙ (ap (λ (ms : List ℕ). insert (remove ms from) from (f x)) h.are
+          ∙ (ap (λ (ms : List ℕ). insert ms from (f x)) (cut_map f rows from) ∙ put_map f (remove rows from) from x));
+      within = h.within;
+    })
+
+-- what is asked of a row and a place
+pub hash_there : (heading : Heading) (rows : List Row) (m : HashList) (at : ℕ) → IsHashesOf heading rows m → at < length rows → at < length m.list
+hash_there heading rows m at h l = subst (λ (ms : List ℕ). at < length ms) (sym h.are) (omega (arith, length-map rows (hash_of m.positions), l))
+
+pub hash_within : (heading : Heading) (rows : List Row) (m : HashList) (x : Row) → IsHashesOf heading rows m → length x ≡ length heading → All (λ (i : ℕ). i < length x) m.positions
+hash_within heading rows m x h long = subst (λ (n : ℕ). All (λ (i : ℕ). i < n) m.positions) (sym long) h.within
 
 -- hashes that are new
 pub own_hashes : (heading : Heading) (rows : List Row) (m : HashList) (positions : List ℕ) → m.positions ≡ positions → AreHashesOf rows m → All (λ (i : ℕ). i < length heading) positions → IsHashesOf heading rows m

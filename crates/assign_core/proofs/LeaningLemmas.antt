@@ -3,7 +3,7 @@
 --     others_hold      the law
 --     unless_told      where none is told, none is broken
 use denote.Ref.{Bor}
-use Rattle.std.proofs.Common.{◌≡◌, ℕ, zero, suc, ◌+◌, ◌<◌, ◌≤◌, Bool, true, false, cond, List, [], ◌∷◌, ◌++◌, map, drop, length, get_or, refl, sym, ap, subst, ◌∙◌, arith, true≢false, Option, Some, None, Ok}
+use Rattle.std.proofs.Common.{◌≡◌, ℕ, zero, suc, ◌+◌, ◌<◌, ◌≤◌, Bool, true, false, cond, List, [], ◌∷◌, ◌++◌, map, drop, length, get_or, refl, sym, ap, ◌∙◌, arith, true≢false, Option, Some, None, Ok}
 use Rattle.std.specs.Prelude.{◌||◌, is_some, nat_eq, slice_get, slice_index_or, MatchOption}
 use Rattle.std.specs.List.{All, list_any}
 use Rattle.std.specs.Str.{bytes_eq}
@@ -11,7 +11,6 @@ use Rattle.std.proofs.lemmas.Bool.{or_parts}
 use Rattle.std.proofs.lemmas.Bool.Decides.{nat_tests}
 use Rattle.std.proofs.lemmas.List.{map-append}
 use Rattle.std.proofs.lemmas.List.Elements.{All-head, All-tail}
-use Rattle.value_core.specs.declared.refuse.Refuse.{Refuse}
 use Rattle.value_core.specs.declared.refuse.Refuse.TheVariants.{Broken}
 use Rattle.value_core.specs.Values.{Name, Relation}
 use Rattle.point_core.specs.declared.fault.Code.TheVariants.{E45}
@@ -28,7 +27,7 @@ use Rattle.change_rows.specs.declared.exchange.Exchange.{Exchange}
 use Rattle.assign_core.specs.Breaches.{first_rule_broken}
 use Rattle.assign_core.specs.Changes.{Changes, changed, changed_relvar}
 use Rattle.assign_core.specs.Leanings.{is_new_at, is_ready_at, is_view_of, is_affected, with_affected, affected_from, affected, leaning, DoOthersHold}
-use Rattle.assign_core.specs.Turnovers.{renewed_at, with_ready, IsReady}
+use Rattle.assign_core.specs.Turnovers.{renewed_at, with_ready}
 use Rattle.assign_core.specs.declared.preparing.Ready.{Ready}
 use Rattle.assign_core.specs.declared.preparing.Ready.TheVariants.{Values, Rows}
 

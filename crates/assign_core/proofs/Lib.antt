@@ -5,6 +5,7 @@ pub mod ChangeLemmas
 pub mod CheckLemmas
 pub mod CostLemmas
 pub mod CountLemmas
+pub mod CutLemmas
 pub mod DeclaredLemmas
 pub mod DifferenceLemmas
 pub mod ExchangeLemmas
@@ -12,10 +13,15 @@ pub mod RenewedLemmas
 pub mod TurnoverLemmas
 pub mod HashedLemmas
 pub mod InsertionLemmas
+pub mod InTurnLemmas
+pub mod ItemLemmas
 pub mod LeaningLemmas
+pub mod LeavingLemmas
+pub mod MergingLemmas
 pub mod NameLemmas
 pub mod NewRowLemmas
 pub mod PackingLemmas
+pub mod PlaceLemmas
 pub mod PlainLemmas
 pub mod PlainRenewalLemmas
 pub mod PointLemmas

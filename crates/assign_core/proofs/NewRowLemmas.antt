@@ -4,7 +4,7 @@
 --     readied_so      what is told of the base relvar that is found
 --     brought_of, paid_of      what is meant, and what it takes, wherever the rows are written
 --     refused_so, entered, refused_rule, entered_keeps      what becomes of the state
-use Rattle.std.proofs.Common.{◌≡◌, ℕ, ◌+◌, ◌≤◌, Bool, true, List, [], ◌∷◌, length, refl, sym, ap, ap₂, subst, ◌∙◌, arith, Option, Some, None, Result, Ok, Err}
+use Rattle.std.proofs.Common.{◌≡◌, ℕ, ◌+◌, ◌≤◌, Bool, true, List, [], ◌∷◌, length, refl, sym, ap, ap₂, subst, ◌∙◌, arith, Option, Some, Result, Ok, Err}
 use Rattle.std.specs.Prelude.{◌&&◌}
 use Rattle.std.specs.Cmp.Lexicographic.{pointwise}
 use Rattle.std.specs.Str.{bytes_eq}
@@ -34,7 +34,7 @@ use Rattle.assign_core.specs.Breaches.{first_rule_broken}
 use Rattle.assign_core.specs.Costs.{constraints_cost, constraints_cost_of, rules_cost, rules_cost_of}
 use Rattle.assign_core.specs.Databases.{IsKept, IsSettled}
 use Rattle.assign_core.specs.Insertions.{sum_in, united_in}
-use Rattle.assign_core.specs.NewRows.{Arriving, replacing, joining, rows_then, arriving_cost, joined_cost, values_brought, IsBaseWith, IsBrought, IsGivenTo, IsPaidFor, IsToldOf}
+use Rattle.assign_core.specs.NewRows.{Arriving, replacing, joining, rows_then, arriving_cost, joined_cost, values_brought, IsBrought, IsGivenTo, IsPaidFor, IsToldOf}
 use Rattle.assign_core.specs.Targets.{entries_before, entries_with}
 use Rattle.assign_core.specs.Turnovers.{with_ready, IsReady}
 use Rattle.assign_core.specs.declared.target.Target.{Target}

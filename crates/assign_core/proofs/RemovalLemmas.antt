@@ -56,7 +56,7 @@ after_at y (z ∷ zs) (suc i) d a l = after_at y zs i d a.1 (omega arith)
 kept : (x z : Row) (r : Ordering) → is_eq r ≡ false → row_cmp z x ≡ r → not (has row_cmp (x ∷ []) z) ≡ true
 kept x z r e is = ap (λ (o : Ordering). not (is_eq o || false)) is ∙ ap (λ (b : Bool). not (b || false)) e
 
-found_at : (rows : List Row) (x : Row) (i : ℕ) → Ascends row_cmp rows → i < length rows → ((d : Row) → row_cmp (get_or rows i d) x ≡ Equal) → remove rows i ≡ subtracted rows (x ∷ [])
+pub found_at : (rows : List Row) (x : Row) (i : ℕ) → Ascends row_cmp rows → i < length rows → ((d : Row) → row_cmp (get_or rows i d) x ≡ Equal) → remove rows i ≡ subtracted rows (x ∷ [])
 found_at [] x i up l found = absurd (omega arith)
 found_at (y ∷ ys) x zero up l found =
     let p = λ (z : Row). not (has row_cmp (x ∷ []) z) in

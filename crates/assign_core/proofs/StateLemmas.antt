@@ -13,14 +13,14 @@ use Rattle.value_core.specs.Values.{Name}
 use Rattle.tree_core.specs.declared.relvar.Relvar.{Relvar}
 use Rattle.tree_core.specs.declared.relvar.Relvars.{Relvars}
 use Rattle.tree_core.specs.declared.test.RelTest.{RelTest}
-use Rattle.tree_core.specs.Relvars.{Entries, Rules, State, read_entry, read_relvar, read_relvars, read_rule, relvar_named, history_if}
+use Rattle.tree_core.specs.Relvars.{Entries, read_entry, read_relvar, read_relvars, read_rule, relvar_named, history_if}
 use Rattle.tree_core.specs.Trees.{read_test}
 use Rattle.tree_core.specs.Uses.{is_one_of}
 use Rattle.tree_core.proofs.NameLemmas.{looked-up}
-use Rattle.meaning_core.specs.Declarations.{group, with_history, with_rule, without_all, without_group, without_rule}
+use Rattle.meaning_core.specs.Declarations.{with_history, with_rule}
 use Rattle.assign_core.specs.Changes.{Changes, changed, replaced}
 use Rattle.assign_core.proofs.ExchangeLemmas.{length_changed, length_replaced, taken_back}
-use Rattle.assign_core.proofs.NameLemmas.{apart_from, distinct_apart, filter_read, none_of, one_removed, shift_apart, three_removed}
+use Rattle.assign_core.proofs.NameLemmas.{apart_from, distinct_apart, filter_read, one_removed, shift_apart, three_removed}
 
 pub changed_state : (old new : Relvars) (es : Entries) → map read_entry new.list.entries ≡ es → new.ordinals ≡ old.ordinals → new.rules ≡ old.rules
     → read_relvars new ≡ record (read_relvars old) { relvars = es }

@@ -6,7 +6,7 @@
 --     rows_of_both, sum_of, outcome      the rows that it then has, the relvars with them, or why they are refused
 --     IsPlain      the rows of both are united as they are
 --     IsPackedOn      the target is packed on the list
-use Rattle.std.specs.Prelude.{◌≡◌, ℕ, ◌+◌, Bool, false, nat_eq, List, [], ◌∷◌, length, Option, Some, None, option_map, Result}
+use Rattle.std.specs.Prelude.{◌≡◌, ℕ, ◌+◌, Bool, false, nat_eq, List, length, Option, Some, None, option_map, Result}
 use Rattle.std.specs.Cmp.Lexicographic.{pointwise}
 use Rattle.std.specs.List.{list_any}
 use Rattle.point_core.specs.declared.fault.Place.{Place}

@@ -9,12 +9,14 @@ pub mod Differences
 pub mod Hashed
 pub mod Turnovers
 pub mod Insertions
+pub mod Items
 pub mod Leanings
 pub mod NewRows
 pub mod Parts
 pub mod PlainChanges
 pub mod Portions
 pub mod Reductions
+pub mod Removals
 pub mod Renewals
 pub mod Revisions
 pub mod Targets

@@ -1,17 +1,18 @@
 // The database.
 ghost use Rattle.std.specs.Prelude.{◌≡◌, ◌≤◌, ◌+◌, map, option_map, take, OnOk, OnErr, IsOk};
 ghost use Rattle.std.specs.List.{All};
-ghost use Rattle.tree_core.specs.Items.{read_assignment};
+ghost use Rattle.tree_core.specs.Items.{read_assignment, read_item};
 ghost use Rattle.tree_core.specs.Relvars.{read_relvars};
 ghost use Rattle.tree_core.specs.Trees.{read_test};
 ghost use Rattle.meaning_core.specs.Declarations.{read_declaration, with_rule, without_group, without_rule};
 ghost use Rattle.meaning_core.specs.Typing.{IsListIf};
 ghost use Rattle.meaning_core.specs.WellMade.{IsWellMade};
-ghost use Rattle.meaning_core.specs.Updates.{IsTypedAssignment};
+ghost use Rattle.meaning_core.specs.Updates.{IsTypedAssignment, IsTypedItem};
 ghost use Rattle.algebra_core.specs.Costs.{test_cost};
 ghost use Rattle.assign_core.specs.Assignments.{constrained, IsAssigned, IsDone};
 ghost use Rattle.assign_core.specs.Costs.{cost_of_assignments};
 ghost use Rattle.assign_core.specs.Databases.{no_relvars, declared, IsKept};
+ghost use Rattle.assign_core.specs.Items.{assignments_of};
 ghost use Rattle.assign_core.specs.NewRows.{joining, replacing, IsFoundIf, IsPaidFor, IsToldOf, StaysUnless, TakesNoneIf};
 
 use crate::appending::append_all;
@@ -19,6 +20,7 @@ use crate::dropping::drop_group;
 use crate::filling::fill;
 use crate::hashed::{Hashed, no_hashes};
 use crate::new_rows::{Coming, bring};
+use crate::performing::assignments;
 use crate::preparing::prepare;
 use crate::rules::add_rule;
 use crate::settling::settle;
@@ -27,7 +29,7 @@ use point_core::{Memory, Steps};
 use std::alloc::Global;
 use std::marker::Model;
 use std::sync::ledger::Ledger;
-use tree_core::{Assignment, Declaration, RelTest, Relvars};
+use tree_core::{Assignment, Declaration, Item, RelTest, Relvars};
 use value_core::{Name, OrdinalTypes, Positions, Refuse, Relation};
 
 /// The ordinal types, relvars and views, and the database constraints. They are well made, each constraint of a relvar and each database
@@ -126,6 +128,17 @@ impl Database {
             ),
             Err(refuse) => Err(refuse),
         }
+    }
+
+    /// Performs the items of an assignment, all together, or refuses and changes nothing. Each stands for assignments, which come in the
+    /// order of the items.
+    pub fn perform<L: Ledger>(&mut self, items: &[Item], steps: &mut Steps<L>) -> Result<(), Refuse>
+        requires typed { All (IsTypedItem (read_relvars self.old)) (map read_item items.now) }
+        ensures performed { IsAssigned result (read_relvars self.old) (read_relvars self.new) (assignments_of (read_relvars self.old).relvars (map read_item items.now)) }
+        ensures cost { steps.new ≤ steps.old + cost_of_assignments (read_relvars self.old) (assignments_of (read_relvars self.old).relvars (map read_item items.now)) }
+    {
+        let list = assignments(self.alloc, items, self.relvars())?;
+        self.assign(&list, steps)
     }
 
     /// Puts the rows in place of those of the base relvar of this name; or refuses and changes nothing.

@@ -10,6 +10,7 @@ ghost use Rattle.assign_core.specs.Turnovers.{renewed, renewed_at, renewed_relva
 
 use crate::hashed::{Hashed, HashedRelvar, put_hashes, take_hashes};
 use crate::marking::exchange_hashed;
+use crate::merging::put;
 use crate::removal::remove;
 use crate::tuning::MOST_ROWS_ONE_BY_ONE;
 use change_rows::Exchange;
@@ -211,7 +212,7 @@ pub(crate) fn put_and_remove(
     ensures err { OnErr result (value.new ≡ value.old) }
 {
     let Exchange { come, gone } = rows;
-    value.insert(come)?;
+    put(value, alloc, come)?;
     remove(value, alloc, &gone);
     Ok(())
 }

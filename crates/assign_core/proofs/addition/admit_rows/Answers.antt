@@ -1,4 +1,4 @@
-use Rattle.std.proofs.Common.{◌≡◌, List, length, map, ap, sym, subst, ◌∙◌, arith, None, replicate}
+use Rattle.std.proofs.Common.{List, length, map, ap, sym, subst, ◌∙◌, arith, None, replicate}
 use Rattle.value_core.specs.Values.{Row}
 use Rattle.tree_core.specs.Relvars.{Entries, read_entry, read_relvars}
 use Rattle.assign_core.specs.Changes.{Changes}

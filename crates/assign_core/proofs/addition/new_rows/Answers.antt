@@ -1,4 +1,4 @@
-use Rattle.std.proofs.Common.{◌≡◌, List, sym, ap, ◌∙◌}
+use Rattle.std.proofs.Common.{List, sym, ◌∙◌}
 use Rattle.value_core.specs.Values.{Row}
 use Rattle.u_constraints.specs.Growth.{exchanged}
 use Rattle.assign_core.specs.Insertions.{list_under}

@@ -1,4 +1,4 @@
-use Rattle.std.proofs.Common.{◌≡◌, ◌<◌, ◌≤◌, length, map, set, sym, refl, ◌∙◌, arith}
+use Rattle.std.proofs.Common.{◌<◌, ◌≤◌, length, map, sym, ◌∙◌, arith}
 use Rattle.tree_core.specs.Relvars.{read_entry}
 use Rattle.assign_core.proofs.ChangeLemmas.{entries_length}
 use Rattle.assign_core.proofs.ExchangeLemmas.{next_exchange, length_set, changed_end, replaced_end}

@@ -12,8 +12,8 @@ loop-row-init g c = record {
   hashes = c.requires.1;
 }
 
-pub take_out-requires : goal.take_out-requires
-take_out-requires g c =
+pub take_out_one-requires : goal.take_out_one-requires
+take_out_one-requires g c =
     let ascending = subst (λ (r : List Row). IsStrictlySortedBy row_cmp r) (sym c.loop-row.invariant.rows) (sorted_taken c.args.rows.now.items (take c.loop-row.row-index c.args.gone.now) c.requires.0) in
     (ascending, c.loop-row.invariant.hashes)
 
@@ -24,9 +24,9 @@ loop-row-preserved g c =
     let i = c.loop-row.row-index in
     let row = c.row-item.result in
     record {
-      rows = c.take_out.ensures.rows
+      rows = c.take_out_one.ensures.rows
           ∙ (ap (λ (rs : List Row). subtracted rs (row ∷ [])) c.loop-row.invariant.rows
           ∙ (taken_turn rows (take i gone) row c.requires.0
           ∙ ap (subtracted rows) (one_more gone i row c.loop-row-test.true c.row-item.is)));
-      hashes = c.take_out.ensures.hashes;
+      hashes = c.take_out_one.ensures.hashes;
     }

@@ -4,8 +4,8 @@ use Rattle.relation_core.specs.Operators.{subtracted}
 use Rattle.assign_core.specs.Hashed.{IsHashesOf}
 use Rattle.assign_core.proofs.marking.take_out_all.Given as goal
 
-abbrev pub ghost-take_out : goal.ghost-take_out
-ghost-take_out g a = g.heading
+abbrev pub ghost-take_out_one : goal.ghost-take_out_one
+ghost-take_out_one g a = g.heading
 
 abbrev pub invariant-loop-row : goal.invariant-loop-row
 invariant-loop-row g l = record {

@@ -1,4 +1,4 @@
-use Rattle.std.proofs.Common.{◌≡◌, ◌≤◌, ◌+◌, List, arith, ap, sym, subst, option_map, ◌∙◌, None, Ok}
+use Rattle.std.proofs.Common.{◌≡◌, List, arith, ap, sym, subst, option_map, ◌∙◌, None, Ok}
 use Rattle.std.specs.Prelude.{IfErr, IfOk}
 use Rattle.point_core.specs.Faults.{OrFault}
 use Rattle.value_core.specs.Values.{Heading, Relation, Row}

@@ -1,8 +1,8 @@
-use Rattle.std.proofs.Common.{◌≡◌, ◌≤◌, ◌+◌, length, ap, sym, subst, Ok, Err}
+use Rattle.std.proofs.Common.{◌≡◌, ◌≤◌, ◌+◌, ap, sym, subst, Ok}
 use Rattle.std.specs.Prelude.{IfErr, IfOk}
 use Rattle.std.proofs.lemmas.Result.{err_from_is_err_and}
 use Rattle.point_core.specs.Faults.{OrFault}
-use Rattle.value_core.specs.Values.{Relation, most_rows}
+use Rattle.value_core.specs.Values.{most_rows}
 use Rattle.relation_core.specs.Answers.{under}
 use Rattle.tree_core.specs.Relvars.{Entries, read_relvars}
 use Rattle.meaning_core.specs.Meanings.{limited}
@@ -10,7 +10,7 @@ use Rattle.meaning_core.proofs.LookupLemmas.{under_ok}
 use Rattle.u_constraints.specs.Growth.{exchanged}
 use Rattle.assign_core.specs.Assignments.{of_values, with_target, IsRefusedFor}
 use Rattle.assign_core.specs.Costs.{constraints_cost_of}
-use Rattle.assign_core.specs.Targets.{entries_after, entries_before, entries_with}
+use Rattle.assign_core.specs.Targets.{entries_before, entries_with}
 use Rattle.assign_core.specs.Turnovers.{renewed_at, with_ready}
 use Rattle.assign_core.proofs.AdditionLemmas.{exchange_ready, value_refused}
 use Rattle.assign_core.proofs.NameLemmas.{relvars_differ}

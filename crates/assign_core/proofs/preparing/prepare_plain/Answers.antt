@@ -1,17 +1,15 @@
-use Rattle.std.proofs.Common.{◌≡◌, ◌≤◌, ◌+◌, List, arith, ap, sym, subst, ◌∙◌, Ok}
+use Rattle.std.proofs.Common.{◌≡◌, List, arith, ap, sym, subst, Ok}
 use Rattle.std.specs.Prelude.{IfErr, IfOk}
-use Rattle.std.proofs.lemmas.Result.{err_from_is_err_and}
 use Rattle.point_core.specs.Faults.{OrFault}
 use Rattle.value_core.specs.Values.{Row}
 use Rattle.relation_core.specs.Answers.{under}
 use Rattle.tree_core.specs.Relvars.{Entries}
 use Rattle.meaning_core.specs.Meanings.{limited}
-use Rattle.assign_core.specs.Assignments.{of_values, with_target, IsRefusedFor}
+use Rattle.assign_core.specs.Assignments.{of_values, IsRefusedFor}
 use Rattle.assign_core.specs.Costs.{constraints_cost_of}
-use Rattle.assign_core.specs.Insertions.{sum_of, value_meant}
+use Rattle.assign_core.specs.Insertions.{sum_of}
 use Rattle.assign_core.specs.Targets.{entries_after, entries_before, entries_with}
 use Rattle.assign_core.specs.Turnovers.{with_ready, IsKnown}
-use Rattle.assign_core.proofs.AdditionLemmas.{value_refused}
 use Rattle.assign_core.proofs.preparing.prepare_plain.Goals as goal
 
 pub prepare_exchange-requires-clause-known : goal.prepare_exchange-requires-clause-known

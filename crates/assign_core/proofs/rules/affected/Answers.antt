@@ -1,4 +1,4 @@
-use Rattle.std.proofs.Common.{◌≡◌, ◌<◌, [], length, map, sym, ◌∙◌, arith}
+use Rattle.std.proofs.Common.{◌<◌, [], length, map, sym, ◌∙◌, arith}
 use Rattle.value_core.specs.Values.{Name}
 use Rattle.tree_core.specs.Relvars.{PlainRelvar, base, read_relvars}
 use Rattle.assign_core.proofs.ChangeLemmas.{entries_length}

@@ -1,4 +1,4 @@
-use Rattle.std.proofs.Common.{◌≡◌, ◌<◌, ◌≤◌, false, [], length, map, ◌∙◌, arith, refl, sym, subst, Err, Option}
+use Rattle.std.proofs.Common.{◌<◌, ◌≤◌, false, [], length, ◌∙◌, arith, refl, sym, subst, Err, Option}
 use Rattle.std.proofs.lemmas.Result.{err_from_is_err_and}
 use Rattle.point_core.specs.declared.fault.Place.{Place}
 use Rattle.value_core.specs.declared.refuse.Refuse.{Refuse}

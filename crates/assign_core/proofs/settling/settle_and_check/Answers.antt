@@ -1,5 +1,5 @@
-use Rattle.std.proofs.Common.{◌≡◌, ◌≤◌, ◌+◌, length, map, sym, subst, ◌∙◌, Err, None}
-use Rattle.tree_core.specs.Relvars.{State, read_entry, read_relvars}
+use Rattle.std.proofs.Common.{◌≡◌, ◌≤◌, ◌+◌, sym, subst, ◌∙◌, Err, None}
+use Rattle.tree_core.specs.Relvars.{State, read_relvars}
 use Rattle.meaning_core.specs.WellMade.{IsWellMade}
 use Rattle.assign_core.specs.Breaches.{first_rule_broken}
 use Rattle.assign_core.specs.Changes.{Tells}

@@ -1,4 +1,4 @@
-use Rattle.std.proofs.Common.{◌≡◌, ◌≤◌, ◌+◌, map, sym, refl, subst, arith, Err}
+use Rattle.std.proofs.Common.{◌≤◌, ◌+◌, map, sym, refl, subst, arith, Err}
 use Rattle.std.specs.List.{All}
 use Rattle.tree_core.specs.declared.relvar.Relvars.{Relvars}
 use Rattle.tree_core.specs.Items.{read_assignment}

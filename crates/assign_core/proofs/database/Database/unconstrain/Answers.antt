@@ -2,7 +2,7 @@ use Rattle.std.proofs.Common.{◌≡◌, sym, ap, subst}
 use Rattle.std.specs.List.{IsDistinct}
 use Rattle.std.specs.Str.{bytes_eq}
 use Rattle.tree_core.specs.declared.relvar.Relvars.{Relvars}
-use Rattle.tree_core.specs.Relvars.{Rules, State, read_relvars}
+use Rattle.tree_core.specs.Relvars.{Rules, read_relvars}
 use Rattle.meaning_core.specs.Declarations.{without_rule}
 use Rattle.assign_core.specs.Databases.{IsKept}
 use Rattle.assign_core.proofs.NameLemmas.{rules_differ, names_of_rules}
