@@ -17,7 +17,8 @@ use Rattle.constant_laws.specs.Insertions.{Bringing, Setting, Adding, AddingUnde
 use Rattle.constant_effects.proofs.EffectLemmas.{IsPlainDone, plain-done}
 use Rattle.constant_effects.specs.Ways.{arriving_of}
 use Rattle.plain_rows.specs.Brought.{BringsRows, IsBrought as AreRowsOf}
-use Rattle.utd_statement.specs.Answers.{Answer, Changed, assignments_of, of_checked, of_tree, unless_fault, unless_refused}
+use Rattle.assign_core.specs.Items.{assignments_of}
+use Rattle.utd_statement.specs.Answers.{Answer, Changed, of_checked, of_tree, unless_fault, unless_refused}
 use Rattle.utd_statement.specs.Bringing.{IsDoneBy, IsToldBy, IsTried}
 use Rattle.utd_statement.specs.Costs.{cost_if_typed, cost_of_tree}
 use Rattle.utd_statement.specs.Keeping.{Leaves, keeping_of}

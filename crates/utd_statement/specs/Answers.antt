@@ -2,21 +2,20 @@
 --     Answer      what is answered
 --     of_tree, answer      to a tree in a state, and to what a statement is read as
 --     text_of, is_accepted, state_after      what an answer writes, whether it accepts, and the state that it leaves
-use Rattle.std.specs.Prelude.{ℕ, Bool, true, false, List, [], flat_map, Result, Ok, Err}
+use Rattle.std.specs.Prelude.{ℕ, Bool, true, false, List, [], Result, Ok, Err}
 use Rattle.point_core.specs.Faults.{OrFault}
 use Rattle.value_core.specs.declared.list.OrdinalNames.{OrdinalNames}
 use Rattle.value_core.specs.declared.refuse.Refuse.{Refuse}
 use Rattle.value_core.specs.declared.refuse.Refuse.TheVariants.{At}
 use Rattle.value_core.specs.Values.{Relation}
 use Rattle.relation_core.specs.Answers.{under}
-use Rattle.tree_core.specs.Items.{PlainItem, PlainAssignment}
 use Rattle.tree_core.specs.Relvars.{Entries, State}
 use Rattle.tree_core.specs.Trees.{Tree, heading_of}
 use Rattle.meaning_core.specs.Declarations.{with_declaration, without_group, without_rule}
 use Rattle.meaning_core.specs.Meanings.{meaning_in}
 use Rattle.meaning_core.specs.Truths.{truth_in}
-use Rattle.update_core.specs.Endings.{meant_by}
 use Rattle.assign_core.specs.Assignments.{assigned_in, constrained}
+use Rattle.assign_core.specs.Items.{assignments_of}
 use Rattle.since_during.specs.Histories.{declared_history, declared_in}
 use Rattle.utd_syntax.specs.Plain.{StatementP}
 use Rattle.type_check.specs.Checks.{Plain, nothing, declare_ordinal, declare_base, declare_view, declare_history, remove, declare_rule, remove_rule, assign, print, ask, checked}
@@ -41,10 +40,6 @@ unless_fault f (Err e) = Refusal (At e)
 -- the relation of an expression
 abbrev pub relation_in : State → Tree → OrFault Relation
 relation_in state t = under (heading_of t) (meaning_in state.relvars t)
-
--- the assignments that items stand for where these are the relvars and views, in the order of the items
-abbrev pub assignments_of : Entries → List PlainItem → List PlainAssignment
-assignments_of entries items = flat_map (meant_by entries) items
 
 -- the state with new values of its relvars, or the refusal of the assignments
 abbrev pub unless_refused : State → Result Entries Refuse → Answer

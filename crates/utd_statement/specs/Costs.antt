@@ -8,9 +8,9 @@ use Rattle.point_core.specs.Faults.{OrFault}
 use Rattle.tree_core.specs.Relvars.{State}
 use Rattle.algebra_core.specs.Costs.{cost_in, test_cost}
 use Rattle.assign_core.specs.Costs.{cost_of_assignments}
+use Rattle.assign_core.specs.Items.{assignments_of}
 use Rattle.utd_syntax.specs.Plain.{StatementP}
 use Rattle.type_check.specs.Checks.{Plain, nothing, declare_ordinal, declare_base, declare_view, declare_history, remove, declare_rule, remove_rule, assign, print, ask, checked}
-use Rattle.utd_statement.specs.Answers.{assignments_of}
 use Rattle.utd_statement.specs.Readings.{Reading, Tree, Refused, IsText}
 
 -- the steps of the expression that is printed, of the test that is asked or declared, or of the sources and the constraints of assignments
