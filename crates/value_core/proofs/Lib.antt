@@ -4,4 +4,5 @@ pub mod HeadingLemmas
 pub mod OrderLemmas
 pub mod PlacingLemmas
 pub mod RelationLemmas
+pub mod TextLemmas
 pub mod PlainLemmas

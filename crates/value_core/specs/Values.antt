@@ -13,7 +13,8 @@ use Rattle.point_core.specs.declared.any_type.AnyType.{AnyType}
 use Rattle.point_core.specs.Points.{Line, integers, days, values_of, seconds, line_of, is_number}
 use Rattle.interval_core.specs.Members.{Span}
 use Rattle.base_core.specs.Sets.{is_set, in_order, are_same}
-use Rattle.value_core.specs.Limits.{most_attributes, most_text_bytes}
+use Rattle.value_core.specs.Lengths.{is_text}
+use Rattle.value_core.specs.Limits.{most_attributes}
 pub use Rattle.value_core.specs.Limits.{most_rows}
 use Rattle.value_core.specs.declared.kind.Kind.{Kind}
 use Rattle.value_core.specs.declared.kind.Kind.TheVariants.{Truth, Char, Point, Span as SpanOf}
@@ -102,7 +103,7 @@ is_interval t i = is_number t i.0 && (is_number t i.1 && int_le i.0 i.1)
 -- whether the value is of the kind, and its points are points of the type
 abbrev pub fits : Kind → Value → Bool
 fits Truth (truth b) = true
-fits Char (text bytes) = nat_le (length bytes) most_text_bytes
+fits Char (text bytes) = is_text bytes
 fits (Point t) (point l p) = same_line l (line_of t) && is_number t p
 fits (SpanOf t) (interval l i) = same_line l (line_of t) && is_interval t i
 fits _ _ = false

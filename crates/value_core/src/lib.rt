@@ -27,5 +27,5 @@ pub use name::Name;
 pub use refuse::{HeadingRefuse, Refuse, RelationRefuse, RowsRefuse};
 pub use relation::Relation;
 pub use row::Row;
-pub use text::Text;
+pub use text::{Text, has_control};
 pub use value::Value;

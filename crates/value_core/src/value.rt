@@ -8,7 +8,6 @@ ghost use Rattle.value_core.specs.Order.{value_total};
 ghost use Rattle.value_core.specs.Plain.{plain, ends};
 
 use crate::kind::Kind;
-use crate::limits::MOST_TEXT_BYTES;
 use crate::text::Text;
 use interval_core::Interval;
 use point_core::{AnyPoint, AnyType, Memory, PointType};
@@ -46,7 +45,7 @@ impl Value {
     {
         match (self, kind) {
             (Value::Truth(_), Kind::Truth) => true,
-            (Value::Char(text), Kind::Char) => text.as_str().len() <= MOST_TEXT_BYTES,
+            (Value::Char(text), Kind::Char) => text.is_one(),
             (Value::Point(p), Kind::Point(t)) => fits_point(t, *p),
             (Value::Span(i), Kind::Span(t)) => fits_span(t, i),
             _ => false,
