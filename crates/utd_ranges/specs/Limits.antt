@@ -2,10 +2,11 @@
 use Rattle.std.specs.Prelude.{ℕ, List, [], ◌∷◌, Bool, false, ◌||◌, not, nat_lt, nat_le, length}
 use Rattle.utd_syntax.specs.declared.terminal.Terminal.{Terminal}
 use Rattle.utd_syntax.specs.declared.terminal.Terminal.TheVariants.{Name, Digits, Quoted}
-use Rattle.utd_syntax.specs.Literals.{value_of, is_date, is_moment, has_control}
+use Rattle.utd_syntax.specs.Literals.{value_of, is_date, is_moment}
 use Rattle.utd_syntax.specs.Pieces.{Piece}
 use Rattle.utd_syntax.specs.Table.{Load, TheStatement, Taking, Operator, Negated, Dated, Timed, Opens, OperatorOpens}
 use Rattle.utd_syntax.specs.Verdict.{Verdict, Limits, verdict, at_start}
+use Rattle.value_core.specs.Lengths.{has_control}
 use Rattle.value_core.specs.Limits.{most_name_bytes, most_text_bytes, most_levels, most_operators}
 
 -- a text of too many bytes, or with a character below the space

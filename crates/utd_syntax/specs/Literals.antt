@@ -58,8 +58,3 @@ is_moment text = is_date (take 10 text) && is_clock (drop 10 text)
 -- the number of the moment that is written as YYYY-MM-DDTHH:MM:SS
 abbrev pub number_of_moment : List ℕ → ℤ
 number_of_moment text = number_of_date (take 10 text) *ℤ pos 86400 +ℤ pos (second_of_clock (drop 10 text))
-
--- a character below the space
-abbrev pub has_control : List ℕ → Bool
-has_control [] = false
-has_control (c ∷ cs) = nat_lt c 32 || has_control cs
