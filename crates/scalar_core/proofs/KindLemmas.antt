@@ -11,7 +11,9 @@ use Rattle.interval_core.specs.Members.{Span as Ends}
 use Rattle.value_core.specs.declared.kind.Kind.{Kind}
 use Rattle.value_core.specs.declared.kind.Kind.TheVariants.{Truth, Char, Point, Span}
 use Rattle.value_core.specs.Attributes.{value_at, span_of}
+use Rattle.value_core.specs.Lengths.{is_text}
 use Rattle.value_core.specs.Limits.{most_text_bytes}
+use Rattle.value_core.proofs.TextLemmas.{joined-text}
 use Rattle.value_core.specs.Values.{Value, Row, Name, Heading, truth, text, point, interval, fits, fits_heading, is_interval, same_line}
 use Rattle.scalar_core.specs.declared.operators.OneOp.{OneOp}
 use Rattle.scalar_core.specs.declared.operators.OneOp.TheVariants.{Not, Negate, BeginOf, EndOf, PreOf, PostOf, CountOf, NextOf, PriorOf}
@@ -20,7 +22,7 @@ use Rattle.scalar_core.specs.declared.operators.PairOp.TheVariants.{Add, Subtrac
 use Rattle.scalar_core.specs.Expressions.{Expr, constant, attribute, one, pair, and_expr, or_expr}
 use Rattle.scalar_core.specs.Kinds.{IsTyped, IsTypedOver, OneKinds, PairKinds, OneTakes, PairTakes}
 use Rattle.scalar_core.specs.ScalarValues.{value}
-use Rattle.scalar_core.specs.Operations.{Meant, is_true, number_of, integer, quotient, joined_text, point_or, interval_or, selector_or, begin_of, end_of, one_of, pair_of}
+use Rattle.scalar_core.specs.Operations.{Meant, is_true, number_of, integer, quotient, joined_text, bytes_of, point_or, interval_or, selector_or, begin_of, end_of, one_of, pair_of}
 use Rattle.base_core.proofs.SetLemmas.{In}
 use Rattle.base_core.proofs.MemberLemmas.{In-append, In-filter}
 use Rattle.interval_core.proofs.MembersLemmas.{In-members}
@@ -84,10 +86,17 @@ integer-fits place z w e =
 quotient-fits : (place : Place) (a b : ℤ) (w : Value) → quotient place a b ≡ Ok w → IsTrue (fits (Point Integer) w)
 quotient-fits place a b w e = integer-fits place (int_div a b) w (past (int_eq b (pos 0)) (integer place (int_div a b)) w _ e)
 
-joined_text-fits : (place : Place) (bytes : List ℕ) (w : Value) → joined_text place bytes ≡ Ok w → IsTrue (fits Char w)
-joined_text-fits place bytes w e =
-    let parts = tested (nat_le (length bytes) most_text_bytes) (text bytes) w _ e in
-    subst (λ x. IsTrue (fits Char x)) parts.1 parts.0
+-- the bytes of a text are one
+text-fits : (v : Value) → IsTrue (fits Char v) → is_text (bytes_of v) ≡ true
+text-fits (truth b) h = absurd cc
+text-fits (text bytes) h = h
+text-fits (point l p) h = absurd cc
+text-fits (interval l i) h = absurd cc
+
+joined_text-fits : (place : Place) (a b : List ℕ) (w : Value) → is_text a ≡ true → is_text b ≡ true → joined_text place (a ++ b) ≡ Ok w → IsTrue (fits Char w)
+joined_text-fits place a b w is_a is_b e =
+    let parts = tested (nat_le (length (a ++ b)) most_text_bytes) (text (a ++ b)) w _ e in
+    subst (λ x. IsTrue (fits Char x)) parts.1 (joined-text a b is_a is_b parts.0)
 
 point-in_line : (t : AnyType) (p : ℤ) → is_number t p ≡ true → IsTrue (fits (Point t) (point (line_of t) p))
 point-in_line t p h = and_from (same_line (line_of t) (line_of t)) (is_number t p) (same_line-self (line_of t)) h
@@ -284,7 +293,8 @@ pair_of-fits Add place left right kind a b w kinds h k e = kind_as kind (Point I
 pair_of-fits Subtract place left right kind a b w kinds h k e = kind_as kind (Point Integer) w kinds.2 (integer-fits place (number_of a -ℤ number_of b) w e)
 pair_of-fits Multiply place left right kind a b w kinds h k e = kind_as kind (Point Integer) w kinds.2 (integer-fits place (number_of a *ℤ number_of b) w e)
 pair_of-fits Divide place left right kind a b w kinds h k e = kind_as kind (Point Integer) w kinds.2 (quotient-fits place (number_of a) (number_of b) w e)
-pair_of-fits Concat place left right kind a b w kinds h k e = kind_as kind Char w kinds.2 (joined_text-fits place _ w e)
+pair_of-fits Concat place left right kind a b w kinds h k e =
+    kind_as kind Char w kinds.2 (joined_text-fits place (bytes_of a) (bytes_of b) w (text-fits a (part_as left Char a kinds.0 h)) (text-fits b (part_as right Char b kinds.1 k)) e)
 pair_of-fits (Compare word) place left right kind a b w kinds h k e = kind_as kind Truth w kinds.2 (truth-fits place _ w _ refl e)
 pair_of-fits (Allen word t) place left right kind a b w kinds h k e = kind_as kind Truth w kinds.2 (truth-fits place _ w _ refl e)
 pair_of-fits (Member t) place left right kind a b w kinds h k e = kind_as kind Truth w kinds.2 (truth-fits place _ w _ refl e)

@@ -1,6 +1,7 @@
 pub mod AlikeLemmas
 pub mod AtPlaceLemmas
 pub mod CutLemmas
+pub mod JoinedLemmas
 pub mod KindLemmas
 pub mod KindOfLemmas
 pub mod NameLemmas

@@ -1,10 +1,11 @@
 // Texts put together.
-ghost use Rattle.std.specs.Prelude.{◌≡◌, IsTrue};
+ghost use Rattle.std.specs.Prelude.{◌≡◌, false, IsTrue};
 ghost use Rattle.value_core.specs.declared.kind.Kind.TheVariants.{Char};
+ghost use Rattle.value_core.specs.Lengths.{has_control};
 ghost use Rattle.value_core.specs.Values.{fits};
 ghost use Rattle.value_core.specs.Plain.{plain};
 ghost use Rattle.scalar_core.specs.Answers.{Gives};
-ghost use Rattle.scalar_core.specs.Operations.{pair_of};
+ghost use Rattle.scalar_core.specs.Operations.{joined_text, pair_of};
 ghost use Rattle.scalar_core.specs.declared.operators.PairOp.TheVariants.{Concat};
 
 use crate::operand::text_of;
@@ -20,7 +21,15 @@ pub fn concat(alloc: Global, place: Place, a: &Value, b: &Value) -> Result<Value
 {
     let mut joined = String::from_str(alloc, text_of(a))?;
     joined.push_str(text_of(b))?;
-    match Text::make(alloc, joined.as_str())? {
+    text_or_fault(alloc, place, joined.as_str())
+}
+
+// The text, or the fault that it is too long.
+fn text_or_fault(alloc: Global, place: Place, text: &str) -> Result<Value, Stop>
+    requires { has_control text.now ≡ false }
+    ensures { Gives plain result (joined_text place text.now) }
+{
+    match Text::make(alloc, text)? {
         Some(bytes) => Ok(Value::Char(bytes)),
         None => Err(Stop::Fault(Fault {
             place,
