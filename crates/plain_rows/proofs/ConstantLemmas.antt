@@ -6,7 +6,8 @@ use Rattle.point_core.specs.declared.any_type.AnyPoint.{AnyPoint}
 use Rattle.point_core.specs.Points.{line, number, line_of, IsPointOf}
 use Rattle.interval_core.specs.Members.{span}
 use Rattle.value_core.specs.declared.kind.Kind.TheVariants as kinds
-use Rattle.value_core.specs.Lengths.{IsTextLength}
+use Rattle.value_core.specs.Lengths.{is_text}
+use Rattle.value_core.proofs.TextLemmas.{text-short}
 use Rattle.value_core.specs.Plain.{ends}
 use Rattle.value_core.specs.Values.{truth, text, point, interval, same_line}
 use Rattle.scalar_core.proofs.PointLemmas.{same_line-self}
@@ -17,8 +18,8 @@ use Rattle.plain_rows.specs.Written.{truth_word, IsInterval, BeginsWithText, Beg
 pub truth-constant : {types : List OrdinalNames} → (bytes : List ℕ) (b : Bool) (rest : List ℕ) → Begins bytes (truth_word b ∷ []) rest → BeginsWithConstant types bytes kinds.Truth (truth b) rest
 truth-constant {types} bytes b rest h = record { lexemes = truth_word b ∷ []; begins = h; written = refl }
 
-pub text-constant : {types : List OrdinalNames} → (bytes written rest : List ℕ) → BeginsWithText bytes written rest → IsTextLength written → BeginsWithConstant types bytes kinds.Char (text written) rest
-text-constant {types} bytes written rest h few = record { lexemes = (Text, written) ∷ []; begins = h.begins; written = (refl, h.utf8, few, h.printed) }
+pub text-constant : {types : List OrdinalNames} → (bytes written rest : List ℕ) → BeginsWithText bytes written rest → is_text written ≡ true → BeginsWithConstant types bytes kinds.Char (text written) rest
+text-constant {types} bytes written rest h is = record { lexemes = (Text, written) ∷ []; begins = h.begins; written = (refl, h.utf8, text-short written is, h.printed) }
 
 pub point-constant : {types : List OrdinalNames} → (bytes : List ℕ) (t : AnyType) (p : AnyPoint) (rest : List ℕ) → BeginsWithPoint types bytes t (number p) rest → IsPointOf t p → BeginsWithConstant types bytes (kinds.Point t) (point (line p) (number p)) rest
 point-constant {types} bytes t p rest h of = record { lexemes = h.lexemes; begins = h.begins; written = (of.0, h.written) }

@@ -11,7 +11,7 @@ use Rattle.utd_lexer.specs.Tokens.{Lexed, token, past, spelling, doubled, token_
 use Rattle.utd_lexer.proofs.WordLemmas.{taken}
 use Rattle.plain_rows.specs.Lexemes.{Begins, lexeme_of, ends_before, is_quote, is_text_byte}
 use Rattle.plain_rows.specs.Written.{BeginsWithText}
-use Rattle.utd_syntax.specs.Literals.{has_control}
+use Rattle.value_core.specs.Lengths.{has_control}
 use Rattle.plain_rows.proofs.BeginLemmas.{one-ascii, chars-one}
 
 -- ---- characters without a quote

@@ -19,7 +19,7 @@ use Rattle.utd_syntax.specs.declared.words.BeginBracket.{BeginBracket}
 use Rattle.utd_syntax.specs.declared.words.BeginBracket.TheVariants as begins
 use Rattle.utd_syntax.specs.declared.words.EndBracket.{EndBracket}
 use Rattle.utd_syntax.specs.declared.words.EndBracket.TheVariants as finishes
-use Rattle.utd_syntax.specs.Literals.{value_of, is_date, is_moment, has_control}
+use Rattle.utd_syntax.specs.Literals.{value_of, is_date, is_moment}
 use Rattle.utd_syntax.specs.Pieces.{Piece}
 use Rattle.utd_syntax.specs.Plain as syntax
 use Rattle.utd_syntax.specs.Plain.{word, ScalarP, SignP}
@@ -35,7 +35,8 @@ use Rattle.utd_parser.specs.Tokens.{terminal_of, seen, pieces}
 use Rattle.value_core.specs.declared.kind.Kind.{Kind}
 use Rattle.value_core.specs.declared.kind.Kind.TheVariants as kinds
 use Rattle.value_core.specs.declared.list.OrdinalNames.{OrdinalNames}
-use Rattle.value_core.specs.Lengths.{IsTextLength, is_utf8}
+use Rattle.value_core.specs.Lengths.{IsTextLength, has_control}
+use Rattle.value_core.proofs.TextLemmas.{text-of-parts, utf8-known}
 use Rattle.value_core.specs.Limits.{most_name_bytes, most_text_bytes}
 use Rattle.value_core.specs.Values.{Value, truth, text, point, interval}
 use Rattle.scalar_typing.specs.Literals.{integer_of, negative_of, text_of, date_of, moment_of}
@@ -116,12 +117,8 @@ either-not true b e f = absurd (true≢false e)
 text-in : (bytes : List ℕ) → IsTextLength bytes → has_control bytes ≡ false → (nat_lt most_text_bytes (length bytes) || has_control bytes) ≡ false
 text-in bytes short printed = either-not _ (has_control bytes) (le-ltb most_text_bytes (length bytes) short) printed
 
-taken-if : (a b : Bool) (bytes : List ℕ) → a ≡ true → b ≡ true → (cond (a && b) (Some bytes) None) ≡ Some bytes
-taken-if true true bytes e f = refl
-taken-if _ _ bytes e f = absurd cc
-
-text-made : (bytes : List ℕ) → IsUtf8 bytes → IsTextLength bytes → text_of bytes ≡ Some bytes
-text-made bytes utf8 short = taken-if (is_utf8 bytes) (nat_le (length bytes) most_text_bytes) bytes (eq-eqb (utf8_valid_len bytes) (length bytes) (utf8_valid_len-IsUtf8 bytes utf8)) (le-leb (length bytes) most_text_bytes short)
+text-made : (bytes : List ℕ) → IsUtf8 bytes → IsTextLength bytes → has_control bytes ≡ false → text_of bytes ≡ Some bytes
+text-made bytes utf8 short printed = ap (λ (b : Bool). cond b (Some bytes) None) (text-of-parts bytes (utf8-known bytes utf8) (le-leb (length bytes) most_text_bytes short) printed)
 
 -- ---- points
 
@@ -315,7 +312,7 @@ text-found types bytes p ls ts h utf8 short printed e = let a = next (Text, byte
   s = alone (syntax.OnePrimary (syntax.TextLiteral a.place bytes));
   left = a.left;
   others = a.others;
-  writes = (syntax.OnePrimary (syntax.TextLiteral a.place bytes), refl, (bytes, text-made bytes utf8 short, refl, refl));
+  writes = (syntax.OnePrimary (syntax.TextLiteral a.place bytes), refl, (bytes, text-made bytes utf8 short printed, refl, refl));
   in_range = text-in bytes short printed;
   spells = spelled-next t.Quoted [] (Text, bytes) ls ts (pieces a.left) a refl (nothing (pieces a.left));
 }

@@ -4,7 +4,7 @@
 use Rattle.std.specs.Prelude.{◌≡◌, ℕ, List, ◌∷◌, ◌++◌, false}
 use Rattle.std.specs.Str.{chars, IsUtf8}
 use Rattle.utd_lexer.specs.Tokens.{doubled, AllOf}
-use Rattle.utd_syntax.specs.Literals.{has_control}
+use Rattle.value_core.specs.Lengths.{has_control}
 use Rattle.plain_rows.specs.Lexemes.{is_text_byte}
 
 -- the bytes are these, which have no quote and no control character, then a quote and the rest

@@ -7,7 +7,7 @@
 --     BeginsWithInterval, BeginsWithConstant      the bytes begin with the tokens of this one
 use Rattle.std.specs.Prelude.{◌≡◌, ◌⊎◌, ℕ, ℤ, List, [], ◌∷◌, ◌++◌, Bool, true, false, Some, Ok}
 use Rattle.std.specs.Str.{IsUtf8}
-use Rattle.utd_syntax.specs.Literals.{has_control}
+use Rattle.value_core.specs.Lengths.{has_control, IsTextLength}
 use Rattle.utd_syntax.specs.Plain.{word}
 use Rattle.utd_lexer.specs.declared.token.TokenKind.TheVariants.{Word, Integer, Text, Symbol}
 use Rattle.scalar_typing.specs.Literals.{integer_of, negative_of, date_of, moment_of}
@@ -22,7 +22,6 @@ use Rattle.interval_core.specs.Selector.{selected}
 use Rattle.point_core.specs.Points.{line_of}
 use Rattle.value_core.specs.declared.kind.Kind.{Kind}
 use Rattle.value_core.specs.declared.kind.Kind.TheVariants as kinds
-use Rattle.value_core.specs.Lengths.{IsTextLength}
 use Rattle.value_core.specs.Values.{Name, Value, truth, text, point, interval}
 use Rattle.value_core.specs.declared.list.OrdinalNames.{OrdinalNames}
 use Rattle.constant_laws.specs.Constants.{IsOrdinalPoint}

@@ -1,6 +1,6 @@
 // Constants at the front of bytes.
-ghost use Rattle.std.specs.Prelude.{◌≡◌, ◌∷◌, [], IfSome};
-ghost use Rattle.value_core.specs.Lengths.{IsTextLength};
+ghost use Rattle.std.specs.Prelude.{◌≡◌, ◌∷◌, [], IfSome, IsTrue};
+ghost use Rattle.value_core.specs.Lengths.{is_text};
 ghost use Rattle.value_core.specs.Plain.{plain};
 ghost use Rattle.plain_rows.specs.Lexemes.{Begins};
 ghost use Rattle.plain_rows.specs.Written.{truth_word, BeginsWithConstant};
@@ -29,7 +29,7 @@ pub(crate) fn truth(text: &[u8]) -> Option<(bool, &[u8])>
 
 fn made_text(alloc: Global, written: &str) -> Option<Text>
     ensures same { IfSome result (λ t. t ≡ written.now) }
-    ensures length { IfSome result (λ t. IsTextLength written.now) }
+    ensures is { IfSome result (λ t. IsTrue (is_text written.now)) }
 {
     match Text::make(alloc, written) {
         Ok(found) => found,

@@ -26,7 +26,7 @@ use Rattle.scalar_core.specs.Answers.{Gives}
 use Rattle.scalar_core.specs.Expressions.{and_expr, or_expr, read}
 use Rattle.scalar_core.specs.Kinds.{IsTyped}
 use Rattle.scalar_core.proofs.PointLemmas.{same_line-self, number-is_number, last-number}
-use Rattle.value_core.specs.Limits.{most_text_bytes}
+use Rattle.value_core.specs.Lengths.{is_text}
 use Rattle.scalar_typing.specs.declared.typed.Typed.{Typed as TypedTree}
 use Rattle.scalar_typing.specs.Typings.{Typed, ◌>>=◌, value_or, typed}
 use Rattle.scalar_typing.specs.Literals.{integer_of, negative_of, text_of, number_of_date, date_of, number_of_moment, moment_of, point_constant, integer_literal, text_literal, date_literal, moment_literal, extreme_constant}
@@ -96,8 +96,8 @@ moment-sound heading at quoted bytes =
 
 text-sound : (heading : Heading) (at : Place) (bytes : List ℕ) → Sound heading (text_literal at bytes)
 text-sound heading at bytes =
-    then-sound (λ (b : List ℕ). nat_le (length b) most_text_bytes ≡ true) (IsTypedPart heading) (value_or at _ (text_of bytes)) _
-    (or-refused (λ (b : List ℕ). nat_le (length b) most_text_bytes ≡ true) at _ (text_of bytes) (if-some _ (is_utf8 bytes && nat_le (length bytes) most_text_bytes) bytes (and_right (is_utf8 bytes) (nat_le (length bytes) most_text_bytes))))
+    then-sound (λ (b : List ℕ). is_text b ≡ true) (IsTypedPart heading) (value_or at _ (text_of bytes)) _
+    (or-refused (λ (b : List ℕ). is_text b ≡ true) at _ (text_of bytes) (if-some _ (is_text bytes) bytes (λ h. h)))
     (λ b h. (refl, h))
 
 first-number : (t : AnyType) → IsNumber t (first_of t)

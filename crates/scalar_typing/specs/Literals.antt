@@ -1,5 +1,5 @@
 -- What literals stand for. A literal out of its range stands for nothing and is E06; the reading of a text lets none through.
-use Rattle.std.specs.Prelude.{ℕ, ℤ, pos, neg_ℤ, Bool, ◌&&◌, List, [], ◌∷◌, length, nat_le, Option, Some, None, Ok, if◌then◌else◌}
+use Rattle.std.specs.Prelude.{ℕ, ℤ, pos, neg_ℤ, Bool, List, [], ◌∷◌, nat_le, Option, Some, None, Ok, if◌then◌else◌}
 use Rattle.point_core.specs.declared.fault.Place.{Place}
 use Rattle.point_core.specs.declared.fault.Code.TheVariants.{E06}
 use Rattle.point_core.specs.declared.any_type.AnyType.{AnyType}
@@ -11,8 +11,7 @@ use Rattle.utd_syntax.specs.declared.words.ExtremeWord.TheVariants.{First, Last}
 use Rattle.utd_syntax.specs.Literals.{value_of, is_date, is_moment}
 pub use Rattle.utd_syntax.specs.Literals.{number_of_date, number_of_moment}
 use Rattle.value_core.specs.declared.kind.Kind.TheVariants.{Truth, Char, Point}
-use Rattle.value_core.specs.Lengths.{is_utf8}
-use Rattle.value_core.specs.Limits.{most_text_bytes}
+use Rattle.value_core.specs.Lengths.{is_text}
 use Rattle.value_core.specs.Values.{truth, text, point}
 use Rattle.scalar_core.specs.Expressions.{constant}
 use Rattle.scalar_typing.specs.Typings.{Typed, ◌>>=◌, value_or}
@@ -26,9 +25,9 @@ integer_of digits = if nat_le (value_of digits) 9223372036854775807 then Some (p
 abbrev pub negative_of : List ℕ → Option ℤ
 negative_of digits = if nat_le (value_of digits) 9223372036854775808 then Some (neg_ℤ (pos (value_of digits))) else None
 
--- a text that is not too long
+-- a text that is not too long and has no character below the space
 abbrev pub text_of : List ℕ → Option (List ℕ)
-text_of bytes = if is_utf8 bytes && nat_le (length bytes) most_text_bytes then Some bytes else None
+text_of bytes = if is_text bytes then Some bytes else None
 
 abbrev pub date_of : List ℕ → Option ℤ
 date_of bytes = if is_date bytes then Some (number_of_date bytes) else None

@@ -1,16 +1,17 @@
 -- The typing of row expressions is not E06 where each name and literal in them stands for a name or a value.
 use Rattle.std.proofs.Common.{◌≡◌, ℕ, List, Bool, true, false, ◌&&◌, ◌||◌, not, Option, Some, None, nat_le, nat_lt, length, refl, arith}
-use Rattle.std.proofs.lemmas.Bool.{and_from}
 use Rattle.base_core.proofs.BoolLemmas.{left_false}
 use Rattle.point_core.specs.declared.fault.Place.{Place}
 use Rattle.point_core.specs.declared.fault.Code.TheVariants.{E06, E10, E12, E14}
 use Rattle.utd_syntax.specs.declared.terminal.Terminal.TheVariants as t
-use Rattle.utd_syntax.specs.Literals.{value_of, is_date, is_moment, has_control}
+use Rattle.utd_syntax.specs.Literals.{value_of, is_date, is_moment}
 use Rattle.utd_syntax.specs.Plain as syntax
 use Rattle.utd_syntax.specs.Plain.{Word, PointP, ScalarP, ConjP, NegP, CmpP, SumP, ProdP, SignP, PrimaryP}
 use Rattle.utd_syntax.specs.Table.{Plain, Negated, Dated, Timed}
 use Rattle.utd_ranges.specs.Ranges.{IsIn, NameIn, PointIn, ScalarIn, ConjIn, NegIn, CmpIn, SumIn, ProdIn, SignIn, PrimaryIn, is_unwritten, has_no_value}
-use Rattle.value_core.specs.Lengths.{is_utf8}
+use Rattle.utd_ranges.specs.Limits.{is_bad_text}
+use Rattle.value_core.specs.Lengths.{has_control, is_utf8}
+use Rattle.value_core.proofs.TextLemmas.{text-of-parts}
 use Rattle.value_core.specs.declared.list.OrdinalNames.{OrdinalNames}
 use Rattle.value_core.specs.Limits.{most_text_bytes}
 use Rattle.value_core.specs.Values.{Heading}
@@ -36,9 +37,11 @@ negative-fine at digits bytes h = then-fine (value_or digits E06 (negative_of by
 
 text-fine : (at : Place) (bytes : List ℕ) → IsIn has_no_value Plain t.Quoted bytes → IsNotE06 (text_literal at bytes)
 text-fine at bytes h =
-    let short : nat_le (length bytes) most_text_bytes ≡ true = not-above most_text_bytes (length bytes) (left_false _ (has_control bytes) (left_false _ (is_unwritten t.Quoted bytes) h)) in
+    let bad : is_bad_text bytes ≡ false = left_false _ (is_unwritten t.Quoted bytes) h in
+    let short : nat_le (length bytes) most_text_bytes ≡ true = not-above most_text_bytes (length bytes) (left_false _ (has_control bytes) bad) in
+    let printed : has_control bytes ≡ false = or-right _ (has_control bytes) bad in
     let valid : is_utf8 bytes ≡ true = not-left (is_utf8 bytes) _ (or-right _ (is_unwritten t.Quoted bytes) h) in
-    then-fine (value_or at E06 (text_of bytes)) _ (there-fine at E06 _ bytes (and_from (is_utf8 bytes) (nat_le (length bytes) most_text_bytes) valid short)) (λ b. tt)
+    then-fine (value_or at E06 (text_of bytes)) _ (there-fine at E06 _ bytes (text-of-parts bytes valid short printed)) (λ b. tt)
 
 date-fine : (at quoted : Place) (bytes : List ℕ) → IsIn has_no_value Dated t.Quoted bytes → IsNotE06 (date_literal at quoted bytes)
 date-fine at quoted bytes h = then-fine (value_or quoted E06 (date_of bytes)) _ (there-fine quoted E06 (is_date bytes) _ (not-false (is_date bytes) (left_false _ (is_unwritten t.Quoted bytes) h))) (λ n. tt)

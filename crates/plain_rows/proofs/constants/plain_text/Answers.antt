@@ -1,8 +1,9 @@
 use Rattle.std.proofs.Common.{sym, subst}
-use Rattle.value_core.specs.Lengths.{IsTextLength}
+use Rattle.std.specs.Bool.{IsTrue}
+use Rattle.value_core.specs.Lengths.{is_text}
 use Rattle.plain_rows.specs.Written.{BeginsWithText}
 use Rattle.plain_rows.proofs.ConstantLemmas.{text-constant}
 use Rattle.plain_rows.proofs.constants.plain_text.Goals as goal
 
 pub returns : goal.returns
-returns c types = text-constant _ _ _ (subst (λ z. BeginsWithText c.args.text.now z c.in_ok-written.rest.now) (sym c.in_ok-made.ensures.same) c.in_ok-written.ensures) (subst IsTextLength (sym c.in_ok-made.ensures.same) c.in_ok-made.ensures.length)
+returns c types = text-constant _ _ _ (subst (λ z. BeginsWithText c.args.text.now z c.in_ok-written.rest.now) (sym c.in_ok-made.ensures.same) c.in_ok-written.ensures) (subst (λ z. IsTrue (is_text z)) (sym c.in_ok-made.ensures.same) c.in_ok-made.ensures.is)
