@@ -2,6 +2,7 @@
 --     tuple_script      a row
 --     insert_script      a statement that inserts rows
 --     inserts, rows_of_state      the statements that insert the rows of a relvar, and of all
+--     HaveRelations      the values of base relvars are relations
 use Rattle.std.specs.Prelude.{ℕ, zero, suc, Bool, false, List, [], ◌∷◌, ◌++◌, map, length, take, drop, codes, if◌then◌else◌}
 use Rattle.std.specs.List.{flat_map, list_any}
 use Rattle.std.specs.Str.{bytes_eq}
@@ -9,7 +10,7 @@ use Rattle.value_core.specs.declared.constraint.Constraint.{Constraint}
 use Rattle.value_core.specs.declared.constraint.Constraint.TheVariants.{Key, Packed, WhenUnpacked, UKey, Foreign, History}
 use Rattle.value_core.specs.declared.list.OrdinalNames.{OrdinalNames}
 use Rattle.value_core.specs.Limits.{most_rows}
-use Rattle.value_core.specs.Values.{Name, Row, Heading, Relation}
+use Rattle.value_core.specs.Values.{Name, Row, Heading, Relation, IsRelation}
 use Rattle.tree_core.specs.Relvars.{PlainRelvar, base, view, State, Entries}
 use Rattle.dump_core.specs.Values.{value_script}
 
@@ -81,3 +82,14 @@ rows_of_entries types entries = flat_map (λ e. inserts types e.0 e.1) entries
 
 abbrev pub rows_of_state : State → List (List ℕ)
 rows_of_state state = rows_of_entries state.ordinals state.relvars
+
+-- ---- relations
+
+-- the value of a base relvar is a relation, and those of all are
+abbrev pub HasRelation : PlainRelvar → Type 0
+HasRelation (base value constraints) = IsRelation value
+HasRelation (view t history) = Unit {0}
+
+abbrev pub HaveRelations : Entries → Type 0
+HaveRelations [] = Unit {0}
+HaveRelations (e ∷ rest) = HasRelation e.1 × HaveRelations rest

@@ -2,11 +2,12 @@
 ghost use Rattle.std.specs.Prelude.{◌≡◌, ◌<◌, ◌≤◌, length, take, drop, Some, None, IfOk, IfErr, OnOk};
 ghost use Rattle.std.specs.List.{list_any};
 ghost use Rattle.value_core.specs.Limits.{most_statement_bytes};
+ghost use Rattle.value_core.specs.Values.{IsRelation};
 ghost use Rattle.tree_core.specs.Relvars.{read_relvar, read_relvars};
 ghost use Rattle.utd_print.specs.Tables.{AreRows};
 ghost use Rattle.dump_core.specs.declared.refuse.DumpRefuse.TheVariants.{TooLong};
 ghost use Rattle.dump_core.specs.Drafts.{with_statement, with_statements};
-ghost use Rattle.dump_core.specs.Inserts.{insert_script, parts_inserted, references, rows_a_statement, inserts, rows_of_state};
+ghost use Rattle.dump_core.specs.Inserts.{insert_script, parts_inserted, references, rows_a_statement, inserts, rows_of_state, HasRelation, HaveRelations};
 
 use crate::draft::Draft;
 use crate::refuse::DumpRefuse;
@@ -72,6 +73,7 @@ fn put_parts(
     size: usize,
 ) -> Result<(), DumpRefuse>
     requires { 1 ≤ size }
+    ensures relation { IsRelation value.now }
     ensures written { OnOk result (
         with_statements (parts_inserted types.now name.now value.now size) draft.old ≡ Some draft.new) }
     ensures too_long { IfErr result (λ r. r ≡ TooLong →
@@ -123,6 +125,7 @@ fn put_relvar(
     name: &Name,
     relvar: &Relvar,
 ) -> Result<(), DumpRefuse>
+    ensures relation { HasRelation (read_relvar relvar.now) }
     ensures written { OnOk result (
         with_statements (inserts types.now name.now (read_relvar relvar.now)) draft.old ≡ Some draft.new) }
     ensures too_long { IfErr result (λ r. r ≡ TooLong →
@@ -142,6 +145,7 @@ fn put_relvar(
 
 /// Writes the statements that insert the rows of all base relvars.
 pub(crate) fn put_rows(draft: &mut Draft, relvars: &Relvars) -> Result<(), DumpRefuse>
+    ensures relations { OnOk result (HaveRelations (read_relvars relvars.now).relvars) }
     ensures written { OnOk result (with_statements (rows_of_state (read_relvars relvars.now)) draft.old ≡ Some draft.new) }
     ensures too_long { IfErr result (λ r. r ≡ TooLong →
         with_statements (rows_of_state (read_relvars relvars.now)) draft.old ≡ None) }

@@ -5,6 +5,7 @@ ghost use Rattle.dump_core.specs.declared.refuse.DumpRefuse.TheVariants.{TooLong
 ghost use Rattle.dump_core.specs.Texts.{of_kind};
 ghost use Rattle.dump_core.specs.Drafts.{with_statements};
 ghost use Rattle.dump_core.specs.Dumps.{statements_of, script_of};
+ghost use Rattle.dump_core.specs.Inserts.{HaveRelations};
 
 use crate::draft::Draft;
 use crate::inserts::put_rows;
@@ -28,6 +29,7 @@ fn put_texts(draft: &mut Draft, texts: &Texts, kind: TextKind) -> Result<(), Dum
 
 /// Writes the statements of a database in the order of a script.
 fn put_all(draft: &mut Draft, texts: &Texts, relvars: &Relvars) -> Result<(), DumpRefuse>
+    ensures relations { OnOk result (HaveRelations (read_relvars relvars.now).relvars) }
     ensures written { OnOk result (
         with_statements (statements_of texts.now (read_relvars relvars.now)) draft.old ≡ Some draft.new) }
     ensures too_long { IfErr result (λ r. r ≡ TooLong →
@@ -43,6 +45,7 @@ fn put_all(draft: &mut Draft, texts: &Texts, relvars: &Relvars) -> Result<(), Du
 /// relvars, then rows, 100 a statement, then views and then database constraints. Rows that may refer to each other stand in one
 /// statement. It is refused where a statement or the whole would be longer than one may be, and stops as soon as that shows.
 pub fn dump(alloc: Global, texts: &Texts, relvars: &Relvars) -> Result<Vec<u8>, DumpRefuse>
+    ensures relations { IfOk result (λ v. HaveRelations (read_relvars relvars.now).relvars) }
     ensures dumped { IfOk result (λ v. script_of texts.now (read_relvars relvars.now) ≡ Some v.items) }
     ensures too_long { IfErr result (λ r. r ≡ TooLong → script_of texts.now (read_relvars relvars.now) ≡ None) }
 {
