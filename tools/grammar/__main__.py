@@ -20,6 +20,7 @@ def write_all():
     """Runs the scripts, each of which builds on those before it."""
     importlib.import_module('trees')
     split.split()
+    importlib.import_module('moved')
     importlib.import_module('rows')
     importlib.import_module('builder')
     importlib.import_module('editors')

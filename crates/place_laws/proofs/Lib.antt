@@ -1,0 +1,4 @@
+pub mod MovedMarks
+pub mod SameTrees
+pub mod MovedTexts
+pub mod HeldNames
