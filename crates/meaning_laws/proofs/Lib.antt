@@ -1,0 +1,11 @@
+pub mod ApartLemmas
+pub mod EachAlike
+pub mod EntriesFound
+pub mod GivesLemmas
+pub mod LikeLemmas
+pub mod MeaningAlike
+pub mod MeaningMoved
+pub mod SameMoved
+pub mod TypedAlike
+pub mod TypedMoved
+pub mod ValueMoved
