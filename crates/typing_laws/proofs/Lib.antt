@@ -1,0 +1,16 @@
+mod SameGiven
+pub mod SayingLaws
+mod PositionsElsewhere
+mod ConstraintsElsewhere
+mod DeclarationsElsewhere
+mod RowsElsewhere
+mod SweepsElsewhere
+mod NodesElsewhere
+mod UsingsElsewhere
+mod NodeNames
+pub mod TreesElsewhere
+pub mod SaysElsewhere
+pub mod SaysMore
+pub mod SaidLaws
+pub mod SaidNames
+pub mod NodesAlike
