@@ -1,0 +1,4 @@
+pub mod Elsewhere
+pub mod Sayable
+pub mod Statements
+pub mod Written
