@@ -1,0 +1,12 @@
+pub mod CalendarLemmas
+pub mod DateTextLemmas
+pub mod DottedLemmas
+pub mod FrontLemmas
+pub mod InsertLaws
+pub mod InsertTrees
+pub mod NameLemmas
+pub mod NumberLemmas
+pub mod QuietLemmas
+pub mod QuotedLemmas
+pub mod TupleLemmas
+pub mod ValueLemmas
