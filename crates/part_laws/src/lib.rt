@@ -1,0 +1,2 @@
+//! Parts of relvars that keep their constraints keep them too. Lemmas alone.
+#![tactic(auto)]
