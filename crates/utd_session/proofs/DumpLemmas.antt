@@ -23,11 +23,11 @@ use Rattle.utd_session.proofs.EndLemmas.{not_at_end}
 
 -- ---- a script that was read to its end
 
-whole_at_end : (answered : ℕ) → IsAtEnd answered → (answered ≡ 0) ⊎ ((answered ≡ 1) ⊎ (answered ≡ 6))
+pub whole_at_end : (answered : ℕ) → IsAtEnd answered → (answered ≡ 0) ⊎ ((answered ≡ 1) ⊎ (answered ≡ 6))
 whole_at_end answered k = elim k [ inl e ↦ inl e | inr e ↦ inr (inl e) ]
 
 -- it is not too long
-short_at_end : (bytes : List ℕ) (database : Option Database) (answered : ℕ) → IsAtEnd answered → IsWhole bytes None None database answered → length bytes ≤ most_bytes
+pub short_at_end : (bytes : List ℕ) (database : Option Database) (answered : ℕ) → IsAtEnd answered → IsWhole bytes None None database answered → length bytes ≤ most_bytes
 short_at_end bytes database answered k w = by_le (length bytes) most_bytes (λ l. l) (λ l.
     let six : status_of bytes w.0.accepted ≡ 6 = ap (λ t. cond t (cond w.0.accepted 0 1) 6) (not_le (length bytes) most_bytes l) in
     let is : answered ≡ 6 = w.2 ∙ six in

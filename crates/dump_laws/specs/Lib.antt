@@ -1,0 +1,9 @@
+pub mod Kept
+pub mod SayableNames
+pub mod Replays
+pub mod Loads
+pub mod Accepting
+pub mod Standing
+pub mod Phases
+pub mod Bringing
+pub mod Back
