@@ -1,3 +1,4 @@
+pub mod BackLemmas
 pub mod GeneratedLemmas
 pub mod SinkLemmas
 pub mod WritingLemmas

@@ -8,6 +8,8 @@ ghost use Rattle.utd_session.specs.Status.{number_of};
 ghost use Rattle.utd_session.specs.Costs.{IsPaid};
 ghost use Rattle.utd_session.specs.Generated.{IsGeneratedPaid};
 ghost use Rattle.utd_session.specs.Dumped.{EndsDump, IsDumped, IsGeneratedDump};
+ghost use Rattle.utd_session.specs.Ends.{IsAtEnd};
+ghost use Rattle.dump_laws.specs.Back.{IsBack, IsSound};
 
 use crate::outcome::without_memory;
 use assign_core::Database;
@@ -51,8 +53,9 @@ fn written_dump<K: Sink>(
     database: &Database,
     out: &mut K,
 ) -> Status
-    ensures { EndsDump (Some texts.now) (state_of database.now) status
+    ensures ends { EndsDump (Some texts.now) (state_of database.now) status
         (K.faults out.old) (K.faults out.new) (K.written out.old) (K.written out.new) result }
+    ensures sound { IsAtEnd (number_of result) → IsSound (state_of database.now) }
 {
     match dump(alloc, texts, database.relvars()) {
         Ok(script) => status_after_write(script.as_slice(), status, out),
@@ -68,8 +71,9 @@ fn status_after_dump<K: Sink>(
     database: &Database,
     out: &mut K,
 ) -> Status
-    ensures { EndsDump texts (state_of database.now) status
+    ensures ends { EndsDump texts (state_of database.now) status
         (K.faults out.old) (K.faults out.new) (K.written out.old) (K.written out.new) result }
+    ensures sound { IfSome texts (λ t. IsAtEnd (number_of result) → IsSound (state_of database.now)) }
 {
     match texts {
         Some(texts) => written_dump(alloc, status, &texts, database, out),
@@ -86,6 +90,8 @@ fn run_dumped<S: Source, K: Sink, L: Ledger>(
 ) -> Ran
     ensures run { IfSome (S.left input.old) (λ bytes. IsDumped bytes (S.left input.new)
         (K.written out.old) (K.written out.new) (Some result.database) (number_of result.status)) }
+    ensures again { IfSome (S.left input.old) (λ bytes. IsAtEnd (number_of result.status)
+        → IsBack (K.written out.old) (K.written out.new) (Some result.database)) }
     ensures cost { IfSome (S.left input.old) (λ bytes. IsPaid bytes (S.left input.new) steps.old steps.new) }
     ensures usage { number_of result.status ≡ number_of Status.BadUsage → ⊥ }
     ensures read { number_of result.status ≡ number_of Status.ReadFailed → Rose (S.faults input.old) (S.faults input.new) }
@@ -110,6 +116,7 @@ fn dump_generated<K: Sink, L: Ledger>(
 ) -> Ran
     requires { number ≤ most_tuples }
     ensures run { IsGeneratedDump number (K.written out.old) (K.written out.new) (Some result.database) (number_of result.status) }
+    ensures again { IsAtEnd (number_of result.status) → IsBack (K.written out.old) (K.written out.new) (Some result.database) }
     ensures cost { IsGeneratedPaid number steps.old steps.new }
     ensures usage { number_of result.status ≡ number_of Status.BadUsage → ⊥ }
     ensures read { number_of result.status ≡ number_of Status.ReadFailed → ⊥ }
@@ -138,6 +145,10 @@ pub(crate) fn run_dump<S: Source, K: Sink, L: Ledger>(
         (K.written out.old) (K.written out.new) (Some result.database) (number_of result.status)) }
     ensures generated { (number : ℕ) → script ≡ Script.Generated number
         → IsGeneratedDump number (K.written out.old) (K.written out.new) (Some result.database) (number_of result.status) }
+    ensures again { script ≡ Script.OfInput → IfSome (S.left input.old) (λ bytes. IsAtEnd (number_of result.status)
+        → IsBack (K.written out.old) (K.written out.new) (Some result.database)) }
+    ensures again_generated { (number : ℕ) → script ≡ Script.Generated number → IsAtEnd (number_of result.status)
+        → IsBack (K.written out.old) (K.written out.new) (Some result.database) }
     ensures cost { script ≡ Script.OfInput → IfSome (S.left input.old) (λ bytes. IsPaid bytes (S.left input.new) steps.old steps.new) }
     ensures cost_generated { (number : ℕ) → script ≡ Script.Generated number → IsGeneratedPaid number steps.old steps.new }
     ensures usage { number_of result.status ≡ number_of Status.BadUsage → ⊥ }

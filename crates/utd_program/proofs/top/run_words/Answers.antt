@@ -1,5 +1,6 @@
 use Rattle.std.proofs.Common.{ap}
 use Rattle.utd_session.specs.Status.{number_of}
+use Rattle.utd_program.proofs.BackLemmas.{memory_no_end, may_no_end}
 use Rattle.utd_program.proofs.GeneratedLemmas.{may_run_not, may_dump_not, generates_not, dumps_no_generated, may_pay_not, generates_free}
 use Rattle.utd_program.proofs.top.run_words.Goals as goal
 
@@ -30,3 +31,9 @@ returns-in-Err-clause-cost g c of_input = may_pay_not (g.S.Source.left c.args.in
 
 pub returns-in-Err-clause-cost_generated : goal.returns-in-Err-clause-cost_generated
 returns-in-Err-clause-cost_generated g c number generated = generates_free number c.args.steps.now
+
+pub returns-in-Err-clause-again : goal.returns-in-Err-clause-again
+returns-in-Err-clause-again g c of_input = may_no_end _ (g.S.Source.left c.args.input.now) (number_of c.without_memory.result.status) (ap number_of c.without_memory.ensures.status)
+
+pub returns-in-Err-clause-again_generated : goal.returns-in-Err-clause-again_generated
+returns-in-Err-clause-again_generated g c number generated at_end = absurd (memory_no_end (number_of c.without_memory.result.status) (ap number_of c.without_memory.ensures.status) at_end)
