@@ -2,7 +2,7 @@
 from reader import *
 PARAMS = '(x n : Terminal) (p : Place) (b : List ℕ) (next : (st : List Symbol) → Go st → Option StatementP) (stack : List Symbol)'
 MARKS_USE = f'use {CR}.proofs.Marks.{{One, one, Last, last, Two, two, done, seen, Begins, begins, none}}'
-o = ['-- The table reads what a tree writes as that tree.'] + HEAD + [WRITTEN_USE, TABLE_USE, READER_USE, MARKS_USE, '',
+o = ['-- The table reads what a tree writes as that tree.'] + HEAD + [WRITTEN_USE, TABLE_USE, READER_USE, MARKS_USE, 'use Rattle.std.proofs.lemmas.Bool.{eqb-true}', '',
 '''along : (ts ts' : List Piece) (stack : List Symbol) (k : Go stack) → ts ≡ ts' → read ts stack k ≡ read ts' stack k
 along ts ts' stack k e = ap (λ x. read x stack k) e
 
@@ -23,6 +23,28 @@ fitting-ends false r n s v r' w d stack next beyond k ih h = ih h
 pub halting : (s : Symbol) (rs : List Row) (ms : Makes s rs) (d : Val s) (x : Terminal) (b : List ℕ) (n : Terminal) (p : Place) (stack : List Symbol) (next : (st : List Symbol) → Go st → Option StatementP) (beyond : Go stack → Option StatementP) (k : Go (s ∷ stack)) → find rs true x b n ≡ Ends → on_turn s (find rs true x b n) (found s rs ms true d x b n p) stack next beyond k ≡ beyond (λ vs. k (d, vs))
 halting s [] ms d x b n p stack next beyond k h = refl
 halting s (r ∷ rs) ms d x b n p stack next beyond k h = fitting-ends (fits r x b) r n s (made s r ms.0 n p b) (find rs true x b n) (found s rs ms.1 true d x b n p) d stack next beyond k (halting s rs ms.1 d x b n p stack next beyond k) h
+
+-- a row that is for another token
+other-row : (s : Symbol) (c : Bool) (r r' : Turn) (v : Built s r) (w : Built s r') (stack : List Symbol) (next : (st : List Symbol) → Go st → Option StatementP) (beyond : Go stack → Option StatementP) (k : Go (s ∷ stack)) → c ≡ false → on_turn s (cond c r r') (pick s c r r' v w) stack next beyond k ≡ on_turn s r' w stack next beyond k
+other-row s true r r' v w stack next beyond k e = cc
+other-row s false r r' v w stack next beyond k e = refl
+
+both-left : (a b : Bool) → (a && b) ≡ true → a ≡ true
+both-left true b e = refl
+both-left false b e = cc
+
+both-right : (a b : Bool) → (a && b) ≡ true → b ≡ true
+both-right true b e = e
+both-right false b e = cc
+
+pub bytes-same : (a b : List ℕ) → same_bytes a b ≡ true → a ≡ b
+bytes-same [] [] e = refl
+bytes-same [] (y ∷ ys) e = cc
+bytes-same (x ∷ xs) [] e = cc
+bytes-same (x ∷ xs) (y ∷ ys) e =
+    let h : x ≡ y = eqb-true x y (both-left (x == y) (same_bytes xs ys) e) in
+    let g : xs ≡ ys = bytes-same xs ys (both-right (x == y) (same_bytes xs ys) e) in
+    ap (λ z. z ∷ xs) h ∙ ap (λ z. y ∷ z) g
 
 -- the token does not continue the form
 abbrev pub Halts : Symbol → Terminal → Type 0
@@ -109,12 +131,59 @@ for w, (f, g) in wid.items():
     o += [f'{w} : (x : Terminal) → {starts(f)} x → {starts(g)} x'] + [f'{w} t.{x} h = tt' for x in sorted(FIRST[f])] + [f'{w} _ h = absurd h', '']
 o += body
 # ---- links
+LOOKS = {}   # links beside which the form has a row for a name that is spelled so: what stands behind a name of the other form
+for (f, g) in LINKS:
+    if any(r[0] == 'spelt' for r in TABLE[FORMS[f]['symbol']]['rows']):
+        found = {r[5][0][1] for r in EXP[FORMS[g]['symbol']] if r[1] == 'Name'}
+        assert len(found) == 1, (f, g, found)
+        LOOKS[(f, g)] = found.pop()
+def second_lemma(n, x):
+    r = [f'{n}-second : (x : {FORMS[n]["type"]}) (ts rest : List Piece) → Spells (of_{n} x) ts rest → first ts ≡ t.Name → second ts ≡ t.{x}']
+    for con, pat, items, parts in FORMS[n]['cases']:
+        head = f'{n}-second {pat} ts rest h e ='
+        if items[0][0] == 'f': r.append(f'{head} let x0 = two ({pexpr(items[:1])}) ({pexpr(items[1:])}) ts rest h in {items[0][1]}-second {items[0][2]} ts x0.mid x0.before e')
+        elif items[0][0] == 'name':
+            assert items[1] == ('fx', x), (n, con)
+            r.append(f'{head} let x0 = one ({mark(items[0])}) ({pexpr(items[1:])}) ts rest h in ap second x0.is ∙ begins (λ z. z ≡ t.{x}) _ x0.left rest refl x0.spells')
+        else: r.append(f'{head} absurd (begins (λ z. z ≡ t.Name → ⊥) _ ts rest (λ z. cc) h e)')
+    return r + ['']
+def look_lemmas(f, g, st, k):
+    """Behind a name that is spelled so, the rest of the other form takes what the form of this link has there, and makes the same."""
+    fs, x = FORMS[f]['symbol'], LOOKS[(f, g)]
+    row = next(r for r in TABLE[fs]['rows'] if r[0] == 'spelt')
+    w, [rest] = word_name(row[1]), row[4]
+    of_rest = next(r for r in TABLE[rest]['rows'] if r[0] == 'on' and r[1] == x)
+    more = next(r for r in EXP[fs] if r[0] == 'on' and r[1] == 'Name')[5]
+    assert more == [('Just', x)] + of_rest[4], (more, of_rest)
+    made = vs(of_rest[5], 'v.1')
+    spelled = re.sub(r'\bq\b', 'p', made)
+    end = 'v' + '.1' * len(more)
+    forms = ' ∷ '.join(sym(y) for y in more)
+    r = [f'{rest}-goes_on : (x n : Terminal) (p q : Place) (b : List ℕ) (next : (st : List Symbol) → Go st → Option StatementP) (stack : List Symbol) (k : Go ({fs} ∷ stack)) → x ≡ t.{x} → read_at x n q b next ({rest} ∷ stack) (λ v. k (v.0 p, v.1)) ≡ read_at x n q b next ({forms} ∷ stack) (λ v. k ({spelled}, {end}))',
+         f'{rest}-goes_on x n p q b next stack k is = subst (λ z. read_at z n q b next ({rest} ∷ stack) (λ v. k (v.0 p, v.1)) ≡ read_at z n q b next ({forms} ∷ stack) (λ v. k ({spelled}, {end}))) (sym is) refl', '']
+    either = lambda b: f'read_at t.Name (first ts) p {b} (read ts) ({fs} ∷ stack) k ≡ read_at t.Name (first ts) p {b} (read ts) {st} {k}'
+    r += [f'{f}-named : (p : Place) (b : List ℕ) (ts : List Piece) (stack : List Symbol) (k : Go ({fs} ∷ stack)) (c : Bool) → same_bytes {w} b ≡ c → first ts ≡ t.{x} → {either("b")}',
+          f'{f}-named p b [] stack k c e is = absurd (no-end is)', '  where', f'    no-end : t.Finish ≡ t.{x} → ⊥', '    no-end e = cc',
+          f'{f}-named p b (y ∷ ts) stack k true e is = subst (λ z. {either("z").replace("first ts", "first (y ∷ ts)").replace("read ts", "read (y ∷ ts)")}) (bytes-same {w} b e) ({rest}-goes_on y.terminal (first ts) p y.place y.bytes (read ts) stack k is)',
+          f'{f}-named p b (y ∷ ts) stack k false e is = other-row {fs} (same_bytes {w} b) (Takes Plain ({rest} ∷ [])) (Takes Plain ({forms} ∷ [])) (λ v. {vs(row[5], "v")}) (λ v. {spelled.replace(w, "b")}) stack (read (y ∷ ts)) (read_at t.Name y.terminal p b (read (y ∷ ts)) stack) k e', '']
+    r += [f'{f}-is-{g} : (x : Terminal) (p : Place) (b : List ℕ) (ts : List Piece) (stack : List Symbol) (k : Go ({fs} ∷ stack)) → {starts(g)} x → (x ≡ t.Name → first ts ≡ t.{x}) → read_at x (first ts) p b (read ts) ({fs} ∷ stack) k ≡ read_at x (first ts) p b (read ts) {st} {k}']
+    for y in sorted(FIRST[g]): r.append(f'{f}-is-{g} t.{y} p b ts stack k h g = ' + (f'{f}-named p b ts stack k (same_bytes {w} b) refl (g refl)' if y == 'Name' else 'refl'))
+    r += [f'{f}-is-{g} _ p b ts stack k h g = absurd h', '']
+    r += [f'{f}-as-{g} : (ts : List Piece) (stack : List Symbol) (k : Go ({fs} ∷ stack)) → {starts(g)} (first ts) → (first ts ≡ t.Name → second ts ≡ t.{x}) → read ts ({fs} ∷ stack) k ≡ read ts {st} {k}',
+          f'{f}-as-{g} [] stack k h g = absurd h', f'{f}-as-{g} (x ∷ ts) stack k h g = {f}-is-{g} x.terminal x.place x.bytes ts stack k h g', '']
+    return r
 for (f, g), (gs, c, mk) in LINKS.items():
     fs = FORMS[f]['symbol']
     if c is None:
         st = f'({gs} ∷ stack)'; k = f'(λ v. k ({mk.replace("$0", "v.0")}, v.1))'
     else:
         st = f'({gs} ∷ {sym(c)} ∷ stack)'; k = f'(λ v. k ({mk.replace("$0", "v.0").replace("$1", "v.1.0")}, v.1.1))'
+    if (f, g) in LOOKS:
+        chain = [g]
+        while FORMS[chain[-1]]['cases'][0][2][0][0] == 'f': chain.append(FORMS[chain[-1]]['cases'][0][2][0][1])
+        for n in reversed(chain): o += second_lemma(n, LOOKS[(f, g)])
+        o += look_lemmas(f, g, st, k)
+        continue
     o += [f'{f}-is-{g} : {PARAMS} (k : Go ({fs} ∷ stack)) → {starts(g)} x → read_at x n p b next ({fs} ∷ stack) k ≡ read_at x n p b next {st} {k}']
     for x in sorted(FIRST[g]):
         two_ = [r for r in EXP[gs] if r[1] == x and r[0] == 'first']
@@ -204,7 +273,7 @@ class Seq:
             if last_one: st = stack_end
             if first_item and top:
                 if g == self.form: st, k = 'stack', 'go'
-                else: chain.append(f'{self.form}-as-{g} {a} stack go ({g}-first {i[2]} {a} {b} {s_})')
+                else: chain.append(f'{self.form}-as-{g} {a} stack go ({g}-first {i[2]} {a} {b} {s_})' + (f' ({g}-second {i[2]} {a} {b} {s_})' if (self.form, g) in LOOKS else ''))
             tail = TAIL[g]
             args = f'{i[2]} {a} {b} {s_}' + (f' {pr}' if oc else '')
             chain.append(f'{g}-reads {args} {st} {k}')

@@ -201,11 +201,12 @@ abbrev pub ◌▹◌ : List Row → List Symbol → List Row
 ''']
 def rowtext(r):
     if r[0] == 'on': return f'on t.{r[1]} {how(r[2], r[3])} {sl(r[4])}'
+    if r[0] == 'spelt': return f'spelt {word_name(r[1])} {sl(r[4])}'
     if r[0] == 'before': return f'before t.{r[1]} t.{r[2]} {how(r[3][0], r[3][1])} {sl(r[3][2])} {how(r[4][0], r[4][1])} {sl(r[4][2])}'
 def rows_text(s):
     parts = []; cur = []
     for r in TABLE[s]['rows']:
-        if r[0] in ('on', 'before'): cur.append(rowtext(r))
+        if r[0] in OWN: cur.append(rowtext(r))
         else:
             if cur: parts.append('(' + ' ∷ '.join(cur + ['[]']) + ')'); cur = []
             parts.append(rname(r[1]) if r[0] == 'over' else f'({rname(r[1])} ▹ ({symlist([r[2]])}))')
@@ -213,7 +214,7 @@ def rows_text(s):
     return parts
 def layout(s):
     rs = TABLE[s]['rows']
-    if all(r[0] in ('on', 'before') for r in rs):
+    if all(r[0] in OWN for r in rs):
         return f'{rname(s)} =\n' + ''.join(f'    {rowtext(r)} ∷\n' for r in rs) + '    []' if len(rs) > 1 else f'{rname(s)} = {rowtext(rs[0])} ∷ []'
     ps = rows_text(s)
     # right nested appends

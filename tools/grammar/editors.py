@@ -55,7 +55,7 @@ def places():
     for parts in alternatives(*FORMS):
         for at, part in enumerate(parts):
             if part.startswith('~'):
-                is_behind = at == 2 and parts[1] == 'name'
+                is_behind = at == 2 and parts[1] == 'name' and parts[0] in RESERVED
                 found[part[1:]] = ('behind', parts[0]) if is_behind else ('before', parts[at + 1:at + 3])
     assert sorted(found) == sorted(CONTEXT)
     return found
@@ -67,6 +67,7 @@ FOLLOWS = {
     'point': {'vim': r'\k\+', 'textmate': r'\w+'},
     'paren_name': {'vim': '(', 'textmate': r'\('},
     ';': {'vim': ';', 'textmate': ';'},
+    **{f'~{word}': {'vim': rf'\<{word}\>', 'textmate': rf'\b{word}\b'} for word in CONTEXT},
 }
 
 

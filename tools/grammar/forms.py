@@ -140,19 +140,23 @@ for f in FORMS.values():
 # ---------------------------------------------------------------- the table
 def sym(s): return s if isinstance(s, str) else (f'Just t.{s[1]}' if s[0] == 'Just' else f'Worded {word_name(s[1])}')
 def symlist(l): return ' ∷ '.join([sym(s) for s in l] + ['[]']) if l else '[]'
-def rows_of(s):   # expanded: (kind, terminal, next, how, inner, more)
+OWN = ('on', 'spelt', 'before')   # the kinds of rows that are of the symbol itself
+def rows_of(s):   # expanded: (kind, terminal, next or how the name is spelled, how, inner, more)
     out = []
     for r in TABLE[s]['rows']:
         if r[0] == 'on': out.append(('on', r[1], None, r[2], r[3] or [], r[4]))
+        elif r[0] == 'spelt': out.append(('spelt', 'Name', r[1], r[2], [], r[4]))
         elif r[0] == 'before':
             out.append(('first', r[1], r[2], r[3][0], (r[3][1] or []), r[3][2])); out.append(('second', r[1], r[2], r[4][0], (r[4][1] or []), r[4][2]))
         elif r[0] == 'over': out += rows_of(r[1])
         else: out += [(k, x, n, h, i, m + [r[2]]) for k, x, n, h, i, m in rows_of(r[1])]
     return out
 EXP = {s: rows_of(s) for s in TABLE}
-for s in TABLE:   # LL(1)
-    keys = [r[1] for r in EXP[s] if r[0] != 'second']
+for s in TABLE:   # LL(1): the first row that fits is taken, so a name that is spelled so stands before any name
+    keys = [r[1] for r in EXP[s] if r[0] not in ('second', 'spelt')]
     assert len(keys) == len(set(keys)), (s, keys)
+    names = [r[0] for r in EXP[s] if r[1] == 'Name']
+    assert 'spelt' not in names[1:] and (names[:1] != ['spelt'] or names[1:] in ([], ['on'])), (s, names)
 def may_end(s): return isinstance(s, str) and TABLE[s]['ends'] is not None
 ORDER = ['MoreConstraints'] + [f['symbol'] for f in FORMS.values() if f['symbol'] and f['symbol'].startswith('More') and f['symbol'] != 'MoreConstraints'] + ['MaybePortion','MaybeWhere','MoreInfix','MorePostfix','MoreOr','MoreAnd','MoreCmp','MoreSum','MoreProd','AfterName']
 TRAIL = {s: set() for s in TABLE}
@@ -185,7 +189,7 @@ while grown:
             cands = []
             for k, x, n, h, inn, m in EXP[s]:
                 if k == 'second' and x == 'Dash': continue
-                if k == 'first': continue
+                if k in ('first', 'spelt'): continue
                 if x in ('Digits','Quoted','Date','Moment','Name') and any(r[1] == 'True' for r in EXP[s]): continue
                 es = [ending(f) for f in inn + m]
                 if all(e is not None for e in es): cands.append([(x, [])] + sum(es, []))

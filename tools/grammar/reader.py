@@ -3,7 +3,7 @@ from definitions import *
 COMMON = 'use Rattle.std.proofs.Common.{◌≡◌, ◌≢◌, ◌↔◌, ℕ, List, [], ◌∷◌, ◌++◌, Bool, true, false, cond, ◌==◌, ◌&&◌, eqb, ◌⊎◌, inl, inr, Option, Some, None, refl, sym, ◌∙◌, ap, subst, append_assoc, if◌then◌else◌}'
 WRITTEN_USE = f'use {CR}.specs.Written.{{Mark, fixed, at, spelled, worded, apart, IsMark, Spells, token, placed, lexeme, word_of, contextual, negation, ' + ', '.join(word_name(w) for w in CONTEXT) + ', ' + ', '.join(CHOICES) + ', ' + ', '.join(OFS) + '}'
 TABLE_USE = f'use {CR}.specs.Table.{{Load, Symbol, {SYMS}, Taking, Plain, Operator, Separator, Negated, Dated, Timed, Opens, OperatorOpens, Turn, Never, Ends, Takes, Row, on, spelt, before, then_row, ◌▹◌, rows, may_end, number, same, same_bytes, fits, chosen, find, turn, ' + ', '.join(rname(s) for s in TABLE) + '}'
-PIECES_USE = f'use {CR}.specs.Pieces.{{Piece, first, place_of}}'
+PIECES_USE = f'use {CR}.specs.Pieces.{{Piece, first, second, place_of}}'
 HEAD = [COMMON, TERM, TV, PLACE] + choice_uses() + [PIECES_USE, PLAIN_USE]
 def val_type(s):
     d = TABLE[s]
@@ -11,7 +11,7 @@ def val_type(s):
     return ' → '.join([t for _, t in d['params']] + [d['restype']])
 def lam_params(s): return ''.join(f' {p}' for p, _ in TABLE[s]['params']) if TABLE[s]['kind'] == 'after' else ''
 def prow(s, r):   # make of a row: list of strings (two for before)
-    if r[0] == 'on':
+    if r[0] in ('on', 'spelt'):
         return f'(λ p b v{lam_params(s)}. {vs(r[5], "v")})'
     return '(' + ', '.join(f'(λ p b v{lam_params(s)}. {vs(c[3], "v")})' for c in (r[3], r[4])) + ')'
 def mname(s): return 'make_' + snake(s[3:] if s.startswith('The') else s)
@@ -26,7 +26,7 @@ def makes_parts(s):
         for x in reversed(c): e = f'({x}, {e})'
         return e
     for r in TABLE[s]['rows']:
-        if r[0] in ('on', 'before'): cur.append(prow(s, r))
+        if r[0] in OWN: cur.append(prow(s, r))
         else:
             if cur: parts.append(('lit', tup(cur), [rowtext(x) for x in []])); cur = []
             if r[0] == 'over': parts.append(('over', f'over_makes {r[1]} {s} {link_fun(r)} {rname(r[1])} {mname(r[1])}'))

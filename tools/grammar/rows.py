@@ -21,6 +21,7 @@ def values(s):   # the rows of a form
     while rows:
         kind, x, n, h, inner, more = rows.pop(0)
         if kind == 'on': out.append(call('Row::On', [f'Terminal::{x}', taking(h, inner), forms(more)]))
+        elif kind == 'spelt': out.append(call('Row::Spelt', [f'PlaceWord::{n.capitalize()}', forms(more)]))
         else:
             _, _, _, h2, inner2, more2 = rows.pop(0)
             out.append(call('Row::Before', [f'Terminal::{x}', f'Terminal::{n}', taking(h, inner), forms(more), taking(h2, inner2), forms(more2)]))
@@ -69,11 +70,12 @@ pub enum Taking {
     OperatorOpens(&'static [Form]),
 }
 
-/// This token is taken so, and these forms follow; or it depends on the token behind: so before that one, and so before
-/// any other.
+/// This token is taken so, and these forms follow; the name that is spelled so is; or it depends on the token behind: so
+/// before that one, and so before any other.
 #[derive(Clone, Copy)]
 pub enum Row {
     On(Terminal, Taking, &'static [Form]),
+    Spelt(PlaceWord, &'static [Form]),
     Before(Terminal, Terminal, Taking, &'static [Form], Taking, &'static [Form]),
 }
 
@@ -140,6 +142,7 @@ taking_of (takings.OperatorOpens inner) = table.OperatorOpens (forms_of inner.no
 
 abbrev pub row_of : Row → table.Row
 row_of (lines.On x how next) = table.on x (taking_of how) (forms_of next.now)
+row_of (lines.Spelt w next) = table.spelt (spelled_as w) (forms_of next.now)
 row_of (lines.Before x y how next how' next') = table.before x y (taking_of how) (forms_of next.now) (taking_of how') (forms_of next'.now)
 
 abbrev pub rows_of : List Row → List table.Row

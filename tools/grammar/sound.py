@@ -2,15 +2,15 @@
 from complete import *
 def rtuple(m, first=False):
     return {'fixed':'refl','at':'(refl, refl)','spelled':'(refl, refl, refl)'}[m]
-def markof(m, t):
-    return {'fixed':f'fixed t.{t}','at':f'at t.{t} p','spelled':f'spelled t.{t} p b','apart':'apart t.Dash p t.Digits'}[m]
-def sound_case(s, t, forms, make, mk, seq, extra=''):
+def markof(m, t, spelling):
+    return {'fixed':f'fixed t.{t}','at':f'at t.{t} p','spelled':f'spelled t.{t} p {spelling}','apart':'apart t.Dash p t.Digits'}[m]
+def sound_case(s, t, forms, make, mk, seq, extra='', spelling='b'):
     d = TABLE[s]; m = len(forms); isafter = d['kind'] == 'after'
     def h(i): return 'h' if m == 1 else ('h' + '.2' * i + '.1' if i < m - 1 else 'h' + '.2' * (m - 1))
     R = '(refl, refl, e)' if mk == 'apart' else rtuple(mk)
-    piece = f'(piece_at t.{t} p b)'
+    piece = f'(piece_at t.{t} p {spelling})'
     nilp = '(nil h)' if m == 0 else '(nil refl)'
-    tok = f'(cons ({markof(mk, t)}) [] {piece} ts _ {R} {nilp})'
+    tok = f'(cons ({markof(mk, t, spelling)}) [] {piece} ts _ {R} {nilp})'
     def item(x):
         if x == 'T': return tok
         if x == 'G': return 'g'
@@ -26,9 +26,10 @@ def sound_case(s, t, forms, make, mk, seq, extra=''):
     if seq is None: seq = (['G'] if isafter else []) + ['T'] + list(range(m))
     body = join_(seq)
     ps = ''.join(f' {p}' for p, _ in d['params']) + ' from g' if isafter else ''
-    return f'(λ p b ts{extra} vs rest h{ps}. {body})'
+    return f'(λ p{" b" if spelling == "b" else ""} ts{extra} vs rest h{ps}. {body})'
 def srow(s, r):
     if r[0] == 'on': return sound_case(s, r[1], (r[3] or []) + r[4], r[5], r[6], r[7])
+    if r[0] == 'spelt': return sound_case(s, 'Name', r[4], r[5], r[6], r[7], spelling=word_name(r[1]))
     a, b = r[3], r[4]
     return '(' + sound_case(s, r[1], (a[1] or []) + a[2], a[3], a[4], a[5], ' e') + ', ' + sound_case(s, r[1], (b[1] or []) + b[2], b[3], b[4], b[5], ' e') + ')'
 def sname(s): return snake(s[3:] if s.startswith('The') else s) + '-sound'
@@ -151,7 +152,7 @@ def sparts(s):
         for x in reversed(c): e = f'({x}, {e})'
         return e
     for r in TABLE[s]['rows']:
-        if r[0] in ('on', 'before'): cur.append(srow(s, r))
+        if r[0] in OWN: cur.append(srow(s, r))
         else:
             if cur: parts.append(tup(cur)); cur = []
             if r[0] == 'over': parts.append(f'over-sounds {r[1]} {s} {link_fun(r)} {glue(s, r)} {rname(r[1])} {mname(r[1])} {sname(r[1])}')
@@ -163,7 +164,7 @@ for s in TABLE:
     o.append(f'{sname(s)} : SoundRows {s} {rname(s)} {mname(s)}')
     if len(ps) == 1:
         rows_ = TABLE[s]['rows']
-        if rows_[0][0] in ('on', 'before') and len(rows_) > 1:
+        if rows_[0][0] in OWN and len(rows_) > 1:
             o.append(f'{sname(s)} = ' + files.pairs_of([srow(s, r) for r in rows_]))
         else: o.append(f'{sname(s)} = {ps[0]}')
     else:
@@ -221,23 +222,6 @@ bytes-self (x ∷ xs) = both (x == x) (same_bytes xs xs) (number-eq x) (bytes-se
     both : (a b : Bool) → a ≡ true → b ≡ true → (a && b) ≡ true
     both true b h g = g
     both false b h g = h
-
-both-left : (a b : Bool) → (a && b) ≡ true → a ≡ true
-both-left true b e = refl
-both-left false b e = cc
-
-both-right : (a b : Bool) → (a && b) ≡ true → b ≡ true
-both-right true b e = e
-both-right false b e = cc
-
-pub bytes-same : (a b : List ℕ) → same_bytes a b ≡ true → a ≡ b
-bytes-same [] [] e = refl
-bytes-same [] (y ∷ ys) e = cc
-bytes-same (x ∷ xs) [] e = cc
-bytes-same (x ∷ xs) (y ∷ ys) e =
-    let h : x ≡ y = eqb-true x y (both-left (x == y) (same_bytes xs ys) e) in
-    let g : xs ≡ ys = bytes-same xs ys (both-right (x == y) (same_bytes xs ys) e) in
-    ap (λ z. z ∷ xs) h ∙ ap (λ z. y ∷ z) g
 
 true-false : (c : Bool) → c ≡ true → c ≡ false → ⊥
 true-false c a b = cc
@@ -366,7 +350,7 @@ def exp_rows(s):
     out = []; e = EXP[s]; i = 0
     while i < len(e):
         k, x, n, h, inn, m = e[i]
-        if k == 'on': out.append(('on', x, inn, m, h))
+        if k in ('on', 'spelt'): out.append(('on', x, inn, m, h))
         else:
             k2, x2, n2, h2, inn2, m2 = e[i + 1]; out.append(('before', x, n, (inn, m), (inn2, m2))); i += 1
         i += 1

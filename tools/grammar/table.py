@@ -27,6 +27,11 @@ def opens(terminal, make, inner, *symbols, taking=LEVEL, mark='at', sequence=Non
     return ('on', terminal, taking, list(inner), list(symbols), make, mark, sequence)
 
 
+def spelt(word, make, *symbols, sequence=None):
+    """The name that is spelled so, and then these symbols; it stands before the row for any name, if there is one."""
+    return ('spelt', word, PLAIN, None, list(symbols), make, 'spelled', sequence)
+
+
 def over(symbol, make):
     """The rows of another symbol."""
     return ('over', symbol, make)
@@ -527,10 +532,24 @@ form_rows('statement',
     on('Drop', '$0 p', 'AfterDrop', sequence=[applied(0, ['p'], [TOKEN])]),
     on('Print', 'Print p $0', 'TheRel', just('Semicolon')),
     on('Ask', 'Ask p $0', 'TheTest', just('Semicolon')),
+    spelt('LOG', '$0 p', 'AfterLog', sequence=[applied(0, ['p'], [TOKEN])]),
     then('TheAssign', just('Semicolon'), 'Assignment $0'),
 )
 
 rest_rows('AfterDrop', [('q', 'Place')], 'placed t.Drop q', 'of_statement', 'StatementP',
     on('Var', 'Drop q $0', 'TheName', just('Semicolon'), mark='fixed'),
     on('Constraint', 'DropRule q p $0', 'TheName', just('Semicolon')),
+)
+
+# an assignment to a relvar that is called LOG begins like a log
+rest_rows('AfterLog', [('q', 'Place')], 'lexeme t.Name q log_word', 'of_statement', 'StatementP',
+    on('Name', 'DeclareLog q (word p b) $1 $2',
+        worded('OF'),
+        'TheName',
+        'TheParenName',
+        just('Semicolon'),
+        mark='spelled',
+        sequence=[BEFORE, TOKEN, loose(0), 1, 2, 3],
+    ),
+    on('Assign', 'Assignment (Assign (SetRelvar (word q log_word) $0) $1)', 'TheRel', 'MoreItems', just('Semicolon'), mark='fixed'),
 )

@@ -2,7 +2,7 @@
 -- The forms of the parser as those of the table.
 use Rattle.std.specs.Prelude.{ℕ, List, [], ◌∷◌}
 use Rattle.utd_syntax.specs.Table as table
-use Rattle.utd_syntax.specs.Written.{ordinal_word, since_word, during_word, over_word, at_word}
+use Rattle.utd_syntax.specs.Written.{ordinal_word, since_word, during_word, over_word, at_word, log_word, of_word}
 use Rattle.utd_parser.specs.declared.form.PlaceWord.{PlaceWord}
 use Rattle.utd_parser.specs.declared.form.PlaceWord.TheVariants as words
 use Rattle.utd_parser.specs.declared.form.Form.{Form}
@@ -21,6 +21,8 @@ spelled_as words.Since = since_word
 spelled_as words.During = during_word
 spelled_as words.Over = over_word
 spelled_as words.At = at_word
+spelled_as words.Log = log_word
+spelled_as words.Of = of_word
 
 abbrev pub form_of : Form → table.Symbol
 form_of forms.TheName = table.TheName
@@ -116,6 +118,7 @@ form_of forms.MoreItems = table.MoreItems
 form_of forms.TheAssign = table.TheAssign
 form_of forms.TheStatement = table.TheStatement
 form_of forms.AfterDrop = table.AfterDrop
+form_of forms.AfterLog = table.AfterLog
 form_of (forms.Just x) = table.Just x
 form_of (forms.Worded w) = table.Worded (spelled_as w)
 
@@ -135,6 +138,7 @@ taking_of (takings.OperatorOpens inner) = table.OperatorOpens (forms_of inner.no
 
 abbrev pub row_of : Row → table.Row
 row_of (lines.On x how next) = table.on x (taking_of how) (forms_of next.now)
+row_of (lines.Spelt w next) = table.spelt (spelled_as w) (forms_of next.now)
 row_of (lines.Before x y how next how' next') = table.before x y (taking_of how) (forms_of next.now) (taking_of how') (forms_of next'.now)
 
 abbrev pub rows_of : List Row → List table.Row

@@ -10,6 +10,8 @@ pub enum PlaceWord {
     During,
     Over,
     At,
+    Log,
+    Of,
 }
 
 /// A form that may stand at a place, or the rest of one that has begun; a fixed token; a word that is reserved there.
@@ -108,6 +110,7 @@ pub enum Form {
     TheAssign,
     TheStatement,
     AfterDrop,
+    AfterLog,
     Just(Terminal),
     Worded(PlaceWord),
 }
@@ -126,11 +129,12 @@ pub enum Taking {
     OperatorOpens(&'static [Form]),
 }
 
-/// This token is taken so, and these forms follow; or it depends on the token behind: so before that one, and so before
-/// any other.
+/// This token is taken so, and these forms follow; the name that is spelled so is; or it depends on the token behind: so
+/// before that one, and so before any other.
 #[derive(Clone, Copy)]
 pub enum Row {
     On(Terminal, Taking, &'static [Form]),
+    Spelt(PlaceWord, &'static [Form]),
     Before(Terminal, Terminal, Taking, &'static [Form], Taking, &'static [Form]),
 }
 

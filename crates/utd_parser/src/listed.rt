@@ -105,6 +105,7 @@ pub fn rows_at(form: Form) -> &'static [Row]
         Form::TheAssign => &statement_rows::THE_ASSIGN,
         Form::TheStatement => &statement_rows::THE_STATEMENT,
         Form::AfterDrop => &statement_rows::AFTER_DROP,
+        Form::AfterLog => &statement_rows::AFTER_LOG,
         Form::Just(_) => &[],
         Form::Worded(_) => &[],
     }

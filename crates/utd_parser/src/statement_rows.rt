@@ -441,7 +441,7 @@ pub static THE_ASSIGN: [Row; 6] = [
     ),
 ];
 
-pub static THE_STATEMENT: [Row; 14] = [
+pub static THE_STATEMENT: [Row; 15] = [
     Row::On(Terminal::Semicolon, Taking::Plain, &[]),
     Row::On(
         Terminal::TypeWord,
@@ -500,6 +500,7 @@ pub static THE_STATEMENT: [Row; 14] = [
         Taking::Plain,
         &[Form::TheTest, Form::Just(Terminal::Semicolon)],
     ),
+    Row::Spelt(PlaceWord::Log, &[Form::AfterLog]),
     Row::On(
         Terminal::Name,
         Taking::Plain,
@@ -576,5 +577,27 @@ pub static AFTER_DROP: [Row; 2] = [
         Terminal::Constraint,
         Taking::Plain,
         &[Form::TheName, Form::Just(Terminal::Semicolon)],
+    ),
+];
+
+pub static AFTER_LOG: [Row; 2] = [
+    Row::On(
+        Terminal::Name,
+        Taking::Plain,
+        &[
+            Form::Worded(PlaceWord::Of),
+            Form::TheName,
+            Form::TheParenName,
+            Form::Just(Terminal::Semicolon),
+        ],
+    ),
+    Row::On(
+        Terminal::Assign,
+        Taking::Plain,
+        &[
+            Form::TheRel,
+            Form::MoreItems,
+            Form::Just(Terminal::Semicolon),
+        ],
     ),
 ];

@@ -7,13 +7,13 @@ use Rattle.utd_syntax.specs.declared.words.PackWord.TheVariants as pack_words
 use Rattle.utd_syntax.specs.declared.words.RelationComparison.TheVariants as relation_comparisons
 use Rattle.utd_syntax.specs.declared.words.EmptinessWord.TheVariants as emptinesses
 use Rattle.utd_syntax.specs.Pieces.{Piece, first}
-use Rattle.utd_syntax.specs.Plain.{RelP, TermsP, TermP, RelPrimaryP, OperandP, ExtendP, SummarizeP, UsingP, UsingPartP, KeyP, ForeignP, UsedConstraintP, ConstraintP, VarFormP, ComparisonP, TestP, UsedDeletionP, UsedItemP, DeletionP, ItemP, AssignP, StatementP, Onto, AllBut, OfUsing, OfTerms, OneTerm, Infix, NotMatching, OneRelPrimary, Project, Filter, Rename, OfExtend, OfSummarize, OfOperand, Relvar, OfLiteral, ParenRel, PackOn, Extend, Summarize, Using, UsingExtend, UsingSummarize, UsingInfix, UsingNotMatching, UsingProject, UsingFilter, Key, Foreign, UsedKey, UsedForeign, KeyOf, ForeignOf, PackedOn, WhenUnpacked, UsingConstraint, BaseRelvar, View, Comparison, UsingTest, Emptiness, OfComparison, UsedDeleteWhere, UsedDeleteRows, UsedInsert, UsedDelete, UsedUpdate, DeleteWhere, DeletePortion, DeleteRows, SetRelvar, Insert, Delete, Update, Terminate, UsingItem, Assign, Nothing, DeclareOrdinal, DeclareRelvar, DeclareHistory, DeclareRule, Drop, DropRule, Print, Ask, Assignment}
-use Rattle.utd_syntax.specs.Written.{fixed, at, spelled, worded, Spells, token, placed, lexeme, word_of, contextual, ordinal_word, since_word, during_word, over_word, at_word, of_point, of_scalar, of_heading, of_more_words, of_names, of_list, of_some_names, of_paren_name, of_sets, of_aggregates, of_renamings, of_portion, of_maybe_portion, of_condition, of_projection, of_rel, of_terms, of_term, of_rel_primary, of_operand, of_extend, of_summarize, of_using, of_using_part, of_key, of_foreign, of_used_constraint, of_constraint, of_constraints, of_var_form, of_comparison, of_test, of_used_deletion, of_used_item, of_deletion, of_item, of_more_items, of_assign, of_statement}
+use Rattle.utd_syntax.specs.Plain.{RelP, TermsP, TermP, RelPrimaryP, OperandP, ExtendP, SummarizeP, UsingP, UsingPartP, KeyP, ForeignP, UsedConstraintP, ConstraintP, VarFormP, ComparisonP, TestP, UsedDeletionP, UsedItemP, DeletionP, ItemP, AssignP, StatementP, Onto, AllBut, OfUsing, OfTerms, OneTerm, Infix, NotMatching, OneRelPrimary, Project, Filter, Rename, OfExtend, OfSummarize, OfOperand, Relvar, OfLiteral, ParenRel, PackOn, Extend, Summarize, Using, UsingExtend, UsingSummarize, UsingInfix, UsingNotMatching, UsingProject, UsingFilter, Key, Foreign, UsedKey, UsedForeign, KeyOf, ForeignOf, PackedOn, WhenUnpacked, UsingConstraint, BaseRelvar, View, Comparison, UsingTest, Emptiness, OfComparison, UsedDeleteWhere, UsedDeleteRows, UsedInsert, UsedDelete, UsedUpdate, DeleteWhere, DeletePortion, DeleteRows, SetRelvar, Insert, Delete, Update, Terminate, UsingItem, Assign, Nothing, DeclareOrdinal, DeclareRelvar, DeclareHistory, DeclareLog, DeclareRule, Drop, DropRule, Print, Ask, Assignment}
+use Rattle.utd_syntax.specs.Written.{fixed, at, spelled, worded, Spells, token, placed, lexeme, word_of, contextual, ordinal_word, since_word, during_word, over_word, at_word, log_word, of_word, of_point, of_scalar, of_heading, of_more_words, of_names, of_list, of_some_names, of_paren_name, of_sets, of_aggregates, of_renamings, of_portion, of_maybe_portion, of_condition, of_projection, of_rel, of_terms, of_term, of_rel_primary, of_operand, of_extend, of_summarize, of_using, of_using_part, of_key, of_foreign, of_used_constraint, of_constraint, of_constraints, of_var_form, of_comparison, of_test, of_used_deletion, of_used_item, of_deletion, of_item, of_more_items, of_assign, of_statement}
 use Rattle.utd_syntax.specs.Table.{Symbol, MoreOr, MaybePortion, TheOperand, TheExtend, TheSummarize, TheRelPrimary, TheTerm, MorePostfix, TheTerms, MoreInfix, TheUsing, TheRel, TheUsingPart, TheKey, TheForeign, TheUsedConstraint, TheConstraint, MoreConstraints, TheVarForm, TheComparison, TheTest, TheUsedDeletion, TheUsedItem, TheDeletion, TheItem, MoreItems, TheAssign, TheStatement}
 use Rattle.utd_syntax.proofs.Reader.{Go, read}
 use Rattle.utd_syntax.proofs.Marks.{one, last, two, done, seen, begins}
 use Rattle.utd_syntax.proofs.FormEnds.{along, Halts, Calm18, Calm5, Calm6, Calm16, Calm17, Calm19, Calm20, MoreOr-end, MorePostfix-end, MoreInfix-end, MoreConstraints-end, MoreItems-end}
-use Rattle.utd_syntax.proofs.FirstTokens.{literal-first, portion-first, rel-first, terms-first, term-first, rel_primary-first, operand-first, extend-first, summarize-first, using-first, key-first, foreign-first, constraint-first, comparison-first, item-first, assign-first, rel-as-using, rel-as-terms, terms-as-term, term-as-rel_primary, rel_primary-as-extend, rel_primary-as-summarize, rel_primary-as-operand, operand-as-literal, using_part-as-extend, using_part-as-summarize, using_part-as-operand, used_constraint-as-key, used_constraint-as-foreign, constraint-as-key, constraint-as-foreign, constraints-as-constraint, comparison-as-operand, test-as-comparison, used_deletion-as-rel, deletion-as-portion, deletion-as-rel, assign-as-item, statement-as-assign}
+use Rattle.utd_syntax.proofs.FirstTokens.{literal-first, portion-first, rel-first, terms-first, term-first, rel_primary-first, operand-first, extend-first, summarize-first, using-first, key-first, foreign-first, constraint-first, comparison-first, item-first, assign-first, rel-as-using, rel-as-terms, terms-as-term, term-as-rel_primary, rel_primary-as-extend, rel_primary-as-summarize, rel_primary-as-operand, operand-as-literal, using_part-as-extend, using_part-as-summarize, using_part-as-operand, used_constraint-as-key, used_constraint-as-foreign, constraint-as-key, constraint-as-foreign, constraints-as-constraint, comparison-as-operand, test-as-comparison, used_deletion-as-rel, deletion-as-portion, deletion-as-rel, assign-as-item, assign-second, statement-as-assign}
 use Rattle.utd_syntax.proofs.ReadScalars.{condition-start, more_items-start, point-reads, scalar-reads, heading-reads, more_words-reads, names-reads, list-reads, some_names-reads, paren_name-reads, literal-reads, sets-reads, aggregates-reads, renamings-reads, portion-reads, maybe_portion-reads, condition-reads}
 
 mutual
@@ -381,6 +381,13 @@ statement-reads (DeclareHistory p n h k s b d i y) ts rest sp stack go =
     let x10 = last (of_heading h ++ of_key k) (worded since_word) x1.left _ x9.spells in
     let x11 = two (of_heading h) (of_key k) x1.left _ x10.spells in
     along ts _ _ _ (x0.is ∙ ap (λ z. seen (at t.History p) x0.place x0.bytes ∷ z) (x1.is)) ∙ heading-reads h x1.left x11.mid x11.before _ _ ∙ key-reads k x11.mid _ x11.after _ _ ∙ paren_name-reads b x8.mid _ x8.after _ _ ∙ paren_name-reads i x5.mid _ x5.after _ _ ∙ point-reads y x3.mid _ x3.after _ _
+statement-reads (DeclareLog p l s b) ts rest sp stack go =
+    let x0 = one (spelled t.Name p log_word) (word_of l ++ contextual of_word ++ word_of s ++ of_paren_name b ++ token t.Semicolon) ts rest sp in
+    let x1 = one (spelled t.Name l.place l.bytes) (contextual of_word ++ word_of s ++ of_paren_name b ++ token t.Semicolon) x0.left rest x0.spells in
+    let x2 = one (worded of_word) (word_of s ++ of_paren_name b ++ token t.Semicolon) x1.left rest x1.spells in
+    let x3 = one (spelled t.Name s.place s.bytes) (of_paren_name b ++ token t.Semicolon) x2.left rest x2.spells in
+    let x4 = last (of_paren_name b) (fixed t.Semicolon) x3.left rest x3.spells in
+    along ts _ _ _ (x0.is ∙ ap (λ z. seen (spelled t.Name p log_word) x0.place x0.bytes ∷ z) (x1.is ∙ ap (λ z. seen (spelled t.Name l.place l.bytes) x1.place x1.bytes ∷ z) (x2.is ∙ ap (λ z. seen (worded of_word) x2.place x2.bytes ∷ z) (x3.is)))) ∙ paren_name-reads b x3.left _ x4.spells _ _
 statement-reads (DeclareRule p n y) ts rest sp stack go =
     let x0 = one (at t.Constraint p) (word_of n ++ of_test y ++ token t.Semicolon) ts rest sp in
     let x1 = one (spelled t.Name n.place n.bytes) (of_test y ++ token t.Semicolon) x0.left rest x0.spells in
@@ -408,7 +415,7 @@ statement-reads (Ask p y) ts rest sp stack go =
     along ts _ _ _ (x0.is) ∙ test-reads y x0.left _ x1.spells _ _
 statement-reads (Assignment a) ts rest sp stack go =
     let x0 = last (of_assign a) (fixed t.Semicolon) ts rest sp in
-    statement-as-assign ts stack go (assign-first a ts _ x0.spells) ∙ assign-reads a ts _ x0.spells (refl, (refl, (refl, (refl, (refl, (refl, (refl, (refl, (refl, refl))))))))) _ _
+    statement-as-assign ts stack go (assign-first a ts _ x0.spells) (assign-second a ts _ x0.spells) ∙ assign-reads a ts _ x0.spells (refl, (refl, (refl, (refl, (refl, (refl, (refl, (refl, (refl, refl))))))))) _ _
 
 -- the value, or this one
 pub some_or : StatementP → Option StatementP → StatementP

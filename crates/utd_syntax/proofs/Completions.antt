@@ -7,7 +7,7 @@ use Rattle.point_core.specs.declared.fault.Place.{Place}
 use Rattle.utd_syntax.specs.Pieces.{Piece, first, place_of}
 use Rattle.utd_syntax.specs.Plain.{StatementP}
 use Rattle.utd_syntax.specs.Terminals.{spelling, is_token, AreTokens}
-use Rattle.utd_syntax.specs.Table.{Load, Symbol, TheName, Comma, DateText, MomentText, NegativeDigits, ThePrimary, AfterName, AfterScalar, EndOfSelector, InParens, InPair, InPoint, TheSign, TheProd, MoreProd, TheSum, MoreSum, TheCmp, MoreCmp, TheNeg, TheConj, MoreAnd, TheScalar, MoreOr, ThePoint, TheKind, TheAttribute, MoreAttributes, InHeading, TheHeading, MoreNames, InNames, InList, TheNames, TheList, TheSomeNames, TheParenName, TheElement, MoreElements, InElements, TheElements, TheSomeElements, TheTuple, MoreTuples, InTuples, TheTuples, TheLiteral, AfterRelation, TheSetItem, MoreSetItems, TheSets, EmptyParens, TheAggregateForm, TheAggregate, MoreAggregates, TheAggregates, TheRenaming, MoreRenamings, TheRenamings, ThePortion, MaybePortion, MaybeWhere, InProjection, TheOperand, TheExtend, TheSummarize, TheRelPrimary, TheTerm, MorePostfix, TheTerms, MoreInfix, TheUsing, TheRel, TheUsingPart, AfterOperand, TheKey, TheForeign, TheUsedConstraint, TheConstraint, MoreConstraints, InRel, TheVarForm, TheComparison, AfterLeft, TheTest, TheUsedDeletion, TheUsedItem, TheDeletion, TheItem, MoreItems, TheAssign, TheStatement, AfterDrop, Just, Worded, Shut, Plain, Never, Takes, same, same_bytes}
+use Rattle.utd_syntax.specs.Table.{Load, Symbol, TheName, Comma, DateText, MomentText, NegativeDigits, ThePrimary, AfterName, AfterScalar, EndOfSelector, InParens, InPair, InPoint, TheSign, TheProd, MoreProd, TheSum, MoreSum, TheCmp, MoreCmp, TheNeg, TheConj, MoreAnd, TheScalar, MoreOr, ThePoint, TheKind, TheAttribute, MoreAttributes, InHeading, TheHeading, MoreNames, InNames, InList, TheNames, TheList, TheSomeNames, TheParenName, TheElement, MoreElements, InElements, TheElements, TheSomeElements, TheTuple, MoreTuples, InTuples, TheTuples, TheLiteral, AfterRelation, TheSetItem, MoreSetItems, TheSets, EmptyParens, TheAggregateForm, TheAggregate, MoreAggregates, TheAggregates, TheRenaming, MoreRenamings, TheRenamings, ThePortion, MaybePortion, MaybeWhere, InProjection, TheOperand, TheExtend, TheSummarize, TheRelPrimary, TheTerm, MorePostfix, TheTerms, MoreInfix, TheUsing, TheRel, TheUsingPart, AfterOperand, TheKey, TheForeign, TheUsedConstraint, TheConstraint, MoreConstraints, InRel, TheVarForm, TheComparison, AfterLeft, TheTest, TheUsedDeletion, TheUsedItem, TheDeletion, TheItem, MoreItems, TheAssign, TheStatement, AfterDrop, AfterLog, Just, Worded, Shut, Plain, Never, Takes, same, same_bytes}
 use Rattle.utd_syntax.proofs.FormValues.{Val, Vals}
 use Rattle.utd_syntax.proofs.Reader.{Go, pick, split, on_turn, read_at, read}
 use Rattle.utd_syntax.proofs.FormEnds.{Halts, Calm2, Calm3, Calm4, Calm5, Calm6, Calm9, Calm11, Calm15, Calm16, Calm17, Calm19, Calm20, AfterName-end, MoreProd-end, MoreSum-end, MoreCmp-end, MoreAnd-end, MoreOr-end, MoreAttributes-end, MoreNames-end, MoreElements-end, MoreTuples-end, MoreSetItems-end, MoreAggregates-end, MoreRenamings-end, MaybePortion-end, MaybeWhere-end, MorePostfix-end, MoreInfix-end, MoreConstraints-end, MoreItems-end}
@@ -108,6 +108,7 @@ ending MoreItems = []
 ending TheAssign = (t.Name, spelling t.Name) ∷ (t.Assign, spelling t.Assign) ∷ (t.Name, spelling t.Name) ∷ []
 ending TheStatement = (t.Semicolon, spelling t.Semicolon) ∷ []
 ending AfterDrop = (t.Var, spelling t.Var) ∷ (t.Name, spelling t.Name) ∷ (t.Semicolon, spelling t.Semicolon) ∷ []
+ending AfterLog = (t.Assign, spelling t.Assign) ∷ (t.Name, spelling t.Name) ∷ (t.Semicolon, spelling t.Semicolon) ∷ []
 ending (Just x) = (x, spelling x) ∷ []
 ending (Worded w) = (t.Name, w) ∷ []
 ending (Shut outer) = []
@@ -295,6 +296,7 @@ complete-reads (MoreItems ∷ st) g k = by _ _ (MoreItems-end (complete st) _ _ 
 complete-reads (TheAssign ∷ st) g k = by _ _ (MorePostfix-end (complete st) _ _ g.0.1.1.1.0 ∙ MoreInfix-end (complete st) _ _ g.0.1.1.0 ∙ MoreItems-end (complete st) _ _ g.0.0) (complete-reads st g.1 _)
 complete-reads (TheStatement ∷ st) g k = complete-reads st g.1 _
 complete-reads (AfterDrop ∷ st) g k = complete-reads st g.1 _
+complete-reads (AfterLog ∷ st) g k = complete-reads st g.1 _
 complete-reads (Just wanted ∷ st) g k = by _ _ (just-self wanted (first (complete st)) (place_of []) (spelling wanted) (read (complete st)) st k) (complete-reads st g.1 _)
 complete-reads (Worded w ∷ st) g k = by _ _ (worded-self w (first (complete st)) (place_of []) (read (complete st)) st k) (complete-reads st g.1 _)
 complete-reads (Shut outer ∷ st) g k = by _ _ (shut-end (complete st) outer st k) (complete-reads st g.1 _)
@@ -395,6 +397,7 @@ complete-tokens (MoreItems ∷ st) g = complete-tokens st g.1
 complete-tokens (TheAssign ∷ st) g = (refl, (refl, (refl, complete-tokens st g.1)))
 complete-tokens (TheStatement ∷ st) g = (refl, complete-tokens st g.1)
 complete-tokens (AfterDrop ∷ st) g = (refl, (refl, (refl, complete-tokens st g.1)))
+complete-tokens (AfterLog ∷ st) g = (refl, (refl, (refl, complete-tokens st g.1)))
 complete-tokens (Just wanted ∷ st) g = (g.0, complete-tokens st g.1)
 complete-tokens (Worded w ∷ st) g = (g.0, complete-tokens st g.1)
 complete-tokens (Shut outer ∷ st) g = complete-tokens st g.1

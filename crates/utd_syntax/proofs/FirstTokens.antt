@@ -1,6 +1,6 @@
 -- Written by tools/grammar; change it there.
 -- A tree begins with a token that may begin its form.
-use Rattle.std.proofs.Common.{◌≡◌, ℕ, List, [], ◌∷◌, ◌++◌, Option, refl}
+use Rattle.std.proofs.Common.{◌≡◌, ℕ, List, [], ◌∷◌, ◌++◌, Bool, true, false, Option, refl, sym, ◌∙◌, ap, subst}
 use Rattle.utd_syntax.specs.declared.terminal.Terminal.{Terminal}
 use Rattle.utd_syntax.specs.declared.terminal.Terminal.TheVariants as t
 use Rattle.point_core.specs.declared.fault.Place.{Place}
@@ -15,13 +15,13 @@ use Rattle.utd_syntax.specs.declared.words.PairWord.TheVariants as pair_function
 use Rattle.utd_syntax.specs.declared.words.InfixWord.TheVariants as infixes
 use Rattle.utd_syntax.specs.declared.words.PackWord.TheVariants as pack_words
 use Rattle.utd_syntax.specs.declared.words.RelationComparison.TheVariants as relation_comparisons
-use Rattle.utd_syntax.specs.Pieces.{Piece, first}
-use Rattle.utd_syntax.specs.Plain.{ConjP, NegP, CmpP, SumP, ProdP, SignP, PrimaryP, LiteralP, PortionP, RelP, TermsP, TermP, RelPrimaryP, OperandP, ExtendP, SummarizeP, UsingP, KeyP, ForeignP, ConstraintP, ComparisonP, ItemP, AssignP, StatementP, OneConj, OneNeg, And, Not, OneCmp, OneSum, Compare, OneProd, Add, OneSign, Multiply, NegativeInteger, Negate, OnePrimary, IntegerLiteral, TextLiteral, DateLiteral, MomentLiteral, TrueLiteral, FalseLiteral, AttributeName, Dotted, Paren, Selector, Extreme, Function, PairFunction, PointKind, Attribute, Heading, Tuple, Tuples, Headed, Portion, Onto, AllBut, OfUsing, OfTerms, OneTerm, Infix, NotMatching, OneRelPrimary, Project, Filter, Rename, OfExtend, OfSummarize, OfOperand, Relvar, OfLiteral, ParenRel, PackOn, Extend, Summarize, Using, UsingExtend, UsingSummarize, Key, Foreign, UsedKey, UsedForeign, KeyOf, ForeignOf, PackedOn, WhenUnpacked, UsingConstraint, Comparison, OfComparison, UsedDeleteRows, DeletePortion, DeleteRows, SetRelvar, Insert, Delete, Update, Terminate, UsingItem, Assign, Assignment}
-use Rattle.utd_syntax.specs.Written.{Spells, token, placed, of_scalar, of_conj, of_neg, of_cmp, of_sum, of_prod, of_sign, of_primary, of_literal, of_renamings, of_portion, of_projection, of_rel, of_terms, of_term, of_rel_primary, of_operand, of_extend, of_summarize, of_using, of_key, of_foreign, of_constraint, of_comparison, of_item, of_more_items, of_assign}
-use Rattle.utd_syntax.specs.Table.{Symbol, ThePrimary, TheSign, TheProd, MoreProd, TheSum, MoreSum, TheCmp, MoreCmp, TheNeg, TheConj, MoreAnd, TheScalar, MoreOr, ThePoint, TheKind, TheLiteral, ThePortion, MaybeWhere, TheOperand, TheExtend, TheSummarize, TheRelPrimary, TheTerm, MorePostfix, TheTerms, MoreInfix, TheUsing, TheRel, TheUsingPart, AfterOperand, TheKey, TheForeign, TheUsedConstraint, TheConstraint, MoreConstraints, TheComparison, AfterLeft, TheTest, TheUsedDeletion, TheDeletion, TheItem, MoreItems, TheAssign, TheStatement, Just}
+use Rattle.utd_syntax.specs.Pieces.{Piece, first, second}
+use Rattle.utd_syntax.specs.Plain.{word, ConjP, NegP, CmpP, SumP, ProdP, SignP, PrimaryP, LiteralP, PortionP, RelP, TermsP, TermP, RelPrimaryP, OperandP, ExtendP, SummarizeP, UsingP, KeyP, ForeignP, ConstraintP, ComparisonP, ItemP, AssignP, StatementP, OneConj, OneNeg, And, Not, OneCmp, OneSum, Compare, OneProd, Add, OneSign, Multiply, NegativeInteger, Negate, OnePrimary, IntegerLiteral, TextLiteral, DateLiteral, MomentLiteral, TrueLiteral, FalseLiteral, AttributeName, Dotted, Paren, Selector, Extreme, Function, PairFunction, PointKind, Attribute, Heading, Tuple, Tuples, Headed, Portion, Onto, AllBut, OfUsing, OfTerms, OneTerm, Infix, NotMatching, OneRelPrimary, Project, Filter, Rename, OfExtend, OfSummarize, OfOperand, Relvar, OfLiteral, ParenRel, PackOn, Extend, Summarize, Using, UsingExtend, UsingSummarize, Key, Foreign, UsedKey, UsedForeign, KeyOf, ForeignOf, PackedOn, WhenUnpacked, UsingConstraint, Comparison, OfComparison, UsedDeleteRows, DeletePortion, DeleteRows, SetRelvar, Insert, Delete, Update, Terminate, UsingItem, Assign, Assignment}
+use Rattle.utd_syntax.specs.Written.{spelled, Spells, token, placed, log_word, of_scalar, of_conj, of_neg, of_cmp, of_sum, of_prod, of_sign, of_primary, of_literal, of_renamings, of_portion, of_projection, of_rel, of_terms, of_term, of_rel_primary, of_operand, of_extend, of_summarize, of_using, of_key, of_foreign, of_constraint, of_comparison, of_item, of_more_items, of_assign}
+use Rattle.utd_syntax.specs.Table.{Symbol, ThePrimary, TheSign, TheProd, MoreProd, TheSum, MoreSum, TheCmp, MoreCmp, TheNeg, TheConj, MoreAnd, TheScalar, MoreOr, ThePoint, TheKind, TheLiteral, ThePortion, MaybeWhere, TheOperand, TheExtend, TheSummarize, TheRelPrimary, TheTerm, MorePostfix, TheTerms, MoreInfix, TheUsing, TheRel, TheUsingPart, AfterOperand, TheKey, TheForeign, TheUsedConstraint, TheConstraint, MoreConstraints, TheComparison, AfterLeft, TheTest, TheUsedDeletion, TheDeletion, TheItem, MoreItems, TheAssign, TheStatement, AfterLog, Just, Plain, Takes, same_bytes}
 use Rattle.utd_syntax.proofs.Reader.{Go, read_at, read}
-use Rattle.utd_syntax.proofs.Marks.{two, begins}
-use Rattle.utd_syntax.proofs.FormEnds.{Starts_point, Starts_conj, Starts_cmp, Starts_primary, Starts_literal, Starts_portion, Starts_rel, Starts_terms, Starts_operand, Starts_extend, Starts_summarize, Starts_using, Starts_key, Starts_foreign, Starts_constraint, Starts_item, Starts_cmp-Starts_conj, Starts_primary-Starts_cmp, Starts_using-Starts_rel, Starts_terms-Starts_rel, Starts_extend-Starts_terms, Starts_summarize-Starts_terms, Starts_operand-Starts_terms, Starts_literal-Starts_operand, Starts_key-Starts_constraint, Starts_foreign-Starts_constraint}
+use Rattle.utd_syntax.proofs.Marks.{one, two, begins}
+use Rattle.utd_syntax.proofs.FormEnds.{other-row, bytes-same, Starts_point, Starts_conj, Starts_cmp, Starts_primary, Starts_literal, Starts_portion, Starts_rel, Starts_terms, Starts_operand, Starts_extend, Starts_summarize, Starts_using, Starts_key, Starts_foreign, Starts_constraint, Starts_item, Starts_cmp-Starts_conj, Starts_primary-Starts_cmp, Starts_using-Starts_rel, Starts_terms-Starts_rel, Starts_extend-Starts_terms, Starts_summarize-Starts_terms, Starts_operand-Starts_terms, Starts_literal-Starts_operand, Starts_key-Starts_constraint, Starts_foreign-Starts_constraint}
 
 mutual
   pub conj-first : (x : ConjP) (ts rest : List Piece) → Spells (of_conj x) ts rest → Starts_conj (first ts)
@@ -631,15 +631,37 @@ pub assign-as-item : (ts : List Piece) (stack : List Symbol) (k : Go (TheAssign 
 assign-as-item [] stack k h = absurd h
 assign-as-item (x ∷ ts) stack k h = assign-is-item x.terminal (first ts) x.place x.bytes (read ts) stack k h
 
-pub statement-is-assign : (x n : Terminal) (p : Place) (b : List ℕ) (next : (st : List Symbol) → Go st → Option StatementP) (stack : List Symbol) (k : Go (TheStatement ∷ stack)) → Starts_item x → read_at x n p b next (TheStatement ∷ stack) k ≡ read_at x n p b next (TheAssign ∷ Just t.Semicolon ∷ stack) (λ v. k (Assignment v.0, v.1.1))
-statement-is-assign t.Delete n p b next stack k h = refl
-statement-is-assign t.Insert n p b next stack k h = refl
-statement-is-assign t.Name n p b next stack k h = refl
-statement-is-assign t.Terminate n p b next stack k h = refl
-statement-is-assign t.Update n p b next stack k h = refl
-statement-is-assign t.Using n p b next stack k h = refl
-statement-is-assign _ n p b next stack k h = absurd h
+pub item-second : (x : ItemP) (ts rest : List Piece) → Spells (of_item x) ts rest → first ts ≡ t.Name → second ts ≡ t.Assign
+item-second (SetRelvar n r) ts rest h e = let x0 = one (spelled t.Name n.place n.bytes) (token t.Assign ++ of_rel r) ts rest h in ap second x0.is ∙ begins (λ z. z ≡ t.Assign) _ x0.left rest refl x0.spells
+item-second (Insert p n r) ts rest h e = absurd (begins (λ z. z ≡ t.Name → ⊥) _ ts rest (λ z. cc) h e)
+item-second (Delete p n d) ts rest h e = absurd (begins (λ z. z ≡ t.Name → ⊥) _ ts rest (λ z. cc) h e)
+item-second (Update p n q c s) ts rest h e = absurd (begins (λ z. z ≡ t.Name → ⊥) _ ts rest (λ z. cc) h e)
+item-second (Terminate p n q e c) ts rest h e = absurd (begins (λ z. z ≡ t.Name → ⊥) _ ts rest (λ z. cc) h e)
+item-second (UsingItem p a u) ts rest h e = absurd (begins (λ z. z ≡ t.Name → ⊥) _ ts rest (λ z. cc) h e)
 
-pub statement-as-assign : (ts : List Piece) (stack : List Symbol) (k : Go (TheStatement ∷ stack)) → Starts_item (first ts) → read ts (TheStatement ∷ stack) k ≡ read ts (TheAssign ∷ Just t.Semicolon ∷ stack) (λ v. k (Assignment v.0, v.1.1))
-statement-as-assign [] stack k h = absurd h
-statement-as-assign (x ∷ ts) stack k h = statement-is-assign x.terminal (first ts) x.place x.bytes (read ts) stack k h
+pub assign-second : (x : AssignP) (ts rest : List Piece) → Spells (of_assign x) ts rest → first ts ≡ t.Name → second ts ≡ t.Assign
+assign-second (Assign x xs) ts rest h e = let x0 = two (of_item x) (of_more_items xs) ts rest h in item-second x ts x0.mid x0.before e
+
+pub AfterLog-goes_on : (x n : Terminal) (p q : Place) (b : List ℕ) (next : (st : List Symbol) → Go st → Option StatementP) (stack : List Symbol) (k : Go (TheStatement ∷ stack)) → x ≡ t.Assign → read_at x n q b next (AfterLog ∷ stack) (λ v. k (v.0 p, v.1)) ≡ read_at x n q b next (Just t.Assign ∷ TheRel ∷ MoreItems ∷ Just t.Semicolon ∷ stack) (λ v. k (Assignment (Assign (SetRelvar (word p log_word) v.1.0) v.1.1.0), v.1.1.1.1))
+AfterLog-goes_on x n p q b next stack k is = subst (λ z. read_at z n q b next (AfterLog ∷ stack) (λ v. k (v.0 p, v.1)) ≡ read_at z n q b next (Just t.Assign ∷ TheRel ∷ MoreItems ∷ Just t.Semicolon ∷ stack) (λ v. k (Assignment (Assign (SetRelvar (word p log_word) v.1.0) v.1.1.0), v.1.1.1.1))) (sym is) refl
+
+pub statement-named : (p : Place) (b : List ℕ) (ts : List Piece) (stack : List Symbol) (k : Go (TheStatement ∷ stack)) (c : Bool) → same_bytes log_word b ≡ c → first ts ≡ t.Assign → read_at t.Name (first ts) p b (read ts) (TheStatement ∷ stack) k ≡ read_at t.Name (first ts) p b (read ts) (TheAssign ∷ Just t.Semicolon ∷ stack) (λ v. k (Assignment v.0, v.1.1))
+statement-named p b [] stack k c e is = absurd (no-end is)
+  where
+    no-end : t.Finish ≡ t.Assign → ⊥
+    no-end e = cc
+statement-named p b (y ∷ ts) stack k true e is = subst (λ z. read_at t.Name (first (y ∷ ts)) p z (read (y ∷ ts)) (TheStatement ∷ stack) k ≡ read_at t.Name (first (y ∷ ts)) p z (read (y ∷ ts)) (TheAssign ∷ Just t.Semicolon ∷ stack) (λ v. k (Assignment v.0, v.1.1))) (bytes-same log_word b e) (AfterLog-goes_on y.terminal (first ts) p y.place y.bytes (read ts) stack k is)
+statement-named p b (y ∷ ts) stack k false e is = other-row TheStatement (same_bytes log_word b) (Takes Plain (AfterLog ∷ [])) (Takes Plain (Just t.Assign ∷ TheRel ∷ MoreItems ∷ Just t.Semicolon ∷ [])) (λ v. v.0 p) (λ v. Assignment (Assign (SetRelvar (word p b) v.1.0) v.1.1.0)) stack (read (y ∷ ts)) (read_at t.Name y.terminal p b (read (y ∷ ts)) stack) k e
+
+pub statement-is-assign : (x : Terminal) (p : Place) (b : List ℕ) (ts : List Piece) (stack : List Symbol) (k : Go (TheStatement ∷ stack)) → Starts_item x → (x ≡ t.Name → first ts ≡ t.Assign) → read_at x (first ts) p b (read ts) (TheStatement ∷ stack) k ≡ read_at x (first ts) p b (read ts) (TheAssign ∷ Just t.Semicolon ∷ stack) (λ v. k (Assignment v.0, v.1.1))
+statement-is-assign t.Delete p b ts stack k h g = refl
+statement-is-assign t.Insert p b ts stack k h g = refl
+statement-is-assign t.Name p b ts stack k h g = statement-named p b ts stack k (same_bytes log_word b) refl (g refl)
+statement-is-assign t.Terminate p b ts stack k h g = refl
+statement-is-assign t.Update p b ts stack k h g = refl
+statement-is-assign t.Using p b ts stack k h g = refl
+statement-is-assign _ p b ts stack k h g = absurd h
+
+pub statement-as-assign : (ts : List Piece) (stack : List Symbol) (k : Go (TheStatement ∷ stack)) → Starts_item (first ts) → (first ts ≡ t.Name → second ts ≡ t.Assign) → read ts (TheStatement ∷ stack) k ≡ read ts (TheAssign ∷ Just t.Semicolon ∷ stack) (λ v. k (Assignment v.0, v.1.1))
+statement-as-assign [] stack k h g = absurd h
+statement-as-assign (x ∷ ts) stack k h g = statement-is-assign x.terminal x.place x.bytes ts stack k h g

@@ -1,16 +1,17 @@
 -- Written by tools/grammar; change it there.
 -- Forms that end before a token that they do not take, and which tokens may begin a form.
-use Rattle.std.proofs.Common.{◌≡◌, ℕ, List, [], ◌∷◌, Bool, true, false, cond, Option, refl, ap}
+use Rattle.std.proofs.Common.{◌≡◌, ℕ, List, [], ◌∷◌, Bool, true, false, cond, ◌==◌, ◌&&◌, Option, refl, ◌∙◌, ap}
 use Rattle.utd_syntax.specs.declared.terminal.Terminal.{Terminal}
 use Rattle.utd_syntax.specs.declared.terminal.Terminal.TheVariants as t
 use Rattle.point_core.specs.declared.fault.Place.{Place}
 use Rattle.utd_syntax.specs.Pieces.{Piece, first}
 use Rattle.utd_syntax.specs.Plain.{PointP, StatementP, IntegerType, DateType, MomentType, NamedType, OneSum, AttributeName, NoPortion, NoCondition}
 use Rattle.utd_syntax.specs.Written.{Spells, of_point}
-use Rattle.utd_syntax.specs.Table.{Symbol, AfterName, MoreProd, MoreSum, MoreCmp, MoreAnd, MoreOr, MoreAttributes, MoreNames, MoreElements, MoreTuples, MoreSetItems, MoreAggregates, MoreRenamings, MaybePortion, MaybeWhere, MorePostfix, MoreInfix, MoreConstraints, MoreItems, Taking, Turn, Ends, Takes, Row, on, spelt, before, same, fits, chosen, find, turn, after_name_rows, more_prod_rows, more_sum_rows, more_cmp_rows, more_and_rows, more_or_rows, more_attributes_rows, more_names_rows, more_elements_rows, more_tuples_rows, more_set_items_rows, more_aggregates_rows, more_renamings_rows, maybe_portion_rows, maybe_where_rows, more_postfix_rows, more_infix_rows, more_constraints_rows, more_items_rows}
+use Rattle.utd_syntax.specs.Table.{Symbol, AfterName, MoreProd, MoreSum, MoreCmp, MoreAnd, MoreOr, MoreAttributes, MoreNames, MoreElements, MoreTuples, MoreSetItems, MoreAggregates, MoreRenamings, MaybePortion, MaybeWhere, MorePostfix, MoreInfix, MoreConstraints, MoreItems, Taking, Turn, Ends, Takes, Row, on, spelt, before, same, same_bytes, fits, chosen, find, turn, after_name_rows, more_prod_rows, more_sum_rows, more_cmp_rows, more_and_rows, more_or_rows, more_attributes_rows, more_names_rows, more_elements_rows, more_tuples_rows, more_set_items_rows, more_aggregates_rows, more_renamings_rows, maybe_portion_rows, maybe_where_rows, more_postfix_rows, more_infix_rows, more_constraints_rows, more_items_rows}
 use Rattle.utd_syntax.proofs.FormValues.{Val, Makes, make_after_name, make_more_prod, make_more_sum, make_more_cmp, make_more_and, make_more_or, make_more_attributes, make_more_names}
 use Rattle.utd_syntax.proofs.Reader.{Built, Go, made, pick, found, on_turn, read_at, read, make_more_elements, make_more_tuples, make_more_set_items, make_more_aggregates, make_more_renamings, make_maybe_portion, make_maybe_where, make_more_postfix, make_more_infix, make_more_constraints, make_more_items}
 use Rattle.utd_syntax.proofs.Marks.{begins}
+use Rattle.std.proofs.lemmas.Bool.{eqb-true}
 
 pub along : (ts ts' : List Piece) (stack : List Symbol) (k : Go stack) → ts ≡ ts' → read ts stack k ≡ read ts' stack k
 along ts ts' stack k e = ap (λ x. read x stack k) e
@@ -32,6 +33,28 @@ fitting-ends false r n s v r' w d stack next beyond k ih h = ih h
 pub halting : (s : Symbol) (rs : List Row) (ms : Makes s rs) (d : Val s) (x : Terminal) (b : List ℕ) (n : Terminal) (p : Place) (stack : List Symbol) (next : (st : List Symbol) → Go st → Option StatementP) (beyond : Go stack → Option StatementP) (k : Go (s ∷ stack)) → find rs true x b n ≡ Ends → on_turn s (find rs true x b n) (found s rs ms true d x b n p) stack next beyond k ≡ beyond (λ vs. k (d, vs))
 halting s [] ms d x b n p stack next beyond k h = refl
 halting s (r ∷ rs) ms d x b n p stack next beyond k h = fitting-ends (fits r x b) r n s (made s r ms.0 n p b) (find rs true x b n) (found s rs ms.1 true d x b n p) d stack next beyond k (halting s rs ms.1 d x b n p stack next beyond k) h
+
+-- a row that is for another token
+pub other-row : (s : Symbol) (c : Bool) (r r' : Turn) (v : Built s r) (w : Built s r') (stack : List Symbol) (next : (st : List Symbol) → Go st → Option StatementP) (beyond : Go stack → Option StatementP) (k : Go (s ∷ stack)) → c ≡ false → on_turn s (cond c r r') (pick s c r r' v w) stack next beyond k ≡ on_turn s r' w stack next beyond k
+other-row s true r r' v w stack next beyond k e = cc
+other-row s false r r' v w stack next beyond k e = refl
+
+pub both-left : (a b : Bool) → (a && b) ≡ true → a ≡ true
+both-left true b e = refl
+both-left false b e = cc
+
+pub both-right : (a b : Bool) → (a && b) ≡ true → b ≡ true
+both-right true b e = e
+both-right false b e = cc
+
+pub bytes-same : (a b : List ℕ) → same_bytes a b ≡ true → a ≡ b
+bytes-same [] [] e = refl
+bytes-same [] (y ∷ ys) e = cc
+bytes-same (x ∷ xs) [] e = cc
+bytes-same (x ∷ xs) (y ∷ ys) e =
+    let h : x ≡ y = eqb-true x y (both-left (x == y) (same_bytes xs ys) e) in
+    let g : xs ≡ ys = bytes-same xs ys (both-right (x == y) (same_bytes xs ys) e) in
+    ap (λ z. z ∷ xs) h ∙ ap (λ z. y ∷ z) g
 
 -- the token does not continue the form
 abbrev pub Halts : Symbol → Terminal → Type 0

@@ -9,10 +9,10 @@ use Rattle.utd_syntax.specs.declared.words.PackWord.TheVariants as pack_words
 use Rattle.utd_syntax.specs.declared.words.EmptinessWord.TheVariants as emptinesses
 use Rattle.utd_syntax.specs.Pieces.{Piece, first, place_of}
 use Rattle.utd_syntax.specs.Plain.{word, StatementP, OfUsing, OfTerms, OneTerm, Infix, NotMatching, OneRelPrimary, Project, Filter, Rename, OfExtend, OfSummarize, OfOperand, Relvar, OfLiteral, ParenRel, PackOn, UsingExtend, UsingSummarize, UsedKey, UsedForeign, KeyOf, ForeignOf, PackedOn, WhenUnpacked, UsingConstraint, UsingTest, Emptiness, OfComparison, UsedDeleteWhere, UsedDeleteRows, DeleteWhere, DeletePortion, DeleteRows, Assign, Nothing, DeclareOrdinal, DeclareRelvar, DeclareHistory, DeclareRule, Print, Ask, Assignment}
-use Rattle.utd_syntax.specs.Written.{fixed, at, spelled, Spells, ordinal_word, since_word, during_word, over_word, of_statement}
-use Rattle.utd_syntax.specs.Table.{Load, Symbol, TheName, Comma, DateText, MomentText, NegativeDigits, ThePrimary, AfterName, AfterScalar, EndOfSelector, InParens, InPair, InPoint, TheSign, TheProd, MoreProd, TheSum, MoreSum, TheCmp, MoreCmp, TheNeg, TheConj, MoreAnd, TheScalar, MoreOr, ThePoint, TheKind, TheAttribute, MoreAttributes, InHeading, TheHeading, MoreNames, InNames, InList, TheNames, TheList, TheSomeNames, TheParenName, TheElement, MoreElements, InElements, TheElements, TheSomeElements, TheTuple, MoreTuples, InTuples, TheTuples, TheLiteral, AfterRelation, TheSetItem, MoreSetItems, TheSets, EmptyParens, TheAggregateForm, TheAggregate, MoreAggregates, TheAggregates, TheRenaming, MoreRenamings, TheRenamings, ThePortion, MaybePortion, MaybeWhere, InProjection, TheOperand, TheExtend, TheSummarize, TheRelPrimary, TheTerm, MorePostfix, TheTerms, MoreInfix, TheUsing, TheRel, TheUsingPart, AfterOperand, TheKey, TheForeign, TheUsedConstraint, TheConstraint, MoreConstraints, InRel, TheVarForm, TheComparison, AfterLeft, TheTest, TheUsedDeletion, TheUsedItem, TheDeletion, TheItem, MoreItems, TheAssign, TheStatement, AfterDrop, Just, Worded, Shut, Taking, Plain, Opens, Turn, Never, Ends, Takes, Row, on, spelt, before, ◌▹◌, rows, may_end, number, same, same_bytes, fits, chosen, find, turn, literal_rows, after_relation_rows, set_item_rows, more_set_items_rows, sets_rows, empty_parens_rows, aggregate_form_rows, aggregate_rows, more_aggregates_rows, aggregates_rows, renaming_rows, more_renamings_rows, renamings_rows, portion_rows, maybe_portion_rows, maybe_where_rows, in_projection_rows, operand_rows, extend_rows, summarize_rows, rel_primary_rows, term_rows, more_postfix_rows, terms_rows, more_infix_rows, using_rows, rel_rows, using_part_rows, after_operand_rows, key_rows, foreign_rows, used_constraint_rows, constraint_rows, more_constraints_rows, in_rel_rows, var_form_rows, comparison_rows, after_left_rows, test_rows, used_deletion_rows, used_item_rows, deletion_rows, item_rows, more_items_rows, assign_rows, statement_rows, after_drop_rows}
+use Rattle.utd_syntax.specs.Written.{fixed, at, spelled, Spells, ordinal_word, since_word, during_word, over_word, log_word, of_statement}
+use Rattle.utd_syntax.specs.Table.{Load, Symbol, TheName, Comma, DateText, MomentText, NegativeDigits, ThePrimary, AfterName, AfterScalar, EndOfSelector, InParens, InPair, InPoint, TheSign, TheProd, MoreProd, TheSum, MoreSum, TheCmp, MoreCmp, TheNeg, TheConj, MoreAnd, TheScalar, MoreOr, ThePoint, TheKind, TheAttribute, MoreAttributes, InHeading, TheHeading, MoreNames, InNames, InList, TheNames, TheList, TheSomeNames, TheParenName, TheElement, MoreElements, InElements, TheElements, TheSomeElements, TheTuple, MoreTuples, InTuples, TheTuples, TheLiteral, AfterRelation, TheSetItem, MoreSetItems, TheSets, EmptyParens, TheAggregateForm, TheAggregate, MoreAggregates, TheAggregates, TheRenaming, MoreRenamings, TheRenamings, ThePortion, MaybePortion, MaybeWhere, InProjection, TheOperand, TheExtend, TheSummarize, TheRelPrimary, TheTerm, MorePostfix, TheTerms, MoreInfix, TheUsing, TheRel, TheUsingPart, AfterOperand, TheKey, TheForeign, TheUsedConstraint, TheConstraint, MoreConstraints, InRel, TheVarForm, TheComparison, AfterLeft, TheTest, TheUsedDeletion, TheUsedItem, TheDeletion, TheItem, MoreItems, TheAssign, TheStatement, AfterDrop, AfterLog, Just, Worded, Shut, Taking, Plain, Opens, Turn, Never, Ends, Takes, Row, on, spelt, before, ◌▹◌, rows, may_end, number, same, same_bytes, fits, chosen, find, turn, literal_rows, after_relation_rows, set_item_rows, more_set_items_rows, sets_rows, empty_parens_rows, aggregate_form_rows, aggregate_rows, more_aggregates_rows, aggregates_rows, renaming_rows, more_renamings_rows, renamings_rows, portion_rows, maybe_portion_rows, maybe_where_rows, in_projection_rows, operand_rows, extend_rows, summarize_rows, rel_primary_rows, term_rows, more_postfix_rows, terms_rows, more_infix_rows, using_rows, rel_rows, using_part_rows, after_operand_rows, key_rows, foreign_rows, used_constraint_rows, constraint_rows, more_constraints_rows, in_rel_rows, var_form_rows, comparison_rows, after_left_rows, test_rows, used_deletion_rows, used_item_rows, deletion_rows, item_rows, more_items_rows, assign_rows, statement_rows, after_drop_rows, after_log_rows}
 use Rattle.utd_syntax.proofs.FormValues.{Val, Vals, Case, Make, Makes, inner, over_makes, then_makes, append_makes}
-use Rattle.utd_syntax.proofs.Reader.{Ended, Built, Go, makes, end_value, by_case, made, pick, found_end, found, build, split, on_turn, read_at, on_end, read_end, read, make_literal, make_after_relation, make_set_item, make_more_set_items, make_sets, make_empty_parens, make_aggregate_form, make_aggregate, make_more_aggregates, make_aggregates, make_renaming, make_more_renamings, make_renamings, make_portion, make_maybe_portion, make_maybe_where, make_in_projection, make_operand, make_extend, make_summarize, make_rel_primary, make_term, make_more_postfix, make_terms, make_more_infix, make_using, make_rel, make_using_part, make_after_operand, make_key, make_foreign, make_used_constraint, make_constraint, make_more_constraints, make_in_rel, make_var_form, make_comparison, make_after_left, make_test, make_used_deletion, make_used_item, make_deletion, make_item, make_more_items, make_assign, make_statement, make_after_drop}
+use Rattle.utd_syntax.proofs.Reader.{Ended, Built, Go, makes, end_value, by_case, made, pick, found_end, found, build, split, on_turn, read_at, on_end, read_end, read, make_literal, make_after_relation, make_set_item, make_more_set_items, make_sets, make_empty_parens, make_aggregate_form, make_aggregate, make_more_aggregates, make_aggregates, make_renaming, make_more_renamings, make_renamings, make_portion, make_maybe_portion, make_maybe_where, make_in_projection, make_operand, make_extend, make_summarize, make_rel_primary, make_term, make_more_postfix, make_terms, make_more_infix, make_using, make_rel, make_using_part, make_after_operand, make_key, make_foreign, make_used_constraint, make_constraint, make_more_constraints, make_in_rel, make_var_form, make_comparison, make_after_left, make_test, make_used_deletion, make_used_item, make_deletion, make_item, make_more_items, make_assign, make_statement, make_after_drop, make_after_log}
 use Rattle.utd_syntax.specs.Verdict.{Whole, no_limits, verdict}
 use Rattle.utd_syntax.proofs.Accepted.{Agree, agrees}
 use Rattle.std.proofs.lemmas.Bool.{eqb-true}
@@ -277,13 +277,22 @@ pub assign-sound : SoundRows TheAssign assign_rows make_assign
 assign-sound = then-sounds TheItem TheAssign MoreItems (λ u w. Assign u w) (λ u w from mid rest h g. join _ _ _ _ _ h g) item_rows make_item item-sound
 
 pub statement-sound : SoundRows TheStatement statement_rows make_statement
-statement-sound = (append-sounds TheStatement (on t.Semicolon Plain [] ∷ on t.TypeWord Plain (TheName ∷ Worded ordinal_word ∷ TheSomeNames ∷ Just t.Semicolon ∷ []) ∷ on t.Var Plain (TheName ∷ TheVarForm ∷ Just t.Semicolon ∷ []) ∷ on t.History Plain (TheName ∷ TheHeading ∷ TheKey ∷ Worded since_word ∷ TheName ∷ TheParenName ∷ Worded during_word ∷ TheName ∷ TheParenName ∷ Worded over_word ∷ ThePoint ∷ Just t.Semicolon ∷ []) ∷ on t.Constraint Plain (TheName ∷ TheTest ∷ Just t.Semicolon ∷ []) ∷ on t.Drop Plain (AfterDrop ∷ []) ∷ on t.Print Plain (TheRel ∷ Just t.Semicolon ∷ []) ∷ on t.Ask Plain (TheTest ∷ Just t.Semicolon ∷ []) ∷ []) (assign_rows ▹ (Just t.Semicolon ∷ [])) ((λ p b v. Nothing), ((λ p b v. DeclareOrdinal p v.0 v.1.1.0), ((λ p b v. DeclareRelvar p v.0 v.1.0), ((λ p b v. DeclareHistory p v.0 v.1.0 v.1.1.0 v.1.1.1.1.0 v.1.1.1.1.1.0 v.1.1.1.1.1.1.1.0 v.1.1.1.1.1.1.1.1.0 v.1.1.1.1.1.1.1.1.1.1.0), ((λ p b v. DeclareRule p v.0 v.1.0), ((λ p b v. v.0 p), ((λ p b v. Print p v.0), ((λ p b v. Ask p v.0), tt)))))))) (then_makes TheAssign TheStatement (Just t.Semicolon) (λ u w. Assignment u) assign_rows make_assign) ((λ p b ts vs rest h. (cons (fixed t.Semicolon) [] (piece_at t.Semicolon p b) ts _ refl (nil h))), ((λ p b ts vs rest h. (join _ _ _ _ _ (join _ _ _ _ _ (join _ _ _ _ _ (join _ _ _ _ _ (cons (at t.TypeWord p) [] (piece_at t.TypeWord p b) ts _ (refl, refl) (nil refl)) h.1) (loose_word _ _ _ _ h.2.1)) h.2.2.1) h.2.2.2)), ((λ p b ts vs rest h. (join _ _ _ _ _ (join _ _ _ _ _ (join _ _ _ _ _ (cons (at t.Var p) [] (piece_at t.Var p b) ts _ (refl, refl) (nil refl)) h.1) h.2.1) h.2.2)), ((λ p b ts vs rest h. (join _ _ _ _ _ (join _ _ _ _ _ (join _ _ _ _ _ (join _ _ _ _ _ (join _ _ _ _ _ (join _ _ _ _ _ (join _ _ _ _ _ (join _ _ _ _ _ (join _ _ _ _ _ (join _ _ _ _ _ (join _ _ _ _ _ (join _ _ _ _ _ (cons (at t.History p) [] (piece_at t.History p b) ts _ (refl, refl) (nil refl)) h.1) h.2.1) h.2.2.1) (loose_word _ _ _ _ h.2.2.2.1)) h.2.2.2.2.1) h.2.2.2.2.2.1) (loose_word _ _ _ _ h.2.2.2.2.2.2.1)) h.2.2.2.2.2.2.2.1) h.2.2.2.2.2.2.2.2.1) (loose_word _ _ _ _ h.2.2.2.2.2.2.2.2.2.1)) h.2.2.2.2.2.2.2.2.2.2.1) h.2.2.2.2.2.2.2.2.2.2.2)), ((λ p b ts vs rest h. (join _ _ _ _ _ (join _ _ _ _ _ (join _ _ _ _ _ (cons (at t.Constraint p) [] (piece_at t.Constraint p b) ts _ (refl, refl) (nil refl)) h.1) h.2.1) h.2.2)), ((λ p b ts vs rest h. (h p (piece_at t.Drop p b ∷ ts) (cons (at t.Drop p) [] (piece_at t.Drop p b) ts _ (refl, refl) (nil refl)))), ((λ p b ts vs rest h. (join _ _ _ _ _ (join _ _ _ _ _ (cons (at t.Print p) [] (piece_at t.Print p b) ts _ (refl, refl) (nil refl)) h.1) h.2)), ((λ p b ts vs rest h. (join _ _ _ _ _ (join _ _ _ _ _ (cons (at t.Ask p) [] (piece_at t.Ask p b) ts _ (refl, refl) (nil refl)) h.1) h.2)), tt)))))))) (then-sounds TheAssign TheStatement (Just t.Semicolon) (λ u w. Assignment u) (λ u w from mid rest h g. join _ _ _ _ _ h g) assign_rows make_assign assign-sound))
+statement-sound = (append-sounds TheStatement (on t.Semicolon Plain [] ∷ on t.TypeWord Plain (TheName ∷ Worded ordinal_word ∷ TheSomeNames ∷ Just t.Semicolon ∷ []) ∷ on t.Var Plain (TheName ∷ TheVarForm ∷ Just t.Semicolon ∷ []) ∷ on t.History Plain (TheName ∷ TheHeading ∷ TheKey ∷ Worded since_word ∷ TheName ∷ TheParenName ∷ Worded during_word ∷ TheName ∷ TheParenName ∷ Worded over_word ∷ ThePoint ∷ Just t.Semicolon ∷ []) ∷ on t.Constraint Plain (TheName ∷ TheTest ∷ Just t.Semicolon ∷ []) ∷ on t.Drop Plain (AfterDrop ∷ []) ∷ on t.Print Plain (TheRel ∷ Just t.Semicolon ∷ []) ∷ on t.Ask Plain (TheTest ∷ Just t.Semicolon ∷ []) ∷ spelt log_word (AfterLog ∷ []) ∷ []) (assign_rows ▹ (Just t.Semicolon ∷ [])) ((λ p b v. Nothing), ((λ p b v. DeclareOrdinal p v.0 v.1.1.0), ((λ p b v. DeclareRelvar p v.0 v.1.0), ((λ p b v. DeclareHistory p v.0 v.1.0 v.1.1.0 v.1.1.1.1.0 v.1.1.1.1.1.0 v.1.1.1.1.1.1.1.0 v.1.1.1.1.1.1.1.1.0 v.1.1.1.1.1.1.1.1.1.1.0), ((λ p b v. DeclareRule p v.0 v.1.0), ((λ p b v. v.0 p), ((λ p b v. Print p v.0), ((λ p b v. Ask p v.0), ((λ p b v. v.0 p), tt))))))))) (then_makes TheAssign TheStatement (Just t.Semicolon) (λ u w. Assignment u) assign_rows make_assign) ((λ p b ts vs rest h. (cons (fixed t.Semicolon) [] (piece_at t.Semicolon p b) ts _ refl (nil h))), ((λ p b ts vs rest h. (join _ _ _ _ _ (join _ _ _ _ _ (join _ _ _ _ _ (join _ _ _ _ _ (cons (at t.TypeWord p) [] (piece_at t.TypeWord p b) ts _ (refl, refl) (nil refl)) h.1) (loose_word _ _ _ _ h.2.1)) h.2.2.1) h.2.2.2)), ((λ p b ts vs rest h. (join _ _ _ _ _ (join _ _ _ _ _ (join _ _ _ _ _ (cons (at t.Var p) [] (piece_at t.Var p b) ts _ (refl, refl) (nil refl)) h.1) h.2.1) h.2.2)), ((λ p b ts vs rest h. (join _ _ _ _ _ (join _ _ _ _ _ (join _ _ _ _ _ (join _ _ _ _ _ (join _ _ _ _ _ (join _ _ _ _ _ (join _ _ _ _ _ (join _ _ _ _ _ (join _ _ _ _ _ (join _ _ _ _ _ (join _ _ _ _ _ (join _ _ _ _ _ (cons (at t.History p) [] (piece_at t.History p b) ts _ (refl, refl) (nil refl)) h.1) h.2.1) h.2.2.1) (loose_word _ _ _ _ h.2.2.2.1)) h.2.2.2.2.1) h.2.2.2.2.2.1) (loose_word _ _ _ _ h.2.2.2.2.2.2.1)) h.2.2.2.2.2.2.2.1) h.2.2.2.2.2.2.2.2.1) (loose_word _ _ _ _ h.2.2.2.2.2.2.2.2.2.1)) h.2.2.2.2.2.2.2.2.2.2.1) h.2.2.2.2.2.2.2.2.2.2.2)), ((λ p b ts vs rest h. (join _ _ _ _ _ (join _ _ _ _ _ (join _ _ _ _ _ (cons (at t.Constraint p) [] (piece_at t.Constraint p b) ts _ (refl, refl) (nil refl)) h.1) h.2.1) h.2.2)), ((λ p b ts vs rest h. (h p (piece_at t.Drop p b ∷ ts) (cons (at t.Drop p) [] (piece_at t.Drop p b) ts _ (refl, refl) (nil refl)))), ((λ p b ts vs rest h. (join _ _ _ _ _ (join _ _ _ _ _ (cons (at t.Print p) [] (piece_at t.Print p b) ts _ (refl, refl) (nil refl)) h.1) h.2)), ((λ p b ts vs rest h. (join _ _ _ _ _ (join _ _ _ _ _ (cons (at t.Ask p) [] (piece_at t.Ask p b) ts _ (refl, refl) (nil refl)) h.1) h.2)), ((λ p ts vs rest h. (h p (piece_at t.Name p log_word ∷ ts) (cons (spelled t.Name p log_word) [] (piece_at t.Name p log_word) ts _ (refl, refl, refl) (nil refl)))), tt))))))))) (then-sounds TheAssign TheStatement (Just t.Semicolon) (λ u w. Assignment u) (λ u w from mid rest h g. join _ _ _ _ _ h g) assign_rows make_assign assign-sound))
 
 pub after_drop-sound : SoundRows AfterDrop after_drop_rows make_after_drop
 after_drop-sound = (
   (λ p b ts vs rest h q from g. (join _ _ _ _ _ (join _ _ _ _ _ (join _ _ _ _ _ g (cons (fixed t.Var) [] (piece_at t.Var p b) ts _ refl (nil refl))) h.1) h.2)),
   (
     (λ p b ts vs rest h q from g. (join _ _ _ _ _ (join _ _ _ _ _ (join _ _ _ _ _ g (cons (at t.Constraint p) [] (piece_at t.Constraint p b) ts _ (refl, refl) (nil refl))) h.1) h.2)),
+    tt,
+  ),
+)
+
+pub after_log-sound : SoundRows AfterLog after_log_rows make_after_log
+after_log-sound = (
+  (λ p b ts vs rest h q from g. (join _ _ _ _ _ (join _ _ _ _ _ (join _ _ _ _ _ (join _ _ _ _ _ (join _ _ _ _ _ g (cons (spelled t.Name p b) [] (piece_at t.Name p b) ts _ (refl, refl, refl) (nil refl))) (loose_word _ _ _ _ h.1)) h.2.1) h.2.2.1) h.2.2.2)),
+  (
+    (λ p b ts vs rest h q from g. (join _ _ _ _ _ (join _ _ _ _ _ (join _ _ _ _ _ (join _ _ _ _ _ g (cons (fixed t.Assign) [] (piece_at t.Assign p b) ts _ refl (nil refl))) h.1) h.2.1) h.2.2)),
     tt,
   ),
 )
@@ -382,6 +391,7 @@ sounds MoreItems = more_items-sound
 sounds TheAssign = assign-sound
 sounds TheStatement = statement-sound
 sounds AfterDrop = after_drop-sound
+sounds AfterLog = after_log-sound
 sounds (Just x) = ((λ p b ts vs rest h. cons (fixed x) [] (piece_at x p b) ts _ refl (nil h)), tt)
 sounds (Worded w) = ((λ p ts vs rest h. cons (spelled t.Name p w) [] (piece_at t.Name p w) ts _ (refl, refl, refl) (nil h)), tt)
 sounds (Shut outer) = tt
@@ -442,23 +452,6 @@ bytes-self (x ∷ xs) = both (x == x) (same_bytes xs xs) (number-eq x) (bytes-se
     both : (a b : Bool) → a ≡ true → b ≡ true → (a && b) ≡ true
     both true b h g = g
     both false b h g = h
-
-pub both-left : (a b : Bool) → (a && b) ≡ true → a ≡ true
-both-left true b e = refl
-both-left false b e = cc
-
-pub both-right : (a b : Bool) → (a && b) ≡ true → b ≡ true
-both-right true b e = e
-both-right false b e = cc
-
-pub bytes-same : (a b : List ℕ) → same_bytes a b ≡ true → a ≡ b
-bytes-same [] [] e = refl
-bytes-same [] (y ∷ ys) e = cc
-bytes-same (x ∷ xs) [] e = cc
-bytes-same (x ∷ xs) (y ∷ ys) e =
-    let h : x ≡ y = eqb-true x y (both-left (x == y) (same_bytes xs ys) e) in
-    let g : xs ≡ ys = bytes-same xs ys (both-right (x == y) (same_bytes xs ys) e) in
-    ap (λ z. z ∷ xs) h ∙ ap (λ z. y ∷ z) g
 
 pub true-false : (c : Bool) → c ≡ true → c ≡ false → ⊥
 true-false c a b = cc

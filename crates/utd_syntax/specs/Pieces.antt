@@ -16,6 +16,11 @@ abbrev pub first : List Piece → Terminal
 first [] = Finish
 first (t ∷ ts) = t.terminal
 
+-- and the one behind it
+abbrev pub second : List Piece → Terminal
+second [] = Finish
+second (t ∷ ts) = first ts
+
 -- where the next token stands, and its bytes
 abbrev pub place_of : List Piece → Place
 place_of [] = record { line = 0; column = 0 }

@@ -306,6 +306,7 @@ pub data StatementP : Type 0 where
   DeclareOrdinal : Place → Word → SomeNamesP → StatementP
   DeclareRelvar : Place → Word → VarFormP → StatementP
   DeclareHistory : Place → Word → HeadingP → KeyP → Word → Word → Word → Word → PointP → StatementP
+  DeclareLog : Place → Word → Word → Word → StatementP
   DeclareRule : Place → Word → TestP → StatementP
   Drop : Place → Word → StatementP
   DropRule : Place → Place → Word → StatementP

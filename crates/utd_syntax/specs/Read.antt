@@ -358,6 +358,7 @@ read_statement rust_statement.Nothing = plain.Nothing
 read_statement (rust_statement.Ordinal v0 v1 v2) = plain.DeclareOrdinal v0 (read_name v1) (read_some_names v2)
 read_statement (rust_statement.Var v0 v1 v2) = plain.DeclareRelvar v0 (read_name v1) (read_var_form v2)
 read_statement (rust_statement.History h) = plain.DeclareHistory h.place (read_name h.view) (read_heading h.heading) (read_key h.key) (read_name h.since) (read_name h.since_attribute) (read_name h.during) (read_name h.during_attribute) (read_point h.point)
+read_statement (rust_statement.DeclareLog v0 v1 v2 v3) = plain.DeclareLog v0 (read_name v1) (read_name v2) (read_name v3)
 read_statement (rust_statement.DeclareRule v0 v1 v2) = plain.DeclareRule v0 (read_name v1) (read_test v2)
 read_statement (rust_statement.Drop v0 v1) = plain.Drop v0 (read_name v1)
 read_statement (rust_statement.DropRule v0 v1 v2) = plain.DropRule v0 v1 (read_name v2)

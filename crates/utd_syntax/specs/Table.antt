@@ -3,7 +3,7 @@
 use Rattle.std.specs.Prelude.{ℕ, List, [], ◌∷◌, ◌++◌, Bool, true, false, ◌==◌, ◌&&◌, if◌then◌else◌}
 use Rattle.utd_syntax.specs.declared.terminal.Terminal.{Terminal}
 use Rattle.utd_syntax.specs.declared.terminal.Terminal.TheVariants as t
-use Rattle.utd_syntax.specs.Written.{ordinal_word, since_word, during_word, over_word, at_word}
+use Rattle.utd_syntax.specs.Written.{ordinal_word, since_word, during_word, over_word, at_word, log_word, of_word}
 
 -- the levels that are open, the operators in force, and those of them that stand outside the innermost level
 pub record Load : Type 0 where
@@ -13,7 +13,7 @@ pub record Load : Type 0 where
 
 -- A form that may stand here, or the rest of one that has begun.
 pub data Symbol : Type 0 where
-  TheName Comma DateText MomentText NegativeDigits ThePrimary AfterName AfterScalar EndOfSelector InParens InPair InPoint TheSign TheProd MoreProd TheSum MoreSum TheCmp MoreCmp TheNeg TheConj MoreAnd TheScalar MoreOr ThePoint TheKind TheAttribute MoreAttributes InHeading TheHeading MoreNames InNames InList TheNames TheList TheSomeNames TheParenName TheElement MoreElements InElements TheElements TheSomeElements TheTuple MoreTuples InTuples TheTuples TheLiteral AfterRelation TheSetItem MoreSetItems TheSets EmptyParens TheAggregateForm TheAggregate MoreAggregates TheAggregates TheRenaming MoreRenamings TheRenamings ThePortion MaybePortion MaybeWhere InProjection TheOperand TheExtend TheSummarize TheRelPrimary TheTerm MorePostfix TheTerms MoreInfix TheUsing TheRel TheUsingPart AfterOperand TheKey TheForeign TheUsedConstraint TheConstraint MoreConstraints InRel TheVarForm TheComparison AfterLeft TheTest TheUsedDeletion TheUsedItem TheDeletion TheItem MoreItems TheAssign TheStatement AfterDrop : Symbol
+  TheName Comma DateText MomentText NegativeDigits ThePrimary AfterName AfterScalar EndOfSelector InParens InPair InPoint TheSign TheProd MoreProd TheSum MoreSum TheCmp MoreCmp TheNeg TheConj MoreAnd TheScalar MoreOr ThePoint TheKind TheAttribute MoreAttributes InHeading TheHeading MoreNames InNames InList TheNames TheList TheSomeNames TheParenName TheElement MoreElements InElements TheElements TheSomeElements TheTuple MoreTuples InTuples TheTuples TheLiteral AfterRelation TheSetItem MoreSetItems TheSets EmptyParens TheAggregateForm TheAggregate MoreAggregates TheAggregates TheRenaming MoreRenamings TheRenamings ThePortion MaybePortion MaybeWhere InProjection TheOperand TheExtend TheSummarize TheRelPrimary TheTerm MorePostfix TheTerms MoreInfix TheUsing TheRel TheUsingPart AfterOperand TheKey TheForeign TheUsedConstraint TheConstraint MoreConstraints InRel TheVarForm TheComparison AfterLeft TheTest TheUsedDeletion TheUsedItem TheDeletion TheItem MoreItems TheAssign TheStatement AfterDrop AfterLog : Symbol
   -- this token; this word where it stands for itself
   Just : Terminal → Symbol
   Worded : List ℕ → Symbol
@@ -446,12 +446,18 @@ abbrev pub assign_rows : List Row
 assign_rows = (item_rows ▹ (MoreItems ∷ []))
 
 abbrev pub statement_rows : List Row
-statement_rows = (on t.Semicolon Plain [] ∷ on t.TypeWord Plain (TheName ∷ Worded ordinal_word ∷ TheSomeNames ∷ Just t.Semicolon ∷ []) ∷ on t.Var Plain (TheName ∷ TheVarForm ∷ Just t.Semicolon ∷ []) ∷ on t.History Plain (TheName ∷ TheHeading ∷ TheKey ∷ Worded since_word ∷ TheName ∷ TheParenName ∷ Worded during_word ∷ TheName ∷ TheParenName ∷ Worded over_word ∷ ThePoint ∷ Just t.Semicolon ∷ []) ∷ on t.Constraint Plain (TheName ∷ TheTest ∷ Just t.Semicolon ∷ []) ∷ on t.Drop Plain (AfterDrop ∷ []) ∷ on t.Print Plain (TheRel ∷ Just t.Semicolon ∷ []) ∷ on t.Ask Plain (TheTest ∷ Just t.Semicolon ∷ []) ∷ []) ++ (assign_rows ▹ (Just t.Semicolon ∷ []))
+statement_rows = (on t.Semicolon Plain [] ∷ on t.TypeWord Plain (TheName ∷ Worded ordinal_word ∷ TheSomeNames ∷ Just t.Semicolon ∷ []) ∷ on t.Var Plain (TheName ∷ TheVarForm ∷ Just t.Semicolon ∷ []) ∷ on t.History Plain (TheName ∷ TheHeading ∷ TheKey ∷ Worded since_word ∷ TheName ∷ TheParenName ∷ Worded during_word ∷ TheName ∷ TheParenName ∷ Worded over_word ∷ ThePoint ∷ Just t.Semicolon ∷ []) ∷ on t.Constraint Plain (TheName ∷ TheTest ∷ Just t.Semicolon ∷ []) ∷ on t.Drop Plain (AfterDrop ∷ []) ∷ on t.Print Plain (TheRel ∷ Just t.Semicolon ∷ []) ∷ on t.Ask Plain (TheTest ∷ Just t.Semicolon ∷ []) ∷ spelt log_word (AfterLog ∷ []) ∷ []) ++ (assign_rows ▹ (Just t.Semicolon ∷ []))
 
 abbrev pub after_drop_rows : List Row
 after_drop_rows =
     on t.Var Plain (TheName ∷ Just t.Semicolon ∷ []) ∷
     on t.Constraint Plain (TheName ∷ Just t.Semicolon ∷ []) ∷
+    []
+
+abbrev pub after_log_rows : List Row
+after_log_rows =
+    on t.Name Plain (Worded of_word ∷ TheName ∷ TheParenName ∷ Just t.Semicolon ∷ []) ∷
+    on t.Assign Plain (TheRel ∷ MoreItems ∷ Just t.Semicolon ∷ []) ∷
     []
 
 abbrev pub rows : Symbol → List Row
@@ -548,6 +554,7 @@ rows MoreItems = more_items_rows
 rows TheAssign = assign_rows
 rows TheStatement = statement_rows
 rows AfterDrop = after_drop_rows
+rows AfterLog = after_log_rows
 rows (Just x) = on x Plain [] ∷ []
 rows (Worded b) = spelt b [] ∷ []
 rows (Shut outer) = []

@@ -137,6 +137,7 @@ pub enum Statement {
     Ordinal(Place, Word, SomeNames),
     Var(Place, Word, VarForm),
     History(History),
+    DeclareLog(Place, Word, Word, Word),
     DeclareRule(Place, Word, Test),
     Drop(Place, Word),
     DropRule(Place, Place, Word),
