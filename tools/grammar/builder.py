@@ -31,10 +31,10 @@ READS = sorted(set(re.findall(r'pub (read_\w+) :', syntax('specs/Read.antt'))))
 TREES = [('word','Word')] + [('parts',x) for x in 'Attribute Element Tuple SetItem Aggregate Renaming'.split()] + [('statement','Constraint'), ('statement','Item')]
 def head(title, body, extra=[]):
     u = ['-- ' + title,
-     'use Rattle.std.proofs.Common.{◌≡◌, ℕ, List, [], ◌∷◌, ◌++◌, Bool, true, false, Option, Some, None, refl, sym, ◌∙◌, ap, subst}',
+     'use Rattle.std.proofs.Common.{◌≡◌, ℕ, List, [], ◌∷◌, ◌++◌, Bool, true, false, cond, Option, Some, None, refl, sym, ◌∙◌, ap, subst}',
      f'use {CR}.specs.declared.terminal.Terminal.{{Terminal}}', f'use {CR}.specs.declared.terminal.Terminal.TheVariants as t', 'use Rattle.point_core.specs.declared.fault.Place.{Place}'] + choice_use(CON) + [
-     f'use {CR}.specs.Pieces.{{Piece, first, place_of, bytes_of}}', 'use Rattle.utd_builder.specs.Building.{behind}', 'use Rattle.utd_syntax.specs.Plain.{StatementP, Word, ' + ', '.join(sorted(set(f["type"] for f in FORMS.values() if f["type"].endswith("P") and not f["type"].startswith("List")) - {"StatementP"})) + ', ' + ', '.join(sorted(set(CONS_ALL))) + '}',
-     f'use {CR}.specs.Table.{{Symbol, Just, same, ' + ', '.join(TABLE) + '}', f'use {CR}.specs.Written.{{' + ', '.join(CON) + '}', f'use {CR}.proofs.Reader.{{Go, read, read_at}}',
+     f'use {CR}.specs.Pieces.{{Piece, first, second, place_of, bytes_of}}', 'use Rattle.utd_builder.specs.Building.{behind}', 'use Rattle.utd_syntax.specs.Plain.{StatementP, Word, word, ' + ', '.join(sorted(set(f["type"] for f in FORMS.values() if f["type"].endswith("P") and not f["type"].startswith("List")) - {"StatementP"})) + ', ' + ', '.join(sorted(set(CONS_ALL))) + '}',
+     f'use {CR}.specs.Table.{{Symbol, Just, same, same_bytes, Plain, Takes, Never, ' + ', '.join(TABLE) + '}', f'use {CR}.specs.Written.{{' + ', '.join([*CON, *map(word_name, CONTEXT)]) + '}', f'use {CR}.proofs.Reader.{{Go, on_turn, pick, read, read_at}}',
      f'use {CR}.proofs.FormEnds.{{Halts, ' + ', '.join(sorted(STARTSETS)) + ', ' + ', '.join(f'{s}-end' for s in TABLE if may_end(s)) + '}', f'use {CR}.proofs.FirstTokens.{{' + ', '.join(sorted(STARTS | set(LINK_NAMES))) + '}',
      'use Rattle.utd_builder.specs.Choices.{' + ', '.join(f'{c}_at' for c in WORDFN) + ', is_infix, is_postfix, is_constraint, relation_comparison_of, end_bracket_at, aggregate_word_at}', 'use Rattle.utd_syntax.specs.Read.{' + ', '.join(READS) + '}', *[f'use Rattle.utd_syntax.specs.declared.{m}.{t_}.{{{t_} as {t_}Tree}}' for m, t_ in TREES]] + extra
     return u + [''] + body
@@ -45,7 +45,7 @@ STARTS = set()
 STARTSETS = {}
 for m in re.finditer(r'\n(Starts_\w+) t\.(\w+) = Unit', src): STARTSETS.setdefault(m[1], []).append(m[2])
 LINK = {}
-for m in re.finditer(r'\npub (\w+)-as-(\w+) : .*? → (Starts_\w+) \(first ts\) → (?:\(first ts ≡ t\.Name → second ts ≡ t\.\w+\) → )?read ts \((\w+) ∷ stack\) k ≡ read ts (\(.*?∷ stack\)) (\(λ v\. .*\))\n', src): LINK[(m[1], m[2])] = (m[3], m[4], m[5], m[6])
+for m in re.finditer(r'\npub (\w+)-as-(\w+) : .*? → (Starts_\w+) \(first ts\) → (\(first ts ≡ t\.Name → second ts ≡ t\.\w+\) → )?read ts \((\w+) ∷ stack\) k ≡ read ts (\(.*?∷ stack\)) (\(λ v\. .*\))\n', src): LINK[(m[1], m[2])] = (m[3], m[5], m[6], m[7], m[4])
 LINK_NAMES = [f'{a}-as-{b}' for a, b in LINK]
 ENDV = {m[1]: m[2] for m in re.finditer(r'\npub (\w+)-end : .*? ≡ read ts stack (\(λ v\. .*\))\n', ends_src)}
 PAR = '(x n : Terminal) (p : Place) (b : List ℕ) (next : (st : List Symbol) → Go st → Option StatementP) (stack : List Symbol)'
@@ -83,17 +83,18 @@ def must_lemma(S, last, excl=[], choices=[]):
      f'step-{S} p b old new stack k s {ns} hp hb hn h = at t.{last} p b old new ({S} ∷ stack) k s (must-{S} old stack k s {ns} h) refl hp hb hn h', '']
     return r
 def to_lemma(f, g, excl=[], choices=[]):
-    st, F, target, K = LINK[(f, g)]
+    st, F, target, K, look = LINK[(f, g)]
     ns = ' '.join(names_of(excl, choices))
+    look, ahead = (look, ' ahead') if look else ('', '')
     r = [f'starts-{f}-{g} : {PAR} (k : Go ({F} ∷ stack)) (s : StatementP) → {premises(excl, choices, "x")}read_at x n p b next ({F} ∷ stack) k ≡ Some s → {st} x']
     for x in terminals(F):
         if x in STARTSETS[st]: r.append(f'starts-{f}-{g} t.{x} n p b next stack k s {ns} h = tt'); continue
         q = refuted(x, excl, choices); assert q, (f, g, x)
         r.append(f'starts-{f}-{g} t.{x} n p b next stack k s {ns} h = {q}')
     r += [f'starts-{f}-{g} _ n p b next stack k s {ns} h = differs h', '',
-     f'pub {f}-to-{g} : (ts : List Piece) (stack : List Symbol) (k : Go ({F} ∷ stack)) (s : StatementP) → {premises(excl, choices, "(first ts)")}read ts ({F} ∷ stack) k ≡ Some s → read ts {target} {K} ≡ Some s',
-     f'{f}-to-{g} [] stack k s {ns} h = differs h',
-     f'{f}-to-{g} (x ∷ ts) stack k s {ns} h = sym ({f}-as-{g} (x ∷ ts) stack k (starts-{f}-{g} x.terminal (first ts) x.place x.bytes (read ts) stack k s {ns} h)) ∙ h', '']
+     f'pub {f}-to-{g} : (ts : List Piece) (stack : List Symbol) (k : Go ({F} ∷ stack)) (s : StatementP) → {premises(excl, choices, "(first ts)")}{look}read ts ({F} ∷ stack) k ≡ Some s → read ts {target} {K} ≡ Some s',
+     f'{f}-to-{g} [] stack k s {ns}{ahead} h = differs h',
+     f'{f}-to-{g} (x ∷ ts) stack k s {ns}{ahead} h = sym ({f}-as-{g} (x ∷ ts) stack k (starts-{f}-{g} x.terminal (first ts) x.place x.bytes (read ts) stack k s {ns} h){ahead}) ∙ h', '']
     return r
 def choice_lemmas(c):
     ty, vs_ = CHOICES[c]; C = CON[c]
@@ -186,13 +187,35 @@ b += row_lemma('pack_word','TheOperand',('TheRel ∷ Just t.On ∷ TheList','(λ
 write('proofs/RelationRows.antt', head('What relational expressions say of the next token, where a statement goes on.', fix(b), ['use Rattle.utd_builder.proofs.Steps.{at, differs, differs-back}']))
 
 # ---------------------------------------------------------------- statements
+# what a name begins: a log, where a name follows, and else an assignment; and the rows of a kept view
+ON_LOG, ON_NAME = '(Takes Plain (AfterLog ∷ []))', '(Takes Plain (Just t.Assign ∷ TheRel ∷ MoreItems ∷ Just t.Semicolon ∷ []))'
+SETS = 'Assignment (Assign (SetRelvar (word {p} {b}) v.1.0) v.1.1.0)'
+NAMED = [f'is-sign : {PAR} (k : Go (Just t.Assign ∷ stack)) (s : StatementP) → read_at x n p b next (Just t.Assign ∷ stack) k ≡ Some s → x ≡ t.Assign',
+ 'is-sign t.Assign n p b next stack k s h = refl', 'is-sign _ n p b next stack k s h = differs h', '',
+ 'must-sign : (ts : List Piece) (stack : List Symbol) (k : Go (Just t.Assign ∷ stack)) (s : StatementP) → read ts (Just t.Assign ∷ stack) k ≡ Some s → first ts ≡ t.Assign',
+ 'must-sign [] stack k s h = differs h', 'must-sign (x ∷ ts) stack k s h = is-sign x.terminal (first ts) x.place x.bytes (read ts) stack k s h', '',
+ 'name-sign : t.Name ≡ t.Assign → ⊥', 'name-sign e = cc', '',
+ f'named-sign : (c : Bool) (p : Place) (b : List ℕ) (ts : List Piece) (stack : List Symbol) (beyond : Go stack → Option StatementP) (k : Go (TheStatement ∷ stack)) (s : StatementP) → (first ts ≡ t.Name → ⊥) → on_turn TheStatement (cond c {ON_LOG} {ON_NAME}) (pick TheStatement c {ON_LOG} {ON_NAME} (λ v. v.0 p) (λ v. {SETS.format(p="p", b="b")})) stack (read ts) beyond k ≡ Some s → first ts ≡ t.Assign',
+ 'named-sign true p b ts stack beyond k s n0 h = must-AfterLog ts stack _ s n0 h', 'named-sign false p b ts stack beyond k s n0 h = must-sign ts _ _ s h', '',
+ f'named-log : (c : Bool) (p : Place) (b : List ℕ) (ts : List Piece) (stack : List Symbol) (beyond : Go stack → Option StatementP) (k : Go (TheStatement ∷ stack)) (s : StatementP) → first ts ≡ t.Name → on_turn TheStatement (cond c {ON_LOG} {ON_NAME}) (pick TheStatement c {ON_LOG} {ON_NAME} (λ v. v.0 p) (λ v. {SETS.format(p="p", b="b")})) stack (read ts) beyond k ≡ Some s → read ts (AfterLog ∷ stack) (λ v. k (v.0 p, v.1)) ≡ Some s',
+ 'named-log true p b ts stack beyond k s is h = h', 'named-log false p b ts stack beyond k s is h = absurd (name-sign (sym is ∙ must-sign ts _ _ s h))', '',
+ 'pub sign-behind : (ts : List Piece) (stack : List Symbol) (k : Go (TheStatement ∷ stack)) (s : StatementP) → first ts ≡ t.Name → (second ts ≡ t.Name → ⊥) → read ts (TheStatement ∷ stack) k ≡ Some s → second ts ≡ t.Assign',
+ 'sign-behind [] stack k s is n0 h = differs h',
+ 'sign-behind (x ∷ ts) stack k s is n0 h = named-sign (same_bytes log_word x.bytes) x.place x.bytes ts stack (read_at t.Name (first ts) x.place x.bytes (read ts) stack) k s n0 (sym (ap (λ z. read_at z (first ts) x.place x.bytes (read ts) (TheStatement ∷ stack) k) is) ∙ h)', '',
+ 'pub log-begins : (p : Place) (old new : List Piece) (stack : List Symbol) (k : Go (TheStatement ∷ stack)) (s : StatementP) → first old ≡ t.Name → first new ≡ t.Name → p ≡ place_of old → new ≡ behind old → read old (TheStatement ∷ stack) k ≡ Some s → read new (AfterLog ∷ stack) (λ v. k (v.0 p, v.1)) ≡ Some s',
+ 'log-begins p old new stack k s is name hp hn h = named-log (same_bytes log_word (bytes_of old)) p (bytes_of old) new stack (read_at t.Name (first new) p (bytes_of old) (read new) stack) k s name (at t.Name p (bytes_of old) old new (TheStatement ∷ stack) k s is refl hp refl hn h)', '',
+ 'kept-taken : (c : Bool) (p : Place) (stack : List Symbol) (next : (st : List Symbol) → Go st → Option StatementP) (beyond : Go stack → Option StatementP) (k : Go (TheVarForm ∷ stack)) (s : StatementP) → on_turn TheVarForm (cond c (Takes Plain (InKept ∷ [])) Never) (pick TheVarForm c (Takes Plain (InKept ∷ [])) Never (λ v. Kept p v.0) tt) stack next beyond k ≡ Some s → next (InKept ∷ stack) (λ v. k (Kept p v.0, v.1)) ≡ Some s',
+ 'kept-taken true p stack next beyond k s h = h', 'kept-taken false p stack next beyond k s h = differs h', '',
+ 'pub kept-begins : (p : Place) (old new : List Piece) (stack : List Symbol) (k : Go (TheVarForm ∷ stack)) (s : StatementP) → first old ≡ t.Name → p ≡ place_of old → new ≡ behind old → read old (TheVarForm ∷ stack) k ≡ Some s → read new (InKept ∷ stack) (λ v. k (Kept p v.0, v.1)) ≡ Some s',
+ 'kept-begins p old new stack k s is hp hn h = kept-taken (same_bytes kept_word (bytes_of old)) p stack (read new) (read_at t.Name (first new) p (bytes_of old) (read new) stack) k s (at t.Name p (bytes_of old) old new (TheVarForm ∷ stack) k s is refl hp refl hn h)', '']
 b = []
 b += YES + flag_ends('MoreConstraints','is_constraint',terminals('MoreConstraints')) + ends_lemma('MoreItems',['Comma'])
 CT5 = 'Key Foreign Packed When Using'.split()
 b += ['pub starts-constraint : (x : Terminal) → is_constraint x ≡ true → Starts_constraint x'] + [f'starts-constraint t.{x} e = tt' for x in CT5] + ['starts-constraint _ e = absurd (yes (sym e))', '',
  'pub not-constraint : (x : Terminal) → is_constraint x ≡ true → ' + ''.join(f'(x ≡ t.{x} → ⊥) → ' for x in CT5[:4]) + 'x ≡ t.Using'] + [f'not-constraint t.{x} e n0 n1 n2 n3 = absurd (n{i} refl)' for i, x in enumerate(CT5[:4])] + ['not-constraint t.Using e n0 n1 n2 n3 = refl', 'not-constraint _ e n0 n1 n2 n3 = absurd (yes (sym e))', '']
 for f, g, ex in [('used_constraint','key',['Foreign']),('comparison','operand',[]),('test','comparison',['Using','IsEmpty','IsNotEmpty']),('used_deletion','rel',['Where']),('deletion','rel',['Where','Portion']),('assign','item',[]),('statement','assign',NOTS('Semicolon TypeWord Var History Constraint Drop Print Ask'))]: b += to_lemma(f, g, ex)
-for S, last, ex in [('TheKey','Key',[]),('TheForeign','Foreign',[]),('TheConstraint','Using',CT5[:4]),('InRel','Open',[]),('TheVarForm','Relation',['Virtual']),('TheUsedItem','Update',['Insert','Delete']),('TheItem','Name',NOTS('Insert Delete Update Terminate Using')),('AfterDrop','Var',['Constraint'])]: b += must_lemma(S, last, ex)
+for S, last, ex in [('TheKey','Key',[]),('TheForeign','Foreign',[]),('TheConstraint','Using',CT5[:4]),('InRel','Open',[]),('TheVarForm','Relation',['Virtual','Name']),('InKept','Open',[]),('TheKept','Pack',['Using']),('TheUsedItem','Update',['Insert','Delete']),('TheItem','Name',NOTS('Insert Delete Update Terminate Using')),('AfterDrop','Var',['Constraint']),('AfterLog','Assign',['Name'])]: b += must_lemma(S, last, ex)
+b += must_lemma('AfterKept','OpenBrace',['Not'],['infix_word']) + row_lemma('infix_word','AfterKept',('TheName','(λ v. k ((λ q a l. KeptInfix q a l p w v.0), v.1))')) + NAMED
 b += choice_lemmas('emptiness') + row_lemma('emptiness','TheTest',('InRel','(λ v. k (Emptiness p w v.0, v.1))'))
 b += push_lemma('constraints','Constraint','read_constraint') + push_lemma('items','Item','read_item')
 AL = lambda w, p: f'(λ v. k ((λ x. Comparison x {p} {w} v.0), v.1))'

@@ -39,7 +39,7 @@ COMMENT = {  # the rule of the grammar above each type
  'rel':'using | terms','terms':'term | terms infix term','term':'rel_primary | term projection | term "WHERE" scalar | term "RENAME" renamings','rel_primary':'extend | summarize | operand',
  'operand':'name | literal | "(" rel ")" | ( "PACK" | "UNPACK" ) rel "ON" list','extend':'"EXTEND" rel ":" sets','summarize':'"SUMMARIZE" rel "BY" names ":" aggregates','using':'"USING" list ":" using_part',
  'using_part':'extend | summarize | operand infix operand | operand projection | operand "WHERE" scalar','key':'"KEY" names','foreign':'"FOREIGN" "KEY" names "REFERENCES" name','used_constraint':'key | foreign',
- 'constraint':'key | foreign | "PACKED" "ON" list | "WHEN" "UNPACKED" "ON" list "THEN" key | "USING" list ":" used_constraint','var_form':'"RELATION" heading { constraint } | "VIRTUAL" "(" rel ")"',
+ 'constraint':'key | foreign | "PACKED" "ON" list | "WHEN" "UNPACKED" "ON" list "THEN" key | "USING" list ":" used_constraint','kept':'"USING" list ":" name infix name | "USING" list ":" name projection | "PACK" name "ON" list','var_form':'"RELATION" heading { constraint } | "VIRTUAL" "(" rel ")" | "KEPT" "(" kept ")"',
  'comparison':'operand ( "=" | "<>" | "<" | "<=" | ">" | ">=" ) operand','test':'"USING" list ":" comparison | ( "IS_EMPTY" | "IS_NOT_EMPTY" ) "(" rel ")" | comparison',
  'used_deletion':'"WHERE" scalar | rel','used_item':'"INSERT" name rel | "DELETE" name used_deletion | "UPDATE" name condition ":" sets','deletion':'"WHERE" scalar | portion condition | rel',
  'item':'name ":=" rel | "INSERT" name rel | "DELETE" name deletion | "UPDATE" name maybe_portion condition ":" sets | "TERMINATE" name "AT" scalar condition | "USING" list ":" used_item',

@@ -67,6 +67,8 @@ FOLLOWS = {
     'point': {'vim': r'\k\+', 'textmate': r'\w+'},
     'paren_name': {'vim': '(', 'textmate': r'\('},
     ';': {'vim': ';', 'textmate': ';'},
+    '(': {'vim': '(', 'textmate': r'\('},
+    'kept': {'vim': r'\%(USING\|PACK\)\>', 'textmate': r'(?:USING|PACK)\b'},
     **{f'~{word}': {'vim': rf'\<{word}\>', 'textmate': rf'\b{word}\b'} for word in CONTEXT},
 }
 

@@ -214,9 +214,17 @@ form('constraint', 'ConstraintP', 'TheConstraint',
 
 form('constraints', 'List ConstraintP', 'MoreConstraints', ('[]', ''), ('∷', 'x:constraint xs:constraints'))
 
+form('kept', 'KeptP', 'TheKept',
+    ('KeptInfix', 'Using@p a:list : l:name o:%infix_word@q r:name'),
+    ('KeptNotMatching', 'Using@p a:list : l:name Not@q MATCHING r:name'),
+    ('KeptProject', 'Using@p a:list : l:name q:^projection'),
+    ('KeptPack', 'Pack@p n:name ON a:list'),
+)
+
 form('var_form', 'VarFormP', 'TheVarForm',
     ('BaseRelvar', 'Relation@p h:heading cs:constraints'),
     ('View', 'Virtual@p ( r:rel )'),
+    ('Kept', '~KEPT@p ( k:kept )'),
 )
 
 # ---- tests and items

@@ -26,7 +26,8 @@ PLAN = {
     'Refused': [
         ('Completions', None, 'The tokens that complete a stack, and that they do.'),
         ('GoodScalars', 'GoodForms', 'The rows of row expressions and of parts of statements keep stacks good.'),
-        ('GoodStatements', 'good-the_list', 'The rows of relations and of statements keep stacks good.'),
+        ('GoodRelations', 'good-the_list', 'The rows of lists and of relations keep stacks good.'),
+        ('GoodStatements', 'good-the_key', 'The rows of declarations and of statements keep stacks good.'),
         ('Refused', 'kind', 'Each stack that the table reaches can be completed; so E01 is that no statement continues so.'),
     ],
 }

@@ -456,9 +456,35 @@ part_rows('InRel', 'RelP', 'token t.Open ++ of_rel v ++ token t.Close',
     opens('Open', '$0', ['TheRel', just('Close')], mark='fixed'),
 )
 
+form_rows('kept',
+    opens('Using', '$3 p $0 $2', ['TheList', just('Colon'), 'TheName', 'AfterKept'],
+        sequence=[applied(3, ['p', '$0', '$2'], [TOKEN, 0, 1, 2])],
+    ),
+    opens('Pack', 'KeptPack p $0 $2', ['TheName', just('On'), 'TheList']),
+)
+
+rest_rows('AfterKept', [('p0', 'Place'), ('a', 'NameListP'), ('l', 'Word')],
+    'placed t.Using p0 ++ of_list a ++ token t.Colon ++ word_of l',
+    'of_kept',
+    'KeptP',
+    *[
+        on(t, f'KeptInfix p0 a l p infixes.{v} $0', 'TheName', taking=OPERATOR)
+        for v, t in CHOICES['infix_word'][1]
+    ],
+    on('Not', 'KeptNotMatching p0 a l p $1', just('Matching'), 'TheName', taking=OPERATOR),
+    opens('OpenBrace', 'KeptProject p0 a l ($0 p)', ['InProjection'],
+        sequence=[BEFORE, applied(0, ['p'], [TOKEN])],
+    ),
+)
+
+part_rows('InKept', 'KeptP', 'token t.Open ++ of_kept v ++ token t.Close',
+    opens('Open', '$0', ['TheKept', just('Close')], mark='fixed'),
+)
+
 form_rows('var_form',
     on('Relation', 'BaseRelvar p $0 $1', 'TheHeading', 'MoreConstraints'),
     on('Virtual', 'View p $0', 'InRel'),
+    spelt('KEPT', 'Kept p $0', 'InKept'),
 )
 
 # ---- tests and items

@@ -32,7 +32,7 @@ TERMINALS = [word for word, _ in WORDS] + [symbol for symbol, _ in SYMBOLS] + KI
 TERMINAL_OF = {spelling: terminal for terminal, spelling in WORDS + SYMBOLS}
 
 # names that are reserved at their places alone
-CONTEXT = ['ORDINAL', 'SINCE', 'DURING', 'OVER', 'AT', 'LOG', 'OF']
+CONTEXT = ['ORDINAL', 'SINCE', 'DURING', 'OVER', 'AT', 'LOG', 'OF', 'KEPT']
 
 
 def word_name(word):

@@ -5,9 +5,9 @@ use Rattle.std.proofs.Common.{◌≡◌, List, [], ◌∷◌, ◌++◌, map, ref
 use Rattle.std.proofs.lemmas.List.{map-append}
 use Rattle.point_core.specs.declared.fault.Place.{Place}
 use Rattle.utd_syntax.specs.declared.terminal.Terminal.TheVariants as t
-use Rattle.utd_syntax.specs.Plain.{Word, PointP, ScalarP, ConjP, NegP, CmpP, SumP, ProdP, SignP, PrimaryP, KindP, AttributeP, HeadingP, NamesP, NameListP, SomeNamesP, ElementP, ElementsP, SomeElementsP, TupleP, LiteralP, SetItemP, SetsP, AggregateFormP, AggregateP, AggregatesP, RenamingP, RenamingsP, PortionP, MaybePortionP, ConditionP, ProjectionP, RelP, TermsP, TermP, RelPrimaryP, OperandP, ExtendP, SummarizeP, UsingP, UsingPartP, KeyP, ForeignP, UsedConstraintP, ConstraintP, VarFormP, ComparisonP, TestP, UsedDeletionP, UsedItemP, DeletionP, ItemP, AssignP, StatementP, IntegerType, DateType, MomentType, NamedType, OneConj, Or, OneNeg, And, Not, OneCmp, OneSum, Compare, OneProd, Add, OneSign, Multiply, NegativeInteger, Negate, OnePrimary, IntegerLiteral, TextLiteral, DateLiteral, MomentLiteral, TrueLiteral, FalseLiteral, AttributeName, Dotted, Paren, Selector, Extreme, Function, PairFunction, BooleanKind, CharKind, PointKind, IntervalKind, Attribute, Heading, Names, NameList, SomeNames, Element, Elements, SomeElements, Tuple, Tuples, Headed, SetItem, Sets, CountRows, AggregateOf, Aggregate, Aggregates, Renaming, Renamings, Portion, NoPortion, OfPortion, NoCondition, Where, Onto, AllBut, OfUsing, OfTerms, OneTerm, Infix, NotMatching, OneRelPrimary, Project, Filter, Rename, OfExtend, OfSummarize, OfOperand, Relvar, OfLiteral, ParenRel, PackOn, Extend, Summarize, Using, UsingExtend, UsingSummarize, UsingInfix, UsingNotMatching, UsingProject, UsingFilter, Key, Foreign, UsedKey, UsedForeign, KeyOf, ForeignOf, PackedOn, WhenUnpacked, UsingConstraint, BaseRelvar, View, Comparison, UsingTest, Emptiness, OfComparison, UsedDeleteWhere, UsedDeleteRows, UsedInsert, UsedDelete, UsedUpdate, DeleteWhere, DeletePortion, DeleteRows, SetRelvar, Insert, Delete, Update, Terminate, UsingItem, Assign, Nothing, DeclareOrdinal, DeclareRelvar, DeclareHistory, DeclareLog, DeclareRule, Drop, DropRule, Print, Ask, Assignment}
-use Rattle.utd_syntax.specs.Written.{Mark, fixed, at, spelled, worded, apart, ordinal_word, since_word, during_word, over_word, at_word, log_word, of_word, comparison, sum_word, product_word, begin_bracket, end_bracket, extreme, function, pair_function, infix_word, pack_word, aggregate_word, relation_comparison, emptiness, of_point, of_scalar, of_conj, of_neg, of_cmp, of_sum, of_prod, of_sign, of_primary, of_kind, of_attribute, of_more_attributes, of_heading, of_more_words, of_names, of_list, of_some_names, of_paren_name, of_element, of_more_elements, of_elements, of_some_elements, of_tuple, of_more_tuples, of_tuples, of_literal, of_set_item, of_more_set_items, of_sets, of_aggregate_form, of_aggregate, of_more_aggregates, of_aggregates, of_renaming, of_more_renamings, of_renamings, of_portion, of_maybe_portion, of_condition, of_projection, of_rel, of_terms, of_term, of_rel_primary, of_operand, of_extend, of_summarize, of_using, of_using_part, of_key, of_foreign, of_used_constraint, of_constraint, of_constraints, of_var_form, of_comparison, of_test, of_used_deletion, of_used_item, of_deletion, of_item, of_more_items, of_assign, of_statement, of_attributes, of_words, of_element_list, of_tuple_list}
-use Rattle.place_laws.specs.Moved.{moved_word, moved_point, moved_scalar, moved_conj, moved_neg, moved_cmp, moved_sum, moved_prod, moved_sign, moved_primary, moved_kind, moved_attribute, moved_heading, moved_names, moved_name_list, moved_some_names, moved_element, moved_elements, moved_some_elements, moved_tuple, moved_literal, moved_set_item, moved_sets, moved_aggregate_form, moved_aggregate, moved_aggregates, moved_renaming, moved_renamings, moved_portion, moved_maybe_portion, moved_condition, moved_projection, moved_rel, moved_terms, moved_term, moved_rel_primary, moved_operand, moved_extend, moved_summarize, moved_using, moved_using_part, moved_key, moved_foreign, moved_used_constraint, moved_constraint, moved_var_form, moved_comparison, moved_test, moved_used_deletion, moved_used_item, moved_deletion, moved_item, moved_assign, moved_statement}
+use Rattle.utd_syntax.specs.Plain.{Word, PointP, ScalarP, ConjP, NegP, CmpP, SumP, ProdP, SignP, PrimaryP, KindP, AttributeP, HeadingP, NamesP, NameListP, SomeNamesP, ElementP, ElementsP, SomeElementsP, TupleP, LiteralP, SetItemP, SetsP, AggregateFormP, AggregateP, AggregatesP, RenamingP, RenamingsP, PortionP, MaybePortionP, ConditionP, ProjectionP, RelP, TermsP, TermP, RelPrimaryP, OperandP, ExtendP, SummarizeP, UsingP, UsingPartP, KeyP, ForeignP, UsedConstraintP, ConstraintP, KeptP, VarFormP, ComparisonP, TestP, UsedDeletionP, UsedItemP, DeletionP, ItemP, AssignP, StatementP, IntegerType, DateType, MomentType, NamedType, OneConj, Or, OneNeg, And, Not, OneCmp, OneSum, Compare, OneProd, Add, OneSign, Multiply, NegativeInteger, Negate, OnePrimary, IntegerLiteral, TextLiteral, DateLiteral, MomentLiteral, TrueLiteral, FalseLiteral, AttributeName, Dotted, Paren, Selector, Extreme, Function, PairFunction, BooleanKind, CharKind, PointKind, IntervalKind, Attribute, Heading, Names, NameList, SomeNames, Element, Elements, SomeElements, Tuple, Tuples, Headed, SetItem, Sets, CountRows, AggregateOf, Aggregate, Aggregates, Renaming, Renamings, Portion, NoPortion, OfPortion, NoCondition, Where, Onto, AllBut, OfUsing, OfTerms, OneTerm, Infix, NotMatching, OneRelPrimary, Project, Filter, Rename, OfExtend, OfSummarize, OfOperand, Relvar, OfLiteral, ParenRel, PackOn, Extend, Summarize, Using, UsingExtend, UsingSummarize, UsingInfix, UsingNotMatching, UsingProject, UsingFilter, Key, Foreign, UsedKey, UsedForeign, KeyOf, ForeignOf, PackedOn, WhenUnpacked, UsingConstraint, KeptInfix, KeptNotMatching, KeptProject, KeptPack, BaseRelvar, View, Kept, Comparison, UsingTest, Emptiness, OfComparison, UsedDeleteWhere, UsedDeleteRows, UsedInsert, UsedDelete, UsedUpdate, DeleteWhere, DeletePortion, DeleteRows, SetRelvar, Insert, Delete, Update, Terminate, UsingItem, Assign, Nothing, DeclareOrdinal, DeclareRelvar, DeclareHistory, DeclareLog, DeclareRule, Drop, DropRule, Print, Ask, Assignment}
+use Rattle.utd_syntax.specs.Written.{Mark, fixed, at, spelled, worded, apart, ordinal_word, since_word, during_word, over_word, at_word, log_word, of_word, kept_word, comparison, sum_word, product_word, begin_bracket, end_bracket, extreme, function, pair_function, infix_word, pack_word, aggregate_word, relation_comparison, emptiness, of_point, of_scalar, of_conj, of_neg, of_cmp, of_sum, of_prod, of_sign, of_primary, of_kind, of_attribute, of_more_attributes, of_heading, of_more_words, of_names, of_list, of_some_names, of_paren_name, of_element, of_more_elements, of_elements, of_some_elements, of_tuple, of_more_tuples, of_tuples, of_literal, of_set_item, of_more_set_items, of_sets, of_aggregate_form, of_aggregate, of_more_aggregates, of_aggregates, of_renaming, of_more_renamings, of_renamings, of_portion, of_maybe_portion, of_condition, of_projection, of_rel, of_terms, of_term, of_rel_primary, of_operand, of_extend, of_summarize, of_using, of_using_part, of_key, of_foreign, of_used_constraint, of_constraint, of_constraints, of_kept, of_var_form, of_comparison, of_test, of_used_deletion, of_used_item, of_deletion, of_item, of_more_items, of_assign, of_statement, of_attributes, of_words, of_element_list, of_tuple_list}
+use Rattle.place_laws.specs.Moved.{moved_word, moved_point, moved_scalar, moved_conj, moved_neg, moved_cmp, moved_sum, moved_prod, moved_sign, moved_primary, moved_kind, moved_attribute, moved_heading, moved_names, moved_name_list, moved_some_names, moved_element, moved_elements, moved_some_elements, moved_tuple, moved_literal, moved_set_item, moved_sets, moved_aggregate_form, moved_aggregate, moved_aggregates, moved_renaming, moved_renamings, moved_portion, moved_maybe_portion, moved_condition, moved_projection, moved_rel, moved_terms, moved_term, moved_rel_primary, moved_operand, moved_extend, moved_summarize, moved_using, moved_using_part, moved_key, moved_foreign, moved_used_constraint, moved_constraint, moved_kept, moved_var_form, moved_comparison, moved_test, moved_used_deletion, moved_used_item, moved_deletion, moved_item, moved_assign, moved_statement}
 use Rattle.place_laws.specs.MovedPieces.{moved_mark}
 
 module _ (g : Place → Place) where
@@ -266,9 +266,16 @@ module _ (g : Place → Place) where
   constraints-marks [] = none
   constraints-marks (x ∷ xs) = constraint-marks x ▸ constraints-marks xs
 
+  pub kept-marks : (x : KeptP) → AreMoved (of_kept (moved_kept g x)) (of_kept x)
+  kept-marks (KeptInfix p a l q o r) = one (at t.Using p) ▸ list-marks a ▸ one (fixed t.Colon) ▸ one (spelled t.Name l.place l.bytes) ▸ one (at (infix_word o) q) ▸ one (spelled t.Name r.place r.bytes)
+  kept-marks (KeptNotMatching p a l q r) = one (at t.Using p) ▸ list-marks a ▸ one (fixed t.Colon) ▸ one (spelled t.Name l.place l.bytes) ▸ one (at t.Not q) ▸ one (fixed t.Matching) ▸ one (spelled t.Name r.place r.bytes)
+  kept-marks (KeptProject p a l q) = one (at t.Using p) ▸ list-marks a ▸ one (fixed t.Colon) ▸ one (spelled t.Name l.place l.bytes) ▸ projection-marks q
+  kept-marks (KeptPack p n a) = one (at t.Pack p) ▸ one (spelled t.Name n.place n.bytes) ▸ one (fixed t.On) ▸ list-marks a
+
   pub var_form-marks : (x : VarFormP) → AreMoved (of_var_form (moved_var_form g x)) (of_var_form x)
   var_form-marks (BaseRelvar p h cs) = one (at t.Relation p) ▸ heading-marks h ▸ constraints-marks cs
   var_form-marks (View p r) = one (at t.Virtual p) ▸ one (fixed t.Open) ▸ rel-marks r ▸ one (fixed t.Close)
+  var_form-marks (Kept p k) = one (spelled t.Name p kept_word) ▸ one (fixed t.Open) ▸ kept-marks k ▸ one (fixed t.Close)
 
   pub comparison-marks : (x : ComparisonP) → AreMoved (of_comparison (moved_comparison g x)) (of_comparison x)
   comparison-marks (Comparison l p o r) = operand-marks l ▸ one (at (relation_comparison o) p) ▸ operand-marks r

@@ -2,8 +2,8 @@
 -- A tree of which no place is moved is itself.
 -- word-same, point-same, .., statement-same: an equation for each type of trees. each-same: that of a list.
 use Rattle.std.proofs.Common.{◌≡◌, List, [], ◌∷◌, map, refl}
-use Rattle.utd_syntax.specs.Plain.{Word, PointP, ScalarP, ConjP, NegP, CmpP, SumP, ProdP, SignP, PrimaryP, KindP, AttributeP, HeadingP, NamesP, NameListP, SomeNamesP, ElementP, ElementsP, SomeElementsP, TupleP, LiteralP, SetItemP, SetsP, AggregateFormP, AggregateP, AggregatesP, RenamingP, RenamingsP, PortionP, MaybePortionP, ConditionP, ProjectionP, RelP, TermsP, TermP, RelPrimaryP, OperandP, ExtendP, SummarizeP, UsingP, UsingPartP, KeyP, ForeignP, UsedConstraintP, ConstraintP, VarFormP, ComparisonP, TestP, UsedDeletionP, UsedItemP, DeletionP, ItemP, AssignP, StatementP, IntegerType, DateType, MomentType, NamedType, OneConj, Or, OneNeg, And, Not, OneCmp, OneSum, Compare, OneProd, Add, OneSign, Multiply, NegativeInteger, Negate, OnePrimary, IntegerLiteral, TextLiteral, DateLiteral, MomentLiteral, TrueLiteral, FalseLiteral, AttributeName, Dotted, Paren, Selector, Extreme, Function, PairFunction, BooleanKind, CharKind, PointKind, IntervalKind, Attribute, Heading, Names, NameList, SomeNames, Element, Elements, SomeElements, Tuple, Tuples, Headed, SetItem, Sets, CountRows, AggregateOf, Aggregate, Aggregates, Renaming, Renamings, Portion, NoPortion, OfPortion, NoCondition, Where, Onto, AllBut, OfUsing, OfTerms, OneTerm, Infix, NotMatching, OneRelPrimary, Project, Filter, Rename, OfExtend, OfSummarize, OfOperand, Relvar, OfLiteral, ParenRel, PackOn, Extend, Summarize, Using, UsingExtend, UsingSummarize, UsingInfix, UsingNotMatching, UsingProject, UsingFilter, Key, Foreign, UsedKey, UsedForeign, KeyOf, ForeignOf, PackedOn, WhenUnpacked, UsingConstraint, BaseRelvar, View, Comparison, UsingTest, Emptiness, OfComparison, UsedDeleteWhere, UsedDeleteRows, UsedInsert, UsedDelete, UsedUpdate, DeleteWhere, DeletePortion, DeleteRows, SetRelvar, Insert, Delete, Update, Terminate, UsingItem, Assign, Nothing, DeclareOrdinal, DeclareRelvar, DeclareHistory, DeclareLog, DeclareRule, Drop, DropRule, Print, Ask, Assignment}
-use Rattle.place_laws.specs.Moved.{moved_word, moved_point, moved_scalar, moved_conj, moved_neg, moved_cmp, moved_sum, moved_prod, moved_sign, moved_primary, moved_kind, moved_attribute, moved_heading, moved_names, moved_name_list, moved_some_names, moved_element, moved_elements, moved_some_elements, moved_tuple, moved_literal, moved_set_item, moved_sets, moved_aggregate_form, moved_aggregate, moved_aggregates, moved_renaming, moved_renamings, moved_portion, moved_maybe_portion, moved_condition, moved_projection, moved_rel, moved_terms, moved_term, moved_rel_primary, moved_operand, moved_extend, moved_summarize, moved_using, moved_using_part, moved_key, moved_foreign, moved_used_constraint, moved_constraint, moved_var_form, moved_comparison, moved_test, moved_used_deletion, moved_used_item, moved_deletion, moved_item, moved_assign, moved_statement}
+use Rattle.utd_syntax.specs.Plain.{Word, PointP, ScalarP, ConjP, NegP, CmpP, SumP, ProdP, SignP, PrimaryP, KindP, AttributeP, HeadingP, NamesP, NameListP, SomeNamesP, ElementP, ElementsP, SomeElementsP, TupleP, LiteralP, SetItemP, SetsP, AggregateFormP, AggregateP, AggregatesP, RenamingP, RenamingsP, PortionP, MaybePortionP, ConditionP, ProjectionP, RelP, TermsP, TermP, RelPrimaryP, OperandP, ExtendP, SummarizeP, UsingP, UsingPartP, KeyP, ForeignP, UsedConstraintP, ConstraintP, KeptP, VarFormP, ComparisonP, TestP, UsedDeletionP, UsedItemP, DeletionP, ItemP, AssignP, StatementP, IntegerType, DateType, MomentType, NamedType, OneConj, Or, OneNeg, And, Not, OneCmp, OneSum, Compare, OneProd, Add, OneSign, Multiply, NegativeInteger, Negate, OnePrimary, IntegerLiteral, TextLiteral, DateLiteral, MomentLiteral, TrueLiteral, FalseLiteral, AttributeName, Dotted, Paren, Selector, Extreme, Function, PairFunction, BooleanKind, CharKind, PointKind, IntervalKind, Attribute, Heading, Names, NameList, SomeNames, Element, Elements, SomeElements, Tuple, Tuples, Headed, SetItem, Sets, CountRows, AggregateOf, Aggregate, Aggregates, Renaming, Renamings, Portion, NoPortion, OfPortion, NoCondition, Where, Onto, AllBut, OfUsing, OfTerms, OneTerm, Infix, NotMatching, OneRelPrimary, Project, Filter, Rename, OfExtend, OfSummarize, OfOperand, Relvar, OfLiteral, ParenRel, PackOn, Extend, Summarize, Using, UsingExtend, UsingSummarize, UsingInfix, UsingNotMatching, UsingProject, UsingFilter, Key, Foreign, UsedKey, UsedForeign, KeyOf, ForeignOf, PackedOn, WhenUnpacked, UsingConstraint, KeptInfix, KeptNotMatching, KeptProject, KeptPack, BaseRelvar, View, Kept, Comparison, UsingTest, Emptiness, OfComparison, UsedDeleteWhere, UsedDeleteRows, UsedInsert, UsedDelete, UsedUpdate, DeleteWhere, DeletePortion, DeleteRows, SetRelvar, Insert, Delete, Update, Terminate, UsingItem, Assign, Nothing, DeclareOrdinal, DeclareRelvar, DeclareHistory, DeclareLog, DeclareRule, Drop, DropRule, Print, Ask, Assignment}
+use Rattle.place_laws.specs.Moved.{moved_word, moved_point, moved_scalar, moved_conj, moved_neg, moved_cmp, moved_sum, moved_prod, moved_sign, moved_primary, moved_kind, moved_attribute, moved_heading, moved_names, moved_name_list, moved_some_names, moved_element, moved_elements, moved_some_elements, moved_tuple, moved_literal, moved_set_item, moved_sets, moved_aggregate_form, moved_aggregate, moved_aggregates, moved_renaming, moved_renamings, moved_portion, moved_maybe_portion, moved_condition, moved_projection, moved_rel, moved_terms, moved_term, moved_rel_primary, moved_operand, moved_extend, moved_summarize, moved_using, moved_using_part, moved_key, moved_foreign, moved_used_constraint, moved_constraint, moved_kept, moved_var_form, moved_comparison, moved_test, moved_used_deletion, moved_used_item, moved_deletion, moved_item, moved_assign, moved_statement}
 
 pub each-same : {A : Type 0} (g : A → A) → ((x : A) → g x ≡ x) → (xs : List A) → map g xs ≡ xs
 each-same g e [] = refl
@@ -198,9 +198,16 @@ constraint-same (PackedOn p a) = λ j. PackedOn p (name_list-same a j)
 constraint-same (WhenUnpacked p a k) = λ j. WhenUnpacked p (name_list-same a j) (key-same k j)
 constraint-same (UsingConstraint p a u) = λ j. UsingConstraint p (name_list-same a j) (used_constraint-same u j)
 
+pub kept-same : (x : KeptP) → moved_kept (λ p. p) x ≡ x
+kept-same (KeptInfix p a l q o r) = λ j. KeptInfix p (name_list-same a j) l q o r
+kept-same (KeptNotMatching p a l q r) = λ j. KeptNotMatching p (name_list-same a j) l q r
+kept-same (KeptProject p a l q) = λ j. KeptProject p (name_list-same a j) l (projection-same q j)
+kept-same (KeptPack p n a) = λ j. KeptPack p n (name_list-same a j)
+
 pub var_form-same : (x : VarFormP) → moved_var_form (λ p. p) x ≡ x
 var_form-same (BaseRelvar p h cs) = λ j. BaseRelvar p (heading-same h j) (each-same _ constraint-same cs j)
 var_form-same (View p r) = λ j. View p (rel-same r j)
+var_form-same (Kept p k) = λ j. Kept p (kept-same k j)
 
 pub comparison-same : (x : ComparisonP) → moved_comparison (λ p. p) x ≡ x
 comparison-same (Comparison l p o r) = λ j. Comparison (operand-same l j) p o (operand-same r j)

@@ -1,25 +1,27 @@
 -- Written by tools/grammar; change it there.
 -- What statements say of the next token, where a statement goes on.
-use Rattle.std.proofs.Common.{◌≡◌, ℕ, List, [], ◌∷◌, ◌++◌, true, false, Option, Some, refl, sym, ◌∙◌, ap}
+use Rattle.std.proofs.Common.{◌≡◌, ℕ, List, [], ◌∷◌, ◌++◌, Bool, true, false, cond, Option, Some, None, refl, sym, ◌∙◌, ap}
 use Rattle.utd_syntax.specs.declared.terminal.Terminal.{Terminal}
 use Rattle.utd_syntax.specs.declared.terminal.Terminal.TheVariants as t
 use Rattle.point_core.specs.declared.fault.Place.{Place}
+use Rattle.utd_syntax.specs.declared.words.InfixWord.{InfixWord}
+use Rattle.utd_syntax.specs.declared.words.InfixWord.TheVariants as infixes
 use Rattle.utd_syntax.specs.declared.words.RelationComparison.{RelationComparison}
 use Rattle.utd_syntax.specs.declared.words.EmptinessWord.{EmptinessWord}
 use Rattle.utd_syntax.specs.declared.words.EmptinessWord.TheVariants as emptinesses
-use Rattle.utd_syntax.specs.Pieces.{Piece, first, place_of, bytes_of}
+use Rattle.utd_syntax.specs.Pieces.{Piece, first, second, place_of, bytes_of}
 use Rattle.utd_builder.specs.Building.{behind}
-use Rattle.utd_syntax.specs.Plain.{StatementP, ConstraintP, ItemP, Assign, Assignment, Comparison, DeleteRows, Emptiness, OfComparison, UsedDeleteRows, UsedKey}
-use Rattle.utd_syntax.specs.Table.{Symbol, Just, same, TheOperand, TheRel, TheKey, TheForeign, TheUsedConstraint, TheConstraint, MoreConstraints, InRel, TheVarForm, TheComparison, AfterLeft, TheTest, TheUsedDeletion, TheUsedItem, TheDeletion, TheItem, MoreItems, TheAssign, TheStatement, AfterDrop}
-use Rattle.utd_syntax.specs.Written.{emptiness}
-use Rattle.utd_syntax.proofs.Reader.{Go, read, read_at}
+use Rattle.utd_syntax.specs.Plain.{StatementP, word, ConstraintP, ItemP, Assign, Assignment, Comparison, DeleteRows, Emptiness, Kept, KeptInfix, OfComparison, SetRelvar, UsedDeleteRows, UsedKey}
+use Rattle.utd_syntax.specs.Table.{Symbol, Just, same, same_bytes, Plain, Takes, Never, TheName, TheOperand, TheRel, TheKey, TheForeign, TheUsedConstraint, TheConstraint, MoreConstraints, InRel, TheKept, AfterKept, InKept, TheVarForm, TheComparison, AfterLeft, TheTest, TheUsedDeletion, TheUsedItem, TheDeletion, TheItem, MoreItems, TheAssign, TheStatement, AfterDrop, AfterLog}
+use Rattle.utd_syntax.specs.Written.{infix_word, emptiness, log_word, kept_word}
+use Rattle.utd_syntax.proofs.Reader.{Go, on_turn, pick, read, read_at}
 use Rattle.utd_syntax.proofs.FormEnds.{Halts, Starts_constraint, Starts_item, Starts_key, Starts_operand, Starts_rel, MoreConstraints-end, MoreItems-end}
 use Rattle.utd_syntax.proofs.FirstTokens.{assign-as-item, comparison-as-operand, deletion-as-rel, statement-as-assign, test-as-comparison, used_constraint-as-key, used_deletion-as-rel}
-use Rattle.utd_builder.specs.Choices.{is_constraint, relation_comparison_of}
+use Rattle.utd_builder.specs.Choices.{infix_word_at, is_constraint, relation_comparison_of}
 use Rattle.utd_syntax.specs.Read.{read_constraint, read_constraint_list, read_item, read_item_list}
 use Rattle.utd_syntax.specs.declared.statement.Constraint.{Constraint as ConstraintTree}
 use Rattle.utd_syntax.specs.declared.statement.Item.{Item as ItemTree}
-use Rattle.utd_builder.proofs.Steps.{at, differs}
+use Rattle.utd_builder.proofs.Steps.{at, differs, differs-back}
 
 yes : true ≡ false → ⊥
 yes e = cc
@@ -157,9 +159,9 @@ starts-statement-assign t.Terminate n p b next stack k s n0 n1 n2 n3 n4 n5 n6 n7
 starts-statement-assign t.Using n p b next stack k s n0 n1 n2 n3 n4 n5 n6 n7 h = tt
 starts-statement-assign _ n p b next stack k s n0 n1 n2 n3 n4 n5 n6 n7 h = differs h
 
-pub statement-to-assign : (ts : List Piece) (stack : List Symbol) (k : Go (TheStatement ∷ stack)) (s : StatementP) → ((first ts) ≡ t.Semicolon → ⊥) → ((first ts) ≡ t.TypeWord → ⊥) → ((first ts) ≡ t.Var → ⊥) → ((first ts) ≡ t.History → ⊥) → ((first ts) ≡ t.Constraint → ⊥) → ((first ts) ≡ t.Drop → ⊥) → ((first ts) ≡ t.Print → ⊥) → ((first ts) ≡ t.Ask → ⊥) → read ts (TheStatement ∷ stack) k ≡ Some s → read ts (TheAssign ∷ Just t.Semicolon ∷ stack) (λ v. k (Assignment v.0, v.1.1)) ≡ Some s
-statement-to-assign [] stack k s n0 n1 n2 n3 n4 n5 n6 n7 h = differs h
-statement-to-assign (x ∷ ts) stack k s n0 n1 n2 n3 n4 n5 n6 n7 h = sym (statement-as-assign (x ∷ ts) stack k (starts-statement-assign x.terminal (first ts) x.place x.bytes (read ts) stack k s n0 n1 n2 n3 n4 n5 n6 n7 h)) ∙ h
+pub statement-to-assign : (ts : List Piece) (stack : List Symbol) (k : Go (TheStatement ∷ stack)) (s : StatementP) → ((first ts) ≡ t.Semicolon → ⊥) → ((first ts) ≡ t.TypeWord → ⊥) → ((first ts) ≡ t.Var → ⊥) → ((first ts) ≡ t.History → ⊥) → ((first ts) ≡ t.Constraint → ⊥) → ((first ts) ≡ t.Drop → ⊥) → ((first ts) ≡ t.Print → ⊥) → ((first ts) ≡ t.Ask → ⊥) → (first ts ≡ t.Name → second ts ≡ t.Assign) → read ts (TheStatement ∷ stack) k ≡ Some s → read ts (TheAssign ∷ Just t.Semicolon ∷ stack) (λ v. k (Assignment v.0, v.1.1)) ≡ Some s
+statement-to-assign [] stack k s n0 n1 n2 n3 n4 n5 n6 n7 ahead h = differs h
+statement-to-assign (x ∷ ts) stack k s n0 n1 n2 n3 n4 n5 n6 n7 ahead h = sym (statement-as-assign (x ∷ ts) stack k (starts-statement-assign x.terminal (first ts) x.place x.bytes (read ts) stack k s n0 n1 n2 n3 n4 n5 n6 n7 h) ahead) ∙ h
 
 is-TheKey : (x n : Terminal) (p : Place) (b : List ℕ) (next : (st : List Symbol) → Go st → Option StatementP) (stack : List Symbol) (k : Go (TheKey ∷ stack)) (s : StatementP) → read_at x n p b next (TheKey ∷ stack) k ≡ Some s → x ≡ t.Key
 is-TheKey t.Key n p b next stack k s h = refl
@@ -209,17 +211,41 @@ must-InRel (x ∷ ts) stack k s h = is-InRel x.terminal (first ts) x.place x.byt
 pub step-InRel : (p : Place) (b : List ℕ) (old new : List Piece) (stack : List Symbol) (k : Go (InRel ∷ stack)) (s : StatementP) → p ≡ place_of old → b ≡ bytes_of old → new ≡ behind old → read old (InRel ∷ stack) k ≡ Some s → read_at t.Open (first new) p b (read new) (InRel ∷ stack) k ≡ Some s
 step-InRel p b old new stack k s hp hb hn h = at t.Open p b old new (InRel ∷ stack) k s (must-InRel old stack k s h) refl hp hb hn h
 
-is-TheVarForm : (x n : Terminal) (p : Place) (b : List ℕ) (next : (st : List Symbol) → Go st → Option StatementP) (stack : List Symbol) (k : Go (TheVarForm ∷ stack)) (s : StatementP) → (x ≡ t.Virtual → ⊥) → read_at x n p b next (TheVarForm ∷ stack) k ≡ Some s → x ≡ t.Relation
-is-TheVarForm t.Relation n p b next stack k s n0 h = refl
-is-TheVarForm t.Virtual n p b next stack k s n0 h = absurd (n0 refl)
-is-TheVarForm _ n p b next stack k s n0 h = differs h
+is-TheVarForm : (x n : Terminal) (p : Place) (b : List ℕ) (next : (st : List Symbol) → Go st → Option StatementP) (stack : List Symbol) (k : Go (TheVarForm ∷ stack)) (s : StatementP) → (x ≡ t.Virtual → ⊥) → (x ≡ t.Name → ⊥) → read_at x n p b next (TheVarForm ∷ stack) k ≡ Some s → x ≡ t.Relation
+is-TheVarForm t.Relation n p b next stack k s n0 n1 h = refl
+is-TheVarForm t.Virtual n p b next stack k s n0 n1 h = absurd (n0 refl)
+is-TheVarForm t.Name n p b next stack k s n0 n1 h = absurd (n1 refl)
+is-TheVarForm _ n p b next stack k s n0 n1 h = differs h
 
-must-TheVarForm : (ts : List Piece) (stack : List Symbol) (k : Go (TheVarForm ∷ stack)) (s : StatementP) → ((first ts) ≡ t.Virtual → ⊥) → read ts (TheVarForm ∷ stack) k ≡ Some s → first ts ≡ t.Relation
-must-TheVarForm [] stack k s n0 h = differs h
-must-TheVarForm (x ∷ ts) stack k s n0 h = is-TheVarForm x.terminal (first ts) x.place x.bytes (read ts) stack k s n0 h
+must-TheVarForm : (ts : List Piece) (stack : List Symbol) (k : Go (TheVarForm ∷ stack)) (s : StatementP) → ((first ts) ≡ t.Virtual → ⊥) → ((first ts) ≡ t.Name → ⊥) → read ts (TheVarForm ∷ stack) k ≡ Some s → first ts ≡ t.Relation
+must-TheVarForm [] stack k s n0 n1 h = differs h
+must-TheVarForm (x ∷ ts) stack k s n0 n1 h = is-TheVarForm x.terminal (first ts) x.place x.bytes (read ts) stack k s n0 n1 h
 
-pub step-TheVarForm : (p : Place) (b : List ℕ) (old new : List Piece) (stack : List Symbol) (k : Go (TheVarForm ∷ stack)) (s : StatementP) → ((first old) ≡ t.Virtual → ⊥) → p ≡ place_of old → b ≡ bytes_of old → new ≡ behind old → read old (TheVarForm ∷ stack) k ≡ Some s → read_at t.Relation (first new) p b (read new) (TheVarForm ∷ stack) k ≡ Some s
-step-TheVarForm p b old new stack k s n0 hp hb hn h = at t.Relation p b old new (TheVarForm ∷ stack) k s (must-TheVarForm old stack k s n0 h) refl hp hb hn h
+pub step-TheVarForm : (p : Place) (b : List ℕ) (old new : List Piece) (stack : List Symbol) (k : Go (TheVarForm ∷ stack)) (s : StatementP) → ((first old) ≡ t.Virtual → ⊥) → ((first old) ≡ t.Name → ⊥) → p ≡ place_of old → b ≡ bytes_of old → new ≡ behind old → read old (TheVarForm ∷ stack) k ≡ Some s → read_at t.Relation (first new) p b (read new) (TheVarForm ∷ stack) k ≡ Some s
+step-TheVarForm p b old new stack k s n0 n1 hp hb hn h = at t.Relation p b old new (TheVarForm ∷ stack) k s (must-TheVarForm old stack k s n0 n1 h) refl hp hb hn h
+
+is-InKept : (x n : Terminal) (p : Place) (b : List ℕ) (next : (st : List Symbol) → Go st → Option StatementP) (stack : List Symbol) (k : Go (InKept ∷ stack)) (s : StatementP) → read_at x n p b next (InKept ∷ stack) k ≡ Some s → x ≡ t.Open
+is-InKept t.Open n p b next stack k s h = refl
+is-InKept _ n p b next stack k s h = differs h
+
+must-InKept : (ts : List Piece) (stack : List Symbol) (k : Go (InKept ∷ stack)) (s : StatementP) → read ts (InKept ∷ stack) k ≡ Some s → first ts ≡ t.Open
+must-InKept [] stack k s h = differs h
+must-InKept (x ∷ ts) stack k s h = is-InKept x.terminal (first ts) x.place x.bytes (read ts) stack k s h
+
+pub step-InKept : (p : Place) (b : List ℕ) (old new : List Piece) (stack : List Symbol) (k : Go (InKept ∷ stack)) (s : StatementP) → p ≡ place_of old → b ≡ bytes_of old → new ≡ behind old → read old (InKept ∷ stack) k ≡ Some s → read_at t.Open (first new) p b (read new) (InKept ∷ stack) k ≡ Some s
+step-InKept p b old new stack k s hp hb hn h = at t.Open p b old new (InKept ∷ stack) k s (must-InKept old stack k s h) refl hp hb hn h
+
+is-TheKept : (x n : Terminal) (p : Place) (b : List ℕ) (next : (st : List Symbol) → Go st → Option StatementP) (stack : List Symbol) (k : Go (TheKept ∷ stack)) (s : StatementP) → (x ≡ t.Using → ⊥) → read_at x n p b next (TheKept ∷ stack) k ≡ Some s → x ≡ t.Pack
+is-TheKept t.Using n p b next stack k s n0 h = absurd (n0 refl)
+is-TheKept t.Pack n p b next stack k s n0 h = refl
+is-TheKept _ n p b next stack k s n0 h = differs h
+
+must-TheKept : (ts : List Piece) (stack : List Symbol) (k : Go (TheKept ∷ stack)) (s : StatementP) → ((first ts) ≡ t.Using → ⊥) → read ts (TheKept ∷ stack) k ≡ Some s → first ts ≡ t.Pack
+must-TheKept [] stack k s n0 h = differs h
+must-TheKept (x ∷ ts) stack k s n0 h = is-TheKept x.terminal (first ts) x.place x.bytes (read ts) stack k s n0 h
+
+pub step-TheKept : (p : Place) (b : List ℕ) (old new : List Piece) (stack : List Symbol) (k : Go (TheKept ∷ stack)) (s : StatementP) → ((first old) ≡ t.Using → ⊥) → p ≡ place_of old → b ≡ bytes_of old → new ≡ behind old → read old (TheKept ∷ stack) k ≡ Some s → read_at t.Pack (first new) p b (read new) (TheKept ∷ stack) k ≡ Some s
+step-TheKept p b old new stack k s n0 hp hb hn h = at t.Pack p b old new (TheKept ∷ stack) k s (must-TheKept old stack k s n0 h) refl hp hb hn h
 
 is-TheUsedItem : (x n : Terminal) (p : Place) (b : List ℕ) (next : (st : List Symbol) → Go st → Option StatementP) (stack : List Symbol) (k : Go (TheUsedItem ∷ stack)) (s : StatementP) → (x ≡ t.Insert → ⊥) → (x ≡ t.Delete → ⊥) → read_at x n p b next (TheUsedItem ∷ stack) k ≡ Some s → x ≡ t.Update
 is-TheUsedItem t.Insert n p b next stack k s n0 n1 h = absurd (n0 refl)
@@ -261,6 +287,75 @@ must-AfterDrop (x ∷ ts) stack k s n0 h = is-AfterDrop x.terminal (first ts) x.
 
 pub step-AfterDrop : (p : Place) (b : List ℕ) (old new : List Piece) (stack : List Symbol) (k : Go (AfterDrop ∷ stack)) (s : StatementP) → ((first old) ≡ t.Constraint → ⊥) → p ≡ place_of old → b ≡ bytes_of old → new ≡ behind old → read old (AfterDrop ∷ stack) k ≡ Some s → read_at t.Var (first new) p b (read new) (AfterDrop ∷ stack) k ≡ Some s
 step-AfterDrop p b old new stack k s n0 hp hb hn h = at t.Var p b old new (AfterDrop ∷ stack) k s (must-AfterDrop old stack k s n0 h) refl hp hb hn h
+
+is-AfterLog : (x n : Terminal) (p : Place) (b : List ℕ) (next : (st : List Symbol) → Go st → Option StatementP) (stack : List Symbol) (k : Go (AfterLog ∷ stack)) (s : StatementP) → (x ≡ t.Name → ⊥) → read_at x n p b next (AfterLog ∷ stack) k ≡ Some s → x ≡ t.Assign
+is-AfterLog t.Name n p b next stack k s n0 h = absurd (n0 refl)
+is-AfterLog t.Assign n p b next stack k s n0 h = refl
+is-AfterLog _ n p b next stack k s n0 h = differs h
+
+must-AfterLog : (ts : List Piece) (stack : List Symbol) (k : Go (AfterLog ∷ stack)) (s : StatementP) → ((first ts) ≡ t.Name → ⊥) → read ts (AfterLog ∷ stack) k ≡ Some s → first ts ≡ t.Assign
+must-AfterLog [] stack k s n0 h = differs h
+must-AfterLog (x ∷ ts) stack k s n0 h = is-AfterLog x.terminal (first ts) x.place x.bytes (read ts) stack k s n0 h
+
+pub step-AfterLog : (p : Place) (b : List ℕ) (old new : List Piece) (stack : List Symbol) (k : Go (AfterLog ∷ stack)) (s : StatementP) → ((first old) ≡ t.Name → ⊥) → p ≡ place_of old → b ≡ bytes_of old → new ≡ behind old → read old (AfterLog ∷ stack) k ≡ Some s → read_at t.Assign (first new) p b (read new) (AfterLog ∷ stack) k ≡ Some s
+step-AfterLog p b old new stack k s n0 hp hb hn h = at t.Assign p b old new (AfterLog ∷ stack) k s (must-AfterLog old stack k s n0 h) refl hp hb hn h
+
+is-AfterKept : (x n : Terminal) (p : Place) (b : List ℕ) (next : (st : List Symbol) → Go st → Option StatementP) (stack : List Symbol) (k : Go (AfterKept ∷ stack)) (s : StatementP) → infix_word_at x ≡ None → (x ≡ t.Not → ⊥) → read_at x n p b next (AfterKept ∷ stack) k ≡ Some s → x ≡ t.OpenBrace
+is-AfterKept t.Union n p b next stack k s f0 n0 h = differs-back (f0)
+is-AfterKept t.Intersect n p b next stack k s f0 n0 h = differs-back (f0)
+is-AfterKept t.Minus n p b next stack k s f0 n0 h = differs-back (f0)
+is-AfterKept t.Join n p b next stack k s f0 n0 h = differs-back (f0)
+is-AfterKept t.Matching n p b next stack k s f0 n0 h = differs-back (f0)
+is-AfterKept t.Not n p b next stack k s f0 n0 h = absurd (n0 refl)
+is-AfterKept t.OpenBrace n p b next stack k s f0 n0 h = refl
+is-AfterKept _ n p b next stack k s f0 n0 h = differs h
+
+must-AfterKept : (ts : List Piece) (stack : List Symbol) (k : Go (AfterKept ∷ stack)) (s : StatementP) → infix_word_at (first ts) ≡ None → ((first ts) ≡ t.Not → ⊥) → read ts (AfterKept ∷ stack) k ≡ Some s → first ts ≡ t.OpenBrace
+must-AfterKept [] stack k s f0 n0 h = differs h
+must-AfterKept (x ∷ ts) stack k s f0 n0 h = is-AfterKept x.terminal (first ts) x.place x.bytes (read ts) stack k s f0 n0 h
+
+pub step-AfterKept : (p : Place) (b : List ℕ) (old new : List Piece) (stack : List Symbol) (k : Go (AfterKept ∷ stack)) (s : StatementP) → infix_word_at (first old) ≡ None → ((first old) ≡ t.Not → ⊥) → p ≡ place_of old → b ≡ bytes_of old → new ≡ behind old → read old (AfterKept ∷ stack) k ≡ Some s → read_at t.OpenBrace (first new) p b (read new) (AfterKept ∷ stack) k ≡ Some s
+step-AfterKept p b old new stack k s f0 n0 hp hb hn h = at t.OpenBrace p b old new (AfterKept ∷ stack) k s (must-AfterKept old stack k s f0 n0 h) refl hp hb hn h
+
+pub row-AfterKept-infix_word : (w : InfixWord) (n : Terminal) (p : Place) (b : List ℕ) (next : (st : List Symbol) → Go st → Option StatementP) (stack : List Symbol) (k : Go (AfterKept ∷ stack)) (s : StatementP) → read_at (infix_word w) n p b next (AfterKept ∷ stack) k ≡ Some s → next (TheName ∷ stack) (λ v. k ((λ q a l. KeptInfix q a l p w v.0), v.1)) ≡ Some s
+row-AfterKept-infix_word infixes.Union n p b next stack k s h = h
+row-AfterKept-infix_word infixes.Intersect n p b next stack k s h = h
+row-AfterKept-infix_word infixes.Minus n p b next stack k s h = h
+row-AfterKept-infix_word infixes.Join n p b next stack k s h = h
+row-AfterKept-infix_word infixes.Matching n p b next stack k s h = h
+
+is-sign : (x n : Terminal) (p : Place) (b : List ℕ) (next : (st : List Symbol) → Go st → Option StatementP) (stack : List Symbol) (k : Go (Just t.Assign ∷ stack)) (s : StatementP) → read_at x n p b next (Just t.Assign ∷ stack) k ≡ Some s → x ≡ t.Assign
+is-sign t.Assign n p b next stack k s h = refl
+is-sign _ n p b next stack k s h = differs h
+
+must-sign : (ts : List Piece) (stack : List Symbol) (k : Go (Just t.Assign ∷ stack)) (s : StatementP) → read ts (Just t.Assign ∷ stack) k ≡ Some s → first ts ≡ t.Assign
+must-sign [] stack k s h = differs h
+must-sign (x ∷ ts) stack k s h = is-sign x.terminal (first ts) x.place x.bytes (read ts) stack k s h
+
+name-sign : t.Name ≡ t.Assign → ⊥
+name-sign e = cc
+
+named-sign : (c : Bool) (p : Place) (b : List ℕ) (ts : List Piece) (stack : List Symbol) (beyond : Go stack → Option StatementP) (k : Go (TheStatement ∷ stack)) (s : StatementP) → (first ts ≡ t.Name → ⊥) → on_turn TheStatement (cond c (Takes Plain (AfterLog ∷ [])) (Takes Plain (Just t.Assign ∷ TheRel ∷ MoreItems ∷ Just t.Semicolon ∷ []))) (pick TheStatement c (Takes Plain (AfterLog ∷ [])) (Takes Plain (Just t.Assign ∷ TheRel ∷ MoreItems ∷ Just t.Semicolon ∷ [])) (λ v. v.0 p) (λ v. Assignment (Assign (SetRelvar (word p b) v.1.0) v.1.1.0))) stack (read ts) beyond k ≡ Some s → first ts ≡ t.Assign
+named-sign true p b ts stack beyond k s n0 h = must-AfterLog ts stack _ s n0 h
+named-sign false p b ts stack beyond k s n0 h = must-sign ts _ _ s h
+
+named-log : (c : Bool) (p : Place) (b : List ℕ) (ts : List Piece) (stack : List Symbol) (beyond : Go stack → Option StatementP) (k : Go (TheStatement ∷ stack)) (s : StatementP) → first ts ≡ t.Name → on_turn TheStatement (cond c (Takes Plain (AfterLog ∷ [])) (Takes Plain (Just t.Assign ∷ TheRel ∷ MoreItems ∷ Just t.Semicolon ∷ []))) (pick TheStatement c (Takes Plain (AfterLog ∷ [])) (Takes Plain (Just t.Assign ∷ TheRel ∷ MoreItems ∷ Just t.Semicolon ∷ [])) (λ v. v.0 p) (λ v. Assignment (Assign (SetRelvar (word p b) v.1.0) v.1.1.0))) stack (read ts) beyond k ≡ Some s → read ts (AfterLog ∷ stack) (λ v. k (v.0 p, v.1)) ≡ Some s
+named-log true p b ts stack beyond k s is h = h
+named-log false p b ts stack beyond k s is h = absurd (name-sign (sym is ∙ must-sign ts _ _ s h))
+
+pub sign-behind : (ts : List Piece) (stack : List Symbol) (k : Go (TheStatement ∷ stack)) (s : StatementP) → first ts ≡ t.Name → (second ts ≡ t.Name → ⊥) → read ts (TheStatement ∷ stack) k ≡ Some s → second ts ≡ t.Assign
+sign-behind [] stack k s is n0 h = differs h
+sign-behind (x ∷ ts) stack k s is n0 h = named-sign (same_bytes log_word x.bytes) x.place x.bytes ts stack (read_at t.Name (first ts) x.place x.bytes (read ts) stack) k s n0 (sym (ap (λ z. read_at z (first ts) x.place x.bytes (read ts) (TheStatement ∷ stack) k) is) ∙ h)
+
+pub log-begins : (p : Place) (old new : List Piece) (stack : List Symbol) (k : Go (TheStatement ∷ stack)) (s : StatementP) → first old ≡ t.Name → first new ≡ t.Name → p ≡ place_of old → new ≡ behind old → read old (TheStatement ∷ stack) k ≡ Some s → read new (AfterLog ∷ stack) (λ v. k (v.0 p, v.1)) ≡ Some s
+log-begins p old new stack k s is name hp hn h = named-log (same_bytes log_word (bytes_of old)) p (bytes_of old) new stack (read_at t.Name (first new) p (bytes_of old) (read new) stack) k s name (at t.Name p (bytes_of old) old new (TheStatement ∷ stack) k s is refl hp refl hn h)
+
+kept-taken : (c : Bool) (p : Place) (stack : List Symbol) (next : (st : List Symbol) → Go st → Option StatementP) (beyond : Go stack → Option StatementP) (k : Go (TheVarForm ∷ stack)) (s : StatementP) → on_turn TheVarForm (cond c (Takes Plain (InKept ∷ [])) Never) (pick TheVarForm c (Takes Plain (InKept ∷ [])) Never (λ v. Kept p v.0) tt) stack next beyond k ≡ Some s → next (InKept ∷ stack) (λ v. k (Kept p v.0, v.1)) ≡ Some s
+kept-taken true p stack next beyond k s h = h
+kept-taken false p stack next beyond k s h = differs h
+
+pub kept-begins : (p : Place) (old new : List Piece) (stack : List Symbol) (k : Go (TheVarForm ∷ stack)) (s : StatementP) → first old ≡ t.Name → p ≡ place_of old → new ≡ behind old → read old (TheVarForm ∷ stack) k ≡ Some s → read new (InKept ∷ stack) (λ v. k (Kept p v.0, v.1)) ≡ Some s
+kept-begins p old new stack k s is hp hn h = kept-taken (same_bytes kept_word (bytes_of old)) p stack (read new) (read_at t.Name (first new) p (bytes_of old) (read new) stack) k s (at t.Name p (bytes_of old) old new (TheVarForm ∷ stack) k s is refl hp refl hn h)
 
 pub more-emptiness : (w : EmptinessWord) → same (emptiness w) t.Finish ≡ false
 more-emptiness emptinesses.IsEmpty = refl

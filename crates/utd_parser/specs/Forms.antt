@@ -2,7 +2,7 @@
 -- The forms of the parser as those of the table.
 use Rattle.std.specs.Prelude.{ℕ, List, [], ◌∷◌}
 use Rattle.utd_syntax.specs.Table as table
-use Rattle.utd_syntax.specs.Written.{ordinal_word, since_word, during_word, over_word, at_word, log_word, of_word}
+use Rattle.utd_syntax.specs.Written.{ordinal_word, since_word, during_word, over_word, at_word, log_word, of_word, kept_word}
 use Rattle.utd_parser.specs.declared.form.PlaceWord.{PlaceWord}
 use Rattle.utd_parser.specs.declared.form.PlaceWord.TheVariants as words
 use Rattle.utd_parser.specs.declared.form.Form.{Form}
@@ -23,6 +23,7 @@ spelled_as words.Over = over_word
 spelled_as words.At = at_word
 spelled_as words.Log = log_word
 spelled_as words.Of = of_word
+spelled_as words.Kept = kept_word
 
 abbrev pub form_of : Form → table.Symbol
 form_of forms.TheName = table.TheName
@@ -106,6 +107,9 @@ form_of forms.TheUsedConstraint = table.TheUsedConstraint
 form_of forms.TheConstraint = table.TheConstraint
 form_of forms.MoreConstraints = table.MoreConstraints
 form_of forms.InRel = table.InRel
+form_of forms.TheKept = table.TheKept
+form_of forms.AfterKept = table.AfterKept
+form_of forms.InKept = table.InKept
 form_of forms.TheVarForm = table.TheVarForm
 form_of forms.TheComparison = table.TheComparison
 form_of forms.AfterLeft = table.AfterLeft

@@ -12,6 +12,7 @@ pub enum PlaceWord {
     At,
     Log,
     Of,
+    Kept,
 }
 
 /// A form that may stand at a place, or the rest of one that has begun; a fixed token; a word that is reserved there.
@@ -98,6 +99,9 @@ pub enum Form {
     TheConstraint,
     MoreConstraints,
     InRel,
+    TheKept,
+    AfterKept,
+    InKept,
     TheVarForm,
     TheComparison,
     AfterLeft,

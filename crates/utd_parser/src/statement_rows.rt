@@ -124,13 +124,56 @@ pub static IN_REL: [Row; 1] = [Row::On(
     &[],
 )];
 
-pub static THE_VAR_FORM: [Row; 2] = [
+pub static THE_KEPT: [Row; 2] = [
+    Row::On(
+        Terminal::Using,
+        Taking::Opens(&[
+            Form::TheList,
+            Form::Just(Terminal::Colon),
+            Form::TheName,
+            Form::AfterKept,
+        ]),
+        &[],
+    ),
+    Row::On(
+        Terminal::Pack,
+        Taking::Opens(&[Form::TheName, Form::Just(Terminal::On), Form::TheList]),
+        &[],
+    ),
+];
+
+pub static AFTER_KEPT: [Row; 7] = [
+    Row::On(Terminal::Union, Taking::Operator, &[Form::TheName]),
+    Row::On(Terminal::Intersect, Taking::Operator, &[Form::TheName]),
+    Row::On(Terminal::Minus, Taking::Operator, &[Form::TheName]),
+    Row::On(Terminal::Join, Taking::Operator, &[Form::TheName]),
+    Row::On(Terminal::Matching, Taking::Operator, &[Form::TheName]),
+    Row::On(
+        Terminal::Not,
+        Taking::Operator,
+        &[Form::Just(Terminal::Matching), Form::TheName],
+    ),
+    Row::On(
+        Terminal::OpenBrace,
+        Taking::Opens(&[Form::InProjection]),
+        &[],
+    ),
+];
+
+pub static IN_KEPT: [Row; 1] = [Row::On(
+    Terminal::Open,
+    Taking::Opens(&[Form::TheKept, Form::Just(Terminal::Close)]),
+    &[],
+)];
+
+pub static THE_VAR_FORM: [Row; 3] = [
     Row::On(
         Terminal::Relation,
         Taking::Plain,
         &[Form::TheHeading, Form::MoreConstraints],
     ),
     Row::On(Terminal::Virtual, Taking::Plain, &[Form::InRel]),
+    Row::Spelt(PlaceWord::Kept, &[Form::InKept]),
 ];
 
 pub static THE_COMPARISON: [Row; 5] = [

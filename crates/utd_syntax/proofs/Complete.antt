@@ -7,9 +7,9 @@ use Rattle.utd_syntax.specs.declared.words.PackWord.TheVariants as pack_words
 use Rattle.utd_syntax.specs.declared.words.RelationComparison.TheVariants as relation_comparisons
 use Rattle.utd_syntax.specs.declared.words.EmptinessWord.TheVariants as emptinesses
 use Rattle.utd_syntax.specs.Pieces.{Piece, first}
-use Rattle.utd_syntax.specs.Plain.{RelP, TermsP, TermP, RelPrimaryP, OperandP, ExtendP, SummarizeP, UsingP, UsingPartP, KeyP, ForeignP, UsedConstraintP, ConstraintP, VarFormP, ComparisonP, TestP, UsedDeletionP, UsedItemP, DeletionP, ItemP, AssignP, StatementP, Onto, AllBut, OfUsing, OfTerms, OneTerm, Infix, NotMatching, OneRelPrimary, Project, Filter, Rename, OfExtend, OfSummarize, OfOperand, Relvar, OfLiteral, ParenRel, PackOn, Extend, Summarize, Using, UsingExtend, UsingSummarize, UsingInfix, UsingNotMatching, UsingProject, UsingFilter, Key, Foreign, UsedKey, UsedForeign, KeyOf, ForeignOf, PackedOn, WhenUnpacked, UsingConstraint, BaseRelvar, View, Comparison, UsingTest, Emptiness, OfComparison, UsedDeleteWhere, UsedDeleteRows, UsedInsert, UsedDelete, UsedUpdate, DeleteWhere, DeletePortion, DeleteRows, SetRelvar, Insert, Delete, Update, Terminate, UsingItem, Assign, Nothing, DeclareOrdinal, DeclareRelvar, DeclareHistory, DeclareLog, DeclareRule, Drop, DropRule, Print, Ask, Assignment}
-use Rattle.utd_syntax.specs.Written.{fixed, at, spelled, worded, Spells, token, placed, lexeme, word_of, contextual, ordinal_word, since_word, during_word, over_word, at_word, log_word, of_word, of_point, of_scalar, of_heading, of_more_words, of_names, of_list, of_some_names, of_paren_name, of_sets, of_aggregates, of_renamings, of_portion, of_maybe_portion, of_condition, of_projection, of_rel, of_terms, of_term, of_rel_primary, of_operand, of_extend, of_summarize, of_using, of_using_part, of_key, of_foreign, of_used_constraint, of_constraint, of_constraints, of_var_form, of_comparison, of_test, of_used_deletion, of_used_item, of_deletion, of_item, of_more_items, of_assign, of_statement}
-use Rattle.utd_syntax.specs.Table.{Symbol, MoreOr, MaybePortion, TheOperand, TheExtend, TheSummarize, TheRelPrimary, TheTerm, MorePostfix, TheTerms, MoreInfix, TheUsing, TheRel, TheUsingPart, TheKey, TheForeign, TheUsedConstraint, TheConstraint, MoreConstraints, TheVarForm, TheComparison, TheTest, TheUsedDeletion, TheUsedItem, TheDeletion, TheItem, MoreItems, TheAssign, TheStatement}
+use Rattle.utd_syntax.specs.Plain.{RelP, TermsP, TermP, RelPrimaryP, OperandP, ExtendP, SummarizeP, UsingP, UsingPartP, KeyP, ForeignP, UsedConstraintP, ConstraintP, KeptP, VarFormP, ComparisonP, TestP, UsedDeletionP, UsedItemP, DeletionP, ItemP, AssignP, StatementP, Onto, AllBut, OfUsing, OfTerms, OneTerm, Infix, NotMatching, OneRelPrimary, Project, Filter, Rename, OfExtend, OfSummarize, OfOperand, Relvar, OfLiteral, ParenRel, PackOn, Extend, Summarize, Using, UsingExtend, UsingSummarize, UsingInfix, UsingNotMatching, UsingProject, UsingFilter, Key, Foreign, UsedKey, UsedForeign, KeyOf, ForeignOf, PackedOn, WhenUnpacked, UsingConstraint, KeptInfix, KeptNotMatching, KeptProject, KeptPack, BaseRelvar, View, Kept, Comparison, UsingTest, Emptiness, OfComparison, UsedDeleteWhere, UsedDeleteRows, UsedInsert, UsedDelete, UsedUpdate, DeleteWhere, DeletePortion, DeleteRows, SetRelvar, Insert, Delete, Update, Terminate, UsingItem, Assign, Nothing, DeclareOrdinal, DeclareRelvar, DeclareHistory, DeclareLog, DeclareRule, Drop, DropRule, Print, Ask, Assignment}
+use Rattle.utd_syntax.specs.Written.{fixed, at, spelled, worded, Spells, token, placed, lexeme, word_of, contextual, ordinal_word, since_word, during_word, over_word, at_word, log_word, of_word, kept_word, of_point, of_scalar, of_heading, of_more_words, of_names, of_list, of_some_names, of_paren_name, of_sets, of_aggregates, of_renamings, of_portion, of_maybe_portion, of_condition, of_projection, of_rel, of_terms, of_term, of_rel_primary, of_operand, of_extend, of_summarize, of_using, of_using_part, of_key, of_foreign, of_used_constraint, of_constraint, of_constraints, of_kept, of_var_form, of_comparison, of_test, of_used_deletion, of_used_item, of_deletion, of_item, of_more_items, of_assign, of_statement}
+use Rattle.utd_syntax.specs.Table.{Symbol, MoreOr, MaybePortion, TheOperand, TheExtend, TheSummarize, TheRelPrimary, TheTerm, MorePostfix, TheTerms, MoreInfix, TheUsing, TheRel, TheUsingPart, TheKey, TheForeign, TheUsedConstraint, TheConstraint, MoreConstraints, TheKept, TheVarForm, TheComparison, TheTest, TheUsedDeletion, TheUsedItem, TheDeletion, TheItem, MoreItems, TheAssign, TheStatement}
 use Rattle.utd_syntax.proofs.Reader.{Go, read}
 use Rattle.utd_syntax.proofs.Marks.{one, last, two, done, seen, begins}
 use Rattle.utd_syntax.proofs.FormEnds.{along, Halts, Calm18, Calm5, Calm6, Calm16, Calm17, Calm19, Calm20, MoreOr-end, MorePostfix-end, MoreInfix-end, MoreConstraints-end, MoreItems-end}
@@ -222,6 +222,84 @@ constraints-reads (x ∷ xs) ts rest sp calm stack go =
     let x0 = two (of_constraint x) (of_constraints xs) ts rest sp in
     constraints-as-constraint ts stack go (constraint-first x ts x0.mid x0.before) ∙ constraint-reads x ts x0.mid x0.before _ _ ∙ constraints-reads xs x0.mid rest x0.after calm stack _
 
+pub kept-reads : (x : KeptP) (ts rest : List Piece) → Spells (of_kept x) ts rest → (stack : List Symbol) (k : Go (TheKept ∷ stack)) → read ts (TheKept ∷ stack) k ≡ read rest stack (λ v. k (x, v))
+kept-reads (KeptInfix p a l q infixes.Union r) ts rest sp stack go =
+    let x0 = one (at t.Using p) (of_list a ++ token t.Colon ++ word_of l ++ placed t.Union q ++ word_of r) ts rest sp in
+    let x1 = last (of_list a ++ token t.Colon ++ word_of l ++ placed t.Union q) (spelled t.Name r.place r.bytes) x0.left rest x0.spells in
+    let x2 = last (of_list a ++ token t.Colon ++ word_of l) (at t.Union q) x0.left _ x1.spells in
+    let x3 = last (of_list a ++ token t.Colon) (spelled t.Name l.place l.bytes) x0.left _ x2.spells in
+    let x4 = last (of_list a) (fixed t.Colon) x0.left _ x3.spells in
+    along ts _ _ _ (x0.is) ∙ list-reads a x0.left _ x4.spells _ _
+kept-reads (KeptInfix p a l q infixes.Intersect r) ts rest sp stack go =
+    let x0 = one (at t.Using p) (of_list a ++ token t.Colon ++ word_of l ++ placed t.Intersect q ++ word_of r) ts rest sp in
+    let x1 = last (of_list a ++ token t.Colon ++ word_of l ++ placed t.Intersect q) (spelled t.Name r.place r.bytes) x0.left rest x0.spells in
+    let x2 = last (of_list a ++ token t.Colon ++ word_of l) (at t.Intersect q) x0.left _ x1.spells in
+    let x3 = last (of_list a ++ token t.Colon) (spelled t.Name l.place l.bytes) x0.left _ x2.spells in
+    let x4 = last (of_list a) (fixed t.Colon) x0.left _ x3.spells in
+    along ts _ _ _ (x0.is) ∙ list-reads a x0.left _ x4.spells _ _
+kept-reads (KeptInfix p a l q infixes.Minus r) ts rest sp stack go =
+    let x0 = one (at t.Using p) (of_list a ++ token t.Colon ++ word_of l ++ placed t.Minus q ++ word_of r) ts rest sp in
+    let x1 = last (of_list a ++ token t.Colon ++ word_of l ++ placed t.Minus q) (spelled t.Name r.place r.bytes) x0.left rest x0.spells in
+    let x2 = last (of_list a ++ token t.Colon ++ word_of l) (at t.Minus q) x0.left _ x1.spells in
+    let x3 = last (of_list a ++ token t.Colon) (spelled t.Name l.place l.bytes) x0.left _ x2.spells in
+    let x4 = last (of_list a) (fixed t.Colon) x0.left _ x3.spells in
+    along ts _ _ _ (x0.is) ∙ list-reads a x0.left _ x4.spells _ _
+kept-reads (KeptInfix p a l q infixes.Join r) ts rest sp stack go =
+    let x0 = one (at t.Using p) (of_list a ++ token t.Colon ++ word_of l ++ placed t.Join q ++ word_of r) ts rest sp in
+    let x1 = last (of_list a ++ token t.Colon ++ word_of l ++ placed t.Join q) (spelled t.Name r.place r.bytes) x0.left rest x0.spells in
+    let x2 = last (of_list a ++ token t.Colon ++ word_of l) (at t.Join q) x0.left _ x1.spells in
+    let x3 = last (of_list a ++ token t.Colon) (spelled t.Name l.place l.bytes) x0.left _ x2.spells in
+    let x4 = last (of_list a) (fixed t.Colon) x0.left _ x3.spells in
+    along ts _ _ _ (x0.is) ∙ list-reads a x0.left _ x4.spells _ _
+kept-reads (KeptInfix p a l q infixes.Matching r) ts rest sp stack go =
+    let x0 = one (at t.Using p) (of_list a ++ token t.Colon ++ word_of l ++ placed t.Matching q ++ word_of r) ts rest sp in
+    let x1 = last (of_list a ++ token t.Colon ++ word_of l ++ placed t.Matching q) (spelled t.Name r.place r.bytes) x0.left rest x0.spells in
+    let x2 = last (of_list a ++ token t.Colon ++ word_of l) (at t.Matching q) x0.left _ x1.spells in
+    let x3 = last (of_list a ++ token t.Colon) (spelled t.Name l.place l.bytes) x0.left _ x2.spells in
+    let x4 = last (of_list a) (fixed t.Colon) x0.left _ x3.spells in
+    along ts _ _ _ (x0.is) ∙ list-reads a x0.left _ x4.spells _ _
+kept-reads (KeptNotMatching p a l q r) ts rest sp stack go =
+    let x0 = one (at t.Using p) (of_list a ++ token t.Colon ++ word_of l ++ placed t.Not q ++ token t.Matching ++ word_of r) ts rest sp in
+    let x1 = last (of_list a ++ token t.Colon ++ word_of l ++ placed t.Not q ++ token t.Matching) (spelled t.Name r.place r.bytes) x0.left rest x0.spells in
+    let x2 = last (of_list a ++ token t.Colon ++ word_of l ++ placed t.Not q) (fixed t.Matching) x0.left _ x1.spells in
+    let x3 = last (of_list a ++ token t.Colon ++ word_of l) (at t.Not q) x0.left _ x2.spells in
+    let x4 = last (of_list a ++ token t.Colon) (spelled t.Name l.place l.bytes) x0.left _ x3.spells in
+    let x5 = last (of_list a) (fixed t.Colon) x0.left _ x4.spells in
+    along ts _ _ _ (x0.is) ∙ list-reads a x0.left _ x5.spells _ _
+kept-reads (KeptProject p a l (Onto p1 [])) ts rest sp stack go =
+    let x0 = one (at t.Using p) (of_list a ++ token t.Colon ++ word_of l ++ of_projection (Onto p1 [])) ts rest sp in
+    let x1 = two (of_list a ++ token t.Colon ++ word_of l) (of_projection (Onto p1 [])) x0.left rest x0.spells in
+    let x2 = last (of_list a ++ token t.Colon) (spelled t.Name l.place l.bytes) x0.left x1.mid x1.before in
+    let x3 = last (of_list a) (fixed t.Colon) x0.left _ x2.spells in
+    let x4 = one (at t.OpenBrace p1) (token t.CloseBrace) x1.mid rest x1.after in
+    let x5 = one (fixed t.CloseBrace) ([]) x4.left rest x4.spells in
+    along ts _ _ _ (x0.is) ∙ list-reads a x0.left _ x3.spells _ _ ∙ along x1.mid _ _ _ (x4.is ∙ ap (λ z. seen (at t.OpenBrace p1) x4.place x4.bytes ∷ z) (x5.is ∙ ap (λ z. seen (fixed t.CloseBrace) x5.place x5.bytes ∷ z) (done x5.left rest x5.spells)))
+kept-reads (KeptProject p a l (Onto p1 (n3 ∷ xs4))) ts rest sp stack go =
+    let x0 = one (at t.Using p) (of_list a ++ token t.Colon ++ word_of l ++ of_projection (Onto p1 (n3 ∷ xs4))) ts rest sp in
+    let x1 = two (of_list a ++ token t.Colon ++ word_of l) (of_projection (Onto p1 (n3 ∷ xs4))) x0.left rest x0.spells in
+    let x2 = last (of_list a ++ token t.Colon) (spelled t.Name l.place l.bytes) x0.left x1.mid x1.before in
+    let x3 = last (of_list a) (fixed t.Colon) x0.left _ x2.spells in
+    let x4 = one (at t.OpenBrace p1) (word_of n3 ++ of_more_words xs4 ++ token t.CloseBrace) x1.mid rest x1.after in
+    let x5 = one (spelled t.Name n3.place n3.bytes) (of_more_words xs4 ++ token t.CloseBrace) x4.left rest x4.spells in
+    let x6 = last (of_more_words xs4) (fixed t.CloseBrace) x5.left rest x5.spells in
+    along ts _ _ _ (x0.is) ∙ list-reads a x0.left _ x3.spells _ _ ∙ along x1.mid _ _ _ (x4.is ∙ ap (λ z. seen (at t.OpenBrace p1) x4.place x4.bytes ∷ z) (x5.is)) ∙ more_words-reads xs4 x5.left _ x6.spells refl _ _
+kept-reads (KeptProject p a l (AllBut p5 n6 ns7)) ts rest sp stack go =
+    let x0 = one (at t.Using p) (of_list a ++ token t.Colon ++ word_of l ++ of_projection (AllBut p5 n6 ns7)) ts rest sp in
+    let x1 = two (of_list a ++ token t.Colon ++ word_of l) (of_projection (AllBut p5 n6 ns7)) x0.left rest x0.spells in
+    let x2 = last (of_list a ++ token t.Colon) (spelled t.Name l.place l.bytes) x0.left x1.mid x1.before in
+    let x3 = last (of_list a) (fixed t.Colon) x0.left _ x2.spells in
+    let x4 = one (at t.OpenBrace p5) (token t.All ++ token t.But ++ word_of n6 ++ of_more_words ns7 ++ token t.CloseBrace) x1.mid rest x1.after in
+    let x5 = one (fixed t.All) (token t.But ++ word_of n6 ++ of_more_words ns7 ++ token t.CloseBrace) x4.left rest x4.spells in
+    let x6 = one (fixed t.But) (word_of n6 ++ of_more_words ns7 ++ token t.CloseBrace) x5.left rest x5.spells in
+    let x7 = one (spelled t.Name n6.place n6.bytes) (of_more_words ns7 ++ token t.CloseBrace) x6.left rest x6.spells in
+    let x8 = last (of_more_words ns7) (fixed t.CloseBrace) x7.left rest x7.spells in
+    along ts _ _ _ (x0.is) ∙ list-reads a x0.left _ x3.spells _ _ ∙ along x1.mid _ _ _ (x4.is ∙ ap (λ z. seen (at t.OpenBrace p5) x4.place x4.bytes ∷ z) (x5.is ∙ ap (λ z. seen (fixed t.All) x5.place x5.bytes ∷ z) (x6.is ∙ ap (λ z. seen (fixed t.But) x6.place x6.bytes ∷ z) (x7.is)))) ∙ more_words-reads ns7 x7.left _ x8.spells refl _ _
+kept-reads (KeptPack p n a) ts rest sp stack go =
+    let x0 = one (at t.Pack p) (word_of n ++ token t.On ++ of_list a) ts rest sp in
+    let x1 = one (spelled t.Name n.place n.bytes) (token t.On ++ of_list a) x0.left rest x0.spells in
+    let x2 = one (fixed t.On) (of_list a) x1.left rest x1.spells in
+    along ts _ _ _ (x0.is ∙ ap (λ z. seen (at t.Pack p) x0.place x0.bytes ∷ z) (x1.is ∙ ap (λ z. seen (spelled t.Name n.place n.bytes) x1.place x1.bytes ∷ z) (x2.is))) ∙ list-reads a x2.left rest x2.spells stack _
+
 pub var_form-reads : (x : VarFormP) (ts rest : List Piece) → Spells (of_var_form x) ts rest → Calm18 (first rest) → (stack : List Symbol) (k : Go (TheVarForm ∷ stack)) → read ts (TheVarForm ∷ stack) k ≡ read rest stack (λ v. k (x, v))
 var_form-reads (BaseRelvar p h cs) ts rest sp calm stack go =
     let x0 = one (at t.Relation p) (of_heading h ++ of_constraints cs) ts rest sp in
@@ -232,6 +310,11 @@ var_form-reads (View p r) ts rest sp calm stack go =
     let x1 = one (fixed t.Open) (of_rel r ++ token t.Close) x0.left rest x0.spells in
     let x2 = last (of_rel r) (fixed t.Close) x1.left rest x1.spells in
     along ts _ _ _ (x0.is ∙ ap (λ z. seen (at t.Virtual p) x0.place x0.bytes ∷ z) (x1.is)) ∙ rel-reads r x1.left _ x2.spells (refl, (refl, (refl, (refl, (refl, (refl, (refl, refl))))))) _ _
+var_form-reads (Kept p k) ts rest sp calm stack go =
+    let x0 = one (spelled t.Name p kept_word) (token t.Open ++ of_kept k ++ token t.Close) ts rest sp in
+    let x1 = one (fixed t.Open) (of_kept k ++ token t.Close) x0.left rest x0.spells in
+    let x2 = last (of_kept k) (fixed t.Close) x1.left rest x1.spells in
+    along ts _ _ _ (x0.is ∙ ap (λ z. seen (spelled t.Name p kept_word) x0.place x0.bytes ∷ z) (x1.is)) ∙ kept-reads k x1.left _ x2.spells _ _
 
 pub comparison-reads : (x : ComparisonP) (ts rest : List Piece) → Spells (of_comparison x) ts rest → (stack : List Symbol) (k : Go (TheComparison ∷ stack)) → read ts (TheComparison ∷ stack) k ≡ read rest stack (λ v. k (x, v))
 comparison-reads (Comparison l p relation_comparisons.Equal r) ts rest sp stack go =

@@ -7,7 +7,7 @@ use Rattle.point_core.specs.declared.fault.Place.{Place}
 use Rattle.utd_syntax.specs.Pieces.{Piece, first, place_of}
 use Rattle.utd_syntax.specs.Plain.{StatementP}
 use Rattle.utd_syntax.specs.Terminals.{spelling, is_token, AreTokens}
-use Rattle.utd_syntax.specs.Table.{Load, Symbol, TheName, Comma, DateText, MomentText, NegativeDigits, ThePrimary, AfterName, AfterScalar, EndOfSelector, InParens, InPair, InPoint, TheSign, TheProd, MoreProd, TheSum, MoreSum, TheCmp, MoreCmp, TheNeg, TheConj, MoreAnd, TheScalar, MoreOr, ThePoint, TheKind, TheAttribute, MoreAttributes, InHeading, TheHeading, MoreNames, InNames, InList, TheNames, TheList, TheSomeNames, TheParenName, TheElement, MoreElements, InElements, TheElements, TheSomeElements, TheTuple, MoreTuples, InTuples, TheTuples, TheLiteral, AfterRelation, TheSetItem, MoreSetItems, TheSets, EmptyParens, TheAggregateForm, TheAggregate, MoreAggregates, TheAggregates, TheRenaming, MoreRenamings, TheRenamings, ThePortion, MaybePortion, MaybeWhere, InProjection, TheOperand, TheExtend, TheSummarize, TheRelPrimary, TheTerm, MorePostfix, TheTerms, MoreInfix, TheUsing, TheRel, TheUsingPart, AfterOperand, TheKey, TheForeign, TheUsedConstraint, TheConstraint, MoreConstraints, InRel, TheVarForm, TheComparison, AfterLeft, TheTest, TheUsedDeletion, TheUsedItem, TheDeletion, TheItem, MoreItems, TheAssign, TheStatement, AfterDrop, AfterLog, Just, Worded, Shut, Plain, Never, Takes, same, same_bytes}
+use Rattle.utd_syntax.specs.Table.{Load, Symbol, TheName, Comma, DateText, MomentText, NegativeDigits, ThePrimary, AfterName, AfterScalar, EndOfSelector, InParens, InPair, InPoint, TheSign, TheProd, MoreProd, TheSum, MoreSum, TheCmp, MoreCmp, TheNeg, TheConj, MoreAnd, TheScalar, MoreOr, ThePoint, TheKind, TheAttribute, MoreAttributes, InHeading, TheHeading, MoreNames, InNames, InList, TheNames, TheList, TheSomeNames, TheParenName, TheElement, MoreElements, InElements, TheElements, TheSomeElements, TheTuple, MoreTuples, InTuples, TheTuples, TheLiteral, AfterRelation, TheSetItem, MoreSetItems, TheSets, EmptyParens, TheAggregateForm, TheAggregate, MoreAggregates, TheAggregates, TheRenaming, MoreRenamings, TheRenamings, ThePortion, MaybePortion, MaybeWhere, InProjection, TheOperand, TheExtend, TheSummarize, TheRelPrimary, TheTerm, MorePostfix, TheTerms, MoreInfix, TheUsing, TheRel, TheUsingPart, AfterOperand, TheKey, TheForeign, TheUsedConstraint, TheConstraint, MoreConstraints, InRel, TheKept, AfterKept, InKept, TheVarForm, TheComparison, AfterLeft, TheTest, TheUsedDeletion, TheUsedItem, TheDeletion, TheItem, MoreItems, TheAssign, TheStatement, AfterDrop, AfterLog, Just, Worded, Shut, Plain, Never, Takes, same, same_bytes}
 use Rattle.utd_syntax.proofs.FormValues.{Val, Vals}
 use Rattle.utd_syntax.proofs.Reader.{Go, pick, split, on_turn, read_at, read}
 use Rattle.utd_syntax.proofs.FormEnds.{Halts, Calm2, Calm3, Calm4, Calm5, Calm6, Calm9, Calm11, Calm15, Calm16, Calm17, Calm19, Calm20, AfterName-end, MoreProd-end, MoreSum-end, MoreCmp-end, MoreAnd-end, MoreOr-end, MoreAttributes-end, MoreNames-end, MoreElements-end, MoreTuples-end, MoreSetItems-end, MoreAggregates-end, MoreRenamings-end, MaybePortion-end, MaybeWhere-end, MorePostfix-end, MoreInfix-end, MoreConstraints-end, MoreItems-end}
@@ -96,6 +96,9 @@ ending TheUsedConstraint = (t.Key, spelling t.Key) ∷ (t.OpenBrace, spelling t.
 ending TheConstraint = (t.Key, spelling t.Key) ∷ (t.OpenBrace, spelling t.OpenBrace) ∷ (t.CloseBrace, spelling t.CloseBrace) ∷ []
 ending MoreConstraints = []
 ending InRel = (t.Open, spelling t.Open) ∷ (t.Name, spelling t.Name) ∷ (t.Close, spelling t.Close) ∷ []
+ending TheKept = (t.Pack, spelling t.Pack) ∷ (t.Name, spelling t.Name) ∷ (t.On, spelling t.On) ∷ (t.Open, spelling t.Open) ∷ (t.Close, spelling t.Close) ∷ []
+ending AfterKept = (t.Union, spelling t.Union) ∷ (t.Name, spelling t.Name) ∷ []
+ending InKept = (t.Open, spelling t.Open) ∷ (t.Pack, spelling t.Pack) ∷ (t.Name, spelling t.Name) ∷ (t.On, spelling t.On) ∷ (t.Open, spelling t.Open) ∷ (t.Close, spelling t.Close) ∷ (t.Close, spelling t.Close) ∷ []
 ending TheVarForm = (t.Relation, spelling t.Relation) ∷ (t.OpenBrace, spelling t.OpenBrace) ∷ (t.CloseBrace, spelling t.CloseBrace) ∷ []
 ending TheComparison = (t.Name, spelling t.Name) ∷ (t.Equal, spelling t.Equal) ∷ (t.Name, spelling t.Name) ∷ []
 ending AfterLeft = (t.Equal, spelling t.Equal) ∷ (t.Name, spelling t.Name) ∷ []
@@ -284,6 +287,9 @@ complete-reads (TheUsedConstraint ∷ st) g k = complete-reads st g.1 _
 complete-reads (TheConstraint ∷ st) g k = complete-reads st g.1 _
 complete-reads (MoreConstraints ∷ st) g k = by _ _ (MoreConstraints-end (complete st) _ _ g.0) (complete-reads st g.1 _)
 complete-reads (InRel ∷ st) g k = complete-reads st g.1 _
+complete-reads (TheKept ∷ st) g k = complete-reads st g.1 _
+complete-reads (AfterKept ∷ st) g k = complete-reads st g.1 _
+complete-reads (InKept ∷ st) g k = complete-reads st g.1 _
 complete-reads (TheVarForm ∷ st) g k = by _ _ (MoreConstraints-end (complete st) _ _ g.0) (complete-reads st g.1 _)
 complete-reads (TheComparison ∷ st) g k = complete-reads st g.1 _
 complete-reads (AfterLeft ∷ st) g k = complete-reads st g.1 _
@@ -385,6 +391,9 @@ complete-tokens (TheUsedConstraint ∷ st) g = (refl, (refl, (refl, complete-tok
 complete-tokens (TheConstraint ∷ st) g = (refl, (refl, (refl, complete-tokens st g.1)))
 complete-tokens (MoreConstraints ∷ st) g = complete-tokens st g.1
 complete-tokens (InRel ∷ st) g = (refl, (refl, (refl, complete-tokens st g.1)))
+complete-tokens (TheKept ∷ st) g = (refl, (refl, (refl, (refl, (refl, complete-tokens st g.1)))))
+complete-tokens (AfterKept ∷ st) g = (refl, (refl, complete-tokens st g.1))
+complete-tokens (InKept ∷ st) g = (refl, (refl, (refl, (refl, (refl, (refl, (refl, complete-tokens st g.1)))))))
 complete-tokens (TheVarForm ∷ st) g = (refl, (refl, (refl, complete-tokens st g.1)))
 complete-tokens (TheComparison ∷ st) g = (refl, (refl, (refl, complete-tokens st g.1)))
 complete-tokens (AfterLeft ∷ st) g = (refl, (refl, complete-tokens st g.1))

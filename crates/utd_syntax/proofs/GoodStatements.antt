@@ -1,342 +1,13 @@
 -- Written by tools/grammar; change it there.
--- The rows of relations and of statements keep stacks good.
+-- The rows of declarations and of statements keep stacks good.
 use Rattle.std.proofs.Common.{ℕ, List, [], ◌∷◌, ◌++◌, Bool, true, false, cond, refl}
 use Rattle.utd_syntax.specs.declared.terminal.Terminal.{Terminal}
-use Rattle.utd_syntax.specs.Table.{Symbol, TheName, Comma, DateText, MomentText, NegativeDigits, ThePrimary, AfterName, AfterScalar, EndOfSelector, InParens, InPair, InPoint, TheSign, TheProd, MoreProd, TheSum, MoreSum, TheCmp, MoreCmp, TheNeg, TheConj, MoreAnd, TheScalar, MoreOr, ThePoint, TheKind, TheAttribute, MoreAttributes, InHeading, TheHeading, MoreNames, InNames, InList, TheNames, TheList, TheSomeNames, TheParenName, TheElement, MoreElements, InElements, TheElements, TheSomeElements, TheTuple, MoreTuples, InTuples, TheTuples, TheLiteral, AfterRelation, TheSetItem, MoreSetItems, TheSets, EmptyParens, TheAggregateForm, TheAggregate, MoreAggregates, TheAggregates, TheRenaming, MoreRenamings, TheRenamings, ThePortion, MaybePortion, MaybeWhere, InProjection, TheOperand, TheExtend, TheSummarize, TheRelPrimary, TheTerm, MorePostfix, TheTerms, MoreInfix, TheUsing, TheRel, TheUsingPart, AfterOperand, TheKey, TheForeign, TheUsedConstraint, TheConstraint, MoreConstraints, InRel, TheVarForm, TheComparison, AfterLeft, TheTest, TheUsedDeletion, TheUsedItem, TheDeletion, TheItem, MoreItems, TheAssign, TheStatement, AfterDrop, AfterLog, Just, Worded, Shut, Taking, Turn, Takes, Row, on, spelt, before, rows, may_end, same, fits, chosen, find, turn, list_rows, some_names_rows, paren_name_rows, element_rows, more_elements_rows, in_elements_rows, elements_rows, some_elements_rows, tuple_rows, more_tuples_rows, in_tuples_rows, tuples_rows, literal_rows, after_relation_rows, set_item_rows, more_set_items_rows, sets_rows, empty_parens_rows, aggregate_form_rows, aggregate_rows, more_aggregates_rows, aggregates_rows, renaming_rows, more_renamings_rows, renamings_rows, portion_rows, maybe_portion_rows, maybe_where_rows, in_projection_rows, operand_rows, extend_rows, summarize_rows, rel_primary_rows, term_rows, more_postfix_rows, terms_rows, more_infix_rows, using_rows, rel_rows, using_part_rows, after_operand_rows, key_rows, foreign_rows, used_constraint_rows, constraint_rows, more_constraints_rows, in_rel_rows, var_form_rows, comparison_rows, after_left_rows, test_rows, used_deletion_rows, used_item_rows, deletion_rows, item_rows, more_items_rows, assign_rows, statement_rows, after_drop_rows, after_log_rows}
+use Rattle.utd_syntax.specs.Table.{Symbol, TheName, Comma, DateText, MomentText, NegativeDigits, ThePrimary, AfterName, AfterScalar, EndOfSelector, InParens, InPair, InPoint, TheSign, TheProd, MoreProd, TheSum, MoreSum, TheCmp, MoreCmp, TheNeg, TheConj, MoreAnd, TheScalar, MoreOr, ThePoint, TheKind, TheAttribute, MoreAttributes, InHeading, TheHeading, MoreNames, InNames, InList, TheNames, TheList, TheSomeNames, TheParenName, TheElement, MoreElements, InElements, TheElements, TheSomeElements, TheTuple, MoreTuples, InTuples, TheTuples, TheLiteral, AfterRelation, TheSetItem, MoreSetItems, TheSets, EmptyParens, TheAggregateForm, TheAggregate, MoreAggregates, TheAggregates, TheRenaming, MoreRenamings, TheRenamings, ThePortion, MaybePortion, MaybeWhere, InProjection, TheOperand, TheExtend, TheSummarize, TheRelPrimary, TheTerm, MorePostfix, TheTerms, MoreInfix, TheUsing, TheRel, TheUsingPart, AfterOperand, TheKey, TheForeign, TheUsedConstraint, TheConstraint, MoreConstraints, InRel, TheKept, AfterKept, InKept, TheVarForm, TheComparison, AfterLeft, TheTest, TheUsedDeletion, TheUsedItem, TheDeletion, TheItem, MoreItems, TheAssign, TheStatement, AfterDrop, AfterLog, Just, Worded, Shut, Taking, Turn, Takes, Row, on, spelt, before, rows, may_end, same, fits, chosen, find, turn, key_rows, foreign_rows, used_constraint_rows, constraint_rows, more_constraints_rows, in_rel_rows, kept_rows, after_kept_rows, in_kept_rows, var_form_rows, comparison_rows, after_left_rows, test_rows, used_deletion_rows, used_item_rows, deletion_rows, item_rows, more_items_rows, assign_rows, statement_rows, after_drop_rows, after_log_rows}
 use Rattle.utd_syntax.proofs.FormValues.{inner}
 use Rattle.utd_syntax.proofs.Accepted.{row}
 use Rattle.utd_syntax.proofs.Completions.{Good}
 use Rattle.utd_syntax.proofs.GoodScalars.{GoodForms, GoodRow, GoodRows, good-the_name, good-comma, good-date_text, good-moment_text, good-negative_digits, good-the_primary, good-after_name, good-after_scalar, good-end_of_selector, good-in_parens, good-in_pair, good-in_point, good-the_sign, good-the_prod, good-more_prod, good-the_sum, good-more_sum, good-the_cmp, good-more_cmp, good-the_neg, good-the_conj, good-more_and, good-the_scalar, good-more_or, good-the_point, good-the_kind, good-the_attribute, good-more_attributes, good-in_heading, good-the_heading, good-more_names, good-in_names, good-in_list, good-the_names}
-
-pub good-the_list : GoodRows TheList list_rows
-good-the_list = ((λ st g. (tt, g.1)), tt)
-
-pub good-the_some_names : GoodRows TheSomeNames some_names_rows
-good-the_some_names = ((λ st g. (tt, (refl, (refl, g.1)))), tt)
-
-pub good-the_paren_name : GoodRows TheParenName paren_name_rows
-good-the_paren_name = ((λ st g. (tt, (refl, g.1))), tt)
-
-pub good-the_element : GoodRows TheElement element_rows
-good-the_element = ((λ st g. (g.0, g.1)), tt)
-
-pub good-more_elements : GoodRows MoreElements more_elements_rows
-good-more_elements = ((λ st g. (g.0.1, (g.0, g.1))), tt)
-
-pub good-in_elements : GoodRows InElements in_elements_rows
-good-in_elements = (
-  (λ st g. g.1),
-  (
-    (λ st g. ((refl, (refl, (refl, (refl, (refl, refl))))), ((refl, (refl, (refl, (refl, (refl, (refl, refl)))))), (refl, g.1)))),
-    tt,
-  ),
-)
-
-pub good-the_elements : GoodRows TheElements elements_rows
-good-the_elements = ((λ st g. (tt, g.1)), tt)
-
-pub good-the_some_elements : GoodRows TheSomeElements some_elements_rows
-good-the_some_elements = ((λ st g. ((refl, (refl, (refl, (refl, (refl, refl))))), ((refl, (refl, (refl, (refl, (refl, (refl, refl)))))), (refl, g.1)))), tt)
-
-pub good-the_tuple : GoodRows TheTuple tuple_rows
-good-the_tuple = ((λ st g. (tt, g.1)), tt)
-
-pub good-more_tuples : GoodRows MoreTuples more_tuples_rows
-good-more_tuples = ((λ st g. (tt, (g.0, g.1))), tt)
-
-pub good-in_tuples : GoodRows InTuples in_tuples_rows
-good-in_tuples = (
-  (λ st g. g.1),
-  (
-    (λ st g. (tt, (refl, (refl, g.1)))),
-    tt,
-  ),
-)
-
-pub good-the_tuples : GoodRows TheTuples tuples_rows
-good-the_tuples = ((λ st g. (tt, g.1)), tt)
-
-pub good-the_literal : GoodRows TheLiteral literal_rows
-good-the_literal = ((λ st g. (tt, g.1)), tt)
-
-pub good-after_relation : GoodRows AfterRelation after_relation_rows
-good-after_relation = (((λ st g. (tt, (refl, (refl, g.1)))), (λ st g. (tt, (tt, g.1)))), tt)
-
-pub good-the_set_item : GoodRows TheSetItem set_item_rows
-good-the_set_item = ((λ st g. (refl, (g.0, g.1))), tt)
-
-pub good-more_set_items : GoodRows MoreSetItems more_set_items_rows
-good-more_set_items = ((λ st g. (g.0.1, (g.0, g.1))), tt)
-
-pub good-the_sets : GoodRows TheSets sets_rows
-good-the_sets = ((λ st g. ((refl, (refl, (refl, (refl, (refl, refl))))), ((refl, (refl, (refl, (refl, (refl, (refl, refl)))))), (refl, g.1)))), tt)
-
-pub good-empty_parens : GoodRows EmptyParens empty_parens_rows
-good-empty_parens = ((λ st g. (refl, g.1)), tt)
-
-pub good-the_aggregate_form : GoodRows TheAggregateForm aggregate_form_rows
-good-the_aggregate_form = (
-  (λ st g. (tt, g.1)),
-  (
-    (λ st g. (tt, g.1)),
-    (
-      (λ st g. (tt, g.1)),
-      (
-        (λ st g. (tt, g.1)),
-        tt,
-      ),
-    ),
-  ),
-)
-
-pub good-the_aggregate : GoodRows TheAggregate aggregate_rows
-good-the_aggregate = ((λ st g. (refl, (tt, g.1))), tt)
-
-pub good-more_aggregates : GoodRows MoreAggregates more_aggregates_rows
-good-more_aggregates = ((λ st g. (tt, (g.0, g.1))), tt)
-
-pub good-the_aggregates : GoodRows TheAggregates aggregates_rows
-good-the_aggregates = ((λ st g. (tt, (refl, (refl, g.1)))), tt)
-
-pub good-the_renaming : GoodRows TheRenaming renaming_rows
-good-the_renaming = ((λ st g. (refl, (tt, g.1))), tt)
-
-pub good-more_renamings : GoodRows MoreRenamings more_renamings_rows
-good-more_renamings = ((λ st g. (tt, (g.0, g.1))), tt)
-
-pub good-the_renamings : GoodRows TheRenamings renamings_rows
-good-the_renamings = ((λ st g. (tt, (refl, (refl, g.1)))), tt)
-
-pub good-the_portion : GoodRows ThePortion portion_rows
-good-the_portion = ((λ st g. (tt, g.1)), tt)
-
-pub good-maybe_portion : GoodRows MaybePortion maybe_portion_rows
-good-maybe_portion = ((λ st g. (tt, g.1)), tt)
-
-pub good-maybe_where : GoodRows MaybeWhere maybe_where_rows
-good-maybe_where = ((λ st g. (g.0.1, g.1)), tt)
-
-pub good-in_projection : GoodRows InProjection in_projection_rows
-good-in_projection = (
-  (λ st g. g.1),
-  (
-    (λ st g. (refl, (refl, g.1))),
-    (
-      (λ st g. (refl, (tt, (refl, (refl, g.1))))),
-      tt,
-    ),
-  ),
-)
-
-pub good-the_operand : GoodRows TheOperand operand_rows
-good-the_operand = (
-  (λ st g. g.1),
-  (
-    (λ st g. (tt, g.1)),
-    (
-      (λ st g. ((refl, (refl, (refl, (refl, (refl, (refl, (refl, refl))))))), (refl, g.1))),
-      (
-        (λ st g. ((refl, (refl, (refl, (refl, (refl, (refl, (refl, refl))))))), (refl, (tt, g.1)))),
-        (
-          (λ st g. ((refl, (refl, (refl, (refl, (refl, (refl, (refl, refl))))))), (refl, (tt, g.1)))),
-          tt,
-        ),
-      ),
-    ),
-  ),
-)
-
-pub good-the_extend : GoodRows TheExtend extend_rows
-good-the_extend = ((λ st g. ((refl, (refl, (refl, (refl, (refl, (refl, (refl, refl))))))), (refl, (tt, g.1)))), tt)
-
-pub good-the_summarize : GoodRows TheSummarize summarize_rows
-good-the_summarize = ((λ st g. ((refl, (refl, (refl, (refl, (refl, (refl, (refl, refl))))))), (refl, (tt, (refl, (tt, g.1)))))), tt)
-
-pub good-the_rel_primary : GoodRows TheRelPrimary rel_primary_rows
-good-the_rel_primary = (
-  (λ st g. ((refl, (refl, (refl, (refl, (refl, (refl, (refl, refl))))))), (refl, (tt, g.1)))),
-  (
-    (λ st g. ((refl, (refl, (refl, (refl, (refl, (refl, (refl, refl))))))), (refl, (tt, (refl, (tt, g.1)))))),
-    (
-      (λ st g. g.1),
-      (
-        (λ st g. (tt, g.1)),
-        (
-          (λ st g. ((refl, (refl, (refl, (refl, (refl, (refl, (refl, refl))))))), (refl, g.1))),
-          (
-            (λ st g. ((refl, (refl, (refl, (refl, (refl, (refl, (refl, refl))))))), (refl, (tt, g.1)))),
-            (
-              (λ st g. ((refl, (refl, (refl, (refl, (refl, (refl, (refl, refl))))))), (refl, (tt, g.1)))),
-              tt,
-            ),
-          ),
-        ),
-      ),
-    ),
-  ),
-)
-
-pub good-the_term : GoodRows TheTerm term_rows
-good-the_term = (
-  (λ st g. ((refl, (refl, (refl, (refl, (refl, (refl, (refl, refl))))))), (refl, (tt, (g.0, g.1))))),
-  (
-    (λ st g. ((refl, (refl, (refl, (refl, (refl, (refl, (refl, refl))))))), (refl, (tt, (refl, (tt, (g.0, g.1))))))),
-    (
-      (λ st g. (g.0, g.1)),
-      (
-        (λ st g. (tt, (g.0, g.1))),
-        (
-          (λ st g. ((refl, (refl, (refl, (refl, (refl, (refl, (refl, refl))))))), (refl, (g.0, g.1)))),
-          (
-            (λ st g. ((refl, (refl, (refl, (refl, (refl, (refl, (refl, refl))))))), (refl, (tt, (g.0, g.1))))),
-            (
-              (λ st g. ((refl, (refl, (refl, (refl, (refl, (refl, (refl, refl))))))), (refl, (tt, (g.0, g.1))))),
-              tt,
-            ),
-          ),
-        ),
-      ),
-    ),
-  ),
-)
-
-pub good-more_postfix : GoodRows MorePostfix more_postfix_rows
-good-more_postfix = (
-  (λ st g. (tt, (g.0, g.1))),
-  (
-    (λ st g. (g.0.1, (g.0, g.1))),
-    (
-      (λ st g. (tt, (g.0, g.1))),
-      tt,
-    ),
-  ),
-)
-
-pub good-the_terms : GoodRows TheTerms terms_rows
-good-the_terms = (
-  (λ st g. ((refl, (refl, (refl, (refl, (refl, (refl, (refl, refl))))))), (refl, (tt, (g.0.1, (g.0, g.1)))))),
-  (
-    (λ st g. ((refl, (refl, (refl, (refl, (refl, (refl, (refl, refl))))))), (refl, (tt, (refl, (tt, (g.0.1, (g.0, g.1)))))))),
-    (
-      (λ st g. (g.0.1, (g.0, g.1))),
-      (
-        (λ st g. (tt, (g.0.1, (g.0, g.1)))),
-        (
-          (λ st g. ((refl, (refl, (refl, (refl, (refl, (refl, (refl, refl))))))), (refl, (g.0.1, (g.0, g.1))))),
-          (
-            (λ st g. ((refl, (refl, (refl, (refl, (refl, (refl, (refl, refl))))))), (refl, (tt, (g.0.1, (g.0, g.1)))))),
-            (
-              (λ st g. ((refl, (refl, (refl, (refl, (refl, (refl, (refl, refl))))))), (refl, (tt, (g.0.1, (g.0, g.1)))))),
-              tt,
-            ),
-          ),
-        ),
-      ),
-    ),
-  ),
-)
-
-pub good-more_infix : GoodRows MoreInfix more_infix_rows
-good-more_infix = (
-  (λ st g. (g.0.1, (g.0, g.1))),
-  (
-    (λ st g. (g.0.1, (g.0, g.1))),
-    (
-      (λ st g. (g.0.1, (g.0, g.1))),
-      (
-        (λ st g. (g.0.1, (g.0, g.1))),
-        (
-          (λ st g. (g.0.1, (g.0, g.1))),
-          (
-            (λ st g. (refl, (g.0.1, (g.0, g.1)))),
-            tt,
-          ),
-        ),
-      ),
-    ),
-  ),
-)
-
-pub good-the_using : GoodRows TheUsing using_rows
-good-the_using = ((λ st g. (tt, (refl, (g.0, g.1)))), tt)
-
-pub good-the_rel : GoodRows TheRel rel_rows
-good-the_rel = (
-  (λ st g. (tt, (refl, (g.0.1.1, g.1)))),
-  (
-    (λ st g. ((refl, (refl, (refl, (refl, (refl, (refl, (refl, refl))))))), (refl, (tt, (g.0.1, (g.0, g.1)))))),
-    (
-      (λ st g. ((refl, (refl, (refl, (refl, (refl, (refl, (refl, refl))))))), (refl, (tt, (refl, (tt, (g.0.1, (g.0, g.1)))))))),
-      (
-        (λ st g. (g.0.1, (g.0, g.1))),
-        (
-          (λ st g. (tt, (g.0.1, (g.0, g.1)))),
-          (
-            (λ st g. ((refl, (refl, (refl, (refl, (refl, (refl, (refl, refl))))))), (refl, (g.0.1, (g.0, g.1))))),
-            (
-              (λ st g. ((refl, (refl, (refl, (refl, (refl, (refl, (refl, refl))))))), (refl, (tt, (g.0.1, (g.0, g.1)))))),
-              (
-                (λ st g. ((refl, (refl, (refl, (refl, (refl, (refl, (refl, refl))))))), (refl, (tt, (g.0.1, (g.0, g.1)))))),
-                tt,
-              ),
-            ),
-          ),
-        ),
-      ),
-    ),
-  ),
-)
-
-pub good-the_using_part : GoodRows TheUsingPart using_part_rows
-good-the_using_part = (
-  (λ st g. ((refl, (refl, (refl, (refl, (refl, (refl, (refl, refl))))))), (refl, (tt, g.1)))),
-  (
-    (λ st g. ((refl, (refl, (refl, (refl, (refl, (refl, (refl, refl))))))), (refl, (tt, (refl, (tt, g.1)))))),
-    (
-      (λ st g. (g.0, g.1)),
-      (
-        (λ st g. (tt, (g.0, g.1))),
-        (
-          (λ st g. ((refl, (refl, (refl, (refl, (refl, (refl, (refl, refl))))))), (refl, (g.0, g.1)))),
-          (
-            (λ st g. ((refl, (refl, (refl, (refl, (refl, (refl, (refl, refl))))))), (refl, (tt, (g.0, g.1))))),
-            (
-              (λ st g. ((refl, (refl, (refl, (refl, (refl, (refl, (refl, refl))))))), (refl, (tt, (g.0, g.1))))),
-              tt,
-            ),
-          ),
-        ),
-      ),
-    ),
-  ),
-)
-
-pub good-after_operand : GoodRows AfterOperand after_operand_rows
-good-after_operand = (
-  (λ st g. (tt, g.1)),
-  (
-    (λ st g. (tt, g.1)),
-    (
-      (λ st g. (tt, g.1)),
-      (
-        (λ st g. (tt, g.1)),
-        (
-          (λ st g. (tt, g.1)),
-          (
-            (λ st g. (refl, (tt, g.1))),
-            (
-              (λ st g. (tt, g.1)),
-              (
-                (λ st g. (g.0, g.1)),
-                tt,
-              ),
-            ),
-          ),
-        ),
-      ),
-    ),
-  ),
-)
+use Rattle.utd_syntax.proofs.GoodRelations.{good-the_list, good-the_some_names, good-the_paren_name, good-the_element, good-more_elements, good-in_elements, good-the_elements, good-the_some_elements, good-the_tuple, good-more_tuples, good-in_tuples, good-the_tuples, good-the_literal, good-after_relation, good-the_set_item, good-more_set_items, good-the_sets, good-empty_parens, good-the_aggregate_form, good-the_aggregate, good-more_aggregates, good-the_aggregates, good-the_renaming, good-more_renamings, good-the_renamings, good-the_portion, good-maybe_portion, good-maybe_where, good-in_projection, good-the_operand, good-the_extend, good-the_summarize, good-the_rel_primary, good-the_term, good-more_postfix, good-the_terms, good-more_infix, good-the_using, good-the_rel, good-the_using_part, good-after_operand}
 
 pub good-the_key : GoodRows TheKey key_rows
 good-the_key = ((λ st g. (tt, g.1)), tt)
@@ -392,12 +63,51 @@ good-more_constraints = (
 pub good-in_rel : GoodRows InRel in_rel_rows
 good-in_rel = ((λ st g. ((refl, (refl, (refl, (refl, (refl, (refl, (refl, refl))))))), (refl, g.1))), tt)
 
+pub good-the_kept : GoodRows TheKept kept_rows
+good-the_kept = (
+  (λ st g. (tt, (refl, (tt, (tt, g.1))))),
+  (
+    (λ st g. (tt, (refl, (tt, g.1)))),
+    tt,
+  ),
+)
+
+pub good-after_kept : GoodRows AfterKept after_kept_rows
+good-after_kept = (
+  (λ st g. (tt, g.1)),
+  (
+    (λ st g. (tt, g.1)),
+    (
+      (λ st g. (tt, g.1)),
+      (
+        (λ st g. (tt, g.1)),
+        (
+          (λ st g. (tt, g.1)),
+          (
+            (λ st g. (refl, (tt, g.1))),
+            (
+              (λ st g. (tt, g.1)),
+              tt,
+            ),
+          ),
+        ),
+      ),
+    ),
+  ),
+)
+
+pub good-in_kept : GoodRows InKept in_kept_rows
+good-in_kept = ((λ st g. (tt, (refl, g.1))), tt)
+
 pub good-the_var_form : GoodRows TheVarForm var_form_rows
 good-the_var_form = (
   (λ st g. (tt, (g.0, g.1))),
   (
     (λ st g. (tt, g.1)),
-    tt,
+    (
+      (λ st g. (tt, g.1)),
+      tt,
+    ),
   ),
 )
 
@@ -735,6 +445,9 @@ good-rows TheUsedConstraint = good-the_used_constraint
 good-rows TheConstraint = good-the_constraint
 good-rows MoreConstraints = good-more_constraints
 good-rows InRel = good-in_rel
+good-rows TheKept = good-the_kept
+good-rows AfterKept = good-after_kept
+good-rows InKept = good-in_kept
 good-rows TheVarForm = good-the_var_form
 good-rows TheComparison = good-the_comparison
 good-rows AfterLeft = good-after_left

@@ -10,6 +10,7 @@ pub mod SoundForms
 pub mod Sound
 pub mod Completions
 pub mod GoodScalars
+pub mod GoodRelations
 pub mod GoodStatements
 pub mod Refused
 pub mod Laws

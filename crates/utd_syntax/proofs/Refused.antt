@@ -11,7 +11,7 @@ use Rattle.utd_syntax.specs.Plain.{StatementP}
 use Rattle.utd_syntax.specs.Written.{Spells, of_statement}
 use Rattle.utd_syntax.specs.Continues.{Starts, again, NoStatement}
 use Rattle.utd_syntax.specs.Terminals.{AreTokens}
-use Rattle.utd_syntax.specs.Table.{Load, Symbol, TheName, Comma, DateText, MomentText, NegativeDigits, ThePrimary, AfterName, AfterScalar, EndOfSelector, InParens, InPair, InPoint, TheSign, TheProd, MoreProd, TheSum, MoreSum, TheCmp, MoreCmp, TheNeg, TheConj, MoreAnd, TheScalar, MoreOr, ThePoint, TheKind, TheAttribute, MoreAttributes, InHeading, TheHeading, MoreNames, InNames, InList, TheNames, TheList, TheSomeNames, TheParenName, TheElement, MoreElements, InElements, TheElements, TheSomeElements, TheTuple, MoreTuples, InTuples, TheTuples, TheLiteral, AfterRelation, TheSetItem, MoreSetItems, TheSets, EmptyParens, TheAggregateForm, TheAggregate, MoreAggregates, TheAggregates, TheRenaming, MoreRenamings, TheRenamings, ThePortion, MaybePortion, MaybeWhere, InProjection, TheOperand, TheExtend, TheSummarize, TheRelPrimary, TheTerm, MorePostfix, TheTerms, MoreInfix, TheUsing, TheRel, TheUsingPart, AfterOperand, TheKey, TheForeign, TheUsedConstraint, TheConstraint, MoreConstraints, InRel, TheVarForm, TheComparison, AfterLeft, TheTest, TheUsedDeletion, TheUsedItem, TheDeletion, TheItem, MoreItems, TheAssign, TheStatement, AfterDrop, AfterLog, Just, Worded, Shut, Taking, Turn, Never, Ends, Takes, Row, on, spelt, before, rows, may_end, same, fits, chosen, find, turn}
+use Rattle.utd_syntax.specs.Table.{Load, Symbol, TheName, Comma, DateText, MomentText, NegativeDigits, ThePrimary, AfterName, AfterScalar, EndOfSelector, InParens, InPair, InPoint, TheSign, TheProd, MoreProd, TheSum, MoreSum, TheCmp, MoreCmp, TheNeg, TheConj, MoreAnd, TheScalar, MoreOr, ThePoint, TheKind, TheAttribute, MoreAttributes, InHeading, TheHeading, MoreNames, InNames, InList, TheNames, TheList, TheSomeNames, TheParenName, TheElement, MoreElements, InElements, TheElements, TheSomeElements, TheTuple, MoreTuples, InTuples, TheTuples, TheLiteral, AfterRelation, TheSetItem, MoreSetItems, TheSets, EmptyParens, TheAggregateForm, TheAggregate, MoreAggregates, TheAggregates, TheRenaming, MoreRenamings, TheRenamings, ThePortion, MaybePortion, MaybeWhere, InProjection, TheOperand, TheExtend, TheSummarize, TheRelPrimary, TheTerm, MorePostfix, TheTerms, MoreInfix, TheUsing, TheRel, TheUsingPart, AfterOperand, TheKey, TheForeign, TheUsedConstraint, TheConstraint, MoreConstraints, InRel, TheKept, AfterKept, InKept, TheVarForm, TheComparison, AfterLeft, TheTest, TheUsedDeletion, TheUsedItem, TheDeletion, TheItem, MoreItems, TheAssign, TheStatement, AfterDrop, AfterLog, Just, Worded, Shut, Taking, Turn, Never, Ends, Takes, Row, on, spelt, before, rows, may_end, same, fits, chosen, find, turn}
 use Rattle.utd_syntax.specs.Verdict.{Verdict, Whole, Refused, Limits, verdict, reach, taken, ended, at_form, Reach, Over, Stuck, Reaches, stack_after, load_after}
 use Rattle.utd_syntax.proofs.FormValues.{inner}
 use Rattle.utd_syntax.proofs.Reader.{Built, Go, build, on_turn, read_at, read}
@@ -149,7 +149,10 @@ steady-rows TheUsedConstraint = (tt, (tt, tt))
 steady-rows TheConstraint = (tt, (tt, (tt, (tt, (tt, tt)))))
 steady-rows MoreConstraints = (tt, (tt, (tt, (tt, (tt, tt)))))
 steady-rows InRel = (tt, tt)
-steady-rows TheVarForm = (tt, (tt, tt))
+steady-rows TheKept = (tt, (tt, tt))
+steady-rows AfterKept = (tt, (tt, (tt, (tt, (tt, (tt, (tt, tt)))))))
+steady-rows InKept = (tt, tt)
+steady-rows TheVarForm = (tt, (tt, (tt, tt)))
 steady-rows TheComparison = (tt, (tt, (tt, (tt, (tt, tt)))))
 steady-rows AfterLeft = (tt, (tt, (tt, (tt, (tt, (tt, tt))))))
 steady-rows TheTest = (tt, (tt, (tt, (tt, (tt, (tt, (tt, (tt, tt))))))))

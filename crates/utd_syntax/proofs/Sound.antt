@@ -9,10 +9,10 @@ use Rattle.utd_syntax.specs.declared.words.PackWord.TheVariants as pack_words
 use Rattle.utd_syntax.specs.declared.words.EmptinessWord.TheVariants as emptinesses
 use Rattle.utd_syntax.specs.Pieces.{Piece, first, place_of}
 use Rattle.utd_syntax.specs.Plain.{word, StatementP, OfUsing, OfTerms, OneTerm, Infix, NotMatching, OneRelPrimary, Project, Filter, Rename, OfExtend, OfSummarize, OfOperand, Relvar, OfLiteral, ParenRel, PackOn, UsingExtend, UsingSummarize, UsedKey, UsedForeign, KeyOf, ForeignOf, PackedOn, WhenUnpacked, UsingConstraint, UsingTest, Emptiness, OfComparison, UsedDeleteWhere, UsedDeleteRows, DeleteWhere, DeletePortion, DeleteRows, Assign, Nothing, DeclareOrdinal, DeclareRelvar, DeclareHistory, DeclareRule, Print, Ask, Assignment}
-use Rattle.utd_syntax.specs.Written.{fixed, at, spelled, Spells, ordinal_word, since_word, during_word, over_word, log_word, of_statement}
-use Rattle.utd_syntax.specs.Table.{Load, Symbol, TheName, Comma, DateText, MomentText, NegativeDigits, ThePrimary, AfterName, AfterScalar, EndOfSelector, InParens, InPair, InPoint, TheSign, TheProd, MoreProd, TheSum, MoreSum, TheCmp, MoreCmp, TheNeg, TheConj, MoreAnd, TheScalar, MoreOr, ThePoint, TheKind, TheAttribute, MoreAttributes, InHeading, TheHeading, MoreNames, InNames, InList, TheNames, TheList, TheSomeNames, TheParenName, TheElement, MoreElements, InElements, TheElements, TheSomeElements, TheTuple, MoreTuples, InTuples, TheTuples, TheLiteral, AfterRelation, TheSetItem, MoreSetItems, TheSets, EmptyParens, TheAggregateForm, TheAggregate, MoreAggregates, TheAggregates, TheRenaming, MoreRenamings, TheRenamings, ThePortion, MaybePortion, MaybeWhere, InProjection, TheOperand, TheExtend, TheSummarize, TheRelPrimary, TheTerm, MorePostfix, TheTerms, MoreInfix, TheUsing, TheRel, TheUsingPart, AfterOperand, TheKey, TheForeign, TheUsedConstraint, TheConstraint, MoreConstraints, InRel, TheVarForm, TheComparison, AfterLeft, TheTest, TheUsedDeletion, TheUsedItem, TheDeletion, TheItem, MoreItems, TheAssign, TheStatement, AfterDrop, AfterLog, Just, Worded, Shut, Taking, Plain, Opens, Turn, Never, Ends, Takes, Row, on, spelt, before, ◌▹◌, rows, may_end, number, same, same_bytes, fits, chosen, find, turn, literal_rows, after_relation_rows, set_item_rows, more_set_items_rows, sets_rows, empty_parens_rows, aggregate_form_rows, aggregate_rows, more_aggregates_rows, aggregates_rows, renaming_rows, more_renamings_rows, renamings_rows, portion_rows, maybe_portion_rows, maybe_where_rows, in_projection_rows, operand_rows, extend_rows, summarize_rows, rel_primary_rows, term_rows, more_postfix_rows, terms_rows, more_infix_rows, using_rows, rel_rows, using_part_rows, after_operand_rows, key_rows, foreign_rows, used_constraint_rows, constraint_rows, more_constraints_rows, in_rel_rows, var_form_rows, comparison_rows, after_left_rows, test_rows, used_deletion_rows, used_item_rows, deletion_rows, item_rows, more_items_rows, assign_rows, statement_rows, after_drop_rows, after_log_rows}
+use Rattle.utd_syntax.specs.Written.{fixed, at, spelled, Spells, ordinal_word, since_word, during_word, over_word, log_word, kept_word, of_statement}
+use Rattle.utd_syntax.specs.Table.{Load, Symbol, TheName, Comma, DateText, MomentText, NegativeDigits, ThePrimary, AfterName, AfterScalar, EndOfSelector, InParens, InPair, InPoint, TheSign, TheProd, MoreProd, TheSum, MoreSum, TheCmp, MoreCmp, TheNeg, TheConj, MoreAnd, TheScalar, MoreOr, ThePoint, TheKind, TheAttribute, MoreAttributes, InHeading, TheHeading, MoreNames, InNames, InList, TheNames, TheList, TheSomeNames, TheParenName, TheElement, MoreElements, InElements, TheElements, TheSomeElements, TheTuple, MoreTuples, InTuples, TheTuples, TheLiteral, AfterRelation, TheSetItem, MoreSetItems, TheSets, EmptyParens, TheAggregateForm, TheAggregate, MoreAggregates, TheAggregates, TheRenaming, MoreRenamings, TheRenamings, ThePortion, MaybePortion, MaybeWhere, InProjection, TheOperand, TheExtend, TheSummarize, TheRelPrimary, TheTerm, MorePostfix, TheTerms, MoreInfix, TheUsing, TheRel, TheUsingPart, AfterOperand, TheKey, TheForeign, TheUsedConstraint, TheConstraint, MoreConstraints, InRel, TheKept, AfterKept, InKept, TheVarForm, TheComparison, AfterLeft, TheTest, TheUsedDeletion, TheUsedItem, TheDeletion, TheItem, MoreItems, TheAssign, TheStatement, AfterDrop, AfterLog, Just, Worded, Shut, Taking, Plain, Opens, Turn, Never, Ends, Takes, Row, on, spelt, before, ◌▹◌, rows, may_end, number, same, same_bytes, fits, chosen, find, turn, literal_rows, after_relation_rows, set_item_rows, more_set_items_rows, sets_rows, empty_parens_rows, aggregate_form_rows, aggregate_rows, more_aggregates_rows, aggregates_rows, renaming_rows, more_renamings_rows, renamings_rows, portion_rows, maybe_portion_rows, maybe_where_rows, in_projection_rows, operand_rows, extend_rows, summarize_rows, rel_primary_rows, term_rows, more_postfix_rows, terms_rows, more_infix_rows, using_rows, rel_rows, using_part_rows, after_operand_rows, key_rows, foreign_rows, used_constraint_rows, constraint_rows, more_constraints_rows, in_rel_rows, kept_rows, after_kept_rows, in_kept_rows, var_form_rows, comparison_rows, after_left_rows, test_rows, used_deletion_rows, used_item_rows, deletion_rows, item_rows, more_items_rows, assign_rows, statement_rows, after_drop_rows, after_log_rows}
 use Rattle.utd_syntax.proofs.FormValues.{Val, Vals, Case, Make, Makes, inner, over_makes, then_makes, append_makes}
-use Rattle.utd_syntax.proofs.Reader.{Ended, Built, Go, makes, end_value, by_case, made, pick, found_end, found, build, split, on_turn, read_at, on_end, read_end, read, make_literal, make_after_relation, make_set_item, make_more_set_items, make_sets, make_empty_parens, make_aggregate_form, make_aggregate, make_more_aggregates, make_aggregates, make_renaming, make_more_renamings, make_renamings, make_portion, make_maybe_portion, make_maybe_where, make_in_projection, make_operand, make_extend, make_summarize, make_rel_primary, make_term, make_more_postfix, make_terms, make_more_infix, make_using, make_rel, make_using_part, make_after_operand, make_key, make_foreign, make_used_constraint, make_constraint, make_more_constraints, make_in_rel, make_var_form, make_comparison, make_after_left, make_test, make_used_deletion, make_used_item, make_deletion, make_item, make_more_items, make_assign, make_statement, make_after_drop, make_after_log}
+use Rattle.utd_syntax.proofs.Reader.{Ended, Built, Go, makes, end_value, by_case, made, pick, found_end, found, build, split, on_turn, read_at, on_end, read_end, read, make_literal, make_after_relation, make_set_item, make_more_set_items, make_sets, make_empty_parens, make_aggregate_form, make_aggregate, make_more_aggregates, make_aggregates, make_renaming, make_more_renamings, make_renamings, make_portion, make_maybe_portion, make_maybe_where, make_in_projection, make_operand, make_extend, make_summarize, make_rel_primary, make_term, make_more_postfix, make_terms, make_more_infix, make_using, make_rel, make_using_part, make_after_operand, make_key, make_foreign, make_used_constraint, make_constraint, make_more_constraints, make_in_rel, make_kept, make_after_kept, make_in_kept, make_var_form, make_comparison, make_after_left, make_test, make_used_deletion, make_used_item, make_deletion, make_item, make_more_items, make_assign, make_statement, make_after_drop, make_after_log}
 use Rattle.utd_syntax.specs.Verdict.{Whole, no_limits, verdict}
 use Rattle.utd_syntax.proofs.Accepted.{Agree, agrees}
 use Rattle.std.proofs.lemmas.Bool.{eqb-true}
@@ -195,12 +195,51 @@ more_constraints-sound = then-sounds TheConstraint MoreConstraints MoreConstrain
 pub in_rel-sound : SoundRows InRel in_rel_rows make_in_rel
 in_rel-sound = ((λ p b ts vs rest h. (join _ _ _ _ _ (join _ _ _ _ _ (cons (fixed t.Open) [] (piece_at t.Open p b) ts _ refl (nil refl)) h.1) h.2)), tt)
 
+pub kept-sound : SoundRows TheKept kept_rows make_kept
+kept-sound = (
+  (λ p b ts vs rest h. (h.2.2.2 p vs.0 vs.1.1.0 (piece_at t.Using p b ∷ ts) (join _ _ _ _ _ (join _ _ _ _ _ (join _ _ _ _ _ (cons (at t.Using p) [] (piece_at t.Using p b) ts _ (refl, refl) (nil refl)) h.1) h.2.1) h.2.2.1))),
+  (
+    (λ p b ts vs rest h. (join _ _ _ _ _ (join _ _ _ _ _ (join _ _ _ _ _ (cons (at t.Pack p) [] (piece_at t.Pack p b) ts _ (refl, refl) (nil refl)) h.1) h.2.1) h.2.2)),
+    tt,
+  ),
+)
+
+pub after_kept-sound : SoundRows AfterKept after_kept_rows make_after_kept
+after_kept-sound = (
+  (λ p b ts vs rest h p0 a l from g. (join _ _ _ _ _ (join _ _ _ _ _ g (cons (at t.Union p) [] (piece_at t.Union p b) ts _ (refl, refl) (nil refl))) h)),
+  (
+    (λ p b ts vs rest h p0 a l from g. (join _ _ _ _ _ (join _ _ _ _ _ g (cons (at t.Intersect p) [] (piece_at t.Intersect p b) ts _ (refl, refl) (nil refl))) h)),
+    (
+      (λ p b ts vs rest h p0 a l from g. (join _ _ _ _ _ (join _ _ _ _ _ g (cons (at t.Minus p) [] (piece_at t.Minus p b) ts _ (refl, refl) (nil refl))) h)),
+      (
+        (λ p b ts vs rest h p0 a l from g. (join _ _ _ _ _ (join _ _ _ _ _ g (cons (at t.Join p) [] (piece_at t.Join p b) ts _ (refl, refl) (nil refl))) h)),
+        (
+          (λ p b ts vs rest h p0 a l from g. (join _ _ _ _ _ (join _ _ _ _ _ g (cons (at t.Matching p) [] (piece_at t.Matching p b) ts _ (refl, refl) (nil refl))) h)),
+          (
+            (λ p b ts vs rest h p0 a l from g. (join _ _ _ _ _ (join _ _ _ _ _ (join _ _ _ _ _ g (cons (at t.Not p) [] (piece_at t.Not p b) ts _ (refl, refl) (nil refl))) h.1) h.2)),
+            (
+              (λ p b ts vs rest h p0 a l from g. (join _ _ _ _ _ g (h p (piece_at t.OpenBrace p b ∷ ts) (cons (at t.OpenBrace p) [] (piece_at t.OpenBrace p b) ts _ (refl, refl) (nil refl))))),
+              tt,
+            ),
+          ),
+        ),
+      ),
+    ),
+  ),
+)
+
+pub in_kept-sound : SoundRows InKept in_kept_rows make_in_kept
+in_kept-sound = ((λ p b ts vs rest h. (join _ _ _ _ _ (join _ _ _ _ _ (cons (fixed t.Open) [] (piece_at t.Open p b) ts _ refl (nil refl)) h.1) h.2)), tt)
+
 pub var_form-sound : SoundRows TheVarForm var_form_rows make_var_form
 var_form-sound = (
   (λ p b ts vs rest h. (join _ _ _ _ _ (join _ _ _ _ _ (cons (at t.Relation p) [] (piece_at t.Relation p b) ts _ (refl, refl) (nil refl)) h.1) h.2)),
   (
     (λ p b ts vs rest h. (join _ _ _ _ _ (cons (at t.Virtual p) [] (piece_at t.Virtual p b) ts _ (refl, refl) (nil refl)) h)),
-    tt,
+    (
+      (λ p ts vs rest h. (join _ _ _ _ _ (cons (spelled t.Name p kept_word) [] (piece_at t.Name p kept_word) ts _ (refl, refl, refl) (nil refl)) h)),
+      tt,
+    ),
   ),
 )
 
@@ -379,6 +418,9 @@ sounds TheUsedConstraint = used_constraint-sound
 sounds TheConstraint = constraint-sound
 sounds MoreConstraints = more_constraints-sound
 sounds InRel = in_rel-sound
+sounds TheKept = kept-sound
+sounds AfterKept = after_kept-sound
+sounds InKept = in_kept-sound
 sounds TheVarForm = var_form-sound
 sounds TheComparison = comparison-sound
 sounds AfterLeft = after_left-sound

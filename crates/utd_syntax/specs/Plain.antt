@@ -255,10 +255,18 @@ pub data ConstraintP : Type 0 where
   WhenUnpacked : Place → NameListP → KeyP → ConstraintP
   UsingConstraint : Place → NameListP → UsedConstraintP → ConstraintP
 
--- "RELATION" heading { constraint } | "VIRTUAL" "(" rel ")"
+-- "USING" list ":" name infix name | "USING" list ":" name projection | "PACK" name "ON" list
+pub data KeptP : Type 0 where
+  KeptInfix : Place → NameListP → Word → Place → InfixWord → Word → KeptP
+  KeptNotMatching : Place → NameListP → Word → Place → Word → KeptP
+  KeptProject : Place → NameListP → Word → ProjectionP → KeptP
+  KeptPack : Place → Word → NameListP → KeptP
+
+-- "RELATION" heading { constraint } | "VIRTUAL" "(" rel ")" | "KEPT" "(" kept ")"
 pub data VarFormP : Type 0 where
   BaseRelvar : Place → HeadingP → List ConstraintP → VarFormP
   View : Place → RelP → VarFormP
+  Kept : Place → KeptP → VarFormP
 
 -- operand ( "=" | "<>" | "<" | "<=" | ">" | ">=" ) operand
 pub data ComparisonP : Type 0 where

@@ -72,6 +72,8 @@ use Rattle.utd_syntax.specs.declared.statement.UsedConstraint.{UsedConstraint as
 use Rattle.utd_syntax.specs.declared.statement.UsedConstraint.TheVariants as rust_used_constraint
 use Rattle.utd_syntax.specs.declared.statement.Constraint.{Constraint as ConstraintTree}
 use Rattle.utd_syntax.specs.declared.statement.Constraint.TheVariants as rust_constraint
+use Rattle.utd_syntax.specs.declared.statement.Kept.{Kept as KeptTree}
+use Rattle.utd_syntax.specs.declared.statement.Kept.TheVariants as rust_kept
 use Rattle.utd_syntax.specs.declared.statement.VarForm.{VarForm as VarFormTree}
 use Rattle.utd_syntax.specs.declared.statement.VarForm.TheVariants as rust_var_form
 use Rattle.utd_syntax.specs.declared.statement.Relate.{Relate as RelateTree}
@@ -88,7 +90,7 @@ use Rattle.utd_syntax.specs.declared.statement.Item.TheVariants as rust_item
 use Rattle.utd_syntax.specs.declared.statement.Assignment.{Assignment as AssignmentTree}
 use Rattle.utd_syntax.specs.declared.statement.Statement.{Statement as StatementTree}
 use Rattle.utd_syntax.specs.declared.statement.Statement.TheVariants as rust_statement
-use Rattle.utd_syntax.specs.Plain.{Word, PointP, ScalarP, ConjP, NegP, CmpP, SumP, ProdP, SignP, PrimaryP, KindP, AttributeP, HeadingP, NamesP, NameListP, SomeNamesP, ElementP, ElementsP, SomeElementsP, TupleP, LiteralP, SetItemP, SetsP, AggregateFormP, AggregateP, AggregatesP, RenamingP, RenamingsP, PortionP, MaybePortionP, ConditionP, ProjectionP, RelP, TermsP, TermP, RelPrimaryP, OperandP, ExtendP, SummarizeP, UsingP, UsingPartP, KeyP, ForeignP, UsedConstraintP, ConstraintP, VarFormP, ComparisonP, TestP, UsedDeletionP, UsedItemP, DeletionP, ItemP, AssignP, StatementP}
+use Rattle.utd_syntax.specs.Plain.{Word, PointP, ScalarP, ConjP, NegP, CmpP, SumP, ProdP, SignP, PrimaryP, KindP, AttributeP, HeadingP, NamesP, NameListP, SomeNamesP, ElementP, ElementsP, SomeElementsP, TupleP, LiteralP, SetItemP, SetsP, AggregateFormP, AggregateP, AggregatesP, RenamingP, RenamingsP, PortionP, MaybePortionP, ConditionP, ProjectionP, RelP, TermsP, TermP, RelPrimaryP, OperandP, ExtendP, SummarizeP, UsingP, UsingPartP, KeyP, ForeignP, UsedConstraintP, ConstraintP, KeptP, VarFormP, ComparisonP, TestP, UsedDeletionP, UsedItemP, DeletionP, ItemP, AssignP, StatementP}
 use Rattle.utd_syntax.specs.Plain as plain
 
 abbrev pub read_name : WordTree → Word
@@ -312,9 +314,16 @@ abbrev pub read_constraint_list : List ConstraintTree → List ConstraintP
 read_constraint_list [] = []
 read_constraint_list (x ∷ xs) = read_constraint x ∷ read_constraint_list xs
 
+abbrev pub read_kept : KeptTree → KeptP
+read_kept (rust_kept.Infix v0 v1 v2 v3 v4 v5) = plain.KeptInfix v0 (read_list v1) (read_name v2) v3 v4 (read_name v5)
+read_kept (rust_kept.NotMatching v0 v1 v2 v3 v4) = plain.KeptNotMatching v0 (read_list v1) (read_name v2) v3 (read_name v4)
+read_kept (rust_kept.Project v0 v1 v2 v3) = plain.KeptProject v0 (read_list v1) (read_name v2) (read_projection v3)
+read_kept (rust_kept.Pack v0 v1 v2) = plain.KeptPack v0 (read_name v1) (read_list v2)
+
 abbrev pub read_var_form : VarFormTree → VarFormP
 read_var_form (rust_var_form.Relation v0 v1 v2) = plain.BaseRelvar v0 (read_heading v1) (read_constraint_list v2.list.items)
 read_var_form (rust_var_form.Virtual v0 v1) = plain.View v0 (read_rel v1.value)
+read_var_form (rust_var_form.Kept v0 v1) = plain.Kept v0 (read_kept v1)
 
 abbrev pub read_comparison : RelateTree → ComparisonP
 read_comparison x = plain.Comparison (read_operand x.left) x.place x.word (read_operand x.right)

@@ -3,7 +3,7 @@
 use Rattle.std.specs.Prelude.{ℕ, List, [], ◌∷◌, ◌++◌, Bool, true, false, ◌==◌, ◌&&◌, if◌then◌else◌}
 use Rattle.utd_syntax.specs.declared.terminal.Terminal.{Terminal}
 use Rattle.utd_syntax.specs.declared.terminal.Terminal.TheVariants as t
-use Rattle.utd_syntax.specs.Written.{ordinal_word, since_word, during_word, over_word, at_word, log_word, of_word}
+use Rattle.utd_syntax.specs.Written.{ordinal_word, since_word, during_word, over_word, at_word, log_word, of_word, kept_word}
 
 -- the levels that are open, the operators in force, and those of them that stand outside the innermost level
 pub record Load : Type 0 where
@@ -13,7 +13,7 @@ pub record Load : Type 0 where
 
 -- A form that may stand here, or the rest of one that has begun.
 pub data Symbol : Type 0 where
-  TheName Comma DateText MomentText NegativeDigits ThePrimary AfterName AfterScalar EndOfSelector InParens InPair InPoint TheSign TheProd MoreProd TheSum MoreSum TheCmp MoreCmp TheNeg TheConj MoreAnd TheScalar MoreOr ThePoint TheKind TheAttribute MoreAttributes InHeading TheHeading MoreNames InNames InList TheNames TheList TheSomeNames TheParenName TheElement MoreElements InElements TheElements TheSomeElements TheTuple MoreTuples InTuples TheTuples TheLiteral AfterRelation TheSetItem MoreSetItems TheSets EmptyParens TheAggregateForm TheAggregate MoreAggregates TheAggregates TheRenaming MoreRenamings TheRenamings ThePortion MaybePortion MaybeWhere InProjection TheOperand TheExtend TheSummarize TheRelPrimary TheTerm MorePostfix TheTerms MoreInfix TheUsing TheRel TheUsingPart AfterOperand TheKey TheForeign TheUsedConstraint TheConstraint MoreConstraints InRel TheVarForm TheComparison AfterLeft TheTest TheUsedDeletion TheUsedItem TheDeletion TheItem MoreItems TheAssign TheStatement AfterDrop AfterLog : Symbol
+  TheName Comma DateText MomentText NegativeDigits ThePrimary AfterName AfterScalar EndOfSelector InParens InPair InPoint TheSign TheProd MoreProd TheSum MoreSum TheCmp MoreCmp TheNeg TheConj MoreAnd TheScalar MoreOr ThePoint TheKind TheAttribute MoreAttributes InHeading TheHeading MoreNames InNames InList TheNames TheList TheSomeNames TheParenName TheElement MoreElements InElements TheElements TheSomeElements TheTuple MoreTuples InTuples TheTuples TheLiteral AfterRelation TheSetItem MoreSetItems TheSets EmptyParens TheAggregateForm TheAggregate MoreAggregates TheAggregates TheRenaming MoreRenamings TheRenamings ThePortion MaybePortion MaybeWhere InProjection TheOperand TheExtend TheSummarize TheRelPrimary TheTerm MorePostfix TheTerms MoreInfix TheUsing TheRel TheUsingPart AfterOperand TheKey TheForeign TheUsedConstraint TheConstraint MoreConstraints InRel TheKept AfterKept InKept TheVarForm TheComparison AfterLeft TheTest TheUsedDeletion TheUsedItem TheDeletion TheItem MoreItems TheAssign TheStatement AfterDrop AfterLog : Symbol
   -- this token; this word where it stands for itself
   Just : Terminal → Symbol
   Worded : List ℕ → Symbol
@@ -394,10 +394,31 @@ more_constraints_rows = (constraint_rows ▹ (MoreConstraints ∷ []))
 abbrev pub in_rel_rows : List Row
 in_rel_rows = on t.Open (Opens (TheRel ∷ Just t.Close ∷ [])) [] ∷ []
 
+abbrev pub kept_rows : List Row
+kept_rows =
+    on t.Using (Opens (TheList ∷ Just t.Colon ∷ TheName ∷ AfterKept ∷ [])) [] ∷
+    on t.Pack (Opens (TheName ∷ Just t.On ∷ TheList ∷ [])) [] ∷
+    []
+
+abbrev pub after_kept_rows : List Row
+after_kept_rows =
+    on t.Union Operator (TheName ∷ []) ∷
+    on t.Intersect Operator (TheName ∷ []) ∷
+    on t.Minus Operator (TheName ∷ []) ∷
+    on t.Join Operator (TheName ∷ []) ∷
+    on t.Matching Operator (TheName ∷ []) ∷
+    on t.Not Operator (Just t.Matching ∷ TheName ∷ []) ∷
+    on t.OpenBrace (Opens (InProjection ∷ [])) [] ∷
+    []
+
+abbrev pub in_kept_rows : List Row
+in_kept_rows = on t.Open (Opens (TheKept ∷ Just t.Close ∷ [])) [] ∷ []
+
 abbrev pub var_form_rows : List Row
 var_form_rows =
     on t.Relation Plain (TheHeading ∷ MoreConstraints ∷ []) ∷
     on t.Virtual Plain (InRel ∷ []) ∷
+    spelt kept_word (InKept ∷ []) ∷
     []
 
 abbrev pub comparison_rows : List Row
@@ -542,6 +563,9 @@ rows TheUsedConstraint = used_constraint_rows
 rows TheConstraint = constraint_rows
 rows MoreConstraints = more_constraints_rows
 rows InRel = in_rel_rows
+rows TheKept = kept_rows
+rows AfterKept = after_kept_rows
+rows InKept = in_kept_rows
 rows TheVarForm = var_form_rows
 rows TheComparison = comparison_rows
 rows AfterLeft = after_left_rows

@@ -31,7 +31,7 @@ use Rattle.utd_syntax.specs.declared.words.RelationComparison.TheVariants as rel
 use Rattle.utd_syntax.specs.declared.words.EmptinessWord.{EmptinessWord}
 use Rattle.utd_syntax.specs.declared.words.EmptinessWord.TheVariants as emptinesses
 use Rattle.utd_syntax.specs.Pieces.{Piece, first}
-use Rattle.utd_syntax.specs.Plain.{Word, PointP, ScalarP, ConjP, NegP, CmpP, SumP, ProdP, SignP, PrimaryP, KindP, AttributeP, HeadingP, NamesP, NameListP, SomeNamesP, ElementP, ElementsP, SomeElementsP, TupleP, LiteralP, SetItemP, SetsP, AggregateFormP, AggregateP, AggregatesP, RenamingP, RenamingsP, PortionP, MaybePortionP, ConditionP, ProjectionP, RelP, TermsP, TermP, RelPrimaryP, OperandP, ExtendP, SummarizeP, UsingP, UsingPartP, KeyP, ForeignP, UsedConstraintP, ConstraintP, VarFormP, ComparisonP, TestP, UsedDeletionP, UsedItemP, DeletionP, ItemP, AssignP, StatementP, IntegerType, DateType, MomentType, NamedType, OneConj, Or, OneNeg, And, Not, OneCmp, OneSum, Compare, OneProd, Add, OneSign, Multiply, NegativeInteger, Negate, OnePrimary, IntegerLiteral, TextLiteral, DateLiteral, MomentLiteral, TrueLiteral, FalseLiteral, AttributeName, Dotted, Paren, Selector, Extreme, Function, PairFunction, BooleanKind, CharKind, PointKind, IntervalKind, Attribute, Heading, Names, NameList, SomeNames, Element, Elements, SomeElements, Tuple, Tuples, Headed, SetItem, Sets, CountRows, AggregateOf, Aggregate, Aggregates, Renaming, Renamings, Portion, NoPortion, OfPortion, NoCondition, Where, Onto, AllBut, OfUsing, OfTerms, OneTerm, Infix, NotMatching, OneRelPrimary, Project, Filter, Rename, OfExtend, OfSummarize, OfOperand, Relvar, OfLiteral, ParenRel, PackOn, Extend, Summarize, Using, UsingExtend, UsingSummarize, UsingInfix, UsingNotMatching, UsingProject, UsingFilter, Key, Foreign, UsedKey, UsedForeign, KeyOf, ForeignOf, PackedOn, WhenUnpacked, UsingConstraint, BaseRelvar, View, Comparison, UsingTest, Emptiness, OfComparison, UsedDeleteWhere, UsedDeleteRows, UsedInsert, UsedDelete, UsedUpdate, DeleteWhere, DeletePortion, DeleteRows, SetRelvar, Insert, Delete, Update, Terminate, UsingItem, Assign, Nothing, DeclareOrdinal, DeclareRelvar, DeclareHistory, DeclareLog, DeclareRule, Drop, DropRule, Print, Ask, Assignment}
+use Rattle.utd_syntax.specs.Plain.{Word, PointP, ScalarP, ConjP, NegP, CmpP, SumP, ProdP, SignP, PrimaryP, KindP, AttributeP, HeadingP, NamesP, NameListP, SomeNamesP, ElementP, ElementsP, SomeElementsP, TupleP, LiteralP, SetItemP, SetsP, AggregateFormP, AggregateP, AggregatesP, RenamingP, RenamingsP, PortionP, MaybePortionP, ConditionP, ProjectionP, RelP, TermsP, TermP, RelPrimaryP, OperandP, ExtendP, SummarizeP, UsingP, UsingPartP, KeyP, ForeignP, UsedConstraintP, ConstraintP, KeptP, VarFormP, ComparisonP, TestP, UsedDeletionP, UsedItemP, DeletionP, ItemP, AssignP, StatementP, IntegerType, DateType, MomentType, NamedType, OneConj, Or, OneNeg, And, Not, OneCmp, OneSum, Compare, OneProd, Add, OneSign, Multiply, NegativeInteger, Negate, OnePrimary, IntegerLiteral, TextLiteral, DateLiteral, MomentLiteral, TrueLiteral, FalseLiteral, AttributeName, Dotted, Paren, Selector, Extreme, Function, PairFunction, BooleanKind, CharKind, PointKind, IntervalKind, Attribute, Heading, Names, NameList, SomeNames, Element, Elements, SomeElements, Tuple, Tuples, Headed, SetItem, Sets, CountRows, AggregateOf, Aggregate, Aggregates, Renaming, Renamings, Portion, NoPortion, OfPortion, NoCondition, Where, Onto, AllBut, OfUsing, OfTerms, OneTerm, Infix, NotMatching, OneRelPrimary, Project, Filter, Rename, OfExtend, OfSummarize, OfOperand, Relvar, OfLiteral, ParenRel, PackOn, Extend, Summarize, Using, UsingExtend, UsingSummarize, UsingInfix, UsingNotMatching, UsingProject, UsingFilter, Key, Foreign, UsedKey, UsedForeign, KeyOf, ForeignOf, PackedOn, WhenUnpacked, UsingConstraint, KeptInfix, KeptNotMatching, KeptProject, KeptPack, BaseRelvar, View, Kept, Comparison, UsingTest, Emptiness, OfComparison, UsedDeleteWhere, UsedDeleteRows, UsedInsert, UsedDelete, UsedUpdate, DeleteWhere, DeletePortion, DeleteRows, SetRelvar, Insert, Delete, Update, Terminate, UsingItem, Assign, Nothing, DeclareOrdinal, DeclareRelvar, DeclareHistory, DeclareLog, DeclareRule, Drop, DropRule, Print, Ask, Assignment}
 
 -- What a tree says of one token: what it is, and where the tree keeps them its place and its bytes.
 pub data Mark : Type 0 where
@@ -98,6 +98,9 @@ log_word = 76 ∷ 79 ∷ 71 ∷ []
 
 abbrev pub of_word : List ℕ
 of_word = 79 ∷ 70 ∷ []
+
+abbrev pub kept_word : List ℕ
+kept_word = 75 ∷ 69 ∷ 80 ∷ 84 ∷ []
 
 abbrev pub comparison : ComparisonWord → Terminal
 comparison comparisons.Equal = t.Equal
@@ -423,9 +426,16 @@ abbrev pub of_constraints : List ConstraintP → List Mark
 of_constraints [] = []
 of_constraints (x ∷ xs) = of_constraint x ++ of_constraints xs
 
+abbrev pub of_kept : KeptP → List Mark
+of_kept (KeptInfix p a l q o r) = placed t.Using p ++ of_list a ++ token t.Colon ++ word_of l ++ placed (infix_word o) q ++ word_of r
+of_kept (KeptNotMatching p a l q r) = placed t.Using p ++ of_list a ++ token t.Colon ++ word_of l ++ placed t.Not q ++ token t.Matching ++ word_of r
+of_kept (KeptProject p a l q) = placed t.Using p ++ of_list a ++ token t.Colon ++ word_of l ++ of_projection q
+of_kept (KeptPack p n a) = placed t.Pack p ++ word_of n ++ token t.On ++ of_list a
+
 abbrev pub of_var_form : VarFormP → List Mark
 of_var_form (BaseRelvar p h cs) = placed t.Relation p ++ of_heading h ++ of_constraints cs
 of_var_form (View p r) = placed t.Virtual p ++ token t.Open ++ of_rel r ++ token t.Close
+of_var_form (Kept p k) = lexeme t.Name p kept_word ++ token t.Open ++ of_kept k ++ token t.Close
 
 abbrev pub of_comparison : ComparisonP → List Mark
 of_comparison (Comparison l p o r) = of_operand l ++ placed (relation_comparison o) p ++ of_operand r

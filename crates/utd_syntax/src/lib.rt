@@ -22,7 +22,7 @@ pub use scalar::{
     Comparison, Conjunction, Negation, PointName, Primary, Product, Scalar, Sign, Sum,
 };
 pub use statement::{
-    Assignment, Constraint, Constraints, Deletion, Foreign, History, Item, Items, Key, Relate,
+    Assignment, Constraint, Constraints, Deletion, Foreign, History, Item, Items, Kept, Key, Relate,
     Statement, Test, UsedConstraint, UsedDeletion, UsedItem, VarForm,
 };
 pub use terminal::Terminal;

@@ -1,9 +1,11 @@
 // Statements and their parts.
-use crate::parts::{Condition, Heading, MaybePortion, NameList, Names, Portion, Sets, SomeNames};
+use crate::parts::{
+    Condition, Heading, MaybePortion, NameList, Names, Portion, Projection, Sets, SomeNames,
+};
 use crate::relation::{Operand, Rel};
 use crate::scalar::{PointName, Scalar};
 use crate::word::Word;
-use crate::words::{EmptinessWord, RelationComparison};
+use crate::words::{EmptinessWord, InfixWord, RelationComparison};
 use point_core::Place;
 
 /// `"KEY" names`; the place is that of KEY.
@@ -44,11 +46,22 @@ pub struct Constraints {
     pub list: Vec<Constraint>,
 }
 
-/// `"RELATION" heading { constraint } | "VIRTUAL" "(" rel ")"`; the place is that of the word.
+/// What a kept view may be: `"USING" list ":" name infix name | "USING" list ":" name projection | "PACK" name "ON" list`;
+/// the place is that of the first word, and the second that of the infix or of NOT.
+#[derive(Drop)]
+pub enum Kept {
+    Infix(Place, NameList, Word, Place, InfixWord, Word),
+    NotMatching(Place, NameList, Word, Place, Word),
+    Project(Place, NameList, Word, Projection),
+    Pack(Place, Word, NameList),
+}
+
+/// `"RELATION" heading { constraint } | "VIRTUAL" "(" rel ")" | "KEPT" "(" kept ")"`; the place is that of the word.
 #[derive(Drop)]
 pub enum VarForm {
     Relation(Place, Heading, Constraints),
     Virtual(Place, Box<Rel>),
+    Kept(Place, Kept),
 }
 
 /// `operand ( "=" | "<>" | "<" | "<=" | ">" | ">=" ) operand`; the place is that of the comparison.

@@ -16,6 +16,7 @@ syntax keyword utdFunction BEGIN COUNT END FIRST IS_EMPTY IS_NOT_EMPTY LAST MAX 
 syntax keyword utdWord ALL AS BUT BY FOREIGN KEY ON PACKED PORTION REFERENCES RELATION RENAME THEN TUPLE UNPACKED VIRTUAL WHEN WHERE
 
 " words that are reserved at their places alone
+syntax match utdPlace /\<KEPT\>\ze\_s\+(\_s*\%(USING\|PACK\)\>/
 syntax keyword utdStatement TERMINATE nextgroup=utdTerminateName skipwhite skipempty
 syntax match utdTerminateName /\k\+/ contained nextgroup=utdAt skipwhite skipempty
 syntax keyword utdAt AT contained
