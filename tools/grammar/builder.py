@@ -85,16 +85,16 @@ def must_lemma(S, last, excl=[], choices=[]):
 def to_lemma(f, g, excl=[], choices=[]):
     st, F, target, K, look = LINK[(f, g)]
     ns = ' '.join(names_of(excl, choices))
-    look, ahead = (look, ' ahead') if look else ('', '')
+    ahead = f' (λ e. absurd (n{excl.index("Name")} e))' if look else ''
     r = [f'starts-{f}-{g} : {PAR} (k : Go ({F} ∷ stack)) (s : StatementP) → {premises(excl, choices, "x")}read_at x n p b next ({F} ∷ stack) k ≡ Some s → {st} x']
     for x in terminals(F):
         if x in STARTSETS[st]: r.append(f'starts-{f}-{g} t.{x} n p b next stack k s {ns} h = tt'); continue
         q = refuted(x, excl, choices); assert q, (f, g, x)
         r.append(f'starts-{f}-{g} t.{x} n p b next stack k s {ns} h = {q}')
     r += [f'starts-{f}-{g} _ n p b next stack k s {ns} h = differs h', '',
-     f'pub {f}-to-{g} : (ts : List Piece) (stack : List Symbol) (k : Go ({F} ∷ stack)) (s : StatementP) → {premises(excl, choices, "(first ts)")}{look}read ts ({F} ∷ stack) k ≡ Some s → read ts {target} {K} ≡ Some s',
-     f'{f}-to-{g} [] stack k s {ns}{ahead} h = differs h',
-     f'{f}-to-{g} (x ∷ ts) stack k s {ns}{ahead} h = sym ({f}-as-{g} (x ∷ ts) stack k (starts-{f}-{g} x.terminal (first ts) x.place x.bytes (read ts) stack k s {ns} h){ahead}) ∙ h', '']
+     f'pub {f}-to-{g} : (ts : List Piece) (stack : List Symbol) (k : Go ({F} ∷ stack)) (s : StatementP) → {premises(excl, choices, "(first ts)")}read ts ({F} ∷ stack) k ≡ Some s → read ts {target} {K} ≡ Some s',
+     f'{f}-to-{g} [] stack k s {ns} h = differs h',
+     f'{f}-to-{g} (x ∷ ts) stack k s {ns} h = sym ({f}-as-{g} (x ∷ ts) stack k (starts-{f}-{g} x.terminal (first ts) x.place x.bytes (read ts) stack k s {ns} h){ahead}) ∙ h', '']
     return r
 def choice_lemmas(c):
     ty, vs_ = CHOICES[c]; C = CON[c]
@@ -199,9 +199,11 @@ NAMED = [f'is-sign : {PAR} (k : Go (Just t.Assign ∷ stack)) (s : StatementP) �
  'named-sign true p b ts stack beyond k s n0 h = must-AfterLog ts stack _ s n0 h', 'named-sign false p b ts stack beyond k s n0 h = must-sign ts _ _ s h', '',
  f'named-log : (c : Bool) (p : Place) (b : List ℕ) (ts : List Piece) (stack : List Symbol) (beyond : Go stack → Option StatementP) (k : Go (TheStatement ∷ stack)) (s : StatementP) → first ts ≡ t.Name → on_turn TheStatement (cond c {ON_LOG} {ON_NAME}) (pick TheStatement c {ON_LOG} {ON_NAME} (λ v. v.0 p) (λ v. {SETS.format(p="p", b="b")})) stack (read ts) beyond k ≡ Some s → read ts (AfterLog ∷ stack) (λ v. k (v.0 p, v.1)) ≡ Some s',
  'named-log true p b ts stack beyond k s is h = h', 'named-log false p b ts stack beyond k s is h = absurd (name-sign (sym is ∙ must-sign ts _ _ s h))', '',
- 'pub sign-behind : (ts : List Piece) (stack : List Symbol) (k : Go (TheStatement ∷ stack)) (s : StatementP) → first ts ≡ t.Name → (second ts ≡ t.Name → ⊥) → read ts (TheStatement ∷ stack) k ≡ Some s → second ts ≡ t.Assign',
+ 'sign-behind : (ts : List Piece) (stack : List Symbol) (k : Go (TheStatement ∷ stack)) (s : StatementP) → first ts ≡ t.Name → (second ts ≡ t.Name → ⊥) → read ts (TheStatement ∷ stack) k ≡ Some s → second ts ≡ t.Assign',
  'sign-behind [] stack k s is n0 h = differs h',
  'sign-behind (x ∷ ts) stack k s is n0 h = named-sign (same_bytes log_word x.bytes) x.place x.bytes ts stack (read_at t.Name (first ts) x.place x.bytes (read ts) stack) k s n0 (sym (ap (λ z. read_at z (first ts) x.place x.bytes (read ts) (TheStatement ∷ stack) k) is) ∙ h)', '',
+ 'pub name-to-assign : (ts : List Piece) (stack : List Symbol) (k : Go (TheStatement ∷ stack)) (s : StatementP) → first ts ≡ t.Name → (second ts ≡ t.Name → ⊥) → read ts (TheStatement ∷ stack) k ≡ Some s → read ts {2} {3} ≡ Some s'.format(*LINK[('statement', 'assign')]),
+ 'name-to-assign ts stack k s is n0 h = sym (statement-as-assign ts stack k (subst {0} (sym is) tt) (λ e. sign-behind ts stack k s is n0 h)) ∙ h'.format(*LINK[('statement', 'assign')]), '',
  'pub log-begins : (p : Place) (old new : List Piece) (stack : List Symbol) (k : Go (TheStatement ∷ stack)) (s : StatementP) → first old ≡ t.Name → first new ≡ t.Name → p ≡ place_of old → new ≡ behind old → read old (TheStatement ∷ stack) k ≡ Some s → read new (AfterLog ∷ stack) (λ v. k (v.0 p, v.1)) ≡ Some s',
  'log-begins p old new stack k s is name hp hn h = named-log (same_bytes log_word (bytes_of old)) p (bytes_of old) new stack (read_at t.Name (first new) p (bytes_of old) (read new) stack) k s name (at t.Name p (bytes_of old) old new (TheStatement ∷ stack) k s is refl hp refl hn h)', '',
  'kept-taken : (c : Bool) (p : Place) (stack : List Symbol) (next : (st : List Symbol) → Go st → Option StatementP) (beyond : Go stack → Option StatementP) (k : Go (TheVarForm ∷ stack)) (s : StatementP) → on_turn TheVarForm (cond c (Takes Plain (InKept ∷ [])) Never) (pick TheVarForm c (Takes Plain (InKept ∷ [])) Never (λ v. Kept p v.0) tt) stack next beyond k ≡ Some s → next (InKept ∷ stack) (λ v. k (Kept p v.0, v.1)) ≡ Some s',
@@ -213,7 +215,7 @@ b += YES + flag_ends('MoreConstraints','is_constraint',terminals('MoreConstraint
 CT5 = 'Key Foreign Packed When Using'.split()
 b += ['pub starts-constraint : (x : Terminal) → is_constraint x ≡ true → Starts_constraint x'] + [f'starts-constraint t.{x} e = tt' for x in CT5] + ['starts-constraint _ e = absurd (yes (sym e))', '',
  'pub not-constraint : (x : Terminal) → is_constraint x ≡ true → ' + ''.join(f'(x ≡ t.{x} → ⊥) → ' for x in CT5[:4]) + 'x ≡ t.Using'] + [f'not-constraint t.{x} e n0 n1 n2 n3 = absurd (n{i} refl)' for i, x in enumerate(CT5[:4])] + ['not-constraint t.Using e n0 n1 n2 n3 = refl', 'not-constraint _ e n0 n1 n2 n3 = absurd (yes (sym e))', '']
-for f, g, ex in [('used_constraint','key',['Foreign']),('comparison','operand',[]),('test','comparison',['Using','IsEmpty','IsNotEmpty']),('used_deletion','rel',['Where']),('deletion','rel',['Where','Portion']),('assign','item',[]),('statement','assign',NOTS('Semicolon TypeWord Var History Constraint Drop Print Ask'))]: b += to_lemma(f, g, ex)
+for f, g, ex in [('used_constraint','key',['Foreign']),('comparison','operand',[]),('test','comparison',['Using','IsEmpty','IsNotEmpty']),('used_deletion','rel',['Where']),('deletion','rel',['Where','Portion']),('assign','item',[]),('statement','assign',NOTS('Semicolon TypeWord Var History Constraint Drop Print Ask Name'))]: b += to_lemma(f, g, ex)
 for S, last, ex in [('TheKey','Key',[]),('TheForeign','Foreign',[]),('TheConstraint','Using',CT5[:4]),('InRel','Open',[]),('TheVarForm','Relation',['Virtual','Name']),('InKept','Open',[]),('TheKept','Pack',['Using']),('TheUsedItem','Update',['Insert','Delete']),('TheItem','Name',NOTS('Insert Delete Update Terminate Using')),('AfterDrop','Var',['Constraint']),('AfterLog','Assign',['Name'])]: b += must_lemma(S, last, ex)
 b += must_lemma('AfterKept','OpenBrace',['Not'],['infix_word']) + row_lemma('infix_word','AfterKept',('TheName','(λ v. k ((λ q a l. KeptInfix q a l p w v.0), v.1))')) + NAMED
 b += choice_lemmas('emptiness') + row_lemma('emptiness','TheTest',('InRel','(λ v. k (Emptiness p w v.0, v.1))'))

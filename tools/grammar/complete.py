@@ -140,12 +140,12 @@ for (f, g) in LINKS:
 def second_lemma(n, x):
     r = [f'{n}-second : (x : {FORMS[n]["type"]}) (ts rest : List Piece) → Spells (of_{n} x) ts rest → first ts ≡ t.Name → second ts ≡ t.{x}']
     for con, pat, items, parts in FORMS[n]['cases']:
-        head = f'{n}-second {pat} ts rest h e ='
-        if items[0][0] == 'f': r.append(f'{head} let x0 = two ({pexpr(items[:1])}) ({pexpr(items[1:])}) ts rest h in {items[0][1]}-second {items[0][2]} ts x0.mid x0.before e')
+        head = f'{n}-second {pat} ts rest h name ='
+        if items[0][0] == 'f': r.append(f'{head} let x0 = two ({pexpr(items[:1])}) ({pexpr(items[1:])}) ts rest h in {items[0][1]}-second {items[0][2]} ts x0.mid x0.before name')
         elif items[0][0] == 'name':
             assert items[1] == ('fx', x), (n, con)
             r.append(f'{head} let x0 = one ({mark(items[0])}) ({pexpr(items[1:])}) ts rest h in ap second x0.is ∙ begins (λ z. z ≡ t.{x}) _ x0.left rest refl x0.spells')
-        else: r.append(f'{head} absurd (begins (λ z. z ≡ t.Name → ⊥) _ ts rest (λ z. cc) h e)')
+        else: r.append(f'{head} absurd (begins (λ z. z ≡ t.Name → ⊥) _ ts rest (λ z. cc) h name)')
     return r + ['']
 def look_lemmas(f, g, st, k):
     """Behind a name that is spelled so, the rest of the other form takes what the form of this link has there, and makes the same."""

@@ -39,7 +39,7 @@ def writes(s):
     ps = ' '.join(f'({p} : {t})' for p, t in d['params'])
     return f'Writes {s} v ts rest = {ps} (from : List Piece) → Spells ({d["prefix"]}) from ts → Spells ({d["result"]} (v {" ".join(p for p, _ in d["params"])})) from rest'
 o = ['-- What the table reads writes the tokens.'] + HEAD + [WRITTEN_USE, TABLE_USE, READER_USE,
- f'use {CR}.specs.Verdict.{{Whole, no_limits, verdict}}', f'use {CR}.proofs.Marks.{{Spells-append}}', f'use {CR}.proofs.Accepted.{{Agree, agrees}}', 'use Rattle.std.proofs.lemmas.Bool.{eqb-true}', '',
+ f'use {CR}.specs.Verdict.{{Whole, no_limits, verdict}}', f'use {CR}.proofs.Marks.{{Spells-append}}', f'use {CR}.proofs.Accepted.{{Agree, agrees}}', f'use {CR}.proofs.Complete.{{both-left, both-right, bytes-same}}', 'use Rattle.std.proofs.lemmas.Bool.{eqb-true}', '',
 '''pub nil : {ts rest : List Piece} → ts ≡ rest → Spells [] ts rest
 unfolding Spells
 nil h = h

@@ -1,6 +1,6 @@
 -- Written by tools/grammar; change it there.
 -- What statements say of the next token, where a statement goes on.
-use Rattle.std.proofs.Common.{◌≡◌, ℕ, List, [], ◌∷◌, ◌++◌, Bool, true, false, cond, Option, Some, None, refl, sym, ◌∙◌, ap}
+use Rattle.std.proofs.Common.{◌≡◌, ℕ, List, [], ◌∷◌, ◌++◌, Bool, true, false, cond, Option, Some, None, refl, sym, ◌∙◌, ap, subst}
 use Rattle.utd_syntax.specs.declared.terminal.Terminal.{Terminal}
 use Rattle.utd_syntax.specs.declared.terminal.Terminal.TheVariants as t
 use Rattle.point_core.specs.declared.fault.Place.{Place}
@@ -142,26 +142,26 @@ pub assign-to-item : (ts : List Piece) (stack : List Symbol) (k : Go (TheAssign 
 assign-to-item [] stack k s h = differs h
 assign-to-item (x ∷ ts) stack k s h = sym (assign-as-item (x ∷ ts) stack k (starts-assign-item x.terminal (first ts) x.place x.bytes (read ts) stack k s h)) ∙ h
 
-starts-statement-assign : (x n : Terminal) (p : Place) (b : List ℕ) (next : (st : List Symbol) → Go st → Option StatementP) (stack : List Symbol) (k : Go (TheStatement ∷ stack)) (s : StatementP) → (x ≡ t.Semicolon → ⊥) → (x ≡ t.TypeWord → ⊥) → (x ≡ t.Var → ⊥) → (x ≡ t.History → ⊥) → (x ≡ t.Constraint → ⊥) → (x ≡ t.Drop → ⊥) → (x ≡ t.Print → ⊥) → (x ≡ t.Ask → ⊥) → read_at x n p b next (TheStatement ∷ stack) k ≡ Some s → Starts_item x
-starts-statement-assign t.Semicolon n p b next stack k s n0 n1 n2 n3 n4 n5 n6 n7 h = absurd (n0 refl)
-starts-statement-assign t.TypeWord n p b next stack k s n0 n1 n2 n3 n4 n5 n6 n7 h = absurd (n1 refl)
-starts-statement-assign t.Var n p b next stack k s n0 n1 n2 n3 n4 n5 n6 n7 h = absurd (n2 refl)
-starts-statement-assign t.History n p b next stack k s n0 n1 n2 n3 n4 n5 n6 n7 h = absurd (n3 refl)
-starts-statement-assign t.Constraint n p b next stack k s n0 n1 n2 n3 n4 n5 n6 n7 h = absurd (n4 refl)
-starts-statement-assign t.Drop n p b next stack k s n0 n1 n2 n3 n4 n5 n6 n7 h = absurd (n5 refl)
-starts-statement-assign t.Print n p b next stack k s n0 n1 n2 n3 n4 n5 n6 n7 h = absurd (n6 refl)
-starts-statement-assign t.Ask n p b next stack k s n0 n1 n2 n3 n4 n5 n6 n7 h = absurd (n7 refl)
-starts-statement-assign t.Name n p b next stack k s n0 n1 n2 n3 n4 n5 n6 n7 h = tt
-starts-statement-assign t.Insert n p b next stack k s n0 n1 n2 n3 n4 n5 n6 n7 h = tt
-starts-statement-assign t.Delete n p b next stack k s n0 n1 n2 n3 n4 n5 n6 n7 h = tt
-starts-statement-assign t.Update n p b next stack k s n0 n1 n2 n3 n4 n5 n6 n7 h = tt
-starts-statement-assign t.Terminate n p b next stack k s n0 n1 n2 n3 n4 n5 n6 n7 h = tt
-starts-statement-assign t.Using n p b next stack k s n0 n1 n2 n3 n4 n5 n6 n7 h = tt
-starts-statement-assign _ n p b next stack k s n0 n1 n2 n3 n4 n5 n6 n7 h = differs h
+starts-statement-assign : (x n : Terminal) (p : Place) (b : List ℕ) (next : (st : List Symbol) → Go st → Option StatementP) (stack : List Symbol) (k : Go (TheStatement ∷ stack)) (s : StatementP) → (x ≡ t.Semicolon → ⊥) → (x ≡ t.TypeWord → ⊥) → (x ≡ t.Var → ⊥) → (x ≡ t.History → ⊥) → (x ≡ t.Constraint → ⊥) → (x ≡ t.Drop → ⊥) → (x ≡ t.Print → ⊥) → (x ≡ t.Ask → ⊥) → (x ≡ t.Name → ⊥) → read_at x n p b next (TheStatement ∷ stack) k ≡ Some s → Starts_item x
+starts-statement-assign t.Semicolon n p b next stack k s n0 n1 n2 n3 n4 n5 n6 n7 n8 h = absurd (n0 refl)
+starts-statement-assign t.TypeWord n p b next stack k s n0 n1 n2 n3 n4 n5 n6 n7 n8 h = absurd (n1 refl)
+starts-statement-assign t.Var n p b next stack k s n0 n1 n2 n3 n4 n5 n6 n7 n8 h = absurd (n2 refl)
+starts-statement-assign t.History n p b next stack k s n0 n1 n2 n3 n4 n5 n6 n7 n8 h = absurd (n3 refl)
+starts-statement-assign t.Constraint n p b next stack k s n0 n1 n2 n3 n4 n5 n6 n7 n8 h = absurd (n4 refl)
+starts-statement-assign t.Drop n p b next stack k s n0 n1 n2 n3 n4 n5 n6 n7 n8 h = absurd (n5 refl)
+starts-statement-assign t.Print n p b next stack k s n0 n1 n2 n3 n4 n5 n6 n7 n8 h = absurd (n6 refl)
+starts-statement-assign t.Ask n p b next stack k s n0 n1 n2 n3 n4 n5 n6 n7 n8 h = absurd (n7 refl)
+starts-statement-assign t.Name n p b next stack k s n0 n1 n2 n3 n4 n5 n6 n7 n8 h = tt
+starts-statement-assign t.Insert n p b next stack k s n0 n1 n2 n3 n4 n5 n6 n7 n8 h = tt
+starts-statement-assign t.Delete n p b next stack k s n0 n1 n2 n3 n4 n5 n6 n7 n8 h = tt
+starts-statement-assign t.Update n p b next stack k s n0 n1 n2 n3 n4 n5 n6 n7 n8 h = tt
+starts-statement-assign t.Terminate n p b next stack k s n0 n1 n2 n3 n4 n5 n6 n7 n8 h = tt
+starts-statement-assign t.Using n p b next stack k s n0 n1 n2 n3 n4 n5 n6 n7 n8 h = tt
+starts-statement-assign _ n p b next stack k s n0 n1 n2 n3 n4 n5 n6 n7 n8 h = differs h
 
-pub statement-to-assign : (ts : List Piece) (stack : List Symbol) (k : Go (TheStatement ∷ stack)) (s : StatementP) → ((first ts) ≡ t.Semicolon → ⊥) → ((first ts) ≡ t.TypeWord → ⊥) → ((first ts) ≡ t.Var → ⊥) → ((first ts) ≡ t.History → ⊥) → ((first ts) ≡ t.Constraint → ⊥) → ((first ts) ≡ t.Drop → ⊥) → ((first ts) ≡ t.Print → ⊥) → ((first ts) ≡ t.Ask → ⊥) → (first ts ≡ t.Name → second ts ≡ t.Assign) → read ts (TheStatement ∷ stack) k ≡ Some s → read ts (TheAssign ∷ Just t.Semicolon ∷ stack) (λ v. k (Assignment v.0, v.1.1)) ≡ Some s
-statement-to-assign [] stack k s n0 n1 n2 n3 n4 n5 n6 n7 ahead h = differs h
-statement-to-assign (x ∷ ts) stack k s n0 n1 n2 n3 n4 n5 n6 n7 ahead h = sym (statement-as-assign (x ∷ ts) stack k (starts-statement-assign x.terminal (first ts) x.place x.bytes (read ts) stack k s n0 n1 n2 n3 n4 n5 n6 n7 h) ahead) ∙ h
+pub statement-to-assign : (ts : List Piece) (stack : List Symbol) (k : Go (TheStatement ∷ stack)) (s : StatementP) → ((first ts) ≡ t.Semicolon → ⊥) → ((first ts) ≡ t.TypeWord → ⊥) → ((first ts) ≡ t.Var → ⊥) → ((first ts) ≡ t.History → ⊥) → ((first ts) ≡ t.Constraint → ⊥) → ((first ts) ≡ t.Drop → ⊥) → ((first ts) ≡ t.Print → ⊥) → ((first ts) ≡ t.Ask → ⊥) → ((first ts) ≡ t.Name → ⊥) → read ts (TheStatement ∷ stack) k ≡ Some s → read ts (TheAssign ∷ Just t.Semicolon ∷ stack) (λ v. k (Assignment v.0, v.1.1)) ≡ Some s
+statement-to-assign [] stack k s n0 n1 n2 n3 n4 n5 n6 n7 n8 h = differs h
+statement-to-assign (x ∷ ts) stack k s n0 n1 n2 n3 n4 n5 n6 n7 n8 h = sym (statement-as-assign (x ∷ ts) stack k (starts-statement-assign x.terminal (first ts) x.place x.bytes (read ts) stack k s n0 n1 n2 n3 n4 n5 n6 n7 n8 h) (λ e. absurd (n8 e))) ∙ h
 
 is-TheKey : (x n : Terminal) (p : Place) (b : List ℕ) (next : (st : List Symbol) → Go st → Option StatementP) (stack : List Symbol) (k : Go (TheKey ∷ stack)) (s : StatementP) → read_at x n p b next (TheKey ∷ stack) k ≡ Some s → x ≡ t.Key
 is-TheKey t.Key n p b next stack k s h = refl
@@ -343,9 +343,12 @@ named-log : (c : Bool) (p : Place) (b : List ℕ) (ts : List Piece) (stack : Lis
 named-log true p b ts stack beyond k s is h = h
 named-log false p b ts stack beyond k s is h = absurd (name-sign (sym is ∙ must-sign ts _ _ s h))
 
-pub sign-behind : (ts : List Piece) (stack : List Symbol) (k : Go (TheStatement ∷ stack)) (s : StatementP) → first ts ≡ t.Name → (second ts ≡ t.Name → ⊥) → read ts (TheStatement ∷ stack) k ≡ Some s → second ts ≡ t.Assign
+sign-behind : (ts : List Piece) (stack : List Symbol) (k : Go (TheStatement ∷ stack)) (s : StatementP) → first ts ≡ t.Name → (second ts ≡ t.Name → ⊥) → read ts (TheStatement ∷ stack) k ≡ Some s → second ts ≡ t.Assign
 sign-behind [] stack k s is n0 h = differs h
 sign-behind (x ∷ ts) stack k s is n0 h = named-sign (same_bytes log_word x.bytes) x.place x.bytes ts stack (read_at t.Name (first ts) x.place x.bytes (read ts) stack) k s n0 (sym (ap (λ z. read_at z (first ts) x.place x.bytes (read ts) (TheStatement ∷ stack) k) is) ∙ h)
+
+pub name-to-assign : (ts : List Piece) (stack : List Symbol) (k : Go (TheStatement ∷ stack)) (s : StatementP) → first ts ≡ t.Name → (second ts ≡ t.Name → ⊥) → read ts (TheStatement ∷ stack) k ≡ Some s → read ts (TheAssign ∷ Just t.Semicolon ∷ stack) (λ v. k (Assignment v.0, v.1.1)) ≡ Some s
+name-to-assign ts stack k s is n0 h = sym (statement-as-assign ts stack k (subst Starts_item (sym is) tt) (λ e. sign-behind ts stack k s is n0 h)) ∙ h
 
 pub log-begins : (p : Place) (old new : List Piece) (stack : List Symbol) (k : Go (TheStatement ∷ stack)) (s : StatementP) → first old ≡ t.Name → first new ≡ t.Name → p ≡ place_of old → new ≡ behind old → read old (TheStatement ∷ stack) k ≡ Some s → read new (AfterLog ∷ stack) (λ v. k (v.0 p, v.1)) ≡ Some s
 log-begins p old new stack k s is name hp hn h = named-log (same_bytes log_word (bytes_of old)) p (bytes_of old) new stack (read_at t.Name (first new) p (bytes_of old) (read new) stack) k s name (at t.Name p (bytes_of old) old new (TheStatement ∷ stack) k s is refl hp refl hn h)

@@ -3,7 +3,7 @@ use Rattle.std.proofs.Common.{◌≡◌, ◌≤◌, ◌+◌, ℕ, List, [], ◌�
 use Rattle.point_core.specs.declared.fault.Place.{Place}
 use Rattle.utd_syntax.specs.declared.terminal.Terminal.{Terminal}
 use Rattle.utd_syntax.specs.declared.terminal.Terminal.TheVariants as t
-use Rattle.utd_syntax.specs.Pieces.{Piece, first, place_of, bytes_of}
+use Rattle.utd_syntax.specs.Pieces.{Piece, first, second, place_of, bytes_of}
 use Rattle.utd_syntax.specs.Plain.{StatementP}
 use Rattle.utd_syntax.specs.Table.{Symbol, Just, Worded, Plain, Takes, Never, spelt, fits, same}
 use Rattle.utd_syntax.proofs.FormValues.{Val}
@@ -29,6 +29,11 @@ less x (o ∷ old) new is more hn = let e : length new ≡ length old = ap lengt
 pub no-more : (old new : List Piece) → new ≡ behind old → length new ≤ length old
 no-more [] new hn = let e : length new ≡ 0 = ap length hn in omega arith
 no-more (o ∷ old) new hn = let e : length new ≡ length old = ap length hn in omega arith
+
+-- the second token is the first behind it
+pub second-behind : (old new : List Piece) → new ≡ behind old → second old ≡ first new
+second-behind [] new hn = sym (ap first hn)
+second-behind (o ∷ old) new hn = sym (ap first hn)
 
 -- a value is not nothing
 pub differs : {A : Type 0} {B : Type 0} {b : B} → None ≡ Some b → A

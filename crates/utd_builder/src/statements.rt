@@ -1,25 +1,27 @@
 // Statements and their parts: each part is built from the tokens that stand first.
-ghost use Rattle.std.specs.Prelude.{◌≡◌, ◌<◌, ◌++◌, true, length, IfOk};
+ghost use Rattle.std.specs.Prelude.{◌≡◌, ◌<◌, ◌++◌, None, true, length, IfOk};
 ghost use Rattle.utd_syntax.specs.Pieces.{first as first_of};
-ghost use Rattle.utd_syntax.specs.Read.{read_assign, read_comparison, read_constraint, read_constraint_list, read_deletion, read_foreign, read_item, read_item_list, read_key, read_name, read_statement, read_test, read_used_constraint, read_used_deletion, read_used_item, read_var_form};
-ghost use Rattle.utd_syntax.specs.Table.{MoreConstraints, MoreItems, TheAssign, TheComparison, TheConstraint, TheDeletion, TheForeign, TheItem, TheKey, TheParenName, TheStatement, TheTest, TheUsedConstraint, TheUsedDeletion, TheUsedItem, TheVarForm};
+ghost use Rattle.utd_syntax.specs.Read.{read_assign, read_comparison, read_constraint, read_constraint_list, read_deletion, read_foreign, read_item, read_item_list, read_kept, read_key, read_list, read_name, read_statement, read_test, read_used_constraint, read_used_deletion, read_used_item, read_var_form};
+ghost use Rattle.utd_syntax.specs.Table.{AfterKept, MoreConstraints, MoreItems, TheAssign, TheComparison, TheConstraint, TheDeletion, TheForeign, TheItem, TheKept, TheKey, TheParenName, TheStatement, TheTest, TheUsedConstraint, TheUsedDeletion, TheUsedItem, TheVarForm};
 ghost use Rattle.utd_syntax.specs.Written as written;
 ghost use Rattle.utd_syntax.specs.declared.statement.Statement.TheVariants as statements;
 ghost use Rattle.utd_builder.specs.Building.{Builds, Gives, left};
 ghost use Rattle.utd_builder.specs.Choices.{is_constraint, relation_comparison_of};
+ghost use Rattle.utd_builder.specs.Choices as choices;
 
-use crate::choices::is_constraint;
+use crate::choices::{infix_word, is_constraint};
 use crate::cursor::Cursor;
 use crate::parts::{
-    condition, heading, maybe_portion, name_list, names, portion, sets, some_names,
+    condition, heading, maybe_portion, name_list, names, portion, projection, sets, some_names,
 };
 use crate::relations::{operand, rel};
 use crate::scalars::{point, scalar};
+use point_core::Place;
 use std::alloc::{AllocError, Global};
 use utd_syntax::{
     Assignment, Constraint, Constraints, Deletion, EmptinessWord, Foreign, History, Item, Items,
-    Key, Relate, RelationComparison, Statement, Terminal, Test, UsedConstraint, UsedDeletion,
-    UsedItem, VarForm, Word,
+    Kept, Key, NameList, Relate, RelationComparison, Statement, Terminal, Test, UsedConstraint,
+    UsedDeletion, UsedItem, VarForm, Word,
 };
 
 fn key<'a>(alloc: Global, cursor: Cursor<'a>) -> Result<(Key, Cursor<'a>), AllocError>
@@ -120,6 +122,71 @@ fn constraints<'a>(
     Ok((Constraints { list }, next))
 }
 
+// What a kept view may be.
+fn kept<'a>(alloc: Global, cursor: Cursor<'a>) -> Result<(Kept, Cursor<'a>), AllocError>
+    ensures { Builds TheKept read_kept (left cursor.entry) result }
+{
+    let place = cursor.place();
+    let behind = cursor.skip();
+    match cursor.terminal() {
+        Terminal::Using => {
+            let (names, next) = name_list(alloc, behind)?;
+            let (first, rest) = next.skip().name(alloc)?;
+            let (tree, end) = kept_using(alloc, place, names, first, rest)?;
+            Ok((tree, end))
+        }
+        _ => {
+            let (name, next) = behind.name(alloc)?;
+            let (names, end) = name_list(alloc, next.skip())?;
+            Ok((Kept::Pack(place, name, names), end))
+        }
+    }
+}
+
+fn kept_using<'a>(
+    alloc: Global,
+    place: Place,
+    names: NameList,
+    first: Word,
+    cursor: Cursor<'a>,
+) -> Result<(Kept, Cursor<'a>), AllocError>
+    ensures { Gives AfterKept (λ f. f place (read_list names) (read_name first)) read_kept (left cursor.entry) result }
+{
+    match infix_word(cursor.terminal()) {
+        Some(word) => {
+            let at = cursor.place();
+            let (second, next) = cursor.skip().name(alloc)?;
+            Ok((Kept::Infix(place, names, first, at, word, second), next))
+        }
+        None => kept_otherwise(alloc, place, names, first, cursor),
+    }
+}
+
+// NOT MATCHING, or a projection.
+fn kept_otherwise<'a>(
+    alloc: Global,
+    place: Place,
+    names: NameList,
+    first: Word,
+    cursor: Cursor<'a>,
+) -> Result<(Kept, Cursor<'a>), AllocError>
+    requires { choices.infix_word_at (first_of (left cursor)) ≡ None }
+    ensures { Gives AfterKept (λ f. f place (read_list names) (read_name first)) read_kept (left cursor.entry) result }
+{
+    let at = cursor.place();
+    let behind = cursor.skip();
+    match cursor.terminal() {
+        Terminal::Not => {
+            let (second, next) = behind.skip().name(alloc)?;
+            Ok((Kept::NotMatching(place, names, first, at, second), next))
+        }
+        _ => {
+            let (onto, next) = projection(alloc, at, behind)?;
+            Ok((Kept::Project(place, names, first, onto), next))
+        }
+    }
+}
+
 fn var_form<'a>(alloc: Global, cursor: Cursor<'a>) -> Result<(VarForm, Cursor<'a>), AllocError>
     ensures { Builds TheVarForm read_var_form (left cursor.entry) result }
 {
@@ -129,6 +196,10 @@ fn var_form<'a>(alloc: Global, cursor: Cursor<'a>) -> Result<(VarForm, Cursor<'a
         Terminal::Virtual => {
             let (inner, next) = rel(alloc, behind.skip())?;
             Ok((VarForm::Virtual(place, inner), next.skip()))
+        }
+        Terminal::Name => {
+            let (only, next) = kept(alloc, behind.skip())?;
+            Ok((VarForm::Kept(place, only), next.skip()))
         }
         _ => {
             let (head, next) = heading(alloc, behind)?;
@@ -414,6 +485,7 @@ pub fn statement<'a>(
         Terminal::Drop => removal(alloc, cursor),
         Terminal::Print => print(alloc, cursor),
         Terminal::Ask => ask(alloc, cursor),
+        Terminal::Name => named(alloc, cursor),
         _ => {
             let (only, next) = assignment(alloc, cursor)?;
             Ok((Statement::Assign(only), next.skip()))
@@ -439,6 +511,27 @@ fn variable<'a>(alloc: Global, cursor: Cursor<'a>) -> Result<(Statement, Cursor<
     let (name, next) = cursor.skip().name(alloc)?;
     let (form, end) = var_form(alloc, next)?;
     Ok((Statement::Var(place, name, form), end.skip()))
+}
+
+// A log, where a name stands behind the first one, or an assignment.
+fn named<'a>(alloc: Global, cursor: Cursor<'a>) -> Result<(Statement, Cursor<'a>), AllocError>
+    requires { first_of (left cursor) ≡ Terminal.Name }
+    ensures { Builds TheStatement read_statement (left cursor.entry) result }
+{
+    let behind = cursor.skip();
+    match behind.terminal() {
+        Terminal::Name => {
+            let place = cursor.place();
+            let (log, next) = behind.name(alloc)?;
+            let (source, rest) = next.skip().name(alloc)?;
+            let (attribute, end) = name_in_parens(alloc, rest)?;
+            Ok((Statement::DeclareLog(place, log, source, attribute), end.skip()))
+        }
+        _ => {
+            let (only, next) = assignment(alloc, cursor)?;
+            Ok((Statement::Assign(only), next.skip()))
+        }
+    }
 }
 
 fn rule<'a>(alloc: Global, cursor: Cursor<'a>) -> Result<(Statement, Cursor<'a>), AllocError>

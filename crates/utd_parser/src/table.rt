@@ -1,5 +1,5 @@
 // What the next token does where a form may stand.
-ghost use Rattle.std.specs.Prelude.{◌≡◌, ℕ, List, [], if◌then◌else◌};
+ghost use Rattle.std.specs.Prelude.{◌≡◌, [], if◌then◌else◌};
 ghost use Rattle.utd_syntax.specs.Table as table;
 ghost use Rattle.utd_parser.specs.Closing.{ends_at_closing};
 ghost use Rattle.utd_parser.specs.Forms.{form_of, rows_of, row_of, spelled_as, turn_of};
@@ -30,6 +30,9 @@ fn spelled_as(word: PlaceWord) -> &'static [u8]
         PlaceWord::During => b"DURING",
         PlaceWord::Over => b"OVER",
         PlaceWord::At => b"AT",
+        PlaceWord::Log => b"LOG",
+        PlaceWord::Of => b"OF",
+        PlaceWord::Kept => b"KEPT",
     }
 }
 
@@ -39,6 +42,7 @@ fn chosen(row: &Row, behind: Terminal) -> Turn
 {
     match row {
         Row::On(_, how, next) => Turn::Takes(*how, *next),
+        Row::Spelt(_, next) => Turn::Takes(Taking::Plain, *next),
         Row::Before(_, this, how, next, other_how, other_next) => {
             if is(*this, behind) {
                 Turn::Takes(*how, *next)
@@ -49,23 +53,30 @@ fn chosen(row: &Row, behind: Terminal) -> Turn
     }
 }
 
-// The token that the row is for.
-fn terminal_of(row: &Row) -> Terminal
-    ensures { (x : Terminal) (bytes : List ℕ) → table.fits (row_of row.now) x bytes ≡ table.same result x }
+// Whether the row is for this token.
+fn fits(row: &Row, terminal: Terminal, bytes: &[u8]) -> bool
+    ensures { result ≡ table.fits (row_of row.now) terminal bytes.now }
 {
     match row {
-        Row::On(terminal, _, _) => *terminal,
-        Row::Before(terminal, _, _, _, _, _) => *terminal,
+        Row::On(wanted, _, _) => is(*wanted, terminal),
+        Row::Spelt(word, _) => is(Terminal::Name, terminal) && is_same(spelled_as(*word), bytes),
+        Row::Before(wanted, _, _, _, _, _) => is(*wanted, terminal),
     }
 }
 
 // What the first row for this token does.
-fn find(rows: &'static [Row], ends: bool, terminal: Terminal, behind: Terminal) -> Turn
-    ensures { (bytes : List ℕ) → turn_of result ≡ table.find (rows_of rows.now) ends terminal bytes behind }
+fn find(
+    rows: &'static [Row],
+    ends: bool,
+    terminal: Terminal,
+    bytes: &[u8],
+    behind: Terminal,
+) -> Turn
+    ensures { turn_of result ≡ table.find (rows_of rows.now) ends terminal bytes.now behind }
 {
     let mut rest = rows;
     while let Some((row, more)) = rest.split_first() {
-        if is(terminal_of(row), terminal) {
+        if fits(row, terminal, bytes) {
             return chosen(row, behind);
         }
         rest = more;
@@ -93,7 +104,7 @@ pub fn turn(form: Form, terminal: Terminal, bytes: &[u8], behind: Terminal) -> T
         Form::Worded(word) => {
             single(is(Terminal::Name, terminal) && is_same(spelled_as(word), bytes))
         }
-        _ => find(rows_at(form), may_end(form), terminal, behind),
+        _ => find(rows_at(form), may_end(form), terminal, bytes, behind),
     }
 }
 

@@ -3,10 +3,11 @@ use Rattle.std.proofs.Common.{ℕ, List, [], ◌∷◌, ◌++◌}
 use Rattle.utd_syntax.specs.declared.terminal.Terminal.{Terminal}
 use Rattle.utd_syntax.specs.declared.terminal.Terminal.TheVariants as t
 use Rattle.point_core.specs.declared.fault.Place.{Place}
-use Rattle.utd_syntax.specs.Plain.{Word, ScalarP, ConjP, SumP, ProdP, TermsP, TermP, OperandP}
-use Rattle.utd_syntax.specs.Table.{Symbol, TheName, Comma, DateText, MomentText, NegativeDigits, ThePrimary, AfterName, AfterScalar, EndOfSelector, InParens, InPair, InPoint, TheSign, TheProd, MoreProd, TheSum, MoreSum, TheCmp, MoreCmp, TheNeg, TheConj, MoreAnd, TheScalar, MoreOr, ThePoint, TheKind, TheAttribute, MoreAttributes, InHeading, TheHeading, MoreNames, InNames, InList, TheNames, TheList, TheSomeNames, TheParenName, TheElement, MoreElements, InElements, TheElements, TheSomeElements, TheTuple, MoreTuples, InTuples, TheTuples, TheLiteral, AfterRelation, TheSetItem, MoreSetItems, TheSets, EmptyParens, TheAggregateForm, TheAggregate, MoreAggregates, TheAggregates, TheRenaming, MoreRenamings, TheRenamings, ThePortion, MaybePortion, MaybeWhere, InProjection, TheOperand, TheExtend, TheSummarize, TheRelPrimary, TheTerm, MorePostfix, TheTerms, MoreInfix, TheUsing, TheRel, TheUsingPart, AfterOperand, TheKey, TheForeign, TheUsedConstraint, TheConstraint, MoreConstraints, InRel, TheVarForm, TheComparison, AfterLeft, TheTest, TheUsedDeletion, TheUsedItem, TheDeletion, TheItem, MoreItems, TheAssign, TheStatement, AfterDrop, Just, Worded, Shut, Taking, Plain, Negated, Dated, Timed, Row, on, spelt, before, then_row, ◌▹◌}
+use Rattle.utd_syntax.specs.Plain.{Word, ScalarP, ConjP, SumP, ProdP, NameListP, TermsP, TermP, OperandP}
+use Rattle.utd_syntax.specs.Written.{log_word}
+use Rattle.utd_syntax.specs.Table.{Symbol, TheName, Comma, DateText, MomentText, NegativeDigits, ThePrimary, AfterName, AfterScalar, EndOfSelector, InParens, InPair, InPoint, TheSign, TheProd, MoreProd, TheSum, MoreSum, TheCmp, MoreCmp, TheNeg, TheConj, MoreAnd, TheScalar, MoreOr, ThePoint, TheKind, TheAttribute, MoreAttributes, InHeading, TheHeading, MoreNames, InNames, InList, TheNames, TheList, TheSomeNames, TheParenName, TheElement, MoreElements, InElements, TheElements, TheSomeElements, TheTuple, MoreTuples, InTuples, TheTuples, TheLiteral, AfterRelation, TheSetItem, MoreSetItems, TheSets, EmptyParens, TheAggregateForm, TheAggregate, MoreAggregates, TheAggregates, TheRenaming, MoreRenamings, TheRenamings, ThePortion, MaybePortion, MaybeWhere, InProjection, TheOperand, TheExtend, TheSummarize, TheRelPrimary, TheTerm, MorePostfix, TheTerms, MoreInfix, TheUsing, TheRel, TheUsingPart, AfterOperand, TheKey, TheForeign, TheUsedConstraint, TheConstraint, MoreConstraints, InRel, TheKept, AfterKept, InKept, TheVarForm, TheComparison, AfterLeft, TheTest, TheUsedDeletion, TheUsedItem, TheDeletion, TheItem, MoreItems, TheAssign, TheStatement, AfterDrop, AfterLog, Just, Worded, Shut, Taking, Plain, Negated, Dated, Timed, Row, on, spelt, before, then_row, ◌▹◌}
 use Rattle.utd_syntax.proofs.FormValues.{Val, Vals, inner, Case, Make, Makes, over_make, over_makes, last_of, last_behind, then_case, then_make, then_makes, append_makes}
-use Rattle.utd_ranges.specs.Ranges.{Range, IsIn, Each, IsIn, NameIn, PointIn, ScalarIn, ConjIn, NegIn, CmpIn, SumIn, ProdIn, SignIn, PrimaryIn, KindIn, AttributeIn, HeadingIn, NamesIn, NameListIn, SomeNamesIn, ElementIn, ElementsIn, SomeElementsIn, TupleIn, LiteralIn, SetItemIn, SetsIn, AggregateFormIn, AggregateIn, AggregatesIn, RenamingIn, RenamingsIn, PortionIn, MaybePortionIn, ConditionIn, ProjectionIn, RelIn, TermsIn, TermIn, RelPrimaryIn, OperandIn, ExtendIn, SummarizeIn, UsingIn, UsingPartIn, KeyIn, ForeignIn, UsedConstraintIn, ConstraintIn, VarFormIn, ComparisonIn, TestIn, UsedDeletionIn, UsedItemIn, DeletionIn, ItemIn, AssignIn, StatementIn}
+use Rattle.utd_ranges.specs.Ranges.{Range, IsIn, Each, IsIn, NameIn, PointIn, ScalarIn, ConjIn, NegIn, CmpIn, SumIn, ProdIn, SignIn, PrimaryIn, KindIn, AttributeIn, HeadingIn, NamesIn, NameListIn, SomeNamesIn, ElementIn, ElementsIn, SomeElementsIn, TupleIn, LiteralIn, SetItemIn, SetsIn, AggregateFormIn, AggregateIn, AggregatesIn, RenamingIn, RenamingsIn, PortionIn, MaybePortionIn, ConditionIn, ProjectionIn, RelIn, TermsIn, TermIn, RelPrimaryIn, OperandIn, ExtendIn, SummarizeIn, UsingIn, UsingPartIn, KeyIn, ForeignIn, UsedConstraintIn, ConstraintIn, KeptIn, VarFormIn, ComparisonIn, TestIn, UsedDeletionIn, UsedItemIn, DeletionIn, ItemIn, AssignIn, StatementIn}
 
 -- what a form gives is in the range; the rest of one keeps it
 abbrev pub Good : Range → (s : Symbol) → Val s → Type 0
@@ -91,6 +92,9 @@ Good out TheUsedConstraint v = UsedConstraintIn out v
 Good out TheConstraint v = ConstraintIn out v
 Good out MoreConstraints v = Each (ConstraintIn out) v
 Good out InRel v = RelIn out v
+Good out TheKept v = KeptIn out v
+Good out AfterKept f = (x : Place) → (y : NameListP) → (z : Word) → NameListIn out y → NameIn out z → KeptIn out (f x y z)
+Good out InKept v = KeptIn out v
 Good out TheVarForm v = VarFormIn out v
 Good out TheComparison v = ComparisonIn out v
 Good out AfterLeft f = (x : OperandP) → OperandIn out x → ComparisonIn out (f x)
@@ -103,6 +107,7 @@ Good out MoreItems v = Each (ItemIn out) v
 Good out TheAssign v = AssignIn out v
 Good out TheStatement v = StatementIn out v
 Good out AfterDrop f = (x : Place) → StatementIn out (f x)
+Good out AfterLog f = (x : Place) → IsIn out Plain t.Name log_word → StatementIn out (f x)
 Good out (Just x) v = Unit {0}
 Good out (Worded b) v = Unit {0}
 Good out (Shut outer) v = Unit {0}
@@ -115,9 +120,13 @@ AllGood out (s ∷ stack) vs = Good out s vs.0 × AllGood out stack vs.1
 abbrev pub CaseIn : Range → Terminal → (s : Symbol) (how : Taking) (more : List Symbol) → Case s how more → Type 0
 CaseIn out x s how more f = (p : Place) (b : List ℕ) → IsIn out how x b → (vs : Vals (inner how ++ more)) → AllGood out (inner how ++ more) vs → Good out s (f p b vs)
 
+-- the same of a name that is spelled so
+abbrev pub SpeltIn : Range → List ℕ → (s : Symbol) (more : List Symbol) → Case s Plain more → Type 0
+SpeltIn out c s more f = (p : Place) (b : List ℕ) → IsIn out Plain t.Name c → (vs : Vals (inner Plain ++ more)) → AllGood out (inner Plain ++ more) vs → Good out s (f p b vs)
+
 abbrev pub RowIn : Range → (s : Symbol) (r : Row) → Make s r → Type 0
 RowIn out s (on x how more) f = CaseIn out x s how more f
-RowIn out s (spelt c more) f = CaseIn out t.Name s Plain more f
+RowIn out s (spelt c more) f = SpeltIn out c s more f
 RowIn out s (before x y how more how' more') f = CaseIn out x s how more f.0 × CaseIn out x s how' more' f.1
 
 abbrev pub RowsIn : Range → (s : Symbol) (rs : List Row) → Makes s rs → Type 0
@@ -155,9 +164,15 @@ then-case-in out x a b c f joins how more m h = λ p w o vs g.
     let q : AllGood out (inner how ++ more) r.0 × Good out c r.1 = behind-in out (inner how) more c vs g in
     joins (m p w r.0) r.1 (h p w o r.0 q.0) q.1
 
+then-spelt-in : (out : Range) (spelling : List ℕ) (a b c : Symbol) (f : Val a → Val c → Val b) → Joins out a b c f → (more : List Symbol) (m : Case a Plain more) → SpeltIn out spelling a more m → SpeltIn out spelling b (more ++ c ∷ []) (then_case a b c f Plain more m)
+then-spelt-in out spelling a b c f joins more m h = λ p w o vs g.
+    let r : Vals (inner Plain ++ more) × Val c = last_behind (inner Plain) more c vs in
+    let q : AllGood out (inner Plain ++ more) r.0 × Good out c r.1 = behind-in out (inner Plain) more c vs g in
+    joins (m p w r.0) r.1 (h p w o r.0 q.0) q.1
+
 then-row-in : (out : Range) (a b c : Symbol) (f : Val a → Val c → Val b) → Joins out a b c f → (r : Row) (m : Make a r) → RowIn out a r m → RowIn out b (then_row r (c ∷ [])) (then_make a b c f r m)
 then-row-in out a b c f joins (on x how more) m h = then-case-in out x a b c f joins how more m h
-then-row-in out a b c f joins (spelt w more) m h = then-case-in out t.Name a b c f joins Plain more m h
+then-row-in out a b c f joins (spelt w more) m h = then-spelt-in out w a b c f joins more m h
 then-row-in out a b c f joins (before x y how more how' more') m h = (then-case-in out x a b c f joins how more m.0 h.0, then-case-in out x a b c f joins how' more' m.1 h.1)
 
 pub then-in : (out : Range) (a b c : Symbol) (f : Val a → Val c → Val b) → ((u : Val a) (w : Val c) → Good out a u → Good out c w → Good out b (f u w)) → (rs : List Row) (ms : Makes a rs) → RowsIn out a rs ms → RowsIn out b (rs ▹ (c ∷ [])) (then_makes a b c f rs ms)

@@ -7,13 +7,14 @@ use Rattle.point_core.specs.declared.fault.Code.TheVariants.{E05, E06}
 use Rattle.utd_syntax.specs.Pieces.{Piece, first, place_of}
 use Rattle.utd_syntax.specs.Plain.{StatementP}
 use Rattle.utd_syntax.specs.Written.{Spells, of_statement}
-use Rattle.utd_syntax.specs.Table.{Load, Symbol, AfterName, MoreProd, MoreSum, MoreCmp, MoreAnd, MoreOr, MoreAttributes, MoreNames, MoreElements, MoreTuples, MoreSetItems, MoreAggregates, MoreRenamings, MaybePortion, MaybeWhere, MorePostfix, MoreInfix, MoreConstraints, MoreItems, TheStatement, Shut, Taking, Turn, Never, Ends, Takes, Row, on, spelt, before, rows, may_end, same, same_bytes, fits, chosen, find, turn}
+use Rattle.utd_syntax.specs.Table.{Load, Symbol, AfterName, MoreProd, MoreSum, MoreCmp, MoreAnd, MoreOr, MoreAttributes, MoreNames, MoreElements, MoreTuples, MoreSetItems, MoreAggregates, MoreRenamings, MaybePortion, MaybeWhere, MorePostfix, MoreInfix, MoreConstraints, MoreItems, TheStatement, Shut, Taking, Plain, Turn, Never, Ends, Takes, Row, on, spelt, before, rows, may_end, same, same_bytes, fits, chosen, find, turn}
 use Rattle.utd_syntax.specs.Verdict.{Verdict, Whole, Refused, Limits, verdict, reach, taken, at_form, at_start, Reach, Over, Stuck, Reaches, stack_after, load_after}
 use Rattle.utd_syntax.proofs.FormValues.{Vals, inner, Case, Make, Makes}
 use Rattle.utd_syntax.proofs.Reader.{Ended, Built, Go, makes, end_value, by_case, made, pick, found_end, found, build, split, on_turn, read_at, on_end, read_end, read}
 use Rattle.utd_syntax.proofs.Accepted.{bare, row, plain, bare-after}
 use Rattle.utd_syntax.proofs.Complete.{statement-reads}
-use Rattle.utd_syntax.proofs.Sound.{number-same, both-left}
+use Rattle.utd_syntax.proofs.FormEnds.{both-left, both-right, bytes-same}
+use Rattle.utd_syntax.proofs.Sound.{number-same}
 use Rattle.utd_ranges.specs.Limits.{is_too_deep, is_out_of_range, limits, verdict_on}
 use Rattle.utd_ranges.specs.Ranges.{Range, IsIn, StatementIn, HasLiteralsInRange, is_unwritten, AreWritten, has_no_value, HasValues}
 use Rattle.utd_ranges.proofs.RangeForms.{Good, AllGood, CaseIn, RowIn, RowsIn}
@@ -39,7 +40,10 @@ by-case-in out s x y b p how more how' more' false f g e h k o = case-in out s x
 
 made-in : (out : Range) (s : Symbol) (r : Row) (m : Make s r) → RowIn out s r m → (x n : Terminal) (p : Place) (b : List ℕ) → fits r x b ≡ true → Fit out x b (chosen r n) → BuiltIn out s (chosen r n) (made s r m n p b)
 made-in out s (on y how more) m h x n p b e o = case-in out s x y b p how more m (number-same y x e) h o
-made-in out s (spelt c more) m h x n p b e o = case-in out s x t.Name b p _ more m (number-same t.Name x (both-left (same t.Name x) (same_bytes c b) e)) h o
+made-in out s (spelt c more) m h x n p b e o =
+    let is : t.Name ≡ x = number-same t.Name x (both-left (same t.Name x) (same_bytes c b) e) in
+    let spelled : c ≡ b = bytes-same c b (both-right (same t.Name x) (same_bytes c b) e) in
+    h p b (subst (λ z. IsIn out Plain t.Name z) (sym spelled) (subst (λ z. IsIn out Plain z b) (sym is) o))
 made-in out s (before y z how more how' more') m h x n p b e o = by-case-in out s x y b p how more how' more' (same z n) m.0 m.1 (number-same y x e) h.0 h.1 o
 
 pick-in : (out : Range) (s : Symbol) (x : Terminal) (b : List ℕ) (c : Bool) (r r' : Turn) (v : Built s r) (w : Built s r') → (c ≡ true → Fit out x b r → BuiltIn out s r v) → (Fit out x b r' → BuiltIn out s r' w) → Fit out x b (cond c r r') → BuiltIn out s (cond c r r') (pick s c r r' v w)

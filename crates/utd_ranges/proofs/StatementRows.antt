@@ -5,10 +5,10 @@ use Rattle.utd_syntax.specs.declared.words.InfixWord.TheVariants as infixes
 use Rattle.utd_syntax.specs.declared.words.PackWord.TheVariants as pack_words
 use Rattle.utd_syntax.specs.declared.words.EmptinessWord.TheVariants as emptinesses
 use Rattle.utd_syntax.specs.Plain.{word, OfUsing, OfTerms, OneTerm, Infix, NotMatching, OneRelPrimary, Project, Filter, Rename, OfExtend, OfSummarize, OfOperand, Relvar, OfLiteral, ParenRel, PackOn, UsingExtend, UsingSummarize, UsedKey, UsedForeign, KeyOf, ForeignOf, PackedOn, WhenUnpacked, UsingConstraint, UsingTest, Emptiness, OfComparison, UsedDeleteWhere, UsedDeleteRows, DeleteWhere, DeletePortion, DeleteRows, Assign, Nothing, DeclareOrdinal, DeclareRelvar, DeclareHistory, DeclareRule, Print, Ask, Assignment}
-use Rattle.utd_syntax.specs.Table.{TheName, Comma, DateText, MomentText, NegativeDigits, ThePrimary, AfterName, AfterScalar, EndOfSelector, InParens, InPair, InPoint, TheSign, TheProd, MoreProd, TheSum, MoreSum, TheCmp, MoreCmp, TheNeg, TheConj, MoreAnd, TheScalar, MoreOr, ThePoint, TheKind, TheAttribute, MoreAttributes, InHeading, TheHeading, MoreNames, InNames, InList, TheNames, TheList, TheSomeNames, TheParenName, TheElement, MoreElements, InElements, TheElements, TheSomeElements, TheTuple, MoreTuples, InTuples, TheTuples, TheLiteral, AfterRelation, TheSetItem, MoreSetItems, TheSets, EmptyParens, TheAggregateForm, TheAggregate, MoreAggregates, TheAggregates, TheRenaming, MoreRenamings, TheRenamings, ThePortion, MaybePortion, MaybeWhere, InProjection, TheOperand, TheExtend, TheSummarize, TheRelPrimary, TheTerm, MorePostfix, TheTerms, MoreInfix, TheUsing, TheRel, TheUsingPart, AfterOperand, TheKey, TheForeign, TheUsedConstraint, TheConstraint, MoreConstraints, InRel, TheVarForm, TheComparison, AfterLeft, TheTest, TheUsedDeletion, TheUsedItem, TheDeletion, TheItem, MoreItems, TheAssign, TheStatement, AfterDrop, Just, Worded, Shut, Symbol, Plain, Opens, on, rows, names_rows, list_rows, some_names_rows, paren_name_rows, element_rows, more_elements_rows, in_elements_rows, elements_rows, some_elements_rows, tuple_rows, more_tuples_rows, in_tuples_rows, tuples_rows, literal_rows, after_relation_rows, set_item_rows, more_set_items_rows, sets_rows, empty_parens_rows, aggregate_form_rows, aggregate_rows, more_aggregates_rows, aggregates_rows, renaming_rows, more_renamings_rows, renamings_rows, portion_rows, maybe_portion_rows, maybe_where_rows, in_projection_rows, operand_rows, extend_rows, summarize_rows, rel_primary_rows, term_rows, more_postfix_rows, terms_rows, more_infix_rows, using_rows, rel_rows, using_part_rows, after_operand_rows, key_rows, foreign_rows, used_constraint_rows, constraint_rows, more_constraints_rows, in_rel_rows, var_form_rows, comparison_rows, after_left_rows, test_rows, used_deletion_rows, used_item_rows, deletion_rows, item_rows, more_items_rows, assign_rows, statement_rows, after_drop_rows, ◌▹◌}
-use Rattle.utd_syntax.specs.Written.{ordinal_word, since_word, during_word, over_word}
+use Rattle.utd_syntax.specs.Table.{TheName, Comma, DateText, MomentText, NegativeDigits, ThePrimary, AfterName, AfterScalar, EndOfSelector, InParens, InPair, InPoint, TheSign, TheProd, MoreProd, TheSum, MoreSum, TheCmp, MoreCmp, TheNeg, TheConj, MoreAnd, TheScalar, MoreOr, ThePoint, TheKind, TheAttribute, MoreAttributes, InHeading, TheHeading, MoreNames, InNames, InList, TheNames, TheList, TheSomeNames, TheParenName, TheElement, MoreElements, InElements, TheElements, TheSomeElements, TheTuple, MoreTuples, InTuples, TheTuples, TheLiteral, AfterRelation, TheSetItem, MoreSetItems, TheSets, EmptyParens, TheAggregateForm, TheAggregate, MoreAggregates, TheAggregates, TheRenaming, MoreRenamings, TheRenamings, ThePortion, MaybePortion, MaybeWhere, InProjection, TheOperand, TheExtend, TheSummarize, TheRelPrimary, TheTerm, MorePostfix, TheTerms, MoreInfix, TheUsing, TheRel, TheUsingPart, AfterOperand, TheKey, TheForeign, TheUsedConstraint, TheConstraint, MoreConstraints, InRel, TheKept, AfterKept, InKept, TheVarForm, TheComparison, AfterLeft, TheTest, TheUsedDeletion, TheUsedItem, TheDeletion, TheItem, MoreItems, TheAssign, TheStatement, AfterDrop, AfterLog, Just, Worded, Shut, Symbol, Plain, Opens, on, spelt, rows, names_rows, list_rows, some_names_rows, paren_name_rows, element_rows, more_elements_rows, in_elements_rows, elements_rows, some_elements_rows, tuple_rows, more_tuples_rows, in_tuples_rows, tuples_rows, literal_rows, after_relation_rows, set_item_rows, more_set_items_rows, sets_rows, empty_parens_rows, aggregate_form_rows, aggregate_rows, more_aggregates_rows, aggregates_rows, renaming_rows, more_renamings_rows, renamings_rows, portion_rows, maybe_portion_rows, maybe_where_rows, in_projection_rows, operand_rows, extend_rows, summarize_rows, rel_primary_rows, term_rows, more_postfix_rows, terms_rows, more_infix_rows, using_rows, rel_rows, using_part_rows, after_operand_rows, key_rows, foreign_rows, used_constraint_rows, constraint_rows, more_constraints_rows, in_rel_rows, kept_rows, after_kept_rows, in_kept_rows, var_form_rows, comparison_rows, after_left_rows, test_rows, used_deletion_rows, used_item_rows, deletion_rows, item_rows, more_items_rows, assign_rows, statement_rows, after_drop_rows, after_log_rows, ◌▹◌}
+use Rattle.utd_syntax.specs.Written.{ordinal_word, since_word, during_word, over_word, log_word}
 use Rattle.utd_syntax.proofs.FormValues.{over_makes, then_makes, append_makes}
-use Rattle.utd_syntax.proofs.Reader.{make_names, make_list, make_some_names, make_paren_name, make_element, make_more_elements, make_in_elements, make_elements, make_some_elements, make_tuple, make_more_tuples, make_in_tuples, make_tuples, make_literal, make_after_relation, make_set_item, make_more_set_items, make_sets, make_empty_parens, make_aggregate_form, make_aggregate, make_more_aggregates, make_aggregates, make_renaming, make_more_renamings, make_renamings, make_portion, make_maybe_portion, make_maybe_where, make_in_projection, make_operand, make_extend, make_summarize, make_rel_primary, make_term, make_more_postfix, make_terms, make_more_infix, make_using, make_rel, make_using_part, make_after_operand, make_key, make_foreign, make_used_constraint, make_constraint, make_more_constraints, make_in_rel, make_var_form, make_comparison, make_after_left, make_test, make_used_deletion, make_used_item, make_deletion, make_item, make_more_items, make_assign, make_statement, make_after_drop, makes}
+use Rattle.utd_syntax.proofs.Reader.{make_names, make_list, make_some_names, make_paren_name, make_element, make_more_elements, make_in_elements, make_elements, make_some_elements, make_tuple, make_more_tuples, make_in_tuples, make_tuples, make_literal, make_after_relation, make_set_item, make_more_set_items, make_sets, make_empty_parens, make_aggregate_form, make_aggregate, make_more_aggregates, make_aggregates, make_renaming, make_more_renamings, make_renamings, make_portion, make_maybe_portion, make_maybe_where, make_in_projection, make_operand, make_extend, make_summarize, make_rel_primary, make_term, make_more_postfix, make_terms, make_more_infix, make_using, make_rel, make_using_part, make_after_operand, make_key, make_foreign, make_used_constraint, make_constraint, make_more_constraints, make_in_rel, make_kept, make_after_kept, make_in_kept, make_var_form, make_comparison, make_after_left, make_test, make_used_deletion, make_used_item, make_deletion, make_item, make_more_items, make_assign, make_statement, make_after_drop, make_after_log, makes}
 use Rattle.utd_ranges.specs.Ranges.{Range}
 use Rattle.utd_ranges.proofs.RangeForms.{RowsIn, over-in, then-in, append-in}
 use Rattle.utd_ranges.proofs.ScalarRows.{name-in, comma-in, date_text-in, moment_text-in, negative_digits-in, primary-in, after_name-in, after_scalar-in, end_of_selector-in, in_parens-in, in_pair-in, in_point-in, sign-in, prod-in, more_prod-in, sum-in, more_sum-in, cmp-in, more_cmp-in, neg-in, conj-in, more_and-in, scalar-in, more_or-in, point-in, kind-in, attribute-in, more_attributes-in, in_heading-in, heading-in, more_names-in, in_names-in, in_list-in}
@@ -157,8 +157,17 @@ more_constraints-in out = then-in out TheConstraint MoreConstraints MoreConstrai
 pub in_rel-in : (out : Range) → RowsIn out InRel in_rel_rows make_in_rel
 in_rel-in out = ((λ p b o v h. h.0), tt)
 
+pub kept-in : (out : Range) → RowsIn out TheKept kept_rows make_kept
+kept-in out = ((λ p b o v h. (h.1.1.1.0 p v.0 v.1.1.0 h.0 h.1.1.0)), ((λ p b o v h. (h.0, h.1.1.0)), tt))
+
+pub after_kept-in : (out : Range) → RowsIn out AfterKept after_kept_rows make_after_kept
+after_kept-in out = ((λ p b o v h x y z hy hz. (hy, hz, h.0)), ((λ p b o v h x y z hy hz. (hy, hz, h.0)), ((λ p b o v h x y z hy hz. (hy, hz, h.0)), ((λ p b o v h x y z hy hz. (hy, hz, h.0)), ((λ p b o v h x y z hy hz. (hy, hz, h.0)), ((λ p b o v h x y z hy hz. (hy, hz, h.1.0)), ((λ p b o v h x y z hy hz. (hy, hz, h.0 p)), tt)))))))
+
+pub in_kept-in : (out : Range) → RowsIn out InKept in_kept_rows make_in_kept
+in_kept-in out = ((λ p b o v h. h.0), tt)
+
 pub var_form-in : (out : Range) → RowsIn out TheVarForm var_form_rows make_var_form
-var_form-in out = ((λ p b o v h. (h.0, h.1.0)), ((λ p b o v h. h.0), tt))
+var_form-in out = ((λ p b o v h. (h.0, h.1.0)), ((λ p b o v h. h.0), ((λ p b o v h. h.0), tt)))
 
 pub comparison-in : (out : Range) → RowsIn out TheComparison comparison_rows make_comparison
 comparison-in out = then-in out TheOperand TheComparison AfterLeft (λ u w. w u) (λ u w hu hw. (hw u hu)) operand_rows make_operand (operand-in out)
@@ -188,10 +197,13 @@ pub assign-in : (out : Range) → RowsIn out TheAssign assign_rows make_assign
 assign-in out = then-in out TheItem TheAssign MoreItems (λ u w. Assign u w) (λ u w hu hw. (hu, hw)) item_rows make_item (item-in out)
 
 pub statement-in : (out : Range) → RowsIn out TheStatement statement_rows make_statement
-statement-in out = append-in out TheStatement (on t.Semicolon Plain [] ∷ on t.TypeWord Plain (TheName ∷ Worded ordinal_word ∷ TheSomeNames ∷ Just t.Semicolon ∷ []) ∷ on t.Var Plain (TheName ∷ TheVarForm ∷ Just t.Semicolon ∷ []) ∷ on t.History Plain (TheName ∷ TheHeading ∷ TheKey ∷ Worded since_word ∷ TheName ∷ TheParenName ∷ Worded during_word ∷ TheName ∷ TheParenName ∷ Worded over_word ∷ ThePoint ∷ Just t.Semicolon ∷ []) ∷ on t.Constraint Plain (TheName ∷ TheTest ∷ Just t.Semicolon ∷ []) ∷ on t.Drop Plain (AfterDrop ∷ []) ∷ on t.Print Plain (TheRel ∷ Just t.Semicolon ∷ []) ∷ on t.Ask Plain (TheTest ∷ Just t.Semicolon ∷ []) ∷ []) (assign_rows ▹ (Just t.Semicolon ∷ [])) ((λ p b v. Nothing), ((λ p b v. DeclareOrdinal p v.0 v.1.1.0), ((λ p b v. DeclareRelvar p v.0 v.1.0), ((λ p b v. DeclareHistory p v.0 v.1.0 v.1.1.0 v.1.1.1.1.0 v.1.1.1.1.1.0 v.1.1.1.1.1.1.1.0 v.1.1.1.1.1.1.1.1.0 v.1.1.1.1.1.1.1.1.1.1.0), ((λ p b v. DeclareRule p v.0 v.1.0), ((λ p b v. v.0 p), ((λ p b v. Print p v.0), ((λ p b v. Ask p v.0), tt)))))))) (then_makes TheAssign TheStatement (Just t.Semicolon) (λ u w. Assignment u) assign_rows make_assign) ((λ p b o v h. tt), ((λ p b o v h. (h.0, h.1.1.0)), ((λ p b o v h. (h.0, h.1.0)), ((λ p b o v h. (h.0, h.1.0, h.1.1.0, h.1.1.1.1.0, h.1.1.1.1.1.0, h.1.1.1.1.1.1.1.0, h.1.1.1.1.1.1.1.1.0, h.1.1.1.1.1.1.1.1.1.1.0)), ((λ p b o v h. (h.0, h.1.0)), ((λ p b o v h. h.0 p), ((λ p b o v h. h.0), ((λ p b o v h. h.0), tt)))))))) (then-in out TheAssign TheStatement (Just t.Semicolon) (λ u w. Assignment u) (λ u w hu hw. hu) assign_rows make_assign (assign-in out))
+statement-in out = append-in out TheStatement (on t.Semicolon Plain [] ∷ on t.TypeWord Plain (TheName ∷ Worded ordinal_word ∷ TheSomeNames ∷ Just t.Semicolon ∷ []) ∷ on t.Var Plain (TheName ∷ TheVarForm ∷ Just t.Semicolon ∷ []) ∷ on t.History Plain (TheName ∷ TheHeading ∷ TheKey ∷ Worded since_word ∷ TheName ∷ TheParenName ∷ Worded during_word ∷ TheName ∷ TheParenName ∷ Worded over_word ∷ ThePoint ∷ Just t.Semicolon ∷ []) ∷ on t.Constraint Plain (TheName ∷ TheTest ∷ Just t.Semicolon ∷ []) ∷ on t.Drop Plain (AfterDrop ∷ []) ∷ on t.Print Plain (TheRel ∷ Just t.Semicolon ∷ []) ∷ on t.Ask Plain (TheTest ∷ Just t.Semicolon ∷ []) ∷ spelt log_word (AfterLog ∷ []) ∷ []) (assign_rows ▹ (Just t.Semicolon ∷ [])) ((λ p b v. Nothing), ((λ p b v. DeclareOrdinal p v.0 v.1.1.0), ((λ p b v. DeclareRelvar p v.0 v.1.0), ((λ p b v. DeclareHistory p v.0 v.1.0 v.1.1.0 v.1.1.1.1.0 v.1.1.1.1.1.0 v.1.1.1.1.1.1.1.0 v.1.1.1.1.1.1.1.1.0 v.1.1.1.1.1.1.1.1.1.1.0), ((λ p b v. DeclareRule p v.0 v.1.0), ((λ p b v. v.0 p), ((λ p b v. Print p v.0), ((λ p b v. Ask p v.0), ((λ p b v. v.0 p), tt))))))))) (then_makes TheAssign TheStatement (Just t.Semicolon) (λ u w. Assignment u) assign_rows make_assign) ((λ p b o v h. tt), ((λ p b o v h. (h.0, h.1.1.0)), ((λ p b o v h. (h.0, h.1.0)), ((λ p b o v h. (h.0, h.1.0, h.1.1.0, h.1.1.1.1.0, h.1.1.1.1.1.0, h.1.1.1.1.1.1.1.0, h.1.1.1.1.1.1.1.1.0, h.1.1.1.1.1.1.1.1.1.1.0)), ((λ p b o v h. (h.0, h.1.0)), ((λ p b o v h. h.0 p), ((λ p b o v h. h.0), ((λ p b o v h. h.0), ((λ p b o v h. h.0 p o), tt))))))))) (then-in out TheAssign TheStatement (Just t.Semicolon) (λ u w. Assignment u) (λ u w hu hw. hu) assign_rows make_assign (assign-in out))
 
 pub after_drop-in : (out : Range) → RowsIn out AfterDrop after_drop_rows make_after_drop
 after_drop-in out = ((λ p b o v h q. h.0), ((λ p b o v h q. h.0), tt))
+
+pub after_log-in : (out : Range) → RowsIn out AfterLog after_log_rows make_after_log
+after_log-in out = ((λ p b o v h q g. (o, h.1.0, h.1.1.0)), ((λ p b o v h q g. ((g, h.0), h.1.0)), tt))
 
 pub rows-in : (out : Range) (s : Symbol) → RowsIn out s (rows s) (makes s)
 rows-in out TheName = name-in out
@@ -275,6 +287,9 @@ rows-in out TheUsedConstraint = used_constraint-in out
 rows-in out TheConstraint = constraint-in out
 rows-in out MoreConstraints = more_constraints-in out
 rows-in out InRel = in_rel-in out
+rows-in out TheKept = kept-in out
+rows-in out AfterKept = after_kept-in out
+rows-in out InKept = in_kept-in out
 rows-in out TheVarForm = var_form-in out
 rows-in out TheComparison = comparison-in out
 rows-in out AfterLeft = after_left-in out
@@ -287,6 +302,7 @@ rows-in out MoreItems = more_items-in out
 rows-in out TheAssign = assign-in out
 rows-in out TheStatement = statement-in out
 rows-in out AfterDrop = after_drop-in out
+rows-in out AfterLog = after_log-in out
 rows-in out (Just x) = ((λ p b o v h. tt), tt)
 rows-in out (Worded w) = ((λ p b o v h. tt), tt)
 rows-in out (Shut outer) = tt

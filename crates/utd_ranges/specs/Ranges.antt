@@ -9,7 +9,7 @@ use Rattle.utd_syntax.specs.Pieces.{Piece}
 use Rattle.utd_syntax.specs.Table.{Taking, Plain, Negated, Dated, Timed, same}
 use Rattle.utd_ranges.specs.Limits.{is_out_of_range}
 use Rattle.value_core.specs.Lengths.{is_utf8}
-use Rattle.utd_syntax.specs.Plain.{Word, PointP, ScalarP, ConjP, NegP, CmpP, SumP, ProdP, SignP, PrimaryP, KindP, AttributeP, HeadingP, NamesP, NameListP, SomeNamesP, ElementP, ElementsP, SomeElementsP, TupleP, LiteralP, SetItemP, SetsP, AggregateFormP, AggregateP, AggregatesP, RenamingP, RenamingsP, PortionP, MaybePortionP, ConditionP, ProjectionP, RelP, TermsP, TermP, RelPrimaryP, OperandP, ExtendP, SummarizeP, UsingP, UsingPartP, KeyP, ForeignP, UsedConstraintP, ConstraintP, VarFormP, ComparisonP, TestP, UsedDeletionP, UsedItemP, DeletionP, ItemP, AssignP, StatementP, IntegerType, DateType, MomentType, NamedType, OneConj, Or, OneNeg, And, Not, OneCmp, OneSum, Compare, OneProd, Add, OneSign, Multiply, NegativeInteger, Negate, OnePrimary, IntegerLiteral, TextLiteral, DateLiteral, MomentLiteral, TrueLiteral, FalseLiteral, AttributeName, Dotted, Paren, Selector, Extreme, Function, PairFunction, BooleanKind, CharKind, PointKind, IntervalKind, Attribute, Heading, Names, NameList, SomeNames, Element, Elements, SomeElements, Tuple, Tuples, Headed, SetItem, Sets, CountRows, AggregateOf, Aggregate, Aggregates, Renaming, Renamings, Portion, NoPortion, OfPortion, NoCondition, Where, Onto, AllBut, OfUsing, OfTerms, OneTerm, Infix, NotMatching, OneRelPrimary, Project, Filter, Rename, OfExtend, OfSummarize, OfOperand, Relvar, OfLiteral, ParenRel, PackOn, Extend, Summarize, Using, UsingExtend, UsingSummarize, UsingInfix, UsingNotMatching, UsingProject, UsingFilter, Key, Foreign, UsedKey, UsedForeign, KeyOf, ForeignOf, PackedOn, WhenUnpacked, UsingConstraint, BaseRelvar, View, Comparison, UsingTest, Emptiness, OfComparison, UsedDeleteWhere, UsedDeleteRows, UsedInsert, UsedDelete, UsedUpdate, DeleteWhere, DeletePortion, DeleteRows, SetRelvar, Insert, Delete, Update, Terminate, UsingItem, Assign, Nothing, DeclareOrdinal, DeclareRelvar, DeclareHistory, DeclareRule, Drop, DropRule, Print, Ask, Assignment}
+use Rattle.utd_syntax.specs.Plain.{Word, PointP, ScalarP, ConjP, NegP, CmpP, SumP, ProdP, SignP, PrimaryP, KindP, AttributeP, HeadingP, NamesP, NameListP, SomeNamesP, ElementP, ElementsP, SomeElementsP, TupleP, LiteralP, SetItemP, SetsP, AggregateFormP, AggregateP, AggregatesP, RenamingP, RenamingsP, PortionP, MaybePortionP, ConditionP, ProjectionP, RelP, TermsP, TermP, RelPrimaryP, OperandP, ExtendP, SummarizeP, UsingP, UsingPartP, KeyP, ForeignP, UsedConstraintP, ConstraintP, KeptP, VarFormP, ComparisonP, TestP, UsedDeletionP, UsedItemP, DeletionP, ItemP, AssignP, StatementP, IntegerType, DateType, MomentType, NamedType, OneConj, Or, OneNeg, And, Not, OneCmp, OneSum, Compare, OneProd, Add, OneSign, Multiply, NegativeInteger, Negate, OnePrimary, IntegerLiteral, TextLiteral, DateLiteral, MomentLiteral, TrueLiteral, FalseLiteral, AttributeName, Dotted, Paren, Selector, Extreme, Function, PairFunction, BooleanKind, CharKind, PointKind, IntervalKind, Attribute, Heading, Names, NameList, SomeNames, Element, Elements, SomeElements, Tuple, Tuples, Headed, SetItem, Sets, CountRows, AggregateOf, Aggregate, Aggregates, Renaming, Renamings, Portion, NoPortion, OfPortion, NoCondition, Where, Onto, AllBut, OfUsing, OfTerms, OneTerm, Infix, NotMatching, OneRelPrimary, Project, Filter, Rename, OfExtend, OfSummarize, OfOperand, Relvar, OfLiteral, ParenRel, PackOn, Extend, Summarize, Using, UsingExtend, UsingSummarize, UsingInfix, UsingNotMatching, UsingProject, UsingFilter, Key, Foreign, UsedKey, UsedForeign, KeyOf, ForeignOf, PackedOn, WhenUnpacked, UsingConstraint, KeptInfix, KeptNotMatching, KeptProject, KeptPack, BaseRelvar, View, Kept, Comparison, UsingTest, Emptiness, OfComparison, UsedDeleteWhere, UsedDeleteRows, UsedInsert, UsedDelete, UsedUpdate, DeleteWhere, DeletePortion, DeleteRows, SetRelvar, Insert, Delete, Update, Terminate, UsingItem, Assign, Nothing, DeclareOrdinal, DeclareRelvar, DeclareHistory, DeclareLog, DeclareRule, Drop, DropRule, Print, Ask, Assignment}
 
 -- which tokens are out of a range: by how a token is taken, what it is, and its bytes
 abbrev pub Range : Type 0
@@ -211,9 +211,16 @@ ConstraintIn out (PackedOn _ b) = NameListIn out b
 ConstraintIn out (WhenUnpacked _ b c) = NameListIn out b × KeyIn out c
 ConstraintIn out (UsingConstraint _ b c) = NameListIn out b × UsedConstraintIn out c
 
+abbrev pub KeptIn : Range → KeptP → Type 0
+KeptIn out (KeptInfix _ b c _ _ f) = NameListIn out b × NameIn out c × NameIn out f
+KeptIn out (KeptNotMatching _ b c _ e) = NameListIn out b × NameIn out c × NameIn out e
+KeptIn out (KeptProject _ b c d) = NameListIn out b × NameIn out c × ProjectionIn out d
+KeptIn out (KeptPack _ b c) = NameIn out b × NameListIn out c
+
 abbrev pub VarFormIn : Range → VarFormP → Type 0
 VarFormIn out (BaseRelvar _ b c) = HeadingIn out b × Each (ConstraintIn out) c
 VarFormIn out (View _ b) = RelIn out b
+VarFormIn out (Kept _ b) = KeptIn out b
 
 abbrev pub ComparisonIn : Range → ComparisonP → Type 0
 ComparisonIn out (Comparison a _ _ d) = OperandIn out a × OperandIn out d
@@ -253,6 +260,7 @@ StatementIn out Nothing = Unit {0}
 StatementIn out (DeclareOrdinal _ b c) = NameIn out b × SomeNamesIn out c
 StatementIn out (DeclareRelvar _ b c) = NameIn out b × VarFormIn out c
 StatementIn out (DeclareHistory _ b c d e f g h i) = NameIn out b × HeadingIn out c × KeyIn out d × NameIn out e × NameIn out f × NameIn out g × NameIn out h × PointIn out i
+StatementIn out (DeclareLog _ b c d) = NameIn out b × NameIn out c × NameIn out d
 StatementIn out (DeclareRule _ b c) = NameIn out b × TestIn out c
 StatementIn out (Drop _ b) = NameIn out b
 StatementIn out (DropRule _ _ c) = NameIn out c

@@ -632,15 +632,15 @@ assign-as-item [] stack k h = absurd h
 assign-as-item (x ∷ ts) stack k h = assign-is-item x.terminal (first ts) x.place x.bytes (read ts) stack k h
 
 pub item-second : (x : ItemP) (ts rest : List Piece) → Spells (of_item x) ts rest → first ts ≡ t.Name → second ts ≡ t.Assign
-item-second (SetRelvar n r) ts rest h e = let x0 = one (spelled t.Name n.place n.bytes) (token t.Assign ++ of_rel r) ts rest h in ap second x0.is ∙ begins (λ z. z ≡ t.Assign) _ x0.left rest refl x0.spells
-item-second (Insert p n r) ts rest h e = absurd (begins (λ z. z ≡ t.Name → ⊥) _ ts rest (λ z. cc) h e)
-item-second (Delete p n d) ts rest h e = absurd (begins (λ z. z ≡ t.Name → ⊥) _ ts rest (λ z. cc) h e)
-item-second (Update p n q c s) ts rest h e = absurd (begins (λ z. z ≡ t.Name → ⊥) _ ts rest (λ z. cc) h e)
-item-second (Terminate p n q e c) ts rest h e = absurd (begins (λ z. z ≡ t.Name → ⊥) _ ts rest (λ z. cc) h e)
-item-second (UsingItem p a u) ts rest h e = absurd (begins (λ z. z ≡ t.Name → ⊥) _ ts rest (λ z. cc) h e)
+item-second (SetRelvar n r) ts rest h name = let x0 = one (spelled t.Name n.place n.bytes) (token t.Assign ++ of_rel r) ts rest h in ap second x0.is ∙ begins (λ z. z ≡ t.Assign) _ x0.left rest refl x0.spells
+item-second (Insert p n r) ts rest h name = absurd (begins (λ z. z ≡ t.Name → ⊥) _ ts rest (λ z. cc) h name)
+item-second (Delete p n d) ts rest h name = absurd (begins (λ z. z ≡ t.Name → ⊥) _ ts rest (λ z. cc) h name)
+item-second (Update p n q c s) ts rest h name = absurd (begins (λ z. z ≡ t.Name → ⊥) _ ts rest (λ z. cc) h name)
+item-second (Terminate p n q e c) ts rest h name = absurd (begins (λ z. z ≡ t.Name → ⊥) _ ts rest (λ z. cc) h name)
+item-second (UsingItem p a u) ts rest h name = absurd (begins (λ z. z ≡ t.Name → ⊥) _ ts rest (λ z. cc) h name)
 
 pub assign-second : (x : AssignP) (ts rest : List Piece) → Spells (of_assign x) ts rest → first ts ≡ t.Name → second ts ≡ t.Assign
-assign-second (Assign x xs) ts rest h e = let x0 = two (of_item x) (of_more_items xs) ts rest h in item-second x ts x0.mid x0.before e
+assign-second (Assign x xs) ts rest h name = let x0 = two (of_item x) (of_more_items xs) ts rest h in item-second x ts x0.mid x0.before name
 
 pub AfterLog-goes_on : (x n : Terminal) (p q : Place) (b : List ℕ) (next : (st : List Symbol) → Go st → Option StatementP) (stack : List Symbol) (k : Go (TheStatement ∷ stack)) → x ≡ t.Assign → read_at x n q b next (AfterLog ∷ stack) (λ v. k (v.0 p, v.1)) ≡ read_at x n q b next (Just t.Assign ∷ TheRel ∷ MoreItems ∷ Just t.Semicolon ∷ stack) (λ v. k (Assignment (Assign (SetRelvar (word p log_word) v.1.0) v.1.1.0), v.1.1.1.1))
 AfterLog-goes_on x n p q b next stack k is = subst (λ z. read_at z n q b next (AfterLog ∷ stack) (λ v. k (v.0 p, v.1)) ≡ read_at z n q b next (Just t.Assign ∷ TheRel ∷ MoreItems ∷ Just t.Semicolon ∷ stack) (λ v. k (Assignment (Assign (SetRelvar (word p log_word) v.1.0) v.1.1.0), v.1.1.1.1))) (sym is) refl

@@ -15,6 +15,7 @@ use Rattle.utd_syntax.proofs.FormValues.{Val, Vals, Case, Make, Makes, inner, ov
 use Rattle.utd_syntax.proofs.Reader.{Ended, Built, Go, makes, end_value, by_case, made, pick, found_end, found, build, split, on_turn, read_at, on_end, read_end, read, make_literal, make_after_relation, make_set_item, make_more_set_items, make_sets, make_empty_parens, make_aggregate_form, make_aggregate, make_more_aggregates, make_aggregates, make_renaming, make_more_renamings, make_renamings, make_portion, make_maybe_portion, make_maybe_where, make_in_projection, make_operand, make_extend, make_summarize, make_rel_primary, make_term, make_more_postfix, make_terms, make_more_infix, make_using, make_rel, make_using_part, make_after_operand, make_key, make_foreign, make_used_constraint, make_constraint, make_more_constraints, make_in_rel, make_kept, make_after_kept, make_in_kept, make_var_form, make_comparison, make_after_left, make_test, make_used_deletion, make_used_item, make_deletion, make_item, make_more_items, make_assign, make_statement, make_after_drop, make_after_log}
 use Rattle.utd_syntax.specs.Verdict.{Whole, no_limits, verdict}
 use Rattle.utd_syntax.proofs.Accepted.{Agree, agrees}
+use Rattle.utd_syntax.proofs.FormEnds.{both-left, both-right, bytes-same}
 use Rattle.std.proofs.lemmas.Bool.{eqb-true}
 use Rattle.utd_syntax.proofs.SoundForms.{nil, cons, join, loose_word, Writes, WritesAll, Chain, chain, piece_at, SoundCase, SoundRow, SoundRows, over-sounds, then-sounds, append-sounds, name-sound, comma-sound, date_text-sound, moment_text-sound, negative_digits-sound, primary-sound, after_name-sound, after_scalar-sound, end_of_selector-sound, in_parens-sound, in_pair-sound, in_point-sound, sign-sound, prod-sound, more_prod-sound, sum-sound, more_sum-sound, cmp-sound, more_cmp-sound, neg-sound, conj-sound, more_and-sound, scalar-sound, more_or-sound, point-sound, kind-sound, attribute-sound, more_attributes-sound, in_heading-sound, heading-sound, more_names-sound, in_names-sound, in_list-sound, names-sound, list-sound, some_names-sound, paren_name-sound, element-sound, more_elements-sound, in_elements-sound, elements-sound, some_elements-sound, tuple-sound, more_tuples-sound, in_tuples-sound, tuples-sound}
 

@@ -45,6 +45,12 @@ ask-requires c = (sym c.terminal.ensures ∙ c.in-Ask.is)
 pub returns-in-Ask : goal.returns-in-Ask
 returns-in-Ask c = c.ask.ensures
 
+pub named-requires : goal.named-requires
+named-requires c = (sym c.terminal.ensures ∙ c.in-Name.is)
+
+pub returns-in-Name : goal.returns-in-Name
+returns-in-Name c = c.named.ensures
+
 pub history-requires : goal.history-requires
 history-requires c = (sym c.terminal.ensures ∙ c.in-History.is)
 
@@ -52,4 +58,4 @@ pub returns-in_ok-only-in-History : goal.returns-in_ok-only-in-History
 returns-in_ok-only-in-History c = record { shorter = c.in_ok-only-in-History.ensures.shorter; goes_on = c.in_ok-only-in-History.ensures.goes_on }
 
 pub returns-in_ok-only-in_default : goal.returns-in_ok-only-in_default
-returns-in_ok-only-in_default c = record { shorter = omega (arith, c.in_ok-only-in_default.ensures.shorter, no-more (left c.in_ok-only-in_default.next) (left c.skip-in_default.result) c.skip-in_default.ensures); goes_on = λ stack k x h. let h1 = statement-to-assign (left c.args.cursor) _ k x (λ e. c.in_default.not-Semicolon (c.terminal.ensures ∙ e)) (λ e. c.in_default.not-TypeWord (c.terminal.ensures ∙ e)) (λ e. c.in_default.not-Var (c.terminal.ensures ∙ e)) (λ e. c.in_default.not-History (c.terminal.ensures ∙ e)) (λ e. c.in_default.not-Constraint (c.terminal.ensures ∙ e)) (λ e. c.in_default.not-Drop (c.terminal.ensures ∙ e)) (λ e. c.in_default.not-Print (c.terminal.ensures ∙ e)) (λ e. c.in_default.not-Ask (c.terminal.ensures ∙ e)) h in let h2 = c.in_ok-only-in_default.ensures.goes_on _ _ x h1 in just t.Semicolon (left c.in_ok-only-in_default.next) (left c.skip-in_default.result) _ _ x c.skip-in_default.ensures h2 }
+returns-in_ok-only-in_default c = record { shorter = omega (arith, c.in_ok-only-in_default.ensures.shorter, no-more (left c.in_ok-only-in_default.next) (left c.skip-in_default.result) c.skip-in_default.ensures); goes_on = λ stack k x h. let h1 = statement-to-assign (left c.args.cursor) _ k x (λ e. c.in_default.not-Semicolon (c.terminal.ensures ∙ e)) (λ e. c.in_default.not-TypeWord (c.terminal.ensures ∙ e)) (λ e. c.in_default.not-Var (c.terminal.ensures ∙ e)) (λ e. c.in_default.not-History (c.terminal.ensures ∙ e)) (λ e. c.in_default.not-Constraint (c.terminal.ensures ∙ e)) (λ e. c.in_default.not-Drop (c.terminal.ensures ∙ e)) (λ e. c.in_default.not-Print (c.terminal.ensures ∙ e)) (λ e. c.in_default.not-Ask (c.terminal.ensures ∙ e)) (λ e. c.in_default.not-Name (c.terminal.ensures ∙ e)) h in let h2 = c.in_ok-only-in_default.ensures.goes_on _ _ x h1 in just t.Semicolon (left c.in_ok-only-in_default.next) (left c.skip-in_default.result) _ _ x c.skip-in_default.ensures h2 }
