@@ -211,6 +211,7 @@ module _ (w : State) (texts : List SourceText) (ds : List Said) (is : IsStanding
       declared-kept place bytes (syntax.DeclareRelvar at v form) (kind_of form) v.bytes text one short tt refl (checked w (syntax.DeclareRelvar at v form)) refl
   tree-kept place bytes (syntax.DeclareHistory at v h key b p d i t) text one short =
       declared-kept place bytes (syntax.DeclareHistory at v h key b p d i t) Early v.bytes text one short tt refl (checked w (syntax.DeclareHistory at v h key b p d i t)) refl
+  tree-kept place bytes (syntax.DeclareLog at log source attribute) text one short = (ds, is)
   tree-kept place bytes (syntax.DeclareRule at v test) text one short =
       declared-kept place bytes (syntax.DeclareRule at v test) Rule v.bytes text one short tt refl (checked w (syntax.DeclareRule at v test)) refl
   tree-kept place bytes (syntax.Drop at v) text one short = drop-kept (without_gaps bytes) v (dropped w v) refl (checked-typed w is.made (syntax.Drop at v))

@@ -62,6 +62,7 @@ relvar-of w (syntax.View there rel) kind name s at (said_base own heading typed)
 relvar-of w (syntax.View there rel) kind name s at (said_view own t) e h2 = of-word w kind View name own e h2.0
 relvar-of w (syntax.View there rel) kind name s at (said_history made) e h2 = absurd h2
 relvar-of w (syntax.View there rel) kind name s at (said_rule own t) e h2 = absurd h2
+relvar-of w (syntax.Kept there kept) kind name s at d e h2 = absurd h2
 
 history-of : (at : _) (v : Word) (h : _) (key : _) (b p d i : Word) (t : _) (kind : TextKind) (name : Name) (s : State) (x : Said) → Keeps Early v.bytes ≡ Keeps kind name
     → Says s (syntax.DeclareHistory at v h key b p d i t) x → IsOf kind name x
@@ -83,6 +84,7 @@ kept-as s syntax.Nothing d kind name e h = absurd h
 kept-as s (syntax.DeclareOrdinal at w values) d kind name e h = ordinal-of w values kind name s at d e h
 kept-as s (syntax.DeclareRelvar at w form) d kind name e h = relvar-of w form kind name s at d e h
 kept-as s (syntax.DeclareHistory at v h key b p during i t) d kind name e k = history-of at v h key b p during i t kind name s d e k
+kept-as s (syntax.DeclareLog at log source attribute) d kind name e h = absurd h
 kept-as s (syntax.DeclareRule at w test) d kind name e h = rule-of w test kind name s at d e h
 kept-as s (syntax.Drop at w) d kind name e h = absurd h
 kept-as s (syntax.DropRule at con w) d kind name e h = absurd h

@@ -33,11 +33,13 @@ module _ (state : State) (made : IsWellMade state) where
   var-typed w (syntax.BaseRelvar at heading constraints) =
       given declare_base (IsTypedPlain state) (relvar_declared state w heading constraints) (relvar-made state made w heading constraints)
   var-typed w (syntax.View at rel) = given declare_view (IsTypedPlain state) (view_declared state w rel) (view-made state made w rel)
+  var-typed w (syntax.Kept at kept) = tt
 
   pub checked-typed : (s : StatementP) → IfOk (checked state s) (IsTypedPlain state)
   checked-typed syntax.Nothing = tt
   checked-typed (syntax.DeclareOrdinal at w values) = given declare_ordinal (IsTypedPlain state) (ordinal_declared state w values) (ordinal-made state made w values)
   checked-typed (syntax.DeclareRelvar at w form) = var-typed w form
+  checked-typed (syntax.DeclareLog at log source attribute) = tt
   checked-typed (syntax.DeclareHistory at w h key since began during lasted point) =
       given declare_history (IsTypedPlain state) (history_declared state at w h key since began during lasted point)
       (history-made state made at w h key since began during lasted point)

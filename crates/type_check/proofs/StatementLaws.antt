@@ -1,5 +1,6 @@
 -- The same of statements, and of the statement that is written as tokens which the grammar accepts.
 use Rattle.std.proofs.Common.{◌≡◌, List, []}
+use Rattle.point_core.specs.declared.fault.Code.TheVariants.{E01, E06}
 use Rattle.point_core.specs.Faults.{OrFault}
 use Rattle.utd_syntax.specs.Pieces.{Piece}
 use Rattle.utd_syntax.specs.Plain as syntax
@@ -28,15 +29,20 @@ use Rattle.type_check.proofs.ItemLaws.{assignment-fine}
 giving-fine : {A : Type 0} (f : A → Plain) (typed : OrFault A) → IsNotE06 typed → IsNotE06 (giving f typed)
 giving-fine f typed h = then-fine typed _ h (λ x. tt)
 
+other-code : E01 ≡ E06 → ⊥
+other-code e = cc
+
 var-fine : (state : State) (w : Word) (form : VarFormP) → NameIn has_no_value w → VarFormIn has_no_value form → IsNotE06 (checked_var state w form)
 var-fine state w (syntax.BaseRelvar at heading constraints) h g = giving-fine _ (relvar_declared state w heading constraints) (base-relvar-fine state w heading constraints h g.0 g.1)
 var-fine state w (syntax.View at rel) h g = giving-fine _ (view_declared state w rel) (view-fine state w rel h g)
+var-fine state w (syntax.Kept at kept) h g = other-code
 
 -- the typing of a statement whose names and literals each stand for a name or a value
 pub statement-fine : (state : State) (s : StatementP) → HasValues s → IsNotE06 (checked state s)
 statement-fine state syntax.Nothing h = tt
 statement-fine state (syntax.DeclareOrdinal at w values) h = giving-fine _ (ordinal_declared state w values) (ordinal-fine state w values h.0 h.1)
 statement-fine state (syntax.DeclareRelvar at w form) h = var-fine state w form h.0 h.1
+statement-fine state (syntax.DeclareLog at log source attribute) h = other-code
 statement-fine state (syntax.DeclareHistory at w heading key since began during lasted point) h =
     giving-fine _ (history_declared state at w heading key since began during lasted point)
     (history-fine state at w heading key since began during lasted point h.0 h.1 h.3 h.4 h.5 h.6)

@@ -4,7 +4,8 @@
 --     IsTypedPlain      what is given can be performed
 use Rattle.std.specs.Prelude.{◌≡◌, List, map, Result, Ok, Err}
 use Rattle.std.specs.List.{All}
-use Rattle.point_core.specs.Faults.{OrFault}
+use Rattle.point_core.specs.declared.fault.Code.TheVariants.{E01}
+use Rattle.point_core.specs.Faults.{OrFault, fault}
 use Rattle.utd_syntax.specs.Plain as syntax
 use Rattle.utd_syntax.specs.Plain.{Word, VarFormP, StatementP}
 use Rattle.value_core.specs.declared.refuse.Refuse.{Refuse}
@@ -66,14 +67,17 @@ giving f typed = do
   x ← typed
   Ok (f x)
 
+-- a kept view and a log are read and not yet performed: each is refused at the token behind which no other form goes on
 abbrev pub checked_var : State → Word → VarFormP → OrFault Plain
 checked_var state w (syntax.BaseRelvar at heading constraints) = giving declare_base (relvar_declared state w heading constraints)
 checked_var state w (syntax.View at rel) = giving declare_view (view_declared state w rel)
+checked_var state w (syntax.Kept at kept) = Err (fault at E01)
 
 abbrev pub checked : State → StatementP → OrFault Plain
 checked state syntax.Nothing = Ok nothing
 checked state (syntax.DeclareOrdinal at w values) = giving declare_ordinal (ordinal_declared state w values)
 checked state (syntax.DeclareRelvar at w form) = checked_var state w form
+checked state (syntax.DeclareLog at log source attribute) = Err (fault log.place E01)
 checked state (syntax.Drop at w) = giving remove (dropped state w)
 checked state (syntax.DeclareRule at w test) = giving (λ r. declare_rule r.0 r.1) (rule_declared state w test)
 checked state (syntax.DropRule at con w) = giving remove_rule (rule_dropped state w)

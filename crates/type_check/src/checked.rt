@@ -1,5 +1,8 @@
 // What type checking answers to a statement.
-ghost use Rattle.std.specs.Prelude.{IfOk};
+ghost use Rattle.std.specs.Prelude.{◌≡◌, IfOk};
+ghost use Rattle.point_core.specs.declared.fault.Code.TheVariants.{E01};
+ghost use Rattle.point_core.specs.Faults.{fault};
+ghost use Rattle.value_core.specs.declared.refuse.Refuse.TheVariants as refuses;
 ghost use Rattle.utd_syntax.specs.Read.{read_name, read_statement, read_var_form};
 ghost use Rattle.scalar_typing.specs.Names.{AreOrdinals};
 ghost use Rattle.tree_core.specs.Relvars.{read_relvars};
@@ -10,6 +13,7 @@ use declaration_typing::{
     type_drop, type_history, type_ordinal, type_relvar, type_rule, type_rule_drop, type_view,
 };
 use item_typing::type_items;
+use point_core::{Code, Fault, Place};
 use std::alloc::Global;
 use tree_core::{Declaration, HistoryData, Items, RelTest, RelTree, Relvars};
 use tree_typing::{type_test, type_tree};
@@ -33,6 +37,16 @@ pub enum Checked {
     Ask(RelTest),
 }
 
+// The refusal of what the grammar reads and nothing performs: as if it could not stand at this token.
+fn unbuilt(place: Place) -> Refuse
+    ensures { result ≡ refuses.At (fault place E01) }
+{
+    Refuse::At(Fault {
+        place,
+        code: Code::E01,
+    })
+}
+
 /// The base relvar or view that VAR declares.
 fn type_var(
     alloc: Global,
@@ -52,6 +66,7 @@ fn type_var(
             let declaration = type_view(alloc, word, rel, relvars)?;
             Ok(Checked::View(declaration))
         }
+        VarForm::Kept(place, _) => Err(unbuilt(*place)),
     }
 }
 
@@ -71,6 +86,7 @@ fn type_statement(
             Ok(Checked::Ordinal(declaration))
         }
         Statement::Var(_, word, form) => type_var(alloc, word, form, relvars),
+        Statement::DeclareLog(_, log, _, _) => Err(unbuilt(log.place)),
         Statement::History(history) => {
             let declared = type_history(alloc, history, relvars)?;
             Ok(Checked::History(declared))

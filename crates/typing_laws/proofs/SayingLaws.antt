@@ -226,6 +226,8 @@ module _ (s : State) where
   checked-says (syntax.DeclareOrdinal at w values) p h is = ordinal-says at w values p h
   checked-says (syntax.DeclareRelvar at w (syntax.BaseRelvar there g cs)) p h is = base-says at w there g cs p h
   checked-says (syntax.DeclareRelvar at w (syntax.View there rel)) p h is = view-says at w there rel p h
+  checked-says (syntax.DeclareRelvar at w (syntax.Kept there kept)) p h is = cc h
+  checked-says (syntax.DeclareLog at log source attribute) p h is = absurd is
   checked-says (syntax.DeclareHistory at v g key b w d i t) p h is = history-says at v g key b w d i t p h
   checked-says (syntax.DeclareRule at w test) p h is = rule-says at w test p h
   checked-says (syntax.Drop at w) p h is = absurd is

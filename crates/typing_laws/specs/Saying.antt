@@ -95,6 +95,7 @@ SaysRule s w test (said_rule name t) = (name_typed w ≡ Ok name) × (test_typed
 abbrev pub SaysVar : State → Word → VarFormP → Said → Type 0
 SaysVar s w (syntax.BaseRelvar there h constraints) d = SaysBase s w h constraints d
 SaysVar s w (syntax.View there rel) d = SaysView s w rel d
+SaysVar s w (syntax.Kept there kept) d = ⊥
 
 -- the statement is a declaration that says this in the state
 abbrev pub Says : State → StatementP → Said → Type 0
@@ -102,6 +103,7 @@ Says s syntax.Nothing d = ⊥
 Says s (syntax.DeclareOrdinal at w values) d = SaysOrdinal w values d
 Says s (syntax.DeclareRelvar at w form) d = SaysVar s w form d
 Says s (syntax.DeclareHistory at v h key b p during i t) d = SaysHistory s at v h key b p during i t d
+Says s (syntax.DeclareLog at log source attribute) d = ⊥
 Says s (syntax.DeclareRule at w test) d = SaysRule s w test d
 Says s (syntax.Drop at w) d = ⊥
 Says s (syntax.DropRule at con w) d = ⊥
@@ -114,6 +116,7 @@ IsDeclaration syntax.Nothing = ⊥
 IsDeclaration (syntax.DeclareOrdinal at w values) = Unit {0}
 IsDeclaration (syntax.DeclareRelvar at w form) = Unit {0}
 IsDeclaration (syntax.DeclareHistory at v h key b p d i t) = Unit {0}
+IsDeclaration (syntax.DeclareLog at log source attribute) = ⊥
 IsDeclaration (syntax.DeclareRule at w test) = Unit {0}
 IsDeclaration (syntax.Drop at w) = ⊥
 IsDeclaration (syntax.DropRule at con w) = ⊥

@@ -20,6 +20,7 @@ pub data Keeping : Type 0 where
 abbrev pub kind_of : VarFormP → TextKind
 kind_of (syntax.BaseRelvar at heading constraints) = Early
 kind_of (syntax.View at rel) = View
+kind_of (syntax.Kept at kept) = View
 
 -- a declaration is kept, a history's under the name of its view; what is dropped is forgotten
 abbrev pub keeping_of : StatementP → Keeping
@@ -27,6 +28,7 @@ keeping_of syntax.Nothing = Leaves
 keeping_of (syntax.DeclareOrdinal at w values) = Keeps Early w.bytes
 keeping_of (syntax.DeclareRelvar at w form) = Keeps (kind_of form) w.bytes
 keeping_of (syntax.DeclareHistory at w heading key since began during lasted point) = Keeps Early w.bytes
+keeping_of (syntax.DeclareLog at log source attribute) = Leaves
 keeping_of (syntax.DeclareRule at w test) = Keeps Rule w.bytes
 keeping_of (syntax.Drop at w) = Forgets w.bytes
 keeping_of (syntax.DropRule at con w) = Forgets w.bytes

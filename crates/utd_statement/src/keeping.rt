@@ -18,6 +18,7 @@ fn kind_of(form: &VarForm) -> TextKind
     match form {
         VarForm::Relation(_, _, _) => TextKind::Early,
         VarForm::Virtual(_, _) => TextKind::View,
+        VarForm::Kept(_, _) => TextKind::View,
     }
 }
 
@@ -39,6 +40,7 @@ pub(crate) fn begin(statement: &Statement, text: &[u8], texts: &mut Texts) -> Re
         Statement::DeclareRule(_, name, _) => keep(texts, TextKind::Rule, name, text),
         Statement::Drop(_, _) => Ok(()),
         Statement::DropRule(_, _, _) => Ok(()),
+        Statement::DeclareLog(_, _, _, _) => Ok(()),
         Statement::Nothing => Ok(()),
         Statement::Print(_, _) => Ok(()),
         Statement::Ask(_, _) => Ok(()),
@@ -58,6 +60,7 @@ fn forget(statement: &Statement, texts: &mut Texts)
         Statement::Var(_, _, _) => {}
         Statement::History(_) => {}
         Statement::DeclareRule(_, _, _) => {}
+        Statement::DeclareLog(_, _, _, _) => {}
         Statement::Nothing => {}
         Statement::Print(_, _) => {}
         Statement::Ask(_, _) => {}
@@ -77,6 +80,7 @@ fn take_back(statement: &Statement, texts: &mut Texts)
         Statement::DeclareRule(_, _, _) => texts.drop_last(),
         Statement::Drop(_, _) => {}
         Statement::DropRule(_, _, _) => {}
+        Statement::DeclareLog(_, _, _, _) => {}
         Statement::Nothing => {}
         Statement::Print(_, _) => {}
         Statement::Ask(_, _) => {}
