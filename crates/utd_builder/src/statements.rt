@@ -525,7 +525,10 @@ fn named<'a>(alloc: Global, cursor: Cursor<'a>) -> Result<(Statement, Cursor<'a>
             let (log, next) = behind.name(alloc)?;
             let (source, rest) = next.skip().name(alloc)?;
             let (attribute, end) = name_in_parens(alloc, rest)?;
-            Ok((Statement::DeclareLog(place, log, source, attribute), end.skip()))
+            Ok((
+                Statement::DeclareLog(place, log, source, attribute),
+                end.skip(),
+            ))
         }
         _ => {
             let (only, next) = assignment(alloc, cursor)?;

@@ -22,8 +22,8 @@ pub use scalar::{
     Comparison, Conjunction, Negation, PointName, Primary, Product, Scalar, Sign, Sum,
 };
 pub use statement::{
-    Assignment, Constraint, Constraints, Deletion, Foreign, History, Item, Items, Kept, Key, Relate,
-    Statement, Test, UsedConstraint, UsedDeletion, UsedItem, VarForm,
+    Assignment, Constraint, Constraints, Deletion, Foreign, History, Item, Items, Kept, Key,
+    Relate, Statement, Test, UsedConstraint, UsedDeletion, UsedItem, VarForm,
 };
 pub use terminal::Terminal;
 pub use word::{Bytes, Word, Words};
