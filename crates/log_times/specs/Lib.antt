@@ -1,1 +1,4 @@
 pub mod Logs
+pub mod Turns
+pub mod Answers
+pub mod Told

@@ -69,7 +69,7 @@ stood_at side n log x = list_any (λ row. goes_on side n (x ∷ []) row) log
 abbrev pub moved : ℕ → ℤ → List Row → List Row → List Row
 moved side n now log =
     rows_of (map (prolonged side n now) log
-        ++ map (stamped side (at_point n)) (filter (λ x. not (stood_at side (n -ℤ pos 1) log x)) now))
+    ++ map (stamped side (at_point n)) (filter (λ x. not (stood_at side (n -ℤ pos 1) log x)) now))
 
 -- the same after several statements, the first of which has the number n
 abbrev pub moved_on : ℕ → ℤ → List (List Row) → List Row → List Row
@@ -102,13 +102,19 @@ closed_row side n row = if is_standing side row then put_span row side ((stateme
 abbrev pub closed : ℕ → ℤ → List Row → List Row
 closed side n rows = map (closed_row side n) rows
 
--- a stored row after the statement n: it began no later, and stands still or ended before
-pub record IsStoredRow (side : ℕ) (n : ℤ) (row : Row) : Type 0 where
+-- the row has an interval of statements at the place
+pub record HasStatements (side : ℕ) (row : Row) : Type 0 where
   pub within : side < length row
   pub line : value_at row side ≡ interval integers (statements side row)
+  pub ordered : (statements side row).0 ≤ℤ (statements side row).1
+
+-- a stored row after the statement n: it began no later, and stands still or ended before
+pub record IsStoredRow (side : ℕ) (n : ℤ) (row : Row) : Type 0 where
+  pub interval : HasStatements side row
   pub begun : (statements side row).0 ≤ℤ n
   pub ended : is_standing side row ≡ false → (statements side row).1 <ℤ n
 
-pub record IsStored (side : ℕ) (n : ℤ) (rows : List Row) : Type 0 where
-  pub rows : All (IsStoredRow side n) rows
+-- the rows are stored ones after the statement n, whose number an end can have
+pub record IsStored (side : ℕ) (n : ℤ) (stored : List Row) : Type 0 where
+  pub rows : All (IsStoredRow side n) stored
   pub before : n <ℤ open_end

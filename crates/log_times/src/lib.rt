@@ -1,2 +1,13 @@
 //! Logs of relvars: in which states of a database each row stood in a relvar, by the numbers of its accepted statements.
 #![tactic(auto)]
+
+mod closing;
+mod headings;
+mod lists;
+mod opening;
+mod rows;
+mod turning;
+
+pub use closing::closed;
+pub use opening::opened;
+pub use turning::{Turn, turned};

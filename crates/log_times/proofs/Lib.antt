@@ -1,0 +1,10 @@
+pub mod RowLemmas
+pub mod OrderLemmas
+pub mod TurnLemmas
+pub mod HeadingLemmas
+pub mod GainLemmas
+pub mod AnswerLemmas
+pub mod LogLaws
+pub mod StampLemmas
+pub mod StatementLemmas
+pub mod StretchLemmas
