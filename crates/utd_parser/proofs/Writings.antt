@@ -9,7 +9,7 @@ use Rattle.utd_syntax.specs.declared.terminal.Terminal.{Terminal}
 use Rattle.utd_syntax.specs.declared.terminal.Terminal.TheVariants as t
 use Rattle.utd_syntax.specs.Table.{same}
 use Rattle.utd_syntax.specs.Terminals.{word_terminal, symbol_terminal}
-use Rattle.utd_syntax.proofs.Sound.{both-left, both-right}
+use Rattle.utd_syntax.proofs.FormEnds.{both-left, both-right}
 use Rattle.utd_lexer.specs.declared.token.TokenKind.{TokenKind}
 use Rattle.utd_lexer.specs.declared.token.TokenKind.TheVariants.{Word, Integer, Text, Symbol}
 use Rattle.utd_lexer.specs.declared.token.Token.{Token}
