@@ -3,8 +3,8 @@
 --     literal-whole      those of a literal, where its levels may open
 --     list-whole      those of the names of a USING
 --     insertion-whole, insertion-under-whole, setting-whole      those of the statements
-use Rattle.std.proofs.Common.{◌≡◌, inl, inr, ℕ, false, List, [], ◌∷◌, ◌++◌, refl, ap, ◌∙◌, subst, append_assoc}
-use Rattle.std.specs.Prelude.{nat_le}
+use Rattle.std.proofs.Common.{◌≡◌, inl, inr, ℕ, Bool, true, false, List, [], ◌∷◌, ◌++◌, refl, ap, ◌∙◌, subst, append_assoc}
+use Rattle.std.specs.Prelude.{nat_le, if◌then◌else◌}
 use Rattle.std.proofs.lemmas.List.{append-nil}
 use Rattle.point_core.specs.declared.fault.Place.{Place}
 use Rattle.utd_syntax.specs.declared.terminal.Terminal.{Terminal}
@@ -12,10 +12,10 @@ use Rattle.utd_syntax.specs.declared.terminal.Terminal.TheVariants as t
 use Rattle.utd_syntax.specs.Pieces.{Piece, first}
 use Rattle.utd_syntax.specs.Plain as syntax
 use Rattle.utd_syntax.specs.Plain.{Word, ScalarP, PointP, KindP, AttributeP, HeadingP, NameListP, ElementP, TupleP, LiteralP}
-use Rattle.utd_syntax.specs.Table.{Symbol, Load, Plain, Separator, Opens, Shut, Just, TheName, TheScalar, ThePoint, TheKind, InPoint, TheAttribute, MoreAttributes, InHeading, MoreNames, InList, TheList, TheElement, MoreElements, InElements, TheElements, TheTuple, MoreTuples, InTuples, TheTuples, AfterRelation, MorePostfix, MoreInfix, TheRel, TheUsedItem, MoreItems, TheStatement}
-use Rattle.utd_syntax.specs.Verdict.{Whole, Reaches, verdict, reach, opened, at_start}
-use Rattle.utd_syntax.specs.Written.{Mark, fixed, at, spelled, Spells, token, word_of, of_scalar, of_point, of_kind, of_more_attributes, of_attributes, of_heading, of_more_words, of_words, of_list, of_more_elements, of_element_list, of_elements, of_tuple, of_more_tuples, of_tuple_list, of_tuples, of_literal, of_statement}
-use Rattle.utd_syntax.proofs.Marks.{one, done, two, begins as begins_with}
+use Rattle.utd_syntax.specs.Table.{Symbol, Load, Takes, AfterLog, same_bytes, Plain, Separator, Opens, Shut, Just, TheName, TheScalar, ThePoint, TheKind, InPoint, TheAttribute, MoreAttributes, InHeading, MoreNames, InList, TheList, TheElement, MoreElements, InElements, TheElements, TheTuple, MoreTuples, InTuples, TheTuples, AfterRelation, MorePostfix, MoreInfix, TheRel, TheUsedItem, MoreItems, TheStatement}
+use Rattle.utd_syntax.specs.Verdict.{Whole, Over, Reaches, at_form, verdict, reach, opened, at_start}
+use Rattle.utd_syntax.specs.Written.{Mark, log_word, fixed, at, spelled, Spells, token, word_of, of_scalar, of_point, of_kind, of_more_attributes, of_attributes, of_heading, of_more_words, of_words, of_list, of_more_elements, of_element_list, of_elements, of_tuple, of_more_tuples, of_tuple_list, of_tuples, of_literal, of_statement}
+use Rattle.utd_syntax.proofs.Marks.{One, one, done, two, begins as begins_with}
 use Rattle.utd_ranges.specs.Limits.{limits, is_out_of_range, verdict_on}
 use Rattle.utd_ranges.specs.Ranges.{Each, NameIn, NameListIn, PointIn, KindIn, AttributeIn, ScalarIn, ElementIn, TupleIn, LiteralIn, HasLiteralsInRange}
 use Rattle.value_core.specs.declared.kind.Kind.{Kind}
@@ -382,12 +382,29 @@ insertion-under-whole types heading rows p list q w l ts writes i h =
     ∙ (ap (λ (m : List Piece). verdict limits m (TheUsedItem ∷ stack) in_using) (done z.left u.mid z.spells)
     ∙ used-whole types heading rows q w l u.mid s.mid writes i.0.1.0 i.0.1.1 u.after s.after)))
 
+-- what a name in front asks for: LOG may begin a log, and any name an assignment
+abbrev behind_name : Bool → List Symbol
+behind_name true = AfterLog ∷ []
+behind_name false = Just t.Assign ∷ TheRel ∷ MoreItems ∷ Just t.Semicolon ∷ []
+
+name-reaches : (c : Bool) → at_form (if c then Takes Plain (AfterLog ∷ []) else Takes Plain (Just t.Assign ∷ TheRel ∷ MoreItems ∷ Just t.Semicolon ∷ [])) [] at_start Over ≡ Reaches Plain (behind_name c) at_start
+name-reaches true = refl
+name-reaches false = refl
+
+sign-step : (c : Bool) (ms : List Mark) (ts rest : List Piece) (a : One (fixed t.Assign) ms ts rest)
+    → verdict limits ts (behind_name c) at_start ≡ verdict limits a.left (TheRel ∷ MoreItems ∷ Just t.Semicolon ∷ []) at_start
+unfolding reach
+sign-step true ms ts rest a = stepped Plain (TheRel ∷ MoreItems ∷ Just t.Semicolon ∷ []) (AfterLog ∷ []) at_start at_start (fixed t.Assign) ms ts rest a refl refl refl
+sign-step false ms ts rest a =
+    stepped Plain (TheRel ∷ MoreItems ∷ Just t.Semicolon ∷ []) (Just t.Assign ∷ TheRel ∷ MoreItems ∷ Just t.Semicolon ∷ []) at_start at_start (fixed t.Assign) ms ts rest a refl refl refl
+
 pub setting-whole : (types : List OrdinalNames) (heading : Heading) (rows : List Row) (w : Word) (l : LiteralP) (ts : List Piece) → WritesLiteral types heading rows l → HasLiteralsInRange (setting w l)
     → Spells (of_statement (setting w l)) ts [] → verdict_on ts ≡ Whole
 unfolding reach
 setting-whole types heading rows w l ts writes i h =
     let n = one (spelled t.Name w.place w.bytes) (token t.Assign ++ of_literal l ++ [] ++ token t.Semicolon) ts [] h in
     let a = one (fixed t.Assign) (of_literal l ++ [] ++ token t.Semicolon) n.left [] n.spells in
-    stepped Plain (Just t.Assign ∷ TheRel ∷ MoreItems ∷ Just t.Semicolon ∷ []) (TheStatement ∷ []) at_start at_start (spelled t.Name w.place w.bytes) (token t.Assign ++ of_literal l ++ [] ++ token t.Semicolon) ts [] n refl refl i.0.0
-    ∙ (stepped Plain (TheRel ∷ MoreItems ∷ Just t.Semicolon ∷ []) (Just t.Assign ∷ TheRel ∷ MoreItems ∷ Just t.Semicolon ∷ []) at_start at_start (fixed t.Assign) (of_literal l ++ [] ++ token t.Semicolon) n.left [] a refl refl refl
+    let c : Bool = same_bytes log_word w.bytes in
+    stepped Plain (behind_name c) (TheStatement ∷ []) at_start at_start (spelled t.Name w.place w.bytes) (token t.Assign ++ of_literal l ++ [] ++ token t.Semicolon) ts [] n (name-reaches c) refl i.0.0
+    ∙ (sign-step c (of_literal l ++ [] ++ token t.Semicolon) n.left [] a
     ∙ rel-whole types heading rows l a.left writes i.0.1 a.spells)
