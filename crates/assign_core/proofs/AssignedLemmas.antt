@@ -25,8 +25,7 @@ use Rattle.assign_core.specs.Databases.{IsKept}
 use Rattle.assign_core.proofs.ChangeLemmas.{bare_changed, none_changed}
 use Rattle.assign_core.proofs.RuleLemmas.{rules_hold}
 use Rattle.assign_core.proofs.RemovedLemmas.{AreFitting, AllFit, constraints_of, all_fit}
-use Rattle.meaning_core.specs.WellMade.{IsWellMade}
-use Rattle.meaning_core.proofs.RowlessLemmas.{bare-keeps}
+use Rattle.meaning_core.proofs.RowlessLemmas.{bare_all, bare-keeps}
 
 -- ---- what is meant
 
@@ -87,11 +86,10 @@ kept_checked s cs kept are =
     let made = bare-keeps s new (bare_changed cs s.relvars are) kept.well_made in
     all_checked new new (all_fit (record s { relvars = new }) made)
 
-pub assigned_kept : (s : State) (cs : Changes) (list : List PlainAssignment) → IsKept s → AreChanges cs s.relvars → after_assignments s.relvars list ≡ Ok (changed cs s.relvars)
-    → first_rule_broken (changed cs s.relvars) s.rules ≡ None → IsKept (record s { relvars = changed cs s.relvars })
-assigned_kept s cs list kept are e none =
-    let new = changed cs s.relvars in
-    let bare = bare_changed cs s.relvars are in
+-- relvars with other rows, where they are admitted and break no database constraint
+pub assigned_kept : (s : State) (new : Entries) (list : List PlainAssignment) → IsKept s → bare_all new ≡ bare_all s.relvars → after_assignments s.relvars list ≡ Ok new → first_rule_broken new s.rules ≡ None
+    → IsKept (record s { relvars = new })
+assigned_kept s new list kept bare e none =
     let fine = is_fine (evaluated s.relvars s.relvars list) new e in
     record {
       well_made = bare-keeps s new bare kept.well_made;
@@ -99,7 +97,3 @@ assigned_kept s cs list kept are e none =
       few = fine.0;
       rules = rules_hold new s.rules none;
     }
-
--- the state is well made with other values, also where a database constraint is broken
-pub changed_made : (s : State) (cs : Changes) → IsKept s → AreChanges cs s.relvars → IsWellMade (record s { relvars = changed cs s.relvars })
-changed_made s cs kept are = bare-keeps s (changed cs s.relvars) (bare_changed cs s.relvars are) kept.well_made

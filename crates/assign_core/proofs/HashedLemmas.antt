@@ -109,15 +109,6 @@ rows_long r rows heading is same headed i d l =
     let fits : IsTrue (fits_heading r.heading (get_or rows i d)) = passes_at (fits_heading r.heading) rows i d all l in
     length_of_fit r.heading (get_or rows i d) fits ∙ ap (λ (h : Heading). length h) headed
 
--- after an exchange there is a relation again
-pub set_exchanged : (old come left : Relation) (before coming gone rows : List Row) → IsRelation old → IsRelation come → come.heading ≡ old.heading → length (united old.rows come.rows) ≤ most_rows
-    → left ≡ record { heading = old.heading; rows = [] } → before ≡ old.rows → coming ≡ come.rows → rows ≡ exchanged before gone coming → IsRelation (record { heading = left.heading; rows = rows })
-set_exchanged old come left before coming gone rows a b same few emptied own theirs is =
-    let heads : left.heading ≡ old.heading = ap (λ (r : Relation). r.heading) emptied in
-    let now : rows ≡ exchanged old.rows gone come.rows = is ∙ (ap (λ (zs : List Row). exchanged zs gone coming) own ∙ ap (λ (zs : List Row). exchanged old.rows gone zs) theirs) in
-    let there = fewer_relation (record { heading = old.heading; rows = united old.rows come.rows }) gone (grown_relation old come a b same few) in
-    subst IsRelation (λ i. record { heading = sym heads i; rows = sym now i }) there
-
 -- ---- a relvar
 
 none_in : (r : PlainRelvar) → AreHashesIn [] r

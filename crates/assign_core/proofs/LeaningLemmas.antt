@@ -4,7 +4,7 @@
 --     unless_told      where none is told, none is broken
 use denote.Ref.{Bor}
 use Rattle.std.proofs.Common.{◌≡◌, ℕ, zero, suc, ◌+◌, ◌<◌, ◌≤◌, Bool, true, false, cond, List, [], ◌∷◌, ◌++◌, map, drop, length, get_or, refl, sym, ap, ◌∙◌, arith, true≢false, Option, Some, None, Ok}
-use Rattle.std.specs.Prelude.{◌||◌, is_some, nat_eq, slice_get, slice_index_or, MatchOption}
+use Rattle.std.specs.Prelude.{◌||◌, nat_eq, slice_get, slice_index_or}
 use Rattle.std.specs.List.{All, list_any}
 use Rattle.std.specs.Str.{bytes_eq}
 use Rattle.std.proofs.lemmas.Bool.{or_parts}
@@ -12,7 +12,7 @@ use Rattle.std.proofs.lemmas.Bool.Decides.{nat_tests}
 use Rattle.std.proofs.lemmas.List.{map-append}
 use Rattle.std.proofs.lemmas.List.Elements.{All-head, All-tail}
 use Rattle.value_core.specs.declared.refuse.Refuse.TheVariants.{Broken}
-use Rattle.value_core.specs.Values.{Name, Relation}
+use Rattle.value_core.specs.Values.{Name}
 use Rattle.point_core.specs.declared.fault.Code.TheVariants.{E45}
 use Rattle.tree_core.specs.declared.test.RelTest.{RelTest}
 use Rattle.tree_core.specs.Relvars.{PlainRelvar, base, view, Entries, Rules, read_rule}
@@ -23,13 +23,12 @@ use Rattle.meaning_core.specs.Names.{found, each_after}
 use Rattle.meaning_core.specs.Truths.{holds_in, is_held}
 use Rattle.meaning_core.proofs.ElsewhereLemmas.{meaning-agrees, truth-agrees}
 use Rattle.meaning_core.proofs.MadeLemmas.{same_name, own_name}
-use Rattle.change_rows.specs.declared.exchange.Exchange.{Exchange}
 use Rattle.assign_core.specs.Breaches.{first_rule_broken}
-use Rattle.assign_core.specs.Changes.{Changes, changed, changed_relvar}
-use Rattle.assign_core.specs.Leanings.{is_new_at, is_ready_at, is_view_of, is_affected, with_affected, affected_from, affected, leaning, DoOthersHold}
-use Rattle.assign_core.specs.Turnovers.{renewed_at, with_ready}
-use Rattle.assign_core.specs.declared.preparing.Ready.{Ready}
-use Rattle.assign_core.specs.declared.preparing.Ready.TheVariants.{Values, Rows}
+use Rattle.assign_core.specs.Changes.{turned_at}
+use Rattle.assign_core.specs.Leanings.{is_ready_at, is_view_of, is_affected, with_affected, affected_from, affected, leaning, DoOthersHold}
+use Rattle.assign_core.specs.Exchanges.{exchanged_by, place_of, turned, with_ready}
+use Rattle.assign_core.specs.declared.exchange.Change.{Change}
+use Rattle.assign_core.specs.declared.exchange.Ready.{Ready}
 
 -- ---- names
 
@@ -94,35 +93,40 @@ all_alike : (ready : ℕ → Bool) (i : ℕ) (es : Entries) → AreAlike ready i
 all_alike ready i [] = tt
 all_alike ready i (e ∷ es) = (refl, λ q. refl, all_alike ready (suc i) es)
 
-changed_alike : (ready : ℕ → Bool) (i : ℕ) (cs : Changes) (es : Entries) → ((k : ℕ) → ready (k + i) ≡ is_new_at cs k) → AreAlike ready i es (changed cs es)
-changed_alike ready i [] es new = all_alike ready i es
-changed_alike ready i (c ∷ cs) [] new = tt
-changed_alike ready i (c ∷ cs) (e ∷ es) new = (
-  refl,
-  λ q. by c (sym (here ∙ new 0) ∙ q),
-  changed_alike ready (suc i) cs es (λ k. let same : k + suc i ≡ suc k + i = omega arith in ap ready same ∙ new (suc k)),
-)
-  where
-    here : ready i ≡ ready (0 + i)
-    here = let same : i ≡ 0 + i = omega arith in ap ready same
+alike_weaker : (p q : ℕ → Bool) (i : ℕ) (es fs : Entries) → ((k : ℕ) → q k ≡ false → p k ≡ false) → AreAlike p i es fs → AreAlike q i es fs
+alike_weaker p q i [] [] less h = tt
+alike_weaker p q i [] (f ∷ fs) less h = absurd h
+alike_weaker p q i (e ∷ es) [] less h = absurd h
+alike_weaker p q i (e ∷ es) (f ∷ fs) less h = (h.0, λ none. h.1 (less i none), alike_weaker p q (suc i) es fs less h.2)
 
-    by : (d : Option Relation) → is_some d ≡ false → e.1 ≡ changed_relvar d e.1
-    by None q = refl
-    by (Some value) q = absurd (true≢false q)
-
-renewed_alike : (ready : ℕ → Bool) (i at : ℕ) (rows : Exchange) (es : Entries) → ready (at + i) ≡ true → AreAlike ready i es (renewed_at at rows es)
-renewed_alike ready i at rows [] one = tt
-renewed_alike ready i zero rows (e ∷ es) one =
+-- one relvar more is turned into another one
+alike_turned : (p q : ℕ → Bool) (i at : ℕ) (g : PlainRelvar → PlainRelvar) (es fs : Entries) → ((k : ℕ) → q k ≡ false → p k ≡ false) → q (at + i) ≡ true → AreAlike p i es fs
+    → AreAlike q i es (turned_at at g fs)
+alike_turned p q i at g [] [] less one h = tt
+alike_turned p q i at g [] (f ∷ fs) less one h = absurd h
+alike_turned p q i at g (e ∷ es) [] less one h = absurd h
+alike_turned p q i zero g (e ∷ es) (f ∷ fs) less one h =
     let same : i ≡ 0 + i = omega arith in
-    (refl, λ q. absurd (true≢false (sym one ∙ (ap ready (sym same) ∙ q))), all_alike ready (suc i) es)
-renewed_alike ready i (suc at) rows (e ∷ es) one =
+    (h.0, λ none. absurd (true≢false (sym one ∙ (ap q (sym same) ∙ none))), alike_weaker p q (suc i) es fs less h.2)
+alike_turned p q i (suc at) g (e ∷ es) (f ∷ fs) less one h =
     let same : at + suc i ≡ suc at + i = omega arith in
-    (refl, λ q. refl, renewed_alike ready (suc i) at rows es (ap ready same ∙ one))
+    (h.0, λ none. h.1 (less i none), alike_turned p q (suc i) at g es fs less (ap q same ∙ one) h.2)
+
+one_of : List Change → ℕ → Bool
+one_of cs i = list_any (λ c. nat_eq (place_of c) i) cs
+
+list_alike : (cs : List Change) (es : Entries) → AreAlike (one_of cs) 0 es (exchanged_by cs es)
+unfolding one_of
+list_alike [] es = all_alike (one_of []) 0 es
+list_alike (c ∷ cs) es =
+    let at = place_of c in
+    let same : nat_eq at (at + 0) ≡ true = grind (arith, nat_tests) in
+    alike_turned (one_of cs) (one_of (c ∷ cs)) 0 at (turned c) es (exchanged_by cs es) (λ k none. (or_parts (nat_eq at k) (one_of cs k) none).1)
+    (ap (λ (b : Bool). b || one_of cs (at + 0)) same) (list_alike cs es)
 
 ready_alike : (r : Ready) (es : Entries) → AreAlike (is_ready_at r) 0 es (with_ready r es)
-ready_alike (Values changes) es = changed_alike (is_ready_at (Values changes)) 0 changes.items es (λ k. let same : k + 0 ≡ k = omega arith in ap (is_new_at changes.items) same)
-ready_alike (Rows at rows) es =
-    renewed_alike (is_ready_at (Rows at rows)) 0 at rows es (let same : nat_eq at (at + 0) ≡ true = grind (arith, nat_tests) in same)
+unfolding one_of
+ready_alike r es = list_alike r.changes.items es
 
 -- ---- what is affected
 
@@ -224,18 +228,3 @@ next_affected r names next es i d l e =
     by [] k h m = absurd (omega arith)
     by (x ∷ xs) zero h m = refl
     by (x ∷ xs) (suc k) h m = by xs k (omega arith) m
-
--- ---- a place of new values
-
-abbrev pub is_new : Option (Bor (Option Relation)) → Bool
-is_new None = false
-is_new (Some x) = is_some x.now
-
-pub new_found : (i : ℕ) (cs : Changes) (r : Option (Bor (Option Relation)))
-    → MatchOption r (length cs ≤ i) (λ (x : Bor (Option Relation)). (i < length cs) × ((d : Option Relation) → x.now ≡ get_or cs i d)) → is_new_at cs i ≡ is_new r
-new_found i [] None h = refl
-new_found i [] (Some x) h = absurd (omega (arith, h.0))
-new_found zero (c ∷ cs) None h = absurd (omega (arith, h))
-new_found zero (c ∷ cs) (Some x) h = ap is_some (sym (h.1 c))
-new_found (suc i) (c ∷ cs) None h = new_found i cs None (omega (arith, h))
-new_found (suc i) (c ∷ cs) (Some x) h = new_found i cs (Some x) (omega (arith, h.0), h.1)

@@ -12,6 +12,7 @@ pub mod ExchangeLemmas
 pub mod RenewedLemmas
 pub mod TurnoverLemmas
 pub mod HashedLemmas
+pub mod HeldLemmas
 pub mod InsertionLemmas
 pub mod InTurnLemmas
 pub mod ItemLemmas

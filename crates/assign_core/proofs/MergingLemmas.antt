@@ -132,10 +132,3 @@ nothing_left rows now come seen end n sorted back l m =
     take_all (end - seen) (drop seen now) (omega (arith, long, l)) ∙ (back ∙ (union_none (drop seen rows) sorted ∙ ap (λ (rs : List Row). united (drop seen rows) rs) (sym (ended n come m))))
 
 -- ---- a relation's rows
-
-pub set_merged : (old come left : Relation) (before coming rows : List Row) → IsRelation old → IsRelation come → come.heading ≡ old.heading → length (united old.rows come.rows) ≤ most_rows
-    → left ≡ record { heading = old.heading; rows = [] } → before ≡ old.rows → coming ≡ come.rows → rows ≡ united before coming → IsRelation (record { heading = left.heading; rows = rows })
-set_merged old come left before coming rows a b same few emptied own theirs is =
-    let heads : left.heading ≡ old.heading = ap (λ (r : Relation). r.heading) emptied in
-    let now : rows ≡ united old.rows come.rows = is ∙ (ap (λ (zs : List Row). united zs coming) own ∙ ap (λ (zs : List Row). united old.rows zs) theirs) in
-    subst IsRelation (λ i. record { heading = sym heads i; rows = sym now i }) (grown_relation old come a b same few)

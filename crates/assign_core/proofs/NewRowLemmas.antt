@@ -27,7 +27,7 @@ use Rattle.meaning_core.specs.Meanings.{RowsMeant, limited}
 use Rattle.meaning_core.proofs.EntryLemmas.{named_first}
 use Rattle.meaning_core.proofs.LimitLemmas.{limited_few}
 use Rattle.algebra_core.specs.Costs.{paid}
-use Rattle.assign_core.specs.declared.preparing.Ready.{Ready}
+use Rattle.assign_core.specs.declared.exchange.Ready.{Ready}
 use Rattle.assign_core.specs.Arrivals.{entries_then, IsArrival, IsBaseFor}
 use Rattle.assign_core.specs.Assignments.{kept_or_refused, of_values, unless_broken, unless_rule_broken, with_target, IsRefusedFor}
 use Rattle.assign_core.specs.Breaches.{first_rule_broken}
@@ -36,7 +36,7 @@ use Rattle.assign_core.specs.Databases.{IsKept, IsSettled}
 use Rattle.assign_core.specs.Insertions.{sum_in, united_in}
 use Rattle.assign_core.specs.NewRows.{Arriving, replacing, joining, rows_then, arriving_cost, joined_cost, values_brought, IsBrought, IsGivenTo, IsPaidFor, IsToldOf}
 use Rattle.assign_core.specs.Targets.{entries_before, entries_with}
-use Rattle.assign_core.specs.Turnovers.{with_ready, IsReady}
+use Rattle.assign_core.specs.Exchanges.{with_ready, IsReady}
 use Rattle.assign_core.specs.declared.target.Target.{Target}
 use Rattle.assign_core.proofs.AssignedLemmas.{is_fine}
 use Rattle.assign_core.proofs.RenewedLemmas.{settled_made}

@@ -2,7 +2,7 @@
 --     changed_state      where the relvars are others and all else stays
 --     state_back      where an exchange of values is taken back
 --     rule_appended, rule_removed, group_removed      with one database constraint more or less, and without relvars
-use Rattle.std.proofs.Common.{◌≡◌, List, [], ◌∷◌, ◌++◌, map, length, not, filter, sym, ap, ◌∙◌, Option, Some, None}
+use Rattle.std.proofs.Common.{◌≡◌, List, [], ◌∷◌, ◌++◌, map, not, filter, sym, ap, subst, ◌∙◌, Option, Some, None}
 use Rattle.std.specs.Prelude.{option_map}
 use Rattle.std.specs.List.{IsDistinct}
 use Rattle.std.specs.Map.{keys_of, lookup}
@@ -18,8 +18,9 @@ use Rattle.tree_core.specs.Trees.{read_test}
 use Rattle.tree_core.specs.Uses.{is_one_of}
 use Rattle.tree_core.proofs.NameLemmas.{looked-up}
 use Rattle.meaning_core.specs.Declarations.{with_history, with_rule}
-use Rattle.assign_core.specs.Changes.{Changes, changed, replaced}
-use Rattle.assign_core.proofs.ExchangeLemmas.{length_changed, length_replaced, taken_back}
+use Rattle.assign_core.specs.Exchanges.{exchanged_by, replaced, ArePrepared, AreValues}
+use Rattle.assign_core.specs.declared.exchange.Change.{Change}
+use Rattle.assign_core.proofs.ExchangeLemmas.{prepared_back, taken_back, values_back}
 use Rattle.assign_core.proofs.NameLemmas.{apart_from, distinct_apart, filter_read, one_removed, shift_apart, three_removed}
 
 pub changed_state : (old new : Relvars) (es : Entries) → map read_entry new.list.entries ≡ es → new.ordinals ≡ old.ordinals → new.rules ≡ old.rules
@@ -72,16 +73,18 @@ history_found es name out e = ap history_if (ap (option_map read_relvar) e ∙ l
 -- ---- taken back
 
 -- a second exchange of values takes the first one back
-pub state_back : (old mid new : Relvars) (cs ds : Changes) → map read_entry mid.list.entries ≡ changed cs (map read_entry old.list.entries)
-    → ds ≡ replaced cs (map read_entry old.list.entries) → map read_entry new.list.entries ≡ changed ds (map read_entry mid.list.entries)
+pub state_back : (old mid new : Relvars) (cs ds : List Change) → ArePrepared cs (map read_entry old.list.entries) → AreValues cs
+    → map read_entry mid.list.entries ≡ exchanged_by cs (map read_entry old.list.entries) → ds ≡ map (replaced (map read_entry old.list.entries)) cs
+    → map read_entry new.list.entries ≡ exchanged_by ds (map read_entry mid.list.entries)
     → mid.ordinals ≡ old.ordinals → mid.rules ≡ old.rules → new.ordinals ≡ mid.ordinals → new.rules ≡ mid.rules → read_relvars new ≡ read_relvars old
-state_back old mid new cs ds first back second ordinals rules ordinals_too rules_too =
+state_back old mid new cs ds prepared are first back second ordinals rules ordinals_too rules_too =
     let es = map read_entry old.list.entries in
-    let list = second ∙ ((λ i. changed (back i) (first i)) ∙ taken_back cs es) in
+    let list = second ∙ ((λ i. exchanged_by (back i) (first i)) ∙ taken_back cs es prepared are) in
     changed_state old new es list (ordinals_too ∙ ordinals) (rules_too ∙ rules)
 
-pub length_back : (old mid : Relvars) (cs ds : Changes) → map read_entry mid.list.entries ≡ changed cs (map read_entry old.list.entries) → ds ≡ replaced cs (map read_entry old.list.entries)
-    → length cs ≡ length (map read_entry old.list.entries) → length ds ≡ length (map read_entry mid.list.entries)
-length_back old mid cs ds first back long =
-    let es = map read_entry old.list.entries in
-    ap length back ∙ (length_replaced cs es ∙ (long ∙ (sym (length_changed cs es) ∙ ap length (sym first))))
+-- what is left by the first one
+pub values_left : (es fs : Entries) (cs ds : List Change) → ArePrepared cs es → AreValues cs → fs ≡ exchanged_by cs es → ds ≡ map (replaced es) cs → AreValues ds × ArePrepared ds fs
+values_left es fs cs ds prepared are first back = (
+  subst AreValues (sym back) (values_back cs es are),
+  subst (λ (z : Entries). ArePrepared ds z) (sym first) (subst (λ (z : List Change). ArePrepared z (exchanged_by cs es)) (sym back) (prepared_back cs es prepared are)),
+)

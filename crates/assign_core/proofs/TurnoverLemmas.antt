@@ -91,11 +91,6 @@ few_together old come most few =
     long [] ys = omega arith
     long (x ∷ xs) ys = let ih = long xs ys in omega (arith, ih)
 
--- rows that are put in first, and rows that are then taken out
-pub in_turn : (old mid new : Relation) (x : Exchange) → mid ≡ record { heading = old.heading; rows = united old.rows x.come.rows }
-    → new ≡ record { heading = mid.heading; rows = subtracted mid.rows x.gone.rows } → new ≡ renewed old x
-in_turn old mid new x first last = last ∙ ap (λ (r : Relation). record { heading = r.heading; rows = subtracted r.rows x.gone.rows }) first
-
 -- ---- entries
 
 apart_stays : (es : Entries) (own name : Name) (value : Relation) → bytes_eq own name ≡ true → AllByRecursion (λ n. bytes_eq own n ≡ false) (names_in es) → es ≡ given (Some name) (Some value) es
@@ -203,34 +198,6 @@ pub is_exchange_at : (es : Entries) (name : Name) (i : ℕ) (value : Relation) (
 is_exchange_at [] name i value constraints rows first headed few = absurd first
 is_exchange_at (r ∷ es) name zero value constraints rows first headed few = subst (MayExchange rows) (sym first.1) (headed, few)
 is_exchange_at (r ∷ es) name (suc i) value constraints rows first headed few = is_exchange_at es name i value constraints rows first.1 headed few
-
-pub may_exchange : (es : List (Name × Relvar)) (i : ℕ) (rows : Exchange) (k : Name) (r : Relvar) → IsExchangeAt i rows (map read_entry es) → slice_get es i ≡ Some (k, r) → MayExchange rows (read_relvar r)
-may_exchange [] i rows k r h is = absurd h
-may_exchange (x ∷ es) zero rows k r h is = let same : x ≡ (k, r) = cc in subst (λ (z : Name × Relvar). MayExchange rows (read_relvar z.1)) same h
-may_exchange (x ∷ es) (suc i) rows k r h is = may_exchange es i rows k r h is
-
-pub within_exchange : (es : Entries) (i : ℕ) (rows : Exchange) → IsExchangeAt i rows es → i < length es
-within_exchange [] i rows h = absurd h
-within_exchange (r ∷ es) zero rows h = omega arith
-within_exchange (r ∷ es) (suc i) rows h = let ih = within_exchange es i rows h in omega (arith, ih)
-
--- ---- what is put in place
-
-pub set_renewed : (es : List (Name × Relvar)) (i : ℕ) (w : Relvar) (rows : Exchange) (k : Name) (r : Relvar) → slice_get es i ≡ Some (k, r) → read_relvar w ≡ renewed_relvar rows (read_relvar r)
-    → map read_entry (set_value_at es i w) ≡ renewed_at i rows (map read_entry es)
-set_renewed [] i w rows k r is e = refl
-set_renewed (x ∷ es) zero w rows k r is e =
-    let same : (k, r) ≡ x = cc in
-    ap (λ (z : PlainRelvar). (x.0, z) ∷ map read_entry es) (e ∙ ap (λ (z : Name × Relvar). renewed_relvar rows (read_relvar z.1)) same)
-set_renewed (x ∷ es) (suc i) w rows k r is e = ap (λ (z : Entries). read_entry x ∷ z) (set_renewed es i w rows k r is e)
-
-pub set_same : (es : List (Name × Relvar)) (i : ℕ) (w : Relvar) (k : Name) (r : Relvar) → slice_get es i ≡ Some (k, r) → read_relvar w ≡ read_relvar r
-    → map read_entry (set_value_at es i w) ≡ map read_entry es
-set_same [] i w k r is e = refl
-set_same (x ∷ es) zero w k r is e =
-    let same : (k, r) ≡ x = cc in
-    ap (λ (z : PlainRelvar). (x.0, z) ∷ map read_entry es) (e ∙ ap (λ (z : Name × Relvar). read_relvar z.1) same)
-set_same (x ∷ es) (suc i) w k r is e = ap (λ (z : Entries). read_entry x ∷ z) (set_same es i w k r is e)
 
 -- ---- what a constraint names
 

@@ -12,11 +12,11 @@ use Rattle.tree_core.specs.Relvars.{base, Entries, State}
 use Rattle.meaning_core.specs.Names.{IsFirstAt}
 use Rattle.assign_core.specs.declared.new_rows.Coming.{Coming}
 use Rattle.assign_core.specs.declared.new_rows.Coming.TheVariants.{Set, Insert}
-use Rattle.assign_core.specs.declared.preparing.Ready.{Ready}
+use Rattle.assign_core.specs.declared.exchange.Ready.{Ready}
 use Rattle.assign_core.specs.Assignments.{kept_or_refused, with_target, IsRefusedFor}
 use Rattle.assign_core.specs.Costs.{constraints_cost}
 use Rattle.assign_core.specs.NewRows.{Arriving, replacing, joining, rows_then, joined_cost, IsBaseWith}
-use Rattle.assign_core.specs.Turnovers.{with_ready, IsReady}
+use Rattle.assign_core.specs.Exchanges.{with_ready, IsReady}
 
 abbrev pub way_of : Coming → Arriving
 way_of Set = replacing

@@ -1,7 +1,7 @@
 -- New values that stand ready for base relvars, one place for each relvar and view.
 --     AreChanges      each new value has the heading of its base relvar
 --     changed      the relvars with the values that stand ready for them
---     replaced      the values that these take the place of
+--     turned_at, IsSoAt      one relvar is turned into another one, and what is so of it
 use Rattle.std.specs.Prelude.{◌≡◌, ℕ, zero, suc, List, [], ◌∷◌, Option, Some, None, Result, Ok, Err}
 use Rattle.value_core.specs.declared.refuse.Refuse.{Refuse}
 use Rattle.value_core.specs.declared.refuse.Refuse.TheVariants.{Plain, At, Broken, Memory}
@@ -47,32 +47,27 @@ Tells (Err (At fault)) meant = ⊥
 Tells (Err (Broken code relvar number)) meant = meant ≡ Some (Broken code relvar number)
 Tells (Err Memory) meant = Unit {0}
 
--- the relvars with the value that stands ready for the one at a place
-abbrev pub changed_at : ℕ → Option Relation → Entries → Entries
-changed_at i c [] = []
-changed_at zero c (r ∷ rest) = (r.0, changed_relvar c r.1) ∷ rest
-changed_at (suc i) c (r ∷ rest) = r ∷ changed_at i c rest
-
--- ---- values that are replaced
-
 -- the value of a base relvar; other, of a view
 abbrev pub value_or : Relation → PlainRelvar → Relation
 value_or other (base value constraints) = value
 value_or other (view t history) = other
 
--- the value in whose place a new one is put; none, where none is put
-abbrev pub replaced_value : Option Relation → PlainRelvar → Option Relation
-replaced_value None r = None
-replaced_value (Some value) r = Some (value_or value r)
+-- ---- one place
 
--- the same of the relvar at a place
-abbrev pub replaced_at : ℕ → Option Relation → Entries → Option Relation
-replaced_at i c [] = c
-replaced_at zero c (r ∷ rest) = replaced_value c r.1
-replaced_at (suc i) c (r ∷ rest) = replaced_at i c rest
+-- the relvars with the one at a place turned into another one
+abbrev pub turned_at : ℕ → (PlainRelvar → PlainRelvar) → Entries → Entries
+turned_at i f [] = []
+turned_at zero f (r ∷ rest) = (r.0, f r.1) ∷ rest
+turned_at (suc i) f (r ∷ rest) = r ∷ turned_at i f rest
 
--- the same of all relvars
-abbrev pub replaced : Changes → Entries → Changes
-replaced [] entries = []
-replaced (c ∷ cs) [] = c ∷ cs
-replaced (c ∷ cs) (r ∷ rest) = replaced_value c r.1 ∷ replaced cs rest
+-- a relvar or view stands at the place, of which this is so
+abbrev pub IsSoAt : ℕ → (PlainRelvar → Type 0) → Entries → Type 0
+IsSoAt i P [] = ⊥
+IsSoAt zero P (r ∷ rest) = P r.1
+IsSoAt (suc i) P (r ∷ rest) = IsSoAt i P rest
+
+-- the value of the base relvar at a place; other, where there is none
+abbrev pub value_there : ℕ → Relation → Entries → Relation
+value_there i other [] = other
+value_there zero other (r ∷ rest) = value_or other r.1
+value_there (suc i) other (r ∷ rest) = value_there i other rest

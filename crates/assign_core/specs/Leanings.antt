@@ -2,27 +2,20 @@
 --     affected      the names of relvars for which something stands ready, and of views over these
 --     leaning      of each database constraint, whether it names one of these
 --     DoOthersHold      where one does not, it holds
-use Rattle.std.specs.Prelude.{◌≡◌, ℕ, zero, suc, Bool, true, false, ◌||◌, List, [], ◌∷◌, ◌++◌, map, is_some, nat_eq, if◌then◌else◌}
+use Rattle.std.specs.Prelude.{◌≡◌, ℕ, suc, Bool, true, false, ◌||◌, List, [], ◌∷◌, ◌++◌, map, nat_eq, if◌then◌else◌}
+use Rattle.std.specs.List.{list_any}
 use Rattle.value_core.specs.Values.{Name}
 use Rattle.tree_core.specs.Relvars.{PlainRelvar, base, view, Entries, Rules}
 use Rattle.tree_core.specs.Uses.{is_one_of, names_any, test_names_any}
 use Rattle.meaning_core.specs.Truths.{holds_in}
-use Rattle.assign_core.specs.Changes.{Changes}
-use Rattle.assign_core.specs.declared.preparing.Ready.{Ready}
-use Rattle.assign_core.specs.declared.preparing.Ready.TheVariants.{Values, Rows}
+use Rattle.assign_core.specs.Exchanges.{place_of}
+use Rattle.assign_core.specs.declared.exchange.Ready.{Ready}
 
 -- ---- what stands ready
 
--- whether a new value stands at the place
-abbrev pub is_new_at : Changes → ℕ → Bool
-is_new_at [] i = false
-is_new_at (c ∷ cs) zero = is_some c
-is_new_at (c ∷ cs) (suc i) = is_new_at cs i
-
 -- whether something stands ready for the relvar at the place
 abbrev pub is_ready_at : Ready → ℕ → Bool
-is_ready_at (Values changes) i = is_new_at changes.items i
-is_ready_at (Rows at rows) i = nat_eq at i
+is_ready_at r i = list_any (λ c. nat_eq (place_of c) i) r.changes.items
 
 -- ---- what it affects
 

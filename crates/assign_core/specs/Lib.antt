@@ -6,6 +6,7 @@ pub mod Checks
 pub mod Costs
 pub mod Databases
 pub mod Differences
+pub mod Exchanges
 pub mod Hashed
 pub mod Turnovers
 pub mod Insertions

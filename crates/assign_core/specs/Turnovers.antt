@@ -3,7 +3,6 @@
 --     IsTurnover      what is asked of an exchange that stands ready for a base relvar
 --     after_turnover      the relvars after it
 --     IsKnown      what is known of the rows before it and after it
---     IsReady, with_ready      what stands ready, and the relvars with it
 use Rattle.std.specs.Prelude.{◌≡◌, ℕ, zero, suc, ◌+◌, ◌≤◌, Bool, false, List, [], ◌∷◌, length, Option, Some, None, option_map, IfSome, if◌then◌else◌}
 use Rattle.std.specs.List.{All}
 use Rattle.std.specs.Str.{bytes_eq}
@@ -18,9 +17,7 @@ use Rattle.u_constraints.specs.Growth.{exchanged}
 use Rattle.change_rows.specs.declared.exchange.Exchange.{Exchange}
 use Rattle.assign_core.specs.declared.turnover.Known.{Known}
 use Rattle.assign_core.specs.declared.turnover.Turnover.{Turnover}
-use Rattle.assign_core.specs.declared.preparing.Ready.{Ready}
-use Rattle.assign_core.specs.declared.preparing.Ready.TheVariants.{Values, Rows}
-use Rattle.assign_core.specs.Changes.{AreChanges, changed}
+use Rattle.assign_core.specs.Changes.{turned_at, IsSoAt}
 
 -- a relation after an exchange of rows
 abbrev pub renewed : Relation → Exchange → Relation
@@ -32,9 +29,7 @@ renewed_relvar x (view t history) = view t history
 
 -- the relvars after an exchange of rows of the one at a place
 abbrev pub renewed_at : ℕ → Exchange → Entries → Entries
-renewed_at i x [] = []
-renewed_at zero x (r ∷ rest) = (r.0, renewed_relvar x r.1) ∷ rest
-renewed_at (suc i) x (r ∷ rest) = r ∷ renewed_at i x rest
+renewed_at i x entries = turned_at i (renewed_relvar x) entries
 
 -- what is asked where rows are put among those of a relvar: they have its heading, and are few enough with its own
 abbrev pub MayExchange : Exchange → PlainRelvar → Type 0
@@ -43,9 +38,7 @@ MayExchange x (view t history) = ⊥
 
 -- the same of the relvar at a place
 abbrev pub IsExchangeAt : ℕ → Exchange → Entries → Type 0
-IsExchangeAt i x [] = ⊥
-IsExchangeAt zero x (r ∷ rest) = MayExchange x r.1
-IsExchangeAt (suc i) x (r ∷ rest) = IsExchangeAt i x rest
+IsExchangeAt i x entries = IsSoAt i (MayExchange x) entries
 
 -- ---- a turnover
 
@@ -92,15 +85,3 @@ rows_after t own rows = if own then exchanged rows t.rows.now.gone.rows t.rows.n
 abbrev pub names_changed : Turnover → Option Name → Bool
 names_changed t None = false
 names_changed t (Some name) = bytes_eq t.name.now name
-
--- ---- what stands ready
-
--- the values or the rows that stand ready are of base relvars
-abbrev pub IsReady : Ready → Entries → Type 0
-IsReady (Values changes) entries = AreChanges changes.items entries
-IsReady (Rows at rows) entries = IsExchangeAt at rows entries
-
--- the relvars with what stands ready for them
-abbrev pub with_ready : Ready → Entries → Entries
-with_ready (Values changes) entries = changed changes.items entries
-with_ready (Rows at rows) entries = renewed_at at rows entries

@@ -12,13 +12,14 @@ ghost use Rattle.assign_core.specs.Hashed.{AreHashed};
 ghost use Rattle.assign_core.specs.PlainChanges.{IsAnyDeletion, IsAnyRevision};
 ghost use Rattle.assign_core.specs.Reductions.{entries_reduced, IsReduction};
 ghost use Rattle.assign_core.specs.Renewals.{entries_renewed, IsRenewal};
-ghost use Rattle.assign_core.specs.Turnovers.{with_ready, IsReady};
+ghost use Rattle.assign_core.specs.Exchanges.{with_ready, IsReady};
 
 use crate::changes::none_yet;
+use crate::exchange::Ready;
 use crate::finding::{find_deletion, find_revision, no_positions};
 use crate::hashed::{Hashed, hashes_at};
 use crate::portion::Deletion;
-use crate::preparing::{Ready, prepare_all, prepare_exchange};
+use crate::preparing::{prepare_all, prepare_exchange};
 use crate::reduction::{Reduction, deleted, deleted_part, deletion_at};
 use crate::renewal::{Renewal, revised, revised_part, revision_at};
 use crate::revision::Revision;

@@ -28,6 +28,7 @@ mod reduction;
 mod removal;
 mod renewal;
 mod revision;
+mod room;
 mod rules;
 mod settling;
 mod sources;

@@ -1,71 +1,97 @@
-// Rows that come to a relation by one merge.
-ghost use Rattle.std.specs.Prelude.{◌≡◌, ◌+◌, ◌<◌, ◌≤◌, ◌∷◌, ◌++◌, List, take, drop, length, IfOk, OnErr, OnOk};
-ghost use Rattle.std.specs.Vec.{vec_len};
+// Room for rows that come, and many rows that come, by one merge.
+ghost use Rattle.std.specs.Prelude.{◌≡◌, ◌+◌, ◌<◌, ◌≤◌, ◌∷◌, ◌++◌, List, take, drop, length, true, IfOk, OnErr};
+ghost use Rattle.std.specs.List.{All};
+ghost use Rattle.std.specs.Vec.{vec_len, vec_capacity};
 ghost use Rattle.std.specs.List.Sorted.{IsStrictlySortedBy};
-ghost use Rattle.value_core.specs.Values.{Row as PlainRow, row_cmp, most_rows};
+ghost use Rattle.value_core.specs.Values.{Heading, Row as PlainRow, row_cmp};
 ghost use Rattle.relation_core.specs.Operators.{united};
+ghost use Rattle.assign_core.specs.Exchanges.{HasRoom};
 
+use crate::marking::exchange_each;
 use crate::removal::{Cut, are_behind, keep_run, place_behind};
 use crate::tuning::FEWEST_MERGED_ROWS;
-use point_core::Memory;
 use std::alloc::{AllocError, Global};
-use value_core::{Relation, Row};
+use value_core::Row;
 
-/// Puts the rows of another relation of the same heading among a relation's own. Where both are many they are merged. For want of memory
-/// nothing changes.
-pub(crate) fn put(value: &mut Relation, alloc: Global, come: Relation) -> Result<(), Memory>
-    requires heading { come.heading ≡ value.old.heading }
-    requires few { length (united value.old.rows come.rows) ≤ most_rows }
-    ensures ok { OnOk result (value.new ≡ record { heading = value.old.heading; rows = united value.old.rows come.rows }) }
-    ensures err { OnErr result (value.new ≡ value.old) }
+/// Makes room among rows for those that come, which ascend as they do: behind them, or, where many come, by as many empty rows in front;
+/// and how many these are. For want of memory nothing changes.
+pub(crate) fn make_room(
+    alloc: Global,
+    rows: &mut Vec<Row>,
+    come: &[Row],
+) -> Result<usize, AllocError>
+    requires rows { IsStrictlySortedBy row_cmp rows.old.items }
+    requires come { IsStrictlySortedBy row_cmp come.now }
+    ensures rows { IfOk result (λ n. drop n rows.new.items ≡ rows.old.items) }
+    ensures room { IfOk result (λ n. HasRoom n (vec_len rows.new) (vec_capacity rows.new) (length come.now)) }
+    ensures err { OnErr result (rows.new.items ≡ rows.old.items) }
 {
-    if are_to_be_merged(value.rows(), come.rows()) {
-        return put_many(value, alloc, come);
+    if are_to_be_merged(rows.as_slice(), come) {
+        let list = with_room(alloc, come.len(), rows)?;
+        *rows = list;
+        return Ok(come.len());
     }
-    value.insert(come)
+    rows.reserve(come.len())?;
+    Ok(0)
 }
 
-// Whether the rows of both lists are many, and do not all come one behind the other. Both ascend.
+// Whether the rows that come are many, and do not all come behind those that are there. Both ascend.
 fn are_to_be_merged(rows: &[Row], come: &[Row]) -> bool
     requires rows { IsStrictlySortedBy row_cmp rows.now }
     requires come { IsStrictlySortedBy row_cmp come.now }
+    ensures { result ≡ true → 0 < length come.now }
 {
-    rows.len() >= FEWEST_MERGED_ROWS && come.len() >= FEWEST_MERGED_ROWS && !are_behind(rows, come)
+    come.len() >= FEWEST_MERGED_ROWS && !are_behind(rows, come)
 }
 
-// Puts the rows of another relation of the same heading among a relation's own by a merge. For want of memory nothing changes.
-fn put_many(value: &mut Relation, alloc: Global, come: Relation) -> Result<(), Memory>
-    requires heading { come.heading ≡ value.old.heading }
-    requires few { length (united value.old.rows come.rows) ≤ most_rows }
-    ensures ok { OnOk result (value.new ≡ record { heading = value.old.heading; rows = united value.old.rows come.rows }) }
-    ensures err { OnErr result (value.new ≡ value.old) }
+/// Puts rows, for which there is room, among those behind so many empty ones. All ascend, and are of one heading.
+pub(crate) fn put_many(alloc: Global, rows: &mut Vec<Row>, empty: usize, come: Vec<Row>)
+    ghost heading: { Heading }
+    requires rest { IsStrictlySortedBy row_cmp (drop empty rows.old.items) }
+    requires come { IsStrictlySortedBy row_cmp come.items }
+    requires long { All (λ (x : PlainRow). length x ≡ length heading) come.items }
+    requires room { HasRoom empty (vec_len rows.old) (vec_capacity rows.old) (vec_len come) }
+    ensures { rows.new.items ≡ united (drop empty rows.old.items) come.items }
 {
-    let mut come = come;
-    let coming = come.take_rows(alloc);
-    let mut own = value.take_rows(alloc);
-    match merge(alloc, &mut own, coming) {
-        Ok(()) => {
-            value.set_rows(own);
-            Ok(())
-        }
-        Err(_) => {
-            value.set_rows(own);
-            Err(Memory)
-        }
+    if empty > 0 {
+        merge_in(rows, come);
+        return;
+    }
+    if are_behind(rows.as_slice(), come.as_slice()) {
+        append(rows, come);
+        return;
+    }
+    exchange_each(alloc, rows, &mut Vec::new(alloc), come, &[]);
+}
+
+// Puts rows behind those that come before them. There is room for all.
+fn append(rows: &mut Vec<Row>, come: Vec<Row>)
+    requires ascending { IsStrictlySortedBy row_cmp (rows.old.items ++ come.items) }
+    requires room { vec_len rows.old + vec_len come ≤ vec_capacity rows.old }
+    ensures { rows.new.items ≡ united rows.old.items come.items }
+{
+    let mut more = come;
+    match rows.append(&mut more) {
+        Ok(()) => (),
+        Err(_) => unreachable!(),
     }
 }
 
-// Puts rows among those that ascend, as they do themselves. The memory is wanted first: where it is wanting nothing changes.
-fn merge(alloc: Global, rows: &mut Vec<Row>, come: Vec<Row>) -> Result<(), AllocError>
-    requires rows { IsStrictlySortedBy row_cmp rows.old.items }
-    requires come { IsStrictlySortedBy row_cmp come.items }
-    ensures ok { OnOk result (rows.new.items ≡ united rows.old.items come.items) }
-    ensures err { OnErr result (rows.new.items ≡ rows.old.items) }
+/// Takes so many rows out in front.
+pub(crate) fn cut_front(rows: &mut Vec<Row>, count: usize)
+    requires { count ≤ vec_len rows.old }
+    ensures { rows.new.items ≡ drop count rows.old.items }
 {
-    let mut list = with_room(alloc, come.len(), rows)?;
-    merge_in(&mut list, come);
-    *rows = list;
-    Ok(())
+    let end = rows.len();
+    let kept = keep_run(
+        rows,
+        Cut {
+            kept: 0,
+            seen: count,
+        },
+        end,
+    );
+    rows.truncate(kept);
 }
 
 // The rows behind so many empty ones, whose places others can take. For want of memory nothing changes.

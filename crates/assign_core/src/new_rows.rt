@@ -15,14 +15,15 @@ ghost use Rattle.assign_core.specs.Hashed.{AreHashed};
 ghost use Rattle.assign_core.specs.Insertions.{sum_in, united_cost};
 ghost use Rattle.assign_core.specs.NewRows.{joined_cost, rows_then, IsFoundIf, IsListFor, IsPaidFor, IsToldOf, StaysUnless, TakesNoneIf};
 ghost use Rattle.assign_core.specs.Targets.{entries_before, IsTarget};
-ghost use Rattle.assign_core.specs.Turnovers.{with_ready, IsReady};
+ghost use Rattle.assign_core.specs.Exchanges.{with_ready, IsReady};
 
 use crate::addition::{Addition, coming};
 use crate::by_condition::hashed_alone;
 use crate::changes::none_yet;
+use crate::exchange::Ready;
 use crate::filling::fill_target;
 use crate::hashed::{Hashed, hashes_at};
-use crate::preparing::{Ready, prepare_addition, prepare_exchange, prepare_value};
+use crate::preparing::{prepare_addition, prepare_exchange, prepare_value};
 use crate::removal::remove;
 use crate::settling::settle;
 use crate::target::Target;

@@ -1,5 +1,5 @@
 // What stands ready before anything changes.
-ghost use Rattle.std.specs.Prelude.{◌≡◌, ◌≤◌, ◌+◌, [], ◌∷◌, length, map, replicate, None, Ok, IfOk, IfErr};
+ghost use Rattle.std.specs.Prelude.{◌≡◌, ◌≤◌, ◌+◌, [], ◌∷◌, ◌++◌, length, map, replicate, None, Ok, IfOk, IfErr, OnOk};
 ghost use Rattle.std.specs.List.{All};
 ghost use Rattle.relation_core.specs.Hashes.{AreHashesOf};
 ghost use Rattle.tree_core.specs.Items.{read_assignment};
@@ -10,7 +10,9 @@ ghost use Rattle.assign_core.specs.Assignments.{after_assignments, kept_or_refus
 ghost use Rattle.assign_core.specs.Changes.{AreChanges, changed};
 ghost use Rattle.assign_core.specs.Costs.{assignments_cost, constraints_cost, constraints_cost_of};
 ghost use Rattle.assign_core.specs.Databases.{IsKept};
-ghost use Rattle.assign_core.specs.Turnovers.{with_ready, IsKnown, IsReady};
+ghost use Rattle.assign_core.specs.declared.exchange.Change.TheVariants.{Rows};
+ghost use Rattle.assign_core.specs.Exchanges.{value_here, values_from, with_ready, IsReady};
+ghost use Rattle.assign_core.specs.Turnovers.{IsKnown};
 ghost use Rattle.assign_core.specs.Hashed.{AreHashed};
 ghost use Rattle.assign_core.specs.Insertions.{addition_cost, outcome, sum_of, IsAddition, IsInsertion, IsPackedOn, IsPlain};
 ghost use Rattle.assign_core.specs.Targets.{entries_after, entries_before, IsTarget};
@@ -21,6 +23,7 @@ use crate::changes::none_yet;
 use crate::checking::After;
 use crate::counting::are_few;
 use crate::differences::check_changes;
+use crate::exchange::{Change, Ready};
 use crate::hashed::{Hashed, hashes_at};
 use crate::insertion::{Insertion, evaluate_operand, find_insertion};
 use crate::packing::{exchange_of, packed_list, whole};
@@ -29,19 +32,11 @@ use crate::target::Target;
 use crate::tuning::ROWS_LOOKED_AT_FOR_ONE;
 use crate::turnover::{Known, have_room};
 use change_rows::Exchange;
-use point_core::{Code, Steps};
+use point_core::{Code, Memory, Steps};
 use std::alloc::Global;
 use std::sync::ledger::Ledger;
 use tree_core::{Assignment, Relvars};
 use value_core::{MOST_ROWS_IN_ALL, Positions, Refuse, Relation};
-
-/// What stands ready before anything changes: new values, one place for each relvar and view, or an exchange of rows of the base relvar
-/// at a place.
-#[derive(Drop)]
-pub(crate) enum Ready {
-    Values(Vec<Option<Relation>>),
-    Rows(usize, Exchange),
-}
 
 /// What stands ready for all targets, or why the assignments are refused. An insertion moves no row that is there already.
 pub(crate) fn prepare<L: Ledger>(
@@ -79,8 +74,11 @@ pub(crate) fn prepare_all<L: Ledger>(
     ensures refused { IfErr result (λ refuse. IsRefusedFor refuse (after_assignments (read_relvars relvars.now).relvars (map read_assignment list.now))) }
     ensures cost { steps.new ≤ steps.old + assignments_cost (read_relvars relvars.now).relvars (map read_assignment list.now) }
 {
-    let changes = prepare_values(alloc, list, relvars, steps)?;
-    Ok(Ready::Values(changes))
+    let mut changes = none_yet(alloc, relvars)?;
+    evaluate(alloc, list, relvars, &mut changes, steps)?;
+    admit(alloc, relvars, changes.as_slice(), steps)?;
+    let ready = as_ready(alloc, changes)?;
+    Ok(ready)
 }
 
 // What stands ready for the target of an insertion, or why it is refused.
@@ -242,7 +240,17 @@ pub(crate) fn prepare_exchange<L: Ledger>(
         return prepare_value(alloc, target, value, steps);
     }
     admit_rows(alloc, target, &rows, known, none, steps)?;
-    Ok(Ready::Rows(target.at, rows))
+    let ready = rows_alone(alloc, target.at, rows)?;
+    Ok(ready)
+}
+
+// Rows that are exchanged at a place, and nothing else.
+fn rows_alone(alloc: Global, at: usize, rows: Exchange) -> Result<Ready, Memory>
+    ensures { IfOk result (λ r. r.changes.items ≡ Rows at rows ∷ []) }
+{
+    let mut changes = Vec::new(alloc);
+    changes.push(Change::Rows(at, rows))?;
+    Ok(Ready { changes })
 }
 
 /// What stands ready where the target gets the value, or why that is refused.
@@ -263,27 +271,32 @@ pub(crate) fn prepare_value<L: Ledger>(
     let mut changes = none_yet(alloc, target.relvars)?;
     changes[target.at] = Some(value);
     admit(alloc, target.relvars, changes.as_slice(), steps)?;
-    Ok(Ready::Values(changes))
+    let ready = as_ready(alloc, changes)?;
+    Ok(ready)
 }
 
-// The new values of all targets, or why the assignments are refused.
-fn prepare_values<L: Ledger>(
-    alloc: Global,
-    list: &[Assignment],
-    relvars: &Relvars,
-    steps: &mut Steps<L>,
-) -> Result<Vec<Option<Relation>>, Refuse>
-    requires kept { IsKept (read_relvars relvars.now) }
-    requires typed { All (λ a. IsTypedAssignment (read_relvars relvars.now) (read_assignment a)) list.now }
-    ensures changes { IfOk result (λ v. AreChanges v.items (read_relvars relvars.now).relvars) }
-    ensures ready { IfOk result (λ v. after_assignments (read_relvars relvars.now).relvars (map read_assignment list.now) ≡ Ok (changed v.items (read_relvars relvars.now).relvars)) }
-    ensures refused { IfErr result (λ refuse. IsRefusedFor refuse (after_assignments (read_relvars relvars.now).relvars (map read_assignment list.now))) }
-    ensures cost { steps.new ≤ steps.old + assignments_cost (read_relvars relvars.now).relvars (map read_assignment list.now) }
+// New values that stand ready, one place for each relvar and view, as changes.
+fn as_ready(alloc: Global, changes: Vec<Option<Relation>>) -> Result<Ready, Memory>
+    ensures { IfOk result (λ r. r.changes.items ≡ values_from 0 changes.items) }
 {
-    let mut changes = none_yet(alloc, relvars)?;
-    evaluate(alloc, list, relvars, &mut changes, steps)?;
-    admit(alloc, relvars, changes.as_slice(), steps)?;
-    Ok(changes)
+    let (mut changes, mut list) = (changes, Vec::new(alloc));
+    for at in 0..changes.len() {
+        add_value(&mut list, at, &mut changes[at])?;
+    }
+    Ok(Ready { changes: list })
+}
+
+// Puts the new value for a place behind the changes, if there is one.
+fn add_value(list: &mut Vec<Change>, at: usize, change: &mut Option<Relation>) -> Result<(), Memory>
+    ensures { OnOk result (list.new.items ≡ list.old.items ++ value_here at change.old) }
+{
+    match change.take() {
+        Some(value) => {
+            list.push(Change::Value(at, value))?;
+            Ok(())
+        }
+        None => Ok(()),
+    }
 }
 
 /// Refuses too many rows, and then a broken constraint.

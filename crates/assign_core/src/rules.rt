@@ -16,10 +16,11 @@ ghost use Rattle.assign_core.specs.Assignments.{constrained, IsDone};
 ghost use Rattle.assign_core.specs.Breaches.{first_rule_broken};
 ghost use Rattle.assign_core.specs.Changes.{Tells};
 ghost use Rattle.assign_core.specs.Costs.{rules_cost};
-ghost use Rattle.assign_core.specs.Leanings.{affected, is_affected, is_new_at, is_ready_at, is_view_of, leaning, with_affected, DoOthersHold};
+ghost use Rattle.assign_core.specs.Exchanges.{place_of};
+ghost use Rattle.assign_core.specs.Leanings.{affected, is_affected, is_ready_at, is_view_of, leaning, with_affected, DoOthersHold};
 
 use crate::appending::append_rule;
-use crate::preparing::Ready;
+use crate::exchange::{Change, Ready};
 use algebra_core::test as evaluate;
 use point_core::{Code, Memory, Steps, Stop};
 use std::alloc::Global;
@@ -93,12 +94,16 @@ fn is_affected(ready: &Ready, at: usize, relvar: &Relvar, names: &[&Name]) -> bo
 fn is_ready_at(ready: &Ready, at: usize) -> bool
     ensures { result ≡ is_ready_at ready.now at }
 {
-    match ready {
-        Ready::Values(changes) => match changes.get(at) {
-            Some(change) => change.is_some(),
-            None => false,
-        },
-        Ready::Rows(place, _) => *place == at,
+    ready.changes.iter().any(|change| place_of(change) == at)
+}
+
+// The place of the relvar that changes.
+fn place_of(change: &Change) -> usize
+    ensures { result ≡ place_of change.now }
+{
+    match change {
+        Change::Value(at, _) => *at,
+        Change::Rows(at, _) => *at,
     }
 }
 

@@ -1,18 +1,19 @@
 // The exchange of what stands ready, which is taken back where it breaks a database constraint.
-ghost use Rattle.std.specs.Prelude.{◌≡◌, ◌+◌, ◌≤◌, ◌<◌, length, map, IfOk, OnOk, OnErr};
+ghost use Rattle.std.specs.Prelude.{◌≡◌, ◌+◌, ◌≤◌, map, IfOk, OnOk, Some};
 ghost use Rattle.std.specs.List.{list_any};
 ghost use Rattle.tree_core.specs.Relvars.{read_entry, read_relvar, read_relvars};
-ghost use Rattle.assign_core.specs.Changes.{changed, changed_relvar, AreChanges, IsChange};
+ghost use Rattle.meaning_core.specs.Names.{with_value};
+ghost use Rattle.assign_core.specs.Changes.{IsChange, IsSoAt};
 ghost use Rattle.assign_core.specs.Costs.{rules_cost};
 ghost use Rattle.assign_core.specs.Databases.{IsKept, IsSettled};
+ghost use Rattle.assign_core.specs.Exchanges.{exchanged_by, place_of, with_ready, ArePrepared, AreValues, IsReady, IsValueFor, MayTurn};
 ghost use Rattle.assign_core.specs.Hashed.{AreHashed};
 ghost use Rattle.assign_core.specs.Leanings.{DoOthersHold};
-ghost use Rattle.assign_core.specs.Turnovers.{renewed_at, renewed_relvar, with_ready, IsExchangeAt, IsReady, MayExchange};
+ghost use Rattle.assign_core.specs.Turnovers.{renewed_relvar, IsExchangeAt, MayExchange};
 
-use crate::changes::none_yet;
-use crate::exchange::{exchange_rows, exchange_values, put_and_remove};
+use crate::exchange::{Change, Ready, exchange};
 use crate::hashed::Hashed;
-use crate::preparing::Ready;
+use crate::room::{hold, let_in};
 use crate::rules::{check_rules, leaning};
 use change_rows::Exchange;
 use point_core::{Memory, Steps};
@@ -42,7 +43,8 @@ pub(crate) fn settle<L: Ledger>(
     if is_one_told(told) {
         return settle_and_check(alloc, relvars, hashed, ready, told, steps);
     }
-    exchange(alloc, relvars, hashed, ready)?;
+    let Ready { mut changes } = ready;
+    exchange(relvars, hashed, alloc, &mut changes)?;
     Ok(())
 }
 
@@ -51,30 +53,6 @@ fn is_one_told(told: &[bool]) -> bool
     ensures { result ≡ list_any (λ b. b) told.now }
 {
     told.iter().any(|b| *b)
-}
-
-// Exchanges what stands ready, which breaks no database constraint.
-fn exchange(
-    alloc: Global,
-    relvars: &mut Relvars,
-    hashed: &mut Hashed,
-    ready: Ready,
-) -> Result<(), Memory>
-    requires hashed { AreHashed hashed.old (map read_entry relvars.old.list.entries) }
-    requires ready { IsReady ready (map read_entry relvars.old.list.entries) }
-    ensures list { OnOk result (map read_entry relvars.new.list.entries ≡ with_ready ready (map read_entry relvars.old.list.entries)) }
-    ensures err { OnErr result (map read_entry relvars.new.list.entries ≡ map read_entry relvars.old.list.entries) }
-    ensures ordinals { relvars.new.ordinals ≡ relvars.old.ordinals }
-    ensures rules { relvars.new.rules ≡ relvars.old.rules }
-    ensures hashed { AreHashed hashed.new (map read_entry relvars.new.list.entries) }
-{
-    match ready {
-        Ready::Values(mut changes) => {
-            exchange_values(relvars, hashed, alloc, &mut changes);
-            Ok(())
-        }
-        Ready::Rows(at, rows) => exchange_rows(relvars, hashed, alloc, at, rows),
-    }
 }
 
 // Exchanges what stands ready, and takes that back where one of the database constraints that are told is broken or memory is wanting.
@@ -95,52 +73,88 @@ fn settle_and_check<L: Ledger>(
     ensures cost { steps.new ≤ steps.old + rules_cost (with_ready ready (read_relvars relvars.old).relvars) (read_relvars relvars.old).rules }
 {
     let mut changes = values(alloc, relvars, ready)?;
-    exchange_values(relvars, hashed, alloc, &mut changes);
+    exchange(relvars, hashed, alloc, &mut changes)?;
     match check_rules(alloc, relvars, told, steps) {
         Ok(()) => Ok(()),
         Err(refuse) => {
-            exchange_values(relvars, hashed, alloc, &mut changes);
+            exchange_back(relvars, hashed, alloc, &mut changes);
             Err(refuse)
         }
     }
 }
 
-// What stands ready as new values, one place for each relvar and view.
-fn values(alloc: Global, relvars: &Relvars, ready: Ready) -> Result<Vec<Option<Relation>>, Memory>
-    requires ready { IsReady ready (read_relvars relvars.now).relvars }
-    ensures changes { IfOk result (λ v. AreChanges v.items (read_relvars relvars.now).relvars) }
-    ensures ready { IfOk result (λ v. changed v.items (read_relvars relvars.now).relvars ≡ with_ready ready (read_relvars relvars.now).relvars) }
+// Exchanges values, which wants no memory.
+fn exchange_back(
+    relvars: &mut Relvars,
+    hashed: &mut Hashed,
+    alloc: Global,
+    changes: &mut Vec<Change>,
+)
+    requires values { AreValues changes.old.items }
+    requires changes { ArePrepared changes.old.items (map read_entry relvars.old.list.entries) }
+    requires hashed { AreHashed hashed.old (map read_entry relvars.old.list.entries) }
+    ensures list { map read_entry relvars.new.list.entries ≡ exchanged_by changes.old.items (map read_entry relvars.old.list.entries) }
+    ensures ordinals { relvars.new.ordinals ≡ relvars.old.ordinals }
+    ensures rules { relvars.new.rules ≡ relvars.old.rules }
+    ensures hashed { AreHashed hashed.new (map read_entry relvars.new.list.entries) }
 {
-    match ready {
-        Ready::Values(changes) => Ok(changes),
-        Ready::Rows(at, rows) => value_at(alloc, relvars, at, rows),
+    match exchange(relvars, hashed, alloc, changes) {
+        Ok(()) => (),
+        Err(_) => unreachable!(),
     }
 }
 
-// The value of the base relvar at a place after an exchange of its rows, as the only new one.
-fn value_at(
-    alloc: Global,
-    relvars: &Relvars,
-    at: usize,
-    rows: Exchange,
-) -> Result<Vec<Option<Relation>>, Memory>
-    requires may { IsExchangeAt at rows (read_relvars relvars.now).relvars }
-    ensures changes { IfOk result (λ v. AreChanges v.items (read_relvars relvars.now).relvars) }
-    ensures ready { IfOk result (λ v. changed v.items (read_relvars relvars.now).relvars ≡ renewed_at at rows (read_relvars relvars.now).relvars) }
+// What stands ready as new values.
+fn values(alloc: Global, relvars: &Relvars, ready: Ready) -> Result<Vec<Change>, Memory>
+    requires ready { IsReady ready (read_relvars relvars.now).relvars }
+    ensures values { IfOk result (λ v. AreValues v.items) }
+    ensures changes { IfOk result (λ v. ArePrepared v.items (read_relvars relvars.now).relvars) }
+    ensures ready { IfOk result (λ v. exchanged_by v.items (read_relvars relvars.now).relvars ≡ with_ready ready (read_relvars relvars.now).relvars) }
 {
-    let mut changes = none_yet(alloc, relvars)?;
-    match relvars.list.get_index(at) {
-        Some((_, relvar)) => changes[at] = new_value(alloc, relvar, rows)?,
-        None => unreachable!(),
+    let Ready { mut changes } = ready;
+    for at in 0..changes.len() {
+        make_value(alloc, relvars, &mut changes[at])?;
     }
     Ok(changes)
 }
 
+// Makes a new value of a change.
+fn make_value(alloc: Global, relvars: &Relvars, change: &mut Change) -> Result<(), Memory>
+    requires may { IsSoAt (place_of change.old) (MayTurn change.old) (read_relvars relvars.now).relvars }
+    ensures { OnOk result (IsValueFor (read_relvars relvars.now).relvars change.old change.new) }
+{
+    match change {
+        Change::Value(_, _) => (),
+        Change::Rows(at, rows) => {
+            let place = *at;
+            let value = value_after(alloc, relvars, place, rows)?;
+            *change = Change::Value(place, value);
+        }
+    }
+    Ok(())
+}
+
+// The value of the base relvar at a place after an exchange of its rows.
+fn value_after(
+    alloc: Global,
+    relvars: &Relvars,
+    at: usize,
+    rows: &mut Exchange,
+) -> Result<Relation, Memory>
+    requires may { IsExchangeAt at rows.old (read_relvars relvars.now).relvars }
+    ensures { IfOk result (λ v. IsSoAt at (λ r. IsChange (Some v) r × (with_value v r ≡ renewed_relvar rows.old r)) (read_relvars relvars.now).relvars) }
+{
+    match relvars.list.get_index(at) {
+        Some((_, relvar)) => new_value(alloc, relvar, rows),
+        None => unreachable!(),
+    }
+}
+
 // The value of a base relvar after an exchange of its rows.
-fn new_value(alloc: Global, relvar: &Relvar, rows: Exchange) -> Result<Option<Relation>, Memory>
-    requires may { MayExchange rows (read_relvar relvar.now) }
-    ensures change { IfOk result (λ c. IsChange c (read_relvar relvar.now)) }
-    ensures ready { IfOk result (λ c. changed_relvar c (read_relvar relvar.now) ≡ renewed_relvar rows (read_relvar relvar.now)) }
+fn new_value(alloc: Global, relvar: &Relvar, rows: &mut Exchange) -> Result<Relation, Memory>
+    requires may { MayExchange rows.old (read_relvar relvar.now) }
+    ensures change { IfOk result (λ v. IsChange (Some v) (read_relvar relvar.now)) }
+    ensures ready { IfOk result (λ v. with_value v (read_relvar relvar.now) ≡ renewed_relvar rows.old (read_relvar relvar.now)) }
 {
     match relvar {
         Relvar::Base {
@@ -148,12 +162,13 @@ fn new_value(alloc: Global, relvar: &Relvar, rows: Exchange) -> Result<Option<Re
             constraints: _,
         } => {
             let mut new = value.copy(alloc)?;
-            put_and_remove(&mut new, alloc, rows)?;
-            Ok(Some(new))
+            let held = hold(&mut new, alloc, Vec::new(alloc), rows)?;
+            drop(let_in(&mut new, alloc, held, rows));
+            Ok(new)
         }
         Relvar::View {
             tree: _,
             history: _,
-        } => Ok(None),
+        } => unreachable!(),
     }
 }

@@ -9,7 +9,7 @@ pub(crate) const FEWEST_HASHED_ROWS: usize = 256;
 /// So many rows at most, of those that come and those that go together, are put in and taken out one by one with their hashes.
 pub(crate) const MOST_ROWS_ONE_BY_ONE: usize = 16;
 
-/// Rows are merged where there are so many of those that come, and of those that are there.
+/// Rows are merged where so many come.
 pub(crate) const FEWEST_MERGED_ROWS: usize = 64;
 
 /// So many rows that are there, or fewer, for each one that comes are looked at all.

@@ -8,7 +8,8 @@ use Rattle.tree_core.specs.Items.{read_assignment}
 use Rattle.assign_core.specs.Assignments.{evaluated, of_values, with_target, IsRefusedFor}
 use Rattle.assign_core.specs.Costs.{constraints_cost_of}
 use Rattle.assign_core.specs.Renewals.{entries_renewed, value_renewed}
-use Rattle.assign_core.specs.Turnovers.{with_ready, IsKnown}
+use Rattle.assign_core.specs.Exchanges.{with_ready}
+use Rattle.assign_core.specs.Turnovers.{IsKnown}
 use Rattle.assign_core.proofs.AdditionLemmas.{value_refused}
 use Rattle.assign_core.proofs.by_condition.prepare_renewal.Goals as goal
 

@@ -1,7 +1,11 @@
-use Rattle.assign_core.proofs.MergingLemmas.{set_merged}
+use Rattle.std.proofs.Common.{◌≡◌, drop, sym, ap, ◌∙◌, arith}
+use Rattle.relation_core.specs.Operators.{united}
+use Rattle.u_constraints.proofs.GrowthLemmas.{all_left}
 use Rattle.assign_core.proofs.merging.put_many.Goals as goal
 
-pub set_rows-requires : goal.set_rows-requires
-set_rows-requires c =
-    set_merged c.args.value.now c.args.come c.take_rows-own.new.self c.take_rows-own.result.items c.take_rows-coming.result.items c.merge.new.rows.items c.take_rows-own.ensures.relation
-    c.take_rows-coming.ensures.relation c.requires.heading c.requires.few c.take_rows-own.ensures.left c.take_rows-own.ensures.rows c.take_rows-coming.ensures.rows c.in-Ok.ensures.ok
+pub returns : goal.returns
+returns g c =
+    let rows = c.args.rows.now.items in
+    let come = c.args.come.items in
+    let none : 0 ≡ c.args.empty = omega (arith, c.if-empty-gt0.false) in
+    c.exchange_each.ensures.rows ∙ (sym (all_left (united rows come)) ∙ ap (λ n. united (drop n rows) come) none)

@@ -2,11 +2,11 @@ use Rattle.std.proofs.Common.{◌≡◌, Bool, true, Option, Result, Ok, Err, re
 use Rattle.std.proofs.lemmas.Result.{err_from_is_err_and}
 use Rattle.value_core.specs.declared.refuse.Refuse.{Refuse}
 use Rattle.tree_core.specs.Relvars.{read_relvars}
-use Rattle.assign_core.specs.declared.preparing.Ready.{Ready}
+use Rattle.assign_core.specs.declared.exchange.Ready.{Ready}
 use Rattle.assign_core.specs.Arrivals.{entries_then, way_of, IsReadied}
 use Rattle.assign_core.specs.Assignments.{kept_or_refused, IsRefusedFor}
 use Rattle.assign_core.specs.NewRows.{IsFoundIf}
-use Rattle.assign_core.specs.Turnovers.{with_ready}
+use Rattle.assign_core.specs.Exchanges.{with_ready}
 use Rattle.assign_core.proofs.NewRowLemmas.{brought_of, paid_of, refused_so, refused_rule, entered, entered_keeps, rules_price}
 use Rattle.assign_core.proofs.new_rows.bring.Goals as goal
 

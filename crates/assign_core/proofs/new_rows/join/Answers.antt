@@ -10,7 +10,8 @@ use Rattle.assign_core.specs.Assignments.{of_values, IsRefusedFor}
 use Rattle.assign_core.specs.Costs.{constraints_cost_of}
 use Rattle.assign_core.specs.Insertions.{sum_in}
 use Rattle.assign_core.specs.Targets.{entries_after, entries_before, entries_with}
-use Rattle.assign_core.specs.Turnovers.{with_ready, IsKnown}
+use Rattle.assign_core.specs.Exchanges.{with_ready}
+use Rattle.assign_core.specs.Turnovers.{IsKnown}
 use Rattle.assign_core.proofs.new_rows.join.Goals as goal
 
 pub prepare_addition-requires-clause-addition : goal.prepare_addition-requires-clause-addition

@@ -10,7 +10,7 @@ use Rattle.assign_core.specs.Costs.{constraints_cost, constraints_cost_of}
 use Rattle.assign_core.specs.Insertions.{united_cost}
 use Rattle.assign_core.specs.NewRows.{replacing, joined_cost, rows_then, IsListFor}
 use Rattle.assign_core.specs.Targets.{entries_before}
-use Rattle.assign_core.specs.Turnovers.{with_ready}
+use Rattle.assign_core.specs.Exchanges.{with_ready}
 use Rattle.assign_core.proofs.NewRowLemmas.{sum_fits}
 use Rattle.assign_core.proofs.new_rows.ready_for.Goals as goal
 

@@ -4,7 +4,7 @@ use Rattle.value_core.specs.declared.refuse.Refuse.TheVariants.{Memory}
 use Rattle.tree_core.specs.Relvars.{read_relvars}
 use Rattle.assign_core.specs.Arrivals.{way_of}
 use Rattle.assign_core.specs.Assignments.{IsRefusedFor}
-use Rattle.assign_core.specs.Turnovers.{with_ready}
+use Rattle.assign_core.specs.Exchanges.{with_ready}
 use Rattle.assign_core.proofs.HashedLemmas.{hashes_of_first}
 use Rattle.assign_core.proofs.NewRowLemmas.{readied_so}
 use Rattle.assign_core.proofs.new_rows.ready_rows.Goals as goal

@@ -9,7 +9,7 @@ use Rattle.assign_core.specs.Assignments.{of_values, with_target, IsRefusedFor}
 use Rattle.assign_core.specs.Costs.{constraints_cost_of}
 use Rattle.assign_core.specs.Insertions.{rows_of_both, sum_of, value_meant}
 use Rattle.assign_core.specs.Targets.{entries_before, entries_with}
-use Rattle.assign_core.specs.Turnovers.{with_ready}
+use Rattle.assign_core.specs.Exchanges.{with_ready}
 use Rattle.assign_core.proofs.AdditionLemmas.{value_refused}
 use Rattle.assign_core.proofs.preparing.prepare_any.Goals as goal
 

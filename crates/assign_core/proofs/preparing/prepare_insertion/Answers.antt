@@ -7,7 +7,7 @@ use Rattle.tree_core.specs.Items.{read_assignment}
 use Rattle.tree_core.specs.Relvars.{read_entry}
 use Rattle.assign_core.specs.Assignments.{evaluated, of_values, with_target, IsRefusedFor}
 use Rattle.assign_core.specs.Costs.{constraints_cost_of}
-use Rattle.assign_core.specs.Turnovers.{with_ready}
+use Rattle.assign_core.specs.Exchanges.{with_ready}
 use Rattle.assign_core.proofs.HashedLemmas.{hashes_of_first}
 use Rattle.assign_core.proofs.preparing.prepare_insertion.Goals as goal
 

@@ -10,7 +10,8 @@ use Rattle.assign_core.specs.Assignments.{of_values, with_target, IsRefusedFor}
 use Rattle.assign_core.specs.Costs.{constraints_cost_of}
 use Rattle.assign_core.specs.Insertions.{sum_of, value_meant}
 use Rattle.assign_core.specs.Targets.{entries_after, entries_before, entries_with}
-use Rattle.assign_core.specs.Turnovers.{with_ready, IsKnown}
+use Rattle.assign_core.specs.Exchanges.{with_ready}
+use Rattle.assign_core.specs.Turnovers.{IsKnown}
 use Rattle.assign_core.proofs.AdditionLemmas.{value_refused}
 use Rattle.assign_core.proofs.preparing.prepare_packed.Goals as goal
 

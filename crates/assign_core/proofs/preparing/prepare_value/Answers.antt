@@ -1,4 +1,4 @@
-use Rattle.std.proofs.Common.{◌≡◌, ◌≤◌, ◌+◌, arith, length, sym, ap, subst, ◌∙◌, Ok, Some, None, replicate}
+use Rattle.std.proofs.Common.{◌≡◌, ◌≤◌, ◌+◌, arith, length, List, sym, ap, subst, ◌∙◌, Ok, Some, None, replicate}
 use Rattle.std.specs.Prelude.{slice_set}
 use Rattle.std.proofs.lemmas.List.{length-replicate}
 use Rattle.std.proofs.lemmas.Result.{err_from_is_err_and}
@@ -6,11 +6,14 @@ use Rattle.tree_core.specs.Relvars.{Entries, base, read_relvars}
 use Rattle.assign_core.specs.Assignments.{kept_or_refused, with_target, IsRefusedFor}
 use Rattle.assign_core.specs.Changes.{Changes, AreChanges, changed}
 use Rattle.assign_core.specs.Costs.{constraints_cost}
+use Rattle.assign_core.specs.Exchanges.{exchanged_by, ArePrepared}
+use Rattle.assign_core.specs.declared.exchange.Change.{Change}
 use Rattle.assign_core.specs.Targets.{entries_before}
 use Rattle.assign_core.proofs.AdditionLemmas.{value_ready}
 use Rattle.assign_core.proofs.ChangeLemmas.{entries_length, none_are, put_change}
 use Rattle.assign_core.proofs.InsertionLemmas.{within}
 use Rattle.assign_core.proofs.NameLemmas.{relvars_differ}
+use Rattle.assign_core.proofs.RenewedLemmas.{values_ready}
 use Rattle.assign_core.proofs.preparing.prepare_value.Goals as goal
 
 pub index_mut-requires : goal.index_mut-requires
@@ -55,17 +58,29 @@ returns-in_err-admit-clause-cost g c =
     value_ready t c.requires.target (relvars_differ (read_relvars t.relvars.now) c.requires.kept.well_made) none (length t.relvars.now.list.entries) c.args.value c.in_ok-changes.ensures are in
     subst (λ (z : Entries). c.admit.new.steps ≤ c.args.steps.now + constraints_cost z) (ap (λ (cs : Changes). changed cs es) c.as_slice.ensures.value ∙ made) c.admit.ensures.cost
 
+pub returns-in_err-ready-clause-cost : goal.returns-in_err-ready-clause-cost
+returns-in_err-ready-clause-cost g c =
+    let t = c.args.target in
+    let es = entries_before t in
+    let none = c.in_ok-changes.changes.items in
+    let are = subst (λ (cs : Changes). AreChanges cs es) (sym c.in_ok-changes.ensures) (none_are t.relvars.now.list.entries) in
+    let made : changed (slice_set none t.at (Some c.args.value)) es ≡ with_target es t.name.now c.args.value =
+    value_ready t c.requires.target (relvars_differ (read_relvars t.relvars.now) c.requires.kept.well_made) none (length t.relvars.now.list.entries) c.args.value c.in_ok-changes.ensures are in
+    subst (λ (z : Entries). c.admit.new.steps ≤ c.args.steps.now + constraints_cost z) (ap (λ (cs : Changes). changed cs es) c.as_slice.ensures.value ∙ made) c.admit.ensures.cost
+
 pub returns-clause-ready : goal.returns-clause-ready
 returns-clause-ready g c =
     let t = c.args.target in
     let k = c.requires.target in
     let es = entries_before t in
     let are = subst (λ (cs : Changes). AreChanges cs es) (sym c.in_ok-changes.ensures) (none_are t.relvars.now.list.entries) in
-    put_change es c.in_ok-changes.changes.items t.name.now t.at (base t.value.now k.constraints) c.args.value are k.first c.requires.headed
+    let put = put_change es c.in_ok-changes.changes.items t.name.now t.at (base t.value.now k.constraints) c.args.value are k.first c.requires.headed in
+    subst (λ (l : List Change). ArePrepared l es) (sym c.in_ok-ready.ensures) (values_ready (slice_set c.in_ok-changes.changes.items t.at (Some c.args.value)) es put).0
 
 pub returns-clause-meant : goal.returns-clause-meant
 returns-clause-meant g c =
     let t = c.args.target in
+    let k = c.requires.target in
     let es = entries_before t in
     let none = c.in_ok-changes.changes.items in
     let are = subst (λ (cs : Changes). AreChanges cs es) (sym c.in_ok-changes.ensures) (none_are t.relvars.now.list.entries) in
@@ -73,7 +88,9 @@ returns-clause-meant g c =
     value_ready t c.requires.target (relvars_differ (read_relvars t.relvars.now) c.requires.kept.well_made) none (length t.relvars.now.list.entries) c.args.value c.in_ok-changes.ensures are in
     let told : kept_or_refused (changed (slice_set none t.at (Some c.args.value)) es) ≡ Ok (changed (slice_set none t.at (Some c.args.value)) es) =
     subst (λ (cs : Changes). kept_or_refused (changed cs es) ≡ Ok (changed cs es)) c.as_slice.ensures.value c.in_ok-admit.ensures.admitted in
-    ap kept_or_refused (sym made) ∙ told
+    let put = put_change es none t.name.now t.at (base t.value.now k.constraints) c.args.value are k.first c.requires.headed in
+    let list = ap (λ (l : List Change). exchanged_by l es) c.in_ok-ready.ensures ∙ (values_ready (slice_set none t.at (Some c.args.value)) es put).1 in
+    ap kept_or_refused (sym made) ∙ (told ∙ ap Ok (sym list))
 
 pub returns-clause-cost : goal.returns-clause-cost
 returns-clause-cost g c =

@@ -6,7 +6,7 @@ use Rattle.tree_core.specs.Relvars.{read_relvars}
 use Rattle.meaning_core.specs.Updates.{IsTypedAssignment}
 use Rattle.assign_core.specs.Assignments.{IsAssigned}
 use Rattle.assign_core.specs.Costs.{cost_of_assignments}
-use Rattle.assign_core.specs.Turnovers.{with_ready}
+use Rattle.assign_core.specs.Exchanges.{with_ready}
 use Rattle.assign_core.proofs.AssignedLemmas.{each_of}
 use Rattle.assign_core.proofs.RenewedLemmas.{settled_keeps}
 use Rattle.assign_core.proofs.RuleLemmas.{refused_before, settled_assigned, cost_of_rules}

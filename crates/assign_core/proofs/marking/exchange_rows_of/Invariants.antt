@@ -1,4 +1,0 @@
-use Rattle.assign_core.proofs.marking.exchange_rows_of.Given as goal
-
-abbrev pub ghost-exchange_each : goal.ghost-exchange_each
-ghost-exchange_each g a = g.heading
