@@ -1,5 +1,5 @@
 -- A log keeps its order where the rows that stand end at a statement.
-use Rattle.std.proofs.Common.{◌≡◌, ◌⊎◌, inl, inr, ℕ, zero, suc, ◌<◌, ◌≤◌, ℤ, ◌<ℤ◌, ◌≤ℤ◌, Bool, true, false, List, [], ◌∷◌, length, map, set, refl, sym, ap, ap₂, ◌∙◌, subst, arith, if◌then◌else◌, Ordering, Less, Equal, Greater}
+use Rattle.std.proofs.Common.{◌≡◌, ◌⊎◌, inl, inr, ℕ, zero, suc, ◌<◌, ℤ, ◌<ℤ◌, ◌≤ℤ◌, Bool, true, false, List, [], ◌∷◌, length, map, set, refl, sym, ap, ap₂, ◌∙◌, subst, arith, if◌then◌else◌, Ordering, Less, Equal, Greater}
 use Rattle.std.specs.Cmp.{signed_Decides, int_cmp_is}
 use Rattle.std.specs.List.{All}
 use Rattle.std.specs.Ordering.{int_cmp, int_eq, ordering_then}

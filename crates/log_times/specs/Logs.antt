@@ -4,7 +4,7 @@
 --     logged      a log's rows after all statements from its first on
 --     closed      the rows of a log, of those that are stored for it
 --     IsStored      what is stored: a row that still stands ends at the greatest integer
-use Rattle.std.specs.Prelude.{◌≡◌, ℕ, suc, ◌+◌, ◌<◌, ◌≤◌, ℤ, pos, ◌+ℤ◌, ◌-ℤ◌, ◌<ℤ◌, ◌≤ℤ◌, Bool, true, false, not, ◌&&◌, List, [], ◌∷◌, ◌++◌, map, filter, length, take, drop, slice_index_or, if◌then◌else◌}
+use Rattle.std.specs.Prelude.{◌≡◌, ℕ, suc, ◌<◌, ◌≤◌, ℤ, pos, ◌+ℤ◌, ◌-ℤ◌, ◌<ℤ◌, ◌≤ℤ◌, Bool, true, false, not, ◌&&◌, List, [], ◌∷◌, ◌++◌, map, filter, length, take, drop, slice_index_or, if◌then◌else◌}
 use Rattle.std.specs.List.{list_any, All}
 use Rattle.std.specs.Ordering.{int_eq}
 use Rattle.base_core.specs.Sets.{has}

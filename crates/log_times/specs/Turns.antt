@@ -6,7 +6,7 @@
 --     exchanged      the rows after some have come and others have gone
 --     IsExact      rows that come and are not there, and rows that go and are
 --     IsTurned      of what a stored log gains and loses
-use Rattle.std.specs.Prelude.{◌≡◌, ℕ, suc, ◌+◌, ◌<◌, ℤ, pos, ◌-ℤ◌, Bool, false, ◌&&◌, List, [], ◌∷◌, ◌++◌, map, filter, take, drop, length, IsTrue}
+use Rattle.std.specs.Prelude.{◌≡◌, ℕ, suc, ◌<◌, ℤ, pos, ◌-ℤ◌, Bool, false, ◌&&◌, List, [], ◌∷◌, ◌++◌, map, filter, take, drop, length, IsTrue}
 use Rattle.base_core.specs.Sets.{has, in_order}
 use Rattle.point_core.specs.declared.any_type.AnyType.TheVariants.{Integer}
 use Rattle.value_core.specs.Headings.{position_of, IsHeadingOf}
