@@ -114,7 +114,13 @@ def table_of(names, name, heading, constraints):
     return '\n'.join([f'CREATE TABLE {quoted(name)} (\n  {lines}\n);', *behind, *more])
 
 
+def declare_log(names, *parts):
+    raise Refusal('E01', 'a log is read, and not yet kept')
+
+
 def declare_relvar(names, name, form):
+    if form[0] == 'Kept':
+        raise Refusal('E01', 'a kept view is read, and not yet kept')
     names.free(name)
     if form[0] == 'View':
         return declare_view(names, name, form[1])
@@ -463,7 +469,7 @@ def updated(names, name, condition, sets):
 # a later statement is one more function here
 STATEMENTS = {
     'Nothing': lambda names: '', 'DeclareOrdinal': declare_type, 'DeclareRelvar': declare_relvar, 'DeclareHistory': declare_history, 'Drop': drop,
-    'DeclareRule': declare_rule, 'DropRule': drop_rule,
+    'DeclareRule': declare_rule, 'DropRule': drop_rule, 'DeclareLog': declare_log,
     'Print': print_relation, 'Ask': ask, 'Assignment': assign,
 }
 

@@ -171,8 +171,15 @@ def firsts(symbol):
     """The terminals with which a symbol of the table begins."""
     found = set()
     for row in TABLE[symbol]['rows']:
-        found |= {row[1]} if row[0] in ('on', 'before') else firsts(row[1])
+        found |= begins(row)
     return frozenset(found)
+
+
+def begins(row):
+    """The terminals with which the row goes on: a word that is none of the language's own is a name."""
+    if row[0] == 'spelt':
+        return {'Name'}
+    return {row[1]} if row[0] in ('on', 'before') else firsts(row[1])
 
 
 @functools.cache
@@ -210,7 +217,7 @@ class Reader:
             return self.items(description['rows'][0][4][0])
         names = [name for name, _ in description.get('params', [])]
         for row in description['rows']:
-            if self.next() in ({row[1]} if row[0] in ('on', 'before') else firsts(row[1])):
+            if self.next() in begins(row) and (row[0] != 'spelt' or self.tokens[self.at].spelling == row[1]):
                 return as_rest(names, *self.row(row))
         if description['ends'] is None:
             self.refuse()

@@ -67,6 +67,9 @@ CASES = [
     ('PRINT R; /* PRINT R;', 'E04'),
     ("PRINT R; PRINT 'a; PRINT R;", 'E04'),
     ('SELECT 1;', 'E01'),
+    ('LOG L OF R (N);', 'E01'),
+    ('LOG := R;', 'E10'),
+    ('VAR V KEPT (PACK R ON (D));', 'E01'),
     ('VAR xmin RELATION {xmin INTEGER};', 'SQL'),
 ]
 
