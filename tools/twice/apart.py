@@ -23,6 +23,9 @@ APART = {
         'the one is of a module over positions; their place is relation_core, on which nearly all others stand',
     frozenset({('crates/u_constraints/proofs/HistoryLemmas.antt', 'any_in'), ('crates/u_join/proofs/SameHeadingLemmas.antt', 'any_same')}):
         'neither stands on the other; its place is base_core, on which all others stand',
+    frozenset({('crates/kept_views/proofs/HeadingLemmas.antt', n) for n in ('first', 'second', 'up')} | {('crates/u_join/proofs/SameHeadingLemmas.antt', 'first')}):
+        'each is of a module over one operand or two',
+    frozenset({('crates/kept_views/proofs/GroupLemmas.antt', 'rows_long'), ('crates/u_constraints/proofs/SearchLemmas.antt', 'long_rows')}): LOWER,
     frozenset({('crates/eval_using/proofs/SpotLemmas.antt', 'if_ok'), ('crates/assign_core/proofs/ExchangeLemmas.antt', 'if_ok_weaker')}):
         'the arguments come in another order; the upper one goes when assign_core is next opened',
     frozenset({('crates/meaning_core/proofs/GroupFits.antt', 'then_some'), ('crates/row_typing_laws/proofs/Parts.antt', 'parts-of')}): LOWER,
