@@ -1,10 +1,12 @@
-//! One call of each operator over boxes that no statement of a script reaches, and of each type of points.
+//! One call of each operator over boxes that no statement of a script reaches, of each type of points, and of what is done with a log.
 #![tactic(auto)]
 
 #[cfg(test)]
 mod boxes;
 #[cfg(test)]
 mod counts;
+#[cfg(test)]
+mod logs;
 #[cfg(test)]
 mod operators;
 #[cfg(test)]
