@@ -8,3 +8,4 @@ pub mod LogLaws
 pub mod StampLemmas
 pub mod StatementLemmas
 pub mod StretchLemmas
+pub mod KeptLemmas

@@ -1,4 +1,5 @@
 pub mod Logs
 pub mod Turns
+pub mod Kept
 pub mod Answers
 pub mod Told

@@ -4,10 +4,12 @@
 mod closing;
 mod headings;
 mod lists;
+mod log;
 mod opening;
 mod rows;
 mod turning;
 
 pub use closing::closed;
+pub use log::Log;
 pub use opening::opened;
 pub use turning::{Turn, turned};

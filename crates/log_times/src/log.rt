@@ -1,0 +1,83 @@
+// Logs as they are stored.
+ghost use Rattle.std.specs.Prelude.{◌≡◌, ◌<ℤ◌, ◌≤ℤ◌, IfOk};
+ghost use Rattle.log_times.specs.Logs.{open_end};
+ghost use Rattle.log_times.specs.Kept.{log_relation, IsLog};
+
+use crate::closing::closed;
+use point_core::Memory;
+use std::alloc::Global;
+use std::marker::Model;
+use value_core::{Heading, Relation};
+
+/// The log of a relvar after the statement of the number `last`. The attribute at the place `side` tells the statements after which a row
+/// of the relvar was there; where the row still stands, the greatest integer is stored as the last of them.
+#[derive(Drop)]
+pub struct Log {
+    side: usize,
+    last: i64,
+    stored: Relation,
+}
+
+impl Model for Log {
+    ghost use Rattle.log_times.specs.Kept.{PlainLog, IsLog};
+
+    ghost Value = { PlainLog };
+
+    ghost view = { λ l. record { side = l.side; last = l.last; stored = l.stored } };
+
+    ghost invariant = { λ l. IsLog (record { side = l.side; last = l.last; stored = l.stored }) };
+}
+
+impl Log {
+    /// The log of these stored rows after the statement of the number `last`, which tells the statements at the place `side`.
+    pub fn make(side: usize, last: i64, stored: Relation) -> Log
+        requires { IsLog (record { side = side; last = last; stored = stored }) }
+        ensures { result ≡ record { side = side; last = last; stored = stored } }
+    {
+        Log { side, last, stored }
+    }
+
+    /// The place of the attribute that tells the statements.
+    pub fn side(&self) -> usize
+        ensures { result ≡ self.now.side }
+    {
+        self.side
+    }
+
+    /// The number of the last statement.
+    pub fn last(&self) -> i64
+        ensures { result ≡ self.now.last }
+    {
+        self.last
+    }
+
+    /// The rows as they are stored.
+    pub fn stored(&self) -> &Relation
+        ensures rows { result.now ≡ self.now.stored }
+        ensures log { IsLog self.now }
+    {
+        &self.stored
+    }
+
+    /// The heading of the log: that of its relvar, and the attribute of the statements.
+    pub fn heading(&self) -> &Heading
+        ensures { result.now ≡ self.now.stored.heading }
+    {
+        self.stored.heading()
+    }
+
+    /// The rows of the log: each row of the relvar with the statements, first to last, after which it was there.
+    pub fn relation(&self, alloc: Global) -> Result<Relation, Memory>
+        ensures { IfOk result (λ r. r ≡ log_relation self.now) }
+    {
+        closed(alloc, &self.stored, self.side, self.last)
+    }
+    /// Brings the log to a later statement, before which its relvar stayed as it was.
+    pub fn advance(&mut self, number: i64)
+        requires later { self.old.last ≤ℤ number }
+        requires before { number <ℤ open_end }
+        ensures { self.new ≡ record { side = self.old.side; last = number; stored = self.old.stored } }
+    {
+        self.last = number;
+    }
+}
