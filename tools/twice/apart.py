@@ -29,4 +29,11 @@ APART = {
     frozenset({('crates/eval_using/proofs/SpotLemmas.antt', 'if_ok'), ('crates/assign_core/proofs/ExchangeLemmas.antt', 'if_ok_weaker')}):
         'the arguments come in another order; the upper one goes when assign_core is next opened',
     frozenset({('crates/meaning_core/proofs/GroupFits.antt', 'then_some'), ('crates/row_typing_laws/proofs/Parts.antt', 'parts-of')}): LOWER,
+    **{frozenset({('crates/log_times/proofs/TurnLemmas.antt', n), ('crates/log_turns/proofs/ExchangeLemmas.antt', n)}): LOWER
+       for n in ('has_not', 'not_In', 'exchanged_ascends', 'In_exchanged')},
+    **{frozenset({('crates/log_turns/proofs/ExchangeLemmas.antt', here), ('crates/u_constraints/proofs/GrowthLemmas.antt', there)}):
+       'neither stands on the other; their place is relation_core, on which nearly all others stand'
+       for here, there in (('In_united', 'In-united'), ('In_subtracted', 'In-subtracted'), ('fewer_left', 'fewer_left'), ('all_left', 'all_left'))},
+    frozenset({('crates/log_turns/proofs/TurnedLemmas.antt', 'refused_more'), ('crates/change_rows/proofs/InsertionLemmas.antt', 'smaller_refused')}):
+        'neither stands on the other; its place is relation_core, on which nearly all others stand',
 }
