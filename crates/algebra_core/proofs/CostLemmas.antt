@@ -7,7 +7,7 @@ use Rattle.std.proofs.lemmas.List.{map-append}
 use Rattle.std.specs.Str.{bytes_eq}
 use Rattle.value_core.specs.Values.{Name, Row, Relation}
 use Rattle.relation_core.specs.Answers.{under}
-use Rattle.tree_core.specs.Relvars.{PlainRelvar, base, view, Entries}
+use Rattle.tree_core.specs.Relvars.{PlainRelvar, base, view, Entries, log}
 use Rattle.tree_core.specs.Trees.{read_tree}
 use Rattle.tree_core.specs.declared.tree.RelTree.{RelTree}
 use Rattle.meaning_core.specs.Meanings.{Known, RowsMeant, meaning, plainly, relvar_meaning}
@@ -32,6 +32,7 @@ known_prices s = known_each [] (take s.before (given (with_of s) (value_of s) (a
 cost_with : (prices : Prices) (value : Relation) (r : PlainRelvar) → relvar_cost prices (with_value value r) ≡ relvar_cost prices r
 cost_with prices value (base old constraints) = refl
 cost_with prices value (view t history) = refl
+cost_with prices value (log of side old) = refl
 
 cost_if : (b : Bool) (prices : Prices) (value : Relation) (r : PlainRelvar) → relvar_cost prices (cond b (with_value value r) r) ≡ relvar_cost prices r
 cost_if true prices value r = cost_with prices value r

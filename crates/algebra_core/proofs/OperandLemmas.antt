@@ -4,7 +4,7 @@ use Rattle.point_core.specs.declared.fault.Place.{Place}
 use Rattle.point_core.specs.Faults.{OrFault}
 use Rattle.value_core.specs.Values.{Name, Row, Heading, Relation, most_rows}
 use Rattle.relation_core.specs.Answers.{under}
-use Rattle.tree_core.specs.Relvars.{PlainRelvar, base, view}
+use Rattle.tree_core.specs.Relvars.{PlainRelvar, base, view, log}
 use Rattle.tree_core.specs.Trees.{named}
 use Rattle.base_core.specs.Outcomes.{then_give}
 use Rattle.meaning_core.specs.Meanings.{RowsMeant, at_name, limited, meaning, plainly}
@@ -41,3 +41,4 @@ module _ (s : Scope) (place : Place) (h : Heading) (name : Name) (at : ℕ) wher
       let whole = here ∙ ap (λ (r : Relation). Ok r) (same_value (current (with_of s) (value_of s) name old) v kept.is) in
       named_meant s place h name at (base old constraints) can first (Ok v) (named_few old.heading (stored_meaning s name at (base old constraints)) place v kept.few whole)
   kept_meant (view t history) v can first kept = absurd (no_value v kept.is)
+  kept_meant (log of side value) v can first kept = absurd (no_value v kept.is)

@@ -4,7 +4,7 @@
 use Rattle.std.specs.Prelude.{ℕ, ◌+◌, List, [], ◌∷◌, map, length, Option, Some, None, Ok, Err}
 use Rattle.value_core.specs.Values.{Name, Heading, Row}
 use Rattle.scalar_core.specs.Expressions.{Expr}
-use Rattle.tree_core.specs.Relvars.{PlainRelvar, base, view, Entries}
+use Rattle.tree_core.specs.Relvars.{PlainRelvar, base, view, Entries, log}
 use Rattle.tree_core.specs.Trees.{Tree, named, literal, infix_of, project, rename, restrict, extend, summarize, pack, unpack, using, heading_of, Test, relate, is_empty, is_not_empty}
 use Rattle.cell_core.specs.Costs.{bound}
 use Rattle.meaning_core.specs.Meanings.{Known, RowsMeant, Around, plainly, in_using, positions_of, names_at, meaning, relvar_meaning}
@@ -63,10 +63,11 @@ tree_cost prices around (using place heading commalist t) = tree_cost prices (in
 
 -- ---- in a state
 
--- what a relvar's name means and takes: a base relvar's value stands there
+-- what a relvar's name means and takes: the value of a base relvar or a log stands there
 abbrev pub relvar_cost : Prices → PlainRelvar → ℕ
 relvar_cost prices (base value constraints) = 0
 relvar_cost prices (view t history) = tree_cost prices plainly t
+relvar_cost prices (log of side value) = 0
 
 abbrev pub priced : Prices → PlainRelvar → Priced
 priced prices r = (relvar_meaning (known_of prices) r, relvar_cost prices r)

@@ -4,7 +4,7 @@
 use Rattle.std.specs.Prelude.{◌≡◌, ◌≤◌, length, Option, Some, None, Result, Ok, Err}
 use Rattle.point_core.specs.declared.fault.Stop.{Stop}
 use Rattle.value_core.specs.Values.{Name, Relation, most_rows}
-use Rattle.tree_core.specs.Relvars.{PlainRelvar, base, view}
+use Rattle.tree_core.specs.Relvars.{PlainRelvar, base, view, log}
 use Rattle.algebra_core.specs.declared.operand.Operand.{Operand}
 use Rattle.algebra_core.specs.declared.operand.Operand.TheVariants.{Made, Kept}
 use Rattle.algebra_core.specs.declared.scope.Scope.{Scope}
@@ -18,10 +18,11 @@ abbrev pub held_in : Result Operand Stop → Result Relation Stop
 held_in (Ok operand) = Ok (held operand)
 held_in (Err stop) = Err stop
 
--- the value of a base relvar, or the one that stands for it; none of a view
+-- the value of a base relvar, or the one that stands for it; none of a view or a log
 abbrev pub kept_value : Scope → Name → PlainRelvar → Option Relation
 kept_value s name (base old constraints) = Some (current (with_of s) (value_of s) name old)
 kept_value s name (view t history) = None
+kept_value s name (log of side value) = None
 
 -- the relation stands for the name of the relvar, and has not too many rows
 pub record IsKept (s : Scope) (name : Name) (r : PlainRelvar) (relation : Relation) : Type 0 where

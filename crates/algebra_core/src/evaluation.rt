@@ -104,7 +104,7 @@ fn named<L: Ledger>(
     }
 }
 
-// The value of a base relvar, or the relation of a view's expression, which names entries before it alone.
+// The value of a base relvar or a log, or the relation of a view's expression, which names entries before it alone.
 #[cycle(answer)]
 fn stored<L: Ledger>(
     alloc: Global,
@@ -127,6 +127,7 @@ fn stored<L: Ledger>(
             let before = earlier(scope, at);
             answer(alloc, tree, Surrounding::Plainly, &before, steps)
         }
+        Relvar::Log { of: _, log } => Ok(log.relation(alloc)?),
     }
 }
 
@@ -377,7 +378,7 @@ fn kept<'a>(tree: &RelTree, scope: &Scope<'a>) -> Option<&'a Relation>
     }
 }
 
-// The value of a base relvar, or the one that stands for it; none of a view.
+// The value of a base relvar, or the one that stands for it; none of a view or a log.
 fn kept_at<'a>(name: &Name, relvar: &'a Relvar, scope: &Scope<'a>) -> Option<&'a Relation>
     ensures { IfSome result (λ v. IsKept scope.now name.now (read_relvar relvar.now) v.now) }
 {
@@ -394,6 +395,7 @@ fn kept_at<'a>(name: &Name, relvar: &'a Relvar, scope: &Scope<'a>) -> Option<&'a
             tree: _,
             history: _,
         } => None,
+        Relvar::Log { of: _, log: _ } => None,
     }
 }
 

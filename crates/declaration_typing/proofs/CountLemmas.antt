@@ -7,7 +7,7 @@ use Rattle.std.specs.Str.{bytes_eq}
 use Rattle.std.proofs.lemmas.List.{map-append}
 use Rattle.value_core.specs.Limits.{most_nodes}
 use Rattle.value_core.specs.Values.{Name}
-use Rattle.tree_core.specs.Relvars.{PlainRelvar, base, view, Entries}
+use Rattle.tree_core.specs.Relvars.{PlainRelvar, base, view, Entries, log}
 use Rattle.tree_core.specs.Trees.{Tree, named, literal, infix_of, project, rename, restrict, extend, summarize, pack, unpack, using, Test, relate, is_empty, is_not_empty}
 use Rattle.meaning_core.specs.Names.{found, each_after, each_in}
 use Rattle.declaration_typing.specs.Nodes.{capped, count, relvar_count, nodes_of, test_count, test_nodes, capped_count}
@@ -55,6 +55,7 @@ count-capped known (using place h commalist t) = more-capped (count (map cap kno
 relvar-capped : (known : Known) (r : PlainRelvar) → capped_count (map cap known) r ≡ capped (relvar_count known r)
 relvar-capped known (base value constraints) = refl
 relvar-capped known (view t history) = count-capped known t
+relvar-capped known (log of side value) = refl
 
 each-capped : (known : Known) (entries : Entries) → each_after capped_count (map cap known) entries ≡ map cap (each_after relvar_count known entries)
 each-capped known [] = refl

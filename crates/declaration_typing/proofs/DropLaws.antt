@@ -13,13 +13,14 @@ use Rattle.value_core.specs.declared.constraint.HistoryRule.{HistoryRule}
 use Rattle.value_core.specs.Values.{Name, Heading}
 use Rattle.scalar_typing.proofs.SoundLemmas.{then-sound, any-given}
 use Rattle.relation_typing.specs.Attributes.{name_typed}
-use Rattle.tree_core.specs.Relvars.{State, PlainRelvar, base, view, Entries, Rules, relvar_named, relvar_heading, heading_if, constraints_if, rule_among}
+use Rattle.tree_core.specs.Relvars.{State, PlainRelvar, base, view, Entries, Rules, relvar_named, relvar_heading, heading_if, constraints_if, rule_among, log}
 use Rattle.tree_core.specs.Trees.{Tree, named}
 use Rattle.tree_core.specs.Uses.{is_one_of, names_any, test_names_any, references_any, relvar_names_any}
+use Rattle.log_times.specs.Turns.{IsLogHeading, without}
 use Rattle.meaning_core.specs.Declarations.{group, without_group}
 use Rattle.meaning_core.specs.Histories.{joined_history, last_point, type_at, name_at}
 use Rattle.meaning_core.specs.Typing.{IsTypedTest}
-use Rattle.meaning_core.specs.WellMade.{sizes_of, headings_of, FitsHeadings, IsBase, IsConstraint, IsOfRule, IsHistory, IsRelvar, AreRelvars, IsWellMade}
+use Rattle.meaning_core.specs.WellMade.{sizes_of, headings_of, FitsHeadings, IsBase, IsConstraint, IsOfRule, IsHistory, IsRelvar, AreRelvars, IsWellMade, IsLogOf}
 use Rattle.meaning_core.proofs.ElsewhereLemmas.{left, left-kept, left-gone, left-append, named-left}
 use Rattle.meaning_core.proofs.StaysTyped.{tree-left, test-left}
 use Rattle.node_typing.specs.Positions.{check}
@@ -98,12 +99,21 @@ module _ (some : Name → Bool) where
       subst (λ (p : Option PlainRelvar). HistoryOf names.0 names.1 t (relvar_named (left some before) names.0) p) (sym (named-left some before names.1 others.0)) since in
       (both.0, both.1, is-of-rule (left some before) names.0 names.1 t (rule_among (constraints_if (relvar_named (left some before) names.1))) both.2)
 
-  -- ---- relvars and views
+  -- ---- logs
+
+  abbrev LogOf : ℕ → Heading → Option PlainRelvar → Type 0
+  LogOf side heading o = IsBase o × IsLogHeading side heading × (without side heading ≡ heading_if o)
+
+  log-dropped : (before : Entries) (of : Name) (side : ℕ) (heading : Heading) → some of ≡ false → IsLogOf before of side heading → IsLogOf (left some before) of side heading
+  log-dropped before of side heading apart is = subst (LogOf side heading) (sym (named-left some before of apart)) is
+
+  -- ---- relvars, views and logs
 
   relvar-dropped : (sizes : List ℕ) (before : Entries) (own : Name) (r : PlainRelvar) → some own ≡ false → relvar_names_any some r ≡ false → IsRelvar sizes before own r
       → IsRelvar sizes (left some before) own r
   relvar-dropped sizes before own (base value constraints) other apart is = (is.0, all-dropped before own (base value constraints) constraints other apart is.1)
   relvar-dropped sizes before own (view t history) other apart is = (tree-left sizes some before t apart is.0, history-dropped before t history apart is.1)
+  relvar-dropped sizes before own (log of side value) other apart is = (is.0, log-dropped before of side value.heading apart is.1)
 
   named-not : (own : Name) (r : PlainRelvar) → some own ≡ false → (not (some own) && relvar_names_any some r) ≡ false → relvar_names_any some r ≡ false
   named-not own r other e = sym (ap (λ (b : Bool). not b && relvar_names_any some r) other) ∙ e

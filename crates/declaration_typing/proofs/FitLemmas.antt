@@ -18,7 +18,7 @@ use Rattle.value_core.specs.Values.{Name, Heading}
 use Rattle.scalar_typing.proofs.SoundLemmas.{then-sound, any-given}
 use Rattle.relation_typing.specs.Attributes.{name_typed}
 use Rattle.relation_core.specs.Agreement.{position_of}
-use Rattle.tree_core.specs.Relvars.{State, PlainRelvar, base, view, Entries, relvar_named, heading_if}
+use Rattle.tree_core.specs.Relvars.{State, PlainRelvar, base, view, Entries, relvar_named, heading_if, log}
 use Rattle.meaning_core.specs.Meanings.{positions_of}
 use Rattle.meaning_core.specs.Typing.{IsList}
 use Rattle.meaning_core.specs.WellMade.{AreDifferent, AreAlike, AreAmong, FitsHeadings, IsBase, IsConstraint}
@@ -94,6 +94,7 @@ module _ (s : State) (own : Name) (heading : Heading) (others : List Constraint)
   found-base at name (Some (base value constraints)) e =
       subst (IsBaseOf value.heading) (sym (named_before s.relvars ((own, own_relvar) ∷ []) name (base value constraints) e)) (tt, refl)
   found-base at name (Some (view t history)) e = tt
+  found-base at name (Some (log of side value)) e = tt
 
   own-base : (name : Name) → bytes_eq own name ≡ true → IsBaseOf heading (relvar_named with_own name)
   own-base name e =

@@ -9,7 +9,7 @@ use Rattle.value_core.specs.declared.kind.Kind.{Kind}
 use Rattle.value_core.specs.declared.kind.Kind.TheVariants.{Truth, Char, Point, Span}
 use Rattle.value_core.specs.Values.{Heading, is_heading}
 use Rattle.scalar_core.specs.Expressions.{Expr, constant, attribute, one, pair, and_expr, or_expr}
-use Rattle.tree_core.specs.Relvars.{PlainRelvar, base, view, Entries}
+use Rattle.tree_core.specs.Relvars.{PlainRelvar, base, view, Entries, log}
 use Rattle.tree_core.specs.Trees.{PlainSets, PlainAggregateForm, count_rows, sum_of, min_of, max_of, PlainAggregate, Tree, named, literal, infix_of, project, rename, restrict, extend, summarize, pack, unpack, using, Test, relate, is_empty, is_not_empty}
 use Rattle.meaning_core.specs.Typing.{is_ordinal, is_type, is_kind, is_declared, has_declared, IsScalar, Makes, HasKind, Sums, IsTuple, Headings, IsTypedTree, IsTypedTest}
 use Rattle.meaning_core.specs.WellMade.{headings_of, IsRelvar, AreRelvars}
@@ -114,6 +114,7 @@ module _ (sizes more : List ℕ) where
   relvar-more : (before : Entries) (own : _) (r : PlainRelvar) → IsRelvar sizes before own r → IsRelvar (sizes ++ more) before own r
   relvar-more before own (base value constraints) is = (declared-more value.heading is.0, is.1)
   relvar-more before own (view t history) is = (tree-more (headings_of before) t is.0, is.1)
+  relvar-more before own (log of side w) is = (declared-more w.heading is.0, is.1)
 
   pub relvars-more : (before entries : Entries) → AreRelvars sizes before entries → AreRelvars (sizes ++ more) before entries
   relvars-more before [] all = tt

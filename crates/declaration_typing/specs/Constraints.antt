@@ -16,7 +16,7 @@ use Rattle.value_core.specs.Values.{Name, Heading}
 use Rattle.scalar_core.specs.KindOf.{same_kind}
 use Rattle.scalar_typing.specs.Typings.{◌>>=◌, refused}
 use Rattle.relation_typing.specs.Attributes.{name_typed}
-use Rattle.tree_core.specs.Relvars.{State, PlainRelvar, base, view, relvar_named}
+use Rattle.tree_core.specs.Relvars.{State, PlainRelvar, base, view, relvar_named, log}
 use Rattle.meaning_core.specs.Meanings.{positions_of}
 use Rattle.relation_core.specs.Agreement.{position_of}
 use Rattle.node_typing.specs.Positions.{check, position_typed, positions_typed}
@@ -31,11 +31,12 @@ key_words (syntax.Names at words) = words
 
 -- ---- foreign keys
 
--- the heading of the base relvar: E10 where there is none of the name, E20 where it is a view
+-- the heading of the base relvar: E10 where there is none of the name, E20 where it is a view or a log
 abbrev pub base_heading : Place → Option PlainRelvar → OrFault Heading
 base_heading at None = refused at E10
 base_heading at (Some (base value constraints)) = Ok value.heading
 base_heading at (Some (view t history)) = refused at E20
+base_heading at (Some (log of side value)) = refused at E20
 
 -- the referenced relvar is a base relvar, or the relvar that is declared
 abbrev pub heading_there : State → Name → Heading → Place → Name → OrFault Heading

@@ -9,7 +9,7 @@ use Rattle.utd_syntax.specs.Plain.{Word}
 use Rattle.value_core.specs.Values.{Name}
 use Rattle.scalar_typing.specs.Typings.{◌>>=◌}
 use Rattle.relation_typing.specs.Attributes.{name_typed}
-use Rattle.tree_core.specs.Relvars.{State, PlainRelvar, base, view, Entries, Rules, relvar_named}
+use Rattle.tree_core.specs.Relvars.{State, PlainRelvar, base, view, Entries, Rules, relvar_named, log}
 use Rattle.tree_core.specs.Uses.{is_one_of, relvar_names_any, test_names_any}
 use Rattle.meaning_core.specs.Declarations.{group}
 use Rattle.node_typing.specs.Positions.{check}
@@ -19,6 +19,7 @@ abbrev pub is_in_history : Name → PlainRelvar → Bool
 is_in_history name (base value constraints) = false
 is_in_history name (view t None) = false
 is_in_history name (view t (Some names)) = bytes_eq name names.0 || bytes_eq name names.1
+is_in_history name (log of side value) = false
 
 -- whether a history has the name as that of its since relvar or its during relvar
 abbrev pub is_of_history : Entries → Name → Bool

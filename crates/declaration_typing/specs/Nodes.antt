@@ -5,7 +5,7 @@
 use Rattle.std.specs.Prelude.{ℕ, ◌+◌, min, List}
 use Rattle.value_core.specs.Limits.{most_nodes}
 use Rattle.value_core.specs.Values.{Name}
-use Rattle.tree_core.specs.Relvars.{PlainRelvar, base, view, Entries}
+use Rattle.tree_core.specs.Relvars.{PlainRelvar, base, view, Entries, log}
 use Rattle.tree_core.specs.Trees.{Tree, named, literal, infix_of, project, rename, restrict, extend, summarize, pack, unpack, using, Test, relate, is_empty, is_not_empty}
 use Rattle.meaning_core.specs.Names.{found, each_in}
 
@@ -23,10 +23,11 @@ count known (pack place h commalist t) = count known t + 1
 count known (unpack place h commalist t) = count known t + 1
 count known (using place h commalist t) = count known t + 1
 
--- a relvar's name counts for one node, and a view's name for as many as its expression has
+-- the name of a relvar or a log counts for one node, and a view's name for as many as its expression has
 abbrev pub relvar_count : List (Name × ℕ) → PlainRelvar → ℕ
 relvar_count known (base value constraints) = 1
 relvar_count known (view t history) = count known t
+relvar_count known (log of side value) = 1
 
 abbrev pub nodes_of : Entries → Tree → ℕ
 nodes_of entries t = count (each_in relvar_count entries) t

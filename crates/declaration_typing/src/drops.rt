@@ -35,6 +35,7 @@ fn is_in_history(name: &Name, relvar: &Relvar) -> bool
             value: _,
             constraints: _,
         } => false,
+        Relvar::Log { of: _, log: _ } => false,
     }
 }
 

@@ -67,6 +67,7 @@ fn relvar_nodes(known: &[(Name, usize)], relvar: &Relvar) -> usize
             constraints: _,
         } => 1,
         Relvar::View { tree, history: _ } => count(known, tree),
+        Relvar::Log { of: _, log: _ } => 1,
     }
 }
 

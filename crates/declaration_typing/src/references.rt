@@ -38,7 +38,8 @@ fn base_heading<'a>(place: Place, found: Option<&'a Relvar>) -> Result<&'a Headi
                 tree: _,
                 history: _,
             },
-        ) => Err(Stop::Fault(Fault {
+        )
+        | Some(Relvar::Log { of: _, log: _ }) => Err(Stop::Fault(Fault {
             place,
             code: Code::E20,
         })),

@@ -11,7 +11,7 @@ use Rattle.value_core.specs.declared.constraint.Constraint.TheVariants.{Key, Pac
 use Rattle.value_core.specs.declared.list.OrdinalNames.{OrdinalNames}
 use Rattle.value_core.specs.Limits.{most_rows}
 use Rattle.value_core.specs.Values.{Name, Row, Heading, Relation, IsRelation}
-use Rattle.tree_core.specs.Relvars.{PlainRelvar, base, view, State, Entries}
+use Rattle.tree_core.specs.Relvars.{PlainRelvar, base, view, State, Entries, log}
 use Rattle.dump_core.specs.Values.{value_script}
 
 -- ---- rows
@@ -71,10 +71,11 @@ rows_a_statement name constraints = if list_any (references name) constraints th
 abbrev pub parts_inserted : List OrdinalNames → Name → Relation → ℕ → List (List ℕ)
 parts_inserted types name value size = map (insert_script types name value.heading) (parts_of size value.rows)
 
--- the statements that insert the rows of a base relvar, in their order; a view has none
+-- the statements that insert the rows of a base relvar, in their order; a view or a log has none
 abbrev pub inserts : List OrdinalNames → Name → PlainRelvar → List (List ℕ)
 inserts types name (base value constraints) = parts_inserted types name value (rows_a_statement name constraints)
 inserts types name (view t history) = []
+inserts types name (log of side value) = []
 
 -- those of all base relvars, in the order of declaration
 abbrev pub rows_of_entries : List OrdinalNames → Entries → List (List ℕ)
@@ -89,6 +90,7 @@ rows_of_state state = rows_of_entries state.ordinals state.relvars
 abbrev pub HasRelation : PlainRelvar → Type 0
 HasRelation (base value constraints) = IsRelation value
 HasRelation (view t history) = Unit {0}
+HasRelation (log of side value) = Unit {0}
 
 abbrev pub HaveRelations : Entries → Type 0
 HaveRelations [] = Unit {0}

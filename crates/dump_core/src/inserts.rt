@@ -118,7 +118,7 @@ fn rows_a_statement(name: &Name, constraints: &[Constraint]) -> usize
     }
 }
 
-/// Writes the statements that insert the rows of a base relvar. A view has none.
+/// Writes the statements that insert the rows of a base relvar. A view or a log has none.
 fn put_relvar(
     draft: &mut Draft,
     types: &OrdinalTypes,
@@ -140,6 +140,7 @@ fn put_relvar(
             tree: _,
             history: _,
         } => Ok(()),
+        Relvar::Log { of: _, log: _ } => Ok(()),
     }
 }
 

@@ -10,7 +10,7 @@ use Rattle.utd_syntax.specs.Plain.{Word, RelP}
 use Rattle.value_core.specs.Values.{Name, Heading}
 use Rattle.scalar_typing.specs.Typings.{◌>>=◌, refused, value_or}
 use Rattle.tree_core.specs.Items.{PlainItemForm, PlainItem}
-use Rattle.tree_core.specs.Relvars.{PlainRelvar, base, view, State, relvar_named}
+use Rattle.tree_core.specs.Relvars.{PlainRelvar, base, view, State, relvar_named, log}
 use Rattle.tree_core.specs.Trees.{Tree, heading_of}
 use Rattle.relation_typing.specs.Attributes.{name_typed}
 use Rattle.relation_typing.specs.Headings.{same_heading}
@@ -21,12 +21,13 @@ use Rattle.tree_typing.specs.Trees.{tree_typed}
 abbrev pub Target : Type 0
 Target = Name × Heading
 
--- E20 at a view
+-- E20 at a view or a log
 abbrev pub base_heading : Place → PlainRelvar → OrFault Heading
 base_heading place (base value constraints) = Ok value.heading
 base_heading place (view t history) = refused place E20
+base_heading place (log of side value) = refused place E20
 
--- E10 at a name that is no relvar and no view, E20 at that of a view
+-- E10 at a name that is no relvar, view or log, E20 at that of a view or a log
 abbrev pub target_typed : State → Word → OrFault Target
 target_typed state w = do
   name ← name_typed w

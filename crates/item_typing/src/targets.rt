@@ -36,7 +36,7 @@ pub(crate) fn known_relvar<'a>(
     }
 }
 
-/// The heading of a base relvar: E20 at a view.
+/// The heading of a base relvar: E20 at a view or a log.
 fn base_heading(place: Place, relvar: &Relvar) -> Result<&Heading, Fault>
     ensures { seen (λ h. h.now) result ≡ rules.base_heading place (read_relvar relvar.now) }
 {
@@ -48,7 +48,8 @@ fn base_heading(place: Place, relvar: &Relvar) -> Result<&Heading, Fault>
         Relvar::View {
             tree: _,
             history: _,
-        } => Err(Fault {
+        }
+        | Relvar::Log { of: _, log: _ } => Err(Fault {
             place,
             code: Code::E20,
         }),

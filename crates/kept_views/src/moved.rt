@@ -43,7 +43,8 @@ fn view_places(
     }
 }
 
-/// What the group of the key in the view gains and loses where its operands are now these.
+/// What the group of the key in the view gains and loses where its operands are now these. It is refused exactly where the group would have
+/// more than 100,000 rows.
 pub fn group_moved<L: Ledger>(
     alloc: Global,
     rule: &KeptRule,

@@ -14,7 +14,7 @@ use Rattle.std.proofs.lemmas.List.{append-nil}
 use Rattle.base_core.specs.Outcomes.{then_give, both}
 use Rattle.point_core.specs.Faults.{OrFault}
 use Rattle.value_core.specs.Values.{Name, Heading, Relation}
-use Rattle.tree_core.specs.Relvars.{PlainRelvar, base, view, Entries, State, relvar_named, relvar_heading}
+use Rattle.tree_core.specs.Relvars.{PlainRelvar, base, view, Entries, State, relvar_named, relvar_heading, log}
 use Rattle.tree_core.specs.Trees.{Tree, named, literal, infix_of, project, rename, restrict, extend, summarize, pack, unpack, using, Test, relate, is_empty, is_not_empty}
 use Rattle.tree_core.specs.Uses.{is_one_of, names_any, test_names_any}
 use Rattle.meaning_core.specs.Declarations.{without_all}
@@ -116,6 +116,7 @@ module _ (some : Name → Bool) where
   abbrev pub view_names : PlainRelvar → Bool
   view_names (base value constraints) = false
   view_names (view t history) = names_any some t
+  view_names (log of side value) = false
 
   abbrev pub IsApart : Entries → Type 0
   IsApart [] = Unit {0}
@@ -124,6 +125,7 @@ module _ (some : Name → Bool) where
   relvar-same : (known : Known) (r : PlainRelvar) → view_names r ≡ false → relvar_meaning known r ≡ relvar_meaning (left known) r
   relvar-same known (base value constraints) none = refl
   relvar-same known (view t history) none = meaning-agrees known (left known) (λ name q. found-left (Ok []) known name q) plainly t none
+  relvar-same known (log of side value) none = refl
 
   -- an entry with what it means
   abbrev meant : Known → Name × PlainRelvar → Name × RowsMeant
@@ -251,6 +253,7 @@ module _ (some : Name → Bool) where
   relvar-names : (sizes : List ℕ) (before : Entries) (own : Name) (r : PlainRelvar) → IsClear (headings_of before) → IsRelvar sizes before own r → view_names r ≡ false
   relvar-names sizes before own (base value constraints) clear is = refl
   relvar-names sizes before own (view t history) clear is = typed-names sizes (headings_of before) clear t is.0
+  relvar-names sizes before own (log of side value) clear is = refl
 
   apart-left : (sizes : List ℕ) (es before : Entries) → IsClear (headings_of before) → AreRelvars sizes before (left es) → IsApart es
   apart-left sizes [] before clear all = tt

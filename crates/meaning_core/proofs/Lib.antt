@@ -1,3 +1,4 @@
+pub mod AcceptedLemmas
 pub mod ElsewhereLemmas
 pub mod EntryLemmas
 pub mod GroupFits

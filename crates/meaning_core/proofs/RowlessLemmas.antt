@@ -12,18 +12,20 @@ use Rattle.value_core.specs.declared.constraint.Constraint.{Constraint}
 use Rattle.value_core.specs.declared.constraint.Constraint.TheVariants.{Key, Packed, WhenUnpacked, UKey, Foreign, History}
 use Rattle.value_core.specs.declared.constraint.HistoryRule.{HistoryRule}
 use Rattle.value_core.specs.Values.{Name, Heading, Relation}
-use Rattle.tree_core.specs.Relvars.{PlainRelvar, base, view, Entries, State, relvar_named, relvar_heading, heading_if, constraints_if, rule_among}
+use Rattle.tree_core.specs.Relvars.{PlainRelvar, base, view, Entries, State, relvar_named, relvar_heading, heading_if, constraints_if, rule_among, log}
+use Rattle.log_times.specs.Turns.{IsLogHeading, without}
 use Rattle.tree_core.specs.Trees.{Tree, named}
 use Rattle.meaning_core.specs.Histories.{joined_history, last_point, type_at, name_at}
 use Rattle.meaning_core.specs.Names.{with_value}
 use Rattle.meaning_core.specs.Typing.{Headings, is_declared, IsTypedTree, IsTypedTest}
-use Rattle.meaning_core.specs.WellMade.{sizes_of, headings_of, IsBase, FitsHeadings, FitsNamed, IsConstraint, IsOfRule, IsHistory, IsRelvar, AreRelvars, IsWellMade, IsGiven}
+use Rattle.meaning_core.specs.WellMade.{sizes_of, headings_of, IsBase, FitsHeadings, FitsNamed, IsConstraint, IsOfRule, IsHistory, IsRelvar, AreRelvars, IsWellMade, IsGiven, IsLogOf}
 
 -- ---- relvars without their rows
 
 abbrev pub bare : PlainRelvar → PlainRelvar
 bare (base value constraints) = base (record { heading = value.heading; rows = [] }) constraints
 bare (view t history) = view t history
+bare (log of side value) = log of side value
 
 abbrev pub bare_entry : Name × PlainRelvar → Name × PlainRelvar
 bare_entry r = (r.0, bare r.1)
@@ -36,6 +38,7 @@ bare_all entries = map bare_entry entries
 pub heading-bare : (r : PlainRelvar) → relvar_heading (bare r) ≡ relvar_heading r
 heading-bare (base value constraints) = refl
 heading-bare (view t history) = refl
+heading-bare (log of side value) = refl
 
 pub headings-bare : (entries : Entries) → headings_of (bare_all entries) ≡ headings_of entries
 headings-bare [] = refl
@@ -62,11 +65,13 @@ constraints_if-bare : (o : Option PlainRelvar) → constraints_if (option_map ba
 constraints_if-bare None = refl
 constraints_if-bare (Some (base value constraints)) = refl
 constraints_if-bare (Some (view t history)) = refl
+constraints_if-bare (Some (log of side value)) = refl
 
 IsBase-bare : (o : Option PlainRelvar) → IsBase (option_map bare o) ≡ IsBase o
 IsBase-bare None = refl
 IsBase-bare (Some (base value constraints)) = refl
 IsBase-bare (Some (view t history)) = refl
+IsBase-bare (Some (log of side value)) = refl
 
 pub heading_named-bare : (entries : Entries) (name : Name) → heading_if (relvar_named (bare_all entries) name) ≡ heading_if (relvar_named entries name)
 heading_named-bare entries name = ap heading_if (named-bare entries name) ∙ heading_if-bare (relvar_named entries name)
@@ -111,10 +116,14 @@ IsHistory-bare before t (Some names) =
     ∙ IsOfRule-bare before names.0 names.1 t (rule_among (constraints_if (relvar_named before names.1))) in
     λ i. is_base-bare before names.0 i × is_base-bare before names.1 i × rule i
 
+IsLogOf-bare : (before : Entries) (of : Name) (side : ℕ) (h : Heading) → IsLogOf (bare_all before) of side h ≡ IsLogOf before of side h
+IsLogOf-bare before of side h = λ i. is_base-bare before of i × IsLogHeading side h × (without side h ≡ heading_named-bare before of i)
+
 IsRelvar-bare : (sizes : List ℕ) (before : Entries) (own : Name) (r : PlainRelvar) → IsRelvar sizes (bare_all before) own (bare r) ≡ IsRelvar sizes before own r
 IsRelvar-bare sizes before own (base value constraints) =
     λ i. IsTrue (is_declared sizes value.heading) × All (λ c. IsConstraint-bare before own (base value constraints) c i) constraints
 IsRelvar-bare sizes before own (view t history) = λ i. IsTypedTree sizes (headings-bare before i) t × IsHistory-bare before t history i
+IsRelvar-bare sizes before own (log of side value) = λ i. IsTrue (is_declared sizes value.heading) × IsLogOf-bare before of side value.heading i
 
 AreRelvars-bare : (sizes : List ℕ) (before entries : Entries) → AreRelvars sizes (bare_all before) (bare_all entries) ≡ AreRelvars sizes before entries
 AreRelvars-bare sizes before [] = refl
@@ -153,6 +162,7 @@ bare-keeps s entries e h =
 pub bare-with_value : (value : Relation) (r : PlainRelvar) → value.heading ≡ relvar_heading r → bare (with_value value r) ≡ bare r
 bare-with_value value (base old constraints) e = ap (λ (h : Heading). base (record { heading = h; rows = [] }) constraints) e
 bare-with_value value (view t history) e = refl
+bare-with_value value (log of side old) e = refl
 
 -- what is given in one of two states that differ in their rows alone is given in the other
 pub is_given-keeps : (entries old : Entries) → bare_all entries ≡ bare_all old → (with : Option Name) (value : Option Relation) → IsGiven old with value → IsGiven entries with value

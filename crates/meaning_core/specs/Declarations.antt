@@ -3,7 +3,8 @@
 --     with_declaration      the state with what is declared: a relvar begins with no rows
 --     without_group      the state without a relvar or view; the view of a history takes its two relvars along
 --     with_rule, without_rule      the state with one database constraint more, or without one
-use Rattle.std.specs.Prelude.{not, List, [], ◌∷◌, ◌++◌, filter, Option, Some, None}
+--     counted      the state in which one statement more is accepted
+use Rattle.std.specs.Prelude.{pos, ◌+ℤ◌, not, List, [], ◌∷◌, ◌++◌, filter, Option, Some, None}
 use Rattle.std.specs.Str.{bytes_eq}
 use Rattle.value_core.specs.declared.constraint.Constraint.{Constraint}
 use Rattle.value_core.specs.Values.{Name, Heading}
@@ -58,3 +59,9 @@ with_rule name t s = record s { rules = s.rules ++ (name, t) ∷ [] }
 
 abbrev pub without_rule : Name → State → State
 without_rule name s = record s { rules = filter (λ r. not (bytes_eq r.0 name)) s.rules }
+
+-- ---- accepted statements
+
+-- the state after a statement that is accepted
+abbrev pub counted : State → State
+counted s = record s { accepted = s.accepted +ℤ pos 1 }

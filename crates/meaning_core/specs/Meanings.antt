@@ -17,7 +17,7 @@ use Rattle.relation_core.specs.Groups.{rows_at, summarized}
 use Rattle.relation_core.specs.Joins.{joined}
 use Rattle.relation_core.specs.Operators.{united, intersected, subtracted, restricted, extended}
 use Rattle.relation_core.specs.Parts.{no_attribute, projected, renamed, positions_in}
-use Rattle.tree_core.specs.Relvars.{PlainRelvar, base, view, Entries}
+use Rattle.tree_core.specs.Relvars.{PlainRelvar, base, view, Entries, log}
 use Rattle.tree_core.specs.Trees.{PlainSets, Tree, named, literal, infix_of, project, rename, restrict, extend, summarize, pack, unpack, using, heading_of}
 use Rattle.tree_core.specs.declared.tree.InfixWord.{InfixWord}
 use Rattle.tree_core.specs.declared.tree.InfixWord.TheVariants.{Union, Intersect, Minus, Join, Matching, NotMatching}
@@ -126,6 +126,7 @@ meaning known around (using place heading commalist t) = meaning known (in_using
 abbrev pub relvar_meaning : Known → PlainRelvar → RowsMeant
 relvar_meaning known (base value constraints) = Ok value.rows
 relvar_meaning known (view t history) = meaning known plainly t
+relvar_meaning known (log of side value) = Ok value.rows
 
 -- the meanings of all relvars and views, each view's from those before it
 abbrev pub known_in : Entries → Known

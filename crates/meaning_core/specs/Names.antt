@@ -6,7 +6,7 @@
 use Rattle.std.specs.Prelude.{◌≡◌, ℕ, zero, suc, true, false, List, [], ◌∷◌, ◌++◌, map, Option, Some, None, if◌then◌else◌}
 use Rattle.std.specs.Str.{bytes_eq}
 use Rattle.value_core.specs.Values.{Name, Relation}
-use Rattle.tree_core.specs.Relvars.{PlainRelvar, base, view, Entries}
+use Rattle.tree_core.specs.Relvars.{PlainRelvar, base, view, Entries, log}
 
 module _ {A : Type 0} where
   -- what a name stands for; other, where it does not stand there
@@ -28,6 +28,7 @@ module _ {A : Type 0} where
 abbrev pub with_value : Relation → PlainRelvar → PlainRelvar
 with_value value (base old constraints) = base value constraints
 with_value value (view t history) = view t history
+with_value value (log of side old) = log of side old
 
 -- what an entry is, where the named relvar has the value, if both are given
 abbrev pub given_relvar : Option Name → Option Relation → Name → PlainRelvar → PlainRelvar

@@ -2,7 +2,7 @@
 --     nodes      of an expression
 --     weight      of all views together
 use Rattle.std.specs.Prelude.{ℕ, ◌+◌, [], ◌∷◌}
-use Rattle.tree_core.specs.Relvars.{PlainRelvar, base, view, Entries}
+use Rattle.tree_core.specs.Relvars.{PlainRelvar, base, view, Entries, log}
 use Rattle.tree_core.specs.Trees.{Tree, named, literal, infix_of, project, rename, restrict, extend, summarize, pack, unpack, using}
 
 -- how many nodes the expression has
@@ -22,6 +22,7 @@ nodes (using place h commalist t) = nodes t + 1
 abbrev pub relvar_nodes : PlainRelvar → ℕ
 relvar_nodes (base value constraints) = 0
 relvar_nodes (view t history) = nodes t
+relvar_nodes (log of side value) = 0
 
 -- how many nodes the views have together
 abbrev pub weight : Entries → ℕ

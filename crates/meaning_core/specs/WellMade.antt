@@ -13,7 +13,8 @@ use Rattle.value_core.specs.Attributes.{among}
 use Rattle.value_core.specs.Limits.{most_ordinal_types, most_ordinal_values, most_rules}
 use Rattle.value_core.specs.Values.{Name, Heading, Relation}
 use Rattle.relation_core.specs.Parts.{kind_at}
-use Rattle.tree_core.specs.Relvars.{PlainRelvar, base, view, Entries, State, relvar_named, relvar_heading, heading_if, constraints_if, rule_among}
+use Rattle.log_times.specs.Turns.{IsLogHeading, without}
+use Rattle.tree_core.specs.Relvars.{PlainRelvar, base, view, Entries, State, relvar_named, relvar_heading, heading_if, constraints_if, rule_among, log}
 use Rattle.tree_core.specs.Trees.{Tree, Test, named}
 use Rattle.meaning_core.specs.Histories.{joined_history, last_point, type_at, name_at}
 use Rattle.meaning_core.specs.Typing.{Headings, IsList, is_declared, IsTypedTree, IsTypedTest}
@@ -78,6 +79,7 @@ abbrev pub IsBase : Option PlainRelvar → Type 0
 IsBase None = ⊥
 IsBase (Some (base value constraints)) = Unit {0}
 IsBase (Some (view t history)) = ⊥
+IsBase (Some (log of side value)) = ⊥
 
 -- the named relvar is a base relvar, whose heading the constraint fits too
 abbrev pub FitsNamed : Entries → Heading → Name → Constraint → Type 0
@@ -108,6 +110,13 @@ IsHistory before t (Some names) =
     IsBase (relvar_named before names.0) × IsBase (relvar_named before names.1)
     × IsOfRule before names.0 names.1 t (rule_among (constraints_if (relvar_named before names.1)))
 
+-- ---- logs
+
+-- the log of a base relvar: its heading with the interval of statements at the place
+abbrev pub IsLogOf : Entries → Name → ℕ → Heading → Type 0
+IsLogOf before of side heading =
+    IsBase (relvar_named before of) × IsLogHeading side heading × (without side heading ≡ heading_if (relvar_named before of))
+
 -- ---- relvars
 
 -- a relvar or view is well made behind those that were declared before it
@@ -115,6 +124,7 @@ abbrev pub IsRelvar : List ℕ → Entries → Name → PlainRelvar → Type 0
 IsRelvar sizes before own (base value constraints) =
     IsTrue (is_declared sizes value.heading) × All (IsConstraint before own (base value constraints)) constraints
 IsRelvar sizes before own (view t history) = IsTypedTree sizes (headings_of before) t × IsHistory before t history
+IsRelvar sizes before own (log of side value) = IsTrue (is_declared sizes value.heading) × IsLogOf before of side value.heading
 
 abbrev pub AreRelvars : List ℕ → Entries → Entries → Type 0
 AreRelvars sizes before [] = Unit {0}

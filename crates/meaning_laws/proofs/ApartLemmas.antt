@@ -6,7 +6,7 @@ use Rattle.std.proofs.Common.{◌≡◌, ℕ, Bool, false, not, List, [], ◌∷
 use Rattle.std.specs.Prelude.{◌||◌}
 use Rattle.std.proofs.lemmas.Bool.{or_parts, not-false, not_from_true}
 use Rattle.value_core.specs.Values.{Name}
-use Rattle.tree_core.specs.Relvars.{PlainRelvar, base, view, Entries}
+use Rattle.tree_core.specs.Relvars.{PlainRelvar, base, view, Entries, log}
 use Rattle.tree_core.specs.Trees.{Tree, named, literal, infix_of, project, rename, restrict, extend, summarize, pack, unpack, using, Test, relate, is_empty, is_not_empty}
 use Rattle.tree_core.specs.Uses.{names_any, test_names_any}
 use Rattle.meaning_core.specs.WellMade.{AreRelvars}
@@ -38,6 +38,7 @@ none-test-named (is_not_empty place t) = none-named t
 none-view : (x : PlainRelvar) → view_names (λ name. false) x ≡ false
 none-view (base value constraints) = refl
 none-view (view t history) = none-named t
+none-view (log of side value) = refl
 
 pub none-apart : (es : Entries) → IsApart (λ name. false) es
 none-apart [] = tt
@@ -63,6 +64,7 @@ module _ (some more : Name → Bool) (fewer : (name : Name) → some name ≡ fa
   pub view-fewer : (x : PlainRelvar) → view_names some x ≡ false → view_names more x ≡ false
   view-fewer (base value constraints) none = refl
   view-fewer (view t history) none = names-fewer t none
+  view-fewer (log of side value) none = refl
 
 -- the entries before a relvar or view are among all
 declared-from : (sizes : List ℕ) (es before rest : Entries) → es ≡ before ++ rest → AreRelvars sizes before rest → IsApart (λ name. not (has_entry es name)) rest

@@ -7,7 +7,7 @@ use Rattle.std.proofs.lemmas.Bool.{true≢false}
 use Rattle.point_core.specs.declared.fault.Place.{Place}
 use Rattle.point_core.specs.Faults.{OrFault}
 use Rattle.value_core.specs.Values.{Name, Row, Relation}
-use Rattle.tree_core.specs.Relvars.{base, view, Entries}
+use Rattle.tree_core.specs.Relvars.{base, view, Entries, log}
 use Rattle.tree_core.specs.Trees.{Tree, Test}
 use Rattle.tree_core.specs.Uses.{names_any, test_names_any}
 use Rattle.meaning_core.specs.Meanings.{plainly, meaning, relvar_meaning, known_in, meaning_in}
@@ -28,6 +28,9 @@ relvar-gives : EntriesAgree relvar_meaning (Ok []) Gives IsLikeAndValued
 relvar-gives known there out (base v c) (base u d) same agree none = λ rows e. ap (λ (r : Relation). Ok r.rows) same.1 ∙ e
 relvar-gives known there out (base v c) (view u g) same agree none = absurd same.0
 relvar-gives known there out (view t h) (base u d) same agree none = absurd same.0
+relvar-gives known there out (base v c) (log o i w) same agree none = absurd same.0
+relvar-gives known there out (view t h) (log o i w) same agree none = absurd same.0
+relvar-gives known there out (log o i w) y same agree none = λ rows e. ap (relvar_meaning there) same.0 ∙ e
 relvar-gives known there out (view t h) (view u g) same agree none =
     subst (λ (z : Tree). Gives (meaning known plainly t) (meaning there plainly z)) (sym same.0.0.1) (meaning-gives same.0.0.0 out known there agree plainly t none)
 

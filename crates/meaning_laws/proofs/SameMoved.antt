@@ -7,7 +7,7 @@ use Rattle.std.specs.Prelude.{◌||◌}
 use Rattle.point_core.specs.declared.fault.Place.{Place}
 use Rattle.value_core.specs.Values.{Name}
 use Rattle.scalar_core.specs.Expressions.{Expr, constant, attribute, one, pair, and_expr, or_expr}
-use Rattle.tree_core.specs.Relvars.{PlainRelvar, base, view, relvar_heading}
+use Rattle.tree_core.specs.Relvars.{PlainRelvar, base, view, relvar_heading, log}
 use Rattle.tree_core.specs.Trees.{PlainSets, PlainAggregateForm, count_rows, sum_of, min_of, max_of, PlainAggregate, Tree, named, literal, infix_of, project, rename, restrict, extend, summarize, pack, unpack, using, heading_of, Test, relate, is_empty, is_not_empty}
 use Rattle.tree_core.specs.Uses.{names_any, test_names_any}
 use Rattle.meaning_laws.specs.Moved.{moved_expr, moved_set, moved_sets, moved_aggregate_form, moved_aggregate, moved_tree, moved_test, moved_relvar, moved_entry, moved_rule}
@@ -31,6 +31,7 @@ module _ (f : Place → Place) where
   pub relvar-heading-moved : (r : PlainRelvar) → relvar_heading (moved_relvar f r) ≡ relvar_heading r
   relvar-heading-moved (base value constraints) = refl
   relvar-heading-moved (view t history) = heading-moved t
+  relvar-heading-moved (log of side value) = refl
 
   module _ (some : Name → Bool) where
     pub names-moved : (t : Tree) → names_any some (moved_tree f t) ≡ names_any some t
@@ -110,6 +111,7 @@ test-same (is_not_empty place t) = ap (is_not_empty place) (tree-same t)
 pub relvar-same : (r : PlainRelvar) → moved_relvar (λ p. p) r ≡ r
 relvar-same (base value constraints) = refl
 relvar-same (view t history) = ap (λ (u : Tree). view u history) (tree-same t)
+relvar-same (log of side value) = refl
 
 pub entry-same : (e : Name × PlainRelvar) → moved_entry (λ p. p) e ≡ e
 entry-same e = λ i. (e.0, relvar-same e.1 i)
@@ -167,6 +169,7 @@ module _ (g f : Place → Place) where
   pub relvar-twice : (r : PlainRelvar) → moved_relvar g (moved_relvar f r) ≡ moved_relvar (λ p. g (f p)) r
   relvar-twice (base value constraints) = refl
   relvar-twice (view t history) = ap (λ (u : Tree). view u history) (tree-twice t)
+  relvar-twice (log of side value) = refl
 
   pub entry-twice : (e : Name × PlainRelvar) → moved_entry g (moved_entry f e) ≡ moved_entry (λ p. g (f p)) e
   entry-twice e = λ i. (e.0, relvar-twice e.1 i)

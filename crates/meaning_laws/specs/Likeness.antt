@@ -1,5 +1,5 @@
 -- States in which names stand for the same, places aside; the order of their entries, and what else they have, may differ.
---     IsLike      two relvars with the same heading and constraints, or two views with the same expression at other places
+--     IsLike      two relvars with the same heading and constraints, or two views with the same expression at other places, or one log
 --     Alike some es fs      each name that es has, and that is none of some, stands for the like in fs
 --     HasValues some es fs      and where it is a base relvar, for one with the same value
 --     IsSameThere      the same of any relation between what names stand for
@@ -10,21 +10,26 @@ use Rattle.std.specs.List.{list_any}
 use Rattle.std.specs.Str.{bytes_eq}
 use Rattle.point_core.specs.declared.fault.Place.{Place}
 use Rattle.value_core.specs.Values.{Name}
-use Rattle.tree_core.specs.Relvars.{PlainRelvar, base, view, Entries, relvar_named}
+use Rattle.tree_core.specs.Relvars.{PlainRelvar, base, view, Entries, relvar_named, log}
 use Rattle.meaning_laws.specs.Moved.{moved_tree}
 
--- two relvars with the same heading and constraints, or two views with the same expression, places aside
+-- two relvars with the same heading and constraints, or two views with the same expression, places aside, or one log
 abbrev pub IsLike : PlainRelvar → PlainRelvar → Type 0
 IsLike (base v c) (base u d) = (u.heading ≡ v.heading) × (d ≡ c)
 IsLike (base v c) (view u g) = ⊥
 IsLike (view t h) (base u d) = ⊥
 IsLike (view t h) (view u g) = ((f : Place → Place) × (u ≡ moved_tree f t)) × (g ≡ h)
+IsLike (base v c) (log o i w) = ⊥
+IsLike (view t h) (log o i w) = ⊥
+IsLike (log o i w) y = y ≡ log o i w
 
 -- a base relvar has the same value there
 abbrev pub HasValue : PlainRelvar → PlainRelvar → Type 0
 HasValue (base v c) (base u d) = u ≡ v
 HasValue (base v c) (view u g) = ⊥
 HasValue (view t h) r = Unit {0}
+HasValue (base v c) (log o i w) = ⊥
+HasValue (log o i w) r = Unit {0}
 
 -- ---- where a name stands for one
 
@@ -43,6 +48,7 @@ abbrev pub ValueIf : Option PlainRelvar → Option PlainRelvar → Type 0
 ValueIf None o = Unit {0}
 ValueIf (Some (base v c)) None = ⊥
 ValueIf (Some (view t h)) None = Unit {0}
+ValueIf (Some (log o i w)) None = Unit {0}
 ValueIf (Some x) (Some y) = HasValue x y
 
 -- ---- states

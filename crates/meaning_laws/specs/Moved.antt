@@ -9,7 +9,7 @@ use Rattle.point_core.specs.declared.fault.Place.{Place}
 use Rattle.value_core.specs.Values.{Name}
 use Rattle.scalar_core.specs.Expressions.{Expr, constant, attribute, one, pair, and_expr, or_expr}
 use Rattle.tree_core.specs.Trees.{PlainSets, PlainAggregateForm, count_rows, sum_of, min_of, max_of, PlainAggregate, Tree, named, literal, infix_of, project, rename, restrict, extend, summarize, pack, unpack, using, Test, relate, is_empty, is_not_empty}
-use Rattle.tree_core.specs.Relvars.{PlainRelvar, base, view}
+use Rattle.tree_core.specs.Relvars.{PlainRelvar, base, view, log}
 use Rattle.meaning_core.specs.Meanings.{Around, plainly, in_using}
 
 module _ (f : Place → Place) where
@@ -67,6 +67,7 @@ module _ (f : Place → Place) where
   abbrev pub moved_relvar : PlainRelvar → PlainRelvar
   moved_relvar (base value constraints) = base value constraints
   moved_relvar (view t history) = view (moved_tree t) history
+  moved_relvar (log of side value) = log of side value
 
   abbrev pub moved_entry : Name × PlainRelvar → Name × PlainRelvar
   moved_entry e = (e.0, moved_relvar e.1)

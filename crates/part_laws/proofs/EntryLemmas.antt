@@ -8,7 +8,7 @@ use Rattle.std.specs.List.{AllByRecursion, IsDistinct}
 use Rattle.std.specs.Str.{bytes_eq}
 use Rattle.value_core.specs.declared.constraint.Constraint.{Constraint}
 use Rattle.value_core.specs.Values.{Name, Relation}
-use Rattle.tree_core.specs.Relvars.{PlainRelvar, base, view, Entries, relvar_named}
+use Rattle.tree_core.specs.Relvars.{PlainRelvar, base, view, Entries, relvar_named, log}
 use Rattle.meaning_core.specs.WellMade.{IsBase}
 use Rattle.meaning_core.proofs.MadeLemmas.{same_name}
 use Rattle.assign_core.specs.Breaches.{value_if}
@@ -22,6 +22,7 @@ pub base-of : (o : Option PlainRelvar) → IsBase o → (v : Relation) × (c : L
 base-of None h = absurd h
 base-of (Some (base v c)) h = (v, c, refl)
 base-of (Some (view t history)) h = absurd h
+base-of (Some (log o k w)) h = absurd h
 
 -- ---- more entries
 
@@ -61,6 +62,7 @@ all-bases : (P : Name → Type 0) (es : Entries) → AllByRecursion P (names_in 
 all-bases P [] h = tt
 all-bases P ((n, base v c) ∷ es) h = (h.0, all-bases P es h.1)
 all-bases P ((n, view t g) ∷ es) h = all-bases P es h.1
+all-bases P ((n, log o k w) ∷ es) h = all-bases P es h.1
 
 absent-base : (x name : Name) (es : Entries) → bytes_eq x name ≡ true → AllByRecursion (λ y. bytes_eq x y ≡ false) (names_in es) → relvar_named (bases es) name ≡ None
 absent-base x name es e h = absent x name (bases es) e (all-bases (λ y. bytes_eq x y ≡ false) es h)
@@ -78,6 +80,11 @@ named-filtered ((n, view t g) ∷ es) name v c e =
       | true ↦ λ h. let never : IsBase (Some (view t g)) = subst IsBase (sym h) tt in absurd never
       | false ↦ named-filtered es name v c
     ] e
+named-filtered ((n, log o k w) ∷ es) name v c e =
+    elim (bytes_eq n name) as (λ b. cond b (Some (log o k w)) (relvar_named es name) ≡ Some (base v c) → relvar_named (bases es) name ≡ Some (base v c)) [
+      | true ↦ λ h. let never : IsBase (Some (log o k w)) = subst IsBase (sym h) tt in absurd never
+      | false ↦ named-filtered es name v c
+    ] e
 
 -- what stands among them stands for the same among all
 pub named-unfiltered : (es : Entries) (name : Name) (x : PlainRelvar) → IsDistinct bytes_eq (names_in es) → relvar_named (bases es) name ≡ Some x → relvar_named es name ≡ Some x
@@ -93,6 +100,11 @@ named-unfiltered ((n, view t g) ∷ es) name x d e =
       | true ↦ λ q. let none = absent-base n name es q d.0 in let never : ⊥ = cc in absurd never
       | false ↦ λ q. named-unfiltered es name x d.1 e
     ] refl
+named-unfiltered ((n, log o k w) ∷ es) name x d e =
+    elim (bytes_eq n name) as (λ b. bytes_eq n name ≡ b → cond b (Some (log o k w)) (relvar_named es name) ≡ Some x) [
+      | true ↦ λ q. let none = absent-base n name es q d.0 in let never : ⊥ = cc in absurd never
+      | false ↦ λ q. named-unfiltered es name x d.1 e
+    ] refl
 
 -- so a base relvar has the same value
 pub value-filtered : (es : Entries) (name : Name) → IsDistinct bytes_eq (names_in es) → value_if (relvar_named es name) ≡ value_if (relvar_named (bases es) name)
@@ -105,6 +117,11 @@ value-filtered ((n, base w cs) ∷ es) name d =
     ]
 value-filtered ((n, view t g) ∷ es) name d =
     elim (bytes_eq n name) as (λ b. bytes_eq n name ≡ b → value_if (cond b (Some (view t g)) (relvar_named es name)) ≡ value_if (relvar_named (bases es) name)) [
+      | true ↦ λ q. sym (ap value_if (absent-base n name es q d.0))
+      | false ↦ λ q. value-filtered es name d.1
+    ] refl
+value-filtered ((n, log o k w) ∷ es) name d =
+    elim (bytes_eq n name) as (λ b. bytes_eq n name ≡ b → value_if (cond b (Some (log o k w)) (relvar_named es name)) ≡ value_if (relvar_named (bases es) name)) [
       | true ↦ λ q. sym (ap value_if (absent-base n name es q d.0))
       | false ↦ λ q. value-filtered es name d.1
     ] refl

@@ -1,19 +1,18 @@
 -- A database so far, step by step.
 --     loaded-none, loaded-all      before the first row, and behind the last one
---     first-whole, loaded-whole, loaded-view      where the rows of a relvar have come, and at a view
+--     first-whole, loaded-whole, loaded-rowless      where the rows of a relvar have come, and at what has none of its own
 --     loaded-next      where more rows of a relvar come
 --     named-loaded      what the relvar is whose rows come
 --     loaded-names, loaded-few      the names and the number of rows
 --     named-at, relation-at      the entry at a place
-use Rattle.std.proofs.Common.{◌≡◌, ℕ, zero, suc, ◌≤◌, Bool, false, cond, List, [], ◌∷◌, map, length, refl, sym, ap, ◌∙◌, subst, arith, Option, Some}
+use Rattle.std.proofs.Common.{◌≡◌, ℕ, zero, suc, ◌≤◌, Bool, false, cond, List, [], ◌∷◌, map, length, refl, sym, ap, ◌∙◌, subst, arith, Some}
 use Rattle.std.specs.List.{AllByRecursion, IsDistinct}
 use Rattle.std.specs.Str.{bytes_eq}
 use Rattle.std.proofs.lemmas.List.{length-take}
 use Rattle.relation_core.proofs.FilterLemmas.{take_all}
 use Rattle.value_core.specs.declared.constraint.Constraint.{Constraint}
 use Rattle.value_core.specs.Values.{Name, Row, Relation, IsRelation}
-use Rattle.tree_core.specs.Relvars.{PlainRelvar, base, view, Entries, relvar_named}
-use Rattle.tree_core.specs.Trees.{Tree}
+use Rattle.tree_core.specs.Relvars.{PlainRelvar, base, view, Entries, relvar_named, log}
 use Rattle.meaning_core.specs.Names.{given_entry, with_value}
 use Rattle.meaning_core.proofs.MadeLemmas.{own_name}
 use Rattle.dump_core.specs.Inserts.{HasRelation, HaveRelations}
@@ -28,6 +27,7 @@ use Rattle.part_laws.specs.Parts.{first_of_value, with_first, without_rows, empt
 first-none : (r : PlainRelvar) → with_first 0 r ≡ without_rows r
 first-none (base v c) = refl
 first-none (view t history) = refl
+first-none (log o k w) = refl
 
 pub loaded-none : (es : Entries) → loaded 0 0 es ≡ map emptied es
 loaded-none [] = refl
@@ -49,12 +49,12 @@ loaded-whole (e ∷ es) zero n name v c at h =
     λ t. whole t ∷ sym (loaded-none es) t
 loaded-whole (e ∷ es) (suc i) n name v c at h = ap (λ (l : Entries). e ∷ l) (loaded-whole es i n name v c at h)
 
-pub loaded-view : (es : Entries) (i n : ℕ) (name : Name) (tree : Tree) (history : Option (Name × Name)) → IsAt es i (name, view tree history) → loaded i n es ≡ loaded (suc i) 0 es
-loaded-view [] i n name tree history at = absurd at
-loaded-view (e ∷ es) zero n name tree history at =
-    let whole : (e.0, with_first n e.1) ≡ e = subst (λ (d : Name × PlainRelvar). (d.0, with_first n d.1) ≡ d) (sym at) refl in
+pub loaded-rowless : (es : Entries) (i n : ℕ) (name : Name) (r : PlainRelvar) → with_first n r ≡ r → IsAt es i (name, r) → loaded i n es ≡ loaded (suc i) 0 es
+loaded-rowless [] i n name r same at = absurd at
+loaded-rowless (e ∷ es) zero n name r same at =
+    let whole : (e.0, with_first n e.1) ≡ e = subst (λ (d : Name × PlainRelvar). (d.0, with_first n d.1) ≡ d) (sym at) (λ t. (name, same t)) in
     λ t. whole t ∷ sym (loaded-none es) t
-loaded-view (e ∷ es) (suc i) n name tree history at = ap (λ (l : Entries). e ∷ l) (loaded-view es i n name tree history at)
+loaded-rowless (e ∷ es) (suc i) n name r same at = ap (λ (l : Entries). e ∷ l) (loaded-rowless es i n name r same at)
 
 -- ---- names
 
@@ -128,6 +128,7 @@ loaded-next (e ∷ es) (suc i) n m name v c d at =
 first-fewer : (n : ℕ) (name : Name) (r : PlainRelvar) → count_of (name, with_first n r) ≤ count_of (name, r)
 first-fewer n name (base v c) = let long = length-take n v.rows in omega (arith, long)
 first-fewer n name (view t history) = omega arith
+first-fewer n name (log o k w) = omega arith
 
 emptied-none : (es : Entries) → rows_of_all (map emptied es) ≡ 0
 emptied-none [] = refl
@@ -136,6 +137,7 @@ emptied-none (e ∷ es) = let here = no-rows e.0 e.1 in let more = emptied-none 
     no-rows : (name : Name) (r : PlainRelvar) → count_of (name, without_rows r) ≡ 0
     no-rows name (base v c) = refl
     no-rows name (view t history) = refl
+    no-rows name (log o k w) = refl
 
 pub loaded-few : (i n : ℕ) (es : Entries) → rows_of_all (loaded i n es) ≤ rows_of_all es
 loaded-few i n [] = omega arith

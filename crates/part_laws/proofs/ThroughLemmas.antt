@@ -12,12 +12,12 @@ use Rattle.base_core.proofs.MemberLemmas.{list_all-In}
 use Rattle.value_core.specs.declared.constraint.Constraint.{Constraint}
 use Rattle.value_core.specs.declared.list.OrdinalNames.{OrdinalNames}
 use Rattle.value_core.specs.Values.{Name, Row, Relation}
-use Rattle.tree_core.specs.Relvars.{PlainRelvar, base, view, Entries}
+use Rattle.tree_core.specs.Relvars.{PlainRelvar, base, view, Entries, log}
 use Rattle.dump_core.specs.Inserts.{parts_in, parts_of, rows_a_statement, insert_script, inserts, rows_of_entries}
 use Rattle.assign_core.proofs.DeclaredLemmas.{in_turn}
 use Rattle.part_laws.specs.Parts.{is_base, loaded, IsAt, IsLoadable}
 use Rattle.part_laws.specs.Steps.{HoldsBefore}
-use Rattle.part_laws.proofs.LoadedLemmas.{loaded-whole, loaded-view, loaded-all, relation-at}
+use Rattle.part_laws.proofs.LoadedLemmas.{loaded-whole, loaded-rowless, loaded-all, relation-at}
 use Rattle.part_laws.proofs.RowLemmas.{In-take, In-drop}
 use Rattle.part_laws.proofs.StepLemmas.{whole-if-own, some-a-statement}
 
@@ -75,9 +75,14 @@ module _ (types : List OrdinalNames) (es : Entries) (is : IsLoadable es) (Q : En
       (from-front (front ++ (name, base v c) ∷ []) rest (e ∙ sym (in_turn front ((name, base v c) ∷ []) rest))))
   from-front front ((name, view t history) ∷ rest) e =
       let stands = subst (λ (l : Entries). IsAt l (length front) (name, view t history)) (sym e) (at-front front rest (name, view t history)) in
-      subst (λ (l : Entries). Q l (rows_of_entries types rest)) (sym (loaded-view es (length front) 0 name t history stands))
+      subst (λ (l : Entries). Q l (rows_of_entries types rest)) (sym (loaded-rowless es (length front) 0 name (view t history) refl stands))
       (subst (λ k. Q (loaded k 0 es) (rows_of_entries types rest)) (length_more front (name, view t history))
       (from-front (front ++ (name, view t history) ∷ []) rest (e ∙ sym (in_turn front ((name, view t history) ∷ []) rest))))
+  from-front front ((name, log o k w) ∷ rest) e =
+      let stands = subst (λ (l : Entries). IsAt l (length front) (name, log o k w)) (sym e) (at-front front rest (name, log o k w)) in
+      subst (λ (l : Entries). Q l (rows_of_entries types rest)) (sym (loaded-rowless es (length front) 0 name (log o k w) refl stands))
+      (subst (λ k. Q (loaded k 0 es) (rows_of_entries types rest)) (length_more front (name, log o k w))
+      (from-front (front ++ (name, log o k w) ∷ []) rest (e ∙ sym (in_turn front ((name, log o k w) ∷ []) rest))))
 
   pub inserts-through : Q (loaded 0 0 es) (rows_of_entries types es)
   inserts-through = from-front [] es refl
@@ -88,6 +93,7 @@ inserts-filtered : (types : List OrdinalNames) (es : Entries) → rows_of_entrie
 inserts-filtered types [] = refl
 inserts-filtered types ((name, base v c) ∷ es) = ap (λ (l : List (List ℕ)). inserts types name (base v c) ++ l) (inserts-filtered types es)
 inserts-filtered types ((name, view t history) ∷ es) = inserts-filtered types es
+inserts-filtered types ((name, log o k w) ∷ es) = inserts-filtered types es
 
 pub inserts-bases : (types : List OrdinalNames) (es fs : Entries) → filter is_base es ≡ filter is_base fs → rows_of_entries types es ≡ rows_of_entries types fs
 inserts-bases types es fs e = inserts-filtered types es ∙ (ap (rows_of_entries types) e ∙ sym (inserts-filtered types fs))

@@ -18,7 +18,7 @@ use Rattle.relation_core.specs.Agreement.{position_of}
 use Rattle.relation_core.specs.Parts.{no_attribute, kind_at}
 use Rattle.relation_core.proofs.HeadingLemmas.{heading_ascends}
 use Rattle.tree_core.specs.Items.{PlainItemForm, set_to, insert, delete, delete_rows, update, terminate, PlainItem, PlainAssignment}
-use Rattle.tree_core.specs.Relvars.{PlainRelvar, base, view, State, relvar_named, heading_if, constraints_if, rule_among, history_if}
+use Rattle.tree_core.specs.Relvars.{PlainRelvar, base, view, State, relvar_named, heading_if, constraints_if, rule_among, history_if, log}
 use Rattle.tree_core.specs.Trees.{Tree, named, restrict}
 use Rattle.meaning_core.specs.Endings.{rule_if}
 use Rattle.meaning_core.specs.Histories.{joined_history, last_point, type_at, name_at}
@@ -128,6 +128,7 @@ module _ (s : State) (made : IsWellMade s) where
       → All (IsTypedAssignment s) (ended_in s.relvars place at (rule_if s.relvars (history_if o)) (history_if o) e c)
   of-target place at e c name None f is = absurd is
   of-target place at e c name (Some (base value list)) f is = absurd is
+  of-target place at e c name (Some (log of side value)) f is = absurd is
   of-target place at e c name (Some (view t None)) f is = absurd is
   of-target place at e c name (Some (view t (Some names))) f is =
       let m = made-in sizes [] s.relvars name (view t (Some names)) made.relvars f in

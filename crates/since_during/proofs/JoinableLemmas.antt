@@ -11,7 +11,7 @@ use Rattle.value_core.specs.declared.kind.Kind.TheVariants.{Span}
 use Rattle.value_core.specs.Limits.{most_attributes}
 use Rattle.value_core.specs.Values.{Name}
 use Rattle.relation_core.proofs.HeadingLemmas.{few_attributes}
-use Rattle.tree_core.specs.Relvars.{PlainRelvar, base, view, Entries, State, relvar_named, heading_if, constraints_if, rule_among, history_if}
+use Rattle.tree_core.specs.Relvars.{PlainRelvar, base, view, Entries, State, relvar_named, heading_if, constraints_if, rule_among, history_if, log}
 use Rattle.tree_core.specs.Trees.{Tree}
 use Rattle.meaning_core.specs.Endings.{history_of, rule_if}
 use Rattle.meaning_core.specs.Histories.{with_attribute, type_at, name_at}
@@ -89,6 +89,7 @@ module _ (s : State) (made : IsWellMade s) where
       → Points (relvar_named s.relvars rule.since) o rule
   points name rule None e is r = absurd is
   points name rule (Some (view t history)) e is r = absurd is
+  points name rule (Some (log of side value)) e is r = absurd is
   points name rule (Some (base value list)) e is r =
       let m = made-in (sizes_of s.ordinals) [] s.relvars name (base value list) made.relvars e in
       let fits = rule-in (IsConstraint m.prefix m.own (base value list)) list rule m.made.1 r in
@@ -124,6 +125,7 @@ module _ (s : State) (made : IsWellMade s) where
   of-relvar name None e = tt
   of-relvar name (Some (base value list)) e = tt
   of-relvar name (Some (view t None)) e = tt
+  of-relvar name (Some (log of side value)) e = tt
   of-relvar name (Some (view t (Some names))) e = of-view names t (made-in (sizes_of s.ordinals) [] s.relvars name (view t (Some names)) made.relvars e)
 
   pub joinable : (name : Name) → AreJoinable s.relvars (history_of s.relvars name)

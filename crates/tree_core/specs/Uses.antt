@@ -8,7 +8,7 @@ use Rattle.std.specs.Str.{bytes_eq}
 use Rattle.value_core.specs.declared.constraint.Constraint.{Constraint}
 use Rattle.value_core.specs.declared.constraint.Constraint.TheVariants.{Key, Packed, WhenUnpacked, UKey, Foreign, History}
 use Rattle.value_core.specs.Values.{Name}
-use Rattle.tree_core.specs.Relvars.{PlainRelvar, base, view}
+use Rattle.tree_core.specs.Relvars.{PlainRelvar, base, view, log}
 use Rattle.tree_core.specs.Trees.{Tree, Test, named, literal, infix_of, project, rename, restrict, extend, summarize, pack, unpack, using, relate, is_empty, is_not_empty}
 
 abbrev pub is_one_of : List Name → Name → Bool
@@ -44,7 +44,8 @@ module _ (some : Name → Bool) where
   references_any (Foreign commalist k other there) = some other
   references_any (History rule) = some rule.since
 
-  -- whether a relvar's constraint or a view's expression does
+  -- whether a relvar's constraint or a view's expression does, or a log is such a relvar's
   abbrev pub relvar_names_any : PlainRelvar → Bool
   relvar_names_any (base value constraints) = list_any references_any constraints
   relvar_names_any (view t history) = names_any t
+  relvar_names_any (log of side value) = some of

@@ -34,6 +34,7 @@ pub fn rule_if<'a>(relvar: Option<&'a Relvar>) -> Option<&'a HistoryRule>
                 history: _,
             },
         ) => None,
+        Some(Relvar::Log { of: _, log: _ }) => None,
         None => None,
     }
 }
@@ -50,6 +51,7 @@ pub fn history_if<'a>(relvar: Option<&'a Relvar>) -> Option<&'a (Name, Name)>
                 constraints: _,
             },
         ) => None,
+        Some(Relvar::Log { of: _, log: _ }) => None,
         None => None,
     }
 }

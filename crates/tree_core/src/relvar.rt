@@ -5,10 +5,11 @@ ghost use Rattle.tree_core.specs.Relvars.{read_relvar, read_relvars, relvar_head
 use crate::test::RelTest;
 use crate::tree::RelTree;
 use indexmap::IndexMap;
+use log_times::Log;
 use value_core::{Constraints, Heading, Name, OrdinalTypes, Relation};
 
-/// A base relvar with its value and its constraints, or a view with its expression. The view of a history has the names of
-/// its since relvar and its during relvar.
+/// A base relvar with its value and its constraints, a view with its expression, or the log of a base relvar. The view of a history has
+/// the names of its since relvar and its during relvar.
 #[derive(Drop)]
 pub enum Relvar {
     Base {
@@ -19,10 +20,14 @@ pub enum Relvar {
         tree: RelTree,
         history: Option<(Name, Name)>,
     },
+    Log {
+        of: Name,
+        log: Log,
+    },
 }
 
 impl Relvar {
-    /// The heading of a base relvar's value, or of a view's expression.
+    /// The heading of a base relvar's value, of a view's expression, or of a log.
     pub fn heading(&self) -> &Heading
         ensures { result.now ≡ relvar_heading (read_relvar self.now) }
     {
@@ -32,21 +37,23 @@ impl Relvar {
                 constraints: _,
             } => value.heading(),
             Relvar::View { tree, history: _ } => &tree.heading,
+            Relvar::Log { of: _, log } => log.heading(),
         }
     }
 }
 
-/// The relvars and views by their names, the declared ordinal types, and the database constraints, which are rules over several
-/// relvars, by theirs; each in the order of declaration.
+/// The relvars, views and logs by their names, the declared ordinal types, and the database constraints, which are rules over several
+/// relvars, by theirs; each in the order of declaration; and how many statements were accepted.
 #[derive(Drop)]
 pub struct Relvars {
     pub list: IndexMap<Name, Relvar>,
     pub ordinals: OrdinalTypes,
     pub rules: IndexMap<Name, RelTest>,
+    pub accepted: i64,
 }
 
 impl Relvars {
-    /// The relvar or view of the name.
+    /// The relvar, view or log of the name.
     pub fn named(&self, name: &Name) -> Option<&Relvar>
         ensures { option_map (λ r. read_relvar r.now) result ≡ relvar_named (read_relvars self.now).relvars name.now }
     {

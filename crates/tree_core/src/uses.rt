@@ -75,7 +75,7 @@ fn any_references(constraints: &[Constraint], names: &[&Name]) -> bool
     false
 }
 
-/// Whether a relvar's constraint or a view's expression names one of these relvars and views.
+/// Whether a relvar's constraint or a view's expression names one of these relvars and views, or a log is that of one of them.
 pub fn relvar_names_any(relvar: &Relvar, names: &[&Name]) -> bool
     ensures { result ≡ uses.relvar_names_any (uses.is_one_of (map (λ n. n.now) names.now)) (read_relvar relvar.now) }
 {
@@ -85,5 +85,6 @@ pub fn relvar_names_any(relvar: &Relvar, names: &[&Name]) -> bool
             constraints,
         } => any_references(constraints.list.as_slice(), names),
         Relvar::View { tree, history: _ } => names_any(tree, names),
+        Relvar::Log { of, log: _ } => is_one_of(of, names),
     }
 }

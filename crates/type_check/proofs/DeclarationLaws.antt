@@ -13,7 +13,7 @@ use Rattle.value_core.specs.Limits.{most_attributes, most_nodes, most_ordinal_ty
 use Rattle.value_core.specs.Values.{Name, Heading}
 use Rattle.relation_core.specs.Agreement.{position_of}
 use Rattle.scalar_core.specs.KindOf.{same_kind}
-use Rattle.tree_core.specs.Relvars.{State, PlainRelvar, base, view, relvar_named}
+use Rattle.tree_core.specs.Relvars.{State, PlainRelvar, base, view, relvar_named, log}
 use Rattle.tree_core.specs.Trees.{Tree, Test}
 use Rattle.tree_core.specs.Uses.{is_one_of}
 use Rattle.meaning_core.specs.Declarations.{group}
@@ -75,6 +75,7 @@ base-heading-fine : (at : Place) (o : Option PlainRelvar) → IsNotE06 (base_hea
 base-heading-fine at None = λ e. cc
 base-heading-fine at (Some (base value constraints)) = tt
 base-heading-fine at (Some (view t history)) = λ e. cc
+base-heading-fine at (Some (log o k w)) = λ e. cc
 
 heading-there-fine : (s : State) (own : Name) (heading : Heading) (at : Place) (name : Name) → IsNotE06 (heading_there s own heading at name)
 heading-there-fine s own heading at name = choice-fine (bytes_eq own name) (Ok heading) (base_heading at (relvar_named s.relvars name)) tt (base-heading-fine at (relvar_named s.relvars name))

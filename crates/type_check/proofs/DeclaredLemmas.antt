@@ -17,7 +17,7 @@ use Rattle.relation_core.specs.Joins.{joined_heading}
 use Rattle.relation_core.specs.Parts.{no_attribute, attributes_at, renamed}
 use Rattle.relation_core.proofs.ApartLemmas.{from_in_order, ascends_in_order}
 use Rattle.relation_core.proofs.HeadingLemmas.{part_ascends, part_is_few, within_by_members}
-use Rattle.tree_core.specs.Relvars.{PlainRelvar, base, view, Entries, State, relvar_heading}
+use Rattle.tree_core.specs.Relvars.{PlainRelvar, base, view, Entries, State, relvar_heading, log}
 use Rattle.tree_core.specs.Trees.{PlainAggregateForm, count_rows, sum_of, min_of, max_of, PlainAggregate, Tree, named, literal, infix_of, project, rename, restrict, extend, summarize, pack, unpack, using, heading_of}
 use Rattle.tree_core.specs.declared.tree.InfixWord.{InfixWord}
 use Rattle.tree_core.specs.declared.tree.InfixWord.TheVariants.{Union, Intersect, Minus, Join, Matching, NotMatching}
@@ -149,6 +149,7 @@ module _ (sizes : List ℕ) where
       → IsTrue (is_declared sizes (relvar_heading r))
   relvar-declared before own (base value constraints) all h = h.0
   relvar-declared before own (view t history) all h = tree-declared (headings_of before) t all h.0
+  relvar-declared before own (log of side value) all h = h.0
 
   pub all-append : (p : Name × Heading → Bool) (xs ys : Headings) → IsTrue (list_all p xs) → IsTrue (list_all p ys) → IsTrue (list_all p (xs ++ ys))
   all-append p [] ys h k = k

@@ -16,7 +16,7 @@ use Rattle.scalar_typing.specs.Names.{attribute_of}
 use Rattle.scalar_typing.specs.Scalars.{typed_scalar}
 use Rattle.scalar_typing.specs.Typings.{value_or}
 use Rattle.tree_core.specs.Items.{PlainPortion, PlainItem}
-use Rattle.tree_core.specs.Relvars.{State, PlainRelvar, base, view, relvar_named, history_if}
+use Rattle.tree_core.specs.Relvars.{State, PlainRelvar, base, view, relvar_named, history_if, log}
 use Rattle.tree_core.specs.Trees.{PlainSets, heading_of}
 use Rattle.meaning_core.specs.Endings.{rule_if}
 use Rattle.meaning_core.specs.Meanings.{positions_of}
@@ -46,6 +46,7 @@ use Rattle.type_check.proofs.TreeLaws.{tree-fine}
 base-heading-fine : (place : Place) (r : PlainRelvar) → IsNotE06 (base_heading place r)
 base-heading-fine place (base value constraints) = tt
 base-heading-fine place (view t history) = λ e. cc
+base-heading-fine place (log of side value) = λ e. cc
 
 target-fine : (state : State) (w : Word) → NameIn has_no_value w → IsNotE06 (target_typed state w)
 target-fine state w h =

@@ -24,7 +24,7 @@ use Rattle.relation_typing.specs.Attributes.{name_typed}
 use Rattle.relation_typing.specs.Headings.{same_heading}
 use Rattle.scalar_typing.specs.Typings.{◌>>=◌, value_or}
 use Rattle.scalar_typing.proofs.SoundLemmas.{then-sound, any-given}
-use Rattle.tree_core.specs.Relvars.{PlainRelvar, base, view, State, relvar_named, relvar_heading, heading_if}
+use Rattle.tree_core.specs.Relvars.{PlainRelvar, base, view, State, relvar_named, relvar_heading, heading_if, log}
 use Rattle.tree_core.specs.Trees.{PlainSets, named, heading_of}
 use Rattle.tree_core.specs.Items.{PlainPortion, PlainItemForm, update, PlainItem}
 use Rattle.meaning_core.specs.Meanings.{positions_of}
@@ -110,6 +110,7 @@ module _ (state : State) (made : IsWellMade state) where
       by-name name None e = tt
       by-name name (Some (base value constraints)) e = (subst IsBase (sym e) tt, sym (ap heading_if e))
       by-name name (Some (view t history)) e = tt
+      by-name name (Some (log o k w)) e = tt
 
   -- its heading is one
   target-heading : (place : Place) (t : Target) → IsTarget state t → IsTrue (is_heading t.1)

@@ -67,7 +67,7 @@ giving f typed = do
   x ← typed
   Ok (f x)
 
--- a kept view and a log are read and not yet performed: each is refused at the token behind which no other form goes on
+-- a kept view and a log are read but cannot be performed: the one is refused at KEPT, the other at its name
 abbrev pub checked_var : State → Word → VarFormP → OrFault Plain
 checked_var state w (syntax.BaseRelvar at heading constraints) = giving declare_base (relvar_declared state w heading constraints)
 checked_var state w (syntax.View at rel) = giving declare_view (view_declared state w rel)

@@ -20,7 +20,7 @@ use Rattle.value_core.specs.Values.{Name, Heading}
 use Rattle.scalar_core.specs.KindOf.{same_kind}
 use Rattle.relation_core.specs.Agreement.{position_of}
 use Rattle.relation_typing.specs.Attributes.{name_typed}
-use Rattle.tree_core.specs.Relvars.{State, PlainRelvar, base, view, relvar_named}
+use Rattle.tree_core.specs.Relvars.{State, PlainRelvar, base, view, relvar_named, log}
 use Rattle.node_typing.specs.Lists.{kind_named, list_checked}
 use Rattle.node_typing.specs.Positions.{check, position_typed}
 use Rattle.declaration_typing.specs.Constraints.{names_typed, key_words, base_heading, heading_there, position_there, positions_there, reference_typed, foreign_typed, key_typed, list_typed, kept_by, listed_key, packed_typed, unpacked_typed, used_key_typed, used_foreign_typed, used_typed, constraint_typed, constraints_typed, refused_at, few_constraints}
@@ -95,7 +95,9 @@ base-elsewhere at to (Some (base v c)) (Some (base u d)) g like h =
     let same : base_heading to (Some (base u d)) ≡ Ok v.heading = ap (λ (x : Heading). Ok x) like.0 in
     same ∙ h
 base-elsewhere at to (Some (base v c)) (Some (view t k)) g like h = absurd like
+base-elsewhere at to (Some (base v c)) (Some (log o i w)) g like h = absurd like
 base-elsewhere at to (Some (view t k)) p g like h = absurd cc
+base-elsewhere at to (Some (log o i w)) p g like h = absurd cc
 
 module _ (f : Place → Place) (some : Name → Bool) (s r : State) (alike : Alike some s.relvars r.relvars) (own : Name) (heading : Heading) where
   there-elsewhere : (at : Place) (name : Name) (g : Heading) → names_other some own name ≡ false → heading_there s own heading at name ≡ Ok g → heading_there r own heading (f at) name ≡ Ok g

@@ -67,16 +67,16 @@ module _ (s : State) where
   no-rules = sym (append-nil s.rules)
 
   pub with-ordinal : (name : Name) (names : List Name) → with_declaration s (ordinal_type name names) ≡ with_said s (said_ordinal name names)
-  with-ordinal name names = λ i. record { ordinals = s.ordinals ++ record { name = name; values = names } ∷ []; relvars = no-relvars i; rules = no-rules i }
+  with-ordinal name names = λ i. record { ordinals = s.ordinals ++ record { name = name; values = names } ∷ []; relvars = no-relvars i; rules = no-rules i; accepted = s.accepted }
 
   pub with-base : (name : Name) (heading : Heading) (typed : List Constraint) → with_declaration s (base_relvar name heading typed) ≡ with_said s (said_base name heading typed)
-  with-base name heading typed = λ i. record { ordinals = no-ordinals i; relvars = s.relvars ++ entries_said (said_base name heading typed); rules = no-rules i }
+  with-base name heading typed = λ i. record { ordinals = no-ordinals i; relvars = s.relvars ++ entries_said (said_base name heading typed); rules = no-rules i; accepted = s.accepted }
 
   pub with-view : (name : Name) (t : Tree) → with_declaration s (view_relvar name t None) ≡ with_said s (said_view name t)
-  with-view name t = λ i. record { ordinals = no-ordinals i; relvars = s.relvars ++ entries_said (said_view name t); rules = no-rules i }
+  with-view name t = λ i. record { ordinals = no-ordinals i; relvars = s.relvars ++ entries_said (said_view name t); rules = no-rules i; accepted = s.accepted }
 
   pub with-said-rule : (name : Name) (t : Test) → with_rule name t s ≡ with_said s (said_rule name t)
-  with-said-rule name t = λ i. record { ordinals = no-ordinals i; relvars = no-relvars i; rules = s.rules ++ (name, t) ∷ [] }
+  with-said-rule name t = λ i. record { ordinals = no-ordinals i; relvars = no-relvars i; rules = s.rules ++ (name, t) ∷ []; accepted = s.accepted }
 
   three-behind : (es : Entries) (a b c : Name × PlainRelvar) → ((es ++ a ∷ []) ++ b ∷ []) ++ c ∷ [] ≡ es ++ a ∷ b ∷ c ∷ []
   three-behind es a b c = ap (λ (l : Entries). l ++ c ∷ []) (append_assoc es (a ∷ []) (b ∷ [])) ∙ append_assoc es (a ∷ b ∷ []) (c ∷ [])
@@ -86,4 +86,4 @@ module _ (s : State) where
       let since : Name × PlainRelvar = (made.since, base (record { heading = since_heading made; rows = [] }) (since_constraints made)) in
       let during : Name × PlainRelvar = (made.during, base (record { heading = during_heading made; rows = [] }) (during_constraints made)) in
       let both : Name × PlainRelvar = (made.view, view (view_of made) (Some (made.since, made.during))) in
-      λ i. record { ordinals = no-ordinals i; relvars = three-behind s.relvars since during both i; rules = no-rules i }
+      λ i. record { ordinals = no-ordinals i; relvars = three-behind s.relvars since during both i; rules = no-rules i; accepted = s.accepted }

@@ -217,4 +217,4 @@ rules_said (said_rule name t) = (name, t) ∷ []
 
 -- the state with what is said
 abbrev pub with_said : State → Said → State
-with_said s d = record { ordinals = s.ordinals ++ ordinals_said d; relvars = s.relvars ++ entries_said d; rules = s.rules ++ rules_said d }
+with_said s d = record { ordinals = s.ordinals ++ ordinals_said d; relvars = s.relvars ++ entries_said d; rules = s.rules ++ rules_said d; accepted = s.accepted }

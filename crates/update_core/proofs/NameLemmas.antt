@@ -10,7 +10,7 @@ use Rattle.value_core.specs.Headings.{has_name}
 use Rattle.value_core.specs.Values.{Name, Heading, attribute_cmp}
 use Rattle.value_core.specs.declared.kind.Kind.{Kind}
 use Rattle.relation_core.specs.Agreement.{position_of}
-use Rattle.tree_core.specs.Relvars.{PlainRelvar, base, view, Entries, relvar_named, relvar_heading, heading_if}
+use Rattle.tree_core.specs.Relvars.{PlainRelvar, base, view, Entries, relvar_named, relvar_heading, heading_if, log}
 use Rattle.meaning_core.specs.Histories.{name_at}
 use Rattle.meaning_core.specs.Names.{found, each_in}
 use Rattle.meaning_core.specs.Names.{IsFirstAt}
@@ -41,6 +41,11 @@ base-declared sizes before ((own, view t history) ∷ rest) name are =
     elim (bytes_eq own name) as (λ b. IsBase (cond b (Some (view t history)) (relvar_named rest name)) → IsTrue (is_declared sizes (heading_if (cond b (Some (view t history)) (relvar_named rest name))))) [
       | true ↦ λ is. absurd is
       | false ↦ base-declared sizes (before ++ (own, view t history) ∷ []) rest name are.1
+    ]
+base-declared sizes before ((own, log of side value) ∷ rest) name are =
+    elim (bytes_eq own name) as (λ b. IsBase (cond b (Some (log of side value)) (relvar_named rest name)) → IsTrue (is_declared sizes (heading_if (cond b (Some (log of side value)) (relvar_named rest name))))) [
+      | true ↦ λ is. absurd is
+      | false ↦ base-declared sizes (before ++ (own, log of side value) ∷ []) rest name are.1
     ]
 
 -- ---- headings
