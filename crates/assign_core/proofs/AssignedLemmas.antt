@@ -16,7 +16,7 @@ use Rattle.value_core.specs.Values.{Relation}
 use Rattle.scalar_core.specs.Answers.{Gives}
 use Rattle.tree_core.specs.declared.declaration.Assignment.{Assignment}
 use Rattle.tree_core.specs.Items.{PlainAssignment, read_assignment}
-use Rattle.tree_core.specs.Relvars.{State, PlainRelvar, base, view, Entries}
+use Rattle.tree_core.specs.Relvars.{State, PlainRelvar, base, view, Entries, log}
 use Rattle.assign_core.specs.Assignments.{evaluated, unless_broken, kept_or_refused, of_values, after_assignments, IsRefusedFor}
 use Rattle.assign_core.specs.Breaches.{rows_of_all, first_broken, first_rule_broken}
 use Rattle.assign_core.specs.Changes.{Changes, AreChanges, changed}
@@ -75,6 +75,7 @@ each_checked all value own (c ∷ cs) fit =
 relvar_checked : (all : Entries) (r : PlainRelvar) → AreFitting all r (constraints_of r) → AreChecked all r
 relvar_checked all (base value constraints) fit = each_checked all value constraints constraints fit
 relvar_checked all (view t history) fit = tt
+relvar_checked all (log of side w) fit = tt
 
 all_checked : (all es : Entries) → AllFit all es → AllChecked all es
 all_checked all [] fit = tt

@@ -8,7 +8,7 @@ use Rattle.value_core.specs.declared.constraint.Constraint.TheVariants.{Key, Pac
 use Rattle.value_core.specs.declared.refuse.Refuse.{Refuse}
 use Rattle.value_core.specs.declared.refuse.Refuse.TheVariants.{Plain, At, Broken, Memory}
 use Rattle.value_core.specs.Values.{Name, Row, Relation}
-use Rattle.tree_core.specs.Relvars.{PlainRelvar, base, view, Entries, relvar_named, heading_if}
+use Rattle.tree_core.specs.Relvars.{PlainRelvar, base, view, Entries, relvar_named, heading_if, log}
 use Rattle.meaning_core.specs.WellMade.{IsBase}
 use Rattle.u_constraints.specs.Constraints.{broken, names_relvar, heading_or_none, IsNamed}
 use Rattle.assign_core.specs.Breaches.{value_if, value_at, rows_named, or_later, breach, first_of, first_in, first_among}
@@ -22,6 +22,7 @@ named_base : (o : Option PlainRelvar) → IsBase o → heading_or_none (value_if
 named_base None h = absurd h
 named_base (Some (base value constraints)) h = refl
 named_base (Some (view t history)) h = absurd h
+named_base (Some (log of side w)) h = absurd h
 
 pub heading_named : (all : Entries) (n : Option Name) (other : Option Relation) → other ≡ value_at all n → NamesBase all n → heading_at all n ≡ heading_or_none other
 heading_named all None other e h = sym (ap heading_or_none e)
@@ -31,6 +32,7 @@ some_base : (c : Constraint) (o : Option PlainRelvar) → IsBase o → ((v : Rel
 some_base c None h f = absurd h
 some_base c (Some (base value constraints)) h f = f value
 some_base c (Some (view t history)) h f = absurd h
+some_base c (Some (log of side w)) h f = absurd h
 
 pub is_named : (all : Entries) (c : Constraint) (other : Option Relation) → other ≡ value_at all (names_relvar c) → NamesBase all (names_relvar c) → IsNamed c other
 is_named all (Key k) other e h = tt

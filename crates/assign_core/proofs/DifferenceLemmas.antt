@@ -16,7 +16,7 @@ use Rattle.value_core.specs.Order.{row_total, row_separates}
 use Rattle.relation_core.specs.Operators.{subtracted, united}
 use Rattle.relation_core.proofs.FilterLemmas.{take_all}
 use Rattle.tree_core.specs.declared.relvar.Relvar.{Relvar}
-use Rattle.tree_core.specs.Relvars.{PlainRelvar, base, view, Entries, read_entry, read_relvar}
+use Rattle.tree_core.specs.Relvars.{PlainRelvar, base, view, Entries, read_entry, read_relvar, log}
 use Rattle.meaning_core.specs.Names.{IsFirstAt}
 use Rattle.meaning_core.proofs.MadeLemmas.{own_name}
 use Rattle.u_constraints.specs.Growth.{exchanged}
@@ -131,6 +131,7 @@ is_only a o r d l alone new there is = by (read_relvar r) refl is
           placed = is_placed a.changes.now a.relvars.now.list.entries o.at o cs d r l new there (q ∙ ap (λ (w : Relation). base w cs) same);
         }
     by (view t h) q f = absurd (cc)
+    by (log of side w) q f = absurd (cc)
 
 pub only_found : (a : After) (result : Option Only) (i : ℕ) (n : Name) (r : Relvar) (d : Option Relation) → i < length a.changes.now → IsOnlyAt i a.changes.now
     → slice_get a.relvars.now.list.entries i ≡ Some (n, r) → IfSome result (λ o. HasBoth o i n (read_relvar r) (slice_index_or a.changes.now i d)) → IfSome result (IsOnly a)

@@ -26,7 +26,7 @@ use Rattle.relation_core.proofs.FilterLemmas.{passes_at}
 use Rattle.u_constraints.specs.Growth.{exchanged}
 use Rattle.relation_core.specs.Hashes.{HashList, AreHashesOf, hash_of}
 use Rattle.tree_core.specs.declared.relvar.Relvar.{Relvar}
-use Rattle.tree_core.specs.Relvars.{PlainRelvar, base, view, Entries, read_entry, read_relvar}
+use Rattle.tree_core.specs.Relvars.{PlainRelvar, base, view, Entries, read_entry, read_relvar, log}
 use Rattle.meaning_core.specs.Names.{IsFirstAt}
 use Rattle.assign_core.specs.declared.hashed.Hashed.{Hashed}
 use Rattle.assign_core.specs.declared.hashed.HashedRelvar.{HashedRelvar}
@@ -114,6 +114,7 @@ rows_long r rows heading is same headed i d l =
 none_in : (r : PlainRelvar) → AreHashesIn [] r
 none_in (base value constraints) = All-nil (IsHashesOf value.heading value.rows)
 none_in (view t history) = tt
+none_in (log of side w) = tt
 
 pub none_hashed : (i : ℕ) (es : Entries) → AreHashesAt i [] es
 none_hashed i [] = tt

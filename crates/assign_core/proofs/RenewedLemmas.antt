@@ -8,7 +8,7 @@ use Rattle.value_core.specs.declared.refuse.Refuse.{Refuse}
 use Rattle.value_core.specs.Values.{Name, Relation}
 use Rattle.relation_core.proofs.FilterLemmas.{ended, head_of}
 use Rattle.tree_core.specs.Items.{PlainAssignment}
-use Rattle.tree_core.specs.Relvars.{State, PlainRelvar, base, view, Entries}
+use Rattle.tree_core.specs.Relvars.{State, PlainRelvar, base, view, Entries, log}
 use Rattle.meaning_core.specs.Names.{with_value}
 use Rattle.meaning_core.specs.WellMade.{IsWellMade}
 use Rattle.meaning_core.proofs.RowlessLemmas.{bare, bare_all, bare-keeps, bare-with_value}
@@ -28,8 +28,10 @@ use Rattle.assign_core.proofs.ExchangeLemmas.{so_exchanged}
 bare_change : (c : Change) (r : PlainRelvar) → MayTurn c r → bare (turned c r) ≡ bare r
 bare_change (Value at value) (base old constraints) h = bare-with_value value (base old constraints) h
 bare_change (Value at value) (view t history) h = absurd h
+bare_change (Value at value) (log of side w) h = absurd h
 bare_change (Rows at rows) (base old constraints) h = refl
 bare_change (Rows at rows) (view t history) h = absurd h
+bare_change (Rows at rows) (log of side w) h = absurd h
 
 bare_turned : (es : Entries) (i : ℕ) (c : Change) → IsSoAt i (MayTurn c) es → bare_all (turned_at i (turned c) es) ≡ bare_all es
 bare_turned [] i c h = absurd h

@@ -12,7 +12,7 @@ use Rattle.scalar_core.specs.Answers.{Gives}
 use Rattle.tree_core.specs.declared.declaration.Assignment.{Assignment}
 use Rattle.tree_core.specs.declared.tree.RelTree.{RelTree}
 use Rattle.tree_core.specs.Items.{PlainAssignment, read_assignment}
-use Rattle.tree_core.specs.Relvars.{PlainRelvar, base, view, Entries, relvar_named}
+use Rattle.tree_core.specs.Relvars.{PlainRelvar, base, view, Entries, relvar_named, log}
 use Rattle.tree_core.specs.Trees.{heading_of, read_tree}
 use Rattle.meaning_core.specs.Meanings.{meaning_in}
 use Rattle.meaning_core.specs.Names.{given}
@@ -34,6 +34,7 @@ newest_given old new name value e is = by (relvar_named new name) refl is
         let same : value ≡ v = cc in
         subst (λ (z : Relation). IsGiven old (Some name) (Some z)) (sym same) (is_given-keeps old new (sym e) (Some name) (Some v) (own-given new name v cs q))
     by (Some (view t h)) q f = absurd (cc)
+    by (Some (log of side w)) q f = absurd (cc)
 
 -- what a source sees is what it is given: its own newest value, or nothing where there is none
 pub seen_newest : (old new : Entries) (name : Name) (value : Relation) → Some value ≡ value_if (relvar_named new name) → given (Some name) (Some value) old ≡ seen_by old new name

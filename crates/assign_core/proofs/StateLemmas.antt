@@ -1,40 +1,37 @@
 -- States as relvars are read after a change.
 --     changed_state      where the relvars are others and all else stays
 --     state_back      where an exchange of values is taken back
---     rule_appended, rule_removed, group_removed      with one database constraint more or less, and without relvars
-use Rattle.std.proofs.Common.{◌≡◌, List, [], ◌∷◌, ◌++◌, map, not, filter, sym, ap, subst, ◌∙◌, Option, Some, None}
+--     counted_kept      with one accepted statement more
+--     rule_removed, alone_removed, all_removed      with one database constraint less, and without relvars
+use Rattle.std.proofs.Common.{◌≡◌, ℤ, List, [], ◌∷◌, map, not, filter, sym, ap, subst, ◌∙◌, Option, Some, None}
 use Rattle.std.specs.Prelude.{option_map}
 use Rattle.std.specs.List.{IsDistinct}
 use Rattle.std.specs.Map.{keys_of, lookup}
 use Rattle.std.specs.Str.{bytes_eq}
-use Rattle.std.proofs.lemmas.List.{map-append}
 use Rattle.indexmap.specs.IndexMap.{shift_remove_entry}
 use Rattle.value_core.specs.Values.{Name}
 use Rattle.tree_core.specs.declared.relvar.Relvar.{Relvar}
 use Rattle.tree_core.specs.declared.relvar.Relvars.{Relvars}
 use Rattle.tree_core.specs.declared.test.RelTest.{RelTest}
-use Rattle.tree_core.specs.Relvars.{Entries, read_entry, read_relvar, read_relvars, read_rule, relvar_named, history_if}
+use Rattle.tree_core.specs.Relvars.{State, Entries, read_entry, read_relvar, read_relvars, read_rule, relvar_named, history_if}
 use Rattle.tree_core.specs.Trees.{read_test}
 use Rattle.tree_core.specs.Uses.{is_one_of}
 use Rattle.tree_core.proofs.NameLemmas.{looked-up}
-use Rattle.meaning_core.specs.Declarations.{with_history, with_rule}
+use Rattle.meaning_core.specs.Declarations.{with_history}
+use Rattle.meaning_core.proofs.AcceptedLemmas.{made-counted}
+use Rattle.assign_core.specs.Databases.{IsKept}
 use Rattle.assign_core.specs.Exchanges.{exchanged_by, replaced, ArePrepared, AreValues}
 use Rattle.assign_core.specs.declared.exchange.Change.{Change}
 use Rattle.assign_core.proofs.ExchangeLemmas.{prepared_back, taken_back, values_back}
 use Rattle.assign_core.proofs.NameLemmas.{apart_from, distinct_apart, filter_read, one_removed, shift_apart, three_removed}
 
 pub changed_state : (old new : Relvars) (es : Entries) → map read_entry new.list.entries ≡ es → new.ordinals ≡ old.ordinals → new.rules ≡ old.rules
-    → read_relvars new ≡ record (read_relvars old) { relvars = es }
-changed_state old new es list ordinals rules = λ i. record { ordinals = ordinals i; relvars = list i; rules = map read_rule (rules i).entries }
+    → new.accepted ≡ old.accepted → read_relvars new ≡ record (read_relvars old) { relvars = es }
+changed_state old new es list ordinals rules accepted = λ i. record { ordinals = ordinals i; relvars = list i; rules = map read_rule (rules i).entries; accepted = accepted i }
 
-pub rule_appended : (old new : Relvars) (name : Name) (test : RelTest) → new.list ≡ old.list → new.ordinals ≡ old.ordinals
-    → new.rules.entries ≡ old.rules.entries ++ (name, test) ∷ [] → read_relvars new ≡ with_rule name (read_test test) (read_relvars old)
-rule_appended old new name test list ordinals rules =
-    let more = ap (map read_rule) rules ∙ map-append read_rule old.rules.entries ((name, test) ∷ []) in
-    λ i. record { ordinals = ordinals i; relvars = map read_entry (list i).entries; rules = more i }
-
-pub rules_stay : (old new : Relvars) → new.list ≡ old.list → new.ordinals ≡ old.ordinals → new.rules.entries ≡ old.rules.entries → read_relvars new ≡ read_relvars old
-rules_stay old new list ordinals rules = λ i. record { ordinals = ordinals i; relvars = map read_entry (list i).entries; rules = map read_rule (rules i) }
+-- a statement that is counted changes nothing else
+pub counted_kept : (s : State) (n : ℤ) → IsKept s → IsKept (record s { accepted = n })
+counted_kept s n kept = record { well_made = made-counted s n kept.well_made; holds = kept.holds; few = kept.few; rules = kept.rules }
 
 pub rule_removed : (rs left : List (Name × RelTest)) (name : Name) → IsDistinct bytes_eq (keys_of rs) → left ≡ shift_remove_entry (bytes_eq name) rs
     → map read_rule left ≡ filter (λ r. not (bytes_eq r.0 name)) (map read_rule rs)
@@ -76,11 +73,12 @@ history_found es name out e = ap history_if (ap (option_map read_relvar) e ∙ l
 pub state_back : (old mid new : Relvars) (cs ds : List Change) → ArePrepared cs (map read_entry old.list.entries) → AreValues cs
     → map read_entry mid.list.entries ≡ exchanged_by cs (map read_entry old.list.entries) → ds ≡ map (replaced (map read_entry old.list.entries)) cs
     → map read_entry new.list.entries ≡ exchanged_by ds (map read_entry mid.list.entries)
-    → mid.ordinals ≡ old.ordinals → mid.rules ≡ old.rules → new.ordinals ≡ mid.ordinals → new.rules ≡ mid.rules → read_relvars new ≡ read_relvars old
-state_back old mid new cs ds prepared are first back second ordinals rules ordinals_too rules_too =
+    → mid.ordinals ≡ old.ordinals → mid.rules ≡ old.rules → mid.accepted ≡ old.accepted → new.ordinals ≡ mid.ordinals → new.rules ≡ mid.rules → new.accepted ≡ mid.accepted
+    → read_relvars new ≡ read_relvars old
+state_back old mid new cs ds prepared are first back second ordinals rules accepted ordinals_too rules_too accepted_too =
     let es = map read_entry old.list.entries in
     let list = second ∙ ((λ i. exchanged_by (back i) (first i)) ∙ taken_back cs es prepared are) in
-    changed_state old new es list (ordinals_too ∙ ordinals) (rules_too ∙ rules)
+    changed_state old new es list (ordinals_too ∙ ordinals) (rules_too ∙ rules) (accepted_too ∙ accepted)
 
 -- what is left by the first one
 pub values_left : (es fs : Entries) (cs ds : List Change) → ArePrepared cs es → AreValues cs → fs ≡ exchanged_by cs es → ds ≡ map (replaced es) cs → AreValues ds × ArePrepared ds fs

@@ -6,7 +6,7 @@ use Rattle.std.specs.Prelude.{◌≡◌, ℕ, zero, suc, List, [], ◌∷◌, Op
 use Rattle.value_core.specs.declared.refuse.Refuse.{Refuse}
 use Rattle.value_core.specs.declared.refuse.Refuse.TheVariants.{Plain, At, Broken, Memory}
 use Rattle.value_core.specs.Values.{Relation}
-use Rattle.tree_core.specs.Relvars.{PlainRelvar, base, view, Entries}
+use Rattle.tree_core.specs.Relvars.{PlainRelvar, base, view, Entries, log}
 use Rattle.meaning_core.specs.Names.{with_value}
 
 abbrev pub Changes : Type 0
@@ -22,6 +22,7 @@ abbrev pub IsChange : Option Relation → PlainRelvar → Type 0
 IsChange None r = Unit {0}
 IsChange (Some value) (base old constraints) = value.heading ≡ old.heading
 IsChange (Some value) (view t history) = ⊥
+IsChange (Some value) (log of side w) = ⊥
 
 abbrev pub AreChanges : Changes → Entries → Type 0
 AreChanges [] [] = Unit {0}
@@ -51,6 +52,7 @@ Tells (Err Memory) meant = Unit {0}
 abbrev pub value_or : Relation → PlainRelvar → Relation
 value_or other (base value constraints) = value
 value_or other (view t history) = other
+value_or other (log of side w) = other
 
 -- ---- one place
 

@@ -7,7 +7,7 @@ use Rattle.std.specs.List.{All}
 use Rattle.std.specs.Str.{bytes_eq}
 use Rattle.value_core.specs.declared.constraint.Constraint.{Constraint}
 use Rattle.value_core.specs.Values.{Name, Heading, Row, Relation}
-use Rattle.tree_core.specs.Relvars.{PlainRelvar, base, view, Entries, relvar_named, heading_if, read_relvars}
+use Rattle.tree_core.specs.Relvars.{PlainRelvar, base, view, Entries, relvar_named, heading_if, read_relvars, log}
 use Rattle.meaning_core.specs.WellMade.{IsBase, FitsHeadings}
 use Rattle.u_constraints.specs.Constraints.{broken, names_relvar}
 use Rattle.assign_core.specs.Breaches.{rows_named}
@@ -32,6 +32,7 @@ pub record IsChecked (entries : Entries) (heading : Heading) (c : Constraint) : 
 abbrev pub AreChecked : Entries → PlainRelvar → Type 0
 AreChecked entries (base value constraints) = All (IsChecked entries value.heading) constraints
 AreChecked entries (view t history) = Unit {0}
+AreChecked entries (log of side w) = Unit {0}
 
 abbrev pub AllChecked : Entries → Entries → Type 0
 AllChecked entries [] = Unit {0}

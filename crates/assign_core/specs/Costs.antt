@@ -11,7 +11,7 @@ use Rattle.value_core.specs.declared.constraint.Constraint.{Constraint}
 use Rattle.value_core.specs.declared.refuse.Refuse.{Refuse}
 use Rattle.value_core.specs.Values.{Row, Relation}
 use Rattle.tree_core.specs.Items.{PlainAssignment}
-use Rattle.tree_core.specs.Relvars.{PlainRelvar, base, view, Entries, Rules, State}
+use Rattle.tree_core.specs.Relvars.{PlainRelvar, base, view, Entries, Rules, State, log}
 use Rattle.meaning_core.specs.Truths.{holds_in}
 use Rattle.algebra_core.specs.Costs.{cost_in, test_cost}
 use Rattle.u_constraints.specs.Constraints.{broken}
@@ -56,6 +56,7 @@ looked_at entries rows (c ∷ rest) =
 abbrev pub looked_at_in : Entries → PlainRelvar → ℕ
 looked_at_in entries (base value constraints) = looked_at entries value.rows constraints
 looked_at_in entries (view t history) = 0
+looked_at_in entries (log of side w) = 0
 
 -- the steps of the constraints of some relvars, up to and with the first broken one
 abbrev pub looked_at_all : Entries → Entries → ℕ

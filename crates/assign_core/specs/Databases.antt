@@ -2,7 +2,7 @@
 --     IsKept      what the state of a database keeps
 --     IsSettled      the state gets other relvars, unless these break a database constraint
 --     declared      the state with what a list declares
-use Rattle.std.specs.Prelude.{◌≡◌, ◌≤◌, true, List, [], None, Result, Ok, Err, fold}
+use Rattle.std.specs.Prelude.{◌≡◌, pos, ◌≤◌, true, List, [], None, Result, Ok, Err, fold}
 use Rattle.std.specs.List.{All}
 use Rattle.value_core.specs.Limits.{most_rows_in_all}
 use Rattle.value_core.specs.declared.refuse.Refuse.{Refuse}
@@ -15,7 +15,7 @@ use Rattle.assign_core.specs.Changes.{Tells}
 
 -- what a database begins with
 abbrev pub no_relvars : State
-no_relvars = record { ordinals = []; relvars = []; rules = [] }
+no_relvars = record { ordinals = []; relvars = []; rules = []; accepted = pos 0 }
 
 -- the state is well made, each constraint of its relvars and each database constraint holds, and the base relvars have at most 200,000 rows
 -- together

@@ -10,7 +10,7 @@ use Rattle.std.specs.List.{All}
 use Rattle.std.specs.Vec.{vec_len, vec_capacity}
 use Rattle.value_core.specs.Values.{Relation, IsRelation, most_rows}
 use Rattle.relation_core.specs.Operators.{united}
-use Rattle.tree_core.specs.Relvars.{PlainRelvar, base, view, Entries}
+use Rattle.tree_core.specs.Relvars.{PlainRelvar, base, view, Entries, log}
 use Rattle.meaning_core.specs.Names.{with_value}
 use Rattle.change_rows.specs.declared.exchange.Exchange.{Exchange}
 use Rattle.assign_core.specs.declared.exchange.Change.{Change}
@@ -98,6 +98,7 @@ refilled h value = record { heading = value.heading; rows = drop h.empty h.rows.
 abbrev pub refilled_relvar : Held → PlainRelvar → PlainRelvar
 refilled_relvar h (base value constraints) = base (refilled h value) constraints
 refilled_relvar h (view t history) = view t history
+refilled_relvar h (log of side w) = log of side w
 
 -- the rows are those of the relation that is left, with their hashes, and there is room for those that come
 pub record IsHeld (value : Relation) (h : Held) (x : Exchange) : Type 0 where
@@ -110,6 +111,7 @@ pub record IsHeld (value : Relation) (h : Held) (x : Exchange) : Type 0 where
 abbrev pub IsHeldOf : Held → Exchange → PlainRelvar → Type 0
 IsHeldOf h x (base value constraints) = IsHeld value h x
 IsHeldOf h x (view t history) = ⊥
+IsHeldOf h x (log of side w) = ⊥
 
 -- the same for any change: for a new value nothing is held
 abbrev pub filled : Option Held → PlainRelvar → PlainRelvar

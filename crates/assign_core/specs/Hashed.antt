@@ -6,7 +6,7 @@
 use Rattle.std.specs.Prelude.{◌≢◌, ℕ, zero, suc, ◌<◌, List, [], ◌∷◌, length}
 use Rattle.std.specs.List.{All}
 use Rattle.value_core.specs.Values.{Row, Heading}
-use Rattle.tree_core.specs.Relvars.{PlainRelvar, base, view, Entries}
+use Rattle.tree_core.specs.Relvars.{PlainRelvar, base, view, Entries, log}
 use Rattle.relation_core.specs.Hashes.{HashList, AreHashesOf}
 use Rattle.assign_core.specs.declared.hashed.Hashed.{Hashed}
 use Rattle.assign_core.specs.declared.hashed.HashedRelvar.{HashedRelvar}
@@ -20,6 +20,7 @@ pub record IsHashesOf (heading : Heading) (rows : List Row) (m : HashList) : Typ
 abbrev pub AreHashesIn : List HashList → PlainRelvar → Type 0
 AreHashesIn ms (base value constraints) = All (IsHashesOf value.heading value.rows) ms
 AreHashesIn ms (view t history) = Unit {0}
+AreHashesIn ms (log of side w) = Unit {0}
 
 -- of the relvar at the place
 abbrev pub AreHashesAt : ℕ → List HashList → Entries → Type 0

@@ -22,7 +22,7 @@ use Rattle.cell_core.specs.Costs.{bound}
 use Rattle.tree_core.specs.declared.tree.InfixWord.{InfixWord}
 use Rattle.tree_core.specs.declared.tree.InfixWord.TheVariants.{Union}
 use Rattle.tree_core.specs.Items.{PlainAssignment, read_assignment}
-use Rattle.tree_core.specs.Relvars.{PlainRelvar, base, view, Entries}
+use Rattle.tree_core.specs.Relvars.{PlainRelvar, base, view, Entries, log}
 use Rattle.tree_core.specs.Trees.{Tree, named, infix_of, using, read_tree}
 use Rattle.meaning_core.specs.Meanings.{limited}
 use Rattle.meaning_core.specs.Names.{IsFirstAt}
@@ -116,6 +116,7 @@ keeps_packed commalist _ = false
 abbrev pub is_kept_packed : List ℕ → PlainRelvar → Bool
 is_kept_packed commalist (base value constraints) = list_any (keeps_packed commalist) constraints
 is_kept_packed commalist (view t history) = false
+is_kept_packed commalist (log of side w) = false
 
 -- the rows are added under the list, and the target is packed on it
 pub record IsPackedOn (a : Addition) (commalist : List ℕ) : Type 0 where

@@ -5,7 +5,7 @@
 use Rattle.std.specs.Prelude.{◌≡◌, ℕ, suc, Bool, true, false, ◌||◌, List, [], ◌∷◌, ◌++◌, map, nat_eq, if◌then◌else◌}
 use Rattle.std.specs.List.{list_any}
 use Rattle.value_core.specs.Values.{Name}
-use Rattle.tree_core.specs.Relvars.{PlainRelvar, base, view, Entries, Rules}
+use Rattle.tree_core.specs.Relvars.{PlainRelvar, base, view, Entries, Rules, log}
 use Rattle.tree_core.specs.Uses.{is_one_of, names_any, test_names_any}
 use Rattle.meaning_core.specs.Truths.{holds_in}
 use Rattle.assign_core.specs.Exchanges.{place_of}
@@ -23,6 +23,7 @@ is_ready_at r i = list_any (λ c. nat_eq (place_of c) i) r.changes.items
 abbrev pub is_view_of : List Name → PlainRelvar → Bool
 is_view_of names (base value constraints) = false
 is_view_of names (view t history) = names_any (is_one_of names) t
+is_view_of names (log of side w) = false
 
 -- whether the relvar at the place has something ready, or is a view of affected ones
 abbrev pub is_affected : Ready → ℕ → List Name → PlainRelvar → Bool

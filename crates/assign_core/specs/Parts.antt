@@ -8,9 +8,10 @@ use Rattle.tree_core.specs.declared.relvar.Relvars.{Relvars}
 abbrev pub names_in : Entries → List Name
 names_in entries = map (λ r. r.0) entries
 
--- the later relvars and types begin with the earlier ones, and the database constraints are the same
+-- the later relvars and types begin with the earlier ones, and the database constraints and the count of accepted statements are the same
 abbrev pub Begins : Relvars → Relvars → Type 0
 Begins earlier later =
     (take (length earlier.list.entries) later.list.entries ≡ earlier.list.entries)
     × (take (length earlier.ordinals) later.ordinals ≡ earlier.ordinals)
     × (later.rules ≡ earlier.rules)
+    × (later.accepted ≡ earlier.accepted)

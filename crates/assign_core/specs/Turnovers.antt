@@ -11,7 +11,7 @@ use Rattle.value_core.specs.declared.constraint.Constraint.{Constraint}
 use Rattle.value_core.specs.Values.{Name, Row, Relation, most_rows}
 use Rattle.relation_core.specs.Operators.{united}
 use Rattle.relation_core.specs.Hashes.{AreHashesOf}
-use Rattle.tree_core.specs.Relvars.{PlainRelvar, base, view, Entries, read_relvars}
+use Rattle.tree_core.specs.Relvars.{PlainRelvar, base, view, Entries, read_relvars, log}
 use Rattle.meaning_core.specs.Names.{IsFirstAt}
 use Rattle.u_constraints.specs.Growth.{exchanged}
 use Rattle.change_rows.specs.declared.exchange.Exchange.{Exchange}
@@ -26,6 +26,7 @@ renewed value x = record { heading = value.heading; rows = exchanged value.rows 
 abbrev pub renewed_relvar : Exchange → PlainRelvar → PlainRelvar
 renewed_relvar x (base value constraints) = base (renewed value x) constraints
 renewed_relvar x (view t history) = view t history
+renewed_relvar x (log of side w) = log of side w
 
 -- the relvars after an exchange of rows of the one at a place
 abbrev pub renewed_at : ℕ → Exchange → Entries → Entries
@@ -35,6 +36,7 @@ renewed_at i x entries = turned_at i (renewed_relvar x) entries
 abbrev pub MayExchange : Exchange → PlainRelvar → Type 0
 MayExchange x (base value constraints) = (x.come.heading ≡ value.heading) × (length (united value.rows x.come.rows) ≤ most_rows)
 MayExchange x (view t history) = ⊥
+MayExchange x (log of side w) = ⊥
 
 -- the same of the relvar at a place
 abbrev pub IsExchangeAt : ℕ → Exchange → Entries → Type 0

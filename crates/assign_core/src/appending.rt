@@ -63,6 +63,7 @@ fn append_type(relvars: &mut Relvars, ordinal: OrdinalNames) -> Result<(), Memor
     ensures err { OnErr result (relvars.new.ordinals ≡ relvars.old.ordinals) }
     ensures list { relvars.new.list ≡ relvars.old.list }
     ensures rules { relvars.new.rules ≡ relvars.old.rules }
+    ensures accepted { relvars.new.accepted ≡ relvars.old.accepted }
 {
     relvars.ordinals.list.push(ordinal)?;
     Ok(())
@@ -75,6 +76,7 @@ fn append_relvar(relvars: &mut Relvars, name: Name, relvar: Relvar) -> Result<()
     ensures err { OnErr result (relvars.new.list.entries ≡ relvars.old.list.entries) }
     ensures ordinals { relvars.new.ordinals ≡ relvars.old.ordinals }
     ensures rules { relvars.new.rules ≡ relvars.old.rules }
+    ensures accepted { relvars.new.accepted ≡ relvars.old.accepted }
 {
     drop(relvars.list.insert(name, relvar)?);
     Ok(())
@@ -87,6 +89,7 @@ pub(crate) fn append_rule(relvars: &mut Relvars, name: Name, test: RelTest) -> R
     ensures err { OnErr result (relvars.new.rules.entries ≡ relvars.old.rules.entries) }
     ensures list { relvars.new.list ≡ relvars.old.list }
     ensures ordinals { relvars.new.ordinals ≡ relvars.old.ordinals }
+    ensures accepted { relvars.new.accepted ≡ relvars.old.accepted }
 {
     drop(relvars.rules.insert(name, test)?);
     Ok(())

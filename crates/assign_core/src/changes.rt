@@ -55,6 +55,7 @@ pub(crate) fn newest_of<'a>(
             tree: _,
             history: _,
         } => None,
+        Relvar::Log { of: _, log: _ } => None,
     }
 }
 
@@ -71,6 +72,7 @@ pub(crate) fn value_of(relvar: &Relvar) -> Option<&Relation>
             tree: _,
             history: _,
         } => None,
+        Relvar::Log { of: _, log: _ } => None,
     }
 }
 

@@ -100,6 +100,7 @@ fn check_relvar<L: Ledger>(
             tree: _,
             history: _,
         } => Ok(()),
+        Relvar::Log { of: _, log: _ } => Ok(()),
     }
 }
 

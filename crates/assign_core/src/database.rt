@@ -1,10 +1,11 @@
 // The database.
-ghost use Rattle.std.specs.Prelude.{◌≡◌, ◌≤◌, ◌+◌, map, option_map, take, OnOk, OnErr, IsOk};
+ghost use Rattle.std.specs.Prelude.{◌≡◌, ◌≤◌, ◌<ℤ◌, ◌+◌, map, option_map, take, OnOk, OnErr, IsOk};
 ghost use Rattle.std.specs.List.{All};
+ghost use Rattle.point_core.specs.Whole.{greatest_whole};
 ghost use Rattle.tree_core.specs.Items.{read_assignment, read_item};
 ghost use Rattle.tree_core.specs.Relvars.{read_relvars};
 ghost use Rattle.tree_core.specs.Trees.{read_test};
-ghost use Rattle.meaning_core.specs.Declarations.{read_declaration, with_rule, without_group, without_rule};
+ghost use Rattle.meaning_core.specs.Declarations.{counted, read_declaration, with_rule, without_group, without_rule};
 ghost use Rattle.meaning_core.specs.Typing.{IsListIf};
 ghost use Rattle.meaning_core.specs.WellMade.{IsWellMade};
 ghost use Rattle.meaning_core.specs.Updates.{IsTypedAssignment, IsTypedItem};
@@ -32,7 +33,7 @@ use std::sync::ledger::Ledger;
 use tree_core::{Assignment, Declaration, Item, RelTest, Relvars};
 use value_core::{Name, OrdinalTypes, Positions, Refuse, Relation};
 
-/// The ordinal types, relvars and views, and the database constraints. They are well made, each constraint of a relvar and each database
+/// The ordinal types, relvars and views, the database constraints, and how many statements were accepted. They are well made, each constraint of a relvar and each database
 /// constraint holds, and the base relvars have at most 200,000 rows together.
 #[derive(Drop)]
 pub struct Database {
@@ -70,6 +71,7 @@ impl Database {
                     list: Vec::new(alloc),
                 },
                 rules: IndexMap::new(alloc),
+                accepted: 0,
             },
             hashed: no_hashes(alloc),
         }
@@ -230,6 +232,14 @@ impl Database {
         drop(self.relvars.rules.shift_remove(name));
         Ok(())
     }
+
+    /// Counts a statement that is accepted.
+    pub fn accept(&mut self)
+        requires room { (read_relvars self.old).accepted <ℤ greatest_whole }
+        ensures { read_relvars self.new ≡ counted (read_relvars self.old) }
+    {
+        self.relvars.accepted += 1;
+    }
 }
 
 // Cuts the relvars and types down to so many.
@@ -237,6 +247,7 @@ fn cut(relvars: &mut Relvars, to: (usize, usize))
     ensures list { relvars.new.list.entries ≡ take to.0 relvars.old.list.entries }
     ensures ordinals { relvars.new.ordinals ≡ take to.1 relvars.old.ordinals }
     ensures rules { relvars.new.rules ≡ relvars.old.rules }
+    ensures accepted { relvars.new.accepted ≡ relvars.old.accepted }
 {
     relvars.list.truncate(to.0);
     relvars.ordinals.list.truncate(to.1);

@@ -37,6 +37,11 @@ fn history_of(relvar: Option<Relvar>) -> Option<(Name, Name)>
             drop(constraints);
             None
         }
+        Some(Relvar::Log { of, log }) => {
+            drop(of);
+            drop(log);
+            None
+        }
         None => None,
     }
 }

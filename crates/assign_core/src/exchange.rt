@@ -46,6 +46,7 @@ pub(crate) fn exchange(
     ensures back { AreValues changes.old.items → changes.new.items ≡ map (replaced (map read_entry relvars.old.list.entries)) changes.old.items }
     ensures ordinals { relvars.new.ordinals ≡ relvars.old.ordinals }
     ensures rules { relvars.new.rules ≡ relvars.old.rules }
+    ensures accepted { relvars.new.accepted ≡ relvars.old.accepted }
     ensures hashed { AreHashed hashed.new (map read_entry relvars.new.list.entries) }
 {
     exchange_from(relvars, hashed, alloc, changes, 0)
@@ -70,6 +71,7 @@ fn exchange_from(
     ensures back { AreValues (drop from changes.old.items) → drop from changes.new.items ≡ map (replaced (map read_entry relvars.old.list.entries)) (drop from changes.old.items) }
     ensures ordinals { relvars.new.ordinals ≡ relvars.old.ordinals }
     ensures rules { relvars.new.rules ≡ relvars.old.rules }
+    ensures accepted { relvars.new.accepted ≡ relvars.old.accepted }
     ensures hashed { AreHashed hashed.new (map read_entry relvars.new.list.entries) }
 {
     if from >= changes.len() {
@@ -103,6 +105,7 @@ fn hold_for(
     ensures sure { AreValues (change.now ∷ []) → IsOk result }
     ensures ordinals { relvars.new.ordinals ≡ relvars.old.ordinals }
     ensures rules { relvars.new.rules ≡ relvars.old.rules }
+    ensures accepted { relvars.new.accepted ≡ relvars.old.accepted }
     ensures hashed { AreHashed hashed.new (map read_entry relvars.new.list.entries) }
 {
     match change {
@@ -128,6 +131,7 @@ fn turn(
     ensures back { AreValues (change.old ∷ []) → change.new ≡ replaced (map read_entry relvars.old.list.entries) change.old }
     ensures ordinals { relvars.new.ordinals ≡ relvars.old.ordinals }
     ensures rules { relvars.new.rules ≡ relvars.old.rules }
+    ensures accepted { relvars.new.accepted ≡ relvars.old.accepted }
     ensures hashed { AreHashed hashed.new (map read_entry relvars.new.list.entries) }
 {
     match change {
@@ -155,6 +159,7 @@ fn release(
     ensures list { map read_entry relvars.new.list.entries ≡ turned_at (place_of change.now) (filled held) (map read_entry relvars.old.list.entries) }
     ensures ordinals { relvars.new.ordinals ≡ relvars.old.ordinals }
     ensures rules { relvars.new.rules ≡ relvars.old.rules }
+    ensures accepted { relvars.new.accepted ≡ relvars.old.accepted }
     ensures hashed { AreHashed hashed.new (map read_entry relvars.new.list.entries) }
 {
     match change {
@@ -180,6 +185,7 @@ fn exchange_value_at(
     ensures back { other.new ≡ value_there at other.old (map read_entry relvars.old.list.entries) }
     ensures ordinals { relvars.new.ordinals ≡ relvars.old.ordinals }
     ensures rules { relvars.new.rules ≡ relvars.old.rules }
+    ensures accepted { relvars.new.accepted ≡ relvars.old.accepted }
     ensures hashed { AreHashed hashed.new (map read_entry relvars.new.list.entries) }
 {
     drop(take_hashes(hashed, alloc, at));
@@ -216,6 +222,7 @@ fn hold_at(
     ensures err { OnErr result (map read_entry relvars.new.list.entries ≡ map read_entry relvars.old.list.entries) }
     ensures ordinals { relvars.new.ordinals ≡ relvars.old.ordinals }
     ensures rules { relvars.new.rules ≡ relvars.old.rules }
+    ensures accepted { relvars.new.accepted ≡ relvars.old.accepted }
     ensures hashed { AreHashed hashed.new (map read_entry relvars.new.list.entries) }
 {
     let hashes = take_hashes(hashed, alloc, at);
@@ -245,6 +252,7 @@ fn hold_of(
             tree: _,
             history: _,
         } => unreachable!(),
+        Relvar::Log { of: _, log: _ } => unreachable!(),
     }
 }
 
@@ -263,6 +271,7 @@ fn let_in_at(
     ensures list { map read_entry relvars.new.list.entries ≡ turned_at at (λ r. renewed_relvar rows.old (refilled_relvar held r)) (map read_entry relvars.old.list.entries) }
     ensures ordinals { relvars.new.ordinals ≡ relvars.old.ordinals }
     ensures rules { relvars.new.rules ≡ relvars.old.rules }
+    ensures accepted { relvars.new.accepted ≡ relvars.old.accepted }
     ensures hashed { AreHashed hashed.new (map read_entry relvars.new.list.entries) }
 {
     drop(take_hashes(hashed, alloc, at));
@@ -294,6 +303,7 @@ fn let_in_of(
             tree: _,
             history: _,
         } => unreachable!(),
+        Relvar::Log { of: _, log: _ } => unreachable!(),
     }
 }
 
@@ -311,6 +321,7 @@ fn put_back_at(
     ensures list { map read_entry relvars.new.list.entries ≡ turned_at at (refilled_relvar held) (map read_entry relvars.old.list.entries) }
     ensures ordinals { relvars.new.ordinals ≡ relvars.old.ordinals }
     ensures rules { relvars.new.rules ≡ relvars.old.rules }
+    ensures accepted { relvars.new.accepted ≡ relvars.old.accepted }
     ensures hashed { AreHashed hashed.new (map read_entry relvars.new.list.entries) }
 {
     drop(take_hashes(hashed, alloc, at));
@@ -332,5 +343,6 @@ fn put_back_of(relvar: &mut Relvar, held: Held, rows: &Exchange)
             tree: _,
             history: _,
         } => drop(held),
+        Relvar::Log { of: _, log: _ } => drop(held),
     }
 }

@@ -71,6 +71,7 @@ fn fill_relvar(alloc: Global, relvar: &Relvar, hashes: &mut Vec<Hashes>) -> Resu
             tree: _,
             history: _,
         } => Ok(()),
+        Relvar::Log { of: _, log: _ } => Ok(()),
     }
 }
 

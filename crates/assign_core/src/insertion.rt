@@ -146,6 +146,7 @@ pub(crate) fn base_at<'a>(relvars: &'a Relvars, assignment: &Assignment) -> (usi
                 },
             ),
         ) => unreachable!(),
+        Some((_, _, Relvar::Log { of: _, log: _ })) => unreachable!(),
         None => unreachable!(),
     }
 }

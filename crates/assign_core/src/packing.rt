@@ -62,6 +62,7 @@ pub(crate) fn is_kept_packed(relvar: &Relvar, commalist: &Positions) -> bool
             tree: _,
             history: _,
         } => false,
+        Relvar::Log { of: _, log: _ } => false,
     }
 }
 

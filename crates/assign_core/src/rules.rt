@@ -117,6 +117,7 @@ fn is_view_of(relvar: &Relvar, names: &[&Name]) -> bool
             constraints: _,
         } => false,
         Relvar::View { tree, history: _ } => names_any(tree, names),
+        Relvar::Log { of: _, log: _ } => false,
     }
 }
 

@@ -96,6 +96,7 @@ fn exchange_back(
     ensures list { map read_entry relvars.new.list.entries ≡ exchanged_by changes.old.items (map read_entry relvars.old.list.entries) }
     ensures ordinals { relvars.new.ordinals ≡ relvars.old.ordinals }
     ensures rules { relvars.new.rules ≡ relvars.old.rules }
+    ensures accepted { relvars.new.accepted ≡ relvars.old.accepted }
     ensures hashed { AreHashed hashed.new (map read_entry relvars.new.list.entries) }
 {
     match exchange(relvars, hashed, alloc, changes) {
@@ -170,5 +171,6 @@ fn new_value(alloc: Global, relvar: &Relvar, rows: &mut Exchange) -> Result<Rela
             tree: _,
             history: _,
         } => unreachable!(),
+        Relvar::Log { of: _, log: _ } => unreachable!(),
     }
 }

@@ -19,6 +19,15 @@ unreachable-requires c =
     let first = found_at es name x.field-0-1.now x.field-0-0 x.field-0-2.now (sym told.index) told.entry in
     subst (λ (r : Relvar). IsBase (Some (read_relvar r))) x.field-0-2-is (subst IsBase (named_first (map read_entry es) name x.field-0-0 (read_relvar x.field-0-2.now) first) c.requires.base)
 
+pub unreachable-requires-in-Some-default-default-Log : goal.unreachable-requires-in-Some-default-default-Log
+unreachable-requires-in-Some-default-default-Log c =
+    let es = c.args.relvars.now.list.entries in
+    let name = c.args.assignment.now.target in
+    let x = c.in-Some-default-default-Log in
+    let told = x.ensures in
+    let first = found_at es name x.field-0-1.now x.field-0-0 x.field-0-2.now (sym told.index) told.entry in
+    subst (λ (r : Relvar). IsBase (Some (read_relvar r))) x.field-0-2-is (subst IsBase (named_first (map read_entry es) name x.field-0-0 (read_relvar x.field-0-2.now) first) c.requires.base)
+
 pub unreachable-requires-in-None : goal.unreachable-requires-in-None
 unreachable-requires-in-None c =
     let es = c.args.relvars.now.list.entries in

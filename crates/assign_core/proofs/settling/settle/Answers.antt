@@ -21,5 +21,5 @@ returns-clause-settled g c =
     (others_hold c.args.ready s.relvars s.rules c.requires.kept.rules) in
     let none : list_any (λ b. b) c.as_slice-told.result.now ≡ false = sym c.is_one_told.ensures ∙ c.if-is_one_told.false in (
       unless_told (with_ready c.args.ready s.relvars) c.as_slice-told.result.now s.rules none others,
-      changed_state c.args.relvars.now c.exchange.new.relvars (with_ready c.args.ready s.relvars) c.in_ok-exchange.ensures.done c.exchange.ensures.ordinals c.exchange.ensures.rules,
+      changed_state c.args.relvars.now c.exchange.new.relvars (with_ready c.args.ready s.relvars) c.in_ok-exchange.ensures.done c.exchange.ensures.ordinals c.exchange.ensures.rules c.exchange.ensures.accepted,
     )

@@ -10,17 +10,17 @@ use Rattle.assign_core.proofs.RuleLemmas.{without_rule_kept}
 use Rattle.assign_core.proofs.StateLemmas.{rule_removed}
 use Rattle.assign_core.proofs.database.Database.unconstrain.Goals as goal
 
-left_is : (c : goal.After-drop) → read_relvars (record { list = c.self.inside.relvars.list; ordinals = c.self.inside.relvars.ordinals; rules = c.shift_remove.new.self })
+left_is : (c : goal.After-drop) → read_relvars (record { list = c.self.inside.relvars.list; ordinals = c.self.inside.relvars.ordinals; rules = c.shift_remove.new.self; accepted = c.self.inside.relvars.accepted })
     ≡ without_rule c.args.name.now (read_relvars c.self.inside.relvars)
 left_is c =
     let s = read_relvars c.self.inside.relvars in
     let rs = c.self.inside.relvars.rules.entries in
     let different = subst (IsDistinct bytes_eq) (names_of_rules rs) (rules_differ s c.self.invariant.0.well_made) in
-    ap (λ (z : Rules). record { ordinals = s.ordinals; relvars = s.relvars; rules = z }) (rule_removed rs c.shift_remove.new.self.entries c.args.name.now different c.shift_remove.ensures.entries)
+    ap (λ (z : Rules). record { ordinals = s.ordinals; relvars = s.relvars; rules = z; accepted = s.accepted }) (rule_removed rs c.shift_remove.new.self.entries c.args.name.now different c.shift_remove.ensures.entries)
 
 pub returns-clause-state : goal.returns-clause-state
 returns-clause-state c =
-    subst (λ (r : Relvars). read_relvars (record { list = c.self.inside.relvars.list; ordinals = c.self.inside.relvars.ordinals; rules = c.shift_remove.new.self }) ≡ without_rule c.args.name.now (read_relvars r))
+    subst (λ (r : Relvars). read_relvars (record { list = c.self.inside.relvars.list; ordinals = c.self.inside.relvars.ordinals; rules = c.shift_remove.new.self; accepted = c.self.inside.relvars.accepted }) ≡ without_rule c.args.name.now (read_relvars r))
     c.self.view_is (left_is c)
 
 pub invariant_of-self : goal.invariant_of-self
